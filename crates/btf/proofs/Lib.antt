@@ -1,0 +1,2 @@
+-- Laws of work words and section words that the proofs of this crate and of the crates above cite.
+pub mod Laws

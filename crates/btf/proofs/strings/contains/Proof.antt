@@ -1,0 +1,50 @@
+use native.Mathlib.Omega.{arith}
+use borrow.Author.Needs.{needs}
+use Prim.Native.Nat.{_≤_, _-_}
+use lib.ListN.{length}
+use Rattle.btf.proofs.strings.contains.Statement.{statement}
+use Rattle.btf.proofs.strings.contains.Tie as tie
+use Rattle.btf.proofs.strings.contains.Reads as reads
+use Rattle.btf.proofs.strings.contains.Lts as lts
+use Rattle.btf.proofs.strings.stands_at.Reads as stands-at-reads
+
+abbrev Inv-loop : tie.InvT-loop
+Inv-loop s w i₀ i = i ≤ length s
+
+abbrev μ-loop : tie.MeasureT-loop
+μ-loop s w i₀ i = length s - i
+
+loop-holds : tie.Need-loop-holds Inv-loop μ-loop
+loop-holds c = search needs
+
+stands-at-requires : tie.Need-stands-at-requires Inv-loop μ-loop
+stands-at-requires c κs = search needs
+
+returns : tie.Need-returns Inv-loop μ-loop
+returns c = search needs
+
+add-i : tie.Need-add-i Inv-loop μ-loop
+add-i c = omega arith
+
+loop-less : tie.Need-loop-less Inv-loop μ-loop
+loop-less c = omega arith
+
+loop-again : tie.Need-loop-again Inv-loop μ-loop
+loop-again c = search needs
+
+returns-2 : tie.Need-returns-2 Inv-loop μ-loop
+returns-2 c = search needs
+
+pub contains-spec : {M : Type 1} → statement M
+contains-spec =
+    tie.close
+    (tie.spec
+    Inv-loop
+    μ-loop
+    loop-holds
+    stands-at-requires
+    returns
+    add-i
+    loop-less
+    loop-again
+    returns-2)

@@ -1,0 +1,17 @@
+use Rattle.btf.specs.Records.{sectionWord}
+use borrow.Author.Needs.{needs}
+use Rattle.btf.proofs.types.word.Statement.{statement}
+use Rattle.btf.proofs.types.word.Tie as tie
+use Rattle.btf.proofs.types.word.Reads as reads
+use Rattle.btf.proofs.types.word.Lts as lts
+use Rattle.lent.proofs.word_at.Reads as word-at-reads
+
+word-at-requires : tie.Need-word-at-requires
+word-at-requires c κs = search needs
+
+returns : tie.Need-returns
+unfolding sectionWord
+returns c = c .word-at .ensures
+
+pub word-spec : {M : Type 1} → statement M
+word-spec = tie.close (tie.spec word-at-requires returns)

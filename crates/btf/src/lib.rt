@@ -1,0 +1,36 @@
+// A type table read from the bytes of its section: header, records, names.
+mod cells;
+mod node;
+mod strings;
+mod types;
+
+pub use cells::get_count;
+pub use cells::get_field;
+pub use cells::holder_word;
+pub use cells::put_field;
+pub use node::Node;
+pub use node::node_by_id;
+pub use strings::get_btf_str;
+pub use strings::is_builtin;
+pub use strings::is_empty;
+pub use strings::put_escaped;
+pub use types::Btf;
+pub use types::BtfComposite;
+pub use types::BtfEnum;
+pub use types::BtfMember;
+pub use types::BtfType;
+pub use types::Entries;
+pub use types::Extra;
+pub use types::comp_idx_of;
+pub use types::extra_of;
+pub use types::is_named;
+pub use types::kind_of;
+pub use types::load_enum_value;
+pub use types::load_enum64_value;
+pub use types::load_member;
+pub use types::load_type;
+pub use types::member_place;
+pub use types::param_place;
+pub use types::type_by_id;
+pub use types::vlen_of;
+pub use types::word;

@@ -1,0 +1,37 @@
+use native.Mathlib.Omega.{arith}
+use borrow.Author.Needs.{needs}
+use Prim.Native.Nat.{_≤_, _-_}
+use Rattle.chain.proofs.links.path_at.Statement.{statement}
+use Rattle.chain.proofs.links.path_at.Tie as tie
+use Rattle.chain.proofs.links.path_at.Reads as reads
+use Rattle.chain.proofs.links.path_at.Lts as lts
+use Rattle.chain.proofs.links.link_of.Reads as link-of-reads
+
+abbrev Inv-loop : tie.InvT-loop
+Inv-loop b section work start k id₀ i₀ id i = i ≤ k
+
+abbrev μ-loop : tie.MeasureT-loop
+μ-loop b section work start k id₀ i₀ id i = k - i
+
+loop-holds : tie.Need-loop-holds Inv-loop μ-loop
+loop-holds c = search needs
+
+link-of-requires : tie.Need-link-of-requires Inv-loop μ-loop
+link-of-requires c κs = search needs
+
+add-i : tie.Need-add-i Inv-loop μ-loop
+add-i c = omega arith
+
+loop-less : tie.Need-loop-less Inv-loop μ-loop
+loop-less c = omega arith
+
+loop-again : tie.Need-loop-again Inv-loop μ-loop
+loop-again c = search needs
+
+returns : tie.Need-returns Inv-loop μ-loop
+returns c = search needs
+
+pub path-at-spec : {M : Type 1} → statement M
+path-at-spec =
+    tie.close
+    (tie.spec Inv-loop μ-loop loop-holds link-of-requires add-i loop-less loop-again returns)

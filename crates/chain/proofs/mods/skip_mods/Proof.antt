@@ -1,0 +1,49 @@
+use native.Mathlib.Omega.{arith}
+use borrow.Author.Needs.{needs}
+use Prim.Native.Nat.{_≤_}
+use Rattle.chain.proofs.mods.skip_mods.Statement.{statement}
+use Rattle.chain.proofs.mods.skip_mods.Tie as tie
+use Rattle.chain.proofs.mods.skip_mods.Reads as reads
+use Rattle.chain.proofs.mods.skip_mods.Lts as lts
+use Rattle.chain.proofs.links.qualifier_on_top.Reads as qualifier-on-top-reads
+
+abbrev Inv-loop : tie.InvT-loop
+Inv-loop b section work start n k₀ k = k ≤ n
+
+abbrev μ-loop : tie.MeasureT-loop
+μ-loop b section work start n k₀ k = k
+
+loop-holds : tie.Need-loop-holds Inv-loop μ-loop
+loop-holds c = search needs
+
+qualifier-on-top-requires : tie.Need-qualifier-on-top-requires Inv-loop μ-loop
+qualifier-on-top-requires c κs = search needs
+
+returns : tie.Need-returns Inv-loop μ-loop
+returns c = search needs
+
+sub-k : tie.Need-sub-k Inv-loop μ-loop
+sub-k c = omega arith
+
+loop-less : tie.Need-loop-less Inv-loop μ-loop
+loop-less c = omega arith
+
+loop-again : tie.Need-loop-again Inv-loop μ-loop
+loop-again c = search needs
+
+returns-2 : tie.Need-returns-2 Inv-loop μ-loop
+returns-2 c = search needs
+
+pub skip-mods-spec : {M : Type 1} → statement M
+skip-mods-spec =
+    tie.close
+    (tie.spec
+    Inv-loop
+    μ-loop
+    loop-holds
+    qualifier-on-top-requires
+    returns
+    sub-k
+    loop-less
+    loop-again
+    returns-2)

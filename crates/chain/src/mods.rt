@@ -1,0 +1,41 @@
+// Qualifiers on top of a chain.
+use crate::links::put_qualifier;
+use crate::links::qualifier_on_top;
+use btf::Btf;
+use lent::put_bytes;
+ghost use Prim.Native.Nat.{_≤_};
+
+// How many of n entries stay when the qualifiers on top are popped.
+pub fn skip_mods(b: Btf, section: &[u8], work: &[u8], start: u32, n: u32) -> u32
+    ensures { λ r. ⌜ r ≤ n ⌝ }
+{
+    let mut k = n;
+    while 0 < k {
+        if qualifier_on_top(b, section, work, start, k) == 0 {
+            return k;
+        }
+        k -= 1;
+    }
+    k
+}
+
+// Prints the qualifiers on top of n entries, each with a space after it, down to the first m.
+pub fn emit_mods(
+    b: Btf,
+    section: &[u8],
+    work: &[u8],
+    text: &mut [u8],
+    at: usize,
+    start: u32,
+    n: u32,
+    m: u32,
+) -> usize {
+    let mut p = at;
+    let mut k = n;
+    while m < k {
+        let a = put_qualifier(text, p, qualifier_on_top(b, section, work, start, k));
+        p = put_bytes(text, a, b" ");
+        k -= 1;
+    }
+    p
+}

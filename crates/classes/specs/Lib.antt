@@ -1,0 +1,4 @@
+pub mod Names
+pub mod Classes
+pub mod Table
+pub mod Claims

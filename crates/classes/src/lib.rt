@@ -1,0 +1,6 @@
+// Name classes: for each type and each enumerator the first holder of a name of the same space and the same bytes. They
+// are found by hashing, in scratch words that are 0 again afterwards.
+mod hash;
+mod holders;
+
+pub use holders::classes;

@@ -1,0 +1,1827 @@
+use mathlib.Core.Path.{_≡_}
+use lib.ListN.{length}
+use borrow.Author.Needs.{needs}
+use native.Mathlib.Omega.{arith}
+use Prim.Native.Nat.{ℕ, _<_, _≤_, _+_, _-_, _*_}
+use borrow.Fn.Kinds.{In}
+use borrow.Fn.PlainCycle.{Measures, is, falls, and}
+use Rattle.decl.proofs.emit_array.Reads as emit-array
+use Rattle.decl.proofs.emit_array.Kinds as emit-array-kinds
+use Rattle.decl.proofs.+emit_array+emit_base+emit_composite_def+emit_composite_word+emit_entry+emit_member+emit_members+emit_param+emit_params+emit_proto+emit_type_chain+emit_type_decl.Lts-emit_array as emit-array-lts
+use Rattle.decl.proofs.emit_base.Reads as emit-base
+use Rattle.decl.proofs.emit_base.Kinds as emit-base-kinds
+use Rattle.decl.proofs.+emit_array+emit_base+emit_composite_def+emit_composite_word+emit_entry+emit_member+emit_members+emit_param+emit_params+emit_proto+emit_type_chain+emit_type_decl.Lts-emit_base as emit-base-lts
+use Rattle.decl.proofs.emit_composite_def.Reads as emit-composite-def
+use Rattle.decl.proofs.emit_composite_def.Kinds as emit-composite-def-kinds
+use Rattle.decl.proofs.+emit_array+emit_base+emit_composite_def+emit_composite_word+emit_entry+emit_member+emit_members+emit_param+emit_params+emit_proto+emit_type_chain+emit_type_decl.Lts-emit_composite_def as emit-composite-def-lts
+use Rattle.decl.proofs.emit_composite_word.Reads as emit-composite-word
+use Rattle.decl.proofs.emit_composite_word.Kinds as emit-composite-word-kinds
+use Rattle.decl.proofs.+emit_array+emit_base+emit_composite_def+emit_composite_word+emit_entry+emit_member+emit_members+emit_param+emit_params+emit_proto+emit_type_chain+emit_type_decl.Lts-emit_composite_word as emit-composite-word-lts
+use Rattle.decl.proofs.emit_entry.Reads as emit-entry
+use Rattle.decl.proofs.emit_entry.Kinds as emit-entry-kinds
+use Rattle.decl.proofs.+emit_array+emit_base+emit_composite_def+emit_composite_word+emit_entry+emit_member+emit_members+emit_param+emit_params+emit_proto+emit_type_chain+emit_type_decl.Lts-emit_entry as emit-entry-lts
+use Rattle.decl.proofs.emit_member.Reads as emit-member
+use Rattle.decl.proofs.emit_member.Kinds as emit-member-kinds
+use Rattle.decl.proofs.+emit_array+emit_base+emit_composite_def+emit_composite_word+emit_entry+emit_member+emit_members+emit_param+emit_params+emit_proto+emit_type_chain+emit_type_decl.Lts-emit_member as emit-member-lts
+use Rattle.decl.proofs.emit_members.Reads as emit-members
+use Rattle.decl.proofs.emit_members.Kinds as emit-members-kinds
+use Rattle.decl.proofs.+emit_array+emit_base+emit_composite_def+emit_composite_word+emit_entry+emit_member+emit_members+emit_param+emit_params+emit_proto+emit_type_chain+emit_type_decl.Lts-emit_members as emit-members-lts
+use Rattle.decl.proofs.emit_param.Reads as emit-param
+use Rattle.decl.proofs.emit_param.Kinds as emit-param-kinds
+use Rattle.decl.proofs.+emit_array+emit_base+emit_composite_def+emit_composite_word+emit_entry+emit_member+emit_members+emit_param+emit_params+emit_proto+emit_type_chain+emit_type_decl.Lts-emit_param as emit-param-lts
+use Rattle.decl.proofs.emit_params.Reads as emit-params
+use Rattle.decl.proofs.emit_params.Kinds as emit-params-kinds
+use Rattle.decl.proofs.+emit_array+emit_base+emit_composite_def+emit_composite_word+emit_entry+emit_member+emit_members+emit_param+emit_params+emit_proto+emit_type_chain+emit_type_decl.Lts-emit_params as emit-params-lts
+use Rattle.decl.proofs.emit_proto.Reads as emit-proto
+use Rattle.decl.proofs.emit_proto.Kinds as emit-proto-kinds
+use Rattle.decl.proofs.+emit_array+emit_base+emit_composite_def+emit_composite_word+emit_entry+emit_member+emit_members+emit_param+emit_params+emit_proto+emit_type_chain+emit_type_decl.Lts-emit_proto as emit-proto-lts
+use Rattle.decl.proofs.emit_type_chain.Reads as emit-type-chain
+use Rattle.decl.proofs.emit_type_chain.Kinds as emit-type-chain-kinds
+use Rattle.decl.proofs.+emit_array+emit_base+emit_composite_def+emit_composite_word+emit_entry+emit_member+emit_members+emit_param+emit_params+emit_proto+emit_type_chain+emit_type_decl.Lts-emit_type_chain as emit-type-chain-lts
+use Rattle.decl.proofs.emit_type_decl.Reads as emit-type-decl
+use Rattle.decl.proofs.emit_type_decl.Kinds as emit-type-decl-kinds
+use Rattle.decl.proofs.+emit_array+emit_base+emit_composite_def+emit_composite_word+emit_entry+emit_member+emit_members+emit_param+emit_params+emit_proto+emit_type_chain+emit_type_decl.Lts-emit_type_decl as emit-type-decl-lts
+use Rattle.btf.proofs.get_btf_str.Reads as get-btf-str-reads
+use Rattle.btf.proofs.is_builtin.Reads as is-builtin-reads
+use Rattle.btf.proofs.is_empty.Reads as is-empty-reads
+use Rattle.btf.proofs.load_member.Reads as load-member-reads
+use Rattle.btf.proofs.param_place.Reads as param-place-reads
+use Rattle.btf.proofs.type_by_id.Reads as type-by-id-reads
+use Rattle.btf.proofs.word.Reads as word-reads
+use Rattle.chain.proofs.chain_len.Reads as chain-len-reads
+use Rattle.chain.proofs.entry_at.Reads as entry-at-reads
+use Rattle.chain.proofs.is_array_on_top.Reads as is-array-on-top-reads
+use Rattle.chain.proofs.put_qualifier.Reads as put-qualifier-reads
+use Rattle.chain.proofs.emit_mods.Reads as emit-mods-reads
+use Rattle.chain.proofs.skip_mods.Reads as skip-mods-reads
+use Rattle.decl.proofs.emit_composite_end.Reads as emit-composite-end-reads
+use Rattle.decl.proofs.emit_composite_head.Reads as emit-composite-head-reads
+use Rattle.decl.proofs.emit_member_end.Reads as emit-member-end-reads
+use Rattle.decl.proofs.goes_on.Reads as goes-on-reads
+use Rattle.decl.proofs.is_last.Reads as is-last-reads
+use Rattle.decl.proofs.named.Reads as named-reads
+use Rattle.decl.proofs.put_close.Reads as put-close-reads
+use Rattle.decl.proofs.put_comma.Reads as put-comma-reads
+use Rattle.decl.proofs.put_count.Reads as put-count-reads
+use Rattle.decl.proofs.put_gap.Reads as put-gap-reads
+use Rattle.decl.proofs.put_open.Reads as put-open-reads
+use Rattle.decl.proofs.put_star.Reads as put-star-reads
+use Rattle.decl.proofs.put_typedef_name.Reads as put-typedef-name-reads
+use Rattle.decl.proofs.shown_params.Reads as shown-params-reads
+use Rattle.enums.proofs.deeper.Reads as deeper-reads
+use Rattle.enums.proofs.emit_enum64_def.Reads as emit-enum64-def-reads
+use Rattle.enums.proofs.emit_enum_def.Reads as emit-enum-def-reads
+use Rattle.enums.proofs.put_enum_name.Reads as put-enum-name-reads
+use Rattle.layout.proofs.is_struct_packed.Reads as is-struct-packed-reads
+use Rattle.lent.proofs.put_bytes.Reads as put-bytes-reads
+use Rattle.lent.proofs.put_tabs.Reads as put-tabs-reads
+use Rattle.lent.proofs.stop.Reads as stop-reads
+use Rattle.lent.proofs.stopped.Reads as stopped-reads
+use Rattle.names.proofs.put_attribute.Reads as put-attribute-reads
+use Rattle.names.proofs.emit_composite_fwd.Reads as emit-composite-fwd-reads
+use Rattle.names.proofs.emit_fwd_def.Reads as emit-fwd-def-reads
+use Rattle.names.proofs.bare.Reads as bare-reads
+use Rattle.names.proofs.emit_name.Reads as emit-name-reads
+use Rattle.padding.proofs.emit_bit_padding.Reads as emit-bit-padding-reads
+use Rattle.decl.proofs.+emit_array+emit_base+emit_composite_def+emit_composite_word+emit_entry+emit_member+emit_members+emit_param+emit_params+emit_proto+emit_type_chain+emit_type_decl.{
+  statement,
+}
+use Rattle.decl.proofs.+emit_array+emit_base+emit_composite_def+emit_composite_word+emit_entry+emit_member+emit_members+emit_param+emit_params+emit_proto+emit_type_chain+emit_type_decl.Tie.{
+  close,
+}
+
+abbrev μ-emit-array : Measures 3 emit-array-kinds.ps ℕ
+μ-emit-array κs a = 8 * (a .1 .1 .1 .1 .1 .1 .1 .1 .0) + 5
+
+abbrev μ-emit-base : Measures 3 emit-base-kinds.ps ℕ
+μ-emit-base κs a = 8 * (a .1 .1 .1 .1 .1 .1 .1 .0) + 5
+
+abbrev μ-emit-composite-def : Measures 3 emit-composite-def-kinds.ps ℕ
+μ-emit-composite-def κs a = 8 * (a .1 .1 .1 .1 .1 .1 .1 .1 .0)
+
+abbrev μ-emit-composite-word : Measures 3 emit-composite-word-kinds.ps ℕ
+μ-emit-composite-word κs a = 8 * (a .1 .1 .1 .1 .1 .1 .1 .1 .0) + 4
+
+abbrev μ-emit-entry : Measures 3 emit-entry-kinds.ps ℕ
+μ-emit-entry κs a = 8 * (a .1 .1 .1 .1 .1 .1 .0) + 7
+
+abbrev μ-emit-member : Measures 3 emit-member-kinds.ps ℕ
+μ-emit-member κs a = 8 * (a .1 .1 .1 .1 .1 .1 .1 .1 .1 .1 .0) + 4
+
+abbrev μ-emit-members : Measures 3 emit-members-kinds.ps ℕ
+μ-emit-members κs a = 8 * (a .1 .1 .1 .1 .1 .1 .1 .1 .1 .0) + 5
+
+abbrev μ-emit-param : Measures 3 emit-param-kinds.ps ℕ
+μ-emit-param κs a = 8 * (a .1 .1 .1 .1 .1 .1 .1 .1 .0) + 4
+
+abbrev μ-emit-params : Measures 3 emit-params-kinds.ps ℕ
+μ-emit-params κs a = 8 * (a .1 .1 .1 .1 .1 .1 .1 .0) + 5
+
+abbrev μ-emit-proto : Measures 3 emit-proto-kinds.ps ℕ
+μ-emit-proto κs a = 8 * (a .1 .1 .1 .1 .1 .1 .1 .1 .0) + 5
+
+abbrev μ-emit-type-chain : Measures 3 emit-type-chain-kinds.ps ℕ
+μ-emit-type-chain κs a = 8 * (a .1 .1 .1 .1 .1 .1 .1 .0)
+
+abbrev μ-emit-type-decl : Measures 3 emit-type-decl-kinds.ps ℕ
+μ-emit-type-decl κs a = 8 * (a .1 .1 .1 .1 .1 .1 .0)
+
+abbrev emit-array-at : ℕ → In 3 emit-array-kinds.ps
+emit-array-at t =
+    and 3 emit-array-kinds.ps (is 3 emit-array-kinds.ps μ-emit-array t) emit-array.Pre
+
+abbrev emit-array-below : ℕ → In 3 emit-array-kinds.ps
+emit-array-below t =
+    and 3 emit-array-kinds.ps (falls 3 emit-array-kinds.ps _<_ μ-emit-array t) emit-array.Pre
+
+abbrev emit-base-at : ℕ → In 3 emit-base-kinds.ps
+emit-base-at t = and 3 emit-base-kinds.ps (is 3 emit-base-kinds.ps μ-emit-base t) emit-base.Pre
+
+abbrev emit-base-below : ℕ → In 3 emit-base-kinds.ps
+emit-base-below t =
+    and 3 emit-base-kinds.ps (falls 3 emit-base-kinds.ps _<_ μ-emit-base t) emit-base.Pre
+
+abbrev emit-composite-def-at : ℕ → In 3 emit-composite-def-kinds.ps
+emit-composite-def-at t =
+    and
+    3
+    emit-composite-def-kinds.ps
+    (is 3 emit-composite-def-kinds.ps μ-emit-composite-def t)
+    emit-composite-def.Pre
+
+abbrev emit-composite-def-below : ℕ → In 3 emit-composite-def-kinds.ps
+emit-composite-def-below t =
+    and
+    3
+    emit-composite-def-kinds.ps
+    (falls 3 emit-composite-def-kinds.ps _<_ μ-emit-composite-def t)
+    emit-composite-def.Pre
+
+abbrev emit-composite-word-at : ℕ → In 3 emit-composite-word-kinds.ps
+emit-composite-word-at t =
+    and
+    3
+    emit-composite-word-kinds.ps
+    (is 3 emit-composite-word-kinds.ps μ-emit-composite-word t)
+    emit-composite-word.Pre
+
+abbrev emit-composite-word-below : ℕ → In 3 emit-composite-word-kinds.ps
+emit-composite-word-below t =
+    and
+    3
+    emit-composite-word-kinds.ps
+    (falls 3 emit-composite-word-kinds.ps _<_ μ-emit-composite-word t)
+    emit-composite-word.Pre
+
+abbrev emit-entry-at : ℕ → In 3 emit-entry-kinds.ps
+emit-entry-at t =
+    and 3 emit-entry-kinds.ps (is 3 emit-entry-kinds.ps μ-emit-entry t) emit-entry.Pre
+
+abbrev emit-entry-below : ℕ → In 3 emit-entry-kinds.ps
+emit-entry-below t =
+    and 3 emit-entry-kinds.ps (falls 3 emit-entry-kinds.ps _<_ μ-emit-entry t) emit-entry.Pre
+
+abbrev emit-member-at : ℕ → In 3 emit-member-kinds.ps
+emit-member-at t =
+    and 3 emit-member-kinds.ps (is 3 emit-member-kinds.ps μ-emit-member t) emit-member.Pre
+
+abbrev emit-member-below : ℕ → In 3 emit-member-kinds.ps
+emit-member-below t =
+    and 3 emit-member-kinds.ps (falls 3 emit-member-kinds.ps _<_ μ-emit-member t) emit-member.Pre
+
+abbrev emit-members-at : ℕ → In 3 emit-members-kinds.ps
+emit-members-at t =
+    and 3 emit-members-kinds.ps (is 3 emit-members-kinds.ps μ-emit-members t) emit-members.Pre
+
+abbrev emit-members-below : ℕ → In 3 emit-members-kinds.ps
+emit-members-below t =
+    and
+    3
+    emit-members-kinds.ps
+    (falls 3 emit-members-kinds.ps _<_ μ-emit-members t)
+    emit-members.Pre
+
+abbrev emit-param-at : ℕ → In 3 emit-param-kinds.ps
+emit-param-at t =
+    and 3 emit-param-kinds.ps (is 3 emit-param-kinds.ps μ-emit-param t) emit-param.Pre
+
+abbrev emit-param-below : ℕ → In 3 emit-param-kinds.ps
+emit-param-below t =
+    and 3 emit-param-kinds.ps (falls 3 emit-param-kinds.ps _<_ μ-emit-param t) emit-param.Pre
+
+abbrev emit-params-at : ℕ → In 3 emit-params-kinds.ps
+emit-params-at t =
+    and 3 emit-params-kinds.ps (is 3 emit-params-kinds.ps μ-emit-params t) emit-params.Pre
+
+abbrev emit-params-below : ℕ → In 3 emit-params-kinds.ps
+emit-params-below t =
+    and 3 emit-params-kinds.ps (falls 3 emit-params-kinds.ps _<_ μ-emit-params t) emit-params.Pre
+
+abbrev emit-proto-at : ℕ → In 3 emit-proto-kinds.ps
+emit-proto-at t =
+    and 3 emit-proto-kinds.ps (is 3 emit-proto-kinds.ps μ-emit-proto t) emit-proto.Pre
+
+abbrev emit-proto-below : ℕ → In 3 emit-proto-kinds.ps
+emit-proto-below t =
+    and 3 emit-proto-kinds.ps (falls 3 emit-proto-kinds.ps _<_ μ-emit-proto t) emit-proto.Pre
+
+abbrev emit-type-chain-at : ℕ → In 3 emit-type-chain-kinds.ps
+emit-type-chain-at t =
+    and
+    3
+    emit-type-chain-kinds.ps
+    (is 3 emit-type-chain-kinds.ps μ-emit-type-chain t)
+    emit-type-chain.Pre
+
+abbrev emit-type-chain-below : ℕ → In 3 emit-type-chain-kinds.ps
+emit-type-chain-below t =
+    and
+    3
+    emit-type-chain-kinds.ps
+    (falls 3 emit-type-chain-kinds.ps _<_ μ-emit-type-chain t)
+    emit-type-chain.Pre
+
+abbrev emit-type-decl-at : ℕ → In 3 emit-type-decl-kinds.ps
+emit-type-decl-at t =
+    and
+    3
+    emit-type-decl-kinds.ps
+    (is 3 emit-type-decl-kinds.ps μ-emit-type-decl t)
+    emit-type-decl.Pre
+
+abbrev emit-type-decl-below : ℕ → In 3 emit-type-decl-kinds.ps
+emit-type-decl-below t =
+    and
+    3
+    emit-type-decl-kinds.ps
+    (falls 3 emit-type-decl-kinds.ps _<_ μ-emit-type-decl t)
+    emit-type-decl.Pre
+
+abbrev emit-array-claims : ℕ → emit-array-lts.Claims
+emit-array-claims t = (
+  emit-name-reads.Asked,
+  emit-name-reads.Learnt,
+  put-gap-reads.Asked,
+  put-gap-reads.Learnt,
+  is-array-on-top-reads.Asked,
+  is-array-on-top-reads.Learnt,
+  emit-type-chain-below t,
+  emit-type-chain.Post,
+  put-bytes-reads.Asked,
+  put-bytes-reads.Learnt,
+)
+
+abbrev emit-base-claims : ℕ → emit-base-lts.Claims
+emit-base-claims t = (
+  type-by-id-reads.Asked,
+  type-by-id-reads.Learnt,
+  put-bytes-reads.Asked,
+  put-bytes-reads.Learnt,
+  get-btf-str-reads.Asked,
+  get-btf-str-reads.Learnt,
+  emit-composite-word-below t,
+  emit-composite-word.Post,
+  is-empty-reads.Asked,
+  is-empty-reads.Learnt,
+  emit-enum-def-reads.Asked,
+  emit-enum-def-reads.Learnt,
+  put-enum-name-reads.Asked,
+  put-enum-name-reads.Learnt,
+  emit-fwd-def-reads.Asked,
+  emit-fwd-def-reads.Learnt,
+  put-typedef-name-reads.Asked,
+  put-typedef-name-reads.Learnt,
+  emit-enum64-def-reads.Asked,
+  emit-enum64-def-reads.Learnt,
+)
+
+abbrev emit-composite-def-claims : ℕ → emit-composite-def-lts.Claims
+emit-composite-def-claims t = (
+  stop-reads.Asked,
+  stop-reads.Learnt,
+  stopped-reads.Asked,
+  stopped-reads.Learnt,
+  is-builtin-reads.Asked,
+  is-builtin-reads.Learnt,
+  is-struct-packed-reads.Asked,
+  is-struct-packed-reads.Learnt,
+  emit-composite-head-reads.Asked,
+  emit-composite-head-reads.Learnt,
+  deeper-reads.Asked,
+  deeper-reads.Learnt,
+  emit-members-below t,
+  emit-members.Post,
+  emit-composite-end-reads.Asked,
+  emit-composite-end-reads.Learnt,
+)
+
+abbrev emit-composite-word-claims : ℕ → emit-composite-word-lts.Claims
+emit-composite-word-claims t = (
+  is-empty-reads.Asked,
+  is-empty-reads.Learnt,
+  emit-composite-def-below t,
+  emit-composite-def.Post,
+  emit-composite-fwd-reads.Asked,
+  emit-composite-fwd-reads.Learnt,
+)
+
+abbrev emit-entry-claims : ℕ → emit-entry-lts.Claims
+emit-entry-claims t = (
+  skip-mods-reads.Asked,
+  skip-mods-reads.Learnt,
+  entry-at-reads.Asked,
+  entry-at-reads.Learnt,
+  emit-mods-reads.Asked,
+  emit-mods-reads.Learnt,
+  emit-base-below t,
+  emit-base.Post,
+  goes-on-reads.Asked,
+  goes-on-reads.Learnt,
+  put-star-reads.Asked,
+  put-star-reads.Learnt,
+  put-bytes-reads.Asked,
+  put-bytes-reads.Learnt,
+  put-qualifier-reads.Asked,
+  put-qualifier-reads.Learnt,
+  emit-array-below t,
+  emit-array.Post,
+  put-count-reads.Asked,
+  put-count-reads.Learnt,
+  named-reads.Asked,
+  named-reads.Learnt,
+  emit-proto-below t,
+  emit-proto.Post,
+  emit-params-below t,
+  emit-params.Post,
+  put-attribute-reads.Asked,
+  put-attribute-reads.Learnt,
+)
+
+abbrev emit-member-claims : ℕ → emit-member-lts.Claims
+emit-member-claims t = (
+  load-member-reads.Asked,
+  load-member-reads.Learnt,
+  bare-reads.Asked,
+  bare-reads.Learnt,
+  emit-bit-padding-reads.Asked,
+  emit-bit-padding-reads.Learnt,
+  put-bytes-reads.Asked,
+  put-bytes-reads.Learnt,
+  put-tabs-reads.Asked,
+  put-tabs-reads.Learnt,
+  emit-type-decl-below t,
+  emit-type-decl.Post,
+  emit-member-end-reads.Asked,
+  emit-member-end-reads.Learnt,
+)
+
+abbrev emit-members-claims : ℕ → emit-members-lts.Claims
+emit-members-claims t = (
+  stopped-reads.Asked,
+  stopped-reads.Learnt,
+  emit-member-below t,
+  emit-member.Post,
+)
+
+abbrev emit-param-claims : ℕ → emit-param-lts.Claims
+emit-param-claims t = (
+  param-place-reads.Asked,
+  param-place-reads.Learnt,
+  word-reads.Asked,
+  word-reads.Learnt,
+  bare-reads.Asked,
+  bare-reads.Learnt,
+  put-comma-reads.Asked,
+  put-comma-reads.Learnt,
+  is-last-reads.Asked,
+  is-last-reads.Learnt,
+  put-bytes-reads.Asked,
+  put-bytes-reads.Learnt,
+  emit-type-decl-below t,
+  emit-type-decl.Post,
+)
+
+abbrev emit-params-claims : ℕ → emit-params-lts.Claims
+emit-params-claims t = (
+  shown-params-reads.Asked,
+  shown-params-reads.Learnt,
+  put-open-reads.Asked,
+  put-open-reads.Learnt,
+  stopped-reads.Asked,
+  stopped-reads.Learnt,
+  emit-param-below t,
+  emit-param.Post,
+  put-close-reads.Asked,
+  put-close-reads.Learnt,
+)
+
+abbrev emit-proto-claims : ℕ → emit-proto-lts.Claims
+emit-proto-claims t = (
+  emit-name-reads.Asked,
+  emit-name-reads.Learnt,
+  put-bytes-reads.Asked,
+  put-bytes-reads.Learnt,
+  emit-type-chain-below t,
+  emit-type-chain.Post,
+)
+
+abbrev emit-type-chain-claims : ℕ → emit-type-chain-lts.Claims
+emit-type-chain-claims t = (
+  stop-reads.Asked,
+  stop-reads.Learnt,
+  stopped-reads.Asked,
+  stopped-reads.Learnt,
+  emit-entry-below t,
+  emit-entry.Post,
+  emit-name-reads.Asked,
+  emit-name-reads.Learnt,
+)
+
+abbrev emit-type-decl-claims : ℕ → emit-type-decl-lts.Claims
+emit-type-decl-claims t = (
+  stop-reads.Asked,
+  stop-reads.Learnt,
+  stopped-reads.Asked,
+  stopped-reads.Learnt,
+  chain-len-reads.Asked,
+  chain-len-reads.Learnt,
+  emit-type-chain-below t,
+  emit-type-chain.Post,
+)
+
+emit-array-emit-name-requires : (t : ℕ) → emit-array-lts.Need-emit-name-requires (emit-array-claims t) (emit-array-at t) emit-array.Post
+emit-array-emit-name-requires t c κs = search needs
+
+emit-array-same-length : (t : ℕ) → emit-array-lts.Need-same-length (emit-array-claims t) (emit-array-at t) emit-array.Post
+emit-array-same-length t c = search needs
+
+emit-array-returns : (t : ℕ) → emit-array-lts.Need-returns (emit-array-claims t) (emit-array-at t) emit-array.Post
+emit-array-returns t c = search needs
+
+emit-array-put-gap-requires : (t : ℕ) → emit-array-lts.Need-put-gap-requires (emit-array-claims t) (emit-array-at t) emit-array.Post
+emit-array-put-gap-requires t c κs = search needs
+
+emit-array-is-array-on-top-requires : (t : ℕ) → emit-array-lts.Need-is-array-on-top-requires (emit-array-claims t) (emit-array-at t) emit-array.Post
+emit-array-is-array-on-top-requires t c κs = search needs
+
+emit-array-emit-type-chain-requires : (t : ℕ) → emit-array-lts.Need-emit-type-chain-requires (emit-array-claims t) (emit-array-at t) emit-array.Post
+emit-array-emit-type-chain-requires t c κs = (omega arith, tt)
+
+emit-array-same-length-2 : (t : ℕ) → emit-array-lts.Need-same-length-2 (emit-array-claims t) (emit-array-at t) emit-array.Post
+emit-array-same-length-2 t c = search needs
+
+emit-array-same-length-3 : (t : ℕ) → emit-array-lts.Need-same-length-3 (emit-array-claims t) (emit-array-at t) emit-array.Post
+emit-array-same-length-3 t c = search needs
+
+emit-array-returns-2 : (t : ℕ) → emit-array-lts.Need-returns-2 (emit-array-claims t) (emit-array-at t) emit-array.Post
+emit-array-returns-2 t c = search needs
+
+emit-array-slice-aggregate-put-bytes : (t : ℕ) → emit-array-lts.Need-slice-aggregate-put-bytes (emit-array-claims t) (emit-array-at t) emit-array.Post
+emit-array-slice-aggregate-put-bytes t c = search needs
+
+emit-array-put-bytes-requires : (t : ℕ) → emit-array-lts.Need-put-bytes-requires (emit-array-claims t) (emit-array-at t) emit-array.Post
+emit-array-put-bytes-requires t c κs = search needs
+
+emit-array-emit-type-chain-requires-2 : (t : ℕ) → emit-array-lts.Need-emit-type-chain-requires-2 (emit-array-claims t) (emit-array-at t) emit-array.Post
+emit-array-emit-type-chain-requires-2 t c κs = (omega arith, tt)
+
+emit-array-slice-aggregate-put-bytes-2 : (t : ℕ) → emit-array-lts.Need-slice-aggregate-put-bytes-2 (emit-array-claims t) (emit-array-at t) emit-array.Post
+emit-array-slice-aggregate-put-bytes-2 t c = search needs
+
+emit-array-put-bytes-requires-2 : (t : ℕ) → emit-array-lts.Need-put-bytes-requires-2 (emit-array-claims t) (emit-array-at t) emit-array.Post
+emit-array-put-bytes-requires-2 t c κs = search needs
+
+emit-array-same-length-4 : (t : ℕ) → emit-array-lts.Need-same-length-4 (emit-array-claims t) (emit-array-at t) emit-array.Post
+emit-array-same-length-4 t c = search needs
+
+emit-array-same-length-5 : (t : ℕ) → emit-array-lts.Need-same-length-5 (emit-array-claims t) (emit-array-at t) emit-array.Post
+emit-array-same-length-5 t c = search needs
+
+emit-array-returns-3 : (t : ℕ) → emit-array-lts.Need-returns-3 (emit-array-claims t) (emit-array-at t) emit-array.Post
+emit-array-returns-3 t c = search needs
+
+emit-base-type-by-id-requires : (t : ℕ) → emit-base-lts.Need-type-by-id-requires (emit-base-claims t) (emit-base-at t) emit-base.Post
+emit-base-type-by-id-requires t c κs = search needs
+
+emit-base-enum-told : (t : ℕ) → emit-base-lts.Need-enum-told (emit-base-claims t) (emit-base-at t) emit-base.Post
+emit-base-enum-told t c = search needs
+
+emit-base-slice-aggregate-put-bytes : (t : ℕ) → emit-base-lts.Need-slice-aggregate-put-bytes (emit-base-claims t) (emit-base-at t) emit-base.Post
+emit-base-slice-aggregate-put-bytes t c = search needs
+
+emit-base-put-bytes-requires : (t : ℕ) → emit-base-lts.Need-put-bytes-requires (emit-base-claims t) (emit-base-at t) emit-base.Post
+emit-base-put-bytes-requires t c κs = search needs
+
+emit-base-enum-known-name-off : (t : ℕ) → emit-base-lts.Need-enum-known-name-off (emit-base-claims t) (emit-base-at t) emit-base.Post
+emit-base-enum-known-name-off t c = search needs
+
+emit-base-get-btf-str-requires : (t : ℕ) → emit-base-lts.Need-get-btf-str-requires (emit-base-claims t) (emit-base-at t) emit-base.Post
+emit-base-get-btf-str-requires t c κs = search needs
+
+emit-base-put-bytes-requires-2 : (t : ℕ) → emit-base-lts.Need-put-bytes-requires-2 (emit-base-claims t) (emit-base-at t) emit-base.Post
+emit-base-put-bytes-requires-2 t c κs = search needs
+
+emit-base-enum-known-t : (t : ℕ) → emit-base-lts.Need-enum-known-t (emit-base-claims t) (emit-base-at t) emit-base.Post
+emit-base-enum-known-t t c = search needs
+
+emit-base-emit-composite-word-requires : (t : ℕ) → emit-base-lts.Need-emit-composite-word-requires (emit-base-claims t) (emit-base-at t) emit-base.Post
+emit-base-emit-composite-word-requires t c κs = (omega arith, tt)
+
+emit-base-enum-known-t-2 : (t : ℕ) → emit-base-lts.Need-enum-known-t-2 (emit-base-claims t) (emit-base-at t) emit-base.Post
+emit-base-enum-known-t-2 t c = search needs
+
+emit-base-is-empty-requires : (t : ℕ) → emit-base-lts.Need-is-empty-requires (emit-base-claims t) (emit-base-at t) emit-base.Post
+emit-base-is-empty-requires t c κs = search needs
+
+emit-base-emit-enum-def-requires : (t : ℕ) → emit-base-lts.Need-emit-enum-def-requires (emit-base-claims t) (emit-base-at t) emit-base.Post
+emit-base-emit-enum-def-requires t c κs = search needs
+
+emit-base-same-length : (t : ℕ) → emit-base-lts.Need-same-length (emit-base-claims t) (emit-base-at t) emit-base.Post
+emit-base-same-length t c = search needs
+
+emit-base-same-length-2 : (t : ℕ) → emit-base-lts.Need-same-length-2 (emit-base-claims t) (emit-base-at t) emit-base.Post
+emit-base-same-length-2 t c = search needs
+
+emit-base-returns : (t : ℕ) → emit-base-lts.Need-returns (emit-base-claims t) (emit-base-at t) emit-base.Post
+emit-base-returns t c = search needs
+
+emit-base-put-enum-name-requires : (t : ℕ) → emit-base-lts.Need-put-enum-name-requires (emit-base-claims t) (emit-base-at t) emit-base.Post
+emit-base-put-enum-name-requires t c κs = search needs
+
+emit-base-enum-known-name-off-2 : (t : ℕ) → emit-base-lts.Need-enum-known-name-off-2 (emit-base-claims t) (emit-base-at t) emit-base.Post
+emit-base-enum-known-name-off-2 t c = search needs
+
+emit-base-emit-fwd-def-requires : (t : ℕ) → emit-base-lts.Need-emit-fwd-def-requires (emit-base-claims t) (emit-base-at t) emit-base.Post
+emit-base-emit-fwd-def-requires t c κs = search needs
+
+emit-base-enum-known-name-off-3 : (t : ℕ) → emit-base-lts.Need-enum-known-name-off-3 (emit-base-claims t) (emit-base-at t) emit-base.Post
+emit-base-enum-known-name-off-3 t c = search needs
+
+emit-base-put-typedef-name-requires : (t : ℕ) → emit-base-lts.Need-put-typedef-name-requires (emit-base-claims t) (emit-base-at t) emit-base.Post
+emit-base-put-typedef-name-requires t c κs = search needs
+
+emit-base-enum-known-name-off-4 : (t : ℕ) → emit-base-lts.Need-enum-known-name-off-4 (emit-base-claims t) (emit-base-at t) emit-base.Post
+emit-base-enum-known-name-off-4 t c = search needs
+
+emit-base-get-btf-str-requires-2 : (t : ℕ) → emit-base-lts.Need-get-btf-str-requires-2 (emit-base-claims t) (emit-base-at t) emit-base.Post
+emit-base-get-btf-str-requires-2 t c κs = search needs
+
+emit-base-put-bytes-requires-3 : (t : ℕ) → emit-base-lts.Need-put-bytes-requires-3 (emit-base-claims t) (emit-base-at t) emit-base.Post
+emit-base-put-bytes-requires-3 t c κs = search needs
+
+emit-base-enum-known-t-3 : (t : ℕ) → emit-base-lts.Need-enum-known-t-3 (emit-base-claims t) (emit-base-at t) emit-base.Post
+emit-base-enum-known-t-3 t c = search needs
+
+emit-base-is-empty-requires-2 : (t : ℕ) → emit-base-lts.Need-is-empty-requires-2 (emit-base-claims t) (emit-base-at t) emit-base.Post
+emit-base-is-empty-requires-2 t c κs = search needs
+
+emit-base-emit-enum64-def-requires : (t : ℕ) → emit-base-lts.Need-emit-enum64-def-requires (emit-base-claims t) (emit-base-at t) emit-base.Post
+emit-base-emit-enum64-def-requires t c κs = search needs
+
+emit-base-same-length-3 : (t : ℕ) → emit-base-lts.Need-same-length-3 (emit-base-claims t) (emit-base-at t) emit-base.Post
+emit-base-same-length-3 t c = search needs
+
+emit-base-same-length-4 : (t : ℕ) → emit-base-lts.Need-same-length-4 (emit-base-claims t) (emit-base-at t) emit-base.Post
+emit-base-same-length-4 t c = search needs
+
+emit-base-returns-2 : (t : ℕ) → emit-base-lts.Need-returns-2 (emit-base-claims t) (emit-base-at t) emit-base.Post
+emit-base-returns-2 t c = search needs
+
+emit-base-put-enum-name-requires-2 : (t : ℕ) → emit-base-lts.Need-put-enum-name-requires-2 (emit-base-claims t) (emit-base-at t) emit-base.Post
+emit-base-put-enum-name-requires-2 t c κs = search needs
+
+emit-base-same-length-5 : (t : ℕ) → emit-base-lts.Need-same-length-5 (emit-base-claims t) (emit-base-at t) emit-base.Post
+emit-base-same-length-5 t c = search needs
+
+emit-base-same-length-6 : (t : ℕ) → emit-base-lts.Need-same-length-6 (emit-base-claims t) (emit-base-at t) emit-base.Post
+emit-base-same-length-6 t c = search needs
+
+emit-base-returns-3 : (t : ℕ) → emit-base-lts.Need-returns-3 (emit-base-claims t) (emit-base-at t) emit-base.Post
+emit-base-returns-3 t c = search needs
+
+emit-base-same-length-7 : (t : ℕ) → emit-base-lts.Need-same-length-7 (emit-base-claims t) (emit-base-at t) emit-base.Post
+emit-base-same-length-7 t c = search needs
+
+emit-base-same-length-8 : (t : ℕ) → emit-base-lts.Need-same-length-8 (emit-base-claims t) (emit-base-at t) emit-base.Post
+emit-base-same-length-8 t c = search needs
+
+emit-base-returns-4 : (t : ℕ) → emit-base-lts.Need-returns-4 (emit-base-claims t) (emit-base-at t) emit-base.Post
+emit-base-returns-4 t c = search needs
+
+emit-base-same-length-9 : (t : ℕ) → emit-base-lts.Need-same-length-9 (emit-base-claims t) (emit-base-at t) emit-base.Post
+emit-base-same-length-9 t c = search needs
+
+emit-base-same-length-10 : (t : ℕ) → emit-base-lts.Need-same-length-10 (emit-base-claims t) (emit-base-at t) emit-base.Post
+emit-base-same-length-10 t c = search needs
+
+emit-base-returns-5 : (t : ℕ) → emit-base-lts.Need-returns-5 (emit-base-claims t) (emit-base-at t) emit-base.Post
+emit-base-returns-5 t c = search needs
+
+emit-base-same-length-11 : (t : ℕ) → emit-base-lts.Need-same-length-11 (emit-base-claims t) (emit-base-at t) emit-base.Post
+emit-base-same-length-11 t c = search needs
+
+emit-base-same-length-12 : (t : ℕ) → emit-base-lts.Need-same-length-12 (emit-base-claims t) (emit-base-at t) emit-base.Post
+emit-base-same-length-12 t c = search needs
+
+emit-base-returns-6 : (t : ℕ) → emit-base-lts.Need-returns-6 (emit-base-claims t) (emit-base-at t) emit-base.Post
+emit-base-returns-6 t c = search needs
+
+emit-base-same-length-13 : (t : ℕ) → emit-base-lts.Need-same-length-13 (emit-base-claims t) (emit-base-at t) emit-base.Post
+emit-base-same-length-13 t c = search needs
+
+emit-base-same-length-14 : (t : ℕ) → emit-base-lts.Need-same-length-14 (emit-base-claims t) (emit-base-at t) emit-base.Post
+emit-base-same-length-14 t c = search needs
+
+emit-base-returns-7 : (t : ℕ) → emit-base-lts.Need-returns-7 (emit-base-claims t) (emit-base-at t) emit-base.Post
+emit-base-returns-7 t c = search needs
+
+emit-base-same-length-15 : (t : ℕ) → emit-base-lts.Need-same-length-15 (emit-base-claims t) (emit-base-at t) emit-base.Post
+emit-base-same-length-15 t c = search needs
+
+emit-base-same-length-16 : (t : ℕ) → emit-base-lts.Need-same-length-16 (emit-base-claims t) (emit-base-at t) emit-base.Post
+emit-base-same-length-16 t c = search needs
+
+emit-base-returns-8 : (t : ℕ) → emit-base-lts.Need-returns-8 (emit-base-claims t) (emit-base-at t) emit-base.Post
+emit-base-returns-8 t c = search needs
+
+emit-base-same-length-17 : (t : ℕ) → emit-base-lts.Need-same-length-17 (emit-base-claims t) (emit-base-at t) emit-base.Post
+emit-base-same-length-17 t c = search needs
+
+emit-base-same-length-18 : (t : ℕ) → emit-base-lts.Need-same-length-18 (emit-base-claims t) (emit-base-at t) emit-base.Post
+emit-base-same-length-18 t c = search needs
+
+emit-base-returns-9 : (t : ℕ) → emit-base-lts.Need-returns-9 (emit-base-claims t) (emit-base-at t) emit-base.Post
+emit-base-returns-9 t c = search needs
+
+emit-base-same-length-19 : (t : ℕ) → emit-base-lts.Need-same-length-19 (emit-base-claims t) (emit-base-at t) emit-base.Post
+emit-base-same-length-19 t c = search needs
+
+emit-base-same-length-20 : (t : ℕ) → emit-base-lts.Need-same-length-20 (emit-base-claims t) (emit-base-at t) emit-base.Post
+emit-base-same-length-20 t c = search needs
+
+emit-base-returns-10 : (t : ℕ) → emit-base-lts.Need-returns-10 (emit-base-claims t) (emit-base-at t) emit-base.Post
+emit-base-returns-10 t c = search needs
+
+emit-base-same-length-21 : (t : ℕ) → emit-base-lts.Need-same-length-21 (emit-base-claims t) (emit-base-at t) emit-base.Post
+emit-base-same-length-21 t c = search needs
+
+emit-base-returns-11 : (t : ℕ) → emit-base-lts.Need-returns-11 (emit-base-claims t) (emit-base-at t) emit-base.Post
+emit-base-returns-11 t c = search needs
+
+emit-composite-def-stop-requires : (t : ℕ) → emit-composite-def-lts.Need-stop-requires (emit-composite-def-claims t) (emit-composite-def-at t) emit-composite-def.Post
+emit-composite-def-stop-requires t c κs = search needs
+
+emit-composite-def-same-length : (t : ℕ) → emit-composite-def-lts.Need-same-length (emit-composite-def-claims t) (emit-composite-def-at t) emit-composite-def.Post
+emit-composite-def-same-length t c = search needs
+
+emit-composite-def-returns : (t : ℕ) → emit-composite-def-lts.Need-returns (emit-composite-def-claims t) (emit-composite-def-at t) emit-composite-def.Post
+emit-composite-def-returns t c = search needs
+
+emit-composite-def-stopped-requires : (t : ℕ) → emit-composite-def-lts.Need-stopped-requires (emit-composite-def-claims t) (emit-composite-def-at t) emit-composite-def.Post
+emit-composite-def-stopped-requires t c κs = search needs
+
+emit-composite-def-same-length-2 : (t : ℕ) → emit-composite-def-lts.Need-same-length-2 (emit-composite-def-claims t) (emit-composite-def-at t) emit-composite-def.Post
+emit-composite-def-same-length-2 t c = search needs
+
+emit-composite-def-returns-2 : (t : ℕ) → emit-composite-def-lts.Need-returns-2 (emit-composite-def-claims t) (emit-composite-def-at t) emit-composite-def.Post
+emit-composite-def-returns-2 t c = search needs
+
+emit-composite-def-is-builtin-requires : (t : ℕ) → emit-composite-def-lts.Need-is-builtin-requires (emit-composite-def-claims t) (emit-composite-def-at t) emit-composite-def.Post
+emit-composite-def-is-builtin-requires t c κs = search needs
+
+emit-composite-def-same-length-3 : (t : ℕ) → emit-composite-def-lts.Need-same-length-3 (emit-composite-def-claims t) (emit-composite-def-at t) emit-composite-def.Post
+emit-composite-def-same-length-3 t c = search needs
+
+emit-composite-def-returns-3 : (t : ℕ) → emit-composite-def-lts.Need-returns-3 (emit-composite-def-claims t) (emit-composite-def-at t) emit-composite-def.Post
+emit-composite-def-returns-3 t c = search needs
+
+emit-composite-def-is-struct-packed-requires :
+    (t : ℕ) → emit-composite-def-lts.Need-is-struct-packed-requires (
+      stop-reads.Asked,
+      stop-reads.Learnt,
+      stopped-reads.Asked,
+      stopped-reads.Learnt,
+      is-builtin-reads.Asked,
+      is-builtin-reads.Learnt,
+      is-struct-packed-reads.Asked,
+      is-struct-packed-reads.Learnt,
+      emit-composite-head-reads.Asked,
+      emit-composite-head-reads.Learnt,
+      deeper-reads.Asked,
+      deeper-reads.Learnt,
+      emit-members-below t,
+      emit-members.Post,
+      emit-composite-end-reads.Asked,
+      emit-composite-end-reads.Learnt,
+    ) (emit-composite-def-at t) emit-composite-def.Post
+emit-composite-def-is-struct-packed-requires t c κs = search needs
+
+emit-composite-def-enum-known-packed : (t : ℕ) → emit-composite-def-lts.Need-enum-known-packed (emit-composite-def-claims t) (emit-composite-def-at t) emit-composite-def.Post
+emit-composite-def-enum-known-packed t c = search needs
+
+emit-composite-def-emit-composite-head-requires :
+    (t : ℕ) → emit-composite-def-lts.Need-emit-composite-head-requires (
+      stop-reads.Asked,
+      stop-reads.Learnt,
+      stopped-reads.Asked,
+      stopped-reads.Learnt,
+      is-builtin-reads.Asked,
+      is-builtin-reads.Learnt,
+      is-struct-packed-reads.Asked,
+      is-struct-packed-reads.Learnt,
+      emit-composite-head-reads.Asked,
+      emit-composite-head-reads.Learnt,
+      deeper-reads.Asked,
+      deeper-reads.Learnt,
+      emit-members-below t,
+      emit-members.Post,
+      emit-composite-end-reads.Asked,
+      emit-composite-end-reads.Learnt,
+    ) (emit-composite-def-at t) emit-composite-def.Post
+emit-composite-def-emit-composite-head-requires t c κs = search needs
+
+emit-composite-def-deeper-requires : (t : ℕ) → emit-composite-def-lts.Need-deeper-requires (emit-composite-def-claims t) (emit-composite-def-at t) emit-composite-def.Post
+emit-composite-def-deeper-requires t c κs = search needs
+
+emit-composite-def-sub-emit-members : (t : ℕ) → emit-composite-def-lts.Need-sub-emit-members (emit-composite-def-claims t) (emit-composite-def-at t) emit-composite-def.Post
+emit-composite-def-sub-emit-members t c = omega arith
+
+emit-composite-def-emit-members-requires :
+    (t : ℕ) → emit-composite-def-lts.Need-emit-members-requires (
+      stop-reads.Asked,
+      stop-reads.Learnt,
+      stopped-reads.Asked,
+      stopped-reads.Learnt,
+      is-builtin-reads.Asked,
+      is-builtin-reads.Learnt,
+      is-struct-packed-reads.Asked,
+      is-struct-packed-reads.Learnt,
+      emit-composite-head-reads.Asked,
+      emit-composite-head-reads.Learnt,
+      deeper-reads.Asked,
+      deeper-reads.Learnt,
+      emit-members-below t,
+      emit-members.Post,
+      emit-composite-end-reads.Asked,
+      emit-composite-end-reads.Learnt,
+    ) (emit-composite-def-at t) emit-composite-def.Post
+emit-composite-def-emit-members-requires t c κs = (omega arith, tt)
+
+emit-composite-def-emit-composite-end-requires :
+    (t : ℕ) → emit-composite-def-lts.Need-emit-composite-end-requires (
+      stop-reads.Asked,
+      stop-reads.Learnt,
+      stopped-reads.Asked,
+      stopped-reads.Learnt,
+      is-builtin-reads.Asked,
+      is-builtin-reads.Learnt,
+      is-struct-packed-reads.Asked,
+      is-struct-packed-reads.Learnt,
+      emit-composite-head-reads.Asked,
+      emit-composite-head-reads.Learnt,
+      deeper-reads.Asked,
+      deeper-reads.Learnt,
+      emit-members-below t,
+      emit-members.Post,
+      emit-composite-end-reads.Asked,
+      emit-composite-end-reads.Learnt,
+    ) (emit-composite-def-at t) emit-composite-def.Post
+emit-composite-def-emit-composite-end-requires t c κs = search needs
+
+emit-composite-def-enum-known-c : (t : ℕ) → emit-composite-def-lts.Need-enum-known-c (emit-composite-def-claims t) (emit-composite-def-at t) emit-composite-def.Post
+emit-composite-def-enum-known-c t c = search needs
+
+emit-composite-def-stop-requires-2 : (t : ℕ) → emit-composite-def-lts.Need-stop-requires-2 (emit-composite-def-claims t) (emit-composite-def-at t) emit-composite-def.Post
+emit-composite-def-stop-requires-2 t c κs = search needs
+
+emit-composite-def-same-length-4 : (t : ℕ) → emit-composite-def-lts.Need-same-length-4 (emit-composite-def-claims t) (emit-composite-def-at t) emit-composite-def.Post
+emit-composite-def-same-length-4 t c = search needs
+
+emit-composite-def-same-length-5 : (t : ℕ) → emit-composite-def-lts.Need-same-length-5 (emit-composite-def-claims t) (emit-composite-def-at t) emit-composite-def.Post
+emit-composite-def-same-length-5 t c = search needs
+
+emit-composite-def-returns-4 : (t : ℕ) → emit-composite-def-lts.Need-returns-4 (emit-composite-def-claims t) (emit-composite-def-at t) emit-composite-def.Post
+emit-composite-def-returns-4 t c = search needs
+
+emit-composite-def-same-length-6 : (t : ℕ) → emit-composite-def-lts.Need-same-length-6 (emit-composite-def-claims t) (emit-composite-def-at t) emit-composite-def.Post
+emit-composite-def-same-length-6 t c = search needs
+
+emit-composite-def-same-length-7 : (t : ℕ) → emit-composite-def-lts.Need-same-length-7 (emit-composite-def-claims t) (emit-composite-def-at t) emit-composite-def.Post
+emit-composite-def-same-length-7 t c = search needs
+
+emit-composite-def-returns-5 : (t : ℕ) → emit-composite-def-lts.Need-returns-5 (emit-composite-def-claims t) (emit-composite-def-at t) emit-composite-def.Post
+emit-composite-def-returns-5 t c = search needs
+
+emit-composite-word-is-empty-requires : (t : ℕ) → emit-composite-word-lts.Need-is-empty-requires (emit-composite-word-claims t) (emit-composite-word-at t) emit-composite-word.Post
+emit-composite-word-is-empty-requires t c κs = search needs
+
+emit-composite-word-emit-composite-def-requires :
+    (t : ℕ) → emit-composite-word-lts.Need-emit-composite-def-requires (
+      is-empty-reads.Asked,
+      is-empty-reads.Learnt,
+      emit-composite-def-below t,
+      emit-composite-def.Post,
+      emit-composite-fwd-reads.Asked,
+      emit-composite-fwd-reads.Learnt,
+    ) (emit-composite-word-at t) emit-composite-word.Post
+emit-composite-word-emit-composite-def-requires t c κs = (omega arith, tt)
+
+emit-composite-word-same-length : (t : ℕ) → emit-composite-word-lts.Need-same-length (emit-composite-word-claims t) (emit-composite-word-at t) emit-composite-word.Post
+emit-composite-word-same-length t c = search needs
+
+emit-composite-word-same-length-2 : (t : ℕ) → emit-composite-word-lts.Need-same-length-2 (emit-composite-word-claims t) (emit-composite-word-at t) emit-composite-word.Post
+emit-composite-word-same-length-2 t c = search needs
+
+emit-composite-word-returns : (t : ℕ) → emit-composite-word-lts.Need-returns (emit-composite-word-claims t) (emit-composite-word-at t) emit-composite-word.Post
+emit-composite-word-returns t c = search needs
+
+emit-composite-word-emit-composite-fwd-requires :
+    (t : ℕ) → emit-composite-word-lts.Need-emit-composite-fwd-requires (
+      is-empty-reads.Asked,
+      is-empty-reads.Learnt,
+      emit-composite-def-below t,
+      emit-composite-def.Post,
+      emit-composite-fwd-reads.Asked,
+      emit-composite-fwd-reads.Learnt,
+    ) (emit-composite-word-at t) emit-composite-word.Post
+emit-composite-word-emit-composite-fwd-requires t c κs = search needs
+
+emit-composite-word-same-length-3 : (t : ℕ) → emit-composite-word-lts.Need-same-length-3 (emit-composite-word-claims t) (emit-composite-word-at t) emit-composite-word.Post
+emit-composite-word-same-length-3 t c = search needs
+
+emit-composite-word-same-length-4 : (t : ℕ) → emit-composite-word-lts.Need-same-length-4 (emit-composite-word-claims t) (emit-composite-word-at t) emit-composite-word.Post
+emit-composite-word-same-length-4 t c = search needs
+
+emit-composite-word-returns-2 : (t : ℕ) → emit-composite-word-lts.Need-returns-2 (emit-composite-word-claims t) (emit-composite-word-at t) emit-composite-word.Post
+emit-composite-word-returns-2 t c = search needs
+
+emit-entry-returns : (t : ℕ) → emit-entry-lts.Need-returns (emit-entry-claims t) (emit-entry-at t) emit-entry.Post
+emit-entry-returns t c = search needs
+
+emit-entry-sub-n : (t : ℕ) → emit-entry-lts.Need-sub-n (emit-entry-claims t) (emit-entry-at t) emit-entry.Post
+emit-entry-sub-n t c = omega arith
+
+emit-entry-skip-mods-requires : (t : ℕ) → emit-entry-lts.Need-skip-mods-requires (emit-entry-claims t) (emit-entry-at t) emit-entry.Post
+emit-entry-skip-mods-requires t c κs = search needs
+
+emit-entry-entry-at-requires : (t : ℕ) → emit-entry-lts.Need-entry-at-requires (emit-entry-claims t) (emit-entry-at t) emit-entry.Post
+emit-entry-entry-at-requires t c κs = search needs
+
+emit-entry-enum-told : (t : ℕ) → emit-entry-lts.Need-enum-told (emit-entry-claims t) (emit-entry-at t) emit-entry.Post
+emit-entry-enum-told t c = search needs
+
+emit-entry-emit-mods-requires : (t : ℕ) → emit-entry-lts.Need-emit-mods-requires (emit-entry-claims t) (emit-entry-at t) emit-entry.Post
+emit-entry-emit-mods-requires t c κs = search needs
+
+emit-entry-emit-base-requires : (t : ℕ) → emit-entry-lts.Need-emit-base-requires (emit-entry-claims t) (emit-entry-at t) emit-entry.Post
+emit-entry-emit-base-requires t c κs = (omega arith, tt)
+
+emit-entry-goes-on-requires : (t : ℕ) → emit-entry-lts.Need-goes-on-requires (emit-entry-claims t) (emit-entry-at t) emit-entry.Post
+emit-entry-goes-on-requires t c κs = search needs
+
+emit-entry-enum-told-2 : (t : ℕ) → emit-entry-lts.Need-enum-told-2 (emit-entry-claims t) (emit-entry-at t) emit-entry.Post
+emit-entry-enum-told-2 t c = search needs
+
+emit-entry-put-star-requires : (t : ℕ) → emit-entry-lts.Need-put-star-requires (emit-entry-claims t) (emit-entry-at t) emit-entry.Post
+emit-entry-put-star-requires t c κs = search needs
+
+emit-entry-goes-on-requires-2 : (t : ℕ) → emit-entry-lts.Need-goes-on-requires-2 (emit-entry-claims t) (emit-entry-at t) emit-entry.Post
+emit-entry-goes-on-requires-2 t c κs = search needs
+
+emit-entry-enum-known-e : (t : ℕ) → emit-entry-lts.Need-enum-known-e (emit-entry-claims t) (emit-entry-at t) emit-entry.Post
+emit-entry-enum-known-e t c = search needs
+
+emit-entry-slice-aggregate-put-bytes : (t : ℕ) → emit-entry-lts.Need-slice-aggregate-put-bytes (emit-entry-claims t) (emit-entry-at t) emit-entry.Post
+emit-entry-slice-aggregate-put-bytes t c = search needs
+
+emit-entry-put-bytes-requires : (t : ℕ) → emit-entry-lts.Need-put-bytes-requires (emit-entry-claims t) (emit-entry-at t) emit-entry.Post
+emit-entry-put-bytes-requires t c κs = search needs
+
+emit-entry-put-qualifier-requires : (t : ℕ) → emit-entry-lts.Need-put-qualifier-requires (emit-entry-claims t) (emit-entry-at t) emit-entry.Post
+emit-entry-put-qualifier-requires t c κs = search needs
+
+emit-entry-goes-on-requires-3 : (t : ℕ) → emit-entry-lts.Need-goes-on-requires-3 (emit-entry-claims t) (emit-entry-at t) emit-entry.Post
+emit-entry-goes-on-requires-3 t c κs = search needs
+
+emit-entry-enum-known-e-2 : (t : ℕ) → emit-entry-lts.Need-enum-known-e-2 (emit-entry-claims t) (emit-entry-at t) emit-entry.Post
+emit-entry-enum-known-e-2 t c = search needs
+
+emit-entry-emit-array-requires : (t : ℕ) → emit-entry-lts.Need-emit-array-requires (emit-entry-claims t) (emit-entry-at t) emit-entry.Post
+emit-entry-emit-array-requires t c κs = (omega arith, tt)
+
+emit-entry-put-count-requires : (t : ℕ) → emit-entry-lts.Need-put-count-requires (emit-entry-claims t) (emit-entry-at t) emit-entry.Post
+emit-entry-put-count-requires t c κs = search needs
+
+emit-entry-named-requires : (t : ℕ) → emit-entry-lts.Need-named-requires (emit-entry-claims t) (emit-entry-at t) emit-entry.Post
+emit-entry-named-requires t c κs = search needs
+
+emit-entry-enum-known-e-3 : (t : ℕ) → emit-entry-lts.Need-enum-known-e-3 (emit-entry-claims t) (emit-entry-at t) emit-entry.Post
+emit-entry-enum-known-e-3 t c = search needs
+
+emit-entry-emit-mods-requires-2 : (t : ℕ) → emit-entry-lts.Need-emit-mods-requires-2 (emit-entry-claims t) (emit-entry-at t) emit-entry.Post
+emit-entry-emit-mods-requires-2 t c κs = search needs
+
+emit-entry-emit-proto-requires : (t : ℕ) → emit-entry-lts.Need-emit-proto-requires (emit-entry-claims t) (emit-entry-at t) emit-entry.Post
+emit-entry-emit-proto-requires t c κs = (omega arith, tt)
+
+emit-entry-emit-params-requires : (t : ℕ) → emit-entry-lts.Need-emit-params-requires (emit-entry-claims t) (emit-entry-at t) emit-entry.Post
+emit-entry-emit-params-requires t c κs = (omega (arith, c .before .before .before .before .before .before .before .before .before .before .before .before .before .before .before .before .before .before .before .before .before .before .before .before .before .before .before .pre .0), tt)
+
+emit-entry-named-requires-2 : (t : ℕ) → emit-entry-lts.Need-named-requires-2 (emit-entry-claims t) (emit-entry-at t) emit-entry.Post
+emit-entry-named-requires-2 t c κs = search needs
+
+emit-entry-enum-known-e-4 : (t : ℕ) → emit-entry-lts.Need-enum-known-e-4 (emit-entry-claims t) (emit-entry-at t) emit-entry.Post
+emit-entry-enum-known-e-4 t c = search needs
+
+emit-entry-emit-mods-requires-3 : (t : ℕ) → emit-entry-lts.Need-emit-mods-requires-3 (emit-entry-claims t) (emit-entry-at t) emit-entry.Post
+emit-entry-emit-mods-requires-3 t c κs = search needs
+
+emit-entry-slice-aggregate-put-attribute :
+    (t : ℕ) → emit-entry-lts.Need-slice-aggregate-put-attribute (
+      skip-mods-reads.Asked,
+      skip-mods-reads.Learnt,
+      entry-at-reads.Asked,
+      entry-at-reads.Learnt,
+      emit-mods-reads.Asked,
+      emit-mods-reads.Learnt,
+      emit-base-below t,
+      emit-base.Post,
+      goes-on-reads.Asked,
+      goes-on-reads.Learnt,
+      put-star-reads.Asked,
+      put-star-reads.Learnt,
+      put-bytes-reads.Asked,
+      put-bytes-reads.Learnt,
+      put-qualifier-reads.Asked,
+      put-qualifier-reads.Learnt,
+      emit-array-below t,
+      emit-array.Post,
+      put-count-reads.Asked,
+      put-count-reads.Learnt,
+      named-reads.Asked,
+      named-reads.Learnt,
+      emit-proto-below t,
+      emit-proto.Post,
+      emit-params-below t,
+      emit-params.Post,
+      put-attribute-reads.Asked,
+      put-attribute-reads.Learnt,
+    ) (emit-entry-at t) emit-entry.Post
+emit-entry-slice-aggregate-put-attribute t c = search needs
+
+emit-entry-put-attribute-requires : (t : ℕ) → emit-entry-lts.Need-put-attribute-requires (emit-entry-claims t) (emit-entry-at t) emit-entry.Post
+emit-entry-put-attribute-requires t c κs = search needs
+
+emit-entry-goes-on-requires-4 : (t : ℕ) → emit-entry-lts.Need-goes-on-requires-4 (emit-entry-claims t) (emit-entry-at t) emit-entry.Post
+emit-entry-goes-on-requires-4 t c κs = search needs
+
+emit-entry-same-length : (t : ℕ) → emit-entry-lts.Need-same-length (emit-entry-claims t) (emit-entry-at t) emit-entry.Post
+emit-entry-same-length t c = search needs
+
+emit-entry-same-length-2 : (t : ℕ) → emit-entry-lts.Need-same-length-2 (emit-entry-claims t) (emit-entry-at t) emit-entry.Post
+emit-entry-same-length-2 t c = search needs
+
+emit-entry-returns-2 : (t : ℕ) → emit-entry-lts.Need-returns-2 (emit-entry-claims t) (emit-entry-at t) emit-entry.Post
+emit-entry-returns-2 t c = search needs
+
+emit-entry-same-length-3 : (t : ℕ) → emit-entry-lts.Need-same-length-3 (emit-entry-claims t) (emit-entry-at t) emit-entry.Post
+emit-entry-same-length-3 t c = search needs
+
+emit-entry-same-length-4 : (t : ℕ) → emit-entry-lts.Need-same-length-4 (emit-entry-claims t) (emit-entry-at t) emit-entry.Post
+emit-entry-same-length-4 t c = search needs
+
+emit-entry-returns-3 : (t : ℕ) → emit-entry-lts.Need-returns-3 (emit-entry-claims t) (emit-entry-at t) emit-entry.Post
+emit-entry-returns-3 t c = search needs
+
+emit-entry-same-length-5 : (t : ℕ) → emit-entry-lts.Need-same-length-5 (emit-entry-claims t) (emit-entry-at t) emit-entry.Post
+emit-entry-same-length-5 t c = search needs
+
+emit-entry-same-length-6 : (t : ℕ) → emit-entry-lts.Need-same-length-6 (emit-entry-claims t) (emit-entry-at t) emit-entry.Post
+emit-entry-same-length-6 t c = search needs
+
+emit-entry-returns-4 : (t : ℕ) → emit-entry-lts.Need-returns-4 (emit-entry-claims t) (emit-entry-at t) emit-entry.Post
+emit-entry-returns-4 t c = search needs
+
+emit-entry-same-length-7 : (t : ℕ) → emit-entry-lts.Need-same-length-7 (emit-entry-claims t) (emit-entry-at t) emit-entry.Post
+emit-entry-same-length-7 t c = search needs
+
+emit-entry-same-length-8 : (t : ℕ) → emit-entry-lts.Need-same-length-8 (emit-entry-claims t) (emit-entry-at t) emit-entry.Post
+emit-entry-same-length-8 t c = search needs
+
+emit-entry-returns-5 : (t : ℕ) → emit-entry-lts.Need-returns-5 (emit-entry-claims t) (emit-entry-at t) emit-entry.Post
+emit-entry-returns-5 t c = search needs
+
+emit-entry-same-length-9 : (t : ℕ) → emit-entry-lts.Need-same-length-9 (emit-entry-claims t) (emit-entry-at t) emit-entry.Post
+emit-entry-same-length-9 t c = search needs
+
+emit-entry-same-length-10 : (t : ℕ) → emit-entry-lts.Need-same-length-10 (emit-entry-claims t) (emit-entry-at t) emit-entry.Post
+emit-entry-same-length-10 t c = search needs
+
+emit-entry-returns-6 : (t : ℕ) → emit-entry-lts.Need-returns-6 (emit-entry-claims t) (emit-entry-at t) emit-entry.Post
+emit-entry-returns-6 t c = search needs
+
+emit-entry-same-length-11 : (t : ℕ) → emit-entry-lts.Need-same-length-11 (emit-entry-claims t) (emit-entry-at t) emit-entry.Post
+emit-entry-same-length-11 t c = search needs
+
+emit-entry-same-length-12 : (t : ℕ) → emit-entry-lts.Need-same-length-12 (emit-entry-claims t) (emit-entry-at t) emit-entry.Post
+emit-entry-same-length-12 t c = search needs
+
+emit-entry-returns-7 : (t : ℕ) → emit-entry-lts.Need-returns-7 (emit-entry-claims t) (emit-entry-at t) emit-entry.Post
+emit-entry-returns-7 t c = search needs
+
+emit-member-load-member-requires : (t : ℕ) → emit-member-lts.Need-load-member-requires (emit-member-claims t) (emit-member-at t) emit-member.Post
+emit-member-load-member-requires t c κs = search needs
+
+emit-member-bare-requires : (t : ℕ) → emit-member-lts.Need-bare-requires (emit-member-claims t) (emit-member-at t) emit-member.Post
+emit-member-bare-requires t c κs = search needs
+
+emit-member-emit-bit-padding-requires : (t : ℕ) → emit-member-lts.Need-emit-bit-padding-requires (emit-member-claims t) (emit-member-at t) emit-member.Post
+emit-member-emit-bit-padding-requires t c κs = search needs
+
+emit-member-slice-aggregate-put-bytes : (t : ℕ) → emit-member-lts.Need-slice-aggregate-put-bytes (emit-member-claims t) (emit-member-at t) emit-member.Post
+emit-member-slice-aggregate-put-bytes t c = search needs
+
+emit-member-put-bytes-requires : (t : ℕ) → emit-member-lts.Need-put-bytes-requires (emit-member-claims t) (emit-member-at t) emit-member.Post
+emit-member-put-bytes-requires t c κs = search needs
+
+emit-member-put-tabs-requires : (t : ℕ) → emit-member-lts.Need-put-tabs-requires (emit-member-claims t) (emit-member-at t) emit-member.Post
+emit-member-put-tabs-requires t c κs = search needs
+
+emit-member-emit-type-decl-requires : (t : ℕ) → emit-member-lts.Need-emit-type-decl-requires (emit-member-claims t) (emit-member-at t) emit-member.Post
+emit-member-emit-type-decl-requires t c κs = (omega arith, tt)
+
+emit-member-emit-member-end-requires : (t : ℕ) → emit-member-lts.Need-emit-member-end-requires (emit-member-claims t) (emit-member-at t) emit-member.Post
+emit-member-emit-member-end-requires t c κs = search needs
+
+emit-member-same-length : (t : ℕ) → emit-member-lts.Need-same-length (emit-member-claims t) (emit-member-at t) emit-member.Post
+emit-member-same-length t c = search needs
+
+emit-member-same-length-2 : (t : ℕ) → emit-member-lts.Need-same-length-2 (emit-member-claims t) (emit-member-at t) emit-member.Post
+emit-member-same-length-2 t c = search needs
+
+emit-member-returns : (t : ℕ) → emit-member-lts.Need-returns (emit-member-claims t) (emit-member-at t) emit-member.Post
+emit-member-returns t c = search needs
+
+abbrev emit-members-Inv-loop : emit-members-lts.InvT-loop
+emit-members-Inv-loop b section work₀ text₀ at id t packed lvl below vlen s₀ k₀ work text s k = (k ≤ vlen) × (vlen < 4294967296) × (length work ≡ length work₀) × (length text ≡ length text₀)
+
+abbrev emit-members-μ-loop : emit-members-lts.MeasureT-loop
+emit-members-μ-loop b section work₀ text₀ at id t packed lvl below vlen s₀ k₀ work text s k = vlen - k
+
+emit-members-loop-holds : (t : ℕ) → emit-members-lts.Need-loop-holds (emit-members-claims t) (emit-members-at t) emit-members.Post emit-members-Inv-loop emit-members-μ-loop
+emit-members-loop-holds t c = search needs
+
+emit-members-stopped-requires : (t : ℕ) → emit-members-lts.Need-stopped-requires (emit-members-claims t) (emit-members-at t) emit-members.Post emit-members-Inv-loop emit-members-μ-loop
+emit-members-stopped-requires t c κs = search needs
+
+emit-members-same-length : (t : ℕ) → emit-members-lts.Need-same-length (emit-members-claims t) (emit-members-at t) emit-members.Post emit-members-Inv-loop emit-members-μ-loop
+emit-members-same-length t c = search needs
+
+emit-members-same-length-2 : (t : ℕ) → emit-members-lts.Need-same-length-2 (emit-members-claims t) (emit-members-at t) emit-members.Post emit-members-Inv-loop emit-members-μ-loop
+emit-members-same-length-2 t c = search needs
+
+emit-members-returns : (t : ℕ) → emit-members-lts.Need-returns (emit-members-claims t) (emit-members-at t) emit-members.Post emit-members-Inv-loop emit-members-μ-loop
+emit-members-returns t c = search needs
+
+emit-members-emit-member-requires : (t : ℕ) → emit-members-lts.Need-emit-member-requires (emit-members-claims t) (emit-members-at t) emit-members.Post emit-members-Inv-loop emit-members-μ-loop
+emit-members-emit-member-requires t c κs = (omega arith, tt)
+
+emit-members-add-k : (t : ℕ) → emit-members-lts.Need-add-k (emit-members-claims t) (emit-members-at t) emit-members.Post emit-members-Inv-loop emit-members-μ-loop
+emit-members-add-k t c = omega arith
+
+emit-members-loop-less : (t : ℕ) → emit-members-lts.Need-loop-less (emit-members-claims t) (emit-members-at t) emit-members.Post emit-members-Inv-loop emit-members-μ-loop
+emit-members-loop-less t c = omega arith
+
+emit-members-loop-again : (t : ℕ) → emit-members-lts.Need-loop-again (emit-members-claims t) (emit-members-at t) emit-members.Post emit-members-Inv-loop emit-members-μ-loop
+emit-members-loop-again t c = search needs
+
+emit-members-same-length-3 : (t : ℕ) → emit-members-lts.Need-same-length-3 (emit-members-claims t) (emit-members-at t) emit-members.Post emit-members-Inv-loop emit-members-μ-loop
+emit-members-same-length-3 t c = search needs
+
+emit-members-same-length-4 : (t : ℕ) → emit-members-lts.Need-same-length-4 (emit-members-claims t) (emit-members-at t) emit-members.Post emit-members-Inv-loop emit-members-μ-loop
+emit-members-same-length-4 t c = search needs
+
+emit-members-returns-2 : (t : ℕ) → emit-members-lts.Need-returns-2 (emit-members-claims t) (emit-members-at t) emit-members.Post emit-members-Inv-loop emit-members-μ-loop
+emit-members-returns-2 t c = search needs
+
+emit-param-param-place-requires : (t : ℕ) → emit-param-lts.Need-param-place-requires (emit-param-claims t) (emit-param-at t) emit-param.Post
+emit-param-param-place-requires t c κs = search needs
+
+emit-param-add-word : (t : ℕ) → emit-param-lts.Need-add-word (emit-param-claims t) (emit-param-at t) emit-param.Post
+emit-param-add-word t c = omega arith
+
+emit-param-word-requires : (t : ℕ) → emit-param-lts.Need-word-requires (emit-param-claims t) (emit-param-at t) emit-param.Post
+emit-param-word-requires t c κs = search needs
+
+emit-param-word-requires-2 : (t : ℕ) → emit-param-lts.Need-word-requires-2 (emit-param-claims t) (emit-param-at t) emit-param.Post
+emit-param-word-requires-2 t c κs = search needs
+
+emit-param-bare-requires : (t : ℕ) → emit-param-lts.Need-bare-requires (emit-param-claims t) (emit-param-at t) emit-param.Post
+emit-param-bare-requires t c κs = search needs
+
+emit-param-put-comma-requires : (t : ℕ) → emit-param-lts.Need-put-comma-requires (emit-param-claims t) (emit-param-at t) emit-param.Post
+emit-param-put-comma-requires t c κs = search needs
+
+emit-param-is-last-requires : (t : ℕ) → emit-param-lts.Need-is-last-requires (emit-param-claims t) (emit-param-at t) emit-param.Post
+emit-param-is-last-requires t c κs = search needs
+
+emit-param-slice-aggregate-put-bytes : (t : ℕ) → emit-param-lts.Need-slice-aggregate-put-bytes (emit-param-claims t) (emit-param-at t) emit-param.Post
+emit-param-slice-aggregate-put-bytes t c = search needs
+
+emit-param-put-bytes-requires : (t : ℕ) → emit-param-lts.Need-put-bytes-requires (emit-param-claims t) (emit-param-at t) emit-param.Post
+emit-param-put-bytes-requires t c κs = search needs
+
+emit-param-same-length : (t : ℕ) → emit-param-lts.Need-same-length (emit-param-claims t) (emit-param-at t) emit-param.Post
+emit-param-same-length t c = search needs
+
+emit-param-returns : (t : ℕ) → emit-param-lts.Need-returns (emit-param-claims t) (emit-param-at t) emit-param.Post
+emit-param-returns t c = search needs
+
+emit-param-emit-type-decl-requires : (t : ℕ) → emit-param-lts.Need-emit-type-decl-requires (emit-param-claims t) (emit-param-at t) emit-param.Post
+emit-param-emit-type-decl-requires t c κs = (omega arith, tt)
+
+emit-param-same-length-2 : (t : ℕ) → emit-param-lts.Need-same-length-2 (emit-param-claims t) (emit-param-at t) emit-param.Post
+emit-param-same-length-2 t c = search needs
+
+emit-param-same-length-3 : (t : ℕ) → emit-param-lts.Need-same-length-3 (emit-param-claims t) (emit-param-at t) emit-param.Post
+emit-param-same-length-3 t c = search needs
+
+emit-param-returns-2 : (t : ℕ) → emit-param-lts.Need-returns-2 (emit-param-claims t) (emit-param-at t) emit-param.Post
+emit-param-returns-2 t c = search needs
+
+abbrev emit-params-Inv-loop : emit-params-lts.InvT-loop
+emit-params-Inv-loop b section work₀ text₀ at params lvl below vlen p₀ k₀ work text p k = (k ≤ vlen) × (vlen < 4294967296) × (length work ≡ length work₀) × (length text ≡ length text₀)
+
+abbrev emit-params-μ-loop : emit-params-lts.MeasureT-loop
+emit-params-μ-loop b section work₀ text₀ at params lvl below vlen p₀ k₀ work text p k = vlen - k
+
+emit-params-shown-params-requires : (t : ℕ) → emit-params-lts.Need-shown-params-requires (emit-params-claims t) (emit-params-at t) emit-params.Post emit-params-Inv-loop emit-params-μ-loop
+emit-params-shown-params-requires t c κs = search needs
+
+emit-params-put-open-requires : (t : ℕ) → emit-params-lts.Need-put-open-requires (emit-params-claims t) (emit-params-at t) emit-params.Post emit-params-Inv-loop emit-params-μ-loop
+emit-params-put-open-requires t c κs = search needs
+
+emit-params-loop-holds : (t : ℕ) → emit-params-lts.Need-loop-holds (emit-params-claims t) (emit-params-at t) emit-params.Post emit-params-Inv-loop emit-params-μ-loop
+emit-params-loop-holds t c = search needs
+
+emit-params-stopped-requires : (t : ℕ) → emit-params-lts.Need-stopped-requires (emit-params-claims t) (emit-params-at t) emit-params.Post emit-params-Inv-loop emit-params-μ-loop
+emit-params-stopped-requires t c κs = search needs
+
+emit-params-same-length : (t : ℕ) → emit-params-lts.Need-same-length (emit-params-claims t) (emit-params-at t) emit-params.Post emit-params-Inv-loop emit-params-μ-loop
+emit-params-same-length t c = search needs
+
+emit-params-same-length-2 : (t : ℕ) → emit-params-lts.Need-same-length-2 (emit-params-claims t) (emit-params-at t) emit-params.Post emit-params-Inv-loop emit-params-μ-loop
+emit-params-same-length-2 t c = search needs
+
+emit-params-returns : (t : ℕ) → emit-params-lts.Need-returns (emit-params-claims t) (emit-params-at t) emit-params.Post emit-params-Inv-loop emit-params-μ-loop
+emit-params-returns t c = search needs
+
+emit-params-emit-param-requires : (t : ℕ) → emit-params-lts.Need-emit-param-requires (emit-params-claims t) (emit-params-at t) emit-params.Post emit-params-Inv-loop emit-params-μ-loop
+emit-params-emit-param-requires t c κs = (omega arith, tt)
+
+emit-params-add-k : (t : ℕ) → emit-params-lts.Need-add-k (emit-params-claims t) (emit-params-at t) emit-params.Post emit-params-Inv-loop emit-params-μ-loop
+emit-params-add-k t c = omega arith
+
+emit-params-loop-less : (t : ℕ) → emit-params-lts.Need-loop-less (emit-params-claims t) (emit-params-at t) emit-params.Post emit-params-Inv-loop emit-params-μ-loop
+emit-params-loop-less t c = omega arith
+
+emit-params-loop-again : (t : ℕ) → emit-params-lts.Need-loop-again (emit-params-claims t) (emit-params-at t) emit-params.Post emit-params-Inv-loop emit-params-μ-loop
+emit-params-loop-again t c = search needs
+
+emit-params-put-close-requires : (t : ℕ) → emit-params-lts.Need-put-close-requires (emit-params-claims t) (emit-params-at t) emit-params.Post emit-params-Inv-loop emit-params-μ-loop
+emit-params-put-close-requires t c κs = search needs
+
+emit-params-same-length-3 : (t : ℕ) → emit-params-lts.Need-same-length-3 (emit-params-claims t) (emit-params-at t) emit-params.Post emit-params-Inv-loop emit-params-μ-loop
+emit-params-same-length-3 t c = search needs
+
+emit-params-same-length-4 : (t : ℕ) → emit-params-lts.Need-same-length-4 (emit-params-claims t) (emit-params-at t) emit-params.Post emit-params-Inv-loop emit-params-μ-loop
+emit-params-same-length-4 t c = search needs
+
+emit-params-returns-2 : (t : ℕ) → emit-params-lts.Need-returns-2 (emit-params-claims t) (emit-params-at t) emit-params.Post emit-params-Inv-loop emit-params-μ-loop
+emit-params-returns-2 t c = search needs
+
+emit-proto-emit-name-requires : (t : ℕ) → emit-proto-lts.Need-emit-name-requires (emit-proto-claims t) (emit-proto-at t) emit-proto.Post
+emit-proto-emit-name-requires t c κs = search needs
+
+emit-proto-same-length : (t : ℕ) → emit-proto-lts.Need-same-length (emit-proto-claims t) (emit-proto-at t) emit-proto.Post
+emit-proto-same-length t c = search needs
+
+emit-proto-returns : (t : ℕ) → emit-proto-lts.Need-returns (emit-proto-claims t) (emit-proto-at t) emit-proto.Post
+emit-proto-returns t c = search needs
+
+emit-proto-slice-aggregate-put-bytes : (t : ℕ) → emit-proto-lts.Need-slice-aggregate-put-bytes (emit-proto-claims t) (emit-proto-at t) emit-proto.Post
+emit-proto-slice-aggregate-put-bytes t c = search needs
+
+emit-proto-put-bytes-requires : (t : ℕ) → emit-proto-lts.Need-put-bytes-requires (emit-proto-claims t) (emit-proto-at t) emit-proto.Post
+emit-proto-put-bytes-requires t c κs = search needs
+
+emit-proto-emit-type-chain-requires : (t : ℕ) → emit-proto-lts.Need-emit-type-chain-requires (emit-proto-claims t) (emit-proto-at t) emit-proto.Post
+emit-proto-emit-type-chain-requires t c κs = (omega arith, tt)
+
+emit-proto-slice-aggregate-put-bytes-2 : (t : ℕ) → emit-proto-lts.Need-slice-aggregate-put-bytes-2 (emit-proto-claims t) (emit-proto-at t) emit-proto.Post
+emit-proto-slice-aggregate-put-bytes-2 t c = search needs
+
+emit-proto-put-bytes-requires-2 : (t : ℕ) → emit-proto-lts.Need-put-bytes-requires-2 (emit-proto-claims t) (emit-proto-at t) emit-proto.Post
+emit-proto-put-bytes-requires-2 t c κs = search needs
+
+emit-proto-same-length-2 : (t : ℕ) → emit-proto-lts.Need-same-length-2 (emit-proto-claims t) (emit-proto-at t) emit-proto.Post
+emit-proto-same-length-2 t c = search needs
+
+emit-proto-same-length-3 : (t : ℕ) → emit-proto-lts.Need-same-length-3 (emit-proto-claims t) (emit-proto-at t) emit-proto.Post
+emit-proto-same-length-3 t c = search needs
+
+emit-proto-returns-2 : (t : ℕ) → emit-proto-lts.Need-returns-2 (emit-proto-claims t) (emit-proto-at t) emit-proto.Post
+emit-proto-returns-2 t c = search needs
+
+abbrev emit-type-chain-Inv-loop : emit-type-chain-lts.InvT-loop
+emit-type-chain-Inv-loop b section work₀ text₀ at d n left below c₀ work text c = (length work ≡ length work₀) × (length text ≡ length text₀)
+
+abbrev emit-type-chain-μ-loop : emit-type-chain-lts.MeasureT-loop
+emit-type-chain-μ-loop b section work₀ text₀ at d n left below c₀ work text c = c .n
+
+emit-type-chain-stop-requires : (t : ℕ) → emit-type-chain-lts.Need-stop-requires (emit-type-chain-claims t) (emit-type-chain-at t) emit-type-chain.Post emit-type-chain-Inv-loop emit-type-chain-μ-loop
+emit-type-chain-stop-requires t c κs = search needs
+
+emit-type-chain-same-length : (t : ℕ) → emit-type-chain-lts.Need-same-length (emit-type-chain-claims t) (emit-type-chain-at t) emit-type-chain.Post emit-type-chain-Inv-loop emit-type-chain-μ-loop
+emit-type-chain-same-length t c = search needs
+
+emit-type-chain-returns : (t : ℕ) → emit-type-chain-lts.Need-returns (emit-type-chain-claims t) (emit-type-chain-at t) emit-type-chain.Post emit-type-chain-Inv-loop emit-type-chain-μ-loop
+emit-type-chain-returns t c = search needs
+
+emit-type-chain-stopped-requires : (t : ℕ) → emit-type-chain-lts.Need-stopped-requires (emit-type-chain-claims t) (emit-type-chain-at t) emit-type-chain.Post emit-type-chain-Inv-loop emit-type-chain-μ-loop
+emit-type-chain-stopped-requires t c κs = search needs
+
+emit-type-chain-same-length-2 : (t : ℕ) → emit-type-chain-lts.Need-same-length-2 (emit-type-chain-claims t) (emit-type-chain-at t) emit-type-chain.Post emit-type-chain-Inv-loop emit-type-chain-μ-loop
+emit-type-chain-same-length-2 t c = search needs
+
+emit-type-chain-returns-2 : (t : ℕ) → emit-type-chain-lts.Need-returns-2 (emit-type-chain-claims t) (emit-type-chain-at t) emit-type-chain.Post emit-type-chain-Inv-loop emit-type-chain-μ-loop
+emit-type-chain-returns-2 t c = search needs
+
+emit-type-chain-sub-below : (t : ℕ) → emit-type-chain-lts.Need-sub-below (emit-type-chain-claims t) (emit-type-chain-at t) emit-type-chain.Post emit-type-chain-Inv-loop emit-type-chain-μ-loop
+emit-type-chain-sub-below t c = omega arith
+
+emit-type-chain-loop-holds : (t : ℕ) → emit-type-chain-lts.Need-loop-holds (emit-type-chain-claims t) (emit-type-chain-at t) emit-type-chain.Post emit-type-chain-Inv-loop emit-type-chain-μ-loop
+emit-type-chain-loop-holds t c = search needs
+
+emit-type-chain-emit-entry-requires : (t : ℕ) → emit-type-chain-lts.Need-emit-entry-requires (emit-type-chain-claims t) (emit-type-chain-at t) emit-type-chain.Post emit-type-chain-Inv-loop emit-type-chain-μ-loop
+emit-type-chain-emit-entry-requires t c κs = (omega arith, tt)
+
+emit-type-chain-loop-less : (t : ℕ) → emit-type-chain-lts.Need-loop-less (emit-type-chain-claims t) (emit-type-chain-at t) emit-type-chain.Post emit-type-chain-Inv-loop emit-type-chain-μ-loop
+emit-type-chain-loop-less t c = omega arith
+
+emit-type-chain-loop-again : (t : ℕ) → emit-type-chain-lts.Need-loop-again (emit-type-chain-claims t) (emit-type-chain-at t) emit-type-chain.Post emit-type-chain-Inv-loop emit-type-chain-μ-loop
+emit-type-chain-loop-again t c = search needs
+
+emit-type-chain-same-length-3 : (t : ℕ) → emit-type-chain-lts.Need-same-length-3 (emit-type-chain-claims t) (emit-type-chain-at t) emit-type-chain.Post emit-type-chain-Inv-loop emit-type-chain-μ-loop
+emit-type-chain-same-length-3 t c = search needs
+
+emit-type-chain-same-length-4 : (t : ℕ) → emit-type-chain-lts.Need-same-length-4 (emit-type-chain-claims t) (emit-type-chain-at t) emit-type-chain.Post emit-type-chain-Inv-loop emit-type-chain-μ-loop
+emit-type-chain-same-length-4 t c = search needs
+
+emit-type-chain-returns-3 : (t : ℕ) → emit-type-chain-lts.Need-returns-3 (emit-type-chain-claims t) (emit-type-chain-at t) emit-type-chain.Post emit-type-chain-Inv-loop emit-type-chain-μ-loop
+emit-type-chain-returns-3 t c = search needs
+
+emit-type-chain-emit-name-requires : (t : ℕ) → emit-type-chain-lts.Need-emit-name-requires (emit-type-chain-claims t) (emit-type-chain-at t) emit-type-chain.Post emit-type-chain-Inv-loop emit-type-chain-μ-loop
+emit-type-chain-emit-name-requires t c κs = search needs
+
+emit-type-chain-same-length-5 : (t : ℕ) → emit-type-chain-lts.Need-same-length-5 (emit-type-chain-claims t) (emit-type-chain-at t) emit-type-chain.Post emit-type-chain-Inv-loop emit-type-chain-μ-loop
+emit-type-chain-same-length-5 t c = search needs
+
+emit-type-chain-same-length-6 : (t : ℕ) → emit-type-chain-lts.Need-same-length-6 (emit-type-chain-claims t) (emit-type-chain-at t) emit-type-chain.Post emit-type-chain-Inv-loop emit-type-chain-μ-loop
+emit-type-chain-same-length-6 t c = search needs
+
+emit-type-chain-returns-4 : (t : ℕ) → emit-type-chain-lts.Need-returns-4 (emit-type-chain-claims t) (emit-type-chain-at t) emit-type-chain.Post emit-type-chain-Inv-loop emit-type-chain-μ-loop
+emit-type-chain-returns-4 t c = search needs
+
+emit-type-decl-stop-requires : (t : ℕ) → emit-type-decl-lts.Need-stop-requires (emit-type-decl-claims t) (emit-type-decl-at t) emit-type-decl.Post
+emit-type-decl-stop-requires t c κs = search needs
+
+emit-type-decl-same-length : (t : ℕ) → emit-type-decl-lts.Need-same-length (emit-type-decl-claims t) (emit-type-decl-at t) emit-type-decl.Post
+emit-type-decl-same-length t c = search needs
+
+emit-type-decl-returns : (t : ℕ) → emit-type-decl-lts.Need-returns (emit-type-decl-claims t) (emit-type-decl-at t) emit-type-decl.Post
+emit-type-decl-returns t c = search needs
+
+emit-type-decl-stopped-requires : (t : ℕ) → emit-type-decl-lts.Need-stopped-requires (emit-type-decl-claims t) (emit-type-decl-at t) emit-type-decl.Post
+emit-type-decl-stopped-requires t c κs = search needs
+
+emit-type-decl-same-length-2 : (t : ℕ) → emit-type-decl-lts.Need-same-length-2 (emit-type-decl-claims t) (emit-type-decl-at t) emit-type-decl.Post
+emit-type-decl-same-length-2 t c = search needs
+
+emit-type-decl-returns-2 : (t : ℕ) → emit-type-decl-lts.Need-returns-2 (emit-type-decl-claims t) (emit-type-decl-at t) emit-type-decl.Post
+emit-type-decl-returns-2 t c = search needs
+
+emit-type-decl-chain-len-requires : (t : ℕ) → emit-type-decl-lts.Need-chain-len-requires (emit-type-decl-claims t) (emit-type-decl-at t) emit-type-decl.Post
+emit-type-decl-chain-len-requires t c κs = search needs
+
+emit-type-decl-enum-known-n : (t : ℕ) → emit-type-decl-lts.Need-enum-known-n (emit-type-decl-claims t) (emit-type-decl-at t) emit-type-decl.Post
+emit-type-decl-enum-known-n t c = search needs
+
+emit-type-decl-sub-emit-type-chain : (t : ℕ) → emit-type-decl-lts.Need-sub-emit-type-chain (emit-type-decl-claims t) (emit-type-decl-at t) emit-type-decl.Post
+emit-type-decl-sub-emit-type-chain t c = omega arith
+
+emit-type-decl-emit-type-chain-requires :
+    (t : ℕ) → emit-type-decl-lts.Need-emit-type-chain-requires (
+      stop-reads.Asked,
+      stop-reads.Learnt,
+      stopped-reads.Asked,
+      stopped-reads.Learnt,
+      chain-len-reads.Asked,
+      chain-len-reads.Learnt,
+      emit-type-chain-below t,
+      emit-type-chain.Post,
+    ) (emit-type-decl-at t) emit-type-decl.Post
+emit-type-decl-emit-type-chain-requires t c κs = (omega arith, tt)
+
+emit-type-decl-enum-known-c : (t : ℕ) → emit-type-decl-lts.Need-enum-known-c (emit-type-decl-claims t) (emit-type-decl-at t) emit-type-decl.Post
+emit-type-decl-enum-known-c t c = search needs
+
+emit-type-decl-stop-requires-2 : (t : ℕ) → emit-type-decl-lts.Need-stop-requires-2 (emit-type-decl-claims t) (emit-type-decl-at t) emit-type-decl.Post
+emit-type-decl-stop-requires-2 t c κs = search needs
+
+emit-type-decl-same-length-3 : (t : ℕ) → emit-type-decl-lts.Need-same-length-3 (emit-type-decl-claims t) (emit-type-decl-at t) emit-type-decl.Post
+emit-type-decl-same-length-3 t c = search needs
+
+emit-type-decl-same-length-4 : (t : ℕ) → emit-type-decl-lts.Need-same-length-4 (emit-type-decl-claims t) (emit-type-decl-at t) emit-type-decl.Post
+emit-type-decl-same-length-4 t c = search needs
+
+emit-type-decl-returns-3 : (t : ℕ) → emit-type-decl-lts.Need-returns-3 (emit-type-decl-claims t) (emit-type-decl-at t) emit-type-decl.Post
+emit-type-decl-returns-3 t c = search needs
+
+emit-type-decl-same-length-5 : (t : ℕ) → emit-type-decl-lts.Need-same-length-5 (emit-type-decl-claims t) (emit-type-decl-at t) emit-type-decl.Post
+emit-type-decl-same-length-5 t c = search needs
+
+emit-type-decl-same-length-6 : (t : ℕ) → emit-type-decl-lts.Need-same-length-6 (emit-type-decl-claims t) (emit-type-decl-at t) emit-type-decl.Post
+emit-type-decl-same-length-6 t c = search needs
+
+emit-type-decl-returns-4 : (t : ℕ) → emit-type-decl-lts.Need-returns-4 (emit-type-decl-claims t) (emit-type-decl-at t) emit-type-decl.Post
+emit-type-decl-returns-4 t c = search needs
+
+pub +emit-array+emit-base+emit-composite-def+emit-composite-word+emit-entry+emit-member+emit-members+emit-param+emit-params+emit-proto+emit-type-chain+emit-type-decl-spec :
+    {M : Type 1} → statement M
++emit-array+emit-base+emit-composite-def+emit-composite-word+emit-entry+emit-member+emit-members+emit-param+emit-params+emit-proto+emit-type-chain+emit-type-decl-spec =
+    close
+    μ-emit-array
+    μ-emit-base
+    μ-emit-composite-def
+    μ-emit-composite-word
+    μ-emit-entry
+    μ-emit-member
+    μ-emit-members
+    μ-emit-param
+    μ-emit-params
+    μ-emit-proto
+    μ-emit-type-chain
+    μ-emit-type-decl
+    (λ t. emit-array-lts.spec (
+      emit-name-reads.Asked,
+      emit-name-reads.Learnt,
+      put-gap-reads.Asked,
+      put-gap-reads.Learnt,
+      is-array-on-top-reads.Asked,
+      is-array-on-top-reads.Learnt,
+      emit-type-chain-below t,
+      emit-type-chain.Post,
+      put-bytes-reads.Asked,
+      put-bytes-reads.Learnt,
+    )
+    (emit-array-at t)
+    emit-array.Post
+    (emit-array-emit-name-requires t)
+    (emit-array-same-length t)
+    (emit-array-returns t)
+    (emit-array-put-gap-requires t)
+    (emit-array-is-array-on-top-requires t)
+    (emit-array-emit-type-chain-requires t)
+    (emit-array-same-length-2 t)
+    (emit-array-same-length-3 t)
+    (emit-array-returns-2 t)
+    (emit-array-slice-aggregate-put-bytes t)
+    (emit-array-put-bytes-requires t)
+    (emit-array-emit-type-chain-requires-2 t)
+    (emit-array-slice-aggregate-put-bytes-2 t)
+    (emit-array-put-bytes-requires-2 t)
+    (emit-array-same-length-4 t)
+    (emit-array-same-length-5 t)
+    (emit-array-returns-3 t))
+    (λ t. emit-base-lts.spec (
+      type-by-id-reads.Asked,
+      type-by-id-reads.Learnt,
+      put-bytes-reads.Asked,
+      put-bytes-reads.Learnt,
+      get-btf-str-reads.Asked,
+      get-btf-str-reads.Learnt,
+      emit-composite-word-below t,
+      emit-composite-word.Post,
+      is-empty-reads.Asked,
+      is-empty-reads.Learnt,
+      emit-enum-def-reads.Asked,
+      emit-enum-def-reads.Learnt,
+      put-enum-name-reads.Asked,
+      put-enum-name-reads.Learnt,
+      emit-fwd-def-reads.Asked,
+      emit-fwd-def-reads.Learnt,
+      put-typedef-name-reads.Asked,
+      put-typedef-name-reads.Learnt,
+      emit-enum64-def-reads.Asked,
+      emit-enum64-def-reads.Learnt,
+    )
+    (emit-base-at t)
+    emit-base.Post
+    (emit-base-type-by-id-requires t)
+    (emit-base-enum-told t)
+    (emit-base-slice-aggregate-put-bytes t)
+    (emit-base-put-bytes-requires t)
+    (emit-base-enum-known-name-off t)
+    (emit-base-get-btf-str-requires t)
+    (emit-base-put-bytes-requires-2 t)
+    (emit-base-enum-known-t t)
+    (emit-base-emit-composite-word-requires t)
+    (emit-base-enum-known-t-2 t)
+    (emit-base-is-empty-requires t)
+    (emit-base-emit-enum-def-requires t)
+    (emit-base-same-length t)
+    (emit-base-same-length-2 t)
+    (emit-base-returns t)
+    (emit-base-put-enum-name-requires t)
+    (emit-base-enum-known-name-off-2 t)
+    (emit-base-emit-fwd-def-requires t)
+    (emit-base-enum-known-name-off-3 t)
+    (emit-base-put-typedef-name-requires t)
+    (emit-base-enum-known-name-off-4 t)
+    (emit-base-get-btf-str-requires-2 t)
+    (emit-base-put-bytes-requires-3 t)
+    (emit-base-enum-known-t-3 t)
+    (emit-base-is-empty-requires-2 t)
+    (emit-base-emit-enum64-def-requires t)
+    (emit-base-same-length-3 t)
+    (emit-base-same-length-4 t)
+    (emit-base-returns-2 t)
+    (emit-base-put-enum-name-requires-2 t)
+    (emit-base-same-length-5 t)
+    (emit-base-same-length-6 t)
+    (emit-base-returns-3 t)
+    (emit-base-same-length-7 t)
+    (emit-base-same-length-8 t)
+    (emit-base-returns-4 t)
+    (emit-base-same-length-9 t)
+    (emit-base-same-length-10 t)
+    (emit-base-returns-5 t)
+    (emit-base-same-length-11 t)
+    (emit-base-same-length-12 t)
+    (emit-base-returns-6 t)
+    (emit-base-same-length-13 t)
+    (emit-base-same-length-14 t)
+    (emit-base-returns-7 t)
+    (emit-base-same-length-15 t)
+    (emit-base-same-length-16 t)
+    (emit-base-returns-8 t)
+    (emit-base-same-length-17 t)
+    (emit-base-same-length-18 t)
+    (emit-base-returns-9 t)
+    (emit-base-same-length-19 t)
+    (emit-base-same-length-20 t)
+    (emit-base-returns-10 t)
+    (emit-base-same-length-21 t)
+    (emit-base-returns-11 t))
+    (λ t. emit-composite-def-lts.spec (
+      stop-reads.Asked,
+      stop-reads.Learnt,
+      stopped-reads.Asked,
+      stopped-reads.Learnt,
+      is-builtin-reads.Asked,
+      is-builtin-reads.Learnt,
+      is-struct-packed-reads.Asked,
+      is-struct-packed-reads.Learnt,
+      emit-composite-head-reads.Asked,
+      emit-composite-head-reads.Learnt,
+      deeper-reads.Asked,
+      deeper-reads.Learnt,
+      emit-members-below t,
+      emit-members.Post,
+      emit-composite-end-reads.Asked,
+      emit-composite-end-reads.Learnt,
+    )
+    (emit-composite-def-at t)
+    emit-composite-def.Post
+    (emit-composite-def-stop-requires t)
+    (emit-composite-def-same-length t)
+    (emit-composite-def-returns t)
+    (emit-composite-def-stopped-requires t)
+    (emit-composite-def-same-length-2 t)
+    (emit-composite-def-returns-2 t)
+    (emit-composite-def-is-builtin-requires t)
+    (emit-composite-def-same-length-3 t)
+    (emit-composite-def-returns-3 t)
+    (emit-composite-def-is-struct-packed-requires t)
+    (emit-composite-def-enum-known-packed t)
+    (emit-composite-def-emit-composite-head-requires t)
+    (emit-composite-def-deeper-requires t)
+    (emit-composite-def-sub-emit-members t)
+    (emit-composite-def-emit-members-requires t)
+    (emit-composite-def-emit-composite-end-requires t)
+    (emit-composite-def-enum-known-c t)
+    (emit-composite-def-stop-requires-2 t)
+    (emit-composite-def-same-length-4 t)
+    (emit-composite-def-same-length-5 t)
+    (emit-composite-def-returns-4 t)
+    (emit-composite-def-same-length-6 t)
+    (emit-composite-def-same-length-7 t)
+    (emit-composite-def-returns-5 t))
+    (λ t. emit-composite-word-lts.spec (
+      is-empty-reads.Asked,
+      is-empty-reads.Learnt,
+      emit-composite-def-below t,
+      emit-composite-def.Post,
+      emit-composite-fwd-reads.Asked,
+      emit-composite-fwd-reads.Learnt,
+    )
+    (emit-composite-word-at t)
+    emit-composite-word.Post
+    (emit-composite-word-is-empty-requires t)
+    (emit-composite-word-emit-composite-def-requires t)
+    (emit-composite-word-same-length t)
+    (emit-composite-word-same-length-2 t)
+    (emit-composite-word-returns t)
+    (emit-composite-word-emit-composite-fwd-requires t)
+    (emit-composite-word-same-length-3 t)
+    (emit-composite-word-same-length-4 t)
+    (emit-composite-word-returns-2 t))
+    (λ t. emit-entry-lts.spec (
+      skip-mods-reads.Asked,
+      skip-mods-reads.Learnt,
+      entry-at-reads.Asked,
+      entry-at-reads.Learnt,
+      emit-mods-reads.Asked,
+      emit-mods-reads.Learnt,
+      emit-base-below t,
+      emit-base.Post,
+      goes-on-reads.Asked,
+      goes-on-reads.Learnt,
+      put-star-reads.Asked,
+      put-star-reads.Learnt,
+      put-bytes-reads.Asked,
+      put-bytes-reads.Learnt,
+      put-qualifier-reads.Asked,
+      put-qualifier-reads.Learnt,
+      emit-array-below t,
+      emit-array.Post,
+      put-count-reads.Asked,
+      put-count-reads.Learnt,
+      named-reads.Asked,
+      named-reads.Learnt,
+      emit-proto-below t,
+      emit-proto.Post,
+      emit-params-below t,
+      emit-params.Post,
+      put-attribute-reads.Asked,
+      put-attribute-reads.Learnt,
+    )
+    (emit-entry-at t)
+    emit-entry.Post
+    (emit-entry-returns t)
+    (emit-entry-sub-n t)
+    (emit-entry-skip-mods-requires t)
+    (emit-entry-entry-at-requires t)
+    (emit-entry-enum-told t)
+    (emit-entry-emit-mods-requires t)
+    (emit-entry-emit-base-requires t)
+    (emit-entry-goes-on-requires t)
+    (emit-entry-enum-told-2 t)
+    (emit-entry-put-star-requires t)
+    (emit-entry-goes-on-requires-2 t)
+    (emit-entry-enum-known-e t)
+    (emit-entry-slice-aggregate-put-bytes t)
+    (emit-entry-put-bytes-requires t)
+    (emit-entry-put-qualifier-requires t)
+    (emit-entry-goes-on-requires-3 t)
+    (emit-entry-enum-known-e-2 t)
+    (emit-entry-emit-array-requires t)
+    (emit-entry-put-count-requires t)
+    (emit-entry-named-requires t)
+    (emit-entry-enum-known-e-3 t)
+    (emit-entry-emit-mods-requires-2 t)
+    (emit-entry-emit-proto-requires t)
+    (emit-entry-emit-params-requires t)
+    (emit-entry-named-requires-2 t)
+    (emit-entry-enum-known-e-4 t)
+    (emit-entry-emit-mods-requires-3 t)
+    (emit-entry-slice-aggregate-put-attribute t)
+    (emit-entry-put-attribute-requires t)
+    (emit-entry-goes-on-requires-4 t)
+    (emit-entry-same-length t)
+    (emit-entry-same-length-2 t)
+    (emit-entry-returns-2 t)
+    (emit-entry-same-length-3 t)
+    (emit-entry-same-length-4 t)
+    (emit-entry-returns-3 t)
+    (emit-entry-same-length-5 t)
+    (emit-entry-same-length-6 t)
+    (emit-entry-returns-4 t)
+    (emit-entry-same-length-7 t)
+    (emit-entry-same-length-8 t)
+    (emit-entry-returns-5 t)
+    (emit-entry-same-length-9 t)
+    (emit-entry-same-length-10 t)
+    (emit-entry-returns-6 t)
+    (emit-entry-same-length-11 t)
+    (emit-entry-same-length-12 t)
+    (emit-entry-returns-7 t))
+    (λ t. emit-member-lts.spec (
+      load-member-reads.Asked,
+      load-member-reads.Learnt,
+      bare-reads.Asked,
+      bare-reads.Learnt,
+      emit-bit-padding-reads.Asked,
+      emit-bit-padding-reads.Learnt,
+      put-bytes-reads.Asked,
+      put-bytes-reads.Learnt,
+      put-tabs-reads.Asked,
+      put-tabs-reads.Learnt,
+      emit-type-decl-below t,
+      emit-type-decl.Post,
+      emit-member-end-reads.Asked,
+      emit-member-end-reads.Learnt,
+    )
+    (emit-member-at t)
+    emit-member.Post
+    (emit-member-load-member-requires t)
+    (emit-member-bare-requires t)
+    (emit-member-emit-bit-padding-requires t)
+    (emit-member-slice-aggregate-put-bytes t)
+    (emit-member-put-bytes-requires t)
+    (emit-member-put-tabs-requires t)
+    (emit-member-emit-type-decl-requires t)
+    (emit-member-emit-member-end-requires t)
+    (emit-member-same-length t)
+    (emit-member-same-length-2 t)
+    (emit-member-returns t))
+    (λ t. emit-members-lts.spec (
+      stopped-reads.Asked,
+      stopped-reads.Learnt,
+      emit-member-below t,
+      emit-member.Post,
+    )
+    (emit-members-at t)
+    emit-members.Post
+    emit-members-Inv-loop
+    emit-members-μ-loop
+    (emit-members-loop-holds t)
+    (emit-members-stopped-requires t)
+    (emit-members-same-length t)
+    (emit-members-same-length-2 t)
+    (emit-members-returns t)
+    (emit-members-emit-member-requires t)
+    (emit-members-add-k t)
+    (emit-members-loop-less t)
+    (emit-members-loop-again t)
+    (emit-members-same-length-3 t)
+    (emit-members-same-length-4 t)
+    (emit-members-returns-2 t))
+    (λ t. emit-param-lts.spec (
+      param-place-reads.Asked,
+      param-place-reads.Learnt,
+      word-reads.Asked,
+      word-reads.Learnt,
+      bare-reads.Asked,
+      bare-reads.Learnt,
+      put-comma-reads.Asked,
+      put-comma-reads.Learnt,
+      is-last-reads.Asked,
+      is-last-reads.Learnt,
+      put-bytes-reads.Asked,
+      put-bytes-reads.Learnt,
+      emit-type-decl-below t,
+      emit-type-decl.Post,
+    )
+    (emit-param-at t)
+    emit-param.Post
+    (emit-param-param-place-requires t)
+    (emit-param-add-word t)
+    (emit-param-word-requires t)
+    (emit-param-word-requires-2 t)
+    (emit-param-bare-requires t)
+    (emit-param-put-comma-requires t)
+    (emit-param-is-last-requires t)
+    (emit-param-slice-aggregate-put-bytes t)
+    (emit-param-put-bytes-requires t)
+    (emit-param-same-length t)
+    (emit-param-returns t)
+    (emit-param-emit-type-decl-requires t)
+    (emit-param-same-length-2 t)
+    (emit-param-same-length-3 t)
+    (emit-param-returns-2 t))
+    (λ t. emit-params-lts.spec (
+      shown-params-reads.Asked,
+      shown-params-reads.Learnt,
+      put-open-reads.Asked,
+      put-open-reads.Learnt,
+      stopped-reads.Asked,
+      stopped-reads.Learnt,
+      emit-param-below t,
+      emit-param.Post,
+      put-close-reads.Asked,
+      put-close-reads.Learnt,
+    )
+    (emit-params-at t)
+    emit-params.Post
+    emit-params-Inv-loop
+    emit-params-μ-loop
+    (emit-params-shown-params-requires t)
+    (emit-params-put-open-requires t)
+    (emit-params-loop-holds t)
+    (emit-params-stopped-requires t)
+    (emit-params-same-length t)
+    (emit-params-same-length-2 t)
+    (emit-params-returns t)
+    (emit-params-emit-param-requires t)
+    (emit-params-add-k t)
+    (emit-params-loop-less t)
+    (emit-params-loop-again t)
+    (emit-params-put-close-requires t)
+    (emit-params-same-length-3 t)
+    (emit-params-same-length-4 t)
+    (emit-params-returns-2 t))
+    (λ t. emit-proto-lts.spec (
+      emit-name-reads.Asked,
+      emit-name-reads.Learnt,
+      put-bytes-reads.Asked,
+      put-bytes-reads.Learnt,
+      emit-type-chain-below t,
+      emit-type-chain.Post,
+    )
+    (emit-proto-at t)
+    emit-proto.Post
+    (emit-proto-emit-name-requires t)
+    (emit-proto-same-length t)
+    (emit-proto-returns t)
+    (emit-proto-slice-aggregate-put-bytes t)
+    (emit-proto-put-bytes-requires t)
+    (emit-proto-emit-type-chain-requires t)
+    (emit-proto-slice-aggregate-put-bytes-2 t)
+    (emit-proto-put-bytes-requires-2 t)
+    (emit-proto-same-length-2 t)
+    (emit-proto-same-length-3 t)
+    (emit-proto-returns-2 t))
+    (λ t. emit-type-chain-lts.spec (
+      stop-reads.Asked,
+      stop-reads.Learnt,
+      stopped-reads.Asked,
+      stopped-reads.Learnt,
+      emit-entry-below t,
+      emit-entry.Post,
+      emit-name-reads.Asked,
+      emit-name-reads.Learnt,
+    )
+    (emit-type-chain-at t)
+    emit-type-chain.Post
+    emit-type-chain-Inv-loop
+    emit-type-chain-μ-loop
+    (emit-type-chain-stop-requires t)
+    (emit-type-chain-same-length t)
+    (emit-type-chain-returns t)
+    (emit-type-chain-stopped-requires t)
+    (emit-type-chain-same-length-2 t)
+    (emit-type-chain-returns-2 t)
+    (emit-type-chain-sub-below t)
+    (emit-type-chain-loop-holds t)
+    (emit-type-chain-emit-entry-requires t)
+    (emit-type-chain-loop-less t)
+    (emit-type-chain-loop-again t)
+    (emit-type-chain-same-length-3 t)
+    (emit-type-chain-same-length-4 t)
+    (emit-type-chain-returns-3 t)
+    (emit-type-chain-emit-name-requires t)
+    (emit-type-chain-same-length-5 t)
+    (emit-type-chain-same-length-6 t)
+    (emit-type-chain-returns-4 t))
+    λ t. emit-type-decl-lts.spec (
+      stop-reads.Asked,
+      stop-reads.Learnt,
+      stopped-reads.Asked,
+      stopped-reads.Learnt,
+      chain-len-reads.Asked,
+      chain-len-reads.Learnt,
+      emit-type-chain-below t,
+      emit-type-chain.Post,
+    )
+    (emit-type-decl-at t)
+    emit-type-decl.Post
+    (emit-type-decl-stop-requires t)
+    (emit-type-decl-same-length t)
+    (emit-type-decl-returns t)
+    (emit-type-decl-stopped-requires t)
+    (emit-type-decl-same-length-2 t)
+    (emit-type-decl-returns-2 t)
+    (emit-type-decl-chain-len-requires t)
+    (emit-type-decl-enum-known-n t)
+    (emit-type-decl-sub-emit-type-chain t)
+    (emit-type-decl-emit-type-chain-requires t)
+    (emit-type-decl-enum-known-c t)
+    (emit-type-decl-stop-requires-2 t)
+    (emit-type-decl-same-length-3 t)
+    (emit-type-decl-same-length-4 t)
+    (emit-type-decl-returns-3 t)
+    (emit-type-decl-same-length-5 t)
+    (emit-type-decl-same-length-6 t)
+    (emit-type-decl-returns-4 t)

@@ -1,0 +1,778 @@
+use mathlib.Core.Path.{_≡_}
+use lib.ListN.{length}
+use borrow.Author.Needs.{needs}
+use native.Mathlib.Omega.{arith}
+use Prim.Native.Nat.{ℕ, _<_, _≤_, _+_, _-_, _*_}
+use borrow.Fn.Kinds.{In}
+use borrow.Fn.PlainCycle.{Measures, is, falls, and}
+use Rattle.emit.proofs.emit_composite.Reads as emit-composite
+use Rattle.emit.proofs.emit_composite.Kinds as emit-composite-kinds
+use Rattle.emit.proofs.+emit_composite+emit_members+emit_new+emit_params+emit_type.Lts-emit_composite as emit-composite-lts
+use Rattle.emit.proofs.emit_members.Reads as emit-members
+use Rattle.emit.proofs.emit_members.Kinds as emit-members-kinds
+use Rattle.emit.proofs.+emit_composite+emit_members+emit_new+emit_params+emit_type.Lts-emit_members as emit-members-lts
+use Rattle.emit.proofs.emit_new.Reads as emit-new
+use Rattle.emit.proofs.emit_new.Kinds as emit-new-kinds
+use Rattle.emit.proofs.+emit_composite+emit_members+emit_new+emit_params+emit_type.Lts-emit_new as emit-new-lts
+use Rattle.emit.proofs.emit_params.Reads as emit-params
+use Rattle.emit.proofs.emit_params.Kinds as emit-params-kinds
+use Rattle.emit.proofs.+emit_composite+emit_members+emit_new+emit_params+emit_type.Lts-emit_params as emit-params-lts
+use Rattle.emit.proofs.emit_type.Reads as emit-type
+use Rattle.emit.proofs.emit_type.Kinds as emit-type-kinds
+use Rattle.emit.proofs.+emit_composite+emit_members+emit_new+emit_params+emit_type.Lts-emit_type as emit-type-lts
+use Rattle.btf.proofs.node_by_id.Reads as node-by-id-reads
+use Rattle.btf.proofs.is_named.Reads as is-named-reads
+use Rattle.btf.proofs.member_place.Reads as member-place-reads
+use Rattle.btf.proofs.param_place.Reads as param-place-reads
+use Rattle.btf.proofs.type_by_id.Reads as type-by-id-reads
+use Rattle.btf.proofs.word.Reads as word-reads
+use Rattle.emit.proofs.emit_again.Reads as emit-again-reads
+use Rattle.emit.proofs.emit_definition.Reads as emit-definition-reads
+use Rattle.emit.proofs.emit_leaf.Reads as emit-leaf-reads
+use Rattle.emit.proofs.emit_mention.Reads as emit-mention-reads
+use Rattle.emit.proofs.emit_once.Reads as emit-once-reads
+use Rattle.emit.proofs.get_emit_state.Reads as get-emit-state-reads
+use Rattle.emit.proofs.inner.Reads as inner-reads
+use Rattle.emit.proofs.set_emit_state.Reads as set-emit-state-reads
+use Rattle.lent.proofs.stop.Reads as stop-reads
+use Rattle.lent.proofs.stopped.Reads as stopped-reads
+use Rattle.emit.proofs.+emit_composite+emit_members+emit_new+emit_params+emit_type.{
+  statement,
+}
+use Rattle.emit.proofs.+emit_composite+emit_members+emit_new+emit_params+emit_type.Tie.{
+  close,
+}
+
+abbrev μ-emit-composite : Measures 3 emit-composite-kinds.ps ℕ
+μ-emit-composite κs a = 4 * (a .1 .1 .1 .1 .1 .1 .1 .1 .0) + 2
+
+abbrev μ-emit-members : Measures 3 emit-members-kinds.ps ℕ
+μ-emit-members κs a = 4 * (a .1 .1 .1 .1 .1 .1 .1 .0) + 1
+
+abbrev μ-emit-new : Measures 3 emit-new-kinds.ps ℕ
+μ-emit-new κs a = 4 * (a .1 .1 .1 .1 .1 .1 .1 .0) + 3
+
+abbrev μ-emit-params : Measures 3 emit-params-kinds.ps ℕ
+μ-emit-params κs a = 4 * (a .1 .1 .1 .1 .1 .1 .1 .0) + 1
+
+abbrev μ-emit-type : Measures 3 emit-type-kinds.ps ℕ
+μ-emit-type κs a = 4 * (a .1 .1 .1 .1 .1 .1 .1 .0)
+
+abbrev emit-composite-at : ℕ → In 3 emit-composite-kinds.ps
+emit-composite-at t =
+    and
+    3
+    emit-composite-kinds.ps
+    (is 3 emit-composite-kinds.ps μ-emit-composite t)
+    emit-composite.Pre
+
+abbrev emit-composite-below : ℕ → In 3 emit-composite-kinds.ps
+emit-composite-below t =
+    and
+    3
+    emit-composite-kinds.ps
+    (falls 3 emit-composite-kinds.ps _<_ μ-emit-composite t)
+    emit-composite.Pre
+
+abbrev emit-members-at : ℕ → In 3 emit-members-kinds.ps
+emit-members-at t =
+    and 3 emit-members-kinds.ps (is 3 emit-members-kinds.ps μ-emit-members t) emit-members.Pre
+
+abbrev emit-members-below : ℕ → In 3 emit-members-kinds.ps
+emit-members-below t =
+    and
+    3
+    emit-members-kinds.ps
+    (falls 3 emit-members-kinds.ps _<_ μ-emit-members t)
+    emit-members.Pre
+
+abbrev emit-new-at : ℕ → In 3 emit-new-kinds.ps
+emit-new-at t = and 3 emit-new-kinds.ps (is 3 emit-new-kinds.ps μ-emit-new t) emit-new.Pre
+
+abbrev emit-new-below : ℕ → In 3 emit-new-kinds.ps
+emit-new-below t =
+    and 3 emit-new-kinds.ps (falls 3 emit-new-kinds.ps _<_ μ-emit-new t) emit-new.Pre
+
+abbrev emit-params-at : ℕ → In 3 emit-params-kinds.ps
+emit-params-at t =
+    and 3 emit-params-kinds.ps (is 3 emit-params-kinds.ps μ-emit-params t) emit-params.Pre
+
+abbrev emit-params-below : ℕ → In 3 emit-params-kinds.ps
+emit-params-below t =
+    and 3 emit-params-kinds.ps (falls 3 emit-params-kinds.ps _<_ μ-emit-params t) emit-params.Pre
+
+abbrev emit-type-at : ℕ → In 3 emit-type-kinds.ps
+emit-type-at t = and 3 emit-type-kinds.ps (is 3 emit-type-kinds.ps μ-emit-type t) emit-type.Pre
+
+abbrev emit-type-below : ℕ → In 3 emit-type-kinds.ps
+emit-type-below t =
+    and 3 emit-type-kinds.ps (falls 3 emit-type-kinds.ps _<_ μ-emit-type t) emit-type.Pre
+
+abbrev emit-composite-claims : ℕ → emit-composite-lts.Claims
+emit-composite-claims t = (
+  type-by-id-reads.Asked,
+  type-by-id-reads.Learnt,
+  is-named-reads.Asked,
+  is-named-reads.Learnt,
+  set-emit-state-reads.Asked,
+  set-emit-state-reads.Learnt,
+  inner-reads.Asked,
+  inner-reads.Learnt,
+  emit-members-below t,
+  emit-members.Post,
+  emit-definition-reads.Asked,
+  emit-definition-reads.Learnt,
+  emit-mention-reads.Asked,
+  emit-mention-reads.Learnt,
+)
+
+abbrev emit-members-claims : ℕ → emit-members-lts.Claims
+emit-members-claims t = (
+  member-place-reads.Asked,
+  member-place-reads.Learnt,
+  word-reads.Asked,
+  word-reads.Learnt,
+  emit-type-below t,
+  emit-type.Post,
+)
+
+abbrev emit-new-claims : ℕ → emit-new-lts.Claims
+emit-new-claims t = (
+  node-by-id-reads.Asked,
+  node-by-id-reads.Learnt,
+  emit-leaf-reads.Asked,
+  emit-leaf-reads.Learnt,
+  emit-type-below t,
+  emit-type.Post,
+  set-emit-state-reads.Asked,
+  set-emit-state-reads.Learnt,
+  emit-once-reads.Asked,
+  emit-once-reads.Learnt,
+  emit-params-below t,
+  emit-params.Post,
+  emit-composite-below t,
+  emit-composite.Post,
+)
+
+abbrev emit-params-claims : ℕ → emit-params-lts.Claims
+emit-params-claims t = (
+  param-place-reads.Asked,
+  param-place-reads.Learnt,
+  word-reads.Asked,
+  word-reads.Learnt,
+  emit-type-below t,
+  emit-type.Post,
+)
+
+abbrev emit-type-claims : ℕ → emit-type-lts.Claims
+emit-type-claims t = (
+  stopped-reads.Asked,
+  stopped-reads.Learnt,
+  stop-reads.Asked,
+  stop-reads.Learnt,
+  get-emit-state-reads.Asked,
+  get-emit-state-reads.Learnt,
+  emit-again-reads.Asked,
+  emit-again-reads.Learnt,
+  type-by-id-reads.Asked,
+  type-by-id-reads.Learnt,
+  is-named-reads.Asked,
+  is-named-reads.Learnt,
+  emit-new-below t,
+  emit-new.Post,
+)
+
+emit-composite-type-by-id-requires : (t : ℕ) → emit-composite-lts.Need-type-by-id-requires (emit-composite-claims t) (emit-composite-at t) emit-composite.Post
+emit-composite-type-by-id-requires t c κs = search needs
+
+emit-composite-is-named-requires : (t : ℕ) → emit-composite-lts.Need-is-named-requires (emit-composite-claims t) (emit-composite-at t) emit-composite.Post
+emit-composite-is-named-requires t c κs = search needs
+
+emit-composite-set-emit-state-requires : (t : ℕ) → emit-composite-lts.Need-set-emit-state-requires (emit-composite-claims t) (emit-composite-at t) emit-composite.Post
+emit-composite-set-emit-state-requires t c κs = search needs
+
+emit-composite-inner-requires : (t : ℕ) → emit-composite-lts.Need-inner-requires (emit-composite-claims t) (emit-composite-at t) emit-composite.Post
+emit-composite-inner-requires t c κs = search needs
+
+emit-composite-emit-members-requires : (t : ℕ) → emit-composite-lts.Need-emit-members-requires (emit-composite-claims t) (emit-composite-at t) emit-composite.Post
+emit-composite-emit-members-requires t c κs = (omega arith, tt)
+
+emit-composite-emit-definition-requires :
+    (t : ℕ) → emit-composite-lts.Need-emit-definition-requires (
+      type-by-id-reads.Asked,
+      type-by-id-reads.Learnt,
+      is-named-reads.Asked,
+      is-named-reads.Learnt,
+      set-emit-state-reads.Asked,
+      set-emit-state-reads.Learnt,
+      inner-reads.Asked,
+      inner-reads.Learnt,
+      emit-members-below t,
+      emit-members.Post,
+      emit-definition-reads.Asked,
+      emit-definition-reads.Learnt,
+      emit-mention-reads.Asked,
+      emit-mention-reads.Learnt,
+    ) (emit-composite-at t) emit-composite.Post
+emit-composite-emit-definition-requires t c κs = search needs
+
+emit-composite-set-emit-state-requires-2 :
+    (t : ℕ) → emit-composite-lts.Need-set-emit-state-requires-2 (
+      type-by-id-reads.Asked,
+      type-by-id-reads.Learnt,
+      is-named-reads.Asked,
+      is-named-reads.Learnt,
+      set-emit-state-reads.Asked,
+      set-emit-state-reads.Learnt,
+      inner-reads.Asked,
+      inner-reads.Learnt,
+      emit-members-below t,
+      emit-members.Post,
+      emit-definition-reads.Asked,
+      emit-definition-reads.Learnt,
+      emit-mention-reads.Asked,
+      emit-mention-reads.Learnt,
+    ) (emit-composite-at t) emit-composite.Post
+emit-composite-set-emit-state-requires-2 t c κs = search needs
+
+emit-composite-same-length : (t : ℕ) → emit-composite-lts.Need-same-length (emit-composite-claims t) (emit-composite-at t) emit-composite.Post
+emit-composite-same-length t c = search needs
+
+emit-composite-same-length-2 : (t : ℕ) → emit-composite-lts.Need-same-length-2 (emit-composite-claims t) (emit-composite-at t) emit-composite.Post
+emit-composite-same-length-2 t c = search needs
+
+emit-composite-returns : (t : ℕ) → emit-composite-lts.Need-returns (emit-composite-claims t) (emit-composite-at t) emit-composite.Post
+emit-composite-returns t c = search needs
+
+emit-composite-emit-members-requires-2 : (t : ℕ) → emit-composite-lts.Need-emit-members-requires-2 (emit-composite-claims t) (emit-composite-at t) emit-composite.Post
+emit-composite-emit-members-requires-2 t c κs = (omega arith, tt)
+
+emit-composite-set-emit-state-requires-3 :
+    (t : ℕ) → emit-composite-lts.Need-set-emit-state-requires-3 (
+      type-by-id-reads.Asked,
+      type-by-id-reads.Learnt,
+      is-named-reads.Asked,
+      is-named-reads.Learnt,
+      set-emit-state-reads.Asked,
+      set-emit-state-reads.Learnt,
+      inner-reads.Asked,
+      inner-reads.Learnt,
+      emit-members-below t,
+      emit-members.Post,
+      emit-definition-reads.Asked,
+      emit-definition-reads.Learnt,
+      emit-mention-reads.Asked,
+      emit-mention-reads.Learnt,
+    ) (emit-composite-at t) emit-composite.Post
+emit-composite-set-emit-state-requires-3 t c κs = search needs
+
+emit-composite-same-length-3 : (t : ℕ) → emit-composite-lts.Need-same-length-3 (emit-composite-claims t) (emit-composite-at t) emit-composite.Post
+emit-composite-same-length-3 t c = search needs
+
+emit-composite-same-length-4 : (t : ℕ) → emit-composite-lts.Need-same-length-4 (emit-composite-claims t) (emit-composite-at t) emit-composite.Post
+emit-composite-same-length-4 t c = search needs
+
+emit-composite-returns-2 : (t : ℕ) → emit-composite-lts.Need-returns-2 (emit-composite-claims t) (emit-composite-at t) emit-composite.Post
+emit-composite-returns-2 t c = search needs
+
+emit-composite-emit-mention-requires : (t : ℕ) → emit-composite-lts.Need-emit-mention-requires (emit-composite-claims t) (emit-composite-at t) emit-composite.Post
+emit-composite-emit-mention-requires t c κs = search needs
+
+emit-composite-set-emit-state-requires-4 :
+    (t : ℕ) → emit-composite-lts.Need-set-emit-state-requires-4 (
+      type-by-id-reads.Asked,
+      type-by-id-reads.Learnt,
+      is-named-reads.Asked,
+      is-named-reads.Learnt,
+      set-emit-state-reads.Asked,
+      set-emit-state-reads.Learnt,
+      inner-reads.Asked,
+      inner-reads.Learnt,
+      emit-members-below t,
+      emit-members.Post,
+      emit-definition-reads.Asked,
+      emit-definition-reads.Learnt,
+      emit-mention-reads.Asked,
+      emit-mention-reads.Learnt,
+    ) (emit-composite-at t) emit-composite.Post
+emit-composite-set-emit-state-requires-4 t c κs = search needs
+
+emit-composite-same-length-5 : (t : ℕ) → emit-composite-lts.Need-same-length-5 (emit-composite-claims t) (emit-composite-at t) emit-composite.Post
+emit-composite-same-length-5 t c = search needs
+
+emit-composite-same-length-6 : (t : ℕ) → emit-composite-lts.Need-same-length-6 (emit-composite-claims t) (emit-composite-at t) emit-composite.Post
+emit-composite-same-length-6 t c = search needs
+
+emit-composite-returns-3 : (t : ℕ) → emit-composite-lts.Need-returns-3 (emit-composite-claims t) (emit-composite-at t) emit-composite.Post
+emit-composite-returns-3 t c = search needs
+
+abbrev emit-members-Inv-loop : emit-members-lts.InvT-loop
+emit-members-Inv-loop b section work₀ text₀ at members cont-id left vlen p₀ k₀ work text p k = (k ≤ vlen) × (vlen < 4294967296) × (length work ≡ length work₀) × (length text ≡ length text₀)
+
+abbrev emit-members-μ-loop : emit-members-lts.MeasureT-loop
+emit-members-μ-loop b section work₀ text₀ at members cont-id left vlen p₀ k₀ work text p k = vlen - k
+
+emit-members-loop-holds : (t : ℕ) → emit-members-lts.Need-loop-holds (emit-members-claims t) (emit-members-at t) emit-members.Post emit-members-Inv-loop emit-members-μ-loop
+emit-members-loop-holds t c = search needs
+
+emit-members-member-place-requires : (t : ℕ) → emit-members-lts.Need-member-place-requires (emit-members-claims t) (emit-members-at t) emit-members.Post emit-members-Inv-loop emit-members-μ-loop
+emit-members-member-place-requires t c κs = search needs
+
+emit-members-add-word : (t : ℕ) → emit-members-lts.Need-add-word (emit-members-claims t) (emit-members-at t) emit-members.Post emit-members-Inv-loop emit-members-μ-loop
+emit-members-add-word t c = omega arith
+
+emit-members-word-requires : (t : ℕ) → emit-members-lts.Need-word-requires (emit-members-claims t) (emit-members-at t) emit-members.Post emit-members-Inv-loop emit-members-μ-loop
+emit-members-word-requires t c κs = search needs
+
+emit-members-emit-type-requires : (t : ℕ) → emit-members-lts.Need-emit-type-requires (emit-members-claims t) (emit-members-at t) emit-members.Post emit-members-Inv-loop emit-members-μ-loop
+emit-members-emit-type-requires t c κs = (omega arith, tt)
+
+emit-members-add-k : (t : ℕ) → emit-members-lts.Need-add-k (emit-members-claims t) (emit-members-at t) emit-members.Post emit-members-Inv-loop emit-members-μ-loop
+emit-members-add-k t c = omega arith
+
+emit-members-loop-less : (t : ℕ) → emit-members-lts.Need-loop-less (emit-members-claims t) (emit-members-at t) emit-members.Post emit-members-Inv-loop emit-members-μ-loop
+emit-members-loop-less t c = omega arith
+
+emit-members-loop-again : (t : ℕ) → emit-members-lts.Need-loop-again (emit-members-claims t) (emit-members-at t) emit-members.Post emit-members-Inv-loop emit-members-μ-loop
+emit-members-loop-again t c = search needs
+
+emit-members-same-length : (t : ℕ) → emit-members-lts.Need-same-length (emit-members-claims t) (emit-members-at t) emit-members.Post emit-members-Inv-loop emit-members-μ-loop
+emit-members-same-length t c = search needs
+
+emit-members-same-length-2 : (t : ℕ) → emit-members-lts.Need-same-length-2 (emit-members-claims t) (emit-members-at t) emit-members.Post emit-members-Inv-loop emit-members-μ-loop
+emit-members-same-length-2 t c = search needs
+
+emit-members-returns : (t : ℕ) → emit-members-lts.Need-returns (emit-members-claims t) (emit-members-at t) emit-members.Post emit-members-Inv-loop emit-members-μ-loop
+emit-members-returns t c = search needs
+
+emit-new-node-by-id-requires : (t : ℕ) → emit-new-lts.Need-node-by-id-requires (emit-new-claims t) (emit-new-at t) emit-new.Post
+emit-new-node-by-id-requires t c κs = search needs
+
+emit-new-enum-told : (t : ℕ) → emit-new-lts.Need-enum-told (emit-new-claims t) (emit-new-at t) emit-new.Post
+emit-new-enum-told t c = search needs
+
+emit-new-enum-told-2 : (t : ℕ) → emit-new-lts.Need-enum-told-2 (emit-new-claims t) (emit-new-at t) emit-new.Post
+emit-new-enum-told-2 t c = search needs
+
+emit-new-enum-known-is-fwd : (t : ℕ) → emit-new-lts.Need-enum-known-is-fwd (emit-new-claims t) (emit-new-at t) emit-new.Post
+emit-new-enum-known-is-fwd t c = search needs
+
+emit-new-emit-leaf-requires : (t : ℕ) → emit-new-lts.Need-emit-leaf-requires (emit-new-claims t) (emit-new-at t) emit-new.Post
+emit-new-emit-leaf-requires t c κs = search needs
+
+emit-new-enum-known-t : (t : ℕ) → emit-new-lts.Need-enum-known-t (emit-new-claims t) (emit-new-at t) emit-new.Post
+emit-new-enum-known-t t c = search needs
+
+emit-new-emit-type-requires : (t : ℕ) → emit-new-lts.Need-emit-type-requires (emit-new-claims t) (emit-new-at t) emit-new.Post
+emit-new-emit-type-requires t c κs = (omega arith, tt)
+
+emit-new-enum-known-t-2 : (t : ℕ) → emit-new-lts.Need-enum-known-t-2 (emit-new-claims t) (emit-new-at t) emit-new.Post
+emit-new-enum-known-t-2 t c = search needs
+
+emit-new-emit-type-requires-2 : (t : ℕ) → emit-new-lts.Need-emit-type-requires-2 (emit-new-claims t) (emit-new-at t) emit-new.Post
+emit-new-emit-type-requires-2 t c κs = (omega arith, tt)
+
+emit-new-enum-known-t-3 : (t : ℕ) → emit-new-lts.Need-enum-known-t-3 (emit-new-claims t) (emit-new-at t) emit-new.Post
+emit-new-enum-known-t-3 t c = search needs
+
+emit-new-set-emit-state-requires : (t : ℕ) → emit-new-lts.Need-set-emit-state-requires (emit-new-claims t) (emit-new-at t) emit-new.Post
+emit-new-set-emit-state-requires t c κs = search needs
+
+emit-new-emit-type-requires-3 : (t : ℕ) → emit-new-lts.Need-emit-type-requires-3 (emit-new-claims t) (emit-new-at t) emit-new.Post
+emit-new-emit-type-requires-3 t c κs = (omega arith, tt)
+
+emit-new-emit-once-requires : (t : ℕ) → emit-new-lts.Need-emit-once-requires (emit-new-claims t) (emit-new-at t) emit-new.Post
+emit-new-emit-once-requires t c κs = search needs
+
+emit-new-set-emit-state-requires-2 : (t : ℕ) → emit-new-lts.Need-set-emit-state-requires-2 (emit-new-claims t) (emit-new-at t) emit-new.Post
+emit-new-set-emit-state-requires-2 t c κs = search needs
+
+emit-new-enum-known-res : (t : ℕ) → emit-new-lts.Need-enum-known-res (emit-new-claims t) (emit-new-at t) emit-new.Post
+emit-new-enum-known-res t c = search needs
+
+emit-new-emit-type-requires-4 : (t : ℕ) → emit-new-lts.Need-emit-type-requires-4 (emit-new-claims t) (emit-new-at t) emit-new.Post
+emit-new-emit-type-requires-4 t c κs = (omega arith, tt)
+
+emit-new-emit-params-requires : (t : ℕ) → emit-new-lts.Need-emit-params-requires (emit-new-claims t) (emit-new-at t) emit-new.Post
+emit-new-emit-params-requires t c κs = (omega arith, tt)
+
+emit-new-enum-known-members : (t : ℕ) → emit-new-lts.Need-enum-known-members (emit-new-claims t) (emit-new-at t) emit-new.Post
+emit-new-enum-known-members t c = search needs
+
+emit-new-emit-composite-requires : (t : ℕ) → emit-new-lts.Need-emit-composite-requires (emit-new-claims t) (emit-new-at t) emit-new.Post
+emit-new-emit-composite-requires t c κs = (omega arith, tt)
+
+emit-new-same-length : (t : ℕ) → emit-new-lts.Need-same-length (emit-new-claims t) (emit-new-at t) emit-new.Post
+emit-new-same-length t c = search needs
+
+emit-new-returns : (t : ℕ) → emit-new-lts.Need-returns (emit-new-claims t) (emit-new-at t) emit-new.Post
+emit-new-returns t c = search needs
+
+emit-new-same-length-2 : (t : ℕ) → emit-new-lts.Need-same-length-2 (emit-new-claims t) (emit-new-at t) emit-new.Post
+emit-new-same-length-2 t c = search needs
+
+emit-new-returns-2 : (t : ℕ) → emit-new-lts.Need-returns-2 (emit-new-claims t) (emit-new-at t) emit-new.Post
+emit-new-returns-2 t c = search needs
+
+emit-new-same-length-3 : (t : ℕ) → emit-new-lts.Need-same-length-3 (emit-new-claims t) (emit-new-at t) emit-new.Post
+emit-new-same-length-3 t c = search needs
+
+emit-new-same-length-4 : (t : ℕ) → emit-new-lts.Need-same-length-4 (emit-new-claims t) (emit-new-at t) emit-new.Post
+emit-new-same-length-4 t c = search needs
+
+emit-new-returns-3 : (t : ℕ) → emit-new-lts.Need-returns-3 (emit-new-claims t) (emit-new-at t) emit-new.Post
+emit-new-returns-3 t c = search needs
+
+emit-new-same-length-5 : (t : ℕ) → emit-new-lts.Need-same-length-5 (emit-new-claims t) (emit-new-at t) emit-new.Post
+emit-new-same-length-5 t c = search needs
+
+emit-new-same-length-6 : (t : ℕ) → emit-new-lts.Need-same-length-6 (emit-new-claims t) (emit-new-at t) emit-new.Post
+emit-new-same-length-6 t c = search needs
+
+emit-new-returns-4 : (t : ℕ) → emit-new-lts.Need-returns-4 (emit-new-claims t) (emit-new-at t) emit-new.Post
+emit-new-returns-4 t c = search needs
+
+emit-new-same-length-7 : (t : ℕ) → emit-new-lts.Need-same-length-7 (emit-new-claims t) (emit-new-at t) emit-new.Post
+emit-new-same-length-7 t c = search needs
+
+emit-new-same-length-8 : (t : ℕ) → emit-new-lts.Need-same-length-8 (emit-new-claims t) (emit-new-at t) emit-new.Post
+emit-new-same-length-8 t c = search needs
+
+emit-new-returns-5 : (t : ℕ) → emit-new-lts.Need-returns-5 (emit-new-claims t) (emit-new-at t) emit-new.Post
+emit-new-returns-5 t c = search needs
+
+emit-new-same-length-9 : (t : ℕ) → emit-new-lts.Need-same-length-9 (emit-new-claims t) (emit-new-at t) emit-new.Post
+emit-new-same-length-9 t c = search needs
+
+emit-new-same-length-10 : (t : ℕ) → emit-new-lts.Need-same-length-10 (emit-new-claims t) (emit-new-at t) emit-new.Post
+emit-new-same-length-10 t c = search needs
+
+emit-new-returns-6 : (t : ℕ) → emit-new-lts.Need-returns-6 (emit-new-claims t) (emit-new-at t) emit-new.Post
+emit-new-returns-6 t c = search needs
+
+emit-new-same-length-11 : (t : ℕ) → emit-new-lts.Need-same-length-11 (emit-new-claims t) (emit-new-at t) emit-new.Post
+emit-new-same-length-11 t c = search needs
+
+emit-new-same-length-12 : (t : ℕ) → emit-new-lts.Need-same-length-12 (emit-new-claims t) (emit-new-at t) emit-new.Post
+emit-new-same-length-12 t c = search needs
+
+emit-new-returns-7 : (t : ℕ) → emit-new-lts.Need-returns-7 (emit-new-claims t) (emit-new-at t) emit-new.Post
+emit-new-returns-7 t c = search needs
+
+emit-new-same-length-13 : (t : ℕ) → emit-new-lts.Need-same-length-13 (emit-new-claims t) (emit-new-at t) emit-new.Post
+emit-new-same-length-13 t c = search needs
+
+emit-new-same-length-14 : (t : ℕ) → emit-new-lts.Need-same-length-14 (emit-new-claims t) (emit-new-at t) emit-new.Post
+emit-new-same-length-14 t c = search needs
+
+emit-new-returns-8 : (t : ℕ) → emit-new-lts.Need-returns-8 (emit-new-claims t) (emit-new-at t) emit-new.Post
+emit-new-returns-8 t c = search needs
+
+abbrev emit-params-Inv-loop : emit-params-lts.InvT-loop
+emit-params-Inv-loop b section work₀ text₀ at params cont-id left vlen p₀ k₀ work text p k = (k ≤ vlen) × (vlen < 4294967296) × (length work ≡ length work₀) × (length text ≡ length text₀)
+
+abbrev emit-params-μ-loop : emit-params-lts.MeasureT-loop
+emit-params-μ-loop b section work₀ text₀ at params cont-id left vlen p₀ k₀ work text p k = vlen - k
+
+emit-params-loop-holds : (t : ℕ) → emit-params-lts.Need-loop-holds (emit-params-claims t) (emit-params-at t) emit-params.Post emit-params-Inv-loop emit-params-μ-loop
+emit-params-loop-holds t c = search needs
+
+emit-params-param-place-requires : (t : ℕ) → emit-params-lts.Need-param-place-requires (emit-params-claims t) (emit-params-at t) emit-params.Post emit-params-Inv-loop emit-params-μ-loop
+emit-params-param-place-requires t c κs = search needs
+
+emit-params-add-word : (t : ℕ) → emit-params-lts.Need-add-word (emit-params-claims t) (emit-params-at t) emit-params.Post emit-params-Inv-loop emit-params-μ-loop
+emit-params-add-word t c = omega arith
+
+emit-params-word-requires : (t : ℕ) → emit-params-lts.Need-word-requires (emit-params-claims t) (emit-params-at t) emit-params.Post emit-params-Inv-loop emit-params-μ-loop
+emit-params-word-requires t c κs = search needs
+
+emit-params-emit-type-requires : (t : ℕ) → emit-params-lts.Need-emit-type-requires (emit-params-claims t) (emit-params-at t) emit-params.Post emit-params-Inv-loop emit-params-μ-loop
+emit-params-emit-type-requires t c κs = (omega arith, tt)
+
+emit-params-add-k : (t : ℕ) → emit-params-lts.Need-add-k (emit-params-claims t) (emit-params-at t) emit-params.Post emit-params-Inv-loop emit-params-μ-loop
+emit-params-add-k t c = omega arith
+
+emit-params-loop-less : (t : ℕ) → emit-params-lts.Need-loop-less (emit-params-claims t) (emit-params-at t) emit-params.Post emit-params-Inv-loop emit-params-μ-loop
+emit-params-loop-less t c = omega arith
+
+emit-params-loop-again : (t : ℕ) → emit-params-lts.Need-loop-again (emit-params-claims t) (emit-params-at t) emit-params.Post emit-params-Inv-loop emit-params-μ-loop
+emit-params-loop-again t c = search needs
+
+emit-params-same-length : (t : ℕ) → emit-params-lts.Need-same-length (emit-params-claims t) (emit-params-at t) emit-params.Post emit-params-Inv-loop emit-params-μ-loop
+emit-params-same-length t c = search needs
+
+emit-params-same-length-2 : (t : ℕ) → emit-params-lts.Need-same-length-2 (emit-params-claims t) (emit-params-at t) emit-params.Post emit-params-Inv-loop emit-params-μ-loop
+emit-params-same-length-2 t c = search needs
+
+emit-params-returns : (t : ℕ) → emit-params-lts.Need-returns (emit-params-claims t) (emit-params-at t) emit-params.Post emit-params-Inv-loop emit-params-μ-loop
+emit-params-returns t c = search needs
+
+emit-type-stopped-requires : (t : ℕ) → emit-type-lts.Need-stopped-requires (emit-type-claims t) (emit-type-at t) emit-type.Post
+emit-type-stopped-requires t c κs = search needs
+
+emit-type-same-length : (t : ℕ) → emit-type-lts.Need-same-length (emit-type-claims t) (emit-type-at t) emit-type.Post
+emit-type-same-length t c = search needs
+
+emit-type-returns : (t : ℕ) → emit-type-lts.Need-returns (emit-type-claims t) (emit-type-at t) emit-type.Post
+emit-type-returns t c = search needs
+
+emit-type-stop-requires : (t : ℕ) → emit-type-lts.Need-stop-requires (emit-type-claims t) (emit-type-at t) emit-type.Post
+emit-type-stop-requires t c κs = search needs
+
+emit-type-same-length-2 : (t : ℕ) → emit-type-lts.Need-same-length-2 (emit-type-claims t) (emit-type-at t) emit-type.Post
+emit-type-same-length-2 t c = search needs
+
+emit-type-returns-2 : (t : ℕ) → emit-type-lts.Need-returns-2 (emit-type-claims t) (emit-type-at t) emit-type.Post
+emit-type-returns-2 t c = search needs
+
+emit-type-get-emit-state-requires : (t : ℕ) → emit-type-lts.Need-get-emit-state-requires (emit-type-claims t) (emit-type-at t) emit-type.Post
+emit-type-get-emit-state-requires t c κs = search needs
+
+emit-type-same-length-3 : (t : ℕ) → emit-type-lts.Need-same-length-3 (emit-type-claims t) (emit-type-at t) emit-type.Post
+emit-type-same-length-3 t c = search needs
+
+emit-type-same-length-4 : (t : ℕ) → emit-type-lts.Need-same-length-4 (emit-type-claims t) (emit-type-at t) emit-type.Post
+emit-type-same-length-4 t c = search needs
+
+emit-type-returns-3 : (t : ℕ) → emit-type-lts.Need-returns-3 (emit-type-claims t) (emit-type-at t) emit-type.Post
+emit-type-returns-3 t c = search needs
+
+emit-type-emit-again-requires : (t : ℕ) → emit-type-lts.Need-emit-again-requires (emit-type-claims t) (emit-type-at t) emit-type.Post
+emit-type-emit-again-requires t c κs = search needs
+
+emit-type-same-length-5 : (t : ℕ) → emit-type-lts.Need-same-length-5 (emit-type-claims t) (emit-type-at t) emit-type.Post
+emit-type-same-length-5 t c = search needs
+
+emit-type-same-length-6 : (t : ℕ) → emit-type-lts.Need-same-length-6 (emit-type-claims t) (emit-type-at t) emit-type.Post
+emit-type-same-length-6 t c = search needs
+
+emit-type-returns-4 : (t : ℕ) → emit-type-lts.Need-returns-4 (emit-type-claims t) (emit-type-at t) emit-type.Post
+emit-type-returns-4 t c = search needs
+
+emit-type-type-by-id-requires : (t : ℕ) → emit-type-lts.Need-type-by-id-requires (emit-type-claims t) (emit-type-at t) emit-type.Post
+emit-type-type-by-id-requires t c κs = search needs
+
+emit-type-is-named-requires : (t : ℕ) → emit-type-lts.Need-is-named-requires (emit-type-claims t) (emit-type-at t) emit-type.Post
+emit-type-is-named-requires t c κs = search needs
+
+emit-type-stop-requires-2 : (t : ℕ) → emit-type-lts.Need-stop-requires-2 (emit-type-claims t) (emit-type-at t) emit-type.Post
+emit-type-stop-requires-2 t c κs = search needs
+
+emit-type-same-length-7 : (t : ℕ) → emit-type-lts.Need-same-length-7 (emit-type-claims t) (emit-type-at t) emit-type.Post
+emit-type-same-length-7 t c = search needs
+
+emit-type-same-length-8 : (t : ℕ) → emit-type-lts.Need-same-length-8 (emit-type-claims t) (emit-type-at t) emit-type.Post
+emit-type-same-length-8 t c = search needs
+
+emit-type-returns-5 : (t : ℕ) → emit-type-lts.Need-returns-5 (emit-type-claims t) (emit-type-at t) emit-type.Post
+emit-type-returns-5 t c = search needs
+
+emit-type-sub-emit-new : (t : ℕ) → emit-type-lts.Need-sub-emit-new (emit-type-claims t) (emit-type-at t) emit-type.Post
+emit-type-sub-emit-new t c = omega arith
+
+emit-type-emit-new-requires : (t : ℕ) → emit-type-lts.Need-emit-new-requires (emit-type-claims t) (emit-type-at t) emit-type.Post
+emit-type-emit-new-requires t c κs = (omega arith, tt)
+
+emit-type-same-length-9 : (t : ℕ) → emit-type-lts.Need-same-length-9 (emit-type-claims t) (emit-type-at t) emit-type.Post
+emit-type-same-length-9 t c = search needs
+
+emit-type-same-length-10 : (t : ℕ) → emit-type-lts.Need-same-length-10 (emit-type-claims t) (emit-type-at t) emit-type.Post
+emit-type-same-length-10 t c = search needs
+
+emit-type-returns-6 : (t : ℕ) → emit-type-lts.Need-returns-6 (emit-type-claims t) (emit-type-at t) emit-type.Post
+emit-type-returns-6 t c = search needs
+
+pub +emit-composite+emit-members+emit-new+emit-params+emit-type-spec : {M : Type 1} → statement M
++emit-composite+emit-members+emit-new+emit-params+emit-type-spec =
+    close
+    μ-emit-composite
+    μ-emit-members
+    μ-emit-new
+    μ-emit-params
+    μ-emit-type
+    (λ t. emit-composite-lts.spec (
+      type-by-id-reads.Asked,
+      type-by-id-reads.Learnt,
+      is-named-reads.Asked,
+      is-named-reads.Learnt,
+      set-emit-state-reads.Asked,
+      set-emit-state-reads.Learnt,
+      inner-reads.Asked,
+      inner-reads.Learnt,
+      emit-members-below t,
+      emit-members.Post,
+      emit-definition-reads.Asked,
+      emit-definition-reads.Learnt,
+      emit-mention-reads.Asked,
+      emit-mention-reads.Learnt,
+    )
+    (emit-composite-at t)
+    emit-composite.Post
+    (emit-composite-type-by-id-requires t)
+    (emit-composite-is-named-requires t)
+    (emit-composite-set-emit-state-requires t)
+    (emit-composite-inner-requires t)
+    (emit-composite-emit-members-requires t)
+    (emit-composite-emit-definition-requires t)
+    (emit-composite-set-emit-state-requires-2 t)
+    (emit-composite-same-length t)
+    (emit-composite-same-length-2 t)
+    (emit-composite-returns t)
+    (emit-composite-emit-members-requires-2 t)
+    (emit-composite-set-emit-state-requires-3 t)
+    (emit-composite-same-length-3 t)
+    (emit-composite-same-length-4 t)
+    (emit-composite-returns-2 t)
+    (emit-composite-emit-mention-requires t)
+    (emit-composite-set-emit-state-requires-4 t)
+    (emit-composite-same-length-5 t)
+    (emit-composite-same-length-6 t)
+    (emit-composite-returns-3 t))
+    (λ t. emit-members-lts.spec (
+      member-place-reads.Asked,
+      member-place-reads.Learnt,
+      word-reads.Asked,
+      word-reads.Learnt,
+      emit-type-below t,
+      emit-type.Post,
+    )
+    (emit-members-at t)
+    emit-members.Post
+    emit-members-Inv-loop
+    emit-members-μ-loop
+    (emit-members-loop-holds t)
+    (emit-members-member-place-requires t)
+    (emit-members-add-word t)
+    (emit-members-word-requires t)
+    (emit-members-emit-type-requires t)
+    (emit-members-add-k t)
+    (emit-members-loop-less t)
+    (emit-members-loop-again t)
+    (emit-members-same-length t)
+    (emit-members-same-length-2 t)
+    (emit-members-returns t))
+    (λ t. emit-new-lts.spec (
+      node-by-id-reads.Asked,
+      node-by-id-reads.Learnt,
+      emit-leaf-reads.Asked,
+      emit-leaf-reads.Learnt,
+      emit-type-below t,
+      emit-type.Post,
+      set-emit-state-reads.Asked,
+      set-emit-state-reads.Learnt,
+      emit-once-reads.Asked,
+      emit-once-reads.Learnt,
+      emit-params-below t,
+      emit-params.Post,
+      emit-composite-below t,
+      emit-composite.Post,
+    )
+    (emit-new-at t)
+    emit-new.Post
+    (emit-new-node-by-id-requires t)
+    (emit-new-enum-told t)
+    (emit-new-enum-told-2 t)
+    (emit-new-enum-known-is-fwd t)
+    (emit-new-emit-leaf-requires t)
+    (emit-new-enum-known-t t)
+    (emit-new-emit-type-requires t)
+    (emit-new-enum-known-t-2 t)
+    (emit-new-emit-type-requires-2 t)
+    (emit-new-enum-known-t-3 t)
+    (emit-new-set-emit-state-requires t)
+    (emit-new-emit-type-requires-3 t)
+    (emit-new-emit-once-requires t)
+    (emit-new-set-emit-state-requires-2 t)
+    (emit-new-enum-known-res t)
+    (emit-new-emit-type-requires-4 t)
+    (emit-new-emit-params-requires t)
+    (emit-new-enum-known-members t)
+    (emit-new-emit-composite-requires t)
+    (emit-new-same-length t)
+    (emit-new-returns t)
+    (emit-new-same-length-2 t)
+    (emit-new-returns-2 t)
+    (emit-new-same-length-3 t)
+    (emit-new-same-length-4 t)
+    (emit-new-returns-3 t)
+    (emit-new-same-length-5 t)
+    (emit-new-same-length-6 t)
+    (emit-new-returns-4 t)
+    (emit-new-same-length-7 t)
+    (emit-new-same-length-8 t)
+    (emit-new-returns-5 t)
+    (emit-new-same-length-9 t)
+    (emit-new-same-length-10 t)
+    (emit-new-returns-6 t)
+    (emit-new-same-length-11 t)
+    (emit-new-same-length-12 t)
+    (emit-new-returns-7 t)
+    (emit-new-same-length-13 t)
+    (emit-new-same-length-14 t)
+    (emit-new-returns-8 t))
+    (λ t. emit-params-lts.spec (
+      param-place-reads.Asked,
+      param-place-reads.Learnt,
+      word-reads.Asked,
+      word-reads.Learnt,
+      emit-type-below t,
+      emit-type.Post,
+    )
+    (emit-params-at t)
+    emit-params.Post
+    emit-params-Inv-loop
+    emit-params-μ-loop
+    (emit-params-loop-holds t)
+    (emit-params-param-place-requires t)
+    (emit-params-add-word t)
+    (emit-params-word-requires t)
+    (emit-params-emit-type-requires t)
+    (emit-params-add-k t)
+    (emit-params-loop-less t)
+    (emit-params-loop-again t)
+    (emit-params-same-length t)
+    (emit-params-same-length-2 t)
+    (emit-params-returns t))
+    λ t. emit-type-lts.spec (
+      stopped-reads.Asked,
+      stopped-reads.Learnt,
+      stop-reads.Asked,
+      stop-reads.Learnt,
+      get-emit-state-reads.Asked,
+      get-emit-state-reads.Learnt,
+      emit-again-reads.Asked,
+      emit-again-reads.Learnt,
+      type-by-id-reads.Asked,
+      type-by-id-reads.Learnt,
+      is-named-reads.Asked,
+      is-named-reads.Learnt,
+      emit-new-below t,
+      emit-new.Post,
+    )
+    (emit-type-at t)
+    emit-type.Post
+    (emit-type-stopped-requires t)
+    (emit-type-same-length t)
+    (emit-type-returns t)
+    (emit-type-stop-requires t)
+    (emit-type-same-length-2 t)
+    (emit-type-returns-2 t)
+    (emit-type-get-emit-state-requires t)
+    (emit-type-same-length-3 t)
+    (emit-type-same-length-4 t)
+    (emit-type-returns-3 t)
+    (emit-type-emit-again-requires t)
+    (emit-type-same-length-5 t)
+    (emit-type-same-length-6 t)
+    (emit-type-returns-4 t)
+    (emit-type-type-by-id-requires t)
+    (emit-type-is-named-requires t)
+    (emit-type-stop-requires-2 t)
+    (emit-type-same-length-7 t)
+    (emit-type-same-length-8 t)
+    (emit-type-returns-5 t)
+    (emit-type-sub-emit-new t)
+    (emit-type-emit-new-requires t)
+    (emit-type-same-length-9 t)
+    (emit-type-same-length-10 t)
+    (emit-type-returns-6 t)

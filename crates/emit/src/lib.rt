@@ -1,0 +1,379 @@
+// Emission: the lines of a request, in the order that ordering found. Emit states and forward flags stand in the work words.
+use btf::Btf;
+use btf::BtfType;
+use btf::Entries;
+use btf::Node;
+use btf::get_field;
+use btf::is_builtin;
+use btf::is_named;
+use btf::member_place;
+use btf::node_by_id;
+use btf::param_place;
+use btf::put_field;
+use btf::type_by_id;
+use btf::word;
+use decl::emit_composite_def;
+use decl::emit_typedef_def;
+use enums::emit_enum_def;
+use enums::emit_enum64_def;
+use lent::put_bytes;
+use lent::stop;
+use lent::stopped;
+use names::emit_composite_fwd;
+use names::emit_fwd_def;
+use order::Order;
+use order::clear_listed;
+use order::get_listed;
+use order::order_type;
+
+fn get_emit_state(work: &[u8], id: u32) -> u32 {
+    get_field(work, id, 2)
+}
+
+fn set_emit_state(work: &mut [u8], id: u32, state: u32) {
+    put_field(work, id, 2, state)
+}
+
+fn get_fwd_emitted(work: &[u8], id: u32) -> bool {
+    get_field(work, id, 3) != 0
+}
+
+fn set_fwd_emitted(work: &mut [u8], id: u32) {
+    put_field(work, id, 3, 1)
+}
+
+fn put_line_end(text: &mut [u8], at: usize) -> usize {
+    put_bytes(text, at, b";\n\n")
+}
+
+// The definition of a composite, an enum or a forward, as a line.
+fn emit_definition(
+    b: Btf,
+    section: &[u8],
+    work: &mut [u8],
+    text: &mut [u8],
+    at: usize,
+    id: u32,
+) -> usize {
+    match type_by_id(b, section, work, id) {
+        BtfType::Composite(t) => {
+            let a = emit_composite_def(b, section, work, text, at, id, t, 0, 512);
+            put_line_end(text, a)
+        }
+        BtfType::Enum(t) => {
+            let a = emit_enum_def(b, section, work, text, at, id, t, 0);
+            put_line_end(text, a)
+        }
+        BtfType::Enum64(t) => {
+            let a = emit_enum64_def(b, section, work, text, at, id, t, 0);
+            put_line_end(text, a)
+        }
+        BtfType::Fwd { name_off, is_union } => {
+            let a = emit_fwd_def(b, section, work, text, at, id, is_union, name_off);
+            put_line_end(text, a)
+        }
+        _ => at,
+    }
+}
+
+// The lines that come once for each id: a composite's forward line, a typedef. The compiler's own type has none.
+fn emit_forward(
+    b: Btf,
+    section: &[u8],
+    work: &mut [u8],
+    text: &mut [u8],
+    at: usize,
+    id: u32,
+) -> usize {
+    match type_by_id(b, section, work, id) {
+        BtfType::Composite(t) => {
+            if is_builtin(b, section, t.name_off) {
+                return at;
+            }
+            let a = emit_composite_fwd(b, section, work, text, at, id, t.is_struct, t.name_off);
+            put_line_end(text, a)
+        }
+        BtfType::Typedef { name_off, type_id } => {
+            if is_builtin(b, section, name_off) {
+                return at;
+            }
+            let a = emit_typedef_def(b, section, work, text, at, id, name_off, type_id);
+            put_line_end(text, a)
+        }
+        _ => at,
+    }
+}
+
+fn emit_once(
+    b: Btf,
+    section: &[u8],
+    work: &mut [u8],
+    text: &mut [u8],
+    at: usize,
+    id: u32,
+) -> usize {
+    if get_fwd_emitted(work, id) {
+        return at;
+    }
+    let a = emit_forward(b, section, work, text, at, id);
+    set_fwd_emitted(work, id);
+    a
+}
+
+// An id that is met while it is being emitted. A nameless composite never is, since ordering refuses its cycle.
+fn emit_again(
+    b: Btf,
+    section: &[u8],
+    work: &mut [u8],
+    text: &mut [u8],
+    at: usize,
+    id: u32,
+    cont_id: u32,
+) -> usize {
+    if get_fwd_emitted(work, id) {
+        return at;
+    }
+    match node_by_id(b, section, work, id) {
+        Node::Composite(_) => {
+            if id == cont_id {
+                return at;
+            }
+            if !is_named(b, section, type_by_id(b, section, work, id)) {
+                return stop(text, at, 13);
+            }
+            emit_once(b, section, work, text, at, id)
+        }
+        Node::Typedef(_) => emit_once(b, section, work, text, at, id),
+        _ => at,
+    }
+}
+
+// cont_id is the composite or typedef that is being emitted around id, or 0 at the top.
+pub fn emit_type(
+    b: Btf,
+    section: &[u8],
+    work: &mut [u8],
+    text: &mut [u8],
+    at: usize,
+    id: u32,
+    cont_id: u32,
+    left: u32,
+) -> usize {
+    if stopped(text, at) {
+        return at;
+    }
+    if left == 0 {
+        return stop(text, at, 12);
+    }
+    let state = get_emit_state(work, id);
+    if state == 2 {
+        return at;
+    }
+    if state == 1 {
+        return emit_again(b, section, work, text, at, id, cont_id);
+    }
+    if cont_id == 0 {
+        if !is_named(b, section, type_by_id(b, section, work, id)) {
+            return stop(text, at, 14);
+        }
+    }
+    emit_new(b, section, work, text, at, id, cont_id, left - 1)
+}
+
+// An id that is not emitted yet.
+fn emit_new(
+    b: Btf,
+    section: &[u8],
+    work: &mut [u8],
+    text: &mut [u8],
+    at: usize,
+    id: u32,
+    cont_id: u32,
+    left: u32,
+) -> usize {
+    match node_by_id(b, section, work, id) {
+        Node::Ignored => at,
+        Node::Plain => at,
+        Node::Listed(is_fwd) => emit_leaf(b, section, work, text, at, id, cont_id, is_fwd),
+        Node::Through(t) => emit_type(b, section, work, text, at, t, cont_id, left),
+        Node::Ptr(t) => emit_type(b, section, work, text, at, t, cont_id, left),
+        Node::Typedef(t) => {
+            set_emit_state(work, id, 1);
+            let a = emit_type(b, section, work, text, at, t, id, left);
+            let c = emit_once(b, section, work, text, a, id);
+            set_emit_state(work, id, 2);
+            c
+        }
+        Node::Proto(res, params) => {
+            let a = emit_type(b, section, work, text, at, res, cont_id, left);
+            emit_params(b, section, work, text, a, params, cont_id, left)
+        }
+        Node::Composite(members) => {
+            emit_composite(b, section, work, text, at, id, cont_id, members, left)
+        }
+    }
+}
+
+// An enum is defined at the top only; a forward is printed wherever it is met.
+fn emit_leaf(
+    b: Btf,
+    section: &[u8],
+    work: &mut [u8],
+    text: &mut [u8],
+    at: usize,
+    id: u32,
+    cont_id: u32,
+    is_fwd: bool,
+) -> usize {
+    set_emit_state(work, id, 2);
+    if cont_id == 0 {
+        return emit_definition(b, section, work, text, at, id);
+    }
+    if is_fwd {
+        return emit_definition(b, section, work, text, at, id);
+    }
+    at
+}
+
+// A composite: at the top, or nameless, all that its members need first; else a forward line. At the top its definition.
+fn emit_composite(
+    b: Btf,
+    section: &[u8],
+    work: &mut [u8],
+    text: &mut [u8],
+    at: usize,
+    id: u32,
+    cont_id: u32,
+    members: Entries,
+    left: u32,
+) -> usize {
+    let named = is_named(b, section, type_by_id(b, section, work, id));
+    set_emit_state(work, id, 1);
+    if cont_id == 0 {
+        let a = emit_members(
+            b,
+            section,
+            work,
+            text,
+            at,
+            members,
+            inner(named, id, cont_id),
+            left,
+        );
+        let c = emit_definition(b, section, work, text, a, id);
+        set_emit_state(work, id, 2);
+        return c;
+    }
+    if !named {
+        let a = emit_members(b, section, work, text, at, members, cont_id, left);
+        set_emit_state(work, id, 0);
+        return a;
+    }
+    let a = emit_mention(b, section, work, text, at, id, cont_id);
+    set_emit_state(work, id, 0);
+    a
+}
+
+// What the members of a composite are emitted within.
+fn inner(named: bool, id: u32, cont_id: u32) -> u32 {
+    if named { id } else { cont_id }
+}
+
+// A named composite within another: a forward line, unless it is that other.
+fn emit_mention(
+    b: Btf,
+    section: &[u8],
+    work: &mut [u8],
+    text: &mut [u8],
+    at: usize,
+    id: u32,
+    cont_id: u32,
+) -> usize {
+    if id == cont_id {
+        return at;
+    }
+    emit_once(b, section, work, text, at, id)
+}
+
+fn emit_members(
+    b: Btf,
+    section: &[u8],
+    work: &mut [u8],
+    text: &mut [u8],
+    at: usize,
+    members: Entries,
+    cont_id: u32,
+    left: u32,
+) -> usize {
+    let vlen = members.vlen;
+    let mut p = at;
+    let mut k: u32 = 0;
+    while k < vlen {
+        let t = word(b, section, member_place(members, k) + 4);
+        p = emit_type(b, section, work, text, p, t, cont_id, left);
+        k += 1;
+    }
+    p
+}
+
+fn emit_params(
+    b: Btf,
+    section: &[u8],
+    work: &mut [u8],
+    text: &mut [u8],
+    at: usize,
+    params: Entries,
+    cont_id: u32,
+    left: u32,
+) -> usize {
+    let vlen = params.vlen;
+    let mut p = at;
+    let mut k: u32 = 0;
+    while k < vlen {
+        let t = word(b, section, param_place(params, k) + 4);
+        p = emit_type(b, section, work, text, p, t, cont_id, left);
+        k += 1;
+    }
+    p
+}
+
+// Emits the first n ids of the order list, and empties it.
+fn emit_listed(
+    b: Btf,
+    section: &[u8],
+    work: &mut [u8],
+    text: &mut [u8],
+    at: usize,
+    n: u32,
+) -> usize {
+    let mut p = at;
+    let mut k: u32 = 0;
+    while k < n {
+        let id = get_listed(work, k);
+        clear_listed(work, k);
+        p = emit_type(b, section, work, text, p, id, 0, 512);
+        k += 1;
+    }
+    p
+}
+
+// One request: the place after its text, or one past the end that says which refusal stopped it.
+pub fn dump_type(
+    b: Btf,
+    section: &[u8],
+    work: &mut [u8],
+    text: &mut [u8],
+    at: usize,
+    id: u32,
+) -> usize {
+    let start = Order {
+        is_strong: false,
+        len: 0,
+        stop: 0,
+    };
+    let o = order_type(b, section, work, start, id, false, 512);
+    if o.stop != 0 {
+        return stop(text, at, o.stop);
+    }
+    emit_listed(b, section, work, text, at, o.len)
+}

@@ -1,0 +1,205 @@
+// Enums of both widths.
+use btf::Btf;
+use btf::BtfEnum;
+use btf::get_field;
+use btf::is_builtin;
+use btf::load_enum_value;
+use btf::load_enum64_value;
+use btf::member_place;
+use btf::param_place;
+use btf::word;
+use lent::put_bytes;
+use lent::put_decimal;
+use lent::put_tabs;
+use names::put_name;
+use names::put_sep_name;
+use names::resolve_name;
+use names::resolve_type_name;
+use signed::as_i32;
+use signed::as_i64;
+use signed::put_i32;
+use signed::put_i64;
+
+// value_str of an ENUM.
+fn put_value(text: &mut [u8], at: usize, signed: bool, v: u32) -> usize {
+    if signed {
+        return put_i32(text, at, as_i32(v));
+    }
+    put_decimal(text, at, v as u64)
+}
+
+// value_str of an ENUM64, with the suffix of its type.
+fn put_value64(text: &mut [u8], at: usize, signed: bool, v: u64) -> usize {
+    if signed {
+        return put_i64(text, at, as_i64(v));
+    }
+    let a = put_decimal(text, at, v);
+    put_bytes(text, a, b"ULL")
+}
+
+// A new line, the enumerator's name and an equals sign.
+fn emit_enumerator(
+    b: Btf,
+    section: &[u8],
+    work: &mut [u8],
+    text: &mut [u8],
+    at: usize,
+    e: u32,
+    name_off: u32,
+    lvl: u32,
+) -> usize {
+    let name = resolve_name(b, work, e, name_off);
+    let a = put_bytes(text, at, b"\n");
+    let c = put_tabs(text, a, lvl);
+    let d = put_name(b, section, text, c, name);
+    put_bytes(text, d, b" = ")
+}
+
+// The k-th after the first, or the largest number.
+fn nth(first: u32, k: u32) -> u32 {
+    if k <= 4294967295 - first {
+        first + k
+    } else {
+        4294967295
+    }
+}
+
+fn emit_values(
+    b: Btf,
+    section: &[u8],
+    work: &mut [u8],
+    text: &mut [u8],
+    at: usize,
+    id: u32,
+    t: BtfEnum,
+    lvl: u32,
+) -> usize {
+    let values = t.values;
+    let vlen = values.vlen;
+    let first = get_field(work, id, 12);
+    let mut p = at;
+    let mut k: u32 = 0;
+    while k < vlen {
+        let name_off = word(b, section, param_place(values, k));
+        let a = emit_enumerator(b, section, work, text, p, nth(first, k), name_off, lvl);
+        let v = load_enum_value(b, section, values, k);
+        let c = put_value(text, a, t.signed, v);
+        p = put_bytes(text, c, b",");
+        k += 1;
+    }
+    p
+}
+
+fn emit_values64(
+    b: Btf,
+    section: &[u8],
+    work: &mut [u8],
+    text: &mut [u8],
+    at: usize,
+    id: u32,
+    t: BtfEnum,
+    lvl: u32,
+) -> usize {
+    let values = t.values;
+    let vlen = values.vlen;
+    let first = get_field(work, id, 12);
+    let mut p = at;
+    let mut k: u32 = 0;
+    while k < vlen {
+        let name_off = word(b, section, member_place(values, k));
+        let a = emit_enumerator(b, section, work, text, p, nth(first, k), name_off, lvl);
+        let v = load_enum64_value(b, section, values, k);
+        let c = put_value64(text, a, t.signed, v);
+        p = put_bytes(text, c, b",");
+        k += 1;
+    }
+    p
+}
+
+// `enum` and the name.
+fn emit_enum_head(
+    b: Btf,
+    section: &[u8],
+    work: &mut [u8],
+    text: &mut [u8],
+    at: usize,
+    id: u32,
+    name_off: u32,
+) -> usize {
+    let name = resolve_type_name(b, section, work, id, name_off);
+    let a = put_bytes(text, at, b"enum");
+    put_sep_name(b, section, text, a, name)
+}
+
+// The line end and the bracket that close the values.
+fn emit_enum_end(text: &mut [u8], at: usize, lvl: u32) -> usize {
+    let a = put_bytes(text, at, b"\n");
+    let c = put_tabs(text, a, lvl);
+    put_bytes(text, c, b"}")
+}
+
+// One level deeper.
+pub fn deeper(lvl: u32) -> u32 {
+    if lvl < 4294967295 { lvl + 1 } else { lvl }
+}
+
+pub fn emit_enum_def(
+    b: Btf,
+    section: &[u8],
+    work: &mut [u8],
+    text: &mut [u8],
+    at: usize,
+    id: u32,
+    t: BtfEnum,
+    lvl: u32,
+) -> usize {
+    if is_builtin(b, section, t.name_off) {
+        return at;
+    }
+    let a = emit_enum_head(b, section, work, text, at, id, t.name_off);
+    let values = t.values;
+    if values.vlen == 0 {
+        return a;
+    }
+    let c = put_bytes(text, a, b" {");
+    let d = emit_values(b, section, work, text, c, id, t, deeper(lvl));
+    emit_enum_end(text, d, lvl)
+}
+
+pub fn emit_enum64_def(
+    b: Btf,
+    section: &[u8],
+    work: &mut [u8],
+    text: &mut [u8],
+    at: usize,
+    id: u32,
+    t: BtfEnum,
+    lvl: u32,
+) -> usize {
+    if is_builtin(b, section, t.name_off) {
+        return at;
+    }
+    let a = emit_enum_head(b, section, work, text, at, id, t.name_off);
+    let values = t.values;
+    if values.vlen == 0 {
+        return a;
+    }
+    let c = put_bytes(text, a, b" {");
+    let d = emit_values64(b, section, work, text, c, id, t, deeper(lvl));
+    emit_enum_end(text, d, lvl)
+}
+
+// The mention of a named enum.
+pub fn put_enum_name(
+    b: Btf,
+    section: &[u8],
+    work: &mut [u8],
+    text: &mut [u8],
+    at: usize,
+    id: u32,
+    name_off: u32,
+) -> usize {
+    let name = resolve_type_name(b, section, work, id, name_off);
+    let a = put_bytes(text, at, b"enum ");
+    put_name(b, section, text, a, name)
+}

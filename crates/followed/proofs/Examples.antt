@@ -1,0 +1,81 @@
+-- The definitions compute: tables of two records after void. Assumes nothing.
+use Prim.Native.Nat.{ℕ}
+use mathlib.Core.Path.{_≡_, refl}
+use mathlib.Core.Bool.{true, false}
+use mathlib.Core.List.{List, [], _∷_, _++_}
+use Rattle.lent.specs.Words.{wordAt}
+use Rattle.btf.specs.declared.types.Btf.{Btf}
+use Rattle.btf.specs.Records.{sectionWord}
+use Rattle.followed.specs.Any.{anyBelow}
+use Rattle.followed.specs.Followed.{among, countOf, placeOf, countFor, idPlace, infoAt, kindAt, followedCount, followedId}
+use Rattle.followed.specs.References.{isBad, isSomeBad, hasBadReference}
+use Rattle.followed.specs.Graph.{long, hasLoop}
+use Rattle.followed.specs.Loops.{degOf, graphOf}
+use Rattle.followed.specs.Track.{chase, leadsTo}
+use Rattle.followed.specs.Prototypes.{whatOf, nextOf, asksOf, asker, anyLeads}
+
+abbrev three : Btf
+three = record { «ptr_sz» = 8; «union_as_struct» = false; types = 3; «hdr_len» = 24; «str_off» = 0 }
+
+abbrev word : ℕ → List ℕ
+word n = n ∷ 0 ∷ 0 ∷ 0 ∷ []
+
+-- name, info, size or type
+abbrev head : ℕ → ℕ → ℕ → List ℕ
+head kind vlen type = word 0 ++ (vlen ∷ 0 ∷ 0 ∷ kind ∷ []) ++ word type
+
+-- 1 TYPEDEF of 2; 2 FUNC_PROTO with a result and one parameter
+abbrev called : ℕ → ℕ → List ℕ
+called result param = head 8 0 2 ++ head 13 1 result ++ word 0 ++ word param
+
+abbrev places : List ℕ
+places = 0 ∷ 0 ∷ 12 ∷ []
+
+-- 1 STRUCT with one member, of type 2; 2 of a kind, with a target, and where it is an ARRAY with an element
+abbrev held : ℕ → ℕ → List ℕ
+held kind target = head 4 1 8 ++ word 0 ++ word 2 ++ word 0 ++ head kind 0 target ++ word target ++ word 0 ++ word 4
+
+abbrev places-held : List ℕ
+places-held = 0 ∷ 0 ∷ 24 ∷ []
+
+parameter-loops : hasLoop (graphOf three (called 0 1) places) ≡ true
+unfolding hasLoop anyBelow long degOf followedCount followedId countFor idPlace kindAt infoAt placeOf countOf among sectionWord wordAt
+parameter-loops = refl
+
+result-loops : hasLoop (graphOf three (called 1 0) places) ≡ true
+unfolding hasLoop anyBelow long degOf followedCount followedId countFor idPlace kindAt infoAt placeOf countOf among sectionWord wordAt
+result-loops = refl
+
+no-loop : hasLoop (graphOf three (called 0 0) places) ≡ false
+unfolding hasLoop anyBelow long degOf followedCount followedId countFor idPlace kindAt infoAt placeOf countOf among sectionWord wordAt
+no-loop = refl
+
+-- struct s { struct s *p; }
+struct-no-loop : hasLoop (graphOf three (held 2 1) places-held) ≡ false
+unfolding hasLoop anyBelow long degOf followedCount followedId countFor idPlace kindAt infoAt placeOf countOf among sectionWord wordAt
+struct-no-loop = refl
+
+past-count : hasBadReference three (called 0 3) places ≡ true
+unfolding hasBadReference isSomeBad isBad anyBelow followedCount followedId countFor idPlace kindAt infoAt placeOf countOf among sectionWord wordAt
+past-count = refl
+
+function-member : hasBadReference three (held 12 0) places-held ≡ true
+unfolding hasBadReference isSomeBad isBad anyBelow followedCount followedId countFor idPlace kindAt infoAt placeOf countOf among sectionWord wordAt
+function-member = refl
+
+sound : hasBadReference three (called 0 1) places ≡ false
+unfolding hasBadReference isSomeBad isBad anyBelow followedCount followedId countFor idPlace kindAt infoAt placeOf countOf among sectionWord wordAt
+sound = refl
+
+proto-member : anyLeads three (held 13 0) places-held ≡ true
+unfolding anyLeads asker asksOf leadsTo chase whatOf nextOf anyBelow followedCount followedId countFor idPlace kindAt infoAt placeOf countOf among sectionWord wordAt
+proto-member = refl
+
+-- an array of itself leads nowhere
+array-round : anyLeads three (held 3 2) places-held ≡ false
+unfolding anyLeads asker asksOf leadsTo chase whatOf nextOf anyBelow followedCount followedId countFor idPlace kindAt infoAt placeOf countOf among sectionWord wordAt
+array-round = refl
+
+typedef-of-proto : anyLeads three (called 0 0) places ≡ false
+unfolding anyLeads asker asksOf leadsTo chase whatOf nextOf anyBelow followedCount followedId countFor idPlace kindAt infoAt placeOf countOf among sectionWord wordAt
+typedef-of-proto = refl

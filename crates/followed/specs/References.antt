@@ -1,0 +1,33 @@
+-- Cause 6: "a followed id not below the count, or of kind 12, 14, 15, 17".
+use Prim.Native.Nat.{ℕ, _≤_, _<_}
+use mathlib.Core.Path.{_≡_}
+use mathlib.Core.Bool.{Bool, true, false}
+use mathlib.Core.List.{List, [], _∷_}
+use mathlib.Core.Logic.{_⊎_}
+use lib.Dec.{ltb}
+use Rattle.btf.specs.declared.types.Btf.{Btf}
+use Rattle.followed.specs.Any.{anyBelow}
+use Rattle.followed.specs.Followed.{among, countOf, kindAt, followedCount, followedId}
+
+-- FUNC, VAR, DATASEC, DECL_TAG
+abbrev pub refused : List ℕ
+refused = 12 ∷ 14 ∷ 15 ∷ 17 ∷ []
+
+module _ (b : Btf) (s start : List ℕ) where
+  unfoldable pub isBad : ℕ → Bool
+  isBad y = elim (ltb y (countOf b)) [ true ↦ among refused (kindAt b s start y) | false ↦ true ]
+
+  unfoldable pub isSomeBad : ℕ → Bool
+  isSomeBad x = anyBelow (followedCount b s start x) (λ k. isBad (followedId b s start x k))
+
+  -- the definition
+  unfoldable pub hasBadReference : Bool
+  hasBadReference = anyBelow (countOf b) isSomeBad
+
+  -- what it says: type x follows an id, its k-th, which is bad
+  pub record BadReference : Type 0 where
+    pub x : ℕ
+    pub k : ℕ
+    pub type : x < countOf b
+    pub followed : k < followedCount b s start x
+    pub bad : (countOf b ≤ followedId b s start x k) ⊎ (among refused (kindAt b s start (followedId b s start x k)) ≡ true)

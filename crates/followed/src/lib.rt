@@ -1,0 +1,12 @@
+// The references of a table that is being opened: causes 6, 7 and 8. The index `start` says where each record stands.
+mod index;
+mod loops;
+mod prototypes;
+mod references;
+
+pub use index::followed;
+pub use index::followed_count;
+pub use index::kind_at;
+pub use loops::has_loop;
+pub use prototypes::leads_to_proto;
+pub use references::has_bad_reference;

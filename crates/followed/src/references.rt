@@ -1,0 +1,49 @@
+// Cause 6: a followed id that is not below the count, or is of kind 12, 14, 15 or 17.
+use crate::index::count;
+use crate::index::followed;
+use crate::index::followed_count;
+use crate::index::kind_at;
+use btf::Btf;
+ghost use mathlib.Core.Path.{_≡_};
+ghost use Rattle.followed.specs.References.{isBad, isSomeBad, hasBadReference};
+
+fn is_bad(b: Btf, section: &[u8], start: &[u32], y: u32) -> bool
+    ensures { λ r. ⌜ r ≡ isBad b (now (section .entry)) (now (start .entry)) y ⌝ }
+{
+    let n = count(b);
+    if n <= y {
+        return true;
+    }
+    match kind_at(b, section, start, y) {
+        12 | 14 | 15 | 17 => true,
+        _ => false,
+    }
+}
+
+fn is_some_bad(b: Btf, section: &[u8], start: &[u32], x: u32) -> bool
+    ensures { λ r. ⌜ r ≡ isSomeBad b (now (section .entry)) (now (start .entry)) x ⌝ }
+{
+    let n = followed_count(b, section, start, x);
+    let mut k: u32 = 0;
+    while k < n {
+        if is_bad(b, section, start, followed(b, section, start, x, k)) {
+            return true;
+        }
+        k += 1;
+    }
+    false
+}
+
+pub fn has_bad_reference(b: Btf, section: &[u8], start: &[u32]) -> bool
+    ensures { λ r. ⌜ r ≡ hasBadReference b (now (section .entry)) (now (start .entry)) ⌝ }
+{
+    let n = count(b);
+    let mut x: u32 = 0;
+    while x < n {
+        if is_some_bad(b, section, start, x) {
+            return true;
+        }
+        x += 1;
+    }
+    false
+}

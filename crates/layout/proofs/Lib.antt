@@ -1,0 +1,2 @@
+-- A law of products that the proofs of this crate cite.
+pub mod Laws

@@ -1,0 +1,60 @@
+// A byte slice used as 32-bit little-endian words: word i is the bytes 4i to 4i + 3.
+ghost use mathlib.Core.Path.{_≡_};
+ghost use Prim.Native.Nat.{_+_, _*_};
+ghost use lib.ListN.{length, replicate};
+ghost use Rattle.lent.specs.Words.{getWord, putWord, wordAt};
+
+// The number whose bytes, lowest first, are a, b, c and d.
+fn join(a: u8, b: u8, c: u8, d: u8) -> u32
+    ensures { λ r. ⌜ r ≡ a + b * 256 + c * 65536 + d * 16777216 ⌝ }
+{
+    (a as u32) + (b as u32) * 256 + (c as u32) * 65536 + (d as u32) * 16777216
+}
+
+// Word i, or 0 past the last whole word.
+pub fn get_word(work: &[u8], i: usize) -> u32
+    ensures { λ r. ⌜ r ≡ getWord (now (work .entry)) i ⌝ }
+{
+    if i < work.len() / 4 {
+        let at = i * 4;
+        join(work[at], work[at + 1], work[at + 2], work[at + 3])
+    } else {
+        0
+    }
+}
+
+// Sets word i to v; past the last whole word it does nothing.
+pub fn put_word(work: &mut [u8], i: usize, v: u32)
+    ensures { λ _. ⌜ now (work .exit) ≡ putWord (now (work .entry)) i v ⌝ }
+{
+    if i < work.len() / 4 {
+        let at = i * 4;
+        work[at] = (v % 256) as u8;
+        work[at + 1] = (v / 256 % 256) as u8;
+        work[at + 2] = (v / 65536 % 256) as u8;
+        work[at + 3] = (v / 16777216) as u8;
+    }
+}
+
+// The word whose bytes start at `at`, or 0 where they do not all lie inside.
+pub fn word_at(b: &[u8], at: usize) -> u32
+    ensures { λ r. ⌜ r ≡ wordAt (now (b .entry)) at ⌝ }
+{
+    if at < b.len() {
+        if 3 < b.len() - at {
+            return join(b[at], b[at + 1], b[at + 2], b[at + 3]);
+        }
+    }
+    0
+}
+
+// Sets every byte to 0.
+pub fn clear(b: &mut [u8])
+    ensures { λ _. ⌜ now (b .exit) ≡ replicate (length (now (b .entry))) 0 ⌝ }
+{
+    let mut i = 0;
+    while i < b.len() {
+        b[i] = 0;
+        i += 1;
+    }
+}

@@ -1,0 +1,56 @@
+use native.Mathlib.Omega.{arith}
+use borrow.Author.Needs.{needs}
+use Prim.Native.Nat.{_<_, _-_}
+use mathlib.Core.Path.{_≡_}
+use lib.ListN.{length}
+use Rattle.names.proofs.attributes.emit_decl_tags.Statement.{statement}
+use Rattle.names.proofs.attributes.emit_decl_tags.Tie as tie
+use Rattle.names.proofs.attributes.emit_decl_tags.Reads as reads
+use Rattle.names.proofs.attributes.emit_decl_tags.Lts as lts
+use Rattle.btf.proofs.get_field.Reads as get-field-reads
+use Rattle.names.proofs.attributes.emit_decl_tag.Reads as emit-decl-tag-reads
+
+abbrev Inv-loop : tie.InvT-loop
+Inv-loop b section work text₀ at id comp-idx p₀ last₀ tag₀ text p last tag = (length text ≡ length text₀) × (tag < 4294967296) × (last < 4294967296)
+
+abbrev μ-loop : tie.MeasureT-loop
+μ-loop b section work text₀ at id comp-idx p₀ last₀ tag₀ text p last tag = 4294967296 - last
+
+get-field-requires : tie.Need-get-field-requires Inv-loop μ-loop
+get-field-requires c κs = search needs
+
+loop-holds : tie.Need-loop-holds Inv-loop μ-loop
+loop-holds c = search needs
+
+emit-decl-tag-requires : tie.Need-emit-decl-tag-requires Inv-loop μ-loop
+emit-decl-tag-requires c κs = search needs
+
+get-field-requires-2 : tie.Need-get-field-requires-2 Inv-loop μ-loop
+get-field-requires-2 c κs = search needs
+
+loop-less : tie.Need-loop-less Inv-loop μ-loop
+loop-less c = omega arith
+
+loop-again : tie.Need-loop-again Inv-loop μ-loop
+loop-again c = search needs
+
+same-length : tie.Need-same-length Inv-loop μ-loop
+same-length c = search needs
+
+returns : tie.Need-returns Inv-loop μ-loop
+returns c = search needs
+
+pub emit-decl-tags-spec : {M : Type 1} → statement M
+emit-decl-tags-spec =
+    tie.close
+    (tie.spec
+    Inv-loop
+    μ-loop
+    get-field-requires
+    loop-holds
+    emit-decl-tag-requires
+    get-field-requires-2
+    loop-less
+    loop-again
+    same-length
+    returns)

@@ -1,0 +1,76 @@
+// Declaration tags and type tags.
+use btf::Btf;
+use btf::BtfType;
+use btf::comp_idx_of;
+use btf::get_btf_str;
+use btf::get_field;
+use btf::put_escaped;
+use btf::type_by_id;
+use lent::put_bytes;
+
+// What a tag prints: its name as an attribute of its own, or in the attribute `word`.
+pub fn put_attribute(
+    b: Btf,
+    section: &[u8],
+    text: &mut [u8],
+    at: usize,
+    is_attr: bool,
+    word: &[u8],
+    name_off: u32,
+) -> usize {
+    let a = put_bytes(text, at, b" __attribute__((");
+    let name = get_btf_str(b, section, name_off);
+    if is_attr {
+        let c = put_bytes(text, a, name);
+        return put_bytes(text, c, b"))");
+    }
+    let d = put_bytes(text, a, word);
+    let e = put_bytes(text, d, b"(\"");
+    let f = put_escaped(text, e, name);
+    put_bytes(text, f, b"\")))")
+}
+
+// The DECL_TAG id, if its component is the one asked for.
+fn emit_decl_tag(
+    b: Btf,
+    section: &[u8],
+    work: &[u8],
+    text: &mut [u8],
+    at: usize,
+    id: u32,
+    comp_idx: u32,
+) -> usize {
+    if comp_idx_of(b, section, get_field(work, id, 0)) != comp_idx {
+        return at;
+    }
+    match type_by_id(b, section, work, id) {
+        BtfType::DeclTag {
+            name_off,
+            type_id: _,
+            is_attr,
+        } => put_attribute(b, section, text, at, is_attr, b"btf_decl_tag", name_off),
+        _ => at,
+    }
+}
+
+// The tags of a type, those of the whole (4294967295, which is -1) or of one member, in the order of their ids. The list
+// of a type's tags rises; what does not rise was not left by opening, and ends it.
+pub fn emit_decl_tags(
+    b: Btf,
+    section: &[u8],
+    work: &[u8],
+    text: &mut [u8],
+    at: usize,
+    id: u32,
+    comp_idx: u32,
+) -> usize {
+    let mut p = at;
+    let mut last: u32 = 0;
+    let mut tag = get_field(work, id, 9);
+    while last < tag {
+        p = emit_decl_tag(b, section, work, text, p, tag, comp_idx);
+        last = tag;
+        tag = get_field(work, tag, 10);
+    }
+    p
+}

@@ -1,0 +1,55 @@
+use native.Mathlib.Omega.{arith}
+use borrow.Author.Needs.{needs}
+use mathlib.Core.Path.{_≡_}
+use lib.ListN.{length}
+use Rattle.opening.proofs.fill.fill_tags.Statement.{statement}
+use Rattle.opening.proofs.fill.fill_tags.Tie as tie
+use Rattle.opening.proofs.fill.fill_tags.Reads as reads
+use Rattle.opening.proofs.fill.fill_tags.Lts as lts
+use Rattle.opening.proofs.fill.fill_tag.Reads as fill-tag-reads
+use Rattle.opening.proofs.fill.place_of.Reads as place-of-reads
+
+abbrev Inv-loop : tie.InvT-loop
+Inv-loop b section start work₀ x₀ work x = length work ≡ length work₀
+
+abbrev μ-loop : tie.MeasureT-loop
+μ-loop b section start work₀ x₀ work x = x
+
+loop-holds : tie.Need-loop-holds Inv-loop μ-loop
+loop-holds c = search needs
+
+sub-x : tie.Need-sub-x Inv-loop μ-loop
+sub-x c = omega arith
+
+place-of-requires : tie.Need-place-of-requires Inv-loop μ-loop
+place-of-requires c κs = search needs
+
+fill-tag-requires : tie.Need-fill-tag-requires Inv-loop μ-loop
+fill-tag-requires c κs = search needs
+
+loop-less : tie.Need-loop-less Inv-loop μ-loop
+loop-less c = omega arith
+
+loop-again : tie.Need-loop-again Inv-loop μ-loop
+loop-again c = search needs
+
+same-length : tie.Need-same-length Inv-loop μ-loop
+same-length c = search needs
+
+returns : tie.Need-returns Inv-loop μ-loop
+returns c = search needs
+
+pub fill-tags-spec : {M : Type 1} → statement M
+fill-tags-spec =
+    tie.close
+    (tie.spec
+    Inv-loop
+    μ-loop
+    loop-holds
+    sub-x
+    place-of-requires
+    fill-tag-requires
+    loop-less
+    loop-again
+    same-length
+    returns)

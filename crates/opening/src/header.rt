@@ -1,0 +1,92 @@
+// The header, and causes 3 and 4.
+use lent::word_at;
+
+// struct btf_header from hdr_len on; offsets count from the header's end.
+pub struct Header {
+    pub hdr_len: u32,
+    pub type_off: u32,
+    pub type_len: u32,
+    pub str_off: u32,
+    pub str_len: u32,
+}
+
+pub fn btf_header(section: &[u8]) -> Header {
+    Header {
+        hdr_len: word_at(section, 4),
+        type_off: word_at(section, 8),
+        type_len: word_at(section, 12),
+        str_off: word_at(section, 16),
+        str_len: word_at(section, 20),
+    }
+}
+
+// The end of an area.
+fn area_end(h: Header, off: u32, len: u32) -> u64 {
+    (h.hdr_len as u64) + (off as u64) + (len as u64)
+}
+
+fn is_magic(section: &[u8]) -> bool {
+    if section.len() < 24 {
+        return false;
+    }
+    if section[0] != 0x9f {
+        return false;
+    }
+    if section[1] != 0xeb {
+        return false;
+    }
+    section[2] == 1
+}
+
+// Cause 3: too short, magic, version, header length, or an area past the end.
+pub fn has_bad_header(section: &[u8]) -> bool {
+    if !is_magic(section) {
+        return true;
+    }
+    let h = btf_header(section);
+    if h.hdr_len < 24 {
+        return true;
+    }
+    let len = section.len() as u64;
+    if len < area_end(h, h.type_off, h.type_len) {
+        return true;
+    }
+    len < area_end(h, h.str_off, h.str_len)
+}
+
+// Whether a byte of a part is over 127.
+fn is_some_over(s: &[u8]) -> bool {
+    let mut i = 0;
+    while i < s.len() {
+        if 127 < s[i] {
+            return true;
+        }
+        i += 1;
+    }
+    false
+}
+
+// Whether a string area is empty, does not start or end in 0, or has a byte over 127.
+fn is_bad_area(strs: &[u8]) -> bool {
+    if strs.len() == 0 {
+        return true;
+    }
+    if strs[0] != 0 {
+        return true;
+    }
+    if strs[strs.len() - 1] != 0 {
+        return true;
+    }
+    is_some_over(strs)
+}
+
+// Cause 4.
+pub fn has_bad_strings(section: &[u8]) -> bool {
+    let h = btf_header(section);
+    let from = (h.hdr_len as usize) + (h.str_off as usize);
+    let to = from + (h.str_len as usize);
+    if section.len() < to {
+        return true;
+    }
+    is_bad_area(&section[from..to])
+}

@@ -1,0 +1,234 @@
+// The order of definitions: the rules of order_type. Order states and the order list stand in the work words.
+use btf::Btf;
+use btf::Entries;
+use btf::Node;
+use btf::get_field;
+use btf::is_named;
+use btf::member_place;
+use btf::node_by_id;
+use btf::param_place;
+use btf::put_field;
+use btf::type_by_id;
+use btf::word;
+
+// What ordering has come to: whether the last way was strong, the length of the order list, and the refusal that stopped
+// it, 0 while there is none.
+pub struct Order {
+    pub is_strong: bool,
+    pub len: u32,
+    pub stop: u32,
+}
+
+fn get_order_state(work: &[u8], id: u32) -> u32 {
+    get_field(work, id, 1)
+}
+
+fn set_order_state(work: &mut [u8], id: u32, state: u32) {
+    put_field(work, id, 1, state)
+}
+
+// The id at a place of the order list.
+pub fn get_listed(work: &[u8], k: u32) -> u32 {
+    get_field(work, k, 11)
+}
+
+// Empties a place of the order list.
+pub fn clear_listed(work: &mut [u8], k: u32) {
+    put_field(work, k, 11, 0)
+}
+
+// One more, unless it is the largest.
+fn more(n: u32) -> u32 {
+    if n < 4294967295 { n + 1 } else { n }
+}
+
+fn strong(o: Order, is_strong: bool) -> Order {
+    Order {
+        is_strong: is_strong,
+        len: o.len,
+        stop: o.stop,
+    }
+}
+
+fn refused(o: Order, c: u32) -> Order {
+    Order {
+        is_strong: false,
+        len: o.len,
+        stop: c,
+    }
+}
+
+// Puts an id at the end of the order list.
+fn push(work: &mut [u8], o: Order, id: u32) -> Order {
+    put_field(work, o.len, 11, id);
+    Order {
+        is_strong: o.is_strong,
+        len: more(o.len),
+        stop: o.stop,
+    }
+}
+
+// The id is ordered, and listed if `lists` says so.
+fn finish(work: &mut [u8], o: Order, id: u32, lists: bool, is_strong: bool) -> Order {
+    if o.stop != 0 {
+        return o;
+    }
+    set_order_state(work, id, 2);
+    if lists {
+        return strong(push(work, o, id), is_strong);
+    }
+    strong(o, is_strong)
+}
+
+// The typedef id, after its target. It may have been listed on the way to its target: then it is not listed again, since
+// a second listing prints nothing.
+fn finish_typedef(work: &mut [u8], o: Order, id: u32, has_ptr: bool) -> Order {
+    if o.stop != 0 {
+        return o;
+    }
+    if has_ptr {
+        if !o.is_strong {
+            return o;
+        }
+    }
+    let was_ordered = get_order_state(work, id) == 2;
+    finish(work, o, id, !was_ordered, true)
+}
+
+// An id in progress: a named composite behind a pointer is passed over, anything else is a cycle.
+fn meet(b: Btf, section: &[u8], work: &[u8], o: Order, id: u32, has_ptr: bool) -> Order {
+    let t = type_by_id(b, section, work, id);
+    if has_ptr {
+        if is_named(b, section, t) {
+            if let Node::Composite(_) = node_by_id(b, section, work, id) {
+                return strong(o, false);
+            }
+        }
+    }
+    refused(o, 13)
+}
+
+pub fn order_type(
+    b: Btf,
+    section: &[u8],
+    work: &mut [u8],
+    o: Order,
+    id: u32,
+    has_ptr: bool,
+    left: u32,
+) -> Order {
+    if o.stop != 0 {
+        return o;
+    }
+    if left == 0 {
+        return refused(o, 12);
+    }
+    let state = get_order_state(work, id);
+    if state == 2 {
+        return strong(o, true);
+    }
+    if state == 1 {
+        return meet(b, section, work, o, id, has_ptr);
+    }
+    order_new(b, section, work, o, id, has_ptr, left - 1)
+}
+
+// An id that is not ordered yet.
+fn order_new(
+    b: Btf,
+    section: &[u8],
+    work: &mut [u8],
+    o: Order,
+    id: u32,
+    has_ptr: bool,
+    left: u32,
+) -> Order {
+    match node_by_id(b, section, work, id) {
+        Node::Ignored => strong(o, false),
+        Node::Plain => finish(work, o, id, false, false),
+        Node::Listed(_) => {
+            let named = is_named(b, section, type_by_id(b, section, work, id));
+            finish(work, o, id, named, true)
+        }
+        Node::Through(t) => order_type(b, section, work, o, t, has_ptr, left),
+        Node::Ptr(t) => {
+            let r = order_type(b, section, work, o, t, true, left);
+            finish(work, r, id, false, r.is_strong)
+        }
+        Node::Typedef(t) => {
+            let r = order_type(b, section, work, o, t, has_ptr, left);
+            finish_typedef(work, r, id, has_ptr)
+        }
+        Node::Proto(res, params) => {
+            let r = order_type(b, section, work, o, res, has_ptr, left);
+            order_params(b, section, work, r, params, has_ptr, left)
+        }
+        Node::Composite(members) => {
+            order_composite(b, section, work, o, id, has_ptr, members, left)
+        }
+    }
+}
+
+// A composite: passed over if it is named and behind a pointer, else its members, each a strong way, and then itself.
+fn order_composite(
+    b: Btf,
+    section: &[u8],
+    work: &mut [u8],
+    o: Order,
+    id: u32,
+    has_ptr: bool,
+    members: Entries,
+    left: u32,
+) -> Order {
+    let named = is_named(b, section, type_by_id(b, section, work, id));
+    if has_ptr {
+        if named {
+            return strong(o, false);
+        }
+    }
+    set_order_state(work, id, 1);
+    let r = order_members(b, section, work, o, members, left);
+    finish(work, r, id, named, true)
+}
+
+// The parameters of a prototype; the way is strong if one of them was, or what came before.
+fn order_params(
+    b: Btf,
+    section: &[u8],
+    work: &mut [u8],
+    o: Order,
+    params: Entries,
+    has_ptr: bool,
+    left: u32,
+) -> Order {
+    let vlen = params.vlen;
+    let mut r = o;
+    let mut k: u32 = 0;
+    while k < vlen {
+        let before = r.is_strong;
+        let t = word(b, section, param_place(params, k) + 4);
+        let p = order_type(b, section, work, r, t, has_ptr, left);
+        r = strong(p, before | p.is_strong);
+        k += 1;
+    }
+    r
+}
+
+fn order_members(
+    b: Btf,
+    section: &[u8],
+    work: &mut [u8],
+    o: Order,
+    members: Entries,
+    left: u32,
+) -> Order {
+    let vlen = members.vlen;
+    let mut r = o;
+    let mut k: u32 = 0;
+    while k < vlen {
+        let t = word(b, section, member_place(members, k) + 4);
+        r = order_type(b, section, work, r, t, false, left);
+        k += 1;
+    }
+    r
+}

@@ -1,0 +1,46 @@
+// What the program does with a section: every id, pointer size 8, unions under their own word.
+use lent::put_bytes;
+use lent::put_decimal;
+use session::Answer;
+use session::Session;
+use session::dump_types_core;
+use session::open_core;
+
+fn closed() -> Session {
+    Session {
+        open: false,
+        section_len: 0,
+        work_len: 0,
+        types: 0,
+        enumerators: 0,
+        text_len: 0,
+        pointer_size: 0,
+        modes: 0,
+    }
+}
+
+// The line that a refusal prints: how long it is, at the start of the text.
+fn put_refused(text: &mut [u8], number: u32) -> usize {
+    let a = put_bytes(text, 0, b"refused ");
+    let c = put_decimal(text, a, number as u64);
+    put_bytes(text, c, b"\n")
+}
+
+// Leaves what is printed at the start of the text: how long it is.
+pub fn run(section: &[u8], work: &mut [u8], text: &mut [u8]) -> usize {
+    let opened = open_core(closed(), section, work, text, 8, 0);
+    let answer = opened.answer;
+    match answer {
+        Answer::Refused(number, _) => put_refused(text, number),
+        Answer::Accepted(_) => run_all(opened.session, section, work, text),
+    }
+}
+
+fn run_all(s: Session, section: &[u8], work: &mut [u8], text: &mut [u8]) -> usize {
+    let turn = dump_types_core(s, section, work, text);
+    let answer = turn.answer;
+    match answer {
+        Answer::Refused(number, _) => put_refused(text, number),
+        Answer::Accepted(len) => len as usize,
+    }
+}

@@ -1,0 +1,4 @@
+pub mod Entry
+pub mod Lent
+pub mod Numbers
+pub mod Turning

@@ -1,0 +1,62 @@
+// Sessions: opening, one request and the request for all ids. The session record is lent by `&mut`; the work is done by
+// value, in the functions of `turns`.
+mod turns;
+
+pub use turns::dump_type_core;
+pub use turns::dump_types_core;
+pub use turns::open_core;
+
+// The lengths are those at opening; text_len is the length of the text so far. Bit 0 of modes is union_as_struct.
+pub struct Session {
+    pub open: bool,
+    pub section_len: u64,
+    pub work_len: u64,
+    pub types: u32,
+    pub enumerators: u32,
+    pub text_len: u32,
+    pub pointer_size: u32,
+    pub modes: u32,
+}
+
+// Accepted: the value. Refused: the number and the value.
+pub enum Answer {
+    Accepted(u32),
+    Refused(u32, u32),
+}
+
+// What a call comes to: the session after it, and the answer.
+pub struct Turn {
+    pub session: Session,
+    pub answer: Answer,
+}
+
+pub fn open(
+    s: &mut Session,
+    section: &[u8],
+    work: &mut [u8],
+    text: &mut [u8],
+    pointer_size: u32,
+    modes: u32,
+) -> Answer {
+    let turn = open_core(*s, section, work, text, pointer_size, modes);
+    *s = turn.session;
+    turn.answer
+}
+
+pub fn dump_type(
+    s: &mut Session,
+    section: &[u8],
+    work: &mut [u8],
+    text: &mut [u8],
+    id: u32,
+) -> Answer {
+    let turn = dump_type_core(*s, section, work, text, id);
+    *s = turn.session;
+    turn.answer
+}
+
+pub fn dump_types(s: &mut Session, section: &[u8], work: &mut [u8], text: &mut [u8]) -> Answer {
+    let turn = dump_types_core(*s, section, work, text);
+    *s = turn.session;
+    turn.answer
+}

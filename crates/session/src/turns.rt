@@ -1,0 +1,199 @@
+// The calls of a session by value.
+use crate::Answer;
+use crate::Session;
+use crate::Turn;
+use btf::Btf;
+use lent::clear;
+use opening::Opening;
+use opening::btf_of;
+ghost use Prim.Native.Nat.{_≤_};
+
+// Where the requests of a call have come to: the length of the accepted text, and the refusal that ended them, or 0.
+struct Reached {
+    len: u32,
+    number: u32,
+}
+
+fn refused(s: Session, number: u32, value: u32) -> Turn {
+    Turn {
+        session: s,
+        answer: Answer::Refused(number, value),
+    }
+}
+
+pub fn open_core(
+    s: Session,
+    section: &[u8],
+    work: &mut [u8],
+    text: &mut [u8],
+    pointer_size: u32,
+    modes: u32,
+) -> Turn {
+    let section_len = section.len() as u64;
+    let work_len = work.len() as u64;
+    match opening::open(section, pointer_size, modes, work, text) {
+        Opening::Refused(c) => refused(s, c, 0),
+        Opening::Sound(types, enumerators) => Turn {
+            session: Session {
+                open: true,
+                section_len: section_len,
+                work_len: work_len,
+                types: types,
+                enumerators: enumerators,
+                text_len: 0,
+                pointer_size: pointer_size,
+                modes: modes % 2,
+            },
+            answer: Answer::Accepted(types),
+        },
+    }
+}
+
+// Cause 11 does not hold.
+fn is_current(s: Session, section_len: usize, work_len: usize, text_len: usize) -> bool {
+    if !s.open {
+        return false;
+    }
+    if s.section_len != section_len as u64 {
+        return false;
+    }
+    if s.work_len != work_len as u64 {
+        return false;
+    }
+    (s.text_len as usize) <= text_len
+}
+
+// How far a text slice may be written after its first bytes: 1,073,741,824 bytes at most.
+fn limit(text_len: usize, from: usize) -> usize
+    requires { ⌜ from ≤ «text_len» ⌝ }
+    ensures { λ r. ⌜ (from ≤ r) × (r ≤ «text_len») ⌝ }
+{
+    if text_len <= 1073741824 {
+        return text_len;
+    }
+    if from <= 1073741824 { 1073741824 } else { from }
+}
+
+// The session after its requests, open or closed.
+fn with_text(s: Session, open: bool, len: u32) -> Session {
+    Session {
+        open: open,
+        section_len: s.section_len,
+        work_len: s.work_len,
+        types: s.types,
+        enumerators: s.enumerators,
+        text_len: len,
+        pointer_size: s.pointer_size,
+        modes: s.modes,
+    }
+}
+
+// The sum, or the largest number.
+fn plus(x: u32, y: u32) -> u32 {
+    if y <= 4294967295 - x {
+        x + y
+    } else {
+        4294967295
+    }
+}
+
+// What a place in a slice of so many bytes says, after a text of len bytes: the new length, or a refusal.
+fn arrived(len: u32, room: usize, at: usize) -> Reached {
+    if at <= room {
+        return Reached {
+            len: plus(len, (at % 4294967296) as u32),
+            number: 0,
+        };
+    }
+    Reached {
+        len: len,
+        number: ((at - room - 1) % 4294967296) as u32,
+    }
+}
+
+// One id, after a text of len bytes: it is lent only what follows that text.
+fn dump_one(
+    b: Btf,
+    section: &[u8],
+    work: &mut [u8],
+    text: &mut [u8],
+    len: u32,
+    id: u32,
+) -> Reached {
+    let from = len as usize;
+    if text.len() < from {
+        return Reached {
+            len: len,
+            number: 17,
+        };
+    }
+    let to = limit(text.len(), from);
+    let at = emit::dump_type(b, section, work, &mut text[from..to], 0, id);
+    arrived(len, to - from, at)
+}
+
+// Every id from 1 upward, to the first that is refused.
+fn dump_all(b: Btf, section: &[u8], work: &mut [u8], text: &mut [u8], len: u32) -> Reached {
+    let n = b.types;
+    let mut r = Reached {
+        len: len,
+        number: 0,
+    };
+    let mut id: u32 = 1;
+    while id < n {
+        r = dump_one(b, section, work, text, r.len, id);
+        if r.number != 0 {
+            return r;
+        }
+        id += 1;
+    }
+    r
+}
+
+// Zeroes what follows the first n bytes.
+fn clear_from(text: &mut [u8], n: u32) {
+    let from = n as usize;
+    if from <= text.len() {
+        clear(&mut text[from..]);
+    }
+}
+
+// The end of a call: what follows the text is zero; after a refusal so is the work, and the session is closed.
+fn settle(s: Session, work: &mut [u8], text: &mut [u8], r: Reached) -> Turn {
+    clear_from(text, r.len);
+    if r.number == 0 {
+        return Turn {
+            session: with_text(s, true, r.len),
+            answer: Answer::Accepted(r.len),
+        };
+    }
+    clear(work);
+    refused(with_text(s, false, r.len), r.number, r.len)
+}
+
+pub fn dump_type_core(
+    s: Session,
+    section: &[u8],
+    work: &mut [u8],
+    text: &mut [u8],
+    id: u32,
+) -> Turn {
+    if !is_current(s, section.len(), work.len(), text.len()) {
+        return refused(s, 11, s.text_len);
+    }
+    if s.types <= id {
+        return refused(s, 10, s.text_len);
+    }
+    let b = btf_of(section, s.pointer_size, s.modes, s.types);
+    let r = dump_one(b, section, work, text, s.text_len, id);
+    settle(s, work, text, r)
+}
+
+pub fn dump_types_core(s: Session, section: &[u8], work: &mut [u8], text: &mut [u8]) -> Turn {
+    if !is_current(s, section.len(), work.len(), text.len()) {
+        return refused(s, 11, s.text_len);
+    }
+    let b = btf_of(section, s.pointer_size, s.modes, s.types);
+    let r = dump_all(b, section, work, text, s.text_len);
+    settle(s, work, text, r)
+}

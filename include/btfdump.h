@@ -1,0 +1,123 @@
+/*
+ * btfdump: writes the C header of a type table (BTF).
+ *
+ * A session is opened on one section and then asked for types, one by one or
+ * all at once; the text grows with each request. Nothing is allocated: the
+ * caller lends four pieces of memory and keeps them between calls.
+ *
+ *   record    BTFDUMP_RECORD_SIZE bytes. Holds the session between calls.
+ *             Opening writes it whole; its content before that does not matter.
+ *   section   the raw .BTF section, only read. Every call of a session gets
+ *             the same bytes as the opening.
+ *   work      BTFDUMP_WORK_SIZE(types, enumerators) bytes or more. Every call
+ *             gets the same bytes, with the same length, as the last one left.
+ *   text      where the header is written. It may be longer or shorter at each
+ *             call, or stand elsewhere, as long as it begins with the text so far.
+ *
+ * The four must not overlap, and must stay valid for the time of the call.
+ * A pointer to no bytes may be NULL. Nothing else is read or written.
+ *
+ * Stack: opening keeps index and marks on the stack, see BTFDUMP_STACK_SIZE.
+ * A thread with a smaller stack needs pthread_attr_setstacksize.
+ *
+ * The library keeps no state of its own: calls on different memory may run at
+ * the same time.
+ */
+#ifndef BTFDUMP_H
+#define BTFDUMP_H
+
+#include <stddef.h>
+#include <stdint.h>
+
+#ifdef __cplusplus
+extern "C" {
+#endif
+
+/* bytes of a session record */
+#define BTFDUMP_RECORD_SIZE 128
+
+/* bytes of work for a table of so many types, void counted, and enumerators */
+#define BTFDUMP_WORK_SIZE(types, enumerators) \
+	(4 * (16 * (size_t)(types) + 8 * (size_t)(enumerators) + 4096))
+
+/* stack that any call may need, in bytes */
+#define BTFDUMP_STACK_SIZE (8u << 20)
+
+/* the longest section that opening takes, and the longest text */
+#define BTFDUMP_MAX_SECTION 16777216u
+#define BTFDUMP_MAX_TEXT 1073741824u
+/* the most types of a table, void counted */
+#define BTFDUMP_MAX_TYPES 262145u
+
+/* modes, chosen at opening; other bits are ignored */
+#define BTFDUMP_UNION_AS_STRUCT 1u /* a union's word is "struct" and a comment that says union */
+
+/* What a call answers: a number and a value, in the upper and the lower half. */
+typedef uint64_t btfdump_answer;
+
+static inline uint32_t btfdump_number(btfdump_answer a) { return (uint32_t)(a >> 32); }
+static inline uint32_t btfdump_value(btfdump_answer a) { return (uint32_t)a; }
+
+/* The numbers. */
+enum btfdump_number {
+	BTFDUMP_OK = 0,
+	/* opening; value 0, and all memory is as it was */
+	BTFDUMP_POINTER_SIZE = 1,    /* the pointer size is neither 4 nor 8 */
+	BTFDUMP_SECTION_TOO_LONG = 2, /* the section is over 16,777,216 bytes */
+	BTFDUMP_HEADER = 3,          /* header short or wrong, or an area past the end */
+	BTFDUMP_STRINGS = 4,         /* string area empty, not starting or ending in 0, or not ASCII */
+	BTFDUMP_RECORD = 5,          /* a record malformed or past its area, a name outside, too many records */
+	BTFDUMP_REFERENCE = 6,       /* a type refers past the table, or to a function, variable, section or tag */
+	BTFDUMP_FUNCTION_VALUE = 7,  /* a member or an array element is a function prototype */
+	BTFDUMP_LOOP = 8,            /* pointers, arrays, qualifiers, typedefs, prototypes form a loop */
+	BTFDUMP_WORK_TOO_SHORT = 9,  /* the work memory is too short */
+	/* requests; value: the text length before the request. 10 and 11 change nothing */
+	BTFDUMP_NO_SUCH_ID = 10,     /* the id is not below the count of types */
+	BTFDUMP_NOT_OPEN = 11,       /* no open session, or other lengths than at opening, or the text is cut short */
+	/* after these the session is closed, the work zero, the text as long as before and zero after that */
+	BTFDUMP_TOO_DEEP = 12,       /* more than 512 nested calls, or entries of a declarator */
+	BTFDUMP_CYCLE = 13,          /* a struct or union contains itself */
+	BTFDUMP_NAMELESS = 14,       /* a typedef with no name is to be defined */
+	BTFDUMP_ALIGN_ZERO = 15,     /* the packed test meets a type with alignment 0 */
+	BTFDUMP_OVERFLOW = 16,       /* a size or an offset does not fit 32 bits */
+	BTFDUMP_TEXT_FULL = 17,      /* the text slice, or 1,073,741,824 bytes, is full */
+	/* opening only; nothing is touched */
+	BTFDUMP_RECORD_TOO_SHORT = 255 /* record_len is under BTFDUMP_RECORD_SIZE (requests: BTFDUMP_NOT_OPEN) */
+};
+
+/*
+ * Opens a session on a section. On success the value is the count of types,
+ * void counted, and the whole text slice is zero. A refused opening leaves
+ * everything as it was, an open session in the record too.
+ */
+btfdump_answer btfdump_open(uint8_t *record, size_t record_len,
+			    const uint8_t *section, size_t section_len,
+			    uint32_t pointer_size, uint32_t modes,
+			    uint8_t *work, size_t work_len,
+			    uint8_t *text, size_t text_len);
+
+/*
+ * Writes the definition of type `id` and of all that must stand before it,
+ * as far as they are not written yet. On success the value is the new length
+ * of the text; all bytes of the slice past it are zero.
+ */
+btfdump_answer btfdump_dump_type(uint8_t *record, size_t record_len,
+				 const uint8_t *section, size_t section_len,
+				 uint8_t *work, size_t work_len,
+				 uint8_t *text, size_t text_len,
+				 uint32_t id);
+
+/*
+ * The same for every id from 1 upward. Where one is refused, the text of those
+ * before it stays, and the value is its length.
+ */
+btfdump_answer btfdump_dump_types(uint8_t *record, size_t record_len,
+				  const uint8_t *section, size_t section_len,
+				  uint8_t *work, size_t work_len,
+				  uint8_t *text, size_t text_len);
+
+#ifdef __cplusplus
+}
+#endif
+
+#endif

@@ -1,0 +1,96 @@
+#!/bin/bash
+# The tests outside the language, on the static library that is built: run.sh
+# Each prints one line; any failure ends the script with a status that is not 0.
+set -euo pipefail
+cd "$(dirname "$0")/.."
+
+library=target/staticlib/libbtfdump_c.a
+[ -f "$library" ] || { echo "run.sh: build $library first: rt staticlib btfdump_c" >&2; exit 1; }
+out=build/tests
+mkdir -p "$out"
+
+compile() { # NAME SOURCE FLAG ..
+	local name=$1 source=$2
+	shift 2
+	gcc -std=c11 -O2 -g -Wall -Wextra -Werror "$@" -Iinclude "$source" "$library" -lpthread -o "$out/$name"
+}
+compile replay tests/replay.c
+compile limits tests/limits.c
+compile guard tests/guard.c
+compile btfheader tools/btfheader.c
+
+# the example of the README, on the sample section
+sed -n '/^```c$/,/^```$/p' README.md | sed '/^```/d' >"$out/readme.c"
+compile readme "$out/readme.c"
+"$out/readme" <tests/sample/node.btf | cmp - tests/sample/node.h
+echo "README: its example prints the sample"
+
+python3 tests/traps.py --check
+
+shopt -s nullglob
+files=(tests/*.cases oracle/*.cases)
+say() { # LABEL COMMAND ..
+	local line
+	line=$("${@:2}") || { echo "$line" >&2; exit 1; }
+	echo "$1: $line"
+}
+for file in "${files[@]}"; do
+	say "$file" "$out/replay" "$file"
+done
+"$out/limits"
+"$out/guard" 20000 1 "${files[@]}"
+if command -v valgrind >/dev/null; then
+	say valgrind valgrind -q --error-exitcode=1 "$out/guard" 300 1 tests/traps.cases
+fi
+
+# btfheader: prints, of a file, of standard input, of ids, and refuses with a status and words.
+header() { # WHAT STATUS EXPECTED-TEXT ARGUMENT ..
+	local what=$1 status=$2 expected=$3 got=0
+	shift 3
+	"$out/$program" "$@" >"$out/header.txt" 2>"$out/header.err" || got=$?
+	if [ "$got" != "$status" ] || ! cmp -s "$out/header.txt" "$expected" ||
+		{ [ "$status" != 0 ] && ! [ -s "$out/header.err" ]; }; then
+		echo "$program: $what: status $got, expected $status" >&2
+		cat "$out/header.err" >&2
+		exit 1
+	fi
+}
+node=tests/sample/node.btf text=tests/sample/node.h
+printf 'struct node {\n\tstruct node *next;\n\tint: 32;\n\tint v;\n};\n\n' >"$out/narrow.h"
+# a section of 100 bytes with 3 MB of text: pads before a far member
+PYTHONPATH=tests python3 -B - "$out" <<'END'
+import sys
+from sections import Table
+t = Table()
+t.int()
+t.struct("S", 2097160, ("b", 1, 16777248))
+open(sys.argv[1] + "/far.btf", "wb").write(t.section())
+pads = "\tlong: 32;\n" + "\tlong: 64;\n" * 262144
+open(sys.argv[1] + "/far.h", "w").write("struct S {\n" + pads + "\tint b;\n};\n\n")
+END
+programs=(btfheader)
+if echo 'int main(void){return 0;}' | gcc -xc -fsanitize=address,undefined - -o "$out/probe" 2>/dev/null; then
+	compile btfheader_sanitized tools/btfheader.c -fsanitize=address,undefined -fno-sanitize-recover=all
+	programs+=(btfheader_sanitized)
+fi
+for program in "${programs[@]}"; do
+	header "a file" 0 "$text" "$node"
+	header "standard input" 0 "$text" - <"$node"
+	header "standard input by default" 0 "$text" --union-as-struct <"$node"
+	header "a pointer of 4 bytes" 0 "$out/narrow.h" -p 4 "$node"
+	header "a long text" 0 "$out/far.h" "$out/far.btf"
+	header "a long text, by id" 0 "$out/far.h" "$out/far.btf" 2
+	header "one id" 0 "$text" "$node" 2
+	header "ids, one of them twice" 0 "$text" "$node" 1 2 3 2
+	header "an id without text" 0 /dev/null "$node" 1
+	header "no such id, after a text" 1 "$text" "$node" 2 4
+	header "no section" 1 /dev/null /dev/null
+	header "pointer size 5" 1 /dev/null -p 5 "$node"
+	header "a long input" 1 /dev/null /dev/zero
+	header "an ELF file" 1 /dev/null "$out/guard"
+	header "no file" 2 /dev/null "$out/none"
+	header "no number" 2 /dev/null "$node" 1x
+	header "an unknown option" 2 /dev/null -x
+done
+"$out/btfheader" --help | grep -q usage
+echo "btfheader: 18 uses, ${programs[*]}"
