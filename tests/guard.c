@@ -320,14 +320,9 @@ static void alter(void)
 	} else if (what == 3) {
 		damage(&section, 1 + below(8));
 	} else if (what == 4 && record.length >= BTFDUMP_RECORD_SIZE) {
-		int word = 3 + (int)below(5);
-
-		/* all ids takes a step for each type that the record counts: not 2^32 of them */
-		put_word(record.bytes, word, word == 3 ? odd_number() % (1u << 16) : odd_number());
+		put_word(record.bytes, 3 + (int)below(5), odd_number());
 	} else if (what == 5) {
 		damage(&record, 1 + below(8));
-		if (record.length >= 32)
-			record.bytes[26] = record.bytes[27] = 0; /* the count again */
 	} else if (what == 6) {
 		lend_last(&text, below(3000));
 	} else if (what == 7 && below(4) == 0) {
