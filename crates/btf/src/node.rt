@@ -2,7 +2,9 @@
 use crate::types::Btf;
 use crate::types::BtfType;
 use crate::types::Entries;
-use crate::types::type_by_id;
+use crate::types::array_type;
+use crate::types::entries_of;
+use crate::types::kind_of;
 
 // Listed: an enum, or, with true, a forward. Through: an array, a qualifier, a type tag.
 pub enum Node {
@@ -16,52 +18,17 @@ pub enum Node {
     Composite(Entries),
 }
 
-pub fn node_by_id(b: Btf, section: &[u8], work: &[u8], id: u32) -> Node {
-    match type_by_id(b, section, work, id) {
-        BtfType::Void => Node::Plain,
-        BtfType::Int {
-            name_off: _,
-            bits: _,
-        } => Node::Plain,
-        BtfType::Ptr(t) => Node::Ptr(t),
-        BtfType::Array {
-            val_type_id,
-            nelems: _,
-        } => Node::Through(val_type_id),
-        BtfType::Composite(t) => {
-            let members = t.members;
-            Node::Composite(members)
-        }
-        BtfType::Enum(_) => Node::Listed(false),
-        BtfType::Fwd {
-            name_off: _,
-            is_union: _,
-        } => Node::Listed(true),
-        BtfType::Typedef {
-            name_off: _,
-            type_id,
-        } => Node::Typedef(type_id),
-        BtfType::Volatile(t) => Node::Through(t),
-        BtfType::Const(t) => Node::Through(t),
-        BtfType::Restrict(t) => Node::Through(t),
-        BtfType::Func(_) => Node::Ignored,
-        BtfType::FuncProto {
-            res_type_id,
-            params,
-        } => Node::Proto(res_type_id, params),
-        BtfType::Var(_) => Node::Ignored,
-        BtfType::Datasec(_) => Node::Ignored,
-        BtfType::Float { name_off: _, sz: _ } => Node::Plain,
-        BtfType::DeclTag {
-            name_off: _,
-            type_id: _,
-            is_attr: _,
-        } => Node::Ignored,
-        BtfType::TypeTag {
-            name_off: _,
-            type_id,
-            is_attr: _,
-        } => Node::Through(type_id),
-        BtfType::Enum64(_) => Node::Listed(false),
+pub fn node_of(b: Btf, section: &[u8], t: BtfType) -> Node {
+    match kind_of(t.info) {
+        2 => Node::Ptr(t.type_id),
+        3 => Node::Through(array_type(b, section, t)),
+        4 | 5 => Node::Composite(entries_of(t)),
+        6 | 19 => Node::Listed(false),
+        7 => Node::Listed(true),
+        8 => Node::Typedef(t.type_id),
+        9..=11 | 18 => Node::Through(t.type_id),
+        12 | 14 | 15 | 17 => Node::Ignored,
+        13 => Node::Proto(t.type_id, entries_of(t)),
+        _ => Node::Plain,
     }
 }

@@ -35,6 +35,28 @@ pub fn get_btf_str(b: Btf, section: &[u8], off: u32) -> &[u8] {
     &section[at..e]
 }
 
+// Writes the name at an offset, in one pass.
+pub fn put_str(b: Btf, section: &[u8], text: &mut [u8], at: usize, off: u32) -> usize {
+    if text.len() < at {
+        return at;
+    }
+    let mut p = at;
+    let mut i = name_place(b, off);
+    while i < section.len() {
+        let c = section[i];
+        if c == 0 {
+            return p;
+        }
+        if text.len() <= p {
+            return text.len() + 18;
+        }
+        text[p] = c;
+        p += 1;
+        i += 1;
+    }
+    p
+}
+
 pub fn is_empty(b: Btf, section: &[u8], off: u32) -> bool {
     let at = name_place(b, off);
     if at < section.len() {
@@ -62,8 +84,12 @@ fn stands_at(s: &[u8], at: usize, w: &[u8]) -> bool {
 }
 
 fn contains(s: &[u8], w: &[u8]) -> bool {
+    if s.len() < w.len() {
+        return false;
+    }
+    let last = s.len() - w.len();
     let mut i = 0;
-    while i < s.len() {
+    while i <= last {
         if stands_at(s, i, w) {
             return true;
         }

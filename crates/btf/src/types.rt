@@ -1,6 +1,8 @@
 // Records of the type area, as the Linux documentation lays them out. A record is named by its place in the section.
 use crate::cells::get_field;
 use crate::strings::is_empty;
+use lent::Three;
+use lent::three_at;
 use lent::word_at;
 ghost use mathlib.Core.Path.{_≡_};
 ghost use Rattle.btf.specs.Records.{sectionWord, vlenOf, kindOf, flagOf, memberAt, paramAt};
@@ -27,68 +29,12 @@ pub struct BtfMember {
     pub bit_size: u32,
 }
 
-// kind_flag: the members' offsets hold the sizes of bit fields too.
-pub struct BtfComposite {
-    pub is_struct: bool,
+// struct btf_type and the place where it stands; type_id is the size of kinds that have one. Void is all zeros.
+pub struct BtfType {
+    pub at: u32,
     pub name_off: u32,
-    pub sz: u32,
-    pub kind_flag: bool,
-    pub members: Entries,
-}
-
-pub struct BtfEnum {
-    pub name_off: u32,
-    pub sz: u32,
-    pub signed: bool,
-    pub values: Entries,
-}
-
-pub enum BtfType {
-    Void,
-    Int {
-        name_off: u32,
-        bits: u32,
-    },
-    Ptr(u32),
-    Array {
-        val_type_id: u32,
-        nelems: u32,
-    },
-    Composite(BtfComposite),
-    Enum(BtfEnum),
-    Fwd {
-        name_off: u32,
-        is_union: bool,
-    },
-    Typedef {
-        name_off: u32,
-        type_id: u32,
-    },
-    Volatile(u32),
-    Const(u32),
-    Restrict(u32),
-    Func(u32),
-    FuncProto {
-        res_type_id: u32,
-        params: Entries,
-    },
-    Var(u32),
-    Datasec(u32),
-    Float {
-        name_off: u32,
-        sz: u32,
-    },
-    DeclTag {
-        name_off: u32,
-        type_id: u32,
-        is_attr: bool,
-    },
-    TypeTag {
-        name_off: u32,
-        type_id: u32,
-        is_attr: bool,
-    },
-    Enum64(BtfEnum),
+    pub info: u32,
+    pub type_id: u32,
 }
 
 // How many bytes follow the twelve of a record.
@@ -97,11 +43,16 @@ pub enum Extra {
     Refused,
 }
 
-// The word of the section at a place. Every word of a section is read here.
+// The word of the section at a place. Every word of a section is read by this function or by `three`.
 pub fn word(b: Btf, section: &[u8], at: usize) -> u32
     ensures { λ r. ⌜ r ≡ sectionWord b (now (section .entry)) at ⌝ }
 {
     word_at(section, at)
+}
+
+// Three words of the section from a place on.
+fn three(b: Btf, section: &[u8], at: usize) -> Three {
+    three_at(section, at)
 }
 
 // btf_type.info: bits 0-15 vlen, 24-28 kind, 31 kind_flag.
@@ -117,7 +68,7 @@ pub fn kind_of(info: u32) -> u32
     info / 16777216 % 32
 }
 
-fn kind_flag_of(info: u32) -> bool
+pub fn kind_flag_of(info: u32) -> bool
     ensures { λ r. ⌜ r ≡ flagOf info ⌝ }
 {
     2147483648 <= info
@@ -138,90 +89,43 @@ pub fn extra_of(kind: u32, vlen: u32) -> Extra {
 
 // The record at a place.
 pub fn load_type(b: Btf, section: &[u8], at: u32) -> BtfType {
-    let p = at as usize;
-    let name_off = word(b, section, p);
-    let info = word(b, section, p + 4);
-    let type_id = word(b, section, p + 8);
-    let entries = Entries {
+    let w = three(b, section, at as usize);
+    BtfType {
         at: at,
-        vlen: vlen_of(info),
-    };
-    match kind_of(info) {
-        1 => BtfType::Int {
-            name_off: name_off,
-            bits: word(b, section, p + 12) % 256,
-        },
-        2 => BtfType::Ptr(type_id),
-        3 => BtfType::Array {
-            val_type_id: word(b, section, p + 12),
-            nelems: word(b, section, p + 20),
-        },
-        4 => load_composite(name_off, info, type_id, entries, true),
-        5 => load_composite(name_off, info, type_id, entries, false),
-        6 => BtfType::Enum(load_enum(name_off, info, type_id, entries)),
-        7 => BtfType::Fwd {
-            name_off: name_off,
-            is_union: kind_flag_of(info),
-        },
-        8 => BtfType::Typedef {
-            name_off: name_off,
-            type_id: type_id,
-        },
-        9 => BtfType::Volatile(type_id),
-        10 => BtfType::Const(type_id),
-        11 => BtfType::Restrict(type_id),
-        12 => BtfType::Func(name_off),
-        13 => BtfType::FuncProto {
-            res_type_id: type_id,
-            params: entries,
-        },
-        14 => BtfType::Var(name_off),
-        15 => BtfType::Datasec(name_off),
-        16 => BtfType::Float {
-            name_off: name_off,
-            sz: type_id,
-        },
-        17 => BtfType::DeclTag {
-            name_off: name_off,
-            type_id: type_id,
-            is_attr: kind_flag_of(info),
-        },
-        18 => BtfType::TypeTag {
-            name_off: name_off,
-            type_id: type_id,
-            is_attr: kind_flag_of(info),
-        },
-        19 => BtfType::Enum64(load_enum(name_off, info, type_id, entries)),
-        _ => BtfType::Void,
+        name_off: w.first,
+        info: w.second,
+        type_id: w.third,
     }
 }
 
-fn load_composite(name_off: u32, info: u32, sz: u32, members: Entries, is_struct: bool) -> BtfType {
-    BtfType::Composite(BtfComposite {
-        is_struct: is_struct,
-        name_off: name_off,
-        sz: sz,
-        kind_flag: kind_flag_of(info),
-        members: members,
-    })
+fn void() -> BtfType {
+    BtfType {
+        at: 0,
+        name_off: 0,
+        info: 0,
+        type_id: 0,
+    }
 }
 
-fn load_enum(name_off: u32, info: u32, sz: u32, values: Entries) -> BtfEnum {
-    BtfEnum {
-        name_off: name_off,
-        sz: sz,
-        signed: kind_flag_of(info),
-        values: values,
+pub fn is_struct(t: BtfType) -> bool {
+    kind_of(t.info) == 4
+}
+
+// The entries of a record.
+pub fn entries_of(t: BtfType) -> Entries {
+    Entries {
+        at: t.at,
+        vlen: vlen_of(t.info),
     }
 }
 
 // The type of an id: void is 0, and so is what lies past the table.
 pub fn type_by_id(b: Btf, section: &[u8], work: &[u8], id: u32) -> BtfType {
     if id == 0 {
-        return BtfType::Void;
+        return void();
     }
     if b.types <= id {
-        return BtfType::Void;
+        return void();
     }
     load_type(b, section, get_field(work, id, 0))
 }
@@ -241,22 +145,20 @@ pub fn param_place(e: Entries, k: u32) -> usize
 }
 
 // btf_member: with kind_flag the last word is 24 bits of offset and 8 bits of size.
-pub fn load_member(b: Btf, section: &[u8], t: BtfComposite, k: u32) -> BtfMember {
-    let members = t.members;
-    let p = member_place(members, k);
-    let offset = word(b, section, p + 8);
-    if t.kind_flag {
+pub fn load_member(b: Btf, section: &[u8], t: BtfType, k: u32) -> BtfMember {
+    let w = three(b, section, member_place(entries_of(t), k));
+    if kind_flag_of(t.info) {
         return BtfMember {
-            name_off: word(b, section, p),
-            type_id: word(b, section, p + 4),
-            bit_offset: offset % 16777216,
-            bit_size: offset / 16777216,
+            name_off: w.first,
+            type_id: w.second,
+            bit_offset: w.third % 16777216,
+            bit_size: w.third / 16777216,
         };
     }
     BtfMember {
-        name_off: word(b, section, p),
-        type_id: word(b, section, p + 4),
-        bit_offset: offset,
+        name_off: w.first,
+        type_id: w.second,
+        bit_offset: w.third,
         bit_size: 0,
     }
 }
@@ -268,58 +170,33 @@ pub fn load_enum_value(b: Btf, section: &[u8], e: Entries, k: u32) -> u32 {
 
 // btf_enum64: the low half, then the high half, of value k.
 pub fn load_enum64_value(b: Btf, section: &[u8], e: Entries, k: u32) -> u64 {
-    let p = member_place(e, k);
-    let low = word(b, section, p + 4);
-    let high = word(b, section, p + 8);
-    (high as u64) * 4294967296 + (low as u64)
+    let w = three(b, section, member_place(e, k));
+    (w.third as u64) * 4294967296 + (w.second as u64)
 }
 
-// btf_decl_tag.component_idx of the record at a place; -1 is 4294967295.
-pub fn comp_idx_of(b: Btf, section: &[u8], at: u32) -> u32 {
-    word(b, section, (at as usize) + 12)
+// The INT word of a record: its width is in bits 0-7.
+pub fn int_bits(b: Btf, section: &[u8], t: BtfType) -> u32 {
+    word(b, section, (t.at as usize) + 12) % 256
 }
 
-// Whether BtfType::name() is not empty.
+// btf_array.type and btf_array.nelems.
+pub fn array_type(b: Btf, section: &[u8], t: BtfType) -> u32 {
+    word(b, section, (t.at as usize) + 12)
+}
+
+pub fn array_nelems(b: Btf, section: &[u8], t: BtfType) -> u32 {
+    word(b, section, (t.at as usize) + 20)
+}
+
+// btf_decl_tag.component_idx; -1 is 4294967295.
+pub fn comp_idx_of(b: Btf, section: &[u8], t: BtfType) -> u32 {
+    word(b, section, (t.at as usize) + 12)
+}
+
+// Whether BtfType::name() is not empty: some kinds have none.
 pub fn is_named(b: Btf, section: &[u8], t: BtfType) -> bool {
-    match t {
-        BtfType::Void => false,
-        BtfType::Int { name_off, bits: _ } => !is_empty(b, section, name_off),
-        BtfType::Ptr(_) => false,
-        BtfType::Array {
-            val_type_id: _,
-            nelems: _,
-        } => false,
-        BtfType::Composite(t) => !is_empty(b, section, t.name_off),
-        BtfType::Enum(t) => !is_empty(b, section, t.name_off),
-        BtfType::Fwd {
-            name_off,
-            is_union: _,
-        } => !is_empty(b, section, name_off),
-        BtfType::Typedef {
-            name_off,
-            type_id: _,
-        } => !is_empty(b, section, name_off),
-        BtfType::Volatile(_) => false,
-        BtfType::Const(_) => false,
-        BtfType::Restrict(_) => false,
-        BtfType::Func(name_off) => !is_empty(b, section, name_off),
-        BtfType::FuncProto {
-            res_type_id: _,
-            params: _,
-        } => false,
-        BtfType::Var(name_off) => !is_empty(b, section, name_off),
-        BtfType::Datasec(name_off) => !is_empty(b, section, name_off),
-        BtfType::Float { name_off, sz: _ } => !is_empty(b, section, name_off),
-        BtfType::DeclTag {
-            name_off,
-            type_id: _,
-            is_attr: _,
-        } => !is_empty(b, section, name_off),
-        BtfType::TypeTag {
-            name_off,
-            type_id: _,
-            is_attr: _,
-        } => !is_empty(b, section, name_off),
-        BtfType::Enum64(t) => !is_empty(b, section, t.name_off),
+    match kind_of(t.info) {
+        0 | 2 | 3 | 9..=11 | 13 | 20..=4294967295 => false,
+        _ => !is_empty(b, section, t.name_off),
     }
 }

@@ -1,8 +1,9 @@
 // Qualifiers on top of a chain.
+use crate::links::is_qualifier;
+use crate::links::kind_on_top;
 use crate::links::put_qualifier;
-use crate::links::qualifier_on_top;
 use btf::Btf;
-use lent::put_bytes;
+use lent::put_byte;
 ghost use Prim.Native.Nat.{_≤_};
 
 // How many of n entries stay when the qualifiers on top are popped.
@@ -11,7 +12,7 @@ pub fn skip_mods(b: Btf, section: &[u8], work: &[u8], start: u32, n: u32) -> u32
 {
     let mut k = n;
     while 0 < k {
-        if qualifier_on_top(b, section, work, start, k) == 0 {
+        if !is_qualifier(kind_on_top(b, section, work, start, k)) {
             return k;
         }
         k -= 1;
@@ -33,8 +34,8 @@ pub fn emit_mods(
     let mut p = at;
     let mut k = n;
     while m < k {
-        let a = put_qualifier(text, p, qualifier_on_top(b, section, work, start, k));
-        p = put_bytes(text, a, b" ");
+        let a = put_qualifier(text, p, kind_on_top(b, section, work, start, k));
+        p = put_byte(text, a, b' ');
         k -= 1;
     }
     p

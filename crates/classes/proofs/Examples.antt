@@ -1,4 +1,4 @@
--- A section of five types: STRUCT "ab", TYPEDEF "ab", UNION "abc", ENUM "b" with the enumerators "ab" and "abc", FWD "ab".
+-- A section of six types: STRUCT "ab", TYPEDEF "ab", UNION "abc", ENUM "b" with the enumerators "ab" and "abc", FWD "ab", FUNC "ab".
 -- The string area is a 0 byte, "ab", "abc" and "ab" again, each with its 0: the FWD's and the first enumerator's name is
 -- the second "ab", and "b" is the tail of the first.
 use Prim.Native.Nat.{ℕ, _/_, _%_}
@@ -12,7 +12,7 @@ use Rattle.btf.specs.Cells.{placeOf}
 use Rattle.btf.specs.Records.{sectionWord}
 use Rattle.classes.specs.Names.{upToZero, nameAt, sameList}
 use Rattle.classes.specs.Claims.{afterCounts, nextCount}
-use Rattle.classes.specs.Classes.{least, classOf, fill, withClasses, oneMore, withMore, countOf, counted, countedAll, recordP, classP, countP, bucketP, linkP, among, spaceOf, spaceAt, nameOf, keyIn, tableClassed}
+use Rattle.classes.specs.Classes.{least, classOf, fill, withClasses, oneMore, withMore, countOf, counted, countedAll, recordP, classP, countP, bucketP, linkP, among, spaceOf, spaceAt, nameOf, keyOf, keyIn, tableClassed}
 
 -- words, lowest byte first, and bytes after them
 pub bytes : List ℕ → List ℕ → List ℕ
@@ -22,41 +22,42 @@ bytes (v ∷ vs) l = v % 256 ∷ v / 256 % 256 ∷ v / 65536 % 256 ∷ v / 16777
 pub section : List ℕ
 section =
     bytes
-    (125855 ∷ 24 ∷ 0 ∷ 76 ∷ 76 ∷ 11
+    (125855 ∷ 24 ∷ 0 ∷ 88 ∷ 88 ∷ 11
     ∷ 1 ∷ 67108864 ∷ 0
     ∷ 1 ∷ 134217728 ∷ 1
     ∷ 4 ∷ 83886080 ∷ 0
     ∷ 2 ∷ 100663298 ∷ 4 ∷ 8 ∷ 0 ∷ 4 ∷ 1
-    ∷ 8 ∷ 117440512 ∷ 0 ∷ [])
+    ∷ 8 ∷ 117440512 ∷ 0
+    ∷ 1 ∷ 201326592 ∷ 1 ∷ [])
     (0 ∷ 97 ∷ 98 ∷ 0 ∷ 97 ∷ 98 ∷ 99 ∷ 0 ∷ 97 ∷ 98 ∷ 0 ∷ [])
 
 pub context : Btf
-context = record { «ptr_sz» = 8; «union_as_struct» = false; types = 6; «hdr_len» = 24; «str_off» = 76 }
+context = record { «ptr_sz» = 8; «union_as_struct» = false; types = 7; «hdr_len» = 24; «str_off» = 88 }
 
 -- the work with the places of the records and entries, and every other byte x
 pub work : ℕ → List ℕ
-work x = fill (recordP 6) (λ h. getD (0 ∷ 24 ∷ 36 ∷ 48 ∷ 60 ∷ 88 ∷ 72 ∷ 80 ∷ []) h 0) (replicate 450 x) 8
+work x = fill (recordP 7) (λ h. getD (0 ∷ 24 ∷ 36 ∷ 48 ∷ 60 ∷ 88 ∷ 100 ∷ 72 ∷ 80 ∷ []) h 0) (replicate 514 x) 9
 
--- words of the eight holders afterwards
+-- words of the nine holders afterwards
 pub after : ℕ → (ℕ → ℕ) → List ℕ
-after x place = table (λ h. getWord (tableClassed context 2 section (work x)) (place h)) 0 8
+after x place = table (λ h. getWord (tableClassed context 2 section (work x)) (place h)) 0 9
 
 -- kind by kind
 pub spaces : table spaceOf 0 21 ≡ 2 ∷ 2 ∷ 2 ∷ 2 ∷ 0 ∷ 0 ∷ 0 ∷ 0 ∷ 1 ∷ 2 ∷ 2 ∷ 2 ∷ 2 ∷ 2 ∷ 2 ∷ 2 ∷ 2 ∷ 2 ∷ 2 ∷ 0 ∷ 2 ∷ []
 unfolding spaceOf among
 spaces = refl
 
-pub enum-key : keyIn context section (work 1) 7 ≡ 1 ∷ 97 ∷ 98 ∷ 99 ∷ []
-unfolding bytes section context work fill keyIn spaceAt spaceOf among nameOf nameAt upToZero sectionWord wordAt placeOf getWord putWord
-enum-key = refl
+pub some-keys : (keyIn context section (work 1) 8 ≡ 1 ∷ 97 ∷ 98 ∷ 99 ∷ []) × (keyIn context section (work 1) 6 ≡ 2 ∷ []) × (keyIn context section (work 1) 0 ≡ 2 ∷ [])
+unfolding bytes section context work fill keyIn keyOf spaceAt spaceOf among nameOf nameAt upToZero sectionWord wordAt placeOf getWord putWord
+some-keys = (refl, refl, refl)
 
--- the FWD has the class of the STRUCT, the first enumerator that of the TYPEDEF; the scratch words are 0; the counts stay
+-- the FWD has the class of the STRUCT, the first enumerator that of the TYPEDEF, the FUNC that of void; the scratch words are 0; the counts stay
 pub found :
-    (after 1 (classP 6) ≡ 0 ∷ 1 ∷ 2 ∷ 3 ∷ 4 ∷ 1 ∷ 2 ∷ 7 ∷ [])
-    × (after 1 (bucketP 6) ≡ replicate 8 0)
-    × (after 1 (linkP 6) ≡ replicate 8 0)
-    × (after 1 (countP 6) ≡ replicate 8 16843009)
-unfolding after bytes section context work tableClassed withClasses fill classOf least sameList keyIn spaceAt spaceOf among nameOf nameAt upToZero sectionWord wordAt placeOf getWord putWord
+    (after 1 (classP 7) ≡ 0 ∷ 1 ∷ 2 ∷ 3 ∷ 4 ∷ 1 ∷ 0 ∷ 2 ∷ 8 ∷ [])
+    × (after 1 (bucketP 7) ≡ replicate 9 0)
+    × (after 1 (linkP 7) ≡ replicate 9 0)
+    × (after 1 (countP 7) ≡ replicate 9 16843009)
+unfolding after bytes section context work tableClassed withClasses fill classOf least sameList keyIn keyOf spaceAt spaceOf among nameOf nameAt upToZero sectionWord wordAt placeOf getWord putWord
 found = (refl, refl, refl, refl)
 
 -- the count of h after those of the STRUCT, the TYPEDEF, the UNION and the FWD
@@ -64,6 +65,6 @@ pub next : ℕ → ℕ
 next = nextCount context (afterCounts context (tableClassed context 2 section (work 0)) (5 ∷ 3 ∷ 2 ∷ 1 ∷ []))
 
 -- the tag "ab" is had for the third time, the identifier "ab" for the second, the identifier "abc" for the first
-pub counted-so : (next 1 ≡ 3) × (next 5 ≡ 3) × (next 6 ≡ 2) × (next 7 ≡ 1)
-unfolding next countedAll counted withMore countOf oneMore bytes section context work tableClassed withClasses fill classOf least sameList keyIn spaceAt spaceOf among nameOf nameAt upToZero sectionWord wordAt placeOf getWord putWord
+pub counted-so : (next 1 ≡ 3) × (next 5 ≡ 3) × (next 7 ≡ 2) × (next 8 ≡ 1)
+unfolding next countedAll counted withMore countOf oneMore bytes section context work tableClassed withClasses fill classOf least sameList keyIn keyOf spaceAt spaceOf among nameOf nameAt upToZero sectionWord wordAt placeOf getWord putWord
 counted-so = (refl, refl, refl, refl)

@@ -70,5 +70,19 @@ pub fill-more : (at g : ℕ → ℕ) (w₀ w u : List ℕ) (k : ℕ) → w ≡ f
 unfolding fill
 fill-more at g w₀ w u k e f = rw (add-one, ← e) f
 
+-- two words of each at once
+pub fill-both : (at to f g : ℕ → ℕ) (w₀ w u v : List ℕ) (k : ℕ) → ((i j : ℕ) → to i ≢ at j) → w ≡ fill at f (fill to g w₀ k) k → u ≡ putWord w (to k) (g k) → v ≡ putWord u (at k) (f k) → v ≡ fill at f (fill to g w₀ (k + 1)) (k + 1)
+unfolding fill
+fill-both at to f g w₀ w u v k o e₁ e₂ e₃ =
+    rw add-one
+    (e₃ ∙ ap (λ (x : List ℕ). putWord x (at k) (f k)) (e₂ ∙ ap (λ (x : List ℕ). putWord x (to k) (g k)) e₁ ∙ put-else at f (fill to g w₀ k) (to k) (g k) k (λ h q. o k h)))
+
+pub fill-both-none : (at to f g : ℕ → ℕ) (w : List ℕ) → w ≡ fill at f (fill to g w 0) 0
+unfolding fill
+fill-both-none at to f g w = refl
+
+pub fill-both-end : (at to f g : ℕ → ℕ) (w : List ℕ) (k n : ℕ) → k ≡ n → fill at f (fill to g w k) k ≡ fill at f (fill to g w n) n
+fill-both-end at to f g w k n = ap (λ (i : ℕ). fill at f (fill to g w i) i)
+
 pub put-at : (w u : List ℕ) (i j v : ℕ) → i ≡ j → u ≡ putWord w i v → u ≡ putWord w j v
 put-at w u i j v e f = f ∙ ap (λ (k : ℕ). putWord w k v) e

@@ -1,11 +1,11 @@
 -- The words of the holders stand apart, and their keys stay while the classes are found. Assumes nothing.
-use Prim.Native.Nat.{ℕ, _+_, _-_, _*_, _/_, _%_, _<_, _≤_}
+use Prim.Native.Nat.{ℕ, zero-le, _+_, _-_, _*_, _/_, _%_, _<_, _≤_}
 use mathlib.Core.Path.{_≡_, refl, ap, ap₂, _∙_, sym, fun-ext}
 use mathlib.Core.List.{List, [], _∷_}
-use mathlib.Core.Bool.{Bool, false}
+use mathlib.Core.Bool.{Bool, true, false}
 use mathlib.Core.Logic.{⊎-elim, _≢_}
 use native.Mathlib.Omega.{arith}
-use lib.ListN.{length}
+use lib.ListN.{length, getD}
 use borrow.Author.Tests.{lt-ltb, le-ltb, ne-eqb}
 use Rattle.lent.specs.Words.{getWord}
 use Rattle.lent.proofs.Laws.{le-or-lt}
@@ -14,8 +14,9 @@ use Rattle.btf.specs.Cells.{placeOf}
 use Rattle.btf.specs.Records.{sectionWord, kindOf}
 use Rattle.btf.proofs.Laws.{place-type, place-enum}
 use Rattle.classes.specs.Names.{nameAt, sameList}
-use Rattle.classes.specs.Classes.{fill, noughts, withClasses, recordP, classP, countP, bucketP, linkP, among, spaceOf, spaceAt, nameOf, keyIn, tableClassed}
-use Rattle.classes.specs.Table.{hashFrom, bucketOf, Places, Ready, placed, stateOf}
+use Rattle.classes.specs.Classes.{classOf, fill, noughts, withClasses, recordP, classP, countP, bucketP, linkP, among, spaceOf, spaceAt, nameOf, keyOf, keyIn, tableClassed}
+use Rattle.classes.specs.Table.{hashFrom, bucketOf, Places, Ready, Finds, placed, stateOf}
+use Rattle.classes.proofs.Names.{same-from, same-heads, other-heads}
 use Rattle.classes.proofs.Fill.{get-else}
 use Rattle.classes.proofs.Laws as laws
 
@@ -53,6 +54,9 @@ module _ (t : ℕ) where
         link-class = place-apart t 8 4 5 1 (omega arith);
         bucket-link = place-apart t 7 3 8 4 (omega arith);
       }
+
+  pub link-bucket : (i j : ℕ) → linkP t i ≢ bucketP t j
+  link-bucket = place-apart t 8 4 7 3 (omega arith)
 
   -- the places of records are none of those that are filled
   record-class : (i j : ℕ) → recordP t i ≢ classP t j
@@ -105,6 +109,27 @@ module _ (k : ℕ) where
   pub space-high : (k ≡ 19 → ⊥) → (k ≡ 8 → ⊥) → 8 ≤ k → 2 ≡ spaceOf k
   space-high a b l = space-else (λ e. omega arith) (λ e. omega arith) (λ e. omega arith) (λ e. omega arith) a b
 
+-- ---- keys: a space, and a name if there is a space
+module _ (s : List ℕ) where
+  key-some : (x p : ℕ) → (x ≡ 2 → ⊥) → keyOf s x p ≡ x ∷ nameAt s p
+  unfolding keyOf
+  key-some x p n = rw (ne-eqb x 2 n, keyOf)
+
+  key-none : (x p : ℕ) → x ≡ 2 → keyOf s x p ≡ 2 ∷ []
+  unfolding keyOf
+  key-none x p e = rw e
+
+  module _ (x y p q : ℕ) where
+    pub keys-other : (x ≡ y → ⊥) → false ≡ sameList (keyOf s x p) (keyOf s y q)
+    unfolding keyOf
+    keys-other n = sym (other-heads x y _ _ n)
+
+    pub keys-none : x ≡ y → x ≡ 2 → true ≡ sameList (keyOf s x p) (keyOf s y q)
+    keys-none e z = same-from _ _ (key-none x p z ∙ sym (key-none y q (sym e ∙ z)))
+
+    pub keys-same : (r : Bool) → x ≡ y → (x ≡ 2 → ⊥) → r ≡ sameList (nameAt s p) (nameAt s q) → r ≡ sameList (keyOf s x p) (keyOf s y q)
+    keys-same r e n t = t ∙ sym (ap₂ sameList (key-some x p n) (key-some y q (λ z. n (e ∙ z))) ∙ same-heads x y (nameAt s p) (nameAt s q) e)
+
 module _ (b : Btf) (s : List ℕ) where
   abbrev class : ℕ → ℕ
   class = classP (b .types)
@@ -123,13 +148,17 @@ module _ (b : Btf) (s : List ℕ) where
 
   -- ---- spaces and names of holders
   module _ (at h : ℕ) where
-    pub space-type : (x k r : ℕ) → h < b .types → x ≡ sectionWord b s (at + 4) → k ≡ kindOf x → r ≡ spaceOf k → r ≡ spaceAt b s at h
+    pub space-void : h ≡ 0 → 2 ≡ spaceAt b s at h
     unfolding spaceAt
-    space-type x k r l ex ek er = rw (lt-ltb h (b .types) l, ← ex, ← ek) er
+    space-void e = rw e
 
-    pub space-enum : b .types ≤ h → 1 ≡ spaceAt b s at h
+    pub space-type : (x k r : ℕ) → (h ≡ 0 → ⊥) → h < b .types → x ≡ sectionWord b s (at + 4) → k ≡ kindOf x → r ≡ spaceOf k → r ≡ spaceAt b s at h
     unfolding spaceAt
-    space-enum l = rw (le-ltb h (b .types) l)
+    space-type x k r z l ex ek er = rw (ne-eqb h 0 z, lt-ltb h (b .types) l, ← ex, ← ek) er
+
+    pub space-enum : (h ≡ 0 → ⊥) → b .types ≤ h → 1 ≡ spaceAt b s at h
+    unfolding spaceAt
+    space-enum z l = rw (ne-eqb h 0 z, le-ltb h (b .types) l)
 
   pub name-is : (at x : ℕ) → x ≡ sectionWord b s at → b .«hdr_len» + b .«str_off» + x ≡ nameOf b s at
   unfolding nameOf
@@ -138,21 +167,32 @@ module _ (b : Btf) (s : List ℕ) where
   -- ---- keys
   keys-stay : (w v : List ℕ) → ((h : ℕ) → getWord w (place h) ≡ getWord v (place h)) → key w ≡ key v
   unfolding keyIn
-  keys-stay w v e = fun-ext (λ h. ap (λ (at : ℕ). spaceAt b s at h ∷ nameAt s (nameOf b s at)) (e h))
+  keys-stay w v e = fun-ext (λ h. ap (λ (at : ℕ). keyOf s (spaceAt b s at h) (nameOf b s at)) (e h))
 
-  key-is : (w : List ℕ) (h at x p : ℕ) → at ≡ getWord w (place h) → x ≡ spaceAt b s at h → p ≡ nameOf b s at → key w h ≡ x ∷ nameAt s p
-  unfolding keyIn
-  key-is w h at x p ea ex ep = ap (λ (at : ℕ). spaceAt b s at h ∷ nameAt s (nameOf b s at)) (sym ea) ∙ ap₂ (λ (y q : ℕ). y ∷ nameAt s q) (sym ex) (sym ep)
+  -- void has no space, so that its class is that of all holders without one
+  key-void : (w : List ℕ) → key w 0 ≡ 2 ∷ []
+  unfolding keyIn spaceAt keyOf
+  key-void w = refl
 
-  module _ (w : List ℕ) where
-    pub holder-other : (c d i j p q x y : ℕ) → i ≡ place c → p ≡ getWord w i → j ≡ place d → q ≡ getWord w j → x ≡ spaceAt b s p c → y ≡ spaceAt b s q d → (x ≡ y → ⊥) → false ≡ sameList (key w c) (key w d)
-    holder-other c d i j p q x y ei ep ej eq ex ey = laws.keys-other x y _ _ _ _ (key-is w c p x _ (ep ∙ ap (getWord w) ei) ex refl) (key-is w d q y _ (eq ∙ ap (getWord w) ej) ey refl)
+  module _ (w : List ℕ) (h : ℕ) where
+    pub key-is : (i at x p : ℕ) → i ≡ place h → at ≡ getWord w i → x ≡ spaceAt b s at h → p ≡ nameOf b s at → keyOf s x p ≡ key w h
+    unfolding keyIn
+    key-is i at x p ei ea ex ep = ap₂ (keyOf s) ex ep ∙ ap (λ (at : ℕ). keyOf s (spaceAt b s at h) (nameOf b s at)) (ea ∙ ap (getWord w) ei)
 
-    pub holder-same : (c d i j p q x y m n : ℕ) (r : Bool) → i ≡ place c → p ≡ getWord w i → j ≡ place d → q ≡ getWord w j → x ≡ spaceAt b s p c → y ≡ spaceAt b s q d → x ≡ y → m ≡ nameOf b s p → n ≡ nameOf b s q → r ≡ sameList (nameAt s m) (nameAt s n) → r ≡ sameList (key w c) (key w d)
-    holder-same c d i j p q x y m n r ei ep ej eq ex ey e em en = laws.keys-same x y _ _ _ _ r (key-is w c p x m (ep ∙ ap (getWord w) ei) ex em) (key-is w d q y n (eq ∙ ap (getWord w) ej) ey en) e
+    module _ (x p : ℕ) (k : keyOf s x p ≡ key w h) where
+      pub class-void : x ≡ 2 → classOf (key w) h ≡ 0
+      class-void e = let l : classOf (key w) h ≤ 0 = laws.class-first (key w) 0 h zero-le (key-void w ∙ sym (key-none s x p e) ∙ k) in omega arith
 
-    pub bucket-is : (n h i p x m r : ℕ) → i ≡ place h → p ≡ getWord w i → x ≡ spaceAt b s p h → m ≡ nameOf b s p → r ≡ hashFrom x (nameAt s m) → r % n ≡ bucketOf (key w) n h
-    bucket-is n h i p x m r ei ep ex em = laws.bucket-is (key w) n h x r _ (key-is w h p x m (ep ∙ ap (getWord w) ei) ex em)
+      module _ (n : x ≡ 2 → ⊥) where
+        pub class-other : classOf (key w) h ≢ 0
+        unfolding keyOf
+        class-other z = n (ap (λ (l : List ℕ). getD l 0 0) (k ∙ sym (laws.class-key (key w) h) ∙ ap (key w) z ∙ key-void w))
+
+        pub bucket-is : (m r : ℕ) → r ≡ hashFrom x (nameAt s p) → r % m ≡ bucketOf (key w) m h
+        bucket-is m r = laws.bucket-is (key w) m h x r _ (sym k ∙ key-some s x p n)
+
+        pub finds : (m r : ℕ) → Ready (key w) bucket link m h w → r ≡ hashFrom x (nameAt s p) → Finds (key w) bucket link h (r % m) w
+        finds m r f e = record { n = m; ready = f; chain = bucket-is m r e; other = class-other }
 
   -- ---- the loop
   module _ (n : ℕ) (w₀ : List ℕ) where
@@ -185,10 +225,10 @@ module _ (b : Btf) (s : List ℕ) where
     unfolding State
     start c = laws.state-start (key c) n class bucket link (places (b .types)) w₀ c
 
-    pub done : (k : ℕ) (c w u v : List ℕ) → k ≡ n → c ≡ fill bucket noughts w₀ n → w ≡ State n c k → u ≡ fill link noughts w n → v ≡ fill bucket noughts u n → v ≡ withClasses (key w₀) class bucket link n w₀
+    pub done : (k : ℕ) (c w v : List ℕ) → k ≡ n → c ≡ fill bucket noughts w₀ n → w ≡ State n c k → v ≡ fill bucket noughts (fill link noughts w n) n → v ≡ withClasses (key w₀) class bucket link n w₀
     unfolding State
-    done k c w u v q e f g h =
-        laws.all-done (key c) n class bucket link (places (b .types)) w₀ k c w u v q e f g h
+    done k c w v q e f g =
+        laws.all-done (key c) n class bucket link (places (b .types)) w₀ k c w v q e f g
         ∙ ap (λ (k′ : ℕ → List ℕ). withClasses k′ class bucket link n w₀) (clear-keys n w₀ c e)
 
   module _ (e : ℕ) (w : List ℕ) where

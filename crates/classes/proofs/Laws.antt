@@ -13,10 +13,10 @@ use borrow.Author.Tests.{eq-eqb, ne-eqb, eqb-true, eqb-false}
 use Rattle.lent.specs.Words.{getWord, putWord, pick}
 use Rattle.lent.proofs.Laws.{le-or-lt}
 use Rattle.classes.specs.Names.{sameList}
-use Rattle.classes.proofs.Names.{same-self, same-equal, same-from, same-heads, other-heads}
+use Rattle.classes.proofs.Names.{same-self, same-equal, same-from}
 use Rattle.classes.specs.Classes.{least, classOf, fill, noughts, withClasses}
 use Rattle.classes.specs.Table.{hashFrom, hashKey, bucketOf, stands, lastOf, nextOf, Places, Ready, Finds, placed, stateOf}
-use Rattle.classes.proofs.Fill.{fill-length, get-else, put-else, get-fill, put-fill, fill-over, fill-swap}
+use Rattle.classes.proofs.Fill.{fill-length, get-else, put-else, get-fill, put-fill, fill-same, fill-over, fill-swap}
 
 pub by : (t : Bool) → (P : Type 0) → (t ≡ true → P) → (t ≡ false → P) → P
 by true P a b = a refl
@@ -102,27 +102,37 @@ module _ (key : ℕ → List ℕ) where
     bucket-same c h e = ap (λ (k : List ℕ). hashKey k % n) e
 
     -- ---- the chain of a bucket
-    stands-in : (j m : ℕ) → classOf key m ≡ m → bucketOf key n m ≡ j → stands key n j m ≡ true
+    stands-in : (j m : ℕ) → (m ≡ 0 → ⊥) → classOf key m ≡ m → bucketOf key n m ≡ j → stands key n j m ≡ true
     unfolding stands
-    stands-in j m e f = rw (eq-eqb (classOf key m) m e, stands) (eq-eqb _ _ f)
+    stands-in j zero z e f = absurd (z refl)
+    stands-in j (suc m) z e f = rw (eq-eqb (classOf key (suc m)) (suc m) e, stands) (eq-eqb _ _ f)
 
     stands-not : (j m : ℕ) → (classOf key m ≡ m → ⊥) → stands key n j m ≡ false
     unfolding stands
-    stands-not j m e = rw (ne-eqb (classOf key m) m e, stands)
+    stands-not j zero e = refl
+    stands-not j (suc m) e = rw (ne-eqb (classOf key (suc m)) (suc m) e, stands)
+
+    -- nobody of the class of holder 0 stands in a chain
+    stands-void : (j m : ℕ) → classOf key m ≡ 0 → stands key n j m ≡ false
+    unfolding stands
+    stands-void j zero e = refl
+    stands-void j (suc m) e = stands-not j (suc m) (λ q. omega arith)
 
     stands-else : (j m : ℕ) → (bucketOf key n m ≡ j → ⊥) → stands key n j m ≡ false
     unfolding stands
-    stands-else j m e = go (eqb (classOf key m) m)
+    stands-else j zero e = refl
+    stands-else j (suc m) e = go (eqb (classOf key (suc m)) (suc m))
       where
-        go : (t : Bool) → elim t as (λ b. Bool) [ true ↦ eqb (bucketOf key n m) j | false ↦ false ] ≡ false
+        go : (t : Bool) → elim t as (λ b. Bool) [ true ↦ eqb (bucketOf key n (suc m)) j | false ↦ false ] ≡ false
         go true = ne-eqb _ _ e
         go false = refl
 
     stands-out : (j m : ℕ) → stands key n j m ≡ true → (classOf key m ≡ m) × (bucketOf key n m ≡ j)
     unfolding stands
-    stands-out j m e = go (eqb (classOf key m) m) refl e
+    stands-out j zero e = let z : _≡_ {A = ℕ} 0 1 = cc in absurd (omega arith)
+    stands-out j (suc m) e = go (eqb (classOf key (suc m)) (suc m)) refl e
       where
-        go : (t : Bool) → eqb (classOf key m) m ≡ t → elim t as (λ b. Bool) [ true ↦ eqb (bucketOf key n m) j | false ↦ false ] ≡ true → (classOf key m ≡ m) × (bucketOf key n m ≡ j)
+        go : (t : Bool) → eqb (classOf key (suc m)) (suc m) ≡ t → elim t as (λ b. Bool) [ true ↦ eqb (bucketOf key n (suc m)) j | false ↦ false ] ≡ true → (classOf key (suc m) ≡ suc m) × (bucketOf key n (suc m) ≡ j)
         go true q r = (eqb-true _ _ q, eqb-true _ _ r)
         go false q r = let z : _≡_ {A = ℕ} 0 1 = cc in absurd (omega arith)
 
@@ -154,23 +164,41 @@ module _ (key : ℕ → List ℕ) where
         (λ q. let e : lastOf key n j (suc m) - 1 ≡ m = omega (arith, last-yes j m q) in ap (stands key n j) e ∙ q)
         (λ q. rw (last-no j m q) (last-stands j m (λ z. h (last-no j m q ∙ z))))
 
-    last-here : (k : ℕ) → pick (eqb (classOf key k) k) (k + 1) (lastOf key n (bucketOf key n k) k) ≡ lastOf key n (bucketOf key n k) (k + 1)
-    last-here k =
+    last-here : (k : ℕ) → (k ≡ 0 → ⊥) → pick (eqb (classOf key k) k) (k + 1) (lastOf key n (bucketOf key n k) k) ≡ lastOf key n (bucketOf key n k) (k + 1)
+    last-here k z =
         rw add-one
         (by (eqb (classOf key k) k) _
-        (λ q. rw q (sym (last-yes _ k (stands-in (bucketOf key n k) k (eqb-true _ _ q) refl))))
+        (λ q. rw q (sym (last-yes _ k (stands-in (bucketOf key n k) k z (eqb-true _ _ q) refl))))
         (λ q. rw q (sym (last-no _ k (stands-not (bucketOf key n k) k (eqb-false _ _ q))))))
 
     last-else : (k j : ℕ) → j ≢ bucketOf key n k → lastOf key n j k ≡ lastOf key n j (k + 1)
     last-else k j o = rw add-one (sym (last-no j k (stands-else j k (λ e. o (sym e)))))
 
+    last-void : (k j : ℕ) → classOf key k ≡ 0 → lastOf key n j k ≡ lastOf key n j (k + 1)
+    last-void k j e = rw add-one (sym (last-no j k (stands-void j k e)))
+
+    next-void : (k : ℕ) → classOf key k ≡ 0 → nextOf key n k ≡ 0
+    unfolding nextOf lastOf
+    next-void zero e = rw e
+    next-void (suc k) e = rw (ne-eqb (classOf key (suc k)) (suc k) (λ q. omega arith), nextOf)
+
     -- ---- the work, holder by holder
     module _ (class bucket link : ℕ → ℕ) where
-      pub place-is : (k b r old x y : ℕ) (w w₁ w₂ w₃ : List ℕ) → Ready key bucket link n k w → b ≡ bucketOf key n k → r ≡ classOf key k → old ≡ getWord w (bucket b) → x ≡ pick (eqb r k) old 0 → w₁ ≡ putWord w (link k) x → y ≡ pick (eqb r k) (k + 1) old → w₂ ≡ putWord w₁ (bucket b) y → w₃ ≡ putWord w₂ (class k) r → w₃ ≡ placed key class bucket link n k w
-      unfolding placed nextOf
-      place-is k b r old x y w w₁ w₂ w₃ f eb er eo ex e₁ ey e₂ e₃ =
+      pub place-void : (k : ℕ) (w w₁ w₂ : List ℕ) → classOf key k ≡ 0 → w₁ ≡ putWord w (link k) 0 → w₂ ≡ putWord w₁ (class k) 0 → w₂ ≡ placed key class bucket link n k w
+      unfolding placed
+      place-void k w w₁ w₂ z e₁ e₂ = (rw e₁ at e₂) ∙ rw (z, placed)
+
+      -- a holder of another class than holder 0 is put into the table
+      place-other : (k : ℕ) (w : List ℕ) → classOf key k ≢ 0 → putWord (putWord (putWord w (link k) (nextOf key n k)) (bucket (bucketOf key n k)) (lastOf key n (bucketOf key n k) (k + 1))) (class k) (classOf key k) ≡ placed key class bucket link n k w
+      unfolding placed
+      place-other k w z = rw (ne-eqb (classOf key k) 0 z, placed)
+
+      pub place-is : (k b r old x y : ℕ) (w w₁ w₂ w₃ : List ℕ) → Ready key bucket link n k w → classOf key k ≢ 0 → b ≡ bucketOf key n k → r ≡ classOf key k → old ≡ getWord w (bucket b) → x ≡ pick (eqb r k) old 0 → w₁ ≡ putWord w (link k) x → y ≡ pick (eqb r k) (k + 1) old → w₂ ≡ putWord w₁ (bucket b) y → w₃ ≡ putWord w₂ (class k) r → w₃ ≡ placed key class bucket link n k w
+      unfolding nextOf
+      place-is k b r old x y w w₁ w₂ w₃ f z eb er eo ex e₁ ey e₂ e₃ =
           let o : old ≡ lastOf key n (bucketOf key n k) k = eo ∙ f .heads b (rw eb (bucket-less k (omega (arith, f .below)))) ∙ ap (λ (j : ℕ). lastOf key n j k) eb in
-          (rw (e₂, e₁, ey, ex, o, er, eb) at e₃) ∙ rw (last-here k)
+          let v : k ≡ 0 → ⊥ = λ q. z (omega (arith, class-le k)) in
+          ((rw (e₂, e₁, ey, ex, o, er, eb) at e₃) ∙ rw (last-here k v)) ∙ place-other k w z
 
       module _ (P : Places class bucket link) (w₀ : List ℕ) where
         pub state-ready : (k : ℕ) (w : List ℕ) → ((h : ℕ) → h < n → bucket h < length w₀ / 4) → ((h : ℕ) → h < n → link h < length w₀ / 4) → k < n → w ≡ stateOf key class bucket link n k w₀ → Ready key bucket link n k w
@@ -187,9 +215,23 @@ module _ (key : ℕ → List ℕ) where
                   ∙ get-fill link (P .link-one) (nextOf key n) _ c k p (rw (fill-length bucket (λ i. lastOf key n i k) w₀ n) (fl c (omega arith)));
             }
 
-        pub state-turn : (k : ℕ) (w u : List ℕ) → k < n → w ≡ stateOf key class bucket link n k w₀ → u ≡ placed key class bucket link n k w → u ≡ stateOf key class bucket link n (k + 1) w₀
+        turn-void : (k : ℕ) (u : List ℕ) → classOf key k ≡ 0 → u ≡ placed key class bucket link n k (stateOf key class bucket link n k w₀) → u ≡ stateOf key class bucket link n (k + 1) w₀
         unfolding stateOf placed fill
-        state-turn k w u m e f =
+        turn-void k u z f =
+            let C : List ℕ → ℕ → List ℕ = fill class (classOf key) in
+            let N : List ℕ → ℕ → List ℕ = fill link (nextOf key n) in
+            let H : List ℕ = fill bucket (λ j. lastOf key n j k) w₀ n in
+            let p₁ : putWord (C (N H k) k) (link k) (nextOf key n k) ≡ C (N H (suc k)) k = put-else class (classOf key) (N H k) (link k) (nextOf key n k) k (λ h q. P .link-class k h) in
+            let p₂ : H ≡ fill bucket (λ j. lastOf key n j (k + 1)) w₀ n = fill-same bucket (λ j. lastOf key n j k) (λ j. lastOf key n j (k + 1)) w₀ n (λ j q. last-void k j z) in
+            f
+            ∙ sym (place-void k (C (N H k) k) _ _ z refl refl)
+            ∙ ap₂ (λ (x y : ℕ). putWord (putWord (C (N H k) k) (link k) x) (class k) y) (sym (next-void k z)) (sym z)
+            ∙ ap (λ (x : List ℕ). putWord x (class k) (classOf key k)) (p₁ ∙ ap (λ (x : List ℕ). C (N x (suc k)) k) p₂)
+            ∙ ap (λ (i : ℕ). C (N (fill bucket (λ j. lastOf key n j (k + 1)) w₀ n) i) i) (sym (add-one k))
+
+        turn-other : (k : ℕ) (u : List ℕ) → k < n → classOf key k ≢ 0 → u ≡ placed key class bucket link n k (stateOf key class bucket link n k w₀) → u ≡ stateOf key class bucket link n (k + 1) w₀
+        unfolding stateOf fill
+        turn-other k u m z f =
             let C : List ℕ → ℕ → List ℕ = fill class (classOf key) in
             let N : List ℕ → ℕ → List ℕ = fill link (nextOf key n) in
             let H : List ℕ = fill bucket (λ j. lastOf key n j k) w₀ n in
@@ -200,14 +242,19 @@ module _ (key : ℕ → List ℕ) where
             let p₃ : putWord (N H (suc k)) (bucket b) v ≡ N (putWord H (bucket b) v) (suc k) = put-else link (nextOf key n) H (bucket b) v (suc k) (λ h q. P .bucket-link b h) in
             let p₄ : putWord H (bucket b) v ≡ fill bucket (λ j. lastOf key n j (k + 1)) w₀ n = put-fill bucket (P .bucket-one) (λ j. lastOf key n j k) (λ j. lastOf key n j (k + 1)) w₀ b v n (bucket-less k (omega arith)) refl (λ j o. last-else k j o) in
             f
-            ∙ ap (placed key class bucket link n k) e
+            ∙ sym (place-other k (C (N H k) k) z)
             ∙ ap (λ (x : List ℕ). putWord (putWord x (bucket b) v) (class k) (classOf key k)) p₁
             ∙ ap (λ (x : List ℕ). putWord x (class k) (classOf key k)) (p₂ ∙ ap (λ (x : List ℕ). C x k) (p₃ ∙ ap (λ (x : List ℕ). N x (suc k)) p₄))
             ∙ ap (λ (i : ℕ). C (N (fill bucket (λ j. lastOf key n j (k + 1)) w₀ n) i) i) (sym (add-one k))
 
-        state-end : (w u v : List ℕ) → w ≡ stateOf key class bucket link n n w₀ → u ≡ fill link noughts w n → v ≡ fill bucket noughts u n → v ≡ withClasses key class bucket link n w₀
+        pub state-turn : (k : ℕ) (w u : List ℕ) → k < n → w ≡ stateOf key class bucket link n k w₀ → u ≡ placed key class bucket link n k w → u ≡ stateOf key class bucket link n (k + 1) w₀
+        state-turn k w u m e f =
+            let g : u ≡ placed key class bucket link n k (stateOf key class bucket link n k w₀) = f ∙ ap (placed key class bucket link n k) e in
+            by (eqb (classOf key k) 0) _ (λ q. turn-void k u (eqb-true _ _ q) g) (λ q. turn-other k u m (eqb-false _ _ q) g)
+
+        state-end : (w v : List ℕ) → w ≡ stateOf key class bucket link n n w₀ → v ≡ fill bucket noughts (fill link noughts w n) n → v ≡ withClasses key class bucket link n w₀
         unfolding stateOf withClasses
-        state-end w u v e f g =
+        state-end w v e g =
             let C : List ℕ → List ℕ = λ x. fill class (classOf key) x n in
             let N : List ℕ → List ℕ = λ x. fill link noughts x n in
             let Z : List ℕ → List ℕ = λ x. fill bucket noughts x n in
@@ -216,7 +263,7 @@ module _ (key : ℕ → List ℕ) where
             let p₁ : N (C M) ≡ C (N H) = fill-swap link class noughts (classOf key) M n n (P .link-class) ∙ ap C (fill-over link (P .link-one) (nextOf key n) noughts H n) in
             let p₂ : Z (C (N H)) ≡ C (Z (N H)) = fill-swap bucket class noughts (classOf key) (N H) n n (P .bucket-class) in
             let p₃ : Z (N H) ≡ N (Z w₀) = fill-swap bucket link noughts noughts H n n (P .bucket-link) ∙ ap N (fill-over bucket (P .bucket-one) (λ j. lastOf key n j n) noughts w₀ n) in
-            g ∙ ap Z (f ∙ ap N e ∙ p₁) ∙ p₂ ∙ ap C p₃
+            g ∙ ap Z (ap N e ∙ p₁) ∙ p₂ ∙ ap C p₃
 
         state-over : (k : ℕ) (w : List ℕ) → w ≡ fill bucket noughts w₀ n → stateOf key class bucket link n k w ≡ stateOf key class bucket link n k w₀
         unfolding stateOf
@@ -227,8 +274,8 @@ module _ (key : ℕ → List ℕ) where
         state-start w e = e ∙ sym (state-over 0 w e)
 
         -- all is placed, and the scratch words are cleared
-        pub all-done : (k : ℕ) (c w u v : List ℕ) → k ≡ n → c ≡ fill bucket noughts w₀ n → w ≡ stateOf key class bucket link n k c → u ≡ fill link noughts w n → v ≡ fill bucket noughts u n → v ≡ withClasses key class bucket link n w₀
-        all-done k c w u v q e f = state-end w u v (f ∙ ap (λ (i : ℕ). stateOf key class bucket link n i c) q ∙ state-over n c e)
+        pub all-done : (k : ℕ) (c w v : List ℕ) → k ≡ n → c ≡ fill bucket noughts w₀ n → w ≡ stateOf key class bucket link n k c → v ≡ fill bucket noughts (fill link noughts w n) n → v ≡ withClasses key class bucket link n w₀
+        all-done k c w v q e f = state-end w v (f ∙ ap (λ (i : ℕ). stateOf key class bucket link n i c) q ∙ state-over n c e)
 
   -- ---- the walk along a chain
   module _ (bucket link : ℕ → ℕ) (h b : ℕ) (w : List ℕ) where
@@ -238,7 +285,7 @@ module _ (key : ℕ → List ℕ) where
           finds = f;
           under = omega (arith, last-le (f .n) b m);
           stood = λ z. rw e (last-stands (f .n) b m (λ q. z (e ∙ q)));
-          ahead = λ q. rw e (last-over (f .n) b (classOf key h) m (g q) (stands-in (f .n) b (classOf key h) (class-again h) (bucket-same (f .n) (classOf key h) h (class-key h) ∙ sym (f .chain))));
+          ahead = λ q. rw e (last-over (f .n) b (classOf key h) m (g q) (stands-in (f .n) b (classOf key h) (f .other) (class-again h) (bucket-same (f .n) (classOf key h) h (class-key h) ∙ sym (f .chain))));
         }
 
     pub walk-start : (l : ℕ) → Finds key bucket link h b w → l ≡ getWord w (bucket b) → Walk key bucket link h b w l
@@ -276,12 +323,6 @@ state-else key class bucket link n k i w oc ob ol =
     get-else class (classOf key) _ i k (λ h q. oc h) ∙ get-else link (nextOf key n) _ i k (λ h q. ol h) ∙ get-else bucket (λ j. lastOf key n j k) w i n (λ h q. ob h)
 
 -- ---- a key is a space and a name
-pub keys-other : (x y : ℕ) (l m k q : List ℕ) → k ≡ x ∷ l → q ≡ y ∷ m → (x ≡ y → ⊥) → false ≡ sameList k q
-keys-other x y l m k q e f n = sym (ap₂ sameList e f ∙ other-heads x y l m n)
-
-pub keys-same : (x y : ℕ) (l m k q : List ℕ) (r : Bool) → k ≡ x ∷ l → q ≡ y ∷ m → x ≡ y → r ≡ sameList l m → r ≡ sameList k q
-keys-same x y l m k q r e f d t = t ∙ sym (ap₂ sameList e f ∙ same-heads x y l m d)
-
 pub bucket-is : (key : ℕ → List ℕ) (n h x r : ℕ) (l : List ℕ) → key h ≡ x ∷ l → r ≡ hashFrom x l → r % n ≡ bucketOf key n h
 unfolding bucketOf hashKey
 bucket-is key n h x r l e f = rw (e, f)

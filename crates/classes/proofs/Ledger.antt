@@ -13,7 +13,7 @@ use Rattle.classes.specs.Classes.{timesOf, classP, countP, bucketP, link
 use Rattle.classes.specs.Claims.{First, Room, Words, Ledger}
 use Rattle.classes.proofs.Laws.{class-le, class-key, class-first, class-same}
 use Rattle.classes.proofs.Count.{with-length, with-else, with-class, with-bucket, with-link, Books, count-law}
-use Rattle.classes.proofs.Keys.{places, place-in, count-one, class-count, count-bucket, count-link, too-many, too-short, long-enough}
+use Rattle.classes.proofs.Keys.{places, place-in, count-one, class-count, count-bucket, count-link, key-is, class-void, too-many, too-short, long-enough}
 
 pub first : First
 first =
@@ -60,6 +60,7 @@ module _ (b : Btf) (e : ℕ) (s w : List ℕ) where
   the-words =
       record {
         class = λ h r l. rw (← filled r) (with-class key class bucket link n w (places (b .types)) h l (inside 5 1 (omega arith) (omega arith) r h l));
+        none = λ h r l z. rw (← filled r) (with-class key class bucket link n w (places (b .types)) h l (inside 5 1 (omega arith) (omega arith) r h l) ∙ class-void b s w h _ _ (key-is b s w h _ _ _ _ refl refl refl refl) z);
         bucket = λ h r l. rw (← filled r) (with-bucket key class bucket link n w (places (b .types)) h l (inside 7 3 (omega arith) (omega arith) r h l));
         link = λ h r l. rw (← filled r) (with-link key class bucket link n w (places (b .types)) h l (inside 8 4 (omega arith) (omega arith) r h l));
         else = λ i o. either (λ x. getWord x i ≡ getWord w i) refl (with-else key class bucket link n w i (λ h l. o h l .0) (λ h l. o h l .1) (λ h l. o h l .2));

@@ -6,7 +6,7 @@ use mathlib.Core.Logic.{_≢_}
 use lib.ListN.{length}
 use Rattle.lent.specs.Words.{getWord}
 use Rattle.btf.specs.declared.types.Btf.{Btf}
-use Rattle.classes.specs.Classes.{classP, countP, bucketP, linkP, keyIn, classOf, tableClassed, countOf, countedAll, timesOf}
+use Rattle.classes.specs.Classes.{recordP, classP, countP, bucketP, linkP, spaceAt, keyIn, classOf, tableClassed, countOf, countedAll, timesOf}
 
 -- 01, Name ledger, "The first holder of a name": the class of h is the first holder, from 0 up, with the space and the name of h
 pub record First : Type 0 where
@@ -23,9 +23,10 @@ pub record Room (b : Btf) (enumerators : ℕ) (w : List ℕ) : Type 0 where
 abbrev pub Else : (types n i : ℕ) → Type 0
 Else types n i = (h : ℕ) → h < n → (i ≢ classP types h) × (i ≢ bucketP types h) × (i ≢ linkP types h)
 
--- what the work holds afterwards: classes, scratch words 0, all else as it was
+-- what the work holds afterwards: classes, 0 for a holder without a space, scratch words 0, all else as it was
 pub record Words (b : Btf) (e : ℕ) (s w : List ℕ) : Type 0 where
   pub class : (h : ℕ) → Room b e w → h < b .types + e → getWord (tableClassed b e s w) (classP (b .types) h) ≡ classOf (keyIn b s w) h
+  pub none : (h : ℕ) → Room b e w → h < b .types + e → spaceAt b s (getWord w (recordP (b .types) h)) h ≡ 2 → getWord (tableClassed b e s w) (classP (b .types) h) ≡ 0
   pub bucket : (h : ℕ) → Room b e w → h < b .types + e → getWord (tableClassed b e s w) (bucketP (b .types) h) ≡ 0
   pub link : (h : ℕ) → Room b e w → h < b .types + e → getWord (tableClassed b e s w) (linkP (b .types) h) ≡ 0
   pub else : (i : ℕ) → Else (b .types) (b .types + e) i → getWord (tableClassed b e s w) i ≡ getWord w i

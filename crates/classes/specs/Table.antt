@@ -25,9 +25,10 @@ hashKey (x ∷ l) = hashFrom x l
 unfoldable pub bucketOf : (ℕ → List ℕ) → ℕ → ℕ → ℕ
 bucketOf key n h = hashKey (key h) % n
 
--- whether holder m stands in the chain of bucket j: the first of its class, with that bucket
+-- whether holder m stands in the chain of bucket j: the first of its class, with that bucket; holder 0 stands in none
 unfoldable pub stands : (ℕ → List ℕ) → ℕ → ℕ → ℕ → Bool
-stands key n j m = elim (eqb (classOf key m) m) [ true ↦ eqb (bucketOf key n m) j | false ↦ false ]
+stands key n j zero = false
+stands key n j (suc m) = elim (eqb (classOf key (suc m)) (suc m)) [ true ↦ eqb (bucketOf key n (suc m)) j | false ↦ false ]
 
 -- one more than the last holder before m that stands in the chain of bucket j, or 0
 unfoldable pub lastOf : (ℕ → List ℕ) → ℕ → ℕ → ℕ → ℕ
@@ -53,22 +54,26 @@ pub record Ready (key : ℕ → List ℕ) (bucket link : ℕ → ℕ) (n k : ℕ
   pub heads : (j : ℕ) → j < n → getWord w (bucket j) ≡ lastOf key n j k
   pub links : (c : ℕ) → c < k → getWord w (link c) ≡ nextOf key n c
 
--- the same at some n, and b is the bucket of k
+-- the same at some n, b is the bucket of k, and k is not of the class of holder 0
 pub record Finds (key : ℕ → List ℕ) (bucket link : ℕ → ℕ) (k b : ℕ) (w : List ℕ) : Type 0 where
   pub n : ℕ
   pub ready : Ready key bucket link n k w
   pub chain : b ≡ bucketOf key n k
+  pub other : classOf key k ≢ 0
 
--- holder k put into the table, and its class into its word
+-- holder k put into the table, and its class into its word; in the class of holder 0 it stays out of the table
 unfoldable pub placed : (ℕ → List ℕ) → (class bucket link : ℕ → ℕ) → ℕ → ℕ → List ℕ → List ℕ
 placed key class bucket link n k w =
-    putWord
-    (putWord
-    (putWord w (link k) (nextOf key n k))
-    (bucket (bucketOf key n k))
-    (lastOf key n (bucketOf key n k) (k + 1)))
-    (class k)
-    (classOf key k)
+    elim (eqb (classOf key k) 0) [
+      | true ↦ putWord (putWord w (link k) 0) (class k) 0
+      | false ↦ putWord
+          (putWord
+          (putWord w (link k) (nextOf key n k))
+          (bucket (bucketOf key n k))
+          (lastOf key n (bucketOf key n k) (k + 1)))
+          (class k)
+          (classOf key k)
+    ]
 
 -- the work before holder k
 unfoldable pub stateOf : (ℕ → List ℕ) → (class bucket link : ℕ → ℕ) → ℕ → ℕ → List ℕ → List ℕ

@@ -8,12 +8,11 @@ use btf::word;
 use lent::get_word;
 use lent::put_word;
 ghost use mathlib.Core.Path.{_≡_};
-ghost use Prim.Native.Nat.{_<_};
 ghost use Rattle.lent.specs.Words.{pick};
 ghost use Rattle.btf.specs.Cells.{placeOf};
 ghost use Rattle.classes.specs.Names.{sameList};
-ghost use Rattle.classes.specs.Classes.{classOf, fill, noughts, spaceOf, spaceAt, nameOf, keyIn, tableClassed};
-ghost use Rattle.classes.specs.Table.{bucketOf, HoldersReady, HolderFinds, holderPlaced};
+ghost use Rattle.classes.specs.Classes.{classOf, fill, noughts, bucketP, linkP, spaceOf, spaceAt, nameOf, keyOf, keyIn, tableClassed};
+ghost use Rattle.classes.specs.Table.{HoldersReady, HolderFinds, holderPlaced};
 
 // The space of a kind: 0 tags, 1 identifiers, 2 none.
 fn space_of(kind: u32) -> u32
@@ -26,10 +25,13 @@ fn space_of(kind: u32) -> u32
     }
 }
 
-// The space of the holder h whose record or entry stands at a place.
+// The space of the holder h whose record or entry stands at a place. Void has none.
 fn space_at(b: Btf, section: &[u8], at: u32, h: u32) -> u32
     ensures { λ r. ⌜ r ≡ spaceAt b (now (section .entry)) at h ⌝ }
 {
+    if h == 0 {
+        return 2;
+    }
     if h < b.types {
         return space_of(kind_of(word(b, section, (at as usize) + 4)));
     }
@@ -43,26 +45,33 @@ fn name_of(b: Btf, section: &[u8], at: u32) -> usize
     (b.hdr_len as usize) + (b.str_off as usize) + (word(b, section, at as usize) as usize)
 }
 
-// Whether two holders have the same space and the same name.
-fn same_holder(b: Btf, section: &[u8], work: &[u8], x: u32, y: u32) -> bool
-    ensures { λ r. ⌜ r ≡ sameList (keyIn b (now (section .entry)) (now (work .entry)) x) (keyIn b (now (section .entry)) (now (work .entry)) y) ⌝ }
-{
-    let p = get_word(work, holder_word(b.types, 0, 0, x));
-    let q = get_word(work, holder_word(b.types, 0, 0, y));
-    if space_at(b, section, p, x) != space_at(b, section, q, y) {
-        return false;
-    }
-    same_name(section, name_of(b, section, p), name_of(b, section, q))
+// The space of a holder, and where its name stands. A name without a space is not looked at.
+struct Key {
+    space: u32,
+    name: usize,
 }
 
-// The bucket of a holder, of n.
-fn bucket(b: Btf, section: &[u8], work: &[u8], n: u32, h: u32) -> u32
-    requires { ⌜ 0 < n ⌝ }
-    ensures { λ r. ⌜ r ≡ bucketOf (keyIn b (now (section .entry)) (now (work .entry))) n h ⌝ }
+fn load_key(b: Btf, section: &[u8], work: &[u8], h: u32) -> Key
+    ensures { λ r. ⌜ keyOf (now (section .entry)) (r .space) (r .name) ≡ keyIn b (now (section .entry)) (now (work .entry)) h ⌝ }
 {
-    let p = get_word(work, holder_word(b.types, 0, 0, h));
-    let space = space_at(b, section, p, h);
-    hash_name(section, name_of(b, section, p), space) % n
+    let at = get_word(work, holder_word(b.types, 0, 0, h));
+    Key {
+        space: space_at(b, section, at, h),
+        name: name_of(b, section, at),
+    }
+}
+
+// Whether two keys have the same space and the same name.
+fn same_key(section: &[u8], x: Key, y: Key) -> bool
+    ensures { λ r. ⌜ r ≡ sameList (keyOf (now (section .entry)) (x .space) (x .name)) (keyOf (now (section .entry)) (y .space) (y .name)) ⌝ }
+{
+    if x.space != y.space {
+        return false;
+    }
+    if x.space == 2 {
+        return true;
+    }
+    same_name(section, x.name, y.name)
 }
 
 fn choose(t: bool, x: u32, y: u32) -> u32
@@ -71,15 +80,15 @@ fn choose(t: bool, x: u32, y: u32) -> u32
     if t { x } else { y }
 }
 
-// The class of h, by the table of the holders before it.
-fn find(b: Btf, section: &[u8], work: &[u8], h: u32, bucket: u32) -> u32
-    requires { ⌜ HolderFinds b (now section) (now work) h bucket ⌝ }
+// The class of h, which has a space, by the table of the holders before it.
+fn find(b: Btf, section: &[u8], work: &[u8], h: u32, bucket: u32, key: Key) -> u32
+    requires { ⌜ HolderFinds b (now section) (now work) h bucket × (keyOf (now section) (key .space) (key .name) ≡ keyIn b (now section) (now work) h) ⌝ }
     ensures { λ r. ⌜ r ≡ classOf (keyIn b (now (section .entry)) (now (work .entry))) h ⌝ }
 {
     let mut l = get_word(work, holder_word(b.types, 7, 3, bucket));
     while l != 0 {
         let c = l - 1;
-        if same_holder(b, section, work, c, h) {
+        if same_key(section, load_key(b, section, work, c), key) {
             return c;
         }
         l = get_word(work, holder_word(b.types, 8, 4, c));
@@ -87,13 +96,19 @@ fn find(b: Btf, section: &[u8], work: &[u8], h: u32, bucket: u32) -> u32
     h
 }
 
-// Finds the class of k, and puts k into the table if it is the first of its class.
+// Finds the class of k, and puts k into the table if it is the first of its class. Without a space its class is void's, 0.
 fn put_holder(b: Btf, section: &[u8], work: &mut [u8], n: u32, k: u32)
     requires { ⌜ HoldersReady b (now section) (now work) n k ⌝ }
     ensures { λ _. ⌜ now (work .exit) ≡ holderPlaced b (now (section .entry)) (now (work .entry)) n k ⌝ }
 {
-    let i = bucket(b, section, work, n, k);
-    let r = find(b, section, work, k, i);
+    let key = load_key(b, section, work, k);
+    if key.space == 2 {
+        put_word(work, holder_word(b.types, 8, 4, k), 0);
+        put_word(work, holder_word(b.types, 5, 1, k), 0);
+        return;
+    }
+    let i = hash_name(section, key.name, key.space) % n;
+    let r = find(b, section, work, k, i, key);
     let at = holder_word(b.types, 7, 3, i);
     let old = get_word(work, at);
     put_word(work, holder_word(b.types, 8, 4, k), choose(r == k, old, 0));
@@ -108,6 +123,18 @@ fn clear_words(work: &mut [u8], types: u32, n: u32, f: u32, g: u32)
     let mut k: u32 = 0;
     while k < n {
         put_word(work, holder_word(types, f, g, k), 0);
+        k += 1;
+    }
+}
+
+// Sets both scratch words of the first n holders to 0.
+fn clear_scratch(work: &mut [u8], types: u32, n: u32)
+    ensures { λ _. ⌜ now (work .exit) ≡ fill (bucketP types) noughts (fill (linkP types) noughts (now (work .entry)) n) n ⌝ }
+{
+    let mut k: u32 = 0;
+    while k < n {
+        put_word(work, holder_word(types, 8, 4, k), 0);
+        put_word(work, holder_word(types, 7, 3, k), 0);
         k += 1;
     }
 }
@@ -131,6 +158,5 @@ pub fn classes(b: Btf, section: &[u8], enumerators: u32, work: &mut [u8])
         put_holder(b, section, work, n, k);
         k += 1;
     }
-    clear_words(work, types, n, 8, 4);
-    clear_words(work, types, n, 7, 3);
+    clear_scratch(work, types, n);
 }

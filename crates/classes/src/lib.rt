@@ -1,5 +1,5 @@
-// Name classes: for each type and each enumerator the first holder of a name of the same space and the same bytes. They
-// are found by hashing, in scratch words that are 0 again afterwards.
+// Name classes: for each type and each enumerator the first holder of a name of the same space and the same bytes, and 0,
+// void, for a type whose name has no space. They are found by hashing, in scratch words that are 0 again afterwards.
 mod hash;
 mod holders;
 

@@ -1,22 +1,25 @@
 // Declarations, their chains and the bodies of composites, which call each other. `left` is how many more calls of
 // emit_type_decl, emit_type_chain and emit_composite_def may be open; `below` is that for the calls within one of them.
 use btf::Btf;
-use btf::BtfComposite;
 use btf::BtfMember;
 use btf::BtfType;
 use btf::Entries;
-use btf::get_btf_str;
+use btf::array_nelems;
+use btf::entries_of;
 use btf::is_builtin;
 use btf::is_empty;
+use btf::is_struct;
+use btf::kind_flag_of;
+use btf::kind_of;
 use btf::load_member;
 use btf::param_place;
+use btf::put_str;
 use btf::type_by_id;
+use btf::vlen_of;
 use btf::word;
-use chain::Entry;
 use chain::chain_len;
 use chain::emit_mods;
-use chain::entry_at;
-use chain::is_array_on_top;
+use chain::kind_on_top;
 use chain::path_at;
 use chain::put_qualifier;
 use chain::skip_mods;
@@ -28,6 +31,7 @@ use layout::Ask;
 use layout::Packed;
 use layout::is_struct_packed;
 use layout::member_end;
+use lent::put_byte;
 use lent::put_bytes;
 use lent::put_decimal;
 use lent::put_tabs;
@@ -162,36 +166,31 @@ fn emit_entry(
         return c;
     }
     let n = c.n - 1;
-    let m = skip_mods(b, section, work, d.id, n);
-    let l = entry_at(b, section, work, d.id, n);
-    let e = l.entry;
-    match e {
-        Entry::Base => {
-            let a = emit_mods(b, section, work, text, c.at, d.id, n, m);
-            goes_on(
-                emit_base(b, section, work, text, a, l.next, d.lvl, below),
-                m,
-                false,
-            )
-        }
-        Entry::Star => goes_on(put_star(text, c.at, c.last_was_ptr), n, true),
-        Entry::Qualifier(kind) => {
-            let a = put_bytes(text, c.at, b" ");
-            goes_on(put_qualifier(text, a, kind), n, false)
-        }
-        Entry::Array(nelems) => {
+    let id = path_at(b, section, work, d.id, n);
+    let t = type_by_id(b, section, work, id);
+    match kind_of(t.info) {
+        2 => goes_on(put_star(text, c.at, c.last_was_ptr), n, true),
+        3 => {
+            let nelems = array_nelems(b, section, t);
+            let m = skip_mods(b, section, work, d.id, n);
             let a = emit_array(b, section, work, text, c.at, d, m, c.last_was_ptr, below);
             named(put_count(text, a, nelems))
         }
-        Entry::Proto(params) => {
-            let a = emit_mods(b, section, work, text, c.at, d.id, n, m);
-            let f = emit_proto(b, section, work, text, a, d, m, c.last_was_ptr, below);
-            named(emit_params(b, section, work, text, f, params, d.lvl, below))
+        9..=11 => {
+            let a = put_bytes(text, c.at, b" ");
+            goes_on(put_qualifier(text, a, kind_of(t.info)), n, false)
         }
-        Entry::Tag(is_attr, name_off) => {
+        13 => named(emit_function(b, section, work, text, c, d, t, below)),
+        18 => {
+            let m = skip_mods(b, section, work, d.id, n);
+            let a = emit_mods(b, section, work, text, c.at, d.id, n, m);
+            goes_on(put_type_tag(b, section, text, a, t), m, false)
+        }
+        _ => {
+            let m = skip_mods(b, section, work, d.id, n);
             let a = emit_mods(b, section, work, text, c.at, d.id, n, m);
             goes_on(
-                put_attribute(b, section, text, a, is_attr, b"btf_type_tag", name_off),
+                emit_base(b, section, work, text, a, id, t, d.lvl, below),
                 m,
                 false,
             )
@@ -199,17 +198,52 @@ fn emit_entry(
     }
 }
 
+// A prototype: its qualifiers, the rest of the chain, and its parameters.
+fn emit_function(
+    b: Btf,
+    section: &[u8],
+    work: &mut [u8],
+    text: &mut [u8],
+    c: Chain,
+    d: Declarator,
+    t: BtfType,
+    below: u32,
+) -> usize {
+    let n = less(c.n);
+    let m = skip_mods(b, section, work, d.id, n);
+    let a = emit_mods(b, section, work, text, c.at, d.id, n, m);
+    let f = emit_proto(b, section, work, text, a, d, m, c.last_was_ptr, below);
+    emit_params(b, section, work, text, f, entries_of(t), d.lvl, below)
+}
+
+// One less, or 0.
+fn less(n: u32) -> u32 {
+    if 0 < n { n - 1 } else { 0 }
+}
+
+fn put_type_tag(b: Btf, section: &[u8], text: &mut [u8], at: usize, t: BtfType) -> usize {
+    put_attribute(
+        b,
+        section,
+        text,
+        at,
+        kind_flag_of(t.info),
+        b"btf_type_tag",
+        t.name_off,
+    )
+}
+
 fn put_star(text: &mut [u8], at: usize, last_was_ptr: bool) -> usize {
     if last_was_ptr {
-        return put_bytes(text, at, b"*");
+        return put_byte(text, at, b'*');
     }
     put_bytes(text, at, b" *")
 }
 
 fn put_count(text: &mut [u8], at: usize, nelems: u32) -> usize {
-    let a = put_bytes(text, at, b"[");
+    let a = put_byte(text, at, b'[');
     let c = put_decimal(text, a, nelems as u64);
-    put_bytes(text, c, b"]")
+    put_byte(text, c, b']')
 }
 
 // The base's own words. What cannot be declared prints nothing; opening refuses it.
@@ -220,41 +254,62 @@ fn emit_base(
     text: &mut [u8],
     at: usize,
     id: u32,
+    t: BtfType,
     lvl: u32,
     below: u32,
 ) -> usize {
-    match type_by_id(b, section, work, id) {
-        BtfType::Void => put_bytes(text, at, b"void"),
-        BtfType::Int { name_off, bits: _ } => {
-            put_bytes(text, at, get_btf_str(b, section, name_off))
-        }
-        BtfType::Composite(t) => {
-            emit_composite_word(b, section, work, text, at, id, t, lvl, below)
-        }
-        BtfType::Enum(t) => {
-            if is_empty(b, section, t.name_off) {
-                return emit_enum_def(b, section, work, text, at, id, t, lvl);
-            }
-            put_enum_name(b, section, work, text, at, id, t.name_off)
-        }
-        BtfType::Fwd { name_off, is_union } => {
-            emit_fwd_def(b, section, work, text, at, id, is_union, name_off)
-        }
-        BtfType::Typedef {
-            name_off,
-            type_id: _,
-        } => put_typedef_name(b, section, work, text, at, id, name_off),
-        BtfType::Float { name_off, sz: _ } => {
-            put_bytes(text, at, get_btf_str(b, section, name_off))
-        }
-        BtfType::Enum64(t) => {
-            if is_empty(b, section, t.name_off) {
-                return emit_enum64_def(b, section, work, text, at, id, t, lvl);
-            }
-            put_enum_name(b, section, work, text, at, id, t.name_off)
-        }
+    match kind_of(t.info) {
+        0 => put_bytes(text, at, b"void"),
+        1 | 16 => put_str(b, section, text, at, t.name_off),
+        4 | 5 => emit_composite_word(b, section, work, text, at, id, t, lvl, below),
+        6 => emit_enum_word(b, section, work, text, at, id, t, lvl),
+        7 => emit_fwd_def(
+            b,
+            section,
+            work,
+            text,
+            at,
+            id,
+            kind_flag_of(t.info),
+            t.name_off,
+        ),
+        8 => put_typedef_name(b, section, work, text, at, id, t.name_off),
+        19 => emit_enum64_word(b, section, work, text, at, id, t, lvl),
         _ => at,
     }
+}
+
+// A nameless enum is printed inline.
+fn emit_enum_word(
+    b: Btf,
+    section: &[u8],
+    work: &mut [u8],
+    text: &mut [u8],
+    at: usize,
+    id: u32,
+    t: BtfType,
+    lvl: u32,
+) -> usize {
+    if is_empty(b, section, t.name_off) {
+        return emit_enum_def(b, section, work, text, at, id, t, lvl);
+    }
+    put_enum_name(b, section, work, text, at, id, t.name_off)
+}
+
+fn emit_enum64_word(
+    b: Btf,
+    section: &[u8],
+    work: &mut [u8],
+    text: &mut [u8],
+    at: usize,
+    id: u32,
+    t: BtfType,
+    lvl: u32,
+) -> usize {
+    if is_empty(b, section, t.name_off) {
+        return emit_enum64_def(b, section, work, text, at, id, t, lvl);
+    }
+    put_enum_name(b, section, work, text, at, id, t.name_off)
 }
 
 // A nameless composite is printed inline.
@@ -265,14 +320,14 @@ fn emit_composite_word(
     text: &mut [u8],
     at: usize,
     id: u32,
-    t: BtfComposite,
+    t: BtfType,
     lvl: u32,
     below: u32,
 ) -> usize {
     if is_empty(b, section, t.name_off) {
         return emit_composite_def(b, section, work, text, at, id, t, lvl, below);
     }
-    emit_composite_fwd(b, section, work, text, at, id, t.is_struct, t.name_off)
+    emit_composite_fwd(b, section, work, text, at, id, is_struct(t), t.name_off)
 }
 
 fn put_typedef_name(
@@ -303,7 +358,7 @@ fn put_gap(
     if is_empty(b, section, name.off) {
         return at;
     }
-    put_bytes(text, at, b" ")
+    put_byte(text, at, b' ')
 }
 
 // What stands before the brackets of an array: the name, or the chain that is left.
@@ -323,12 +378,12 @@ fn emit_array(
         return emit_name(b, section, text, at, name, last_was_ptr);
     }
     let a = put_gap(b, section, text, at, name, last_was_ptr);
-    if is_array_on_top(b, section, work, d.id, n) {
+    if kind_on_top(b, section, work, d.id, n) == 3 {
         return emit_type_chain(b, section, work, text, a, d, n, below);
     }
-    let c = put_bytes(text, a, b"(");
+    let c = put_byte(text, a, b'(');
     let e = emit_type_chain(b, section, work, text, c, d, n, below);
-    put_bytes(text, e, b")")
+    put_byte(text, e, b')')
 }
 
 // What stands before the parameters of a prototype.
@@ -349,7 +404,7 @@ fn emit_proto(
     }
     let a = put_bytes(text, at, b" (");
     let c = emit_type_chain(b, section, work, text, a, d, n, below);
-    put_bytes(text, c, b")")
+    put_byte(text, c, b')')
 }
 
 // How many parameters are printed: a single one of type void is none.
@@ -363,11 +418,11 @@ fn shown_params(b: Btf, section: &[u8], params: Entries) -> u32 {
 }
 
 fn put_open(text: &mut [u8], at: usize) -> usize {
-    put_bytes(text, at, b"(")
+    put_byte(text, at, b'(')
 }
 
 fn put_close(text: &mut [u8], at: usize) -> usize {
-    put_bytes(text, at, b")")
+    put_byte(text, at, b')')
 }
 
 // The parameters in parentheses.
@@ -444,7 +499,7 @@ pub fn emit_composite_def(
     text: &mut [u8],
     at: usize,
     id: u32,
-    t: BtfComposite,
+    t: BtfType,
     lvl: u32,
     left: u32,
 ) -> usize {
@@ -457,7 +512,7 @@ pub fn emit_composite_def(
     if is_builtin(b, section, t.name_off) {
         return at;
     }
-    match is_struct_packed(b, section, work, id, t) {
+    match is_struct_packed(b, section, work, t) {
         Packed::Is(packed) => {
             let a = emit_composite_head(b, section, work, text, at, id, t);
             let c = emit_members(
@@ -485,10 +540,10 @@ fn emit_composite_head(
     text: &mut [u8],
     at: usize,
     id: u32,
-    t: BtfComposite,
+    t: BtfType,
 ) -> usize {
     let name = resolve_type_name(b, section, work, id, t.name_off);
-    let a = put_keyword(b, text, at, t.is_struct);
+    let a = put_keyword(b, text, at, is_struct(t));
     let c = put_sep_name(b, section, text, a, name);
     put_bytes(text, c, b" {")
 }
@@ -500,13 +555,12 @@ fn emit_members(
     text: &mut [u8],
     at: usize,
     id: u32,
-    t: BtfComposite,
+    t: BtfType,
     packed: bool,
     lvl: u32,
     below: u32,
 ) -> usize {
-    let members = t.members;
-    let vlen = members.vlen;
+    let vlen = vlen_of(t.info);
     let mut s = Spot { at: at, offset: 0 };
     let mut k: u32 = 0;
     while k < vlen {
@@ -526,7 +580,7 @@ fn emit_member(
     text: &mut [u8],
     s: Spot,
     id: u32,
-    t: BtfComposite,
+    t: BtfType,
     k: u32,
     packed: bool,
     lvl: u32,
@@ -539,7 +593,7 @@ fn emit_member(
         lvl: lvl,
     };
     let a = emit_bit_padding(b, section, work, text, s.at, s.offset, m, packed, lvl);
-    let c = put_bytes(text, a, b"\n");
+    let c = put_byte(text, a, b'\n');
     let e = put_tabs(text, c, lvl);
     let f = emit_type_decl(b, section, work, text, e, d, below);
     emit_member_end(b, section, work, text, f, id, k, m)
@@ -561,7 +615,7 @@ fn emit_member_end(
         Ask::Got(offset) => {
             let c = emit_decl_tags(b, section, work, text, a, id, k);
             Spot {
-                at: put_bytes(text, c, b";"),
+                at: put_byte(text, c, b';'),
                 offset: offset,
             }
         }
@@ -588,14 +642,13 @@ fn emit_composite_end(
     text: &mut [u8],
     at: usize,
     id: u32,
-    t: BtfComposite,
+    t: BtfType,
     packed: bool,
     lvl: u32,
 ) -> usize {
-    let members = t.members;
-    let a = put_last_newline(text, at, members.vlen);
+    let a = put_last_newline(text, at, vlen_of(t.info));
     let c = put_tabs(text, a, lvl);
-    let d = put_bytes(text, c, b"}");
+    let d = put_byte(text, c, b'}');
     let e = put_packed(text, d, packed);
     emit_decl_tags(b, section, work, text, e, id, 4294967295)
 }
@@ -604,7 +657,7 @@ fn put_last_newline(text: &mut [u8], at: usize, vlen: u32) -> usize {
     if vlen == 0 {
         return at;
     }
-    put_bytes(text, at, b"\n")
+    put_byte(text, at, b'\n')
 }
 
 fn put_packed(text: &mut [u8], at: usize, packed: bool) -> usize {

@@ -6,8 +6,11 @@ use btf::Node;
 use btf::get_field;
 use btf::is_builtin;
 use btf::is_named;
+use btf::is_struct;
+use btf::kind_flag_of;
+use btf::kind_of;
 use btf::member_place;
-use btf::node_by_id;
+use btf::node_of;
 use btf::param_place;
 use btf::put_field;
 use btf::type_by_id;
@@ -24,6 +27,7 @@ use names::emit_fwd_def;
 use order::Order;
 use order::clear_listed;
 use order::get_listed;
+use order::get_order_state;
 use order::order_type;
 
 fn get_emit_state(work: &[u8], id: u32) -> u32 {
@@ -54,22 +58,24 @@ fn emit_definition(
     text: &mut [u8],
     at: usize,
     id: u32,
+    t: BtfType,
 ) -> usize {
-    match type_by_id(b, section, work, id) {
-        BtfType::Composite(t) => {
+    match kind_of(t.info) {
+        4 | 5 => {
             let a = emit_composite_def(b, section, work, text, at, id, t, 0, 512);
             put_line_end(text, a)
         }
-        BtfType::Enum(t) => {
+        6 => {
             let a = emit_enum_def(b, section, work, text, at, id, t, 0);
             put_line_end(text, a)
         }
-        BtfType::Enum64(t) => {
-            let a = emit_enum64_def(b, section, work, text, at, id, t, 0);
+        7 => {
+            let is_union = kind_flag_of(t.info);
+            let a = emit_fwd_def(b, section, work, text, at, id, is_union, t.name_off);
             put_line_end(text, a)
         }
-        BtfType::Fwd { name_off, is_union } => {
-            let a = emit_fwd_def(b, section, work, text, at, id, is_union, name_off);
+        19 => {
+            let a = emit_enum64_def(b, section, work, text, at, id, t, 0);
             put_line_end(text, a)
         }
         _ => at,
@@ -84,20 +90,18 @@ fn emit_forward(
     text: &mut [u8],
     at: usize,
     id: u32,
+    t: BtfType,
 ) -> usize {
-    match type_by_id(b, section, work, id) {
-        BtfType::Composite(t) => {
-            if is_builtin(b, section, t.name_off) {
-                return at;
-            }
-            let a = emit_composite_fwd(b, section, work, text, at, id, t.is_struct, t.name_off);
+    if is_builtin(b, section, t.name_off) {
+        return at;
+    }
+    match kind_of(t.info) {
+        4 | 5 => {
+            let a = emit_composite_fwd(b, section, work, text, at, id, is_struct(t), t.name_off);
             put_line_end(text, a)
         }
-        BtfType::Typedef { name_off, type_id } => {
-            if is_builtin(b, section, name_off) {
-                return at;
-            }
-            let a = emit_typedef_def(b, section, work, text, at, id, name_off, type_id);
+        8 => {
+            let a = emit_typedef_def(b, section, work, text, at, id, t.name_off, t.type_id);
             put_line_end(text, a)
         }
         _ => at,
@@ -111,11 +115,12 @@ fn emit_once(
     text: &mut [u8],
     at: usize,
     id: u32,
+    t: BtfType,
 ) -> usize {
     if get_fwd_emitted(work, id) {
         return at;
     }
-    let a = emit_forward(b, section, work, text, at, id);
+    let a = emit_forward(b, section, work, text, at, id, t);
     set_fwd_emitted(work, id);
     a
 }
@@ -133,17 +138,18 @@ fn emit_again(
     if get_fwd_emitted(work, id) {
         return at;
     }
-    match node_by_id(b, section, work, id) {
-        Node::Composite(_) => {
+    let t = type_by_id(b, section, work, id);
+    match kind_of(t.info) {
+        4 | 5 => {
             if id == cont_id {
                 return at;
             }
-            if !is_named(b, section, type_by_id(b, section, work, id)) {
+            if !is_named(b, section, t) {
                 return stop(text, at, 13);
             }
-            emit_once(b, section, work, text, at, id)
+            emit_once(b, section, work, text, at, id, t)
         }
-        Node::Typedef(_) => emit_once(b, section, work, text, at, id),
+        8 => emit_once(b, section, work, text, at, id, t),
         _ => at,
     }
 }
@@ -172,12 +178,13 @@ pub fn emit_type(
     if state == 1 {
         return emit_again(b, section, work, text, at, id, cont_id);
     }
+    let t = type_by_id(b, section, work, id);
     if cont_id == 0 {
-        if !is_named(b, section, type_by_id(b, section, work, id)) {
+        if !is_named(b, section, t) {
             return stop(text, at, 14);
         }
     }
-    emit_new(b, section, work, text, at, id, cont_id, left - 1)
+    emit_new(b, section, work, text, at, id, t, cont_id, left - 1)
 }
 
 // An id that is not emitted yet.
@@ -188,19 +195,20 @@ fn emit_new(
     text: &mut [u8],
     at: usize,
     id: u32,
+    t: BtfType,
     cont_id: u32,
     left: u32,
 ) -> usize {
-    match node_by_id(b, section, work, id) {
+    match node_of(b, section, t) {
         Node::Ignored => at,
         Node::Plain => at,
-        Node::Listed(is_fwd) => emit_leaf(b, section, work, text, at, id, cont_id, is_fwd),
-        Node::Through(t) => emit_type(b, section, work, text, at, t, cont_id, left),
-        Node::Ptr(t) => emit_type(b, section, work, text, at, t, cont_id, left),
-        Node::Typedef(t) => {
+        Node::Listed(is_fwd) => emit_leaf(b, section, work, text, at, id, t, cont_id, is_fwd),
+        Node::Through(next) => emit_type(b, section, work, text, at, next, cont_id, left),
+        Node::Ptr(next) => emit_type(b, section, work, text, at, next, cont_id, left),
+        Node::Typedef(next) => {
             set_emit_state(work, id, 1);
-            let a = emit_type(b, section, work, text, at, t, id, left);
-            let c = emit_once(b, section, work, text, a, id);
+            let a = emit_type(b, section, work, text, at, next, id, left);
+            let c = emit_once(b, section, work, text, a, id, t);
             set_emit_state(work, id, 2);
             c
         }
@@ -209,7 +217,7 @@ fn emit_new(
             emit_params(b, section, work, text, a, params, cont_id, left)
         }
         Node::Composite(members) => {
-            emit_composite(b, section, work, text, at, id, cont_id, members, left)
+            emit_composite(b, section, work, text, at, id, t, cont_id, members, left)
         }
     }
 }
@@ -222,15 +230,16 @@ fn emit_leaf(
     text: &mut [u8],
     at: usize,
     id: u32,
+    t: BtfType,
     cont_id: u32,
     is_fwd: bool,
 ) -> usize {
     set_emit_state(work, id, 2);
     if cont_id == 0 {
-        return emit_definition(b, section, work, text, at, id);
+        return emit_definition(b, section, work, text, at, id, t);
     }
     if is_fwd {
-        return emit_definition(b, section, work, text, at, id);
+        return emit_definition(b, section, work, text, at, id, t);
     }
     at
 }
@@ -243,11 +252,12 @@ fn emit_composite(
     text: &mut [u8],
     at: usize,
     id: u32,
+    t: BtfType,
     cont_id: u32,
     members: Entries,
     left: u32,
 ) -> usize {
-    let named = is_named(b, section, type_by_id(b, section, work, id));
+    let named = is_named(b, section, t);
     set_emit_state(work, id, 1);
     if cont_id == 0 {
         let a = emit_members(
@@ -260,7 +270,7 @@ fn emit_composite(
             inner(named, id, cont_id),
             left,
         );
-        let c = emit_definition(b, section, work, text, a, id);
+        let c = emit_definition(b, section, work, text, a, id, t);
         set_emit_state(work, id, 2);
         return c;
     }
@@ -269,7 +279,7 @@ fn emit_composite(
         set_emit_state(work, id, 0);
         return a;
     }
-    let a = emit_mention(b, section, work, text, at, id, cont_id);
+    let a = emit_mention(b, section, work, text, at, id, t, cont_id);
     set_emit_state(work, id, 0);
     a
 }
@@ -287,12 +297,13 @@ fn emit_mention(
     text: &mut [u8],
     at: usize,
     id: u32,
+    t: BtfType,
     cont_id: u32,
 ) -> usize {
     if id == cont_id {
         return at;
     }
-    emit_once(b, section, work, text, at, id)
+    emit_once(b, section, work, text, at, id, t)
 }
 
 fn emit_members(
@@ -355,6 +366,21 @@ fn emit_listed(
         k += 1;
     }
     p
+}
+
+// A request for an id that is ordered, or is a function, a variable, a section or a tag, does nothing.
+pub fn is_idle(b: Btf, section: &[u8], work: &[u8], id: u32) -> bool {
+    if get_order_state(work, id) == 2 {
+        return true;
+    }
+    if get_order_state(work, id) == 1 {
+        return false;
+    }
+    let t = type_by_id(b, section, work, id);
+    match kind_of(t.info) {
+        12 | 14 | 15 | 17 => true,
+        _ => false,
+    }
 }
 
 // One request: the place after its text, or one past the end that says which refusal stopped it.

@@ -1,13 +1,16 @@
 // Enums of both widths.
 use btf::Btf;
-use btf::BtfEnum;
+use btf::BtfType;
+use btf::entries_of;
 use btf::get_field;
 use btf::is_builtin;
+use btf::kind_flag_of;
 use btf::load_enum_value;
 use btf::load_enum64_value;
 use btf::member_place;
 use btf::param_place;
 use btf::word;
+use lent::put_byte;
 use lent::put_bytes;
 use lent::put_decimal;
 use lent::put_tabs;
@@ -49,7 +52,7 @@ fn emit_enumerator(
     lvl: u32,
 ) -> usize {
     let name = resolve_name(b, work, e, name_off);
-    let a = put_bytes(text, at, b"\n");
+    let a = put_byte(text, at, b'\n');
     let c = put_tabs(text, a, lvl);
     let d = put_name(b, section, text, c, name);
     put_bytes(text, d, b" = ")
@@ -71,10 +74,10 @@ fn emit_values(
     text: &mut [u8],
     at: usize,
     id: u32,
-    t: BtfEnum,
+    t: BtfType,
     lvl: u32,
 ) -> usize {
-    let values = t.values;
+    let values = entries_of(t);
     let vlen = values.vlen;
     let first = get_field(work, id, 12);
     let mut p = at;
@@ -83,8 +86,8 @@ fn emit_values(
         let name_off = word(b, section, param_place(values, k));
         let a = emit_enumerator(b, section, work, text, p, nth(first, k), name_off, lvl);
         let v = load_enum_value(b, section, values, k);
-        let c = put_value(text, a, t.signed, v);
-        p = put_bytes(text, c, b",");
+        let c = put_value(text, a, kind_flag_of(t.info), v);
+        p = put_byte(text, c, b',');
         k += 1;
     }
     p
@@ -97,10 +100,10 @@ fn emit_values64(
     text: &mut [u8],
     at: usize,
     id: u32,
-    t: BtfEnum,
+    t: BtfType,
     lvl: u32,
 ) -> usize {
-    let values = t.values;
+    let values = entries_of(t);
     let vlen = values.vlen;
     let first = get_field(work, id, 12);
     let mut p = at;
@@ -109,8 +112,8 @@ fn emit_values64(
         let name_off = word(b, section, member_place(values, k));
         let a = emit_enumerator(b, section, work, text, p, nth(first, k), name_off, lvl);
         let v = load_enum64_value(b, section, values, k);
-        let c = put_value64(text, a, t.signed, v);
-        p = put_bytes(text, c, b",");
+        let c = put_value64(text, a, kind_flag_of(t.info), v);
+        p = put_byte(text, c, b',');
         k += 1;
     }
     p
@@ -133,9 +136,9 @@ fn emit_enum_head(
 
 // The line end and the bracket that close the values.
 fn emit_enum_end(text: &mut [u8], at: usize, lvl: u32) -> usize {
-    let a = put_bytes(text, at, b"\n");
+    let a = put_byte(text, at, b'\n');
     let c = put_tabs(text, a, lvl);
-    put_bytes(text, c, b"}")
+    put_byte(text, c, b'}')
 }
 
 // One level deeper.
@@ -150,14 +153,14 @@ pub fn emit_enum_def(
     text: &mut [u8],
     at: usize,
     id: u32,
-    t: BtfEnum,
+    t: BtfType,
     lvl: u32,
 ) -> usize {
     if is_builtin(b, section, t.name_off) {
         return at;
     }
     let a = emit_enum_head(b, section, work, text, at, id, t.name_off);
-    let values = t.values;
+    let values = entries_of(t);
     if values.vlen == 0 {
         return a;
     }
@@ -173,14 +176,14 @@ pub fn emit_enum64_def(
     text: &mut [u8],
     at: usize,
     id: u32,
-    t: BtfEnum,
+    t: BtfType,
     lvl: u32,
 ) -> usize {
     if is_builtin(b, section, t.name_off) {
         return at;
     }
     let a = emit_enum_head(b, section, work, text, at, id, t.name_off);
-    let values = t.values;
+    let values = entries_of(t);
     if values.vlen == 0 {
         return a;
     }

@@ -1,5 +1,5 @@
 -- The accessors: a law for each return, and what is so of every table. Assumes nothing.
-use Prim.Native.Nat.{ℕ, zero, suc, _+_, _-_, _<_, _≤_}
+use Prim.Native.Nat.{ℕ, zero, suc, _+_, _-_, _/_, _%_, _<_, _≤_}
 use mathlib.Core.Path.{_≡_, refl, ap, _∙_, sym}
 use mathlib.Core.Bool.{Bool, true, false, true≢false}
 use mathlib.Core.List.{List, [], _∷_}
@@ -11,8 +11,8 @@ use lib.Dec.{eqb}
 use borrow.Author.Tests.{lt-ltb, le-ltb, eqb-true, ne-eqb}
 use Rattle.lent.proofs.Laws.{le-or-lt}
 use Rattle.btf.specs.declared.types.Btf.{Btf}
-use Rattle.btf.specs.Records.{sectionWord, vlenOf, kindOf, memberAt, paramAt}
-use Rattle.followed.specs.Followed.{among, countOf, placeOf, composites, targets, countFor, idPlace, infoAt, kindAt, followedCount, followedId}
+use Rattle.btf.specs.Records.{sectionWord, vlenOf, memberAt, paramAt}
+use Rattle.followed.specs.Followed.{among, countOf, entryAt, placeOf, kindAt, composites, targets, countFor, idPlace, countAt, idAt, followedCount, followedId}
 
 -- f is t at lo, lo + 1, .., n of them
 abbrev pub Steady : (ℕ → Bool) → Bool → ℕ → ℕ → Type 0
@@ -65,14 +65,6 @@ count-all b h = ⊎-elim (λ l. sym (count-out b (b .types) refl l) ∙ exact l)
   where
     exact : 262145 ≤ b .types → 262145 ≡ b .types
     exact l = omega arith
-
-pub place-in : (start : List ℕ) (x : ℕ) → getD start x 0 ≡ placeOf start x
-unfolding placeOf
-place-in start x = refl
-
-pub place-out : (start : List ℕ) (x : ℕ) → length start ≤ x → 0 ≡ placeOf start x
-unfolding placeOf
-place-out start x h = sym (List·getD-eq-default start 0 h)
 
 module _ (k v : ℕ) where
   target : among targets k ≡ true → 1 ≡ countFor k v
@@ -134,19 +126,44 @@ module _ (kind at k : ℕ) where
   unfolding idPlace
   id-target m e n = rw (idPlace, ne-eqb kind 3 m, e, ne-eqb kind 13 n)
 
-module _ (b : Btf) (s start : List ℕ) (x : ℕ) where
-  pub info-in : (x ≡ 0 → ⊥) → (n : ℕ) → n ≡ countOf b → x < n → (p w : ℕ) → p ≡ placeOf start x → w ≡ sectionWord b s (p + 4) → w ≡ infoAt b s start x
-  unfolding infoAt
-  info-in m n e h p w f g = rw (infoAt, ne-eqb x 0 m, ← e, lt-ltb x n h, ← f) g
+module _ (b : Btf) (start : List ℕ) (x : ℕ) (m : x ≡ 0 → ⊥) (n : ℕ) (e : n ≡ countOf b) (h : x < n) where
+  pub entry-in : getD start x 0 ≡ entryAt b start x
+  unfolding entryAt
+  entry-in = rw (entryAt, ne-eqb x 0 m, ← e, lt-ltb x n h)
 
-  pub kind-is : (i k : ℕ) → i ≡ infoAt b s start x → k ≡ kindOf i → k ≡ kindAt b s start x
+  pub entry-past : length start ≤ x → 0 ≡ entryAt b start x
+  entry-past l = sym (List·getD-eq-default start 0 l) ∙ entry-in
+
+module _ (b : Btf) (s : List ℕ) (kind at v r : ℕ) (e : v ≡ vlenOf (sectionWord b s (at + 4))) where
+  -- the count of a record, by the vlen that was read
+  pub count-by : r ≡ countFor kind v → r ≡ countAt b s kind at
+  unfolding countAt
+  count-by f = rw (← e) f
+
+-- and where vlen is not read
+pub count-any : (b : Btf) (s : List ℕ) (kind at r : ℕ) → r ≡ countFor kind (vlenOf (sectionWord b s (at + 4))) → r ≡ countAt b s kind at
+unfolding countAt
+count-any b s kind at r f = f
+
+pub id-is : (b : Btf) (s : List ℕ) (kind at k q r : ℕ) → q ≡ idPlace kind at k → r ≡ sectionWord b s q → r ≡ idAt b s kind at k
+unfolding idAt
+id-is b s kind at k q r f g = rw (← f) g
+
+-- a type by its entry
+module _ (b : Btf) (start : List ℕ) (x i : ℕ) (e : i ≡ entryAt b start x) where
+  pub kind-is : i % 32 ≡ kindAt b start x
   unfolding kindAt
-  kind-is i k e f = rw (← e) f
+  kind-is = ap (λ (n : ℕ). n % 32) e
 
-  pub followed-count-is : (i k v r : ℕ) → i ≡ infoAt b s start x → k ≡ kindOf i → v ≡ vlenOf i → r ≡ countFor k v → r ≡ followedCount b s start x
-  unfolding followedCount kindAt
-  followed-count-is i k v r e f g h = rw (← e, ← f, ← g) h
+  pub place-is : i / 32 ≡ placeOf b start x
+  unfolding placeOf
+  place-is = ap (λ (n : ℕ). n / 32) e
 
-  pub followed-is : (k t p q r : ℕ) → t ≡ kindAt b s start x → p ≡ placeOf start x → q ≡ idPlace t p k → r ≡ sectionWord b s q → r ≡ followedId b s start x k
-  unfolding followedId
-  followed-is k t p q r e f g h = rw (← e, ← f, ← g) h
+  module _ (s : List ℕ) (r : ℕ) where
+    pub followed-count-is : r ≡ countAt b s (i % 32) (i / 32) → r ≡ followedCount b s start x
+    unfolding followedCount
+    followed-count-is f = rw (← kind-is, ← place-is) f
+
+    pub followed-is : (k : ℕ) → r ≡ idAt b s (i % 32) (i / 32) k → r ≡ followedId b s start x k
+    unfolding followedId
+    followed-is k f = rw (← kind-is, ← place-is) f

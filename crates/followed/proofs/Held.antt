@@ -1,5 +1,5 @@
 -- Cause 7 on the table: a law for each return, and the theorem. Assumes nothing.
-use Prim.Native.Nat.{ℕ, _+_, _<_, _≤_}
+use Prim.Native.Nat.{ℕ, _+_, _/_, _%_, _<_, _≤_}
 use mathlib.Core.Path.{_≡_, refl, ap, _∙_, sym}
 use mathlib.Core.Bool.{Bool, true, false}
 use mathlib.Core.List.{List}
@@ -10,33 +10,33 @@ use borrow.Author.Tests.{eqb-true, ne-eqb}
 use Rattle.lent.specs.Words.{pick}
 use Rattle.btf.specs.declared.types.Btf.{Btf}
 use Rattle.followed.specs.Any.{anyBelow}
-use Rattle.followed.specs.Followed.{among, countOf, kindAt, followedCount, followedId}
+use Rattle.followed.specs.Followed.{among, countOf, entryAt, kindAt, countAt, followedCount, followedId}
 use Rattle.followed.specs.Track.{Leads, here, on, leadsTo}
-use Rattle.followed.specs.Prototypes.{through, holders, whatOf, nextOf, trackOf, asksOf, asker, anyLeads, ToProto, ends, passes, ProtoInside}
+use Rattle.followed.specs.Prototypes.{through, holders, whatOf, nextOf, trackOf, asksAt, asksOf, asker, anyLeads, ToProto, ends, passes, ProtoInside}
 use Rattle.followed.specs.Cells.{Rest, Answer, Part}
 use Rattle.followed.proofs.Any.{any-find, any-yes, one-more, found-below, none-found}
-use Rattle.followed.proofs.Accessors.{steady, apart}
+use Rattle.followed.proofs.Accessors.{steady, apart, kind-is, place-is}
 use Rattle.followed.proofs.Tracks.{leads-to}
 
-module _ (b : Btf) (s start : List ℕ) where
-  module _ (x k : ℕ) (e : k ≡ kindAt b s start x) where
-    what-passes : among through k ≡ true → 1 ≡ whatOf b s start x
+module _ (b : Btf) (start : List ℕ) where
+  module _ (x k : ℕ) (e : k ≡ kindAt b start x) where
+    what-passes : among through k ≡ true → 1 ≡ whatOf b start x
     unfolding whatOf
     what-passes f = rw (whatOf, ← e, f)
 
-    pub what-proto : k ≡ 13 → 2 ≡ whatOf b s start x
+    pub what-proto : k ≡ 13 → 2 ≡ whatOf b start x
     unfolding whatOf among
     what-proto f = rw (whatOf, ← e, f)
 
-    pub what-one : (k ≡ 3) ⊎ (k ≡ 18) → 1 ≡ whatOf b s start x
+    pub what-one : (k ≡ 3) ⊎ (k ≡ 18) → 1 ≡ whatOf b start x
     unfolding among
     what-one o = what-passes (⊎-elim (λ f. rw f) (λ f. rw f) o)
 
-    pub what-through : 8 ≤ k → k < 12 → 1 ≡ whatOf b s start x
+    pub what-through : 8 ≤ k → k < 12 → 1 ≡ whatOf b start x
     unfolding among
     what-through h l = what-passes (steady (among through) true 8 4 k (refl, (refl, (refl, (refl, tt)))) h l)
 
-    pub what-none : ((k ≡ 3) ⊎ (k ≡ 18) → ⊥) → (k ≡ 13 → ⊥) → (k < 8) ⊎ (12 ≤ k) → 0 ≡ whatOf b s start x
+    pub what-none : ((k ≡ 3) ⊎ (k ≡ 18) → ⊥) → (k ≡ 13 → ⊥) → (k < 8) ⊎ (12 ≤ k) → 0 ≡ whatOf b start x
     unfolding whatOf
     what-none m n o = rw (whatOf, ← e, off o, ne-eqb k 13 n)
       where
@@ -44,17 +44,24 @@ module _ (b : Btf) (s start : List ℕ) where
         off (inl h) = apart through k ((λ f. m (inl f)), (omega arith, (omega arith, (omega arith, (omega arith, ((λ f. m (inr f)), tt))))))
         off (inr h) = apart through k ((λ f. m (inl f)), (omega arith, (omega arith, (omega arith, (omega arith, ((λ f. m (inr f)), tt))))))
 
-    pub asks-inside : 3 ≤ k → k < 6 → (n : ℕ) → n ≡ followedCount b s start x → n ≡ asksOf b s start x
-    unfolding asksOf among
-    asks-inside h l n f = rw (asksOf, ← e, steady (among holders) true 3 3 k (refl, (refl, (refl, tt))) h l) f
+-- members and elements of the record of a kind at a place
+module _ (b : Btf) (s : List ℕ) (k at : ℕ) where
+  pub asks-inside : 3 ≤ k → k < 6 → (n : ℕ) → n ≡ countAt b s k at → n ≡ asksAt b s k at
+  unfolding asksAt among
+  asks-inside h l n f = rw (asksAt, steady (among holders) true 3 3 k (refl, (refl, (refl, tt))) h l) f
 
-    pub asks-none : (k < 3) ⊎ (6 ≤ k) → 0 ≡ asksOf b s start x
-    unfolding asksOf
-    asks-none o = rw (asksOf, ← e, off o)
-      where
-        off : (k < 3) ⊎ (6 ≤ k) → among holders k ≡ false
-        off (inl h) = apart holders k (omega arith, (omega arith, (omega arith, tt)))
-        off (inr h) = apart holders k (omega arith, (omega arith, (omega arith, tt)))
+  pub asks-none : (k < 3) ⊎ (6 ≤ k) → 0 ≡ asksAt b s k at
+  unfolding asksAt
+  asks-none o = rw (asksAt, off o)
+    where
+      off : (k < 3) ⊎ (6 ≤ k) → among holders k ≡ false
+      off (inl h) = apart holders k (omega arith, (omega arith, (omega arith, tt)))
+      off (inr h) = apart holders k (omega arith, (omega arith, (omega arith, tt)))
+
+module _ (b : Btf) (s start : List ℕ) where
+  pub asks-is : (x i : ℕ) → i ≡ entryAt b start x → (n : ℕ) → n ≡ asksAt b s (i % 32) (i / 32) → n ≡ asksOf b s start x
+  unfolding asksOf
+  asks-is x i e n f = rw (← kind-is b start x i e, ← place-is b start x i e) f
 
   pub next-is : (x r : ℕ) → r ≡ followedId b s start x 0 → r ≡ nextOf b s start x
   unfolding nextOf
@@ -93,34 +100,34 @@ module _ (b : Btf) (s start : List ℕ) where
     all-no h a = none-found (asker b s start) n _ i e h a
 
   -- members and elements, and the walk, in the table's own terms
-  asks-kind : (x k : ℕ) → k < asksOf b s start x → (among holders (kindAt b s start x) ≡ true) × (k < followedCount b s start x)
-  unfolding asksOf
-  asks-kind x k h = go (among holders (kindAt b s start x)) refl h
+  asks-kind : (x k : ℕ) → k < asksOf b s start x → (among holders (kindAt b start x) ≡ true) × (k < followedCount b s start x)
+  unfolding asksOf asksAt followedCount
+  asks-kind x k h = go (among holders (kindAt b start x)) refl h
     where
-      go : (t : Bool) → among holders (kindAt b s start x) ≡ t → k < pick t (followedCount b s start x) 0 → (among holders (kindAt b s start x) ≡ true) × (k < followedCount b s start x)
+      go : (t : Bool) → among holders (kindAt b start x) ≡ t → k < pick t (followedCount b s start x) 0 → (among holders (kindAt b start x) ≡ true) × (k < followedCount b s start x)
       go true e l = (e, l)
       go false e l = absurd (omega arith)
 
-  asks-holder : (x k : ℕ) → among holders (kindAt b s start x) ≡ true → k < followedCount b s start x → k < asksOf b s start x
-  unfolding asksOf
-  asks-holder x k e h = rw (asksOf, e) h
+  asks-holder : (x k : ℕ) → among holders (kindAt b start x) ≡ true → k < followedCount b s start x → k < asksOf b s start x
+  unfolding asksOf asksAt followedCount
+  asks-holder x k e h = rw (asksOf, asksAt, e) h
 
-  what-one-kind : (x : ℕ) → whatOf b s start x ≡ 1 → among through (kindAt b s start x) ≡ true
+  what-one-kind : (x : ℕ) → whatOf b start x ≡ 1 → among through (kindAt b start x) ≡ true
   unfolding whatOf
-  what-one-kind x e = go (among through (kindAt b s start x)) (eqb (kindAt b s start x) 13) refl e
+  what-one-kind x e = go (among through (kindAt b start x)) (eqb (kindAt b start x) 13) refl e
     where
-      go : (t p : Bool) → among through (kindAt b s start x) ≡ t → pick t 1 (pick p 2 0) ≡ 1 → among through (kindAt b s start x) ≡ true
+      go : (t p : Bool) → among through (kindAt b start x) ≡ t → pick t 1 (pick p 2 0) ≡ 1 → among through (kindAt b start x) ≡ true
       go true p f q = f
       go false true f q = absurd (omega arith)
       go false false f q = absurd (omega arith)
 
-  what-two-kind : (x : ℕ) → whatOf b s start x ≡ 2 → kindAt b s start x ≡ 13
+  what-two-kind : (x : ℕ) → whatOf b start x ≡ 2 → kindAt b start x ≡ 13
   unfolding whatOf
-  what-two-kind x e = go (among through (kindAt b s start x)) (eqb (kindAt b s start x) 13) refl e
+  what-two-kind x e = go (among through (kindAt b start x)) (eqb (kindAt b start x) 13) refl e
     where
-      go : (t p : Bool) → eqb (kindAt b s start x) 13 ≡ p → pick t 1 (pick p 2 0) ≡ 2 → kindAt b s start x ≡ 13
+      go : (t p : Bool) → eqb (kindAt b start x) 13 ≡ p → pick t 1 (pick p 2 0) ≡ 2 → kindAt b start x ≡ 13
       go true p f q = absurd (omega arith)
-      go false true f q = eqb-true (kindAt b s start x) 13 f
+      go false true f q = eqb-true (kindAt b start x) 13 f
       go false false f q = absurd (omega arith)
 
   to-proto : {y : ℕ} → Leads (trackOf b s start) y → ToProto b s start y
@@ -130,8 +137,8 @@ module _ (b : Btf) (s start : List ℕ) where
 
   from-proto : {y : ℕ} → ToProto b s start y → Leads (trackOf b s start) y
   unfolding nextOf
-  from-proto (ends {y = y} e) = here (sym (what-proto y _ refl e))
-  from-proto (passes {y = y} e l) = on (sym (what-passes y _ refl e)) (from-proto l)
+  from-proto (ends {y = y} e) = here (sym (what-proto b start y _ refl e))
+  from-proto (passes {y = y} e l) = on (sym (what-passes b start y _ refl e)) (from-proto l)
 
   -- THE THEOREM
   pub any-leads : (anyLeads b s start ≡ true) ↔ ProtoInside b s start

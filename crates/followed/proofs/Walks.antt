@@ -3,7 +3,7 @@ use Prim.Native.Nat.{ℕ, zero, suc, _+_, _-_, _<_, _≤_}
 use mathlib.Core.Path.{_≡_, refl, ap, _∙_, sym, subst}
 use mathlib.Core.Bool.{Bool, true, false, true≢false}
 use mathlib.Core.List.{List, [], _∷_}
-use mathlib.Core.Logic.{⊎-elim, _≢_}
+use mathlib.Core.Logic.{⊎-elim, _≢_, inl, inr}
 use native.Mathlib.Omega.{arith}
 use native.Mathlib.Decide.{ℕ-discrete}
 use lib.ListN.{length, getD, set, length-set, replicate, List·getD-eq-default}
@@ -12,7 +12,7 @@ use lib.Dec.{ltb}
 use borrow.Author.Tests.{lt-ltb, le-ltb}
 use Rattle.lent.proofs.Laws.{le-or-lt}
 use Rattle.followed.specs.Graph.{Graph, Edge, Loop, hasLoop}
-use Rattle.followed.specs.Walk.{Safe, safe, total, isZero, zeros, room, Fine, Inv, Turned, Walked}
+use Rattle.followed.specs.Walk.{Safe, safe, total, isZero, zeros, room, Fine, Known, Opened, Passed, Passes, Inv, Turned, Walked}
 use Rattle.followed.proofs.Graphs.{cut, all-safe, has-loop-yes, has-loop-no}
 
 total-set : (f : ℕ → ℕ) (l : List ℕ) (i v : ℕ) → i < length l → total f (set l i v) + f (getD l i 0) ≡ total f l + f v
@@ -44,6 +44,10 @@ zeros-max (a ∷ l) = omega (arith, one a, zeros-max l)
 pub room-less : (l : List ℕ) (i v : ℕ) → i < length l → getD l i 0 < v → v ≤ 131072 → room (set l i v) < room l
 unfolding room
 room-less l i v h a b = omega (arith, total-set (λ v. 131072 - v) l i v h)
+
+room-up : (l : List ℕ) (i v : ℕ) → i < length l → getD l i 0 ≤ v → room (set l i v) ≤ room l
+unfolding room
+room-up l i v h a = omega (arith, total-set (λ v. 131072 - v) l i v h)
 
 pub room-le : (l : List ℕ) (i : ℕ) → i < length l → room (set l i 131072) ≤ room l
 unfolding room
@@ -97,9 +101,6 @@ module _ (G : Graph) (st stack : List ℕ) (d : ℕ) (inv : Inv G st stack d) (p
   pub top-inside : top stack d < 262145
   top-inside = omega (arith, inside st (top stack d) top-begun, inv .st-length)
 
-  pub small : (g : ℕ) → g ≡ G .deg (top stack d) → getD st (top stack d) 0 ≤ g → getD st (top stack d) 0 ≤ 65536
-  small g e h = omega (arith, G .few (top stack d))
-
   pub space : (y : ℕ) → y < 262145 → getD st y 0 ≡ 0 → d < 262145
   space y b z = omega (arith, zeros-less st y 1 (omega (arith, inv .st-length)) z (omega arith), inv .deep)
 
@@ -142,37 +143,6 @@ module _ (G : Graph) (st stack : List ℕ) (d : ℕ) (inv : Inv G st stack d) (p
   module _ (g : ℕ) (e : g ≡ G .deg (top stack d)) (h : getD st (top stack d) 0 ≤ g) (y : ℕ) (to : y ≡ G .to (top stack d) (getD st (top stack d) 0 - 1)) where
     edge : Edge G (top stack d) y
     edge = (getD st (top stack d) 0 - 1, omega (arith, top-begun), sym to)
-
-    pub advance : Safe G y → Turned G st d (set st (top stack d) (getD st (top stack d) 0 + 1)) stack d
-    advance s = record {
-      stop = λ q. absurd (omega (arith, inv .deep));
-      go = λ _. record {
-        inv = record {
-          st-length = simp length-set (inv .st-length);
-          stack-length = inv .stack-length;
-          deep = omega (arith, zeros-same st (top stack d) (getD st (top stack d) 0 + 1) in-st top-begun (omega arith), inv .deep);
-          begun = λ j p. up (getD stack j 0) (inv .begun j p);
-          held = each-set (Held stack d) st (top stack d) (getD st (top stack d) 0 + 1) in-st (λ v n. inv .held v) (λ a b. (d - 1, omega arith, refl));
-          way = inv .way;
-          fine = each-set (Fine G) st (top stack d) (getD st (top stack d) 0 + 1) in-st (λ v n. inv .fine v) (record { passed = λ p. each; done = λ p. absurd (omega (arith, G .few (top stack d))) });
-        };
-        rises = up;
-        less = omega (arith, room-less st (top stack d) (getD st (top stack d) 0 + 1) in-st (omega arith) (omega (arith, G .few (top stack d))));
-      };
-    }
-      where
-        in-st : top stack d < length st
-        in-st = inside st (top stack d) top-begun
-
-        up : (v : ℕ) → 0 < getD st v 0 → 0 < getD (set st (top stack d) (getD st (top stack d) 0 + 1)) v 0
-        up = rises st (top stack d) (getD st (top stack d) 0 + 1) in-st (omega arith)
-
-        each : (k : ℕ) → suc k < getD st (top stack d) 0 + 1 → Safe G (G .to (top stack d) k)
-        each k p =
-            ⊎-elim
-            (λ q. inv .fine (top stack d) .passed (omega (arith, G .few (top stack d))) k q)
-            (λ q. let r : getD st (top stack d) 0 - 1 ≡ k = omega arith in subst (Safe G) (to ∙ ap (G .to (top stack d)) r) s)
-            (le-or-lt (suc (suc k)) (getD st (top stack d) 0))
 
     pub push : y < 262145 → getD st y 0 ≡ 0 → Turned G st d (set st y 1) (set stack d y) (d + 1)
     push b z = record {
@@ -254,6 +224,102 @@ module _ (G : Graph) (st stack : List ℕ) (d : ℕ) (inv : Inv G st stack d) (p
                     let i : d - 1 ≡ k = omega arith in
                     rw (closing-end stack d y (suc k) (omega arith)) (subst (λ (a : ℕ). Edge G (getD stack a 0) y) i edge)
 
+-- a node that is safe, or open
+pub no-way-safe : (G : Graph) (x n : ℕ) → n ≡ G .deg x → n ≡ 0 → Safe G x
+no-way-safe G x n e z = safe none
+  where
+    none : (k : ℕ) → k < G .deg x → Safe G (G .to x k)
+    none k h = absurd (omega arith)
+
+pub shut-is : (G : Graph) (st : List ℕ) (y : ℕ) → Safe G y → Opened G st y false
+shut-is G st y s = record { shut = λ e. s; inside = λ e. absurd (true≢false (sym e)) }
+
+pub shut-out : (G : Graph) (st : List ℕ) (y : ℕ) → Known G st → length st ≤ y → Opened G st y false
+shut-out G st y w h = shut-is G st y (out-safe G y (omega (arith, w .st-length)))
+
+pub open-is : (G : Graph) (st : List ℕ) (y : ℕ) → Known G st → y < length st → getD st y 0 < 131072 → Opened G st y true
+open-is G st y w h l = record { shut = λ e. absurd (true≢false e); inside = λ e. (omega (arith, w .st-length), l) }
+
+pub known : (G : Graph) (st stack : List ℕ) (d : ℕ) → Inv G st stack d → Known G st
+known G st stack d inv = record { st-length = inv .st-length; fine = inv .fine }
+
+pub few-at : (G : Graph) (st stack : List ℕ) (d : ℕ) → Inv G st stack d → (x n : ℕ) → n ≡ G .deg x → n ≤ 65536
+few-at G st stack d inv x n e = omega (arith, G .few x)
+
+-- the successors, one after another
+module _ (G : Graph) (to : ℕ → ℕ) (n m : ℕ) where
+  pub pass-start : Passed G to n m m
+  pass-start = record { from = omega arith; upto = inl refl; ones = λ k p q. absurd (omega arith) }
+
+  module _ (r : ℕ) (w : Passed G to n m r) where
+    pub pass-more : r ≤ n → 0 < m → (y : ℕ) → y ≡ to (r - 1) → Safe G y → Passed G to n m (r + 1)
+    pass-more l z y e s = record {
+      from = omega (arith, w .from);
+      upto = inr (omega arith);
+      ones = λ k p q. ⊎-elim (λ h. w .ones k p h) (λ h. let t : r - 1 ≡ k = omega (arith, w .from) in subst (Safe G) (e ∙ ap to t) s) (le-or-lt (suc (suc k)) r);
+    }
+
+    module _ (st : List ℕ) where
+      pub pass-all : n < r → Passes G st to n m r
+      pass-all h = record { passed = w; next = λ l. absurd (omega arith) }
+
+      pub pass-one : (y : ℕ) → y ≡ to (r - 1) → (t : Bool) → Opened G st y t → t ≡ true → Passes G st to n m r
+      pass-one y e t o q = record { passed = w; next = λ l. subst (λ (a : ℕ). (a < 262145) × (getD st a 0 < 131072)) e (o .inside q) }
+
+pub next-at : (G : Graph) (st : List ℕ) (to : ℕ → ℕ) (n m r : ℕ) → Passes G st to n m r → r ≤ n → (y : ℕ) → y ≡ to (r - 1) → (y < 262145) × (getD st y 0 < 131072)
+next-at G st to n m r w l y e = subst (λ (a : ℕ). (a < 262145) × (getD st a 0 < 131072)) (sym e) (w .next l)
+
+-- a turn that passed the top's successors up to p - 1
+module _ (G : Graph) (st stack : List ℕ) (d : ℕ) (inv : Inv G st stack d) (pos : 0 < d) (g : ℕ) (e : g ≡ G .deg (top stack d)) (p : ℕ)
+    (w : Passed G (G .to (top stack d)) g (getD st (top stack d) 0) p) where
+  in-st : top stack d < length st
+  in-st = inside st (top stack d) (top-begun G st stack d inv pos)
+
+  pub some-way : 0 < p
+  some-way = omega (arith, top-begun G st stack d inv pos, w .from)
+
+  up : (v : ℕ) → 0 < getD st v 0 → 0 < getD (set st (top stack d) p) v 0
+  up = rises st (top stack d) p in-st some-way
+
+  same : getD (set st (top stack d) p) (top stack d) 0 ≡ p
+  same = getD-set-same st (top stack d) p 0 in-st
+
+  fine-at : Fine G (top stack d) p
+  fine-at = record {
+    passed = λ l k q. ⊎-elim (λ h. inv .fine (top stack d) .passed (omega (arith, w .from)) k h) (λ h. w .ones k (omega arith) q) (le-or-lt (suc (suc k)) (getD st (top stack d) 0));
+    done = λ l. ⊎-elim (λ r. inv .fine (top stack d) .done (omega arith)) (λ r. absurd (omega (arith, G .few (top stack d)))) (w .upto);
+  }
+
+  pub passed-inv : Inv G (set st (top stack d) p) stack d
+  passed-inv = record {
+    st-length = simp length-set (inv .st-length);
+    stack-length = inv .stack-length;
+    deep = omega (arith, zeros-same st (top stack d) p in-st (top-begun G st stack d inv pos) some-way, inv .deep);
+    begun = λ j q. up (getD stack j 0) (inv .begun j q);
+    held = each-set (Held stack d) st (top stack d) p in-st (λ v n. inv .held v) (λ a b. (d - 1, omega arith, refl));
+    way = inv .way;
+    fine = each-set (Fine G) st (top stack d) p in-st (λ v n. inv .fine v) fine-at;
+  }
+
+  lift : (st′ stack′ : List ℕ) (r : ℕ) → Turned G (set st (top stack d) p) d st′ stack′ r → Turned G st d st′ stack′ r
+  lift st′ stack′ r t = record {
+    stop = t .stop;
+    go = λ n. let q = t .go n in record { inv = q .inv; rises = λ v h. q .rises v (up v h); less = omega (arith, q .less, room-up st (top stack d) p in-st (w .from)) };
+  }
+
+  pub pass-pop : g < p → Turned G st d (set (set st (top stack d) p) (top stack d) 131072) stack (d - 1)
+  pass-pop h = lift _ _ _ (pop G (set st (top stack d) p) stack d passed-inv pos g e (rw same h))
+
+  module _ (h : p ≤ g) (y : ℕ) (to : y ≡ G .to (top stack d) (p - 1)) where
+    pub pass-push : y < 262145 → getD (set st (top stack d) p) y 0 ≡ 0 → Turned G st d (set (set st (top stack d) p) y 1) (set stack d y) (d + 1)
+    pass-push b z = lift _ _ _ (push G (set st (top stack d) p) stack d passed-inv pos g e (rw same h) y (rw same to) b z)
+
+    pub pass-found : (getD (set st (top stack d) p) y 0 ≡ 0 → ⊥) → getD st y 0 < 131072 → Turned G st d (set st (top stack d) p) stack 262146
+    pass-found n l = lift _ _ _ (found G (set st (top stack d) p) stack d passed-inv pos g e (rw same h) y (rw same to) n low)
+      where
+        low : getD (set st (top stack d) p) y 0 < 131072
+        low = each-set (λ v a. getD st v 0 < 131072 → a < 131072) st (top stack d) p in-st (λ v n q. q) (λ q. omega (arith, G .few (top stack d))) y l
+
 -- a walk's start, and its end
 module _ (G : Graph) (st stack : List ℕ) (inv : Inv G st stack 0) (x : ℕ) where
   pub start : x < 262145 → getD st x 0 ≡ 0 → Inv G (set st x 1) (set stack 0 x) 1 × (0 < getD (set st x 1) x 0)
@@ -290,6 +356,30 @@ module _ (G : Graph) (st stack : List ℕ) (inv : Inv G st stack 0) (x : ℕ) wh
 
   pub rest-at : (getD st x 0 ≡ 0 → ⊥) → Walked G x st stack false
   rest-at n = rest (omega arith)
+
+  -- a node with no successors is done at once
+  pub no-way : x < 262145 → getD st x 0 ≡ 0 → (n : ℕ) → n ≡ G .deg x → n ≡ 0 → Walked G x (set st x 131072) stack false
+  no-way b w n e z = record {
+    stop = λ q. absurd (true≢false (sym q));
+    go = λ q. (
+      record {
+        st-length = simp length-set (inv .st-length);
+        stack-length = inv .stack-length;
+        deep = omega (arith, zeros-less st x 131072 in-st w (omega arith), inv .deep);
+        begun = λ j p. absurd (none j p);
+        held = each-set (Held stack 0) st x 131072 in-st (λ v n. inv .held v) (λ p l. absurd (omega arith));
+        way = λ j p. absurd (none (suc j) p);
+        fine = each-set (Fine G) st x 131072 in-st (λ v n. inv .fine v) (record { passed = λ p. absurd (omega arith); done = λ p. no-way-safe G x n e z });
+      },
+      no-way-safe G x n e z,
+    );
+  }
+    where
+      none : (j : ℕ) → j < 0 → ⊥
+      none j p = omega arith
+
+      in-st : x < length st
+      in-st = omega (arith, inv .st-length)
 
 pub walk-loop : (G : Graph) (x : ℕ) (st : List ℕ) (d : ℕ) (st′ stack′ : List ℕ) (r : ℕ) → Turned G st d st′ stack′ r → r ≡ 262146 → Walked G x st′ stack′ true
 walk-loop G x st d st′ stack′ r t e = record { stop = λ _. t .stop e; go = λ q. absurd (true≢false q) }

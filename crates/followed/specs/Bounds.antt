@@ -9,8 +9,8 @@ use lib.Dec.{ltb, eqb}
 use borrow.Author.Tests.{le-ltb, ltb-true, ne-eqb}
 use Rattle.lent.specs.Words.{pick}
 use Rattle.btf.specs.declared.types.Btf.{Btf}
-use Rattle.btf.specs.Records.{vlenOf}
-use Rattle.followed.specs.Followed.{among, countOf, composites, targets, countFor, infoAt, kindAt, followedCount}
+use Rattle.btf.specs.Records.{sectionWord, vlenOf}
+use Rattle.followed.specs.Followed.{among, countOf, entryAt, placeOf, kindAt, composites, targets, countFor, countAt, followedCount}
 
 pub count-fits : (b : Btf) → countOf b ≤ 262145
 unfolding countOf
@@ -20,30 +20,36 @@ count-fits b = go (ltb (b .types) 262145) refl
     go true e = omega (arith, ltb-true (b .types) 262145 e)
     go false e = omega arith
 
-module _ (b : Btf) (s start : List ℕ) (x : ℕ) where
-  pub info-void : x ≡ 0 → 0 ≡ infoAt b s start x
-  unfolding infoAt
-  info-void e = rw e
+module _ (b : Btf) (start : List ℕ) (x : ℕ) where
+  pub entry-void : x ≡ 0 → 0 ≡ entryAt b start x
+  unfolding entryAt
+  entry-void e = rw e
 
-  pub info-out : (x ≡ 0 → ⊥) → (n : ℕ) → n ≡ countOf b → n ≤ x → 0 ≡ infoAt b s start x
-  unfolding infoAt
-  info-out m n e h = rw (infoAt, ne-eqb x 0 m, ← e, le-ltb x n h)
+  pub entry-out : (x ≡ 0 → ⊥) → (n : ℕ) → n ≡ countOf b → n ≤ x → 0 ≡ entryAt b start x
+  unfolding entryAt
+  entry-out m n e h = rw (entryAt, ne-eqb x 0 m, ← e, le-ltb x n h)
 
   -- void, and what lies past the table, is of kind 0
-  pub kind-out : countOf b ≤ x → kindAt b s start x ≡ 0
+  pub kind-out : countOf b ≤ x → kindAt b start x ≡ 0
   unfolding kindAt
-  kind-out h = elim (ℕ-discrete x 0) [ yes e ↦ rw (← info-void e) | no n ↦ rw (← info-out n (countOf b) refl h) ]
+  kind-out h = elim (ℕ-discrete x 0) [ yes e ↦ rw (← entry-void e) | no n ↦ rw (← entry-out n (countOf b) refl h) ]
 
-  pub followed-few : followedCount b s start x ≤ 65536
-  unfolding followedCount countFor
-  followed-few = go (among targets (kindAt b s start x)) (among composites (kindAt b s start x)) (eqb (kindAt b s start x) 13)
+module _ (b : Btf) (s : List ℕ) where
+  count-few : (kind at : ℕ) → countAt b s kind at ≤ 65536
+  unfolding countAt countFor
+  count-few kind at = go (among targets kind) (among composites kind) (eqb kind 13)
     where
-      go : (t u w : Bool) → pick t 1 (pick u (vlenOf (infoAt b s start x)) (pick w (vlenOf (infoAt b s start x) + 1) 0)) ≤ 65536
+      go : (t u w : Bool) → pick t 1 (pick u (vlenOf (sectionWord b s (at + 4))) (pick w (vlenOf (sectionWord b s (at + 4)) + 1) 0)) ≤ 65536
       go true u w = omega arith
       go false true w = omega arith
       go false false true = omega arith
       go false false false = omega arith
 
-  pub followed-none : countOf b ≤ x → followedCount b s start x ≡ 0
-  unfolding followedCount countFor among
-  followed-none h = rw (kind-out h)
+  module _ (start : List ℕ) (x : ℕ) where
+    pub followed-few : followedCount b s start x ≤ 65536
+    unfolding followedCount
+    followed-few = count-few (kindAt b start x) (placeOf b start x)
+
+    pub followed-none : countOf b ≤ x → followedCount b s start x ≡ 0
+    unfolding followedCount countAt countFor among
+    followed-none h = rw (kind-out b start x h)

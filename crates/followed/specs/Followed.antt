@@ -1,13 +1,13 @@
--- The types of a table that is being opened, and the ids that they follow. b has the count, s is the section, and the index
--- `start` has the place of each record.
-use Prim.Native.Nat.{ℕ, _+_, _-_}
+-- The types of a table that is being opened, and the ids that they follow. b has the count, s is the section. The index `start`
+-- holds place * 32 + kind for each id: opening makes it, and opening's contract will say that they are the section's.
+use Prim.Native.Nat.{ℕ, _+_, _-_, _/_, _%_}
 use mathlib.Core.Bool.{Bool, true, false}
 use mathlib.Core.List.{List, [], _∷_}
 use lib.ListN.{getD}
 use lib.Dec.{ltb, eqb}
 use Rattle.lent.specs.Words.{pick}
 use Rattle.btf.specs.declared.types.Btf.{Btf}
-use Rattle.btf.specs.Records.{sectionWord, vlenOf, kindOf, memberAt, paramAt}
+use Rattle.btf.specs.Records.{sectionWord, vlenOf, memberAt, paramAt}
 
 -- k is one of a list of kinds
 unfoldable pub among : List ℕ → ℕ → Bool
@@ -18,9 +18,16 @@ among (a ∷ l) k = elim (eqb k a) [ true ↦ true | false ↦ among l k ]
 unfoldable pub countOf : Btf → ℕ
 countOf b = pick (ltb (b .types) 262145) (b .types) 262145
 
+-- the entry of type x in the index: "0 is void"; void, and what lies past the table, has 0
+unfoldable pub entryAt : Btf → List ℕ → ℕ → ℕ
+entryAt b start x = pick (eqb x 0) 0 (pick (ltb x (countOf b)) (getD start x 0) 0)
+
 -- where the record of type x stands
-unfoldable pub placeOf : List ℕ → ℕ → ℕ
-placeOf start x = getD start x 0
+unfoldable pub placeOf : Btf → List ℕ → ℕ → ℕ
+placeOf b start x = entryAt b start x / 32
+
+unfoldable pub kindAt : Btf → List ℕ → ℕ → ℕ
+kindAt b start x = entryAt b start x % 32
 
 -- "STRUCT(4), UNION(5)"
 abbrev pub composites : List ℕ
@@ -42,17 +49,19 @@ idPlace kind at k =
     (pick (among composites kind) (memberAt at k + 4)
     (pick (eqb kind 13) (pick (eqb k 0) (at + 8) (paramAt at (k - 1) + 4)) (at + 8)))
 
-module _ (b : Btf) (s start : List ℕ) where
-  -- "0 is void"; void, and what lies past the table, has info 0
-  unfoldable pub infoAt : ℕ → ℕ
-  infoAt x = pick (eqb x 0) 0 (pick (ltb x (countOf b)) (sectionWord b s (placeOf start x + 4)) 0)
+module _ (b : Btf) (s : List ℕ) where
+  -- of the record of a kind at a place: how many ids it follows; only vlen is read
+  unfoldable pub countAt : ℕ → ℕ → ℕ
+  countAt kind at = countFor kind (vlenOf (sectionWord b s (at + 4)))
 
-  unfoldable pub kindAt : ℕ → ℕ
-  kindAt x = kindOf (infoAt x)
+  -- and the k-th
+  unfoldable pub idAt : ℕ → ℕ → ℕ → ℕ
+  idAt kind at k = sectionWord b s (idPlace kind at k)
 
-  -- "Followed ids are targets of pointers, qualifiers, type tags, typedefs, elements, members, parameters, results"
-  unfoldable pub followedCount : ℕ → ℕ
-  followedCount x = countFor (kindAt x) (vlenOf (infoAt x))
+  module _ (start : List ℕ) where
+    -- "Followed ids are targets of pointers, qualifiers, type tags, typedefs, elements, members, parameters, results"
+    unfoldable pub followedCount : ℕ → ℕ
+    followedCount x = countAt (kindAt b start x) (placeOf b start x)
 
-  unfoldable pub followedId : ℕ → ℕ → ℕ
-  followedId x k = sectionWord b s (idPlace (kindAt x) (placeOf start x) k)
+    unfoldable pub followedId : ℕ → ℕ → ℕ
+    followedId x k = idAt (kindAt b start x) (placeOf b start x) k

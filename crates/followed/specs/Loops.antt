@@ -6,7 +6,7 @@ use mathlib.Core.Bool.{Bool, true, false}
 use mathlib.Core.List.{List, [], _∷_}
 use Rattle.lent.specs.Words.{pick}
 use Rattle.btf.specs.declared.types.Btf.{Btf}
-use Rattle.followed.specs.Followed.{among, composites, countOf, kindAt, followedCount, followedId}
+use Rattle.followed.specs.Followed.{among, composites, countOf, placeOf, kindAt, countAt, followedCount, followedId}
 use Rattle.followed.specs.Bounds.{count-fits, followed-few, followed-none}
 use Rattle.followed.specs.Graph.{Graph}
 
@@ -14,22 +14,28 @@ use Rattle.followed.specs.Graph.{Graph}
 abbrev pub passing : List ℕ
 passing = 2 ∷ 3 ∷ 8 ∷ 9 ∷ 10 ∷ 11 ∷ 13 ∷ 18 ∷ []
 
+-- every type is a node; a composite has no successors, so that no loop passes it, and what follows no id has none either
+unfoldable pub degAt : Btf → List ℕ → ℕ → ℕ → ℕ
+degAt b s kind at = pick (among composites kind) 0 (countAt b s kind at)
+
 module _ (b : Btf) (s start : List ℕ) where
-  -- every type is a node; a composite has no successors, so that no loop passes it, and what follows no id has none either
   unfoldable pub degOf : ℕ → ℕ
-  degOf x = pick (among composites (kindAt b s start x)) 0 (followedCount b s start x)
+  degOf x = degAt b s (kindAt b start x) (placeOf b start x)
+
+  -- it follows what the type follows, but for a composite
+  pub deg-is : (x : ℕ) → degOf x ≡ pick (among composites (kindAt b start x)) 0 (followedCount b s start x)
+  unfolding degOf degAt followedCount
+  deg-is x = refl
 
   pub deg-few : (x : ℕ) → degOf x ≤ 65536
-  unfolding degOf
-  deg-few x = go (among composites (kindAt b s start x))
+  deg-few x = rw (deg-is x) (go (among composites (kindAt b start x)))
     where
       go : (t : Bool) → pick t 0 (followedCount b s start x) ≤ 65536
       go true = omega arith
       go false = followed-few b s start x
 
   pub deg-out : (x : ℕ) → countOf b ≤ x → degOf x ≡ 0
-  unfolding degOf
-  deg-out x h = go (among composites (kindAt b s start x))
+  deg-out x h = rw (deg-is x) (go (among composites (kindAt b start x)))
     where
       go : (t : Bool) → pick t 0 (followedCount b s start x) ≡ 0
       go true = refl
@@ -44,5 +50,5 @@ module _ (b : Btf) (s start : List ℕ) where
     pub x : ℕ → ℕ
     pub some : 1 ≤ n
     pub round : x n ≡ x 0
-    pub kinds : (i : ℕ) → i ≤ n → among passing (kindAt b s start (x i)) ≡ true
+    pub kinds : (i : ℕ) → i ≤ n → among passing (kindAt b start (x i)) ≡ true
     pub follows : (i : ℕ) → i < n → (k : ℕ) × (k < followedCount b s start (x i)) × (followedId b s start (x i) k ≡ x (suc i))

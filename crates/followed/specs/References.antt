@@ -13,12 +13,12 @@ use Rattle.followed.specs.Followed.{among, countOf, kindAt, followedCoun
 abbrev pub refused : List ℕ
 refused = 12 ∷ 14 ∷ 15 ∷ 17 ∷ []
 
-module _ (b : Btf) (s start : List ℕ) where
-  unfoldable pub isBad : ℕ → Bool
-  isBad y = elim (ltb y (countOf b)) [ true ↦ among refused (kindAt b s start y) | false ↦ true ]
+unfoldable pub isBad : Btf → List ℕ → ℕ → Bool
+isBad b start y = elim (ltb y (countOf b)) [ true ↦ among refused (kindAt b start y) | false ↦ true ]
 
+module _ (b : Btf) (s start : List ℕ) where
   unfoldable pub isSomeBad : ℕ → Bool
-  isSomeBad x = anyBelow (followedCount b s start x) (λ k. isBad (followedId b s start x k))
+  isSomeBad x = anyBelow (followedCount b s start x) (λ k. isBad b start (followedId b s start x k))
 
   -- the definition
   unfoldable pub hasBadReference : Bool
@@ -30,4 +30,4 @@ module _ (b : Btf) (s start : List ℕ) where
     pub k : ℕ
     pub type : x < countOf b
     pub followed : k < followedCount b s start x
-    pub bad : (countOf b ≤ followedId b s start x k) ⊎ (among refused (kindAt b s start (followedId b s start x k)) ≡ true)
+    pub bad : (countOf b ≤ followedId b s start x k) ⊎ (among refused (kindAt b start (followedId b s start x k)) ≡ true)

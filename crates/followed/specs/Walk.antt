@@ -4,6 +4,7 @@ use Prim.Native.Nat.{ℕ, zero, suc, _+_, _-_, _≤_, _<_}
 use mathlib.Core.Path.{_≡_}
 use mathlib.Core.Bool.{Bool, true, false}
 use mathlib.Core.List.{List, [], _∷_}
+use mathlib.Core.Logic.{_⊎_}
 use lib.ListN.{length, getD}
 use Rattle.followed.specs.Graph.{Graph, Edge, Loop}
 
@@ -28,6 +29,27 @@ room l = total (λ v. 131072 - v) l
 pub record Fine (G : Graph) (v w : ℕ) : Type 0 where
   pub passed : w < 131072 → (k : ℕ) → suc k < w → Safe G (G .to v k)
   pub done : 131072 ≤ w → Safe G v
+
+-- what st tells of the nodes
+pub record Known (G : Graph) (st : List ℕ) : Type 0 where
+  pub st-length : length st ≡ 262145
+  pub fine : (v : ℕ) → Fine G v (getD st v 0)
+
+-- y is open (r true), or safe
+pub record Opened (G : Graph) (st : List ℕ) (y : ℕ) (r : Bool) : Type 0 where
+  pub shut : r ≡ false → Safe G y
+  pub inside : r ≡ true → (y < 262145) × (getD st y 0 < 131072)
+
+-- of the successors to 0, .., n of them, those from m - 1 on and before r - 1 are safe
+pub record Passed (G : Graph) (to : ℕ → ℕ) (n m r : ℕ) : Type 0 where
+  pub from : m ≤ r
+  pub upto : (r ≡ m) ⊎ (r ≤ n + 1)
+  pub ones : (k : ℕ) → m ≤ suc k → suc k < r → Safe G (to k)
+
+-- and r - 1, if there is such a one, is open
+pub record Passes (G : Graph) (st : List ℕ) (to : ℕ → ℕ) (n m r : ℕ) : Type 0 where
+  pub passed : Passed G to n m r
+  pub next : r ≤ n → (to (r - 1) < 262145) × (getD st (to (r - 1)) 0 < 131072)
 
 pub record Inv (G : Graph) (st stack : List ℕ) (d : ℕ) : Type 0 where
   pub st-length : length st ≡ 262145

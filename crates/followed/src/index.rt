@@ -1,14 +1,14 @@
 // Types by id, through the index, and the ids that they follow.
 use btf::Btf;
 use btf::Entries;
-use btf::kind_of;
 use btf::member_place;
 use btf::param_place;
 use btf::vlen_of;
 use btf::word;
 ghost use mathlib.Core.Path.{_≡_};
-ghost use Prim.Native.Nat.{_<_};
-ghost use Rattle.followed.specs.Followed.{countOf, placeOf, countFor, idPlace, infoAt, kindAt, followedCount, followedId};
+ghost use Prim.Native.Nat.{_+_};
+ghost use Rattle.btf.specs.Records.{sectionWord, vlenOf};
+ghost use Rattle.followed.specs.Followed.{countOf, entryAt, kindAt, countAt, idPlace, idAt, followedCount, followedId};
 
 // How many types there are, void counted. No table that passed cause 5 has more than 262145.
 pub fn count(b: Btf) -> u32
@@ -18,20 +18,9 @@ pub fn count(b: Btf) -> u32
     if n < 262145 { n } else { 262145 }
 }
 
-// The place of the record of type x, or 0.
-fn place_of(start: &[u32], x: u32) -> u32
-    ensures { λ r. ⌜ r ≡ placeOf (now (start .entry)) x ⌝ }
-{
-    let i = x as usize;
-    if i < start.len() {
-        return start[i];
-    }
-    0
-}
-
-// The info word of type x; void, and what lies past the table, has 0.
-fn info_at(b: Btf, section: &[u8], start: &[u32], x: u32) -> u32
-    ensures { λ r. ⌜ r ≡ infoAt b (now (section .entry)) (now (start .entry)) x ⌝ }
+// The entry of type x in the index: its place * 32 + its kind. Void, and what lies past the table, has 0.
+pub fn entry(b: Btf, start: &[u32], x: u32) -> u32
+    ensures { λ r. ⌜ r ≡ entryAt b (now (start .entry)) x ⌝ }
 {
     if x == 0 {
         return 0;
@@ -40,24 +29,33 @@ fn info_at(b: Btf, section: &[u8], start: &[u32], x: u32) -> u32
     if n <= x {
         return 0;
     }
-    word(b, section, (place_of(start, x) as usize) + 4)
+    let i = x as usize;
+    if i < start.len() {
+        return start[i];
+    }
+    0
 }
 
-pub fn kind_at(b: Btf, section: &[u8], start: &[u32], x: u32) -> u32
-    ensures { λ r. ⌜ r ≡ kindAt b (now (section .entry)) (now (start .entry)) x ⌝ }
+pub fn kind_at(b: Btf, start: &[u32], x: u32) -> u32
+    ensures { λ r. ⌜ r ≡ kindAt b (now (start .entry)) x ⌝ }
 {
-    kind_of(info_at(b, section, start, x))
+    entry(b, start, x) % 32
 }
 
-// How many ids a record follows: targets, elements, members, parameters and results.
-fn count_for(kind: u32, vlen: u32) -> u32
-    requires { ⌜ vlen < 65536 ⌝ }
-    ensures { λ r. ⌜ r ≡ countFor kind vlen ⌝ }
+fn vlen_at(b: Btf, section: &[u8], at: u32) -> u32
+    ensures { λ r. ⌜ r ≡ vlenOf (sectionWord b (now (section .entry)) (at + 4)) ⌝ }
+{
+    vlen_of(word(b, section, (at as usize) + 4))
+}
+
+// How many ids the record of a kind at a place follows: targets, elements, members, parameters and results.
+pub fn count_at(b: Btf, section: &[u8], kind: u32, at: u32) -> u32
+    ensures { λ r. ⌜ r ≡ countAt b (now (section .entry)) kind at ⌝ }
 {
     match kind {
         2 | 3 | 8 | 9 | 10 | 11 | 18 => 1,
-        4 | 5 => vlen,
-        13 => vlen + 1,
+        4 | 5 => vlen_at(b, section, at),
+        13 => vlen_at(b, section, at) + 1,
         _ => 0,
     }
 }
@@ -80,16 +78,23 @@ fn id_place(kind: u32, at: u32, k: u32) -> usize
     }
 }
 
+// The k-th of them.
+pub fn id_at(b: Btf, section: &[u8], kind: u32, at: u32, k: u32) -> u32
+    ensures { λ r. ⌜ r ≡ idAt b (now (section .entry)) kind at k ⌝ }
+{
+    word(b, section, id_place(kind, at, k))
+}
+
 pub fn followed_count(b: Btf, section: &[u8], start: &[u32], x: u32) -> u32
     ensures { λ r. ⌜ r ≡ followedCount b (now (section .entry)) (now (start .entry)) x ⌝ }
 {
-    let info = info_at(b, section, start, x);
-    count_for(kind_of(info), vlen_of(info))
+    let e = entry(b, start, x);
+    count_at(b, section, e % 32, e / 32)
 }
 
 pub fn followed(b: Btf, section: &[u8], start: &[u32], x: u32, k: u32) -> u32
     ensures { λ r. ⌜ r ≡ followedId b (now (section .entry)) (now (start .entry)) x k ⌝ }
 {
-    let kind = kind_at(b, section, start, x);
-    word(b, section, id_place(kind, place_of(start, x), k))
+    let e = entry(b, start, x);
+    id_at(b, section, e % 32, e / 32, k)
 }

@@ -1,4 +1,5 @@
-// The references of a table that is being opened: causes 6, 7 and 8. The index `start` says where each record stands.
+// The references of a table that is being opened: causes 6, 7 and 8. The index `start` says where each
+// record stands, and its kind: place * 32 + kind for each id, and 0 for void.
 mod index;
 mod loops;
 mod prototypes;

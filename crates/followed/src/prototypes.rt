@@ -1,19 +1,21 @@
 // Cause 7: a member or an array element that is a prototype, through typedefs, qualifiers, type tags and arrays. Each type
 // is walked once; a cell for each type remembers the answer: 0 not known, 1 no, 2 yes, 3 on this walk.
 use crate::index::count;
+use crate::index::count_at;
+use crate::index::entry;
 use crate::index::followed;
-use crate::index::followed_count;
+use crate::index::id_at;
 use crate::index::kind_at;
 use btf::Btf;
 ghost use mathlib.Core.Path.{_≡_};
-ghost use Rattle.followed.specs.Prototypes.{whatOf, nextOf, trackOf, asksOf, anyLeads};
+ghost use Rattle.followed.specs.Prototypes.{whatOf, nextOf, trackOf, asksAt, anyLeads};
 ghost use Rattle.followed.specs.Cells.{Fairs, Rest, Looked, Settle, Answer, Part};
 
 // 1: passes on to its target; 2: a prototype; 0: neither.
-fn what(b: Btf, section: &[u8], start: &[u32], x: u32) -> u32
-    ensures { λ r. ⌜ r ≡ whatOf b (now (section .entry)) (now (start .entry)) x ⌝ }
+fn what(b: Btf, start: &[u32], x: u32) -> u32
+    ensures { λ r. ⌜ r ≡ whatOf b (now (start .entry)) x ⌝ }
 {
-    match kind_at(b, section, start, x) {
+    match kind_at(b, start, x) {
         3 | 8..=11 | 18 => 1,
         13 => 2,
         _ => 0,
@@ -26,12 +28,12 @@ fn next(b: Btf, section: &[u8], start: &[u32], x: u32) -> u32
     followed(b, section, start, x, 0)
 }
 
-// How many of the ids that x follows are members or elements.
-fn asks(b: Btf, section: &[u8], start: &[u32], x: u32) -> u32
-    ensures { λ r. ⌜ r ≡ asksOf b (now (section .entry)) (now (start .entry)) x ⌝ }
+// How many of the ids that the record of a kind at a place follows are members or elements.
+fn asks(b: Btf, section: &[u8], kind: u32, at: u32) -> u32
+    ensures { λ r. ⌜ r ≡ asksAt b (now (section .entry)) kind at ⌝ }
 {
-    match kind_at(b, section, start, x) {
-        3..=5 => followed_count(b, section, start, x),
+    match kind {
+        3..=5 => count_at(b, section, kind, at),
         _ => 0,
     }
 }
@@ -49,7 +51,7 @@ fn look(b: Btf, section: &[u8], start: &[u32], cell: &[u32], z: u32) -> u32
     if w != 0 {
         return w;
     }
-    match what(b, section, start, z) {
+    match what(b, start, z) {
         1 => 0,
         2 => 2,
         _ => 1,
@@ -98,10 +100,13 @@ fn asks_of(b: Btf, section: &[u8], start: &[u32], cell: &mut [u32], x: u32) -> b
     requires { ⌜ Rest (trackOf b (now section) (now start)) (now cell) ⌝ }
     ensures { λ r. ⌜ Part b (now (section .entry)) (now (start .entry)) x (now (cell .exit)) r ⌝ }
 {
-    let n = asks(b, section, start, x);
+    let e = entry(b, start, x);
+    let kind = e % 32;
+    let at = e / 32;
+    let n = asks(b, section, kind, at);
     let mut k: u32 = 0;
     while k < n {
-        let y = followed(b, section, start, x, k);
+        let y = id_at(b, section, kind, at, k);
         if ask(b, section, start, cell, y) {
             return true;
         }

@@ -1,20 +1,21 @@
 // Cause 6: a followed id that is not below the count, or is of kind 12, 14, 15 or 17.
 use crate::index::count;
-use crate::index::followed;
-use crate::index::followed_count;
+use crate::index::count_at;
+use crate::index::entry;
+use crate::index::id_at;
 use crate::index::kind_at;
 use btf::Btf;
 ghost use mathlib.Core.Path.{_≡_};
 ghost use Rattle.followed.specs.References.{isBad, isSomeBad, hasBadReference};
 
-fn is_bad(b: Btf, section: &[u8], start: &[u32], y: u32) -> bool
-    ensures { λ r. ⌜ r ≡ isBad b (now (section .entry)) (now (start .entry)) y ⌝ }
+fn is_bad(b: Btf, start: &[u32], y: u32) -> bool
+    ensures { λ r. ⌜ r ≡ isBad b (now (start .entry)) y ⌝ }
 {
     let n = count(b);
     if n <= y {
         return true;
     }
-    match kind_at(b, section, start, y) {
+    match kind_at(b, start, y) {
         12 | 14 | 15 | 17 => true,
         _ => false,
     }
@@ -23,10 +24,13 @@ fn is_bad(b: Btf, section: &[u8], start: &[u32], y: u32) -> bool
 fn is_some_bad(b: Btf, section: &[u8], start: &[u32], x: u32) -> bool
     ensures { λ r. ⌜ r ≡ isSomeBad b (now (section .entry)) (now (start .entry)) x ⌝ }
 {
-    let n = followed_count(b, section, start, x);
+    let e = entry(b, start, x);
+    let kind = e % 32;
+    let at = e / 32;
+    let n = count_at(b, section, kind, at);
     let mut k: u32 = 0;
     while k < n {
-        if is_bad(b, section, start, followed(b, section, start, x, k)) {
+        if is_bad(b, start, id_at(b, section, kind, at, k)) {
             return true;
         }
         k += 1;

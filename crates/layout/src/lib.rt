@@ -1,10 +1,20 @@
 // Sizes, alignments and the packed test. `left` is how many more calls may be open.
+
 use btf::Btf;
-use btf::BtfComposite;
 use btf::BtfMember;
 use btf::BtfType;
+use btf::Entries;
+use btf::array_nelems;
+use btf::array_type;
+use btf::entries_of;
+use btf::int_bits;
+use btf::is_struct;
+use btf::kind_of;
 use btf::load_member;
+use btf::member_place;
 use btf::type_by_id;
+use btf::vlen_of;
+use btf::word;
 
 // A value, or the refusal that asking for it meets.
 pub enum Ask {
@@ -54,46 +64,17 @@ pub fn get_size_of(b: Btf, section: &[u8], work: &[u8], id: u32, left: u32) -> A
     if left == 0 {
         return Ask::No(12);
     }
-    match type_by_id(b, section, work, id) {
-        BtfType::Void => Ask::Got(0),
-        BtfType::Int { name_off: _, bits } => Ask::Got(octets(bits)),
-        BtfType::Ptr(_) => Ask::Got(b.ptr_sz),
-        BtfType::Array {
-            val_type_id,
-            nelems,
-        } => product(nelems, get_size_of(b, section, work, val_type_id, left - 1)),
-        BtfType::Composite(t) => Ask::Got(t.sz),
-        BtfType::Enum(t) => Ask::Got(t.sz),
-        BtfType::Fwd {
-            name_off: _,
-            is_union: _,
-        } => Ask::Got(0),
-        BtfType::Typedef {
-            name_off: _,
-            type_id,
-        } => get_size_of(b, section, work, type_id, left - 1),
-        BtfType::Volatile(t) => get_size_of(b, section, work, t, left - 1),
-        BtfType::Const(t) => get_size_of(b, section, work, t, left - 1),
-        BtfType::Restrict(t) => get_size_of(b, section, work, t, left - 1),
-        BtfType::Func(_) => Ask::Got(0),
-        BtfType::FuncProto {
-            res_type_id: _,
-            params: _,
-        } => Ask::Got(0),
-        BtfType::Var(_) => Ask::Got(0),
-        BtfType::Datasec(_) => Ask::Got(0),
-        BtfType::Float { name_off: _, sz } => Ask::Got(sz),
-        BtfType::DeclTag {
-            name_off: _,
-            type_id,
-            is_attr: _,
-        } => get_size_of(b, section, work, type_id, left - 1),
-        BtfType::TypeTag {
-            name_off: _,
-            type_id,
-            is_attr: _,
-        } => get_size_of(b, section, work, type_id, left - 1),
-        BtfType::Enum64(t) => Ask::Got(t.sz),
+    let t = type_by_id(b, section, work, id);
+    match kind_of(t.info) {
+        1 => Ask::Got(octets(int_bits(b, section, t))),
+        2 => Ask::Got(b.ptr_sz),
+        3 => {
+            let element = get_size_of(b, section, work, array_type(b, section, t), left - 1);
+            product(array_nelems(b, section, t), element)
+        }
+        4..=6 | 16 | 19 => Ask::Got(t.type_id),
+        8..=11 | 17 | 18 => get_size_of(b, section, work, t.type_id, left - 1),
+        _ => Ask::Got(0),
     }
 }
 
@@ -101,58 +82,26 @@ pub fn get_align_of(b: Btf, section: &[u8], work: &[u8], id: u32, left: u32) -> 
     if left == 0 {
         return Ask::No(12);
     }
-    match type_by_id(b, section, work, id) {
-        BtfType::Void => Ask::Got(0),
-        BtfType::Int { name_off: _, bits } => Ask::Got(smaller(b.ptr_sz, octets(bits))),
-        BtfType::Ptr(_) => Ask::Got(b.ptr_sz),
-        BtfType::Array {
-            val_type_id,
-            nelems: _,
-        } => get_align_of(b, section, work, val_type_id, left - 1),
-        BtfType::Composite(t) => align_members(b, section, work, t, left - 1),
-        BtfType::Enum(t) => Ask::Got(smaller(b.ptr_sz, t.sz)),
-        BtfType::Fwd {
-            name_off: _,
-            is_union: _,
-        } => Ask::Got(0),
-        BtfType::Typedef {
-            name_off: _,
-            type_id,
-        } => get_align_of(b, section, work, type_id, left - 1),
-        BtfType::Volatile(t) => get_align_of(b, section, work, t, left - 1),
-        BtfType::Const(t) => get_align_of(b, section, work, t, left - 1),
-        BtfType::Restrict(t) => get_align_of(b, section, work, t, left - 1),
-        BtfType::Func(_) => Ask::Got(0),
-        BtfType::FuncProto {
-            res_type_id: _,
-            params: _,
-        } => Ask::Got(0),
-        BtfType::Var(_) => Ask::Got(0),
-        BtfType::Datasec(_) => Ask::Got(0),
-        BtfType::Float { name_off: _, sz } => Ask::Got(smaller(b.ptr_sz, sz)),
-        BtfType::DeclTag {
-            name_off: _,
-            type_id: _,
-            is_attr: _,
-        } => Ask::Got(0),
-        BtfType::TypeTag {
-            name_off: _,
-            type_id,
-            is_attr: _,
-        } => get_align_of(b, section, work, type_id, left - 1),
-        BtfType::Enum64(t) => Ask::Got(smaller(b.ptr_sz, t.sz)),
+    let t = type_by_id(b, section, work, id);
+    match kind_of(t.info) {
+        1 => Ask::Got(smaller(b.ptr_sz, octets(int_bits(b, section, t)))),
+        2 => Ask::Got(b.ptr_sz),
+        3 => get_align_of(b, section, work, array_type(b, section, t), left - 1),
+        4 | 5 => align_members(b, section, work, entries_of(t), left - 1),
+        6 | 16 | 19 => Ask::Got(smaller(b.ptr_sz, t.type_id)),
+        8..=11 | 18 => get_align_of(b, section, work, t.type_id, left - 1),
+        _ => Ask::Got(0),
     }
 }
 
 // The largest of the members' alignments, at least 1.
-fn align_members(b: Btf, section: &[u8], work: &[u8], t: BtfComposite, left: u32) -> Ask {
-    let members = t.members;
+fn align_members(b: Btf, section: &[u8], work: &[u8], members: Entries, left: u32) -> Ask {
     let vlen = members.vlen;
     let mut align: u32 = 1;
     let mut k: u32 = 0;
     while k < vlen {
-        let m = load_member(b, section, t, k);
-        match get_align_of(b, section, work, m.type_id, left) {
+        let type_id = word(b, section, member_place(members, k) + 4);
+        match get_align_of(b, section, work, type_id, left) {
             Ask::Got(a) => {
                 align = larger(align, a);
             }
@@ -165,61 +114,95 @@ fn align_members(b: Btf, section: &[u8], work: &[u8], t: BtfComposite, left: u32
     Ask::Got(align)
 }
 
-// Whether a member that is no bit field is off its own alignment; an alignment of 0 has no remainder.
-fn is_member_off(b: Btf, section: &[u8], work: &[u8], m: BtfMember) -> Packed {
-    if m.bit_size != 0 {
-        return Packed::Is(false);
-    }
-    match get_align_of(b, section, work, m.type_id, 512) {
-        Ask::Got(a) => off_align(a, m.bit_offset),
-        Ask::No(c) => Packed::No(c),
-    }
+// What the members of a struct say: the largest alignment, at least 1, and of the plain ones, in order, the first that is
+// off its own alignment (1) or has none (15), or 0.
+struct Fit {
+    align: u32,
+    verdict: u32,
 }
 
-fn off_align(a: u32, bit_offset: u32) -> Packed {
+enum Fits {
+    Got(Fit),
+    No(u32),
+}
+
+// What one member says. A bit field has no alignment of its own.
+fn verdict_of(a: u32, m: BtfMember) -> u32 {
+    if m.bit_size != 0 {
+        return 0;
+    }
     if a == 0 {
-        return Packed::No(15);
+        return 15;
     }
     let unit = (a as u64) * 8;
-    Packed::Is((bit_offset as u64) % unit != 0)
+    if (m.bit_offset as u64) % unit != 0 {
+        return 1;
+    }
+    0
 }
 
-fn is_some_member_off(b: Btf, section: &[u8], work: &[u8], t: BtfComposite) -> Packed {
-    let members = t.members;
-    let vlen = members.vlen;
+// One member more.
+fn with_member(f: Fit, a: u32, m: BtfMember) -> Fit {
+    let align = larger(f.align, a);
+    if f.verdict != 0 {
+        return Fit {
+            align: align,
+            verdict: f.verdict,
+        };
+    }
+    Fit {
+        align: align,
+        verdict: verdict_of(a, m),
+    }
+}
+
+// The alignments of the members are those that get_align_of of the struct asks, so 511 calls are left for them.
+fn fit_members(b: Btf, section: &[u8], work: &[u8], t: BtfType) -> Fits {
+    let vlen = vlen_of(t.info);
+    let mut f = Fit {
+        align: 1,
+        verdict: 0,
+    };
     let mut k: u32 = 0;
     while k < vlen {
-        match is_member_off(b, section, work, load_member(b, section, t, k)) {
-            Packed::Is(off) => {
-                if off {
-                    return Packed::Is(true);
-                }
+        let m = load_member(b, section, t, k);
+        match get_align_of(b, section, work, m.type_id, 511) {
+            Ask::Got(a) => {
+                f = with_member(f, a, m);
             }
-            Packed::No(c) => {
-                return Packed::No(c);
+            Ask::No(c) => {
+                return Fits::No(c);
             }
         }
         k += 1;
     }
-    Packed::Is(false)
+    Fits::Got(f)
 }
 
-// A struct is packed if its size is no multiple of its alignment, or some member is off its own.
-pub fn is_struct_packed(b: Btf, section: &[u8], work: &[u8], id: u32, t: BtfComposite) -> Packed {
-    if !t.is_struct {
+// A struct is packed if its size is no multiple of its alignment, or some plain member is off its own; a plain member
+// without alignment before that has no answer.
+fn packed_by(sz: u32, f: Fit) -> Packed {
+    let align = f.align;
+    if align == 0 {
+        return Packed::No(15);
+    }
+    if sz % align != 0 {
+        return Packed::Is(true);
+    }
+    if f.verdict == 15 {
+        return Packed::No(15);
+    }
+    Packed::Is(f.verdict == 1)
+}
+
+// The packed test. One pass: get_align_of of the struct asks for the same alignments.
+pub fn is_struct_packed(b: Btf, section: &[u8], work: &[u8], t: BtfType) -> Packed {
+    if !is_struct(t) {
         return Packed::Is(false);
     }
-    match get_align_of(b, section, work, id, 512) {
-        Ask::Got(a) => {
-            if a == 0 {
-                return Packed::No(15);
-            }
-            if t.sz % a != 0 {
-                return Packed::Is(true);
-            }
-            is_some_member_off(b, section, work, t)
-        }
-        Ask::No(c) => Packed::No(c),
+    match fit_members(b, section, work, t) {
+        Fits::Got(f) => packed_by(t.type_id, f),
+        Fits::No(c) => Packed::No(c),
     }
 }
 

@@ -48,6 +48,31 @@ pub fn word_at(b: &[u8], at: usize) -> u32
     0
 }
 
+// Three words in a row.
+pub struct Three {
+    pub first: u32,
+    pub second: u32,
+    pub third: u32,
+}
+
+// The three words whose bytes start at `at`, or zeros where they do not all lie inside.
+pub fn three_at(b: &[u8], at: usize) -> Three {
+    if at < b.len() {
+        if 11 < b.len() - at {
+            return Three {
+                first: join(b[at], b[at + 1], b[at + 2], b[at + 3]),
+                second: join(b[at + 4], b[at + 5], b[at + 6], b[at + 7]),
+                third: join(b[at + 8], b[at + 9], b[at + 10], b[at + 11]),
+            };
+        }
+    }
+    Three {
+        first: 0,
+        second: 0,
+        third: 0,
+    }
+}
+
 // Sets every byte to 0.
 pub fn clear(b: &mut [u8])
     ensures { λ _. ⌜ now (b .exit) ≡ replicate (length (now (b .entry))) 0 ⌝ }

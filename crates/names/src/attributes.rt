@@ -1,9 +1,10 @@
 // Declaration tags and type tags.
 use btf::Btf;
-use btf::BtfType;
 use btf::comp_idx_of;
 use btf::get_btf_str;
 use btf::get_field;
+use btf::kind_flag_of;
+use btf::kind_of;
 use btf::put_escaped;
 use btf::type_by_id;
 use lent::put_bytes;
@@ -40,17 +41,22 @@ fn emit_decl_tag(
     id: u32,
     comp_idx: u32,
 ) -> usize {
-    if comp_idx_of(b, section, get_field(work, id, 0)) != comp_idx {
+    let t = type_by_id(b, section, work, id);
+    if kind_of(t.info) != 17 {
         return at;
     }
-    match type_by_id(b, section, work, id) {
-        BtfType::DeclTag {
-            name_off,
-            type_id: _,
-            is_attr,
-        } => put_attribute(b, section, text, at, is_attr, b"btf_decl_tag", name_off),
-        _ => at,
+    if comp_idx_of(b, section, t) != comp_idx {
+        return at;
     }
+    put_attribute(
+        b,
+        section,
+        text,
+        at,
+        kind_flag_of(t.info),
+        b"btf_decl_tag",
+        t.name_off,
+    )
 }
 
 // The tags of a type, those of the whole (4294967295, which is -1) or of one member, in the order of their ids. The list

@@ -3,6 +3,7 @@ use crate::versions::put_name;
 use crate::versions::resolve_type_name;
 use btf::Btf;
 use btf::is_builtin;
+use lent::put_byte;
 use lent::put_bytes;
 
 pub fn put_keyword(b: Btf, text: &mut [u8], at: usize, is_struct: bool) -> usize {
@@ -31,7 +32,7 @@ pub fn emit_composite_fwd(
     }
     let name = resolve_type_name(b, section, work, id, name_off);
     let a = put_keyword(b, text, at, is_struct);
-    let c = put_bytes(text, a, b" ");
+    let c = put_byte(text, a, b' ');
     put_name(b, section, text, c, name)
 }
 

@@ -1,10 +1,11 @@
 // Names as they are printed. The first holder of a name prints it bare; the n-th, from 2 on, adds three underscores and n.
 use btf::Btf;
-use btf::get_btf_str;
 use btf::get_count;
 use btf::get_field;
 use btf::is_empty;
 use btf::put_field;
+use btf::put_str;
+use lent::put_byte;
 use lent::put_bytes;
 use lent::put_decimal;
 
@@ -55,7 +56,7 @@ pub fn resolve_name(b: Btf, work: &mut [u8], e: u32, off: u32) -> Name {
 }
 
 pub fn put_name(b: Btf, section: &[u8], text: &mut [u8], at: usize, name: Name) -> usize {
-    let a = put_bytes(text, at, get_btf_str(b, section, name.off));
+    let a = put_str(b, section, text, at, name.off);
     if name.version < 2 {
         return a;
     }
@@ -68,7 +69,7 @@ pub fn put_sep_name(b: Btf, section: &[u8], text: &mut [u8], at: usize, name: Na
     if is_empty(b, section, name.off) {
         return at;
     }
-    let a = put_bytes(text, at, b" ");
+    let a = put_byte(text, at, b' ');
     put_name(b, section, text, a, name)
 }
 

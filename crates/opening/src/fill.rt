@@ -1,18 +1,18 @@
 // What success leaves in the work: the places of records and enumerators, the tags of each type, the name classes.
 use btf::Btf;
 use btf::Entries;
+use btf::entries_of;
 use btf::get_field;
 use btf::holder_word;
-use btf::kind_of;
+use btf::load_type;
 use btf::member_place;
 use btf::param_place;
 use btf::put_field;
-use btf::vlen_of;
-use btf::word;
 use classes::classes;
 use lent::put_word;
 
-fn place_of(start: &[u32], x: u32) -> u32 {
+// Entry x of the index: place * 32 + kind.
+fn entry_of(start: &[u32], x: u32) -> u32 {
     let i = x as usize;
     if i < start.len() {
         return start[i];
@@ -25,7 +25,7 @@ fn fill_places(b: Btf, start: &[u32], work: &mut [u8]) {
     let n = b.types;
     let mut x: u32 = 1;
     while x < n {
-        put_field(work, x, 0, place_of(start, x));
+        put_field(work, x, 0, entry_of(start, x) / 32);
         x += 1;
     }
 }
@@ -59,16 +59,12 @@ fn fill_values(b: Btf, kind: u32, e: Entries, first: u32, work: &mut [u8]) {
 }
 
 // The enum x, if it is one: its first enumerator and its values. The number of the next enumerator.
-fn fill_enum(b: Btf, section: &[u8], at: u32, x: u32, first: u32, work: &mut [u8]) -> u32 {
-    let info = word(b, section, (at as usize) + 4);
-    let e = Entries {
-        at: at,
-        vlen: vlen_of(info),
-    };
-    match kind_of(info) {
+fn fill_enum(b: Btf, section: &[u8], entry: u32, x: u32, first: u32, work: &mut [u8]) -> u32 {
+    match entry % 32 {
         6 | 19 => {
+            let e = entries_of(load_type(b, section, entry / 32));
             put_field(work, x, 12, first);
-            fill_values(b, kind_of(info), e, first, work);
+            fill_values(b, entry % 32, e, first, work);
             plus(first, e.vlen)
         }
         _ => first,
@@ -80,18 +76,19 @@ fn fill_enums(b: Btf, section: &[u8], start: &[u32], work: &mut [u8]) {
     let mut first: u32 = 0;
     let mut x: u32 = 1;
     while x < n {
-        first = fill_enum(b, section, place_of(start, x), x, first, work);
+        first = fill_enum(b, section, entry_of(start, x), x, first, work);
         x += 1;
     }
 }
 
 // The tag x, if it is one, goes in front of the tags of its type.
-fn fill_tag(b: Btf, section: &[u8], at: u32, x: u32, work: &mut [u8]) {
-    if kind_of(word(b, section, (at as usize) + 4)) == 17 {
-        let t = word(b, section, (at as usize) + 8);
-        if t < b.types {
-            put_field(work, x, 10, get_field(work, t, 9));
-            put_field(work, t, 9, x);
+fn fill_tag(b: Btf, section: &[u8], entry: u32, x: u32, work: &mut [u8]) {
+    if entry % 32 == 17 {
+        let t = load_type(b, section, entry / 32);
+        let on = t.type_id;
+        if on < b.types {
+            put_field(work, x, 10, get_field(work, on, 9));
+            put_field(work, on, 9, x);
         }
     }
 }
@@ -101,7 +98,7 @@ fn fill_tags(b: Btf, section: &[u8], start: &[u32], work: &mut [u8]) {
     let mut x = b.types;
     while 1 < x {
         x -= 1;
-        fill_tag(b, section, place_of(start, x), x, work);
+        fill_tag(b, section, entry_of(start, x), x, work);
     }
 }
 

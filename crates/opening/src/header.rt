@@ -54,16 +54,19 @@ pub fn has_bad_header(section: &[u8]) -> bool {
     len < area_end(h, h.str_off, h.str_len)
 }
 
-// Whether a byte of a part is over 127.
-fn is_some_over(s: &[u8]) -> bool {
+fn larger(x: u8, y: u8) -> u8 {
+    if x < y { y } else { x }
+}
+
+// The largest byte. (With no way out of the loop, it takes many bytes at a time.)
+fn largest(s: &[u8]) -> u8 {
+    let mut m: u8 = 0;
     let mut i = 0;
     while i < s.len() {
-        if 127 < s[i] {
-            return true;
-        }
+        m = larger(m, s[i]);
         i += 1;
     }
-    false
+    m
 }
 
 // Whether a string area is empty, does not start or end in 0, or has a byte over 127.
@@ -77,7 +80,7 @@ fn is_bad_area(strs: &[u8]) -> bool {
     if strs[strs.len() - 1] != 0 {
         return true;
     }
-    is_some_over(strs)
+    127 < largest(strs)
 }
 
 // Cause 4.

@@ -88,9 +88,8 @@ fn next_record(b: Btf, section: &[u8], at: u32, end: u32, str_len: u32) -> u32 {
     }
 }
 
-// How many enumerators the record at a place has.
-fn enumerators_at(b: Btf, section: &[u8], at: u32) -> u32 {
-    let info = word(b, section, (at as usize) + 4);
+// How many enumerators a record with this info word has.
+fn enumerators_of(info: u32) -> u32 {
     match kind_of(info) {
         6 | 19 => vlen_of(info),
         _ => 0,
@@ -106,11 +105,11 @@ fn plus(x: u32, y: u32) -> u32 {
     }
 }
 
-// Puts a place into the index.
-fn put_start(start: &mut [u32], x: u32, at: u32) {
+// Puts the place and the kind of a record into the index: place * 32 + kind.
+fn put_start(start: &mut [u32], x: u32, at: u32, kind: u32) {
     let i = x as usize;
     if i < start.len() {
-        start[i] = at;
+        start[i] = at % 134217728 * 32 + kind % 32;
     }
 }
 
@@ -138,12 +137,13 @@ fn scan_area(
         if 262144 < x {
             return unsound();
         }
-        put_start(start, x, at);
+        let info = word(b, section, (at as usize) + 4);
+        put_start(start, x, at, kind_of(info));
         let next = next_record(b, section, at, end, str_len);
         if next <= at {
             return unsound();
         }
-        enumerators = plus(enumerators, enumerators_at(b, section, at));
+        enumerators = plus(enumerators, enumerators_of(info));
         at = next;
         x += 1;
     }

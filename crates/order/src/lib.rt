@@ -4,8 +4,9 @@ use btf::Entries;
 use btf::Node;
 use btf::get_field;
 use btf::is_named;
+use btf::kind_of;
 use btf::member_place;
-use btf::node_by_id;
+use btf::node_of;
 use btf::param_place;
 use btf::put_field;
 use btf::type_by_id;
@@ -19,7 +20,7 @@ pub struct Order {
     pub stop: u32,
 }
 
-fn get_order_state(work: &[u8], id: u32) -> u32 {
+pub fn get_order_state(work: &[u8], id: u32) -> u32 {
     get_field(work, id, 1)
 }
 
@@ -97,11 +98,16 @@ fn finish_typedef(work: &mut [u8], o: Order, id: u32, has_ptr: bool) -> Order {
 
 // An id in progress: a named composite behind a pointer is passed over, anything else is a cycle.
 fn meet(b: Btf, section: &[u8], work: &[u8], o: Order, id: u32, has_ptr: bool) -> Order {
-    let t = type_by_id(b, section, work, id);
     if has_ptr {
+        let t = type_by_id(b, section, work, id);
         if is_named(b, section, t) {
-            if let Node::Composite(_) = node_by_id(b, section, work, id) {
-                return strong(o, false);
+            match kind_of(t.info) {
+                4 | 5 => {
+                    return strong(o, false);
+                }
+                _ => {
+                    return refused(o, 13);
+                }
             }
         }
     }
@@ -143,11 +149,12 @@ fn order_new(
     has_ptr: bool,
     left: u32,
 ) -> Order {
-    match node_by_id(b, section, work, id) {
+    let t = type_by_id(b, section, work, id);
+    match node_of(b, section, t) {
         Node::Ignored => strong(o, false),
         Node::Plain => finish(work, o, id, false, false),
         Node::Listed(_) => {
-            let named = is_named(b, section, type_by_id(b, section, work, id));
+            let named = is_named(b, section, t);
             finish(work, o, id, named, true)
         }
         Node::Through(t) => order_type(b, section, work, o, t, has_ptr, left),
@@ -164,7 +171,8 @@ fn order_new(
             order_params(b, section, work, r, params, has_ptr, left)
         }
         Node::Composite(members) => {
-            order_composite(b, section, work, o, id, has_ptr, members, left)
+            let named = is_named(b, section, t);
+            order_composite(b, section, work, o, id, named, has_ptr, members, left)
         }
     }
 }
@@ -176,11 +184,11 @@ fn order_composite(
     work: &mut [u8],
     o: Order,
     id: u32,
+    named: bool,
     has_ptr: bool,
     members: Entries,
     left: u32,
 ) -> Order {
-    let named = is_named(b, section, type_by_id(b, section, work, id));
     if has_ptr {
         if named {
             return strong(o, false);

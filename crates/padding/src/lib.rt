@@ -4,6 +4,7 @@ use btf::BtfMember;
 use layout::Ask;
 use layout::chip_away_bits;
 use layout::get_align_of;
+use lent::put_byte;
 use lent::put_bytes;
 use lent::put_decimal;
 use lent::put_tabs;
@@ -55,12 +56,12 @@ fn put_unit(text: &mut [u8], at: usize, unit: u32) -> usize {
 }
 
 fn put_pad(text: &mut [u8], at: usize, pad: Pad, lvl: u32) -> usize {
-    let a = put_bytes(text, at, b"\n");
+    let a = put_byte(text, at, b'\n');
     let c = put_tabs(text, a, lvl);
     let d = put_unit(text, c, pad.unit);
     let e = put_bytes(text, d, b": ");
     let f = put_decimal(text, e, pad.width as u64);
-    put_bytes(text, f, b";")
+    put_byte(text, f, b';')
 }
 
 // What is left of a gap after a pad of a width.

@@ -132,6 +132,24 @@ fn dump_one(
     arrived(len, to - from, at)
 }
 
+// The same; most ids of a table have nothing to write.
+fn dump_next(
+    b: Btf,
+    section: &[u8],
+    work: &mut [u8],
+    text: &mut [u8],
+    len: u32,
+    id: u32,
+) -> Reached {
+    if emit::is_idle(b, section, work, id) {
+        return Reached {
+            len: len,
+            number: 0,
+        };
+    }
+    dump_one(b, section, work, text, len, id)
+}
+
 // Every id from 1 upward, to the first that is refused.
 fn dump_all(b: Btf, section: &[u8], work: &mut [u8], text: &mut [u8], len: u32) -> Reached {
     let n = b.types;
@@ -141,7 +159,7 @@ fn dump_all(b: Btf, section: &[u8], work: &mut [u8], text: &mut [u8], len: u32) 
     };
     let mut id: u32 = 1;
     while id < n {
-        r = dump_one(b, section, work, text, r.len, id);
+        r = dump_next(b, section, work, text, r.len, id);
         if r.number != 0 {
             return r;
         }

@@ -20,7 +20,7 @@ use Rattle.emit.proofs.+emit_composite+emit_members+emit_new+emit_param
 use Rattle.emit.proofs.emit_type.Reads as emit-type
 use Rattle.emit.proofs.emit_type.Kinds as emit-type-kinds
 use Rattle.emit.proofs.+emit_composite+emit_members+emit_new+emit_params+emit_type.Lts-emit_type as emit-type-lts
-use Rattle.btf.proofs.node_by_id.Reads as node-by-id-reads
+use Rattle.btf.proofs.node_of.Reads as node-of-reads
 use Rattle.btf.proofs.is_named.Reads as is-named-reads
 use Rattle.btf.proofs.member_place.Reads as member-place-reads
 use Rattle.btf.proofs.param_place.Reads as param-place-reads
@@ -44,13 +44,13 @@ use Rattle.emit.proofs.+emit_composite+emit_members+emit_new+emit_param
 }
 
 abbrev μ-emit-composite : Measures 3 emit-composite-kinds.ps ℕ
-μ-emit-composite κs a = 4 * (a .1 .1 .1 .1 .1 .1 .1 .1 .0) + 2
+μ-emit-composite κs a = 4 * (a .1 .1 .1 .1 .1 .1 .1 .1 .1 .0) + 2
 
 abbrev μ-emit-members : Measures 3 emit-members-kinds.ps ℕ
 μ-emit-members κs a = 4 * (a .1 .1 .1 .1 .1 .1 .1 .0) + 1
 
 abbrev μ-emit-new : Measures 3 emit-new-kinds.ps ℕ
-μ-emit-new κs a = 4 * (a .1 .1 .1 .1 .1 .1 .1 .0) + 3
+μ-emit-new κs a = 4 * (a .1 .1 .1 .1 .1 .1 .1 .1 .0) + 3
 
 abbrev μ-emit-params : Measures 3 emit-params-kinds.ps ℕ
 μ-emit-params κs a = 4 * (a .1 .1 .1 .1 .1 .1 .1 .0) + 1
@@ -110,8 +110,6 @@ emit-type-below t =
 
 abbrev emit-composite-claims : ℕ → emit-composite-lts.Claims
 emit-composite-claims t = (
-  type-by-id-reads.Asked,
-  type-by-id-reads.Learnt,
   is-named-reads.Asked,
   is-named-reads.Learnt,
   set-emit-state-reads.Asked,
@@ -138,8 +136,8 @@ emit-members-claims t = (
 
 abbrev emit-new-claims : ℕ → emit-new-lts.Claims
 emit-new-claims t = (
-  node-by-id-reads.Asked,
-  node-by-id-reads.Learnt,
+  node-of-reads.Asked,
+  node-of-reads.Learnt,
   emit-leaf-reads.Asked,
   emit-leaf-reads.Learnt,
   emit-type-below t,
@@ -182,9 +180,6 @@ emit-type-claims t = (
   emit-new.Post,
 )
 
-emit-composite-type-by-id-requires : (t : ℕ) → emit-composite-lts.Need-type-by-id-requires (emit-composite-claims t) (emit-composite-at t) emit-composite.Post
-emit-composite-type-by-id-requires t c κs = search needs
-
 emit-composite-is-named-requires : (t : ℕ) → emit-composite-lts.Need-is-named-requires (emit-composite-claims t) (emit-composite-at t) emit-composite.Post
 emit-composite-is-named-requires t c κs = search needs
 
@@ -199,8 +194,6 @@ emit-composite-emit-members-requires t c κs = (omega arith, tt)
 
 emit-composite-emit-definition-requires :
     (t : ℕ) → emit-composite-lts.Need-emit-definition-requires (
-      type-by-id-reads.Asked,
-      type-by-id-reads.Learnt,
       is-named-reads.Asked,
       is-named-reads.Learnt,
       set-emit-state-reads.Asked,
@@ -218,8 +211,6 @@ emit-composite-emit-definition-requires t c κs = search needs
 
 emit-composite-set-emit-state-requires-2 :
     (t : ℕ) → emit-composite-lts.Need-set-emit-state-requires-2 (
-      type-by-id-reads.Asked,
-      type-by-id-reads.Learnt,
       is-named-reads.Asked,
       is-named-reads.Learnt,
       set-emit-state-reads.Asked,
@@ -249,8 +240,6 @@ emit-composite-emit-members-requires-2 t c κs = (omega arith, tt)
 
 emit-composite-set-emit-state-requires-3 :
     (t : ℕ) → emit-composite-lts.Need-set-emit-state-requires-3 (
-      type-by-id-reads.Asked,
-      type-by-id-reads.Learnt,
       is-named-reads.Asked,
       is-named-reads.Learnt,
       set-emit-state-reads.Asked,
@@ -280,8 +269,6 @@ emit-composite-emit-mention-requires t c κs = search needs
 
 emit-composite-set-emit-state-requires-4 :
     (t : ℕ) → emit-composite-lts.Need-set-emit-state-requires-4 (
-      type-by-id-reads.Asked,
-      type-by-id-reads.Learnt,
       is-named-reads.Asked,
       is-named-reads.Learnt,
       set-emit-state-reads.Asked,
@@ -345,8 +332,8 @@ emit-members-same-length-2 t c = search needs
 emit-members-returns : (t : ℕ) → emit-members-lts.Need-returns (emit-members-claims t) (emit-members-at t) emit-members.Post emit-members-Inv-loop emit-members-μ-loop
 emit-members-returns t c = search needs
 
-emit-new-node-by-id-requires : (t : ℕ) → emit-new-lts.Need-node-by-id-requires (emit-new-claims t) (emit-new-at t) emit-new.Post
-emit-new-node-by-id-requires t c κs = search needs
+emit-new-node-of-requires : (t : ℕ) → emit-new-lts.Need-node-of-requires (emit-new-claims t) (emit-new-at t) emit-new.Post
+emit-new-node-of-requires t c κs = search needs
 
 emit-new-enum-told : (t : ℕ) → emit-new-lts.Need-enum-told (emit-new-claims t) (emit-new-at t) emit-new.Post
 emit-new-enum-told t c = search needs
@@ -360,20 +347,20 @@ emit-new-enum-known-is-fwd t c = search needs
 emit-new-emit-leaf-requires : (t : ℕ) → emit-new-lts.Need-emit-leaf-requires (emit-new-claims t) (emit-new-at t) emit-new.Post
 emit-new-emit-leaf-requires t c κs = search needs
 
-emit-new-enum-known-t : (t : ℕ) → emit-new-lts.Need-enum-known-t (emit-new-claims t) (emit-new-at t) emit-new.Post
-emit-new-enum-known-t t c = search needs
+emit-new-enum-known-next : (t : ℕ) → emit-new-lts.Need-enum-known-next (emit-new-claims t) (emit-new-at t) emit-new.Post
+emit-new-enum-known-next t c = search needs
 
 emit-new-emit-type-requires : (t : ℕ) → emit-new-lts.Need-emit-type-requires (emit-new-claims t) (emit-new-at t) emit-new.Post
 emit-new-emit-type-requires t c κs = (omega arith, tt)
 
-emit-new-enum-known-t-2 : (t : ℕ) → emit-new-lts.Need-enum-known-t-2 (emit-new-claims t) (emit-new-at t) emit-new.Post
-emit-new-enum-known-t-2 t c = search needs
+emit-new-enum-known-next-2 : (t : ℕ) → emit-new-lts.Need-enum-known-next-2 (emit-new-claims t) (emit-new-at t) emit-new.Post
+emit-new-enum-known-next-2 t c = search needs
 
 emit-new-emit-type-requires-2 : (t : ℕ) → emit-new-lts.Need-emit-type-requires-2 (emit-new-claims t) (emit-new-at t) emit-new.Post
 emit-new-emit-type-requires-2 t c κs = (omega arith, tt)
 
-emit-new-enum-known-t-3 : (t : ℕ) → emit-new-lts.Need-enum-known-t-3 (emit-new-claims t) (emit-new-at t) emit-new.Post
-emit-new-enum-known-t-3 t c = search needs
+emit-new-enum-known-next-3 : (t : ℕ) → emit-new-lts.Need-enum-known-next-3 (emit-new-claims t) (emit-new-at t) emit-new.Post
+emit-new-enum-known-next-3 t c = search needs
 
 emit-new-set-emit-state-requires : (t : ℕ) → emit-new-lts.Need-set-emit-state-requires (emit-new-claims t) (emit-new-at t) emit-new.Post
 emit-new-set-emit-state-requires t c κs = search needs
@@ -402,17 +389,20 @@ emit-new-enum-known-members t c = search needs
 emit-new-emit-composite-requires : (t : ℕ) → emit-new-lts.Need-emit-composite-requires (emit-new-claims t) (emit-new-at t) emit-new.Post
 emit-new-emit-composite-requires t c κs = (omega arith, tt)
 
-emit-new-same-length : (t : ℕ) → emit-new-lts.Need-same-length (emit-new-claims t) (emit-new-at t) emit-new.Post
-emit-new-same-length t c = search needs
-
 emit-new-returns : (t : ℕ) → emit-new-lts.Need-returns (emit-new-claims t) (emit-new-at t) emit-new.Post
 emit-new-returns t c = search needs
+
+emit-new-returns-2 : (t : ℕ) → emit-new-lts.Need-returns-2 (emit-new-claims t) (emit-new-at t) emit-new.Post
+emit-new-returns-2 t c = search needs
+
+emit-new-same-length : (t : ℕ) → emit-new-lts.Need-same-length (emit-new-claims t) (emit-new-at t) emit-new.Post
+emit-new-same-length t c = search needs
 
 emit-new-same-length-2 : (t : ℕ) → emit-new-lts.Need-same-length-2 (emit-new-claims t) (emit-new-at t) emit-new.Post
 emit-new-same-length-2 t c = search needs
 
-emit-new-returns-2 : (t : ℕ) → emit-new-lts.Need-returns-2 (emit-new-claims t) (emit-new-at t) emit-new.Post
-emit-new-returns-2 t c = search needs
+emit-new-returns-3 : (t : ℕ) → emit-new-lts.Need-returns-3 (emit-new-claims t) (emit-new-at t) emit-new.Post
+emit-new-returns-3 t c = search needs
 
 emit-new-same-length-3 : (t : ℕ) → emit-new-lts.Need-same-length-3 (emit-new-claims t) (emit-new-at t) emit-new.Post
 emit-new-same-length-3 t c = search needs
@@ -420,8 +410,8 @@ emit-new-same-length-3 t c = search needs
 emit-new-same-length-4 : (t : ℕ) → emit-new-lts.Need-same-length-4 (emit-new-claims t) (emit-new-at t) emit-new.Post
 emit-new-same-length-4 t c = search needs
 
-emit-new-returns-3 : (t : ℕ) → emit-new-lts.Need-returns-3 (emit-new-claims t) (emit-new-at t) emit-new.Post
-emit-new-returns-3 t c = search needs
+emit-new-returns-4 : (t : ℕ) → emit-new-lts.Need-returns-4 (emit-new-claims t) (emit-new-at t) emit-new.Post
+emit-new-returns-4 t c = search needs
 
 emit-new-same-length-5 : (t : ℕ) → emit-new-lts.Need-same-length-5 (emit-new-claims t) (emit-new-at t) emit-new.Post
 emit-new-same-length-5 t c = search needs
@@ -429,8 +419,8 @@ emit-new-same-length-5 t c = search needs
 emit-new-same-length-6 : (t : ℕ) → emit-new-lts.Need-same-length-6 (emit-new-claims t) (emit-new-at t) emit-new.Post
 emit-new-same-length-6 t c = search needs
 
-emit-new-returns-4 : (t : ℕ) → emit-new-lts.Need-returns-4 (emit-new-claims t) (emit-new-at t) emit-new.Post
-emit-new-returns-4 t c = search needs
+emit-new-returns-5 : (t : ℕ) → emit-new-lts.Need-returns-5 (emit-new-claims t) (emit-new-at t) emit-new.Post
+emit-new-returns-5 t c = search needs
 
 emit-new-same-length-7 : (t : ℕ) → emit-new-lts.Need-same-length-7 (emit-new-claims t) (emit-new-at t) emit-new.Post
 emit-new-same-length-7 t c = search needs
@@ -438,8 +428,8 @@ emit-new-same-length-7 t c = search needs
 emit-new-same-length-8 : (t : ℕ) → emit-new-lts.Need-same-length-8 (emit-new-claims t) (emit-new-at t) emit-new.Post
 emit-new-same-length-8 t c = search needs
 
-emit-new-returns-5 : (t : ℕ) → emit-new-lts.Need-returns-5 (emit-new-claims t) (emit-new-at t) emit-new.Post
-emit-new-returns-5 t c = search needs
+emit-new-returns-6 : (t : ℕ) → emit-new-lts.Need-returns-6 (emit-new-claims t) (emit-new-at t) emit-new.Post
+emit-new-returns-6 t c = search needs
 
 emit-new-same-length-9 : (t : ℕ) → emit-new-lts.Need-same-length-9 (emit-new-claims t) (emit-new-at t) emit-new.Post
 emit-new-same-length-9 t c = search needs
@@ -447,23 +437,14 @@ emit-new-same-length-9 t c = search needs
 emit-new-same-length-10 : (t : ℕ) → emit-new-lts.Need-same-length-10 (emit-new-claims t) (emit-new-at t) emit-new.Post
 emit-new-same-length-10 t c = search needs
 
-emit-new-returns-6 : (t : ℕ) → emit-new-lts.Need-returns-6 (emit-new-claims t) (emit-new-at t) emit-new.Post
-emit-new-returns-6 t c = search needs
+emit-new-returns-7 : (t : ℕ) → emit-new-lts.Need-returns-7 (emit-new-claims t) (emit-new-at t) emit-new.Post
+emit-new-returns-7 t c = search needs
 
 emit-new-same-length-11 : (t : ℕ) → emit-new-lts.Need-same-length-11 (emit-new-claims t) (emit-new-at t) emit-new.Post
 emit-new-same-length-11 t c = search needs
 
 emit-new-same-length-12 : (t : ℕ) → emit-new-lts.Need-same-length-12 (emit-new-claims t) (emit-new-at t) emit-new.Post
 emit-new-same-length-12 t c = search needs
-
-emit-new-returns-7 : (t : ℕ) → emit-new-lts.Need-returns-7 (emit-new-claims t) (emit-new-at t) emit-new.Post
-emit-new-returns-7 t c = search needs
-
-emit-new-same-length-13 : (t : ℕ) → emit-new-lts.Need-same-length-13 (emit-new-claims t) (emit-new-at t) emit-new.Post
-emit-new-same-length-13 t c = search needs
-
-emit-new-same-length-14 : (t : ℕ) → emit-new-lts.Need-same-length-14 (emit-new-claims t) (emit-new-at t) emit-new.Post
-emit-new-same-length-14 t c = search needs
 
 emit-new-returns-8 : (t : ℕ) → emit-new-lts.Need-returns-8 (emit-new-claims t) (emit-new-at t) emit-new.Post
 emit-new-returns-8 t c = search needs
@@ -591,8 +572,6 @@ pub +emit-composite+emit-members+emit-new+emit-params+emit-type-spec : {M : Type
     μ-emit-params
     μ-emit-type
     (λ t. emit-composite-lts.spec (
-      type-by-id-reads.Asked,
-      type-by-id-reads.Learnt,
       is-named-reads.Asked,
       is-named-reads.Learnt,
       set-emit-state-reads.Asked,
@@ -608,7 +587,6 @@ pub +emit-composite+emit-members+emit-new+emit-params+emit-type-spec : {M : Type
     )
     (emit-composite-at t)
     emit-composite.Post
-    (emit-composite-type-by-id-requires t)
     (emit-composite-is-named-requires t)
     (emit-composite-set-emit-state-requires t)
     (emit-composite-inner-requires t)
@@ -652,8 +630,8 @@ pub +emit-composite+emit-members+emit-new+emit-params+emit-type-spec : {M : Type
     (emit-members-same-length-2 t)
     (emit-members-returns t))
     (λ t. emit-new-lts.spec (
-      node-by-id-reads.Asked,
-      node-by-id-reads.Learnt,
+      node-of-reads.Asked,
+      node-of-reads.Learnt,
       emit-leaf-reads.Asked,
       emit-leaf-reads.Learnt,
       emit-type-below t,
@@ -669,16 +647,16 @@ pub +emit-composite+emit-members+emit-new+emit-params+emit-type-spec : {M : Type
     )
     (emit-new-at t)
     emit-new.Post
-    (emit-new-node-by-id-requires t)
+    (emit-new-node-of-requires t)
     (emit-new-enum-told t)
     (emit-new-enum-told-2 t)
     (emit-new-enum-known-is-fwd t)
     (emit-new-emit-leaf-requires t)
-    (emit-new-enum-known-t t)
+    (emit-new-enum-known-next t)
     (emit-new-emit-type-requires t)
-    (emit-new-enum-known-t-2 t)
+    (emit-new-enum-known-next-2 t)
     (emit-new-emit-type-requires-2 t)
-    (emit-new-enum-known-t-3 t)
+    (emit-new-enum-known-next-3 t)
     (emit-new-set-emit-state-requires t)
     (emit-new-emit-type-requires-3 t)
     (emit-new-emit-once-requires t)
@@ -688,27 +666,25 @@ pub +emit-composite+emit-members+emit-new+emit-params+emit-type-spec : {M : Type
     (emit-new-emit-params-requires t)
     (emit-new-enum-known-members t)
     (emit-new-emit-composite-requires t)
-    (emit-new-same-length t)
     (emit-new-returns t)
-    (emit-new-same-length-2 t)
     (emit-new-returns-2 t)
+    (emit-new-same-length t)
+    (emit-new-same-length-2 t)
+    (emit-new-returns-3 t)
     (emit-new-same-length-3 t)
     (emit-new-same-length-4 t)
-    (emit-new-returns-3 t)
+    (emit-new-returns-4 t)
     (emit-new-same-length-5 t)
     (emit-new-same-length-6 t)
-    (emit-new-returns-4 t)
+    (emit-new-returns-5 t)
     (emit-new-same-length-7 t)
     (emit-new-same-length-8 t)
-    (emit-new-returns-5 t)
+    (emit-new-returns-6 t)
     (emit-new-same-length-9 t)
     (emit-new-same-length-10 t)
-    (emit-new-returns-6 t)
+    (emit-new-returns-7 t)
     (emit-new-same-length-11 t)
     (emit-new-same-length-12 t)
-    (emit-new-returns-7 t)
-    (emit-new-same-length-13 t)
-    (emit-new-same-length-14 t)
     (emit-new-returns-8 t))
     (λ t. emit-params-lts.spec (
       param-place-reads.Asked,

@@ -8,19 +8,24 @@ use Rattle.enums.proofs.emit_values.Tie as tie
 use Rattle.enums.proofs.emit_values.Reads as reads
 use Rattle.enums.proofs.emit_values.Lts as lts
 use Rattle.btf.proofs.get_field.Reads as get-field-reads
+use Rattle.btf.proofs.entries_of.Reads as entries-of-reads
+use Rattle.btf.proofs.kind_flag_of.Reads as kind-flag-of-reads
 use Rattle.btf.proofs.load_enum_value.Reads as load-enum-value-reads
 use Rattle.btf.proofs.param_place.Reads as param-place-reads
 use Rattle.btf.proofs.word.Reads as word-reads
 use Rattle.enums.proofs.emit_enumerator.Reads as emit-enumerator-reads
 use Rattle.enums.proofs.nth.Reads as nth-reads
 use Rattle.enums.proofs.put_value.Reads as put-value-reads
-use Rattle.lent.proofs.put_bytes.Reads as put-bytes-reads
+use Rattle.lent.proofs.put_byte.Reads as put-byte-reads
 
 abbrev Inv-loop : tie.InvT-loop
-Inv-loop b section work₀ text₀ at id t lvl values vlen first p₀ k₀ t18 work text p k = (k ≤ vlen) × (vlen < 4294967296) × (length work ≡ length work₀) × (length text ≡ length text₀)
+Inv-loop b section work₀ text₀ at id t lvl values vlen first p₀ k₀ work text p k = (k ≤ vlen) × (vlen < 4294967296) × (length work ≡ length work₀) × (length text ≡ length text₀)
 
 abbrev μ-loop : tie.MeasureT-loop
-μ-loop b section work₀ text₀ at id t lvl values vlen first p₀ k₀ t18 work text p k = vlen - k
+μ-loop b section work₀ text₀ at id t lvl values vlen first p₀ k₀ work text p k = vlen - k
+
+entries-of-requires : tie.Need-entries-of-requires Inv-loop μ-loop
+entries-of-requires c κs = search needs
 
 get-field-requires : tie.Need-get-field-requires Inv-loop μ-loop
 get-field-requires c κs = search needs
@@ -43,14 +48,14 @@ emit-enumerator-requires c κs = search needs
 load-enum-value-requires : tie.Need-load-enum-value-requires Inv-loop μ-loop
 load-enum-value-requires c κs = search needs
 
+kind-flag-of-requires : tie.Need-kind-flag-of-requires Inv-loop μ-loop
+kind-flag-of-requires c κs = search needs
+
 put-value-requires : tie.Need-put-value-requires Inv-loop μ-loop
 put-value-requires c κs = search needs
 
-slice-aggregate-put-bytes : tie.Need-slice-aggregate-put-bytes Inv-loop μ-loop
-slice-aggregate-put-bytes c = search needs
-
-put-bytes-requires : tie.Need-put-bytes-requires Inv-loop μ-loop
-put-bytes-requires c κs = search needs
+put-byte-requires : tie.Need-put-byte-requires Inv-loop μ-loop
+put-byte-requires c κs = search needs
 
 add-k : tie.Need-add-k Inv-loop μ-loop
 add-k c = omega arith
@@ -76,6 +81,7 @@ emit-values-spec =
     (tie.spec
     Inv-loop
     μ-loop
+    entries-of-requires
     get-field-requires
     loop-holds
     param-place-requires
@@ -83,9 +89,9 @@ emit-values-spec =
     nth-requires
     emit-enumerator-requires
     load-enum-value-requires
+    kind-flag-of-requires
     put-value-requires
-    slice-aggregate-put-bytes
-    put-bytes-requires
+    put-byte-requires
     add-k
     loop-less
     loop-again

@@ -9,8 +9,13 @@ use Rattle.layout.proofs.+align_members+get_align_of.Lts-align_members 
 use Rattle.layout.proofs.get_align_of.Reads as get-align-of
 use Rattle.layout.proofs.get_align_of.Kinds as get-align-of-kinds
 use Rattle.layout.proofs.+align_members+get_align_of.Lts-get_align_of as get-align-of-lts
-use Rattle.btf.proofs.load_member.Reads as load-member-reads
+use Rattle.btf.proofs.array_type.Reads as array-type-reads
+use Rattle.btf.proofs.entries_of.Reads as entries-of-reads
+use Rattle.btf.proofs.int_bits.Reads as int-bits-reads
+use Rattle.btf.proofs.kind_of.Reads as kind-of-reads
+use Rattle.btf.proofs.member_place.Reads as member-place-reads
 use Rattle.btf.proofs.type_by_id.Reads as type-by-id-reads
+use Rattle.btf.proofs.word.Reads as word-reads
 use Rattle.layout.proofs.larger.Reads as larger-reads
 use Rattle.layout.proofs.octets.Reads as octets-reads
 use Rattle.layout.proofs.smaller.Reads as smaller-reads
@@ -49,8 +54,10 @@ get-align-of-below t =
 
 abbrev align-members-claims : ℕ → align-members-lts.Claims
 align-members-claims t = (
-  load-member-reads.Asked,
-  load-member-reads.Learnt,
+  member-place-reads.Asked,
+  member-place-reads.Learnt,
+  word-reads.Asked,
+  word-reads.Learnt,
   get-align-of-below t,
   get-align-of.Post,
   larger-reads.Asked,
@@ -61,27 +68,41 @@ abbrev get-align-of-claims : ℕ → get-align-of-lts.Claims
 get-align-of-claims t = (
   type-by-id-reads.Asked,
   type-by-id-reads.Learnt,
+  kind-of-reads.Asked,
+  kind-of-reads.Learnt,
+  int-bits-reads.Asked,
+  int-bits-reads.Learnt,
   octets-reads.Asked,
   octets-reads.Learnt,
   smaller-reads.Asked,
   smaller-reads.Learnt,
+  array-type-reads.Asked,
+  array-type-reads.Learnt,
   get-align-of-below t,
   get-align-of.Post,
+  entries-of-reads.Asked,
+  entries-of-reads.Learnt,
   align-members-below t,
   align-members.Post,
 )
 
 abbrev align-members-Inv-loop : align-members-lts.InvT-loop
-align-members-Inv-loop b section work t left vlen align₀ k₀ align k = k ≤ vlen
+align-members-Inv-loop b section work members left vlen align₀ k₀ align k = (k ≤ vlen) × (vlen < 4294967296)
 
 abbrev align-members-μ-loop : align-members-lts.MeasureT-loop
-align-members-μ-loop b section work t left vlen align₀ k₀ align k = vlen - k
+align-members-μ-loop b section work members left vlen align₀ k₀ align k = vlen - k
 
 align-members-loop-holds : (t : ℕ) → align-members-lts.Need-loop-holds (align-members-claims t) (align-members-at t) align-members.Post align-members-Inv-loop align-members-μ-loop
 align-members-loop-holds t c = search needs
 
-align-members-load-member-requires : (t : ℕ) → align-members-lts.Need-load-member-requires (align-members-claims t) (align-members-at t) align-members.Post align-members-Inv-loop align-members-μ-loop
-align-members-load-member-requires t c κs = search needs
+align-members-member-place-requires : (t : ℕ) → align-members-lts.Need-member-place-requires (align-members-claims t) (align-members-at t) align-members.Post align-members-Inv-loop align-members-μ-loop
+align-members-member-place-requires t c κs = search needs
+
+align-members-add-word : (t : ℕ) → align-members-lts.Need-add-word (align-members-claims t) (align-members-at t) align-members.Post align-members-Inv-loop align-members-μ-loop
+align-members-add-word t c = omega arith
+
+align-members-word-requires : (t : ℕ) → align-members-lts.Need-word-requires (align-members-claims t) (align-members-at t) align-members.Post align-members-Inv-loop align-members-μ-loop
+align-members-word-requires t c κs = search needs
 
 align-members-get-align-of-requires : (t : ℕ) → align-members-lts.Need-get-align-of-requires (align-members-claims t) (align-members-at t) align-members.Post align-members-Inv-loop align-members-μ-loop
 align-members-get-align-of-requires t c κs = (omega arith, tt)
@@ -116,11 +137,11 @@ get-align-of-returns t c = search needs
 get-align-of-type-by-id-requires : (t : ℕ) → get-align-of-lts.Need-type-by-id-requires (get-align-of-claims t) (get-align-of-at t) get-align-of.Post
 get-align-of-type-by-id-requires t c κs = search needs
 
-get-align-of-enum-told : (t : ℕ) → get-align-of-lts.Need-enum-told (get-align-of-claims t) (get-align-of-at t) get-align-of.Post
-get-align-of-enum-told t c = search needs
+get-align-of-kind-of-requires : (t : ℕ) → get-align-of-lts.Need-kind-of-requires (get-align-of-claims t) (get-align-of-at t) get-align-of.Post
+get-align-of-kind-of-requires t c κs = search needs
 
-get-align-of-enum-known-bits : (t : ℕ) → get-align-of-lts.Need-enum-known-bits (get-align-of-claims t) (get-align-of-at t) get-align-of.Post
-get-align-of-enum-known-bits t c = search needs
+get-align-of-int-bits-requires : (t : ℕ) → get-align-of-lts.Need-int-bits-requires (get-align-of-claims t) (get-align-of-at t) get-align-of.Post
+get-align-of-int-bits-requires t c κs = search needs
 
 get-align-of-octets-requires : (t : ℕ) → get-align-of-lts.Need-octets-requires (get-align-of-claims t) (get-align-of-at t) get-align-of.Post
 get-align-of-octets-requires t c κs = search needs
@@ -128,11 +149,8 @@ get-align-of-octets-requires t c κs = search needs
 get-align-of-smaller-requires : (t : ℕ) → get-align-of-lts.Need-smaller-requires (get-align-of-claims t) (get-align-of-at t) get-align-of.Post
 get-align-of-smaller-requires t c κs = search needs
 
-get-align-of-enum-told-2 : (t : ℕ) → get-align-of-lts.Need-enum-told-2 (get-align-of-claims t) (get-align-of-at t) get-align-of.Post
-get-align-of-enum-told-2 t c = search needs
-
-get-align-of-enum-known-val-type-id : (t : ℕ) → get-align-of-lts.Need-enum-known-val-type-id (get-align-of-claims t) (get-align-of-at t) get-align-of.Post
-get-align-of-enum-known-val-type-id t c = search needs
+get-align-of-array-type-requires : (t : ℕ) → get-align-of-lts.Need-array-type-requires (get-align-of-claims t) (get-align-of-at t) get-align-of.Post
+get-align-of-array-type-requires t c κs = search needs
 
 get-align-of-sub-get-align-of : (t : ℕ) → get-align-of-lts.Need-sub-get-align-of (get-align-of-claims t) (get-align-of-at t) get-align-of.Post
 get-align-of-sub-get-align-of t c = omega arith
@@ -140,8 +158,11 @@ get-align-of-sub-get-align-of t c = omega arith
 get-align-of-get-align-of-requires : (t : ℕ) → get-align-of-lts.Need-get-align-of-requires (get-align-of-claims t) (get-align-of-at t) get-align-of.Post
 get-align-of-get-align-of-requires t c κs = (omega arith, tt)
 
-get-align-of-enum-known-t : (t : ℕ) → get-align-of-lts.Need-enum-known-t (get-align-of-claims t) (get-align-of-at t) get-align-of.Post
-get-align-of-enum-known-t t c = search needs
+get-align-of-smaller-requires-2 : (t : ℕ) → get-align-of-lts.Need-smaller-requires-2 (get-align-of-claims t) (get-align-of-at t) get-align-of.Post
+get-align-of-smaller-requires-2 t c κs = search needs
+
+get-align-of-entries-of-requires : (t : ℕ) → get-align-of-lts.Need-entries-of-requires (get-align-of-claims t) (get-align-of-at t) get-align-of.Post
+get-align-of-entries-of-requires t c κs = search needs
 
 get-align-of-sub-align-members : (t : ℕ) → get-align-of-lts.Need-sub-align-members (get-align-of-claims t) (get-align-of-at t) get-align-of.Post
 get-align-of-sub-align-members t c = omega arith
@@ -149,86 +170,11 @@ get-align-of-sub-align-members t c = omega arith
 get-align-of-align-members-requires : (t : ℕ) → get-align-of-lts.Need-align-members-requires (get-align-of-claims t) (get-align-of-at t) get-align-of.Post
 get-align-of-align-members-requires t c κs = (omega arith, tt)
 
-get-align-of-enum-known-t-2 : (t : ℕ) → get-align-of-lts.Need-enum-known-t-2 (get-align-of-claims t) (get-align-of-at t) get-align-of.Post
-get-align-of-enum-known-t-2 t c = search needs
-
-get-align-of-smaller-requires-2 : (t : ℕ) → get-align-of-lts.Need-smaller-requires-2 (get-align-of-claims t) (get-align-of-at t) get-align-of.Post
-get-align-of-smaller-requires-2 t c κs = search needs
-
-get-align-of-enum-told-3 : (t : ℕ) → get-align-of-lts.Need-enum-told-3 (get-align-of-claims t) (get-align-of-at t) get-align-of.Post
-get-align-of-enum-told-3 t c = search needs
-
-get-align-of-enum-known-type-id : (t : ℕ) → get-align-of-lts.Need-enum-known-type-id (get-align-of-claims t) (get-align-of-at t) get-align-of.Post
-get-align-of-enum-known-type-id t c = search needs
-
 get-align-of-sub-get-align-of-2 : (t : ℕ) → get-align-of-lts.Need-sub-get-align-of-2 (get-align-of-claims t) (get-align-of-at t) get-align-of.Post
 get-align-of-sub-get-align-of-2 t c = omega arith
 
 get-align-of-get-align-of-requires-2 : (t : ℕ) → get-align-of-lts.Need-get-align-of-requires-2 (get-align-of-claims t) (get-align-of-at t) get-align-of.Post
 get-align-of-get-align-of-requires-2 t c κs = (omega arith, tt)
-
-get-align-of-enum-known-t-3 : (t : ℕ) → get-align-of-lts.Need-enum-known-t-3 (get-align-of-claims t) (get-align-of-at t) get-align-of.Post
-get-align-of-enum-known-t-3 t c = search needs
-
-get-align-of-sub-get-align-of-3 : (t : ℕ) → get-align-of-lts.Need-sub-get-align-of-3 (get-align-of-claims t) (get-align-of-at t) get-align-of.Post
-get-align-of-sub-get-align-of-3 t c = omega arith
-
-get-align-of-get-align-of-requires-3 : (t : ℕ) → get-align-of-lts.Need-get-align-of-requires-3 (get-align-of-claims t) (get-align-of-at t) get-align-of.Post
-get-align-of-get-align-of-requires-3 t c κs = (omega arith, tt)
-
-get-align-of-enum-known-t-4 : (t : ℕ) → get-align-of-lts.Need-enum-known-t-4 (get-align-of-claims t) (get-align-of-at t) get-align-of.Post
-get-align-of-enum-known-t-4 t c = search needs
-
-get-align-of-sub-get-align-of-4 : (t : ℕ) → get-align-of-lts.Need-sub-get-align-of-4 (get-align-of-claims t) (get-align-of-at t) get-align-of.Post
-get-align-of-sub-get-align-of-4 t c = omega arith
-
-get-align-of-get-align-of-requires-4 : (t : ℕ) → get-align-of-lts.Need-get-align-of-requires-4 (get-align-of-claims t) (get-align-of-at t) get-align-of.Post
-get-align-of-get-align-of-requires-4 t c κs = (omega arith, tt)
-
-get-align-of-enum-known-t-5 : (t : ℕ) → get-align-of-lts.Need-enum-known-t-5 (get-align-of-claims t) (get-align-of-at t) get-align-of.Post
-get-align-of-enum-known-t-5 t c = search needs
-
-get-align-of-sub-get-align-of-5 : (t : ℕ) → get-align-of-lts.Need-sub-get-align-of-5 (get-align-of-claims t) (get-align-of-at t) get-align-of.Post
-get-align-of-sub-get-align-of-5 t c = omega arith
-
-get-align-of-get-align-of-requires-5 : (t : ℕ) → get-align-of-lts.Need-get-align-of-requires-5 (get-align-of-claims t) (get-align-of-at t) get-align-of.Post
-get-align-of-get-align-of-requires-5 t c κs = (omega arith, tt)
-
-get-align-of-enum-told-4 : (t : ℕ) → get-align-of-lts.Need-enum-told-4 (get-align-of-claims t) (get-align-of-at t) get-align-of.Post
-get-align-of-enum-told-4 t c = search needs
-
-get-align-of-enum-told-5 : (t : ℕ) → get-align-of-lts.Need-enum-told-5 (get-align-of-claims t) (get-align-of-at t) get-align-of.Post
-get-align-of-enum-told-5 t c = search needs
-
-get-align-of-enum-told-6 : (t : ℕ) → get-align-of-lts.Need-enum-told-6 (get-align-of-claims t) (get-align-of-at t) get-align-of.Post
-get-align-of-enum-told-6 t c = search needs
-
-get-align-of-enum-told-7 : (t : ℕ) → get-align-of-lts.Need-enum-told-7 (get-align-of-claims t) (get-align-of-at t) get-align-of.Post
-get-align-of-enum-told-7 t c = search needs
-
-get-align-of-enum-known-sz : (t : ℕ) → get-align-of-lts.Need-enum-known-sz (get-align-of-claims t) (get-align-of-at t) get-align-of.Post
-get-align-of-enum-known-sz t c = search needs
-
-get-align-of-smaller-requires-3 : (t : ℕ) → get-align-of-lts.Need-smaller-requires-3 (get-align-of-claims t) (get-align-of-at t) get-align-of.Post
-get-align-of-smaller-requires-3 t c κs = search needs
-
-get-align-of-enum-told-8 : (t : ℕ) → get-align-of-lts.Need-enum-told-8 (get-align-of-claims t) (get-align-of-at t) get-align-of.Post
-get-align-of-enum-told-8 t c = search needs
-
-get-align-of-enum-known-type-id-2 : (t : ℕ) → get-align-of-lts.Need-enum-known-type-id-2 (get-align-of-claims t) (get-align-of-at t) get-align-of.Post
-get-align-of-enum-known-type-id-2 t c = search needs
-
-get-align-of-sub-get-align-of-6 : (t : ℕ) → get-align-of-lts.Need-sub-get-align-of-6 (get-align-of-claims t) (get-align-of-at t) get-align-of.Post
-get-align-of-sub-get-align-of-6 t c = omega arith
-
-get-align-of-get-align-of-requires-6 : (t : ℕ) → get-align-of-lts.Need-get-align-of-requires-6 (get-align-of-claims t) (get-align-of-at t) get-align-of.Post
-get-align-of-get-align-of-requires-6 t c κs = (omega arith, tt)
-
-get-align-of-enum-known-t-6 : (t : ℕ) → get-align-of-lts.Need-enum-known-t-6 (get-align-of-claims t) (get-align-of-at t) get-align-of.Post
-get-align-of-enum-known-t-6 t c = search needs
-
-get-align-of-smaller-requires-4 : (t : ℕ) → get-align-of-lts.Need-smaller-requires-4 (get-align-of-claims t) (get-align-of-at t) get-align-of.Post
-get-align-of-smaller-requires-4 t c κs = search needs
 
 get-align-of-returns-2 : (t : ℕ) → get-align-of-lts.Need-returns-2 (get-align-of-claims t) (get-align-of-at t) get-align-of.Post
 get-align-of-returns-2 t c = search needs
@@ -257,41 +203,13 @@ get-align-of-returns-9 t c = search needs
 get-align-of-returns-10 : (t : ℕ) → get-align-of-lts.Need-returns-10 (get-align-of-claims t) (get-align-of-at t) get-align-of.Post
 get-align-of-returns-10 t c = search needs
 
-get-align-of-returns-11 : (t : ℕ) → get-align-of-lts.Need-returns-11 (get-align-of-claims t) (get-align-of-at t) get-align-of.Post
-get-align-of-returns-11 t c = search needs
-
-get-align-of-returns-12 : (t : ℕ) → get-align-of-lts.Need-returns-12 (get-align-of-claims t) (get-align-of-at t) get-align-of.Post
-get-align-of-returns-12 t c = search needs
-
-get-align-of-returns-13 : (t : ℕ) → get-align-of-lts.Need-returns-13 (get-align-of-claims t) (get-align-of-at t) get-align-of.Post
-get-align-of-returns-13 t c = search needs
-
-get-align-of-returns-14 : (t : ℕ) → get-align-of-lts.Need-returns-14 (get-align-of-claims t) (get-align-of-at t) get-align-of.Post
-get-align-of-returns-14 t c = search needs
-
-get-align-of-returns-15 : (t : ℕ) → get-align-of-lts.Need-returns-15 (get-align-of-claims t) (get-align-of-at t) get-align-of.Post
-get-align-of-returns-15 t c = search needs
-
-get-align-of-returns-16 : (t : ℕ) → get-align-of-lts.Need-returns-16 (get-align-of-claims t) (get-align-of-at t) get-align-of.Post
-get-align-of-returns-16 t c = search needs
-
-get-align-of-returns-17 : (t : ℕ) → get-align-of-lts.Need-returns-17 (get-align-of-claims t) (get-align-of-at t) get-align-of.Post
-get-align-of-returns-17 t c = search needs
-
-get-align-of-returns-18 : (t : ℕ) → get-align-of-lts.Need-returns-18 (get-align-of-claims t) (get-align-of-at t) get-align-of.Post
-get-align-of-returns-18 t c = search needs
-
-get-align-of-returns-19 : (t : ℕ) → get-align-of-lts.Need-returns-19 (get-align-of-claims t) (get-align-of-at t) get-align-of.Post
-get-align-of-returns-19 t c = search needs
-
-get-align-of-returns-20 : (t : ℕ) → get-align-of-lts.Need-returns-20 (get-align-of-claims t) (get-align-of-at t) get-align-of.Post
-get-align-of-returns-20 t c = search needs
-
 pub +align-members+get-align-of-spec : {M : Type 1} → statement M
 +align-members+get-align-of-spec =
     close μ-align-members μ-get-align-of (λ t. align-members-lts.spec (
-      load-member-reads.Asked,
-      load-member-reads.Learnt,
+      member-place-reads.Asked,
+      member-place-reads.Learnt,
+      word-reads.Asked,
+      word-reads.Learnt,
       get-align-of-below t,
       get-align-of.Post,
       larger-reads.Asked,
@@ -302,7 +220,9 @@ pub +align-members+get-align-of-spec : {M : Type 1} → statement M
     align-members-Inv-loop
     align-members-μ-loop
     (align-members-loop-holds t)
-    (align-members-load-member-requires t)
+    (align-members-member-place-requires t)
+    (align-members-add-word t)
+    (align-members-word-requires t)
     (align-members-get-align-of-requires t)
     (align-members-enum-known-a t)
     (align-members-larger-requires t)
@@ -315,12 +235,20 @@ pub +align-members+get-align-of-spec : {M : Type 1} → statement M
     λ t. get-align-of-lts.spec (
       type-by-id-reads.Asked,
       type-by-id-reads.Learnt,
+      kind-of-reads.Asked,
+      kind-of-reads.Learnt,
+      int-bits-reads.Asked,
+      int-bits-reads.Learnt,
       octets-reads.Asked,
       octets-reads.Learnt,
       smaller-reads.Asked,
       smaller-reads.Learnt,
+      array-type-reads.Asked,
+      array-type-reads.Learnt,
       get-align-of-below t,
       get-align-of.Post,
+      entries-of-reads.Asked,
+      entries-of-reads.Learnt,
       align-members-below t,
       align-members.Post,
     )
@@ -328,44 +256,19 @@ pub +align-members+get-align-of-spec : {M : Type 1} → statement M
     get-align-of.Post
     (get-align-of-returns t)
     (get-align-of-type-by-id-requires t)
-    (get-align-of-enum-told t)
-    (get-align-of-enum-known-bits t)
+    (get-align-of-kind-of-requires t)
+    (get-align-of-int-bits-requires t)
     (get-align-of-octets-requires t)
     (get-align-of-smaller-requires t)
-    (get-align-of-enum-told-2 t)
-    (get-align-of-enum-known-val-type-id t)
+    (get-align-of-array-type-requires t)
     (get-align-of-sub-get-align-of t)
     (get-align-of-get-align-of-requires t)
-    (get-align-of-enum-known-t t)
+    (get-align-of-smaller-requires-2 t)
+    (get-align-of-entries-of-requires t)
     (get-align-of-sub-align-members t)
     (get-align-of-align-members-requires t)
-    (get-align-of-enum-known-t-2 t)
-    (get-align-of-smaller-requires-2 t)
-    (get-align-of-enum-told-3 t)
-    (get-align-of-enum-known-type-id t)
     (get-align-of-sub-get-align-of-2 t)
     (get-align-of-get-align-of-requires-2 t)
-    (get-align-of-enum-known-t-3 t)
-    (get-align-of-sub-get-align-of-3 t)
-    (get-align-of-get-align-of-requires-3 t)
-    (get-align-of-enum-known-t-4 t)
-    (get-align-of-sub-get-align-of-4 t)
-    (get-align-of-get-align-of-requires-4 t)
-    (get-align-of-enum-known-t-5 t)
-    (get-align-of-sub-get-align-of-5 t)
-    (get-align-of-get-align-of-requires-5 t)
-    (get-align-of-enum-told-4 t)
-    (get-align-of-enum-told-5 t)
-    (get-align-of-enum-told-6 t)
-    (get-align-of-enum-told-7 t)
-    (get-align-of-enum-known-sz t)
-    (get-align-of-smaller-requires-3 t)
-    (get-align-of-enum-told-8 t)
-    (get-align-of-enum-known-type-id-2 t)
-    (get-align-of-sub-get-align-of-6 t)
-    (get-align-of-get-align-of-requires-6 t)
-    (get-align-of-enum-known-t-6 t)
-    (get-align-of-smaller-requires-4 t)
     (get-align-of-returns-2 t)
     (get-align-of-returns-3 t)
     (get-align-of-returns-4 t)
@@ -375,13 +278,3 @@ pub +align-members+get-align-of-spec : {M : Type 1} → statement M
     (get-align-of-returns-8 t)
     (get-align-of-returns-9 t)
     (get-align-of-returns-10 t)
-    (get-align-of-returns-11 t)
-    (get-align-of-returns-12 t)
-    (get-align-of-returns-13 t)
-    (get-align-of-returns-14 t)
-    (get-align-of-returns-15 t)
-    (get-align-of-returns-16 t)
-    (get-align-of-returns-17 t)
-    (get-align-of-returns-18 t)
-    (get-align-of-returns-19 t)
-    (get-align-of-returns-20 t)

@@ -6,6 +6,10 @@ use borrow.Fn.PlainCycle.{Measures, is, falls, and}
 use Rattle.layout.proofs.get_size_of.Reads as get-size-of
 use Rattle.layout.proofs.get_size_of.Kinds as get-size-of-kinds
 use Rattle.layout.proofs.+get_size_of.Lts-get_size_of as get-size-of-lts
+use Rattle.btf.proofs.array_nelems.Reads as array-nelems-reads
+use Rattle.btf.proofs.array_type.Reads as array-type-reads
+use Rattle.btf.proofs.int_bits.Reads as int-bits-reads
+use Rattle.btf.proofs.kind_of.Reads as kind-of-reads
 use Rattle.btf.proofs.type_by_id.Reads as type-by-id-reads
 use Rattle.layout.proofs.octets.Reads as octets-reads
 use Rattle.layout.proofs.product.Reads as product-reads
@@ -27,10 +31,18 @@ abbrev get-size-of-claims : ℕ → get-size-of-lts.Claims
 get-size-of-claims t = (
   type-by-id-reads.Asked,
   type-by-id-reads.Learnt,
+  kind-of-reads.Asked,
+  kind-of-reads.Learnt,
+  int-bits-reads.Asked,
+  int-bits-reads.Learnt,
   octets-reads.Asked,
   octets-reads.Learnt,
+  array-type-reads.Asked,
+  array-type-reads.Learnt,
   get-size-of-below t,
   get-size-of.Post,
+  array-nelems-reads.Asked,
+  array-nelems-reads.Learnt,
   product-reads.Asked,
   product-reads.Learnt,
 )
@@ -41,20 +53,17 @@ get-size-of-returns t c = search needs
 get-size-of-type-by-id-requires : (t : ℕ) → get-size-of-lts.Need-type-by-id-requires (get-size-of-claims t) (get-size-of-at t) get-size-of.Post
 get-size-of-type-by-id-requires t c κs = search needs
 
-get-size-of-enum-told : (t : ℕ) → get-size-of-lts.Need-enum-told (get-size-of-claims t) (get-size-of-at t) get-size-of.Post
-get-size-of-enum-told t c = search needs
+get-size-of-kind-of-requires : (t : ℕ) → get-size-of-lts.Need-kind-of-requires (get-size-of-claims t) (get-size-of-at t) get-size-of.Post
+get-size-of-kind-of-requires t c κs = search needs
 
-get-size-of-enum-known-bits : (t : ℕ) → get-size-of-lts.Need-enum-known-bits (get-size-of-claims t) (get-size-of-at t) get-size-of.Post
-get-size-of-enum-known-bits t c = search needs
+get-size-of-int-bits-requires : (t : ℕ) → get-size-of-lts.Need-int-bits-requires (get-size-of-claims t) (get-size-of-at t) get-size-of.Post
+get-size-of-int-bits-requires t c κs = search needs
 
 get-size-of-octets-requires : (t : ℕ) → get-size-of-lts.Need-octets-requires (get-size-of-claims t) (get-size-of-at t) get-size-of.Post
 get-size-of-octets-requires t c κs = search needs
 
-get-size-of-enum-told-2 : (t : ℕ) → get-size-of-lts.Need-enum-told-2 (get-size-of-claims t) (get-size-of-at t) get-size-of.Post
-get-size-of-enum-told-2 t c = search needs
-
-get-size-of-enum-known-val-type-id : (t : ℕ) → get-size-of-lts.Need-enum-known-val-type-id (get-size-of-claims t) (get-size-of-at t) get-size-of.Post
-get-size-of-enum-known-val-type-id t c = search needs
+get-size-of-array-type-requires : (t : ℕ) → get-size-of-lts.Need-array-type-requires (get-size-of-claims t) (get-size-of-at t) get-size-of.Post
+get-size-of-array-type-requires t c κs = search needs
 
 get-size-of-sub-get-size-of : (t : ℕ) → get-size-of-lts.Need-sub-get-size-of (get-size-of-claims t) (get-size-of-at t) get-size-of.Post
 get-size-of-sub-get-size-of t c = omega arith
@@ -62,89 +71,17 @@ get-size-of-sub-get-size-of t c = omega arith
 get-size-of-get-size-of-requires : (t : ℕ) → get-size-of-lts.Need-get-size-of-requires (get-size-of-claims t) (get-size-of-at t) get-size-of.Post
 get-size-of-get-size-of-requires t c κs = (omega arith, tt)
 
+get-size-of-array-nelems-requires : (t : ℕ) → get-size-of-lts.Need-array-nelems-requires (get-size-of-claims t) (get-size-of-at t) get-size-of.Post
+get-size-of-array-nelems-requires t c κs = search needs
+
 get-size-of-product-requires : (t : ℕ) → get-size-of-lts.Need-product-requires (get-size-of-claims t) (get-size-of-at t) get-size-of.Post
 get-size-of-product-requires t c κs = search needs
-
-get-size-of-enum-known-t : (t : ℕ) → get-size-of-lts.Need-enum-known-t (get-size-of-claims t) (get-size-of-at t) get-size-of.Post
-get-size-of-enum-known-t t c = search needs
-
-get-size-of-enum-known-t-2 : (t : ℕ) → get-size-of-lts.Need-enum-known-t-2 (get-size-of-claims t) (get-size-of-at t) get-size-of.Post
-get-size-of-enum-known-t-2 t c = search needs
-
-get-size-of-enum-told-3 : (t : ℕ) → get-size-of-lts.Need-enum-told-3 (get-size-of-claims t) (get-size-of-at t) get-size-of.Post
-get-size-of-enum-told-3 t c = search needs
-
-get-size-of-enum-known-type-id : (t : ℕ) → get-size-of-lts.Need-enum-known-type-id (get-size-of-claims t) (get-size-of-at t) get-size-of.Post
-get-size-of-enum-known-type-id t c = search needs
 
 get-size-of-sub-get-size-of-2 : (t : ℕ) → get-size-of-lts.Need-sub-get-size-of-2 (get-size-of-claims t) (get-size-of-at t) get-size-of.Post
 get-size-of-sub-get-size-of-2 t c = omega arith
 
 get-size-of-get-size-of-requires-2 : (t : ℕ) → get-size-of-lts.Need-get-size-of-requires-2 (get-size-of-claims t) (get-size-of-at t) get-size-of.Post
 get-size-of-get-size-of-requires-2 t c κs = (omega arith, tt)
-
-get-size-of-enum-known-t-3 : (t : ℕ) → get-size-of-lts.Need-enum-known-t-3 (get-size-of-claims t) (get-size-of-at t) get-size-of.Post
-get-size-of-enum-known-t-3 t c = search needs
-
-get-size-of-sub-get-size-of-3 : (t : ℕ) → get-size-of-lts.Need-sub-get-size-of-3 (get-size-of-claims t) (get-size-of-at t) get-size-of.Post
-get-size-of-sub-get-size-of-3 t c = omega arith
-
-get-size-of-get-size-of-requires-3 : (t : ℕ) → get-size-of-lts.Need-get-size-of-requires-3 (get-size-of-claims t) (get-size-of-at t) get-size-of.Post
-get-size-of-get-size-of-requires-3 t c κs = (omega arith, tt)
-
-get-size-of-enum-known-t-4 : (t : ℕ) → get-size-of-lts.Need-enum-known-t-4 (get-size-of-claims t) (get-size-of-at t) get-size-of.Post
-get-size-of-enum-known-t-4 t c = search needs
-
-get-size-of-sub-get-size-of-4 : (t : ℕ) → get-size-of-lts.Need-sub-get-size-of-4 (get-size-of-claims t) (get-size-of-at t) get-size-of.Post
-get-size-of-sub-get-size-of-4 t c = omega arith
-
-get-size-of-get-size-of-requires-4 : (t : ℕ) → get-size-of-lts.Need-get-size-of-requires-4 (get-size-of-claims t) (get-size-of-at t) get-size-of.Post
-get-size-of-get-size-of-requires-4 t c κs = (omega arith, tt)
-
-get-size-of-enum-known-t-5 : (t : ℕ) → get-size-of-lts.Need-enum-known-t-5 (get-size-of-claims t) (get-size-of-at t) get-size-of.Post
-get-size-of-enum-known-t-5 t c = search needs
-
-get-size-of-sub-get-size-of-5 : (t : ℕ) → get-size-of-lts.Need-sub-get-size-of-5 (get-size-of-claims t) (get-size-of-at t) get-size-of.Post
-get-size-of-sub-get-size-of-5 t c = omega arith
-
-get-size-of-get-size-of-requires-5 : (t : ℕ) → get-size-of-lts.Need-get-size-of-requires-5 (get-size-of-claims t) (get-size-of-at t) get-size-of.Post
-get-size-of-get-size-of-requires-5 t c κs = (omega arith, tt)
-
-get-size-of-enum-told-4 : (t : ℕ) → get-size-of-lts.Need-enum-told-4 (get-size-of-claims t) (get-size-of-at t) get-size-of.Post
-get-size-of-enum-told-4 t c = search needs
-
-get-size-of-enum-told-5 : (t : ℕ) → get-size-of-lts.Need-enum-told-5 (get-size-of-claims t) (get-size-of-at t) get-size-of.Post
-get-size-of-enum-told-5 t c = search needs
-
-get-size-of-enum-told-6 : (t : ℕ) → get-size-of-lts.Need-enum-told-6 (get-size-of-claims t) (get-size-of-at t) get-size-of.Post
-get-size-of-enum-told-6 t c = search needs
-
-get-size-of-enum-told-7 : (t : ℕ) → get-size-of-lts.Need-enum-told-7 (get-size-of-claims t) (get-size-of-at t) get-size-of.Post
-get-size-of-enum-told-7 t c = search needs
-
-get-size-of-enum-known-sz : (t : ℕ) → get-size-of-lts.Need-enum-known-sz (get-size-of-claims t) (get-size-of-at t) get-size-of.Post
-get-size-of-enum-known-sz t c = search needs
-
-get-size-of-enum-known-type-id-2 : (t : ℕ) → get-size-of-lts.Need-enum-known-type-id-2 (get-size-of-claims t) (get-size-of-at t) get-size-of.Post
-get-size-of-enum-known-type-id-2 t c = search needs
-
-get-size-of-sub-get-size-of-6 : (t : ℕ) → get-size-of-lts.Need-sub-get-size-of-6 (get-size-of-claims t) (get-size-of-at t) get-size-of.Post
-get-size-of-sub-get-size-of-6 t c = omega arith
-
-get-size-of-get-size-of-requires-6 : (t : ℕ) → get-size-of-lts.Need-get-size-of-requires-6 (get-size-of-claims t) (get-size-of-at t) get-size-of.Post
-get-size-of-get-size-of-requires-6 t c κs = (omega arith, tt)
-
-get-size-of-enum-known-type-id-3 : (t : ℕ) → get-size-of-lts.Need-enum-known-type-id-3 (get-size-of-claims t) (get-size-of-at t) get-size-of.Post
-get-size-of-enum-known-type-id-3 t c = search needs
-
-get-size-of-sub-get-size-of-7 : (t : ℕ) → get-size-of-lts.Need-sub-get-size-of-7 (get-size-of-claims t) (get-size-of-at t) get-size-of.Post
-get-size-of-sub-get-size-of-7 t c = omega arith
-
-get-size-of-get-size-of-requires-7 : (t : ℕ) → get-size-of-lts.Need-get-size-of-requires-7 (get-size-of-claims t) (get-size-of-at t) get-size-of.Post
-get-size-of-get-size-of-requires-7 t c κs = (omega arith, tt)
-
-get-size-of-enum-known-t-6 : (t : ℕ) → get-size-of-lts.Need-enum-known-t-6 (get-size-of-claims t) (get-size-of-at t) get-size-of.Post
-get-size-of-enum-known-t-6 t c = search needs
 
 get-size-of-returns-2 : (t : ℕ) → get-size-of-lts.Need-returns-2 (get-size-of-claims t) (get-size-of-at t) get-size-of.Post
 get-size-of-returns-2 t c = search needs
@@ -176,73 +113,21 @@ get-size-of-returns-10 t c = search needs
 get-size-of-returns-11 : (t : ℕ) → get-size-of-lts.Need-returns-11 (get-size-of-claims t) (get-size-of-at t) get-size-of.Post
 get-size-of-returns-11 t c = search needs
 
-get-size-of-returns-12 : (t : ℕ) → get-size-of-lts.Need-returns-12 (get-size-of-claims t) (get-size-of-at t) get-size-of.Post
-get-size-of-returns-12 t c = search needs
-
-get-size-of-returns-13 : (t : ℕ) → get-size-of-lts.Need-returns-13 (get-size-of-claims t) (get-size-of-at t) get-size-of.Post
-get-size-of-returns-13 t c = search needs
-
-get-size-of-returns-14 : (t : ℕ) → get-size-of-lts.Need-returns-14 (get-size-of-claims t) (get-size-of-at t) get-size-of.Post
-get-size-of-returns-14 t c = search needs
-
-get-size-of-returns-15 : (t : ℕ) → get-size-of-lts.Need-returns-15 (get-size-of-claims t) (get-size-of-at t) get-size-of.Post
-get-size-of-returns-15 t c = search needs
-
-get-size-of-returns-16 : (t : ℕ) → get-size-of-lts.Need-returns-16 (get-size-of-claims t) (get-size-of-at t) get-size-of.Post
-get-size-of-returns-16 t c = search needs
-
-get-size-of-returns-17 : (t : ℕ) → get-size-of-lts.Need-returns-17 (get-size-of-claims t) (get-size-of-at t) get-size-of.Post
-get-size-of-returns-17 t c = search needs
-
-get-size-of-returns-18 : (t : ℕ) → get-size-of-lts.Need-returns-18 (get-size-of-claims t) (get-size-of-at t) get-size-of.Post
-get-size-of-returns-18 t c = search needs
-
-get-size-of-returns-19 : (t : ℕ) → get-size-of-lts.Need-returns-19 (get-size-of-claims t) (get-size-of-at t) get-size-of.Post
-get-size-of-returns-19 t c = search needs
-
-get-size-of-returns-20 : (t : ℕ) → get-size-of-lts.Need-returns-20 (get-size-of-claims t) (get-size-of-at t) get-size-of.Post
-get-size-of-returns-20 t c = search needs
-
 pub +get-size-of-spec : {M : Type 1} → statement M
 +get-size-of-spec = close μ-get-size-of λ t. get-size-of-lts.spec (get-size-of-claims t) (get-size-of-at t)
     get-size-of.Post
     (get-size-of-returns t)
     (get-size-of-type-by-id-requires t)
-    (get-size-of-enum-told t)
-    (get-size-of-enum-known-bits t)
+    (get-size-of-kind-of-requires t)
+    (get-size-of-int-bits-requires t)
     (get-size-of-octets-requires t)
-    (get-size-of-enum-told-2 t)
-    (get-size-of-enum-known-val-type-id t)
+    (get-size-of-array-type-requires t)
     (get-size-of-sub-get-size-of t)
     (get-size-of-get-size-of-requires t)
+    (get-size-of-array-nelems-requires t)
     (get-size-of-product-requires t)
-    (get-size-of-enum-known-t t)
-    (get-size-of-enum-known-t-2 t)
-    (get-size-of-enum-told-3 t)
-    (get-size-of-enum-known-type-id t)
     (get-size-of-sub-get-size-of-2 t)
     (get-size-of-get-size-of-requires-2 t)
-    (get-size-of-enum-known-t-3 t)
-    (get-size-of-sub-get-size-of-3 t)
-    (get-size-of-get-size-of-requires-3 t)
-    (get-size-of-enum-known-t-4 t)
-    (get-size-of-sub-get-size-of-4 t)
-    (get-size-of-get-size-of-requires-4 t)
-    (get-size-of-enum-known-t-5 t)
-    (get-size-of-sub-get-size-of-5 t)
-    (get-size-of-get-size-of-requires-5 t)
-    (get-size-of-enum-told-4 t)
-    (get-size-of-enum-told-5 t)
-    (get-size-of-enum-told-6 t)
-    (get-size-of-enum-told-7 t)
-    (get-size-of-enum-known-sz t)
-    (get-size-of-enum-known-type-id-2 t)
-    (get-size-of-sub-get-size-of-6 t)
-    (get-size-of-get-size-of-requires-6 t)
-    (get-size-of-enum-known-type-id-3 t)
-    (get-size-of-sub-get-size-of-7 t)
-    (get-size-of-get-size-of-requires-7 t)
-    (get-size-of-enum-known-t-6 t)
     (get-size-of-returns-2 t)
     (get-size-of-returns-3 t)
     (get-size-of-returns-4 t)
@@ -253,12 +138,3 @@ pub +get-size-of-spec : {M : Type 1} → statement M
     (get-size-of-returns-9 t)
     (get-size-of-returns-10 t)
     (get-size-of-returns-11 t)
-    (get-size-of-returns-12 t)
-    (get-size-of-returns-13 t)
-    (get-size-of-returns-14 t)
-    (get-size-of-returns-15 t)
-    (get-size-of-returns-16 t)
-    (get-size-of-returns-17 t)
-    (get-size-of-returns-18 t)
-    (get-size-of-returns-19 t)
-    (get-size-of-returns-20 t)

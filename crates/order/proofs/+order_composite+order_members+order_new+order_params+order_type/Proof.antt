@@ -20,7 +20,7 @@ use Rattle.order.proofs.+order_composite+order_members+order_new+order_
 use Rattle.order.proofs.order_type.Reads as order-type
 use Rattle.order.proofs.order_type.Kinds as order-type-kinds
 use Rattle.order.proofs.+order_composite+order_members+order_new+order_params+order_type.Lts-order_type as order-type-lts
-use Rattle.btf.proofs.node_by_id.Reads as node-by-id-reads
+use Rattle.btf.proofs.node_of.Reads as node-of-reads
 use Rattle.btf.proofs.is_named.Reads as is-named-reads
 use Rattle.btf.proofs.member_place.Reads as member-place-reads
 use Rattle.btf.proofs.param_place.Reads as param-place-reads
@@ -41,7 +41,7 @@ use Rattle.order.proofs.+order_composite+order_members+order_new+order_
 }
 
 abbrev μ-order-composite : Measures 2 order-composite-kinds.ps ℕ
-μ-order-composite κs a = 4 * (a .1 .1 .1 .1 .1 .1 .1 .0) + 2
+μ-order-composite κs a = 4 * (a .1 .1 .1 .1 .1 .1 .1 .1 .0) + 2
 
 abbrev μ-order-members : Measures 2 order-members-kinds.ps ℕ
 μ-order-members κs a = 4 * (a .1 .1 .1 .1 .1 .0) + 1
@@ -112,10 +112,6 @@ order-type-below t =
 
 abbrev order-composite-claims : ℕ → order-composite-lts.Claims
 order-composite-claims t = (
-  type-by-id-reads.Asked,
-  type-by-id-reads.Learnt,
-  is-named-reads.Asked,
-  is-named-reads.Learnt,
   strong-reads.Asked,
   strong-reads.Learnt,
   set-order-state-reads.Asked,
@@ -138,14 +134,14 @@ order-members-claims t = (
 
 abbrev order-new-claims : ℕ → order-new-lts.Claims
 order-new-claims t = (
-  node-by-id-reads.Asked,
-  node-by-id-reads.Learnt,
+  type-by-id-reads.Asked,
+  type-by-id-reads.Learnt,
+  node-of-reads.Asked,
+  node-of-reads.Learnt,
   strong-reads.Asked,
   strong-reads.Learnt,
   finish-reads.Asked,
   finish-reads.Learnt,
-  type-by-id-reads.Asked,
-  type-by-id-reads.Learnt,
   is-named-reads.Asked,
   is-named-reads.Learnt,
   order-type-below t,
@@ -184,27 +180,14 @@ order-type-claims t = (
   order-new.Post,
 )
 
-order-composite-type-by-id-requires : (t : ℕ) → order-composite-lts.Need-type-by-id-requires (order-composite-claims t) (order-composite-at t) order-composite.Post
-order-composite-type-by-id-requires t c κs = search needs
-
-order-composite-is-named-requires : (t : ℕ) → order-composite-lts.Need-is-named-requires (order-composite-claims t) (order-composite-at t) order-composite.Post
-order-composite-is-named-requires t c κs = search needs
-
 order-composite-strong-requires : (t : ℕ) → order-composite-lts.Need-strong-requires (order-composite-claims t) (order-composite-at t) order-composite.Post
 order-composite-strong-requires t c κs = search needs
-
-order-composite-same-length : (t : ℕ) → order-composite-lts.Need-same-length (order-composite-claims t) (order-composite-at t) order-composite.Post
-order-composite-same-length t c = search needs
 
 order-composite-returns : (t : ℕ) → order-composite-lts.Need-returns (order-composite-claims t) (order-composite-at t) order-composite.Post
 order-composite-returns t c = search needs
 
 order-composite-set-order-state-requires :
     (t : ℕ) → order-composite-lts.Need-set-order-state-requires (
-      type-by-id-reads.Asked,
-      type-by-id-reads.Learnt,
-      is-named-reads.Asked,
-      is-named-reads.Learnt,
       strong-reads.Asked,
       strong-reads.Learnt,
       set-order-state-reads.Asked,
@@ -222,14 +205,14 @@ order-composite-order-members-requires t c κs = (omega arith, tt)
 order-composite-finish-requires : (t : ℕ) → order-composite-lts.Need-finish-requires (order-composite-claims t) (order-composite-at t) order-composite.Post
 order-composite-finish-requires t c κs = search needs
 
-order-composite-same-length-2 : (t : ℕ) → order-composite-lts.Need-same-length-2 (order-composite-claims t) (order-composite-at t) order-composite.Post
-order-composite-same-length-2 t c = search needs
+order-composite-same-length : (t : ℕ) → order-composite-lts.Need-same-length (order-composite-claims t) (order-composite-at t) order-composite.Post
+order-composite-same-length t c = search needs
 
 order-composite-returns-2 : (t : ℕ) → order-composite-lts.Need-returns-2 (order-composite-claims t) (order-composite-at t) order-composite.Post
 order-composite-returns-2 t c = search needs
 
 abbrev order-members-Inv-loop : order-members-lts.InvT-loop
-order-members-Inv-loop b section work₀ members left vlen r₀ k₀ work r k = (k ≤ vlen) × (length work ≡ length work₀)
+order-members-Inv-loop b section work₀ members left vlen r₀ k₀ work r k = (k ≤ vlen) × (length work ≡ length work₀) × (vlen < 4294967296)
 
 abbrev order-members-μ-loop : order-members-lts.MeasureT-loop
 order-members-μ-loop b section work₀ members left vlen r₀ k₀ work r k = vlen - k
@@ -264,8 +247,11 @@ order-members-same-length t c = search needs
 order-members-returns : (t : ℕ) → order-members-lts.Need-returns (order-members-claims t) (order-members-at t) order-members.Post order-members-Inv-loop order-members-μ-loop
 order-members-returns t c = search needs
 
-order-new-node-by-id-requires : (t : ℕ) → order-new-lts.Need-node-by-id-requires (order-new-claims t) (order-new-at t) order-new.Post
-order-new-node-by-id-requires t c κs = search needs
+order-new-type-by-id-requires : (t : ℕ) → order-new-lts.Need-type-by-id-requires (order-new-claims t) (order-new-at t) order-new.Post
+order-new-type-by-id-requires t c κs = search needs
+
+order-new-node-of-requires : (t : ℕ) → order-new-lts.Need-node-of-requires (order-new-claims t) (order-new-at t) order-new.Post
+order-new-node-of-requires t c κs = search needs
 
 order-new-enum-told : (t : ℕ) → order-new-lts.Need-enum-told (order-new-claims t) (order-new-at t) order-new.Post
 order-new-enum-told t c = search needs
@@ -281,9 +267,6 @@ order-new-finish-requires t c κs = search needs
 
 order-new-enum-told-3 : (t : ℕ) → order-new-lts.Need-enum-told-3 (order-new-claims t) (order-new-at t) order-new.Post
 order-new-enum-told-3 t c = search needs
-
-order-new-type-by-id-requires : (t : ℕ) → order-new-lts.Need-type-by-id-requires (order-new-claims t) (order-new-at t) order-new.Post
-order-new-type-by-id-requires t c κs = search needs
 
 order-new-is-named-requires : (t : ℕ) → order-new-lts.Need-is-named-requires (order-new-claims t) (order-new-at t) order-new.Post
 order-new-is-named-requires t c κs = search needs
@@ -326,6 +309,9 @@ order-new-order-params-requires t c κs = (omega arith, tt)
 
 order-new-enum-known-members : (t : ℕ) → order-new-lts.Need-enum-known-members (order-new-claims t) (order-new-at t) order-new.Post
 order-new-enum-known-members t c = search needs
+
+order-new-is-named-requires-2 : (t : ℕ) → order-new-lts.Need-is-named-requires-2 (order-new-claims t) (order-new-at t) order-new.Post
+order-new-is-named-requires-2 t c κs = search needs
 
 order-new-order-composite-requires : (t : ℕ) → order-new-lts.Need-order-composite-requires (order-new-claims t) (order-new-at t) order-new.Post
 order-new-order-composite-requires t c κs = (omega arith, tt)
@@ -469,10 +455,6 @@ pub +order-composite+order-members+order-new+order-params+order-type-spec :
     μ-order-params
     μ-order-type
     (λ t. order-composite-lts.spec (
-      type-by-id-reads.Asked,
-      type-by-id-reads.Learnt,
-      is-named-reads.Asked,
-      is-named-reads.Learnt,
       strong-reads.Asked,
       strong-reads.Learnt,
       set-order-state-reads.Asked,
@@ -484,15 +466,12 @@ pub +order-composite+order-members+order-new+order-params+order-type-spec :
     )
     (order-composite-at t)
     order-composite.Post
-    (order-composite-type-by-id-requires t)
-    (order-composite-is-named-requires t)
     (order-composite-strong-requires t)
-    (order-composite-same-length t)
     (order-composite-returns t)
     (order-composite-set-order-state-requires t)
     (order-composite-order-members-requires t)
     (order-composite-finish-requires t)
-    (order-composite-same-length-2 t)
+    (order-composite-same-length t)
     (order-composite-returns-2 t))
     (λ t. order-members-lts.spec (
       member-place-reads.Asked,
@@ -517,14 +496,14 @@ pub +order-composite+order-members+order-new+order-params+order-type-spec :
     (order-members-same-length t)
     (order-members-returns t))
     (λ t. order-new-lts.spec (
-      node-by-id-reads.Asked,
-      node-by-id-reads.Learnt,
+      type-by-id-reads.Asked,
+      type-by-id-reads.Learnt,
+      node-of-reads.Asked,
+      node-of-reads.Learnt,
       strong-reads.Asked,
       strong-reads.Learnt,
       finish-reads.Asked,
       finish-reads.Learnt,
-      type-by-id-reads.Asked,
-      type-by-id-reads.Learnt,
       is-named-reads.Asked,
       is-named-reads.Learnt,
       order-type-below t,
@@ -538,13 +517,13 @@ pub +order-composite+order-members+order-new+order-params+order-type-spec :
     )
     (order-new-at t)
     order-new.Post
-    (order-new-node-by-id-requires t)
+    (order-new-type-by-id-requires t)
+    (order-new-node-of-requires t)
     (order-new-enum-told t)
     (order-new-strong-requires t)
     (order-new-enum-told-2 t)
     (order-new-finish-requires t)
     (order-new-enum-told-3 t)
-    (order-new-type-by-id-requires t)
     (order-new-is-named-requires t)
     (order-new-finish-requires-2 t)
     (order-new-enum-known-t t)
@@ -559,6 +538,7 @@ pub +order-composite+order-members+order-new+order-params+order-type-spec :
     (order-new-order-type-requires-4 t)
     (order-new-order-params-requires t)
     (order-new-enum-known-members t)
+    (order-new-is-named-requires-2 t)
     (order-new-order-composite-requires t)
     (order-new-same-length t)
     (order-new-returns t)

@@ -5,8 +5,10 @@ use Rattle.chain.proofs.links.chain_len.Statement.{statement}
 use Rattle.chain.proofs.links.chain_len.Tie as tie
 use Rattle.chain.proofs.links.chain_len.Reads as reads
 use Rattle.chain.proofs.links.chain_len.Lts as lts
-use Rattle.chain.proofs.links.is_base.Reads as is-base-reads
-use Rattle.chain.proofs.links.link_of.Reads as link-of-reads
+use Rattle.btf.proofs.kind_of.Reads as kind-of-reads
+use Rattle.btf.proofs.type_by_id.Reads as type-by-id-reads
+use Rattle.chain.proofs.links.is_link.Reads as is-link-reads
+use Rattle.chain.proofs.links.next_of.Reads as next-of-reads
 
 abbrev Inv-loop : tie.InvT-loop
 Inv-loop b section work start id₀ n₀ id n = n ≤ 513
@@ -17,14 +19,20 @@ abbrev μ-loop : tie.MeasureT-loop
 loop-holds : tie.Need-loop-holds Inv-loop μ-loop
 loop-holds c = search needs
 
-link-of-requires : tie.Need-link-of-requires Inv-loop μ-loop
-link-of-requires c κs = search needs
+type-by-id-requires : tie.Need-type-by-id-requires Inv-loop μ-loop
+type-by-id-requires c κs = search needs
 
-is-base-requires : tie.Need-is-base-requires Inv-loop μ-loop
-is-base-requires c κs = search needs
+kind-of-requires : tie.Need-kind-of-requires Inv-loop μ-loop
+kind-of-requires c κs = search needs
+
+is-link-requires : tie.Need-is-link-requires Inv-loop μ-loop
+is-link-requires c κs = search needs
 
 returns : tie.Need-returns Inv-loop μ-loop
 returns c = search needs
+
+next-of-requires : tie.Need-next-of-requires Inv-loop μ-loop
+next-of-requires c κs = search needs
 
 add-n : tie.Need-add-n Inv-loop μ-loop
 add-n c = omega arith
@@ -45,9 +53,11 @@ chain-len-spec =
     Inv-loop
     μ-loop
     loop-holds
-    link-of-requires
-    is-base-requires
+    type-by-id-requires
+    kind-of-requires
+    is-link-requires
     returns
+    next-of-requires
     add-n
     loop-less
     loop-again

@@ -5,7 +5,8 @@ use Rattle.chain.proofs.links.path_at.Statement.{statement}
 use Rattle.chain.proofs.links.path_at.Tie as tie
 use Rattle.chain.proofs.links.path_at.Reads as reads
 use Rattle.chain.proofs.links.path_at.Lts as lts
-use Rattle.chain.proofs.links.link_of.Reads as link-of-reads
+use Rattle.btf.proofs.type_by_id.Reads as type-by-id-reads
+use Rattle.chain.proofs.links.next_of.Reads as next-of-reads
 
 abbrev Inv-loop : tie.InvT-loop
 Inv-loop b section work start k id₀ i₀ id i = i ≤ k
@@ -16,8 +17,11 @@ abbrev μ-loop : tie.MeasureT-loop
 loop-holds : tie.Need-loop-holds Inv-loop μ-loop
 loop-holds c = search needs
 
-link-of-requires : tie.Need-link-of-requires Inv-loop μ-loop
-link-of-requires c κs = search needs
+type-by-id-requires : tie.Need-type-by-id-requires Inv-loop μ-loop
+type-by-id-requires c κs = search needs
+
+next-of-requires : tie.Need-next-of-requires Inv-loop μ-loop
+next-of-requires c κs = search needs
 
 add-i : tie.Need-add-i Inv-loop μ-loop
 add-i c = omega arith
@@ -34,4 +38,13 @@ returns c = search needs
 pub path-at-spec : {M : Type 1} → statement M
 path-at-spec =
     tie.close
-    (tie.spec Inv-loop μ-loop loop-holds link-of-requires add-i loop-less loop-again returns)
+    (tie.spec
+    Inv-loop
+    μ-loop
+    loop-holds
+    type-by-id-requires
+    next-of-requires
+    add-i
+    loop-less
+    loop-again
+    returns)

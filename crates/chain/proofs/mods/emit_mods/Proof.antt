@@ -6,30 +6,27 @@ use Rattle.chain.proofs.mods.emit_mods.Statement.{statement}
 use Rattle.chain.proofs.mods.emit_mods.Tie as tie
 use Rattle.chain.proofs.mods.emit_mods.Reads as reads
 use Rattle.chain.proofs.mods.emit_mods.Lts as lts
+use Rattle.chain.proofs.links.kind_on_top.Reads as kind-on-top-reads
 use Rattle.chain.proofs.links.put_qualifier.Reads as put-qualifier-reads
-use Rattle.chain.proofs.links.qualifier_on_top.Reads as qualifier-on-top-reads
-use Rattle.lent.proofs.put_bytes.Reads as put-bytes-reads
+use Rattle.lent.proofs.put_byte.Reads as put-byte-reads
 
 abbrev Inv-loop : tie.InvT-loop
-Inv-loop b section work text₀ at start n m p₀ k₀ t12 text p k = length text ≡ length text₀
+Inv-loop b section work text₀ at start n m p₀ k₀ text p k = length text ≡ length text₀
 
 abbrev μ-loop : tie.MeasureT-loop
-μ-loop b section work text₀ at start n m p₀ k₀ t12 text p k = k
+μ-loop b section work text₀ at start n m p₀ k₀ text p k = k
 
 loop-holds : tie.Need-loop-holds Inv-loop μ-loop
 loop-holds c = search needs
 
-qualifier-on-top-requires : tie.Need-qualifier-on-top-requires Inv-loop μ-loop
-qualifier-on-top-requires c κs = search needs
+kind-on-top-requires : tie.Need-kind-on-top-requires Inv-loop μ-loop
+kind-on-top-requires c κs = search needs
 
 put-qualifier-requires : tie.Need-put-qualifier-requires Inv-loop μ-loop
 put-qualifier-requires c κs = search needs
 
-slice-aggregate-put-bytes : tie.Need-slice-aggregate-put-bytes Inv-loop μ-loop
-slice-aggregate-put-bytes c = search needs
-
-put-bytes-requires : tie.Need-put-bytes-requires Inv-loop μ-loop
-put-bytes-requires c κs = search needs
+put-byte-requires : tie.Need-put-byte-requires Inv-loop μ-loop
+put-byte-requires c κs = search needs
 
 sub-k : tie.Need-sub-k Inv-loop μ-loop
 sub-k c = omega arith
@@ -53,10 +50,9 @@ emit-mods-spec =
     Inv-loop
     μ-loop
     loop-holds
-    qualifier-on-top-requires
+    kind-on-top-requires
     put-qualifier-requires
-    slice-aggregate-put-bytes
-    put-bytes-requires
+    put-byte-requires
     sub-k
     loop-less
     loop-again

@@ -5,7 +5,8 @@ use Rattle.chain.proofs.mods.skip_mods.Statement.{statement}
 use Rattle.chain.proofs.mods.skip_mods.Tie as tie
 use Rattle.chain.proofs.mods.skip_mods.Reads as reads
 use Rattle.chain.proofs.mods.skip_mods.Lts as lts
-use Rattle.chain.proofs.links.qualifier_on_top.Reads as qualifier-on-top-reads
+use Rattle.chain.proofs.links.is_qualifier.Reads as is-qualifier-reads
+use Rattle.chain.proofs.links.kind_on_top.Reads as kind-on-top-reads
 
 abbrev Inv-loop : tie.InvT-loop
 Inv-loop b section work start n k₀ k = k ≤ n
@@ -16,8 +17,11 @@ abbrev μ-loop : tie.MeasureT-loop
 loop-holds : tie.Need-loop-holds Inv-loop μ-loop
 loop-holds c = search needs
 
-qualifier-on-top-requires : tie.Need-qualifier-on-top-requires Inv-loop μ-loop
-qualifier-on-top-requires c κs = search needs
+kind-on-top-requires : tie.Need-kind-on-top-requires Inv-loop μ-loop
+kind-on-top-requires c κs = search needs
+
+is-qualifier-requires : tie.Need-is-qualifier-requires Inv-loop μ-loop
+is-qualifier-requires c κs = search needs
 
 returns : tie.Need-returns Inv-loop μ-loop
 returns c = search needs
@@ -41,7 +45,8 @@ skip-mods-spec =
     Inv-loop
     μ-loop
     loop-holds
-    qualifier-on-top-requires
+    kind-on-top-requires
+    is-qualifier-requires
     returns
     sub-k
     loop-less

@@ -1,15 +1,16 @@
-use denote.Ref.{now}
-use lib.ListN.{length}
-use mathlib.Core.Path.{_≡_, refl, _∙_}
-use Prim.Native.Nat.{_-_, _+_, _*_, _≤_, _/_}
-use Rattle.classes.proofs.Keys.{State}
-use Rattle.classes.proofs.Keys as keys
-use borrow.Author.Needs.{needs}
 use native.Mathlib.Omega.{arith}
+use borrow.Author.Needs.{needs}
+use Rattle.classes.proofs.Keys as keys
+use Rattle.classes.proofs.Keys.{State}
+use Prim.Native.Nat.{_-_, _+_, _*_, _≤_, _/_}
+use mathlib.Core.Path.{_≡_, refl, _∙_}
+use lib.ListN.{length}
+use denote.Ref.{now}
 use Rattle.classes.proofs.holders.classes.Statement.{statement}
 use Rattle.classes.proofs.holders.classes.Tie as tie
 use Rattle.classes.proofs.holders.classes.Reads as reads
 use Rattle.classes.proofs.holders.classes.Lts as lts
+use Rattle.classes.proofs.holders.clear_scratch.Reads as clear-scratch-reads
 use Rattle.classes.proofs.holders.clear_words.Reads as clear-words-reads
 use Rattle.classes.proofs.holders.put_holder.Reads as put-holder-reads
 
@@ -61,17 +62,14 @@ loop-less c = omega arith
 loop-again : tie.Need-loop-again Inv-loop μ-loop
 loop-again c = (omega arith, omega arith, omega arith, search needs, keys.turn _ _ _ _ _ _ _ (c .before .before .before .before .loop-test .taken) (c .before .before .before .before .before .loop .inv .4) (c .before .before .put-holder .ensures))
 
-clear-words-requires-2 : tie.Need-clear-words-requires-2 Inv-loop μ-loop
-clear-words-requires-2 c κs = search needs
-
-clear-words-requires-3 : tie.Need-clear-words-requires-3 Inv-loop μ-loop
-clear-words-requires-3 c κs = search needs
+clear-scratch-requires : tie.Need-clear-scratch-requires Inv-loop μ-loop
+clear-scratch-requires c κs = search needs
 
 same-length : tie.Need-same-length Inv-loop μ-loop
 same-length c = search needs
 
 returns-3 : tie.Need-returns-3 Inv-loop μ-loop
-returns-3 c = keys.done _ _ _ (now (c .before .before .before .before .before .before .before .before .before .before .before .before .before .before .before .before .before .before .args .work)) _ _ _ _ _ (omega arith) (c .before .before .before .before .before .before .before .before .before .before .before .before .clear-words .ensures) (c .before .before .before .before .before .before .before .before .before .loop .inv .4) (c .before .before .before .before .before .before .clear-words2 .ensures) (c .before .before .clear-words3 .ensures) ∙ keys.long-enough _ _ _ _ _ (c .before .before .before .before .before .before .before .before .before .loop .inv .1) (omega arith) (omega arith)
+returns-3 c = keys.done _ _ _ (now (c .before .before .before .before .before .before .before .before .before .before .before .before .before .before .args .work)) _ _ _ _ (omega arith) (c .before .before .before .before .before .before .before .before .clear-words .ensures) (c .before .before .before .before .before .loop .inv .4) (c .before .before .clear-scratch .ensures) ∙ keys.long-enough _ _ _ _ _ (c .before .before .before .before .before .loop .inv .1) (omega arith) (omega arith)
 
 pub classes-spec : {M : Type 1} → statement M
 classes-spec =
@@ -93,7 +91,6 @@ classes-spec =
     add-k
     loop-less
     loop-again
-    clear-words-requires-2
-    clear-words-requires-3
+    clear-scratch-requires
     same-length
     returns-3)

@@ -1,12 +1,17 @@
-use Rattle.followed.proofs.Walks.{top-begun, top-inside, small, space, pop, advance, push, found, out-safe}
+use lib.ListN.{length-set}
 use native.Mathlib.Omega.{arith}
+use Rattle.followed.proofs.TypeLoops.{deg-by, passed-by}
+use Rattle.followed.proofs.Accessors.{followed-is}
+use Rattle.followed.proofs.Walks.{top-begun, top-inside, known, few-at, space, next-at, some-way, passed-inv, pass-pop, pass-push, pass-found}
 use borrow.Author.Needs.{needs}
 use Rattle.followed.proofs.loops.turn.Statement.{statement}
 use Rattle.followed.proofs.loops.turn.Tie as tie
 use Rattle.followed.proofs.loops.turn.Reads as reads
 use Rattle.followed.proofs.loops.turn.Lts as lts
-use Rattle.followed.proofs.index.followed.Reads as followed-reads
+use Rattle.followed.proofs.index.entry.Reads as entry-reads
+use Rattle.followed.proofs.index.id_at.Reads as id-at-reads
 use Rattle.followed.proofs.loops.degree.Reads as degree-reads
+use Rattle.followed.proofs.loops.pass.Reads as pass-reads
 
 sub-x : tie.Need-sub-x
 sub-x c = search needs
@@ -20,20 +25,32 @@ slice-read-x c = search needs
 cast-at : tie.Need-cast-at
 cast-at c = omega (arith, top-inside _ _ _ _ (c .before .before .before .before .before .pre .0) (c .before .before .before .before .before .pre .1), c .before .before .before .before .before .pre .0 .st-length)
 
-mul-m : tie.Need-mul-m
-mul-m c = omega (arith, top-inside _ _ _ _ (c .before .before .before .before .before .pre .0) (c .before .before .before .before .before .pre .1), c .before .before .before .before .before .pre .0 .st-length)
-
-slice-read-m : tie.Need-slice-read-m
-slice-read-m c = omega (arith, top-inside _ _ _ _ (c .before .before .before .before .before .before .pre .0) (c .before .before .before .before .before .before .pre .1), c .before .before .before .before .before .before .pre .0 .st-length)
+entry-requires : tie.Need-entry-requires
+entry-requires c κs = search needs
 
 degree-requires : tie.Need-degree-requires
 degree-requires c κs = search needs
 
+mul-from : tie.Need-mul-from
+mul-from c = omega (arith, top-inside _ _ _ _ (c .before .before .before .before .before .before .before .pre .0) (c .before .before .before .before .before .before .before .pre .1), c .before .before .before .before .before .before .before .pre .0 .st-length)
+
+slice-read-from : tie.Need-slice-read-from
+slice-read-from c = omega (arith, top-inside _ _ _ _ (c .before .before .before .before .before .before .before .before .pre .0) (c .before .before .before .before .before .before .before .before .pre .1), c .before .before .before .before .before .before .before .before .pre .0 .st-length)
+
+pass-requires : tie.Need-pass-requires
+pass-requires c κs = (known _ _ _ _ (c .before .before .before .before .before .before .before .before .before .pre .0), top-begun _ _ _ _ (c .before .before .before .before .before .before .before .before .before .pre .0) (c .before .before .before .before .before .before .before .before .before .pre .1), few-at _ _ _ _ (c .before .before .before .before .before .before .before .before .before .pre .0) _ _ (deg-by _ _ _ _ _ (c .before .before .before .entry .ensures) _ (c .before .before .degree .ensures)))
+
 mul-st : tie.Need-mul-st
-mul-st c = omega (arith, top-inside _ _ _ _ (c .before .before .before .before .before .before .before .before .pre .0) (c .before .before .before .before .before .before .before .before .pre .1), c .before .before .before .before .before .before .before .before .pre .0 .st-length)
+mul-st c = omega (arith, top-inside _ _ _ _ (c .before .before .before .before .before .before .before .before .before .before .pre .0) (c .before .before .before .before .before .before .before .before .before .before .pre .1), c .before .before .before .before .before .before .before .before .before .before .pre .0 .st-length)
 
 slice-write-st : tie.Need-slice-write-st
-slice-write-st c = omega (arith, top-inside _ _ _ _ (c .before .before .before .before .before .before .before .before .pre .0) (c .before .before .before .before .before .before .before .before .pre .1), c .before .before .before .before .before .before .before .before .pre .0 .st-length)
+slice-write-st c = omega (arith, top-inside _ _ _ _ (c .before .before .before .before .before .before .before .before .before .before .pre .0) (c .before .before .before .before .before .before .before .before .before .before .pre .1), c .before .before .before .before .before .before .before .before .before .before .pre .0 .st-length)
+
+mul-st-2 : tie.Need-mul-st-2
+mul-st-2 c = omega (arith, top-inside _ _ _ _ (c .before .before .before .before .before .before .before .before .before .before .before .pre .0) (c .before .before .before .before .before .before .before .before .before .before .before .pre .1), c .before .before .before .before .before .before .before .before .before .before .before .pre .0 .st-length)
+
+slice-write-st-2 : tie.Need-slice-write-st-2
+slice-write-st-2 c = simp length-set (omega (arith, top-inside _ _ _ _ (c .before .before .before .before .before .before .before .before .before .before .before .pre .0) (c .before .before .before .before .before .before .before .before .before .before .before .pre .1), c .before .before .before .before .before .before .before .before .before .before .before .pre .0 .st-length))
 
 sub-result : tie.Need-sub-result
 sub-result c = search needs
@@ -42,49 +59,40 @@ same-length : tie.Need-same-length
 same-length c = search needs
 
 returns : tie.Need-returns
-returns c = pop _ _ _ _ (c .before .before .before .before .before .before .before .before .pre .0) (c .before .before .before .before .before .before .before .before .pre .1) _ (c .before .degree .ensures) (c .if1 .taken)
+returns c = pass-pop _ _ _ _ (c .before .before .before .before .before .before .before .before .before .before .before .pre .0) (c .before .before .before .before .before .before .before .before .before .before .before .pre .1) _ (deg-by _ _ _ _ _ (c .before .before .before .before .before .entry .ensures) _ (c .before .before .before .before .degree .ensures)) _ (passed-by _ _ _ _ _ (c .before .before .before .before .before .entry .ensures) _ _ _ (c .before .pass .ensures .passed)) (c .if1 .taken)
 
-sub-followed : tie.Need-sub-followed
-sub-followed c = top-begun _ _ _ _ (c .before .before .before .before .before .before .before .before .pre .0) (c .before .before .before .before .before .before .before .before .pre .1)
+sub-id-at : tie.Need-sub-id-at
+sub-id-at c = some-way _ _ _ _ (c .before .before .before .before .before .before .before .before .before .before .before .pre .0) (c .before .before .before .before .before .before .before .before .before .before .before .pre .1) _ (deg-by _ _ _ _ _ (c .before .before .before .before .before .entry .ensures) _ (c .before .before .before .before .degree .ensures)) _ (passed-by _ _ _ _ _ (c .before .before .before .before .before .entry .ensures) _ _ _ (c .before .pass .ensures .passed))
 
-followed-requires : tie.Need-followed-requires
-followed-requires c κs = search needs
+id-at-requires : tie.Need-id-at-requires
+id-at-requires c κs = search needs
 
 cast-next : tie.Need-cast-next
 cast-next c = search needs
 
-add-st : tie.Need-add-st
-add-st c = omega (arith, small _ _ _ _ (c .before .before .before .before .before .before .before .before .before .before .pre .0) (c .before .before .before .before .before .before .before .before .before .before .pre .1) _ (c .before .before .before .degree .ensures) (c .before .before .if1 .left))
+mul-if2 : tie.Need-mul-if2
+mul-if2 c = search needs
 
-mul-st-2 : tie.Need-mul-st-2
-mul-st-2 c = omega (arith, top-inside _ _ _ _ (c .before .before .before .before .before .before .before .before .before .before .pre .0) (c .before .before .before .before .before .before .before .before .before .before .pre .1), c .before .before .before .before .before .before .before .before .before .before .pre .0 .st-length)
-
-slice-write-st-2 : tie.Need-slice-write-st-2
-slice-write-st-2 c = omega (arith, top-inside _ _ _ _ (c .before .before .before .before .before .before .before .before .before .before .pre .0) (c .before .before .before .before .before .before .before .before .before .before .pre .1), c .before .before .before .before .before .before .before .before .before .before .pre .0 .st-length)
+slice-read-if2 : tie.Need-slice-read-if2
+slice-read-if2 c = simp length-set (omega (arith, next-at _ _ _ _ _ _ (c .before .before .before .pass .ensures) (c .before .before .if1 .left) _ (c .before .id-at .ensures) .0, c .before .before .before .before .before .before .before .before .before .before .before .before .before .pre .0 .st-length))
 
 same-length-2 : tie.Need-same-length-2
 same-length-2 c = search needs
 
 returns-2 : tie.Need-returns-2
-returns-2 c = advance _ _ _ _ (c .before .before .before .before .before .before .before .before .before .before .pre .0) (c .before .before .before .before .before .before .before .before .before .before .pre .1) _ (c .before .before .before .degree .ensures) (c .before .before .if1 .left) _ (c .before .followed .ensures) (out-safe _ _ (c .if2 .taken))
-
-mul-n : tie.Need-mul-n
-mul-n c = search needs
-
-slice-read-n : tie.Need-slice-read-n
-slice-read-n c = search needs
+returns-2 c = pass-found _ _ _ _ (c .before .before .before .before .before .before .before .before .before .before .before .before .before .before .pre .0) (c .before .before .before .before .before .before .before .before .before .before .before .before .before .before .pre .1) _ (deg-by _ _ _ _ _ (c .before .before .before .before .before .before .before .before .entry .ensures) _ (c .before .before .before .before .before .before .before .degree .ensures)) _ (passed-by _ _ _ _ _ (c .before .before .before .before .before .before .before .before .entry .ensures) _ _ _ (c .before .before .before .before .pass .ensures .passed)) (c .before .before .before .if1 .left) _ (followed-is _ _ _ _ (c .before .before .before .before .before .before .before .before .entry .ensures) _ _ _ (c .before .before .id-at .ensures)) (c .if2 .taken) (next-at _ _ _ _ _ _ (c .before .before .before .before .pass .ensures) (c .before .before .before .if1 .left) _ (c .before .before .id-at .ensures) .1)
 
 mul-st-3 : tie.Need-mul-st-3
 mul-st-3 c = search needs
 
 slice-write-st-3 : tie.Need-slice-write-st-3
-slice-write-st-3 c = search needs
+slice-write-st-3 c = simp length-set (omega (arith, next-at _ _ _ _ _ _ (c .before .before .before .before .pass .ensures) (c .before .before .before .if1 .left) _ (c .before .before .id-at .ensures) .0, c .before .before .before .before .before .before .before .before .before .before .before .before .before .before .pre .0 .st-length))
 
 mul-stack : tie.Need-mul-stack
 mul-stack c = search needs
 
 slice-write-stack : tie.Need-slice-write-stack
-slice-write-stack c = omega (arith, c .before .before .before .before .before .before .before .before .before .before .before .before .pre .0 .stack-length, space _ _ _ _ (c .before .before .before .before .before .before .before .before .before .before .before .before .pre .0) (c .before .before .before .before .before .before .before .before .before .before .before .before .pre .1) _ (c .before .before .if2 .left) (c .if3 .taken))
+slice-write-stack c = omega (arith, c .before .before .before .before .before .before .before .before .before .before .before .before .before .before .pre .0 .stack-length, space _ _ _ _ (passed-inv _ _ _ _ (c .before .before .before .before .before .before .before .before .before .before .before .before .before .before .pre .0) (c .before .before .before .before .before .before .before .before .before .before .before .before .before .before .pre .1) _ (deg-by _ _ _ _ _ (c .before .before .before .before .before .before .before .before .entry .ensures) _ (c .before .before .before .before .before .before .before .degree .ensures)) _ (passed-by _ _ _ _ _ (c .before .before .before .before .before .before .before .before .entry .ensures) _ _ _ (c .before .before .before .before .pass .ensures .passed))) (c .before .before .before .before .before .before .before .before .before .before .before .before .before .before .pre .1) _ (next-at _ _ _ _ _ _ (c .before .before .before .before .pass .ensures) (c .before .before .before .if1 .left) _ (c .before .before .id-at .ensures) .0) (c .if2 .left))
 
 add-result : tie.Need-add-result
 add-result c = search needs
@@ -96,25 +104,7 @@ same-length-4 : tie.Need-same-length-4
 same-length-4 c = search needs
 
 returns-3 : tie.Need-returns-3
-returns-3 c = push _ _ _ _ (c .before .before .before .before .before .before .before .before .before .before .before .before .pre .0) (c .before .before .before .before .before .before .before .before .before .before .before .before .pre .1) _ (c .before .before .before .before .before .degree .ensures) (c .before .before .before .before .if1 .left) _ (c .before .before .before .followed .ensures) (c .before .before .if2 .left) (c .if3 .taken)
-
-returns-4 : tie.Need-returns-4
-returns-4 c = found _ _ _ _ (c .before .before .before .before .before .before .before .before .before .before .before .before .before .pre .0) (c .before .before .before .before .before .before .before .before .before .before .before .before .before .pre .1) _ (c .before .before .before .before .before .before .degree .ensures) (c .before .before .before .before .before .if1 .left) _ (c .before .before .before .before .followed .ensures) (c .before .if3 .left) (c .if4 .taken)
-
-add-st-2 : tie.Need-add-st-2
-add-st-2 c = omega (arith, small _ _ _ _ (c .before .before .before .before .before .before .before .before .before .before .before .before .before .pre .0) (c .before .before .before .before .before .before .before .before .before .before .before .before .before .pre .1) _ (c .before .before .before .before .before .before .degree .ensures) (c .before .before .before .before .before .if1 .left))
-
-mul-st-4 : tie.Need-mul-st-4
-mul-st-4 c = omega (arith, top-inside _ _ _ _ (c .before .before .before .before .before .before .before .before .before .before .before .before .before .pre .0) (c .before .before .before .before .before .before .before .before .before .before .before .before .before .pre .1), c .before .before .before .before .before .before .before .before .before .before .before .before .before .pre .0 .st-length)
-
-slice-write-st-4 : tie.Need-slice-write-st-4
-slice-write-st-4 c = omega (arith, top-inside _ _ _ _ (c .before .before .before .before .before .before .before .before .before .before .before .before .before .pre .0) (c .before .before .before .before .before .before .before .before .before .before .before .before .before .pre .1), c .before .before .before .before .before .before .before .before .before .before .before .before .before .pre .0 .st-length)
-
-same-length-5 : tie.Need-same-length-5
-same-length-5 c = search needs
-
-returns-5 : tie.Need-returns-5
-returns-5 c = advance _ _ _ _ (c .before .before .before .before .before .before .before .before .before .before .before .before .before .pre .0) (c .before .before .before .before .before .before .before .before .before .before .before .before .before .pre .1) _ (c .before .before .before .before .before .before .degree .ensures) (c .before .before .before .before .before .if1 .left) _ (c .before .before .before .before .followed .ensures) (c .before .before .before .before .before .before .before .before .before .before .before .before .before .pre .0 .fine _ .done (c .if4 .left))
+returns-3 c = pass-push _ _ _ _ (c .before .before .before .before .before .before .before .before .before .before .before .before .before .before .pre .0) (c .before .before .before .before .before .before .before .before .before .before .before .before .before .before .pre .1) _ (deg-by _ _ _ _ _ (c .before .before .before .before .before .before .before .before .entry .ensures) _ (c .before .before .before .before .before .before .before .degree .ensures)) _ (passed-by _ _ _ _ _ (c .before .before .before .before .before .before .before .before .entry .ensures) _ _ _ (c .before .before .before .before .pass .ensures .passed)) (c .before .before .before .if1 .left) _ (followed-is _ _ _ _ (c .before .before .before .before .before .before .before .before .entry .ensures) _ _ _ (c .before .before .id-at .ensures)) (next-at _ _ _ _ _ _ (c .before .before .before .before .pass .ensures) (c .before .before .before .if1 .left) _ (c .before .before .id-at .ensures) .0) (c .if2 .left)
 
 pub turn-spec : {M : Type 1} → statement M
 turn-spec =
@@ -124,24 +114,25 @@ turn-spec =
     mul-x
     slice-read-x
     cast-at
-    mul-m
-    slice-read-m
+    entry-requires
     degree-requires
+    mul-from
+    slice-read-from
+    pass-requires
     mul-st
     slice-write-st
+    mul-st-2
+    slice-write-st-2
     sub-result
     same-length
     returns
-    sub-followed
-    followed-requires
+    sub-id-at
+    id-at-requires
     cast-next
-    add-st
-    mul-st-2
-    slice-write-st-2
+    mul-if2
+    slice-read-if2
     same-length-2
     returns-2
-    mul-n
-    slice-read-n
     mul-st-3
     slice-write-st-3
     mul-stack
@@ -149,10 +140,4 @@ turn-spec =
     add-result
     same-length-3
     same-length-4
-    returns-3
-    returns-4
-    add-st-2
-    mul-st-4
-    slice-write-st-4
-    same-length-5
-    returns-5)
+    returns-3)

@@ -7,8 +7,8 @@ use Rattle.opening.proofs.fill.fill_enums.Statement.{statement}
 use Rattle.opening.proofs.fill.fill_enums.Tie as tie
 use Rattle.opening.proofs.fill.fill_enums.Reads as reads
 use Rattle.opening.proofs.fill.fill_enums.Lts as lts
+use Rattle.opening.proofs.fill.entry_of.Reads as entry-of-reads
 use Rattle.opening.proofs.fill.fill_enum.Reads as fill-enum-reads
-use Rattle.opening.proofs.fill.place_of.Reads as place-of-reads
 
 abbrev Inv-loop : tie.InvT-loop
 Inv-loop b section start work₀ n first₀ x₀ work first x = (n < 4294967296) × (length work ≡ length work₀)
@@ -19,8 +19,8 @@ abbrev μ-loop : tie.MeasureT-loop
 loop-holds : tie.Need-loop-holds Inv-loop μ-loop
 loop-holds c = search needs
 
-place-of-requires : tie.Need-place-of-requires Inv-loop μ-loop
-place-of-requires c κs = search needs
+entry-of-requires : tie.Need-entry-of-requires Inv-loop μ-loop
+entry-of-requires c κs = search needs
 
 fill-enum-requires : tie.Need-fill-enum-requires Inv-loop μ-loop
 fill-enum-requires c κs = search needs
@@ -47,7 +47,7 @@ fill-enums-spec =
     Inv-loop
     μ-loop
     loop-holds
-    place-of-requires
+    entry-of-requires
     fill-enum-requires
     add-x
     loop-less

@@ -8,7 +8,7 @@ use Rattle.opening.proofs.fill.fill_places.Tie as tie
 use Rattle.opening.proofs.fill.fill_places.Reads as reads
 use Rattle.opening.proofs.fill.fill_places.Lts as lts
 use Rattle.btf.proofs.put_field.Reads as put-field-reads
-use Rattle.opening.proofs.fill.place_of.Reads as place-of-reads
+use Rattle.opening.proofs.fill.entry_of.Reads as entry-of-reads
 
 abbrev Inv-loop : tie.InvT-loop
 Inv-loop start work₀ n x₀ work x = (x ≤ n + 1) × (n < 4294967296) × (length work ≡ length work₀)
@@ -19,8 +19,8 @@ abbrev μ-loop : tie.MeasureT-loop
 loop-holds : tie.Need-loop-holds Inv-loop μ-loop
 loop-holds c = search needs
 
-place-of-requires : tie.Need-place-of-requires Inv-loop μ-loop
-place-of-requires c κs = search needs
+entry-of-requires : tie.Need-entry-of-requires Inv-loop μ-loop
+entry-of-requires c κs = search needs
 
 put-field-requires : tie.Need-put-field-requires Inv-loop μ-loop
 put-field-requires c κs = search needs
@@ -47,7 +47,7 @@ fill-places-spec =
     Inv-loop
     μ-loop
     loop-holds
-    place-of-requires
+    entry-of-requires
     put-field-requires
     add-x
     loop-less

@@ -6,8 +6,8 @@ use Rattle.opening.proofs.fill.fill_tags.Statement.{statement}
 use Rattle.opening.proofs.fill.fill_tags.Tie as tie
 use Rattle.opening.proofs.fill.fill_tags.Reads as reads
 use Rattle.opening.proofs.fill.fill_tags.Lts as lts
+use Rattle.opening.proofs.fill.entry_of.Reads as entry-of-reads
 use Rattle.opening.proofs.fill.fill_tag.Reads as fill-tag-reads
-use Rattle.opening.proofs.fill.place_of.Reads as place-of-reads
 
 abbrev Inv-loop : tie.InvT-loop
 Inv-loop b section start work₀ x₀ work x = length work ≡ length work₀
@@ -21,8 +21,8 @@ loop-holds c = search needs
 sub-x : tie.Need-sub-x Inv-loop μ-loop
 sub-x c = omega arith
 
-place-of-requires : tie.Need-place-of-requires Inv-loop μ-loop
-place-of-requires c κs = search needs
+entry-of-requires : tie.Need-entry-of-requires Inv-loop μ-loop
+entry-of-requires c κs = search needs
 
 fill-tag-requires : tie.Need-fill-tag-requires Inv-loop μ-loop
 fill-tag-requires c κs = search needs
@@ -47,7 +47,7 @@ fill-tags-spec =
     μ-loop
     loop-holds
     sub-x
-    place-of-requires
+    entry-of-requires
     fill-tag-requires
     loop-less
     loop-again

@@ -7,7 +7,9 @@ use Rattle.opening.proofs.records.scan_area.Statement.{statement}
 use Rattle.opening.proofs.records.scan_area.Tie as tie
 use Rattle.opening.proofs.records.scan_area.Reads as reads
 use Rattle.opening.proofs.records.scan_area.Lts as lts
-use Rattle.opening.proofs.records.enumerators_at.Reads as enumerators-at-reads
+use Rattle.btf.proofs.kind_of.Reads as kind-of-reads
+use Rattle.btf.proofs.word.Reads as word-reads
+use Rattle.opening.proofs.records.enumerators_of.Reads as enumerators-of-reads
 use Rattle.opening.proofs.records.next_record.Reads as next-record-reads
 use Rattle.opening.proofs.records.plus.Reads as plus-reads
 use Rattle.opening.proofs.records.put_start.Reads as put-start-reads
@@ -31,6 +33,18 @@ same-length c = search needs
 returns : tie.Need-returns Inv-loop μ-loop
 returns c = search needs
 
+cast-word : tie.Need-cast-word Inv-loop μ-loop
+cast-word c = omega arith
+
+add-word : tie.Need-add-word Inv-loop μ-loop
+add-word c = omega arith
+
+word-requires : tie.Need-word-requires Inv-loop μ-loop
+word-requires c κs = search needs
+
+kind-of-requires : tie.Need-kind-of-requires Inv-loop μ-loop
+kind-of-requires c κs = search needs
+
 put-start-requires : tie.Need-put-start-requires Inv-loop μ-loop
 put-start-requires c κs = search needs
 
@@ -46,8 +60,8 @@ same-length-2 c = search needs
 returns-2 : tie.Need-returns-2 Inv-loop μ-loop
 returns-2 c = search needs
 
-enumerators-at-requires : tie.Need-enumerators-at-requires Inv-loop μ-loop
-enumerators-at-requires c κs = search needs
+enumerators-of-requires : tie.Need-enumerators-of-requires Inv-loop μ-loop
+enumerators-of-requires c κs = search needs
 
 plus-requires : tie.Need-plus-requires Inv-loop μ-loop
 plus-requires c κs = search needs
@@ -77,12 +91,16 @@ scan-area-spec =
     unsound-requires
     same-length
     returns
+    cast-word
+    add-word
+    word-requires
+    kind-of-requires
     put-start-requires
     next-record-requires
     unsound-requires-2
     same-length-2
     returns-2
-    enumerators-at-requires
+    enumerators-of-requires
     plus-requires
     add-x
     loop-less

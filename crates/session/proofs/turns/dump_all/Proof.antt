@@ -7,7 +7,7 @@ use Rattle.session.proofs.turns.dump_all.Statement.{statement}
 use Rattle.session.proofs.turns.dump_all.Tie as tie
 use Rattle.session.proofs.turns.dump_all.Reads as reads
 use Rattle.session.proofs.turns.dump_all.Lts as lts
-use Rattle.session.proofs.turns.dump_one.Reads as dump-one-reads
+use Rattle.session.proofs.turns.dump_next.Reads as dump-next-reads
 
 abbrev Inv-loop : tie.InvT-loop
 Inv-loop b section work₀ text₀ len n r₀ id₀ work text r id = (id ≤ n + 1) × (n < 4294967296) × (length work ≡ length work₀) × (length text ≡ length text₀)
@@ -18,8 +18,8 @@ abbrev μ-loop : tie.MeasureT-loop
 loop-holds : tie.Need-loop-holds Inv-loop μ-loop
 loop-holds c = search needs
 
-dump-one-requires : tie.Need-dump-one-requires Inv-loop μ-loop
-dump-one-requires c κs = search needs
+dump-next-requires : tie.Need-dump-next-requires Inv-loop μ-loop
+dump-next-requires c κs = search needs
 
 same-length : tie.Need-same-length Inv-loop μ-loop
 same-length c = search needs
@@ -55,7 +55,7 @@ dump-all-spec =
     Inv-loop
     μ-loop
     loop-holds
-    dump-one-requires
+    dump-next-requires
     same-length
     same-length-2
     returns

@@ -7,58 +7,70 @@ use borrow.Fn.Kinds.{In}
 use borrow.Fn.PlainCycle.{Measures, is, falls, and}
 use Rattle.decl.proofs.emit_array.Reads as emit-array
 use Rattle.decl.proofs.emit_array.Kinds as emit-array-kinds
-use Rattle.decl.proofs.+emit_array+emit_base+emit_composite_def+emit_composite_word+emit_entry+emit_member+emit_members+emit_param+emit_params+emit_proto+emit_type_chain+emit_type_decl.Lts-emit_array as emit-array-lts
+use Rattle.decl.proofs.+emit_array+emit_base+emit_composite_def+emit_composite_word+emit_entry+emit_function+emit_member+emit_members+emit_param+emit_params+emit_proto+emit_type_chain+emit_type_decl.Lts-emit_array as emit-array-lts
 use Rattle.decl.proofs.emit_base.Reads as emit-base
 use Rattle.decl.proofs.emit_base.Kinds as emit-base-kinds
-use Rattle.decl.proofs.+emit_array+emit_base+emit_composite_def+emit_composite_word+emit_entry+emit_member+emit_members+emit_param+emit_params+emit_proto+emit_type_chain+emit_type_decl.Lts-emit_base as emit-base-lts
+use Rattle.decl.proofs.+emit_array+emit_base+emit_composite_def+emit_composite_word+emit_entry+emit_function+emit_member+emit_members+emit_param+emit_params+emit_proto+emit_type_chain+emit_type_decl.Lts-emit_base as emit-base-lts
 use Rattle.decl.proofs.emit_composite_def.Reads as emit-composite-def
 use Rattle.decl.proofs.emit_composite_def.Kinds as emit-composite-def-kinds
-use Rattle.decl.proofs.+emit_array+emit_base+emit_composite_def+emit_composite_word+emit_entry+emit_member+emit_members+emit_param+emit_params+emit_proto+emit_type_chain+emit_type_decl.Lts-emit_composite_def as emit-composite-def-lts
+use Rattle.decl.proofs.+emit_array+emit_base+emit_composite_def+emit_composite_word+emit_entry+emit_function+emit_member+emit_members+emit_param+emit_params+emit_proto+emit_type_chain+emit_type_decl.Lts-emit_composite_def as emit-composite-def-lts
 use Rattle.decl.proofs.emit_composite_word.Reads as emit-composite-word
 use Rattle.decl.proofs.emit_composite_word.Kinds as emit-composite-word-kinds
-use Rattle.decl.proofs.+emit_array+emit_base+emit_composite_def+emit_composite_word+emit_entry+emit_member+emit_members+emit_param+emit_params+emit_proto+emit_type_chain+emit_type_decl.Lts-emit_composite_word as emit-composite-word-lts
+use Rattle.decl.proofs.+emit_array+emit_base+emit_composite_def+emit_composite_word+emit_entry+emit_function+emit_member+emit_members+emit_param+emit_params+emit_proto+emit_type_chain+emit_type_decl.Lts-emit_composite_word as emit-composite-word-lts
 use Rattle.decl.proofs.emit_entry.Reads as emit-entry
 use Rattle.decl.proofs.emit_entry.Kinds as emit-entry-kinds
-use Rattle.decl.proofs.+emit_array+emit_base+emit_composite_def+emit_composite_word+emit_entry+emit_member+emit_members+emit_param+emit_params+emit_proto+emit_type_chain+emit_type_decl.Lts-emit_entry as emit-entry-lts
+use Rattle.decl.proofs.+emit_array+emit_base+emit_composite_def+emit_composite_word+emit_entry+emit_function+emit_member+emit_members+emit_param+emit_params+emit_proto+emit_type_chain+emit_type_decl.Lts-emit_entry as emit-entry-lts
+use Rattle.decl.proofs.emit_function.Reads as emit-function
+use Rattle.decl.proofs.emit_function.Kinds as emit-function-kinds
+use Rattle.decl.proofs.+emit_array+emit_base+emit_composite_def+emit_composite_word+emit_entry+emit_function+emit_member+emit_members+emit_param+emit_params+emit_proto+emit_type_chain+emit_type_decl.Lts-emit_function as emit-function-lts
 use Rattle.decl.proofs.emit_member.Reads as emit-member
 use Rattle.decl.proofs.emit_member.Kinds as emit-member-kinds
-use Rattle.decl.proofs.+emit_array+emit_base+emit_composite_def+emit_composite_word+emit_entry+emit_member+emit_members+emit_param+emit_params+emit_proto+emit_type_chain+emit_type_decl.Lts-emit_member as emit-member-lts
+use Rattle.decl.proofs.+emit_array+emit_base+emit_composite_def+emit_composite_word+emit_entry+emit_function+emit_member+emit_members+emit_param+emit_params+emit_proto+emit_type_chain+emit_type_decl.Lts-emit_member as emit-member-lts
 use Rattle.decl.proofs.emit_members.Reads as emit-members
 use Rattle.decl.proofs.emit_members.Kinds as emit-members-kinds
-use Rattle.decl.proofs.+emit_array+emit_base+emit_composite_def+emit_composite_word+emit_entry+emit_member+emit_members+emit_param+emit_params+emit_proto+emit_type_chain+emit_type_decl.Lts-emit_members as emit-members-lts
+use Rattle.decl.proofs.+emit_array+emit_base+emit_composite_def+emit_composite_word+emit_entry+emit_function+emit_member+emit_members+emit_param+emit_params+emit_proto+emit_type_chain+emit_type_decl.Lts-emit_members as emit-members-lts
 use Rattle.decl.proofs.emit_param.Reads as emit-param
 use Rattle.decl.proofs.emit_param.Kinds as emit-param-kinds
-use Rattle.decl.proofs.+emit_array+emit_base+emit_composite_def+emit_composite_word+emit_entry+emit_member+emit_members+emit_param+emit_params+emit_proto+emit_type_chain+emit_type_decl.Lts-emit_param as emit-param-lts
+use Rattle.decl.proofs.+emit_array+emit_base+emit_composite_def+emit_composite_word+emit_entry+emit_function+emit_member+emit_members+emit_param+emit_params+emit_proto+emit_type_chain+emit_type_decl.Lts-emit_param as emit-param-lts
 use Rattle.decl.proofs.emit_params.Reads as emit-params
 use Rattle.decl.proofs.emit_params.Kinds as emit-params-kinds
-use Rattle.decl.proofs.+emit_array+emit_base+emit_composite_def+emit_composite_word+emit_entry+emit_member+emit_members+emit_param+emit_params+emit_proto+emit_type_chain+emit_type_decl.Lts-emit_params as emit-params-lts
+use Rattle.decl.proofs.+emit_array+emit_base+emit_composite_def+emit_composite_word+emit_entry+emit_function+emit_member+emit_members+emit_param+emit_params+emit_proto+emit_type_chain+emit_type_decl.Lts-emit_params as emit-params-lts
 use Rattle.decl.proofs.emit_proto.Reads as emit-proto
 use Rattle.decl.proofs.emit_proto.Kinds as emit-proto-kinds
-use Rattle.decl.proofs.+emit_array+emit_base+emit_composite_def+emit_composite_word+emit_entry+emit_member+emit_members+emit_param+emit_params+emit_proto+emit_type_chain+emit_type_decl.Lts-emit_proto as emit-proto-lts
+use Rattle.decl.proofs.+emit_array+emit_base+emit_composite_def+emit_composite_word+emit_entry+emit_function+emit_member+emit_members+emit_param+emit_params+emit_proto+emit_type_chain+emit_type_decl.Lts-emit_proto as emit-proto-lts
 use Rattle.decl.proofs.emit_type_chain.Reads as emit-type-chain
 use Rattle.decl.proofs.emit_type_chain.Kinds as emit-type-chain-kinds
-use Rattle.decl.proofs.+emit_array+emit_base+emit_composite_def+emit_composite_word+emit_entry+emit_member+emit_members+emit_param+emit_params+emit_proto+emit_type_chain+emit_type_decl.Lts-emit_type_chain as emit-type-chain-lts
+use Rattle.decl.proofs.+emit_array+emit_base+emit_composite_def+emit_composite_word+emit_entry+emit_function+emit_member+emit_members+emit_param+emit_params+emit_proto+emit_type_chain+emit_type_decl.Lts-emit_type_chain as emit-type-chain-lts
 use Rattle.decl.proofs.emit_type_decl.Reads as emit-type-decl
 use Rattle.decl.proofs.emit_type_decl.Kinds as emit-type-decl-kinds
-use Rattle.decl.proofs.+emit_array+emit_base+emit_composite_def+emit_composite_word+emit_entry+emit_member+emit_members+emit_param+emit_params+emit_proto+emit_type_chain+emit_type_decl.Lts-emit_type_decl as emit-type-decl-lts
-use Rattle.btf.proofs.get_btf_str.Reads as get-btf-str-reads
+use Rattle.decl.proofs.+emit_array+emit_base+emit_composite_def+emit_composite_word+emit_entry+emit_function+emit_member+emit_members+emit_param+emit_params+emit_proto+emit_type_chain+emit_type_decl.Lts-emit_type_decl as emit-type-decl-lts
 use Rattle.btf.proofs.is_builtin.Reads as is-builtin-reads
 use Rattle.btf.proofs.is_empty.Reads as is-empty-reads
+use Rattle.btf.proofs.put_str.Reads as put-str-reads
+use Rattle.btf.proofs.array_nelems.Reads as array-nelems-reads
+use Rattle.btf.proofs.entries_of.Reads as entries-of-reads
+use Rattle.btf.proofs.is_struct.Reads as is-struct-reads
+use Rattle.btf.proofs.kind_flag_of.Reads as kind-flag-of-reads
+use Rattle.btf.proofs.kind_of.Reads as kind-of-reads
 use Rattle.btf.proofs.load_member.Reads as load-member-reads
 use Rattle.btf.proofs.param_place.Reads as param-place-reads
 use Rattle.btf.proofs.type_by_id.Reads as type-by-id-reads
+use Rattle.btf.proofs.vlen_of.Reads as vlen-of-reads
 use Rattle.btf.proofs.word.Reads as word-reads
 use Rattle.chain.proofs.chain_len.Reads as chain-len-reads
-use Rattle.chain.proofs.entry_at.Reads as entry-at-reads
-use Rattle.chain.proofs.is_array_on_top.Reads as is-array-on-top-reads
+use Rattle.chain.proofs.kind_on_top.Reads as kind-on-top-reads
+use Rattle.chain.proofs.path_at.Reads as path-at-reads
 use Rattle.chain.proofs.put_qualifier.Reads as put-qualifier-reads
 use Rattle.chain.proofs.emit_mods.Reads as emit-mods-reads
 use Rattle.chain.proofs.skip_mods.Reads as skip-mods-reads
 use Rattle.decl.proofs.emit_composite_end.Reads as emit-composite-end-reads
 use Rattle.decl.proofs.emit_composite_head.Reads as emit-composite-head-reads
+use Rattle.decl.proofs.emit_enum64_word.Reads as emit-enum64-word-reads
+use Rattle.decl.proofs.emit_enum_word.Reads as emit-enum-word-reads
 use Rattle.decl.proofs.emit_member_end.Reads as emit-member-end-reads
 use Rattle.decl.proofs.goes_on.Reads as goes-on-reads
 use Rattle.decl.proofs.is_last.Reads as is-last-reads
+use Rattle.decl.proofs.less.Reads as less-reads
 use Rattle.decl.proofs.named.Reads as named-reads
 use Rattle.decl.proofs.put_close.Reads as put-close-reads
 use Rattle.decl.proofs.put_comma.Reads as put-comma-reads
@@ -66,27 +78,25 @@ use Rattle.decl.proofs.put_count.Reads as put-count-reads
 use Rattle.decl.proofs.put_gap.Reads as put-gap-reads
 use Rattle.decl.proofs.put_open.Reads as put-open-reads
 use Rattle.decl.proofs.put_star.Reads as put-star-reads
+use Rattle.decl.proofs.put_type_tag.Reads as put-type-tag-reads
 use Rattle.decl.proofs.put_typedef_name.Reads as put-typedef-name-reads
 use Rattle.decl.proofs.shown_params.Reads as shown-params-reads
 use Rattle.enums.proofs.deeper.Reads as deeper-reads
-use Rattle.enums.proofs.emit_enum64_def.Reads as emit-enum64-def-reads
-use Rattle.enums.proofs.emit_enum_def.Reads as emit-enum-def-reads
-use Rattle.enums.proofs.put_enum_name.Reads as put-enum-name-reads
 use Rattle.layout.proofs.is_struct_packed.Reads as is-struct-packed-reads
+use Rattle.lent.proofs.put_byte.Reads as put-byte-reads
 use Rattle.lent.proofs.put_bytes.Reads as put-bytes-reads
 use Rattle.lent.proofs.put_tabs.Reads as put-tabs-reads
 use Rattle.lent.proofs.stop.Reads as stop-reads
 use Rattle.lent.proofs.stopped.Reads as stopped-reads
-use Rattle.names.proofs.put_attribute.Reads as put-attribute-reads
 use Rattle.names.proofs.emit_composite_fwd.Reads as emit-composite-fwd-reads
 use Rattle.names.proofs.emit_fwd_def.Reads as emit-fwd-def-reads
 use Rattle.names.proofs.bare.Reads as bare-reads
 use Rattle.names.proofs.emit_name.Reads as emit-name-reads
 use Rattle.padding.proofs.emit_bit_padding.Reads as emit-bit-padding-reads
-use Rattle.decl.proofs.+emit_array+emit_base+emit_composite_def+emit_composite_word+emit_entry+emit_member+emit_members+emit_param+emit_params+emit_proto+emit_type_chain+emit_type_decl.{
+use Rattle.decl.proofs.+emit_array+emit_base+emit_composite_def+emit_composite_word+emit_entry+emit_function+emit_member+emit_members+emit_param+emit_params+emit_proto+emit_type_chain+emit_type_decl.{
   statement,
 }
-use Rattle.decl.proofs.+emit_array+emit_base+emit_composite_def+emit_composite_word+emit_entry+emit_member+emit_members+emit_param+emit_params+emit_proto+emit_type_chain+emit_type_decl.Tie.{
+use Rattle.decl.proofs.+emit_array+emit_base+emit_composite_def+emit_composite_word+emit_entry+emit_function+emit_member+emit_members+emit_param+emit_params+emit_proto+emit_type_chain+emit_type_decl.Tie.{
   close,
 }
 
@@ -94,7 +104,7 @@ abbrev μ-emit-array : Measures 3 emit-array-kinds.ps ℕ
 μ-emit-array κs a = 8 * (a .1 .1 .1 .1 .1 .1 .1 .1 .0) + 5
 
 abbrev μ-emit-base : Measures 3 emit-base-kinds.ps ℕ
-μ-emit-base κs a = 8 * (a .1 .1 .1 .1 .1 .1 .1 .0) + 5
+μ-emit-base κs a = 8 * (a .1 .1 .1 .1 .1 .1 .1 .1 .0) + 5
 
 abbrev μ-emit-composite-def : Measures 3 emit-composite-def-kinds.ps ℕ
 μ-emit-composite-def κs a = 8 * (a .1 .1 .1 .1 .1 .1 .1 .1 .0)
@@ -104,6 +114,9 @@ abbrev μ-emit-composite-word : Measures 3 emit-composite-word-kinds.ps ℕ
 
 abbrev μ-emit-entry : Measures 3 emit-entry-kinds.ps ℕ
 μ-emit-entry κs a = 8 * (a .1 .1 .1 .1 .1 .1 .0) + 7
+
+abbrev μ-emit-function : Measures 3 emit-function-kinds.ps ℕ
+μ-emit-function κs a = 8 * (a .1 .1 .1 .1 .1 .1 .1 .0) + 6
 
 abbrev μ-emit-member : Measures 3 emit-member-kinds.ps ℕ
 μ-emit-member κs a = 8 * (a .1 .1 .1 .1 .1 .1 .1 .1 .1 .1 .0) + 4
@@ -180,6 +193,18 @@ emit-entry-at t =
 abbrev emit-entry-below : ℕ → In 3 emit-entry-kinds.ps
 emit-entry-below t =
     and 3 emit-entry-kinds.ps (falls 3 emit-entry-kinds.ps _<_ μ-emit-entry t) emit-entry.Pre
+
+abbrev emit-function-at : ℕ → In 3 emit-function-kinds.ps
+emit-function-at t =
+    and 3 emit-function-kinds.ps (is 3 emit-function-kinds.ps μ-emit-function t) emit-function.Pre
+
+abbrev emit-function-below : ℕ → In 3 emit-function-kinds.ps
+emit-function-below t =
+    and
+    3
+    emit-function-kinds.ps
+    (falls 3 emit-function-kinds.ps _<_ μ-emit-function t)
+    emit-function.Pre
 
 abbrev emit-member-at : ℕ → In 3 emit-member-kinds.ps
 emit-member-at t =
@@ -263,36 +288,34 @@ emit-array-claims t = (
   emit-name-reads.Learnt,
   put-gap-reads.Asked,
   put-gap-reads.Learnt,
-  is-array-on-top-reads.Asked,
-  is-array-on-top-reads.Learnt,
+  kind-on-top-reads.Asked,
+  kind-on-top-reads.Learnt,
   emit-type-chain-below t,
   emit-type-chain.Post,
-  put-bytes-reads.Asked,
-  put-bytes-reads.Learnt,
+  put-byte-reads.Asked,
+  put-byte-reads.Learnt,
 )
 
 abbrev emit-base-claims : ℕ → emit-base-lts.Claims
 emit-base-claims t = (
-  type-by-id-reads.Asked,
-  type-by-id-reads.Learnt,
+  kind-of-reads.Asked,
+  kind-of-reads.Learnt,
   put-bytes-reads.Asked,
   put-bytes-reads.Learnt,
-  get-btf-str-reads.Asked,
-  get-btf-str-reads.Learnt,
-  emit-composite-word-below t,
-  emit-composite-word.Post,
-  is-empty-reads.Asked,
-  is-empty-reads.Learnt,
-  emit-enum-def-reads.Asked,
-  emit-enum-def-reads.Learnt,
-  put-enum-name-reads.Asked,
-  put-enum-name-reads.Learnt,
+  put-str-reads.Asked,
+  put-str-reads.Learnt,
+  emit-enum-word-reads.Asked,
+  emit-enum-word-reads.Learnt,
+  kind-flag-of-reads.Asked,
+  kind-flag-of-reads.Learnt,
   emit-fwd-def-reads.Asked,
   emit-fwd-def-reads.Learnt,
   put-typedef-name-reads.Asked,
   put-typedef-name-reads.Learnt,
-  emit-enum64-def-reads.Asked,
-  emit-enum64-def-reads.Learnt,
+  emit-enum64-word-reads.Asked,
+  emit-enum64-word-reads.Learnt,
+  emit-composite-word-below t,
+  emit-composite-word.Post,
 )
 
 abbrev emit-composite-def-claims : ℕ → emit-composite-def-lts.Claims
@@ -321,40 +344,62 @@ emit-composite-word-claims t = (
   is-empty-reads.Learnt,
   emit-composite-def-below t,
   emit-composite-def.Post,
+  is-struct-reads.Asked,
+  is-struct-reads.Learnt,
   emit-composite-fwd-reads.Asked,
   emit-composite-fwd-reads.Learnt,
 )
 
 abbrev emit-entry-claims : ℕ → emit-entry-lts.Claims
 emit-entry-claims t = (
-  skip-mods-reads.Asked,
-  skip-mods-reads.Learnt,
-  entry-at-reads.Asked,
-  entry-at-reads.Learnt,
-  emit-mods-reads.Asked,
-  emit-mods-reads.Learnt,
-  emit-base-below t,
-  emit-base.Post,
-  goes-on-reads.Asked,
-  goes-on-reads.Learnt,
+  path-at-reads.Asked,
+  path-at-reads.Learnt,
+  type-by-id-reads.Asked,
+  type-by-id-reads.Learnt,
+  kind-of-reads.Asked,
+  kind-of-reads.Learnt,
   put-star-reads.Asked,
   put-star-reads.Learnt,
-  put-bytes-reads.Asked,
-  put-bytes-reads.Learnt,
-  put-qualifier-reads.Asked,
-  put-qualifier-reads.Learnt,
+  goes-on-reads.Asked,
+  goes-on-reads.Learnt,
+  array-nelems-reads.Asked,
+  array-nelems-reads.Learnt,
+  skip-mods-reads.Asked,
+  skip-mods-reads.Learnt,
   emit-array-below t,
   emit-array.Post,
   put-count-reads.Asked,
   put-count-reads.Learnt,
   named-reads.Asked,
   named-reads.Learnt,
+  emit-function-below t,
+  emit-function.Post,
+  emit-mods-reads.Asked,
+  emit-mods-reads.Learnt,
+  put-type-tag-reads.Asked,
+  put-type-tag-reads.Learnt,
+  put-bytes-reads.Asked,
+  put-bytes-reads.Learnt,
+  put-qualifier-reads.Asked,
+  put-qualifier-reads.Learnt,
+  emit-base-below t,
+  emit-base.Post,
+)
+
+abbrev emit-function-claims : ℕ → emit-function-lts.Claims
+emit-function-claims t = (
+  less-reads.Asked,
+  less-reads.Learnt,
+  skip-mods-reads.Asked,
+  skip-mods-reads.Learnt,
+  emit-mods-reads.Asked,
+  emit-mods-reads.Learnt,
   emit-proto-below t,
   emit-proto.Post,
+  entries-of-reads.Asked,
+  entries-of-reads.Learnt,
   emit-params-below t,
   emit-params.Post,
-  put-attribute-reads.Asked,
-  put-attribute-reads.Learnt,
 )
 
 abbrev emit-member-claims : ℕ → emit-member-lts.Claims
@@ -365,8 +410,8 @@ emit-member-claims t = (
   bare-reads.Learnt,
   emit-bit-padding-reads.Asked,
   emit-bit-padding-reads.Learnt,
-  put-bytes-reads.Asked,
-  put-bytes-reads.Learnt,
+  put-byte-reads.Asked,
+  put-byte-reads.Learnt,
   put-tabs-reads.Asked,
   put-tabs-reads.Learnt,
   emit-type-decl-below t,
@@ -377,6 +422,8 @@ emit-member-claims t = (
 
 abbrev emit-members-claims : ℕ → emit-members-lts.Claims
 emit-members-claims t = (
+  vlen-of-reads.Asked,
+  vlen-of-reads.Learnt,
   stopped-reads.Asked,
   stopped-reads.Learnt,
   emit-member-below t,
@@ -423,6 +470,8 @@ emit-proto-claims t = (
   put-bytes-reads.Learnt,
   emit-type-chain-below t,
   emit-type-chain.Post,
+  put-byte-reads.Asked,
+  put-byte-reads.Learnt,
 )
 
 abbrev emit-type-chain-claims : ℕ → emit-type-chain-lts.Claims
@@ -461,8 +510,8 @@ emit-array-returns t c = search needs
 emit-array-put-gap-requires : (t : ℕ) → emit-array-lts.Need-put-gap-requires (emit-array-claims t) (emit-array-at t) emit-array.Post
 emit-array-put-gap-requires t c κs = search needs
 
-emit-array-is-array-on-top-requires : (t : ℕ) → emit-array-lts.Need-is-array-on-top-requires (emit-array-claims t) (emit-array-at t) emit-array.Post
-emit-array-is-array-on-top-requires t c κs = search needs
+emit-array-kind-on-top-requires : (t : ℕ) → emit-array-lts.Need-kind-on-top-requires (emit-array-claims t) (emit-array-at t) emit-array.Post
+emit-array-kind-on-top-requires t c κs = search needs
 
 emit-array-emit-type-chain-requires : (t : ℕ) → emit-array-lts.Need-emit-type-chain-requires (emit-array-claims t) (emit-array-at t) emit-array.Post
 emit-array-emit-type-chain-requires t c κs = (omega arith, tt)
@@ -476,20 +525,14 @@ emit-array-same-length-3 t c = search needs
 emit-array-returns-2 : (t : ℕ) → emit-array-lts.Need-returns-2 (emit-array-claims t) (emit-array-at t) emit-array.Post
 emit-array-returns-2 t c = search needs
 
-emit-array-slice-aggregate-put-bytes : (t : ℕ) → emit-array-lts.Need-slice-aggregate-put-bytes (emit-array-claims t) (emit-array-at t) emit-array.Post
-emit-array-slice-aggregate-put-bytes t c = search needs
-
-emit-array-put-bytes-requires : (t : ℕ) → emit-array-lts.Need-put-bytes-requires (emit-array-claims t) (emit-array-at t) emit-array.Post
-emit-array-put-bytes-requires t c κs = search needs
+emit-array-put-byte-requires : (t : ℕ) → emit-array-lts.Need-put-byte-requires (emit-array-claims t) (emit-array-at t) emit-array.Post
+emit-array-put-byte-requires t c κs = search needs
 
 emit-array-emit-type-chain-requires-2 : (t : ℕ) → emit-array-lts.Need-emit-type-chain-requires-2 (emit-array-claims t) (emit-array-at t) emit-array.Post
 emit-array-emit-type-chain-requires-2 t c κs = (omega arith, tt)
 
-emit-array-slice-aggregate-put-bytes-2 : (t : ℕ) → emit-array-lts.Need-slice-aggregate-put-bytes-2 (emit-array-claims t) (emit-array-at t) emit-array.Post
-emit-array-slice-aggregate-put-bytes-2 t c = search needs
-
-emit-array-put-bytes-requires-2 : (t : ℕ) → emit-array-lts.Need-put-bytes-requires-2 (emit-array-claims t) (emit-array-at t) emit-array.Post
-emit-array-put-bytes-requires-2 t c κs = search needs
+emit-array-put-byte-requires-2 : (t : ℕ) → emit-array-lts.Need-put-byte-requires-2 (emit-array-claims t) (emit-array-at t) emit-array.Post
+emit-array-put-byte-requires-2 t c κs = search needs
 
 emit-array-same-length-4 : (t : ℕ) → emit-array-lts.Need-same-length-4 (emit-array-claims t) (emit-array-at t) emit-array.Post
 emit-array-same-length-4 t c = search needs
@@ -500,11 +543,8 @@ emit-array-same-length-5 t c = search needs
 emit-array-returns-3 : (t : ℕ) → emit-array-lts.Need-returns-3 (emit-array-claims t) (emit-array-at t) emit-array.Post
 emit-array-returns-3 t c = search needs
 
-emit-base-type-by-id-requires : (t : ℕ) → emit-base-lts.Need-type-by-id-requires (emit-base-claims t) (emit-base-at t) emit-base.Post
-emit-base-type-by-id-requires t c κs = search needs
-
-emit-base-enum-told : (t : ℕ) → emit-base-lts.Need-enum-told (emit-base-claims t) (emit-base-at t) emit-base.Post
-emit-base-enum-told t c = search needs
+emit-base-kind-of-requires : (t : ℕ) → emit-base-lts.Need-kind-of-requires (emit-base-claims t) (emit-base-at t) emit-base.Post
+emit-base-kind-of-requires t c κs = search needs
 
 emit-base-slice-aggregate-put-bytes : (t : ℕ) → emit-base-lts.Need-slice-aggregate-put-bytes (emit-base-claims t) (emit-base-at t) emit-base.Post
 emit-base-slice-aggregate-put-bytes t c = search needs
@@ -512,71 +552,38 @@ emit-base-slice-aggregate-put-bytes t c = search needs
 emit-base-put-bytes-requires : (t : ℕ) → emit-base-lts.Need-put-bytes-requires (emit-base-claims t) (emit-base-at t) emit-base.Post
 emit-base-put-bytes-requires t c κs = search needs
 
-emit-base-enum-known-name-off : (t : ℕ) → emit-base-lts.Need-enum-known-name-off (emit-base-claims t) (emit-base-at t) emit-base.Post
-emit-base-enum-known-name-off t c = search needs
+emit-base-put-str-requires : (t : ℕ) → emit-base-lts.Need-put-str-requires (emit-base-claims t) (emit-base-at t) emit-base.Post
+emit-base-put-str-requires t c κs = search needs
 
-emit-base-get-btf-str-requires : (t : ℕ) → emit-base-lts.Need-get-btf-str-requires (emit-base-claims t) (emit-base-at t) emit-base.Post
-emit-base-get-btf-str-requires t c κs = search needs
+emit-base-emit-enum-word-requires : (t : ℕ) → emit-base-lts.Need-emit-enum-word-requires (emit-base-claims t) (emit-base-at t) emit-base.Post
+emit-base-emit-enum-word-requires t c κs = search needs
 
-emit-base-put-bytes-requires-2 : (t : ℕ) → emit-base-lts.Need-put-bytes-requires-2 (emit-base-claims t) (emit-base-at t) emit-base.Post
-emit-base-put-bytes-requires-2 t c κs = search needs
-
-emit-base-enum-known-t : (t : ℕ) → emit-base-lts.Need-enum-known-t (emit-base-claims t) (emit-base-at t) emit-base.Post
-emit-base-enum-known-t t c = search needs
-
-emit-base-emit-composite-word-requires : (t : ℕ) → emit-base-lts.Need-emit-composite-word-requires (emit-base-claims t) (emit-base-at t) emit-base.Post
-emit-base-emit-composite-word-requires t c κs = (omega arith, tt)
-
-emit-base-enum-known-t-2 : (t : ℕ) → emit-base-lts.Need-enum-known-t-2 (emit-base-claims t) (emit-base-at t) emit-base.Post
-emit-base-enum-known-t-2 t c = search needs
-
-emit-base-is-empty-requires : (t : ℕ) → emit-base-lts.Need-is-empty-requires (emit-base-claims t) (emit-base-at t) emit-base.Post
-emit-base-is-empty-requires t c κs = search needs
-
-emit-base-emit-enum-def-requires : (t : ℕ) → emit-base-lts.Need-emit-enum-def-requires (emit-base-claims t) (emit-base-at t) emit-base.Post
-emit-base-emit-enum-def-requires t c κs = search needs
-
-emit-base-same-length : (t : ℕ) → emit-base-lts.Need-same-length (emit-base-claims t) (emit-base-at t) emit-base.Post
-emit-base-same-length t c = search needs
-
-emit-base-same-length-2 : (t : ℕ) → emit-base-lts.Need-same-length-2 (emit-base-claims t) (emit-base-at t) emit-base.Post
-emit-base-same-length-2 t c = search needs
-
-emit-base-returns : (t : ℕ) → emit-base-lts.Need-returns (emit-base-claims t) (emit-base-at t) emit-base.Post
-emit-base-returns t c = search needs
-
-emit-base-put-enum-name-requires : (t : ℕ) → emit-base-lts.Need-put-enum-name-requires (emit-base-claims t) (emit-base-at t) emit-base.Post
-emit-base-put-enum-name-requires t c κs = search needs
-
-emit-base-enum-known-name-off-2 : (t : ℕ) → emit-base-lts.Need-enum-known-name-off-2 (emit-base-claims t) (emit-base-at t) emit-base.Post
-emit-base-enum-known-name-off-2 t c = search needs
+emit-base-kind-flag-of-requires : (t : ℕ) → emit-base-lts.Need-kind-flag-of-requires (emit-base-claims t) (emit-base-at t) emit-base.Post
+emit-base-kind-flag-of-requires t c κs = search needs
 
 emit-base-emit-fwd-def-requires : (t : ℕ) → emit-base-lts.Need-emit-fwd-def-requires (emit-base-claims t) (emit-base-at t) emit-base.Post
 emit-base-emit-fwd-def-requires t c κs = search needs
 
-emit-base-enum-known-name-off-3 : (t : ℕ) → emit-base-lts.Need-enum-known-name-off-3 (emit-base-claims t) (emit-base-at t) emit-base.Post
-emit-base-enum-known-name-off-3 t c = search needs
-
 emit-base-put-typedef-name-requires : (t : ℕ) → emit-base-lts.Need-put-typedef-name-requires (emit-base-claims t) (emit-base-at t) emit-base.Post
 emit-base-put-typedef-name-requires t c κs = search needs
 
-emit-base-enum-known-name-off-4 : (t : ℕ) → emit-base-lts.Need-enum-known-name-off-4 (emit-base-claims t) (emit-base-at t) emit-base.Post
-emit-base-enum-known-name-off-4 t c = search needs
+emit-base-emit-enum64-word-requires : (t : ℕ) → emit-base-lts.Need-emit-enum64-word-requires (emit-base-claims t) (emit-base-at t) emit-base.Post
+emit-base-emit-enum64-word-requires t c κs = search needs
 
-emit-base-get-btf-str-requires-2 : (t : ℕ) → emit-base-lts.Need-get-btf-str-requires-2 (emit-base-claims t) (emit-base-at t) emit-base.Post
-emit-base-get-btf-str-requires-2 t c κs = search needs
+emit-base-emit-composite-word-requires : (t : ℕ) → emit-base-lts.Need-emit-composite-word-requires (emit-base-claims t) (emit-base-at t) emit-base.Post
+emit-base-emit-composite-word-requires t c κs = (omega arith, tt)
 
-emit-base-put-bytes-requires-3 : (t : ℕ) → emit-base-lts.Need-put-bytes-requires-3 (emit-base-claims t) (emit-base-at t) emit-base.Post
-emit-base-put-bytes-requires-3 t c κs = search needs
+emit-base-same-length : (t : ℕ) → emit-base-lts.Need-same-length (emit-base-claims t) (emit-base-at t) emit-base.Post
+emit-base-same-length t c = search needs
 
-emit-base-enum-known-t-3 : (t : ℕ) → emit-base-lts.Need-enum-known-t-3 (emit-base-claims t) (emit-base-at t) emit-base.Post
-emit-base-enum-known-t-3 t c = search needs
+emit-base-returns : (t : ℕ) → emit-base-lts.Need-returns (emit-base-claims t) (emit-base-at t) emit-base.Post
+emit-base-returns t c = search needs
 
-emit-base-is-empty-requires-2 : (t : ℕ) → emit-base-lts.Need-is-empty-requires-2 (emit-base-claims t) (emit-base-at t) emit-base.Post
-emit-base-is-empty-requires-2 t c κs = search needs
+emit-base-same-length-2 : (t : ℕ) → emit-base-lts.Need-same-length-2 (emit-base-claims t) (emit-base-at t) emit-base.Post
+emit-base-same-length-2 t c = search needs
 
-emit-base-emit-enum64-def-requires : (t : ℕ) → emit-base-lts.Need-emit-enum64-def-requires (emit-base-claims t) (emit-base-at t) emit-base.Post
-emit-base-emit-enum64-def-requires t c κs = search needs
+emit-base-returns-2 : (t : ℕ) → emit-base-lts.Need-returns-2 (emit-base-claims t) (emit-base-at t) emit-base.Post
+emit-base-returns-2 t c = search needs
 
 emit-base-same-length-3 : (t : ℕ) → emit-base-lts.Need-same-length-3 (emit-base-claims t) (emit-base-at t) emit-base.Post
 emit-base-same-length-3 t c = search needs
@@ -584,11 +591,8 @@ emit-base-same-length-3 t c = search needs
 emit-base-same-length-4 : (t : ℕ) → emit-base-lts.Need-same-length-4 (emit-base-claims t) (emit-base-at t) emit-base.Post
 emit-base-same-length-4 t c = search needs
 
-emit-base-returns-2 : (t : ℕ) → emit-base-lts.Need-returns-2 (emit-base-claims t) (emit-base-at t) emit-base.Post
-emit-base-returns-2 t c = search needs
-
-emit-base-put-enum-name-requires-2 : (t : ℕ) → emit-base-lts.Need-put-enum-name-requires-2 (emit-base-claims t) (emit-base-at t) emit-base.Post
-emit-base-put-enum-name-requires-2 t c κs = search needs
+emit-base-returns-3 : (t : ℕ) → emit-base-lts.Need-returns-3 (emit-base-claims t) (emit-base-at t) emit-base.Post
+emit-base-returns-3 t c = search needs
 
 emit-base-same-length-5 : (t : ℕ) → emit-base-lts.Need-same-length-5 (emit-base-claims t) (emit-base-at t) emit-base.Post
 emit-base-same-length-5 t c = search needs
@@ -596,8 +600,8 @@ emit-base-same-length-5 t c = search needs
 emit-base-same-length-6 : (t : ℕ) → emit-base-lts.Need-same-length-6 (emit-base-claims t) (emit-base-at t) emit-base.Post
 emit-base-same-length-6 t c = search needs
 
-emit-base-returns-3 : (t : ℕ) → emit-base-lts.Need-returns-3 (emit-base-claims t) (emit-base-at t) emit-base.Post
-emit-base-returns-3 t c = search needs
+emit-base-returns-4 : (t : ℕ) → emit-base-lts.Need-returns-4 (emit-base-claims t) (emit-base-at t) emit-base.Post
+emit-base-returns-4 t c = search needs
 
 emit-base-same-length-7 : (t : ℕ) → emit-base-lts.Need-same-length-7 (emit-base-claims t) (emit-base-at t) emit-base.Post
 emit-base-same-length-7 t c = search needs
@@ -605,8 +609,8 @@ emit-base-same-length-7 t c = search needs
 emit-base-same-length-8 : (t : ℕ) → emit-base-lts.Need-same-length-8 (emit-base-claims t) (emit-base-at t) emit-base.Post
 emit-base-same-length-8 t c = search needs
 
-emit-base-returns-4 : (t : ℕ) → emit-base-lts.Need-returns-4 (emit-base-claims t) (emit-base-at t) emit-base.Post
-emit-base-returns-4 t c = search needs
+emit-base-returns-5 : (t : ℕ) → emit-base-lts.Need-returns-5 (emit-base-claims t) (emit-base-at t) emit-base.Post
+emit-base-returns-5 t c = search needs
 
 emit-base-same-length-9 : (t : ℕ) → emit-base-lts.Need-same-length-9 (emit-base-claims t) (emit-base-at t) emit-base.Post
 emit-base-same-length-9 t c = search needs
@@ -614,8 +618,8 @@ emit-base-same-length-9 t c = search needs
 emit-base-same-length-10 : (t : ℕ) → emit-base-lts.Need-same-length-10 (emit-base-claims t) (emit-base-at t) emit-base.Post
 emit-base-same-length-10 t c = search needs
 
-emit-base-returns-5 : (t : ℕ) → emit-base-lts.Need-returns-5 (emit-base-claims t) (emit-base-at t) emit-base.Post
-emit-base-returns-5 t c = search needs
+emit-base-returns-6 : (t : ℕ) → emit-base-lts.Need-returns-6 (emit-base-claims t) (emit-base-at t) emit-base.Post
+emit-base-returns-6 t c = search needs
 
 emit-base-same-length-11 : (t : ℕ) → emit-base-lts.Need-same-length-11 (emit-base-claims t) (emit-base-at t) emit-base.Post
 emit-base-same-length-11 t c = search needs
@@ -623,50 +627,14 @@ emit-base-same-length-11 t c = search needs
 emit-base-same-length-12 : (t : ℕ) → emit-base-lts.Need-same-length-12 (emit-base-claims t) (emit-base-at t) emit-base.Post
 emit-base-same-length-12 t c = search needs
 
-emit-base-returns-6 : (t : ℕ) → emit-base-lts.Need-returns-6 (emit-base-claims t) (emit-base-at t) emit-base.Post
-emit-base-returns-6 t c = search needs
-
-emit-base-same-length-13 : (t : ℕ) → emit-base-lts.Need-same-length-13 (emit-base-claims t) (emit-base-at t) emit-base.Post
-emit-base-same-length-13 t c = search needs
-
-emit-base-same-length-14 : (t : ℕ) → emit-base-lts.Need-same-length-14 (emit-base-claims t) (emit-base-at t) emit-base.Post
-emit-base-same-length-14 t c = search needs
-
 emit-base-returns-7 : (t : ℕ) → emit-base-lts.Need-returns-7 (emit-base-claims t) (emit-base-at t) emit-base.Post
 emit-base-returns-7 t c = search needs
-
-emit-base-same-length-15 : (t : ℕ) → emit-base-lts.Need-same-length-15 (emit-base-claims t) (emit-base-at t) emit-base.Post
-emit-base-same-length-15 t c = search needs
-
-emit-base-same-length-16 : (t : ℕ) → emit-base-lts.Need-same-length-16 (emit-base-claims t) (emit-base-at t) emit-base.Post
-emit-base-same-length-16 t c = search needs
 
 emit-base-returns-8 : (t : ℕ) → emit-base-lts.Need-returns-8 (emit-base-claims t) (emit-base-at t) emit-base.Post
 emit-base-returns-8 t c = search needs
 
-emit-base-same-length-17 : (t : ℕ) → emit-base-lts.Need-same-length-17 (emit-base-claims t) (emit-base-at t) emit-base.Post
-emit-base-same-length-17 t c = search needs
-
-emit-base-same-length-18 : (t : ℕ) → emit-base-lts.Need-same-length-18 (emit-base-claims t) (emit-base-at t) emit-base.Post
-emit-base-same-length-18 t c = search needs
-
 emit-base-returns-9 : (t : ℕ) → emit-base-lts.Need-returns-9 (emit-base-claims t) (emit-base-at t) emit-base.Post
 emit-base-returns-9 t c = search needs
-
-emit-base-same-length-19 : (t : ℕ) → emit-base-lts.Need-same-length-19 (emit-base-claims t) (emit-base-at t) emit-base.Post
-emit-base-same-length-19 t c = search needs
-
-emit-base-same-length-20 : (t : ℕ) → emit-base-lts.Need-same-length-20 (emit-base-claims t) (emit-base-at t) emit-base.Post
-emit-base-same-length-20 t c = search needs
-
-emit-base-returns-10 : (t : ℕ) → emit-base-lts.Need-returns-10 (emit-base-claims t) (emit-base-at t) emit-base.Post
-emit-base-returns-10 t c = search needs
-
-emit-base-same-length-21 : (t : ℕ) → emit-base-lts.Need-same-length-21 (emit-base-claims t) (emit-base-at t) emit-base.Post
-emit-base-same-length-21 t c = search needs
-
-emit-base-returns-11 : (t : ℕ) → emit-base-lts.Need-returns-11 (emit-base-claims t) (emit-base-at t) emit-base.Post
-emit-base-returns-11 t c = search needs
 
 emit-composite-def-stop-requires : (t : ℕ) → emit-composite-def-lts.Need-stop-requires (emit-composite-def-claims t) (emit-composite-def-at t) emit-composite-def.Post
 emit-composite-def-stop-requires t c κs = search needs
@@ -821,6 +789,8 @@ emit-composite-word-emit-composite-def-requires :
       is-empty-reads.Learnt,
       emit-composite-def-below t,
       emit-composite-def.Post,
+      is-struct-reads.Asked,
+      is-struct-reads.Learnt,
       emit-composite-fwd-reads.Asked,
       emit-composite-fwd-reads.Learnt,
     ) (emit-composite-word-at t) emit-composite-word.Post
@@ -835,12 +805,17 @@ emit-composite-word-same-length-2 t c = search needs
 emit-composite-word-returns : (t : ℕ) → emit-composite-word-lts.Need-returns (emit-composite-word-claims t) (emit-composite-word-at t) emit-composite-word.Post
 emit-composite-word-returns t c = search needs
 
+emit-composite-word-is-struct-requires : (t : ℕ) → emit-composite-word-lts.Need-is-struct-requires (emit-composite-word-claims t) (emit-composite-word-at t) emit-composite-word.Post
+emit-composite-word-is-struct-requires t c κs = search needs
+
 emit-composite-word-emit-composite-fwd-requires :
     (t : ℕ) → emit-composite-word-lts.Need-emit-composite-fwd-requires (
       is-empty-reads.Asked,
       is-empty-reads.Learnt,
       emit-composite-def-below t,
       emit-composite-def.Post,
+      is-struct-reads.Asked,
+      is-struct-reads.Learnt,
       emit-composite-fwd-reads.Asked,
       emit-composite-fwd-reads.Learnt,
     ) (emit-composite-word-at t) emit-composite-word.Post
@@ -861,50 +836,26 @@ emit-entry-returns t c = search needs
 emit-entry-sub-n : (t : ℕ) → emit-entry-lts.Need-sub-n (emit-entry-claims t) (emit-entry-at t) emit-entry.Post
 emit-entry-sub-n t c = omega arith
 
-emit-entry-skip-mods-requires : (t : ℕ) → emit-entry-lts.Need-skip-mods-requires (emit-entry-claims t) (emit-entry-at t) emit-entry.Post
-emit-entry-skip-mods-requires t c κs = search needs
+emit-entry-path-at-requires : (t : ℕ) → emit-entry-lts.Need-path-at-requires (emit-entry-claims t) (emit-entry-at t) emit-entry.Post
+emit-entry-path-at-requires t c κs = search needs
 
-emit-entry-entry-at-requires : (t : ℕ) → emit-entry-lts.Need-entry-at-requires (emit-entry-claims t) (emit-entry-at t) emit-entry.Post
-emit-entry-entry-at-requires t c κs = search needs
+emit-entry-type-by-id-requires : (t : ℕ) → emit-entry-lts.Need-type-by-id-requires (emit-entry-claims t) (emit-entry-at t) emit-entry.Post
+emit-entry-type-by-id-requires t c κs = search needs
 
-emit-entry-enum-told : (t : ℕ) → emit-entry-lts.Need-enum-told (emit-entry-claims t) (emit-entry-at t) emit-entry.Post
-emit-entry-enum-told t c = search needs
-
-emit-entry-emit-mods-requires : (t : ℕ) → emit-entry-lts.Need-emit-mods-requires (emit-entry-claims t) (emit-entry-at t) emit-entry.Post
-emit-entry-emit-mods-requires t c κs = search needs
-
-emit-entry-emit-base-requires : (t : ℕ) → emit-entry-lts.Need-emit-base-requires (emit-entry-claims t) (emit-entry-at t) emit-entry.Post
-emit-entry-emit-base-requires t c κs = (omega arith, tt)
-
-emit-entry-goes-on-requires : (t : ℕ) → emit-entry-lts.Need-goes-on-requires (emit-entry-claims t) (emit-entry-at t) emit-entry.Post
-emit-entry-goes-on-requires t c κs = search needs
-
-emit-entry-enum-told-2 : (t : ℕ) → emit-entry-lts.Need-enum-told-2 (emit-entry-claims t) (emit-entry-at t) emit-entry.Post
-emit-entry-enum-told-2 t c = search needs
+emit-entry-kind-of-requires : (t : ℕ) → emit-entry-lts.Need-kind-of-requires (emit-entry-claims t) (emit-entry-at t) emit-entry.Post
+emit-entry-kind-of-requires t c κs = search needs
 
 emit-entry-put-star-requires : (t : ℕ) → emit-entry-lts.Need-put-star-requires (emit-entry-claims t) (emit-entry-at t) emit-entry.Post
 emit-entry-put-star-requires t c κs = search needs
 
-emit-entry-goes-on-requires-2 : (t : ℕ) → emit-entry-lts.Need-goes-on-requires-2 (emit-entry-claims t) (emit-entry-at t) emit-entry.Post
-emit-entry-goes-on-requires-2 t c κs = search needs
+emit-entry-goes-on-requires : (t : ℕ) → emit-entry-lts.Need-goes-on-requires (emit-entry-claims t) (emit-entry-at t) emit-entry.Post
+emit-entry-goes-on-requires t c κs = search needs
 
-emit-entry-enum-known-e : (t : ℕ) → emit-entry-lts.Need-enum-known-e (emit-entry-claims t) (emit-entry-at t) emit-entry.Post
-emit-entry-enum-known-e t c = search needs
+emit-entry-array-nelems-requires : (t : ℕ) → emit-entry-lts.Need-array-nelems-requires (emit-entry-claims t) (emit-entry-at t) emit-entry.Post
+emit-entry-array-nelems-requires t c κs = search needs
 
-emit-entry-slice-aggregate-put-bytes : (t : ℕ) → emit-entry-lts.Need-slice-aggregate-put-bytes (emit-entry-claims t) (emit-entry-at t) emit-entry.Post
-emit-entry-slice-aggregate-put-bytes t c = search needs
-
-emit-entry-put-bytes-requires : (t : ℕ) → emit-entry-lts.Need-put-bytes-requires (emit-entry-claims t) (emit-entry-at t) emit-entry.Post
-emit-entry-put-bytes-requires t c κs = search needs
-
-emit-entry-put-qualifier-requires : (t : ℕ) → emit-entry-lts.Need-put-qualifier-requires (emit-entry-claims t) (emit-entry-at t) emit-entry.Post
-emit-entry-put-qualifier-requires t c κs = search needs
-
-emit-entry-goes-on-requires-3 : (t : ℕ) → emit-entry-lts.Need-goes-on-requires-3 (emit-entry-claims t) (emit-entry-at t) emit-entry.Post
-emit-entry-goes-on-requires-3 t c κs = search needs
-
-emit-entry-enum-known-e-2 : (t : ℕ) → emit-entry-lts.Need-enum-known-e-2 (emit-entry-claims t) (emit-entry-at t) emit-entry.Post
-emit-entry-enum-known-e-2 t c = search needs
+emit-entry-skip-mods-requires : (t : ℕ) → emit-entry-lts.Need-skip-mods-requires (emit-entry-claims t) (emit-entry-at t) emit-entry.Post
+emit-entry-skip-mods-requires t c κs = search needs
 
 emit-entry-emit-array-requires : (t : ℕ) → emit-entry-lts.Need-emit-array-requires (emit-entry-claims t) (emit-entry-at t) emit-entry.Post
 emit-entry-emit-array-requires t c κs = (omega arith, tt)
@@ -915,62 +866,47 @@ emit-entry-put-count-requires t c κs = search needs
 emit-entry-named-requires : (t : ℕ) → emit-entry-lts.Need-named-requires (emit-entry-claims t) (emit-entry-at t) emit-entry.Post
 emit-entry-named-requires t c κs = search needs
 
-emit-entry-enum-known-e-3 : (t : ℕ) → emit-entry-lts.Need-enum-known-e-3 (emit-entry-claims t) (emit-entry-at t) emit-entry.Post
-emit-entry-enum-known-e-3 t c = search needs
-
-emit-entry-emit-mods-requires-2 : (t : ℕ) → emit-entry-lts.Need-emit-mods-requires-2 (emit-entry-claims t) (emit-entry-at t) emit-entry.Post
-emit-entry-emit-mods-requires-2 t c κs = search needs
-
-emit-entry-emit-proto-requires : (t : ℕ) → emit-entry-lts.Need-emit-proto-requires (emit-entry-claims t) (emit-entry-at t) emit-entry.Post
-emit-entry-emit-proto-requires t c κs = (omega arith, tt)
-
-emit-entry-emit-params-requires : (t : ℕ) → emit-entry-lts.Need-emit-params-requires (emit-entry-claims t) (emit-entry-at t) emit-entry.Post
-emit-entry-emit-params-requires t c κs = (omega (arith, c .before .before .before .before .before .before .before .before .before .before .before .before .before .before .before .before .before .before .before .before .before .before .before .before .before .before .before .pre .0), tt)
+emit-entry-emit-function-requires : (t : ℕ) → emit-entry-lts.Need-emit-function-requires (emit-entry-claims t) (emit-entry-at t) emit-entry.Post
+emit-entry-emit-function-requires t c κs = (omega arith, tt)
 
 emit-entry-named-requires-2 : (t : ℕ) → emit-entry-lts.Need-named-requires-2 (emit-entry-claims t) (emit-entry-at t) emit-entry.Post
 emit-entry-named-requires-2 t c κs = search needs
 
-emit-entry-enum-known-e-4 : (t : ℕ) → emit-entry-lts.Need-enum-known-e-4 (emit-entry-claims t) (emit-entry-at t) emit-entry.Post
-emit-entry-enum-known-e-4 t c = search needs
+emit-entry-skip-mods-requires-2 : (t : ℕ) → emit-entry-lts.Need-skip-mods-requires-2 (emit-entry-claims t) (emit-entry-at t) emit-entry.Post
+emit-entry-skip-mods-requires-2 t c κs = search needs
 
-emit-entry-emit-mods-requires-3 : (t : ℕ) → emit-entry-lts.Need-emit-mods-requires-3 (emit-entry-claims t) (emit-entry-at t) emit-entry.Post
-emit-entry-emit-mods-requires-3 t c κs = search needs
+emit-entry-emit-mods-requires : (t : ℕ) → emit-entry-lts.Need-emit-mods-requires (emit-entry-claims t) (emit-entry-at t) emit-entry.Post
+emit-entry-emit-mods-requires t c κs = search needs
 
-emit-entry-slice-aggregate-put-attribute :
-    (t : ℕ) → emit-entry-lts.Need-slice-aggregate-put-attribute (
-      skip-mods-reads.Asked,
-      skip-mods-reads.Learnt,
-      entry-at-reads.Asked,
-      entry-at-reads.Learnt,
-      emit-mods-reads.Asked,
-      emit-mods-reads.Learnt,
-      emit-base-below t,
-      emit-base.Post,
-      goes-on-reads.Asked,
-      goes-on-reads.Learnt,
-      put-star-reads.Asked,
-      put-star-reads.Learnt,
-      put-bytes-reads.Asked,
-      put-bytes-reads.Learnt,
-      put-qualifier-reads.Asked,
-      put-qualifier-reads.Learnt,
-      emit-array-below t,
-      emit-array.Post,
-      put-count-reads.Asked,
-      put-count-reads.Learnt,
-      named-reads.Asked,
-      named-reads.Learnt,
-      emit-proto-below t,
-      emit-proto.Post,
-      emit-params-below t,
-      emit-params.Post,
-      put-attribute-reads.Asked,
-      put-attribute-reads.Learnt,
-    ) (emit-entry-at t) emit-entry.Post
-emit-entry-slice-aggregate-put-attribute t c = search needs
+emit-entry-put-type-tag-requires : (t : ℕ) → emit-entry-lts.Need-put-type-tag-requires (emit-entry-claims t) (emit-entry-at t) emit-entry.Post
+emit-entry-put-type-tag-requires t c κs = search needs
 
-emit-entry-put-attribute-requires : (t : ℕ) → emit-entry-lts.Need-put-attribute-requires (emit-entry-claims t) (emit-entry-at t) emit-entry.Post
-emit-entry-put-attribute-requires t c κs = search needs
+emit-entry-goes-on-requires-2 : (t : ℕ) → emit-entry-lts.Need-goes-on-requires-2 (emit-entry-claims t) (emit-entry-at t) emit-entry.Post
+emit-entry-goes-on-requires-2 t c κs = search needs
+
+emit-entry-slice-aggregate-put-bytes : (t : ℕ) → emit-entry-lts.Need-slice-aggregate-put-bytes (emit-entry-claims t) (emit-entry-at t) emit-entry.Post
+emit-entry-slice-aggregate-put-bytes t c = search needs
+
+emit-entry-put-bytes-requires : (t : ℕ) → emit-entry-lts.Need-put-bytes-requires (emit-entry-claims t) (emit-entry-at t) emit-entry.Post
+emit-entry-put-bytes-requires t c κs = search needs
+
+emit-entry-kind-of-requires-2 : (t : ℕ) → emit-entry-lts.Need-kind-of-requires-2 (emit-entry-claims t) (emit-entry-at t) emit-entry.Post
+emit-entry-kind-of-requires-2 t c κs = search needs
+
+emit-entry-put-qualifier-requires : (t : ℕ) → emit-entry-lts.Need-put-qualifier-requires (emit-entry-claims t) (emit-entry-at t) emit-entry.Post
+emit-entry-put-qualifier-requires t c κs = search needs
+
+emit-entry-goes-on-requires-3 : (t : ℕ) → emit-entry-lts.Need-goes-on-requires-3 (emit-entry-claims t) (emit-entry-at t) emit-entry.Post
+emit-entry-goes-on-requires-3 t c κs = search needs
+
+emit-entry-skip-mods-requires-3 : (t : ℕ) → emit-entry-lts.Need-skip-mods-requires-3 (emit-entry-claims t) (emit-entry-at t) emit-entry.Post
+emit-entry-skip-mods-requires-3 t c κs = search needs
+
+emit-entry-emit-mods-requires-2 : (t : ℕ) → emit-entry-lts.Need-emit-mods-requires-2 (emit-entry-claims t) (emit-entry-at t) emit-entry.Post
+emit-entry-emit-mods-requires-2 t c κs = search needs
+
+emit-entry-emit-base-requires : (t : ℕ) → emit-entry-lts.Need-emit-base-requires (emit-entry-claims t) (emit-entry-at t) emit-entry.Post
+emit-entry-emit-base-requires t c κs = (omega (arith, c .before .before .before .before .before .before .before .before .before .before .before .before .before .before .before .before .before .before .before .before .before .before .pre .0), tt)
 
 emit-entry-goes-on-requires-4 : (t : ℕ) → emit-entry-lts.Need-goes-on-requires-4 (emit-entry-claims t) (emit-entry-at t) emit-entry.Post
 emit-entry-goes-on-requires-4 t c κs = search needs
@@ -1029,6 +965,33 @@ emit-entry-same-length-12 t c = search needs
 emit-entry-returns-7 : (t : ℕ) → emit-entry-lts.Need-returns-7 (emit-entry-claims t) (emit-entry-at t) emit-entry.Post
 emit-entry-returns-7 t c = search needs
 
+emit-function-less-requires : (t : ℕ) → emit-function-lts.Need-less-requires (emit-function-claims t) (emit-function-at t) emit-function.Post
+emit-function-less-requires t c κs = search needs
+
+emit-function-skip-mods-requires : (t : ℕ) → emit-function-lts.Need-skip-mods-requires (emit-function-claims t) (emit-function-at t) emit-function.Post
+emit-function-skip-mods-requires t c κs = search needs
+
+emit-function-emit-mods-requires : (t : ℕ) → emit-function-lts.Need-emit-mods-requires (emit-function-claims t) (emit-function-at t) emit-function.Post
+emit-function-emit-mods-requires t c κs = search needs
+
+emit-function-emit-proto-requires : (t : ℕ) → emit-function-lts.Need-emit-proto-requires (emit-function-claims t) (emit-function-at t) emit-function.Post
+emit-function-emit-proto-requires t c κs = (omega arith, tt)
+
+emit-function-entries-of-requires : (t : ℕ) → emit-function-lts.Need-entries-of-requires (emit-function-claims t) (emit-function-at t) emit-function.Post
+emit-function-entries-of-requires t c κs = search needs
+
+emit-function-emit-params-requires : (t : ℕ) → emit-function-lts.Need-emit-params-requires (emit-function-claims t) (emit-function-at t) emit-function.Post
+emit-function-emit-params-requires t c κs = (omega arith, tt)
+
+emit-function-same-length : (t : ℕ) → emit-function-lts.Need-same-length (emit-function-claims t) (emit-function-at t) emit-function.Post
+emit-function-same-length t c = search needs
+
+emit-function-same-length-2 : (t : ℕ) → emit-function-lts.Need-same-length-2 (emit-function-claims t) (emit-function-at t) emit-function.Post
+emit-function-same-length-2 t c = search needs
+
+emit-function-returns : (t : ℕ) → emit-function-lts.Need-returns (emit-function-claims t) (emit-function-at t) emit-function.Post
+emit-function-returns t c = search needs
+
 emit-member-load-member-requires : (t : ℕ) → emit-member-lts.Need-load-member-requires (emit-member-claims t) (emit-member-at t) emit-member.Post
 emit-member-load-member-requires t c κs = search needs
 
@@ -1038,11 +1001,8 @@ emit-member-bare-requires t c κs = search needs
 emit-member-emit-bit-padding-requires : (t : ℕ) → emit-member-lts.Need-emit-bit-padding-requires (emit-member-claims t) (emit-member-at t) emit-member.Post
 emit-member-emit-bit-padding-requires t c κs = search needs
 
-emit-member-slice-aggregate-put-bytes : (t : ℕ) → emit-member-lts.Need-slice-aggregate-put-bytes (emit-member-claims t) (emit-member-at t) emit-member.Post
-emit-member-slice-aggregate-put-bytes t c = search needs
-
-emit-member-put-bytes-requires : (t : ℕ) → emit-member-lts.Need-put-bytes-requires (emit-member-claims t) (emit-member-at t) emit-member.Post
-emit-member-put-bytes-requires t c κs = search needs
+emit-member-put-byte-requires : (t : ℕ) → emit-member-lts.Need-put-byte-requires (emit-member-claims t) (emit-member-at t) emit-member.Post
+emit-member-put-byte-requires t c κs = search needs
 
 emit-member-put-tabs-requires : (t : ℕ) → emit-member-lts.Need-put-tabs-requires (emit-member-claims t) (emit-member-at t) emit-member.Post
 emit-member-put-tabs-requires t c κs = search needs
@@ -1067,6 +1027,9 @@ emit-members-Inv-loop b section work₀ text₀ at id t packed lvl below vlen s�
 
 abbrev emit-members-μ-loop : emit-members-lts.MeasureT-loop
 emit-members-μ-loop b section work₀ text₀ at id t packed lvl below vlen s₀ k₀ work text s k = vlen - k
+
+emit-members-vlen-of-requires : (t : ℕ) → emit-members-lts.Need-vlen-of-requires (emit-members-claims t) (emit-members-at t) emit-members.Post emit-members-Inv-loop emit-members-μ-loop
+emit-members-vlen-of-requires t c κs = search needs
 
 emit-members-loop-holds : (t : ℕ) → emit-members-lts.Need-loop-holds (emit-members-claims t) (emit-members-at t) emit-members.Post emit-members-Inv-loop emit-members-μ-loop
 emit-members-loop-holds t c = search needs
@@ -1218,11 +1181,8 @@ emit-proto-put-bytes-requires t c κs = search needs
 emit-proto-emit-type-chain-requires : (t : ℕ) → emit-proto-lts.Need-emit-type-chain-requires (emit-proto-claims t) (emit-proto-at t) emit-proto.Post
 emit-proto-emit-type-chain-requires t c κs = (omega arith, tt)
 
-emit-proto-slice-aggregate-put-bytes-2 : (t : ℕ) → emit-proto-lts.Need-slice-aggregate-put-bytes-2 (emit-proto-claims t) (emit-proto-at t) emit-proto.Post
-emit-proto-slice-aggregate-put-bytes-2 t c = search needs
-
-emit-proto-put-bytes-requires-2 : (t : ℕ) → emit-proto-lts.Need-put-bytes-requires-2 (emit-proto-claims t) (emit-proto-at t) emit-proto.Post
-emit-proto-put-bytes-requires-2 t c κs = search needs
+emit-proto-put-byte-requires : (t : ℕ) → emit-proto-lts.Need-put-byte-requires (emit-proto-claims t) (emit-proto-at t) emit-proto.Post
+emit-proto-put-byte-requires t c κs = search needs
 
 emit-proto-same-length-2 : (t : ℕ) → emit-proto-lts.Need-same-length-2 (emit-proto-claims t) (emit-proto-at t) emit-proto.Post
 emit-proto-same-length-2 t c = search needs
@@ -1357,15 +1317,16 @@ emit-type-decl-same-length-6 t c = search needs
 emit-type-decl-returns-4 : (t : ℕ) → emit-type-decl-lts.Need-returns-4 (emit-type-decl-claims t) (emit-type-decl-at t) emit-type-decl.Post
 emit-type-decl-returns-4 t c = search needs
 
-pub +emit-array+emit-base+emit-composite-def+emit-composite-word+emit-entry+emit-member+emit-members+emit-param+emit-params+emit-proto+emit-type-chain+emit-type-decl-spec :
+pub +emit-array+emit-base+emit-composite-def+emit-composite-word+emit-entry+emit-function+emit-member+emit-members+emit-param+emit-params+emit-proto+emit-type-chain+emit-type-decl-spec :
     {M : Type 1} → statement M
-+emit-array+emit-base+emit-composite-def+emit-composite-word+emit-entry+emit-member+emit-members+emit-param+emit-params+emit-proto+emit-type-chain+emit-type-decl-spec =
++emit-array+emit-base+emit-composite-def+emit-composite-word+emit-entry+emit-function+emit-member+emit-members+emit-param+emit-params+emit-proto+emit-type-chain+emit-type-decl-spec =
     close
     μ-emit-array
     μ-emit-base
     μ-emit-composite-def
     μ-emit-composite-word
     μ-emit-entry
+    μ-emit-function
     μ-emit-member
     μ-emit-members
     μ-emit-param
@@ -1378,12 +1339,12 @@ pub +emit-array+emit-base+emit-composite-def+emit-composite-word+emit-entry+emit
       emit-name-reads.Learnt,
       put-gap-reads.Asked,
       put-gap-reads.Learnt,
-      is-array-on-top-reads.Asked,
-      is-array-on-top-reads.Learnt,
+      kind-on-top-reads.Asked,
+      kind-on-top-reads.Learnt,
       emit-type-chain-below t,
       emit-type-chain.Post,
-      put-bytes-reads.Asked,
-      put-bytes-reads.Learnt,
+      put-byte-reads.Asked,
+      put-byte-reads.Learnt,
     )
     (emit-array-at t)
     emit-array.Post
@@ -1391,99 +1352,70 @@ pub +emit-array+emit-base+emit-composite-def+emit-composite-word+emit-entry+emit
     (emit-array-same-length t)
     (emit-array-returns t)
     (emit-array-put-gap-requires t)
-    (emit-array-is-array-on-top-requires t)
+    (emit-array-kind-on-top-requires t)
     (emit-array-emit-type-chain-requires t)
     (emit-array-same-length-2 t)
     (emit-array-same-length-3 t)
     (emit-array-returns-2 t)
-    (emit-array-slice-aggregate-put-bytes t)
-    (emit-array-put-bytes-requires t)
+    (emit-array-put-byte-requires t)
     (emit-array-emit-type-chain-requires-2 t)
-    (emit-array-slice-aggregate-put-bytes-2 t)
-    (emit-array-put-bytes-requires-2 t)
+    (emit-array-put-byte-requires-2 t)
     (emit-array-same-length-4 t)
     (emit-array-same-length-5 t)
     (emit-array-returns-3 t))
     (λ t. emit-base-lts.spec (
-      type-by-id-reads.Asked,
-      type-by-id-reads.Learnt,
+      kind-of-reads.Asked,
+      kind-of-reads.Learnt,
       put-bytes-reads.Asked,
       put-bytes-reads.Learnt,
-      get-btf-str-reads.Asked,
-      get-btf-str-reads.Learnt,
-      emit-composite-word-below t,
-      emit-composite-word.Post,
-      is-empty-reads.Asked,
-      is-empty-reads.Learnt,
-      emit-enum-def-reads.Asked,
-      emit-enum-def-reads.Learnt,
-      put-enum-name-reads.Asked,
-      put-enum-name-reads.Learnt,
+      put-str-reads.Asked,
+      put-str-reads.Learnt,
+      emit-enum-word-reads.Asked,
+      emit-enum-word-reads.Learnt,
+      kind-flag-of-reads.Asked,
+      kind-flag-of-reads.Learnt,
       emit-fwd-def-reads.Asked,
       emit-fwd-def-reads.Learnt,
       put-typedef-name-reads.Asked,
       put-typedef-name-reads.Learnt,
-      emit-enum64-def-reads.Asked,
-      emit-enum64-def-reads.Learnt,
+      emit-enum64-word-reads.Asked,
+      emit-enum64-word-reads.Learnt,
+      emit-composite-word-below t,
+      emit-composite-word.Post,
     )
     (emit-base-at t)
     emit-base.Post
-    (emit-base-type-by-id-requires t)
-    (emit-base-enum-told t)
+    (emit-base-kind-of-requires t)
     (emit-base-slice-aggregate-put-bytes t)
     (emit-base-put-bytes-requires t)
-    (emit-base-enum-known-name-off t)
-    (emit-base-get-btf-str-requires t)
-    (emit-base-put-bytes-requires-2 t)
-    (emit-base-enum-known-t t)
-    (emit-base-emit-composite-word-requires t)
-    (emit-base-enum-known-t-2 t)
-    (emit-base-is-empty-requires t)
-    (emit-base-emit-enum-def-requires t)
-    (emit-base-same-length t)
-    (emit-base-same-length-2 t)
-    (emit-base-returns t)
-    (emit-base-put-enum-name-requires t)
-    (emit-base-enum-known-name-off-2 t)
+    (emit-base-put-str-requires t)
+    (emit-base-emit-enum-word-requires t)
+    (emit-base-kind-flag-of-requires t)
     (emit-base-emit-fwd-def-requires t)
-    (emit-base-enum-known-name-off-3 t)
     (emit-base-put-typedef-name-requires t)
-    (emit-base-enum-known-name-off-4 t)
-    (emit-base-get-btf-str-requires-2 t)
-    (emit-base-put-bytes-requires-3 t)
-    (emit-base-enum-known-t-3 t)
-    (emit-base-is-empty-requires-2 t)
-    (emit-base-emit-enum64-def-requires t)
+    (emit-base-emit-enum64-word-requires t)
+    (emit-base-emit-composite-word-requires t)
+    (emit-base-same-length t)
+    (emit-base-returns t)
+    (emit-base-same-length-2 t)
+    (emit-base-returns-2 t)
     (emit-base-same-length-3 t)
     (emit-base-same-length-4 t)
-    (emit-base-returns-2 t)
-    (emit-base-put-enum-name-requires-2 t)
+    (emit-base-returns-3 t)
     (emit-base-same-length-5 t)
     (emit-base-same-length-6 t)
-    (emit-base-returns-3 t)
+    (emit-base-returns-4 t)
     (emit-base-same-length-7 t)
     (emit-base-same-length-8 t)
-    (emit-base-returns-4 t)
+    (emit-base-returns-5 t)
     (emit-base-same-length-9 t)
     (emit-base-same-length-10 t)
-    (emit-base-returns-5 t)
+    (emit-base-returns-6 t)
     (emit-base-same-length-11 t)
     (emit-base-same-length-12 t)
-    (emit-base-returns-6 t)
-    (emit-base-same-length-13 t)
-    (emit-base-same-length-14 t)
     (emit-base-returns-7 t)
-    (emit-base-same-length-15 t)
-    (emit-base-same-length-16 t)
     (emit-base-returns-8 t)
-    (emit-base-same-length-17 t)
-    (emit-base-same-length-18 t)
-    (emit-base-returns-9 t)
-    (emit-base-same-length-19 t)
-    (emit-base-same-length-20 t)
-    (emit-base-returns-10 t)
-    (emit-base-same-length-21 t)
-    (emit-base-returns-11 t))
+    (emit-base-returns-9 t))
     (λ t. emit-composite-def-lts.spec (
       stop-reads.Asked,
       stop-reads.Learnt,
@@ -1533,6 +1465,8 @@ pub +emit-array+emit-base+emit-composite-def+emit-composite-word+emit-entry+emit
       is-empty-reads.Learnt,
       emit-composite-def-below t,
       emit-composite-def.Post,
+      is-struct-reads.Asked,
+      is-struct-reads.Learnt,
       emit-composite-fwd-reads.Asked,
       emit-composite-fwd-reads.Learnt,
     )
@@ -1543,71 +1477,73 @@ pub +emit-array+emit-base+emit-composite-def+emit-composite-word+emit-entry+emit
     (emit-composite-word-same-length t)
     (emit-composite-word-same-length-2 t)
     (emit-composite-word-returns t)
+    (emit-composite-word-is-struct-requires t)
     (emit-composite-word-emit-composite-fwd-requires t)
     (emit-composite-word-same-length-3 t)
     (emit-composite-word-same-length-4 t)
     (emit-composite-word-returns-2 t))
     (λ t. emit-entry-lts.spec (
-      skip-mods-reads.Asked,
-      skip-mods-reads.Learnt,
-      entry-at-reads.Asked,
-      entry-at-reads.Learnt,
-      emit-mods-reads.Asked,
-      emit-mods-reads.Learnt,
-      emit-base-below t,
-      emit-base.Post,
-      goes-on-reads.Asked,
-      goes-on-reads.Learnt,
+      path-at-reads.Asked,
+      path-at-reads.Learnt,
+      type-by-id-reads.Asked,
+      type-by-id-reads.Learnt,
+      kind-of-reads.Asked,
+      kind-of-reads.Learnt,
       put-star-reads.Asked,
       put-star-reads.Learnt,
-      put-bytes-reads.Asked,
-      put-bytes-reads.Learnt,
-      put-qualifier-reads.Asked,
-      put-qualifier-reads.Learnt,
+      goes-on-reads.Asked,
+      goes-on-reads.Learnt,
+      array-nelems-reads.Asked,
+      array-nelems-reads.Learnt,
+      skip-mods-reads.Asked,
+      skip-mods-reads.Learnt,
       emit-array-below t,
       emit-array.Post,
       put-count-reads.Asked,
       put-count-reads.Learnt,
       named-reads.Asked,
       named-reads.Learnt,
-      emit-proto-below t,
-      emit-proto.Post,
-      emit-params-below t,
-      emit-params.Post,
-      put-attribute-reads.Asked,
-      put-attribute-reads.Learnt,
+      emit-function-below t,
+      emit-function.Post,
+      emit-mods-reads.Asked,
+      emit-mods-reads.Learnt,
+      put-type-tag-reads.Asked,
+      put-type-tag-reads.Learnt,
+      put-bytes-reads.Asked,
+      put-bytes-reads.Learnt,
+      put-qualifier-reads.Asked,
+      put-qualifier-reads.Learnt,
+      emit-base-below t,
+      emit-base.Post,
     )
     (emit-entry-at t)
     emit-entry.Post
     (emit-entry-returns t)
     (emit-entry-sub-n t)
-    (emit-entry-skip-mods-requires t)
-    (emit-entry-entry-at-requires t)
-    (emit-entry-enum-told t)
-    (emit-entry-emit-mods-requires t)
-    (emit-entry-emit-base-requires t)
-    (emit-entry-goes-on-requires t)
-    (emit-entry-enum-told-2 t)
+    (emit-entry-path-at-requires t)
+    (emit-entry-type-by-id-requires t)
+    (emit-entry-kind-of-requires t)
     (emit-entry-put-star-requires t)
-    (emit-entry-goes-on-requires-2 t)
-    (emit-entry-enum-known-e t)
-    (emit-entry-slice-aggregate-put-bytes t)
-    (emit-entry-put-bytes-requires t)
-    (emit-entry-put-qualifier-requires t)
-    (emit-entry-goes-on-requires-3 t)
-    (emit-entry-enum-known-e-2 t)
+    (emit-entry-goes-on-requires t)
+    (emit-entry-array-nelems-requires t)
+    (emit-entry-skip-mods-requires t)
     (emit-entry-emit-array-requires t)
     (emit-entry-put-count-requires t)
     (emit-entry-named-requires t)
-    (emit-entry-enum-known-e-3 t)
-    (emit-entry-emit-mods-requires-2 t)
-    (emit-entry-emit-proto-requires t)
-    (emit-entry-emit-params-requires t)
+    (emit-entry-emit-function-requires t)
     (emit-entry-named-requires-2 t)
-    (emit-entry-enum-known-e-4 t)
-    (emit-entry-emit-mods-requires-3 t)
-    (emit-entry-slice-aggregate-put-attribute t)
-    (emit-entry-put-attribute-requires t)
+    (emit-entry-skip-mods-requires-2 t)
+    (emit-entry-emit-mods-requires t)
+    (emit-entry-put-type-tag-requires t)
+    (emit-entry-goes-on-requires-2 t)
+    (emit-entry-slice-aggregate-put-bytes t)
+    (emit-entry-put-bytes-requires t)
+    (emit-entry-kind-of-requires-2 t)
+    (emit-entry-put-qualifier-requires t)
+    (emit-entry-goes-on-requires-3 t)
+    (emit-entry-skip-mods-requires-3 t)
+    (emit-entry-emit-mods-requires-2 t)
+    (emit-entry-emit-base-requires t)
     (emit-entry-goes-on-requires-4 t)
     (emit-entry-same-length t)
     (emit-entry-same-length-2 t)
@@ -1627,6 +1563,31 @@ pub +emit-array+emit-base+emit-composite-def+emit-composite-word+emit-entry+emit
     (emit-entry-same-length-11 t)
     (emit-entry-same-length-12 t)
     (emit-entry-returns-7 t))
+    (λ t. emit-function-lts.spec (
+      less-reads.Asked,
+      less-reads.Learnt,
+      skip-mods-reads.Asked,
+      skip-mods-reads.Learnt,
+      emit-mods-reads.Asked,
+      emit-mods-reads.Learnt,
+      emit-proto-below t,
+      emit-proto.Post,
+      entries-of-reads.Asked,
+      entries-of-reads.Learnt,
+      emit-params-below t,
+      emit-params.Post,
+    )
+    (emit-function-at t)
+    emit-function.Post
+    (emit-function-less-requires t)
+    (emit-function-skip-mods-requires t)
+    (emit-function-emit-mods-requires t)
+    (emit-function-emit-proto-requires t)
+    (emit-function-entries-of-requires t)
+    (emit-function-emit-params-requires t)
+    (emit-function-same-length t)
+    (emit-function-same-length-2 t)
+    (emit-function-returns t))
     (λ t. emit-member-lts.spec (
       load-member-reads.Asked,
       load-member-reads.Learnt,
@@ -1634,8 +1595,8 @@ pub +emit-array+emit-base+emit-composite-def+emit-composite-word+emit-entry+emit
       bare-reads.Learnt,
       emit-bit-padding-reads.Asked,
       emit-bit-padding-reads.Learnt,
-      put-bytes-reads.Asked,
-      put-bytes-reads.Learnt,
+      put-byte-reads.Asked,
+      put-byte-reads.Learnt,
       put-tabs-reads.Asked,
       put-tabs-reads.Learnt,
       emit-type-decl-below t,
@@ -1648,8 +1609,7 @@ pub +emit-array+emit-base+emit-composite-def+emit-composite-word+emit-entry+emit
     (emit-member-load-member-requires t)
     (emit-member-bare-requires t)
     (emit-member-emit-bit-padding-requires t)
-    (emit-member-slice-aggregate-put-bytes t)
-    (emit-member-put-bytes-requires t)
+    (emit-member-put-byte-requires t)
     (emit-member-put-tabs-requires t)
     (emit-member-emit-type-decl-requires t)
     (emit-member-emit-member-end-requires t)
@@ -1657,6 +1617,8 @@ pub +emit-array+emit-base+emit-composite-def+emit-composite-word+emit-entry+emit
     (emit-member-same-length-2 t)
     (emit-member-returns t))
     (λ t. emit-members-lts.spec (
+      vlen-of-reads.Asked,
+      vlen-of-reads.Learnt,
       stopped-reads.Asked,
       stopped-reads.Learnt,
       emit-member-below t,
@@ -1666,6 +1628,7 @@ pub +emit-array+emit-base+emit-composite-def+emit-composite-word+emit-entry+emit
     emit-members.Post
     emit-members-Inv-loop
     emit-members-μ-loop
+    (emit-members-vlen-of-requires t)
     (emit-members-loop-holds t)
     (emit-members-stopped-requires t)
     (emit-members-same-length t)
@@ -1749,6 +1712,8 @@ pub +emit-array+emit-base+emit-composite-def+emit-composite-word+emit-entry+emit
       put-bytes-reads.Learnt,
       emit-type-chain-below t,
       emit-type-chain.Post,
+      put-byte-reads.Asked,
+      put-byte-reads.Learnt,
     )
     (emit-proto-at t)
     emit-proto.Post
@@ -1758,8 +1723,7 @@ pub +emit-array+emit-base+emit-composite-def+emit-composite-word+emit-entry+emit
     (emit-proto-slice-aggregate-put-bytes t)
     (emit-proto-put-bytes-requires t)
     (emit-proto-emit-type-chain-requires t)
-    (emit-proto-slice-aggregate-put-bytes-2 t)
-    (emit-proto-put-bytes-requires-2 t)
+    (emit-proto-put-byte-requires t)
     (emit-proto-same-length-2 t)
     (emit-proto-same-length-3 t)
     (emit-proto-returns-2 t))
