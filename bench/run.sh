@@ -20,7 +20,9 @@ test -r "$kernel" || kernel="$tables/generated-8.btf"
 # bytes of text that all ids of a section take
 text() { TEXT=134217728 "$bench" memory ours "$1" | sed 's/.*text \([0-9]*\) bytes.*/\1/'; }
 
-# instructions of one of the four, counted inside the measured functions alone
+# instructions of one of the four, counted inside the measured functions alone. (valgrind counts a `rep stosb` once for
+# each byte; with these thresholds the C library clears and copies by vector stores, for both sides.)
+plain=glibc.cpu.x86_rep_stosb_threshold=1000000000:glibc.cpu.x86_rep_movsb_threshold=1000000000
 instructions() {
 	case $1 in
 	ours-open) in=measured_ours_open ;;
@@ -29,7 +31,7 @@ instructions() {
 	rust-all) in=measured_rust_all ;;
 	esac
 	# shellcheck disable=SC2086
-	TEXT=$3 valgrind --tool=callgrind --callgrind-out-file="$tables/callgrind.$1" --main-stacksize=8388608 \
+	GLIBC_TUNABLES=$plain TEXT=$3 valgrind --tool=callgrind --callgrind-out-file="$tables/callgrind.$1" --main-stacksize=8388608 \
 		--toggle-collect=$in "$bench" count "$1" "$2" 2>&1 | sed -n 's/.*Collected : //p'
 }
 

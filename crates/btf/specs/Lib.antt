@@ -1,2 +1,6 @@
 pub mod Cells
+pub mod Names
 pub mod Records
+pub mod Table
+pub mod Nodes
+pub mod Documented

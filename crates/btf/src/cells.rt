@@ -3,7 +3,6 @@
 // word of a type                              word of an enumerator
 //  0 place of its record                      0 place of its entry
 //  1 order state: 0, 1 in progress, 2 ordered
-//  2 emit state: 0, 1 in progress, 2 emitted
 //  3 forward emitted
 //  4 version of its name, 0 while it has none
 //  5 name class: the first holder of its name  1
@@ -13,10 +12,11 @@
 // 10 next tag on the same type, of a tag
 // 11 slot of the order list
 // 12 its first enumerator
+// 13 emit state: 0, 1 in progress, 2 emitted
 use lent::get_word;
 use lent::put_word;
 ghost use mathlib.Core.Path.{_≡_};
-ghost use Rattle.btf.specs.Cells.{getField, putField, placeOf};
+ghost use Rattle.btf.specs.Cells.{getField, putField, placeOf, classP, countP, countOf, counted};
 
 // Word f of type id.
 pub fn get_field(work: &[u8], id: u32, f: u32) -> u32
@@ -43,7 +43,9 @@ pub fn holder_word(types: u32, f: u32, g: u32, h: u32) -> usize
 }
 
 // One more holder of h's name: how many there are now. (It saturates, so that altered work cannot make it wrap.)
-pub fn get_count(work: &mut [u8], types: u32, h: u32) -> u32 {
+pub fn get_count(work: &mut [u8], types: u32, h: u32) -> u32
+    ensures { λ r. ⌜ (r ≡ countOf (classP types) (countP types) (now (work .entry)) h) × (now (work .exit) ≡ counted (classP types) (countP types) (now (work .entry)) h) ⌝ }
+{
     let class = get_word(work, holder_word(types, 5, 1, h));
     let at = holder_word(types, 6, 2, class);
     let n = get_word(work, at);

@@ -5,6 +5,10 @@ use crate::types::Entries;
 use crate::types::array_type;
 use crate::types::entries_of;
 use crate::types::kind_of;
+ghost use mathlib.Core.Path.{_≡_};
+ghost use Rattle.rules.specs.Types.{nodeOf};
+ghost use Rattle.btf.specs.Table.{typeOf};
+ghost use Rattle.btf.specs.Nodes.{nodeIs};
 
 // Listed: an enum, or, with true, a forward. Through: an array, a qualifier, a type tag.
 pub enum Node {
@@ -18,7 +22,9 @@ pub enum Node {
     Composite(Entries),
 }
 
-pub fn node_of(b: Btf, section: &[u8], t: BtfType) -> Node {
+pub fn node_of(b: Btf, section: &[u8], t: BtfType) -> Node
+    ensures { λ r. ⌜ nodeIs b (now (section .entry)) r ≡ nodeOf (typeOf b (now (section .entry)) t) ⌝ }
+{
     match kind_of(t.info) {
         2 => Node::Ptr(t.type_id),
         3 => Node::Through(array_type(b, section, t)),
@@ -26,7 +32,7 @@ pub fn node_of(b: Btf, section: &[u8], t: BtfType) -> Node {
         6 | 19 => Node::Listed(false),
         7 => Node::Listed(true),
         8 => Node::Typedef(t.type_id),
-        9..=11 | 18 => Node::Through(t.type_id),
+        9 | 10 | 11 | 18 => Node::Through(t.type_id),
         12 | 14 | 15 | 17 => Node::Ignored,
         13 => Node::Proto(t.type_id, entries_of(t)),
         _ => Node::Plain,

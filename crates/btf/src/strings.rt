@@ -2,18 +2,26 @@
 use crate::types::Btf;
 use lent::put_byte;
 use lent::put_bytes;
-ghost use Prim.Native.Nat.{_≤_};
-ghost use lib.ListN.{length};
+ghost use mathlib.Core.Path.{_≡_};
+ghost use Prim.Native.Nat.{_≤_, _-_};
+ghost use lib.ListN.{length, take, drop};
+ghost use Rattle.lent.specs.Text.{whole, putOut, putText};
+ghost use Rattle.rules.specs.Types.{isEmpty};
+ghost use Rattle.rules.specs.Names as rules;
+ghost use Rattle.rules.specs.Names.{startsWith, builtin, escapedByte, escaped};
+ghost use Rattle.btf.specs.Names.{nameAt, namePlace, strAt};
 
 // The place of the name at an offset of the string area.
-fn name_place(b: Btf, off: u32) -> usize {
-    (b.hdr_len as usize) + (b.str_off as usize) + (off as usize)
+fn name_place(b: Btf, off: u32) -> usize
+    ensures { λ r. ⌜ r ≡ namePlace b off ⌝ }
+{
+    (b.strs as usize) + (off as usize)
 }
 
 // Where the name that starts at a place ends.
 fn name_end(section: &[u8], at: usize) -> usize
     requires { ⌜ at ≤ length (now section) ⌝ }
-    ensures { λ r. ⌜ (at ≤ r) × (r ≤ length (now (section .entry))) ⌝ }
+    ensures { λ r. ⌜ (at ≤ r) × (r ≤ length (now (section .entry))) × (take (r - at) (drop at (now (section .entry))) ≡ nameAt (now (section .entry)) at) ⌝ }
 {
     let mut e = at;
     while e < section.len() {
@@ -26,7 +34,9 @@ fn name_end(section: &[u8], at: usize) -> usize
 }
 
 // The name at an offset.
-pub fn get_btf_str(b: Btf, section: &[u8], off: u32) -> &[u8] {
+pub fn get_btf_str(b: Btf, section: &[u8], off: u32) -> &[u8]
+    ensures { λ r. ⌜ now r ≡ strAt b (now (section .entry)) off ⌝ }
+{
     let at = name_place(b, off);
     if section.len() < at {
         return &section[..0];
@@ -36,7 +46,9 @@ pub fn get_btf_str(b: Btf, section: &[u8], off: u32) -> &[u8] {
 }
 
 // Writes the name at an offset, in one pass.
-pub fn put_str(b: Btf, section: &[u8], text: &mut [u8], at: usize, off: u32) -> usize {
+pub fn put_str(b: Btf, section: &[u8], text: &mut [u8], at: usize, off: u32) -> usize
+    ensures { λ r. ⌜ putOut r (now (text .exit)) ≡ putText (now (text .entry)) at (whole (strAt b (now (section .entry)) off)) ⌝ }
+{
     if text.len() < at {
         return at;
     }
@@ -57,7 +69,9 @@ pub fn put_str(b: Btf, section: &[u8], text: &mut [u8], at: usize, off: u32) -> 
     p
 }
 
-pub fn is_empty(b: Btf, section: &[u8], off: u32) -> bool {
+pub fn is_empty(b: Btf, section: &[u8], off: u32) -> bool
+    ensures { λ r. ⌜ r ≡ isEmpty (strAt b (now (section .entry)) off) ⌝ }
+{
     let at = name_place(b, off);
     if at < section.len() {
         return section[at] == 0;
@@ -66,10 +80,10 @@ pub fn is_empty(b: Btf, section: &[u8], off: u32) -> bool {
 }
 
 // Whether w stands in s at a place.
-fn stands_at(s: &[u8], at: usize, w: &[u8]) -> bool {
-    if s.len() < at {
-        return false;
-    }
+fn stands_at(s: &[u8], at: usize, w: &[u8]) -> bool
+    requires { ⌜ at ≤ length (now s) ⌝ }
+    ensures { λ r. ⌜ r ≡ startsWith (now (w .entry)) (drop at (now (s .entry))) ⌝ }
+{
     if s.len() - at < w.len() {
         return false;
     }
@@ -83,7 +97,9 @@ fn stands_at(s: &[u8], at: usize, w: &[u8]) -> bool {
     true
 }
 
-fn contains(s: &[u8], w: &[u8]) -> bool {
+fn contains(s: &[u8], w: &[u8]) -> bool
+    ensures { λ r. ⌜ r ≡ rules.contains (now (w .entry)) (now (s .entry)) ⌝ }
+{
     if s.len() < w.len() {
         return false;
     }
@@ -99,12 +115,16 @@ fn contains(s: &[u8], w: &[u8]) -> bool {
 }
 
 // NAMES_BLACKLIST: whether the name contains the name of the compiler's own type.
-pub fn is_builtin(b: Btf, section: &[u8], off: u32) -> bool {
+pub fn is_builtin(b: Btf, section: &[u8], off: u32) -> bool
+    ensures { λ r. ⌜ r ≡ builtin (strAt b (now (section .entry)) off) ⌝ }
+{
     contains(get_btf_str(b, section, off), b"__builtin_va_list")
 }
 
 // One byte of c_str_escape.
-fn put_escaped_byte(text: &mut [u8], at: usize, c: u8) -> usize {
+fn put_escaped_byte(text: &mut [u8], at: usize, c: u8) -> usize
+    ensures { λ r. ⌜ putOut r (now (text .exit)) ≡ putText (now (text .entry)) at (whole (escapedByte c)) ⌝ }
+{
     match c {
         92 => put_bytes(text, at, b"\\\\"),
         34 => put_bytes(text, at, b"\\\""),
@@ -116,7 +136,9 @@ fn put_escaped_byte(text: &mut [u8], at: usize, c: u8) -> usize {
 }
 
 // c_str_escape: a name as it stands in a C string literal.
-pub fn put_escaped(text: &mut [u8], at: usize, name: &[u8]) -> usize {
+pub fn put_escaped(text: &mut [u8], at: usize, name: &[u8]) -> usize
+    ensures { λ r. ⌜ putOut r (now (text .exit)) ≡ putText (now (text .entry)) at (whole (escaped (now (name .entry)))) ⌝ }
+{
     let mut p = at;
     let mut i = 0;
     while i < name.len() {

@@ -5,15 +5,19 @@ use lent::Three;
 use lent::three_at;
 use lent::word_at;
 ghost use mathlib.Core.Path.{_≡_};
-ghost use Rattle.btf.specs.Records.{sectionWord, vlenOf, kindOf, flagOf, memberAt, paramAt};
+ghost use Prim.Native.Nat.{_+_, _*_, _%_};
+ghost use lib.Dec.{eqb};
+ghost use Rattle.btf.specs.Records.{sectionWord, sectionThree, vlenOf, kindOf, flagOf, memberAt, paramAt, extraOf, recordAt, voidRecord, recordById, entriesOf, memberOf};
+ghost use Rattle.rules.specs.Types.{isNamed};
+ghost use Rattle.btf.specs.Table.{extraWord, nelemsWord, typeOf};
 
-// A section that was opened: the settings chosen then, the count of types, and what of the header the names need.
+// A section that was opened: the settings chosen then, the count of types, and where its string area starts. (Sixteen bytes,
+// since it is handed on with every call.)
 pub struct Btf {
     pub ptr_sz: u32,
     pub union_as_struct: bool,
     pub types: u32,
-    pub hdr_len: u32,
-    pub str_off: u32,
+    pub strs: u32,
 }
 
 // The entries that follow the record at a place: how many there are.
@@ -51,7 +55,9 @@ pub fn word(b: Btf, section: &[u8], at: usize) -> u32
 }
 
 // Three words of the section from a place on.
-fn three(b: Btf, section: &[u8], at: usize) -> Three {
+fn three(b: Btf, section: &[u8], at: usize) -> Three
+    ensures { λ r. ⌜ r ≡ sectionThree b (now (section .entry)) at ⌝ }
+{
     three_at(section, at)
 }
 
@@ -75,20 +81,24 @@ pub fn kind_flag_of(info: u32) -> bool
 }
 
 // The kind decides how many bytes follow, and which kinds there are.
-pub fn extra_of(kind: u32, vlen: u32) -> Extra {
+pub fn extra_of(kind: u32, vlen: u32) -> Extra
+    ensures { λ r. ⌜ r ≡ extraOf kind vlen ⌝ }
+{
     let n = vlen % 65536;
     match kind {
         1 | 14 | 17 => Extra::Bytes(4),
         3 => Extra::Bytes(12),
         4 | 5 | 15 | 19 => Extra::Bytes(12 * n),
         6 | 13 => Extra::Bytes(8 * n),
-        2 | 7..=12 | 16 | 18 => Extra::Bytes(0),
-        0 | 20..=4294967295 => Extra::Refused,
+        2 | 7 | 8 | 9 | 10 | 11 | 12 | 16 | 18 => Extra::Bytes(0),
+        _ => Extra::Refused,
     }
 }
 
 // The record at a place.
-pub fn load_type(b: Btf, section: &[u8], at: u32) -> BtfType {
+pub fn load_type(b: Btf, section: &[u8], at: u32) -> BtfType
+    ensures { λ r. ⌜ r ≡ recordAt b (now (section .entry)) at ⌝ }
+{
     let w = three(b, section, at as usize);
     BtfType {
         at: at,
@@ -98,7 +108,9 @@ pub fn load_type(b: Btf, section: &[u8], at: u32) -> BtfType {
     }
 }
 
-fn void() -> BtfType {
+fn void() -> BtfType
+    ensures { λ r. ⌜ r ≡ voidRecord ⌝ }
+{
     BtfType {
         at: 0,
         name_off: 0,
@@ -107,12 +119,16 @@ fn void() -> BtfType {
     }
 }
 
-pub fn is_struct(t: BtfType) -> bool {
+pub fn is_struct(t: BtfType) -> bool
+    ensures { λ r. ⌜ r ≡ eqb (kindOf (t .info)) 4 ⌝ }
+{
     kind_of(t.info) == 4
 }
 
 // The entries of a record.
-pub fn entries_of(t: BtfType) -> Entries {
+pub fn entries_of(t: BtfType) -> Entries
+    ensures { λ r. ⌜ r ≡ entriesOf t ⌝ }
+{
     Entries {
         at: t.at,
         vlen: vlen_of(t.info),
@@ -120,7 +136,9 @@ pub fn entries_of(t: BtfType) -> Entries {
 }
 
 // The type of an id: void is 0, and so is what lies past the table.
-pub fn type_by_id(b: Btf, section: &[u8], work: &[u8], id: u32) -> BtfType {
+pub fn type_by_id(b: Btf, section: &[u8], work: &[u8], id: u32) -> BtfType
+    ensures { λ r. ⌜ r ≡ recordById b (now (section .entry)) (now (work .entry)) id ⌝ }
+{
     if id == 0 {
         return void();
     }
@@ -145,7 +163,9 @@ pub fn param_place(e: Entries, k: u32) -> usize
 }
 
 // btf_member: with kind_flag the last word is 24 bits of offset and 8 bits of size.
-pub fn load_member(b: Btf, section: &[u8], t: BtfType, k: u32) -> BtfMember {
+pub fn load_member(b: Btf, section: &[u8], t: BtfType, k: u32) -> BtfMember
+    ensures { λ r. ⌜ r ≡ memberOf b (now (section .entry)) t k ⌝ }
+{
     let w = three(b, section, member_place(entries_of(t), k));
     if kind_flag_of(t.info) {
         return BtfMember {
@@ -164,39 +184,57 @@ pub fn load_member(b: Btf, section: &[u8], t: BtfType, k: u32) -> BtfMember {
 }
 
 // btf_enum.val of value k, its bits.
-pub fn load_enum_value(b: Btf, section: &[u8], e: Entries, k: u32) -> u32 {
+pub fn load_enum_value(b: Btf, section: &[u8], e: Entries, k: u32) -> u32
+    ensures { λ r. ⌜ r ≡ sectionWord b (now (section .entry)) (paramAt (e .at) k + 4) ⌝ }
+{
     word(b, section, param_place(e, k) + 4)
 }
 
 // btf_enum64: the low half, then the high half, of value k.
-pub fn load_enum64_value(b: Btf, section: &[u8], e: Entries, k: u32) -> u64 {
+pub fn load_enum64_value(b: Btf, section: &[u8], e: Entries, k: u32) -> u64
+    ensures { λ r. ⌜ r ≡ sectionWord b (now (section .entry)) (memberAt (e .at) k + 8) * 4294967296 + sectionWord b (now (section .entry)) (memberAt (e .at) k + 4) ⌝ }
+{
     let w = three(b, section, member_place(e, k));
     (w.third as u64) * 4294967296 + (w.second as u64)
 }
 
 // The INT word of a record: its width is in bits 0-7.
-pub fn int_bits(b: Btf, section: &[u8], t: BtfType) -> u32 {
+pub fn int_bits(b: Btf, section: &[u8], t: BtfType) -> u32
+    ensures { λ r. ⌜ r ≡ extraWord b (now (section .entry)) t % 256 ⌝ }
+{
     word(b, section, (t.at as usize) + 12) % 256
 }
 
 // btf_array.type and btf_array.nelems.
-pub fn array_type(b: Btf, section: &[u8], t: BtfType) -> u32 {
+pub fn array_type(b: Btf, section: &[u8], t: BtfType) -> u32
+    ensures { λ r. ⌜ r ≡ extraWord b (now (section .entry)) t ⌝ }
+{
     word(b, section, (t.at as usize) + 12)
 }
 
-pub fn array_nelems(b: Btf, section: &[u8], t: BtfType) -> u32 {
+pub fn array_nelems(b: Btf, section: &[u8], t: BtfType) -> u32
+    ensures { λ r. ⌜ r ≡ nelemsWord b (now (section .entry)) t ⌝ }
+{
     word(b, section, (t.at as usize) + 20)
 }
 
 // btf_decl_tag.component_idx; -1 is 4294967295.
-pub fn comp_idx_of(b: Btf, section: &[u8], t: BtfType) -> u32 {
+pub fn comp_idx_of(b: Btf, section: &[u8], t: BtfType) -> u32
+    ensures { λ r. ⌜ r ≡ extraWord b (now (section .entry)) t ⌝ }
+{
     word(b, section, (t.at as usize) + 12)
 }
 
 // Whether BtfType::name() is not empty: some kinds have none.
-pub fn is_named(b: Btf, section: &[u8], t: BtfType) -> bool {
+pub fn is_named(b: Btf, section: &[u8], t: BtfType) -> bool
+    ensures { λ r. ⌜ r ≡ isNamed (typeOf b (now (section .entry)) t) ⌝ }
+{
     match kind_of(t.info) {
-        0 | 2 | 3 | 9..=11 | 13 | 20..=4294967295 => false,
-        _ => !is_empty(b, section, t.name_off),
+        1 | 4 | 5 | 6 | 7 | 8 | 12 | 14 | 15 | 16 | 17 | 18 | 19 => !is_empty(
+            b,
+            section,
+            t.name_off,
+        ),
+        _ => false,
     }
 }

@@ -9,8 +9,14 @@ use session::Turn;
 use session::dump_type_core;
 use session::dump_types_core;
 use session::open_core;
+ghost use mathlib.Core.Path.{_≡_};
+ghost use Prim.Native.Nat.{_<_};
+ghost use Rattle.btfdump_c.specs.Record.{getLong, putLong, decoded, encodedLast, encoded, unusedZero, recordOpened, recordRefused, recordAfter};
+ghost use Rattle.btfdump_c.specs.Exports.{packed, exportOf, openExport, typeExport, typesExport};
 
-fn number_and_value(a: Answer) -> u64 {
+fn number_and_value(a: Answer) -> u64
+    ensures { λ r. ⌜ r ≡ packed a ⌝ }
+{
     match a {
         Answer::Accepted(value) => value as u64,
         Answer::Refused(number, value) => (number as u64) * 4294967296 + (value as u64),
@@ -18,24 +24,27 @@ fn number_and_value(a: Answer) -> u64 {
 }
 
 // Word i of the record.
-fn get_long(record: &[u8], i: usize) -> u64 {
-    if i < 16 {
-        let low = get_word(record, i * 2);
-        let high = get_word(record, i * 2 + 1);
-        return (high as u64) * 4294967296 + (low as u64);
-    }
-    0
+fn get_long(record: &[u8], i: usize) -> u64
+    requires { ⌜ i < 16 ⌝ }
+    ensures { λ r. ⌜ r ≡ getLong (now («record» .entry)) i ⌝ }
+{
+    let low = get_word(record, i * 2);
+    let high = get_word(record, i * 2 + 1);
+    (high as u64) * 4294967296 + (low as u64)
 }
 
-fn put_long(record: &mut [u8], i: usize, v: u64) {
-    if i < 16 {
-        put_word(record, i * 2, (v % 4294967296) as u32);
-        put_word(record, i * 2 + 1, (v / 4294967296) as u32);
-    }
+fn put_long(record: &mut [u8], i: usize, v: u64)
+    requires { ⌜ i < 16 ⌝ }
+    ensures { λ _. ⌜ now («record» .exit) ≡ putLong (now («record» .entry)) i v ⌝ }
+{
+    put_word(record, i * 2, (v % 4294967296) as u32);
+    put_word(record, i * 2 + 1, (v / 4294967296) as u32);
 }
 
 // The record's value; of a word that holds 32 bits the upper half does not matter.
-fn decode(record: &[u8]) -> Session {
+fn decode(record: &[u8]) -> Session
+    ensures { λ r. ⌜ r ≡ decoded (now («record» .entry)) ⌝ }
+{
     Session {
         open: get_long(record, 0) == 1,
         section_len: get_long(record, 1),
@@ -49,7 +58,9 @@ fn decode(record: &[u8]) -> Session {
 }
 
 // Writes the words that opening decides; the rest of the sixteen is zero.
-fn encode(record: &mut [u8], s: Session) {
+fn encode(record: &mut [u8], s: Session)
+    ensures { λ _. ⌜ now («record» .exit) ≡ encoded s (now («record» .entry)) ⌝ }
+{
     put_long(record, 0, 1);
     put_long(record, 1, s.section_len);
     put_long(record, 2, s.work_len);
@@ -58,14 +69,18 @@ fn encode(record: &mut [u8], s: Session) {
     encode_rest(record, s);
 }
 
-fn encode_rest(record: &mut [u8], s: Session) {
+fn encode_rest(record: &mut [u8], s: Session)
+    ensures { λ _. ⌜ now («record» .exit) ≡ encodedLast s (now («record» .entry)) ⌝ }
+{
     put_long(record, 5, s.text_len as u64);
     put_long(record, 6, s.pointer_size as u64);
     put_long(record, 7, s.modes as u64);
     clear_unused(record);
 }
 
-fn clear_unused(record: &mut [u8]) {
+fn clear_unused(record: &mut [u8])
+    ensures { λ _. ⌜ now («record» .exit) ≡ unusedZero 8 (now («record» .entry)) ⌝ }
+{
     let mut i: usize = 8;
     while i < 16 {
         put_long(record, i, 0);
@@ -74,7 +89,9 @@ fn clear_unused(record: &mut [u8]) {
 }
 
 // Opening writes the record whole, and a refused opening leaves it.
-fn opened(record: &mut [u8], t: Turn) -> u64 {
+fn opened(record: &mut [u8], t: Turn) -> u64
+    ensures { λ r. ⌜ (r ≡ packed (t .answer)) × (now («record» .exit) ≡ recordOpened (t .answer) (t .session) (now («record» .entry))) ⌝ }
+{
     let a = t.answer;
     match a {
         Answer::Accepted(value) => {
@@ -86,7 +103,9 @@ fn opened(record: &mut [u8], t: Turn) -> u64 {
 }
 
 // A request changes the text length, and the open word where it closes the session; 10 and 11 change nothing.
-fn store(record: &mut [u8], t: Turn) {
+fn store(record: &mut [u8], t: Turn)
+    ensures { λ _. ⌜ now («record» .exit) ≡ recordAfter (t .answer) (now («record» .entry)) ⌝ }
+{
     let a = t.answer;
     match a {
         Answer::Accepted(len) => put_long(record, 5, len as u64),
@@ -94,7 +113,9 @@ fn store(record: &mut [u8], t: Turn) {
     }
 }
 
-fn store_refused(record: &mut [u8], number: u32, len: u32) {
+fn store_refused(record: &mut [u8], number: u32, len: u32)
+    ensures { λ _. ⌜ now («record» .exit) ≡ recordRefused number len (now («record» .entry)) ⌝ }
+{
     if number < 12 {
         return;
     }
@@ -102,7 +123,9 @@ fn store_refused(record: &mut [u8], number: u32, len: u32) {
     put_long(record, 5, len as u64)
 }
 
-fn answered(record: &mut [u8], t: Turn) -> u64 {
+fn answered(record: &mut [u8], t: Turn) -> u64
+    ensures { λ r. ⌜ (r ≡ packed (t .answer)) × (now («record» .exit) ≡ recordAfter (t .answer) (now («record» .entry))) ⌝ }
+{
     let a = t.answer;
     store(record, t);
     number_and_value(a)
@@ -116,7 +139,9 @@ pub extern "C" fn btfdump_open(
     modes: u32,
     work: &mut [u8],
     text: &mut [u8],
-) -> u64 {
+) -> u64
+    ensures { λ r. ⌜ exportOf r (now («record» .exit)) (now (work .exit)) (now (text .exit)) ≡ openExport (now («record» .entry)) (now (section .entry)) «pointer_size» modes (now (work .entry)) (now (text .entry)) ⌝ }
+{
     if record.len() < 128 {
         return 1095216660480;
     }
@@ -131,7 +156,9 @@ pub extern "C" fn btfdump_dump_type(
     work: &mut [u8],
     text: &mut [u8],
     id: u32,
-) -> u64 {
+) -> u64
+    ensures { λ r. ⌜ exportOf r (now («record» .exit)) (now (work .exit)) (now (text .exit)) ≡ typeExport (now («record» .entry)) (now (section .entry)) (now (work .entry)) (now (text .entry)) id ⌝ }
+{
     if record.len() < 128 {
         return 47244640256;
     }
@@ -145,7 +172,9 @@ pub extern "C" fn btfdump_dump_types(
     section: &[u8],
     work: &mut [u8],
     text: &mut [u8],
-) -> u64 {
+) -> u64
+    ensures { λ r. ⌜ exportOf r (now («record» .exit)) (now (work .exit)) (now (text .exit)) ≡ typesExport (now («record» .entry)) (now (section .entry)) (now (work .entry)) (now (text .entry)) ⌝ }
+{
     if record.len() < 128 {
         return 47244640256;
     }

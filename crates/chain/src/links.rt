@@ -7,9 +7,18 @@ use btf::kind_of;
 use btf::type_by_id;
 use layout::Ask;
 use lent::put_bytes;
+ghost use mathlib.Core.Path.{_≡_};
+ghost use mathlib.Core.List.{[]};
+ghost use Rattle.lent.specs.Text.{whole, putOut, putText};
+ghost use Rattle.rules.specs.Decl.{qualifier, chainOf};
+ghost use Rattle.btf.specs.Table.{btfOf};
+ghost use Rattle.chain.specs.Chains as chains;
+ghost use Rattle.chain.specs.Chains.{qualifierOf, nextOf, pathAt, chainIs, kindOnTop};
 
 // Whether a kind leads on in a chain; any other is a base.
-fn is_link(kind: u32) -> bool {
+fn is_link(kind: u32) -> bool
+    ensures { λ r. ⌜ r ≡ chains.isLink kind ⌝ }
+{
     match kind {
         2 | 3 | 9..=11 | 13 | 18 => true,
         _ => false,
@@ -17,7 +26,9 @@ fn is_link(kind: u32) -> bool {
 }
 
 // The id that an entry leads to.
-fn next_of(b: Btf, section: &[u8], t: BtfType) -> u32 {
+fn next_of(b: Btf, section: &[u8], t: BtfType) -> u32
+    ensures { λ r. ⌜ r ≡ nextOf b (now (section .entry)) t ⌝ }
+{
     if kind_of(t.info) == 3 {
         return array_type(b, section, t);
     }
@@ -25,7 +36,9 @@ fn next_of(b: Btf, section: &[u8], t: BtfType) -> u32 {
 }
 
 // How many entries the chain from an id has: 512 at most, or 12.
-pub fn chain_len(b: Btf, section: &[u8], work: &[u8], start: u32) -> Ask {
+pub fn chain_len(b: Btf, section: &[u8], work: &[u8], start: u32) -> Ask
+    ensures { λ r. ⌜ chainIs b (now (section .entry)) (now (work .entry)) start r ≡ chainOf 512 (btfOf b (now (section .entry)) (now (work .entry))) start [] ⌝ }
+{
     let mut id = start;
     let mut n: u32 = 1;
     while n < 513 {
@@ -40,7 +53,9 @@ pub fn chain_len(b: Btf, section: &[u8], work: &[u8], start: u32) -> Ask {
 }
 
 // The id of entry k.
-pub fn path_at(b: Btf, section: &[u8], work: &[u8], start: u32, k: u32) -> u32 {
+pub fn path_at(b: Btf, section: &[u8], work: &[u8], start: u32, k: u32) -> u32
+    ensures { λ r. ⌜ r ≡ pathAt b (now (section .entry)) (now (work .entry)) start k ⌝ }
+{
     let mut id = start;
     let mut i: u32 = 0;
     while i < k {
@@ -51,7 +66,9 @@ pub fn path_at(b: Btf, section: &[u8], work: &[u8], start: u32, k: u32) -> u32 {
 }
 
 // The kind of the entry on top of n, or 0 where there is none.
-pub fn kind_on_top(b: Btf, section: &[u8], work: &[u8], start: u32, n: u32) -> u32 {
+pub fn kind_on_top(b: Btf, section: &[u8], work: &[u8], start: u32, n: u32) -> u32
+    ensures { λ r. ⌜ r ≡ kindOnTop b (now (section .entry)) (now (work .entry)) start n ⌝ }
+{
     if n == 0 {
         return 0;
     }
@@ -59,14 +76,18 @@ pub fn kind_on_top(b: Btf, section: &[u8], work: &[u8], start: u32, n: u32) -> u
     kind_of(t.info)
 }
 
-pub fn is_qualifier(kind: u32) -> bool {
+pub fn is_qualifier(kind: u32) -> bool
+    ensures { λ r. ⌜ r ≡ chains.isQualifier kind ⌝ }
+{
     match kind {
         9..=11 => true,
         _ => false,
     }
 }
 
-pub fn put_qualifier(text: &mut [u8], at: usize, kind: u32) -> usize {
+pub fn put_qualifier(text: &mut [u8], at: usize, kind: u32) -> usize
+    ensures { λ r. ⌜ putOut r (now (text .exit)) ≡ putText (now (text .entry)) at (whole (qualifier (qualifierOf kind))) ⌝ }
+{
     match kind {
         9 => put_bytes(text, at, b"volatile"),
         10 => put_bytes(text, at, b"const"),

@@ -4,11 +4,14 @@ use crate::links::kind_on_top;
 use crate::links::put_qualifier;
 use btf::Btf;
 use lent::put_byte;
+ghost use mathlib.Core.Path.{_≡_};
 ghost use Prim.Native.Nat.{_≤_};
+ghost use Rattle.lent.specs.Text.{whole, putOut, putText};
+ghost use Rattle.chain.specs.Chains.{skipped, modsDown};
 
 // How many of n entries stay when the qualifiers on top are popped.
 pub fn skip_mods(b: Btf, section: &[u8], work: &[u8], start: u32, n: u32) -> u32
-    ensures { λ r. ⌜ r ≤ n ⌝ }
+    ensures { λ r. ⌜ (r ≡ skipped b (now (section .entry)) (now (work .entry)) start n) × (r ≤ n) ⌝ }
 {
     let mut k = n;
     while 0 < k {
@@ -30,7 +33,9 @@ pub fn emit_mods(
     start: u32,
     n: u32,
     m: u32,
-) -> usize {
+) -> usize
+    ensures { λ r. ⌜ putOut r (now (text .exit)) ≡ putText (now (text .entry)) at (whole (modsDown b (now (section .entry)) (now (work .entry)) start m n)) ⌝ }
+{
     let mut p = at;
     let mut k = n;
     while m < k {

@@ -9,11 +9,12 @@ use native.Mathlib.Numerals.{add-one}
 use lib.ListN.{length}
 use lib.Dec.{eqb}
 use borrow.Author.Tests.{eqb-true, eqb-false, lt-ltb, le-ltb}
-use Rattle.lent.specs.Words.{getWord, putWord, pick}
+use Rattle.lent.specs.Words.{getWord, putWord, pick, oneMore}
 use Rattle.lent.proofs.Laws.{put-length, get-put-same, get-put-other}
-use Rattle.classes.specs.Names.{sameList}
+use Rattle.classes.specs.Same.{sameList}
 use Rattle.classes.proofs.Names.{same-equal, same-from}
-use Rattle.classes.specs.Classes.{classOf, timesOf, fill, noughts, withClasses, oneMore, withMore, countOf, counted, countedAll}
+use Rattle.classes.specs.Classes.{classOf, timesOf, fill, noughts, withClasses, countedAll}
+use Rattle.btf.specs.Cells.{withMore, countOf, counted}
 use Rattle.classes.specs.Claims.{Below}
 use Rattle.classes.specs.Table.{Places}
 use Rattle.classes.proofs.Fill.{fill-length, get-else, get-fill}

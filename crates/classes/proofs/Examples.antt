@@ -6,13 +6,14 @@ use mathlib.Core.Path.{_≡_, refl}
 use mathlib.Core.List.{List, [], _∷_}
 use mathlib.Core.Bool.{false}
 use lib.ListN.{getD, replicate}
-use Rattle.lent.specs.Words.{getWord, putWord, wordAt, table}
+use Rattle.lent.specs.Words.{getWord, putWord, wordAt, table, oneMore}
 use Rattle.btf.specs.declared.types.Btf.{Btf}
-use Rattle.btf.specs.Cells.{placeOf}
+use Rattle.btf.specs.Cells.{placeOf, withMore, countOf, counted, classP, countP}
 use Rattle.btf.specs.Records.{sectionWord}
-use Rattle.classes.specs.Names.{upToZero, nameAt, sameList}
+use Rattle.btf.specs.Names.{upToZero, nameAt}
+use Rattle.classes.specs.Same.{sameList}
 use Rattle.classes.specs.Claims.{afterCounts, nextCount}
-use Rattle.classes.specs.Classes.{least, classOf, fill, withClasses, oneMore, withMore, countOf, counted, countedAll, recordP, classP, countP, bucketP, linkP, among, spaceOf, spaceAt, nameOf, keyOf, keyIn, tableClassed}
+use Rattle.classes.specs.Classes.{least, classOf, fill, withClasses, countedAll, recordP, bucketP, linkP, among, spaceOf, spaceAt, nameOf, keyOf, keyIn, tableClassed}
 
 -- words, lowest byte first, and bytes after them
 pub bytes : List ℕ → List ℕ → List ℕ
@@ -32,7 +33,7 @@ section =
     (0 ∷ 97 ∷ 98 ∷ 0 ∷ 97 ∷ 98 ∷ 99 ∷ 0 ∷ 97 ∷ 98 ∷ 0 ∷ [])
 
 pub context : Btf
-context = record { «ptr_sz» = 8; «union_as_struct» = false; types = 7; «hdr_len» = 24; «str_off» = 88 }
+context = record { «ptr_sz» = 8; «union_as_struct» = false; types = 7; strs = 112 }
 
 -- the work with the places of the records and entries, and every other byte x
 pub work : ℕ → List ℕ

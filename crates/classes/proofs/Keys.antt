@@ -10,11 +10,12 @@ use borrow.Author.Tests.{lt-ltb, le-ltb, ne-eqb}
 use Rattle.lent.specs.Words.{getWord}
 use Rattle.lent.proofs.Laws.{le-or-lt}
 use Rattle.btf.specs.declared.types.Btf.{Btf}
-use Rattle.btf.specs.Cells.{placeOf}
+use Rattle.btf.specs.Cells.{placeOf, classP, countP}
 use Rattle.btf.specs.Records.{sectionWord, kindOf}
 use Rattle.btf.proofs.Laws.{place-type, place-enum}
-use Rattle.classes.specs.Names.{nameAt, sameList}
-use Rattle.classes.specs.Classes.{classOf, fill, noughts, withClasses, recordP, classP, countP, bucketP, linkP, among, spaceOf, spaceAt, nameOf, keyOf, keyIn, tableClassed}
+use Rattle.btf.specs.Names.{nameAt}
+use Rattle.classes.specs.Same.{sameList}
+use Rattle.classes.specs.Classes.{classOf, fill, noughts, withClasses, recordP, bucketP, linkP, among, spaceOf, spaceAt, nameOf, keyOf, keyIn, tableClassed}
 use Rattle.classes.specs.Table.{hashFrom, bucketOf, Places, Ready, Finds, placed, stateOf}
 use Rattle.classes.proofs.Names.{same-from, same-heads, other-heads}
 use Rattle.classes.proofs.Fill.{get-else}
@@ -160,7 +161,7 @@ module _ (b : Btf) (s : List ℕ) where
     unfolding spaceAt
     space-enum z l = rw (ne-eqb h 0 z, le-ltb h (b .types) l)
 
-  pub name-is : (at x : ℕ) → x ≡ sectionWord b s at → b .«hdr_len» + b .«str_off» + x ≡ nameOf b s at
+  pub name-is : (at x : ℕ) → x ≡ sectionWord b s at → b .strs + x ≡ nameOf b s at
   unfolding nameOf
   name-is at x e = rw e
 

@@ -12,7 +12,7 @@ use lib.Dec.{eqb}
 use borrow.Author.Tests.{eq-eqb, ne-eqb, eqb-true, eqb-false}
 use Rattle.lent.specs.Words.{getWord, putWord, pick}
 use Rattle.lent.proofs.Laws.{le-or-lt}
-use Rattle.classes.specs.Names.{sameList}
+use Rattle.classes.specs.Same.{sameList}
 use Rattle.classes.proofs.Names.{same-self, same-equal, same-from}
 use Rattle.classes.specs.Classes.{least, classOf, fill, noughts, withClasses}
 use Rattle.classes.specs.Table.{hashFrom, hashKey, bucketOf, stands, lastOf, nextOf, Places, Ready, Finds, placed, stateOf}

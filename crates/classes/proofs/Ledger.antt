@@ -8,8 +8,8 @@ use lib.ListN.{length}
 use Rattle.lent.specs.Words.{getWord}
 use Rattle.lent.proofs.Laws.{le-or-lt}
 use Rattle.btf.specs.declared.types.Btf.{Btf}
-use Rattle.btf.specs.Cells.{placeOf}
-use Rattle.classes.specs.Classes.{timesOf, classP, countP, bucketP, linkP, keyIn, withClasses, tableClassed}
+use Rattle.btf.specs.Cells.{placeOf, classP, countP}
+use Rattle.classes.specs.Classes.{timesOf, bucketP, linkP, keyIn, withClasses, tableClassed}
 use Rattle.classes.specs.Claims.{First, Room, Words, Ledger}
 use Rattle.classes.proofs.Laws.{class-le, class-key, class-first, class-same}
 use Rattle.classes.proofs.Count.{with-length, with-else, with-class, with-bucket, with-link, Books, count-law}

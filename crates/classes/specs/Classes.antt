@@ -4,11 +4,12 @@ use mathlib.Core.List.{List, [], _∷_}
 use mathlib.Core.Bool.{Bool, true, false}
 use lib.ListN.{length}
 use lib.Dec.{ltb, eqb}
-use Rattle.lent.specs.Words.{getWord, putWord, pick}
+use Rattle.lent.specs.Words.{getWord, putWord, pick, oneMore}
 use Rattle.btf.specs.declared.types.Btf.{Btf}
-use Rattle.btf.specs.Cells.{placeOf}
+use Rattle.btf.specs.Cells.{placeOf, withMore, countOf, counted, classP, countP}
 use Rattle.btf.specs.Records.{sectionWord, kindOf}
-use Rattle.classes.specs.Names.{nameAt, sameList}
+use Rattle.btf.specs.Names.{nameAt, namePlace}
+use Rattle.classes.specs.Same.{sameList}
 
 -- ---- any holders: `key` gives the space and the name of each
 -- the least number up to h that has p; h where none has
@@ -40,21 +41,6 @@ noughts h = 0
 unfoldable pub withClasses : (ℕ → List ℕ) → (class bucket link : ℕ → ℕ) → ℕ → List ℕ → List ℕ
 withClasses key class bucket link n w = fill class (classOf key) (fill link noughts (fill bucket noughts w n) n) n
 
--- one more, and no more than a word holds
-unfoldable pub oneMore : ℕ → ℕ
-oneMore n = pick (ltb n 4294967295) (n + 1) n
-
--- the work with one more at a word
-unfoldable pub withMore : List ℕ → ℕ → List ℕ
-withMore w i = elim (ltb (getWord w i) 4294967295) [ true ↦ putWord w i (getWord w i + 1) | false ↦ w ]
-
--- the count that h gets next, at its class, and the work after that
-unfoldable pub countOf : (class count : ℕ → ℕ) → List ℕ → ℕ → ℕ
-countOf class count w h = oneMore (getWord w (count (getWord w (class h))))
-
-unfoldable pub counted : (class count : ℕ → ℕ) → List ℕ → ℕ → List ℕ
-counted class count w h = withMore w (count (getWord w (class h)))
-
 -- the work after a count for each of hs, the last of hs first
 unfoldable pub countedAll : (class count : ℕ → ℕ) → List ℕ → List ℕ → List ℕ
 countedAll class count w [] = w
@@ -64,12 +50,6 @@ countedAll class count w (h ∷ hs) = counted class count (countedAll class coun
 -- the words of holders: where the record or entry stands, class, count, and the two scratch words
 abbrev pub recordP : ℕ → ℕ → ℕ
 recordP types = placeOf types 0 0
-
-abbrev pub classP : ℕ → ℕ → ℕ
-classP types = placeOf types 5 1
-
-abbrev pub countP : ℕ → ℕ → ℕ
-countP types = placeOf types 6 2
 
 abbrev pub bucketP : ℕ → ℕ → ℕ
 bucketP types = placeOf types 7 3
@@ -92,7 +72,7 @@ spaceAt b s at h = pick (eqb h 0) 2 (pick (ltb h (b .types)) (spaceOf (kindOf (s
 
 -- 01, Section and type table, "offsets count from the header's end": where the name of the record or entry at a place starts
 unfoldable pub nameOf : Btf → List ℕ → ℕ → ℕ
-nameOf b s at = b .«hdr_len» + b .«str_off» + sectionWord b s at
+nameOf b s at = namePlace b (sectionWord b s at)
 
 -- a space and the name that starts at a place; without a space there is no name, so that all such holders are alike
 unfoldable pub keyOf : List ℕ → ℕ → ℕ → List ℕ

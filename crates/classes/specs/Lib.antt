@@ -1,4 +1,4 @@
-pub mod Names
+pub mod Same
 pub mod Classes
 pub mod Table
 pub mod Claims

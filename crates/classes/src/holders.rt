@@ -10,7 +10,7 @@ use lent::put_word;
 ghost use mathlib.Core.Path.{_≡_};
 ghost use Rattle.lent.specs.Words.{pick};
 ghost use Rattle.btf.specs.Cells.{placeOf};
-ghost use Rattle.classes.specs.Names.{sameList};
+ghost use Rattle.classes.specs.Same.{sameList};
 ghost use Rattle.classes.specs.Classes.{classOf, fill, noughts, bucketP, linkP, spaceOf, spaceAt, nameOf, keyOf, keyIn, tableClassed};
 ghost use Rattle.classes.specs.Table.{HoldersReady, HolderFinds, holderPlaced};
 
@@ -42,7 +42,7 @@ fn space_at(b: Btf, section: &[u8], at: u32, h: u32) -> u32
 fn name_of(b: Btf, section: &[u8], at: u32) -> usize
     ensures { λ r. ⌜ r ≡ nameOf b (now (section .entry)) at ⌝ }
 {
-    (b.hdr_len as usize) + (b.str_off as usize) + (word(b, section, at as usize) as usize)
+    (b.strs as usize) + (word(b, section, at as usize) as usize)
 }
 
 // The space of a holder, and where its name stands. A name without a space is not looked at.

@@ -1,7 +1,16 @@
 // Declarations, their chains and the bodies of composites, which call each other. `left` is how many more calls of
 // emit_type_decl, emit_type_chain and emit_composite_def may be open; `below` is that for the calls within one of them.
+mod bodies;
+mod words;
+
+use bodies::Spot;
+use bodies::emit_composite_end;
+use bodies::emit_composite_head;
+use bodies::emit_enum_word;
+use bodies::emit_enum64_word;
+use bodies::emit_member_end;
+use bodies::put_typedef_name;
 use btf::Btf;
-use btf::BtfMember;
 use btf::BtfType;
 use btf::Entries;
 use btf::array_nelems;
@@ -24,16 +33,11 @@ use chain::path_at;
 use chain::put_qualifier;
 use chain::skip_mods;
 use enums::deeper;
-use enums::emit_enum_def;
-use enums::emit_enum64_def;
-use enums::put_enum_name;
 use layout::Ask;
 use layout::Packed;
 use layout::is_struct_packed;
-use layout::member_end;
 use lent::put_byte;
 use lent::put_bytes;
-use lent::put_decimal;
 use lent::put_tabs;
 use lent::stop;
 use lent::stopped;
@@ -43,13 +47,30 @@ use names::emit_composite_fwd;
 use names::emit_decl_tags;
 use names::emit_fwd_def;
 use names::emit_name;
-use names::put_attribute;
-use names::put_keyword;
-use names::put_name;
-use names::put_sep_name;
 use names::resolve_type_name;
 use padding::emit_bit_padding;
-ghost use Prim.Native.Nat.{_≤_, _-_};
+use words::put_close;
+use words::put_comma;
+use words::put_count;
+use words::put_gap;
+use words::put_open;
+use words::put_star;
+use words::put_type_tag;
+ghost use mathlib.Core.Path.{_≡_};
+ghost use mathlib.Core.Bool.{true, false, _&&_};
+ghost use Prim.Native.Nat.{_≤_, _<_, _-_, _+_};
+ghost use lib.Dec.{eqb, leb};
+ghost use Rattle.rules.specs.Writer.{put, _⨾_};
+ghost use Rattle.rules.specs.Layout.{endOf};
+ghost use Rattle.rules.specs.Types.{Composite};
+ghost use Rattle.rules.specs.Decl.{mods, noMods, shownParams, emitTypeDecl, emitTypeChain, emitCompositeDef, emitTypedefDef};
+ghost use Rattle.rules.specs.Place.{outOf, putSaid};
+ghost use Rattle.btf.specs.Names.{strAt};
+ghost use Rattle.btf.specs.Records.{kindOf, memberOf};
+ghost use Rattle.btf.specs.Table.{from, paramOf, paramsOf, membersOf, recordName, ruleMember, typeOf, btfOf, workNaming};
+ghost use Rattle.names.specs.Spelling.{nameText};
+ghost use Rattle.chain.specs.Chains.{chainAt};
+ghost use Rattle.decl.specs.Pieces.{entryLeft, entryStar, entryNamed, wordBelow, paramsBelow, arrayBelow, protoBelow, paramListBelow, entryText, paramText, memberText, membersBelow, endFrom};
 
 // What is declared: the type that the chain starts from, the declared name, and the level of indentation.
 pub struct Declarator {
@@ -66,12 +87,6 @@ struct Chain {
     is_named: bool,
 }
 
-// Where a member ended: the place in the text, and the bit where the next may begin.
-struct Spot {
-    at: usize,
-    offset: u32,
-}
-
 pub fn emit_type_decl(
     b: Btf,
     section: &[u8],
@@ -80,7 +95,9 @@ pub fn emit_type_decl(
     at: usize,
     d: Declarator,
     left: u32,
-) -> usize {
+) -> usize
+    ensures { λ r. ⌜ outOf r (now (text .exit)) (now (work .exit)) ≡ putSaid (now (text .entry)) at (emitTypeDecl (workNaming b) (btfOf b (now (section .entry)) (now (work .entry))) left (d .id) (nameText b (now (section .entry)) (d .name)) (d .lvl) (now (work .entry))) ⌝ }
+{
     if left == 0 {
         return stop(text, at, 12);
     }
@@ -102,7 +119,9 @@ fn emit_type_chain(
     d: Declarator,
     n: u32,
     left: u32,
-) -> usize {
+) -> usize
+    ensures { λ r. ⌜ outOf r (now (text .exit)) (now (work .exit)) ≡ putSaid (now (text .entry)) at (emitTypeChain (workNaming b) (btfOf b (now (section .entry)) (now (work .entry))) left (chainAt b (now (section .entry)) (now (work .entry)) (d .id) n) (nameText b (now (section .entry)) (d .name)) (d .lvl) (now (work .entry))) ⌝ }
+{
     if left == 0 {
         return stop(text, at, 12);
     }
@@ -128,7 +147,7 @@ fn emit_type_chain(
 
 // The chain goes on from a place with n entries.
 fn goes_on(at: usize, n: u32, last_was_ptr: bool) -> Chain
-    ensures { λ r. ⌜ r .n ≤ n ⌝ }
+    ensures { λ r. ⌜ r ≡ record { at = at; n = n; «last_was_ptr» = «last_was_ptr»; «is_named» = false } ⌝ }
 {
     Chain {
         at: at,
@@ -140,7 +159,7 @@ fn goes_on(at: usize, n: u32, last_was_ptr: bool) -> Chain
 
 // The declared name stands, and nothing is left.
 fn named(at: usize) -> Chain
-    ensures { λ r. ⌜ r .n ≤ 0 ⌝ }
+    ensures { λ r. ⌜ r ≡ record { at = at; n = 0; «last_was_ptr» = false; «is_named» = true } ⌝ }
 {
     Chain {
         at: at,
@@ -160,11 +179,9 @@ fn emit_entry(
     d: Declarator,
     below: u32,
 ) -> Chain
-    ensures { λ r. ⌜ r .n ≤ c .n - 1 ⌝ }
+    requires { ⌜ 0 < c .n ⌝ }
+    ensures { λ r. ⌜ (outOf (r .at) (now (text .exit)) (now (work .exit)) ≡ putSaid (now (text .entry)) (c .at) (entryText (workNaming b) (btfOf b (now (section .entry)) (now (work .entry))) below (nameText b (now (section .entry)) (d .name)) (d .lvl) (c .«last_was_ptr») (chainAt b (now (section .entry)) (now (work .entry)) (d .id) (c .n)) (now (work .entry)))) × (chainAt b (now (section .entry)) (now (work .entry)) (d .id) (r .n) ≡ entryLeft (chainAt b (now (section .entry)) (now (work .entry)) (d .id) (c .n))) × (r .«last_was_ptr» ≡ entryStar (chainAt b (now (section .entry)) (now (work .entry)) (d .id) (c .n))) × (r .«is_named» ≡ entryNamed (chainAt b (now (section .entry)) (now (work .entry)) (d .id) (c .n))) × (r .n ≤ c .n - 1) ⌝ }
 {
-    if c.n == 0 {
-        return c;
-    }
     let n = c.n - 1;
     let id = path_at(b, section, work, d.id, n);
     let t = type_by_id(b, section, work, id);
@@ -208,45 +225,18 @@ fn emit_function(
     d: Declarator,
     t: BtfType,
     below: u32,
-) -> usize {
-    let n = less(c.n);
+) -> usize
+    requires { ⌜ 0 < c .n ⌝ }
+    ensures { λ r. ⌜ outOf r (now (text .exit)) (now (work .exit)) ≡ putSaid (now (text .entry)) (c .at) ((put (mods (chainAt b (now (section .entry)) (now (work .entry)) (d .id) (c .n - 1))) ⨾ protoBelow (workNaming b) (btfOf b (now (section .entry)) (now (work .entry))) below (nameText b (now (section .entry)) (d .name)) (d .lvl) (c .«last_was_ptr») (noMods (chainAt b (now (section .entry)) (now (work .entry)) (d .id) (c .n - 1))) ⨾ paramListBelow (workNaming b) (btfOf b (now (section .entry)) (now (work .entry))) below (nameText b (now (section .entry)) (d .name)) (d .lvl) (paramsOf b (now (section .entry)) t)) (now (work .entry))) ⌝ }
+{
+    let n = c.n - 1;
     let m = skip_mods(b, section, work, d.id, n);
     let a = emit_mods(b, section, work, text, c.at, d.id, n, m);
     let f = emit_proto(b, section, work, text, a, d, m, c.last_was_ptr, below);
     emit_params(b, section, work, text, f, entries_of(t), d.lvl, below)
 }
 
-// One less, or 0.
-fn less(n: u32) -> u32 {
-    if 0 < n { n - 1 } else { 0 }
-}
-
-fn put_type_tag(b: Btf, section: &[u8], text: &mut [u8], at: usize, t: BtfType) -> usize {
-    put_attribute(
-        b,
-        section,
-        text,
-        at,
-        kind_flag_of(t.info),
-        b"btf_type_tag",
-        t.name_off,
-    )
-}
-
-fn put_star(text: &mut [u8], at: usize, last_was_ptr: bool) -> usize {
-    if last_was_ptr {
-        return put_byte(text, at, b'*');
-    }
-    put_bytes(text, at, b" *")
-}
-
-fn put_count(text: &mut [u8], at: usize, nelems: u32) -> usize {
-    let a = put_byte(text, at, b'[');
-    let c = put_decimal(text, a, nelems as u64);
-    put_byte(text, c, b']')
-}
-
-// The base's own words. What cannot be declared prints nothing; opening refuses it.
+// The base's own words. What cannot be declared prints nothing, and a kind that there is not is void: opening refuses both.
 fn emit_base(
     b: Btf,
     section: &[u8],
@@ -257,9 +247,10 @@ fn emit_base(
     t: BtfType,
     lvl: u32,
     below: u32,
-) -> usize {
+) -> usize
+    ensures { λ r. ⌜ outOf r (now (text .exit)) (now (work .exit)) ≡ putSaid (now (text .entry)) at (wordBelow (workNaming b) (btfOf b (now (section .entry)) (now (work .entry))) below lvl id (typeOf b (now (section .entry)) t) (now (work .entry))) ⌝ }
+{
     match kind_of(t.info) {
-        0 => put_bytes(text, at, b"void"),
         1 | 16 => put_str(b, section, text, at, t.name_off),
         4 | 5 => emit_composite_word(b, section, work, text, at, id, t, lvl, below),
         6 => emit_enum_word(b, section, work, text, at, id, t, lvl),
@@ -275,41 +266,9 @@ fn emit_base(
         ),
         8 => put_typedef_name(b, section, work, text, at, id, t.name_off),
         19 => emit_enum64_word(b, section, work, text, at, id, t, lvl),
-        _ => at,
+        2 | 3 | 9..=15 | 17 | 18 => at,
+        _ => put_bytes(text, at, b"void"),
     }
-}
-
-// A nameless enum is printed inline.
-fn emit_enum_word(
-    b: Btf,
-    section: &[u8],
-    work: &mut [u8],
-    text: &mut [u8],
-    at: usize,
-    id: u32,
-    t: BtfType,
-    lvl: u32,
-) -> usize {
-    if is_empty(b, section, t.name_off) {
-        return emit_enum_def(b, section, work, text, at, id, t, lvl);
-    }
-    put_enum_name(b, section, work, text, at, id, t.name_off)
-}
-
-fn emit_enum64_word(
-    b: Btf,
-    section: &[u8],
-    work: &mut [u8],
-    text: &mut [u8],
-    at: usize,
-    id: u32,
-    t: BtfType,
-    lvl: u32,
-) -> usize {
-    if is_empty(b, section, t.name_off) {
-        return emit_enum64_def(b, section, work, text, at, id, t, lvl);
-    }
-    put_enum_name(b, section, work, text, at, id, t.name_off)
 }
 
 // A nameless composite is printed inline.
@@ -323,42 +282,13 @@ fn emit_composite_word(
     t: BtfType,
     lvl: u32,
     below: u32,
-) -> usize {
+) -> usize
+    ensures { λ r. ⌜ outOf r (now (text .exit)) (now (work .exit)) ≡ putSaid (now (text .entry)) at (wordBelow (workNaming b) (btfOf b (now (section .entry)) (now (work .entry))) below lvl id (Composite (eqb (kindOf (t .info)) 4) (recordName b (now (section .entry)) t) (t .«type_id») (membersOf b (now (section .entry)) t)) (now (work .entry))) ⌝ }
+{
     if is_empty(b, section, t.name_off) {
         return emit_composite_def(b, section, work, text, at, id, t, lvl, below);
     }
     emit_composite_fwd(b, section, work, text, at, id, is_struct(t), t.name_off)
-}
-
-fn put_typedef_name(
-    b: Btf,
-    section: &[u8],
-    work: &mut [u8],
-    text: &mut [u8],
-    at: usize,
-    id: u32,
-    name_off: u32,
-) -> usize {
-    let name = resolve_type_name(b, section, work, id, name_off);
-    put_name(b, section, text, at, name)
-}
-
-// A space before a name that follows no star.
-fn put_gap(
-    b: Btf,
-    section: &[u8],
-    text: &mut [u8],
-    at: usize,
-    name: Name,
-    last_was_ptr: bool,
-) -> usize {
-    if last_was_ptr {
-        return at;
-    }
-    if is_empty(b, section, name.off) {
-        return at;
-    }
-    put_byte(text, at, b' ')
 }
 
 // What stands before the brackets of an array: the name, or the chain that is left.
@@ -372,7 +302,9 @@ fn emit_array(
     n: u32,
     last_was_ptr: bool,
     below: u32,
-) -> usize {
+) -> usize
+    ensures { λ r. ⌜ outOf r (now (text .exit)) (now (work .exit)) ≡ putSaid (now (text .entry)) at (arrayBelow (workNaming b) (btfOf b (now (section .entry)) (now (work .entry))) below (nameText b (now (section .entry)) (d .name)) (d .lvl) «last_was_ptr» (chainAt b (now (section .entry)) (now (work .entry)) (d .id) n) (now (work .entry))) ⌝ }
+{
     let name = d.name;
     if n == 0 {
         return emit_name(b, section, text, at, name, last_was_ptr);
@@ -381,9 +313,9 @@ fn emit_array(
     if kind_on_top(b, section, work, d.id, n) == 3 {
         return emit_type_chain(b, section, work, text, a, d, n, below);
     }
-    let c = put_byte(text, a, b'(');
+    let c = put_open(text, a);
     let e = emit_type_chain(b, section, work, text, c, d, n, below);
-    put_byte(text, e, b')')
+    put_close(text, e)
 }
 
 // What stands before the parameters of a prototype.
@@ -397,32 +329,32 @@ fn emit_proto(
     n: u32,
     last_was_ptr: bool,
     below: u32,
-) -> usize {
+) -> usize
+    ensures { λ r. ⌜ outOf r (now (text .exit)) (now (work .exit)) ≡ putSaid (now (text .entry)) at (protoBelow (workNaming b) (btfOf b (now (section .entry)) (now (work .entry))) below (nameText b (now (section .entry)) (d .name)) (d .lvl) «last_was_ptr» (chainAt b (now (section .entry)) (now (work .entry)) (d .id) n) (now (work .entry))) ⌝ }
+{
     if n == 0 {
         let name = d.name;
         return emit_name(b, section, text, at, name, last_was_ptr);
     }
     let a = put_bytes(text, at, b" (");
     let c = emit_type_chain(b, section, work, text, a, d, n, below);
-    put_byte(text, c, b')')
+    put_close(text, c)
 }
 
-// How many parameters are printed: a single one of type void is none.
-fn shown_params(b: Btf, section: &[u8], params: Entries) -> u32 {
-    if params.vlen == 1 {
-        if word(b, section, param_place(params, 0) + 4) == 0 {
-            return 0;
-        }
+// The parameters that are printed: a single one of type void is none.
+fn shown_params(b: Btf, section: &[u8], params: Entries) -> Entries
+    ensures { λ r. ⌜ from (paramOf b (now (section .entry)) (r .at)) 0 (r .vlen) ≡ shownParams (from (paramOf b (now (section .entry)) (params .at)) 0 (params .vlen)) ⌝ }
+{
+    if params.vlen != 1 {
+        return params;
     }
-    params.vlen
-}
-
-fn put_open(text: &mut [u8], at: usize) -> usize {
-    put_byte(text, at, b'(')
-}
-
-fn put_close(text: &mut [u8], at: usize) -> usize {
-    put_byte(text, at, b')')
+    if word(b, section, param_place(params, 0) + 4) != 0 {
+        return params;
+    }
+    Entries {
+        at: params.at,
+        vlen: 0,
+    }
 }
 
 // The parameters in parentheses.
@@ -435,15 +367,17 @@ fn emit_params(
     params: Entries,
     lvl: u32,
     below: u32,
-) -> usize {
-    let vlen = shown_params(b, section, params);
+) -> usize
+    ensures { λ r. ⌜ outOf r (now (text .exit)) (now (work .exit)) ≡ putSaid (now (text .entry)) at (paramsBelow (workNaming b) (btfOf b (now (section .entry)) (now (work .entry))) below lvl (shownParams (from (paramOf b (now (section .entry)) (params .at)) 0 (params .vlen))) (now (work .entry))) ⌝ }
+{
+    let shown = shown_params(b, section, params);
     let mut p = put_open(text, at);
     let mut k: u32 = 0;
-    while k < vlen {
+    while k < shown.vlen {
         if stopped(text, p) {
             return p;
         }
-        p = emit_param(b, section, work, text, p, params, k, lvl, below);
+        p = emit_param(b, section, work, text, p, shown, k, lvl, below);
         k += 1;
     }
     put_close(text, p)
@@ -460,7 +394,9 @@ fn emit_param(
     k: u32,
     lvl: u32,
     below: u32,
-) -> usize {
+) -> usize
+    ensures { λ r. ⌜ outOf r (now (text .exit)) (now (work .exit)) ≡ putSaid (now (text .entry)) at (paramText (λ id name. emitTypeDecl (workNaming b) (btfOf b (now (section .entry)) (now (work .entry))) below id name lvl) (eqb k 0) (paramOf b (now (section .entry)) (params .at) k) (leb (params .vlen) (k + 1)) (now (work .entry))) ⌝ }
+{
     let p = param_place(params, k);
     let type_id = word(b, section, p + 4);
     let d = Declarator {
@@ -469,27 +405,23 @@ fn emit_param(
         lvl: lvl,
     };
     let a = put_comma(text, at, k);
-    if type_id == 0 {
-        if is_last(params, k) {
-            return put_bytes(text, a, b"...");
-        }
+    if is_any_more(params.vlen, k, type_id) {
+        return put_bytes(text, a, b"...");
     }
     emit_type_decl(b, section, work, text, a, d, below)
 }
 
-fn is_last(params: Entries, k: u32) -> bool {
-    let vlen = params.vlen;
-    if 0 < vlen {
-        return vlen - 1 <= k;
+// Whether parameter k of vlen is the last, and void.
+fn is_any_more(vlen: u32, k: u32, type_id: u32) -> bool
+    ensures { λ r. ⌜ r ≡ (leb vlen (k + 1) && eqb «type_id» 0) ⌝ }
+{
+    if type_id != 0 {
+        return false;
     }
-    true
-}
-
-fn put_comma(text: &mut [u8], at: usize, k: u32) -> usize {
-    if k == 0 {
-        return at;
+    if vlen == 0 {
+        return true;
     }
-    put_bytes(text, at, b", ")
+    vlen - 1 <= k
 }
 
 pub fn emit_composite_def(
@@ -502,7 +434,9 @@ pub fn emit_composite_def(
     t: BtfType,
     lvl: u32,
     left: u32,
-) -> usize {
+) -> usize
+    ensures { λ r. ⌜ outOf r (now (text .exit)) (now (work .exit)) ≡ putSaid (now (text .entry)) at (emitCompositeDef (workNaming b) (btfOf b (now (section .entry)) (now (work .entry))) left id (eqb (kindOf (t .info)) 4) (recordName b (now (section .entry)) t) (t .«type_id») (membersOf b (now (section .entry)) t) lvl (now (work .entry))) ⌝ }
+{
     if left == 0 {
         return stop(text, at, 12);
     }
@@ -533,21 +467,6 @@ pub fn emit_composite_def(
     }
 }
 
-fn emit_composite_head(
-    b: Btf,
-    section: &[u8],
-    work: &mut [u8],
-    text: &mut [u8],
-    at: usize,
-    id: u32,
-    t: BtfType,
-) -> usize {
-    let name = resolve_type_name(b, section, work, id, t.name_off);
-    let a = put_keyword(b, text, at, is_struct(t));
-    let c = put_sep_name(b, section, text, a, name);
-    put_bytes(text, c, b" {")
-}
-
 fn emit_members(
     b: Btf,
     section: &[u8],
@@ -559,7 +478,9 @@ fn emit_members(
     packed: bool,
     lvl: u32,
     below: u32,
-) -> usize {
+) -> usize
+    ensures { λ r. ⌜ outOf r (now (text .exit)) (now (work .exit)) ≡ putSaid (now (text .entry)) at (membersBelow (workNaming b) (btfOf b (now (section .entry)) (now (work .entry))) below id lvl packed 0 0 (membersOf b (now (section .entry)) t) (now (work .entry))) ⌝ }
+{
     let vlen = vlen_of(t.info);
     let mut s = Spot { at: at, offset: 0 };
     let mut k: u32 = 0;
@@ -585,7 +506,9 @@ fn emit_member(
     packed: bool,
     lvl: u32,
     below: u32,
-) -> Spot {
+) -> Spot
+    ensures { λ r. ⌜ (outOf (r .at) (now (text .exit)) (now (work .exit)) ≡ putSaid (now (text .entry)) (s .at) (memberText (workNaming b) (btfOf b (now (section .entry)) (now (work .entry))) below id lvl packed k (s .offset) (ruleMember b (now (section .entry)) (memberOf b (now (section .entry)) t k)) (now (work .entry)))) × (r .offset ≡ endFrom (endOf (btfOf b (now (section .entry)) (now (work .exit))) (ruleMember b (now (section .entry)) (memberOf b (now (section .entry)) t k)))) ⌝ }
+{
     let m = load_member(b, section, t, k);
     let d = Declarator {
         id: m.type_id,
@@ -599,74 +522,6 @@ fn emit_member(
     emit_member_end(b, section, work, text, f, id, k, m)
 }
 
-// The size of a bit field, the member's tags and the semicolon.
-fn emit_member_end(
-    b: Btf,
-    section: &[u8],
-    work: &[u8],
-    text: &mut [u8],
-    at: usize,
-    id: u32,
-    k: u32,
-    m: BtfMember,
-) -> Spot {
-    let a = put_bit_size(text, at, m.bit_size);
-    match member_end(b, section, work, m) {
-        Ask::Got(offset) => {
-            let c = emit_decl_tags(b, section, work, text, a, id, k);
-            Spot {
-                at: put_byte(text, c, b';'),
-                offset: offset,
-            }
-        }
-        Ask::No(c) => Spot {
-            at: stop(text, a, c),
-            offset: 0,
-        },
-    }
-}
-
-fn put_bit_size(text: &mut [u8], at: usize, bit_size: u32) -> usize {
-    if bit_size == 0 {
-        return at;
-    }
-    let a = put_bytes(text, at, b": ");
-    put_decimal(text, a, bit_size as u64)
-}
-
-// The closing bracket, on a line of its own after members, and what is said of the whole.
-fn emit_composite_end(
-    b: Btf,
-    section: &[u8],
-    work: &[u8],
-    text: &mut [u8],
-    at: usize,
-    id: u32,
-    t: BtfType,
-    packed: bool,
-    lvl: u32,
-) -> usize {
-    let a = put_last_newline(text, at, vlen_of(t.info));
-    let c = put_tabs(text, a, lvl);
-    let d = put_byte(text, c, b'}');
-    let e = put_packed(text, d, packed);
-    emit_decl_tags(b, section, work, text, e, id, 4294967295)
-}
-
-fn put_last_newline(text: &mut [u8], at: usize, vlen: u32) -> usize {
-    if vlen == 0 {
-        return at;
-    }
-    put_byte(text, at, b'\n')
-}
-
-fn put_packed(text: &mut [u8], at: usize, packed: bool) -> usize {
-    if packed {
-        return put_bytes(text, at, b" __attribute__((packed))");
-    }
-    at
-}
-
 // A typedef's line, without its end. The compiler's own type has none: see the caller.
 pub fn emit_typedef_def(
     b: Btf,
@@ -677,7 +532,9 @@ pub fn emit_typedef_def(
     id: u32,
     name_off: u32,
     type_id: u32,
-) -> usize {
+) -> usize
+    ensures { λ r. ⌜ outOf r (now (text .exit)) (now (work .exit)) ≡ putSaid (now (text .entry)) at (emitTypedefDef (workNaming b) (btfOf b (now (section .entry)) (now (work .entry))) id (strAt b (now (section .entry)) «name_off») «type_id» (now (work .entry))) ⌝ }
+{
     let name = resolve_type_name(b, section, work, id, name_off);
     let d = Declarator {
         id: type_id,

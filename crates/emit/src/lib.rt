@@ -29,24 +29,49 @@ use order::clear_listed;
 use order::get_listed;
 use order::get_order_state;
 use order::order_type;
+ghost use mathlib.Core.Path.{_≡_};
+ghost use mathlib.Core.Bool.{not};
+ghost use lib.Dec.{eqb};
+ghost use Prim.Native.Nat.{ℕ};
+ghost use Rattle.lent.specs.Text.{ascii, whole, putOut, putText};
+ghost use Rattle.rules.specs.Machine.{pick, obind, eeach};
+ghost use Rattle.rules.specs.Types.{tableOf};
+ghost use Rattle.rules.specs.Place.{outOf, putSaid};
+ghost use Rattle.rules.specs.Emit.{definition, forward};
+ghost use Rattle.btf.specs.Cells.{getField, putField};
+ghost use Rattle.btf.specs.Records.{recordById};
+ghost use Rattle.btf.specs.Table.{typeOf, btfOf, workNaming};
+ghost use Rattle.btf.specs.Nodes.{memberIds, paramIds};
+ghost use Rattle.order.specs.Work.{markOf, tableIn};
+ghost use Rattle.emit.specs.Sheet.{sheetStore, emptied, emitOut, workMachine, emitIn, newIn, againIn, leafIn, compositeIn, onceIn, mentionIn, dumped, isIdle};
 
-fn get_emit_state(work: &[u8], id: u32) -> u32 {
-    get_field(work, id, 2)
+fn get_emit_state(work: &[u8], id: u32) -> u32
+    ensures { λ r. ⌜ r ≡ getField (now (work .entry)) id 13 ⌝ }
+{
+    get_field(work, id, 13)
 }
 
-fn set_emit_state(work: &mut [u8], id: u32, state: u32) {
-    put_field(work, id, 2, state)
+fn set_emit_state(work: &mut [u8], id: u32, state: u32)
+    ensures { λ _. ⌜ now (work .exit) ≡ putField (now (work .entry)) id 13 state ⌝ }
+{
+    put_field(work, id, 13, state)
 }
 
-fn get_fwd_emitted(work: &[u8], id: u32) -> bool {
+fn get_fwd_emitted(work: &[u8], id: u32) -> bool
+    ensures { λ r. ⌜ r ≡ not (eqb (getField (now (work .entry)) id 3) 0) ⌝ }
+{
     get_field(work, id, 3) != 0
 }
 
-fn set_fwd_emitted(work: &mut [u8], id: u32) {
+fn set_fwd_emitted(work: &mut [u8], id: u32)
+    ensures { λ _. ⌜ now (work .exit) ≡ putField (now (work .entry)) id 3 1 ⌝ }
+{
     put_field(work, id, 3, 1)
 }
 
-fn put_line_end(text: &mut [u8], at: usize) -> usize {
+fn put_line_end(text: &mut [u8], at: usize) -> usize
+    ensures { λ r. ⌜ putOut r (now (text .exit)) ≡ putText (now (text .entry)) at (whole (ascii ";\n\n")) ⌝ }
+{
     put_bytes(text, at, b";\n\n")
 }
 
@@ -59,7 +84,9 @@ fn emit_definition(
     at: usize,
     id: u32,
     t: BtfType,
-) -> usize {
+) -> usize
+    ensures { λ r. ⌜ outOf r (now (text .exit)) (now (work .exit)) ≡ putSaid (now (text .entry)) at (definition (workNaming b) (btfOf b (now (section .entry)) (now (work .entry))) id (typeOf b (now (section .entry)) t) (now (work .entry))) ⌝ }
+{
     match kind_of(t.info) {
         4 | 5 => {
             let a = emit_composite_def(b, section, work, text, at, id, t, 0, 512);
@@ -91,7 +118,9 @@ fn emit_forward(
     at: usize,
     id: u32,
     t: BtfType,
-) -> usize {
+) -> usize
+    ensures { λ r. ⌜ outOf r (now (text .exit)) (now (work .exit)) ≡ putSaid (now (text .entry)) at (forward (workNaming b) (btfOf b (now (section .entry)) (now (work .entry))) id (typeOf b (now (section .entry)) t) (now (work .entry))) ⌝ }
+{
     if is_builtin(b, section, t.name_off) {
         return at;
     }
@@ -116,7 +145,9 @@ fn emit_once(
     at: usize,
     id: u32,
     t: BtfType,
-) -> usize {
+) -> usize
+    ensures { λ r. ⌜ ((n : ℕ) → emitOut n r (now (text .exit)) (now (work .exit)) ≡ obind (emitOut n at (now (text .entry)) (now (work .entry))) (λ m. onceIn b (btfOf b (now (section .entry)) (now (work .entry))) (typeOf b (now (section .entry)) t) m id)) ⌝ }
+{
     if get_fwd_emitted(work, id) {
         return at;
     }
@@ -134,7 +165,9 @@ fn emit_again(
     at: usize,
     id: u32,
     cont_id: u32,
-) -> usize {
+) -> usize
+    ensures { λ r. ⌜ ((n : ℕ) → emitOut n r (now (text .exit)) (now (work .exit)) ≡ obind (emitOut n at (now (text .entry)) (now (work .entry))) (λ m. againIn b (btfOf b (now (section .entry)) (now (work .entry))) «cont_id» m id)) ⌝ }
+{
     if get_fwd_emitted(work, id) {
         return at;
     }
@@ -164,7 +197,9 @@ pub fn emit_type(
     id: u32,
     cont_id: u32,
     left: u32,
-) -> usize {
+) -> usize
+    ensures { λ r. ⌜ ((n : ℕ) → emitOut n r (now (text .exit)) (now (work .exit)) ≡ obind (emitOut n at (now (text .entry)) (now (work .entry))) (λ m. emitIn b (btfOf b (now (section .entry)) (now (work .entry))) left «cont_id» m id)) ⌝ }
+{
     if stopped(text, at) {
         return at;
     }
@@ -179,10 +214,8 @@ pub fn emit_type(
         return emit_again(b, section, work, text, at, id, cont_id);
     }
     let t = type_by_id(b, section, work, id);
-    if cont_id == 0 {
-        if !is_named(b, section, t) {
-            return stop(text, at, 14);
-        }
+    if (cont_id == 0) & !is_named(b, section, t) {
+        return stop(text, at, 14);
     }
     emit_new(b, section, work, text, at, id, t, cont_id, left - 1)
 }
@@ -198,7 +231,10 @@ fn emit_new(
     t: BtfType,
     cont_id: u32,
     left: u32,
-) -> usize {
+) -> usize
+    requires { ⌜ t ≡ recordById b (now section) (now work) id ⌝ }
+    ensures { λ r. ⌜ ((n : ℕ) → emitOut n r (now (text .exit)) (now (work .exit)) ≡ obind (emitOut n at (now (text .entry)) (now (work .entry))) (λ m. newIn b (btfOf b (now (section .entry)) (now (work .entry))) left «cont_id» m id)) ⌝ }
+{
     match node_of(b, section, t) {
         Node::Ignored => at,
         Node::Plain => at,
@@ -233,14 +269,16 @@ fn emit_leaf(
     t: BtfType,
     cont_id: u32,
     is_fwd: bool,
-) -> usize {
+) -> usize
+    requires { ⌜ t ≡ recordById b (now section) (now work) id ⌝ }
+    ensures { λ r. ⌜ ((n : ℕ) → emitOut n r (now (text .exit)) (now (work .exit)) ≡ obind (emitOut n at (now (text .entry)) (now (work .entry))) (λ m. leafIn b (btfOf b (now (section .entry)) (now (work .entry))) «is_fwd» «cont_id» m id)) ⌝ }
+{
+    if is_fwd | (cont_id == 0) {
+        let a = emit_definition(b, section, work, text, at, id, t);
+        set_emit_state(work, id, 2);
+        return a;
+    }
     set_emit_state(work, id, 2);
-    if cont_id == 0 {
-        return emit_definition(b, section, work, text, at, id, t);
-    }
-    if is_fwd {
-        return emit_definition(b, section, work, text, at, id, t);
-    }
     at
 }
 
@@ -256,20 +294,15 @@ fn emit_composite(
     cont_id: u32,
     members: Entries,
     left: u32,
-) -> usize {
+) -> usize
+    requires { ⌜ t ≡ recordById b (now section) (now work) id ⌝ }
+    ensures { λ r. ⌜ ((n : ℕ) → emitOut n r (now (text .exit)) (now (work .exit)) ≡ obind (emitOut n at (now (text .entry)) (now (work .entry))) (λ m. compositeIn b (btfOf b (now (section .entry)) (now (work .entry))) left «cont_id» (memberIds b (now (section .entry)) members) m id)) ⌝ }
+{
     let named = is_named(b, section, t);
     set_emit_state(work, id, 1);
     if cont_id == 0 {
-        let a = emit_members(
-            b,
-            section,
-            work,
-            text,
-            at,
-            members,
-            inner(named, id, cont_id),
-            left,
-        );
+        let cont = inner(named, id, cont_id);
+        let a = emit_members(b, section, work, text, at, members, cont, left);
         let c = emit_definition(b, section, work, text, a, id, t);
         set_emit_state(work, id, 2);
         return c;
@@ -285,7 +318,9 @@ fn emit_composite(
 }
 
 // What the members of a composite are emitted within.
-fn inner(named: bool, id: u32, cont_id: u32) -> u32 {
+fn inner(named: bool, id: u32, cont_id: u32) -> u32
+    ensures { λ r. ⌜ r ≡ pick named id «cont_id» ⌝ }
+{
     if named { id } else { cont_id }
 }
 
@@ -299,7 +334,9 @@ fn emit_mention(
     id: u32,
     t: BtfType,
     cont_id: u32,
-) -> usize {
+) -> usize
+    ensures { λ r. ⌜ ((n : ℕ) → emitOut n r (now (text .exit)) (now (work .exit)) ≡ obind (emitOut n at (now (text .entry)) (now (work .entry))) (λ m. mentionIn b (btfOf b (now (section .entry)) (now (work .entry))) (typeOf b (now (section .entry)) t) «cont_id» m id)) ⌝ }
+{
     if id == cont_id {
         return at;
     }
@@ -315,7 +352,9 @@ fn emit_members(
     members: Entries,
     cont_id: u32,
     left: u32,
-) -> usize {
+) -> usize
+    ensures { λ r. ⌜ ((n : ℕ) → emitOut n r (now (text .exit)) (now (work .exit)) ≡ obind (emitOut n at (now (text .entry)) (now (work .entry))) (λ m. eeach (emitIn b (btfOf b (now (section .entry)) (now (work .entry))) left «cont_id») (memberIds b (now (section .entry)) members) m)) ⌝ }
+{
     let vlen = members.vlen;
     let mut p = at;
     let mut k: u32 = 0;
@@ -336,7 +375,9 @@ fn emit_params(
     params: Entries,
     cont_id: u32,
     left: u32,
-) -> usize {
+) -> usize
+    ensures { λ r. ⌜ ((n : ℕ) → emitOut n r (now (text .exit)) (now (work .exit)) ≡ obind (emitOut n at (now (text .entry)) (now (work .entry))) (λ m. eeach (emitIn b (btfOf b (now (section .entry)) (now (work .entry))) left «cont_id») (paramIds b (now (section .entry)) params) m)) ⌝ }
+{
     let vlen = params.vlen;
     let mut p = at;
     let mut k: u32 = 0;
@@ -348,32 +389,40 @@ fn emit_params(
     p
 }
 
-// Emits the first n ids of the order list, and empties it.
-fn emit_listed(
-    b: Btf,
-    section: &[u8],
-    work: &mut [u8],
-    text: &mut [u8],
-    at: usize,
-    n: u32,
-) -> usize {
+// Emits the first n ids of the order list.
+fn emit_listed(b: Btf, section: &[u8], work: &mut [u8], text: &mut [u8], at: usize, n: u32) -> usize
+    ensures { λ r. ⌜ emitOut n r (now (text .exit)) (now (work .exit)) ≡ obind (emitOut n at (now (text .entry)) (now (work .entry))) (λ m. eeach (emitIn b (btfOf b (now (section .entry)) (now (work .entry))) 512 0) (sheetStore .list m) m) ⌝ }
+{
     let mut p = at;
     let mut k: u32 = 0;
     while k < n {
         let id = get_listed(work, k);
-        clear_listed(work, k);
         p = emit_type(b, section, work, text, p, id, 0, 512);
         k += 1;
     }
     p
 }
 
+// Empties the first n places of the order list.
+fn clear_list(work: &mut [u8], n: u32)
+    ensures { λ _. ⌜ now (work .exit) ≡ emptied n (now (work .entry)) ⌝ }
+{
+    let mut k: u32 = 0;
+    while k < n {
+        clear_listed(work, k);
+        k += 1;
+    }
+}
+
 // A request for an id that is ordered, or is a function, a variable, a section or a tag, does nothing.
-pub fn is_idle(b: Btf, section: &[u8], work: &[u8], id: u32) -> bool {
-    if get_order_state(work, id) == 2 {
+pub fn is_idle(b: Btf, section: &[u8], work: &[u8], id: u32) -> bool
+    ensures { λ r. ⌜ r ≡ isIdle (markOf (getField (now (work .entry)) id 1)) (tableIn b (now (section .entry)) (now (work .entry)) .node id) ⌝ }
+{
+    let state = get_order_state(work, id);
+    if state == 2 {
         return true;
     }
-    if get_order_state(work, id) == 1 {
+    if state == 1 {
         return false;
     }
     let t = type_by_id(b, section, work, id);
@@ -391,7 +440,9 @@ pub fn dump_type(
     text: &mut [u8],
     at: usize,
     id: u32,
-) -> usize {
+) -> usize
+    ensures { λ r. ⌜ emitOut 0 r (now (text .exit)) (now (work .exit)) ≡ obind (emitOut 0 at (now (text .entry)) (now (work .entry))) (λ m. dumped (workMachine b (btfOf b (now (section .entry)) (now (work .entry)))) (tableOf (btfOf b (now (section .entry)) (now (work .entry)))) m id) ⌝ }
+{
     let start = Order {
         is_strong: false,
         len: 0,
@@ -401,5 +452,7 @@ pub fn dump_type(
     if o.stop != 0 {
         return stop(text, at, o.stop);
     }
-    emit_listed(b, section, work, text, at, o.len)
+    let r = emit_listed(b, section, work, text, at, o.len);
+    clear_list(work, o.len);
+    r
 }

@@ -22,9 +22,21 @@ use signed::as_i32;
 use signed::as_i64;
 use signed::put_i32;
 use signed::put_i64;
+ghost use mathlib.Core.Path.{_≡_};
+ghost use Rattle.lent.specs.Text.{whole, putOut, putText};
+ghost use Rattle.rules.specs.Place.{outOf, putSaid};
+ghost use Rattle.rules.specs.Names.{spelled};
+ghost use Rattle.rules.specs.Decl as rules;
+ghost use Rattle.rules.specs.Decl.{enumValue, enum64Value, emitValues, emitEnumDef, enumWord};
+ghost use Rattle.btf.specs.Names.{strAt};
+ghost use Rattle.btf.specs.Records.{flagOf};
+ghost use Rattle.btf.specs.Table.{btfOf, workNaming, valueVersionIn, valuesOf, values64Of};
+ghost use Rattle.enums.specs.Heads.{enumHead, valueHead, enumEnd, nthOf};
 
 // value_str of an ENUM.
-fn put_value(text: &mut [u8], at: usize, signed: bool, v: u32) -> usize {
+fn put_value(text: &mut [u8], at: usize, signed: bool, v: u32) -> usize
+    ensures { λ r. ⌜ putOut r (now (text .exit)) ≡ putText (now (text .entry)) at (whole (enumValue signed v)) ⌝ }
+{
     if signed {
         return put_i32(text, at, as_i32(v));
     }
@@ -32,8 +44,10 @@ fn put_value(text: &mut [u8], at: usize, signed: bool, v: u32) -> usize {
 }
 
 // value_str of an ENUM64, with the suffix of its type.
-fn put_value64(text: &mut [u8], at: usize, signed: bool, v: u64) -> usize {
-    if signed {
+fn put_value64(text: &mut [u8], at: usize, is_signed: bool, v: u64) -> usize
+    ensures { λ r. ⌜ putOut r (now (text .exit)) ≡ putText (now (text .entry)) at (whole (enum64Value «is_signed» v)) ⌝ }
+{
+    if is_signed {
         return put_i64(text, at, as_i64(v));
     }
     let a = put_decimal(text, at, v);
@@ -50,7 +64,9 @@ fn emit_enumerator(
     e: u32,
     name_off: u32,
     lvl: u32,
-) -> usize {
+) -> usize
+    ensures { λ r. ⌜ (putOut r (now (text .exit)) ≡ putText (now (text .entry)) at (whole (valueHead lvl (spelled (strAt b (now (section .entry)) «name_off») (valueVersionIn (b .types) e (now (work .entry)) .version))))) × (now (work .exit) ≡ valueVersionIn (b .types) e (now (work .entry)) .names) ⌝ }
+{
     let name = resolve_name(b, work, e, name_off);
     let a = put_byte(text, at, b'\n');
     let c = put_tabs(text, a, lvl);
@@ -59,7 +75,9 @@ fn emit_enumerator(
 }
 
 // The k-th after the first, or the largest number.
-fn nth(first: u32, k: u32) -> u32 {
+fn nth(first: u32, k: u32) -> u32
+    ensures { λ r. ⌜ r ≡ nthOf first k ⌝ }
+{
     if k <= 4294967295 - first {
         first + k
     } else {
@@ -76,7 +94,9 @@ fn emit_values(
     id: u32,
     t: BtfType,
     lvl: u32,
-) -> usize {
+) -> usize
+    ensures { λ r. ⌜ outOf r (now (text .exit)) (now (work .exit)) ≡ putSaid (now (text .entry)) at (emitValues (workNaming b) (btfOf b (now (section .entry)) (now (work .entry))) (enumValue (flagOf (t .info))) id lvl 0 (valuesOf b (now (section .entry)) t) (now (work .entry))) ⌝ }
+{
     let values = entries_of(t);
     let vlen = values.vlen;
     let first = get_field(work, id, 12);
@@ -102,7 +122,9 @@ fn emit_values64(
     id: u32,
     t: BtfType,
     lvl: u32,
-) -> usize {
+) -> usize
+    ensures { λ r. ⌜ outOf r (now (text .exit)) (now (work .exit)) ≡ putSaid (now (text .entry)) at (emitValues (workNaming b) (btfOf b (now (section .entry)) (now (work .entry))) (enum64Value (flagOf (t .info))) id lvl 0 (values64Of b (now (section .entry)) t) (now (work .entry))) ⌝ }
+{
     let values = entries_of(t);
     let vlen = values.vlen;
     let first = get_field(work, id, 12);
@@ -112,8 +134,8 @@ fn emit_values64(
         let name_off = word(b, section, member_place(values, k));
         let a = emit_enumerator(b, section, work, text, p, nth(first, k), name_off, lvl);
         let v = load_enum64_value(b, section, values, k);
-        let c = put_value64(text, a, kind_flag_of(t.info), v);
-        p = put_byte(text, c, b',');
+        let d = put_value64(text, a, kind_flag_of(t.info), v);
+        p = put_byte(text, d, b',');
         k += 1;
     }
     p
@@ -128,21 +150,27 @@ fn emit_enum_head(
     at: usize,
     id: u32,
     name_off: u32,
-) -> usize {
+) -> usize
+    ensures { λ r. ⌜ outOf r (now (text .exit)) (now (work .exit)) ≡ putSaid (now (text .entry)) at (enumHead (workNaming b) id (strAt b (now (section .entry)) «name_off») (now (work .entry))) ⌝ }
+{
     let name = resolve_type_name(b, section, work, id, name_off);
     let a = put_bytes(text, at, b"enum");
     put_sep_name(b, section, text, a, name)
 }
 
 // The line end and the bracket that close the values.
-fn emit_enum_end(text: &mut [u8], at: usize, lvl: u32) -> usize {
+fn emit_enum_end(text: &mut [u8], at: usize, lvl: u32) -> usize
+    ensures { λ r. ⌜ putOut r (now (text .exit)) ≡ putText (now (text .entry)) at (whole (enumEnd lvl)) ⌝ }
+{
     let a = put_byte(text, at, b'\n');
     let c = put_tabs(text, a, lvl);
     put_byte(text, c, b'}')
 }
 
 // One level deeper.
-pub fn deeper(lvl: u32) -> u32 {
+pub fn deeper(lvl: u32) -> u32
+    ensures { λ r. ⌜ r ≡ rules.deeper lvl ⌝ }
+{
     if lvl < 4294967295 { lvl + 1 } else { lvl }
 }
 
@@ -155,7 +183,9 @@ pub fn emit_enum_def(
     id: u32,
     t: BtfType,
     lvl: u32,
-) -> usize {
+) -> usize
+    ensures { λ r. ⌜ outOf r (now (text .exit)) (now (work .exit)) ≡ putSaid (now (text .entry)) at (emitEnumDef (workNaming b) (btfOf b (now (section .entry)) (now (work .entry))) (enumValue (flagOf (t .info))) id (strAt b (now (section .entry)) (t .«name_off»)) (valuesOf b (now (section .entry)) t) lvl (now (work .entry))) ⌝ }
+{
     if is_builtin(b, section, t.name_off) {
         return at;
     }
@@ -178,7 +208,9 @@ pub fn emit_enum64_def(
     id: u32,
     t: BtfType,
     lvl: u32,
-) -> usize {
+) -> usize
+    ensures { λ r. ⌜ outOf r (now (text .exit)) (now (work .exit)) ≡ putSaid (now (text .entry)) at (emitEnumDef (workNaming b) (btfOf b (now (section .entry)) (now (work .entry))) (enum64Value (flagOf (t .info))) id (strAt b (now (section .entry)) (t .«name_off»)) (values64Of b (now (section .entry)) t) lvl (now (work .entry))) ⌝ }
+{
     if is_builtin(b, section, t.name_off) {
         return at;
     }
@@ -201,7 +233,9 @@ pub fn put_enum_name(
     at: usize,
     id: u32,
     name_off: u32,
-) -> usize {
+) -> usize
+    ensures { λ r. ⌜ outOf r (now (text .exit)) (now (work .exit)) ≡ putSaid (now (text .entry)) at (enumWord (workNaming b) (btfOf b (now (section .entry)) (now (work .entry))) id (strAt b (now (section .entry)) «name_off») (now (work .entry))) ⌝ }
+{
     let name = resolve_type_name(b, section, work, id, name_off);
     let a = put_bytes(text, at, b"enum ");
     put_name(b, section, text, a, name)

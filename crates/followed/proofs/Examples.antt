@@ -15,7 +15,7 @@ use Rattle.followed.specs.Track.{chase, leadsTo}
 use Rattle.followed.specs.Prototypes.{whatOf, nextOf, asksAt, asksOf, asker, anyLeads}
 
 abbrev three : Btf
-three = record { «ptr_sz» = 8; «union_as_struct» = false; types = 3; «hdr_len» = 24; «str_off» = 0 }
+three = record { «ptr_sz» = 8; «union_as_struct» = false; types = 3; strs = 24 }
 
 abbrev word : ℕ → List ℕ
 word n = n ∷ 0 ∷ 0 ∷ 0 ∷ []

@@ -1,10 +1,363 @@
--- The product of two numbers of k bits has at most k + k. Assumes nothing.
-use mathlib.Core.Path.{subst⁻¹}
-use Prim.Native.Nat.{ℕ, _+_, _*_, _^_, _<_}
-use native.Mathlib.Nat.{le-of-lt, lt-of-le-of-lt, mul-le-mul-left, mul-lt-mul-of-pos-right}
-use lib.Pow.{pow-pos, pow-add}
+-- What each return of the code comes to: sizes, alignments, ends of members, widths of pads. Assumes nothing.
+use Prim.Native.Nat.{ℕ, zero, suc, _+_, _-_, _*_, _/_, _%_, _<_, _≤_}
+use mathlib.Core.Path.{_≡_, refl, ap, ap₂, _∙_, sym}
+use mathlib.Core.Bool.{Bool, true, false}
+use mathlib.Core.List.{List, [], _∷_}
+use mathlib.Core.Logic.{_⊎_, inl, inr, ⊎-elim}
+use native.Mathlib.Omega.{arith}
+use native.Mathlib.Nat.{mod-zero}
+use borrow.Author.Tests.{lt-ltb, le-ltb, le-leb, lt-leb, ne-eqb}
+use Rattle.lent.proofs.Laws.{le-or-lt}
+use Rattle.rules.specs.Writer.{Ask, got, no, askThen, checked}
+use Rattle.rules.specs.Types.{Member, memberTypes, BtfType, Void, Int, Ptr, Array, Composite, Enum, Enum64, Fwd, Typedef, Mod, Func, Var, Datasec, FuncProto, Float, DeclTag, TypeTag}
+use Rattle.rules.specs.Layout.{octets, smaller, larger, sizeOf, getSizeOf, alignMembers, alignOf, getAlignOf, endOf, chipAwayBits}
+use Rattle.btf.specs.declared.types.Btf.{Btf}
+use Rattle.btf.specs.declared.types.BtfType.{BtfType as Record}
+use Rattle.btf.specs.declared.types.BtfMember.{BtfMember}
+use Rattle.btf.specs.declared.types.Entries.{Entries}
+use Rattle.btf.specs.Records.{sectionWord, kindOf, vlenOf, memberAt, recordById, entriesOf}
+use Rattle.btf.specs.Table.{from, ruleMember, extraWord, nelemsWord, membersOf, typeOf, btfOf}
+use Rattle.btf.specs.Nodes.{memberIds}
+use Rattle.btf.proofs.KindLaws.{type-0, type-1, type-2, type-3, type-4, type-5, type-6, type-7, type-8, type-9, type-10, type-11, type-12, type-13, type-14, type-15, type-16, type-17, type-18, type-19, type-none, member-types}
+use Rattle.layout.specs.declared.Ask.{Ask as Code}
+use Rattle.layout.specs.declared.Ask.the-variants.{Got, No}
+use Rattle.layout.specs.Answers.{askOf, alignIds}
 
-pub below : (k : ℕ) {a b : ℕ} → a < 2 ^ k → b < 2 ^ k → a * b < 2 ^ (k + k)
-below k {a} {b} ha hb =
-    subst⁻¹ (λ (n : ℕ). a * b < n) (pow-add 2 k k)
-    (lt-of-le-of-lt (mul-le-mul-left a (le-of-lt hb)) (mul-lt-mul-of-pos-right ha (pow-pos k)))
+-- ---- numbers of 32 bits
+pub checked-fits : (n : ℕ) → n < 4294967296 → askOf (Got n) ≡ checked n
+unfolding askOf checked
+checked-fits n h = rw (lt-ltb n 4294967296 h, checked)
+
+pub checked-over : (n : ℕ) → 4294967296 ≤ n → askOf (No 16) ≡ checked n
+unfolding askOf checked
+checked-over n h = rw (le-ltb n 4294967296 h, checked)
+
+module _ (k : ℕ → Ask ℕ) where
+  pub then-got : (y : Code) (n : ℕ) (r : Code) → y ≡ Got n → askOf r ≡ k n → askOf r ≡ askThen (askOf y) k
+  unfolding askOf askThen
+  then-got y n r e er = er ∙ ap (λ (z : Code). askThen (askOf z) k) (sym e)
+
+  pub then-no : (y : Code) (c : ℕ) → y ≡ No c → askOf (No c) ≡ askThen (askOf y) k
+  unfolding askOf askThen
+  then-no y c e = ap (λ (z : Code). askThen (askOf z) k) (sym e)
+
+pub octets-whole : (bits : ℕ) → bits % 8 ≡ 0 → bits / 8 ≡ octets bits
+unfolding octets
+octets-whole bits h = omega arith
+
+pub octets-more : (bits : ℕ) → (bits % 8 ≡ 0 → ⊥) → bits / 8 + 1 ≡ octets bits
+unfolding octets
+octets-more bits h = omega arith
+
+-- k is n, or more
+near : {P : Type 0} → (n k : ℕ) → n ≤ k → (k ≡ n → P) → (suc n ≤ k → P) → P
+near n k h p q = ⊎-elim q (λ l. p (omega arith)) (le-or-lt (suc n) k)
+
+-- one question after another, either way
+then-twice : (x : Ask ℕ) (g h : ℕ → Ask ℕ) → askThen x (λ n. askThen (g n) h) ≡ askThen (askThen x g) h
+unfolding askThen
+then-twice (got n) g h = refl
+then-twice (no c) g h = refl
+
+-- alignMembers looks at the types alone
+pub align-ids : (f : ℕ → Ask ℕ) (a : ℕ) (ms : List Member) → alignMembers f a ms ≡ alignIds f a (memberTypes ms)
+unfolding alignMembers alignIds
+align-ids f a [] = refl
+align-ids f a (m ∷ ms) = ap (askThen (f (m .type-id))) (λ i c. align-ids f (larger a c) ms i)
+
+-- ---- get_size_of
+module _ (b : Btf) (s w : List ℕ) (left id : ℕ) where
+  pub size-deep : left ≡ 0 → askOf (No 12) ≡ getSizeOf left (btfOf b s w) id
+  unfolding askOf getSizeOf
+  size-deep e = rw e
+
+  pub align-deep : left ≡ 0 → askOf (No 12) ≡ getAlignOf left (btfOf b s w) id
+  unfolding askOf getAlignOf
+  align-deep e = rw e
+
+  module _ (deep : left ≡ 0 → ⊥) (t : Record) (et : t ≡ recordById b s w id) where
+    size-is : (T : BtfType) → typeOf b s t ≡ T → getSizeOf left (btfOf b s w) id ≡ sizeOf (btfOf b s w) (getSizeOf (left - 1) (btfOf b s w)) T
+    unfolding getSizeOf btfOf
+    size-is T q =
+        let e : left ≡ suc (left - 1) = omega arith in
+        ap (λ (n : ℕ). getSizeOf n (btfOf b s w) id) e
+        ∙ ap (sizeOf (btfOf b s w) (getSizeOf (left - 1) (btfOf b s w))) (ap (typeOf b s) (sym et) ∙ q)
+
+    align-is : (T : BtfType) → typeOf b s t ≡ T → getAlignOf left (btfOf b s w) id ≡ alignOf (btfOf b s w) (getAlignOf (left - 1) (btfOf b s w)) T
+    unfolding getAlignOf btfOf
+    align-is T q =
+        let e : left ≡ suc (left - 1) = omega arith in
+        ap (λ (n : ℕ). getAlignOf n (btfOf b s w) id) e
+        ∙ ap (alignOf (btfOf b s w) (getAlignOf (left - 1) (btfOf b s w))) (ap (typeOf b s) (sym et) ∙ q)
+
+    module _ (k : ℕ) (ek : k ≡ kindOf (t .info)) where
+      pub size-int : (x y : ℕ) → k ≡ 1 → x ≡ extraWord b s t % 256 → y ≡ octets x → askOf (Got y) ≡ getSizeOf left (btfOf b s w) id
+      unfolding askOf sizeOf
+      size-int x y e ex ey = ap got (ey ∙ ap octets ex) ∙ sym (size-is _ (type-1 b s t (sym ek ∙ e)))
+
+      pub size-ptr : k ≡ 2 → askOf (Got (b .«ptr_sz»)) ≡ getSizeOf left (btfOf b s w) id
+      unfolding askOf sizeOf btfOf
+      size-ptr e = sym (size-is _ (type-2 b s t (sym ek ∙ e)))
+
+      pub size-array : (x n : ℕ) (q r : Code) → k ≡ 3 → x ≡ extraWord b s t → n ≡ nelemsWord b s t → askOf q ≡ getSizeOf (left - 1) (btfOf b s w) x → askOf r ≡ askThen (askOf q) (λ z. checked (n * z)) → askOf r ≡ getSizeOf left (btfOf b s w) id
+      unfolding sizeOf
+      size-array x n q r e ex en eq er =
+          er
+          ∙ ap (λ (a : Ask ℕ). askThen a (λ z. checked (n * z))) (eq ∙ ap (getSizeOf (left - 1) (btfOf b s w)) ex)
+          ∙ ap (λ (m : ℕ). askThen (getSizeOf (left - 1) (btfOf b s w) (extraWord b s t)) (λ z. checked (m * z))) en
+          ∙ sym (size-is _ (type-3 b s t (sym ek ∙ e)))
+
+      size-sized : (k ≡ 4) ⊎ ((k ≡ 5) ⊎ ((k ≡ 6) ⊎ ((k ≡ 16) ⊎ (k ≡ 19)))) → askOf (Got (t .«type_id»)) ≡ getSizeOf left (btfOf b s w) id
+      unfolding askOf sizeOf
+      size-sized (inl e) = sym (size-is _ (type-4 b s t (sym ek ∙ e)))
+      size-sized (inr (inl e)) = sym (size-is _ (type-5 b s t (sym ek ∙ e)))
+      size-sized (inr (inr (inl e))) = sym (size-is _ (type-6 b s t (sym ek ∙ e)))
+      size-sized (inr (inr (inr (inl e)))) = sym (size-is _ (type-16 b s t (sym ek ∙ e)))
+      size-sized (inr (inr (inr (inr e)))) = sym (size-is _ (type-19 b s t (sym ek ∙ e)))
+
+      pub size-keyed : (k ≡ 16) ⊎ (k ≡ 19) → askOf (Got (t .«type_id»)) ≡ getSizeOf left (btfOf b s w) id
+      size-keyed h = size-sized (inr (inr (inr h)))
+
+      -- 4, 5, 6
+      pub size-range : 1 ≤ k → k < 7 → (k ≡ 1 → ⊥) → (k ≡ 2 → ⊥) → (k ≡ 3 → ⊥) → askOf (Got (t .«type_id»)) ≡ getSizeOf left (btfOf b s w) id
+      size-range l h n1 n2 n3 =
+          let f : 4 ≤ k = omega arith in
+          near 4 k f (λ e. size-sized (inl e)) (λ g. near 5 k g (λ e. size-sized (inr (inl e))) (λ i. size-sized (inr (inr (inl (omega arith))))))
+
+      -- 8 to 11; 17 and 18
+      module _ (r : Code) (er : askOf r ≡ getSizeOf (left - 1) (btfOf b s w) (t .«type_id»)) where
+        pub size-through : 8 ≤ k → k < 12 → askOf r ≡ getSizeOf left (btfOf b s w) id
+        unfolding sizeOf
+        size-through l h =
+            near 8 k l (λ e. er ∙ sym (size-is _ (type-8 b s t (sym ek ∙ e)))) (λ l9.
+            near 9 k l9 (λ e. er ∙ sym (size-is _ (type-9 b s t (sym ek ∙ e)))) (λ l10.
+            near 10 k l10 (λ e. er ∙ sym (size-is _ (type-10 b s t (sym ek ∙ e)))) (λ l11.
+            let e : k ≡ 11 = omega arith in
+            er ∙ sym (size-is _ (type-11 b s t (sym ek ∙ e))))))
+
+        pub size-tagged : 16 ≤ k → k < 19 → ((k ≡ 16) ⊎ (k ≡ 19) → ⊥) → askOf r ≡ getSizeOf left (btfOf b s w) id
+        unfolding sizeOf
+        size-tagged l h n =
+            near 16 k l (λ e. absurd (n (inl e))) (λ l17.
+            near 17 k l17 (λ e. er ∙ sym (size-is _ (type-17 b s t (sym ek ∙ e)))) (λ l18.
+            let e : k ≡ 18 = omega arith in
+            er ∙ sym (size-is _ (type-18 b s t (sym ek ∙ e)))))
+
+      size-none : (T : BtfType) → typeOf b s t ≡ T → sizeOf (btfOf b s w) (getSizeOf (left - 1) (btfOf b s w)) T ≡ got 0 → askOf (Got 0) ≡ getSizeOf left (btfOf b s w) id
+      unfolding askOf
+      size-none T q e = sym (size-is T q ∙ e)
+
+      pub size-void : k < 1 → askOf (Got 0) ≡ getSizeOf left (btfOf b s w) id
+      unfolding sizeOf
+      size-void h = let e : k ≡ 0 = omega arith in size-none _ (type-0 b s t (sym ek ∙ e)) refl
+
+      pub size-fwd : 7 ≤ k → k < 8 → askOf (Got 0) ≡ getSizeOf left (btfOf b s w) id
+      unfolding sizeOf
+      size-fwd l h = let e : k ≡ 7 = omega arith in size-none _ (type-7 b s t (sym ek ∙ e)) refl
+
+      -- 12 to 15
+      pub size-data : 12 ≤ k → k < 16 → askOf (Got 0) ≡ getSizeOf left (btfOf b s w) id
+      unfolding sizeOf
+      size-data l h =
+          near 12 k l (λ e. size-none _ (type-12 b s t (sym ek ∙ e)) refl) (λ l13.
+          near 13 k l13 (λ e. size-none _ (type-13 b s t (sym ek ∙ e)) refl) (λ l14.
+          near 14 k l14 (λ e. size-none _ (type-14 b s t (sym ek ∙ e)) refl) (λ l15.
+          let e : k ≡ 15 = omega arith in size-none _ (type-15 b s t (sym ek ∙ e)) refl)))
+
+      pub size-past : 19 ≤ k → ((k ≡ 16) ⊎ (k ≡ 19) → ⊥) → askOf (Got 0) ≡ getSizeOf left (btfOf b s w) id
+      unfolding sizeOf
+      size-past l n = near 19 k l (λ e. absurd (n (inr e))) (λ l20. let h : 20 ≤ kindOf (t .info) = omega arith in size-none _ (type-none b s t h) refl)
+
+      -- ---- get_align_of
+      pub align-int : (x o y : ℕ) → k ≡ 1 → x ≡ extraWord b s t % 256 → o ≡ octets x → y ≡ smaller (b .«ptr_sz») o → askOf (Got y) ≡ getAlignOf left (btfOf b s w) id
+      unfolding askOf alignOf btfOf
+      align-int x o y e ex eo ey = ap got (ey ∙ ap (smaller (b .«ptr_sz»)) (eo ∙ ap octets ex)) ∙ sym (align-is _ (type-1 b s t (sym ek ∙ e)))
+
+      pub align-ptr : k ≡ 2 → askOf (Got (b .«ptr_sz»)) ≡ getAlignOf left (btfOf b s w) id
+      unfolding askOf alignOf btfOf
+      align-ptr e = sym (align-is _ (type-2 b s t (sym ek ∙ e)))
+
+      pub align-array : (x : ℕ) (r : Code) → k ≡ 3 → x ≡ extraWord b s t → askOf r ≡ getAlignOf (left - 1) (btfOf b s w) x → askOf r ≡ getAlignOf left (btfOf b s w) id
+      unfolding alignOf
+      align-array x r e ex er = er ∙ ap (getAlignOf (left - 1) (btfOf b s w)) ex ∙ sym (align-is _ (type-3 b s t (sym ek ∙ e)))
+
+      pub align-sized : (y : ℕ) → (k ≡ 6) ⊎ ((k ≡ 16) ⊎ (k ≡ 19)) → y ≡ smaller (b .«ptr_sz») (t .«type_id») → askOf (Got y) ≡ getAlignOf left (btfOf b s w) id
+      unfolding askOf alignOf btfOf
+      align-sized y (inl e) ey = ap got ey ∙ sym (align-is _ (type-6 b s t (sym ek ∙ e)))
+      align-sized y (inr (inl e)) ey = ap got ey ∙ sym (align-is _ (type-16 b s t (sym ek ∙ e)))
+      align-sized y (inr (inr e)) ey = ap got ey ∙ sym (align-is _ (type-19 b s t (sym ek ∙ e)))
+
+      -- 4, 5
+      pub align-composite : (x : Entries) (r : Code) → 1 ≤ k → k < 6 → (k ≡ 1 → ⊥) → (k ≡ 2 → ⊥) → (k ≡ 3 → ⊥) → x ≡ entriesOf t → askOf r ≡ alignIds (getAlignOf (left - 1) (btfOf b s w)) 1 (memberIds b s x) → askOf r ≡ getAlignOf left (btfOf b s w) id
+      unfolding alignOf
+      align-composite x r l h n1 n2 n3 ex er =
+          let f : 4 ≤ k = omega arith in
+          er ∙ ap (λ (z : Entries). alignIds (getAlignOf (left - 1) (btfOf b s w)) 1 (memberIds b s z)) ex
+          ∙ ap (alignIds (getAlignOf (left - 1) (btfOf b s w)) 1) (sym (member-types b s t))
+          ∙ sym (align-ids (getAlignOf (left - 1) (btfOf b s w)) 1 (membersOf b s t))
+          ∙ near 4 k f (λ e. sym (align-is _ (type-4 b s t (sym ek ∙ e)))) (λ g.
+          let e : k ≡ 5 = omega arith in
+          sym (align-is _ (type-5 b s t (sym ek ∙ e))))
+
+      -- 18; 8 to 11
+      module _ (r : Code) (er : askOf r ≡ getAlignOf (left - 1) (btfOf b s w) (t .«type_id»)) where
+        pub align-tagged : k ≡ 18 → askOf r ≡ getAlignOf left (btfOf b s w) id
+        unfolding alignOf
+        align-tagged e = er ∙ sym (align-is _ (type-18 b s t (sym ek ∙ e)))
+
+        pub align-through : 8 ≤ k → k < 12 → askOf r ≡ getAlignOf left (btfOf b s w) id
+        unfolding alignOf
+        align-through l h =
+            near 8 k l (λ e. er ∙ sym (align-is _ (type-8 b s t (sym ek ∙ e)))) (λ l9.
+            near 9 k l9 (λ e. er ∙ sym (align-is _ (type-9 b s t (sym ek ∙ e)))) (λ l10.
+            near 10 k l10 (λ e. er ∙ sym (align-is _ (type-10 b s t (sym ek ∙ e)))) (λ l11.
+            let e : k ≡ 11 = omega arith in
+            er ∙ sym (align-is _ (type-11 b s t (sym ek ∙ e))))))
+
+      align-none : (T : BtfType) → typeOf b s t ≡ T → alignOf (btfOf b s w) (getAlignOf (left - 1) (btfOf b s w)) T ≡ got 0 → askOf (Got 0) ≡ getAlignOf left (btfOf b s w) id
+      unfolding askOf
+      align-none T q e = sym (align-is T q ∙ e)
+
+      pub align-void : k < 1 → askOf (Got 0) ≡ getAlignOf left (btfOf b s w) id
+      unfolding alignOf
+      align-void h = let e : k ≡ 0 = omega arith in align-none _ (type-0 b s t (sym ek ∙ e)) refl
+
+      pub align-fwd : 6 ≤ k → k < 8 → ((k ≡ 6) ⊎ ((k ≡ 16) ⊎ (k ≡ 19)) → ⊥) → askOf (Got 0) ≡ getAlignOf left (btfOf b s w) id
+      unfolding alignOf
+      align-fwd l h n = near 6 k l (λ e. absurd (n (inl e))) (λ g. let e : k ≡ 7 = omega arith in align-none _ (type-7 b s t (sym ek ∙ e)) refl)
+
+      -- 12 to 15, 17, from 20 on
+      pub align-past : 12 ≤ k → ((k ≡ 6) ⊎ ((k ≡ 16) ⊎ (k ≡ 19)) → ⊥) → (k ≡ 18 → ⊥) → askOf (Got 0) ≡ getAlignOf left (btfOf b s w) id
+      unfolding alignOf
+      align-past l n n18 =
+          near 12 k l (λ e. align-none _ (type-12 b s t (sym ek ∙ e)) refl) (λ l13.
+          near 13 k l13 (λ e. align-none _ (type-13 b s t (sym ek ∙ e)) refl) (λ l14.
+          near 14 k l14 (λ e. align-none _ (type-14 b s t (sym ek ∙ e)) refl) (λ l15.
+          near 15 k l15 (λ e. align-none _ (type-15 b s t (sym ek ∙ e)) refl) (λ l16.
+          near 16 k l16 (λ e. absurd (n (inr (inl e)))) (λ l17.
+          near 17 k l17 (λ e. align-none _ (type-17 b s t (sym ek ∙ e)) refl) (λ l18.
+          near 18 k l18 (λ e. absurd (n18 e)) (λ l19.
+          near 19 k l19 (λ e. absurd (n (inr (inr e)))) (λ l20.
+          let h : 20 ≤ kindOf (t .info) = omega arith in align-none _ (type-none b s t h) refl))))))))
+
+-- ---- the loop of align_members, with the alignments that f gives
+larger-last : (a c : ℕ) → a ≤ c → larger a c ≡ c
+unfolding larger
+larger-last a c l = rw (le-leb a c l, larger)
+
+larger-first : (a c : ℕ) → c < a → larger a c ≡ a
+unfolding larger
+larger-first a c l = rw (lt-leb a c l, larger)
+
+larger-twice : (a c : ℕ) → larger (larger a c) c ≡ larger a c
+larger-twice a c = ⊎-elim here there (le-or-lt a c)
+  where
+    here : a ≤ c → larger (larger a c) c ≡ larger a c
+    here l = ap (λ (n : ℕ). larger n c) (larger-last a c l) ∙ larger-last c c (omega arith) ∙ sym (larger-last a c l)
+
+    there : c < a → larger (larger a c) c ≡ larger a c
+    there l = ap (λ (n : ℕ). larger n c) (larger-first a c l)
+
+module _ (f : ℕ → Ask ℕ) where
+  -- the type `last`, if it is one, changes a no more
+  pub Seen : ℕ → ℕ → Type 0
+  Seen a last = last < 4294967296 → askThen (f last) (λ c. got (larger a c)) ≡ got a
+
+  pub seen-none : (a : ℕ) → Seen a 4294967296
+  unfolding Seen
+  seen-none a l = absurd (omega arith)
+
+  pub seen-next : (a x : ℕ) (r : Code) (c a′ last : ℕ) → askOf r ≡ f x → r ≡ Got c → a′ ≡ larger a c → last ≡ x → Seen a′ last
+  unfolding Seen askThen askOf
+  seen-next a x r c a′ last er g ea el l =
+      ap (λ (y : Ask ℕ). askThen y (λ c. got (larger a′ c))) (ap f el ∙ sym er ∙ ap askOf g) ∙ ap (λ (n : ℕ). got (larger n c)) ea ∙ ap got (larger-twice a c ∙ sym ea)
+
+  pub seen-still : (a last a′ last′ : ℕ) → Seen a last → a′ ≡ a → last′ ≡ last → Seen a′ last′
+  seen-still a last a′ last′ h ea el = rw (ea, el) h
+
+module _ (f : ℕ → Ask ℕ) (b : Btf) (s : List ℕ) (e : Entries) where
+  -- what the members from k on make of a
+  pub alignRest : ℕ → ℕ → Ask ℕ
+  alignRest a k = alignIds f a (from (λ i. sectionWord b s (memberAt (e .at) i + 4)) k (e .vlen - k))
+
+  pub rest-start : alignIds f 1 (memberIds b s e) ≡ alignRest 1 0
+  unfolding alignRest memberIds
+  rest-start = let z : e .vlen ≡ e .vlen - 0 = omega arith in ap (λ (n : ℕ). alignIds f 1 (from (λ i. sectionWord b s (memberAt (e .at) i + 4)) 0 n)) z
+
+  module _ (a k p x : ℕ) (l : k < e .vlen) (ep : p ≡ memberAt (e .at) k) (ex : x ≡ sectionWord b s (p + 4)) where
+    rest-step : alignRest a k ≡ askThen (f x) (λ c. alignRest (larger a c) (k + 1))
+    unfolding alignRest from alignIds
+    rest-step =
+        let z : e .vlen - k ≡ suc (e .vlen - (k + 1)) = omega arith in
+        ap (λ (n : ℕ). alignIds f a (from (λ i. sectionWord b s (memberAt (e .at) i + 4)) k n)) z
+        ∙ ap (λ (y : ℕ). askThen (f y) (λ c. alignRest (larger a c) (k + 1))) (ap (λ (q : ℕ). sectionWord b s (q + 4)) (sym ep) ∙ sym ex)
+
+    module _ (r : Code) (er : askOf r ≡ f x) where
+      rest-asked : alignRest a k ≡ askThen (askOf r) (λ c. alignRest (larger a c) (k + 1))
+      rest-asked = rest-step ∙ ap (λ (y : Ask ℕ). askThen y (λ c. alignRest (larger a c) (k + 1))) (sym er)
+
+      pub rest-more : (T : Ask ℕ) (c a′ : ℕ) → T ≡ alignRest a k → r ≡ Got c → a′ ≡ larger a c → T ≡ alignRest a′ (k + 1)
+      unfolding askThen askOf
+      rest-more T c a′ i g ea = i ∙ rest-asked ∙ ap (λ (y : Code). askThen (askOf y) (λ c. alignRest (larger a c) (k + 1))) g ∙ ap (λ (n : ℕ). alignRest n (k + 1)) (sym ea)
+
+      pub rest-refused : (T : Ask ℕ) (c : ℕ) → T ≡ alignRest a k → r ≡ No c → askOf (No c) ≡ T
+      unfolding askThen askOf
+      rest-refused T c i g = sym (i ∙ rest-asked ∙ ap (λ (y : Code). askThen (askOf y) (λ c. alignRest (larger a c) (k + 1))) g)
+
+    pub rest-skips : (T : Ask ℕ) (last a′ : ℕ) → T ≡ alignRest a k → Seen f a last → x < 4294967296 → x ≡ last → a′ ≡ a → T ≡ alignRest a′ (k + 1)
+    unfolding Seen askThen
+    rest-skips T last a′ i h m q ea =
+        i ∙ rest-step ∙ then-twice (f x) (λ c. got (larger a c)) (λ c. alignRest c (k + 1))
+        ∙ ap (λ (y : Ask ℕ). askThen y (λ c. alignRest c (k + 1))) (ap (λ (y : ℕ). askThen (f y) (λ c. got (larger a c))) q ∙ h (rw q at m))
+        ∙ ap (λ (n : ℕ). alignRest n (k + 1)) (sym ea)
+
+  pub rest-end : (T : Ask ℕ) (a k : ℕ) → T ≡ alignRest a k → e .vlen ≤ k → askOf (Got a) ≡ T
+  unfolding alignRest from alignIds askOf
+  rest-end T a k i l =
+      let z : e .vlen - k ≡ 0 = omega arith in
+      sym (i ∙ ap (λ (n : ℕ). alignIds f a (from (λ i. sectionWord b s (memberAt (e .at) i + 4)) k n)) z)
+
+-- ---- member_end
+module _ (b : Btf) (s w : List ℕ) (m : BtfMember) where
+  pub end-bits : (r : Code) → (m .«bit_size» ≡ 0 → ⊥) → askOf r ≡ checked (m .«bit_offset» + m .«bit_size») → askOf r ≡ endOf (btfOf b s w) (ruleMember b s m)
+  unfolding endOf
+  end-bits r n er = rw (ne-eqb (m .«bit_size») 0 n, endOf) er
+
+  module _ (z : m .«bit_size» ≡ 0) (q p : Code) (eq : askOf q ≡ getSizeOf 512 (btfOf b s w) (m .«type_id»)) (ep : askOf p ≡ askThen (askOf q) (λ n. checked (8 * n))) where
+    end-plain : endOf (btfOf b s w) (ruleMember b s m) ≡ askThen (askOf p) (λ bits. checked (m .«bit_offset» + bits))
+    unfolding endOf
+    end-plain =
+        rw (z, endOf)
+        (ap (λ (a : Ask ℕ). askThen a (λ n. askThen (checked (8 * n)) (λ bits. checked (m .«bit_offset» + bits)))) (sym eq)
+        ∙ then-twice (askOf q) (λ n. checked (8 * n)) (λ bits. checked (m .«bit_offset» + bits))
+        ∙ ap (λ (a : Ask ℕ). askThen a (λ bits. checked (m .«bit_offset» + bits))) (sym ep))
+
+    pub end-sized : (bits : ℕ) (r : Code) → p ≡ Got bits → askOf r ≡ checked (m .«bit_offset» + bits) → askOf r ≡ endOf (btfOf b s w) (ruleMember b s m)
+    end-sized bits r g er = then-got (λ n. checked (m .«bit_offset» + n)) p bits r g er ∙ sym end-plain
+
+    pub end-refused : (c : ℕ) → p ≡ No c → askOf (No c) ≡ endOf (btfOf b s w) (ruleMember b s m)
+    end-refused c g = then-no (λ n. checked (m .«bit_offset» + n)) p c g ∙ sym end-plain
+
+-- ---- chip_away_bits
+module _ (total at-most : ℕ) where
+  pub chip-none : at-most ≡ 0 → total ≡ chipAwayBits total at-most
+  unfolding chipAwayBits
+  chip-none e = ⊎-elim here there (le-or-lt 1 total)
+    where
+      z : total % at-most ≡ total
+      z = ap (λ (n : ℕ). total % n) e ∙ mod-zero total
+
+      here : 1 ≤ total → total ≡ chipAwayBits total at-most
+      here l = let n : total % at-most ≡ 0 → ⊥ = λ q. let q′ : total ≡ 0 = sym z ∙ q in omega arith in rw (ne-eqb (total % at-most) 0 n, chipAwayBits) (sym z)
+
+      there : total < 1 → total ≡ chipAwayBits total at-most
+      there l = let o : total ≡ 0 = omega arith in rw (z ∙ o, chipAwayBits) (o ∙ sym e)
+
+  module _ (rest : ℕ) (er : rest ≡ total % at-most) where
+    pub chip-whole : rest ≡ 0 → at-most ≡ chipAwayBits total at-most
+    unfolding chipAwayBits
+    chip-whole e = rw (sym er ∙ e, chipAwayBits)
+
+    pub chip-rest : (rest ≡ 0 → ⊥) → rest ≡ chipAwayBits total at-most
+    unfolding chipAwayBits
+    chip-rest n = rw (ne-eqb (total % at-most) 0 (λ q. n (er ∙ q)), chipAwayBits) er

@@ -15,6 +15,18 @@ use btf::member_place;
 use btf::type_by_id;
 use btf::vlen_of;
 use btf::word;
+use rules::larger;
+use rules::smaller;
+ghost use mathlib.Core.Path.{_≡_};
+ghost use Prim.Native.Nat.{_*_};
+ghost use lib.Dec.{eqb};
+ghost use Rattle.rules.specs.Writer.{checked, askThen};
+ghost use Rattle.rules.specs.Layout.{octets, getSizeOf, getAlignOf, isStructPacked, endOf, chipAwayBits};
+ghost use Rattle.btf.specs.Records.{kindOf};
+ghost use Rattle.btf.specs.Table.{btfOf, membersOf, ruleMember};
+ghost use Rattle.btf.specs.Nodes.{memberIds};
+ghost use Rattle.layout.specs.Answers.{askOf, packedOf, alignIds};
+ghost use Rattle.layout.specs.Pass.{fitsOf, verdictOf, withMember, fitMembers, noMember, packedBy};
 
 // A value, or the refusal that asking for it meets.
 pub enum Ask {
@@ -28,7 +40,9 @@ pub enum Packed {
 }
 
 // A number of 32 bits, or 16.
-fn checked(n: u64) -> Ask {
+fn checked(n: u64) -> Ask
+    ensures { λ r. ⌜ askOf r ≡ checked n ⌝ }
+{
     if n < 4294967296 {
         Ask::Got(n as u32)
     } else {
@@ -36,7 +50,9 @@ fn checked(n: u64) -> Ask {
     }
 }
 
-fn product(x: u32, y: Ask) -> Ask {
+fn product(x: u32, y: Ask) -> Ask
+    ensures { λ r. ⌜ askOf r ≡ askThen (askOf y) (λ s. checked (x * s)) ⌝ }
+{
     match y {
         Ask::Got(n) => checked((x as u64) * (n as u64)),
         Ask::No(c) => Ask::No(c),
@@ -44,7 +60,9 @@ fn product(x: u32, y: Ask) -> Ask {
 }
 
 // Whole bytes: div_ceil(8).
-fn octets(bits: u32) -> u32 {
+fn octets(bits: u32) -> u32
+    ensures { λ r. ⌜ r ≡ octets bits ⌝ }
+{
     if bits % 8 == 0 {
         bits / 8
     } else {
@@ -52,15 +70,9 @@ fn octets(bits: u32) -> u32 {
     }
 }
 
-fn smaller(x: u32, y: u32) -> u32 {
-    if x <= y { x } else { y }
-}
-
-fn larger(x: u32, y: u32) -> u32 {
-    if x <= y { y } else { x }
-}
-
-pub fn get_size_of(b: Btf, section: &[u8], work: &[u8], id: u32, left: u32) -> Ask {
+pub fn get_size_of(b: Btf, section: &[u8], work: &[u8], id: u32, left: u32) -> Ask
+    ensures { λ r. ⌜ askOf r ≡ getSizeOf left (btfOf b (now (section .entry)) (now (work .entry))) id ⌝ }
+{
     if left == 0 {
         return Ask::No(12);
     }
@@ -78,7 +90,9 @@ pub fn get_size_of(b: Btf, section: &[u8], work: &[u8], id: u32, left: u32) -> A
     }
 }
 
-pub fn get_align_of(b: Btf, section: &[u8], work: &[u8], id: u32, left: u32) -> Ask {
+pub fn get_align_of(b: Btf, section: &[u8], work: &[u8], id: u32, left: u32) -> Ask
+    ensures { λ r. ⌜ askOf r ≡ getAlignOf left (btfOf b (now (section .entry)) (now (work .entry))) id ⌝ }
+{
     if left == 0 {
         return Ask::No(12);
     }
@@ -94,20 +108,27 @@ pub fn get_align_of(b: Btf, section: &[u8], work: &[u8], id: u32, left: u32) -> 
     }
 }
 
-// The largest of the members' alignments, at least 1.
-fn align_members(b: Btf, section: &[u8], work: &[u8], members: Entries, left: u32) -> Ask {
+// The largest of the members' alignments, at least 1. `last` is the type before, whose alignment is in `align` already; from
+// 4294967296 on there is none.
+fn align_members(b: Btf, section: &[u8], work: &[u8], members: Entries, left: u32) -> Ask
+    ensures { λ r. ⌜ askOf r ≡ alignIds (getAlignOf left (btfOf b (now (section .entry)) (now (work .entry)))) 1 (memberIds b (now (section .entry)) members) ⌝ }
+{
     let vlen = members.vlen;
     let mut align: u32 = 1;
+    let mut last: u64 = 4294967296;
     let mut k: u32 = 0;
     while k < vlen {
         let type_id = word(b, section, member_place(members, k) + 4);
-        match get_align_of(b, section, work, type_id, left) {
-            Ask::Got(a) => {
-                align = larger(align, a);
+        if (type_id as u64) != last {
+            match get_align_of(b, section, work, type_id, left) {
+                Ask::Got(a) => {
+                    align = larger(align, a);
+                }
+                Ask::No(c) => {
+                    return Ask::No(c);
+                }
             }
-            Ask::No(c) => {
-                return Ask::No(c);
-            }
+            last = type_id as u64;
         }
         k += 1;
     }
@@ -127,8 +148,11 @@ enum Fits {
 }
 
 // What one member says. A bit field has no alignment of its own.
-fn verdict_of(a: u32, m: BtfMember) -> u32 {
-    if m.bit_size != 0 {
+fn verdict_of(a: u32, m: BtfMember) -> u32
+    ensures { λ r. ⌜ r ≡ verdictOf a (m .«bit_offset») (m .«bit_size») ⌝ }
+{
+    let bits = m.bit_size;
+    if bits != 0 {
         return 0;
     }
     if a == 0 {
@@ -142,7 +166,9 @@ fn verdict_of(a: u32, m: BtfMember) -> u32 {
 }
 
 // One member more.
-fn with_member(f: Fit, a: u32, m: BtfMember) -> Fit {
+fn with_member(f: Fit, a: u32, m: BtfMember) -> Fit
+    ensures { λ r. ⌜ r ≡ withMember f a (m .«bit_offset») (m .«bit_size») ⌝ }
+{
     let align = larger(f.align, a);
     if f.verdict != 0 {
         return Fit {
@@ -157,7 +183,9 @@ fn with_member(f: Fit, a: u32, m: BtfMember) -> Fit {
 }
 
 // The alignments of the members are those that get_align_of of the struct asks, so 511 calls are left for them.
-fn fit_members(b: Btf, section: &[u8], work: &[u8], t: BtfType) -> Fits {
+fn fit_members(b: Btf, section: &[u8], work: &[u8], t: BtfType) -> Fits
+    ensures { λ r. ⌜ fitsOf r ≡ fitMembers (getAlignOf 511 (btfOf b (now (section .entry)) (now (work .entry)))) noMember (membersOf b (now (section .entry)) t) ⌝ }
+{
     let vlen = vlen_of(t.info);
     let mut f = Fit {
         align: 1,
@@ -181,7 +209,9 @@ fn fit_members(b: Btf, section: &[u8], work: &[u8], t: BtfType) -> Fits {
 
 // A struct is packed if its size is no multiple of its alignment, or some plain member is off its own; a plain member
 // without alignment before that has no answer.
-fn packed_by(sz: u32, f: Fit) -> Packed {
+fn packed_by(sz: u32, f: Fit) -> Packed
+    ensures { λ r. ⌜ packedOf r ≡ packedBy sz f ⌝ }
+{
     let align = f.align;
     if align == 0 {
         return Packed::No(15);
@@ -196,7 +226,9 @@ fn packed_by(sz: u32, f: Fit) -> Packed {
 }
 
 // The packed test. One pass: get_align_of of the struct asks for the same alignments.
-pub fn is_struct_packed(b: Btf, section: &[u8], work: &[u8], t: BtfType) -> Packed {
+pub fn is_struct_packed(b: Btf, section: &[u8], work: &[u8], t: BtfType) -> Packed
+    ensures { λ r. ⌜ packedOf r ≡ isStructPacked (btfOf b (now (section .entry)) (now (work .entry))) (eqb (kindOf (t .info)) 4) (t .«type_id») (membersOf b (now (section .entry)) t) ⌝ }
+{
     if !is_struct(t) {
         return Packed::Is(false);
     }
@@ -207,7 +239,9 @@ pub fn is_struct_packed(b: Btf, section: &[u8], work: &[u8], t: BtfType) -> Pack
 }
 
 // Where the next member may begin.
-pub fn member_end(b: Btf, section: &[u8], work: &[u8], m: BtfMember) -> Ask {
+pub fn member_end(b: Btf, section: &[u8], work: &[u8], m: BtfMember) -> Ask
+    ensures { λ r. ⌜ askOf r ≡ endOf (btfOf b (now (section .entry)) (now (work .entry))) (ruleMember b (now (section .entry)) m) ⌝ }
+{
     if m.bit_size != 0 {
         return checked((m.bit_offset as u64) + (m.bit_size as u64));
     }
@@ -217,7 +251,10 @@ pub fn member_end(b: Btf, section: &[u8], work: &[u8], m: BtfMember) -> Ask {
     }
 }
 
-pub fn chip_away_bits(total: u32, at_most: u32) -> u32 {
+// (Of at_most 0 the rest is the total.)
+pub fn chip_away_bits(total: u32, at_most: u32) -> u32
+    ensures { λ r. ⌜ r ≡ chipAwayBits total «at_most» ⌝ }
+{
     if at_most == 0 {
         return total;
     }

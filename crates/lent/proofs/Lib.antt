@@ -3,3 +3,4 @@ pub mod Laws
 pub mod TextLaws
 pub mod DecimalLaws
 pub mod Digits
+pub mod ThreeLaws

@@ -76,7 +76,7 @@ done-stopped t n c e = let z : _≡_ {A = ℕ} 0 1 = cc in omega arith
 
 module _ (t : List ℕ) (n : ℕ) where
   -- what was stopped stays so
-  stays : (c : ℕ) (y : Text) → putOut n t ≡ stopped c → putText t n y ≡ stopped c
+  pub stays : (c : ℕ) (y : Text) → putOut n t ≡ stopped c → putText t n y ≡ stopped c
   stays c y e =
       ⊎-elim
       (λ l. absurd (done-stopped _ _ _ (sym (out-done n t l) ∙ e)))
@@ -84,7 +84,7 @@ module _ (t : List ℕ) (n : ℕ) where
       (le-or-lt n (length t))
 
   -- what was written is at hand
-  went : (u : List ℕ) (k : ℕ) → putOut n t ≡ done u k → (t ≡ u) × (n ≡ k)
+  pub went : (u : List ℕ) (k : ℕ) → putOut n t ≡ done u k → (t ≡ u) × (n ≡ k)
   went u k e = ⊎-elim good (λ l. absurd (done-stopped _ _ _ (sym e ∙ out-stopped n t l))) (le-or-lt n (length t))
     where
       good : n ≤ length t → (t ≡ u) × (n ≡ k)
@@ -119,9 +119,10 @@ module _ (t : List ℕ) (at : ℕ) (a : List ℕ) (h : at + length a ≤ length 
           put-none (place t at a) (at + length a) y (omega (arith, place-length t at a h)) (omega (arith, place-length t at a h))
           ∙ sym (put-none t at (join (whole a) y) (omega arith) (omega (arith, same)))
 
-pub put-join : (t : List ℕ) (at : ℕ) (x y : Text) (n : ℕ) (t′ : List ℕ) (r : ℕ) (u : List ℕ) → putOut n t′ ≡ putText t at x → putOut r u ≡ putText t′ n y → putOut r u ≡ putText t at (join x y)
+-- what comes after x, from where x ended, is x and that
+pub join-on : (t : List ℕ) (at : ℕ) (x y : Text) (n : ℕ) (t′ : List ℕ) → putOut n t′ ≡ putText t at x → putText t′ n y ≡ putText t at (join x y)
 unfolding join bytes
-put-join t at (cut a c) y n t′ r u e₁ e₂ = e₂ ∙ ⊎-elim out inside (le-or-lt at (length t))
+join-on t at (cut a c) y n t′ e₁ = ⊎-elim out inside (le-or-lt at (length t))
   where
     keep : (k : ℕ) → putText t at (cut a c) ≡ stopped k → putText t′ n y ≡ putText t at (cut a c)
     keep k q = stays t′ n k y (e₁ ∙ q) ∙ sym q
@@ -131,7 +132,7 @@ put-join t at (cut a c) y n t′ r u e₁ e₂ = e₂ ∙ ⊎-elim out inside (l
 
     inside : length t < at → putText t′ n y ≡ putText t at (cut a c)
     inside l = keep _ (put-past t at (cut a c) l)
-put-join t at (whole a) y n t′ r u e₁ e₂ = e₂ ∙ ⊎-elim in-text past (le-or-lt at (length t))
+join-on t at (whole a) y n t′ e₁ = ⊎-elim in-text past (le-or-lt at (length t))
   where
     keep : (k : ℕ) → putText t at (whole a) ≡ stopped k → putText t at (join (whole a) y) ≡ stopped k → putText t′ n y ≡ putText t at (join (whole a) y)
     keep k q p = stays t′ n k y (e₁ ∙ q) ∙ sym p
@@ -149,6 +150,9 @@ put-join t at (whole a) y n t′ r u e₁ e₂ = e₂ ∙ ⊎-elim in-text past 
 
         over : length t < at + length a → putText t′ n y ≡ putText t at (join (whole a) y)
         over m = keep 17 (put-none t at (whole a) l m) (put-none t at (join (whole a) y) l (omega (arith, ap length (bytes-join a y) ∙ length-append a (bytes y))))
+
+pub put-join : (t : List ℕ) (at : ℕ) (x y : Text) (n : ℕ) (t′ : List ℕ) (r : ℕ) (u : List ℕ) → putOut n t′ ≡ putText t at x → putOut r u ≡ putText t′ n y → putOut r u ≡ putText t at (join x y)
+put-join t at x y n t′ r u e₁ e₂ = e₂ ∙ join-on t at x y n t′ e₁
 
 -- the same, of two texts with no refusal
 pub put-seq : (t : List ℕ) (at : ℕ) (a b : List ℕ) (n : ℕ) (t′ : List ℕ) (r : ℕ) (u : List ℕ) → putOut n t′ ≡ putText t at (whole a) → putOut r u ≡ putText t′ n (whole b) → putOut r u ≡ putText t at (whole (a ++ b))
@@ -255,3 +259,19 @@ take-replicate n m b =
 pub pfx-is : (lvl : ℕ) → take lvl (replicate 12 9) ≡ pfx lvl
 unfolding pfx
 pfx-is lvl = take-replicate lvl 12 9
+
+pub pfx-one : (lvl : ℕ) → lvl ≡ 1 → 9 ∷ [] ≡ pfx lvl
+unfolding pfx
+pfx-one lvl e = rw e refl
+
+-- a text that ends in a refusal is stopped wherever it is put
+pub cut-stops : (t : List ℕ) (at : ℕ) (a : List ℕ) (c : ℕ) → isStopped (putText t at (cut a c)) ≡ true
+unfolding isStopped bytes
+cut-stops t at a c = ⊎-elim inside (λ l. ap isStopped (put-past t at (cut a c) l)) (le-or-lt at (length t))
+  where
+    inside : at ≤ length t → isStopped (putText t at (cut a c)) ≡ true
+    inside l =
+        ⊎-elim
+        (λ m. ap isStopped (put-fits t at (cut a c) m ∙ cut-is t at a c))
+        (λ m. ap isStopped (put-none t at (cut a c) l m))
+        (le-or-lt (at + length a) (length t))

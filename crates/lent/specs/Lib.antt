@@ -1,3 +1,4 @@
 pub mod Words
 pub mod Text
 pub mod Decimal
+pub mod Three

@@ -40,3 +40,7 @@ table f k (suc n) = f k ∷ table f (suc k) n
 -- all the whole words
 unfoldable pub words : List ℕ → List ℕ
 words b = table (getWord b) 0 (length b / 4)
+
+-- one more, and no more than a word holds
+unfoldable pub oneMore : ℕ → ℕ
+oneMore n = pick (ltb n 4294967295) (n + 1) n

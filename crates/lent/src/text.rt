@@ -66,9 +66,12 @@ fn put_first(text: &mut [u8], at: usize, src: &[u8], n: usize) -> usize
     }
 }
 
-// pfx: a tab for each level, at most 12.
+// pfx: a tab for each level, at most 12. (Most lines stand at level 1.)
 pub fn put_tabs(text: &mut [u8], at: usize, lvl: u32) -> usize
     ensures { λ r. ⌜ putOut r (now (text .exit)) ≡ putText (now (text .entry)) at (whole (pfx lvl)) ⌝ }
 {
+    if lvl == 1 {
+        return put_byte(text, at, b'\t');
+    }
     put_first(text, at, b"\t\t\t\t\t\t\t\t\t\t\t\t", lvl as usize)
 }

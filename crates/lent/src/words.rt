@@ -1,8 +1,9 @@
 // A byte slice used as 32-bit little-endian words: word i is the bytes 4i to 4i + 3.
 ghost use mathlib.Core.Path.{_≡_};
-ghost use Prim.Native.Nat.{_+_, _*_};
+ghost use Prim.Native.Nat.{_+_, _*_, _<_};
 ghost use lib.ListN.{length, replicate};
 ghost use Rattle.lent.specs.Words.{getWord, putWord, wordAt};
+ghost use Rattle.lent.specs.Three.{threeAt};
 
 // The number whose bytes, lowest first, are a, b, c and d.
 fn join(a: u8, b: u8, c: u8, d: u8) -> u32
@@ -55,8 +56,10 @@ pub struct Three {
     pub third: u32,
 }
 
-// The three words whose bytes start at `at`, or zeros where they do not all lie inside.
-pub fn three_at(b: &[u8], at: usize) -> Three {
+// The three words whose bytes start at `at`, `at + 4` and `at + 8`: all at once where they lie inside, else each by itself.
+pub fn three_at(b: &[u8], at: usize) -> Three
+    ensures { λ r. ⌜ r ≡ threeAt (now (b .entry)) at ⌝ }
+{
     if at < b.len() {
         if 11 < b.len() - at {
             return Three {
@@ -65,11 +68,24 @@ pub fn three_at(b: &[u8], at: usize) -> Three {
                 third: join(b[at + 8], b[at + 9], b[at + 10], b[at + 11]),
             };
         }
+        return three_apart(b, at);
     }
     Three {
         first: 0,
         second: 0,
         third: 0,
+    }
+}
+
+// The same, each by itself. (A slice has fewer bytes than 2^63, so the places past `at` do not wrap.)
+fn three_apart(b: &[u8], at: usize) -> Three
+    requires { ⌜ at < length (now b) ⌝ }
+    ensures { λ r. ⌜ r ≡ threeAt (now (b .entry)) at ⌝ }
+{
+    Three {
+        first: word_at(b, at),
+        second: word_at(b, at + 4),
+        third: word_at(b, at + 8),
     }
 }
 

@@ -8,6 +8,11 @@ use btf::kind_of;
 use btf::put_escaped;
 use btf::type_by_id;
 use lent::put_bytes;
+ghost use mathlib.Core.Path.{_≡_};
+ghost use Rattle.lent.specs.Text.{whole, putOut, putText};
+ghost use Rattle.rules.specs.Decl.{attribute, declTag, declTags};
+ghost use Rattle.btf.specs.Names.{strAt};
+ghost use Rattle.btf.specs.Table.{btfOf};
 
 // What a tag prints: its name as an attribute of its own, or in the attribute `word`.
 pub fn put_attribute(
@@ -18,7 +23,9 @@ pub fn put_attribute(
     is_attr: bool,
     word: &[u8],
     name_off: u32,
-) -> usize {
+) -> usize
+    ensures { λ r. ⌜ putOut r (now (text .exit)) ≡ putText (now (text .entry)) at (whole (attribute «is_attr» (now (word .entry)) (strAt b (now (section .entry)) «name_off»))) ⌝ }
+{
     let a = put_bytes(text, at, b" __attribute__((");
     let name = get_btf_str(b, section, name_off);
     if is_attr {
@@ -40,7 +47,9 @@ fn emit_decl_tag(
     at: usize,
     id: u32,
     comp_idx: u32,
-) -> usize {
+) -> usize
+    ensures { λ r. ⌜ putOut r (now (text .exit)) ≡ putText (now (text .entry)) at (whole (declTag «comp_idx» (btfOf b (now (section .entry)) (now (work .entry)) .type-by-id id))) ⌝ }
+{
     let t = type_by_id(b, section, work, id);
     if kind_of(t.info) != 17 {
         return at;
@@ -60,7 +69,7 @@ fn emit_decl_tag(
 }
 
 // The tags of a type, those of the whole (4294967295, which is -1) or of one member, in the order of their ids. The list
-// of a type's tags rises; what does not rise was not left by opening, and ends it.
+// of a type's tags rises; what does not rise, or is no id of a type, was not left by opening, and ends it.
 pub fn emit_decl_tags(
     b: Btf,
     section: &[u8],
@@ -69,11 +78,16 @@ pub fn emit_decl_tags(
     at: usize,
     id: u32,
     comp_idx: u32,
-) -> usize {
+) -> usize
+    ensures { λ r. ⌜ putOut r (now (text .exit)) ≡ putText (now (text .entry)) at (whole (declTags (btfOf b (now (section .entry)) (now (work .entry))) «comp_idx» (btfOf b (now (section .entry)) (now (work .entry)) .decl-tags id))) ⌝ }
+{
     let mut p = at;
     let mut last: u32 = 0;
     let mut tag = get_field(work, id, 9);
     while last < tag {
+        if b.types <= tag {
+            return p;
+        }
         p = emit_decl_tag(b, section, work, text, p, tag, comp_idx);
         last = tag;
         tag = get_field(work, tag, 10);

@@ -5,8 +5,18 @@ use btf::Btf;
 use btf::is_builtin;
 use lent::put_byte;
 use lent::put_bytes;
+ghost use mathlib.Core.Path.{_≡_};
+ghost use mathlib.Core.List.{[]};
+ghost use Rattle.lent.specs.Text.{whole, putOut, putText};
+ghost use Rattle.rules.specs.Place.{outOf, putSaid};
+ghost use Rattle.rules.specs.Decl.{keyword, emitCompositeFwd, emitFwdDef};
+ghost use Rattle.btf.specs.Names.{strAt};
+ghost use Rattle.btf.specs.Table.{btfOf, workNaming};
 
-pub fn put_keyword(b: Btf, text: &mut [u8], at: usize, is_struct: bool) -> usize {
+// It is a matter of the settings alone, so any section and any work will do for the table.
+pub fn put_keyword(b: Btf, text: &mut [u8], at: usize, is_struct: bool) -> usize
+    ensures { λ r. ⌜ putOut r (now (text .exit)) ≡ putText (now (text .entry)) at (whole (keyword (btfOf b [] []) «is_struct»)) ⌝ }
+{
     if is_struct {
         return put_bytes(text, at, b"struct");
     }
@@ -26,7 +36,9 @@ pub fn emit_composite_fwd(
     id: u32,
     is_struct: bool,
     name_off: u32,
-) -> usize {
+) -> usize
+    ensures { λ r. ⌜ outOf r (now (text .exit)) (now (work .exit)) ≡ putSaid (now (text .entry)) at (emitCompositeFwd (workNaming b) (btfOf b (now (section .entry)) (now (work .entry))) id «is_struct» (strAt b (now (section .entry)) «name_off») (now (work .entry))) ⌝ }
+{
     if is_builtin(b, section, name_off) {
         return at;
     }
@@ -45,6 +57,8 @@ pub fn emit_fwd_def(
     id: u32,
     is_union: bool,
     name_off: u32,
-) -> usize {
+) -> usize
+    ensures { λ r. ⌜ outOf r (now (text .exit)) (now (work .exit)) ≡ putSaid (now (text .entry)) at (emitFwdDef (workNaming b) (btfOf b (now (section .entry)) (now (work .entry))) id «is_union» (strAt b (now (section .entry)) «name_off») (now (work .entry))) ⌝ }
+{
     emit_composite_fwd(b, section, work, text, at, id, !is_union, name_off)
 }

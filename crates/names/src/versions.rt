@@ -8,6 +8,15 @@ use btf::put_str;
 use lent::put_byte;
 use lent::put_bytes;
 use lent::put_decimal;
+ghost use mathlib.Core.Path.{_≡_};
+ghost use Rattle.lent.specs.Text.{whole, putOut, putText};
+ghost use Rattle.rules.specs.Writer.{put};
+ghost use Rattle.rules.specs.Types.{isEmpty};
+ghost use Rattle.rules.specs.Names.{tagSpace, resolveTypeName};
+ghost use Rattle.rules.specs.Decl.{sepName};
+ghost use Rattle.btf.specs.Names.{strAt};
+ghost use Rattle.btf.specs.Table.{workNaming, valueVersionIn};
+ghost use Rattle.names.specs.Spelling.{nameText, nameAfter};
 
 // A name by its offset in the string area, and which of its holders prints it.
 pub struct Name {
@@ -16,7 +25,9 @@ pub struct Name {
 }
 
 // A member's or a parameter's name, which has no version.
-pub fn bare(off: u32) -> Name {
+pub fn bare(off: u32) -> Name
+    ensures { λ r. ⌜ r ≡ record { off = off; version = 0 } ⌝ }
+{
     Name {
         off: off,
         version: 0,
@@ -24,7 +35,9 @@ pub fn bare(off: u32) -> Name {
 }
 
 // The name of type id, which it keeps; it counts as a holder when it is first asked for.
-pub fn resolve_type_name(b: Btf, section: &[u8], work: &mut [u8], id: u32, off: u32) -> Name {
+pub fn resolve_type_name(b: Btf, section: &[u8], work: &mut [u8], id: u32, off: u32) -> Name
+    ensures { λ r. ⌜ (r .off ≡ off) × (put (nameText b (now (section .entry)) r) (now (work .exit)) ≡ resolveTypeName (workNaming b) tagSpace id (strAt b (now (section .entry)) off) put (now (work .entry))) ⌝ }
+{
     if is_empty(b, section, off) {
         return bare(off);
     }
@@ -44,7 +57,9 @@ pub fn resolve_type_name(b: Btf, section: &[u8], work: &mut [u8], id: u32, off: 
 }
 
 // The name of enumerator e, counted over all enums: each time it is printed it is one more holder.
-pub fn resolve_name(b: Btf, work: &mut [u8], e: u32, off: u32) -> Name {
+pub fn resolve_name(b: Btf, work: &mut [u8], e: u32, off: u32) -> Name
+    ensures { λ r. ⌜ (r .off ≡ off) × (r .version ≡ valueVersionIn (b .types) e (now (work .entry)) .version) × (now (work .exit) ≡ valueVersionIn (b .types) e (now (work .entry)) .names) ⌝ }
+{
     let h = (b.types as u64) + (e as u64);
     if h < 4294967296 {
         return Name {
@@ -55,7 +70,9 @@ pub fn resolve_name(b: Btf, work: &mut [u8], e: u32, off: u32) -> Name {
     bare(off)
 }
 
-pub fn put_name(b: Btf, section: &[u8], text: &mut [u8], at: usize, name: Name) -> usize {
+pub fn put_name(b: Btf, section: &[u8], text: &mut [u8], at: usize, name: Name) -> usize
+    ensures { λ r. ⌜ putOut r (now (text .exit)) ≡ putText (now (text .entry)) at (whole (nameText b (now (section .entry)) name)) ⌝ }
+{
     let a = put_str(b, section, text, at, name.off);
     if name.version < 2 {
         return a;
@@ -64,9 +81,21 @@ pub fn put_name(b: Btf, section: &[u8], text: &mut [u8], at: usize, name: Name) 
     put_decimal(text, c, name.version as u64)
 }
 
+// Whether nothing is printed for a name.
+pub fn is_blank(b: Btf, section: &[u8], name: Name) -> bool
+    ensures { λ r. ⌜ r ≡ isEmpty (nameText b (now (section .entry)) name) ⌝ }
+{
+    if name.version < 2 {
+        return is_empty(b, section, name.off);
+    }
+    false
+}
+
 // sep and the name: a space before it, unless it is empty.
-pub fn put_sep_name(b: Btf, section: &[u8], text: &mut [u8], at: usize, name: Name) -> usize {
-    if is_empty(b, section, name.off) {
+pub fn put_sep_name(b: Btf, section: &[u8], text: &mut [u8], at: usize, name: Name) -> usize
+    ensures { λ r. ⌜ putOut r (now (text .exit)) ≡ putText (now (text .entry)) at (whole (sepName (nameText b (now (section .entry)) name))) ⌝ }
+{
+    if is_blank(b, section, name) {
         return at;
     }
     let a = put_byte(text, at, b' ');
@@ -80,7 +109,9 @@ pub fn emit_name(
     at: usize,
     name: Name,
     last_was_ptr: bool,
-) -> usize {
+) -> usize
+    ensures { λ r. ⌜ putOut r (now (text .exit)) ≡ putText (now (text .entry)) at (whole (nameAfter (nameText b (now (section .entry)) name) «last_was_ptr»)) ⌝ }
+{
     if last_was_ptr {
         return put_name(b, section, text, at, name);
     }

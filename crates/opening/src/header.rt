@@ -1,5 +1,10 @@
 // The header, and causes 3 and 4.
 use lent::word_at;
+ghost use mathlib.Core.Path.{_≡_};
+ghost use mathlib.Core.Bool.{not};
+ghost use Prim.Native.Nat.{_+_};
+ghost use Rattle.records.specs.Section.{headerSound, stringsSound};
+ghost use Rattle.opening.specs.Header.{headerOf, isMagic, larger, largestFrom, badStrings};
 
 // struct btf_header from hdr_len on; offsets count from the header's end.
 pub struct Header {
@@ -10,7 +15,9 @@ pub struct Header {
     pub str_len: u32,
 }
 
-pub fn btf_header(section: &[u8]) -> Header {
+pub fn btf_header(section: &[u8]) -> Header
+    ensures { λ r. ⌜ r ≡ headerOf (now (section .entry)) ⌝ }
+{
     Header {
         hdr_len: word_at(section, 4),
         type_off: word_at(section, 8),
@@ -21,11 +28,15 @@ pub fn btf_header(section: &[u8]) -> Header {
 }
 
 // The end of an area.
-fn area_end(h: Header, off: u32, len: u32) -> u64 {
+fn area_end(h: Header, off: u32, len: u32) -> u64
+    ensures { λ r. ⌜ r ≡ h .«hdr_len» + off + len ⌝ }
+{
     (h.hdr_len as u64) + (off as u64) + (len as u64)
 }
 
-fn is_magic(section: &[u8]) -> bool {
+fn is_magic(section: &[u8]) -> bool
+    ensures { λ r. ⌜ r ≡ isMagic (now (section .entry)) ⌝ }
+{
     if section.len() < 24 {
         return false;
     }
@@ -39,7 +50,9 @@ fn is_magic(section: &[u8]) -> bool {
 }
 
 // Cause 3: too short, magic, version, header length, or an area past the end.
-pub fn has_bad_header(section: &[u8]) -> bool {
+pub fn has_bad_header(section: &[u8]) -> bool
+    ensures { λ r. ⌜ r ≡ not (headerSound (now (section .entry))) ⌝ }
+{
     if !is_magic(section) {
         return true;
     }
@@ -54,12 +67,16 @@ pub fn has_bad_header(section: &[u8]) -> bool {
     len < area_end(h, h.str_off, h.str_len)
 }
 
-fn larger(x: u8, y: u8) -> u8 {
+fn larger(x: u8, y: u8) -> u8
+    ensures { λ r. ⌜ r ≡ larger x y ⌝ }
+{
     if x < y { y } else { x }
 }
 
 // The largest byte. (With no way out of the loop, it takes many bytes at a time.)
-fn largest(s: &[u8]) -> u8 {
+fn largest(s: &[u8]) -> u8
+    ensures { λ r. ⌜ r ≡ largestFrom 0 (now (s .entry)) ⌝ }
+{
     let mut m: u8 = 0;
     let mut i = 0;
     while i < s.len() {
@@ -70,7 +87,9 @@ fn largest(s: &[u8]) -> u8 {
 }
 
 // Whether a string area is empty, does not start or end in 0, or has a byte over 127.
-fn is_bad_area(strs: &[u8]) -> bool {
+fn is_bad_area(strs: &[u8]) -> bool
+    ensures { λ r. ⌜ r ≡ not (stringsSound (now (strs .entry))) ⌝ }
+{
     if strs.len() == 0 {
         return true;
     }
@@ -84,7 +103,9 @@ fn is_bad_area(strs: &[u8]) -> bool {
 }
 
 // Cause 4.
-pub fn has_bad_strings(section: &[u8]) -> bool {
+pub fn has_bad_strings(section: &[u8]) -> bool
+    ensures { λ r. ⌜ r ≡ badStrings (now (section .entry)) ⌝ }
+{
     let h = btf_header(section);
     let from = (h.hdr_len as usize) + (h.str_off as usize);
     let to = from + (h.str_len as usize);

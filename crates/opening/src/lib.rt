@@ -1,7 +1,7 @@
 // Opening a section: causes 1 to 9, and what success leaves.
+mod area;
 mod fill;
 mod header;
-mod records;
 
 use btf::Btf;
 use followed::has_bad_reference;
@@ -12,6 +12,15 @@ use header::btf_header;
 use header::has_bad_header;
 use header::has_bad_strings;
 use lent::clear;
+ghost use mathlib.Core.Path.{_≡_};
+ghost use mathlib.Core.Bool.{not};
+ghost use Prim.Native.Nat.{_+_, _*_};
+ghost use lib.Dec.{ltb, eqb};
+ghost use Rattle.lent.specs.Words.{pick};
+ghost use Rattle.opening.specs.Header.{btfOf};
+ghost use Rattle.opening.specs.Causes.{cause1, firstOf, early, late, fromSix};
+ghost use Rattle.opening.specs.Table.{emptyIndex};
+ghost use Rattle.opening.specs.Opened.{openOut, openingOf, examineOut, examined};
 
 // The refusal, or the count of types, void counted, and of enumerators.
 pub enum Opening {
@@ -19,20 +28,54 @@ pub enum Opening {
     Sound(u32, u32),
 }
 
+// 4, or else 8.
+fn size_of_pointer(pointer_size: u32) -> u32
+    ensures { λ r. ⌜ r ≡ pick (eqb «pointer_size» 4) 4 8 ⌝ }
+{
+    if pointer_size == 4 {
+        return 4;
+    }
+    8
+}
+
+// No table has more types.
+fn count_of_types(types: u32) -> u32
+    ensures { λ r. ⌜ r ≡ pick (ltb types 262145) types 262145 ⌝ }
+{
+    if types < 262145 {
+        return types;
+    }
+    262145
+}
+
+// Where the string area starts; past 32 bits there is none.
+fn strings_at(h: Header) -> u32
+    ensures { λ r. ⌜ r ≡ pick (ltb (h .«hdr_len» + h .«str_off») 4294967296) (h .«hdr_len» + h .«str_off») 4294967295 ⌝ }
+{
+    let at = (h.hdr_len as u64) + (h.str_off as u64);
+    if at < 4294967296 {
+        return at as u32;
+    }
+    4294967295
+}
+
 // What the types of a table need of its header and settings.
-pub fn btf_of(section: &[u8], pointer_size: u32, modes: u32, types: u32) -> Btf {
+pub fn btf_of(section: &[u8], pointer_size: u32, modes: u32, types: u32) -> Btf
+    ensures { λ r. ⌜ r ≡ btfOf (now (section .entry)) «pointer_size» modes types ⌝ }
+{
     let h = btf_header(section);
     Btf {
-        ptr_sz: if pointer_size == 4 { 4 } else { 8 },
+        ptr_sz: size_of_pointer(pointer_size),
         union_as_struct: modes % 2 == 1,
-        types: if types < 262145 { types } else { 262145 },
-        hdr_len: h.hdr_len,
-        str_off: h.str_off,
+        types: count_of_types(types),
+        strs: strings_at(h),
     }
 }
 
 // Causes 6, 7 and 8, or 0.
-fn reference_cause(b: Btf, section: &[u8], start: &[u32]) -> u32 {
+fn reference_cause(b: Btf, section: &[u8], start: &[u32]) -> u32
+    ensures { λ r. ⌜ r ≡ fromSix (firstOf (late b (now (section .entry)) (now (start .entry)))) ⌝ }
+{
     if has_bad_reference(b, section, start) {
         return 6;
     }
@@ -45,12 +88,22 @@ fn reference_cause(b: Btf, section: &[u8], start: &[u32]) -> u32 {
     0
 }
 
+// Whether cause 1 does not hold.
+fn is_pointer_size(pointer_size: u32) -> bool
+    ensures { λ r. ⌜ r ≡ not (cause1 «pointer_size») ⌝ }
+{
+    if pointer_size == 4 {
+        return true;
+    }
+    pointer_size == 8
+}
+
 // Causes 1 to 4, or 0.
-fn header_cause(section: &[u8], pointer_size: u32) -> u32 {
-    if pointer_size != 4 {
-        if pointer_size != 8 {
-            return 1;
-        }
+fn header_cause(section: &[u8], pointer_size: u32) -> u32
+    ensures { λ r. ⌜ r ≡ firstOf (early «pointer_size» (now (section .entry))) ⌝ }
+{
+    if !is_pointer_size(pointer_size) {
+        return 1;
     }
     if 16777216 < section.len() {
         return 2;
@@ -65,17 +118,22 @@ fn header_cause(section: &[u8], pointer_size: u32) -> u32 {
 }
 
 // The bytes of work that a table needs.
-fn work_size(types: u32, enumerators: u32) -> u64 {
+fn work_size(types: u32, enumerators: u32) -> u64
+    ensures { λ r. ⌜ r ≡ 4 * (16 * types + 8 * enumerators + 4096) ⌝ }
+{
     4 * (16 * (types as u64) + 8 * (enumerators as u64) + 4096)
 }
 
 // The causes in their order; on success `start` is the index of the records.
-fn examine(section: &[u8], pointer_size: u32, work_len: usize, start: &mut [u32]) -> Opening {
+fn examine(section: &[u8], pointer_size: u32, work_len: usize, start: &mut [u32]) -> Opening
+    requires { ⌜ now start ≡ emptyIndex ⌝ }
+    ensures { λ r. ⌜ examineOut r (now (start .exit)) ≡ examined «pointer_size» (now (section .entry)) «work_len» ⌝ }
+{
     let c = header_cause(section, pointer_size);
     if c != 0 {
         return Opening::Refused(c);
     }
-    let r = records::scan(btf_of(section, pointer_size, 0, 0), section, start);
+    let r = area::scan(btf_of(section, pointer_size, 0, 0), section, start);
     if !r.is_sound {
         return Opening::Refused(5);
     }
@@ -96,7 +154,9 @@ pub fn open(
     modes: u32,
     work: &mut [u8],
     text: &mut [u8],
-) -> Opening {
+) -> Opening
+    ensures { λ r. ⌜ openOut r (now (work .exit)) (now (text .exit)) ≡ openingOf «pointer_size» modes (now (section .entry)) (now (work .entry)) (now (text .entry)) ⌝ }
+{
     let mut start = [0u32; 262145];
     match examine(section, pointer_size, work.len(), &mut start) {
         Opening::Refused(c) => Opening::Refused(c),

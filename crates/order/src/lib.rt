@@ -11,6 +11,13 @@ use btf::param_place;
 use btf::put_field;
 use btf::type_by_id;
 use btf::word;
+ghost use mathlib.Core.Path.{_≡_};
+ghost use mathlib.Core.Bool.{false};
+ghost use Rattle.rules.specs.Order.{ok, bind, each, finish as finishOf, order};
+ghost use Rattle.btf.specs.Cells.{getField, putField};
+ghost use Rattle.lent.specs.Words.{oneMore};
+ghost use Rattle.btf.specs.Nodes.{memberIds, paramIds};
+ghost use Rattle.order.specs.Work.{workStore, tableIn, orderOut, strongOf, refusedBy, meetIn, aliasIn, wayIn, enterIn, freshIn};
 
 // What ordering has come to: whether the last way was strong, the length of the order list, and the refusal that stopped
 // it, 0 while there is none.
@@ -20,30 +27,42 @@ pub struct Order {
     pub stop: u32,
 }
 
-pub fn get_order_state(work: &[u8], id: u32) -> u32 {
+pub fn get_order_state(work: &[u8], id: u32) -> u32
+    ensures { λ r. ⌜ r ≡ getField (now (work .entry)) id 1 ⌝ }
+{
     get_field(work, id, 1)
 }
 
-fn set_order_state(work: &mut [u8], id: u32, state: u32) {
+fn set_order_state(work: &mut [u8], id: u32, state: u32)
+    ensures { λ _. ⌜ now (work .exit) ≡ putField (now (work .entry)) id 1 state ⌝ }
+{
     put_field(work, id, 1, state)
 }
 
 // The id at a place of the order list.
-pub fn get_listed(work: &[u8], k: u32) -> u32 {
+pub fn get_listed(work: &[u8], k: u32) -> u32
+    ensures { λ r. ⌜ r ≡ getField (now (work .entry)) k 11 ⌝ }
+{
     get_field(work, k, 11)
 }
 
 // Empties a place of the order list.
-pub fn clear_listed(work: &mut [u8], k: u32) {
+pub fn clear_listed(work: &mut [u8], k: u32)
+    ensures { λ _. ⌜ now (work .exit) ≡ putField (now (work .entry)) k 11 0 ⌝ }
+{
     put_field(work, k, 11, 0)
 }
 
 // One more, unless it is the largest.
-fn more(n: u32) -> u32 {
+fn more(n: u32) -> u32
+    ensures { λ r. ⌜ r ≡ oneMore n ⌝ }
+{
     if n < 4294967295 { n + 1 } else { n }
 }
 
-fn strong(o: Order, is_strong: bool) -> Order {
+fn strong(o: Order, is_strong: bool) -> Order
+    ensures { λ r. ⌜ r ≡ strongOf o «is_strong» ⌝ }
+{
     Order {
         is_strong: is_strong,
         len: o.len,
@@ -51,7 +70,9 @@ fn strong(o: Order, is_strong: bool) -> Order {
     }
 }
 
-fn refused(o: Order, c: u32) -> Order {
+fn refused(o: Order, c: u32) -> Order
+    ensures { λ r. ⌜ r ≡ refusedBy o c ⌝ }
+{
     Order {
         is_strong: false,
         len: o.len,
@@ -60,7 +81,9 @@ fn refused(o: Order, c: u32) -> Order {
 }
 
 // Puts an id at the end of the order list.
-fn push(work: &mut [u8], o: Order, id: u32) -> Order {
+fn push(work: &mut [u8], o: Order, id: u32) -> Order
+    ensures { λ r. ⌜ orderOut r (now (work .exit)) ≡ bind (orderOut o (now (work .entry))) (λ m b. ok (workStore .push id m) b) ⌝ }
+{
     put_field(work, o.len, 11, id);
     Order {
         is_strong: o.is_strong,
@@ -70,48 +93,52 @@ fn push(work: &mut [u8], o: Order, id: u32) -> Order {
 }
 
 // The id is ordered, and listed if `lists` says so.
-fn finish(work: &mut [u8], o: Order, id: u32, lists: bool, is_strong: bool) -> Order {
+fn finish(work: &mut [u8], o: Order, id: u32, lists: bool, is_strong: bool) -> Order
+    ensures { λ r. ⌜ orderOut r (now (work .exit)) ≡ bind (orderOut o (now (work .entry))) (λ m _. ok (finishOf workStore lists id m) «is_strong») ⌝ }
+{
     if o.stop != 0 {
         return o;
     }
-    set_order_state(work, id, 2);
     if lists {
-        return strong(push(work, o, id), is_strong);
+        let p = push(work, o, id);
+        set_order_state(work, id, 2);
+        return strong(p, is_strong);
     }
+    set_order_state(work, id, 2);
     strong(o, is_strong)
 }
 
 // The typedef id, after its target. It may have been listed on the way to its target: then it is not listed again, since
 // a second listing prints nothing.
-fn finish_typedef(work: &mut [u8], o: Order, id: u32, has_ptr: bool) -> Order {
+fn finish_typedef(work: &mut [u8], o: Order, id: u32, has_ptr: bool) -> Order
+    ensures { λ r. ⌜ orderOut r (now (work .exit)) ≡ bind (orderOut o (now (work .entry))) (λ m strong. aliasIn m id «has_ptr» strong) ⌝ }
+{
     if o.stop != 0 {
         return o;
     }
-    if has_ptr {
-        if !o.is_strong {
-            return o;
-        }
+    if !(!has_ptr | o.is_strong) {
+        return strong(o, false);
     }
     let was_ordered = get_order_state(work, id) == 2;
     finish(work, o, id, !was_ordered, true)
 }
 
 // An id in progress: a named composite behind a pointer is passed over, anything else is a cycle.
-fn meet(b: Btf, section: &[u8], work: &[u8], o: Order, id: u32, has_ptr: bool) -> Order {
-    if has_ptr {
-        let t = type_by_id(b, section, work, id);
-        if is_named(b, section, t) {
-            match kind_of(t.info) {
-                4 | 5 => {
-                    return strong(o, false);
-                }
-                _ => {
-                    return refused(o, 13);
-                }
-            }
-        }
+fn meet(b: Btf, section: &[u8], work: &[u8], o: Order, id: u32, has_ptr: bool) -> Order
+    requires { ⌜ o .stop ≡ 0 ⌝ }
+    ensures { λ r. ⌜ orderOut r (now (work .entry)) ≡ bind (orderOut o (now (work .entry))) (λ m _. meetIn (tableIn b (now (section .entry)) (now (work .entry))) m id «has_ptr») ⌝ }
+{
+    if !has_ptr {
+        return refused(o, 13);
     }
-    refused(o, 13)
+    let t = type_by_id(b, section, work, id);
+    if !is_named(b, section, t) {
+        return refused(o, 13);
+    }
+    match kind_of(t.info) {
+        4 | 5 => strong(o, false),
+        _ => refused(o, 13),
+    }
 }
 
 pub fn order_type(
@@ -122,7 +149,9 @@ pub fn order_type(
     id: u32,
     has_ptr: bool,
     left: u32,
-) -> Order {
+) -> Order
+    ensures { λ r. ⌜ orderOut r (now (work .exit)) ≡ bind (orderOut o (now (work .entry))) (λ m _. order workStore left (tableIn b (now (section .entry)) (now (work .entry))) m id «has_ptr») ⌝ }
+{
     if o.stop != 0 {
         return o;
     }
@@ -148,7 +177,9 @@ fn order_new(
     id: u32,
     has_ptr: bool,
     left: u32,
-) -> Order {
+) -> Order
+    ensures { λ r. ⌜ orderOut r (now (work .exit)) ≡ bind (orderOut o (now (work .entry))) (λ m _. freshIn (tableIn b (now (section .entry)) (now (work .entry))) left m id «has_ptr») ⌝ }
+{
     let t = type_by_id(b, section, work, id);
     match node_of(b, section, t) {
         Node::Ignored => strong(o, false),
@@ -188,11 +219,11 @@ fn order_composite(
     has_ptr: bool,
     members: Entries,
     left: u32,
-) -> Order {
-    if has_ptr {
-        if named {
-            return strong(o, false);
-        }
+) -> Order
+    ensures { λ r. ⌜ orderOut r (now (work .exit)) ≡ bind (orderOut o (now (work .entry))) (λ m _. enterIn (tableIn b (now (section .entry)) (now (work .entry))) left m id «has_ptr» named (memberIds b (now (section .entry)) members)) ⌝ }
+{
+    if has_ptr & named {
+        return strong(o, false);
     }
     set_order_state(work, id, 1);
     let r = order_members(b, section, work, o, members, left);
@@ -208,7 +239,9 @@ fn order_params(
     params: Entries,
     has_ptr: bool,
     left: u32,
-) -> Order {
+) -> Order
+    ensures { λ r. ⌜ orderOut r (now (work .exit)) ≡ bind (orderOut o (now (work .entry))) (λ m strong. each (wayIn (tableIn b (now (section .entry)) (now (work .entry))) left «has_ptr») (paramIds b (now (section .entry)) params) m strong) ⌝ }
+{
     let vlen = params.vlen;
     let mut r = o;
     let mut k: u32 = 0;
@@ -222,6 +255,7 @@ fn order_params(
     r
 }
 
+// The members of a composite, each a strong way.
 fn order_members(
     b: Btf,
     section: &[u8],
@@ -229,13 +263,17 @@ fn order_members(
     o: Order,
     members: Entries,
     left: u32,
-) -> Order {
+) -> Order
+    ensures { λ r. ⌜ orderOut r (now (work .exit)) ≡ bind (orderOut o (now (work .entry))) (λ m strong. each (wayIn (tableIn b (now (section .entry)) (now (work .entry))) left false) (memberIds b (now (section .entry)) members) m strong) ⌝ }
+{
     let vlen = members.vlen;
     let mut r = o;
     let mut k: u32 = 0;
     while k < vlen {
+        let before = r.is_strong;
         let t = word(b, section, member_place(members, k) + 4);
-        r = order_type(b, section, work, r, t, false, left);
+        let p = order_type(b, section, work, r, t, false, left);
+        r = strong(p, before | p.is_strong);
         k += 1;
     }
     r

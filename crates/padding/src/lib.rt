@@ -10,7 +10,14 @@ use lent::put_decimal;
 use lent::put_tabs;
 use lent::stop;
 use lent::stopped;
-ghost use Prim.Native.Nat.{_≤_, _<_};
+ghost use mathlib.Core.Path.{_≡_};
+ghost use Prim.Native.Nat.{_*_};
+ghost use Rattle.lent.specs.Text.{whole, putOut, putText};
+ghost use Rattle.rules.specs.Layout.{smaller, padOf, padsOf, gapPads, bitPadding};
+ghost use Rattle.rules.specs.Decl.{unitWord, pads};
+ghost use Rattle.btf.specs.Table.{btfOf, ruleMember};
+ghost use Rattle.layout.specs.Answers.{askOf};
+ghost use Rattle.padding.specs.Texts.{unitOf, padIs, padLine, gapAlign, padText};
 
 // A pad: its unit (3 long, 2 int, 1 short, 0 char) and its width in bits.
 struct Pad {
@@ -18,16 +25,21 @@ struct Pad {
     width: u32,
 }
 
-// The next pad of a gap: the widest unit that the gap passes; the odd part of the gap comes first.
-fn pad_of(ptr_sz: u32, gap: u32) -> Pad {
-    if 4 < ptr_sz {
-        if 32 < gap {
-            return Pad {
-                unit: 3,
-                width: chip_away_bits(gap, 64),
-            };
-        }
+// The bits of a pointer, or the largest number.
+fn ptr_bits(ptr_sz: u32) -> u32
+    ensures { λ r. ⌜ r ≡ smaller («ptr_sz» * 8) 4294967295 ⌝ }
+{
+    if ptr_sz < 536870912 {
+        ptr_sz * 8
+    } else {
+        4294967295
     }
+}
+
+// The next pad of a gap that is not filled by a long: the pad of pointers that have no size.
+fn short_pad(gap: u32) -> Pad
+    ensures { λ r. ⌜ padIs r ≡ padOf 0 gap ⌝ }
+{
     if 16 < gap {
         return Pad {
             unit: 2,
@@ -46,7 +58,25 @@ fn pad_of(ptr_sz: u32, gap: u32) -> Pad {
     }
 }
 
-fn put_unit(text: &mut [u8], at: usize, unit: u32) -> usize {
+// The next pad of a gap: the widest unit that the gap passes; the odd part of the gap comes first.
+fn pad_of(ptr_sz: u32, gap: u32) -> Pad
+    ensures { λ r. ⌜ padIs r ≡ padOf «ptr_sz» gap ⌝ }
+{
+    if gap <= 32 {
+        return short_pad(gap);
+    }
+    if ptr_sz <= 4 {
+        return short_pad(gap);
+    }
+    Pad {
+        unit: 3,
+        width: chip_away_bits(gap, ptr_bits(ptr_sz)),
+    }
+}
+
+fn put_unit(text: &mut [u8], at: usize, unit: u32) -> usize
+    ensures { λ r. ⌜ putOut r (now (text .exit)) ≡ putText (now (text .entry)) at (whole (unitWord (unitOf unit))) ⌝ }
+{
     match unit {
         3 => put_bytes(text, at, b"long"),
         2 => put_bytes(text, at, b"int"),
@@ -55,7 +85,9 @@ fn put_unit(text: &mut [u8], at: usize, unit: u32) -> usize {
     }
 }
 
-fn put_pad(text: &mut [u8], at: usize, pad: Pad, lvl: u32) -> usize {
+fn put_pad(text: &mut [u8], at: usize, pad: Pad, lvl: u32) -> usize
+    ensures { λ r. ⌜ putOut r (now (text .exit)) ≡ putText (now (text .entry)) at (whole (padLine lvl (padIs pad))) ⌝ }
+{
     let a = put_byte(text, at, b'\n');
     let c = put_tabs(text, a, lvl);
     let d = put_unit(text, c, pad.unit);
@@ -64,17 +96,9 @@ fn put_pad(text: &mut [u8], at: usize, pad: Pad, lvl: u32) -> usize {
     put_byte(text, f, b';')
 }
 
-// What is left of a gap after a pad of a width.
-fn rest_of(gap: u32, width: u32) -> u32
-    ensures { λ r. ⌜ (0 < gap → r < gap) ⌝ }
+fn put_pads(text: &mut [u8], at: usize, ptr_sz: u32, gap: u32, lvl: u32) -> usize
+    ensures { λ r. ⌜ putOut r (now (text .exit)) ≡ putText (now (text .entry)) at (whole (pads lvl (padsOf gap «ptr_sz» gap))) ⌝ }
 {
-    if width == 0 {
-        return 0;
-    }
-    if width <= gap { gap - width } else { 0 }
-}
-
-fn put_pads(text: &mut [u8], at: usize, ptr_sz: u32, gap: u32, lvl: u32) -> usize {
     let mut p = at;
     let mut left = gap;
     while 0 < left {
@@ -83,17 +107,40 @@ fn put_pads(text: &mut [u8], at: usize, ptr_sz: u32, gap: u32, lvl: u32) -> usiz
         }
         let pad = pad_of(ptr_sz, left);
         p = put_pad(text, p, pad, lvl);
-        left = rest_of(left, pad.width);
+        left -= pad.width;
     }
     p
 }
 
 // The alignment that decides whether a gap is natural.
-fn gap_align(b: Btf, section: &[u8], work: &[u8], m: BtfMember, packed: bool) -> Ask {
+fn gap_align(b: Btf, section: &[u8], work: &[u8], m: BtfMember, packed: bool) -> Ask
+    ensures { λ r. ⌜ askOf r ≡ gapAlign (btfOf b (now (section .entry)) (now (work .entry))) (m .«type_id») packed ⌝ }
+{
     if packed {
         return Ask::Got(1);
     }
     get_align_of(b, section, work, m.type_id, 512)
+}
+
+// The pads of a gap before a member with an alignment; before a plain member a natural gap has none.
+fn put_gap(
+    text: &mut [u8],
+    at: usize,
+    ptr_sz: u32,
+    bit_size: u32,
+    gap: u32,
+    a: u32,
+    lvl: u32,
+) -> usize
+    ensures { λ r. ⌜ putOut r (now (text .exit)) ≡ putText (now (text .entry)) at (whole (pads lvl (gapPads «ptr_sz» «bit_size» gap a))) ⌝ }
+{
+    if bit_size != 0 {
+        return put_pads(text, at, ptr_sz, gap, lvl);
+    }
+    if (gap as u64) < (a as u64) * 8 {
+        return at;
+    }
+    put_pads(text, at, ptr_sz, gap, lvl)
 }
 
 pub fn emit_bit_padding(
@@ -106,21 +153,15 @@ pub fn emit_bit_padding(
     m: BtfMember,
     packed: bool,
     lvl: u32,
-) -> usize {
+) -> usize
+    ensures { λ r. ⌜ putOut r (now (text .exit)) ≡ putText (now (text .entry)) at (padText lvl (bitPadding (btfOf b (now (section .entry)) (now (work .entry))) offset (ruleMember b (now (section .entry)) m) packed)) ⌝ }
+{
     let end = m.bit_offset;
     if end <= offset {
         return at;
     }
-    let gap = end - offset;
     match gap_align(b, section, work, m, packed) {
-        Ask::Got(a) => {
-            if m.bit_size == 0 {
-                if (gap as u64) < (a as u64) * 8 {
-                    return at;
-                }
-            }
-            put_pads(text, at, b.ptr_sz, gap, lvl)
-        }
+        Ask::Got(a) => put_gap(text, at, b.ptr_sz, m.bit_size, end - offset, a, lvl),
         Ask::No(c) => stop(text, at, c),
     }
 }

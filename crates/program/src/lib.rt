@@ -5,8 +5,14 @@ use session::Answer;
 use session::Session;
 use session::dump_types_core;
 use session::open_core;
+ghost use mathlib.Core.Path.{_≡_};
+ghost use Rattle.lent.specs.Text.{putOut, putText};
+ghost use Rattle.session.specs.Calls.{typesCall};
+ghost use Rattle.program.specs.Printed.{neverOpened, refusedLine, ranTo, ranAll, ranOn};
 
-fn closed() -> Session {
+fn closed() -> Session
+    ensures { λ r. ⌜ r ≡ neverOpened ⌝ }
+{
     Session {
         open: false,
         section_len: 0,
@@ -20,14 +26,18 @@ fn closed() -> Session {
 }
 
 // The line that a refusal prints: how long it is, at the start of the text.
-fn put_refused(text: &mut [u8], number: u32) -> usize {
+fn put_refused(text: &mut [u8], number: u32) -> usize
+    ensures { λ r. ⌜ putOut r (now (text .exit)) ≡ putText (now (text .entry)) 0 (refusedLine number) ⌝ }
+{
     let a = put_bytes(text, 0, b"refused ");
     let c = put_decimal(text, a, number as u64);
     put_bytes(text, c, b"\n")
 }
 
 // Leaves what is printed at the start of the text: how long it is.
-pub fn run(section: &[u8], work: &mut [u8], text: &mut [u8]) -> usize {
+pub fn run(section: &[u8], work: &mut [u8], text: &mut [u8]) -> usize
+    ensures { λ r. ⌜ ranTo r (now (text .exit)) (now (work .exit)) ≡ ranOn (now (section .entry)) (now (work .entry)) (now (text .entry)) ⌝ }
+{
     let opened = open_core(closed(), section, work, text, 8, 0);
     let answer = opened.answer;
     match answer {
@@ -36,7 +46,9 @@ pub fn run(section: &[u8], work: &mut [u8], text: &mut [u8]) -> usize {
     }
 }
 
-fn run_all(s: Session, section: &[u8], work: &mut [u8], text: &mut [u8]) -> usize {
+fn run_all(s: Session, section: &[u8], work: &mut [u8], text: &mut [u8]) -> usize
+    ensures { λ r. ⌜ ranTo r (now (text .exit)) (now (work .exit)) ≡ ranAll (typesCall s (now (section .entry)) (now (work .entry)) (now (text .entry))) ⌝ }
+{
     let turn = dump_types_core(s, section, work, text);
     let answer = turn.answer;
     match answer {

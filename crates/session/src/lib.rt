@@ -5,6 +5,8 @@ mod turns;
 pub use turns::dump_type_core;
 pub use turns::dump_types_core;
 pub use turns::open_core;
+ghost use mathlib.Core.Path.{_≡_};
+ghost use Rattle.session.specs.Calls.{callOf, openCall, typeCall, typesCall};
 
 // The lengths are those at opening; text_len is the length of the text so far. Bit 0 of modes is union_as_struct.
 pub struct Session {
@@ -37,7 +39,9 @@ pub fn open(
     text: &mut [u8],
     pointer_size: u32,
     modes: u32,
-) -> Answer {
+) -> Answer
+    ensures { λ r. ⌜ callOf (now (s .exit)) r (now (work .exit)) (now (text .exit)) ≡ openCall (now (s .entry)) (now (section .entry)) (now (work .entry)) (now (text .entry)) «pointer_size» modes ⌝ }
+{
     let turn = open_core(*s, section, work, text, pointer_size, modes);
     *s = turn.session;
     turn.answer
@@ -49,13 +53,17 @@ pub fn dump_type(
     work: &mut [u8],
     text: &mut [u8],
     id: u32,
-) -> Answer {
+) -> Answer
+    ensures { λ r. ⌜ callOf (now (s .exit)) r (now (work .exit)) (now (text .exit)) ≡ typeCall (now (s .entry)) (now (section .entry)) (now (work .entry)) (now (text .entry)) id ⌝ }
+{
     let turn = dump_type_core(*s, section, work, text, id);
     *s = turn.session;
     turn.answer
 }
 
-pub fn dump_types(s: &mut Session, section: &[u8], work: &mut [u8], text: &mut [u8]) -> Answer {
+pub fn dump_types(s: &mut Session, section: &[u8], work: &mut [u8], text: &mut [u8]) -> Answer
+    ensures { λ r. ⌜ callOf (now (s .exit)) r (now (work .exit)) (now (text .exit)) ≡ typesCall (now (s .entry)) (now (section .entry)) (now (work .entry)) (now (text .entry)) ⌝ }
+{
     let turn = dump_types_core(*s, section, work, text);
     *s = turn.session;
     turn.answer

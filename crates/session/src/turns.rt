@@ -6,7 +6,11 @@ use btf::Btf;
 use lent::clear;
 use opening::Opening;
 use opening::btf_of;
-ghost use Prim.Native.Nat.{_≤_};
+ghost use Prim.Native.Nat.{_+_, _-_, _<_, _≤_};
+ghost use mathlib.Core.Path.{_≡_};
+ghost use lib.ListN.{length};
+ghost use Rattle.session.specs.Answers.{answerOf};
+ghost use Rattle.session.specs.Calls.{callOf, turnOf, openCall, isCurrent, limitOf, withText, arrivedAt, reachOf, requested, requestedFrom, thenZeros, settled, typeCall, typesCall};
 
 // Where the requests of a call have come to: the length of the accepted text, and the refusal that ended them, or 0.
 struct Reached {
@@ -14,7 +18,10 @@ struct Reached {
     number: u32,
 }
 
-fn refused(s: Session, number: u32, value: u32) -> Turn {
+fn refused(s: Session, number: u32, value: u32) -> Turn
+    requires { ⌜ 0 < number ⌝ }
+    ensures { λ r. ⌜ r ≡ turnOf s (answerOf number value) ⌝ }
+{
     Turn {
         session: s,
         answer: Answer::Refused(number, value),
@@ -28,7 +35,9 @@ pub fn open_core(
     text: &mut [u8],
     pointer_size: u32,
     modes: u32,
-) -> Turn {
+) -> Turn
+    ensures { λ r. ⌜ callOf (r .session) (r .answer) (now (work .exit)) (now (text .exit)) ≡ openCall s (now (section .entry)) (now (work .entry)) (now (text .entry)) «pointer_size» modes ⌝ }
+{
     let section_len = section.len() as u64;
     let work_len = work.len() as u64;
     match opening::open(section, pointer_size, modes, work, text) {
@@ -50,7 +59,9 @@ pub fn open_core(
 }
 
 // Cause 11 does not hold.
-fn is_current(s: Session, section_len: usize, work_len: usize, text_len: usize) -> bool {
+fn is_current(s: Session, section_len: usize, work_len: usize, text_len: usize) -> bool
+    ensures { λ r. ⌜ r ≡ isCurrent s «section_len» «work_len» «text_len» ⌝ }
+{
     if !s.open {
         return false;
     }
@@ -66,7 +77,7 @@ fn is_current(s: Session, section_len: usize, work_len: usize, text_len: usize) 
 // How far a text slice may be written after its first bytes: 1,073,741,824 bytes at most.
 fn limit(text_len: usize, from: usize) -> usize
     requires { ⌜ from ≤ «text_len» ⌝ }
-    ensures { λ r. ⌜ (from ≤ r) × (r ≤ «text_len») ⌝ }
+    ensures { λ r. ⌜ (r ≡ limitOf «text_len» from) × (from ≤ r) × (r ≤ «text_len») × (r - from ≤ 1073741824 - from) ⌝ }
 {
     if text_len <= 1073741824 {
         return text_len;
@@ -75,7 +86,9 @@ fn limit(text_len: usize, from: usize) -> usize
 }
 
 // The session after its requests, open or closed.
-fn with_text(s: Session, open: bool, len: u32) -> Session {
+fn with_text(s: Session, open: bool, len: u32) -> Session
+    ensures { λ r. ⌜ r ≡ withText s «open» len ⌝ }
+{
     Session {
         open: open,
         section_len: s.section_len,
@@ -88,59 +101,39 @@ fn with_text(s: Session, open: bool, len: u32) -> Session {
     }
 }
 
-// The sum, or the largest number.
-fn plus(x: u32, y: u32) -> u32 {
-    if y <= 4294967295 - x {
-        x + y
-    } else {
-        4294967295
-    }
-}
-
 // What a place in a slice of so many bytes says, after a text of len bytes: the new length, or a refusal.
-fn arrived(len: u32, room: usize, at: usize) -> Reached {
+fn arrived(len: u32, room: usize, at: usize) -> Reached
+    requires { ⌜ (len + room < 4294967296) × (at ≤ room + 18) ⌝ }
+    ensures { λ r. ⌜ r ≡ arrivedAt len room at ⌝ }
+{
     if at <= room {
         return Reached {
-            len: plus(len, (at % 4294967296) as u32),
+            len: len + (at as u32),
             number: 0,
         };
     }
     Reached {
         len: len,
-        number: ((at - room - 1) % 4294967296) as u32,
+        number: (at - room - 1) as u32,
     }
 }
 
 // One id, after a text of len bytes: it is lent only what follows that text.
-fn dump_one(
-    b: Btf,
-    section: &[u8],
-    work: &mut [u8],
-    text: &mut [u8],
-    len: u32,
-    id: u32,
-) -> Reached {
+fn dump_one(b: Btf, section: &[u8], work: &mut [u8], text: &mut [u8], len: u32, id: u32) -> Reached
+    requires { ⌜ len ≤ length (now text) ⌝ }
+    ensures { λ r. ⌜ (reachOf r (now (work .exit)) (now (text .exit)) ≡ requested b (now (section .entry)) id len (now (work .entry)) (now (text .entry))) × (r .len ≤ length (now (text .exit))) ⌝ }
+{
     let from = len as usize;
-    if text.len() < from {
-        return Reached {
-            len: len,
-            number: 17,
-        };
-    }
     let to = limit(text.len(), from);
     let at = emit::dump_type(b, section, work, &mut text[from..to], 0, id);
     arrived(len, to - from, at)
 }
 
 // The same; most ids of a table have nothing to write.
-fn dump_next(
-    b: Btf,
-    section: &[u8],
-    work: &mut [u8],
-    text: &mut [u8],
-    len: u32,
-    id: u32,
-) -> Reached {
+fn dump_next(b: Btf, section: &[u8], work: &mut [u8], text: &mut [u8], len: u32, id: u32) -> Reached
+    requires { ⌜ len ≤ length (now text) ⌝ }
+    ensures { λ r. ⌜ (reachOf r (now (work .exit)) (now (text .exit)) ≡ requested b (now (section .entry)) id len (now (work .entry)) (now (text .entry))) × (r .len ≤ length (now (text .exit))) ⌝ }
+{
     if emit::is_idle(b, section, work, id) {
         return Reached {
             len: len,
@@ -151,7 +144,10 @@ fn dump_next(
 }
 
 // Every id from 1 upward, to the first that is refused.
-fn dump_all(b: Btf, section: &[u8], work: &mut [u8], text: &mut [u8], len: u32) -> Reached {
+fn dump_all(b: Btf, section: &[u8], work: &mut [u8], text: &mut [u8], len: u32) -> Reached
+    requires { ⌜ len ≤ length (now text) ⌝ }
+    ensures { λ r. ⌜ (reachOf r (now (work .exit)) (now (text .exit)) ≡ requestedFrom b (now (section .entry)) (b .types - 1) 1 len (now (work .entry)) (now (text .entry))) × (r .len ≤ length (now (text .exit))) ⌝ }
+{
     let n = b.types;
     let mut r = Reached {
         len: len,
@@ -169,15 +165,19 @@ fn dump_all(b: Btf, section: &[u8], work: &mut [u8], text: &mut [u8], len: u32) 
 }
 
 // Zeroes what follows the first n bytes.
-fn clear_from(text: &mut [u8], n: u32) {
+fn clear_from(text: &mut [u8], n: u32)
+    requires { ⌜ n ≤ length (now text) ⌝ }
+    ensures { λ _. ⌜ now (text .exit) ≡ thenZeros (length (now (text .entry))) n (now (text .entry)) ⌝ }
+{
     let from = n as usize;
-    if from <= text.len() {
-        clear(&mut text[from..]);
-    }
+    clear(&mut text[from..]);
 }
 
 // The end of a call: what follows the text is zero; after a refusal so is the work, and the session is closed.
-fn settle(s: Session, work: &mut [u8], text: &mut [u8], r: Reached) -> Turn {
+fn settle(s: Session, work: &mut [u8], text: &mut [u8], r: Reached) -> Turn
+    requires { ⌜ r .len ≤ length (now text) ⌝ }
+    ensures { λ t. ⌜ callOf (t .session) (t .answer) (now (work .exit)) (now (text .exit)) ≡ settled s (length (now (work .entry))) (length (now (text .entry))) (reachOf r (now (work .entry)) (now (text .entry))) ⌝ }
+{
     clear_from(text, r.len);
     if r.number == 0 {
         return Turn {
@@ -189,13 +189,9 @@ fn settle(s: Session, work: &mut [u8], text: &mut [u8], r: Reached) -> Turn {
     refused(with_text(s, false, r.len), r.number, r.len)
 }
 
-pub fn dump_type_core(
-    s: Session,
-    section: &[u8],
-    work: &mut [u8],
-    text: &mut [u8],
-    id: u32,
-) -> Turn {
+pub fn dump_type_core(s: Session, section: &[u8], work: &mut [u8], text: &mut [u8], id: u32) -> Turn
+    ensures { λ r. ⌜ callOf (r .session) (r .answer) (now (work .exit)) (now (text .exit)) ≡ typeCall s (now (section .entry)) (now (work .entry)) (now (text .entry)) id ⌝ }
+{
     if !is_current(s, section.len(), work.len(), text.len()) {
         return refused(s, 11, s.text_len);
     }
@@ -207,7 +203,9 @@ pub fn dump_type_core(
     settle(s, work, text, r)
 }
 
-pub fn dump_types_core(s: Session, section: &[u8], work: &mut [u8], text: &mut [u8]) -> Turn {
+pub fn dump_types_core(s: Session, section: &[u8], work: &mut [u8], text: &mut [u8]) -> Turn
+    ensures { λ r. ⌜ callOf (r .session) (r .answer) (now (work .exit)) (now (text .exit)) ≡ typesCall s (now (section .entry)) (now (work .entry)) (now (text .entry)) ⌝ }
+{
     if !is_current(s, section.len(), work.len(), text.len()) {
         return refused(s, 11, s.text_len);
     }

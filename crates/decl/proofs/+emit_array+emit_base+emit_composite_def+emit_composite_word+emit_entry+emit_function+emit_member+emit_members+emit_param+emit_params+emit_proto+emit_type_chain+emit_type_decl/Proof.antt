@@ -1,7 +1,20 @@
+use mathlib.Core.Path.{_≡_, refl, _∙_, sym, ap}
+use mathlib.Core.Logic.{inl, inr, ⊎-elim}
+use denote.Ref.{now}
+use Rattle.rules.proofs.Writing.{put-only, said-stopped}
+use Rattle.btf.specs.Records.{memberOf}
+use Rattle.btf.specs.Table.{paramOf, ruleMember}
+use Rattle.names.specs.Spelling.{nameText}
+use Rattle.decl.proofs.Kept.{Leads, leads-start, leads-end}
+use Rattle.decl.proofs.DeclLaws as chains
+use Rattle.decl.proofs.DeclLaws.{chainLeft, Clear}
+use Rattle.decl.proofs.EntryLaws as entries
+use Rattle.decl.proofs.MemberLaws as members
+use Rattle.decl.proofs.MemberLaws.{paramsLeft, membersLeft}
+use native.Mathlib.Omega.{arith}
+use borrow.Author.Needs.{needs}
 use mathlib.Core.Path.{_≡_}
 use lib.ListN.{length}
-use borrow.Author.Needs.{needs}
-use native.Mathlib.Omega.{arith}
 use Prim.Native.Nat.{ℕ, _<_, _≤_, _+_, _-_, _*_}
 use borrow.Fn.Kinds.{In}
 use borrow.Fn.PlainCycle.{Measures, is, falls, and}
@@ -63,24 +76,23 @@ use Rattle.chain.proofs.path_at.Reads as path-at-reads
 use Rattle.chain.proofs.put_qualifier.Reads as put-qualifier-reads
 use Rattle.chain.proofs.emit_mods.Reads as emit-mods-reads
 use Rattle.chain.proofs.skip_mods.Reads as skip-mods-reads
-use Rattle.decl.proofs.emit_composite_end.Reads as emit-composite-end-reads
-use Rattle.decl.proofs.emit_composite_head.Reads as emit-composite-head-reads
-use Rattle.decl.proofs.emit_enum64_word.Reads as emit-enum64-word-reads
-use Rattle.decl.proofs.emit_enum_word.Reads as emit-enum-word-reads
-use Rattle.decl.proofs.emit_member_end.Reads as emit-member-end-reads
+use Rattle.decl.proofs.bodies.emit_composite_end.Reads as emit-composite-end-reads
+use Rattle.decl.proofs.bodies.emit_composite_head.Reads as emit-composite-head-reads
+use Rattle.decl.proofs.bodies.emit_enum64_word.Reads as emit-enum64-word-reads
+use Rattle.decl.proofs.bodies.emit_enum_word.Reads as emit-enum-word-reads
+use Rattle.decl.proofs.bodies.emit_member_end.Reads as emit-member-end-reads
+use Rattle.decl.proofs.bodies.put_typedef_name.Reads as put-typedef-name-reads
 use Rattle.decl.proofs.goes_on.Reads as goes-on-reads
-use Rattle.decl.proofs.is_last.Reads as is-last-reads
-use Rattle.decl.proofs.less.Reads as less-reads
+use Rattle.decl.proofs.is_any_more.Reads as is-any-more-reads
 use Rattle.decl.proofs.named.Reads as named-reads
-use Rattle.decl.proofs.put_close.Reads as put-close-reads
-use Rattle.decl.proofs.put_comma.Reads as put-comma-reads
-use Rattle.decl.proofs.put_count.Reads as put-count-reads
-use Rattle.decl.proofs.put_gap.Reads as put-gap-reads
-use Rattle.decl.proofs.put_open.Reads as put-open-reads
-use Rattle.decl.proofs.put_star.Reads as put-star-reads
-use Rattle.decl.proofs.put_type_tag.Reads as put-type-tag-reads
-use Rattle.decl.proofs.put_typedef_name.Reads as put-typedef-name-reads
 use Rattle.decl.proofs.shown_params.Reads as shown-params-reads
+use Rattle.decl.proofs.words.put_close.Reads as put-close-reads
+use Rattle.decl.proofs.words.put_comma.Reads as put-comma-reads
+use Rattle.decl.proofs.words.put_count.Reads as put-count-reads
+use Rattle.decl.proofs.words.put_gap.Reads as put-gap-reads
+use Rattle.decl.proofs.words.put_open.Reads as put-open-reads
+use Rattle.decl.proofs.words.put_star.Reads as put-star-reads
+use Rattle.decl.proofs.words.put_type_tag.Reads as put-type-tag-reads
 use Rattle.enums.proofs.deeper.Reads as deeper-reads
 use Rattle.layout.proofs.is_struct_packed.Reads as is-struct-packed-reads
 use Rattle.lent.proofs.put_byte.Reads as put-byte-reads
@@ -292,16 +304,16 @@ emit-array-claims t = (
   kind-on-top-reads.Learnt,
   emit-type-chain-below t,
   emit-type-chain.Post,
-  put-byte-reads.Asked,
-  put-byte-reads.Learnt,
+  put-open-reads.Asked,
+  put-open-reads.Learnt,
+  put-close-reads.Asked,
+  put-close-reads.Learnt,
 )
 
 abbrev emit-base-claims : ℕ → emit-base-lts.Claims
 emit-base-claims t = (
   kind-of-reads.Asked,
   kind-of-reads.Learnt,
-  put-bytes-reads.Asked,
-  put-bytes-reads.Learnt,
   put-str-reads.Asked,
   put-str-reads.Learnt,
   emit-enum-word-reads.Asked,
@@ -316,6 +328,8 @@ emit-base-claims t = (
   emit-enum64-word-reads.Learnt,
   emit-composite-word-below t,
   emit-composite-word.Post,
+  put-bytes-reads.Asked,
+  put-bytes-reads.Learnt,
 )
 
 abbrev emit-composite-def-claims : ℕ → emit-composite-def-lts.Claims
@@ -388,8 +402,6 @@ emit-entry-claims t = (
 
 abbrev emit-function-claims : ℕ → emit-function-lts.Claims
 emit-function-claims t = (
-  less-reads.Asked,
-  less-reads.Learnt,
   skip-mods-reads.Asked,
   skip-mods-reads.Learnt,
   emit-mods-reads.Asked,
@@ -440,8 +452,8 @@ emit-param-claims t = (
   bare-reads.Learnt,
   put-comma-reads.Asked,
   put-comma-reads.Learnt,
-  is-last-reads.Asked,
-  is-last-reads.Learnt,
+  is-any-more-reads.Asked,
+  is-any-more-reads.Learnt,
   put-bytes-reads.Asked,
   put-bytes-reads.Learnt,
   emit-type-decl-below t,
@@ -470,8 +482,8 @@ emit-proto-claims t = (
   put-bytes-reads.Learnt,
   emit-type-chain-below t,
   emit-type-chain.Post,
-  put-byte-reads.Asked,
-  put-byte-reads.Learnt,
+  put-close-reads.Asked,
+  put-close-reads.Learnt,
 )
 
 abbrev emit-type-chain-claims : ℕ → emit-type-chain-lts.Claims
@@ -505,7 +517,7 @@ emit-array-same-length : (t : ℕ) → emit-array-lts.Need-same-length (emit-arr
 emit-array-same-length t c = search needs
 
 emit-array-returns : (t : ℕ) → emit-array-lts.Need-returns (emit-array-claims t) (emit-array-at t) emit-array.Post
-emit-array-returns t c = search needs
+emit-array-returns t c = entries.array-name _ _ _ _ _ _ _ _ _ _ _ _ _ (c .before .before .before .before .if1 .taken) (c .before .before .emit-name .ensures)
 
 emit-array-put-gap-requires : (t : ℕ) → emit-array-lts.Need-put-gap-requires (emit-array-claims t) (emit-array-at t) emit-array.Post
 emit-array-put-gap-requires t c κs = search needs
@@ -523,16 +535,16 @@ emit-array-same-length-3 : (t : ℕ) → emit-array-lts.Need-same-length-3 (emit
 emit-array-same-length-3 t c = search needs
 
 emit-array-returns-2 : (t : ℕ) → emit-array-lts.Need-returns-2 (emit-array-claims t) (emit-array-at t) emit-array.Post
-emit-array-returns-2 t c = search needs
+emit-array-returns-2 t c = entries.array-array _ _ _ _ _ _ _ _ _ _ _ (c .before .before .before .before .before .before .before .before .before .before .before .before .before .before .if1 .left) _ _ _ _ _ _ (c .before .before .before .before .before .before .before .before .kind-on-top .ensures) (c .before .before .before .before .before .before .before .if2 .taken) (c .before .before .before .before .before .before .before .before .before .before .before .before .put-gap .ensures) (c .before .before .before .before .emit-type-chain .ensures)
 
-emit-array-put-byte-requires : (t : ℕ) → emit-array-lts.Need-put-byte-requires (emit-array-claims t) (emit-array-at t) emit-array.Post
-emit-array-put-byte-requires t c κs = search needs
+emit-array-put-open-requires : (t : ℕ) → emit-array-lts.Need-put-open-requires (emit-array-claims t) (emit-array-at t) emit-array.Post
+emit-array-put-open-requires t c κs = search needs
 
 emit-array-emit-type-chain-requires-2 : (t : ℕ) → emit-array-lts.Need-emit-type-chain-requires-2 (emit-array-claims t) (emit-array-at t) emit-array.Post
 emit-array-emit-type-chain-requires-2 t c κs = (omega arith, tt)
 
-emit-array-put-byte-requires-2 : (t : ℕ) → emit-array-lts.Need-put-byte-requires-2 (emit-array-claims t) (emit-array-at t) emit-array.Post
-emit-array-put-byte-requires-2 t c κs = search needs
+emit-array-put-close-requires : (t : ℕ) → emit-array-lts.Need-put-close-requires (emit-array-claims t) (emit-array-at t) emit-array.Post
+emit-array-put-close-requires t c κs = search needs
 
 emit-array-same-length-4 : (t : ℕ) → emit-array-lts.Need-same-length-4 (emit-array-claims t) (emit-array-at t) emit-array.Post
 emit-array-same-length-4 t c = search needs
@@ -541,16 +553,10 @@ emit-array-same-length-5 : (t : ℕ) → emit-array-lts.Need-same-length-5 (emit
 emit-array-same-length-5 t c = search needs
 
 emit-array-returns-3 : (t : ℕ) → emit-array-lts.Need-returns-3 (emit-array-claims t) (emit-array-at t) emit-array.Post
-emit-array-returns-3 t c = search needs
+emit-array-returns-3 t c = entries.array-other _ _ _ _ _ _ _ _ _ _ _ (c .before .before .before .before .before .before .before .before .before .before .before .before .before .before .before .before .before .before .before .before .before .before .if1 .left) _ _ _ _ _ _ _ _ _ _ (c .before .before .before .before .before .before .before .before .before .before .before .before .before .before .before .before .kind-on-top .ensures) (c .before .before .before .before .before .before .before .before .before .before .before .before .before .before .before .if2 .left) (c .before .before .before .before .before .before .before .before .before .before .before .before .before .before .before .before .before .before .before .before .put-gap .ensures) (c .before .before .before .before .before .before .before .before .before .before .before .before .before .put-open .ensures) (c .before .before .before .before .before .before .before .before .emit-type-chain2 .ensures) (c .before .before .put-close .ensures)
 
 emit-base-kind-of-requires : (t : ℕ) → emit-base-lts.Need-kind-of-requires (emit-base-claims t) (emit-base-at t) emit-base.Post
 emit-base-kind-of-requires t c κs = search needs
-
-emit-base-slice-aggregate-put-bytes : (t : ℕ) → emit-base-lts.Need-slice-aggregate-put-bytes (emit-base-claims t) (emit-base-at t) emit-base.Post
-emit-base-slice-aggregate-put-bytes t c = search needs
-
-emit-base-put-bytes-requires : (t : ℕ) → emit-base-lts.Need-put-bytes-requires (emit-base-claims t) (emit-base-at t) emit-base.Post
-emit-base-put-bytes-requires t c κs = search needs
 
 emit-base-put-str-requires : (t : ℕ) → emit-base-lts.Need-put-str-requires (emit-base-claims t) (emit-base-at t) emit-base.Post
 emit-base-put-str-requires t c κs = search needs
@@ -573,68 +579,74 @@ emit-base-emit-enum64-word-requires t c κs = search needs
 emit-base-emit-composite-word-requires : (t : ℕ) → emit-base-lts.Need-emit-composite-word-requires (emit-base-claims t) (emit-base-at t) emit-base.Post
 emit-base-emit-composite-word-requires t c κs = (omega arith, tt)
 
+emit-base-slice-aggregate-put-bytes : (t : ℕ) → emit-base-lts.Need-slice-aggregate-put-bytes (emit-base-claims t) (emit-base-at t) emit-base.Post
+emit-base-slice-aggregate-put-bytes t c = search needs
+
+emit-base-put-bytes-requires : (t : ℕ) → emit-base-lts.Need-put-bytes-requires (emit-base-claims t) (emit-base-at t) emit-base.Post
+emit-base-put-bytes-requires t c κs = search needs
+
 emit-base-same-length : (t : ℕ) → emit-base-lts.Need-same-length (emit-base-claims t) (emit-base-at t) emit-base.Post
 emit-base-same-length t c = search needs
 
 emit-base-returns : (t : ℕ) → emit-base-lts.Need-returns (emit-base-claims t) (emit-base-at t) emit-base.Post
-emit-base-returns t c = search needs
+emit-base-returns t c = entries.word-name _ _ _ _ _ _ _ _ (c .before .before .before .before .before .kind-of .ensures) _ _ _ _ _ _ (c .before .before .before .before .match .keys1) (put-only _ _ _ _ _ _ (c .before .before .put-str .ensures))
 
 emit-base-same-length-2 : (t : ℕ) → emit-base-lts.Need-same-length-2 (emit-base-claims t) (emit-base-at t) emit-base.Post
 emit-base-same-length-2 t c = search needs
 
-emit-base-returns-2 : (t : ℕ) → emit-base-lts.Need-returns-2 (emit-base-claims t) (emit-base-at t) emit-base.Post
-emit-base-returns-2 t c = search needs
-
 emit-base-same-length-3 : (t : ℕ) → emit-base-lts.Need-same-length-3 (emit-base-claims t) (emit-base-at t) emit-base.Post
 emit-base-same-length-3 t c = search needs
+
+emit-base-returns-2 : (t : ℕ) → emit-base-lts.Need-returns-2 (emit-base-claims t) (emit-base-at t) emit-base.Post
+emit-base-returns-2 t c = entries.word-enum _ _ _ _ _ _ _ _ (c .before .before .before .before .before .before .before .before .kind-of .ensures) _ _ _ _ _ _ (c .before .before .before .before .before .before .before .match .keys2) (c .before .before .before .before .emit-enum-word .ensures)
 
 emit-base-same-length-4 : (t : ℕ) → emit-base-lts.Need-same-length-4 (emit-base-claims t) (emit-base-at t) emit-base.Post
 emit-base-same-length-4 t c = search needs
 
-emit-base-returns-3 : (t : ℕ) → emit-base-lts.Need-returns-3 (emit-base-claims t) (emit-base-at t) emit-base.Post
-emit-base-returns-3 t c = search needs
-
 emit-base-same-length-5 : (t : ℕ) → emit-base-lts.Need-same-length-5 (emit-base-claims t) (emit-base-at t) emit-base.Post
 emit-base-same-length-5 t c = search needs
+
+emit-base-returns-3 : (t : ℕ) → emit-base-lts.Need-returns-3 (emit-base-claims t) (emit-base-at t) emit-base.Post
+emit-base-returns-3 t c = entries.word-fwd _ _ _ _ _ _ _ _ (c .before .before .before .before .before .before .before .before .before .kind-of .ensures) _ _ _ _ _ _ _ (c .before .before .before .before .before .before .before .before .match .keys3) (c .before .before .before .before .before .kind-flag-of .ensures) (c .before .before .before .before .emit-fwd-def .ensures)
 
 emit-base-same-length-6 : (t : ℕ) → emit-base-lts.Need-same-length-6 (emit-base-claims t) (emit-base-at t) emit-base.Post
 emit-base-same-length-6 t c = search needs
 
-emit-base-returns-4 : (t : ℕ) → emit-base-lts.Need-returns-4 (emit-base-claims t) (emit-base-at t) emit-base.Post
-emit-base-returns-4 t c = search needs
-
 emit-base-same-length-7 : (t : ℕ) → emit-base-lts.Need-same-length-7 (emit-base-claims t) (emit-base-at t) emit-base.Post
 emit-base-same-length-7 t c = search needs
+
+emit-base-returns-4 : (t : ℕ) → emit-base-lts.Need-returns-4 (emit-base-claims t) (emit-base-at t) emit-base.Post
+emit-base-returns-4 t c = entries.word-typedef _ _ _ _ _ _ _ _ (c .before .before .before .before .before .before .before .before .kind-of .ensures) _ _ _ _ _ _ (c .before .before .before .before .before .before .before .match .keys4) (c .before .before .before .before .put-typedef-name .ensures)
 
 emit-base-same-length-8 : (t : ℕ) → emit-base-lts.Need-same-length-8 (emit-base-claims t) (emit-base-at t) emit-base.Post
 emit-base-same-length-8 t c = search needs
 
-emit-base-returns-5 : (t : ℕ) → emit-base-lts.Need-returns-5 (emit-base-claims t) (emit-base-at t) emit-base.Post
-emit-base-returns-5 t c = search needs
-
 emit-base-same-length-9 : (t : ℕ) → emit-base-lts.Need-same-length-9 (emit-base-claims t) (emit-base-at t) emit-base.Post
 emit-base-same-length-9 t c = search needs
+
+emit-base-returns-5 : (t : ℕ) → emit-base-lts.Need-returns-5 (emit-base-claims t) (emit-base-at t) emit-base.Post
+emit-base-returns-5 t c = entries.word-enum64 _ _ _ _ _ _ _ _ (c .before .before .before .before .before .before .before .before .kind-of .ensures) _ _ _ _ _ _ (c .before .before .before .before .before .before .before .match .keys5) (c .before .before .before .before .emit-enum64-word .ensures)
 
 emit-base-same-length-10 : (t : ℕ) → emit-base-lts.Need-same-length-10 (emit-base-claims t) (emit-base-at t) emit-base.Post
 emit-base-same-length-10 t c = search needs
 
-emit-base-returns-6 : (t : ℕ) → emit-base-lts.Need-returns-6 (emit-base-claims t) (emit-base-at t) emit-base.Post
-emit-base-returns-6 t c = search needs
-
 emit-base-same-length-11 : (t : ℕ) → emit-base-lts.Need-same-length-11 (emit-base-claims t) (emit-base-at t) emit-base.Post
 emit-base-same-length-11 t c = search needs
+
+emit-base-returns-6 : (t : ℕ) → emit-base-lts.Need-returns-6 (emit-base-claims t) (emit-base-at t) emit-base.Post
+emit-base-returns-6 t c = entries.word-composite _ _ _ _ _ _ _ _ (c .before .before .before .before .before .before .before .before .before .before .before .kind-of .ensures) _ _ _ _ _ _ (c .before .before .before .before .before .before .before .before .before .if1 .left) (c .before .before .before .before .before .before .before .before .if2 .left) (c .before .before .before .before .before .before .before .if3 .taken) (c .before .before .before .before .emit-composite-word .ensures)
+
+emit-base-returns-7 : (t : ℕ) → emit-base-lts.Need-returns-7 (emit-base-claims t) (emit-base-at t) emit-base.Post
+emit-base-returns-7 t c = entries.word-low _ _ _ _ _ _ _ _ (c .before .before .before .kind-of .ensures) _ _ _ (c .before .if1 .left) (c .if2 .taken) (c .before .before .match .rest .0 .0 .0 .0 .1)
+
+emit-base-returns-8 : (t : ℕ) → emit-base-lts.Need-returns-8 (emit-base-claims t) (emit-base-at t) emit-base.Post
+emit-base-returns-8 t c = entries.word-mid _ _ _ _ _ _ _ _ (c .before .before .before .before .before .kind-of .ensures) _ _ _ (c .before .if3 .left) (c .if4 .taken) (c .before .before .before .before .match .rest .0 .0 .0 .0 .1) (c .before .before .before .before .match .rest .0 .0 .0 .1) (c .before .before .before .before .match .rest .0 .0 .1) (c .before .before .before .before .match .rest .0 .1)
 
 emit-base-same-length-12 : (t : ℕ) → emit-base-lts.Need-same-length-12 (emit-base-claims t) (emit-base-at t) emit-base.Post
 emit-base-same-length-12 t c = search needs
 
-emit-base-returns-7 : (t : ℕ) → emit-base-lts.Need-returns-7 (emit-base-claims t) (emit-base-at t) emit-base.Post
-emit-base-returns-7 t c = search needs
-
-emit-base-returns-8 : (t : ℕ) → emit-base-lts.Need-returns-8 (emit-base-claims t) (emit-base-at t) emit-base.Post
-emit-base-returns-8 t c = search needs
-
 emit-base-returns-9 : (t : ℕ) → emit-base-lts.Need-returns-9 (emit-base-claims t) (emit-base-at t) emit-base.Post
-emit-base-returns-9 t c = search needs
+emit-base-returns-9 t c = entries.word-void _ _ _ _ _ _ _ _ (c .before .before .before .before .before .before .before .kind-of .ensures) _ _ _ _ _ (c .before .before .before .before .before .before .match .rest .1) (⊎-elim (λ x. inl (x .taken)) (λ x. inr (x .3 .left)) (c .before .before .before .before .before .if1 .came)) (c .before .before .put-bytes .ensures)
 
 emit-composite-def-stop-requires : (t : ℕ) → emit-composite-def-lts.Need-stop-requires (emit-composite-def-claims t) (emit-composite-def-at t) emit-composite-def.Post
 emit-composite-def-stop-requires t c κs = search needs
@@ -643,7 +655,7 @@ emit-composite-def-same-length : (t : ℕ) → emit-composite-def-lts.Need-same-
 emit-composite-def-same-length t c = search needs
 
 emit-composite-def-returns : (t : ℕ) → emit-composite-def-lts.Need-returns (emit-composite-def-claims t) (emit-composite-def-at t) emit-composite-def.Post
-emit-composite-def-returns t c = search needs
+emit-composite-def-returns t c = members.def-zero _ _ _ _ _ _ _ _ _ _ _ _ _ (c .before .before .if1 .taken) (c .stop .ensures)
 
 emit-composite-def-stopped-requires : (t : ℕ) → emit-composite-def-lts.Need-stopped-requires (emit-composite-def-claims t) (emit-composite-def-at t) emit-composite-def.Post
 emit-composite-def-stopped-requires t c κs = search needs
@@ -652,7 +664,7 @@ emit-composite-def-same-length-2 : (t : ℕ) → emit-composite-def-lts.Need-sam
 emit-composite-def-same-length-2 t c = search needs
 
 emit-composite-def-returns-2 : (t : ℕ) → emit-composite-def-lts.Need-returns-2 (emit-composite-def-claims t) (emit-composite-def-at t) emit-composite-def.Post
-emit-composite-def-returns-2 t c = search needs
+emit-composite-def-returns-2 t c = said-stopped _ _ _ _ (sym (c .before .stopped .ensures) ∙ c .if2 .taken)
 
 emit-composite-def-is-builtin-requires : (t : ℕ) → emit-composite-def-lts.Need-is-builtin-requires (emit-composite-def-claims t) (emit-composite-def-at t) emit-composite-def.Post
 emit-composite-def-is-builtin-requires t c κs = search needs
@@ -661,7 +673,7 @@ emit-composite-def-same-length-3 : (t : ℕ) → emit-composite-def-lts.Need-sam
 emit-composite-def-same-length-3 t c = search needs
 
 emit-composite-def-returns-3 : (t : ℕ) → emit-composite-def-lts.Need-returns-3 (emit-composite-def-claims t) (emit-composite-def-at t) emit-composite-def.Post
-emit-composite-def-returns-3 t c = search needs
+emit-composite-def-returns-3 t c = members.def-builtin _ _ _ _ _ _ _ _ _ _ _ _ _ (c .before .before .before .before .before .if1 .left) refl (sym (c .before .is-builtin .ensures) ∙ c .if3 .taken)
 
 emit-composite-def-is-struct-packed-requires :
     (t : ℕ) → emit-composite-def-lts.Need-is-struct-packed-requires (
@@ -769,7 +781,7 @@ emit-composite-def-same-length-5 : (t : ℕ) → emit-composite-def-lts.Need-sam
 emit-composite-def-same-length-5 t c = search needs
 
 emit-composite-def-returns-4 : (t : ℕ) → emit-composite-def-lts.Need-returns-4 (emit-composite-def-claims t) (emit-composite-def-at t) emit-composite-def.Post
-emit-composite-def-returns-4 t c = search needs
+emit-composite-def-returns-4 t c = members.def-body _ _ _ _ _ _ _ _ _ _ _ _ _ (c .before .before .before .before .before .before .before .before .before .before .before .before .before .before .before .before .before .before .before .before .before .before .before .before .before .before .before .before .before .before .if1 .left) (sym (c .before .before .before .before .before .before .before .before .before .before .before .before .before .before .before .before .before .before .before .before .before .before .before .before .before .before .is-builtin .ensures) ∙ c .before .before .before .before .before .before .before .before .before .before .before .before .before .before .before .before .before .before .before .before .before .before .before .before .before .if3 .left) _ (c .before .before .before .before .before .before .before .before .before .before .before .before .before .before .before .before .before .before .before .before .before .before .before .is-struct-packed .ensures) _ _ _ _ _ _ _ _ _ (c .before .before .before .before .before .before .before .before .before .before .before .before .before .before .before .before .before .before .before .before .before .packed .given .1) (c .before .before .before .before .before .before .before .before .before .before .deeper .ensures) (c .before .before .before .before .before .before .before .before .before .before .before .before .before .before .before .before .before .emit-composite-head .ensures) (c .before .before .before .before .before .before .before .before .before .emit-members .ensures) (c .before .before .emit-composite-end .ensures)
 
 emit-composite-def-same-length-6 : (t : ℕ) → emit-composite-def-lts.Need-same-length-6 (emit-composite-def-claims t) (emit-composite-def-at t) emit-composite-def.Post
 emit-composite-def-same-length-6 t c = search needs
@@ -778,7 +790,7 @@ emit-composite-def-same-length-7 : (t : ℕ) → emit-composite-def-lts.Need-sam
 emit-composite-def-same-length-7 t c = search needs
 
 emit-composite-def-returns-5 : (t : ℕ) → emit-composite-def-lts.Need-returns-5 (emit-composite-def-claims t) (emit-composite-def-at t) emit-composite-def.Post
-emit-composite-def-returns-5 t c = search needs
+emit-composite-def-returns-5 t c = members.def-refused _ _ _ _ _ _ _ _ _ _ _ _ _ (c .before .before .before .before .before .before .before .before .before .before .before .before .if1 .left) (sym (c .before .before .before .before .before .before .before .before .is-builtin .ensures) ∙ c .before .before .before .before .before .before .before .if3 .left) _ (c .before .before .before .before .before .is-struct-packed .ensures) _ (c .before .before .before .c .given .1) (c .stop2 .ensures)
 
 emit-composite-word-is-empty-requires : (t : ℕ) → emit-composite-word-lts.Need-is-empty-requires (emit-composite-word-claims t) (emit-composite-word-at t) emit-composite-word.Post
 emit-composite-word-is-empty-requires t c κs = search needs
@@ -803,7 +815,7 @@ emit-composite-word-same-length-2 : (t : ℕ) → emit-composite-word-lts.Need-s
 emit-composite-word-same-length-2 t c = search needs
 
 emit-composite-word-returns : (t : ℕ) → emit-composite-word-lts.Need-returns (emit-composite-word-claims t) (emit-composite-word-at t) emit-composite-word.Post
-emit-composite-word-returns t c = search needs
+emit-composite-word-returns t c = entries.composite-inline _ (now (c .before .before .before .before .before .before .before .before .before .before .before .before .args .section)) _ _ _ _ _ _ _ _ _ _ _ _ _ _ (sym (c .before .before .before .before .before .before .before .before .is-empty .ensures) ∙ c .before .before .before .before .before .before .before .if1 .taken) (c .before .before .before .before .emit-composite-def .ensures)
 
 emit-composite-word-is-struct-requires : (t : ℕ) → emit-composite-word-lts.Need-is-struct-requires (emit-composite-word-claims t) (emit-composite-word-at t) emit-composite-word.Post
 emit-composite-word-is-struct-requires t c κs = search needs
@@ -828,10 +840,7 @@ emit-composite-word-same-length-4 : (t : ℕ) → emit-composite-word-lts.Need-s
 emit-composite-word-same-length-4 t c = search needs
 
 emit-composite-word-returns-2 : (t : ℕ) → emit-composite-word-lts.Need-returns-2 (emit-composite-word-claims t) (emit-composite-word-at t) emit-composite-word.Post
-emit-composite-word-returns-2 t c = search needs
-
-emit-entry-returns : (t : ℕ) → emit-entry-lts.Need-returns (emit-entry-claims t) (emit-entry-at t) emit-entry.Post
-emit-entry-returns t c = search needs
+emit-composite-word-returns-2 t c = entries.composite-named _ (now (c .before .before .before .before .before .before .before .before .before .before .before .before .before .args .section)) _ _ _ _ _ _ _ _ _ _ _ _ _ _ _ (sym (c .before .before .before .before .before .before .before .before .before .is-empty .ensures) ∙ c .before .before .before .before .before .before .before .before .if1 .left) (c .before .before .before .before .before .is-struct .ensures) (c .before .before .before .before .emit-composite-fwd .ensures)
 
 emit-entry-sub-n : (t : ℕ) → emit-entry-lts.Need-sub-n (emit-entry-claims t) (emit-entry-at t) emit-entry.Post
 emit-entry-sub-n t c = omega arith
@@ -867,7 +876,7 @@ emit-entry-named-requires : (t : ℕ) → emit-entry-lts.Need-named-requires (em
 emit-entry-named-requires t c κs = search needs
 
 emit-entry-emit-function-requires : (t : ℕ) → emit-entry-lts.Need-emit-function-requires (emit-entry-claims t) (emit-entry-at t) emit-entry.Post
-emit-entry-emit-function-requires t c κs = (omega arith, tt)
+emit-entry-emit-function-requires t c κs = (omega arith, c .before .before .before .before .before .before .before .before .before .before .before .before .pre .1)
 
 emit-entry-named-requires-2 : (t : ℕ) → emit-entry-lts.Need-named-requires-2 (emit-entry-claims t) (emit-entry-at t) emit-entry.Post
 emit-entry-named-requires-2 t c κs = search needs
@@ -906,7 +915,7 @@ emit-entry-emit-mods-requires-2 : (t : ℕ) → emit-entry-lts.Need-emit-mods-re
 emit-entry-emit-mods-requires-2 t c κs = search needs
 
 emit-entry-emit-base-requires : (t : ℕ) → emit-entry-lts.Need-emit-base-requires (emit-entry-claims t) (emit-entry-at t) emit-entry.Post
-emit-entry-emit-base-requires t c κs = (omega (arith, c .before .before .before .before .before .before .before .before .before .before .before .before .before .before .before .before .before .before .before .before .before .before .pre .0), tt)
+emit-entry-emit-base-requires t c κs = (omega (arith, c .before .before .before .before .before .before .before .before .before .before .before .before .before .before .before .before .before .before .before .before .pre .0), tt)
 
 emit-entry-goes-on-requires-4 : (t : ℕ) → emit-entry-lts.Need-goes-on-requires-4 (emit-entry-claims t) (emit-entry-at t) emit-entry.Post
 emit-entry-goes-on-requires-4 t c κs = search needs
@@ -917,8 +926,8 @@ emit-entry-same-length t c = search needs
 emit-entry-same-length-2 : (t : ℕ) → emit-entry-lts.Need-same-length-2 (emit-entry-claims t) (emit-entry-at t) emit-entry.Post
 emit-entry-same-length-2 t c = search needs
 
-emit-entry-returns-2 : (t : ℕ) → emit-entry-lts.Need-returns-2 (emit-entry-claims t) (emit-entry-at t) emit-entry.Post
-emit-entry-returns-2 t c = search needs
+emit-entry-returns : (t : ℕ) → emit-entry-lts.Need-returns (emit-entry-claims t) (emit-entry-at t) emit-entry.Post
+emit-entry-returns t c = entries.arm-star _ _ _ _ _ _ (c .before .before .before .before .before .before .before .before .before .before .before .before .before .before .before .args .c) _ _ (c .before .before .before .before .before .before .before .before .before .before .before .before .before .before .before .pre .1) _ (c .before .before .before .before .before .before .before .before .before .path-at .ensures) _ (c .before .before .before .before .before .before .before .type-by-id .ensures) _ (c .before .before .before .before .before .before .kind-of .ensures) _ _ _ (c .before .before .before .before .before .match .keys1) (c .before .before .before .put-star .ensures) (c .goes-on .ensures)
 
 emit-entry-same-length-3 : (t : ℕ) → emit-entry-lts.Need-same-length-3 (emit-entry-claims t) (emit-entry-at t) emit-entry.Post
 emit-entry-same-length-3 t c = search needs
@@ -926,8 +935,8 @@ emit-entry-same-length-3 t c = search needs
 emit-entry-same-length-4 : (t : ℕ) → emit-entry-lts.Need-same-length-4 (emit-entry-claims t) (emit-entry-at t) emit-entry.Post
 emit-entry-same-length-4 t c = search needs
 
-emit-entry-returns-3 : (t : ℕ) → emit-entry-lts.Need-returns-3 (emit-entry-claims t) (emit-entry-at t) emit-entry.Post
-emit-entry-returns-3 t c = search needs
+emit-entry-returns-2 : (t : ℕ) → emit-entry-lts.Need-returns-2 (emit-entry-claims t) (emit-entry-at t) emit-entry.Post
+emit-entry-returns-2 t c = entries.arm-array _ _ _ _ _ _ (c .before .before .before .before .before .before .before .before .before .before .before .before .before .before .before .before .before .before .before .before .before .before .before .before .before .args .c) _ _ (c .before .before .before .before .before .before .before .before .before .before .before .before .before .before .before .before .before .before .before .before .before .before .before .before .before .pre .1) _ (c .before .before .before .before .before .before .before .before .before .before .before .before .before .before .before .before .before .before .before .path-at .ensures) _ (c .before .before .before .before .before .before .before .before .before .before .before .before .before .before .before .before .before .type-by-id .ensures) _ (c .before .before .before .before .before .before .before .before .before .before .before .before .before .before .before .before .kind-of .ensures) _ _ _ _ _ _ _ _ (c .before .before .before .before .before .before .before .before .before .before .before .before .before .before .before .match .keys2) (c .before .before .before .before .before .before .before .before .before .before .before .before .before .before .array-nelems .ensures) (c .before .before .before .before .before .before .before .before .before .before .before .before .skip-mods .ensures .0) (c .before .before .before .before .before .before .before .before .before .emit-array .ensures) (c .before .before .before .put-count .ensures) (c .named .ensures)
 
 emit-entry-same-length-5 : (t : ℕ) → emit-entry-lts.Need-same-length-5 (emit-entry-claims t) (emit-entry-at t) emit-entry.Post
 emit-entry-same-length-5 t c = search needs
@@ -935,8 +944,8 @@ emit-entry-same-length-5 t c = search needs
 emit-entry-same-length-6 : (t : ℕ) → emit-entry-lts.Need-same-length-6 (emit-entry-claims t) (emit-entry-at t) emit-entry.Post
 emit-entry-same-length-6 t c = search needs
 
-emit-entry-returns-4 : (t : ℕ) → emit-entry-lts.Need-returns-4 (emit-entry-claims t) (emit-entry-at t) emit-entry.Post
-emit-entry-returns-4 t c = search needs
+emit-entry-returns-3 : (t : ℕ) → emit-entry-lts.Need-returns-3 (emit-entry-claims t) (emit-entry-at t) emit-entry.Post
+emit-entry-returns-3 t c = entries.arm-proto _ _ _ _ _ _ (c .before .before .before .before .before .before .before .before .before .before .before .before .before .before .before .before .before .before .args .c) _ _ (c .before .before .before .before .before .before .before .before .before .before .before .before .before .before .before .before .before .before .pre .1) _ (c .before .before .before .before .before .before .before .before .before .before .before .before .path-at .ensures) _ (c .before .before .before .before .before .before .before .before .before .before .type-by-id .ensures) _ (c .before .before .before .before .before .before .before .before .before .kind-of .ensures) _ _ _ _ (c .before .before .before .before .before .before .before .before .match .keys3) (c .before .before .before .before .before .emit-function .ensures) (c .named2 .ensures)
 
 emit-entry-same-length-7 : (t : ℕ) → emit-entry-lts.Need-same-length-7 (emit-entry-claims t) (emit-entry-at t) emit-entry.Post
 emit-entry-same-length-7 t c = search needs
@@ -944,8 +953,8 @@ emit-entry-same-length-7 t c = search needs
 emit-entry-same-length-8 : (t : ℕ) → emit-entry-lts.Need-same-length-8 (emit-entry-claims t) (emit-entry-at t) emit-entry.Post
 emit-entry-same-length-8 t c = search needs
 
-emit-entry-returns-5 : (t : ℕ) → emit-entry-lts.Need-returns-5 (emit-entry-claims t) (emit-entry-at t) emit-entry.Post
-emit-entry-returns-5 t c = search needs
+emit-entry-returns-4 : (t : ℕ) → emit-entry-lts.Need-returns-4 (emit-entry-claims t) (emit-entry-at t) emit-entry.Post
+emit-entry-returns-4 t c = entries.arm-tag _ _ _ _ _ _ (c .before .before .before .before .before .before .before .before .before .before .before .before .before .before .before .before .before .before .before .before .before .before .args .c) _ _ (c .before .before .before .before .before .before .before .before .before .before .before .before .before .before .before .before .before .before .before .before .before .before .pre .1) _ (c .before .before .before .before .before .before .before .before .before .before .before .before .before .before .before .before .path-at .ensures) _ (c .before .before .before .before .before .before .before .before .before .before .before .before .before .before .type-by-id .ensures) _ (c .before .before .before .before .before .before .before .before .before .before .before .before .before .kind-of .ensures) _ _ _ _ _ _ (c .before .before .before .before .before .before .before .before .before .before .before .before .match .keys4) (c .before .before .before .before .before .before .before .before .before .before .skip-mods2 .ensures .0) (c .before .before .before .before .before .before .before .before .before .before .skip-mods2 .ensures .1) (c .before .before .before .before .before .before .before .emit-mods .ensures) (c .before .before .before .put-type-tag .ensures) (c .goes-on2 .ensures)
 
 emit-entry-same-length-9 : (t : ℕ) → emit-entry-lts.Need-same-length-9 (emit-entry-claims t) (emit-entry-at t) emit-entry.Post
 emit-entry-same-length-9 t c = search needs
@@ -953,8 +962,8 @@ emit-entry-same-length-9 t c = search needs
 emit-entry-same-length-10 : (t : ℕ) → emit-entry-lts.Need-same-length-10 (emit-entry-claims t) (emit-entry-at t) emit-entry.Post
 emit-entry-same-length-10 t c = search needs
 
-emit-entry-returns-6 : (t : ℕ) → emit-entry-lts.Need-returns-6 (emit-entry-claims t) (emit-entry-at t) emit-entry.Post
-emit-entry-returns-6 t c = search needs
+emit-entry-returns-5 : (t : ℕ) → emit-entry-lts.Need-returns-5 (emit-entry-claims t) (emit-entry-at t) emit-entry.Post
+emit-entry-returns-5 t c = entries.arm-qual _ _ _ _ _ _ (c .before .before .before .before .before .before .before .before .before .before .before .before .before .before .before .before .before .before .before .before .before .before .before .args .c) _ _ (c .before .before .before .before .before .before .before .before .before .before .before .before .before .before .before .before .before .before .before .before .before .before .before .pre .1) _ (c .before .before .before .before .before .before .before .before .before .before .before .before .before .before .before .before .before .path-at .ensures) _ (c .before .before .before .before .before .before .before .before .before .before .before .before .before .before .before .type-by-id .ensures) _ (c .before .before .before .before .before .before .before .before .before .before .before .before .before .before .kind-of .ensures) _ _ _ _ _ _ (c .before .before .before .before .before .before .before .before .before .before .before .before .if1 .left) (c .before .before .before .before .before .before .before .before .before .before .before .if2 .taken) (c .before .before .before .before .kind-of2 .ensures) (c .before .before .before .before .before .before .before .before .put-bytes .ensures) (c .before .before .before .put-qualifier .ensures) (c .goes-on3 .ensures)
 
 emit-entry-same-length-11 : (t : ℕ) → emit-entry-lts.Need-same-length-11 (emit-entry-claims t) (emit-entry-at t) emit-entry.Post
 emit-entry-same-length-11 t c = search needs
@@ -962,11 +971,11 @@ emit-entry-same-length-11 t c = search needs
 emit-entry-same-length-12 : (t : ℕ) → emit-entry-lts.Need-same-length-12 (emit-entry-claims t) (emit-entry-at t) emit-entry.Post
 emit-entry-same-length-12 t c = search needs
 
-emit-entry-returns-7 : (t : ℕ) → emit-entry-lts.Need-returns-7 (emit-entry-claims t) (emit-entry-at t) emit-entry.Post
-emit-entry-returns-7 t c = search needs
+emit-entry-returns-6 : (t : ℕ) → emit-entry-lts.Need-returns-6 (emit-entry-claims t) (emit-entry-at t) emit-entry.Post
+emit-entry-returns-6 t c = entries.arm-base _ _ _ _ _ _ (c .before .before .before .before .before .before .before .before .before .before .before .before .before .before .before .before .before .before .before .before .before .before .before .before .before .before .args .c) _ _ (c .before .before .before .before .before .before .before .before .before .before .before .before .before .before .before .before .before .before .before .before .before .before .before .before .before .before .pre .1) _ (c .before .before .before .before .before .before .before .before .before .before .before .before .before .before .before .before .before .before .before .before .path-at .ensures) _ (c .before .before .before .before .before .before .before .before .before .before .before .before .before .before .before .before .before .before .type-by-id .ensures) _ (c .before .before .before .before .before .before .before .before .before .before .before .before .before .before .before .before .before .kind-of .ensures) _ _ _ _ _ _ _ (entries.no-link _ (c .before .before .before .before .before .before .before .before .before .before .before .before .before .before .before .before .match .rest .0 .0 .0 .1) (c .before .before .before .before .before .before .before .before .before .before .before .before .before .before .before .before .match .rest .0 .0 .1) (c .before .before .before .before .before .before .before .before .before .before .before .before .before .before .before .before .match .rest .0 .1) (c .before .before .before .before .before .before .before .before .before .before .before .before .before .before .before .before .match .rest .1) (⊎-elim (λ x. inl (x .taken)) (λ x. inr (x .1 .left)) (c .before .before .before .before .before .before .before .before .before .before .before .before .before .before .before .if1 .came))) (c .before .before .before .before .before .before .before .before .before .before .before .before .before .skip-mods3 .ensures .0) (c .before .before .before .before .before .before .before .before .before .before .before .before .before .skip-mods3 .ensures .1) (c .before .before .before .before .before .before .before .before .before .before .emit-mods2 .ensures) (c .before .before .before .before .before .emit-base .ensures) (c .goes-on4 .ensures)
 
-emit-function-less-requires : (t : ℕ) → emit-function-lts.Need-less-requires (emit-function-claims t) (emit-function-at t) emit-function.Post
-emit-function-less-requires t c κs = search needs
+emit-function-sub-n : (t : ℕ) → emit-function-lts.Need-sub-n (emit-function-claims t) (emit-function-at t) emit-function.Post
+emit-function-sub-n t c = omega arith
 
 emit-function-skip-mods-requires : (t : ℕ) → emit-function-lts.Need-skip-mods-requires (emit-function-claims t) (emit-function-at t) emit-function.Post
 emit-function-skip-mods-requires t c κs = search needs
@@ -990,7 +999,7 @@ emit-function-same-length-2 : (t : ℕ) → emit-function-lts.Need-same-length-2
 emit-function-same-length-2 t c = search needs
 
 emit-function-returns : (t : ℕ) → emit-function-lts.Need-returns (emit-function-claims t) (emit-function-at t) emit-function.Post
-emit-function-returns t c = search needs
+emit-function-returns t c = entries.function-put _ _ _ _ _ _ _ _ _ _ _ _ _ _ _ _ _ _ _ _ (c .before .before .before .before .before .before .before .before .before .before .before .before .before .before .before .before .before .before .before .before .before .before .before .before .before .before .args .t) _ (c .before .before .before .before .before .before .before .before .before .before .before .before .before .before .before .before .before .before .before .before .skip-mods .ensures .0) (c .before .before .before .before .before .entries-of .ensures) (c .before .before .before .before .before .before .before .before .before .before .before .before .before .before .before .before .before .emit-mods .ensures) (c .before .before .before .before .before .before .before .before .before .before .before .before .emit-proto .ensures) (c .before .before .before .before .emit-params .ensures)
 
 emit-member-load-member-requires : (t : ℕ) → emit-member-lts.Need-load-member-requires (emit-member-claims t) (emit-member-at t) emit-member.Post
 emit-member-load-member-requires t c κs = search needs
@@ -1020,10 +1029,10 @@ emit-member-same-length-2 : (t : ℕ) → emit-member-lts.Need-same-length-2 (em
 emit-member-same-length-2 t c = search needs
 
 emit-member-returns : (t : ℕ) → emit-member-lts.Need-returns (emit-member-claims t) (emit-member-at t) emit-member.Post
-emit-member-returns t c = search needs
+emit-member-returns t c = members.member-put _ _ _ _ _ _ _ _ _ _ _ _ _ _ _ _ _ _ _ _ _ _ _ _ (c .before .before .before .before .before .before .before .before .before .before .before .before .before .before .before .before .before .before .before .before .before .before .before .before .before .before .load-member .ensures) (c .before .before .before .before .before .before .before .before .before .before .before .before .before .before .before .before .before .before .before .before .before .before .before .before .before .bare .ensures) (c .before .before .before .before .before .before .before .before .before .before .before .before .before .before .before .before .before .before .before .before .before .before .emit-bit-padding .ensures) (c .before .before .before .before .before .before .before .before .before .before .before .before .before .before .before .before .before .before .put-byte .ensures) (c .before .before .before .before .before .before .before .before .before .before .before .before .before .before .put-tabs .ensures) (c .before .before .before .before .before .before .before .before .before .emit-type-decl .ensures) (c .before .before .emit-member-end .ensures)
 
 abbrev emit-members-Inv-loop : emit-members-lts.InvT-loop
-emit-members-Inv-loop b section work₀ text₀ at id t packed lvl below vlen s₀ k₀ work text s k = (k ≤ vlen) × (vlen < 4294967296) × (length work ≡ length work₀) × (length text ≡ length text₀)
+emit-members-Inv-loop b section work₀ text₀ at id t packed lvl below vlen s₀ k₀ work text s k = (Leads b section text₀ (s₀ .at) (membersLeft b section below id lvl packed (λ j. ruleMember b section (memberOf b section t j)) vlen k₀ (s₀ .offset) work₀) text (s .at) (membersLeft b section below id lvl packed (λ j. ruleMember b section (memberOf b section t j)) vlen k (s .offset) work)) × (k ≤ vlen) × (vlen < 4294967296) × (length work ≡ length work₀) × (length text ≡ length text₀)
 
 abbrev emit-members-μ-loop : emit-members-lts.MeasureT-loop
 emit-members-μ-loop b section work₀ text₀ at id t packed lvl below vlen s₀ k₀ work text s k = vlen - k
@@ -1032,7 +1041,7 @@ emit-members-vlen-of-requires : (t : ℕ) → emit-members-lts.Need-vlen-of-requ
 emit-members-vlen-of-requires t c κs = search needs
 
 emit-members-loop-holds : (t : ℕ) → emit-members-lts.Need-loop-holds (emit-members-claims t) (emit-members-at t) emit-members.Post emit-members-Inv-loop emit-members-μ-loop
-emit-members-loop-holds t c = search needs
+emit-members-loop-holds t c = (leads-start _ _ _ _ _, omega arith, omega arith, refl, refl)
 
 emit-members-stopped-requires : (t : ℕ) → emit-members-lts.Need-stopped-requires (emit-members-claims t) (emit-members-at t) emit-members.Post emit-members-Inv-loop emit-members-μ-loop
 emit-members-stopped-requires t c κs = search needs
@@ -1044,7 +1053,7 @@ emit-members-same-length-2 : (t : ℕ) → emit-members-lts.Need-same-length-2 (
 emit-members-same-length-2 t c = search needs
 
 emit-members-returns : (t : ℕ) → emit-members-lts.Need-returns (emit-members-claims t) (emit-members-at t) emit-members.Post emit-members-Inv-loop emit-members-μ-loop
-emit-members-returns t c = search needs
+emit-members-returns t c = members.members-whole _ _ _ _ _ _ _ _ _ _ _ _ _ _ _ (c .before .before .before .before .before .vlen-of .ensures) (leads-end _ _ _ _ _ _ _ _ _ _ _ (c .before .before .before .before .loop .inv .0) (said-stopped _ _ _ _ (sym (c .before .stopped .ensures) ∙ c .if1 .taken)))
 
 emit-members-emit-member-requires : (t : ℕ) → emit-members-lts.Need-emit-member-requires (emit-members-claims t) (emit-members-at t) emit-members.Post emit-members-Inv-loop emit-members-μ-loop
 emit-members-emit-member-requires t c κs = (omega arith, tt)
@@ -1056,7 +1065,7 @@ emit-members-loop-less : (t : ℕ) → emit-members-lts.Need-loop-less (emit-mem
 emit-members-loop-less t c = omega arith
 
 emit-members-loop-again : (t : ℕ) → emit-members-lts.Need-loop-again (emit-members-claims t) (emit-members-at t) emit-members.Post emit-members-Inv-loop emit-members-μ-loop
-emit-members-loop-again t c = search needs
+emit-members-loop-again t c = (members.members-again _ _ _ _ _ _ _ _ _ _ _ _ _ _ _ _ _ _ _ (c .before .before .before .before .before .before .before .before .before .before .loop-test .taken) (c .before .before .before .before .before .before .before .before .before .before .before .loop .inv .0) (c .before .before .before .before .emit-member .ensures), omega arith, c .before .before .before .before .before .before .before .before .before .before .before .loop .inv .2, search needs, search needs)
 
 emit-members-same-length-3 : (t : ℕ) → emit-members-lts.Need-same-length-3 (emit-members-claims t) (emit-members-at t) emit-members.Post emit-members-Inv-loop emit-members-μ-loop
 emit-members-same-length-3 t c = search needs
@@ -1065,7 +1074,7 @@ emit-members-same-length-4 : (t : ℕ) → emit-members-lts.Need-same-length-4 (
 emit-members-same-length-4 t c = search needs
 
 emit-members-returns-2 : (t : ℕ) → emit-members-lts.Need-returns-2 (emit-members-claims t) (emit-members-at t) emit-members.Post emit-members-Inv-loop emit-members-μ-loop
-emit-members-returns-2 t c = search needs
+emit-members-returns-2 t c = members.members-whole _ _ _ _ _ _ _ _ _ _ _ _ _ _ _ (c .before .before .vlen-of .ensures) (members.members-end _ _ _ _ _ _ _ _ _ _ _ _ _ _ _ _ (c .loop-test .left) (c .before .loop .inv .0))
 
 emit-param-param-place-requires : (t : ℕ) → emit-param-lts.Need-param-place-requires (emit-param-claims t) (emit-param-at t) emit-param.Post
 emit-param-param-place-requires t c κs = search needs
@@ -1085,8 +1094,8 @@ emit-param-bare-requires t c κs = search needs
 emit-param-put-comma-requires : (t : ℕ) → emit-param-lts.Need-put-comma-requires (emit-param-claims t) (emit-param-at t) emit-param.Post
 emit-param-put-comma-requires t c κs = search needs
 
-emit-param-is-last-requires : (t : ℕ) → emit-param-lts.Need-is-last-requires (emit-param-claims t) (emit-param-at t) emit-param.Post
-emit-param-is-last-requires t c κs = search needs
+emit-param-is-any-more-requires : (t : ℕ) → emit-param-lts.Need-is-any-more-requires (emit-param-claims t) (emit-param-at t) emit-param.Post
+emit-param-is-any-more-requires t c κs = search needs
 
 emit-param-slice-aggregate-put-bytes : (t : ℕ) → emit-param-lts.Need-slice-aggregate-put-bytes (emit-param-claims t) (emit-param-at t) emit-param.Post
 emit-param-slice-aggregate-put-bytes t c = search needs
@@ -1098,7 +1107,7 @@ emit-param-same-length : (t : ℕ) → emit-param-lts.Need-same-length (emit-par
 emit-param-same-length t c = search needs
 
 emit-param-returns : (t : ℕ) → emit-param-lts.Need-returns (emit-param-claims t) (emit-param-at t) emit-param.Post
-emit-param-returns t c = search needs
+emit-param-returns t c = members.param-any _ _ _ _ _ _ _ _ _ _ _ _ (c .before .before .before .before .before .before .before .before .before .before .before .before .before .before .param-place .ensures) (c .before .before .before .before .before .before .before .before .before .before .before .before .before .word .ensures) _ (c .before .before .before .before .before .before .is-any-more .ensures) _ _ (c .before .before .before .before .before .before .before .before .before .put-comma .ensures) _ _ (c .before .before .before .before .before .if1 .taken) (c .before .before .put-bytes .ensures)
 
 emit-param-emit-type-decl-requires : (t : ℕ) → emit-param-lts.Need-emit-type-decl-requires (emit-param-claims t) (emit-param-at t) emit-param.Post
 emit-param-emit-type-decl-requires t c κs = (omega arith, tt)
@@ -1110,13 +1119,13 @@ emit-param-same-length-3 : (t : ℕ) → emit-param-lts.Need-same-length-3 (emit
 emit-param-same-length-3 t c = search needs
 
 emit-param-returns-2 : (t : ℕ) → emit-param-lts.Need-returns-2 (emit-param-claims t) (emit-param-at t) emit-param.Post
-emit-param-returns-2 t c = search needs
+emit-param-returns-2 t c = members.param-decl _ _ _ _ _ _ _ _ _ _ _ _ (c .before .before .before .before .before .before .before .before .before .before .before .before .before .before .before .before .param-place .ensures) (c .before .before .before .before .before .before .before .before .before .before .before .before .before .before .before .word .ensures) _ (c .before .before .before .before .before .before .before .before .is-any-more .ensures) _ _ (c .before .before .before .before .before .before .before .before .before .before .before .put-comma .ensures) _ _ _ _ _ (c .before .before .before .before .before .before .before .if1 .left) (c .before .before .before .before .before .before .before .before .before .before .before .before .before .before .word2 .ensures) (c .before .before .before .before .before .before .before .before .before .before .before .before .before .bare .ensures) (c .before .before .before .before .emit-type-decl .ensures)
 
 abbrev emit-params-Inv-loop : emit-params-lts.InvT-loop
-emit-params-Inv-loop b section work₀ text₀ at params lvl below vlen p₀ k₀ work text p k = (k ≤ vlen) × (vlen < 4294967296) × (length work ≡ length work₀) × (length text ≡ length text₀)
+emit-params-Inv-loop b section work₀ text₀ at lvl below shown p₀ k₀ work text p k = (Leads b section text₀ p₀ (paramsLeft b section below lvl (paramOf b section (shown .at)) (shown .vlen) k₀ work₀) text p (paramsLeft b section below lvl (paramOf b section (shown .at)) (shown .vlen) k work)) × (k ≤ shown .vlen) × (shown .vlen < 4294967296) × (length work ≡ length work₀) × (length text ≡ length text₀)
 
 abbrev emit-params-μ-loop : emit-params-lts.MeasureT-loop
-emit-params-μ-loop b section work₀ text₀ at params lvl below vlen p₀ k₀ work text p k = vlen - k
+emit-params-μ-loop b section work₀ text₀ at lvl below shown p₀ k₀ work text p k = shown .vlen - k
 
 emit-params-shown-params-requires : (t : ℕ) → emit-params-lts.Need-shown-params-requires (emit-params-claims t) (emit-params-at t) emit-params.Post emit-params-Inv-loop emit-params-μ-loop
 emit-params-shown-params-requires t c κs = search needs
@@ -1125,7 +1134,7 @@ emit-params-put-open-requires : (t : ℕ) → emit-params-lts.Need-put-open-requ
 emit-params-put-open-requires t c κs = search needs
 
 emit-params-loop-holds : (t : ℕ) → emit-params-lts.Need-loop-holds (emit-params-claims t) (emit-params-at t) emit-params.Post emit-params-Inv-loop emit-params-μ-loop
-emit-params-loop-holds t c = search needs
+emit-params-loop-holds t c = (leads-start _ _ _ _ _, omega arith, omega arith, refl, refl)
 
 emit-params-stopped-requires : (t : ℕ) → emit-params-lts.Need-stopped-requires (emit-params-claims t) (emit-params-at t) emit-params.Post emit-params-Inv-loop emit-params-μ-loop
 emit-params-stopped-requires t c κs = search needs
@@ -1137,7 +1146,7 @@ emit-params-same-length-2 : (t : ℕ) → emit-params-lts.Need-same-length-2 (em
 emit-params-same-length-2 t c = search needs
 
 emit-params-returns : (t : ℕ) → emit-params-lts.Need-returns (emit-params-claims t) (emit-params-at t) emit-params.Post emit-params-Inv-loop emit-params-μ-loop
-emit-params-returns t c = search needs
+emit-params-returns t c = members.params-whole _ _ _ _ _ _ _ _ _ _ _ _ _ _ _ (c .before .before .before .before .before .before .before .before .before .before .shown-params .ensures) (c .before .before .before .before .before .before .before .before .put-open .ensures) (leads-end _ _ _ _ _ _ _ _ _ _ _ (c .before .before .before .before .before .loop .inv .0) (said-stopped _ _ _ _ (sym (c .before .stopped .ensures) ∙ c .if2 .taken)))
 
 emit-params-emit-param-requires : (t : ℕ) → emit-params-lts.Need-emit-param-requires (emit-params-claims t) (emit-params-at t) emit-params.Post emit-params-Inv-loop emit-params-μ-loop
 emit-params-emit-param-requires t c κs = (omega arith, tt)
@@ -1149,7 +1158,7 @@ emit-params-loop-less : (t : ℕ) → emit-params-lts.Need-loop-less (emit-param
 emit-params-loop-less t c = omega arith
 
 emit-params-loop-again : (t : ℕ) → emit-params-lts.Need-loop-again (emit-params-claims t) (emit-params-at t) emit-params.Post emit-params-Inv-loop emit-params-μ-loop
-emit-params-loop-again t c = search needs
+emit-params-loop-again t c = (members.params-again _ _ _ _ _ _ _ _ _ _ _ _ _ _ _ _ (c .before .before .before .before .before .before .before .before .before .before .if1 .taken) (c .before .before .before .before .before .before .before .before .before .before .before .before .loop .inv .0) (c .before .before .before .before .emit-param .ensures), omega arith, c .before .before .before .before .before .before .before .before .before .before .before .before .loop .inv .2, search needs, search needs)
 
 emit-params-put-close-requires : (t : ℕ) → emit-params-lts.Need-put-close-requires (emit-params-claims t) (emit-params-at t) emit-params.Post emit-params-Inv-loop emit-params-μ-loop
 emit-params-put-close-requires t c κs = search needs
@@ -1161,7 +1170,7 @@ emit-params-same-length-4 : (t : ℕ) → emit-params-lts.Need-same-length-4 (em
 emit-params-same-length-4 t c = search needs
 
 emit-params-returns-2 : (t : ℕ) → emit-params-lts.Need-returns-2 (emit-params-claims t) (emit-params-at t) emit-params.Post emit-params-Inv-loop emit-params-μ-loop
-emit-params-returns-2 t c = search needs
+emit-params-returns-2 t c = members.params-whole _ _ _ _ _ _ _ _ _ _ _ _ _ _ _ (c .before .before .before .before .before .before .before .before .before .before .before .shown-params .ensures) (c .before .before .before .before .before .before .before .before .before .put-open .ensures) (members.params-end _ _ _ _ _ _ _ _ _ _ _ _ _ _ _ (c .before .before .before .before .if1 .left) (c .before .before .before .before .before .before .loop .inv .0) (c .before .before .put-close .ensures))
 
 emit-proto-emit-name-requires : (t : ℕ) → emit-proto-lts.Need-emit-name-requires (emit-proto-claims t) (emit-proto-at t) emit-proto.Post
 emit-proto-emit-name-requires t c κs = search needs
@@ -1170,7 +1179,7 @@ emit-proto-same-length : (t : ℕ) → emit-proto-lts.Need-same-length (emit-pro
 emit-proto-same-length t c = search needs
 
 emit-proto-returns : (t : ℕ) → emit-proto-lts.Need-returns (emit-proto-claims t) (emit-proto-at t) emit-proto.Post
-emit-proto-returns t c = search needs
+emit-proto-returns t c = entries.proto-name _ _ _ _ _ _ _ _ _ _ _ _ _ (c .before .before .before .before .before .if1 .taken) (c .before .before .emit-name .ensures)
 
 emit-proto-slice-aggregate-put-bytes : (t : ℕ) → emit-proto-lts.Need-slice-aggregate-put-bytes (emit-proto-claims t) (emit-proto-at t) emit-proto.Post
 emit-proto-slice-aggregate-put-bytes t c = search needs
@@ -1181,8 +1190,8 @@ emit-proto-put-bytes-requires t c κs = search needs
 emit-proto-emit-type-chain-requires : (t : ℕ) → emit-proto-lts.Need-emit-type-chain-requires (emit-proto-claims t) (emit-proto-at t) emit-proto.Post
 emit-proto-emit-type-chain-requires t c κs = (omega arith, tt)
 
-emit-proto-put-byte-requires : (t : ℕ) → emit-proto-lts.Need-put-byte-requires (emit-proto-claims t) (emit-proto-at t) emit-proto.Post
-emit-proto-put-byte-requires t c κs = search needs
+emit-proto-put-close-requires : (t : ℕ) → emit-proto-lts.Need-put-close-requires (emit-proto-claims t) (emit-proto-at t) emit-proto.Post
+emit-proto-put-close-requires t c κs = search needs
 
 emit-proto-same-length-2 : (t : ℕ) → emit-proto-lts.Need-same-length-2 (emit-proto-claims t) (emit-proto-at t) emit-proto.Post
 emit-proto-same-length-2 t c = search needs
@@ -1191,10 +1200,10 @@ emit-proto-same-length-3 : (t : ℕ) → emit-proto-lts.Need-same-length-3 (emit
 emit-proto-same-length-3 t c = search needs
 
 emit-proto-returns-2 : (t : ℕ) → emit-proto-lts.Need-returns-2 (emit-proto-claims t) (emit-proto-at t) emit-proto.Post
-emit-proto-returns-2 t c = search needs
+emit-proto-returns-2 t c = entries.proto-some _ _ _ _ _ _ _ _ _ _ _ (c .before .before .before .before .before .before .before .before .before .before .before .before .before .before .before .before .if1 .left) _ _ _ _ _ _ _ (c .before .before .before .before .before .before .before .before .before .before .before .before .before .put-bytes .ensures) (c .before .before .before .before .before .before .before .before .emit-type-chain .ensures) (c .before .before .put-close .ensures)
 
 abbrev emit-type-chain-Inv-loop : emit-type-chain-lts.InvT-loop
-emit-type-chain-Inv-loop b section work₀ text₀ at d n left below c₀ work text c = (length work ≡ length work₀) × (length text ≡ length text₀)
+emit-type-chain-Inv-loop b section work₀ text₀ at d n left below c₀ work text c = (Leads b section text₀ (c₀ .at) (chainLeft b section below (d .id) (nameText b section (d .name)) (d .lvl) c₀ work₀) text (c .at) (chainLeft b section below (d .id) (nameText b section (d .name)) (d .lvl) c work)) × Clear b section c × (length work ≡ length work₀) × (length text ≡ length text₀)
 
 abbrev emit-type-chain-μ-loop : emit-type-chain-lts.MeasureT-loop
 emit-type-chain-μ-loop b section work₀ text₀ at d n left below c₀ work text c = c .n
@@ -1206,7 +1215,7 @@ emit-type-chain-same-length : (t : ℕ) → emit-type-chain-lts.Need-same-length
 emit-type-chain-same-length t c = search needs
 
 emit-type-chain-returns : (t : ℕ) → emit-type-chain-lts.Need-returns (emit-type-chain-claims t) (emit-type-chain-at t) emit-type-chain.Post emit-type-chain-Inv-loop emit-type-chain-μ-loop
-emit-type-chain-returns t c = search needs
+emit-type-chain-returns t c = chains.chain-zero _ _ _ _ _ _ _ _ _ _ (c .before .before .if1 .taken) (c .stop .ensures)
 
 emit-type-chain-stopped-requires : (t : ℕ) → emit-type-chain-lts.Need-stopped-requires (emit-type-chain-claims t) (emit-type-chain-at t) emit-type-chain.Post emit-type-chain-Inv-loop emit-type-chain-μ-loop
 emit-type-chain-stopped-requires t c κs = search needs
@@ -1215,22 +1224,22 @@ emit-type-chain-same-length-2 : (t : ℕ) → emit-type-chain-lts.Need-same-leng
 emit-type-chain-same-length-2 t c = search needs
 
 emit-type-chain-returns-2 : (t : ℕ) → emit-type-chain-lts.Need-returns-2 (emit-type-chain-claims t) (emit-type-chain-at t) emit-type-chain.Post emit-type-chain-Inv-loop emit-type-chain-μ-loop
-emit-type-chain-returns-2 t c = search needs
+emit-type-chain-returns-2 t c = said-stopped _ _ _ _ (sym (c .before .stopped .ensures) ∙ c .if2 .taken)
 
 emit-type-chain-sub-below : (t : ℕ) → emit-type-chain-lts.Need-sub-below (emit-type-chain-claims t) (emit-type-chain-at t) emit-type-chain.Post emit-type-chain-Inv-loop emit-type-chain-μ-loop
 emit-type-chain-sub-below t c = omega arith
 
 emit-type-chain-loop-holds : (t : ℕ) → emit-type-chain-lts.Need-loop-holds (emit-type-chain-claims t) (emit-type-chain-at t) emit-type-chain.Post emit-type-chain-Inv-loop emit-type-chain-μ-loop
-emit-type-chain-loop-holds t c = search needs
+emit-type-chain-loop-holds t c = (leads-start _ _ _ _ _, chains.clear-start _ _ _ refl, refl, refl)
 
 emit-type-chain-emit-entry-requires : (t : ℕ) → emit-type-chain-lts.Need-emit-entry-requires (emit-type-chain-claims t) (emit-type-chain-at t) emit-type-chain.Post emit-type-chain-Inv-loop emit-type-chain-μ-loop
-emit-type-chain-emit-entry-requires t c κs = (omega arith, tt)
+emit-type-chain-emit-entry-requires t c κs = (omega arith, c .before .before .if3 .taken)
 
 emit-type-chain-loop-less : (t : ℕ) → emit-type-chain-lts.Need-loop-less (emit-type-chain-claims t) (emit-type-chain-at t) emit-type-chain.Post emit-type-chain-Inv-loop emit-type-chain-μ-loop
-emit-type-chain-loop-less t c = omega arith
+emit-type-chain-loop-less t c = let h = c .before .before .before .before .emit-entry .ensures .4 in omega arith
 
 emit-type-chain-loop-again : (t : ℕ) → emit-type-chain-lts.Need-loop-again (emit-type-chain-claims t) (emit-type-chain-at t) emit-type-chain.Post emit-type-chain-Inv-loop emit-type-chain-μ-loop
-emit-type-chain-loop-again t c = search needs
+emit-type-chain-loop-again t c = (chains.chain-again _ _ _ _ _ _ _ _ _ _ _ _ _ _ _ (c .before .before .before .before .before .before .before .if3 .taken) (c .before .before .before .before .before .before .before .before .before .loop .inv .1) (c .before .before .before .before .before .before .before .before .before .loop .inv .0) (c .before .before .before .before .emit-entry .ensures), chains.chain-clear _ _ _ _ _ _ (c .before .before .before .before .before .before .before .before .before .loop .c) _ _ _ _ _ (c .before .before .before .before .emit-entry .ensures), search needs, search needs)
 
 emit-type-chain-same-length-3 : (t : ℕ) → emit-type-chain-lts.Need-same-length-3 (emit-type-chain-claims t) (emit-type-chain-at t) emit-type-chain.Post emit-type-chain-Inv-loop emit-type-chain-μ-loop
 emit-type-chain-same-length-3 t c = search needs
@@ -1239,7 +1248,7 @@ emit-type-chain-same-length-4 : (t : ℕ) → emit-type-chain-lts.Need-same-leng
 emit-type-chain-same-length-4 t c = search needs
 
 emit-type-chain-returns-3 : (t : ℕ) → emit-type-chain-lts.Need-returns-3 (emit-type-chain-claims t) (emit-type-chain-at t) emit-type-chain.Post emit-type-chain-Inv-loop emit-type-chain-μ-loop
-emit-type-chain-returns-3 t c = search needs
+emit-type-chain-returns-3 t c = chains.chain-whole _ _ _ _ _ _ _ _ _ _ _ _ _ (c .before .before .before .before .before .before .before .if1 .left) (chains.chain-stands _ _ _ _ _ _ _ _ _ _ _ _ (c .before .before .before .loop .inv .0) (c .if4 .taken))
 
 emit-type-chain-emit-name-requires : (t : ℕ) → emit-type-chain-lts.Need-emit-name-requires (emit-type-chain-claims t) (emit-type-chain-at t) emit-type-chain.Post emit-type-chain-Inv-loop emit-type-chain-μ-loop
 emit-type-chain-emit-name-requires t c κs = search needs
@@ -1251,7 +1260,7 @@ emit-type-chain-same-length-6 : (t : ℕ) → emit-type-chain-lts.Need-same-leng
 emit-type-chain-same-length-6 t c = search needs
 
 emit-type-chain-returns-4 : (t : ℕ) → emit-type-chain-lts.Need-returns-4 (emit-type-chain-claims t) (emit-type-chain-at t) emit-type-chain.Post emit-type-chain-Inv-loop emit-type-chain-μ-loop
-emit-type-chain-returns-4 t c = search needs
+emit-type-chain-returns-4 t c = chains.chain-whole _ _ _ _ _ _ _ _ _ _ _ _ _ (c .before .before .before .before .before .before .before .before .before .before .before .before .if1 .left) (chains.chain-ends _ _ _ _ _ _ _ _ _ _ _ _ _ _ (c .before .before .before .before .before .before .before .before .loop .inv .0) (omega arith) (c .before .before .before .before .before .if4 .left) (c .before .before .emit-name .ensures))
 
 emit-type-decl-stop-requires : (t : ℕ) → emit-type-decl-lts.Need-stop-requires (emit-type-decl-claims t) (emit-type-decl-at t) emit-type-decl.Post
 emit-type-decl-stop-requires t c κs = search needs
@@ -1260,7 +1269,7 @@ emit-type-decl-same-length : (t : ℕ) → emit-type-decl-lts.Need-same-length (
 emit-type-decl-same-length t c = search needs
 
 emit-type-decl-returns : (t : ℕ) → emit-type-decl-lts.Need-returns (emit-type-decl-claims t) (emit-type-decl-at t) emit-type-decl.Post
-emit-type-decl-returns t c = search needs
+emit-type-decl-returns t c = chains.decl-zero _ _ _ _ _ _ _ _ _ _ (c .before .before .if1 .taken) (c .stop .ensures)
 
 emit-type-decl-stopped-requires : (t : ℕ) → emit-type-decl-lts.Need-stopped-requires (emit-type-decl-claims t) (emit-type-decl-at t) emit-type-decl.Post
 emit-type-decl-stopped-requires t c κs = search needs
@@ -1269,7 +1278,7 @@ emit-type-decl-same-length-2 : (t : ℕ) → emit-type-decl-lts.Need-same-length
 emit-type-decl-same-length-2 t c = search needs
 
 emit-type-decl-returns-2 : (t : ℕ) → emit-type-decl-lts.Need-returns-2 (emit-type-decl-claims t) (emit-type-decl-at t) emit-type-decl.Post
-emit-type-decl-returns-2 t c = search needs
+emit-type-decl-returns-2 t c = said-stopped _ _ _ _ (sym (c .before .stopped .ensures) ∙ c .if2 .taken)
 
 emit-type-decl-chain-len-requires : (t : ℕ) → emit-type-decl-lts.Need-chain-len-requires (emit-type-decl-claims t) (emit-type-decl-at t) emit-type-decl.Post
 emit-type-decl-chain-len-requires t c κs = search needs
@@ -1306,7 +1315,7 @@ emit-type-decl-same-length-4 : (t : ℕ) → emit-type-decl-lts.Need-same-length
 emit-type-decl-same-length-4 t c = search needs
 
 emit-type-decl-returns-3 : (t : ℕ) → emit-type-decl-lts.Need-returns-3 (emit-type-decl-claims t) (emit-type-decl-at t) emit-type-decl.Post
-emit-type-decl-returns-3 t c = search needs
+emit-type-decl-returns-3 t c = chains.decl-got _ _ _ _ _ _ _ _ _ _ (c .before .before .before .before .before .before .before .before .before .before .before .before .before .before .before .if1 .left) _ (c .before .before .before .before .before .before .before .before .before .before .chain-len .ensures) _ _ _ (c .before .before .before .before .before .before .before .before .n .given .1) (c .before .before .before .before .emit-type-chain .ensures)
 
 emit-type-decl-same-length-5 : (t : ℕ) → emit-type-decl-lts.Need-same-length-5 (emit-type-decl-claims t) (emit-type-decl-at t) emit-type-decl.Post
 emit-type-decl-same-length-5 t c = search needs
@@ -1315,7 +1324,7 @@ emit-type-decl-same-length-6 : (t : ℕ) → emit-type-decl-lts.Need-same-length
 emit-type-decl-same-length-6 t c = search needs
 
 emit-type-decl-returns-4 : (t : ℕ) → emit-type-decl-lts.Need-returns-4 (emit-type-decl-claims t) (emit-type-decl-at t) emit-type-decl.Post
-emit-type-decl-returns-4 t c = search needs
+emit-type-decl-returns-4 t c = chains.decl-no _ _ _ _ _ _ _ _ _ _ (c .before .before .before .before .before .before .before .before .before .before .if1 .left) _ (c .before .before .before .before .before .chain-len .ensures) _ (c .before .before .before .c .given .1) (c .stop2 .ensures)
 
 pub +emit-array+emit-base+emit-composite-def+emit-composite-word+emit-entry+emit-function+emit-member+emit-members+emit-param+emit-params+emit-proto+emit-type-chain+emit-type-decl-spec :
     {M : Type 1} → statement M
@@ -1343,8 +1352,10 @@ pub +emit-array+emit-base+emit-composite-def+emit-composite-word+emit-entry+emit
       kind-on-top-reads.Learnt,
       emit-type-chain-below t,
       emit-type-chain.Post,
-      put-byte-reads.Asked,
-      put-byte-reads.Learnt,
+      put-open-reads.Asked,
+      put-open-reads.Learnt,
+      put-close-reads.Asked,
+      put-close-reads.Learnt,
     )
     (emit-array-at t)
     emit-array.Post
@@ -1357,17 +1368,15 @@ pub +emit-array+emit-base+emit-composite-def+emit-composite-word+emit-entry+emit
     (emit-array-same-length-2 t)
     (emit-array-same-length-3 t)
     (emit-array-returns-2 t)
-    (emit-array-put-byte-requires t)
+    (emit-array-put-open-requires t)
     (emit-array-emit-type-chain-requires-2 t)
-    (emit-array-put-byte-requires-2 t)
+    (emit-array-put-close-requires t)
     (emit-array-same-length-4 t)
     (emit-array-same-length-5 t)
     (emit-array-returns-3 t))
     (λ t. emit-base-lts.spec (
       kind-of-reads.Asked,
       kind-of-reads.Learnt,
-      put-bytes-reads.Asked,
-      put-bytes-reads.Learnt,
       put-str-reads.Asked,
       put-str-reads.Learnt,
       emit-enum-word-reads.Asked,
@@ -1382,12 +1391,12 @@ pub +emit-array+emit-base+emit-composite-def+emit-composite-word+emit-entry+emit
       emit-enum64-word-reads.Learnt,
       emit-composite-word-below t,
       emit-composite-word.Post,
+      put-bytes-reads.Asked,
+      put-bytes-reads.Learnt,
     )
     (emit-base-at t)
     emit-base.Post
     (emit-base-kind-of-requires t)
-    (emit-base-slice-aggregate-put-bytes t)
-    (emit-base-put-bytes-requires t)
     (emit-base-put-str-requires t)
     (emit-base-emit-enum-word-requires t)
     (emit-base-kind-flag-of-requires t)
@@ -1395,26 +1404,28 @@ pub +emit-array+emit-base+emit-composite-def+emit-composite-word+emit-entry+emit
     (emit-base-put-typedef-name-requires t)
     (emit-base-emit-enum64-word-requires t)
     (emit-base-emit-composite-word-requires t)
+    (emit-base-slice-aggregate-put-bytes t)
+    (emit-base-put-bytes-requires t)
     (emit-base-same-length t)
     (emit-base-returns t)
     (emit-base-same-length-2 t)
-    (emit-base-returns-2 t)
     (emit-base-same-length-3 t)
+    (emit-base-returns-2 t)
     (emit-base-same-length-4 t)
-    (emit-base-returns-3 t)
     (emit-base-same-length-5 t)
+    (emit-base-returns-3 t)
     (emit-base-same-length-6 t)
-    (emit-base-returns-4 t)
     (emit-base-same-length-7 t)
+    (emit-base-returns-4 t)
     (emit-base-same-length-8 t)
-    (emit-base-returns-5 t)
     (emit-base-same-length-9 t)
+    (emit-base-returns-5 t)
     (emit-base-same-length-10 t)
-    (emit-base-returns-6 t)
     (emit-base-same-length-11 t)
-    (emit-base-same-length-12 t)
+    (emit-base-returns-6 t)
     (emit-base-returns-7 t)
     (emit-base-returns-8 t)
+    (emit-base-same-length-12 t)
     (emit-base-returns-9 t))
     (λ t. emit-composite-def-lts.spec (
       stop-reads.Asked,
@@ -1518,7 +1529,6 @@ pub +emit-array+emit-base+emit-composite-def+emit-composite-word+emit-entry+emit
     )
     (emit-entry-at t)
     emit-entry.Post
-    (emit-entry-returns t)
     (emit-entry-sub-n t)
     (emit-entry-path-at-requires t)
     (emit-entry-type-by-id-requires t)
@@ -1547,25 +1557,23 @@ pub +emit-array+emit-base+emit-composite-def+emit-composite-word+emit-entry+emit
     (emit-entry-goes-on-requires-4 t)
     (emit-entry-same-length t)
     (emit-entry-same-length-2 t)
-    (emit-entry-returns-2 t)
+    (emit-entry-returns t)
     (emit-entry-same-length-3 t)
     (emit-entry-same-length-4 t)
-    (emit-entry-returns-3 t)
+    (emit-entry-returns-2 t)
     (emit-entry-same-length-5 t)
     (emit-entry-same-length-6 t)
-    (emit-entry-returns-4 t)
+    (emit-entry-returns-3 t)
     (emit-entry-same-length-7 t)
     (emit-entry-same-length-8 t)
-    (emit-entry-returns-5 t)
+    (emit-entry-returns-4 t)
     (emit-entry-same-length-9 t)
     (emit-entry-same-length-10 t)
-    (emit-entry-returns-6 t)
+    (emit-entry-returns-5 t)
     (emit-entry-same-length-11 t)
     (emit-entry-same-length-12 t)
-    (emit-entry-returns-7 t))
+    (emit-entry-returns-6 t))
     (λ t. emit-function-lts.spec (
-      less-reads.Asked,
-      less-reads.Learnt,
       skip-mods-reads.Asked,
       skip-mods-reads.Learnt,
       emit-mods-reads.Asked,
@@ -1579,7 +1587,7 @@ pub +emit-array+emit-base+emit-composite-def+emit-composite-word+emit-entry+emit
     )
     (emit-function-at t)
     emit-function.Post
-    (emit-function-less-requires t)
+    (emit-function-sub-n t)
     (emit-function-skip-mods-requires t)
     (emit-function-emit-mods-requires t)
     (emit-function-emit-proto-requires t)
@@ -1650,8 +1658,8 @@ pub +emit-array+emit-base+emit-composite-def+emit-composite-word+emit-entry+emit
       bare-reads.Learnt,
       put-comma-reads.Asked,
       put-comma-reads.Learnt,
-      is-last-reads.Asked,
-      is-last-reads.Learnt,
+      is-any-more-reads.Asked,
+      is-any-more-reads.Learnt,
       put-bytes-reads.Asked,
       put-bytes-reads.Learnt,
       emit-type-decl-below t,
@@ -1665,7 +1673,7 @@ pub +emit-array+emit-base+emit-composite-def+emit-composite-word+emit-entry+emit
     (emit-param-word-requires-2 t)
     (emit-param-bare-requires t)
     (emit-param-put-comma-requires t)
-    (emit-param-is-last-requires t)
+    (emit-param-is-any-more-requires t)
     (emit-param-slice-aggregate-put-bytes t)
     (emit-param-put-bytes-requires t)
     (emit-param-same-length t)
@@ -1712,8 +1720,8 @@ pub +emit-array+emit-base+emit-composite-def+emit-composite-word+emit-entry+emit
       put-bytes-reads.Learnt,
       emit-type-chain-below t,
       emit-type-chain.Post,
-      put-byte-reads.Asked,
-      put-byte-reads.Learnt,
+      put-close-reads.Asked,
+      put-close-reads.Learnt,
     )
     (emit-proto-at t)
     emit-proto.Post
@@ -1723,7 +1731,7 @@ pub +emit-array+emit-base+emit-composite-def+emit-composite-word+emit-entry+emit
     (emit-proto-slice-aggregate-put-bytes t)
     (emit-proto-put-bytes-requires t)
     (emit-proto-emit-type-chain-requires t)
-    (emit-proto-put-byte-requires t)
+    (emit-proto-put-close-requires t)
     (emit-proto-same-length-2 t)
     (emit-proto-same-length-3 t)
     (emit-proto-returns-2 t))

@@ -1,8 +1,12 @@
-use mathlib.Core.Path.{_≡_}
+use Rattle.btf.specs.Records.{sectionWord, memberAt, paramAt}
+use mathlib.Core.Bool.{true, false}
+use mathlib.Core.Path.{_≡_, refl, ap, sym, _∙_}
 use lib.ListN.{length}
+use Prim.Native.Nat.{ℕ, zero-le, _<_, _≤_, _+_, _-_, _*_}
+use Rattle.order.proofs.Laws.{entry-word}
+use Rattle.emit.proofs.Laws as laws
 use borrow.Author.Needs.{needs}
 use native.Mathlib.Omega.{arith}
-use Prim.Native.Nat.{ℕ, _<_, _≤_, _+_, _-_, _*_}
 use borrow.Fn.Kinds.{In}
 use borrow.Fn.PlainCycle.{Measures, is, falls, and}
 use Rattle.emit.proofs.emit_composite.Reads as emit-composite
@@ -233,7 +237,7 @@ emit-composite-same-length-2 : (t : ℕ) → emit-composite-lts.Need-same-length
 emit-composite-same-length-2 t c = search needs
 
 emit-composite-returns : (t : ℕ) → emit-composite-lts.Need-returns (emit-composite-claims t) (emit-composite-at t) emit-composite.Post
-emit-composite-returns t c = search needs
+emit-composite-returns t c = λ n. laws.composite-top _ _ n _ _ _ _ _ _ _ (c .before .before .before .before .before .before .before .before .before .before .before .before .before .before .before .before .before .before .before .before .before .before .before .before .before .before .before .before .pre .1) _ (c .before .before .before .before .before .before .before .before .before .before .before .before .before .before .before .before .before .before .before .before .before .before .before .before .is-named .ensures) _ _ (c .before .before .before .before .before .before .before .before .before .before .before .before .before .before .before .before .before .before .before .before .before .before .set-emit-state .ensures) (c .before .before .before .before .before .before .before .before .before .before .before .before .before .before .before .before .before .before .before .if1 .taken) _ (c .before .before .before .before .before .before .before .before .before .before .before .before .before .before .before .before .before .before .inner .ensures) _ _ _ (c .before .before .before .before .before .before .before .before .before .before .before .before .before .before .before .emit-members .ensures n) _ _ _ (c .before .before .before .before .before .before .before .before .emit-definition .ensures) _ (c .before .before .set-emit-state2 .ensures)
 
 emit-composite-emit-members-requires-2 : (t : ℕ) → emit-composite-lts.Need-emit-members-requires-2 (emit-composite-claims t) (emit-composite-at t) emit-composite.Post
 emit-composite-emit-members-requires-2 t c κs = (omega arith, tt)
@@ -262,7 +266,7 @@ emit-composite-same-length-4 : (t : ℕ) → emit-composite-lts.Need-same-length
 emit-composite-same-length-4 t c = search needs
 
 emit-composite-returns-2 : (t : ℕ) → emit-composite-lts.Need-returns-2 (emit-composite-claims t) (emit-composite-at t) emit-composite.Post
-emit-composite-returns-2 t c = search needs
+emit-composite-returns-2 t c = λ n. laws.composite-nameless _ _ n _ _ _ _ _ _ _ (c .before .before .before .before .before .before .before .before .before .before .before .before .before .before .before .before .before .before .before .before .before .pre .1) _ (c .before .before .before .before .before .before .before .before .before .before .before .before .before .before .before .before .before .is-named .ensures) _ _ (c .before .before .before .before .before .before .before .before .before .before .before .before .before .before .before .set-emit-state .ensures) (c .before .before .before .before .before .before .before .before .before .before .before .before .if1 .left) (laws.not-true _ (c .before .before .before .before .before .before .before .before .before .before .before .if2 .taken)) _ _ _ (c .before .before .before .before .before .before .before .before .emit-members2 .ensures n) _ (c .before .before .set-emit-state3 .ensures)
 
 emit-composite-emit-mention-requires : (t : ℕ) → emit-composite-lts.Need-emit-mention-requires (emit-composite-claims t) (emit-composite-at t) emit-composite.Post
 emit-composite-emit-mention-requires t c κs = search needs
@@ -291,16 +295,16 @@ emit-composite-same-length-6 : (t : ℕ) → emit-composite-lts.Need-same-length
 emit-composite-same-length-6 t c = search needs
 
 emit-composite-returns-3 : (t : ℕ) → emit-composite-lts.Need-returns-3 (emit-composite-claims t) (emit-composite-at t) emit-composite.Post
-emit-composite-returns-3 t c = search needs
+emit-composite-returns-3 t c = λ n. laws.composite-mention _ _ n _ _ _ _ _ _ _ (c .before .before .before .before .before .before .before .before .before .before .before .before .before .before .before .before .before .before .before .before .before .pre .1) _ (c .before .before .before .before .before .before .before .before .before .before .before .before .before .before .before .before .before .is-named .ensures) _ _ (c .before .before .before .before .before .before .before .before .before .before .before .before .before .before .before .set-emit-state .ensures) (c .before .before .before .before .before .before .before .before .before .before .before .before .if1 .left) (laws.not-false _ (c .before .before .before .before .before .before .before .before .before .before .before .if2 .left)) _ _ _ (c .before .before .before .before .before .before .before .before .emit-mention .ensures n) _ (c .before .before .set-emit-state4 .ensures)
 
 abbrev emit-members-Inv-loop : emit-members-lts.InvT-loop
-emit-members-Inv-loop b section work₀ text₀ at members cont-id left vlen p₀ k₀ work text p k = (k ≤ vlen) × (vlen < 4294967296) × (length work ≡ length work₀) × (length text ≡ length text₀)
+emit-members-Inv-loop b section work₀ text₀ at members cont-id left vlen p₀ k₀ work text p k = (k ≤ vlen) × (length work ≡ length work₀) × (length text ≡ length text₀) × (vlen < 4294967296) × (vlen ≡ members .vlen) × ((n : ℕ) → laws.Rest b section work₀ left cont-id (λ i. sectionWord b section (memberAt (members .at) i + 4)) n p₀ text₀ (members .vlen) p text work k)
 
 abbrev emit-members-μ-loop : emit-members-lts.MeasureT-loop
 emit-members-μ-loop b section work₀ text₀ at members cont-id left vlen p₀ k₀ work text p k = vlen - k
 
 emit-members-loop-holds : (t : ℕ) → emit-members-lts.Need-loop-holds (emit-members-claims t) (emit-members-at t) emit-members.Post emit-members-Inv-loop emit-members-μ-loop
-emit-members-loop-holds t c = search needs
+emit-members-loop-holds t c = (zero-le, refl, refl, omega arith, refl, λ n. laws.rest-start _ _ _ _ _ _ n _ _ _)
 
 emit-members-member-place-requires : (t : ℕ) → emit-members-lts.Need-member-place-requires (emit-members-claims t) (emit-members-at t) emit-members.Post emit-members-Inv-loop emit-members-μ-loop
 emit-members-member-place-requires t c κs = search needs
@@ -321,7 +325,7 @@ emit-members-loop-less : (t : ℕ) → emit-members-lts.Need-loop-less (emit-mem
 emit-members-loop-less t c = omega arith
 
 emit-members-loop-again : (t : ℕ) → emit-members-lts.Need-loop-again (emit-members-claims t) (emit-members-at t) emit-members.Post emit-members-Inv-loop emit-members-μ-loop
-emit-members-loop-again t c = search needs
+emit-members-loop-again t c = (omega arith, c .before .before .before .before .emit-type .kept .1 .1 .0 ∙ c .before .before .before .before .before .before .before .before .before .before .loop .inv .1, c .before .before .before .before .emit-type .kept .1 .1 .1 .0 ∙ c .before .before .before .before .before .before .before .before .before .before .loop .inv .2, c .before .before .before .before .before .before .before .before .before .before .loop .inv .3, c .before .before .before .before .before .before .before .before .before .before .loop .inv .4, λ n. laws.rest-turn _ _ _ _ _ _ n _ _ _ _ _ _ _ (c .before .before .before .before .before .before .before .before .before .before .loop .inv .5 n) _ (λ _. entry-word _ _ _ _ _ (c .before .before .before .before .before .before .before .word .ensures) (c .before .before .before .before .before .before .before .before .member-place .ensures)) _ _ _ (c .before .before .before .before .emit-type .ensures n) (omega arith))
 
 emit-members-same-length : (t : ℕ) → emit-members-lts.Need-same-length (emit-members-claims t) (emit-members-at t) emit-members.Post emit-members-Inv-loop emit-members-μ-loop
 emit-members-same-length t c = search needs
@@ -330,7 +334,7 @@ emit-members-same-length-2 : (t : ℕ) → emit-members-lts.Need-same-length-2 (
 emit-members-same-length-2 t c = search needs
 
 emit-members-returns : (t : ℕ) → emit-members-lts.Need-returns (emit-members-claims t) (emit-members-at t) emit-members.Post emit-members-Inv-loop emit-members-μ-loop
-emit-members-returns t c = search needs
+emit-members-returns t c = λ n. laws.members-end _ _ _ _ _ n _ _ _ _ _ _ _ (c .before .loop .inv .5 n) (omega arith)
 
 emit-new-node-of-requires : (t : ℕ) → emit-new-lts.Need-node-of-requires (emit-new-claims t) (emit-new-at t) emit-new.Post
 emit-new-node-of-requires t c κs = search needs
@@ -345,7 +349,7 @@ emit-new-enum-known-is-fwd : (t : ℕ) → emit-new-lts.Need-enum-known-is-fwd (
 emit-new-enum-known-is-fwd t c = search needs
 
 emit-new-emit-leaf-requires : (t : ℕ) → emit-new-lts.Need-emit-leaf-requires (emit-new-claims t) (emit-new-at t) emit-new.Post
-emit-new-emit-leaf-requires t c κs = search needs
+emit-new-emit-leaf-requires t c κs = c .before .before .before .before .before .before .before .before .before .pre .1
 
 emit-new-enum-known-next : (t : ℕ) → emit-new-lts.Need-enum-known-next (emit-new-claims t) (emit-new-at t) emit-new.Post
 emit-new-enum-known-next t c = search needs
@@ -387,13 +391,13 @@ emit-new-enum-known-members : (t : ℕ) → emit-new-lts.Need-enum-known-members
 emit-new-enum-known-members t c = search needs
 
 emit-new-emit-composite-requires : (t : ℕ) → emit-new-lts.Need-emit-composite-requires (emit-new-claims t) (emit-new-at t) emit-new.Post
-emit-new-emit-composite-requires t c κs = (omega arith, tt)
+emit-new-emit-composite-requires t c κs = (omega arith, c .before .before .before .before .before .before .before .before .before .pre .1)
 
 emit-new-returns : (t : ℕ) → emit-new-lts.Need-returns (emit-new-claims t) (emit-new-at t) emit-new.Post
-emit-new-returns t c = search needs
+emit-new-returns t c = λ n. laws.new-ignored _ _ n _ _ _ _ _ _ _ (c .before .before .before .before .before .before .pre .1) _ (c .before .before .node-of .ensures) _ (c .enum-told .given .1) refl
 
 emit-new-returns-2 : (t : ℕ) → emit-new-lts.Need-returns-2 (emit-new-claims t) (emit-new-at t) emit-new.Post
-emit-new-returns-2 t c = search needs
+emit-new-returns-2 t c = λ n. laws.new-plain _ _ n _ _ _ _ _ _ _ (c .before .before .before .before .before .before .pre .1) _ (c .before .before .node-of .ensures) _ (c .enum-told2 .given .1) refl
 
 emit-new-same-length : (t : ℕ) → emit-new-lts.Need-same-length (emit-new-claims t) (emit-new-at t) emit-new.Post
 emit-new-same-length t c = search needs
@@ -402,7 +406,7 @@ emit-new-same-length-2 : (t : ℕ) → emit-new-lts.Need-same-length-2 (emit-new
 emit-new-same-length-2 t c = search needs
 
 emit-new-returns-3 : (t : ℕ) → emit-new-lts.Need-returns-3 (emit-new-claims t) (emit-new-at t) emit-new.Post
-emit-new-returns-3 t c = search needs
+emit-new-returns-3 t c = λ n. laws.new-listed _ _ n _ _ _ _ _ _ _ (c .before .before .before .before .before .before .before .before .before .before .before .before .before .before .pre .1) _ (c .before .before .before .before .before .before .before .before .before .before .node-of .ensures) _ _ (c .before .before .before .before .before .before .before .before .is-fwd .given .1) (c .before .before .before .before .emit-leaf .ensures n)
 
 emit-new-same-length-3 : (t : ℕ) → emit-new-lts.Need-same-length-3 (emit-new-claims t) (emit-new-at t) emit-new.Post
 emit-new-same-length-3 t c = search needs
@@ -411,7 +415,7 @@ emit-new-same-length-4 : (t : ℕ) → emit-new-lts.Need-same-length-4 (emit-new
 emit-new-same-length-4 t c = search needs
 
 emit-new-returns-4 : (t : ℕ) → emit-new-lts.Need-returns-4 (emit-new-claims t) (emit-new-at t) emit-new.Post
-emit-new-returns-4 t c = search needs
+emit-new-returns-4 t c = λ n. laws.new-through _ _ n _ _ _ _ _ _ _ (c .before .before .before .before .before .before .before .before .before .before .before .before .before .before .pre .1) _ (c .before .before .before .before .before .before .before .before .before .before .node-of .ensures) _ _ (c .before .before .before .before .before .before .before .before .next .given .1) (c .before .before .before .before .emit-type .ensures n)
 
 emit-new-same-length-5 : (t : ℕ) → emit-new-lts.Need-same-length-5 (emit-new-claims t) (emit-new-at t) emit-new.Post
 emit-new-same-length-5 t c = search needs
@@ -420,7 +424,7 @@ emit-new-same-length-6 : (t : ℕ) → emit-new-lts.Need-same-length-6 (emit-new
 emit-new-same-length-6 t c = search needs
 
 emit-new-returns-5 : (t : ℕ) → emit-new-lts.Need-returns-5 (emit-new-claims t) (emit-new-at t) emit-new.Post
-emit-new-returns-5 t c = search needs
+emit-new-returns-5 t c = λ n. laws.new-ptr _ _ n _ _ _ _ _ _ _ (c .before .before .before .before .before .before .before .before .before .before .before .before .before .before .pre .1) _ (c .before .before .before .before .before .before .before .before .before .before .node-of .ensures) _ _ (c .before .before .before .before .before .before .before .before .next2 .given .1) (c .before .before .before .before .emit-type2 .ensures n)
 
 emit-new-same-length-7 : (t : ℕ) → emit-new-lts.Need-same-length-7 (emit-new-claims t) (emit-new-at t) emit-new.Post
 emit-new-same-length-7 t c = search needs
@@ -429,7 +433,7 @@ emit-new-same-length-8 : (t : ℕ) → emit-new-lts.Need-same-length-8 (emit-new
 emit-new-same-length-8 t c = search needs
 
 emit-new-returns-6 : (t : ℕ) → emit-new-lts.Need-returns-6 (emit-new-claims t) (emit-new-at t) emit-new.Post
-emit-new-returns-6 t c = search needs
+emit-new-returns-6 t c = λ n. laws.new-typedef _ _ n _ _ _ _ _ _ _ (c .before .before .before .before .before .before .before .before .before .before .before .before .before .before .before .before .before .before .before .before .before .before .before .before .before .before .before .before .before .pre .1) _ (c .before .before .before .before .before .before .before .before .before .before .before .before .before .before .before .before .before .before .before .before .before .before .before .before .before .node-of .ensures) _ _ (c .before .before .before .before .before .before .before .before .before .before .before .before .before .before .before .before .before .before .before .before .before .before .before .next3 .given .1) _ (c .before .before .before .before .before .before .before .before .before .before .before .before .before .before .before .before .before .before .before .before .set-emit-state .ensures) _ _ _ (c .before .before .before .before .before .before .before .before .before .before .before .before .before .before .before .emit-type3 .ensures n) _ _ _ (c .before .before .before .before .before .before .before .before .emit-once .ensures n) _ (c .before .before .set-emit-state2 .ensures) refl
 
 emit-new-same-length-9 : (t : ℕ) → emit-new-lts.Need-same-length-9 (emit-new-claims t) (emit-new-at t) emit-new.Post
 emit-new-same-length-9 t c = search needs
@@ -438,7 +442,7 @@ emit-new-same-length-10 : (t : ℕ) → emit-new-lts.Need-same-length-10 (emit-n
 emit-new-same-length-10 t c = search needs
 
 emit-new-returns-7 : (t : ℕ) → emit-new-lts.Need-returns-7 (emit-new-claims t) (emit-new-at t) emit-new.Post
-emit-new-returns-7 t c = search needs
+emit-new-returns-7 t c = λ n. laws.new-proto _ _ n _ _ _ _ _ _ _ (c .before .before .before .before .before .before .before .before .before .before .before .before .before .before .before .before .before .before .before .before .before .pre .1) _ (c .before .before .before .before .before .before .before .before .before .before .before .before .before .before .before .before .before .node-of .ensures) _ _ _ (c .before .before .before .before .before .before .before .before .before .before .before .before .before .before .before .res .given .1) _ _ _ (c .before .before .before .before .before .before .before .before .before .before .before .emit-type4 .ensures n) (c .before .before .before .before .emit-params .ensures n)
 
 emit-new-same-length-11 : (t : ℕ) → emit-new-lts.Need-same-length-11 (emit-new-claims t) (emit-new-at t) emit-new.Post
 emit-new-same-length-11 t c = search needs
@@ -447,16 +451,16 @@ emit-new-same-length-12 : (t : ℕ) → emit-new-lts.Need-same-length-12 (emit-n
 emit-new-same-length-12 t c = search needs
 
 emit-new-returns-8 : (t : ℕ) → emit-new-lts.Need-returns-8 (emit-new-claims t) (emit-new-at t) emit-new.Post
-emit-new-returns-8 t c = search needs
+emit-new-returns-8 t c = λ n. laws.new-composite _ _ n _ _ _ _ _ _ _ (c .before .before .before .before .before .before .before .before .before .before .before .before .before .before .pre .1) _ (c .before .before .before .before .before .before .before .before .before .before .node-of .ensures) _ _ (c .before .before .before .before .before .before .before .before .members .given .1) (c .before .before .before .before .emit-composite .ensures n)
 
 abbrev emit-params-Inv-loop : emit-params-lts.InvT-loop
-emit-params-Inv-loop b section work₀ text₀ at params cont-id left vlen p₀ k₀ work text p k = (k ≤ vlen) × (vlen < 4294967296) × (length work ≡ length work₀) × (length text ≡ length text₀)
+emit-params-Inv-loop b section work₀ text₀ at params cont-id left vlen p₀ k₀ work text p k = (k ≤ vlen) × (length work ≡ length work₀) × (length text ≡ length text₀) × (vlen < 4294967296) × (vlen ≡ params .vlen) × ((n : ℕ) → laws.Rest b section work₀ left cont-id (λ i. sectionWord b section (paramAt (params .at) i + 4)) n p₀ text₀ (params .vlen) p text work k)
 
 abbrev emit-params-μ-loop : emit-params-lts.MeasureT-loop
 emit-params-μ-loop b section work₀ text₀ at params cont-id left vlen p₀ k₀ work text p k = vlen - k
 
 emit-params-loop-holds : (t : ℕ) → emit-params-lts.Need-loop-holds (emit-params-claims t) (emit-params-at t) emit-params.Post emit-params-Inv-loop emit-params-μ-loop
-emit-params-loop-holds t c = search needs
+emit-params-loop-holds t c = (zero-le, refl, refl, omega arith, refl, λ n. laws.rest-start _ _ _ _ _ _ n _ _ _)
 
 emit-params-param-place-requires : (t : ℕ) → emit-params-lts.Need-param-place-requires (emit-params-claims t) (emit-params-at t) emit-params.Post emit-params-Inv-loop emit-params-μ-loop
 emit-params-param-place-requires t c κs = search needs
@@ -477,7 +481,7 @@ emit-params-loop-less : (t : ℕ) → emit-params-lts.Need-loop-less (emit-param
 emit-params-loop-less t c = omega arith
 
 emit-params-loop-again : (t : ℕ) → emit-params-lts.Need-loop-again (emit-params-claims t) (emit-params-at t) emit-params.Post emit-params-Inv-loop emit-params-μ-loop
-emit-params-loop-again t c = search needs
+emit-params-loop-again t c = (omega arith, c .before .before .before .before .emit-type .kept .1 .1 .0 ∙ c .before .before .before .before .before .before .before .before .before .before .loop .inv .1, c .before .before .before .before .emit-type .kept .1 .1 .1 .0 ∙ c .before .before .before .before .before .before .before .before .before .before .loop .inv .2, c .before .before .before .before .before .before .before .before .before .before .loop .inv .3, c .before .before .before .before .before .before .before .before .before .before .loop .inv .4, λ n. laws.rest-turn _ _ _ _ _ _ n _ _ _ _ _ _ _ (c .before .before .before .before .before .before .before .before .before .before .loop .inv .5 n) _ (λ _. entry-word _ _ _ _ _ (c .before .before .before .before .before .before .before .word .ensures) (c .before .before .before .before .before .before .before .before .param-place .ensures)) _ _ _ (c .before .before .before .before .emit-type .ensures n) (omega arith))
 
 emit-params-same-length : (t : ℕ) → emit-params-lts.Need-same-length (emit-params-claims t) (emit-params-at t) emit-params.Post emit-params-Inv-loop emit-params-μ-loop
 emit-params-same-length t c = search needs
@@ -486,7 +490,7 @@ emit-params-same-length-2 : (t : ℕ) → emit-params-lts.Need-same-length-2 (em
 emit-params-same-length-2 t c = search needs
 
 emit-params-returns : (t : ℕ) → emit-params-lts.Need-returns (emit-params-claims t) (emit-params-at t) emit-params.Post emit-params-Inv-loop emit-params-μ-loop
-emit-params-returns t c = search needs
+emit-params-returns t c = λ n. laws.params-end _ _ _ _ _ n _ _ _ _ _ _ _ (c .before .loop .inv .5 n) (omega arith)
 
 emit-type-stopped-requires : (t : ℕ) → emit-type-lts.Need-stopped-requires (emit-type-claims t) (emit-type-at t) emit-type.Post
 emit-type-stopped-requires t c κs = search needs
@@ -495,7 +499,7 @@ emit-type-same-length : (t : ℕ) → emit-type-lts.Need-same-length (emit-type-
 emit-type-same-length t c = search needs
 
 emit-type-returns : (t : ℕ) → emit-type-lts.Need-returns (emit-type-claims t) (emit-type-at t) emit-type.Post
-emit-type-returns t c = search needs
+emit-type-returns t c = λ n. laws.stopped-sheet n _ _ _ _ (sym (c .before .stopped .ensures) ∙ c .if1 .taken)
 
 emit-type-stop-requires : (t : ℕ) → emit-type-lts.Need-stop-requires (emit-type-claims t) (emit-type-at t) emit-type.Post
 emit-type-stop-requires t c κs = search needs
@@ -504,7 +508,7 @@ emit-type-same-length-2 : (t : ℕ) → emit-type-lts.Need-same-length-2 (emit-t
 emit-type-same-length-2 t c = search needs
 
 emit-type-returns-2 : (t : ℕ) → emit-type-lts.Need-returns-2 (emit-type-claims t) (emit-type-at t) emit-type.Post
-emit-type-returns-2 t c = search needs
+emit-type-returns-2 t c = λ n. laws.too-deep _ _ n _ _ _ _ _ _ (c .before .before .if2 .taken) _ (c .stop .ensures)
 
 emit-type-get-emit-state-requires : (t : ℕ) → emit-type-lts.Need-get-emit-state-requires (emit-type-claims t) (emit-type-at t) emit-type.Post
 emit-type-get-emit-state-requires t c κs = search needs
@@ -516,7 +520,7 @@ emit-type-same-length-4 : (t : ℕ) → emit-type-lts.Need-same-length-4 (emit-t
 emit-type-same-length-4 t c = search needs
 
 emit-type-returns-3 : (t : ℕ) → emit-type-lts.Need-returns-3 (emit-type-claims t) (emit-type-at t) emit-type.Post
-emit-type-returns-3 t c = search needs
+emit-type-returns-3 t c = λ n. laws.emit-done _ _ n _ _ _ _ _ _ (c .before .before .before .if2 .left) _ (c .before .get-emit-state .ensures) (c .if3 .taken)
 
 emit-type-emit-again-requires : (t : ℕ) → emit-type-lts.Need-emit-again-requires (emit-type-claims t) (emit-type-at t) emit-type.Post
 emit-type-emit-again-requires t c κs = search needs
@@ -528,7 +532,7 @@ emit-type-same-length-6 : (t : ℕ) → emit-type-lts.Need-same-length-6 (emit-t
 emit-type-same-length-6 t c = search needs
 
 emit-type-returns-4 : (t : ℕ) → emit-type-lts.Need-returns-4 (emit-type-claims t) (emit-type-at t) emit-type.Post
-emit-type-returns-4 t c = search needs
+emit-type-returns-4 t c = λ n. laws.emit-busy _ _ n _ _ _ _ _ _ (c .before .before .before .before .before .before .before .before .before .before .before .if2 .left) _ (c .before .before .before .before .before .before .before .before .before .get-emit-state .ensures) (c .before .before .before .before .before .before .before .if4 .taken) _ (c .before .before .before .before .emit-again .ensures n)
 
 emit-type-type-by-id-requires : (t : ℕ) → emit-type-lts.Need-type-by-id-requires (emit-type-claims t) (emit-type-at t) emit-type.Post
 emit-type-type-by-id-requires t c κs = search needs
@@ -546,13 +550,13 @@ emit-type-same-length-8 : (t : ℕ) → emit-type-lts.Need-same-length-8 (emit-t
 emit-type-same-length-8 t c = search needs
 
 emit-type-returns-5 : (t : ℕ) → emit-type-lts.Need-returns-5 (emit-type-claims t) (emit-type-at t) emit-type.Post
-emit-type-returns-5 t c = search needs
+emit-type-returns-5 t c = λ n. laws.emit-nameless _ _ n _ _ _ _ _ _ (c .before .before .before .before .before .before .before .before .before .before .if2 .left) _ (c .before .before .before .before .before .before .before .before .get-emit-state .ensures) (c .before .before .before .before .before .before .before .if3 .left) (c .before .before .before .before .before .before .if4 .left) _ (c .before .before .before .before .type-by-id .ensures) _ (c .before .before .before .is-named .ensures) (c .before .before .if5 .taken) _ (c .stop2 .ensures)
 
 emit-type-sub-emit-new : (t : ℕ) → emit-type-lts.Need-sub-emit-new (emit-type-claims t) (emit-type-at t) emit-type.Post
 emit-type-sub-emit-new t c = omega arith
 
 emit-type-emit-new-requires : (t : ℕ) → emit-type-lts.Need-emit-new-requires (emit-type-claims t) (emit-type-at t) emit-type.Post
-emit-type-emit-new-requires t c κs = (omega arith, tt)
+emit-type-emit-new-requires t c κs = (omega arith, c .before .before .before .before .type-by-id .ensures)
 
 emit-type-same-length-9 : (t : ℕ) → emit-type-lts.Need-same-length-9 (emit-type-claims t) (emit-type-at t) emit-type.Post
 emit-type-same-length-9 t c = search needs
@@ -561,7 +565,7 @@ emit-type-same-length-10 : (t : ℕ) → emit-type-lts.Need-same-length-10 (emit
 emit-type-same-length-10 t c = search needs
 
 emit-type-returns-6 : (t : ℕ) → emit-type-lts.Need-returns-6 (emit-type-claims t) (emit-type-at t) emit-type.Post
-emit-type-returns-6 t c = search needs
+emit-type-returns-6 t c = λ n. laws.emit-fresh _ _ n _ _ _ _ _ _ (c .before .before .before .before .before .before .before .before .before .before .before .before .before .before .before .if2 .left) _ (c .before .before .before .before .before .before .before .before .before .before .before .before .before .get-emit-state .ensures) (c .before .before .before .before .before .before .before .before .before .before .before .before .if3 .left) (c .before .before .before .before .before .before .before .before .before .before .before .if4 .left) _ (c .before .before .before .before .before .before .before .before .before .type-by-id .ensures) _ (c .before .before .before .before .before .before .before .before .is-named .ensures) (c .before .before .before .before .before .before .before .if5 .left) _ (c .before .before .before .before .emit-new .ensures n)
 
 pub +emit-composite+emit-members+emit-new+emit-params+emit-type-spec : {M : Type 1} → statement M
 +emit-composite+emit-members+emit-new+emit-params+emit-type-spec =

@@ -1,8 +1,14 @@
-use native.Mathlib.Omega.{arith}
-use borrow.Author.Needs.{needs}
-use Prim.Native.Nat.{_≤_, _<_, _-_}
-use mathlib.Core.Path.{_≡_}
+use Rattle.enums.proofs.Values.{ValuesLeft, values-start, values-turn, values-end, value64-name, value64-bits, put-flag, subst-below, subst-above}
+use Rattle.btf.specs.Table.{btfOf, value64Of}
+use Rattle.btf.specs.Records.{vlenOf, flagOf}
+use Rattle.btf.specs.declared.types.Entries.{Entries}
+use Rattle.rules.specs.Decl.{enum64Value}
+use denote.Ref.{now}
 use lib.ListN.{length}
+use mathlib.Core.Path.{_≡_, refl, ap, sym, _∙_}
+use Prim.Native.Nat.{_≤_, _-_, _<_}
+use borrow.Author.Needs.{needs}
+use native.Mathlib.Omega.{arith}
 use Rattle.enums.proofs.emit_values64.Statement.{statement}
 use Rattle.enums.proofs.emit_values64.Tie as tie
 use Rattle.enums.proofs.emit_values64.Reads as reads
@@ -19,7 +25,7 @@ use Rattle.enums.proofs.put_value64.Reads as put-value64-reads
 use Rattle.lent.proofs.put_byte.Reads as put-byte-reads
 
 abbrev Inv-loop : tie.InvT-loop
-Inv-loop b section work₀ text₀ at id t lvl values vlen first p₀ k₀ work text p k = (k ≤ vlen) × (vlen < 4294967296) × (length work ≡ length work₀) × (length text ≡ length text₀)
+Inv-loop b section work₀ text₀ at id t lvl values vlen first p₀ k₀ work text p k = (length text ≡ length text₀) × (length work ≡ length work₀) × (k ≤ vlen) × (vlen < 4294967296) × ValuesLeft b (btfOf b section work₀) (enum64Value (flagOf (t .info))) (value64Of b section (t .at)) id lvl (vlenOf (t .info)) first text₀ at work₀ text p work k
 
 abbrev μ-loop : tie.MeasureT-loop
 μ-loop b section work₀ text₀ at id t lvl values vlen first p₀ k₀ work text p k = vlen - k
@@ -31,7 +37,7 @@ get-field-requires : tie.Need-get-field-requires Inv-loop μ-loop
 get-field-requires c κs = search needs
 
 loop-holds : tie.Need-loop-holds Inv-loop μ-loop
-loop-holds c = search needs
+loop-holds c = (refl, refl, omega arith, omega arith, values-start (c .before .before .before .before .before .before .args .b) _ _ _ _ _ _ _ _ _ _ (c .get-field .ensures))
 
 member-place-requires : tie.Need-member-place-requires Inv-loop μ-loop
 member-place-requires c κs = search needs
@@ -64,7 +70,20 @@ loop-less : tie.Need-loop-less Inv-loop μ-loop
 loop-less c = omega arith
 
 loop-again : tie.Need-loop-again Inv-loop μ-loop
-loop-again c = search needs
+loop-again c = (
+  c .before .before .put-byte .kept .0 ∙ c .before .before .before .before .before .before .put-value64 .kept .0 ∙ c .before .before .before .before .before .before .before .before .before .before .before .before .before .before .emit-enumerator .kept .1 .1 .1 .0 ∙ c .before .before .before .before .before .before .before .before .before .before .before .before .before .before .before .before .before .before .before .before .before .loop .inv .0,
+  c .before .before .before .before .before .before .before .before .before .before .before .before .before .before .emit-enumerator .kept .1 .1 .0 ∙ c .before .before .before .before .before .before .before .before .before .before .before .before .before .before .before .before .before .before .before .before .before .loop .inv .1,
+  omega arith,
+  c .before .before .before .before .before .before .before .before .before .before .before .before .before .before .before .before .before .before .before .before .before .loop .inv .3,
+  values-turn (c .before .before .before .before .before .before .before .before .before .before .before .before .before .before .before .before .before .before .before .before .before .before .before .before .before .before .before .before .args .b) _ _ _ _ _ _ _ _ _ _ _ _ _ _ _ _ _ _ _ _ _ _ _ _ _ (c .before .before .before .before .before .before .before .before .before .before .before .before .before .before .before .before .before .before .before .before .before .loop .inv .4)
+      (subst-below (ap (λ (x : Entries). x .vlen) (c .before .before .before .before .before .before .before .before .before .before .before .before .before .before .before .before .before .before .before .before .before .before .before .before .entries-of .ensures)) (c .before .before .before .before .before .before .before .before .before .before .before .before .before .before .before .before .before .before .before .before .loop-test .taken))
+      (c .before .before .before .before .before .before .before .before .before .before .before .before .before .before .before .nth .ensures)
+      (value64-name (c .before .before .before .before .before .before .before .before .before .before .before .before .before .before .before .before .before .before .before .before .before .before .before .before .before .before .before .before .args .b) _ (c .before .before .before .before .before .before .before .before .before .before .before .before .before .before .before .before .before .before .before .before .before .before .before .before .before .before .before .before .args .t) _ _ (c .before .before .before .before .before .before .before .before .before .before .before .before .before .before .before .before .before .before .before .before .before .before .before .before .entries-of .ensures) _ _ (c .before .before .before .before .before .before .before .before .before .before .before .before .before .before .before .before .before .before .word .ensures) (c .before .before .before .before .before .before .before .before .before .before .before .before .before .before .before .before .before .before .before .member-place .ensures))
+      (value64-bits (c .before .before .before .before .before .before .before .before .before .before .before .before .before .before .before .before .before .before .before .before .before .before .before .before .before .before .before .before .args .b) _ (c .before .before .before .before .before .before .before .before .before .before .before .before .before .before .before .before .before .before .before .before .before .before .before .before .before .before .before .before .args .t) _ _ (c .before .before .before .before .before .before .before .before .before .before .before .before .before .before .before .before .before .before .before .before .before .before .before .before .entries-of .ensures) _ _ (c .before .before .before .before .before .before .before .before .before .before .before .before .before .before .before .before .before .before .word .ensures) _ (c .before .before .before .before .before .before .before .before .before .load-enum64-value .ensures))
+      (c .before .before .before .before .before .before .before .before .before .before .before .before .before .before .emit-enumerator .ensures)
+      (put-flag enum64Value _ _ _ _ _ _ _ (c .before .before .before .before .before .before .before .kind-flag-of .ensures) (c .before .before .before .before .before .before .put-value64 .ensures))
+      (c .before .before .put-byte .ensures),
+)
 
 same-length : tie.Need-same-length Inv-loop μ-loop
 same-length c = search needs
@@ -73,7 +92,7 @@ same-length-2 : tie.Need-same-length-2 Inv-loop μ-loop
 same-length-2 c = search needs
 
 returns : tie.Need-returns Inv-loop μ-loop
-returns c = search needs
+returns c = values-end (c .before .before .before .before .before .before .before .before .args .b) _ _ _ _ _ _ _ _ _ _ _ _ _ _ (c .before .loop .inv .4) (subst-above (ap (λ (x : Entries). x .vlen) (c .before .before .before .before .entries-of .ensures)) (c .loop-test .left))
 
 pub emit-values64-spec : {M : Type 1} → statement M
 emit-values64-spec =

@@ -1,3 +1,10 @@
+use Rattle.layout.proofs.Laws.{align-deep, align-int, align-ptr, align-array, align-sized, align-composite, align-through, align-tagged, align-void, align-fwd, align-past, alignRest, rest-start, rest-more, rest-refused, rest-skips, rest-end, Seen, seen-none, seen-next, seen-still}
+use Rattle.layout.specs.Answers.{alignIds}
+use Rattle.btf.specs.Nodes.{memberIds}
+use Rattle.btf.specs.Table.{btfOf}
+use Rattle.rules.specs.Layout.{getAlignOf}
+use mathlib.Core.Logic.{⊎-elim}
+use mathlib.Core.Path.{_≡_, _∙_}
 use borrow.Author.Needs.{needs}
 use native.Mathlib.Omega.{arith}
 use Prim.Native.Nat.{ℕ, _<_, _≤_, _+_, _-_}
@@ -16,9 +23,9 @@ use Rattle.btf.proofs.kind_of.Reads as kind-of-reads
 use Rattle.btf.proofs.member_place.Reads as member-place-reads
 use Rattle.btf.proofs.type_by_id.Reads as type-by-id-reads
 use Rattle.btf.proofs.word.Reads as word-reads
-use Rattle.layout.proofs.larger.Reads as larger-reads
 use Rattle.layout.proofs.octets.Reads as octets-reads
-use Rattle.layout.proofs.smaller.Reads as smaller-reads
+use Rattle.rules.proofs.larger.Reads as larger-reads
+use Rattle.rules.proofs.smaller.Reads as smaller-reads
 use Rattle.layout.proofs.+align_members+get_align_of.{statement}
 use Rattle.layout.proofs.+align_members+get_align_of.Tie.{close}
 
@@ -87,13 +94,13 @@ get-align-of-claims t = (
 )
 
 abbrev align-members-Inv-loop : align-members-lts.InvT-loop
-align-members-Inv-loop b section work members left vlen align₀ k₀ align k = (k ≤ vlen) × (vlen < 4294967296)
+align-members-Inv-loop b section work members left vlen align₀ last₀ k₀ align last k = (k ≤ members .vlen) × (members .vlen < 4294967296) × (alignIds (getAlignOf left (btfOf b section work)) 1 (memberIds b section members) ≡ alignRest (getAlignOf left (btfOf b section work)) b section members align k) × Seen (getAlignOf left (btfOf b section work)) align last
 
 abbrev align-members-μ-loop : align-members-lts.MeasureT-loop
-align-members-μ-loop b section work members left vlen align₀ k₀ align k = vlen - k
+align-members-μ-loop b section work members left vlen align₀ last₀ k₀ align last k = members .vlen - k
 
 align-members-loop-holds : (t : ℕ) → align-members-lts.Need-loop-holds (align-members-claims t) (align-members-at t) align-members.Post align-members-Inv-loop align-members-μ-loop
-align-members-loop-holds t c = search needs
+align-members-loop-holds t c = (omega arith, omega arith, rest-start _ _ _ _, seen-none _ _)
 
 align-members-member-place-requires : (t : ℕ) → align-members-lts.Need-member-place-requires (align-members-claims t) (align-members-at t) align-members.Post align-members-Inv-loop align-members-μ-loop
 align-members-member-place-requires t c κs = search needs
@@ -103,6 +110,9 @@ align-members-add-word t c = omega arith
 
 align-members-word-requires : (t : ℕ) → align-members-lts.Need-word-requires (align-members-claims t) (align-members-at t) align-members.Post align-members-Inv-loop align-members-μ-loop
 align-members-word-requires t c κs = search needs
+
+align-members-cast-if1 : (t : ℕ) → align-members-lts.Need-cast-if1 (align-members-claims t) (align-members-at t) align-members.Post align-members-Inv-loop align-members-μ-loop
+align-members-cast-if1 t c = omega arith
 
 align-members-get-align-of-requires : (t : ℕ) → align-members-lts.Need-get-align-of-requires (align-members-claims t) (align-members-at t) align-members.Post align-members-Inv-loop align-members-μ-loop
 align-members-get-align-of-requires t c κs = (omega arith, tt)
@@ -117,7 +127,10 @@ align-members-enum-known-c : (t : ℕ) → align-members-lts.Need-enum-known-c (
 align-members-enum-known-c t c = search needs
 
 align-members-returns : (t : ℕ) → align-members-lts.Need-returns (align-members-claims t) (align-members-at t) align-members.Post align-members-Inv-loop align-members-μ-loop
-align-members-returns t c = search needs
+align-members-returns t c = rest-refused _ _ _ _ _ _ _ _ (c .before .before .before .before .before .before .before .loop-test .taken) (c .before .before .before .before .before .before .member-place .ensures) (c .before .before .before .before .before .word .ensures) _ (c .before .before .before .get-align-of .ensures) _ _ (c .before .before .before .before .before .before .before .before .loop .inv .2) (c .before .c .given .1)
+
+align-members-cast-last : (t : ℕ) → align-members-lts.Need-cast-last (align-members-claims t) (align-members-at t) align-members.Post align-members-Inv-loop align-members-μ-loop
+align-members-cast-last t c = omega arith
 
 align-members-add-k : (t : ℕ) → align-members-lts.Need-add-k (align-members-claims t) (align-members-at t) align-members.Post align-members-Inv-loop align-members-μ-loop
 align-members-add-k t c = omega arith
@@ -126,13 +139,13 @@ align-members-loop-less : (t : ℕ) → align-members-lts.Need-loop-less (align-
 align-members-loop-less t c = omega arith
 
 align-members-loop-again : (t : ℕ) → align-members-lts.Need-loop-again (align-members-claims t) (align-members-at t) align-members.Post align-members-Inv-loop align-members-μ-loop
-align-members-loop-again t c = search needs
+align-members-loop-again t c = (omega arith, c .before .before .before .before .loop .inv .1, ⊎-elim (λ j. rest-more _ _ _ _ _ _ _ _ (c .before .before .before .loop-test .taken) (c .before .before .member-place .ensures) (c .before .word .ensures) _ (j .1 .ensures) _ _ _ (c .before .before .before .before .loop .inv .2) (j .3 .given .1) (j .6 ∙ j .5 .ensures)) (λ j. rest-skips _ _ _ _ _ _ _ _ (c .before .before .before .loop-test .taken) (c .before .before .member-place .ensures) (c .before .word .ensures) _ _ _ (c .before .before .before .before .loop .inv .2) (c .before .before .before .before .loop .inv .3) (omega arith) (j .0 .left) (j .1)) (c .if1 .came), ⊎-elim (λ j. seen-next _ _ _ _ _ _ _ (j .1 .ensures) (j .3 .given .1) (j .6 ∙ j .5 .ensures) (j .7)) (λ j. seen-still _ _ _ _ _ (c .before .before .before .before .loop .inv .3) (j .1) (j .2)) (c .if1 .came))
 
 align-members-returns-2 : (t : ℕ) → align-members-lts.Need-returns-2 (align-members-claims t) (align-members-at t) align-members.Post align-members-Inv-loop align-members-μ-loop
-align-members-returns-2 t c = search needs
+align-members-returns-2 t c = rest-end _ _ _ _ _ _ _ (c .before .loop .inv .2) (c .loop-test .left)
 
 get-align-of-returns : (t : ℕ) → get-align-of-lts.Need-returns (get-align-of-claims t) (get-align-of-at t) get-align-of.Post
-get-align-of-returns t c = search needs
+get-align-of-returns t c = align-deep _ _ _ _ _ (c .if1 .taken)
 
 get-align-of-type-by-id-requires : (t : ℕ) → get-align-of-lts.Need-type-by-id-requires (get-align-of-claims t) (get-align-of-at t) get-align-of.Post
 get-align-of-type-by-id-requires t c κs = search needs
@@ -177,31 +190,31 @@ get-align-of-get-align-of-requires-2 : (t : ℕ) → get-align-of-lts.Need-get-a
 get-align-of-get-align-of-requires-2 t c κs = (omega arith, tt)
 
 get-align-of-returns-2 : (t : ℕ) → get-align-of-lts.Need-returns-2 (get-align-of-claims t) (get-align-of-at t) get-align-of.Post
-get-align-of-returns-2 t c = search needs
+get-align-of-returns-2 t c = align-int _ _ _ _ _ (c .before .before .before .before .before .before .if1 .left) _ (c .before .before .before .before .before .type-by-id .ensures) _ (c .before .before .before .before .kind-of .ensures) _ _ _ (c .before .before .before .match .keys1) (c .before .before .int-bits .ensures) (c .before .octets .ensures) (c .smaller .ensures)
 
 get-align-of-returns-3 : (t : ℕ) → get-align-of-lts.Need-returns-3 (get-align-of-claims t) (get-align-of-at t) get-align-of.Post
-get-align-of-returns-3 t c = search needs
+get-align-of-returns-3 t c = align-ptr _ _ _ _ _ (c .before .before .before .if1 .left) _ (c .before .before .type-by-id .ensures) _ (c .before .kind-of .ensures) (c .match .keys2)
 
 get-align-of-returns-4 : (t : ℕ) → get-align-of-lts.Need-returns-4 (get-align-of-claims t) (get-align-of-at t) get-align-of.Post
-get-align-of-returns-4 t c = search needs
+get-align-of-returns-4 t c = align-array _ _ _ _ _ (c .before .before .before .before .before .if1 .left) _ (c .before .before .before .before .type-by-id .ensures) _ (c .before .before .before .kind-of .ensures) _ _ (c .before .before .match .keys3) (c .before .array-type .ensures) (c .get-align-of .ensures)
 
 get-align-of-returns-5 : (t : ℕ) → get-align-of-lts.Need-returns-5 (get-align-of-claims t) (get-align-of-at t) get-align-of.Post
-get-align-of-returns-5 t c = search needs
+get-align-of-returns-5 t c = align-sized _ _ _ _ _ (c .before .before .before .before .if1 .left) _ (c .before .before .before .type-by-id .ensures) _ (c .before .before .kind-of .ensures) _ (c .before .match .keys4) (c .smaller2 .ensures)
 
 get-align-of-returns-6 : (t : ℕ) → get-align-of-lts.Need-returns-6 (get-align-of-claims t) (get-align-of-at t) get-align-of.Post
-get-align-of-returns-6 t c = search needs
+get-align-of-returns-6 t c = align-composite _ _ _ _ _ (c .before .before .before .before .before .before .before .if1 .left) _ (c .before .before .before .before .before .before .type-by-id .ensures) _ (c .before .before .before .before .before .kind-of .ensures) _ _ (c .before .before .before .if2 .left) (c .before .before .if3 .taken) (c .before .before .before .before .match .rest .0 .0 .0 .0 .1) (c .before .before .before .before .match .rest .0 .0 .0 .1) (c .before .before .before .before .match .rest .0 .0 .1) (c .before .entries-of .ensures) (c .align-members .ensures)
 
 get-align-of-returns-7 : (t : ℕ) → get-align-of-lts.Need-returns-7 (get-align-of-claims t) (get-align-of-at t) get-align-of.Post
-get-align-of-returns-7 t c = search needs
+get-align-of-returns-7 t c = align-void _ _ _ _ _ (c .before .before .before .before .if1 .left) _ (c .before .before .before .type-by-id .ensures) _ (c .before .before .kind-of .ensures) (c .if2 .taken)
 
 get-align-of-returns-8 : (t : ℕ) → get-align-of-lts.Need-returns-8 (get-align-of-claims t) (get-align-of-at t) get-align-of.Post
-get-align-of-returns-8 t c = search needs
+get-align-of-returns-8 t c = align-fwd _ _ _ _ _ (c .before .before .before .before .before .before .if1 .left) _ (c .before .before .before .before .before .type-by-id .ensures) _ (c .before .before .before .before .kind-of .ensures) (c .before .if3 .left) (c .if4 .taken) (c .before .before .before .match .rest .0 .1)
 
 get-align-of-returns-9 : (t : ℕ) → get-align-of-lts.Need-returns-9 (get-align-of-claims t) (get-align-of-at t) get-align-of.Post
-get-align-of-returns-9 t c = search needs
+get-align-of-returns-9 t c = align-past _ _ _ _ _ (c .before .before .before .before .before .before .before .if1 .left) _ (c .before .before .before .before .before .before .type-by-id .ensures) _ (c .before .before .before .before .before .kind-of .ensures) (c .if5 .left) (c .before .before .before .before .match .rest .0 .1) (c .before .before .before .before .match .rest .1)
 
 get-align-of-returns-10 : (t : ℕ) → get-align-of-lts.Need-returns-10 (get-align-of-claims t) (get-align-of-at t) get-align-of.Post
-get-align-of-returns-10 t c = search needs
+get-align-of-returns-10 t c = ⊎-elim (λ j. align-tagged _ _ _ _ _ (c .before .before .before .before .if1 .left) _ (c .before .before .before .type-by-id .ensures) _ (c .before .before .kind-of .ensures) _ (c .get-align-of2 .ensures) (j .keys5)) (λ j. align-through _ _ _ _ _ (c .before .before .before .before .if1 .left) _ (c .before .before .before .type-by-id .ensures) _ (c .before .before .kind-of .ensures) _ (c .get-align-of2 .ensures) (j .3 .left) (j .4 .taken)) (c .before .match .came)
 
 pub +align-members+get-align-of-spec : {M : Type 1} → statement M
 +align-members+get-align-of-spec =
@@ -223,11 +236,13 @@ pub +align-members+get-align-of-spec : {M : Type 1} → statement M
     (align-members-member-place-requires t)
     (align-members-add-word t)
     (align-members-word-requires t)
+    (align-members-cast-if1 t)
     (align-members-get-align-of-requires t)
     (align-members-enum-known-a t)
     (align-members-larger-requires t)
     (align-members-enum-known-c t)
     (align-members-returns t)
+    (align-members-cast-last t)
     (align-members-add-k t)
     (align-members-loop-less t)
     (align-members-loop-again t)

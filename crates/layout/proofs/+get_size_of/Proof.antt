@@ -1,5 +1,7 @@
-use borrow.Author.Needs.{needs}
+use Rattle.layout.proofs.Laws.{size-deep, size-int, size-ptr, size-array, size-keyed, size-range, size-through, size-tagged, size-void, size-fwd, size-data, size-past}
+use mathlib.Core.Logic.{inl, inr, ⊎-elim}
 use native.Mathlib.Omega.{arith}
+use borrow.Author.Needs.{needs}
 use Prim.Native.Nat.{ℕ, _<_}
 use borrow.Fn.Kinds.{In}
 use borrow.Fn.PlainCycle.{Measures, is, falls, and}
@@ -48,7 +50,7 @@ get-size-of-claims t = (
 )
 
 get-size-of-returns : (t : ℕ) → get-size-of-lts.Need-returns (get-size-of-claims t) (get-size-of-at t) get-size-of.Post
-get-size-of-returns t c = search needs
+get-size-of-returns t c = size-deep _ _ _ _ _ (c .if1 .taken)
 
 get-size-of-type-by-id-requires : (t : ℕ) → get-size-of-lts.Need-type-by-id-requires (get-size-of-claims t) (get-size-of-at t) get-size-of.Post
 get-size-of-type-by-id-requires t c κs = search needs
@@ -84,34 +86,34 @@ get-size-of-get-size-of-requires-2 : (t : ℕ) → get-size-of-lts.Need-get-size
 get-size-of-get-size-of-requires-2 t c κs = (omega arith, tt)
 
 get-size-of-returns-2 : (t : ℕ) → get-size-of-lts.Need-returns-2 (get-size-of-claims t) (get-size-of-at t) get-size-of.Post
-get-size-of-returns-2 t c = search needs
+get-size-of-returns-2 t c = size-int _ _ _ _ _ (c .before .before .before .before .before .if1 .left) _ (c .before .before .before .before .type-by-id .ensures) _ (c .before .before .before .kind-of .ensures) _ _ (c .before .before .match .keys1) (c .before .int-bits .ensures) (c .octets .ensures)
 
 get-size-of-returns-3 : (t : ℕ) → get-size-of-lts.Need-returns-3 (get-size-of-claims t) (get-size-of-at t) get-size-of.Post
-get-size-of-returns-3 t c = search needs
+get-size-of-returns-3 t c = size-ptr _ _ _ _ _ (c .before .before .before .if1 .left) _ (c .before .before .type-by-id .ensures) _ (c .before .kind-of .ensures) (c .match .keys2)
 
 get-size-of-returns-4 : (t : ℕ) → get-size-of-lts.Need-returns-4 (get-size-of-claims t) (get-size-of-at t) get-size-of.Post
-get-size-of-returns-4 t c = search needs
+get-size-of-returns-4 t c = size-array _ _ _ _ _ (c .before .before .before .before .before .before .before .if1 .left) _ (c .before .before .before .before .before .before .type-by-id .ensures) _ (c .before .before .before .before .before .kind-of .ensures) _ _ _ _ (c .before .before .before .before .match .keys3) (c .before .before .before .array-type .ensures) (c .before .array-nelems .ensures) (c .before .before .get-size-of .ensures) (c .product .ensures)
 
 get-size-of-returns-5 : (t : ℕ) → get-size-of-lts.Need-returns-5 (get-size-of-claims t) (get-size-of-at t) get-size-of.Post
-get-size-of-returns-5 t c = search needs
+get-size-of-returns-5 t c = ⊎-elim (λ j. size-through _ _ _ _ _ (c .before .before .before .before .before .before .before .before .if1 .left) _ (c .before .before .before .before .before .before .before .type-by-id .ensures) _ (c .before .before .before .before .before .before .kind-of .ensures) _ (c .get-size-of2 .ensures) (c .before .before .if4 .left) (j .taken)) (λ j. size-tagged _ _ _ _ _ (c .before .before .before .before .before .before .before .before .if1 .left) _ (c .before .before .before .before .before .before .before .type-by-id .ensures) _ (c .before .before .before .before .before .before .kind-of .ensures) _ (c .get-size-of2 .ensures) (j .1 .left) (j .2 .taken) (c .before .before .before .before .before .match .rest .1)) (c .before .if5 .came)
 
 get-size-of-returns-6 : (t : ℕ) → get-size-of-lts.Need-returns-6 (get-size-of-claims t) (get-size-of-at t) get-size-of.Post
-get-size-of-returns-6 t c = search needs
+get-size-of-returns-6 t c = size-void _ _ _ _ _ (c .before .before .before .before .if1 .left) _ (c .before .before .before .type-by-id .ensures) _ (c .before .before .kind-of .ensures) (c .if2 .taken)
 
 get-size-of-returns-7 : (t : ℕ) → get-size-of-lts.Need-returns-7 (get-size-of-claims t) (get-size-of-at t) get-size-of.Post
-get-size-of-returns-7 t c = search needs
+get-size-of-returns-7 t c = size-fwd _ _ _ _ _ (c .before .before .before .before .before .before .if1 .left) _ (c .before .before .before .before .before .type-by-id .ensures) _ (c .before .before .before .before .kind-of .ensures) (c .before .if3 .left) (c .if4 .taken)
 
 get-size-of-returns-8 : (t : ℕ) → get-size-of-lts.Need-returns-8 (get-size-of-claims t) (get-size-of-at t) get-size-of.Post
-get-size-of-returns-8 t c = search needs
+get-size-of-returns-8 t c = size-data _ _ _ _ _ (c .before .before .before .before .before .before .before .before .if1 .left) _ (c .before .before .before .before .before .before .before .type-by-id .ensures) _ (c .before .before .before .before .before .before .kind-of .ensures) (c .before .if5 .left) (c .if6 .taken)
 
 get-size-of-returns-9 : (t : ℕ) → get-size-of-lts.Need-returns-9 (get-size-of-claims t) (get-size-of-at t) get-size-of.Post
-get-size-of-returns-9 t c = search needs
+get-size-of-returns-9 t c = size-past _ _ _ _ _ (c .before .before .before .before .before .before .before .before .before .if1 .left) _ (c .before .before .before .before .before .before .before .before .type-by-id .ensures) _ (c .before .before .before .before .before .before .before .kind-of .ensures) (c .if7 .left) (c .before .before .before .before .before .before .match .rest .1)
 
 get-size-of-returns-10 : (t : ℕ) → get-size-of-lts.Need-returns-10 (get-size-of-claims t) (get-size-of-at t) get-size-of.Post
-get-size-of-returns-10 t c = search needs
+get-size-of-returns-10 t c = size-keyed _ _ _ _ _ (c .before .before .before .if1 .left) _ (c .before .before .type-by-id .ensures) _ (c .before .kind-of .ensures) (c .match .keys4)
 
 get-size-of-returns-11 : (t : ℕ) → get-size-of-lts.Need-returns-11 (get-size-of-claims t) (get-size-of-at t) get-size-of.Post
-get-size-of-returns-11 t c = search needs
+get-size-of-returns-11 t c = size-range _ _ _ _ _ (c .before .before .before .before .before .if1 .left) _ (c .before .before .before .before .type-by-id .ensures) _ (c .before .before .before .kind-of .ensures) (c .before .if2 .left) (c .if3 .taken) (c .before .before .match .rest .0 .0 .0 .1) (c .before .before .match .rest .0 .0 .1) (c .before .before .match .rest .0 .1)
 
 pub +get-size-of-spec : {M : Type 1} → statement M
 +get-size-of-spec = close μ-get-size-of λ t. get-size-of-lts.spec (get-size-of-claims t) (get-size-of-at t)

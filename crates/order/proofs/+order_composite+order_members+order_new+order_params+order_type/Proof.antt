@@ -1,8 +1,11 @@
-use mathlib.Core.Path.{_≡_}
+use Rattle.btf.specs.Records.{sectionWord, memberAt, paramAt}
+use mathlib.Core.Bool.{true, false}
+use mathlib.Core.Path.{_≡_, refl, ap, sym, _∙_}
 use lib.ListN.{length}
+use Prim.Native.Nat.{ℕ, zero-le, _<_, _≤_, _+_, _-_, _*_}
+use Rattle.order.proofs.Laws as laws
 use borrow.Author.Needs.{needs}
 use native.Mathlib.Omega.{arith}
-use Prim.Native.Nat.{ℕ, _<_, _≤_, _+_, _-_, _*_}
 use borrow.Fn.Kinds.{In}
 use borrow.Fn.PlainCycle.{Measures, is, falls, and}
 use Rattle.order.proofs.order_composite.Reads as order-composite
@@ -130,6 +133,8 @@ order-members-claims t = (
   word-reads.Learnt,
   order-type-below t,
   order-type.Post,
+  strong-reads.Asked,
+  strong-reads.Learnt,
 )
 
 abbrev order-new-claims : ℕ → order-new-lts.Claims
@@ -184,7 +189,7 @@ order-composite-strong-requires : (t : ℕ) → order-composite-lts.Need-strong-
 order-composite-strong-requires t c κs = search needs
 
 order-composite-returns : (t : ℕ) → order-composite-lts.Need-returns (order-composite-claims t) (order-composite-at t) order-composite.Post
-order-composite-returns t c = search needs
+order-composite-returns t c = laws.composite-passed _ _ _ _ _ _ _ _ _ _ (c .before .if1 .taken) (c .strong .ensures)
 
 order-composite-set-order-state-requires :
     (t : ℕ) → order-composite-lts.Need-set-order-state-requires (
@@ -209,16 +214,16 @@ order-composite-same-length : (t : ℕ) → order-composite-lts.Need-same-length
 order-composite-same-length t c = search needs
 
 order-composite-returns-2 : (t : ℕ) → order-composite-lts.Need-returns-2 (order-composite-claims t) (order-composite-at t) order-composite.Post
-order-composite-returns-2 t c = search needs
+order-composite-returns-2 t c = laws.composite-entered _ _ _ _ _ _ _ _ _ _ _ _ _ (c .before .before .before .before .before .before .before .before .before .before .before .before .if1 .left) (c .before .before .before .before .before .before .before .before .before .before .set-order-state .ensures) (c .before .before .before .before .before .before .order-members .ensures) (c .before .before .finish .ensures)
 
 abbrev order-members-Inv-loop : order-members-lts.InvT-loop
-order-members-Inv-loop b section work₀ members left vlen r₀ k₀ work r k = (k ≤ vlen) × (length work ≡ length work₀) × (vlen < 4294967296)
+order-members-Inv-loop b section work₀ members left vlen r₀ k₀ work r k = (k ≤ vlen) × (length work ≡ length work₀) × (vlen < 4294967296) × (vlen ≡ members .vlen) × laws.Rest b section work₀ left false (λ i. sectionWord b section (memberAt (members .at) i + 4)) r₀ (members .vlen) r work k
 
 abbrev order-members-μ-loop : order-members-lts.MeasureT-loop
 order-members-μ-loop b section work₀ members left vlen r₀ k₀ work r k = vlen - k
 
 order-members-loop-holds : (t : ℕ) → order-members-lts.Need-loop-holds (order-members-claims t) (order-members-at t) order-members.Post order-members-Inv-loop order-members-μ-loop
-order-members-loop-holds t c = search needs
+order-members-loop-holds t c = (zero-le, refl, omega arith, refl, laws.rest-start _ _ _ _ _ _ _ _)
 
 order-members-member-place-requires : (t : ℕ) → order-members-lts.Need-member-place-requires (order-members-claims t) (order-members-at t) order-members.Post order-members-Inv-loop order-members-μ-loop
 order-members-member-place-requires t c κs = search needs
@@ -232,6 +237,9 @@ order-members-word-requires t c κs = search needs
 order-members-order-type-requires : (t : ℕ) → order-members-lts.Need-order-type-requires (order-members-claims t) (order-members-at t) order-members.Post order-members-Inv-loop order-members-μ-loop
 order-members-order-type-requires t c κs = (omega arith, tt)
 
+order-members-strong-requires : (t : ℕ) → order-members-lts.Need-strong-requires (order-members-claims t) (order-members-at t) order-members.Post order-members-Inv-loop order-members-μ-loop
+order-members-strong-requires t c κs = search needs
+
 order-members-add-k : (t : ℕ) → order-members-lts.Need-add-k (order-members-claims t) (order-members-at t) order-members.Post order-members-Inv-loop order-members-μ-loop
 order-members-add-k t c = omega arith
 
@@ -239,13 +247,13 @@ order-members-loop-less : (t : ℕ) → order-members-lts.Need-loop-less (order-
 order-members-loop-less t c = omega arith
 
 order-members-loop-again : (t : ℕ) → order-members-lts.Need-loop-again (order-members-claims t) (order-members-at t) order-members.Post order-members-Inv-loop order-members-μ-loop
-order-members-loop-again t c = search needs
+order-members-loop-again t c = (omega arith, c .before .before .before .before .order-type .kept .1 .1 .0 ∙ c .before .before .before .before .before .before .before .before .before .loop .inv .1, c .before .before .before .before .before .before .before .before .before .loop .inv .2, c .before .before .before .before .before .before .before .before .before .loop .inv .3, laws.rest-turn _ _ _ _ _ _ _ _ _ _ _ (c .before .before .before .before .before .before .before .before .before .loop .inv .4) (omega arith) _ (laws.entry-word _ _ _ _ _ (c .before .before .before .before .before .before .word .ensures) (c .before .before .before .before .before .before .before .member-place .ensures)) _ _ (c .before .before .before .before .order-type .ensures) _ (c .strong .ensures))
 
 order-members-same-length : (t : ℕ) → order-members-lts.Need-same-length (order-members-claims t) (order-members-at t) order-members.Post order-members-Inv-loop order-members-μ-loop
 order-members-same-length t c = search needs
 
 order-members-returns : (t : ℕ) → order-members-lts.Need-returns (order-members-claims t) (order-members-at t) order-members.Post order-members-Inv-loop order-members-μ-loop
-order-members-returns t c = search needs
+order-members-returns t c = laws.members-end _ _ _ _ _ _ _ _ _ _ (c .before .loop .inv .4) (omega arith)
 
 order-new-type-by-id-requires : (t : ℕ) → order-new-lts.Need-type-by-id-requires (order-new-claims t) (order-new-at t) order-new.Post
 order-new-type-by-id-requires t c κs = search needs
@@ -320,58 +328,58 @@ order-new-same-length : (t : ℕ) → order-new-lts.Need-same-length (order-new-
 order-new-same-length t c = search needs
 
 order-new-returns : (t : ℕ) → order-new-lts.Need-returns (order-new-claims t) (order-new-at t) order-new.Post
-order-new-returns t c = search needs
+order-new-returns t c = laws.new-ignored _ _ _ _ _ _ _ _ (c .before .before .before .before .type-by-id .ensures) _ (c .before .before .before .node-of .ensures) _ (c .before .enum-told .given .1) _ refl (c .strong .ensures)
 
 order-new-same-length-2 : (t : ℕ) → order-new-lts.Need-same-length-2 (order-new-claims t) (order-new-at t) order-new.Post
 order-new-same-length-2 t c = search needs
 
 order-new-returns-2 : (t : ℕ) → order-new-lts.Need-returns-2 (order-new-claims t) (order-new-at t) order-new.Post
-order-new-returns-2 t c = search needs
+order-new-returns-2 t c = laws.new-plain _ _ _ _ _ _ _ _ (c .before .before .before .before .before .before .before .type-by-id .ensures) _ (c .before .before .before .before .before .before .node-of .ensures) _ (c .before .before .before .before .enum-told2 .given .1) (c .before .before .finish .ensures)
 
 order-new-same-length-3 : (t : ℕ) → order-new-lts.Need-same-length-3 (order-new-claims t) (order-new-at t) order-new.Post
 order-new-same-length-3 t c = search needs
 
 order-new-returns-3 : (t : ℕ) → order-new-lts.Need-returns-3 (order-new-claims t) (order-new-at t) order-new.Post
-order-new-returns-3 t c = search needs
+order-new-returns-3 t c = laws.new-listed _ _ _ _ _ _ _ _ (c .before .before .before .before .before .before .before .before .type-by-id .ensures) _ (c .before .before .before .before .before .before .before .node-of .ensures) _ _ (c .before .before .before .before .before .enum-told3 .given .1) _ (c .before .before .before .before .is-named .ensures) (c .before .before .finish2 .ensures)
 
 order-new-same-length-4 : (t : ℕ) → order-new-lts.Need-same-length-4 (order-new-claims t) (order-new-at t) order-new.Post
 order-new-same-length-4 t c = search needs
 
 order-new-returns-4 : (t : ℕ) → order-new-lts.Need-returns-4 (order-new-claims t) (order-new-at t) order-new.Post
-order-new-returns-4 t c = search needs
+order-new-returns-4 t c = laws.new-through _ _ _ _ _ _ _ _ (c .before .before .before .before .before .before .before .before .type-by-id .ensures) _ (c .before .before .before .before .before .before .before .node-of .ensures) _ _ (c .before .before .before .before .before .t .given .1) (c .before .before .order-type .ensures)
 
 order-new-same-length-5 : (t : ℕ) → order-new-lts.Need-same-length-5 (order-new-claims t) (order-new-at t) order-new.Post
 order-new-same-length-5 t c = search needs
 
 order-new-returns-5 : (t : ℕ) → order-new-lts.Need-returns-5 (order-new-claims t) (order-new-at t) order-new.Post
-order-new-returns-5 t c = search needs
+order-new-returns-5 t c = laws.new-ptr _ _ _ _ _ _ _ _ (c .before .before .before .before .before .before .before .before .before .before .before .before .type-by-id .ensures) _ (c .before .before .before .before .before .before .before .before .before .before .before .node-of .ensures) _ _ (c .before .before .before .before .before .before .before .before .before .t2 .given .1) _ _ (c .before .before .before .before .before .before .order-type2 .ensures) (c .before .before .finish3 .ensures)
 
 order-new-same-length-6 : (t : ℕ) → order-new-lts.Need-same-length-6 (order-new-claims t) (order-new-at t) order-new.Post
 order-new-same-length-6 t c = search needs
 
 order-new-returns-6 : (t : ℕ) → order-new-lts.Need-returns-6 (order-new-claims t) (order-new-at t) order-new.Post
-order-new-returns-6 t c = search needs
+order-new-returns-6 t c = laws.new-typedef _ _ _ _ _ _ _ _ (c .before .before .before .before .before .before .before .before .before .before .before .before .type-by-id .ensures) _ (c .before .before .before .before .before .before .before .before .before .before .before .node-of .ensures) _ _ (c .before .before .before .before .before .before .before .before .before .t3 .given .1) _ _ (c .before .before .before .before .before .before .order-type3 .ensures) (c .before .before .finish-typedef .ensures)
 
 order-new-same-length-7 : (t : ℕ) → order-new-lts.Need-same-length-7 (order-new-claims t) (order-new-at t) order-new.Post
 order-new-same-length-7 t c = search needs
 
 order-new-returns-7 : (t : ℕ) → order-new-lts.Need-returns-7 (order-new-claims t) (order-new-at t) order-new.Post
-order-new-returns-7 t c = search needs
+order-new-returns-7 t c = laws.new-proto _ _ _ _ _ _ _ _ (c .before .before .before .before .before .before .before .before .before .before .before .before .type-by-id .ensures) _ (c .before .before .before .before .before .before .before .before .before .before .before .node-of .ensures) _ _ _ (c .before .before .before .before .before .before .before .before .before .res .given .1) _ _ (c .before .before .before .before .before .before .order-type4 .ensures) (c .before .before .order-params .ensures)
 
 order-new-same-length-8 : (t : ℕ) → order-new-lts.Need-same-length-8 (order-new-claims t) (order-new-at t) order-new.Post
 order-new-same-length-8 t c = search needs
 
 order-new-returns-8 : (t : ℕ) → order-new-lts.Need-returns-8 (order-new-claims t) (order-new-at t) order-new.Post
-order-new-returns-8 t c = search needs
+order-new-returns-8 t c = laws.new-composite _ _ _ _ _ _ _ _ (c .before .before .before .before .before .before .before .before .before .type-by-id .ensures) _ (c .before .before .before .before .before .before .before .before .node-of .ensures) _ _ (c .before .before .before .before .before .before .members .given .1) _ (c .before .before .before .before .is-named2 .ensures) (c .before .before .order-composite .ensures)
 
 abbrev order-params-Inv-loop : order-params-lts.InvT-loop
-order-params-Inv-loop b section work₀ params has-ptr left vlen r₀ k₀ work r k = (k ≤ vlen) × (length work ≡ length work₀) × (vlen < 4294967296)
+order-params-Inv-loop b section work₀ params has-ptr left vlen r₀ k₀ work r k = (k ≤ vlen) × (length work ≡ length work₀) × (vlen < 4294967296) × (vlen ≡ params .vlen) × laws.Rest b section work₀ left has-ptr (λ i. sectionWord b section (paramAt (params .at) i + 4)) r₀ (params .vlen) r work k
 
 abbrev order-params-μ-loop : order-params-lts.MeasureT-loop
 order-params-μ-loop b section work₀ params has-ptr left vlen r₀ k₀ work r k = vlen - k
 
 order-params-loop-holds : (t : ℕ) → order-params-lts.Need-loop-holds (order-params-claims t) (order-params-at t) order-params.Post order-params-Inv-loop order-params-μ-loop
-order-params-loop-holds t c = search needs
+order-params-loop-holds t c = (zero-le, refl, omega arith, refl, laws.rest-start _ _ _ _ _ _ _ _)
 
 order-params-param-place-requires : (t : ℕ) → order-params-lts.Need-param-place-requires (order-params-claims t) (order-params-at t) order-params.Post order-params-Inv-loop order-params-μ-loop
 order-params-param-place-requires t c κs = search needs
@@ -395,22 +403,22 @@ order-params-loop-less : (t : ℕ) → order-params-lts.Need-loop-less (order-pa
 order-params-loop-less t c = omega arith
 
 order-params-loop-again : (t : ℕ) → order-params-lts.Need-loop-again (order-params-claims t) (order-params-at t) order-params.Post order-params-Inv-loop order-params-μ-loop
-order-params-loop-again t c = search needs
+order-params-loop-again t c = (omega arith, c .before .before .before .before .order-type .kept .1 .1 .0 ∙ c .before .before .before .before .before .before .before .before .before .loop .inv .1, c .before .before .before .before .before .before .before .before .before .loop .inv .2, c .before .before .before .before .before .before .before .before .before .loop .inv .3, laws.rest-turn _ _ _ _ _ _ _ _ _ _ _ (c .before .before .before .before .before .before .before .before .before .loop .inv .4) (omega arith) _ (laws.entry-word _ _ _ _ _ (c .before .before .before .before .before .before .word .ensures) (c .before .before .before .before .before .before .before .param-place .ensures)) _ _ (c .before .before .before .before .order-type .ensures) _ (c .strong .ensures))
 
 order-params-same-length : (t : ℕ) → order-params-lts.Need-same-length (order-params-claims t) (order-params-at t) order-params.Post order-params-Inv-loop order-params-μ-loop
 order-params-same-length t c = search needs
 
 order-params-returns : (t : ℕ) → order-params-lts.Need-returns (order-params-claims t) (order-params-at t) order-params.Post order-params-Inv-loop order-params-μ-loop
-order-params-returns t c = search needs
+order-params-returns t c = laws.params-end _ _ _ _ _ _ _ _ _ _ (c .before .loop .inv .4) (omega arith)
 
 order-type-returns : (t : ℕ) → order-type-lts.Need-returns (order-type-claims t) (order-type-at t) order-type.Post
-order-type-returns t c = search needs
+order-type-returns t c = laws.stopped _ _ _ (c .if1 .taken)
 
 order-type-refused-requires : (t : ℕ) → order-type-lts.Need-refused-requires (order-type-claims t) (order-type-at t) order-type.Post
 order-type-refused-requires t c κs = search needs
 
 order-type-returns-2 : (t : ℕ) → order-type-lts.Need-returns-2 (order-type-claims t) (order-type-at t) order-type.Post
-order-type-returns-2 t c = search needs
+order-type-returns-2 t c = laws.too-deep _ _ _ (c .before .before .if1 .left) _ _ _ _ (c .before .if2 .taken) (c .refused .ensures)
 
 order-type-get-order-state-requires : (t : ℕ) → order-type-lts.Need-get-order-state-requires (order-type-claims t) (order-type-at t) order-type.Post
 order-type-get-order-state-requires t c κs = search needs
@@ -422,7 +430,7 @@ order-type-same-length : (t : ℕ) → order-type-lts.Need-same-length (order-ty
 order-type-same-length t c = search needs
 
 order-type-returns-3 : (t : ℕ) → order-type-lts.Need-returns-3 (order-type-claims t) (order-type-at t) order-type.Post
-order-type-returns-3 t c = search needs
+order-type-returns-3 t c = laws.order-done _ _ _ (c .before .before .before .before .before .if1 .left) _ _ _ (c .before .before .before .before .if2 .left) _ (c .before .before .get-order-state .ensures) _ (c .before .if3 .taken) (c .strong .ensures)
 
 order-type-meet-requires : (t : ℕ) → order-type-lts.Need-meet-requires (order-type-claims t) (order-type-at t) order-type.Post
 order-type-meet-requires t c κs = search needs
@@ -431,7 +439,7 @@ order-type-same-length-2 : (t : ℕ) → order-type-lts.Need-same-length-2 (orde
 order-type-same-length-2 t c = search needs
 
 order-type-returns-4 : (t : ℕ) → order-type-lts.Need-returns-4 (order-type-claims t) (order-type-at t) order-type.Post
-order-type-returns-4 t c = search needs
+order-type-returns-4 t c = laws.order-busy _ _ _ (c .before .before .before .before .before .before .before .if1 .left) _ _ _ (c .before .before .before .before .before .before .if2 .left) _ (c .before .before .before .before .get-order-state .ensures) _ (c .before .before .if4 .taken) (c .meet .ensures)
 
 order-type-sub-order-new : (t : ℕ) → order-type-lts.Need-sub-order-new (order-type-claims t) (order-type-at t) order-type.Post
 order-type-sub-order-new t c = omega arith
@@ -443,7 +451,7 @@ order-type-same-length-3 : (t : ℕ) → order-type-lts.Need-same-length-3 (orde
 order-type-same-length-3 t c = search needs
 
 order-type-returns-5 : (t : ℕ) → order-type-lts.Need-returns-5 (order-type-claims t) (order-type-at t) order-type.Post
-order-type-returns-5 t c = search needs
+order-type-returns-5 t c = laws.order-fresh _ _ _ (c .before .before .before .before .before .before .before .before .before .if1 .left) _ _ _ (c .before .before .before .before .before .before .before .before .if2 .left) _ (c .before .before .before .before .before .before .get-order-state .ensures) _ (c .before .before .before .before .before .if3 .left) (c .before .before .before .before .if4 .left) (c .before .before .order-new .ensures)
 
 pub +order-composite+order-members+order-new+order-params+order-type-spec :
     {M : Type 1} → statement M
@@ -480,6 +488,8 @@ pub +order-composite+order-members+order-new+order-params+order-type-spec :
       word-reads.Learnt,
       order-type-below t,
       order-type.Post,
+      strong-reads.Asked,
+      strong-reads.Learnt,
     )
     (order-members-at t)
     order-members.Post
@@ -490,6 +500,7 @@ pub +order-composite+order-members+order-new+order-params+order-type-spec :
     (order-members-add-word t)
     (order-members-word-requires t)
     (order-members-order-type-requires t)
+    (order-members-strong-requires t)
     (order-members-add-k t)
     (order-members-loop-less t)
     (order-members-loop-again t)

@@ -1,6 +1,10 @@
-use native.Mathlib.Omega.{arith}
-use borrow.Author.Needs.{needs}
+use Rattle.chain.proofs.Paths.{path-none, path-more}
+use Rattle.chain.specs.Chains.{pathAt}
+use denote.Ref.{now}
+use mathlib.Core.Path.{_≡_, _∙_, ap}
 use Prim.Native.Nat.{_≤_, _-_}
+use borrow.Author.Needs.{needs}
+use native.Mathlib.Omega.{arith}
 use Rattle.chain.proofs.links.path_at.Statement.{statement}
 use Rattle.chain.proofs.links.path_at.Tie as tie
 use Rattle.chain.proofs.links.path_at.Reads as reads
@@ -9,13 +13,13 @@ use Rattle.btf.proofs.type_by_id.Reads as type-by-id-reads
 use Rattle.chain.proofs.links.next_of.Reads as next-of-reads
 
 abbrev Inv-loop : tie.InvT-loop
-Inv-loop b section work start k id₀ i₀ id i = i ≤ k
+Inv-loop b section work start k id₀ i₀ id i = (i ≤ k) × (id ≡ pathAt b section work start i)
 
 abbrev μ-loop : tie.MeasureT-loop
 μ-loop b section work start k id₀ i₀ id i = k - i
 
 loop-holds : tie.Need-loop-holds Inv-loop μ-loop
-loop-holds c = search needs
+loop-holds c = (omega arith, path-none (c .before .before .args .b) _ _ _)
 
 type-by-id-requires : tie.Need-type-by-id-requires Inv-loop μ-loop
 type-by-id-requires c κs = search needs
@@ -30,10 +34,10 @@ loop-less : tie.Need-loop-less Inv-loop μ-loop
 loop-less c = omega arith
 
 loop-again : tie.Need-loop-again Inv-loop μ-loop
-loop-again c = search needs
+loop-again c = (omega arith, path-more (c .before .before .before .before .before .before .args .b) _ _ _ _ _ _ _ (c .before .before .before .loop .inv .1) (c .before .type-by-id .ensures) (c .next-of .ensures))
 
 returns : tie.Need-returns Inv-loop μ-loop
-returns c = search needs
+returns c = let e : c .before .loop .i ≡ c .before .before .before .before .args .k = omega arith in c .before .loop .inv .1 ∙ ap (pathAt (c .before .before .before .before .args .b) (now (c .before .before .before .before .args .section)) (now (c .before .before .before .before .args .work)) (c .before .before .before .before .args .start)) e
 
 pub path-at-spec : {M : Type 1} → statement M
 path-at-spec =

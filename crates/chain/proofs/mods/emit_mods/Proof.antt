@@ -1,7 +1,10 @@
-use native.Mathlib.Omega.{arith}
-use borrow.Author.Needs.{needs}
-use mathlib.Core.Path.{_≡_}
+use Rattle.chain.proofs.Paths.{mods-end, mods-turn}
+use Rattle.chain.specs.Chains.{modsDown}
+use Rattle.lent.specs.Text.{whole, putText}
 use lib.ListN.{length}
+use mathlib.Core.Path.{_≡_, refl, _∙_}
+use borrow.Author.Needs.{needs}
+use native.Mathlib.Omega.{arith}
 use Rattle.chain.proofs.mods.emit_mods.Statement.{statement}
 use Rattle.chain.proofs.mods.emit_mods.Tie as tie
 use Rattle.chain.proofs.mods.emit_mods.Reads as reads
@@ -11,13 +14,13 @@ use Rattle.chain.proofs.links.put_qualifier.Reads as put-qualifier-read
 use Rattle.lent.proofs.put_byte.Reads as put-byte-reads
 
 abbrev Inv-loop : tie.InvT-loop
-Inv-loop b section work text₀ at start n m p₀ k₀ text p k = length text ≡ length text₀
+Inv-loop b section work text₀ at start n m p₀ k₀ text p k = (length text ≡ length text₀) × (putText text p (whole (modsDown b section work start m k)) ≡ putText text₀ at (whole (modsDown b section work start m n)))
 
 abbrev μ-loop : tie.MeasureT-loop
 μ-loop b section work text₀ at start n m p₀ k₀ text p k = k
 
 loop-holds : tie.Need-loop-holds Inv-loop μ-loop
-loop-holds c = search needs
+loop-holds c = (refl, refl)
 
 kind-on-top-requires : tie.Need-kind-on-top-requires Inv-loop μ-loop
 kind-on-top-requires c κs = search needs
@@ -35,13 +38,13 @@ loop-less : tie.Need-loop-less Inv-loop μ-loop
 loop-less c = omega arith
 
 loop-again : tie.Need-loop-again Inv-loop μ-loop
-loop-again c = search needs
+loop-again c = (c .before .before .put-byte .kept .0 ∙ c .before .before .before .before .before .before .put-qualifier .kept .0 ∙ c .before .before .before .before .before .before .before .before .before .before .loop .inv .0, mods-turn (c .before .before .before .before .before .before .before .before .before .before .before .before .before .before .args .b) _ _ _ _ _ _ _ _ _ _ (c .before .before .before .before .before .before .before .before .before .before .loop .inv .1) _ _ _ _ _ (c .before .before .before .before .before .before .before .before .before .loop-test .taken) (c .before .before .before .before .before .before .before .kind-on-top .ensures) (c .before .before .before .before .before .before .put-qualifier .ensures) (c .before .before .put-byte .ensures))
 
 same-length : tie.Need-same-length Inv-loop μ-loop
 same-length c = search needs
 
 returns : tie.Need-returns Inv-loop μ-loop
-returns c = search needs
+returns c = mods-end (c .before .before .before .before .before .args .b) _ _ _ _ _ _ _ _ _ _ (c .before .loop .inv .1) (c .loop-test .left)
 
 pub emit-mods-spec : {M : Type 1} → statement M
 emit-mods-spec =

@@ -1,5 +1,5 @@
 use Rattle.classes.specs.Table.{hashFrom}
-use Rattle.classes.specs.Names.{nameAt}
+use Rattle.btf.specs.Names.{nameAt}
 use lib.ListN.{length}
 use mathlib.Core.Path.{_≡_, refl}
 use Prim.Native.Nat.{_-_}

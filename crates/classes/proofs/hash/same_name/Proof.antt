@@ -1,4 +1,5 @@
-use Rattle.classes.specs.Names.{nameAt, sameList}
+use Rattle.btf.specs.Names.{nameAt}
+use Rattle.classes.specs.Same.{sameList}
 use lib.ListN.{length}
 use mathlib.Core.Path.{_≡_, ap}
 use Prim.Native.Nat.{_-_, _+_}

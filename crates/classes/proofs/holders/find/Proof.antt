@@ -5,7 +5,7 @@ use Rattle.classes.proofs.Laws.{Walk}
 use mathlib.Core.Path.{ap, ap₂, _∙_}
 use Rattle.lent.specs.Words.{getWord}
 use Rattle.classes.specs.Classes.{keyIn, bucketP, linkP}
-use Rattle.classes.specs.Names.{sameList}
+use Rattle.classes.specs.Same.{sameList}
 use Rattle.classes.proofs.holders.find.Statement.{statement}
 use Rattle.classes.proofs.holders.find.Tie as tie
 use Rattle.classes.proofs.holders.find.Reads as reads

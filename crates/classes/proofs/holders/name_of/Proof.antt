@@ -9,32 +9,17 @@ use Rattle.btf.proofs.word.Reads as word-reads
 cast-result : tie.Need-cast-result
 cast-result c = search needs
 
+word-requires : tie.Need-word-requires
+word-requires c κs = search needs
+
 cast-result-2 : tie.Need-cast-result-2
 cast-result-2 c = search needs
 
 add-result : tie.Need-add-result
 add-result c = search needs
 
-word-requires : tie.Need-word-requires
-word-requires c κs = search needs
-
-cast-result-3 : tie.Need-cast-result-3
-cast-result-3 c = search needs
-
-add-result-2 : tie.Need-add-result-2
-add-result-2 c = search needs
-
 returns : tie.Need-returns
 returns c = keys.name-is _ _ _ _ (c .word .ensures)
 
 pub name-of-spec : {M : Type 1} → statement M
-name-of-spec =
-    tie.close
-    (tie.spec
-    cast-result
-    cast-result-2
-    add-result
-    word-requires
-    cast-result-3
-    add-result-2
-    returns)
+name-of-spec = tie.close (tie.spec cast-result word-requires cast-result-2 add-result returns)

@@ -3,7 +3,8 @@ use Rattle.classes.proofs.Laws as laws
 use Rattle.classes.proofs.Fill as fills
 use mathlib.Core.Path.{ap, _∙_}
 use Rattle.lent.specs.Words.{getWord}
-use Rattle.classes.specs.Classes.{classP, bucketP, linkP}
+use Rattle.btf.specs.Cells.{classP}
+use Rattle.classes.specs.Classes.{bucketP, linkP}
 use borrow.Author.Needs.{needs}
 use Rattle.classes.proofs.holders.put_holder.Statement.{statement}
 use Rattle.classes.proofs.holders.put_holder.Tie as tie

@@ -1,8 +1,10 @@
-use native.Mathlib.Omega.{arith}
 use borrow.Author.Needs.{needs}
-use Prim.Native.Nat.{_≤_, _<_, _+_, _-_}
-use mathlib.Core.Path.{_≡_}
+use native.Mathlib.Omega.{arith}
+use Rattle.opening.specs.Left.{placesPut}
 use lib.ListN.{length}
+use mathlib.Core.Path.{_≡_, refl}
+use Prim.Native.Nat.{_≤_, _-_}
+use Rattle.opening.proofs.Filled.{places-none, places-more, places-all}
 use Rattle.opening.proofs.fill.fill_places.Statement.{statement}
 use Rattle.opening.proofs.fill.fill_places.Tie as tie
 use Rattle.opening.proofs.fill.fill_places.Reads as reads
@@ -11,13 +13,13 @@ use Rattle.btf.proofs.put_field.Reads as put-field-reads
 use Rattle.opening.proofs.fill.entry_of.Reads as entry-of-reads
 
 abbrev Inv-loop : tie.InvT-loop
-Inv-loop start work₀ n x₀ work x = (x ≤ n + 1) × (n < 4294967296) × (length work ≡ length work₀)
+Inv-loop start work₀ n x₀ work x = (work ≡ placesPut start work₀ (x - 1)) × (1 ≤ x) × (x - 1 ≤ n - 1) × (length work ≡ length work₀)
 
 abbrev μ-loop : tie.MeasureT-loop
 μ-loop start work₀ n x₀ work x = n - x
 
 loop-holds : tie.Need-loop-holds Inv-loop μ-loop
-loop-holds c = search needs
+loop-holds c = (places-none _ _, omega arith, omega arith, refl)
 
 entry-of-requires : tie.Need-entry-of-requires Inv-loop μ-loop
 entry-of-requires c κs = search needs
@@ -32,13 +34,13 @@ loop-less : tie.Need-loop-less Inv-loop μ-loop
 loop-less c = omega arith
 
 loop-again : tie.Need-loop-again Inv-loop μ-loop
-loop-again c = search needs
+loop-again c = (places-more _ _ _ (c .before .before .before .before .before .before .loop .x) (c .before .before .before .before .before .before .loop .inv .0) (c .before .before .before .before .before .before .loop .inv .1) _ (c .before .before .before .entry-of .ensures) _ (c .before .before .put-field .ensures), omega arith, omega arith, search needs)
 
 same-length : tie.Need-same-length Inv-loop μ-loop
-same-length c = search needs
+same-length c = c .before .loop .inv .3
 
 returns : tie.Need-returns Inv-loop μ-loop
-returns c = search needs
+returns c = places-all _ _ _ (c .before .loop .x - 1) _ (c .before .loop .inv .0) (omega arith)
 
 pub fill-places-spec : {M : Type 1} → statement M
 fill-places-spec =

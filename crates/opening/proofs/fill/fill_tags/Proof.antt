@@ -1,7 +1,10 @@
-use native.Mathlib.Omega.{arith}
 use borrow.Author.Needs.{needs}
-use mathlib.Core.Path.{_≡_}
+use native.Mathlib.Omega.{arith}
+use Rattle.opening.specs.Left.{tagsPut}
 use lib.ListN.{length}
+use mathlib.Core.Path.{_≡_, refl}
+use Prim.Native.Nat.{_-_}
+use Rattle.opening.proofs.Filled.{tags-more, tags-all}
 use Rattle.opening.proofs.fill.fill_tags.Statement.{statement}
 use Rattle.opening.proofs.fill.fill_tags.Tie as tie
 use Rattle.opening.proofs.fill.fill_tags.Reads as reads
@@ -10,13 +13,13 @@ use Rattle.opening.proofs.fill.entry_of.Reads as entry-of-reads
 use Rattle.opening.proofs.fill.fill_tag.Reads as fill-tag-reads
 
 abbrev Inv-loop : tie.InvT-loop
-Inv-loop b section start work₀ x₀ work x = length work ≡ length work₀
+Inv-loop b section start work₀ x₀ work x = (tagsPut b section start (b .types - 1) work₀ ≡ tagsPut b section start (x - 1) work) × (length work ≡ length work₀)
 
 abbrev μ-loop : tie.MeasureT-loop
 μ-loop b section start work₀ x₀ work x = x
 
 loop-holds : tie.Need-loop-holds Inv-loop μ-loop
-loop-holds c = search needs
+loop-holds c = (refl, refl)
 
 sub-x : tie.Need-sub-x Inv-loop μ-loop
 sub-x c = omega arith
@@ -31,13 +34,13 @@ loop-less : tie.Need-loop-less Inv-loop μ-loop
 loop-less c = omega arith
 
 loop-again : tie.Need-loop-again Inv-loop μ-loop
-loop-again c = search needs
+loop-again c = (tags-more _ _ _ _ _ _ (c .before .before .before .before .before .before .loop .x) (c .before .before .before .before .before .before .loop .inv .0) (c .before .before .before .before .before .loop-test .taken) _ (c .before .before .before .before .entry-of .ensures) _ (c .before .before .fill-tag .ensures), search needs)
 
 same-length : tie.Need-same-length Inv-loop μ-loop
-same-length c = search needs
+same-length c = c .before .loop .inv .1
 
 returns : tie.Need-returns Inv-loop μ-loop
-returns c = search needs
+returns c = tags-all _ _ _ _ _ _ (c .before .loop .x - 1) (c .before .loop .inv .0) (omega arith)
 
 pub fill-tags-spec : {M : Type 1} → statement M
 fill-tags-spec =

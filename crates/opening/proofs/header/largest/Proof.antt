@@ -1,7 +1,10 @@
-use native.Mathlib.Omega.{arith}
 use borrow.Author.Needs.{needs}
+use native.Mathlib.Omega.{arith}
+use Rattle.opening.specs.Header.{largestFrom}
+use lib.ListN.{length, drop}
+use mathlib.Core.Path.{_≡_, refl}
 use Prim.Native.Nat.{_≤_, _-_}
-use lib.ListN.{length}
+use Rattle.opening.proofs.Headers.{largest-more, largest-all}
 use Rattle.opening.proofs.header.largest.Statement.{statement}
 use Rattle.opening.proofs.header.largest.Tie as tie
 use Rattle.opening.proofs.header.largest.Reads as reads
@@ -9,13 +12,13 @@ use Rattle.opening.proofs.header.largest.Lts as lts
 use Rattle.opening.proofs.header.larger.Reads as larger-reads
 
 abbrev Inv-loop : tie.InvT-loop
-Inv-loop s m₀ i₀ m i = i ≤ length s
+Inv-loop s m₀ i₀ m i = (largestFrom 0 s ≡ largestFrom m (drop i s)) × (i ≤ length s)
 
 abbrev μ-loop : tie.MeasureT-loop
 μ-loop s m₀ i₀ m i = length s - i
 
 loop-holds : tie.Need-loop-holds Inv-loop μ-loop
-loop-holds c = search needs
+loop-holds c = (refl, omega arith)
 
 shared-slice-read-larger : tie.Need-shared-slice-read-larger Inv-loop μ-loop
 shared-slice-read-larger c = omega arith
@@ -30,10 +33,10 @@ loop-less : tie.Need-loop-less Inv-loop μ-loop
 loop-less c = omega arith
 
 loop-again : tie.Need-loop-again Inv-loop μ-loop
-loop-again c = search needs
+loop-again c = (largest-more _ _ _ _ (c .before .before .loop-test .taken) (c .before .before .before .loop .inv .0) (c .larger .ensures), omega arith)
 
 returns : tie.Need-returns Inv-loop μ-loop
-returns c = search needs
+returns c = largest-all _ _ (c .before .loop .i) (c .before .loop .inv .0) (omega arith)
 
 pub largest-spec : {M : Type 1} → statement M
 largest-spec =

@@ -1,0 +1,46 @@
+-- What each call for C comes to: the result, and record, work and text after it.
+use Prim.Native.Nat.{ℕ, _+_, _*_}
+use mathlib.Core.Bool.{true, false}
+use mathlib.Core.List.{List}
+use lib.Dec.{ltb}
+use lib.ListN.{length}
+use Rattle.session.specs.declared.Answer.{Answer}
+use Rattle.session.specs.Answers.{numberOf, valueOf}
+use Rattle.session.specs.Calls.{Call, openCall, typeCall, typesCall}
+use Rattle.btfdump_c.specs.Record.{decoded, recordOpened, recordAfter}
+
+-- the number in the upper half of 64 bits, the value in the lower
+unfoldable pub packed : Answer → ℕ
+packed a = numberOf a * 4294967296 + valueOf a
+
+pub record Export : Type 0 where
+  pub result : ℕ
+  pub bytes : List ℕ
+  pub work : List ℕ
+  pub text : List ℕ
+
+unfoldable pub exportOf : ℕ → List ℕ → List ℕ → List ℕ → Export
+exportOf n r w t = record { result = n; bytes = r; work = w; text = t }
+
+-- the call on the session that the record says, with its answer and its record as bytes
+unfoldable pub openedBy : List ℕ → Call → Export
+openedBy r c = exportOf (packed (c .answer)) (recordOpened (c .answer) (c .session) r) (c .work) (c .text)
+
+unfoldable pub answeredBy : List ℕ → Call → Export
+answeredBy r c = exportOf (packed (c .answer)) (recordAfter (c .answer) r) (c .work) (c .text)
+
+-- a record of under 128 bytes: number 255 at opening, and 11 with value 0 of a request; nothing is touched
+unfoldable pub openExport : List ℕ → List ℕ → ℕ → ℕ → List ℕ → List ℕ → Export
+openExport r section pointer modes w t =
+    elim (ltb (length r) 128) [
+      | true ↦ exportOf (255 * 4294967296) r w t
+      | false ↦ openedBy r (openCall (decoded r) section w t pointer modes)
+    ]
+
+unfoldable pub typeExport : List ℕ → List ℕ → List ℕ → List ℕ → ℕ → Export
+typeExport r section w t id =
+    elim (ltb (length r) 128) [ true ↦ exportOf (11 * 4294967296) r w t | false ↦ answeredBy r (typeCall (decoded r) section w t id) ]
+
+unfoldable pub typesExport : List ℕ → List ℕ → List ℕ → List ℕ → Export
+typesExport r section w t =
+    elim (ltb (length r) 128) [ true ↦ exportOf (11 * 4294967296) r w t | false ↦ answeredBy r (typesCall (decoded r) section w t) ]

@@ -1,0 +1,5 @@
+pub mod Described
+pub mod Named
+pub mod Sound
+pub mod Claims
+pub mod Steps

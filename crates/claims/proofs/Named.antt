@@ -1,0 +1,130 @@
+-- The work that a successful opening leaves is indexed and fresh: the names in it are those of the Rust. Assumes nothing.
+use Prim.Native.Nat.{ℕ, zero, suc, _+_, _-_, _*_, _%_, _<_, _≤_}
+use mathlib.Core.Path.{_≡_, refl, ap, _∙_, sym, subst}
+use mathlib.Core.Bool.{Bool, true, false}
+use mathlib.Core.List.{List}
+use mathlib.Core.Logic.{inl, inr, ⊎-elim}
+use native.Mathlib.Omega.{arith}
+use native.Mathlib.Decide.{ℕ-discrete}
+use lib.ListN.{getD, replicate}
+use lib.Dec.{eqb}
+use Rattle.lent.specs.Words.{getWord}
+use Rattle.lent.proofs.Laws.{le-or-lt}
+use Rattle.btf.specs.declared.types.Btf.{Btf}
+use Rattle.btf.specs.declared.types.BtfType.{BtfType as Record}
+use Rattle.btf.specs.Cells.{getField, countP}
+use Rattle.btf.specs.Records.{sectionWord, kindOf, vlenOf, recordAt, recordById, voidRecord}
+use Rattle.btf.specs.Table.{enumeratorOf}
+use Rattle.btf.proofs.Laws.{void-zero}
+use Rattle.classes.specs.Classes.{recordP, tableClassed}
+use Rattle.opening.specs.Table.{typesOf, enumeratorsOf, recordPlace, recordKind, indexOf}
+use Rattle.opening.specs.Left as left
+use Rattle.opening.specs.Left.{enumeratorWord, isEnum, valuesAt, enumsTo}
+use Rattle.opening.specs.Opened.{workOf}
+use Rattle.opening.specs.Causes.{openingNumber}
+use Rattle.opening.proofs.Index.{types-few, some-type, index-place, index-kind}
+use Rattle.opening.proofs.Sums.{enumerators-all}
+use Rattle.opening.proofs.Enumerators.{to-up}
+use Rattle.opening.proofs.Zeros.{Other, zeros-word, before-else, other-field}
+use Rattle.opening.proofs.ReadBack.{header-ok, types-ok, types-are, before, work-is, record-back, kind-back, value-back, enumerator-back, room-back, counts-back}
+use Rattle.ledger.specs.Indexed.{IsEnum, valuePlace, Value, placeOfValue, Indexed}
+use Rattle.ledger.specs.Alike.{Fresh}
+use Rattle.ledger.proofs.Classed.{enumerator-place, classed-indexed, classed-fresh}
+use Rattle.claims.specs.Table.{headerOf}
+
+enum-kind : (k : ℕ) → IsEnum k → isEnum k ≡ true
+unfolding isEnum
+enum-kind k (inl e) = rw e
+enum-kind k (inr e) = rw e
+
+no-void : (k : ℕ) → k ≡ 0 → IsEnum k → ⊥
+no-void k z (inl e) = omega arith
+no-void k z (inr e) = omega arith
+
+same-place : (kind at k : ℕ) → left.valuePlace kind at k ≡ valuePlace kind at k
+unfolding left.valuePlace valuePlace
+same-place kind at k = refl
+
+module _ (p modes : ℕ) (s : List ℕ) (n : ℕ) (ok : openingNumber p s n ≡ 0) where
+  abbrev b : Btf
+  b = headerOf p modes s
+
+  abbrev w : List ℕ
+  w = workOf p modes s n
+
+  few : typesOf s ≤ 262145
+  few = types-few s (header-ok p modes s n ok) (types-ok p modes s n ok)
+
+  void-kind : (id : ℕ) → id ≡ 0 → kindOf (recordById b s w id .info) ≡ 0
+  unfolding voidRecord
+  void-kind id z = ap (λ (t : Record). kindOf (t .info)) (sym (void-zero b s w id voidRecord z refl))
+
+  -- a value's enum is no void
+  some-id : (id i : ℕ) → Value b s w id i → 1 ≤ id
+  some-id id i v = go (ℕ-discrete id 0)
+    where
+      go : Dec (id ≡ 0) → 1 ≤ id
+      go (yes z) = absurd (no-void _ (void-kind id z) (v .enum))
+      go (no m) = omega arith
+
+  module _ (id i : ℕ) (v : Value b s w id i) where
+    a : 1 ≤ id
+    a = some-id id i v
+
+    l : id < typesOf s
+    l = let h : id < b .types = v .below in omega (arith, types-are p modes s n ok)
+
+    its-enum : isEnum (recordKind s (id - 1)) ≡ true
+    its-enum = ap isEnum (sym (kind-back p modes s n ok id a l)) ∙ enum-kind _ (v .enum)
+
+    its-values : valuesAt b s (getD (indexOf s) id 0) ≡ vlenOf (recordById b s w id .info)
+    unfolding valuesAt recordAt
+    its-values =
+        (λ j. elim (isEnum (index-kind s few id a l j)) as (λ z. ℕ) [ true ↦ vlenOf (sectionWord b s (index-place s few id a l j + 4)) | false ↦ 0 ])
+        ∙ ap (λ (t : Bool). elim t as (λ z. ℕ) [ true ↦ vlenOf (sectionWord b s (recordPlace s (id - 1) + 4)) | false ↦ 0 ]) its-enum
+        ∙ ap (λ (t : Record). vlenOf (t .info)) (sym (record-back p modes s n ok id a l))
+
+    inside : i < valuesAt b s (getD (indexOf s) id 0)
+    inside = subst (λ (m : ℕ). i < m) (sym its-values) (v .inside)
+
+    number-is : enumeratorOf w id i ≡ enumsTo b s (indexOf s) (id - 1) + i
+    number-is = let h : i < vlenOf (recordById b s w id .info) = v .inside in enumerator-back p modes s n ok id i a l its-enum (omega arith)
+
+    to-one : enumsTo b s (indexOf s) (suc (id - 1)) ≡ enumsTo b s (indexOf s) (id - 1) + valuesAt b s (getD (indexOf s) (suc (id - 1)) 0)
+    unfolding enumsTo
+    to-one = refl
+
+    its-number : enumeratorOf w id i < enumeratorsOf s
+    its-number =
+        let q : suc (id - 1) ≡ id = omega (arith, a) in
+        let one : enumsTo b s (indexOf s) id ≡ enumsTo b s (indexOf s) (id - 1) + valuesAt b s (getD (indexOf s) id 0) = rw q at to-one in
+        let d : enumsTo b s (indexOf s) id ≤ enumsTo b s (indexOf s) (typesOf s - 1) = to-up b s (indexOf s) id (typesOf s - 1) (omega (arith, l)) in
+        let t : enumsTo b s (indexOf s) (typesOf s - 1) ≡ enumeratorsOf s = enumerators-all b s (header-ok p modes s n ok) (types-ok p modes s n ok) few in
+        omega (arith, number-is, one, d, t, inside)
+
+    its-place : getWord w (recordP (b .types) (b .types + enumeratorOf w id i)) ≡ placeOfValue b s w id i
+    unfolding recordAt enumeratorWord
+    its-place =
+        ap (λ (m : ℕ). getWord w (recordP (b .types) (b .types + m))) number-is
+        ∙ ap (getWord w) (enumerator-place (b .types) (enumsTo b s (indexOf s) (id - 1) + i))
+        ∙ value-back p modes s n ok id i a l inside
+        ∙ same-place (recordKind s (id - 1)) (recordPlace s (id - 1)) i
+        ∙ sym (λ j. valuePlace (kind-back p modes s n ok id a l j) (record-back p modes s n ok id a l j .at) i)
+
+  -- room for all names, the class of each, and the values of enums at their numbers
+  pub opened-indexed : Indexed b (enumeratorsOf s) s w
+  unfolding workOf left.filled
+  opened-indexed = classed-indexed b (enumeratorsOf s) s (before p modes s n ok) (room-back p modes s n ok) (λ id i v. its-number id i v) (λ id i v. its-place id i v)
+
+  no-version-before : (id : ℕ) → id < b .types → getField (before p modes s n ok) id 4 ≡ 0
+  no-version-before id m =
+      before-else b s (indexOf s) (id * 16 + 4)
+      (other-field (b .types) id 4 m (omega arith) (λ q. absurd (omega arith)) (λ q. absurd (omega arith)) (λ q. absurd (omega arith)) (λ q. absurd (omega arith)))
+      (replicate n 0) (omega (arith, types-are p modes s n ok, some-type s))
+      ∙ zeros-word n (id * 16 + 4)
+
+  -- no type has a version, no name a holder
+  pub opened-fresh : Fresh b (enumeratorsOf s) s w
+  unfolding workOf left.filled
+  opened-fresh =
+      classed-fresh b (enumeratorsOf s) s (before p modes s n ok) (record { no-version = no-version-before; no-count = λ h m. counts-back p modes s n ok h })

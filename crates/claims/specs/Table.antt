@@ -1,0 +1,44 @@
+-- The table of a section that opening accepts, as the rules see it, and the DECL_TAGs of a table.
+use Prim.Native.Nat.{ℕ, zero, suc}
+use mathlib.Core.Bool.{Bool, true, false}
+use mathlib.Core.List.{List, [], _∷_}
+use lib.Dec.{eqb}
+use Rattle.rules.specs.Types.{BtfType, Void, Int, Ptr, Array, Composite, Enum, Enum64, Fwd, Typedef, Mod, Func, Var, Datasec, FuncProto, Float, DeclTag, TypeTag, Btf as Rules}
+use Rattle.btf.specs.declared.types.Btf.{Btf}
+use Rattle.btf.specs.Table as btf
+use Rattle.opening.specs.Header as header
+use Rattle.opening.specs.Table.{typesOf}
+use Rattle.opening.specs.Opened.{workOf}
+
+-- what the code knows of the section s after opening: pointer size, mode, the count of types, the place of the strings
+abbrev pub headerOf : ℕ → ℕ → List ℕ → Btf
+headerOf pointer modes s = header.btfOf s pointer modes (typesOf s)
+
+-- the table that the section and the work of n bytes spell after opening
+abbrev pub openedTable : ℕ → ℕ → List ℕ → ℕ → Rules
+openedTable pointer modes s n = btf.btfOf (headerOf pointer modes s) s (workOf pointer modes s n)
+
+-- a DECL_TAG on type id
+abbrev pub isTagFor : ℕ → BtfType → Bool
+isTagFor id Void = false
+isTagFor id (Int n b) = false
+isTagFor id (Ptr t) = false
+isTagFor id (Array t k) = false
+isTagFor id (Composite s n z ms) = false
+isTagFor id (Enum s n z vs) = false
+isTagFor id (Enum64 s n z vs) = false
+isTagFor id (Fwd u n) = false
+isTagFor id (Typedef n t) = false
+isTagFor id (Mod q t) = false
+isTagFor id (Func n) = false
+isTagFor id (Var n) = false
+isTagFor id (Datasec n) = false
+isTagFor id (FuncProto r ps) = false
+isTagFor id (Float n z) = false
+isTagFor id (DeclTag a n t k) = eqb t id
+isTagFor id (TypeTag a n t) = false
+
+-- the ids of the DECL_TAGs on type id among the n ids from x on, in rising order
+unfoldable pub tagIds : (ℕ → BtfType) → ℕ → ℕ → ℕ → List ℕ
+tagIds type id x zero = []
+tagIds type id x (suc n) = elim (isTagFor id (type x)) [ true ↦ x ∷ tagIds type id (suc x) n | false ↦ tagIds type id (suc x) n ]

@@ -1,0 +1,111 @@
+-- What no version of a name changes: the table, and the chains in it. So emitters keep both. Assumes nothing.
+use Prim.Native.Nat.{ℕ, zero, suc, _+_, _*_}
+use mathlib.Core.Path.{_≡_, refl, ap, ap₂, _∙_, sym}
+use mathlib.Core.Bool.{Bool, true, false}
+use mathlib.Core.List.{List, _∷_}
+use native.Mathlib.Omega.{arith}
+use lib.Dec.{ltb, eqb}
+use Rattle.rules.specs.Writer.{Said, Writer, _⨾_}
+use Rattle.rules.specs.Types.{Name, Btf as Rules}
+use Rattle.rules.specs.Names.{Space, Resolved}
+use Rattle.rules.specs.Decl.{Entry, linkOf}
+use Rattle.rules.specs.Chain.{entryBy}
+use Rattle.rules.specs.Place.{outOf, putSaid}
+use Rattle.rules.proofs.Writing.{put-then-kept}
+use Rattle.rules.proofs.Keeps.{Keeps}
+use Rattle.btf.specs.declared.types.Btf.{Btf}
+use Rattle.btf.specs.declared.types.BtfType.{BtfType as Record}
+use Rattle.btf.specs.Cells.{getField, putField, classP, countP, countOf, counted}
+use Rattle.btf.specs.Records.{recordById}
+use Rattle.btf.specs.Table.{typeOf, btfOf, workNaming, typeVersionIn, valueVersionIn, enumeratorOf}
+use Rattle.btf.proofs.Frame.{field-other, count-0, record-same, counted-other, table-type-version, table-value-version}
+use Rattle.chain.specs.Chains.{nextOf, entryOf, pathAt, chainAt}
+
+module _ (b : Btf) (s : List ℕ) where
+  module _ (u w : List ℕ) (h : (id : ℕ) → recordById b s u id ≡ recordById b s w id) where
+    entry-same : (id : ℕ) → entryOf b s u id ≡ entryOf b s w id
+    unfolding entryOf
+    entry-same id = ap (λ (t : Record). entryBy id (linkOf (typeOf b s t))) (h id)
+
+    path-same : (start n : ℕ) → pathAt b s u start n ≡ pathAt b s w start n
+    unfolding pathAt
+    path-same start zero = refl
+    path-same start (suc n) = ap (nextOf b s) (h (pathAt b s u start n) ∙ ap (recordById b s w) (path-same start n))
+
+    chain-same : (start n : ℕ) → chainAt b s u start n ≡ chainAt b s w start n
+    unfolding chainAt
+    chain-same start zero = refl
+    chain-same start (suc n) =
+        ap₂ (λ (e : Entry) (c : List Entry). e ∷ c) (entry-same (pathAt b s u start n) ∙ ap (entryOf b s w) (path-same start n)) (chain-same start n)
+
+  -- what emitters see of the work, beside names
+  abbrev pub Seen : Type 0
+  Seen = Rules × (ℕ → ℕ → List Entry)
+
+  unfoldable pub seen : List ℕ → Seen
+  seen w = (btfOf b s w, chainAt b s w)
+
+  seen-same : (u w : List ℕ) → btfOf b s u ≡ btfOf b s w → ((j : ℕ) → getField u j 0 ≡ getField w j 0) → seen u ≡ seen w
+  unfolding seen
+  seen-same u w e h = λ i. (e i, λ start n. chain-same u w (record-same u w b s h) start n i)
+
+  place-type : (w : List ℕ) (id j : ℕ) → getField (typeVersionIn (b .types) id w .names) j 0 ≡ getField w j 0
+  unfolding typeVersionIn
+  place-type w id j = go (eqb (getField w id 4) 0)
+    where
+      n : ℕ
+      n = countOf (classP (b .types)) (countP (b .types)) w id
+
+      u : List ℕ
+      u = counted (classP (b .types)) (countP (b .types)) w id
+
+      go : (t : Bool) → getField ((elim t as (λ z. Resolved (List ℕ)) [ false ↦ record { version = getField w id 4; names = w } | true ↦ record { version = n; names = putField u id 4 n } ]) .names) j 0 ≡ getField w j 0
+      go false = refl
+      go true = field-other u id 4 n j 0 (omega arith) (omega arith) (λ e. omega arith) ∙ counted-other (b .types) w id (j * 16 + 0) (λ c. count-0 (b .types) c j)
+
+  place-value : (w : List ℕ) (e j : ℕ) → getField (valueVersionIn (b .types) e w .names) j 0 ≡ getField w j 0
+  unfolding valueVersionIn
+  place-value w e j = go (ltb (b .types + e) 4294967296)
+    where
+      n : ℕ
+      n = countOf (classP (b .types)) (countP (b .types)) w (b .types + e)
+
+      u : List ℕ
+      u = counted (classP (b .types)) (countP (b .types)) w (b .types + e)
+
+      go : (t : Bool) → getField ((elim t as (λ z. Resolved (List ℕ)) [ true ↦ record { version = n; names = u } | false ↦ record { version = 0; names = w } ]) .names) j 0 ≡ getField w j 0
+      go false = refl
+      go true = counted-other (b .types) w (b .types + e) (j * 16 + 0) (λ c. count-0 (b .types) c j)
+
+  pub keeps-type : (space : Space) (id : ℕ) (name : Name) (u : List ℕ) → seen (workNaming b .typeVersion space id name u .names) ≡ seen u
+  unfolding workNaming
+  keeps-type space id name u = seen-same (typeVersionIn (b .types) id u .names) u (table-type-version b s u id) (place-type u id)
+
+  pub keeps-value : (id i : ℕ) (name : Name) (u : List ℕ) → seen (workNaming b .valueVersion id i name u .names) ≡ seen u
+  unfolding workNaming
+  keeps-value id i name u =
+      seen-same (valueVersionIn (b .types) (enumeratorOf u id i) u .names) u (table-value-version b s u (enumeratorOf u id i)) (place-value u (enumeratorOf u id i))
+
+  -- v, and then what is written with what is seen
+  pub then-on : (x : Seen → Writer (List ℕ)) (t : List ℕ) (at : ℕ) (v : Writer (List ℕ)) (u : List ℕ) (n : ℕ) (t′ u′ : List ℕ) (r : ℕ) (t″ u″ : List ℕ)
+      → Keeps seen v → outOf n t′ u′ ≡ putSaid t at (v u) → outOf r t″ u″ ≡ putSaid t′ n (x (seen u′) u′) → outOf r t″ u″ ≡ putSaid t at ((v ⨾ x (seen u)) u)
+  then-on x t at v u n t′ u′ r t″ u″ k e₁ e₂ = put-then-kept seen x t at v u n t′ u′ r t″ u″ (k u) e₁ e₂
+
+  -- ---- a loop: what is left is the whole
+  pub Leads : List ℕ → ℕ → Said (List ℕ) → List ℕ → ℕ → Said (List ℕ) → Type 0
+  Leads t₀ at₀ s₀ t at s₁ = (r : ℕ) (t′ u′ : List ℕ) → outOf r t′ u′ ≡ putSaid t at s₁ → outOf r t′ u′ ≡ putSaid t₀ at₀ s₀
+
+  pub leads-start : (t : List ℕ) (at : ℕ) (s₀ : Said (List ℕ)) → Leads t at s₀ t at s₀
+  unfolding Leads
+  leads-start t at s₀ r t′ u′ e = e
+
+  pub leads-end : (t₀ : List ℕ) (at₀ : ℕ) (s₀ : Said (List ℕ)) (t : List ℕ) (at : ℕ) (s₁ : Said (List ℕ)) (r : ℕ) (t′ u′ : List ℕ)
+      → Leads t₀ at₀ s₀ t at s₁ → outOf r t′ u′ ≡ putSaid t at s₁ → outOf r t′ u′ ≡ putSaid t₀ at₀ s₀
+  unfolding Leads
+  leads-end t₀ at₀ s₀ t at s₁ r t′ u′ l e = l r t′ u′ e
+
+  -- a turn v, and then the rest
+  pub leads-turn : (x : Seen → Writer (List ℕ)) (t₀ : List ℕ) (at₀ : ℕ) (s₀ : Said (List ℕ)) (t : List ℕ) (at : ℕ) (s₁ : Said (List ℕ)) (v : Writer (List ℕ)) (u : List ℕ) (n : ℕ) (t′ u′ : List ℕ)
+      → Leads t₀ at₀ s₀ t at s₁ → s₁ ≡ (v ⨾ x (seen u)) u → Keeps seen v → outOf n t′ u′ ≡ putSaid t at (v u) → Leads t₀ at₀ s₀ t′ n (x (seen u′) u′)
+  unfolding Leads
+  leads-turn x t₀ at₀ s₀ t at s₁ v u n t′ u′ l e k o r t″ u″ q = l r t″ u″ (then-on x t at v u n t′ u′ r t″ u″ k o q ∙ ap (putSaid t at) (sym e))

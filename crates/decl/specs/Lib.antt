@@ -1,0 +1,2 @@
+-- Pieces: what one turn of a loop of the rules prints, and what it leaves.
+pub mod Pieces

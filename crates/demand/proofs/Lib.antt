@@ -1,0 +1,13 @@
+pub mod Placed
+pub mod Ways
+pub mod Sound
+pub mod Quiet
+pub mod Demand
+pub mod Proto
+pub mod Lists
+pub mod Session
+pub mod Samples
+pub mod Placing
+pub mod Alike
+pub mod AnyNames
+pub mod Fit

@@ -1,0 +1,12 @@
+-- Samples of document 01 as whole programs: each section beside what the program prints of it. That they are equal is `programs-hold` of proofs/Samples.
+use Prim.Native.Nat.{ℕ}
+use mathlib.Core.List.{List, [], _∷_}
+use Rattle.rules.specs.Samples.{Sample, gives, threeOfX, node, itself}
+use Rattle.demand.specs.Session.{program}
+
+abbrev pub programs : List Sample
+programs =
+    gives (program threeOfX) "typedef int x;\n\ntypedef int x___2;\n\ntypedef int x___3;\n\n"
+    ∷ gives (program itself) "refused 13\n"
+    ∷ gives (program node) "struct node {\n\tstruct node *next;\n\tint v;\n};\n\n"
+    ∷ []

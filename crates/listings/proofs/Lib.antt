@@ -1,0 +1,4 @@
+pub mod Ordering
+pub mod Emission
+pub mod Claims
+pub mod Samples

@@ -1,0 +1,46 @@
+use mathlib.Core.Path.{refl}
+use Rattle.names.proofs.Resolve.{value-counted, value-past}
+use borrow.Author.Needs.{needs}
+use Rattle.names.proofs.versions.resolve_name.Statement.{statement}
+use Rattle.names.proofs.versions.resolve_name.Tie as tie
+use Rattle.names.proofs.versions.resolve_name.Reads as reads
+use Rattle.names.proofs.versions.resolve_name.Lts as lts
+use Rattle.btf.proofs.get_count.Reads as get-count-reads
+use Rattle.names.proofs.versions.bare.Reads as bare-reads
+
+cast-h : tie.Need-cast-h
+cast-h c = search needs
+
+add-h : tie.Need-add-h
+add-h c = search needs
+
+cast-get-count : tie.Need-cast-get-count
+cast-get-count c = search needs
+
+get-count-requires : tie.Need-get-count-requires
+get-count-requires c κs = search needs
+
+same-length : tie.Need-same-length
+same-length c = search needs
+
+returns : tie.Need-returns
+returns c = let v = value-counted _ _ _ _ _ (c .before .before .before .before .if1 .taken) (c .before .before .get-count .ensures) in (refl, v .0, v .1)
+
+bare-requires : tie.Need-bare-requires
+bare-requires c κs = search needs
+
+returns-2 : tie.Need-returns-2
+returns-2 c = value-past _ _ _ _ _ (c .bare .ensures) (c .before .if1 .left)
+
+pub resolve-name-spec : {M : Type 1} → statement M
+resolve-name-spec =
+    tie.close
+    (tie.spec
+    cast-h
+    add-h
+    cast-get-count
+    get-count-requires
+    same-length
+    returns
+    bare-requires
+    returns-2)

@@ -1,0 +1,70 @@
+use Rattle.opening.specs.Table.{emptyIndex}
+use mathlib.Core.Path.{refl, _∙_}
+use Rattle.opening.proofs.Opens.{open-refused, open-sound}
+use borrow.Author.Needs.{needs}
+use Rattle.opening.proofs.open.Statement.{statement}
+use Rattle.opening.proofs.open.Tie as tie
+use Rattle.opening.proofs.open.Reads as reads
+use Rattle.opening.proofs.open.Lts as lts
+use Rattle.lent.proofs.clear.Reads as clear-reads
+use Rattle.opening.proofs.btf_of.Reads as btf-of-reads
+use Rattle.opening.proofs.examine.Reads as examine-reads
+use Rattle.opening.proofs.fill.fill.Reads as fill-reads
+
+slice-aggregate-examine : tie.Need-slice-aggregate-examine
+slice-aggregate-examine c = search needs
+
+examine-requires : tie.Need-examine-requires
+unfolding emptyIndex
+examine-requires c κs = refl
+
+enum-known-c : tie.Need-enum-known-c
+enum-known-c c = search needs
+
+enum-known-types : tie.Need-enum-known-types
+enum-known-types c = search needs
+
+clear-requires : tie.Need-clear-requires
+clear-requires c κs = search needs
+
+clear-requires-2 : tie.Need-clear-requires-2
+clear-requires-2 c κs = search needs
+
+btf-of-requires : tie.Need-btf-of-requires
+btf-of-requires c κs = search needs
+
+slice-aggregate-fill : tie.Need-slice-aggregate-fill
+slice-aggregate-fill c = search needs
+
+fill-requires : tie.Need-fill-requires
+fill-requires c κs = search needs
+
+returns : tie.Need-returns
+returns c = open-refused _ _ _ _ _ _ _ (c .before .before .before .before .examine .ensures) _ (c .before .c .given .1)
+
+same-length : tie.Need-same-length
+same-length c = c .before .before .fill .kept .1 .1 .1 .1 .0 ∙ c .before .before .before .before .before .before .before .before .clear2 .kept .0
+
+same-length-2 : tie.Need-same-length-2
+same-length-2 c = search needs
+
+returns-2 : tie.Need-returns-2
+returns-2 c = open-sound _ _ _ _ _ _ _ (c .before .before .before .before .before .before .before .before .before .before .before .before .before .before .before .before .before .before .examine .ensures) _ _ (c .before .before .before .before .before .before .before .before .before .before .before .before .before .before .before .types .given .1) _ (c .before .before .before .before .before .before .before .before .before .before .before .before .clear .ensures) _ (c .before .before .before .before .before .before .before .before .clear2 .ensures) _ (c .before .before .before .before .before .btf-of .ensures) _ (c .before .before .fill .ensures)
+
+pub open-spec : {M : Type 1} → statement M
+open-spec =
+    tie.close
+    (tie.spec
+    slice-aggregate-examine
+    examine-requires
+    enum-known-c
+    enum-known-types
+    clear-requires
+    clear-requires-2
+    btf-of-requires
+    slice-aggregate-fill
+    fill-requires
+    returns
+    same-length
+    same-length-2
+    returns-2)

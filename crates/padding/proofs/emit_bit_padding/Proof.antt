@@ -1,0 +1,69 @@
+use Rattle.padding.proofs.Laws.{ptr-size, emit-none, emit-gap, emit-refused}
+use borrow.Author.Needs.{needs}
+use Rattle.padding.proofs.emit_bit_padding.Statement.{statement}
+use Rattle.padding.proofs.emit_bit_padding.Tie as tie
+use Rattle.padding.proofs.emit_bit_padding.Reads as reads
+use Rattle.padding.proofs.emit_bit_padding.Lts as lts
+use Rattle.lent.proofs.stop.Reads as stop-reads
+use Rattle.padding.proofs.gap_align.Reads as gap-align-reads
+use Rattle.padding.proofs.put_gap.Reads as put-gap-reads
+
+-- src/lib.rt:149:9
+returns : tie.Need-returns
+returns c = emit-none _ _ _ _ _ _ _ (c .if1 .taken)
+
+-- src/lib.rt:151:11
+gap-align-requires : tie.Need-gap-align-requires
+gap-align-requires c κs = search needs
+
+-- src/lib.rt:152:18
+enum-known-a : tie.Need-enum-known-a
+enum-known-a c = search needs
+
+-- src/lib.rt:152:64
+sub-put-gap : tie.Need-sub-put-gap
+sub-put-gap c = search needs
+
+-- src/lib.rt:152:24
+put-gap-requires : tie.Need-put-gap-requires
+put-gap-requires c κs = search needs
+
+-- src/lib.rt:153:17
+enum-known-c : tie.Need-enum-known-c
+enum-known-c c = search needs
+
+-- src/lib.rt:153:23
+stop-requires : tie.Need-stop-requires
+stop-requires c κs = search needs
+
+-- src/lib.rt:134:1
+same-length : tie.Need-same-length
+same-length c = search needs
+
+-- src/lib.rt:134:1
+returns-2 : tie.Need-returns-2
+returns-2 c = emit-gap _ _ _ _ _ _ _ (c .before .before .before .before .before .before .before .before .if1 .left) _ (c .before .before .before .before .before .before .before .gap-align .ensures) _ _ _ _ (ptr-size _ _ _) (c .before .before .before .before .before .a .given .1) (c .before .before .put-gap .ensures)
+
+-- src/lib.rt:134:1
+same-length-2 : tie.Need-same-length-2
+same-length-2 c = search needs
+
+-- src/lib.rt:134:1
+returns-3 : tie.Need-returns-3
+returns-3 c = emit-refused _ _ _ _ _ _ _ (c .before .before .before .before .before .before .if1 .left) _ (c .before .before .before .before .before .gap-align .ensures) _ _ _ (c .before .before .before .c .given .1) (c .stop .ensures)
+
+pub emit-bit-padding-spec : {M : Type 1} → statement M
+emit-bit-padding-spec =
+    tie.close
+    (tie.spec
+    returns
+    gap-align-requires
+    enum-known-a
+    sub-put-gap
+    put-gap-requires
+    enum-known-c
+    stop-requires
+    same-length
+    returns-2
+    same-length-2
+    returns-3)

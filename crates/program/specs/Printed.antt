@@ -1,0 +1,42 @@
+-- What the program prints: "It requests every id and prints the text, or only `refused `, the number in decimal and a newline."
+use Prim.Native.Nat.{ℕ}
+use mathlib.Core.Bool.{false}
+use mathlib.Core.List.{List, [], _∷_, _++_}
+use Rattle.lent.specs.Text.{ascii, Text, whole, Out, putOut, putText}
+use Rattle.lent.specs.Decimal.{decimal}
+use Rattle.session.specs.declared.Answer.{Answer}
+use Rattle.session.specs.declared.Answer.the-variants.{Accepted, Refused}
+use Rattle.session.specs.declared.Session.{Session}
+use Rattle.session.specs.Calls.{Call, openCall, typesCall}
+
+-- a session record that was never opened
+abbrev pub neverOpened : Session
+neverOpened = record { «open» = false; «section_len» = 0; «work_len» = 0; types = 0; enumerators = 0; «text_len» = 0; «pointer_size» = 0; modes = 0 }
+
+unfoldable pub refusedLine : ℕ → Text
+refusedLine n = whole (ascii "refused " ++ decimal n ++ 10 ∷ [])
+
+-- what is printed stands at the start of the text: how long it is, and the text; and the work
+pub record Ran : Type 0 where
+  pub out : Out
+  pub work : List ℕ
+
+unfoldable pub ranTo : ℕ → List ℕ → List ℕ → Ran
+ranTo n t w = record { out = putOut n t; work = w }
+
+-- only the refusal, or the text
+unfoldable pub shown : Answer → List ℕ → Out
+shown (Accepted len) t = putOut len t
+shown (Refused number value) t = putText t 0 (refusedLine number)
+
+unfoldable pub ranAll : Call → Ran
+ranAll c = record { out = shown (c .answer) (c .text); work = c .work }
+
+-- all ids, where opening was accepted
+unfoldable pub ranOpened : List ℕ → Answer → Call → Ran
+ranOpened section (Accepted types) c = ranAll (typesCall (c .session) section (c .work) (c .text))
+ranOpened section (Refused number value) c = ranAll c
+
+-- pointer size 8, unions under their own word
+unfoldable pub ranOn : List ℕ → List ℕ → List ℕ → Ran
+ranOn section w t = ranOpened section (openCall neverOpened section w t 8 0 .answer) (openCall neverOpened section w t 8 0)

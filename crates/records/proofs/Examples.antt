@@ -1,0 +1,112 @@
+-- Worked examples, by computation alone.
+use Prim.Native.Nat.{ℕ, zero, suc}
+use mathlib.Core.Path.{_≡_, refl}
+use mathlib.Core.Bool.{true, false}
+use mathlib.Core.List.{List, [], _∷_, _++_}
+use Rattle.records.specs.Documentation.{Described, described, member, enumerator64, param, int, ptr, struct, enum64, func-proto, encode, encodeAll, encodeHeader, encodeSection}
+use Rattle.records.specs.Reading.{word, kind, decode, sound, named, passes, places, decodeAll, layoutSound}
+use Rattle.records.specs.Places.{typeP, kindP, flagP, vlenP}
+use Rattle.records.specs.Section.{headerSound, stringsSound, typesSound, hdrLen, typeOff, typeLen, strOff, strLen, typeArea, stringArea}
+
+---------------------------------------------------------------------------------------------------------------------------------------
+-- Document 01's sample: 1 INT int, 2 STRUCT node { next, type 3, bit 0; v, type 1, bit 64 }, 3 PTR to 2
+
+-- "", "int" at 1, "node" at 5, "next" at 10, "v" at 15
+strings : List ℕ
+strings = 0 ∷ 105 ∷ 110 ∷ 116 ∷ 0 ∷ 110 ∷ 111 ∷ 100 ∷ 101 ∷ 0 ∷ 110 ∷ 101 ∷ 120 ∷ 116 ∷ 0 ∷ 118 ∷ 0 ∷ []
+
+node : List Described
+node =
+    described 1 0 4 (int 0 32 0 0 1 0)
+    ∷ described 5 0 16 (struct (member 10 3 0 0 ∷ member 15 1 64 0 ∷ []))
+    ∷ described 0 0 2 (ptr 0)
+    ∷ []
+
+node-bytes : List ℕ
+node-bytes =
+    1 ∷ 0 ∷ 0 ∷ 0 ∷ 0 ∷ 0 ∷ 0 ∷ 1 ∷ 4 ∷ 0 ∷ 0 ∷ 0 ∷ 32 ∷ 0 ∷ 0 ∷ 1
+    ∷ 5 ∷ 0 ∷ 0 ∷ 0 ∷ 2 ∷ 0 ∷ 0 ∷ 4 ∷ 16 ∷ 0 ∷ 0 ∷ 0
+    ∷ 10 ∷ 0 ∷ 0 ∷ 0 ∷ 3 ∷ 0 ∷ 0 ∷ 0 ∷ 0 ∷ 0 ∷ 0 ∷ 0
+    ∷ 15 ∷ 0 ∷ 0 ∷ 0 ∷ 1 ∷ 0 ∷ 0 ∷ 0 ∷ 64 ∷ 0 ∷ 0 ∷ 0
+    ∷ 0 ∷ 0 ∷ 0 ∷ 0 ∷ 0 ∷ 0 ∷ 0 ∷ 2 ∷ 2 ∷ 0 ∷ 0 ∷ 0
+    ∷ []
+
+node-laid : encodeAll node ≡ node-bytes
+unfolding node node-bytes encodeAll encode
+node-laid = refl
+
+node-read : decodeAll node-bytes ≡ node
+unfolding node node-bytes decodeAll decode places word kind
+node-read = refl
+
+node-places : places 262144 node-bytes 0 ≡ 0 ∷ 16 ∷ 52 ∷ []
+unfolding node-bytes places word kind
+node-places = refl
+
+node-sound : layoutSound 17 node-bytes ≡ true
+unfolding node-bytes layoutSound passes sound named word kind
+node-sound = refl
+
+-- with a string area of 15 bytes the name of v, at 15, is past its end
+node-name : layoutSound 15 node-bytes ≡ false
+unfolding node-bytes layoutSound passes sound named word kind
+node-name = refl
+
+-- one byte more is a record past its area
+node-more : layoutSound 17 (node-bytes ++ (0 ∷ [])) ≡ false
+unfolding node-bytes layoutSound passes sound named word kind
+node-more = refl
+
+node-section : (headerSound (encodeSection 0 node strings) ≡ true) × (stringsSound (stringArea (encodeSection 0 node strings)) ≡ true) × (typesSound (encodeSection 0 node strings) ≡ true)
+unfolding node strings encodeSection encodeHeader encodeAll encode headerSound stringsSound typesSound hdrLen typeOff typeLen strOff strLen typeArea stringArea layoutSound passes sound named word kind
+node-section = (refl, refl, refl)
+
+---------------------------------------------------------------------------------------------------------------------------------------
+-- A struct with kind_flag: a bit field of 3 bits at bit 5, an ENUM64 with the value 2^32 + 7, a FUNC_PROTO with a variable argument
+
+field3 : Described
+field3 = described 9 1 4 (struct (member 2 1 5 3 ∷ member 3 1 8 0 ∷ []))
+
+field3-bytes : List ℕ
+field3-bytes =
+    9 ∷ 0 ∷ 0 ∷ 0 ∷ 2 ∷ 0 ∷ 0 ∷ 132 ∷ 4 ∷ 0 ∷ 0 ∷ 0
+    ∷ 2 ∷ 0 ∷ 0 ∷ 0 ∷ 1 ∷ 0 ∷ 0 ∷ 0 ∷ 5 ∷ 0 ∷ 0 ∷ 3
+    ∷ 3 ∷ 0 ∷ 0 ∷ 0 ∷ 1 ∷ 0 ∷ 0 ∷ 0 ∷ 8 ∷ 0 ∷ 0 ∷ 0
+    ∷ []
+
+field3-laid : encode field3 ≡ field3-bytes
+unfolding field3 field3-bytes encode
+field3-laid = refl
+
+field3-read : (decode field3-bytes ≡ field3) × (typeP (word field3-bytes) 0 ≡ field3)
+unfolding field3 field3-bytes decode typeP kindP flagP vlenP word kind
+field3-read = (refl, refl)
+
+big : Described
+big = described 6 0 8 (enum64 (enumerator64 1 7 1 ∷ []))
+
+big-bytes : List ℕ
+big-bytes = 6 ∷ 0 ∷ 0 ∷ 0 ∷ 1 ∷ 0 ∷ 0 ∷ 19 ∷ 8 ∷ 0 ∷ 0 ∷ 0 ∷ 1 ∷ 0 ∷ 0 ∷ 0 ∷ 7 ∷ 0 ∷ 0 ∷ 0 ∷ 1 ∷ 0 ∷ 0 ∷ 0 ∷ []
+
+big-both : (encode big ≡ big-bytes) × (decode big-bytes ≡ big)
+unfolding big big-bytes encode decode word kind
+big-both = (refl, refl)
+
+printf : Described
+printf = described 0 0 1 (func-proto (param 4 2 ∷ param 0 0 ∷ []))
+
+printf-bytes : List ℕ
+printf-bytes = 0 ∷ 0 ∷ 0 ∷ 0 ∷ 2 ∷ 0 ∷ 0 ∷ 13 ∷ 1 ∷ 0 ∷ 0 ∷ 0 ∷ 4 ∷ 0 ∷ 0 ∷ 0 ∷ 2 ∷ 0 ∷ 0 ∷ 0 ∷ 0 ∷ 0 ∷ 0 ∷ 0 ∷ 0 ∷ 0 ∷ 0 ∷ 0 ∷ []
+
+printf-both : (encode printf ≡ printf-bytes) × (decode printf-bytes ≡ printf)
+unfolding printf printf-bytes encode decode word kind
+printf-both = (refl, refl)
+
+-- kind 20 is refused, and so is an unused bit of info
+kind-20 : layoutSound 1 (0 ∷ 0 ∷ 0 ∷ 0 ∷ 0 ∷ 0 ∷ 0 ∷ 20 ∷ 0 ∷ 0 ∷ 0 ∷ 0 ∷ []) ≡ false
+unfolding layoutSound passes sound named word kind
+kind-20 = refl
+
+unused-16 : layoutSound 1 (0 ∷ 0 ∷ 0 ∷ 0 ∷ 0 ∷ 0 ∷ 1 ∷ 2 ∷ 0 ∷ 0 ∷ 0 ∷ 0 ∷ []) ≡ false
+unfolding layoutSound passes sound named word kind
+unused-16 = refl

@@ -1,0 +1,178 @@
+-- The tables of the documentation: each field's bytes stand at the offset that the table gives, and the reader's lengths are the table's. Assumes nothing.
+use Prim.Native.Nat.{ℕ, zero, suc, _+_, _<_, _/_}
+use mathlib.Core.Path.{_≡_, refl, ap, _∙_, sym}
+use mathlib.Core.List.{List, [], _∷_, _++_, map, append-assoc}
+use native.Mathlib.Omega.{arith}
+use lib.ListN.{length, getD, take, drop, length-append, length-map}
+use lib.Seq.{drop-at, take-at}
+use Rattle.records.specs.Documentation.{Field, field, littleEndian, layOut, btf-header, btf-type, int-word, btf-array, btf-member, btf-enum, btf-param, btf-var, btf-var-secinfo, btf-decl-tag, btf-enum64, Follows, kinds, unknown, nothing, one, each, follows, followSize, putEach, Member, member, Enumerator, enumerator, Param, param, Secinfo, secinfo, Enumerator64, enumerator64, putMember, putEnumerator, putParam, putSecinfo, putEnumerator64, Body, int, ptr, array, struct, union, enum, fwd, typedef, volatile, const, restrict, func, func-proto, var, datasec, float, decl-tag, type-tag, enum64, kindOf, vlenOf, putBody}
+use Rattle.records.specs.Fields.{memberFields, enumFields, paramFields, secinfoFields, enum64Fields, bodyStructs}
+use Rattle.records.specs.Reading.{kind, kindTable, extra, none, Kind}
+
+---------------------------------------------------------------------------------------------------------------------------------------
+-- Each field of a table begins where the one before it ends
+
+abbrev pub Runs : ℕ → List Field → Type 0
+Runs p [] = Unit {0}
+Runs p (field name offset width ∷ fs) = (offset ≡ p) × Runs (p + width) fs
+
+abbrev pub offsetOf : List Field → ℕ → ℕ
+offsetOf [] i = 0
+offsetOf (field name offset width ∷ fs) zero = offset
+offsetOf (field name offset width ∷ fs) (suc i) = offsetOf fs i
+
+abbrev pub widthOf : List Field → ℕ → ℕ
+widthOf [] i = 0
+widthOf (field name offset width ∷ fs) zero = width
+widthOf (field name offset width ∷ fs) (suc i) = widthOf fs i
+
+little-length : (w v : ℕ) → length (littleEndian w v) ≡ w
+little-length zero v = refl
+little-length (suc w) v = ap suc (little-length w (v / 256))
+
+-- so its bytes stand at its offset, x being what stands before
+stands : (fs : List Field) (vs x : List ℕ) → Runs (length x) fs → length vs ≡ length fs → (i : ℕ) → i < length fs
+    → take (widthOf fs i) (drop (offsetOf fs i) (x ++ layOut fs vs)) ≡ littleEndian (widthOf fs i) (getD vs i 0)
+stands [] vs x r l i h = absurd (omega arith)
+stands (field n o w ∷ fs) [] x r l i h = absurd (omega arith)
+stands (field n o w ∷ fs) (v ∷ vs) x r l zero h =
+    rw (drop-at x (littleEndian w v ++ layOut fs vs) o (sym (r .0))) (take-at (littleEndian w v) (layOut fs vs) w (little-length w v))
+stands (field n o w ∷ fs) (v ∷ vs) x r l (suc i) h =
+    let e : length (x ++ littleEndian w v) ≡ length x + w = length-append x (littleEndian w v) ∙ ap (λ (k : ℕ). length x + k) (little-length w v) in
+    let r′ : Runs (length (x ++ littleEndian w v)) fs = rw e (r .1) in
+    rw (← append-assoc x (littleEndian w v) (layOut fs vs)) (stands fs vs (x ++ littleEndian w v) r′ (omega arith) i (omega arith))
+
+pub field-stands : (fs : List Field) (vs : List ℕ) → Runs 0 fs → length vs ≡ length fs → (i : ℕ) → i < length fs
+    → take (widthOf fs i) (drop (offsetOf fs i) (layOut fs vs)) ≡ littleEndian (widthOf fs i) (getD vs i 0)
+field-stands fs vs r l i h = stands fs vs [] r l i h
+
+pub header-runs : Runs 0 btf-header
+header-runs = (refl, (refl, (refl, (refl, (refl, (refl, (refl, (refl, tt))))))))
+
+pub type-runs : Runs 0 btf-type
+type-runs = (refl, (refl, (refl, tt)))
+
+pub int-runs : Runs 0 int-word
+int-runs = (refl, tt)
+
+pub array-runs : Runs 0 btf-array
+array-runs = (refl, (refl, (refl, tt)))
+
+pub member-runs : Runs 0 btf-member
+member-runs = (refl, (refl, (refl, tt)))
+
+pub enum-runs : Runs 0 btf-enum
+enum-runs = (refl, (refl, tt))
+
+pub param-runs : Runs 0 btf-param
+param-runs = (refl, (refl, tt))
+
+pub var-runs : Runs 0 btf-var
+var-runs = (refl, tt)
+
+pub secinfo-runs : Runs 0 btf-var-secinfo
+secinfo-runs = (refl, (refl, (refl, tt)))
+
+pub tag-runs : Runs 0 btf-decl-tag
+tag-runs = (refl, tt)
+
+pub enum64-runs : Runs 0 btf-enum64
+enum64-runs = (refl, (refl, (refl, tt)))
+
+-- the reader's length of what follows is the table's, for every kind and every vlen
+abbrev Agree : List Kind → List Follows → Type 0
+Agree [] [] = Unit {0}
+Agree [] (f ∷ fs) = ⊥
+Agree (x ∷ ks) [] = ⊥
+Agree (x ∷ ks) (f ∷ fs) = ((v : ℕ) → extra x v ≡ followSize f v) × Agree ks fs
+
+agree : (ks : List Kind) (fs : List Follows) → Agree ks fs → (k v : ℕ) → extra (getD ks k none) v ≡ followSize (getD fs k unknown) v
+agree [] [] a k v = refl
+agree [] (f ∷ fs) a k v = absurd a
+agree (x ∷ ks) [] a k v = absurd a
+agree (x ∷ ks) (f ∷ fs) a zero v = a .0 v
+agree (x ∷ ks) (f ∷ fs) a (suc k) v = agree ks fs (a .1) k v
+
+pub lengths-agree : (k v : ℕ) → extra (kind k) v ≡ followSize (getD kinds k unknown) v
+unfolding kind
+lengths-agree k v =
+    agree kindTable kinds
+    (λ v. refl, (λ v. refl, (λ v. refl, (λ v. refl, (λ v. refl, (λ v. refl, (λ v. refl, (λ v. refl, (λ v. refl, (λ v. refl, (λ v. refl, (λ v. refl, (λ v. refl, (λ v. refl, (λ v. refl, (λ v. refl, (λ v. refl, (λ v. refl, (λ v. refl, (λ v. refl, tt))))))))))))))))))))
+    k v
+
+---------------------------------------------------------------------------------------------------------------------------------------
+-- What follows struct btf_type in the encoder is the structs that the table names, in sequence, and as many as it says
+
+abbrev pub structOf : Follows → List Field
+structOf unknown = []
+structOf nothing = []
+structOf (one s) = s
+structOf (each s) = s
+
+abbrev pub countOf : Follows → ℕ → ℕ
+countOf unknown vlen = 0
+countOf nothing vlen = 0
+countOf (one s) vlen = 1
+countOf (each s) vlen = vlen
+
+each-laid : {E : Type 0} (put fields : E → List ℕ) (s : List Field) → ((e : E) → put e ≡ layOut s (fields e))
+    → (es : List E) → putEach put es ≡ putEach (layOut s) (map fields es)
+each-laid put fields s h [] = refl
+each-laid put fields s h (e ∷ es) = λ i. h e i ++ each-laid put fields s h es i
+
+member-laid : (f : ℕ) (m : Member) → putMember f m ≡ layOut btf-member (memberFields f m)
+member-laid f (member n t b z) = refl
+
+enum-laid : (e : Enumerator) → putEnumerator e ≡ layOut btf-enum (enumFields e)
+enum-laid (enumerator n v) = refl
+
+param-laid : (e : Param) → putParam e ≡ layOut btf-param (paramFields e)
+param-laid (param n t) = refl
+
+secinfo-laid : (e : Secinfo) → putSecinfo e ≡ layOut btf-var-secinfo (secinfoFields e)
+secinfo-laid (secinfo t o z) = refl
+
+enum64-laid : (e : Enumerator64) → putEnumerator64 e ≡ layOut btf-enum64 (enum64Fields e)
+enum64-laid (enumerator64 n l h) = refl
+
+pub body-laid : (f : ℕ) (b : Body) → putBody f b ≡ putEach (layOut (structOf (follows (kindOf b)))) (bodyStructs f b)
+body-laid f (int v a b c d e) = refl
+body-laid f (ptr v) = refl
+body-laid f (array v t i n) = refl
+body-laid f (struct ms) = each-laid (putMember f) (memberFields f) btf-member (member-laid f) ms
+body-laid f (union ms) = each-laid (putMember f) (memberFields f) btf-member (member-laid f) ms
+body-laid f (enum es) = each-laid putEnumerator enumFields btf-enum enum-laid es
+body-laid f (fwd v) = refl
+body-laid f (typedef v) = refl
+body-laid f (volatile v) = refl
+body-laid f (const v) = refl
+body-laid f (restrict v) = refl
+body-laid f (func v) = refl
+body-laid f (func-proto ps) = each-laid putParam paramFields btf-param param-laid ps
+body-laid f (var v l) = refl
+body-laid f (datasec ss) = each-laid putSecinfo secinfoFields btf-var-secinfo secinfo-laid ss
+body-laid f (float v) = refl
+body-laid f (decl-tag v c) = refl
+body-laid f (type-tag v) = refl
+body-laid f (enum64 es) = each-laid putEnumerator64 enum64Fields btf-enum64 enum64-laid es
+
+pub body-count : (f : ℕ) (b : Body) → length (bodyStructs f b) ≡ countOf (follows (kindOf b)) (vlenOf b)
+body-count f (int v a b c d e) = refl
+body-count f (ptr v) = refl
+body-count f (array v t i n) = refl
+body-count f (struct ms) = length-map ms (memberFields f)
+body-count f (union ms) = length-map ms (memberFields f)
+body-count f (enum es) = length-map es (enumFields)
+body-count f (fwd v) = refl
+body-count f (typedef v) = refl
+body-count f (volatile v) = refl
+body-count f (const v) = refl
+body-count f (restrict v) = refl
+body-count f (func v) = refl
+body-count f (func-proto ps) = length-map ps (paramFields)
+body-count f (var v l) = refl
+body-count f (datasec ss) = length-map ss (secinfoFields)
+body-count f (float v) = refl
+body-count f (decl-tag v c) = refl
+body-count f (type-tag v) = refl
+body-count f (enum64 es) = length-map es (enum64Fields)

@@ -1,0 +1,10 @@
+pub mod Laws
+pub mod Writing
+pub mod Closed
+pub mod Related
+pub mod Keeps
+pub mod Samples
+pub mod Pads
+pub mod Chains
+pub mod Deeper
+pub mod Refusals

@@ -1,0 +1,12 @@
+pub mod Order
+pub mod Machine
+pub mod Writer
+pub mod Place
+pub mod Types
+pub mod Layout
+pub mod Names
+pub mod Decl
+pub mod Emit
+pub mod Chain
+pub mod Listed
+pub mod Samples

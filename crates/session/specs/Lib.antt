@@ -1,0 +1,3 @@
+-- What each call of a session comes to.
+pub mod Answers
+pub mod Calls

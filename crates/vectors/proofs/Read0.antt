@@ -1,0 +1,12 @@
+-- Written by tools/vectors.py. By computation, the bytes of the sections of specs/Programs0 are read as their types.
+use mathlib.Core.Path.{_≡_, refl}
+use Rattle.lent.specs.Words.{wordAt}
+use Rattle.btf.specs.Names.{upToZero, nameAt}
+use Rattle.btf.specs.Records.{sectionWord, recordAt, memberOf, extraOf}
+use Rattle.btf.specs.Table.{from, paramOf, valueOf, value64Of, typeOf}
+use Rattle.vectors.specs.Reading.{pairs, typesFrom, typesOf, allRead, allTypes}
+use Rattle.vectors.specs.Programs0.{programs0}
+
+pub programs0-read : allRead programs0 ≡ allTypes programs0
+unfolding wordAt upToZero nameAt sectionWord recordAt memberOf extraOf from paramOf valueOf value64Of typeOf pairs typesFrom typesOf
+programs0-read = refl
