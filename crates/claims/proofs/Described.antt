@@ -2,7 +2,7 @@
 use Prim.Native.Nat.{ℕ, zero, suc, _+_, _-_, _<_, _≤_}
 use mathlib.Core.Path.{_≡_, refl, ap, ap₂, _∙_, sym}
 use mathlib.Core.Bool.{Bool, true, false}
-use mathlib.Core.List.{List, [], _∷_}
+use mathlib.Core.List.{List, _∷_}
 use native.Mathlib.Omega.{arith}
 use lib.ListN.{length, getD}
 use lib.Dec.{eqb}
@@ -10,10 +10,10 @@ use borrow.Author.Tests.{ne-eqb}
 use Rattle.records.specs.Documentation.{Described}
 use Rattle.records.specs.Reading.{Bytes}
 use Rattle.records.specs.Places.{kindP}
-use Rattle.rules.specs.Types.{BtfType, Void}
+use Rattle.rules.specs.Types.{Void}
 use Rattle.btf.specs.declared.types.Btf.{Btf}
 use Rattle.btf.specs.declared.types.BtfType.{BtfType as Record}
-use Rattle.btf.specs.Records.{sectionWord, kindOf, recordAt, recordById, voidRecord}
+use Rattle.btf.specs.Records.{sectionWord, kindOf, recordAt, voidRecord}
 use Rattle.btf.specs.Table.{btfOf, typeOf}
 use Rattle.btf.specs.Documented.{kept}
 use Rattle.btf.proofs.Documented.{section-documented}
@@ -24,7 +24,7 @@ use Rattle.opening.specs.Left.{isTagOn, tagsOn}
 use Rattle.opening.specs.Opened.{workOf}
 use Rattle.opening.specs.Causes.{openingNumber}
 use Rattle.opening.proofs.Index.{types-few, some-type, index-place, index-kind}
-use Rattle.opening.proofs.ReadBack.{header-ok, types-ok, types-are, record-back, kind-back, tags-are}
+use Rattle.opening.proofs.ReadBack.{header-ok, types-ok, types-are, record-back, tags-are}
 use Rattle.claims.specs.Table.{headerOf, openedTable, isTagFor, tagIds}
 
 pub void-type : (b : Btf) (s : List ℕ) → typeOf b s voidRecord ≡ Void

@@ -3,3 +3,10 @@ pub mod Named
 pub mod Sound
 pub mod Claims
 pub mod Steps
+pub mod Began
+pub mod Lines
+pub mod Start
+pub mod Emission
+pub mod Request
+pub mod Session
+pub mod Demands

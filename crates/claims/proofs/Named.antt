@@ -1,22 +1,20 @@
 -- The work that a successful opening leaves is indexed and fresh: the names in it are those of the Rust. Assumes nothing.
-use Prim.Native.Nat.{ℕ, zero, suc, _+_, _-_, _*_, _%_, _<_, _≤_}
+use Prim.Native.Nat.{ℕ, suc, _+_, _-_, _*_, _<_, _≤_}
 use mathlib.Core.Path.{_≡_, refl, ap, _∙_, sym, subst}
 use mathlib.Core.Bool.{Bool, true, false}
 use mathlib.Core.List.{List}
-use mathlib.Core.Logic.{inl, inr, ⊎-elim}
+use mathlib.Core.Logic.{inl, inr}
 use native.Mathlib.Omega.{arith}
 use native.Mathlib.Decide.{ℕ-discrete}
 use lib.ListN.{getD, replicate}
-use lib.Dec.{eqb}
 use Rattle.lent.specs.Words.{getWord}
-use Rattle.lent.proofs.Laws.{le-or-lt}
 use Rattle.btf.specs.declared.types.Btf.{Btf}
 use Rattle.btf.specs.declared.types.BtfType.{BtfType as Record}
-use Rattle.btf.specs.Cells.{getField, countP}
+use Rattle.btf.specs.Cells.{getField}
 use Rattle.btf.specs.Records.{sectionWord, kindOf, vlenOf, recordAt, recordById, voidRecord}
 use Rattle.btf.specs.Table.{enumeratorOf}
 use Rattle.btf.proofs.Laws.{void-zero}
-use Rattle.classes.specs.Classes.{recordP, tableClassed}
+use Rattle.classes.specs.Classes.{recordP}
 use Rattle.opening.specs.Table.{typesOf, enumeratorsOf, recordPlace, recordKind, indexOf}
 use Rattle.opening.specs.Left as left
 use Rattle.opening.specs.Left.{enumeratorWord, isEnum, valuesAt, enumsTo}
@@ -25,8 +23,8 @@ use Rattle.opening.specs.Causes.{openingNumber}
 use Rattle.opening.proofs.Index.{types-few, some-type, index-place, index-kind}
 use Rattle.opening.proofs.Sums.{enumerators-all}
 use Rattle.opening.proofs.Enumerators.{to-up}
-use Rattle.opening.proofs.Zeros.{Other, zeros-word, before-else, other-field}
-use Rattle.opening.proofs.ReadBack.{header-ok, types-ok, types-are, before, work-is, record-back, kind-back, value-back, enumerator-back, room-back, counts-back}
+use Rattle.opening.proofs.Zeros.{zeros-word, before-else, other-field}
+use Rattle.opening.proofs.ReadBack.{header-ok, types-ok, types-are, before, record-back, kind-back, value-back, enumerator-back, room-back, counts-back}
 use Rattle.ledger.specs.Indexed.{IsEnum, valuePlace, Value, placeOfValue, Indexed}
 use Rattle.ledger.specs.Alike.{Fresh}
 use Rattle.ledger.proofs.Classed.{enumerator-place, classed-indexed, classed-fresh}

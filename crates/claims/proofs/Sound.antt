@@ -4,32 +4,31 @@ use Prim.Native.Nat.{ℕ, zero, suc, _+_, _-_, _<_, _≤_}
 use mathlib.Core.Path.{_≡_, refl, ap, _∙_, sym, subst}
 use mathlib.Core.Bool.{Bool, true, false, true≢false}
 use mathlib.Core.List.{List, [], _∷_, List·Memᴰ, List·Memᴰ·head, List·Memᴰ·tail, List·Memᴰ·not-nil}
-use mathlib.Core.Logic.{_⊎_, inl, inr, ⊎-elim}
+use mathlib.Core.Logic.{_⊎_, inl, inr}
 use native.Mathlib.Omega.{arith}
 use native.Mathlib.Nat.{zero-add}
 use native.Mathlib.Decide.{ℕ-discrete}
 use Rattle.lent.proofs.Laws.{le-or-lt}
 use Rattle.records.specs.Places.{kindP}
-use Rattle.rules.specs.Types.{BtfType, Void, nodeOf, memberTypes, paramTypes, tableOf}
+use Rattle.rules.specs.Types.{BtfType, nodeOf, memberTypes, paramTypes, tableOf}
 use Rattle.rules.specs.Order.{Node, ignored, plain, listed, through, ptr, tdef, proto, comp, isComp}
 use Rattle.btf.specs.declared.types.Btf.{Btf}
 use Rattle.btf.specs.declared.types.BtfType.{BtfType as Record}
-use Rattle.btf.specs.Records.{sectionWord, kindOf, vlenOf, memberAt, paramAt, recordAt, recordById, entriesOf}
+use Rattle.btf.specs.Records.{sectionWord, kindOf, vlenOf, memberAt, paramAt, recordAt}
 use Rattle.btf.specs.Table.{from, btfOf, typeOf, membersOf, paramsOf}
 use Rattle.btf.specs.Nodes.{memberIds, paramIds}
 use Rattle.btf.proofs.KindLaws as K
-use Rattle.followed.specs.Followed.{among, placeOf, kindAt, targets, composites, countOf, countFor, idPlace, countAt, idAt, followedCount, followedId}
+use Rattle.followed.specs.Followed.{among, placeOf, kindAt, countOf, countFor, idPlace, countAt, idAt, followedCount, followedId}
 use Rattle.followed.specs.Prototypes as walk
-use Rattle.followed.specs.Prototypes.{holders, anyLeads, ToProto, ends, passes, ProtoInside}
+use Rattle.followed.specs.Prototypes.{holders, anyLeads, ToProto, ends, passes}
 use Rattle.followed.proofs.Accessors.{id-param}
 use Rattle.followed.proofs.Held.{any-leads}
 use Rattle.opening.specs.Table.{typesOf, recordPlace, recordKind, indexOf}
-use Rattle.opening.specs.Opened.{workOf}
 use Rattle.opening.specs.Causes as causes
 use Rattle.opening.specs.Causes.{cause7, openingNumber}
-use Rattle.opening.proofs.Order.{NoneHolds, sound-none}
+use Rattle.opening.proofs.Order.{sound-none}
 use Rattle.opening.proofs.Index.{types-few, table-count, followed-place, followed-kind}
-use Rattle.opening.proofs.ReadBack.{header-ok, types-ok, types-are, record-back, followed-below}
+use Rattle.opening.proofs.ReadBack.{header-ok, types-ok, record-back, followed-below}
 use Rattle.demand.specs.Needs.{kids, weaken, isProto, ProtoVia, it, on, WF}
 use Rattle.claims.specs.Table.{headerOf, openedTable}
 use Rattle.claims.proofs.Described.{count-is, type-zero, type-past}

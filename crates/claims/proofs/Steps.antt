@@ -1,12 +1,12 @@
 -- The steps of ordering and emission that write no text, in the work and in the machine of lists: they keep the two alike. Assumes nothing.
-use Prim.Native.Nat.{ℕ, zero, suc, _+_, _*_, _/_, _<_, _≤_}
+use Prim.Native.Nat.{ℕ, zero, suc, _+_, _*_, _<_}
 use mathlib.Core.Path.{_≡_, refl, ap, _∙_, sym, fun-ext}
-use mathlib.Core.Bool.{Bool, true, false, not}
+use mathlib.Core.Bool.{true, false, not}
 use mathlib.Core.List.{List, [], _∷_, _++_}
 use mathlib.Core.Logic.{_≢_}
 use native.Mathlib.Omega.{arith}
 use native.Mathlib.Decide.{ℕ-discrete}
-use lib.ListN.{length, getD, set, length-set, replicate, length-replicate}
+use lib.ListN.{length, getD, set, length-set}
 use lib.Seq.{getD-set-same, getD-set-other}
 use lib.Dec.{eqb}
 use Rattle.lent.specs.Words.{getWord, oneMore}
@@ -16,9 +16,9 @@ use Rattle.rules.specs.Names.{Names}
 use Rattle.rules.specs.Types.{Btf as Rules}
 use Rattle.btf.specs.declared.types.Btf.{Btf}
 use Rattle.btf.specs.Cells.{getField, putField, classP, countP, placeOf}
-use Rattle.btf.specs.Table.{from}
+use Rattle.btf.specs.Table.{from, btfOf}
 use Rattle.btf.proofs.Laws.{place-type}
-use Rattle.btf.proofs.Frame.{field-other}
+use Rattle.btf.proofs.Frame.{field-other, table-field}
 use Rattle.classes.specs.Classes.{recordP, keyIn, classOf}
 use Rattle.classes.proofs.Keys.{place-apart}
 use Rattle.order.specs.Work.{markOf, code, workStore}
@@ -74,6 +74,10 @@ module _ (b : Btf) (e : ℕ) (s w : List ℕ) (I : Indexed b e s w) where
         go (yes k) = ap (λ (j : ℕ). g (getField (putField v x f c) j f)) k ∙ ap g put-here ∙ q ∙ sym (getD-set-same r x z d (omega (arith, n, l))) ∙ ap (λ (j : ℕ). getD (set r x z) j d) (sym k)
         go (no k) = ap g (put-there y k) ∙ h y m ∙ sym (getD-set-other r x y z d k)
 
+    -- the table, which reads words 0, 9 and 10 of a type only
+    put-table : f ≢ 9 → f ≢ 10 → btfOf b s (putField v x f c) ≡ btfOf b s v
+    put-table f9 f10 = table-field v x f c lf b s f0 f9 f10
+
     -- word 11, if f is another
     put-list : f ≢ 11 → (n : ℕ) → from (λ k. getField (putField v x f c) k 11) 0 n ≡ from (λ k. getField v k 11) 0 n
     put-list n11 n = ap (λ (g : ℕ → ℕ). from g 0 n) (fun-ext (λ k. field-other v x f c k 11 lf (omega arith) n11))
@@ -86,10 +90,11 @@ module _ (b : Btf) (e : ℕ) (s w : List ℕ) (I : Indexed b e s w) where
     -- ordering's mark
     pub mark-step : (k : Mark) → Bears b e s w (putField v x 1 (code k)) len (listStore .mark k x t)
     mark-step k = record {
+      table = put-table 1 (omega arith) (λ q. omega arith) (λ q. omega arith) (λ q. omega arith) (λ q. omega arith) (λ q. omega arith) v u x (code k) l (h .names) (λ q. omega arith) (λ q. omega arith) ∙ h .table;
       names = put-alike 1 (omega arith) (λ q. omega arith) (λ q. omega arith) (λ q. omega arith) (λ q. omega arith) (λ q. omega arith) v u x (code k) l (h .names);
       marks = put-seen 1 (omega arith) (λ q. omega arith) (λ q. omega arith) (λ q. omega arith) (λ q. omega arith) (λ q. omega arith) v u x (code k) l (h .names) markOf (t .marks) k new (mark-code k) (h .marks-n) (h .marks);
       list = put-list 1 (omega arith) (λ q. omega arith) (λ q. omega arith) (λ q. omega arith) (λ q. omega arith) (λ q. omega arith) v u x (code k) l (h .names) (λ q. omega arith) len ∙ h .list;
-      emits = λ y m. ap markOf (field-other v x 1 (code k) y 2 (omega arith) (omega arith) (λ q. omega arith)) ∙ h .emits y m;
+      emits = λ y m. ap markOf (field-other v x 1 (code k) y 13 (omega arith) (omega arith) (λ q. omega arith)) ∙ h .emits y m;
       fwds = λ y m. ap (λ (z : ℕ). not (eqb z 0)) (field-other v x 1 (code k) y 3 (omega arith) (omega arith) (λ q. omega arith)) ∙ h .fwds y m;
       marks-n = length-set (t .marks) x k ∙ h .marks-n;
       emits-n = h .emits-n;
@@ -97,13 +102,14 @@ module _ (b : Btf) (e : ℕ) (s w : List ℕ) (I : Indexed b e s w) where
     }
 
     -- emission's mark
-    pub emark-step : (B : Rules) (k : Mark) → Bears b e s w (putField v x 2 (code k)) len (machine B .emark k x t)
+    pub emark-step : (B : Rules) (k : Mark) → Bears b e s w (putField v x 13 (code k)) len (machine B .emark k x t)
     emark-step B k = record {
-      names = put-alike 2 (omega arith) (λ q. omega arith) (λ q. omega arith) (λ q. omega arith) (λ q. omega arith) (λ q. omega arith) v u x (code k) l (h .names);
-      marks = λ y m. ap markOf (field-other v x 2 (code k) y 1 (omega arith) (omega arith) (λ q. omega arith)) ∙ h .marks y m;
-      list = put-list 2 (omega arith) (λ q. omega arith) (λ q. omega arith) (λ q. omega arith) (λ q. omega arith) (λ q. omega arith) v u x (code k) l (h .names) (λ q. omega arith) len ∙ h .list;
-      emits = put-seen 2 (omega arith) (λ q. omega arith) (λ q. omega arith) (λ q. omega arith) (λ q. omega arith) (λ q. omega arith) v u x (code k) l (h .names) markOf (t .emits) k new (mark-code k) (h .emits-n) (h .emits);
-      fwds = λ y m. ap (λ (z : ℕ). not (eqb z 0)) (field-other v x 2 (code k) y 3 (omega arith) (omega arith) (λ q. omega arith)) ∙ h .fwds y m;
+      table = put-table 13 (omega arith) (λ q. omega arith) (λ q. omega arith) (λ q. omega arith) (λ q. omega arith) (λ q. omega arith) v u x (code k) l (h .names) (λ q. omega arith) (λ q. omega arith) ∙ h .table;
+      names = put-alike 13 (omega arith) (λ q. omega arith) (λ q. omega arith) (λ q. omega arith) (λ q. omega arith) (λ q. omega arith) v u x (code k) l (h .names);
+      marks = λ y m. ap markOf (field-other v x 13 (code k) y 1 (omega arith) (omega arith) (λ q. omega arith)) ∙ h .marks y m;
+      list = put-list 13 (omega arith) (λ q. omega arith) (λ q. omega arith) (λ q. omega arith) (λ q. omega arith) (λ q. omega arith) v u x (code k) l (h .names) (λ q. omega arith) len ∙ h .list;
+      emits = put-seen 13 (omega arith) (λ q. omega arith) (λ q. omega arith) (λ q. omega arith) (λ q. omega arith) (λ q. omega arith) v u x (code k) l (h .names) markOf (t .emits) k new (mark-code k) (h .emits-n) (h .emits);
+      fwds = λ y m. ap (λ (z : ℕ). not (eqb z 0)) (field-other v x 13 (code k) y 3 (omega arith) (omega arith) (λ q. omega arith)) ∙ h .fwds y m;
       marks-n = h .marks-n;
       emits-n = length-set (t .emits) x k ∙ h .emits-n;
       fwds-n = h .fwds-n;
@@ -112,10 +118,11 @@ module _ (b : Btf) (e : ℕ) (s w : List ℕ) (I : Indexed b e s w) where
     -- the flag of a forward line
     pub forwarded-step : (B : Rules) → Bears b e s w (putField v x 3 1) len (machine B .forwarded x t)
     forwarded-step B = record {
+      table = put-table 3 (omega arith) (λ q. omega arith) (λ q. omega arith) (λ q. omega arith) (λ q. omega arith) (λ q. omega arith) v u x 1 l (h .names) (λ q. omega arith) (λ q. omega arith) ∙ h .table;
       names = put-alike 3 (omega arith) (λ q. omega arith) (λ q. omega arith) (λ q. omega arith) (λ q. omega arith) (λ q. omega arith) v u x 1 l (h .names);
       marks = λ y m. ap markOf (field-other v x 3 1 y 1 (omega arith) (omega arith) (λ q. omega arith)) ∙ h .marks y m;
       list = put-list 3 (omega arith) (λ q. omega arith) (λ q. omega arith) (λ q. omega arith) (λ q. omega arith) (λ q. omega arith) v u x 1 l (h .names) (λ q. omega arith) len ∙ h .list;
-      emits = λ y m. ap markOf (field-other v x 3 1 y 2 (omega arith) (omega arith) (λ q. omega arith)) ∙ h .emits y m;
+      emits = λ y m. ap markOf (field-other v x 3 1 y 13 (omega arith) (omega arith) (λ q. omega arith)) ∙ h .emits y m;
       fwds = put-seen 3 (omega arith) (λ q. omega arith) (λ q. omega arith) (λ q. omega arith) (λ q. omega arith) (λ q. omega arith) v u x 1 l (h .names) (λ (z : ℕ). not (eqb z 0)) (t .fwds) true false refl (h .fwds-n) (h .fwds);
       marks-n = h .marks-n;
       emits-n = h .emits-n;
@@ -139,10 +146,11 @@ module _ (b : Btf) (e : ℕ) (s w : List ℕ) (I : Indexed b e s w) where
 
     pub push-step : length (t .olist) < b .types → Bears b e s w (putField v len 11 x) (oneMore len) (listStore .push x t)
     push-step r = record {
+      table = put-table 11 (omega arith) (λ q. omega arith) (λ q. omega arith) (λ q. omega arith) (λ q. omega arith) (λ q. omega arith) v u len x (listed-few r) (h .names) (λ q. omega arith) (λ q. omega arith) ∙ h .table;
       names = put-alike 11 (omega arith) (λ q. omega arith) (λ q. omega arith) (λ q. omega arith) (λ q. omega arith) (λ q. omega arith) v u len x (listed-few r) (h .names);
       marks = λ y m. ap markOf (field-other v len 11 x y 1 (omega arith) (omega arith) (λ q. omega arith)) ∙ h .marks y m;
       list = list-grows r;
-      emits = λ y m. ap markOf (field-other v len 11 x y 2 (omega arith) (omega arith) (λ q. omega arith)) ∙ h .emits y m;
+      emits = λ y m. ap markOf (field-other v len 11 x y 13 (omega arith) (omega arith) (λ q. omega arith)) ∙ h .emits y m;
       fwds = λ y m. ap (λ (z : ℕ). not (eqb z 0)) (field-other v len 11 x y 3 (omega arith) (omega arith) (λ q. omega arith)) ∙ h .fwds y m;
       marks-n = h .marks-n;
       emits-n = h .emits-n;

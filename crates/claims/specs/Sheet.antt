@@ -1,38 +1,56 @@
 -- Emission in lent bytes against the machine of lists: when a work, a text, the next place in it and the length of the order list say what a
--- state of the machine of lists with the names of the Rust says. This is the relation that crate demand's `AlikeMachine` asks for.
-use Prim.Native.Nat.{ℕ, _<_, _≤_}
+-- state of the machine of lists with the names of the Rust says. proofs/Request.antt: one request keeps it, and gives the same on both.
+use Prim.Native.Nat.{ℕ, _+_, _<_, _≤_}
 use mathlib.Core.Path.{_≡_}
-use mathlib.Core.Bool.{Bool, true, false, not}
-use mathlib.Core.List.{List}
+use mathlib.Core.Bool.{true, false, not}
+use mathlib.Core.List.{List, [], _∷_, _++_}
 use lib.ListN.{length, getD, take}
 use lib.Dec.{eqb}
-use Rattle.rules.specs.Order.{Mark, new}
+use Rattle.rules.specs.Order.{new}
+use Rattle.rules.specs.Machine.{Out, wrote, stuck, Sess, Answer}
+use Rattle.rules.specs.Place.{Wrote, wrote as written, refused}
 use Rattle.rules.specs.Names.{Names}
+use Rattle.rules.specs.Layout.{smaller}
 use Rattle.btf.specs.declared.types.Btf.{Btf}
 use Rattle.btf.specs.Cells.{getField}
-use Rattle.btf.specs.Table.{from}
+use Rattle.btf.specs.Table.{from, btfOf}
 use Rattle.order.specs.Work.{markOf}
 use Rattle.demand.specs.Lists.{Ls}
-use Rattle.demand.specs.Session.{Known, textOf}
+use Rattle.emit.specs.Sheet.{Sheet}
+use Rattle.demand.specs.Session.{Known, textOf, machine}
 use Rattle.ledger.specs.Alike.{Alike}
 
 -- w is the work after opening
 module _ (b : Btf) (e : ℕ) (s w : List ℕ) where
-  -- v is the work now. Words of a type: 1 its mark in ordering, 2 in emission, 3 whether its forward line is written, 11 of the first
-  -- types the order list.
+  -- v is the work now. The table is as opening left it. Words of a type: 1 its mark in ordering, 13 in emission, 3 whether its forward line
+  -- is written, 11 of the first types the order list.
   pub record Bears (v : List ℕ) (len : ℕ) (t : Ls (Known Names)) : Type 0 where
+    pub table : btfOf b s v ≡ btfOf b s w
     pub names : Alike b e s w v (t .known .names)
     pub marks : (x : ℕ) → x < b .types → markOf (getField v x 1) ≡ getD (t .marks) x new
     pub list : from (λ k. getField v k 11) 0 len ≡ t .olist
-    pub emits : (x : ℕ) → x < b .types → markOf (getField v x 2) ≡ getD (t .emits) x new
+    pub emits : (x : ℕ) → x < b .types → markOf (getField v x 13) ≡ getD (t .emits) x new
     pub fwds : (x : ℕ) → x < b .types → not (eqb (getField v x 3) 0) ≡ getD (t .fwds) x false
     pub marks-n : length (t .marks) ≡ b .types
     pub emits-n : length (t .emits) ≡ b .types
     pub fwds-n : length (t .fwds) ≡ b .types
 
-  -- the lent text: as long as the room, with what was written up to the next place
-  pub record Shows (text : List ℕ) (at : ℕ) (t : Ls (Known Names)) : Type 0 where
-    pub room : length text ≡ t .room
-    pub place : at ≡ t .known .text-len
+  -- The text: its front, from before the request, and the slice that the request is lent. They are as long as the room, and no longer than
+  -- 2^30 bytes. What was written stands in the front and in the slice up to the next place.
+  pub record Shows (front text : List ℕ) (at : ℕ) (t : Ls (Known Names)) : Type 0 where
+    pub room : length front + length text ≡ smaller (t .room) 1073741824
+    pub place : length front + at ≡ t .known .text-len
     pub inside : at ≤ length text
-    pub written : take at text ≡ textOf (t .pieces)
+    pub so-far : front ++ take at text ≡ textOf (t .pieces)
+
+  -- what a line comes to in the text and the work, and in the machine of lists
+  pub data BothLine (front : List ℕ) (room len : ℕ) : Wrote (List ℕ) → Out (Ls (Known Names)) → Type 0 where
+    lines-on : (text : List ℕ) (at : ℕ) (v : List ℕ) (t : Ls (Known Names)) → Bears v len t → Shows front text at t → t .room ≡ room → BothLine front room len (written text at v) (wrote t)
+    lines-stop : (c : ℕ) → BothLine front room len (refused c) (stuck c)
+
+  -- What a request for id x in the session S comes to, on a slice of the lent text after its front, and in the machine of lists: accepted by
+  -- both, and then the work bears the new state (with an empty order list) and front and slice show its text; or refused by the same number.
+  pub data BothRequest (front : List ℕ) (room : ℕ) (S : Sess (Ls (Known Names))) (x : ℕ) : Out Sheet → Answer (Ls (Known Names)) → Type 0 where
+    both-served : (m : Sheet) (t : Ls (Known Names)) → Bears (m .work) 0 (machine (btfOf b s w) .start 0 t) → Shows front (m .text) (m .at) t → t .room ≡ room
+        → BothRequest front room S x (wrote m) (record { sess = record { isOpen = true; mach = t; asked = S .asked ++ (x ∷ []) }; number = 0 })
+    both-refused : (c : ℕ) → BothRequest front room S x (stuck c) (record { sess = record { isOpen = false; mach = S .mach; asked = S .asked }; number = c })

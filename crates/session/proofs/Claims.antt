@@ -10,13 +10,14 @@ use native.Mathlib.Nat.{le-refl}
 use lib.ListN.{length, take, drop, replicate, length-append, length-replicate}
 use lib.Dec.{eqb, leb, ltb}
 use lib.Seq.{length-take-le, take-at, take-take, take-append-le, drop-at}
-use borrow.Author.Tests.{lt-ltb, le-ltb}
+use borrow.Author.Tests.{lt-ltb, le-ltb, eqb-false}
 use borrow.Rule.Slice.PartMut.{midOf, mid-len}
 use Rattle.lent.specs.Text.{place}
 use Rattle.rules.specs.Machine.{Out, wrote, stuck}
 use Rattle.btf.specs.declared.types.Btf.{Btf}
 use Rattle.opening.specs.Causes.{openingNumber}
-use Rattle.opening.specs.Opened.{openingOf}
+use Rattle.opening.specs.Table.{typesOf}
+use Rattle.opening.specs.Opened.{Outcome, openingOf}
 use Rattle.emit.specs.Sheet.{Sheet}
 use Rattle.session.specs.declared.Answer.{Answer}
 use Rattle.session.specs.declared.Answer.the-variants.{Accepted, Refused}
@@ -47,13 +48,35 @@ refused-opening s section w t pointer modes h = go (eqb (openingNumber pointer s
         → (openCall s section w t pointer modes .session ≡ s) × (openCall s section w t pointer modes .work ≡ w) × (openCall s section w t pointer modes .text ≡ t)
     go true e =
         let o : openingOf pointer modes section w t ≡ _ = opens-sound pointer modes section w t e in
-        absurd (h (ap (λ (x : _). numberOf (openedCall s (length section) (length w) pointer modes x .answer)) o ∙ number-is 0 _))
+        absurd (h (ap (λ (x : Outcome). numberOf (openedCall s (length section) (length w) pointer modes x .answer)) o ∙ number-is 0 _))
     go false e =
         let o : openingOf pointer modes section w t ≡ _ = opens-refused pointer modes section w t e in (
-          ap (λ (x : _). openedCall s (length section) (length w) pointer modes x .session) o,
-          ap (λ (x : _). openedCall s (length section) (length w) pointer modes x .work) o,
-          ap (λ (x : _). openedCall s (length section) (length w) pointer modes x .text) o,
+          ap (λ (x : Outcome). openedCall s (length section) (length w) pointer modes x .session) o,
+          ap (λ (x : Outcome). openedCall s (length section) (length w) pointer modes x .work) o,
+          ap (λ (x : Outcome). openedCall s (length section) (length w) pointer modes x .text) o,
         )
+
+-- "opening returns the count of types, void counted, and clears the text slice"
+pub accepted-opening : (s : Session) (section w t : List ℕ) (pointer modes : ℕ) → numberOf (openCall s section w t pointer modes .answer) ≡ 0
+    → (openCall s section w t pointer modes .session .«open» ≡ true) × (openCall s section w t pointer modes .session .«text_len» ≡ 0) × (valueOf (openCall s section w t pointer modes .answer) ≡ typesOf section)
+    × (openCall s section w t pointer modes .text ≡ replicate (length t) 0)
+unfolding openCall openedCall
+accepted-opening s section w t pointer modes h = go (eqb (openingNumber pointer section (length w)) 0) refl
+  where
+    go : (q : Bool) → eqb (openingNumber pointer section (length w)) 0 ≡ q
+        → (openCall s section w t pointer modes .session .«open» ≡ true) × (openCall s section w t pointer modes .session .«text_len» ≡ 0) × (valueOf (openCall s section w t pointer modes .answer) ≡ typesOf section)
+        × (openCall s section w t pointer modes .text ≡ replicate (length t) 0)
+    go true e =
+        let o : openingOf pointer modes section w t ≡ _ = opens-sound pointer modes section w t e in (
+          ap (λ (x : Outcome). openedCall s (length section) (length w) pointer modes x .session .«open») o,
+          ap (λ (x : Outcome). openedCall s (length section) (length w) pointer modes x .session .«text_len») o,
+          ap (λ (x : Outcome). valueOf (openedCall s (length section) (length w) pointer modes x .answer)) o ∙ value-is 0 (typesOf section),
+          ap (λ (x : Outcome). openedCall s (length section) (length w) pointer modes x .text) o,
+        )
+    go false e =
+        let o : openingOf pointer modes section w t ≡ _ = opens-refused pointer modes section w t e in
+        let n : numberOf (openCall s section w t pointer modes .answer) ≡ openingNumber pointer section (length w) = ap (λ (x : Outcome). numberOf (openedCall s (length section) (length w) pointer modes x .answer)) o ∙ number-is (openingNumber pointer section (length w)) 0 in
+        absurd (eqb-false (openingNumber pointer section (length w)) 0 e (sym n ∙ h))
 
 -- ---- where requests come to, on a text slice of n bytes that begins with the l bytes p
 pub data Sane (l : ℕ) (p : List ℕ) (n : ℕ) : Reach → Type 0 where
@@ -113,7 +136,7 @@ module _ (len n : ℕ) (t : List ℕ) (short : len ≤ length t) (high : len ≤
   head : length (take len t) ≡ len
   head = length-take-le len t short
 
-  zeros-length : length (thenZeros n len t) ≡ n
+  pub zeros-length : length (thenZeros n len t) ≡ n
   unfolding thenZeros
   zeros-length = length-append (take len t) (replicate (n - len) 0) ∙ omega (arith, head, length-replicate {A = ℕ} (n - len) 0)
 
@@ -121,7 +144,7 @@ module _ (len n : ℕ) (t : List ℕ) (short : len ≤ length t) (high : len ≤
   unfolding thenZeros
   zeros-tail = drop-at (take len t) (replicate (n - len) 0) len head
 
-  zeros-head : (l : ℕ) → l ≤ len → take l (thenZeros n len t) ≡ take l t
+  pub zeros-head : (l : ℕ) → l ≤ len → take l (thenZeros n len t) ≡ take l t
   unfolding thenZeros
   zeros-head l h = take-append-le l (take len t) (replicate (n - len) 0) (omega (arith, head)) ∙ take-take l len t h
 

@@ -230,7 +230,7 @@ module _ (n : ℕ) (t : List ℕ) (at : ℕ) (h : at ≤ length t) (k : ℕ) (lo
       (λ l. rw (put-none t at x h l) fair-full)
       (le-or-lt (at + length (bytes x)) (length t))
 
-fair-line : (k : ℕ) (v : Writer (List ℕ)) → Tells v → (m : Sheet) → Inside k m → Fair (Inside k) (lineIn v m)
+pub fair-line : (k : ℕ) (v : Writer (List ℕ)) → Tells v → (m : Sheet) → Inside k m → Fair (Inside k) (lineIn v m)
 unfolding lineIn putSaid saidText
 fair-line k v h m g = go (v (m .work)) (h (m .work))
   where

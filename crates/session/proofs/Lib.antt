@@ -5,3 +5,5 @@ pub mod Turning
 pub mod Fair
 pub mod Laws
 pub mod Claims
+pub mod Tails
+pub mod Singles

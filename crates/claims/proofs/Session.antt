@@ -1,0 +1,429 @@
+-- The calls of a session go as the session of the rules over plain lists: the same numbers, the same text. Assumes nothing but that opening
+-- accepts the section.
+use Prim.Native.Nat.{ℕ, zero, suc, _+_, _-_, _%_, _<_, _≤_}
+use mathlib.Core.Path.{_≡_, refl, ap, _∙_, sym, subst}
+use mathlib.Core.Bool.{Bool, true, false, true≢false}
+use mathlib.Core.List.{List, [], _∷_, _++_, append-nil}
+use mathlib.Core.Logic.{_⊎_, inl, inr, ⊎-elim}
+use native.Mathlib.Omega.{arith}
+use native.Mathlib.Nat.{le-refl}
+use lib.ListN.{length, take, drop, replicate, length-append, length-replicate}
+use lib.Seq.{length-take-le, take-at, take-take, take-append-le, take-append-add}
+use lib.Dec.{eqb, ltb}
+use borrow.Author.Tests.{le-leb, lt-leb, eq-eqb, lt-ltb, le-ltb}
+use borrow.Rule.Slice.PartMut.{mid-len}
+use Rattle.lent.specs.Text.{place}
+use Rattle.lent.proofs.Laws.{le-or-lt}
+use Rattle.rules.specs.Order.{Table}
+use Rattle.rules.specs.Machine.{Out, stuck, Machine, Sess, Answer, ordered, ordering, gate, single, onward, from, every, Req, one, all, serve, run}
+use Rattle.rules.specs.Types.{Btf as Rules, tableOf}
+use Rattle.rules.specs.Names.{Names}
+use Rattle.rules.specs.Layout.{smaller}
+use Rattle.btf.specs.declared.types.Btf.{Btf}
+use Rattle.btf.specs.Table.{btfOf}
+use Rattle.opening.specs.Header.{btfOf as settingsOf}
+use Rattle.opening.specs.Table.{typesOf, enumeratorsOf}
+use Rattle.opening.specs.Opened.{workOf, opened as soundly}
+use Rattle.opening.specs.Causes.{openingNumber}
+use Rattle.opening.proofs.ReadBack.{work-length}
+use Rattle.emit.specs.Sheet.{Sheet, workMachine, dumped}
+use Rattle.session.specs.declared.Session.{Session}
+use Rattle.session.specs.Answers.{numberOf, valueOf, answerOf}
+use Rattle.session.specs.Calls.{Call, isCurrent, openedCall, openCall, limitOf, Reach, reached, refusedBy, cameTo, lentTo, requested, onward as goOn, requestedFrom, thenZeros, settled, withText, tableFor, typeCall, typesCall}
+use Rattle.session.proofs.Fair.{placed, fair-request}
+use Rattle.session.proofs.Laws.{limit-short, limit-long, limit-between, stuck-listed, opens-sound}
+use Rattle.session.specs.declared.Answer.the-variants.{Refused}
+use Rattle.session.proofs.Claims.{number-is, value-is, type-settles, types-settle, type-not-below, type-not-current, types-not-current, closed-stays}
+use Rattle.demand.specs.Lists.{Ls, afresh}
+use Rattle.demand.specs.Session.{Known, textOf, machine, opened}
+use Rattle.claims.specs.Table.{headerOf}
+use Rattle.claims.specs.Sheet.{Bears, Shows, BothRequest, both-served, both-refused}
+use Rattle.claims.specs.Session.{Holds, Tells, After, after-open, after-one, after-all}
+use Rattle.claims.proofs.Described.{count-described, count-is}
+use Rattle.claims.proofs.Sound.{opened-wf}
+use Rattle.claims.proofs.Named.{opened-indexed}
+use Rattle.claims.proofs.Start.{start-step}
+use Rattle.claims.proofs.Began.{opened-bears}
+use Rattle.claims.proofs.Request.{request-alike}
+
+smaller-first : (a c : ℕ) → smaller a c ≤ a
+unfolding smaller
+smaller-first a c = ⊎-elim (λ l. rw (le-leb a c l, smaller) (le-refl a)) (λ l. rw (lt-leb a c l, smaller) (omega arith)) (le-or-lt a c)
+
+smaller-second : (a c : ℕ) → smaller a c ≤ c
+unfolding smaller
+smaller-second a c = ⊎-elim (λ l. rw (le-leb a c l, smaller) l) (λ l. rw (lt-leb a c l, smaller) (le-refl c)) (le-or-lt a c)
+
+smaller-is : (a c : ℕ) → a ≤ c → smaller a c ≡ a
+unfolding smaller
+smaller-is a c l = rw (le-leb a c l, smaller)
+
+smaller-not : (a c : ℕ) → c < a → smaller a c ≡ c
+unfolding smaller
+smaller-not a c l = rw (lt-leb a c l, smaller)
+
+limit-is : (k len : ℕ) → len ≤ 1073741824 → limitOf k len ≡ smaller k 1073741824
+limit-is k len h = ⊎-elim
+    (λ l. limit-short k len l ∙ sym (smaller-is k 1073741824 l))
+    (λ l. limit-long k len l h ∙ sym (smaller-not k 1073741824 l))
+    (le-or-lt k 1073741824)
+
+-- a text of len bytes, and then zeros
+module _ (len room : ℕ) (t tx : List ℕ) (is : take len t ≡ tx) (short : len ≤ length t) where
+  its-len : len ≡ length tx
+  its-len = sym (length-take-le len t short) ∙ ap length is
+
+  zeros-is : thenZeros room len t ≡ tx ++ replicate (room - length tx) 0
+  unfolding thenZeros
+  zeros-is = ap (λ (q : List ℕ). q ++ replicate (room - len) 0) is ∙ ap (λ (k : ℕ). tx ++ replicate (room - k) 0) its-len
+
+  zeros-begin : take len (thenZeros room len t) ≡ tx
+  unfolding thenZeros
+  zeros-begin = take-at (take len t) (replicate (room - len) 0) len (length-take-le len t short) ∙ is
+
+  zeros-fit : len ≤ length (thenZeros room len t)
+  unfolding thenZeros
+  zeros-fit = omega (arith, length-append (take len t) (replicate (room - len) 0), length-take-le len t short)
+
+mod-twice : (m : ℕ) → m % 2 % 2 ≡ m % 2
+mod-twice m = omega arith
+
+module _ (p modes : ℕ) (s : List ℕ) (n : ℕ) (ok : openingNumber p s n ≡ 0) where
+  abbrev b : Btf
+  b = headerOf p modes s
+
+  abbrev e : ℕ
+  e = enumeratorsOf s
+
+  abbrev w : List ℕ
+  w = workOf p modes s n
+
+  abbrev B : Rules
+  B = btfOf b s w
+
+  abbrev T : Table
+  T = tableOf B
+
+  abbrev State : Type 0
+  State = Ls (Known Names)
+
+  abbrev X : Machine State
+  X = machine B
+
+  -- in the course of a call on a text slice of `room` bytes
+  pub record Going (len : ℕ) (v t : List ℕ) (room : ℕ) (L : Sess State) : Type 0 where
+    pub running : L .isOpen ≡ true
+    pub long : length t ≡ room
+    pub its-length : len ≡ L .mach .known .text-len
+    pub its-text : take len t ≡ textOf (L .mach .pieces)
+    pub fits : len ≤ length t
+    pub small : len ≤ 1073741824
+    pub bears : Bears b e s w v 0 (X .start 0 (L .mach))
+
+  pub record Ended (len : ℕ) (t : List ℕ) (room : ℕ) (L : Sess State) : Type 0 where
+    pub closed : L .isOpen ≡ false
+    pub its-length : len ≡ L .mach .known .text-len
+    pub its-text : take len t ≡ textOf (L .mach .pieces)
+    pub fits : len ≤ length t
+    pub inside : len ≤ room
+    pub small : len ≤ 1073741824
+
+  pub data BothReach (room : ℕ) : Reach → Answer State → Type 0 where
+    both-reached : (len : ℕ) (v t : List ℕ) (L : Sess State) → Going len v t room L → BothReach room (reached len v t) (record { sess = L; number = 0 })
+    both-ended : (c len : ℕ) (t : List ℕ) (L : Sess State) → Ended len t room L → BothReach room (refusedBy (suc c) len t) (record { sess = L; number = suc c })
+
+  -- ---- one request
+  module _ (len : ℕ) (v t : List ℕ) (room : ℕ) (L : Sess State) (g : Going len v t room L) (x : ℕ) where
+    front-long : length (take len t) ≡ len
+    front-long = length-take-le len t (g .fits)
+
+    slice-long : len + length (lentTo len t) ≡ smaller room 1073741824
+    slice-long =
+        let lim : (len ≤ limitOf (length t) len) × (limitOf (length t) len ≤ length t) = limit-between (length t) len (g .fits) in
+        let size : length (lentTo len t) ≡ limitOf (length t) len - len = mid-len len (limitOf (length t) len) t (lim .1) in
+        let is : limitOf (length t) len ≡ smaller (length t) 1073741824 = limit-is (length t) len (g .small) in
+        let same : smaller (length t) 1073741824 ≡ smaller room 1073741824 = ap (λ (k : ℕ). smaller k 1073741824) (g .long) in
+        omega (arith, lim .0, lim .1, size, is, same)
+
+    abbrev sheet : Sheet
+    sheet = record { work = v; text = lentTo len t; at = 0; len = 0 }
+
+    begins : Shows b e s w (take len t) (lentTo len t) 0 (X .start room (L .mach))
+    begins = record {
+      room = omega (arith, front-long, slice-long);
+      place = omega (arith, front-long, g .its-length);
+      inside = omega arith;
+      so-far = append-nil (take len t) ∙ g .its-text;
+    }
+
+    served : (m : Sheet) (u : State) → Bears b e s w (m .work) 0 (X .start 0 u) → Shows b e s w (take len t) (m .text) (m .at) u → u .room ≡ room
+        → Going (len + m .at) (m .work) (place t len (m .text)) room (record { isOpen = true; mach = u; asked = L .asked ++ (x ∷ []) })
+    served m u be sh r =
+        let total : len + length (m .text) ≡ smaller room 1073741824 = omega (arith, front-long, sh .room ∙ ap (λ (k : ℕ). smaller k 1073741824) r) in
+        let fit : len + length (m .text) ≤ length t = omega (arith, smaller-first room 1073741824, g .long) in
+        let head : length (take len t ++ m .text) ≡ len + length (m .text) = length-append (take len t) (m .text) ∙ ap (λ (k : ℕ). k + length (m .text)) front-long in
+        let size : length (place t len (m .text)) ≡ length t = placed t len (m .text) fit in
+        let ins : m .at ≤ length (m .text) = sh .inside in
+        record {
+          running = refl;
+          long = size ∙ g .long;
+          its-length = omega (arith, front-long, sh .place);
+          its-text =
+              take-append-le (len + m .at) (take len t ++ m .text) (drop (len + length (m .text)) t) (omega (arith, head, ins))
+              ∙ ap (λ (k : ℕ). take (k + m .at) (take len t ++ m .text)) (sym front-long)
+              ∙ take-append-add (take len t) (m .text) (m .at)
+              ∙ sh .so-far;
+          fits = omega (arith, size, fit, ins);
+          small = omega (arith, total, ins, smaller-second room 1073741824);
+          bears = be;
+        }
+
+    ended : Ended len (take len t) room (record { isOpen = false; mach = L .mach; asked = L .asked })
+    ended = record {
+      closed = refl;
+      its-length = g .its-length;
+      its-text = take-take len len t (le-refl len) ∙ g .its-text;
+      fits = omega (arith, front-long);
+      inside = omega (arith, g .fits, g .long);
+      small = g .small;
+    }
+
+    came : {o : Out Sheet} {a : Answer State} → BothRequest b e s w (take len t) room L x o a → ((c : ℕ) → o ≡ stuck c → 0 < c) → BothReach room (cameTo len t o) a
+    unfolding cameTo
+    came (both-served m u be sh r) k = both-reached (len + m .at) (m .work) (place t len (m .text)) _ (served m u be sh r)
+    came (both-refused zero) k = absurd (let q : 0 < 0 = k 0 refl in omega arith)
+    came (both-refused (suc c)) k = both-ended c len (take len t) _ ended
+
+    single-is : x < T .count → single X T room L x ≡ ordered X T L x (ordering X T room L x)
+    unfolding single gate
+    single-is l = ap (λ (f : Bool). gate X T room L x f (ltb x (T .count))) (g .running) ∙ ap (gate X T room L x true) (lt-ltb x (T .count) l)
+
+    positive : (c : ℕ) → dumped (workMachine b B) T sheet x ≡ stuck c → 0 < c
+    positive c q =
+        let z : (12 ≤ c) × (c ≤ 17) = stuck-listed (length (lentTo len t)) (dumped (workMachine b B) T sheet x) (fair-request b B (length (lentTo len t)) sheet x (omega arith, refl)) c q in
+        omega (arith, z .0)
+
+    table-now : requested b s x len v t ≡ cameTo len t (dumped (workMachine b B) T sheet x)
+    unfolding requested
+    table-now = ap (λ (K : Rules). cameTo len t (dumped (workMachine b K) (tableOf K) sheet x)) (g .bears .table)
+
+    below : x < T .count → x < b .types
+    unfolding btfOf
+    below l = l
+
+    pub request-reach : x < T .count → BothReach room (requested b s x len v t) (single X T room L x)
+    request-reach l =
+        subst (λ (r : Reach). BothReach room r (single X T room L x)) (sym table-now)
+        (subst (λ (a : Answer State). BothReach room (cameTo len t (dumped (workMachine b B) T sheet x)) a) (sym (single-is l))
+        (came (request-alike b e s w (opened-indexed p modes s n ok) (opened-wf p modes s n ok) (take len t) room L x sheet refl (g .bears) begins (below l)) positive))
+
+  -- ---- one after the other
+  onward-reach : (room : ℕ) {r : Reach} {a : Answer State} (k₁ : ℕ → List ℕ → List ℕ → Reach) (k : Sess State → Answer State) → BothReach room r a
+      → ((len : ℕ) (v t : List ℕ) (L : Sess State) → Going len v t room L → BothReach room (k₁ len v t) (k L)) → BothReach room (goOn r k₁) (onward X T k a)
+  unfolding goOn onward
+  onward-reach room k₁ k (both-reached len v t L g) h = h len v t L g
+  onward-reach room k₁ k (both-ended c len t L d) h = both-ended c len t L d
+
+  pub from-reach : (room k x : ℕ) → x + k ≤ T .count → (len : ℕ) (v t : List ℕ) (L : Sess State) → Going len v t room L → BothReach room (requestedFrom b s k x len v t) (from X T room k x L)
+  unfolding requestedFrom from
+  from-reach room zero x l len v t L g = both-reached len v t L g
+  from-reach room (suc k) x l len v t L g =
+      onward-reach room (requestedFrom b s k (suc x)) (from X T room k (suc x)) (request-reach len v t room L g x (omega arith))
+      (λ len′ v′ t′ L′ g′. from-reach room k (suc x) (omega arith) len′ v′ t′ L′ g′)
+
+  -- ---- the end of a call
+  pub record Keeps (room : ℕ) (c : Call) (a : Answer State) : Type 0 where
+    pub holds : Holds p modes s n (c .session) (c .work) (c .text) (a .sess)
+    pub tells : Tells room c a
+
+  told : (room c len : ℕ) (S : Session) (v t : List ℕ) (L : Sess State) → take len t ≡ textOf (L .mach .pieces) → len ≤ length t
+      → Tells room (record { session = S; answer = answerOf c len; work = v; text = thenZeros room len t }) (record { sess = L; number = c })
+  told room c len S v t L is short = record {
+    number = number-is c len;
+    value = value-is c len ∙ its-len len room t (textOf (L .mach .pieces)) is short;
+    begins = ap (λ (k : ℕ). take k (thenZeros room len t)) (value-is c len) ∙ zeros-begin len room t (textOf (L .mach .pieces)) is short;
+    text = λ a d. zeros-is len room t (textOf (L .mach .pieces)) is short;
+  }
+
+  module _ (S : Session) (work text₀ : List ℕ) (L₀ : Sess State) (h : Holds p modes s n S work text₀ L₀) (full : length work ≡ length w) (room : ℕ) where
+    settle : {r : Reach} {a : Answer State} → BothReach room r a → Keeps room (settled S (length work) room r) a
+    unfolding settled
+    settle (both-reached len v t L g) = record {
+      holds = record {
+        is-open = sym (g .running);
+        section = h .section;
+        its-work = h .its-work ∙ full ∙ sym (g .bears .names .kept .long);
+        types = h .types;
+        pointer-size = h .pointer-size;
+        mode = h .mode;
+        its-length = g .its-length;
+        its-text = zeros-begin len room t (textOf (L .mach .pieces)) (g .its-text) (g .fits);
+        fits = zeros-fit len room t (textOf (L .mach .pieces)) (g .its-text) (g .fits);
+        small = g .small;
+        bears = λ q. g .bears;
+      };
+      tells = told room 0 len (withText S true len) v t L (g .its-text) (g .fits);
+    }
+    settle (both-ended c len t L d) = record {
+      holds = record {
+        is-open = sym (d .closed);
+        section = h .section;
+        its-work = h .its-work ∙ sym (length-replicate {A = ℕ} (length work) 0);
+        types = h .types;
+        pointer-size = h .pointer-size;
+        mode = h .mode;
+        its-length = d .its-length;
+        its-text = zeros-begin len room t (textOf (L .mach .pieces)) (d .its-text) (d .fits);
+        fits = zeros-fit len room t (textOf (L .mach .pieces)) (d .its-text) (d .fits);
+        small = d .small;
+        bears = λ q. absurd (true≢false (sym q ∙ d .closed));
+      };
+      tells = told room (suc c) len (withText S false len) (replicate (length work) 0) t L (d .its-text) (d .fits);
+    }
+
+  counted : T .count ≡ b .types
+  unfolding btfOf
+  counted = refl
+
+  -- ---- a call after another, lent a text that begins with the text so far
+  module _ (S : Session) (work text₀ : List ℕ) (L : Sess State) (h : Holds p modes s n S work text₀ L) (text : List ℕ) (f : S .«text_len» ≤ length text)
+      (same : take (S .«text_len») text ≡ take (S .«text_len») text₀) where
+    table-is : tableFor S s ≡ b
+    unfolding settingsOf
+    table-is =
+        ap (λ (k : ℕ). settingsOf s k (S .modes) (S .types)) (h .pointer-size)
+        ∙ ap (λ (k : ℕ). settingsOf s p k (S .types)) (h .mode)
+        ∙ ap (settingsOf s p (modes % 2)) (h .types)
+        ∙ ap (λ (k : ℕ). record { «ptr_sz» = b .«ptr_sz»; «union_as_struct» = eqb k 1; types = b .types; strs = b .strs }) (mod-twice modes)
+
+    types-is : S .types ≡ T .count
+    types-is = h .types ∙ sym (count-is p modes s n ok)
+
+    going : L .isOpen ≡ true → Going (S .«text_len») work text (length text) L
+    going o = record { running = o; long = refl; its-length = h .its-length; its-text = same ∙ h .its-text; fits = f; small = h .small; bears = h .bears o }
+
+    full-work : L .isOpen ≡ true → length work ≡ length w
+    full-work o = h .bears o .names .kept .long
+
+    current : L .isOpen ≡ true → isCurrent S (length s) (length work) (length text) ≡ true
+    unfolding isCurrent
+    current o = rw (h .is-open ∙ o, eq-eqb (S .«section_len») (length s) (h .section), eq-eqb (S .«work_len») (length work) (h .its-work), le-leb (S .«text_len») (length text) f, isCurrent)
+
+    -- 10 and 11
+    still : (k : ℕ) → (k ≡ 10) ⊎ (k ≡ 11) → Keeps (length text) (record { session = S; answer = Refused k (S .«text_len»); work = work; text = text }) (record { sess = L; number = k })
+    unfolding numberOf valueOf
+    still k which = record {
+      holds = record {
+        is-open = h .is-open;
+        section = h .section;
+        its-work = h .its-work;
+        types = h .types;
+        pointer-size = h .pointer-size;
+        mode = h .mode;
+        its-length = h .its-length;
+        its-text = same ∙ h .its-text;
+        fits = f;
+        small = h .small;
+        bears = h .bears;
+      };
+      tells = record {
+        number = refl;
+        value = its-len (S .«text_len») (length text) text (textOf (L .mach .pieces)) (same ∙ h .its-text) f;
+        begins = same ∙ h .its-text;
+        text = λ a d. absurd (⊎-elim a d which);
+      };
+    }
+
+    single-closed : (x : ℕ) → L .isOpen ≡ false → single X T (length text) L x ≡ record { sess = L; number = 11 }
+    unfolding single gate
+    single-closed x o = ap (λ (z : Bool). gate X T (length text) L x z (ltb x (T .count))) o
+
+    single-past : (x : ℕ) → L .isOpen ≡ true → T .count ≤ x → single X T (length text) L x ≡ record { sess = L; number = 10 }
+    unfolding single gate
+    single-past x o l = ap (λ (z : Bool). gate X T (length text) L x z (ltb x (T .count))) o ∙ ap (gate X T (length text) L x true) (le-ltb x (T .count) l)
+
+    abbrev KeptBy : Call → Answer State → Type 0
+    KeptBy c a = Keeps (length text) c a
+
+    along : {c c′ : Call} {a a′ : Answer State} → c ≡ c′ → a ≡ a′ → KeptBy c′ a′ → KeptBy c a
+    along {c} {c′} {a} {a′} q r k = subst (λ (y : Call). KeptBy y a) (sym q) (subst (KeptBy c′) (sym r) k)
+
+    type-open : (x : ℕ) → L .isOpen ≡ true → x < T .count → KeptBy (typeCall S s work text x) (single X T (length text) L x)
+    type-open x o l =
+        along (type-settles S s work text x (current o) (subst (λ (k : ℕ). x < k) (sym types-is) l) ∙ ap (λ (K : Btf). settled S (length work) (length text) (requested K s x (S .«text_len») work text)) table-is) refl
+        (settle S work text₀ L h (full-work o) (length text) (request-reach (S .«text_len») work text (length text) L (going o) x l))
+
+    type-past : (x : ℕ) → L .isOpen ≡ true → T .count ≤ x → KeptBy (typeCall S s work text x) (single X T (length text) L x)
+    type-past x o l = along (type-not-below S s work text x (current o) (subst (λ (k : ℕ). k ≤ x) (sym types-is) l)) (single-past x o l) (still 10 (inl refl))
+
+    type-shut : (x : ℕ) → L .isOpen ≡ false → KeptBy (typeCall S s work text x) (single X T (length text) L x)
+    type-shut x o = along (type-not-current S s work text x (closed-stays S s work text (h .is-open ∙ o))) (single-closed x o) (still 11 (inr refl))
+
+    pub type-keeps : (x : ℕ) → KeptBy (typeCall S s work text x) (single X T (length text) L x)
+    type-keeps x = by (L .isOpen) refl
+      where
+        by : (o : Bool) → L .isOpen ≡ o → KeptBy (typeCall S s work text x) (single X T (length text) L x)
+        by true o = ⊎-elim (λ l. type-past x o l) (λ l. type-open x o l) (le-or-lt (T .count) x)
+        by false o = type-shut x o
+
+    types-open : L .isOpen ≡ true → KeptBy (typesCall S s work text) (from X T (length text) (T .count - 1) 1 L)
+    types-open o =
+        along (types-settle S s work text (current o)
+        ∙ ap (λ (K : Btf). settled S (length work) (length text) (requestedFrom K s (K .types - 1) 1 (S .«text_len») work text)) table-is
+        ∙ ap (λ (k : ℕ). settled S (length work) (length text) (requestedFrom b s (k - 1) 1 (S .«text_len») work text)) (sym counted)) refl
+        (settle S work text₀ L h (full-work o) (length text) (from-reach (length text) (T .count - 1) 1 (omega (arith, count-described p modes s n ok)) (S .«text_len») work text L (going o)))
+
+    pub types-keeps : KeptBy (typesCall S s work text) (every X T (length text) L (L .isOpen))
+    unfolding every
+    types-keeps = by (L .isOpen) refl
+      where
+        by : (o : Bool) → L .isOpen ≡ o → KeptBy (typesCall S s work text) (every X T (length text) L o)
+        by true o = types-open o
+        by false o = along (types-not-current S s work text (closed-stays S s work text (h .is-open ∙ o))) refl (still 11 (inr refl))
+
+  -- ---- opening
+  module _ (S : Session) (work text : List ℕ) (z : length work ≡ n) where
+    open-is : openCall S s work text p modes ≡ openedCall S (length s) (length work) p modes (soundly (typesOf s) (enumeratorsOf s) w (replicate (length text) 0))
+    unfolding openCall
+    open-is =
+        ap (openedCall S (length s) (length work) p modes)
+        (opens-sound p modes s work text (eq-eqb (openingNumber p s (length work)) 0 (ap (openingNumber p s) z ∙ ok))
+        ∙ ap (λ (k : ℕ). soundly (typesOf s) (enumeratorsOf s) (workOf p modes s k) (replicate (length text) 0)) z)
+
+    sound-holds : (c : Call) → c ≡ openedCall S (length s) (length work) p modes (soundly (typesOf s) (enumeratorsOf s) w (replicate (length text) 0))
+        → Holds p modes s n (c .session) (c .work) (c .text) (opened B)
+    unfolding openedCall afresh textOf
+    sound-holds c q = subst (λ (y : Call). Holds p modes s n (y .session) (y .work) (y .text) (opened B)) (sym q) (record {
+      is-open = refl;
+      section = refl;
+      its-work = z ∙ sym (work-length p modes s n ok);
+      types = refl;
+      pointer-size = refl;
+      mode = refl;
+      its-length = refl;
+      its-text = refl;
+      fits = omega arith;
+      small = omega arith;
+      bears = λ o. start-step b e s w w w refl refl (λ i r. refl) B 0 0 (opened B .mach) (opened-bears p modes s n ok);
+    })
+
+    pub open-holds : Holds p modes s n (openCall S s work text p modes .session) (openCall S s work text p modes .work) (openCall S s work text p modes .text) (opened B)
+    open-holds = sound-holds (openCall S s work text p modes) open-is
+
+  -- ---- any list of requests
+  run-more : (rs : List Req) (r : Req) (L : Sess State) → run X T (rs ++ (r ∷ [])) L ≡ serve X T (run X T rs L) r
+  unfolding run
+  run-more [] r L = refl
+  run-more (q ∷ rs) r L = run-more rs r (serve X T L q)
+
+  pub after-holds : {c : Call} {rs : List Req} → After p modes s n c rs → Holds p modes s n (c .session) (c .work) (c .text) (run X T rs (opened B))
+  unfolding run serve
+  after-holds (after-open S work text z q) = open-holds S work text z
+  after-holds (after-one c rs a text f same id) =
+      subst (λ (L : Sess State). Holds p modes s n (typeCall (c .session) s (c .work) text id .session) (typeCall (c .session) s (c .work) text id .work) (typeCall (c .session) s (c .work) text id .text) L)
+      (sym (run-more rs (one (length text) id) (opened B)))
+      (type-keeps (c .session) (c .work) (c .text) (run X T rs (opened B)) (after-holds a) text f same id .holds)
+  after-holds (after-all c rs a text f same) =
+      subst (λ (L : Sess State). Holds p modes s n (typesCall (c .session) s (c .work) text .session) (typesCall (c .session) s (c .work) text .work) (typesCall (c .session) s (c .work) text .text) L)
+      (sym (run-more rs (all (length text)) (opened B)))
+      (types-keeps (c .session) (c .work) (c .text) (run X T rs (opened B)) (after-holds a) text f same .holds)

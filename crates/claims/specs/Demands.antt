@@ -1,0 +1,62 @@
+-- Demands 2 and 3 of document 01, said of the calls of a session: statements only. proofs/Demands.antt has the proof, of every section that
+-- opening accepts, every list of requests after it, and every text slice that a request is lent. It assumes nothing.
+use Prim.Native.Nat.{ℕ, _<_, _≤_}
+use mathlib.Core.Path.{_≡_}
+use mathlib.Core.Bool.{true}
+use mathlib.Core.List.{List}
+use mathlib.Core.Logic.{_↔_}
+use lib.ListN.{length, take}
+use Rattle.rules.specs.Names.{Names}
+use Rattle.rules.specs.Order.{Table, refused}
+use Rattle.rules.specs.Machine.{Sess, Req, ordering, single, every, run}
+use Rattle.rules.specs.Types.{tableOf}
+use Rattle.session.specs.Answers.{numberOf}
+use Rattle.session.specs.Calls.{Call, typeCall, typesCall}
+use Rattle.demand.specs.Needs.{NamedComp, MeetsTwice}
+use Rattle.demand.specs.Demand.{Demand3}
+use Rattle.demand.specs.Lists.{Ls}
+use Rattle.demand.specs.Session.{Known, textOf, machine, opened}
+use Rattle.claims.specs.Table.{openedTable}
+use Rattle.claims.specs.Session.{After, Tells}
+
+-- "a text slice of any length that begins with the text so far"
+pub record Lent (c : Call) (text : List ℕ) : Type 0 where
+  pub long : c .session .«text_len» ≤ length text
+  pub begins : take (c .session .«text_len») text ≡ take (c .session .«text_len») (c .text)
+
+-- pointer size, mode, section and length of the work, as at opening
+module _ (pointer modes : ℕ) (s : List ℕ) (n : ℕ) where
+  -- the section's types, as the rules of ordering and emission see them
+  abbrev pub typesIn : Table
+  typesIn = tableOf (openedTable pointer modes s n)
+
+  -- "as the rules give them when begun afresh at opening and carried on from each accepted request to the next": with plain lists, and the
+  -- names of the Rust
+  abbrev pub ruled : List Req → Sess (Ls (Known Names))
+  ruled rs = run (machine (openedTable pointer modes s n)) typesIn rs (opened (openedTable pointer modes s n))
+
+  -- DEMAND 2. c: the last call, after the requests rs. "The text after the list is the slice up to the text length last returned"; it is the
+  -- pieces of the rules, joined. The next request has the number that the rules give, 13 and 14 among them, and leaves the text of theirs.
+  pub record Demand2 (c : Call) (rs : List Req) : Type 0 where
+    pub text : take (c .session .«text_len») (c .text) ≡ textOf (ruled rs .mach .pieces)
+    pub text-len : c .session .«text_len» ≡ length (textOf (ruled rs .mach .pieces))
+    pub is-open : c .session .«open» ≡ ruled rs .isOpen
+    pub next-type : (text : List ℕ) → Lent c text → (id : ℕ) → Tells (length text) (typeCall (c .session) s (c .work) text id) (single (machine (openedTable pointer modes s n)) typesIn (length text) (ruled rs) id)
+    pub next-types : (text : List ℕ) → Lent c text
+        → Tells (length text) (typesCall (c .session) s (c .work) text) (every (machine (openedTable pointer modes s n)) typesIn (length text) (ruled rs) (ruled rs .isOpen))
+
+  -- DEMAND 3. The pieces that make up that text define each named composite that was asked for and accepted once, and each after all that it
+  -- needs; and while the session is open, the next request for a named composite, unless too deep, is refused by 13 exactly when a chain of
+  -- needs from it meets some composite twice.
+  pub record Demand3Calls (c : Call) (rs : List Req) : Type 0 where
+    pub text : take (c .session .«text_len») (c .text) ≡ textOf (ruled rs .mach .pieces)
+    pub pieces : Demand3 (machine (openedTable pointer modes s n)) typesIn (ruled rs)
+    pub cycles : c .session .«open» ≡ true → (text : List ℕ) → Lent c text → (id : ℕ) → id < typesIn .count → NamedComp typesIn id
+        → (ordering (machine (openedTable pointer modes s n)) typesIn (length text) (ruled rs) id ≡ refused 12 → ⊥)
+        → (numberOf (typeCall (c .session) s (c .work) text id .answer) ≡ 13) ↔ MeetsTwice typesIn id
+
+  -- THE CLAIM, of all pointer sizes, modes, sections and lengths of the work: `After c rs` is "the list, perhaps empty, starts at a successful
+  -- opening with any settings and holds single requests and requests for all ids, in any order and with any ids".
+  pub record Delivered : Type 0 where
+    pub demand2 : (c : Call) (rs : List Req) → After pointer modes s n c rs → Demand2 c rs
+    pub demand3 : (c : Call) (rs : List Req) → After pointer modes s n c rs → Demand3Calls c rs

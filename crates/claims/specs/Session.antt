@@ -1,0 +1,51 @@
+-- A session in lent bytes against a session of the rules over plain lists, with the names of the Rust.
+use Prim.Native.Nat.{ℕ, _-_, _%_, _≤_}
+use mathlib.Core.Path.{_≡_}
+use mathlib.Core.Bool.{true}
+use mathlib.Core.List.{List, [], _∷_, _++_}
+use lib.ListN.{length, take, replicate}
+use Rattle.rules.specs.Names.{Names}
+use Rattle.rules.specs.Machine.{Sess, Answer, Req, one, all}
+use Rattle.opening.specs.Table.{typesOf, enumeratorsOf}
+use Rattle.opening.specs.Opened.{workOf}
+use Rattle.session.specs.declared.Session.{Session}
+use Rattle.session.specs.Answers.{numberOf, valueOf}
+use Rattle.session.specs.Calls.{Call, openCall, typeCall, typesCall}
+use Rattle.demand.specs.Lists.{Ls}
+use Rattle.demand.specs.Session.{Known, textOf, machine}
+use Rattle.claims.specs.Table.{headerOf, openedTable}
+use Rattle.claims.specs.Sheet.{Bears}
+
+-- pointer size, mode, section and length of the work, as at opening
+module _ (pointer modes : ℕ) (s : List ℕ) (n : ℕ) where
+  -- The record S and the slices now, and the session L over lists: open or closed alike, the text held is the text of the pieces, and while
+  -- the session is open the work bears the state of the machine of lists.
+  pub record Holds (S : Session) (work text : List ℕ) (L : Sess (Ls (Known Names))) : Type 0 where
+    pub is-open : S .«open» ≡ L .isOpen
+    pub section : S .«section_len» ≡ length s
+    pub its-work : S .«work_len» ≡ length work
+    pub types : S .types ≡ typesOf s
+    pub pointer-size : S .«pointer_size» ≡ pointer
+    pub mode : S .modes ≡ modes % 2
+    pub its-length : S .«text_len» ≡ L .mach .known .text-len
+    pub its-text : take (S .«text_len») text ≡ textOf (L .mach .pieces)
+    pub fits : S .«text_len» ≤ length text
+    pub small : S .«text_len» ≤ 1073741824
+    pub bears : L .isOpen ≡ true → Bears (headerOf pointer modes s) (enumeratorsOf s) s (workOf pointer modes s n) work 0 (machine (openedTable pointer modes s n) .start 0 (L .mach))
+
+  -- A call after a successful opening, and the requests since, each with the length of the text slice that it was lent. A request is lent the section
+  -- of the opening, the work as the call before left it, and a text slice of any length that begins with the text so far.
+  pub data After : Call → List Req → Type 0 where
+    after-open : (S : Session) (work text : List ℕ) → length work ≡ n → numberOf (openCall S s work text pointer modes .answer) ≡ 0 → After (openCall S s work text pointer modes) []
+    after-one : (c : Call) (rs : List Req) → After c rs → (text : List ℕ) → c .session .«text_len» ≤ length text → take (c .session .«text_len») text ≡ take (c .session .«text_len») (c .text)
+        → (id : ℕ) → After (typeCall (c .session) s (c .work) text id) (rs ++ (one (length text) id ∷ []))
+    after-all : (c : Call) (rs : List Req) → After c rs → (text : List ℕ) → c .session .«text_len» ≤ length text → take (c .session .«text_len») text ≡ take (c .session .«text_len») (c .text)
+        → After (typesCall (c .session) s (c .work) text) (rs ++ (all (length text) ∷ []))
+
+-- A request's answer and text, in a slice of so many bytes, against its answer over lists: the same number; the value is the length of the
+-- pieces' text; the slice begins with that text, and unless 10 or 11 left it as it was, it is that text and then zeros.
+pub record Tells (room : ℕ) (c : Call) (a : Answer (Ls (Known Names))) : Type 0 where
+  pub number : numberOf (c .answer) ≡ a .number
+  pub value : valueOf (c .answer) ≡ length (textOf (a .sess .mach .pieces))
+  pub begins : take (valueOf (c .answer)) (c .text) ≡ textOf (a .sess .mach .pieces)
+  pub text : (a .number ≡ 10 → ⊥) → (a .number ≡ 11 → ⊥) → c .text ≡ textOf (a .sess .mach .pieces) ++ replicate (room - length (textOf (a .sess .mach .pieces))) 0
