@@ -1,8 +1,8 @@
 /*
  * btfdump: writes the C header of a type table (BTF).
  *
- * A session is opened on one section and then asked for types, one by one or
- * all at once; the text grows with each request. Nothing is allocated: the
+ * A session is opened on one section and then asked for types, one by one, by
+ * a list or all at once; the text grows with each request. Nothing is allocated: the
  * caller lends four pieces of memory and keeps them between calls.
  *
  *   record    BTFDUMP_RECORD_SIZE bytes. Holds the session between calls.
@@ -115,6 +115,27 @@ btfdump_answer btfdump_dump_types(uint8_t *record, size_t record_len,
 				  const uint8_t *section, size_t section_len,
 				  uint8_t *work, size_t work_len,
 				  uint8_t *text, size_t text_len);
+
+/*
+ * The single requests for the ids of a list, in that order, up to and including
+ * the first that is refused: text, record and work are what those would leave.
+ * The list is bytes, four an id, least significant first; ids_len / 4 of them,
+ * 4,294,967,295 at most, and the rest is ignored. The value is how many were
+ * accepted, the number that of the refusal, or 0; the length of the text stands
+ * in the record (btfdump_text_len). An empty list tests and changes nothing. An
+ * id that was accepted before adds no text. The list must not overlap the others.
+ */
+btfdump_answer btfdump_dump_list(uint8_t *record, size_t record_len,
+				 const uint8_t *section, size_t section_len,
+				 uint8_t *work, size_t work_len,
+				 uint8_t *text, size_t text_len,
+				 const uint8_t *ids, size_t ids_len);
+
+/* The length of the text so far, of a record that an opening wrote. */
+static inline uint32_t btfdump_text_len(const uint8_t *record)
+{
+	return record[40] | (uint32_t)record[41] << 8 | (uint32_t)record[42] << 16 | (uint32_t)record[43] << 24;
+}
 
 #ifdef __cplusplus
 }

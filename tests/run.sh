@@ -17,6 +17,7 @@ compile() { # NAME SOURCE FLAG ..
 compile replay tests/replay.c
 compile limits tests/limits.c
 compile guard tests/guard.c
+compile lists tests/lists.c
 compile btfheader tools/btfheader.c
 
 # the example of the README, on the sample section
@@ -38,6 +39,7 @@ for file in "${files[@]}"; do
 	say "$file" "$out/replay" "$file"
 done
 "$out/limits"
+"$out/lists" "${files[@]}"
 "$out/guard" 20000 1 "${files[@]}"
 if command -v valgrind >/dev/null; then
 	say valgrind valgrind -q --error-exitcode=1 "$out/guard" 300 1 tests/traps.cases

@@ -1,7 +1,7 @@
 -- What each call for C comes to: the result, and record, work and text after it.
-use Prim.Native.Nat.{ℕ, _+_, _*_}
+use Prim.Native.Nat.{ℕ, zero, suc, _+_, _*_, _/_}
 use mathlib.Core.Bool.{true, false}
-use mathlib.Core.List.{List}
+use mathlib.Core.List.{List, [], _∷_}
 use lib.Dec.{ltb}
 use lib.ListN.{length}
 use Rattle.session.specs.declared.Answer.{Answer}
@@ -44,3 +44,15 @@ typeExport r section w t id =
 unfoldable pub typesExport : List ℕ → List ℕ → List ℕ → List ℕ → Export
 typesExport r section w t =
     elim (ltb (length r) 128) [ true ↦ exportOf (11 * 4294967296) r w t | false ↦ answeredBy r (typesCall (decoded r) section w t) ]
+
+-- A list of ids: the calls for one id in that order, each lent record, work and text as the one before left them, up to and including the
+-- first that is refused. n were accepted before; the value is the count of the accepted.
+unfoldable pub countedExport : ℕ → Export → (Export → Export) → Export
+countedExport n e k = elim (e .result / 4294967296) [ zero ↦ k e | suc m ↦ exportOf (suc m * 4294967296 + n) (e .bytes) (e .work) (e .text) ]
+
+unfoldable pub listExportFrom : ℕ → List ℕ → List ℕ → List ℕ → List ℕ → List ℕ → Export
+listExportFrom n r section w t [] = exportOf n r w t
+listExportFrom n r section w t (id ∷ ids) = countedExport n (typeExport r section w t id) (λ e. listExportFrom (suc n) (e .bytes) section (e .work) (e .text) ids)
+
+unfoldable pub listExport : List ℕ → List ℕ → List ℕ → List ℕ → List ℕ → Export
+listExport r section w t ids = listExportFrom 0 r section w t ids

@@ -65,3 +65,12 @@ recordRefused number len r = elim (ltb number 12) [ true ↦ r | false ↦ putLo
 unfoldable pub recordAfter : Answer → List ℕ → List ℕ
 recordAfter (Accepted len) r = putLong r 5 len
 recordAfter (Refused number len) r = recordRefused number len r
+
+-- a list writes the text length if an id was accepted
+unfoldable pub recordLonger : ℕ → ℕ → List ℕ → List ℕ
+recordLonger zero len r = r
+recordLonger (suc n) len r = putLong r 5 len
+
+-- the record after a list that was stopped by this number, 0 if by none, after so many accepted ids, where the text has len bytes
+unfoldable pub recordListed : ℕ → ℕ → ℕ → List ℕ → List ℕ
+recordListed number accepted len r = elim (ltb number 12) [ true ↦ recordLonger accepted len r | false ↦ putLong (putLong r 0 0) 5 len ]

@@ -6,13 +6,16 @@ use lent::put_word;
 use session::Answer;
 use session::Session;
 use session::Turn;
+use session::dump_list_core;
 use session::dump_type_core;
 use session::dump_types_core;
 use session::open_core;
 ghost use mathlib.Core.Path.{_≡_};
 ghost use Prim.Native.Nat.{_<_};
-ghost use Rattle.btfdump_c.specs.Record.{getLong, putLong, decoded, encodedLast, encoded, unusedZero, recordOpened, recordRefused, recordAfter};
-ghost use Rattle.btfdump_c.specs.Exports.{packed, exportOf, openExport, typeExport, typesExport};
+ghost use Rattle.btfdump_c.specs.Record.{getLong, putLong, decoded, encodedLast, encoded, unusedZero, recordOpened, recordRefused, recordAfter, recordLonger, recordListed};
+ghost use Rattle.btfdump_c.specs.Exports.{packed, exportOf, openExport, typeExport, typesExport, listExport};
+ghost use Rattle.session.specs.Answers.{numberOf, valueOf};
+ghost use Rattle.session.specs.Lists.{idsIn};
 
 fn number_and_value(a: Answer) -> u64
     ensures { λ r. ⌜ r ≡ packed a ⌝ }
@@ -131,6 +134,45 @@ fn answered(record: &mut [u8], t: Turn) -> u64
     number_and_value(a)
 }
 
+// A list changes the text length if an id was accepted.
+fn store_longer(record: &mut [u8], accepted: u32, len: u32)
+    ensures { λ _. ⌜ now («record» .exit) ≡ recordLonger accepted len (now («record» .entry)) ⌝ }
+{
+    if accepted == 0 {
+        return;
+    }
+    put_long(record, 5, len as u64)
+}
+
+fn store_stopped(record: &mut [u8], number: u32, accepted: u32, len: u32)
+    ensures { λ _. ⌜ now («record» .exit) ≡ recordListed number accepted len (now («record» .entry)) ⌝ }
+{
+    if number > 11 {
+        store_refused(record, number, len);
+        return;
+    }
+    store_longer(record, accepted, len)
+}
+
+fn store_list(record: &mut [u8], t: Turn)
+    ensures { λ _. ⌜ now («record» .exit) ≡ recordListed (numberOf (t .answer)) (valueOf (t .answer)) (t .session .«text_len») (now («record» .entry)) ⌝ }
+{
+    let a = t.answer;
+    let s = t.session;
+    match a {
+        Answer::Accepted(accepted) => store_longer(record, accepted, s.text_len),
+        Answer::Refused(number, accepted) => store_stopped(record, number, accepted, s.text_len),
+    }
+}
+
+fn listed(record: &mut [u8], t: Turn) -> u64
+    ensures { λ r. ⌜ (r ≡ packed (t .answer)) × (now («record» .exit) ≡ recordListed (numberOf (t .answer)) (valueOf (t .answer)) (t .session .«text_len») (now («record» .entry))) ⌝ }
+{
+    let a = t.answer;
+    store_list(record, t);
+    number_and_value(a)
+}
+
 #[no_mangle]
 pub extern "C" fn btfdump_open(
     record: &mut [u8],
@@ -180,4 +222,24 @@ pub extern "C" fn btfdump_dump_types(
     }
     let t = dump_types_core(decode(record), section, work, text);
     answered(record, t)
+}
+
+#[no_mangle]
+pub extern "C" fn btfdump_dump_list(
+    record: &mut [u8],
+    section: &[u8],
+    work: &mut [u8],
+    text: &mut [u8],
+    ids: &[u8],
+) -> u64
+    ensures { λ r. ⌜ exportOf r (now («record» .exit)) (now (work .exit)) (now (text .exit)) ≡ listExport (now («record» .entry)) (now (section .entry)) (now (work .entry)) (now (text .entry)) (idsIn (now (ids .entry))) ⌝ }
+{
+    if ids.len() < 4 {
+        return 0;
+    }
+    if record.len() < 128 {
+        return 47244640256;
+    }
+    let t = dump_list_core(decode(record), section, work, text, ids);
+    listed(record, t)
 }

@@ -18,10 +18,11 @@ use Rattle.session.specs.Calls.{Call, openedCall, openCall}
 use Rattle.session.proofs.Laws.{opens-sound, opens-refused}
 use Rattle.session.proofs.Claims.{number-is}
 use Rattle.demand.specs.Needs.{MeetsTwice}
-use Rattle.claims.specs.Session.{Holds, After, after-open, after-one, after-all}
-use Rattle.claims.specs.Demands.{typesIn, ruled, Demand2, Demand3Calls, Delivered}
+use Rattle.claims.specs.Session.{Holds, After, after-open, after-one, after-all, after-list}
+use Rattle.claims.specs.Demands.{typesIn, ruled, Demand2, Demand3Calls, Twice, Delivered}
 use Rattle.claims.proofs.Claims.{opening-gives}
 use Rattle.claims.proofs.Session.{type-keeps, types-keeps, after-holds}
+use Rattle.claims.proofs.Again.{adds-nothing, list-adds-nothing}
 
 -- the number of the opening is that of the first cause that holds, and 0 where none does
 pub open-number : (S : Session) (s work text : List ℕ) (p modes : ℕ) → numberOf (openCall S s work text p modes .answer) ≡ openingNumber p s (length work)
@@ -64,9 +65,17 @@ after-sound : (p modes : ℕ) (s : List ℕ) (n : ℕ) {c : Call} {rs : List Req
 after-sound p modes s n (after-open S work text z q) = ap (openingNumber p s) (sym z) ∙ sym (open-number S s work text p modes) ∙ q
 after-sound p modes s n (after-one c rs a text f same id) = after-sound p modes s n a
 after-sound p modes s n (after-all c rs a text f same) = after-sound p modes s n a
+after-sound p modes s n (after-list c rs a text f same ids) = after-sound p modes s n a
+
+after-twice : (p modes : ℕ) (s : List ℕ) (n : ℕ) → openingNumber p s n ≡ 0 → (c : Call) (rs : List Req) → After p modes s n c rs → Twice p modes s n c rs
+after-twice p modes s n ok c rs a = record {
+  single-again = λ o x k text l. adds-nothing p modes s n ok c rs a (after-demand2 p modes s n ok c rs a) o x k text l;
+  list-again = λ o text l xs x m e. list-adds-nothing p modes s n ok c rs a o text l xs x m e (λ c′ rs′ a′. after-demand2 p modes s n ok c′ rs′ a′);
+}
 
 pub delivered : (p modes : ℕ) (s : List ℕ) (n : ℕ) → Delivered p modes s n
 delivered p modes s n = record {
   demand2 = λ c rs a. after-demand2 p modes s n (after-sound p modes s n a) c rs a;
   demand3 = λ c rs a. after-demand3 p modes s n (after-sound p modes s n a) c rs a;
+  twice = λ c rs a. after-twice p modes s n (after-sound p modes s n a) c rs a;
 }

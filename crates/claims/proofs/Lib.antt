@@ -9,4 +9,5 @@ pub mod Start
 pub mod Emission
 pub mod Request
 pub mod Session
+pub mod Again
 pub mod Demands

@@ -2,7 +2,7 @@
 -- accepts the section.
 use Prim.Native.Nat.{ℕ, zero, suc, _+_, _-_, _%_, _<_, _≤_}
 use mathlib.Core.Path.{_≡_, refl, ap, _∙_, sym, subst}
-use mathlib.Core.Bool.{Bool, true, false, true≢false}
+use mathlib.Core.Bool.{Bool, true, false, _||_, true≢false}
 use mathlib.Core.List.{List, [], _∷_, _++_, append-nil}
 use mathlib.Core.Logic.{_⊎_, inl, inr, ⊎-elim}
 use native.Mathlib.Omega.{arith}
@@ -10,8 +10,9 @@ use native.Mathlib.Nat.{le-refl}
 use lib.ListN.{length, take, drop, replicate, length-append, length-replicate}
 use lib.Seq.{length-take-le, take-at, take-take, take-append-le, take-append-add}
 use lib.Dec.{eqb, ltb}
-use borrow.Author.Tests.{le-leb, lt-leb, eq-eqb, lt-ltb, le-ltb}
+use borrow.Author.Tests.{le-leb, lt-leb, eq-eqb, ne-eqb, lt-ltb, le-ltb}
 use borrow.Rule.Slice.PartMut.{mid-len}
+use Rattle.lent.specs.Words.{pick}
 use Rattle.lent.specs.Text.{place}
 use Rattle.lent.proofs.Laws.{le-or-lt}
 use Rattle.rules.specs.Order.{Table}
@@ -29,16 +30,18 @@ use Rattle.opening.proofs.ReadBack.{work-length}
 use Rattle.emit.specs.Sheet.{Sheet, workMachine, dumped}
 use Rattle.session.specs.declared.Session.{Session}
 use Rattle.session.specs.Answers.{numberOf, valueOf, answerOf}
-use Rattle.session.specs.Calls.{Call, isCurrent, openedCall, openCall, limitOf, Reach, reached, refusedBy, cameTo, lentTo, requested, onward as goOn, requestedFrom, thenZeros, settled, withText, tableFor, typeCall, typesCall}
+use Rattle.session.specs.Calls.{Call, isCurrent, openedCall, openCall, limitOf, Reach, reached, refusedBy, cameTo, lentTo, requested, onward as goOn, requestedFrom, thenZeros, settled, withText, tableFor, typeCall, typesCall, callOf}
+use Rattle.session.specs.Lists.{counted as countedCall, listFrom, listCall}
+use Rattle.session.proofs.Lists.{counted-goes, counted-stops, type-single, Counts, list-counts}
 use Rattle.session.proofs.Fair.{placed, fair-request}
 use Rattle.session.proofs.Laws.{limit-short, limit-long, limit-between, stuck-listed, opens-sound}
 use Rattle.session.specs.declared.Answer.the-variants.{Refused}
-use Rattle.session.proofs.Claims.{number-is, value-is, type-settles, types-settle, type-not-below, type-not-current, types-not-current, closed-stays}
+use Rattle.session.proofs.Claims.{number-is, value-is, type-settles, types-settle, type-not-below, type-not-current, types-not-current, closed-stays, type-current}
 use Rattle.demand.specs.Lists.{Ls, afresh}
 use Rattle.demand.specs.Session.{Known, textOf, machine, opened}
 use Rattle.claims.specs.Table.{headerOf}
 use Rattle.claims.specs.Sheet.{Bears, Shows, BothRequest, both-served, both-refused}
-use Rattle.claims.specs.Session.{Holds, Tells, After, after-open, after-one, after-all}
+use Rattle.claims.specs.Session.{Holds, Tells, singlesFor, made, After, after-open, after-one, after-all, after-list}
 use Rattle.claims.proofs.Described.{count-described, count-is}
 use Rattle.claims.proofs.Sound.{opened-wf}
 use Rattle.claims.proofs.Named.{opened-indexed}
@@ -194,7 +197,7 @@ module _ (p modes : ℕ) (s : List ℕ) (n : ℕ) (ok : openingNumber p s n ≡ 
     came (both-refused zero) k = absurd (let q : 0 < 0 = k 0 refl in omega arith)
     came (both-refused (suc c)) k = both-ended c len (take len t) _ ended
 
-    single-is : x < T .count → single X T room L x ≡ ordered X T L x (ordering X T room L x)
+    pub single-is : x < T .count → single X T room L x ≡ ordered X T L x (ordering X T room L x)
     unfolding single gate
     single-is l = ap (λ (f : Bool). gate X T room L x f (ltb x (T .count))) (g .running) ∙ ap (gate X T room L x true) (lt-ltb x (T .count) l)
 
@@ -296,16 +299,16 @@ module _ (p modes : ℕ) (s : List ℕ) (n : ℕ) (ok : openingNumber p s n ≡ 
         ∙ ap (settingsOf s p (modes % 2)) (h .types)
         ∙ ap (λ (k : ℕ). record { «ptr_sz» = b .«ptr_sz»; «union_as_struct» = eqb k 1; types = b .types; strs = b .strs }) (mod-twice modes)
 
-    types-is : S .types ≡ T .count
+    pub types-is : S .types ≡ T .count
     types-is = h .types ∙ sym (count-is p modes s n ok)
 
-    going : L .isOpen ≡ true → Going (S .«text_len») work text (length text) L
+    pub going : L .isOpen ≡ true → Going (S .«text_len») work text (length text) L
     going o = record { running = o; long = refl; its-length = h .its-length; its-text = same ∙ h .its-text; fits = f; small = h .small; bears = h .bears o }
 
     full-work : L .isOpen ≡ true → length work ≡ length w
     full-work o = h .bears o .names .kept .long
 
-    current : L .isOpen ≡ true → isCurrent S (length s) (length work) (length text) ≡ true
+    pub current : L .isOpen ≡ true → isCurrent S (length s) (length work) (length text) ≡ true
     unfolding isCurrent
     current o = rw (h .is-open ∙ o, eq-eqb (S .«section_len») (length s) (h .section), eq-eqb (S .«work_len») (length work) (h .its-work), le-leb (S .«text_len») (length text) f, isCurrent)
 
@@ -381,6 +384,92 @@ module _ (p modes : ℕ) (s : List ℕ) (n : ℕ) (ok : openingNumber p s n ≡ 
         by true o = types-open o
         by false o = along (types-not-current S s work text (closed-stays S s work text (h .is-open ∙ o))) refl (still 11 (inr refl))
 
+  -- ---- a list
+  abbrev HoldsAfter : Call → Sess State → Type 0
+  HoldsAfter c L = Holds p modes s n (c .session) (c .work) (c .text) L
+
+  pub made-more : (k : ℕ) (c : Call) → suc k ≤ valueOf (c .answer) → made k c ≡ suc (made (suc k) c)
+  unfolding made
+  made-more k c l = omega arith
+
+  made-none : (k : ℕ) (S : Session) (v t : List ℕ) (m : ℕ) → (m ≡ 0) ⊎ (m ≡ 11) → made k (callOf S (answerOf m k) v t) ≡ 0
+  unfolding made callOf
+  made-none k S v t m (inl e) = rw (number-is m k, value-is m k, eq-eqb m 0 e) (omega arith)
+  made-none k S v t m (inr e) = let d : m ≡ 0 → ⊥ = (λ z. absurd (omega arith)) in rw (number-is m k, value-is m k, ne-eqb m 0 d, eq-eqb m 11 e) (omega arith)
+
+  made-one : (k : ℕ) (S : Session) (v t : List ℕ) (m : ℕ) → (m ≡ 0 → ⊥) → (m ≡ 11 → ⊥) → made k (callOf S (answerOf m k) v t) ≡ 1
+  unfolding made callOf
+  made-one k S v t m d e = rw (number-is m k, value-is m k, ne-eqb m 0 d, ne-eqb m 11 e) (omega arith)
+
+  -- the single request for x, of a list after k accepted ids
+  module _ (k : ℕ) (S : Session) (work text₀ : List ℕ) (L : Sess State) (h : Holds p modes s n S work text₀ L) (text : List ℕ) (f : S .«text_len» ≤ length text) (same : take (S .«text_len») text ≡ take (S .«text_len») text₀)
+      (x : ℕ) (ids : List ℕ) where
+    abbrev c₁ : Call
+    c₁ = typeCall S s work text x
+
+    abbrev L₁ : Sess State
+    L₁ = single X T (length text) L x .sess
+
+    abbrev rest : Call → Call
+    rest c = listFrom (suc k) (c .session) s (c .work) (c .text) ids
+
+    not-11 : L .isOpen ≡ true → numberOf (c₁ .answer) ≡ 11 → ⊥
+    unfolding numberOf
+    not-11 o e = ⊎-elim past below (le-or-lt (S .types) x)
+      where
+        past : S .types ≤ x → ⊥
+        past l = let z : numberOf (c₁ .answer) ≡ 10 = ap (λ (c : Call). numberOf (c .answer)) (type-not-below S s work text x (current S work text₀ L h text f same o) l) in omega arith
+
+        below : x < S .types → ⊥
+        below l = let z = type-current S s work text x (current S work text₀ L h text f same o) l .number-kept in ⊎-elim (λ q. omega arith) (λ q. omega (arith, q .1, q .0)) z
+
+    list-stops : (m : ℕ) → numberOf (c₁ .answer) ≡ suc m → HoldsAfter (countedCall k c₁ rest) (run X T (singlesFor (length text) (made k (countedCall k c₁ rest)) (x ∷ ids)) L)
+    unfolding run serve singlesFor callOf numberOf
+    list-stops m e = subst (λ (c : Call). HoldsAfter c (run X T (singlesFor (length text) (made k c) (x ∷ ids)) L)) (sym stops) (by (L .isOpen) refl)
+      where
+        stops : countedCall k c₁ rest ≡ callOf (c₁ .session) (answerOf (suc m) k) (c₁ .work) (c₁ .text)
+        stops = counted-stops k (suc m) c₁ rest e (λ z. absurd (omega arith))
+
+        by : (o : Bool) → L .isOpen ≡ o → Holds p modes s n (c₁ .session) (c₁ .work) (c₁ .text) (run X T (singlesFor (length text) (made k (callOf (c₁ .session) (answerOf (suc m) k) (c₁ .work) (c₁ .text))) (x ∷ ids)) L)
+        by true o =
+            let d : suc m ≡ 11 → ⊥ = (λ z. not-11 o (e ∙ z)) in
+            subst (λ (j : ℕ). HoldsAfter c₁ (run X T (singlesFor (length text) j (x ∷ ids)) L)) (sym (made-one k (c₁ .session) (c₁ .work) (c₁ .text) (suc m) (λ z. absurd (omega arith)) d))
+            (type-keeps S work text₀ L h text f same x .holds)
+        by false o =
+            let q : c₁ ≡ record { session = S; answer = Refused 11 (S .«text_len»); work = work; text = text } = type-not-current S s work text x (closed-stays S s work text (h .is-open ∙ o)) in
+            let z : suc m ≡ 11 = sym e ∙ ap (λ (c : Call). numberOf (c .answer)) q in
+            subst (λ (j : ℕ). HoldsAfter c₁ (run X T (singlesFor (length text) j (x ∷ ids)) L)) (sym (made-none k (c₁ .session) (c₁ .work) (c₁ .text) (suc m) (inr z)))
+            (subst (λ (c : Call). HoldsAfter c L) (sym q) (still S work text₀ L h text f same 11 (inr refl) .holds))
+
+    list-goes : numberOf (c₁ .answer) ≡ 0 → HoldsAfter (rest c₁) (run X T (singlesFor (length text) (made (suc k) (rest c₁)) ids) L₁)
+        → HoldsAfter (countedCall k c₁ rest) (run X T (singlesFor (length text) (made k (countedCall k c₁ rest)) (x ∷ ids)) L)
+    unfolding run serve singlesFor
+    list-goes e i =
+        subst (λ (c : Call). HoldsAfter c (run X T (singlesFor (length text) (made k c) (x ∷ ids)) L)) (sym (counted-goes k c₁ rest e))
+        (subst (λ (j : ℕ). HoldsAfter (rest c₁) (run X T (singlesFor (length text) j (x ∷ ids)) L)) (sym (made-more k (rest c₁) (list-counts s (suc k) (c₁ .session) (c₁ .work) (c₁ .text) ids .at-least))) i)
+
+    list-next : HoldsAfter (rest c₁) (run X T (singlesFor (length (c₁ .text)) (made (suc k) (rest c₁)) ids) L₁) → HoldsAfter (countedCall k c₁ rest) (run X T (singlesFor (length text) (made k (countedCall k c₁ rest)) (x ∷ ids)) L)
+    list-next i = by (numberOf (c₁ .answer)) refl
+      where
+        by : (m : ℕ) → numberOf (c₁ .answer) ≡ m → HoldsAfter (countedCall k c₁ rest) (run X T (singlesFor (length text) (made k (countedCall k c₁ rest)) (x ∷ ids)) L)
+        by zero e = list-goes e (subst (λ (room : ℕ). HoldsAfter (rest c₁) (run X T (singlesFor room (made (suc k) (rest c₁)) ids) L₁)) (type-single S s work text x .long) i)
+        by (suc m) e = list-stops m e
+
+  no-ids : (room j : ℕ) → singlesFor room j [] ≡ []
+  unfolding singlesFor
+  no-ids room zero = refl
+  no-ids room (suc j) = refl
+
+  pub list-holds : (ids : List ℕ) (k : ℕ) (S : Session) (work text₀ : List ℕ) (L : Sess State) → Holds p modes s n S work text₀ L → (text : List ℕ) → S .«text_len» ≤ length text → take (S .«text_len») text ≡ take (S .«text_len») text₀
+      → HoldsAfter (listFrom k S s work text ids) (run X T (singlesFor (length text) (made k (listFrom k S s work text ids)) ids) L)
+  unfolding listFrom run callOf
+  list-holds [] k S work text₀ L h text f same =
+      subst (λ (qs : List Req). Holds p modes s n S work text (run X T qs L)) (sym (no-ids (length text) (made k (listFrom k S s work text [])))) (still S work text₀ L h text f same 10 (inl refl) .holds)
+  list-holds (x ∷ ids) k S work text₀ L h text f same =
+      list-next k S work text₀ L h text f same x ids
+      (list-holds ids (suc k) (typeCall S s work text x .session) (typeCall S s work text x .work) (typeCall S s work text x .text) (single X T (length text) L x .sess) (type-keeps S work text₀ L h text f same x .holds)
+      (typeCall S s work text x .text) (type-keeps S work text₀ L h text f same x .holds .fits) refl)
+
   -- ---- opening
   module _ (S : Session) (work text : List ℕ) (z : length work ≡ n) where
     open-is : openCall S s work text p modes ≡ openedCall S (length s) (length work) p modes (soundly (typesOf s) (enumeratorsOf s) w (replicate (length text) 0))
@@ -416,8 +505,13 @@ module _ (p modes : ℕ) (s : List ℕ) (n : ℕ) (ok : openingNumber p s n ≡ 
   run-more [] r L = refl
   run-more (q ∷ rs) r L = run-more rs r (serve X T L q)
 
+  pub run-then : (rs qs : List Req) (L : Sess State) → run X T (rs ++ qs) L ≡ run X T qs (run X T rs L)
+  unfolding run
+  run-then [] qs L = refl
+  run-then (r ∷ rs) qs L = run-then rs qs (serve X T L r)
+
   pub after-holds : {c : Call} {rs : List Req} → After p modes s n c rs → Holds p modes s n (c .session) (c .work) (c .text) (run X T rs (opened B))
-  unfolding run serve
+  unfolding run serve listCall
   after-holds (after-open S work text z q) = open-holds S work text z
   after-holds (after-one c rs a text f same id) =
       subst (λ (L : Sess State). Holds p modes s n (typeCall (c .session) s (c .work) text id .session) (typeCall (c .session) s (c .work) text id .work) (typeCall (c .session) s (c .work) text id .text) L)
@@ -427,3 +521,7 @@ module _ (p modes : ℕ) (s : List ℕ) (n : ℕ) (ok : openingNumber p s n ≡ 
       subst (λ (L : Sess State). Holds p modes s n (typesCall (c .session) s (c .work) text .session) (typesCall (c .session) s (c .work) text .work) (typesCall (c .session) s (c .work) text .text) L)
       (sym (run-more rs (all (length text)) (opened B)))
       (types-keeps (c .session) (c .work) (c .text) (run X T rs (opened B)) (after-holds a) text f same .holds)
+  after-holds (after-list c rs a text f same ids) =
+      subst (λ (L : Sess State). HoldsAfter (listCall (c .session) s (c .work) text ids) L)
+      (sym (run-then rs (singlesFor (length text) (made 0 (listCall (c .session) s (c .work) text ids)) ids) (opened B)))
+      (list-holds ids 0 (c .session) (c .work) (c .text) (run X T rs (opened B)) (after-holds a) text f same)

@@ -1,17 +1,18 @@
 -- Demands 2 and 3 of document 01, said of the calls of a session: statements only. proofs/Demands.antt has the proof, of every section that
 -- opening accepts, every list of requests after it, and every text slice that a request is lent. It assumes nothing.
-use Prim.Native.Nat.{ℕ, _<_, _≤_}
+use Prim.Native.Nat.{ℕ, suc, _<_, _≤_}
 use mathlib.Core.Path.{_≡_}
 use mathlib.Core.Bool.{true}
-use mathlib.Core.List.{List}
+use mathlib.Core.List.{List, [], _∷_, _++_, List·Memᴰ}
 use mathlib.Core.Logic.{_↔_}
 use lib.ListN.{length, take}
 use Rattle.rules.specs.Names.{Names}
 use Rattle.rules.specs.Order.{Table, refused}
 use Rattle.rules.specs.Machine.{Sess, Req, ordering, single, every, run}
 use Rattle.rules.specs.Types.{tableOf}
-use Rattle.session.specs.Answers.{numberOf}
-use Rattle.session.specs.Calls.{Call, typeCall, typesCall}
+use Rattle.session.specs.Answers.{numberOf, valueOf}
+use Rattle.session.specs.Calls.{Call, thenZeros, typeCall, typesCall}
+use Rattle.session.specs.Lists.{listCall}
 use Rattle.demand.specs.Needs.{NamedComp, MeetsTwice}
 use Rattle.demand.specs.Demand.{Demand3}
 use Rattle.demand.specs.Lists.{Ls}
@@ -23,6 +24,12 @@ use Rattle.claims.specs.Session.{After, Tells}
 pub record Lent (c : Call) (text : List ℕ) : Type 0 where
   pub long : c .session .«text_len» ≤ length text
   pub begins : take (c .session .«text_len») text ≡ take (c .session .«text_len») (c .text)
+
+-- the call c, lent this text after the call `before`, is accepted and leaves the text that there was
+pub record AddsNothing (before : Call) (text : List ℕ) (c : Call) : Type 0 where
+  pub accepted : numberOf (c .answer) ≡ 0
+  pub text-len : c .session .«text_len» ≡ before .session .«text_len»
+  pub same-text : c .text ≡ thenZeros (length text) (before .session .«text_len») text
 
 -- pointer size, mode, section and length of the work, as at opening
 module _ (pointer modes : ℕ) (s : List ℕ) (n : ℕ) where
@@ -55,8 +62,18 @@ module _ (pointer modes : ℕ) (s : List ℕ) (n : ℕ) where
         → (ordering (machine (openedTable pointer modes s n)) typesIn (length text) (ruled rs) id ≡ refused 12 → ⊥)
         → (numberOf (typeCall (c .session) s (c .work) text id .answer) ≡ 13) ↔ MeetsTwice typesIn id
 
+  -- "An id given twice adds no text": while the session is open, a request for an id that was accepted before, and a list that ends in an id
+  -- that it has before, all accepted; the count of the accepted is one more.
+  pub record Twice (c : Call) (rs : List Req) : Type 0 where
+    pub single-again : c .session .«open» ≡ true → (x : ℕ) → List·Memᴰ x (ruled rs .asked) → (text : List ℕ) → Lent c text → AddsNothing c text (typeCall (c .session) s (c .work) text x)
+    pub list-again : c .session .«open» ≡ true → (text : List ℕ) → Lent c text → (xs : List ℕ) (x : ℕ) → List·Memᴰ x xs → numberOf (listCall (c .session) s (c .work) text xs .answer) ≡ 0
+        → AddsNothing (listCall (c .session) s (c .work) text xs) (listCall (c .session) s (c .work) text xs .text) (listCall (c .session) s (c .work) text (xs ++ (x ∷ [])))
+        × (valueOf (listCall (c .session) s (c .work) text (xs ++ (x ∷ [])) .answer) ≡ suc (valueOf (listCall (c .session) s (c .work) text xs .answer)))
+
   -- THE CLAIM, of all pointer sizes, modes, sections and lengths of the work: `After c rs` is "the list, perhaps empty, starts at a successful
-  -- opening with any settings and holds single requests and requests for all ids, in any order and with any ids".
+  -- opening with any settings and holds single requests and requests for all ids, in any order and with any ids", and lists of ids, each of
+  -- which counts as the single requests that it makes.
   pub record Delivered : Type 0 where
     pub demand2 : (c : Call) (rs : List Req) → After pointer modes s n c rs → Demand2 c rs
     pub demand3 : (c : Call) (rs : List Req) → After pointer modes s n c rs → Demand3Calls c rs
+    pub twice : (c : Call) (rs : List Req) → After pointer modes s n c rs → Twice c rs

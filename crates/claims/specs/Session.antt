@@ -1,9 +1,11 @@
 -- A session in lent bytes against a session of the rules over plain lists, with the names of the Rust.
-use Prim.Native.Nat.{ℕ, _-_, _%_, _≤_}
+use Prim.Native.Nat.{ℕ, zero, suc, _+_, _-_, _%_, _≤_}
 use mathlib.Core.Path.{_≡_}
-use mathlib.Core.Bool.{true}
+use mathlib.Core.Bool.{true, _||_}
 use mathlib.Core.List.{List, [], _∷_, _++_}
 use lib.ListN.{length, take, replicate}
+use lib.Dec.{eqb}
+use Rattle.lent.specs.Words.{pick}
 use Rattle.rules.specs.Names.{Names}
 use Rattle.rules.specs.Machine.{Sess, Answer, Req, one, all}
 use Rattle.opening.specs.Table.{typesOf, enumeratorsOf}
@@ -11,10 +13,22 @@ use Rattle.opening.specs.Opened.{workOf}
 use Rattle.session.specs.declared.Session.{Session}
 use Rattle.session.specs.Answers.{numberOf, valueOf}
 use Rattle.session.specs.Calls.{Call, openCall, typeCall, typesCall}
+use Rattle.session.specs.Lists.{listCall}
 use Rattle.demand.specs.Lists.{Ls}
 use Rattle.demand.specs.Session.{Known, textOf, machine}
 use Rattle.claims.specs.Table.{headerOf, openedTable}
 use Rattle.claims.specs.Sheet.{Bears}
+
+-- the first n ids as single requests, on a text slice of so many bytes
+unfoldable pub singlesFor : ℕ → ℕ → List ℕ → List Req
+singlesFor room zero ids = []
+singlesFor room (suc n) [] = []
+singlesFor room (suc n) (id ∷ ids) = one room id ∷ singlesFor room n ids
+
+-- How many single requests a call with a list counts as, after k others of it: "the single requests that it makes, up to and including a
+-- refused one, and [..] none where it gives 11".
+unfoldable pub made : ℕ → Call → ℕ
+made k c = valueOf (c .answer) - k + pick (eqb (numberOf (c .answer)) 0 || eqb (numberOf (c .answer)) 11) 0 1
 
 -- pointer size, mode, section and length of the work, as at opening
 module _ (pointer modes : ℕ) (s : List ℕ) (n : ℕ) where
@@ -41,6 +55,8 @@ module _ (pointer modes : ℕ) (s : List ℕ) (n : ℕ) where
         → (id : ℕ) → After (typeCall (c .session) s (c .work) text id) (rs ++ (one (length text) id ∷ []))
     after-all : (c : Call) (rs : List Req) → After c rs → (text : List ℕ) → c .session .«text_len» ≤ length text → take (c .session .«text_len») text ≡ take (c .session .«text_len») (c .text)
         → After (typesCall (c .session) s (c .work) text) (rs ++ (all (length text) ∷ []))
+    after-list : (c : Call) (rs : List Req) → After c rs → (text : List ℕ) → c .session .«text_len» ≤ length text → take (c .session .«text_len») text ≡ take (c .session .«text_len») (c .text)
+        → (ids : List ℕ) → After (listCall (c .session) s (c .work) text ids) (rs ++ singlesFor (length text) (made 0 (listCall (c .session) s (c .work) text ids)) ids)
 
 -- A request's answer and text, in a slice of so many bytes, against its answer over lists: the same number; the value is the length of the
 -- pieces' text; the slice begins with that text, and unless 10 or 11 left it as it was, it is that text and then zeros.

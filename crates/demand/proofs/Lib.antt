@@ -11,3 +11,4 @@ pub mod Placing
 pub mod Alike
 pub mod AnyNames
 pub mod Fit
+pub mod Again

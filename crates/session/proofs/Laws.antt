@@ -137,7 +137,7 @@ module _ (r : Reached) (w t : List ℕ) where
   reach-refused h = rw (ne-eqb (r .number) 0 h, reachOf)
 
 -- the first bytes of the first bytes
-zeros-twice : (n len : ℕ) (t : List ℕ) → thenZeros n len (take len t) ≡ thenZeros n len t
+pub zeros-twice : (n len : ℕ) (t : List ℕ) → thenZeros n len (take len t) ≡ thenZeros n len t
 unfolding thenZeros
 zeros-twice n len t = ap (λ (l : List ℕ). l ++ replicate (n - len) 0) (again len t)
   where

@@ -1,4 +1,5 @@
 pub mod Entry
+pub mod EntryList
 pub mod Lent
 pub mod Numbers
 pub mod Turning
@@ -7,3 +8,4 @@ pub mod Laws
 pub mod Claims
 pub mod Tails
 pub mod Singles
+pub mod Lists

@@ -116,7 +116,7 @@ module _ (b : Btf) (B : Rules) where
   sized-request w u x = fair-dumped (Sized (length u) (length w)) (workMachine b B) (tableOf B) (sized (length u) (length w)) (record { work = w; text = u; at = 0; len = 0 }) x (zero-le, refl, refl)
 
 -- ---- one request on two texts that agree up to len
-data Pair (wn tn : ℕ) : Reach → Reach → Type 0 where
+pub data Pair (wn tn : ℕ) : Reach → Reach → Type 0 where
   on-both : (len : ℕ) (w t t′ : List ℕ) → len ≤ tn → length w ≡ wn → length t ≡ tn → take len t ≡ take len t′ → Pair wn tn (reached len w t) (reached len w t′)
   off-both : (c len : ℕ) (t : List ℕ) → Listed c → Pair wn tn (refusedBy c len t) (refusedBy c len t)
 
@@ -137,7 +137,7 @@ module _ (wn tn len : ℕ) (t t′ : List ℕ) (lt : length t ≡ tn) (lt′ : l
       (placed-take t u len at (omega arith) h ∙ (λ i. same i ++ eq i) ∙ sym (placed-take t′ u′ len at (omega arith) (omega arith)))
   came-pair k fits _ _ (stop-both c) (stops _ l) = subst (λ (p : List ℕ). Pair wn tn (refusedBy c len (take len t)) (refusedBy c len p)) same (off-both c len (take len t) l)
 
-  request-pair : (b : Btf) (s : List ℕ) (id : ℕ) (w : List ℕ) → length w ≡ wn → Pair wn tn (requested b s id len w t) (requested b s id len w t′)
+  pub request-pair : (b : Btf) (s : List ℕ) (id : ℕ) (w : List ℕ) → length w ≡ wn → Pair wn tn (requested b s id len w t) (requested b s id len w t′)
   unfolding requested
   request-pair b s id w lw =
       let lim : (len ≤ limitOf (length t) len) × (limitOf (length t) len ≤ length t) = limit-between (length t) len (omega arith) in
@@ -163,12 +163,12 @@ singles-stop section (suc n) id c h = go (numberOf (c .answer)) refl
     go zero e = absurd (h e)
     go (suc k) e = rw (e, singles)
 
-settled-with : (s : Session) (len wn tn : ℕ) (r : Reach) → settled (withText s true len) wn tn r ≡ settled s wn tn r
+pub settled-with : (s : Session) (len wn tn : ℕ) (r : Reach) → settled (withText s true len) wn tn r ≡ settled s wn tn r
 unfolding settled
 settled-with s len wn tn (reached l w t) = refl
 settled-with s len wn tn (refusedBy c l t) = refl
 
-settled-tail : (s : Session) (wn tn len : ℕ) (w t t′ : List ℕ) → take len t ≡ take len t′ → settled s wn tn (reached len w t) ≡ settled s wn tn (reached len w t′)
+pub settled-tail : (s : Session) (wn tn len : ℕ) (w t t′ : List ℕ) → take len t ≡ take len t′ → settled s wn tn (reached len w t) ≡ settled s wn tn (reached len w t′)
 unfolding settled thenZeros
 settled-tail s wn tn len w t t′ e = λ i. record { session = withText s true len; answer = answerOf 0 len; work = w; text = e i ++ replicate (tn - len) 0 }
 
@@ -224,7 +224,7 @@ clipped s section = go (ltb (s .types) 262145) refl
     go true e = rw e (le-refl (s .types))
     go false e = let l : 262145 ≤ s .types = ltb-false (s .types) 262145 e in rw e l
 
-parts-of : (p q r t : Bool) → p && (q && (r && t)) ≡ true → (q ≡ true) × (r ≡ true)
+pub parts-of : (p q r t : Bool) → p && (q && (r && t)) ≡ true → (q ≡ true) × (r ≡ true)
 parts-of true true true t h = (refl, refl)
 parts-of true true false t h = absurd (true≢false (sym h))
 parts-of true false r t h = absurd (true≢false (sym h))

@@ -1,3 +1,4 @@
 -- What each call of a session comes to.
 pub mod Answers
 pub mod Calls
+pub mod Lists

@@ -1,12 +1,14 @@
-// Sessions: opening, one request and the request for all ids. The session record is lent by `&mut`; the work is done by
+// Sessions: opening, one request, the request for all ids and a list of ids. The session record is lent by `&mut`; the work is done by
 // value, in the functions of `turns`.
 mod turns;
 
+pub use turns::dump_list_core;
 pub use turns::dump_type_core;
 pub use turns::dump_types_core;
 pub use turns::open_core;
 ghost use mathlib.Core.Path.{_≡_};
 ghost use Rattle.session.specs.Calls.{callOf, openCall, typeCall, typesCall};
+ghost use Rattle.session.specs.Lists.{idsIn, listCall};
 
 // The lengths are those at opening; text_len is the length of the text so far. Bit 0 of modes is union_as_struct.
 pub struct Session {
@@ -65,6 +67,22 @@ pub fn dump_types(s: &mut Session, section: &[u8], work: &mut [u8], text: &mut [
     ensures { λ r. ⌜ callOf (now (s .exit)) r (now (work .exit)) (now (text .exit)) ≡ typesCall (now (s .entry)) (now (section .entry)) (now (work .entry)) (now (text .entry)) ⌝ }
 {
     let turn = dump_types_core(*s, section, work, text);
+    *s = turn.session;
+    turn.answer
+}
+
+// The single requests for the ids of a list, four bytes each, to the first that is refused; the value is how many were
+// accepted.
+pub fn dump_list(
+    s: &mut Session,
+    section: &[u8],
+    work: &mut [u8],
+    text: &mut [u8],
+    ids: &[u8],
+) -> Answer
+    ensures { λ r. ⌜ callOf (now (s .exit)) r (now (work .exit)) (now (text .exit)) ≡ listCall (now (s .entry)) (now (section .entry)) (now (work .entry)) (now (text .entry)) (idsIn (now (ids .entry))) ⌝ }
+{
+    let turn = dump_list_core(*s, section, work, text, ids);
     *s = turn.session;
     turn.answer
 }

@@ -4,13 +4,16 @@ use crate::Session;
 use crate::Turn;
 use btf::Btf;
 use lent::clear;
+use lent::get_word;
 use opening::Opening;
 use opening::btf_of;
 ghost use Prim.Native.Nat.{_+_, _-_, _<_, _≤_};
+ghost use mathlib.Core.Bool.{true};
 ghost use mathlib.Core.Path.{_≡_};
 ghost use lib.ListN.{length};
 ghost use Rattle.session.specs.Answers.{answerOf};
 ghost use Rattle.session.specs.Calls.{callOf, turnOf, openCall, isCurrent, limitOf, withText, arrivedAt, reachOf, requested, requestedFrom, thenZeros, settled, typeCall, typesCall};
+ghost use Rattle.session.specs.Lists.{idsIn, listCall, countIn, tailed, listEnd};
 
 // Where the requests of a call have come to: the length of the accepted text, and the refusal that ended them, or 0.
 struct Reached {
@@ -212,4 +215,123 @@ pub fn dump_types_core(s: Session, section: &[u8], work: &mut [u8], text: &mut [
     let b = btf_of(section, s.pointer_size, s.modes, s.types);
     let r = dump_all(b, section, work, text, s.text_len);
     settle(s, work, text, r)
+}
+
+// Where the ids of a list have come to: as Reached, and how many were accepted.
+struct Tally {
+    len: u32,
+    number: u32,
+    accepted: u32,
+}
+
+// How many ids there are: as many as the answer's value can count, at most.
+fn count_of(ids: &[u8]) -> u32
+    ensures { λ r. ⌜ r ≡ countIn (now (ids .entry)) ⌝ }
+{
+    let n = ids.len() / 4;
+    if n <= 4294967295 {
+        n as u32
+    } else {
+        4294967295
+    }
+}
+
+// The ids of a list in their order, to the first that is refused; what follows the text is not zeroed yet.
+fn dump_ids(s: Session, section: &[u8], work: &mut [u8], text: &mut [u8], ids: &[u8]) -> Tally
+    requires { ⌜ isCurrent s (length (now section)) (length (now work)) (length (now text)) ≡ true ⌝ }
+    ensures { λ r. ⌜ (listEnd s r (now (work .exit)) (now (text .exit)) ≡ listCall s (now (section .entry)) (now (work .entry)) (now (text .entry)) (idsIn (now (ids .entry)))) × (r .len ≤ length (now (text .exit))) ⌝ }
+{
+    let b = btf_of(section, s.pointer_size, s.modes, s.types);
+    let n = count_of(ids);
+    let mut len = s.text_len;
+    let mut k: u32 = 0;
+    while k < n {
+        let id = get_word(ids, k as usize);
+        if s.types <= id {
+            return Tally {
+                len: len,
+                number: 10,
+                accepted: k,
+            };
+        }
+        let r = dump_next(b, section, work, text, len, id);
+        if r.number != 0 {
+            return Tally {
+                len: r.len,
+                number: r.number,
+                accepted: k,
+            };
+        }
+        len = r.len;
+        k += 1;
+    }
+    Tally {
+        len: len,
+        number: 0,
+        accepted: k,
+    }
+}
+
+fn answer_of(number: u32, value: u32) -> Answer
+    ensures { λ r. ⌜ r ≡ answerOf number value ⌝ }
+{
+    if number == 0 {
+        return Answer::Accepted(value);
+    }
+    Answer::Refused(number, value)
+}
+
+// Zeroes what follows the text, if an id was accepted.
+fn clear_after(text: &mut [u8], accepted: u32, len: u32)
+    requires { ⌜ len ≤ length (now text) ⌝ }
+    ensures { λ _. ⌜ now (text .exit) ≡ tailed accepted len (now (text .entry)) ⌝ }
+{
+    if accepted == 0 {
+        return;
+    }
+    clear_from(text, len);
+}
+
+// The end of a call with a list: 10 leaves what the accepted ids left, 12 to 17 close the session.
+fn settle_list(s: Session, work: &mut [u8], text: &mut [u8], r: Tally) -> Turn
+    requires { ⌜ r .len ≤ length (now text) ⌝ }
+    ensures { λ t. ⌜ callOf (t .session) (t .answer) (now (work .exit)) (now (text .exit)) ≡ listEnd s r (now (work .entry)) (now (text .entry)) ⌝ }
+{
+    let len = r.len;
+    let answer = answer_of(r.number, r.accepted);
+    if r.number <= 10 {
+        clear_after(text, r.accepted, len);
+        return Turn {
+            session: with_text(s, true, len),
+            answer: answer,
+        };
+    }
+    clear_from(text, len);
+    clear(work);
+    Turn {
+        session: with_text(s, false, len),
+        answer: answer,
+    }
+}
+
+pub fn dump_list_core(
+    s: Session,
+    section: &[u8],
+    work: &mut [u8],
+    text: &mut [u8],
+    ids: &[u8],
+) -> Turn
+    ensures { λ r. ⌜ callOf (r .session) (r .answer) (now (work .exit)) (now (text .exit)) ≡ listCall s (now (section .entry)) (now (work .entry)) (now (text .entry)) (idsIn (now (ids .entry))) ⌝ }
+{
+    if ids.len() < 4 {
+        return Turn {
+            session: s,
+            answer: Answer::Accepted(0),
+        };
+    }
+    if !is_current(s, section.len(), work.len(), text.len()) {
+        return refused(s, 11, 0);
+    }
+    let r = dump_ids(s, section, work, text, ids);
+    settle_list(s, work, text, r)
 }
