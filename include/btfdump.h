@@ -8,7 +8,9 @@
  *   record    BTFDUMP_RECORD_SIZE bytes. Holds the session between calls.
  *             Opening writes it whole; its content before that does not matter.
  *   section   the raw .BTF section, only read. Every call of a session gets
- *             the same bytes as the opening.
+ *             the same bytes as the opening. Its first bytes tell the order of
+ *             its words: 9F EB least significant byte first, EB 9F most
+ *             significant byte first.
  *   work      BTFDUMP_WORK_SIZE(types, enumerators) bytes or more. Every call
  *             gets the same bytes, with the same length, as the last one left.
  *   text      where the header is written. It may be longer or shorter at each

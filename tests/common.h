@@ -1,4 +1,4 @@
-/* What the C tests share: numbers in bytes, and the stack that a test runs on. */
+/* What the C tests share: numbers in bytes, the other order of bytes, and the stack that a test runs on. */
 #ifndef COMMON_H
 #define COMMON_H
 
@@ -37,6 +37,33 @@ static inline uint64_t get_word(const uint8_t *record, int word)
 static inline uint32_t u32_at(const uint8_t *p)
 {
 	return p[0] | (uint32_t)p[1] << 8 | (uint32_t)p[2] << 16 | (uint32_t)p[3] << 24;
+}
+
+static inline void turn_word(uint8_t *p)
+{
+	uint8_t a = p[0], b = p[1];
+
+	p[0] = p[3], p[1] = p[2], p[2] = b, p[3] = a;
+}
+
+/* Turns the magic, the words of the header and those of the type area. 0 where these are not told apart from other bytes. */
+static inline int turn(uint8_t *s, uint32_t length)
+{
+	uint64_t header, types, types_len, strings, strings_len, i;
+
+	if (length < 24 || s[0] != 0x9f || s[1] != 0xeb)
+		return 0;
+	header = u32_at(s + 4), types = header + u32_at(s + 8), types_len = u32_at(s + 12);
+	strings = header + u32_at(s + 16), strings_len = u32_at(s + 20);
+	if (header < 24 || types_len % 4 || types + types_len > length ||
+	    (strings < types + types_len && types < strings + strings_len))
+		return 0;
+	s[0] = 0xeb, s[1] = 0x9f;
+	for (i = 4; i < 24; i += 4)
+		turn_word(s + i);
+	for (i = types; i < types + types_len; i += 4)
+		turn_word(s + i);
+	return 1;
 }
 
 /* Runs a test on the stack that the header asks for, not on more. */

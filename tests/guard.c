@@ -184,6 +184,8 @@ static void make_up_section(void)
 	put32(section.bytes + 20, sizeof strings);
 	memcpy(section.bytes + 24, area, at);
 	memcpy(section.bytes + 24 + at, strings, sizeof strings);
+	if (below(4) == 0)
+		turn(section.bytes, (uint32_t)section.length);
 }
 
 static void choose_section(void)

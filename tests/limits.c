@@ -32,7 +32,10 @@ static const uint8_t enums[] = {
 
 static const uint8_t no_types[] = {HEADER(0, 1), 0};
 #define NONE_WORK BTFDUMP_WORK_SIZE(1, 0)
-static const uint8_t no_magic[] = {0xeb, 0x9f, 1, 0, W(24), W(0), W(0), W(0), W(1), 0};
+static const uint8_t no_magic[] = {0xeb, 0xeb, 1, 0, W(24), W(0), W(0), W(0), W(1), 0};
+static const uint8_t other_order[] = {0xeb, 0x9f, 1, 0, W(24), W(0), W(0), W(0), W(1), 0};
+#define V(x) (x) >> 24 & 255, (x) >> 16 & 255, (x) >> 8 & 255, (x) & 255
+static const uint8_t no_types_big[] = {0xeb, 0x9f, 1, 0, V(24), V(0), V(0), V(0), V(1), 0};
 static const uint8_t bad_strings[] = {HEADER(0, 2), 0, 'a'};
 static const uint8_t bad_kind[] = {HEADER(12, 1), W(0), INFO(20, 0), W(0), 0};
 static const uint8_t bad_reference[] = {HEADER(12, 1), W(0), INFO(2, 0), W(2), 0};
@@ -105,6 +108,7 @@ static const struct row {
 	{0, "refused over it: 23 bytes", two, {O, 8, 0, R, 23, TWO_WORK, 99, 3, 0}, NULL},
 	{0, "refused over it: last byte cut", two, {O, 8, 0, R, TWO - 1, TWO_WORK, 99, 3, 0}, NULL},
 	{0, "refused over it: magic", no_magic, {O, 8, 0, R, sizeof no_magic, TWO_WORK, 99, 3, 0}, NULL},
+	{0, "refused over it: magic EB 9F, words as after 9F EB", other_order, {O, 8, 0, R, sizeof other_order, TWO_WORK, 99, 3, 0}, NULL},
 	{0, "refused over it: strings", bad_strings, {O, 8, 0, R, sizeof bad_strings, TWO_WORK, 99, 4, 0}, NULL},
 	{0, "refused over it: kind 20", bad_kind, {O, 8, 0, R, sizeof bad_kind, TWO_WORK, 99, 5, 0}, NULL},
 	{0, "refused over it: id at the count", bad_reference, {O, 8, 0, R, sizeof bad_reference, TWO_WORK, 99, 6, 0}, NULL},
@@ -113,6 +117,7 @@ static const struct row {
 	{0, "refused over it: no work", two, {O, 8, 0, R, TWO, 0, 99, 9, 0}, NULL},
 	{0, "the old session is still open", two, {I, 2, 0, R, TWO, TWO_WORK, 99, 0, S_LEN}, NULL},
 	{0, "another section opened over it", no_types, {O, 4, 0, R, sizeof no_types, NONE_WORK, 99, 0, 1}, NULL},
+	{0, "the same, most significant byte first", no_types_big, {O, 4, 0, R, sizeof no_types_big, NONE_WORK, 99, 0, 1}, NULL},
 	{0, "all ids over no types clears the rest", no_types, {A, 0, 0, R, sizeof no_types, NONE_WORK, 99, 0, 0}, NULL},
 	{0, "id 0 over no types", no_types, {I, 0, 0, R, sizeof no_types, NONE_WORK, 99, 0, 0}, NULL},
 	{0, "id 1 over no types", no_types, {I, 1, 0, R, sizeof no_types, NONE_WORK, 99, 10, 0}, NULL},

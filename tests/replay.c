@@ -1,8 +1,10 @@
-/* Replays case files through the C exports: replay FILE .. */
+/* Replays case files through the C exports: replay [-b] FILE ..
+   -b: the sections with the most significant byte of every word first, where the case tells where its words are. */
 #include "casefile.h"
 #include "session.h"
 
 static uint32_t cases, calls, differ;
+static int big_endian;
 
 /* Call i of a case. */
 static struct call case_call(const struct one_case *c, uint32_t i)
@@ -62,8 +64,18 @@ static void *replay_files(void *argument)
 		struct cases f = open_cases(*path);
 		struct one_case c;
 
-		while (next_case(&f, &c, *path))
-			replay(*path, &c);
+		while (next_case(&f, &c, *path)) {
+			uint8_t *section = NULL;
+
+			if (big_endian) {
+				section = need(malloc(c.section_len + 1));
+				memcpy(section, c.section, c.section_len);
+				c.section = section;
+			}
+			if (!big_endian || turn(section, c.section_len))
+				replay(*path, &c);
+			free(section);
+		}
 		free(f.bytes);
 	}
 	printf("%u cases, %u calls, %u differ\n", (unsigned)cases, (unsigned)calls, (unsigned)differ);
@@ -72,9 +84,10 @@ static void *replay_files(void *argument)
 
 int main(int argc, char **argv)
 {
-	if (argc < 2) {
-		fputs("usage: replay FILE ..\n", stderr);
+	big_endian = argc > 1 && !strcmp(argv[1], "-b");
+	if (argc < 2 + big_endian) {
+		fputs("usage: replay [-b] FILE ..\n", stderr);
 		return 2;
 	}
-	return on_documented_stack(replay_files, argv + 1);
+	return on_documented_stack(replay_files, argv + 1 + big_endian);
 }

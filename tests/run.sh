@@ -37,6 +37,7 @@ say() { # LABEL COMMAND ..
 }
 for file in "${files[@]}"; do
 	say "$file" "$out/replay" "$file"
+	say "$file, most significant byte first" "$out/replay" -b "$file"
 done
 "$out/limits"
 "$out/lists" "${files[@]}"

@@ -16,7 +16,7 @@ static const char help[] =
 	"usage: btfheader [-p 4|8] [-u] [FILE [ID ..]]\n"
 	"\n"
 	"Prints the C header of a type table: of all types, or of the types with the\n"
-	"ids given and what they need. FILE is a raw .BTF section, little-endian,\n"
+	"ids given and what they need. FILE is a raw .BTF section of either byte order,\n"
 	"such as /sys/kernel/btf/vmlinux; without it, or with -, standard input.\n"
 	"\n"
 	"  -p, --pointer-size 4|8   size of a pointer on the table's machine (8)\n"
@@ -32,7 +32,7 @@ static const char *words_for(uint32_t number)
 	switch (number) {
 	case BTFDUMP_POINTER_SIZE: return "the pointer size must be 4 or 8";
 	case BTFDUMP_SECTION_TOO_LONG: return "the section is longer than 16,777,216 bytes";
-	case BTFDUMP_HEADER: return "this is no .BTF section of version 1, little-endian, or it is cut short";
+	case BTFDUMP_HEADER: return "this is no .BTF section of version 1, or it is cut short";
 	case BTFDUMP_STRINGS: return "the string area is empty, does not start and end in 0, or is not ASCII";
 	case BTFDUMP_RECORD: return "a type record is malformed, or there are more than 262,144";
 	case BTFDUMP_REFERENCE: return "a type refers past the table, or to a function, variable, section or tag";

@@ -22,26 +22,28 @@ HERE = os.path.dirname(os.path.dirname(os.path.abspath(__file__)))
 CRATE = os.path.join(HERE, "crates/vectors")
 WIDTH = 150     # columns
 DEEP = " " * 4
+BIG = "-big-endian"     # the end of the name of a section that is another one turned
 
 
 # the section
 
 def read_types(section):
     """The types, void first, each as antt writes it; and the largest offset of a member."""
-    magic, version, flags, header, type_off, type_len, str_off, str_len = struct.unpack_from("<HBBIIIII", section)
+    order = ">" if section[:2] == b"\xeb\x9f" else "<"
+    magic, version, flags, header, type_off, type_len, str_off, str_len = struct.unpack_from(order + "HBBIIIII", section)
     assert magic == 0xEB9F and version == 1
     at, end, strings = header + type_off, header + type_off + type_len, header + str_off
     types, far = ["Void"], 0
 
     def word(place):
-        return struct.unpack_from("<I", section, place)[0]
+        return struct.unpack_from(order + "I", section, place)[0]
 
     def name(off):
         start = strings + off
         return quoted(section[start:].split(b"\0")[0])
 
     while at < end:
-        off, info, third = struct.unpack_from("<III", section, at)
+        off, info, third = struct.unpack_from(order + "III", section, at)
         count, kind, flag = info % 65536, info >> 24 & 31, boolean(info >> 31)
         at += 12
         if kind == 1:                                   # INT
@@ -106,6 +108,16 @@ def read_types(section):
 
 
 # antt
+
+def turned(section):
+    """The section with the most significant byte of every word first."""
+    header, type_off, type_len = struct.unpack_from("<III", section, 4)
+    out = bytearray(section)
+    out[:2] = section[1::-1]
+    for at in list(range(4, 24, 4)) + list(range(header + type_off, header + type_off + type_len, 4)):
+        out[at:at + 4] = section[at:at + 4][::-1]
+    return bytes(out)
+
 
 def boolean(b):
     return "true" if b else "false"
@@ -181,6 +193,9 @@ def programs():
         if 1 <= number <= 9:
             continue
         section = contents(path)
+        if name.endswith(BIG):
+            twin = path[:-len(BIG + ".btf")]
+            assert section == turned(contents(twin + ".btf")) and text == contents(twin + ".out"), name
         types, far = read_types(section)
         if name in LIMITS:
             yield name, [number], (8, 0), f"gives  -- {name}\n{DEEP}(program (listed 8 false\n{DEEP}{filled(types)}))\n{DEEP}{quoted(text)}"
@@ -306,7 +321,7 @@ use mathlib.Core.List.{List, [], _∷_}
 use lib.ListN.{length}
 use lib.Dec.{ltb, leb}
 use Rattle.lent.specs.Text.{ascii}
-use Rattle.lent.specs.Words.{wordAt}
+use Rattle.records.specs.Section.{bigEndian, wordOf}
 use Rattle.rules.specs.Types.{BtfType, Void}
 use Rattle.rules.specs.Listed.{listed}
 use Rattle.demand.specs.Session.{program}
@@ -342,11 +357,11 @@ typesFrom b s end (suc n) at =
 -- struct btf_header: hdr_len at 4, type_off at 8, type_len at 12, str_off at 16
 unfoldable pub typesOf : List ℕ → List BtfType
 typesOf s = Void ∷ typesFrom
-    (record { «ptr_sz» = 8; «union_as_struct» = false; types = 0; strs = wordAt s 4 + wordAt s 16 })
+    (record { «ptr_sz» = 8; «union_as_struct» = false; «big_endian» = bigEndian s; types = 0; strs = wordOf s 4 + wordOf s 16 })
     s
-    (wordAt s 4 + wordAt s 8 + wordAt s 12)
+    (wordOf s 4 + wordOf s 8 + wordOf s 12)
     (length s)
-    (wordAt s 4 + wordAt s 8)
+    (wordOf s 4 + wordOf s 8)
 
 -- what the rules read and print, and what is to be read and was printed
 pub record Printed : Type 0 where
@@ -383,7 +398,8 @@ allWanted (p ∷ ps) = p .wanted ∷ allWanted ps
 
 READS = """-- Written by tools/vectors.py. By computation, the bytes of the sections of specs/{module} are read as their types.
 use mathlib.Core.Path.{{_≡_, refl}}
-use Rattle.lent.specs.Words.{{wordAt}}
+use Rattle.lent.specs.Words.{{wordAt, wordAtBig, wordIn}}
+use Rattle.records.specs.Section.{{bigEndian, wordOf}}
 use Rattle.btf.specs.Names.{{upToZero, nameAt}}
 use Rattle.btf.specs.Records.{{sectionWord, recordAt, memberOf, extraOf}}
 use Rattle.btf.specs.Table.{{from, paramOf, valueOf, value64Of, typeOf}}
@@ -391,7 +407,7 @@ use Rattle.vectors.specs.Reading.{{pairs, typesFrom, typesOf, allRead, a
 use Rattle.vectors.specs.{module}.{{{name}}}
 
 pub {name}-read : allRead {name} ≡ allTypes {name}
-unfolding wordAt upToZero nameAt sectionWord recordAt memberOf extraOf from paramOf valueOf value64Of typeOf pairs typesFrom typesOf
+unfolding bigEndian wordOf wordIn wordAtBig wordAt upToZero nameAt sectionWord recordAt memberOf extraOf from paramOf valueOf value64Of typeOf pairs typesFrom typesOf
 {name}-read = refl
 """
 

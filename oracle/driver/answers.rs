@@ -115,7 +115,7 @@ fn collect(seed: u64) -> File {
     let mut refusals: HashMap<u32, u32> = HashMap::new();
     for index in 0..SECTIONS {
         let mut r = Random::new(seed, index);
-        let s = damage::section(&mut r);
+        let s = damage::section(&mut r, false);
         let p = plain_plan(plan::plan(&mut r, 1, 0));
         let mut few = |n: u32| {
             let held = refusals.entry(n).or_insert(0);

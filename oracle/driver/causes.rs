@@ -24,9 +24,10 @@ struct Type {
     entries: Vec<u64>,
 }
 
-fn word(s: &[u8], p: u64) -> u64 {
+fn word(big: bool, s: &[u8], p: u64) -> u64 {
     let p = p as usize;
-    s[p] as u64 + 256 * s[p + 1] as u64 + 65536 * s[p + 2] as u64 + 16777216 * s[p + 3] as u64
+    let (a, b, c, d) = if big { (s[p + 3], s[p + 2], s[p + 1], s[p]) } else { (s[p], s[p + 1], s[p + 2], s[p + 3]) };
+    a as u64 + 256 * b as u64 + 65536 * c as u64 + 16777216 * d as u64
 }
 
 const FOLLOW: [u64; 6] = [2, 8, 9, 10, 11, 18];
@@ -57,11 +58,16 @@ pub fn opening(section: &[u8], pointer_size: u32, work_bytes: u64) -> Result<Sou
     if len > 16_777_216 {
         return Err(2);
     }
-    if len < 24 || section[0] != 0x9f || section[1] != 0xeb || section[2] != 1 {
+    if len < 24 || section[2] != 1 {
         return Err(3);
     }
-    let (h, to, tl) = (word(section, 4), word(section, 8), word(section, 12));
-    let (so, sl) = (word(section, 16), word(section, 20));
+    let big = match (section[0], section[1]) {
+        (0x9f, 0xeb) => false,
+        (0xeb, 0x9f) => true,
+        _ => return Err(3),
+    };
+    let (h, to, tl) = (word(big, section, 4), word(big, section, 8), word(big, section, 12));
+    let (so, sl) = (word(big, section, 16), word(big, section, 20));
     if h < 24 || h > len || h + to + tl > len || h + so + sl > len {
         return Err(3);
     }
@@ -69,7 +75,7 @@ pub fn opening(section: &[u8], pointer_size: u32, work_bytes: u64) -> Result<Sou
     if strings.is_empty() || strings[0] != 0 || strings[strings.len() - 1] != 0 || strings.iter().any(|&b| b > 127) {
         return Err(4);
     }
-    let types = records(&section[(h + to) as usize..(h + to + tl) as usize], sl).ok_or(5u32)?;
+    let types = records(big, &section[(h + to) as usize..(h + to + tl) as usize], sl).ok_or(5u32)?;
     let count = types.len() as u64;
     let bad = |id: u64| id >= count || [12, 14, 15, 17].contains(&types[id as usize].kind);
     if types.iter().any(|t| t.followed().iter().any(|&id| bad(id))) {
@@ -97,7 +103,7 @@ pub fn opening(section: &[u8], pointer_size: u32, work_bytes: u64) -> Result<Sou
 }
 
 /// The records, void first, or nothing for cause 5.
-fn records(area: &[u8], string_len: u64) -> Option<Vec<Type>> {
+fn records(big: bool, area: &[u8], string_len: u64) -> Option<Vec<Type>> {
     let len = area.len() as u64;
     let mut types = vec![Type { kind: 0, third: 0, element: 0, entries: vec![] }];
     let mut p = 0;
@@ -105,7 +111,7 @@ fn records(area: &[u8], string_len: u64) -> Option<Vec<Type>> {
         if p + 12 > len {
             return None;
         }
-        let (name, info, third) = (word(area, p), word(area, p + 4), word(area, p + 8));
+        let (name, info, third) = (word(big, area, p), word(big, area, p + 4), word(big, area, p + 8));
         let (kind, count) = (info / 16777216 % 32, info % 65536);
         if kind == 0 || kind > 19 || info / 65536 % 256 > 0 || info / 536870912 % 4 > 0 || name >= string_len {
             return None;
@@ -123,7 +129,7 @@ fn records(area: &[u8], string_len: u64) -> Option<Vec<Type>> {
         }
         let mut t = Type { kind, third, element: 0, entries: vec![] };
         if kind == 3 {
-            t.element = word(area, p);
+            t.element = word(big, area, p);
         }
         for i in 0..count {
             let at = match kind {
@@ -131,10 +137,10 @@ fn records(area: &[u8], string_len: u64) -> Option<Vec<Type>> {
                 6 | 13 => p + 8 * i,
                 _ => break,
             };
-            if word(area, at) >= string_len {
+            if word(big, area, at) >= string_len {
                 return None;
             }
-            t.entries.push(word(area, at + 4));
+            t.entries.push(word(big, area, at + 4));
         }
         types.push(t);
         if types.len() > 262_145 {

@@ -10,7 +10,7 @@ use crate::random::Random;
 use crate::lent::Memory;
 use crate::session::{self, Met};
 use crate::shrink;
-use crate::table::Table;
+use crate::table::{is_big, Table};
 use std::sync::atomic::{AtomicU64, Ordering::Relaxed};
 
 const OUT: &str = "build/oracle";
@@ -27,6 +27,8 @@ const OUTSIDE: usize = 7;
 const TEXT_BYTES: usize = 8;
 const DIFFERENCES: usize = 9;
 const OPENINGS: usize = 10;
+/// opened sections with their most significant bytes first
+const BIG: usize = 11;
 const OPENING_NUMBERS: usize = 16;
 const REQUEST_NUMBERS: usize = 32;
 const DEEPEST: usize = 64;
@@ -74,6 +76,7 @@ fn section(c: Counters, memory: &mut Memory, s: &[u8], r: &mut Random, tell: boo
         session::refused(memory, s, &Plan { pointer_size: 8, ..p.clone() }, 9, short).map_err(|e| (e, None))?;
     }
     c[OPENED].fetch_add(1, Relaxed);
+    c[BIG].fetch_add(is_big(s) as u64, Relaxed);
     if !domain::rust_opens(s) {
         c[OUTSIDE].fetch_add(1, Relaxed);
     }
@@ -146,6 +149,11 @@ fn tell_difference(memory: &mut Memory, name: &str, s: &[u8], what: (String, Opt
     write_difference(name, &small, &text);
 }
 
+/// One section of four has its most significant bytes first.
+fn made(r: &mut Random, index: u64) -> Vec<u8> {
+    damage::section(r, index % 4 == 3)
+}
+
 pub fn generated(sections: u64, seed: u64) -> u64 {
     let c = host::shared_counters(COUNTERS);
     let mut next = 0;
@@ -157,7 +165,7 @@ pub fn generated(sections: u64, seed: u64) -> u64 {
                 c[CURRENT].store(index, Relaxed);
                 host::watch(120);
                 let mut r = Random::new(seed, index);
-                let s = damage::section(&mut r);
+                let s = made(&mut r, index);
                 if let Err(what) = section(c, &mut memory, &s, &mut r, false) {
                     if c[DIFFERENCES].fetch_add(1, Relaxed) < 20 {
                         tell_difference(&mut memory, &format!("{seed}-{index}"), &s, what);
@@ -170,7 +178,7 @@ pub fn generated(sections: u64, seed: u64) -> u64 {
         next = end;
         if signal != 0 {
             let index = c[CURRENT].load(Relaxed);
-            let s = damage::section(&mut Random::new(seed, index));
+            let s = made(&mut Random::new(seed, index), index);
             c[DIFFERENCES].fetch_add(1, Relaxed);
             write_difference(&format!("{seed}-{index}"), &s, &format!("ended by signal {signal}\nsection {}\n", hex(&s)));
             next = index + 1;
@@ -184,7 +192,7 @@ pub fn one(seed: u64, index: u64) -> u64 {
     let c = host::shared_counters(COUNTERS);
     let signal = host::in_child(move || {
         let mut r = Random::new(seed, index);
-        let s = damage::section(&mut r);
+        let s = made(&mut r, index);
         println!("section {}", hex(&s));
         if let Err(what) = section(c, &mut memory(), &s, &mut r, true) {
             c[DIFFERENCES].fetch_add(1, Relaxed);
@@ -245,7 +253,7 @@ fn summary(c: Counters, sections: u64, seed: u64) {
         println!("(the Rust alone: original against counted copy)");
     }
     println!("sections {sections}, seed {seed}");
-    println!("runs {}, opened {}, of these gave text {}", get(SECTIONS), get(OPENED), get(WITH_TEXT));
+    println!("runs {}, opened {}, of these gave text {}, most significant byte first {}", get(SECTIONS), get(OPENED), get(WITH_TEXT), get(BIG));
     println!("opened here, not by the Rust as they are (compared with encodings, linkages, layout made plain): {}", get(OUTSIDE));
     print!("openings {}:", get(OPENINGS));
     for n in 0..10 {

@@ -19,8 +19,8 @@ pub fn frame(r: &mut Random, t: &mut Table) {
         2 => {
             // a kind layout area, mostly one that the Rust cannot read
             let mut words = vec![];
-            words.extend_from_slice(&r.pick(&[0u32, 4, 0xffff_ffff, 100]).to_le_bytes());
-            words.extend_from_slice(&r.pick(&[0u32, 1, 4, 8, 0x7fff_fffc]).to_le_bytes());
+            words.extend_from_slice(&to_bytes(r.pick(&[0u32, 4, 0xffff_ffff, 100]), f.big));
+            words.extend_from_slice(&to_bytes(r.pick(&[0u32, 1, 4, 8, 0x7fff_fffc]), f.big));
             words.resize(r.pick(&[8, 9, 16]), 1);
             words
         }
@@ -88,7 +88,8 @@ pub fn bytes(r: &mut Random, s: &mut Vec<u8>) {
             return;
         }
         let len = s.len() as u32;
-        let header = u32::from_le_bytes(s.get(4..8).map_or([0; 4], |b| b.try_into().unwrap()));
+        let big = is_big(s);
+        let header = from_bytes(s.get(4..8).map_or([0; 4], |b| b.try_into().unwrap()), big);
         match r.below(12) {
             0..=2 => {
                 let at = r.below(len) as usize;
@@ -99,7 +100,7 @@ pub fn bytes(r: &mut Random, s: &mut Vec<u8>) {
                 let at = (header.min(len) + 4 * r.below(len / 4 + 1)) as usize;
                 if at + 4 <= s.len() {
                     let w: u32 = r.pick(&[0, 1, 2, 5, 0x0400_0001, 0x8000_0000, 0xffff_ffff, 0x0d00_0002, 0x0e00_0000, 16]);
-                    s[at..at + 4].copy_from_slice(&w.to_le_bytes());
+                    s[at..at + 4].copy_from_slice(&to_bytes(w, big));
                 }
             }
             5 => s.truncate(r.below(len) as usize),
@@ -112,14 +113,14 @@ pub fn bytes(r: &mut Random, s: &mut Vec<u8>) {
                 // a word of the header, by little
                 let at = 4 * r.from(1, 5) as usize;
                 if at + 4 <= s.len() {
-                    let w = u32::from_le_bytes(s[at..at + 4].try_into().unwrap());
+                    let w = from_bytes(s[at..at + 4].try_into().unwrap(), big);
                     let w = match r.below(4) {
                         0 => w.wrapping_add(r.from(1, 4)),
                         1 => w.wrapping_sub(r.from(1, 4)),
                         2 => r.pick(&[0, 23, 24, 25, 32, len, len - 24.min(len), u32::MAX, u32::MAX - 24]),
                         _ => w ^ 1 << r.below(32),
                     };
-                    s[at..at + 4].copy_from_slice(&w.to_le_bytes());
+                    s[at..at + 4].copy_from_slice(&to_bytes(w, big));
                 }
             }
             10 => {
@@ -132,9 +133,10 @@ pub fn bytes(r: &mut Random, s: &mut Vec<u8>) {
     }
 }
 
-/// A section by chance; three of four are sound.
-pub fn section(r: &mut Random) -> Vec<u8> {
+/// A section by chance, in either order of its bytes; three of four are sound.
+pub fn section(r: &mut Random, big: bool) -> Vec<u8> {
     let mut t = crate::shapes::table(r);
+    t.frame.big = big;
     frame(r, &mut t);
     let damage = r.below(100);
     if damage < 10 {

@@ -1,8 +1,10 @@
 //! Which sound sections the Rust opens, and what is given to it instead of the
 //! others.
 
+use crate::table::{from_bytes, is_big};
+
 fn word(s: &[u8], p: usize) -> u64 {
-    u32::from_le_bytes(s[p..p + 4].try_into().unwrap()) as u64
+    from_bytes(s[p..p + 4].try_into().unwrap(), is_big(s)) as u64
 }
 
 /// bytes after the first twelve of a record
@@ -63,7 +65,7 @@ pub fn for_the_rust(section: &[u8]) -> Option<Vec<u8>> {
     }
     for (kind, at) in records(section) {
         match kind {
-            1 => s[at + 3] &= 0xf0,
+            1 => s[if is_big(section) { at } else { at + 3 }] &= 0xf0,
             14 => s[at..at + 4].fill(0),
             _ => {}
         }

@@ -1,5 +1,6 @@
 //! The Rust original behind one function: open a section, then ask for ids.
 //! What it prints is captured, what it panics with is told apart.
+use crate::table::{is_big, to_bytes};
 use std::cell::RefCell;
 use std::panic::{catch_unwind, AssertUnwindSafe};
 use std::sync::{Arc, Mutex};
@@ -65,29 +66,31 @@ fn panic_end(payload: Box<dyn std::any::Any + Send>) -> End {
     }
 }
 
-/// A little-endian 32-bit ELF file with the section as its `.BTF`: through it
-/// the Rust finds pointer size 4.
+/// A 32-bit ELF file with the section as its `.BTF`, in the section's order of
+/// bytes: through it the Rust finds pointer size 4.
 pub fn elf32(section: &[u8]) -> Vec<u8> {
+    let big = is_big(section);
+    let half = |h: u16| if big { h.to_be_bytes() } else { h.to_le_bytes() };
     let names = b"\0.BTF\0.shstrtab\0";
     let btf_at = 52u32;
     let names_at = btf_at + section.len() as u32;
     let headers_at = (names_at + names.len() as u32 + 3) & !3;
-    let mut out = vec![0x7f, b'E', b'L', b'F', 1, 1, 1, 0, 0, 0, 0, 0, 0, 0, 0, 0];
-    for half in [1u16, 3] {
-        out.extend_from_slice(&half.to_le_bytes()); // relocatable file, 386
+    let mut out = vec![0x7f, b'E', b'L', b'F', 1, 1 + big as u8, 1, 0, 0, 0, 0, 0, 0, 0, 0, 0];
+    for h in [1, if big { 8 } else { 3 }] {
+        out.extend_from_slice(&half(h)); // relocatable file, MIPS or 386
     }
     for w in [1, 0, 0, headers_at, 0] {
-        out.extend_from_slice(&w.to_le_bytes()); // version, entry, no program headers, section headers, flags
+        out.extend_from_slice(&to_bytes(w, big)); // version, entry, no program headers, section headers, flags
     }
-    for half in [52u16, 0, 0, 40, 3, 2] {
-        out.extend_from_slice(&half.to_le_bytes());
+    for h in [52, 0, 0, 40, 3, 2] {
+        out.extend_from_slice(&half(h));
     }
     out.extend_from_slice(section);
     out.extend_from_slice(names);
     out.resize(headers_at as usize, 0);
     let mut header = |name: u32, kind: u32, at: u32, len: u32| {
         for w in [name, kind, 0, 0, at, len, 0, 0, 1, 0] {
-            out.extend_from_slice(&w.to_le_bytes());
+            out.extend_from_slice(&to_bytes(w, big));
         }
     };
     header(0, 0, 0, 0);

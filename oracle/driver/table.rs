@@ -72,9 +72,25 @@ impl Rec {
     }
 }
 
+/// Whether the magic says that words have their most significant byte first.
+pub fn is_big(section: &[u8]) -> bool {
+    section.starts_with(&[0xeb, 0x9f])
+}
+
+/// The bytes of a word in either order.
+pub fn to_bytes(w: u32, big: bool) -> [u8; 4] {
+    if big { w.to_be_bytes() } else { w.to_le_bytes() }
+}
+
+pub fn from_bytes(b: [u8; 4], big: bool) -> u32 {
+    if big { u32::from_be_bytes(b) } else { u32::from_le_bytes(b) }
+}
+
 /// How the two areas lie in the section.
 #[derive(Clone, Debug)]
 pub struct Frame {
+    /// most significant byte first
+    pub big: bool,
     pub flags: u8,
     /// bytes of the header past its 24th
     pub header_tail: Vec<u8>,
@@ -86,7 +102,7 @@ pub struct Frame {
 
 impl Frame {
     pub fn plain() -> Frame {
-        Frame { flags: 0, header_tail: vec![], gap_before_types: 0, gap_before_strings: 0, strings_first: false, trailing: 0 }
+        Frame { big: false, flags: 0, header_tail: vec![], gap_before_types: 0, gap_before_strings: 0, strings_first: false, trailing: 0 }
     }
 }
 
@@ -143,7 +159,7 @@ impl Table {
             };
             let info = count | r.kind << 24 | (r.flag as u32) << 31;
             for w in [r.name, info, r.third].iter().chain(&r.body) {
-                types.extend_from_slice(&w.to_le_bytes());
+                types.extend_from_slice(&to_bytes(*w, self.frame.big));
             }
         }
         let f = &self.frame;
@@ -158,9 +174,9 @@ impl Table {
             end = string_at + self.strings.len() as u32;
         }
         let header = 24 + f.header_tail.len();
-        let mut out = vec![0x9f, 0xeb, 1, f.flags];
+        let mut out = if f.big { vec![0xeb, 0x9f, 1, f.flags] } else { vec![0x9f, 0xeb, 1, f.flags] };
         for w in [header as u32, type_at, types.len() as u32, string_at, self.strings.len() as u32] {
-            out.extend_from_slice(&w.to_le_bytes());
+            out.extend_from_slice(&to_bytes(w, f.big));
         }
         out.extend_from_slice(&f.header_tail);
         out.resize(header + (end + f.trailing) as usize, 0xa5);
@@ -171,9 +187,11 @@ impl Table {
 
     /// the table of a sound section with a plain frame
     pub fn read(section: &[u8]) -> Table {
-        let word = |p: usize| u32::from_le_bytes(section[p..p + 4].try_into().unwrap());
+        let big = is_big(section);
+        let word = |p: usize| from_bytes(section[p..p + 4].try_into().unwrap(), big);
         let (h, to, tl, so, sl) = (word(4), word(8), word(12), word(16), word(20));
         let mut table = Table::new();
+        table.frame.big = big;
         table.strings = section[(h + so) as usize..][..sl as usize].to_vec();
         let (mut p, end) = ((h + to) as usize, (h + to + tl) as usize);
         while p < end {

@@ -10,12 +10,12 @@ use native.Mathlib.Numerals.{add-one}
 use lib.Dec.{leb}
 use lib.ListN.{length, getD, List·getD-eq-default}
 use borrow.Author.Tests.{le-leb, lt-leb}
-use Rattle.lent.specs.Words.{wordAt}
+use Rattle.lent.specs.Words.{wordIn}
 use Rattle.lent.proofs.Laws.{le-or-lt}
 use Rattle.records.specs.Documentation.{Member, Described, described}
 use Rattle.records.specs.Reading.{Bytes, decodeAll, Kind, none, kindTable, kind, shape, known}
 use Rattle.records.specs.Places.{memberP, paramP, enumeratorP, enumerator64P, tabulate, typeP, placeFrom, kindP, soundP}
-use Rattle.records.specs.Section.{typesAt, typeLen, typeArea, headerSound, typesSound}
+use Rattle.records.specs.Section.{bigEndian, wordOf, typesAt, typeLen, typeArea, headerSound, typesSound}
 use Rattle.records.proofs.Types.{and-left, and-right}
 use Rattle.records.proofs.Fields as F
 use Rattle.records.proofs.Claims as Claims
@@ -142,10 +142,10 @@ known-range =
     (λ h. (omega arith, omega arith))
     (λ k m h. absurd (false-true (sym (ap (λ (n : Kind). known (shape n)) (List·getD-eq-default kindTable none m)) ∙ h)))
 
--- every word of a section is read by `sectionWord`
-words-same : (b : Btf) (s : List ℕ) → sectionWord b s ≡ wordAt s
-unfolding sectionWord
-words-same b s = refl
+-- every word of a section is read by `sectionWord`; where the table has the section's order, in that
+pub words-same : (b : Btf) (s : List ℕ) → b .«big_endian» ≡ bigEndian s → sectionWord b s ≡ wordOf s
+unfolding sectionWord wordOf
+words-same b s e = ap (λ (big : Bool). wordIn big s) e
 
 sound-known : (w : ℕ → ℕ) (len p : ℕ) → soundP w len p ≡ true → known (shape (kind (kindOf (w (p + 4))))) ≡ true
 unfolding soundP kindP
@@ -153,15 +153,16 @@ sound-known w len p h = and-left _ _ (and-right (leb (p + 12) len) _ h)
 
 -- Linux documentation, 2.2: for a section that passes causes 3 and 5, what the code reads at the place of record i is type i of the one list of
 -- described types whose layout is the section's type area (Claims of crate records), field by field, as the Rust keeps it.
-pub section-documented : (b : Btf) (s : List ℕ) → Bytes s → headerSound s ≡ true → typesSound s ≡ true → (i : ℕ) (d : Described) → i < length (decodeAll (typeArea s))
-    → typeOf b s (recordAt b s (placeFrom (wordAt s) (typesAt s) i)) ≡ kept b s (getD (decodeAll (typeArea s)) i d)
-unfolding sectionWord
-section-documented b s hb hh ht i d l =
-    reads-documented b s p (kindOf (wordAt s (p + 4))) refl (range .0) (range .1)
+pub section-documented : (b : Btf) (s : List ℕ) → b .«big_endian» ≡ bigEndian s → Bytes s → headerSound s ≡ true → typesSound s ≡ true → (i : ℕ) (d : Described)
+    → i < length (decodeAll (bigEndian s) (typeArea s))
+    → typeOf b s (recordAt b s (placeFrom (wordOf s) (typesAt s) i)) ≡ kept b s (getD (decodeAll (bigEndian s) (typeArea s)) i d)
+section-documented b s o hb hh ht i d l =
+    reads-documented b s p (kindOf (sectionWord b s (p + 4))) refl (range .0) (range .1)
+    ∙ ap (λ (w : ℕ → ℕ). kept b s (typeP w p)) (words-same b s o)
     ∙ ap (kept b s) (Claims.section-fields s hb hh ht .each i d l)
   where
     p : ℕ
-    p = placeFrom (wordAt s) (typesAt s) i
+    p = placeFrom (wordOf s) (typesAt s) i
 
-    range : (1 ≤ kindOf (wordAt s (p + 4))) × (kindOf (wordAt s (p + 4)) < 20)
-    range = known-range (kindOf (wordAt s (p + 4))) (sound-known (wordAt s) (typesAt s + typeLen s) p (Claims.section-sound-at s hb hh ht i l .0))
+    range : (1 ≤ kindOf (sectionWord b s (p + 4))) × (kindOf (sectionWord b s (p + 4)) < 20)
+    range = known-range (kindOf (sectionWord b s (p + 4))) (sound-known (sectionWord b s) (typesAt s + typeLen s) p (rw (words-same b s o) (Claims.section-sound-at s hb hh ht i l .0)))

@@ -5,7 +5,7 @@ use mathlib.Core.List.{List}
 use mathlib.Core.Bool.{true, false}
 use borrow.Author.Tests.{lt-ltb, le-ltb, le-leb, lt-leb, ne-eqb}
 use Rattle.lent.specs.Words.{getWord, putWord, oneMore}
-use Rattle.lent.specs.Three.{threeAt}
+use Rattle.lent.specs.Three.{threeIn}
 use Rattle.lent.specs.declared.words.Three.{Three}
 use Rattle.btf.specs.declared.types.Btf.{Btf}
 use Rattle.btf.specs.declared.types.BtfType.{BtfType as Record}
@@ -54,8 +54,8 @@ module _ (types : ℕ) (w : List ℕ) (h p class at n : ℕ) (ep : p ≡ placeOf
 
 -- ---- records
 module _ (b : Btf) (s : List ℕ) where
-  pub three-is : (at : ℕ) → threeAt s at ≡ sectionThree b s at
-  unfolding threeAt sectionThree sectionWord
+  pub three-is : (at : ℕ) → threeIn (b .«big_endian») s at ≡ sectionThree b s at
+  unfolding threeIn sectionThree sectionWord
   three-is at = refl
 
   pub record-is : (at : ℕ) (w : Three) → w ≡ sectionThree b s at → record { at = at; «name_off» = w .first; info = w .second; «type_id» = w .third } ≡ recordAt b s at

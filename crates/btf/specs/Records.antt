@@ -4,7 +4,7 @@ use mathlib.Core.Bool.{Bool, true, false}
 use mathlib.Core.List.{List, [], _∷_}
 use lib.Dec.{leb, eqb}
 use lib.ListN.{getD}
-use Rattle.lent.specs.Words.{wordAt}
+use Rattle.lent.specs.Words.{wordIn}
 use Rattle.lent.specs.declared.words.Three.{Three}
 use Rattle.btf.specs.declared.types.Btf.{Btf}
 use Rattle.btf.specs.declared.types.BtfType.{BtfType}
@@ -14,9 +14,9 @@ use Rattle.btf.specs.declared.types.Extra.{Extra}
 use Rattle.btf.specs.declared.types.Extra.the-variants.{Bytes, Refused}
 use Rattle.btf.specs.Cells.{getField}
 
--- __u32 at a place of the section
+-- __u32 at a place of the section, the most significant byte first where the section has that order
 unfoldable pub sectionWord : Btf → List ℕ → ℕ → ℕ
-sectionWord b s at = wordAt s at
+sectionWord b s at = wordIn (b .«big_endian») s at
 
 -- three of them in a row
 unfoldable pub sectionThree : Btf → List ℕ → ℕ → Three

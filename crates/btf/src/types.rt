@@ -2,8 +2,8 @@
 use crate::cells::get_field;
 use crate::strings::is_empty;
 use lent::Three;
-use lent::three_at;
-use lent::word_at;
+use lent::three_in;
+use lent::word_in;
 ghost use mathlib.Core.Path.{_≡_};
 ghost use Prim.Native.Nat.{_+_, _*_, _%_};
 ghost use lib.Dec.{eqb};
@@ -11,11 +11,12 @@ ghost use Rattle.btf.specs.Records.{sectionWord, sectionThree, vlenOf, k
 ghost use Rattle.rules.specs.Types.{isNamed};
 ghost use Rattle.btf.specs.Table.{extraWord, nelemsWord, typeOf};
 
-// A section that was opened: the settings chosen then, the count of types, and where its string area starts. (Sixteen bytes,
-// since it is handed on with every call.)
+// A section that was opened: the settings chosen then, the order of its bytes, the count of types, and where its string area
+// starts. (Sixteen bytes, since it is handed on with every call.)
 pub struct Btf {
     pub ptr_sz: u32,
     pub union_as_struct: bool,
+    pub big_endian: bool,
     pub types: u32,
     pub strs: u32,
 }
@@ -47,18 +48,18 @@ pub enum Extra {
     Refused,
 }
 
-// The word of the section at a place. Every word of a section is read by this function or by `three`.
+// The word of the section at a place, in the section's order. Every word past the header is read by this function or by `three`.
 pub fn word(b: Btf, section: &[u8], at: usize) -> u32
     ensures { λ r. ⌜ r ≡ sectionWord b (now (section .entry)) at ⌝ }
 {
-    word_at(section, at)
+    word_in(b.big_endian, section, at)
 }
 
 // Three words of the section from a place on.
 fn three(b: Btf, section: &[u8], at: usize) -> Three
     ensures { λ r. ⌜ r ≡ sectionThree b (now (section .entry)) at ⌝ }
 {
-    three_at(section, at)
+    three_in(b.big_endian, section, at)
 }
 
 // btf_type.info: bits 0-15 vlen, 24-28 kind, 31 kind_flag.

@@ -24,7 +24,8 @@ use Rattle.opening.specs.Left.{isTagOn, tagsOn}
 use Rattle.opening.specs.Opened.{workOf}
 use Rattle.opening.specs.Causes.{openingNumber}
 use Rattle.opening.proofs.Index.{types-few, some-type, index-place, index-kind}
-use Rattle.opening.proofs.ReadBack.{header-ok, types-ok, types-are, record-back, tags-are}
+use Rattle.opening.proofs.ReadBack.{header-ok, types-ok, order-ok, types-are, record-back, tags-are}
+use Rattle.opening.proofs.Sections.{kind-is}
 use Rattle.claims.specs.Table.{headerOf, openedTable, isTagFor, tagIds}
 
 pub void-type : (b : Btf) (s : List ℕ) → typeOf b s voidRecord ≡ Void
@@ -91,7 +92,7 @@ module _ (p modes : ℕ) (s : List ℕ) (n : ℕ) (ok : openingNumber p s n ≡ 
   unfolding btfOf recordPlace typesOf
   type-described y id a l d =
       ap (typeOf b s) (record-back p modes s n ok id a l)
-      ∙ section-documented b s y (header-ok p modes s n ok) (types-ok p modes s n ok) (id - 1) d (omega arith)
+      ∙ section-documented b s (order-ok p modes s n ok) y (header-ok p modes s n ok) (types-ok p modes s n ok) (id - 1) d (omega arith)
 
   -- id 0, and every id from the count on, is void
   pub type-zero : openedTable p modes s n .type-by-id 0 ≡ Void
@@ -106,10 +107,10 @@ module _ (p modes : ℕ) (s : List ℕ) (n : ℕ) (ok : openingNumber p s n ≡ 
 
   -- the tags of a type
   one-tag : (id x : ℕ) → 1 ≤ x → x < typesOf s → isTagOn b s id (getD (indexOf s) x 0) ≡ isTagFor id (openedTable p modes s n .type-by-id x)
-  unfolding isTagOn btfOf recordKind kindP recordAt sectionWord
+  unfolding isTagOn btfOf kindP recordAt
   one-tag id x a l =
       (λ i. elim (eqb (index-kind s few x a l i) 17) as (λ z. Bool) [ true ↦ eqb (sectionWord b s (index-place s few x a l i + 8)) id | false ↦ false ])
-      ∙ tag-says b s (recordAt b s (recordPlace s (x - 1))) id (recordKind s (x - 1)) refl
+      ∙ tag-says b s (recordAt b s (recordPlace s (x - 1))) id (recordKind s (x - 1)) (kind-is b s (order-ok p modes s n ok) (x - 1))
       ∙ ap (λ (t : Record). isTagFor id (typeOf b s t)) (sym (record-back p modes s n ok x a l))
 
   tags-from : (id x m : ℕ) → 1 ≤ x → x + m ≤ typesOf s → tagsOn b s (indexOf s) id x m ≡ tagIds (openedTable p modes s n .type-by-id) id x m

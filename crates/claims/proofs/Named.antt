@@ -24,7 +24,7 @@ use Rattle.opening.proofs.Index.{types-few, some-type, index-place, index-kind}
 use Rattle.opening.proofs.Sums.{enumerators-all}
 use Rattle.opening.proofs.Enumerators.{to-up}
 use Rattle.opening.proofs.Zeros.{zeros-word, before-else, other-field}
-use Rattle.opening.proofs.ReadBack.{header-ok, types-ok, types-are, before, record-back, kind-back, value-back, enumerator-back, room-back, counts-back}
+use Rattle.opening.proofs.ReadBack.{header-ok, types-ok, order-ok, types-are, before, record-back, kind-back, value-back, enumerator-back, room-back, counts-back}
 use Rattle.ledger.specs.Indexed.{IsEnum, valuePlace, Value, placeOfValue, Indexed}
 use Rattle.ledger.specs.Alike.{Fresh}
 use Rattle.ledger.proofs.Classed.{enumerator-place, classed-indexed, classed-fresh}
@@ -97,7 +97,7 @@ module _ (p modes : ℕ) (s : List ℕ) (n : ℕ) (ok : openingNumber p s n ≡ 
         let q : suc (id - 1) ≡ id = omega (arith, a) in
         let one : enumsTo b s (indexOf s) id ≡ enumsTo b s (indexOf s) (id - 1) + valuesAt b s (getD (indexOf s) id 0) = rw q at to-one in
         let d : enumsTo b s (indexOf s) id ≤ enumsTo b s (indexOf s) (typesOf s - 1) = to-up b s (indexOf s) id (typesOf s - 1) (omega (arith, l)) in
-        let t : enumsTo b s (indexOf s) (typesOf s - 1) ≡ enumeratorsOf s = enumerators-all b s (header-ok p modes s n ok) (types-ok p modes s n ok) few in
+        let t : enumsTo b s (indexOf s) (typesOf s - 1) ≡ enumeratorsOf s = enumerators-all b s (order-ok p modes s n ok) (header-ok p modes s n ok) (types-ok p modes s n ok) few in
         omega (arith, number-is, one, d, t, inside)
 
     its-place : getWord w (recordP (b .types) (b .types + enumeratorOf w id i)) ≡ placeOfValue b s w id i

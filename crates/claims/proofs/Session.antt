@@ -297,7 +297,7 @@ module _ (p modes : ℕ) (s : List ℕ) (n : ℕ) (ok : openingNumber p s n ≡ 
         ap (λ (k : ℕ). settingsOf s k (S .modes) (S .types)) (h .pointer-size)
         ∙ ap (λ (k : ℕ). settingsOf s p k (S .types)) (h .mode)
         ∙ ap (settingsOf s p (modes % 2)) (h .types)
-        ∙ ap (λ (k : ℕ). record { «ptr_sz» = b .«ptr_sz»; «union_as_struct» = eqb k 1; types = b .types; strs = b .strs }) (mod-twice modes)
+        ∙ ap (λ (k : ℕ). record { «ptr_sz» = b .«ptr_sz»; «union_as_struct» = eqb k 1; «big_endian» = b .«big_endian»; types = b .types; strs = b .strs }) (mod-twice modes)
 
     pub types-is : S .types ≡ T .count
     types-is = h .types ∙ sym (count-is p modes s n ok)

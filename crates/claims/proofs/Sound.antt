@@ -24,11 +24,13 @@ use Rattle.followed.specs.Prototypes.{holders, anyLeads, ToProto, ends, passes}
 use Rattle.followed.proofs.Accessors.{id-param}
 use Rattle.followed.proofs.Held.{any-leads}
 use Rattle.opening.specs.Table.{typesOf, recordPlace, recordKind, indexOf}
+use Rattle.opening.specs.Header.{btfOf as settingsOf}
 use Rattle.opening.specs.Causes as causes
 use Rattle.opening.specs.Causes.{cause7, openingNumber}
 use Rattle.opening.proofs.Order.{sound-none}
 use Rattle.opening.proofs.Index.{types-few, table-count, followed-place, followed-kind}
-use Rattle.opening.proofs.ReadBack.{header-ok, types-ok, record-back, followed-below}
+use Rattle.opening.proofs.ReadBack.{header-ok, types-ok, order-ok, record-back, followed-below}
+use Rattle.opening.proofs.Sections.{kind-is}
 use Rattle.demand.specs.Needs.{kids, weaken, isProto, ProtoVia, it, on, WF}
 use Rattle.claims.specs.Table.{headerOf, openedTable}
 use Rattle.claims.proofs.Described.{count-is, type-zero, type-past}
@@ -95,34 +97,38 @@ from-mem f k (suc n) y (List·Memᴰ·tail h) =
 from-first : (f : ℕ → ℕ) (n y : ℕ) → List·Memᴰ y (from f 0 n) → (j : ℕ) × (j < n) × (f j ≡ y)
 from-first f n y h = let r = from-mem f 0 n y h in (r .0, r .1, ap f (sym (zero-add (r .0))) ∙ r .2)
 
-module _ (c b : Btf) (s : List ℕ) (at : ℕ) where
+module _ (c : Btf) (size : ℕ) (union : Bool) (count names : ℕ) (s : List ℕ) (at : ℕ) where
+  -- a table of the same order of bytes
+  abbrev b′ : Btf
+  b′ = record { «ptr_sz» = size; «union_as_struct» = union; «big_endian» = c .«big_endian»; types = count; strs = names }
+
   abbrev t : Record
-  t = recordAt b s at
+  t = recordAt b′ s at
 
   abbrev Seen : ℕ → Type 0
-  Seen k = kindOf (t .info) ≡ k → Sees c s k at (nodeOf (typeOf b s t))
+  Seen k = kindOf (t .info) ≡ k → Sees c s k at (nodeOf (typeOf b′ s t))
 
-  by : (k : ℕ) (y : BtfType) → typeOf b s t ≡ y → Sees c s k at (nodeOf y) → Sees c s k at (nodeOf (typeOf b s t))
+  by : (k : ℕ) (y : BtfType) → typeOf b′ s t ≡ y → Sees c s k at (nodeOf y) → Sees c s k at (nodeOf (typeOf b′ s t))
   by k y e h = subst (λ (x : BtfType). Sees c s k at (nodeOf x)) (sym e) h
 
-  members-4 : (y : ℕ) → List·Memᴰ y (memberTypes (membersOf b s t)) → Follows c s 4 at y
+  members-4 : (y : ℕ) → List·Memᴰ y (memberTypes (membersOf b′ s t)) → Follows c s 4 at y
   unfolding countAt countFor idAt idPlace among recordAt sectionWord memberIds
   members-4 y h =
-      let r = from-first (λ i. sectionWord b s (memberAt at i + 4)) (vlenOf (sectionWord b s (at + 4))) y (subst (λ (l : List ℕ). List·Memᴰ y l) (K.member-types b s t) h) in
+      let r = from-first (λ i. sectionWord b′ s (memberAt at i + 4)) (vlenOf (sectionWord b′ s (at + 4))) y (subst (λ (l : List ℕ). List·Memᴰ y l) (K.member-types b′ s t) h) in
       (r .0, r .1, r .2)
 
-  members-5 : (y : ℕ) → List·Memᴰ y (memberTypes (membersOf b s t)) → Follows c s 5 at y
+  members-5 : (y : ℕ) → List·Memᴰ y (memberTypes (membersOf b′ s t)) → Follows c s 5 at y
   unfolding countAt countFor idAt idPlace among recordAt sectionWord memberIds
   members-5 y h =
-      let r = from-first (λ i. sectionWord b s (memberAt at i + 4)) (vlenOf (sectionWord b s (at + 4))) y (subst (λ (l : List ℕ). List·Memᴰ y l) (K.member-types b s t) h) in
+      let r = from-first (λ i. sectionWord b′ s (memberAt at i + 4)) (vlenOf (sectionWord b′ s (at + 4))) y (subst (λ (l : List ℕ). List·Memᴰ y l) (K.member-types b′ s t) h) in
       (r .0, r .1, r .2)
 
-  params-13 : (y : ℕ) → List·Memᴰ y (t .«type_id» ∷ paramTypes (paramsOf b s t)) → Follows c s 13 at y
+  params-13 : (y : ℕ) → List·Memᴰ y (t .«type_id» ∷ paramTypes (paramsOf b′ s t)) → Follows c s 13 at y
   unfolding countAt countFor idAt idPlace among recordAt sectionWord paramIds
   params-13 y (List·Memᴰ·head q) = (0, omega arith, sym q)
   params-13 y (List·Memᴰ·tail h) =
-      let r = from-first (λ i. sectionWord b s (paramAt at i + 4)) (vlenOf (sectionWord b s (at + 4))) y (subst (λ (l : List ℕ). List·Memᴰ y l) (K.param-types b s t) h) in
-      let l : r .0 < vlenOf (sectionWord b s (at + 4)) = r .1 in
+      let r = from-first (λ i. sectionWord b′ s (paramAt at i + 4)) (vlenOf (sectionWord b′ s (at + 4))) y (subst (λ (l : List ℕ). List·Memᴰ y l) (K.param-types b′ s t) h) in
+      let l : r .0 < vlenOf (sectionWord b′ s (at + 4)) = r .1 in
       (suc (r .0), omega arith, ap (sectionWord c s) (sym (param-place (r .0))) ∙ r .2)
     where
       param-place : (j : ℕ) → paramAt at j + 4 ≡ idPlace 13 at (suc j)
@@ -133,27 +139,27 @@ module _ (c b : Btf) (s : List ℕ) (at : ℕ) where
   unfolding countAt countFor idAt idPlace among recordAt sectionWord
   seen =
       K.by-kind Seen
-      (λ e. by 0 _ (K.type-0 b s t e) (sees-plain c s 0 at))
-      (λ e. by 1 _ (K.type-1 b s t e) (sees-plain c s 1 at))
-      (λ e. by 2 _ (K.type-2 b s t e) (sees-ptr c s 2 at _ refl refl))
-      (λ e. by 3 _ (K.type-3 b s t e) (sees-through c s 3 at _ refl refl refl))
-      (λ e. by 4 _ (K.type-4 b s t e) (sees-comp c s 4 at _ refl members-4))
-      (λ e. by 5 _ (K.type-5 b s t e) (sees-comp c s 5 at _ refl members-5))
-      (λ e. by 6 _ (K.type-6 b s t e) (sees-listed c s 6 at false))
-      (λ e. by 7 _ (K.type-7 b s t e) (sees-listed c s 7 at true))
-      (λ e. by 8 _ (K.type-8 b s t e) (sees-tdef c s 8 at _ refl refl refl))
-      (λ e. by 9 _ (K.type-9 b s t e) (sees-through c s 9 at _ refl refl refl))
-      (λ e. by 10 _ (K.type-10 b s t e) (sees-through c s 10 at _ refl refl refl))
-      (λ e. by 11 _ (K.type-11 b s t e) (sees-through c s 11 at _ refl refl refl))
-      (λ e. by 12 _ (K.type-12 b s t e) (sees-ignored c s 12 at))
-      (λ e. by 13 _ (K.type-13 b s t e) (sees-proto c s 13 at _ refl params-13))
-      (λ e. by 14 _ (K.type-14 b s t e) (sees-ignored c s 14 at))
-      (λ e. by 15 _ (K.type-15 b s t e) (sees-ignored c s 15 at))
-      (λ e. by 16 _ (K.type-16 b s t e) (sees-plain c s 16 at))
-      (λ e. by 17 _ (K.type-17 b s t e) (sees-ignored c s 17 at))
-      (λ e. by 18 _ (K.type-18 b s t e) (sees-through c s 18 at _ refl refl refl))
-      (λ e. by 19 _ (K.type-19 b s t e) (sees-listed c s 19 at false))
-      (λ k l e. by k _ (K.type-none b s t (far k l e)) (sees-plain c s k at))
+      (λ e. by 0 _ (K.type-0 b′ s t e) (sees-plain c s 0 at))
+      (λ e. by 1 _ (K.type-1 b′ s t e) (sees-plain c s 1 at))
+      (λ e. by 2 _ (K.type-2 b′ s t e) (sees-ptr c s 2 at _ refl refl))
+      (λ e. by 3 _ (K.type-3 b′ s t e) (sees-through c s 3 at _ refl refl refl))
+      (λ e. by 4 _ (K.type-4 b′ s t e) (sees-comp c s 4 at _ refl members-4))
+      (λ e. by 5 _ (K.type-5 b′ s t e) (sees-comp c s 5 at _ refl members-5))
+      (λ e. by 6 _ (K.type-6 b′ s t e) (sees-listed c s 6 at false))
+      (λ e. by 7 _ (K.type-7 b′ s t e) (sees-listed c s 7 at true))
+      (λ e. by 8 _ (K.type-8 b′ s t e) (sees-tdef c s 8 at _ refl refl refl))
+      (λ e. by 9 _ (K.type-9 b′ s t e) (sees-through c s 9 at _ refl refl refl))
+      (λ e. by 10 _ (K.type-10 b′ s t e) (sees-through c s 10 at _ refl refl refl))
+      (λ e. by 11 _ (K.type-11 b′ s t e) (sees-through c s 11 at _ refl refl refl))
+      (λ e. by 12 _ (K.type-12 b′ s t e) (sees-ignored c s 12 at))
+      (λ e. by 13 _ (K.type-13 b′ s t e) (sees-proto c s 13 at _ refl params-13))
+      (λ e. by 14 _ (K.type-14 b′ s t e) (sees-ignored c s 14 at))
+      (λ e. by 15 _ (K.type-15 b′ s t e) (sees-ignored c s 15 at))
+      (λ e. by 16 _ (K.type-16 b′ s t e) (sees-plain c s 16 at))
+      (λ e. by 17 _ (K.type-17 b′ s t e) (sees-ignored c s 17 at))
+      (λ e. by 18 _ (K.type-18 b′ s t e) (sees-through c s 18 at _ refl refl refl))
+      (λ e. by 19 _ (K.type-19 b′ s t e) (sees-listed c s 19 at false))
+      (λ k l e. by k _ (K.type-none b′ s t (far k l e)) (sees-plain c s k at))
     where
       far : (k : ℕ) → 20 ≤ k → kindOf (t .info) ≡ k → 20 ≤ kindOf (t .info)
       far k l e = omega arith
@@ -177,12 +183,12 @@ module _ (p modes : ℕ) (s : List ℕ) (n : ℕ) (ok : openingNumber p s n ≡ 
   counted-all = table-count s few p 0
 
   at-index : (x : ℕ) → 1 ≤ x → x < typesOf s → Sees c s (kindAt c (indexOf s) x) (placeOf c (indexOf s) x) (nodeAt x)
-  unfolding causes.tableOf btfOf recordKind kindP recordAt sectionWord
+  unfolding causes.tableOf btfOf settingsOf kindP recordAt
   at-index x a l =
       subst (λ (t : Record). Sees c s (kindAt c (indexOf s) x) (placeOf c (indexOf s) x) (nodeOf (typeOf b s t))) (sym (record-back p modes s n ok x a l))
       (subst (λ (q : ℕ). Sees c s q (placeOf c (indexOf s) x) (nodeOf (typeOf b s (recordAt b s (recordPlace s (x - 1)))))) (sym (followed-kind s few p 0 x a l))
       (subst (λ (q : ℕ). Sees c s (recordKind s (x - 1)) q (nodeOf (typeOf b s (recordAt b s (recordPlace s (x - 1)))))) (sym (followed-place s few p 0 x a l))
-      (seen c b s (recordPlace s (x - 1)) (recordKind s (x - 1)) refl)))
+      (seen c (b .«ptr_sz») (b .«union_as_struct») (b .types) (b .strs) s (recordPlace s (x - 1)) (recordKind s (x - 1)) (kind-is b s (order-ok p modes s n ok) (x - 1)))))
 
   -- a type that follows ids, or is a prototype or a composite, is in the table
   in-table : (x : ℕ) → (nodeAt x ≡ plain → ⊥) → (1 ≤ x) × (x < typesOf s)

@@ -6,7 +6,7 @@ use mathlib.Core.Path.{_≡_, refl}
 use mathlib.Core.List.{List, [], _∷_}
 use mathlib.Core.Bool.{false}
 use lib.ListN.{getD, replicate}
-use Rattle.lent.specs.Words.{getWord, putWord, wordAt, table, oneMore}
+use Rattle.lent.specs.Words.{getWord, putWord, wordAt, wordIn, table, oneMore}
 use Rattle.btf.specs.declared.types.Btf.{Btf}
 use Rattle.btf.specs.Cells.{placeOf, withMore, countOf, counted, classP, countP}
 use Rattle.btf.specs.Records.{sectionWord}
@@ -33,7 +33,7 @@ section =
     (0 ∷ 97 ∷ 98 ∷ 0 ∷ 97 ∷ 98 ∷ 99 ∷ 0 ∷ 97 ∷ 98 ∷ 0 ∷ [])
 
 pub context : Btf
-context = record { «ptr_sz» = 8; «union_as_struct» = false; types = 7; strs = 112 }
+context = record { «ptr_sz» = 8; «union_as_struct» = false; «big_endian» = false; types = 7; strs = 112 }
 
 -- the work with the places of the records and entries, and every other byte x
 pub work : ℕ → List ℕ
@@ -49,7 +49,7 @@ unfolding spaceOf among
 spaces = refl
 
 pub some-keys : (keyIn context section (work 1) 8 ≡ 1 ∷ 97 ∷ 98 ∷ 99 ∷ []) × (keyIn context section (work 1) 6 ≡ 2 ∷ []) × (keyIn context section (work 1) 0 ≡ 2 ∷ [])
-unfolding bytes section context work fill keyIn keyOf spaceAt spaceOf among nameOf nameAt upToZero sectionWord wordAt placeOf getWord putWord
+unfolding bytes section context work fill keyIn keyOf spaceAt spaceOf among nameOf nameAt upToZero sectionWord wordIn wordAt placeOf getWord putWord
 some-keys = (refl, refl, refl)
 
 -- the FWD has the class of the STRUCT, the first enumerator that of the TYPEDEF, the FUNC that of void; the scratch words are 0; the counts stay
@@ -58,7 +58,7 @@ pub found :
     × (after 1 (bucketP 7) ≡ replicate 9 0)
     × (after 1 (linkP 7) ≡ replicate 9 0)
     × (after 1 (countP 7) ≡ replicate 9 16843009)
-unfolding after bytes section context work tableClassed withClasses fill classOf least sameList keyIn keyOf spaceAt spaceOf among nameOf nameAt upToZero sectionWord wordAt placeOf getWord putWord
+unfolding after bytes section context work tableClassed withClasses fill classOf least sameList keyIn keyOf spaceAt spaceOf among nameOf nameAt upToZero sectionWord wordIn wordAt placeOf getWord putWord
 found = (refl, refl, refl, refl)
 
 -- the count of h after those of the STRUCT, the TYPEDEF, the UNION and the FWD
@@ -67,5 +67,5 @@ next = nextCount context (afterCounts context (tableClassed context 2 section (w
 
 -- the tag "ab" is had for the third time, the identifier "ab" for the second, the identifier "abc" for the first
 pub counted-so : (next 1 ≡ 3) × (next 5 ≡ 3) × (next 7 ≡ 2) × (next 8 ≡ 1)
-unfolding next countedAll counted withMore countOf oneMore bytes section context work tableClassed withClasses fill classOf least sameList keyIn keyOf spaceAt spaceOf among nameOf nameAt upToZero sectionWord wordAt placeOf getWord putWord
+unfolding next countedAll counted withMore countOf oneMore bytes section context work tableClassed withClasses fill classOf least sameList keyIn keyOf spaceAt spaceOf among nameOf nameAt upToZero sectionWord wordIn wordAt placeOf getWord putWord
 counted-so = (refl, refl, refl, refl)

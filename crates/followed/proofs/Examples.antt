@@ -3,7 +3,7 @@ use Prim.Native.Nat.{ℕ, _+_, _*_}
 use mathlib.Core.Path.{_≡_, refl}
 use mathlib.Core.Bool.{true, false}
 use mathlib.Core.List.{List, [], _∷_, _++_}
-use Rattle.lent.specs.Words.{wordAt}
+use Rattle.lent.specs.Words.{wordAt, wordIn}
 use Rattle.btf.specs.declared.types.Btf.{Btf}
 use Rattle.btf.specs.Records.{sectionWord}
 use Rattle.followed.specs.Any.{anyBelow}
@@ -15,7 +15,7 @@ use Rattle.followed.specs.Track.{chase, leadsTo}
 use Rattle.followed.specs.Prototypes.{whatOf, nextOf, asksAt, asksOf, asker, anyLeads}
 
 abbrev three : Btf
-three = record { «ptr_sz» = 8; «union_as_struct» = false; types = 3; strs = 24 }
+three = record { «ptr_sz» = 8; «union_as_struct» = false; «big_endian» = false; types = 3; strs = 24 }
 
 abbrev word : ℕ → List ℕ
 word n = n ∷ 0 ∷ 0 ∷ 0 ∷ []
@@ -40,43 +40,43 @@ abbrev places-held : ℕ → List ℕ
 places-held kind = 0 ∷ 4 ∷ (24 * 32 + kind) ∷ []
 
 parameter-loops : hasLoop (graphOf three (called 0 1) places) ≡ true
-unfolding hasLoop anyBelow long degOf degAt followedCount followedId countAt idAt countFor idPlace kindAt placeOf entryAt countOf among sectionWord wordAt
+unfolding hasLoop anyBelow long degOf degAt followedCount followedId countAt idAt countFor idPlace kindAt placeOf entryAt countOf among sectionWord wordIn wordAt
 parameter-loops = refl
 
 result-loops : hasLoop (graphOf three (called 1 0) places) ≡ true
-unfolding hasLoop anyBelow long degOf degAt followedCount followedId countAt idAt countFor idPlace kindAt placeOf entryAt countOf among sectionWord wordAt
+unfolding hasLoop anyBelow long degOf degAt followedCount followedId countAt idAt countFor idPlace kindAt placeOf entryAt countOf among sectionWord wordIn wordAt
 result-loops = refl
 
 no-loop : hasLoop (graphOf three (called 0 0) places) ≡ false
-unfolding hasLoop anyBelow long degOf degAt followedCount followedId countAt idAt countFor idPlace kindAt placeOf entryAt countOf among sectionWord wordAt
+unfolding hasLoop anyBelow long degOf degAt followedCount followedId countAt idAt countFor idPlace kindAt placeOf entryAt countOf among sectionWord wordIn wordAt
 no-loop = refl
 
 -- struct s { struct s *p; }
 struct-no-loop : hasLoop (graphOf three (held 2 1) (places-held 2)) ≡ false
-unfolding hasLoop anyBelow long degOf degAt followedCount followedId countAt idAt countFor idPlace kindAt placeOf entryAt countOf among sectionWord wordAt
+unfolding hasLoop anyBelow long degOf degAt followedCount followedId countAt idAt countFor idPlace kindAt placeOf entryAt countOf among sectionWord wordIn wordAt
 struct-no-loop = refl
 
 past-count : hasBadReference three (called 0 3) places ≡ true
-unfolding hasBadReference isSomeBad isBad anyBelow followedCount followedId countAt idAt countFor idPlace kindAt placeOf entryAt countOf among sectionWord wordAt
+unfolding hasBadReference isSomeBad isBad anyBelow followedCount followedId countAt idAt countFor idPlace kindAt placeOf entryAt countOf among sectionWord wordIn wordAt
 past-count = refl
 
 function-member : hasBadReference three (held 12 0) (places-held 12) ≡ true
-unfolding hasBadReference isSomeBad isBad anyBelow followedCount followedId countAt idAt countFor idPlace kindAt placeOf entryAt countOf among sectionWord wordAt
+unfolding hasBadReference isSomeBad isBad anyBelow followedCount followedId countAt idAt countFor idPlace kindAt placeOf entryAt countOf among sectionWord wordIn wordAt
 function-member = refl
 
 sound : hasBadReference three (called 0 1) places ≡ false
-unfolding hasBadReference isSomeBad isBad anyBelow followedCount followedId countAt idAt countFor idPlace kindAt placeOf entryAt countOf among sectionWord wordAt
+unfolding hasBadReference isSomeBad isBad anyBelow followedCount followedId countAt idAt countFor idPlace kindAt placeOf entryAt countOf among sectionWord wordIn wordAt
 sound = refl
 
 proto-member : anyLeads three (held 13 0) (places-held 13) ≡ true
-unfolding anyLeads asker asksOf asksAt leadsTo chase whatOf nextOf anyBelow followedCount followedId countAt idAt countFor idPlace kindAt placeOf entryAt countOf among sectionWord wordAt
+unfolding anyLeads asker asksOf asksAt leadsTo chase whatOf nextOf anyBelow followedCount followedId countAt idAt countFor idPlace kindAt placeOf entryAt countOf among sectionWord wordIn wordAt
 proto-member = refl
 
 -- an array of itself leads nowhere
 array-round : anyLeads three (held 3 2) (places-held 3) ≡ false
-unfolding anyLeads asker asksOf asksAt leadsTo chase whatOf nextOf anyBelow followedCount followedId countAt idAt countFor idPlace kindAt placeOf entryAt countOf among sectionWord wordAt
+unfolding anyLeads asker asksOf asksAt leadsTo chase whatOf nextOf anyBelow followedCount followedId countAt idAt countFor idPlace kindAt placeOf entryAt countOf among sectionWord wordIn wordAt
 array-round = refl
 
 typedef-of-proto : anyLeads three (called 0 0) places ≡ false
-unfolding anyLeads asker asksOf asksAt leadsTo chase whatOf nextOf anyBelow followedCount followedId countAt idAt countFor idPlace kindAt placeOf entryAt countOf among sectionWord wordAt
+unfolding anyLeads asker asksOf asksAt leadsTo chase whatOf nextOf anyBelow followedCount followedId countAt idAt countFor idPlace kindAt placeOf entryAt countOf among sectionWord wordIn wordAt
 typedef-of-proto = refl

@@ -7,7 +7,7 @@ use mathlib.Core.Bool.{false}
 use mathlib.Core.Logic.{_⊎_, inl, inr}
 use native.Mathlib.Omega.{arith}
 use lib.ListN.{getD, replicate}
-use Rattle.lent.specs.Words.{getWord, putWord, wordAt}
+use Rattle.lent.specs.Words.{getWord, putWord, wordAt, wordIn}
 use Rattle.btf.specs.declared.types.Btf.{Btf}
 use Rattle.btf.specs.Cells.{placeOf, countP}
 use Rattle.btf.specs.Records.{sectionWord, recordAt, voidRecord, recordById}
@@ -36,7 +36,7 @@ section =
     (0 ∷ 97 ∷ 98 ∷ 0 ∷ 97 ∷ 98 ∷ 99 ∷ 0 ∷ 97 ∷ 98 ∷ 0 ∷ [])
 
 pub context : Btf
-context = record { «ptr_sz» = 8; «union_as_struct» = false; types = 7; strs = 112 }
+context = record { «ptr_sz» = 8; «union_as_struct» = false; «big_endian» = false; types = 7; strs = 112 }
 
 -- the places of the records and entries, and else zeros
 pub work : List ℕ
@@ -74,7 +74,7 @@ Each P = (id i : ℕ) → Value context section work id i → P id i
 
 -- the ENUM is type 4, its values are 0 and 1
 values : (P : ℕ → ℕ → Type 0) → P 4 0 → P 4 1 → Each P
-unfolding bytes section context work fill recordById recordAt voidRecord sectionWord wordAt placeOf getWord putWord
+unfolding bytes section context work fill recordById recordAt voidRecord sectionWord wordIn wordAt placeOf getWord putWord
 values P p q id i v =
     nine (λ id. Value context section work id i → P id i)
     (λ u. not-enum 0 (omega arith) (u .enum))
@@ -96,7 +96,7 @@ unfolding context work fill placeOf putWord
 room = record { numbered = omega arith; words = omega arith }
 
 pub indexed : Indexed context 2 section (tableClassed context 2 section work)
-unfolding bytes section context work fill recordById recordAt voidRecord sectionWord wordAt placeOf getWord putWord enumeratorOf valuePlace
+unfolding bytes section context work fill recordById recordAt voidRecord sectionWord wordIn wordAt placeOf getWord putWord enumeratorOf valuePlace
 indexed = placed-indexed context 2 section work room
     (values (λ id i. enumeratorOf work id i < 2) (omega arith) (omega arith))
     (values (λ id i. getWord work (recordP (context .types) (context .types + enumeratorOf work id i)) ≡ placeOfValue context section work id i) refl refl)

@@ -12,7 +12,7 @@ use borrow.Author.Fill.{fill-more}
 use lib.Seq.{ext-getD, set-out, set-comm, getD-set-same, getD-set-other}
 use lib.Dec.{ltb}
 use borrow.Author.Tests.{lt-ltb, le-ltb}
-use Rattle.lent.specs.Words.{getWord, putWord, wordAt, joinAt, setWord, pick, pickList, table, words}
+use Rattle.lent.specs.Words.{getWord, putWord, wordAt, wordAtBig, wordIn, joinAt, joinBig, setWord, pick, pickList, table, words}
 
 pub le-or-lt : (a b : ℕ) → (a ≤ b) ⊎ (b < a)
 le-or-lt zero b = inl zero-le
@@ -34,6 +34,24 @@ read-in b at h = simp (lt-ltb _ _ h)
 pub read-out : (b : List ℕ) (at : ℕ) → length b ≤ at + 3 → wordAt b at ≡ 0
 unfolding wordAt
 read-out b at h = simp (le-ltb _ _ h)
+
+pub read-big-in : (b : List ℕ) (at : ℕ) → at + 3 < length b → wordAtBig b at ≡ joinBig b at
+unfolding wordAtBig
+read-big-in b at h = simp (lt-ltb _ _ h)
+
+pub read-big-out : (b : List ℕ) (at : ℕ) → length b ≤ at + 3 → wordAtBig b at ≡ 0
+unfolding wordAtBig
+read-big-out b at h = simp (le-ltb _ _ h)
+
+-- in either order
+module _ (b : List ℕ) (at : ℕ) (big : Bool) (r : ℕ) where
+  pub word-big : big ≡ true → r ≡ wordAtBig b at → r ≡ wordIn big b at
+  unfolding wordIn
+  word-big e f = rw e f
+
+  pub word-little : big ≡ false → r ≡ wordAt b at → r ≡ wordIn big b at
+  unfolding wordIn
+  word-little e f = rw e f
 
 pub put-in : (b : List ℕ) (i v : ℕ) → i < length b / 4 → putWord b i v ≡ setWord b (i * 4) v
 unfolding putWord

@@ -1,13 +1,14 @@
--- Three words in a row, each as `wordAt` has it. Assumes nothing.
+-- Three words in a row, each as `wordAt` has it, or as `wordIn`. Assumes nothing.
 use Prim.Native.Nat.{ℕ, _+_, _*_, _<_, _≤_}
 use mathlib.Core.Path.{_≡_, refl, _∙_, sym}
+use mathlib.Core.Bool.{Bool, true, false}
 use mathlib.Core.List.{List}
 use native.Mathlib.Omega.{arith}
 use lib.ListN.{length, getD}
-use Rattle.lent.specs.Words.{wordAt, joinAt}
-use Rattle.lent.specs.Three.{threeAt}
+use Rattle.lent.specs.Words.{wordAt, wordAtBig, wordIn, joinAt}
+use Rattle.lent.specs.Three.{threeAt, threeIn}
 use Rattle.lent.specs.declared.words.Three.{Three}
-use Rattle.lent.proofs.Laws.{read-in, read-out}
+use Rattle.lent.proofs.Laws.{read-in, read-out, read-big-out}
 
 module _ (b : List ℕ) (at : ℕ) where
   pub three-of : (x y z : ℕ) → x ≡ wordAt b at → y ≡ wordAt b (at + 4) → z ≡ wordAt b (at + 8) → record { first = x; second = y; third = z } ≡ threeAt b at
@@ -42,3 +43,20 @@ module _ (b : List ℕ) (at : ℕ) where
   pub three-out : length b ≤ at → record { first = 0; second = 0; third = 0 } ≡ threeAt b at
   three-out h =
       three-of 0 0 0 (sym (read-out b at (omega arith))) (sym (read-out b (at + 4) (omega arith))) (sym (read-out b (at + 8) (omega arith)))
+
+  -- the most significant byte first
+  pub three-big-of : (x y z : ℕ) → x ≡ wordAtBig b at → y ≡ wordAtBig b (at + 4) → z ≡ wordAtBig b (at + 8) → record { first = x; second = y; third = z } ≡ threeIn true b at
+  unfolding threeIn wordIn
+  three-big-of x y z ex ey ez = λ i. record { first = ex i; second = ey i; third = ez i }
+
+  pub three-big-out : length b ≤ at → record { first = 0; second = 0; third = 0 } ≡ threeIn true b at
+  three-big-out h =
+      three-big-of 0 0 0 (sym (read-big-out b at (omega arith))) (sym (read-big-out b (at + 4) (omega arith))) (sym (read-big-out b (at + 8) (omega arith)))
+
+  -- in either order
+  pub three-big : (big : Bool) (r : Three) → big ≡ true → r ≡ threeIn true b at → r ≡ threeIn big b at
+  three-big big r e f = rw e f
+
+  pub three-little : (big : Bool) (r : Three) → big ≡ false → r ≡ threeAt b at → r ≡ threeIn big b at
+  unfolding threeIn threeAt wordIn
+  three-little big r e f = rw e f

@@ -32,6 +32,19 @@ putWord b i v = pickList (ltb i (length b / 4)) (setWord b (i * 4) v) b
 unfoldable pub wordAt : List ℕ → ℕ → ℕ
 wordAt b at = pick (ltb (at + 3) (length b)) (joinAt b at) 0
 
+-- the number whose bytes, highest first, stand at `at`
+abbrev pub joinBig : List ℕ → ℕ → ℕ
+joinBig b at = getD b (at + 3) 0 + getD b (at + 2) 0 * 256 + getD b (at + 1) 0 * 65536 + getD b at 0 * 16777216
+
+-- the same word with its most significant byte first
+unfoldable pub wordAtBig : List ℕ → ℕ → ℕ
+wordAtBig b at = pick (ltb (at + 3) (length b)) (joinBig b at) 0
+
+-- in the one order, where the first argument is true, or in the other
+unfoldable pub wordIn : Bool → List ℕ → ℕ → ℕ
+wordIn true b at = wordAtBig b at
+wordIn false b at = wordAt b at
+
 -- f at k, k + 1, .., n of them
 abbrev pub table : (ℕ → ℕ) → ℕ → ℕ → List ℕ
 table f k zero = []

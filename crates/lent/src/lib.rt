@@ -14,4 +14,6 @@ pub use words::clear;
 pub use words::get_word;
 pub use words::put_word;
 pub use words::three_at;
+pub use words::three_in;
 pub use words::word_at;
+pub use words::word_in;

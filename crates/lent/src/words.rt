@@ -1,9 +1,10 @@
 // A byte slice used as 32-bit little-endian words: word i is the bytes 4i to 4i + 3.
 ghost use mathlib.Core.Path.{_≡_};
+ghost use mathlib.Core.Bool.{true};
 ghost use Prim.Native.Nat.{_+_, _*_, _<_};
 ghost use lib.ListN.{length, replicate};
-ghost use Rattle.lent.specs.Words.{getWord, putWord, wordAt};
-ghost use Rattle.lent.specs.Three.{threeAt};
+ghost use Rattle.lent.specs.Words.{getWord, putWord, wordAt, wordAtBig, wordIn};
+ghost use Rattle.lent.specs.Three.{threeAt, threeIn};
 
 // The number whose bytes, lowest first, are a, b, c and d.
 fn join(a: u8, b: u8, c: u8, d: u8) -> u32
@@ -49,6 +50,28 @@ pub fn word_at(b: &[u8], at: usize) -> u32
     0
 }
 
+// The same with the most significant byte first.
+fn word_at_big(b: &[u8], at: usize) -> u32
+    ensures { λ r. ⌜ r ≡ wordAtBig (now (b .entry)) at ⌝ }
+{
+    if at < b.len() {
+        if 3 < b.len() - at {
+            return join(b[at + 3], b[at + 2], b[at + 1], b[at]);
+        }
+    }
+    0
+}
+
+// The word at `at`, most significant byte first if `big`.
+pub fn word_in(big: bool, b: &[u8], at: usize) -> u32
+    ensures { λ r. ⌜ r ≡ wordIn big (now (b .entry)) at ⌝ }
+{
+    if big {
+        return word_at_big(b, at);
+    }
+    word_at(b, at)
+}
+
 // Three words in a row.
 pub struct Three {
     pub first: u32,
@@ -87,6 +110,34 @@ fn three_apart(b: &[u8], at: usize) -> Three
         second: word_at(b, at + 4),
         third: word_at(b, at + 8),
     }
+}
+
+// Three words, most significant byte first.
+fn three_big(b: &[u8], at: usize) -> Three
+    ensures { λ r. ⌜ r ≡ threeIn true (now (b .entry)) at ⌝ }
+{
+    if at < b.len() {
+        return Three {
+            first: word_at_big(b, at),
+            second: word_at_big(b, at + 4),
+            third: word_at_big(b, at + 8),
+        };
+    }
+    Three {
+        first: 0,
+        second: 0,
+        third: 0,
+    }
+}
+
+// Three words, most significant byte first if `big`.
+pub fn three_in(big: bool, b: &[u8], at: usize) -> Three
+    ensures { λ r. ⌜ r ≡ threeIn big (now (b .entry)) at ⌝ }
+{
+    if big {
+        return three_big(b, at);
+    }
+    three_at(b, at)
 }
 
 // Sets every byte to 0.

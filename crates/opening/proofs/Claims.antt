@@ -10,7 +10,7 @@ use lib.Dec.{eqb}
 use borrow.Author.Tests.{lt-ltb, ltb-true, ne-eqb, eqb-true, eqb-false, not-false}
 use Rattle.records.specs.Documentation.{Every, Allowed, Described, encodeAll}
 use Rattle.records.specs.Reading.{Bytes}
-use Rattle.records.specs.Section.{typeArea, strLen, typesSound}
+use Rattle.records.specs.Section.{bigEndian, typeArea, strLen, typesSound}
 use Rattle.records.proofs.Claims.{sound-iff}
 use Rattle.followed.specs.References.{BadReference}
 use Rattle.followed.specs.Prototypes.{ProtoInside}
@@ -49,9 +49,9 @@ cause-2 s = (ltb-true 16777216 (length s), lt-ltb 16777216 (length s))
 
 -- 5: the type area is not the layout of at most 262,144 types whose numbers fit and whose names lie in the string area
 pub cause-5 : (s : List ℕ) → Bytes (typeArea s)
-    → (cause5 s ≡ false) ↔ ((ts : List Described) × Every (Allowed (strLen s)) ts × (length ts ≤ 262144) × (encodeAll ts ≡ typeArea s))
+    → (cause5 s ≡ false) ↔ ((ts : List Described) × Every (Allowed (strLen s)) ts × (length ts ≤ 262144) × (encodeAll (bigEndian s) ts ≡ typeArea s))
 unfolding cause5 typesSound
-cause-5 s y = (λ h. sound-iff (strLen s) (typeArea s) y .0 (not-false (typesSound s) h), λ h. rw (sound-iff (strLen s) (typeArea s) y .1 h))
+cause-5 s y = (λ h. sound-iff (bigEndian s) (strLen s) (typeArea s) y .0 (not-false (typesSound s) h), λ h. rw (sound-iff (bigEndian s) (strLen s) (typeArea s) y .1 h))
 
 -- 6, 7, 8: over the index of the section, whose entries are the places and kinds of its records (Index: followed-place, followed-kind)
 module _ (pointer : ℕ) (s : List ℕ) where

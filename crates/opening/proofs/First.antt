@@ -6,7 +6,7 @@ use mathlib.Core.List.{List}
 use lib.ListN.{length}
 use lib.Dec.{ltb, eqb}
 use borrow.Author.Tests.{lt-ltb, le-ltb, ne-eqb, not-false, not-true}
-use Rattle.records.specs.Section.{headerSound}
+use Rattle.records.specs.Section.{bigEndian, headerSound}
 use Rattle.lent.specs.Words.{pick}
 use Rattle.btf.specs.declared.types.Btf.{Btf}
 use Rattle.opening.specs.declared.header.Header.{Header}
@@ -88,6 +88,6 @@ abbrev fromHeader : Header → ℕ
 fromHeader h = pick (ltb (h .«hdr_len» + h .«str_off») 4294967296) (h .«hdr_len» + h .«str_off») 4294967295
 
 pub btf-is : (s : List ℕ) (p m t : ℕ) (h : Header) → h ≡ headerOf s → (a b c : ℕ) → a ≡ pick (eqb p 4) 4 8 → b ≡ pick (ltb t 262145) t 262145
-    → c ≡ fromHeader h → _≡_ {A = Btf} (record { «ptr_sz» = a; «union_as_struct» = eqb (m % 2) 1; types = b; strs = c }) (btfOf s p m t)
+    → c ≡ fromHeader h → (o : Bool) → o ≡ bigEndian s → _≡_ {A = Btf} (record { «ptr_sz» = a; «union_as_struct» = eqb (m % 2) 1; «big_endian» = o; types = b; strs = c }) (btfOf s p m t)
 unfolding btfOf headerOf stringsAt
-btf-is s p m t h e a b c f g k = λ i. record { «ptr_sz» = f i; «union_as_struct» = eqb (m % 2) 1; types = g i; strs = (k ∙ ap fromHeader e) i }
+btf-is s p m t h e a b c f g k o q = λ i. record { «ptr_sz» = f i; «union_as_struct» = eqb (m % 2) 1; «big_endian» = q i; types = g i; strs = (k ∙ ap fromHeader e) i }

@@ -2,7 +2,7 @@
 -- Assumes nothing.
 use Prim.Native.Nat.{ℕ, suc, _+_, _-_, _<_, _≤_}
 use mathlib.Core.Path.{_≡_, refl, ap, _∙_, sym}
-use mathlib.Core.Bool.{Bool, true, false, true≢false, _&&_, not}
+use mathlib.Core.Bool.{Bool, true, false, true≢false, _&&_, _||_, not}
 use mathlib.Core.List.{List, [], _∷_}
 use mathlib.Core.Logic.{⊎-elim}
 use native.Mathlib.Omega.{arith}
@@ -11,12 +11,13 @@ use lib.ListN.{length, getD, take, drop}
 use lib.Seq.{drop-cons, drop-length}
 use lib.Dec.{ltb, leb, eqb}
 use borrow.Author.Tests.{lt-ltb, le-ltb, le-leb, lt-leb, leb-true, ne-eqb}
-use Rattle.lent.specs.Words.{wordAt}
-use Rattle.lent.proofs.Laws.{le-or-lt, read-in}
+use Rattle.lent.specs.Words.{wordIn}
+use Rattle.lent.proofs.Laws.{le-or-lt}
 use Rattle.records.specs.Reading.{word}
-use Rattle.records.specs.Section.{hdrLen, typeOff, typeLen, strOff, strLen, stringArea, headerSound, stringsSound, allAscii, lastOf}
+use Rattle.records.specs.Section.{bigEndian, littleEndian, wordOf, hdrLen, typeOff, typeLen, strOff, strLen, stringArea, headerSound, stringsSound, allAscii, lastOf}
+use Rattle.records.proofs.SectionFields.{in-word}
 use Rattle.opening.specs.declared.header.Header.{Header}
-use Rattle.opening.specs.Header.{headerOf, isMagic, larger, largestFrom, badStrings}
+use Rattle.opening.specs.Header.{headerOf, btfOf, isMagic, larger, largestFrom, badStrings}
 
 pub and-left : (a b : Bool) → (a && b) ≡ true → a ≡ true
 and-left true b h = refl
@@ -29,35 +30,62 @@ and-right false b h = absurd (true≢false (sym h))
 pub and-both : (a b : Bool) → a ≡ true → b ≡ true → (a && b) ≡ true
 and-both a b e f = rw (e, f)
 
-pub word-in : (s : List ℕ) (at : ℕ) → at + 3 < length s → wordAt s at ≡ word s at
-unfolding word
-word-in s at h = read-in s at h
+pub word-in : (s : List ℕ) (at : ℕ) → at + 3 < length s → wordOf s at ≡ word (bigEndian s) s at
+unfolding wordOf
+word-in s at h = in-word (bigEndian s) s at (omega arith)
 
 module _ (s : List ℕ) (h : 24 ≤ length s) where
-  pub read4 : wordAt s 4 ≡ hdrLen s
+  pub read4 : wordOf s 4 ≡ hdrLen s
   unfolding hdrLen
   read4 = word-in s 4 (omega arith)
 
-  pub read8 : wordAt s 8 ≡ typeOff s
+  pub read8 : wordOf s 8 ≡ typeOff s
   unfolding typeOff
   read8 = word-in s 8 (omega arith)
 
-  pub read12 : wordAt s 12 ≡ typeLen s
+  pub read12 : wordOf s 12 ≡ typeLen s
   unfolding typeLen
   read12 = word-in s 12 (omega arith)
 
-  pub read16 : wordAt s 16 ≡ strOff s
+  pub read16 : wordOf s 16 ≡ strOff s
   unfolding strOff
   read16 = word-in s 16 (omega arith)
 
-  pub read20 : wordAt s 20 ≡ strLen s
+  pub read20 : wordOf s 20 ≡ strLen s
   unfolding strLen
   read20 = word-in s 20 (omega arith)
 
-pub header-is : (s : List ℕ) (a b c d e : ℕ) → a ≡ wordAt s 4 → b ≡ wordAt s 8 → c ≡ wordAt s 12 → d ≡ wordAt s 16 → e ≡ wordAt s 20
+pub header-is : (s : List ℕ) (big : Bool) → big ≡ bigEndian s
+    → (a b c d e : ℕ) → a ≡ wordIn big s 4 → b ≡ wordIn big s 8 → c ≡ wordIn big s 12 → d ≡ wordIn big s 16 → e ≡ wordIn big s 20
     → _≡_ {A = Header} (record { «hdr_len» = a; «type_off» = b; «type_len» = c; «str_off» = d; «str_len» = e }) (headerOf s)
-unfolding headerOf
-header-is s a b c d e p q r t u = λ i. record { «hdr_len» = p i; «type_off» = q i; «type_len» = r i; «str_off» = t i; «str_len» = u i }
+unfolding headerOf wordOf
+header-is s big o a b c d e p q r t u =
+    (λ i. record { «hdr_len» = p i; «type_off» = q i; «type_len» = r i; «str_off» = t i; «str_len» = u i })
+    ∙ (λ i. record { «hdr_len» = wordIn (o i) s 4; «type_off» = wordIn (o i) s 8; «type_len» = wordIn (o i) s 12; «str_off» = wordIn (o i) s 16; «str_len» = wordIn (o i) s 20 })
+
+-- the table has the section's order
+pub order-is : (s : List ℕ) (pointer modes types : ℕ) → btfOf s pointer modes types .«big_endian» ≡ bigEndian s
+unfolding btfOf
+order-is s pointer modes types = refl
+
+-- ---- is_big_endian
+pub big-short : (s : List ℕ) → length s < 2 → false ≡ bigEndian s
+unfolding bigEndian
+big-short [] h = refl
+big-short (x ∷ []) h = none (eqb x 235)
+  where
+    none : (t : Bool) → false ≡ (t && false)
+    none true = refl
+    none false = refl
+big-short (x ∷ y ∷ s) h = absurd (omega arith)
+
+pub big-first : (s : List ℕ) → (getD s 0 0 ≡ 235 → ⊥) → false ≡ bigEndian s
+unfolding bigEndian
+big-first s n = rw (ne-eqb (getD s 0 0) 235 n)
+
+pub big-second : (s : List ℕ) → getD s 0 0 ≡ 235 → eqb (getD s 1 0) 159 ≡ bigEndian s
+unfolding bigEndian
+big-second s e = rw e
 
 -- ---- is_magic
 module _ (s : List ℕ) where
@@ -65,17 +93,23 @@ module _ (s : List ℕ) where
   unfolding isMagic
   magic-short h = rw (lt-leb 24 (length s) h)
 
-  pub magic-first : (24 ≤ length s) → (getD s 0 0 ≡ 159 → ⊥) → false ≡ isMagic s
-  unfolding isMagic
-  magic-first h n = rw (le-leb 24 (length s) h, ne-eqb (getD s 0 0) 159 n)
+  module _ (h : 24 ≤ length s) (r : Bool) (o : r ≡ bigEndian s) where
+    pub magic-big : r ≡ true → eqb (getD s 2 0) 1 ≡ isMagic s
+    unfolding isMagic
+    magic-big f = rw (le-leb 24 (length s) h, sym o ∙ f)
 
-  pub magic-second : (24 ≤ length s) → getD s 0 0 ≡ 159 → (getD s 1 0 ≡ 235 → ⊥) → false ≡ isMagic s
-  unfolding isMagic
-  magic-second h e n = rw (le-leb 24 (length s) h, e, ne-eqb (getD s 1 0) 235 n)
+    module _ (f : r ≡ false) where
+      pub magic-first : (getD s 0 0 ≡ 159 → ⊥) → false ≡ isMagic s
+      unfolding isMagic littleEndian
+      magic-first n = rw (le-leb 24 (length s) h, sym o ∙ f, ne-eqb (getD s 0 0) 159 n)
 
-  pub magic-third : (24 ≤ length s) → getD s 0 0 ≡ 159 → getD s 1 0 ≡ 235 → eqb (getD s 2 0) 1 ≡ isMagic s
-  unfolding isMagic
-  magic-third h e f = rw (le-leb 24 (length s) h, e, f)
+      pub magic-second : getD s 0 0 ≡ 159 → (getD s 1 0 ≡ 235 → ⊥) → false ≡ isMagic s
+      unfolding isMagic littleEndian
+      magic-second e n = rw (le-leb 24 (length s) h, sym o ∙ f, e, ne-eqb (getD s 1 0) 235 n)
+
+      pub magic-third : getD s 0 0 ≡ 159 → getD s 1 0 ≡ 235 → eqb (getD s 2 0) 1 ≡ isMagic s
+      unfolding isMagic littleEndian
+      magic-third e g = rw (le-leb 24 (length s) h, sym o ∙ f, e, g)
 
   pub magic-long : isMagic s ≡ true → 24 ≤ length s
   unfolding isMagic
@@ -88,16 +122,14 @@ areas s =
     && (leb (hdrLen s) (length s) && (leb (hdrLen s + typeOff s + typeLen s) (length s) && leb (hdrLen s + strOff s + strLen s) (length s)))
 
 module _ (s : List ℕ) where
-  regroup : (a b c d r : Bool) → (a && (b && (c && (d && r)))) ≡ ((a && (b && (c && d))) && r)
-  regroup true true true true r = refl
-  regroup true true true false r = refl
-  regroup true true false d r = refl
-  regroup true false c d r = refl
-  regroup false b c d r = refl
+  regroup : (a b c r : Bool) → (a && (b && (c && r))) ≡ ((a && (b && c)) && r)
+  regroup true true c r = refl
+  regroup true false c r = refl
+  regroup false b c r = refl
 
   sound-parts : headerSound s ≡ (isMagic s && areas s)
   unfolding headerSound isMagic
-  sound-parts = regroup (leb 24 (length s)) (eqb (getD s 0 0) 159) (eqb (getD s 1 0) 235) (eqb (getD s 2 0) 1) (areas s)
+  sound-parts = regroup (leb 24 (length s)) (bigEndian s || littleEndian s) (eqb (getD s 2 0) 1) (areas s)
 
   pub bad-magic : (r : Bool) → r ≡ isMagic s → r ≡ false → true ≡ not (headerSound s)
   bad-magic r e f = rw (sound-parts, sym e ∙ f)
@@ -229,31 +261,31 @@ module _ (a : List ℕ) where
 
 -- ---- has_bad_strings
 module _ (s : List ℕ) (h : Header) (e : h ≡ headerOf s) where
-  hdr-reads : h .«hdr_len» ≡ wordAt s 4
+  hdr-reads : h .«hdr_len» ≡ wordOf s 4
   unfolding headerOf
   hdr-reads = ap (λ x. x .«hdr_len») e
 
-  off-reads : h .«str_off» ≡ wordAt s 16
+  off-reads : h .«str_off» ≡ wordOf s 16
   unfolding headerOf
   off-reads = ap (λ x. x .«str_off») e
 
-  len-reads : h .«str_len» ≡ wordAt s 20
+  len-reads : h .«str_len» ≡ wordOf s 20
   unfolding headerOf
   len-reads = ap (λ x. x .«str_len») e
 
   pub strings-outside : length s < h .«hdr_len» + h .«str_off» + h .«str_len» → true ≡ badStrings s
   unfolding badStrings
-  strings-outside l = rw (lt-ltb (length s) (wordAt s 4 + wordAt s 16 + wordAt s 20) (omega (arith, hdr-reads, off-reads, len-reads)), badStrings)
+  strings-outside l = rw (lt-ltb (length s) (wordOf s 4 + wordOf s 16 + wordOf s 20) (omega (arith, hdr-reads, off-reads, len-reads)), badStrings)
 
   pub strings-inside : h .«hdr_len» + h .«str_off» + h .«str_len» ≤ length s → (r : Bool)
       → r ≡ not (stringsSound (take (h .«hdr_len» + h .«str_off» + h .«str_len» - (h .«hdr_len» + h .«str_off»)) (drop (h .«hdr_len» + h .«str_off») s))) → r ≡ badStrings s
   unfolding badStrings
   strings-inside l r f =
-      let n : h .«hdr_len» + h .«str_off» + h .«str_len» - (h .«hdr_len» + h .«str_off») ≡ wordAt s 20 = omega (arith, hdr-reads, off-reads, len-reads) in
-      let m : h .«hdr_len» + h .«str_off» ≡ wordAt s 4 + wordAt s 16 = omega (arith, hdr-reads, off-reads) in
+      let n : h .«hdr_len» + h .«str_off» + h .«str_len» - (h .«hdr_len» + h .«str_off») ≡ wordOf s 20 = omega (arith, hdr-reads, off-reads, len-reads) in
+      let m : h .«hdr_len» + h .«str_off» ≡ wordOf s 4 + wordOf s 16 = omega (arith, hdr-reads, off-reads) in
       f
       ∙ (λ i. not (stringsSound (take (n i) (drop (m i) s))))
-      ∙ rw (le-ltb (length s) (wordAt s 4 + wordAt s 16 + wordAt s 20) (omega (arith, hdr-reads, off-reads, len-reads)), badStrings)
+      ∙ rw (le-ltb (length s) (wordOf s 4 + wordOf s 16 + wordOf s 20) (omega (arith, hdr-reads, off-reads, len-reads)), badStrings)
 
 -- where the header is sound, that is the string area
 pub strings-decided : (s : List ℕ) → headerSound s ≡ true → badStrings s ≡ not (stringsSound (stringArea s))
@@ -264,9 +296,9 @@ strings-decided s h =
     let a1 = and-right (leb 24 (hdrLen s)) _ (and-right (isMagic s) _ g) in
     let a2 = and-right (leb (hdrLen s) (length s)) _ a1 in
     let a3 = and-right (leb (hdrLen s + typeOff s + typeLen s) (length s)) _ a2 in
-    let w4 : wordAt s 4 ≡ hdrLen s = read4 s l in
-    let w16 : wordAt s 16 ≡ strOff s = read16 s l in
-    let w20 : wordAt s 20 ≡ strLen s = read20 s l in
+    let w4 : wordOf s 4 ≡ hdrLen s = read4 s l in
+    let w16 : wordOf s 16 ≡ strOff s = read16 s l in
+    let w20 : wordOf s 20 ≡ strLen s = read20 s l in
     let b : hdrLen s + strOff s + strLen s ≤ length s = leb-true (hdrLen s + strOff s + strLen s) (length s) a3 in
-    rw (le-ltb (length s) (wordAt s 4 + wordAt s 16 + wordAt s 20) (omega arith), badStrings)
+    rw (le-ltb (length s) (wordOf s 4 + wordOf s 16 + wordOf s 20) (omega arith), badStrings)
     (λ i. not (stringsSound (take (w20 i) (drop (w4 i + w16 i) s))))

@@ -19,6 +19,7 @@ use Rattle.followed.specs.Followed.{countOf, entryAt, placeOf, kindAt}
 use Rattle.opening.specs.Header.{btfOf}
 use Rattle.opening.specs.Pass.{countP}
 use Rattle.opening.specs.Table.{describedIn, typesOf, recordPlace, recordKind, emptyIndex, indexFor, indexOf}
+use Rattle.opening.proofs.Headers.{order-is}
 use Rattle.opening.proofs.Sections.{pass-count}
 
 zeros-length : (n : ℕ) → n ≡ 262145 → length {A = ℕ} (replicate n 0) ≡ 262145
@@ -62,7 +63,7 @@ module _ (s : List ℕ) where
   pub types-few : headerSound s ≡ true → typesSound s ≡ true → typesOf s ≤ 262145
   types-few h t =
       let b = btfOf s 8 0 0 in
-      omega (arith, pass-count b s h t, count-most (sectionWord b s) 262144 (typesAt s + typeLen s) (typesAt s))
+      omega (arith, pass-count b s (order-is s 8 0 0) h t, count-most (sectionWord b s) 262144 (typesAt s + typeLen s) (typesAt s))
 
   pub some-type : 1 ≤ typesOf s
   unfolding typesOf

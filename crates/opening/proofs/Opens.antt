@@ -7,11 +7,10 @@ use native.Mathlib.Omega.{arith}
 use lib.ListN.{length, replicate}
 use lib.Dec.{leb, eqb}
 use borrow.Author.Tests.{lt-ltb, le-ltb, ne-eqb, ltb-false, not-false, leb-true}
-use Rattle.lent.specs.Words.{wordAt}
 use Rattle.btf.specs.declared.types.Btf.{Btf}
 use Rattle.btf.specs.Records.{sectionWord}
 use Rattle.records.specs.Places.{passesP}
-use Rattle.records.specs.Section.{hdrLen, typeOff, typeLen, strLen, headerSound, typesSound}
+use Rattle.records.specs.Section.{bigEndian, wordOf, hdrLen, typeOff, typeLen, strLen, headerSound, typesSound}
 use Rattle.records.proofs.SectionFields.{area-inside}
 use Rattle.followed.specs.References.{hasBadReference}
 use Rattle.followed.specs.Prototypes.{anyLeads}
@@ -26,7 +25,7 @@ use Rattle.opening.specs.Table.{describedIn, typesOf, enumeratorsOf, emp
 use Rattle.opening.specs.Causes.{cause2, cause3, cause5, cause6, cause7, cause8, cause9, tableOf, next, firstOf, early, late, fromSix, openingNumber}
 use Rattle.opening.specs.Left.{filled}
 use Rattle.opening.specs.Opened.{refused, opened, openOut, workOf, openingOf, Examined, refusedBy, soundWith, examineOut, examined}
-use Rattle.opening.proofs.Headers.{read4, read8, read12, read20, and-left}
+use Rattle.opening.proofs.Headers.{read4, read8, read12, read20, and-left, order-is}
 use Rattle.opening.proofs.Sections.{pass-decides, pass-count, pass-enums, pass-index}
 use Rattle.opening.proofs.Order.{NoneHolds, first-none, first-stays}
 
@@ -68,7 +67,7 @@ module _ (w : ℕ → ℕ) (sl from end : ℕ) (start : List ℕ) where
   unfolding scanP
   scan-no e = rw (e, scanP)
 
-module _ (b : Btf) (s : List ℕ) (h : headerSound s ≡ true) (l : length s ≤ 16777216) where
+module _ (b : Btf) (s : List ℕ) (o : b .«big_endian» ≡ bigEndian s) (h : headerSound s ≡ true) (l : length s ≤ 16777216) where
   long : 24 ≤ length s
   unfolding headerSound
   long = leb-true 24 (length s) (and-left (leb 24 (length s)) _ h)
@@ -76,8 +75,8 @@ module _ (b : Btf) (s : List ℕ) (h : headerSound s ≡ true) (l : length s ≤
   count-index : typesSound s ≡ true → indexP (sectionWord b s) (hdrLen s + typeOff s) emptyIndex (countP (sectionWord b s) 262144 (hdrLen s + typeOff s + typeLen s) (hdrLen s + typeOff s)) ≡ indexOf s
   unfolding indexOf typesOf
   count-index t =
-      let n : countP (sectionWord b s) 262144 (hdrLen s + typeOff s + typeLen s) (hdrLen s + typeOff s) ≡ length (describedIn s) = suc-same (pass-count b s h t) in
-      pass-index b s (countP (sectionWord b s) 262144 (hdrLen s + typeOff s + typeLen s) (hdrLen s + typeOff s)) ∙ ap (indexFor s) n
+      let n : countP (sectionWord b s) 262144 (hdrLen s + typeOff s + typeLen s) (hdrLen s + typeOff s) ≡ length (describedIn s) = suc-same (pass-count b s o h t) in
+      pass-index b s o (countP (sectionWord b s) 262144 (hdrLen s + typeOff s + typeLen s) (hdrLen s + typeOff s)) ∙ ap (indexFor s) n
     where
       suc-same : {m n : ℕ} → suc m ≡ suc n → m ≡ n
       suc-same e = omega arith
@@ -87,21 +86,21 @@ module _ (b : Btf) (s : List ℕ) (h : headerSound s ≡ true) (l : length s ≤
     where
       go : (t : Bool) → typesSound s ≡ t → scanP (sectionWord b s) (strLen s) (hdrLen s + typeOff s) (hdrLen s + typeOff s + typeLen s) emptyIndex ≡ passed s
       go true t =
-          scan-yes (sectionWord b s) (strLen s) (hdrLen s + typeOff s) (hdrLen s + typeOff s + typeLen s) emptyIndex (pass-decides b s h ∙ t)
-          ∙ (λ i. found (pass-count b s h t i) (pass-enums b s h t i) (count-index t i))
+          scan-yes (sectionWord b s) (strLen s) (hdrLen s + typeOff s) (hdrLen s + typeOff s + typeLen s) emptyIndex (pass-decides b s o h ∙ t)
+          ∙ (λ i. found (pass-count b s o h t i) (pass-enums b s o h t i) (count-index t i))
           ∙ ap (λ (q : Bool). passedBy q s) (sym t)
       go false t =
-          scan-no (sectionWord b s) (strLen s) (hdrLen s + typeOff s) (hdrLen s + typeOff s + typeLen s) emptyIndex (pass-decides b s h ∙ t)
+          scan-no (sectionWord b s) (strLen s) (hdrLen s + typeOff s) (hdrLen s + typeOff s + typeLen s) emptyIndex (pass-decides b s o h ∙ t)
           ∙ ap (λ (q : Bool). passedBy q s) (sym t)
 
   pub section-is : scanSection b s emptyIndex ≡ passed s
   unfolding scanSection
   section-is =
-      let e4 : wordAt s 4 ≡ hdrLen s = read4 s long in
-      let e8 : wordAt s 8 ≡ typeOff s = read8 s long in
-      let e12 : wordAt s 12 ≡ typeLen s = read12 s long in
-      let e20 : wordAt s 20 ≡ strLen s = read20 s long in
-      rw (le-ltb 16777216 (wordAt s 4 + wordAt s 8 + wordAt s 12) (omega (arith, area-inside s h)), scanSection)
+      let e4 : wordOf s 4 ≡ hdrLen s = read4 s long in
+      let e8 : wordOf s 8 ≡ typeOff s = read8 s long in
+      let e12 : wordOf s 12 ≡ typeLen s = read12 s long in
+      let e20 : wordOf s 20 ≡ strLen s = read20 s long in
+      rw (le-ltb 16777216 (wordOf s 4 + wordOf s 8 + wordOf s 12) (omega (arith, area-inside s h)), scanSection)
       ((λ i. scanP (sectionWord b s) (e20 i) (e4 i + e8 i) (e4 i + e8 i + e12 i) emptyIndex) ∙ pass-is)
 
 -- what a Scan says
@@ -194,9 +193,9 @@ module _ (p : ℕ) (s : List ℕ) (wl : ℕ) where
           unfolding openingNumber firstOf
           number-0 e = rw (falses .0, falses .1 .0, falses .1 .1 .0, falses .1 .1 .1 .0, e5, last .0, last .1 .0, last .1 .1 .0, e)
 
-      module _ (b : Btf) (r : Records) (start start′ : List ℕ) (e0 : start ≡ emptyIndex) (es : scanOut r start′ ≡ scanSection b s start) where
+      module _ (b : Btf) (eb0 : b ≡ btfOf s p 0 0) (r : Records) (start start′ : List ℕ) (e0 : start ≡ emptyIndex) (es : scanOut r start′ ≡ scanSection b s start) where
         out-is : scanOut r start′ ≡ passed s
-        out-is = es ∙ ap (scanSection b s) e0 ∙ section-is b s sound-header short
+        out-is = es ∙ ap (scanSection b s) e0 ∙ section-is b s (ap (λ x. x .«big_endian») eb0 ∙ order-is s p 0 0) sound-header short
 
         pub examine-5 : r .«is_sound» ≡ false → refusedBy 5 ≡ examined p s wl
         unfolding cause5

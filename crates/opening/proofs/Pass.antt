@@ -10,13 +10,14 @@ use native.Mathlib.Nat.{mul-comm}
 use lib.ListN.{set, List·getD-eq-default}
 use lib.Dec.{ltb, leb, eqb}
 use borrow.Author.Tests.{lt-ltb, le-ltb, le-leb, lt-leb, ne-eqb, leb-true}
-use Rattle.lent.specs.Words.{wordAt, pick}
+use Rattle.lent.specs.Words.{pick}
 use Rattle.lent.proofs.Laws.{le-or-lt}
 use Rattle.btf.specs.declared.types.Btf.{Btf}
 use Rattle.btf.specs.declared.types.Extra.{Extra}
 use Rattle.btf.specs.declared.types.Extra.the-variants.{Bytes, Refused}
 use Rattle.btf.specs.Records.{sectionWord, vlenOf, kindOf, extraOf}
 use Rattle.records.specs.Reading.{Kind, none, INT, PTR, ARRAY, STRUCT, UNION, ENUM, FWD, TYPEDEF, VOLATILE, CONST, RESTRICT, FUNC, FUNC-PROTO, VAR, DATASEC, FLOAT, DECL-TAG, TYPE-TAG, ENUM64, kind, Shape, bad, fixed, each, shape, known, extra, extraOf as lengthOf}
+use Rattle.records.specs.Section.{wordOf}
 use Rattle.records.specs.Places.{kindP, vlenP, sizeP, allNamedP, entriesNamedP, soundP, namedP, passesP, placeFrom}
 use Rattle.opening.specs.declared.area.Records.{Records}
 use Rattle.opening.specs.declared.header.Header.{Header}
@@ -521,29 +522,29 @@ unfolding scanOut
 out-found x e start = refl
 
 module _ (b : Btf) (s start : List ℕ) (h : Header) (e : h ≡ headerOf s) where
-  at4 : h .«hdr_len» ≡ wordAt s 4
+  at4 : h .«hdr_len» ≡ wordOf s 4
   unfolding headerOf
   at4 = ap (λ x. x .«hdr_len») e
 
-  at8 : h .«type_off» ≡ wordAt s 8
+  at8 : h .«type_off» ≡ wordOf s 8
   unfolding headerOf
   at8 = ap (λ x. x .«type_off») e
 
-  at12 : h .«type_len» ≡ wordAt s 12
+  at12 : h .«type_len» ≡ wordOf s 12
   unfolding headerOf
   at12 = ap (λ x. x .«type_len») e
 
-  at20 : h .«str_len» ≡ wordAt s 20
+  at20 : h .«str_len» ≡ wordOf s 20
   unfolding headerOf
   at20 = ap (λ x. x .«str_len») e
 
   pub section-past : 16777216 < h .«hdr_len» + h .«type_off» + h .«type_len» → unsound ≡ scanSection b s start
   unfolding scanSection
-  section-past l = rw (lt-ltb 16777216 (wordAt s 4 + wordAt s 8 + wordAt s 12) (omega (arith, at4, at8, at12)), scanSection)
+  section-past l = rw (lt-ltb 16777216 (wordOf s 4 + wordOf s 8 + wordOf s 12) (omega (arith, at4, at8, at12)), scanSection)
 
   pub section-pass : h .«hdr_len» + h .«type_off» + h .«type_len» ≤ 16777216 → (q : Scan)
       → q ≡ scanP (sectionWord b s) (h .«str_len») (h .«hdr_len» + h .«type_off») (h .«hdr_len» + h .«type_off» + h .«type_len») start → q ≡ scanSection b s start
   unfolding scanSection
   section-pass l q f =
-      rw (le-ltb 16777216 (wordAt s 4 + wordAt s 8 + wordAt s 12) (omega (arith, at4, at8, at12)), scanSection)
+      rw (le-ltb 16777216 (wordOf s 4 + wordOf s 8 + wordOf s 12) (omega (arith, at4, at8, at12)), scanSection)
       (f ∙ (λ i. scanP (sectionWord b s) (at20 i) (at4 i + at8 i) (at4 i + at8 i + at12 i) start))

@@ -7,7 +7,7 @@ use mathlib.Core.Logic.{⊎-elim, inl}
 use native.Mathlib.Omega.{arith}
 use lib.ListN.{length, getD, replicate, length-replicate}
 use borrow.Author.Tests.{ltb-false, not-false, ne-eqb, le-leb, lt-leb}
-use Rattle.lent.specs.Words.{getWord, wordAt}
+use Rattle.lent.specs.Words.{getWord}
 use Rattle.lent.proofs.Laws.{le-or-lt}
 use Rattle.btf.specs.declared.types.Btf.{Btf}
 use Rattle.btf.specs.declared.types.BtfType.{BtfType}
@@ -19,7 +19,7 @@ use Rattle.records.specs.Documentation.{Described}
 use Rattle.records.specs.Reading.{Bytes}
 use Rattle.records.specs.Places.{kindP, typeP}
 use Rattle.records.proofs.Claims.{section-fields}
-use Rattle.records.specs.Section.{stringArea, headerSound, stringsSound, typesSound}
+use Rattle.records.specs.Section.{bigEndian, wordOf, stringArea, headerSound, stringsSound, typesSound}
 use Rattle.followed.specs.Followed.{countOf, followedCount, followedId}
 use Rattle.followed.specs.References.{BadReference}
 use Rattle.followed.proofs.BadIds.{bad-reference}
@@ -36,6 +36,8 @@ use Rattle.opening.proofs.Index.{types-few, some-type, index-place, ind
 use Rattle.opening.proofs.Work.{classes-keep, tags-keep, enums-keep, places-keep, places-void, places-long, filled-place}
 use Rattle.opening.proofs.Tags.{Rising, Chain, Chains, chain-keeps, chain-read, chains-all, tags-long, next-not, on-rises, on-short}
 use Rattle.opening.proofs.Enumerators.{to-up, enums-long, first-at, first-not, value-at, tags-past, classes-past}
+use Rattle.opening.proofs.Headers.{order-is}
+use Rattle.opening.proofs.Sections.{kind-is}
 use Rattle.opening.proofs.Sums.{enumerators-few, enumerators-all}
 use Rattle.opening.proofs.Zeros.{Other, zeros-word, before-else, other-count}
 
@@ -69,6 +71,9 @@ module _ (p modes : ℕ) (s : List ℕ) (n : ℕ) (ok : openingNumber p s n ≡ 
 
   abbrev b : Btf
   b = btfOf s p modes (typesOf s)
+
+  pub order-ok : b .«big_endian» ≡ bigEndian s
+  order-ok = order-is s p modes (typesOf s)
 
   pub types-are : b .types ≡ typesOf s
   types-are = table-types s few p modes
@@ -133,9 +138,9 @@ module _ (p modes : ℕ) (s : List ℕ) (n : ℕ) (ok : openingNumber p s n ≡ 
   place-back id a l = filled-place b s start (enumeratorsOf s) zeros room0 id a (omega (arith, types-are)) ∙ index-place s few id a l
 
   -- and the type read there, field by field, is the one that the documentation describes
-  pub described-back : Bytes s → (id : ℕ) → 1 ≤ id → id < typesOf s → (d : Described) → typeP (wordAt s) (getField (workOf p modes s n) id 0) ≡ getD (describedIn s) (id - 1) d
+  pub described-back : Bytes s → (id : ℕ) → 1 ≤ id → id < typesOf s → (d : Described) → typeP (wordOf s) (getField (workOf p modes s n) id 0) ≡ getD (describedIn s) (id - 1) d
   unfolding recordPlace typesOf
-  described-back y id a l d = ap (typeP (wordAt s)) (place-back id a l) ∙ section-fields s y header-ok types-ok .each (id - 1) d (omega arith)
+  described-back y id a l d = ap (typeP (wordOf s)) (place-back id a l) ∙ section-fields s y header-ok types-ok .each (id - 1) d (omega arith)
 
   -- words 9 and 10: the tags of a type, in rising order
   no-tags : Chains b s start w2 (suc (b .types - 1)) 0
@@ -174,8 +179,8 @@ module _ (p modes : ℕ) (s : List ℕ) (n : ℕ) (ok : openingNumber p s n ≡ 
   first-back id a l e =
       let m : id < b .types = omega (arith, types-are) in
       let d : enumsTo b s start (id - 1) ≤ enumsTo b s start (b .types - 1) = to-up b s start (id - 1) (b .types - 1) (omega arith) in
-      let t : enumsTo b s start (b .types - 1) ≡ enumeratorsOf s = ap (λ (q : ℕ). enumsTo b s start (q - 1)) types-are ∙ enumerators-all b s header-ok types-ok few in
-      let v : enumsTo b s start (id - 1) % 4294967296 ≡ enumsTo b s start (id - 1) = omega (arith, enumerators-few b s header-ok types-ok, section-short) in
+      let t : enumsTo b s start (b .types - 1) ≡ enumeratorsOf s = ap (λ (q : ℕ). enumsTo b s start (q - 1)) types-are ∙ enumerators-all b s order-ok header-ok types-ok few in
+      let v : enumsTo b s start (id - 1) % 4294967296 ≡ enumsTo b s start (id - 1) = omega (arith, enumerators-few b s order-ok header-ok types-ok, section-short) in
       ap (λ (q : List ℕ). getField q id 12) work-is
       ∙ classes-keep (b .types) id 12 m (omega arith) (λ q. absurd (omega arith)) (λ q. absurd (omega arith)) (λ q. absurd (omega arith)) b refl (enumeratorsOf s) s before
       ∙ tags-keep b s start (b .types - 1) w2 id 12 (omega arith) (λ q. absurd (omega arith)) (λ q. absurd (omega arith))
@@ -195,7 +200,7 @@ module _ (p modes : ℕ) (s : List ℕ) (n : ℕ) (ok : openingNumber p s n ≡ 
       → getWord (workOf p modes s n) (enumeratorWord (b .types) (enumsTo b s start (id - 1) + k)) ≡ valuePlace (recordKind s (id - 1)) (recordPlace s (id - 1)) k
   value-back id k a l h =
       let e = enumsTo b s start (id - 1) + k in
-      let t : enumsTo b s start (b .types - 1) ≡ enumeratorsOf s = ap (λ (q : ℕ). enumsTo b s start (q - 1)) types-are ∙ enumerators-all b s header-ok types-ok few in
+      let t : enumsTo b s start (b .types - 1) ≡ enumeratorsOf s = ap (λ (q : ℕ). enumsTo b s start (q - 1)) types-are ∙ enumerators-all b s order-ok header-ok types-ok few in
       ap (λ (q : List ℕ). getWord q (enumeratorWord (b .types) e)) work-is
       ∙ classes-past b s start (enumeratorsOf s) e before
       ∙ tags-past b s start (b .types - 1) w2 (enumeratorWord (b .types) e) (omega (arith, types-are, some-type s)) (past e)
@@ -250,7 +255,7 @@ module _ (p modes : ℕ) (s : List ℕ) (n : ℕ) (ok : openingNumber p s n ≡ 
 
   pub room-back : Room b (enumeratorsOf s) before
   room-back = record {
-    numbered = omega (arith, few, types-are, enumerators-few b s header-ok types-ok, section-short);
+    numbered = omega (arith, few, types-are, enumerators-few b s order-ok header-ok types-ok, section-short);
     words = omega (arith, before-long, work-long, types-are);
   }
 
@@ -276,8 +281,8 @@ module _ (p modes : ℕ) (s : List ℕ) (n : ℕ) (ok : openingNumber p s n ≡ 
 
   -- its kind is the one that the index has
   pub kind-back : (id : ℕ) → 1 ≤ id → id < typesOf s → kindOf (recordById b s (workOf p modes s n) id .info) ≡ recordKind s (id - 1)
-  unfolding recordAt recordKind kindP sectionWord
-  kind-back id a l = ap (λ (q : BtfType). kindOf (q .info)) (record-back id a l)
+  unfolding recordAt kindP
+  kind-back id a l = ap (λ (q : BtfType). kindOf (q .info)) (record-back id a l) ∙ kind-is b s order-ok (id - 1)
 
   -- value k of an enum is the enumerator that many after the enum's first
   pub enumerator-back : (id k : ℕ) → 1 ≤ id → id < typesOf s → isEnum (recordKind s (id - 1)) ≡ true → k < 65536
@@ -286,8 +291,8 @@ module _ (p modes : ℕ) (s : List ℕ) (n : ℕ) (ok : openingNumber p s n ≡ 
   enumerator-back id k a l e m =
       let f : getField (workOf p modes s n) id 12 ≡ enumsTo b s start (id - 1) = first-back id a l e in
       let d : enumsTo b s start (id - 1) ≤ enumsTo b s start (b .types - 1) = to-up b s start (id - 1) (b .types - 1) (omega (arith, types-are)) in
-      let t : enumsTo b s start (b .types - 1) ≡ enumeratorsOf s = ap (λ (q : ℕ). enumsTo b s start (q - 1)) types-are ∙ enumerators-all b s header-ok types-ok few in
-      rw (le-leb (getField (workOf p modes s n) id 12 + k) 4294967295 (omega (arith, enumerators-few b s header-ok types-ok, section-short)), enumeratorOf)
+      let t : enumsTo b s start (b .types - 1) ≡ enumeratorsOf s = ap (λ (q : ℕ). enumsTo b s start (q - 1)) types-are ∙ enumerators-all b s order-ok header-ok types-ok few in
+      rw (le-leb (getField (workOf p modes s n) id 12 + k) 4294967295 (omega (arith, enumerators-few b s order-ok header-ok types-ok, section-short)), enumeratorOf)
       (ap (λ (q : ℕ). q + k) f)
 
   -- the table that crate btf reads from the work has the tags of the section, and they are below the count

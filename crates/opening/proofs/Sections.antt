@@ -2,7 +2,7 @@
 -- Assumes nothing.
 use Prim.Native.Nat.{ℕ, zero, suc, zero-le, _+_, _*_, _/_, _%_, _<_, _≤_}
 use mathlib.Core.Path.{_≡_, refl, ap, _∙_, sym}
-use mathlib.Core.Bool.{true, false}
+use mathlib.Core.Bool.{Bool, true, false}
 use mathlib.Core.List.{List, map}
 use mathlib.Core.Logic.{⊎-elim}
 use native.Mathlib.Omega.{arith}
@@ -10,13 +10,14 @@ use native.Mathlib.Decide.{ℕ-discrete}
 use lib.ListN.{length, drop, set, length-map}
 use lib.Dec.{ltb, leb, eqb}
 use borrow.Author.Tests.{lt-ltb, le-ltb, ne-eqb, leb-true}
-use Rattle.lent.specs.Words.{wordAt, pick}
+use Rattle.lent.specs.Words.{pick}
 use Rattle.lent.proofs.Laws.{le-or-lt}
 use Rattle.btf.specs.declared.types.Btf.{Btf}
 use Rattle.btf.specs.Records.{sectionWord}
+use Rattle.btf.proofs.Documented.{words-same}
 use Rattle.records.specs.Reading.{word, Kind, kind, extra, sizeAt, getBody, getEach, getEnumerator, getEnumerator64, decode, typeAt, places, decodeAll}
 use Rattle.records.specs.Places.{kindP, vlenP, sizeP, soundP, namedP, passesP, placeFrom}
-use Rattle.records.specs.Section.{typesAt, typeLen, strLen, typeArea, headerSound, typesSound}
+use Rattle.records.specs.Section.{bigEndian, wordOf, typesAt, typeLen, strLen, typeArea, headerSound, typesSound}
 use Rattle.records.proofs.Words.{word-drop}
 use Rattle.records.proofs.Area.{places-in, places-out, places-none}
 use Rattle.records.proofs.ByPlaces.{size-places}
@@ -66,39 +67,39 @@ module _ (u : ℕ → ℕ) (f : ℕ) where
       λ i. elim (test-shift len p i) [ true ↦ enumsOf (info-shift p i) + r i | false ↦ 0 ]
 
 -- ---- the same of the area's bytes: how many records, how many enumerators
-count-places : (n : ℕ) (b : List ℕ) (p : ℕ) → length (places n b p) ≡ countP (word b) n (length b) p
+count-places : (big : Bool) (n : ℕ) (b : List ℕ) (p : ℕ) → length (places big n b p) ≡ countP (word big b) n (length b) p
 unfolding countP
-count-places zero b p = ap length (places-none b p)
-count-places (suc n) b p =
+count-places big zero b p = ap length (places-none big b p)
+count-places big (suc n) b p =
     ⊎-elim
-    (λ l. ap length (places-out 0 n b p l) ∙ sym (count-end (word b) 0 (length b) p l (suc n)))
-    (λ l. ap length (places-in 0 n b p l)
-    ∙ ap suc (count-places n b (p + sizeAt (drop p b)) ∙ ap (λ (z : ℕ). countP (word b) n (length b) (p + z)) (size-places b p))
-    ∙ sym (count-in (word b) 0 (length b) p n l))
+    (λ l. ap length (places-out big 0 n b p l) ∙ sym (count-end (word big b) 0 (length b) p l (suc n)))
+    (λ l. ap length (places-in big 0 n b p l)
+    ∙ ap suc (count-places big n b (p + sizeAt big (drop p b)) ∙ ap (λ (z : ℕ). countP (word big b) n (length b) (p + z)) (size-places big b p))
+    ∙ sym (count-in (word big b) 0 (length b) p n l))
     (le-or-lt (length b) p)
 
 each-long : {E : Type 0} (get : List ℕ → E) (size n : ℕ) (r : List ℕ) → length (getEach get size n r) ≡ n
 each-long get size zero r = refl
 each-long get size (suc n) r = ap suc (each-long get size n (drop size r))
 
-values-body : (f v : ℕ) (e : List ℕ) (k : ℕ) → valuesIn (getBody (kind k) f v e) ≡ pick (eqb k 6) v (pick (eqb k 19) v 0)
+values-body : (big : Bool) (f v : ℕ) (e : List ℕ) (k : ℕ) → valuesIn (getBody big (kind k) f v e) ≡ pick (eqb k 6) v (pick (eqb k 19) v 0)
 unfolding kind
-values-body f v e k =
+values-body big f v e k =
     elim (ℕ-discrete k 6) [
-      | yes a ↦ rw a (each-long getEnumerator 8 v e)
+      | yes a ↦ rw a (each-long (getEnumerator big) 8 v e)
       | no a ↦ elim (ℕ-discrete k 19) [
-        | yes b ↦ rw b (each-long getEnumerator64 12 v e)
+        | yes b ↦ rw b (each-long (getEnumerator64 big) 12 v e)
         | no b ↦ rw (ne-eqb k 6 a, ne-eqb k 19 b) (others a b)
       ]
     ]
   where
     g : ℕ → ℕ
-    g j = valuesIn (getBody (kind j) f v e)
+    g j = valuesIn (getBody big (kind j) f v e)
 
     others : (k ≡ 6 → ⊥) → (k ≡ 19 → ⊥) → g k ≡ 0
     others a b =
         ⊎-elim
-        (λ l. ap (λ (q : Kind). valuesIn (getBody q f v e)) (kind-past k l))
+        (λ l. ap (λ (q : Kind). valuesIn (getBody big q f v e)) (kind-past k l))
         (λ l. ⊎-elim
         (λ m. steady g 0 7 12 k (refl, (refl, (refl, (refl, (refl, (refl, (refl, (refl, (refl, (refl, (refl, (refl, tt)))))))))))) m (below b l))
         (λ m. steady g 0 0 6 k (refl, (refl, (refl, (refl, (refl, (refl, tt)))))) zero-le (under a m))
@@ -111,20 +112,20 @@ values-body f v e k =
         under : (k ≡ 6 → ⊥) → k < 7 → k < 6
         under a l = omega (arith, a)
 
-values-decode : (r : List ℕ) → enumeratorsIn (decode r) ≡ enumsOf (word r 4)
+values-decode : (big : Bool) (r : List ℕ) → enumeratorsIn (decode big r) ≡ enumsOf (word big r 4)
 unfolding decode enumsOf
-values-decode r = values-body (word r 4 / 2147483648) (word r 4 % 65536) (drop 12 r) (word r 4 / 16777216 % 32)
+values-decode big r = values-body big (word big r 4 / 2147483648) (word big r 4 % 65536) (drop 12 r) (word big r 4 / 16777216 % 32)
 
-enums-places : (n : ℕ) (b : List ℕ) (p : ℕ) → allEnumerators (map (typeAt b) (places n b p)) ≡ enumsP (word b) n (length b) p
+enums-places : (big : Bool) (n : ℕ) (b : List ℕ) (p : ℕ) → allEnumerators (map (typeAt big b) (places big n b p)) ≡ enumsP (word big b) n (length b) p
 unfolding enumsP
-enums-places zero b p = ap (λ (l : List ℕ). allEnumerators (map (typeAt b) l)) (places-none b p)
-enums-places (suc n) b p =
+enums-places big zero b p = ap (λ (l : List ℕ). allEnumerators (map (typeAt big b) l)) (places-none big b p)
+enums-places big (suc n) b p =
     ⊎-elim
-    (λ l. ap (λ (q : List ℕ). allEnumerators (map (typeAt b) q)) (places-out 0 n b p l) ∙ sym (enums-end (word b) 0 (length b) p l (suc n)))
-    (λ l. ap (λ (q : List ℕ). allEnumerators (map (typeAt b) q)) (places-in 0 n b p l)
-    ∙ (λ i. (values-decode (drop p b) ∙ ap enumsOf (word-drop b p 4)) i
-    + (enums-places n b (p + sizeAt (drop p b)) ∙ ap (λ (z : ℕ). enumsP (word b) n (length b) (p + z)) (size-places b p)) i)
-    ∙ sym (enums-in (word b) 0 (length b) p n l))
+    (λ l. ap (λ (q : List ℕ). allEnumerators (map (typeAt big b) q)) (places-out big 0 n b p l) ∙ sym (enums-end (word big b) 0 (length b) p l (suc n)))
+    (λ l. ap (λ (q : List ℕ). allEnumerators (map (typeAt big b) q)) (places-in big 0 n b p l)
+    ∙ (λ i. (values-decode big (drop p b) ∙ ap enumsOf (word-drop big b p 4)) i
+    + (enums-places big n b (p + sizeAt big (drop p b)) ∙ ap (λ (z : ℕ). enumsP (word big b) n (length b) (p + z)) (size-places big b p)) i)
+    ∙ sym (enums-in (word big b) 0 (length b) p n l))
     (le-or-lt (length b) p)
 
 -- ---- where the records are sound, only words inside the area count
@@ -171,10 +172,9 @@ module _ (w u : ℕ → ℕ) (len : ℕ) (same : (q : ℕ) → q + 4 ≤ len →
       (le-or-lt len p)
 
 -- ---- THE THEOREMS: what the code reads in the section, by places, is what the documentation reads
-module _ (b : Btf) (s : List ℕ) where
-  reads-is : sectionWord b s ≡ wordAt s
-  unfolding sectionWord
-  reads-is = refl
+module _ (b : Btf) (s : List ℕ) (o : b .«big_endian» ≡ bigEndian s) where
+  reads-is : sectionWord b s ≡ wordOf s
+  reads-is = words-same b s o
 
   from-base : typesAt s + 0 ≡ typesAt s
   from-base = omega arith
@@ -184,16 +184,16 @@ module _ (b : Btf) (s : List ℕ) where
 
   module _ (h : headerSound s ≡ true) (t : typesSound s ≡ true) where
     abbrev area : ℕ → ℕ
-    area q = wordAt s (typesAt s + q)
+    area q = wordOf s (typesAt s + q)
 
     area-passes : passesP (strLen s) 262144 area (typeLen s) 0 ≡ true
     area-passes =
-        passes-shift (wordAt s) (typesAt s) (strLen s) 262144 (typeLen s) 0
-        ∙ ap (passesP (strLen s) 262144 (wordAt s) (typesAt s + typeLen s)) from-base
+        passes-shift (wordOf s) (typesAt s) (strLen s) 262144 (typeLen s) 0
+        ∙ ap (passesP (strLen s) 262144 (wordOf s) (typesAt s + typeLen s)) from-base
         ∙ sym (types-places s h)
         ∙ t
 
-    same-words : (q : ℕ) → q + 4 ≤ typeLen s → area q ≡ word (typeArea s) q
+    same-words : (q : ℕ) → q + 4 ≤ typeLen s → area q ≡ word (bigEndian s) (typeArea s) q
     unfolding areaWord
     same-words q l = sym (area-words s q h l)
 
@@ -202,22 +202,22 @@ module _ (b : Btf) (s : List ℕ) where
     pass-count =
         ap suc
         (ap (λ (w : ℕ → ℕ). countP w 262144 (typesAt s + typeLen s) (typesAt s)) reads-is
-        ∙ ap (countP (wordAt s) 262144 (typesAt s + typeLen s)) (sym from-base)
-        ∙ sym (count-shift (wordAt s) (typesAt s) 262144 (typeLen s) 0)
-        ∙ count-same area (word (typeArea s)) (typeLen s) same-words (strLen s) 262144 0 area-passes
-        ∙ ap (λ (n : ℕ). countP (word (typeArea s)) 262144 n 0) (sym (area-length s h))
-        ∙ sym (count-places 262144 (typeArea s) 0)
-        ∙ sym (length-map (places 262144 (typeArea s) 0) (typeAt (typeArea s))))
+        ∙ ap (countP (wordOf s) 262144 (typesAt s + typeLen s)) (sym from-base)
+        ∙ sym (count-shift (wordOf s) (typesAt s) 262144 (typeLen s) 0)
+        ∙ count-same area (word (bigEndian s) (typeArea s)) (typeLen s) same-words (strLen s) 262144 0 area-passes
+        ∙ ap (λ (n : ℕ). countP (word (bigEndian s) (typeArea s)) 262144 n 0) (sym (area-length s h))
+        ∙ sym (count-places (bigEndian s) 262144 (typeArea s) 0)
+        ∙ sym (length-map (places (bigEndian s) 262144 (typeArea s) 0) (typeAt (bigEndian s) (typeArea s))))
 
     pub pass-enums : enumsP (sectionWord b s) 262144 (typesAt s + typeLen s) (typesAt s) ≡ enumeratorsOf s
     unfolding enumeratorsOf decodeAll
     pass-enums =
         ap (λ (w : ℕ → ℕ). enumsP w 262144 (typesAt s + typeLen s) (typesAt s)) reads-is
-        ∙ ap (enumsP (wordAt s) 262144 (typesAt s + typeLen s)) (sym from-base)
-        ∙ sym (enums-shift (wordAt s) (typesAt s) 262144 (typeLen s) 0)
-        ∙ enums-same area (word (typeArea s)) (typeLen s) same-words (strLen s) 262144 0 area-passes
-        ∙ ap (λ (n : ℕ). enumsP (word (typeArea s)) 262144 n 0) (sym (area-length s h))
-        ∙ sym (enums-places 262144 (typeArea s) 0)
+        ∙ ap (enumsP (wordOf s) 262144 (typesAt s + typeLen s)) (sym from-base)
+        ∙ sym (enums-shift (wordOf s) (typesAt s) 262144 (typeLen s) 0)
+        ∙ enums-same area (word (bigEndian s) (typeArea s)) (typeLen s) same-words (strLen s) 262144 0 area-passes
+        ∙ ap (λ (n : ℕ). enumsP (word (bigEndian s) (typeArea s)) 262144 n 0) (sym (area-length s h))
+        ∙ sym (enums-places (bigEndian s) 262144 (typeArea s) 0)
 
   pub place-is : (n : ℕ) → placeFrom (sectionWord b s) (typesAt s) n ≡ recordPlace s n
   unfolding recordPlace

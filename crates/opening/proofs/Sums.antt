@@ -7,20 +7,20 @@ use mathlib.Core.Logic.{⊎-elim}
 use native.Mathlib.Omega.{arith}
 use lib.ListN.{length, getD}
 use lib.Dec.{eqb}
-use Rattle.lent.specs.Words.{wordAt, pick}
+use Rattle.lent.specs.Words.{pick}
 use Rattle.lent.proofs.Laws.{le-or-lt}
 use Rattle.btf.specs.declared.types.Btf.{Btf}
 use Rattle.btf.specs.Records.{sectionWord, vlenOf, kindOf}
 use Rattle.records.specs.Reading.{kind, extra}
 use Rattle.records.specs.Places.{kindP, vlenP, sizeP, soundP, namedP, passesP, placeFrom}
-use Rattle.records.specs.Section.{typesAt, typeLen, strLen, headerSound, typesSound}
+use Rattle.records.specs.Section.{bigEndian, typesAt, typeLen, strLen, headerSound, typesSound}
 use Rattle.records.proofs.SectionFields.{from-next, area-inside}
 use Rattle.opening.specs.Pass.{enumsOf, countP, enumsP}
 use Rattle.opening.specs.Table.{typesOf, enumeratorsOf, recordPlace, recordKind, indexOf}
 use Rattle.opening.specs.Left.{isEnum, valuesAt, enumsTo}
 use Rattle.opening.proofs.Headers.{and-left, and-right}
 use Rattle.opening.proofs.Pass.{enums-small, ends-in, count-in, count-end, enums-in, enums-end, passes-in}
-use Rattle.opening.proofs.Sections.{pass-decides, pass-count, pass-enums}
+use Rattle.opening.proofs.Sections.{pass-decides, pass-count, pass-enums, place-is, kind-is}
 use Rattle.opening.proofs.Index.{index-place, index-kind}
 
 -- the enumerators of the first n records from p on
@@ -86,20 +86,26 @@ values-same k v = go (eqb k 6) (eqb k 19)
     go false true = refl
     go false false = refl
 
-by-place : (b : Btf) (s : List ℕ) (entry i : ℕ) → entry / 32 ≡ recordPlace s i → entry % 32 ≡ recordKind s i
+by-place : (b : Btf) (s : List ℕ) → b .«big_endian» ≡ bigEndian s → (entry i : ℕ) → entry / 32 ≡ recordPlace s i → entry % 32 ≡ recordKind s i
     → valuesAt b s entry ≡ enumsOf (sectionWord b s (placeFrom (sectionWord b s) (typesAt s) i + 4))
-unfolding valuesAt enumsOf recordKind kindP recordPlace sectionWord
-by-place b s entry i p k =
-    values-same (entry % 32) (vlenOf (wordAt s (entry / 32 + 4)))
-    ∙ (λ j. pick (eqb (k j) 6) (vlenOf (wordAt s (p j + 4))) (pick (eqb (k j) 19) (vlenOf (wordAt s (p j + 4))) 0))
+unfolding valuesAt enumsOf kindP
+by-place b s o entry i p k =
+    values-same (entry % 32) (vlenOf (sectionWord b s (entry / 32 + 4)))
+    ∙ (λ j. pick (eqb (kindly j) 6) (vlenOf (sectionWord b s (place j + 4))) (pick (eqb (kindly j) 19) (vlenOf (sectionWord b s (place j + 4))) 0))
+  where
+    place : entry / 32 ≡ placeFrom (sectionWord b s) (typesAt s) i
+    place = p ∙ sym (place-is b s o i)
 
-module _ (b : Btf) (s : List ℕ) (h : headerSound s ≡ true) (t : typesSound s ≡ true) where
+    kindly : entry % 32 ≡ kindP (sectionWord b s) (placeFrom (sectionWord b s) (typesAt s) i)
+    kindly = k ∙ sym (kind-is b s o i) ∙ ap (kindP (sectionWord b s)) (sym (place-is b s o i))
+
+module _ (b : Btf) (s : List ℕ) (o : b .«big_endian» ≡ bigEndian s) (h : headerSound s ≡ true) (t : typesSound s ≡ true) where
   abbrev reads : ℕ → ℕ
   reads = sectionWord b s
 
   pub enumerators-few : enumeratorsOf s * 8 ≤ length s
   enumerators-few =
-      omega (arith, pass-enums b s h t, enums-bound reads (strLen s) 262144 (typesAt s + typeLen s) (typesAt s) (pass-decides b s h ∙ t) (omega arith), area-inside s h)
+      omega (arith, pass-enums b s o h t, enums-bound reads (strLen s) 262144 (typesAt s + typeLen s) (typesAt s) (pass-decides b s o h ∙ t) (omega arith), area-inside s h)
 
   module _ (few : typesOf s ≤ 262145) where
     -- the values of a type by its entry of the index
@@ -108,7 +114,7 @@ module _ (b : Btf) (s : List ℕ) (h : headerSound s ≡ true) (t : typesSound s
         let y : suc i - 1 ≡ i = omega arith in
         let p : getD (indexOf s) (suc i) 0 / 32 ≡ recordPlace s i = index-place s few (suc i) (omega arith) l ∙ ap (recordPlace s) y in
         let k : getD (indexOf s) (suc i) 0 % 32 ≡ recordKind s i = index-kind s few (suc i) (omega arith) l ∙ ap (recordKind s) y in
-        by-place b s (getD (indexOf s) (suc i) 0) i p k
+        by-place b s o (getD (indexOf s) (suc i) 0) i p k
 
     to-sum : (n : ℕ) → n < typesOf s → enumsTo b s (indexOf s) n ≡ sumTo reads (typesAt s) n
     unfolding enumsTo sumTo
@@ -117,8 +123,8 @@ module _ (b : Btf) (s : List ℕ) (h : headerSound s ≡ true) (t : typesSound s
 
     pub enumerators-all : enumsTo b s (indexOf s) (typesOf s - 1) ≡ enumeratorsOf s
     enumerators-all =
-        let z : typesOf s - 1 ≡ countP reads 262144 (typesAt s + typeLen s) (typesAt s) = omega (arith, pass-count b s h t) in
-        to-sum (typesOf s - 1) (omega (arith, pass-count b s h t))
+        let z : typesOf s - 1 ≡ countP reads 262144 (typesAt s + typeLen s) (typesAt s) = omega (arith, pass-count b s o h t) in
+        to-sum (typesOf s - 1) (omega (arith, pass-count b s o h t))
         ∙ ap (sumTo reads (typesAt s)) z
         ∙ sym (enums-sum reads 262144 (typesAt s + typeLen s) (typesAt s))
-        ∙ pass-enums b s h t
+        ∙ pass-enums b s o h t

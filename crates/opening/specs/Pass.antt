@@ -5,11 +5,12 @@ use mathlib.Core.Bool.{Bool, true, false, _&&_}
 use mathlib.Core.List.{List}
 use lib.ListN.{set}
 use lib.Dec.{ltb, eqb}
-use Rattle.lent.specs.Words.{wordAt, pick}
+use Rattle.lent.specs.Words.{pick}
 use Rattle.btf.specs.declared.types.Btf.{Btf}
 use Rattle.btf.specs.Records.{sectionWord, vlenOf, kindOf}
 use Rattle.records.specs.Reading.{Kind, none, INT, PTR, ARRAY, STRUCT, UNION, ENUM, FWD, TYPEDEF, VOLATILE, CONST, RESTRICT, FUNC, FUNC-PROTO, VAR, DATASEC, FLOAT, DECL-TAG, TYPE-TAG, ENUM64, kind}
 use Rattle.records.specs.Places.{sizeP, kindP, entriesNamedP, soundP, namedP, passesP, placeFrom}
+use Rattle.records.specs.Section.{wordOf}
 use Rattle.opening.specs.declared.area.Records.{Records}
 
 -- how long an entry with a name is, of the kinds that have such
@@ -86,7 +87,7 @@ scanP w sl from end start =
 -- the pass over the type area as the header has it; an area that ends past the largest section is none
 unfoldable pub scanSection : Btf → List ℕ → List ℕ → Scan
 scanSection b s start =
-    elim (ltb 16777216 (wordAt s 4 + wordAt s 8 + wordAt s 12)) [
+    elim (ltb 16777216 (wordOf s 4 + wordOf s 8 + wordOf s 12)) [
       | true ↦ unsound
-      | false ↦ scanP (sectionWord b s) (wordAt s 20) (wordAt s 4 + wordAt s 8) (wordAt s 4 + wordAt s 8 + wordAt s 12) start
+      | false ↦ scanP (sectionWord b s) (wordOf s 20) (wordOf s 4 + wordOf s 8) (wordOf s 4 + wordOf s 8 + wordOf s 12) start
     ]

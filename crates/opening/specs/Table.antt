@@ -2,15 +2,14 @@
 use Prim.Native.Nat.{ℕ, zero, suc, _+_, _*_}
 use mathlib.Core.List.{List, [], _∷_}
 use lib.ListN.{length, set, replicate}
-use Rattle.lent.specs.Words.{wordAt}
 use Rattle.records.specs.Documentation.{Body, int, ptr, array, struct, union, enum, fwd, typedef, volatile, const, restrict, func, func-proto, var, datasec, float, decl-tag, type-tag, enum64, Described, described}
 use Rattle.records.specs.Reading.{decodeAll}
 use Rattle.records.specs.Places.{kindP, placeFrom}
-use Rattle.records.specs.Section.{typesAt, typeArea}
+use Rattle.records.specs.Section.{bigEndian, wordOf, typesAt, typeArea}
 
 -- the types of a section, from id 1 on
 abbrev pub describedIn : List ℕ → List Described
-describedIn s = decodeAll (typeArea s)
+describedIn s = decodeAll (bigEndian s) (typeArea s)
 
 -- "the count of types, void counted"
 unfoldable pub typesOf : List ℕ → ℕ
@@ -50,11 +49,11 @@ enumeratorsOf s = allEnumerators (describedIn s)
 
 -- where record i, counted from 0, stands in the section: type id i + 1
 unfoldable pub recordPlace : List ℕ → ℕ → ℕ
-recordPlace s i = placeFrom (wordAt s) (typesAt s) i
+recordPlace s i = placeFrom (wordOf s) (typesAt s) i
 
 -- its kind
 unfoldable pub recordKind : List ℕ → ℕ → ℕ
-recordKind s i = kindP (wordAt s) (recordPlace s i)
+recordKind s i = kindP (wordOf s) (recordPlace s i)
 
 -- 262,145 zeros: void and as many records as there may be
 unfoldable pub emptyIndex : List ℕ

@@ -1,9 +1,9 @@
 // The header, and causes 3 and 4.
-use lent::word_at;
+use lent::word_in;
 ghost use mathlib.Core.Path.{_≡_};
 ghost use mathlib.Core.Bool.{not};
 ghost use Prim.Native.Nat.{_+_};
-ghost use Rattle.records.specs.Section.{headerSound, stringsSound};
+ghost use Rattle.records.specs.Section.{bigEndian, headerSound, stringsSound};
 ghost use Rattle.opening.specs.Header.{headerOf, isMagic, larger, largestFrom, badStrings};
 
 // struct btf_header from hdr_len on; offsets count from the header's end.
@@ -15,15 +15,29 @@ pub struct Header {
     pub str_len: u32,
 }
 
+// Whether the magic is EB 9F: every word of the section has its most significant byte first.
+pub fn is_big_endian(section: &[u8]) -> bool
+    ensures { λ r. ⌜ r ≡ bigEndian (now (section .entry)) ⌝ }
+{
+    if section.len() < 2 {
+        return false;
+    }
+    if section[0] != 0xeb {
+        return false;
+    }
+    section[1] == 0x9f
+}
+
 pub fn btf_header(section: &[u8]) -> Header
     ensures { λ r. ⌜ r ≡ headerOf (now (section .entry)) ⌝ }
 {
+    let big = is_big_endian(section);
     Header {
-        hdr_len: word_at(section, 4),
-        type_off: word_at(section, 8),
-        type_len: word_at(section, 12),
-        str_off: word_at(section, 16),
-        str_len: word_at(section, 20),
+        hdr_len: word_in(big, section, 4),
+        type_off: word_in(big, section, 8),
+        type_len: word_in(big, section, 12),
+        str_off: word_in(big, section, 16),
+        str_len: word_in(big, section, 20),
     }
 }
 
@@ -34,11 +48,15 @@ fn area_end(h: Header, off: u32, len: u32) -> u64
     (h.hdr_len as u64) + (off as u64) + (len as u64)
 }
 
+// At least 24 bytes, the magic in either order, version 1.
 fn is_magic(section: &[u8]) -> bool
     ensures { λ r. ⌜ r ≡ isMagic (now (section .entry)) ⌝ }
 {
     if section.len() < 24 {
         return false;
+    }
+    if is_big_endian(section) {
+        return section[2] == 1;
     }
     if section[0] != 0x9f {
         return false;

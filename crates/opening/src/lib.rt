@@ -11,6 +11,7 @@ pub use header::Header;
 use header::btf_header;
 use header::has_bad_header;
 use header::has_bad_strings;
+use header::is_big_endian;
 use lent::clear;
 ghost use mathlib.Core.Path.{_≡_};
 ghost use mathlib.Core.Bool.{not};
@@ -67,6 +68,7 @@ pub fn btf_of(section: &[u8], pointer_size: u32, modes: u32, types: u32) -> Btf
     Btf {
         ptr_sz: size_of_pointer(pointer_size),
         union_as_struct: modes % 2 == 1,
+        big_endian: is_big_endian(section),
         types: count_of_types(types),
         strs: strings_at(h),
     }

@@ -1,6 +1,7 @@
 -- The reader by places is the decoder. Assumes nothing.
 use Prim.Native.Nat.{ℕ, zero, suc, _+_, _*_, _/_, _%_, _<_, _≤_}
 use mathlib.Core.Path.{_≡_, refl, ap, _∙_}
+use mathlib.Core.Bool.{Bool}
 use mathlib.Core.List.{List, [], _∷_}
 use native.Mathlib.Omega.{arith}
 use native.Mathlib.Nat.{zero-mul, suc-mul}
@@ -11,8 +12,8 @@ use Rattle.records.specs.Reading.{word, getEach, getMember, getEnumerato
 use Rattle.records.specs.Places.{vlenP, kindP, flagP, sizeP, memberP, enumeratorP, paramP, secinfoP, enumerator64P, tabulate, bodyP, typeP}
 use Rattle.records.proofs.Words.{word-drop}
 
-pub first : (b : List ℕ) (q : ℕ) → word (drop q b) 0 ≡ word b q
-first b q = let z : q + 0 ≡ q = omega arith in word-drop b q 0 ∙ ap (word b) z
+pub first : (big : Bool) (b : List ℕ) (q : ℕ) → word big (drop q b) 0 ≡ word big b q
+first big b q = let z : q + 0 ≡ q = omega arith in word-drop big b q 0 ∙ ap (word big b) z
 
 pub tabulate-at : {E : Type 0} (f : ℕ → E) (k n j : ℕ) (d : E) → j < n → getD (tabulate f k n) j d ≡ f (k + j)
 tabulate-at f k zero j d h = absurd (omega arith)
@@ -28,21 +29,21 @@ some-table get at size b e q k (suc n) =
     let r : getEach get size n (drop size (drop (q + k * size) b)) ≡ tabulate (λ j. at (q + j * size)) (suc k) n = rw (drop-drop size (q + k * size) b, m) (some-table get at size b e q (suc k) n) in
     λ i. e (q + k * size) i ∷ r i
 
-member-at : (f : ℕ) (b : List ℕ) (q : ℕ) → getMember f (drop q b) ≡ memberP f (word b) q
-member-at zero b q = λ i. member (first b q i) (word-drop b q 4 i) (word-drop b q 8 i) 0
-member-at (suc f) b q = λ i. member (first b q i) (word-drop b q 4 i) (word-drop b q 8 i % 16777216) (word-drop b q 8 i / 16777216)
+member-at : (big : Bool) (f : ℕ) (b : List ℕ) (q : ℕ) → getMember big f (drop q b) ≡ memberP f (word big b) q
+member-at big zero b q = λ i. member (first big b q i) (word-drop big b q 4 i) (word-drop big b q 8 i) 0
+member-at big (suc f) b q = λ i. member (first big b q i) (word-drop big b q 4 i) (word-drop big b q 8 i % 16777216) (word-drop big b q 8 i / 16777216)
 
-enumerator-at : (b : List ℕ) (q : ℕ) → getEnumerator (drop q b) ≡ enumeratorP (word b) q
-enumerator-at b q = λ i. enumerator (first b q i) (word-drop b q 4 i)
+enumerator-at : (big : Bool) (b : List ℕ) (q : ℕ) → getEnumerator big (drop q b) ≡ enumeratorP (word big b) q
+enumerator-at big b q = λ i. enumerator (first big b q i) (word-drop big b q 4 i)
 
-param-at : (b : List ℕ) (q : ℕ) → getParam (drop q b) ≡ paramP (word b) q
-param-at b q = λ i. param (first b q i) (word-drop b q 4 i)
+param-at : (big : Bool) (b : List ℕ) (q : ℕ) → getParam big (drop q b) ≡ paramP (word big b) q
+param-at big b q = λ i. param (first big b q i) (word-drop big b q 4 i)
 
-secinfo-at : (b : List ℕ) (q : ℕ) → getSecinfo (drop q b) ≡ secinfoP (word b) q
-secinfo-at b q = λ i. secinfo (first b q i) (word-drop b q 4 i) (word-drop b q 8 i)
+secinfo-at : (big : Bool) (b : List ℕ) (q : ℕ) → getSecinfo big (drop q b) ≡ secinfoP (word big b) q
+secinfo-at big b q = λ i. secinfo (first big b q i) (word-drop big b q 4 i) (word-drop big b q 8 i)
 
-enumerator64-at : (b : List ℕ) (q : ℕ) → getEnumerator64 (drop q b) ≡ enumerator64P (word b) q
-enumerator64-at b q = λ i. enumerator64 (first b q i) (word-drop b q 4 i) (word-drop b q 8 i)
+enumerator64-at : (big : Bool) (b : List ℕ) (q : ℕ) → getEnumerator64 big (drop q b) ≡ enumerator64P (word big b) q
+enumerator64-at big b q = λ i. enumerator64 (first big b q i) (word-drop big b q 4 i) (word-drop big b q 8 i)
 
 whole-table : {E : Type 0} (get : List ℕ → E) (at : ℕ → E) (size : ℕ) (b : List ℕ) → ((q : ℕ) → get (drop q b) ≡ at q)
     → (q n : ℕ) → getEach get size n (drop q b) ≡ tabulate (λ j. at (q + j * size)) 0 n
@@ -50,43 +51,43 @@ whole-table get at size b e q n =
     let z : q ≡ q + 0 * size = omega (arith, zero-mul size) in
     ap (λ (p : ℕ). getEach get size n (drop p b)) z ∙ some-table get at size b e q 0 n
 
-body-places : (k : Kind) (f v : ℕ) (b : List ℕ) (q : ℕ) → getBody k f v (drop q b) ≡ bodyP k f v (word b) q
-body-places none f v b q = refl
-body-places INT f v b q =
-    ap (λ (w : ℕ). int v (w % 256) (w / 256 % 256) (w / 65536 % 256) (w / 16777216 % 16) (w / 268435456)) (first b q)
-body-places PTR f v b q = refl
-body-places ARRAY f v b q = λ i. array v (first b q i) (word-drop b q 4 i) (word-drop b q 8 i)
-body-places STRUCT f v b q = ap struct (whole-table (getMember f) (memberP f (word b)) 12 b (member-at f b) q v)
-body-places UNION f v b q = ap union (whole-table (getMember f) (memberP f (word b)) 12 b (member-at f b) q v)
-body-places ENUM f v b q = ap enum (whole-table getEnumerator (enumeratorP (word b)) 8 b (enumerator-at b) q v)
-body-places FWD f v b q = refl
-body-places TYPEDEF f v b q = refl
-body-places VOLATILE f v b q = refl
-body-places CONST f v b q = refl
-body-places RESTRICT f v b q = refl
-body-places FUNC f v b q = refl
-body-places FUNC-PROTO f v b q = ap func-proto (whole-table getParam (paramP (word b)) 8 b (param-at b) q v)
-body-places VAR f v b q = ap (var v) (first b q)
-body-places DATASEC f v b q = ap datasec (whole-table getSecinfo (secinfoP (word b)) 12 b (secinfo-at b) q v)
-body-places FLOAT f v b q = refl
-body-places DECL-TAG f v b q = ap (decl-tag v) (first b q)
-body-places TYPE-TAG f v b q = refl
-body-places ENUM64 f v b q = ap enum64 (whole-table getEnumerator64 (enumerator64P (word b)) 12 b (enumerator64-at b) q v)
+body-places : (big : Bool) (k : Kind) (f v : ℕ) (b : List ℕ) (q : ℕ) → getBody big k f v (drop q b) ≡ bodyP k f v (word big b) q
+body-places big none f v b q = refl
+body-places big INT f v b q =
+    ap (λ (w : ℕ). int v (w % 256) (w / 256 % 256) (w / 65536 % 256) (w / 16777216 % 16) (w / 268435456)) (first big b q)
+body-places big PTR f v b q = refl
+body-places big ARRAY f v b q = λ i. array v (first big b q i) (word-drop big b q 4 i) (word-drop big b q 8 i)
+body-places big STRUCT f v b q = ap struct (whole-table (getMember big f) (memberP f (word big b)) 12 b (member-at big f b) q v)
+body-places big UNION f v b q = ap union (whole-table (getMember big f) (memberP f (word big b)) 12 b (member-at big f b) q v)
+body-places big ENUM f v b q = ap enum (whole-table (getEnumerator big) (enumeratorP (word big b)) 8 b (enumerator-at big b) q v)
+body-places big FWD f v b q = refl
+body-places big TYPEDEF f v b q = refl
+body-places big VOLATILE f v b q = refl
+body-places big CONST f v b q = refl
+body-places big RESTRICT f v b q = refl
+body-places big FUNC f v b q = refl
+body-places big FUNC-PROTO f v b q = ap func-proto (whole-table (getParam big) (paramP (word big b)) 8 b (param-at big b) q v)
+body-places big VAR f v b q = ap (var v) (first big b q)
+body-places big DATASEC f v b q = ap datasec (whole-table (getSecinfo big) (secinfoP (word big b)) 12 b (secinfo-at big b) q v)
+body-places big FLOAT f v b q = refl
+body-places big DECL-TAG f v b q = ap (decl-tag v) (first big b q)
+body-places big TYPE-TAG f v b q = refl
+body-places big ENUM64 f v b q = ap enum64 (whole-table (getEnumerator64 big) (enumerator64P (word big b)) 12 b (enumerator64-at big b) q v)
 
-pub size-places : (b : List ℕ) (p : ℕ) → sizeAt (drop p b) ≡ sizeP (word b) p
+pub size-places : (big : Bool) (b : List ℕ) (p : ℕ) → sizeAt big (drop p b) ≡ sizeP (word big b) p
 unfolding sizeP kindP vlenP
-size-places b p = ap (λ (w : ℕ). 12 + extra (kind (w / 16777216 % 32)) (w % 65536)) (word-drop b p 4)
+size-places big b p = ap (λ (w : ℕ). 12 + extra (kind (w / 16777216 % 32)) (w % 65536)) (word-drop big b p 4)
 
 -- every field read by its place is the field of the type described there
-pub places-decode : (b : List ℕ) (p : ℕ) → typeAt b p ≡ typeP (word b) p
+pub places-decode : (big : Bool) (b : List ℕ) (p : ℕ) → typeAt big b p ≡ typeP (word big b) p
 unfolding decode typeP kindP vlenP flagP
-places-decode b p =
-    λ i. described (first b p i) (word-drop b p 4 i / 2147483648) (word-drop b p 8 i) (rest i)
+places-decode big b p =
+    λ i. described (first big b p i) (word-drop big b p 4 i / 2147483648) (word-drop big b p 8 i) (rest i)
   where
-    rest : getBody (kind (kindAt (drop p b))) (flagAt (drop p b)) (vlenAt (drop p b)) (drop 12 (drop p b)) ≡ bodyP (kind (kindP (word b) p)) (flagP (word b) p) (vlenP (word b) p) (word b) (p + 12)
+    rest : getBody big (kind (kindAt big (drop p b))) (flagAt big (drop p b)) (vlenAt big (drop p b)) (drop 12 (drop p b)) ≡ bodyP (kind (kindP (word big b) p)) (flagP (word big b) p) (vlenP (word big b) p) (word big b) (p + 12)
     rest =
-        rw (drop-drop 12 p b, word-drop b p 4)
-        (body-places (kind (word b (p + 4) / 16777216 % 32)) (word b (p + 4) / 2147483648) (word b (p + 4) % 65536) b (p + 12))
+        rw (drop-drop 12 p b, word-drop big b p 4)
+        (body-places big (kind (word big b (p + 4) / 16777216 % 32)) (word big b (p + 4) / 2147483648) (word big b (p + 4) % 65536) b (p + 12))
 
 ---------------------------------------------------------------------------------------------------------------------------------------
 -- Only the words inside the record count

@@ -3,16 +3,15 @@
 -- beside its premises.
 use Prim.Native.Nat.{ℕ, _+_, _*_, _/_, _%_, _<_, _≤_, _^_}
 use mathlib.Core.Path.{_≡_, ap, _∙_}
-use mathlib.Core.Bool.{true, false}
+use mathlib.Core.Bool.{Bool, true, false, _||_}
 use mathlib.Core.List.{List, [], _∷_, _++_}
 use mathlib.Core.Logic.{_↔_}
 use native.Mathlib.Omega.{arith}
 use lib.ListN.{length, getD, take, drop}
-use Rattle.lent.specs.Words.{wordAt}
-use Rattle.records.specs.Documentation.{Field, Every, littleEndian, layOut, unpack, btf-header, btf-type, btf-info, btf-info-unused, btf-int, int-word, btf-array, btf-member, btf-enum, btf-param, btf-var, btf-var-secinfo, btf-decl-tag, btf-enum64, each, follows, followSize, putEach, member, Body, Described, kindOf, vlenOf, putBody, encodeAll, starts, Fits, Allowed, encodeTable, NonzeroAscii, Header, encodeHeader, FitHeader, encodeSection}
+use Rattle.records.specs.Documentation.{Field, Every, inBytes, layOut, unpack, btf-header, btf-type, btf-info, btf-info-unused, btf-int, int-word, btf-array, btf-member, btf-enum, btf-param, btf-var, btf-var-secinfo, btf-decl-tag, btf-enum64, each, follows, followSize, putEach, member, Body, Described, kindOf, vlenOf, putBody, encodeAll, starts, Fits, Allowed, encodeTable, NonzeroAscii, Header, encodeHeader, FitHeader, encodeSection}
 use Rattle.records.specs.Reading.{Bytes, kind, shape, known, extra, places, decodeAll, layoutSound}
 use Rattle.records.specs.Places.{vlenP, kindP, flagP, memberP, typeP, placeFrom, soundP, namedP, passesP}
-use Rattle.records.specs.Section.{typeLen, strLen, typesAt, typeArea, stringArea, readHeader, headerSound, stringsSound, typesSound, ReadAs}
+use Rattle.records.specs.Section.{bigEndian, littleEndian, wordOf, typeLen, strLen, typesAt, typeArea, stringArea, readHeader, headerSound, stringsSound, typesSound, ReadAs}
 use Rattle.records.specs.Fields.{nameOff, vlenIn, kindIn, kindFlag, info, sizeOrType, bodyStructs, structs, bitOffset, bitfieldSize, intBits, arrayType, arrayIndexType, arrayNelems, memberNameOff, memberType, memberOffset, memberBitOffset, memberBitfieldSize, enumNameOff, enumVal, paramNameOff, paramType, varLinkage, secinfoType, secinfoOffset, secinfoSize, componentIdx, enum64NameOff, enum64Lo, enum64Hi, structsAt}
 use Rattle.records.proofs.Area as Area
 use Rattle.records.proofs.Section as Section
@@ -28,30 +27,33 @@ use Rattle.records.proofs.Fields as Fields
 
 -- 2.2, "The type section is parsed sequentially and type id is assigned to each recognized type starting from id 1": the bytes of a list of types are
 -- read as that list, each type at the offset where its bytes begin. 262,144 is the scope's limit on records.
-pub layout-read : (ts : List Described) → Every Fits ts → length ts ≤ 262144
-    → (places 262144 (encodeAll ts) 0 ≡ starts 0 ts) × (decodeAll (encodeAll ts) ≡ ts)
+pub layout-read : (big : Bool) (ts : List Described) → Every Fits ts → length ts ≤ 262144
+    → (places big 262144 (encodeAll big ts) 0 ≡ starts big 0 ts) × (decodeAll big (encodeAll big ts) ≡ ts)
 layout-read = Area.layout-read
 
 -- and they pass the tests of cause 5, beside a string section of sl bytes
-pub layout-passes : (sl : ℕ) (ts : List Described) → Every (Allowed sl) ts → length ts ≤ 262144 → layoutSound sl (encodeAll ts) ≡ true
+pub layout-passes : (big : Bool) (sl : ℕ) (ts : List Described) → Every (Allowed sl) ts → length ts ≤ 262144 → layoutSound big sl (encodeAll big ts) ≡ true
 layout-passes = Area.layout-passes
 
 -- 2., "The beginning of data blob must be: struct btf_header": a section written with its types and then its strings directly after the header is read,
 -- by places in its bytes, as those types
-pub section-as : (flags : ℕ) (ts : List Described) (strings : List ℕ) → flags < 256 → length (encodeAll ts) < 2 ^ 32 → length strings < 2 ^ 32
-    → Bytes strings → Every (Allowed (length strings)) ts → length ts ≤ 262144 → ReadAs (encodeSection flags ts strings) ts
+pub section-as : (big : Bool) (flags : ℕ) (ts : List Described) (strings : List ℕ) → flags < 256 → length (encodeAll big ts) < 2 ^ 32 → length strings < 2 ^ 32
+    → Bytes strings → Every (Allowed (length strings)) ts → length ts ≤ 262144 → ReadAs (encodeSection big flags ts strings) ts
 section-as = Written.section-as
 
 -- 2., "All offsets are in bytes relative to the end of this header": and so is every section whose header points to the bytes of the types, wherever
 -- they stand, with a header of any length from 24 on, gaps, or bytes after the areas
-pub area-as : (s : List ℕ) (ts : List Described) → Bytes s → headerSound s ≡ true → typeArea s ≡ encodeAll ts → Every (Allowed (strLen s)) ts
+pub area-as : (s : List ℕ) (ts : List Described) → Bytes s → headerSound s ≡ true → typeArea s ≡ encodeAll (bigEndian s) ts → Every (Allowed (strLen s)) ts
     → length ts ≤ 262144 → ReadAs s ts
 area-as = Written.area-as
 
 -- 2. struct btf_header, and 2.1, "The first string in the string section must be a null string. The rest of string table is a concatenation of other
 -- null-terminated strings"
-pub header-read : (h : Header) (s : List ℕ) → FitHeader h → readHeader (encodeHeader h ++ s) ≡ h
+pub header-read : (big : Bool) (h : Header) (s : List ℕ) → FitHeader h → readHeader (encodeHeader big h ++ s) ≡ h
 header-read = Section.header-read
+
+pub order-written : (big : Bool) (h : Header) (s : List ℕ) → bigEndian (encodeHeader big h ++ s) ≡ big
+order-written = Section.order-written
 
 pub strings-pass : (ss : List (List ℕ)) → Every (Every NonzeroAscii) ss → stringsSound (encodeTable ss) ≡ true
 strings-pass = Strings.strings-pass
@@ -60,48 +62,49 @@ strings-pass = Strings.strings-pass
 -- (b) A section that passes causes 3 to 5 has exactly one list of described types, and every field read by place is that list's field
 
 -- 2.2: the bytes of a type section that passes cause 5 are the layout of the types that are read in it
-pub read-layout : (sl : ℕ) (b : List ℕ) → Bytes b → layoutSound sl b ≡ true
-    → (encodeAll (decodeAll b) ≡ b) × Every (Allowed sl) (decodeAll b) × (length (decodeAll b) ≤ 262144)
+pub read-layout : (big : Bool) (sl : ℕ) (b : List ℕ) → Bytes b → layoutSound big sl b ≡ true
+    → (encodeAll big (decodeAll big b) ≡ b) × Every (Allowed sl) (decodeAll big b) × (length (decodeAll big b) ≤ 262144)
 read-layout = Area.read-layout
 
 -- and of no other types
-pub only-read : (sl : ℕ) (b : List ℕ) → Bytes b → layoutSound sl b ≡ true → (ts : List Described) → Every Fits ts → encodeAll ts ≡ b → ts ≡ decodeAll b
+pub only-read : (big : Bool) (sl : ℕ) (b : List ℕ) → Bytes b → layoutSound big sl b ≡ true → (ts : List Described) → Every Fits ts → encodeAll big ts ≡ b → ts ≡ decodeAll big b
 only-read = Area.only-read
 
 -- both together: cause 5 refuses exactly what is not the layout of at most 262,144 types whose numbers fit and whose names lie in the string section
-pub sound-iff : (sl : ℕ) (b : List ℕ) → Bytes b
-    → (layoutSound sl b ≡ true) ↔ ((ts : List Described) × Every (Allowed sl) ts × (length ts ≤ 262144) × (encodeAll ts ≡ b))
+pub sound-iff : (big : Bool) (sl : ℕ) (b : List ℕ) → Bytes b
+    → (layoutSound big sl b ≡ true) ↔ ((ts : List Described) × Every (Allowed sl) ts × (length ts ≤ 262144) × (encodeAll big ts ≡ b))
 sound-iff = Area.sound-iff
 
 -- 2., 2.2: of a section. `ReadAs` says that the type read by places is the type of the list, for every id
-pub section-fields : (s : List ℕ) → Bytes s → headerSound s ≡ true → typesSound s ≡ true → ReadAs s (decodeAll (typeArea s))
+pub section-fields : (s : List ℕ) → Bytes s → headerSound s ≡ true → typesSound s ≡ true → ReadAs s (decodeAll (bigEndian s) (typeArea s))
 section-fields = SectionFields.section-fields
 
 -- 2., 2.1, 2.2: a section that passes causes 3, 4 and 5 has exactly one list of described types, and exactly one list of strings after the null string
 pub section-one : (s : List ℕ) → Bytes s → headerSound s ≡ true → stringsSound (stringArea s) ≡ true → typesSound s ≡ true
-    → ((ts : List Described) × ReadAs s ts × ((us : List Described) → Every Fits us → encodeAll us ≡ typeArea s → us ≡ ts))
+    → ((ts : List Described) × ReadAs s ts × ((us : List Described) → Every Fits us → encodeAll (bigEndian s) us ≡ typeArea s → us ≡ ts))
     × ((ss : List (List ℕ)) × Every (Every NonzeroAscii) ss × (encodeTable ss ≡ stringArea s) × ((us : List (List ℕ)) → Every (Every NonzeroAscii) us → encodeTable us ≡ stringArea s → us ≡ ss))
 section-one = Written.section-one
 
 -- cause 5 decided by words at their places in the section is cause 5
-pub types-places : (s : List ℕ) → headerSound s ≡ true → typesSound s ≡ passesP (strLen s) 262144 (wordAt s) (typesAt s + typeLen s) (typesAt s)
+pub types-places : (s : List ℕ) → headerSound s ≡ true → typesSound s ≡ passesP (strLen s) 262144 (wordOf s) (typesAt s + typeLen s) (typesAt s)
 types-places = SectionTests.types-places
 
 -- the type section ends where its last record ends; and each record lies inside it and passes the tests of cause 5 by itself
 pub section-ends : (s : List ℕ) → Bytes s → headerSound s ≡ true → typesSound s ≡ true
-    → placeFrom (wordAt s) (typesAt s) (length (decodeAll (typeArea s))) ≡ typesAt s + typeLen s
+    → placeFrom (wordOf s) (typesAt s) (length (decodeAll (bigEndian s) (typeArea s))) ≡ typesAt s + typeLen s
 section-ends = SectionFields.section-ends
 
-pub section-inside : (s : List ℕ) → Bytes s → headerSound s ≡ true → typesSound s ≡ true → (i : ℕ) → i < length (decodeAll (typeArea s))
-    → placeFrom (wordAt s) (typesAt s) i + 12 ≤ typesAt s + typeLen s
+pub section-inside : (s : List ℕ) → Bytes s → headerSound s ≡ true → typesSound s ≡ true → (i : ℕ) → i < length (decodeAll (bigEndian s) (typeArea s))
+    → placeFrom (wordOf s) (typesAt s) i + 12 ≤ typesAt s + typeLen s
 section-inside = SectionFields.section-inside
 
-pub section-sound-at : (s : List ℕ) → Bytes s → headerSound s ≡ true → typesSound s ≡ true → (i : ℕ) → i < length (decodeAll (typeArea s))
-    → (soundP (wordAt s) (typesAt s + typeLen s) (placeFrom (wordAt s) (typesAt s) i) ≡ true) × (namedP (strLen s) (wordAt s) (placeFrom (wordAt s) (typesAt s) i) ≡ true)
+pub section-sound-at : (s : List ℕ) → Bytes s → headerSound s ≡ true → typesSound s ≡ true → (i : ℕ) → i < length (decodeAll (bigEndian s) (typeArea s))
+    → (soundP (wordOf s) (typesAt s + typeLen s) (placeFrom (wordOf s) (typesAt s) i) ≡ true) × (namedP (strLen s) (wordOf s) (placeFrom (wordOf s) (typesAt s) i) ≡ true)
 section-sound-at = SectionTests.section-sound-at
 
--- 2., the header: "The magic is 0xeB9F", the bytes 9F EB in little-endian order
-pub header-back : (s : List ℕ) → Bytes s → 24 ≤ length s → getD s 0 0 ≡ 159 → getD s 1 0 ≡ 235 → encodeHeader (readHeader s) ++ drop 24 s ≡ s
+-- 2., the header: "The magic is 0xeB9F, which has different encoding for big and little endian systems, and can be used to test whether BTF is
+-- generated for big- or little-endian target": the bytes EB 9F or 9F EB
+pub header-back : (s : List ℕ) → Bytes s → 24 ≤ length s → (bigEndian s || littleEndian s) ≡ true → encodeHeader (bigEndian s) (readHeader s) ++ drop 24 s ≡ s
 header-back = Section.header-back
 
 -- 2.1: a string section that passes cause 4 is a null string and then null-terminated strings, and of one list only
@@ -116,7 +119,7 @@ strings-once = Strings.strings-once
 -- Kind by kind, all of a type at once: laws type-INT to type-ENUM64 of `Fields`, w (p + 4) / 16777216 % 32 ≡ 4 → typeP w p ≡ described ..
 
 -- Where a word is asked to be below 2 ^ 32: a word of a section is
-pub words-fit : (s : List ℕ) → Bytes s → (q : ℕ) → wordAt s q < 2 ^ 32
+pub words-fit : (s : List ℕ) → Bytes s → (q : ℕ) → wordOf s q < 2 ^ 32
 words-fit = SectionFields.words-fit
 
 module _ (w : ℕ → ℕ) (p : ℕ) where
@@ -259,15 +262,15 @@ int-ranges = Fields.int-ranges
 -- (d) The definitions of `Documentation` agree with its tables
 
 -- each field's bytes stand at the offset that the table of its struct gives (`Runs`: each field begins where the one before it ends)
-pub field-stands : (fs : List Field) (vs : List ℕ) → Tables.Runs 0 fs → length vs ≡ length fs → (i : ℕ) → i < length fs
-    → take (Tables.widthOf fs i) (drop (Tables.offsetOf fs i) (layOut fs vs)) ≡ littleEndian (Tables.widthOf fs i) (getD vs i 0)
+pub field-stands : (big : Bool) (fs : List Field) (vs : List ℕ) → Tables.Runs 0 fs → length vs ≡ length fs → (i : ℕ) → i < length fs
+    → take (Tables.widthOf fs i) (drop (Tables.offsetOf fs i) (layOut big fs vs)) ≡ inBytes big (Tables.widthOf fs i) (getD vs i 0)
 field-stands = Tables.field-stands
 
 pub all-run : Tables.Runs 0 btf-header × Tables.Runs 0 btf-type × Tables.Runs 0 int-word × Tables.Runs 0 btf-array × Tables.Runs 0 btf-member × Tables.Runs 0 btf-enum × Tables.Runs 0 btf-param × Tables.Runs 0 btf-var × Tables.Runs 0 btf-var-secinfo × Tables.Runs 0 btf-decl-tag × Tables.Runs 0 btf-enum64
 all-run = (Tables.header-runs, Tables.type-runs, Tables.int-runs, Tables.array-runs, Tables.member-runs, Tables.enum-runs, Tables.param-runs, Tables.var-runs, Tables.secinfo-runs, Tables.tag-runs, Tables.enum64-runs)
 
 -- 2.2.k: what follows struct btf_type is the structs that the table names, in sequence, one or "info.vlen number of" them
-pub body-laid : (flag : ℕ) (b : Body) → putBody flag b ≡ putEach (layOut (Tables.structOf (follows (kindOf b)))) (bodyStructs flag b)
+pub body-laid : (big : Bool) (flag : ℕ) (b : Body) → putBody big flag b ≡ putEach (layOut big (Tables.structOf (follows (kindOf b)))) (bodyStructs flag b)
 body-laid = Tables.body-laid
 
 pub body-count : (flag : ℕ) (b : Body) → length (bodyStructs flag b) ≡ Tables.countOf (follows (kindOf b)) (vlenOf b)

@@ -5,7 +5,7 @@
 --     enum big { C = 4294967303LL, D = -2 }; struct s { enum big b; };
 use Prim.Native.Nat.{ℕ, _+_, _*_}
 use mathlib.Core.Path.{_≡_, refl}
-use mathlib.Core.Bool.{true}
+use mathlib.Core.Bool.{true, false}
 use mathlib.Core.List.{List, [], _∷_}
 use Rattle.records.specs.Documentation.{Described, described, member, enumerator, enumerator64, param, secinfo, int, ptr, array, struct, union, enum, fwd, typedef, volatile, const, restrict, func, func-proto, var, datasec, float, decl-tag, type-tag, enum64, encode, encodeAll}
 use Rattle.records.specs.Places.{typeP, kindP, flagP, vlenP}
@@ -83,15 +83,15 @@ clang-bytes =
     ∷ 0 ∷ 0 ∷ 0 ∷ 0 ∷ 8 ∷ 0 ∷ 0 ∷ 0
     ∷ []
 
-clang-laid : encodeAll clang-types ≡ clang-bytes
+clang-laid : encodeAll false clang-types ≡ clang-bytes
 unfolding clang-types clang-bytes encodeAll encode
 clang-laid = refl
 
-clang-read : decodeAll clang-bytes ≡ clang-types
+clang-read : decodeAll false clang-bytes ≡ clang-types
 unfolding clang-types clang-bytes decodeAll decode places word kind
 clang-read = refl
 
-clang-sound : layoutSound 192 clang-bytes ≡ true
+clang-sound : layoutSound false 192 clang-bytes ≡ true
 unfolding clang-bytes layoutSound passes sound named word kind
 clang-sound = refl
 
@@ -110,21 +110,21 @@ pahole-bytes =
     ∷ 0 ∷ 0 ∷ 0 ∷ 0
     ∷ []
 
-pahole-laid : encodeAll pahole-types ≡ pahole-bytes
+pahole-laid : encodeAll false pahole-types ≡ pahole-bytes
 unfolding pahole-types pahole-bytes encodeAll encode
 pahole-laid = refl
 
-pahole-read : decodeAll pahole-bytes ≡ pahole-types
+pahole-read : decodeAll false pahole-bytes ≡ pahole-types
 unfolding pahole-types pahole-bytes decodeAll decode places word kind
 pahole-read = refl
 
-pahole-sound : layoutSound 22 pahole-bytes ≡ true
+pahole-sound : layoutSound false 22 pahole-bytes ≡ true
 unfolding pahole-bytes layoutSound passes sound named word kind
 pahole-sound = refl
 
 -- fields by places
 clang-at : ℕ → Described
-clang-at p = typeP (word clang-bytes) p
+clang-at p = typeP (word false clang-bytes) p
 
 clang-fields : (intBits (clang-at 0) ≡ 32) × (memberNameOff (clang-at 48) 1 ≡ 82) × (memberType (clang-at 48) 1 ≡ 1) × (memberOffset (clang-at 48) 1 ≡ 64)
 unfolding clang-at clang-bytes structField structs kindFlag typeP kindP flagP vlenP word kind
@@ -142,6 +142,6 @@ clang-fields-4 : (secinfoType (clang-at 656) 2 ≡ 32) × (secinfoOffset (clang-
 unfolding clang-at clang-bytes structField structs kindFlag typeP kindP flagP vlenP word kind
 clang-fields-4 = (refl, refl, refl)
 
-pahole-fields : (enum64NameOff (typeP (word pahole-bytes) 0) 1 ≡ 7) × (enum64Lo (typeP (word pahole-bytes) 0) 1 ≡ 4294967294) × (enum64Hi (typeP (word pahole-bytes) 0) 0 ≡ 1)
+pahole-fields : (enum64NameOff (typeP (word false pahole-bytes) 0) 1 ≡ 7) × (enum64Lo (typeP (word false pahole-bytes) 0) 1 ≡ 4294967294) × (enum64Hi (typeP (word false pahole-bytes) 0) 0 ≡ 1)
 unfolding pahole-bytes structField structs kindFlag typeP kindP flagP vlenP word kind
 pahole-fields = (refl, refl, refl)

@@ -1,12 +1,13 @@
 -- An entry read where it was laid out and laid out where it was read, and so for any number of them. Assumes nothing.
 use Prim.Native.Nat.{ℕ, zero, suc, _+_, _*_, _/_, _%_, _<_, _≤_}
 use mathlib.Core.Path.{_≡_, refl, ap, _∙_, sym}
+use mathlib.Core.Bool.{Bool}
 use mathlib.Core.List.{List, [], _∷_, _++_, append-assoc}
 use native.Mathlib.Omega.{arith}
 use native.Mathlib.Nat.{zero-mul, suc-mul}
 use lib.ListN.{length, getD, drop, length-drop, length-append}
 use lib.Seq.{drop-drop, drop-at}
-use Rattle.records.specs.Documentation.{littleEndian, putEach, Every, Member, member, Enumerator, enumerator, Param, param, Secinfo, secinfo, Enumerator64, enumerator64, putMember, putEnumerator, putParam, putSecinfo, putEnumerator64, FitMember, FitEnumerator, FitParam, FitSecinfo, FitEnumerator64}
+use Rattle.records.specs.Documentation.{inBytes, putEach, Every, Member, member, Enumerator, enumerator, Param, param, Secinfo, secinfo, Enumerator64, enumerator64, putMember, putEnumerator, putParam, putSecinfo, putEnumerator64, FitMember, FitEnumerator, FitParam, FitSecinfo, FitEnumerator64}
 use Rattle.records.specs.Reading.{word, Bytes, getEach, getMember, getEnumerator, getParam, getSecinfo, getEnumerator64}
 use Rattle.records.proofs.Words.{word-again, word-small, word-back2, word-back3, bytes-drop}
 
@@ -53,102 +54,102 @@ module _ {E : Type 0} (put : E → List ℕ) (get : List ℕ → E) (size : ℕ)
       let e : suc j * size ≡ size + j * size = suc-mul j size ∙ omega arith in
       some-at n (drop size r) j d (omega arith) ∙ rw (e, ← drop-drop (j * size) size r)
 
-pub enumerators : Laws putEnumerator getEnumerator 8 FitEnumerator
+pub enumerators : (big : Bool) → Laws (putEnumerator big) (getEnumerator big) 8 FitEnumerator
 unfolding word
-enumerators = record { long = l; again = a; back = b; fits = f }
+enumerators big = record { long = l; again = a; back = b; fits = f }
   where
-    l : (e : Enumerator) → length (putEnumerator e) ≡ 8
+    l : (e : Enumerator) → length (putEnumerator big e) ≡ 8
     l (enumerator n v) = refl
 
-    a : (e : Enumerator) (s : List ℕ) → FitEnumerator e → getEnumerator (putEnumerator e ++ s) ≡ e
-    a (enumerator n v) s h = λ i. enumerator (word-again n (littleEndian 4 v ++ s) (h .0) i) (word-again v s (h .1 .0) i)
+    a : (e : Enumerator) (s : List ℕ) → FitEnumerator e → getEnumerator big (putEnumerator big e ++ s) ≡ e
+    a (enumerator n v) s h = λ i. enumerator (word-again big n (inBytes big 4 v ++ s) (h .0) i) (word-again big v s (h .1 .0) i)
 
-    b : (r : List ℕ) → Bytes r → 8 ≤ length r → putEnumerator (getEnumerator r) ++ drop 8 r ≡ r
-    b r h n = word-back2 r h n
+    b : (r : List ℕ) → Bytes r → 8 ≤ length r → putEnumerator big (getEnumerator big r) ++ drop 8 r ≡ r
+    b r h n = word-back2 big r h n
 
-    f : (r : List ℕ) → Bytes r → FitEnumerator (getEnumerator r)
-    f r h = (word-small r 0 h, (word-small r 4 h, tt))
+    f : (r : List ℕ) → Bytes r → FitEnumerator (getEnumerator big r)
+    f r h = (word-small big r 0 h, (word-small big r 4 h, tt))
 
-pub params : Laws putParam getParam 8 FitParam
+pub params : (big : Bool) → Laws (putParam big) (getParam big) 8 FitParam
 unfolding word
-params = record { long = l; again = a; back = b; fits = f }
+params big = record { long = l; again = a; back = b; fits = f }
   where
-    l : (e : Param) → length (putParam e) ≡ 8
+    l : (e : Param) → length (putParam big e) ≡ 8
     l (param n v) = refl
 
-    a : (e : Param) (s : List ℕ) → FitParam e → getParam (putParam e ++ s) ≡ e
-    a (param n v) s h = λ i. param (word-again n (littleEndian 4 v ++ s) (h .0) i) (word-again v s (h .1 .0) i)
+    a : (e : Param) (s : List ℕ) → FitParam e → getParam big (putParam big e ++ s) ≡ e
+    a (param n v) s h = λ i. param (word-again big n (inBytes big 4 v ++ s) (h .0) i) (word-again big v s (h .1 .0) i)
 
-    b : (r : List ℕ) → Bytes r → 8 ≤ length r → putParam (getParam r) ++ drop 8 r ≡ r
-    b r h n = word-back2 r h n
+    b : (r : List ℕ) → Bytes r → 8 ≤ length r → putParam big (getParam big r) ++ drop 8 r ≡ r
+    b r h n = word-back2 big r h n
 
-    f : (r : List ℕ) → Bytes r → FitParam (getParam r)
-    f r h = (word-small r 0 h, (word-small r 4 h, tt))
+    f : (r : List ℕ) → Bytes r → FitParam (getParam big r)
+    f r h = (word-small big r 0 h, (word-small big r 4 h, tt))
 
-pub secinfos : Laws putSecinfo getSecinfo 12 FitSecinfo
+pub secinfos : (big : Bool) → Laws (putSecinfo big) (getSecinfo big) 12 FitSecinfo
 unfolding word
-secinfos = record { long = l; again = a; back = b; fits = f }
+secinfos big = record { long = l; again = a; back = b; fits = f }
   where
-    l : (e : Secinfo) → length (putSecinfo e) ≡ 12
+    l : (e : Secinfo) → length (putSecinfo big e) ≡ 12
     l (secinfo n v w) = refl
 
-    a : (e : Secinfo) (s : List ℕ) → FitSecinfo e → getSecinfo (putSecinfo e ++ s) ≡ e
+    a : (e : Secinfo) (s : List ℕ) → FitSecinfo e → getSecinfo big (putSecinfo big e ++ s) ≡ e
     a (secinfo n v w) s h =
-        λ i. secinfo (word-again n (littleEndian 4 v ++ (littleEndian 4 w ++ s)) (h .0) i) (word-again v (littleEndian 4 w ++ s) (h .1 .0) i) (word-again w s (h .1 .1 .0) i)
+        λ i. secinfo (word-again big n (inBytes big 4 v ++ (inBytes big 4 w ++ s)) (h .0) i) (word-again big v (inBytes big 4 w ++ s) (h .1 .0) i) (word-again big w s (h .1 .1 .0) i)
 
-    b : (r : List ℕ) → Bytes r → 12 ≤ length r → putSecinfo (getSecinfo r) ++ drop 12 r ≡ r
-    b r h n = word-back3 r h n
+    b : (r : List ℕ) → Bytes r → 12 ≤ length r → putSecinfo big (getSecinfo big r) ++ drop 12 r ≡ r
+    b r h n = word-back3 big r h n
 
-    f : (r : List ℕ) → Bytes r → FitSecinfo (getSecinfo r)
-    f r h = (word-small r 0 h, (word-small r 4 h, (word-small r 8 h, tt)))
+    f : (r : List ℕ) → Bytes r → FitSecinfo (getSecinfo big r)
+    f r h = (word-small big r 0 h, (word-small big r 4 h, (word-small big r 8 h, tt)))
 
-pub enumerators64 : Laws putEnumerator64 getEnumerator64 12 FitEnumerator64
+pub enumerators64 : (big : Bool) → Laws (putEnumerator64 big) (getEnumerator64 big) 12 FitEnumerator64
 unfolding word
-enumerators64 = record { long = l; again = a; back = b; fits = f }
+enumerators64 big = record { long = l; again = a; back = b; fits = f }
   where
-    l : (e : Enumerator64) → length (putEnumerator64 e) ≡ 12
+    l : (e : Enumerator64) → length (putEnumerator64 big e) ≡ 12
     l (enumerator64 n v w) = refl
 
-    a : (e : Enumerator64) (s : List ℕ) → FitEnumerator64 e → getEnumerator64 (putEnumerator64 e ++ s) ≡ e
+    a : (e : Enumerator64) (s : List ℕ) → FitEnumerator64 e → getEnumerator64 big (putEnumerator64 big e ++ s) ≡ e
     a (enumerator64 n v w) s h =
-        λ i. enumerator64 (word-again n (littleEndian 4 v ++ (littleEndian 4 w ++ s)) (h .0) i) (word-again v (littleEndian 4 w ++ s) (h .1 .0) i) (word-again w s (h .1 .1 .0) i)
+        λ i. enumerator64 (word-again big n (inBytes big 4 v ++ (inBytes big 4 w ++ s)) (h .0) i) (word-again big v (inBytes big 4 w ++ s) (h .1 .0) i) (word-again big w s (h .1 .1 .0) i)
 
-    b : (r : List ℕ) → Bytes r → 12 ≤ length r → putEnumerator64 (getEnumerator64 r) ++ drop 12 r ≡ r
-    b r h n = word-back3 r h n
+    b : (r : List ℕ) → Bytes r → 12 ≤ length r → putEnumerator64 big (getEnumerator64 big r) ++ drop 12 r ≡ r
+    b r h n = word-back3 big r h n
 
-    f : (r : List ℕ) → Bytes r → FitEnumerator64 (getEnumerator64 r)
-    f r h = (word-small r 0 h, (word-small r 4 h, (word-small r 8 h, tt)))
+    f : (r : List ℕ) → Bytes r → FitEnumerator64 (getEnumerator64 big r)
+    f r h = (word-small big r 0 h, (word-small big r 4 h, (word-small big r 8 h, tt)))
 
-pub members : (flag : ℕ) → Laws (putMember flag) (getMember flag) 12 (FitMember flag)
+pub members : (big : Bool) (flag : ℕ) → Laws (putMember big flag) (getMember big flag) 12 (FitMember flag)
 unfolding word
-members flag = record { long = l flag; again = a flag; back = b flag; fits = f flag }
+members big flag = record { long = l flag; again = a flag; back = b flag; fits = f flag }
   where
-    l : (flag : ℕ) (e : Member) → length (putMember flag e) ≡ 12
+    l : (flag : ℕ) (e : Member) → length (putMember big flag e) ≡ 12
     l zero (member n v w x) = refl
     l (suc g) (member n v w x) = refl
 
-    a : (flag : ℕ) (e : Member) (s : List ℕ) → FitMember flag e → getMember flag (putMember flag e ++ s) ≡ e
+    a : (flag : ℕ) (e : Member) (s : List ℕ) → FitMember flag e → getMember big flag (putMember big flag e ++ s) ≡ e
     a zero (member n v w x) s h =
         λ i.
-        member (word-again n (littleEndian 4 v ++ (littleEndian 4 w ++ s)) (h .0) i) (word-again v (littleEndian 4 w ++ s) (h .1) i) (word-again w s (h .2 .0) i) (sym (h .2 .1) i)
+        member (word-again big n (inBytes big 4 v ++ (inBytes big 4 w ++ s)) (h .0) i) (word-again big v (inBytes big 4 w ++ s) (h .1) i) (word-again big w s (h .2 .0) i) (sym (h .2 .1) i)
     a (suc g) (member n v w x) s h =
         let y : ℕ = w * 1 + (x * 16777216 + 0) in
         let hw : w < 16777216 = h .2 .0 in
         let hx : x < 256 = h .2 .1 .0 in
-        let e : word (littleEndian 4 y ++ s) 0 ≡ y = word-again y s (omega arith) in
+        let e : word big (inBytes big 4 y ++ s) 0 ≡ y = word-again big y s (omega arith) in
         let lo : y % 16777216 ≡ w = omega arith in
         let hi : y / 16777216 ≡ x = omega arith in
-        let p : word (littleEndian 4 y ++ s) 0 % 16777216 ≡ w = ap (λ (n : ℕ). n % 16777216) e ∙ lo in
-        let q : word (littleEndian 4 y ++ s) 0 / 16777216 ≡ x = ap (λ (n : ℕ). n / 16777216) e ∙ hi in
-        λ i. member (word-again n (littleEndian 4 v ++ (littleEndian 4 y ++ s)) (h .0) i) (word-again v (littleEndian 4 y ++ s) (h .1) i) (p i) (q i)
+        let p : word big (inBytes big 4 y ++ s) 0 % 16777216 ≡ w = ap (λ (n : ℕ). n % 16777216) e ∙ lo in
+        let q : word big (inBytes big 4 y ++ s) 0 / 16777216 ≡ x = ap (λ (n : ℕ). n / 16777216) e ∙ hi in
+        λ i. member (word-again big n (inBytes big 4 v ++ (inBytes big 4 y ++ s)) (h .0) i) (word-again big v (inBytes big 4 y ++ s) (h .1) i) (p i) (q i)
 
-    b : (flag : ℕ) (r : List ℕ) → Bytes r → 12 ≤ length r → putMember flag (getMember flag r) ++ drop 12 r ≡ r
-    b zero r h n = word-back3 r h n
+    b : (flag : ℕ) (r : List ℕ) → Bytes r → 12 ≤ length r → putMember big flag (getMember big flag r) ++ drop 12 r ≡ r
+    b zero r h n = word-back3 big r h n
     b (suc g) r h n =
-        let w : ℕ = word r 8 in
+        let w : ℕ = word big r 8 in
         let e : w % 16777216 * 1 + (w / 16777216 * 16777216 + 0) ≡ w = omega arith in
-        ap (λ (y : ℕ). littleEndian 4 (word r 0) ++ (littleEndian 4 (word r 4) ++ (littleEndian 4 y ++ drop 12 r))) e ∙ word-back3 r h n
+        ap (λ (y : ℕ). inBytes big 4 (word big r 0) ++ (inBytes big 4 (word big r 4) ++ (inBytes big 4 y ++ drop 12 r))) e ∙ word-back3 big r h n
 
-    f : (flag : ℕ) (r : List ℕ) → Bytes r → FitMember flag (getMember flag r)
-    f zero r h = (word-small r 0 h, word-small r 4 h, (word-small r 8 h, refl))
-    f (suc g) r h = (word-small r 0 h, word-small r 4 h, (omega arith, (omega (arith, word-small r 8 h), tt)))
+    f : (flag : ℕ) (r : List ℕ) → Bytes r → FitMember flag (getMember big flag r)
+    f zero r h = (word-small big r 0 h, word-small big r 4 h, (word-small big r 8 h, refl))
+    f (suc g) r h = (word-small big r 0 h, word-small big r 4 h, (omega arith, (omega (arith, word-small big r 8 h), tt)))

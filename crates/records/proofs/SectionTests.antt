@@ -10,10 +10,9 @@ use lib.ListN.{length, drop, length-drop}
 use lib.Seq.{drop-drop}
 use lib.Dec.{ltb, leb, eqb}
 use borrow.Author.Tests.{lt-ltb, le-ltb, lt-leb, leb-true}
-use Rattle.lent.specs.Words.{wordAt}
 use Rattle.records.specs.Reading.{word, Bytes, decodeAll, Kind, none, INT, PTR, ARRAY, STRUCT, UNION, ENUM, FWD, TYPEDEF, VOLATILE, CONST, RESTRICT, FUNC, FUNC-PROTO, VAR, DATASEC, FLOAT, DECL-TAG, TYPE-TAG, ENUM64, kind, shape, known, extra, kindAt, vlenAt, sizeAt, sound, allNamed, entriesNamed, named, passes, layoutSound}
 use Rattle.records.specs.Places.{kindP, vlenP, sizeP, placeFrom, soundP, allNamedP, entriesNamedP, namedP, passesP}
-use Rattle.records.specs.Section.{strLen, typeLen, typesAt, typeArea, headerSound, typesSound}
+use Rattle.records.specs.Section.{bigEndian, wordOf, strLen, typeLen, typesAt, typeArea, headerSound, typesSound}
 use Rattle.records.proofs.Words.{word-drop}
 use Rattle.records.proofs.Types.{and-left, and-right}
 use Rattle.records.proofs.Area.{le-or-lt, leb-same, passes-in, passes-out}
@@ -25,49 +24,49 @@ and-same : (a : Bool) {b c : Bool} → (a ≡ true → b ≡ c) → (a && b) ≡
 and-same true f = f refl
 and-same false f = refl
 
-sound-places : (b : List ℕ) (p : ℕ) → sound (drop p b) ≡ soundP (word b) (length b) p
+sound-places : (big : Bool) (b : List ℕ) (p : ℕ) → sound big (drop p b) ≡ soundP (word big b) (length b) p
 unfolding sound soundP kindP
-sound-places b p =
+sound-places big b p =
     let l : length (drop p b) ≡ length b - p = length-drop p b in
     let e1 : leb 12 (length (drop p b)) ≡ leb (p + 12) (length b) = leb-same 12 (length (drop p b)) (p + 12) (length b) (λ h. omega arith) (λ h. omega arith) in
-    let z : sizeAt (drop p b) ≡ sizeP (word b) p = size-places b p in
-    let e2 : leb (sizeAt (drop p b)) (length (drop p b)) ≡ leb (p + sizeP (word b) p) (length b) = leb-same (sizeAt (drop p b)) (length (drop p b)) (p + sizeP (word b) p) (length b) (λ h. omega arith) (λ h. omega arith) in
-    let w = word-drop b p 4 in
+    let z : sizeAt big (drop p b) ≡ sizeP (word big b) p = size-places big b p in
+    let e2 : leb (sizeAt big (drop p b)) (length (drop p b)) ≡ leb (p + sizeP (word big b) p) (length b) = leb-same (sizeAt big (drop p b)) (length (drop p b)) (p + sizeP (word big b) p) (length b) (λ h. omega arith) (λ h. omega arith) in
+    let w = word-drop big b p 4 in
     λ i. e1 i && (known (shape (kind (w i / 16777216 % 32))) && (eqb (w i / 65536 % 256) 0 && (eqb (w i / 536870912 % 4) 0 && e2 i)))
 
-all-places : (sl size : ℕ) (b : List ℕ) (q n : ℕ) → allNamed sl size n (drop q b) ≡ allNamedP sl size (word b) q n
-all-places sl size b q zero = refl
-all-places sl size b q (suc n) =
-    let r : allNamed sl size n (drop size (drop q b)) ≡ allNamedP sl size (word b) (q + size) n = rw (drop-drop size q b) (all-places sl size b (q + size) n) in
-    λ i. ltb (first b q i) sl && r i
+all-places : (big : Bool) (sl size : ℕ) (b : List ℕ) (q n : ℕ) → allNamed big sl size n (drop q b) ≡ allNamedP sl size (word big b) q n
+all-places big sl size b q zero = refl
+all-places big sl size b q (suc n) =
+    let r : allNamed big sl size n (drop size (drop q b)) ≡ allNamedP sl size (word big b) (q + size) n = rw (drop-drop size q b) (all-places big sl size b (q + size) n) in
+    λ i. ltb (first big b q i) sl && r i
 
-entries-places : (sl : ℕ) (k : Kind) (v : ℕ) (b : List ℕ) (q : ℕ) → entriesNamed sl k v (drop q b) ≡ entriesNamedP sl k v (word b) q
-entries-places sl none v b q = refl
-entries-places sl INT v b q = refl
-entries-places sl PTR v b q = refl
-entries-places sl ARRAY v b q = refl
-entries-places sl STRUCT v b q = all-places sl 12 b q v
-entries-places sl UNION v b q = all-places sl 12 b q v
-entries-places sl ENUM v b q = all-places sl 8 b q v
-entries-places sl FWD v b q = refl
-entries-places sl TYPEDEF v b q = refl
-entries-places sl VOLATILE v b q = refl
-entries-places sl CONST v b q = refl
-entries-places sl RESTRICT v b q = refl
-entries-places sl FUNC v b q = refl
-entries-places sl FUNC-PROTO v b q = all-places sl 8 b q v
-entries-places sl VAR v b q = refl
-entries-places sl DATASEC v b q = refl
-entries-places sl FLOAT v b q = refl
-entries-places sl DECL-TAG v b q = refl
-entries-places sl TYPE-TAG v b q = refl
-entries-places sl ENUM64 v b q = all-places sl 12 b q v
+entries-places : (big : Bool) (sl : ℕ) (k : Kind) (v : ℕ) (b : List ℕ) (q : ℕ) → entriesNamed big sl k v (drop q b) ≡ entriesNamedP sl k v (word big b) q
+entries-places big sl none v b q = refl
+entries-places big sl INT v b q = refl
+entries-places big sl PTR v b q = refl
+entries-places big sl ARRAY v b q = refl
+entries-places big sl STRUCT v b q = all-places big sl 12 b q v
+entries-places big sl UNION v b q = all-places big sl 12 b q v
+entries-places big sl ENUM v b q = all-places big sl 8 b q v
+entries-places big sl FWD v b q = refl
+entries-places big sl TYPEDEF v b q = refl
+entries-places big sl VOLATILE v b q = refl
+entries-places big sl CONST v b q = refl
+entries-places big sl RESTRICT v b q = refl
+entries-places big sl FUNC v b q = refl
+entries-places big sl FUNC-PROTO v b q = all-places big sl 8 b q v
+entries-places big sl VAR v b q = refl
+entries-places big sl DATASEC v b q = refl
+entries-places big sl FLOAT v b q = refl
+entries-places big sl DECL-TAG v b q = refl
+entries-places big sl TYPE-TAG v b q = refl
+entries-places big sl ENUM64 v b q = all-places big sl 12 b q v
 
-named-places : (sl : ℕ) (b : List ℕ) (p : ℕ) → named sl (drop p b) ≡ namedP sl (word b) p
+named-places : (big : Bool) (sl : ℕ) (b : List ℕ) (p : ℕ) → named big sl (drop p b) ≡ namedP sl (word big b) p
 unfolding named namedP kindP vlenP
-named-places sl b p =
-    let r : entriesNamed sl (kind (kindAt (drop p b))) (vlenAt (drop p b)) (drop 12 (drop p b)) ≡ entriesNamedP sl (kind (word b (p + 4) / 16777216 % 32)) (word b (p + 4) % 65536) (word b) (p + 12) = rw (drop-drop 12 p b, word-drop b p 4) (entries-places sl (kind (word b (p + 4) / 16777216 % 32)) (word b (p + 4) % 65536) b (p + 12)) in
-    λ i. ltb (first b p i) sl && r i
+named-places big sl b p =
+    let r : entriesNamed big sl (kind (kindAt big (drop p b))) (vlenAt big (drop p b)) (drop 12 (drop p b)) ≡ entriesNamedP sl (kind (word big b (p + 4) / 16777216 % 32)) (word big b (p + 4) % 65536) (word big b) (p + 12) = rw (drop-drop 12 p b, word-drop big b p 4) (entries-places big sl (kind (word big b (p + 4) / 16777216 % 32)) (word big b (p + 4) % 65536) b (p + 12)) in
+    λ i. ltb (first big b p i) sl && r i
 
 module _ (sl n : ℕ) (w : ℕ → ℕ) (len p : ℕ) where
   pub in-P : p < len → passesP sl (suc n) w len p ≡ (soundP w len p && (namedP sl w p && passesP sl n w len (p + sizeP w p)))
@@ -99,18 +98,18 @@ record-sound sl (suc n) w len p h (suc i) l =
     let d = record-sound sl n w len (p + sizeP w p) c i (rw e l) in
     (ap (soundP w len) (sym e) ∙ d .0, ap (namedP sl w) (sym e) ∙ d .1)
 
-passes-places : (sl n : ℕ) (b : List ℕ) (p : ℕ) → passes sl n b p ≡ passesP sl n (word b) (length b) p
+passes-places : (big : Bool) (sl n : ℕ) (b : List ℕ) (p : ℕ) → passes big sl n b p ≡ passesP sl n (word big b) (length b) p
 unfolding passes passesP
-passes-places sl zero b p = refl
-passes-places sl (suc n) b p =
+passes-places big sl zero b p = refl
+passes-places big sl (suc n) b p =
     ⊎-elim
-    (λ l. passes-out sl n b p l ∙ sym (out-P sl n (word b) (length b) p l))
-    (λ l. passes-in sl n b p l ∙ step (passes-places sl n b (p + sizeAt (drop p b)) ∙ ap (λ (z : ℕ). passesP sl n (word b) (length b) (p + z)) (size-places b p)) ∙ sym (in-P sl n (word b) (length b) p l))
+    (λ l. passes-out big sl n b p l ∙ sym (out-P sl n (word big b) (length b) p l))
+    (λ l. passes-in big sl n b p l ∙ step (passes-places big sl n b (p + sizeAt big (drop p b)) ∙ ap (λ (z : ℕ). passesP sl n (word big b) (length b) (p + z)) (size-places big b p)) ∙ sym (in-P sl n (word big b) (length b) p l))
     (le-or-lt (length b) p)
   where
-    step : passes sl n b (p + sizeAt (drop p b)) ≡ passesP sl n (word b) (length b) (p + sizeP (word b) p)
-        → (sound (drop p b) && (named sl (drop p b) && passes sl n b (p + sizeAt (drop p b)))) ≡ (soundP (word b) (length b) p && (namedP sl (word b) p && passesP sl n (word b) (length b) (p + sizeP (word b) p)))
-    step r = λ i. sound-places b p i && (named-places sl b p i && r i)
+    step : passes big sl n b (p + sizeAt big (drop p b)) ≡ passesP sl n (word big b) (length b) (p + sizeP (word big b) p)
+        → (sound big (drop p b) && (named big sl (drop p b) && passes big sl n b (p + sizeAt big (drop p b)))) ≡ (soundP (word big b) (length b) p && (namedP sl (word big b) p && passesP sl n (word big b) (length b) (p + sizeP (word big b) p)))
+    step r = λ i. sound-places big b p i && (named-places big sl b p i && r i)
 
 -- only the words inside the area count
 module _ (w u : ℕ → ℕ) (len : ℕ) (same : (q : ℕ) → q + 4 ≤ len → w q ≡ u q) where
@@ -194,18 +193,18 @@ module _ (w u : ℕ → ℕ) (len : ℕ) (same : (q : ℕ) → q + 4 ≤ len →
           ∙ ap (λ (t : Bool). t && (namedP sl u p && passesP sl n u len (p + sizeP u p))) (sound-same p l)
 
 -- cause 5 is decided by the words of the section, at their places in it
-pub types-places : (s : List ℕ) → headerSound s ≡ true → typesSound s ≡ passesP (strLen s) 262144 (wordAt s) (typesAt s + typeLen s) (typesAt s)
+pub types-places : (s : List ℕ) → headerSound s ≡ true → typesSound s ≡ passesP (strLen s) 262144 (wordOf s) (typesAt s + typeLen s) (typesAt s)
 unfolding typesSound layoutSound areaWord
 types-places s h =
     let z : typesAt s + 0 ≡ typesAt s = omega arith in
-    passes-places (strLen s) 262144 (typeArea s) 0
-    ∙ ap (λ (n : ℕ). passesP (strLen s) 262144 (word (typeArea s)) n 0) (area-length s h)
-    ∙ passes-same (word (typeArea s)) (areaWord s) (typeLen s) (λ q l. area-words s q h l) (strLen s) 262144 0
-    ∙ passes-shift (wordAt s) (typesAt s) (strLen s) 262144 (typeLen s) 0
-    ∙ ap (passesP (strLen s) 262144 (wordAt s) (typesAt s + typeLen s)) z
+    passes-places (bigEndian s) (strLen s) 262144 (typeArea s) 0
+    ∙ ap (λ (n : ℕ). passesP (strLen s) 262144 (word (bigEndian s) (typeArea s)) n 0) (area-length s h)
+    ∙ passes-same (word (bigEndian s) (typeArea s)) (areaWord s) (typeLen s) (λ q l. area-words s q h l) (strLen s) 262144 0
+    ∙ passes-shift (wordOf s) (typesAt s) (strLen s) 262144 (typeLen s) 0
+    ∙ ap (passesP (strLen s) 262144 (wordOf s) (typesAt s + typeLen s)) z
 
 -- so each record of a section without causes 3 and 5 passes them, at its place
-pub section-sound-at : (s : List ℕ) → Bytes s → headerSound s ≡ true → typesSound s ≡ true → (i : ℕ) → i < length (decodeAll (typeArea s))
-    → (soundP (wordAt s) (typesAt s + typeLen s) (placeFrom (wordAt s) (typesAt s) i) ≡ true) × (namedP (strLen s) (wordAt s) (placeFrom (wordAt s) (typesAt s) i) ≡ true)
+pub section-sound-at : (s : List ℕ) → Bytes s → headerSound s ≡ true → typesSound s ≡ true → (i : ℕ) → i < length (decodeAll (bigEndian s) (typeArea s))
+    → (soundP (wordOf s) (typesAt s + typeLen s) (placeFrom (wordOf s) (typesAt s) i) ≡ true) × (namedP (strLen s) (wordOf s) (placeFrom (wordOf s) (typesAt s) i) ≡ true)
 section-sound-at s y h t i l =
-    record-sound (strLen s) 262144 (wordAt s) (typesAt s + typeLen s) (typesAt s) (sym (types-places s h) ∙ t) i (omega (arith, section-inside s y h t i l))
+    record-sound (strLen s) 262144 (wordOf s) (typesAt s + typeLen s) (typesAt s) (sym (types-places s h) ∙ t) i (omega (arith, section-inside s y h t i l))

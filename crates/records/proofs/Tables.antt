@@ -1,11 +1,12 @@
 -- The tables of the documentation: each field's bytes stand at the offset that the table gives, and the reader's lengths are the table's. Assumes nothing.
 use Prim.Native.Nat.{ℕ, zero, suc, _+_, _<_, _/_}
 use mathlib.Core.Path.{_≡_, refl, ap, _∙_, sym}
+use mathlib.Core.Bool.{Bool, true, false}
 use mathlib.Core.List.{List, [], _∷_, _++_, map, append-assoc}
 use native.Mathlib.Omega.{arith}
 use lib.ListN.{length, getD, take, drop, length-append, length-map}
 use lib.Seq.{drop-at, take-at}
-use Rattle.records.specs.Documentation.{Field, field, littleEndian, layOut, btf-header, btf-type, int-word, btf-array, btf-member, btf-enum, btf-param, btf-var, btf-var-secinfo, btf-decl-tag, btf-enum64, Follows, kinds, unknown, nothing, one, each, follows, followSize, putEach, Member, member, Enumerator, enumerator, Param, param, Secinfo, secinfo, Enumerator64, enumerator64, putMember, putEnumerator, putParam, putSecinfo, putEnumerator64, Body, int, ptr, array, struct, union, enum, fwd, typedef, volatile, const, restrict, func, func-proto, var, datasec, float, decl-tag, type-tag, enum64, kindOf, vlenOf, putBody}
+use Rattle.records.specs.Documentation.{Field, field, otherBytes, inBytes, layOut, btf-header, btf-type, int-word, btf-array, btf-member, btf-enum, btf-param, btf-var, btf-var-secinfo, btf-decl-tag, btf-enum64, Follows, kinds, unknown, nothing, one, each, follows, followSize, putEach, Member, member, Enumerator, enumerator, Param, param, Secinfo, secinfo, Enumerator64, enumerator64, putMember, putEnumerator, putParam, putSecinfo, putEnumerator64, Body, int, ptr, array, struct, union, enum, fwd, typedef, volatile, const, restrict, func, func-proto, var, datasec, float, decl-tag, type-tag, enum64, kindOf, vlenOf, putBody}
 use Rattle.records.specs.Fields.{memberFields, enumFields, paramFields, secinfoFields, enum64Fields, bodyStructs}
 use Rattle.records.specs.Reading.{kind, kindTable, extra, none, Kind}
 
@@ -26,25 +27,25 @@ widthOf [] i = 0
 widthOf (field name offset width ∷ fs) zero = width
 widthOf (field name offset width ∷ fs) (suc i) = widthOf fs i
 
-little-length : (w v : ℕ) → length (littleEndian w v) ≡ w
-little-length zero v = refl
-little-length (suc w) v = ap suc (little-length w (v / 256))
+bytes-length : (big : Bool) (w v : ℕ) → length (inBytes big w v) ≡ w
+bytes-length big zero v = refl
+bytes-length big (suc w) v = ap suc (bytes-length big w (otherBytes big v))
 
 -- so its bytes stand at its offset, x being what stands before
-stands : (fs : List Field) (vs x : List ℕ) → Runs (length x) fs → length vs ≡ length fs → (i : ℕ) → i < length fs
-    → take (widthOf fs i) (drop (offsetOf fs i) (x ++ layOut fs vs)) ≡ littleEndian (widthOf fs i) (getD vs i 0)
-stands [] vs x r l i h = absurd (omega arith)
-stands (field n o w ∷ fs) [] x r l i h = absurd (omega arith)
-stands (field n o w ∷ fs) (v ∷ vs) x r l zero h =
-    rw (drop-at x (littleEndian w v ++ layOut fs vs) o (sym (r .0))) (take-at (littleEndian w v) (layOut fs vs) w (little-length w v))
-stands (field n o w ∷ fs) (v ∷ vs) x r l (suc i) h =
-    let e : length (x ++ littleEndian w v) ≡ length x + w = length-append x (littleEndian w v) ∙ ap (λ (k : ℕ). length x + k) (little-length w v) in
-    let r′ : Runs (length (x ++ littleEndian w v)) fs = rw e (r .1) in
-    rw (← append-assoc x (littleEndian w v) (layOut fs vs)) (stands fs vs (x ++ littleEndian w v) r′ (omega arith) i (omega arith))
+stands : (big : Bool) (fs : List Field) (vs x : List ℕ) → Runs (length x) fs → length vs ≡ length fs → (i : ℕ) → i < length fs
+    → take (widthOf fs i) (drop (offsetOf fs i) (x ++ layOut big fs vs)) ≡ inBytes big (widthOf fs i) (getD vs i 0)
+stands big [] vs x r l i h = absurd (omega arith)
+stands big (field n o w ∷ fs) [] x r l i h = absurd (omega arith)
+stands big (field n o w ∷ fs) (v ∷ vs) x r l zero h =
+    rw (drop-at x (inBytes big w v ++ layOut big fs vs) o (sym (r .0))) (take-at (inBytes big w v) (layOut big fs vs) w (bytes-length big w v))
+stands big (field n o w ∷ fs) (v ∷ vs) x r l (suc i) h =
+    let e : length (x ++ inBytes big w v) ≡ length x + w = length-append x (inBytes big w v) ∙ ap (λ (k : ℕ). length x + k) (bytes-length big w v) in
+    let r′ : Runs (length (x ++ inBytes big w v)) fs = rw e (r .1) in
+    rw (← append-assoc x (inBytes big w v) (layOut big fs vs)) (stands big fs vs (x ++ inBytes big w v) r′ (omega arith) i (omega arith))
 
-pub field-stands : (fs : List Field) (vs : List ℕ) → Runs 0 fs → length vs ≡ length fs → (i : ℕ) → i < length fs
-    → take (widthOf fs i) (drop (offsetOf fs i) (layOut fs vs)) ≡ littleEndian (widthOf fs i) (getD vs i 0)
-field-stands fs vs r l i h = stands fs vs [] r l i h
+pub field-stands : (big : Bool) (fs : List Field) (vs : List ℕ) → Runs 0 fs → length vs ≡ length fs → (i : ℕ) → i < length fs
+    → take (widthOf fs i) (drop (offsetOf fs i) (layOut big fs vs)) ≡ inBytes big (widthOf fs i) (getD vs i 0)
+field-stands big fs vs r l i h = stands big fs vs [] r l i h
 
 pub header-runs : Runs 0 btf-header
 header-runs = (refl, (refl, (refl, (refl, (refl, (refl, (refl, (refl, tt))))))))
@@ -115,46 +116,46 @@ countOf nothing vlen = 0
 countOf (one s) vlen = 1
 countOf (each s) vlen = vlen
 
-each-laid : {E : Type 0} (put fields : E → List ℕ) (s : List Field) → ((e : E) → put e ≡ layOut s (fields e))
-    → (es : List E) → putEach put es ≡ putEach (layOut s) (map fields es)
-each-laid put fields s h [] = refl
-each-laid put fields s h (e ∷ es) = λ i. h e i ++ each-laid put fields s h es i
+each-laid : (big : Bool) {E : Type 0} (put fields : E → List ℕ) (s : List Field) → ((e : E) → put e ≡ layOut big s (fields e))
+    → (es : List E) → putEach put es ≡ putEach (layOut big s) (map fields es)
+each-laid big put fields s h [] = refl
+each-laid big put fields s h (e ∷ es) = λ i. h e i ++ each-laid big put fields s h es i
 
-member-laid : (f : ℕ) (m : Member) → putMember f m ≡ layOut btf-member (memberFields f m)
-member-laid f (member n t b z) = refl
+member-laid : (big : Bool) (f : ℕ) (m : Member) → putMember big f m ≡ layOut big btf-member (memberFields f m)
+member-laid big f (member n t b z) = refl
 
-enum-laid : (e : Enumerator) → putEnumerator e ≡ layOut btf-enum (enumFields e)
-enum-laid (enumerator n v) = refl
+enum-laid : (big : Bool) (e : Enumerator) → putEnumerator big e ≡ layOut big btf-enum (enumFields e)
+enum-laid big (enumerator n v) = refl
 
-param-laid : (e : Param) → putParam e ≡ layOut btf-param (paramFields e)
-param-laid (param n t) = refl
+param-laid : (big : Bool) (e : Param) → putParam big e ≡ layOut big btf-param (paramFields e)
+param-laid big (param n t) = refl
 
-secinfo-laid : (e : Secinfo) → putSecinfo e ≡ layOut btf-var-secinfo (secinfoFields e)
-secinfo-laid (secinfo t o z) = refl
+secinfo-laid : (big : Bool) (e : Secinfo) → putSecinfo big e ≡ layOut big btf-var-secinfo (secinfoFields e)
+secinfo-laid big (secinfo t o z) = refl
 
-enum64-laid : (e : Enumerator64) → putEnumerator64 e ≡ layOut btf-enum64 (enum64Fields e)
-enum64-laid (enumerator64 n l h) = refl
+enum64-laid : (big : Bool) (e : Enumerator64) → putEnumerator64 big e ≡ layOut big btf-enum64 (enum64Fields e)
+enum64-laid big (enumerator64 n l h) = refl
 
-pub body-laid : (f : ℕ) (b : Body) → putBody f b ≡ putEach (layOut (structOf (follows (kindOf b)))) (bodyStructs f b)
-body-laid f (int v a b c d e) = refl
-body-laid f (ptr v) = refl
-body-laid f (array v t i n) = refl
-body-laid f (struct ms) = each-laid (putMember f) (memberFields f) btf-member (member-laid f) ms
-body-laid f (union ms) = each-laid (putMember f) (memberFields f) btf-member (member-laid f) ms
-body-laid f (enum es) = each-laid putEnumerator enumFields btf-enum enum-laid es
-body-laid f (fwd v) = refl
-body-laid f (typedef v) = refl
-body-laid f (volatile v) = refl
-body-laid f (const v) = refl
-body-laid f (restrict v) = refl
-body-laid f (func v) = refl
-body-laid f (func-proto ps) = each-laid putParam paramFields btf-param param-laid ps
-body-laid f (var v l) = refl
-body-laid f (datasec ss) = each-laid putSecinfo secinfoFields btf-var-secinfo secinfo-laid ss
-body-laid f (float v) = refl
-body-laid f (decl-tag v c) = refl
-body-laid f (type-tag v) = refl
-body-laid f (enum64 es) = each-laid putEnumerator64 enum64Fields btf-enum64 enum64-laid es
+pub body-laid : (big : Bool) (f : ℕ) (b : Body) → putBody big f b ≡ putEach (layOut big (structOf (follows (kindOf b)))) (bodyStructs f b)
+body-laid big f (int v a b c d e) = refl
+body-laid big f (ptr v) = refl
+body-laid big f (array v t i n) = refl
+body-laid big f (struct ms) = each-laid big (putMember big f) (memberFields f) btf-member (member-laid big f) ms
+body-laid big f (union ms) = each-laid big (putMember big f) (memberFields f) btf-member (member-laid big f) ms
+body-laid big f (enum es) = each-laid big (putEnumerator big) enumFields btf-enum (enum-laid big) es
+body-laid big f (fwd v) = refl
+body-laid big f (typedef v) = refl
+body-laid big f (volatile v) = refl
+body-laid big f (const v) = refl
+body-laid big f (restrict v) = refl
+body-laid big f (func v) = refl
+body-laid big f (func-proto ps) = each-laid big (putParam big) paramFields btf-param (param-laid big) ps
+body-laid big f (var v l) = refl
+body-laid big f (datasec ss) = each-laid big (putSecinfo big) secinfoFields btf-var-secinfo (secinfo-laid big) ss
+body-laid big f (float v) = refl
+body-laid big f (decl-tag v c) = refl
+body-laid big f (type-tag v) = refl
+body-laid big f (enum64 es) = each-laid big (putEnumerator64 big) enum64Fields btf-enum64 (enum64-laid big) es
 
 pub body-count : (f : ℕ) (b : Body) → length (bodyStructs f b) ≡ countOf (follows (kindOf b)) (vlenOf b)
 body-count f (int v a b c d e) = refl

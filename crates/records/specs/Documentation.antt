@@ -1,10 +1,11 @@
 -- Documentation/bpf/btf.rst of Linux, section 2 with 2.1 and 2.2, as definitions: its structs as tables of fields, its "bits arrangement"s as
 -- tables of ranges, what follows `struct btf_type` for each kind, and the bytes that a described type, a string table and a whole section have.
 -- Written from the page alone, in its order and with its names; what it does not say is marked. It does not say how a section is read: `Reading`.
--- The page's C structs are taken in little-endian order, one of the two that it has ("different encoding for big and little endian systems").
+-- The page's C structs have their words in one of two orders ("different encoding for big and little endian systems"): `big` says which.
 use Prim.Native.Nat.{ℕ, zero, suc, _+_, _-_, _*_, _/_, _%_, _^_, _<_, _≤_}
 use Prim.Native.String.{String}
 use mathlib.Core.Path.{_≡_}
+use mathlib.Core.Bool.{Bool, true, false}
 use mathlib.Core.List.{List, [], _∷_, _++_}
 use lib.ListN.{length, getD}
 
@@ -19,16 +20,25 @@ pub data Field : Type 0 where
 pub data Range : Type 0 where
   bits : String → ℕ → ℕ → Range
 
--- v in w bytes, the least significant first
-abbrev pub littleEndian : ℕ → ℕ → List ℕ
-littleEndian zero v = []
-littleEndian (suc w) v = v % 256 ∷ littleEndian w (v / 256)
+-- of suc w bytes of v the first: the most significant one where `big`, else the least significant one; and what the others hold
+abbrev pub firstByte : Bool → ℕ → ℕ → ℕ
+firstByte true w v = v / 256 ^ w % 256
+firstByte false w v = v % 256
+
+abbrev pub otherBytes : Bool → ℕ → ℕ
+otherBytes true v = v
+otherBytes false v = v / 256
+
+-- v in w bytes
+abbrev pub inBytes : Bool → ℕ → ℕ → List ℕ
+inBytes big zero v = []
+inBytes big (suc w) v = firstByte big w v ∷ inBytes big w (otherBytes big v)
 
 -- a struct's bytes, given the value of each field. (Law field-stands: each field's bytes stand at its offset.)
-abbrev pub layOut : List Field → List ℕ → List ℕ
-layOut [] vs = []
-layOut (field name offset width ∷ fs) [] = []
-layOut (field name offset width ∷ fs) (v ∷ vs) = littleEndian width v ++ layOut fs vs
+abbrev pub layOut : Bool → List Field → List ℕ → List ℕ
+layOut big [] vs = []
+layOut big (field name offset width ∷ fs) [] = []
+layOut big (field name offset width ∷ fs) (v ∷ vs) = inBytes big width v ++ layOut big fs vs
 
 -- sizeof
 abbrev pub sizeOf : List Field → ℕ
@@ -74,7 +84,8 @@ btf-header =
     ∷ field "str_len" 20 4
     ∷ []
 
--- "The magic is 0xeB9F"
+-- "The magic is 0xeB9F, which has different encoding for big and little endian systems, and can be used to test whether BTF is generated for
+-- big- or little-endian target"
 abbrev pub btf-magic : ℕ
 btf-magic = 0xeb9f
 
@@ -285,20 +296,20 @@ abbrev pub offsetWord : ℕ → ℕ → ℕ → ℕ
 offsetWord zero bit size = bit
 offsetWord (suc flag) bit size = pack member-offset (bit ∷ size ∷ [])
 
-abbrev pub putMember : ℕ → Member → List ℕ
-putMember flag (member name type bit size) = layOut btf-member (name ∷ type ∷ offsetWord flag bit size ∷ [])
+abbrev pub putMember : Bool → ℕ → Member → List ℕ
+putMember big flag (member name type bit size) = layOut big btf-member (name ∷ type ∷ offsetWord flag bit size ∷ [])
 
-abbrev pub putEnumerator : Enumerator → List ℕ
-putEnumerator (enumerator name val) = layOut btf-enum (name ∷ val ∷ [])
+abbrev pub putEnumerator : Bool → Enumerator → List ℕ
+putEnumerator big (enumerator name val) = layOut big btf-enum (name ∷ val ∷ [])
 
-abbrev pub putParam : Param → List ℕ
-putParam (param name type) = layOut btf-param (name ∷ type ∷ [])
+abbrev pub putParam : Bool → Param → List ℕ
+putParam big (param name type) = layOut big btf-param (name ∷ type ∷ [])
 
-abbrev pub putSecinfo : Secinfo → List ℕ
-putSecinfo (secinfo type offset size) = layOut btf-var-secinfo (type ∷ offset ∷ size ∷ [])
+abbrev pub putSecinfo : Bool → Secinfo → List ℕ
+putSecinfo big (secinfo type offset size) = layOut big btf-var-secinfo (type ∷ offset ∷ size ∷ [])
 
-abbrev pub putEnumerator64 : Enumerator64 → List ℕ
-putEnumerator64 (enumerator64 name lo hi) = layOut btf-enum64 (name ∷ lo ∷ hi ∷ [])
+abbrev pub putEnumerator64 : Bool → Enumerator64 → List ℕ
+putEnumerator64 big (enumerator64 name lo hi) = layOut big btf-enum64 (name ∷ lo ∷ hi ∷ [])
 
 -- "followed by info.vlen number of": the entries in sequence
 abbrev pub putEach : {E : Type 0} → (E → List ℕ) → List E → List ℕ
@@ -306,42 +317,42 @@ putEach put [] = []
 putEach put (e ∷ es) = put e ++ putEach put es
 
 -- what follows `struct btf_type`
-abbrev pub putBody : ℕ → Body → List ℕ
-putBody flag (int v a b c d e) = layOut int-word (pack btf-int (a ∷ b ∷ c ∷ d ∷ e ∷ []) ∷ [])
-putBody flag (ptr v) = []
-putBody flag (array v t i n) = layOut btf-array (t ∷ i ∷ n ∷ [])
-putBody flag (struct ms) = putEach (putMember flag) ms
-putBody flag (union ms) = putEach (putMember flag) ms
-putBody flag (enum es) = putEach putEnumerator es
-putBody flag (fwd v) = []
-putBody flag (typedef v) = []
-putBody flag (volatile v) = []
-putBody flag (const v) = []
-putBody flag (restrict v) = []
-putBody flag (func v) = []
-putBody flag (func-proto ps) = putEach putParam ps
-putBody flag (var v l) = layOut btf-var (l ∷ [])
-putBody flag (datasec ss) = putEach putSecinfo ss
-putBody flag (float v) = []
-putBody flag (decl-tag v c) = layOut btf-decl-tag (c ∷ [])
-putBody flag (type-tag v) = []
-putBody flag (enum64 es) = putEach putEnumerator64 es
+abbrev pub putBody : Bool → ℕ → Body → List ℕ
+putBody big flag (int v a b c d e) = layOut big int-word (pack btf-int (a ∷ b ∷ c ∷ d ∷ e ∷ []) ∷ [])
+putBody big flag (ptr v) = []
+putBody big flag (array v t i n) = layOut big btf-array (t ∷ i ∷ n ∷ [])
+putBody big flag (struct ms) = putEach (putMember big flag) ms
+putBody big flag (union ms) = putEach (putMember big flag) ms
+putBody big flag (enum es) = putEach (putEnumerator big) es
+putBody big flag (fwd v) = []
+putBody big flag (typedef v) = []
+putBody big flag (volatile v) = []
+putBody big flag (const v) = []
+putBody big flag (restrict v) = []
+putBody big flag (func v) = []
+putBody big flag (func-proto ps) = putEach (putParam big) ps
+putBody big flag (var v l) = layOut big btf-var (l ∷ [])
+putBody big flag (datasec ss) = putEach (putSecinfo big) ss
+putBody big flag (float v) = []
+putBody big flag (decl-tag v c) = layOut big btf-decl-tag (c ∷ [])
+putBody big flag (type-tag v) = []
+putBody big flag (enum64 es) = putEach (putEnumerator64 big) es
 
 -- 2.2: the bytes of a type, struct btf_type and what follows it
-unfoldable pub encode : Described → List ℕ
-encode (described name flag sizeType body) =
-    layOut btf-type (name ∷ pack btf-info (vlenOf body ∷ kindOf body ∷ flag ∷ []) ∷ sizeType ∷ []) ++ putBody flag body
+unfoldable pub encode : Bool → Described → List ℕ
+encode big (described name flag sizeType body) =
+    layOut big btf-type (name ∷ pack btf-info (vlenOf body ∷ kindOf body ∷ flag ∷ []) ∷ sizeType ∷ []) ++ putBody big flag body
 
 -- 2.2: "The type section is parsed sequentially and type id is assigned to each recognized type starting from id 1": the bytes of
 -- the types with the ids 1, 2, ..
-unfoldable pub encodeAll : List Described → List ℕ
-encodeAll [] = []
-encodeAll (t ∷ ts) = encode t ++ encodeAll ts
+unfoldable pub encodeAll : Bool → List Described → List ℕ
+encodeAll big [] = []
+encodeAll big (t ∷ ts) = encode big t ++ encodeAll big ts
 
 -- the offset at which each of them begins, if the first begins at p
-unfoldable pub starts : ℕ → List Described → List ℕ
-starts p [] = []
-starts p (t ∷ ts) = p ∷ starts (p + length (encode t)) ts
+unfoldable pub starts : Bool → ℕ → List Described → List ℕ
+starts big p [] = []
+starts big p (t ∷ ts) = p ∷ starts big (p + length (encode big t)) ts
 
 ---------------------------------------------------------------------------------------------------------------------------------------
 -- The numbers fit their fields and ranges
@@ -459,9 +470,9 @@ NonzeroAscii x = (0 < x) × (x ≤ 127)
 pub data Header : Type 0 where
   header : ℕ → ℕ → ℕ → ℕ → ℕ → ℕ → ℕ → Header
 
-unfoldable pub encodeHeader : Header → List ℕ
-encodeHeader (header version flags hdrLen typeOff typeLen strOff strLen) =
-    layOut btf-header (btf-magic ∷ version ∷ flags ∷ hdrLen ∷ typeOff ∷ typeLen ∷ strOff ∷ strLen ∷ [])
+unfoldable pub encodeHeader : Bool → Header → List ℕ
+encodeHeader big (header version flags hdrLen typeOff typeLen strOff strLen) =
+    layOut big btf-header (btf-magic ∷ version ∷ flags ∷ hdrLen ∷ typeOff ∷ typeLen ∷ strOff ∷ strLen ∷ [])
 
 abbrev pub FitHeader : Header → Type 0
 FitHeader (header version flags hdrLen typeOff typeLen strOff strLen) =
@@ -469,6 +480,6 @@ FitHeader (header version flags hdrLen typeOff typeLen strOff strLen) =
 
 -- 2. A section: header, types, strings. "All offsets are in bytes relative to the end of this header"; "hdr_len equal to
 -- sizeof(struct btf_header) when a data blob is generated". (The page leaves the order of the two areas, and gaps, to type_off and str_off.)
-unfoldable pub encodeSection : ℕ → List Described → List ℕ → List ℕ
-encodeSection flags ts strings =
-    encodeHeader (header btf-version flags (sizeOf btf-header) 0 (length (encodeAll ts)) (length (encodeAll ts)) (length strings)) ++ (encodeAll ts ++ strings)
+unfoldable pub encodeSection : Bool → ℕ → List Described → List ℕ → List ℕ
+encodeSection big flags ts strings =
+    encodeHeader big (header btf-version flags (sizeOf btf-header) 0 (length (encodeAll big ts)) (length (encodeAll big ts)) (length strings)) ++ (encodeAll big ts ++ strings)

@@ -1,5 +1,5 @@
 -- The same reader by places, as code reads: each field is a word at a number computed from the record's place p. It is given the function w that reads
--- the word at a place: `word b` of bytes b, or `wordAt s` of lent, which is 0 where the word does not lie inside s. Laws: places-decode
+-- the word at a place: `word big b` of bytes b, or `wordOf s` of a section, which is 0 where the word does not lie inside s. Laws: places-decode
 -- (it gives what `decode` gives), places-same (only words inside the record count), type-shift (places counted from elsewhere).
 use Prim.Native.Nat.{ℕ, zero, suc, _+_, _*_, _/_, _%_}
 use mathlib.Core.Bool.{Bool, true, false, _&&_}

@@ -2,29 +2,40 @@
 -- cause 5 by places in the section's own bytes is the one here.
 use Prim.Native.Nat.{ℕ, zero, suc, _+_, _<_, _≤_}
 use mathlib.Core.Path.{_≡_}
-use mathlib.Core.Bool.{Bool, true, false, _&&_}
+use mathlib.Core.Bool.{Bool, true, false, _&&_, _||_}
 use mathlib.Core.List.{List, [], _∷_}
 use lib.ListN.{length, getD, take, drop}
 use lib.Dec.{leb, eqb}
-use Rattle.lent.specs.Words.{wordAt}
+use Rattle.lent.specs.Words.{wordIn}
 use Rattle.records.specs.Documentation.{Header, header, Every, Described, encodeAll, Allowed}
 use Rattle.records.specs.Reading.{word, layoutSound}
 use Rattle.records.specs.Places.{typeP, placeFrom}
 
+-- "The magic .. can be used to test whether BTF is generated for big- or little-endian target": bytes EB 9F or 9F EB
+unfoldable pub bigEndian : List ℕ → Bool
+bigEndian s = eqb (getD s 0 0) 235 && eqb (getD s 1 0) 159
+
+unfoldable pub littleEndian : List ℕ → Bool
+littleEndian s = eqb (getD s 0 0) 159 && eqb (getD s 1 0) 235
+
+-- the word at a place of a section, in the section's order; 0 where it does not lie inside
+unfoldable pub wordOf : List ℕ → ℕ → ℕ
+wordOf s at = wordIn (bigEndian s) s at
+
 unfoldable pub hdrLen : List ℕ → ℕ
-hdrLen s = word s 4
+hdrLen s = word (bigEndian s) s 4
 
 unfoldable pub typeOff : List ℕ → ℕ
-typeOff s = word s 8
+typeOff s = word (bigEndian s) s 8
 
 unfoldable pub typeLen : List ℕ → ℕ
-typeLen s = word s 12
+typeLen s = word (bigEndian s) s 12
 
 unfoldable pub strOff : List ℕ → ℕ
-strOff s = word s 16
+strOff s = word (bigEndian s) s 16
 
 unfoldable pub strLen : List ℕ → ℕ
-strLen s = word s 20
+strLen s = word (bigEndian s) s 20
 
 unfoldable pub readHeader : List ℕ → Header
 readHeader s = header (getD s 2 0) (getD s 3 0) (hdrLen s) (typeOff s) (typeLen s) (strOff s) (strLen s)
@@ -47,12 +58,11 @@ stringArea s = take (strLen s) (drop (stringsAt s) s)
 unfoldable pub headerSound : List ℕ → Bool
 headerSound s =
     leb 24 (length s)
-    && (eqb (getD s 0 0) 159
-    && (eqb (getD s 1 0) 235
+    && ((bigEndian s || littleEndian s)
     && (eqb (getD s 2 0) 1
     && (leb 24 (hdrLen s)
     && (leb (hdrLen s) (length s)
-    && (leb (typesAt s + typeLen s) (length s) && leb (stringsAt s + strLen s) (length s)))))))
+    && (leb (typesAt s + typeLen s) (length s) && leb (stringsAt s + strLen s) (length s))))))
 
 abbrev pub allAscii : List ℕ → Bool
 allAscii [] = true
@@ -78,12 +88,12 @@ splitStrings (x ∷ xs) = elim (eqb x 0) [ true ↦ [] ∷ splitStrings xs | fal
 
 -- not cause 5: "kind 0 or over 19, info bits 16-23, 29 or 30 set, record past its area, name offset outside, more than 262,144 records"
 unfoldable pub typesSound : List ℕ → Bool
-typesSound s = layoutSound (strLen s) (typeArea s)
+typesSound s = layoutSound (bigEndian s) (strLen s) (typeArea s)
 
--- The section s holds the types ts: its type section is their layout, and the type read by places in s, at the place that the records before it
+-- The section s holds the types ts: its type section is their layout in its order, and the type read by places in s, at the place that the records before it
 -- lead to, is the one with that id, with every field of every entry
 pub record ReadAs (s : List ℕ) (ts : List Described) : Type 0 where
-  pub laid : encodeAll ts ≡ typeArea s
+  pub laid : encodeAll (bigEndian s) ts ≡ typeArea s
   pub allowed : Every (Allowed (strLen s)) ts
   pub few : length ts ≤ 262144
-  pub each : (i : ℕ) (d : Described) → i < length ts → typeP (wordAt s) (placeFrom (wordAt s) (typesAt s) i) ≡ getD ts i d
+  pub each : (i : ℕ) (d : Described) → i < length ts → typeP (wordOf s) (placeFrom (wordOf s) (typesAt s) i) ≡ getD ts i d

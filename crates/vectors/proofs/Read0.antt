@@ -1,6 +1,7 @@
 -- Written by tools/vectors.py. By computation, the bytes of the sections of specs/Programs0 are read as their types.
 use mathlib.Core.Path.{_≡_, refl}
-use Rattle.lent.specs.Words.{wordAt}
+use Rattle.lent.specs.Words.{wordAt, wordAtBig, wordIn}
+use Rattle.records.specs.Section.{bigEndian, wordOf}
 use Rattle.btf.specs.Names.{upToZero, nameAt}
 use Rattle.btf.specs.Records.{sectionWord, recordAt, memberOf, extraOf}
 use Rattle.btf.specs.Table.{from, paramOf, valueOf, value64Of, typeOf}
@@ -8,5 +9,5 @@ use Rattle.vectors.specs.Reading.{pairs, typesFrom, typesOf, allRead, al
 use Rattle.vectors.specs.Programs0.{programs0}
 
 pub programs0-read : allRead programs0 ≡ allTypes programs0
-unfolding wordAt upToZero nameAt sectionWord recordAt memberOf extraOf from paramOf valueOf value64Of typeOf pairs typesFrom typesOf
+unfolding bigEndian wordOf wordIn wordAtBig wordAt upToZero nameAt sectionWord recordAt memberOf extraOf from paramOf valueOf value64Of typeOf pairs typesFrom typesOf
 programs0-read = refl

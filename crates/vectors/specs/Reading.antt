@@ -6,7 +6,7 @@ use mathlib.Core.List.{List, [], _∷_}
 use lib.ListN.{length}
 use lib.Dec.{ltb, leb}
 use Rattle.lent.specs.Text.{ascii}
-use Rattle.lent.specs.Words.{wordAt}
+use Rattle.records.specs.Section.{bigEndian, wordOf}
 use Rattle.rules.specs.Types.{BtfType, Void}
 use Rattle.rules.specs.Listed.{listed}
 use Rattle.demand.specs.Session.{program}
@@ -42,11 +42,11 @@ typesFrom b s end (suc n) at =
 -- struct btf_header: hdr_len at 4, type_off at 8, type_len at 12, str_off at 16
 unfoldable pub typesOf : List ℕ → List BtfType
 typesOf s = Void ∷ typesFrom
-    (record { «ptr_sz» = 8; «union_as_struct» = false; types = 0; strs = wordAt s 4 + wordAt s 16 })
+    (record { «ptr_sz» = 8; «union_as_struct» = false; «big_endian» = bigEndian s; types = 0; strs = wordOf s 4 + wordOf s 16 })
     s
-    (wordAt s 4 + wordAt s 8 + wordAt s 12)
+    (wordOf s 4 + wordOf s 8 + wordOf s 12)
     (length s)
-    (wordAt s 4 + wordAt s 8)
+    (wordOf s 4 + wordOf s 8)
 
 -- what the rules read and print, and what is to be read and was printed
 pub record Printed : Type 0 where

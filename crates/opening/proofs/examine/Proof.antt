@@ -27,7 +27,7 @@ same-length : tie.Need-same-length
 same-length c = search needs
 
 returns-2 : tie.Need-returns-2
-returns-2 c = says-refused _ _ _ (examine-5 _ _ _ _ (c .before .before .before .before .before .before .before .before .header-cause .ensures) (c .before .before .before .before .before .before .before .if1 .left) _ _ _ _ (c .before .before .before .before .before .before .before .before .before .before .before .pre) (c .before .before .before .before .scan .ensures) (not-true _ (c .if2 .taken)))
+returns-2 c = says-refused _ _ _ (examine-5 _ _ _ _ (c .before .before .before .before .before .before .before .before .header-cause .ensures) (c .before .before .before .before .before .before .before .if1 .left) _ (c .before .before .before .before .before .before .btf-of .ensures) _ _ _ (c .before .before .before .before .before .before .before .before .before .before .before .pre) (c .before .before .before .before .scan .ensures) (not-true _ (c .if2 .taken)))
 
 btf-of-requires-2 : tie.Need-btf-of-requires-2
 btf-of-requires-2 c κs = search needs
@@ -39,7 +39,7 @@ same-length-2 : tie.Need-same-length-2
 same-length-2 c = search needs
 
 returns-3 : tie.Need-returns-3
-returns-3 c = says-refused _ _ _ (examine-late _ _ _ _ (c .before .before .before .before .before .before .before .before .before .before .before .before .header-cause .ensures) (c .before .before .before .before .before .before .before .before .before .before .before .if1 .left) _ _ _ _ (c .before .before .before .before .before .before .before .before .before .before .before .before .before .before .before .pre) (c .before .before .before .before .before .before .before .before .scan .ensures) (not-false _ (c .before .before .before .before .if2 .left)) _ (c .before .before .before .btf-of2 .ensures) _ (c .before .reference-cause .ensures) (c .if3 .taken))
+returns-3 c = says-refused _ _ _ (examine-late _ _ _ _ (c .before .before .before .before .before .before .before .before .before .before .before .before .header-cause .ensures) (c .before .before .before .before .before .before .before .before .before .before .before .if1 .left) _ (c .before .before .before .before .before .before .before .before .before .before .btf-of .ensures) _ _ _ (c .before .before .before .before .before .before .before .before .before .before .before .before .before .before .before .pre) (c .before .before .before .before .before .before .before .before .scan .ensures) (not-false _ (c .before .before .before .before .if2 .left)) _ (c .before .before .before .btf-of2 .ensures) _ (c .before .reference-cause .ensures) (c .if3 .taken))
 
 work-size-requires : tie.Need-work-size-requires
 work-size-requires c κs = search needs
@@ -48,13 +48,13 @@ same-length-3 : tie.Need-same-length-3
 same-length-3 c = search needs
 
 returns-4 : tie.Need-returns-4
-returns-4 c = says-refused _ _ _ (examine-9 _ _ _ _ (c .before .before .before .before .before .before .before .before .before .before .before .before .before .before .header-cause .ensures) (c .before .before .before .before .before .before .before .before .before .before .before .before .before .if1 .left) _ _ _ _ (c .before .before .before .before .before .before .before .before .before .before .before .before .before .before .before .before .before .pre) (c .before .before .before .before .before .before .before .before .before .before .scan .ensures) (not-false _ (c .before .before .before .before .before .before .if2 .left)) _ (c .before .before .before .before .before .btf-of2 .ensures) _ (c .before .before .before .reference-cause .ensures) (c .before .before .if3 .left) _ (c .before .work-size .ensures) (c .if4 .taken))
+returns-4 c = says-refused _ _ _ (examine-9 _ _ _ _ (c .before .before .before .before .before .before .before .before .before .before .before .before .before .before .header-cause .ensures) (c .before .before .before .before .before .before .before .before .before .before .before .before .before .if1 .left) _ (c .before .before .before .before .before .before .before .before .before .before .before .before .btf-of .ensures) _ _ _ (c .before .before .before .before .before .before .before .before .before .before .before .before .before .before .before .before .before .pre) (c .before .before .before .before .before .before .before .before .before .before .scan .ensures) (not-false _ (c .before .before .before .before .before .before .if2 .left)) _ (c .before .before .before .before .before .btf-of2 .ensures) _ (c .before .before .before .reference-cause .ensures) (c .before .before .if3 .left) _ (c .before .work-size .ensures) (c .if4 .taken))
 
 same-length-4 : tie.Need-same-length-4
 same-length-4 c = search needs
 
 returns-5 : tie.Need-returns-5
-returns-5 c = says-sound _ _ _ _ (examine-0 _ _ _ _ (c .before .before .before .before .before .before .before .before .before .before .before .before .before .before .header-cause .ensures) (c .before .before .before .before .before .before .before .before .before .before .before .before .before .if1 .left) _ _ _ _ (c .before .before .before .before .before .before .before .before .before .before .before .before .before .before .before .before .before .pre) (c .before .before .before .before .before .before .before .before .before .before .scan .ensures) (not-false _ (c .before .before .before .before .before .before .if2 .left)) _ (c .before .before .before .before .before .btf-of2 .ensures) _ (c .before .before .before .reference-cause .ensures) (c .before .before .if3 .left) _ (c .before .work-size .ensures) (c .if4 .left))
+returns-5 c = says-sound _ _ _ _ (examine-0 _ _ _ _ (c .before .before .before .before .before .before .before .before .before .before .before .before .before .before .header-cause .ensures) (c .before .before .before .before .before .before .before .before .before .before .before .before .before .if1 .left) _ (c .before .before .before .before .before .before .before .before .before .before .before .before .btf-of .ensures) _ _ _ (c .before .before .before .before .before .before .before .before .before .before .before .before .before .before .before .before .before .pre) (c .before .before .before .before .before .before .before .before .before .before .scan .ensures) (not-false _ (c .before .before .before .before .before .before .if2 .left)) _ (c .before .before .before .before .before .btf-of2 .ensures) _ (c .before .before .before .reference-cause .ensures) (c .before .before .if3 .left) _ (c .before .work-size .ensures) (c .if4 .left))
 
 pub examine-spec : {M : Type 1} → statement M
 examine-spec =

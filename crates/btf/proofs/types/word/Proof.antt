@@ -4,14 +4,14 @@ use Rattle.btf.proofs.types.word.Statement.{statement}
 use Rattle.btf.proofs.types.word.Tie as tie
 use Rattle.btf.proofs.types.word.Reads as reads
 use Rattle.btf.proofs.types.word.Lts as lts
-use Rattle.lent.proofs.word_at.Reads as word-at-reads
+use Rattle.lent.proofs.word_in.Reads as word-in-reads
 
-word-at-requires : tie.Need-word-at-requires
-word-at-requires c κs = search needs
+word-in-requires : tie.Need-word-in-requires
+word-in-requires c κs = search needs
 
 returns : tie.Need-returns
 unfolding sectionWord
-returns c = c .word-at .ensures
+returns c = c .word-in .ensures
 
 pub word-spec : {M : Type 1} → statement M
-word-spec = tie.close (tie.spec word-at-requires returns)
+word-spec = tie.close (tie.spec word-in-requires returns)

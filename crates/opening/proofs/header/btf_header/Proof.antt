@@ -4,33 +4,45 @@ use Rattle.opening.proofs.header.btf_header.Statement.{statement}
 use Rattle.opening.proofs.header.btf_header.Tie as tie
 use Rattle.opening.proofs.header.btf_header.Reads as reads
 use Rattle.opening.proofs.header.btf_header.Lts as lts
-use Rattle.lent.proofs.word_at.Reads as word-at-reads
+use Rattle.lent.proofs.word_in.Reads as word-in-reads
+use Rattle.opening.proofs.header.is_big_endian.Reads as is-big-endian-reads
 
-word-at-requires : tie.Need-word-at-requires
-word-at-requires c κs = search needs
+-- src/header.rt:34:9
+is-big-endian-requires : tie.Need-is-big-endian-requires
+is-big-endian-requires c κs = search needs
 
-word-at-requires-2 : tie.Need-word-at-requires-2
-word-at-requires-2 c κs = search needs
+-- src/header.rt:36:18
+word-in-requires : tie.Need-word-in-requires
+word-in-requires c κs = search needs
 
-word-at-requires-3 : tie.Need-word-at-requires-3
-word-at-requires-3 c κs = search needs
+-- src/header.rt:37:19
+word-in-requires-2 : tie.Need-word-in-requires-2
+word-in-requires-2 c κs = search needs
 
-word-at-requires-4 : tie.Need-word-at-requires-4
-word-at-requires-4 c κs = search needs
+-- src/header.rt:38:19
+word-in-requires-3 : tie.Need-word-in-requires-3
+word-in-requires-3 c κs = search needs
 
-word-at-requires-5 : tie.Need-word-at-requires-5
-word-at-requires-5 c κs = search needs
+-- src/header.rt:39:18
+word-in-requires-4 : tie.Need-word-in-requires-4
+word-in-requires-4 c κs = search needs
 
+-- src/header.rt:40:18
+word-in-requires-5 : tie.Need-word-in-requires-5
+word-in-requires-5 c κs = search needs
+
+-- src/header.rt:31:1
 returns : tie.Need-returns
-returns c = header-is _ _ _ _ _ _ (c .before .before .before .before .word-at .ensures) (c .before .before .before .word-at2 .ensures) (c .before .before .word-at3 .ensures) (c .before .word-at4 .ensures) (c .word-at5 .ensures)
+returns c = header-is _ _ (c .before .before .before .before .before .is-big-endian .ensures) _ _ _ _ _ (c .before .before .before .before .word-in .ensures) (c .before .before .before .word-in2 .ensures) (c .before .before .word-in3 .ensures) (c .before .word-in4 .ensures) (c .word-in5 .ensures)
 
 pub btf-header-spec : {M : Type 1} → statement M
 btf-header-spec =
     tie.close
     (tie.spec
-    word-at-requires
-    word-at-requires-2
-    word-at-requires-3
-    word-at-requires-4
-    word-at-requires-5
+    is-big-endian-requires
+    word-in-requires
+    word-in-requires-2
+    word-in-requires-3
+    word-in-requires-4
+    word-in-requires-5
     returns)
