@@ -53,6 +53,13 @@ extern "C" {
 
 /* modes, chosen at opening; other bits are ignored */
 #define BTFDUMP_UNION_AS_STRUCT 1u /* a union's word is "struct" and a comment that says union */
+/*
+ * C wants the elements of an array to be complete, also behind a pointer. Without this bit
+ * a struct that is met only behind a pointer may come later, as in the Rust; with it an array
+ * forgets the pointers before it, so that its elements are defined first, and a struct with
+ * a pointer to an array of itself is a cycle (13).
+ */
+#define BTFDUMP_STRONG_ARRAYS 2u
 
 /* What a call answers: a number and a value, in the upper and the lower half. */
 typedef uint64_t btfdump_answer;
@@ -78,7 +85,7 @@ enum btfdump_number {
 	BTFDUMP_NOT_OPEN = 11,       /* no open session, or other lengths than at opening, or the text is cut short */
 	/* after these the session is closed, the work zero, the text as long as before and zero after that */
 	BTFDUMP_TOO_DEEP = 12,       /* more than 512 nested calls, or entries of a declarator */
-	BTFDUMP_CYCLE = 13,          /* a struct or union contains itself */
+	BTFDUMP_CYCLE = 13,          /* a struct or union needs itself complete before its own definition */
 	BTFDUMP_NAMELESS = 14,       /* a typedef with no name is to be defined */
 	BTFDUMP_ALIGN_ZERO = 15,     /* the packed test meets a type with alignment 0 */
 	BTFDUMP_OVERFLOW = 16,       /* a size or an offset does not fit 32 bits */

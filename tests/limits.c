@@ -68,7 +68,7 @@ static const struct row {
 	{0, "and a request on it", two, {I, 2, 0, R, TWO, TWO_WORK + 99, 64, 0, S_LEN}, S_TEXT},
 	{0, "closed by a cycle: all of the work is zero", two, {I, 3, 0, R, TWO, TWO_WORK + 99, 64, 13, S_LEN}, NULL},
 
-	{NEW, "modes: unknown bits are ignored", two, {O, 8, 0xfffffffe, R, TWO, TWO_WORK, 0, 0, 4}, NULL},
+	{NEW, "modes: unknown bits are ignored", two, {O, 8, 0xfffffffc, R, TWO, TWO_WORK, 0, 0, 4}, NULL},
 	{0, "id 0 has no text", two, {I, 0, 0, R, TWO, TWO_WORK, 7, 0, 0}, NULL},
 	{0, "id at the count", two, {I, 4, 0, R, TWO, TWO_WORK, 7, 10, 0}, NULL},
 	{0, "the largest id", two, {I, 0xffffffff, 0, R, TWO, TWO_WORK, 7, 10, 0}, NULL},

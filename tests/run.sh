@@ -80,6 +80,7 @@ for program in "${programs[@]}"; do
 	header "a file" 0 "$text" "$node"
 	header "standard input" 0 "$text" - <"$node"
 	header "standard input by default" 0 "$text" --union-as-struct <"$node"
+	header "a table without arrays, strong" 0 "$text" --strong-arrays "$node"
 	header "a pointer of 4 bytes" 0 "$out/narrow.h" -p 4 "$node"
 	header "a long text" 0 "$out/far.h" "$out/far.btf"
 	header "a long text, by id" 0 "$out/far.h" "$out/far.btf" 2
@@ -96,4 +97,4 @@ for program in "${programs[@]}"; do
 	header "an unknown option" 2 /dev/null -x
 done
 "$out/btfheader" --help | grep -q usage
-echo "btfheader: 18 uses, ${programs[*]}"
+echo "btfheader: 19 uses, ${programs[*]}"

@@ -78,9 +78,14 @@ def ordering():
     for i, ask in enumerate((3, 1, 2)):
         add("10%s a nameless struct behind a pointer to itself, id %d" % ("abc"[i], ask),
             table(("struct", "", 8, ("p", 2, 0)), ("ptr", 1), ("struct", "S", 8, ("q", 2, 0))), (ask, 13))
-    add("11 pointer to an array of the union itself",
-        table(("union", "U", 8, ("p", 2, 0)), ("ptr", 3), ("array", 1, 2)),
-        (1, "union U {\n\tunion U (*p)[2];\n};\n\n"))
+    itself = table(("union", "U", 8, ("p", 2, 0)), ("ptr", 3), ("array", 1, 2))
+    add("11a pointer to an array of the union itself", itself, (1, "union U {\n\tunion U (*p)[2];\n};\n\n"))
+    add("11b the same with strong arrays", itself, (1, 13), modes=2)
+    other = table(("struct", "A", 8, ("p", 2, 0)), ("ptr", 3), ("array", 4, 2), ("struct", "B", 4, ("a", 5, 0)), "int")
+    holder = "struct A {\n\tstruct B (*p)[2];\n};\n\n"
+    add("11c pointer to an array of another struct", other, (1, "struct B;\n\n" + holder))
+    add("11d the same with strong arrays", other, (1, "struct B {\n\tint a;\n};\n\n" + holder), modes=2)
+    add("11e the same with both modes", other, (1, "struct B {\n\tint a;\n};\n\n" + holder), modes=3)
 
     s = ("int", ("struct", "s", 4, ("a", 1, 0)), ("ptr", 2))
     defined = "struct s {\n\tint a;\n};\n\n"

@@ -13,7 +13,7 @@
 #include <string.h>
 
 static const char help[] =
-	"usage: btfheader [-p 4|8] [-u] [FILE [ID ..]]\n"
+	"usage: btfheader [-p 4|8] [-u] [--strong-arrays] [FILE [ID ..]]\n"
 	"\n"
 	"Prints the C header of a type table: of all types, or of the types with the\n"
 	"ids given and what they need. FILE is a raw .BTF section of either byte order,\n"
@@ -21,6 +21,7 @@ static const char help[] =
 	"\n"
 	"  -p, --pointer-size 4|8   size of a pointer on the table's machine (8)\n"
 	"  -u, --union-as-struct    a union's word is 'struct', with a comment\n"
+	"      --strong-arrays      elements of an array come before a pointer to it\n"
 	"  -h, --help               this text\n"
 	"\n"
 	"Exit status: 0 printed, 1 the table or a request was refused (the text of the\n"
@@ -228,6 +229,8 @@ int main(int argc, char **argv)
 			return fputs(help, stdout) < 0 || fflush(stdout) ? 2 : 0;
 		else if (!strcmp(argv[i], "-u") || !strcmp(argv[i], "--union-as-struct"))
 			job.modes |= BTFDUMP_UNION_AS_STRUCT;
+		else if (!strcmp(argv[i], "--strong-arrays"))
+			job.modes |= BTFDUMP_STRONG_ARRAYS;
 		else if (strcmp(argv[i], "-p") && strcmp(argv[i], "--pointer-size"))
 			usage("unknown option ", argv[i]);
 		else if (++i == argc || !number(argv[i], &job.pointer_size))

@@ -84,6 +84,7 @@ module _ (u w : List ℕ) where
       table-same = λ i. record {
         ptr-sz = b .«ptr_sz»;
         union-as-struct = b .«union_as_struct»;
+        strong-arrays = b .«strong_arrays»;
         type-cnt = b .types;
         type-by-id = λ id. typeOf b s (record-same id i);
         decl-tags = λ id. tags-of-same id i;

@@ -426,7 +426,7 @@ module _ (b : Btf) (s : List ℕ) (t : Record) where
     node-ignored (inl e) = sym (ap nodeOf (type-12 (sym ek ∙ e)))
     node-ignored (inr e) = sym (ap nodeOf (type-17 (sym ek ∙ e)))
 
-    pub node-tag : (k ≡ 18) → nodeIs b s (code.Through (t .«type_id»)) ≡ nodeOf (typeOf b s t)
+    pub node-tag : (k ≡ 18) → nodeIs b s (code.Through false (t .«type_id»)) ≡ nodeOf (typeOf b s t)
     unfolding nodeIs
     node-tag e = sym (ap nodeOf (type-18 (sym ek ∙ e)))
 
@@ -458,11 +458,11 @@ module _ (b : Btf) (s : List ℕ) (t : Record) where
         (λ m l e h0 h1 h2 h3. absurd (omega arith))
         k ek
 
-    pub node-mod : 6 ≤ k → k < 12 → ((k ≡ 6) ⊎ (k ≡ 19) → ⊥) → (k ≡ 7 → ⊥) → (k ≡ 8 → ⊥) → nodeIs b s (code.Through (t .«type_id»)) ≡ nodeOf (typeOf b s t)
+    pub node-mod : 6 ≤ k → k < 12 → ((k ≡ 6) ⊎ (k ≡ 19) → ⊥) → (k ≡ 7 → ⊥) → (k ≡ 8 → ⊥) → nodeIs b s (code.Through false (t .«type_id»)) ≡ nodeOf (typeOf b s t)
     unfolding nodeIs
     node-mod =
         by-kind
-        (λ k. k ≡ kindOf (t .info) → 6 ≤ k → k < 12 → ((k ≡ 6) ⊎ (k ≡ 19) → ⊥) → (k ≡ 7 → ⊥) → (k ≡ 8 → ⊥) → nodeIs b s (code.Through (t .«type_id»)) ≡ nodeOf (typeOf b s t))
+        (λ k. k ≡ kindOf (t .info) → 6 ≤ k → k < 12 → ((k ≡ 6) ⊎ (k ≡ 19) → ⊥) → (k ≡ 7 → ⊥) → (k ≡ 8 → ⊥) → nodeIs b s (code.Through false (t .«type_id»)) ≡ nodeOf (typeOf b s t))
         (λ e h0 h1 h2 h3 h4. absurd (omega arith))
         (λ e h0 h1 h2 h3 h4. absurd (omega arith))
         (λ e h0 h1 h2 h3 h4. absurd (omega arith))
@@ -542,9 +542,9 @@ module _ (b : Btf) (s : List ℕ) (t : Record) where
         (λ m l e h0 h1 h2 h3. sym (ap nodeOf (type-none (rw e at l))))
         k ek
 
-    pub node-array : (x : ℕ) → k ≡ 3 → x ≡ extraWord b s t → nodeIs b s (code.Through x) ≡ nodeOf (typeOf b s t)
+    pub node-array : (x : ℕ) → k ≡ 3 → x ≡ extraWord b s t → nodeIs b s (code.Through true x) ≡ nodeOf (typeOf b s t)
     unfolding nodeIs
-    node-array x e p = ap through p ∙ sym (ap nodeOf (type-3 (sym ek ∙ e)))
+    node-array x e p = ap (through true) p ∙ sym (ap nodeOf (type-3 (sym ek ∙ e)))
 
     pub node-proto : (x : Entries) → k ≡ 13 → x ≡ entriesOf t → nodeIs b s (code.Proto (t .«type_id») x) ≡ nodeOf (typeOf b s t)
     unfolding nodeIs

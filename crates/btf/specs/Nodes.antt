@@ -21,7 +21,7 @@ module _ (b : Btf) (s : List ℕ) where
   nodeIs Ignored = ignored
   nodeIs Plain = plain
   nodeIs (Listed fwd) = listed fwd
-  nodeIs (Through t) = through t
+  nodeIs (Through a t) = through a t
   nodeIs (Ptr t) = ptr t
   nodeIs (Typedef t) = tdef t
   nodeIs (Proto r e) = proto (r ∷ paramIds e)

@@ -17,6 +17,7 @@ pub struct Btf {
     pub ptr_sz: u32,
     pub union_as_struct: bool,
     pub big_endian: bool,
+    pub strong_arrays: bool,
     pub types: u32,
     pub strs: u32,
 }

@@ -57,7 +57,7 @@ module _ {M₁ M : Type 0} (X₁ : Machine M₁) (X : Machine M) (T : Table) (be
     again-alike cont s t q ignored = both-wrote s t q
     again-alike cont s t q plain = both-wrote s t q
     again-alike cont s t q (listed f) = both-wrote s t q
-    again-alike cont s t q (through y) = both-wrote s t q
+    again-alike cont s t q (through a y) = both-wrote s t q
     again-alike cont s t q (ptr y) = both-wrote s t q
     again-alike cont s t q (tdef y) = by-flag (λ b. once X₁ T (X₁ .aliasLine) x b s) (λ b. once X T (X .aliasLine) x b t) s t q (λ b. once-alike (X₁ .aliasLine) (X .aliasLine) (al .a-alias) b s t q)
     again-alike cont s t q (proto ts) = both-wrote s t q
@@ -97,7 +97,7 @@ module _ {M₁ M : Type 0} (X₁ : Machine M₁) (X : Machine M) (T : Table) (be
       begin-alike top ignored e = both-wrote s t q
       begin-alike top plain e = both-wrote s t q
       begin-alike top (listed f) e = leaf-alike (f || top) s t q
-      begin-alike top (through y) e = keeps s t y cont q (below-x (through y) y e (List·Memᴰ·head refl))
+      begin-alike top (through a y) e = keeps s t y cont q (below-x (through a y) y e (List·Memᴰ·head refl))
       begin-alike top (ptr y) e = keeps s t y cont q (below-x (ptr y) y e (List·Memᴰ·head refl))
       begin-alike top (tdef y) e =
           out-bind (λ s′. obind (once X₁ T (X₁ .aliasLine) x (X₁ .hasFwd s′ x) s′) (λ s″. wrote (X₁ .emark done x s″))) (λ t′. obind (once X T (X .aliasLine) x (X .hasFwd t′ x) t′) (λ t″. wrote (X .emark done x t″)))

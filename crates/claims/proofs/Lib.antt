@@ -11,3 +11,4 @@ pub mod Request
 pub mod Session
 pub mod Again
 pub mod Demands
+pub mod Arrays

@@ -1,6 +1,6 @@
 -- The calls of a session go as the session of the rules over plain lists: the same numbers, the same text. Assumes nothing but that opening
 -- accepts the section.
-use Prim.Native.Nat.{ℕ, zero, suc, _+_, _-_, _%_, _<_, _≤_}
+use Prim.Native.Nat.{ℕ, zero, suc, _+_, _-_, _/_, _%_, _<_, _≤_}
 use mathlib.Core.Path.{_≡_, refl, ap, _∙_, sym, subst}
 use mathlib.Core.Bool.{Bool, true, false, _||_, true≢false}
 use mathlib.Core.List.{List, [], _∷_, _++_, append-nil}
@@ -88,8 +88,12 @@ module _ (len room : ℕ) (t tx : List ℕ) (is : take len t ≡ tx) (short : le
   unfolding thenZeros
   zeros-fit = omega (arith, length-append (take len t) (replicate (room - len) 0), length-take-le len t short)
 
-mod-twice : (m : ℕ) → m % 2 % 2 ≡ m % 2
-mod-twice m = omega arith
+-- the modes that the record keeps say what those at opening said
+union-kept : (m : ℕ) → m % 4 % 2 ≡ m % 2
+union-kept m = omega arith
+
+arrays-kept : (m : ℕ) → m % 4 / 2 % 2 ≡ m / 2 % 2
+arrays-kept m = omega arith
 
 module _ (p modes : ℕ) (s : List ℕ) (n : ℕ) (ok : openingNumber p s n ≡ 0) where
   abbrev b : Btf
@@ -296,8 +300,8 @@ module _ (p modes : ℕ) (s : List ℕ) (n : ℕ) (ok : openingNumber p s n ≡ 
     table-is =
         ap (λ (k : ℕ). settingsOf s k (S .modes) (S .types)) (h .pointer-size)
         ∙ ap (λ (k : ℕ). settingsOf s p k (S .types)) (h .mode)
-        ∙ ap (settingsOf s p (modes % 2)) (h .types)
-        ∙ ap (λ (k : ℕ). record { «ptr_sz» = b .«ptr_sz»; «union_as_struct» = eqb k 1; «big_endian» = b .«big_endian»; types = b .types; strs = b .strs }) (mod-twice modes)
+        ∙ ap (settingsOf s p (modes % 4)) (h .types)
+        ∙ (λ i. record { «ptr_sz» = b .«ptr_sz»; «union_as_struct» = eqb (union-kept modes i) 1; «big_endian» = b .«big_endian»; «strong_arrays» = eqb (arrays-kept modes i) 1; types = b .types; strs = b .strs })
 
     pub types-is : S .types ≡ T .count
     types-is = h .types ∙ sym (count-is p modes s n ok)

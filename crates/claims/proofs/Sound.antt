@@ -1,5 +1,5 @@
--- Causes 6 and 7 of opening leave a table of which demand 3 speaks: followed ids are below the count, id 0 is void, and no member is a
--- prototype through typedefs, qualifiers, type tags, arrays. Assumes nothing.
+-- Causes 6 and 7 of opening leave a table of which demand 3 speaks: followed ids are below the count, id 0 is void, and no member and no
+-- array element is a prototype through typedefs, qualifiers, type tags, arrays. Assumes nothing.
 use Prim.Native.Nat.{ℕ, zero, suc, _+_, _-_, _<_, _≤_}
 use mathlib.Core.Path.{_≡_, refl, ap, _∙_, sym, subst}
 use mathlib.Core.Bool.{Bool, true, false, true≢false}
@@ -11,7 +11,7 @@ use native.Mathlib.Decide.{ℕ-discrete}
 use Rattle.lent.proofs.Laws.{le-or-lt}
 use Rattle.records.specs.Places.{kindP}
 use Rattle.rules.specs.Types.{BtfType, nodeOf, memberTypes, paramTypes, tableOf}
-use Rattle.rules.specs.Order.{Node, ignored, plain, listed, through, ptr, tdef, proto, comp, isComp}
+use Rattle.rules.specs.Order.{Node, ignored, plain, listed, through, ptr, tdef, proto, comp, isComp, Table}
 use Rattle.btf.specs.declared.types.Btf.{Btf}
 use Rattle.btf.specs.declared.types.BtfType.{BtfType as Record}
 use Rattle.btf.specs.Records.{sectionWord, kindOf, vlenOf, memberAt, paramAt, recordAt}
@@ -31,7 +31,7 @@ use Rattle.opening.proofs.Order.{sound-none}
 use Rattle.opening.proofs.Index.{types-few, table-count, followed-place, followed-kind}
 use Rattle.opening.proofs.ReadBack.{header-ok, types-ok, order-ok, record-back, followed-below}
 use Rattle.opening.proofs.Sections.{kind-is}
-use Rattle.demand.specs.Needs.{kids, weaken, isProto, ProtoVia, it, on, WF}
+use Rattle.demand.specs.Needs.{kids, weaken, isHolder, isProto, ProtoVia, it, on, WF}
 use Rattle.claims.specs.Table.{headerOf, openedTable}
 use Rattle.claims.proofs.Described.{count-is, type-zero, type-past}
 
@@ -43,9 +43,9 @@ module _ (c : Btf) (s : List ℕ) (k at : ℕ) where
 
   pub record Sees (nd : Node) : Type 0 where
     pub kid : (y : ℕ) → List·Memᴰ y (kids nd) → Follows y
-    pub holder : isComp nd ≡ true → among holders k ≡ true
+    pub holder : isHolder nd ≡ true → among holders k ≡ true
     pub ends-at : isProto nd ≡ true → k ≡ 13
-    pub passes-on : (y : ℕ) → isComp nd ≡ false → weaken nd false ≡ false → List·Memᴰ y (kids nd) → (k ≡ 13) ⊎ ((among walk.through k ≡ true) × (idAt c s k at 0 ≡ y))
+    pub passes-on : (T : Table) (y : ℕ) → isComp nd ≡ false → weaken T nd false ≡ false → List·Memᴰ y (kids nd) → (k ≡ 13) ⊎ ((among walk.through k ≡ true) × (idAt c s k at 0 ≡ y))
 
   off : {A : Type 0} → false ≡ true → A
   off e = absurd (true≢false (sym e))
@@ -55,33 +55,36 @@ module _ (c : Btf) (s : List ℕ) (k at : ℕ) where
   one y t (List·Memᴰ·tail h) = absurd (List·Memᴰ·not-nil h)
 
   sees-ignored : Sees ignored
-  sees-ignored = record { kid = λ y h. absurd (List·Memᴰ·not-nil h); holder = λ e. off e; ends-at = λ e. off e; passes-on = λ y e f h. absurd (List·Memᴰ·not-nil h) }
+  sees-ignored = record { kid = λ y h. absurd (List·Memᴰ·not-nil h); holder = λ e. off e; ends-at = λ e. off e; passes-on = λ T y e f h. absurd (List·Memᴰ·not-nil h) }
 
   sees-plain : Sees plain
-  sees-plain = record { kid = λ y h. absurd (List·Memᴰ·not-nil h); holder = λ e. off e; ends-at = λ e. off e; passes-on = λ y e f h. absurd (List·Memᴰ·not-nil h) }
+  sees-plain = record { kid = λ y h. absurd (List·Memᴰ·not-nil h); holder = λ e. off e; ends-at = λ e. off e; passes-on = λ T y e f h. absurd (List·Memᴰ·not-nil h) }
 
   sees-listed : (f : Bool) → Sees (listed f)
-  sees-listed f = record { kid = λ y h. absurd (List·Memᴰ·not-nil h); holder = λ e. off e; ends-at = λ e. off e; passes-on = λ y e g h. absurd (List·Memᴰ·not-nil h) }
+  sees-listed f = record { kid = λ y h. absurd (List·Memᴰ·not-nil h); holder = λ e. off e; ends-at = λ e. off e; passes-on = λ T y e g h. absurd (List·Memᴰ·not-nil h) }
 
   module _ (t : ℕ) (one-id : 1 ≡ countAt c s k at) (id : idAt c s k at 0 ≡ t) where
     only : (y : ℕ) → List·Memᴰ y (t ∷ []) → Follows y
     only y h = (0, omega arith, id ∙ sym (one y t h))
 
     sees-ptr : Sees (ptr t)
-    sees-ptr = record { kid = only; holder = λ e. off e; ends-at = λ e. off e; passes-on = λ y e f h. absurd (true≢false f) }
+    sees-ptr = record { kid = only; holder = λ e. off e; ends-at = λ e. off e; passes-on = λ T y e f h. absurd (true≢false f) }
 
     module _ (p : among walk.through k ≡ true) where
-      sees-through : Sees (through t)
-      sees-through = record { kid = only; holder = λ e. off e; ends-at = λ e. off e; passes-on = λ y e f h. inr (p, id ∙ sym (one y t h)) }
+      sees-array : among holders k ≡ true → Sees (through true t)
+      sees-array h = record { kid = only; holder = λ e. h; ends-at = λ e. off e; passes-on = λ T y e f m. inr (p, id ∙ sym (one y t m)) }
+
+      sees-through : Sees (through false t)
+      sees-through = record { kid = only; holder = λ e. off e; ends-at = λ e. off e; passes-on = λ T y e f h. inr (p, id ∙ sym (one y t h)) }
 
       sees-tdef : Sees (tdef t)
-      sees-tdef = record { kid = only; holder = λ e. off e; ends-at = λ e. off e; passes-on = λ y e f h. inr (p, id ∙ sym (one y t h)) }
+      sees-tdef = record { kid = only; holder = λ e. off e; ends-at = λ e. off e; passes-on = λ T y e f h. inr (p, id ∙ sym (one y t h)) }
 
   sees-proto : (ts : List ℕ) → k ≡ 13 → ((y : ℕ) → List·Memᴰ y ts → Follows y) → Sees (proto ts)
-  sees-proto ts e h = record { kid = h; holder = λ q. off q; ends-at = λ q. e; passes-on = λ y q f m. inl e }
+  sees-proto ts e h = record { kid = h; holder = λ q. off q; ends-at = λ q. e; passes-on = λ T y q f m. inl e }
 
   sees-comp : (ts : List ℕ) → among holders k ≡ true → ((y : ℕ) → List·Memᴰ y ts → Follows y) → Sees (comp ts)
-  sees-comp ts e h = record { kid = h; holder = λ q. e; ends-at = λ q. off q; passes-on = λ y q f m. absurd (true≢false q) }
+  sees-comp ts e h = record { kid = h; holder = λ q. e; ends-at = λ q. off q; passes-on = λ T y q f m. absurd (true≢false q) }
 
 -- an entry of a list that is made from a function
 from-mem : (f : ℕ → ℕ) (k n y : ℕ) → List·Memᴰ y (from f k n) → (j : ℕ) × (j < n) × (f (k + j) ≡ y)
@@ -142,7 +145,7 @@ module _ (c : Btf) (size : ℕ) (union : Bool) (count names : ℕ) (s : List ℕ
       (λ e. by 0 _ (K.type-0 b′ s t e) (sees-plain c s 0 at))
       (λ e. by 1 _ (K.type-1 b′ s t e) (sees-plain c s 1 at))
       (λ e. by 2 _ (K.type-2 b′ s t e) (sees-ptr c s 2 at _ refl refl))
-      (λ e. by 3 _ (K.type-3 b′ s t e) (sees-through c s 3 at _ refl refl refl))
+      (λ e. by 3 _ (K.type-3 b′ s t e) (sees-array c s 3 at _ refl refl refl refl))
       (λ e. by 4 _ (K.type-4 b′ s t e) (sees-comp c s 4 at _ refl members-4))
       (λ e. by 5 _ (K.type-5 b′ s t e) (sees-comp c s 5 at _ refl members-5))
       (λ e. by 6 _ (K.type-6 b′ s t e) (sees-listed c s 6 at false))
@@ -216,7 +219,7 @@ module _ (p modes : ℕ) (s : List ℕ) (n : ℕ) (ok : openingNumber p s n ≡ 
   to-proto : {x : ℕ} → ProtoVia (tableOf (openedTable p modes s n)) x → ToProto c s (indexOf s) x
   unfolding followedId
   to-proto (it {x = x} e) = let r = proto-inside x e in ends (at-index x (r .0) (r .1) .ends-at e)
-  to-proto (on {x = x} {y = y} i f h v) = step (at-index x (with-kid x y h .0) (with-kid x y h .1) .passes-on y i f h) (to-proto v)
+  to-proto (on {x = x} {y = y} i f h v) = step (at-index x (with-kid x y h .0) (with-kid x y h .1) .passes-on (tableOf (openedTable p modes s n)) y i f h) (to-proto v)
     where
       step : (kindAt c (indexOf s) x ≡ 13) ⊎ ((among walk.through (kindAt c (indexOf s) x) ≡ true) × (followedId c s (indexOf s) x 0 ≡ y)) → ToProto c s (indexOf s) y → ToProto c s (indexOf s) x
       step (inl e) q = ends e
@@ -226,7 +229,7 @@ module _ (p modes : ℕ) (s : List ℕ) (n : ℕ) (ok : openingNumber p s n ≡ 
   unfolding cause7
   none-leads = sound-none p s n .0 ok .1 .1 .1 .1 .1 .1 .0
 
-  no-proto-inside : (x m : ℕ) → isComp (nodeAt x) ≡ true → List·Memᴰ m (kids (nodeAt x)) → ProtoVia (tableOf (openedTable p modes s n)) m → ⊥
+  no-proto-inside : (x m : ℕ) → isHolder (nodeAt x) ≡ true → List·Memᴰ m (kids (nodeAt x)) → ProtoVia (tableOf (openedTable p modes s n)) m → ⊥
   unfolding followedCount followedId
   no-proto-inside x m i h v =
       let r = with-kid x m h in

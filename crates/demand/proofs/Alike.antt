@@ -160,7 +160,7 @@ module _ {S₁ S : Type 0} (K₁ : Store S₁) (K : Store S) (T : Table) (Good :
     fresh-alike plain e n = both (finish K₁ false x s) (finish K false x t) false (finished false false s t n h (grew-refl K T Good law Fr framed t) not-listed)
     fresh-alike (listed f) e n =
         both (finish K₁ (T .named x) x s) (finish K (T .named x) x t) true (finished (T .named x) true s t n h (grew-refl K T Good law Fr framed t) (λ q. clash-new (K .get t x) n))
-    fresh-alike (through y) e n = keeps s t y weak h (down (through y) y e (List·Memᴰ·head refl))
+    fresh-alike (through a y) e n = keeps s t y (not (a && T .strong-arrays) && weak) h (down (through a y) y e (List·Memᴰ·head refl))
     fresh-alike (ptr y) e n =
         both-bind (λ s′ b. ok (finish K₁ false x s′) b) (λ t′ b. ok (finish K false x t′) b) (keeps s t y true h (down (ptr y) y e (List·Memᴰ·head refl)))
         (λ s′ t′ b w. both (finish K₁ false x s′) (finish K false x t′) b (finished false b s′ t′ n (w .live) (w .grew) (λ q. absurd (true≢false (sym q)))))
@@ -245,7 +245,7 @@ module _ {M₁ M : Type 0} (X₁ : Machine M₁) (X : Machine M) (T : Table) (Go
     again-alike cont s t q ignored = both-wrote s t q
     again-alike cont s t q plain = both-wrote s t q
     again-alike cont s t q (listed f) = both-wrote s t q
-    again-alike cont s t q (through y) = both-wrote s t q
+    again-alike cont s t q (through a y) = both-wrote s t q
     again-alike cont s t q (ptr y) = both-wrote s t q
     again-alike cont s t q (tdef y) = by-flag (λ b. once X₁ T (X₁ .aliasLine) x b s) (λ b. once X T (X .aliasLine) x b t) s t q (λ b. once-alike (X₁ .aliasLine) (X .aliasLine) (al .a-alias) b s t q)
     again-alike cont s t q (proto ts) = both-wrote s t q
@@ -285,7 +285,7 @@ module _ {M₁ M : Type 0} (X₁ : Machine M₁) (X : Machine M) (T : Table) (Go
       begin-alike top ignored e = both-wrote s t q
       begin-alike top plain e = both-wrote s t q
       begin-alike top (listed f) e = leaf-alike (f || top) s t q
-      begin-alike top (through y) e = keeps s t y cont q (below-x (through y) y e (List·Memᴰ·head refl))
+      begin-alike top (through a y) e = keeps s t y cont q (below-x (through a y) y e (List·Memᴰ·head refl))
       begin-alike top (ptr y) e = keeps s t y cont q (below-x (ptr y) y e (List·Memᴰ·head refl))
       begin-alike top (tdef y) e =
           out-bind (λ s′. obind (once X₁ T (X₁ .aliasLine) x (X₁ .hasFwd s′ x) s′) (λ s″. wrote (X₁ .emark done x s″))) (λ t′. obind (once X T (X .aliasLine) x (X .hasFwd t′ x) t′) (λ t″. wrote (X .emark done x t″)))

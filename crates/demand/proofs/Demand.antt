@@ -113,7 +113,7 @@ sorted-once T l o c nc m = record {
 record Due (T : Table) (x : ℕ) : Type 0 where
   able : Listable T x
   below : x < T .count
-  weakly-free : (d : ℕ) (v : Bool) → Way weaken T x true d v → (T .named d ≡ false) ⊎ (v ≡ false) → Loops T d → ⊥
+  weakly-free : (d : ℕ) (v : Bool) → Way (weaken T) T x true d v → (T .named d ≡ false) ⊎ (v ≡ false) → Loops T d → ⊥
   comp-free : isComp (T .node x) ≡ true → Loops T x → ⊥
 
 module _ {M : Type 0} (X : Machine M) (T : Table) (Good : M → Type 0) (ml : MLawful X Good (T .count)) (wf : WF T) where
@@ -179,7 +179,7 @@ module _ {M : Type 0} (X : Machine M) (T : Table) (Good : M → Type 0) (ml : ML
   due-of pre s r x m = record {
     able = f .1;
     below = f .2;
-    weakly-free = λ d v way due o. free d (hit-lower (X .store) T Good (ml .law) (Kept X Good) (ml .framed) s x true (r .inv .closed x (f .0)) d v (agree T way (inl refl)) due) o;
+    weakly-free = λ d v way due o. free d (hit-lower (X .store) T Good (ml .law) (Kept X Good) (ml .framed) s x true (r .inv .closed x (f .0)) d v (agree T wf way (inl refl)) due) o;
     comp-free = λ c o. free x (f .0) o;
   }
     where

@@ -9,8 +9,8 @@ use mathlib.Core.Logic.{_⊎_, inl, inr, ⊎-elim}
 use lib.Dec.{ltb}
 use borrow.Author.Tests.{ltb-true}
 use Rattle.lent.proofs.Laws.{le-or-lt}
-use Rattle.rules.specs.Order.{Node, ignored, plain, listed, through, ptr, tdef, proto, comp, Table, isComp}
-use Rattle.demand.specs.Needs.{kids, WF, ProtoVia}
+use Rattle.rules.specs.Order.{Node, ignored, plain, listed, through, ptr, tdef, proto, comp, Table}
+use Rattle.demand.specs.Needs.{kids, isHolder, WF, ProtoVia}
 use Rattle.demand.specs.Proto.{Step, yes-proto, nothing, to, stepOf, chase}
 use Rattle.demand.specs.Fit.{isPlain, allBelow, noneProto, fitNode, fitTo, fit}
 use Rattle.demand.proofs.Proto.{chase-no}
@@ -35,7 +35,7 @@ plain-is : (nd : Node) → isPlain nd ≡ true → nd ≡ plain
 plain-is ignored e = absurd (true≢false (sym e))
 plain-is plain e = refl
 plain-is (listed f) e = absurd (true≢false (sym e))
-plain-is (through t) e = absurd (true≢false (sym e))
+plain-is (through a t) e = absurd (true≢false (sym e))
 plain-is (ptr t) e = absurd (true≢false (sym e))
 plain-is (tdef t) e = absurd (true≢false (sym e))
 plain-is (proto ts) e = absurd (true≢false (sym e))
@@ -80,7 +80,7 @@ step-kid : (nd : Node) (t : ℕ) → stepOf nd ≡ to t → List·Memᴰ t (kids
 step-kid ignored t e = no-step t e
 step-kid plain t e = no-step t e
 step-kid (listed f) t e = no-step t e
-step-kid (through s) t e = let q : t ≡ s = cc in List·Memᴰ·head q
+step-kid (through a s) t e = let q : t ≡ s = cc in List·Memᴰ·head q
 step-kid (ptr s) t e = no-step t e
 step-kid (tdef s) t e = let q : t ≡ s = cc in List·Memᴰ·head q
 step-kid (proto ts) t e = no-proto-step t e
@@ -98,12 +98,12 @@ module _ (T : Table) (past : (x : ℕ) → T .count ≤ x → T .node x ≡ plai
   unfolding fitNode
   kids-below x y h = below-mem (T .count) (kids (T .node x)) (and-left _ _ (node-fit x)) y h
 
-  members-free : (c m : ℕ) → isComp (T .node c) ≡ true → List·Memᴰ m (kids (T .node c)) → chase (T .count) T m ≡ false
+  members-free : (c m : ℕ) → isHolder (T .node c) ≡ true → List·Memᴰ m (kids (T .node c)) → chase (T .count) T m ≡ false
   unfolding fitNode
   members-free c m i h =
       none-mem T (kids (T .node c))
-      (or-right (isComp (T .node c)) (noneProto T (kids (T .node c))) i
-      (and-right (allBelow (T .count) (kids (T .node c))) (not (isComp (T .node c)) || noneProto T (kids (T .node c))) (node-fit c)))
+      (or-right (isHolder (T .node c)) (noneProto T (kids (T .node c))) i
+      (and-right (allBelow (T .count) (kids (T .node c))) (not (isHolder (T .node c)) || noneProto T (kids (T .node c))) (node-fit c)))
       m h
 
   void-plain : T .node 0 ≡ plain

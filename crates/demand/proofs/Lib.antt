@@ -12,3 +12,4 @@ pub mod Alike
 pub mod AnyNames
 pub mod Fit
 pub mod Again
+pub mod Arrays

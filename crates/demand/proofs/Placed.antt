@@ -11,7 +11,7 @@ abbrev pub isDef : Node → Bool
 isDef ignored = false
 isDef plain = false
 isDef (listed f) = true
-isDef (through t) = false
+isDef (through a t) = false
 isDef (ptr t) = false
 isDef (tdef t) = true
 isDef (proto ts) = false

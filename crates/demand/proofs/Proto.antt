@@ -3,7 +3,7 @@ use Prim.Native.Nat.{ℕ, zero, suc, _+_, _<_, _≤_}
 use native.Mathlib.Decide.{ℕ-discrete}
 use native.Mathlib.Omega.{arith}
 use mathlib.Core.Path.{_≡_, refl, sym, _∙_, ap, subst}
-use mathlib.Core.Bool.{Bool, true, false, true≢false}
+use mathlib.Core.Bool.{Bool, true, false, not, _&&_, true≢false, and-false}
 use mathlib.Core.List.{List, [], _∷_, List·Memᴰ, List·Memᴰ·head, List·Memᴰ·not-nil, List·Memᴰ·eq-of-singleton}
 use mathlib.Core.Logic.{_⊎_, inl, inr, _≢_}
 use Rattle.rules.specs.Order.{Node, ignored, plain, listed, through, ptr, tdef, proto, comp, Table, isComp, Mark, new, busy, done}
@@ -36,7 +36,7 @@ to-links {T} (it {x = x} e) = (0, arrived (go (T .node x) e) refl)
     go ignored q = absurd (true≢false (sym q))
     go plain q = absurd (true≢false (sym q))
     go (listed f) q = absurd (true≢false (sym q))
-    go (through t) q = absurd (true≢false (sym q))
+    go (through a t) q = absurd (true≢false (sym q))
     go (ptr t) q = absurd (true≢false (sym q))
     go (tdef t) q = absurd (true≢false (sym q))
     go (proto ts) q = refl
@@ -50,8 +50,8 @@ to-links {T} (on {x = x} {y = y} c w m p) = go (to-links p) (T .node x) refl
     go r ignored e = absurd (List·Memᴰ·not-nil (subst (λ (k : Node). List·Memᴰ y (kids k)) e m))
     go r plain e = absurd (List·Memᴰ·not-nil (subst (λ (k : Node). List·Memᴰ y (kids k)) e m))
     go r (listed f) e = absurd (List·Memᴰ·not-nil (subst (λ (k : Node). List·Memᴰ y (kids k)) e m))
-    go r (through t) e = one (through t) t e refl refl r
-    go r (ptr t) e = absurd (true≢false (ap (λ (k : Node). weaken k false) (sym e) ∙ w))
+    go r (through a t) e = one (through a t) t e refl refl r
+    go r (ptr t) e = absurd (true≢false (ap (λ (k : Node). weaken T k false) (sym e) ∙ w))
     go r (tdef t) e = one (tdef t) t e refl refl r
     go r (proto ts) e = (0, arrived (ap stepOf e) refl)
     go r (comp ts) e = absurd (true≢false (ap isComp (sym e) ∙ c))
@@ -150,14 +150,14 @@ unfolding chase
 chase-yes T zero x e = absurd (true≢false (sym e))
 chase-yes T (suc n) x e = go (T .node x) refl (λ y h. chase-yes T n y h) e
   where
-    next : (nd : Node) (t : ℕ) → T .node x ≡ nd → isComp nd ≡ false → weaken nd false ≡ false → kids nd ≡ t ∷ [] → ProtoVia T t → ProtoVia T x
-    next nd t q c w k p = on (ap isComp q ∙ c) (ap (λ (z : Node). weaken z false) q ∙ w) (subst (List·Memᴰ t) (sym (ap kids q ∙ k)) (List·Memᴰ·head refl)) p
+    next : (nd : Node) (t : ℕ) → T .node x ≡ nd → isComp nd ≡ false → weaken T nd false ≡ false → kids nd ≡ t ∷ [] → ProtoVia T t → ProtoVia T x
+    next nd t q c w k p = on (ap isComp q ∙ c) (ap (λ (z : Node). weaken T z false) q ∙ w) (subst (List·Memᴰ t) (sym (ap kids q ∙ k)) (List·Memᴰ·head refl)) p
 
     go : (nd : Node) → T .node x ≡ nd → ((y : ℕ) → chase n T y ≡ true → ProtoVia T y) → chaseBy (λ y. chase n T y) (stepOf nd) ≡ true → ProtoVia T x
     go ignored q r h = absurd (true≢false (sym h))
     go plain q r h = absurd (true≢false (sym h))
     go (listed f) q r h = absurd (true≢false (sym h))
-    go (through t) q r h = next (through t) t q refl refl refl (r t h)
+    go (through a t) q r h = next (through a t) t q refl (and-false (not (a && T .strong-arrays))) refl (r t h)
     go (ptr t) q r h = absurd (true≢false (sym h))
     go (tdef t) q r h = next (tdef t) t q refl refl refl (r t h)
     go (proto ts) q r h = it (ap isProto q)

@@ -29,8 +29,12 @@ oholds-map f (ogood h) = ogood (f _ h)
 oholds-map f (obad h) = obad h
 
 gee-true : {T : Table} {E : Type 0} {B : ℕ → Type 0} {x : ℕ} → Gee T E B x false → Gee T E B x true
-gee-true {T} g d v way (inl n) c = let r = way-lower T weaken-mono way false (λ e. refl) in g d (r .0) (r .1) (inl n) c
-gee-true {T} g d v way (inr q) c = let r = way-lower T weaken-mono way false (λ e. refl) in g d (r .0) (r .1) (inr (r .2 q)) c
+gee-true {T} g d v way (inl n) c = let r = way-lower T (weaken-mono T) way false (λ e. refl) in g d (r .0) (r .1) (inl n) c
+gee-true {T} g d v way (inr q) c = let r = way-lower T (weaken-mono T) way false (λ e. refl) in g d (r .0) (r .1) (inr (r .2 q)) c
+
+gee-any : {T : Table} {E : Type 0} {B : ℕ → Type 0} {x : ℕ} (w : Bool) → Gee T E B x w → Gee T E B x true
+gee-any true g = g
+gee-any false g = gee-true g
 
 zero-no : (n : ℕ) → (n ≡ 0 → ⊥) → isZero n ≡ false
 zero-no zero h = absurd (h refl)
@@ -136,7 +140,7 @@ module _ {M : Type 0} (X : Machine M) (T : Table) (Good : M → Type 0) (ml : ML
       again-ok ignored e b g = ogood (quiet-refl s z)
       again-ok plain e b g = ogood (quiet-refl s z)
       again-ok (listed f) e b g = ogood (quiet-refl s z)
-      again-ok (through t) e b g = ogood (quiet-refl s z)
+      again-ok (through a t) e b g = ogood (quiet-refl s z)
       again-ok (ptr t) e b g = ogood (quiet-refl s z)
       again-ok (tdef t) e b g = once-ok (X .aliasLine) x (X .hasFwd s x) s z l (ml .alias-same s x z l)
       again-ok (proto ts) e b g = ogood (quiet-refl s z)
@@ -181,7 +185,7 @@ module _ {M : Type 0} (X : Machine M) (T : Table) (Good : M → Type 0) (ml : ML
       begin-ok ignored e nz n g = ogood (quiet-refl s z)
       begin-ok plain e nz n g = ogood (quiet-refl s z)
       begin-ok (listed f) e nz n g = leaf-ok (f || false) (ap isComp e)
-      begin-ok (through t) e nz n g = keeps s t cont z (down (through t) t e (List·Memᴰ·head refl)) nz (gee-past T ⊥ (EBusy s) x t true (through t) e refl (List·Memᴰ·head refl) g)
+      begin-ok (through a t) e nz n g = keeps s t cont z (down (through a t) t e (List·Memᴰ·head refl)) nz (gee-any (weaken T (through a t) true) (gee-past T ⊥ (EBusy s) x t true (through a t) e refl (List·Memᴰ·head refl) g))
       begin-ok (ptr t) e nz n g = keeps s t cont z (down (ptr t) t e (List·Memᴰ·head refl)) nz (gee-past T ⊥ (EBusy s) x t true (ptr t) e refl (List·Memᴰ·head refl) g)
       begin-ok (tdef t) e nz n g = typedef-ok false t e g
       begin-ok (proto ts) e nz n g = eeach-ok cont nz ts s z (λ y m. down (proto ts) y e m) (λ y m. gee-past T ⊥ (EBusy s) x y true (proto ts) e refl m g)
@@ -243,7 +247,7 @@ module _ {M : Type 0} (X : Machine M) (T : Table) (Good : M → Type 0) (ml : ML
     begin-top ignored e = absurd (no-def ignored e refl)
     begin-top plain e = absurd (no-def plain e refl)
     begin-top (listed f) e = oholds-map (quiet-top x (ap isComp e) s) (leaf-ok rec-n (λ s′ y c. nested n s′ y c) s x 0 z (h .below) (f || true) (ap isComp e))
-    begin-top (through t) e = absurd (no-def (through t) e refl)
+    begin-top (through a t) e = absurd (no-def (through a t) e refl)
     begin-top (ptr t) e = absurd (no-def (ptr t) e refl)
     begin-top (tdef t) e = oholds-map (quiet-top x (ap isComp e) s) (typedef-ok rec-n (λ s′ y c. nested n s′ y c) s x 0 z (h .below) true t e (h .weakly))
     begin-top (proto ts) e = absurd (no-def (proto ts) e refl)

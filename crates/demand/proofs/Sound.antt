@@ -3,13 +3,13 @@ use Prim.Native.Nat.{ℕ, zero, suc, _+_, _<_, _≤_}
 use native.Mathlib.Decide.{ℕ-discrete}
 use native.Mathlib.Omega.{arith}
 use mathlib.Core.Path.{_≡_, refl, sym, _∙_, ap, subst}
-use mathlib.Core.Bool.{Bool, true, false, not, _&&_, _||_, true≢false}
+use mathlib.Core.Bool.{Bool, true, false, not, _&&_, _||_, true≢false, and-false}
 use mathlib.Core.List.{List, [], _∷_, _++_, append-assoc, List·Memᴰ, List·Memᴰ·head, List·Memᴰ·tail, List·Memᴰ·not-nil, List·Memᴰ·cases-cons, List·Memᴰ·append-cases, List·Memᴰ·eq-of-singleton, Memᴰ·append-left, Memᴰ·append-right, Memᴰ·cast}
 use mathlib.Core.Logic.{_⊎_, inl, inr, _≢_}
 use mathlib.Core.WellFounded.{Acc, Acc·intro}
 use lib.ListN.{length, length-append}
 use Rattle.rules.specs.Order.{Node, ignored, plain, listed, through, ptr, tdef, proto, comp, Table, isComp, Mark, new, busy, done, isDone, Store, Lawful, Framed, Res, ok, refused, bind, each, meet, pushIf, finish as finishK, enter, alias, fresh, visit, order}
-use Rattle.demand.specs.Needs.{kids, weaken, isProto, Way, here, past, Needs, NamedComp, Via, direct, through-nameless, MeetsTwice, ProtoVia, WF}
+use Rattle.demand.specs.Needs.{kids, weaken, isArray, isProto, Way, here, past, Needs, NamedComp, Via, direct, through-nameless, MeetsTwice, ProtoVia, WF}
 use Rattle.demand.proofs.Placed.{isDef, Listable, Placed, Sorted, none, snoc}
 use Rattle.demand.proofs.Ways.{clash, clash-new, clash-busy, only, loosen, loosen-mono, Star, stop, step, Loops, Cyc, Gee, gee-past, gee-weaken, gee-member, way-lower, way-comp, via-comp, agree, and-yes, and-no, or-yes, loops-twice, acc-once, tally, tally-mono, tally-room, tally-more}
 
@@ -192,7 +192,7 @@ module _ {St : Type 0} (K : Store St) (T : Table) (Good : St → Type 0) (law : 
 
   -- all that is owed on the ways from x is done
   abbrev pub Hit : St → ℕ → Bool → Type 0
-  Hit s x w = (d : ℕ) (v : Bool) → Way loosen T x w d v → (T .named d ≡ false) ⊎ (v ≡ false) → Done s d
+  Hit s x w = (d : ℕ) (v : Bool) → Way (loosen T) T x w d v → (T .named d ≡ false) ⊎ (v ≡ false) → Done s d
 
   pub record Inv (pre : List ℕ) (s : St) : Type 0 where
     pub good′ : Good s
@@ -218,9 +218,9 @@ module _ {St : Type 0} (K : Store St) (T : Table) (Good : St → Type 0) (law : 
     pub frame : Fr s s′
     pub hits : (y : ℕ) → List·Memᴰ y ys → Hit s′ y weak
 
-  pub hit-past : (s : St) (x : ℕ) (w : Bool) (nd : Node) → T .node x ≡ nd → isComp nd ≡ false → ((y : ℕ) → List·Memᴰ y (kids nd) → Hit s y (loosen nd w)) → Hit s x w
+  pub hit-past : (s : St) (x : ℕ) (w : Bool) (nd : Node) → T .node x ≡ nd → isComp nd ≡ false → ((y : ℕ) → List·Memᴰ y (kids nd) → Hit s y (loosen T nd w)) → Hit s x w
   hit-past s x w nd e nc h d v (here c q f) due = absurd (true≢false (sym c ∙ ap isComp e ∙ nc))
-  hit-past s x w nd e nc h d v (past {y = y} c m way) due = h y (subst (λ (k : Node). List·Memᴰ y (kids k)) e m) d v (subst (λ (k : Node). Way loosen T y (loosen k w) d v) e way) due
+  hit-past s x w nd e nc h d v (past {y = y} c m way) due = h y (subst (λ (k : Node). List·Memᴰ y (kids k)) e m) d v (subst (λ (k : Node). Way (loosen T) T y (loosen T k w) d v) e way) due
 
   hit-up : (s s′ : St) (x : ℕ) (w : Bool) → ((d : ℕ) → Done s d → Done s′ d) → Hit s x w → Hit s′ x w
   hit-up s s′ x w g h d v way due = g d (h d v way due)
@@ -230,8 +230,8 @@ module _ {St : Type 0} (K : Store St) (T : Table) (Good : St → Type 0) (law : 
   hit-comp s x w c h d v (past nc m way) due = absurd (true≢false (sym c ∙ nc))
 
   pub hit-lower : (s : St) (x : ℕ) (w : Bool) → Hit s x false → Hit s x w
-  hit-lower s x w h d v way (inl n) = let r = way-lower T loosen-mono way false (λ e. refl) in h d (r .0) (r .1) (inl n)
-  hit-lower s x w h d v way (inr e) = let r = way-lower T loosen-mono way false (λ e. refl) in h d (r .0) (r .1) (inr (r .2 e))
+  hit-lower s x w h d v way (inl n) = let r = way-lower T (loosen-mono T) way false (λ e. refl) in h d (r .0) (r .1) (inl n)
+  hit-lower s x w h d v way (inr e) = let r = way-lower T (loosen-mono T) way false (λ e. refl) in h d (r .0) (r .1) (inr (r .2 e))
 
   via-done : (pre : List ℕ) (s : St) → Inv pre s → {c d : ℕ} → Via T c d → ((d : ℕ) → Needs T c d → Done s d) → Done s d
   via-done pre s i (direct {d = d} n) f = f d n
@@ -414,14 +414,14 @@ module _ {St : Type 0} (K : Store St) (T : Table) (Good : St → Type 0) (law : 
           inside-x y m = subst (λ (k : Node). List·Memᴰ y (kids k)) (sym e) m
 
           done-needs : (s′ : St) (b : Bool) → EachPost pre s₁ ms false s′ b → (d : ℕ) → Needs T x d → Done s′ d
-          done-needs s′ b q d r = q .hits (r .member) (subst (λ (k : Node). List·Memᴰ (r .member) (kids k)) e (r .isMember)) d (r .pointer) (agree T (r .way) (inr (wf .no-proto x (r .member) (r .composite) (r .isMember)))) (r .owed)
+          done-needs s′ b q d r = q .hits (r .member) (subst (λ (k : Node). List·Memᴰ (r .member) (kids k)) e (r .isMember)) d (r .pointer) (agree T wf (r .way) (inr (wf .no-proto x (r .member) (ap (λ (k : Bool). k || isArray (T .node x)) (r .composite)) (r .isMember)))) (r .owed)
 
       -- the call for an id that x leads to, and what it has met, when x is no composite
-      child : (nd : Node) (t : ℕ) → T .node x ≡ nd → isComp nd ≡ false → List·Memᴰ t (kids nd) → Holds (Post pre s t (weaken nd weak)) E (rec s t (weaken nd weak))
-      child nd t e nc m = keeps s t (weaken nd weak) i (wf .below x t (subst (λ (k : Node). List·Memᴰ t (kids k)) (sym e) m)) (gee-past T E (Busy s) x t weak nd e nc m g)
+      child : (nd : Node) (t : ℕ) → T .node x ≡ nd → isComp nd ≡ false → List·Memᴰ t (kids nd) → Holds (Post pre s t (weaken T nd weak)) E (rec s t (weaken T nd weak))
+      child nd t e nc m = keeps s t (weaken T nd weak) i (wf .below x t (subst (λ (k : Node). List·Memᴰ t (kids k)) (sym e) m)) (gee-past T E (Busy s) x t weak nd e nc m g)
 
-      hit-one : (s′ : St) (w : Bool) (nd : Node) (t : ℕ) → T .node x ≡ nd → isComp nd ≡ false → kids nd ≡ t ∷ [] → Hit s′ t (loosen nd w) → Hit s′ x w
-      hit-one s′ w nd t e nc k h = hit-past s′ x w nd e nc (subst (λ (ks : List ℕ). (y : ℕ) → List·Memᴰ y ks → Hit s′ y (loosen nd w)) (sym k) (only (λ (y : ℕ). Hit s′ y (loosen nd w)) t h))
+      hit-one : (s′ : St) (w : Bool) (nd : Node) (t : ℕ) → T .node x ≡ nd → isComp nd ≡ false → kids nd ≡ t ∷ [] → Hit s′ t (loosen T nd w) → Hit s′ x w
+      hit-one s′ w nd t e nc k h = hit-past s′ x w nd e nc (subst (λ (ks : List ℕ). (y : ℕ) → List·Memᴰ y ks → Hit s′ y (loosen T nd w)) (sym k) (only (λ (y : ℕ). Hit s′ y (loosen T nd w)) t h))
 
       hit-leaf : (w : Bool) (nd : Node) → T .node x ≡ nd → isComp nd ≡ false → kids nd ≡ [] → Hit s x w
       hit-leaf w nd e nc k = hit-past s x w nd e nc (λ y m. absurd (List·Memᴰ·not-nil (subst (List·Memᴰ y) k m)))
@@ -449,7 +449,7 @@ module _ {St : Type 0} (K : Store St) (T : Table) (Good : St → Type 0) (law : 
       fresh-ok ignored e n = good (record { inv = i; grew = grew-refl s; frame = framed .fr-same s; met = hit-leaf weak ignored e refl refl; strong = λ q. hit-leaf false ignored e refl refl })
       fresh-ok plain e n = good (finished s false false (λ q. absurd (true≢false (sym q))) (λ q. absurd (true≢false (sym q))) (ap isComp e) n i (grew-refl s) (framed .fr-same s) (hit-leaf false plain e refl refl))
       fresh-ok (listed f) e n = good (finished s (T .named x) true (λ q. clash-new (get s x) n) (λ q. ap isDef e) (ap isComp e) n i (grew-refl s) (framed .fr-same s) (hit-leaf false (listed f) e refl refl))
-      fresh-ok (through t) e n = holds-map (λ s′ b p. record { inv = p .inv; grew = p .grew; frame = p .frame; met = hit-one s′ weak (through t) t e refl refl (p .met); strong = λ q. hit-one s′ false (through t) t e refl refl (p .strong q) }) (child (through t) t e refl (List·Memᴰ·head refl))
+      fresh-ok (through a t) e n = holds-map (λ s′ b p. record { inv = p .inv; grew = p .grew; frame = p .frame; met = hit-one s′ weak (through a t) t e refl refl (p .met); strong = λ q. hit-one s′ false (through a t) t e refl refl (subst (Hit s′ t) (sym (and-false (not (a && T .strong-arrays)))) (p .strong q)) }) (child (through a t) t e refl (List·Memᴰ·head refl))
       fresh-ok (ptr t) e n = holds-bind (child (ptr t) t e refl (List·Memᴰ·head refl)) (λ s′ b p. good (finished s′ false b (λ q. absurd (true≢false (sym q))) (λ q. absurd (true≢false (sym q))) (ap isComp e) n (p .inv) (p .grew) (p .frame) (hit-one s′ false (ptr t) t e refl refl (p .met))))
       fresh-ok (tdef t) e n = holds-bind (child (tdef t) t e refl (List·Memᴰ·head refl)) (λ s′ b p. alias-ok t e n s′ b p (not weak || b) refl)
       fresh-ok (proto ts) e n = holds-map (λ s′ b p. record { inv = p .inv; grew = p .grew; frame = p .frame; met = hit-past s′ x weak (proto ts) e refl (λ y m. hit-true s′ y weak (p .hits y m)); strong = λ q. hit-past s′ x false (proto ts) e refl (λ y m. hit-true s′ y weak (p .hits y m)) }) (each-ok ts s false weak i (λ y m. wf .below x y (subst (λ (k : Node). List·Memᴰ y (kids k)) (sym e) m)) (λ y m. gee-past T E (Busy s) x y weak (proto ts) e refl m g))

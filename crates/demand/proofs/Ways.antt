@@ -9,7 +9,7 @@ use mathlib.Core.Logic.{_⊎_, inl, inr, _≢_}
 use mathlib.Core.WellFounded.{Acc, Acc·intro}
 use lib.ListN.{length, length-append}
 use Rattle.rules.specs.Order.{Node, ignored, plain, listed, through, ptr, tdef, proto, comp, Table, isComp, Mark, new, busy, done}
-use Rattle.demand.specs.Needs.{kids, weaken, isProto, Way, here, past, Needs, NamedComp, Via, direct, through-nameless, Chain, end, next, Twice, now, later, MeetsTwice, ProtoVia, it, on, WF}
+use Rattle.demand.specs.Needs.{kids, weaken, isArray, isHolder, isProto, Way, here, past, Needs, NamedComp, Via, direct, through-nameless, Chain, end, next, Twice, now, later, MeetsTwice, ProtoVia, it, on, WF}
 use Rattle.demand.proofs.Placed.{isDef, Listable, Placed, Sorted, none, snoc}
 
 pub clash : (m : Mark) → m ≡ busy → m ≡ done → ⊥
@@ -25,8 +25,8 @@ pub only : (P : ℕ → Type 0) (t : ℕ) → P t → (y : ℕ) → List·Memᴰ
 only P t h y m = subst P (sym (List·Memᴰ·eq-of-singleton m)) h
 
 -- the same, but weak from a prototype on too
-abbrev pub loosen : Node → Bool → Bool
-loosen nd w = isProto nd || weaken nd w
+abbrev pub loosen : Table → Node → Bool → Bool
+loosen T nd w = isProto nd || weaken T nd w
 
 -- chains
 
@@ -47,49 +47,55 @@ Cyc T B d = Loops T d ⊎ ((e : ℕ) × B e × Star T d e)
 
 -- E follows if a composite that is owed on a way from x leads to a loop, or to what is in progress
 abbrev pub Gee : Table → Type 0 → (ℕ → Type 0) → ℕ → Bool → Type 0
-Gee T E B x weak = (d : ℕ) (v : Bool) → Way weaken T x weak d v → (T .named d ≡ false) ⊎ (v ≡ false) → Cyc T B d → E
+Gee T E B x weak = (d : ℕ) (v : Bool) → Way (weaken T) T x weak d v → (T .named d ≡ false) ⊎ (v ≡ false) → Cyc T B d → E
 
-same-step : (nd : Node) (w : Bool) → (w ≡ true) ⊎ (isProto nd ≡ true → ⊥) → loosen nd w ≡ weaken nd w
-same-step ignored w o = refl
-same-step plain w o = refl
-same-step (listed f) w o = refl
-same-step (through t) w o = refl
-same-step (ptr t) w o = refl
-same-step (tdef t) w o = refl
-same-step (proto ts) w (inl q) = sym q
-same-step (proto ts) w (inr h) = absurd (h refl)
-same-step (comp ts) w o = refl
+same-step : (T : Table) (nd : Node) (w : Bool) → (w ≡ true) ⊎ (isProto nd ≡ true → ⊥) → loosen T nd w ≡ weaken T nd w
+same-step T ignored w o = refl
+same-step T plain w o = refl
+same-step T (listed f) w o = refl
+same-step T (through a t) w o = refl
+same-step T (ptr t) w o = refl
+same-step T (tdef t) w o = refl
+same-step T (proto ts) w (inl q) = sym q
+same-step T (proto ts) w (inr h) = absurd (h refl)
+same-step T (comp ts) w o = refl
 
-aside : (P : Type 0) (w : Bool) → (w ≡ true) ⊎ P → (w ≡ true) ⊎ ((false ≡ false) × P)
-aside P w (inl q) = inl q
-aside P w (inr h) = inr (refl, h)
+aside : (P Q : Type 0) (w : Bool) → (w ≡ true) ⊎ P → (w ≡ true) ⊎ (((false ≡ false) × P) ⊎ Q)
+aside P Q w (inl q) = inl q
+aside P Q w (inr h) = inr (inl (refl, h))
 
-step-level : (P : Type 0) (nd : Node) (w : Bool) → (w ≡ true) ⊎ P → (weaken nd w ≡ true) ⊎ ((weaken nd false ≡ false) × P)
-step-level P ignored w o = aside P w o
-step-level P plain w o = aside P w o
-step-level P (listed f) w o = aside P w o
-step-level P (through t) w o = aside P w o
-step-level P (ptr t) w o = inl refl
-step-level P (tdef t) w o = aside P w o
-step-level P (proto ts) w o = aside P w o
-step-level P (comp ts) w o = aside P w o
+-- Q: what is known of an array's element
+step-level : (P Q : Type 0) (T : Table) (nd : Node) → (isArray nd ≡ true → Q) → (w : Bool) → (w ≡ true) ⊎ P → (weaken T nd w ≡ true) ⊎ (((weaken T nd false ≡ false) × P) ⊎ Q)
+step-level P Q T ignored a w o = aside P Q w o
+step-level P Q T plain a w o = aside P Q w o
+step-level P Q T (listed f) a w o = aside P Q w o
+step-level P Q T (through true t) a w o = inr (inr (a refl))
+step-level P Q T (through false t) a w o = aside P Q w o
+step-level P Q T (ptr t) a w o = inl refl
+step-level P Q T (tdef t) a w o = aside P Q w o
+step-level P Q T (proto ts) a w o = aside P Q w o
+step-level P Q T (comp ts) a w o = aside P Q w o
 
-pub weaken-mono : (nd : Node) (w w′ : Bool) → (w ≡ false → w′ ≡ false) → weaken nd w ≡ false → weaken nd w′ ≡ false
-weaken-mono ignored w w′ h = h
-weaken-mono plain w w′ h = h
-weaken-mono (listed f) w w′ h = h
-weaken-mono (through t) w w′ h = h
-weaken-mono (ptr t) w w′ h = λ e. e
-weaken-mono (tdef t) w w′ h = h
-weaken-mono (proto ts) w w′ h = h
-weaken-mono (comp ts) w w′ h = h
+and-mono : (b a a′ : Bool) → (a ≡ false → a′ ≡ false) → (b && a) ≡ false → (b && a′) ≡ false
+and-mono true a a′ h = h
+and-mono false a a′ h = λ e. e
+
+pub weaken-mono : (T : Table) (nd : Node) (w w′ : Bool) → (w ≡ false → w′ ≡ false) → weaken T nd w ≡ false → weaken T nd w′ ≡ false
+weaken-mono T ignored w w′ h = h
+weaken-mono T plain w w′ h = h
+weaken-mono T (listed f) w w′ h = h
+weaken-mono T (through a t) w w′ h = and-mono (not (a && T .strong-arrays)) w w′ h
+weaken-mono T (ptr t) w w′ h = λ e. e
+weaken-mono T (tdef t) w w′ h = h
+weaken-mono T (proto ts) w w′ h = h
+weaken-mono T (comp ts) w w′ h = h
 
 pub or-mono : (b a a′ : Bool) → (a ≡ false → a′ ≡ false) → (b || a) ≡ false → (b || a′) ≡ false
 or-mono true a a′ h = λ e. e
 or-mono false a a′ h = h
 
-pub loosen-mono : (nd : Node) (w w′ : Bool) → (w ≡ false → w′ ≡ false) → loosen nd w ≡ false → loosen nd w′ ≡ false
-loosen-mono nd w w′ h = or-mono (isProto nd) (weaken nd w) (weaken nd w′) (weaken-mono nd w w′ h)
+pub loosen-mono : (T : Table) (nd : Node) (w w′ : Bool) → (w ≡ false → w′ ≡ false) → loosen T nd w ≡ false → loosen T nd w′ ≡ false
+loosen-mono T nd w w′ h = or-mono (isProto nd) (weaken T nd w) (weaken T nd w′) (weaken-mono T nd w w′ h)
 
 module _ (T : Table) where
   -- what starts less weak arrives no weaker
@@ -106,8 +112,8 @@ module _ (T : Table) where
   via-comp (direct n) = way-comp (n .way)
   via-comp (through-nameless n e v) = via-comp v
 
-  pub gee-past : (E : Type 0) (B : ℕ → Type 0) (x y : ℕ) (w : Bool) (nd : Node) → T .node x ≡ nd → isComp nd ≡ false → List·Memᴰ y (kids nd) → Gee T E B x w → Gee T E B y (weaken nd w)
-  gee-past E B x y w nd e nc m g d v way due c = g d v (past (ap isComp e ∙ nc) (subst (λ (k : Node). List·Memᴰ y (kids k)) (sym e) m) (subst (λ (k : Node). Way weaken T y (weaken k w) d v) (sym e) way)) due c
+  pub gee-past : (E : Type 0) (B : ℕ → Type 0) (x y : ℕ) (w : Bool) (nd : Node) → T .node x ≡ nd → isComp nd ≡ false → List·Memᴰ y (kids nd) → Gee T E B x w → Gee T E B y (weaken T nd w)
+  gee-past E B x y w nd e nc m g d v way due c = g d v (past (ap isComp e ∙ nc) (subst (λ (k : Node). List·Memᴰ y (kids k)) (sym e) m) (subst (λ (k : Node). Way (weaken T) T y (weaken T k w) d v) (sym e) way)) due c
 
   pub gee-weaken : (E : Type 0) (B B′ : ℕ → Type 0) (x : ℕ) (weak : Bool) → ((e : ℕ) → B′ e → B e) → Gee T E B x weak → Gee T E B′ x weak
   gee-weaken E B B′ x weak f g d v way due (inl l) = g d v way due (inl l)
@@ -131,17 +137,21 @@ module _ (T : Table) where
         turn (inr q) = round (q .0) (q .2) (more (q .0) (q .1))
 
   -- the two senses of weak agree on a way that starts weak, or that starts at no prototype
-  pub agree : {x d : ℕ} {w v : Bool} → Way weaken T x w d v → (w ≡ true) ⊎ (ProtoVia T x → ⊥) → Way loosen T x w d v
-  agree (here c e f) o = here c e f
-  agree (past {x = x} {y = y} {d = d} {w = w} {v = v} c m way) o = past {x = x} {y = y} {d = d} {w = w} {v = v} c m (subst (λ (k : Bool). Way loosen T y k d v) (sym (same-step (T .node x) w (first o))) (agree way (after (step-level (ProtoVia T x → ⊥) (T .node x) w o))))
+  pub agree : WF T → {x d : ℕ} {w v : Bool} → Way (weaken T) T x w d v → (w ≡ true) ⊎ (ProtoVia T x → ⊥) → Way (loosen T) T x w d v
+  agree wf (here c e f) o = here c e f
+  agree wf (past {x = x} {y = y} {d = d} {w = w} {v = v} c m way) o = past {x = x} {y = y} {d = d} {w = w} {v = v} c m (subst (λ (k : Bool). Way (loosen T) T y k d v) (sym (same-step T (T .node x) w (first o))) (agree wf way (after (step-level (ProtoVia T x → ⊥) (ProtoVia T y → ⊥) T (T .node x) element w o))))
     where
       first : (w ≡ true) ⊎ (ProtoVia T x → ⊥) → (w ≡ true) ⊎ (isProto (T .node x) ≡ true → ⊥)
       first (inl q) = inl q
       first (inr h) = inr (λ e. h (it e))
 
-      after : (weaken (T .node x) w ≡ true) ⊎ ((weaken (T .node x) false ≡ false) × (ProtoVia T x → ⊥)) → (weaken (T .node x) w ≡ true) ⊎ (ProtoVia T y → ⊥)
+      element : isArray (T .node x) ≡ true → ProtoVia T y → ⊥
+      element e = wf .no-proto x y (ap (λ (b : Bool). b || isArray (T .node x)) c ∙ e) m
+
+      after : (weaken T (T .node x) w ≡ true) ⊎ (((weaken T (T .node x) false ≡ false) × (ProtoVia T x → ⊥)) ⊎ (ProtoVia T y → ⊥)) → (weaken T (T .node x) w ≡ true) ⊎ (ProtoVia T y → ⊥)
       after (inl q) = inl q
-      after (inr h) = inr (λ p. h .1 (on c (h .0) m p))
+      after (inr (inl h)) = inr (λ p. h .1 (on c (h .0) m p))
+      after (inr (inr h)) = inr h
 
 pub and-yes : (a b : Bool) → (a && b) ≡ true → (a ≡ true) × (b ≡ true)
 and-yes true b e = (refl, e)

@@ -3,15 +3,15 @@ use Prim.Native.Nat.{ℕ, zero, suc}
 use mathlib.Core.Bool.{Bool, true, false, not, _&&_, _||_}
 use mathlib.Core.List.{List, [], _∷_}
 use lib.Dec.{ltb}
-use Rattle.rules.specs.Order.{Node, ignored, plain, listed, through, ptr, tdef, proto, comp, Table, isComp}
-use Rattle.demand.specs.Needs.{kids}
+use Rattle.rules.specs.Order.{Node, ignored, plain, listed, through, ptr, tdef, proto, comp, Table}
+use Rattle.demand.specs.Needs.{kids, isHolder}
 use Rattle.demand.specs.Proto.{chase}
 
 abbrev pub isPlain : Node → Bool
 isPlain ignored = false
 isPlain plain = true
 isPlain (listed f) = false
-isPlain (through t) = false
+isPlain (through a t) = false
 isPlain (ptr t) = false
 isPlain (tdef t) = false
 isPlain (proto ts) = false
@@ -25,9 +25,9 @@ unfoldable pub noneProto : Table → List ℕ → Bool
 noneProto T [] = true
 noneProto T (y ∷ ys) = not (chase (T .count) T y) && noneProto T ys
 
--- what a type follows lies below the count; if it is a composite, no member leads to a prototype
+-- what a type follows lies below the count; if it is a composite or an array, no member and no element leads to a prototype
 unfoldable pub fitNode : Table → Node → Bool
-fitNode T nd = allBelow (T .count) (kids nd) && (not (isComp nd) || noneProto T (kids nd))
+fitNode T nd = allBelow (T .count) (kids nd) && (not (isHolder nd) || noneProto T (kids nd))
 
 -- the ids below k
 unfoldable pub fitTo : Table → ℕ → Bool

@@ -12,7 +12,7 @@ abbrev pub stepOf : Node → Step
 stepOf ignored = nothing
 stepOf plain = nothing
 stepOf (listed f) = nothing
-stepOf (through t) = to t
+stepOf (through a t) = to t
 stepOf (ptr t) = nothing
 stepOf (tdef t) = to t
 stepOf (proto ts) = yes-proto

@@ -98,7 +98,7 @@ module _ {X : Type 0} (P : List ℕ → X) where
     stays-again m x cont ignored = on refl
     stays-again m x cont plain = on refl
     stays-again m x cont (listed f) = on refl
-    stays-again m x cont (through t) = on refl
+    stays-again m x cont (through a t) = on refl
     stays-again m x cont (ptr t) = on refl
     stays-again m x cont (tdef t) = stays-once (workMachine b B .aliasLine) stays-alias x (workMachine b B .hasFwd m x) m
     stays-again m x cont (proto ts) = on refl
@@ -129,7 +129,7 @@ module _ {X : Type 0} (P : List ℕ → X) where
       stays-begin top ignored = on refl
       stays-begin top plain = on refl
       stays-begin top (listed f) = stays-leaf (f || top) x m
-      stays-begin top (through t) = h m t cont
+      stays-begin top (through a t) = h m t cont
       stays-begin top (ptr t) = h m t cont
       stays-begin top (tdef t) =
           stays-from (m .work) (workMachine b B .emark busy x m .work) _ (stays-emark busy x m)

@@ -244,7 +244,7 @@ module _ (b : Btf) (s : List ℕ) (n at : ℕ) (tx w : List ℕ) (id cont : ℕ)
   again-quiet m ignored e = refl
   again-quiet m plain e = refl
   again-quiet m (listed f) e = refl
-  again-quiet m (through t) e = refl
+  again-quiet m (through a t) e = refl
   again-quiet m (ptr t) e = refl
   again-quiet m (tdef t) e = ap (λ (h : Bool). once (workMachine b B) (tableOf B) (workMachine b B .aliasLine) id h m) e
   again-quiet m (proto ts) e = refl
@@ -399,9 +399,9 @@ module _ (b : Btf) (s : List ℕ) (n at : ℕ) (tx w : List ℕ) (id cont left :
   unfolding nodeIs begin leafIn
   new-listed fwd e ex = by-node (code.Listed fwd) e (λ m. leafIn b Bn fwd cont m id) ex (λ m. refl)
 
-  pub new-through : (y : ℕ) → nd ≡ code.Through y → x ≡ obind (emitOut n at tx w) (λ m. emitIn b Bn left cont m y) → Goal
+  pub new-through : (a : Bool) (y : ℕ) → nd ≡ code.Through a y → x ≡ obind (emitOut n at tx w) (λ m. emitIn b Bn left cont m y) → Goal
   unfolding nodeIs begin emitIn
-  new-through y e ex = by-node (code.Through y) e (λ m. emitIn b Bn left cont m y) ex (λ m. refl)
+  new-through a y e ex = by-node (code.Through a y) e (λ m. emitIn b Bn left cont m y) ex (λ m. refl)
 
   pub new-ptr : (y : ℕ) → nd ≡ code.Ptr y → x ≡ obind (emitOut n at tx w) (λ m. emitIn b Bn left cont m y) → Goal
   unfolding nodeIs begin emitIn

@@ -59,7 +59,7 @@ module _ {A C : Type 0} (K : Store A) (L : Store C) (g : A → C) (sm : StoreMap
     map-fresh ignored = refl
     map-fresh plain = ap (λ (m : C). ok m false) (map-finish false x s)
     map-fresh (listed f) = ap (λ (m : C). ok m true) (map-finish (T .named x) x s)
-    map-fresh (through y) = e s y weak
+    map-fresh (through a y) = e s y (not (a && T .strong-arrays) && weak)
     map-fresh (ptr y) = ap (λ (r : Res C). bind r (λ s′ f. ok (finish L false x s′) f)) (e s y true)
         ∙ map-bind (k s y true) (λ s′ f. ok (finish K false x s′) f) (λ s′ f. ok (finish L false x s′) f) (λ s′ f. ap (λ (m : C). ok m f) (map-finish false x s′))
     map-fresh (tdef y) = ap (λ (r : Res C). bind r (λ s′ f. alias L (not weak || f) (isDone (L .get s′ x)) s′ x)) (e s y weak)
@@ -125,7 +125,7 @@ module _ {A C : Type 0} (X : Machine A) (Y : Machine C) (g : A → C) (mm : Mach
   map-again s x cont ignored = refl
   map-again s x cont plain = refl
   map-again s x cont (listed f) = refl
-  map-again s x cont (through t) = refl
+  map-again s x cont (through a t) = refl
   map-again s x cont (ptr t) = refl
   map-again s x cont (tdef t) = ap (λ (f : Bool). once Y T (Y .aliasLine) x f (g s)) (mm .flags s x) ∙ map-once (Y .aliasLine) (X .aliasLine) (mm .alias-lines) x (X .hasFwd s x) s
   map-again s x cont (proto ts) = refl
@@ -154,7 +154,7 @@ module _ {A C : Type 0} (X : Machine A) (Y : Machine C) (g : A → C) (mm : Mach
     map-begin top ignored = refl
     map-begin top plain = refl
     map-begin top (listed f) = map-leaf (f || top) x s
-    map-begin top (through t) = e s t cont
+    map-begin top (through a t) = e s t cont
     map-begin top (ptr t) = e s t cont
     map-begin top (tdef t) = ap (λ (m : C). obind (h m t x) rest) (mm .emarks busy x s) ∙ ap (λ (o : Out C). obind o rest) (e (X .emark busy x s) t x)
         ∙ map-obind (k (X .emark busy x s) t x) (λ s′. obind (once X T (X .aliasLine) x (X .hasFwd s′ x) s′) (λ s″. wrote (X .emark done x s″))) rest

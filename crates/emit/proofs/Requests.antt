@@ -251,7 +251,7 @@ module _ (b : Btf) (B : Rules) (at : ℕ) (tx w : List ℕ) (id : ℕ) where
       go ignored q = quiet false
       go plain q = absurd (yes-no q)
       go (listed f) q = absurd (yes-no q)
-      go (through t) q = absurd (yes-no q)
+      go (through a t) q = absurd (yes-no q)
       go (ptr t) q = absurd (yes-no q)
       go (tdef t) q = absurd (yes-no q)
       go (proto ts) q = absurd (yes-no q)

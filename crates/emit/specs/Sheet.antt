@@ -112,7 +112,7 @@ unfoldable pub isIgnored : Node → Bool
 isIgnored ignored = true
 isIgnored plain = false
 isIgnored (listed f) = false
-isIgnored (through t) = false
+isIgnored (through a t) = false
 isIgnored (ptr t) = false
 isIgnored (tdef t) = false
 isIgnored (proto ts) = false

@@ -239,7 +239,7 @@ fn emit_new(
         Node::Ignored => at,
         Node::Plain => at,
         Node::Listed(is_fwd) => emit_leaf(b, section, work, text, at, id, t, cont_id, is_fwd),
-        Node::Through(next) => emit_type(b, section, work, text, at, next, cont_id, left),
+        Node::Through(_, next) => emit_type(b, section, work, text, at, next, cont_id, left),
         Node::Ptr(next) => emit_type(b, section, work, text, at, next, cont_id, left),
         Node::Typedef(next) => {
             set_emit_state(work, id, 1);

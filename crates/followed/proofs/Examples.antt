@@ -15,7 +15,7 @@ use Rattle.followed.specs.Track.{chase, leadsTo}
 use Rattle.followed.specs.Prototypes.{whatOf, nextOf, asksAt, asksOf, asker, anyLeads}
 
 abbrev three : Btf
-three = record { «ptr_sz» = 8; «union_as_struct» = false; «big_endian» = false; types = 3; strs = 24 }
+three = record { «ptr_sz» = 8; «union_as_struct» = false; «big_endian» = false; «strong_arrays» = false; types = 3; strs = 24 }
 
 abbrev word : ℕ → List ℕ
 word n = n ∷ 0 ∷ 0 ∷ 0 ∷ []

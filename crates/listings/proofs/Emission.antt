@@ -142,7 +142,7 @@ module _ {U : Type 0} (L : Lines U) (T : Table) where
       again-alike ignored = both-wrote h (stay-refl t)
       again-alike plain = both-wrote h (stay-refl t)
       again-alike (listed f) = both-wrote h (stay-refl t)
-      again-alike (through y) = both-wrote h (stay-refl t)
+      again-alike (through a y) = both-wrote h (stay-refl t)
       again-alike (ptr y) = both-wrote h (stay-refl t)
       again-alike (tdef y) = alias-alike x s t h
       again-alike (proto ts) = both-wrote h (stay-refl t)
@@ -179,7 +179,7 @@ module _ {U : Type 0} (L : Lines U) (T : Table) where
       begin-alike top ignored n = both-wrote h (stay-refl t)
       begin-alike top plain n = both-wrote h (stay-refl t)
       begin-alike top (listed f) n = alike-map (λ t″ q. q .0) (leaf-alike (f || top) n)
-      begin-alike top (through y) n = goes s t y cont h
+      begin-alike top (through a y) n = goes s t y cont h
       begin-alike top (ptr y) n = goes s t y cont h
       begin-alike top (tdef y) n = alike-map (λ t″ q. q .0) (tdef-alike top y n)
       begin-alike top (proto ts) n = eeach-alike cont ts s t h
@@ -190,7 +190,7 @@ module _ {U : Type 0} (L : Lines U) (T : Table) where
       begin-done ignored d n = absurd (true≢false (sym d))
       begin-done plain d n = absurd (true≢false (sym d))
       begin-done (listed f) d n = leaf-alike (f || true) n
-      begin-done (through y) d n = absurd (true≢false (sym d))
+      begin-done (through a y) d n = absurd (true≢false (sym d))
       begin-done (ptr y) d n = absurd (true≢false (sym d))
       begin-done (tdef y) d n = tdef-alike true y n
       begin-done (proto ts) d n = absurd (true≢false (sym d))

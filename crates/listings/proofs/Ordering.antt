@@ -17,7 +17,7 @@ abbrev isTdef : Node → Bool
 isTdef ignored = false
 isTdef plain = false
 isTdef (listed f) = false
-isTdef (through t) = false
+isTdef (through a t) = false
 isTdef (ptr t) = false
 isTdef (tdef t) = true
 isTdef (proto ts) = false
@@ -188,7 +188,7 @@ module _ {U : Type 0} where
       fresh-sim ignored e = both-ok h
       fresh-sim plain e = fin false false r d h (λ u. absurd (true≢false (sym u))) (λ t q. absurd (not-tdef plain t refl (sym e ∙ q)))
       fresh-sim (listed f) e = fin (T .named x) true r d h (λ u. ap isDef e) (λ t q. absurd (not-tdef (listed f) t refl (sym e ∙ q)))
-      fresh-sim (through t) e = sim r d t weak h
+      fresh-sim (through a t) e = sim r d t (not (a && T .strong-arrays) && weak) h
       fresh-sim (ptr t) e = both-bind (sim r d t true h) (λ r′ d′ b h′. fin false b r′ d′ h′ (λ u. absurd (true≢false (sym u))) (λ t′ q. absurd (not-tdef (ptr t) t′ refl (sym e ∙ q))))
       fresh-sim (tdef t) e = both-bind (sim r d t weak h) (λ r′ d′ b h′. alias-sim (not weak || b) r′ d′ h′ t e (get d′ x) refl)
       fresh-sim (proto ts) e = each-sim ts r d false weak h

@@ -24,7 +24,7 @@ module _ {St : Type 0} (K : Store St) where
     freshTwice ignored = ok s false
     freshTwice plain = ok (finish K false x s) false
     freshTwice (listed f) = ok (finish K (T .named x) x s) true
-    freshTwice (through t) = rec s t weak
+    freshTwice (through a t) = rec s t (not (a && T .strong-arrays) && weak)
     freshTwice (ptr t) = bind (rec s t true) (λ s′ b. ok (finish K false x s′) b)
     freshTwice (tdef t) = bind (rec s t weak) (λ s′ b. aliasTwice (not weak || b) s′ x)  -- HERE: the mark of x is not looked at
     freshTwice (proto ts) = each (λ s′ y. rec s′ y weak) ts s false

@@ -1,6 +1,6 @@
 -- The header of a section as the code reads it, and the tests of causes 1 to 4. Crate records says what a sound header and a sound
 -- string area are; proofs/Headers.antt that these tests decide it.
-use Prim.Native.Nat.{ℕ, _+_, _%_}
+use Prim.Native.Nat.{ℕ, _+_, _/_, _%_}
 use mathlib.Core.Bool.{Bool, true, false, _&&_, _||_, not}
 use mathlib.Core.List.{List, [], _∷_}
 use lib.ListN.{length, getD, take, drop}
@@ -18,13 +18,15 @@ headerOf s = record { «hdr_len» = wordOf s 4; «type_off» = wordOf s 8; «typ
 unfoldable pub stringsAt : List ℕ → ℕ
 stringsAt s = pick (ltb (wordOf s 4 + wordOf s 16) 4294967296) (wordOf s 4 + wordOf s 16) 4294967295
 
--- what a table's types need of its header and settings: "pointer size 4 or 8"; "union_as_struct, chosen at opening";
+-- what a table's types need of its header and settings: "pointer size 4 or 8"; "union_as_struct, chosen at opening" (bit 0); "a setting
+-- under which passing an array forgets pointers passed before it" (bit 1);
 -- "A section whose first bytes are EB 9F is read with every word most significant byte first"
 unfoldable pub btfOf : List ℕ → ℕ → ℕ → ℕ → Btf
 btfOf s pointer modes types = record {
   «ptr_sz» = pick (eqb pointer 4) 4 8;
   «union_as_struct» = eqb (modes % 2) 1;
   «big_endian» = bigEndian s;
+  «strong_arrays» = eqb (modes / 2 % 2) 1;
   types = pick (ltb types 262145) types 262145;
   strs = stringsAt s;
 }

@@ -69,6 +69,7 @@ pub fn btf_of(section: &[u8], pointer_size: u32, modes: u32, types: u32) -> Btf
         ptr_sz: size_of_pointer(pointer_size),
         union_as_struct: modes % 2 == 1,
         big_endian: is_big_endian(section),
+        strong_arrays: modes / 2 % 2 == 1,
         types: count_of_types(types),
         strs: strings_at(h),
     }

@@ -75,7 +75,7 @@ module _ {X : Type 0} (P : List ℕ → X) where
       stays-fresh ignored = on refl
       stays-fresh plain = on (stays-finish false x m)
       stays-fresh (listed f) = on (stays-finish (T .named x) x m)
-      stays-fresh (through t) = h m t weak
+      stays-fresh (through a t) = h m t (not (a && T .strong-arrays) && weak)
       stays-fresh (ptr t) = stays-bind (m .work) (rec m t true) (λ s′ b. ok (finish workStore false x s′) b) (h m t true) (λ m′ b′. on (stays-finish false x m′))
       stays-fresh (tdef t) = stays-bind (m .work) (rec m t weak) (λ s′ b. alias workStore (not weak || b) (isDone (workStore .get s′ x)) s′ x) (h m t weak) (λ m′ b′. stays-alias (not weak || b′) (isDone (workStore .get m′ x)) m′ x)
       stays-fresh (proto ts) = stays-each (λ s′ y. rec s′ y weak) (λ m′ y. h m′ y weak) ts m false

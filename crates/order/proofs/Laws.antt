@@ -369,9 +369,9 @@ module _ (b : Btf) (s : List ℕ) (w : List ℕ) (o : Order) (id left : ℕ) (we
   unfolding nodeIs fresh
   new-listed fwd e nm enm ex = by-node (code.Listed fwd) e (λ m _. ok (finish workStore nm id m) true) ex (λ m f. ap (λ (y : Bool). ok (finish workStore y id m) true) (enm ∙ sym (named-at b s w id t et)))
 
-  pub new-through : (y : ℕ) → nd ≡ code.Through y → x ≡ bind (orderOut o w) (λ m _. order workStore left T m y weak) → Goal
-  unfolding nodeIs fresh
-  new-through y e ex = by-node (code.Through y) e (λ m _. order workStore left T m y weak) ex (λ m f. refl)
+  pub new-through : (a : Bool) (y : ℕ) → nd ≡ code.Through a y → x ≡ bind (orderOut o w) (λ m _. order workStore left T m y (not (a && b .«strong_arrays») && weak)) → Goal
+  unfolding nodeIs fresh btfOf
+  new-through a y e ex = by-node (code.Through a y) e (λ m _. order workStore left T m y (not (a && b .«strong_arrays») && weak)) ex (λ m f. refl)
 
   pub new-ptr : (y : ℕ) → nd ≡ code.Ptr y → (r : Order) (w₁ : List ℕ) → orderOut r w₁ ≡ bind (orderOut o w) (λ m _. order workStore left T m y true)
       → x ≡ bind (orderOut r w₁) (λ m _. ok (finish workStore false id m) (r .«is_strong»)) → Goal

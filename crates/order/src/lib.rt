@@ -188,7 +188,10 @@ fn order_new(
             let named = is_named(b, section, t);
             finish(work, o, id, named, true)
         }
-        Node::Through(t) => order_type(b, section, work, o, t, has_ptr, left),
+        Node::Through(is_array, t) => {
+            let weak = !(is_array & b.strong_arrays) & has_ptr;
+            order_type(b, section, work, o, t, weak, left)
+        }
         Node::Ptr(t) => {
             let r = order_type(b, section, work, o, t, true, left);
             finish(work, r, id, false, r.is_strong)

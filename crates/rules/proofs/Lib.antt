@@ -8,3 +8,4 @@ pub mod Pads
 pub mod Chains
 pub mod Deeper
 pub mod Refusals
+pub mod Arrays

@@ -36,7 +36,19 @@ abbrev pub listed : ℕ → Bool → List BtfType → Btf
 listed ptr-sz union-as-struct types = record {
   ptr-sz = ptr-sz;
   union-as-struct = union-as-struct;
+  strong-arrays = false;
   type-cnt = length types;
   type-by-id = λ id. getD types id Void;
   decl-tags = λ id. tagsFrom id 0 types;
+}
+
+-- the same table, with the setting under which an array forgets pointers
+abbrev pub withStrongArrays : Btf → Btf
+withStrongArrays B = record {
+  ptr-sz = B .ptr-sz;
+  union-as-struct = B .union-as-struct;
+  strong-arrays = true;
+  type-cnt = B .type-cnt;
+  type-by-id = B .type-by-id;
+  decl-tags = B .decl-tags;
 }

@@ -102,7 +102,7 @@ module _ {M : Type 0} (X : Machine M) (T : Table) where
   again s x cont ignored = wrote s
   again s x cont plain = wrote s
   again s x cont (listed f) = wrote s
-  again s x cont (through t) = wrote s
+  again s x cont (through a t) = wrote s
   again s x cont (ptr t) = wrote s
   again s x cont (tdef t) = once (X .aliasLine) x (X .hasFwd s x) s
   again s x cont (proto ts) = wrote s
@@ -127,7 +127,7 @@ module _ {M : Type 0} (X : Machine M) (T : Table) where
     begin top ignored = wrote s
     begin top plain = wrote s
     begin top (listed f) = leaf (f || top) x s
-    begin top (through t) = rec s t cont
+    begin top (through a t) = rec s t cont
     begin top (ptr t) = rec s t cont
     begin top (tdef t) = obind (rec (X .emark busy x s) t x) (λ s′. obind (once (X .aliasLine) x (X .hasFwd s′ x) s′) (λ s″. wrote (X .emark done x s″)))
     begin top (proto ts) = eeach (λ s′ y. rec s′ y cont) ts s

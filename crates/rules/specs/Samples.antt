@@ -13,7 +13,7 @@ use Rattle.rules.specs.Layout.{gapPads}
 use Rattle.rules.specs.Names.{Names, naming}
 use Rattle.rules.specs.Decl.{enumValue, enum64Value, pads, emitTypeDecl}
 use Rattle.rules.specs.Emit.{definition, forward}
-use Rattle.rules.specs.Listed.{listed}
+use Rattle.rules.specs.Listed.{listed, withStrongArrays}
 
 -- no type has a version, no name a holder
 abbrev pub unnamed : Names
@@ -53,6 +53,10 @@ node = table (Void ∷ Int (ascii "int") 32 ∷ Composite true (ascii "node") 16
 -- a struct holding itself
 abbrev pub itself : Btf
 itself = table (Void ∷ Composite true (ascii "s") 4 (member "a" 1 0 ∷ []) ∷ [])
+
+-- "a struct with a pointer to an array of itself"
+abbrev pub behindArray : Btf
+behindArray = table (Void ∷ Composite true (ascii "s") 8 (member "p" 2 0 ∷ []) ∷ Ptr 3 ∷ Array 1 2 ∷ [])
 
 -- marks and order list as lists
 pub record Lists : Type 0 where
@@ -98,6 +102,8 @@ samples =
     ∷ gives (declared 7 "f") "void (*f)(int)"
     ∷ gives (ordering itself 1) "13"
     ∷ gives (ordering node 2) "ordered"
+    ∷ gives (ordering behindArray 1) "ordered"
+    ∷ gives (ordering (withStrongArrays behindArray) 1) "13"
     ∷ gives (text (definition naming node 2 (node .type-by-id 2))) "struct node {\n\tstruct node *next;\n\tint v;\n};\n\n"
     ∷ []
 

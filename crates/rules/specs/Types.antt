@@ -49,10 +49,12 @@ pub data BtfType : Type 0 where
   TypeTag : Bool → Name → ℕ → BtfType
 
 -- A section that was opened, with the settings chosen then: how many types there are (void counted), the type of each id,
--- and the DECL_TAGs on each id in the order of their ids (`decl_tags` of the Rust).
+-- and the DECL_TAGs on each id in the order of their ids (`decl_tags` of the Rust). strong-arrays: "a setting under which passing
+-- an array forgets pointers passed before it"; the Rust is the rules with it off.
 pub record Btf : Type 0 where
   pub ptr-sz : ℕ
   pub union-as-struct : Bool
+  pub strong-arrays : Bool
   pub type-cnt : ℕ
   pub type-by-id : ℕ → BtfType
   pub decl-tags : ℕ → List ℕ
@@ -90,20 +92,20 @@ abbrev pub nodeOf : BtfType → Node
 nodeOf Void = plain
 nodeOf (Int n b) = plain
 nodeOf (Ptr t) = ptr t
-nodeOf (Array t k) = through t
+nodeOf (Array t k) = through true t
 nodeOf (Composite s n z ms) = comp (memberTypes ms)
 nodeOf (Enum s n z vs) = listed false
 nodeOf (Enum64 s n z vs) = listed false
 nodeOf (Fwd u n) = listed true
 nodeOf (Typedef n t) = tdef t
-nodeOf (Mod q t) = through t
+nodeOf (Mod q t) = through false t
 nodeOf (Func n) = ignored
 nodeOf (Var n) = ignored
 nodeOf (Datasec n) = ignored
 nodeOf (FuncProto r ps) = proto (r ∷ paramTypes ps)
 nodeOf (Float n z) = plain
 nodeOf (DeclTag a n t k) = ignored
-nodeOf (TypeTag a n t) = through t
+nodeOf (TypeTag a n t) = through false t
 
 -- whether BtfType::name() is not empty
 abbrev pub isNamed : BtfType → Bool
@@ -111,4 +113,4 @@ isNamed t = not (isEmpty (nameOf t))
 
 -- the table that ordering and emission walk
 abbrev pub tableOf : Btf → Table
-tableOf B = record { count = B .type-cnt; node = λ x. nodeOf (B .type-by-id x); named = λ x. isNamed (B .type-by-id x) }
+tableOf B = record { count = B .type-cnt; node = λ x. nodeOf (B .type-by-id x); named = λ x. isNamed (B .type-by-id x); strong-arrays = B .strong-arrays }

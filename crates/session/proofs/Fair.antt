@@ -87,7 +87,7 @@ module _ {M : Type 0} (Good : M → Type 0) where
       fair-fresh ignored = goes-on s false g
       fair-fresh plain = goes-on (finish K false x s) false (finished false x s g)
       fair-fresh (listed f) = goes-on (finish K (T .named x) x s) true (finished (T .named x) x s g)
-      fair-fresh (through t) = h s t weak g
+      fair-fresh (through a t) = h s t (not (a && T .strong-arrays) && weak) g
       fair-fresh (ptr t) = fair-bind (rec s t true) (λ s′ b. ok (finish K false x s′) b) (h s t true g) (λ m b g′. goes-on (finish K false x m) b (finished false x m g′))
       fair-fresh (tdef t) = fair-bind (rec s t weak) (λ s′ b. alias K (not weak || b) (isDone (K .get s′ x)) s′ x) (h s t weak g) (λ m b g′. fair-alias (not weak || b) (isDone (K .get m x)) m x g′)
       fair-fresh (proto ts) = fair-each (λ s′ y. rec s′ y weak) (λ m y g′. h m y weak g′) ts s false g
@@ -133,7 +133,7 @@ module _ {M : Type 0} (Good : M → Type 0) where
     fair-again m x cont ignored g = goes m g
     fair-again m x cont plain g = goes m g
     fair-again m x cont (listed f) g = goes m g
-    fair-again m x cont (through t) g = goes m g
+    fair-again m x cont (through a t) g = goes m g
     fair-again m x cont (ptr t) g = goes m g
     fair-again m x cont (tdef t) g = fair-once (X .aliasLine) (L .alias-fair) x (X .hasFwd m x) m g
     fair-again m x cont (proto ts) g = goes m g
@@ -160,7 +160,7 @@ module _ {M : Type 0} (Good : M → Type 0) where
       fair-begin top ignored = goes s g
       fair-begin top plain = goes s g
       fair-begin top (listed f) = fair-leaf (f || top) x s g
-      fair-begin top (through t) = h s t cont g
+      fair-begin top (through a t) = h s t cont g
       fair-begin top (ptr t) = h s t cont g
       fair-begin top (tdef t) =
           fair-obind (rec (X .emark busy x s) t x) (λ s′. obind (once X T (X .aliasLine) x (X .hasFwd s′ x) s′) (λ s″. wrote (X .emark done x s″)))

@@ -103,7 +103,7 @@ module _ {M : Type 0} (R : M → M → Type 0) where
       both-fresh ignored = goes-on s s′ false g
       both-fresh plain = goes-on (finish K false x s) (finish K false x s′) false (finished false x s s′ g)
       both-fresh (listed f) = goes-on (finish K (T .named x) x s) (finish K (T .named x) x s′) true (finished (T .named x) x s s′ g)
-      both-fresh (through t) = h s s′ t weak g
+      both-fresh (through a t) = h s s′ t (not (a && T .strong-arrays) && weak) g
       both-fresh (ptr t) =
           both-bind (rec s t true) (rec s′ t true) (λ m b. ok (finish K false x m) b) (λ m b. ok (finish K false x m) b) (h s s′ t true g)
           (λ m m′ b g′. goes-on (finish K false x m) (finish K false x m′) b (finished false x m m′ g′))
@@ -143,7 +143,7 @@ module _ {M : Type 0} (R : M → M → Type 0) where
     both-again m m′ x cont ignored g = goes m m′ g
     both-again m m′ x cont plain g = goes m m′ g
     both-again m m′ x cont (listed f) g = goes m m′ g
-    both-again m m′ x cont (through t) g = goes m m′ g
+    both-again m m′ x cont (through a t) g = goes m m′ g
     both-again m m′ x cont (ptr t) g = goes m m′ g
     both-again m m′ x cont (tdef t) g = subst (λ (q : Bool). Both (once X T (X .aliasLine) x (X .hasFwd m x) m) (once X T (X .aliasLine) x q m′)) (L .flag-same m m′ x g) (both-once (X .aliasLine) (L .alias-both) x (X .hasFwd m x) m m′ g)
     both-again m m′ x cont (proto ts) g = goes m m′ g
@@ -174,7 +174,7 @@ module _ {M : Type 0} (R : M → M → Type 0) where
       both-begin top ignored = goes s s′ g
       both-begin top plain = goes s s′ g
       both-begin top (listed f) = both-leaf (f || top) x s s′ g
-      both-begin top (through t) = h s s′ t cont g
+      both-begin top (through a t) = h s s′ t cont g
       both-begin top (ptr t) = h s s′ t cont g
       both-begin top (tdef t) =
           both-obind (rec (X .emark busy x s) t x) (rec (X .emark busy x s′) t x)

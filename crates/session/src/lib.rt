@@ -10,7 +10,8 @@ ghost use mathlib.Core.Path.{_≡_};
 ghost use Rattle.session.specs.Calls.{callOf, openCall, typeCall, typesCall};
 ghost use Rattle.session.specs.Lists.{idsIn, listCall};
 
-// The lengths are those at opening; text_len is the length of the text so far. Bit 0 of modes is union_as_struct.
+// The lengths are those at opening; text_len is the length of the text so far. Bit 0 of modes is union_as_struct,
+// bit 1 strong_arrays.
 pub struct Session {
     pub open: bool,
     pub section_len: u64,

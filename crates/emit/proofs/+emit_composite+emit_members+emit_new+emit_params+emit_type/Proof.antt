@@ -415,7 +415,7 @@ emit-new-same-length-4 : (t : ℕ) → emit-new-lts.Need-same-length-4 (emit-new
 emit-new-same-length-4 t c = search needs
 
 emit-new-returns-4 : (t : ℕ) → emit-new-lts.Need-returns-4 (emit-new-claims t) (emit-new-at t) emit-new.Post
-emit-new-returns-4 t c = λ n. laws.new-through _ _ n _ _ _ _ _ _ _ (c .before .before .before .before .before .before .before .before .before .before .before .before .before .before .pre .1) _ (c .before .before .before .before .before .before .before .before .before .before .node-of .ensures) _ _ (c .before .before .before .before .before .before .before .before .next .given .1) (c .before .before .before .before .emit-type .ensures n)
+emit-new-returns-4 t c = λ n. laws.new-through _ _ n _ _ _ _ _ _ _ (c .before .before .before .before .before .before .before .before .before .before .before .before .before .before .pre .1) _ (c .before .before .before .before .before .before .before .before .before .before .node-of .ensures) _ _ _ (c .before .before .before .before .before .before .before .before .next .given .1) (c .before .before .before .before .emit-type .ensures n)
 
 emit-new-same-length-5 : (t : ℕ) → emit-new-lts.Need-same-length-5 (emit-new-claims t) (emit-new-at t) emit-new.Post
 emit-new-same-length-5 t c = search needs

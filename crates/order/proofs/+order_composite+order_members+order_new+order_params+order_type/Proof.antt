@@ -282,14 +282,14 @@ order-new-is-named-requires t c κs = search needs
 order-new-finish-requires-2 : (t : ℕ) → order-new-lts.Need-finish-requires-2 (order-new-claims t) (order-new-at t) order-new.Post
 order-new-finish-requires-2 t c κs = search needs
 
-order-new-enum-known-t : (t : ℕ) → order-new-lts.Need-enum-known-t (order-new-claims t) (order-new-at t) order-new.Post
-order-new-enum-known-t t c = search needs
+order-new-enum-known-is-array : (t : ℕ) → order-new-lts.Need-enum-known-is-array (order-new-claims t) (order-new-at t) order-new.Post
+order-new-enum-known-is-array t c = search needs
 
 order-new-order-type-requires : (t : ℕ) → order-new-lts.Need-order-type-requires (order-new-claims t) (order-new-at t) order-new.Post
 order-new-order-type-requires t c κs = (omega arith, tt)
 
-order-new-enum-known-t-2 : (t : ℕ) → order-new-lts.Need-enum-known-t-2 (order-new-claims t) (order-new-at t) order-new.Post
-order-new-enum-known-t-2 t c = search needs
+order-new-enum-known-t : (t : ℕ) → order-new-lts.Need-enum-known-t (order-new-claims t) (order-new-at t) order-new.Post
+order-new-enum-known-t t c = search needs
 
 order-new-order-type-requires-2 : (t : ℕ) → order-new-lts.Need-order-type-requires-2 (order-new-claims t) (order-new-at t) order-new.Post
 order-new-order-type-requires-2 t c κs = (omega arith, tt)
@@ -297,8 +297,8 @@ order-new-order-type-requires-2 t c κs = (omega arith, tt)
 order-new-finish-requires-3 : (t : ℕ) → order-new-lts.Need-finish-requires-3 (order-new-claims t) (order-new-at t) order-new.Post
 order-new-finish-requires-3 t c κs = search needs
 
-order-new-enum-known-t-3 : (t : ℕ) → order-new-lts.Need-enum-known-t-3 (order-new-claims t) (order-new-at t) order-new.Post
-order-new-enum-known-t-3 t c = search needs
+order-new-enum-known-t-2 : (t : ℕ) → order-new-lts.Need-enum-known-t-2 (order-new-claims t) (order-new-at t) order-new.Post
+order-new-enum-known-t-2 t c = search needs
 
 order-new-order-type-requires-3 : (t : ℕ) → order-new-lts.Need-order-type-requires-3 (order-new-claims t) (order-new-at t) order-new.Post
 order-new-order-type-requires-3 t c κs = (omega arith, tt)
@@ -346,19 +346,19 @@ order-new-same-length-4 : (t : ℕ) → order-new-lts.Need-same-length-4 (order-
 order-new-same-length-4 t c = search needs
 
 order-new-returns-4 : (t : ℕ) → order-new-lts.Need-returns-4 (order-new-claims t) (order-new-at t) order-new.Post
-order-new-returns-4 t c = laws.new-through _ _ _ _ _ _ _ _ (c .before .before .before .before .before .before .before .before .type-by-id .ensures) _ (c .before .before .before .before .before .before .before .node-of .ensures) _ _ (c .before .before .before .before .before .t .given .1) (c .before .before .order-type .ensures)
+order-new-returns-4 t c = laws.new-through _ _ _ _ _ _ _ _ (c .before .before .before .before .before .before .before .before .before .type-by-id .ensures) _ (c .before .before .before .before .before .before .before .before .node-of .ensures) _ _ _ (c .before .before .before .before .before .before .is-array .given .1) (c .before .before .order-type .ensures)
 
 order-new-same-length-5 : (t : ℕ) → order-new-lts.Need-same-length-5 (order-new-claims t) (order-new-at t) order-new.Post
 order-new-same-length-5 t c = search needs
 
 order-new-returns-5 : (t : ℕ) → order-new-lts.Need-returns-5 (order-new-claims t) (order-new-at t) order-new.Post
-order-new-returns-5 t c = laws.new-ptr _ _ _ _ _ _ _ _ (c .before .before .before .before .before .before .before .before .before .before .before .before .type-by-id .ensures) _ (c .before .before .before .before .before .before .before .before .before .before .before .node-of .ensures) _ _ (c .before .before .before .before .before .before .before .before .before .t2 .given .1) _ _ (c .before .before .before .before .before .before .order-type2 .ensures) (c .before .before .finish3 .ensures)
+order-new-returns-5 t c = laws.new-ptr _ _ _ _ _ _ _ _ (c .before .before .before .before .before .before .before .before .before .before .before .before .type-by-id .ensures) _ (c .before .before .before .before .before .before .before .before .before .before .before .node-of .ensures) _ _ (c .before .before .before .before .before .before .before .before .before .t .given .1) _ _ (c .before .before .before .before .before .before .order-type2 .ensures) (c .before .before .finish3 .ensures)
 
 order-new-same-length-6 : (t : ℕ) → order-new-lts.Need-same-length-6 (order-new-claims t) (order-new-at t) order-new.Post
 order-new-same-length-6 t c = search needs
 
 order-new-returns-6 : (t : ℕ) → order-new-lts.Need-returns-6 (order-new-claims t) (order-new-at t) order-new.Post
-order-new-returns-6 t c = laws.new-typedef _ _ _ _ _ _ _ _ (c .before .before .before .before .before .before .before .before .before .before .before .before .type-by-id .ensures) _ (c .before .before .before .before .before .before .before .before .before .before .before .node-of .ensures) _ _ (c .before .before .before .before .before .before .before .before .before .t3 .given .1) _ _ (c .before .before .before .before .before .before .order-type3 .ensures) (c .before .before .finish-typedef .ensures)
+order-new-returns-6 t c = laws.new-typedef _ _ _ _ _ _ _ _ (c .before .before .before .before .before .before .before .before .before .before .before .before .type-by-id .ensures) _ (c .before .before .before .before .before .before .before .before .before .before .before .node-of .ensures) _ _ (c .before .before .before .before .before .before .before .before .before .t2 .given .1) _ _ (c .before .before .before .before .before .before .order-type3 .ensures) (c .before .before .finish-typedef .ensures)
 
 order-new-same-length-7 : (t : ℕ) → order-new-lts.Need-same-length-7 (order-new-claims t) (order-new-at t) order-new.Post
 order-new-same-length-7 t c = search needs
@@ -537,12 +537,12 @@ pub +order-composite+order-members+order-new+order-params+order-type-spec :
     (order-new-enum-told-3 t)
     (order-new-is-named-requires t)
     (order-new-finish-requires-2 t)
-    (order-new-enum-known-t t)
+    (order-new-enum-known-is-array t)
     (order-new-order-type-requires t)
-    (order-new-enum-known-t-2 t)
+    (order-new-enum-known-t t)
     (order-new-order-type-requires-2 t)
     (order-new-finish-requires-3 t)
-    (order-new-enum-known-t-3 t)
+    (order-new-enum-known-t-2 t)
     (order-new-order-type-requires-3 t)
     (order-new-finish-typedef-requires t)
     (order-new-enum-known-res t)
