@@ -85,7 +85,7 @@ enum btfdump_number {
 	BTFDUMP_NOT_OPEN = 11,       /* no open session, or other lengths than at opening, or the text is cut short */
 	/* after these the session is closed, the work zero, the text as long as before and zero after that */
 	BTFDUMP_TOO_DEEP = 12,       /* more than 512 nested calls, or entries of a declarator */
-	BTFDUMP_CYCLE = 13,          /* a struct or union needs itself complete before its own definition */
+	BTFDUMP_CYCLE = 13,          /* a struct or union contains itself (or, with strong arrays, a pointer to an array of itself) */
 	BTFDUMP_NAMELESS = 14,       /* a typedef with no name is to be defined */
 	BTFDUMP_ALIGN_ZERO = 15,     /* the packed test meets a type with alignment 0 */
 	BTFDUMP_OVERFLOW = 16,       /* a size or an offset does not fit 32 bits */

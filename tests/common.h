@@ -39,6 +39,14 @@ static inline uint32_t u32_at(const uint8_t *p)
 	return p[0] | (uint32_t)p[1] << 8 | (uint32_t)p[2] << 16 | (uint32_t)p[3] << 24;
 }
 
+/* A word of a section, in the order that its magic tells. */
+static inline uint32_t word_of(const uint8_t *section, const uint8_t *p)
+{
+	if (section[0] == 0xeb)
+		return p[3] | (uint32_t)p[2] << 8 | (uint32_t)p[1] << 16 | (uint32_t)p[0] << 24;
+	return u32_at(p);
+}
+
 static inline void turn_word(uint8_t *p)
 {
 	uint8_t a = p[0], b = p[1];

@@ -80,13 +80,13 @@ static inline int guarded(const struct lent *l)
 /* Counts types (void too) and enumerators of a section that opening accepts. */
 static inline void count_types(const uint8_t *section, uint32_t *types, uint32_t *enumerators)
 {
-	const uint8_t *p = section + u32_at(section + 4) + u32_at(section + 8);
-	const uint8_t *end = p + u32_at(section + 12);
+	const uint8_t *p = section + word_of(section, section + 4) + word_of(section, section + 8);
+	const uint8_t *end = p + word_of(section, section + 12);
 
 	*types = 1;
 	*enumerators = 0;
 	for (; p < end; ++*types) {
-		uint32_t info = u32_at(p + 4), kind = info >> 24 & 31, entries = info & 0xffff;
+		uint32_t info = word_of(section, p + 4), kind = info >> 24 & 31, entries = info & 0xffff;
 
 		if (kind == 6 || kind == 19)
 			*enumerators += entries;

@@ -12,3 +12,4 @@ pub mod Session
 pub mod Again
 pub mod Demands
 pub mod Arrays
+pub mod Orders

@@ -10,7 +10,7 @@ use Rattle.opening.specs.Header as header
 use Rattle.opening.specs.Table.{typesOf}
 use Rattle.opening.specs.Opened.{workOf}
 
--- what the code knows of the section s after opening: pointer size, mode, the count of types, the place of the strings
+-- what the code knows of the section s after opening: pointer size, mode, order of bytes, the count of types, the place of the strings
 abbrev pub headerOf : ℕ → ℕ → List ℕ → Btf
 headerOf pointer modes s = header.btfOf s pointer modes (typesOf s)
 

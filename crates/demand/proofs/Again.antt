@@ -3,7 +3,7 @@
 use Prim.Native.Nat.{ℕ, zero, suc, _-_, _<_}
 use native.Mathlib.Decide.{ℕ-discrete}
 use mathlib.Core.Path.{_≡_, refl, sym, _∙_, ap, subst}
-use mathlib.Core.Bool.{Bool, true, false, not, _&&_, _||_}
+use mathlib.Core.Bool.{Bool, true, false, not, _&&_, _||_, and-false}
 use mathlib.Core.List.{List, [], _∷_, _++_, List·Memᴰ, List·Memᴰ·head, List·Memᴰ·tail, List·Memᴰ·not-nil, List·Memᴰ·cases-cons, List·Memᴰ·append-cases, List·Memᴰ·eq-of-singleton}
 use mathlib.Core.Logic.{_⊎_, inl, inr, _≢_}
 use lib.ListN.{length, getD, set, length-set, replicate, length-replicate}
@@ -80,7 +80,7 @@ module _ (x : ℕ) (m : List Mark) (l : x < length m) where
 data Settled (T : Table) (m : List Mark) : ℕ → ℕ → Type 0 where
   is-done : (n x : ℕ) → at m x ≡ done → Settled T m (suc n) x
   is-ignored : (n x : ℕ) → at m x ≡ new → T .node x ≡ ignored → Settled T m (suc n) x
-  is-through : (n x t : ℕ) → at m x ≡ new → T .node x ≡ through t → Settled T m n t → Settled T m (suc n) x
+  is-through : (n x : ℕ) (a : Bool) (t : ℕ) → at m x ≡ new → T .node x ≡ through a t → Settled T m n t → Settled T m (suc n) x
   is-proto : (n x : ℕ) (ts : List ℕ) → at m x ≡ new → T .node x ≡ proto ts → ((y : ℕ) → List·Memᴰ y ts → Settled T m n y) → Settled T m (suc n) x
 
 -- it stays so
@@ -95,10 +95,10 @@ settled-grows T m m′ g _ _ (is-ignored n x e k) = go (new-still m m′ g x e)
     go : (at m′ x ≡ new) ⊎ (at m′ x ≡ done) → Settled T m′ (suc n) x
     go (inl q) = is-ignored n x q k
     go (inr q) = is-done n x q
-settled-grows T m m′ g _ _ (is-through n x t e k h) = go (settled-grows T m m′ g n t h) (new-still m m′ g x e)
+settled-grows T m m′ g _ _ (is-through n x a t e k h) = go (settled-grows T m m′ g n t h) (new-still m m′ g x e)
   where
     go : Settled T m′ n t → (at m′ x ≡ new) ⊎ (at m′ x ≡ done) → Settled T m′ (suc n) x
-    go h′ (inl q) = is-through n x t q k h′
+    go h′ (inl q) = is-through n x a t q k h′
     go h′ (inr q) = is-done n x q
 settled-grows T m m′ g _ _ (is-proto n x ts e k h) = go (λ y i. settled-grows T m m′ g n y (h y i)) (new-still m m′ g x e)
   where
@@ -126,9 +126,10 @@ module _ {U : Type 0} (T : Table) where
   unfolding order visit fresh
   quiet s _ _ (is-done n x e) = (true, ap (visit K T (λ s′ y w. order K n T s′ y w) s x false) e)
   quiet s _ _ (is-ignored n x e k) = (false, ap (visit K T (λ s′ y w. order K n T s′ y w) s x false) e ∙ ap (fresh K T (λ s′ y w. order K n T s′ y w) s x false) k)
-  quiet s _ _ (is-through n x t e k h) =
+  quiet s _ _ (is-through n x a t e k h) =
       let q = quiet s n t h in
-      (q .0, ap (visit K T (λ s′ y w. order K n T s′ y w) s x false) e ∙ ap (fresh K T (λ s′ y w. order K n T s′ y w) s x false) k ∙ q .1)
+      (q .0, ap (visit K T (λ s′ y w. order K n T s′ y w) s x false) e ∙ ap (fresh K T (λ s′ y w. order K n T s′ y w) s x false) k
+      ∙ ap (order K n T s t) (and-false (not (a && T .strong-arrays))) ∙ q .1)
   quiet s _ _ (is-proto n x ts e k h) =
       let q = each-quiet n s ts (λ y i. quiet s n y (h y i)) false in
       (q .0, ap (visit K T (λ s′ y w. order K n T s′ y w) s x false) e ∙ ap (fresh K T (λ s′ y w. order K n T s′ y w) s x false) k ∙ q .1)
@@ -204,7 +205,7 @@ module _ {U : Type 0} (T : Table) where
         fresh-grows weak ignored k e = leaves s false (grown-refl (s .marks))
         fresh-grows weak plain k e = left-map (λ m h. h .0) (ok (finish K false x s) false) (ended e s false false (grown-refl (s .marks)))
         fresh-grows weak (listed f) k e = left-map (λ m h. h .0) (ok (finish K (T .named x) x s) true) (ended e s (T .named x) true (grown-refl (s .marks)))
-        fresh-grows weak (through t) k e = grows s t weak w (below (through t) k t (List·Memᴰ·head refl))
+        fresh-grows weak (through a t) k e = grows s t (not (a && T .strong-arrays) && weak) w (below (through a t) k t (List·Memᴰ·head refl))
         fresh-grows weak (ptr t) k e =
             left-bind (rec s t true) (λ s′ b. ok (finish K false x s′) b) (grows s t true w (below (ptr t) k t (List·Memᴰ·head refl)))
             (λ s′ b g. left-map (λ m h. h .0) (ok (finish K false x s′) b) (ended e s′ false b g))
@@ -267,8 +268,9 @@ module _ {U : Type 0} (T : Table) where
         fresh-settles ignored k e = leaves s false (grown-refl (s .marks), is-ignored n x e k)
         fresh-settles plain k e = by-done (ok (finish K false x s) false) (ended rec grows s x w l e s false false (grown-refl (s .marks)))
         fresh-settles (listed f) k e = by-done (ok (finish K (T .named x) x s) true) (ended rec grows s x w l e s (T .named x) true (grown-refl (s .marks)))
-        fresh-settles (through t) k e =
-            left-map (λ m h. past m (h .0) e (λ q. is-through n x t q k (h .1))) (rec s t false) (settles s t w (below rec grows s x w l (through t) k t (List·Memᴰ·head refl)))
+        fresh-settles (through a t) k e =
+            subst (λ (weak : Bool). Left Stands (rec s t weak)) (sym (and-false (not (a && T .strong-arrays))))
+            (left-map (λ m h. past m (h .0) e (λ q. is-through n x a t q k (h .1))) (rec s t false) (settles s t w (below rec grows s x w l (through a t) k t (List·Memᴰ·head refl))))
         fresh-settles (ptr t) k e =
             left-bind (rec s t true) (λ s′ b. ok (finish K false x s′) b) (grows s t true w (below rec grows s x w l (ptr t) k t (List·Memᴰ·head refl)))
             (λ s′ b g. by-done (ok (finish K false x s′) b) (ended rec grows s x w l e s′ false b g))
@@ -340,7 +342,7 @@ module _ {U : Type 0} (L : Lines U) (T : Table) (ms : List Mark) where
   kept-again s x cont ignored e = keeps s e
   kept-again s x cont plain e = keeps s e
   kept-again s x cont (listed f) e = keeps s e
-  kept-again s x cont (through t) e = keeps s e
+  kept-again s x cont (through a t) e = keeps s e
   kept-again s x cont (ptr t) e = keeps s e
   kept-again s x cont (tdef t) e = kept-once (X .aliasLine) x (X .hasFwd s x) s e (kept-alias s x e)
   kept-again s x cont (proto ts) e = keeps s e
@@ -367,7 +369,7 @@ module _ {U : Type 0} (L : Lines U) (T : Table) (ms : List Mark) where
     kept-begin top ignored = keeps s e
     kept-begin top plain = keeps s e
     kept-begin top (listed f) = kept-leaf (f || top) x s e
-    kept-begin top (through t) = h s t cont e
+    kept-begin top (through a t) = h s t cont e
     kept-begin top (ptr t) = h s t cont e
     kept-begin top (tdef t) =
         kept-bind (rec (X .emark busy x s) t x) (λ s′. obind (once X T (X .aliasLine) x (X .hasFwd s′ x) s′) (λ s″. wrote (X .emark done x s″))) (h (X .emark busy x s) t x e)

@@ -1,0 +1,14 @@
+pub mod Reach
+pub mod Ordering
+pub mod Splits
+pub mod Emission
+pub mod Kept
+pub mod Writers
+pub mod Lines
+pub mod Standing
+pub mod Renamed
+pub mod Noted
+pub mod Session
+pub mod Alike
+pub mod Claims
+pub mod Samples

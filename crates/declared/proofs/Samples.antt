@@ -1,0 +1,37 @@
+-- The samples of specs/Samples hold of the definitions.
+use Prim.Native.Nat.{ℕ}
+use mathlib.Core.Path.{_≡_, refl}
+use mathlib.Core.List.{List, [], _∷_}
+use Rattle.lent.specs.Words.{oneMore}
+use Rattle.lent.specs.Text.{ascii, join, bytes, pfx}
+use Rattle.lent.specs.Decimal.{digits, decimal}
+use Rattle.rules.specs.Order.{bind, each, meet, pushIf, enter, alias, fresh, visit, order}
+use Rattle.rules.specs.Machine.{obind, eeach, once, mention, again, close, leaf, within, begin, allowed, look, emit, shut, emitted, ordered, gate, single, serve, run}
+use Rattle.rules.specs.Writer.{askThen, checked, saidText, saidNames, after, next, put, stop, given, _⨾_}
+use Rattle.rules.specs.Types.{isEmpty}
+use Rattle.rules.specs.Layout.{larger, smaller, octets, sizeOf, getSizeOf, alignMembers, alignOf, getAlignOf, offAlign, membersPacked, isStructPacked, chipAwayBits, padOf, padsOf, gapPads, bitPadding, endOf}
+use Rattle.rules.specs.Names.{spelled, resolving, resolveTypeName, resolveName, sameBytes, holds, holders, counted, typeVersion, valueVersion, startsWith, contains, builtin, escapedByte, escaped}
+use Rattle.rules.specs.Decl.{deeper, sepName, keyword, attribute, declTag, declTags, qualifier, enumValue, enum64Value, chainOn, chainOf, mods, noMods, shownParams, unitWord, pads, lastNewline, bitSize, emitCompositeFwd, emitFwdDef, enumWord, emitValues, enumBody, emitEnumDef, emitName, brackets, parens, emitParam, emitParams, baseWord, emitArray, emitProto, paramList, chainLoop, emitMembers, compositeHead, compositeEnd, compositeBody, compositeDef, emitTypedefDef, emitTypeDecl, emitTypeChain, emitCompositeDef}
+use Rattle.rules.specs.Emit.{definition, shown, forward}
+use Rattle.rules.specs.Listed.{tagsId, tagsFrom}
+use Rattle.demand.specs.Lists.{afresh}
+use Rattle.demand.specs.Session.{fitting, lineOf, textOf}
+use Rattle.declared.specs.Notes.{piecesIn}
+use Rattle.declared.specs.Samples.{told, prototypeNotes, builtinNotes}
+
+-- the text, and what its pieces mention; and what the pieces mention where the builtin name is used
+pub samples-hold : _≡_ {A = List ℕ × List (ℕ × List ℕ) × List (ℕ × List ℕ)}
+    (textOf (piecesIn prototypeNotes), told prototypeNotes, told builtinNotes) (
+      ascii "struct s;\n\ntypedef int f(struct s *a);\n\nstruct s {\n\tf *p;\n};\n\n",
+      (4, 4 ∷ []) ∷ (2, 2 ∷ 4 ∷ []) ∷ (4, 4 ∷ 2 ∷ []) ∷ [],
+      (2, []) ∷ (3, 3 ∷ 2 ∷ []) ∷ [],
+    )
+unfolding oneMore join bytes pfx digits decimal bind each meet pushIf enter alias fresh visit order obind eeach once mention again close leaf within begin
+    allowed look emit shut emitted ordered gate single serve run askThen checked saidText saidNames after next put stop given _⨾_ isEmpty
+    larger smaller octets sizeOf getSizeOf alignMembers alignOf getAlignOf offAlign membersPacked isStructPacked chipAwayBits padOf padsOf
+    gapPads bitPadding endOf spelled resolving resolveTypeName resolveName sameBytes holds holders counted typeVersion valueVersion startsWith
+    contains builtin escapedByte escaped deeper sepName keyword attribute declTag declTags qualifier enumValue enum64Value chainOn chainOf mods
+    noMods shownParams unitWord pads lastNewline bitSize emitCompositeFwd emitFwdDef enumWord emitValues enumBody emitEnumDef emitName brackets
+    parens emitParam emitParams baseWord emitArray emitProto paramList chainLoop emitMembers compositeHead compositeEnd compositeBody
+    compositeDef emitTypedefDef emitTypeDecl emitTypeChain emitCompositeDef definition shown forward tagsId tagsFrom afresh fitting lineOf textOf
+samples-hold = refl

@@ -1,0 +1,5 @@
+pub mod Notes
+pub mod Declared
+pub mod Renamed
+pub mod Calls
+pub mod Samples
