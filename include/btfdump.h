@@ -90,6 +90,8 @@ enum btfdump_number {
 	BTFDUMP_ALIGN_ZERO = 15,     /* the packed test meets a type with alignment 0 */
 	BTFDUMP_OVERFLOW = 16,       /* a size or an offset does not fit 32 bits */
 	BTFDUMP_TEXT_FULL = 17,      /* the text slice, or 1,073,741,824 bytes, is full */
+	/* btfdump_field only; nothing is touched */
+	BTFDUMP_NO_MEMBER = 21,      /* no member covers the bit, or the type is no struct or union */
 	/* opening only; nothing is touched */
 	BTFDUMP_RECORD_TOO_SHORT = 255 /* record_len is under BTFDUMP_RECORD_SIZE (requests: BTFDUMP_NOT_OPEN) */
 };
@@ -145,6 +147,31 @@ static inline uint32_t btfdump_text_len(const uint8_t *record)
 {
 	return record[40] | (uint32_t)record[41] << 8 | (uint32_t)record[42] << 16 | (uint32_t)record[43] << 24;
 }
+
+/*
+ * Which field is this bit? The path to the innermost member that covers bit
+ * `bit` of the struct or union `id`, counted from its start: members by their
+ * number and places of arrays by their index, each from 0, outermost first,
+ * one word of four bytes an entry, least significant byte first. A bit field
+ * is innermost. A bit in a gap of a struct inside belongs to the member of that
+ * struct type: the path ends there. Members are tried in order, and the first
+ * that covers the bit is taken; so of a union it is the first that is wide enough.
+ *
+ * The value is the number of entries, at most 512; the rest of the path slice
+ * stays. 2,048 bytes are always enough. Record, section and work are only read,
+ * and no text is lent.
+ *
+ * Refused with value 0, the path as it was, and the session still open:
+ * 11 (here: no open session, or other lengths of section or work than at
+ * opening), 10, 21, 12 (a path of over 512 entries, or a size over 512 calls
+ * deep), 16 (a size, or the end of a member in bits, does not fit 32 bits), and
+ * last 17 (the path slice is too short for the path).
+ */
+btfdump_answer btfdump_field(const uint8_t *record, size_t record_len,
+			     const uint8_t *section, size_t section_len,
+			     const uint8_t *work, size_t work_len,
+			     uint8_t *path, size_t path_len,
+			     uint32_t id, uint32_t bit);
 
 #ifdef __cplusplus
 }

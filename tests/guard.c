@@ -310,6 +310,34 @@ static void request(void)
 		wrong("record", answer);
 }
 
+/* The call that only reads: the rest of the path stays, and so does everything where it is refused. */
+static void which_field(void)
+{
+	static uint8_t path[2048 + 64], before[sizeof path];
+	size_t room = below(2) ? 2048 : below(24), held = text.length;
+	uint32_t id = below(10) ? (uint32_t)below(section.length / 12 + 2) : odd_number();
+	uint32_t bit = below(2) ? (uint32_t)below(512) : odd_number(), early, number, value;
+	btfdump_answer answer;
+
+	doing = "field";
+	text.length = (size_t)1 << 32; /* none is lent, so none is short */
+	early = refused_before(0, id);
+	text.length = held;
+	memset(path, (int)next_random(), sizeof path);
+	memcpy(before, path, sizeof path);
+	answer = btfdump_field(record.bytes, record.length, section.bytes, section.length, work.bytes, work.length, path, room, id, bit);
+	number = btfdump_number(answer);
+	value = btfdump_value(answer);
+	calls++;
+	seen[number < 256 ? number : 254]++;
+	if (early ? number != early : number && number != 12 && number != 16 && number != 17 && number != 21)
+		wrong("no number of this call", answer);
+	if (number ? value : value == 0 || value > 512 || 4 * value > room)
+		wrong("length of the path", answer);
+	if (memcmp(before + 4 * value, path + 4 * value, sizeof path - 4 * value))
+		wrong("bytes past the path", answer);
+}
+
 /* What a host may do to lent memory between two calls. */
 static void alter(void)
 {
@@ -352,6 +380,7 @@ static void one_case_of(uint64_t number)
 	for (size_t n = opening() ? 1 + below(6) : below(2); n--;) {
 		if (below(2))
 			alter();
+		which_field();
 		request();
 		if (below(40) == 0)
 			opening();

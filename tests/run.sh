@@ -18,6 +18,7 @@ compile replay tests/replay.c
 compile limits tests/limits.c
 compile guard tests/guard.c
 compile lists tests/lists.c
+compile field tests/field.c
 compile btfheader tools/btfheader.c
 
 # the example of the README, on the sample section
@@ -41,6 +42,7 @@ for file in "${files[@]}"; do
 done
 "$out/limits"
 "$out/lists" "${files[@]}"
+"$out/field" "${files[@]}"
 "$out/guard" 20000 1 "${files[@]}"
 if command -v valgrind >/dev/null; then
 	say valgrind valgrind -q --error-exitcode=1 "$out/guard" 300 1 tests/traps.cases

@@ -1,3 +1,4 @@
 pub mod Laws
 pub mod Claims
 pub mod Lists
+pub mod FieldLaws

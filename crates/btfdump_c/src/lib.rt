@@ -1,6 +1,7 @@
 // The calls for C, on numbers and byte slices. The session record crosses as sixteen words of 64 bits, least significant
 // byte first: open, section length, work length, types, enumerators, text length, pointer size, modes, and eight of zero.
 // An answer is its number in the upper half and its value in the lower.
+use field::which_field;
 use lent::get_word;
 use lent::put_word;
 use session::Answer;
@@ -16,6 +17,7 @@ ghost use Rattle.btfdump_c.specs.Record.{getLong, putLong, decoded, enco
 ghost use Rattle.btfdump_c.specs.Exports.{packed, exportOf, openExport, typeExport, typesExport, listExport};
 ghost use Rattle.session.specs.Answers.{numberOf, valueOf};
 ghost use Rattle.session.specs.Lists.{idsIn};
+ghost use Rattle.btfdump_c.specs.Field.{pathExportOf, fieldExport};
 
 fn number_and_value(a: Answer) -> u64
     ensures { λ r. ⌜ r ≡ packed a ⌝ }
@@ -242,4 +244,22 @@ pub extern "C" fn btfdump_dump_list(
     }
     let t = dump_list_core(decode(record), section, work, text, ids);
     listed(record, t)
+}
+
+#[no_mangle]
+pub extern "C" fn btfdump_field(
+    record: &[u8],
+    section: &[u8],
+    work: &[u8],
+    path: &mut [u8],
+    id: u32,
+    bit: u32,
+) -> u64
+    ensures { λ r. ⌜ pathExportOf r (now (path .exit)) ≡ fieldExport (now («record» .entry)) (now (section .entry)) (now (work .entry)) (now (path .entry)) id bit ⌝ }
+{
+    if record.len() < 128 {
+        return 47244640256;
+    }
+    let a = which_field(decode(record), section, work, path, id, bit);
+    number_and_value(a)
 }

@@ -12,7 +12,7 @@ use Rattle.session.specs.Calls.{Call}
 use Rattle.demand.specs.Needs.{WF}
 use Rattle.demand.specs.Session.{textOf, machine, noNames, opened}
 use Rattle.claims.specs.Table.{openedTable}
-use Rattle.claims.specs.Session.{After, after-open, after-one, after-all}
+use Rattle.claims.specs.Session.{After, after-open, after-one, after-all, after-list}
 use Rattle.claims.proofs.Claims.{opening-gives}
 use Rattle.claims.proofs.Demands.{open-number, delivered}
 use Rattle.declared.specs.Notes.{notesOf, piecesIn}
@@ -36,6 +36,7 @@ after-sound : (p modes : ℕ) (s : List ℕ) (n : ℕ) {c : Call} {rs : List Req
 after-sound p modes s n (after-open S work text z q) = ap (openingNumber p s) (sym z) ∙ sym (open-number S s work text p modes) ∙ q
 after-sound p modes s n (after-one c rs a text f same id) = after-sound p modes s n a
 after-sound p modes s n (after-all c rs a text f same) = after-sound p modes s n a
+after-sound p modes s n (after-list c rs a text f same ids) = after-sound p modes s n a
 
 module _ (p modes : ℕ) (s : List ℕ) (n : ℕ) (c : Call) (rs : List Req) (a : After p modes s n c rs) where
   sound : WF (tableOf (openedTable p modes s n))

@@ -34,6 +34,7 @@ abbrev pub renamed : (ℕ → Name → Name) → Btf → Btf
 renamed other B = record {
   ptr-sz = B .ptr-sz;
   union-as-struct = B .union-as-struct;
+  strong-arrays = B .strong-arrays;
   type-cnt = B .type-cnt;
   type-by-id = λ id. renameType (other id) (B .type-by-id id);
   decl-tags = B .decl-tags;

@@ -127,9 +127,11 @@ module _ {U : Type 0} (T : Table) where
   quiet s _ _ (is-done n x e) = (true, ap (visit K T (λ s′ y w. order K n T s′ y w) s x false) e)
   quiet s _ _ (is-ignored n x e k) = (false, ap (visit K T (λ s′ y w. order K n T s′ y w) s x false) e ∙ ap (fresh K T (λ s′ y w. order K n T s′ y w) s x false) k)
   quiet s _ _ (is-through n x a t e k h) =
-      let q = quiet s n t h in
-      (q .0, ap (visit K T (λ s′ y w. order K n T s′ y w) s x false) e ∙ ap (fresh K T (λ s′ y w. order K n T s′ y w) s x false) k
-      ∙ ap (order K n T s t) (and-false (not (a && T .strong-arrays))) ∙ q .1)
+      let q = quiet s n t h in (
+        q .0,
+        ap (visit K T (λ s′ y w. order K n T s′ y w) s x false) e ∙ ap (fresh K T (λ s′ y w. order K n T s′ y w) s x false) k
+            ∙ ap (order K n T s t) (and-false (not (a && T .strong-arrays))) ∙ q .1,
+      )
   quiet s _ _ (is-proto n x ts e k h) =
       let q = each-quiet n s ts (λ y i. quiet s n y (h y i)) false in
       (q .0, ap (visit K T (λ s′ y w. order K n T s′ y w) s x false) e ∙ ap (fresh K T (λ s′ y w. order K n T s′ y w) s x false) k ∙ q .1)

@@ -5,6 +5,7 @@ mod turns;
 pub use turns::dump_list_core;
 pub use turns::dump_type_core;
 pub use turns::dump_types_core;
+pub use turns::is_current;
 pub use turns::open_core;
 ghost use mathlib.Core.Path.{_≡_};
 ghost use Rattle.session.specs.Calls.{callOf, openCall, typeCall, typesCall};

@@ -62,7 +62,7 @@ pub fn open_core(
 }
 
 // Cause 11 does not hold.
-fn is_current(s: Session, section_len: usize, work_len: usize, text_len: usize) -> bool
+pub fn is_current(s: Session, section_len: usize, work_len: usize, text_len: usize) -> bool
     ensures { λ r. ⌜ r ≡ isCurrent s «section_len» «work_len» «text_len» ⌝ }
 {
     if !s.open {
