@@ -28,6 +28,7 @@ compile readme "$out/readme.c"
 echo "README: its example prints the sample"
 
 python3 tests/traps.py --check
+python3 -B tests/words.py "$library"
 
 shopt -s nullglob
 files=(tests/*.cases oracle/*.cases)

@@ -1,7 +1,7 @@
 // Names in the string area: the bytes from a place up to the first 0.
 use crate::types::Btf;
 use lent::put_byte;
-use lent::put_bytes;
+use lent::put_two;
 ghost use mathlib.Core.Path.{_≡_};
 ghost use Prim.Native.Nat.{_≤_, _-_};
 ghost use lib.ListN.{length, take, drop};
@@ -126,11 +126,11 @@ fn put_escaped_byte(text: &mut [u8], at: usize, c: u8) -> usize
     ensures { λ r. ⌜ putOut r (now (text .exit)) ≡ putText (now (text .entry)) at (whole (escapedByte c)) ⌝ }
 {
     match c {
-        92 => put_bytes(text, at, b"\\\\"),
-        34 => put_bytes(text, at, b"\\\""),
-        10 => put_bytes(text, at, b"\\n"),
-        13 => put_bytes(text, at, b"\\r"),
-        9 => put_bytes(text, at, b"\\t"),
+        92 => put_two(text, at, b'\\', b'\\'),
+        34 => put_two(text, at, b'\\', b'"'),
+        10 => put_two(text, at, b'\\', b'n'),
+        13 => put_two(text, at, b'\\', b'r'),
+        9 => put_two(text, at, b'\\', b't'),
         _ => put_byte(text, at, c),
     }
 }

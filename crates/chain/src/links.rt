@@ -6,7 +6,9 @@ use btf::array_type;
 use btf::kind_of;
 use btf::type_by_id;
 use layout::Ask;
-use lent::put_bytes;
+use lent::put_const;
+use lent::put_restrict;
+use lent::put_volatile;
 ghost use mathlib.Core.Path.{_≡_};
 ghost use mathlib.Core.List.{[]};
 ghost use Rattle.lent.specs.Text.{whole, putOut, putText};
@@ -89,8 +91,8 @@ pub fn put_qualifier(text: &mut [u8], at: usize, kind: u32) -> usize
     ensures { λ r. ⌜ putOut r (now (text .exit)) ≡ putText (now (text .entry)) at (whole (qualifier (qualifierOf kind))) ⌝ }
 {
     match kind {
-        9 => put_bytes(text, at, b"volatile"),
-        10 => put_bytes(text, at, b"const"),
-        _ => put_bytes(text, at, b"restrict"),
+        9 => put_volatile(text, at),
+        10 => put_const(text, at),
+        _ => put_restrict(text, at),
     }
 }

@@ -14,8 +14,8 @@ use enums::put_enum_name;
 use layout::Ask;
 use layout::member_end;
 use lent::put_byte;
-use lent::put_bytes;
 use lent::put_tabs;
+use lent::put_two;
 use lent::stop;
 use names::emit_decl_tags;
 use names::put_keyword;
@@ -106,7 +106,7 @@ pub fn emit_composite_head(
     let name = resolve_type_name(b, section, work, id, t.name_off);
     let a = put_keyword(b, text, at, is_struct(t));
     let c = put_sep_name(b, section, text, a, name);
-    put_bytes(text, c, b" {")
+    put_two(text, c, b' ', b'{')
 }
 
 // The size of a bit field, the member's tags and the semicolon.

@@ -37,8 +37,11 @@ use layout::Ask;
 use layout::Packed;
 use layout::is_struct_packed;
 use lent::put_byte;
-use lent::put_bytes;
+use lent::put_dots;
 use lent::put_tabs;
+use lent::put_two;
+use lent::put_typedef;
+use lent::put_void;
 use lent::stop;
 use lent::stopped;
 use names::Name;
@@ -194,7 +197,7 @@ fn emit_entry(
             named(put_count(text, a, nelems))
         }
         9..=11 => {
-            let a = put_bytes(text, c.at, b" ");
+            let a = put_byte(text, c.at, b' ');
             goes_on(put_qualifier(text, a, kind_of(t.info)), n, false)
         }
         13 => named(emit_function(b, section, work, text, c, d, t, below)),
@@ -267,7 +270,7 @@ fn emit_base(
         8 => put_typedef_name(b, section, work, text, at, id, t.name_off),
         19 => emit_enum64_word(b, section, work, text, at, id, t, lvl),
         2 | 3 | 9..=15 | 17 | 18 => at,
-        _ => put_bytes(text, at, b"void"),
+        _ => put_void(text, at),
     }
 }
 
@@ -336,7 +339,7 @@ fn emit_proto(
         let name = d.name;
         return emit_name(b, section, text, at, name, last_was_ptr);
     }
-    let a = put_bytes(text, at, b" (");
+    let a = put_two(text, at, b' ', b'(');
     let c = emit_type_chain(b, section, work, text, a, d, n, below);
     put_close(text, c)
 }
@@ -406,7 +409,7 @@ fn emit_param(
     };
     let a = put_comma(text, at, k);
     if is_any_more(params.vlen, k, type_id) {
-        return put_bytes(text, a, b"...");
+        return put_dots(text, a);
     }
     emit_type_decl(b, section, work, text, a, d, below)
 }
@@ -541,7 +544,8 @@ pub fn emit_typedef_def(
         name: name,
         lvl: 0,
     };
-    let a = put_bytes(text, at, b"typedef ");
-    let c = emit_type_decl(b, section, work, text, a, d, 512);
-    emit_decl_tags(b, section, work, text, c, id, 4294967295)
+    let a = put_typedef(text, at);
+    let c = put_byte(text, a, b' ');
+    let e = emit_type_decl(b, section, work, text, c, d, 512);
+    emit_decl_tags(b, section, work, text, e, id, 4294967295)
 }

@@ -2,9 +2,11 @@
 use btf::Btf;
 use btf::BtfType;
 use btf::kind_flag_of;
+use lent::put_attribute_start;
 use lent::put_byte;
-use lent::put_bytes;
 use lent::put_decimal;
+use lent::put_packed_name;
+use lent::put_two;
 use names::Name;
 use names::is_blank;
 use names::put_attribute;
@@ -26,7 +28,7 @@ pub fn put_type_tag(b: Btf, section: &[u8], text: &mut [u8], at: usize, t: BtfTy
         text,
         at,
         kind_flag_of(t.info),
-        b"btf_type_tag",
+        false,
         t.name_off,
     )
 }
@@ -37,7 +39,7 @@ pub fn put_star(text: &mut [u8], at: usize, last_was_ptr: bool) -> usize
     if last_was_ptr {
         return put_byte(text, at, b'*');
     }
-    put_bytes(text, at, b" *")
+    put_two(text, at, b' ', b'*')
 }
 
 pub fn put_count(text: &mut [u8], at: usize, nelems: u32) -> usize
@@ -86,7 +88,7 @@ pub fn put_comma(text: &mut [u8], at: usize, k: u32) -> usize
     if k == 0 {
         return at;
     }
-    put_bytes(text, at, b", ")
+    put_two(text, at, b',', b' ')
 }
 
 pub fn put_bit_size(text: &mut [u8], at: usize, bit_size: u32) -> usize
@@ -95,7 +97,7 @@ pub fn put_bit_size(text: &mut [u8], at: usize, bit_size: u32) -> usize
     if bit_size == 0 {
         return at;
     }
-    let a = put_bytes(text, at, b": ");
+    let a = put_two(text, at, b':', b' ');
     put_decimal(text, a, bit_size as u64)
 }
 
@@ -112,7 +114,9 @@ pub fn put_packed(text: &mut [u8], at: usize, packed: bool) -> usize
     ensures { λ r. ⌜ putOut r (now (text .exit)) ≡ putText (now (text .entry)) at (whole (packedText packed)) ⌝ }
 {
     if packed {
-        return put_bytes(text, at, b" __attribute__((packed))");
+        let a = put_attribute_start(text, at);
+        let c = put_packed_name(text, a);
+        return put_two(text, c, b')', b')');
     }
     at
 }

@@ -19,7 +19,7 @@ use decl::emit_composite_def;
 use decl::emit_typedef_def;
 use enums::emit_enum_def;
 use enums::emit_enum64_def;
-use lent::put_bytes;
+use lent::put_three;
 use lent::stop;
 use lent::stopped;
 use names::emit_composite_fwd;
@@ -72,7 +72,7 @@ fn set_fwd_emitted(work: &mut [u8], id: u32)
 fn put_line_end(text: &mut [u8], at: usize) -> usize
     ensures { λ r. ⌜ putOut r (now (text .exit)) ≡ putText (now (text .entry)) at (whole (ascii ";\n\n")) ⌝ }
 {
-    put_bytes(text, at, b";\n\n")
+    put_three(text, at, b';', b'\n', b'\n')
 }
 
 // The definition of a composite, an enum or a forward, as a line.

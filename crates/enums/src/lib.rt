@@ -11,9 +11,12 @@ use btf::member_place;
 use btf::param_place;
 use btf::word;
 use lent::put_byte;
-use lent::put_bytes;
 use lent::put_decimal;
+use lent::put_enum;
 use lent::put_tabs;
+use lent::put_three;
+use lent::put_two;
+use lent::put_ull;
 use names::put_name;
 use names::put_sep_name;
 use names::resolve_name;
@@ -51,7 +54,7 @@ fn put_value64(text: &mut [u8], at: usize, is_signed: bool, v: u64) -> usize
         return put_i64(text, at, as_i64(v));
     }
     let a = put_decimal(text, at, v);
-    put_bytes(text, a, b"ULL")
+    put_ull(text, a)
 }
 
 // A new line, the enumerator's name and an equals sign.
@@ -71,7 +74,7 @@ fn emit_enumerator(
     let a = put_byte(text, at, b'\n');
     let c = put_tabs(text, a, lvl);
     let d = put_name(b, section, text, c, name);
-    put_bytes(text, d, b" = ")
+    put_three(text, d, b' ', b'=', b' ')
 }
 
 // The k-th after the first, or the largest number.
@@ -154,7 +157,7 @@ fn emit_enum_head(
     ensures { λ r. ⌜ outOf r (now (text .exit)) (now (work .exit)) ≡ putSaid (now (text .entry)) at (enumHead (workNaming b) id (strAt b (now (section .entry)) «name_off») (now (work .entry))) ⌝ }
 {
     let name = resolve_type_name(b, section, work, id, name_off);
-    let a = put_bytes(text, at, b"enum");
+    let a = put_enum(text, at);
     put_sep_name(b, section, text, a, name)
 }
 
@@ -194,7 +197,7 @@ pub fn emit_enum_def(
     if values.vlen == 0 {
         return a;
     }
-    let c = put_bytes(text, a, b" {");
+    let c = put_two(text, a, b' ', b'{');
     let d = emit_values(b, section, work, text, c, id, t, deeper(lvl));
     emit_enum_end(text, d, lvl)
 }
@@ -219,7 +222,7 @@ pub fn emit_enum64_def(
     if values.vlen == 0 {
         return a;
     }
-    let c = put_bytes(text, a, b" {");
+    let c = put_two(text, a, b' ', b'{');
     let d = emit_values64(b, section, work, text, c, id, t, deeper(lvl));
     emit_enum_end(text, d, lvl)
 }
@@ -237,6 +240,7 @@ pub fn put_enum_name(
     ensures { λ r. ⌜ outOf r (now (text .exit)) (now (work .exit)) ≡ putSaid (now (text .entry)) at (enumWord (workNaming b) (btfOf b (now (section .entry)) (now (work .entry))) id (strAt b (now (section .entry)) «name_off») (now (work .entry))) ⌝ }
 {
     let name = resolve_type_name(b, section, work, id, name_off);
-    let a = put_bytes(text, at, b"enum ");
-    put_name(b, section, text, a, name)
+    let a = put_enum(text, at);
+    let c = put_byte(text, a, b' ');
+    put_name(b, section, text, c, name)
 }

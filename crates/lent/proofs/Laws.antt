@@ -12,7 +12,7 @@ use borrow.Author.Fill.{fill-more}
 use lib.Seq.{ext-getD, set-out, set-comm, getD-set-same, getD-set-other}
 use lib.Dec.{ltb}
 use borrow.Author.Tests.{lt-ltb, le-ltb}
-use Rattle.lent.specs.Words.{getWord, putWord, wordAt, wordAtBig, wordIn, joinAt, joinBig, setWord, pick, pickList, table, words}
+use Rattle.lent.specs.Words.{getWord, putWord, wordAt, wordAtBig, wordIn, joinAt, joinBig, setWord, pick, pickList, table, words, joinIn, turnedOf}
 
 pub le-or-lt : (a b : ℕ) → (a ≤ b) ⊎ (b < a)
 le-or-lt zero b = inl zero-le
@@ -44,14 +44,47 @@ unfolding wordAtBig
 read-big-out b at h = simp (le-ltb _ _ h)
 
 -- in either order
-module _ (b : List ℕ) (at : ℕ) (big : Bool) (r : ℕ) where
-  pub word-big : big ≡ true → r ≡ wordAtBig b at → r ≡ wordIn big b at
-  unfolding wordIn
-  word-big e f = rw e f
+pub word-inside : (big : Bool) (b : List ℕ) (at : ℕ) → at + 3 < length b → wordIn big b at ≡ joinIn big (getD b at 0) (getD b (at + 1) 0) (getD b (at + 2) 0) (getD b (at + 3) 0)
+unfolding wordIn joinIn
+word-inside true b at h = read-big-in b at h
+word-inside false b at h = read-in b at h
 
-  pub word-little : big ≡ false → r ≡ wordAt b at → r ≡ wordIn big b at
-  unfolding wordIn
-  word-little e f = rw e f
+pub word-outside : (big : Bool) (b : List ℕ) (at : ℕ) → length b ≤ at + 3 → wordIn big b at ≡ 0
+unfolding wordIn
+word-outside true b at h = read-big-out b at h
+word-outside false b at h = read-out b at h
+
+-- turning a word that was joined from bytes
+low-byte : (w a k : ℕ) → a < 256 → w ≡ a + k * 256 → w % 256 ≡ a
+low-byte w a k h e = omega arith
+
+past-one : (w a k : ℕ) → a < 256 → w ≡ a + k * 256 → w / 256 ≡ k
+past-one w a k h e = omega arith
+
+past-two : (w a k : ℕ) → a < 65536 → w ≡ a + k * 65536 → w / 65536 ≡ k
+past-two w a k h e = omega arith
+
+past-three : (w a k : ℕ) → a < 16777216 → w ≡ a + k * 16777216 → w / 16777216 ≡ k
+past-three w a k h e = omega arith
+
+pub turned-join : (w a b c d : ℕ) → a < 256 → b < 256 → c < 256 → d < 256 → w ≡ a + b * 256 + c * 65536 + d * 16777216 → turnedOf w ≡ d + c * 256 + b * 65536 + a * 16777216
+unfolding turnedOf
+turned-join w a b c d ha hb hc hd e =
+    let q₁ : w / 256 ≡ b + (c + d * 256) * 256 = past-one w a (b + (c + d * 256) * 256) ha (e ∙ omega arith) in
+    let q₂ : w / 65536 ≡ c + d * 256 = past-two w (a + b * 256) (c + d * 256) (omega arith) (e ∙ omega arith) in
+    let e₀ : w % 256 ≡ a = low-byte w a (b + (c + d * 256) * 256) ha (e ∙ omega arith) in
+    let e₁ : w / 256 % 256 ≡ b = low-byte (w / 256) b (c + d * 256) hb q₁ in
+    let e₂ : w / 65536 % 256 ≡ c = low-byte (w / 65536) c d hc q₂ in
+    let e₃ : w / 16777216 ≡ d = past-three w (a + b * 256 + c * 65536) d (omega arith) e in
+    (λ i. e₀ i * 16777216 + e₁ i * 65536 + e₂ i * 256 + e₃ i) ∙ omega arith
+
+pub join-big : (big : Bool) (r w a b c d : ℕ) → big ≡ true → a < 256 → b < 256 → c < 256 → d < 256 → w ≡ a + b * 256 + c * 65536 + d * 16777216 → r ≡ turnedOf w → r ≡ joinIn big a b c d
+unfolding joinIn
+join-big big r w a b c d o ha hb hc hd e f = rw o (f ∙ turned-join w a b c d ha hb hc hd e)
+
+pub join-little : (big : Bool) (w a b c d : ℕ) → big ≡ false → w ≡ a + b * 256 + c * 65536 + d * 16777216 → w ≡ joinIn big a b c d
+unfolding joinIn
+join-little big w a b c d o e = rw o e
 
 pub put-in : (b : List ℕ) (i v : ℕ) → i < length b / 4 → putWord b i v ≡ setWord b (i * 4) v
 unfolding putWord

@@ -4,3 +4,4 @@ pub mod TextLaws
 pub mod DecimalLaws
 pub mod Digits
 pub mod ThreeLaws
+pub mod FixedLaws

@@ -6,11 +6,11 @@ use mathlib.Core.List.{List, [], _∷_, _++_, append-assoc}
 use mathlib.Core.Bool.{true, false}
 use mathlib.Core.Logic.{⊎-elim}
 use native.Mathlib.Omega.{arith}
-use native.Mathlib.Nat.{add-assoc, min-eq-left, min-eq-right, not-suc-le-zero, le-of-suc-le-suc}
+use native.Mathlib.Nat.{add-assoc}
 use native.Mathlib.Numerals.{add-one}
-use lib.ListN.{length, getD, set, take, drop, replicate, length-append, length-drop, length-set, length-replicate}
+use lib.ListN.{length, getD, set, take, drop, replicate, length-append, length-drop, length-set, replicate-append-replicate}
 use lib.Dec.{ltb}
-use lib.Seq.{length-take-le, take-at, take-all, drop-drop, drop-append-add, set-split, append-snoc, paste, paste-zero, paste-suc, take-length}
+use lib.Seq.{length-take-le, take-at, drop-drop, drop-append-add, set-split, append-snoc, paste, paste-zero, paste-suc, take-length}
 use borrow.Author.Tests.{le-leb, lt-leb, lt-ltb, le-ltb, ltb-true, ltb-false}
 use Rattle.lent.proofs.Laws.{le-or-lt}
 use Rattle.lent.specs.Text.{Text, whole, cut, join, bytes, done, stopped, isStopped, putOut, place, written, putText, pfx}
@@ -21,7 +21,7 @@ module _ (t : List ℕ) (at : ℕ) (a : List ℕ) (h : at + length a ≤ length 
       let l : at ≤ length t = omega arith in
       length-append (take at t) a ∙ ap (λ (k : ℕ). k + length a) (length-take-le at t l)
 
-  place-length : length (place t at a) ≡ length t
+  pub place-length : length (place t at a) ≡ length t
   place-length =
       length-append (take at t ++ a) (drop (at + length a) t)
       ∙ omega (arith, head-length, length-drop (at + length a) t)
@@ -61,7 +61,7 @@ pub put-none : (t : List ℕ) (at : ℕ) (x : Text) → at ≤ length t → leng
 unfolding putText
 put-none t at x l h = rw (le-leb at (length t) l, putText, lt-leb (at + length (bytes x)) (length t) h)
 
-whole-is : (t : List ℕ) (at : ℕ) (a : List ℕ) → written t at (whole a) ≡ done (place t at a) (at + length a)
+pub whole-is : (t : List ℕ) (at : ℕ) (a : List ℕ) → written t at (whole a) ≡ done (place t at a) (at + length a)
 unfolding written
 whole-is t at a = refl
 
@@ -206,6 +206,22 @@ put-set t at b h =
     ∙ rw (put-fits t at (whole (b ∷ [])) (omega arith), set-split t at b h, add-one)
     (ap (λ (l : List ℕ). done l (suc at)) (sym (append-snoc (take at t) b (drop (suc at) t))))
 
+-- two bytes stored, and three
+module _ (t : List ℕ) (at a b : ℕ) where
+  pub put-two : at + 1 < length t → putOut (at + 2) (set (set t at a) (at + 1) b) ≡ putText t at (whole (a ∷ b ∷ []))
+  put-two h =
+      let e : at + 2 ≡ at + 1 + 1 = omega arith in
+      put-seq t at (a ∷ []) (b ∷ []) (at + 1) (set t at a) (at + 2) (set (set t at a) (at + 1) b)
+      (put-set t at a (omega arith))
+      (ap (λ (n : ℕ). putOut n (set (set t at a) (at + 1) b)) e ∙ put-set (set t at a) (at + 1) b (simp length-set h))
+
+  pub put-three : (c : ℕ) → at + 2 < length t → putOut (at + 3) (set (set (set t at a) (at + 1) b) (at + 2) c) ≡ putText t at (whole (a ∷ b ∷ c ∷ []))
+  put-three c h =
+      let e : at + 3 ≡ at + 2 + 1 = omega arith in
+      put-seq t at (a ∷ b ∷ []) (c ∷ []) (at + 2) (set (set t at a) (at + 1) b) (at + 3) (set (set (set t at a) (at + 1) b) (at + 2) c)
+      (put-two (omega arith))
+      (ap (λ (n : ℕ). putOut n (set (set (set t at a) (at + 1) b) (at + 2) c)) e ∙ put-set (set (set t at a) (at + 1) b) (at + 2) c (simp length-set h))
+
 -- t with the first j elements of s from `at` on: shut, so that the answers of a loop find its arguments
 pub copied : List ℕ → ℕ → List ℕ → ℕ → List ℕ
 copied t at s j = paste t at s j
@@ -244,21 +260,17 @@ not-stopped t at e = ltb-false (length t) at (stopped-is t at ∙ e)
 
 -- ---- tabs
 
-take-replicate : (n m b : ℕ) → take n (replicate m b) ≡ replicate (min n m) b
-take-replicate n m b =
-    ⊎-elim
-    (λ l. rw (min-eq-left {n = n} {m = m} l) (less n m l))
-    (λ l. let h : m ≤ n = omega arith in rw (min-eq-right {n = m} {m = n} h) (take-all n (replicate m b) (simp length-replicate h)))
-    (le-or-lt n m)
-  where
-    less : (n m : ℕ) → n ≤ m → take n (replicate m b) ≡ replicate n b
-    less zero m h = refl
-    less (suc n) zero h = absurd (not-suc-le-zero h)
-    less (suc n) (suc m) h = ap (λ (l : List ℕ). b ∷ l) (less n m (le-of-suc-le-suc h))
+-- one tab more
+pub tab-more : (t₀ : List ℕ) (at k : ℕ) (t : List ℕ) (p : ℕ) (u : List ℕ) (r : ℕ)
+    → putOut p t ≡ putText t₀ at (whole (replicate k 9)) → putOut r u ≡ putText t p (whole (9 ∷ [])) → putOut r u ≡ putText t₀ at (whole (replicate (k + 1) 9))
+tab-more t₀ at k t p u r e₁ e₂ =
+    put-same t₀ at (replicate k 9 ++ 9 ∷ []) (replicate (k + 1) 9) r u
+    (replicate-append-replicate k 1 9)
+    (put-seq t₀ at (replicate k 9) (9 ∷ []) p t r u e₁ e₂)
 
-pub pfx-is : (lvl : ℕ) → take lvl (replicate 12 9) ≡ pfx lvl
+pub tabs-all : (lvl n k : ℕ) → n ≡ min lvl 12 → k ≡ n → replicate k 9 ≡ pfx lvl
 unfolding pfx
-pfx-is lvl = take-replicate lvl 12 9
+tabs-all lvl n k e q = ap (λ (m : ℕ). replicate m 9) (q ∙ e)
 
 pub pfx-one : (lvl : ℕ) → lvl ≡ 1 → 9 ∷ [] ≡ pfx lvl
 unfolding pfx

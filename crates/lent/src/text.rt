@@ -2,8 +2,8 @@
 // refusal c. From such a place nothing is written, and it stays: so an emitter is straight code, and only whoever asked
 // for the text looks whether it was stopped.
 ghost use mathlib.Core.Path.{_≡_};
+ghost use Prim.Native.Nat.{min};
 ghost use mathlib.Core.List.{_∷_, []};
-ghost use lib.ListN.{take};
 ghost use Rattle.lent.specs.Text.{whole, cut, isStopped, putOut, putText, pfx};
 
 // Whether the writing was stopped.
@@ -55,15 +55,42 @@ pub fn put_byte(text: &mut [u8], at: usize, b: u8) -> usize
     at + 1
 }
 
-// Writes the first n bytes of src, or all where it has fewer.
-fn put_first(text: &mut [u8], at: usize, src: &[u8], n: usize) -> usize
-    ensures { λ r. ⌜ putOut r (now (text .exit)) ≡ putText (now (text .entry)) at (whole (take n (now (src .entry)))) ⌝ }
+// Writes two bytes.
+pub fn put_two(text: &mut [u8], at: usize, a: u8, b: u8) -> usize
+    ensures { λ r. ⌜ putOut r (now (text .exit)) ≡ putText (now (text .entry)) at (whole (a ∷ b ∷ [])) ⌝ }
 {
-    if n < src.len() {
-        put_bytes(text, at, &src[..n])
-    } else {
-        put_bytes(text, at, src)
+    if text.len() < at {
+        return at;
     }
+    if text.len() - at < 2 {
+        return text.len() + 18;
+    }
+    text[at] = a;
+    text[at + 1] = b;
+    at + 2
+}
+
+// Writes three bytes.
+pub fn put_three(text: &mut [u8], at: usize, a: u8, b: u8, c: u8) -> usize
+    ensures { λ r. ⌜ putOut r (now (text .exit)) ≡ putText (now (text .entry)) at (whole (a ∷ b ∷ c ∷ [])) ⌝ }
+{
+    if text.len() < at {
+        return at;
+    }
+    if text.len() - at < 3 {
+        return text.len() + 18;
+    }
+    text[at] = a;
+    text[at + 1] = b;
+    text[at + 2] = c;
+    at + 3
+}
+
+// How many tabs a level has.
+fn tabs(lvl: u32) -> u32
+    ensures { λ r. ⌜ r ≡ min lvl 12 ⌝ }
+{
+    if lvl < 12 { lvl } else { 12 }
 }
 
 // pfx: a tab for each level, at most 12. (Most lines stand at level 1.)
@@ -73,5 +100,12 @@ pub fn put_tabs(text: &mut [u8], at: usize, lvl: u32) -> usize
     if lvl == 1 {
         return put_byte(text, at, b'\t');
     }
-    put_first(text, at, b"\t\t\t\t\t\t\t\t\t\t\t\t", lvl as usize)
+    let n = tabs(lvl);
+    let mut p = at;
+    let mut k: u32 = 0;
+    while k < n {
+        p = put_byte(text, p, b'\t');
+        k += 1;
+    }
+    p
 }

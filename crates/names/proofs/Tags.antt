@@ -7,6 +7,7 @@ use native.Mathlib.Omega.{arith}
 use borrow.Author.Tests.{lt-ltb, le-ltb, ne-eqb, eq-eqb}
 use lib.Dec.{ltb, eqb}
 use Rattle.lent.specs.Text.{ascii, whole, putOut, putText, join}
+use Rattle.lent.specs.Fixed.{tagName}
 use Rattle.lent.proofs.TextLaws.{put-seq, put-same, put-empty, join-on}
 use Rattle.rules.specs.Types.{BtfType, Void, Int, Ptr, Array, Composite, Enum, Enum64, Fwd, Typedef, Mod, Func, Var, Datasec, FuncProto, Float, DeclTag, TypeTag, Btf as Rules}
 use Rattle.rules.specs.Names.{escaped}
@@ -18,6 +19,14 @@ use Rattle.btf.specs.Names.{strAt}
 use Rattle.btf.specs.Records.{kindOf, flagOf, recordById}
 use Rattle.btf.specs.Table.{typeOf, recordName, extraWord, tagsFrom, tagsOf, btfOf}
 use Rattle.btf.proofs.KindLaws.{by-kind, type-0, type-1, type-2, type-3, type-4, type-5, type-6, type-7, type-8, type-9, type-10, type-11, type-12, type-13, type-14, type-15, type-16, type-17, type-18, type-19, type-none}
+
+-- ---- put_tag_name
+module _ (t : List ℕ) (at r : ℕ) (u : List ℕ) (is-decl : Bool) where
+  pub put-decl-name : is-decl ≡ true → putOut r u ≡ putText t at (whole (ascii "btf_decl_tag")) → putOut r u ≡ putText t at (whole (tagName is-decl))
+  put-decl-name h e = rw h e
+
+  pub put-type-name : is-decl ≡ false → putOut r u ≡ putText t at (whole (ascii "btf_type_tag")) → putOut r u ≡ putText t at (whole (tagName is-decl))
+  put-type-name h e = rw h e
 
 -- ---- put_attribute
 module _ (t : List ℕ) (at r : ℕ) (u : List ℕ) (word name : List ℕ) where

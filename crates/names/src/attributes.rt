@@ -7,35 +7,50 @@ use btf::kind_flag_of;
 use btf::kind_of;
 use btf::put_escaped;
 use btf::type_by_id;
+use lent::put_attribute_start;
 use lent::put_bytes;
+use lent::put_decl_tag;
+use lent::put_two;
+use lent::put_type_tag;
 ghost use mathlib.Core.Path.{_≡_};
 ghost use Rattle.lent.specs.Text.{whole, putOut, putText};
+ghost use Rattle.lent.specs.Fixed.{tagName};
 ghost use Rattle.rules.specs.Decl.{attribute, declTag, declTags};
 ghost use Rattle.btf.specs.Names.{strAt};
 ghost use Rattle.btf.specs.Table.{btfOf};
 
-// What a tag prints: its name as an attribute of its own, or in the attribute `word`.
+fn put_tag_name(text: &mut [u8], at: usize, is_decl: bool) -> usize
+    ensures { λ r. ⌜ putOut r (now (text .exit)) ≡ putText (now (text .entry)) at (whole (tagName «is_decl»)) ⌝ }
+{
+    if is_decl {
+        return put_decl_tag(text, at);
+    }
+    put_type_tag(text, at)
+}
+
+// What a tag prints: its name as an attribute of its own, or in the attribute of its kind.
 pub fn put_attribute(
     b: Btf,
     section: &[u8],
     text: &mut [u8],
     at: usize,
     is_attr: bool,
-    word: &[u8],
+    is_decl: bool,
     name_off: u32,
 ) -> usize
-    ensures { λ r. ⌜ putOut r (now (text .exit)) ≡ putText (now (text .entry)) at (whole (attribute «is_attr» (now (word .entry)) (strAt b (now (section .entry)) «name_off»))) ⌝ }
+    ensures { λ r. ⌜ putOut r (now (text .exit)) ≡ putText (now (text .entry)) at (whole (attribute «is_attr» (tagName «is_decl») (strAt b (now (section .entry)) «name_off»))) ⌝ }
 {
-    let a = put_bytes(text, at, b" __attribute__((");
+    let a = put_attribute_start(text, at);
     let name = get_btf_str(b, section, name_off);
     if is_attr {
         let c = put_bytes(text, a, name);
-        return put_bytes(text, c, b"))");
+        return put_two(text, c, b')', b')');
     }
-    let d = put_bytes(text, a, word);
-    let e = put_bytes(text, d, b"(\"");
+    let d = put_tag_name(text, a, is_decl);
+    let e = put_two(text, d, b'(', b'"');
     let f = put_escaped(text, e, name);
-    put_bytes(text, f, b"\")))")
+    let g = put_two(text, f, b'"', b')');
+    put_two(text, g, b')', b')')
 }
 
 // The DECL_TAG id, if its component is the one asked for.
@@ -57,15 +72,7 @@ fn emit_decl_tag(
     if comp_idx_of(b, section, t) != comp_idx {
         return at;
     }
-    put_attribute(
-        b,
-        section,
-        text,
-        at,
-        kind_flag_of(t.info),
-        b"btf_decl_tag",
-        t.name_off,
-    )
+    put_attribute(b, section, text, at, kind_flag_of(t.info), true, t.name_off)
 }
 
 // The tags of a type, those of the whole (4294967295, which is -1) or of one member, in the order of their ids. The list

@@ -4,7 +4,9 @@ use crate::versions::resolve_type_name;
 use btf::Btf;
 use btf::is_builtin;
 use lent::put_byte;
-use lent::put_bytes;
+use lent::put_struct;
+use lent::put_struct_union;
+use lent::put_union;
 ghost use mathlib.Core.Path.{_≡_};
 ghost use mathlib.Core.List.{[]};
 ghost use Rattle.lent.specs.Text.{whole, putOut, putText};
@@ -18,12 +20,12 @@ pub fn put_keyword(b: Btf, text: &mut [u8], at: usize, is_struct: bool) -> usize
     ensures { λ r. ⌜ putOut r (now (text .exit)) ≡ putText (now (text .entry)) at (whole (keyword (btfOf b [] []) «is_struct»)) ⌝ }
 {
     if is_struct {
-        return put_bytes(text, at, b"struct");
+        return put_struct(text, at);
     }
     if b.union_as_struct {
-        return put_bytes(text, at, b"struct /*union*/");
+        return put_struct_union(text, at);
     }
-    put_bytes(text, at, b"union")
+    put_union(text, at)
 }
 
 // The keyword and the name; nothing for the compiler's own type.

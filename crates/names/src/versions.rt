@@ -6,8 +6,8 @@ use btf::is_empty;
 use btf::put_field;
 use btf::put_str;
 use lent::put_byte;
-use lent::put_bytes;
 use lent::put_decimal;
+use lent::put_underscores;
 ghost use mathlib.Core.Path.{_≡_};
 ghost use Rattle.lent.specs.Text.{whole, putOut, putText};
 ghost use Rattle.rules.specs.Writer.{put};
@@ -77,7 +77,7 @@ pub fn put_name(b: Btf, section: &[u8], text: &mut [u8], at: usize, name: Name) 
     if name.version < 2 {
         return a;
     }
-    let c = put_bytes(text, a, b"___");
+    let c = put_underscores(text, a);
     put_decimal(text, c, name.version as u64)
 }
 

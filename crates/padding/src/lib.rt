@@ -5,9 +5,13 @@ use layout::Ask;
 use layout::chip_away_bits;
 use layout::get_align_of;
 use lent::put_byte;
-use lent::put_bytes;
+use lent::put_char;
 use lent::put_decimal;
+use lent::put_int;
+use lent::put_long;
+use lent::put_short;
 use lent::put_tabs;
+use lent::put_two;
 use lent::stop;
 use lent::stopped;
 ghost use mathlib.Core.Path.{_≡_};
@@ -78,10 +82,10 @@ fn put_unit(text: &mut [u8], at: usize, unit: u32) -> usize
     ensures { λ r. ⌜ putOut r (now (text .exit)) ≡ putText (now (text .entry)) at (whole (unitWord (unitOf unit))) ⌝ }
 {
     match unit {
-        3 => put_bytes(text, at, b"long"),
-        2 => put_bytes(text, at, b"int"),
-        1 => put_bytes(text, at, b"short"),
-        _ => put_bytes(text, at, b"char"),
+        3 => put_long(text, at),
+        2 => put_int(text, at),
+        1 => put_short(text, at),
+        _ => put_char(text, at),
     }
 }
 
@@ -91,7 +95,7 @@ fn put_pad(text: &mut [u8], at: usize, pad: Pad, lvl: u32) -> usize
     let a = put_byte(text, at, b'\n');
     let c = put_tabs(text, a, lvl);
     let d = put_unit(text, c, pad.unit);
-    let e = put_bytes(text, d, b": ");
+    let e = put_two(text, d, b':', b' ');
     let f = put_decimal(text, e, pad.width as u64);
     put_byte(text, f, b';')
 }

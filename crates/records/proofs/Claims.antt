@@ -1,6 +1,6 @@
 -- The theorems about records, each with the sentence of Documentation/bpf/btf.rst that it is about. They speak of `specs/` alone: `Documentation` is the
 -- page, `Reading` and `Section` read bytes, `Places` reads words at places as code does, `Fields` names the fields. No theorem assumes anything
--- beside its premises.
+-- beside its premises. Each holds for both orders of bytes: for any order `big`, or for the one that the section's magic tells.
 use Prim.Native.Nat.{ℕ, _+_, _*_, _/_, _%_, _<_, _≤_, _^_}
 use mathlib.Core.Path.{_≡_, ap, _∙_}
 use mathlib.Core.Bool.{Bool, true, false, _||_}

@@ -14,7 +14,7 @@ use mir.Syntax.{Width, w32, w64}
 use mir.Val.{bits, hbits, Fits, SFits, toZ, ofZ}
 use mir.ValLaws.{toZ-ofZ, toZ-pos, pow-bits}
 use Rattle.lent.specs.Text.{ascii}
-use Rattle.lent.specs.Decimal.{decimal}
+use Rattle.lent.specs.Decimal.{decimal, digits}
 use Rattle.signed.specs.Signed.{twos, signed, signedLL}
 
 -- ---- as_i32, as_i64: two's complement
@@ -142,3 +142,8 @@ suffix (negsuc n) e =
 
 pub other : (v : ℤ) → SFits w64 v → (ofZ w64 v ≡ 9223372036854775808 → ⊥) → signed (toZ w64 (ofZ w64 v)) ++ ascii "LL" ≡ signedLL v
 other v f e = ap (λ (z : ℤ). signed z ++ ascii "LL") (toZ-ofZ w64 v f) ∙ suffix v e
+
+-- ---- put_least: its parts are what <stdint.h> has
+pub least-parts : ascii "(-" ++ decimal 9223372036854775807 ++ ascii "LL" ++ ascii " - 1)" ≡ ascii "(-9223372036854775807LL - 1)"
+unfolding decimal digits
+least-parts = refl

@@ -1,9 +1,12 @@
 // Numbers that have a sign, from their bits and in decimal.
-use lent::put_bytes;
+use lent::put_byte;
 use lent::put_decimal;
+use lent::put_ll;
+use lent::put_minus_one;
+use lent::put_two;
 ghost use mathlib.Core.Path.{_≡_};
 ghost use lib.IntN.{natAbs};
-ghost use Rattle.lent.specs.Text.{whole, putOut, putText};
+ghost use Rattle.lent.specs.Text.{ascii, whole, putOut, putText};
 ghost use Rattle.signed.specs.Signed.{twos, signed, signedLL};
 
 // The number of 32 bits in two's complement.
@@ -41,7 +44,7 @@ fn put_signed(text: &mut [u8], at: usize, v: i64) -> usize
     ensures { λ r. ⌜ putOut r (now (text .exit)) ≡ putText (now (text .entry)) at (whole (signed v)) ⌝ }
 {
     if v < 0 {
-        let a = put_bytes(text, at, b"-");
+        let a = put_byte(text, at, b'-');
         return put_decimal(text, a, magnitude(v));
     }
     put_decimal(text, at, magnitude(v))
@@ -54,14 +57,23 @@ pub fn put_i32(text: &mut [u8], at: usize, v: i32) -> usize
     put_signed(text, at, v as i64)
 }
 
-// Writes v as a C constant of type long long. The least value has no such constant, and is spelled as <stdint.h> spells
-// INT64_MIN.
+// The least number as <stdint.h> spells INT64_MIN: less 1 than the one above it.
+fn put_least(text: &mut [u8], at: usize) -> usize
+    ensures { λ r. ⌜ putOut r (now (text .exit)) ≡ putText (now (text .entry)) at (whole (ascii "(-9223372036854775807LL - 1)")) ⌝ }
+{
+    let a = put_two(text, at, b'(', b'-');
+    let c = put_decimal(text, a, 9223372036854775807);
+    let d = put_ll(text, c);
+    put_minus_one(text, d)
+}
+
+// Writes v as a C constant of type long long. The least value has no such constant.
 pub fn put_i64(text: &mut [u8], at: usize, v: i64) -> usize
     ensures { λ r. ⌜ putOut r (now (text .exit)) ≡ putText (now (text .entry)) at (whole (signedLL v)) ⌝ }
 {
     if v == -9223372036854775808 {
-        return put_bytes(text, at, b"(-9223372036854775807LL - 1)");
+        return put_least(text, at);
     }
     let a = put_signed(text, at, v);
-    put_bytes(text, a, b"LL")
+    put_ll(text, a)
 }

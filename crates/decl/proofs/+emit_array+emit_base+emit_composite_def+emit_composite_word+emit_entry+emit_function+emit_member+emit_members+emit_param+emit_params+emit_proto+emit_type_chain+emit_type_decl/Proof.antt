@@ -96,7 +96,9 @@ use Rattle.decl.proofs.words.put_type_tag.Reads as put-type-tag-reads
 use Rattle.enums.proofs.deeper.Reads as deeper-reads
 use Rattle.layout.proofs.is_struct_packed.Reads as is-struct-packed-reads
 use Rattle.lent.proofs.put_byte.Reads as put-byte-reads
-use Rattle.lent.proofs.put_bytes.Reads as put-bytes-reads
+use Rattle.lent.proofs.put_dots.Reads as put-dots-reads
+use Rattle.lent.proofs.put_two.Reads as put-two-reads
+use Rattle.lent.proofs.put_void.Reads as put-void-reads
 use Rattle.lent.proofs.put_tabs.Reads as put-tabs-reads
 use Rattle.lent.proofs.stop.Reads as stop-reads
 use Rattle.lent.proofs.stopped.Reads as stopped-reads
@@ -328,8 +330,8 @@ emit-base-claims t = (
   emit-enum64-word-reads.Learnt,
   emit-composite-word-below t,
   emit-composite-word.Post,
-  put-bytes-reads.Asked,
-  put-bytes-reads.Learnt,
+  put-void-reads.Asked,
+  put-void-reads.Learnt,
 )
 
 abbrev emit-composite-def-claims : ℕ → emit-composite-def-lts.Claims
@@ -392,8 +394,8 @@ emit-entry-claims t = (
   emit-mods-reads.Learnt,
   put-type-tag-reads.Asked,
   put-type-tag-reads.Learnt,
-  put-bytes-reads.Asked,
-  put-bytes-reads.Learnt,
+  put-byte-reads.Asked,
+  put-byte-reads.Learnt,
   put-qualifier-reads.Asked,
   put-qualifier-reads.Learnt,
   emit-base-below t,
@@ -454,8 +456,8 @@ emit-param-claims t = (
   put-comma-reads.Learnt,
   is-any-more-reads.Asked,
   is-any-more-reads.Learnt,
-  put-bytes-reads.Asked,
-  put-bytes-reads.Learnt,
+  put-dots-reads.Asked,
+  put-dots-reads.Learnt,
   emit-type-decl-below t,
   emit-type-decl.Post,
 )
@@ -478,8 +480,8 @@ abbrev emit-proto-claims : ℕ → emit-proto-lts.Claims
 emit-proto-claims t = (
   emit-name-reads.Asked,
   emit-name-reads.Learnt,
-  put-bytes-reads.Asked,
-  put-bytes-reads.Learnt,
+  put-two-reads.Asked,
+  put-two-reads.Learnt,
   emit-type-chain-below t,
   emit-type-chain.Post,
   put-close-reads.Asked,
@@ -579,11 +581,8 @@ emit-base-emit-enum64-word-requires t c κs = search needs
 emit-base-emit-composite-word-requires : (t : ℕ) → emit-base-lts.Need-emit-composite-word-requires (emit-base-claims t) (emit-base-at t) emit-base.Post
 emit-base-emit-composite-word-requires t c κs = (omega arith, tt)
 
-emit-base-slice-aggregate-put-bytes : (t : ℕ) → emit-base-lts.Need-slice-aggregate-put-bytes (emit-base-claims t) (emit-base-at t) emit-base.Post
-emit-base-slice-aggregate-put-bytes t c = search needs
-
-emit-base-put-bytes-requires : (t : ℕ) → emit-base-lts.Need-put-bytes-requires (emit-base-claims t) (emit-base-at t) emit-base.Post
-emit-base-put-bytes-requires t c κs = search needs
+emit-base-put-void-requires : (t : ℕ) → emit-base-lts.Need-put-void-requires (emit-base-claims t) (emit-base-at t) emit-base.Post
+emit-base-put-void-requires t c κs = search needs
 
 emit-base-same-length : (t : ℕ) → emit-base-lts.Need-same-length (emit-base-claims t) (emit-base-at t) emit-base.Post
 emit-base-same-length t c = search needs
@@ -646,7 +645,7 @@ emit-base-same-length-12 : (t : ℕ) → emit-base-lts.Need-same-length-12 (emit
 emit-base-same-length-12 t c = search needs
 
 emit-base-returns-9 : (t : ℕ) → emit-base-lts.Need-returns-9 (emit-base-claims t) (emit-base-at t) emit-base.Post
-emit-base-returns-9 t c = entries.word-void _ _ _ _ _ _ _ _ (c .before .before .before .before .before .before .before .kind-of .ensures) _ _ _ _ _ (c .before .before .before .before .before .before .match .rest .1) (⊎-elim (λ x. inl (x .taken)) (λ x. inr (x .3 .left)) (c .before .before .before .before .before .if1 .came)) (c .before .before .put-bytes .ensures)
+emit-base-returns-9 t c = entries.word-void _ _ _ _ _ _ _ _ (c .before .before .before .before .before .before .kind-of .ensures) _ _ _ _ _ (c .before .before .before .before .before .match .rest .1) (⊎-elim (λ x. inl (x .taken)) (λ x. inr (x .3 .left)) (c .before .before .before .before .if1 .came)) (c .before .before .put-void .ensures)
 
 emit-composite-def-stop-requires : (t : ℕ) → emit-composite-def-lts.Need-stop-requires (emit-composite-def-claims t) (emit-composite-def-at t) emit-composite-def.Post
 emit-composite-def-stop-requires t c κs = search needs
@@ -893,11 +892,8 @@ emit-entry-put-type-tag-requires t c κs = search needs
 emit-entry-goes-on-requires-2 : (t : ℕ) → emit-entry-lts.Need-goes-on-requires-2 (emit-entry-claims t) (emit-entry-at t) emit-entry.Post
 emit-entry-goes-on-requires-2 t c κs = search needs
 
-emit-entry-slice-aggregate-put-bytes : (t : ℕ) → emit-entry-lts.Need-slice-aggregate-put-bytes (emit-entry-claims t) (emit-entry-at t) emit-entry.Post
-emit-entry-slice-aggregate-put-bytes t c = search needs
-
-emit-entry-put-bytes-requires : (t : ℕ) → emit-entry-lts.Need-put-bytes-requires (emit-entry-claims t) (emit-entry-at t) emit-entry.Post
-emit-entry-put-bytes-requires t c κs = search needs
+emit-entry-put-byte-requires : (t : ℕ) → emit-entry-lts.Need-put-byte-requires (emit-entry-claims t) (emit-entry-at t) emit-entry.Post
+emit-entry-put-byte-requires t c κs = search needs
 
 emit-entry-kind-of-requires-2 : (t : ℕ) → emit-entry-lts.Need-kind-of-requires-2 (emit-entry-claims t) (emit-entry-at t) emit-entry.Post
 emit-entry-kind-of-requires-2 t c κs = search needs
@@ -963,7 +959,7 @@ emit-entry-same-length-10 : (t : ℕ) → emit-entry-lts.Need-same-length-10 (em
 emit-entry-same-length-10 t c = search needs
 
 emit-entry-returns-5 : (t : ℕ) → emit-entry-lts.Need-returns-5 (emit-entry-claims t) (emit-entry-at t) emit-entry.Post
-emit-entry-returns-5 t c = entries.arm-qual _ _ _ _ _ _ (c .before .before .before .before .before .before .before .before .before .before .before .before .before .before .before .before .before .before .before .before .before .before .before .args .c) _ _ (c .before .before .before .before .before .before .before .before .before .before .before .before .before .before .before .before .before .before .before .before .before .before .before .pre .1) _ (c .before .before .before .before .before .before .before .before .before .before .before .before .before .before .before .before .before .path-at .ensures) _ (c .before .before .before .before .before .before .before .before .before .before .before .before .before .before .before .type-by-id .ensures) _ (c .before .before .before .before .before .before .before .before .before .before .before .before .before .before .kind-of .ensures) _ _ _ _ _ _ (c .before .before .before .before .before .before .before .before .before .before .before .before .if1 .left) (c .before .before .before .before .before .before .before .before .before .before .before .if2 .taken) (c .before .before .before .before .kind-of2 .ensures) (c .before .before .before .before .before .before .before .before .put-bytes .ensures) (c .before .before .before .put-qualifier .ensures) (c .goes-on3 .ensures)
+emit-entry-returns-5 t c = entries.arm-qual _ _ _ _ _ _ (c .before .before .before .before .before .before .before .before .before .before .before .before .before .before .before .before .before .before .before .before .before .before .args .c) _ _ (c .before .before .before .before .before .before .before .before .before .before .before .before .before .before .before .before .before .before .before .before .before .before .pre .1) _ (c .before .before .before .before .before .before .before .before .before .before .before .before .before .before .before .before .path-at .ensures) _ (c .before .before .before .before .before .before .before .before .before .before .before .before .before .before .type-by-id .ensures) _ (c .before .before .before .before .before .before .before .before .before .before .before .before .before .kind-of .ensures) _ _ _ _ _ _ (c .before .before .before .before .before .before .before .before .before .before .before .if1 .left) (c .before .before .before .before .before .before .before .before .before .before .if2 .taken) (c .before .before .before .before .kind-of2 .ensures) (c .before .before .before .before .before .before .before .before .put-byte .ensures) (c .before .before .before .put-qualifier .ensures) (c .goes-on3 .ensures)
 
 emit-entry-same-length-11 : (t : ℕ) → emit-entry-lts.Need-same-length-11 (emit-entry-claims t) (emit-entry-at t) emit-entry.Post
 emit-entry-same-length-11 t c = search needs
@@ -1097,17 +1093,14 @@ emit-param-put-comma-requires t c κs = search needs
 emit-param-is-any-more-requires : (t : ℕ) → emit-param-lts.Need-is-any-more-requires (emit-param-claims t) (emit-param-at t) emit-param.Post
 emit-param-is-any-more-requires t c κs = search needs
 
-emit-param-slice-aggregate-put-bytes : (t : ℕ) → emit-param-lts.Need-slice-aggregate-put-bytes (emit-param-claims t) (emit-param-at t) emit-param.Post
-emit-param-slice-aggregate-put-bytes t c = search needs
-
-emit-param-put-bytes-requires : (t : ℕ) → emit-param-lts.Need-put-bytes-requires (emit-param-claims t) (emit-param-at t) emit-param.Post
-emit-param-put-bytes-requires t c κs = search needs
+emit-param-put-dots-requires : (t : ℕ) → emit-param-lts.Need-put-dots-requires (emit-param-claims t) (emit-param-at t) emit-param.Post
+emit-param-put-dots-requires t c κs = search needs
 
 emit-param-same-length : (t : ℕ) → emit-param-lts.Need-same-length (emit-param-claims t) (emit-param-at t) emit-param.Post
 emit-param-same-length t c = search needs
 
 emit-param-returns : (t : ℕ) → emit-param-lts.Need-returns (emit-param-claims t) (emit-param-at t) emit-param.Post
-emit-param-returns t c = members.param-any _ _ _ _ _ _ _ _ _ _ _ _ (c .before .before .before .before .before .before .before .before .before .before .before .before .before .before .param-place .ensures) (c .before .before .before .before .before .before .before .before .before .before .before .before .before .word .ensures) _ (c .before .before .before .before .before .before .is-any-more .ensures) _ _ (c .before .before .before .before .before .before .before .before .before .put-comma .ensures) _ _ (c .before .before .before .before .before .if1 .taken) (c .before .before .put-bytes .ensures)
+emit-param-returns t c = members.param-any _ _ _ _ _ _ _ _ _ _ _ _ (c .before .before .before .before .before .before .before .before .before .before .before .before .before .param-place .ensures) (c .before .before .before .before .before .before .before .before .before .before .before .before .word .ensures) _ (c .before .before .before .before .before .is-any-more .ensures) _ _ (c .before .before .before .before .before .before .before .before .put-comma .ensures) _ _ (c .before .before .before .before .if1 .taken) (c .before .before .put-dots .ensures)
 
 emit-param-emit-type-decl-requires : (t : ℕ) → emit-param-lts.Need-emit-type-decl-requires (emit-param-claims t) (emit-param-at t) emit-param.Post
 emit-param-emit-type-decl-requires t c κs = (omega arith, tt)
@@ -1181,11 +1174,8 @@ emit-proto-same-length t c = search needs
 emit-proto-returns : (t : ℕ) → emit-proto-lts.Need-returns (emit-proto-claims t) (emit-proto-at t) emit-proto.Post
 emit-proto-returns t c = entries.proto-name _ _ _ _ _ _ _ _ _ _ _ _ _ (c .before .before .before .before .before .if1 .taken) (c .before .before .emit-name .ensures)
 
-emit-proto-slice-aggregate-put-bytes : (t : ℕ) → emit-proto-lts.Need-slice-aggregate-put-bytes (emit-proto-claims t) (emit-proto-at t) emit-proto.Post
-emit-proto-slice-aggregate-put-bytes t c = search needs
-
-emit-proto-put-bytes-requires : (t : ℕ) → emit-proto-lts.Need-put-bytes-requires (emit-proto-claims t) (emit-proto-at t) emit-proto.Post
-emit-proto-put-bytes-requires t c κs = search needs
+emit-proto-put-two-requires : (t : ℕ) → emit-proto-lts.Need-put-two-requires (emit-proto-claims t) (emit-proto-at t) emit-proto.Post
+emit-proto-put-two-requires t c κs = search needs
 
 emit-proto-emit-type-chain-requires : (t : ℕ) → emit-proto-lts.Need-emit-type-chain-requires (emit-proto-claims t) (emit-proto-at t) emit-proto.Post
 emit-proto-emit-type-chain-requires t c κs = (omega arith, tt)
@@ -1200,7 +1190,7 @@ emit-proto-same-length-3 : (t : ℕ) → emit-proto-lts.Need-same-length-3 (emit
 emit-proto-same-length-3 t c = search needs
 
 emit-proto-returns-2 : (t : ℕ) → emit-proto-lts.Need-returns-2 (emit-proto-claims t) (emit-proto-at t) emit-proto.Post
-emit-proto-returns-2 t c = entries.proto-some _ _ _ _ _ _ _ _ _ _ _ (c .before .before .before .before .before .before .before .before .before .before .before .before .before .before .before .before .if1 .left) _ _ _ _ _ _ _ (c .before .before .before .before .before .before .before .before .before .before .before .before .before .put-bytes .ensures) (c .before .before .before .before .before .before .before .before .emit-type-chain .ensures) (c .before .before .put-close .ensures)
+emit-proto-returns-2 t c = entries.proto-some _ _ _ _ _ _ _ _ _ _ _ (c .before .before .before .before .before .before .before .before .before .before .before .before .before .before .before .if1 .left) _ _ _ _ _ _ _ (c .before .before .before .before .before .before .before .before .before .before .before .before .before .put-two .ensures) (c .before .before .before .before .before .before .before .before .emit-type-chain .ensures) (c .before .before .put-close .ensures)
 
 abbrev emit-type-chain-Inv-loop : emit-type-chain-lts.InvT-loop
 emit-type-chain-Inv-loop b section work₀ text₀ at d n left below c₀ work text c = (Leads b section text₀ (c₀ .at) (chainLeft b section below (d .id) (nameText b section (d .name)) (d .lvl) c₀ work₀) text (c .at) (chainLeft b section below (d .id) (nameText b section (d .name)) (d .lvl) c work)) × Clear b section c × (length work ≡ length work₀) × (length text ≡ length text₀)
@@ -1391,8 +1381,8 @@ pub +emit-array+emit-base+emit-composite-def+emit-composite-word+emit-entry+emit
       emit-enum64-word-reads.Learnt,
       emit-composite-word-below t,
       emit-composite-word.Post,
-      put-bytes-reads.Asked,
-      put-bytes-reads.Learnt,
+      put-void-reads.Asked,
+      put-void-reads.Learnt,
     )
     (emit-base-at t)
     emit-base.Post
@@ -1404,8 +1394,7 @@ pub +emit-array+emit-base+emit-composite-def+emit-composite-word+emit-entry+emit
     (emit-base-put-typedef-name-requires t)
     (emit-base-emit-enum64-word-requires t)
     (emit-base-emit-composite-word-requires t)
-    (emit-base-slice-aggregate-put-bytes t)
-    (emit-base-put-bytes-requires t)
+    (emit-base-put-void-requires t)
     (emit-base-same-length t)
     (emit-base-returns t)
     (emit-base-same-length-2 t)
@@ -1520,8 +1509,8 @@ pub +emit-array+emit-base+emit-composite-def+emit-composite-word+emit-entry+emit
       emit-mods-reads.Learnt,
       put-type-tag-reads.Asked,
       put-type-tag-reads.Learnt,
-      put-bytes-reads.Asked,
-      put-bytes-reads.Learnt,
+      put-byte-reads.Asked,
+      put-byte-reads.Learnt,
       put-qualifier-reads.Asked,
       put-qualifier-reads.Learnt,
       emit-base-below t,
@@ -1546,8 +1535,7 @@ pub +emit-array+emit-base+emit-composite-def+emit-composite-word+emit-entry+emit
     (emit-entry-emit-mods-requires t)
     (emit-entry-put-type-tag-requires t)
     (emit-entry-goes-on-requires-2 t)
-    (emit-entry-slice-aggregate-put-bytes t)
-    (emit-entry-put-bytes-requires t)
+    (emit-entry-put-byte-requires t)
     (emit-entry-kind-of-requires-2 t)
     (emit-entry-put-qualifier-requires t)
     (emit-entry-goes-on-requires-3 t)
@@ -1660,8 +1648,8 @@ pub +emit-array+emit-base+emit-composite-def+emit-composite-word+emit-entry+emit
       put-comma-reads.Learnt,
       is-any-more-reads.Asked,
       is-any-more-reads.Learnt,
-      put-bytes-reads.Asked,
-      put-bytes-reads.Learnt,
+      put-dots-reads.Asked,
+      put-dots-reads.Learnt,
       emit-type-decl-below t,
       emit-type-decl.Post,
     )
@@ -1674,8 +1662,7 @@ pub +emit-array+emit-base+emit-composite-def+emit-composite-word+emit-entry+emit
     (emit-param-bare-requires t)
     (emit-param-put-comma-requires t)
     (emit-param-is-any-more-requires t)
-    (emit-param-slice-aggregate-put-bytes t)
-    (emit-param-put-bytes-requires t)
+    (emit-param-put-dots-requires t)
     (emit-param-same-length t)
     (emit-param-returns t)
     (emit-param-emit-type-decl-requires t)
@@ -1716,8 +1703,8 @@ pub +emit-array+emit-base+emit-composite-def+emit-composite-word+emit-entry+emit
     (λ t. emit-proto-lts.spec (
       emit-name-reads.Asked,
       emit-name-reads.Learnt,
-      put-bytes-reads.Asked,
-      put-bytes-reads.Learnt,
+      put-two-reads.Asked,
+      put-two-reads.Learnt,
       emit-type-chain-below t,
       emit-type-chain.Post,
       put-close-reads.Asked,
@@ -1728,8 +1715,7 @@ pub +emit-array+emit-base+emit-composite-def+emit-composite-word+emit-entry+emit
     (emit-proto-emit-name-requires t)
     (emit-proto-same-length t)
     (emit-proto-returns t)
-    (emit-proto-slice-aggregate-put-bytes t)
-    (emit-proto-put-bytes-requires t)
+    (emit-proto-put-two-requires t)
     (emit-proto-emit-type-chain-requires t)
     (emit-proto-put-close-requires t)
     (emit-proto-same-length-2 t)

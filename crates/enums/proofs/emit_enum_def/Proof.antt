@@ -12,7 +12,7 @@ use Rattle.enums.proofs.deeper.Reads as deeper-reads
 use Rattle.enums.proofs.emit_enum_end.Reads as emit-enum-end-reads
 use Rattle.enums.proofs.emit_enum_head.Reads as emit-enum-head-reads
 use Rattle.enums.proofs.emit_values.Reads as emit-values-reads
-use Rattle.lent.proofs.put_bytes.Reads as put-bytes-reads
+use Rattle.lent.proofs.put_two.Reads as put-two-reads
 
 is-builtin-requires : tie.Need-is-builtin-requires
 is-builtin-requires c κs = search needs
@@ -35,11 +35,8 @@ same-length-2 c = search needs
 returns-2 : tie.Need-returns-2
 returns-2 c = def-none (c .before .before .before .before .before .before .before .before .before .before .before .before .before .before .before .args .b) _ _ _ _ _ _ _ _ _ _ _ _ (sym (c .before .before .before .before .before .before .before .before .before .before .before .is-builtin .ensures) ∙ c .before .before .before .before .before .before .before .before .before .before .if1 .left) (c .before .before .before .before .before .before .before .emit-enum-head .ensures) _ (sym (ap (λ (x : Entries). x .vlen) (c .before .before .entries-of .ensures)) ∙ c .if2 .taken)
 
-slice-aggregate-put-bytes : tie.Need-slice-aggregate-put-bytes
-slice-aggregate-put-bytes c = search needs
-
-put-bytes-requires : tie.Need-put-bytes-requires
-put-bytes-requires c κs = search needs
+put-two-requires : tie.Need-put-two-requires
+put-two-requires c κs = search needs
 
 deeper-requires : tie.Need-deeper-requires
 deeper-requires c κs = search needs
@@ -57,8 +54,8 @@ same-length-4 : tie.Need-same-length-4
 same-length-4 c = search needs
 
 returns-3 : tie.Need-returns-3
-returns-3 c = def-some (c .before .before .before .before .before .before .before .before .before .before .before .before .before .before .before .before .before .before .before .before .before .before .before .before .before .before .before .before .before .before .before .before .args .b) _ _ _ _ _ _ _ _ _ _ _ _ (sym (c .before .before .before .before .before .before .before .before .before .before .before .before .before .before .before .before .before .before .before .before .before .before .before .before .before .before .before .before .is-builtin .ensures) ∙ c .before .before .before .before .before .before .before .before .before .before .before .before .before .before .before .before .before .before .before .before .before .before .before .before .before .before .before .if1 .left) (c .before .before .before .before .before .before .before .before .before .before .before .before .before .before .before .before .before .before .before .before .before .before .before .before .emit-enum-head .ensures) _ _ _ _ _ _ _ _ _ _
-    (λ z. c .before .before .before .before .before .before .before .before .before .before .before .before .before .before .before .before .before .if2 .left (ap (λ (x : Entries). x .vlen) (c .before .before .before .before .before .before .before .before .before .before .before .before .before .before .before .before .before .before .before .entries-of .ensures) ∙ z)) (c .before .before .before .before .before .before .before .before .before .deeper .ensures) (c .before .before .before .before .before .before .before .before .before .before .before .before .before .before .put-bytes .ensures) (c .before .before .before .before .before .before .before .before .emit-values .ensures) (c .before .before .emit-enum-end .ensures)
+returns-3 c = def-some (c .before .before .before .before .before .before .before .before .before .before .before .before .before .before .before .before .before .before .before .before .before .before .before .before .before .before .before .before .before .before .before .args .b) _ _ _ _ _ _ _ _ _ _ _ _ (sym (c .before .before .before .before .before .before .before .before .before .before .before .before .before .before .before .before .before .before .before .before .before .before .before .before .before .before .before .is-builtin .ensures) ∙ c .before .before .before .before .before .before .before .before .before .before .before .before .before .before .before .before .before .before .before .before .before .before .before .before .before .before .if1 .left) (c .before .before .before .before .before .before .before .before .before .before .before .before .before .before .before .before .before .before .before .before .before .before .before .emit-enum-head .ensures) _ _ _ _ _ _ _ _ _ _
+    (λ z. c .before .before .before .before .before .before .before .before .before .before .before .before .before .before .before .before .if2 .left (ap (λ (x : Entries). x .vlen) (c .before .before .before .before .before .before .before .before .before .before .before .before .before .before .before .before .before .before .entries-of .ensures) ∙ z)) (c .before .before .before .before .before .before .before .before .before .deeper .ensures) (c .before .before .before .before .before .before .before .before .before .before .before .before .before .before .put-two .ensures) (c .before .before .before .before .before .before .before .before .emit-values .ensures) (c .before .before .emit-enum-end .ensures)
 
 pub emit-enum-def-spec : {M : Type 1} → statement M
 emit-enum-def-spec =
@@ -71,8 +68,7 @@ emit-enum-def-spec =
     same-length
     same-length-2
     returns-2
-    slice-aggregate-put-bytes
-    put-bytes-requires
+    put-two-requires
     deeper-requires
     emit-values-requires
     emit-enum-end-requires

@@ -4,18 +4,15 @@ use Rattle.enums.proofs.emit_enum_head.Statement.{statement}
 use Rattle.enums.proofs.emit_enum_head.Tie as tie
 use Rattle.enums.proofs.emit_enum_head.Reads as reads
 use Rattle.enums.proofs.emit_enum_head.Lts as lts
-use Rattle.lent.proofs.put_bytes.Reads as put-bytes-reads
+use Rattle.lent.proofs.put_enum.Reads as put-enum-reads
 use Rattle.names.proofs.put_sep_name.Reads as put-sep-name-reads
 use Rattle.names.proofs.resolve_type_name.Reads as resolve-type-name-reads
 
 resolve-type-name-requires : tie.Need-resolve-type-name-requires
 resolve-type-name-requires c κs = search needs
 
-slice-aggregate-put-bytes : tie.Need-slice-aggregate-put-bytes
-slice-aggregate-put-bytes c = search needs
-
-put-bytes-requires : tie.Need-put-bytes-requires
-put-bytes-requires c κs = search needs
+put-enum-requires : tie.Need-put-enum-requires
+put-enum-requires c κs = search needs
 
 put-sep-name-requires : tie.Need-put-sep-name-requires
 put-sep-name-requires c κs = search needs
@@ -27,15 +24,14 @@ same-length-2 : tie.Need-same-length-2
 same-length-2 c = search needs
 
 returns : tie.Need-returns
-returns c = head-put (c .before .before .before .before .before .before .before .before .before .before .before .before .before .before .before .before .args .b) _ _ _ _ _ _ _ _ _ _ _ (c .before .before .before .before .before .before .before .before .before .before .before .resolve-type-name .ensures .1) (c .before .before .before .before .before .before .put-bytes .ensures) (c .before .before .put-sep-name .ensures)
+returns c = head-put (c .before .before .before .before .before .before .before .before .before .before .before .before .before .before .before .args .b) _ _ _ _ _ _ _ _ _ _ _ (c .before .before .before .before .before .before .before .before .before .before .resolve-type-name .ensures .1) (c .before .before .before .before .before .before .put-enum .ensures) (c .before .before .put-sep-name .ensures)
 
 pub emit-enum-head-spec : {M : Type 1} → statement M
 emit-enum-head-spec =
     tie.close
     (tie.spec
     resolve-type-name-requires
-    slice-aggregate-put-bytes
-    put-bytes-requires
+    put-enum-requires
     put-sep-name-requires
     same-length
     same-length-2

@@ -6,8 +6,8 @@ use Rattle.enums.proofs.emit_enumerator.Tie as tie
 use Rattle.enums.proofs.emit_enumerator.Reads as reads
 use Rattle.enums.proofs.emit_enumerator.Lts as lts
 use Rattle.lent.proofs.put_byte.Reads as put-byte-reads
-use Rattle.lent.proofs.put_bytes.Reads as put-bytes-reads
 use Rattle.lent.proofs.put_tabs.Reads as put-tabs-reads
+use Rattle.lent.proofs.put_three.Reads as put-three-reads
 use Rattle.names.proofs.put_name.Reads as put-name-reads
 use Rattle.names.proofs.resolve_name.Reads as resolve-name-reads
 
@@ -23,11 +23,8 @@ put-tabs-requires c κs = search needs
 put-name-requires : tie.Need-put-name-requires
 put-name-requires c κs = search needs
 
-slice-aggregate-put-bytes : tie.Need-slice-aggregate-put-bytes
-slice-aggregate-put-bytes c = search needs
-
-put-bytes-requires : tie.Need-put-bytes-requires
-put-bytes-requires c κs = search needs
+put-three-requires : tie.Need-put-three-requires
+put-three-requires c κs = search needs
 
 same-length : tie.Need-same-length
 same-length c = search needs
@@ -36,7 +33,7 @@ same-length-2 : tie.Need-same-length-2
 same-length-2 c = search needs
 
 returns : tie.Need-returns
-returns c = head-is (c .before .before .before .before .before .before .before .before .before .before .before .before .before .before .before .before .before .before .before .before .before .before .before .before .args .b) _ _ _ _ _ _ _ _ _ _ _ _ (c .before .before .before .before .before .before .before .before .before .before .before .before .before .before .before .before .before .before .before .resolve-name .ensures) (put-seq _ _ _ _ _ _ _ _ (put-seq _ _ _ _ _ _ _ _ (put-seq _ _ _ _ _ _ _ _ (c .before .before .before .before .before .before .before .before .before .before .before .before .before .before .before .put-byte .ensures) (c .before .before .before .before .before .before .before .before .before .before .before .put-tabs .ensures)) (c .before .before .before .before .before .before .before .put-name .ensures)) (c .before .before .put-bytes .ensures))
+returns c = head-is (c .before .before .before .before .before .before .before .before .before .before .before .before .before .before .before .before .before .before .before .before .before .before .before .args .b) _ _ _ _ _ _ _ _ _ _ _ _ (c .before .before .before .before .before .before .before .before .before .before .before .before .before .before .before .before .before .before .resolve-name .ensures) (put-seq _ _ _ _ _ _ _ _ (put-seq _ _ _ _ _ _ _ _ (put-seq _ _ _ _ _ _ _ _ (c .before .before .before .before .before .before .before .before .before .before .before .before .before .before .put-byte .ensures) (c .before .before .before .before .before .before .before .before .before .before .put-tabs .ensures)) (c .before .before .before .before .before .before .put-name .ensures)) (c .before .before .put-three .ensures))
 
 pub emit-enumerator-spec : {M : Type 1} → statement M
 emit-enumerator-spec =
@@ -46,8 +43,7 @@ emit-enumerator-spec =
     put-byte-requires
     put-tabs-requires
     put-name-requires
-    slice-aggregate-put-bytes
-    put-bytes-requires
+    put-three-requires
     same-length
     same-length-2
     returns)

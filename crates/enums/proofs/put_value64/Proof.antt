@@ -6,7 +6,7 @@ use Rattle.enums.proofs.put_value64.Tie as tie
 use Rattle.enums.proofs.put_value64.Reads as reads
 use Rattle.enums.proofs.put_value64.Lts as lts
 use Rattle.lent.proofs.put_decimal.Reads as put-decimal-reads
-use Rattle.lent.proofs.put_bytes.Reads as put-bytes-reads
+use Rattle.lent.proofs.put_ull.Reads as put-ull-reads
 use Rattle.signed.proofs.as_i64.Reads as as-i64-reads
 use Rattle.signed.proofs.put_i64.Reads as put-i64-reads
 
@@ -25,17 +25,14 @@ returns c = put-signed64 _ _ _ _ _ _ _ (c .before .before .before .before .befor
 put-decimal-requires : tie.Need-put-decimal-requires
 put-decimal-requires c κs = search needs
 
-slice-aggregate-put-bytes : tie.Need-slice-aggregate-put-bytes
-slice-aggregate-put-bytes c = search needs
-
-put-bytes-requires : tie.Need-put-bytes-requires
-put-bytes-requires c κs = search needs
+put-ull-requires : tie.Need-put-ull-requires
+put-ull-requires c κs = search needs
 
 same-length-2 : tie.Need-same-length-2
 same-length-2 c = search needs
 
 returns-2 : tie.Need-returns-2
-returns-2 c = put-plain64 _ _ _ _ _ _ (c .before .before .before .before .before .before .before .before .before .if1 .left) (put-seq _ _ _ _ _ _ _ _ (c .before .before .before .before .before .before .before .put-decimal .ensures) (c .before .before .put-bytes .ensures))
+returns-2 c = put-plain64 _ _ _ _ _ _ (c .before .before .before .before .before .before .before .before .if1 .left) (put-seq _ _ _ _ _ _ _ _ (c .before .before .before .before .before .before .put-decimal .ensures) (c .before .before .put-ull .ensures))
 
 pub put-value64-spec : {M : Type 1} → statement M
 put-value64-spec =
@@ -46,7 +43,6 @@ put-value64-spec =
     same-length
     returns
     put-decimal-requires
-    slice-aggregate-put-bytes
-    put-bytes-requires
+    put-ull-requires
     same-length-2
     returns-2)

@@ -7,49 +7,36 @@ use Rattle.padding.proofs.put_pad.Reads as reads
 use Rattle.padding.proofs.put_pad.Lts as lts
 use Rattle.lent.proofs.put_decimal.Reads as put-decimal-reads
 use Rattle.lent.proofs.put_byte.Reads as put-byte-reads
-use Rattle.lent.proofs.put_bytes.Reads as put-bytes-reads
 use Rattle.lent.proofs.put_tabs.Reads as put-tabs-reads
+use Rattle.lent.proofs.put_two.Reads as put-two-reads
 use Rattle.padding.proofs.put_unit.Reads as put-unit-reads
 
--- src/lib.rt:87:9
 put-byte-requires : tie.Need-put-byte-requires
 put-byte-requires c κs = search needs
 
--- src/lib.rt:88:9
 put-tabs-requires : tie.Need-put-tabs-requires
 put-tabs-requires c κs = search needs
 
--- src/lib.rt:89:9
 put-unit-requires : tie.Need-put-unit-requires
 put-unit-requires c κs = search needs
 
--- src/lib.rt:90:32
-slice-aggregate-put-bytes : tie.Need-slice-aggregate-put-bytes
-slice-aggregate-put-bytes c = search needs
+put-two-requires : tie.Need-put-two-requires
+put-two-requires c κs = search needs
 
--- src/lib.rt:90:9
-put-bytes-requires : tie.Need-put-bytes-requires
-put-bytes-requires c κs = search needs
-
--- src/lib.rt:91:34
 cast-put-decimal : tie.Need-cast-put-decimal
 cast-put-decimal c = search needs
 
--- src/lib.rt:91:9
 put-decimal-requires : tie.Need-put-decimal-requires
 put-decimal-requires c κs = search needs
 
--- src/lib.rt:92:5
 put-byte-requires-2 : tie.Need-put-byte-requires-2
 put-byte-requires-2 c κs = search needs
 
--- src/lib.rt:84:1
 same-length : tie.Need-same-length
 same-length c = search needs
 
--- src/lib.rt:84:1
 returns : tie.Need-returns
-returns c = put-same _ _ _ _ _ _ (line-is _ _) (put-seq _ _ _ _ _ _ _ _ (put-seq _ _ _ _ _ _ _ _ (put-seq _ _ _ _ _ _ _ _ (put-seq _ _ _ _ _ _ _ _ (put-seq _ _ _ _ _ _ _ _ (c .before .before .before .before .before .before .before .before .before .before .before .before .before .before .before .before .before .before .before .before .before .before .before .before .put-byte .ensures) (c .before .before .before .before .before .before .before .before .before .before .before .before .before .before .before .before .before .before .before .before .put-tabs .ensures)) (c .before .before .before .before .before .before .before .before .before .before .before .before .before .before .before .before .put-unit .ensures)) (c .before .before .before .before .before .before .before .before .before .before .before .put-bytes .ensures)) (c .before .before .before .before .before .before .put-decimal .ensures)) (c .before .before .put-byte2 .ensures))
+returns c = put-same _ _ _ _ _ _ (line-is _ _) (put-seq _ _ _ _ _ _ _ _ (put-seq _ _ _ _ _ _ _ _ (put-seq _ _ _ _ _ _ _ _ (put-seq _ _ _ _ _ _ _ _ (put-seq _ _ _ _ _ _ _ _ (c .before .before .before .before .before .before .before .before .before .before .before .before .before .before .before .before .before .before .before .before .before .before .before .put-byte .ensures) (c .before .before .before .before .before .before .before .before .before .before .before .before .before .before .before .before .before .before .before .put-tabs .ensures)) (c .before .before .before .before .before .before .before .before .before .before .before .before .before .before .before .put-unit .ensures)) (c .before .before .before .before .before .before .before .before .before .before .before .put-two .ensures)) (c .before .before .before .before .before .before .put-decimal .ensures)) (c .before .before .put-byte2 .ensures))
 
 pub put-pad-spec : {M : Type 1} → statement M
 put-pad-spec =
@@ -58,8 +45,7 @@ put-pad-spec =
     put-byte-requires
     put-tabs-requires
     put-unit-requires
-    slice-aggregate-put-bytes
-    put-bytes-requires
+    put-two-requires
     cast-put-decimal
     put-decimal-requires
     put-byte-requires-2

@@ -5,46 +5,39 @@ use Rattle.signed.proofs.put_i64.Statement.{statement}
 use Rattle.signed.proofs.put_i64.Tie as tie
 use Rattle.signed.proofs.put_i64.Reads as reads
 use Rattle.signed.proofs.put_i64.Lts as lts
-use Rattle.lent.proofs.put_bytes.Reads as put-bytes-reads
+use Rattle.lent.proofs.put_ll.Reads as put-ll-reads
+use Rattle.signed.proofs.put_least.Reads as put-least-reads
 use Rattle.signed.proofs.put_signed.Reads as put-signed-reads
 
-slice-aggregate-put-bytes : tie.Need-slice-aggregate-put-bytes
-slice-aggregate-put-bytes c = search needs
-
-put-bytes-requires : tie.Need-put-bytes-requires
-put-bytes-requires c κs = search needs
+put-least-requires : tie.Need-put-least-requires
+put-least-requires c κs = search needs
 
 same-length : tie.Need-same-length
 same-length c = search needs
 
 returns : tie.Need-returns
-returns c = put-same _ _ _ _ _ _ (least _ (c .before .before .before .before .before .before .before .fits .v) (c .before .before .before .before .before .if1 .taken)) (c .before .before .put-bytes .ensures)
+returns c = put-same _ _ _ _ _ _ (least _ (c .before .before .before .before .before .before .fits .v) (c .before .before .before .before .if1 .taken)) (c .before .before .put-least .ensures)
 
 put-signed-requires : tie.Need-put-signed-requires
 put-signed-requires c κs = search needs
 
-slice-aggregate-put-bytes-2 : tie.Need-slice-aggregate-put-bytes-2
-slice-aggregate-put-bytes-2 c = search needs
-
-put-bytes-requires-2 : tie.Need-put-bytes-requires-2
-put-bytes-requires-2 c κs = search needs
+put-ll-requires : tie.Need-put-ll-requires
+put-ll-requires c κs = search needs
 
 same-length-2 : tie.Need-same-length-2
 same-length-2 c = search needs
 
 returns-2 : tie.Need-returns-2
-returns-2 c = put-same _ _ _ _ _ _ (other _ (c .before .before .before .before .before .before .before .before .before .before .before .fits .v) (c .before .before .before .before .before .before .before .before .before .if1 .left)) (put-seq _ _ _ _ _ _ _ _ (c .before .before .before .before .before .before .before .put-signed .ensures) (c .before .before .put-bytes2 .ensures))
+returns-2 c = put-same _ _ _ _ _ _ (other _ (c .before .before .before .before .before .before .before .before .before .before .fits .v) (c .before .before .before .before .before .before .before .before .if1 .left)) (put-seq _ _ _ _ _ _ _ _ (c .before .before .before .before .before .before .put-signed .ensures) (c .before .before .put-ll .ensures))
 
 pub put-i64-spec : {M : Type 1} → statement M
 put-i64-spec =
     tie.close
     (tie.spec
-    slice-aggregate-put-bytes
-    put-bytes-requires
+    put-least-requires
     same-length
     returns
     put-signed-requires
-    slice-aggregate-put-bytes-2
-    put-bytes-requires-2
+    put-ll-requires
     same-length-2
     returns-2)

@@ -6,14 +6,11 @@ use Rattle.signed.proofs.put_signed.Tie as tie
 use Rattle.signed.proofs.put_signed.Reads as reads
 use Rattle.signed.proofs.put_signed.Lts as lts
 use Rattle.lent.proofs.put_decimal.Reads as put-decimal-reads
-use Rattle.lent.proofs.put_bytes.Reads as put-bytes-reads
+use Rattle.lent.proofs.put_byte.Reads as put-byte-reads
 use Rattle.signed.proofs.magnitude.Reads as magnitude-reads
 
-slice-aggregate-put-bytes : tie.Need-slice-aggregate-put-bytes
-slice-aggregate-put-bytes c = search needs
-
-put-bytes-requires : tie.Need-put-bytes-requires
-put-bytes-requires c κs = search needs
+put-byte-requires : tie.Need-put-byte-requires
+put-byte-requires c κs = search needs
 
 magnitude-requires : tie.Need-magnitude-requires
 magnitude-requires c κs = search needs
@@ -25,7 +22,7 @@ same-length : tie.Need-same-length
 same-length c = search needs
 
 returns : tie.Need-returns
-returns c = put-same _ _ _ _ _ _ (with-minus _ (c .before .before .before .before .before .before .before .before .before .before .before .before .fits .v) (c .before .before .before .before .before .before .before .before .before .before .if1 .taken) _ (c .before .before .before .magnitude .ensures)) (put-seq _ _ _ _ _ _ _ _ (c .before .before .before .before .before .before .before .put-bytes .ensures) (c .before .before .put-decimal .ensures))
+returns c = put-same _ _ _ _ _ _ (with-minus _ (c .before .before .before .before .before .before .before .before .before .before .before .fits .v) (c .before .before .before .before .before .before .before .before .before .if1 .taken) _ (c .before .before .before .magnitude .ensures)) (put-seq _ _ _ _ _ _ _ _ (c .before .before .before .before .before .before .before .put-byte .ensures) (c .before .before .put-decimal .ensures))
 
 magnitude-requires-2 : tie.Need-magnitude-requires-2
 magnitude-requires-2 c κs = search needs
@@ -43,8 +40,7 @@ pub put-signed-spec : {M : Type 1} → statement M
 put-signed-spec =
     tie.close
     (tie.spec
-    slice-aggregate-put-bytes
-    put-bytes-requires
+    put-byte-requires
     magnitude-requires
     put-decimal-requires
     same-length

@@ -6,37 +6,22 @@ use Rattle.btf.proofs.strings.put_escaped_byte.Tie as tie
 use Rattle.btf.proofs.strings.put_escaped_byte.Reads as reads
 use Rattle.btf.proofs.strings.put_escaped_byte.Lts as lts
 use Rattle.lent.proofs.put_byte.Reads as put-byte-reads
-use Rattle.lent.proofs.put_bytes.Reads as put-bytes-reads
+use Rattle.lent.proofs.put_two.Reads as put-two-reads
 
-slice-aggregate-put-bytes : tie.Need-slice-aggregate-put-bytes
-slice-aggregate-put-bytes c = search needs
+put-two-requires : tie.Need-put-two-requires
+put-two-requires c κs = search needs
 
-put-bytes-requires : tie.Need-put-bytes-requires
-put-bytes-requires c κs = search needs
+put-two-requires-2 : tie.Need-put-two-requires-2
+put-two-requires-2 c κs = search needs
 
-slice-aggregate-put-bytes-2 : tie.Need-slice-aggregate-put-bytes-2
-slice-aggregate-put-bytes-2 c = search needs
+put-two-requires-3 : tie.Need-put-two-requires-3
+put-two-requires-3 c κs = search needs
 
-put-bytes-requires-2 : tie.Need-put-bytes-requires-2
-put-bytes-requires-2 c κs = search needs
+put-two-requires-4 : tie.Need-put-two-requires-4
+put-two-requires-4 c κs = search needs
 
-slice-aggregate-put-bytes-3 : tie.Need-slice-aggregate-put-bytes-3
-slice-aggregate-put-bytes-3 c = search needs
-
-put-bytes-requires-3 : tie.Need-put-bytes-requires-3
-put-bytes-requires-3 c κs = search needs
-
-slice-aggregate-put-bytes-4 : tie.Need-slice-aggregate-put-bytes-4
-slice-aggregate-put-bytes-4 c = search needs
-
-put-bytes-requires-4 : tie.Need-put-bytes-requires-4
-put-bytes-requires-4 c κs = search needs
-
-slice-aggregate-put-bytes-5 : tie.Need-slice-aggregate-put-bytes-5
-slice-aggregate-put-bytes-5 c = search needs
-
-put-bytes-requires-5 : tie.Need-put-bytes-requires-5
-put-bytes-requires-5 c κs = search needs
+put-two-requires-5 : tie.Need-put-two-requires-5
+put-two-requires-5 c κs = search needs
 
 put-byte-requires : tie.Need-put-byte-requires
 put-byte-requires c κs = search needs
@@ -45,31 +30,31 @@ same-length : tie.Need-same-length
 same-length c = search needs
 
 returns : tie.Need-returns
-returns c = put-same _ _ _ _ _ _ (names.escaped-92 _ (c .before .before .before .before .before .match .keys1)) (c .before .before .put-bytes .ensures)
+returns c = put-same _ _ _ _ _ _ (names.escaped-92 _ (c .before .before .before .before .match .keys1)) (c .before .before .put-two .ensures)
 
 same-length-2 : tie.Need-same-length-2
 same-length-2 c = search needs
 
 returns-2 : tie.Need-returns-2
-returns-2 c = put-same _ _ _ _ _ _ (names.escaped-34 _ (c .before .before .before .before .before .match .keys2)) (c .before .before .put-bytes2 .ensures)
+returns-2 c = put-same _ _ _ _ _ _ (names.escaped-34 _ (c .before .before .before .before .match .keys2)) (c .before .before .put-two2 .ensures)
 
 same-length-3 : tie.Need-same-length-3
 same-length-3 c = search needs
 
 returns-3 : tie.Need-returns-3
-returns-3 c = put-same _ _ _ _ _ _ (names.escaped-10 _ (c .before .before .before .before .before .match .keys3)) (c .before .before .put-bytes3 .ensures)
+returns-3 c = put-same _ _ _ _ _ _ (names.escaped-10 _ (c .before .before .before .before .match .keys3)) (c .before .before .put-two3 .ensures)
 
 same-length-4 : tie.Need-same-length-4
 same-length-4 c = search needs
 
 returns-4 : tie.Need-returns-4
-returns-4 c = put-same _ _ _ _ _ _ (names.escaped-13 _ (c .before .before .before .before .before .match .keys4)) (c .before .before .put-bytes4 .ensures)
+returns-4 c = put-same _ _ _ _ _ _ (names.escaped-13 _ (c .before .before .before .before .match .keys4)) (c .before .before .put-two4 .ensures)
 
 same-length-5 : tie.Need-same-length-5
 same-length-5 c = search needs
 
 returns-5 : tie.Need-returns-5
-returns-5 c = put-same _ _ _ _ _ _ (names.escaped-9 _ (c .before .before .before .before .before .match .keys5)) (c .before .before .put-bytes5 .ensures)
+returns-5 c = put-same _ _ _ _ _ _ (names.escaped-9 _ (c .before .before .before .before .match .keys5)) (c .before .before .put-two5 .ensures)
 
 same-length-6 : tie.Need-same-length-6
 same-length-6 c = search needs
@@ -81,16 +66,11 @@ pub put-escaped-byte-spec : {M : Type 1} → statement M
 put-escaped-byte-spec =
     tie.close
     (tie.spec
-    slice-aggregate-put-bytes
-    put-bytes-requires
-    slice-aggregate-put-bytes-2
-    put-bytes-requires-2
-    slice-aggregate-put-bytes-3
-    put-bytes-requires-3
-    slice-aggregate-put-bytes-4
-    put-bytes-requires-4
-    slice-aggregate-put-bytes-5
-    put-bytes-requires-5
+    put-two-requires
+    put-two-requires-2
+    put-two-requires-3
+    put-two-requires-4
+    put-two-requires-5
     put-byte-requires
     same-length
     returns

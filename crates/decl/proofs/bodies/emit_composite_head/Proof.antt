@@ -6,7 +6,7 @@ use Rattle.decl.proofs.bodies.emit_composite_head.Tie as tie
 use Rattle.decl.proofs.bodies.emit_composite_head.Reads as reads
 use Rattle.decl.proofs.bodies.emit_composite_head.Lts as lts
 use Rattle.btf.proofs.is_struct.Reads as is-struct-reads
-use Rattle.lent.proofs.put_bytes.Reads as put-bytes-reads
+use Rattle.lent.proofs.put_two.Reads as put-two-reads
 use Rattle.names.proofs.put_keyword.Reads as put-keyword-reads
 use Rattle.names.proofs.put_sep_name.Reads as put-sep-name-reads
 use Rattle.names.proofs.resolve_type_name.Reads as resolve-type-name-reads
@@ -23,11 +23,8 @@ put-keyword-requires c κs = search needs
 put-sep-name-requires : tie.Need-put-sep-name-requires
 put-sep-name-requires c κs = search needs
 
-slice-aggregate-put-bytes : tie.Need-slice-aggregate-put-bytes
-slice-aggregate-put-bytes c = search needs
-
-put-bytes-requires : tie.Need-put-bytes-requires
-put-bytes-requires c κs = search needs
+put-two-requires : tie.Need-put-two-requires
+put-two-requires c κs = search needs
 
 same-length : tie.Need-same-length
 same-length c = search needs
@@ -36,7 +33,7 @@ same-length-2 : tie.Need-same-length-2
 same-length-2 c = search needs
 
 returns : tie.Need-returns
-returns c = laws.head-put _ _ _ _ _ _ _ _ _ _ _ _ _ _ _ _ _ (c .before .before .before .before .before .before .before .before .before .before .before .before .before .before .before .before .resolve-type-name .ensures .1) (c .before .before .before .before .before .before .before .before .before .before .before .before .is-struct .ensures) (c .before .before .before .before .before .before .before .before .before .before .before .put-keyword .ensures) (c .before .before .before .before .before .before .before .put-sep-name .ensures) (c .before .before .put-bytes .ensures)
+returns c = laws.head-put _ _ _ _ _ _ _ _ _ _ _ _ _ _ _ _ _ (c .before .before .before .before .before .before .before .before .before .before .before .before .before .before .before .resolve-type-name .ensures .1) (c .before .before .before .before .before .before .before .before .before .before .before .is-struct .ensures) (c .before .before .before .before .before .before .before .before .before .before .put-keyword .ensures) (c .before .before .before .before .before .before .put-sep-name .ensures) (c .before .before .put-two .ensures)
 
 pub emit-composite-head-spec : {M : Type 1} → statement M
 emit-composite-head-spec =
@@ -46,8 +43,7 @@ emit-composite-head-spec =
     is-struct-requires
     put-keyword-requires
     put-sep-name-requires
-    slice-aggregate-put-bytes
-    put-bytes-requires
+    put-two-requires
     same-length
     same-length-2
     returns)

@@ -6,16 +6,13 @@ use Rattle.decl.proofs.words.put_bit_size.Tie as tie
 use Rattle.decl.proofs.words.put_bit_size.Reads as reads
 use Rattle.decl.proofs.words.put_bit_size.Lts as lts
 use Rattle.lent.proofs.put_decimal.Reads as put-decimal-reads
-use Rattle.lent.proofs.put_bytes.Reads as put-bytes-reads
+use Rattle.lent.proofs.put_two.Reads as put-two-reads
 
 returns : tie.Need-returns
 returns c = put-same _ _ _ _ _ _ (laws.size-none _ (c .if1 .taken)) (put-empty _ _)
 
-slice-aggregate-put-bytes : tie.Need-slice-aggregate-put-bytes
-slice-aggregate-put-bytes c = search needs
-
-put-bytes-requires : tie.Need-put-bytes-requires
-put-bytes-requires c κs = search needs
+put-two-requires : tie.Need-put-two-requires
+put-two-requires c κs = search needs
 
 put-decimal-requires : tie.Need-put-decimal-requires
 put-decimal-requires c κs = search needs
@@ -24,15 +21,8 @@ same-length : tie.Need-same-length
 same-length c = search needs
 
 returns-2 : tie.Need-returns-2
-returns-2 c = laws.size-put _ _ _ _ _ _ _ (c .before .before .before .before .before .before .before .before .before .if1 .left) (c .before .before .before .before .before .before .put-bytes .ensures) (c .before .before .put-decimal .ensures)
+returns-2 c = laws.size-put _ _ _ _ _ _ _ (c .before .before .before .before .before .before .before .before .if1 .left) (c .before .before .before .before .before .before .put-two .ensures) (c .before .before .put-decimal .ensures)
 
 pub put-bit-size-spec : {M : Type 1} → statement M
 put-bit-size-spec =
-    tie.close
-    (tie.spec
-    returns
-    slice-aggregate-put-bytes
-    put-bytes-requires
-    put-decimal-requires
-    same-length
-    returns-2)
+    tie.close (tie.spec returns put-two-requires put-decimal-requires same-length returns-2)

@@ -13,9 +13,6 @@ use Rattle.names.proofs.put_attribute.Reads as put-attribute-reads
 kind-flag-of-requires : tie.Need-kind-flag-of-requires
 kind-flag-of-requires c κs = search needs
 
-slice-aggregate-put-attribute : tie.Need-slice-aggregate-put-attribute
-slice-aggregate-put-attribute c = search needs
-
 put-attribute-requires : tie.Need-put-attribute-requires
 put-attribute-requires c κs = search needs
 
@@ -23,14 +20,8 @@ same-length : tie.Need-same-length
 same-length c = search needs
 
 returns : tie.Need-returns
-returns c = laws.tag-put _ _ _ _ _ _ _ _ (c .before .before .before .before .kind-flag-of .ensures) (c .before .before .put-attribute .ensures)
+returns c = laws.tag-put _ _ _ _ _ _ _ _ (c .before .before .before .kind-flag-of .ensures) (c .before .before .put-attribute .ensures)
 
 pub put-type-tag-spec : {M : Type 1} → statement M
 put-type-tag-spec =
-    tie.close
-    (tie.spec
-    kind-flag-of-requires
-    slice-aggregate-put-attribute
-    put-attribute-requires
-    same-length
-    returns)
+    tie.close (tie.spec kind-flag-of-requires put-attribute-requires same-length returns)

@@ -28,9 +28,6 @@ returns-2 c = tag-no-comp _ _ _ _ _ _ (c .before .before .before .before .type-b
 kind-flag-of-requires : tie.Need-kind-flag-of-requires
 kind-flag-of-requires c κs = search needs
 
-slice-aggregate-put-attribute : tie.Need-slice-aggregate-put-attribute
-slice-aggregate-put-attribute c = search needs
-
 put-attribute-requires : tie.Need-put-attribute-requires
 put-attribute-requires c κs = search needs
 
@@ -38,7 +35,7 @@ same-length : tie.Need-same-length
 same-length c = search needs
 
 returns-3 : tie.Need-returns-3
-returns-3 c = tag-shown _ _ _ _ _ _ (c .before .before .before .before .before .before .before .before .before .before .type-by-id .ensures) _ _ _ _ _ _ _ (c .before .before .before .before .before .before .before .before .before .kind-of .ensures) (c .before .before .before .before .before .before .before .before .if1 .left) (c .before .before .before .before .before .before .before .comp-idx-of .ensures) (c .before .before .before .before .before .before .if2 .left) (c .before .before .before .before .kind-flag-of .ensures) (c .before .before .put-attribute .ensures)
+returns-3 c = tag-shown _ _ _ _ _ _ (c .before .before .before .before .before .before .before .before .before .type-by-id .ensures) _ _ _ _ _ _ _ (c .before .before .before .before .before .before .before .before .kind-of .ensures) (c .before .before .before .before .before .before .before .if1 .left) (c .before .before .before .before .before .before .comp-idx-of .ensures) (c .before .before .before .before .before .if2 .left) (c .before .before .before .kind-flag-of .ensures) (c .before .before .put-attribute .ensures)
 
 pub emit-decl-tag-spec : {M : Type 1} → statement M
 emit-decl-tag-spec =
@@ -50,7 +47,6 @@ emit-decl-tag-spec =
     comp-idx-of-requires
     returns-2
     kind-flag-of-requires
-    slice-aggregate-put-attribute
     put-attribute-requires
     same-length
     returns-3)

@@ -7,7 +7,7 @@ use Rattle.names.proofs.versions.put_name.Reads as reads
 use Rattle.names.proofs.versions.put_name.Lts as lts
 use Rattle.btf.proofs.put_str.Reads as put-str-reads
 use Rattle.lent.proofs.put_decimal.Reads as put-decimal-reads
-use Rattle.lent.proofs.put_bytes.Reads as put-bytes-reads
+use Rattle.lent.proofs.put_underscores.Reads as put-underscores-reads
 
 put-str-requires : tie.Need-put-str-requires
 put-str-requires c κs = search needs
@@ -18,11 +18,8 @@ same-length c = search needs
 returns : tie.Need-returns
 returns c = put-bare _ _ _ _ _ _ (c .if1 .taken) (c .before .before .before .before .put-str .ensures)
 
-slice-aggregate-put-bytes : tie.Need-slice-aggregate-put-bytes
-slice-aggregate-put-bytes c = search needs
-
-put-bytes-requires : tie.Need-put-bytes-requires
-put-bytes-requires c κs = search needs
+put-underscores-requires : tie.Need-put-underscores-requires
+put-underscores-requires c κs = search needs
 
 cast-put-decimal : tie.Need-cast-put-decimal
 cast-put-decimal c = search needs
@@ -34,7 +31,7 @@ same-length-2 : tie.Need-same-length-2
 same-length-2 c = search needs
 
 returns-2 : tie.Need-returns-2
-returns-2 c = put-more _ _ _ _ _ _ (c .before .before .before .before .before .before .before .before .before .before .if1 .left) (put-seq _ _ _ _ _ _ _ _ (put-seq _ _ _ _ _ _ _ _ (c .before .before .before .before .before .before .before .before .before .before .before .before .before .before .put-str .ensures) (c .before .before .before .before .before .before .before .put-bytes .ensures)) (c .before .before .put-decimal .ensures))
+returns-2 c = put-more _ _ _ _ _ _ (c .before .before .before .before .before .before .before .before .before .if1 .left) (put-seq _ _ _ _ _ _ _ _ (put-seq _ _ _ _ _ _ _ _ (c .before .before .before .before .before .before .before .before .before .before .before .before .before .put-str .ensures) (c .before .before .before .before .before .before .before .put-underscores .ensures)) (c .before .before .put-decimal .ensures))
 
 pub put-name-spec : {M : Type 1} → statement M
 put-name-spec =
@@ -43,8 +40,7 @@ put-name-spec =
     put-str-requires
     same-length
     returns
-    slice-aggregate-put-bytes
-    put-bytes-requires
+    put-underscores-requires
     cast-put-decimal
     put-decimal-requires
     same-length-2
