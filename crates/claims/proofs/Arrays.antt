@@ -9,7 +9,7 @@ use borrow.Author.Tests.{eq-eqb}
 use Rattle.rules.specs.Order.{ptr, through, refused}
 use Rattle.rules.specs.Machine.{Req, ordering}
 use Rattle.btf.specs.Table.{btfOf}
-use Rattle.opening.specs.Header.{btfOf as settingsOf}
+use Rattle.header.specs.Header.{btfOf as settingsOf}
 use Rattle.session.specs.Answers.{numberOf}
 use Rattle.session.specs.Calls.{Call, typeCall}
 use Rattle.demand.specs.Needs.{kids, NamedComp}

@@ -16,7 +16,7 @@ use Rattle.classes.proofs.Keys.{place-apart}
 use Rattle.opening.specs.Table.{enumeratorsOf}
 use Rattle.opening.specs.Opened.{workOf}
 use Rattle.opening.specs.Causes.{openingNumber}
-use Rattle.opening.proofs.Zeros.{other-field}
+use Rattle.fill.proofs.Zeros.{other-field}
 use Rattle.opening.proofs.ReadBack.{else-back}
 use Rattle.order.specs.Work.{markOf}
 use Rattle.demand.specs.Lists.{afresh}

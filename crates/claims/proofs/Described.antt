@@ -20,7 +20,7 @@ use Rattle.btf.proofs.Documented.{section-documented}
 use Rattle.btf.proofs.Laws.{void-zero, void-past}
 use Rattle.btf.proofs.KindLaws as K
 use Rattle.opening.specs.Table.{describedIn, typesOf, recordPlace, recordKind, indexOf}
-use Rattle.opening.specs.Left.{isTagOn, tagsOn}
+use Rattle.fill.specs.Left.{isTagOn, tagsOn}
 use Rattle.opening.specs.Opened.{workOf}
 use Rattle.opening.specs.Causes.{openingNumber}
 use Rattle.opening.proofs.Index.{types-few, some-type, index-place, index-kind}

@@ -22,7 +22,7 @@ use Rattle.rules.specs.Names.{Names}
 use Rattle.rules.specs.Layout.{smaller}
 use Rattle.btf.specs.declared.types.Btf.{Btf}
 use Rattle.btf.specs.Table.{btfOf}
-use Rattle.opening.specs.Header.{btfOf as settingsOf}
+use Rattle.header.specs.Header.{btfOf as settingsOf}
 use Rattle.opening.specs.Table.{typesOf, enumeratorsOf}
 use Rattle.opening.specs.Opened.{workOf, opened as soundly}
 use Rattle.opening.specs.Causes.{openingNumber}

@@ -24,7 +24,7 @@ use Rattle.followed.specs.Prototypes.{holders, anyLeads, ToProto, ends, passes}
 use Rattle.followed.proofs.Accessors.{id-param}
 use Rattle.followed.proofs.Held.{any-leads}
 use Rattle.opening.specs.Table.{typesOf, recordPlace, recordKind, indexOf}
-use Rattle.opening.specs.Header.{btfOf as settingsOf}
+use Rattle.header.specs.Header.{btfOf as settingsOf}
 use Rattle.opening.specs.Causes as causes
 use Rattle.opening.specs.Causes.{cause7, openingNumber}
 use Rattle.opening.proofs.Order.{sound-none}

@@ -6,7 +6,7 @@ use lib.Dec.{eqb}
 use Rattle.rules.specs.Types.{BtfType, Void, Int, Ptr, Array, Composite, Enum, Enum64, Fwd, Typedef, Mod, Func, Var, Datasec, FuncProto, Float, DeclTag, TypeTag, Btf as Rules}
 use Rattle.btf.specs.declared.types.Btf.{Btf}
 use Rattle.btf.specs.Table as btf
-use Rattle.opening.specs.Header as header
+use Rattle.header.specs.Header as header
 use Rattle.opening.specs.Table.{typesOf}
 use Rattle.opening.specs.Opened.{workOf}
 

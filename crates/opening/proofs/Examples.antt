@@ -14,7 +14,7 @@ use Rattle.followed.specs.Graph.{long, hasLoop}
 use Rattle.followed.specs.Loops.{degOf, degAt}
 use Rattle.followed.specs.Track.{chase, leadsTo}
 use Rattle.followed.specs.Prototypes.{whatOf, nextOf, asksAt, asksOf, asker, anyLeads}
-use Rattle.opening.specs.Header.{btfOf}
+use Rattle.header.specs.Header.{btfOf}
 use Rattle.opening.specs.Table.{typesOf, enumeratorsOf, recordPlace, recordKind, emptyIndex, indexFor, indexOf}
 use Rattle.opening.specs.Causes.{cause1, cause2, cause3, cause4, cause5, cause6, cause7, cause8, cause9, tableOf, firstOf, openingNumber}
 

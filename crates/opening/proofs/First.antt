@@ -1,18 +1,15 @@
 -- The first cause that holds: a law for each return of header_cause. Assumes nothing.
-use Prim.Native.Nat.{ℕ, _/_, _%_, _<_, _≤_, _+_}
-use mathlib.Core.Path.{_≡_, refl, _∙_, sym, ap}
+use Prim.Native.Nat.{ℕ, _<_, _≤_}
+use mathlib.Core.Path.{_≡_, refl, _∙_, sym}
 use mathlib.Core.Bool.{Bool, true, false, not}
 use mathlib.Core.List.{List}
 use lib.ListN.{length}
-use lib.Dec.{ltb, eqb}
+use lib.Dec.{eqb}
 use borrow.Author.Tests.{lt-ltb, le-ltb, ne-eqb, not-false, not-true}
-use Rattle.records.specs.Section.{bigEndian, headerSound}
-use Rattle.lent.specs.Words.{pick}
-use Rattle.btf.specs.declared.types.Btf.{Btf}
-use Rattle.opening.specs.declared.header.Header.{Header}
-use Rattle.opening.specs.Header.{headerOf, stringsAt, btfOf, badStrings}
+use Rattle.records.specs.Section.{headerSound}
+use Rattle.header.specs.Header.{badStrings}
 use Rattle.opening.specs.Causes.{cause1, cause2, cause3, cause4, firstOf, early}
-use Rattle.opening.proofs.Headers.{strings-decided}
+use Rattle.header.proofs.Headers.{strings-decided}
 
 pub pointer-four : (p : ℕ) → p ≡ 4 → true ≡ not (cause1 p)
 unfolding cause1
@@ -64,30 +61,3 @@ module _ (p : ℕ) (s : List ℕ) (t : Bool) (e : t ≡ not (cause1 p)) where
         pub early-0 : (u : Bool) → u ≡ badStrings s → u ≡ false → 0 ≡ firstOf (early p s)
         unfolding firstOf
         early-0 u g k = rw (e1, e2, e3, e4 u g ∙ k)
-
--- ---- btf_of
-pub size-four : (p : ℕ) → p ≡ 4 → 4 ≡ pick (eqb p 4) 4 8
-size-four p e = rw e
-
-pub size-else : (p : ℕ) → (p ≡ 4 → ⊥) → 8 ≡ pick (eqb p 4) 4 8
-size-else p n = rw (ne-eqb p 4 n)
-
-pub count-less : (n : ℕ) → n < 262145 → n ≡ pick (ltb n 262145) n 262145
-count-less n h = rw (lt-ltb n 262145 h)
-
-pub count-else : (n : ℕ) → 262145 ≤ n → 262145 ≡ pick (ltb n 262145) n 262145
-count-else n h = rw (le-ltb n 262145 h)
-
-pub at-less : (n : ℕ) → n < 4294967296 → n ≡ pick (ltb n 4294967296) n 4294967295
-at-less n h = rw (lt-ltb n 4294967296 h)
-
-pub at-else : (n : ℕ) → 4294967296 ≤ n → 4294967295 ≡ pick (ltb n 4294967296) n 4294967295
-at-else n h = rw (le-ltb n 4294967296 h)
-
-abbrev fromHeader : Header → ℕ
-fromHeader h = pick (ltb (h .«hdr_len» + h .«str_off») 4294967296) (h .«hdr_len» + h .«str_off») 4294967295
-
-pub btf-is : (s : List ℕ) (p m t : ℕ) (h : Header) → h ≡ headerOf s → (a b c : ℕ) → a ≡ pick (eqb p 4) 4 8 → b ≡ pick (ltb t 262145) t 262145
-    → c ≡ fromHeader h → (o : Bool) → o ≡ bigEndian s → _≡_ {A = Btf} (record { «ptr_sz» = a; «union_as_struct» = eqb (m % 2) 1; «big_endian» = o; «strong_arrays» = eqb (m / 2 % 2) 1; types = b; strs = c }) (btfOf s p m t)
-unfolding btfOf headerOf stringsAt
-btf-is s p m t h e a b c f g k o q = λ i. record { «ptr_sz» = f i; «union_as_struct» = eqb (m % 2) 1; «big_endian» = q i; «strong_arrays» = eqb (m / 2 % 2) 1; types = g i; strs = (k ∙ ap fromHeader e) i }

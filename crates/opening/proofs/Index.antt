@@ -16,10 +16,10 @@ use Rattle.btf.specs.Records.{sectionWord}
 use Rattle.records.specs.Places.{kindP, sizeP}
 use Rattle.records.specs.Section.{typesAt, typeLen, headerSound, typesSound}
 use Rattle.followed.specs.Followed.{countOf, entryAt, placeOf, kindAt}
-use Rattle.opening.specs.Header.{btfOf}
-use Rattle.opening.specs.Pass.{countP}
+use Rattle.header.specs.Header.{btfOf}
+use Rattle.area.specs.Pass.{countP}
 use Rattle.opening.specs.Table.{describedIn, typesOf, recordPlace, recordKind, emptyIndex, indexFor, indexOf}
-use Rattle.opening.proofs.Headers.{order-is}
+use Rattle.header.proofs.Headers.{order-is}
 use Rattle.opening.proofs.Sections.{pass-count}
 
 zeros-length : (n : ℕ) → n ≡ 262145 → length {A = ℕ} (replicate n 0) ≡ 262145

@@ -16,16 +16,16 @@ use Rattle.followed.specs.References.{hasBadReference}
 use Rattle.followed.specs.Prototypes.{anyLeads}
 use Rattle.followed.specs.Graph.{hasLoop}
 use Rattle.followed.specs.Loops.{graphOf}
-use Rattle.opening.specs.declared.area.Records.{Records}
+use Rattle.area.specs.declared.Records.{Records}
 use Rattle.opening.specs.declared.Opening.{Opening}
 use Rattle.opening.specs.declared.Opening.the-variants.{Refused, Sound}
-use Rattle.opening.specs.Header.{btfOf}
-use Rattle.opening.specs.Pass.{countP, enumsP, indexP, Scan, unsound, found, scanOut, scanP, scanSection}
+use Rattle.header.specs.Header.{btfOf}
+use Rattle.area.specs.Pass.{countP, enumsP, indexP, Scan, unsound, found, scanOut, scanP, scanSection}
 use Rattle.opening.specs.Table.{describedIn, typesOf, enumeratorsOf, emptyIndex, indexFor, indexOf}
 use Rattle.opening.specs.Causes.{cause2, cause3, cause5, cause6, cause7, cause8, cause9, tableOf, next, firstOf, early, late, fromSix, openingNumber}
-use Rattle.opening.specs.Left.{filled}
+use Rattle.fill.specs.Left.{filled}
 use Rattle.opening.specs.Opened.{refused, opened, openOut, workOf, openingOf, Examined, refusedBy, soundWith, examineOut, examined}
-use Rattle.opening.proofs.Headers.{read4, read8, read12, read20, and-left, order-is}
+use Rattle.header.proofs.Headers.{read4, read8, read12, read20, and-left, order-is}
 use Rattle.opening.proofs.Sections.{pass-decides, pass-count, pass-enums, pass-index}
 use Rattle.opening.proofs.Order.{NoneHolds, first-none, first-stays}
 

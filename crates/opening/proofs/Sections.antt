@@ -24,10 +24,10 @@ use Rattle.records.proofs.ByPlaces.{size-places}
 use Rattle.records.proofs.Shifted.{size-shift, passes-shift}
 use Rattle.records.proofs.SectionFields.{areaWord, area-words, area-length}
 use Rattle.records.proofs.SectionTests.{types-places}
-use Rattle.opening.specs.Pass.{enumsOf, countP, enumsP, indexP}
+use Rattle.area.specs.Pass.{enumsOf, countP, enumsP, indexP}
 use Rattle.opening.specs.Table.{typesOf, valuesIn, enumeratorsIn, allEnumerators, enumeratorsOf, recordPlace, recordKind, emptyIndex, indexFor}
-use Rattle.opening.proofs.Headers.{and-left, and-right}
-use Rattle.opening.proofs.Pass.{steady, kind-past, count-in, count-end, enums-in, enums-end, passes-in}
+use Rattle.header.proofs.Headers.{and-left, and-right}
+use Rattle.area.proofs.Pass.{steady, kind-past, count-in, count-end, enums-in, enums-end, passes-in}
 
 module _ where
   ltb-same : (a b c d : ℕ) → (a < b → c < d) → (c < d → a < b) → ltb a b ≡ ltb c d

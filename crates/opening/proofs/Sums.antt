@@ -15,11 +15,11 @@ use Rattle.records.specs.Reading.{kind, extra}
 use Rattle.records.specs.Places.{kindP, vlenP, sizeP, soundP, namedP, passesP, placeFrom}
 use Rattle.records.specs.Section.{bigEndian, typesAt, typeLen, strLen, headerSound, typesSound}
 use Rattle.records.proofs.SectionFields.{from-next, area-inside}
-use Rattle.opening.specs.Pass.{enumsOf, countP, enumsP}
+use Rattle.area.specs.Pass.{enumsOf, countP, enumsP}
 use Rattle.opening.specs.Table.{typesOf, enumeratorsOf, recordPlace, recordKind, indexOf}
-use Rattle.opening.specs.Left.{isEnum, valuesAt, enumsTo}
-use Rattle.opening.proofs.Headers.{and-left, and-right}
-use Rattle.opening.proofs.Pass.{enums-small, ends-in, count-in, count-end, enums-in, enums-end, passes-in}
+use Rattle.fill.specs.Left.{isEnum, valuesAt, enumsTo}
+use Rattle.header.proofs.Headers.{and-left, and-right}
+use Rattle.area.proofs.Pass.{enums-small, ends-in, count-in, count-end, enums-in, enums-end, passes-in}
 use Rattle.opening.proofs.Sections.{pass-decides, pass-count, pass-enums, place-is, kind-is}
 use Rattle.opening.proofs.Index.{index-place, index-kind}
 

@@ -10,7 +10,7 @@ use Rattle.followed.specs.References.{hasBadReference}
 use Rattle.followed.specs.Prototypes.{anyLeads}
 use Rattle.followed.specs.Graph.{hasLoop}
 use Rattle.followed.specs.Loops.{graphOf}
-use Rattle.opening.specs.Header.{btfOf}
+use Rattle.header.specs.Header.{btfOf}
 use Rattle.opening.specs.Table.{typesOf, enumeratorsOf, indexOf}
 
 -- "pointer size not 4 or 8"

@@ -6,10 +6,10 @@ use lib.ListN.{length, replicate}
 use lib.Dec.{eqb}
 use Rattle.opening.specs.declared.Opening.{Opening}
 use Rattle.opening.specs.declared.Opening.the-variants.{Refused, Sound}
-use Rattle.opening.specs.Header.{btfOf}
+use Rattle.header.specs.Header.{btfOf}
 use Rattle.opening.specs.Table.{typesOf, enumeratorsOf, indexOf}
 use Rattle.opening.specs.Causes.{openingNumber}
-use Rattle.opening.specs.Left.{filled}
+use Rattle.fill.specs.Left.{filled}
 
 -- a refusal and its number; or the count of types, void counted, and that of enumerators; then work and text
 pub data Outcome : Type 0 where

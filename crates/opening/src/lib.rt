@@ -1,24 +1,15 @@
 // Opening a section: causes 1 to 9, and what success leaves.
-mod area;
-mod fill;
-mod header;
-
 use btf::Btf;
 use followed::has_bad_reference;
 use followed::has_loop;
 use followed::leads_to_proto;
-pub use header::Header;
-use header::btf_header;
+use header::btf_of;
 use header::has_bad_header;
 use header::has_bad_strings;
-use header::is_big_endian;
 use lent::clear;
 ghost use mathlib.Core.Path.{_≡_};
 ghost use mathlib.Core.Bool.{not};
 ghost use Prim.Native.Nat.{_+_, _*_};
-ghost use lib.Dec.{ltb, eqb};
-ghost use Rattle.lent.specs.Words.{pick};
-ghost use Rattle.opening.specs.Header.{btfOf};
 ghost use Rattle.opening.specs.Causes.{cause1, firstOf, early, late, fromSix};
 ghost use Rattle.opening.specs.Table.{emptyIndex};
 ghost use Rattle.opening.specs.Opened.{openOut, openingOf, examineOut, examined};
@@ -27,52 +18,6 @@ ghost use Rattle.opening.specs.Opened.{openOut, openingOf, examineOut, e
 pub enum Opening {
     Refused(u32),
     Sound(u32, u32),
-}
-
-// 4, or else 8.
-fn size_of_pointer(pointer_size: u32) -> u32
-    ensures { λ r. ⌜ r ≡ pick (eqb «pointer_size» 4) 4 8 ⌝ }
-{
-    if pointer_size == 4 {
-        return 4;
-    }
-    8
-}
-
-// No table has more types.
-fn count_of_types(types: u32) -> u32
-    ensures { λ r. ⌜ r ≡ pick (ltb types 262145) types 262145 ⌝ }
-{
-    if types < 262145 {
-        return types;
-    }
-    262145
-}
-
-// Where the string area starts; past 32 bits there is none.
-fn strings_at(h: Header) -> u32
-    ensures { λ r. ⌜ r ≡ pick (ltb (h .«hdr_len» + h .«str_off») 4294967296) (h .«hdr_len» + h .«str_off») 4294967295 ⌝ }
-{
-    let at = (h.hdr_len as u64) + (h.str_off as u64);
-    if at < 4294967296 {
-        return at as u32;
-    }
-    4294967295
-}
-
-// What the types of a table need of its header and settings.
-pub fn btf_of(section: &[u8], pointer_size: u32, modes: u32, types: u32) -> Btf
-    ensures { λ r. ⌜ r ≡ btfOf (now (section .entry)) «pointer_size» modes types ⌝ }
-{
-    let h = btf_header(section);
-    Btf {
-        ptr_sz: size_of_pointer(pointer_size),
-        union_as_struct: modes % 2 == 1,
-        big_endian: is_big_endian(section),
-        strong_arrays: modes / 2 % 2 == 1,
-        types: count_of_types(types),
-        strs: strings_at(h),
-    }
 }
 
 // Causes 6, 7 and 8, or 0.

@@ -25,7 +25,7 @@ use Rattle.btf.specs.Table.{btfOf, from}
 use Rattle.order.specs.Work.{markOf, workStore, tableIn}
 use Rattle.opening.specs.declared.Opening.{Opening}
 use Rattle.opening.specs.declared.Opening.the-variants.{Refused as Unsound, Sound}
-use Rattle.opening.specs.Header.{btfOf as settingsOf}
+use Rattle.header.specs.Header.{btfOf as settingsOf}
 use Rattle.opening.specs.Causes.{openingNumber}
 use Rattle.opening.specs.Table.{typesOf, enumeratorsOf}
 use Rattle.opening.specs.Opened.{Outcome, refused, opened, openOut, openingOf, workOf}

@@ -27,7 +27,7 @@ use Rattle.btf.specs.Cells.{getField, putField, classP, countP, withMore, count
 use Rattle.btf.specs.Table.{btfOf, typeVersionIn, enumeratorOf, valueVersionIn, workNaming}
 use Rattle.order.specs.Work.{workStore}
 use Rattle.emit.specs.Sheet.{Sheet, sheetStore, sheetOf, emptied, lineIn, workMachine, dumped}
-use Rattle.opening.specs.Header.{btfOf as settingsOf}
+use Rattle.header.specs.Header.{btfOf as settingsOf}
 use Rattle.session.specs.declared.Session.{Session}
 use Rattle.session.specs.Answers.{numberOf, answerOf}
 use Rattle.session.specs.Calls.{Call, isCurrent, limitOf, Reach, reached, refusedBy, cameTo, lentTo, requested, onward, requestedFrom, withText, thenZeros, settled, tableFor, typeCall, typesCall}

@@ -10,7 +10,7 @@ use Rattle.rules.specs.Machine.{Out, wrote, stuck}
 use Rattle.rules.specs.Types.{tableOf}
 use Rattle.btf.specs.declared.types.Btf.{Btf}
 use Rattle.btf.specs.Table.{btfOf}
-use Rattle.opening.specs.Header.{btfOf as settingsOf}
+use Rattle.header.specs.Header.{btfOf as settingsOf}
 use Rattle.opening.specs.Opened.{Outcome, refused, opened, openingOf}
 use Rattle.emit.specs.Sheet.{Sheet, workMachine, dumped}
 use Rattle.session.specs.declared.Answer.{Answer}

@@ -7,9 +7,9 @@ use Rattle.opening.proofs.open.Tie as tie
 use Rattle.opening.proofs.open.Reads as reads
 use Rattle.opening.proofs.open.Lts as lts
 use Rattle.lent.proofs.clear.Reads as clear-reads
-use Rattle.opening.proofs.btf_of.Reads as btf-of-reads
+use Rattle.header.proofs.btf_of.Reads as btf-of-reads
 use Rattle.opening.proofs.examine.Reads as examine-reads
-use Rattle.opening.proofs.fill.fill.Reads as fill-reads
+use Rattle.fill.proofs.fill.Reads as fill-reads
 
 slice-aggregate-examine : tie.Need-slice-aggregate-examine
 slice-aggregate-examine c = search needs

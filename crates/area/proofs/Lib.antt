@@ -1,0 +1,2 @@
+-- A law for each return of the pass.
+pub mod Pass

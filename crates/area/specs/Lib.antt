@@ -1,0 +1,2 @@
+-- What a pass over the records finds.
+pub mod Pass

@@ -1,0 +1,2 @@
+-- What a successful opening leaves in the work.
+pub mod Left
