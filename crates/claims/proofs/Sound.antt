@@ -19,10 +19,10 @@ use Rattle.btf.specs.Table.{from, btfOf, typeOf, membersOf, paramsOf}
 use Rattle.btf.specs.Nodes.{memberIds, paramIds}
 use Rattle.btf.proofs.KindLaws as K
 use Rattle.followed.specs.Followed.{among, placeOf, kindAt, countOf, countFor, idPlace, countAt, idAt, followedCount, followedId}
-use Rattle.followed.specs.Prototypes as walk
-use Rattle.followed.specs.Prototypes.{holders, anyLeads, ToProto, ends, passes}
+use Rattle.prototypes.specs.Prototypes as walk
+use Rattle.prototypes.specs.Prototypes.{holders, anyLeads, ToProto, ends, passes}
 use Rattle.followed.proofs.Accessors.{id-param}
-use Rattle.followed.proofs.Held.{any-leads}
+use Rattle.prototypes.proofs.Held.{any-leads}
 use Rattle.opening.specs.Table.{typesOf, recordPlace, recordKind, indexOf}
 use Rattle.header.specs.Header.{btfOf as settingsOf}
 use Rattle.opening.specs.Causes as causes

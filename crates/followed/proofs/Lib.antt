@@ -1,12 +1,8 @@
--- Accessors: the table. Graphs, Tracks: the tests mean what they say, of any graph and any track. Walks, Cells: the code's walks.
--- BadIds, Held, TypeLoops: causes 6, 7 and 8 in the table's own terms.
+-- Accessors: the table. BadIds: cause 6 in the table's own terms. Any, Twice, Zeros: what causes 7 and 8 need too.
 pub mod Any
 pub mod Accessors
-pub mod Graphs
-pub mod Walks
-pub mod Tracks
-pub mod Cells
+pub mod Twice
+pub mod Zeros
 pub mod BadIds
-pub mod Held
-pub mod TypeLoops
+pub mod Tables
 mod Examples

@@ -1,11 +1,6 @@
--- What the public functions promise: Followed, References, Graph, Loops, Track, Prototypes. What the walks keep: Walk, Cells.
+-- Followed: the ids that a type follows. References: cause 6. Any, Bounds, Zeros: what causes 7 and 8 need too.
 pub mod Any
 pub mod Followed
 pub mod Bounds
 pub mod References
-pub mod Graph
-pub mod Loops
-pub mod Track
-pub mod Prototypes
-pub mod Walk
-pub mod Cells
+pub mod Zeros

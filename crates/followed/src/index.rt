@@ -8,7 +8,7 @@ use btf::word;
 ghost use mathlib.Core.Path.{_≡_};
 ghost use Prim.Native.Nat.{_+_};
 ghost use Rattle.btf.specs.Records.{sectionWord, vlenOf};
-ghost use Rattle.followed.specs.Followed.{countOf, entryAt, kindAt, countAt, idPlace, idAt, followedCount, followedId};
+ghost use Rattle.followed.specs.Followed.{countOf, entryAt, kindAt, countAt, idPlace, idAt, followedId};
 
 // How many types there are, void counted. No table that passed cause 5 has more than 262145.
 pub fn count(b: Btf) -> u32
@@ -83,13 +83,6 @@ pub fn id_at(b: Btf, section: &[u8], kind: u32, at: u32, k: u32) -> u32
     ensures { λ r. ⌜ r ≡ idAt b (now (section .entry)) kind at k ⌝ }
 {
     word(b, section, id_place(kind, at, k))
-}
-
-pub fn followed_count(b: Btf, section: &[u8], start: &[u32], x: u32) -> u32
-    ensures { λ r. ⌜ r ≡ followedCount b (now (section .entry)) (now (start .entry)) x ⌝ }
-{
-    let e = entry(b, start, x);
-    count_at(b, section, e % 32, e / 32)
 }
 
 pub fn followed(b: Btf, section: &[u8], start: &[u32], x: u32, k: u32) -> u32

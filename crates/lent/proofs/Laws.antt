@@ -12,7 +12,7 @@ use borrow.Author.Fill.{fill-more}
 use lib.Seq.{ext-getD, set-out, set-comm, getD-set-same, getD-set-other}
 use lib.Dec.{ltb}
 use borrow.Author.Tests.{lt-ltb, le-ltb}
-use Rattle.lent.specs.Words.{getWord, putWord, wordAt, wordAtBig, wordIn, joinAt, joinBig, setWord, pick, pickList, table, words, joinIn, turnedOf}
+use Rattle.lent.specs.Words.{getWord, putWord, wordAt, wordAtBig, wordIn, turn, joinAt, joinBig, setWord, pick, pickList, table, words}
 
 pub le-or-lt : (a b : ℕ) → (a ≤ b) ⊎ (b < a)
 le-or-lt zero b = inl zero-le
@@ -43,48 +43,39 @@ pub read-big-out : (b : List ℕ) (at : ℕ) → length b ≤ at + 3 → wordAtB
 unfolding wordAtBig
 read-big-out b at h = simp (le-ltb _ _ h)
 
+-- the one is the other, turned
+lower : (a q : ℕ) → a < 256 → (a + q * 256) % 256 ≡ a
+lower a q h = omega arith
+
+turn-join : (a b c d : ℕ) → a < 256 → b < 256 → c < 256 → d < 256
+    → turn (a + b * 256 + c * 65536 + d * 16777216) ≡ d + c * 256 + b * 65536 + a * 16777216
+turn-join a b c d ha hb hc hd =
+    let w : ℕ = a + b * 256 + c * 65536 + d * 16777216 in
+    let w0 : w ≡ a + (b + (c + d * 256) * 256) * 256 = omega arith in
+    let w1 : w / 256 ≡ b + (c + d * 256) * 256 = omega arith in
+    let w2 : w / 65536 ≡ c + d * 256 = omega arith in
+    let e3 : w / 16777216 ≡ d = omega arith in
+    let e0 : w % 256 ≡ a = ap (λ (n : ℕ). n % 256) w0 ∙ lower a _ ha in
+    let e1 : w / 256 % 256 ≡ b = ap (λ (n : ℕ). n % 256) w1 ∙ lower b _ hb in
+    let e2 : w / 65536 % 256 ≡ c = ap (λ (n : ℕ). n % 256) w2 ∙ lower c d hc in
+    (λ i. e0 i * 16777216 + e1 i * 65536 + e2 i * 256 + e3 i) ∙ omega arith
+
+pub word-turned : (b : List ℕ) → ((i : ℕ) → getD b i 0 < 256) → (at : ℕ) → turn (wordAt b at) ≡ wordAtBig b at
+word-turned b h at =
+    ⊎-elim
+    (λ l. ap turn (read-out b at l) ∙ sym (read-big-out b at l))
+    (λ l. ap turn (read-in b at l) ∙ turn-join _ _ _ _ (h at) (h (at + 1)) (h (at + 2)) (h (at + 3)) ∙ sym (read-big-in b at l))
+    (le-or-lt (length b) (at + 3))
+
 -- in either order
-pub word-inside : (big : Bool) (b : List ℕ) (at : ℕ) → at + 3 < length b → wordIn big b at ≡ joinIn big (getD b at 0) (getD b (at + 1) 0) (getD b (at + 2) 0) (getD b (at + 3) 0)
-unfolding wordIn joinIn
-word-inside true b at h = read-big-in b at h
-word-inside false b at h = read-in b at h
+module _ (b : List ℕ) (at : ℕ) (big : Bool) (w : ℕ) (e : w ≡ wordAt b at) where
+  pub word-big : ((i : ℕ) → getD b i 0 < 256) → big ≡ true → (r : ℕ) → r ≡ turn w → r ≡ wordIn big b at
+  unfolding wordIn
+  word-big h g r f = rw g (f ∙ ap turn e ∙ word-turned b h at)
 
-pub word-outside : (big : Bool) (b : List ℕ) (at : ℕ) → length b ≤ at + 3 → wordIn big b at ≡ 0
-unfolding wordIn
-word-outside true b at h = read-big-out b at h
-word-outside false b at h = read-out b at h
-
--- turning a word that was joined from bytes
-low-byte : (w a k : ℕ) → a < 256 → w ≡ a + k * 256 → w % 256 ≡ a
-low-byte w a k h e = omega arith
-
-past-one : (w a k : ℕ) → a < 256 → w ≡ a + k * 256 → w / 256 ≡ k
-past-one w a k h e = omega arith
-
-past-two : (w a k : ℕ) → a < 65536 → w ≡ a + k * 65536 → w / 65536 ≡ k
-past-two w a k h e = omega arith
-
-past-three : (w a k : ℕ) → a < 16777216 → w ≡ a + k * 16777216 → w / 16777216 ≡ k
-past-three w a k h e = omega arith
-
-pub turned-join : (w a b c d : ℕ) → a < 256 → b < 256 → c < 256 → d < 256 → w ≡ a + b * 256 + c * 65536 + d * 16777216 → turnedOf w ≡ d + c * 256 + b * 65536 + a * 16777216
-unfolding turnedOf
-turned-join w a b c d ha hb hc hd e =
-    let q₁ : w / 256 ≡ b + (c + d * 256) * 256 = past-one w a (b + (c + d * 256) * 256) ha (e ∙ omega arith) in
-    let q₂ : w / 65536 ≡ c + d * 256 = past-two w (a + b * 256) (c + d * 256) (omega arith) (e ∙ omega arith) in
-    let e₀ : w % 256 ≡ a = low-byte w a (b + (c + d * 256) * 256) ha (e ∙ omega arith) in
-    let e₁ : w / 256 % 256 ≡ b = low-byte (w / 256) b (c + d * 256) hb q₁ in
-    let e₂ : w / 65536 % 256 ≡ c = low-byte (w / 65536) c d hc q₂ in
-    let e₃ : w / 16777216 ≡ d = past-three w (a + b * 256 + c * 65536) d (omega arith) e in
-    (λ i. e₀ i * 16777216 + e₁ i * 65536 + e₂ i * 256 + e₃ i) ∙ omega arith
-
-pub join-big : (big : Bool) (r w a b c d : ℕ) → big ≡ true → a < 256 → b < 256 → c < 256 → d < 256 → w ≡ a + b * 256 + c * 65536 + d * 16777216 → r ≡ turnedOf w → r ≡ joinIn big a b c d
-unfolding joinIn
-join-big big r w a b c d o ha hb hc hd e f = rw o (f ∙ turned-join w a b c d ha hb hc hd e)
-
-pub join-little : (big : Bool) (w a b c d : ℕ) → big ≡ false → w ≡ a + b * 256 + c * 65536 + d * 16777216 → w ≡ joinIn big a b c d
-unfolding joinIn
-join-little big w a b c d o e = rw o e
+  pub word-little : big ≡ false → w ≡ wordIn big b at
+  unfolding wordIn
+  word-little g = rw g e
 
 pub put-in : (b : List ℕ) (i v : ℕ) → i < length b / 4 → putWord b i v ≡ setWord b (i * 4) v
 unfolding putWord

@@ -1,46 +1,60 @@
--- Three words in a row, each as `wordIn` has it. Assumes nothing.
-use Prim.Native.Nat.{ℕ, _+_, _<_, _≤_}
-use mathlib.Core.Path.{_≡_, refl, _∙_, sym}
-use mathlib.Core.Bool.{Bool}
+-- Three words in a row, each as `wordAt` has it, or as `wordIn`. Assumes nothing.
+use Prim.Native.Nat.{ℕ, _+_, _*_, _<_, _≤_}
+use mathlib.Core.Path.{_≡_, refl, ap, _∙_, sym}
+use mathlib.Core.Bool.{Bool, true, false}
 use mathlib.Core.List.{List}
 use native.Mathlib.Omega.{arith}
 use lib.ListN.{length, getD}
-use Rattle.lent.specs.Words.{joinIn, wordIn}
-use Rattle.lent.specs.Three.{threeIn}
-use Rattle.lent.proofs.Laws.{word-inside, word-outside}
+use Rattle.lent.specs.Words.{wordAt, wordAtBig, wordIn, turn, joinAt}
+use Rattle.lent.specs.Three.{threeAt, threeIn}
+use Rattle.lent.specs.declared.words.Three.{Three}
+use Rattle.lent.proofs.Laws.{read-in, read-out, word-turned}
 
-module _ (big : Bool) (b : List ℕ) (at : ℕ) where
-  pub three-of : (x y z : ℕ) → x ≡ wordIn big b at → y ≡ wordIn big b (at + 4) → z ≡ wordIn big b (at + 8) → record { first = x; second = y; third = z } ≡ threeIn big b at
-  unfolding threeIn
+module _ (b : List ℕ) (at : ℕ) where
+  pub three-of : (x y z : ℕ) → x ≡ wordAt b at → y ≡ wordAt b (at + 4) → z ≡ wordAt b (at + 8) → record { first = x; second = y; third = z } ≡ threeAt b at
+  unfolding threeAt
   three-of x y z ex ey ez = λ i. record { first = ex i; second = ey i; third = ez i }
 
-  second-join : wordIn big b (at + 4) ≡ joinIn big (getD b (at + 4) 0) (getD b (at + 4 + 1) 0) (getD b (at + 4 + 2) 0) (getD b (at + 4 + 3) 0)
-      → wordIn big b (at + 4) ≡ joinIn big (getD b (at + 4) 0) (getD b (at + 5) 0) (getD b (at + 6) 0) (getD b (at + 7) 0)
-  second-join e =
+  second-join : joinAt b (at + 4) ≡ getD b (at + 4) 0 + getD b (at + 5) 0 * 256 + getD b (at + 6) 0 * 65536 + getD b (at + 7) 0 * 16777216
+  second-join =
       let e₁ : at + 4 + 1 ≡ at + 5 = omega arith in
       let e₂ : at + 4 + 2 ≡ at + 6 = omega arith in
       let e₃ : at + 4 + 3 ≡ at + 7 = omega arith in
-      e ∙ rw (e₁, e₂, e₃) refl
+      rw (e₁, e₂, e₃) refl
 
-  third-join : wordIn big b (at + 8) ≡ joinIn big (getD b (at + 8) 0) (getD b (at + 8 + 1) 0) (getD b (at + 8 + 2) 0) (getD b (at + 8 + 3) 0)
-      → wordIn big b (at + 8) ≡ joinIn big (getD b (at + 8) 0) (getD b (at + 9) 0) (getD b (at + 10) 0) (getD b (at + 11) 0)
-  third-join e =
+  third-join : joinAt b (at + 8) ≡ getD b (at + 8) 0 + getD b (at + 9) 0 * 256 + getD b (at + 10) 0 * 65536 + getD b (at + 11) 0 * 16777216
+  third-join =
       let e₁ : at + 8 + 1 ≡ at + 9 = omega arith in
       let e₂ : at + 8 + 2 ≡ at + 10 = omega arith in
       let e₃ : at + 8 + 3 ≡ at + 11 = omega arith in
-      e ∙ rw (e₁, e₂, e₃) refl
+      rw (e₁, e₂, e₃) refl
 
-  pub three-inside : (x y z : ℕ) → at + 11 < length b
-      → x ≡ joinIn big (getD b at 0) (getD b (at + 1) 0) (getD b (at + 2) 0) (getD b (at + 3) 0)
-      → y ≡ joinIn big (getD b (at + 4) 0) (getD b (at + 5) 0) (getD b (at + 6) 0) (getD b (at + 7) 0)
-      → z ≡ joinIn big (getD b (at + 8) 0) (getD b (at + 9) 0) (getD b (at + 10) 0) (getD b (at + 11) 0)
-      → record { first = x; second = y; third = z } ≡ threeIn big b at
-  three-inside x y z h ex ey ez =
+  pub three-in : (x y z : ℕ) → at + 11 < length b
+      → x ≡ getD b at 0 + getD b (at + 1) 0 * 256 + getD b (at + 2) 0 * 65536 + getD b (at + 3) 0 * 16777216
+      → y ≡ getD b (at + 4) 0 + getD b (at + 5) 0 * 256 + getD b (at + 6) 0 * 65536 + getD b (at + 7) 0 * 16777216
+      → z ≡ getD b (at + 8) 0 + getD b (at + 9) 0 * 256 + getD b (at + 10) 0 * 65536 + getD b (at + 11) 0 * 16777216
+      → record { first = x; second = y; third = z } ≡ threeAt b at
+  three-in x y z h ex ey ez =
       three-of x y z
-      (ex ∙ sym (word-inside big b at (omega arith)))
-      (ey ∙ sym (second-join (word-inside big b (at + 4) (omega arith))))
-      (ez ∙ sym (third-join (word-inside big b (at + 8) (omega arith))))
+      (ex ∙ sym (read-in b at (omega arith)))
+      (ey ∙ sym second-join ∙ sym (read-in b (at + 4) (omega arith)))
+      (ez ∙ sym third-join ∙ sym (read-in b (at + 8) (omega arith)))
 
-  pub three-outside : length b ≤ at → record { first = 0; second = 0; third = 0 } ≡ threeIn big b at
-  three-outside h =
-      three-of 0 0 0 (sym (word-outside big b at (omega arith))) (sym (word-outside big b (at + 4) (omega arith))) (sym (word-outside big b (at + 8) (omega arith)))
+  pub three-out : length b ≤ at → record { first = 0; second = 0; third = 0 } ≡ threeAt b at
+  three-out h =
+      three-of 0 0 0 (sym (read-out b at (omega arith))) (sym (read-out b (at + 4) (omega arith))) (sym (read-out b (at + 8) (omega arith)))
+
+  -- in either order
+  module _ (big : Bool) (w : Three) (e : w ≡ threeAt b at) where
+    pub three-big : ((i : ℕ) → getD b i 0 < 256) → big ≡ true → (x y z : ℕ) → x ≡ turn (w .first) → y ≡ turn (w .second) → z ≡ turn (w .third)
+        → record { first = x; second = y; third = z } ≡ threeIn big b at
+    unfolding threeIn threeAt wordIn
+    three-big h g x y z ex ey ez =
+        let ax : x ≡ wordAtBig b at = ex ∙ ap (λ (t : Three). turn (t .first)) e ∙ word-turned b h at in
+        let ay : y ≡ wordAtBig b (at + 4) = ey ∙ ap (λ (t : Three). turn (t .second)) e ∙ word-turned b h (at + 4) in
+        let az : z ≡ wordAtBig b (at + 8) = ez ∙ ap (λ (t : Three). turn (t .third)) e ∙ word-turned b h (at + 8) in
+        rw g (λ i. record { first = ax i; second = ay i; third = az i })
+
+    pub three-little : big ≡ false → w ≡ threeIn big b at
+    unfolding threeIn threeAt wordIn
+    three-little g = rw g e

@@ -36,23 +36,18 @@ wordAt b at = pick (ltb (at + 3) (length b)) (joinAt b at) 0
 abbrev pub joinBig : List ℕ → ℕ → ℕ
 joinBig b at = getD b (at + 3) 0 + getD b (at + 2) 0 * 256 + getD b (at + 1) 0 * 65536 + getD b at 0 * 16777216
 
--- the same word with its most significant byte first
+-- the word whose bytes, most significant first, start at `at`, and 0 where they do not all lie inside
 unfoldable pub wordAtBig : List ℕ → ℕ → ℕ
 wordAtBig b at = pick (ltb (at + 3) (length b)) (joinBig b at) 0
-
--- the number of four bytes, highest first where the order is true, else lowest first
-unfoldable pub joinIn : Bool → ℕ → ℕ → ℕ → ℕ → ℕ
-joinIn true a b c d = d + c * 256 + b * 65536 + a * 16777216
-joinIn false a b c d = a + b * 256 + c * 65536 + d * 16777216
-
--- a word with its bytes in the other order
-unfoldable pub turnedOf : ℕ → ℕ
-turnedOf w = w % 256 * 16777216 + w / 256 % 256 * 65536 + w / 65536 % 256 * 256 + w / 16777216
 
 -- in the one order, where the first argument is true, or in the other
 unfoldable pub wordIn : Bool → List ℕ → ℕ → ℕ
 wordIn true b at = wordAtBig b at
 wordIn false b at = wordAt b at
+
+-- a word with its bytes in the other order
+abbrev pub turn : ℕ → ℕ
+turn w = w % 256 * 16777216 + w / 256 % 256 * 65536 + w / 65536 % 256 * 256 + w / 16777216
 
 -- f at k, k + 1, .., n of them
 abbrev pub table : (ℕ → ℕ) → ℕ → ℕ → List ℕ

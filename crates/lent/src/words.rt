@@ -2,8 +2,8 @@
 ghost use mathlib.Core.Path.{_≡_};
 ghost use Prim.Native.Nat.{_+_, _*_, _<_};
 ghost use lib.ListN.{length, replicate};
-ghost use Rattle.lent.specs.Words.{getWord, putWord, turnedOf, joinIn, wordIn};
-ghost use Rattle.lent.specs.Three.{threeIn};
+ghost use Rattle.lent.specs.Words.{getWord, putWord, wordAt, turn, wordIn};
+ghost use Rattle.lent.specs.Three.{threeAt, threeIn};
 
 // The number whose bytes, lowest first, are a, b, c and d.
 fn join(a: u8, b: u8, c: u8, d: u8) -> u32
@@ -37,34 +37,34 @@ pub fn put_word(work: &mut [u8], i: usize, v: u32)
     }
 }
 
-// The number whose bytes are those of w in the other order.
+// The word whose bytes start at `at`, or 0 where they do not all lie inside.
+pub fn word_at(b: &[u8], at: usize) -> u32
+    ensures { λ r. ⌜ r ≡ wordAt (now (b .entry)) at ⌝ }
+{
+    if at < b.len() {
+        if 3 < b.len() - at {
+            return join(b[at], b[at + 1], b[at + 2], b[at + 3]);
+        }
+    }
+    0
+}
+
+// The bytes of a word in the other order.
 fn turned(w: u32) -> u32
-    ensures { λ r. ⌜ r ≡ turnedOf w ⌝ }
+    ensures { λ r. ⌜ r ≡ turn w ⌝ }
 {
     w % 256 * 16777216 + w / 256 % 256 * 65536 + w / 65536 % 256 * 256 + w / 16777216
 }
 
-// The number whose bytes are a, b, c and d, highest first if `big`. (The word is joined and then turned, since that is one load.)
-fn join_in(big: bool, a: u8, b: u8, c: u8, d: u8) -> u32
-    ensures { λ r. ⌜ r ≡ joinIn big a b c d ⌝ }
+// The word at `at`, most significant byte first if `big`.
+pub fn word_in(big: bool, b: &[u8], at: usize) -> u32
+    ensures { λ r. ⌜ r ≡ wordIn big (now (b .entry)) at ⌝ }
 {
-    let w = join(a, b, c, d);
+    let w = word_at(b, at);
     if big {
         return turned(w);
     }
     w
-}
-
-// The word at `at`, most significant byte first if `big`; 0 where it does not lie inside.
-pub fn word_in(big: bool, b: &[u8], at: usize) -> u32
-    ensures { λ r. ⌜ r ≡ wordIn big (now (b .entry)) at ⌝ }
-{
-    if at < b.len() {
-        if 3 < b.len() - at {
-            return join_in(big, b[at], b[at + 1], b[at + 2], b[at + 3]);
-        }
-    }
-    0
 }
 
 // Three words in a row.
@@ -74,20 +74,19 @@ pub struct Three {
     pub third: u32,
 }
 
-// The three words whose bytes start at `at`, `at + 4` and `at + 8`, most significant byte first if `big`: all at once where they
-// lie inside, else each by itself.
-pub fn three_in(big: bool, b: &[u8], at: usize) -> Three
-    ensures { λ r. ⌜ r ≡ threeIn big (now (b .entry)) at ⌝ }
+// The three words whose bytes start at `at`, `at + 4` and `at + 8`: all at once where they lie inside, else each by itself.
+pub fn three_at(b: &[u8], at: usize) -> Three
+    ensures { λ r. ⌜ r ≡ threeAt (now (b .entry)) at ⌝ }
 {
     if at < b.len() {
         if 11 < b.len() - at {
             return Three {
-                first: join_in(big, b[at], b[at + 1], b[at + 2], b[at + 3]),
-                second: join_in(big, b[at + 4], b[at + 5], b[at + 6], b[at + 7]),
-                third: join_in(big, b[at + 8], b[at + 9], b[at + 10], b[at + 11]),
+                first: join(b[at], b[at + 1], b[at + 2], b[at + 3]),
+                second: join(b[at + 4], b[at + 5], b[at + 6], b[at + 7]),
+                third: join(b[at + 8], b[at + 9], b[at + 10], b[at + 11]),
             };
         }
-        return three_apart(big, b, at);
+        return three_apart(b, at);
     }
     Three {
         first: 0,
@@ -97,15 +96,30 @@ pub fn three_in(big: bool, b: &[u8], at: usize) -> Three
 }
 
 // The same, each by itself. (A slice has fewer bytes than 2^63, so the places past `at` do not wrap.)
-fn three_apart(big: bool, b: &[u8], at: usize) -> Three
+fn three_apart(b: &[u8], at: usize) -> Three
     requires { ⌜ at < length (now b) ⌝ }
-    ensures { λ r. ⌜ r ≡ threeIn big (now (b .entry)) at ⌝ }
+    ensures { λ r. ⌜ r ≡ threeAt (now (b .entry)) at ⌝ }
 {
     Three {
-        first: word_in(big, b, at),
-        second: word_in(big, b, at + 4),
-        third: word_in(big, b, at + 8),
+        first: word_at(b, at),
+        second: word_at(b, at + 4),
+        third: word_at(b, at + 8),
     }
+}
+
+// The three words at once, most significant byte first if `big`.
+pub fn three_in(big: bool, b: &[u8], at: usize) -> Three
+    ensures { λ r. ⌜ r ≡ threeIn big (now (b .entry)) at ⌝ }
+{
+    let w = three_at(b, at);
+    if big {
+        return Three {
+            first: turned(w.first),
+            second: turned(w.second),
+            third: turned(w.third),
+        };
+    }
+    w
 }
 
 // Sets every byte to 0.

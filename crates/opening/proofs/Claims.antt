@@ -13,11 +13,11 @@ use Rattle.records.specs.Reading.{Bytes}
 use Rattle.records.specs.Section.{bigEndian, typeArea, strLen, typesSound}
 use Rattle.records.proofs.Claims.{sound-iff}
 use Rattle.followed.specs.References.{BadReference}
-use Rattle.followed.specs.Prototypes.{ProtoInside}
-use Rattle.followed.specs.Loops.{TypeLoop}
+use Rattle.prototypes.specs.Prototypes.{ProtoInside}
+use Rattle.loops.specs.Loops.{TypeLoop}
 use Rattle.followed.proofs.BadIds.{bad-reference}
-use Rattle.followed.proofs.Held.{any-leads}
-use Rattle.followed.proofs.TypeLoops.{type-loop}
+use Rattle.prototypes.proofs.Held.{any-leads}
+use Rattle.loops.proofs.TypeLoops.{type-loop}
 use Rattle.opening.specs.Table.{typesOf, enumeratorsOf, indexOf}
 use Rattle.opening.specs.Causes.{cause1, cause2, cause5, cause6, cause7, cause8, cause9, tableOf, causes, openingNumber}
 use Rattle.opening.specs.declared.Opening.{Opening}

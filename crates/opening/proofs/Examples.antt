@@ -10,10 +10,10 @@ use Rattle.records.specs.Section.{bigEndian, littleEndian, wordOf, hdrLen, type
 use Rattle.followed.specs.Any.{anyBelow}
 use Rattle.followed.specs.Followed.{among, countOf, entryAt, placeOf, kindAt, countFor, idPlace, countAt, idAt, followedCount, followedId}
 use Rattle.followed.specs.References.{isBad, isSomeBad, hasBadReference}
-use Rattle.followed.specs.Graph.{long, hasLoop}
-use Rattle.followed.specs.Loops.{degOf, degAt}
-use Rattle.followed.specs.Track.{chase, leadsTo}
-use Rattle.followed.specs.Prototypes.{whatOf, nextOf, asksAt, asksOf, asker, anyLeads}
+use Rattle.loops.specs.Graph.{long, hasLoop}
+use Rattle.loops.specs.Loops.{degOf, degAt}
+use Rattle.prototypes.specs.Track.{chase, leadsTo}
+use Rattle.prototypes.specs.Prototypes.{whatOf, nextOf, asksAt, asksOf, asker, anyLeads}
 use Rattle.header.specs.Header.{btfOf}
 use Rattle.opening.specs.Table.{typesOf, enumeratorsOf, recordPlace, recordKind, emptyIndex, indexFor, indexOf}
 use Rattle.opening.specs.Causes.{cause1, cause2, cause3, cause4, cause5, cause6, cause7, cause8, cause9, tableOf, firstOf, openingNumber}

@@ -13,9 +13,9 @@ use Rattle.records.specs.Places.{passesP}
 use Rattle.records.specs.Section.{bigEndian, wordOf, hdrLen, typeOff, typeLen, strLen, headerSound, typesSound}
 use Rattle.records.proofs.SectionFields.{area-inside}
 use Rattle.followed.specs.References.{hasBadReference}
-use Rattle.followed.specs.Prototypes.{anyLeads}
-use Rattle.followed.specs.Graph.{hasLoop}
-use Rattle.followed.specs.Loops.{graphOf}
+use Rattle.prototypes.specs.Prototypes.{anyLeads}
+use Rattle.loops.specs.Graph.{hasLoop}
+use Rattle.loops.specs.Loops.{graphOf}
 use Rattle.area.specs.declared.Records.{Records}
 use Rattle.opening.specs.declared.Opening.{Opening}
 use Rattle.opening.specs.declared.Opening.the-variants.{Refused, Sound}

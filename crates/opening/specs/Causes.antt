@@ -7,9 +7,9 @@ use lib.Dec.{ltb, eqb}
 use Rattle.records.specs.Section.{stringArea, headerSound, stringsSound, typesSound}
 use Rattle.btf.specs.declared.types.Btf.{Btf}
 use Rattle.followed.specs.References.{hasBadReference}
-use Rattle.followed.specs.Prototypes.{anyLeads}
-use Rattle.followed.specs.Graph.{hasLoop}
-use Rattle.followed.specs.Loops.{graphOf}
+use Rattle.prototypes.specs.Prototypes.{anyLeads}
+use Rattle.loops.specs.Graph.{hasLoop}
+use Rattle.loops.specs.Loops.{graphOf}
 use Rattle.header.specs.Header.{btfOf}
 use Rattle.opening.specs.Table.{typesOf, enumeratorsOf, indexOf}
 

@@ -1,12 +1,12 @@
 // Opening a section: causes 1 to 9, and what success leaves.
 use btf::Btf;
 use followed::has_bad_reference;
-use followed::has_loop;
-use followed::leads_to_proto;
 use header::btf_of;
 use header::has_bad_header;
 use header::has_bad_strings;
 use lent::clear;
+use loops::has_loop;
+use prototypes::leads_to_proto;
 ghost use mathlib.Core.Path.{_≡_};
 ghost use mathlib.Core.Bool.{not};
 ghost use Prim.Native.Nat.{_+_, _*_};

@@ -4,8 +4,8 @@ use Rattle.opening.proofs.reference_cause.Statement.{statement}
 use Rattle.opening.proofs.reference_cause.Tie as tie
 use Rattle.opening.proofs.reference_cause.Reads as reads
 use Rattle.opening.proofs.reference_cause.Lts as lts
-use Rattle.followed.proofs.has_loop.Reads as has-loop-reads
-use Rattle.followed.proofs.leads_to_proto.Reads as leads-to-proto-reads
+use Rattle.loops.proofs.has_loop.Reads as has-loop-reads
+use Rattle.prototypes.proofs.leads_to_proto.Reads as leads-to-proto-reads
 use Rattle.followed.proofs.has_bad_reference.Reads as has-bad-reference-reads
 
 has-bad-reference-requires : tie.Need-has-bad-reference-requires
