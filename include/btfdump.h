@@ -60,6 +60,14 @@ extern "C" {
  * a pointer to an array of itself is a cycle (13).
  */
 #define BTFDUMP_STRONG_ARRAYS 2u
+/*
+ * Placing mode: each pad is the widest unit that starts on a multiple of its
+ * width and fits the gap, and a tail pad fills a struct to its size. So on
+ * x86-64, with pointer size 8 and unions under their own word, a compiler puts
+ * every member at its offset in the table, and the whole has its size. What
+ * cannot be laid out so is refused by BTFDUMP_MISPLACED.
+ */
+#define BTFDUMP_PLACING 4u
 
 /* What a call answers: a number and a value, in the upper and the lower half. */
 typedef uint64_t btfdump_answer;
@@ -90,6 +98,7 @@ enum btfdump_number {
 	BTFDUMP_ALIGN_ZERO = 15,     /* the packed test meets a type with alignment 0 */
 	BTFDUMP_OVERFLOW = 16,       /* a size or an offset does not fit 32 bits */
 	BTFDUMP_TEXT_FULL = 17,      /* the text slice, or 1,073,741,824 bytes, is full */
+	BTFDUMP_MISPLACED = 18,      /* placing mode: members overlap, lie off a byte or a unit, or do not fit the size */
 	/* btfdump_field only; nothing is touched */
 	BTFDUMP_NO_MEMBER = 21,      /* no member covers the bit, or the type is no struct or union */
 	/* opening only; nothing is touched */

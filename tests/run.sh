@@ -74,6 +74,7 @@ open(sys.argv[1] + "/far.btf", "wb").write(t.section())
 pads = "\tlong: 32;\n" + "\tlong: 64;\n" * 262144
 open(sys.argv[1] + "/far.h", "w").write("struct S {\n" + pads + "\tint b;\n};\n\n")
 END
+python3 -B tests/placing.py "$out/btfheader" "$out"
 programs=(btfheader)
 if echo 'int main(void){return 0;}' | gcc -xc -fsanitize=address,undefined - -o "$out/probe" 2>/dev/null; then
 	compile btfheader_sanitized tools/btfheader.c -fsanitize=address,undefined -fno-sanitize-recover=all

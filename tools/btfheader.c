@@ -22,6 +22,7 @@ static const char help[] =
 	"  -p, --pointer-size 4|8   size of a pointer on the table's machine (8)\n"
 	"  -u, --union-as-struct    a union's word is 'struct', with a comment\n"
 	"      --strong-arrays      elements of an array come before a pointer to it\n"
+	"  -P, --placing            pads that land where the table says, also after the last member\n"
 	"  -h, --help               this text\n"
 	"\n"
 	"Exit status: 0 printed, 1 the table or a request was refused (the text of the\n"
@@ -46,6 +47,7 @@ static const char *words_for(uint32_t number)
 	case BTFDUMP_ALIGN_ZERO: return "a struct has a member that has no alignment";
 	case BTFDUMP_OVERFLOW: return "a size or an offset does not fit in 32 bits";
 	case BTFDUMP_TEXT_FULL: return "the text is longer than 1,073,741,824 bytes";
+	case BTFDUMP_MISPLACED: return "a struct or union has members that no compiler places so";
 	default: return "unexpected answer";
 	}
 }
@@ -231,6 +233,8 @@ int main(int argc, char **argv)
 			job.modes |= BTFDUMP_UNION_AS_STRUCT;
 		else if (!strcmp(argv[i], "--strong-arrays"))
 			job.modes |= BTFDUMP_STRONG_ARRAYS;
+		else if (!strcmp(argv[i], "-P") || !strcmp(argv[i], "--placing"))
+			job.modes |= BTFDUMP_PLACING;
 		else if (strcmp(argv[i], "-p") && strcmp(argv[i], "--pointer-size"))
 			usage("unknown option ", argv[i]);
 		else if (++i == argc || !number(argv[i], &job.pointer_size))

@@ -85,6 +85,7 @@ module _ (u w : List ℕ) where
         ptr-sz = b .«ptr_sz»;
         union-as-struct = b .«union_as_struct»;
         strong-arrays = b .«strong_arrays»;
+        placing = b .placing;
         type-cnt = b .types;
         type-by-id = λ id. typeOf b s (record-same id i);
         decl-tags = λ id. tags-of-same id i;

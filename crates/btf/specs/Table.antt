@@ -103,6 +103,7 @@ btfOf b s w = record {
   ptr-sz = b .«ptr_sz»;
   union-as-struct = b .«union_as_struct»;
   strong-arrays = b .«strong_arrays»;
+  placing = b .placing;
   type-cnt = b .types;
   type-by-id = λ id. typeOf b s (recordById b s w id);
   decl-tags = tagsOf (b .types) w;

@@ -18,6 +18,7 @@ pub struct Btf {
     pub union_as_struct: bool,
     pub big_endian: bool,
     pub strong_arrays: bool,
+    pub placing: bool,
     pub types: u32,
     pub strs: u32,
 }

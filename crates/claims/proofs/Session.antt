@@ -89,11 +89,14 @@ module _ (len room : ℕ) (t tx : List ℕ) (is : take len t ≡ tx) (short : le
   zeros-fit = omega (arith, length-append (take len t) (replicate (room - len) 0), length-take-le len t short)
 
 -- the modes that the record keeps say what those at opening said
-union-kept : (m : ℕ) → m % 4 % 2 ≡ m % 2
+union-kept : (m : ℕ) → m % 8 % 2 ≡ m % 2
 union-kept m = omega arith
 
-arrays-kept : (m : ℕ) → m % 4 / 2 % 2 ≡ m / 2 % 2
+arrays-kept : (m : ℕ) → m % 8 / 2 % 2 ≡ m / 2 % 2
 arrays-kept m = omega arith
+
+placing-kept : (m : ℕ) → m % 8 / 4 % 2 ≡ m / 4 % 2
+placing-kept m = omega arith
 
 module _ (p modes : ℕ) (s : List ℕ) (n : ℕ) (ok : openingNumber p s n ≡ 0) where
   abbrev b : Btf
@@ -300,8 +303,8 @@ module _ (p modes : ℕ) (s : List ℕ) (n : ℕ) (ok : openingNumber p s n ≡ 
     table-is =
         ap (λ (k : ℕ). settingsOf s k (S .modes) (S .types)) (h .pointer-size)
         ∙ ap (λ (k : ℕ). settingsOf s p k (S .types)) (h .mode)
-        ∙ ap (settingsOf s p (modes % 4)) (h .types)
-        ∙ (λ i. record { «ptr_sz» = b .«ptr_sz»; «union_as_struct» = eqb (union-kept modes i) 1; «big_endian» = b .«big_endian»; «strong_arrays» = eqb (arrays-kept modes i) 1; types = b .types; strs = b .strs })
+        ∙ ap (settingsOf s p (modes % 8)) (h .types)
+        ∙ (λ i. record { «ptr_sz» = b .«ptr_sz»; «union_as_struct» = eqb (union-kept modes i) 1; «big_endian» = b .«big_endian»; «strong_arrays» = eqb (arrays-kept modes i) 1; placing = eqb (placing-kept modes i) 1; types = b .types; strs = b .strs })
 
     pub types-is : S .types ≡ T .count
     types-is = h .types ∙ sym (count-is p modes s n ok)

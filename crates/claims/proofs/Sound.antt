@@ -100,10 +100,10 @@ from-mem f k (suc n) y (List·Memᴰ·tail h) =
 from-first : (f : ℕ → ℕ) (n y : ℕ) → List·Memᴰ y (from f 0 n) → (j : ℕ) × (j < n) × (f j ≡ y)
 from-first f n y h = let r = from-mem f 0 n y h in (r .0, r .1, ap f (sym (zero-add (r .0))) ∙ r .2)
 
-module _ (c : Btf) (size : ℕ) (union arrays : Bool) (count names : ℕ) (s : List ℕ) (at : ℕ) where
+module _ (c : Btf) (size : ℕ) (union arrays placed : Bool) (count names : ℕ) (s : List ℕ) (at : ℕ) where
   -- a table of the same order of bytes
   abbrev b′ : Btf
-  b′ = record { «ptr_sz» = size; «union_as_struct» = union; «big_endian» = c .«big_endian»; «strong_arrays» = arrays; types = count; strs = names }
+  b′ = record { «ptr_sz» = size; «union_as_struct» = union; «big_endian» = c .«big_endian»; «strong_arrays» = arrays; placing = placed; types = count; strs = names }
 
   abbrev t : Record
   t = recordAt b′ s at
@@ -191,7 +191,7 @@ module _ (p modes : ℕ) (s : List ℕ) (n : ℕ) (ok : openingNumber p s n ≡ 
       subst (λ (t : Record). Sees c s (kindAt c (indexOf s) x) (placeOf c (indexOf s) x) (nodeOf (typeOf b s t))) (sym (record-back p modes s n ok x a l))
       (subst (λ (q : ℕ). Sees c s q (placeOf c (indexOf s) x) (nodeOf (typeOf b s (recordAt b s (recordPlace s (x - 1)))))) (sym (followed-kind s few p 0 x a l))
       (subst (λ (q : ℕ). Sees c s (recordKind s (x - 1)) q (nodeOf (typeOf b s (recordAt b s (recordPlace s (x - 1)))))) (sym (followed-place s few p 0 x a l))
-      (seen c (b .«ptr_sz») (b .«union_as_struct») (b .«strong_arrays») (b .types) (b .strs) s (recordPlace s (x - 1)) (recordKind s (x - 1)) (kind-is b s (order-ok p modes s n ok) (x - 1)))))
+      (seen c (b .«ptr_sz») (b .«union_as_struct») (b .«strong_arrays») (b .placing) (b .types) (b .strs) s (recordPlace s (x - 1)) (recordKind s (x - 1)) (kind-is b s (order-ok p modes s n ok) (x - 1)))))
 
   -- a type that follows ids, or is a prototype or a composite, is in the table
   in-table : (x : ℕ) → (nodeAt x ≡ plain → ⊥) → (1 ≤ x) × (x < typesOf s)

@@ -10,3 +10,4 @@ pub mod Keeping
 pub mod DeclLaws
 pub mod EntryLaws
 pub mod MemberLaws
+pub mod Lines

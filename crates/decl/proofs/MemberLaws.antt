@@ -10,8 +10,9 @@ use Rattle.lent.specs.Text.{ascii, pfx, whole, cut, putOut, putText}
 use Rattle.rules.specs.Writer.{Said, Writer, put, stop, nothing, given, _⨾_, saidNames}
 use Rattle.rules.specs.Types.{Name, Member, Param, Btf as Rules, Typedef}
 use Rattle.rules.specs.Names.{tagSpace, identSpace, resolveTypeName, builtin}
-use Rattle.rules.specs.Layout.{bitPadding, endOf, isStructPacked}
-use Rattle.rules.specs.Decl.{deeper, declTags, emitDeclTags, noParams, shownParams, emitParam, emitParams, baseWord, emitMembers, compositeHead, compositeEnd, compositeBody, compositeDef, emitTypeDecl, emitCompositeDef, emitTypedefDef}
+use Rattle.rules.specs.Layout.{Pad, bitPadding, endOf}
+use Rattle.rules.specs.Placing.{bodyPacked, tailPads}
+use Rattle.rules.specs.Decl.{deeper, tailText, declTags, emitDeclTags, noParams, shownParams, emitParam, emitParams, baseWord, emitMembers, compositeHead, compositeEnd, compositeBody, compositeDef, emitTypeDecl, emitCompositeDef, emitTypedefDef}
 use Rattle.rules.specs.Place.{outOf, putSaid}
 use Rattle.rules.proofs.Writing.{put-only, stop-only, put-nothing, put-then, put-given, put-refused, put-then-kept}
 use Rattle.rules.proofs.Keeps.{keeps-put, keeps-then, keeps-composite-head, keeps-emit-members}
@@ -19,7 +20,7 @@ use Rattle.btf.specs.declared.types.Btf.{Btf}
 use Rattle.btf.specs.declared.types.BtfType.{BtfType as Record}
 use Rattle.btf.specs.Names.{strAt}
 use Rattle.btf.specs.Records.{sectionWord, paramAt, memberOf}
-use Rattle.btf.specs.Table.{from, paramOf, ruleMember}
+use Rattle.btf.specs.Table.{from, paramOf, ruleMember, btfOf}
 use Rattle.layout.specs.declared.Packed.{Packed}
 use Rattle.layout.specs.declared.Packed.the-variants.{Is, No as NoPacked}
 use Rattle.layout.specs.Answers.{packedOf}
@@ -183,9 +184,9 @@ module _ (b : Btf) (s : List ℕ) where
         )
 
   -- ---- emit_members: what is left from the k-th on
-  module _ (below id lvl : ℕ) (packed : Bool) (f : ℕ → Member) (vlen : ℕ) where
+  module _ (below id : ℕ) (tail : ℕ → List Pad) (lvl : ℕ) (packed : Bool) (f : ℕ → Member) (vlen : ℕ) where
     pub membersLeft : ℕ → ℕ → List ℕ → Said (List ℕ)
-    membersLeft k offset w = membersBelow (N b s) (T b s w) below id lvl packed k offset (from f k (vlen - k)) w
+    membersLeft k offset w = membersBelow (N b s) (T b s w) below id tail lvl packed k offset (from f k (vlen - k)) w
 
     pub members-again : (t₀ : List ℕ) (at₀ : ℕ) (s₀ : Said (List ℕ)) (t : List ℕ) (p offset k : ℕ) (w : List ℕ) (r : Spot) (t′ w′ : List ℕ) → k < vlen
         → Leads b s t₀ at₀ s₀ t p (membersLeft k offset w)
@@ -194,26 +195,26 @@ module _ (b : Btf) (s : List ℕ) where
     unfolding membersLeft seen
     members-again t₀ at₀ s₀ t p offset k w r t′ w′ h l o =
         rw (o .1)
-        (leads-turn b s (λ x. membersBelow (N b s) (x .0) below id lvl packed (k + 1) (endFrom (endOf (x .0) (f k))) (from f (k + 1) (vlen - (k + 1)))) t₀ at₀ s₀ t p _ _ w (r .at) t′ w′ l
-        (ap (λ (v : Writer (List ℕ)). v w) (ap (membersBelow (N b s) (T b s w) below id lvl packed k offset) (from-more f k vlen h) ∙ members-turn (N b s) (T b s w) below id lvl packed k offset (f k) (from f (k + 1) (vlen - (k + 1)))))
+        (leads-turn b s (λ x. membersBelow (N b s) (x .0) below id tail lvl packed (k + 1) (endFrom (endOf (x .0) (f k))) (from f (k + 1) (vlen - (k + 1)))) t₀ at₀ s₀ t p _ _ w (r .at) t′ w′ l
+        (ap (λ (v : Writer (List ℕ)). v w) (ap (membersBelow (N b s) (T b s w) below id tail lvl packed k offset) (from-more f k vlen h) ∙ members-turn (N b s) (T b s w) below id tail lvl packed k offset (f k) (from f (k + 1) (vlen - (k + 1)))))
         (kept-member b s (T b s w) below id lvl packed k offset (f k)) (o .0))
 
-    members-none : (k offset : ℕ) (B : Rules) → vlen ≤ k → membersBelow (N b s) B below id lvl packed k offset (from f k (vlen - k)) ≡ nothing
+    members-none : (k offset : ℕ) (B : Rules) → vlen ≤ k → membersBelow (N b s) B below id tail lvl packed k offset (from f k (vlen - k)) ≡ put (tailText lvl k (tail offset))
     unfolding emitMembers
-    members-none k offset B h = ap (membersBelow (N b s) B below id lvl packed k offset) (from-none f k vlen h)
+    members-none k offset B h = ap (membersBelow (N b s) B below id tail lvl packed k offset) (from-none f k vlen h)
 
-    pub members-end : (t₀ : List ℕ) (at₀ : ℕ) (s₀ : Said (List ℕ)) (t : List ℕ) (p offset k : ℕ) (w : List ℕ) → vlen ≤ k
-        → Leads b s t₀ at₀ s₀ t p (membersLeft k offset w) → outOf p t w ≡ putSaid t₀ at₀ s₀
+    pub members-end : (t₀ : List ℕ) (at₀ : ℕ) (s₀ : Said (List ℕ)) (t : List ℕ) (p offset k : ℕ) (w : List ℕ) (r : ℕ) (t′ : List ℕ) → vlen ≤ k
+        → Leads b s t₀ at₀ s₀ t p (membersLeft k offset w) → putOut r t′ ≡ putText t p (whole (tailText lvl k (tail offset))) → outOf r t′ w ≡ putSaid t₀ at₀ s₀
     unfolding membersLeft
-    members-end t₀ at₀ s₀ t p offset k w h l =
-        leads-end b s t₀ at₀ s₀ t p _ p t w l (said-as t p nothing _ w p t w (sym (members-none k offset (T b s w) h)) (put-nothing t p w))
+    members-end t₀ at₀ s₀ t p offset k w r t′ h l o =
+        leads-end b s t₀ at₀ s₀ t p _ r t′ w l (said-as t p (put (tailText lvl k (tail offset))) _ w r t′ w (sym (members-none k offset (T b s w) h)) (put-only t p _ w r t′ o))
 
     pub members-whole : (txt : List ℕ) (at : ℕ) (w : List ℕ) (n r : ℕ) (t′ w′ : List ℕ) → vlen ≡ n → outOf r t′ w′ ≡ putSaid txt at (membersLeft 0 0 w)
-        → outOf r t′ w′ ≡ putSaid txt at (membersBelow (N b s) (T b s w) below id lvl packed 0 0 (from f 0 n) w)
+        → outOf r t′ w′ ≡ putSaid txt at (membersBelow (N b s) (T b s w) below id tail lvl packed 0 0 (from f 0 n) w)
     unfolding membersLeft
     members-whole txt at w n r t′ w′ e o =
         let z : vlen - 0 ≡ n = omega arith in
-        said-as txt at _ _ w r t′ w′ (ap (λ (j : ℕ). membersBelow (N b s) (T b s w) below id lvl packed 0 0 (from f 0 j)) z) o
+        said-as txt at _ _ w r t′ w′ (ap (λ (j : ℕ). membersBelow (N b s) (T b s w) below id tail lvl packed 0 0 (from f 0 j)) z) o
 
   -- ---- emit_composite_def
   module _ (txt : List ℕ) (at : ℕ) (w : List ℕ) (left id : ℕ) (is-struct : Bool) (name : Name) (sz : ℕ) (ms : List Member) (lvl r : ℕ) where
@@ -229,7 +230,7 @@ module _ (b : Btf) (s : List ℕ) where
       def-as v t′ w′ e o = said-as txt at v _ w r t′ w′ (sym (def-some (N b s) (T b s w) left id is-struct name sz ms lvl h ∙ e)) o
 
       body-of : builtin name ≡ false
-          → compositeDef (N b s) (T b s w) (emitTypeDecl (N b s) (T b s w) (left - 1)) id is-struct name sz ms lvl ≡ given (isStructPacked (T b s w) is-struct sz ms) (compositeBody (N b s) (T b s w) (emitTypeDecl (N b s) (T b s w) (left - 1)) id is-struct name ms lvl)
+          → compositeDef (N b s) (T b s w) (emitTypeDecl (N b s) (T b s w) (left - 1)) id is-struct name sz ms lvl ≡ given (bodyPacked (T b s w) is-struct sz ms) (compositeBody (N b s) (T b s w) (emitTypeDecl (N b s) (T b s w) (left - 1)) id is-struct name sz ms lvl)
       unfolding compositeDef
       body-of q = rw (q, compositeDef)
 
@@ -240,26 +241,26 @@ module _ (b : Btf) (s : List ℕ) where
       pub def-builtin : r ≡ at → builtin name ≡ true → Defined txt w
       def-builtin e q = def-as nothing txt w (none-of q) (ap (λ (j : ℕ). outOf j txt w) e ∙ put-nothing txt at w)
 
-      module _ (q : builtin name ≡ false) (y : Packed) (a : packedOf y ≡ isStructPacked (T b s w) is-struct sz ms) where
+      module _ (q : builtin name ≡ false) (y : Packed) (a : packedOf y ≡ bodyPacked (T b s w) is-struct sz ms) where
         pub def-refused : (c : ℕ) → y ≡ NoPacked c → putOut r txt ≡ putText txt at (cut [] c) → Defined txt w
         unfolding packedOf
         def-refused c e o = def-as _ txt w (body-of q) (put-refused txt at _ w c _ r txt w (sym a ∙ ap packedOf e) (stop-only txt at c w r txt o))
 
         pub def-body : (packed : Bool) (deep p : ℕ) (t₁ w₁ : List ℕ) (o : ℕ) (t₂ w₂ t₃ : List ℕ) → y ≡ Is packed → deep ≡ deeper lvl
             → outOf p t₁ w₁ ≡ putSaid txt at (compositeHead (N b s) (T b s w) noDecl id is-struct name w)
-            → outOf o t₂ w₂ ≡ putSaid t₁ p (membersBelow (N b s) (T b s w₁) (left - 1) id deep packed 0 0 ms w₁)
+            → outOf o t₂ w₂ ≡ putSaid t₁ p (membersBelow (N b s) (T b s w₁) (left - 1) id (tailPads (b .placing) (b .«ptr_sz») is-struct sz) deep packed 0 0 ms w₁)
             → outOf r t₃ w₂ ≡ putSaid t₂ o (compositeEnd (N b s) (T b s w₂) noDecl id lvl ms packed w₂)
             → Defined t₃ w₂
-        unfolding packedOf compositeBody compositeHead compositeEnd seen
+        unfolding packedOf compositeBody compositeHead compositeEnd seen btfOf
         def-body packed deep p t₁ w₁ o t₂ w₂ t₃ e ed e₁ e₂ e₃ =
             def-as _ t₃ w₂ (body-of q)
             (put-given txt at _ w packed _ r t₃ w₂ (sym a ∙ ap packedOf e)
-            (then-on b s (λ x. membersBelow (N b s) (x .0) (left - 1) id (deeper lvl) packed 0 0 ms ⨾ compositeEnd (N b s) (x .0) noDecl id lvl ms packed) txt at _ w p t₁ w₁ r t₃ w₂
+            (then-on b s (λ x. membersBelow (N b s) (x .0) (left - 1) id (tailPads (b .placing) (b .«ptr_sz») is-struct sz) (deeper lvl) packed 0 0 ms ⨾ compositeEnd (N b s) (x .0) noDecl id lvl ms packed) txt at _ w p t₁ w₁ r t₃ w₂
             (keeps-composite-head (N b s) (seen b s) (keeps-type b s) (keeps-value b s) (T b s w) noDecl (λ i n l. keeps-put (seen b s) []) id is-struct name)
             e₁
             (then-on b s (λ x. compositeEnd (N b s) (x .0) noDecl id lvl ms packed) t₁ p _ w₁ o t₂ w₂ r t₃ w₂
-            (keeps-emit-members (N b s) (seen b s) (keeps-type b s) (keeps-value b s) (T b s w₁) (emitTypeDecl (N b s) (T b s w₁) (left - 1)) (kept-decl b s (T b s w₁) (left - 1)) id (deeper lvl) packed 0 0 ms)
-            (said-as t₁ p _ _ w₁ o t₂ w₂ (ap (λ (j : ℕ). membersBelow (N b s) (T b s w₁) (left - 1) id j packed 0 0 ms) ed) e₂)
+            (keeps-emit-members (N b s) (seen b s) (keeps-type b s) (keeps-value b s) (T b s w₁) (emitTypeDecl (N b s) (T b s w₁) (left - 1)) (kept-decl b s (T b s w₁) (left - 1)) id (tailPads (b .placing) (b .«ptr_sz») is-struct sz) (deeper lvl) packed 0 0 ms)
+            (said-as t₁ p _ _ w₁ o t₂ w₂ (ap (λ (j : ℕ). membersBelow (N b s) (T b s w₁) (left - 1) id (tailPads (b .placing) (b .«ptr_sz») is-struct sz) j packed 0 0 ms) ed) e₂)
             e₃)))
 
   -- ---- emit_typedef_def

@@ -9,7 +9,7 @@ use Rattle.lent.specs.Text.{ascii, pfx}
 use Rattle.rules.specs.Writer.{Ask, got, no, Writer, _⨾_, put, stop, nothing, given}
 use Rattle.rules.specs.Types.{Name, Member, Param, BtfType, Void, Int, Ptr, Array, Composite, Enum, Enum64, Fwd, Typedef, Mod, Func, Var, Datasec, FuncProto, Float, DeclTag, TypeTag, Btf}
 use Rattle.rules.specs.Names.{Naming}
-use Rattle.rules.specs.Layout.{bitPadding, endOf}
+use Rattle.rules.specs.Layout.{Pad, bitPadding, endOf}
 use Rattle.rules.specs.Decl.{Entry, base, star, qual, array, proto, tag, noMods, noParams, emitName, pads, bitSize, emitDeclTags, emitParams, chainOf, baseWord, chainLoop, emitMembers, compositeDef, emitTypeDecl, emitTypeChain, emitCompositeDef}
 use Rattle.decl.specs.Pieces.{entryLeft, entryStar, entryNamed, starText, wordBelow, loopBelow, entryText, chainRest, paramText, memberTail, memberText, membersBelow, endFrom, comma}
 use Rattle.decl.proofs.Sequences.{then-assoc, then-nothing, stop-then}
@@ -103,12 +103,12 @@ module _ {U : Type 0} (N : Naming U) (B : Btf) (below : ℕ) (id : ℕ) where
   tail-then i m k (no c) e = sym (stop-then c _)
 
   -- a member and those after it
-  pub members-turn : (lvl : ℕ) (packed : Bool) (i offset : ℕ) (m : Member) (ms : List Member)
-      → membersBelow N B below id lvl packed i offset (m ∷ ms) ≡ memberText N B below id lvl packed i offset m ⨾ membersBelow N B below id lvl packed (i + 1) (endFrom (endOf B m)) ms
+  pub members-turn : (tail : ℕ → List Pad) (lvl : ℕ) (packed : Bool) (i offset : ℕ) (m : Member) (ms : List Member)
+      → membersBelow N B below id tail lvl packed i offset (m ∷ ms) ≡ memberText N B below id lvl packed i offset m ⨾ membersBelow N B below id tail lvl packed (i + 1) (endFrom (endOf B m)) ms
   unfolding emitMembers memberText memberTail
-  members-turn lvl packed i offset m ms =
+  members-turn tail lvl packed i offset m ms =
       ap (λ (w : Writer U). given (bitPadding B offset m packed) (λ ps. put (pads lvl ps)) ⨾ put (ascii "\n") ⨾ put (pfx lvl) ⨾ emitTypeDecl N B below (m .type-id) (m .name) lvl ⨾ put (bitSize m) ⨾ w)
-      (tail-then i m (λ end. membersBelow N B below id lvl packed (i + 1) end ms) (endOf B m) refl)
+      (tail-then i m (λ end. membersBelow N B below id tail lvl packed (i + 1) end ms) (endOf B m) refl)
       ∙ sym (then-assoc _ _ _ ∙ ap (_⨾_ _) (then-assoc _ _ _ ∙ ap (_⨾_ _) (then-assoc _ _ _ ∙ ap (_⨾_ _) (then-assoc _ _ _ ∙ ap (_⨾_ _) (then-assoc _ _ _)))))
 
 -- ---- the three, unrolled

@@ -11,7 +11,7 @@ use Rattle.lent.specs.Decimal.{decimal}
 use Rattle.rules.specs.Writer.{Ask, got, no, Writer, _⨾_, put, nothing, given}
 use Rattle.rules.specs.Types.{Name, isEmpty, Member, Param, Enumerator, BtfType, Btf}
 use Rattle.rules.specs.Names.{Naming}
-use Rattle.rules.specs.Layout.{bitPadding, endOf}
+use Rattle.rules.specs.Layout.{Pad, bitPadding, endOf}
 use Rattle.rules.specs.Decl.{Entry, base, star, qual, array, proto, tag, mods, noMods, qualifier, attribute, brackets, pads, bitSize, emitDeclTags, emitEnumDef, enumWord, emitParam, emitParams, baseWord, emitArray, emitProto, paramList, chainLoop, emitMembers, emitTypeDecl, emitTypeChain, emitCompositeDef}
 
 -- ---- the chain: the entry on top of it
@@ -125,8 +125,8 @@ module _ {U : Type 0} (N : Naming U) (B : Btf) (below : ℕ) (id : ℕ) where
       ⨾ emitTypeDecl N B below (m .type-id) (m .name) lvl
       ⨾ memberTail B id i m
 
-  abbrev pub membersBelow : ℕ → Bool → ℕ → ℕ → List Member → Writer U
-  membersBelow lvl packed i offset ms = emitMembers N B (emitTypeDecl N B below) id lvl packed i offset ms
+  abbrev pub membersBelow : (ℕ → List Pad) → ℕ → Bool → ℕ → ℕ → List Member → Writer U
+  membersBelow tail lvl packed i offset ms = emitMembers N B (emitTypeDecl N B below) id tail lvl packed i offset ms
 
 -- where the next member may begin; 0 where there is no answer, and no next member either
 unfoldable pub endFrom : Ask ℕ → ℕ

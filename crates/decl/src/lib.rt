@@ -35,7 +35,6 @@ use chain::skip_mods;
 use enums::deeper;
 use layout::Ask;
 use layout::Packed;
-use layout::is_struct_packed;
 use lent::put_byte;
 use lent::put_dots;
 use lent::put_tabs;
@@ -52,6 +51,8 @@ use names::emit_fwd_def;
 use names::emit_name;
 use names::resolve_type_name;
 use padding::emit_bit_padding;
+use padding::emit_tail_padding;
+use placing::body_packed;
 use words::put_close;
 use words::put_comma;
 use words::put_count;
@@ -65,6 +66,7 @@ ghost use Prim.Native.Nat.{_≤_, _<_, _-_, _+_};
 ghost use lib.Dec.{eqb, leb};
 ghost use Rattle.rules.specs.Writer.{put, _⨾_};
 ghost use Rattle.rules.specs.Layout.{endOf};
+ghost use Rattle.rules.specs.Placing.{tailPads};
 ghost use Rattle.rules.specs.Types.{Composite};
 ghost use Rattle.rules.specs.Decl.{mods, noMods, shownParams, emitTypeDecl, emitTypeChain, emitCompositeDef, emitTypedefDef};
 ghost use Rattle.rules.specs.Place.{outOf, putSaid};
@@ -449,7 +451,7 @@ pub fn emit_composite_def(
     if is_builtin(b, section, t.name_off) {
         return at;
     }
-    match is_struct_packed(b, section, work, t) {
+    match body_packed(b, section, work, t) {
         Packed::Is(packed) => {
             let a = emit_composite_head(b, section, work, text, at, id, t);
             let c = emit_members(
@@ -482,7 +484,7 @@ fn emit_members(
     lvl: u32,
     below: u32,
 ) -> usize
-    ensures { λ r. ⌜ outOf r (now (text .exit)) (now (work .exit)) ≡ putSaid (now (text .entry)) at (membersBelow (workNaming b) (btfOf b (now (section .entry)) (now (work .entry))) below id lvl packed 0 0 (membersOf b (now (section .entry)) t) (now (work .entry))) ⌝ }
+    ensures { λ r. ⌜ outOf r (now (text .exit)) (now (work .exit)) ≡ putSaid (now (text .entry)) at (membersBelow (workNaming b) (btfOf b (now (section .entry)) (now (work .entry))) below id (tailPads (b .placing) (b .«ptr_sz») (eqb (kindOf (t .info)) 4) (t .«type_id»)) lvl packed 0 0 (membersOf b (now (section .entry)) t) (now (work .entry))) ⌝ }
 {
     let vlen = vlen_of(t.info);
     let mut s = Spot { at: at, offset: 0 };
@@ -494,7 +496,7 @@ fn emit_members(
         s = emit_member(b, section, work, text, s, id, t, k, packed, lvl, below);
         k += 1;
     }
-    s.at
+    emit_tail_padding(b, text, s.at, t, k, s.offset, lvl)
 }
 
 fn emit_member(

@@ -35,6 +35,7 @@ renamed other B = record {
   ptr-sz = B .ptr-sz;
   union-as-struct = B .union-as-struct;
   strong-arrays = B .strong-arrays;
+  placing = B .placing;
   type-cnt = B .type-cnt;
   type-by-id = λ id. renameType (other id) (B .type-by-id id);
   decl-tags = B .decl-tags;

@@ -26,7 +26,8 @@ use Rattle.demand.proofs.Lists.{FineLine, fine-says, fine-cannot, FineL
 fine-code : (c : ℕ) → Code c → Fine c
 fine-code c (inl e) = λ q. omega arith
 fine-code c (inr (inl e)) = λ q. omega arith
-fine-code c (inr (inr e)) = λ q. omega arith
+fine-code c (inr (inr (inl e))) = λ q. omega arith
+fine-code c (inr (inr (inr e))) = λ q. omega arith
 
 fine-17 : Fine 17
 fine-17 e = omega arith

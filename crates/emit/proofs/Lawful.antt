@@ -115,10 +115,11 @@ pub data Line (m : Sheet) : Out Sheet → Type 0 where
 17-fine : Fine 17
 17-fine e = omega arith
 
-code-fine : (c : ℕ) → (c ≡ 12) ⊎ (c ≡ 15) ⊎ (c ≡ 16) → Fine c
+code-fine : (c : ℕ) → (c ≡ 12) ⊎ (c ≡ 15) ⊎ (c ≡ 16) ⊎ (c ≡ 18) → Fine c
 code-fine c (inl e) f = omega arith
 code-fine c (inr (inl e)) f = omega arith
-code-fine c (inr (inr e)) f = omega arith
+code-fine c (inr (inr (inl e))) f = omega arith
+code-fine c (inr (inr (inr e))) f = omega arith
 
 place-length : (t : List ℕ) (at : ℕ) (a : List ℕ) → at + length a ≤ length t → length (place t at a) ≡ length t
 place-length t at a h =

@@ -5,7 +5,7 @@ use mathlib.Core.List.{List, [], _∷_, _++_}
 use Rattle.btf.specs.declared.types.Btf.{Btf}
 
 abbrev pub three : Btf
-three = record { «ptr_sz» = 8; «union_as_struct» = false; «big_endian» = false; «strong_arrays» = false; types = 3; strs = 24 }
+three = record { «ptr_sz» = 8; «union_as_struct» = false; «big_endian» = false; «strong_arrays» = false; placing = false; types = 3; strs = 24 }
 
 abbrev pub word : ℕ → List ℕ
 word n = n ∷ 0 ∷ 0 ∷ 0 ∷ []

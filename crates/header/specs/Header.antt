@@ -19,7 +19,7 @@ unfoldable pub stringsAt : List ℕ → ℕ
 stringsAt s = pick (ltb (wordOf s 4 + wordOf s 16) 4294967296) (wordOf s 4 + wordOf s 16) 4294967295
 
 -- what a table's types need of its header and settings: "pointer size 4 or 8"; "union_as_struct, chosen at opening" (bit 0); "a setting
--- under which passing an array forgets pointers passed before it" (bit 1);
+-- under which passing an array forgets pointers passed before it" (bit 1); "a placing mode beside the old one" (bit 2);
 -- "A section whose first bytes are EB 9F is read with every word most significant byte first"
 unfoldable pub btfOf : List ℕ → ℕ → ℕ → ℕ → Btf
 btfOf s pointer modes types = record {
@@ -27,6 +27,7 @@ btfOf s pointer modes types = record {
   «union_as_struct» = eqb (modes % 2) 1;
   «big_endian» = bigEndian s;
   «strong_arrays» = eqb (modes / 2 % 2) 1;
+  placing = eqb (modes / 4 % 2) 1;
   types = pick (ltb types 262145) types 262145;
   strs = stringsAt s;
 }

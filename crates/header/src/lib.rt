@@ -177,6 +177,7 @@ pub fn btf_of(section: &[u8], pointer_size: u32, modes: u32, types: u32) -> Btf
         union_as_struct: modes % 2 == 1,
         big_endian: is_big_endian(section),
         strong_arrays: modes / 2 % 2 == 1,
+        placing: modes / 4 % 2 == 1,
         types: count_of_types(types),
         strs: strings_at(h),
     }

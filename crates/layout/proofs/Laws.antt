@@ -65,6 +65,10 @@ unfolding alignMembers alignIds
 align-ids f a [] = refl
 align-ids f a (m ∷ ms) = ap (askThen (f (m .type-id))) (λ i c. align-ids f (larger a c) ms i)
 
+-- composite_align
+pub whole-align : (f : ℕ → Ask ℕ) (b : Btf) (s : List ℕ) (t : Record) (x : Entries) (r : Code) → x ≡ entriesOf t → askOf r ≡ alignIds f 1 (memberIds b s x) → askOf r ≡ alignMembers f 1 (membersOf b s t)
+whole-align f b s t x r ex er = er ∙ ap (λ (z : Entries). alignIds f 1 (memberIds b s z)) ex ∙ ap (alignIds f 1) (sym (member-types b s t)) ∙ sym (align-ids f 1 (membersOf b s t))
+
 -- ---- get_size_of
 module _ (b : Btf) (s w : List ℕ) (left id : ℕ) where
   pub size-deep : left ≡ 0 → askOf (No 12) ≡ getSizeOf left (btfOf b s w) id

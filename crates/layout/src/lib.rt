@@ -21,7 +21,7 @@ ghost use mathlib.Core.Path.{_≡_};
 ghost use Prim.Native.Nat.{_*_};
 ghost use lib.Dec.{eqb};
 ghost use Rattle.rules.specs.Writer.{checked, askThen};
-ghost use Rattle.rules.specs.Layout.{octets, getSizeOf, getAlignOf, isStructPacked, endOf, chipAwayBits};
+ghost use Rattle.rules.specs.Layout.{octets, getSizeOf, alignMembers, getAlignOf, isStructPacked, endOf, chipAwayBits};
 ghost use Rattle.btf.specs.Records.{kindOf};
 ghost use Rattle.btf.specs.Table.{btfOf, membersOf, ruleMember};
 ghost use Rattle.btf.specs.Nodes.{memberIds};
@@ -133,6 +133,13 @@ fn align_members(b: Btf, section: &[u8], work: &[u8], members: Entries, left: u3
         k += 1;
     }
     Ask::Got(align)
+}
+
+// The alignment of a composite: that of its members, one call deeper.
+pub fn composite_align(b: Btf, section: &[u8], work: &[u8], t: BtfType) -> Ask
+    ensures { λ r. ⌜ askOf r ≡ alignMembers (getAlignOf 511 (btfOf b (now (section .entry)) (now (work .entry)))) 1 (membersOf b (now (section .entry)) t) ⌝ }
+{
+    align_members(b, section, work, entries_of(t), 511)
 }
 
 // What the members of a struct say: the largest alignment, at least 1, and of the plain ones, in order, the first that is

@@ -36,7 +36,7 @@ section =
     (0 ∷ 97 ∷ 98 ∷ 0 ∷ 97 ∷ 98 ∷ 99 ∷ 0 ∷ 97 ∷ 98 ∷ 0 ∷ [])
 
 pub context : Btf
-context = record { «ptr_sz» = 8; «union_as_struct» = false; «big_endian» = false; «strong_arrays» = false; types = 7; strs = 112 }
+context = record { «ptr_sz» = 8; «union_as_struct» = false; «big_endian» = false; «strong_arrays» = false; placing = false; types = 7; strs = 112 }
 
 -- the places of the records and entries, and else zeros
 pub work : List ℕ

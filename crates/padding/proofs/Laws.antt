@@ -1,6 +1,6 @@
 -- What each return of the code comes to, and how a caller's writer has it. Assumes nothing.
 use Prim.Native.Nat.{ℕ, zero, suc, _+_, _-_, _*_, _<_, _≤_}
-use mathlib.Core.Path.{_≡_, refl, ap, _∙_, sym}
+use mathlib.Core.Path.{_≡_, refl, ap, ap₂, _∙_, sym}
 use mathlib.Core.Bool.{Bool, true, false, _&&_}
 use mathlib.Core.List.{List, [], _∷_, _++_}
 use mathlib.Core.Logic.{_⊎_, inl, inr, ⊎-elim}
@@ -12,7 +12,7 @@ use Rattle.lent.proofs.TextLaws.{put-seq, put-same, put-empty, put-stopped}
 use Rattle.rules.specs.Writer.{Ask, got, no, askThen, Said, said, put, stop, given}
 use Rattle.rules.specs.Place.{outOf, putSaid}
 use Rattle.rules.specs.Types.{Member, Btf as Rules}
-use Rattle.rules.specs.Layout.{smaller, PadUnit, long, int, short, char, Pad, chipAwayBits, padOf, padsOf, gapPads, getAlignOf, bitPadding}
+use Rattle.rules.specs.Layout.{smaller, PadUnit, long, int, short, char, Pad, chipAwayBits, padOf, padsOf, gapPads, padsBefore, getAlignOf, bitPadding}
 use Rattle.rules.specs.Decl.{unitWord, pads}
 use Rattle.rules.proofs.Writing.{text-only}
 use Rattle.btf.specs.declared.types.Btf.{Btf}
@@ -83,7 +83,7 @@ unfolding padLine padIs
 line-is lvl p = refl
 
 -- ---- put_pads: what is written from here with the rest is what is to be written from the start
-pub Goes : List ℕ → ℕ → List ℕ → List ℕ → ℕ → List ℕ → Type 0
+unfoldable pub Goes : List ℕ → ℕ → List ℕ → List ℕ → ℕ → List ℕ → Type 0
 Goes t₀ at a₀ t p a = (r : ℕ) (u : List ℕ) → putOut r u ≡ putText t p (whole a) → putOut r u ≡ putText t₀ at (whole a₀)
 
 pub goes-start : (t : List ℕ) (at : ℕ) (a : List ℕ) → Goes t at a t at a
@@ -160,28 +160,32 @@ pub ptr-size : (b : Btf) (s w : List ℕ) → b .«ptr_sz» ≡ btfOf b s w .ptr
 unfolding btfOf
 ptr-size b s w = refl
 
+pub mode-is : (b : Btf) (s w : List ℕ) → b .placing ≡ btfOf b s w .placing
+unfolding btfOf
+mode-is b s w = refl
+
 module _ (B : Rules) (offset : ℕ) (m : Member) (packed : Bool) (lvl : ℕ) (t : List ℕ) (at : ℕ) where
   pub emit-none : m .bit-offset ≤ offset → putOut at t ≡ putText t at (padText lvl (bitPadding B offset m packed))
   unfolding bitPadding padText pads
   emit-none h = let e : bitPadding B offset m packed ≡ got [] = rw (le-leb (m .bit-offset) offset h, bitPadding) in put-empty t at ∙ sym (ap (λ (x : Ask (List Pad)). putText t at (padText lvl x)) e)
 
   module _ (h : offset < m .bit-offset) (y : Answer) (ey : askOf y ≡ gapAlign B (m .type-id) packed) where
-    asked : bitPadding B offset m packed ≡ askThen (askOf y) (λ a. got (gapPads (B .ptr-sz) (m .bit-size) (m .bit-offset - offset) a))
+    asked : bitPadding B offset m packed ≡ askThen (askOf y) (λ a. got (padsBefore (B .placing) (B .ptr-sz) offset (m .bit-size) (m .bit-offset - offset) a))
     unfolding bitPadding gapAlign
-    asked = rw (lt-leb (m .bit-offset) offset h, bitPadding) (ap (λ (x : Ask ℕ). askThen x (λ a. got (gapPads (B .ptr-sz) (m .bit-size) (m .bit-offset - offset) a))) (sym ey))
+    asked = rw (lt-leb (m .bit-offset) offset h, bitPadding) (ap (λ (x : Ask ℕ). askThen x (λ a. got (padsBefore (B .placing) (B .ptr-sz) offset (m .bit-size) (m .bit-offset - offset) a))) (sym ey))
 
-    pub emit-gap : (p a r : ℕ) (u : List ℕ) → p ≡ B .ptr-sz → y ≡ Got a → putOut r u ≡ putText t at (whole (pads lvl (gapPads p (m .bit-size) (m .bit-offset - offset) a))) → putOut r u ≡ putText t at (padText lvl (bitPadding B offset m packed))
+    pub emit-gap : (pl : Bool) (p a r : ℕ) (u : List ℕ) → pl ≡ B .placing → p ≡ B .ptr-sz → y ≡ Got a → putOut r u ≡ putText t at (whole (pads lvl (padsBefore pl p offset (m .bit-size) (m .bit-offset - offset) a))) → putOut r u ≡ putText t at (padText lvl (bitPadding B offset m packed))
     unfolding padText askThen askOf
-    emit-gap p a r u ep g e =
+    emit-gap pl p a r u el ep g e =
         e
-        ∙ ap (λ (n : ℕ). putText t at (whole (pads lvl (gapPads n (m .bit-size) (m .bit-offset - offset) a)))) ep
-        ∙ sym (ap (λ (x : Ask (List Pad)). putText t at (padText lvl x)) (asked ∙ ap (λ (z : Answer). askThen (askOf z) (λ a. got (gapPads (B .ptr-sz) (m .bit-size) (m .bit-offset - offset) a))) g))
+        ∙ ap₂ (λ (l : Bool) (n : ℕ). putText t at (whole (pads lvl (padsBefore l n offset (m .bit-size) (m .bit-offset - offset) a)))) el ep
+        ∙ sym (ap (λ (x : Ask (List Pad)). putText t at (padText lvl x)) (asked ∙ ap (λ (z : Answer). askThen (askOf z) (λ a. got (padsBefore (B .placing) (B .ptr-sz) offset (m .bit-size) (m .bit-offset - offset) a))) g))
 
     pub emit-refused : (c r : ℕ) (u : List ℕ) → y ≡ No c → putOut r u ≡ putText t at (cut [] c) → putOut r u ≡ putText t at (padText lvl (bitPadding B offset m packed))
     unfolding padText askThen askOf
     emit-refused c r u g e =
         e
-        ∙ sym (ap (λ (x : Ask (List Pad)). putText t at (padText lvl x)) (asked ∙ ap (λ (z : Answer). askThen (askOf z) (λ a. got (gapPads (B .ptr-sz) (m .bit-size) (m .bit-offset - offset) a))) g))
+        ∙ sym (ap (λ (x : Ask (List Pad)). putText t at (padText lvl x)) (asked ∙ ap (λ (z : Answer). askThen (askOf z) (λ a. got (padsBefore (B .placing) (B .ptr-sz) offset (m .bit-size) (m .bit-offset - offset) a))) g))
 
 -- ---- for a caller: the text is what the rules' writer says
 module _ {U : Type 0} where

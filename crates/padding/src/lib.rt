@@ -1,6 +1,8 @@
-// Pads before a member.
+// Pads before a member, and in placing mode after the last.
 use btf::Btf;
 use btf::BtfMember;
+use btf::BtfType;
+use btf::is_struct;
 use layout::Ask;
 use layout::chip_away_bits;
 use layout::get_align_of;
@@ -15,13 +17,16 @@ use lent::put_two;
 use lent::stop;
 use lent::stopped;
 ghost use mathlib.Core.Path.{_≡_};
-ghost use Prim.Native.Nat.{_*_};
+ghost use Prim.Native.Nat.{_*_, _-_};
+ghost use lib.Dec.{eqb};
 ghost use Rattle.lent.specs.Text.{whole, putOut, putText};
-ghost use Rattle.rules.specs.Layout.{smaller, padOf, padsOf, gapPads, bitPadding};
-ghost use Rattle.rules.specs.Decl.{unitWord, pads};
+ghost use Rattle.rules.specs.Layout.{smaller, padOf, padsOf, gapPads, placedPad, placedPads, placedGap, padsBefore, bitPadding};
+ghost use Rattle.rules.specs.Placing.{tailPads};
+ghost use Rattle.rules.specs.Decl.{unitWord, pads, tailText};
+ghost use Rattle.btf.specs.Records.{kindOf};
 ghost use Rattle.btf.specs.Table.{btfOf, ruleMember};
 ghost use Rattle.layout.specs.Answers.{askOf};
-ghost use Rattle.padding.specs.Texts.{unitOf, padIs, padLine, gapAlign, padText};
+ghost use Rattle.padding.specs.Texts.{unitOf, padIs, padLine, gapAlign, padText, suitsBy, placedChar, loneLine};
 
 // A pad: its unit (3 long, 2 int, 1 short, 0 char) and its width in bits.
 struct Pad {
@@ -116,6 +121,75 @@ fn put_pads(text: &mut [u8], at: usize, ptr_sz: u32, gap: u32, lvl: u32) -> usiz
     p
 }
 
+// Whether a pad of 2^log = width bits starts on a multiple of its width, by the zeros at the end of its start, and fits.
+fn suits(start: u64, gap: u64, log: u32, width: u64) -> bool
+    ensures { λ r. ⌜ r ≡ suitsBy start gap log width ⌝ }
+{
+    if u64::trailing_zeros(start) < log {
+        return false;
+    }
+    width <= gap
+}
+
+// The next pad of placing mode that is a char.
+fn char_pad(start: u64, gap: u64) -> Pad
+    ensures { λ r. ⌜ padIs r ≡ placedChar start gap ⌝ }
+{
+    if suits(start, gap, 3, 8) {
+        return Pad { unit: 0, width: 8 };
+    }
+    if suits(start, gap, 2, 4) {
+        return Pad { unit: 0, width: 4 };
+    }
+    if suits(start, gap, 1, 2) {
+        return Pad { unit: 0, width: 2 };
+    }
+    Pad { unit: 0, width: 1 }
+}
+
+// The next pad of placing mode that is no long.
+fn narrow_pad(start: u64, gap: u64) -> Pad
+    ensures { λ r. ⌜ padIs r ≡ placedPad 0 start gap ⌝ }
+{
+    if suits(start, gap, 5, 32) {
+        return Pad { unit: 2, width: 32 };
+    }
+    if suits(start, gap, 4, 16) {
+        return Pad { unit: 1, width: 16 };
+    }
+    char_pad(start, gap)
+}
+
+// The next pad of placing mode: the widest unit whose start is a multiple of its width and that still fits the gap.
+fn placed_pad(ptr_sz: u32, start: u64, gap: u64) -> Pad
+    ensures { λ r. ⌜ padIs r ≡ placedPad «ptr_sz» start gap ⌝ }
+{
+    if ptr_sz != 8 {
+        return narrow_pad(start, gap);
+    }
+    if suits(start, gap, 6, 64) {
+        return Pad { unit: 3, width: 64 };
+    }
+    narrow_pad(start, gap)
+}
+
+// The pads of placing mode from one bit to another.
+fn put_placed_pads(text: &mut [u8], at: usize, ptr_sz: u32, start: u64, end: u64, lvl: u32) -> usize
+    ensures { λ r. ⌜ putOut r (now (text .exit)) ≡ putText (now (text .entry)) at (whole (pads lvl (placedPads (end - start) «ptr_sz» start (end - start)))) ⌝ }
+{
+    let mut p = at;
+    let mut s = start;
+    while s < end {
+        if stopped(text, p) {
+            return p;
+        }
+        let pad = placed_pad(ptr_sz, s, end - s);
+        p = put_pad(text, p, pad, lvl);
+        s += pad.width as u64;
+    }
+    p
+}
+
 // The alignment that decides whether a gap is natural.
 fn gap_align(b: Btf, section: &[u8], work: &[u8], m: BtfMember, packed: bool) -> Ask
     ensures { λ r. ⌜ askOf r ≡ gapAlign (btfOf b (now (section .entry)) (now (work .entry))) (m .«type_id») packed ⌝ }
@@ -147,6 +221,50 @@ fn put_gap(
     put_pads(text, at, ptr_sz, gap, lvl)
 }
 
+// The same gaps have pads in placing mode.
+fn put_placed_gap(
+    text: &mut [u8],
+    at: usize,
+    ptr_sz: u32,
+    start: u32,
+    bit_size: u32,
+    gap: u32,
+    a: u32,
+    lvl: u32,
+) -> usize
+    ensures { λ r. ⌜ putOut r (now (text .exit)) ≡ putText (now (text .entry)) at (whole (pads lvl (placedGap «ptr_sz» start «bit_size» gap a))) ⌝ }
+{
+    let from = start as u64;
+    let width = gap as u64;
+    let end = from + width;
+    if bit_size != 0 {
+        return put_placed_pads(text, at, ptr_sz, from, end, lvl);
+    }
+    if width < (a as u64) * 8 {
+        return at;
+    }
+    put_placed_pads(text, at, ptr_sz, from, end, lvl)
+}
+
+// The mode chooses.
+fn put_pads_before(
+    b: Btf,
+    text: &mut [u8],
+    at: usize,
+    start: u32,
+    bit_size: u32,
+    gap: u32,
+    a: u32,
+    lvl: u32,
+) -> usize
+    ensures { λ r. ⌜ putOut r (now (text .exit)) ≡ putText (now (text .entry)) at (whole (pads lvl (padsBefore (b .placing) (b .«ptr_sz») start «bit_size» gap a))) ⌝ }
+{
+    if b.placing {
+        return put_placed_gap(text, at, b.ptr_sz, start, bit_size, gap, a, lvl);
+    }
+    put_gap(text, at, b.ptr_sz, bit_size, gap, a, lvl)
+}
+
 pub fn emit_bit_padding(
     b: Btf,
     section: &[u8],
@@ -165,7 +283,43 @@ pub fn emit_bit_padding(
         return at;
     }
     match gap_align(b, section, work, m, packed) {
-        Ask::Got(a) => put_gap(text, at, b.ptr_sz, m.bit_size, end - offset, a, lvl),
+        Ask::Got(a) => put_pads_before(b, text, at, offset, m.bit_size, end - offset, a, lvl),
         Ask::No(c) => stop(text, at, c),
     }
+}
+
+// A newline, where no member gave the closing bracket a line of its own.
+fn put_own_line(text: &mut [u8], at: usize, members: u32) -> usize
+    ensures { λ r. ⌜ putOut r (now (text .exit)) ≡ putText (now (text .entry)) at (whole (loneLine members)) ⌝ }
+{
+    if members != 0 {
+        return at;
+    }
+    put_byte(text, at, b'\n')
+}
+
+// What stands after the last of a body's members, which ends at an offset: in placing mode the pads that fill a struct to its size.
+pub fn emit_tail_padding(
+    b: Btf,
+    text: &mut [u8],
+    at: usize,
+    t: BtfType,
+    members: u32,
+    offset: u32,
+    lvl: u32,
+) -> usize
+    ensures { λ r. ⌜ putOut r (now (text .exit)) ≡ putText (now (text .entry)) at (whole (tailText lvl members (tailPads (b .placing) (b .«ptr_sz») (eqb (kindOf (t .info)) 4) (t .«type_id») offset))) ⌝ }
+{
+    if !b.placing {
+        return at;
+    }
+    if !is_struct(t) {
+        return at;
+    }
+    let end = (t.type_id as u64) * 8;
+    if end <= (offset as u64) {
+        return at;
+    }
+    let a = put_placed_pads(text, at, b.ptr_sz, offset as u64, end, lvl);
+    put_own_line(text, a, members)
 }

@@ -1,4 +1,4 @@
--- What every emitter is put together from: texts, refusals by 12, 15 and 16, one writer after another, and versions of names. A relation between
+-- What every emitter is put together from: texts, refusals by 12, 15, 16 and 18, one writer after another, and versions of names. A relation between
 -- writers that these keep, all emitters keep. Assumes nothing.
 use Prim.Native.Nat.{ℕ, zero, suc, _+_, _-_, _*_, _%_}
 use mathlib.Core.Path.{_≡_, refl}
@@ -10,14 +10,15 @@ use lib.Dec.{ltb, leb, eqb}
 use Rattle.lent.specs.Text.{ascii, pfx}
 use Rattle.rules.specs.Writer.{Ask, got, no, askThen, checked, tooDeep, alignZero, overflow, Writer, _⨾_, put, stop, nothing, given}
 use Rattle.rules.specs.Types.{Name, isEmpty, Member, Param, Enumerator, BtfType, Void, Int, Ptr, Array, Composite, Enum, Enum64, Fwd, Typedef, Mod, Func, Var, Datasec, FuncProto, Float, DeclTag, TypeTag, Btf}
-use Rattle.rules.specs.Layout.{sizeOf, getSizeOf, larger, alignMembers, alignOf, getAlignOf, offAlign, membersPacked, isStructPacked, Pad, gapPads, bitPadding, endOf}
+use Rattle.rules.specs.Layout.{sizeOf, getSizeOf, larger, alignMembers, alignOf, getAlignOf, offAlign, membersPacked, isStructPacked, Pad, bitPadding, endOf}
+use Rattle.rules.specs.Placing.{fieldSize, Extent, withMember, extentOf, noExtent, unionAlign, sizeFits, measured, bodyPacked, tailPads}
 use Rattle.rules.specs.Names.{Space, tagSpace, identSpace, Naming, resolving, spelled, resolveTypeName, resolveName, builtin}
 use Rattle.rules.specs.Decl.{deeper, sepName, keyword, attribute, declTags, emitDeclTags, qualifier, enumValue, enum64Value, Entry, base, star, qual, array, proto, tag, Link, ends, leads, linkOf, chainOn, chainOf, mods, noMods, isArray, noParams, shownParams, pads, lastNewline, bitSize, emitCompositeFwd, emitFwdDef, enumWord, emitValues, enumBody, emitEnumDef, emitName, brackets, parens, emitParam, emitParams, baseWord, emitArray, emitProto, paramList, chainLoop, emitMembers, compositeHead, compositeEnd, compositeBody, compositeDef, emitTypeDecl, emitTypeChain, emitCompositeDef, emitTypedefDef}
 use Rattle.rules.specs.Emit.{lineEnd, definition, shown, forward}
 
 -- the refusals of a line
 abbrev pub Code : ℕ → Type 0
-Code c = (c ≡ 12) ⊎ (c ≡ 15) ⊎ (c ≡ 16)
+Code c = (c ≡ 12) ⊎ (c ≡ 15) ⊎ (c ≡ 16) ⊎ (c ≡ 18)
 
 -- ---- what is asked for is refused by these alone
 
@@ -39,7 +40,7 @@ deep = refuses 12 (inl refl)
 
 asks-checked : (n : ℕ) → Asks (checked n)
 unfolding checked
-asks-checked n = asks-if (ltb n 4294967296) _ _ (gets n) (refuses 16 (inr (inr refl)))
+asks-checked n = asks-if (ltb n 4294967296) _ _ (gets n) (refuses 16 (inr (inr (inl refl))))
 
 module _ (B : Btf) where
   asks-size-of : (size : ℕ → Ask ℕ) → ((id : ℕ) → Asks (size id)) → (t : BtfType) → Asks (sizeOf B size t)
@@ -127,6 +128,26 @@ module _ (B : Btf) where
       asks-if (eqb (m .bit-size) 0) _ _
       (asks-then (getSizeOf 512 B (m .type-id)) _ (asks-size 512 (m .type-id)) (λ s. asks-then (checked (8 * s)) _ (asks-checked (8 * s)) (λ bits. asks-checked (m .bit-offset + bits))))
       (asks-checked (m .bit-offset + m .bit-size))
+
+  asks-extent : (is-struct packed : Bool) (x : Extent) (ms : List Member) → Asks (extentOf B is-struct packed x ms)
+  unfolding extentOf fieldSize
+  asks-extent is-struct packed x [] = gets _
+  asks-extent is-struct packed x (m ∷ ms) =
+      asks-then (elim (eqb (m .bit-size) 0) [ true ↦ got 0 | false ↦ getSizeOf 512 B (m .type-id) ]) _ (asks-if (eqb (m .bit-size) 0) _ _ (gets 0) (asks-size 512 (m .type-id)))
+      (λ size. asks-then (endOf B m) _ (asks-end m) (λ end. asks-extent is-struct packed (withMember is-struct packed x size end (m .bit-offset) (m .bit-size)) ms))
+
+  asks-measured : (is-struct : Bool) (sz : ℕ) (ms : List Member) → Asks (measured B is-struct sz ms)
+  unfolding measured unionAlign
+  asks-measured is-struct sz ms =
+      asks-then (elim is-struct [ true ↦ got 1 | false ↦ alignMembers (getAlignOf 511 B) 1 ms ]) _ (asks-if is-struct _ _ (gets 1) (asks-members (getAlignOf 511 B) (asks-align 511) 1 ms))
+      (λ a. asks-then (isStructPacked B is-struct sz ms) _ (asks-struct is-struct sz ms)
+      (λ packed. asks-then (extentOf B is-struct packed noExtent ms) _ (asks-extent is-struct packed noExtent ms)
+      (λ x. asks-then (checked (8 * sz)) _ (asks-checked (8 * sz))
+      (λ bits. asks-if (x .fits && sizeFits is-struct a (x .last) bits) _ _ (gets packed) (refuses 18 (inr (inr (inr refl))))))))
+
+  pub asks-body : (is-struct : Bool) (sz : ℕ) (ms : List Member) → Asks (bodyPacked B is-struct sz ms)
+  unfolding bodyPacked
+  asks-body is-struct sz ms = asks-if (B .placing) _ _ (asks-measured is-struct sz ms) (asks-struct is-struct sz ms)
 
   asks-chain-on : (walk : ℕ → List Entry → Ask (List Entry)) → ((t : ℕ) (c : List Entry) → Asks (walk t c)) → (id : ℕ) (c : List Entry) (l : Link) → Asks (chainOn walk id c l)
   unfolding chainOn
@@ -307,13 +328,13 @@ module _ {U W : Type 0} (N₁ : Naming U) (N₂ : Naming W) (Fits : Space → �
           r-chain-loop (suc n) last-was-ptr (tag a name ∷ c) = r-then (r-put _) (r-then (r-put _) (r-chain-loop n false (noMods c)))
 
       module _ (id : ℕ) where
-        pub r-emit-members : (lvl : ℕ) (packed : Bool) (i offset : ℕ) (ms : List Member) → S (emitMembers N₁ B d₁ id lvl packed i offset ms) (emitMembers N₂ B d₂ id lvl packed i offset ms)
+        pub r-emit-members : (tail : ℕ → List Pad) (lvl : ℕ) (packed : Bool) (i offset : ℕ) (ms : List Member) → S (emitMembers N₁ B d₁ id tail lvl packed i offset ms) (emitMembers N₂ B d₂ id tail lvl packed i offset ms)
         unfolding emitMembers
-        r-emit-members lvl packed i offset [] = r-put []
-        r-emit-members lvl packed i offset (m ∷ ms) =
+        r-emit-members tail lvl packed i offset [] = r-put _
+        r-emit-members tail lvl packed i offset (m ∷ ms) =
             r-then (r-given (bitPadding B offset m packed) (asks-padding B offset m packed) (λ ps. r-put _))
             (r-then (r-put _) (r-then (r-put _) (r-then (hd (m .type-id) (m .name) lvl) (r-then (r-put _)
-            (r-given (endOf B m) (asks-end B m) (λ end. r-then (r-put _) (r-then (r-put _) (r-emit-members lvl packed (i + 1) end ms))))))))
+            (r-given (endOf B m) (asks-end B m) (λ end. r-then (r-put _) (r-then (r-put _) (r-emit-members tail lvl packed (i + 1) end ms))))))))
 
         pub r-composite-head : (is-struct : Bool) (name : Name) → Fits tagSpace id name → S (compositeHead N₁ B d₁ id is-struct name) (compositeHead N₂ B d₂ id is-struct name)
         unfolding compositeHead
@@ -323,16 +344,17 @@ module _ {U W : Type 0} (N₁ : Naming U) (N₂ : Naming W) (Fits : Space → �
         unfolding compositeEnd
         r-composite-end lvl ms packed = r-then (r-put _) (r-then (r-put _) (r-then (r-put _) (r-then (r-put _) (r-put _))))
 
-        pub r-composite-body : (is-struct : Bool) (name : Name) (ms : List Member) (lvl : ℕ) (packed : Bool) → Fits tagSpace id name
-            → S (compositeBody N₁ B d₁ id is-struct name ms lvl packed) (compositeBody N₂ B d₂ id is-struct name ms lvl packed)
+        pub r-composite-body : (is-struct : Bool) (name : Name) (sz : ℕ) (ms : List Member) (lvl : ℕ) (packed : Bool) → Fits tagSpace id name
+            → S (compositeBody N₁ B d₁ id is-struct name sz ms lvl packed) (compositeBody N₂ B d₂ id is-struct name sz ms lvl packed)
         unfolding compositeBody
-        r-composite-body is-struct name ms lvl packed fit = r-then (r-composite-head is-struct name fit) (r-then (r-emit-members (deeper lvl) packed 0 0 ms) (r-composite-end lvl ms packed))
+        r-composite-body is-struct name sz ms lvl packed fit =
+            r-then (r-composite-head is-struct name fit) (r-then (r-emit-members (tailPads (B .placing) (B .ptr-sz) is-struct sz) (deeper lvl) packed 0 0 ms) (r-composite-end lvl ms packed))
 
         pub r-composite-def : (is-struct : Bool) (name : Name) (sz : ℕ) (ms : List Member) (lvl : ℕ) → Fits tagSpace id name
             → S (compositeDef N₁ B d₁ id is-struct name sz ms lvl) (compositeDef N₂ B d₂ id is-struct name sz ms lvl)
         unfolding compositeDef
         r-composite-def is-struct name sz ms lvl fit =
-            r-if (builtin name) (r-put []) (r-given (isStructPacked B is-struct sz ms) (asks-struct B is-struct sz ms) (λ packed. r-composite-body is-struct name ms lvl packed fit))
+            r-if (builtin name) (r-put []) (r-given (bodyPacked B is-struct sz ms) (asks-body B is-struct sz ms) (λ packed. r-composite-body is-struct name sz ms lvl packed fit))
 
     module _ (fits : (id : ℕ) → TypeFits Fits FitsValue id (B .type-by-id id)) where
       mutual

@@ -7,6 +7,7 @@ use Rattle.lent.specs.Text.{Text, whole, cut, join}
 use Rattle.rules.specs.Writer.{Said, said, saidText, saidNames, Writer, after, next, put, stop, _⨾_}
 use Rattle.rules.specs.Types.{Name, isEmpty, Member, Param, Enumerator, BtfType, Void, Int, Ptr, Array, Composite, Enum, Enum64, Fwd, Typedef, Mod, Func, Var, Datasec, FuncProto, Float, DeclTag, TypeTag, Btf}
 use Rattle.rules.specs.Names.{Space, tagSpace, identSpace, Resolved, Naming, resolving}
+use Rattle.rules.specs.Layout.{Pad}
 use Rattle.rules.specs.Decl.{Entry, emitCompositeFwd, emitFwdDef, enumWord, emitValues, enumBody, emitEnumDef, emitName, parens, emitParam, emitParams, baseWord, emitArray, emitProto, paramList, chainLoop, emitMembers, compositeHead, compositeEnd, compositeBody, compositeDef, emitTypeDecl, emitTypeChain, emitCompositeDef, emitTypedefDef}
 use Rattle.rules.specs.Emit.{definition, shown, forward}
 use Rattle.rules.proofs.Closed.{Code, ValuesFit, TypeFits, Closed, r-emit-name, r-parens, r-emit-param, r-emit-params, r-emit-composite-fwd, r-emit-fwd-def, r-enum-word, r-emit-values, r-enum-body, r-emit-enum-def, r-base-word, r-emit-array, r-emit-proto, r-param-list, r-chain-loop, r-emit-members, r-composite-head, r-composite-end, r-composite-body, r-composite-def, r-emit-type-decl, r-emit-type-chain, r-emit-composite-def, r-emit-typedef-def, r-definition, r-shown, r-forward}
@@ -140,8 +141,8 @@ module _ {U X : Type 0} (N : Naming U) (P : U → X)
         keeps-chain-loop n last-was-ptr c = r-chain-loop N N any-name any-value K keeps-closed B {d₁ = d} {d₂ = d} hd {c₁ = ch} {c₂ = ch} hc {f₁ = def} {f₂ = def} (λ id s n z ms l fit. hf id s n z ms l) fname lvl fits n last-was-ptr c
 
       module _ (id : ℕ) where
-        pub keeps-emit-members : (lvl : ℕ) (packed : Bool) (i offset : ℕ) (ms : List Member) → Keeps P (emitMembers N B d id lvl packed i offset ms)
-        keeps-emit-members lvl packed i offset ms = r-emit-members N N any-name any-value K keeps-closed B {d₁ = d} {d₂ = d} hd id lvl packed i offset ms
+        pub keeps-emit-members : (tail : ℕ → List Pad) (lvl : ℕ) (packed : Bool) (i offset : ℕ) (ms : List Member) → Keeps P (emitMembers N B d id tail lvl packed i offset ms)
+        keeps-emit-members tail lvl packed i offset ms = r-emit-members N N any-name any-value K keeps-closed B {d₁ = d} {d₂ = d} hd id tail lvl packed i offset ms
 
         pub keeps-composite-head : (is-struct : Bool) (name : Name) → Keeps P (compositeHead N B d id is-struct name)
         keeps-composite-head is-struct name = r-composite-head N N any-name any-value K keeps-closed B {d₁ = d} {d₂ = d} hd id is-struct name tt
@@ -149,8 +150,8 @@ module _ {U X : Type 0} (N : Naming U) (P : U → X)
         pub keeps-composite-end : (lvl : ℕ) (ms : List Member) (packed : Bool) → Keeps P (compositeEnd N B d id lvl ms packed)
         keeps-composite-end lvl ms packed = r-composite-end N N any-name any-value K keeps-closed B {d₁ = d} {d₂ = d} hd id lvl ms packed
 
-        pub keeps-composite-body : (is-struct : Bool) (name : Name) (ms : List Member) (lvl : ℕ) (packed : Bool) → Keeps P (compositeBody N B d id is-struct name ms lvl packed)
-        keeps-composite-body is-struct name ms lvl packed = r-composite-body N N any-name any-value K keeps-closed B {d₁ = d} {d₂ = d} hd id is-struct name ms lvl packed tt
+        pub keeps-composite-body : (is-struct : Bool) (name : Name) (sz : ℕ) (ms : List Member) (lvl : ℕ) (packed : Bool) → Keeps P (compositeBody N B d id is-struct name sz ms lvl packed)
+        keeps-composite-body is-struct name sz ms lvl packed = r-composite-body N N any-name any-value K keeps-closed B {d₁ = d} {d₂ = d} hd id is-struct name sz ms lvl packed tt
 
         pub keeps-composite-def : (is-struct : Bool) (name : Name) (sz : ℕ) (ms : List Member) (lvl : ℕ) → Keeps P (compositeDef N B d id is-struct name sz ms lvl)
         keeps-composite-def is-struct name sz ms lvl = r-composite-def N N any-name any-value K keeps-closed B {d₁ = d} {d₂ = d} hd id is-struct name sz ms lvl tt

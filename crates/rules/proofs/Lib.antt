@@ -7,5 +7,6 @@ pub mod Samples
 pub mod Pads
 pub mod Chains
 pub mod Deeper
+pub mod Placed
 pub mod Refusals
 pub mod Arrays

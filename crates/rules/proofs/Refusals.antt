@@ -1,4 +1,4 @@
--- The refusals of an emitter are 12, 15 and 16. Assumes nothing.
+-- The refusals of an emitter are 12, 15, 16 and 18. Assumes nothing.
 use Prim.Native.Nat.{ℕ, zero, suc, _+_}
 use mathlib.Core.Path.{_≡_, refl}
 use mathlib.Core.Bool.{Bool, true, false}
@@ -12,7 +12,7 @@ use Rattle.rules.specs.Emit.{definition, forward}
 use Rattle.rules.proofs.Closed.{Code, Closed, r-emit-type-decl, r-emit-type-chain, r-emit-composite-def, r-emit-typedef-def, r-definition, r-forward}
 use Rattle.rules.proofs.Keeps.{any-name, any-value, type-fits}
 
--- a whole text, or one cut by 12, 15 or 16
+-- a whole text, or one cut by 12, 15, 16 or 18
 pub data Told : Text → Type 0 where
   told : (a : List ℕ) → Told (whole a)
   cut-by : (a : List ℕ) (c : ℕ) → Code c → Told (cut a c)

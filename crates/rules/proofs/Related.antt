@@ -8,6 +8,7 @@ use Rattle.lent.specs.Text.{Text, whole, cut, join}
 use Rattle.rules.specs.Writer.{Said, said, saidText, saidNames, Writer, after, next, put, stop, _⨾_}
 use Rattle.rules.specs.Types.{Name, isEmpty, Member, Param, Enumerator, BtfType, Void, Int, Ptr, Array, Composite, Enum, Enum64, Fwd, Typedef, Mod, Func, Var, Datasec, FuncProto, Float, DeclTag, TypeTag, Btf}
 use Rattle.rules.specs.Names.{Space, tagSpace, identSpace, Resolved, Naming, resolving}
+use Rattle.rules.specs.Layout.{Pad}
 use Rattle.rules.specs.Decl.{Entry, emitCompositeFwd, emitFwdDef, enumWord, emitValues, enumBody, emitEnumDef, emitName, parens, emitParam, emitParams, baseWord, emitArray, emitProto, paramList, chainLoop, emitMembers, compositeHead, compositeEnd, compositeBody, compositeDef, emitTypeDecl, emitTypeChain, emitCompositeDef, emitTypedefDef}
 use Rattle.rules.specs.Emit.{definition, shown, forward}
 use Rattle.rules.proofs.Closed.{Code, ValuesFit, TypeFits, Closed, r-emit-name, r-parens, r-emit-param, r-emit-params, r-emit-composite-fwd, r-emit-fwd-def, r-enum-word, r-emit-values, r-enum-body, r-emit-enum-def, r-base-word, r-emit-array, r-emit-proto, r-param-list, r-chain-loop, r-emit-members, r-composite-head, r-composite-end, r-composite-body, r-composite-def, r-emit-type-decl, r-emit-type-chain, r-emit-composite-def, r-emit-typedef-def, r-definition, r-shown, r-forward}
@@ -144,9 +145,9 @@ module _ {U W : Type 0} (R : U → W → Type 0) (Fits : Space → ℕ → Name 
           rel-chain-loop n last-was-ptr c = r-chain-loop N₁ N₂ Fits FitsValue RW rel-closed B {d₁ = d₁} {d₂ = d₂} hd {c₁ = c₁} {c₂ = c₂} hc {f₁ = f₁} {f₂ = f₂} hf fname lvl fits n last-was-ptr c
 
       module _ (id : ℕ) where
-        pub rel-emit-members : (lvl : ℕ) (packed : Bool) (i offset : ℕ) (ms : List Member)
-            → RelW R (emitMembers N₁ B d₁ id lvl packed i offset ms) (emitMembers N₂ B d₂ id lvl packed i offset ms)
-        rel-emit-members lvl packed i offset ms = r-emit-members N₁ N₂ Fits FitsValue RW rel-closed B {d₁ = d₁} {d₂ = d₂} hd id lvl packed i offset ms
+        pub rel-emit-members : (tail : ℕ → List Pad) (lvl : ℕ) (packed : Bool) (i offset : ℕ) (ms : List Member)
+            → RelW R (emitMembers N₁ B d₁ id tail lvl packed i offset ms) (emitMembers N₂ B d₂ id tail lvl packed i offset ms)
+        rel-emit-members tail lvl packed i offset ms = r-emit-members N₁ N₂ Fits FitsValue RW rel-closed B {d₁ = d₁} {d₂ = d₂} hd id tail lvl packed i offset ms
 
         pub rel-composite-head : (is-struct : Bool) (name : Name) → Fits tagSpace id name
             → RelW R (compositeHead N₁ B d₁ id is-struct name) (compositeHead N₂ B d₂ id is-struct name)
@@ -156,9 +157,9 @@ module _ {U W : Type 0} (R : U → W → Type 0) (Fits : Space → ℕ → Name 
             → RelW R (compositeEnd N₁ B d₁ id lvl ms packed) (compositeEnd N₂ B d₂ id lvl ms packed)
         rel-composite-end lvl ms packed = r-composite-end N₁ N₂ Fits FitsValue RW rel-closed B {d₁ = d₁} {d₂ = d₂} hd id lvl ms packed
 
-        pub rel-composite-body : (is-struct : Bool) (name : Name) (ms : List Member) (lvl : ℕ) (packed : Bool) → Fits tagSpace id name
-            → RelW R (compositeBody N₁ B d₁ id is-struct name ms lvl packed) (compositeBody N₂ B d₂ id is-struct name ms lvl packed)
-        rel-composite-body is-struct name ms lvl packed fit = r-composite-body N₁ N₂ Fits FitsValue RW rel-closed B {d₁ = d₁} {d₂ = d₂} hd id is-struct name ms lvl packed fit
+        pub rel-composite-body : (is-struct : Bool) (name : Name) (sz : ℕ) (ms : List Member) (lvl : ℕ) (packed : Bool) → Fits tagSpace id name
+            → RelW R (compositeBody N₁ B d₁ id is-struct name sz ms lvl packed) (compositeBody N₂ B d₂ id is-struct name sz ms lvl packed)
+        rel-composite-body is-struct name sz ms lvl packed fit = r-composite-body N₁ N₂ Fits FitsValue RW rel-closed B {d₁ = d₁} {d₂ = d₂} hd id is-struct name sz ms lvl packed fit
 
         pub rel-composite-def : (is-struct : Bool) (name : Name) (sz : ℕ) (ms : List Member) (lvl : ℕ) → Fits tagSpace id name
             → RelW R (compositeDef N₁ B d₁ id is-struct name sz ms lvl) (compositeDef N₂ B d₂ id is-struct name sz ms lvl)

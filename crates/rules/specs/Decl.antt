@@ -9,7 +9,8 @@ use Rattle.lent.specs.Decimal.{decimal}
 use Rattle.signed.specs.Signed.{twos, signed, signedLL}
 use Rattle.rules.specs.Writer.{Ask, got, no, tooDeep, Writer, _⨾_, put, stop, nothing, given}
 use Rattle.rules.specs.Types.{Name, isEmpty, Member, Param, Enumerator, Qualifier, volatile, const, restrict, BtfType, Void, Int, Ptr, Array, Composite, Enum, Enum64, Fwd, Typedef, Mod, Func, Var, Datasec, FuncProto, Float, DeclTag, TypeTag, Btf}
-use Rattle.rules.specs.Layout.{PadUnit, long, int, short, char, Pad, isStructPacked, bitPadding, endOf}
+use Rattle.rules.specs.Layout.{PadUnit, long, int, short, char, Pad, bitPadding, endOf}
+use Rattle.rules.specs.Placing.{bodyPacked, tailPads}
 use Rattle.rules.specs.Names.{tagSpace, identSpace, Naming, resolveTypeName, resolveName, builtin, escaped}
 
 -- one level of indentation deeper; bodies are nested less than 512 deep, so the largest number is never met
@@ -169,6 +170,14 @@ unfoldable pub lastNewline : List Member → List ℕ
 lastNewline [] = []
 lastNewline (m ∷ ms) = ascii "\n"
 
+-- the pads after the last of i members; where there is none, the closing bracket too gets a line of its own
+unfoldable pub ownLine : ℕ → List Pad → List ℕ
+ownLine i [] = []
+ownLine i (p ∷ ps) = elim (eqb i 0) [ true ↦ ascii "\n" | false ↦ [] ]
+
+unfoldable pub tailText : ℕ → ℕ → List Pad → List ℕ
+tailText lvl i ps = pads lvl ps ++ ownLine i ps
+
 unfoldable pub bitSize : Member → List ℕ
 bitSize m = elim (eqb (m .bit-size) 0) [ true ↦ [] | false ↦ ascii ": " ++ decimal (m .bit-size) ]
 
@@ -278,15 +287,15 @@ module _ {U : Type 0} (N : Naming U) (B : Btf) (decl : ℕ → Name → ℕ → 
 
 -- emit_composite_def
 module _ {U : Type 0} (N : Naming U) (B : Btf) (decl : ℕ → Name → ℕ → Writer U) (id : ℕ) where
-  -- member i and those after it; lvl is the members' level
-  unfoldable pub emitMembers : ℕ → Bool → ℕ → ℕ → List Member → Writer U
-  emitMembers lvl packed i offset [] = nothing
-  emitMembers lvl packed i offset (m ∷ ms) =
+  -- member i and those after it, then what `tail` has after i members of which the last ended at offset; lvl is the members' level
+  unfoldable pub emitMembers : (ℕ → List Pad) → ℕ → Bool → ℕ → ℕ → List Member → Writer U
+  emitMembers tail lvl packed i offset [] = put (tailText lvl i (tail offset))
+  emitMembers tail lvl packed i offset (m ∷ ms) =
       given (bitPadding B offset m packed) (λ ps. put (pads lvl ps))
       ⨾ put (ascii "\n") ⨾ put (pfx lvl)
       ⨾ decl (m .type-id) (m .name) lvl
       ⨾ put (bitSize m)
-      ⨾ given (endOf B m) (λ end. emitDeclTags B id i ⨾ put (ascii ";") ⨾ emitMembers lvl packed (i + 1) end ms)
+      ⨾ given (endOf B m) (λ end. emitDeclTags B id i ⨾ put (ascii ";") ⨾ emitMembers tail lvl packed (i + 1) end ms)
 
   unfoldable pub compositeHead : Bool → Name → Writer U
   compositeHead is-struct name = resolveTypeName N tagSpace id name (λ n. put (keyword B is-struct) ⨾ put (sepName n) ⨾ put (ascii " {"))
@@ -297,13 +306,13 @@ module _ {U : Type 0} (N : Naming U) (B : Btf) (decl : ℕ → Name → ℕ → 
       ⨾ put (elim packed [ true ↦ ascii " __attribute__((packed))" | false ↦ [] ])
       ⨾ emitDeclTags B id 4294967295
 
-  unfoldable pub compositeBody : Bool → Name → List Member → ℕ → Bool → Writer U
-  compositeBody is-struct name ms lvl packed =
-      compositeHead is-struct name ⨾ emitMembers (deeper lvl) packed 0 0 ms ⨾ compositeEnd lvl ms packed
+  unfoldable pub compositeBody : Bool → Name → ℕ → List Member → ℕ → Bool → Writer U
+  compositeBody is-struct name sz ms lvl packed =
+      compositeHead is-struct name ⨾ emitMembers (tailPads (B .placing) (B .ptr-sz) is-struct sz) (deeper lvl) packed 0 0 ms ⨾ compositeEnd lvl ms packed
 
   unfoldable pub compositeDef : Bool → Name → ℕ → List Member → ℕ → Writer U
   compositeDef is-struct name sz ms lvl =
-      elim (builtin name) [ true ↦ nothing | false ↦ given (isStructPacked B is-struct sz ms) (compositeBody is-struct name ms lvl) ]
+      elim (builtin name) [ true ↦ nothing | false ↦ given (bodyPacked B is-struct sz ms) (compositeBody is-struct name sz ms lvl) ]
 
 -- The three together: each call is one deeper, and the one that finds nothing left is refused by 12.
 module _ {U : Type 0} (N : Naming U) (B : Btf) where

@@ -130,11 +130,51 @@ padsOf (suc most) ptr-sz gap =
 unfoldable pub gapPads : ℕ → ℕ → ℕ → ℕ → List Pad
 gapPads ptr-sz bit-size gap a = elim (eqb bit-size 0 && ltb gap (a * 8)) [ true ↦ [] | false ↦ padsOf gap ptr-sz gap ]
 
+-- Placing mode: "each pad takes the widest unit whose start is a multiple of its width and that still fits the gap"; `long: 64`
+-- for pointers of 8 bytes only
+unfoldable pub suits : ℕ → ℕ → ℕ → Bool
+suits start gap width = eqb (start % width) 0 && leb width gap
+
+unfoldable pub placedPad : ℕ → ℕ → ℕ → Pad
+placedPad ptr-sz start gap =
+    elim (eqb ptr-sz 8 && suits start gap 64) [
+      | true ↦ record { unit = long; width = 64 }
+      | false ↦ elim (suits start gap 32) [
+        | true ↦ record { unit = int; width = 32 }
+        | false ↦ elim (suits start gap 16) [
+          | true ↦ record { unit = short; width = 16 }
+          | false ↦ elim (suits start gap 8) [
+            | true ↦ record { unit = char; width = 8 }
+            | false ↦ elim (suits start gap 4) [
+              | true ↦ record { unit = char; width = 4 }
+              | false ↦ elim (suits start gap 2) [ true ↦ record { unit = char; width = 2 } | false ↦ record { unit = char; width = 1 } ]
+            ]
+          ]
+        ]
+      ]
+    ]
+
+-- the pads of a gap from a bit on; at most as many as the first number says, and a gap has no more than bits
+unfoldable pub placedPads : ℕ → ℕ → ℕ → ℕ → List Pad
+placedPads zero ptr-sz start gap = []
+placedPads (suc most) ptr-sz start gap =
+    elim (eqb gap 0) [
+      | true ↦ []
+      | false ↦ placedPad ptr-sz start gap ∷ placedPads most ptr-sz (start + placedPad ptr-sz start gap .width) (gap - placedPad ptr-sz start gap .width)
+    ]
+
+-- "Which gaps before members are padded is as in the old mode."
+unfoldable pub placedGap : ℕ → ℕ → ℕ → ℕ → ℕ → List Pad
+placedGap ptr-sz start bit-size gap a = elim (eqb bit-size 0 && ltb gap (a * 8)) [ true ↦ [] | false ↦ placedPads gap ptr-sz start gap ]
+
+unfoldable pub padsBefore : Bool → ℕ → ℕ → ℕ → ℕ → ℕ → List Pad
+padsBefore placing ptr-sz start bit-size gap a = elim placing [ true ↦ placedGap ptr-sz start bit-size gap a | false ↦ gapPads ptr-sz bit-size gap a ]
+
 unfoldable pub bitPadding : Btf → ℕ → Member → Bool → Ask (List Pad)
 bitPadding B offset m packed =
     elim (leb (m .bit-offset) offset) [
       | true ↦ got []
-      | false ↦ askThen (elim packed [ true ↦ got 1 | false ↦ getAlignOf 512 B (m .type-id) ]) (λ a. got (gapPads (B .ptr-sz) (m .bit-size) (m .bit-offset - offset) a))
+      | false ↦ askThen (elim packed [ true ↦ got 1 | false ↦ getAlignOf 512 B (m .type-id) ]) (λ a. got (padsBefore (B .placing) (B .ptr-sz) offset (m .bit-size) (m .bit-offset - offset) a))
     ]
 
 -- where the next member may begin

@@ -4,8 +4,10 @@ pub mod Writer
 pub mod Place
 pub mod Types
 pub mod Layout
+pub mod Placing
 pub mod Names
 pub mod Decl
+pub mod SystemV
 pub mod Emit
 pub mod Chain
 pub mod Listed

@@ -31,16 +31,21 @@ unfoldable pub tagsFrom : ℕ → ℕ → List BtfType → List ℕ
 tagsFrom id i [] = []
 tagsFrom id i (t ∷ ts) = elim (tagsId id t) [ true ↦ i ∷ tagsFrom id (i + 1) ts | false ↦ tagsFrom id (i + 1) ts ]
 
--- pointer size, union_as_struct, types
-abbrev pub listed : ℕ → Bool → List BtfType → Btf
-listed ptr-sz union-as-struct types = record {
+-- pointer size, union_as_struct, placing mode, types
+abbrev pub listedIn : ℕ → Bool → Bool → List BtfType → Btf
+listedIn ptr-sz union-as-struct placing types = record {
   ptr-sz = ptr-sz;
   union-as-struct = union-as-struct;
   strong-arrays = false;
+  placing = placing;
   type-cnt = length types;
   type-by-id = λ id. getD types id Void;
   decl-tags = λ id. tagsFrom id 0 types;
 }
+
+-- pointer size, union_as_struct, types
+abbrev pub listed : ℕ → Bool → List BtfType → Btf
+listed ptr-sz union-as-struct types = listedIn ptr-sz union-as-struct false types
 
 -- the same table, with the setting under which an array forgets pointers
 abbrev pub withStrongArrays : Btf → Btf
@@ -48,6 +53,7 @@ withStrongArrays B = record {
   ptr-sz = B .ptr-sz;
   union-as-struct = B .union-as-struct;
   strong-arrays = true;
+  placing = B .placing;
   type-cnt = B .type-cnt;
   type-by-id = B .type-by-id;
   decl-tags = B .decl-tags;

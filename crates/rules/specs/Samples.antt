@@ -4,16 +4,16 @@ use Prim.Native.String.{String}
 use mathlib.Core.Bool.{Bool, true, false}
 use mathlib.Core.List.{List, [], _∷_, _++_}
 use lib.ListN.{getD, set}
-use Rattle.lent.specs.Text.{ascii, bytes}
+use Rattle.lent.specs.Text.{Text, whole, cut, ascii, bytes}
 use Rattle.lent.specs.Decimal.{decimal}
 use Rattle.rules.specs.Order.{Mark, new, Store, Res, ok, refused, order}
 use Rattle.rules.specs.Writer.{saidText, Writer, _⨾_, put}
 use Rattle.rules.specs.Types.{Member, BtfType, Void, Int, Ptr, Array, Composite, Typedef, FuncProto, Btf, tableOf}
-use Rattle.rules.specs.Layout.{gapPads}
+use Rattle.rules.specs.Layout.{gapPads, placedPads}
 use Rattle.rules.specs.Names.{Names, naming}
 use Rattle.rules.specs.Decl.{enumValue, enum64Value, pads, emitTypeDecl}
 use Rattle.rules.specs.Emit.{definition, forward}
-use Rattle.rules.specs.Listed.{listed, withStrongArrays}
+use Rattle.rules.specs.Listed.{listed, listedIn, withStrongArrays}
 
 -- no type has a version, no name a holder
 abbrev pub unnamed : Names
@@ -114,3 +114,41 @@ allGiven (s ∷ ss) = s .is ∷ allGiven ss
 abbrev pub allWanted : List Sample → List (List ℕ)
 allWanted [] = []
 allWanted (s ∷ ss) = s .wanted ∷ allWanted ss
+
+-- ---- placing mode
+
+-- the pads of a gap from a bit on
+abbrev pub placed : ℕ → ℕ → ℕ → List ℕ
+placed ptr-sz start n = pads 0 (placedPads n ptr-sz start n)
+
+abbrev pub bitField : String → ℕ → ℕ → ℕ → Member
+bitField name type-id bit-offset bit-size = record { name = ascii name; type-id = type-id; bit-offset = bit-offset; bit-size = bit-size }
+
+-- 1 int, 2 char, 3 an array of three chars, 4 a struct s of the size and with the members given
+abbrev pub bodyOf : ℕ → List Member → Btf
+bodyOf sz ms = listedIn 8 false true (Void ∷ Int (ascii "int") 32 ∷ Int (ascii "char") 8 ∷ Array 2 3 ∷ Composite true (ascii "s") sz ms ∷ [])
+
+-- its text, or only the refusal
+abbrev pub outcome : Text → List ℕ
+outcome (whole a) = a
+outcome (cut a c) = decimal c
+
+abbrev pub body : ℕ → List Member → List ℕ
+body sz ms = outcome (saidText (definition naming (bodyOf sz ms) 4 (bodyOf sz ms .type-by-id 4) unnamed))
+
+abbrev pub placedSamples : List Sample
+placedSamples =
+    gives (placed 8 0 96) "\nlong: 64;\nint: 32;"
+    ∷ gives (placed 4 0 96) "\nint: 32;\nint: 32;\nint: 32;"
+    ∷ gives (placed 8 8 96) "\nchar: 8;\nshort: 16;\nint: 32;\nint: 32;\nchar: 8;"
+    ∷ gives (placed 8 3 5) "\nchar: 1;\nchar: 4;"
+    ∷ gives (body 8 (member "a" 3 0 ∷ bitField "f" 1 48 16 ∷ [])) "struct s {\n\tchar a[3];\n\tchar: 8;\n\tshort: 16;\n\tint f: 16;\n};\n\n"
+    ∷ gives (body 8 (member "c" 2 0 ∷ member "i" 1 32 ∷ [])) "struct s {\n\tchar c;\n\tint i;\n};\n\n"
+    ∷ gives (body 16 (member "i" 1 0 ∷ [])) "struct s {\n\tint i;\n\tint: 32;\n\tlong: 64;\n};\n\n"
+    ∷ gives (body 3 []) "struct s {\n\tshort: 16;\n\tchar: 8;\n};\n\n"
+    ∷ gives (body 8 (member "i" 1 0 ∷ member "c" 2 24 ∷ [])) "18"
+    ∷ gives (body 3 (member "c" 2 4 ∷ [])) "18"
+    ∷ gives (body 8 (bitField "f" 1 0 33 ∷ [])) "18"
+    ∷ gives (body 8 (bitField "f" 1 24 16 ∷ [])) "18"
+    ∷ gives (body 4 (member "i" 1 32 ∷ [])) "18"
+    ∷ []

@@ -55,6 +55,7 @@ pub record Btf : Type 0 where
   pub ptr-sz : ℕ
   pub union-as-struct : Bool
   pub strong-arrays : Bool
+  pub placing : Bool
   pub type-cnt : ℕ
   pub type-by-id : ℕ → BtfType
   pub decl-tags : ℕ → List ℕ

@@ -16,6 +16,9 @@ alignZero = 15
 abbrev pub overflow : ℕ
 overflow = 16
 
+abbrev pub misplaced : ℕ
+misplaced = 18
+
 -- a value, or the refusal that asking for it meets
 pub data Ask (A : Type 0) : Type 0 where
   got : A → Ask A

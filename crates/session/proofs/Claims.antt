@@ -1,5 +1,5 @@
 -- What a reader wants of the definitions of specs/Calls.antt: the text that was there stays, what follows the text is zero, a refused
--- opening changes nothing, a request is refused by 10 to 17, and one that is refused by 12 to 17 closes the session. Assumes nothing.
+-- opening changes nothing, a request is refused by 10 to 18, and one that is refused by 12 to 18 closes the session. Assumes nothing.
 use Prim.Native.Nat.{ℕ, zero, suc, zero-le, _+_, _-_, _<_, _≤_}
 use mathlib.Core.Path.{_≡_, refl, ap, _∙_, sym}
 use mathlib.Core.Bool.{Bool, true, false}
@@ -216,7 +216,7 @@ module _ (s : Session) (section work text : List ℕ) where
   unfolding typesCall number value answerOf
   types-not-current h = rw (h, typesCall)
 
-  -- after 12 to 17 every later request gives 11, whatever is lent
+  -- after 12 to 18 every later request gives 11, whatever is lent
   pub closed-stays : s .«open» ≡ false → isCurrent s (length section) (length work) (length text) ≡ false
   unfolding isCurrent
   closed-stays h = rw h

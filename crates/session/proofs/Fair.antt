@@ -1,4 +1,4 @@
--- What a request leaves: its place in the text is not past the text's end, and what refuses it is 12 to 17. Assumes nothing.
+-- What a request leaves: its place in the text is not past the text's end, and what refuses it is 12 to 18. Assumes nothing.
 use Prim.Native.Nat.{ℕ, zero, suc, zero-le, _+_, _-_, _<_, _≤_}
 use mathlib.Core.Path.{_≡_, refl, ap, _∙_, sym}
 use mathlib.Core.Bool.{Bool, true, false, not, _&&_, _||_}
@@ -24,7 +24,7 @@ use Rattle.emit.specs.Sheet.{Sheet, sheetStore, sheetOf, lineIn, workMachine, l
 
 -- a refusal of a request, by its number in document 01
 abbrev pub Listed : ℕ → Type 0
-Listed c = (12 ≤ c) × (c ≤ 17)
+Listed c = (12 ≤ c) × (c ≤ 18)
 
 module _ {M : Type 0} (Good : M → Type 0) where
   pub data Fair : Out M → Type 0 where
@@ -210,7 +210,8 @@ placed t at a h =
 listed-code : (c : ℕ) → Code c → Listed c
 listed-code c (inl e) = (omega arith, omega arith)
 listed-code c (inr (inl e)) = (omega arith, omega arith)
-listed-code c (inr (inr e)) = (omega arith, omega arith)
+listed-code c (inr (inr (inl e))) = (omega arith, omega arith)
+listed-code c (inr (inr (inr e))) = (omega arith, omega arith)
 
 -- a line, where there is a place for it
 module _ (n : ℕ) (t : List ℕ) (at : ℕ) (h : at ≤ length t) (k : ℕ) (long : length t ≡ k) (u : List ℕ) where

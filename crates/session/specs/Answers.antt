@@ -22,7 +22,7 @@ pub data Cause : Type 0 where
   -- of opening
   pointerSize sectionOver badHeader badStrings badRecord badReference prototype loop workShort : Cause
   -- of requests
-  notCurrent idNotBelow tooDeep cycle nameless alignZero overflow textFull : Cause
+  notCurrent idNotBelow tooDeep cycle nameless alignZero overflow textFull misplaced : Cause
 
 unfoldable pub number : Cause → ℕ
 number pointerSize = 1
@@ -42,6 +42,7 @@ number nameless = 14
 number alignZero = 15
 number overflow = 16
 number textFull = 17
+number misplaced = 18
 
 -- "number, 0 types" at opening, and "number, old text length" of a request
 unfoldable pub value : Cause → ℕ → ℕ
@@ -62,6 +63,7 @@ value nameless len = len
 value alignZero len = len
 value overflow len = len
 value textFull len = len
+value misplaced len = len
 
 -- a refusal by a row of the table, where the text has this length
 abbrev pub refusal : Cause → ℕ → Answer

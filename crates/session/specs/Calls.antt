@@ -48,7 +48,7 @@ openedCall s section work pointer modes (opened types enumerators w t) = record 
     enumerators = enumerators;
     «text_len» = 0;
     «pointer_size» = pointer;
-    modes = modes % 4;
+    modes = modes % 8;
   };
   answer = answerOf 0 types;
   work = w;
@@ -125,7 +125,8 @@ unfoldable pub thenZeros : ℕ → ℕ → List ℕ → List ℕ
 thenZeros n len t = take len t ++ replicate (n - len) 0
 
 -- The end of a call on slices of so many bytes of work and of text: "after success, and after 12 to 17, all bytes past the text's end
--- are zero"; "a request returns the new text length"; "12 to 17 [..] zero the work words and close the session".
+-- are zero"; "a request returns the new text length"; "12 to 17 [..] zero the work words and close the session";
+-- "18 closes the session as 12 to 17 do".
 unfoldable pub settled : Session → ℕ → ℕ → Reach → Call
 settled s work text (reached len w t) = record { session = withText s true len; answer = answerOf 0 len; work = w; text = thenZeros text len t }
 settled s work text (refusedBy c len t) = record { session = withText s false len; answer = answerOf c len; work = replicate work 0; text = thenZeros text len t }

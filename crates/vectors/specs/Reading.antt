@@ -42,7 +42,7 @@ typesFrom b s end (suc n) at =
 -- struct btf_header: hdr_len at 4, type_off at 8, type_len at 12, str_off at 16
 unfoldable pub typesOf : List ℕ → List BtfType
 typesOf s = Void ∷ typesFrom
-    (record { «ptr_sz» = 8; «union_as_struct» = false; «big_endian» = bigEndian s; «strong_arrays» = false; types = 0; strs = wordOf s 4 + wordOf s 16 })
+    (record { «ptr_sz» = 8; «union_as_struct» = false; «big_endian» = bigEndian s; «strong_arrays» = false; placing = false; types = 0; strs = wordOf s 4 + wordOf s 16 })
     s
     (wordOf s 4 + wordOf s 8 + wordOf s 12)
     (length s)

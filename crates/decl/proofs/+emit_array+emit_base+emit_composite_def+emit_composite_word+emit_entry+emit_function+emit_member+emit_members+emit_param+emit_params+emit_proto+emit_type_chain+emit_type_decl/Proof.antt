@@ -2,7 +2,9 @@ use mathlib.Core.Path.{_≡_, refl, _∙_, sym, ap}
 use mathlib.Core.Logic.{inl, inr, ⊎-elim}
 use denote.Ref.{now}
 use Rattle.rules.proofs.Writing.{put-only, said-stopped}
-use Rattle.btf.specs.Records.{memberOf}
+use Rattle.btf.specs.Records.{memberOf, kindOf}
+use Rattle.rules.specs.Placing.{tailPads}
+use lib.Dec.{eqb}
 use Rattle.btf.specs.Table.{paramOf, ruleMember}
 use Rattle.names.specs.Spelling.{nameText}
 use Rattle.decl.proofs.Kept.{Leads, leads-start, leads-end}
@@ -94,7 +96,7 @@ use Rattle.decl.proofs.words.put_open.Reads as put-open-reads
 use Rattle.decl.proofs.words.put_star.Reads as put-star-reads
 use Rattle.decl.proofs.words.put_type_tag.Reads as put-type-tag-reads
 use Rattle.enums.proofs.deeper.Reads as deeper-reads
-use Rattle.layout.proofs.is_struct_packed.Reads as is-struct-packed-reads
+use Rattle.placing.proofs.body_packed.Reads as body-packed-reads
 use Rattle.lent.proofs.put_byte.Reads as put-byte-reads
 use Rattle.lent.proofs.put_dots.Reads as put-dots-reads
 use Rattle.lent.proofs.put_two.Reads as put-two-reads
@@ -107,6 +109,7 @@ use Rattle.names.proofs.emit_fwd_def.Reads as emit-fwd-def-reads
 use Rattle.names.proofs.bare.Reads as bare-reads
 use Rattle.names.proofs.emit_name.Reads as emit-name-reads
 use Rattle.padding.proofs.emit_bit_padding.Reads as emit-bit-padding-reads
+use Rattle.padding.proofs.emit_tail_padding.Reads as emit-tail-padding-reads
 use Rattle.decl.proofs.+emit_array+emit_base+emit_composite_def+emit_composite_word+emit_entry+emit_function+emit_member+emit_members+emit_param+emit_params+emit_proto+emit_type_chain+emit_type_decl.{
   statement,
 }
@@ -342,8 +345,8 @@ emit-composite-def-claims t = (
   stopped-reads.Learnt,
   is-builtin-reads.Asked,
   is-builtin-reads.Learnt,
-  is-struct-packed-reads.Asked,
-  is-struct-packed-reads.Learnt,
+  body-packed-reads.Asked,
+  body-packed-reads.Learnt,
   emit-composite-head-reads.Asked,
   emit-composite-head-reads.Learnt,
   deeper-reads.Asked,
@@ -442,6 +445,8 @@ emit-members-claims t = (
   stopped-reads.Learnt,
   emit-member-below t,
   emit-member.Post,
+  emit-tail-padding-reads.Asked,
+  emit-tail-padding-reads.Learnt,
 )
 
 abbrev emit-param-claims : ℕ → emit-param-lts.Claims
@@ -674,16 +679,16 @@ emit-composite-def-same-length-3 t c = search needs
 emit-composite-def-returns-3 : (t : ℕ) → emit-composite-def-lts.Need-returns-3 (emit-composite-def-claims t) (emit-composite-def-at t) emit-composite-def.Post
 emit-composite-def-returns-3 t c = members.def-builtin _ _ _ _ _ _ _ _ _ _ _ _ _ (c .before .before .before .before .before .if1 .left) refl (sym (c .before .is-builtin .ensures) ∙ c .if3 .taken)
 
-emit-composite-def-is-struct-packed-requires :
-    (t : ℕ) → emit-composite-def-lts.Need-is-struct-packed-requires (
+emit-composite-def-body-packed-requires :
+    (t : ℕ) → emit-composite-def-lts.Need-body-packed-requires (
       stop-reads.Asked,
       stop-reads.Learnt,
       stopped-reads.Asked,
       stopped-reads.Learnt,
       is-builtin-reads.Asked,
       is-builtin-reads.Learnt,
-      is-struct-packed-reads.Asked,
-      is-struct-packed-reads.Learnt,
+      body-packed-reads.Asked,
+      body-packed-reads.Learnt,
       emit-composite-head-reads.Asked,
       emit-composite-head-reads.Learnt,
       deeper-reads.Asked,
@@ -693,7 +698,7 @@ emit-composite-def-is-struct-packed-requires :
       emit-composite-end-reads.Asked,
       emit-composite-end-reads.Learnt,
     ) (emit-composite-def-at t) emit-composite-def.Post
-emit-composite-def-is-struct-packed-requires t c κs = search needs
+emit-composite-def-body-packed-requires t c κs = search needs
 
 emit-composite-def-enum-known-packed : (t : ℕ) → emit-composite-def-lts.Need-enum-known-packed (emit-composite-def-claims t) (emit-composite-def-at t) emit-composite-def.Post
 emit-composite-def-enum-known-packed t c = search needs
@@ -706,8 +711,8 @@ emit-composite-def-emit-composite-head-requires :
       stopped-reads.Learnt,
       is-builtin-reads.Asked,
       is-builtin-reads.Learnt,
-      is-struct-packed-reads.Asked,
-      is-struct-packed-reads.Learnt,
+      body-packed-reads.Asked,
+      body-packed-reads.Learnt,
       emit-composite-head-reads.Asked,
       emit-composite-head-reads.Learnt,
       deeper-reads.Asked,
@@ -733,8 +738,8 @@ emit-composite-def-emit-members-requires :
       stopped-reads.Learnt,
       is-builtin-reads.Asked,
       is-builtin-reads.Learnt,
-      is-struct-packed-reads.Asked,
-      is-struct-packed-reads.Learnt,
+      body-packed-reads.Asked,
+      body-packed-reads.Learnt,
       emit-composite-head-reads.Asked,
       emit-composite-head-reads.Learnt,
       deeper-reads.Asked,
@@ -754,8 +759,8 @@ emit-composite-def-emit-composite-end-requires :
       stopped-reads.Learnt,
       is-builtin-reads.Asked,
       is-builtin-reads.Learnt,
-      is-struct-packed-reads.Asked,
-      is-struct-packed-reads.Learnt,
+      body-packed-reads.Asked,
+      body-packed-reads.Learnt,
       emit-composite-head-reads.Asked,
       emit-composite-head-reads.Learnt,
       deeper-reads.Asked,
@@ -780,7 +785,7 @@ emit-composite-def-same-length-5 : (t : ℕ) → emit-composite-def-lts.Need-sam
 emit-composite-def-same-length-5 t c = search needs
 
 emit-composite-def-returns-4 : (t : ℕ) → emit-composite-def-lts.Need-returns-4 (emit-composite-def-claims t) (emit-composite-def-at t) emit-composite-def.Post
-emit-composite-def-returns-4 t c = members.def-body _ _ _ _ _ _ _ _ _ _ _ _ _ (c .before .before .before .before .before .before .before .before .before .before .before .before .before .before .before .before .before .before .before .before .before .before .before .before .before .before .before .before .before .before .if1 .left) (sym (c .before .before .before .before .before .before .before .before .before .before .before .before .before .before .before .before .before .before .before .before .before .before .before .before .before .before .is-builtin .ensures) ∙ c .before .before .before .before .before .before .before .before .before .before .before .before .before .before .before .before .before .before .before .before .before .before .before .before .before .if3 .left) _ (c .before .before .before .before .before .before .before .before .before .before .before .before .before .before .before .before .before .before .before .before .before .before .before .is-struct-packed .ensures) _ _ _ _ _ _ _ _ _ (c .before .before .before .before .before .before .before .before .before .before .before .before .before .before .before .before .before .before .before .before .before .packed .given .1) (c .before .before .before .before .before .before .before .before .before .before .deeper .ensures) (c .before .before .before .before .before .before .before .before .before .before .before .before .before .before .before .before .before .emit-composite-head .ensures) (c .before .before .before .before .before .before .before .before .before .emit-members .ensures) (c .before .before .emit-composite-end .ensures)
+emit-composite-def-returns-4 t c = members.def-body _ _ _ _ _ _ _ _ _ _ _ _ _ (c .before .before .before .before .before .before .before .before .before .before .before .before .before .before .before .before .before .before .before .before .before .before .before .before .before .before .before .before .before .before .if1 .left) (sym (c .before .before .before .before .before .before .before .before .before .before .before .before .before .before .before .before .before .before .before .before .before .before .before .before .before .before .is-builtin .ensures) ∙ c .before .before .before .before .before .before .before .before .before .before .before .before .before .before .before .before .before .before .before .before .before .before .before .before .before .if3 .left) _ (c .before .before .before .before .before .before .before .before .before .before .before .before .before .before .before .before .before .before .before .before .before .before .before .body-packed .ensures) _ _ _ _ _ _ _ _ _ (c .before .before .before .before .before .before .before .before .before .before .before .before .before .before .before .before .before .before .before .before .before .packed .given .1) (c .before .before .before .before .before .before .before .before .before .before .deeper .ensures) (c .before .before .before .before .before .before .before .before .before .before .before .before .before .before .before .before .before .emit-composite-head .ensures) (c .before .before .before .before .before .before .before .before .before .emit-members .ensures) (c .before .before .emit-composite-end .ensures)
 
 emit-composite-def-same-length-6 : (t : ℕ) → emit-composite-def-lts.Need-same-length-6 (emit-composite-def-claims t) (emit-composite-def-at t) emit-composite-def.Post
 emit-composite-def-same-length-6 t c = search needs
@@ -789,7 +794,7 @@ emit-composite-def-same-length-7 : (t : ℕ) → emit-composite-def-lts.Need-sam
 emit-composite-def-same-length-7 t c = search needs
 
 emit-composite-def-returns-5 : (t : ℕ) → emit-composite-def-lts.Need-returns-5 (emit-composite-def-claims t) (emit-composite-def-at t) emit-composite-def.Post
-emit-composite-def-returns-5 t c = members.def-refused _ _ _ _ _ _ _ _ _ _ _ _ _ (c .before .before .before .before .before .before .before .before .before .before .before .before .if1 .left) (sym (c .before .before .before .before .before .before .before .before .is-builtin .ensures) ∙ c .before .before .before .before .before .before .before .if3 .left) _ (c .before .before .before .before .before .is-struct-packed .ensures) _ (c .before .before .before .c .given .1) (c .stop2 .ensures)
+emit-composite-def-returns-5 t c = members.def-refused _ _ _ _ _ _ _ _ _ _ _ _ _ (c .before .before .before .before .before .before .before .before .before .before .before .before .if1 .left) (sym (c .before .before .before .before .before .before .before .before .is-builtin .ensures) ∙ c .before .before .before .before .before .before .before .if3 .left) _ (c .before .before .before .before .before .body-packed .ensures) _ (c .before .before .before .c .given .1) (c .stop2 .ensures)
 
 emit-composite-word-is-empty-requires : (t : ℕ) → emit-composite-word-lts.Need-is-empty-requires (emit-composite-word-claims t) (emit-composite-word-at t) emit-composite-word.Post
 emit-composite-word-is-empty-requires t c κs = search needs
@@ -1028,7 +1033,7 @@ emit-member-returns : (t : ℕ) → emit-member-lts.Need-returns (emit-member-cl
 emit-member-returns t c = members.member-put _ _ _ _ _ _ _ _ _ _ _ _ _ _ _ _ _ _ _ _ _ _ _ _ (c .before .before .before .before .before .before .before .before .before .before .before .before .before .before .before .before .before .before .before .before .before .before .before .before .before .before .load-member .ensures) (c .before .before .before .before .before .before .before .before .before .before .before .before .before .before .before .before .before .before .before .before .before .before .before .before .before .bare .ensures) (c .before .before .before .before .before .before .before .before .before .before .before .before .before .before .before .before .before .before .before .before .before .before .emit-bit-padding .ensures) (c .before .before .before .before .before .before .before .before .before .before .before .before .before .before .before .before .before .before .put-byte .ensures) (c .before .before .before .before .before .before .before .before .before .before .before .before .before .before .put-tabs .ensures) (c .before .before .before .before .before .before .before .before .before .emit-type-decl .ensures) (c .before .before .emit-member-end .ensures)
 
 abbrev emit-members-Inv-loop : emit-members-lts.InvT-loop
-emit-members-Inv-loop b section work₀ text₀ at id t packed lvl below vlen s₀ k₀ work text s k = (Leads b section text₀ (s₀ .at) (membersLeft b section below id lvl packed (λ j. ruleMember b section (memberOf b section t j)) vlen k₀ (s₀ .offset) work₀) text (s .at) (membersLeft b section below id lvl packed (λ j. ruleMember b section (memberOf b section t j)) vlen k (s .offset) work)) × (k ≤ vlen) × (vlen < 4294967296) × (length work ≡ length work₀) × (length text ≡ length text₀)
+emit-members-Inv-loop b section work₀ text₀ at id t packed lvl below vlen s₀ k₀ work text s k = (Leads b section text₀ (s₀ .at) (membersLeft b section below id (tailPads (b .placing) (b .«ptr_sz») (eqb (kindOf (t .info)) 4) (t .«type_id»)) lvl packed (λ j. ruleMember b section (memberOf b section t j)) vlen k₀ (s₀ .offset) work₀) text (s .at) (membersLeft b section below id (tailPads (b .placing) (b .«ptr_sz») (eqb (kindOf (t .info)) 4) (t .«type_id»)) lvl packed (λ j. ruleMember b section (memberOf b section t j)) vlen k (s .offset) work)) × (k ≤ vlen) × (vlen < 4294967296) × (length work ≡ length work₀) × (length text ≡ length text₀)
 
 abbrev emit-members-μ-loop : emit-members-lts.MeasureT-loop
 emit-members-μ-loop b section work₀ text₀ at id t packed lvl below vlen s₀ k₀ work text s k = vlen - k
@@ -1049,7 +1054,7 @@ emit-members-same-length-2 : (t : ℕ) → emit-members-lts.Need-same-length-2 (
 emit-members-same-length-2 t c = search needs
 
 emit-members-returns : (t : ℕ) → emit-members-lts.Need-returns (emit-members-claims t) (emit-members-at t) emit-members.Post emit-members-Inv-loop emit-members-μ-loop
-emit-members-returns t c = members.members-whole _ _ _ _ _ _ _ _ _ _ _ _ _ _ _ (c .before .before .before .before .before .vlen-of .ensures) (leads-end _ _ _ _ _ _ _ _ _ _ _ (c .before .before .before .before .loop .inv .0) (said-stopped _ _ _ _ (sym (c .before .stopped .ensures) ∙ c .if1 .taken)))
+emit-members-returns t c = members.members-whole _ _ _ _ _ _ _ _ _ _ _ _ _ _ _ _ (c .before .before .before .before .before .vlen-of .ensures) (leads-end _ _ _ _ _ _ _ _ _ _ _ (c .before .before .before .before .loop .inv .0) (said-stopped _ _ _ _ (sym (c .before .stopped .ensures) ∙ c .if1 .taken)))
 
 emit-members-emit-member-requires : (t : ℕ) → emit-members-lts.Need-emit-member-requires (emit-members-claims t) (emit-members-at t) emit-members.Post emit-members-Inv-loop emit-members-μ-loop
 emit-members-emit-member-requires t c κs = (omega arith, tt)
@@ -1061,7 +1066,10 @@ emit-members-loop-less : (t : ℕ) → emit-members-lts.Need-loop-less (emit-mem
 emit-members-loop-less t c = omega arith
 
 emit-members-loop-again : (t : ℕ) → emit-members-lts.Need-loop-again (emit-members-claims t) (emit-members-at t) emit-members.Post emit-members-Inv-loop emit-members-μ-loop
-emit-members-loop-again t c = (members.members-again _ _ _ _ _ _ _ _ _ _ _ _ _ _ _ _ _ _ _ (c .before .before .before .before .before .before .before .before .before .before .loop-test .taken) (c .before .before .before .before .before .before .before .before .before .before .before .loop .inv .0) (c .before .before .before .before .emit-member .ensures), omega arith, c .before .before .before .before .before .before .before .before .before .before .before .loop .inv .2, search needs, search needs)
+emit-members-loop-again t c = (members.members-again _ _ _ _ _ _ _ _ _ _ _ _ _ _ _ _ _ _ _ _ (c .before .before .before .before .before .before .before .before .before .before .loop-test .taken) (c .before .before .before .before .before .before .before .before .before .before .before .loop .inv .0) (c .before .before .before .before .emit-member .ensures), omega arith, c .before .before .before .before .before .before .before .before .before .before .before .loop .inv .2, search needs, search needs)
+
+emit-members-emit-tail-padding-requires : (t : ℕ) → emit-members-lts.Need-emit-tail-padding-requires (emit-members-claims t) (emit-members-at t) emit-members.Post emit-members-Inv-loop emit-members-μ-loop
+emit-members-emit-tail-padding-requires t c κs = search needs
 
 emit-members-same-length-3 : (t : ℕ) → emit-members-lts.Need-same-length-3 (emit-members-claims t) (emit-members-at t) emit-members.Post emit-members-Inv-loop emit-members-μ-loop
 emit-members-same-length-3 t c = search needs
@@ -1070,7 +1078,7 @@ emit-members-same-length-4 : (t : ℕ) → emit-members-lts.Need-same-length-4 (
 emit-members-same-length-4 t c = search needs
 
 emit-members-returns-2 : (t : ℕ) → emit-members-lts.Need-returns-2 (emit-members-claims t) (emit-members-at t) emit-members.Post emit-members-Inv-loop emit-members-μ-loop
-emit-members-returns-2 t c = members.members-whole _ _ _ _ _ _ _ _ _ _ _ _ _ _ _ (c .before .before .vlen-of .ensures) (members.members-end _ _ _ _ _ _ _ _ _ _ _ _ _ _ _ _ (c .loop-test .left) (c .before .loop .inv .0))
+emit-members-returns-2 t c = members.members-whole _ _ _ _ _ _ _ _ _ _ _ _ _ _ _ _ (c .before .before .before .before .before .before .vlen-of .ensures) (members.members-end _ _ _ _ _ _ _ _ _ _ _ _ _ _ _ _ _ _ _ (c .before .before .before .before .loop-test .left) (c .before .before .before .before .before .loop .inv .0) (c .before .before .emit-tail-padding .ensures))
 
 emit-param-param-place-requires : (t : ℕ) → emit-param-lts.Need-param-place-requires (emit-param-claims t) (emit-param-at t) emit-param.Post
 emit-param-param-place-requires t c κs = search needs
@@ -1423,8 +1431,8 @@ pub +emit-array+emit-base+emit-composite-def+emit-composite-word+emit-entry+emit
       stopped-reads.Learnt,
       is-builtin-reads.Asked,
       is-builtin-reads.Learnt,
-      is-struct-packed-reads.Asked,
-      is-struct-packed-reads.Learnt,
+      body-packed-reads.Asked,
+      body-packed-reads.Learnt,
       emit-composite-head-reads.Asked,
       emit-composite-head-reads.Learnt,
       deeper-reads.Asked,
@@ -1445,7 +1453,7 @@ pub +emit-array+emit-base+emit-composite-def+emit-composite-word+emit-entry+emit
     (emit-composite-def-is-builtin-requires t)
     (emit-composite-def-same-length-3 t)
     (emit-composite-def-returns-3 t)
-    (emit-composite-def-is-struct-packed-requires t)
+    (emit-composite-def-body-packed-requires t)
     (emit-composite-def-enum-known-packed t)
     (emit-composite-def-emit-composite-head-requires t)
     (emit-composite-def-deeper-requires t)
@@ -1619,6 +1627,8 @@ pub +emit-array+emit-base+emit-composite-def+emit-composite-word+emit-entry+emit
       stopped-reads.Learnt,
       emit-member-below t,
       emit-member.Post,
+      emit-tail-padding-reads.Asked,
+      emit-tail-padding-reads.Learnt,
     )
     (emit-members-at t)
     emit-members.Post
@@ -1634,6 +1644,7 @@ pub +emit-array+emit-base+emit-composite-def+emit-composite-word+emit-entry+emit
     (emit-members-add-k t)
     (emit-members-loop-less t)
     (emit-members-loop-again t)
+    (emit-members-emit-tail-padding-requires t)
     (emit-members-same-length-3 t)
     (emit-members-same-length-4 t)
     (emit-members-returns-2 t))

@@ -1,4 +1,4 @@
-use Rattle.padding.proofs.Laws.{ptr-size, emit-none, emit-gap, emit-refused}
+use Rattle.padding.proofs.Laws.{mode-is, ptr-size, emit-none, emit-gap, emit-refused}
 use borrow.Author.Needs.{needs}
 use Rattle.padding.proofs.emit_bit_padding.Statement.{statement}
 use Rattle.padding.proofs.emit_bit_padding.Tie as tie
@@ -6,7 +6,7 @@ use Rattle.padding.proofs.emit_bit_padding.Reads as reads
 use Rattle.padding.proofs.emit_bit_padding.Lts as lts
 use Rattle.lent.proofs.stop.Reads as stop-reads
 use Rattle.padding.proofs.gap_align.Reads as gap-align-reads
-use Rattle.padding.proofs.put_gap.Reads as put-gap-reads
+use Rattle.padding.proofs.put_pads_before.Reads as put-pads-before-reads
 
 -- src/lib.rt:149:9
 returns : tie.Need-returns
@@ -21,12 +21,12 @@ enum-known-a : tie.Need-enum-known-a
 enum-known-a c = search needs
 
 -- src/lib.rt:152:64
-sub-put-gap : tie.Need-sub-put-gap
-sub-put-gap c = search needs
+sub-put-pads-before : tie.Need-sub-put-pads-before
+sub-put-pads-before c = search needs
 
 -- src/lib.rt:152:24
-put-gap-requires : tie.Need-put-gap-requires
-put-gap-requires c κs = search needs
+put-pads-before-requires : tie.Need-put-pads-before-requires
+put-pads-before-requires c κs = search needs
 
 -- src/lib.rt:153:17
 enum-known-c : tie.Need-enum-known-c
@@ -42,7 +42,7 @@ same-length c = search needs
 
 -- src/lib.rt:134:1
 returns-2 : tie.Need-returns-2
-returns-2 c = emit-gap _ _ _ _ _ _ _ (c .before .before .before .before .before .before .before .before .if1 .left) _ (c .before .before .before .before .before .before .before .gap-align .ensures) _ _ _ _ (ptr-size _ _ _) (c .before .before .before .before .before .a .given .1) (c .before .before .put-gap .ensures)
+returns-2 c = emit-gap _ _ _ _ _ _ _ (c .before .before .before .before .before .before .before .before .if1 .left) _ (c .before .before .before .before .before .before .before .gap-align .ensures) _ _ _ _ _ (mode-is _ _ _) (ptr-size _ _ _) (c .before .before .before .before .before .a .given .1) (c .before .before .put-pads-before .ensures)
 
 -- src/lib.rt:134:1
 same-length-2 : tie.Need-same-length-2
@@ -59,8 +59,8 @@ emit-bit-padding-spec =
     returns
     gap-align-requires
     enum-known-a
-    sub-put-gap
-    put-gap-requires
+    sub-put-pads-before
+    put-pads-before-requires
     enum-known-c
     stop-requires
     same-length

@@ -1,0 +1,2 @@
+-- Laws: what each return of the code comes to.
+pub mod Laws

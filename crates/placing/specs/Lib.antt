@@ -1,0 +1,2 @@
+-- Steps: the measuring of a body, step by step.
+pub mod Steps
