@@ -1,0 +1,9 @@
+pub mod Samples
+pub mod Laws
+pub mod Fair
+pub mod Session
+pub mod Splits
+pub mod Alike
+pub mod Lengths
+pub mod Bounds
+pub mod Claims

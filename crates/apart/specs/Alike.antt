@@ -1,0 +1,13 @@
+-- When no suffix is passed over, whatever is requested.
+use Prim.Native.Nat.{ℕ, _≤_}
+use mathlib.Core.List.{List, _++_, List·Memᴰ}
+use Rattle.lent.specs.Text.{ascii}
+use Rattle.lent.specs.Decimal.{decimal}
+use Rattle.rules.specs.Types.{Name, Btf}
+use Rattle.rules.specs.Names.{Space}
+use Rattle.apart.specs.Apart.{tableNames}
+
+-- no name of the table is another name of its space with three underscores and a number from 2 on
+abbrev pub Suffixless : Btf → Type 0
+Suffixless B =
+    (space : Space) (x : Name) → List·Memᴰ x (tableNames B space) → (n : ℕ) → 2 ≤ n → n ≤ 4294967295 → List·Memᴰ (x ++ ascii "___" ++ decimal n) (tableNames B space) → ⊥

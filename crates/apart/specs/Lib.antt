@@ -1,0 +1,4 @@
+pub mod Apart
+pub mod Alike
+pub mod Samples
+pub mod Claims
