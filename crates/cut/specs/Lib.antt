@@ -1,0 +1,6 @@
+pub mod Kept
+pub mod Renumbered
+pub mod Strings
+pub mod Section
+pub mod Stands
+pub mod Table
