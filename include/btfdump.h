@@ -99,9 +99,11 @@ enum btfdump_number {
 	BTFDUMP_OVERFLOW = 16,       /* a size or an offset does not fit 32 bits */
 	BTFDUMP_TEXT_FULL = 17,      /* the text slice, or 1,073,741,824 bytes, is full */
 	BTFDUMP_MISPLACED = 18,      /* placing mode: members overlap, lie off a byte or a unit, or do not fit the size */
+	/* btfdump_read_declaration only; value 0, and the lent chain is zero */
+	BTFDUMP_NO_DECLARATION = 19, /* the text is no declaration that is covered, or has over 512 entries */
 	/* btfdump_field only; nothing is touched */
 	BTFDUMP_NO_MEMBER = 21,      /* no member covers the bit, or the type is no struct or union */
-	/* opening only; nothing is touched */
+	/* opening, and reading a declaration into too few words; nothing is touched */
 	BTFDUMP_RECORD_TOO_SHORT = 255 /* record_len is under BTFDUMP_RECORD_SIZE (requests: BTFDUMP_NOT_OPEN) */
 };
 
@@ -181,6 +183,32 @@ btfdump_answer btfdump_field(const uint8_t *record, size_t record_len,
 			     const uint8_t *work, size_t work_len,
 			     uint8_t *path, size_t path_len,
 			     uint32_t id, uint32_t bit);
+
+/* words that the chain of a declaration takes at most: three for each of 512 entries */
+#define BTFDUMP_CHAIN_WORDS 1536
+
+/*
+ * Reads the text of one declaration, without its semicolon, into its chain, by
+ * the C precedence of brackets, parentheses and stars alone. Covered are a
+ * base (struct, union or enum and a tag, or other words, with its qualifiers
+ * before it), pointers with their qualifiers, arrays with a decimal count, and
+ * prototypes with unnamed parameters; the declared name is present, and
+ * spaces may stand around tokens. On success the value is the number of
+ * entries. An entry is three words of the chain; they go from the declared
+ * name to the base:
+ *
+ *   1 start length    a base: where its words start in the text, and how many bytes they take
+ *   2 0 0             a pointer to what follows
+ *   3 count 0         an array of what follows
+ *   4 any 0           a prototype; any is 1 where parameters follow, each a chain that ends in its base, and then what it returns
+ *   5 which 0         a qualifier of what follows: 1 const, 2 volatile, 3 restrict
+ *   6 start length    the base of a parameter behind which another one follows
+ *
+ * A parameter `...` is a base of start 0 and length 0. `(void)` and `()` have no parameters. Words behind the last entry stay as they
+ * were. Refused, the value is 0 and every word is 0. With under BTFDUMP_CHAIN_WORDS words the number is 255 and nothing is touched.
+ */
+btfdump_answer btfdump_read_declaration(const uint8_t *text, size_t text_len,
+					uint64_t *chain, size_t chain_len);
 
 #ifdef __cplusplus
 }

@@ -296,7 +296,7 @@ static void request(void)
 			wrong("memory changed by 10 or 11", answer);
 		return;
 	}
-	if (number && (number < 12 || number > 17))
+	if (number && (number < 12 || number > (get_word(before, 7) & BTFDUMP_PLACING ? 18u : 17u)))
 		wrong("no number of a request", answer);
 	if (value < old || value > text.length || (number && !all && value != old))
 		wrong("length of the text", answer);

@@ -19,6 +19,7 @@ compile limits tests/limits.c
 compile guard tests/guard.c
 compile lists tests/lists.c
 compile field tests/field.c
+compile declarations tests/declarations.c
 compile btfheader tools/btfheader.c
 
 # the example of the README, on the sample section
@@ -44,6 +45,7 @@ done
 "$out/limits"
 "$out/lists" "${files[@]}"
 "$out/field" "${files[@]}"
+"$out/declarations"
 "$out/guard" 20000 1 "${files[@]}"
 if command -v valgrind >/dev/null; then
 	say valgrind valgrind -q --error-exitcode=1 "$out/guard" 300 1 tests/traps.cases

@@ -2,7 +2,7 @@
 """words.py LIBRARY: the fixed words of the text in a built static library.
 
 Each stands once, in the table of crates/lent/src/fixed.rt, which has at most 512 bytes; none stands in other read-only
-data, and none in the code."""
+data, and none in the code that writes. (The reader of declarations compares a word with seven of them, in its code.)"""
 import os
 import re
 import struct
@@ -30,8 +30,8 @@ def main(library):
     table = table.encode()
     elf = subprocess.run(["ar", "p", library], check=True, capture_output=True).stdout
     code, data = [], []
-    for _, flags, content in sections(elf):
-        if flags & 2:  # SHF_ALLOC
+    for name, flags, content in sections(elf):
+        if flags & 2 and not re.search("reader|read_declaration", name):  # SHF_ALLOC
             (code if flags & 4 else data).append(content)
     fixed = b"\0".join(data)
     wrong = []

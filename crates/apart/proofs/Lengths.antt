@@ -10,7 +10,8 @@ use Rattle.lent.specs.Text.{ascii, pfx, Text, whole, cut, join}
 use Rattle.lent.specs.Decimal.{decimal}
 use Rattle.rules.specs.Writer.{Ask, got, no, Said, said, Writer, _⨾_, put, stop, given, after, next}
 use Rattle.rules.specs.Types.{Name, isEmpty, Member, Param, Enumerator, BtfType, Void, Int, Ptr, Array, Composite, Enum, Enum64, Fwd, Typedef, Mod, Func, Var, Datasec, FuncProto, Float, DeclTag, TypeTag, Btf}
-use Rattle.rules.specs.Layout.{isStructPacked, bitPadding, endOf}
+use Rattle.rules.specs.Layout.{Pad, bitPadding, endOf}
+use Rattle.rules.specs.Placing.{bodyPacked, tailPads}
 use Rattle.rules.specs.Names.{Space, tagSpace, identSpace, Resolved, resolving, spelled, resolveTypeName, resolveName, builtin, counted}
 use Rattle.rules.specs.Decl.{deeper, enumValue, enum64Value, Entry, base, star, qual, array, proto, tag, chainOf, noMods, isArray, noParams, shownParams, emitCompositeFwd, emitFwdDef, enumWord, emitValues, enumBody, emitEnumDef, emitName, parens, emitParam, emitParams, baseWord, emitArray, emitProto, paramList, chainLoop, emitMembers, compositeHead, compositeEnd, compositeBody, compositeDef, emitTypeDecl, emitTypeChain, emitCompositeDef, emitTypedefDef}
 use Rattle.rules.specs.Emit.{definition, shown, forward}
@@ -225,13 +226,13 @@ module _ (B : Btf) where
       s-chain-loop (suc n) last-was-ptr (tag a name ∷ x) = both (s-none _) (both (s-none _) (s-chain-loop n false (noMods x)))
 
     module _ (id : ℕ) where
-      s-emit-members : (lvl : ℕ) (packed : Bool) (i offset : ℕ) (ms : List Member) → S 0 (emitMembers (apart B) B d id lvl packed i offset ms)
+      s-emit-members : (tail : ℕ → List Pad) (lvl : ℕ) (packed : Bool) (i offset : ℕ) (ms : List Member) → S 0 (emitMembers (apart B) B d id tail lvl packed i offset ms)
       unfolding emitMembers
-      s-emit-members lvl packed i offset [] = s-none []
-      s-emit-members lvl packed i offset (m ∷ ms) =
+      s-emit-members tail lvl packed i offset [] = s-none _
+      s-emit-members tail lvl packed i offset (m ∷ ms) =
           both (s-given (bitPadding B offset m packed) (λ ps. s-none _))
           (both (s-none _) (both (s-none _) (both (hd (m .type-id) (m .name) lvl) (both (s-none _)
-          (s-given (endOf B m) (λ end. both (s-none _) (both (s-none _) (s-emit-members lvl packed (i + 1) end ms))))))))
+          (s-given (endOf B m) (λ end. both (s-none _) (both (s-none _) (s-emit-members tail lvl packed (i + 1) end ms))))))))
 
       s-composite-head : (is-struct : Bool) (name : Name) → S 0 (compositeHead (apart B) B d id is-struct name)
       unfolding compositeHead
@@ -242,13 +243,13 @@ module _ (B : Btf) where
       unfolding compositeEnd
       s-composite-end lvl ms packed = both (s-none _) (both (s-none _) (both (s-none _) (both (s-none _) (s-none _))))
 
-      s-composite-body : (is-struct : Bool) (name : Name) (ms : List Member) (lvl : ℕ) (packed : Bool) → S 0 (compositeBody (apart B) B d id is-struct name ms lvl packed)
+      s-composite-body : (is-struct : Bool) (name : Name) (sz : ℕ) (ms : List Member) (lvl : ℕ) (packed : Bool) → S 0 (compositeBody (apart B) B d id is-struct name sz ms lvl packed)
       unfolding compositeBody
-      s-composite-body is-struct name ms lvl packed = both (s-composite-head is-struct name) (both (s-emit-members (deeper lvl) packed 0 0 ms) (s-composite-end lvl ms packed))
+      s-composite-body is-struct name sz ms lvl packed = both (s-composite-head is-struct name) (both (s-emit-members (tailPads (B .placing) (B .ptr-sz) is-struct sz) (deeper lvl) packed 0 0 ms) (s-composite-end lvl ms packed))
 
       s-composite-def : (is-struct : Bool) (name : Name) (sz : ℕ) (ms : List Member) (lvl : ℕ) → S 0 (compositeDef (apart B) B d id is-struct name sz ms lvl)
       unfolding compositeDef
-      s-composite-def is-struct name sz ms lvl = s-if (builtin name) (s-none []) (s-given (isStructPacked B is-struct sz ms) (λ packed. s-composite-body is-struct name ms lvl packed))
+      s-composite-def is-struct name sz ms lvl = s-if (builtin name) (s-none []) (s-given (bodyPacked B is-struct sz ms) (λ packed. s-composite-body is-struct name sz ms lvl packed))
 
   mutual
     unfolding emitTypeDecl emitTypeChain emitCompositeDef

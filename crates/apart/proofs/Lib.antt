@@ -7,3 +7,4 @@ pub mod Alike
 pub mod Lengths
 pub mod Bounds
 pub mod Claims
+pub mod Tables

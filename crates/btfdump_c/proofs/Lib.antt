@@ -2,3 +2,4 @@ pub mod Laws
 pub mod Claims
 pub mod Lists
 pub mod FieldLaws
+pub mod ReadingBack

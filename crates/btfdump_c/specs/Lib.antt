@@ -2,3 +2,4 @@
 pub mod Record
 pub mod Exports
 pub mod Field
+pub mod Declarations

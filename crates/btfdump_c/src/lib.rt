@@ -1,6 +1,8 @@
 // The calls for C, on numbers and byte slices. The session record crosses as sixteen words of 64 bits, least significant
 // byte first: open, section length, work length, types, enumerators, text length, pointer size, modes, and eight of zero.
 // An answer is its number in the upper half and its value in the lower.
+mod declarations;
+
 use field::which_field;
 use lent::get_word;
 use lent::put_word;

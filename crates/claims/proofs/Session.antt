@@ -210,7 +210,7 @@ module _ (p modes : ℕ) (s : List ℕ) (n : ℕ) (ok : openingNumber p s n ≡ 
 
     positive : (c : ℕ) → dumped (workMachine b B) T sheet x ≡ stuck c → 0 < c
     positive c q =
-        let z : (12 ≤ c) × (c ≤ 17) = stuck-listed (length (lentTo len t)) (dumped (workMachine b B) T sheet x) (fair-request b B (length (lentTo len t)) sheet x (omega arith, refl)) c q in
+        let z : (12 ≤ c) × (c ≤ 18) = stuck-listed (length (lentTo len t)) (dumped (workMachine b B) T sheet x) (fair-request b B (length (lentTo len t)) sheet x (omega arith, refl)) c q in
         omega (arith, z .0)
 
     table-now : requested b s x len v t ≡ cameTo len t (dumped (workMachine b B) T sheet x)

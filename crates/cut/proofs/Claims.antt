@@ -94,7 +94,7 @@ module _ (given : List ℕ) (m : ℕ → Bool) (s s′ : List ℕ) (b b′ : Btf
     (old : Reads B b s (typesOf s)) (cut : Reads B′ b′ s′ (newTypes m s))
     (in-area : (n : ℕ) → List·Memᴰ n (allMentions (oldTypes m s)) → strAt b s n ≡ nameAt (stringArea s) n)
     (in-new : (n : ℕ) → n < length (newStrings m s) → strAt b′ s′ n ≡ nameAt (newStrings m s) n)
-    (same-pointer : B .ptr-sz ≡ B′ .ptr-sz) (same-union : B .union-as-struct ≡ B′ .union-as-struct) (same-strong : B .strong-arrays ≡ B′ .strong-arrays) where
+    (same-pointer : B .ptr-sz ≡ B′ .ptr-sz) (same-union : B .union-as-struct ≡ B′ .union-as-struct) (same-strong : B .strong-arrays ≡ B′ .strong-arrays) (same-placing : B .placing ≡ B′ .placing) where
   abbrev pub NewNumber : ℕ → ℕ → Type 0
   NewNumber x x′ = Number m (newOffset m s) (typesOf s) B B′ b b′ s s′ old cut (kept-closed (typesOf s) given m tells good) (kept-tags (typesOf s) given m tells) (same-names m s s′ b b′ in-area in-new) x x′
 
@@ -106,6 +106,7 @@ module _ (given : List ℕ) (m : ℕ → Bool) (s s′ : List ℕ) (b b′ : Btf
     ptr-sz = same-pointer i;
     union-as-struct = same-union i;
     strong-arrays = same-strong i;
+    placing = same-placing i;
     type-cnt = B′ .type-cnt;
     type-by-id = B′ .type-by-id;
     decl-tags = B′ .decl-tags;

@@ -8,3 +8,4 @@ pub mod Names
 pub mod Tables
 pub mod Claims
 pub mod Written
+pub mod Area

@@ -9,13 +9,14 @@ use lib.Dec.{eqb}
 use Rattle.lent.specs.Text.{ascii}
 use Rattle.rules.specs.Writer.{Ask, got, no, Writer, _⨾_, put, stop, given}
 use Rattle.rules.specs.Types.{Name, isEmpty, Member, Param, Enumerator, BtfType, Btf, Qualifier}
-use Rattle.rules.specs.Layout.{isStructPacked, bitPadding, endOf, Pad}
+use Rattle.rules.specs.Layout.{bitPadding, endOf, Pad}
+use Rattle.rules.specs.Placing.{tailPads}
 use Rattle.rules.specs.Names.{Space, tagSpace, identSpace, Naming, resolving, spelled, resolveTypeName, resolveName, builtin}
 use Rattle.rules.specs.Decl.{deeper, keyword, qualifier, declTag, declTags, enumValue, enum64Value, Entry, base, star, qual, array, proto, tag, chainOf, mods, noMods, isArray, noParams, shownParams, pads, lastNewline, bitSize, emitCompositeFwd, emitFwdDef, enumWord, emitValues, enumBody, emitEnumDef, emitName, parens, emitParam, emitParams, baseWord, emitArray, emitProto, paramList, chainLoop, emitMembers, compositeHead, compositeEnd, compositeBody, compositeDef, emitTypeDecl, emitTypeChain, emitCompositeDef, emitTypedefDef}
 use Rattle.rules.specs.Emit.{definition, shown, forward}
 use Rattle.rules.proofs.Related.{RelW, RelResolved, rel-put, rel-stop, rel-then, rel-resolving}
 use Rattle.cut.specs.Stands.{withTypes, NoTag, Each, none, more, SameMembers, no-members, member, SameParams, no-params, param, SameType, void, int, ptr, array as t-array, composite, enum, enum64, fwd, typedef, qualified, func, var, datasec, proto as t-proto, float, decl-tag, type-tag, Followed, Tagged, Stands}
-use Rattle.cut.proofs.Sizes.{same-zero, struct-same, padding-same, end-same, SameEntry, e-base, e-star, e-qual, e-array, e-proto, e-tag, SameChain, c-none, c-more, SameAsk, a-got, a-no, chain-same}
+use Rattle.cut.proofs.Sizes.{same-zero, body-same, padding-same, end-same, SameEntry, e-base, e-star, e-qual, e-array, e-proto, e-tag, SameChain, c-none, c-more, SameAsk, a-got, a-no, chain-same}
 
 -- ids that stand for each other get the same versions
 pub record SameNaming {U W : Type 0} (R : U → W → Type 0) (I : ℕ → ℕ → Type 0) (N₁ : Naming U) (N₂ : Naming W) : Type 0 where
@@ -278,13 +279,13 @@ module _ (B : Btf) (n : ℕ) (types : ℕ → BtfType) (tags : ℕ → List ℕ)
   last-same (member m t t′ o z j js) = refl
 
   module _ {d₁ : ℕ → Name → ℕ → Writer U} {d₂ : ℕ → Name → ℕ → Writer W} (hd : DeclSame d₁ d₂) (id id′ : ℕ) (i : I id id′) (g : SameTags id id′) where
-    r-emit-members : (lvl : ℕ) (packed : Bool) (k offset : ℕ) {ms ms′ : List Member} → SameMembers J ms ms′ → S (emitMembers N₁ B d₁ id lvl packed k offset ms) (emitMembers N₂ B′ d₂ id′ lvl packed k offset ms′)
+    r-emit-members : (tail : ℕ → List Pad) (lvl : ℕ) (packed : Bool) (k offset : ℕ) {ms ms′ : List Member} → SameMembers J ms ms′ → S (emitMembers N₁ B d₁ id tail lvl packed k offset ms) (emitMembers N₂ B′ d₂ id′ tail lvl packed k offset ms′)
     unfolding emitMembers bitSize
-    r-emit-members lvl packed k offset no-members = r-put []
-    r-emit-members lvl packed k offset (member m t t′ o z j js) =
+    r-emit-members tail lvl packed k offset no-members = r-put _
+    r-emit-members tail lvl packed k offset (member m t t′ o z j js) =
         r-then (r-given _ _ (padding-same B n types tags I st m t t′ o z j offset packed) (λ ps. r-put _))
         (r-then (r-put _) (r-then (r-put _) (r-then (hd t t′ m lvl j) (r-then (r-put _)
-        (r-given _ _ (end-same B n types tags I st m t t′ o z j) (λ end. r-then (r-put-eq (g k)) (r-then (r-put _) (r-emit-members lvl packed (k + 1) end js))))))))
+        (r-given _ _ (end-same B n types tags I st m t t′ o z j) (λ end. r-then (r-put-eq (g k)) (r-then (r-put _) (r-emit-members tail lvl packed (k + 1) end js))))))))
 
     r-composite-head : (is-struct : Bool) (name : Name) → S (compositeHead N₁ B d₁ id is-struct name) (compositeHead N₂ B′ d₂ id′ is-struct name)
     unfolding compositeHead keyword
@@ -299,7 +300,7 @@ module _ (B : Btf) (n : ℕ) (types : ℕ → BtfType) (tags : ℕ → List ℕ)
     unfolding compositeDef compositeBody
     r-composite-def is-struct name sz js lvl =
         r-if (builtin name) (r-put [])
-        (r-given _ _ (struct-same B n types tags I st is-struct sz js) (λ packed. r-then (r-composite-head is-struct name) (r-then (r-emit-members (deeper lvl) packed 0 0 js) (r-composite-end lvl js packed))))
+        (r-given _ _ (body-same B n types tags I st is-struct sz js) (λ packed. r-then (r-composite-head is-struct name) (r-then (r-emit-members (tailPads (B .placing) (B .ptr-sz) is-struct sz) (deeper lvl) packed 0 0 js) (r-composite-end lvl js packed))))
 
   r-given-chain : {k₁ : List Entry → Writer U} {k₂ : List Entry → Writer W} {x y : Ask (List Entry)} → SameAsk B n types tags I st x y → ((c c′ : List Entry) → Chains c c′ → S (k₁ c) (k₂ c′)) → S (given x k₁) (given y k₂)
   unfolding given

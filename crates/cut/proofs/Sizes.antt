@@ -8,7 +8,8 @@ use lib.Dec.{leb, eqb}
 use borrow.Author.Tests.{eq-eqb, ne-eqb, eqb-true, eqb-false}
 use Rattle.rules.specs.Writer.{Ask, got, no, askThen, checked}
 use Rattle.rules.specs.Types.{Name, Member, Param, BtfType, Btf, Qualifier}
-use Rattle.rules.specs.Layout.{sizeOf, getSizeOf, larger, alignMembers, alignOf, getAlignOf, offAlign, membersPacked, isStructPacked, Pad, gapPads, bitPadding, endOf}
+use Rattle.rules.specs.Layout.{sizeOf, getSizeOf, larger, alignMembers, alignOf, getAlignOf, offAlign, membersPacked, isStructPacked, Pad, padsBefore, bitPadding, endOf}
+use Rattle.rules.specs.Placing.{fieldSize, Extent, withMember, extentOf, noExtent, unionAlign, measured, bodyPacked}
 use Rattle.rules.specs.Decl.{Entry, base, star, qual, array, proto, tag, Link, ends, leads, linkOf, chainOn, chainOf}
 use Rattle.cut.specs.Stands.{withTypes, NoTag, SameMembers, no-members, member, SameParams, SameType, void, int, ptr, array as t-array, composite, enum, enum64, fwd, typedef, qualified, func, var, datasec, proto as t-proto, float, decl-tag, type-tag, Followed, Stands}
 
@@ -118,6 +119,30 @@ module _ (B : Btf) (n : ℕ) (types : ℕ → BtfType) (tags : ℕ → List ℕ)
     pub end-same : endOf B oldMember ≡ endOf B′ newMember
     unfolding endOf
     end-same = if-same (eqb z 0) (then-same (size-same 512 t t′ j) (λ s. refl)) refl
+
+  -- placing mode
+  field-same : (m : Name) (t t′ o z : ℕ) → J t t′ → fieldSize B (record { name = m; type-id = t; bit-offset = o; bit-size = z }) ≡ fieldSize B′ (record { name = m; type-id = t′; bit-offset = o; bit-size = z })
+  unfolding fieldSize
+  field-same m t t′ o z j = if-same (eqb z 0) refl (size-same 512 t t′ j)
+
+  extent-same : (is-struct packed : Bool) (x : Extent) {ms ms′ : List Member} → SameMembers J ms ms′ → extentOf B is-struct packed x ms ≡ extentOf B′ is-struct packed x ms′
+  unfolding extentOf
+  extent-same is-struct packed x no-members = refl
+  extent-same is-struct packed x (member m t t′ o z j js) =
+      then-same (field-same m t t′ o z j) (λ size. then-same (end-same m t t′ o z j) (λ end. extent-same is-struct packed (withMember is-struct packed x size end o z) js))
+
+  union-same : (is-struct : Bool) {ms ms′ : List Member} → SameMembers J ms ms′ → unionAlign B is-struct ms ≡ unionAlign B′ is-struct ms′
+  unfolding unionAlign
+  union-same is-struct js = if-same is-struct refl (align-members-same (getAlignOf 511 B) (getAlignOf 511 B′) (align-same 511) 1 js)
+
+  measured-same : (is-struct : Bool) (sz : ℕ) {ms ms′ : List Member} → SameMembers J ms ms′ → measured B is-struct sz ms ≡ measured B′ is-struct sz ms′
+  unfolding measured
+  measured-same is-struct sz js =
+      then-same (union-same is-struct js) (λ a. then-same (struct-same is-struct sz js) (λ packed. then-same (extent-same is-struct packed noExtent js) (λ x. refl)))
+
+  pub body-same : (is-struct : Bool) (sz : ℕ) {ms ms′ : List Member} → SameMembers J ms ms′ → bodyPacked B is-struct sz ms ≡ bodyPacked B′ is-struct sz ms′
+  unfolding bodyPacked
+  body-same is-struct sz js = if-same (B .placing) (measured-same is-struct sz js) (struct-same is-struct sz js)
 
   -- ---- chains
 

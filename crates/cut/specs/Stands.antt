@@ -13,6 +13,7 @@ withTypes B n types tags = record {
   ptr-sz = B .ptr-sz;
   union-as-struct = B .union-as-struct;
   strong-arrays = B .strong-arrays;
+  placing = B .placing;
   type-cnt = n;
   type-by-id = types;
   decl-tags = tags;

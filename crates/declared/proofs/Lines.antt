@@ -8,8 +8,8 @@ use Rattle.lent.specs.Text.{whole, cut, join}
 use Rattle.rules.specs.Order.{Node, ignored, plain, listed, through, ptr, tdef, proto, comp, isComp}
 use Rattle.rules.specs.Writer.{Ask, got, no, Said, said, saidNames, Writer, after, next, _⨾_, put, stop, given}
 use Rattle.rules.specs.Types.{Name, isEmpty, Member, Enumerator, BtfType, Void, Int, Ptr, Array, Composite, Enum, Enum64, Fwd, Typedef, Mod, Func, Var, Datasec, FuncProto, Float, DeclTag, TypeTag, Btf, memberTypes, nodeOf, nameOf}
-use Rattle.rules.specs.Layout.{isStructPacked}
 use Rattle.rules.specs.Names.{Space, tagSpace, identSpace, Naming, resolving, spelled, resolveTypeName, builtin}
+use Rattle.rules.specs.Placing.{bodyPacked, tailPads}
 use Rattle.rules.specs.Decl.{deeper, enumValue, enum64Value, emitCompositeFwd, emitFwdDef, emitEnumDef, compositeHead, compositeBody, compositeDef, emitTypeDecl, emitCompositeDef, emitTypedefDef}
 use Rattle.rules.specs.Emit.{definition, shown, forward}
 use Rattle.demand.specs.Needs.{kids}
@@ -313,9 +313,9 @@ module _ {U : Type 0} (N : Naming U) (B : Btf) (nb : NoBuiltin B) (Sound : U →
       → Starts (emitCompositeDef (noting N) B 512 x is-struct name sz ms 0)
   unfolding emitCompositeDef compositeDef compositeBody compositeHead
   s-composite-def is-struct name sz ms e own is h =
-      s-unless name e (s-given (isStructPacked B is-struct sz ms) (λ packed.
+      s-unless name e (s-given (bodyPacked B is-struct sz ms) (λ packed.
       s-then (s-type tagSpace name own is (λ n. kt (kp _) (kt (kp _) (kp _))))
-      (kt (k-emit-members N May Going asks-ok counts-ok B {d = λ t n l. emitTypeDecl (noting N) B 511 t n l} (λ t n l k. k-emit-type-decl N May Going asks-ok counts-ok B 511 t n l k) x (deeper 0) packed 0 0 ms (members-open N May Going asks-ok counts-ok B ms h))
+      (kt (k-emit-members N May Going asks-ok counts-ok B {d = λ t n l. emitTypeDecl (noting N) B 511 t n l} (λ t n l k. k-emit-type-decl N May Going asks-ok counts-ok B 511 t n l k) x (tailPads (B .placing) (B .ptr-sz) is-struct sz) (deeper 0) packed 0 0 ms (members-open N May Going asks-ok counts-ok B ms h))
       (k-composite-end N May Going asks-ok counts-ok B {d = λ t n l. emitTypeDecl (noting N) B 511 t n l} (λ t n l k. k-emit-type-decl N May Going asks-ok counts-ok B 511 t n l k) x 0 ms packed))))
 
   pub definition-composite : (t : BtfType) → B .type-by-id x ≡ t → isComp (nodeOf t) ≡ true → ((y : ℕ) → List·Memᴰ y (kids (nodeOf t)) → Open N May Going asks-ok counts-ok B y) → Starts (definition (noting N) B x t)

@@ -6,10 +6,11 @@ use mathlib.Core.List.{List, [], _∷_, _++_, append-assoc, append-nil, List·Me
 use lib.ListN.{length}
 use lib.Dec.{leb, eqb}
 use Rattle.lent.specs.Text.{Text, whole, cut, join}
-use Rattle.rules.specs.Writer.{Ask, got, no, askThen, checked, Said, said, saidText, saidNames, Writer, after, next, _⨾_, put, stop, given}
+use Rattle.rules.specs.Writer.{Ask, got, no, askThen, checked, Said, said, saidText, saidNames, Writer, after, next, _⨾_, put, stop, given, misplaced}
 use Rattle.rules.specs.Types.{Name, isEmpty, Member, Param, Enumerator, BtfType, Void, Int, Ptr, Array, Composite, Enum, Enum64, Fwd, Typedef, Mod, Func, Var, Datasec, FuncProto, Float, DeclTag, TypeTag, Btf}
-use Rattle.rules.specs.Layout.{sizeOf, getSizeOf, alignMembers, alignOf, getAlignOf, offAlign, membersPacked, isStructPacked, Pad, gapPads, bitPadding, endOf}
+use Rattle.rules.specs.Layout.{sizeOf, getSizeOf, alignMembers, alignOf, getAlignOf, offAlign, membersPacked, isStructPacked, Pad, bitPadding, endOf, padsBefore}
 use Rattle.rules.specs.Names.{Space, tagSpace, identSpace, Naming, resolving, spelled, resolveTypeName, resolveName, builtin}
+use Rattle.rules.specs.Placing.{fieldSize, Extent, withMember, extentOf, noExtent, unionAlign, sizeFits, measured, bodyPacked, tailPads}
 use Rattle.rules.specs.Decl.{deeper, sepName, keyword, declTag, declTags, enumValue, enum64Value, Entry, base, star, qual, array, proto, tag, linkOf, chainOn, chainOf, noMods, isArray, noParams, shownParams, emitCompositeFwd, emitFwdDef, enumWord, emitValues, enumBody, emitEnumDef, emitName, parens, emitParam, emitParams, baseWord, emitArray, emitProto, paramList, chainLoop, emitMembers, compositeHead, compositeEnd, compositeBody, compositeDef, emitTypeDecl, emitTypeChain, emitCompositeDef, emitTypedefDef}
 use Rattle.rules.specs.Emit.{definition, shown, forward}
 use Rattle.declared.specs.Notes.{Mention, Asked, noting}
@@ -94,7 +95,7 @@ module _ (other : ℕ → Name → Name) (B : Btf) where
       by : (ℕ → Ask ℕ) → Ask (List Pad)
       by f = elim (leb (m .bit-offset) offset) as (λ (b : Bool). Ask (List Pad)) [
         | true ↦ got []
-        | false ↦ askThen (elim packed as (λ (b : Bool). Ask ℕ) [ true ↦ got 1 | false ↦ f (m .type-id) ]) (λ a. got (gapPads (B .ptr-sz) (m .bit-size) (m .bit-offset - offset) a))
+        | false ↦ askThen (elim packed as (λ (b : Bool). Ask ℕ) [ true ↦ got 1 | false ↦ f (m .type-id) ]) (λ a. got (padsBefore (B .placing) (B .ptr-sz) offset (m .bit-size) (m .bit-offset - offset) a))
       ]
 
   end-same : (m : Member) → endOf B′ m ≡ endOf B m
@@ -106,6 +107,31 @@ module _ (other : ℕ → Name → Name) (B : Btf) where
         | true ↦ askThen (f (m .type-id)) (λ s. askThen (checked (8 * s)) (λ bits. checked (m .bit-offset + bits)))
         | false ↦ checked (m .bit-offset + m .bit-size)
       ]
+
+  -- placing mode
+  field-same : (m : Member) → fieldSize B′ m ≡ fieldSize B m
+  unfolding fieldSize
+  field-same m = λ i. elim (eqb (m .bit-size) 0) as (λ (b : Bool). Ask ℕ) [ true ↦ got 0 | false ↦ size-same 512 i (m .type-id) ]
+
+  extent-same : (is-struct packed : Bool) (x : Extent) (ms : List Member) → extentOf B′ is-struct packed x ms ≡ extentOf B is-struct packed x ms
+  unfolding extentOf
+  extent-same is-struct packed x [] = refl
+  extent-same is-struct packed x (m ∷ ms) =
+      λ i. askThen (field-same m i) (λ size. askThen (end-same m i) (λ end. extent-same is-struct packed (withMember is-struct packed x size end (m .bit-offset) (m .bit-size)) ms i))
+
+  union-same : (is-struct : Bool) (ms : List Member) → unionAlign B′ is-struct ms ≡ unionAlign B is-struct ms
+  unfolding unionAlign
+  union-same is-struct ms = λ i. elim is-struct as (λ (b : Bool). Ask ℕ) [ true ↦ got 1 | false ↦ alignMembers (align-same 511 i) 1 ms ]
+
+  measured-same : (is-struct : Bool) (sz : ℕ) (ms : List Member) → measured B′ is-struct sz ms ≡ measured B is-struct sz ms
+  unfolding measured
+  measured-same is-struct sz ms =
+      λ i. askThen (union-same is-struct ms i) (λ a. askThen (struct-same is-struct sz ms i) (λ packed. askThen (extent-same is-struct packed noExtent ms i) (λ x.
+      askThen (checked (8 * sz)) (λ bits. elim (x .fits && sizeFits is-struct a (x .last) bits) as (λ (b : Bool). Ask Bool) [ true ↦ got packed | false ↦ no misplaced ]))))
+
+  body-same : (is-struct : Bool) (sz : ℕ) (ms : List Member) → bodyPacked B′ is-struct sz ms ≡ bodyPacked B is-struct sz ms
+  unfolding bodyPacked
+  body-same is-struct sz ms = λ i. elim (B .placing) as (λ (b : Bool). Ask Bool) [ true ↦ measured-same is-struct sz ms i | false ↦ struct-same is-struct sz ms i ]
 
   link-same : (f : Name → Name) (t : BtfType) → linkOf (renameType f t) ≡ linkOf t
   link-same f Void = refl
@@ -369,20 +395,20 @@ module _ {U : Type 0} (N : Naming U) (other : ℕ → Name → Name) (ren : Rena
         t-chain-loop (suc n) last-was-ptr (tag a name ∷ c) = t-then (tp _) (t-then (tp _) (t-chain-loop n false (noMods c)))
 
       module _ (id : ℕ) where
-        t-emit-members : (lvl : ℕ) (packed : Bool) (i offset : ℕ) (ms : List Member) → Twin (emitMembers (noting N) B d₁ id lvl packed i offset ms) (emitMembers (noting N) R d₂ id lvl packed i offset ms)
+        t-emit-members : (tail : ℕ → List Pad) (lvl : ℕ) (packed : Bool) (i offset : ℕ) (ms : List Member) → Twin (emitMembers (noting N) B d₁ id tail lvl packed i offset ms) (emitMembers (noting N) R d₂ id tail lvl packed i offset ms)
         unfolding emitMembers
-        t-emit-members lvl packed i offset [] = tp []
-        t-emit-members lvl packed i offset (m ∷ ms) =
+        t-emit-members tail lvl packed i offset [] = tp _
+        t-emit-members tail lvl packed i offset (m ∷ ms) =
             t-then (t-given (bitPadding B offset m packed) (bitPadding R offset m packed) (padding-same other B offset m packed) (λ ps. tp _))
             (t-then (tp _) (t-then (tp _) (t-then (hd (m .type-id) (m .name) lvl) (t-then (tp _)
-            (t-given (endOf B m) (endOf R m) (end-same other B m) (λ end. t-then (t-put (tags-same other B i (B .decl-tags id))) (t-then (tp _) (t-emit-members lvl packed (i + 1) end ms))))))))
+            (t-given (endOf B m) (endOf R m) (end-same other B m) (λ end. t-then (t-put (tags-same other B i (B .decl-tags id))) (t-then (tp _) (t-emit-members tail lvl packed (i + 1) end ms))))))))
 
         t-composite-def : (is-struct : Bool) (name : Name) (sz : ℕ) (ms : List Member) (lvl : ℕ) → Twin (compositeDef (noting N) B d₁ id is-struct name sz ms lvl) (compositeDef (noting N) R d₂ id is-struct (other id name) sz ms lvl)
         unfolding compositeDef compositeBody compositeHead compositeEnd
         t-composite-def is-struct name sz ms lvl =
-            t-if (builtin name) (builtin (other id name)) (ren .same-builtin id name) (tp []) (t-given (isStructPacked B is-struct sz ms) (isStructPacked R is-struct sz ms) (struct-same other B is-struct sz ms) (λ packed.
+            t-if (builtin name) (builtin (other id name)) (ren .same-builtin id name) (tp []) (t-given (bodyPacked B is-struct sz ms) (bodyPacked R is-struct sz ms) (body-same other B is-struct sz ms) (λ packed.
             t-then (t-type tagSpace id name (λ n. p-second n _ (p-first n _ (p-put n (sepName n) (sep-stands n)))) (λ n. t-then (t-put (keyword-same other B is-struct)) (t-then (tp _) (tp _))))
-            (t-then (t-emit-members (deeper lvl) packed 0 0 ms) (t-then (tp _) (t-then (tp _) (t-then (tp _) (t-then (tp _) (t-put (tags-same other B 4294967295 (B .decl-tags id))))))))))
+            (t-then (t-emit-members (tailPads (B .placing) (B .ptr-sz) is-struct sz) (deeper lvl) packed 0 0 ms) (t-then (tp _) (t-then (tp _) (t-then (tp _) (t-then (tp _) (t-put (tags-same other B 4294967295 (B .decl-tags id))))))))))
 
     mutual
       unfolding emitTypeDecl emitTypeChain emitCompositeDef

@@ -9,9 +9,10 @@ use Rattle.rules.specs.Order.{bind, each, meet, pushIf, enter, alias, fresh, vi
 use Rattle.rules.specs.Machine.{obind, eeach, once, mention, again, close, leaf, within, begin, allowed, look, emit, shut, emitted, ordered, gate, single, serve, run}
 use Rattle.rules.specs.Writer.{askThen, checked, saidText, saidNames, after, next, put, stop, given, _⨾_}
 use Rattle.rules.specs.Types.{isEmpty}
-use Rattle.rules.specs.Layout.{larger, smaller, octets, sizeOf, getSizeOf, alignMembers, alignOf, getAlignOf, offAlign, membersPacked, isStructPacked, chipAwayBits, padOf, padsOf, gapPads, bitPadding, endOf}
+use Rattle.rules.specs.Layout.{larger, smaller, octets, sizeOf, getSizeOf, alignMembers, alignOf, getAlignOf, offAlign, membersPacked, isStructPacked, chipAwayBits, padOf, padsOf, gapPads, padsBefore, bitPadding, endOf}
+use Rattle.rules.specs.Placing.{bodyPacked, tailPads}
 use Rattle.rules.specs.Names.{spelled, resolving, resolveTypeName, resolveName, sameBytes, holds, holders, counted, typeVersion, valueVersion, startsWith, contains, builtin, escapedByte, escaped}
-use Rattle.rules.specs.Decl.{deeper, sepName, keyword, attribute, declTag, declTags, qualifier, enumValue, enum64Value, chainOn, chainOf, mods, noMods, shownParams, unitWord, pads, lastNewline, bitSize, emitCompositeFwd, emitFwdDef, enumWord, emitValues, enumBody, emitEnumDef, emitName, brackets, parens, emitParam, emitParams, baseWord, emitArray, emitProto, paramList, chainLoop, emitMembers, compositeHead, compositeEnd, compositeBody, compositeDef, emitTypedefDef, emitTypeDecl, emitTypeChain, emitCompositeDef}
+use Rattle.rules.specs.Decl.{deeper, sepName, keyword, attribute, declTag, declTags, qualifier, enumValue, enum64Value, chainOn, chainOf, mods, noMods, shownParams, unitWord, pads, lastNewline, ownLine, tailText, bitSize, emitCompositeFwd, emitFwdDef, enumWord, emitValues, enumBody, emitEnumDef, emitName, brackets, parens, emitParam, emitParams, baseWord, emitArray, emitProto, paramList, chainLoop, emitMembers, compositeHead, compositeEnd, compositeBody, compositeDef, emitTypedefDef, emitTypeDecl, emitTypeChain, emitCompositeDef}
 use Rattle.rules.specs.Emit.{definition, shown, forward}
 use Rattle.rules.specs.Listed.{tagsId, tagsFrom}
 use Rattle.demand.specs.Lists.{afresh}
@@ -29,9 +30,9 @@ pub samples-hold : _≡_ {A = List ℕ × List (ℕ × List ℕ) × List (ℕ ×
 unfolding oneMore join bytes pfx digits decimal bind each meet pushIf enter alias fresh visit order obind eeach once mention again close leaf within begin
     allowed look emit shut emitted ordered gate single serve run askThen checked saidText saidNames after next put stop given _⨾_ isEmpty
     larger smaller octets sizeOf getSizeOf alignMembers alignOf getAlignOf offAlign membersPacked isStructPacked chipAwayBits padOf padsOf
-    gapPads bitPadding endOf spelled resolving resolveTypeName resolveName sameBytes holds holders counted typeVersion valueVersion startsWith
+    gapPads padsBefore bitPadding endOf spelled resolving resolveTypeName resolveName sameBytes holds holders counted typeVersion valueVersion startsWith
     contains builtin escapedByte escaped deeper sepName keyword attribute declTag declTags qualifier enumValue enum64Value chainOn chainOf mods
-    noMods shownParams unitWord pads lastNewline bitSize emitCompositeFwd emitFwdDef enumWord emitValues enumBody emitEnumDef emitName brackets
+    noMods shownParams unitWord pads lastNewline ownLine tailText bodyPacked tailPads bitSize emitCompositeFwd emitFwdDef enumWord emitValues enumBody emitEnumDef emitName brackets
     parens emitParam emitParams baseWord emitArray emitProto paramList chainLoop emitMembers compositeHead compositeEnd compositeBody
     compositeDef emitTypedefDef emitTypeDecl emitTypeChain emitCompositeDef definition shown forward tagsId tagsFrom afresh fitting lineOf textOf
 samples-hold = refl

@@ -10,8 +10,9 @@ use Rattle.lent.specs.Text.{whole, cut}
 use Rattle.rules.specs.Order.{Table, isComp}
 use Rattle.rules.specs.Writer.{Ask, got, no, Said, said, saidNames, Writer, after, next, _⨾_, put, stop, given}
 use Rattle.rules.specs.Types.{Name, isEmpty, Member, Param, Enumerator, BtfType, Void, Int, Ptr, Array, Composite, Enum, Enum64, Fwd, Typedef, Mod, Func, Var, Datasec, FuncProto, Float, DeclTag, TypeTag, Btf, memberTypes, paramTypes, nodeOf, nameOf, isNamed, tableOf}
-use Rattle.rules.specs.Layout.{isStructPacked, bitPadding, endOf}
+use Rattle.rules.specs.Layout.{bitPadding, endOf, Pad}
 use Rattle.rules.specs.Names.{Space, tagSpace, identSpace, Naming, resolving, spelled, resolveTypeName, resolveName, builtin}
+use Rattle.rules.specs.Placing.{bodyPacked, tailPads}
 use Rattle.rules.specs.Decl.{deeper, enumValue, enum64Value, Entry, base, star, qual, array, proto, tag, Link, ends, leads, linkOf, chainOn, chainOf, noMods, isArray, noParams, shownParams, emitCompositeFwd, emitFwdDef, enumWord, emitValues, enumBody, emitEnumDef, emitName, parens, emitParam, emitParams, baseWord, emitArray, emitProto, paramList, chainLoop, emitMembers, compositeHead, compositeEnd, compositeBody, compositeDef, emitTypeDecl, emitTypeChain, emitCompositeDef}
 use Rattle.demand.specs.Needs.{kids}
 use Rattle.demand.proofs.Placed.{isDef}
@@ -280,13 +281,13 @@ module _ {U : Type 0} (N : Naming U) (P : Space → ℕ → Name → Type 0) (I 
         k-chain-loop (suc n) last-was-ptr (tag a name ∷ c) h = k-then (k-put _) (k-then (k-put _) (k-chain-loop n false (noMods c) (no-mods-open c (h .1))))
 
       module _ (id : ℕ) where
-        pub k-emit-members : (lvl : ℕ) (packed : Bool) (i offset : ℕ) (ms : List Member) → MembersOpen ms → Keeps (emitMembers (noting N) B d id lvl packed i offset ms)
+        pub k-emit-members : (tail : ℕ → List Pad) (lvl : ℕ) (packed : Bool) (i offset : ℕ) (ms : List Member) → MembersOpen ms → Keeps (emitMembers (noting N) B d id tail lvl packed i offset ms)
         unfolding emitMembers
-        k-emit-members lvl packed i offset [] h = k-put []
-        k-emit-members lvl packed i offset (m ∷ ms) h =
+        k-emit-members tail lvl packed i offset [] h = k-put _
+        k-emit-members tail lvl packed i offset (m ∷ ms) h =
             k-then (k-given (bitPadding B offset m packed) (λ ps. k-put _))
             (k-then (k-put _) (k-then (k-put _) (k-then (hd (m .type-id) (m .name) lvl (h .0)) (k-then (k-put _)
-            (k-given (endOf B m) (λ end. k-then (k-put _) (k-then (k-put _) (k-emit-members lvl packed (i + 1) end ms (h .1)))))))))
+            (k-given (endOf B m) (λ end. k-then (k-put _) (k-then (k-put _) (k-emit-members tail lvl packed (i + 1) end ms (h .1)))))))))
 
         pub k-composite-end : (lvl : ℕ) (ms : List Member) (packed : Bool) → Keeps (compositeEnd (noting N) B d id lvl ms packed)
         unfolding compositeEnd
@@ -295,8 +296,8 @@ module _ {U : Type 0} (N : Naming U) (P : Space → ℕ → Name → Type 0) (I 
         k-composite-def : (is-struct : Bool) (name : Name) (sz : ℕ) (ms : List Member) (lvl : ℕ) → isEmpty name ≡ true → MembersOpen ms → Keeps (compositeDef (noting N) B d id is-struct name sz ms lvl)
         unfolding compositeDef compositeBody compositeHead
         k-composite-def is-struct name sz ms lvl e h =
-            k-if (builtin name) (k-put []) (k-given (isStructPacked B is-struct sz ms) (λ packed.
-            k-then (k-type tagSpace id name (λ q. absurd (true≢false (sym e ∙ q))) (λ n. k-then (k-put _) (k-then (k-put _) (k-put _)))) (k-then (k-emit-members (deeper lvl) packed 0 0 ms h) (k-composite-end lvl ms packed))))
+            k-if (builtin name) (k-put []) (k-given (bodyPacked B is-struct sz ms) (λ packed.
+            k-then (k-type tagSpace id name (λ q. absurd (true≢false (sym e ∙ q))) (λ n. k-then (k-put _) (k-then (k-put _) (k-put _)))) (k-then (k-emit-members (tailPads (B .placing) (B .ptr-sz) is-struct sz) (deeper lvl) packed 0 0 ms h) (k-composite-end lvl ms packed))))
 
     mutual
       unfolding emitTypeDecl emitTypeChain emitCompositeDef

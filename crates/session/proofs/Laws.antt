@@ -250,7 +250,7 @@ module _ (b : Btf) (s w t : List ℕ) (len id to : ℕ) (below : len ≤ to) (en
   past-listed h = stuck-listed (length (midOf len (to - len) t)) (asked b s w id (midOf len (to - len) t)) (fair-asked b s w id (midOf len (to - len) t)) (at - (to - len + 1)) (came-past h)
 
   -- a refusal's place is not far past the end
-  pub one-bound : at ≤ to - len + 18
+  pub one-bound : at ≤ to - len + 19
   one-bound = ⊎-elim (λ l. omega arith) (λ l. omega (arith, past-listed l .1)) (le-or-lt at (to - len))
 
   module _ (el : to ≡ limitOf (length t) len) (r : Reached) (er : r ≡ arrivedAt len (to - len) at) where

@@ -106,7 +106,7 @@ fn with_text(s: Session, open: bool, len: u32) -> Session
 
 // What a place in a slice of so many bytes says, after a text of len bytes: the new length, or a refusal.
 fn arrived(len: u32, room: usize, at: usize) -> Reached
-    requires { ⌜ (len + room < 4294967296) × (at ≤ room + 18) ⌝ }
+    requires { ⌜ (len + room < 4294967296) × (at ≤ room + 19) ⌝ }
     ensures { λ r. ⌜ r ≡ arrivedAt len room at ⌝ }
 {
     if at <= room {
