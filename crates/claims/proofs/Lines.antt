@@ -10,7 +10,7 @@ use lib.Seq.{length-take-le, take-append-seam}
 use lib.Dec.{leb, eqb, ltb}
 use borrow.Author.Tests.{le-leb, lt-leb, leb-true}
 use Rattle.lent.specs.Words.{getWord}
-use Rattle.lent.specs.Text.{Text, whole, cut, bytes, place, Out as Put, stopped, written, putText}
+use Rattle.text.specs.Text.{Text, whole, cut, bytes, place, Out as Put, stopped, written, putText}
 use Rattle.rules.specs.Place.{Wrote, withNames, putSaid}
 use Rattle.rules.specs.Writer.{Said, said, saidNames}
 use Rattle.rules.specs.Names.{Names, Resolved, naming}

@@ -13,7 +13,7 @@ use lib.Dec.{eqb, ltb}
 use borrow.Author.Tests.{le-leb, lt-leb, eq-eqb, ne-eqb, lt-ltb, le-ltb}
 use borrow.Rule.Slice.PartMut.{mid-len}
 use Rattle.lent.specs.Words.{pick}
-use Rattle.lent.specs.Text.{place}
+use Rattle.text.specs.Text.{place}
 use Rattle.lent.proofs.Laws.{le-or-lt}
 use Rattle.rules.specs.Order.{Table}
 use Rattle.rules.specs.Machine.{Out, stuck, Machine, Sess, Answer, ordered, ordering, gate, single, onward, from, every, Req, one, all, serve, run}

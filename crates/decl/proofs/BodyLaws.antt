@@ -4,7 +4,7 @@ use mathlib.Core.Path.{_≡_, ap, _∙_, sym}
 use mathlib.Core.Bool.{Bool, true, false}
 use mathlib.Core.List.{List, []}
 use native.Mathlib.Omega.{arith}
-use Rattle.lent.specs.Text.{ascii, pfx, whole, cut, putOut, putText}
+use Rattle.text.specs.Text.{ascii, pfx, whole, cut, putOut, putText}
 use Rattle.rules.specs.Writer.{Ask, got, no, Writer, put, _⨾_}
 use Rattle.rules.specs.Types.{Name, isEmpty, Member, Enumerator, Btf as Rules}
 use Rattle.rules.specs.Names.{tagSpace, identSpace, Naming, resolveTypeName}

@@ -5,7 +5,7 @@ use mathlib.Core.Bool.{Bool, true, false}
 use mathlib.Core.List.{List, [], _∷_}
 use native.Mathlib.Omega.{arith}
 use lib.ListN.{length}
-use Rattle.lent.specs.Text.{whole, cut, putOut, putText}
+use Rattle.text.specs.Text.{whole, cut, putOut, putText}
 use Rattle.rules.specs.Writer.{Said, Writer, stop, nothing, _⨾_}
 use Rattle.rules.specs.Types.{Name}
 use Rattle.rules.specs.Decl.{Entry, base, star, qual, array, proto, tag, chainOf, emitName, emitTypeDecl, emitTypeChain}

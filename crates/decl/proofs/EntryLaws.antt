@@ -6,8 +6,8 @@ use mathlib.Core.List.{List, [], _∷_}
 use native.Mathlib.Omega.{arith}
 use lib.Dec.{eqb}
 use borrow.Author.Tests.{ne-eqb}
-use Rattle.lent.specs.Text.{ascii, whole, putOut, putText}
-use Rattle.lent.proofs.TextLaws.{put-seq}
+use Rattle.text.specs.Text.{ascii, whole, putOut, putText}
+use Rattle.text.proofs.TextLaws.{put-seq}
 use Rattle.rules.specs.Writer.{Writer, put, nothing, _⨾_}
 use Rattle.rules.specs.Types.{Name, isEmpty, Member, BtfType, Composite, Btf as Rules}
 use Rattle.rules.specs.Names.{identSpace, resolveTypeName}

@@ -3,7 +3,7 @@ use Prim.Native.Nat.{ℕ}
 use mathlib.Core.Path.{_≡_, ap, _∙_, sym}
 use mathlib.Core.Bool.{Bool}
 use mathlib.Core.List.{List, [], _∷_}
-use Rattle.lent.specs.Text.{whole, putOut, putText}
+use Rattle.text.specs.Text.{whole, putOut, putText}
 use Rattle.rules.specs.Writer.{Ask, got, no, Writer, given}
 use Rattle.rules.specs.Types.{Name, Member, Param, BtfType, Btf as Rules}
 use Rattle.rules.specs.Names.{Naming}

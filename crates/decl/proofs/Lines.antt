@@ -7,7 +7,7 @@ use native.Mathlib.Omega.{arith}
 use native.Mathlib.Numerals.{add-one}
 use lib.Dec.{eqb}
 use borrow.Author.Tests.{ne-eqb}
-use Rattle.lent.specs.Text.{ascii, pfx, join}
+use Rattle.text.specs.Text.{ascii, pfx, join}
 use Rattle.rules.specs.Writer.{Ask, got, no, askThen, Writer, after, next, _⨾_, put, given}
 use Rattle.rules.specs.Types.{Name, Member, Btf}
 use Rattle.rules.specs.Names.{Naming}

@@ -6,7 +6,7 @@ use mathlib.Core.List.{List, [], _∷_}
 use native.Mathlib.Omega.{arith}
 use lib.Dec.{eqb, leb}
 use borrow.Author.Tests.{ne-eqb, le-leb, lt-leb}
-use Rattle.lent.specs.Text.{ascii, pfx, whole, cut, putOut, putText}
+use Rattle.text.specs.Text.{ascii, pfx, whole, cut, putOut, putText}
 use Rattle.rules.specs.Writer.{Said, Writer, put, stop, nothing, given, _⨾_, saidNames}
 use Rattle.rules.specs.Types.{Name, Member, Param, Btf as Rules, Typedef}
 use Rattle.rules.specs.Names.{tagSpace, identSpace, resolveTypeName, builtin}

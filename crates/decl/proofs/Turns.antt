@@ -5,7 +5,7 @@ use mathlib.Core.Bool.{Bool, true, false}
 use mathlib.Core.List.{List, [], _∷_}
 use native.Mathlib.Omega.{arith}
 use lib.ListN.{length}
-use Rattle.lent.specs.Text.{ascii, pfx}
+use Rattle.text.specs.Text.{ascii, pfx}
 use Rattle.rules.specs.Writer.{Ask, got, no, Writer, _⨾_, put, stop, nothing, given}
 use Rattle.rules.specs.Types.{Name, Member, Param, BtfType, Void, Int, Ptr, Array, Composite, Enum, Enum64, Fwd, Typedef, Mod, Func, Var, Datasec, FuncProto, Float, DeclTag, TypeTag, Btf}
 use Rattle.rules.specs.Names.{Naming}

@@ -7,10 +7,10 @@ use mathlib.Core.Logic.{⊎-elim}
 use native.Mathlib.Omega.{arith}
 use lib.Dec.{eqb, leb}
 use borrow.Author.Tests.{ne-eqb, le-leb, lt-leb}
-use Rattle.lent.specs.Text.{ascii, whole, putOut, putText}
-use Rattle.lent.specs.Decimal.{decimal}
+use Rattle.text.specs.Text.{ascii, whole, putOut, putText}
+use Rattle.text.specs.Decimal.{decimal}
 use Rattle.lent.proofs.Laws.{le-or-lt}
-use Rattle.lent.proofs.TextLaws.{put-seq}
+use Rattle.text.proofs.TextLaws.{put-seq}
 use Rattle.rules.specs.Types.{Name, isEmpty, Member, Param}
 use Rattle.rules.specs.Decl.{attribute, brackets, bitSize, shownParams}
 use Rattle.btf.specs.declared.types.Btf.{Btf}

@@ -6,8 +6,8 @@ use mathlib.Core.Bool.{Bool, true, false, not, _&&_}
 use mathlib.Core.List.{List, [], _∷_, _++_}
 use lib.ListN.{length}
 use lib.Dec.{eqb}
-use Rattle.lent.specs.Text.{ascii, pfx}
-use Rattle.lent.specs.Decimal.{decimal}
+use Rattle.text.specs.Text.{ascii, pfx}
+use Rattle.text.specs.Decimal.{decimal}
 use Rattle.rules.specs.Writer.{Ask, got, no, Writer, _⨾_, put, nothing, given}
 use Rattle.rules.specs.Types.{Name, isEmpty, Member, Param, Enumerator, BtfType, Btf}
 use Rattle.rules.specs.Names.{Naming}

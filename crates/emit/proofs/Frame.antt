@@ -6,7 +6,7 @@ use mathlib.Core.Bool.{Bool, true, false, not, _&&_, _||_}
 use mathlib.Core.Logic.{⊎-elim, _≢_}
 use native.Mathlib.Omega.{arith}
 use lib.Dec.{eqb, ltb}
-use Rattle.lent.specs.Text.{Text, Out as TextOut, done as lies, stopped, putText}
+use Rattle.text.specs.Text.{Text, Out as TextOut, done as lies, stopped, putText}
 use Rattle.lent.specs.Words.{getWord}
 use Rattle.lent.proofs.Laws.{le-or-lt}
 use Rattle.rules.specs.Order.{Node, ignored, plain, listed, through, ptr, tdef, proto, comp, Mark, new, busy, done}

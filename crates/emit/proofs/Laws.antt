@@ -9,8 +9,8 @@ use native.Mathlib.Numerals.{add-one}
 use lib.Dec.{eqb, ltb}
 use lib.ListN.{length}
 use borrow.Author.Tests.{eq-eqb, ne-eqb}
-use Rattle.lent.specs.Text.{Text, whole, cut, bytes, Out as TextOut, done as lies, stopped, isStopped, putOut, written, putText}
-use Rattle.lent.proofs.TextLaws.{out-done, out-stopped, put-fits, stays, not-stopped}
+use Rattle.text.specs.Text.{Text, whole, cut, bytes, Out as TextOut, done as lies, stopped, isStopped, putOut, written, putText}
+use Rattle.text.proofs.TextLaws.{out-done, out-stopped, put-fits, stays, not-stopped}
 use Rattle.lent.proofs.Laws.{le-or-lt}
 use Rattle.rules.specs.Order.{Table, Node, ignored, plain, listed, through, ptr, tdef, proto, comp, Mark, new, busy, done, isComp}
 use Rattle.rules.specs.Machine.{Out, wrote, stuck, Machine, isZero, pick, obind, eeach, once, mention, again, close, leaf, within, begin, allowed, look, emit}

@@ -6,7 +6,7 @@ use mathlib.Core.Bool.{Bool, true, false}
 use native.Mathlib.Omega.{arith}
 use lib.Dec.{eqb}
 use borrow.Author.Tests.{ne-eqb, eq-eqb}
-use Rattle.lent.specs.Text.{ascii, whole, putOut, putText}
+use Rattle.text.specs.Text.{ascii, whole, putOut, putText}
 use Rattle.rules.specs.Types.{Name, BtfType, Void, Int, Ptr, Array, Composite, Enum, Enum64, Fwd, Typedef, Mod, Func, Var, Datasec, FuncProto, Float, DeclTag, TypeTag, Btf as Rules}
 use Rattle.rules.specs.Names.{Naming, builtin}
 use Rattle.rules.specs.Writer.{Writer, put, nothing, _⨾_}

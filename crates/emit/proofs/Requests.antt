@@ -9,8 +9,8 @@ use native.Mathlib.Numerals.{add-one}
 use lib.Dec.{eqb, ltb}
 use lib.ListN.{length}
 use borrow.Author.Tests.{ne-eqb}
-use Rattle.lent.specs.Text.{Text, cut, bytes, stopped, putOut, written, putText}
-use Rattle.lent.proofs.TextLaws.{put-fits, stays}
+use Rattle.text.specs.Text.{Text, cut, bytes, stopped, putOut, written, putText}
+use Rattle.text.proofs.TextLaws.{put-fits, stays}
 use Rattle.rules.specs.Order.{Table, Node, ignored, plain, listed, through, ptr, tdef, proto, comp, Mark, new, busy, done, Res, ok, refused, bind, fresh, visit, order}
 use Rattle.rules.specs.Machine.{Out, wrote, stuck, Machine, obind, eeach, emit, Sess, Answer, shut, emitted, ordered, ordering, gate, single}
 use Rattle.rules.specs.Types.{BtfType, Btf as Rules, nodeOf, tableOf}

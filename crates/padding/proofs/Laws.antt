@@ -6,9 +6,9 @@ use mathlib.Core.List.{List, [], _∷_, _++_}
 use mathlib.Core.Logic.{_⊎_, inl, inr, ⊎-elim}
 use native.Mathlib.Omega.{arith}
 use borrow.Author.Tests.{lt-ltb, le-ltb, le-leb, lt-leb, ne-eqb}
-use Rattle.lent.specs.Text.{Text, whole, cut, isStopped, putOut, putText, ascii, pfx}
-use Rattle.lent.specs.Decimal.{decimal}
-use Rattle.lent.proofs.TextLaws.{put-seq, put-same, put-empty, put-stopped}
+use Rattle.text.specs.Text.{Text, whole, cut, isStopped, putOut, putText, ascii, pfx}
+use Rattle.text.specs.Decimal.{decimal}
+use Rattle.text.proofs.TextLaws.{put-seq, put-same, put-empty, put-stopped}
 use Rattle.rules.specs.Writer.{Ask, got, no, askThen, Said, said, put, stop, given}
 use Rattle.rules.specs.Place.{outOf, putSaid}
 use Rattle.rules.specs.Types.{Member, Btf as Rules}

@@ -7,8 +7,8 @@ use native.Mathlib.Omega.{arith}
 use lib.Dec.{eqb, leb, ltb, leb·zero, leb·suc-zero, leb·suc-suc}
 use lib.Count.{trailingZeros, under}
 use borrow.Author.Tests.{lt-ltb, le-ltb, le-leb, lt-leb, eq-eqb, ne-eqb, eqb-true}
-use Rattle.lent.specs.Text.{Text, whole, isStopped, putOut, putText, ascii}
-use Rattle.lent.proofs.TextLaws.{put-seq, put-same, put-empty, put-stopped}
+use Rattle.text.specs.Text.{Text, whole, isStopped, putOut, putText, ascii}
+use Rattle.text.proofs.TextLaws.{put-seq, put-same, put-empty, put-stopped}
 use Rattle.rules.specs.Layout.{PadUnit, long, int, short, char, Pad, suits, placedPad, placedPads, placedGap, gapPads, padsBefore}
 use Rattle.rules.specs.Placing.{tailPads}
 use Rattle.rules.specs.Decl.{pads, ownLine, tailText}

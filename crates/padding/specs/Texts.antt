@@ -4,8 +4,8 @@ use mathlib.Core.Bool.{Bool, true, false, _&&_}
 use mathlib.Core.List.{List, [], _∷_, _++_}
 use lib.Dec.{eqb, leb}
 use lib.Count.{trailingZeros}
-use Rattle.lent.specs.Text.{Text, whole, cut, ascii, pfx}
-use Rattle.lent.specs.Decimal.{decimal}
+use Rattle.text.specs.Text.{Text, whole, cut, ascii, pfx}
+use Rattle.text.specs.Decimal.{decimal}
 use Rattle.rules.specs.Writer.{Ask, got, no}
 use Rattle.rules.specs.Types.{Btf}
 use Rattle.rules.specs.Layout.{PadUnit, long, int, short, char, Pad, suits, getAlignOf}

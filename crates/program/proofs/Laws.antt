@@ -2,9 +2,9 @@
 use Prim.Native.Nat.{ℕ}
 use mathlib.Core.Path.{_≡_, refl, ap, _∙_, sym}
 use mathlib.Core.List.{List, [], _∷_, _++_}
-use Rattle.lent.specs.Text.{ascii, Text, whole, Out, putOut, putText}
-use Rattle.lent.specs.Decimal.{decimal}
-use Rattle.lent.proofs.TextLaws.{put-seq}
+use Rattle.text.specs.Text.{ascii, Text, whole, Out, putOut, putText}
+use Rattle.text.specs.Decimal.{decimal}
+use Rattle.text.proofs.TextLaws.{put-seq}
 use Rattle.turns.specs.declared.Answer.{Answer}
 use Rattle.turns.specs.declared.Answer.the-variants.{Accepted, Refused}
 use Rattle.turns.specs.declared.Session.{Session}

@@ -10,7 +10,7 @@ use mathlib.Core.Logic.{_⊎_, inl, inr, ⊎-elim}
 use lib.ListN.{length, getD, drop}
 use lib.Seq.{drop-cons}
 use lib.Dec.{ltb, leb, eqb}
-use Rattle.lent.specs.Text.{ascii}
+use Rattle.text.specs.Text.{ascii}
 use Rattle.rules.specs.Types.{isEmpty, const, volatile, restrict}
 use Rattle.rules.specs.Names.{sameBytes}
 use Rattle.rules.specs.Decl.{qualifier}

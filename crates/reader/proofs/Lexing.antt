@@ -7,9 +7,9 @@ use native.Mathlib.Omega.{arith}
 use borrow.Author.Tests.{lt-ltb, le-ltb, le-leb, ne-eqb}
 use lib.ListN.{length, getD}
 use lib.Dec.{ltb, leb, eqb}
-use Rattle.lent.specs.Text.{ascii}
-use Rattle.lent.specs.Decimal.{digits, decimal}
-use Rattle.lent.proofs.Digits.{horner, AllDigits, Numeral, decimal-is}
+use Rattle.text.specs.Text.{ascii}
+use Rattle.text.specs.Decimal.{digits, decimal}
+use Rattle.text.proofs.Digits.{horner, AllDigits, Numeral, decimal-is}
 use Rattle.rules.specs.Types.{Qualifier, volatile, const, restrict, isEmpty}
 use Rattle.rules.specs.Names.{sameBytes}
 use Rattle.rules.specs.Decl.{qualifier, sepName, brackets}

@@ -6,7 +6,7 @@ use mathlib.Core.List.{List, [], _∷_, _++_, append-assoc, append-nil}
 use native.Mathlib.Omega.{arith}
 use lib.ListN.{length}
 use lib.Dec.{eqb}
-use Rattle.lent.specs.Text.{ascii, whole, join}
+use Rattle.text.specs.Text.{ascii, whole, join}
 use Rattle.rules.specs.Types.{Name, isEmpty, Qualifier, Param, Btf, BtfType, Member}
 use Rattle.rules.specs.Names.{Naming}
 use Rattle.rules.specs.Writer.{Ask, got, no, Writer, said, after, next, put, given, _⨾_}

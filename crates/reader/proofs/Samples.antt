@@ -1,7 +1,7 @@
 -- The samples hold of the reader.
 use mathlib.Core.Path.{_≡_, refl}
 use mathlib.Core.List.{[], _∷_}
-use Rattle.lent.specs.Text.{ascii}
+use Rattle.text.specs.Text.{ascii}
 use Rattle.rules.specs.Types.{isEmpty}
 use Rattle.rules.specs.Names.{sameBytes, naming}
 use Rattle.rules.specs.Writer.{put}

@@ -5,7 +5,7 @@ use mathlib.Core.Path.{_≡_}
 use mathlib.Core.Bool.{Bool, true, false, _&&_}
 use mathlib.Core.List.{List, [], _∷_, _++_}
 use lib.Dec.{eqb}
-use Rattle.lent.specs.Text.{whole}
+use Rattle.text.specs.Text.{whole}
 use Rattle.rules.specs.Types.{Name, Qualifier, Param, Btf, BtfType, Member}
 use Rattle.rules.specs.Names.{Naming}
 use Rattle.rules.specs.Writer.{got, Writer, said}

@@ -4,7 +4,7 @@ use mathlib.Core.Bool.{Bool, true, false, not, _&&_, _||_}
 use mathlib.Core.List.{List, [], _∷_, _++_}
 use lib.ListN.{length}
 use lib.Dec.{ltb, leb, eqb}
-use Rattle.lent.specs.Text.{ascii}
+use Rattle.text.specs.Text.{ascii}
 use Rattle.rules.specs.Types.{Qualifier, volatile, const, restrict, isEmpty}
 use Rattle.rules.specs.Names.{sameBytes}
 use Rattle.rules.specs.Decl.{qualifier}

@@ -12,7 +12,7 @@ use lib.Dec.{eqb, leb, ltb}
 use lib.Seq.{length-take-le, take-at, take-take, take-append-le, drop-at}
 use borrow.Author.Tests.{lt-ltb, le-ltb, eqb-false}
 use borrow.Rule.Slice.PartMut.{midOf, mid-len}
-use Rattle.lent.specs.Text.{place}
+use Rattle.text.specs.Text.{place}
 use Rattle.rules.specs.Machine.{Out, wrote, stuck}
 use Rattle.btf.specs.declared.types.Btf.{Btf}
 use Rattle.opening.specs.Causes.{openingNumber}

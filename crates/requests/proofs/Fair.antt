@@ -8,9 +8,9 @@ use native.Mathlib.Omega.{arith}
 use lib.ListN.{length, take, drop, length-append, length-drop}
 use lib.Dec.{eqb}
 use lib.Seq.{length-take-le}
-use Rattle.lent.specs.Text.{Text, whole, cut, bytes, Out as TextOut, done as written-to, stopped, putText, place, written}
+use Rattle.text.specs.Text.{Text, whole, cut, bytes, Out as TextOut, done as written-to, stopped, putText, place, written}
 use Rattle.lent.proofs.Laws.{le-or-lt}
-use Rattle.lent.proofs.TextLaws.{put-fits, put-none}
+use Rattle.text.proofs.TextLaws.{put-fits, put-none}
 use Rattle.rules.specs.Order.{Node, ignored, plain, listed, through, ptr, tdef, proto, comp, Table, isComp, isDone, Mark, new, busy, done, Store, Res, ok, refused, bind, each, meet, pushIf, finish, enter, alias, fresh, visit, order}
 use Rattle.rules.specs.Machine.{Out, wrote, stuck, Machine, isZero, pick, obind, eeach, once, mention, again, close, leaf, within, begin, allowed, look, emit}
 use Rattle.rules.specs.Types.{BtfType, Btf as Rules, tableOf}

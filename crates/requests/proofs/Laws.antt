@@ -12,9 +12,9 @@ use lib.Dec.{eqb, leb, ltb}
 use lib.Seq.{length-take-le, take-at, drop-drop}
 use borrow.Author.Tests.{le-leb, lt-leb, eq-eqb, ne-eqb, le-ltb, lt-ltb, not-true, not-false, leb-true, eqb-false}
 use borrow.Rule.Slice.PartMut.{midOf, postOf, putMid, mid-len, same-len-mid, put-same}
-use Rattle.lent.specs.Text.{Out as TextOut, done as written-to, stopped, putOut, place}
+use Rattle.text.specs.Text.{Out as TextOut, done as written-to, stopped, putOut, place}
 use Rattle.lent.proofs.Laws.{le-or-lt}
-use Rattle.lent.proofs.TextLaws.{out-done, out-stopped}
+use Rattle.text.proofs.TextLaws.{out-done, out-stopped}
 use Rattle.rules.specs.Order.{Node, ignored, plain, listed, through, ptr, tdef, proto, comp, Table, Mark, new, busy, done, Res, ok, refused as halted, fresh, visit, order}
 use Rattle.rules.specs.Machine.{Out, wrote, stuck, obind, eeach, emit}
 use Rattle.rules.specs.Types.{tableOf}

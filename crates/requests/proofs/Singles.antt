@@ -12,7 +12,7 @@ use lib.Seq.{take-append-le, take-append-add, length-take-le}
 use borrow.Author.Tests.{le-leb, eq-eqb, eqb-true, ltb-false}
 use borrow.Rule.Slice.PartMut.{mid-len}
 use Rattle.lent.specs.Words.{getWord, putWord}
-use Rattle.lent.specs.Text.{Out as TextOut, done as written-to, stopped, place}
+use Rattle.text.specs.Text.{Out as TextOut, done as written-to, stopped, place}
 use Rattle.lent.proofs.Laws.{put-length}
 use Rattle.rules.specs.Machine.{Out, wrote, stuck}
 use Rattle.rules.specs.Order.{Mark}

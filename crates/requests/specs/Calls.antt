@@ -4,7 +4,7 @@ use mathlib.Core.Bool.{true, false}
 use mathlib.Core.List.{List}
 use lib.ListN.{length, take, drop}
 use lib.Dec.{leb, ltb}
-use Rattle.lent.specs.Text.{place}
+use Rattle.text.specs.Text.{place}
 use Rattle.rules.specs.Machine.{Out, wrote, stuck}
 use Rattle.rules.specs.Types.{tableOf}
 use Rattle.btf.specs.declared.types.Btf.{Btf}

@@ -1,4 +1,4 @@
-use Rattle.lent.proofs.TextLaws.{put-seq}
+use Rattle.text.proofs.TextLaws.{put-seq}
 use mathlib.Core.Path.{_∙_, sym}
 use Rattle.decl.proofs.MemberLaws as members
 use borrow.Author.Needs.{needs}
@@ -7,8 +7,8 @@ use Rattle.decl.proofs.emit_typedef_def.Tie as tie
 use Rattle.decl.proofs.emit_typedef_def.Reads as reads
 use Rattle.decl.proofs.emit_typedef_def.Lts as lts
 use Rattle.decl.proofs.emit_type_decl.Reads as emit-type-decl-reads
-use Rattle.lent.proofs.put_typedef.Reads as put-typedef-reads
-use Rattle.lent.proofs.put_byte.Reads as put-byte-reads
+use Rattle.fixed.proofs.put_typedef.Reads as put-typedef-reads
+use Rattle.text.proofs.put_byte.Reads as put-byte-reads
 use Rattle.names.proofs.emit_decl_tags.Reads as emit-decl-tags-reads
 use Rattle.names.proofs.resolve_type_name.Reads as resolve-type-name-reads
 

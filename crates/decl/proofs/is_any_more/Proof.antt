@@ -1,5 +1,5 @@
 use Rattle.decl.proofs.WordLaws as laws
-use Rattle.lent.proofs.TextLaws.{put-same, put-empty}
+use Rattle.text.proofs.TextLaws.{put-same, put-empty}
 use borrow.Author.Needs.{needs}
 use Rattle.decl.proofs.is_any_more.Statement.{statement}
 use Rattle.decl.proofs.is_any_more.Tie as tie

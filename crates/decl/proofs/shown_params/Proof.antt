@@ -2,7 +2,7 @@ use Rattle.btf.specs.Table.{paramOf}
 use denote.Ref.{now}
 use mathlib.Core.Path.{_∙_, sym, ap}
 use Rattle.decl.proofs.WordLaws as laws
-use Rattle.lent.proofs.TextLaws.{put-same, put-empty}
+use Rattle.text.proofs.TextLaws.{put-same, put-empty}
 use borrow.Author.Needs.{needs}
 use Rattle.decl.proofs.shown_params.Statement.{statement}
 use Rattle.decl.proofs.shown_params.Tie as tie

@@ -7,7 +7,7 @@ use Rattle.emit.proofs.dump_type.Reads as reads
 use Rattle.emit.proofs.dump_type.Lts as lts
 use Rattle.emit.proofs.clear_list.Reads as clear-list-reads
 use Rattle.emit.proofs.emit_listed.Reads as emit-listed-reads
-use Rattle.lent.proofs.stop.Reads as stop-reads
+use Rattle.text.proofs.stop.Reads as stop-reads
 use Rattle.order.proofs.order_type.Reads as order-type-reads
 
 order-type-requires : tie.Need-order-type-requires

@@ -7,7 +7,7 @@ use Rattle.emit.proofs.emit_forward.Statement.{statement}
 use Rattle.emit.proofs.emit_forward.Tie as tie
 use Rattle.emit.proofs.emit_forward.Reads as reads
 use Rattle.emit.proofs.emit_forward.Lts as lts
-use Rattle.btf.proofs.is_builtin.Reads as is-builtin-reads
+use Rattle.strings.proofs.is_builtin.Reads as is-builtin-reads
 use Rattle.btf.proofs.is_struct.Reads as is-struct-reads
 use Rattle.btf.proofs.kind_of.Reads as kind-of-reads
 use Rattle.decl.proofs.emit_typedef_def.Reads as emit-typedef-def-reads

@@ -1,6 +1,6 @@
 use borrow.Author.Needs.{needs}
 use Rattle.padding.proofs.Placing.{tail-old, tail-union, tail-full, tail-put}
-use Rattle.lent.proofs.TextLaws.{put-same, put-empty}
+use Rattle.text.proofs.TextLaws.{put-same, put-empty}
 use mathlib.Core.Path.{refl, sym, _∙_}
 use borrow.Author.Tests.{not-true, not-false}
 use Rattle.padding.proofs.emit_tail_padding.Statement.{statement}

@@ -1,14 +1,14 @@
 use Rattle.padding.proofs.Laws.{line-is}
-use Rattle.lent.proofs.TextLaws.{put-same, put-seq}
+use Rattle.text.proofs.TextLaws.{put-same, put-seq}
 use borrow.Author.Needs.{needs}
 use Rattle.padding.proofs.put_pad.Statement.{statement}
 use Rattle.padding.proofs.put_pad.Tie as tie
 use Rattle.padding.proofs.put_pad.Reads as reads
 use Rattle.padding.proofs.put_pad.Lts as lts
-use Rattle.lent.proofs.put_decimal.Reads as put-decimal-reads
-use Rattle.lent.proofs.put_byte.Reads as put-byte-reads
-use Rattle.lent.proofs.put_tabs.Reads as put-tabs-reads
-use Rattle.lent.proofs.put_two.Reads as put-two-reads
+use Rattle.text.proofs.put_decimal.Reads as put-decimal-reads
+use Rattle.text.proofs.put_byte.Reads as put-byte-reads
+use Rattle.text.proofs.put_tabs.Reads as put-tabs-reads
+use Rattle.text.proofs.put_two.Reads as put-two-reads
 use Rattle.padding.proofs.put_unit.Reads as put-unit-reads
 
 put-byte-requires : tie.Need-put-byte-requires

@@ -10,7 +10,7 @@ use Rattle.padding.proofs.put_pads.Statement.{statement}
 use Rattle.padding.proofs.put_pads.Tie as tie
 use Rattle.padding.proofs.put_pads.Reads as reads
 use Rattle.padding.proofs.put_pads.Lts as lts
-use Rattle.lent.proofs.stopped.Reads as stopped-reads
+use Rattle.text.proofs.stopped.Reads as stopped-reads
 use Rattle.padding.proofs.pad_of.Reads as pad-of-reads
 use Rattle.padding.proofs.put_pad.Reads as put-pad-reads
 

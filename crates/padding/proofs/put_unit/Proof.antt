@@ -1,14 +1,14 @@
 use Rattle.padding.proofs.Laws.{unit-3, unit-2, unit-1, unit-0}
-use Rattle.lent.proofs.TextLaws.{put-same}
+use Rattle.text.proofs.TextLaws.{put-same}
 use borrow.Author.Needs.{needs}
 use Rattle.padding.proofs.put_unit.Statement.{statement}
 use Rattle.padding.proofs.put_unit.Tie as tie
 use Rattle.padding.proofs.put_unit.Reads as reads
 use Rattle.padding.proofs.put_unit.Lts as lts
-use Rattle.lent.proofs.put_char.Reads as put-char-reads
-use Rattle.lent.proofs.put_int.Reads as put-int-reads
-use Rattle.lent.proofs.put_long.Reads as put-long-reads
-use Rattle.lent.proofs.put_short.Reads as put-short-reads
+use Rattle.fixed.proofs.put_char.Reads as put-char-reads
+use Rattle.fixed.proofs.put_int.Reads as put-int-reads
+use Rattle.fixed.proofs.put_long.Reads as put-long-reads
+use Rattle.fixed.proofs.put_short.Reads as put-short-reads
 
 put-long-requires : tie.Need-put-long-requires
 put-long-requires c κs = search needs

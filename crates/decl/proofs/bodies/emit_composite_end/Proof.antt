@@ -8,8 +8,8 @@ use Rattle.decl.proofs.bodies.emit_composite_end.Lts as lts
 use Rattle.btf.proofs.vlen_of.Reads as vlen-of-reads
 use Rattle.decl.proofs.words.put_last_newline.Reads as put-last-newline-reads
 use Rattle.decl.proofs.words.put_packed.Reads as put-packed-reads
-use Rattle.lent.proofs.put_byte.Reads as put-byte-reads
-use Rattle.lent.proofs.put_tabs.Reads as put-tabs-reads
+use Rattle.text.proofs.put_byte.Reads as put-byte-reads
+use Rattle.text.proofs.put_tabs.Reads as put-tabs-reads
 use Rattle.names.proofs.emit_decl_tags.Reads as emit-decl-tags-reads
 
 vlen-of-requires : tie.Need-vlen-of-requires

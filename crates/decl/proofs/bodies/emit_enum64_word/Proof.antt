@@ -5,7 +5,7 @@ use Rattle.decl.proofs.bodies.emit_enum64_word.Statement.{statement}
 use Rattle.decl.proofs.bodies.emit_enum64_word.Tie as tie
 use Rattle.decl.proofs.bodies.emit_enum64_word.Reads as reads
 use Rattle.decl.proofs.bodies.emit_enum64_word.Lts as lts
-use Rattle.btf.proofs.is_empty.Reads as is-empty-reads
+use Rattle.strings.proofs.is_empty.Reads as is-empty-reads
 use Rattle.enums.proofs.emit_enum64_def.Reads as emit-enum64-def-reads
 use Rattle.enums.proofs.put_enum_name.Reads as put-enum-name-reads
 

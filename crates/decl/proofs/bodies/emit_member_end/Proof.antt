@@ -7,8 +7,8 @@ use Rattle.decl.proofs.bodies.emit_member_end.Reads as reads
 use Rattle.decl.proofs.bodies.emit_member_end.Lts as lts
 use Rattle.decl.proofs.words.put_bit_size.Reads as put-bit-size-reads
 use Rattle.layout.proofs.member_end.Reads as member-end-reads
-use Rattle.lent.proofs.put_byte.Reads as put-byte-reads
-use Rattle.lent.proofs.stop.Reads as stop-reads
+use Rattle.text.proofs.put_byte.Reads as put-byte-reads
+use Rattle.text.proofs.stop.Reads as stop-reads
 use Rattle.names.proofs.emit_decl_tags.Reads as emit-decl-tags-reads
 
 put-bit-size-requires : tie.Need-put-bit-size-requires

@@ -1,12 +1,12 @@
 use Rattle.decl.proofs.WordLaws as laws
-use Rattle.lent.proofs.TextLaws.{put-same, put-empty}
+use Rattle.text.proofs.TextLaws.{put-same, put-empty}
 use borrow.Author.Needs.{needs}
 use Rattle.decl.proofs.words.put_bit_size.Statement.{statement}
 use Rattle.decl.proofs.words.put_bit_size.Tie as tie
 use Rattle.decl.proofs.words.put_bit_size.Reads as reads
 use Rattle.decl.proofs.words.put_bit_size.Lts as lts
-use Rattle.lent.proofs.put_decimal.Reads as put-decimal-reads
-use Rattle.lent.proofs.put_two.Reads as put-two-reads
+use Rattle.text.proofs.put_decimal.Reads as put-decimal-reads
+use Rattle.text.proofs.put_two.Reads as put-two-reads
 
 returns : tie.Need-returns
 returns c = put-same _ _ _ _ _ _ (laws.size-none _ (c .if1 .taken)) (put-empty _ _)

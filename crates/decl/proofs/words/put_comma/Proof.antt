@@ -1,11 +1,11 @@
 use Rattle.decl.proofs.WordLaws as laws
-use Rattle.lent.proofs.TextLaws.{put-same, put-empty}
+use Rattle.text.proofs.TextLaws.{put-same, put-empty}
 use borrow.Author.Needs.{needs}
 use Rattle.decl.proofs.words.put_comma.Statement.{statement}
 use Rattle.decl.proofs.words.put_comma.Tie as tie
 use Rattle.decl.proofs.words.put_comma.Reads as reads
 use Rattle.decl.proofs.words.put_comma.Lts as lts
-use Rattle.lent.proofs.put_two.Reads as put-two-reads
+use Rattle.text.proofs.put_two.Reads as put-two-reads
 
 returns : tie.Need-returns
 returns c = put-same _ _ _ _ _ _ (laws.comma-first _ (c .if1 .taken)) (put-empty _ _)

@@ -1,12 +1,12 @@
 use Rattle.decl.proofs.WordLaws as laws
-use Rattle.lent.proofs.TextLaws.{put-same, put-empty}
+use Rattle.text.proofs.TextLaws.{put-same, put-empty}
 use borrow.Author.Needs.{needs}
 use Rattle.decl.proofs.words.put_count.Statement.{statement}
 use Rattle.decl.proofs.words.put_count.Tie as tie
 use Rattle.decl.proofs.words.put_count.Reads as reads
 use Rattle.decl.proofs.words.put_count.Lts as lts
-use Rattle.lent.proofs.put_decimal.Reads as put-decimal-reads
-use Rattle.lent.proofs.put_byte.Reads as put-byte-reads
+use Rattle.text.proofs.put_decimal.Reads as put-decimal-reads
+use Rattle.text.proofs.put_byte.Reads as put-byte-reads
 
 put-byte-requires : tie.Need-put-byte-requires
 put-byte-requires c κs = search needs

@@ -1,12 +1,12 @@
 use mathlib.Core.Path.{_∙_, sym}
 use Rattle.decl.proofs.WordLaws as laws
-use Rattle.lent.proofs.TextLaws.{put-same, put-empty}
+use Rattle.text.proofs.TextLaws.{put-same, put-empty}
 use borrow.Author.Needs.{needs}
 use Rattle.decl.proofs.words.put_gap.Statement.{statement}
 use Rattle.decl.proofs.words.put_gap.Tie as tie
 use Rattle.decl.proofs.words.put_gap.Reads as reads
 use Rattle.decl.proofs.words.put_gap.Lts as lts
-use Rattle.lent.proofs.put_byte.Reads as put-byte-reads
+use Rattle.text.proofs.put_byte.Reads as put-byte-reads
 use Rattle.names.proofs.is_blank.Reads as is-blank-reads
 
 returns : tie.Need-returns

@@ -1,11 +1,11 @@
 use Rattle.decl.proofs.WordLaws as laws
-use Rattle.lent.proofs.TextLaws.{put-same, put-empty}
+use Rattle.text.proofs.TextLaws.{put-same, put-empty}
 use borrow.Author.Needs.{needs}
 use Rattle.decl.proofs.words.put_last_newline.Statement.{statement}
 use Rattle.decl.proofs.words.put_last_newline.Tie as tie
 use Rattle.decl.proofs.words.put_last_newline.Reads as reads
 use Rattle.decl.proofs.words.put_last_newline.Lts as lts
-use Rattle.lent.proofs.put_byte.Reads as put-byte-reads
+use Rattle.text.proofs.put_byte.Reads as put-byte-reads
 
 returns : tie.Need-returns
 returns c = put-same _ _ _ _ _ _ (laws.line-none _ (c .if1 .taken)) (put-empty _ _)

@@ -1,13 +1,13 @@
 use Rattle.decl.proofs.WordLaws as laws
-use Rattle.lent.proofs.TextLaws.{put-same, put-empty, put-seq}
+use Rattle.text.proofs.TextLaws.{put-same, put-empty, put-seq}
 use borrow.Author.Needs.{needs}
 use Rattle.decl.proofs.words.put_packed.Statement.{statement}
 use Rattle.decl.proofs.words.put_packed.Tie as tie
 use Rattle.decl.proofs.words.put_packed.Reads as reads
 use Rattle.decl.proofs.words.put_packed.Lts as lts
-use Rattle.lent.proofs.put_attribute_start.Reads as put-attribute-start-reads
-use Rattle.lent.proofs.put_packed_name.Reads as put-packed-name-reads
-use Rattle.lent.proofs.put_two.Reads as put-two-reads
+use Rattle.fixed.proofs.put_attribute_start.Reads as put-attribute-start-reads
+use Rattle.fixed.proofs.put_packed_name.Reads as put-packed-name-reads
+use Rattle.text.proofs.put_two.Reads as put-two-reads
 
 put-attribute-start-requires : tie.Need-put-attribute-start-requires
 put-attribute-start-requires c κs = search needs

@@ -1,12 +1,12 @@
 use Rattle.decl.proofs.WordLaws as laws
-use Rattle.lent.proofs.TextLaws.{put-same, put-empty}
+use Rattle.text.proofs.TextLaws.{put-same, put-empty}
 use borrow.Author.Needs.{needs}
 use Rattle.decl.proofs.words.put_star.Statement.{statement}
 use Rattle.decl.proofs.words.put_star.Tie as tie
 use Rattle.decl.proofs.words.put_star.Reads as reads
 use Rattle.decl.proofs.words.put_star.Lts as lts
-use Rattle.lent.proofs.put_byte.Reads as put-byte-reads
-use Rattle.lent.proofs.put_two.Reads as put-two-reads
+use Rattle.text.proofs.put_byte.Reads as put-byte-reads
+use Rattle.text.proofs.put_two.Reads as put-two-reads
 
 put-byte-requires : tie.Need-put-byte-requires
 put-byte-requires c κs = search needs

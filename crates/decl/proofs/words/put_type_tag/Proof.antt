@@ -1,6 +1,6 @@
 use Rattle.decl.proofs.WordLaws as laws
 use Rattle.rules.specs.Decl.{attribute}
-use Rattle.lent.specs.Text.{whole, putText}
+use Rattle.text.specs.Text.{whole, putText}
 use mathlib.Core.Path.{_∙_, ap}
 use borrow.Author.Needs.{needs}
 use Rattle.decl.proofs.words.put_type_tag.Statement.{statement}
