@@ -16,7 +16,7 @@ use Rattle.btf.specs.declared.types.Btf.{Btf}
 use Rattle.btf.specs.Table.{btfOf, workNaming}
 use Rattle.names.specs.Spelling.{nameAfter}
 use Rattle.names.proofs.Spellings.{emit-name-is}
-use Rattle.decl.specs.Pieces.{arrayBelow, protoBelow, paramListBelow, entryText, paramText, memberTail, memberText}
+use Rattle.bodies.specs.Pieces.{arrayBelow, protoBelow, paramListBelow, entryText, paramText, memberTail, memberText}
 use Rattle.decl.proofs.Kept.{seen, keeps-type, keeps-value}
 
 -- the same writer, said in another way

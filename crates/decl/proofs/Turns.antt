@@ -11,7 +11,7 @@ use Rattle.rules.specs.Types.{Name, Member, Param, BtfType, Void, Int, Ptr, Arr
 use Rattle.rules.specs.Names.{Naming}
 use Rattle.rules.specs.Layout.{Pad, bitPadding, endOf}
 use Rattle.rules.specs.Decl.{Entry, base, star, qual, array, proto, tag, noMods, noParams, emitName, pads, bitSize, emitDeclTags, emitParams, chainOf, baseWord, chainLoop, emitMembers, compositeDef, emitTypeDecl, emitTypeChain, emitCompositeDef}
-use Rattle.decl.specs.Pieces.{entryLeft, entryStar, entryNamed, starText, wordBelow, loopBelow, entryText, chainRest, paramText, memberTail, memberText, membersBelow, endFrom, comma}
+use Rattle.bodies.specs.Pieces.{entryLeft, entryStar, entryNamed, starText, wordBelow, loopBelow, entryText, chainRest, paramText, memberTail, memberText, membersBelow, endFrom, comma}
 use Rattle.decl.proofs.Sequences.{then-assoc, then-nothing, stop-then}
 
 no-mods-length : (c : List Entry) → length (noMods c) ≤ length c

@@ -10,7 +10,7 @@ use Rattle.emit.proofs.emit_forward.Lts as lts
 use Rattle.strings.proofs.is_builtin.Reads as is-builtin-reads
 use Rattle.btf.proofs.is_struct.Reads as is-struct-reads
 use Rattle.btf.proofs.kind_of.Reads as kind-of-reads
-use Rattle.decl.proofs.emit_typedef_def.Reads as emit-typedef-def-reads
+use Rattle.typedefs.proofs.emit_typedef_def.Reads as emit-typedef-def-reads
 use Rattle.emit.proofs.put_line_end.Reads as put-line-end-reads
 use Rattle.names.proofs.emit_composite_fwd.Reads as emit-composite-fwd-reads
 
