@@ -20,7 +20,7 @@ use Rattle.btf.specs.Records.{kindOf, sectionWord, memberAt, paramAt, recordByI
 use Rattle.btf.specs.Table.{from, typeOf, btfOf}
 use Rattle.btf.specs.Nodes.{nodeIs, memberIds, paramIds}
 use Rattle.btf.proofs.KindLaws.{by-kind, type-0, type-1, type-2, type-3, type-4, type-5, type-6, type-7, type-8, type-9, type-10, type-11, type-12, type-13, type-14, type-15, type-16, type-17, type-18, type-19, type-none}
-use Rattle.ceiling.specs.Ceiling.{Told, told, halted, thenBind, eachWithin, meetWithin, enterWithin, aliasWithin, freshWithin, visitWithin, orderMetered}
+use Rattle.ceiling.specs.Ceiling.{Told, told, halted, countOf, thenBind, eachWithin, meetWithin, enterWithin, aliasWithin, freshWithin, visitWithin, orderMetered}
 use Rattle.order.specs.declared.Order.{Order}
 use Rattle.order.specs.Work.{Marks, markOf, workStore, tableIn, orderOut, strongOf, refusedBy, paidOf, meetIn, aliasIn, wayIn, enterIn, freshIn}
 use Rattle.order.proofs.Frame.{Stays, on, off, stays-bind, table-mark, table-order}
@@ -35,6 +35,19 @@ going o w e = rw e
 pub stops : (o : Order) (w : List ℕ) → (o .stop ≡ 0 → ⊥) → orderOut o w ≡ halted (o .stop) (o .spare)
 unfolding orderOut
 stops o w n = rw (ne-eqb (o .stop) 0 n, orderOut)
+
+-- the code's answers, by whether they are stopped
+by-stop : (P : Order → Type 0) (o : Order) → ((e : o .stop ≡ 0) → P o) → ((o .stop ≡ 0 → ⊥) → P o) → P o
+by-stop P o on-going halting = go (o .stop) refl
+  where
+    go : (n : ℕ) → o .stop ≡ n → P o
+    go zero e = on-going e
+    go (suc n) e = halting (λ z. omega arith)
+
+-- ---- the calls that are left
+pub counted : (o : Order) (w : List ℕ) → countOf (orderOut o w) ≡ o .spare
+unfolding countOf
+counted o w = by-stop (λ q. countOf (orderOut o w) ≡ o .spare) o (λ z. ap countOf (going o w z)) (λ n. ap countOf (stops o w n))
 
 -- ---- bind
 pub bind-then : (x : Told Marks) (k k′ : Marks → Bool → ℕ → Told Marks) → thenBind (thenBind x k) k′ ≡ thenBind x (λ m b j. thenBind (k m b j) k′)
@@ -62,14 +75,6 @@ run o w k e = ap (λ (r : Told Marks). thenBind r k) (going o w e)
 pub stopped : (o : Order) (w : List ℕ) (k : Marks → Bool → ℕ → Told Marks) → (o .stop ≡ 0 → ⊥) → orderOut o w ≡ thenBind (orderOut o w) k
 unfolding thenBind
 stopped o w k n = stops o w n ∙ sym (ap (λ (r : Told Marks). thenBind r k) (stops o w n))
-
--- the code's answers, by whether they are stopped
-by-stop : (P : Order → Type 0) (o : Order) → ((e : o .stop ≡ 0) → P o) → ((o .stop ≡ 0 → ⊥) → P o) → P o
-by-stop P o on-going halting = go (o .stop) refl
-  where
-    go : (n : ℕ) → o .stop ≡ n → P o
-    go zero e = on-going e
-    go (suc n) e = halting (λ z. omega arith)
 
 pub flagged : (o : Order) (w : List ℕ) (s : Bool) (r : Order) → r ≡ strongOf o s → orderOut r w ≡ thenBind (orderOut o w) (λ m b j. told m s j)
 unfolding thenBind
