@@ -1,6 +1,6 @@
 -- Ordering with the calls that are left: at cost 0 it is the plain rule, and at cost 1 it is ordering under a ceiling, where a count of calls made is
 -- what is gone of the calls left. Assumes nothing.
-use Prim.Native.Nat.{ℕ, zero, suc, _+_, _-_, _<_, _≤_}
+use Prim.Native.Nat.{ℕ, zero, suc, zero-le, _+_, _-_, _<_, _≤_}
 use mathlib.Core.Path.{_≡_, refl, ap, _∙_, sym, subst}
 use mathlib.Core.Bool.{Bool, true, false, not, _&&_, _||_}
 use mathlib.Core.List.{List, [], _∷_}
@@ -10,8 +10,8 @@ use lib.Dec.{ltb}
 use borrow.Author.Tests.{lt-ltb, le-ltb}
 use Rattle.lent.proofs.Laws.{le-or-lt}
 use Rattle.rules.specs.Order.{Node, ignored, plain, listed, through, ptr, tdef, proto, comp, Table, isComp, Mark, new, busy, done, isDone, Store, Res, ok, refused, bind, each, meet, finish, enter, alias, fresh, visit, order}
-use Rattle.ceiling.specs.Ceiling.{Told, told, halted, countOf, thenBind, eachWithin, meetWithin, enterWithin, aliasWithin, freshWithin, visitWithin, orderWithin, orderMetered}
-use Rattle.ceiling.proofs.Counted.{tell}
+use Rattle.ceiling.specs.Ceiling.{Told, told, halted, countOf, thenBind, eachWithin, meetWithin, enterWithin, aliasWithin, freshWithin, visitWithin, orderWithin, orderMetered, calls}
+use Rattle.ceiling.proofs.Counted.{tell, within, passes}
 
 -- ---- at cost 0
 module _ {St : Type 0} where
@@ -171,3 +171,31 @@ module _ {St : Type 0} (c : ℕ) where
     unfolding orderMetered orderWithin
     metered-within zero T s x weak j l = left-halted 12 j l
     metered-within (suc n) T s x weak j l = ⊎-elim (left-stays n T (λ s′ y w i m. metered-within n T s′ y w i m) s x weak j l) (left-goes n T (λ s′ y w i m. metered-within n T s′ y w i m) s x weak j l) (le-or-lt c j)
+
+-- ---- by the calls that the plain rule opens: they fit, or the first that does not is refused by 22
+module _ {St : Type 0} (K : Store St) (n : ℕ) (T : Table) (s : St) (x : ℕ) (weak : Bool) (left : ℕ) where
+  abbrev opened : ℕ
+  opened = calls K n T s x weak
+
+  under : orderMetered K 1 n T s x weak left ≡ leftOf left (orderWithin K left n T s x weak 0)
+  under =
+      let z : left ≡ left - 0 = omega arith in
+      ap (orderMetered K 1 n T s x weak) z ∙ metered-within left K n T s x weak 0 zero-le .same
+
+  left-tell : (r : Res St) (j : ℕ) → leftOf left (tell r j) ≡ tell r (left - j)
+  unfolding leftOf tell
+  left-tell (ok s′ b) j = refl
+  left-tell (refused e) j = refl
+
+  pub metered-fits : opened ≤ left → orderMetered K 1 n T s x weak left ≡ tell (order K n T s x weak) (left - opened)
+  metered-fits l =
+      let z : 0 + opened ≡ opened = omega arith in
+      under
+      ∙ ap (leftOf left) (within left K n T s x weak 0 (omega arith) ∙ ap (tell (order K n T s x weak)) z)
+      ∙ left-tell (order K n T s x weak) opened
+
+  pub metered-over : left < opened → orderMetered K 1 n T s x weak left ≡ halted 22 (left - opened)
+  unfolding leftOf
+  metered-over l =
+      let z : left - left ≡ left - opened = omega arith in
+      under ∙ ap (leftOf left) (passes left K n T s x weak 0 (omega arith) (omega arith)) ∙ ap (halted 22) z

@@ -2,13 +2,14 @@
 use Prim.Native.Nat.{ℕ, zero, suc, _+_, _*_, _-_, _<_, _≤_}
 use mathlib.Core.Path.{_≡_, refl, ap, _∙_, sym, subst}
 use mathlib.Core.List.{List, [], _∷_}
-use mathlib.Core.Bool.{Bool, true, false, not, _&&_, _||_}
-use mathlib.Core.Logic.{_⊎_, inl, inr}
+use mathlib.Core.Bool.{Bool, true, false, not, _&&_, _||_, true≢false}
+use mathlib.Core.Logic.{_⊎_, inl, inr, ⊎-elim}
 use native.Mathlib.Omega.{arith}
 use native.Mathlib.Numerals.{add-one}
-use lib.Dec.{eqb, ltb}
+use lib.Dec.{eqb, ltb, leb}
 use lib.ListN.{length}
-use borrow.Author.Tests.{ne-eqb}
+use borrow.Author.Tests.{ne-eqb, le-leb, lt-leb}
+use Rattle.lent.proofs.Laws.{le-or-lt}
 use Rattle.lent.specs.Text.{Text, cut, bytes, stopped, putOut, written, putText}
 use Rattle.lent.proofs.TextLaws.{put-fits, stays}
 use Rattle.rules.specs.Order.{Table, Node, ignored, plain, listed, through, ptr, tdef, proto, comp, Mark, new, busy, done, Res, ok, refused, bind, fresh, visit, order}
@@ -21,15 +22,15 @@ use Rattle.btf.specs.Cells.{getField, putField}
 use Rattle.btf.specs.Records.{kindOf, recordById}
 use Rattle.btf.specs.Table.{from, typeOf, btfOf}
 use Rattle.btf.proofs.KindLaws.{by-kind, type-0, type-1, type-2, type-3, type-4, type-5, type-6, type-7, type-8, type-9, type-10, type-11, type-12, type-13, type-14, type-15, type-16, type-17, type-18, type-19, type-none}
-use Rattle.ceiling.specs.Ceiling.{Told, told, halted, countOf, thenBind, orderMetered}
+use Rattle.ceiling.specs.Ceiling.{Told, told, halted, countOf, thenBind, orderMetered, callsFresh, callsVisit, calls}
 use Rattle.ceiling.proofs.Counted.{tell}
-use Rattle.ceiling.proofs.Metered.{metered-plain}
+use Rattle.ceiling.proofs.Metered.{metered-plain, metered-fits, metered-over}
 use Rattle.order.specs.declared.Order.{Order}
 use Rattle.order.specs.Work.{Marks, markOf, workStore, tableIn, orderOut}
 use Rattle.order.proofs.Frame.{table-order}
 use Rattle.order.proofs.Frame as ordFrame
 use Rattle.order.proofs.Laws.{going, stops, counted, run, is-done, is-busy, is-new, node-at}
-use Rattle.emit.specs.Metered.{orderedIn, besideOf, dumpedMetered}
+use Rattle.emit.specs.Metered.{orderedIn, besideOf, dumpedMetered, callsIn, dumpedWithin}
 use Rattle.emit.specs.Sheet.{Sheet, marksIn, withMarks, sheetStore, emptied, sheetOf, emitOut, workMachine, emitIn, listedOut, dumped, isIgnored, isIdle}
 use Rattle.emit.proofs.Frame.{Stays, on, off, stays-then, places, places-emit}
 use Rattle.emit.proofs.Maps.{rmap, StoreMap, map-order}
@@ -191,6 +192,51 @@ plain-is b B m id left =
 pub dump-plain : (b : Btf) (B : Rules) (o : Out Sheet) (id left : ℕ) (x : Out Sheet) → x ≡ obind o (λ m. dumpedMetered b B 0 m id left) → x ≡ obind o (λ m. dumped (workMachine b B) (tableOf B) m id)
 dump-plain b B o id left x e = e ∙ ap (obind o) (λ i m. plain-is b B m id left i)
 
+-- ---- dump_type_within
+module _ (b : Btf) (s : List ℕ) (w : List ℕ) (id left : ℕ) where
+  abbrev opens : ℕ
+  opens = callsIn b s w id
+
+  abbrev marks : Marks
+  marks = record { work = w; len = 0 }
+
+  plain-rule : Res Marks
+  plain-rule = order workStore 512 (tableIn b s w) marks id false
+
+  rule-fits : opens ≤ left → orderedIn (btfOf b s w) 1 marks id left ≡ tell plain-rule (left - opens)
+  unfolding callsIn plain-rule
+  rule-fits l = metered-fits workStore 512 (tableIn b s w) marks id false left l
+
+  rule-over : left < opens → orderedIn (btfOf b s w) 1 marks id left ≡ halted 22 (left - opens)
+  unfolding callsIn
+  rule-over l = metered-over workStore 512 (tableIn b s w) marks id false left l
+
+  tell-count : (r : Res Marks) (j : ℕ) → countOf (tell r j) ≡ j
+  unfolding countOf tell
+  tell-count (ok m f) j = refl
+  tell-count (refused c) j = refl
+
+  pub within-spare : countOf (orderedIn (btfOf b s w) 1 marks id left) ≡ left - opens
+  unfolding countOf
+  within-spare = ⊎-elim (λ l. ap countOf (rule-fits l) ∙ tell-count plain-rule (left - opens)) (λ l. ap countOf (rule-over l)) (le-or-lt opens left)
+
+  module _ (at : ℕ) (tx : List ℕ) where
+    sheet-fits : opens ≤ left → dumpedMetered b (btfOf b s w) 1 (sheet 0 at tx w) id left ≡ dumpedWithin b (btfOf b s w) opens left (sheet 0 at tx w) id
+    unfolding dumpedMetered dumpedWithin dumped workMachine plain-rule
+    sheet-fits l =
+        ap (λ (t : Told Marks). listedOut (workMachine b (btfOf b s w)) (tableIn b s w) (besideOf (sheet 0 at tx w) t)) (rule-fits l)
+        ∙ ap (listedOut (workMachine b (btfOf b s w)) (tableIn b s w)) (beside-tell (sheet 0 at tx w) plain-rule (left - opens) ∙ sym (lift-order tx at 512 (tableIn b s w) marks id false))
+        ∙ sym (rw (le-leb opens left l, dumpedWithin))
+
+    sheet-over : left < opens → dumpedMetered b (btfOf b s w) 1 (sheet 0 at tx w) id left ≡ dumpedWithin b (btfOf b s w) opens left (sheet 0 at tx w) id
+    unfolding dumpedMetered dumpedWithin besideOf listedOut
+    sheet-over l =
+        ap (λ (t : Told Marks). listedOut (workMachine b (btfOf b s w)) (tableIn b s w) (besideOf (sheet 0 at tx w) t)) (rule-over l)
+        ∙ sym (rw (lt-leb opens left l, dumpedWithin))
+
+    pub dump-within : (x : Out Sheet) → x ≡ obind (emitOut 0 at tx w) (λ m. dumpedMetered b (btfOf b s w) 1 m id left) → x ≡ obind (emitOut 0 at tx w) (λ m. dumpedWithin b (btfOf b s w) opens left m id)
+    dump-within x e = e ∙ at-sheet 0 at tx w (λ m. dumpedMetered b (btfOf b s w) 1 m id left) (λ m. dumpedWithin b (btfOf b s w) opens left m id) (λ h. ⊎-elim sheet-fits sheet-over (le-or-lt opens left))
+
 -- ---- is_idle
 ignored-is : ℕ → Bool
 ignored-is k = eqb k 12 || (eqb k 14 || (eqb k 15 || eqb k 17))
@@ -294,6 +340,29 @@ module _ (b : Btf) (B : Rules) (at : ℕ) (tx w : List ℕ) (id : ℕ) where
   pub idle-request : isIdle (markOf (getField w id 1)) (tableOf B .node id) ≡ true → dumped (workMachine b B) (tableOf B) (sheet 0 at tx w) id ≡ wrote (sheet 0 at tx w)
   unfolding dumped workMachine
   idle-request e = idle-order 511 e
+
+-- and opens one call
+module _ (b : Btf) (s : List ℕ) (w : List ℕ) (id : ℕ) where
+  idle-fresh : (rec : Marks → ℕ → Bool → Res Marks) (count : Marks → ℕ → Bool → ℕ) (m : Marks) (nd : Node) → isIgnored nd ≡ true → callsFresh workStore (tableIn b s w) rec count m id false nd ≡ 0
+  unfolding isIgnored callsFresh
+  idle-fresh rec count m ignored e = refl
+  idle-fresh rec count m plain e = refl
+  idle-fresh rec count m (listed f) e = refl
+  idle-fresh rec count m (through a t) e = absurd (true≢false (sym e))
+  idle-fresh rec count m (ptr t) e = absurd (true≢false (sym e))
+  idle-fresh rec count m (tdef t) e = absurd (true≢false (sym e))
+  idle-fresh rec count m (proto ts) e = absurd (true≢false (sym e))
+  idle-fresh rec count m (comp ms) e = absurd (true≢false (sym e))
+
+  idle-opens : (rec : Marks → ℕ → Bool → Res Marks) (count : Marks → ℕ → Bool → ℕ) (m : Marks) (d : Mark) → isIdle d (tableIn b s w .node id) ≡ true → callsVisit workStore (tableIn b s w) rec count m id false d ≡ 0
+  unfolding isIdle callsVisit
+  idle-opens rec count m new e = idle-fresh rec count m (tableIn b s w .node id) e
+  idle-opens rec count m busy e = refl
+  idle-opens rec count m done e = refl
+
+  pub idle-calls : isIdle (markOf (getField w id 1)) (tableIn b s w .node id) ≡ true → callsIn b s w id ≡ 1
+  unfolding callsIn calls workStore
+  idle-calls e = ap suc (idle-opens (λ s′ y f. order workStore 511 (tableIn b s w) s′ y f) (λ s′ y f. calls workStore 511 (tableIn b s w) s′ y f) (record { work = w; len = 0 }) (markOf (getField w id 1)) e)
 
 -- ---- a request of the theory's session (`single` of the rules): its machine, with the list emptied, is what `dumped` leaves, or its number
 -- is the refusal

@@ -32,7 +32,7 @@ use order::order_type;
 ghost use mathlib.Core.Path.{_≡_};
 ghost use mathlib.Core.Bool.{not};
 ghost use lib.Dec.{eqb};
-ghost use Prim.Native.Nat.{ℕ};
+ghost use Prim.Native.Nat.{ℕ, _-_};
 ghost use Rattle.lent.specs.Text.{ascii, whole, putOut, putText};
 ghost use Rattle.rules.specs.Machine.{pick, obind, eeach};
 ghost use Rattle.rules.specs.Types.{tableOf};
@@ -44,7 +44,7 @@ ghost use Rattle.btf.specs.Table.{typeOf, btfOf, workNaming};
 ghost use Rattle.btf.specs.Nodes.{memberIds, paramIds};
 ghost use Rattle.order.specs.Work.{markOf, tableIn};
 ghost use Rattle.ceiling.specs.Ceiling.{countOf};
-ghost use Rattle.emit.specs.Metered.{orderedIn, dumpedMetered};
+ghost use Rattle.emit.specs.Metered.{orderedIn, dumpedMetered, callsIn, dumpedWithin};
 ghost use Rattle.emit.specs.Sheet.{sheetStore, emptied, emitOut, workMachine, emitIn, newIn, againIn, leafIn, compositeIn, onceIn, mentionIn, dumped, isIdle};
 
 fn get_emit_state(work: &[u8], id: u32) -> u32
@@ -442,7 +442,7 @@ pub struct Dumped {
 }
 
 // One request, with so many calls of ordering left. Each costs 1 under a ceiling, and 0 without one.
-pub fn dump_metered(
+fn dump_metered(
     b: Btf,
     section: &[u8],
     work: &mut [u8],
@@ -488,4 +488,19 @@ pub fn dump_type(
 {
     let d = dump_metered(b, section, work, text, at, id, 0, 0);
     d.at
+}
+
+// The same under a ceiling: `spare` calls of ordering are left, and 22 comes when one more would be opened.
+pub fn dump_type_within(
+    b: Btf,
+    section: &[u8],
+    work: &mut [u8],
+    text: &mut [u8],
+    at: usize,
+    id: u32,
+    spare: u64,
+) -> Dumped
+    ensures { λ r. ⌜ (emitOut 0 (r .at) (now (text .exit)) (now (work .exit)) ≡ obind (emitOut 0 at (now (text .entry)) (now (work .entry))) (λ m. dumpedWithin b (btfOf b (now (section .entry)) (now (work .entry))) (callsIn b (now (section .entry)) (now (work .entry)) id) spare m id)) × (r .spare ≡ spare - callsIn b (now (section .entry)) (now (work .entry)) id) ⌝ }
+{
+    dump_metered(b, section, work, text, at, id, spare, 1)
 }
