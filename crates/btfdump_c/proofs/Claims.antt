@@ -11,14 +11,16 @@ use lib.ListN.{length, take, getD}
 use borrow.Author.Tests.{le-ltb, ltb-true, ltb-false}
 use Rattle.lent.specs.Words.{getWord, putWord}
 use Rattle.lent.proofs.Laws.{get-put-same, get-put-other, put-length}
-use Rattle.session.specs.declared.Answer.{Answer}
-use Rattle.session.specs.declared.Answer.the-variants.{Accepted, Refused}
-use Rattle.session.specs.declared.Session.{Session}
-use Rattle.session.specs.Answers.{answerOf, number, value, notCurrent, idNotBelow, refusal}
-use Rattle.session.specs.Calls.{Call, isCurrent, Reach, reached, refusedBy, requested, requestedFrom, withText, settled, unchanged, tableFor, typeCall, typesCall}
-use Rattle.session.proofs.Laws.{current-fits}
-use Rattle.session.proofs.Claims.{Sane, on, off, request-sane, from-sane, type-settles, type-not-below, type-not-current, types-settle, types-not-current}
-use Rattle.btfdump_c.specs.Record.{getLong, putLong, putLongs, decoded, wordsOf, encoded, recordRefused, recordAfter}
+use Rattle.turns.specs.declared.Answer.{Answer}
+use Rattle.turns.specs.declared.Answer.the-variants.{Accepted, Refused}
+use Rattle.turns.specs.declared.Session.{Session}
+use Rattle.turns.specs.Answers.{answerOf}
+use Rattle.requests.specs.Refusals.{number, value, notCurrent, idNotBelow, refusal}
+use Rattle.turns.specs.Turns.{Call, isCurrent, Reach, reached, refusedBy, withText, settled, unchanged, tableFor}
+use Rattle.requests.specs.Calls.{requested, requestedFrom, typeCall, typesCall}
+use Rattle.turns.proofs.Laws.{current-fits}
+use Rattle.requests.proofs.Claims.{Sane, on, off, request-sane, from-sane, type-settles, type-not-below, type-not-current, types-settle, types-not-current}
+use Rattle.c_record.specs.Record.{getLong, putLong, putLongs, decoded, wordsOf, encoded, recordRefused, recordAfter}
 
 -- ---- words of 64 bits
 pub long-length : (r : List ℕ) (i v : ℕ) → length (putLong r i v) ≡ length r

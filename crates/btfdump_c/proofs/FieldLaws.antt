@@ -4,11 +4,11 @@ use mathlib.Core.Path.{_≡_, ap, _∙_, sym}
 use mathlib.Core.List.{List}
 use lib.ListN.{length}
 use borrow.Author.Tests.{lt-ltb, le-ltb}
-use Rattle.session.specs.declared.Answer.{Answer}
-use Rattle.session.specs.declared.Session.{Session}
+use Rattle.turns.specs.declared.Answer.{Answer}
+use Rattle.turns.specs.declared.Session.{Session}
 use Rattle.field.specs.Calls.{Found, foundOf, fieldCall}
-use Rattle.btfdump_c.specs.Record.{decoded}
-use Rattle.btfdump_c.specs.Exports.{packed}
+use Rattle.c_record.specs.Record.{decoded}
+use Rattle.c_record.specs.Record.{packed}
 use Rattle.btfdump_c.specs.Field.{pathExportOf, foundBy, fieldExport}
 
 module _ (r section w path : List ℕ) (id bit : ℕ) where

@@ -9,45 +9,21 @@ use lib.ListN.{length}
 use borrow.Author.Tests.{lt-ltb, le-ltb, ltb-true}
 use Rattle.lent.specs.Words.{getWord, putWord}
 use Rattle.lent.proofs.Laws.{put-again, put-swap}
-use Rattle.session.specs.declared.Answer.{Answer}
-use Rattle.session.specs.declared.Answer.the-variants.{Accepted, Refused}
-use Rattle.session.specs.declared.Session.{Session}
-use Rattle.session.specs.declared.Turn.{Turn}
-use Rattle.session.specs.Answers.{numberOf, valueOf, answerOf}
-use Rattle.session.specs.Calls.{Call, callOf, typeCall}
-use Rattle.session.specs.Lists.{idsIn, counted, listFrom, listCall, countIn}
-use Rattle.session.proofs.Claims.{number-is, value-is}
-use Rattle.session.proofs.Lists.{idsFrom, ids-none, ids-some, counted-goes, counted-stops, Single, type-single, Counts, list-counts}
-use Rattle.btfdump_c.specs.Record.{putLong, decoded, recordRefused, recordAfter, recordLonger, recordListed}
-use Rattle.btfdump_c.specs.Exports.{packed, Export, exportOf, answeredBy, typeExport, countedExport, listExportFrom, listExport}
+use Rattle.turns.specs.declared.Answer.{Answer}
+use Rattle.turns.specs.declared.Answer.the-variants.{Accepted, Refused}
+use Rattle.turns.specs.declared.Session.{Session}
+use Rattle.turns.specs.declared.Turn.{Turn}
+use Rattle.turns.specs.Answers.{numberOf, valueOf, answerOf}
+use Rattle.turns.specs.Turns.{Call, callOf}
+use Rattle.requests.specs.Calls.{typeCall}
+use Rattle.requests.specs.Lists.{idsIn, counted, listFrom, listCall, countIn}
+use Rattle.requests.proofs.Claims.{number-is, value-is}
+use Rattle.requests.proofs.Lists.{idsFrom, ids-none, ids-some, counted-goes, counted-stops, Single, type-single, Counts, list-counts}
+use Rattle.c_record.specs.Record.{putLong, decoded, recordRefused, recordAfter, recordLonger, recordListed}
+use Rattle.c_record.specs.Record.{packed}
+use Rattle.btfdump_c.specs.Exports.{Export, exportOf, answeredBy, typeExport, countedExport, listExportFrom, listExport}
 use Rattle.btfdump_c.proofs.Laws.{type-short}
 use Rattle.btfdump_c.proofs.Claims.{long-length, type-says}
-
--- ---- store_longer, store_stopped, store_list
-pub longer-none : (n len : ℕ) (r : List ℕ) → n ≡ 0 → r ≡ recordLonger n len r
-unfolding recordLonger
-longer-none n len r e = sym (ap (λ (k : ℕ). recordLonger k len r) e)
-
-pub longer-some : (n len : ℕ) (r r′ : List ℕ) → (n ≡ 0 → ⊥) → r′ ≡ putLong r 5 len → r′ ≡ recordLonger n len r
-unfolding recordLonger
-longer-some zero len r r′ h e = absurd (h refl)
-longer-some (suc n) len r r′ h e = e
-
-pub listed-below : (m n len : ℕ) (r r′ : List ℕ) → m ≤ 11 → r′ ≡ recordLonger n len r → r′ ≡ recordListed m n len r
-unfolding recordListed
-listed-below m n len r r′ h e = e ∙ sym (rw (lt-ltb m 12 (omega arith), recordListed))
-
-pub listed-closed : (m n len : ℕ) (r r′ : List ℕ) → 11 < m → r′ ≡ recordRefused m len r → r′ ≡ recordListed m n len r
-unfolding recordListed recordRefused
-listed-closed m n len r r′ h e = e ∙ rw (le-ltb m 12 (omega arith), recordListed, recordRefused)
-
-pub list-accepted : (a : Answer) (n len : ℕ) (r r′ : List ℕ) → a ≡ Accepted n → r′ ≡ recordLonger n len r → r′ ≡ recordListed (numberOf a) (valueOf a) len r
-unfolding recordListed numberOf valueOf
-list-accepted a n len r r′ e er = er ∙ sym (ap (λ (q : Answer). recordListed (numberOf q) (valueOf q) len r) e)
-
-pub list-refused : (a : Answer) (m n len : ℕ) (r r′ : List ℕ) → a ≡ Refused m n → r′ ≡ recordListed m n len r → r′ ≡ recordListed (numberOf a) (valueOf a) len r
-unfolding numberOf valueOf
-list-refused a m n len r r′ e er = er ∙ sym (ap (λ (q : Answer). recordListed (numberOf q) (valueOf q) len r) e)
 
 -- ---- words that are put over others
 module _ (r : List ℕ) (u v : ℕ) where

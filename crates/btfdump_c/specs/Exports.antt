@@ -4,14 +4,9 @@ use mathlib.Core.Bool.{true, false}
 use mathlib.Core.List.{List, [], _∷_}
 use lib.Dec.{ltb}
 use lib.ListN.{length}
-use Rattle.session.specs.declared.Answer.{Answer}
-use Rattle.session.specs.Answers.{numberOf, valueOf}
-use Rattle.session.specs.Calls.{Call, openCall, typeCall, typesCall}
-use Rattle.btfdump_c.specs.Record.{decoded, recordOpened, recordAfter}
-
--- the number in the upper half of 64 bits, the value in the lower
-unfoldable pub packed : Answer → ℕ
-packed a = numberOf a * 4294967296 + valueOf a
+use Rattle.turns.specs.Turns.{Call}
+use Rattle.requests.specs.Calls.{openCall, typeCall, typesCall}
+use Rattle.c_record.specs.Record.{packed, decoded, recordOpened, recordAfter}
 
 pub record Export : Type 0 where
   pub result : ℕ

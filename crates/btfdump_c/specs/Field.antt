@@ -5,8 +5,8 @@ use mathlib.Core.List.{List}
 use lib.Dec.{ltb}
 use lib.ListN.{length}
 use Rattle.field.specs.Calls.{Found, fieldCall}
-use Rattle.btfdump_c.specs.Record.{decoded}
-use Rattle.btfdump_c.specs.Exports.{packed}
+use Rattle.c_record.specs.Record.{decoded}
+use Rattle.c_record.specs.Record.{packed}
 
 pub record PathExport : Type 0 where
   pub result : ℕ

@@ -1,5 +1,4 @@
--- The calls for C: the session record as bytes, and what each call comes to.
-pub mod Record
+-- What each call for C comes to.
 pub mod Exports
 pub mod Field
 pub mod Declarations

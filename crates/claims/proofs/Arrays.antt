@@ -10,8 +10,9 @@ use Rattle.rules.specs.Order.{ptr, through, refused}
 use Rattle.rules.specs.Machine.{Req, ordering}
 use Rattle.btf.specs.Table.{btfOf}
 use Rattle.header.specs.Header.{btfOf as settingsOf}
-use Rattle.session.specs.Answers.{numberOf}
-use Rattle.session.specs.Calls.{Call, typeCall}
+use Rattle.turns.specs.Answers.{numberOf}
+use Rattle.turns.specs.Turns.{Call}
+use Rattle.requests.specs.Calls.{typeCall}
 use Rattle.demand.specs.Needs.{kids, NamedComp}
 use Rattle.demand.specs.Session.{machine}
 use Rattle.demand.proofs.Arrays.{array-of-itself}

@@ -28,15 +28,16 @@ use Rattle.opening.specs.Opened.{workOf, opened as soundly}
 use Rattle.opening.specs.Causes.{openingNumber}
 use Rattle.opening.proofs.ReadBack.{work-length}
 use Rattle.emit.specs.Sheet.{Sheet, workMachine, dumped}
-use Rattle.session.specs.declared.Session.{Session}
-use Rattle.session.specs.Answers.{numberOf, valueOf, answerOf}
-use Rattle.session.specs.Calls.{Call, isCurrent, openedCall, openCall, limitOf, Reach, reached, refusedBy, cameTo, lentTo, requested, onward as goOn, requestedFrom, thenZeros, settled, withText, tableFor, typeCall, typesCall, callOf}
-use Rattle.session.specs.Lists.{counted as countedCall, listFrom, listCall}
-use Rattle.session.proofs.Lists.{counted-goes, counted-stops, type-single, Counts, list-counts}
-use Rattle.session.proofs.Fair.{placed, fair-request}
-use Rattle.session.proofs.Laws.{limit-short, limit-long, limit-between, stuck-listed, opens-sound}
-use Rattle.session.specs.declared.Answer.the-variants.{Refused}
-use Rattle.session.proofs.Claims.{number-is, value-is, type-settles, types-settle, type-not-below, type-not-current, types-not-current, closed-stays, type-current}
+use Rattle.turns.specs.declared.Session.{Session}
+use Rattle.turns.specs.Answers.{numberOf, valueOf, answerOf}
+use Rattle.turns.specs.Turns.{Call, isCurrent, Reach, reached, refusedBy, thenZeros, settled, withText, tableFor, callOf}
+use Rattle.requests.specs.Calls.{openedCall, openCall, limitOf, cameTo, lentTo, requested, onward as goOn, requestedFrom, typeCall, typesCall}
+use Rattle.requests.specs.Lists.{counted as countedCall, listFrom, listCall}
+use Rattle.requests.proofs.Lists.{counted-goes, counted-stops, type-single, Counts, list-counts}
+use Rattle.requests.proofs.Fair.{placed, fair-request}
+use Rattle.requests.proofs.Laws.{limit-short, limit-long, limit-between, stuck-listed, opens-sound}
+use Rattle.turns.specs.declared.Answer.the-variants.{Refused}
+use Rattle.requests.proofs.Claims.{number-is, value-is, type-settles, types-settle, type-not-below, type-not-current, types-not-current, closed-stays, type-current}
 use Rattle.demand.specs.Lists.{Ls, afresh}
 use Rattle.demand.specs.Session.{Known, textOf, machine, opened}
 use Rattle.claims.specs.Table.{headerOf}

@@ -10,9 +10,10 @@ use Rattle.rules.specs.Names.{Names}
 use Rattle.rules.specs.Order.{Table, refused}
 use Rattle.rules.specs.Machine.{Sess, Req, ordering, single, every, run}
 use Rattle.rules.specs.Types.{tableOf}
-use Rattle.session.specs.Answers.{numberOf, valueOf}
-use Rattle.session.specs.Calls.{Call, thenZeros, typeCall, typesCall}
-use Rattle.session.specs.Lists.{listCall}
+use Rattle.turns.specs.Answers.{numberOf, valueOf}
+use Rattle.turns.specs.Turns.{Call, thenZeros}
+use Rattle.requests.specs.Calls.{typeCall, typesCall}
+use Rattle.requests.specs.Lists.{listCall}
 use Rattle.demand.specs.Needs.{NamedComp, MeetsTwice}
 use Rattle.demand.specs.Demand.{Demand3}
 use Rattle.demand.specs.Lists.{Ls}

@@ -10,10 +10,11 @@ use Rattle.rules.specs.Names.{Names}
 use Rattle.rules.specs.Machine.{Sess, Answer, Req, one, all}
 use Rattle.opening.specs.Table.{typesOf, enumeratorsOf}
 use Rattle.opening.specs.Opened.{workOf}
-use Rattle.session.specs.declared.Session.{Session}
-use Rattle.session.specs.Answers.{numberOf, valueOf}
-use Rattle.session.specs.Calls.{Call, openCall, typeCall, typesCall}
-use Rattle.session.specs.Lists.{listCall}
+use Rattle.turns.specs.declared.Session.{Session}
+use Rattle.turns.specs.Answers.{numberOf, valueOf}
+use Rattle.turns.specs.Turns.{Call}
+use Rattle.requests.specs.Calls.{openCall, typeCall, typesCall}
+use Rattle.requests.specs.Lists.{listCall}
 use Rattle.demand.specs.Lists.{Ls}
 use Rattle.demand.specs.Session.{Known, textOf, machine}
 use Rattle.claims.specs.Table.{headerOf, openedTable}

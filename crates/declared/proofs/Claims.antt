@@ -8,7 +8,7 @@ use Rattle.rules.specs.Machine.{Req, run}
 use Rattle.rules.specs.Types.{Btf, tableOf}
 use Rattle.rules.specs.Names.{naming}
 use Rattle.opening.specs.Causes.{openingNumber}
-use Rattle.session.specs.Calls.{Call}
+use Rattle.turns.specs.Turns.{Call}
 use Rattle.demand.specs.Needs.{WF}
 use Rattle.demand.specs.Session.{textOf, machine, noNames, opened}
 use Rattle.claims.specs.Table.{openedTable}

@@ -7,7 +7,7 @@ use lib.ListN.{take}
 use Rattle.rules.specs.Machine.{Req}
 use Rattle.rules.specs.Types.{Name}
 use Rattle.rules.specs.Names.{naming}
-use Rattle.session.specs.Calls.{Call}
+use Rattle.turns.specs.Turns.{Call}
 use Rattle.demand.specs.Session.{textOf}
 use Rattle.claims.specs.Table.{openedTable}
 use Rattle.claims.specs.Session.{After}

@@ -16,11 +16,11 @@ use Rattle.rules.specs.Writer.{Ask, got, no, askThen, checked}
 use Rattle.rules.specs.Types.{Member, BtfType, Void, Int, Ptr, Array, Composite, Enum, Enum64, Fwd, Typedef, Mod, Func, Var, Datasec, FuncProto, Float, DeclTag, TypeTag, Btf}
 use Rattle.rules.specs.Layout.{sizeOf, getSizeOf, endOf}
 use Rattle.btf.specs.Table.{btfOf}
-use Rattle.session.specs.declared.Answer.{Answer}
-use Rattle.session.specs.declared.Answer.the-variants.{Accepted, Refused}
-use Rattle.session.specs.declared.Session.{Session}
-use Rattle.session.specs.Answers.{numberOf, valueOf}
-use Rattle.session.specs.Calls.{isCurrent, tableFor}
+use Rattle.turns.specs.declared.Answer.{Answer}
+use Rattle.turns.specs.declared.Answer.the-variants.{Accepted, Refused}
+use Rattle.turns.specs.declared.Session.{Session}
+use Rattle.turns.specs.Answers.{numberOf, valueOf}
+use Rattle.turns.specs.Turns.{isCurrent, tableFor}
 use Rattle.field.specs.Path.{Shape, plain, through, array, composite, shapeOf, isComposite, behind, Step, stay, enter, field, covers, entered, tried, placed, stepIn, full, onward, pathFrom, someEntry, fieldPath}
 use Rattle.field.specs.Calls.{Found, foundOf, putWords, lentPath, fieldCall}
 use Rattle.field.specs.Leads.{Covers, Uncovered, none, next, Leads}

@@ -22,10 +22,10 @@ use Rattle.btf.proofs.KindLaws.{type-0, type-1, type-2, type-3, type-4, type-5,
 use Rattle.layout.specs.declared.Ask.{Ask as Code}
 use Rattle.layout.specs.declared.Ask.the-variants as ask
 use Rattle.layout.specs.Answers.{askOf}
-use Rattle.session.specs.declared.Answer.{Answer}
-use Rattle.session.specs.declared.Answer.the-variants.{Accepted, Refused}
-use Rattle.session.specs.declared.Session.{Session}
-use Rattle.session.specs.Calls.{isCurrent, tableFor}
+use Rattle.turns.specs.declared.Answer.{Answer}
+use Rattle.turns.specs.declared.Answer.the-variants.{Accepted, Refused}
+use Rattle.turns.specs.declared.Session.{Session}
+use Rattle.turns.specs.Turns.{isCurrent, tableFor}
 use Rattle.field.specs.declared.Shape.{Shape as CodeShape}
 use Rattle.field.specs.declared.Shape.the-variants as shape
 use Rattle.field.specs.declared.Step.{Step as CodeStep}

@@ -7,10 +7,10 @@ use lib.ListN.{length}
 use Rattle.lent.specs.Words.{putWord}
 use Rattle.rules.specs.Writer.{Ask, got, no}
 use Rattle.btf.specs.Table.{btfOf}
-use Rattle.session.specs.declared.Answer.{Answer}
-use Rattle.session.specs.declared.Answer.the-variants.{Accepted, Refused}
-use Rattle.session.specs.declared.Session.{Session}
-use Rattle.session.specs.Calls.{isCurrent, tableFor}
+use Rattle.turns.specs.declared.Answer.{Answer}
+use Rattle.turns.specs.declared.Answer.the-variants.{Accepted, Refused}
+use Rattle.turns.specs.declared.Session.{Session}
+use Rattle.turns.specs.Turns.{isCurrent, tableFor}
 use Rattle.field.specs.Path.{fieldPath}
 
 pub record Found : Type 0 where

@@ -9,8 +9,8 @@ use Rattle.rules.specs.Writer.{Ask, got, no}
 use Rattle.btf.specs.declared.types.Btf.{Btf}
 use Rattle.btf.specs.declared.types.BtfMember.{BtfMember}
 use Rattle.btf.specs.Table.{membersOf}
-use Rattle.session.specs.declared.Answer.{Answer}
-use Rattle.session.specs.declared.Answer.the-variants.{Accepted, Refused}
+use Rattle.turns.specs.declared.Answer.{Answer}
+use Rattle.turns.specs.declared.Answer.the-variants.{Accepted, Refused}
 use Rattle.field.specs.declared.Shape.{Shape as CodeShape}
 use Rattle.field.specs.declared.Shape.the-variants.{Plain, Through, Array, Composite}
 use Rattle.field.specs.declared.Step.{Step as CodeStep}

@@ -4,10 +4,11 @@ use mathlib.Core.Bool.{false}
 use mathlib.Core.List.{List, [], _∷_, _++_}
 use Rattle.lent.specs.Text.{ascii, Text, whole, Out, putOut, putText}
 use Rattle.lent.specs.Decimal.{decimal}
-use Rattle.session.specs.declared.Answer.{Answer}
-use Rattle.session.specs.declared.Answer.the-variants.{Accepted, Refused}
-use Rattle.session.specs.declared.Session.{Session}
-use Rattle.session.specs.Calls.{Call, openCall, typesCall}
+use Rattle.turns.specs.declared.Answer.{Answer}
+use Rattle.turns.specs.declared.Answer.the-variants.{Accepted, Refused}
+use Rattle.turns.specs.declared.Session.{Session}
+use Rattle.turns.specs.Turns.{Call}
+use Rattle.requests.specs.Calls.{openCall, typesCall}
 
 -- a session record that was never opened
 abbrev pub neverOpened : Session

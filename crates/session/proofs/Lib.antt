@@ -3,9 +3,3 @@ pub mod EntryList
 pub mod Lent
 pub mod Numbers
 pub mod Turning
-pub mod Fair
-pub mod Laws
-pub mod Claims
-pub mod Tails
-pub mod Singles
-pub mod Lists

@@ -4,12 +4,12 @@ use denote.Steps.{only}
 use denote.Struct.Laws as LL
 use denote.Enum.Laws as EL
 use Rattle.session.proofs.Entry.{Turning}
-use Rattle.session.proofs.Session as S
-use Rattle.session.proofs.Session.Laws as S′
-use Rattle.session.proofs.Answer as E
-use Rattle.session.proofs.Answer.Laws as E′
-use Rattle.session.proofs.Turn as T
-use Rattle.session.proofs.Turn.Laws as T′
+use Rattle.turns.proofs.Session as S
+use Rattle.turns.proofs.Session.Laws as S′
+use Rattle.turns.proofs.Answer as E
+use Rattle.turns.proofs.Answer.Laws as E′
+use Rattle.turns.proofs.Turn as T
+use Rattle.turns.proofs.Turn.Laws as T′
 
 abbrev pub turning : Turning S.the-type S′.the-laws
 turning = record {

@@ -1,40 +1,14 @@
-// Sessions: opening, one request, the request for all ids and a list of ids. The session record is lent by `&mut`; the work is done by
-// value, in the functions of `turns`.
-mod turns;
-
-pub use turns::dump_list_core;
-pub use turns::dump_type_core;
-pub use turns::dump_types_core;
-pub use turns::is_current;
-pub use turns::open_core;
+// The calls of a session whose record is lent by `&mut`: thin entry points over the calls by value of `requests`.
+use requests::dump_list_core;
+use requests::dump_type_core;
+use requests::dump_types_core;
+use requests::open_core;
+use turns::Answer;
+use turns::Session;
 ghost use mathlib.Core.Path.{_≡_};
-ghost use Rattle.session.specs.Calls.{callOf, openCall, typeCall, typesCall};
-ghost use Rattle.session.specs.Lists.{idsIn, listCall};
-
-// The lengths are those at opening; text_len is the length of the text so far. Bit 0 of modes is union_as_struct,
-// bit 1 strong_arrays, bit 2 the placing mode.
-pub struct Session {
-    pub open: bool,
-    pub section_len: u64,
-    pub work_len: u64,
-    pub types: u32,
-    pub enumerators: u32,
-    pub text_len: u32,
-    pub pointer_size: u32,
-    pub modes: u32,
-}
-
-// Accepted: the value. Refused: the number and the value.
-pub enum Answer {
-    Accepted(u32),
-    Refused(u32, u32),
-}
-
-// What a call comes to: the session after it, and the answer.
-pub struct Turn {
-    pub session: Session,
-    pub answer: Answer,
-}
+ghost use Rattle.turns.specs.Turns.{callOf};
+ghost use Rattle.requests.specs.Calls.{openCall, typeCall, typesCall};
+ghost use Rattle.requests.specs.Lists.{idsIn, listCall};
 
 pub fn open(
     s: &mut Session,

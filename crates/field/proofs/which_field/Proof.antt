@@ -6,7 +6,7 @@ use Rattle.field.proofs.which_field.Reads as reads
 use Rattle.field.proofs.which_field.Lts as lts
 use Rattle.field.proofs.find_field.Reads as find-field-reads
 use Rattle.header.proofs.btf_of.Reads as btf-of-reads
-use Rattle.session.proofs.is_current.Reads as is-current-reads
+use Rattle.turns.proofs.is_current.Reads as is-current-reads
 
 cast-is-current : tie.Need-cast-is-current
 cast-is-current c = search needs

@@ -1,0 +1,6 @@
+pub mod Fair
+pub mod Laws
+pub mod Claims
+pub mod Tails
+pub mod Singles
+pub mod Lists

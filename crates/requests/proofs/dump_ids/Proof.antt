@@ -1,0 +1,99 @@
+use Rattle.requests.proofs.Lists as lists
+use mathlib.Core.Path.{_≡_, refl, sym, _∙_}
+use mathlib.Core.Bool.{true}
+use Prim.Native.Nat.{_+_, _-_, _<_, _≤_}
+use lib.ListN.{length}
+use Rattle.turns.specs.Turns.{withText, tableFor}
+use Rattle.requests.specs.Lists.{idsIn, listCall, listFrom, tailed}
+use Rattle.requests.proofs.Lists.{idsFrom}
+use native.Mathlib.Omega.{arith}
+use borrow.Author.Needs.{needs}
+use Rattle.requests.proofs.dump_ids.Statement.{statement}
+use Rattle.requests.proofs.dump_ids.Tie as tie
+
+abbrev Inv-loop : tie.InvT-loop
+Inv-loop s section work₀ text₀ ids b n len₀ k₀ work text len k =
+    (k ≤ n) × (n < 4294967296) × (length work ≡ length work₀) × (length text ≡ length text₀) × (len ≤ length text) × (b ≡ tableFor s section) × (s .«section_len» ≡ length section) × (s .«work_len» ≡ length work)
+    × (listCall s section work₀ text₀ (idsIn ids) ≡ listFrom k (withText s true len) section work (tailed k len text) (idsFrom ids k (n - k)))
+
+abbrev μ-loop : tie.MeasureT-loop
+μ-loop s section work₀ text₀ ids b n len₀ k₀ work text len k = n - k
+
+btf-of-requires : tie.Need-btf-of-requires Inv-loop μ-loop
+btf-of-requires c κs = search needs
+
+count-of-requires : tie.Need-count-of-requires Inv-loop μ-loop
+count-of-requires c κs = search needs
+
+loop-holds : tie.Need-loop-holds Inv-loop μ-loop
+loop-holds c = (omega arith, omega arith, refl, refl, lists.its-text _ (c .before .before .before .before .before .before .args .section .now) (c .before .before .before .before .before .before .args .work .now) (c .before .before .before .before .before .before .args .text .now) (c .before .before .before .before .before .before .pre), c .before .btf-of .ensures, lists.its-section _ (c .before .before .before .before .before .before .args .section .now) (c .before .before .before .before .before .before .args .work .now) (c .before .before .before .before .before .before .args .text .now) (c .before .before .before .before .before .before .pre), lists.its-work _ (c .before .before .before .before .before .before .args .section .now) (c .before .before .before .before .before .before .args .work .now) (c .before .before .before .before .before .before .args .text .now) (c .before .before .before .before .before .before .pre), lists.list-start _ (c .before .before .before .before .before .before .args .section .now) (c .before .before .before .before .before .before .args .work .now) (c .before .before .before .before .before .before .args .text .now) (c .before .before .before .before .before .before .pre) _ _ (c .count-of .ensures))
+
+cast-get-word : tie.Need-cast-get-word Inv-loop μ-loop
+cast-get-word c = omega arith
+
+get-word-requires : tie.Need-get-word-requires Inv-loop μ-loop
+get-word-requires c κs = search needs
+
+same-length : tie.Need-same-length Inv-loop μ-loop
+same-length c = search needs
+
+same-length-2 : tie.Need-same-length-2 Inv-loop μ-loop
+same-length-2 c = search needs
+
+returns : tie.Need-returns Inv-loop μ-loop
+returns c = (lists.list-past _ _ _ (c .before .before .before .before .loop .inv .5) _ _ _ (c .before .before .before .before .loop .inv .6) _ _ _ _ (c .before .before .before .before .loop .inv .7) (c .before .before .before .before .loop .inv .4) (c .before .before .before .before .loop .inv .8) (c .before .before .before .loop-test .taken) _ (c .before .before .get-word .ensures) (c .if1 .taken), c .before .before .before .before .loop .inv .4)
+
+dump-next-requires : tie.Need-dump-next-requires Inv-loop μ-loop
+dump-next-requires c κs = c .before .before .before .before .before .before .loop .inv .4
+
+same-length-3 : tie.Need-same-length-3 Inv-loop μ-loop
+same-length-3 c = search needs
+
+same-length-4 : tie.Need-same-length-4 Inv-loop μ-loop
+same-length-4 c = search needs
+
+returns-2 : tie.Need-returns-2 Inv-loop μ-loop
+returns-2 c = (lists.list-stop _ _ _ (c .before .before .before .before .before .before .before .before .before .before .before .before .before .loop .inv .5) _ _ _ (c .before .before .before .before .before .before .before .before .before .before .before .before .before .loop .inv .6) _ _ _ _ (c .before .before .before .before .before .before .before .before .before .before .before .before .before .loop .inv .7) (c .before .before .before .before .before .before .before .before .before .before .before .before .before .loop .inv .4) (c .before .before .before .before .before .before .before .before .before .before .before .before .before .loop .inv .8) (c .before .before .before .before .before .before .before .before .before .before .before .before .loop-test .taken) _ (c .before .before .before .before .before .before .before .before .before .before .before .get-word .ensures) (c .before .before .before .before .before .before .before .before .before .if1 .left) _ _ _ (c .before .before .before .before .before .before .dump-next .ensures .0) (c .before .before .before .before .before .before .dump-next .kept .1 .1 .0) (c .before .before .before .before .before .before .dump-next .kept .1 .1 .1 .0) (c .if2 .taken), c .before .before .before .before .before .before .dump-next .ensures .1)
+
+add-k : tie.Need-add-k Inv-loop μ-loop
+add-k c = omega arith
+
+loop-less : tie.Need-loop-less Inv-loop μ-loop
+loop-less c = omega arith
+
+loop-again : tie.Need-loop-again Inv-loop μ-loop
+loop-again c = (omega arith, omega arith, c .before .before .before .before .before .before .dump-next .kept .1 .1 .0 ∙ c .before .before .before .before .before .before .before .before .before .before .before .before .before .loop .inv .2, c .before .before .before .before .before .before .dump-next .kept .1 .1 .1 .0 ∙ c .before .before .before .before .before .before .before .before .before .before .before .before .before .loop .inv .3, c .before .before .before .before .before .before .dump-next .ensures .1, c .before .before .before .before .before .before .before .before .before .before .before .before .before .loop .inv .5, c .before .before .before .before .before .before .before .before .before .before .before .before .before .loop .inv .6, c .before .before .before .before .before .before .before .before .before .before .before .before .before .loop .inv .7 ∙ sym (c .before .before .before .before .before .before .dump-next .kept .1 .1 .0), lists.list-more (c .before .before .before .before .before .before .before .before .before .before .before .before .before .before .before .before .before .before .before .before .args .s) _ _ (c .before .before .before .before .before .before .before .before .before .before .before .before .before .loop .inv .5) _ _ _ (c .before .before .before .before .before .before .before .before .before .before .before .before .before .loop .inv .6) _ _ _ _ (c .before .before .before .before .before .before .before .before .before .before .before .before .before .loop .inv .7) (c .before .before .before .before .before .before .before .before .before .before .before .before .before .loop .inv .4) (c .before .before .before .before .before .before .before .before .before .before .before .before .before .loop .inv .8) (c .before .before .before .before .before .before .before .before .before .before .before .before .loop-test .taken) _ (c .before .before .before .before .before .before .before .before .before .before .before .get-word .ensures) (c .before .before .before .before .before .before .before .before .before .if1 .left) _ _ _ (c .before .before .before .before .before .before .dump-next .ensures .0) (c .before .before .before .before .before .before .dump-next .kept .1 .1 .1 .0) (c .if2 .left))
+
+same-length-5 : tie.Need-same-length-5 Inv-loop μ-loop
+same-length-5 c = search needs
+
+same-length-6 : tie.Need-same-length-6 Inv-loop μ-loop
+same-length-6 c = search needs
+
+returns-3 : tie.Need-returns-3 Inv-loop μ-loop
+returns-3 c = (lists.list-done _ _ _ (c .before .loop .inv .5) _ _ _ (c .before .loop .inv .6) _ _ _ _ (c .before .loop .inv .7) (c .before .loop .inv .4) (c .before .loop .inv .8) (c .loop-test .left), c .before .loop .inv .4)
+
+pub dump-ids-spec : {M : Type 1} → statement M
+dump-ids-spec =
+    tie.close
+    (tie.spec
+    Inv-loop
+    μ-loop
+    btf-of-requires
+    count-of-requires
+    loop-holds
+    cast-get-word
+    get-word-requires
+    same-length
+    same-length-2
+    returns
+    dump-next-requires
+    same-length-3
+    same-length-4
+    returns-2
+    add-k
+    loop-less
+    loop-again
+    same-length-5
+    same-length-6
+    returns-3)

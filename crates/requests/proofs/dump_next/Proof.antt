@@ -1,0 +1,37 @@
+use Rattle.requests.proofs.Laws as laws
+use borrow.Author.Needs.{needs}
+use Rattle.requests.proofs.dump_next.Statement.{statement}
+use Rattle.requests.proofs.dump_next.Tie as tie
+
+is-idle-requires : tie.Need-is-idle-requires
+is-idle-requires c κs = search needs
+
+same-length : tie.Need-same-length
+same-length c = search needs
+
+returns : tie.Need-returns
+returns c = laws.idle-reach _ _ _ _ _ _ (c .before .before .before .before .before .before .pre) _ (c .before .is-idle .ensures) (c .if1 .taken)
+
+dump-one-requires : tie.Need-dump-one-requires
+dump-one-requires c κs = search needs
+
+same-length-2 : tie.Need-same-length-2
+same-length-2 c = search needs
+
+same-length-3 : tie.Need-same-length-3
+same-length-3 c = search needs
+
+returns-2 : tie.Need-returns-2
+returns-2 c = c .before .before .before .before .dump-one .ensures
+
+pub dump-next-spec : {M : Type 1} → statement M
+dump-next-spec =
+    tie.close
+    (tie.spec
+    is-idle-requires
+    same-length
+    returns
+    dump-one-requires
+    same-length-2
+    same-length-3
+    returns-2)

@@ -1,0 +1,260 @@
+// The calls of a session by value: opening, one request, the request for all ids and a list of ids.
+use btf::Btf;
+use header::btf_of;
+use lent::clear;
+use lent::get_word;
+use opening::Opening;
+use turns::Answer;
+use turns::Reached;
+use turns::Session;
+use turns::Turn;
+use turns::answer_of;
+use turns::clear_from;
+use turns::is_current;
+use turns::settle;
+use turns::turn_of;
+use turns::with_text;
+ghost use Prim.Native.Nat.{_+_, _-_, _<_, _≤_};
+ghost use mathlib.Core.Bool.{true};
+ghost use mathlib.Core.Path.{_≡_};
+ghost use lib.ListN.{length};
+ghost use Rattle.turns.specs.Turns.{callOf, isCurrent, reachOf};
+ghost use Rattle.requests.specs.Calls.{openCall, limitOf, arrivedAt, requested, requestedFrom, typeCall, typesCall};
+ghost use Rattle.requests.specs.Lists.{idsIn, listCall, countIn, tailed, listEnd};
+
+pub fn open_core(
+    s: Session,
+    section: &[u8],
+    work: &mut [u8],
+    text: &mut [u8],
+    pointer_size: u32,
+    modes: u32,
+) -> Turn
+    ensures { λ r. ⌜ callOf (r .session) (r .answer) (now (work .exit)) (now (text .exit)) ≡ openCall s (now (section .entry)) (now (work .entry)) (now (text .entry)) «pointer_size» modes ⌝ }
+{
+    let section_len = section.len() as u64;
+    let work_len = work.len() as u64;
+    match opening::open(section, pointer_size, modes, work, text) {
+        Opening::Refused(c) => turn_of(s, c, 0),
+        Opening::Sound(types, enumerators) => Turn {
+            session: Session {
+                open: true,
+                section_len: section_len,
+                work_len: work_len,
+                types: types,
+                enumerators: enumerators,
+                text_len: 0,
+                pointer_size: pointer_size,
+                modes: modes % 8,
+            },
+            answer: Answer::Accepted(types),
+        },
+    }
+}
+
+// How far a text slice may be written after its first bytes: 1,073,741,824 bytes at most.
+fn limit(text_len: usize, from: usize) -> usize
+    requires { ⌜ from ≤ «text_len» ⌝ }
+    ensures { λ r. ⌜ (r ≡ limitOf «text_len» from) × (from ≤ r) × (r ≤ «text_len») × (r - from ≤ 1073741824 - from) ⌝ }
+{
+    if text_len <= 1073741824 {
+        return text_len;
+    }
+    if from <= 1073741824 { 1073741824 } else { from }
+}
+
+// What a place in a slice of so many bytes says, after a text of len bytes: the new length, or a refusal.
+fn arrived(len: u32, room: usize, at: usize) -> Reached
+    requires { ⌜ (len + room < 4294967296) × (at ≤ room + 19) ⌝ }
+    ensures { λ r. ⌜ r ≡ arrivedAt len room at ⌝ }
+{
+    if at <= room {
+        return Reached {
+            len: len + (at as u32),
+            number: 0,
+        };
+    }
+    Reached {
+        len: len,
+        number: (at - room - 1) as u32,
+    }
+}
+
+// One id, after a text of len bytes: it is lent only what follows that text.
+fn dump_one(b: Btf, section: &[u8], work: &mut [u8], text: &mut [u8], len: u32, id: u32) -> Reached
+    requires { ⌜ len ≤ length (now text) ⌝ }
+    ensures { λ r. ⌜ (reachOf r (now (work .exit)) (now (text .exit)) ≡ requested b (now (section .entry)) id len (now (work .entry)) (now (text .entry))) × (r .len ≤ length (now (text .exit))) ⌝ }
+{
+    let from = len as usize;
+    let to = limit(text.len(), from);
+    let at = emit::dump_type(b, section, work, &mut text[from..to], 0, id);
+    arrived(len, to - from, at)
+}
+
+// The same; most ids of a table have nothing to write.
+fn dump_next(b: Btf, section: &[u8], work: &mut [u8], text: &mut [u8], len: u32, id: u32) -> Reached
+    requires { ⌜ len ≤ length (now text) ⌝ }
+    ensures { λ r. ⌜ (reachOf r (now (work .exit)) (now (text .exit)) ≡ requested b (now (section .entry)) id len (now (work .entry)) (now (text .entry))) × (r .len ≤ length (now (text .exit))) ⌝ }
+{
+    if emit::is_idle(b, section, work, id) {
+        return Reached {
+            len: len,
+            number: 0,
+        };
+    }
+    dump_one(b, section, work, text, len, id)
+}
+
+// Every id from 1 upward, to the first that is refused.
+fn dump_all(b: Btf, section: &[u8], work: &mut [u8], text: &mut [u8], len: u32) -> Reached
+    requires { ⌜ len ≤ length (now text) ⌝ }
+    ensures { λ r. ⌜ (reachOf r (now (work .exit)) (now (text .exit)) ≡ requestedFrom b (now (section .entry)) (b .types - 1) 1 len (now (work .entry)) (now (text .entry))) × (r .len ≤ length (now (text .exit))) ⌝ }
+{
+    let n = b.types;
+    let mut r = Reached {
+        len: len,
+        number: 0,
+    };
+    let mut id: u32 = 1;
+    while id < n {
+        r = dump_next(b, section, work, text, r.len, id);
+        if r.number != 0 {
+            return r;
+        }
+        id += 1;
+    }
+    r
+}
+
+pub fn dump_type_core(s: Session, section: &[u8], work: &mut [u8], text: &mut [u8], id: u32) -> Turn
+    ensures { λ r. ⌜ callOf (r .session) (r .answer) (now (work .exit)) (now (text .exit)) ≡ typeCall s (now (section .entry)) (now (work .entry)) (now (text .entry)) id ⌝ }
+{
+    if !is_current(s, section.len(), work.len(), text.len()) {
+        return turn_of(s, 11, s.text_len);
+    }
+    if s.types <= id {
+        return turn_of(s, 10, s.text_len);
+    }
+    let b = btf_of(section, s.pointer_size, s.modes, s.types);
+    let r = dump_one(b, section, work, text, s.text_len, id);
+    settle(s, work, text, r)
+}
+
+pub fn dump_types_core(s: Session, section: &[u8], work: &mut [u8], text: &mut [u8]) -> Turn
+    ensures { λ r. ⌜ callOf (r .session) (r .answer) (now (work .exit)) (now (text .exit)) ≡ typesCall s (now (section .entry)) (now (work .entry)) (now (text .entry)) ⌝ }
+{
+    if !is_current(s, section.len(), work.len(), text.len()) {
+        return turn_of(s, 11, s.text_len);
+    }
+    let b = btf_of(section, s.pointer_size, s.modes, s.types);
+    let r = dump_all(b, section, work, text, s.text_len);
+    settle(s, work, text, r)
+}
+
+// Where the ids of a list have come to: as Reached, and how many were accepted.
+struct Tally {
+    len: u32,
+    number: u32,
+    accepted: u32,
+}
+
+// How many ids there are: as many as the answer's value can count, at most.
+fn count_of(ids: &[u8]) -> u32
+    ensures { λ r. ⌜ r ≡ countIn (now (ids .entry)) ⌝ }
+{
+    let n = ids.len() / 4;
+    if n <= 4294967295 {
+        n as u32
+    } else {
+        4294967295
+    }
+}
+
+// The ids of a list in their order, to the first that is refused; what follows the text is not zeroed yet.
+fn dump_ids(s: Session, section: &[u8], work: &mut [u8], text: &mut [u8], ids: &[u8]) -> Tally
+    requires { ⌜ isCurrent s (length (now section)) (length (now work)) (length (now text)) ≡ true ⌝ }
+    ensures { λ r. ⌜ (listEnd s r (now (work .exit)) (now (text .exit)) ≡ listCall s (now (section .entry)) (now (work .entry)) (now (text .entry)) (idsIn (now (ids .entry)))) × (r .len ≤ length (now (text .exit))) ⌝ }
+{
+    let b = btf_of(section, s.pointer_size, s.modes, s.types);
+    let n = count_of(ids);
+    let mut len = s.text_len;
+    let mut k: u32 = 0;
+    while k < n {
+        let id = get_word(ids, k as usize);
+        if s.types <= id {
+            return Tally {
+                len: len,
+                number: 10,
+                accepted: k,
+            };
+        }
+        let r = dump_next(b, section, work, text, len, id);
+        if r.number != 0 {
+            return Tally {
+                len: r.len,
+                number: r.number,
+                accepted: k,
+            };
+        }
+        len = r.len;
+        k += 1;
+    }
+    Tally {
+        len: len,
+        number: 0,
+        accepted: k,
+    }
+}
+
+// Zeroes what follows the text, if an id was accepted.
+fn clear_after(text: &mut [u8], accepted: u32, len: u32)
+    ensures { λ _. ⌜ now (text .exit) ≡ tailed accepted len (now (text .entry)) ⌝ }
+{
+    if accepted == 0 {
+        return;
+    }
+    clear_from(text, len);
+}
+
+// The end of a call with a list: 10 leaves what the accepted ids left, 12 to 17 close the session.
+fn settle_list(s: Session, work: &mut [u8], text: &mut [u8], r: Tally) -> Turn
+    ensures { λ t. ⌜ callOf (t .session) (t .answer) (now (work .exit)) (now (text .exit)) ≡ listEnd s r (now (work .entry)) (now (text .entry)) ⌝ }
+{
+    let len = r.len;
+    let answer = answer_of(r.number, r.accepted);
+    if r.number <= 10 {
+        clear_after(text, r.accepted, len);
+        return Turn {
+            session: with_text(s, true, len),
+            answer: answer,
+        };
+    }
+    clear_from(text, len);
+    clear(work);
+    Turn {
+        session: with_text(s, false, len),
+        answer: answer,
+    }
+}
+
+pub fn dump_list_core(
+    s: Session,
+    section: &[u8],
+    work: &mut [u8],
+    text: &mut [u8],
+    ids: &[u8],
+) -> Turn
+    ensures { λ r. ⌜ callOf (r .session) (r .answer) (now (work .exit)) (now (text .exit)) ≡ listCall s (now (section .entry)) (now (work .entry)) (now (text .entry)) (idsIn (now (ids .entry))) ⌝ }
+{
+    if ids.len() < 4 {
+        return Turn {
+            session: s,
+            answer: Answer::Accepted(0),
+        };
+    }
+    if !is_current(s, section.len(), work.len(), text.len()) {
+        return turn_of(s, 11, 0);
+    }
+    let r = dump_ids(s, section, work, text, ids);
+    settle_list(s, work, text, r)
+}

@@ -1,0 +1,114 @@
+// The session record, the answers, and what every call of a session shares: cause 11, and how it ends.
+use lent::clear;
+ghost use mathlib.Core.Path.{_≡_};
+ghost use lib.ListN.{length};
+ghost use Rattle.turns.specs.Answers.{answerOf};
+ghost use Rattle.turns.specs.Turns.{callOf, turnOf, isCurrent, reachOf, withText, thenZeros, settled};
+
+// The lengths are those at opening; text_len is the length of the text so far. Bit 0 of modes is union_as_struct,
+// bit 1 strong_arrays, bit 2 the placing mode.
+pub struct Session {
+    pub open: bool,
+    pub section_len: u64,
+    pub work_len: u64,
+    pub types: u32,
+    pub enumerators: u32,
+    pub text_len: u32,
+    pub pointer_size: u32,
+    pub modes: u32,
+}
+
+// Accepted: the value. Refused: the number and the value.
+pub enum Answer {
+    Accepted(u32),
+    Refused(u32, u32),
+}
+
+// What a call comes to: the session after it, and the answer.
+pub struct Turn {
+    pub session: Session,
+    pub answer: Answer,
+}
+
+// Where the requests of a call have come to: the length of the accepted text, and the refusal that ended them, or 0.
+pub struct Reached {
+    pub len: u32,
+    pub number: u32,
+}
+
+pub fn answer_of(number: u32, value: u32) -> Answer
+    ensures { λ r. ⌜ r ≡ answerOf number value ⌝ }
+{
+    if number == 0 {
+        return Answer::Accepted(value);
+    }
+    Answer::Refused(number, value)
+}
+
+// A turn that leaves the session as it is.
+pub fn turn_of(s: Session, number: u32, value: u32) -> Turn
+    ensures { λ r. ⌜ r ≡ turnOf s (answerOf number value) ⌝ }
+{
+    Turn {
+        session: s,
+        answer: answer_of(number, value),
+    }
+}
+
+// Cause 11 does not hold.
+pub fn is_current(s: Session, section_len: usize, work_len: usize, text_len: usize) -> bool
+    ensures { λ r. ⌜ r ≡ isCurrent s «section_len» «work_len» «text_len» ⌝ }
+{
+    if !s.open {
+        return false;
+    }
+    if s.section_len != section_len as u64 {
+        return false;
+    }
+    if s.work_len != work_len as u64 {
+        return false;
+    }
+    (s.text_len as usize) <= text_len
+}
+
+// The session after its requests, open or closed.
+pub fn with_text(s: Session, open: bool, len: u32) -> Session
+    ensures { λ r. ⌜ r ≡ withText s «open» len ⌝ }
+{
+    Session {
+        open: open,
+        section_len: s.section_len,
+        work_len: s.work_len,
+        types: s.types,
+        enumerators: s.enumerators,
+        text_len: len,
+        pointer_size: s.pointer_size,
+        modes: s.modes,
+    }
+}
+
+// Zeroes what follows the first n bytes.
+pub fn clear_from(text: &mut [u8], n: u32)
+    ensures { λ _. ⌜ now (text .exit) ≡ thenZeros (length (now (text .entry))) n (now (text .entry)) ⌝ }
+{
+    let from = n as usize;
+    if text.len() <= from {
+        return;
+    }
+    clear(&mut text[from..]);
+}
+
+// The end of a call: what follows the text is zero; after a refusal so is the work, and the session is closed.
+pub fn settle(s: Session, work: &mut [u8], text: &mut [u8], r: Reached) -> Turn
+    ensures { λ t. ⌜ callOf (t .session) (t .answer) (now (work .exit)) (now (text .exit)) ≡ settled s (length (now (work .entry))) (length (now (text .entry))) (reachOf r (now (work .entry)) (now (text .entry))) ⌝ }
+{
+    clear_from(text, r.len);
+    if r.number == 0 {
+        return Turn {
+            session: with_text(s, true, r.len),
+            answer: Answer::Accepted(r.len),
+        };
+    }
+    clear(work);
+    turn_of(with_text(s, false, r.len), r.number, r.len)
+}
