@@ -12,6 +12,11 @@ pub data Told (St : Type 0) : Type 0 where
   told : St → Bool → ℕ → Told St
   halted : ℕ → ℕ → Told St
 
+-- the count, of a refused request too
+unfoldable pub countOf : {St : Type 0} → Told St → ℕ
+countOf (told s b k) = k
+countOf (halted e k) = k
+
 unfoldable pub thenBind : {St : Type 0} → Told St → (St → Bool → ℕ → Told St) → Told St
 thenBind (told s b k) f = f s b k
 thenBind (halted e k) f = halted e k
@@ -63,6 +68,13 @@ module _ {St : Type 0} (K : Store St) where
   orderWithin c zero T s x weak k = halted 12 k
   orderWithin c (suc n) T s x weak k =
       elim (ltb k c) [ true ↦ visitWithin T (λ s′ y w k′. orderWithin c n T s′ y w k′) s x weak (K .get s x) (suc k) | false ↦ halted 22 k ]
+
+  -- The code's way, with the calls that are left: each call takes `cost` of them, 1 under a ceiling, and 0 without one, so that one ordering serves
+  -- both. At cost 0 it is the plain rule, at cost 1 it is `orderWithin` (proofs/Metered).
+  unfoldable pub orderMetered : ℕ → ℕ → Table → St → ℕ → Bool → ℕ → Told St
+  orderMetered cost zero T s x weak left = halted 12 left
+  orderMetered cost (suc n) T s x weak left =
+      elim (ltb left cost) [ true ↦ halted 22 left | false ↦ visitWithin T (λ s′ y w left′. orderMetered cost n T s′ y w left′) s x weak (K .get s x) (left - cost) ]
 
   -- ---- the calls that the plain rule opens
   unfoldable pub callsEnter : Bool → (St → ℕ → Res St) → (St → ℕ → ℕ) → St → ℕ → List ℕ → ℕ

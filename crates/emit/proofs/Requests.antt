@@ -2,13 +2,14 @@
 use Prim.Native.Nat.{ℕ, zero, suc, _+_, _*_, _-_, _<_, _≤_}
 use mathlib.Core.Path.{_≡_, refl, ap, _∙_, sym, subst}
 use mathlib.Core.List.{List, [], _∷_}
-use mathlib.Core.Bool.{Bool, true, false, not, _&&_, _||_}
-use mathlib.Core.Logic.{_⊎_, inl, inr}
+use mathlib.Core.Bool.{Bool, true, false, not, _&&_, _||_, true≢false}
+use mathlib.Core.Logic.{_⊎_, inl, inr, ⊎-elim}
 use native.Mathlib.Omega.{arith}
 use native.Mathlib.Numerals.{add-one}
-use lib.Dec.{eqb, ltb}
+use lib.Dec.{eqb, ltb, leb}
 use lib.ListN.{length}
-use borrow.Author.Tests.{ne-eqb}
+use borrow.Author.Tests.{ne-eqb, le-leb, lt-leb}
+use Rattle.lent.proofs.Laws.{le-or-lt}
 use Rattle.text.specs.Text.{Text, cut, bytes, stopped, putOut, written, putText}
 use Rattle.text.proofs.TextLaws.{put-fits, stays}
 use Rattle.rules.specs.Order.{Table, Node, ignored, plain, listed, through, ptr, tdef, proto, comp, Mark, new, busy, done, Res, ok, refused, bind, fresh, visit, order}
@@ -21,11 +22,15 @@ use Rattle.btf.specs.Cells.{getField, putField}
 use Rattle.btf.specs.Records.{kindOf, recordById}
 use Rattle.btf.specs.Table.{from, typeOf, btfOf}
 use Rattle.btf.proofs.KindLaws.{by-kind, type-0, type-1, type-2, type-3, type-4, type-5, type-6, type-7, type-8, type-9, type-10, type-11, type-12, type-13, type-14, type-15, type-16, type-17, type-18, type-19, type-none}
+use Rattle.ceiling.specs.Ceiling.{Told, told, halted, countOf, thenBind, orderMetered, callsFresh, callsVisit, calls}
+use Rattle.ceiling.proofs.Counted.{tell}
+use Rattle.ceiling.proofs.Metered.{metered-plain, metered-fits, metered-over}
 use Rattle.order.specs.declared.Order.{Order}
 use Rattle.order.specs.Work.{Marks, markOf, workStore, tableIn, orderOut}
 use Rattle.order.proofs.Frame.{table-order}
 use Rattle.order.proofs.Frame as ordFrame
-use Rattle.order.proofs.Laws.{going, halted, run, is-done, is-busy, is-new, node-at}
+use Rattle.order.proofs.Laws.{going, stops, counted, run, is-done, is-busy, is-new, node-at}
+use Rattle.emit.specs.Metered.{orderedIn, besideOf, dumpedMetered, callsIn, dumpedWithin}
 use Rattle.emit.specs.Sheet.{Sheet, marksIn, withMarks, sheetStore, emptied, sheetOf, emitOut, workMachine, emitIn, listedOut, dumped, isIgnored, isIdle}
 use Rattle.emit.proofs.Frame.{Stays, on, off, stays-then, places, places-emit}
 use Rattle.emit.proofs.Maps.{rmap, StoreMap, map-order}
@@ -99,40 +104,49 @@ store-list : (b : Btf) (B : Rules) (m : Sheet) → sheetStore .list m ≡ workMa
 unfolding workMachine
 store-list b B m = refl
 
--- ---- dump_type
-module _ (b : Btf) (s : List ℕ) (at : ℕ) (tx w : List ℕ) (id : ℕ) (o : Order) (w₁ : List ℕ)
-    (e : orderOut o w₁ ≡ bind (orderOut (record { «is_strong» = false; len = 0; stop = 0 }) w) (λ m _. order workStore 512 (tableIn b s w) m id false)) where
+-- ---- dump_metered
+module _ (b : Btf) (s w : List ℕ) (id cost spare : ℕ) (o : Order) (w₁ : List ℕ)
+    (e : orderOut o w₁ ≡ thenBind (orderOut (record { spare = spare; len = 0; stop = 0; «is_strong» = false }) w) (λ m _ j. orderMetered workStore cost 512 (tableIn b s w) m id false j)) where
+  ordered-is : orderOut o w₁ ≡ orderedIn (btfOf b s w) cost (record { work = w; len = 0 }) id spare
+  ordered-is = e ∙ run (record { spare = spare; len = 0; stop = 0; «is_strong» = false }) w (λ m _ j. orderMetered workStore cost 512 (tableIn b s w) m id false j) refl
+
+  -- the calls that are left
+  pub spare-is : o .spare ≡ countOf (orderedIn (btfOf b s w) cost (record { work = w; len = 0 }) id spare)
+  spare-is = sym (counted o w₁) ∙ ap countOf ordered-is
+
+module _ (b : Btf) (s : List ℕ) (at : ℕ) (tx w : List ℕ) (id cost spare : ℕ) (o : Order) (w₁ : List ℕ)
+    (e : orderOut o w₁ ≡ thenBind (orderOut (record { spare = spare; len = 0; stop = 0; «is_strong» = false }) w) (λ m _ j. orderMetered workStore cost 512 (tableIn b s w) m id false j)) where
   abbrev X : Rules
   X = btfOf b s w
 
-  order-is : orderOut o w₁ ≡ order workStore 512 (tableIn b s w) (record { work = w; len = 0 }) id false
-  order-is = e ∙ run (record { «is_strong» = false; len = 0; stop = 0 }) w (λ m _. order workStore 512 (tableIn b s w) m id false) refl
+  order-is : orderOut o w₁ ≡ orderedIn X cost (record { work = w; len = 0 }) id spare
+  order-is = ordered-is b s w id cost spare o w₁ e
 
-  dumped-is : dumped (workMachine b X) (tableOf X) (sheet 0 at tx w) id ≡ listedOut (workMachine b X) (tableOf X) (lifted tx at (orderOut o w₁))
-  unfolding dumped workMachine
-  dumped-is = ap (listedOut (workMachine b X) (tableOf X)) (lift-order tx at 512 (tableOf X) (record { work = w; len = 0 }) id false ∙ ap (lifted tx at) (sym order-is))
+  dumped-is : dumpedMetered b X cost (sheet 0 at tx w) id spare ≡ listedOut (workMachine b X) (tableOf X) (besideOf (sheet 0 at tx w) (orderOut o w₁))
+  unfolding dumpedMetered
+  dumped-is = ap (λ (t : Told Marks). listedOut (workMachine b X) (tableOf X) (besideOf (sheet 0 at tx w) t)) (sym order-is)
 
-  pub dump-refused : (o .stop ≡ 0 → ⊥) → (r : ℕ) → putOut r tx ≡ putText tx at (cut [] (o .stop)) → emitOut 0 r tx w₁ ≡ obind (emitOut 0 at tx w) (λ m. dumped (workMachine b X) (tableOf X) m id)
-  unfolding obind written bytes listedOut
+  pub dump-refused : (o .stop ≡ 0 → ⊥) → (r : ℕ) → putOut r tx ≡ putText tx at (cut [] (o .stop)) → emitOut 0 r tx w₁ ≡ obind (emitOut 0 at tx w) (λ m. dumpedMetered b X cost m id spare)
+  unfolding obind written bytes listedOut besideOf
   dump-refused n r er = by-out _ at tx
       (λ l. halts 0 r tx w₁ (o .stop) (er ∙ put-fits tx at (cut [] (o .stop)) (omega arith))
-      ∙ sym (ap (λ (q : Out Sheet). obind q (λ m. dumped (workMachine b X) (tableOf X) m id)) (goes 0 at tx w l) ∙ dumped-is ∙ ap (λ (q : Res Marks). listedOut (workMachine b X) (tableOf X) (lifted tx at q)) (halted o w₁ n)))
-      (λ c q. halts 0 r tx w₁ c (er ∙ stays tx at c (cut [] (o .stop)) q) ∙ sym (ap (λ (q : Out Sheet). obind q (λ m. dumped (workMachine b X) (tableOf X) m id)) (halts 0 at tx w c q)))
+      ∙ sym (ap (λ (q : Out Sheet). obind q (λ m. dumpedMetered b X cost m id spare)) (goes 0 at tx w l) ∙ dumped-is ∙ ap (λ (q : Told Marks). listedOut (workMachine b X) (tableOf X) (besideOf (sheet 0 at tx w) q)) (stops o w₁ n)))
+      (λ c q. halts 0 r tx w₁ c (er ∙ stays tx at c (cut [] (o .stop)) q) ∙ sym (ap (λ (q : Out Sheet). obind q (λ m. dumpedMetered b X cost m id spare)) (halts 0 at tx w c q)))
 
   module _ (z : o .stop ≡ 0) where
     -- ordering left the table
     table-is : btfOf b s w₁ ≡ X
-    table-is = go (orderOut o w₁) (subst (ordFrame.Stays (btfOf b s) w) (sym order-is) (table-order b s 512 (tableIn b s w) (record { work = w; len = 0 }) id false)) (going o w₁ z)
+    table-is = go (orderOut o w₁) (subst (ordFrame.Stays (btfOf b s) w) (sym order-is) (table-order b s cost 512 (tableIn b s w) (record { work = w; len = 0 }) id false spare)) (going o w₁ z)
       where
-        same-ok : (m m′ : Marks) (f f′ : Bool) → ok m f ≡ ok m′ f′ → m ≡ m′
-        same-ok m m′ f f′ q = cc
+        same-ok : (m m′ : Marks) (f f′ : Bool) (j j′ : ℕ) → told m f j ≡ told m′ f′ j′ → m ≡ m′
+        same-ok m m′ f f′ j j′ q = cc
 
-        no : (c : ℕ) (m : Marks) (f : Bool) → refused c ≡ ok m f → ⊥
-        no c m f q = let k : _≡_ {A = ℕ} 0 1 = cc in omega arith
+        no : (c i : ℕ) (m : Marks) (f : Bool) (j : ℕ) → halted c i ≡ told m f j → ⊥
+        no c i m f j q = let k : _≡_ {A = ℕ} 0 1 = cc in omega arith
 
-        go : (x : Res Marks) → ordFrame.Stays (btfOf b s) w x → x ≡ ok (record { work = w₁; len = o .len }) (o .«is_strong») → btfOf b s w₁ ≡ X
-        go (ok m f) (ordFrame.on q) u = ap (λ (y : Marks). btfOf b s (y .work)) (sym (same-ok m (record { work = w₁; len = o .len }) f (o .«is_strong») u)) ∙ q
-        go (refused c) ordFrame.off u = absurd (no c (record { work = w₁; len = o .len }) (o .«is_strong») u)
+        go : (x : Told Marks) → ordFrame.Stays (btfOf b s) w x → x ≡ told (record { work = w₁; len = o .len }) (o .«is_strong») (o .spare) → btfOf b s w₁ ≡ X
+        go (told m f j) (ordFrame.on q) u = ap (λ (y : Marks). btfOf b s (y .work)) (sym (same-ok m (record { work = w₁; len = o .len }) f (o .«is_strong») j (o .spare) u)) ∙ q
+        go (halted c i) ordFrame.off u = absurd (no c i (record { work = w₁; len = o .len }) (o .«is_strong») (o .spare) u)
 
     -- the list is empty again
     cleared-sheet : (n r : ℕ) (t₂ w₂ w₃ : List ℕ) → w₃ ≡ emptied n w₂ → emitOut 0 r t₂ w₃ ≡ obind (emitOut n r t₂ w₂) (λ m. wrote (workMachine b X .start 0 m))
@@ -142,8 +156,8 @@ module _ (b : Btf) (s : List ℕ) (at : ℕ) (tx w : List ℕ) (id : ℕ) (o : O
         (λ c q. halts 0 r t₂ w₃ c q ∙ sym (ap (λ (u : Out Sheet). obind u (λ m. wrote (workMachine b X .start 0 m))) (halts n r t₂ w₂ c q)))
 
     pub dump-listed : (r : ℕ) (t₂ w₂ : List ℕ) → emitOut (o .len) r t₂ w₂ ≡ obind (emitOut (o .len) at tx w₁) (λ m. eeach (emitIn b (btfOf b s w₁) 512 0) (sheetStore .list m) m)
-        → (w₃ : List ℕ) → w₃ ≡ emptied (o .len) w₂ → emitOut 0 r t₂ w₃ ≡ obind (emitOut 0 at tx w) (λ m. dumped (workMachine b X) (tableOf X) m id)
-    unfolding obind listedOut emitIn
+        → (w₃ : List ℕ) → w₃ ≡ emptied (o .len) w₂ → emitOut 0 r t₂ w₃ ≡ obind (emitOut 0 at tx w) (λ m. dumpedMetered b X cost m id spare)
+    unfolding obind listedOut emitIn besideOf
     dump-listed r t₂ w₂ e₂ w₃ e₃ =
         cleared-sheet (o .len) r t₂ w₂ w₃ e₃
         ∙ ap (λ (q : Out Sheet). obind q last) (e₂ ∙ ap (λ (Q : Rules). obind (emitOut (o .len) at tx w₁) (λ m. eeach (emitIn b Q 512 0) (sheetStore .list m) m)) table-is)
@@ -151,8 +165,8 @@ module _ (b : Btf) (s : List ℕ) (at : ℕ) (tx w : List ℕ) (id : ℕ) (o : O
         ∙ by-out _ at tx
         (λ l. ap (λ (q : Out Sheet). obind q all) (goes (o .len) at tx w₁ l)
         ∙ listed-all
-        ∙ sym (ap (λ (q : Out Sheet). obind q (λ m. dumped (workMachine b X) (tableOf X) m id)) (goes 0 at tx w l) ∙ dumped-is ∙ ap (λ (q : Res Marks). listedOut (workMachine b X) (tableOf X) (lifted tx at q)) (going o w₁ z)))
-        (λ c q. ap (λ (u : Out Sheet). obind u all) (halts (o .len) at tx w₁ c q) ∙ sym (ap (λ (u : Out Sheet). obind u (λ m. dumped (workMachine b X) (tableOf X) m id)) (halts 0 at tx w c q)))
+        ∙ sym (ap (λ (q : Out Sheet). obind q (λ m. dumpedMetered b X cost m id spare)) (goes 0 at tx w l) ∙ dumped-is ∙ ap (λ (q : Told Marks). listedOut (workMachine b X) (tableOf X) (besideOf (sheet 0 at tx w) q)) (going o w₁ z)))
+        (λ c q. ap (λ (u : Out Sheet). obind u all) (halts (o .len) at tx w₁ c q) ∙ sym (ap (λ (u : Out Sheet). obind u (λ m. dumpedMetered b X cost m id spare)) (halts 0 at tx w c q)))
       where
         last : Sheet → Out Sheet
         last m = wrote (workMachine b X .start 0 m)
@@ -162,6 +176,66 @@ module _ (b : Btf) (s : List ℕ) (at : ℕ) (tx w : List ℕ) (id : ℕ) (o : O
 
         listed-all : all (sheet (o .len) at tx w₁) ≡ listedOut (workMachine b X) (tableOf X) (ok (sheet (o .len) at tx w₁) (o .«is_strong»))
         listed-all = ap (λ (l : List ℕ). obind (eeach (emitIn b X 512 0) l (sheet (o .len) at tx w₁)) last) (store-list b X (sheet (o .len) at tx w₁))
+
+-- ---- dump_type: where a call costs nothing, a request is the plain one
+beside-tell : (m : Sheet) (r : Res Marks) (left : ℕ) → besideOf m (tell r left) ≡ rmap (withMarks m) r
+unfolding besideOf tell
+beside-tell m (ok k f) left = refl
+beside-tell m (refused c) left = refl
+
+pub plain-is : (b : Btf) (B : Rules) (m : Sheet) (id left : ℕ) → dumpedMetered b B 0 m id left ≡ dumped (workMachine b B) (tableOf B) m id
+unfolding dumpedMetered dumped workMachine
+plain-is b B m id left =
+    ap (listedOut (workMachine b B) (tableOf B))
+    (ap (besideOf m) (metered-plain workStore 512 (tableOf B) (marksIn m) id false left) ∙ beside-tell m (order workStore 512 (tableOf B) (marksIn m) id false) left ∙ sym (lift-order (m .text) (m .at) 512 (tableOf B) (marksIn m) id false))
+
+pub dump-plain : (b : Btf) (B : Rules) (o : Out Sheet) (id left : ℕ) (x : Out Sheet) → x ≡ obind o (λ m. dumpedMetered b B 0 m id left) → x ≡ obind o (λ m. dumped (workMachine b B) (tableOf B) m id)
+dump-plain b B o id left x e = e ∙ ap (obind o) (λ i m. plain-is b B m id left i)
+
+-- ---- dump_type_within
+module _ (b : Btf) (s : List ℕ) (w : List ℕ) (id left : ℕ) where
+  abbrev opens : ℕ
+  opens = callsIn b s w id
+
+  abbrev marks : Marks
+  marks = record { work = w; len = 0 }
+
+  plain-rule : Res Marks
+  plain-rule = order workStore 512 (tableIn b s w) marks id false
+
+  rule-fits : opens ≤ left → orderedIn (btfOf b s w) 1 marks id left ≡ tell plain-rule (left - opens)
+  unfolding callsIn plain-rule
+  rule-fits l = metered-fits workStore 512 (tableIn b s w) marks id false left l
+
+  rule-over : left < opens → orderedIn (btfOf b s w) 1 marks id left ≡ halted 22 (left - opens)
+  unfolding callsIn
+  rule-over l = metered-over workStore 512 (tableIn b s w) marks id false left l
+
+  tell-count : (r : Res Marks) (j : ℕ) → countOf (tell r j) ≡ j
+  unfolding countOf tell
+  tell-count (ok m f) j = refl
+  tell-count (refused c) j = refl
+
+  pub within-spare : countOf (orderedIn (btfOf b s w) 1 marks id left) ≡ left - opens
+  unfolding countOf
+  within-spare = ⊎-elim (λ l. ap countOf (rule-fits l) ∙ tell-count plain-rule (left - opens)) (λ l. ap countOf (rule-over l)) (le-or-lt opens left)
+
+  module _ (at : ℕ) (tx : List ℕ) where
+    sheet-fits : opens ≤ left → dumpedMetered b (btfOf b s w) 1 (sheet 0 at tx w) id left ≡ dumpedWithin b (btfOf b s w) opens left (sheet 0 at tx w) id
+    unfolding dumpedMetered dumpedWithin dumped workMachine plain-rule
+    sheet-fits l =
+        ap (λ (t : Told Marks). listedOut (workMachine b (btfOf b s w)) (tableIn b s w) (besideOf (sheet 0 at tx w) t)) (rule-fits l)
+        ∙ ap (listedOut (workMachine b (btfOf b s w)) (tableIn b s w)) (beside-tell (sheet 0 at tx w) plain-rule (left - opens) ∙ sym (lift-order tx at 512 (tableIn b s w) marks id false))
+        ∙ sym (rw (le-leb opens left l, dumpedWithin))
+
+    sheet-over : left < opens → dumpedMetered b (btfOf b s w) 1 (sheet 0 at tx w) id left ≡ dumpedWithin b (btfOf b s w) opens left (sheet 0 at tx w) id
+    unfolding dumpedMetered dumpedWithin besideOf listedOut
+    sheet-over l =
+        ap (λ (t : Told Marks). listedOut (workMachine b (btfOf b s w)) (tableIn b s w) (besideOf (sheet 0 at tx w) t)) (rule-over l)
+        ∙ sym (rw (lt-leb opens left l, dumpedWithin))
+
+    pub dump-within : (x : Out Sheet) → x ≡ obind (emitOut 0 at tx w) (λ m. dumpedMetered b (btfOf b s w) 1 m id left) → x ≡ obind (emitOut 0 at tx w) (λ m. dumpedWithin b (btfOf b s w) opens left m id)
+    dump-within x e = e ∙ at-sheet 0 at tx w (λ m. dumpedMetered b (btfOf b s w) 1 m id left) (λ m. dumpedWithin b (btfOf b s w) opens left m id) (λ h. ⊎-elim sheet-fits sheet-over (le-or-lt opens left))
 
 -- ---- is_idle
 ignored-is : ℕ → Bool
@@ -266,6 +340,29 @@ module _ (b : Btf) (B : Rules) (at : ℕ) (tx w : List ℕ) (id : ℕ) where
   pub idle-request : isIdle (markOf (getField w id 1)) (tableOf B .node id) ≡ true → dumped (workMachine b B) (tableOf B) (sheet 0 at tx w) id ≡ wrote (sheet 0 at tx w)
   unfolding dumped workMachine
   idle-request e = idle-order 511 e
+
+-- and opens one call
+module _ (b : Btf) (s : List ℕ) (w : List ℕ) (id : ℕ) where
+  idle-fresh : (rec : Marks → ℕ → Bool → Res Marks) (count : Marks → ℕ → Bool → ℕ) (m : Marks) (nd : Node) → isIgnored nd ≡ true → callsFresh workStore (tableIn b s w) rec count m id false nd ≡ 0
+  unfolding isIgnored callsFresh
+  idle-fresh rec count m ignored e = refl
+  idle-fresh rec count m plain e = refl
+  idle-fresh rec count m (listed f) e = refl
+  idle-fresh rec count m (through a t) e = absurd (true≢false (sym e))
+  idle-fresh rec count m (ptr t) e = absurd (true≢false (sym e))
+  idle-fresh rec count m (tdef t) e = absurd (true≢false (sym e))
+  idle-fresh rec count m (proto ts) e = absurd (true≢false (sym e))
+  idle-fresh rec count m (comp ms) e = absurd (true≢false (sym e))
+
+  idle-opens : (rec : Marks → ℕ → Bool → Res Marks) (count : Marks → ℕ → Bool → ℕ) (m : Marks) (d : Mark) → isIdle d (tableIn b s w .node id) ≡ true → callsVisit workStore (tableIn b s w) rec count m id false d ≡ 0
+  unfolding isIdle callsVisit
+  idle-opens rec count m new e = idle-fresh rec count m (tableIn b s w .node id) e
+  idle-opens rec count m busy e = refl
+  idle-opens rec count m done e = refl
+
+  pub idle-calls : isIdle (markOf (getField w id 1)) (tableIn b s w .node id) ≡ true → callsIn b s w id ≡ 1
+  unfolding callsIn calls workStore
+  idle-calls e = ap suc (idle-opens (λ s′ y f. order workStore 511 (tableIn b s w) s′ y f) (λ s′ y f. calls workStore 511 (tableIn b s w) s′ y f) (record { work = w; len = 0 }) (markOf (getField w id 1)) e)
 
 -- ---- a request of the theory's session (`single` of the rules): its machine, with the list emptied, is what `dumped` leaves, or its number
 -- is the refusal

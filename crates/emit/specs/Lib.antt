@@ -1,2 +1,3 @@
+pub mod Metered
 pub mod Sheet
 pub mod Tagged

@@ -32,7 +32,7 @@ use typedefs::emit_typedef_def;
 ghost use mathlib.Core.Path.{_≡_};
 ghost use mathlib.Core.Bool.{not};
 ghost use lib.Dec.{eqb};
-ghost use Prim.Native.Nat.{ℕ};
+ghost use Prim.Native.Nat.{ℕ, _-_};
 ghost use Rattle.text.specs.Text.{ascii, whole, putOut, putText};
 ghost use Rattle.rules.specs.Machine.{pick, obind, eeach};
 ghost use Rattle.rules.specs.Types.{tableOf};
@@ -43,6 +43,8 @@ ghost use Rattle.btf.specs.Records.{recordById};
 ghost use Rattle.btf.specs.Table.{typeOf, btfOf, workNaming};
 ghost use Rattle.btf.specs.Nodes.{memberIds, paramIds};
 ghost use Rattle.order.specs.Work.{markOf, tableIn};
+ghost use Rattle.ceiling.specs.Ceiling.{countOf};
+ghost use Rattle.emit.specs.Metered.{orderedIn, dumpedMetered, callsIn, dumpedWithin};
 ghost use Rattle.emit.specs.Sheet.{sheetStore, emptied, emitOut, workMachine, emitIn, newIn, againIn, leafIn, compositeIn, onceIn, mentionIn, dumped, isIdle};
 
 fn get_emit_state(work: &[u8], id: u32) -> u32
@@ -432,6 +434,47 @@ pub fn is_idle(b: Btf, section: &[u8], work: &[u8], id: u32) -> bool
     }
 }
 
+// Where a request came to: the place after its text, or one past the end that says which refusal stopped it, and the calls
+// of ordering that are left.
+pub struct Dumped {
+    pub at: usize,
+    pub spare: u64,
+}
+
+// One request, with so many calls of ordering left. Each costs 1 under a ceiling, and 0 without one.
+fn dump_metered(
+    b: Btf,
+    section: &[u8],
+    work: &mut [u8],
+    text: &mut [u8],
+    at: usize,
+    id: u32,
+    spare: u64,
+    cost: u64,
+) -> Dumped
+    ensures { λ r. ⌜ (emitOut 0 (r .at) (now (text .exit)) (now (work .exit)) ≡ obind (emitOut 0 at (now (text .entry)) (now (work .entry))) (λ m. dumpedMetered b (btfOf b (now (section .entry)) (now (work .entry))) cost m id spare)) × (r .spare ≡ countOf (orderedIn (btfOf b (now (section .entry)) (now (work .entry))) cost (record { work = now (work .entry); len = 0 }) id spare)) ⌝ }
+{
+    let start = Order {
+        spare: spare,
+        len: 0,
+        stop: 0,
+        is_strong: false,
+    };
+    let o = order_type(b, section, work, start, id, false, 512, cost);
+    if o.stop != 0 {
+        return Dumped {
+            at: stop(text, at, o.stop),
+            spare: o.spare,
+        };
+    }
+    let r = emit_listed(b, section, work, text, at, o.len);
+    clear_list(work, o.len);
+    Dumped {
+        at: r,
+        spare: o.spare,
+    }
+}
+
 // One request: the place after its text, or one past the end that says which refusal stopped it.
 pub fn dump_type(
     b: Btf,
@@ -443,16 +486,21 @@ pub fn dump_type(
 ) -> usize
     ensures { λ r. ⌜ emitOut 0 r (now (text .exit)) (now (work .exit)) ≡ obind (emitOut 0 at (now (text .entry)) (now (work .entry))) (λ m. dumped (workMachine b (btfOf b (now (section .entry)) (now (work .entry)))) (tableOf (btfOf b (now (section .entry)) (now (work .entry)))) m id) ⌝ }
 {
-    let start = Order {
-        is_strong: false,
-        len: 0,
-        stop: 0,
-    };
-    let o = order_type(b, section, work, start, id, false, 512);
-    if o.stop != 0 {
-        return stop(text, at, o.stop);
-    }
-    let r = emit_listed(b, section, work, text, at, o.len);
-    clear_list(work, o.len);
-    r
+    let d = dump_metered(b, section, work, text, at, id, 0, 0);
+    d.at
+}
+
+// The same under a ceiling: `spare` calls of ordering are left, and 22 comes when one more would be opened.
+pub fn dump_type_within(
+    b: Btf,
+    section: &[u8],
+    work: &mut [u8],
+    text: &mut [u8],
+    at: usize,
+    id: u32,
+    spare: u64,
+) -> Dumped
+    ensures { λ r. ⌜ (emitOut 0 (r .at) (now (text .exit)) (now (work .exit)) ≡ obind (emitOut 0 at (now (text .entry)) (now (work .entry))) (λ m. dumpedWithin b (btfOf b (now (section .entry)) (now (work .entry))) (callsIn b (now (section .entry)) (now (work .entry)) id) spare m id)) × (r .spare ≡ spare - callsIn b (now (section .entry)) (now (work .entry)) id) ⌝ }
+{
+    dump_metered(b, section, work, text, at, id, spare, 1)
 }

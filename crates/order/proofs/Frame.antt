@@ -1,14 +1,16 @@
 -- The table in the work does not read the marks and the order list: a store to word 1 or 11 of a cell leaves it. Assumes nothing.
-use Prim.Native.Nat.{ℕ, zero, suc, _*_}
+use Prim.Native.Nat.{ℕ, zero, suc, _*_, _-_}
 use mathlib.Core.Path.{_≡_, refl, ap, _∙_, sym}
 use mathlib.Core.List.{List, [], _∷_}
 use mathlib.Core.Bool.{Bool, true, false, not, _&&_, _||_}
 use native.Mathlib.Omega.{arith}
-use Rattle.rules.specs.Order.{Table, Node, ignored, plain, listed, through, ptr, tdef, proto, comp, Mark, new, busy, done, Res, ok, refused, bind, isComp, isDone, each, meet, pushIf, finish, enter, alias, fresh, visit, order}
+use lib.Dec.{ltb}
+use Rattle.rules.specs.Order.{Table, Node, ignored, plain, listed, through, ptr, tdef, proto, comp, Mark, new, busy, done, isComp, isDone, pushIf, finish}
 use Rattle.btf.specs.declared.types.Btf.{Btf}
 use Rattle.btf.specs.Cells.{getField, putField}
 use Rattle.btf.specs.Table.{btfOf}
 use Rattle.btf.proofs.Frame.{table-field}
+use Rattle.ceiling.specs.Ceiling.{Told, told, halted, thenBind, eachWithin, meetWithin, enterWithin, aliasWithin, freshWithin, visitWithin, orderMetered}
 use Rattle.order.specs.Work.{Marks, markOf, code, workStore}
 
 module _ (b : Btf) (s : List ℕ) (w : List ℕ) (x v : ℕ) where
@@ -20,18 +22,18 @@ module _ (b : Btf) (s : List ℕ) (w : List ℕ) (x v : ℕ) where
 
 -- What ordering leaves alone: whatever reads neither words 1 nor words 11.
 module _ {X : Type 0} (P : List ℕ → X) where
-  pub data Stays (w : List ℕ) : Res Marks → Type 0 where
-    on : {m : Marks} {b : Bool} → P (m .work) ≡ P w → Stays w (ok m b)
-    off : {e : ℕ} → Stays w (refused e)
+  pub data Stays (w : List ℕ) : Told Marks → Type 0 where
+    on : {m : Marks} {b : Bool} {j : ℕ} → P (m .work) ≡ P w → Stays w (told m b j)
+    off : {e j : ℕ} → Stays w (halted e j)
 
-  pub stays-bind : (w : List ℕ) (r : Res Marks) (k : Marks → Bool → Res Marks) → Stays w r → ((m : Marks) (b : Bool) → Stays (m .work) (k m b)) → Stays w (bind r k)
-  unfolding bind
-  stays-bind w (ok m b) k (on e) h = go (k m b) (h m b)
+  pub stays-bind : (w : List ℕ) (r : Told Marks) (k : Marks → Bool → ℕ → Told Marks) → Stays w r → ((m : Marks) (b : Bool) (j : ℕ) → Stays (m .work) (k m b j)) → Stays w (thenBind r k)
+  unfolding thenBind
+  stays-bind w (told m b j) k (on e) h = go (k m b j) (h m b j)
     where
-      go : (r : Res Marks) → Stays (m .work) r → Stays w r
-      go (ok m′ b′) (on e′) = on (e′ ∙ e)
-      go (refused c) off = off
-  stays-bind w (refused c) k off h = off
+      go : (r : Told Marks) → Stays (m .work) r → Stays w r
+      go (told m′ b′ j′) (on e′) = on (e′ ∙ e)
+      go (halted c j′) off = off
+  stays-bind w (halted c j) k off h = off
 
   module _ (marks : (w : List ℕ) (x v : ℕ) → P (putField w x 1 v) ≡ P w) (lists : (w : List ℕ) (x v : ℕ) → P (putField w x 11 v) ≡ P w) where
     stays-mark : (k : Mark) (x : ℕ) (m : Marks) → P (workStore .mark k x m .work) ≡ P (m .work)
@@ -47,56 +49,63 @@ module _ {X : Type 0} (P : List ℕ → X) where
     stays-finish true x m = stays-mark done x (workStore .push x m) ∙ stays-push x m
     stays-finish false x m = stays-mark done x m
 
-    stays-each : (f : Marks → ℕ → Res Marks) → ((m : Marks) (y : ℕ) → Stays (m .work) (f m y)) → (ys : List ℕ) (m : Marks) (b : Bool) → Stays (m .work) (each f ys m b)
-    unfolding each
-    stays-each f h [] m b = on refl
-    stays-each f h (y ∷ ys) m b = stays-bind (m .work) (f m y) (λ s′ b′. each f ys s′ (b || b′)) (h m y) (λ m′ b′. stays-each f h ys m′ (b || b′))
+    stays-each : (f : Marks → ℕ → ℕ → Told Marks) → ((m : Marks) (y j : ℕ) → Stays (m .work) (f m y j)) → (ys : List ℕ) (m : Marks) (b : Bool) (j : ℕ) → Stays (m .work) (eachWithin f ys m b j)
+    unfolding eachWithin
+    stays-each f h [] m b j = on refl
+    stays-each f h (y ∷ ys) m b j = stays-bind (m .work) (f m y j) (λ s′ b′ j′. eachWithin f ys s′ (b || b′) j′) (h m y j) (λ m′ b′ j′. stays-each f h ys m′ (b || b′) j′)
 
-    stays-enter : (t : Bool) (f : Marks → ℕ → Res Marks) → ((m : Marks) (y : ℕ) → Stays (m .work) (f m y)) → (m : Marks) (x : ℕ) (nm : Bool) (ms : List ℕ) → Stays (m .work) (enter workStore t f m x nm ms)
-    unfolding enter
-    stays-enter true f h m x nm ms = on refl
-    stays-enter false f h m x nm ms = go (each f ms (workStore .mark busy x m) false) (stays-each f h ms (workStore .mark busy x m) false)
+    stays-enter : (t : Bool) (f : Marks → ℕ → ℕ → Told Marks) → ((m : Marks) (y j : ℕ) → Stays (m .work) (f m y j)) → (m : Marks) (x : ℕ) (nm : Bool) (ms : List ℕ) (j : ℕ) → Stays (m .work) (enterWithin workStore t f m x nm ms j)
+    unfolding enterWithin
+    stays-enter true f h m x nm ms j = on refl
+    stays-enter false f h m x nm ms j = go (eachWithin f ms (workStore .mark busy x m) false j) (stays-each f h ms (workStore .mark busy x m) false j)
       where
-        inner : (r : Res Marks) → Stays (workStore .mark busy x m .work) r → Stays (m .work) r
-        inner (ok m′ b′) (on e) = on (e ∙ stays-mark busy x m)
-        inner (refused c) off = off
+        inner : (r : Told Marks) → Stays (workStore .mark busy x m .work) r → Stays (m .work) r
+        inner (told m′ b′ j′) (on e) = on (e ∙ stays-mark busy x m)
+        inner (halted c j′) off = off
 
-        go : (r : Res Marks) → Stays (workStore .mark busy x m .work) r → Stays (m .work) (bind r (λ s′ b. ok (finish workStore nm x s′) true))
-        go r h = stays-bind (m .work) r (λ s′ b. ok (finish workStore nm x s′) true) (inner r h) (λ m′ b′. on (stays-finish nm x m′))
+        go : (r : Told Marks) → Stays (workStore .mark busy x m .work) r → Stays (m .work) (thenBind r (λ s′ b j′. told (finish workStore nm x s′) true j′))
+        go r h = stays-bind (m .work) r (λ s′ b j′. told (finish workStore nm x s′) true j′) (inner r h) (λ m′ b′ j′. on (stays-finish nm x m′))
 
-    stays-alias : (t was : Bool) (m : Marks) (x : ℕ) → Stays (m .work) (alias workStore t was m x)
-    unfolding alias
-    stays-alias true was m x = on (stays-finish (not was) x m)
-    stays-alias false was m x = on refl
+    stays-alias : (t was : Bool) (m : Marks) (x j : ℕ) → Stays (m .work) (aliasWithin workStore t was m x j)
+    unfolding aliasWithin
+    stays-alias true was m x j = on (stays-finish (not was) x m)
+    stays-alias false was m x j = on refl
 
-    module _ (T : Table) (rec : Marks → ℕ → Bool → Res Marks) (h : (m : Marks) (y : ℕ) (w : Bool) → Stays (m .work) (rec m y w)) (m : Marks) (x : ℕ) (weak : Bool) where
-      stays-fresh : (nd : Node) → Stays (m .work) (fresh workStore T rec m x weak nd)
-      unfolding fresh
+    module _ (T : Table) (rec : Marks → ℕ → Bool → ℕ → Told Marks) (h : (m : Marks) (y : ℕ) (w : Bool) (j : ℕ) → Stays (m .work) (rec m y w j)) (m : Marks) (x : ℕ) (weak : Bool) (j : ℕ) where
+      stays-fresh : (nd : Node) → Stays (m .work) (freshWithin workStore T rec m x weak nd j)
+      unfolding freshWithin
       stays-fresh ignored = on refl
       stays-fresh plain = on (stays-finish false x m)
       stays-fresh (listed f) = on (stays-finish (T .named x) x m)
-      stays-fresh (through a t) = h m t (not (a && T .strong-arrays) && weak)
-      stays-fresh (ptr t) = stays-bind (m .work) (rec m t true) (λ s′ b. ok (finish workStore false x s′) b) (h m t true) (λ m′ b′. on (stays-finish false x m′))
-      stays-fresh (tdef t) = stays-bind (m .work) (rec m t weak) (λ s′ b. alias workStore (not weak || b) (isDone (workStore .get s′ x)) s′ x) (h m t weak) (λ m′ b′. stays-alias (not weak || b′) (isDone (workStore .get m′ x)) m′ x)
-      stays-fresh (proto ts) = stays-each (λ s′ y. rec s′ y weak) (λ m′ y. h m′ y weak) ts m false
-      stays-fresh (comp ms) = stays-enter (weak && T .named x) (λ s′ y. rec s′ y false) (λ m′ y. h m′ y false) m x (T .named x) ms
+      stays-fresh (through a t) = h m t (not (a && T .strong-arrays) && weak) j
+      stays-fresh (ptr t) = stays-bind (m .work) (rec m t true j) (λ s′ b j′. told (finish workStore false x s′) b j′) (h m t true j) (λ m′ b′ j′. on (stays-finish false x m′))
+      stays-fresh (tdef t) =
+          stays-bind (m .work) (rec m t weak j) (λ s′ b j′. aliasWithin workStore (not weak || b) (isDone (workStore .get s′ x)) s′ x j′) (h m t weak j)
+          (λ m′ b′ j′. stays-alias (not weak || b′) (isDone (workStore .get m′ x)) m′ x j′)
+      stays-fresh (proto ts) = stays-each (λ s′ y j′. rec s′ y weak j′) (λ m′ y j′. h m′ y weak j′) ts m false j
+      stays-fresh (comp ms) = stays-enter (weak && T .named x) (λ s′ y j′. rec s′ y false j′) (λ m′ y j′. h m′ y false j′) m x (T .named x) ms j
 
-      stays-meet : (t : Bool) → Stays (m .work) (meet t m)
-      unfolding meet
+      stays-meet : (t : Bool) → Stays (m .work) (meetWithin t m j)
+      unfolding meetWithin
       stays-meet true = on refl
       stays-meet false = off
 
-      stays-visit : (k : Mark) → Stays (m .work) (visit workStore T rec m x weak k)
-      unfolding visit
+      stays-visit : (k : Mark) → Stays (m .work) (visitWithin workStore T rec m x weak k j)
+      unfolding visitWithin
       stays-visit new = stays-fresh (T .node x)
       stays-visit busy = stays-meet (isComp (T .node x) && (weak && T .named x))
       stays-visit done = on refl
 
-    pub stays-order : (n : ℕ) (T : Table) (m : Marks) (x : ℕ) (weak : Bool) → Stays (m .work) (order workStore n T m x weak)
-    unfolding order
-    stays-order zero T m x weak = off
-    stays-order (suc n) T m x weak = stays-visit T (λ s′ y w. order workStore n T s′ y w) (λ m′ y w. stays-order n T m′ y w) m x weak (workStore .get m x)
+    pub stays-order : (c n : ℕ) (T : Table) (m : Marks) (x : ℕ) (weak : Bool) (j : ℕ) → Stays (m .work) (orderMetered workStore c n T m x weak j)
+    unfolding orderMetered
+    stays-order c zero T m x weak j = off
+    stays-order c (suc n) T m x weak j = go (ltb j c) (stays-visit T (λ s′ y w j′. orderMetered workStore c n T s′ y w j′) (λ m′ y w j′. stays-order c n T m′ y w j′) m x weak (j - c) (workStore .get m x))
+      where
+        go : (p : Bool) → Stays (m .work) (visitWithin workStore T (λ s′ y w j′. orderMetered workStore c n T s′ y w j′) m x weak (workStore .get m x) (j - c))
+            → Stays (m .work) (elim p [ true ↦ halted 22 j | false ↦ visitWithin workStore T (λ s′ y w j′. orderMetered workStore c n T s′ y w j′) m x weak (workStore .get m x) (j - c) ])
+        go true h = off
+        go false h = h
 
 -- the table, in particular
-pub table-order : (b : Btf) (s : List ℕ) (n : ℕ) (T : Table) (m : Marks) (x : ℕ) (weak : Bool) → Stays (btfOf b s) (m .work) (order workStore n T m x weak)
+pub table-order : (b : Btf) (s : List ℕ) (c n : ℕ) (T : Table) (m : Marks) (x : ℕ) (weak : Bool) (j : ℕ) → Stays (btfOf b s) (m .work) (orderMetered workStore c n T m x weak j)
 table-order b s = stays-order (btfOf b s) (table-mark b s) (table-list b s)

@@ -13,18 +13,21 @@ use btf::word;
 use strings::is_named;
 ghost use mathlib.Core.Path.{_≡_};
 ghost use mathlib.Core.Bool.{false};
-ghost use Rattle.rules.specs.Order.{ok, bind, each, finish as finishOf, order};
+ghost use Prim.Native.Nat.{_≤_};
+ghost use Rattle.rules.specs.Order.{finish as finishOf};
+ghost use Rattle.ceiling.specs.Ceiling.{told, thenBind, eachWithin, orderMetered};
 ghost use Rattle.btf.specs.Cells.{getField, putField};
 ghost use Rattle.lent.specs.Words.{oneMore};
 ghost use Rattle.btf.specs.Nodes.{memberIds, paramIds};
-ghost use Rattle.order.specs.Work.{workStore, tableIn, orderOut, strongOf, refusedBy, meetIn, aliasIn, wayIn, enterIn, freshIn};
+ghost use Rattle.order.specs.Work.{workStore, tableIn, orderOut, strongOf, refusedBy, paidOf, meetIn, aliasIn, wayIn, enterIn, freshIn};
 
-// What ordering has come to: whether the last way was strong, the length of the order list, and the refusal that stopped
-// it, 0 while there is none.
+// What ordering has come to: the calls that are left under a ceiling, the length of the order list, the refusal that
+// stopped it, 0 while there is none, and whether the last way was strong.
 pub struct Order {
-    pub is_strong: bool,
+    pub spare: u64,
     pub len: u32,
     pub stop: u32,
+    pub is_strong: bool,
 }
 
 pub fn get_order_state(work: &[u8], id: u32) -> u32
@@ -64,9 +67,10 @@ fn strong(o: Order, is_strong: bool) -> Order
     ensures { λ r. ⌜ r ≡ strongOf o «is_strong» ⌝ }
 {
     Order {
-        is_strong: is_strong,
+        spare: o.spare,
         len: o.len,
         stop: o.stop,
+        is_strong: is_strong,
     }
 }
 
@@ -74,27 +78,42 @@ fn refused(o: Order, c: u32) -> Order
     ensures { λ r. ⌜ r ≡ refusedBy o c ⌝ }
 {
     Order {
-        is_strong: false,
+        spare: o.spare,
         len: o.len,
         stop: c,
+        is_strong: false,
+    }
+}
+
+// One call is opened, and takes its cost of those that are left.
+fn paid(o: Order, cost: u64) -> Order
+    requires { ⌜ cost ≤ o .spare ⌝ }
+    ensures { λ r. ⌜ r ≡ paidOf o cost ⌝ }
+{
+    Order {
+        spare: o.spare - cost,
+        len: o.len,
+        stop: o.stop,
+        is_strong: o.is_strong,
     }
 }
 
 // Puts an id at the end of the order list.
 fn push(work: &mut [u8], o: Order, id: u32) -> Order
-    ensures { λ r. ⌜ orderOut r (now (work .exit)) ≡ bind (orderOut o (now (work .entry))) (λ m b. ok (workStore .push id m) b) ⌝ }
+    ensures { λ r. ⌜ orderOut r (now (work .exit)) ≡ thenBind (orderOut o (now (work .entry))) (λ m b k. told (workStore .push id m) b k) ⌝ }
 {
     put_field(work, o.len, 11, id);
     Order {
-        is_strong: o.is_strong,
+        spare: o.spare,
         len: more(o.len),
         stop: o.stop,
+        is_strong: o.is_strong,
     }
 }
 
 // The id is ordered, and listed if `lists` says so.
 fn finish(work: &mut [u8], o: Order, id: u32, lists: bool, is_strong: bool) -> Order
-    ensures { λ r. ⌜ orderOut r (now (work .exit)) ≡ bind (orderOut o (now (work .entry))) (λ m _. ok (finishOf workStore lists id m) «is_strong») ⌝ }
+    ensures { λ r. ⌜ orderOut r (now (work .exit)) ≡ thenBind (orderOut o (now (work .entry))) (λ m _ k. told (finishOf workStore lists id m) «is_strong» k) ⌝ }
 {
     if o.stop != 0 {
         return o;
@@ -111,7 +130,7 @@ fn finish(work: &mut [u8], o: Order, id: u32, lists: bool, is_strong: bool) -> O
 // The typedef id, after its target. It may have been listed on the way to its target: then it is not listed again, since
 // a second listing prints nothing.
 fn finish_typedef(work: &mut [u8], o: Order, id: u32, has_ptr: bool) -> Order
-    ensures { λ r. ⌜ orderOut r (now (work .exit)) ≡ bind (orderOut o (now (work .entry))) (λ m strong. aliasIn m id «has_ptr» strong) ⌝ }
+    ensures { λ r. ⌜ orderOut r (now (work .exit)) ≡ thenBind (orderOut o (now (work .entry))) (λ m strong k. aliasIn m id «has_ptr» strong k) ⌝ }
 {
     if o.stop != 0 {
         return o;
@@ -126,7 +145,7 @@ fn finish_typedef(work: &mut [u8], o: Order, id: u32, has_ptr: bool) -> Order
 // An id in progress: a named composite behind a pointer is passed over, anything else is a cycle.
 fn meet(b: Btf, section: &[u8], work: &[u8], o: Order, id: u32, has_ptr: bool) -> Order
     requires { ⌜ o .stop ≡ 0 ⌝ }
-    ensures { λ r. ⌜ orderOut r (now (work .entry)) ≡ bind (orderOut o (now (work .entry))) (λ m _. meetIn (tableIn b (now (section .entry)) (now (work .entry))) m id «has_ptr») ⌝ }
+    ensures { λ r. ⌜ orderOut r (now (work .entry)) ≡ thenBind (orderOut o (now (work .entry))) (λ m _ k. meetIn (tableIn b (now (section .entry)) (now (work .entry))) m id «has_ptr» k) ⌝ }
 {
     if !has_ptr {
         return refused(o, 13);
@@ -141,6 +160,7 @@ fn meet(b: Btf, section: &[u8], work: &[u8], o: Order, id: u32, has_ptr: bool) -
     }
 }
 
+// A call costs 1 under a ceiling, and 0 where there is none: then it is never refused by 22, which comes after 12.
 pub fn order_type(
     b: Btf,
     section: &[u8],
@@ -149,8 +169,9 @@ pub fn order_type(
     id: u32,
     has_ptr: bool,
     left: u32,
+    cost: u64,
 ) -> Order
-    ensures { λ r. ⌜ orderOut r (now (work .exit)) ≡ bind (orderOut o (now (work .entry))) (λ m _. order workStore left (tableIn b (now (section .entry)) (now (work .entry))) m id «has_ptr») ⌝ }
+    ensures { λ r. ⌜ orderOut r (now (work .exit)) ≡ thenBind (orderOut o (now (work .entry))) (λ m _ k. orderMetered workStore cost left (tableIn b (now (section .entry)) (now (work .entry))) m id «has_ptr» k) ⌝ }
 {
     if o.stop != 0 {
         return o;
@@ -158,14 +179,18 @@ pub fn order_type(
     if left == 0 {
         return refused(o, 12);
     }
+    if o.spare < cost {
+        return refused(o, 22);
+    }
+    let p = paid(o, cost);
     let state = get_order_state(work, id);
     if state == 2 {
-        return strong(o, true);
+        return strong(p, true);
     }
     if state == 1 {
-        return meet(b, section, work, o, id, has_ptr);
+        return meet(b, section, work, p, id, has_ptr);
     }
-    order_new(b, section, work, o, id, has_ptr, left - 1)
+    order_new(b, section, work, p, id, has_ptr, left - 1, cost)
 }
 
 // An id that is not ordered yet.
@@ -177,8 +202,9 @@ fn order_new(
     id: u32,
     has_ptr: bool,
     left: u32,
+    cost: u64,
 ) -> Order
-    ensures { λ r. ⌜ orderOut r (now (work .exit)) ≡ bind (orderOut o (now (work .entry))) (λ m _. freshIn (tableIn b (now (section .entry)) (now (work .entry))) left m id «has_ptr») ⌝ }
+    ensures { λ r. ⌜ orderOut r (now (work .exit)) ≡ thenBind (orderOut o (now (work .entry))) (λ m _ k. freshIn (tableIn b (now (section .entry)) (now (work .entry))) left cost m id «has_ptr» k) ⌝ }
 {
     let t = type_by_id(b, section, work, id);
     match node_of(b, section, t) {
@@ -190,23 +216,23 @@ fn order_new(
         }
         Node::Through(is_array, t) => {
             let weak = !(is_array & b.strong_arrays) & has_ptr;
-            order_type(b, section, work, o, t, weak, left)
+            order_type(b, section, work, o, t, weak, left, cost)
         }
         Node::Ptr(t) => {
-            let r = order_type(b, section, work, o, t, true, left);
+            let r = order_type(b, section, work, o, t, true, left, cost);
             finish(work, r, id, false, r.is_strong)
         }
         Node::Typedef(t) => {
-            let r = order_type(b, section, work, o, t, has_ptr, left);
+            let r = order_type(b, section, work, o, t, has_ptr, left, cost);
             finish_typedef(work, r, id, has_ptr)
         }
         Node::Proto(res, params) => {
-            let r = order_type(b, section, work, o, res, has_ptr, left);
-            order_params(b, section, work, r, params, has_ptr, left)
+            let r = order_type(b, section, work, o, res, has_ptr, left, cost);
+            order_params(b, section, work, r, params, has_ptr, left, cost)
         }
         Node::Composite(members) => {
             let named = is_named(b, section, t);
-            order_composite(b, section, work, o, id, named, has_ptr, members, left)
+            order_composite(b, section, work, o, id, named, has_ptr, members, left, cost)
         }
     }
 }
@@ -222,14 +248,15 @@ fn order_composite(
     has_ptr: bool,
     members: Entries,
     left: u32,
+    cost: u64,
 ) -> Order
-    ensures { λ r. ⌜ orderOut r (now (work .exit)) ≡ bind (orderOut o (now (work .entry))) (λ m _. enterIn (tableIn b (now (section .entry)) (now (work .entry))) left m id «has_ptr» named (memberIds b (now (section .entry)) members)) ⌝ }
+    ensures { λ r. ⌜ orderOut r (now (work .exit)) ≡ thenBind (orderOut o (now (work .entry))) (λ m _ k. enterIn (tableIn b (now (section .entry)) (now (work .entry))) left cost m id «has_ptr» named (memberIds b (now (section .entry)) members) k) ⌝ }
 {
     if has_ptr & named {
         return strong(o, false);
     }
     set_order_state(work, id, 1);
-    let r = order_members(b, section, work, o, members, left);
+    let r = order_members(b, section, work, o, members, left, cost);
     finish(work, r, id, named, true)
 }
 
@@ -242,8 +269,9 @@ fn order_params(
     params: Entries,
     has_ptr: bool,
     left: u32,
+    cost: u64,
 ) -> Order
-    ensures { λ r. ⌜ orderOut r (now (work .exit)) ≡ bind (orderOut o (now (work .entry))) (λ m strong. each (wayIn (tableIn b (now (section .entry)) (now (work .entry))) left «has_ptr») (paramIds b (now (section .entry)) params) m strong) ⌝ }
+    ensures { λ r. ⌜ orderOut r (now (work .exit)) ≡ thenBind (orderOut o (now (work .entry))) (λ m strong k. eachWithin (wayIn (tableIn b (now (section .entry)) (now (work .entry))) left cost «has_ptr») (paramIds b (now (section .entry)) params) m strong k) ⌝ }
 {
     let vlen = params.vlen;
     let mut r = o;
@@ -251,7 +279,7 @@ fn order_params(
     while k < vlen {
         let before = r.is_strong;
         let t = word(b, section, param_place(params, k) + 4);
-        let p = order_type(b, section, work, r, t, has_ptr, left);
+        let p = order_type(b, section, work, r, t, has_ptr, left, cost);
         r = strong(p, before | p.is_strong);
         k += 1;
     }
@@ -266,8 +294,9 @@ fn order_members(
     o: Order,
     members: Entries,
     left: u32,
+    cost: u64,
 ) -> Order
-    ensures { λ r. ⌜ orderOut r (now (work .exit)) ≡ bind (orderOut o (now (work .entry))) (λ m strong. each (wayIn (tableIn b (now (section .entry)) (now (work .entry))) left false) (memberIds b (now (section .entry)) members) m strong) ⌝ }
+    ensures { λ r. ⌜ orderOut r (now (work .exit)) ≡ thenBind (orderOut o (now (work .entry))) (λ m strong k. eachWithin (wayIn (tableIn b (now (section .entry)) (now (work .entry))) left cost false) (memberIds b (now (section .entry)) members) m strong k) ⌝ }
 {
     let vlen = members.vlen;
     let mut r = o;
@@ -275,7 +304,7 @@ fn order_members(
     while k < vlen {
         let before = r.is_strong;
         let t = word(b, section, member_place(members, k) + 4);
-        let p = order_type(b, section, work, r, t, false, left);
+        let p = order_type(b, section, work, r, t, false, left, cost);
         r = strong(p, before | p.is_strong);
         k += 1;
     }

@@ -1,0 +1,63 @@
+use native.Mathlib.Omega.{arith}
+use Rattle.within.proofs.Laws as laws
+use borrow.Author.Needs.{needs}
+use Rattle.within.proofs.dump_one.Statement.{statement}
+use Rattle.within.proofs.dump_one.Tie as tie
+use Rattle.within.proofs.dump_one.Reads as reads
+use Rattle.within.proofs.dump_one.Lts as lts
+use Rattle.emit.proofs.dump_type_within.Reads as dump-type-within-reads
+use Rattle.within.proofs.arrived.Reads as arrived-reads
+use Rattle.within.proofs.limit.Reads as limit-reads
+
+limit-requires : tie.Need-limit-requires
+limit-requires c κs = search needs
+
+sub-dump-type-within : tie.Need-sub-dump-type-within
+sub-dump-type-within c = omega arith
+
+part-dump-type-within-start : tie.Need-part-dump-type-within-start
+part-dump-type-within-start c = omega arith
+
+part-dump-type-within-end : tie.Need-part-dump-type-within-end
+part-dump-type-within-end c = omega arith
+
+sub-dump-type-within-2 : tie.Need-sub-dump-type-within-2
+sub-dump-type-within-2 c = omega arith
+
+dump-type-within-requires : tie.Need-dump-type-within-requires
+dump-type-within-requires c κs = search needs
+
+sub-arrived : tie.Need-sub-arrived
+sub-arrived c = omega arith
+
+arrived-requires : tie.Need-arrived-requires
+arrived-requires c κs = (omega arith, laws.bound _ _ _ _ _ _ _ _ _ (c .before .before .before .before .before .before .before .limit .ensures .1) (c .before .before .before .before .before .before .before .limit .ensures .2) (c .before .before .before .before .before .before .before .before .before .before .before .pre .1) _ _ _ (c .before .before .before .before .dump-type-within .kept .1 .1 .1 .0) (c .before .before .before .before .dump-type-within .ensures .0))
+
+sub-t18 : tie.Need-sub-t18
+sub-t18 c = omega (arith, c .before .before .before .before .before .before .dump-type-within .ensures .1)
+
+same-length : tie.Need-same-length
+same-length c = search needs
+
+same-length-2 : tie.Need-same-length-2
+same-length-2 c = search needs
+
+returns : tie.Need-returns
+returns c = laws.one-within _ _ _ _ _ _ _ _ _ (c .before .before .before .before .before .before .before .before .before .limit .ensures .1) (c .before .before .before .before .before .before .before .before .before .limit .ensures .2) (c .before .before .before .before .before .before .before .before .before .before .before .before .before .pre .1) _ _ _ (c .before .before .before .before .before .before .dump-type-within .kept .1 .1 .1 .0) (c .before .before .before .before .before .before .dump-type-within .ensures .0) (c .before .before .before .before .before .before .before .before .before .limit .ensures .0) _ (c .before .arrived .ensures) _ (c .before .before .before .before .before .before .dump-type-within .ensures .1)
+
+pub dump-one-spec : {M : Type 1} → statement M
+dump-one-spec =
+    tie.close
+    (tie.spec
+    limit-requires
+    sub-dump-type-within
+    part-dump-type-within-start
+    part-dump-type-within-end
+    sub-dump-type-within-2
+    dump-type-within-requires
+    sub-arrived
+    arrived-requires
+    sub-t18
+    same-length
+    same-length-2
+    returns)

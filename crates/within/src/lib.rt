@@ -1,0 +1,196 @@
+// Requests under a ceiling on the calls of the ordering rule: one id, and all ids.
+use btf::Btf;
+use header::btf_of;
+use turns::Reached;
+use turns::Session;
+use turns::Turn;
+use turns::is_current;
+use turns::settle;
+use turns::turn_of;
+ghost use Prim.Native.Nat.{_+_, _-_, _<_, _≤_};
+ghost use mathlib.Core.Path.{_≡_};
+ghost use lib.ListN.{length};
+ghost use Rattle.requests.specs.Calls.{limitOf, arrivedAt};
+ghost use Rattle.within.specs.Within.{withinOf, countedOf, requestedWithin, requestedFromWithin, typeCallWithin, typesCallWithin};
+
+// What a call under a ceiling comes to, and the calls of the ordering rule that it made.
+pub struct Counted {
+    pub turn: Turn,
+    pub made: u64,
+}
+
+// Where the requests of a call have come to, and the calls made.
+struct Metered {
+    reached: Reached,
+    made: u64,
+}
+
+// How far a text slice may be written after its first bytes: 1,073,741,824 bytes at most.
+fn limit(text_len: usize, from: usize) -> usize
+    requires { ⌜ from ≤ «text_len» ⌝ }
+    ensures { λ r. ⌜ (r ≡ limitOf «text_len» from) × (from ≤ r) × (r ≤ «text_len») × (r - from ≤ 1073741824 - from) ⌝ }
+{
+    if text_len <= 1073741824 {
+        return text_len;
+    }
+    if from <= 1073741824 { 1073741824 } else { from }
+}
+
+// What a place in a slice of so many bytes says, after a text of len bytes: the new length, or a refusal.
+fn arrived(len: u32, room: usize, at: usize) -> Reached
+    requires { ⌜ (len + room < 4294967296) × (at ≤ room + 23) ⌝ }
+    ensures { λ r. ⌜ r ≡ arrivedAt len room at ⌝ }
+{
+    if at <= room {
+        return Reached {
+            len: len + (at as u32),
+            number: 0,
+        };
+    }
+    Reached {
+        len: len,
+        number: (at - room - 1) as u32,
+    }
+}
+
+// One id, after a text of len bytes and so many calls.
+fn dump_one(
+    b: Btf,
+    section: &[u8],
+    work: &mut [u8],
+    text: &mut [u8],
+    len: u32,
+    id: u32,
+    made: u64,
+    ceiling: u64,
+) -> Metered
+    requires { ⌜ (len ≤ length (now text)) × (made ≤ ceiling) ⌝ }
+    ensures { λ r. ⌜ (withinOf r (now (work .exit)) (now (text .exit)) ≡ requestedWithin ceiling b (now (section .entry)) id len (now (work .entry)) (now (text .entry)) made) × (r .reached .len ≤ length (now (text .exit))) × (r .made ≤ ceiling) ⌝ }
+{
+    let from = len as usize;
+    let to = limit(text.len(), from);
+    let d = emit::dump_type_within(b, section, work, &mut text[from..to], 0, id, ceiling - made);
+    Metered {
+        reached: arrived(len, to - from, d.at),
+        made: ceiling - d.spare,
+    }
+}
+
+// The same; most ids of a table have nothing to write, and open one call.
+fn dump_next(
+    b: Btf,
+    section: &[u8],
+    work: &mut [u8],
+    text: &mut [u8],
+    len: u32,
+    id: u32,
+    made: u64,
+    ceiling: u64,
+) -> Metered
+    requires { ⌜ (len ≤ length (now text)) × (made ≤ ceiling) ⌝ }
+    ensures { λ r. ⌜ (withinOf r (now (work .exit)) (now (text .exit)) ≡ requestedWithin ceiling b (now (section .entry)) id len (now (work .entry)) (now (text .entry)) made) × (r .reached .len ≤ length (now (text .exit))) × (r .made ≤ ceiling) ⌝ }
+{
+    if !emit::is_idle(b, section, work, id) {
+        return dump_one(b, section, work, text, len, id, made, ceiling);
+    }
+    if ceiling <= made {
+        return Metered {
+            reached: Reached {
+                len: len,
+                number: 22,
+            },
+            made: made,
+        };
+    }
+    Metered {
+        reached: Reached {
+            len: len,
+            number: 0,
+        },
+        made: made + 1,
+    }
+}
+
+// Every id from 1 upward, to the first that is refused.
+fn dump_all(
+    b: Btf,
+    section: &[u8],
+    work: &mut [u8],
+    text: &mut [u8],
+    len: u32,
+    ceiling: u64,
+) -> Metered
+    requires { ⌜ len ≤ length (now text) ⌝ }
+    ensures { λ r. ⌜ withinOf r (now (work .exit)) (now (text .exit)) ≡ requestedFromWithin ceiling b (now (section .entry)) (b .types - 1) 1 len (now (work .entry)) (now (text .entry)) 0 ⌝ }
+{
+    let n = b.types;
+    let mut r = Metered {
+        reached: Reached {
+            len: len,
+            number: 0,
+        },
+        made: 0,
+    };
+    let mut id: u32 = 1;
+    while id < n {
+        r = dump_next(b, section, work, text, r.reached.len, id, r.made, ceiling);
+        if r.reached.number != 0 {
+            return r;
+        }
+        id += 1;
+    }
+    r
+}
+
+pub fn dump_type_within(
+    s: Session,
+    section: &[u8],
+    work: &mut [u8],
+    text: &mut [u8],
+    id: u32,
+    ceiling: u64,
+) -> Counted
+    ensures { λ r. ⌜ countedOf r (now (work .exit)) (now (text .exit)) ≡ typeCallWithin ceiling s (now (section .entry)) (now (work .entry)) (now (text .entry)) id 0 ⌝ }
+{
+    if !is_current(s, section.len(), work.len(), text.len()) {
+        return Counted {
+            turn: turn_of(s, 11, s.text_len),
+            made: 0,
+        };
+    }
+    if s.types <= id {
+        return Counted {
+            turn: turn_of(s, 10, s.text_len),
+            made: 0,
+        };
+    }
+    let b = btf_of(section, s.pointer_size, s.modes, s.types);
+    let r = dump_one(b, section, work, text, s.text_len, id, 0, ceiling);
+    Counted {
+        turn: settle(s, work, text, r.reached),
+        made: r.made,
+    }
+}
+
+pub fn dump_types_within(
+    s: Session,
+    section: &[u8],
+    work: &mut [u8],
+    text: &mut [u8],
+    ceiling: u64,
+) -> Counted
+    ensures { λ r. ⌜ countedOf r (now (work .exit)) (now (text .exit)) ≡ typesCallWithin ceiling s (now (section .entry)) (now (work .entry)) (now (text .entry)) ⌝ }
+{
+    if !is_current(s, section.len(), work.len(), text.len()) {
+        return Counted {
+            turn: turn_of(s, 11, s.text_len),
+            made: 0,
+        };
+    }
+    let b = btf_of(section, s.pointer_size, s.modes, s.types);
+    let r = dump_all(b, section, work, text, s.text_len, ceiling);
+    Counted {
+        turn: settle(s, work, text, r.reached),
+        made: r.made,
+    }
+}
