@@ -18,7 +18,7 @@ use Rattle.opening.specs.Opened.{workOf}
 use Rattle.opening.specs.Causes.{openingNumber}
 use Rattle.fill.proofs.Zeros.{other-field}
 use Rattle.opening.proofs.ReadBack.{else-back}
-use Rattle.order.specs.Work.{markOf}
+use Rattle.marks.specs.Work.{markOf}
 use Rattle.demand.specs.Lists.{afresh}
 use Rattle.demand.specs.Session.{opened}
 use Rattle.ledger.proofs.Related.{alike-first}

@@ -24,7 +24,7 @@ use Rattle.btf.specs.Table.{from, btfOf, workNaming, typeVersionIn, valueVersio
 use Rattle.btf.proofs.Frame.{counted-other, table-type-version, table-value-version}
 use Rattle.btf.proofs.Laws.{place-type, place-enum}
 use Rattle.lent.proofs.Laws.{get-put-other, le-or-lt}
-use Rattle.order.specs.Work.{markOf}
+use Rattle.marks.specs.Work.{markOf}
 use Rattle.demand.specs.Lists.{Piece, defines, other, Line, cannot, Ls, putLine}
 use Rattle.demand.specs.Session.{Known, fitting, lineOf, textOf, machine}
 use Rattle.ledger.specs.Indexed.{Indexed, Fits, FitsValue}

@@ -22,7 +22,7 @@ use Rattle.btf.specs.Cells.{getField, putField, classP, countP, countOf, counte
 use Rattle.btf.specs.Table.{btfOf, workNaming, typeVersionIn, valueVersionIn, enumeratorOf}
 use Rattle.btf.proofs.Laws.{place-type, place-enum}
 use Rattle.btf.proofs.Frame.{field-other, table-field, table-type-version, table-value-version, counted-other}
-use Rattle.order.specs.Work.{code}
+use Rattle.marks.specs.Work.{code}
 use Rattle.emit.specs.Sheet.{Sheet, sheetOf, lineIn, workMachine}
 
 module _ {X : Type 0} (P : List ℕ → X) where

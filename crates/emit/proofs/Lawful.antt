@@ -27,8 +27,8 @@ use Rattle.btf.specs.Cells.{getField, putField, classP, countP, countOf, counte
 use Rattle.btf.specs.Table.{from, workNaming, typeVersionIn, valueVersionIn, enumeratorOf}
 use Rattle.btf.proofs.Laws.{place-type, place-enum}
 use Rattle.btf.proofs.Frame.{field-other, counted-other}
-use Rattle.order.specs.Work.{Marks, markOf, code, workStore}
-use Rattle.order.proofs.Lawful.{work-lawful}
+use Rattle.marks.specs.Work.{Marks, markOf, code, workStore}
+use Rattle.marks.proofs.Lawful.{work-lawful}
 use Rattle.emit.specs.Sheet.{Sheet, marksIn, withWork, sheetStore, emptied, sheetOf, lineIn, workMachine, dumped}
 use Rattle.emit.specs.Tagged.{Tagged, tagged, taggedMachine}
 use Rattle.emit.proofs.Maps.{omap, StoreMap, MachineMap, map-dumped}

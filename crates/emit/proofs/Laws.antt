@@ -30,8 +30,8 @@ use Rattle.btf.specs.Table.{from, membersOf, typeOf, btfOf, workNaming}
 use Rattle.btf.specs.Nodes.{nodeIs, memberIds, paramIds}
 use Rattle.btf.proofs.Frame.{field-other}
 use Rattle.btf.proofs.KindLaws.{by-kind, type-0, type-1, type-2, type-3, type-4, type-5, type-6, type-7, type-8, type-9, type-10, type-11, type-12, type-13, type-14, type-15, type-16, type-17, type-18, type-19, type-none}
-use Rattle.order.specs.Work.{markOf, tableIn}
-use Rattle.order.proofs.Laws.{is-done, is-busy, is-new, type-at, node-at, named-at, node-is}
+use Rattle.marks.specs.Work.{markOf, tableIn}
+use Rattle.marks.proofs.Laws.{is-done, is-busy, is-new, type-at, node-at, named-at, node-is}
 use Rattle.emit.specs.Sheet.{Sheet, sheetOf, withWork, emitOut, lineIn, workMachine, emitIn, newIn, againIn, leafIn, compositeIn, onceIn, mentionIn}
 use Rattle.emit.proofs.Frame.{Stays, on, off, stays-from, stays-then, table-emark, table-emit, table-each, places, places-emit}
 
@@ -46,12 +46,6 @@ not-true false e = refl
 pub not-false : (x : Bool) → not x ≡ false → x ≡ true
 not-false true e = refl
 not-false false e = sym e
-
-pub lt-ne : (k a c : ℕ) → k < a → a ≤ c → k ≡ c → ⊥
-lt-ne k a c l h e = omega arith
-
-pub gt-ne : (k a c : ℕ) → a ≤ k → c < a → k ≡ c → ⊥
-gt-ne k a c l h e = omega arith
 
 -- ---- a place inside, or a refusal
 pub goes : (n at : ℕ) (t w : List ℕ) → at ≤ length t → emitOut n at t w ≡ wrote (sheet n at t w)

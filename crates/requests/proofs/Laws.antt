@@ -22,7 +22,7 @@ use Rattle.rules.specs.Place.{outOf, withNames}
 use Rattle.btf.specs.declared.types.Btf.{Btf}
 use Rattle.btf.specs.Cells.{getField}
 use Rattle.btf.specs.Table.{btfOf, from}
-use Rattle.order.specs.Work.{markOf, workStore, tableIn}
+use Rattle.marks.specs.Work.{markOf, workStore, tableIn}
 use Rattle.opening.specs.declared.Opening.{Opening}
 use Rattle.opening.specs.declared.Opening.the-variants.{Refused as Unsound, Sound}
 use Rattle.header.specs.Header.{btfOf as settingsOf}

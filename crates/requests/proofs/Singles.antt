@@ -25,7 +25,7 @@ use Rattle.rules.proofs.Refusals.{Tells, tells-definition, tells-forward}
 use Rattle.btf.specs.declared.types.Btf.{Btf}
 use Rattle.btf.specs.Cells.{getField, putField, classP, countP, withMore, countOf, counted}
 use Rattle.btf.specs.Table.{btfOf, typeVersionIn, enumeratorOf, valueVersionIn, workNaming}
-use Rattle.order.specs.Work.{workStore}
+use Rattle.marks.specs.Work.{workStore}
 use Rattle.emit.specs.Sheet.{Sheet, sheetStore, sheetOf, emptied, lineIn, workMachine, dumped}
 use Rattle.header.specs.Header.{btfOf as settingsOf}
 use Rattle.turns.specs.declared.Session.{Session}

@@ -87,7 +87,7 @@ fn dump_one(b: Btf, section: &[u8], work: &mut [u8], text: &mut [u8], len: u32, 
 {
     let from = len as usize;
     let to = limit(text.len(), from);
-    let at = emit::dump_type(b, section, work, &mut text[from..to], 0, id);
+    let at = dump::dump_type(b, section, work, &mut text[from..to], 0, id);
     arrived(len, to - from, at)
 }
 
@@ -96,7 +96,7 @@ fn dump_next(b: Btf, section: &[u8], work: &mut [u8], text: &mut [u8], len: u32,
     requires { ⌜ len ≤ length (now text) ⌝ }
     ensures { λ r. ⌜ (reachOf r (now (work .exit)) (now (text .exit)) ≡ requested b (now (section .entry)) id len (now (work .entry)) (now (text .entry))) × (r .len ≤ length (now (text .exit))) ⌝ }
 {
-    if emit::is_idle(b, section, work, id) {
+    if dump::is_idle(b, section, work, id) {
         return Reached {
             len: len,
             number: 0,

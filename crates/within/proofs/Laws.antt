@@ -20,11 +20,11 @@ use Rattle.rules.specs.Place.{outOf, withNames}
 use Rattle.btf.specs.declared.types.Btf.{Btf}
 use Rattle.btf.specs.Cells.{getField}
 use Rattle.btf.specs.Table.{btfOf}
-use Rattle.order.specs.Work.{markOf, tableIn}
+use Rattle.marks.specs.Work.{markOf, tableIn}
 use Rattle.header.specs.Header.{btfOf as settingsOf}
 use Rattle.emit.specs.Sheet.{Sheet, sheetOf, emitOut, workMachine, dumped, isIdle}
-use Rattle.emit.specs.Metered.{callsIn, dumpedWithin}
-use Rattle.emit.proofs.Requests.{idle-calls}
+use Rattle.dump.specs.Metered.{callsIn, dumpedWithin}
+use Rattle.dump.proofs.Requests.{idle-calls}
 use Rattle.turns.specs.declared.Session.{Session}
 use Rattle.turns.specs.declared.Turn.{Turn}
 use Rattle.turns.specs.declared.Reached.{Reached}

@@ -6,7 +6,7 @@ use mathlib.Core.List.{List}
 use lib.ListN.{length, take}
 use lib.Dec.{leb, ltb}
 use Rattle.btf.specs.declared.types.Btf.{Btf}
-use Rattle.emit.specs.Metered.{callsIn}
+use Rattle.dump.specs.Metered.{callsIn}
 use Rattle.turns.specs.declared.Session.{Session}
 use Rattle.turns.specs.Turns.{Call, callOf, isCurrent, tableFor, Reach, reached, refusedBy, reachOf, settled, unchanged}
 use Rattle.requests.specs.Refusals.{notCurrent, idNotBelow, refusal}

@@ -69,7 +69,7 @@ fn dump_one(
 {
     let from = len as usize;
     let to = limit(text.len(), from);
-    let d = emit::dump_type_within(b, section, work, &mut text[from..to], 0, id, ceiling - made);
+    let d = dump::dump_type_within(b, section, work, &mut text[from..to], 0, id, ceiling - made);
     Metered {
         reached: arrived(len, to - from, d.at),
         made: ceiling - d.spare,
@@ -90,7 +90,7 @@ fn dump_next(
     requires { ⌜ (len ≤ length (now text)) × (made ≤ ceiling) ⌝ }
     ensures { λ r. ⌜ (withinOf r (now (work .exit)) (now (text .exit)) ≡ requestedWithin ceiling b (now (section .entry)) id len (now (work .entry)) (now (text .entry)) made) × (r .reached .len ≤ length (now (text .exit))) × (r .made ≤ ceiling) ⌝ }
 {
-    if !emit::is_idle(b, section, work, id) {
+    if !dump::is_idle(b, section, work, id) {
         return dump_one(b, section, work, text, len, id, made, ceiling);
     }
     if ceiling <= made {

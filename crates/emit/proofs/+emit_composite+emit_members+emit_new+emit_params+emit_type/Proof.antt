@@ -3,7 +3,7 @@ use mathlib.Core.Bool.{true, false}
 use mathlib.Core.Path.{_≡_, refl, ap, sym, _∙_}
 use lib.ListN.{length}
 use Prim.Native.Nat.{ℕ, zero-le, _<_, _≤_, _+_, _-_, _*_}
-use Rattle.order.proofs.Laws.{entry-word}
+use Rattle.marks.proofs.Laws.{entry-word}
 use Rattle.emit.proofs.Laws as laws
 use borrow.Author.Needs.{needs}
 use native.Mathlib.Omega.{arith}
@@ -31,7 +31,7 @@ use Rattle.btf.proofs.param_place.Reads as param-place-reads
 use Rattle.btf.proofs.type_by_id.Reads as type-by-id-reads
 use Rattle.btf.proofs.word.Reads as word-reads
 use Rattle.emit.proofs.emit_again.Reads as emit-again-reads
-use Rattle.emit.proofs.emit_definition.Reads as emit-definition-reads
+use Rattle.lines.proofs.emit_definition.Reads as emit-definition-reads
 use Rattle.emit.proofs.emit_leaf.Reads as emit-leaf-reads
 use Rattle.emit.proofs.emit_mention.Reads as emit-mention-reads
 use Rattle.emit.proofs.emit_once.Reads as emit-once-reads
