@@ -16,7 +16,7 @@ use Rattle.reader.specs.Looking.{tokensAt, tokenSign, signOf, spanOf, Lo
 use Rattle.reader.specs.declared.tokens.Tok.{Tok}
 use Rattle.reader.specs.declared.bases.Quals.{Quals}
 use Rattle.reader.specs.declared.bases.Base.{Base}
-use Rattle.reader.proofs.Shapes.{passed, failed}
+use Rattle.reader.proofs.Cases.{passed, failed}
 
 abbrev Ts : Type 0
 Ts = List (Token Span)

@@ -17,7 +17,7 @@ use Rattle.rules.specs.Decl.{qualifier}
 use Rattle.reader.specs.Tokens.{Kind, tagWord, voidWord, otherWord, Token, qual, word, number, mark, isDigit, isLetter, isWordByte, inRun, allOf, identifier, valueOf, isCount, kindOf, wordToken, runToken}
 use Rattle.reader.specs.Looking.{tokenSign, tokenCount, tokenSpan, countValue, kindSign, wordSign, runSign, runCount}
 use Rattle.reader.specs.Encoding.{Span}
-use Rattle.reader.proofs.Shapes.{passed, failed}
+use Rattle.reader.proofs.Cases.{passed, failed}
 
 false-true : false ≡ true → ⊥
 false-true q = let k : _≡_ {A = ℕ} 0 1 = cc in omega arith

@@ -1,10 +1,5 @@
--- What the definitions of the reader come to.
-pub mod Samples
-pub mod Shapes
-pub mod Grammar
-pub mod Lexing
-pub mod RoundTrip
-pub mod Rules
+-- Laws of the reader's definitions, for its code.
+pub mod Cases
 pub mod Bytes
 pub mod Places
 pub mod BaseLaws

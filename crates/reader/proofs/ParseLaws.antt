@@ -17,7 +17,7 @@ use Rattle.reader.specs.declared.tokens.Tok.{Tok}
 use Rattle.reader.specs.declared.bases.Quals.{Quals}
 use Rattle.reader.specs.declared.bases.Base.{Base}
 use Rattle.reader.specs.declared.items.Spot.{Spot}
-use Rattle.reader.proofs.Shapes.{passed, failed}
+use Rattle.reader.proofs.Cases.{passed, failed}
 use Rattle.reader.proofs.ItemLaws.{on, placing-on, placing-then}
 use Rattle.reader.proofs.BaseLaws.{begins-sign, word-sign}
 

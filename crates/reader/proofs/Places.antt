@@ -14,7 +14,7 @@ use Rattle.reader.specs.Reading.{rest}
 use Rattle.reader.specs.Encoding.{Span, places}
 use Rattle.reader.specs.Looking.{tokensAt, tokenSign, tokenCount, tokenSpan, signOf, countOf, spanOf, Looked, Skipped, Ran, runSign, runCount}
 use Rattle.reader.specs.declared.tokens.Tok.{Tok}
-use Rattle.reader.proofs.Shapes.{passed, failed}
+use Rattle.reader.proofs.Cases.{passed, failed}
 use Rattle.reader.proofs.Bytes.{drop-end, sign-any, count-any, span-any}
 
 abbrev tk : List ℕ → List ℕ → List ℕ → List (Token Span)

@@ -18,7 +18,7 @@ use Rattle.reader.specs.Emission.{outcome, emits, baseItems}
 use Rattle.reader.specs.declared.tokens.Tok.{Tok}
 use Rattle.reader.specs.declared.bases.Base.{Base}
 use Rattle.reader.specs.declared.items.Spot.{Spot}
-use Rattle.reader.proofs.Shapes.{passed, failed}
+use Rattle.reader.proofs.Cases.{passed, failed}
 use Rattle.reader.proofs.ItemLaws.{placing-then}
 use Rattle.reader.proofs.ParseLaws as parse
 

@@ -11,12 +11,12 @@ use Rattle.rules.specs.Types.{Name, isEmpty, Qualifier, Param, Btf, BtfType, Me
 use Rattle.rules.specs.Names.{Naming}
 use Rattle.rules.specs.Writer.{Ask, got, no, Writer, said, after, next, put, given, _⨾_}
 use Rattle.rules.specs.Decl.{Entry, base, star, qual, array as count, proto as list, chainOf, mods, noMods, isArray, noParams, shownParams, sepName, qualifier, brackets, parens, emitName, emitParam, emitParams, baseWord, emitArray, emitProto, paramList, chainLoop, emitTypeDecl, emitTypeChain, emitCompositeDef}
 use Rattle.reader.specs.Chain.{Layers, named, pointer, array, proto, Params, closed, dots, param, Chain}
 use Rattle.reader.specs.Reading.{chain, read}
-use Rattle.reader.specs.Written.{qualsBefore, qualsBehind, spaced, star as starText, namePart, gap, beforeCount, beforeParams, comma, layersText, paramsText, written, Word, Covered}
-use Rattle.reader.specs.Drawn.{qualEntries, Prints, LayersAre, ParamsAre, Draws}
-use Rattle.reader.proofs.Shapes.{passed, failed}
-use Rattle.reader.proofs.RoundTrip.{round-trip}
+use Rattle.declarations.specs.Written.{qualsBefore, qualsBehind, spaced, star as starText, namePart, gap, beforeCount, beforeParams, comma, layersText, paramsText, written, Word, Covered}
+use Rattle.declarations.specs.Drawn.{qualEntries, Prints, LayersAre, ParamsAre, Draws}
+use Rattle.reader.proofs.Cases.{passed, failed}
+use Rattle.declarations.proofs.RoundTrip.{round-trip}
 
 module _ {U : Type 0} where
   seq : (v w : Writer U) (u u₁ u₂ : U) (a b : List ℕ) → v u ≡ said u₁ (whole a) → w u₁ ≡ said u₂ (whole b) → (v ⨾ w) u ≡ said u₂ (whole (a ++ b))

@@ -7,12 +7,12 @@ use Rattle.rules.specs.Names.{sameBytes, naming}
 use Rattle.rules.specs.Writer.{put}
 use Rattle.rules.specs.Samples.{declarators, unnamed}
 use Rattle.rules.specs.Decl.{qualifier, star, array as count, chainOf, chainOn, baseWord}
-use Rattle.reader.specs.Written.{spaced, wordsBehind}
-use Rattle.reader.specs.Drawn.{Draws}
+use Rattle.declarations.specs.Written.{spaced, wordsBehind}
+use Rattle.declarations.specs.Drawn.{Draws}
 use Rattle.reader.specs.Chain.{named, pointer, array, layerEntries, paramEntries, entries}
 use Rattle.reader.specs.Tokens.{isDigit, isLetter, isWordByte, inRun, allOf, identifier, valueOf, isCount, kindOf, wordToken, runToken, lone, ended, tokens}
 use Rattle.reader.specs.Reading.{among, distinct, andThen, begins, beginsWord, rest, bracketed, qualRun, afterQuals, endsName, wordRun, afterWords, noTags, single, isBase, wordsOf, readBase, wanted, wantedName, wantedCount, voidBefore, declarator, suffixes, params, paramList, paramEnd, readTokens, counted, whole, readWith, read}
-use Rattle.reader.specs.Samples.{samples, allGiven, allWanted}
+use Rattle.declarations.specs.Samples.{samples, allGiven, allWanted}
 
 pub samples-hold : allGiven samples ≡ allWanted samples
 unfolding isEmpty sameBytes qualifier layerEntries paramEntries entries isDigit isLetter isWordByte inRun allOf identifier valueOf isCount kindOf wordToken

@@ -6,10 +6,11 @@ use mathlib.Core.List.{List, [], _∷_}
 use native.Mathlib.Omega.{arith}
 use lib.Dec.{eqb}
 use Rattle.rules.specs.Types.{Qualifier}
 use Rattle.reader.specs.Chain.{Layers, named, pointer, array, proto, Params, closed, dots, param}
 use Rattle.reader.specs.Tokens.{Kind, tagWord, voidWord, otherWord, Token, qual, word, number, mark, kindOf}
 use Rattle.reader.specs.Reading.{Reads, Spelt, spelt, begins, beginsWord, rest, bracketed, qualRun, afterQuals, endsName, wordRun, afterWords, single, isBase, wordsOf, voidBefore, distinct, readBase}
-use Rattle.reader.specs.Written.{isVoid, plainVoid, noLayers, spelling, Base, Allowed, AllowedParams, isArrayable, returnable}
+use Rattle.declarations.specs.Written.{isVoid, plainVoid, noLayers, spelling, Base, Allowed, AllowedParams, isArrayable, returnable}
+use Rattle.reader.proofs.Cases.{false-true, passed}
 
 abbrev pub Tok : Type 0
 Tok = Token (List ℕ)
@@ -64,9 +65,6 @@ pub data Stops : List Tok → Type 0 where
   at-end : Stops []
   at-close : {r : List Tok} → Stops (mark 41 ∷ r)
   at-comma : {r : List Tok} → Stops (mark 44 ∷ r)
-
-false-true : false ≡ true → ⊥
-false-true q = let k : _≡_ {A = ℕ} 0 1 = cc in omega arith
 
 abbrev pub beginsQual : List Tok → Bool
 beginsQual [] = false
@@ -252,15 +250,6 @@ at-41 = record { no-open = refl; no-star = refl; no-bracket = refl }
 
 pub at-44 : Behind 44
 at-44 = record { no-open = refl; no-star = refl; no-bracket = refl }
-
--- a test that passed, and one that failed
-pub passed : {A : Type 0} → (b : Bool) (x y : A) → b ≡ true → elim b [ true ↦ x | false ↦ y ] ≡ x
-passed true x y e = refl
-passed false x y e = absurd (false-true e)
-
-pub failed : {A : Type 0} → (b : Bool) (x y : A) → b ≡ false → elim b [ true ↦ x | false ↦ y ] ≡ y
-failed true x y e = absurd (false-true (sym e))
-failed false x y e = refl
 
 both : (a b : Bool) → a ≡ true → b ≡ true → (a && b) ≡ true
 both true b e f = f

@@ -3,12 +3,12 @@ use Prim.Native.Nat.{ℕ}
 use mathlib.Core.Path.{_≡_, refl, ap, _∙_}
 use mathlib.Core.List.{List, []}
 use borrow.Author.Tests.{le-leb}
 use Rattle.reader.specs.Chain.{Chain, entries}
 use Rattle.reader.specs.Tokens.{tokens}
 use Rattle.reader.specs.Reading.{asBytes, reads, Read, chain, readTokens, counted, whole, readWith, read}
-use Rattle.reader.specs.Written.{written, Word, Covered}
-use Rattle.reader.proofs.Grammar.{tokens-read}
-use Rattle.reader.proofs.Lexing.{written-tokens}
+use Rattle.declarations.specs.Written.{written, Word, Covered}
+use Rattle.declarations.proofs.Grammar.{tokens-read}
+use Rattle.declarations.proofs.Lexing.{written-tokens}
 
 few-counted : (c : Chain (List ℕ)) → Covered c → counted c ≡ chain c
 unfolding counted

@@ -1,0 +1,7 @@
+-- What the definitions of the reader come to.
+pub mod Samples
+pub mod Shapes
+pub mod Grammar
+pub mod Lexing
+pub mod RoundTrip
+pub mod Rules
