@@ -4,4 +4,6 @@ pub mod Shapes
 pub mod Grammar
 pub mod Lexing
 pub mod RoundTrip
+pub mod Natural
+pub mod AtPlaces
 pub mod Rules

@@ -1,3 +1,4 @@
 pub mod Written
+pub mod Places
 pub mod Drawn
 pub mod Samples
