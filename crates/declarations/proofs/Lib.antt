@@ -6,4 +6,6 @@ pub mod Lexing
 pub mod RoundTrip
 pub mod Natural
 pub mod AtPlaces
+pub mod Parses
+pub mod Bound
 pub mod Rules

@@ -1,4 +1,5 @@
 pub mod Written
 pub mod Places
+pub mod Enough
 pub mod Drawn
 pub mod Samples
