@@ -33,7 +33,7 @@ module _ {U W : Type 0} (f : U → W) where
       (chosen (eachToken f) (sameBytes run (ascii "...")) (sameBytes run (ascii "...")) _ _ _ _ refl refl refl))
 
 -- where a run stands
-place-bytes : (p run r : List ℕ) → bytesAt (p ++ (run ++ r)) (places (length (p ++ (run ++ r))) (length r) run) ≡ run
+pub place-bytes : (p run r : List ℕ) → bytesAt (p ++ (run ++ r)) (places (length (p ++ (run ++ r))) (length r) run) ≡ run
 place-bytes p run r =
     let n : ℕ = length (p ++ (run ++ r)) in
     let a : n - (length r + length run) ≡ length p = omega (arith, length-append p (run ++ r), length-append run r) in

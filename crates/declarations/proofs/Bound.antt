@@ -21,7 +21,7 @@ Ts = List (Token (List ℕ))
 -- a text that is read under some bound is read under every one past four calls an entry
 larger : (f g : ℕ) (ts : Ts) (c : Chain (List ℕ)) (us : Ts) → readUnder f ts ≡ reads c us → 4 * entries c ≤ g + 2 → readUnder g ts ≡ reads c us
 unfolding entries
-larger f g ts c us e b = (rw e at (parses.under-good (λ ts. Unit {0}) (λ ws. Unit {0}) (λ ts t. tt) (λ ts t. tt) (λ n ts t. (tt, tt)) f ts)) .more g (omega arith)
+larger f g ts c us e b = (rw e at (parses.under-good (λ ts. Unit {0}) (λ ws. Unit {0}) (λ ts t. tt) (λ ts t. tt) (λ n ts b t. (tt, tt)) f ts)) .more g (omega arith)
 
 -- `most` is the reader's bound
 same-bound : (ts : Ts) → readTokens ts ≡ readUnder most ts

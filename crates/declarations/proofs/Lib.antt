@@ -8,4 +8,6 @@ pub mod Natural
 pub mod AtPlaces
 pub mod Parses
 pub mod Bound
+pub mod Laid
+pub mod Decoding
 pub mod Rules

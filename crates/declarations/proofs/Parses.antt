@@ -54,7 +54,7 @@ module _
   {W : Type 0} (T : List (Token W) → Type 0) (N : List W → Type 0)
   (on : (ts : List (Token W)) → T ts → T (rest ts))
   (past : (ts : List (Token W)) → T ts → T (afterQuals ts))
-  (worded : (n : Bool) (ts : List (Token W)) → T ts → N (wordsOf (wordRun n ts)) × T (afterWords n ts))
+  (worded : (n : Bool) (ts : List (Token W)) → isBase (wordRun n ts) ≡ true → T ts → N (wordsOf (wordRun n ts)) × T (afterWords n ts))
   where
   abbrev Ts : Type 0
   Ts = List (Token W)
@@ -122,7 +122,7 @@ module _
         let q : List Qualifier = qualRun ts in
         let ss : List (Spelt W) = wordRun n (afterQuals ts) in
         let us : Ts = afterWords n (afterQuals ts) in
-        by-test (If P) (distinct q && isBase ss) (k q ss us) fails (λ e. h q ss us (λ j. passed (distinct q && isBase ss) (j q ss us) fails e) (λ t. worded n (afterQuals ts) (past ts t))) (λ e. tt)
+        by-test (If P) (distinct q && isBase ss) (k q ss us) fails (λ e. h q ss us (λ j. passed (distinct q && isBase ss) (j q ss us) fails e) (λ t. worded n (afterQuals ts) (both-true (distinct q) (isBase ss) e .1) (past ts t))) (λ e. tt)
 
   -- behind a star
   star-good : (n : Bool) (ts : Ts) (l : Layers W) (us : Ts) → begins 42 ts ≡ true → distinct (qualRun (rest ts)) ≡ true
