@@ -71,6 +71,7 @@ module _ (s : List ℕ) where
           let same : d ≡ c = cc in
           (record { bound = most; reads-it = p ∙ ap (λ x. reads x []) same }, rw same at (leb-true (entries d) 512 l))
       counts d false l p q = absurd (chain-refused c q)
+
       go : (x : Reads (List ℕ) (Chain (List ℕ))) → readUnder most ts ≡ x → whole x ≡ chain c → Declares s c × (entries c ≤ 512)
       go (reads d []) p q = counts d (leb (entries d) 512) refl p q
       go (reads d (t ∷ us)) p q = absurd (chain-refused c q)

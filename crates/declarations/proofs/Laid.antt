@@ -226,6 +226,7 @@ module _ (s : List ℕ) where
     where
       split-up : s ≡ ((p ++ run) ++ c ∷ []) ++ r
       split-up = h ∙ sym (append-assoc p run (c ∷ r)) ∙ sym (append-assoc (p ++ run) (c ∷ []) r)
+
       cut : drop (w .to) ((p ++ run) ++ c ∷ []) ≡ c ∷ []
       cut = rw (e, ← (length-append p run)) (drop-append-seam (p ++ run) (c ∷ []))
 

@@ -1,5 +1,5 @@
 -- `written` is what the rules write: emit_type_decl of a type that has the chain prints the chain's text. Assumes nothing.
-use Prim.Native.Nat.{ℕ, zero, suc, _+_, _≤_}
+use Prim.Native.Nat.{ℕ, zero, suc, max, _+_, _≤_}
 use mathlib.Core.Path.{_≡_, refl, ap, sym, _∙_}
 use mathlib.Core.Bool.{Bool, true, false, not, _&&_}
 use mathlib.Core.List.{List, [], _∷_, _++_, append-assoc, append-nil}
@@ -36,18 +36,18 @@ module _ {U : Type 0} where
   name-is f true u = refl
   name-is f false u = refl
 
--- the calls that layers and parameters take
+-- the calls that layers and parameters take, one inside another
 abbrev mutual
   pub deep : Layers (List ℕ) → ℕ
   deep named = 0
   deep (pointer q l) = deep l
   deep (array n l) = 1 + deep l
-  deep (proto ps l) = 1 + deep l + paramsDeep ps
+  deep (proto ps l) = max (1 + deep l) (paramsDeep ps)
 
   pub paramsDeep : Params (List ℕ) → ℕ
   paramsDeep closed = 0
   paramsDeep dots = 0
-  paramsDeep (param q ws l ps) = 2 + deep l + paramsDeep ps
+  paramsDeep (param q ws l ps) = max (2 + deep l) (paramsDeep ps)
 
 three : (a b c d : List ℕ) → a ++ ((b ++ c) ++ d) ≡ ((a ++ b) ++ c) ++ d
 three a b c d = simp append-assoc
@@ -226,7 +226,7 @@ module _ {U : Type 0} (N : Naming U) (B : Btf) (lvl : ℕ) where
 
   list-writes : (ps : Params (List ℕ)) (l : Layers (List ℕ)) → LoopWrites l → ParamsWrite ps
       → (xs : List Param) (c : List Entry) (u w v : U) → LayersAre N B l c u w → ParamsAre N B ps (shownParams xs) w v
-      → (left : ℕ) → 1 + deep l + paramsDeep ps ≤ left → (fname : Name) (n : ℕ) → length (list xs ∷ c) ≤ n → (p : Bool)
+      → (left : ℕ) → max (1 + deep l) (paramsDeep ps) ≤ left → (fname : Name) (n : ℕ) → length (list xs ∷ c) ≤ n → (p : Bool)
       → loop left fname n p (list xs ∷ c) u ≡ said v (whole (layersText (proto ps l) fname p))
   unfolding chainLoop layersText
   list-writes ps l ih ph xs c u w v a b left d fname zero h p = absurd (omega arith)
@@ -326,7 +326,7 @@ module _ {U : Type 0} (N : Naming U) (B : Btf) (lvl : ℕ) where
   one-writes : (q : List Qualifier) (ws : List (List ℕ)) (l : Layers (List ℕ)) (ps : Params (List ℕ)) → LoopWrites l → ParamsWrite ps
       → (x : Param) (ys : List Param) (b : ℕ) (c : List Entry) (u w₁ w₂ v : U) → x .name ≡ [] → (noParams ys && eqb (x .type-id) 0) ≡ false
       → chainOf 512 B (x .type-id) [] ≡ got (base b ∷ qualEntries q c) → Prints N B b ws u w₁ → LayersAre N B l c w₁ w₂ → ParamsAre N B ps ys w₂ v
-      → (left : ℕ) → 2 + deep l + paramsDeep ps ≤ left → (first : Bool)
+      → (left : ℕ) → max (2 + deep l) (paramsDeep ps) ≤ left → (first : Bool)
       → emitParams (λ id f. emitTypeDecl N B left id f lvl) first (x ∷ ys) u ≡ said v (whole (paramsText (param q ws l ps) first))
   unfolding emitParams emitParam paramsText comma
   one-writes q ws l ps ih ph x ys b c u w₁ w₂ v nm t e pr a more left d first =
