@@ -11,9 +11,9 @@ use Rattle.lent.specs.Text.{ascii}
 use Rattle.rules.specs.Types.{volatile, const, restrict}
 use Rattle.rules.specs.Names.{sameBytes}
 use Rattle.rules.specs.Decl.{qualifier}
-use Rattle.reader.specs.Tokens.{Token, qual, word, number, mark, kindOf, identifier, isCount, valueOf, inRun, wordToken, runToken, lone, ended, tokens}
+use Rattle.tokens.specs.Tokens.{Token, qual, word, number, mark, kindOf, identifier, isCount, valueOf, inRun, wordToken, runToken, lone, ended, tokens}
 use Rattle.reader.specs.Reading.{asBytes, Read, readTokens, whole, readWith, read}
-use Rattle.reader.specs.Encoding.{Span, places}
+use Rattle.tokens.specs.Looking.{Span, places}
 use Rattle.declarations.specs.Places.{eachRead, bytesAt, SameAtPlaces}
 use Rattle.declarations.proofs.Natural.{chosen, eachToken, eachOf, read-each}
 

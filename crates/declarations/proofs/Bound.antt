@@ -9,9 +9,9 @@ use borrow.Author.Tests.{le-leb, leb-true, leb-false}
 use lib.Dec.{leb}
 use lib.ListN.{length}
 use Rattle.reader.specs.Chain.{Chain, layerEntries, entries}
-use Rattle.reader.specs.Tokens.{Token, tokens}
+use Rattle.tokens.specs.Tokens.{Token, tokens}
 use Rattle.reader.specs.Reading.{Reads, reads, fails, asBytes, most, Read, chain, refused, readTokens, counted, whole, readWith, read}
-use Rattle.reader.proofs.Cases.{passed}
+use Rattle.tokens.proofs.Cases.{passed}
 use Rattle.declarations.specs.Enough.{readUnder, Declares, Exactly}
 use Rattle.declarations.proofs.Parses as parses
 

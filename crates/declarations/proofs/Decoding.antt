@@ -10,10 +10,11 @@ use lib.Seq.{getD-set-same, getD-set-other}
 use lib.Dec.{ltb, leb, eqb}
 use Rattle.rules.specs.Types.{Name, Qualifier, volatile, const, restrict}
 use Rattle.reader.specs.Chain.{Layers, named, pointer, array, proto, Params, closed, dots, param, Chain, entries}
-use Rattle.reader.specs.Tokens.{Token, tokens}
+use Rattle.tokens.specs.Tokens.{Token, tokens}
 use Rattle.reader.specs.Reading.{Reads, reads, fails, most, Read, chain, refused, readTokens, counted, whole, readWith, read}
-use Rattle.reader.specs.Encoding.{Span, places, Item, item, qualCode, qualItems, firstFrom, lastTo, baseItem, baseKind, anyParams, layerItems, paramItems, chainItems, putItem, oneMore, Placed, placed, placing, answerOf, readInto}
-use Rattle.reader.proofs.Cases.{false-true, passed, failed}
+use Rattle.tokens.specs.Looking.{Span, places}
+use Rattle.reader.specs.Encoding.{Item, item, qualCode, qualItems, firstFrom, lastTo, baseItem, baseKind, anyParams, layerItems, paramItems, chainItems, putItem, oneMore, Placed, placed, placing, answerOf, readInto}
+use Rattle.tokens.proofs.Cases.{false-true, passed, failed}
 use Rattle.reader.proofs.ReadLaws.{chain-size}
 use Rattle.declarations.specs.Places.{eachWord, eachLayer, eachParam, eachChain, eachRead, bytesAt}
 use Rattle.declarations.specs.Written.{written, Word, Covered}

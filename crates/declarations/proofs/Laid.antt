@@ -12,10 +12,11 @@ use Rattle.lent.specs.Text.{ascii}
 use Rattle.rules.specs.Types.{Qualifier, volatile, const, restrict}
 use Rattle.rules.specs.Names.{sameBytes}
 use Rattle.rules.specs.Decl.{qualifier}
-use Rattle.reader.specs.Tokens.{Kind, Token, qual, word, number, mark, kindOf, isDigit, isLetter, isWordByte, identifier, isCount, valueOf, inRun, allOf, wordToken, runToken, lone, ended, tokens}
-use Rattle.reader.specs.Reading.{Spelt, spelt, rest, endsName, qualRun, afterQuals, wordRun, afterWords, isBase, wordsOf}
-use Rattle.reader.specs.Encoding.{Span, places, firstFrom, lastTo}
-use Rattle.reader.proofs.Cases.{false-true, passed, failed}
+use Rattle.tokens.specs.Tokens.{Kind, Token, qual, word, number, mark, kindOf, isDigit, isLetter, isWordByte, identifier, isCount, valueOf, inRun, allOf, wordToken, runToken, lone, ended, tokens, rest}
+use Rattle.reader.specs.Reading.{Spelt, spelt, endsName, qualRun, afterQuals, wordRun, afterWords, isBase, wordsOf}
+use Rattle.tokens.specs.Looking.{Span, places}
+use Rattle.reader.specs.Encoding.{firstFrom, lastTo}
+use Rattle.tokens.proofs.Cases.{false-true, passed, failed}
 use Rattle.declarations.specs.Places.{eachWord, bytesAt}
 use Rattle.declarations.specs.Decoding.{kept, split, wordsAt}
 use Rattle.declarations.proofs.AtPlaces.{place-bytes}

@@ -8,10 +8,10 @@ use native.Mathlib.Omega.{arith}
 use lib.ListN.{length}
 use Rattle.rules.specs.Types.{Qualifier}
 use Rattle.reader.specs.Chain.{Layers, named, pointer, array, proto, Params, closed, dots, param, Chain, layerEntries, paramEntries, entries}
-use Rattle.reader.specs.Tokens.{Kind, tagWord, voidWord, otherWord, Token, qual, word, number, mark}
-use Rattle.reader.specs.Reading.{Reads, reads, fails, Spelt, spelt, distinct, andThen, begins, beginsWord, rest, bracketed, qualRun, afterQuals, wordRun, afterWords, isBase, wordsOf, readBase, wanted, wantedName, wantedCount, voidBefore, declarator, suffixes, params, paramList, paramEnd}
+use Rattle.tokens.specs.Tokens.{Kind, tagWord, voidWord, otherWord, Token, qual, word, number, mark, rest}
+use Rattle.reader.specs.Reading.{Reads, reads, fails, Spelt, spelt, distinct, andThen, begins, beginsWord, bracketed, qualRun, afterQuals, wordRun, afterWords, isBase, wordsOf, readBase, wanted, wantedName, wantedCount, voidBefore, declarator, suffixes, params, paramList, paramEnd}
 use Rattle.declarations.specs.Enough.{readUnder}
-use Rattle.reader.proofs.Cases.{false-true, passed, failed}
+use Rattle.tokens.proofs.Cases.{false-true, passed, failed}
 
 -- calls beside four an entry: a star needs no call of its own
 abbrev over : Bool → ℕ

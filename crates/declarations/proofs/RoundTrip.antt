@@ -4,7 +4,7 @@ use mathlib.Core.Path.{_≡_, refl, ap, _∙_}
 use mathlib.Core.List.{List, []}
 use borrow.Author.Tests.{le-leb}
 use Rattle.reader.specs.Chain.{Chain, entries}
-use Rattle.reader.specs.Tokens.{tokens}
+use Rattle.tokens.specs.Tokens.{tokens}
 use Rattle.reader.specs.Reading.{asBytes, reads, Read, chain, readTokens, counted, whole, readWith, read}
 use Rattle.declarations.specs.Written.{written, Word, Covered}
 use Rattle.declarations.proofs.Grammar.{tokens-read}

@@ -15,7 +15,7 @@ use Rattle.reader.specs.Chain.{Layers, named, pointer, array, proto, Params, cl
 use Rattle.reader.specs.Reading.{chain, read}
 use Rattle.declarations.specs.Written.{qualsBefore, qualsBehind, spaced, star as starText, namePart, gap, beforeCount, beforeParams, comma, layersText, paramsText, written, Word, Covered}
 use Rattle.declarations.specs.Drawn.{qualEntries, Prints, LayersAre, ParamsAre, Draws}
-use Rattle.reader.proofs.Cases.{passed, failed}
+use Rattle.tokens.proofs.Cases.{passed, failed}
 use Rattle.declarations.proofs.RoundTrip.{round-trip}
 
 module _ {U : Type 0} where

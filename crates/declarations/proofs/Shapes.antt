@@ -7,10 +7,10 @@ use native.Mathlib.Omega.{arith}
 use lib.Dec.{eqb}
 use Rattle.rules.specs.Types.{Qualifier}
 use Rattle.reader.specs.Chain.{Layers, named, pointer, array, proto, Params, closed, dots, param}
-use Rattle.reader.specs.Tokens.{Kind, tagWord, voidWord, otherWord, Token, qual, word, number, mark, kindOf}
-use Rattle.reader.specs.Reading.{Reads, Spelt, spelt, begins, beginsWord, rest, bracketed, qualRun, afterQuals, endsName, wordRun, afterWords, single, isBase, wordsOf, voidBefore, distinct, readBase}
+use Rattle.tokens.specs.Tokens.{Kind, tagWord, voidWord, otherWord, Token, qual, word, number, mark, kindOf, rest}
+use Rattle.reader.specs.Reading.{Reads, Spelt, spelt, begins, beginsWord, bracketed, qualRun, afterQuals, endsName, wordRun, afterWords, single, isBase, wordsOf, voidBefore, distinct, readBase}
 use Rattle.declarations.specs.Written.{isVoid, plainVoid, noLayers, spelling, Base, Allowed, AllowedParams, isArrayable, returnable}
-use Rattle.reader.proofs.Cases.{false-true, passed}
+use Rattle.tokens.proofs.Cases.{false-true, passed}
 
 abbrev pub Tok : Type 0
 Tok = Token (List ℕ)

@@ -4,7 +4,7 @@ use mathlib.Core.Path.{_≡_}
 use mathlib.Core.Bool.{true}
 use mathlib.Core.List.{List, []}
 use Rattle.reader.specs.Chain.{Chain, entries}
-use Rattle.reader.specs.Tokens.{Token, tokens}
+use Rattle.tokens.specs.Tokens.{Token, tokens}
 use Rattle.reader.specs.Reading.{Reads, reads, wordsOf, andThen, readBase, declarator, asBytes, chain, refused, read}
 
 -- `readTokens` of the reader under another bound than `most`

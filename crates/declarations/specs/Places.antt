@@ -5,7 +5,7 @@ use mathlib.Core.List.{List, [], _∷_}
 use lib.ListN.{length, take, drop}
 use Rattle.reader.specs.Chain.{Layers, named, pointer, array, proto, Params, closed, dots, param, Chain}
 use Rattle.reader.specs.Reading.{Read, chain, refused, readWith, read}
-use Rattle.reader.specs.Encoding.{Span, places}
+use Rattle.tokens.specs.Looking.{Span, places}
 
 -- a chain with each of its words v replaced by f v
 module _ {U W : Type 0} (f : U → W) where

@@ -8,7 +8,7 @@ use Rattle.lent.specs.Text.{ascii}
 use Rattle.rules.specs.Types.{Name, Qualifier, isEmpty}
 use Rattle.rules.specs.Decl.{qualifier, sepName, brackets}
 use Rattle.reader.specs.Chain.{Layers, named, pointer, array, proto, Params, closed, dots, param, Chain, entries}
-use Rattle.reader.specs.Tokens.{tagWord, voidWord, otherWord, identifier, isQualifier, kindOf}
+use Rattle.tokens.specs.Tokens.{tagWord, voidWord, otherWord, identifier, isQualifier, kindOf}
 use Rattle.reader.specs.Reading.{Spelt, spelt, distinct, single, isBase, noQuals}
 
 -- qualifiers before a base: `const `, and so on

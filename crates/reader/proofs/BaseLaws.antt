@@ -9,14 +9,15 @@ use borrow.Author.Tests.{lt-ltb, le-ltb, eq-eqb, ne-eqb, eqb-true, eqb-false, no
 use lib.ListN.{length}
 use lib.Dec.{ltb, eqb}
 use Rattle.rules.specs.Types.{Qualifier, volatile, const, restrict}
-use Rattle.reader.specs.Tokens.{Kind, tagWord, voidWord, otherWord, Token, qual, word, number, mark}
-use Rattle.reader.specs.Reading.{Spelt, spelt, among, distinct, begins, beginsWord, rest, bracketed, qualRun, afterQuals, endsName, wordRun, afterWords, isTag, noTags, single, isBase, wordsOf, sameQualifier}
-use Rattle.reader.specs.Encoding.{Span, qualCode, firstFrom, lastTo}
-use Rattle.reader.specs.Looking.{tokensAt, tokenSign, signOf, spanOf, Looked, qualSign, wordSigned, voidSigned, qualOf, qualsOf, QualsAt, Third, isBaseWord, AfterWords, BaseAt}
-use Rattle.reader.specs.declared.tokens.Tok.{Tok}
+use Rattle.tokens.specs.Tokens.{Kind, tagWord, voidWord, otherWord, Token, qual, word, number, mark, rest}
+use Rattle.reader.specs.Reading.{Spelt, spelt, among, distinct, begins, beginsWord, bracketed, qualRun, afterQuals, endsName, wordRun, afterWords, isTag, noTags, single, isBase, wordsOf, sameQualifier}
+use Rattle.tokens.specs.Looking.{Span, tokensAt, tokenSign, signOf, spanOf, Looked}
+use Rattle.reader.specs.Encoding.{qualCode, firstFrom, lastTo}
+use Rattle.reader.specs.Looking.{qualSign, wordSigned, voidSigned, qualOf, qualsOf, QualsAt, Third, isBaseWord, AfterWords, BaseAt}
+use Rattle.tokens.specs.declared.Tok.{Tok}
 use Rattle.reader.specs.declared.bases.Quals.{Quals}
 use Rattle.reader.specs.declared.bases.Base.{Base}
-use Rattle.reader.proofs.Cases.{passed, failed}
+use Rattle.tokens.proofs.Cases.{passed, failed}
 
 abbrev Ts : Type 0
 Ts = List (Token Span)

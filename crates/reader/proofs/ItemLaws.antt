@@ -10,7 +10,7 @@ use lib.Dec.{ltb, eqb}
 use Rattle.rules.specs.Types.{Qualifier, volatile, const, restrict}
 use Rattle.reader.specs.Encoding.{Item, item, qualItems, Placed, placed, putItem, oneMore, placing}
 use Rattle.reader.specs.Looking.{qualSign, qualOf}
-use Rattle.reader.proofs.Cases.{passed, failed}
+use Rattle.tokens.proofs.Cases.{passed, failed}
 
 false-true : false ≡ true → ⊥
 false-true q = let k : _≡_ {A = ℕ} 0 1 = cc in omega arith

@@ -1,7 +1,4 @@
 -- Laws of the reader's definitions, for its code.
-pub mod Cases
-pub mod Bytes
-pub mod Places
 pub mod BaseLaws
 pub mod ItemLaws
 pub mod ParseLaws

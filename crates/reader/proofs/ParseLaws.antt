@@ -8,16 +8,17 @@ use borrow.Author.Tests.{eq-eqb, ne-eqb}
 use lib.Dec.{eqb}
 use Rattle.rules.specs.Types.{Qualifier, volatile, const, restrict}
 use Rattle.reader.specs.Chain.{Layers, named, pointer, array, proto, Params, closed, dots, param}
-use Rattle.reader.specs.Tokens.{Kind, tagWord, voidWord, otherWord, Token, qual, word, number, mark}
-use Rattle.reader.specs.Reading.{Reads, reads, fails, Spelt, andThen, begins, beginsWord, rest, bracketed, distinct, qualRun, afterQuals, wordRun, afterWords, wordsOf, isBase, readBase, wanted, wantedName, wantedCount, voidBefore, declarator, suffixes, params, paramList, paramEnd}
-use Rattle.reader.specs.Encoding.{Span, Item, item, qualItems, firstFrom, lastTo, baseItem, baseKind, anyParams, layerItems, paramItems, Placed, placed, placing}
-use Rattle.reader.specs.Looking.{tokensAt, signOf, countOf, wordSigned, voidSigned, Looked, qualsOf, QualsAt, BaseAt}
+use Rattle.tokens.specs.Tokens.{Kind, tagWord, voidWord, otherWord, Token, qual, word, number, mark, rest}
+use Rattle.reader.specs.Reading.{Reads, reads, fails, Spelt, andThen, begins, beginsWord, bracketed, distinct, qualRun, afterQuals, wordRun, afterWords, wordsOf, isBase, readBase, wanted, wantedName, wantedCount, voidBefore, declarator, suffixes, params, paramList, paramEnd}
+use Rattle.tokens.specs.Looking.{Span, tokensAt, signOf, countOf, Looked}
+use Rattle.reader.specs.Encoding.{Item, item, qualItems, firstFrom, lastTo, baseItem, baseKind, anyParams, layerItems, paramItems, Placed, placed, placing}
+use Rattle.reader.specs.Looking.{wordSigned, voidSigned, qualsOf, QualsAt, BaseAt}
 use Rattle.reader.specs.Emission.{Done, done, none, emits, outcome, protoItems, baseItems, behindItems, starred, inBrackets, counts, protos, dotsEnd}
-use Rattle.reader.specs.declared.tokens.Tok.{Tok}
+use Rattle.tokens.specs.declared.Tok.{Tok}
 use Rattle.reader.specs.declared.bases.Quals.{Quals}
 use Rattle.reader.specs.declared.bases.Base.{Base}
 use Rattle.reader.specs.declared.items.Spot.{Spot}
-use Rattle.reader.proofs.Cases.{passed, failed}
+use Rattle.tokens.proofs.Cases.{passed, failed}
 use Rattle.reader.proofs.ItemLaws.{on, placing-on, placing-then}
 use Rattle.reader.proofs.BaseLaws.{begins-sign, word-sign}
 

@@ -10,15 +10,16 @@ use lib.ListN.{length, replicate, length-append}
 use lib.Dec.{ltb, leb}
 use Rattle.rules.specs.Types.{Qualifier, volatile, const, restrict}
 use Rattle.reader.specs.Chain.{Layers, named, pointer, array, proto, Params, closed, dots, param, Chain, layerEntries, paramEntries, entries}
-use Rattle.reader.specs.Tokens.{Token, qual, word, number, mark, tagWord, voidWord, otherWord, tokens}
+use Rattle.tokens.specs.Tokens.{Token, qual, word, number, mark, tagWord, voidWord, otherWord, tokens}
 use Rattle.reader.specs.Reading.{Reads, reads, fails, andThen, distinct, qualRun, afterQuals, wordRun, afterWords, wordsOf, isBase, readBase, declarator, most, Read, chain, refused, readTokens, counted, whole, readWith}
-use Rattle.reader.specs.Encoding.{Span, Item, item, qualItems, baseItem, baseKind, anyParams, layerItems, paramItems, chainItems, oneMore, putItem, Placed, placed, placing, answerOf, readInto}
-use Rattle.reader.specs.Looking.{tokensAt, signOf, Looked, BaseAt}
+use Rattle.tokens.specs.Looking.{Span, tokensAt, signOf, Looked}
+use Rattle.reader.specs.Encoding.{Item, item, qualItems, baseItem, baseKind, anyParams, layerItems, paramItems, chainItems, oneMore, putItem, Placed, placed, placing, answerOf, readInto}
+use Rattle.reader.specs.Looking.{BaseAt}
 use Rattle.reader.specs.Emission.{outcome, emits, baseItems}
-use Rattle.reader.specs.declared.tokens.Tok.{Tok}
+use Rattle.tokens.specs.declared.Tok.{Tok}
 use Rattle.reader.specs.declared.bases.Base.{Base}
 use Rattle.reader.specs.declared.items.Spot.{Spot}
-use Rattle.reader.proofs.Cases.{passed, failed}
+use Rattle.tokens.proofs.Cases.{passed, failed}
 use Rattle.reader.proofs.ItemLaws.{placing-then}
 use Rattle.reader.proofs.ParseLaws as parse
 

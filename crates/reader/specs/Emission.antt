@@ -4,10 +4,11 @@ use mathlib.Core.Bool.{Bool, true, false}
 use mathlib.Core.List.{List, [], _∷_, _++_}
 use lib.Dec.{ltb}
 use Rattle.reader.specs.Chain.{Layers, named, pointer, array, proto, Params, dots}
-use Rattle.reader.specs.Tokens.{Token}
+use Rattle.tokens.specs.Tokens.{Token}
 use Rattle.reader.specs.Reading.{Reads, reads, fails, distinct, qualRun, afterQuals, andThen, wanted, wantedCount, declarator, suffixes, params}
-use Rattle.reader.specs.Encoding.{Span, Item, item, qualItems, anyParams, baseKind, layerItems, paramItems, Placed, placing}
-use Rattle.reader.specs.Looking.{tokensAt, qualsOf}
+use Rattle.tokens.specs.Looking.{Span, tokensAt}
+use Rattle.reader.specs.Encoding.{Item, item, qualItems, anyParams, baseKind, layerItems, paramItems, Placed, placing}
+use Rattle.reader.specs.Looking.{qualsOf}
 use Rattle.reader.specs.declared.bases.Base.{Base}
 use Rattle.reader.specs.declared.items.Spot.{Spot}
 

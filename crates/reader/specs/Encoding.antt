@@ -6,17 +6,8 @@ use lib.ListN.{length, set, replicate}
 use lib.Dec.{ltb}
 use Rattle.rules.specs.Types.{Qualifier, volatile, const, restrict}
 use Rattle.reader.specs.Chain.{Layers, named, pointer, array, proto, Params, closed, dots, param, Chain}
-use Rattle.reader.specs.Tokens.{Token, tokens}
+use Rattle.tokens.specs.Looking.{Span, places}
 use Rattle.reader.specs.Reading.{Read, chain, refused, readWith}
-
--- where a word stands in the text
-pub record Span : Type 0 where
-  pub from : ℕ
-  pub to : ℕ
-
--- a word kept as its place in a text of n bytes
-abbrev pub places : ℕ → ℕ → List ℕ → Span
-places n left run = record { from = n - (left + length run); to = n - left }
 
 -- an entry: its kind (1 base, 2 pointer, 3 array, 4 prototype, 5 qualifier, 6 base behind whose chain another parameter follows) and two numbers
 pub data Item : Type 0 where

@@ -1,5 +1,4 @@
 pub mod Chain
-pub mod Tokens
 pub mod Reading
 pub mod Encoding
 pub mod Looking

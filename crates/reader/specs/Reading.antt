@@ -5,7 +5,7 @@ use mathlib.Core.List.{List, [], _∷_}
 use lib.Dec.{eqb, leb}
 use Rattle.rules.specs.Types.{Qualifier, volatile, const, restrict}
 use Rattle.reader.specs.Chain.{Layers, named, pointer, array, proto, Params, closed, dots, param, Chain, entries}
-use Rattle.reader.specs.Tokens.{Kind, tagWord, voidWord, otherWord, Token, qual, word, number, mark, tokens}
+use Rattle.tokens.specs.Tokens.{Kind, tagWord, voidWord, otherWord, Token, qual, word, number, mark, tokens, rest}
 
 -- what reading comes to: a value and the tokens behind it, or no such declaration
 pub data Reads (W A : Type 0) : Type 0 where
@@ -65,10 +65,6 @@ module _ {W : Type 0} where
   unfoldable pub beginsWord : List (Token W) → Bool
   beginsWord [] = false
   beginsWord (t ∷ ts) = isWord t
-
-  unfoldable pub rest : List (Token W) → List (Token W)
-  rest [] = []
-  rest (t ∷ ts) = ts
 
   -- "a bracketed declarator begins with a star"
   unfoldable pub bracketed : List (Token W) → Bool

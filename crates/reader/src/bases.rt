@@ -1,9 +1,10 @@
 // Qualifiers and bases of a declaration's text.
-use crate::tokens::token;
+use tokens::token;
 ghost use mathlib.Core.Path.{_≡_};
 ghost use mathlib.Core.Bool.{true, false};
 ghost use Rattle.reader.specs.Reading.{endsName, bracketed, noTags, isBase, wordRun};
-ghost use Rattle.reader.specs.Looking.{tokensAt, qualSign, wordSigned, voidSigned, isBaseWord, Third, QualsAt, AfterWords, BaseAt};
+ghost use Rattle.tokens.specs.Looking.{tokensAt};
+ghost use Rattle.reader.specs.Looking.{qualSign, wordSigned, voidSigned, isBaseWord, Third, QualsAt, AfterWords, BaseAt};
 
 // At most three qualifiers, by their signs, 0 where there is none; and where they end. Not ok where one stands twice.
 pub struct Quals {

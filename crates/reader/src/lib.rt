@@ -2,7 +2,6 @@
 mod bases;
 mod items;
 mod parse;
-mod tokens;
 
 use bases::base_at;
 use items::put_base;

@@ -10,13 +10,13 @@ use crate::items::Spot;
 use crate::items::put_base;
 use crate::items::put_item;
 use crate::items::put_quals;
-use crate::tokens::token;
+use tokens::token;
 ghost use mathlib.Core.Path.{_≡_};
 ghost use mathlib.Core.Bool.{false};
 ghost use Rattle.reader.specs.Chain as chains;
 ghost use Rattle.reader.specs.Reading as grammar;
 ghost use Rattle.reader.specs.Encoding.{layerItems, paramItems};
-ghost use Rattle.reader.specs.Looking.{tokensAt};
+ghost use Rattle.tokens.specs.Looking.{tokensAt};
 ghost use Rattle.reader.specs.Emission as emission;
 ghost use Rattle.reader.specs.Emission.{outcome, emits, protoItems, behindItems};
 

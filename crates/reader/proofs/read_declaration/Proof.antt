@@ -12,7 +12,7 @@ use Rattle.reader.proofs.bases.base_at.Reads as base-at-reads
 use Rattle.reader.proofs.items.put_base.Reads as put-base-reads
 use Rattle.reader.proofs.parse.declarator.Reads as declarator-reads
 use Rattle.reader.proofs.refuse.Reads as refuse-reads
-use Rattle.reader.proofs.tokens.token.Reads as token-reads
+use Rattle.tokens.proofs.token.Reads as token-reads
 
 base-at-requires : tie.Need-base-at-requires
 base-at-requires c κs = search needs

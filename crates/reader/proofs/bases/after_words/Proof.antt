@@ -11,7 +11,7 @@ use Rattle.reader.proofs.bases.after_words.Tie as tie
 use Rattle.reader.proofs.bases.after_words.Reads as reads
 use Rattle.reader.proofs.bases.after_words.Lts as lts
 use Rattle.reader.proofs.bases.is_base_word.Reads as is-base-word-reads
-use Rattle.reader.proofs.tokens.token.Reads as token-reads
+use Rattle.tokens.proofs.token.Reads as token-reads
 
 abbrev Inv-loop : tie.InvT-loop
 Inv-loop text at named i₀ i = laws.AfterInv text at named i

@@ -14,7 +14,7 @@ use Rattle.reader.proofs.bases.after_words.Reads as after-words-reads
 use Rattle.reader.proofs.bases.is_base.Reads as is-base-reads
 use Rattle.reader.proofs.bases.no_base.Reads as no-base-reads
 use Rattle.reader.proofs.bases.quals_at.Reads as quals-at-reads
-use Rattle.reader.proofs.tokens.token.Reads as token-reads
+use Rattle.tokens.proofs.token.Reads as token-reads
 
 quals-at-requires : tie.Need-quals-at-requires
 quals-at-requires c κs = search needs

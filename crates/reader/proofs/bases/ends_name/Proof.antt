@@ -11,7 +11,7 @@ use Rattle.reader.proofs.bases.ends_name.Tie as tie
 use Rattle.reader.proofs.bases.ends_name.Reads as reads
 use Rattle.reader.proofs.bases.ends_name.Lts as lts
 use Rattle.reader.proofs.bases.is_word.Reads as is-word-reads
-use Rattle.reader.proofs.tokens.token.Reads as token-reads
+use Rattle.tokens.proofs.token.Reads as token-reads
 
 token-requires : tie.Need-token-requires
 token-requires c κs = search needs

@@ -12,7 +12,7 @@ use Rattle.reader.proofs.bases.is_base.Reads as reads
 use Rattle.reader.proofs.bases.is_base.Lts as lts
 use Rattle.reader.proofs.bases.is_base_word.Reads as is-base-word-reads
 use Rattle.reader.proofs.bases.no_tags.Reads as no-tags-reads
-use Rattle.reader.proofs.tokens.token.Reads as token-reads
+use Rattle.tokens.proofs.token.Reads as token-reads
 
 is-base-word-requires : tie.Need-is-base-word-requires
 is-base-word-requires c κs = search needs

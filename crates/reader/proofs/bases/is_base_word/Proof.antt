@@ -12,7 +12,7 @@ use Rattle.reader.proofs.bases.is_base_word.Reads as reads
 use Rattle.reader.proofs.bases.is_base_word.Lts as lts
 use Rattle.reader.proofs.bases.ends_name.Reads as ends-name-reads
 use Rattle.reader.proofs.bases.is_word.Reads as is-word-reads
-use Rattle.reader.proofs.tokens.token.Reads as token-reads
+use Rattle.tokens.proofs.token.Reads as token-reads
 
 token-requires : tie.Need-token-requires
 token-requires c κs = search needs

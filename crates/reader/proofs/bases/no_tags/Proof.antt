@@ -1,4 +1,4 @@
-use Rattle.reader.specs.Looking.{tokensAt}
+use Rattle.tokens.specs.Looking.{tokensAt}
 use Rattle.reader.specs.Reading.{noTags, wordRun}
 use borrow.Author.Tests.{not-true, not-false}
 use denote.Ref.{now}
@@ -13,7 +13,7 @@ use Rattle.reader.proofs.bases.no_tags.Tie as tie
 use Rattle.reader.proofs.bases.no_tags.Reads as reads
 use Rattle.reader.proofs.bases.no_tags.Lts as lts
 use Rattle.reader.proofs.bases.is_base_word.Reads as is-base-word-reads
-use Rattle.reader.proofs.tokens.token.Reads as token-reads
+use Rattle.tokens.proofs.token.Reads as token-reads
 
 abbrev Inv-loop : tie.InvT-loop
 Inv-loop text at named i₀ i = noTags (wordRun named (tokensAt text i)) ≡ noTags (wordRun named (tokensAt text at))

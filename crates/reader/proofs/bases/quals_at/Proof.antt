@@ -13,7 +13,7 @@ use Rattle.reader.proofs.bases.quals_at.Lts as lts
 use Rattle.reader.proofs.bases.is_qualifier.Reads as is-qualifier-reads
 use Rattle.reader.proofs.bases.three_quals.Reads as three-quals-reads
 use Rattle.reader.proofs.bases.twice.Reads as twice-reads
-use Rattle.reader.proofs.tokens.token.Reads as token-reads
+use Rattle.tokens.proofs.token.Reads as token-reads
 
 token-requires : tie.Need-token-requires
 token-requires c κs = search needs

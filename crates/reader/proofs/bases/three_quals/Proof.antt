@@ -12,7 +12,7 @@ use Rattle.reader.proofs.bases.three_quals.Reads as reads
 use Rattle.reader.proofs.bases.three_quals.Lts as lts
 use Rattle.reader.proofs.bases.is_qualifier.Reads as is-qualifier-reads
 use Rattle.reader.proofs.bases.twice.Reads as twice-reads
-use Rattle.reader.proofs.tokens.token.Reads as token-reads
+use Rattle.tokens.proofs.token.Reads as token-reads
 
 twice-requires : tie.Need-twice-requires
 twice-requires c κs = search needs

@@ -10,7 +10,7 @@ use Rattle.reader.proofs.bases.void_before.Statement.{statement}
 use Rattle.reader.proofs.bases.void_before.Tie as tie
 use Rattle.reader.proofs.bases.void_before.Reads as reads
 use Rattle.reader.proofs.bases.void_before.Lts as lts
-use Rattle.reader.proofs.tokens.token.Reads as token-reads
+use Rattle.tokens.proofs.token.Reads as token-reads
 
 token-requires : tie.Need-token-requires
 token-requires c κs = search needs

@@ -46,7 +46,7 @@ use Rattle.reader.proofs.items.put_item.Reads as put-item-reads
 use Rattle.reader.proofs.items.put_quals.Reads as put-quals-reads
 use Rattle.reader.proofs.parse.dots_end.Reads as dots-end-reads
 use Rattle.reader.proofs.parse.failed.Reads as failed-reads
-use Rattle.reader.proofs.tokens.token.Reads as token-reads
+use Rattle.tokens.proofs.token.Reads as token-reads
 use Rattle.reader.proofs.parse.+counts+declarator+in_brackets+param_behind+param_end+param_list+params+protos+starred+suffixes.{
   statement,
 }

@@ -9,7 +9,7 @@ use Rattle.reader.proofs.parse.dots_end.Reads as reads
 use Rattle.reader.proofs.parse.dots_end.Lts as lts
 use Rattle.reader.proofs.items.put_item.Reads as put-item-reads
 use Rattle.reader.proofs.parse.failed.Reads as failed-reads
-use Rattle.reader.proofs.tokens.token.Reads as token-reads
+use Rattle.tokens.proofs.token.Reads as token-reads
 
 token-requires : tie.Need-token-requires
 token-requires c κs = search needs
