@@ -19,8 +19,9 @@ use Rattle.reader.proofs.ReadLaws.{chain-size}
 use Rattle.declarations.specs.Places.{eachWord, eachLayer, eachParam, eachChain, eachRead, bytesAt}
 use Rattle.declarations.specs.Written.{written, Word, Covered}
 use Rattle.declarations.specs.Enough.{readUnder}
-use Rattle.declarations.specs.Decoding.{itemsFrom, wordsAt, qualOfCode, Lay, Open, none, inside, over, atBase, atProto, chainFrom, decoded, Decodes, ReadsBack}
+use Rattle.declarations.specs.Decoding.{itemsFrom, wordsAt, qualOfCode, Lay, Open, none, inside, over, atBase, atProto, chainFrom, decoded, entriesLeft, Numbered, Decodes, ReadsBack}
 use Rattle.declarations.proofs.AtPlaces.{same-at-places}
+use Rattle.declarations.proofs.Natural.{entries-each}
 use Rattle.declarations.proofs.Parses as parses
 use Rattle.declarations.proofs.Laid.{Neat, Laid, laid-on, laid-past, worded, text-laid, neat-words}
 use Rattle.declarations.proofs.RoundTrip.{round-trip}
@@ -132,9 +133,6 @@ module _ (s : List ℕ) where
 abbrev wordsIn : Placed → List ℕ
 wordsIn (placed n t) = t
 
-abbrev count : Placed → ℕ
-count (placed n t) = n
-
 more-few : (n : ℕ) → n < 512 → oneMore n ≡ suc n
 unfolding oneMore
 more-few n h = passed (ltb n 512) (n + 1) 513 (lt-ltb n 512 h) ∙ omega arith
@@ -172,10 +170,10 @@ kept-below (i ∷ is) t n j b h =
     ∙ kept-below is (putItem t n i) (suc n) j (omega arith) (omega arith)
     ∙ put-below t n i j h
 
-count-is : (is : List Item) (t : List ℕ) (n : ℕ) → n + length is ≤ 512 → count (placing t n is) ≡ n + length is
+count-is : (is : List Item) (t : List ℕ) (n : ℕ) → n + length is ≤ 512 → entriesLeft (placing t n is) ≡ n + length is
 unfolding placing
 count-is [] t n b = omega arith
-count-is (i ∷ is) t n b = ap (λ (m : ℕ). count (placing (putItem t n i) m is)) (more-few n (omega arith)) ∙ count-is is (putItem t n i) (suc n) (omega arith) ∙ omega arith
+count-is (i ∷ is) t n b = ap (λ (m : ℕ). entriesLeft (placing (putItem t n i) m is)) (more-few n (omega arith)) ∙ count-is is (putItem t n i) (suc n) (omega arith) ∙ omega arith
 
 module _ (t : List ℕ) (n k x y : ℕ) (h : n < 512) (l : 1536 ≤ length t) where
   abbrev first : List ℕ
@@ -218,7 +216,7 @@ items-back (item k x y ∷ is) t n b l =
     ∙ (λ i. item (e₁ i) (e₂ i) (e₃ i) ∷ itemsFrom (suc n) (length is) v)
     ∙ ap (λ js. item k x y ∷ js) (items-back is u (suc n) (omega arith) (omega (arith, put-length t n (item k x y))))
 
-decoded-is : (s : List ℕ) (p : Placed) → decoded s p ≡ chainFrom s none [] named (itemsFrom 0 (count p) (wordsIn p))
+decoded-is : (s : List ℕ) (p : Placed) → decoded s p ≡ chainFrom s none [] named (itemsFrom 0 (entriesLeft p) (wordsIn p))
 unfolding decoded
 decoded-is s (placed n t) = refl
 
@@ -248,7 +246,7 @@ module _ (s t : List ℕ) (l : 1536 ≤ length t) where
   stored c h a f =
       let is : List Item = chainItems c in
       let b : 0 + length is ≤ 512 = omega (arith, chain-size c) in
-      let n : count (placing t 0 is) ≡ length is = count-is is t 0 b ∙ omega arith in
+      let n : entriesLeft (placing t 0 is) ≡ length is = count-is is t 0 b ∙ omega arith in
       decoded-is s (placing t 0 is)
       ∙ ap (λ (m : ℕ). chainFrom s none [] named (itemsFrom 0 m (wordsIn (placing t 0 is)))) n
       ∙ ap (chainFrom s none [] named) (items-back is t 0 b l)
@@ -265,6 +263,35 @@ module _ (s t : List ℕ) (l : 1536 ≤ length t) where
 pub decodes : Decodes
 unfolding readInto
 decodes s t l = answered s t l (readWith (places (length s)) s) refl ∙ sym (same-at-places s)
+
+module _ (s t : List ℕ) where
+  some-entries : (c : Chain (List ℕ)) → 0 < entries c
+  unfolding entries
+  some-entries c = omega arith
+
+  chain-refused : (c : Chain (List ℕ)) → _≡_ {A = Read (List ℕ)} refused (chain c) → ⊥
+  chain-refused c e = let z : _≡_ {A = ℕ} 0 1 = cc in omega arith
+
+  counts : (r : Read Span) → readWith (places (length s)) s ≡ r → (c : Chain (List ℕ)) → eachRead (bytesAt s) r ≡ chain c → entriesLeft (answerOf t r) ≡ entries c
+  unfolding answerOf readWith
+  counts (chain d) e c q =
+      let w = whole-chain (readTokens (tokens (places (length s)) [] s)) d e in
+      let same : eachChain (bytesAt s) d ≡ c = cc in
+      count-is (chainItems d) t 0 (omega (arith, chain-size d, w .1)) ∙ omega (arith, chain-size d, entries-each (bytesAt s) d) ∙ ap entries same
+  counts refused e c q = absurd (chain-refused c q)
+
+  empties : (r : Read Span) → eachRead (bytesAt s) r ≡ refused → answerOf t r ≡ placed 0 (replicate (length t) 0)
+  unfolding answerOf
+  empties (chain d) q = absurd (chain-refused (eachChain (bytesAt s) d) (sym q))
+  empties refused q = refl
+
+  pub numbered : Numbered s t
+  unfolding readInto
+  numbered =
+      record {
+        counts = λ c e. (counts (readWith (places (length s)) s) refl c (sym (same-at-places s) ∙ e), some-entries c);
+        empties = λ e. empties (readWith (places (length s)) s) (sym (same-at-places s) ∙ e);
+      }
 
 pub reads-back : ReadsBack
 reads-back c name v ok t l = decodes (written c name) t l ∙ round-trip c name v ok

@@ -270,6 +270,10 @@ module _ {U W : Type 0} (f : U → W) where
     param-entries dots = refl
     param-entries (param q ws l ps) = rw (layer-entries l, param-entries ps)
 
+  pub entries-each : (c : Chain U) → entries (eachChain f c) ≡ entries c
+  unfolding entries
+  entries-each c = ap (λ (n : ℕ). 1 + length (c .quals) + n) (layer-entries (c .layers))
+
   counted-each : (c : Chain U) → counted (eachChain f c) ≡ eachRead f (counted c)
   unfolding counted entries
   counted-each c =

@@ -1,12 +1,12 @@
 -- What a caller makes of the entries that the reader leaves: the chain, with the words of each base looked up in the text.
-use Prim.Native.Nat.{ℕ, zero, suc, _+_, _*_, _≤_}
+use Prim.Native.Nat.{ℕ, zero, suc, _+_, _*_, _≤_, _<_}
 use mathlib.Core.Path.{_≡_}
 use mathlib.Core.Bool.{Bool, true, false}
 use mathlib.Core.List.{List, [], _∷_, _++_}
-use lib.ListN.{length, getD, take, drop}
+use lib.ListN.{length, getD, take, drop, replicate}
 use lib.Dec.{eqb}
 use Rattle.rules.specs.Types.{Name, Qualifier, volatile, const, restrict}
-use Rattle.reader.specs.Chain.{Layers, named, pointer, array, proto, Params, closed, dots, param, Chain}
+use Rattle.reader.specs.Chain.{Layers, named, pointer, array, proto, Params, closed, dots, param, Chain, entries}
 use Rattle.reader.specs.Reading.{Read, chain, refused, read}
 use Rattle.reader.specs.Encoding.{Item, item, Placed, placed, readInto}
 use Rattle.declarations.specs.Written.{written, Word, Covered}
@@ -87,6 +87,15 @@ decoded s (placed n t) = chainFrom s none [] named (itemsFrom 0 n t)
 -- The words that the code leaves say what the reader says, for all texts (proofs/Decoding); `readInto` is the contract of read_declaration.
 abbrev pub Decodes : Type 0
 Decodes = (s t : List ℕ) → 1536 ≤ length t → decoded s (readInto s t) ≡ read s
+
+-- how many entries are left
+abbrev pub entriesLeft : Placed → ℕ
+entriesLeft (placed n t) = n
+
+-- Their number is that of the chain's entries, which is never 0; 0, which is 19, comes "with an empty chain" where the reader refuses.
+pub record Numbered (s t : List ℕ) : Type 0 where
+  pub counts : (c : Chain (List ℕ)) → read s ≡ chain c → (entriesLeft (readInto s t) ≡ entries c) × (0 < entries c)
+  pub empties : read s ≡ refused → readInto s t ≡ placed 0 (replicate (length t) 0)
 
 -- "For covered chains of at most 512 entries that C allows, the written text reads back to the same chain."
 abbrev pub ReadsBack : Type 0
