@@ -8,9 +8,10 @@ use native.Mathlib.Omega.{arith}
 use borrow.Author.Tests.{le-leb, leb-true, leb-false}
 use lib.Dec.{leb}
 use lib.ListN.{length}
-use Rattle.reader.specs.Chain.{Chain, layerEntries, entries}
+use Rattle.grammar.specs.Chain.{Chain, layerEntries, entries}
 use Rattle.tokens.specs.Tokens.{Token, tokens}
-use Rattle.reader.specs.Reading.{Reads, reads, fails, asBytes, most, Read, chain, refused, readTokens, counted, whole, readWith, read}
+use Rattle.grammar.specs.Grammar.{Reads, reads, fails}
+use Rattle.reader.specs.Reading.{asBytes, most, Read, chain, refused, readTokens, counted, whole, readWith, read}
 use Rattle.tokens.proofs.Cases.{passed}
 use Rattle.declarations.specs.Enough.{readUnder, Declares, Exactly}
 use Rattle.declarations.proofs.Parses as parses

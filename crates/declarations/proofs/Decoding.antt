@@ -9,11 +9,14 @@ use lib.ListN.{length, getD, set, replicate, length-set}
 use lib.Seq.{getD-set-same, getD-set-other}
 use lib.Dec.{ltb, leb, eqb}
 use Rattle.rules.specs.Types.{Name, Qualifier, volatile, const, restrict}
-use Rattle.reader.specs.Chain.{Layers, named, pointer, array, proto, Params, closed, dots, param, Chain, entries}
+use Rattle.grammar.specs.Chain.{Layers, named, pointer, array, proto, Params, closed, dots, param, Chain, entries}
 use Rattle.tokens.specs.Tokens.{Token, tokens}
-use Rattle.reader.specs.Reading.{Reads, reads, fails, most, Read, chain, refused, readTokens, counted, whole, readWith, read}
+use Rattle.grammar.specs.Grammar.{Reads, reads, fails}
+use Rattle.reader.specs.Reading.{most, Read, chain, refused, readTokens, counted, whole, readWith, read}
 use Rattle.tokens.specs.Looking.{Span, places}
-use Rattle.reader.specs.Encoding.{Item, item, qualCode, qualItems, firstFrom, lastTo, baseItem, baseKind, anyParams, layerItems, paramItems, chainItems, putItem, oneMore, Placed, placed, placing, answerOf, readInto}
+use Rattle.bases.specs.Items.{Item, item, qualCode, qualItems, firstFrom, lastTo, putItem, oneMore, Placed, placed, placing}
+use Rattle.grammar.specs.Encoding.{baseItem, baseKind, anyParams, layerItems, paramItems}
+use Rattle.reader.specs.Encoding.{chainItems, answerOf, readInto}
 use Rattle.tokens.proofs.Cases.{false-true, passed, failed}
 use Rattle.reader.proofs.ReadLaws.{chain-size}
 use Rattle.declarations.specs.Places.{eachWord, eachLayer, eachParam, eachChain, eachRead, bytesAt}

@@ -13,9 +13,9 @@ use Rattle.rules.specs.Types.{Qualifier, volatile, const, restrict}
 use Rattle.rules.specs.Names.{sameBytes}
 use Rattle.rules.specs.Decl.{qualifier}
 use Rattle.tokens.specs.Tokens.{Kind, Token, qual, word, number, mark, kindOf, isDigit, isLetter, isWordByte, identifier, isCount, valueOf, inRun, allOf, wordToken, runToken, lone, ended, tokens, rest}
-use Rattle.reader.specs.Reading.{Spelt, spelt, endsName, qualRun, afterQuals, wordRun, afterWords, isBase, wordsOf}
+use Rattle.bases.specs.Bases.{Spelt, spelt, endsName, qualRun, afterQuals, wordRun, afterWords, isBase, wordsOf}
 use Rattle.tokens.specs.Looking.{Span, places}
-use Rattle.reader.specs.Encoding.{firstFrom, lastTo}
+use Rattle.bases.specs.Items.{firstFrom, lastTo}
 use Rattle.tokens.proofs.Cases.{false-true, passed, failed}
 use Rattle.declarations.specs.Places.{eachWord, bytesAt}
 use Rattle.declarations.specs.Decoding.{kept, split, wordsAt}

@@ -13,9 +13,10 @@ use Rattle.lent.proofs.Digits.{horner, AllDigits, Numeral, decimal-is}
 use Rattle.rules.specs.Types.{Qualifier, volatile, const, restrict, isEmpty}
 use Rattle.rules.specs.Names.{sameBytes}
 use Rattle.rules.specs.Decl.{qualifier, sepName, brackets}
-use Rattle.reader.specs.Chain.{Layers, named, pointer, array, proto, Params, closed, dots, param, Chain}
+use Rattle.grammar.specs.Chain.{Layers, named, pointer, array, proto, Params, closed, dots, param, Chain}
 use Rattle.tokens.specs.Tokens.{Token, qual, word, number, mark, isDigit, isLetter, isWordByte, inRun, allOf, identifier, valueOf, isCount, kindOf, isQualifier, wordToken, runToken, lone, ended, tokens}
-use Rattle.reader.specs.Reading.{asBytes, noQuals, isBase}
+use Rattle.reader.specs.Reading.{asBytes}
+use Rattle.bases.specs.Bases.{noQuals, isBase}
 use Rattle.declarations.specs.Written.{qualsBefore, qualsBehind, wordsBehind, spaced, star, namePart, gap, beforeCount, beforeParams, comma, layersText, paramsText, written, Word, Words, spelling, Base, isArrayable, returnable, Allowed, AllowedParams, Covered}
 use Rattle.declarations.proofs.Shapes.{Tok, Nm, has, lacks, nameToks, qualToks, wordToks, bracket, commaTok, toks, paramToks}
 use Rattle.tokens.proofs.Cases.{passed, failed}

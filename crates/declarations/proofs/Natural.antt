@@ -6,9 +6,11 @@ use mathlib.Core.List.{List, [], _∷_}
 use lib.ListN.{length}
 use lib.Dec.{leb}
 use Rattle.rules.specs.Types.{Qualifier}
-use Rattle.reader.specs.Chain.{Layers, named, pointer, array, proto, Params, closed, dots, param, Chain, layerEntries, paramEntries, entries}
+use Rattle.grammar.specs.Chain.{Layers, named, pointer, array, proto, Params, closed, dots, param, Chain, layerEntries, paramEntries, entries}
 use Rattle.tokens.specs.Tokens.{Kind, tagWord, voidWord, otherWord, Token, qual, word, number, mark, rest}
-use Rattle.reader.specs.Reading.{Reads, reads, fails, Spelt, spelt, distinct, andThen, begins, beginsWord, bracketed, qualRun, afterQuals, endsName, wordRun, afterWords, isTag, noTags, single, isBase, wordsOf, readBase, wanted, wantedName, wantedCount, voidBefore, declarator, suffixes, params, paramList, paramEnd, most, Read, chain, refused, readTokens, counted, whole}
+use Rattle.grammar.specs.Grammar.{Reads, reads, fails, andThen, readBase, wanted, wantedName, wantedCount, declarator, suffixes, params, paramList, paramEnd}
+use Rattle.bases.specs.Bases.{Spelt, spelt, distinct, begins, beginsWord, bracketed, qualRun, afterQuals, endsName, wordRun, afterWords, isTag, noTags, single, isBase, wordsOf, voidBefore}
+use Rattle.reader.specs.Reading.{most, Read, chain, refused, readTokens, counted, whole}
 use Rattle.declarations.specs.Places.{eachWord, eachLayer, eachParam, eachChain, eachRead}
 
 -- a test on both sides

@@ -7,9 +7,10 @@ use mathlib.Core.List.{List, [], _∷_}
 use native.Mathlib.Omega.{arith}
 use lib.ListN.{length}
 use Rattle.rules.specs.Types.{Qualifier}
-use Rattle.reader.specs.Chain.{Layers, named, pointer, array, proto, Params, closed, dots, param, Chain, layerEntries, paramEntries, entries}
+use Rattle.grammar.specs.Chain.{Layers, named, pointer, array, proto, Params, closed, dots, param, Chain, layerEntries, paramEntries, entries}
 use Rattle.tokens.specs.Tokens.{Kind, tagWord, voidWord, otherWord, Token, qual, word, number, mark, rest}
-use Rattle.reader.specs.Reading.{Reads, reads, fails, Spelt, spelt, distinct, andThen, begins, beginsWord, bracketed, qualRun, afterQuals, wordRun, afterWords, isBase, wordsOf, readBase, wanted, wantedName, wantedCount, voidBefore, declarator, suffixes, params, paramList, paramEnd}
+use Rattle.grammar.specs.Grammar.{Reads, reads, fails, andThen, readBase, wanted, wantedName, wantedCount, declarator, suffixes, params, paramList, paramEnd}
+use Rattle.bases.specs.Bases.{Spelt, spelt, distinct, begins, beginsWord, bracketed, qualRun, afterQuals, wordRun, afterWords, isBase, wordsOf, voidBefore}
 use Rattle.declarations.specs.Enough.{readUnder}
 use Rattle.tokens.proofs.Cases.{false-true, passed, failed}
 

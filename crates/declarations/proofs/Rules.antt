@@ -11,7 +11,7 @@ use Rattle.rules.specs.Types.{Name, isEmpty, Qualifier, Param, Btf, BtfType, Me
 use Rattle.rules.specs.Names.{Naming}
 use Rattle.rules.specs.Writer.{Ask, got, no, tooDeep, Writer, Said, said, after, next, put, stop, given, _⨾_}
 use Rattle.rules.specs.Decl.{Entry, base, star, qual, array as count, proto as list, chainOf, mods, noMods, isArray, noParams, shownParams, sepName, qualifier, brackets, parens, emitName, emitParam, emitParams, baseWord, emitArray, emitProto, paramList, chainLoop, emitTypeDecl, emitTypeChain, emitCompositeDef}
-use Rattle.reader.specs.Chain.{Layers, named, pointer, array, proto, Params, closed, dots, param, Chain}
+use Rattle.grammar.specs.Chain.{Layers, named, pointer, array, proto, Params, closed, dots, param, Chain}
 use Rattle.reader.specs.Reading.{chain, read}
 use Rattle.declarations.specs.Written.{qualsBefore, qualsBehind, spaced, star as starText, namePart, gap, beforeCount, beforeParams, comma, layersText, paramsText, written, Word, Covered}
 use Rattle.declarations.specs.Drawn.{qualEntries, Prints, LayersAre, ParamsAre, Draws}

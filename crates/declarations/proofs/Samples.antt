@@ -9,9 +9,11 @@ use Rattle.rules.specs.Samples.{declarators, unnamed}
 use Rattle.rules.specs.Decl.{qualifier, star, array as count, chainOf, chainOn, baseWord}
 use Rattle.declarations.specs.Written.{spaced, wordsBehind}
 use Rattle.declarations.specs.Drawn.{Draws}
-use Rattle.reader.specs.Chain.{named, pointer, array, layerEntries, paramEntries, entries}
+use Rattle.grammar.specs.Chain.{named, pointer, array, layerEntries, paramEntries, entries}
 use Rattle.tokens.specs.Tokens.{isDigit, isLetter, isWordByte, inRun, allOf, identifier, valueOf, isCount, kindOf, wordToken, runToken, lone, ended, tokens, rest}
-use Rattle.reader.specs.Reading.{among, distinct, andThen, begins, beginsWord, bracketed, qualRun, afterQuals, endsName, wordRun, afterWords, noTags, single, isBase, wordsOf, readBase, wanted, wantedName, wantedCount, voidBefore, declarator, suffixes, params, paramList, paramEnd, readTokens, counted, whole, readWith, read}
+use Rattle.bases.specs.Bases.{among, distinct, begins, beginsWord, bracketed, qualRun, afterQuals, endsName, wordRun, afterWords, noTags, single, isBase, wordsOf, voidBefore}
+use Rattle.grammar.specs.Grammar.{andThen, readBase, wanted, wantedName, wantedCount, declarator, suffixes, params, paramList, paramEnd}
+use Rattle.reader.specs.Reading.{readTokens, counted, whole, readWith, read}
 use Rattle.declarations.specs.Samples.{samples, allGiven, allWanted}
 
 pub samples-hold : allGiven samples ≡ allWanted samples

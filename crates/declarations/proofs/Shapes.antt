@@ -6,9 +6,10 @@ use mathlib.Core.List.{List, [], _∷_}
 use native.Mathlib.Omega.{arith}
 use lib.Dec.{eqb}
 use Rattle.rules.specs.Types.{Qualifier}
-use Rattle.reader.specs.Chain.{Layers, named, pointer, array, proto, Params, closed, dots, param}
+use Rattle.grammar.specs.Chain.{Layers, named, pointer, array, proto, Params, closed, dots, param}
 use Rattle.tokens.specs.Tokens.{Kind, tagWord, voidWord, otherWord, Token, qual, word, number, mark, kindOf, rest}
-use Rattle.reader.specs.Reading.{Reads, Spelt, spelt, begins, beginsWord, bracketed, qualRun, afterQuals, endsName, wordRun, afterWords, single, isBase, wordsOf, voidBefore, distinct, readBase}
+use Rattle.grammar.specs.Grammar.{Reads, readBase}
+use Rattle.bases.specs.Bases.{Spelt, spelt, begins, beginsWord, bracketed, qualRun, afterQuals, endsName, wordRun, afterWords, single, isBase, wordsOf, voidBefore, distinct}
 use Rattle.declarations.specs.Written.{isVoid, plainVoid, noLayers, spelling, Base, Allowed, AllowedParams, isArrayable, returnable}
 use Rattle.tokens.proofs.Cases.{false-true, passed}
 

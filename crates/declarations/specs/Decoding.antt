@@ -6,9 +6,10 @@ use mathlib.Core.List.{List, [], _∷_, _++_}
 use lib.ListN.{length, getD, take, drop, replicate}
 use lib.Dec.{eqb}
 use Rattle.rules.specs.Types.{Name, Qualifier, volatile, const, restrict}
-use Rattle.reader.specs.Chain.{Layers, named, pointer, array, proto, Params, closed, dots, param, Chain, entries}
+use Rattle.grammar.specs.Chain.{Layers, named, pointer, array, proto, Params, closed, dots, param, Chain, entries}
 use Rattle.reader.specs.Reading.{Read, chain, refused, read}
-use Rattle.reader.specs.Encoding.{Item, item, Placed, placed, readInto}
+use Rattle.bases.specs.Items.{Item, item, Placed, placed}
+use Rattle.reader.specs.Encoding.{readInto}
 use Rattle.declarations.specs.Written.{written, Word, Covered}
 
 -- n entries of the words t, from entry i on: three words each

@@ -10,7 +10,7 @@ use Rattle.rules.specs.Types.{Name, Qualifier, Param, Btf, BtfType, Member}
 use Rattle.rules.specs.Names.{Naming}
 use Rattle.rules.specs.Writer.{got, Writer, said}
 use Rattle.rules.specs.Decl.{Entry, base, star, qual, array as count, proto as list, chainOf, noParams, shownParams, baseWord}
-use Rattle.reader.specs.Chain.{Layers, named, pointer, array, proto, Params, closed, dots, param, Chain}
+use Rattle.grammar.specs.Chain.{Layers, named, pointer, array, proto, Params, closed, dots, param, Chain}
 use Rattle.declarations.specs.Written.{spaced}
 
 -- qualifiers, the one that stands nearest first

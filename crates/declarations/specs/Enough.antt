@@ -3,9 +3,11 @@ use Prim.Native.Nat.{ℕ, _≤_, _<_}
 use mathlib.Core.Path.{_≡_}
 use mathlib.Core.Bool.{true}
 use mathlib.Core.List.{List, []}
-use Rattle.reader.specs.Chain.{Chain, entries}
+use Rattle.grammar.specs.Chain.{Chain, entries}
 use Rattle.tokens.specs.Tokens.{Token, tokens}
-use Rattle.reader.specs.Reading.{Reads, reads, wordsOf, andThen, readBase, declarator, asBytes, chain, refused, read}
+use Rattle.grammar.specs.Grammar.{Reads, reads, andThen, readBase, declarator}
+use Rattle.bases.specs.Bases.{wordsOf}
+use Rattle.reader.specs.Reading.{asBytes, chain, refused, read}
 
 -- `readTokens` of the reader under another bound than `most`
 unfoldable pub readUnder : {W : Type 0} → ℕ → List (Token W) → Reads W (Chain W)

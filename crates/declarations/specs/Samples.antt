@@ -5,7 +5,7 @@ use Prim.Native.String.{String}
 use mathlib.Core.List.{List, [], _∷_}
 use Rattle.lent.specs.Text.{ascii}
 use Rattle.rules.specs.Types.{Qualifier, volatile, const, restrict}
-use Rattle.reader.specs.Chain.{Layers, named, pointer, array, proto, Params, closed, dots, param, Chain}
+use Rattle.grammar.specs.Chain.{Layers, named, pointer, array, proto, Params, closed, dots, param, Chain}
 use Rattle.reader.specs.Reading.{Read, chain, refused, read}
 
 pub record Sample : Type 0 where

@@ -7,9 +7,9 @@ use mathlib.Core.List.{List, [], _∷_, _++_}
 use Rattle.lent.specs.Text.{ascii}
 use Rattle.rules.specs.Types.{Name, Qualifier, isEmpty}
 use Rattle.rules.specs.Decl.{qualifier, sepName, brackets}
-use Rattle.reader.specs.Chain.{Layers, named, pointer, array, proto, Params, closed, dots, param, Chain, entries}
+use Rattle.grammar.specs.Chain.{Layers, named, pointer, array, proto, Params, closed, dots, param, Chain, entries}
 use Rattle.tokens.specs.Tokens.{tagWord, voidWord, otherWord, identifier, isQualifier, kindOf}
-use Rattle.reader.specs.Reading.{Spelt, spelt, distinct, single, isBase, noQuals}
+use Rattle.bases.specs.Bases.{Spelt, spelt, distinct, single, isBase, noQuals}
 
 -- qualifiers before a base: `const `, and so on
 unfoldable pub qualsBefore : List Qualifier → List ℕ

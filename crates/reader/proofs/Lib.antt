@@ -1,5 +1,2 @@
--- Laws of the reader's definitions, for its code.
-pub mod BaseLaws
-pub mod ItemLaws
-pub mod ParseLaws
+-- Laws of the reader.
 pub mod ReadLaws
