@@ -1,9 +1,8 @@
 -- Laws for the code that reads qualifiers and bases. Assumes nothing.
-use Prim.Native.Nat.{ℕ, zero, suc, _+_, _-_, _≤_, _<_}
+use Prim.Native.Nat.{ℕ, _+_, _≤_, _<_}
 use mathlib.Core.Path.{_≡_, refl, ap, sym, _∙_}
-use mathlib.Core.Bool.{Bool, true, false, not, _&&_, _||_}
+use mathlib.Core.Bool.{Bool, true, false, not, _&&_}
 use mathlib.Core.List.{List, [], _∷_}
-use mathlib.Core.Logic.{_⊎_, inl, inr, ⊎-elim}
 use native.Mathlib.Omega.{arith}
 use borrow.Author.Tests.{lt-ltb, le-ltb, eq-eqb, ne-eqb, eqb-true, eqb-false, not-true, not-false}
 use lib.ListN.{length}
@@ -11,9 +10,9 @@ use lib.Dec.{ltb, eqb}
 use Rattle.rules.specs.Types.{Qualifier, volatile, const, restrict}
 use Rattle.tokens.specs.Tokens.{Kind, tagWord, voidWord, otherWord, Token, qual, word, number, mark, rest}
 use Rattle.bases.specs.Bases.{Spelt, spelt, among, distinct, begins, beginsWord, bracketed, qualRun, afterQuals, endsName, wordRun, afterWords, isTag, noTags, single, isBase, wordsOf, sameQualifier}
-use Rattle.tokens.specs.Looking.{Span, tokensAt, tokenSign, signOf, spanOf, Looked}
+use Rattle.tokens.specs.Looking.{Span, tokensAt, signOf, spanOf, Looked}
 use Rattle.bases.specs.Items.{qualCode, firstFrom, lastTo}
-use Rattle.bases.specs.Looking.{qualSign, wordSigned, voidSigned, qualOf, qualsOf, QualsAt, Third, isBaseWord, AfterWords, BaseAt}
+use Rattle.bases.specs.Looking.{qualSign, wordSigned, voidSigned, qualOf, QualsAt, Third, isBaseWord, AfterWords, BaseAt}
 use Rattle.tokens.specs.declared.Tok.{Tok}
 use Rattle.bases.specs.declared.Quals.{Quals}
 use Rattle.bases.specs.declared.Base.{Base}

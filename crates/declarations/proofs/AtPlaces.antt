@@ -1,8 +1,7 @@
 -- The bytes of the text at the place of a word are the word's, so that reading at places is reading at bytes. Assumes nothing.
-use Prim.Native.Nat.{ℕ, zero, suc, _+_, _-_, _≤_, _<_}
+use Prim.Native.Nat.{ℕ, _+_, _-_}
 use mathlib.Core.Path.{_≡_, refl, ap, sym, _∙_}
-use mathlib.Core.Bool.{Bool, true, false}
-use mathlib.Core.List.{List, [], _∷_, _++_, append-assoc, append-nil}
+use mathlib.Core.List.{List, [], _∷_, _++_, append-assoc}
 use native.Mathlib.Omega.{arith}
 use lib.ListN.{length, take, drop, length-append}
 use lib.Seq.{drop-append-seam, take-append-seam}
@@ -11,10 +10,10 @@ use Rattle.lent.specs.Text.{ascii}
 use Rattle.rules.specs.Types.{volatile, const, restrict}
 use Rattle.rules.specs.Names.{sameBytes}
 use Rattle.rules.specs.Decl.{qualifier}
-use Rattle.tokens.specs.Tokens.{Token, qual, word, number, mark, kindOf, identifier, isCount, valueOf, inRun, wordToken, runToken, lone, ended, tokens}
-use Rattle.reader.specs.Reading.{asBytes, Read, readTokens, whole, readWith, read}
+use Rattle.tokens.specs.Tokens.{Token, mark, identifier, isCount, inRun, wordToken, runToken, lone, ended, tokens}
+use Rattle.reader.specs.Reading.{asBytes, readTokens, whole, readWith, read}
 use Rattle.tokens.specs.Looking.{Span, places}
-use Rattle.declarations.specs.Places.{eachRead, bytesAt, SameAtPlaces}
+use Rattle.declarations.specs.Places.{bytesAt, SameAtPlaces}
 use Rattle.declarations.proofs.Natural.{chosen, eachToken, eachOf, read-each}
 
 module _ {U W : Type 0} (f : U → W) where

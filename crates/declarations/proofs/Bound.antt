@@ -1,5 +1,5 @@
 -- "19 when the bytes are no such declaration or its chain … would pass 512 entries": the bound on open calls refuses no other text. Assumes nothing.
-use Prim.Native.Nat.{ℕ, zero, suc, _+_, _*_, _≤_, _<_}
+use Prim.Native.Nat.{ℕ, _+_, _*_, _≤_, _<_}
 use mathlib.Core.Path.{_≡_, refl, ap, sym, _∙_}
 use mathlib.Core.Bool.{Bool, true, false}
 use mathlib.Core.List.{List, [], _∷_}
@@ -7,8 +7,7 @@ use mathlib.Core.Logic.{_⊎_, inl, inr, ⊎-elim}
 use native.Mathlib.Omega.{arith}
 use borrow.Author.Tests.{le-leb, leb-true, leb-false}
 use lib.Dec.{leb}
-use lib.ListN.{length}
-use Rattle.grammar.specs.Chain.{Chain, layerEntries, entries}
+use Rattle.grammar.specs.Chain.{Chain, entries}
 use Rattle.tokens.specs.Tokens.{Token, tokens}
 use Rattle.grammar.specs.Grammar.{Reads, reads, fails}
 use Rattle.reader.specs.Reading.{asBytes, most, Read, chain, refused, readTokens, counted, whole, readWith, read}

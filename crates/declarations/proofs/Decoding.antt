@@ -1,28 +1,28 @@
 -- The words that the code leaves say what the reader says, and so does the written text of a covered chain. Assumes nothing.
-use Prim.Native.Nat.{ℕ, zero, suc, _+_, _-_, _*_, _≤_, _<_}
+use Prim.Native.Nat.{ℕ, suc, _+_, _-_, _*_, _≤_, _<_}
 use mathlib.Core.Path.{_≡_, refl, ap, sym, _∙_}
-use mathlib.Core.Bool.{Bool, true, false, not, _&&_}
+use mathlib.Core.Bool.{Bool, true, false}
 use mathlib.Core.List.{List, [], _∷_, _++_, append-assoc, append-nil}
 use native.Mathlib.Omega.{arith}
 use borrow.Author.Tests.{lt-ltb, leb-true, ne-eqb}
 use lib.ListN.{length, getD, set, replicate, length-set}
 use lib.Seq.{getD-set-same, getD-set-other}
 use lib.Dec.{ltb, leb, eqb}
-use Rattle.rules.specs.Types.{Name, Qualifier, volatile, const, restrict}
+use Rattle.rules.specs.Types.{Qualifier, volatile, const, restrict}
 use Rattle.grammar.specs.Chain.{Layers, named, pointer, array, proto, Params, closed, dots, param, Chain, entries}
 use Rattle.tokens.specs.Tokens.{Token, tokens}
 use Rattle.grammar.specs.Grammar.{Reads, reads, fails}
-use Rattle.reader.specs.Reading.{most, Read, chain, refused, readTokens, counted, whole, readWith, read}
+use Rattle.reader.specs.Reading.{most, Read, chain, refused, readTokens, counted, whole, readWith}
 use Rattle.tokens.specs.Looking.{Span, places}
-use Rattle.bases.specs.Items.{Item, item, qualCode, qualItems, firstFrom, lastTo, putItem, oneMore, Placed, placed, placing}
+use Rattle.bases.specs.Items.{Item, item, qualItems, firstFrom, lastTo, putItem, oneMore, Placed, placed, placing}
 use Rattle.grammar.specs.Encoding.{baseItem, baseKind, anyParams, layerItems, paramItems}
 use Rattle.reader.specs.Encoding.{chainItems, answerOf, readInto}
-use Rattle.tokens.proofs.Cases.{false-true, passed, failed}
+use Rattle.tokens.proofs.Cases.{passed, failed}
 use Rattle.reader.proofs.ReadLaws.{chain-size}
 use Rattle.declarations.specs.Places.{eachWord, eachLayer, eachParam, eachChain, eachRead, bytesAt}
-use Rattle.declarations.specs.Written.{written, Word, Covered}
+use Rattle.declarations.specs.Written.{written}
 use Rattle.declarations.specs.Enough.{readUnder}
-use Rattle.declarations.specs.Decoding.{itemsFrom, wordsAt, qualOfCode, Lay, Open, none, inside, over, atBase, atProto, chainFrom, decoded, entriesLeft, Numbered, Decodes, ReadsBack}
+use Rattle.declarations.specs.Decoding.{itemsFrom, qualOfCode, Lay, Open, none, inside, atBase, atProto, chainFrom, decoded, entriesLeft, Numbered, Decodes, ReadsBack}
 use Rattle.declarations.proofs.AtPlaces.{same-at-places}
 use Rattle.declarations.proofs.Natural.{entries-each}
 use Rattle.declarations.proofs.Parses as parses

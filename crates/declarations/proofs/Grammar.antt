@@ -4,15 +4,14 @@ use mathlib.Core.Path.{_≡_, refl, ap, sym, _∙_}
 use mathlib.Core.Bool.{Bool, true, false, not, _&&_, _||_}
 use mathlib.Core.List.{List, [], _∷_}
 use native.Mathlib.Omega.{arith}
-use lib.ListN.{length}
 use Rattle.rules.specs.Types.{Qualifier}
 use Rattle.grammar.specs.Chain.{Layers, named, pointer, array, proto, Params, closed, dots, param, Chain, layerEntries, paramEntries, entries}
-use Rattle.tokens.specs.Tokens.{Token, qual, word, number, mark, kindOf, rest}
-use Rattle.grammar.specs.Grammar.{Reads, reads, fails, andThen, readBase, wanted, wantedName, wantedCount, declarator, suffixes, params, paramList, paramEnd}
-use Rattle.bases.specs.Bases.{Spelt, distinct, begins, beginsWord, bracketed, qualRun, afterQuals, endsName, isBase, wordsOf, voidBefore}
+use Rattle.tokens.specs.Tokens.{number, mark, rest}
+use Rattle.grammar.specs.Grammar.{Reads, reads, andThen, wanted, wantedName, wantedCount, declarator, suffixes, params, paramList, paramEnd}
+use Rattle.bases.specs.Bases.{Spelt, distinct, begins, beginsWord, bracketed, qualRun, afterQuals, endsName, wordsOf, voidBefore}
 use Rattle.reader.specs.Reading.{most, readTokens}
 use Rattle.declarations.specs.Written.{plainVoid, spelling, Base, Allowed, AllowedParams, isArrayable, returnable, startsWithDots, Covered}
-use Rattle.declarations.proofs.Shapes.{Tok, Nm, has, lacks, wants, nameToks, qualToks, wordToks, bracket, commaTok, toks, paramToks, Stops, at-end, at-close, at-comma, beginsQual, stops-name, stops-qual, stops-word, param-stops, qual-run, after-quals, Left, words-of, toks-qual, unnamed-left, base-mark, params-star, params-end, named-left, not-void, at-41, at-44, base-goes}
+use Rattle.declarations.proofs.Shapes.{Tok, Nm, has, lacks, wants, qualToks, wordToks, toks, paramToks, Stops, at-end, at-close, at-comma, beginsQual, stops-name, stops-qual, param-stops, qual-run, after-quals, words-of, toks-qual, unnamed-left, base-mark, params-end, named-left, not-void, at-41, at-44, base-goes}
 use Rattle.tokens.proofs.Cases.{passed, failed}
 
 abbrev Res : Type 0

@@ -1,24 +1,24 @@
 -- The words of a base stand in the text one behind another, with nothing but spaces between them. Assumes nothing.
-use Prim.Native.Nat.{ℕ, zero, suc, _+_, _-_, _≤_, _<_}
+use Prim.Native.Nat.{ℕ, _+_, _-_, _≤_, _<_}
 use mathlib.Core.Path.{_≡_, refl, ap, sym, _∙_}
-use mathlib.Core.Bool.{Bool, true, false, not, _&&_, _||_}
+use mathlib.Core.Bool.{Bool, true, false, not, _&&_}
 use mathlib.Core.List.{List, [], _∷_, _++_, append-assoc, append-nil}
 use native.Mathlib.Omega.{arith}
 use borrow.Author.Tests.{eqb-true}
 use lib.ListN.{length, take, drop, length-append, length-drop, length-take}
-use lib.Seq.{drop-append-seam, take-append-seam, drop-append-le, drop-length, take-add, drop-drop}
+use lib.Seq.{drop-append-seam, take-append-seam, drop-append-le, take-add, drop-drop}
 use lib.Dec.{eqb}
 use Rattle.lent.specs.Text.{ascii}
 use Rattle.rules.specs.Types.{Qualifier, volatile, const, restrict}
 use Rattle.rules.specs.Names.{sameBytes}
 use Rattle.rules.specs.Decl.{qualifier}
-use Rattle.tokens.specs.Tokens.{Kind, Token, qual, word, number, mark, kindOf, isDigit, isLetter, isWordByte, identifier, isCount, valueOf, inRun, allOf, wordToken, runToken, lone, ended, tokens, rest}
-use Rattle.bases.specs.Bases.{Spelt, spelt, endsName, qualRun, afterQuals, wordRun, afterWords, isBase, wordsOf}
+use Rattle.tokens.specs.Tokens.{Token, qual, word, number, mark, kindOf, isDigit, isLetter, isWordByte, identifier, isCount, valueOf, inRun, allOf, wordToken, runToken, lone, ended, tokens, rest}
+use Rattle.bases.specs.Bases.{spelt, endsName, afterQuals, wordRun, afterWords, isBase, wordsOf}
 use Rattle.tokens.specs.Looking.{Span, places}
 use Rattle.bases.specs.Items.{firstFrom, lastTo}
 use Rattle.tokens.proofs.Cases.{false-true, passed, failed}
 use Rattle.declarations.specs.Places.{eachWord, bytesAt}
-use Rattle.declarations.specs.Decoding.{kept, split, wordsAt}
+use Rattle.declarations.specs.Decoding.{split, wordsAt}
 use Rattle.declarations.proofs.AtPlaces.{place-bytes}
 
 abbrev pub isSpace : ℕ → Bool

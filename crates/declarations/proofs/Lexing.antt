@@ -5,20 +5,18 @@ use mathlib.Core.Bool.{Bool, true, false, not, _&&_, _||_}
 use mathlib.Core.List.{List, [], _∷_, _++_, append-assoc, append-nil}
 use native.Mathlib.Omega.{arith}
 use borrow.Author.Tests.{lt-ltb, le-ltb, le-leb, ne-eqb}
-use lib.ListN.{length, getD}
-use lib.Dec.{ltb, leb, eqb}
-use Rattle.lent.specs.Text.{ascii}
+use lib.ListN.{length}
+use lib.Dec.{eqb}
 use Rattle.lent.specs.Decimal.{digits, decimal}
 use Rattle.lent.proofs.Digits.{horner, AllDigits, Numeral, decimal-is}
 use Rattle.rules.specs.Types.{Qualifier, volatile, const, restrict, isEmpty}
 use Rattle.rules.specs.Names.{sameBytes}
 use Rattle.rules.specs.Decl.{qualifier, sepName, brackets}
 use Rattle.grammar.specs.Chain.{Layers, named, pointer, array, proto, Params, closed, dots, param, Chain}
-use Rattle.tokens.specs.Tokens.{Token, qual, word, number, mark, isDigit, isLetter, isWordByte, inRun, allOf, identifier, valueOf, isCount, kindOf, isQualifier, wordToken, runToken, lone, ended, tokens}
+use Rattle.tokens.specs.Tokens.{qual, word, number, mark, isDigit, isLetter, isWordByte, inRun, allOf, identifier, valueOf, isCount, kindOf, isQualifier, wordToken, runToken, lone, ended, tokens}
 use Rattle.reader.specs.Reading.{asBytes}
-use Rattle.bases.specs.Bases.{noQuals, isBase}
-use Rattle.declarations.specs.Written.{qualsBefore, qualsBehind, wordsBehind, spaced, star, namePart, gap, beforeCount, beforeParams, comma, layersText, paramsText, written, Word, Words, spelling, Base, isArrayable, returnable, Allowed, AllowedParams, Covered}
-use Rattle.declarations.proofs.Shapes.{Tok, Nm, has, lacks, nameToks, qualToks, wordToks, bracket, commaTok, toks, paramToks}
+use Rattle.declarations.specs.Written.{qualsBefore, qualsBehind, wordsBehind, spaced, star, namePart, gap, beforeCount, beforeParams, comma, layersText, paramsText, written, Word, Words, isArrayable, returnable, Allowed, AllowedParams, Covered}
+use Rattle.declarations.proofs.Shapes.{Tok, Nm, has, lacks, nameToks, qualToks, wordToks, commaTok, toks, paramToks}
 use Rattle.tokens.proofs.Cases.{passed, failed}
 use Rattle.declarations.proofs.Grammar.{chainToks}
 

@@ -1,7 +1,7 @@
 -- Reading does not look at how a word is kept. Assumes nothing.
-use Prim.Native.Nat.{ℕ, zero, suc, _+_, _-_, _≤_}
-use mathlib.Core.Path.{_≡_, refl, ap, sym, _∙_}
-use mathlib.Core.Bool.{Bool, true, false, not, _&&_, _||_}
+use Prim.Native.Nat.{ℕ, zero, suc, _+_}
+use mathlib.Core.Path.{_≡_, refl, ap, _∙_}
+use mathlib.Core.Bool.{Bool, true, false, _&&_, _||_}
 use mathlib.Core.List.{List, [], _∷_}
 use lib.ListN.{length}
 use lib.Dec.{leb}
@@ -10,7 +10,7 @@ use Rattle.grammar.specs.Chain.{Layers, named, pointer, array, proto, Params, c
 use Rattle.tokens.specs.Tokens.{Kind, tagWord, voidWord, otherWord, Token, qual, word, number, mark, rest}
 use Rattle.grammar.specs.Grammar.{Reads, reads, fails, andThen, readBase, wanted, wantedName, wantedCount, declarator, suffixes, params, paramList, paramEnd}
 use Rattle.bases.specs.Bases.{Spelt, spelt, distinct, begins, beginsWord, bracketed, qualRun, afterQuals, endsName, wordRun, afterWords, isTag, noTags, single, isBase, wordsOf, voidBefore}
-use Rattle.reader.specs.Reading.{most, Read, chain, refused, readTokens, counted, whole}
+use Rattle.reader.specs.Reading.{most, readTokens, counted, whole}
 use Rattle.declarations.specs.Places.{eachWord, eachLayer, eachParam, eachChain, eachRead}
 
 -- a test on both sides

@@ -1,16 +1,15 @@
 -- What the grammar reads under some bound it reads under every bound past four calls an entry; and what holds of the tokens' words holds
 -- of the words of each base that is read. Assumes nothing.
-use Prim.Native.Nat.{ℕ, zero, suc, _+_, _-_, _*_, _≤_}
-use mathlib.Core.Path.{_≡_, refl, ap, sym, _∙_}
-use mathlib.Core.Bool.{Bool, true, false, not, _&&_, _||_}
+use Prim.Native.Nat.{ℕ, zero, suc, _+_, _*_, _≤_}
+use mathlib.Core.Path.{_≡_, refl, ap, _∙_}
+use mathlib.Core.Bool.{Bool, true, false, _&&_, _||_}
 use mathlib.Core.List.{List, [], _∷_}
 use native.Mathlib.Omega.{arith}
-use lib.ListN.{length}
 use Rattle.rules.specs.Types.{Qualifier}
-use Rattle.grammar.specs.Chain.{Layers, named, pointer, array, proto, Params, closed, dots, param, Chain, layerEntries, paramEntries, entries}
-use Rattle.tokens.specs.Tokens.{Kind, tagWord, voidWord, otherWord, Token, qual, word, number, mark, rest}
+use Rattle.grammar.specs.Chain.{Layers, named, pointer, array, proto, Params, closed, dots, param, Chain, layerEntries, paramEntries}
+use Rattle.tokens.specs.Tokens.{Token, qual, word, number, mark, rest}
 use Rattle.grammar.specs.Grammar.{Reads, reads, fails, andThen, readBase, wanted, wantedName, wantedCount, declarator, suffixes, params, paramList, paramEnd}
-use Rattle.bases.specs.Bases.{Spelt, spelt, distinct, begins, beginsWord, bracketed, qualRun, afterQuals, wordRun, afterWords, isBase, wordsOf, voidBefore}
+use Rattle.bases.specs.Bases.{Spelt, distinct, begins, beginsWord, bracketed, qualRun, afterQuals, wordRun, afterWords, isBase, wordsOf, voidBefore}
 use Rattle.declarations.specs.Enough.{readUnder}
 use Rattle.tokens.proofs.Cases.{false-true, passed, failed}
 

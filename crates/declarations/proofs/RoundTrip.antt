@@ -1,12 +1,10 @@
 -- "For covered chains of at most 512 entries that C allows, the written text reads back to the same chain." Assumes nothing.
 use Prim.Native.Nat.{ℕ}
-use mathlib.Core.Path.{_≡_, refl, ap, _∙_}
-use mathlib.Core.List.{List, []}
+use mathlib.Core.Path.{_≡_, ap, _∙_}
+use mathlib.Core.List.{List}
 use borrow.Author.Tests.{le-leb}
 use Rattle.grammar.specs.Chain.{Chain, entries}
-use Rattle.tokens.specs.Tokens.{tokens}
-use Rattle.reader.specs.Reading.{asBytes, Read, chain, readTokens, counted, whole, readWith, read}
-use Rattle.grammar.specs.Grammar.{reads}
+use Rattle.reader.specs.Reading.{chain, readTokens, counted, whole, readWith, read}
 use Rattle.declarations.specs.Written.{written, Word, Covered}
 use Rattle.declarations.proofs.Grammar.{tokens-read}
 use Rattle.declarations.proofs.Lexing.{written-tokens}

@@ -1,16 +1,15 @@
 -- The tokens of a chain, and how they begin. Assumes nothing.
-use Prim.Native.Nat.{ℕ, zero, suc, _+_, _≤_}
+use Prim.Native.Nat.{ℕ}
 use mathlib.Core.Path.{_≡_, refl, ap, sym, _∙_}
-use mathlib.Core.Bool.{Bool, true, false, not, _&&_, _||_}
+use mathlib.Core.Bool.{Bool, true, false, _&&_}
 use mathlib.Core.List.{List, [], _∷_}
-use native.Mathlib.Omega.{arith}
 use lib.Dec.{eqb}
 use Rattle.rules.specs.Types.{Qualifier}
 use Rattle.grammar.specs.Chain.{Layers, named, pointer, array, proto, Params, closed, dots, param}
 use Rattle.tokens.specs.Tokens.{Kind, tagWord, voidWord, otherWord, Token, qual, word, number, mark, kindOf, rest}
 use Rattle.grammar.specs.Grammar.{Reads, readBase}
 use Rattle.bases.specs.Bases.{Spelt, spelt, begins, beginsWord, bracketed, qualRun, afterQuals, endsName, wordRun, afterWords, single, isBase, wordsOf, voidBefore, distinct}
-use Rattle.declarations.specs.Written.{isVoid, plainVoid, noLayers, spelling, Base, Allowed, AllowedParams, isArrayable, returnable}
+use Rattle.declarations.specs.Written.{isVoid, plainVoid, noLayers, spelling, Base, Allowed, AllowedParams}
 use Rattle.tokens.proofs.Cases.{false-true, passed}
 
 abbrev pub Tok : Type 0

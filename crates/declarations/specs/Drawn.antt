@@ -3,10 +3,10 @@
 use Prim.Native.Nat.{ℕ}
 use mathlib.Core.Path.{_≡_}
 use mathlib.Core.Bool.{Bool, true, false, _&&_}
-use mathlib.Core.List.{List, [], _∷_, _++_}
+use mathlib.Core.List.{List, [], _∷_}
 use lib.Dec.{eqb}
 use Rattle.lent.specs.Text.{whole}
-use Rattle.rules.specs.Types.{Name, Qualifier, Param, Btf, BtfType, Member}
+use Rattle.rules.specs.Types.{Name, Qualifier, Param, Btf, Member}
 use Rattle.rules.specs.Names.{Naming}
 use Rattle.rules.specs.Writer.{got, Writer, said}
 use Rattle.rules.specs.Decl.{Entry, base, star, qual, array as count, proto as list, chainOf, noParams, shownParams, baseWord}

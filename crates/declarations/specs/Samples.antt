@@ -4,8 +4,8 @@ use Prim.Native.Nat.{ℕ}
 use Prim.Native.String.{String}
 use mathlib.Core.List.{List, [], _∷_}
 use Rattle.lent.specs.Text.{ascii}
-use Rattle.rules.specs.Types.{Qualifier, volatile, const, restrict}
-use Rattle.grammar.specs.Chain.{Layers, named, pointer, array, proto, Params, closed, dots, param, Chain}
+use Rattle.rules.specs.Types.{Qualifier, volatile, const}
+use Rattle.grammar.specs.Chain.{Layers, named, pointer, array, proto, closed, dots, param}
 use Rattle.reader.specs.Reading.{Read, chain, refused, read}
 
 pub record Sample : Type 0 where

@@ -1,6 +1,6 @@
 -- The text of a declaration whose chain is given, as emit_type_decl and emit_type_chain write it (proofs/Rules ties the two), and
 -- the chains that the reader covers and C allows.
-use Prim.Native.Nat.{ℕ, _<_, _≤_}
+use Prim.Native.Nat.{ℕ, _≤_}
 use mathlib.Core.Path.{_≡_}
 use mathlib.Core.Bool.{Bool, true, false, not, _&&_}
 use mathlib.Core.List.{List, [], _∷_, _++_}

@@ -1,16 +1,15 @@
 -- Laws for the code of the grammar. Assumes nothing.
-use Prim.Native.Nat.{ℕ, zero, suc, _+_, _-_, _≤_, _<_}
+use Prim.Native.Nat.{ℕ, zero, suc, _+_, _-_}
 use mathlib.Core.Path.{_≡_, refl, ap, sym, _∙_}
-use mathlib.Core.Bool.{Bool, true, false, not, _&&_, _||_}
+use mathlib.Core.Bool.{Bool, true, false, _&&_, _||_}
 use mathlib.Core.List.{List, [], _∷_, _++_, append-assoc, append-nil}
 use native.Mathlib.Omega.{arith}
 use borrow.Author.Tests.{eq-eqb, ne-eqb}
-use lib.Dec.{eqb}
 use Rattle.rules.specs.Types.{Qualifier, volatile, const, restrict}
 use Rattle.grammar.specs.Chain.{Layers, named, pointer, array, proto, Params, closed, dots, param}
-use Rattle.tokens.specs.Tokens.{Kind, tagWord, voidWord, otherWord, Token, qual, word, number, mark, rest}
+use Rattle.tokens.specs.Tokens.{tagWord, voidWord, otherWord, Token, qual, word, number, mark, rest}
 use Rattle.grammar.specs.Grammar.{Reads, reads, fails, andThen, readBase, wanted, wantedName, wantedCount, declarator, suffixes, params, paramList, paramEnd}
-use Rattle.bases.specs.Bases.{Spelt, begins, beginsWord, bracketed, distinct, qualRun, afterQuals, wordRun, afterWords, wordsOf, isBase, voidBefore}
+use Rattle.bases.specs.Bases.{begins, beginsWord, bracketed, distinct, qualRun, afterQuals, wordRun, afterWords, wordsOf, isBase, voidBefore}
 use Rattle.tokens.specs.Looking.{Span, tokensAt, signOf, countOf, Looked}
 use Rattle.bases.specs.Items.{Item, item, qualItems, firstFrom, lastTo, Placed, placed, placing}
 use Rattle.grammar.specs.Encoding.{baseItem, baseKind, anyParams, layerItems, paramItems}

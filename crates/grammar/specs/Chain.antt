@@ -1,7 +1,7 @@
 -- The chain of a declaration, from its base outward to the declared name: "a base, pointers, arrays, qualifiers on bases and
 -- pointers, and prototypes with unnamed parameters". W is what a word of the text is kept as: its bytes, or where it stands.
 use Prim.Native.Nat.{ℕ, _+_}
-use mathlib.Core.List.{List, [], _∷_}
+use mathlib.Core.List.{List}
 use lib.ListN.{length}
 use Rattle.rules.specs.Types.{Qualifier}
 

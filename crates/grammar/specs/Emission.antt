@@ -1,15 +1,14 @@
 -- What the code of the grammar leaves: entries stored one after another, and the tokens behind what was read.
-use Prim.Native.Nat.{ℕ, _+_, _-_}
+use Prim.Native.Nat.{ℕ}
 use mathlib.Core.Bool.{Bool, true, false}
-use mathlib.Core.List.{List, [], _∷_, _++_}
-use lib.Dec.{ltb}
+use mathlib.Core.List.{List, _∷_, _++_}
 use Rattle.grammar.specs.Chain.{Layers, named, pointer, array, proto, Params, dots}
 use Rattle.tokens.specs.Tokens.{Token}
 use Rattle.grammar.specs.Grammar.{Reads, reads, fails, andThen, wanted, wantedCount, declarator, suffixes, params}
 use Rattle.bases.specs.Bases.{distinct, qualRun, afterQuals}
 use Rattle.tokens.specs.Looking.{Span, tokensAt}
-use Rattle.bases.specs.Items.{Item, item, qualItems, Placed, placing}
-use Rattle.grammar.specs.Encoding.{anyParams, baseKind, layerItems, paramItems}
+use Rattle.bases.specs.Items.{Item, item, Placed, placing}
+use Rattle.grammar.specs.Encoding.{anyParams, baseKind, paramItems}
 use Rattle.bases.specs.Looking.{baseItems}
 use Rattle.bases.specs.declared.Base.{Base}
 use Rattle.bases.specs.declared.items.Spot.{Spot}

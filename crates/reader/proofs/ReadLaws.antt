@@ -1,5 +1,5 @@
 -- Laws for the reader: what it returns is the chain of the definition, or 19. Assumes nothing.
-use Prim.Native.Nat.{ℕ, zero, suc, _+_, _-_, _≤_, _<_}
+use Prim.Native.Nat.{ℕ, suc, _+_, _≤_, _<_}
 use mathlib.Core.Path.{_≡_, refl, ap, sym, _∙_}
 use mathlib.Core.Bool.{Bool, true, false, _&&_}
 use mathlib.Core.List.{List, [], _∷_, _++_, append-nil}
@@ -10,7 +10,7 @@ use lib.ListN.{length, replicate, length-append}
 use lib.Dec.{ltb, leb}
 use Rattle.rules.specs.Types.{Qualifier, volatile, const, restrict}
 use Rattle.grammar.specs.Chain.{Layers, named, pointer, array, proto, Params, closed, dots, param, Chain, layerEntries, paramEntries, entries}
-use Rattle.tokens.specs.Tokens.{Token, qual, word, number, mark, tagWord, voidWord, otherWord, tokens}
+use Rattle.tokens.specs.Tokens.{Token, qual, word, number, mark, tagWord, voidWord, otherWord}
 use Rattle.grammar.specs.Grammar.{Reads, reads, fails, andThen, readBase, declarator}
 use Rattle.bases.specs.Bases.{distinct, qualRun, afterQuals, wordRun, afterWords, wordsOf, isBase}
 use Rattle.reader.specs.Reading.{most, Read, chain, refused, readTokens, counted, whole, readWith}

@@ -1,6 +1,6 @@
 -- The reader of one declaration: its text whole, and at most 512 entries.
 use Prim.Native.Nat.{ℕ}
-use mathlib.Core.Bool.{Bool, true, false}
+use mathlib.Core.Bool.{true, false}
 use mathlib.Core.List.{List, [], _∷_}
 use lib.Dec.{leb}
 use Rattle.tokens.specs.Tokens.{Token, tokens}

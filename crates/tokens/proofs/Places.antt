@@ -1,5 +1,5 @@
 -- Laws for the code that looks at the token at a place of the text. Assumes nothing.
-use Prim.Native.Nat.{ℕ, zero, suc, _+_, _-_, _≤_, _<_}
+use Prim.Native.Nat.{ℕ, suc, _+_, _-_, _≤_, _<_}
 use mathlib.Core.Path.{_≡_, refl, ap, sym, _∙_}
 use mathlib.Core.Bool.{Bool, true, false}
 use mathlib.Core.List.{List, [], _∷_, _++_}
@@ -10,8 +10,7 @@ use lib.ListN.{length, getD, take, drop, length-drop, length-take}
 use lib.Seq.{drop-cons, take-suc, getD-drop}
 use lib.Dec.{eqb}
 use Rattle.tokens.specs.Tokens.{Token, mark, inRun, isWordByte, isLetter, isDigit, runToken, lone, ended, tokens, rest}
-use Rattle.tokens.specs.Looking.{Span, places, tokensAt, tokenSign, tokenCount, tokenSpan, signOf, countOf, spanOf, Looked, Skipped, Ran, runSign, runCount}
-use Rattle.tokens.specs.declared.Tok.{Tok}
+use Rattle.tokens.specs.Looking.{Span, places, tokensAt, signOf, countOf, spanOf, Looked, Skipped, Ran, runSign, runCount}
 use Rattle.tokens.proofs.Cases.{passed, failed}
 use Rattle.tokens.proofs.Bytes.{drop-end, sign-any, count-any, span-any}
 
