@@ -13,7 +13,7 @@ use Rattle.lent.proofs.Laws.{le-or-lt}
 use Rattle.rules.specs.Order.{Node, ignored, plain, listed, through, ptr, tdef, proto, comp, Table, Mark, new, busy, done}
 use Rattle.rules.specs.Machine.{Out, wrote, stuck, Machine, isZero, pick, obind, eeach, once, mention, again, close, leaf, within, begin, allowed, look, emit}
 use Rattle.causes.specs.Causes.{Entry, entry, Noted, withEntries, upTo, always, line, causeAt, noting, emitNoted}
-use Rattle.causes.specs.Claims.{forget, Lined}
+use Rattle.causes.specs.Claims.{forget, Numbered, Lined}
 
 module _ {M : Type 0} where
   abbrev size : Noted M → ℕ
@@ -21,11 +21,15 @@ module _ {M : Type 0} where
 
   lined-wrote : (s : Noted M) → Lined (size s) (λ r. wrote s) (wrote (s .mach))
   unfolding forget
-  lined-wrote s = record { same = refl; need = size s; from = omega arith; fits = λ c l. refl; short = λ c l q. absurd (omega arith); counts = λ s′ e. let z : size s′ ≡ size s = cc in z }
+  lined-wrote s = record { same = refl; need = size s; from = omega arith; fits = λ c l. refl; short = λ c l q. absurd (omega arith); counts = λ s′ e. let z : size s′ ≡ size s = cc in z; numbered = λ e. (let z : _≡_ {A = ℕ} 0 1 = cc in omega arith) }
 
-  lined-stuck : (k e : ℕ) → Lined {M = M} k (λ r. stuck e) (stuck e)
+  abbrev out-number : ℕ → Out (Noted M) → ℕ
+  out-number d (wrote s) = d
+  out-number d (stuck e) = e
+
+  lined-stuck : (k e : ℕ) → Lined {M = M} k (λ r. stuck (suc e)) (stuck (suc e))
   unfolding forget
-  lined-stuck k e = record { same = refl; need = k; from = omega arith; fits = λ c l. refl; short = λ c l q. absurd (omega arith); counts = λ s′ q. absurd (let z : _≡_ {A = ℕ} 0 1 = cc in omega arith) }
+  lined-stuck k e = record { same = refl; need = k; from = omega arith; fits = λ c l. refl; short = λ c l q. absurd (omega arith); counts = λ s′ q. absurd (let z : _≡_ {A = ℕ} 0 1 = cc in omega arith); numbered = λ q. let z : suc e ≡ 0 = ap (out-number 0) q in omega arith }
 
   -- ---- a line
   with-forget : (es : List Entry) (o : Out M) → forget (withEntries es o) ≡ o
@@ -38,23 +42,30 @@ module _ {M : Type 0} where
   with-counts es (wrote m) s e = let z : size s ≡ length es = cc in z
   with-counts es (stuck c) s e = absurd (let z : _≡_ {A = ℕ} 0 1 = cc in omega arith)
 
-  pub line-lined : (shown : Bool) (e : Entry) (step : M → Out M) (s : Noted M) → Lined (size s) (λ r. line r shown e step s) (step (s .mach))
+  with-no : (es : List Entry) (o : Out M) → (o ≡ stuck 0 → ⊥) → withEntries es o ≡ stuck 0 → ⊥
+  unfolding withEntries
+  with-no es (wrote m) h e = let z : _≡_ {A = ℕ} 0 1 = cc in omega arith
+  with-no es (stuck c) h e = h (ap stuck (ap (out-number 1) e))
+
+  pub line-lined : (shown : Bool) (e : Entry) (step : M → Out M) → ((m : M) → step m ≡ stuck 0 → ⊥) → (s : Noted M) → Lined (size s) (λ r. line r shown e step s) (step (s .mach))
   unfolding line
-  line-lined false e step s = record {
+  line-lined false e step h s = record {
     same = with-forget (s .entries) (step (s .mach));
     need = size s;
     from = omega arith;
     fits = λ c l. refl;
     short = λ c l q. absurd (omega arith);
     counts = with-counts (s .entries) (step (s .mach));
+    numbered = with-no (s .entries) (step (s .mach)) (h (s .mach));
   }
-  line-lined true e step s = record {
+  line-lined true e step h s = record {
     same = with-forget (s .entries ++ (e ∷ [])) (step (s .mach));
     need = size s + 1;
     from = omega arith;
     fits = λ c l. ap (λ (b : Bool). elim b as (λ (y : Bool). Out (Noted M)) [ true ↦ withEntries (s .entries ++ (e ∷ [])) (step (s .mach)) | false ↦ stuck 17 ]) (lt-ltb (size s) c (omega arith));
     short = λ c l q. ap (λ (b : Bool). elim b as (λ (y : Bool). Out (Noted M)) [ true ↦ withEntries (s .entries ++ (e ∷ [])) (step (s .mach)) | false ↦ stuck 17 ]) (le-ltb (size s) c (omega arith));
     counts = λ s′ q. with-counts (s .entries ++ (e ∷ [])) (step (s .mach)) s′ q ∙ length-append (s .entries) (e ∷ []);
+    numbered = with-no (s .entries ++ (e ∷ [])) (step (s .mach)) (h (s .mach));
   }
 
   -- ---- one after another
@@ -90,14 +101,16 @@ module _ {M : Type 0} where
           fits = λ c l. wrote-next (upTo c) s (h .fits c (omega arith) ∙ e) ∙ hg s .fits c l ∙ sym (wrote-next always s e);
           short = λ c l q. ⊎-elim (λ t. wrote-next (upTo c) s (h .fits c t ∙ e) ∙ hg s .short c (omega arith) q) (λ t. stuck-next (upTo c) 17 (h .short c l t)) (le-or-lt (h .need) c);
           counts = λ s′ q. hg s .counts s′ (sym (wrote-next always s e) ∙ q);
+          numbered = λ q. hg s .numbered (sym (wrote-next always s e) ∙ q);
         }
     bind-by (stuck c) e = record {
       same = plain-next;
       need = h .need;
       from = h .from;
-      fits = λ c′ l. ap (λ (o : Out (Noted M)). o) (stuck-next (upTo c′) c (h .fits c′ l ∙ e)) ∙ sym (stuck-next always c e);
+      fits = λ c′ l. stuck-next (upTo c′) c (h .fits c′ l ∙ e) ∙ sym (stuck-next always c e);
       short = λ c′ l q. stuck-next (upTo c′) 17 (h .short c′ l q);
       counts = λ s′ q. let t : stuck c ≡ wrote s′ = sym (stuck-next always c e) ∙ q in absurd (let z : _≡_ {A = ℕ} 0 1 = cc in omega arith);
+      numbered = λ q. h .numbered (e ∙ sym (stuck-next always c e) ∙ q);
     }
 
     lined-bind : Lined k next (obind P p)
@@ -110,7 +123,7 @@ module _ {M : Type 0} where
     each-lined (y ∷ ys) s = lined-bind (size s) (λ r. f r s y) (g (s .mach) y) (h s y) (λ r. eeach (f r) ys) (eeach g ys) (λ s′. each-lined ys s′)
 
 -- ---- the clauses of emission
-module _ {M : Type 0} (X : Machine M) (shows : ℕ → Bool) (why : ℕ → Entry) (T : Table) where
+module _ {M : Type 0} (X : Machine M) (shows : ℕ → Bool) (why : ℕ → Entry) (T : Table) (nz : Numbered X) where
   module _ (x cont : ℕ) where
     abbrev N : (ℕ → Bool) → Machine (Noted M)
     N r = noting X r shows why cont
@@ -127,16 +140,16 @@ module _ {M : Type 0} (X : Machine M) (shows : ℕ → Bool) (why : ℕ → Entr
         (λ s′. lined-wrote (record { mach = X .forwarded x (s′ .mach); entries = s′ .entries }))
 
     fwd-lined : (b : Bool) (s : Noted M) → Lined (size s) (λ r. once (N r) T (N r .fwdLine) x b s) (once X T (X .fwdLine) x b (s .mach))
-    fwd-lined b s = once-lined (λ r. N r .fwdLine) (X .fwdLine) (λ s′. line-lined (shows x) (entry x 2 cont) (λ m. X .fwdLine m x) s′) b s
+    fwd-lined b s = once-lined (λ r. N r .fwdLine) (X .fwdLine) (λ s′. line-lined (shows x) (entry x 2 cont) (λ m. X .fwdLine m x) (λ m. nz .fwd-no m x) s′) b s
 
     alias-lined : (b : Bool) (s : Noted M) → Lined (size s) (λ r. once (N r) T (N r .aliasLine) x b s) (once X T (X .aliasLine) x b (s .mach))
-    alias-lined b s = once-lined (λ r. N r .aliasLine) (X .aliasLine) (λ s′. line-lined (shows x) (causeAt 3 (why x) x cont) (λ m. X .aliasLine m x) s′) b s
+    alias-lined b s = once-lined (λ r. N r .aliasLine) (X .aliasLine) (λ s′. line-lined (shows x) (causeAt 3 (why x) x cont) (λ m. X .aliasLine m x) (λ m. nz .alias-no m x) s′) b s
 
     mention-lined : (b nm : Bool) (s : Noted M) → Lined (size s) (λ r. mention (N r) T b nm x s) (mention X T b nm x (s .mach))
     unfolding mention
     mention-lined true nm s = lined-wrote s
     mention-lined false true s = fwd-lined false s
-    mention-lined false false s = lined-stuck (size s) 13
+    mention-lined false false s = lined-stuck (size s) 12
 
     again-lined : (s : Noted M) (nd : Node) → Lined (size s) (λ r. again (N r) T s x cont nd) (again X T (s .mach) x cont nd)
     unfolding again
@@ -152,13 +165,13 @@ module _ {M : Type 0} (X : Machine M) (shows : ℕ → Bool) (why : ℕ → Entr
     close-lined : (top : Bool) (s : Noted M) → Lined (size s) (λ r. close (N r) T top x s) (close X T top x (s .mach))
     unfolding close
     close-lined true s =
-        lined-bind (size s) (λ r. N r .body s x) (X .body (s .mach) x) (line-lined true (why x) (λ m. X .body m x) s) (λ r s′. wrote (marked done s′)) (λ m. wrote (X .emark done x m)) (λ s′. lined-wrote (marked done s′))
+        lined-bind (size s) (λ r. N r .body s x) (X .body (s .mach) x) (line-lined true (why x) (λ m. X .body m x) (λ m. nz .body-no m x) s) (λ r s′. wrote (marked done s′)) (λ m. wrote (X .emark done x m)) (λ s′. lined-wrote (marked done s′))
     close-lined false s = lined-wrote (marked new s)
 
     leaf-lined : (b : Bool) (s : Noted M) → Lined (size s) (λ r. leaf (N r) T b x s) (leaf X T b x (s .mach))
     unfolding leaf
     leaf-lined true s =
-        lined-bind (size s) (λ r. N r .leafLine s x) (X .leafLine (s .mach) x) (line-lined true (causeAt 2 (why x) x cont) (λ m. X .leafLine m x) s) (λ r s′. wrote (marked done s′)) (λ m. wrote (X .emark done x m))
+        lined-bind (size s) (λ r. N r .leafLine s x) (X .leafLine (s .mach) x) (line-lined true (causeAt 2 (why x) x cont) (λ m. X .leafLine m x) (λ m. nz .leaf-no m x) s) (λ r s′. wrote (marked done s′)) (λ m. wrote (X .emark done x m))
         (λ s′. lined-wrote (marked done s′))
     leaf-lined false s = lined-wrote (marked done s)
 
@@ -188,7 +201,7 @@ module _ {M : Type 0} (X : Machine M) (shows : ℕ → Bool) (why : ℕ → Entr
 
       allowed-lined : (b : Bool) → Lined (size s) (λ r. allowed (N r) T (rec r) s x cont b) (allowed X T rec′ (s .mach) x cont b)
       unfolding allowed
-      allowed-lined true = lined-stuck (size s) 14
+      allowed-lined true = lined-stuck (size s) 13
       allowed-lined false = begin-lined (isZero cont) (T .node x)
 
       look-lined : (m : Mark) → Lined (size s) (λ r. look (N r) T (rec r) s x cont m) (look X T rec′ (s .mach) x cont m)
@@ -200,5 +213,5 @@ module _ {M : Type 0} (X : Machine M) (shows : ℕ → Bool) (why : ℕ → Entr
   -- THE THEOREM of emission
   pub emit-lined : (n : ℕ) (s : Noted M) (x cont : ℕ) → Lined (size s) (λ r. emitNoted X r shows why T n s x cont) (emit X T n (s .mach) x cont)
   unfolding emitNoted emit
-  emit-lined zero s x cont = lined-stuck (size s) 12
+  emit-lined zero s x cont = lined-stuck (size s) 11
   emit-lined (suc n) s x cont = look-lined x cont (λ r s′ y c. emitNoted X r shows why T n s′ y c) (λ m y c. emit X T n m y c) (λ s′ y c. emit-lined n s′ y c) s (X .eget (s .mach) x)

@@ -1,2 +1,3 @@
 pub mod Ordering
 pub mod Emission
+pub mod Requests
