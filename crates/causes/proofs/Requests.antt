@@ -12,7 +12,7 @@ use Rattle.lent.proofs.Laws.{le-or-lt}
 use Rattle.rules.specs.Order.{Table, Res, ok, refused, order}
 use Rattle.rules.specs.Machine.{Out, wrote, stuck, Machine, eeach, emit, Sess, Answer, shut, emitted, ordered, gate, single, onward, from, every}
 use Rattle.causes.specs.Causes.{Entry, Led, orderLed, listedEntry, Noted, upTo, always, emitNoted, Told, untold, dropped, emittedNoted, eachListed, orderedNoted, gateNoted, singleNoted, onwardNoted, listNoted, fromNoted, everyNoted, wordBytes, bytesOf, filled, Causes, causesOf, entriesIn, oneCauses, listCauses, allCauses}
-use Rattle.causes.specs.Claims.{forget, Numbered, Lined, Fits, listPlain, Listed}
+use Rattle.causes.specs.Claims.{forget, Numbered, Lined, Fits, listPlain, Listed, Lent}
 use Rattle.causes.proofs.Ordering.{forgetLed, order-forgets}
 use Rattle.causes.proofs.Emission.{emit-lined, each-lined}
 
@@ -160,3 +160,65 @@ module _ {M : Type 0} (X : Machine M) (T : Table) (shows : ℕ → Bool) (nz : N
   unfolding everyNoted every
   every-fits room S false = always-fits (record { answer = record { sess = S; number = 11 }; entries = []; zeroed = false }) (record { sess = S; number = 11 }) refl
   every-fits room S true = from-fits room (T .count - 1) 1 (record { answer = record { sess = S; number = 0 }; entries = []; zeroed = true }) refl
+
+-- ---- the lent list
+bytes-length : (es : List Entry) → length (bytesOf es) ≡ 12 * length es
+unfolding bytesOf
+bytes-length [] = refl
+bytes-length (e ∷ es) = let h : length (bytesOf es) ≡ 12 * length es = bytes-length es in omega arith
+
+filled-listed : (n : ℕ) (es : List Entry) → 12 * length es ≤ n → Listed n es (filled n es)
+unfolding filled
+filled-listed n es l =
+    let a : length (bytesOf es) ≡ 12 * length es = bytes-length es in
+    let b : length {A = ℕ} (replicate (n - 12 * length es) 0) ≡ n - 12 * length es = length-replicate (n - 12 * length es) 0 in
+    record { is = refl; size = length-append (bytesOf es) (replicate (n - 12 * length es) 0) ∙ omega arith }
+
+module _ {M : Type 0} (F : (ℕ → Bool) → Told M) (P : Answer M) (h : Fits 0 F P) (l : List ℕ) where
+  causes-listed : (t : Told M) → 12 * length (t .entries) ≤ length l → t .zeroed ≡ true → Listed (length l) (t .entries) (causesOf l t .list)
+  unfolding causesOf
+  causes-listed t q e = subst (λ (b : Bool). Listed (length l) (t .entries) (elim b [ true ↦ filled (length l) (t .entries) | false ↦ l ])) (sym e) (filled-listed (length l) (t .entries) q)
+
+  causes-left : (t : Told M) → t .zeroed ≡ false → causesOf l t .list ≡ l
+  unfolding causesOf
+  causes-left t e = ap (λ (b : Bool). elim b as (λ (y : Bool). List ℕ) [ true ↦ filled (length l) (t .entries) | false ↦ l ]) e
+
+  causes-lent : (t : Told M) → t .answer ≡ P → 12 * length (t .entries) ≤ length l → Lent l t P (causesOf l t)
+  unfolding causesOf
+  causes-lent t e q = record { answer = e; count = refl; listed = causes-listed t q; left = causes-left t }
+
+  pub is-lent : h .need ≤ entriesIn l → Lent l (F always) P (causesOf l (F (upTo (entriesIn l))))
+  is-lent q =
+      let i : length (F always .entries) ≤ h .need = h .held in
+      subst (λ (t : Told M). Lent l (F always) P (causesOf l t)) (sym (h .fits (entriesIn l) q)) (causes-lent (F always) (h .same) (omega arith))
+
+  -- "A lent list too short for one more entry is 17"
+  pub is-short : entriesIn l < h .need → causesOf l (F (upTo (entriesIn l))) .answer .number ≡ 17
+  unfolding causesOf
+  is-short q = h .short (entriesIn l) (omega arith) q
+
+module _ {M : Type 0} (X : Machine M) (T : Table) (shows : ℕ → Bool) (nz : Numbered X) (l : List ℕ) (room : ℕ) (S : Sess M) where
+  -- THE THREE CALLS: with room for what they need, and without
+  pub one-lent : (x : ℕ) → single-fits X T shows nz room x (untold S) .need ≤ entriesIn l → Lent l (singleNoted X T always shows room x (untold S)) (single X T room S x) (oneCauses X T shows l room S x)
+  unfolding oneCauses
+  one-lent x q = is-lent (λ r. singleNoted X T r shows room x (untold S)) (single X T room S x) (single-fits X T shows nz room x (untold S)) l q
+
+  pub one-short : (x : ℕ) → entriesIn l < single-fits X T shows nz room x (untold S) .need → oneCauses X T shows l room S x .answer .number ≡ 17
+  unfolding oneCauses
+  one-short x q = is-short (λ r. singleNoted X T r shows room x (untold S)) (single X T room S x) (single-fits X T shows nz room x (untold S)) l q
+
+  pub list-lent : (xs : List ℕ) → list-fits X T shows nz room xs (untold S) refl .need ≤ entriesIn l → Lent l (listNoted X T always shows room xs (untold S)) (listPlain X T room xs S) (listCauses X T shows l room S xs)
+  unfolding listCauses
+  list-lent xs q = is-lent (λ r. listNoted X T r shows room xs (untold S)) (listPlain X T room xs S) (list-fits X T shows nz room xs (untold S) refl) l q
+
+  pub list-short : (xs : List ℕ) → entriesIn l < list-fits X T shows nz room xs (untold S) refl .need → listCauses X T shows l room S xs .answer .number ≡ 17
+  unfolding listCauses
+  list-short xs q = is-short (λ r. listNoted X T r shows room xs (untold S)) (listPlain X T room xs S) (list-fits X T shows nz room xs (untold S) refl) l q
+
+  pub all-lent : every-fits X T shows nz room S (S .isOpen) .need ≤ entriesIn l → Lent l (everyNoted X T always shows room S (S .isOpen)) (every X T room S (S .isOpen)) (allCauses X T shows l room S)
+  unfolding allCauses
+  all-lent q = is-lent (λ r. everyNoted X T r shows room S (S .isOpen)) (every X T room S (S .isOpen)) (every-fits X T shows nz room S (S .isOpen)) l q
+
+  pub all-short : entriesIn l < every-fits X T shows nz room S (S .isOpen) .need → allCauses X T shows l room S .answer .number ≡ 17
+  unfolding allCauses
+  all-short q = is-short (λ r. everyNoted X T r shows room S (S .isOpen)) (every X T room S (S .isOpen)) (every-fits X T shows nz room S (S .isOpen)) l q

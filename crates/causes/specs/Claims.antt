@@ -67,3 +67,11 @@ listPlain X T room (x ∷ xs) S = onward X T (listPlain X T room xs) (single X T
 pub record Listed (n : ℕ) (es : List Entry) (list : List ℕ) : Type 0 where
   pub is : list ≡ bytesOf es ++ replicate (n - 12 * length es) 0
   pub size : length list ≡ n
+
+-- A call that is lent a list l long enough. t: what it comes to with room for all entries, which does not depend on l: "a longer list changes
+-- nothing but its rest".
+pub record Lent {M : Type 0} (l : List ℕ) (t : Told M) (plainly : Answer M) (c : Causes M) : Type 0 where
+  pub answer : c .answer ≡ plainly
+  pub count : c .count ≡ length (t .entries)
+  pub listed : t .zeroed ≡ true → Listed (length l) (t .entries) (c .list)
+  pub left : t .zeroed ≡ false → c .list ≡ l
