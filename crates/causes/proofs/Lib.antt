@@ -1,3 +1,4 @@
 pub mod Ordering
 pub mod Emission
 pub mod Requests
+pub mod Keeps

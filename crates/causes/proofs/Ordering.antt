@@ -9,7 +9,7 @@ use borrow.Author.Tests.{eqb-true, eqb-false}
 use Rattle.rules.specs.Order.{Node, ignored, plain, listed, through, ptr, tdef, proto, comp, Table, isComp, Mark, new, busy, done, isDone, Store, Res, ok, refused, bind, each, meet, pushIf, finish, enter, alias, fresh, visit, order}
 use Rattle.demand.specs.Needs.{kids}
 use Rattle.causes.specs.Causes.{ledBy, isAround, inside, Led, ledStore, orderLed}
-use Rattle.causes.specs.Claims.{Leads, itself, first, next, LedTo}
+use Rattle.causes.specs.Claims.{Leads, itself, first, next, ordersAround, LedTo}
 
 -- ---- the plain rule
 unfoldable pub forgetLed : {St : Type 0} → Res (Led St) → Res St
@@ -103,8 +103,8 @@ holds-bind k none f = none
 
 -- what is being ordered around x: each leads to the one inside it, and the request to the outermost
 pub data Around (T : Table) (req : ℕ) : List ℕ → ℕ → Type 0 where
-  outermost : (x : ℕ) → Leads T req x → Around T req [] x
-  under : (a : ℕ) (around : List ℕ) (x : ℕ) → isAround (T .node a) ≡ true → Leads T a x → Around T req around a → Around T req (a ∷ around) x
+  outermost : (x : ℕ) → Leads T (ordersAround T) req x → Around T req [] x
+  under : (a : ℕ) (around : List ℕ) (x : ℕ) → isAround (T .node a) ≡ true → Leads T (ordersAround T) a x → Around T req around a → Around T req (a ∷ around) x
 
 module _ {St : Type 0} (K : Store St) (T : Table) (req : ℕ) (P : Led St → Type 0) (on-mark : (m : Mark) (x : ℕ) (s : Led St) → P s → P (record { state = K .mark m x (s .state); led = s .led }))
     (on-push : (around : List ℕ) (x : ℕ) → Around T req around x → (s : Led St) → P s → P (record { state = K .push x (s .state); led = s .led ++ ((x, ledBy req around x) ∷ []) })) where

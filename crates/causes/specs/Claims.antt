@@ -12,15 +12,19 @@ use Rattle.causes.specs.Causes.{isAround, Entry, Noted, upTo, always, To
 
 -- ---- leaders
 
--- x is l, or is followed from l past types that are neither composites nor typedefs
-pub data Leads (T : Table) (l : ℕ) : ℕ → Type 0 where
-  itself : Leads T l l
-  first : (x : ℕ) → List·Memᴰ x (kids (T .node l)) → Leads T l x
-  next : (z x : ℕ) → Leads T l z → isAround (T .node z) ≡ false → List·Memᴰ x (kids (T .node z)) → Leads T l x
+-- x is l, or is followed from l past types that do not end the way
+pub data Leads (T : Table) (ends : ℕ → Bool) (l : ℕ) : ℕ → Type 0 where
+  itself : Leads T ends l l
+  first : (x : ℕ) → List·Memᴰ x (kids (T .node l)) → Leads T ends l x
+  next : (z x : ℕ) → Leads T ends l z → ends z ≡ false → List·Memᴰ x (kids (T .node z)) → Leads T ends l x
 
--- a listed id and what led to it, in a request for req
+-- for ordering, a composite or a typedef ends it
+abbrev pub ordersAround : Table → ℕ → Bool
+ordersAround T z = isAround (T .node z)
+
+-- A listed id and what led to it, in a request for req: past neither a composite nor a typedef; the requested id, or another composite or typedef.
 pub record LedTo (T : Table) (req id leader : ℕ) : Type 0 where
-  pub leads : Leads T leader id
+  pub leads : Leads T (ordersAround T) leader id
   pub which : (leader ≡ req) ⊎ ((leader ≢ id) × (isAround (T .node leader) ≡ true))
 
 -- ---- entries and the plain rules
