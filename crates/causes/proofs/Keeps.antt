@@ -26,7 +26,7 @@ pub comes-map : {M : Type 0} {Q Q′ : M → Type 0} {r : Out M} → ((s : M) �
 comes-map f (comes h) = comes (f _ h)
 comes-map f halts = halts
 
-abbrev isLeaf : Node → Bool
+abbrev pub isLeaf : Node → Bool
 isLeaf ignored = false
 isLeaf plain = false
 isLeaf (listed f) = true
@@ -52,7 +52,7 @@ module _ {M : Type 0} (X : Machine M) (room : ℕ → Bool) (shows : ℕ → Boo
     pub r-body : (cont x : ℕ) (s : Noted M) → isComp (T .node x) ≡ true → Comes (R s) (N cont .body s x)
 
   module _ (k : Kept) where
-    each-keeps : (f : Noted M → ℕ → Out (Noted M)) (ys : List ℕ) → ((s : Noted M) (y : ℕ) → List·Memᴰ y ys → Comes (R s) (f s y)) → (s : Noted M) → Comes (R s) (eeach f ys s)
+    pub each-keeps : (f : Noted M → ℕ → Out (Noted M)) (ys : List ℕ) → ((s : Noted M) (y : ℕ) → List·Memᴰ y ys → Comes (R s) (f s y)) → (s : Noted M) → Comes (R s) (eeach f ys s)
     unfolding eeach
     each-keeps f [] h s = comes (k .r-same s)
     each-keeps f (y ∷ ys) h s = comes-bind (eeach f ys) (h s y (List·Memᴰ·head refl)) (λ s′ q. comes-map (λ s″ q′. k .r-then s s′ s″ q q′) (each-keeps f ys (λ s″ z m. h s″ z (List·Memᴰ·tail m)) s′))

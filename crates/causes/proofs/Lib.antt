@@ -2,3 +2,4 @@ pub mod Ordering
 pub mod Emission
 pub mod Requests
 pub mod Keeps
+pub mod Lines

@@ -197,7 +197,7 @@ ids-append [] qs = refl
 ids-append (p ∷ ps) qs = ap (λ (l : List ℕ). p .0 ∷ l) (ids-append ps qs)
 
 module _ {St : Type 0} (K : Store St) (T : Table) (req : ℕ) where
-  push-led : (around : List ℕ) (x : ℕ) → Around T req around x → (s : Led St) → AllLed T req s → AllLed T req (ledStore K req around .push x s)
+  pub push-led : (around : List ℕ) (x : ℕ) → Around T req around x → (s : Led St) → AllLed T req s → AllLed T req (ledStore K req around .push x s)
   push-led around x c s h p m = by (List·Memᴰ·append-cases (s .led) m)
     where
       by : List·Memᴰ p (s .led) ⊎ List·Memᴰ p ((x, ledBy req around x) ∷ []) → LedTo T req (p .0) (p .1)

@@ -59,6 +59,14 @@ module _ {U : Type 0} (N : Naming U) (B : Btf) where
     more : (e : Entry) (t : List ℕ) (es : List Entry) (ps : List Piece) → Why e → Says e t → Pairs Why es ps → Pairs Why (e ∷ es) (pieceOf e t ∷ ps)
     blank : (es : List Entry) (ps : List Piece) → Pairs Why es ps → Pairs Why es (other [] ∷ ps)
 
+  -- what a call, or a part of it, adds to the entries and to the pieces
+  pub record Grown (Why : Entry → Type 0) (es es′ : List Entry) (ps ps′ : List Piece) : Type 0 where
+    pub entries : List Entry
+    pub pieces : List Piece
+    pub entries-are : es′ ≡ es ++ entries
+    pub pieces-are : ps′ ≡ ps ++ pieces
+    pub pairs : Pairs Why entries pieces
+
   -- the text: the line of each entry, in their order, and nothing else
   pub data Explains : List Entry → List ℕ → Type 0 where
     none : Explains [] []
