@@ -3,3 +3,4 @@ pub mod Emission
 pub mod Requests
 pub mod Keeps
 pub mod Lines
+pub mod Samples
