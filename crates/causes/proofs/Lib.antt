@@ -3,4 +3,6 @@ pub mod Emission
 pub mod Requests
 pub mod Keeps
 pub mod Lines
+pub mod Numbered
+pub mod Calls
 pub mod Samples

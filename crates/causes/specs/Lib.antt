@@ -1,4 +1,5 @@
 pub mod Causes
 pub mod Claims
 pub mod Lines
+pub mod Calls
 pub mod Samples
