@@ -3,14 +3,14 @@
 use Prim.Native.Nat.{ℕ, zero, suc, _+_, _-_}
 use mathlib.Core.Path.{_≡_, refl, ap, _∙_, sym, subst}
 use mathlib.Core.Bool.{Bool, true, false, not, _&&_, _||_, true≢false}
-use mathlib.Core.List.{List, [], _∷_, _++_, append-nil, append-assoc, List·Memᴰ, List·Memᴰ·not-nil}
+use mathlib.Core.List.{List, [], _∷_, _++_, append-nil, append-assoc, List·Memᴰ, List·Memᴰ·head, List·Memᴰ·tail, List·Memᴰ·not-nil}
 use mathlib.Core.Logic.{_⊎_, inl, inr, _≢_}
 use native.Mathlib.Omega.{arith}
-use lib.ListN.{length, length-append}
+use lib.ListN.{length, length-append, getD}
 use lib.Dec.{ltb, leb, eqb}
 use borrow.Author.Tests.{eqb-true, eqb-false}
 use Rattle.lent.specs.Text.{ascii, Text, whole, cut, join, bytes}
-use Rattle.rules.specs.Order.{Node, ignored, plain, listed, through, ptr, tdef, proto, comp, Table, isComp, Mark, Store, Res, ok, refused}
+use Rattle.rules.specs.Order.{Node, ignored, plain, listed, through, ptr, tdef, proto, comp, Table, isComp, Mark, new, busy, Store, Res, ok, refused}
 use Rattle.rules.specs.Machine.{Out, wrote, stuck, Machine, eeach, Sess, Answer, shut}
 use Rattle.rules.specs.Writer.{Said, said, saidText, Writer, after, next, put, _⨾_}
 use Rattle.rules.specs.Types.{Name, BtfType, Void, Int, Ptr, Array, Composite, Enum, Enum64, Fwd, Typedef, Mod, Func, Var, Datasec, FuncProto, Float, DeclTag, TypeTag, Btf, nameOf, nodeOf, tableOf}
@@ -19,12 +19,21 @@ use Rattle.rules.specs.Names.{Naming, builtin}
 use Rattle.rules.specs.Decl.{emitCompositeFwd, emitFwdDef, enumValue, enum64Value, emitEnumDef, emitCompositeDef, emitTypedefDef}
 use Rattle.rules.specs.Emit.{lineEnd, definition, shown, forward}
 use Rattle.demand.specs.Lists.{Piece, defines, other, Line, says, cannot, Ls, putLine}
-use Rattle.demand.specs.Session.{Known, fitting, lineOf, machineBy, textOf}
-use Rattle.causes.specs.Causes.{Entry, entry, Led, orderLed, leaderOf, listedEntry, Noted, withEntries, upTo, always, line, causeAt, noting, emitNoted, showsIn, Told, untold, dropped, emittedNoted, eachListed, orderedNoted, gateNoted, singleNoted, onwardNoted, listNoted, fromNoted, everyNoted}
-use Rattle.causes.specs.Claims.{itself}
-use Rattle.causes.specs.Lines.{isTypedef, isForward, writerOf, Says, pieceOf, Pairs, none, more, blank, Grown, Explains, Container, Caused, requested, needed, forwarded, early, Reason}
-use Rattle.causes.proofs.Ordering.{Holds, holds, none as nothing-held, Around, outermost, AllLed, order-keeps, push-led}
-use Rattle.causes.proofs.Keeps.{Comes, comes, halts, comes-map, isLeaf, Kept, each-keeps, emit-keeps}
+use Rattle.demand.specs.Session.{Known, fitting, lineOf, linesBy, machineBy, textOf}
+use Rattle.causes.specs.Causes.{Entry, entry, ledBy, Led, ledStore, orderLed, leaderOf, listedEntry, Noted, withEntries, upTo, always, line, causeAt, noting, emitNoted, showsIn, Told, untold, dropped, emittedNoted, eachListed, orderedNoted, gateNoted, singleNoted, onwardNoted, listNoted, fromNoted, everyNoted}
+use Rattle.causes.specs.Claims.{itself, isListed, LedTo}
+use Rattle.causes.specs.Lines.{isTypedef, isForward, writerOf, Says, pieceOf, Pairs, none, more, blank, Grown, Explains, Inside, Caused, requested, needed, forwarded, early, Reason}
+use Rattle.causes.proofs.Ordering.{Holds, holds, none as nothing-held, Around, outermost, AllLed, order-keeps, push-led, notedIds, ids-append, first-led}
+use Rattle.causes.proofs.Keeps.{Comes, comes, halts, comes-bind, comes-map, isLeaf, Kept, emit-top}
+use Rattle.causes.proofs.Back.{Back, emit-back, list-turns}
+
+-- nothing is in progress in emission
+abbrev pub Idle : {U : Type 0} → Ls U → Type 0
+Idle s = (y : ℕ) → getD (s .emits) y new ≡ busy → ⊥
+
+comes-both : {M : Type 0} {P Q : M → Type 0} {o : Out M} → Comes P o → Comes Q o → Comes (λ s. P s × Q s) o
+comes-both (comes p) (comes q) = comes (p, q)
+comes-both halts q = halts
 
 -- ---- texts
 
@@ -281,8 +290,8 @@ module _ {U : Type 0} (N : Naming U) (B : Btf) where
           shown-line mk (definition N B x ty) (sym (ap (λ (b : Bool). elim b as (λ (y : Bool). Writer U) [ true ↦ forward N B x ty | false ↦ definition N B x ty ]) f)) k
           (λ u u′ t h. definition-ends N B x c u u′ t ty i h)
 
--- ---- the lines of a request
-module _ {U : Type 0} (N : Naming U) (B : Btf) (room : ℕ → Bool) (req : ℕ) (led : List (ℕ × ℕ)) where
+-- ---- the lines of a request. led: the notes of its ordering
+module _ {U : Type 0} (N : Naming U) (B : Btf) (void : tableOf B .node 0 ≡ plain) (room : ℕ → Bool) (req : ℕ) (led : List (ℕ × ℕ)) (all-led : (p : ℕ × ℕ) → List·Memᴰ p led → LedTo (tableOf B) req (p .0) (p .1)) where
   abbrev T : Table
   T = tableOf B
 
@@ -292,49 +301,60 @@ module _ {U : Type 0} (N : Naming U) (B : Btf) (room : ℕ → Bool) (req : ℕ)
   abbrev Why : Entry → Type 0
   Why = Caused T req led
 
+  abbrev Top : ℕ → Type 0
+  Top x = List·Memᴰ x (notedIds led)
+
   -- the entry of a listed id
-  listed-by : (P : Entry → Type 0) (x : ℕ) → (Why (entry x 0 x) → P (entry x 0 x)) → (Why (entry x 1 (leaderOf req led x)) → P (entry x 1 (leaderOf req led x))) → P (why x)
+  listed-by : (P : Entry → Type 0) (x : ℕ) → Top x → (Why (entry x 0 x) → P (entry x 0 x)) → (Why (entry x 1 (leaderOf req led x)) → P (entry x 1 (leaderOf req led x))) → P (why x)
   unfolding listedEntry
-  listed-by P x f g = by (eqb x req) refl
+  listed-by P x m f g = by (eqb x req) refl
     where
       by : (b : Bool) → eqb x req ≡ b → P (elim b [ true ↦ entry x 0 x | false ↦ entry x 1 (leaderOf req led x) ])
       by true e = f (subst (λ (y : ℕ). Why (entry y 0 y)) (sym (eqb-true x req e)) requested)
-      by false e = g (needed x (eqb-false x req e))
+      by false e = g (needed x (eqb-false x req e) (first-led T req led all-led x m))
 
   module _ (x : ℕ) (s : Noted (Ls (Known U))) where
     abbrev nd : Node
     nd = nodeOf (B .type-by-id x)
 
-    fwd-grew : (cont : ℕ) → isComp nd ≡ true → Container T cont x → Comes (Grew N B Why s) (noting (machineBy N B) room (showsIn B) why cont .fwdLine s x)
+    fwd-grew : (cont : ℕ) → isComp nd ≡ true → Inside T cont x → Comes (Grew N B Why s) (noting (machineBy N B) room (showsIn B) why cont .fwdLine s x)
     fwd-grew cont i c = forward-line N B Why room x 2 cont (forwarded x cont c) s (forward-comp nd i) (ap (λ (b : Bool). b && false) i)
 
     alias-by : (c l : ℕ) → isTypedef nd ≡ true → Why (entry x c l) → Comes (Grew N B Why s) (line room (showsIn B x) (entry x c l) (λ m. machineBy N B .aliasLine m x) s)
     alias-by c l i w = let q = tdef-line nd c i in forward-line N B Why room x c l w s (q .0) (ap (λ (b : Bool). b && not (eqb c 2)) (q .1))
 
-    alias-grew : (cont : ℕ) → isTypedef nd ≡ true → Container T cont x → Comes (Grew N B Why s) (noting (machineBy N B) room (showsIn B) why cont .aliasLine s x)
+    alias-grew : (cont : ℕ) → isTypedef nd ≡ true → Inside T cont x → Comes (Grew N B Why s) (noting (machineBy N B) room (showsIn B) why cont .aliasLine s x)
     unfolding causeAt
-    alias-grew zero i c = listed-by (λ (e : Entry). Comes (Grew N B Why s) (line room (showsIn B x) e (λ m. machineBy N B .aliasLine m x) s)) x (alias-by 0 x i) (alias-by 1 (leaderOf req led x) i)
-    alias-grew (suc cont) i c = alias-by 3 (suc cont) i (early x (suc cont) i (λ z. omega arith) c)
+    alias-grew zero i c = absurd (c .some refl)
+    alias-grew (suc cont) i c = alias-by 3 (suc cont) i (early x (suc cont) i c)
+
+    alias-top : isTypedef nd ≡ true → Top x → Comes (Grew N B Why s) (noting (machineBy N B) room (showsIn B) why 0 .aliasLine s x)
+    unfolding causeAt
+    alias-top i m = listed-by (λ (e : Entry). Comes (Grew N B Why s) (line room (showsIn B x) e (λ m′. machineBy N B .aliasLine m′ x) s)) x m (alias-by 0 x i) (alias-by 1 (leaderOf req led x) i)
 
     leaf-by : (c l : ℕ) → isLeaf nd ≡ true → Why (entry x c l) → Comes (Grew N B Why s) (line room true (entry x c l) (λ m. machineBy N B .leafLine m x) s)
     leaf-by c l i w =
         let q = leaf-line nd c i in
         definition-line N B Why room x c l w s other (q .0) (or-right (isComp nd) (isLeaf nd) i) (as-other N B Why room x c l w s (ap (λ (b : Bool). b && not (eqb c 2)) (q .1)))
 
-    leaf-grew : (cont : ℕ) → isLeaf nd ≡ true → Container T cont x → Comes (Grew N B Why s) (noting (machineBy N B) room (showsIn B) why cont .leafLine s x)
+    leaf-grew : (cont : ℕ) → isLeaf nd ≡ true → Inside T cont x → Comes (Grew N B Why s) (noting (machineBy N B) room (showsIn B) why cont .leafLine s x)
     unfolding causeAt
-    leaf-grew zero i c = listed-by (λ (e : Entry). Comes (Grew N B Why s) (line room true e (λ m. machineBy N B .leafLine m x) s)) x (leaf-by 0 x i) (leaf-by 1 (leaderOf req led x) i)
+    leaf-grew zero i c = absurd (c .some refl)
     leaf-grew (suc cont) i c = leaf-by 2 (suc cont) i (forwarded x (suc cont) c)
+
+    leaf-top : isLeaf nd ≡ true → Top x → Comes (Grew N B Why s) (noting (machineBy N B) room (showsIn B) why 0 .leafLine s x)
+    unfolding causeAt
+    leaf-top i m = listed-by (λ (e : Entry). Comes (Grew N B Why s) (line room true e (λ m′. machineBy N B .leafLine m′ x) s)) x m (leaf-by 0 x i) (leaf-by 1 (leaderOf req led x) i)
 
     body-by : (c l : ℕ) → eqb c 2 ≡ false → isComp nd ≡ true → Why (entry x c l) → Comes (Grew N B Why s) (line room true (entry x c l) (λ m. machineBy N B .body m x) s)
     body-by c l z i w =
         definition-line N B Why room x c l w s (defines x) (body-line nd c i ∙ z) (ap (λ (b : Bool). b || isLeaf nd) i)
         (λ t. ap (λ (b : Bool). elim (b && not (eqb c 2)) as (λ (y : Bool). Piece) [ true ↦ defines x t | false ↦ other t ]) i ∙ ap (λ (b : Bool). elim (not b) as (λ (y : Bool). Piece) [ true ↦ defines x t | false ↦ other t ]) z)
 
-    body-grew : isComp nd ≡ true → Comes (Grew N B Why s) (line room true (why x) (λ m. machineBy N B .body m x) s)
-    body-grew i = listed-by (λ (e : Entry). Comes (Grew N B Why s) (line room true e (λ m. machineBy N B .body m x) s)) x (body-by 0 x refl i) (body-by 1 (leaderOf req led x) refl i)
+    body-top : isComp nd ≡ true → Top x → Comes (Grew N B Why s) (line room true (why x) (λ m. machineBy N B .body m x) s)
+    body-top i m = listed-by (λ (e : Entry). Comes (Grew N B Why s) (line room true e (λ m′. machineBy N B .body m′ x) s)) x m (body-by 0 x refl i) (body-by 1 (leaderOf req led x) refl i)
 
-  kept : Kept (machineBy N B) room (showsIn B) why T (Grew N B Why)
+  kept : Kept (machineBy N B) room (showsIn B) why T Top (Grew N B Why)
   kept = record {
     r-same = λ s. grown-same N B Why (s .entries) (s .mach .pieces);
     r-then = λ a b c g h. grown-then N B Why (a .entries) (b .entries) (c .entries) (a .mach .pieces) (b .mach .pieces) (c .mach .pieces) g h;
@@ -343,16 +363,32 @@ module _ {U : Type 0} (N : Naming U) (B : Btf) (room : ℕ → Bool) (req : ℕ)
     r-fwd = λ cont x s i c. fwd-grew x s cont i c;
     r-alias = λ cont x s i c. alias-grew x s cont i c;
     r-leaf = λ cont x s i c. leaf-grew x s cont i c;
-    r-body = λ cont x s i. body-grew x s i;
+    top-alias = λ x s i m. alias-top x s i m;
+    top-leaf = λ x s i m. leaf-top x s i m;
+    top-body = λ x s i m. body-top x s i m;
   }
 
-  listed-grew : (ys : List ℕ) (s : Noted (Ls (Known U))) → Comes (Grew N B Why s) (eachListed (machineBy N B) T room (showsIn B) why ys s)
-  listed-grew ys s =
-      each-keeps (machineBy N B) room (showsIn B) why T (Grew N B Why) kept (λ m y. emitNoted (machineBy N B) room (showsIn B) why T 512 m y 0) ys
-      (λ m y i. emit-keeps (machineBy N B) room (showsIn B) why T (Grew N B Why) kept 512 m y 0 (inl refl)) s
+  -- the listed ids, where nothing is in progress
+  abbrev run : Noted (Ls (Known U)) → ℕ → Out (Noted (Ls (Known U)))
+  run m y = emitNoted (machineBy N B) room (showsIn B) why T 512 m y 0
+
+  kind-of : (x : ℕ) → Top x → isListed (T .node x) ≡ true
+  kind-of x m = first-led T req led all-led x m .is-listed
+
+  one-top : (s : Noted (Ls (Known U))) → Idle (s .mach) → (y : ℕ) → Top y → Comes (λ s′. Grew N B Why s s′ × Idle (s′ .mach)) (run s y)
+  one-top s i y m =
+      comes-both (emit-top (machineBy N B) room (showsIn B) why T Top (Grew N B Why) void kept 512 s y m (kind-of y m) (i y))
+      (comes-map (λ s′ (q : Back (machineBy N B) room (showsIn B) why T (list-turns (linesBy N B)) s s′). λ z e. i z (q z e)) (emit-back (machineBy N B) room (showsIn B) why T (list-turns (linesBy N B)) 512 s y 0))
+
+  listed-grew : (ys : List ℕ) → ((y : ℕ) → List·Memᴰ y ys → Top y) → (s : Noted (Ls (Known U))) → Idle (s .mach) → Comes (λ s′. Grew N B Why s s′ × Idle (s′ .mach)) (eeach run ys s)
+  unfolding eeach
+  listed-grew [] h s i = comes (grown-same N B Why (s .entries) (s .mach .pieces), i)
+  listed-grew (y ∷ ys) h s i =
+      comes-bind (eeach run ys) (one-top s i y (h y (List·Memᴰ·head refl))) (λ s′ q.
+      comes-map (λ s″ q′. (grown-then N B Why (s .entries) (s′ .entries) (s″ .entries) (s .mach .pieces) (s′ .mach .pieces) (s″ .mach .pieces) (q .0) (q′ .0), q′ .1)) (listed-grew ys (λ z m. h z (List·Memᴰ·tail m)) s′ (q .1)))
 
 -- ---- requests
-module _ {U : Type 0} (N : Naming U) (B : Btf) (room : ℕ → Bool) where
+module _ {U : Type 0} (N : Naming U) (B : Btf) (void : tableOf B .node 0 ≡ plain) (room : ℕ → Bool) where
   pairs-map : (Why Why′ : Entry → Type 0) → ((e : Entry) → Why e → Why′ e) → {es : List Entry} {ps : List Piece} → Pairs N B Why es ps → Pairs N B Why′ es ps
   pairs-map Why Why′ f none = none
   pairs-map Why Why′ f (more e t es ps w s p) = more e t es ps (f e w) s (pairs-map Why Why′ f p)
@@ -364,80 +400,112 @@ module _ {U : Type 0} (N : Naming U) (B : Btf) (room : ℕ → Bool) where
   abbrev Because : Entry → Type 0
   Because = Reason (tableOf B)
 
-  -- what a request, or the requests of a call, add
-  abbrev pub Told-grown : Told (Ls (Known U)) → Told (Ls (Known U)) → Type 0
-  Told-grown t t′ = Grown N B Because (t .entries) (t′ .entries) (t .answer .sess .mach .pieces) (t′ .answer .sess .mach .pieces)
+  abbrev machOf : Told (Ls (Known U)) → Ls (Known U)
+  machOf t = t .answer .sess .mach
 
-  module _ (t : Told (Ls (Known U))) (x : ℕ) where
-    abbrev Before : Led (Ls (Known U)) → Type 0
-    Before s = (s .state .pieces ≡ t .answer .sess .mach .pieces) × AllLed (tableOf B) x s
+  -- what a request, or the requests of a call, add; and nothing is in progress after it
+  pub record Told-grown (t t′ : Told (Ls (Known U))) : Type 0 where
+    pub grown : Grown N B Because (t .entries) (t′ .entries) (machOf t .pieces) (machOf t′ .pieces)
+    pub idle : Idle (machOf t′)
 
-    emitted-grown : (s : Led (Ls (Known U))) → Before s → (o : Out (Noted (Ls (Known U)))) → Comes (Grew N B (Caused (tableOf B) x (s .led)) (record { mach = s .state; entries = t .entries })) o
+  told-same : (t : Told (Ls (Known U))) → Idle (machOf t) → Told-grown t t
+  told-same t i = record { grown = grown-same N B Because (t .entries) (machOf t .pieces); idle = i }
+
+  module _ (t : Told (Ls (Known U))) (x : ℕ) (i : Idle (machOf t)) where
+    -- what ordering leaves
+    pub record Before (s : Led (Ls (Known U))) : Type 0 where
+      pub same-pieces : s .state .pieces ≡ machOf t .pieces
+      pub same-emits : s .state .emits ≡ machOf t .emits
+      pub beside : s .state .olist ≡ notedIds (s .led)
+      pub all-led : AllLed (tableOf B) x s
+
+    emitted-grown : (s : Led (Ls (Known U))) → Before s → (o : Out (Noted (Ls (Known U)))) → Comes (λ s′. Grew N B (Caused (tableOf B) x (s .led)) (record { mach = s .state; entries = t .entries }) s′ × Idle (s′ .mach)) o
         → Told-grown t (emittedNoted X (tableOf B) room (showsIn B) t x o)
     unfolding emittedNoted dropped shut
-    emitted-grown s h (wrote m) (comes g) = record {
-      entries = g .entries;
-      pieces = g .pieces;
-      entries-are = g .entries-are;
-      pieces-are = g .pieces-are ∙ ap (λ (ps : List Piece). ps ++ g .pieces) (h .0);
-      pairs = pairs-map (Caused (tableOf B) x (s .led)) Because (λ e c. record { req = x; led = s .led; all-led = h .1; caused = c }) (g .pairs);
-    }
-    emitted-grown s h (stuck e) halts = grown-same N B Because (t .entries) (t .answer .sess .mach .pieces)
+    emitted-grown s h (wrote m) (comes q) =
+        let g = q .0 in
+        record {
+          grown = record {
+            entries = g .entries;
+            pieces = g .pieces;
+            entries-are = g .entries-are;
+            pieces-are = g .pieces-are ∙ ap (λ (ps : List Piece). ps ++ g .pieces) (h .same-pieces);
+            pairs = pairs-map (Caused (tableOf B) x (s .led)) Because (λ e c. record { req = x; led = s .led; caused = c }) (g .pairs);
+          };
+          idle = q .1;
+        }
+    emitted-grown s h (stuck e) halts = record { grown = grown-same N B Because (t .entries) (machOf t .pieces); idle = i }
 
     ordered-grown : (o : Res (Led (Ls (Known U)))) → Holds Before o → Told-grown t (orderedNoted X (tableOf B) room (showsIn B) t x o)
     unfolding orderedNoted dropped shut
     ordered-grown (ok s b) (holds h) =
         emitted-grown s h (eachListed X (tableOf B) room (showsIn B) (listedEntry x (s .led)) (X .store .list (s .state)) (record { mach = s .state; entries = t .entries }))
-        (listed-grew N B room x (s .led) (X .store .list (s .state)) (record { mach = s .state; entries = t .entries }))
-    ordered-grown (refused e) nothing-held = grown-same N B Because (t .entries) (t .answer .sess .mach .pieces)
+        (listed-grew N B void room x (s .led) (h .all-led) (s .state .olist) (λ y m. subst (List·Memᴰ y) (h .beside) m) (record { mach = s .state; entries = t .entries })
+        (λ y e. i y (ap (λ (l : List Mark). getD l y new) (sym (h .same-emits)) ∙ e)))
+    ordered-grown (refused e) nothing-held = record { grown = grown-same N B Because (t .entries) (machOf t .pieces); idle = i }
+
+    on-push : (around : List ℕ) (y : ℕ) → Around (tableOf B) x around y → isListed (tableOf B .node y) ≡ true → (s : Led (Ls (Known U))) → Before s → Before (ledStore (X .store) x around .push y s)
+    on-push around y c l s h = record {
+      same-pieces = h .same-pieces;
+      same-emits = h .same-emits;
+      beside = ap (λ (k : List ℕ). k ++ (y ∷ [])) (h .beside) ∙ sym (ids-append (s .led) ((y, ledBy x around y) ∷ []));
+      all-led = push-led (X .store) (tableOf B) x around y c l s (h .all-led);
+    }
 
     gate-grown : (size : ℕ) (o b : Bool) → Told-grown t (gateNoted X (tableOf B) room (showsIn B) size t x o b)
     unfolding gateNoted
-    gate-grown size false b = grown-same N B Because (t .entries) (t .answer .sess .mach .pieces)
-    gate-grown size true false = grown-same N B Because (t .entries) (t .answer .sess .mach .pieces)
+    gate-grown size false b = record { grown = grown-same N B Because (t .entries) (machOf t .pieces); idle = i }
+    gate-grown size true false = record { grown = grown-same N B Because (t .entries) (machOf t .pieces); idle = i }
     gate-grown size true true =
-        let s : Led (Ls (Known U)) = record { state = X .start size (t .answer .sess .mach); led = [] } in
+        let s : Led (Ls (Known U)) = record { state = X .start size (machOf t); led = [] } in
         ordered-grown (orderLed (X .store) x 512 (tableOf B) [] s x false)
-        (order-keeps (X .store) (tableOf B) x Before (λ m y s′ h. h) (λ around y c s′ h. (h .0, push-led (X .store) (tableOf B) x around y c s′ (h .1))) 512 [] s x false (outermost x itself)
-        (refl, λ p m. absurd (List·Memᴰ·not-nil m)))
+        (order-keeps (X .store) (tableOf B) x Before (λ m y s′ h. record { same-pieces = h .same-pieces; same-emits = h .same-emits; beside = h .beside; all-led = h .all-led }) on-push 512 [] s x false (outermost x itself)
+        (record { same-pieces = refl; same-emits = refl; beside = refl; all-led = λ p m. absurd (List·Memᴰ·not-nil m) }))
 
   -- ONE ENTRY A LINE: a single request
-  pub single-grown : (size x : ℕ) (t : Told (Ls (Known U))) → Told-grown t (singleNoted X (tableOf B) room (showsIn B) size x t)
+  pub single-grown : (size x : ℕ) (t : Told (Ls (Known U))) → Idle (machOf t) → Told-grown t (singleNoted X (tableOf B) room (showsIn B) size x t)
   unfolding singleNoted
-  single-grown size x t = gate-grown t x size (t .answer .sess .isOpen) (ltb x (tableOf B .count))
+  single-grown size x t i = gate-grown t x i size (t .answer .sess .isOpen) (ltb x (tableOf B .count))
 
   told-then : (t t′ t″ : Told (Ls (Known U))) → Told-grown t t′ → Told-grown t′ t″ → Told-grown t t″
-  told-then t t′ t″ g h = grown-then N B Because (t .entries) (t′ .entries) (t″ .entries) (t .answer .sess .mach .pieces) (t′ .answer .sess .mach .pieces) (t″ .answer .sess .mach .pieces) g h
+  told-then t t′ t″ g h = record {
+    grown = grown-then N B Because (t .entries) (t′ .entries) (t″ .entries) (machOf t .pieces) (machOf t′ .pieces) (machOf t″ .pieces) (g .grown) (h .grown);
+    idle = h .idle;
+  }
 
-  onward-grown : (k : Told (Ls (Known U)) → Told (Ls (Known U))) → ((t : Told (Ls (Known U))) → Told-grown t (k t)) → (t : Told (Ls (Known U))) → Told-grown t (onwardNoted X (tableOf B) room (showsIn B) k t)
+  onward-grown : (k : Told (Ls (Known U)) → Told (Ls (Known U))) → ((t : Told (Ls (Known U))) → Idle (machOf t) → Told-grown t (k t)) → (t : Told (Ls (Known U))) → Idle (machOf t) → Told-grown t (onwardNoted X (tableOf B) room (showsIn B) k t)
   unfolding onwardNoted
-  onward-grown k h t = by (t .answer .number)
+  onward-grown k h t i = by (t .answer .number)
     where
       by : (n : ℕ) → Told-grown t (elim n [ zero ↦ k t | suc m ↦ t ])
-      by zero = h t
-      by (suc m) = grown-same N B Because (t .entries) (t .answer .sess .mach .pieces)
+      by zero = h t i
+      by (suc m) = told-same t i
 
   -- a list of ids, n ids from x on, all ids
-  pub list-grown : (size : ℕ) (xs : List ℕ) (t : Told (Ls (Known U))) → Told-grown t (listNoted X (tableOf B) room (showsIn B) size xs t)
+  pub list-grown : (size : ℕ) (xs : List ℕ) (t : Told (Ls (Known U))) → Idle (machOf t) → Told-grown t (listNoted X (tableOf B) room (showsIn B) size xs t)
   unfolding listNoted
-  list-grown size [] t = grown-same N B Because (t .entries) (t .answer .sess .mach .pieces)
-  list-grown size (x ∷ xs) t =
+  list-grown size [] t i = told-same t i
+  list-grown size (x ∷ xs) t i =
       let u : Told (Ls (Known U)) = singleNoted X (tableOf B) room (showsIn B) size x t in
-      told-then t u (onwardNoted X (tableOf B) room (showsIn B) (listNoted X (tableOf B) room (showsIn B) size xs) u) (single-grown size x t)
-      (onward-grown (listNoted X (tableOf B) room (showsIn B) size xs) (λ v. list-grown size xs v) u)
+      let g : Told-grown t u = single-grown size x t i in
+      told-then t u (onwardNoted X (tableOf B) room (showsIn B) (listNoted X (tableOf B) room (showsIn B) size xs) u) g
+      (onward-grown (listNoted X (tableOf B) room (showsIn B) size xs) (λ v j. list-grown size xs v j) u (g .idle))
 
-  pub from-grown : (size n x : ℕ) (t : Told (Ls (Known U))) → Told-grown t (fromNoted X (tableOf B) room (showsIn B) size n x t)
+  pub from-grown : (size n x : ℕ) (t : Told (Ls (Known U))) → Idle (machOf t) → Told-grown t (fromNoted X (tableOf B) room (showsIn B) size n x t)
   unfolding fromNoted
-  from-grown size zero x t = grown-same N B Because (t .entries) (t .answer .sess .mach .pieces)
-  from-grown size (suc n) x t =
+  from-grown size zero x t i = told-same t i
+  from-grown size (suc n) x t i =
       let u : Told (Ls (Known U)) = singleNoted X (tableOf B) room (showsIn B) size x t in
-      told-then t u (onwardNoted X (tableOf B) room (showsIn B) (fromNoted X (tableOf B) room (showsIn B) size n (suc x)) u) (single-grown size x t)
-      (onward-grown (fromNoted X (tableOf B) room (showsIn B) size n (suc x)) (λ v. from-grown size n (suc x) v) u)
+      let g : Told-grown t u = single-grown size x t i in
+      told-then t u (onwardNoted X (tableOf B) room (showsIn B) (fromNoted X (tableOf B) room (showsIn B) size n (suc x)) u) g
+      (onward-grown (fromNoted X (tableOf B) room (showsIn B) size n (suc x)) (λ v j. from-grown size n (suc x) v j) u (g .idle))
 
-  pub every-grown : (size : ℕ) (S : Sess (Ls (Known U))) (b : Bool) → Told-grown (untold S) (everyNoted X (tableOf B) room (showsIn B) size S b)
+  pub every-grown : (size : ℕ) (S : Sess (Ls (Known U))) → Idle (S .mach) → (b : Bool) → Told-grown (untold S) (everyNoted X (tableOf B) room (showsIn B) size S b)
   unfolding everyNoted
-  every-grown size S false = grown-same N B Because [] (S .mach .pieces)
-  every-grown size S true = from-grown size (B .type-cnt - 1) 1 (record { answer = record { sess = S; number = 0 }; entries = []; zeroed = true })
+  every-grown size S i false = record { grown = grown-same N B Because [] (S .mach .pieces); idle = i }
+  every-grown size S i true =
+      let g = from-grown size (B .type-cnt - 1) 1 (record { answer = record { sess = S; number = 0 }; entries = []; zeroed = true }) i in
+      record { grown = g .grown; idle = g .idle }
 
 -- ---- the text
 text-append : (ps qs : List Piece) → textOf (ps ++ qs) ≡ textOf ps ++ textOf qs

@@ -1,15 +1,15 @@
 -- Ordering with leaders: without them it is the plain rule; the notes are those of the order list; and each leader leads to its id. Assumes nothing.
 use Prim.Native.Nat.{ℕ, zero, suc}
 use mathlib.Core.Path.{_≡_, refl, ap, _∙_, sym, subst}
-use mathlib.Core.Bool.{Bool, true, false, not, _&&_, _||_}
-use mathlib.Core.List.{List, [], _∷_, _++_, List·Memᴰ, List·Memᴰ·head, List·Memᴰ·tail, List·Memᴰ·not-nil, List·Memᴰ·append-cases, List·Memᴰ·eq-of-singleton}
+use mathlib.Core.Bool.{Bool, true, false, not, _&&_, _||_, true≢false}
+use mathlib.Core.List.{List, [], _∷_, _++_, List·Memᴰ, List·Memᴰ·head, List·Memᴰ·tail, List·Memᴰ·not-nil, List·Memᴰ·cases-cons, List·Memᴰ·append-cases, List·Memᴰ·eq-of-singleton}
 use mathlib.Core.Logic.{_⊎_, inl, inr, _≢_}
 use lib.Dec.{eqb}
 use borrow.Author.Tests.{eqb-true, eqb-false}
 use Rattle.rules.specs.Order.{Node, ignored, plain, listed, through, ptr, tdef, proto, comp, Table, isComp, Mark, new, busy, done, isDone, Store, Res, ok, refused, bind, each, meet, pushIf, finish, enter, alias, fresh, visit, order}
 use Rattle.demand.specs.Needs.{kids}
-use Rattle.causes.specs.Causes.{ledBy, isAround, inside, Led, ledStore, orderLed}
-use Rattle.causes.specs.Claims.{Leads, itself, first, next, ordersAround, LedTo}
+use Rattle.causes.specs.Causes.{ledBy, isAround, inside, Led, ledStore, orderLed, leaderOf}
+use Rattle.causes.specs.Claims.{Leads, itself, first, next, ordersAround, isListed, LedTo}
 
 -- ---- the plain rule
 unfoldable pub forgetLed : {St : Type 0} → Res (Led St) → Res St
@@ -107,7 +107,7 @@ pub data Around (T : Table) (req : ℕ) : List ℕ → ℕ → Type 0 where
   under : (a : ℕ) (around : List ℕ) (x : ℕ) → isAround (T .node a) ≡ true → Leads T (ordersAround T) a x → Around T req around a → Around T req (a ∷ around) x
 
 module _ {St : Type 0} (K : Store St) (T : Table) (req : ℕ) (P : Led St → Type 0) (on-mark : (m : Mark) (x : ℕ) (s : Led St) → P s → P (record { state = K .mark m x (s .state); led = s .led }))
-    (on-push : (around : List ℕ) (x : ℕ) → Around T req around x → (s : Led St) → P s → P (record { state = K .push x (s .state); led = s .led ++ ((x, ledBy req around x) ∷ []) })) where
+    (on-push : (around : List ℕ) (x : ℕ) → Around T req around x → isListed (T .node x) ≡ true → (s : Led St) → P s → P (record { state = K .push x (s .state); led = s .led ++ ((x, ledBy req around x) ∷ []) })) where
   each-keeps : (f : Led St → ℕ → Res (Led St)) (ys : List ℕ) → ((s : Led St) (y : ℕ) → List·Memᴰ y ys → P s → Holds P (f s y)) → (s : Led St) (b : Bool) → P s → Holds P (each f ys s b)
   unfolding each
   each-keeps f [] hf s b h = holds h
@@ -118,18 +118,21 @@ module _ {St : Type 0} (K : Store St) (T : Table) (req : ℕ) (P : Led St → Ty
     abbrev L′ : Store (Led St)
     L′ = ledStore K req around
 
-    push-keeps : (p : Bool) (s : Led St) → P s → P (pushIf L′ p x s)
+    push-keeps : (p : Bool) → (p ≡ true → isListed (T .node x) ≡ true) → (s : Led St) → P s → P (pushIf L′ p x s)
     unfolding pushIf
-    push-keeps true s h = on-push around x c s h
-    push-keeps false s h = h
+    push-keeps true i s h = on-push around x c (i refl) s h
+    push-keeps false i s h = h
 
-    finish-keeps : (p b : Bool) (s : Led St) → P s → Holds P (ok (finish L′ p x s) b)
-    finish-keeps p b s h = holds (on-mark done x (pushIf L′ p x s) (push-keeps p s h))
+    finish-keeps : (p b : Bool) → (p ≡ true → isListed (T .node x) ≡ true) → (s : Led St) → P s → Holds P (ok (finish L′ p x s) b)
+    finish-keeps p b i s h = holds (on-mark done x (pushIf L′ p x s) (push-keeps p i s h))
 
-    alias-keeps : (p was : Bool) (s : Led St) → P s → Holds P (alias L′ p was s x)
+    alias-keeps : (p was : Bool) → isListed (T .node x) ≡ true → (s : Led St) → P s → Holds P (alias L′ p was s x)
     unfolding alias
-    alias-keeps true was s h = finish-keeps (not was) true s h
-    alias-keeps false was s h = holds h
+    alias-keeps true was i s h = finish-keeps (not was) true (λ q. i) s h
+    alias-keeps false was i s h = holds h
+
+    not-listed : false ≡ true → isListed (T .node x) ≡ true
+    not-listed q = absurd (true≢false (sym q))
 
     meet-keeps : (p : Bool) (s : Led St) → P s → Holds P (meet p s)
     unfolding meet
@@ -137,26 +140,26 @@ module _ {St : Type 0} (K : Store St) (T : Table) (req : ℕ) (P : Led St → Ty
     meet-keeps false s h = none
 
     module _ (rec : Led St → ℕ → Bool → Res (Led St)) (weak : Bool) (s : Led St) (h : P s) where
-      enter-keeps : (p nm : Bool) (ms : List ℕ) → ((s′ : Led St) (y : ℕ) (w : Bool) → List·Memᴰ y ms → P s′ → Holds P (rec s′ y w)) → Holds P (enter L′ p (λ s′ y. rec s′ y false) s x nm ms)
+      enter-keeps : (p nm : Bool) (ms : List ℕ) → isListed (T .node x) ≡ true → ((s′ : Led St) (y : ℕ) (w : Bool) → List·Memᴰ y ms → P s′ → Holds P (rec s′ y w)) → Holds P (enter L′ p (λ s′ y. rec s′ y false) s x nm ms)
       unfolding enter
-      enter-keeps true nm ms k = holds h
-      enter-keeps false nm ms k =
-          holds-bind (λ s′ b. ok (finish L′ nm x s′) true) (each-keeps (λ s′ y. rec s′ y false) ms (λ s′ y m h′. k s′ y false m h′) (L′ .mark busy x s) false (on-mark busy x s h)) (λ s′ b h′. finish-keeps nm true s′ h′)
+      enter-keeps true nm ms i k = holds h
+      enter-keeps false nm ms i k =
+          holds-bind (λ s′ b. ok (finish L′ nm x s′) true) (each-keeps (λ s′ y. rec s′ y false) ms (λ s′ y m h′. k s′ y false m h′) (L′ .mark busy x s) false (on-mark busy x s h)) (λ s′ b h′. finish-keeps nm true (λ q. i) s′ h′)
 
-      fresh-keeps : (nd : Node) → ((s′ : Led St) (y : ℕ) (w : Bool) → List·Memᴰ y (kids nd) → P s′ → Holds P (rec s′ y w)) → Holds P (fresh L′ T rec s x weak nd)
+      fresh-keeps : (nd : Node) → T .node x ≡ nd → ((s′ : Led St) (y : ℕ) (w : Bool) → List·Memᴰ y (kids nd) → P s′ → Holds P (rec s′ y w)) → Holds P (fresh L′ T rec s x weak nd)
       unfolding fresh
-      fresh-keeps ignored k = holds h
-      fresh-keeps plain k = finish-keeps false false s h
-      fresh-keeps (listed f) k = finish-keeps (T .named x) true s h
-      fresh-keeps (through a t) k = k s t (not (a && T .strong-arrays) && weak) (List·Memᴰ·head refl) h
-      fresh-keeps (ptr t) k = holds-bind (λ s′ b. ok (finish L′ false x s′) b) (k s t true (List·Memᴰ·head refl) h) (λ s′ b h′. finish-keeps false b s′ h′)
-      fresh-keeps (tdef t) k = holds-bind (λ s′ b. alias L′ (not weak || b) (isDone (L′ .get s′ x)) s′ x) (k s t weak (List·Memᴰ·head refl) h) (λ s′ b h′. alias-keeps (not weak || b) (isDone (L′ .get s′ x)) s′ h′)
-      fresh-keeps (proto ts) k = each-keeps (λ s′ y. rec s′ y weak) ts (λ s′ y m h′. k s′ y weak m h′) s false h
-      fresh-keeps (comp ms) k = enter-keeps (weak && T .named x) (T .named x) ms k
+      fresh-keeps ignored e k = holds h
+      fresh-keeps plain e k = finish-keeps false false not-listed s h
+      fresh-keeps (listed f) e k = finish-keeps (T .named x) true (λ q. ap isListed e) s h
+      fresh-keeps (through a t) e k = k s t (not (a && T .strong-arrays) && weak) (List·Memᴰ·head refl) h
+      fresh-keeps (ptr t) e k = holds-bind (λ s′ b. ok (finish L′ false x s′) b) (k s t true (List·Memᴰ·head refl) h) (λ s′ b h′. finish-keeps false b not-listed s′ h′)
+      fresh-keeps (tdef t) e k = holds-bind (λ s′ b. alias L′ (not weak || b) (isDone (L′ .get s′ x)) s′ x) (k s t weak (List·Memᴰ·head refl) h) (λ s′ b h′. alias-keeps (not weak || b) (isDone (L′ .get s′ x)) (ap isListed e) s′ h′)
+      fresh-keeps (proto ts) e k = each-keeps (λ s′ y. rec s′ y weak) ts (λ s′ y m h′. k s′ y weak m h′) s false h
+      fresh-keeps (comp ms) e k = enter-keeps (weak && T .named x) (T .named x) ms (ap isListed e) k
 
       visit-keeps : ((s′ : Led St) (y : ℕ) (w : Bool) → List·Memᴰ y (kids (T .node x)) → P s′ → Holds P (rec s′ y w)) → (m : Mark) → Holds P (visit L′ T rec s x weak m)
       unfolding visit
-      visit-keeps k new = fresh-keeps (T .node x) k
+      visit-keeps k new = fresh-keeps (T .node x) refl k
       visit-keeps k busy = meet-keeps (isComp (T .node x) && (weak && T .named x)) s h
       visit-keeps k done = holds h
 
@@ -174,14 +177,14 @@ module _ {St : Type 0} (K : Store St) (T : Table) (req : ℕ) (P : Led St → Ty
       (λ s′ y w m h′. order-keeps n (inside (isAround (T .node x)) x around) s′ y w (onward around x y c m (isAround (T .node x)) refl) h′) (K .get (s .state) x)
 
 -- ---- leaders
-led-to : (T : Table) (req : ℕ) (around : List ℕ) (x : ℕ) → Around T req around x → LedTo T req x (ledBy req around x)
+led-to : (T : Table) (req : ℕ) (around : List ℕ) (x : ℕ) → isListed (T .node x) ≡ true → Around T req around x → LedTo T req x (ledBy req around x)
 unfolding ledBy
-led-to T req [] x (outermost _ l) = record { leads = l; which = inl refl }
-led-to T req (a ∷ around) x (under _ _ _ q l c) = by (eqb a x) refl (λ c′. led-to T req around x c′)
+led-to T req [] x i (outermost _ l) = record { is-listed = i; leads = l; which = inl refl }
+led-to T req (a ∷ around) x i (under _ _ _ q l c) = by (eqb a x) refl (λ c′. led-to T req around x i c′)
   where
     by : (b : Bool) → eqb a x ≡ b → (Around T req around x → LedTo T req x (ledBy req around x)) → LedTo T req x (elim b [ true ↦ ledBy req around x | false ↦ a ])
     by true e f = f (subst (Around T req around) (eqb-true a x e) c)
-    by false e f = record { leads = l; which = inr (eqb-false a x e, q) }
+    by false e f = record { is-listed = i; leads = l; which = inr (eqb-false a x e, q) }
 
 -- all notes so far
 abbrev pub AllLed : {St : Type 0} → Table → ℕ → Led St → Type 0
@@ -192,17 +195,17 @@ abbrev pub notedIds : List (ℕ × ℕ) → List ℕ
 notedIds [] = []
 notedIds (p ∷ ps) = p .0 ∷ notedIds ps
 
-ids-append : (ps qs : List (ℕ × ℕ)) → notedIds (ps ++ qs) ≡ notedIds ps ++ notedIds qs
+pub ids-append : (ps qs : List (ℕ × ℕ)) → notedIds (ps ++ qs) ≡ notedIds ps ++ notedIds qs
 ids-append [] qs = refl
 ids-append (p ∷ ps) qs = ap (λ (l : List ℕ). p .0 ∷ l) (ids-append ps qs)
 
 module _ {St : Type 0} (K : Store St) (T : Table) (req : ℕ) where
-  pub push-led : (around : List ℕ) (x : ℕ) → Around T req around x → (s : Led St) → AllLed T req s → AllLed T req (ledStore K req around .push x s)
-  push-led around x c s h p m = by (List·Memᴰ·append-cases (s .led) m)
+  pub push-led : (around : List ℕ) (x : ℕ) → Around T req around x → isListed (T .node x) ≡ true → (s : Led St) → AllLed T req s → AllLed T req (ledStore K req around .push x s)
+  push-led around x c i s h p m = by (List·Memᴰ·append-cases (s .led) m)
     where
       by : List·Memᴰ p (s .led) ⊎ List·Memᴰ p ((x, ledBy req around x) ∷ []) → LedTo T req (p .0) (p .1)
       by (inl q) = h p q
-      by (inr q) = subst (λ (k : ℕ × ℕ). LedTo T req (k .0) (k .1)) (sym (List·Memᴰ·eq-of-singleton q)) (led-to T req around x c)
+      by (inr q) = subst (λ (k : ℕ × ℕ). LedTo T req (k .0) (k .1)) (sym (List·Memᴰ·eq-of-singleton q)) (led-to T req around x i c)
 
   -- Every leader leads to its id, past neither a composite nor a typedef; it is another composite or typedef, or the requested id.
   pub order-led : (n : ℕ) (s : St) (weak : Bool) → Holds (AllLed T req) (orderLed K req n T [] (record { state = s; led = [] }) req weak)
@@ -216,4 +219,18 @@ module _ {St : Type 0} (K : Store St) (T : Table) (req : ℕ) where
       → (n : ℕ) (s : St) (weak : Bool) → K .list s ≡ [] → Holds Beside (orderLed K req n T [] (record { state = s; led = [] }) req weak)
   notes-list on-mark on-push n s weak e =
       order-keeps K T req Beside (λ m x s′ h. on-mark m x (s′ .state) ∙ h)
-      (λ around x c s′ h. on-push x (s′ .state) ∙ ap (λ (l : List ℕ). l ++ (x ∷ [])) h ∙ sym (ids-append (s′ .led) ((x, ledBy req around x) ∷ []))) n [] (record { state = s; led = [] }) req weak (outermost req itself) e
+      (λ around x c i s′ h. on-push x (s′ .state) ∙ ap (λ (l : List ℕ). l ++ (x ∷ [])) h ∙ sym (ids-append (s′ .led) ((x, ledBy req around x) ∷ []))) n [] (record { state = s; led = [] }) req weak (outermost req itself) e
+
+-- the leader at the first listing of a listed id
+pub first-led : (T : Table) (req : ℕ) (led : List (ℕ × ℕ)) → ((p : ℕ × ℕ) → List·Memᴰ p led → LedTo T req (p .0) (p .1)) → (x : ℕ) → List·Memᴰ x (notedIds led) → LedTo T req x (leaderOf req led x)
+unfolding leaderOf
+first-led T req [] h x m = absurd (List·Memᴰ·not-nil m)
+first-led T req (p ∷ led) h x m = by (eqb (p .0) x) refl (λ n. first-led T req led (λ q i. h q (List·Memᴰ·tail i)) x n)
+  where
+    later : (p .0 ≡ x → ⊥) → (x ≡ p .0) ⊎ List·Memᴰ x (notedIds led) → List·Memᴰ x (notedIds led)
+    later d (inl q) = absurd (d (sym q))
+    later d (inr q) = q
+
+    by : (b : Bool) → eqb (p .0) x ≡ b → (List·Memᴰ x (notedIds led) → LedTo T req x (leaderOf req led x)) → LedTo T req x (elim b [ true ↦ p .1 | false ↦ leaderOf req led x ])
+    by true e f = subst (λ (y : ℕ). LedTo T req y (p .1)) (eqb-true (p .0) x e) (h p (List·Memᴰ·head refl))
+    by false e f = f (later (eqb-false (p .0) x e) (List·Memᴰ·cases-cons m))

@@ -5,7 +5,7 @@ use mathlib.Core.Bool.{Bool, true, false}
 use mathlib.Core.List.{List, [], _∷_, _++_, List·Memᴰ}
 use mathlib.Core.Logic.{_⊎_, _≢_}
 use lib.ListN.{length, replicate}
-use Rattle.rules.specs.Order.{Table}
+use Rattle.rules.specs.Order.{Node, ignored, plain, listed, through, ptr, tdef, proto, comp, Table}
 use Rattle.rules.specs.Machine.{Out, wrote, stuck, Machine, Sess, Answer, single, onward}
 use Rattle.demand.specs.Needs.{kids}
 use Rattle.causes.specs.Causes.{isAround, Entry, Noted, upTo, always, Told, bytesOf, Causes}
@@ -22,8 +22,20 @@ pub data Leads (T : Table) (ends : ℕ → Bool) (l : ℕ) : ℕ → Type 0 wher
 abbrev pub ordersAround : Table → ℕ → Bool
 ordersAround T z = isAround (T .node z)
 
+-- what ordering lists: composites, typedefs, enums and FWDs
+abbrev pub isListed : Node → Bool
+isListed ignored = false
+isListed plain = false
+isListed (listed f) = true
+isListed (through a t) = false
+isListed (ptr t) = false
+isListed (tdef t) = true
+isListed (proto ts) = false
+isListed (comp ts) = true
+
 -- A listed id and what led to it, in a request for req: past neither a composite nor a typedef; the requested id, or another composite or typedef.
 pub record LedTo (T : Table) (req id leader : ℕ) : Type 0 where
+  pub is-listed : isListed (T .node id) ≡ true
   pub leads : Leads T (ordersAround T) leader id
   pub which : (leader ≡ req) ⊎ ((leader ≢ id) × (isAround (T .node leader) ≡ true))
 

@@ -2,8 +2,8 @@
 use Prim.Native.Nat.{ℕ}
 use mathlib.Core.Path.{_≡_}
 use mathlib.Core.Bool.{Bool, true, false, not, _&&_}
-use mathlib.Core.List.{List, [], _∷_, _++_, List·Memᴰ}
-use mathlib.Core.Logic.{_⊎_, _≢_}
+use mathlib.Core.List.{List, [], _∷_, _++_}
+use mathlib.Core.Logic.{_≢_}
 use lib.Dec.{eqb}
 use Rattle.lent.specs.Text.{whole}
 use Rattle.rules.specs.Order.{Node, ignored, plain, listed, through, ptr, tdef, proto, comp, Table, isComp}
@@ -88,20 +88,21 @@ isContainer (comp ts) named = named
 abbrev pub contains : Table → ℕ → Bool
 contains T z = isContainer (T .node z) (T .named z)
 
--- cont is the container at x: x is followed from it past no other container. 0 is none.
-abbrev pub Container : Table → ℕ → ℕ → Type 0
-Container T cont x = (cont ≡ 0) ⊎ Leads T (contains T) cont x
+-- cont is the container at x: a typedef or a named composite, from which x is followed past no other
+pub record Inside (T : Table) (cont x : ℕ) : Type 0 where
+  pub some : cont ≢ 0
+  pub contained : contains T cont ≡ true
+  pub leads : Leads T (contains T) cont x
 
 -- led: the listed ids of the request for req, each with what led to it
 pub data Caused (T : Table) (req : ℕ) (led : List (ℕ × ℕ)) : Entry → Type 0 where
   requested : Caused T req led (entry req 0 req)
-  needed : (x : ℕ) → x ≢ req → Caused T req led (entry x 1 (leaderOf req led x))
-  forwarded : (x cont : ℕ) → Container T cont x → Caused T req led (entry x 2 cont)
-  early : (x cont : ℕ) → isTypedef (T .node x) ≡ true → cont ≢ 0 → Container T cont x → Caused T req led (entry x 3 cont)
+  needed : (x : ℕ) → x ≢ req → LedTo T req x (leaderOf req led x) → Caused T req led (entry x 1 (leaderOf req led x))
+  forwarded : (x cont : ℕ) → Inside T cont x → Caused T req led (entry x 2 cont)
+  early : (x cont : ℕ) → isTypedef (T .node x) ≡ true → Inside T cont x → Caused T req led (entry x 3 cont)
 
 -- the cause that a request of the call gives
 pub record Reason (T : Table) (e : Entry) : Type 0 where
   pub req : ℕ
   pub led : List (ℕ × ℕ)
-  pub all-led : (p : ℕ × ℕ) → List·Memᴰ p led → LedTo T req (p .0) (p .1)
   pub caused : Caused T req led e
