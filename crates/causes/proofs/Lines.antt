@@ -1,6 +1,6 @@
 -- One entry a line, in the text's order, with the causes of the ordering and emission rules: over plain lists, with any way of keeping names.
 -- Assumes nothing.
-use Prim.Native.Nat.{ℕ, zero, suc, _+_, _-_}
+use Prim.Native.Nat.{ℕ, zero, suc, _+_, _*_, _-_, _≤_}
 use mathlib.Core.Path.{_≡_, refl, ap, _∙_, sym, subst}
 use mathlib.Core.Bool.{Bool, true, false, not, _&&_, _||_, true≢false}
 use mathlib.Core.List.{List, [], _∷_, _++_, append-nil, append-assoc, List·Memᴰ, List·Memᴰ·head, List·Memᴰ·tail, List·Memᴰ·not-nil}
@@ -22,7 +22,7 @@ use Rattle.demand.specs.Lists.{Piece, defines, other, Line, says, cannot, Ls, p
 use Rattle.demand.specs.Session.{Known, fitting, lineOf, linesBy, machineBy, textOf}
 use Rattle.causes.specs.Causes.{Entry, entry, ledBy, Led, ledStore, orderLed, leaderOf, listedEntry, Noted, withEntries, upTo, always, line, causeAt, noting, emitNoted, showsIn, Told, untold, dropped, emittedNoted, eachListed, orderedNoted, gateNoted, singleNoted, onwardNoted, listNoted, fromNoted, everyNoted}
 use Rattle.causes.specs.Claims.{itself, isListed, LedTo}
-use Rattle.causes.specs.Lines.{isTypedef, isForward, writerOf, Says, pieceOf, Pairs, none, more, blank, Grown, Explains, Inside, Caused, requested, needed, forwarded, early, Reason}
+use Rattle.causes.specs.Lines.{isTypedef, isForward, Ended, writerOf, Says, pieceOf, Pairs, none, more, blank, Grown, Explains, Inside, Caused, requested, needed, forwarded, early, Reason}
 use Rattle.causes.proofs.Ordering.{Holds, holds, none as nothing-held, Around, outermost, AllLed, order-keeps, push-led, notedIds, ids-append, first-led}
 use Rattle.causes.proofs.Keeps.{Comes, comes, halts, comes-bind, comes-map, isLeaf, Kept, emit-top}
 use Rattle.causes.proofs.Back.{Back, emit-back, list-turns}
@@ -41,22 +41,19 @@ abbrev textIn : {U : Type 0} → Said U → List ℕ
 textIn (said u (whole a)) = a
 textIn (said u (cut a c)) = a
 
--- what ends in a line's end is not empty
+-- what ends in a line's end
 module _ {U : Type 0} (N : Naming U) (B : Btf) where
-  ended : (x : Said U) (u′ : U) (t : List ℕ) → next x (lineEnd N B) ≡ said u′ (whole t) → t ≡ [] → ⊥
+  ended : (x : Said U) (u′ : U) (t : List ℕ) → next x (lineEnd N B) ≡ said u′ (whole t) → Ended t
   unfolding next put after join
-  ended (said u (whole a)) u′ t e q =
-      let z : a ++ (59 ∷ 10 ∷ 10 ∷ []) ≡ t = ap textIn e in
-      let l : length a + 3 ≡ 0 = sym (length-append a (59 ∷ 10 ∷ 10 ∷ [])) ∙ ap length (z ∙ q) in
-      omega arith
-  ended (said u (cut a c)) u′ t e q = let z : _≡_ {A = ℕ} 0 1 = cc in omega arith
+  ended (said u (whole a)) u′ t e = record { front = a; is = sym (ap textIn e) }
+  ended (said u (cut a c)) u′ t e = absurd (let z : _≡_ {A = ℕ} 0 1 = cc in omega arith)
 
-  ends : (v : Writer U) (u u′ : U) (t : List ℕ) → (v ⨾ lineEnd N B) u ≡ said u′ (whole t) → t ≡ [] → ⊥
+  ends : (v : Writer U) (u u′ : U) (t : List ℕ) → (v ⨾ lineEnd N B) u ≡ said u′ (whole t) → Ended t
   unfolding _⨾_
-  ends v u u′ t e q = ended (v u) u′ t e q
+  ends v u u′ t e = ended (v u) u′ t e
 
   -- the forward line or typedef line of a name that is not the builtin one, or of the builtin one
-  shown-ends : (name : Name) (v : Writer U) → builtin name ≡ false → (u u′ : U) (t : List ℕ) → shown N B name v u ≡ said u′ (whole t) → t ≡ [] → ⊥
+  shown-ends : (name : Name) (v : Writer U) → builtin name ≡ false → (u u′ : U) (t : List ℕ) → shown N B name v u ≡ said u′ (whole t) → Ended t
   unfolding shown
   shown-ends name v b u u′ t e = ends v u u′ t (sym (ap (λ (k : Bool). elim k as (λ (y : Bool). Writer U) [ true ↦ put [] | false ↦ v ⨾ lineEnd N B ] u) b) ∙ e)
 
@@ -65,7 +62,7 @@ module _ {U : Type 0} (N : Naming U) (B : Btf) where
   shown-none name v b u u′ t e = sym (ap textIn (sym (ap (λ (k : Bool). elim k as (λ (y : Bool). Writer U) [ true ↦ put [] | false ↦ v ⨾ lineEnd N B ] u) b) ∙ e))
 
   module _ (id cause : ℕ) (u u′ : U) (t : List ℕ) where
-    forward-ends : (ty : BtfType) → isForward (nodeOf ty) cause ≡ true → builtin (nameOf ty) ≡ false → forward N B id ty u ≡ said u′ (whole t) → t ≡ [] → ⊥
+    forward-ends : (ty : BtfType) → isForward (nodeOf ty) cause ≡ true → builtin (nameOf ty) ≡ false → forward N B id ty u ≡ said u′ (whole t) → Ended t
     unfolding forward
     forward-ends Void f b e = absurd (true≢false (sym f))
     forward-ends (Int n w) f b e = absurd (true≢false (sym f))
@@ -105,7 +102,7 @@ module _ {U : Type 0} (N : Naming U) (B : Btf) where
     forward-none (DeclTag a n y k) b e = sym (ap textIn e)
     forward-none (TypeTag a n y) b e = sym (ap textIn e)
 
-    definition-ends : (ty : BtfType) → (isComp (nodeOf ty) || isLeaf (nodeOf ty)) ≡ true → definition N B id ty u ≡ said u′ (whole t) → t ≡ [] → ⊥
+    definition-ends : (ty : BtfType) → (isComp (nodeOf ty) || isLeaf (nodeOf ty)) ≡ true → definition N B id ty u ≡ said u′ (whole t) → Ended t
     unfolding definition
     definition-ends Void f e = absurd (true≢false (sym f))
     definition-ends (Int n w) f e = absurd (true≢false (sym f))
@@ -234,7 +231,7 @@ module _ {U : Type 0} (N : Naming U) (B : Btf) where
       e = entry x c l
 
       -- the entry and its piece
-      grew-line : (mk : List ℕ → Piece) (v : Writer U) → v ≡ writerOf N B e → ((t : List ℕ) → pieceOf N B e t ≡ mk t) → ((u u′ : U) (t : List ℕ) → v u ≡ said u′ (whole t) → t ≡ [] → ⊥)
+      grew-line : (mk : List ℕ → Piece) (v : Writer U) → v ≡ writerOf N B e → ((t : List ℕ) → pieceOf N B e t ≡ mk t) → ((u u′ : U) (t : List ℕ) → v u ≡ said u′ (whole t) → Ended t)
           → (s′ : Noted (Ls (Known U))) → (s′ .entries ≡ s .entries ++ (e ∷ [])) × Put mk v (s .mach) (s′ .mach) → Grew s s′
       grew-line mk v i k f s′ h =
           let p : Put mk v (s .mach) (s′ .mach) = h .1 in
@@ -243,11 +240,11 @@ module _ {U : Type 0} (N : Naming U) (B : Btf) where
             pieces = pieceOf N B e (p .text) ∷ [];
             entries-are = h .0;
             pieces-are = p .pieces-are ∙ ap (λ (q : Piece). s .mach .pieces ++ (q ∷ [])) (sym (k (p .text)));
-            pairs = more e (p .text) [] [] w (record { names = s .mach .known .names; after = p .names; is = ap (λ (r : Writer U). r (s .mach .known .names)) (sym i) ∙ p .is; some = f (s .mach .known .names) (p .names) (p .text) (p .is) }) none;
+            pairs = more e (p .text) [] [] w (record { names = s .mach .known .names; after = p .names; is = ap (λ (r : Writer U). r (s .mach .known .names)) (sym i) ∙ p .is; ends = f (s .mach .known .names) (p .names) (p .text) (p .is) }) none;
           }
 
       -- a line that is an entry
-      shown-line : (mk : List ℕ → Piece) (v : Writer U) → v ≡ writerOf N B e → ((t : List ℕ) → pieceOf N B e t ≡ mk t) → ((u u′ : U) (t : List ℕ) → v u ≡ said u′ (whole t) → t ≡ [] → ⊥)
+      shown-line : (mk : List ℕ → Piece) (v : Writer U) → v ≡ writerOf N B e → ((t : List ℕ) → pieceOf N B e t ≡ mk t) → ((u u′ : U) (t : List ℕ) → v u ≡ said u′ (whole t) → Ended t)
           → Comes (Grew s) (line room true e (λ m. putLine mk m (lineOf (m .room) (m .known .text-len) (v (m .known .names)))) s)
       unfolding line
       shown-line mk v i k f = by (room (length (s .entries)))
@@ -530,3 +527,12 @@ module _ {U : Type 0} (N : Naming U) (B : Btf) (Why : Entry → Type 0) where
   -- "for each top-level line [..], one entry a line, in the text's order": what is added to the text is the lines of the added entries
   pub text-grown : (es es′ : List Entry) (ps ps′ : List Piece) → Grown N B Why es es′ ps ps′ → (new : List Entry) × (text : List ℕ) × (es′ ≡ es ++ new) × (textOf ps′ ≡ textOf ps ++ text) × Explains N B new text
   text-grown es es′ ps ps′ g = (g .entries, textOf (g .pieces), g .entries-are, ap textOf (g .pieces-are) ∙ text-append ps (g .pieces), explained (g .pairs))
+
+  -- every line has three bytes at least
+  pub three-each : {es : List Entry} {t : List ℕ} → Explains N B es t → 3 * length es ≤ length t
+  three-each none = omega arith
+  three-each (more e t es rest s p) =
+      let a : length t ≡ length (s .ends .front) + 3 = ap length (s .ends .is) ∙ length-append (s .ends .front) (ascii ";\n\n") in
+      let b : 3 * length es ≤ length rest = three-each p in
+      let c : length (t ++ rest) ≡ length t + length rest = length-append t rest in
+      omega arith

@@ -5,7 +5,7 @@ use mathlib.Core.Bool.{Bool, true, false, not, _&&_}
 use mathlib.Core.List.{List, [], _∷_, _++_}
 use mathlib.Core.Logic.{_≢_}
 use lib.Dec.{eqb}
-use Rattle.lent.specs.Text.{whole}
+use Rattle.lent.specs.Text.{ascii, whole}
 use Rattle.rules.specs.Order.{Node, ignored, plain, listed, through, ptr, tdef, proto, comp, Table, isComp}
 use Rattle.rules.specs.Writer.{said, Writer}
 use Rattle.rules.specs.Types.{Btf, nodeOf}
@@ -15,6 +15,11 @@ use Rattle.demand.specs.Lists.{Piece, defines, other}
 use Rattle.demand.specs.Session.{textOf}
 use Rattle.causes.specs.Causes.{Entry, entry, leaderOf}
 use Rattle.causes.specs.Claims.{Leads, LedTo}
+
+-- a text that ends in `;`, a newline and an empty line
+pub record Ended (t : List ℕ) : Type 0 where
+  pub front : List ℕ
+  pub is : t ≡ front ++ ascii ";\n\n"
 
 -- ---- the line of an entry
 abbrev pub isTypedef : Node → Bool
@@ -42,12 +47,12 @@ module _ {U : Type 0} (N : Naming U) (B : Btf) where
   abbrev pub writerOf : Entry → Writer U
   writerOf e = elim (isForward (nodeOf (B .type-by-id (e .id))) (e .cause)) [ true ↦ forward N B (e .id) (B .type-by-id (e .id)) | false ↦ definition N B (e .id) (B .type-by-id (e .id)) ]
 
-  -- t is what the line of the entry prints, with the names at that step; it is not empty
+  -- t is what the line of the entry prints, with the names at that step; it ends as a line does
   pub record Says (e : Entry) (t : List ℕ) : Type 0 where
     pub names : U
     pub after : U
     pub is : writerOf e names ≡ said after (whole t)
-    pub some : t ≡ [] → ⊥
+    pub ends : Ended t
 
   -- the piece of that line: one with a composite's body defines it
   abbrev pub pieceOf : Entry → List ℕ → Piece
