@@ -6,4 +6,5 @@ pub mod Back
 pub mod Lines
 pub mod Numbered
 pub mod Calls
+pub mod Bytes
 pub mod Samples

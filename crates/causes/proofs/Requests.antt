@@ -50,7 +50,7 @@ module _ {M : Type 0} (X : Machine M) (T : Table) (shows : ℕ → Bool) (nz : N
     told-short r = refl
 
     -- what emission comes to, as an answer
-    emitted-fits : (F : (ℕ → Bool) → Out (Noted M)) (P : Out M) → Lined (length (t .entries)) F P → Fits (length (t .entries)) (λ r. toldOf r (F r)) (emitted X T (t .answer .sess) x P)
+    emitted-fits : (F : (ℕ → Bool) → Out (Noted M)) (P : Out M) → Lined (Numbered X) (length (t .entries)) F P → Fits (length (t .entries)) (λ r. toldOf r (F r)) (emitted X T (t .answer .sess) x P)
     emitted-fits F P h = record {
       same = told-out always (F always) ∙ ap (emitted X T (t .answer .sess) x) (h .same);
       need = h .need;
@@ -58,14 +58,14 @@ module _ {M : Type 0} (X : Machine M) (T : Table) (shows : ℕ → Bool) (nz : N
       held = told-held (h .need) (h .from) (F always) (h .counts);
       fits = λ c l. told-alike c (F (upTo c)) ∙ ap (toldOf always) (h .fits c l);
       short = λ c l q. ap (λ (o : Out (Noted M)). toldOf (upTo c) o .answer .number) (h .short c l q) ∙ told-short (upTo c);
-      counts = told-counts (h .need) (F always) (h .numbered) (h .counts);
+      counts = told-counts (h .need) (F always) (h .numbered nz) (h .counts);
     }
 
     ordered-fits : (o : Res (Led M)) → Fits (length (t .entries)) (λ r. orderedNoted X T r shows t x o) (ordered X T (t .answer .sess) x (forgetLed o))
     unfolding orderedNoted ordered forgetLed dropped
     ordered-fits (ok s b) =
         emitted-fits (λ r. eachListed X T r shows (listedEntry x (s .led)) (X .store .list (s .state)) (record { mach = s .state; entries = t .entries })) (eeach (λ m y. emit X T 512 m y 0) (X .store .list (s .state)) (s .state))
-        (each-lined (λ r m y. emitNoted X r shows (listedEntry x (s .led)) T 512 m y 0) (λ m y. emit X T 512 m y 0) (λ m y. emit-lined X shows (listedEntry x (s .led)) T nz 512 m y 0) (X .store .list (s .state)) (record { mach = s .state; entries = t .entries }))
+        (each-lined (Numbered X) (λ r m y. emitNoted X r shows (listedEntry x (s .led)) T 512 m y 0) (λ m y. emit X T 512 m y 0) (λ m y. emit-lined X shows (listedEntry x (s .led)) T 512 m y 0) (X .store .list (s .state)) (record { mach = s .state; entries = t .entries }))
     ordered-fits (refused e) = always-fits (record { answer = shut X T (t .answer .sess) e; entries = t .entries; zeroed = true }) (shut X T (t .answer .sess) e) refl
 
     gate-fits : (room : ℕ) (o b : Bool) → Fits (length (t .entries)) (λ r. gateNoted X T r shows room t x o b) (gate X T room (t .answer .sess) x o b)
@@ -167,7 +167,7 @@ unfolding bytesOf
 bytes-length [] = refl
 bytes-length (e ∷ es) = let h : length (bytesOf es) ≡ 12 * length es = bytes-length es in omega arith
 
-filled-listed : (n : ℕ) (es : List Entry) → 12 * length es ≤ n → Listed n es (filled n es)
+pub filled-listed : (n : ℕ) (es : List Entry) → 12 * length es ≤ n → Listed n es (filled n es)
 unfolding filled
 filled-listed n es l =
     let a : length (bytesOf es) ≡ 12 * length es = bytes-length es in

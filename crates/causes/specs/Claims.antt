@@ -53,15 +53,15 @@ pub record Numbered {M : Type 0} (X : Machine M) : Type 0 where
   pub body-no : (m : M) (x : ℕ) → X .body m x ≡ stuck 0 → ⊥
 
 -- What emission comes to, with k entries before it: with room for all, what the plain rule comes to. In a list of c entries it is the same if the
--- lines that are begun fit, and else 17.
-pub record Lined {M : Type 0} (k : ℕ) (F : (ℕ → Bool) → Out (Noted M)) (plainly : Out M) : Type 0 where
+-- lines that are begun fit, and else 17. Z: that no line is refused by the number 0.
+pub record Lined {M : Type 0} (Z : Type 0) (k : ℕ) (F : (ℕ → Bool) → Out (Noted M)) (plainly : Out M) : Type 0 where
   pub same : forget (F always) ≡ plainly
   pub need : ℕ
   pub from : k ≤ need
   pub fits : (c : ℕ) → need ≤ c → F (upTo c) ≡ F always
   pub short : (c : ℕ) → k ≤ c → c < need → F (upTo c) ≡ stuck 17
   pub counts : (s : Noted M) → F always ≡ wrote s → length (s .entries) ≡ need
-  pub numbered : F always ≡ stuck 0 → ⊥
+  pub numbered : Z → F always ≡ stuck 0 → ⊥
 
 -- The same of the requests of a call: "forgetting" the entries, its answer is that of the plain requests, "unless the list is too short", which is 17.
 -- need: the entries of the accepted requests, and of the lines that a refused one began.
