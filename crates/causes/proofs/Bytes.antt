@@ -194,10 +194,13 @@ type-fits s section work text id = by (isCurrent s (length section) (length work
   where
     by : (o b : Bool) → CauseFits
         (elim o [ false ↦ unchanged s (refusal notCurrent (s .«text_len»)) work text | true ↦ elim b [ false ↦ unchanged s (refusal idNotBelow (s .«text_len»)) work text | true ↦ settled s (length work) (length text) (requested (tableFor s section) section id (s .«text_len») work text) ] ])
-        (λ l. elim o [ false ↦ leftAlone (unchanged s (refusal notCurrent (s .«text_len»)) work text) l | true ↦ elim b [
-          | false ↦ leftAlone (unchanged s (refusal idNotBelow (s .«text_len»)) work text) l
-          | true ↦ settledNoted s (length work) (length text) l (requestedNoted (upTo (entriesIn l)) (tableFor s section) section id [] (s .«text_len») work text)
-        ] ])
+        (λ l. elim o [
+          | false ↦ leftAlone (unchanged s (refusal notCurrent (s .«text_len»)) work text) l
+          | true ↦ elim b [
+            | false ↦ leftAlone (unchanged s (refusal idNotBelow (s .«text_len»)) work text) l
+            | true ↦ settledNoted s (length work) (length text) l (requestedNoted (upTo (entriesIn l)) (tableFor s section) section id [] (s .«text_len») work text)
+          ]
+        ])
     by false b = left-fits s work text (unchanged s (refusal notCurrent (s .«text_len»)) work text)
     by true false = left-fits s work text (unchanged s (refusal idNotBelow (s .«text_len»)) work text)
     by true true =

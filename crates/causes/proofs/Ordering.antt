@@ -234,3 +234,12 @@ first-led T req (p ∷ led) h x m = by (eqb (p .0) x) refl (λ n. first-led T re
     by : (b : Bool) → eqb (p .0) x ≡ b → (List·Memᴰ x (notedIds led) → LedTo T req x (leaderOf req led x)) → LedTo T req x (elim b [ true ↦ p .1 | false ↦ leaderOf req led x ])
     by true e f = subst (λ (y : ℕ). LedTo T req y (p .1)) (eqb-true (p .0) x e) (h p (List·Memᴰ·head refl))
     by false e f = f (later (eqb-false (p .0) x e) (List·Memᴰ·cases-cons m))
+
+-- Two numbers do for what is being ordered: the innermost id, and the leader of that one. Inside x they are x and the leader of x.
+pub two-numbers : (req : ℕ) (around : List ℕ) (x z : ℕ) → ledBy req (x ∷ around) z ≡ elim (eqb x z) [ true ↦ ledBy req around x | false ↦ x ]
+unfolding ledBy
+two-numbers req around x z = by (eqb x z) refl
+  where
+    by : (b : Bool) → eqb x z ≡ b → _≡_ {A = ℕ} (elim b [ true ↦ ledBy req around z | false ↦ x ]) (elim b [ true ↦ ledBy req around x | false ↦ x ])
+    by true e = ap (ledBy req around) (sym (eqb-true x z e))
+    by false e = refl
