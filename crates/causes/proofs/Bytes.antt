@@ -1,16 +1,16 @@
 -- The calls over lent bytes, without their entries: the plain calls, unless the list is too short. Of all inputs; assumes nothing.
-use Prim.Native.Nat.{ℕ, zero, suc, _+_, _*_, _-_, _/_, _<_, _≤_}
+use Prim.Native.Nat.{ℕ, zero, suc, _-_, _<_, _≤_}
 use mathlib.Core.Path.{_≡_, refl, ap, _∙_, sym, subst}
 use mathlib.Core.Bool.{Bool, true, false, true≢false}
 use mathlib.Core.List.{List, []}
-use mathlib.Core.Logic.{_⊎_, inl, inr, ⊎-elim}
+use mathlib.Core.Logic.{⊎-elim}
 use native.Mathlib.Omega.{arith}
 use lib.ListN.{length}
 use lib.Dec.{ltb}
 use Rattle.lent.proofs.Laws.{le-or-lt}
-use Rattle.rules.specs.Order.{Table, Res, ok, refused, order}
-use Rattle.rules.specs.Machine.{Out, wrote, stuck, Machine, obind, eeach, emit}
-use Rattle.rules.specs.Types.{Btf as Rules, tableOf}
+use Rattle.rules.specs.Order.{Table, Res, ok, refused}
+use Rattle.rules.specs.Machine.{Out, wrote, stuck, Machine, eeach, emit}
+use Rattle.rules.specs.Types.{tableOf}
 use Rattle.btf.specs.declared.types.Btf.{Btf}
 use Rattle.btf.specs.Table.{btfOf}
 use Rattle.emit.specs.Sheet.{Sheet, workMachine, listedOut, dumped}
@@ -19,7 +19,7 @@ use Rattle.session.specs.Answers.{numberOf, answerOf, notCurrent, idNotBelow, r
 use Rattle.session.specs.Calls.{Call, isCurrent, Reach, reached, refusedBy, cameTo, lentTo, requested, onward, requestedFrom, settled, unchanged, tableFor, typeCall, typesCall}
 use Rattle.causes.specs.Causes.{Entry, Led, orderLed, listedEntry, Noted, upTo, always, emitNoted, eachListed, showsIn, filled, entriesIn}
 use Rattle.causes.specs.Claims.{forget, Numbered, Lined, Listed}
-use Rattle.causes.specs.Bytes.{listedNoted, dumpedNoted, Reached, entriesAfter, cameToNoted, requestedNoted, onwardNoted, requestedFromNoted, CauseCall, settledNoted, leftAlone, typeCauses, typesCauses, CauseFits}
+use Rattle.causes.specs.Bytes.{listedNoted, dumpedNoted, Reached, entriesAfter, cameToNoted, requestedNoted, onwardNoted, requestedFromNoted, settledNoted, leftAlone, typeCauses, typesCauses, CauseFits}
 use Rattle.causes.proofs.Ordering.{forgetLed, order-forgets}
 use Rattle.causes.proofs.Emission.{lined-wrote, lined-bind, each-lined, emit-lined}
 use Rattle.causes.proofs.Requests.{filled-listed}

@@ -8,11 +8,11 @@ use mathlib.Core.Logic.{_≢_}
 use native.Mathlib.Omega.{arith}
 use lib.Dec.{eqb}
 use Rattle.rules.specs.Order.{Node, ignored, plain, listed, through, ptr, tdef, proto, comp, Table, isComp, Mark, new, busy, done}
-use Rattle.rules.specs.Machine.{Out, wrote, stuck, Machine, isZero, pick, obind, eeach, once, mention, again, close, leaf, within, begin, allowed, look}
+use Rattle.rules.specs.Machine.{Out, wrote, stuck, Machine, isZero, obind, eeach, once, mention, again, close, leaf, within, begin, allowed, look}
 use Rattle.demand.specs.Needs.{kids}
 use Rattle.causes.specs.Causes.{Entry, Noted, noting, emitNoted}
-use Rattle.causes.specs.Claims.{Leads, itself, first, next, isListed}
-use Rattle.causes.specs.Lines.{isTypedef, isContainer, contains, Inside}
+use Rattle.causes.specs.Claims.{first, next, isListed}
+use Rattle.causes.specs.Lines.{isTypedef, isContainer, Inside}
 
 -- what a line, or a call, comes to, if it is no refusal
 pub data Comes {M : Type 0} (Q : M → Type 0) : Out M → Type 0 where

@@ -4,25 +4,24 @@ use Prim.Native.Nat.{ℕ, zero, suc, _+_, _*_, _-_, _≤_}
 use mathlib.Core.Path.{_≡_, refl, ap, _∙_, sym, subst}
 use mathlib.Core.Bool.{Bool, true, false, not, _&&_, _||_, true≢false}
 use mathlib.Core.List.{List, [], _∷_, _++_, append-nil, append-assoc, List·Memᴰ, List·Memᴰ·head, List·Memᴰ·tail, List·Memᴰ·not-nil}
-use mathlib.Core.Logic.{_⊎_, inl, inr, _≢_}
 use native.Mathlib.Omega.{arith}
 use lib.ListN.{length, length-append, getD}
 use lib.Dec.{ltb, leb, eqb}
 use borrow.Author.Tests.{eqb-true, eqb-false}
 use Rattle.lent.specs.Text.{ascii, Text, whole, cut, join, bytes}
-use Rattle.rules.specs.Order.{Node, ignored, plain, listed, through, ptr, tdef, proto, comp, Table, isComp, Mark, new, busy, Store, Res, ok, refused}
-use Rattle.rules.specs.Machine.{Out, wrote, stuck, Machine, eeach, Sess, Answer, shut}
-use Rattle.rules.specs.Writer.{Said, said, saidText, Writer, after, next, put, _⨾_}
+use Rattle.rules.specs.Order.{Node, ignored, plain, listed, through, ptr, tdef, proto, comp, Table, isComp, Mark, new, busy, Res, ok, refused}
+use Rattle.rules.specs.Machine.{Out, wrote, stuck, Machine, eeach, Sess, shut}
+use Rattle.rules.specs.Writer.{Said, said, Writer, after, next, put, _⨾_}
 use Rattle.rules.specs.Types.{Name, BtfType, Void, Int, Ptr, Array, Composite, Enum, Enum64, Fwd, Typedef, Mod, Func, Var, Datasec, FuncProto, Float, DeclTag, TypeTag, Btf, nameOf, nodeOf, tableOf}
 use Rattle.rules.specs.Layout.{smaller}
 use Rattle.rules.specs.Names.{Naming, builtin}
 use Rattle.rules.specs.Decl.{emitCompositeFwd, emitFwdDef, enumValue, enum64Value, emitEnumDef, emitCompositeDef, emitTypedefDef}
 use Rattle.rules.specs.Emit.{lineEnd, definition, shown, forward}
-use Rattle.demand.specs.Lists.{Piece, defines, other, Line, says, cannot, Ls, putLine}
+use Rattle.demand.specs.Lists.{Piece, defines, other, cannot, Ls, putLine}
 use Rattle.demand.specs.Session.{Known, fitting, lineOf, linesBy, machineBy, textOf}
-use Rattle.causes.specs.Causes.{Entry, entry, ledBy, Led, ledStore, orderLed, leaderOf, listedEntry, Noted, withEntries, upTo, always, line, causeAt, noting, emitNoted, showsIn, Told, untold, dropped, emittedNoted, eachListed, orderedNoted, gateNoted, singleNoted, onwardNoted, listNoted, fromNoted, everyNoted}
+use Rattle.causes.specs.Causes.{Entry, entry, ledBy, Led, ledStore, orderLed, leaderOf, listedEntry, Noted, withEntries, line, causeAt, noting, emitNoted, showsIn, Told, untold, dropped, emittedNoted, eachListed, orderedNoted, gateNoted, singleNoted, onwardNoted, listNoted, fromNoted, everyNoted}
 use Rattle.causes.specs.Claims.{itself, isListed, LedTo}
-use Rattle.causes.specs.Lines.{isTypedef, isForward, Ended, writerOf, Says, pieceOf, Pairs, none, more, blank, Grown, Explains, Inside, Caused, requested, needed, forwarded, early, Reason}
+use Rattle.causes.specs.Lines.{isTypedef, isForward, Ended, writerOf, pieceOf, Pairs, none, more, blank, Grown, Explains, Inside, Caused, requested, needed, forwarded, early, Reason}
 use Rattle.causes.proofs.Ordering.{Holds, holds, none as nothing-held, Around, outermost, AllLed, order-keeps, push-led, notedIds, ids-append, first-led}
 use Rattle.causes.proofs.Keeps.{Comes, comes, halts, comes-bind, comes-map, isLeaf, Kept, emit-top}
 use Rattle.causes.proofs.Back.{Back, emit-back, list-turns}

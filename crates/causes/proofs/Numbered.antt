@@ -1,22 +1,22 @@
 -- No line of the rules is refused by the number 0: the refusals of a line are 12, 15, 16, 17 and 18. Assumes nothing.
 use Prim.Native.Nat.{ℕ, _+_}
-use mathlib.Core.Path.{_≡_, refl, ap, _∙_, sym, subst}
+use mathlib.Core.Path.{_≡_, ap}
 use mathlib.Core.Bool.{Bool, true, false}
 use mathlib.Core.List.{List}
-use mathlib.Core.Logic.{_⊎_, inl, inr}
+use mathlib.Core.Logic.{inl, inr}
 use native.Mathlib.Omega.{arith}
 use lib.ListN.{length}
 use lib.Dec.{leb}
-use Rattle.lent.specs.Text.{Text, whole, cut, bytes}
+use Rattle.lent.specs.Text.{Text, bytes}
 use Rattle.rules.specs.Machine.{Out, wrote, stuck}
-use Rattle.rules.specs.Writer.{Said, said, saidText, Writer}
+use Rattle.rules.specs.Writer.{Said, said, saidText}
 use Rattle.rules.specs.Types.{Btf}
 use Rattle.rules.specs.Layout.{smaller}
 use Rattle.rules.specs.Names.{Naming}
 use Rattle.rules.specs.Emit.{definition, forward}
 use Rattle.rules.proofs.Closed.{Code}
 use Rattle.rules.proofs.Refusals.{Told, told, cut-by, tells-definition, tells-forward}
-use Rattle.demand.specs.Lists.{Piece, Line, says, cannot, Ls, putLine, other, defines}
+use Rattle.demand.specs.Lists.{Piece, cannot, Ls, putLine, other, defines}
 use Rattle.demand.specs.Session.{Known, fitting, lineOf, machineBy}
 use Rattle.causes.specs.Claims.{Numbered}
 

@@ -1,17 +1,17 @@
 -- Requests with a list of entries: the answer is the plain one's, or 17 where the list is too short; a longer list changes nothing but its rest.
 -- Assumes nothing.
-use Prim.Native.Nat.{ℕ, zero, suc, _+_, _*_, _-_, _/_, _<_, _≤_}
+use Prim.Native.Nat.{ℕ, zero, suc, _*_, _-_, _<_, _≤_}
 use mathlib.Core.Path.{_≡_, refl, ap, _∙_, sym, subst}
 use mathlib.Core.Bool.{Bool, true, false}
-use mathlib.Core.List.{List, [], _∷_, _++_}
-use mathlib.Core.Logic.{_⊎_, inl, inr, ⊎-elim}
+use mathlib.Core.List.{List, [], _∷_}
+use mathlib.Core.Logic.{⊎-elim}
 use native.Mathlib.Omega.{arith}
 use lib.ListN.{length, length-append, replicate, length-replicate}
 use lib.Dec.{ltb}
 use Rattle.lent.proofs.Laws.{le-or-lt}
-use Rattle.rules.specs.Order.{Table, Res, ok, refused, order}
+use Rattle.rules.specs.Order.{Table, Res, ok, refused}
 use Rattle.rules.specs.Machine.{Out, wrote, stuck, Machine, eeach, emit, Sess, Answer, shut, emitted, ordered, gate, single, onward, from, every}
-use Rattle.causes.specs.Causes.{Entry, Led, orderLed, listedEntry, Noted, upTo, always, emitNoted, Told, untold, dropped, emittedNoted, eachListed, orderedNoted, gateNoted, singleNoted, onwardNoted, listNoted, fromNoted, everyNoted, wordBytes, bytesOf, filled, Causes, causesOf, entriesIn, oneCauses, listCauses, allCauses}
+use Rattle.causes.specs.Causes.{Entry, Led, orderLed, listedEntry, Noted, upTo, always, emitNoted, Told, untold, dropped, emittedNoted, eachListed, orderedNoted, gateNoted, singleNoted, onwardNoted, listNoted, fromNoted, everyNoted, bytesOf, filled, causesOf, entriesIn, oneCauses, listCauses, allCauses}
 use Rattle.causes.specs.Claims.{forget, Numbered, Lined, Fits, listPlain, Listed, Lent}
 use Rattle.causes.proofs.Ordering.{forgetLed, order-forgets}
 use Rattle.causes.proofs.Emission.{emit-lined, each-lined}

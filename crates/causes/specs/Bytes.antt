@@ -8,7 +8,7 @@ use lib.ListN.{length}
 use lib.Dec.{ltb}
 use Rattle.rules.specs.Order.{Table, Res, ok, refused}
 use Rattle.rules.specs.Machine.{Out, wrote, stuck, Machine, obind}
-use Rattle.rules.specs.Types.{Btf as Rules, tableOf}
+use Rattle.rules.specs.Types.{tableOf}
 use Rattle.btf.specs.declared.types.Btf.{Btf}
 use Rattle.btf.specs.Table.{btfOf}
 use Rattle.emit.specs.Sheet.{Sheet, workMachine}

@@ -14,7 +14,7 @@ use Rattle.claims.specs.Table.{openedTable}
 use Rattle.claims.specs.Session.{After}
 use Rattle.claims.specs.Demands.{Lent, typesIn, ruled}
 use Rattle.causes.specs.Causes.{Entry, showsIn, always, Told, untold, singleNoted, everyNoted}
-use Rattle.causes.specs.Lines.{Pairs, Explains, Reason}
+use Rattle.causes.specs.Lines.{Explains, Reason}
 
 -- pointer size, mode, section and length of the work, as at opening
 module _ (pointer modes : ℕ) (s : List ℕ) (n : ℕ) where

@@ -6,7 +6,7 @@ use mathlib.Core.List.{List, [], _∷_, _++_}
 use lib.ListN.{length, replicate}
 use lib.Dec.{ltb, eqb}
 use Rattle.rules.specs.Order.{Node, ignored, plain, listed, through, ptr, tdef, proto, comp, Table, Store, Res, ok, refused, visit}
-use Rattle.rules.specs.Machine.{Out, wrote, stuck, Machine, isZero, eeach, look, Sess, Answer, shut}
+use Rattle.rules.specs.Machine.{Out, wrote, stuck, Machine, eeach, look, Sess, Answer, shut}
 use Rattle.rules.specs.Types.{Btf, nameOf}
 use Rattle.rules.specs.Names.{builtin}
 

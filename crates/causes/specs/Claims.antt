@@ -63,7 +63,7 @@ pub record Lined {M : Type 0} (Z : Type 0) (k : ℕ) (F : (ℕ → Bool) → Out
   pub counts : (s : Noted M) → F always ≡ wrote s → length (s .entries) ≡ need
   pub numbered : Z → F always ≡ stuck 0 → ⊥
 
--- The same of the requests of a call: "forgetting" the entries, its answer is that of the plain requests, "unless the list is too short", which is 17.
+-- The same of the requests of a call: without the entries its answer is that of the plain requests, unless the list is too short, which is 17.
 -- need: the entries of the accepted requests, and of the lines that a refused one began.
 pub record Fits {M : Type 0} (k : ℕ) (F : (ℕ → Bool) → Told M) (plainly : Answer M) : Type 0 where
   pub same : F always .answer ≡ plainly
@@ -84,8 +84,8 @@ pub record Listed (n : ℕ) (es : List Entry) (list : List ℕ) : Type 0 where
   pub is : list ≡ bytesOf es ++ replicate (n - 12 * length es) 0
   pub size : length list ≡ n
 
--- A call that is lent a list l long enough. t: what it comes to with room for all entries, which does not depend on l: "a longer list changes
--- nothing but its rest".
+-- A call that is lent a list l long enough. t: what it comes to with room for all entries, which does not depend on l: a longer list changes
+-- nothing but its rest.
 pub record Lent {M : Type 0} (l : List ℕ) (t : Told M) (plainly : Answer M) (c : Causes M) : Type 0 where
   pub answer : c .answer ≡ plainly
   pub count : c .count ≡ length (t .entries)

@@ -12,7 +12,6 @@ use Rattle.rules.specs.Types.{Btf, nodeOf}
 use Rattle.rules.specs.Names.{Naming}
 use Rattle.rules.specs.Emit.{definition, forward}
 use Rattle.demand.specs.Lists.{Piece, defines, other}
-use Rattle.demand.specs.Session.{textOf}
 use Rattle.causes.specs.Causes.{Entry, entry, leaderOf}
 use Rattle.causes.specs.Claims.{Leads, LedTo}
 

@@ -1,16 +1,15 @@
 -- Entries of small tables: what a request comes to, beside what is wanted. That both are equal is proofs/Samples.
 use Prim.Native.Nat.{ℕ}
 use mathlib.Core.Bool.{true, false}
-use mathlib.Core.List.{List, [], _∷_, _++_}
+use mathlib.Core.List.{List, [], _∷_}
 use lib.ListN.{replicate}
 use Rattle.lent.specs.Text.{ascii}
-use Rattle.rules.specs.Machine.{Sess}
 use Rattle.rules.specs.Types.{Void, Int, Ptr, Composite, Fwd, Typedef, FuncProto, Btf, tableOf}
 use Rattle.rules.specs.Names.{Names}
 use Rattle.rules.specs.Samples.{table, member}
 use Rattle.demand.specs.Lists.{Ls}
 use Rattle.demand.specs.Session.{Known, textOf, machine, opened}
-use Rattle.causes.specs.Causes.{Entry, showsIn, upTo, Told, untold, singleNoted, everyNoted, Causes, oneCauses}
+use Rattle.causes.specs.Causes.{Entry, showsIn, upTo, Told, untold, singleNoted, everyNoted, oneCauses}
 
 abbrev pub words : List Entry → List ℕ
 words [] = []
