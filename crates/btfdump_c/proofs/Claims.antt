@@ -15,11 +15,11 @@ use Rattle.turns.specs.declared.Answer.{Answer}
 use Rattle.turns.specs.declared.Answer.the-variants.{Accepted, Refused}
 use Rattle.turns.specs.declared.Session.{Session}
 use Rattle.turns.specs.Answers.{answerOf}
-use Rattle.requests.specs.Refusals.{number, value, notCurrent, idNotBelow, refusal}
+use Rattle.calls.specs.Refusals.{number, value, notCurrent, idNotBelow, refusal}
 use Rattle.turns.specs.Turns.{Call, isCurrent, Reach, reached, refusedBy, withText, settled, unchanged, tableFor}
-use Rattle.requests.specs.Calls.{requested, requestedFrom, typeCall, typesCall}
+use Rattle.calls.specs.Calls.{requested, requestedFrom, typeCall, typesCall}
 use Rattle.turns.proofs.Laws.{current-fits}
-use Rattle.requests.proofs.Claims.{Sane, on, off, request-sane, from-sane, type-settles, type-not-below, type-not-current, types-settle, types-not-current}
+use Rattle.calls.proofs.Claims.{Sane, on, off, request-sane, from-sane, type-settles, type-not-below, type-not-current, types-settle, types-not-current}
 use Rattle.c_record.specs.Record.{getLong, putLong, putLongs, decoded, wordsOf, encoded, recordRefused, recordAfter}
 
 -- ---- words of 64 bits

@@ -15,7 +15,7 @@ use Rattle.turns.specs.declared.Session.{Session}
 use Rattle.turns.specs.declared.Turn.{Turn}
 use Rattle.turns.specs.Answers.{numberOf, valueOf}
 use Rattle.turns.specs.Turns.{Call, callOf}
-use Rattle.requests.specs.Calls.{openCall, typeCall, typesCall}
+use Rattle.calls.specs.Calls.{openCall, typeCall, typesCall}
 use Rattle.c_record.specs.Record.{getLong, putLong, putLongs, decoded, encodedLast, encoded, unusedZero, recordOpened, recordRefused, recordAfter}
 use Rattle.c_record.specs.Record.{packed}
 use Rattle.btfdump_c.specs.Exports.{Export, exportOf, openedBy, answeredBy, openExport, typeExport, typesExport}

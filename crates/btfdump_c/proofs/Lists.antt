@@ -15,10 +15,10 @@ use Rattle.turns.specs.declared.Session.{Session}
 use Rattle.turns.specs.declared.Turn.{Turn}
 use Rattle.turns.specs.Answers.{numberOf, valueOf, answerOf}
 use Rattle.turns.specs.Turns.{Call, callOf}
-use Rattle.requests.specs.Calls.{typeCall}
-use Rattle.requests.specs.Lists.{idsIn, counted, listFrom, listCall, countIn}
-use Rattle.requests.proofs.Claims.{number-is, value-is}
-use Rattle.requests.proofs.Lists.{idsFrom, ids-none, ids-some, counted-goes, counted-stops, Single, type-single, Counts, list-counts}
+use Rattle.calls.specs.Calls.{typeCall}
+use Rattle.calls.specs.Lists.{idsIn, counted, listFrom, listCall, countIn}
+use Rattle.calls.proofs.Claims.{number-is, value-is}
+use Rattle.calls.proofs.Lists.{idsFrom, ids-none, ids-some, counted-goes, counted-stops, Single, type-single, Counts, list-counts}
 use Rattle.c_record.specs.Record.{putLong, decoded, recordRefused, recordAfter, recordLonger, recordListed}
 use Rattle.c_record.specs.Record.{packed}
 use Rattle.btfdump_c.specs.Exports.{Export, exportOf, answeredBy, typeExport, countedExport, listExportFrom, listExport}

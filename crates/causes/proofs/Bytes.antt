@@ -16,9 +16,9 @@ use Rattle.btf.specs.Table.{btfOf}
 use Rattle.emit.specs.Sheet.{Sheet, workMachine, listedOut, dumped}
 use Rattle.turns.specs.declared.Session.{Session}
 use Rattle.turns.specs.Answers.{numberOf, answerOf}
-use Rattle.requests.specs.Refusals.{notCurrent, idNotBelow, refusal}
+use Rattle.calls.specs.Refusals.{notCurrent, idNotBelow, refusal}
 use Rattle.turns.specs.Turns.{Call, isCurrent, Reach, reached, refusedBy, settled, unchanged, tableFor}
-use Rattle.requests.specs.Calls.{cameTo, lentTo, requested, onward, requestedFrom, typeCall, typesCall}
+use Rattle.calls.specs.Calls.{cameTo, lentTo, requested, onward, requestedFrom, typeCall, typesCall}
 use Rattle.causes.specs.Causes.{Entry, Led, orderLed, listedEntry, Noted, upTo, always, emitNoted, eachListed, showsIn, filled, entriesIn}
 use Rattle.causes.specs.Claims.{forget, Numbered, Lined, Listed}
 use Rattle.causes.specs.Bytes.{listedNoted, dumpedNoted, Reached, entriesAfter, cameToNoted, requestedNoted, onwardNoted, requestedFromNoted, settledNoted, leftAlone, typeCauses, typesCauses, CauseFits}

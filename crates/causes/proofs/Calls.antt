@@ -10,9 +10,9 @@ use Rattle.rules.specs.Order.{plain, new, busy}
 use Rattle.rules.specs.Machine.{Req, one, all, Sess, Answer, single, every, serve, run}
 use Rattle.rules.specs.Names.{Names, naming}
 use Rattle.rules.specs.Types.{Btf, tableOf}
-use Rattle.opening.specs.Causes.{openingNumber}
+use Rattle.opened.specs.Causes.{openingNumber}
 use Rattle.turns.specs.Turns.{Call}
-use Rattle.requests.specs.Calls.{typeCall, typesCall}
+use Rattle.calls.specs.Calls.{typeCall, typesCall}
 use Rattle.demand.specs.Lists.{Piece, Ls, afresh}
 use Rattle.demand.specs.Session.{Known, machine, opened, textOf}
 use Rattle.claims.specs.Table.{openedTable}

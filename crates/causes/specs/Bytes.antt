@@ -14,9 +14,9 @@ use Rattle.btf.specs.Table.{btfOf}
 use Rattle.emit.specs.Sheet.{Sheet, workMachine}
 use Rattle.turns.specs.declared.Session.{Session}
 use Rattle.turns.specs.Answers.{numberOf}
-use Rattle.requests.specs.Refusals.{notCurrent, idNotBelow, refusal}
+use Rattle.calls.specs.Refusals.{notCurrent, idNotBelow, refusal}
 use Rattle.turns.specs.Turns.{Call, isCurrent, Reach, reached, refusedBy, settled, unchanged, tableFor}
-use Rattle.requests.specs.Calls.{cameTo, lentTo}
+use Rattle.calls.specs.Calls.{cameTo, lentTo}
 use Rattle.causes.specs.Causes.{Entry, Led, orderLed, listedEntry, Noted, upTo, eachListed, showsIn, filled, entriesIn}
 use Rattle.causes.specs.Claims.{forget, Listed}
 

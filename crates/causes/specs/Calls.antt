@@ -8,7 +8,7 @@ use Rattle.rules.specs.Machine.{Req}
 use Rattle.rules.specs.Names.{Names, naming}
 use Rattle.turns.specs.Answers.{numberOf, valueOf}
 use Rattle.turns.specs.Turns.{Call}
-use Rattle.requests.specs.Calls.{typeCall, typesCall}
+use Rattle.calls.specs.Calls.{typeCall, typesCall}
 use Rattle.demand.specs.Lists.{Ls}
 use Rattle.demand.specs.Session.{Known, machine}
 use Rattle.claims.specs.Table.{openedTable}

@@ -8,7 +8,7 @@ use Rattle.turns.specs.declared.Answer.{Answer}
 use Rattle.turns.specs.declared.Answer.the-variants.{Accepted, Refused}
 use Rattle.turns.specs.declared.Session.{Session}
 use Rattle.turns.specs.Turns.{Call}
-use Rattle.requests.specs.Calls.{openCall, typesCall}
+use Rattle.calls.specs.Calls.{openCall, typesCall}
 
 -- a session record that was never opened
 abbrev pub neverOpened : Session

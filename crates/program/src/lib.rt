@@ -7,7 +7,7 @@ use turns::Answer;
 use turns::Session;
 ghost use mathlib.Core.Path.{_≡_};
 ghost use Rattle.text.specs.Text.{putOut, putText};
-ghost use Rattle.requests.specs.Calls.{typesCall};
+ghost use Rattle.calls.specs.Calls.{typesCall};
 ghost use Rattle.program.specs.Printed.{neverOpened, refusedLine, ranTo, ranAll, ranOn};
 
 fn closed() -> Session

@@ -3,10 +3,11 @@ use btf::Btf;
 use header::btf_of;
 use lent::clear;
 use lent::get_word;
-use opening::Opening;
+use opened::Opening;
 use turns::Answer;
 use turns::Reached;
 use turns::Session;
+use turns::Tally;
 use turns::Turn;
 use turns::answer_of;
 use turns::clear_from;
@@ -19,8 +20,8 @@ ghost use mathlib.Core.Bool.{true};
 ghost use mathlib.Core.Path.{_≡_};
 ghost use lib.ListN.{length};
 ghost use Rattle.turns.specs.Turns.{callOf, isCurrent, reachOf};
-ghost use Rattle.requests.specs.Calls.{openCall, limitOf, arrivedAt, requested, requestedFrom, typeCall, typesCall};
-ghost use Rattle.requests.specs.Lists.{idsIn, listCall, countIn, tailed, listEnd};
+ghost use Rattle.calls.specs.Calls.{openCall, limitOf, arrivedAt, requested, requestedFrom, typeCall, typesCall};
+ghost use Rattle.calls.specs.Lists.{idsIn, listCall, countIn, tailed, listEnd};
 
 pub fn open_core(
     s: Session,
@@ -149,13 +150,6 @@ pub fn dump_types_core(s: Session, section: &[u8], work: &mut [u8], text: &mut [
     let b = btf_of(section, s.pointer_size, s.modes, s.types);
     let r = dump_all(b, section, work, text, s.text_len);
     settle(s, work, text, r)
-}
-
-// Where the ids of a list have come to: as Reached, and how many were accepted.
-struct Tally {
-    len: u32,
-    number: u32,
-    accepted: u32,
 }
 
 // How many ids there are: as many as the answer's value can count, at most.

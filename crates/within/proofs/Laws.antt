@@ -31,9 +31,9 @@ use Rattle.turns.specs.declared.Reached.{Reached}
 use Rattle.turns.specs.Answers.{answerOf}
 use Rattle.turns.specs.Turns.{Call, callOf, turnOf, isCurrent, Reach, reached, refusedBy, reachOf, settled, unchanged}
 use Rattle.turns.proofs.Laws.{reach-accepted, reach-refused}
-use Rattle.requests.specs.Refusals.{number, value, notCurrent, idNotBelow, refusal}
-use Rattle.requests.specs.Calls.{limitOf, arrivedAt, requested}
-use Rattle.requests.proofs.Laws.{arrived-in, arrived-past, one-bound, one-reach, idle-reach}
+use Rattle.calls.specs.Refusals.{number, value, notCurrent, idNotBelow, refusal}
+use Rattle.calls.specs.Calls.{limitOf, arrivedAt, requested}
+use Rattle.calls.proofs.Laws.{arrived-in, arrived-past, one-bound, one-reach, idle-reach}
 use Rattle.within.specs.declared.Counted.{Counted}
 use Rattle.within.specs.declared.Metered.{Metered}
 use Rattle.within.specs.Within.{Within, withinOf, requestedWithin, onwardWithin, requestedFromWithin, CallWithin, countedOf, settledWithin, typeCallWithin, typesCallWithin}

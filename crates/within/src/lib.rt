@@ -10,7 +10,7 @@ use turns::turn_of;
 ghost use Prim.Native.Nat.{_+_, _-_, _<_, _≤_};
 ghost use mathlib.Core.Path.{_≡_};
 ghost use lib.ListN.{length};
-ghost use Rattle.requests.specs.Calls.{limitOf, arrivedAt};
+ghost use Rattle.calls.specs.Calls.{limitOf, arrivedAt};
 ghost use Rattle.within.specs.Within.{withinOf, countedOf, requestedWithin, requestedFromWithin, typeCallWithin, typesCallWithin};
 
 // What a call under a ceiling comes to, and the calls of the ordering rule that it made.

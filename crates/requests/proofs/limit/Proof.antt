@@ -1,4 +1,4 @@
-use Rattle.requests.proofs.Laws as laws
+use Rattle.calls.proofs.Laws as laws
 use mathlib.Core.Path.{_≡_, refl, sym, _∙_}
 use native.Mathlib.Omega.{arith}
 use Rattle.requests.proofs.limit.Statement.{statement}

@@ -6,10 +6,10 @@ use lib.ListN.{length, take, replicate}
 use lib.Dec.{leb}
 use Rattle.lent.specs.Words.{words}
 use Rattle.turns.specs.declared.Session.{Session}
-use Rattle.requests.specs.declared.Tally.{Tally}
+use Rattle.turns.specs.declared.Tally.{Tally}
 use Rattle.turns.specs.Answers.{numberOf, answerOf}
 use Rattle.turns.specs.Turns.{Call, callOf, withText, thenZeros}
-use Rattle.requests.specs.Calls.{typeCall}
+use Rattle.calls.specs.Calls.{typeCall}
 
 -- the ids of a list that is lent as bytes, four a number, least significant first; a remainder is left out. The answer's value has 32 bits,
 -- so no list has more than 4,294,967,295 of them.

@@ -17,17 +17,17 @@ use Rattle.prototypes.specs.Prototypes.{anyLeads}
 use Rattle.loops.specs.Graph.{hasLoop}
 use Rattle.loops.specs.Loops.{graphOf}
 use Rattle.area.specs.declared.Records.{Records}
-use Rattle.opening.specs.declared.Opening.{Opening}
-use Rattle.opening.specs.declared.Opening.the-variants.{Refused, Sound}
+use Rattle.opened.specs.declared.Opening.{Opening}
+use Rattle.opened.specs.declared.Opening.the-variants.{Refused, Sound}
 use Rattle.header.specs.Header.{btfOf}
 use Rattle.area.specs.Pass.{countP, enumsP, indexP, Scan, unsound, found, scanOut, scanP, scanSection}
-use Rattle.opening.specs.Table.{describedIn, typesOf, enumeratorsOf, emptyIndex, indexFor, indexOf}
-use Rattle.opening.specs.Causes.{cause2, cause3, cause5, cause6, cause7, cause8, cause9, tableOf, next, firstOf, early, late, fromSix, openingNumber}
+use Rattle.opened.specs.Table.{describedIn, typesOf, enumeratorsOf, emptyIndex, indexFor, indexOf}
+use Rattle.opened.specs.Causes.{cause2, cause3, cause5, cause6, cause7, cause8, cause9, tableOf, next, firstOf, early, late, fromSix, openingNumber}
 use Rattle.fill.specs.Left.{filled}
-use Rattle.opening.specs.Opened.{refused, opened, openOut, workOf, openingOf, Examined, refusedBy, soundWith, examineOut, examined}
+use Rattle.opened.specs.Opened.{refused, opened, openOut, workOf, openingOf, Examined, refusedBy, soundWith, examineOut, examined}
 use Rattle.header.proofs.Headers.{read4, read8, read12, read20, and-left, order-is}
-use Rattle.opening.proofs.Sections.{pass-decides, pass-count, pass-enums, pass-index}
-use Rattle.opening.proofs.Order.{NoneHolds, first-none, first-stays}
+use Rattle.opened.proofs.Sections.{pass-decides, pass-count, pass-enums, pass-index}
+use Rattle.opened.proofs.Order.{NoneHolds, first-none, first-stays}
 
 -- ---- reference_cause
 module _ (b : Btf) (s start : List ℕ) (r : Bool) (e : r ≡ hasBadReference b s start) where

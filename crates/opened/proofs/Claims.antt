@@ -18,12 +18,12 @@ use Rattle.loops.specs.Loops.{TypeLoop}
 use Rattle.followed.proofs.BadIds.{bad-reference}
 use Rattle.prototypes.proofs.Held.{any-leads}
 use Rattle.loops.proofs.TypeLoops.{type-loop}
-use Rattle.opening.specs.Table.{typesOf, enumeratorsOf, indexOf}
-use Rattle.opening.specs.Causes.{cause1, cause2, cause5, cause6, cause7, cause8, cause9, tableOf, causes, openingNumber}
-use Rattle.opening.specs.declared.Opening.{Opening}
-use Rattle.opening.specs.declared.Opening.the-variants.{Refused, Sound}
-use Rattle.opening.specs.Opened.{Outcome, refused, opened, openOut, workOf, openingOf}
-use Rattle.opening.proofs.Order as order
+use Rattle.opened.specs.Table.{typesOf, enumeratorsOf, indexOf}
+use Rattle.opened.specs.Causes.{cause1, cause2, cause5, cause6, cause7, cause8, cause9, tableOf, causes, openingNumber}
+use Rattle.opened.specs.declared.Opening.{Opening}
+use Rattle.opened.specs.declared.Opening.the-variants.{Refused, Sound}
+use Rattle.opened.specs.Opened.{Outcome, refused, opened, openOut, workOf, openingOf}
+use Rattle.opened.proofs.Order as order
 
 -- the number: 0 if and only if no cause holds; k + 1 if and only if cause k + 1 holds and none before it
 pub sound-none : (pointer : ℕ) (s : List ℕ) (work : ℕ) → (openingNumber pointer s work ≡ 0) ↔ order.NoneHolds (causes pointer s work)

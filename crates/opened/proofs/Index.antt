@@ -18,9 +18,9 @@ use Rattle.records.specs.Section.{typesAt, typeLen, headerSound, typesSound}
 use Rattle.followed.specs.Followed.{countOf, entryAt, placeOf, kindAt}
 use Rattle.header.specs.Header.{btfOf}
 use Rattle.area.specs.Pass.{countP}
-use Rattle.opening.specs.Table.{describedIn, typesOf, recordPlace, recordKind, emptyIndex, indexFor, indexOf}
+use Rattle.opened.specs.Table.{describedIn, typesOf, recordPlace, recordKind, emptyIndex, indexFor, indexOf}
 use Rattle.header.proofs.Headers.{order-is}
-use Rattle.opening.proofs.Sections.{pass-count}
+use Rattle.opened.proofs.Sections.{pass-count}
 
 zeros-length : (n : ℕ) → n ≡ 262145 → length {A = ℕ} (replicate n 0) ≡ 262145
 zeros-length n e = length-replicate {A = ℕ} n 0 ∙ e

@@ -11,7 +11,7 @@ use Rattle.prototypes.specs.Prototypes.{anyLeads}
 use Rattle.loops.specs.Graph.{hasLoop}
 use Rattle.loops.specs.Loops.{graphOf}
 use Rattle.header.specs.Header.{btfOf}
-use Rattle.opening.specs.Table.{typesOf, enumeratorsOf, indexOf}
+use Rattle.opened.specs.Table.{typesOf, enumeratorsOf, indexOf}
 
 -- "pointer size not 4 or 8"
 unfoldable pub cause1 : ℕ → Bool

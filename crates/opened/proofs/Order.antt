@@ -5,7 +5,7 @@ use mathlib.Core.Bool.{Bool, true, false, true≢false}
 use mathlib.Core.List.{List, [], _∷_, _++_}
 use mathlib.Core.Logic.{_↔_}
 use native.Mathlib.Omega.{arith}
-use Rattle.opening.specs.Causes.{next, firstOf, causes, openingNumber}
+use Rattle.opened.specs.Causes.{next, firstOf, causes, openingNumber}
 
 -- none of a list holds
 abbrev pub NoneHolds : List Bool → Type 0

@@ -25,7 +25,7 @@ use Rattle.records.proofs.Shifted.{size-shift, passes-shift}
 use Rattle.records.proofs.SectionFields.{areaWord, area-words, area-length}
 use Rattle.records.proofs.SectionTests.{types-places}
 use Rattle.area.specs.Pass.{enumsOf, countP, enumsP, indexP}
-use Rattle.opening.specs.Table.{typesOf, valuesIn, enumeratorsIn, allEnumerators, enumeratorsOf, recordPlace, recordKind, emptyIndex, indexFor}
+use Rattle.opened.specs.Table.{typesOf, valuesIn, enumeratorsIn, allEnumerators, enumeratorsOf, recordPlace, recordKind, emptyIndex, indexFor}
 use Rattle.header.proofs.Headers.{and-left, and-right}
 use Rattle.area.proofs.Pass.{steady, kind-past, count-in, count-end, enums-in, enums-end, passes-in}
 

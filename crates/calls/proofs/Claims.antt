@@ -15,19 +15,19 @@ use borrow.Rule.Slice.PartMut.{midOf, mid-len}
 use Rattle.text.specs.Text.{place}
 use Rattle.rules.specs.Machine.{Out, wrote, stuck}
 use Rattle.btf.specs.declared.types.Btf.{Btf}
-use Rattle.opening.specs.Causes.{openingNumber}
-use Rattle.opening.specs.Table.{typesOf}
-use Rattle.opening.specs.Opened.{Outcome, openingOf}
+use Rattle.opened.specs.Causes.{openingNumber}
+use Rattle.opened.specs.Table.{typesOf}
+use Rattle.opened.specs.Opened.{Outcome, openingOf}
 use Rattle.emit.specs.Sheet.{Sheet}
 use Rattle.turns.specs.declared.Answer.{Answer}
 use Rattle.turns.specs.declared.Answer.the-variants.{Accepted, Refused}
 use Rattle.turns.specs.declared.Session.{Session}
 use Rattle.turns.specs.Answers.{numberOf, valueOf, answerOf}
-use Rattle.requests.specs.Refusals.{number, value, notCurrent, idNotBelow, refusal}
+use Rattle.calls.specs.Refusals.{number, value, notCurrent, idNotBelow, refusal}
 use Rattle.turns.specs.Turns.{Call, isCurrent, Reach, reached, refusedBy, thenZeros, settled, unchanged, tableFor}
-use Rattle.requests.specs.Calls.{openedCall, openCall, limitOf, cameTo, lentTo, requested, onward, requestedFrom, typeCall, typesCall}
-use Rattle.requests.proofs.Fair.{Listed, Fair, goes, stops, Inside, placed}
-use Rattle.requests.proofs.Laws.{opens-refused, opens-sound, limit-between, fair-asked}
+use Rattle.calls.specs.Calls.{openedCall, openCall, limitOf, cameTo, lentTo, requested, onward, requestedFrom, typeCall, typesCall}
+use Rattle.calls.proofs.Fair.{Listed, Fair, goes, stops, Inside, placed}
+use Rattle.calls.proofs.Laws.{opens-refused, opens-sound, limit-between, fair-asked}
 use Rattle.turns.proofs.Laws.{current-fits}
 
 -- ---- the number and the value of an answer

@@ -31,12 +31,12 @@ use Rattle.header.specs.Header.{btfOf as settingsOf}
 use Rattle.turns.specs.declared.Session.{Session}
 use Rattle.turns.specs.Answers.{numberOf, answerOf}
 use Rattle.turns.specs.Turns.{Call, isCurrent, Reach, reached, refusedBy, withText, thenZeros, settled, tableFor}
-use Rattle.requests.specs.Calls.{limitOf, cameTo, lentTo, requested, onward, requestedFrom, typeCall, typesCall}
-use Rattle.requests.proofs.Fair.{Listed, Fair, goes, stops, Fairly, fair-dumped, Inside, fair-line, placed}
-use Rattle.requests.proofs.Laws.{limit-between}
+use Rattle.calls.specs.Calls.{limitOf, cameTo, lentTo, requested, onward, requestedFrom, typeCall, typesCall}
+use Rattle.calls.proofs.Fair.{Listed, Fair, goes, stops, Fairly, fair-dumped, Inside, fair-line, placed}
+use Rattle.calls.proofs.Laws.{limit-between}
 use Rattle.turns.proofs.Laws.{current-fits}
-use Rattle.requests.proofs.Claims.{number-is, zeros-length, zeros-head, type-settles, types-settle}
-use Rattle.requests.proofs.Tails.{Both, goes as go-both, stops as stop-both, Like, like, both-request}
+use Rattle.calls.proofs.Claims.{number-is, zeros-length, zeros-head, type-settles, types-settle}
+use Rattle.calls.proofs.Tails.{Both, goes as go-both, stops as stop-both, Like, like, both-request}
 
 -- ---- the work keeps its length
 more-length : (w : List ℕ) (i : ℕ) → length (withMore w i) ≡ length w

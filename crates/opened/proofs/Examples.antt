@@ -15,8 +15,8 @@ use Rattle.loops.specs.Loops.{degOf, degAt}
 use Rattle.prototypes.specs.Track.{chase, leadsTo}
 use Rattle.prototypes.specs.Prototypes.{whatOf, nextOf, asksAt, asksOf, asker, anyLeads}
 use Rattle.header.specs.Header.{btfOf}
-use Rattle.opening.specs.Table.{typesOf, enumeratorsOf, recordPlace, recordKind, emptyIndex, indexFor, indexOf}
-use Rattle.opening.specs.Causes.{cause1, cause2, cause3, cause4, cause5, cause6, cause7, cause8, cause9, tableOf, firstOf, openingNumber}
+use Rattle.opened.specs.Table.{typesOf, enumeratorsOf, recordPlace, recordKind, emptyIndex, indexFor, indexOf}
+use Rattle.opened.specs.Causes.{cause1, cause2, cause3, cause4, cause5, cause6, cause7, cause8, cause9, tableOf, firstOf, openingNumber}
 
 -- 1 INT int, 2 STRUCT node (next, type 3, bit 0; v, type 1, bit 64), 3 PTR to 2
 abbrev node : List ℕ

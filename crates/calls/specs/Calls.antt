@@ -9,13 +9,13 @@ use Rattle.rules.specs.Machine.{Out, wrote, stuck}
 use Rattle.rules.specs.Types.{tableOf}
 use Rattle.btf.specs.declared.types.Btf.{Btf}
 use Rattle.btf.specs.Table.{btfOf}
-use Rattle.opening.specs.Opened.{Outcome, refused, opened, openingOf}
+use Rattle.opened.specs.Opened.{Outcome, refused, opened, openingOf}
 use Rattle.emit.specs.Sheet.{Sheet, workMachine, dumped}
 use Rattle.turns.specs.declared.Session.{Session}
 use Rattle.turns.specs.declared.Reached.{Reached}
 use Rattle.turns.specs.Answers.{answerOf}
 use Rattle.turns.specs.Turns.{Call, isCurrent, tableFor, Reach, reached, refusedBy, settled, unchanged}
-use Rattle.requests.specs.Refusals.{notCurrent, idNotBelow, refusal}
+use Rattle.calls.specs.Refusals.{notCurrent, idNotBelow, refusal}
 
 -- ---- opening
 

@@ -23,12 +23,12 @@ use Rattle.btf.specs.declared.types.Btf.{Btf}
 use Rattle.btf.specs.Cells.{getField}
 use Rattle.btf.specs.Table.{btfOf, from}
 use Rattle.marks.specs.Work.{markOf, workStore, tableIn}
-use Rattle.opening.specs.declared.Opening.{Opening}
-use Rattle.opening.specs.declared.Opening.the-variants.{Refused as Unsound, Sound}
+use Rattle.opened.specs.declared.Opening.{Opening}
+use Rattle.opened.specs.declared.Opening.the-variants.{Refused as Unsound, Sound}
 use Rattle.header.specs.Header.{btfOf as settingsOf}
-use Rattle.opening.specs.Causes.{openingNumber}
-use Rattle.opening.specs.Table.{typesOf, enumeratorsOf}
-use Rattle.opening.specs.Opened.{Outcome, refused, opened, openOut, openingOf, workOf}
+use Rattle.opened.specs.Causes.{openingNumber}
+use Rattle.opened.specs.Table.{typesOf, enumeratorsOf}
+use Rattle.opened.specs.Opened.{Outcome, refused, opened, openOut, openingOf, workOf}
 use Rattle.emit.specs.Sheet.{Sheet, sheetStore, sheetOf, emptied, emitOut, workMachine, listedOut, dumped, isIgnored, isIdle}
 use Rattle.turns.specs.declared.Answer.{Answer}
 use Rattle.turns.specs.declared.Answer.the-variants.{Accepted, Refused}
@@ -36,11 +36,11 @@ use Rattle.turns.specs.declared.Session.{Session}
 use Rattle.turns.specs.declared.Turn.{Turn}
 use Rattle.turns.specs.declared.Reached.{Reached}
 use Rattle.turns.specs.Answers.{answerOf}
-use Rattle.requests.specs.Refusals.{number, value, notCurrent, idNotBelow, refusal}
+use Rattle.calls.specs.Refusals.{number, value, notCurrent, idNotBelow, refusal}
 use Rattle.turns.specs.Turns.{Call, callOf, turnOf, isCurrent, Reach, reached, refusedBy, reachOf, withText, thenZeros, settled, unchanged, tableFor}
-use Rattle.requests.specs.Calls.{openedCall, openCall, limitOf, arrivedAt, cameTo, lentTo, requested, onward, requestedFrom, typeCall, typesCall}
+use Rattle.calls.specs.Calls.{openedCall, openCall, limitOf, arrivedAt, cameTo, lentTo, requested, onward, requestedFrom, typeCall, typesCall}
 use Rattle.turns.proofs.Laws.{reach-accepted, reach-refused}
-use Rattle.requests.proofs.Fair.{Listed, Fair, goes, stops, Inside, fair-request}
+use Rattle.calls.proofs.Fair.{Listed, Fair, goes, stops, Inside, fair-request}
 
 -- ---- limit
 module _ (n len : ℕ) where

@@ -8,7 +8,7 @@ use lib.Dec.{eqb}
 use borrow.Author.Tests.{lt-ltb, le-ltb, ne-eqb, not-false, not-true}
 use Rattle.records.specs.Section.{headerSound}
 use Rattle.header.specs.Header.{badStrings}
-use Rattle.opening.specs.Causes.{cause1, cause2, cause3, cause4, firstOf, early}
+use Rattle.opened.specs.Causes.{cause1, cause2, cause3, cause4, firstOf, early}
 use Rattle.header.proofs.Headers.{strings-decided}
 
 pub pointer-four : (p : ℕ) → p ≡ 4 → true ≡ not (cause1 p)

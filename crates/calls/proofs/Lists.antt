@@ -19,15 +19,15 @@ use Rattle.turns.specs.declared.Answer.the-variants.{Accepted, Refused}
 use Rattle.turns.specs.declared.Session.{Session}
 use Rattle.turns.specs.declared.Turn.{Turn}
 use Rattle.turns.specs.declared.Reached.{Reached}
-use Rattle.requests.specs.declared.Tally.{Tally}
+use Rattle.turns.specs.declared.Tally.{Tally}
 use Rattle.turns.specs.Answers.{numberOf, valueOf, answerOf}
 use Rattle.turns.specs.Turns.{Call, callOf, turnOf, isCurrent, Reach, reached, refusedBy, reachOf, withText, thenZeros, settled, unchanged, tableFor}
-use Rattle.requests.specs.Calls.{requested, typeCall}
-use Rattle.requests.specs.Lists.{idsIn, counted, listFrom, listCall, countIn, tailed, listEnd}
-use Rattle.requests.proofs.Fair.{Listed}
+use Rattle.calls.specs.Calls.{requested, typeCall}
+use Rattle.calls.specs.Lists.{idsIn, counted, listFrom, listCall, countIn, tailed, listEnd}
+use Rattle.calls.proofs.Fair.{Listed}
 use Rattle.turns.proofs.Laws.{answer-refused, current-fits, reach-accepted, reach-refused, zeros-twice}
-use Rattle.requests.proofs.Claims.{number-is, value-is, Sane, on, off, request-sane, zeros-length, zeros-head, Kept, type-settles, type-current, type-not-below, type-not-current}
-use Rattle.requests.proofs.Singles.{Pair, on-both, off-both, request-pair, settled-with, settled-tail, parts-of}
+use Rattle.calls.proofs.Claims.{number-is, value-is, Sane, on, off, request-sane, zeros-length, zeros-head, Kept, type-settles, type-current, type-not-below, type-not-current}
+use Rattle.calls.proofs.Singles.{Pair, on-both, off-both, request-pair, settled-with, settled-tail, parts-of}
 
 -- ---- the ids
 -- n of them, from the k-th on

@@ -4,11 +4,11 @@ use mathlib.Core.Bool.{true, false}
 use mathlib.Core.List.{List}
 use lib.ListN.{length, replicate}
 use lib.Dec.{eqb}
-use Rattle.opening.specs.declared.Opening.{Opening}
-use Rattle.opening.specs.declared.Opening.the-variants.{Refused, Sound}
+use Rattle.opened.specs.declared.Opening.{Opening}
+use Rattle.opened.specs.declared.Opening.the-variants.{Refused, Sound}
 use Rattle.header.specs.Header.{btfOf}
-use Rattle.opening.specs.Table.{typesOf, enumeratorsOf, indexOf}
-use Rattle.opening.specs.Causes.{openingNumber}
+use Rattle.opened.specs.Table.{typesOf, enumeratorsOf, indexOf}
+use Rattle.opened.specs.Causes.{openingNumber}
 use Rattle.fill.specs.Left.{filled}
 
 -- a refusal and its number; or the count of types, void counted, and that of enumerators; then work and text

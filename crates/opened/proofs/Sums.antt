@@ -16,12 +16,12 @@ use Rattle.records.specs.Places.{kindP, vlenP, sizeP, soundP, namedP, passesP, 
 use Rattle.records.specs.Section.{bigEndian, typesAt, typeLen, strLen, headerSound, typesSound}
 use Rattle.records.proofs.SectionFields.{from-next, area-inside}
 use Rattle.area.specs.Pass.{enumsOf, countP, enumsP}
-use Rattle.opening.specs.Table.{typesOf, enumeratorsOf, recordPlace, recordKind, indexOf}
+use Rattle.opened.specs.Table.{typesOf, enumeratorsOf, recordPlace, recordKind, indexOf}
 use Rattle.fill.specs.Left.{isEnum, valuesAt, enumsTo}
 use Rattle.header.proofs.Headers.{and-left, and-right}
 use Rattle.area.proofs.Pass.{enums-small, ends-in, count-in, count-end, enums-in, enums-end, passes-in}
-use Rattle.opening.proofs.Sections.{pass-decides, pass-count, pass-enums, place-is, kind-is}
-use Rattle.opening.proofs.Index.{index-place, index-kind}
+use Rattle.opened.proofs.Sections.{pass-decides, pass-count, pass-enums, place-is, kind-is}
+use Rattle.opened.proofs.Index.{index-place, index-kind}
 
 -- the enumerators of the first n records from p on
 unfoldable pub sumTo : (ℕ → ℕ) → ℕ → ℕ → ℕ
