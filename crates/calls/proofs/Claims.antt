@@ -1,29 +1,28 @@
 -- What a reader wants of the definitions of specs/Calls.antt: the text that was there stays, what follows the text is zero, a refused
 -- opening changes nothing, a request is refused by 10 to 18, and one that is refused by 12 to 18 closes the session. Assumes nothing.
-use Prim.Native.Nat.{ℕ, zero, suc, zero-le, _+_, _-_, _<_, _≤_}
+use Prim.Native.Nat.{ℕ, zero, suc, _+_, _-_, _<_, _≤_}
 use mathlib.Core.Path.{_≡_, refl, ap, _∙_, sym}
 use mathlib.Core.Bool.{Bool, true, false}
-use mathlib.Core.List.{List, [], _∷_, _++_, append-assoc}
-use mathlib.Core.Logic.{⊎-elim, _⊎_, inl, inr}
+use mathlib.Core.List.{List, _++_, append-assoc}
+use mathlib.Core.Logic.{_⊎_, inl, inr}
 use native.Mathlib.Omega.{arith}
 use native.Mathlib.Nat.{le-refl}
 use lib.ListN.{length, take, drop, replicate, length-append, length-replicate}
-use lib.Dec.{eqb, leb, ltb}
-use lib.Seq.{length-take-le, take-at, take-take, take-append-le, drop-at}
+use lib.Dec.{eqb, ltb}
+use lib.Seq.{length-take-le, take-take, take-append-le, drop-at}
 use borrow.Author.Tests.{lt-ltb, le-ltb, eqb-false}
-use borrow.Rule.Slice.PartMut.{midOf, mid-len}
+use borrow.Rule.Slice.PartMut.{mid-len}
 use Rattle.text.specs.Text.{place}
-use Rattle.rules.specs.Machine.{Out, wrote, stuck}
+use Rattle.rules.specs.Machine.{Out}
 use Rattle.btf.specs.declared.types.Btf.{Btf}
 use Rattle.opened.specs.Causes.{openingNumber}
 use Rattle.opened.specs.Table.{typesOf}
 use Rattle.opened.specs.Opened.{Outcome, openingOf}
 use Rattle.emit.specs.Sheet.{Sheet}
-use Rattle.turns.specs.declared.Answer.{Answer}
-use Rattle.turns.specs.declared.Answer.the-variants.{Accepted, Refused}
+use Rattle.turns.specs.declared.Answer.the-variants.{Refused}
 use Rattle.turns.specs.declared.Session.{Session}
 use Rattle.turns.specs.Answers.{numberOf, valueOf, answerOf}
-use Rattle.calls.specs.Refusals.{number, value, notCurrent, idNotBelow, refusal}
+use Rattle.calls.specs.Refusals.{number, value}
 use Rattle.turns.specs.Turns.{Call, isCurrent, Reach, reached, refusedBy, thenZeros, settled, unchanged, tableFor}
 use Rattle.calls.specs.Calls.{openedCall, openCall, limitOf, cameTo, lentTo, requested, onward, requestedFrom, typeCall, typesCall}
 use Rattle.calls.proofs.Fair.{Listed, Fair, goes, stops, Inside, placed}

@@ -1,21 +1,20 @@
 -- A law for each return of the calls but the list's. Assumes nothing.
-use Prim.Native.Nat.{ℕ, zero, suc, zero-le, _+_, _-_, _%_, _<_, _≤_}
+use Prim.Native.Nat.{ℕ, suc, zero-le, _+_, _-_, _%_, _<_, _≤_}
 use mathlib.Core.Path.{_≡_, refl, ap, _∙_, sym}
-use mathlib.Core.Bool.{Bool, true, false, not, _&&_, true≢false}
-use mathlib.Core.List.{List, [], _∷_, _++_, append-assoc, append-nil}
-use mathlib.Core.Logic.{⊎-elim, _⊎_, inl, inr}
+use mathlib.Core.Bool.{Bool, true, false, not, true≢false}
+use mathlib.Core.List.{List, _++_, append-assoc}
+use mathlib.Core.Logic.{⊎-elim, _⊎_}
 use native.Mathlib.Omega.{arith}
-use native.Mathlib.Nat.{le-refl}
 use native.Mathlib.Numerals.{add-one}
-use lib.ListN.{length, take, drop, replicate, length-drop, drop-of-length-le}
+use lib.ListN.{length, take, drop, replicate}
 use lib.Dec.{eqb, leb, ltb}
 use lib.Seq.{length-take-le, take-at, drop-drop}
-use borrow.Author.Tests.{le-leb, lt-leb, eq-eqb, ne-eqb, le-ltb, lt-ltb, not-true, not-false, leb-true, eqb-false}
+use borrow.Author.Tests.{le-leb, lt-leb, le-ltb, lt-ltb, not-true, not-false}
 use borrow.Rule.Slice.PartMut.{midOf, postOf, putMid, mid-len, same-len-mid, put-same}
-use Rattle.text.specs.Text.{Out as TextOut, done as written-to, stopped, putOut, place}
+use Rattle.text.specs.Text.{Out as TextOut, stopped, place}
 use Rattle.lent.proofs.Laws.{le-or-lt}
 use Rattle.text.proofs.TextLaws.{out-done, out-stopped}
-use Rattle.rules.specs.Order.{Node, ignored, plain, listed, through, ptr, tdef, proto, comp, Table, Mark, new, busy, done, Res, ok, refused as halted, fresh, visit, order}
+use Rattle.rules.specs.Order.{Node, ignored, plain, listed, through, ptr, tdef, proto, comp, Mark, new, busy, done, Res, fresh, visit, order}
 use Rattle.rules.specs.Machine.{Out, wrote, stuck, obind, eeach, emit}
 use Rattle.rules.specs.Types.{tableOf}
 use Rattle.rules.specs.Place.{outOf, withNames}
@@ -28,16 +27,15 @@ use Rattle.opened.specs.declared.Opening.the-variants.{Refused as Unsound, Soun
 use Rattle.header.specs.Header.{btfOf as settingsOf}
 use Rattle.opened.specs.Causes.{openingNumber}
 use Rattle.opened.specs.Table.{typesOf, enumeratorsOf}
-use Rattle.opened.specs.Opened.{Outcome, refused, opened, openOut, openingOf, workOf}
+use Rattle.opened.specs.Opened.{refused, opened, openOut, openingOf, workOf}
 use Rattle.emit.specs.Sheet.{Sheet, sheetStore, sheetOf, emptied, emitOut, workMachine, listedOut, dumped, isIgnored, isIdle}
-use Rattle.turns.specs.declared.Answer.{Answer}
-use Rattle.turns.specs.declared.Answer.the-variants.{Accepted, Refused}
+use Rattle.turns.specs.declared.Answer.the-variants.{Accepted}
 use Rattle.turns.specs.declared.Session.{Session}
 use Rattle.turns.specs.declared.Turn.{Turn}
 use Rattle.turns.specs.declared.Reached.{Reached}
 use Rattle.turns.specs.Answers.{answerOf}
-use Rattle.calls.specs.Refusals.{number, value, notCurrent, idNotBelow, refusal}
-use Rattle.turns.specs.Turns.{Call, callOf, turnOf, isCurrent, Reach, reached, refusedBy, reachOf, withText, thenZeros, settled, unchanged, tableFor}
+use Rattle.calls.specs.Refusals.{number, value, notCurrent, refusal}
+use Rattle.turns.specs.Turns.{Call, callOf, turnOf, isCurrent, Reach, reached, refusedBy, reachOf, settled, unchanged}
 use Rattle.calls.specs.Calls.{openedCall, openCall, limitOf, arrivedAt, cameTo, lentTo, requested, onward, requestedFrom, typeCall, typesCall}
 use Rattle.turns.proofs.Laws.{reach-accepted, reach-refused}
 use Rattle.calls.proofs.Fair.{Listed, Fair, goes, stops, Inside, fair-request}

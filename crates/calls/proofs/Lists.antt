@@ -1,16 +1,16 @@
 -- A call with a list of ids: a law for each return of its functions in src/turns.rt, and what a reader wants of specs/Lists.antt. It does not
 -- matter when what follows the text is zeroed (`Tails`, `Singles`), so once is enough. Assumes nothing.
-use Prim.Native.Nat.{ℕ, zero, suc, zero-le, _+_, _-_, _/_, _<_, _≤_}
+use Prim.Native.Nat.{ℕ, zero, suc, _+_, _-_, _/_, _<_, _≤_}
 use mathlib.Core.Path.{_≡_, refl, ap, _∙_, sym, subst}
 use mathlib.Core.Bool.{Bool, true, false, not, _&&_}
 use mathlib.Core.List.{List, [], _∷_, _++_}
-use mathlib.Core.Logic.{⊎-elim, _⊎_, inl, inr}
+use mathlib.Core.Logic.{⊎-elim, _⊎_}
 use native.Mathlib.Omega.{arith}
 use native.Mathlib.Nat.{le-refl}
 use native.Mathlib.Numerals.{add-one}
 use lib.ListN.{length, take, replicate}
 use lib.Dec.{eqb, leb, ltb}
-use borrow.Author.Tests.{le-leb, lt-leb, eq-eqb, not-true, not-false, eqb-true, ltb-true, ltb-false}
+use borrow.Author.Tests.{le-leb, lt-leb, eq-eqb, not-true, eqb-true, ltb-true, ltb-false}
 use Rattle.lent.specs.Words.{getWord, table, words}
 use Rattle.lent.proofs.Laws.{le-or-lt}
 use Rattle.btf.specs.declared.types.Btf.{Btf}
@@ -25,7 +25,7 @@ use Rattle.turns.specs.Turns.{Call, callOf, turnOf, isCurrent, Reach, reached, 
 use Rattle.calls.specs.Calls.{requested, typeCall}
 use Rattle.calls.specs.Lists.{idsIn, counted, listFrom, listCall, countIn, tailed, listEnd}
 use Rattle.calls.proofs.Fair.{Listed}
-use Rattle.turns.proofs.Laws.{answer-refused, current-fits, reach-accepted, reach-refused, zeros-twice}
+use Rattle.turns.proofs.Laws.{current-fits, reach-accepted, reach-refused, zeros-twice}
 use Rattle.calls.proofs.Claims.{number-is, value-is, Sane, on, off, request-sane, zeros-length, zeros-head, Kept, type-settles, type-current, type-not-below, type-not-current}
 use Rattle.calls.proofs.Singles.{Pair, on-both, off-both, request-pair, settled-with, settled-tail, parts-of}
 

@@ -3,7 +3,7 @@
 use Prim.Native.Nat.{ℕ, zero, suc, zero-le, _+_, _-_, _*_, _<_, _≤_}
 use mathlib.Core.Path.{_≡_, refl, ap, _∙_, sym, subst}
 use mathlib.Core.Bool.{Bool, true, false, _&&_, true≢false}
-use mathlib.Core.List.{List, [], _∷_, _++_, append-assoc}
+use mathlib.Core.List.{List, _++_, append-assoc}
 use native.Mathlib.Omega.{arith}
 use native.Mathlib.Nat.{le-refl}
 use lib.ListN.{length, take, drop, replicate}
@@ -11,11 +11,10 @@ use lib.Dec.{eqb, leb, ltb}
 use lib.Seq.{take-append-le, take-append-add, length-take-le}
 use borrow.Author.Tests.{le-leb, eq-eqb, eqb-true, ltb-false}
 use borrow.Rule.Slice.PartMut.{mid-len}
-use Rattle.lent.specs.Words.{getWord, putWord}
+use Rattle.lent.specs.Words.{getWord}
 use Rattle.text.specs.Text.{Out as TextOut, done as written-to, stopped, place}
 use Rattle.lent.proofs.Laws.{put-length}
-use Rattle.rules.specs.Machine.{Out, wrote, stuck}
-use Rattle.rules.specs.Order.{Mark}
+use Rattle.rules.specs.Machine.{Out}
 use Rattle.rules.specs.Types.{Btf as Rules, tableOf}
 use Rattle.rules.specs.Writer.{Said, said, saidNames, Writer}
 use Rattle.rules.specs.Place.{withNames, putSaid}
@@ -23,7 +22,7 @@ use Rattle.rules.specs.Emit.{definition, forward}
 use Rattle.rules.proofs.Keeps.{Keeps, keeps-definition, keeps-forward}
 use Rattle.rules.proofs.Refusals.{Tells, tells-definition, tells-forward}
 use Rattle.btf.specs.declared.types.Btf.{Btf}
-use Rattle.btf.specs.Cells.{getField, putField, classP, countP, withMore, countOf, counted}
+use Rattle.btf.specs.Cells.{getField, classP, countP, withMore, countOf, counted}
 use Rattle.btf.specs.Table.{btfOf, typeVersionIn, enumeratorOf, valueVersionIn, workNaming}
 use Rattle.marks.specs.Work.{workStore}
 use Rattle.emit.specs.Sheet.{Sheet, sheetStore, sheetOf, emptied, lineIn, workMachine, dumped}

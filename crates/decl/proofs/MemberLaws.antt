@@ -25,7 +25,7 @@ use Rattle.layout.specs.declared.Packed.{Packed}
 use Rattle.layout.specs.declared.Packed.the-variants.{Is, No as NoPacked}
 use Rattle.layout.specs.Answers.{packedOf}
 use Rattle.names.proofs.Resolve.{put-type-name, resolved-type}
-use Rattle.padding.specs.Texts.{padText}
+use Rattle.pads.specs.Texts.{padText}
 use Rattle.bodies.specs.Pieces.{comma, paramsBelow, paramText, memberTail, memberText, membersBelow, endFrom, noDecl}
 use Rattle.decl.proofs.Sequences.{then-assoc, nothing-then}
 use Rattle.decl.proofs.Turns.{params-turn, members-turn, def-none, def-some}
@@ -37,7 +37,7 @@ use Rattle.btf.specs.declared.types.BtfMember.{BtfMember}
 use Rattle.names.specs.declared.versions.Name.{Name as Printing}
 use Rattle.names.specs.Spelling.{nameText}
 use Rattle.names.proofs.Spellings.{bare-text}
-use Rattle.padding.proofs.Laws.{put-padding}
+use Rattle.pads.proofs.Laws.{put-padding}
 use Rattle.bodies.specs.declared.bodies.Spot.{Spot}
 use Rattle.lent.proofs.Laws.{le-or-lt}
 

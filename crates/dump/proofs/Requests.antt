@@ -1,8 +1,8 @@
 -- Laws of a request: the listed ids, the emptied list, ordering beside a text, and requests that have nothing to do. Assumes nothing.
-use Prim.Native.Nat.{ℕ, zero, suc, _+_, _*_, _-_, _<_, _≤_}
+use Prim.Native.Nat.{ℕ, zero, suc, _+_, _-_, _<_, _≤_}
 use mathlib.Core.Path.{_≡_, refl, ap, _∙_, sym, subst}
-use mathlib.Core.List.{List, [], _∷_}
-use mathlib.Core.Bool.{Bool, true, false, not, _&&_, _||_, true≢false}
+use mathlib.Core.List.{List, []}
+use mathlib.Core.Bool.{Bool, true, false, not, _||_, true≢false}
 use mathlib.Core.Logic.{_⊎_, inl, inr, ⊎-elim}
 use native.Mathlib.Omega.{arith}
 use native.Mathlib.Numerals.{add-one}
@@ -10,12 +10,11 @@ use lib.Dec.{eqb, ltb, leb}
 use lib.ListN.{length}
 use borrow.Author.Tests.{ne-eqb, le-leb, lt-leb}
 use Rattle.lent.proofs.Laws.{le-or-lt}
-use Rattle.text.specs.Text.{Text, cut, bytes, stopped, putOut, written, putText}
+use Rattle.text.specs.Text.{Text, cut, bytes, putOut, written, putText}
 use Rattle.text.proofs.TextLaws.{put-fits, stays}
 use Rattle.rules.specs.Order.{Table, Node, ignored, plain, listed, through, ptr, tdef, proto, comp, Mark, new, busy, done, Res, ok, refused, bind, fresh, visit, order}
 use Rattle.rules.specs.Machine.{Out, wrote, stuck, Machine, obind, eeach, emit, Sess, Answer, shut, emitted, ordered, ordering, gate, single}
 use Rattle.rules.specs.Types.{BtfType, Btf as Rules, nodeOf, tableOf}
-use Rattle.rules.specs.Place.{outOf}
 use Rattle.btf.specs.declared.types.Btf.{Btf}
 use Rattle.btf.specs.declared.types.BtfType.{BtfType as Record}
 use Rattle.btf.specs.Cells.{getField, putField}
@@ -31,10 +30,10 @@ use Rattle.marks.proofs.Frame.{table-order}
 use Rattle.marks.proofs.Frame as ordFrame
 use Rattle.marks.proofs.Laws.{going, stops, counted, run, is-done, is-busy, is-new, node-at}
 use Rattle.dump.specs.Metered.{orderedIn, besideOf, dumpedMetered, callsIn, dumpedWithin}
-use Rattle.emit.specs.Sheet.{Sheet, marksIn, withMarks, sheetStore, emptied, sheetOf, emitOut, workMachine, emitIn, listedOut, dumped, isIgnored, isIdle}
+use Rattle.emit.specs.Sheet.{Sheet, marksIn, withMarks, sheetStore, emptied, emitOut, workMachine, emitIn, listedOut, dumped, isIgnored, isIdle}
 use Rattle.emit.proofs.Frame.{Stays, on, off, stays-then, places, places-emit}
 use Rattle.emit.proofs.Maps.{rmap, StoreMap, map-order}
-use Rattle.emit.proofs.Laws.{sheet, goes, halts, by-out, obind-then, obind-wrote, at-sheet, same-table, entry-stays, Rest, rest-start, rest-turn, rest-end}
+use Rattle.emit.proofs.Laws.{sheet, goes, halts, by-out, obind-then, at-sheet, entry-stays, Rest, rest-start, rest-turn, rest-end}
 
 -- ---- the listed ids
 -- the walk, and that the list is as it was

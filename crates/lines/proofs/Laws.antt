@@ -1,18 +1,18 @@
 -- The lines: the code's arms by kinds, against `definition` and `forward` of the rules. Assumes nothing.
 use Prim.Native.Nat.{ℕ, zero, suc, _-_, _<_, _≤_}
 use mathlib.Core.Path.{_≡_, refl, ap, _∙_, sym, subst}
-use mathlib.Core.List.{List, []}
+use mathlib.Core.List.{List}
 use mathlib.Core.Bool.{Bool, true, false}
 use native.Mathlib.Omega.{arith}
 use lib.Dec.{eqb}
 use borrow.Author.Tests.{ne-eqb, eq-eqb}
 use Rattle.text.specs.Text.{ascii, whole, putOut, putText}
-use Rattle.rules.specs.Types.{Name, BtfType, Void, Int, Ptr, Array, Composite, Enum, Enum64, Fwd, Typedef, Mod, Func, Var, Datasec, FuncProto, Float, DeclTag, TypeTag, Btf as Rules}
+use Rattle.rules.specs.Types.{Name, BtfType, Composite, Enum, Fwd, Typedef, Btf as Rules}
 use Rattle.rules.specs.Names.{Naming, builtin}
 use Rattle.rules.specs.Writer.{Writer, put, nothing, _⨾_}
 use Rattle.rules.specs.Place.{outOf, putSaid}
 use Rattle.rules.specs.Decl.{emitCompositeFwd, emitFwdDef, enumValue, enum64Value, emitEnumDef, emitCompositeDef, emitTypedefDef}
-use Rattle.rules.specs.Emit.{lineEnd, definition, shown, forward}
+use Rattle.rules.specs.Emit.{definition, shown, forward}
 use Rattle.rules.proofs.Writing.{put-only, put-nothing, put-then}
 use Rattle.btf.specs.declared.types.Btf.{Btf}
 use Rattle.btf.specs.declared.types.BtfType.{BtfType as Record}

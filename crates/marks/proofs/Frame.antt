@@ -1,17 +1,17 @@
 -- The table in the work does not read the marks and the order list: a store to word 1 or 11 of a cell leaves it. Assumes nothing.
-use Prim.Native.Nat.{ℕ, zero, suc, _*_, _-_}
-use mathlib.Core.Path.{_≡_, refl, ap, _∙_, sym}
+use Prim.Native.Nat.{ℕ, zero, suc, _-_}
+use mathlib.Core.Path.{_≡_, refl, _∙_}
 use mathlib.Core.List.{List, [], _∷_}
 use mathlib.Core.Bool.{Bool, true, false, not, _&&_, _||_}
 use native.Mathlib.Omega.{arith}
 use lib.Dec.{ltb}
 use Rattle.rules.specs.Order.{Table, Node, ignored, plain, listed, through, ptr, tdef, proto, comp, Mark, new, busy, done, isComp, isDone, pushIf, finish}
 use Rattle.btf.specs.declared.types.Btf.{Btf}
-use Rattle.btf.specs.Cells.{getField, putField}
+use Rattle.btf.specs.Cells.{putField}
 use Rattle.btf.specs.Table.{btfOf}
 use Rattle.btf.proofs.Frame.{table-field}
 use Rattle.ceiling.specs.Ceiling.{Told, told, halted, thenBind, eachWithin, meetWithin, enterWithin, aliasWithin, freshWithin, visitWithin, orderMetered}
-use Rattle.marks.specs.Work.{Marks, markOf, code, workStore}
+use Rattle.marks.specs.Work.{Marks, code, workStore}
 
 module _ (b : Btf) (s : List ℕ) (w : List ℕ) (x v : ℕ) where
   pub table-mark : btfOf b s (putField w x 1 v) ≡ btfOf b s w

@@ -1,13 +1,12 @@
 -- The store in the work is lawful in the sense of the theory, for n types and a work of at least 64 bytes a type. Assumes nothing.
-use Prim.Native.Nat.{ℕ, zero, suc, _+_, _*_, _/_, _%_, _<_, _≤_}
-use mathlib.Core.Path.{_≡_, refl, ap, _∙_, sym}
+use Prim.Native.Nat.{ℕ, zero, suc, _+_, _*_, _%_, _<_, _≤_}
+use mathlib.Core.Path.{_≡_, refl, ap, _∙_}
 use mathlib.Core.List.{List, [], _∷_, _++_}
-use mathlib.Core.Bool.{Bool, true, false}
 use mathlib.Core.Logic.{_≢_}
 use native.Mathlib.Omega.{arith}
 use lib.ListN.{length}
 use borrow.Author.Tests.{lt-ltb}
-use Rattle.lent.specs.Words.{getWord, putWord, oneMore}
+use Rattle.lent.specs.Words.{getWord, oneMore}
 use Rattle.lent.proofs.Laws.{get-put-same, get-put-other, put-length}
 use Rattle.rules.specs.Order.{Mark, new, busy, done, Store, Lawful, Framed}
 use Rattle.btf.specs.declared.types.Btf.{Btf}

@@ -1,4 +1,3 @@
-use native.Mathlib.Omega.{arith}
 use Rattle.dump.proofs.Requests as requests
 use borrow.Author.Needs.{needs}
 use Rattle.dump.proofs.dump_metered.Statement.{statement}

@@ -1,6 +1,5 @@
 use Rattle.btf.specs.Records.{sectionWord, memberAt, paramAt}
-use mathlib.Core.Bool.{true, false}
-use mathlib.Core.Path.{_≡_, refl, ap, sym, _∙_}
+use mathlib.Core.Path.{_≡_, refl, sym, _∙_}
 use lib.ListN.{length}
 use Prim.Native.Nat.{ℕ, zero-le, _<_, _≤_, _+_, _-_, _*_}
 use Rattle.marks.proofs.Laws.{entry-word}

@@ -1,4 +1,4 @@
-use Rattle.padding.proofs.Laws.{mode-is, ptr-size, emit-none, emit-gap, emit-refused}
+use Rattle.pads.proofs.Laws.{mode-is, ptr-size, emit-none, emit-gap, emit-refused}
 use borrow.Author.Needs.{needs}
 use Rattle.padding.proofs.emit_bit_padding.Statement.{statement}
 use Rattle.padding.proofs.emit_bit_padding.Tie as tie

@@ -1,4 +1,4 @@
-use Rattle.padding.proofs.Placing.{lone-none, lone-line}
+use Rattle.pads.proofs.Placing.{lone-none, lone-line}
 use Rattle.text.proofs.TextLaws.{put-same, put-empty}
 use borrow.Author.Needs.{needs}
 use Rattle.padding.proofs.put_own_line.Statement.{statement}

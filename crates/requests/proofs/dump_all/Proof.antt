@@ -1,5 +1,5 @@
 use Rattle.calls.proofs.Laws as laws
-use mathlib.Core.Path.{_≡_, refl, sym, _∙_}
+use mathlib.Core.Path.{_≡_, refl, _∙_}
 use Prim.Native.Nat.{_+_, _-_, _<_, _≤_}
 use lib.ListN.{length}
 use Rattle.calls.specs.Calls.{requestedFrom}

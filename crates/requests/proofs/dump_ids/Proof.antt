@@ -1,7 +1,7 @@
 use Rattle.calls.proofs.Lists as lists
 use mathlib.Core.Path.{_≡_, refl, sym, _∙_}
 use mathlib.Core.Bool.{true}
-use Prim.Native.Nat.{_+_, _-_, _<_, _≤_}
+use Prim.Native.Nat.{_-_, _<_, _≤_}
 use lib.ListN.{length}
 use Rattle.turns.specs.Turns.{withText, tableFor}
 use Rattle.calls.specs.Lists.{idsIn, listCall, listFrom, tailed}

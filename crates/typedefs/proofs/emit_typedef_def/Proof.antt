@@ -1,5 +1,4 @@
 use Rattle.text.proofs.TextLaws.{put-seq}
-use mathlib.Core.Path.{_∙_, sym}
 use Rattle.decl.proofs.MemberLaws as members
 use borrow.Author.Needs.{needs}
 use Rattle.typedefs.proofs.emit_typedef_def.Statement.{statement}

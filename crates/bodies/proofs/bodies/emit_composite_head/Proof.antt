@@ -1,4 +1,3 @@
-use mathlib.Core.Path.{_∙_, sym}
 use Rattle.bodies.proofs.BodyLaws as laws
 use borrow.Author.Needs.{needs}
 use Rattle.bodies.proofs.bodies.emit_composite_head.Statement.{statement}

@@ -1,5 +1,4 @@
 use Rattle.bodies.proofs.WordLaws as laws
-use Rattle.text.proofs.TextLaws.{put-same, put-empty}
 use borrow.Author.Needs.{needs}
 use Rattle.bodies.proofs.params.is_any_more.Statement.{statement}
 use Rattle.bodies.proofs.params.is_any_more.Tie as tie

@@ -1,8 +1,7 @@
 use Rattle.btf.specs.Table.{paramOf}
 use denote.Ref.{now}
-use mathlib.Core.Path.{_∙_, sym, ap}
+use mathlib.Core.Path.{_∙_, sym}
 use Rattle.bodies.proofs.WordLaws as laws
-use Rattle.text.proofs.TextLaws.{put-same, put-empty}
 use borrow.Author.Needs.{needs}
 use Rattle.bodies.proofs.params.shown_params.Statement.{statement}
 use Rattle.bodies.proofs.params.shown_params.Tie as tie

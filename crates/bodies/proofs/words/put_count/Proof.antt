@@ -1,5 +1,4 @@
 use Rattle.bodies.proofs.WordLaws as laws
-use Rattle.text.proofs.TextLaws.{put-same, put-empty}
 use borrow.Author.Needs.{needs}
 use Rattle.bodies.proofs.words.put_count.Statement.{statement}
 use Rattle.bodies.proofs.words.put_count.Tie as tie

@@ -1,5 +1,5 @@
 use Rattle.bodies.proofs.WordLaws as laws
-use Rattle.text.proofs.TextLaws.{put-same, put-empty}
+use Rattle.text.proofs.TextLaws.{put-same}
 use borrow.Author.Needs.{needs}
 use Rattle.bodies.proofs.words.put_star.Statement.{statement}
 use Rattle.bodies.proofs.words.put_star.Tie as tie

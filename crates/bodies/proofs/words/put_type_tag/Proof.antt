@@ -1,7 +1,5 @@
 use Rattle.bodies.proofs.WordLaws as laws
 use Rattle.rules.specs.Decl.{attribute}
-use Rattle.text.specs.Text.{whole, putText}
-use mathlib.Core.Path.{_∙_, ap}
 use borrow.Author.Needs.{needs}
 use Rattle.bodies.proofs.words.put_type_tag.Statement.{statement}
 use Rattle.bodies.proofs.words.put_type_tag.Tie as tie

@@ -1,18 +1,17 @@
-use Rattle.padding.proofs.Laws.{Goes, goes-start, goes-more, goes-stopped, goes-end, pad-fits, pad-some}
+use Rattle.pads.proofs.Laws.{Goes, goes-start, goes-more, goes-stopped, goes-end, pad-fits, pad-some}
 use Rattle.rules.specs.Decl.{pads}
 use Rattle.rules.specs.Layout.{padsOf}
 use mathlib.Core.Path.{refl, sym, _∙_}
-use native.Mathlib.Omega.{arith}
 use borrow.Author.Needs.{needs}
 use mathlib.Core.Path.{_≡_}
 use lib.ListN.{length}
-use Rattle.padding.proofs.put_pads.Statement.{statement}
-use Rattle.padding.proofs.put_pads.Tie as tie
-use Rattle.padding.proofs.put_pads.Reads as reads
-use Rattle.padding.proofs.put_pads.Lts as lts
+use Rattle.pads.proofs.put_pads.Statement.{statement}
+use Rattle.pads.proofs.put_pads.Tie as tie
+use Rattle.pads.proofs.put_pads.Reads as reads
+use Rattle.pads.proofs.put_pads.Lts as lts
 use Rattle.text.proofs.stopped.Reads as stopped-reads
-use Rattle.padding.proofs.pad_of.Reads as pad-of-reads
-use Rattle.padding.proofs.put_pad.Reads as put-pad-reads
+use Rattle.pads.proofs.pad_of.Reads as pad-of-reads
+use Rattle.pads.proofs.put_pad.Reads as put-pad-reads
 
 abbrev Inv-loop : tie.InvT-loop
 Inv-loop text₀ at ptr-sz gap lvl p₀ left₀ text p left = (length text ≡ length text₀) × Goes text₀ at (pads lvl (padsOf gap ptr-sz gap)) text p (pads lvl (padsOf left ptr-sz left))

@@ -1,9 +1,9 @@
-use Rattle.padding.proofs.Laws.{bits-few, bits-many}
+use Rattle.pads.proofs.Laws.{bits-few, bits-many}
 use borrow.Author.Needs.{needs}
-use Rattle.padding.proofs.ptr_bits.Statement.{statement}
-use Rattle.padding.proofs.ptr_bits.Tie as tie
-use Rattle.padding.proofs.ptr_bits.Reads as reads
-use Rattle.padding.proofs.ptr_bits.Lts as lts
+use Rattle.pads.proofs.ptr_bits.Statement.{statement}
+use Rattle.pads.proofs.ptr_bits.Tie as tie
+use Rattle.pads.proofs.ptr_bits.Reads as reads
+use Rattle.pads.proofs.ptr_bits.Lts as lts
 
 -- src/lib.rt:32:29
 mul-result : tie.Need-mul-result

@@ -1,9 +1,9 @@
-use Rattle.padding.proofs.Laws.{is-int, is-short, is-char}
+use Rattle.pads.proofs.Laws.{is-int, is-short, is-char}
 use borrow.Author.Needs.{needs}
-use Rattle.padding.proofs.short_pad.Statement.{statement}
-use Rattle.padding.proofs.short_pad.Tie as tie
-use Rattle.padding.proofs.short_pad.Reads as reads
-use Rattle.padding.proofs.short_pad.Lts as lts
+use Rattle.pads.proofs.short_pad.Statement.{statement}
+use Rattle.pads.proofs.short_pad.Tie as tie
+use Rattle.pads.proofs.short_pad.Reads as reads
+use Rattle.pads.proofs.short_pad.Lts as lts
 use Rattle.layout.proofs.chip_away_bits.Reads as chip-away-bits-reads
 
 -- src/lib.rt:42:20

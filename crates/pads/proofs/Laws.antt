@@ -1,9 +1,9 @@
 -- What each return of the code comes to, and how a caller's writer has it. Assumes nothing.
-use Prim.Native.Nat.{ℕ, zero, suc, _+_, _-_, _*_, _<_, _≤_}
+use Prim.Native.Nat.{ℕ, _+_, _-_, _*_, _<_, _≤_}
 use mathlib.Core.Path.{_≡_, refl, ap, ap₂, _∙_, sym}
-use mathlib.Core.Bool.{Bool, true, false, _&&_}
+use mathlib.Core.Bool.{Bool, true, false}
 use mathlib.Core.List.{List, [], _∷_, _++_}
-use mathlib.Core.Logic.{_⊎_, inl, inr, ⊎-elim}
+use mathlib.Core.Logic.{inl, inr}
 use native.Mathlib.Omega.{arith}
 use borrow.Author.Tests.{lt-ltb, le-ltb, le-leb, lt-leb, ne-eqb}
 use Rattle.text.specs.Text.{Text, whole, cut, isStopped, putOut, putText, ascii, pfx}
@@ -12,7 +12,7 @@ use Rattle.text.proofs.TextLaws.{put-seq, put-same, put-empty, put-stopped}
 use Rattle.rules.specs.Writer.{Ask, got, no, askThen, Said, said, put, stop, given}
 use Rattle.rules.specs.Place.{outOf, putSaid}
 use Rattle.rules.specs.Types.{Member, Btf as Rules}
-use Rattle.rules.specs.Layout.{smaller, PadUnit, long, int, short, char, Pad, chipAwayBits, padOf, padsOf, gapPads, padsBefore, getAlignOf, bitPadding}
+use Rattle.rules.specs.Layout.{smaller, long, int, short, char, Pad, chipAwayBits, padOf, padsOf, gapPads, padsBefore, getAlignOf, bitPadding}
 use Rattle.rules.specs.Decl.{unitWord, pads}
 use Rattle.rules.proofs.Writing.{text-only}
 use Rattle.btf.specs.declared.types.Btf.{Btf}
@@ -20,9 +20,9 @@ use Rattle.btf.specs.Table.{btfOf}
 use Rattle.layout.specs.declared.Ask.{Ask as Answer}
 use Rattle.layout.specs.declared.Ask.the-variants.{Got, No}
 use Rattle.layout.specs.Answers.{askOf}
-use Rattle.padding.specs.declared.Pad.{Pad as Code}
-use Rattle.padding.specs.Texts.{unitOf, padIs, padLine, gapAlign, padText}
-use Rattle.padding.proofs.Widths.{chip-bits, pad-long, no-long, pad-int, pad-short, pad-char, pad-within, pads-next, pads-none}
+use Rattle.pads.specs.declared.Pad.{Pad as Code}
+use Rattle.pads.specs.Texts.{unitOf, padIs, padLine, gapAlign, padText}
+use Rattle.pads.proofs.Widths.{chip-bits, pad-long, no-long, pad-int, pad-short, pad-char, pad-within, pads-next, pads-none}
 
 -- ---- ptr_bits, short_pad, pad_of
 pub bits-few : (p : ℕ) → p < 536870912 → p * 8 ≡ smaller (p * 8) 4294967295

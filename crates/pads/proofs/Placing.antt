@@ -9,13 +9,13 @@ use lib.Count.{trailingZeros, under}
 use borrow.Author.Tests.{lt-ltb, le-ltb, le-leb, lt-leb, eq-eqb, ne-eqb, eqb-true}
 use Rattle.text.specs.Text.{Text, whole, isStopped, putOut, putText, ascii}
 use Rattle.text.proofs.TextLaws.{put-seq, put-same, put-empty, put-stopped}
-use Rattle.rules.specs.Layout.{PadUnit, long, int, short, char, Pad, suits, placedPad, placedPads, placedGap, gapPads, padsBefore}
+use Rattle.rules.specs.Layout.{char, Pad, suits, placedPad, placedPads, placedGap, gapPads, padsBefore}
 use Rattle.rules.specs.Placing.{tailPads}
 use Rattle.rules.specs.Decl.{pads, ownLine, tailText}
 use Rattle.rules.proofs.Placed.{pad-stays}
-use Rattle.padding.specs.declared.Pad.{Pad as Code}
-use Rattle.padding.specs.Texts.{unitOf, padIs, padLine, suitsBy, placedChar, loneLine}
-use Rattle.padding.proofs.Laws.{Goes}
+use Rattle.pads.specs.declared.Pad.{Pad as Code}
+use Rattle.pads.specs.Texts.{unitOf, padIs, padLine, suitsBy, placedChar, loneLine}
+use Rattle.pads.proofs.Laws.{Goes}
 
 -- ---- zeros at the end of a number
 both : (a b : Bool) → (a ≡ true → b ≡ true) → (b ≡ true → a ≡ true) → a ≡ b

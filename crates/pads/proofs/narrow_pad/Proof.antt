@@ -1,11 +1,11 @@
-use Rattle.padding.proofs.Placing.{narrow-32, narrow-16, narrow-char}
+use Rattle.pads.proofs.Placing.{narrow-32, narrow-16, narrow-char}
 use borrow.Author.Needs.{needs}
-use Rattle.padding.proofs.narrow_pad.Statement.{statement}
-use Rattle.padding.proofs.narrow_pad.Tie as tie
-use Rattle.padding.proofs.narrow_pad.Reads as reads
-use Rattle.padding.proofs.narrow_pad.Lts as lts
-use Rattle.padding.proofs.char_pad.Reads as char-pad-reads
-use Rattle.padding.proofs.suits.Reads as suits-reads
+use Rattle.pads.proofs.narrow_pad.Statement.{statement}
+use Rattle.pads.proofs.narrow_pad.Tie as tie
+use Rattle.pads.proofs.narrow_pad.Reads as reads
+use Rattle.pads.proofs.narrow_pad.Lts as lts
+use Rattle.pads.proofs.char_pad.Reads as char-pad-reads
+use Rattle.pads.proofs.suits.Reads as suits-reads
 
 -- src/lib.rt:150:8
 suits-requires : tie.Need-suits-requires

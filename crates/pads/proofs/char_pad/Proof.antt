@@ -1,10 +1,10 @@
-use Rattle.padding.proofs.Placing.{char-8, char-4, char-2, char-1}
+use Rattle.pads.proofs.Placing.{char-8, char-4, char-2, char-1}
 use borrow.Author.Needs.{needs}
-use Rattle.padding.proofs.char_pad.Statement.{statement}
-use Rattle.padding.proofs.char_pad.Tie as tie
-use Rattle.padding.proofs.char_pad.Reads as reads
-use Rattle.padding.proofs.char_pad.Lts as lts
-use Rattle.padding.proofs.suits.Reads as suits-reads
+use Rattle.pads.proofs.char_pad.Statement.{statement}
+use Rattle.pads.proofs.char_pad.Tie as tie
+use Rattle.pads.proofs.char_pad.Reads as reads
+use Rattle.pads.proofs.char_pad.Lts as lts
+use Rattle.pads.proofs.suits.Reads as suits-reads
 
 -- src/lib.rt:134:8
 suits-requires : tie.Need-suits-requires

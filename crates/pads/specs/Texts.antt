@@ -1,7 +1,7 @@
 -- What the code's pads stand for, and the text of a gap.
 use Prim.Native.Nat.{ℕ}
 use mathlib.Core.Bool.{Bool, true, false, _&&_}
-use mathlib.Core.List.{List, [], _∷_, _++_}
+use mathlib.Core.List.{List, [], _++_}
 use lib.Dec.{eqb, leb}
 use lib.Count.{trailingZeros}
 use Rattle.text.specs.Text.{Text, whole, cut, ascii, pfx}
@@ -10,7 +10,7 @@ use Rattle.rules.specs.Writer.{Ask, got, no}
 use Rattle.rules.specs.Types.{Btf}
 use Rattle.rules.specs.Layout.{PadUnit, long, int, short, char, Pad, suits, getAlignOf}
 use Rattle.rules.specs.Decl.{unitWord, pads}
-use Rattle.padding.specs.declared.Pad.{Pad as Code}
+use Rattle.pads.specs.declared.Pad.{Pad as Code}
 
 unfoldable pub unitOf : ℕ → PadUnit
 unitOf u =

@@ -1,20 +1,20 @@
 use lib.ListN.{length}
 use mathlib.Core.Path.{_≡_}
 use borrow.Author.Needs.{needs}
-use Rattle.padding.proofs.Laws.{Goes, goes-start}
-use Rattle.padding.proofs.Placing.{placed-stopped, placed-end, placed-fits, placed-some, placed-more}
+use Rattle.pads.proofs.Laws.{Goes, goes-start}
+use Rattle.pads.proofs.Placing.{placed-stopped, placed-end, placed-fits, placed-some, placed-more}
 use Rattle.rules.specs.Decl.{pads}
 use Rattle.rules.specs.Layout.{placedPads}
 use Prim.Native.Nat.{_-_, _<_}
 use mathlib.Core.Path.{refl, sym, _∙_}
 use native.Mathlib.Omega.{arith}
-use Rattle.padding.proofs.put_placed_pads.Statement.{statement}
-use Rattle.padding.proofs.put_placed_pads.Tie as tie
-use Rattle.padding.proofs.put_placed_pads.Reads as reads
-use Rattle.padding.proofs.put_placed_pads.Lts as lts
+use Rattle.pads.proofs.put_placed_pads.Statement.{statement}
+use Rattle.pads.proofs.put_placed_pads.Tie as tie
+use Rattle.pads.proofs.put_placed_pads.Reads as reads
+use Rattle.pads.proofs.put_placed_pads.Lts as lts
 use Rattle.text.proofs.stopped.Reads as stopped-reads
-use Rattle.padding.proofs.placed_pad.Reads as placed-pad-reads
-use Rattle.padding.proofs.put_pad.Reads as put-pad-reads
+use Rattle.pads.proofs.placed_pad.Reads as placed-pad-reads
+use Rattle.pads.proofs.put_pad.Reads as put-pad-reads
 
 abbrev Inv-loop : tie.InvT-loop
 Inv-loop text₀ at ptr-sz start end lvl p₀ s₀ text p s = (length text ≡ length text₀) × (end < 18446744073709551616) × Goes text₀ at (pads lvl (placedPads (end - start) ptr-sz start (end - start))) text p (pads lvl (placedPads (end - s) ptr-sz s (end - s)))

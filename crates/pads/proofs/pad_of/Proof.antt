@@ -1,13 +1,13 @@
 use native.Mathlib.Omega.{arith}
-use Rattle.padding.proofs.Laws.{is-narrow, is-small, is-long}
+use Rattle.pads.proofs.Laws.{is-narrow, is-small, is-long}
 use borrow.Author.Needs.{needs}
-use Rattle.padding.proofs.pad_of.Statement.{statement}
-use Rattle.padding.proofs.pad_of.Tie as tie
-use Rattle.padding.proofs.pad_of.Reads as reads
-use Rattle.padding.proofs.pad_of.Lts as lts
+use Rattle.pads.proofs.pad_of.Statement.{statement}
+use Rattle.pads.proofs.pad_of.Tie as tie
+use Rattle.pads.proofs.pad_of.Reads as reads
+use Rattle.pads.proofs.pad_of.Lts as lts
 use Rattle.layout.proofs.chip_away_bits.Reads as chip-away-bits-reads
-use Rattle.padding.proofs.ptr_bits.Reads as ptr-bits-reads
-use Rattle.padding.proofs.short_pad.Reads as short-pad-reads
+use Rattle.pads.proofs.ptr_bits.Reads as ptr-bits-reads
+use Rattle.pads.proofs.short_pad.Reads as short-pad-reads
 
 -- src/lib.rt:62:9
 short-pad-requires : tie.Need-short-pad-requires

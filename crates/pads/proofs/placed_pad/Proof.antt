@@ -1,11 +1,11 @@
-use Rattle.padding.proofs.Placing.{placed-other, placed-64, placed-narrow}
+use Rattle.pads.proofs.Placing.{placed-other, placed-64, placed-narrow}
 use borrow.Author.Needs.{needs}
-use Rattle.padding.proofs.placed_pad.Statement.{statement}
-use Rattle.padding.proofs.placed_pad.Tie as tie
-use Rattle.padding.proofs.placed_pad.Reads as reads
-use Rattle.padding.proofs.placed_pad.Lts as lts
-use Rattle.padding.proofs.narrow_pad.Reads as narrow-pad-reads
-use Rattle.padding.proofs.suits.Reads as suits-reads
+use Rattle.pads.proofs.placed_pad.Statement.{statement}
+use Rattle.pads.proofs.placed_pad.Tie as tie
+use Rattle.pads.proofs.placed_pad.Reads as reads
+use Rattle.pads.proofs.placed_pad.Lts as lts
+use Rattle.pads.proofs.narrow_pad.Reads as narrow-pad-reads
+use Rattle.pads.proofs.suits.Reads as suits-reads
 
 -- src/lib.rt:164:9
 narrow-pad-requires : tie.Need-narrow-pad-requires

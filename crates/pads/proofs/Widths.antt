@@ -1,15 +1,15 @@
 -- The pads of a gap: which unit, how wide, and that as many as there are bits are enough. Assumes nothing.
-use Prim.Native.Nat.{ℕ, zero, suc, _+_, _-_, _*_, _%_, _<_, _≤_}
+use Prim.Native.Nat.{ℕ, zero, suc, _-_, _*_, _%_, _<_, _≤_}
 use mathlib.Core.Path.{_≡_, refl, ap, _∙_, sym}
 use mathlib.Core.Bool.{Bool, true, false, _&&_}
 use mathlib.Core.List.{List, [], _∷_}
 use mathlib.Core.Logic.{_⊎_, inl, inr, ⊎-elim}
 use lib.Dec.{ltb, eqb}
 use native.Mathlib.Omega.{arith}
-use native.Mathlib.Nat.{mod-lt, mod-le, mod-eq-of-lt}
+use native.Mathlib.Nat.{mod-le, mod-eq-of-lt}
 use borrow.Author.Tests.{lt-ltb, le-ltb, le-leb, lt-leb, ne-eqb}
 use Rattle.lent.proofs.Laws.{le-or-lt}
-use Rattle.rules.specs.Layout.{smaller, PadUnit, long, int, short, char, Pad, chipAwayBits, padOf, padsOf}
+use Rattle.rules.specs.Layout.{smaller, long, int, short, char, Pad, chipAwayBits, padOf, padsOf}
 
 zero-or : {P : Type 0} → (n : ℕ) → (n ≡ 0 → P) → ((n ≡ 0 → ⊥) → P) → P
 zero-or zero p q = p refl

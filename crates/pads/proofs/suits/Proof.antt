@@ -1,8 +1,8 @@
-use Rattle.padding.proofs.Placing.{suits-not, suits-if}
-use Rattle.padding.proofs.suits.Statement.{statement}
-use Rattle.padding.proofs.suits.Tie as tie
-use Rattle.padding.proofs.suits.Reads as reads
-use Rattle.padding.proofs.suits.Lts as lts
+use Rattle.pads.proofs.Placing.{suits-not, suits-if}
+use Rattle.pads.proofs.suits.Statement.{statement}
+use Rattle.pads.proofs.suits.Tie as tie
+use Rattle.pads.proofs.suits.Reads as reads
+use Rattle.pads.proofs.suits.Lts as lts
 
 -- src/lib.rt:125:9
 returns : tie.Need-returns
