@@ -1,0 +1,36 @@
+-- A law for each return of src/ceilings.rt. Assumes nothing.
+use Prim.Native.Nat.{ℕ, _<_, _≤_}
+use mathlib.Core.Path.{_≡_, refl, ap, _∙_, sym}
+use mathlib.Core.List.{List}
+use lib.ListN.{length}
+use borrow.Author.Tests.{lt-ltb, le-ltb}
+use Rattle.turns.specs.declared.Session.{Session}
+use Rattle.turns.specs.Turns.{callOf}
+use Rattle.c_record.specs.Record.{packed, decoded, recordAfter}
+use Rattle.within.specs.declared.Counted.{Counted}
+use Rattle.within.specs.Within.{CallWithin, countedOf, typeCallWithin, typesCallWithin}
+use Rattle.btfdump_c.specs.Exports.{exportOf, answeredBy}
+use Rattle.btfdump_c.specs.Ceilings.{withinExportOf, answeredWithin, typeWithinExport, typesWithinExport}
+
+module _ (c : ℕ) (r section w t : List ℕ) where
+  module _ (h : length r < 128) where
+    pub type-short : (id : ℕ) → withinExportOf 47244640256 r w t 0 ≡ typeWithinExport c r section w t id
+    unfolding typeWithinExport
+    type-short id = sym (rw (lt-ltb (length r) 128 h, typeWithinExport))
+
+    pub types-short : withinExportOf 47244640256 r w t 0 ≡ typesWithinExport c r section w t
+    unfolding typesWithinExport
+    types-short = sym (rw (lt-ltb (length r) 128 h, typesWithinExport))
+
+  module _ (h : 128 ≤ length r) (s : Session) (es : s ≡ decoded r) (d : Counted) (w′ t′ : List ℕ) (u : ℕ) (r′ : List ℕ) where
+    tells : (a : CallWithin) → countedOf d w′ t′ ≡ a → (u ≡ packed (d .turn .answer)) × (r′ ≡ recordAfter (d .turn .answer) r) → withinExportOf u r′ w′ t′ (d .made) ≡ answeredWithin r a
+    unfolding withinExportOf answeredWithin answeredBy countedOf callOf
+    tells a e eu = (λ i. withinExportOf (eu .0 i) (eu .1 i) w′ t′ (d .made)) ∙ ap (answeredWithin r) e
+
+    pub type-is : (id : ℕ) → countedOf d w′ t′ ≡ typeCallWithin c s section w t id 0 → (u ≡ packed (d .turn .answer)) × (r′ ≡ recordAfter (d .turn .answer) r) → withinExportOf u r′ w′ t′ (d .made) ≡ typeWithinExport c r section w t id
+    unfolding typeWithinExport
+    type-is id e eu = tells _ (e ∙ ap (λ (q : Session). typeCallWithin c q section w t id 0) es) eu ∙ sym (rw (le-ltb (length r) 128 h, typeWithinExport))
+
+    pub types-is : countedOf d w′ t′ ≡ typesCallWithin c s section w t → (u ≡ packed (d .turn .answer)) × (r′ ≡ recordAfter (d .turn .answer) r) → withinExportOf u r′ w′ t′ (d .made) ≡ typesWithinExport c r section w t
+    unfolding typesWithinExport
+    types-is e eu = tells _ (e ∙ ap (λ (q : Session). typesCallWithin c q section w t) es) eu ∙ sym (rw (le-ltb (length r) 128 h, typesWithinExport))

@@ -1,0 +1,48 @@
+// Requests under a ceiling on the calls of the ordering rule, for C. How many were made is stored in `made`.
+use c_record::answered;
+use c_record::decode;
+use within::dump_type_within;
+use within::dump_types_within;
+ghost use mathlib.Core.Path.{_≡_};
+ghost use Rattle.btfdump_c.specs.Ceilings.{withinExportOf, typeWithinExport, typesWithinExport};
+
+#[no_mangle]
+pub extern "C" fn btfdump_dump_type_within(
+    record: &mut [u8],
+    section: &[u8],
+    work: &mut [u8],
+    text: &mut [u8],
+    id: u32,
+    ceiling: u64,
+    made: &mut u64,
+) -> u64
+    ensures { λ r. ⌜ withinExportOf r (now («record» .exit)) (now (work .exit)) (now (text .exit)) (now (made .exit)) ≡ typeWithinExport ceiling (now («record» .entry)) (now (section .entry)) (now (work .entry)) (now (text .entry)) id ⌝ }
+{
+    if record.len() < 128 {
+        *made = 0;
+        return 47244640256;
+    }
+    let d = dump_type_within(decode(record), section, work, text, id, ceiling);
+    *made = d.made;
+    answered(record, d.turn)
+}
+
+#[no_mangle]
+pub extern "C" fn btfdump_dump_types_within(
+    record: &mut [u8],
+    section: &[u8],
+    work: &mut [u8],
+    text: &mut [u8],
+    ceiling: u64,
+    made: &mut u64,
+) -> u64
+    ensures { λ r. ⌜ withinExportOf r (now («record» .exit)) (now (work .exit)) (now (text .exit)) (now (made .exit)) ≡ typesWithinExport ceiling (now («record» .entry)) (now (section .entry)) (now (work .entry)) (now (text .entry)) ⌝ }
+{
+    if record.len() < 128 {
+        *made = 0;
+        return 47244640256;
+    }
+    let d = dump_types_within(decode(record), section, work, text, ceiling);
+    *made = d.made;
+    answered(record, d.turn)
+}
