@@ -177,6 +177,13 @@ btfdump_answer btfdump_dump_types_within(uint8_t *record, size_t record_len,
 					 uint8_t *text, size_t text_len,
 					 uint64_t ceiling, uint64_t *made);
 
+btfdump_answer btfdump_dump_list_within(uint8_t *record, size_t record_len,
+					const uint8_t *section, size_t section_len,
+					uint8_t *work, size_t work_len,
+					uint8_t *text, size_t text_len,
+					const uint8_t *ids, size_t ids_len,
+					uint64_t ceiling, uint64_t *made);
+
 /* The length of the text so far, of a record that an opening wrote. */
 static inline uint32_t btfdump_text_len(const uint8_t *record)
 {

@@ -12,6 +12,9 @@
 #define MOST UINT64_MAX
 #define RECORD BTFDUMP_RECORD_SIZE
 #define PASSED 22
+#define ALL 0u          /* what is asked for: an id, all ids, or the list */
+#define LIST UINT32_MAX
+#define IDS 7
 
 struct memory {
 	uint8_t record[RECORD], *work, *text;
@@ -24,6 +27,18 @@ struct sizes {
 
 static uint32_t calls, refused, differ;
 static uint64_t counted;
+static uint8_t ids[4 * IDS];
+
+/* every third id, from the last down; with another turn the last ones are past the table */
+static void fill_list(uint32_t types, uint32_t turn)
+{
+	for (uint32_t i = 0; i < IDS; i++) {
+		uint32_t id = turn ? i * 3 * turn : types - 1 - i * 3 % types;
+
+		for (int j = 0; j < 4; j++)
+			ids[4 * i + j] = (uint8_t)(id >> 8 * j);
+	}
+}
 
 static struct memory same_as(const struct memory *from, const struct sizes *z)
 {
@@ -43,10 +58,12 @@ static void drop(struct memory *m)
 	free(m->text);
 }
 
-/* id 0 stands for all ids */
 static btfdump_answer plain(struct memory *m, const struct sizes *z, uint32_t id)
 {
-	if (!id)
+	if (id == LIST)
+		return btfdump_dump_list(m->record, RECORD, z->section, z->section_len, m->work, z->work_len, m->text, z->text_len,
+					 ids, sizeof ids);
+	if (id == ALL)
 		return btfdump_dump_types(m->record, RECORD, z->section, z->section_len, m->work, z->work_len, m->text, z->text_len);
 	return btfdump_dump_type(m->record, RECORD, z->section, z->section_len, m->work, z->work_len, m->text, z->text_len, id);
 }
@@ -54,7 +71,10 @@ static btfdump_answer plain(struct memory *m, const struct sizes *z, uint32_t id
 static btfdump_answer under(struct memory *m, const struct sizes *z, uint32_t id, uint64_t ceiling, uint64_t *made)
 {
 	*made = MOST / 3;
-	if (!id)
+	if (id == LIST)
+		return btfdump_dump_list_within(m->record, RECORD, z->section, z->section_len, m->work, z->work_len, m->text,
+						z->text_len, ids, sizeof ids, ceiling, made);
+	if (id == ALL)
 		return btfdump_dump_types_within(m->record, RECORD, z->section, z->section_len, m->work, z->work_len, m->text,
 						 z->text_len, ceiling, made);
 	return btfdump_dump_type_within(m->record, RECORD, z->section, z->section_len, m->work, z->work_len, m->text, z->text_len,
@@ -76,11 +96,11 @@ static int all_zero(const uint8_t *p, size_t n)
 }
 
 /* After 22: what came before it stays. */
-static int closed_by_22(const struct memory *m, const struct memory *full, const struct sizes *z, btfdump_answer a)
+static int closed_by_22(const struct memory *m, const struct memory *full, const struct sizes *z, uint32_t id, btfdump_answer a)
 {
-	uint32_t len = btfdump_value(a);
+	uint32_t len = (uint32_t)get_word(m->record, 5);
 
-	return btfdump_number(a) == PASSED && get_word(m->record, 0) == 0 && get_word(m->record, 5) == len &&
+	return btfdump_number(a) == PASSED && get_word(m->record, 0) == 0 && (id == LIST || btfdump_value(a) == len) &&
 	       all_zero(m->work, z->work_len) && !memcmp(m->text, full->text, len) && all_zero(m->text + len, z->text_len - len);
 }
 
@@ -101,9 +121,9 @@ static const char *one_request(struct memory *m, const struct sizes *z, uint32_t
 		btfdump_answer over = under(&c, z, id, made - 1, &less);
 
 		refused++;
-		if (less != made - 1 || !closed_by_22(&c, btfdump_number(first) ? &c : m, z, over))
+		if (less != made - 1 || !closed_by_22(&c, btfdump_number(first) ? &c : m, z, id, over))
 			wrong = "a ceiling of one less";
-	} else if (btfdump_number(first) != 11 && btfdump_number(first) != 10 && id)
+	} else if (btfdump_number(first) != 11 && btfdump_number(first) != 10 && id != ALL)
 		wrong = "a request without a call";
 	drop(&a), drop(&b), drop(&c);
 	return wrong;
@@ -118,11 +138,15 @@ static void one_session(const char *path, const struct one_case *c, const uint8_
 	const char *wrong = btfdump_number(opened) ? "opening" : NULL;
 	uint32_t types = btfdump_value(opened);
 
-	if (by_id)
+	if (by_id == 1)
 		for (uint32_t id = types; id > 0 && !wrong; id--)
 			wrong = one_request(&m, &z, id);
+	for (uint32_t turn = 0; by_id == 2 && turn < 3 && !wrong; turn++) {
+		fill_list(types, turn);
+		wrong = one_request(&m, &z, LIST);
+	}
 	for (int i = 0; i < 2 && !wrong; i++)
-		wrong = one_request(&m, &z, 0);
+		wrong = one_request(&m, &z, ALL);
 	if (wrong) {
 		differ++;
 		printf("%s: case '%.*s': %s\n", path, (int)c->name_len, (const char *)c->name, wrong);
@@ -140,8 +164,8 @@ static void one_file(const char *path)
 			const uint8_t *p = c.calls + 32 * (size_t)i;
 
 			if (u32_at(p) == OPENING && u32_at(p + 24) == 0) {
-				one_session(path, &c, p, 0);
-				one_session(path, &c, p, 1);
+				for (int how = 0; how < 3; how++)
+					one_session(path, &c, p, how);
 				break;
 			}
 		}
@@ -168,7 +192,7 @@ static void known_counts(void)
 	under(&m, &z, 2, MOST, &made);
 	if (made != 4)
 		differ++, printf("ceilings: %llu calls for the struct, not 4\n", (unsigned long long)made);
-	under(&m, &z, 0, MOST, &made);
+	under(&m, &z, ALL, MOST, &made);
 	if (made != 3)
 		differ++, printf("ceilings: %llu calls for all that is ordered, not 3\n", (unsigned long long)made);
 	under(&m, &z, 4, MOST, &made);
