@@ -103,6 +103,8 @@ enum btfdump_number {
 	BTFDUMP_NO_DECLARATION = 19, /* the text is no declaration that is covered, or has over 512 entries */
 	/* btfdump_field only; nothing is touched */
 	BTFDUMP_NO_MEMBER = 21,      /* no member covers the bit, or the type is no struct or union */
+	/* requests under a ceiling only; as after 12 */
+	BTFDUMP_CEILING = 22,        /* one more call of the ordering rule would pass the ceiling */
 	/* opening, and reading a declaration into too few words; nothing is touched */
 	BTFDUMP_RECORD_TOO_SHORT = 255 /* record_len is under BTFDUMP_RECORD_SIZE (requests: BTFDUMP_NOT_OPEN) */
 };
@@ -152,6 +154,35 @@ btfdump_answer btfdump_dump_list(uint8_t *record, size_t record_len,
 				 uint8_t *work, size_t work_len,
 				 uint8_t *text, size_t text_len,
 				 const uint8_t *ids, size_t ids_len);
+
+/*
+ * Requests under a ceiling. Ordering follows members, targets and parameters by
+ * calls of one rule, and on a table made for it their number doubles at each
+ * level. `ceiling` is how many calls this request may make, all its ids together;
+ * one more is refused by 22, which closes the session as 12 does. How many were
+ * made is stored in *made, after a refusal too: the ceiling after 22, and 0 after
+ * 10 and 11. Where 22 does not come, everything else is as after the plain call,
+ * and so it is, with the same count, under every larger ceiling. An id that is
+ * ordered already makes one call.
+ */
+btfdump_answer btfdump_dump_type_within(uint8_t *record, size_t record_len,
+					const uint8_t *section, size_t section_len,
+					uint8_t *work, size_t work_len,
+					uint8_t *text, size_t text_len,
+					uint32_t id, uint64_t ceiling, uint64_t *made);
+
+btfdump_answer btfdump_dump_types_within(uint8_t *record, size_t record_len,
+					 const uint8_t *section, size_t section_len,
+					 uint8_t *work, size_t work_len,
+					 uint8_t *text, size_t text_len,
+					 uint64_t ceiling, uint64_t *made);
+
+btfdump_answer btfdump_dump_list_within(uint8_t *record, size_t record_len,
+					const uint8_t *section, size_t section_len,
+					uint8_t *work, size_t work_len,
+					uint8_t *text, size_t text_len,
+					const uint8_t *ids, size_t ids_len,
+					uint64_t ceiling, uint64_t *made);
 
 /* The length of the text so far, of a record that an opening wrote. */
 static inline uint32_t btfdump_text_len(const uint8_t *record)

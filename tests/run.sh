@@ -18,6 +18,7 @@ compile replay tests/replay.c
 compile limits tests/limits.c
 compile guard tests/guard.c
 compile lists tests/lists.c
+compile ceilings tests/ceilings.c
 compile field tests/field.c
 compile declarations tests/declarations.c
 compile btfheader tools/btfheader.c
@@ -44,6 +45,7 @@ for file in "${files[@]}"; do
 done
 "$out/limits"
 "$out/lists" "${files[@]}"
+"$out/ceilings" "${files[@]}"
 "$out/field" "${files[@]}"
 "$out/declarations"
 "$out/guard" 20000 1 "${files[@]}"

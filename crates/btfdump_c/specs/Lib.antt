@@ -1,4 +1,5 @@
 -- What each call for C comes to.
 pub mod Exports
 pub mod Field
+pub mod Ceilings
 pub mod Declarations

@@ -53,7 +53,7 @@ module _ (b : List ℕ) where
   count-is : countIn b ≡ length b / 4 - (length b / 4 - 4294967295)
   count-is = ⊎-elim (λ l. count-few l ∙ omega arith) (λ l. count-many l ∙ omega arith) (le-or-lt (length b / 4) 4294967295)
 
-  ids-all : idsIn b ≡ idsFrom b 0 (countIn b)
+  pub ids-all : idsIn b ≡ idsFrom b 0 (countIn b)
   unfolding idsIn idsFrom words
   ids-all = take-table (getWord b) 4294967295 0 (length b / 4) ∙ ap (table (getWord b) 0) (sym count-is)
 
@@ -64,7 +64,7 @@ module _ (b : List ℕ) where
       let e : countIn b ≡ 0 = count-is ∙ omega arith in
       ids-all ∙ ap (idsFrom b 0) e
 
-  ids-cons : (k n : ℕ) → k < n → idsFrom b k (n - k) ≡ getWord b k ∷ idsFrom b (k + 1) (n - (k + 1))
+  pub ids-cons : (k n : ℕ) → k < n → idsFrom b k (n - k) ≡ getWord b k ∷ idsFrom b (k + 1) (n - (k + 1))
   unfolding idsFrom
   ids-cons k n h =
       let e : n - k ≡ suc (n - (k + 1)) = omega arith in
@@ -87,7 +87,7 @@ tail-zeroed zero len t t′ h e = absurd (h refl)
 tail-zeroed (suc n) len t t′ h e = e
 
 module _ (n len : ℕ) (t : List ℕ) (short : len ≤ length t) where
-  tail-length : length (tailed n len t) ≡ length t
+  pub tail-length : length (tailed n len t) ≡ length t
   unfolding tailed
   tail-length = go n
     where
@@ -95,7 +95,7 @@ module _ (n len : ℕ) (t : List ℕ) (short : len ≤ length t) where
       go zero = refl
       go (suc k) = zeros-length len (length t) t short short
 
-  tail-head : take len t ≡ take len (tailed n len t)
+  pub tail-head : take len t ≡ take len (tailed n len t)
   unfolding tailed
   tail-head = go n
     where
@@ -114,7 +114,7 @@ module _ (s : Session) (r : Tally) (w t t′ : List ℕ) (a : Answer) (ea : a �
   end-closed h et w′ ew es = (λ i. callOf (es i) (ea i) (ew i) (et i)) ∙ sym (rw (lt-leb (r .number) 10 h, listEnd))
 
 -- ---- one id after another
-sane-listed : (l : ℕ) (p : List ℕ) (n : ℕ) (q : Reach) → Sane l p n q → (c len : ℕ) (t : List ℕ) → q ≡ refusedBy c len t → Listed c
+pub sane-listed : (l : ℕ) (p : List ℕ) (n : ℕ) (q : Reach) → Sane l p n q → (c len : ℕ) (t : List ℕ) → q ≡ refusedBy c len t → Listed c
 sane-listed l p n _ (on len′ w u a b d e) c len t q = let z : _≡_ {A = ℕ} 0 1 = cc in absurd (omega arith)
 sane-listed l p n _ (off c′ len′ u k a b d e) c len t q = let z : c′ ≡ c = cc in (omega (arith, k .0), omega (arith, k .1))
 
@@ -134,18 +134,18 @@ module _ (s : Session) (section : List ℕ) where
 
   -- a call on another text that begins alike comes to what the request comes to
   module _ (es : s .«section_len» ≡ length section) (len : ℕ) (w t t′ : List ℕ) (ew : s .«work_len» ≡ length w) (lt : length t′ ≡ length t) (h : len ≤ length t) (same : take len t ≡ take len t′) (id : ℕ) where
-    current : isCurrent (withText s true len) (length section) (length w) (length t′) ≡ true
+    pub current : isCurrent (withText s true len) (length section) (length w) (length t′) ≡ true
     unfolding isCurrent
     current = λ i. true && (eq-eqb (s .«section_len») (length section) es i && (eq-eqb (s .«work_len») (length w) ew i && le-leb len (length t′) (omega arith) i))
 
-    called : id < s .types → typeCall (withText s true len) section w t′ id ≡ settled s (length w) (length t) (requested (tableFor s section) section id len w t)
+    pub called : id < s .types → typeCall (withText s true len) section w t′ id ≡ settled s (length w) (length t) (requested (tableFor s section) section id len w t)
     called l =
         type-settles (withText s true len) section w t′ id current l
         ∙ ap (λ (n : ℕ). settled (withText s true len) (length w) n (requested (tableFor s section) section id len w t′)) lt
         ∙ settled-with s len (length w) (length t) (requested (tableFor s section) section id len w t′)
         ∙ pair-settled (length w) (length t) _ _ (request-pair (length w) (length t) len t t′ refl lt h same (tableFor s section) section id w refl)
 
-    past : s .types ≤ id → typeCall (withText s true len) section w t′ id ≡ unchanged (withText s true len) (Refused 10 len) w t′
+    pub past : s .types ≤ id → typeCall (withText s true len) section w t′ id ≡ unchanged (withText s true len) (Refused 10 len) w t′
     past l = type-not-below (withText s true len) section w t′ id current l
 
   -- where the loop stands: k accepted, the text has len bytes; whole: what the call comes to
@@ -224,7 +224,7 @@ module _ (s : Session) (section : List ℕ) where
     pub its-text : s .«text_len» ≤ length t
     its-text = current-fits s (length section) (length w) (length t) true (sym h) refl
 
-    open-now : s .«open» ≡ true
+    pub open-now : s .«open» ≡ true
     unfolding isCurrent
     open-now = first-of (s .«open») (eqb (s .«section_len») (length section) && (eqb (s .«work_len») (length w) && leb (s .«text_len») (length t))) h
       where

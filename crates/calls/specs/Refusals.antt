@@ -9,6 +9,8 @@ pub data Cause : Type 0 where
   pointerSize sectionOver badHeader badStrings badRecord badReference prototype loop workShort : Cause
   -- of requests
   notCurrent idNotBelow tooDeep cycle nameless alignZero overflow textFull misplaced : Cause
+  -- of requests under a ceiling
+  ceilingPassed : Cause
 
 unfoldable pub number : Cause → ℕ
 number pointerSize = 1
@@ -29,6 +31,7 @@ number alignZero = 15
 number overflow = 16
 number textFull = 17
 number misplaced = 18
+number ceilingPassed = 22
 
 -- "number, 0 types" at opening, and "number, old text length" of a request
 unfoldable pub value : Cause → ℕ → ℕ
@@ -50,6 +53,7 @@ value alignZero len = len
 value overflow len = len
 value textFull len = len
 value misplaced len = len
+value ceilingPassed len = len
 
 -- a refusal by a row of the table, where the text has this length
 abbrev pub refusal : Cause → ℕ → Answer

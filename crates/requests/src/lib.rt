@@ -153,7 +153,7 @@ pub fn dump_types_core(s: Session, section: &[u8], work: &mut [u8], text: &mut [
 }
 
 // How many ids there are: as many as the answer's value can count, at most.
-fn count_of(ids: &[u8]) -> u32
+pub fn count_of(ids: &[u8]) -> u32
     ensures { λ r. ⌜ r ≡ countIn (now (ids .entry)) ⌝ }
 {
     let n = ids.len() / 4;
@@ -211,7 +211,7 @@ fn clear_after(text: &mut [u8], accepted: u32, len: u32)
 }
 
 // The end of a call with a list: 10 leaves what the accepted ids left, 12 to 17 close the session.
-fn settle_list(s: Session, work: &mut [u8], text: &mut [u8], r: Tally) -> Turn
+pub fn settle_list(s: Session, work: &mut [u8], text: &mut [u8], r: Tally) -> Turn
     ensures { λ t. ⌜ callOf (t .session) (t .answer) (now (work .exit)) (now (text .exit)) ≡ listEnd s r (now (work .entry)) (now (text .entry)) ⌝ }
 {
     let len = r.len;

@@ -1,6 +1,9 @@
-// Requests under a ceiling on the calls of the ordering rule: one id, and all ids.
+// Requests under a ceiling on the calls of the ordering rule: one id, all ids, and a list of ids.
+mod lists;
+
 use btf::Btf;
 use header::btf_of;
+pub use lists::dump_list_within;
 use turns::Reached;
 use turns::Session;
 use turns::Turn;
