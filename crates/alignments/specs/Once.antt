@@ -7,7 +7,7 @@ use mathlib.Core.List.{List, [], _∷_}
 use mathlib.Core.Logic.{_⊎_}
 use lib.ListN.{length}
 use lib.Dec.{ltb, leb, eqb}
-use Rattle.rules.specs.Writer.{Ask, got, no, tooDeep}
+use Rattle.rules.specs.Writer.{Ask, got, no, askThen, tooDeep}
 use Rattle.rules.specs.Types.{Member, BtfType, Void, Int, Ptr, Array, Composite, Enum, Enum64, Fwd, Typedef, Mod, Func, Var, Datasec, FuncProto, Float, DeclTag, TypeTag, Btf}
 use Rattle.rules.specs.Layout.{larger, smaller, octets, getAlignOf}
 
@@ -112,10 +112,18 @@ module _ {M : Type 0} where
           | unknown ↦ onceThen (typeOnce B (λ t m′ k′. alignOnce left B t m′ k′) (B .type-by-id id) m (suc k)) (keepOnce id)
         ]
 
+    unfoldable pub alignmentOnce : ℕ → Btf → ℕ → Asking M ℕ
+    alignmentOnce left B id m k = onceThen (alignOnce left B id m k) (λ s. found (s .align))
+
     -- alignments in a row, each with the calls that may be open for it, up to the first refusal
     unfoldable pub listOnce : Btf → List (ℕ × ℕ) → Asking M (List ℕ)
     listOnce B [] m k = found [] m k
-    listOnce B (a ∷ rest) m k = onceThen (alignOnce (a .0) B (a .1) m k) (λ s m′ k′. onceThen (listOnce B rest m′ k′) (λ l. found (s .align ∷ l)))
+    listOnce B (a ∷ rest) m k = onceThen (alignmentOnce (a .0) B (a .1) m k) (λ x m′ k′. onceThen (listOnce B rest m′ k′) (λ l. found (x ∷ l)))
+
+-- the same questions, put to the plain way
+unfoldable pub listPlain : Btf → List (ℕ × ℕ) → Ask (List ℕ)
+listPlain B [] = got []
+listPlain B (a ∷ rest) = askThen (getAlignOf (a .0) B (a .1)) (λ x. askThen (listPlain B rest) (λ l. got (x ∷ l)))
 
 -- ---- what is right
 -- the plain way's answer about a type that is seen, with n calls left
