@@ -116,10 +116,10 @@ module _ {M : Type 0} (K : Keep M) (B : Btf) (n : ℕ) (Good : M → Type 0) (la
     fair-measured : (m : M) (k : ℕ) → Honest m k → Fair (measured B is-struct sz ms) (measuredOnce K B is-struct id sz ms m k)
     unfolding measured measuredOnce judged
     fair-measured m k h =
-        fair-then (unionAlign B is-struct ms) (unionAlignOnce K B is-struct id m k) (λ a. askThen (isStructPacked B is-struct sz ms) (λ packed. judged K B is-struct sz ms a packed))
-        (λ a m′ k′. onceThen (packedOnce K B is-struct id sz ms m′ k′) (λ packed. plainly (judged K B is-struct sz ms a packed))) (fair-union m k h)
-        (λ a m′ k′ h′. fair-then (isStructPacked B is-struct sz ms) (packedOnce K B is-struct id sz ms m′ k′) (λ packed. judged K B is-struct sz ms a packed) (λ packed. plainly (judged K B is-struct sz ms a packed))
-        (fair-packed m′ k′ h′) (λ packed m″ k″ h″. fair-plainly (judged K B is-struct sz ms a packed) m″ k″ h″))
+        fair-then (unionAlign B is-struct ms) (unionAlignOnce K B is-struct id m k) (λ a. askThen (isStructPacked B is-struct sz ms) (λ packed. judged B is-struct sz ms a packed))
+        (λ a m′ k′. onceThen (packedOnce K B is-struct id sz ms m′ k′) (λ packed. plainly (judged B is-struct sz ms a packed))) (fair-union m k h)
+        (λ a m′ k′ h′. fair-then (isStructPacked B is-struct sz ms) (packedOnce K B is-struct id sz ms m′ k′) (λ packed. judged B is-struct sz ms a packed) (λ packed. plainly (judged B is-struct sz ms a packed))
+        (fair-packed m′ k′ h′) (λ packed m″ k″ h″. fair-plainly (judged B is-struct sz ms a packed) m″ k″ h″))
 
     -- what is asked before a body's first name or byte
     pub fair-body : (m : M) (k : ℕ) → Honest m k → Fair (bodyPacked B is-struct sz ms) (bodyOnce K B is-struct id sz ms m k)

@@ -1,3 +1,4 @@
 pub mod Right
 pub mod Counted
 pub mod Fair
+pub mod Writers

@@ -23,6 +23,13 @@ module _ {M : Type 0} where
         | false ↦ elim (eqb (bit-offset % (a * 8)) 0) [ true ↦ rest m k | false ↦ found true m k ]
       ]
 
+-- sizes, ends and the size of the whole, which ask for no alignment
+unfoldable pub judged : Btf → Bool → ℕ → List Member → ℕ → Bool → Ask Bool
+judged B is-struct sz ms a packed =
+    askThen (extentOf B is-struct packed noExtent ms) (λ x.
+    askThen (checked (8 * sz)) (λ bits.
+    elim (x .fits && sizeFits is-struct a (x .last) bits) [ true ↦ got packed | false ↦ no misplaced ]))
+
 module _ {M : Type 0} (K : Keep M) (B : Btf) where
   unfoldable pub membersPackedOnce : List Member → Asking M Bool
   membersPackedOnce [] m k = found false m k
@@ -53,16 +60,9 @@ module _ {M : Type 0} (K : Keep M) (B : Btf) where
   unfoldable pub unionAlignOnce : Bool → ℕ → Asking M ℕ
   unionAlignOnce is-struct id m k = elim is-struct [ true ↦ found 1 m k | false ↦ alignmentOnce K 512 B id m k ]
 
-  -- sizes, ends and the size of the whole, which ask for no alignment
-  unfoldable pub judged : Bool → ℕ → List Member → ℕ → Bool → Ask Bool
-  judged is-struct sz ms a packed =
-      askThen (extentOf B is-struct packed noExtent ms) (λ x.
-      askThen (checked (8 * sz)) (λ bits.
-      elim (x .fits && sizeFits is-struct a (x .last) bits) [ true ↦ got packed | false ↦ no misplaced ]))
-
   unfoldable pub measuredOnce : Bool → ℕ → ℕ → List Member → Asking M Bool
   measuredOnce is-struct id sz ms m k =
-      onceThen (unionAlignOnce is-struct id m k) (λ a m₁ k₁. onceThen (packedOnce is-struct id sz ms m₁ k₁) (λ packed. plainly (judged is-struct sz ms a packed)))
+      onceThen (unionAlignOnce is-struct id m k) (λ a m₁ k₁. onceThen (packedOnce is-struct id sz ms m₁ k₁) (λ packed. plainly (judged B is-struct sz ms a packed)))
 
   -- what is known of a body before its first name or byte
   unfoldable pub bodyOnce : Bool → ℕ → ℕ → List Member → Asking M Bool
