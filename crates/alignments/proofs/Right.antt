@@ -153,7 +153,7 @@ module _ {M : Type 0} (K : Keep M) (B : Btf) where
             (membersOnce ask (widest s t) xs m′ k′) (on t m′ k′ (both-below (s .height) (t .height) left l (q .1)) (q .2))
         go on (refused c m′ k′) q = (
           after-got s s left (λ a. askThen (getAlignOf left B (x .type-id)) (λ b. alignMembers (getAlignOf left B) (larger a b) xs)) l
-          ∙ ap (λ (y : Ask ℕ). askThen y (λ b. alignMembers (getAlignOf left B) (larger (s .align) b) xs)) (q .0),
+              ∙ ap (λ (y : Ask ℕ). askThen y (λ b. alignMembers (getAlignOf left B) (larger (s .align) b) xs)) (q .0),
           q .1,
           q .2,
         )
