@@ -6,13 +6,13 @@ use mathlib.Core.Bool.{Bool, true, false}
 use mathlib.Core.List.{List, [], _∷_, List·Memᴰ, List·Memᴰ·head, List·Memᴰ·tail}
 use mathlib.Core.Logic.{_⊎_, inl, inr, ⊎-elim}
 use lib.ListN.{length}
-use lib.Dec.{leb}
+use Rattle.lent.proofs.Laws.{le-or-lt}
 use Rattle.rules.specs.Writer.{Ask, got, no, askThen, tooDeep}
 use Rattle.rules.specs.Types.{Member, BtfType, Void, Int, Ptr, Array, Composite, Enum, Enum64, Fwd, Typedef, Mod, Func, Var, Datasec, FuncProto, Float, DeclTag, TypeTag, Btf, nodeOf, memberTypes, tableOf}
 use Rattle.rules.specs.Layout.{alignOf, getAlignOf}
 use Rattle.demand.specs.Needs.{kids}
 use Rattle.alignments.specs.Once.{Seen, Known, unknown, known, Keep, Lawful, Once, found, refused, Asking, onceThen, answerOf, memoryAfter, above, alone, widest, membersOnce, taken, typeOnce, keepOnce, alignOnce, listOnce, within, Tells, Right, Grows, memberCount, membersTo, cost, paidTo}
-use Rattle.alignments.proofs.Right.{known-unknown, same-or, Told, align-of, New, type-told, not-inside, told}
+use Rattle.alignments.proofs.Right.{known-unknown, same-or, taken-found, taken-refused, Told, align-of, New, type-told, not-inside, told}
 
 -- ---- what is remembered at one place more
 module _ (B : Btf) (f f′ : ℕ → Known) (id : ℕ) (other : (d : ℕ) → (d ≡ id → ⊥) → f′ d ≡ f d) where
@@ -111,12 +111,8 @@ module _ {M : Type 0} (K : Keep M) (B : Btf) (n : ℕ) (Good : M → Type 0) (la
     type-count (TypeTag a i t) b m k r g = c t m k (b t (List·Memᴰ·head refl)) r g
 
   taken-count : (left : ℕ) (s : Seen) (m : M) (k : ℕ) → Good m → Counts 0 m k (taken left s m k)
-  unfolding taken
-  taken-count left s m k g = by (leb (s .height) left)
-    where
-      by : (b : Bool) → Counts 0 m k (elim b as (λ (b : Bool). Once M Seen) [ true ↦ found s m k | false ↦ refused tooDeep m k ])
-      by true = (g, omega arith)
-      by false = tt
+  taken-count left s m k g =
+      ⊎-elim (λ l. subst (Counts 0 m k) (sym (taken-found left s m k l)) (g, omega arith)) (λ l. subst (Counts 0 m k) (sym (taken-refused left s m k l)) tt) (le-or-lt (s .height) left)
 
   keep-count : (left id : ℕ) (m : M) (k : ℕ) → id < n → K .recall m id ≡ unknown → (r : Once M Seen) → Told K B (λ i. alignOf B (getAlignOf i B) (B .type-by-id id)) left m r
       → Counts (memberCount (B .type-by-id id)) m (suc k) r → Counts 0 m k (onceThen r (keepOnce K id))

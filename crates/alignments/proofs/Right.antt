@@ -102,6 +102,16 @@ no-lower s s′ g h =
     (λ l. absurd (no-got 12 (s′ .align) (sym (after-no s s (s′ .height) (g (s′ .height)) l) ∙ h (s′ .height) ∙ within-got s′ (s′ .height) (omega arith))))
     (le-or-lt (s .height) (s′ .height))
 
+-- "taking a remembered alignment counts none"
+module _ {M : Type 0} (left : ℕ) (s : Seen) (m : M) (k : ℕ) where
+  pub taken-found : s .height ≤ left → taken left s m k ≡ found s m k
+  unfolding taken
+  taken-found l = rw (le-leb (s .height) left l, taken)
+
+  pub taken-refused : left < s .height → taken left s m k ≡ refused tooDeep m k
+  unfolding taken
+  taken-refused l = rw (lt-leb (s .height) left l, taken)
+
 module _ {M : Type 0} (K : Keep M) (B : Btf) where
   -- what was not remembered before is no higher than h
   abbrev pub New : ℕ → M → M → Type 0
@@ -187,13 +197,10 @@ module _ {M : Type 0} (K : Keep M) (B : Btf) where
   -- ---- one type
   module _ (n : ℕ) (Good : M → Type 0) (law : Lawful K n Good) where
     taken-told : (left id : ℕ) (s : Seen) (m : M) (k : ℕ) → Right K B m → K .recall m id ≡ known s → Told (align-of id) left m (taken left s m k)
-    unfolding taken
     taken-told left id s m k r e =
         ⊎-elim
-        (λ l. subst (λ (b : Bool). Told (align-of id) left m (elim b as (λ (b : Bool). Once M Seen) [ true ↦ found s m k | false ↦ refused tooDeep m k ])) (sym (le-leb (s .height) left l))
-        (r id s e, l, r, λ d s q. q, λ d s q. inl q))
-        (λ l. subst (λ (b : Bool). Told (align-of id) left m (elim b as (λ (b : Bool). Once M Seen) [ true ↦ found s m k | false ↦ refused tooDeep m k ])) (sym (lt-leb (s .height) left l))
-        (r id s e left ∙ within-no s left l, r, λ d s q. q))
+        (λ l. subst (Told (align-of id) left m) (sym (taken-found left s m k l)) (r id s e, l, r, λ d s q. q, λ d s q. inl q))
+        (λ l. subst (Told (align-of id) left m) (sym (taken-refused left s m k l)) (r id s e left ∙ within-no s left l, r, λ d s q. q))
         (le-or-lt (s .height) left)
 
     -- what the plain way says of id, from what its calls below come to
