@@ -5,3 +5,4 @@ pub mod Tables
 pub mod Writers
 pub mod Session
 pub mod Samples
+pub mod Opened
