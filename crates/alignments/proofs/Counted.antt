@@ -12,7 +12,7 @@ use Rattle.rules.specs.Types.{Member, BtfType, Void, Int, Ptr, Array, Composite
 use Rattle.rules.specs.Layout.{alignOf, getAlignOf}
 use Rattle.demand.specs.Needs.{kids}
 use Rattle.alignments.specs.Once.{Seen, Known, unknown, known, Keep, Lawful, Once, found, refused, Asking, onceThen, answerOf, memoryAfter, above, alone, widest, membersOnce, taken, typeOnce, keepOnce, alignOnce, listOnce, within, Tells, Right, Grows, memberCount, membersTo, cost, paidTo}
-use Rattle.alignments.proofs.Right.{known-unknown, same-or, taken-found, taken-refused, Told, align-of, New, type-told, not-inside, told}
+use Rattle.alignments.proofs.Right.{known-unknown, same-or, taken-found, taken-refused, above-tells, Told, align-of, New, type-told, not-inside, told}
 
 -- ---- what is remembered at one place more
 module _ (B : Btf) (f f′ : ℕ → Known) (id : ℕ) (other : (d : ℕ) → (d ≡ id → ⊥) → f′ d ≡ f d) where
@@ -64,7 +64,8 @@ unfolding paidTo cost
 paid-none B f h zero = refl
 paid-none B f h (suc n) = ap (λ (q : Known). paidTo B f n + cost q (B .type-by-id n)) (h n) ∙ omega (arith, paid-none B f h n)
 
-module _ {M : Type 0} (K : Keep M) (B : Btf) (n : ℕ) (Good : M → Type 0) (law : Lawful K n Good) where
+module _ {M : Type 0} (K : Keep M) (B : Btf) (n : ℕ) (Good : M → Type 0) (Fits : Seen → Type 0) (law : Lawful K n Good Fits)
+    (fits : (id : ℕ) (s : Seen) → Tells B id s → s .height ≤ 512 → Fits s) where
   abbrev paid : M → ℕ
   paid m = paidTo B (K .recall m) n
 
@@ -114,27 +115,27 @@ module _ {M : Type 0} (K : Keep M) (B : Btf) (n : ℕ) (Good : M → Type 0) (la
   taken-count left s m k g =
       ⊎-elim (λ l. subst (Counts 0 m k) (sym (taken-found left s m k l)) (g, omega arith)) (λ l. subst (Counts 0 m k) (sym (taken-refused left s m k l)) tt) (le-or-lt (s .height) left)
 
-  keep-count : (left id : ℕ) (m : M) (k : ℕ) → id < n → K .recall m id ≡ unknown → (r : Once M Seen) → Told K B (λ i. alignOf B (getAlignOf i B) (B .type-by-id id)) left m r
+  keep-count : (left id : ℕ) → left < 512 → (m : M) (k : ℕ) → id < n → K .recall m id ≡ unknown → (r : Once M Seen) → Told K B (λ i. alignOf B (getAlignOf i B) (B .type-by-id id)) left m r
       → Counts (memberCount (B .type-by-id id)) m (suc k) r → Counts 0 m k (onceThen r (keepOnce K id))
   unfolding onceThen keepOnce
-  keep-count left id m k l u (refused c m′ k′) t d = tt
-  keep-count left id m k l u (found s m′ k′) t d = (law .good id (above s) m′ (d .0), omega (arith, d .1, more (K .recall m′ id) refl))
+  keep-count left id b m k l u (refused c m′ k′) t d = tt
+  keep-count left id b m k l u (found s m′ k′) t d = (law .good id (above s) m′ (d .0), omega (arith, d .1, more (K .recall m′ id) refl))
     where
       more : (q : Known) → K .recall m′ id ≡ q → paid (K .remember id (above s) m′) ≡ paid m′ + suc (memberCount (B .type-by-id id))
-      more unknown e = paid-more B (K .recall m′) (K .recall (K .remember id (above s) m′)) id (law .other id (above s) m′) (above s) e (law .same id (above s) m′ (d .0) l) n l
-      more (known x) e = absurd (not-inside K B n Good law id m m′ s u (t .0) (t .2) (t .4) x e)
+      more unknown e = paid-more B (K .recall m′) (K .recall (K .remember id (above s) m′)) id (law .other id (above s) m′) (above s) e (law .same id (above s) m′ (fits id (above s) (above-tells K B n Good Fits law id s (t .0)) (omega (arith, t .1))) (d .0) l) n l
+      more (known x) e = absurd (not-inside K B n Good Fits law id m m′ s u (t .0) (t .2) (t .4) x e)
 
   -- what a type follows lies below the count (cause 6 of opening)
   module _ (below : (x y : ℕ) → List·Memᴰ y (kids (nodeOf (B .type-by-id x))) → y < n) where
-    pub counts : (left id : ℕ) (m : M) (k : ℕ) → id < n → Right K B m → Good m → Counts 0 m k (alignOnce K left B id m k)
+    pub counts : (left id : ℕ) → left ≤ 512 → (m : M) (k : ℕ) → id < n → Right K B m → Good m → Counts 0 m k (alignOnce K left B id m k)
     unfolding alignOnce
-    counts zero id m k l r g = tt
-    counts (suc left) id m k l r g = go (λ t m′ k′. counts left t m′ k′) (K .recall m id) refl
+    counts zero id b m k l r g = tt
+    counts (suc left) id b m k l r g = go (λ t m′ k′. counts left t (omega arith) m′ k′) (K .recall m id) refl
       where
         go : ((t : ℕ) (m′ : M) (k′ : ℕ) → t < n → Right K B m′ → Good m′ → Counts 0 m′ k′ (alignOnce K left B t m′ k′)) → (q : Known) → K .recall m id ≡ q
             → Counts 0 m k (elim q as (λ (q : Known). Once M Seen) [ known s ↦ taken (suc left) s m k | unknown ↦ onceThen (typeOnce B (λ t m′ k′. alignOnce K left B t m′ k′) (B .type-by-id id) m (suc k)) (keepOnce K id) ])
         go on (known s) e = taken-count (suc left) s m k g
         go on unknown e =
-            keep-count left id m k l e (typeOnce B (λ t m′ k′. alignOnce K left B t m′ k′) (B .type-by-id id) m (suc k))
-            (type-told K B left (λ t m′ k′. alignOnce K left B t m′ k′) (λ t m′ k′. told K B n Good law left t m′ k′) (B .type-by-id id) m (suc k) r)
-            (type-count left (λ t m′ k′. alignOnce K left B t m′ k′) (λ t m′ k′. told K B n Good law left t m′ k′) on (B .type-by-id id) (below id) m (suc k) r g)
+            keep-count left id b m k l e (typeOnce B (λ t m′ k′. alignOnce K left B t m′ k′) (B .type-by-id id) m (suc k))
+            (type-told K B left (λ t m′ k′. alignOnce K left B t m′ k′) (λ t m′ k′. told K B n Good Fits law left t m′ k′) (B .type-by-id id) m (suc k) r)
+            (type-count left (λ t m′ k′. alignOnce K left B t m′ k′) (λ t m′ k′. told K B n Good Fits law left t m′ k′) on (B .type-by-id id) (below id) m (suc k) r g)

@@ -16,7 +16,8 @@ use Rattle.alignments.specs.Steps.{plainly, offAlignOnce, membersPackedO
 use Rattle.alignments.proofs.Right.{within-got, Told, align-of, told}
 use Rattle.alignments.proofs.Counted.{paid-most, paid-none, Counts, counts}
 
-module _ {M : Type 0} (K : Keep M) (B : Btf) (n : ℕ) (Good : M → Type 0) (law : Lawful K n Good) (below : (x y : ℕ) → List·Memᴰ y (kids (nodeOf (B .type-by-id x))) → y < n) where
+module _ {M : Type 0} (K : Keep M) (B : Btf) (n : ℕ) (Good : M → Type 0) (Fits : Seen → Type 0) (law : Lawful K n Good Fits)
+    (fits : (id : ℕ) (s : Seen) → Tells B id s → s .height ≤ 512 → Fits s) (below : (x y : ℕ) → List·Memᴰ y (kids (nodeOf (B .type-by-id x))) → y < n) where
   -- a right memory, and the visits that it took
   pub record Honest (m : M) (k : ℕ) : Type 0 where
     pub right : Right K B m
@@ -46,23 +47,26 @@ module _ {M : Type 0} (K : Keep M) (B : Btf) (n : ℕ) (Good : M → Type 0) (la
   fair-plainly (got a) m k h = (refl, h)
   fair-plainly (no c) m k h = refl
 
-  module _ (left id : ℕ) (l : id < n) (m : M) (k : ℕ) (h : Honest m k) where
-    from-told : (r : Once M Seen) → Told K B (align-of K B id) left m r → Counts K B n Good law 0 m k r → Fair (getAlignOf left B id) (onceThen r (λ s. found (s .align)))
+  calls : 512 ≤ 512
+  calls = omega arith
+
+  module _ (left id : ℕ) (b : left ≤ 512) (l : id < n) (m : M) (k : ℕ) (h : Honest m k) where
+    from-told : (r : Once M Seen) → Told K B (align-of K B id) left m r → Counts K B n Good Fits law fits 0 m k r → Fair (getAlignOf left B id) (onceThen r (λ s. found (s .align)))
     unfolding onceThen
     from-told (found s m′ k′) t c = (t .0 left ∙ within-got s left (t .1), record { right = t .2; good = c .0; visits = omega (arith, c .1, h .visits) })
     from-told (refused c m′ k′) t d = t .0
 
     pub fair-align : Fair (getAlignOf left B id) (alignmentOnce K left B id m k)
     unfolding alignmentOnce
-    fair-align = from-told (alignOnce K left B id m k) (told K B n Good law left id m k (h .right)) (counts K B n Good law below left id m k l (h .right) (h .good))
+    fair-align = from-told (alignOnce K left B id m k) (told K B n Good Fits law left id m k (h .right)) (counts K B n Good Fits law fits below left id b m k l (h .right) (h .good))
 
   -- questions in a row
-  pub fair-list : (as′ : List (ℕ × ℕ)) → ((a : ℕ × ℕ) → List·Memᴰ a as′ → a .1 < n) → (m : M) (k : ℕ) → Honest m k → Fair (listPlain B as′) (listOnce K B as′ m k)
+  pub fair-list : (as′ : List (ℕ × ℕ)) → ((a : ℕ × ℕ) → List·Memᴰ a as′ → (a .0 ≤ 512) × (a .1 < n)) → (m : M) (k : ℕ) → Honest m k → Fair (listPlain B as′) (listOnce K B as′ m k)
   unfolding listPlain listOnce
   fair-list [] b m k h = (refl, h)
   fair-list (a ∷ as′) b m k h =
       fair-then (getAlignOf (a .0) B (a .1)) (alignmentOnce K (a .0) B (a .1) m k) (λ x. askThen (listPlain B as′) (λ l. got (x ∷ l))) (λ x m′ k′. onceThen (listOnce K B as′ m′ k′) (λ l. found (x ∷ l)))
-      (fair-align (a .0) (a .1) (b a (List·Memᴰ·head refl)) m k h)
+      (fair-align (a .0) (a .1) (b a (List·Memᴰ·head refl) .0) (b a (List·Memᴰ·head refl) .1) m k h)
       (λ x m′ k′ h′. fair-then (listPlain B as′) (listOnce K B as′ m′ k′) (λ l. got (x ∷ l)) (λ l. found (x ∷ l)) (fair-list as′ (λ c i. b c (List·Memᴰ·tail i)) m′ k′ h′) (λ l m″ k″ h″. (refl, h″)))
 
   -- ---- the steps of a body
@@ -82,7 +86,7 @@ module _ {M : Type 0} (K : Keep M) (B : Btf) (n : ℕ) (Good : M → Type 0) (la
           fair-if (eqb (x .bit-size) 0) (askThen (getAlignOf 512 B (x .type-id)) (λ a. offAlign a (x .bit-offset) (membersPacked B xs))) (membersPacked B xs)
           (onceThen (alignmentOnce K 512 B (x .type-id) m k) (λ a. offAlignOnce a (x .bit-offset) (λ m′ k′. membersPackedOnce K B xs m′ k′))) (membersPackedOnce K B xs m k)
           (fair-then (getAlignOf 512 B (x .type-id)) (alignmentOnce K 512 B (x .type-id) m k) (λ a. offAlign a (x .bit-offset) (membersPacked B xs)) (λ a. offAlignOnce a (x .bit-offset) (λ m′ k′. membersPackedOnce K B xs m′ k′))
-          (fair-align 512 (x .type-id) (b (x .type-id) (List·Memᴰ·head refl)) m k h)
+          (fair-align 512 (x .type-id) calls (b (x .type-id) (List·Memᴰ·head refl)) m k h)
           (λ a m′ k′ h′. fair-off a (x .bit-offset) (membersPacked B xs) (λ m″ k″. membersPackedOnce K B xs m″ k″) m′ k′ h′ (on m′ k′ h′)))
           (on m k h)
 
@@ -96,7 +100,7 @@ module _ {M : Type 0} (K : Keep M) (B : Btf) (n : ℕ) (Good : M → Type 0) (la
     members-below y i = below id y (subst (λ (t : BtfType). List·Memᴰ y (kids (nodeOf t))) (sym e) i)
 
     fair-own : (m : M) (k : ℕ) → Honest m k → Fair (alignMembers (getAlignOf 511 B) 1 ms) (alignmentOnce K 512 B id m k)
-    fair-own m k h = subst (λ (x : Ask ℕ). Fair x (alignmentOnce K 512 B id m k)) (sym own-align) (fair-align 512 id l m k h)
+    fair-own m k h = subst (λ (x : Ask ℕ). Fair x (alignmentOnce K 512 B id m k)) (sym own-align) (fair-align 512 id calls l m k h)
 
     pub fair-packed : (m : M) (k : ℕ) → Honest m k → Fair (isStructPacked B is-struct sz ms) (packedOnce K B is-struct id sz ms m k)
     unfolding isStructPacked packedOnce
@@ -136,5 +140,5 @@ module _ {M : Type 0} (K : Keep M) (B : Btf) (n : ℕ) (Good : M → Type 0) (la
       (refl, h)
       (fair-then (elim packed [ true ↦ got 1 | false ↦ getAlignOf 512 B (x .type-id) ]) (gapAlignOnce K B packed (x .type-id) m k) (λ a. got (padsBefore (B .placing) (B .ptr-sz) offset (x .bit-size) (x .bit-offset - offset) a))
       (λ a. found (padsBefore (B .placing) (B .ptr-sz) offset (x .bit-size) (x .bit-offset - offset) a))
-      (fair-if packed (got 1) (getAlignOf 512 B (x .type-id)) (found 1 m k) (alignmentOnce K 512 B (x .type-id) m k) (refl, h) (fair-align 512 (x .type-id) l m k h))
+      (fair-if packed (got 1) (getAlignOf 512 B (x .type-id)) (found 1 m k) (alignmentOnce K 512 B (x .type-id) m k) (refl, h) (fair-align 512 (x .type-id) calls l m k h))
       (λ a m′ k′ h′. (refl, h′)))

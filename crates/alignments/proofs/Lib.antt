@@ -5,4 +5,3 @@ pub mod Tables
 pub mod Writers
 pub mod Session
 pub mod Samples
-pub mod Opened

@@ -195,7 +195,7 @@ module _ {M : Type 0} (K : Keep M) (B : Btf) where
     type-told (TypeTag a n t) m k r = h t m k r
 
   -- ---- one type
-  module _ (n : ℕ) (Good : M → Type 0) (law : Lawful K n Good) where
+  module _ (n : ℕ) (Good : M → Type 0) (Fits : Seen → Type 0) (law : Lawful K n Good Fits) where
     taken-told : (left id : ℕ) (s : Seen) (m : M) (k : ℕ) → Right K B m → K .recall m id ≡ known s → Told (align-of id) left m (taken left s m k)
     taken-told left id s m k r e =
         ⊎-elim
@@ -204,7 +204,7 @@ module _ {M : Type 0} (K : Keep M) (B : Btf) where
         (le-or-lt (s .height) left)
 
     -- what the plain way says of id, from what its calls below come to
-    above-tells : (id : ℕ) (s : Seen) → ((i : ℕ) → alignOf B (getAlignOf i B) (B .type-by-id id) ≡ within s i) → Tells B id (above s)
+    pub above-tells : (id : ℕ) (s : Seen) → ((i : ℕ) → alignOf B (getAlignOf i B) (B .type-by-id id) ≡ within s i) → Tells B id (above s)
     unfolding getAlignOf
     above-tells id s e zero = sym (within-no (above s) 0 (omega arith))
     above-tells id s e (suc i) = e i ∙ within-above s i

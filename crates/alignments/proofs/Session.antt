@@ -27,7 +27,7 @@ use Rattle.demand.proofs.Lists.{Sized}
 use Rattle.demand.proofs.Session.{machine-lawful}
 use Rattle.demand.proofs.Alike.{AlikeMachine, BothOut, both-wrote, both-stuck, BothSess, BothAnswer, single-alike, every-alike}
 use Rattle.demand.proofs.AnyNames.{Nearly}
-use Rattle.alignments.specs.Once.{Known, unknown, known, Keep, Lawful, Once, found, refused, Asking, Right, membersTo, paidTo}
+use Rattle.alignments.specs.Once.{Seen, Known, unknown, known, Keep, Lawful, Once, found, refused, Asking, Tells, Right, membersTo, paidTo}
 use Rattle.alignments.specs.Steps.{paddingOnce, bodyOnce}
 use Rattle.alignments.specs.Writers.{Minded, minded, answered, givenOnce, definitionOnce, forwardOnce, linesOnce, machineOnce, openedOnce, answerOnce, afterOnce, dumpedOnce}
 use Rattle.alignments.proofs.Right.{known-unknown}
@@ -39,23 +39,24 @@ void-composite : (s : Bool) (m : Name) (z : ℕ) (ms : List Member) → Void ≡
 void-composite s m z ms e = let z : _≡_ {A = ℕ} 0 1 = cc in omega arith
 
 -- the ids of the table are below its count (cause 6 of opening), and past it there is no type
-module _ {U M : Type 0} (K : Keep M) (N : Naming U) (B : Btf) (Good : M → Type 0) (law : Lawful K (B .type-cnt) Good) (wf : WF (tableOf B)) (ends : (id : ℕ) → B .type-cnt ≤ id → B .type-by-id id ≡ Void) where
+module _ {U M : Type 0} (K : Keep M) (N : Naming U) (B : Btf) (Good : M → Type 0) (Fits : Seen → Type 0) (law : Lawful K (B .type-cnt) Good Fits)
+    (fits : (id : ℕ) (s : Seen) → Tells B id s → s .height ≤ 512 → Fits s) (wf : WF (tableOf B)) (ends : (id : ℕ) → B .type-cnt ≤ id → B .type-by-id id ≡ Void) where
   abbrev cnt : ℕ
   cnt = B .type-cnt
 
   abbrev Fine : M → ℕ → Type 0
-  Fine m k = Honest K B cnt Good law (wf .below) m k
+  Fine m k = Honest K B cnt Good Fits law fits (wf .below) m k
 
   -- the same names beside a right memory
   abbrev Pair : Minded U M → U → Type 0
   Pair v u = (v .names ≡ u) × Fine (v .memory) (v .visits)
 
-  module _ {A : Type 0} (ask : Asking M A) (x : Ask A) (h : (m : M) (k : ℕ) → Fine m k → Fair K B cnt Good law (wf .below) x (ask m k)) (f : A → Writer (Minded U M)) (g : A → Writer U) (on : (a : A) → RelW Pair (f a) (g a)) where
+  module _ {A : Type 0} (ask : Asking M A) (x : Ask A) (h : (m : M) (k : ℕ) → Fine m k → Fair K B cnt Good Fits law fits (wf .below) x (ask m k)) (f : A → Writer (Minded U M)) (g : A → Writer U) (on : (a : A) → RelW Pair (f a) (g a)) where
     rel-given : RelW Pair (givenOnce ask f) (given x g)
     unfolding givenOnce answered given
     rel-given v u r = by (ask (v .memory) (v .visits)) (h (v .memory) (v .visits) (r .1))
       where
-        by : (q : Once M A) → Fair K B cnt Good law (wf .below) x q → RelSaid Pair (answered q f v) (given x g u)
+        by : (q : Once M A) → Fair K B cnt Good Fits law fits (wf .below) x q → RelSaid Pair (answered q f v) (given x g u)
         by (found a m k) e = subst (λ (y : Ask A). RelSaid Pair (f a (record { names = v .names; memory = m; visits = k })) (given y g u)) (sym (e .0)) (on a (record { names = v .names; memory = m; visits = k }) u (r .0, e .1))
         by (refused c m k) e = subst (λ (y : Ask A). RelSaid Pair (stop c v) (given y g u)) (sym e) (rel-stop Pair c v u r)
 
@@ -70,11 +71,11 @@ module _ {U M : Type 0} (K : Keep M) (N : Naming U) (B : Btf) (Good : M → Type
 
   rel-body : (id : ℕ) (s : Bool) (name : Name) (sz : ℕ) (ms : List Member) → B .type-by-id id ≡ Composite s name sz ms → (f : Bool → Writer (Minded U M)) (g : Bool → Writer U) → ((p : Bool) → RelW Pair (f p) (g p))
       → RelW Pair (givenOnce (bodyOnce K B s id sz ms) f) (given (bodyPacked B s sz ms) g)
-  rel-body id s name sz ms e f g on = rel-given (bodyOnce K B s id sz ms) (bodyPacked B s sz ms) (λ m k h. fair-body K B cnt Good law (wf .below) id (inside id s name sz ms e) s name sz ms e m k h) f g on
+  rel-body id s name sz ms e f g on = rel-given (bodyOnce K B s id sz ms) (bodyPacked B s sz ms) (λ m k h. fair-body K B cnt Good Fits law fits (wf .below) id (inside id s name sz ms e) s name sz ms e m k h) f g on
 
   rel-pads : (offset : ℕ) (x : Member) (packed : Bool) → x .type-id < cnt → (f : List Pad → Writer (Minded U M)) (g : List Pad → Writer U) → ((p : List Pad) → RelW Pair (f p) (g p))
       → RelW Pair (givenOnce (paddingOnce K B offset x packed) f) (given (bitPadding B offset x packed) g)
-  rel-pads offset x packed l f g on = rel-given (paddingOnce K B offset x packed) (bitPadding B offset x packed) (λ m k h. fair-padding K B cnt Good law (wf .below) offset x packed l m k h) f g on
+  rel-pads offset x packed l f g on = rel-given (paddingOnce K B offset x packed) (bitPadding B offset x packed) (λ m k h. fair-padding K B cnt Good Fits law fits (wf .below) offset x packed l m k h) f g on
 
   -- "Answers and refusals .. must equal those of the plain way": the lines of emission
   pub same-definition : (id : ℕ) → RelW Pair (definitionOnce K N B id (B .type-by-id id)) (definition N B id (B .type-by-id id))
@@ -211,4 +212,4 @@ module _ {U M : Type 0} (K : Keep M) (N : Naming U) (B : Btf) (Good : M → Type
 
     -- "at most types plus members"
     pub session-visits : (rs : List Req) → afterOnce K N B rs (openedOnce K N B u m) .mach .known .names .visits ≤ cnt + membersTo B cnt
-    session-visits rs = at-most K B cnt Good law (wf .below) (afterOnce K N B rs (openedOnce K N B u m) .mach .known .names .memory) (afterOnce K N B rs (openedOnce K N B u m) .mach .known .names .visits) (session-fine rs)
+    session-visits rs = at-most K B cnt Good Fits law fits (wf .below) (afterOnce K N B rs (openedOnce K N B u m) .mach .known .names .memory) (afterOnce K N B rs (openedOnce K N B u m) .mach .known .names .visits) (session-fine rs)

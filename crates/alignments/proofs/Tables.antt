@@ -17,15 +17,18 @@ use Rattle.alignments.proofs.Fair.{Honest, at-most, Fair, fair-list}
 abbrev pub Any : Table → Type 0
 Any m = Unit {0}
 
+abbrev pub Each : Seen → Type 0
+Each s = Unit {0}
+
 -- what is recalled, by the test of `remember`
 abbrev chosen : Seen → Known → Bool → Known
 chosen s q b = elim b [ true ↦ known s | false ↦ q ]
 
-pub table-lawful : (n : ℕ) → Lawful (tableKeep n) n Any
+pub table-lawful : (n : ℕ) → Lawful (tableKeep n) n Any Each
 table-lawful n = record {
   kept = λ id s m. here id s m (ltb id n) refl;
   other = λ id s m d ne. ap (chosen s (m d)) (off d id (ltb id n) ne);
-  same = λ id s m g l. ap (chosen s (m id)) (on id (ltb id n) ∙ lt-ltb id n l);
+  same = λ id s m f g l. ap (chosen s (m id)) (on id (ltb id n) ∙ lt-ltb id n l);
   good = λ id s m g. tt;
 }
   where
@@ -39,14 +42,14 @@ table-lawful n = record {
     here id s m true e = inl (ap (chosen s (m id)) (on id (ltb id n) ∙ e))
     here id s m false e = inr (ap (chosen s (m id)) (on id (ltb id n) ∙ e))
 
--- alignments in a row, of ids below the count: the plain way's answers up to the first refusal; and where there is none, visits that are those of the types
+-- alignments in a row, of ids below the count and with at most 512 calls: the plain way's answers up to the first refusal; and where there is none, visits that are those of the types
 -- remembered and their members
-module _ (B : Btf) (below : (x y : ℕ) → List·Memᴰ y (kids (nodeOf (B .type-by-id x))) → y < B .type-cnt) (asks : List (ℕ × ℕ)) (inside : (a : ℕ × ℕ) → List·Memᴰ a asks → a .1 < B .type-cnt) where
+module _ (B : Btf) (below : (x y : ℕ) → List·Memᴰ y (kids (nodeOf (B .type-by-id x))) → y < B .type-cnt) (asks : List (ℕ × ℕ)) (inside : (a : ℕ × ℕ) → List·Memᴰ a asks → (a .0 ≤ 512) × (a .1 < B .type-cnt)) where
   abbrev asked : Once Table (List ℕ)
   asked = listOnce (tableKeep (B .type-cnt)) B asks blank 0
 
-  fair : Fair (tableKeep (B .type-cnt)) B (B .type-cnt) Any (table-lawful (B .type-cnt)) below (listPlain B asks) asked
-  fair = fair-list (tableKeep (B .type-cnt)) B (B .type-cnt) Any (table-lawful (B .type-cnt)) below asks inside blank 0 (record {
+  fair : Fair (tableKeep (B .type-cnt)) B (B .type-cnt) Any Each (table-lawful (B .type-cnt)) (λ id s t l. tt) below (listPlain B asks) asked
+  fair = fair-list (tableKeep (B .type-cnt)) B (B .type-cnt) Any Each (table-lawful (B .type-cnt)) (λ id s t l. tt) below asks inside blank 0 (record {
     right = λ id s e. absurd (known-unknown s e);
     good = tt;
     visits = sym (paid-none B blank (λ id. refl) (B .type-cnt));
@@ -56,7 +59,7 @@ module _ (B : Btf) (below : (x y : ℕ) → List·Memᴰ y (kids (nodeOf (B .typ
   unfolding answerOf
   same-answers = by asked fair
     where
-      by : (r : Once Table (List ℕ)) → Fair (tableKeep (B .type-cnt)) B (B .type-cnt) Any (table-lawful (B .type-cnt)) below (listPlain B asks) r → answerOf r ≡ listPlain B asks
+      by : (r : Once Table (List ℕ)) → Fair (tableKeep (B .type-cnt)) B (B .type-cnt) Any Each (table-lawful (B .type-cnt)) (λ id s t l. tt) below (listPlain B asks) r → answerOf r ≡ listPlain B asks
       by (found l m k) f = sym (f .0)
       by (refused c m k) f = sym f
 
@@ -68,6 +71,6 @@ module _ (B : Btf) (below : (x y : ℕ) → List·Memᴰ y (kids (nodeOf (B .typ
   pub few-visits : (l : List ℕ) (m : Table) (k : ℕ) → asked ≡ found l m k → (k ≡ paidTo B m (B .type-cnt)) × (k ≤ B .type-cnt + membersTo B (B .type-cnt))
   few-visits l m k e = subst Few e (by asked fair)
     where
-      by : (r : Once Table (List ℕ)) → Fair (tableKeep (B .type-cnt)) B (B .type-cnt) Any (table-lawful (B .type-cnt)) below (listPlain B asks) r → Few r
-      by (found l′ m′ k′) f = (f .1 .visits, at-most (tableKeep (B .type-cnt)) B (B .type-cnt) Any (table-lawful (B .type-cnt)) below m′ k′ (f .1))
+      by : (r : Once Table (List ℕ)) → Fair (tableKeep (B .type-cnt)) B (B .type-cnt) Any Each (table-lawful (B .type-cnt)) (λ id s t l. tt) below (listPlain B asks) r → Few r
+      by (found l′ m′ k′) f = (f .1 .visits, at-most (tableKeep (B .type-cnt)) B (B .type-cnt) Any Each (table-lawful (B .type-cnt)) (λ id s t l. tt) below m′ k′ (f .1))
       by (refused c m′ k′) f = tt

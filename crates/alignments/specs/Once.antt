@@ -26,11 +26,11 @@ pub record Keep (M : Type 0) : Type 0 where
   pub recall : M → ℕ → Known
   pub remember : ℕ → Seen → M → M
 
--- What is asked of it: an entry is kept, or all is as it was; and it is kept for each of n types, in a memory that is Good.
-pub record Lawful {M : Type 0} (K : Keep M) (n : ℕ) (Good : M → Type 0) : Type 0 where
+-- What is asked of it: an entry is kept, or all is as it was; and one that Fits is kept for each of n types, in a memory that is Good.
+pub record Lawful {M : Type 0} (K : Keep M) (n : ℕ) (Good : M → Type 0) (Fits : Seen → Type 0) : Type 0 where
   pub kept : (id : ℕ) (s : Seen) (m : M) → (K .recall (K .remember id s m) id ≡ known s) ⊎ (K .recall (K .remember id s m) id ≡ K .recall m id)
   pub other : (id : ℕ) (s : Seen) (m : M) (d : ℕ) → (d ≡ id → ⊥) → K .recall (K .remember id s m) d ≡ K .recall m d
-  pub same : (id : ℕ) (s : Seen) (m : M) → Good m → id < n → K .recall (K .remember id s m) id ≡ known s
+  pub same : (id : ℕ) (s : Seen) (m : M) → Fits s → Good m → id < n → K .recall (K .remember id s m) id ≡ known s
   pub good : (id : ℕ) (s : Seen) (m : M) → Good m → Good (K .remember id s m)
 
 -- a value or the refusal that asking for it meets, the memory after it, and the visits made by then

@@ -14,10 +14,10 @@ use Rattle.opening.specs.Causes.{openingNumber}
 use Rattle.demand.specs.Session.{noNames, dumpTypes}
 use Rattle.claims.specs.Table.{openedTable}
 use Rattle.claims.proofs.Claims.{opening-gives}
 use Rattle.alignments.specs.Once.{Table, tableKeep, blank, membersTo}
 use Rattle.alignments.specs.Writers.{openedOnce, afterOnce, dumpedOnce}
-use Rattle.alignments.proofs.Tables.{Any, table-lawful}
+use Rattle.alignments.proofs.Tables.{Any, Each, table-lawful}
 use Rattle.alignments.proofs.Session.{same-session, session-visits}
 
 -- past the count there is no type
 void-type : (b : Btf) (s : List ℕ) → typeOf b s voidRecord ≡ Void
@@ -38,8 +38,8 @@ module _ (pointer modes : ℕ) (s : List ℕ) (n : ℕ) (ok : openingNumber poin
 
   -- the numbers, lengths and text of the rules, for every list of requests
   pub opened-session : dumpedOnce (tableKeep (B .type-cnt)) naming B [] rs (openedOnce (tableKeep (B .type-cnt)) naming B (noNames B) blank) ≡ dumpTypes B rs
-  opened-session = same-session (tableKeep (B .type-cnt)) naming B Any (table-lawful (B .type-cnt)) (opening-gives pointer modes s n ok .well-formed) (ends _ s _) (noNames B) blank tt (λ id. refl) rs
+  opened-session = same-session (tableKeep (B .type-cnt)) naming B Any Each (table-lawful (B .type-cnt)) (λ id t q l. tt) (opening-gives pointer modes s n ok .well-formed) (ends _ s _) (noNames B) blank tt (λ id. refl) rs
 
   -- "at most types plus members"
   pub opened-visits : afterOnce (tableKeep (B .type-cnt)) naming B rs (openedOnce (tableKeep (B .type-cnt)) naming B (noNames B) blank) .mach .known .names .visits ≤ B .type-cnt + membersTo B (B .type-cnt)
-  opened-visits = session-visits (tableKeep (B .type-cnt)) naming B Any (table-lawful (B .type-cnt)) (opening-gives pointer modes s n ok .well-formed) (ends _ s _) (noNames B) blank tt (λ id. refl) rs
+  opened-visits = session-visits (tableKeep (B .type-cnt)) naming B Any Each (table-lawful (B .type-cnt)) (λ id t q l. tt) (opening-gives pointer modes s n ok .well-formed) (ends _ s _) (noNames B) blank tt (λ id. refl) rs
