@@ -33,7 +33,7 @@ module _ (B : Btf) (f f′ : ℕ → Known) (id : ℕ) (other : (d : ℕ) → (d
         ∙ ap (λ (x : ℕ). x + suc (memberCount (B .type-by-id id))) (paid-before id (omega arith) ∙ sym z)
         ∙ ap (λ (q : Known). paidTo B f id + cost q (B .type-by-id id) + suc (memberCount (B .type-by-id id))) (sym u)
 
-    paid-more : (n : ℕ) → id < n → paidTo B f′ n ≡ paidTo B f n + suc (memberCount (B .type-by-id id))
+    pub paid-more : (n : ℕ) → id < n → paidTo B f′ n ≡ paidTo B f n + suc (memberCount (B .type-by-id id))
     unfolding paidTo
     paid-more zero l = absurd (omega arith)
     paid-more (suc n) l = go (λ i. paid-more n i)
