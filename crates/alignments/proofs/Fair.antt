@@ -16,13 +16,28 @@ use Rattle.alignments.specs.Steps.{plainly, offAlignOnce, membersPackedO
 use Rattle.alignments.proofs.Right.{within-got, Told, align-of, told}
 use Rattle.alignments.proofs.Counted.{paid-most, paid-none, Counts, counts}
 
+-- what holds of the memory after an answer
+abbrev pub After : {M A : Type 0} → (M → Type 0) → Once M A → Type 0
+After P (found a m k) = P m
+After P (refused c m k) = Unit {0}
+
+-- nothing more is asked
+abbrev pub Nothing : {M : Type 0} → M → Type 0
+Nothing m = Unit {0}
+
+pub no-more : {M A : Type 0} (r : Once M A) → After Nothing r
+no-more (found a m k) = tt
+no-more (refused c m k) = tt
+
 module _ {M : Type 0} (K : Keep M) (B : Btf) (n : ℕ) (Good : M → Type 0) (Fits : Seen → Type 0) (law : Lawful K n Good Fits)
-    (fits : (id : ℕ) (s : Seen) → Tells B id s → s .height ≤ 512 → Fits s) (below : (x y : ℕ) → List·Memᴰ y (kids (nodeOf (B .type-by-id x))) → y < n) where
+    (fits : (id : ℕ) (s : Seen) → Tells B id s → s .height ≤ 512 → Fits s) (below : (x y : ℕ) → List·Memᴰ y (kids (nodeOf (B .type-by-id x))) → y < n)
+    (Also : M → Type 0) (keeps : (left id : ℕ) → left ≤ 512 → (m : M) (k : ℕ) → id < n → Right K B m → Good m → Also m → After Also (alignOnce K left B id m k)) where
   -- a right memory, and the visits that it took
   pub record Honest (m : M) (k : ℕ) : Type 0 where
     pub right : Right K B m
     pub good : Good m
     pub visits : k ≡ paidTo B (K .recall m) n
+    pub also : Also m
 
   -- "at most types plus members"
   pub at-most : (m : M) (k : ℕ) → Honest m k → k ≤ n + membersTo B n
@@ -51,14 +66,14 @@ module _ {M : Type 0} (K : Keep M) (B : Btf) (n : ℕ) (Good : M → Type 0) (Fi
   calls = omega arith
 
   module _ (left id : ℕ) (b : left ≤ 512) (l : id < n) (m : M) (k : ℕ) (h : Honest m k) where
-    from-told : (r : Once M Seen) → Told K B (align-of K B id) left m r → Counts K B n Good Fits law fits 0 m k r → Fair (getAlignOf left B id) (onceThen r (λ s. found (s .align)))
+    from-told : (r : Once M Seen) → Told K B (align-of K B id) left m r → Counts K B n Good Fits law fits 0 m k r → After Also r → Fair (getAlignOf left B id) (onceThen r (λ s. found (s .align)))
     unfolding onceThen
-    from-told (found s m′ k′) t c = (t .0 left ∙ within-got s left (t .1), record { right = t .2; good = c .0; visits = omega (arith, c .1, h .visits) })
-    from-told (refused c m′ k′) t d = t .0
+    from-told (found s m′ k′) t c a = (t .0 left ∙ within-got s left (t .1), record { right = t .2; good = c .0; visits = omega (arith, c .1, h .visits); also = a })
+    from-told (refused c m′ k′) t d a = t .0
 
     pub fair-align : Fair (getAlignOf left B id) (alignmentOnce K left B id m k)
     unfolding alignmentOnce
-    fair-align = from-told (alignOnce K left B id m k) (told K B n Good Fits law left id m k (h .right)) (counts K B n Good Fits law fits below left id b m k l (h .right) (h .good))
+    fair-align = from-told (alignOnce K left B id m k) (told K B n Good Fits law left id m k (h .right)) (counts K B n Good Fits law fits below left id b m k l (h .right) (h .good)) (keeps left id b m k l (h .right) (h .good) (h .also))
 
   -- questions in a row
   pub fair-list : (as′ : List (ℕ × ℕ)) → ((a : ℕ × ℕ) → List·Memᴰ a as′ → (a .0 ≤ 512) × (a .1 < n)) → (m : M) (k : ℕ) → Honest m k → Fair (listPlain B as′) (listOnce K B as′ m k)

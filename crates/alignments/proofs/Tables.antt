@@ -9,10 +9,10 @@ use borrow.Author.Tests.{lt-ltb, eq-eqb, ne-eqb}
 use Rattle.rules.specs.Writer.{Ask, got, no}
 use Rattle.rules.specs.Types.{Btf, nodeOf}
 use Rattle.demand.specs.Needs.{kids}
-use Rattle.alignments.specs.Once.{Seen, Known, unknown, known, Keep, Lawful, Once, found, refused, answerOf, listOnce, listPlain, Table, tableKeep, blank, membersTo, paidTo}
+use Rattle.alignments.specs.Once.{Seen, Known, unknown, known, Keep, Lawful, Once, found, refused, answerOf, alignOnce, listOnce, listPlain, Table, tableKeep, blank, membersTo, paidTo}
 use Rattle.alignments.proofs.Right.{known-unknown}
 use Rattle.alignments.proofs.Counted.{paid-none}
-use Rattle.alignments.proofs.Fair.{Honest, at-most, Fair, fair-list}
+use Rattle.alignments.proofs.Fair.{Nothing, no-more, Honest, at-most, Fair, fair-list}
 
 abbrev pub Any : Table → Type 0
 Any m = Unit {0}
@@ -48,18 +48,19 @@ module _ (B : Btf) (below : (x y : ℕ) → List·Memᴰ y (kids (nodeOf (B .typ
   abbrev asked : Once Table (List ℕ)
   asked = listOnce (tableKeep (B .type-cnt)) B asks blank 0
 
-  fair : Fair (tableKeep (B .type-cnt)) B (B .type-cnt) Any Each (table-lawful (B .type-cnt)) (λ id s t l. tt) below (listPlain B asks) asked
-  fair = fair-list (tableKeep (B .type-cnt)) B (B .type-cnt) Any Each (table-lawful (B .type-cnt)) (λ id s t l. tt) below asks inside blank 0 (record {
+  fair : Fair (tableKeep (B .type-cnt)) B (B .type-cnt) Any Each (table-lawful (B .type-cnt)) (λ id s t l. tt) below Nothing (λ left id b m k l r g a. no-more (alignOnce (tableKeep (B .type-cnt)) left B id m k)) (listPlain B asks) asked
+  fair = fair-list (tableKeep (B .type-cnt)) B (B .type-cnt) Any Each (table-lawful (B .type-cnt)) (λ id s t l. tt) below Nothing (λ left id b m k l r g a. no-more (alignOnce (tableKeep (B .type-cnt)) left B id m k)) asks inside blank 0 (record {
     right = λ id s e. absurd (known-unknown s e);
     good = tt;
     visits = sym (paid-none B blank (λ id. refl) (B .type-cnt));
+    also = tt;
   })
 
   pub same-answers : answerOf asked ≡ listPlain B asks
   unfolding answerOf
   same-answers = by asked fair
     where
-      by : (r : Once Table (List ℕ)) → Fair (tableKeep (B .type-cnt)) B (B .type-cnt) Any Each (table-lawful (B .type-cnt)) (λ id s t l. tt) below (listPlain B asks) r → answerOf r ≡ listPlain B asks
+      by : (r : Once Table (List ℕ)) → Fair (tableKeep (B .type-cnt)) B (B .type-cnt) Any Each (table-lawful (B .type-cnt)) (λ id s t l. tt) below Nothing (λ left id b m k l r g a. no-more (alignOnce (tableKeep (B .type-cnt)) left B id m k)) (listPlain B asks) r → answerOf r ≡ listPlain B asks
       by (found l m k) f = sym (f .0)
       by (refused c m k) f = sym f
 
@@ -71,6 +72,6 @@ module _ (B : Btf) (below : (x y : ℕ) → List·Memᴰ y (kids (nodeOf (B .typ
   pub few-visits : (l : List ℕ) (m : Table) (k : ℕ) → asked ≡ found l m k → (k ≡ paidTo B m (B .type-cnt)) × (k ≤ B .type-cnt + membersTo B (B .type-cnt))
   few-visits l m k e = subst Few e (by asked fair)
     where
-      by : (r : Once Table (List ℕ)) → Fair (tableKeep (B .type-cnt)) B (B .type-cnt) Any Each (table-lawful (B .type-cnt)) (λ id s t l. tt) below (listPlain B asks) r → Few r
-      by (found l′ m′ k′) f = (f .1 .visits, at-most (tableKeep (B .type-cnt)) B (B .type-cnt) Any Each (table-lawful (B .type-cnt)) (λ id s t l. tt) below m′ k′ (f .1))
+      by : (r : Once Table (List ℕ)) → Fair (tableKeep (B .type-cnt)) B (B .type-cnt) Any Each (table-lawful (B .type-cnt)) (λ id s t l. tt) below Nothing (λ left id b m k l r g a. no-more (alignOnce (tableKeep (B .type-cnt)) left B id m k)) (listPlain B asks) r → Few r
+      by (found l′ m′ k′) f = (f .1 .visits, at-most (tableKeep (B .type-cnt)) B (B .type-cnt) Any Each (table-lawful (B .type-cnt)) (λ id s t l. tt) below Nothing (λ left id b m k l r g a. no-more (alignOnce (tableKeep (B .type-cnt)) left B id m k)) m′ k′ (f .1))
       by (refused c m′ k′) f = tt

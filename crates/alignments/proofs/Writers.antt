@@ -17,29 +17,25 @@ use Rattle.rules.specs.Emit.{lineEnd, definition, shown, forward}
 use Rattle.rules.proofs.Closed.{TypeFits, Closed, asks-end, asks-chain, r-put, r-then, r-if, r-given, r-emit-name, r-parens, r-emit-params, r-emit-composite-fwd, r-emit-fwd-def, r-enum-word, r-emit-enum-def, r-composite-head, r-composite-end}
 use Rattle.rules.proofs.Keeps.{any-name, any-value, values-fit}
 use Rattle.demand.specs.Needs.{kids}
-use Rattle.alignments.specs.Once.{Keep, Once, found, refused, Asking}
-use Rattle.alignments.specs.Steps.{paddingOnce, bodyOnce}
-use Rattle.alignments.specs.Writers.{Minded, withNames, minded, answered, givenOnce, emitMembersOnce, compositeBodyOnce, compositeDefOnce, emitTypeDeclOnce, emitTypeChainOnce, emitCompositeDefOnce, emitTypedefDefOnce, definitionOnce, forwardOnce}
+use Rattle.alignments.specs.Once.{Once, found, refused}
+use Rattle.alignments.specs.Writers.{Asks, answered, givenOnce, emitMembersOnce, compositeBodyOnce, compositeDefOnce, emitTypeDeclOnce, emitTypeChainOnce, emitCompositeDefOnce, emitTypedefDefOnce, definitionOnce, forwardOnce}
 
 -- A relation that the parts of an emitter keep, and the questions with a memory, all emitters keep.
-module _ {U M : Type 0} (K : Keep M) (N : Naming U) (B : Btf) (n : ℕ) (below : (x y : ℕ) → List·Memᴰ y (kids (nodeOf (B .type-by-id x))) → y < n)
-    (S : Writer (Minded U M) → Writer U → Type 0) (C : Closed (minded N) N any-name any-value S)
-    (on-body : (id : ℕ) (s : Bool) (name : Name) (sz : ℕ) (ms : List Member) → B .type-by-id id ≡ Composite s name sz ms → (f : Bool → Writer (Minded U M)) (g : Bool → Writer U) → ((p : Bool) → S (f p) (g p)) → S (givenOnce (bodyOnce K B s id sz ms) f) (given (bodyPacked B s sz ms) g))
-    (on-pads : (offset : ℕ) (x : Member) (packed : Bool) → x .type-id < n → (f : List Pad → Writer (Minded U M)) (g : List Pad → Writer U) → ((p : List Pad) → S (f p) (g p)) → S (givenOnce (paddingOnce K B offset x packed) f) (given (bitPadding B offset x packed) g)) where
-  abbrev N′ : Naming (Minded U M)
-  N′ = minded N
-
+module _ {St U : Type 0} (Q : Asks St) (N′ : Naming St) (N : Naming U) (B : Btf) (n : ℕ) (below : (x y : ℕ) → List·Memᴰ y (kids (nodeOf (B .type-by-id x))) → y < n)
+    (S : Writer St → Writer U → Type 0) (C : Closed N′ N any-name any-value S)
+    (on-body : (id : ℕ) (s : Bool) (name : Name) (sz : ℕ) (ms : List Member) → B .type-by-id id ≡ Composite s name sz ms → (f : Bool → Writer St) (g : Bool → Writer U) → ((p : Bool) → S (f p) (g p)) → S (givenOnce (Q .body s id sz ms) f) (given (bodyPacked B s sz ms) g))
+    (on-pads : (offset : ℕ) (x : Member) (packed : Bool) → x .type-id < n → (f : List Pad → Writer St) (g : List Pad → Writer U) → ((p : List Pad) → S (f p) (g p)) → S (givenOnce (Q .padding offset x packed) f) (given (bitPadding B offset x packed) g)) where
   cput : (a : List ℕ) → S (put a) (put a)
   cput a = C .c-put a
 
-  cthen : {v₁ w₁ : Writer (Minded U M)} {v₂ w₂ : Writer U} → S v₁ v₂ → S w₁ w₂ → S (v₁ ⨾ w₁) (v₂ ⨾ w₂)
+  cthen : {v₁ w₁ : Writer St} {v₂ w₂ : Writer U} → S v₁ v₂ → S w₁ w₂ → S (v₁ ⨾ w₁) (v₂ ⨾ w₂)
   cthen {v₁} {w₁} {v₂} {w₂} h k = C .c-then v₁ w₁ v₂ w₂ h k
 
-  cif : {a₁ b₁ : Writer (Minded U M)} {a₂ b₂ : Writer U} → (b : Bool) → S a₁ a₂ → S b₁ b₂ → S (elim b [ true ↦ a₁ | false ↦ b₁ ]) (elim b [ true ↦ a₂ | false ↦ b₂ ])
+  cif : {a₁ b₁ : Writer St} {a₂ b₂ : Writer U} → (b : Bool) → S a₁ a₂ → S b₁ b₂ → S (elim b [ true ↦ a₁ | false ↦ b₁ ]) (elim b [ true ↦ a₂ | false ↦ b₂ ])
   cif true h k = h
   cif false h k = k
 
-  ctype : {k₁ : Name → Writer (Minded U M)} {k₂ : Name → Writer U} → (space : Space) (id : ℕ) (name : Name) → ((n : Name) → S (k₁ n) (k₂ n)) → S (resolveTypeName N′ space id name k₁) (resolveTypeName N space id name k₂)
+  ctype : {k₁ : Name → Writer St} {k₂ : Name → Writer U} → (space : Space) (id : ℕ) (name : Name) → ((n : Name) → S (k₁ n) (k₂ n)) → S (resolveTypeName N′ space id name k₁) (resolveTypeName N space id name k₂)
   unfolding resolveTypeName
   ctype {k₁} {k₂} space id name h = go (isEmpty name) refl
     where
@@ -49,9 +45,9 @@ module _ {U M : Type 0} (K : Keep M) (N : Naming U) (B : Btf) (n : ℕ) (below :
       go false e = C .c-type space id name tt e (λ v. k₁ (spelled name v)) (λ v. k₂ (spelled name v)) (λ v. h (spelled name v))
 
   -- the body of a composite
-  module _ {d₁ : ℕ → Name → ℕ → Writer (Minded U M)} {d₂ : ℕ → Name → ℕ → Writer U} (hd : (id : ℕ) (m : Name) (l : ℕ) → S (d₁ id m l) (d₂ id m l)) (id : ℕ) where
+  module _ {d₁ : ℕ → Name → ℕ → Writer St} {d₂ : ℕ → Name → ℕ → Writer U} (hd : (id : ℕ) (m : Name) (l : ℕ) → S (d₁ id m l) (d₂ id m l)) (id : ℕ) where
     on-members : (tail : ℕ → List Pad) (lvl : ℕ) (packed : Bool) (i offset : ℕ) (ms : List Member) → ((y : ℕ) → List·Memᴰ y (memberTypes ms) → y < n)
-        → S (emitMembersOnce K N B d₁ id tail lvl packed i offset ms) (emitMembers N B d₂ id tail lvl packed i offset ms)
+        → S (emitMembersOnce Q N′ B d₁ id tail lvl packed i offset ms) (emitMembers N B d₂ id tail lvl packed i offset ms)
     unfolding emitMembersOnce emitMembers
     on-members tail lvl packed i offset [] b = cput _
     on-members tail lvl packed i offset (m ∷ ms) b =
@@ -59,19 +55,19 @@ module _ {U M : Type 0} (K : Keep M) (N : Naming U) (B : Btf) (n : ℕ) (below :
         (cthen (cput _) (cthen (cput _) (cthen (hd (m .type-id) (m .name) lvl) (cthen (cput _)
         (r-given N′ N any-name any-value S C (endOf B m) (asks-end B m) (λ end. cthen (cput _) (cthen (cput _) (on-members tail lvl packed (i + 1) end ms (λ y j. b y (List·Memᴰ·tail j))))))))))
 
-    on-def : (s : Bool) (name : Name) (sz : ℕ) (ms : List Member) → B .type-by-id id ≡ Composite s name sz ms → (lvl : ℕ) → S (compositeDefOnce K N B d₁ id s name sz ms lvl) (compositeDef N B d₂ id s name sz ms lvl)
+    on-def : (s : Bool) (name : Name) (sz : ℕ) (ms : List Member) → B .type-by-id id ≡ Composite s name sz ms → (lvl : ℕ) → S (compositeDefOnce Q N′ B d₁ id s name sz ms lvl) (compositeDef N B d₂ id s name sz ms lvl)
     unfolding compositeDefOnce compositeDef compositeBodyOnce compositeBody
     on-def s name sz ms e lvl =
         cif (builtin name) (cput [])
-        (on-body id s name sz ms e (λ packed. compositeBodyOnce K N B d₁ id s name sz ms lvl packed) (λ packed. compositeBody N B d₂ id s name sz ms lvl packed) (λ packed.
+        (on-body id s name sz ms e (λ packed. compositeBodyOnce Q N′ B d₁ id s name sz ms lvl packed) (λ packed. compositeBody N B d₂ id s name sz ms lvl packed) (λ packed.
         cthen (r-composite-head N′ N any-name any-value S C B {d₁ = d₁} {d₂ = d₂} hd id s name tt)
         (cthen (on-members (tailPads (B .placing) (B .ptr-sz) s sz) (deeper lvl) packed 0 0 ms (λ y i. below id y (subst (λ (t : BtfType). List·Memᴰ y (kids (nodeOf t))) (sym e) i)))
         (r-composite-end N′ N any-name any-value S C B {d₁ = d₁} {d₂ = d₂} hd id lvl ms packed))))
 
   -- emit_type_chain; a composite is read at its own id
-  module _ {d₁ : ℕ → Name → ℕ → Writer (Minded U M)} {d₂ : ℕ → Name → ℕ → Writer U} (hd : (id : ℕ) (m : Name) (l : ℕ) → S (d₁ id m l) (d₂ id m l))
-      {c₁ : List Entry → Name → ℕ → Writer (Minded U M)} {c₂ : List Entry → Name → ℕ → Writer U} (hc : (c : List Entry) (m : Name) (l : ℕ) → S (c₁ c m l) (c₂ c m l))
-      {f₁ : ℕ → Bool → Name → ℕ → List Member → ℕ → Writer (Minded U M)} {f₂ : ℕ → Bool → Name → ℕ → List Member → ℕ → Writer U}
+  module _ {d₁ : ℕ → Name → ℕ → Writer St} {d₂ : ℕ → Name → ℕ → Writer U} (hd : (id : ℕ) (m : Name) (l : ℕ) → S (d₁ id m l) (d₂ id m l))
+      {c₁ : List Entry → Name → ℕ → Writer St} {c₂ : List Entry → Name → ℕ → Writer U} (hc : (c : List Entry) (m : Name) (l : ℕ) → S (c₁ c m l) (c₂ c m l))
+      {f₁ : ℕ → Bool → Name → ℕ → List Member → ℕ → Writer St} {f₂ : ℕ → Bool → Name → ℕ → List Member → ℕ → Writer U}
       (hf : (id : ℕ) (s : Bool) (m : Name) (z : ℕ) (ms : List Member) → B .type-by-id id ≡ Composite s m z ms → (l : ℕ) → S (f₁ id s m z ms l) (f₂ id s m z ms l)) (fname : Name) (lvl : ℕ) where
     on-word : (id : ℕ) (t : BtfType) → B .type-by-id id ≡ t → S (baseWord N′ B d₁ c₁ f₁ fname lvl id t) (baseWord N B d₂ c₂ f₂ fname lvl id t)
     unfolding baseWord
@@ -121,24 +117,24 @@ module _ {U M : Type 0} (K : Keep M) (N : Naming U) (B : Btf) (n : ℕ) (below :
   mutual
     unfolding emitTypeDecl emitTypeChain emitCompositeDef emitTypeDeclOnce emitTypeChainOnce emitCompositeDefOnce
 
-    pub on-type-decl : (left id : ℕ) (fname : Name) (lvl : ℕ) → S (emitTypeDeclOnce K N B left id fname lvl) (emitTypeDecl N B left id fname lvl)
+    pub on-type-decl : (left id : ℕ) (fname : Name) (lvl : ℕ) → S (emitTypeDeclOnce Q N′ B left id fname lvl) (emitTypeDecl N B left id fname lvl)
     on-type-decl zero id fname lvl = C .c-stop 12 (inl refl)
     on-type-decl (suc left) id fname lvl = r-given N′ N any-name any-value S C (chainOf 512 B id []) (asks-chain B 512 id []) (λ c. on-type-chain left c fname lvl)
 
-    on-type-chain : (left : ℕ) (c : List Entry) (fname : Name) (lvl : ℕ) → S (emitTypeChainOnce K N B left c fname lvl) (emitTypeChain N B left c fname lvl)
+    on-type-chain : (left : ℕ) (c : List Entry) (fname : Name) (lvl : ℕ) → S (emitTypeChainOnce Q N′ B left c fname lvl) (emitTypeChain N B left c fname lvl)
     on-type-chain zero c fname lvl = C .c-stop 12 (inl refl)
     on-type-chain (suc left) c fname lvl =
         on-chain (λ id m l. on-type-decl left id m l) (λ d m l. on-type-chain left d m l) (λ id s m z ms e l. on-composite-def left id s m z ms e l) fname lvl (length c) true c
 
-    pub on-composite-def : (left id : ℕ) (s : Bool) (name : Name) (sz : ℕ) (ms : List Member) → B .type-by-id id ≡ Composite s name sz ms → (lvl : ℕ) → S (emitCompositeDefOnce K N B left id s name sz ms lvl) (emitCompositeDef N B left id s name sz ms lvl)
+    pub on-composite-def : (left id : ℕ) (s : Bool) (name : Name) (sz : ℕ) (ms : List Member) → B .type-by-id id ≡ Composite s name sz ms → (lvl : ℕ) → S (emitCompositeDefOnce Q N′ B left id s name sz ms lvl) (emitCompositeDef N B left id s name sz ms lvl)
     on-composite-def zero id s name sz ms e lvl = C .c-stop 12 (inl refl)
     on-composite-def (suc left) id s name sz ms e lvl = on-def (λ t m l. on-type-decl left t m l) id s name sz ms e lvl
 
-  on-typedef : (id : ℕ) (name : Name) (t : ℕ) → S (emitTypedefDefOnce K N B id name t) (emitTypedefDef N B id name t)
+  on-typedef : (id : ℕ) (name : Name) (t : ℕ) → S (emitTypedefDefOnce Q N′ B id name t) (emitTypedefDef N B id name t)
   unfolding emitTypedefDefOnce emitTypedefDef
   on-typedef id name t = cthen (ctype identSpace id name (λ m. cthen (cput _) (on-type-decl 512 t m 0))) (cput _)
 
-  pub on-definition : (id : ℕ) (t : BtfType) → B .type-by-id id ≡ t → S (definitionOnce K N B id t) (definition N B id t)
+  pub on-definition : (id : ℕ) (t : BtfType) → B .type-by-id id ≡ t → S (definitionOnce Q N′ B id t) (definition N B id t)
   unfolding definitionOnce definition
   on-definition id Void e = cput _
   on-definition id (Int m b) e = cput _
@@ -158,11 +154,11 @@ module _ {U M : Type 0} (K : Keep M) (N : Naming U) (B : Btf) (n : ℕ) (below :
   on-definition id (DeclTag a m t k) e = cput _
   on-definition id (TypeTag a m t) e = cput _
 
-  on-shown : {w₁ : Writer (Minded U M)} {w₂ : Writer U} → (name : Name) → S w₁ w₂ → S (shown N′ B name w₁) (shown N B name w₂)
+  on-shown : {w₁ : Writer St} {w₂ : Writer U} → (name : Name) → S w₁ w₂ → S (shown N′ B name w₁) (shown N B name w₂)
   unfolding shown
   on-shown name h = cif (builtin name) (cput []) (cthen h (cput _))
 
-  pub on-forward : (id : ℕ) (t : BtfType) → S (forwardOnce K N B id t) (forward N B id t)
+  pub on-forward : (id : ℕ) (t : BtfType) → S (forwardOnce Q N′ B id t) (forward N B id t)
   unfolding forwardOnce forward
   on-forward id Void = cput _
   on-forward id (Int m b) = cput _

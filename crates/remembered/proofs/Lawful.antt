@@ -57,7 +57,7 @@ module _ (n id : ℕ) (w : List ℕ) where
   unfolding counted
   counted-length = put-length w (0 * 16 + 15) _
 
-remembered-length : (types id v n : ℕ) (w : List ℕ) → length (remembered types id v n w) ≡ length w
+pub remembered-length : (types id v n : ℕ) (w : List ℕ) → length (remembered types id v n w) ≡ length w
 unfolding remembered
 remembered-length types id v n w = by (eqb v 0) (leb types id)
   where

@@ -52,7 +52,7 @@ module _ (types : ℕ) (B : Rules) (small : B .ptr-sz ≤ 15) (below : (x y : �
   abbrev pub Counted : List ℕ → Type 0
   Counted w = Roomy types w × (getField w 0 15 ≡ paid w)
 
-  abbrev Holds : Once (List ℕ) Seen → Type 0
+  abbrev pub Holds : Once (List ℕ) Seen → Type 0
   Holds (found s m k) = Counted m
   Holds (refused c m k) = Counted m
 
@@ -119,7 +119,7 @@ module _ (types : ℕ) (B : Rules) (small : B .ptr-sz ≤ 15) (below : (x y : �
       by unknown e = more id l (above s) (tells-fits B small id (above s) (above-tells K B types (Roomy types) FitsWord (work-lawful types B) id s (t .0)) (omega (arith, t .1))) m′ d e
       by (known x) e = absurd (not-inside K B types (Roomy types) FitsWord (work-lawful types B) id m m′ s u (t .0) (t .2) (t .4) x e)
 
-  align-holds : (left id : ℕ) → left ≤ 512 → (m : List ℕ) (k : ℕ) → id < types → Right K B m → Counted m → Holds (alignOnce K left B id m k)
+  pub align-holds : (left id : ℕ) → left ≤ 512 → (m : List ℕ) (k : ℕ) → id < types → Right K B m → Counted m → Holds (alignOnce K left B id m k)
   unfolding alignOnce
   align-holds zero id b m k l r g = g
   align-holds (suc left) id b m k l r g = go (λ t m′ k′. align-holds left t (omega arith) m′ k′) (K .recall m id) refl

@@ -11,13 +11,13 @@ use Rattle.btf.specs.Records.{voidRecord, recordById}
 use Rattle.btf.specs.Table.{btfOf, typeOf}
 use Rattle.btf.proofs.Laws.{void-past, void-zero}
 use Rattle.opening.specs.Causes.{openingNumber}
-use Rattle.demand.specs.Session.{noNames, dumpTypes}
+use Rattle.demand.specs.Session.{noNames, openedBy, dumpTypes}
 use Rattle.claims.specs.Table.{openedTable}
 use Rattle.claims.proofs.Claims.{opening-gives}
 use Rattle.alignments.specs.Once.{Table, tableKeep, blank, membersTo}
-use Rattle.alignments.specs.Writers.{openedOnce, afterOnce, dumpedOnce}
+use Rattle.alignments.specs.Writers.{afterOnce, dumpedOnce, Minded, minded, mindedAsks, noVisits}
 use Rattle.alignments.proofs.Tables.{Any, Each, table-lawful}
-use Rattle.alignments.proofs.Session.{same-session, session-visits}
+use Rattle.alignments.proofs.Session.{minded-session, session-visits}
 
 -- past the count there is no type
 void-type : (b : Btf) (s : List ℕ) → typeOf b s voidRecord ≡ Void
@@ -37,9 +37,9 @@ module _ (pointer modes : ℕ) (s : List ℕ) (n : ℕ) (ok : openingNumber poin
   B = openedTable pointer modes s n
 
   -- the numbers, lengths and text of the rules, for every list of requests
-  pub opened-session : dumpedOnce (tableKeep (B .type-cnt)) naming B [] rs (openedOnce (tableKeep (B .type-cnt)) naming B (noNames B) blank) ≡ dumpTypes B rs
-  opened-session = same-session (tableKeep (B .type-cnt)) naming B Any Each (table-lawful (B .type-cnt)) (λ id t q l. tt) (opening-gives pointer modes s n ok .well-formed) (ends _ s _) (noNames B) blank tt (λ id. refl) rs
+  pub opened-session : dumpedOnce (mindedAsks (tableKeep (B .type-cnt)) B) (minded naming) B [] rs (openedBy (minded naming) B (noVisits (noNames B) blank)) ≡ dumpTypes B rs
+  opened-session = minded-session (tableKeep (B .type-cnt)) naming B Any Each (table-lawful (B .type-cnt)) (λ id t q l. tt) (opening-gives pointer modes s n ok .well-formed) (ends _ s _) (noNames B) blank tt (λ id. refl) rs
 
   -- "at most types plus members"
-  pub opened-visits : afterOnce (tableKeep (B .type-cnt)) naming B rs (openedOnce (tableKeep (B .type-cnt)) naming B (noNames B) blank) .mach .known .names .visits ≤ B .type-cnt + membersTo B (B .type-cnt)
+  pub opened-visits : afterOnce (mindedAsks (tableKeep (B .type-cnt)) B) (minded naming) B rs (openedBy (minded naming) B (noVisits (noNames B) blank)) .mach .known .names .visits ≤ B .type-cnt + membersTo B (B .type-cnt)
   opened-visits = session-visits (tableKeep (B .type-cnt)) naming B Any Each (table-lawful (B .type-cnt)) (λ id t q l. tt) (opening-gives pointer modes s n ok .well-formed) (ends _ s _) (noNames B) blank tt (λ id. refl) rs
