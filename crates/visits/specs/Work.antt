@@ -5,15 +5,16 @@ use mathlib.Core.List.{List}
 use lib.ListN.{length}
 use Rattle.lent.specs.Words.{getWord}
 use Rattle.rules.specs.Types.{Btf as Rules}
+use Rattle.btf.specs.Cells.{getField}
 use Rattle.alignments.specs.Steps.{paddingOnce, bodyOnce}
 use Rattle.alignments.specs.Writers.{Asks}
 use Rattle.remembered.specs.Words.{workKeep}
 
--- what a body asks of the work; the visits stand in it
+-- what a body asks of the work; the visits so far stand in word 15 of void
 abbrev pub workAsks : ℕ → Rules → Asks (List ℕ)
 workAsks types B = record {
-  padding = λ offset x packed w. paddingOnce (workKeep types B) B offset x packed w 0;
-  body = λ is-struct id sz ms w. bodyOnce (workKeep types B) B is-struct id sz ms w 0;
+  padding = λ offset x packed w. paddingOnce (workKeep types B) B offset x packed w (getField w 0 15);
+  body = λ is-struct id sz ms w. bodyOnce (workKeep types B) B is-struct id sz ms w (getField w 0 15);
 }
 
 -- two works with the same words, but for the memory's (14 of each type) and the count of visits (15 of void)
