@@ -24,7 +24,7 @@ void-type : (b : Btf) (s : List ℕ) → typeOf b s voidRecord ≡ Void
 unfolding typeOf voidRecord
 void-type b s = refl
 
-ends : (b : Btf) (s w : List ℕ) (id : ℕ) → btfOf b s w .type-cnt ≤ id → btfOf b s w .type-by-id id ≡ Void
+pub ends : (b : Btf) (s w : List ℕ) (id : ℕ) → btfOf b s w .type-cnt ≤ id → btfOf b s w .type-by-id id ≡ Void
 unfolding btfOf
 ends b s w id l = ap (typeOf b s) (sym (past (ℕ-discrete id 0))) ∙ void-type b s
   where
