@@ -1,3 +1,4 @@
 pub mod Opened
 pub mod Work
+pub mod Few
 pub mod OpenedWork

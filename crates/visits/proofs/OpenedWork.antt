@@ -34,6 +34,7 @@ use Rattle.alignments.proofs.Counted.{paid-none}
 use Rattle.remembered.specs.Words.{seenWord, decoded, workKeep}
 use Rattle.visits.specs.Work.{workAsks, Agree}
 use Rattle.visits.proofs.Opened.{ends}
+use Rattle.visits.proofs.Few.{few}
 use Rattle.visits.proofs.Work.{InWork, work-session, work-visits}
 
 module _ (p modes : ℕ) (s : List ℕ) (n : ℕ) (ok : openingNumber p s n ≡ 0) where
@@ -87,19 +88,18 @@ module _ (p modes : ℕ) (s : List ℕ) (n : ℕ) (ok : openingNumber p s n ≡ 
   some : 0 < B .type-cnt
   some = omega (arith, count-is p modes s n ok, some-type s)
 
-  -- "In a session", of a table of fewer than 2^32 types and members
-  module _ (few : B .type-cnt + membersTo B (B .type-cnt) < 4294967296) where
-    begins : InWork b B pointers (opening-gives p modes s n ok .well-formed) (ends b s w) few w w
-    begins = (
-      record { long = refl; words = λ i n m. refl },
-      λ id x e. absurd (known-unknown x (sym (none id) ∙ e)),
-      (roomy, no-visits (subst (λ (k : ℕ). 0 < k) types-are some) ∙ sym (paid-none B (workKeep (B .type-cnt) B .recall w) none (B .type-cnt))),
-    )
+  -- nothing is remembered yet
+  begins : InWork b B pointers (opening-gives p modes s n ok .well-formed) (ends b s w) (few p modes s n ok) w w
+  begins = (
+    record { long = refl; words = λ i n m. refl },
+    λ id x e. absurd (known-unknown x (sym (none id) ∙ e)),
+    (roomy, no-visits (subst (λ (k : ℕ). 0 < k) types-are some) ∙ sym (paid-none B (workKeep (B .type-cnt) B .recall w) none (B .type-cnt))),
+  )
 
-    -- the same numbers, lengths and text as the rules have, for every list of requests
-    pub opened-work-session : (rs : List Req) → dumpedOnce (workAsks (B .type-cnt) B) (workNaming b) B [] rs (openedBy (workNaming b) B w) ≡ dumpTypes B rs
-    opened-work-session rs = work-session b B pointers (opening-gives p modes s n ok .well-formed) (ends b s w) few w begins rs ∙ opening-gives p modes s n ok .same-text rs
+  -- the same numbers, lengths and text as the rules have, for every list of requests
+  pub opened-work-session : (rs : List Req) → dumpedOnce (workAsks (B .type-cnt) B) (workNaming b) B [] rs (openedBy (workNaming b) B w) ≡ dumpTypes B rs
+  opened-work-session rs = work-session b B pointers (opening-gives p modes s n ok .well-formed) (ends b s w) (few p modes s n ok) w begins rs ∙ opening-gives p modes s n ok .same-text rs
 
-    -- "at most types plus members", in word 15 of void
-    pub opened-work-visits : (rs : List Req) → getField (afterOnce (workAsks (B .type-cnt) B) (workNaming b) B rs (openedBy (workNaming b) B w) .mach .known .names) 0 15 ≤ B .type-cnt + membersTo B (B .type-cnt)
-    opened-work-visits rs = work-visits b B pointers (opening-gives p modes s n ok .well-formed) (ends b s w) few w begins rs
+  -- "at most types plus members", in word 15 of void
+  pub opened-work-visits : (rs : List Req) → getField (afterOnce (workAsks (B .type-cnt) B) (workNaming b) B rs (openedBy (workNaming b) B w) .mach .known .names) 0 15 ≤ B .type-cnt + membersTo B (B .type-cnt)
+  opened-work-visits rs = work-visits b B pointers (opening-gives p modes s n ok .well-formed) (ends b s w) (few p modes s n ok) w begins rs
