@@ -2,17 +2,15 @@
 use Prim.Native.Nat.{ℕ, zero, suc, _+_, _<_, _≤_}
 use native.Mathlib.Omega.{arith}
 use mathlib.Core.Path.{_≡_, refl, ap, _∙_, sym, subst}
-use mathlib.Core.Bool.{Bool, true, false}
 use mathlib.Core.List.{List, [], _∷_, List·Memᴰ, List·Memᴰ·head, List·Memᴰ·tail}
-use mathlib.Core.Logic.{_⊎_, inl, inr, ⊎-elim}
+use mathlib.Core.Logic.{⊎-elim}
 use lib.ListN.{length}
 use Rattle.lent.proofs.Laws.{le-or-lt}
-use Rattle.rules.specs.Writer.{Ask, got, no, askThen, tooDeep}
-use Rattle.rules.specs.Types.{Member, BtfType, Void, Int, Ptr, Array, Composite, Enum, Enum64, Fwd, Typedef, Mod, Func, Var, Datasec, FuncProto, Float, DeclTag, TypeTag, Btf, nodeOf, memberTypes, tableOf}
+use Rattle.rules.specs.Types.{Member, BtfType, Void, Int, Ptr, Array, Composite, Enum, Enum64, Fwd, Typedef, Mod, Func, Var, Datasec, FuncProto, Float, DeclTag, TypeTag, Btf, nodeOf, memberTypes}
 use Rattle.rules.specs.Layout.{alignOf, getAlignOf}
 use Rattle.demand.specs.Needs.{kids}
-use Rattle.alignments.specs.Once.{Seen, Known, unknown, known, Keep, Lawful, Once, found, refused, Asking, onceThen, answerOf, memoryAfter, above, alone, widest, membersOnce, taken, typeOnce, keepOnce, alignOnce, listOnce, within, Tells, Right, Grows, memberCount, membersTo, cost, paidTo}
-use Rattle.alignments.proofs.Right.{known-unknown, same-or, taken-found, taken-refused, above-tells, Told, align-of, New, type-told, not-inside, told}
+use Rattle.alignments.specs.Once.{Seen, Known, unknown, known, Keep, Lawful, Once, found, refused, Asking, onceThen, above, alone, widest, membersOnce, taken, typeOnce, keepOnce, alignOnce, Tells, Right, memberCount, membersTo, cost, paidTo}
+use Rattle.alignments.proofs.Right.{same-or, taken-found, taken-refused, above-tells, Told, align-of, type-told, not-inside, told}
 
 -- ---- what is remembered at one place more
 module _ (B : Btf) (f f′ : ℕ → Known) (id : ℕ) (other : (d : ℕ) → (d ≡ id → ⊥) → f′ d ≡ f d) where

@@ -1,20 +1,20 @@
 -- What a body asks comes to the same by the remembering way, refusals included, and its visits stay the types remembered and their members.
 -- Assumes nothing.
-use Prim.Native.Nat.{ℕ, zero, suc, _+_, _-_, _*_, _%_, _<_, _≤_}
+use Prim.Native.Nat.{ℕ, _+_, _-_, _*_, _%_, _<_, _≤_}
 use native.Mathlib.Omega.{arith}
 use mathlib.Core.Path.{_≡_, refl, ap, _∙_, sym, subst}
-use mathlib.Core.Bool.{Bool, true, false, _&&_}
+use mathlib.Core.Bool.{Bool, true, false}
 use mathlib.Core.List.{List, [], _∷_, List·Memᴰ, List·Memᴰ·head, List·Memᴰ·tail}
 use lib.Dec.{leb, eqb}
-use Rattle.rules.specs.Writer.{Ask, got, no, askThen, checked, tooDeep, alignZero, misplaced}
+use Rattle.rules.specs.Writer.{Ask, got, no, askThen, alignZero}
 use Rattle.rules.specs.Types.{Member, BtfType, Composite, Btf, nodeOf, memberTypes, Name}
-use Rattle.rules.specs.Layout.{alignMembers, alignOf, getAlignOf, offAlign, membersPacked, isStructPacked, Pad, padsBefore, bitPadding}
-use Rattle.rules.specs.Placing.{Extent, extentOf, noExtent, unionAlign, sizeFits, measured, bodyPacked}
+use Rattle.rules.specs.Layout.{alignMembers, alignOf, getAlignOf, offAlign, membersPacked, isStructPacked, padsBefore, bitPadding}
+use Rattle.rules.specs.Placing.{unionAlign, measured, bodyPacked}
 use Rattle.demand.specs.Needs.{kids}
-use Rattle.alignments.specs.Once.{Seen, Known, unknown, known, Keep, Lawful, Once, found, refused, Asking, onceThen, alignOnce, alignmentOnce, listOnce, listPlain, within, Tells, Right, Grows, membersTo, paidTo}
+use Rattle.alignments.specs.Once.{Seen, Keep, Lawful, Once, found, refused, Asking, onceThen, alignOnce, alignmentOnce, listOnce, listPlain, Tells, Right, membersTo, paidTo}
 use Rattle.alignments.specs.Steps.{plainly, offAlignOnce, membersPackedOnce, packedOnce, gapAlignOnce, paddingOnce, unionAlignOnce, judged, measuredOnce, bodyOnce}
 use Rattle.alignments.proofs.Right.{within-got, Told, align-of, told}
-use Rattle.alignments.proofs.Counted.{paid-most, paid-none, Counts, counts}
+use Rattle.alignments.proofs.Counted.{paid-most, Counts, counts}
 
 -- what holds of the memory after an answer
 abbrev pub After : {M A : Type 0} → (M → Type 0) → Once M A → Type 0

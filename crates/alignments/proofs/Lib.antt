@@ -1,3 +1,4 @@
+-- Right: the plain way's answers. Counted: visits. Fair: what a body asks. Tables: a memory that is a function. Writers, Session: texts, and sessions.
 pub mod Right
 pub mod Counted
 pub mod Fair

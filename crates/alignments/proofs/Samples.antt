@@ -1,10 +1,9 @@
 -- Samples: the two ways on unions that double, and on a struct that holds itself.
-use Prim.Native.Nat.{ℕ, zero, suc, _+_}
 use mathlib.Core.Path.{_≡_, refl}
-use mathlib.Core.List.{List, [], _∷_}
-use Rattle.rules.specs.Writer.{Ask, got, no, askThen}
+use mathlib.Core.List.{[], _∷_}
+use Rattle.rules.specs.Writer.{got, no, askThen}
 use Rattle.rules.specs.Layout.{larger, smaller, octets, alignMembers, alignOf, getAlignOf}
-use Rattle.alignments.specs.Once.{Seen, answerOf, onceThen, membersOnce, taken, typeOnce, keepOnce, alignOnce, alignmentOnce, listOnce, tableKeep, blank}
+use Rattle.alignments.specs.Once.{answerOf, onceThen, membersOnce, taken, typeOnce, keepOnce, alignOnce, alignmentOnce, listOnce, tableKeep, blank}
 use Rattle.alignments.specs.Samples.{plainCalls, doubling, loop, visitsFor}
 
 -- 20 unions: three million calls of the plain way, 81 visits of the other (21 types, 60 members), and none for a second question

@@ -1,35 +1,35 @@
 -- A session by the remembering way: for every list of requests the same numbers, lengths and text as by the plain way, and visits that are at most types
 -- plus members. Assumes nothing.
-use Prim.Native.Nat.{ℕ, zero, suc, _+_, _<_, _≤_}
+use Prim.Native.Nat.{ℕ, _+_, _<_, _≤_}
 use native.Mathlib.Omega.{arith}
 use mathlib.Core.Path.{_≡_, refl, ap, _∙_, sym, subst}
 use mathlib.Core.Bool.{Bool, true, false}
-use mathlib.Core.List.{List, [], _∷_, _++_, List·Memᴰ}
-use mathlib.Core.Logic.{_⊎_, inl, inr, ⊎-elim}
-use lib.ListN.{length, getD, set, length-set, replicate, length-replicate}
+use mathlib.Core.List.{List, [], _∷_, _++_}
+use mathlib.Core.Logic.{⊎-elim}
+use lib.ListN.{length, getD, set, length-set, length-replicate}
 use lib.Dec.{leb}
 use Rattle.lent.specs.Text.{Text, whole, cut, bytes}
 use Rattle.lent.proofs.Laws.{le-or-lt}
-use Rattle.rules.specs.Order.{Mark, new}
-use Rattle.rules.specs.Machine.{Out, wrote, stuck, Sess, Answer, Req, one, all, single, every}
-use Rattle.rules.specs.Writer.{Ask, got, no, Said, said, Writer, stop, given}
-use Rattle.rules.specs.Types.{Name, Member, BtfType, Void, Composite, Btf, nodeOf, tableOf}
+use Rattle.rules.specs.Order.{new}
+use Rattle.rules.specs.Machine.{Sess, Req, one, all}
+use Rattle.rules.specs.Writer.{Ask, got, no, Said, Writer, stop, given}
+use Rattle.rules.specs.Types.{Name, Member, Void, Composite, Btf, tableOf}
 use Rattle.rules.specs.Layout.{smaller, Pad, bitPadding}
 use Rattle.rules.specs.Placing.{bodyPacked}
-use Rattle.rules.specs.Names.{Space, Naming}
+use Rattle.rules.specs.Names.{Naming}
 use Rattle.rules.specs.Emit.{definition, forward}
 use Rattle.rules.proofs.Keeps.{any-name, any-value}
 use Rattle.rules.proofs.Related.{RelSaid, same, RelW, rel-stop, RelNaming, rel-closed}
-use Rattle.demand.specs.Needs.{kids, WF}
-use Rattle.demand.specs.Lists.{Piece, defines, other, Line, says, cannot, Ls, putLine, afresh}
-use Rattle.demand.specs.Session.{Known as Line-known, fitting, lineOf, machineBy, openedBy, textOf, Dump, dump, answerOf, dumped}
+use Rattle.demand.specs.Needs.{WF}
+use Rattle.demand.specs.Lists.{Piece, defines, other, cannot, Ls, putLine, afresh}
+use Rattle.demand.specs.Session.{Known as Line-known, fitting, lineOf, machineBy, openedBy, textOf, dump, answerOf, dumped}
 use Rattle.demand.proofs.Lists.{Sized}
 use Rattle.demand.proofs.Session.{machine-lawful}
 use Rattle.demand.proofs.Alike.{AlikeMachine, BothOut, both-wrote, both-stuck, BothSess, BothAnswer, single-alike, every-alike}
 use Rattle.demand.proofs.AnyNames.{Nearly}
-use Rattle.alignments.specs.Once.{Seen, Known, unknown, known, Keep, Lawful, Once, found, refused, Asking, alignOnce, Tells, Right, membersTo, paidTo}
+use Rattle.alignments.specs.Once.{Seen, unknown, known, Keep, Lawful, Once, found, refused, alignOnce, Tells, membersTo}
 use Rattle.alignments.specs.Steps.{paddingOnce, bodyOnce}
-use Rattle.alignments.specs.Writers.{Asks, answered, givenOnce, definitionOnce, forwardOnce, linesOnce, machineOnce, answerOnce, afterOnce, dumpedOnce, Minded, minded, carried, mindedAsks, noVisits}
+use Rattle.alignments.specs.Writers.{Asks, answered, givenOnce, definitionOnce, forwardOnce, machineOnce, answerOnce, afterOnce, dumpedOnce, Minded, minded, carried, mindedAsks, noVisits}
 use Rattle.alignments.proofs.Right.{known-unknown}
 use Rattle.alignments.proofs.Counted.{paid-none}
 use Rattle.alignments.proofs.Fair.{Nothing, no-more, Honest, at-most, Fair, fair-body, fair-padding}

@@ -1,18 +1,17 @@
 -- The memory that is a function, and questions in a row from a memory in which nothing is remembered. Assumes nothing.
-use Prim.Native.Nat.{ℕ, zero, suc, _+_, _<_, _≤_}
+use Prim.Native.Nat.{ℕ, _+_, _<_, _≤_}
 use mathlib.Core.Path.{_≡_, refl, ap, _∙_, sym, subst}
 use mathlib.Core.Bool.{Bool, true, false, _&&_}
-use mathlib.Core.List.{List, [], _∷_, List·Memᴰ}
-use mathlib.Core.Logic.{_⊎_, inl, inr, ⊎-elim}
+use mathlib.Core.List.{List, [], List·Memᴰ}
+use mathlib.Core.Logic.{_⊎_, inl, inr}
 use lib.Dec.{ltb, eqb}
 use borrow.Author.Tests.{lt-ltb, eq-eqb, ne-eqb}
-use Rattle.rules.specs.Writer.{Ask, got, no}
 use Rattle.rules.specs.Types.{Btf, nodeOf}
 use Rattle.demand.specs.Needs.{kids}
-use Rattle.alignments.specs.Once.{Seen, Known, unknown, known, Keep, Lawful, Once, found, refused, answerOf, alignOnce, listOnce, listPlain, Table, tableKeep, blank, membersTo, paidTo}
+use Rattle.alignments.specs.Once.{Seen, Known, known, Lawful, Once, found, refused, answerOf, alignOnce, listOnce, listPlain, Table, tableKeep, blank, membersTo, paidTo}
 use Rattle.alignments.proofs.Right.{known-unknown}
 use Rattle.alignments.proofs.Counted.{paid-none}
-use Rattle.alignments.proofs.Fair.{Nothing, no-more, Honest, at-most, Fair, fair-list}
+use Rattle.alignments.proofs.Fair.{Nothing, no-more, at-most, Fair, fair-list}
 
 abbrev pub Any : Table → Type 0
 Any m = Unit {0}

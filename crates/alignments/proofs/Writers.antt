@@ -1,24 +1,21 @@
 -- Every emitter by the remembering way writes the text of the plain one, and meets its refusals. Assumes nothing.
-use Prim.Native.Nat.{ℕ, zero, suc, _+_, _<_, _≤_}
-use mathlib.Core.Path.{_≡_, refl, ap, _∙_, sym, subst}
+use Prim.Native.Nat.{ℕ, zero, suc, _+_, _<_}
+use mathlib.Core.Path.{_≡_, refl, sym, subst}
 use mathlib.Core.Bool.{Bool, true, false, not}
-use mathlib.Core.List.{List, [], _∷_, _++_, List·Memᴰ, List·Memᴰ·head, List·Memᴰ·tail}
-use mathlib.Core.Logic.{_⊎_, inl, inr, ⊎-elim}
+use mathlib.Core.List.{List, [], _∷_, List·Memᴰ, List·Memᴰ·head, List·Memᴰ·tail}
+use mathlib.Core.Logic.{inl}
 use lib.ListN.{length}
-use Rattle.lent.specs.Text.{ascii, pfx}
-use Rattle.lent.proofs.Laws.{le-or-lt}
-use Rattle.rules.specs.Writer.{Ask, got, no, Writer, _⨾_, put, stop, nothing, given}
+use Rattle.rules.specs.Writer.{Writer, _⨾_, put, given}
 use Rattle.rules.specs.Types.{Name, isEmpty, Member, Param, BtfType, Void, Int, Ptr, Array, Composite, Enum, Enum64, Fwd, Typedef, Mod, Func, Var, Datasec, FuncProto, Float, DeclTag, TypeTag, Btf, nodeOf, memberTypes}
 use Rattle.rules.specs.Layout.{Pad, bitPadding, endOf}
 use Rattle.rules.specs.Placing.{bodyPacked, tailPads}
-use Rattle.rules.specs.Names.{Space, tagSpace, identSpace, Resolved, Naming, resolving, spelled, resolveTypeName, builtin}
-use Rattle.rules.specs.Decl.{deeper, Entry, base, star, qual, array, proto, tag, chainOf, mods, noMods, isArray, shownParams, enumValue, enum64Value, emitName, parens, emitParams, emitCompositeFwd, baseWord, emitArray, emitProto, paramList, chainLoop, emitMembers, compositeHead, compositeEnd, compositeBody, compositeDef, emitTypeDecl, emitTypeChain, emitCompositeDef, emitTypedefDef}
-use Rattle.rules.specs.Emit.{lineEnd, definition, shown, forward}
-use Rattle.rules.proofs.Closed.{TypeFits, Closed, asks-end, asks-chain, r-put, r-then, r-if, r-given, r-emit-name, r-parens, r-emit-params, r-emit-composite-fwd, r-emit-fwd-def, r-enum-word, r-emit-enum-def, r-composite-head, r-composite-end}
+use Rattle.rules.specs.Names.{Space, identSpace, Naming, resolving, spelled, resolveTypeName, builtin}
+use Rattle.rules.specs.Decl.{deeper, Entry, base, star, qual, array, proto, tag, chainOf, noMods, isArray, shownParams, enumValue, enum64Value, baseWord, emitArray, emitProto, paramList, chainLoop, emitMembers, compositeBody, compositeDef, emitTypeDecl, emitTypeChain, emitCompositeDef, emitTypedefDef}
+use Rattle.rules.specs.Emit.{definition, shown, forward}
+use Rattle.rules.proofs.Closed.{Closed, asks-end, asks-chain, r-given, r-emit-name, r-parens, r-emit-params, r-emit-composite-fwd, r-emit-fwd-def, r-enum-word, r-emit-enum-def, r-composite-head, r-composite-end}
 use Rattle.rules.proofs.Keeps.{any-name, any-value, values-fit}
 use Rattle.demand.specs.Needs.{kids}
-use Rattle.alignments.specs.Once.{Once, found, refused}
-use Rattle.alignments.specs.Writers.{Asks, answered, givenOnce, emitMembersOnce, compositeBodyOnce, compositeDefOnce, emitTypeDeclOnce, emitTypeChainOnce, emitCompositeDefOnce, emitTypedefDefOnce, definitionOnce, forwardOnce}
+use Rattle.alignments.specs.Writers.{Asks, givenOnce, emitMembersOnce, compositeBodyOnce, compositeDefOnce, emitTypeDeclOnce, emitTypeChainOnce, emitCompositeDefOnce, emitTypedefDefOnce, definitionOnce, forwardOnce}
 
 -- A relation that the parts of an emitter keep, and the questions with a memory, all emitters keep.
 module _ {St U : Type 0} (Q : Asks St) (N′ : Naming St) (N : Naming U) (B : Btf) (n : ℕ) (below : (x y : ℕ) → List·Memᴰ y (kids (nodeOf (B .type-by-id x))) → y < n)

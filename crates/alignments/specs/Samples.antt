@@ -1,10 +1,10 @@
 -- "Deeply nested unions make a request crawl": tables on which the two ways differ in their work, and tables on which both refuse.
 use Prim.Native.Nat.{ℕ, zero, suc, _+_}
-use mathlib.Core.Bool.{Bool, true, false}
+use mathlib.Core.Bool.{true, false}
 use mathlib.Core.List.{List, [], _∷_}
 use Rattle.rules.specs.Types.{Member, BtfType, Void, Int, Ptr, Array, Composite, Enum, Enum64, Fwd, Typedef, Mod, Func, Var, Datasec, FuncProto, Float, DeclTag, TypeTag, Btf}
 use Rattle.rules.specs.Listed.{listed}
-use Rattle.alignments.specs.Once.{Seen, Once, found, refused, Table, tableKeep, blank, alignOnce, alignmentOnce, listOnce}
+use Rattle.alignments.specs.Once.{Once, found, refused, Table, tableKeep, blank, listOnce}
 
 -- the calls that the plain way opens for an answer that is not refused
 abbrev callsEach : (ℕ → ℕ) → List Member → ℕ

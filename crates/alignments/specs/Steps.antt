@@ -7,8 +7,8 @@ use lib.Dec.{leb, eqb}
 use Rattle.rules.specs.Writer.{Ask, got, no, askThen, checked, alignZero, misplaced}
 use Rattle.rules.specs.Types.{Member, Btf}
 use Rattle.rules.specs.Layout.{Pad, padsBefore}
-use Rattle.rules.specs.Placing.{Extent, extentOf, noExtent, sizeFits}
-use Rattle.alignments.specs.Once.{Keep, Once, found, refused, Asking, onceThen, alignmentOnce}
+use Rattle.rules.specs.Placing.{extentOf, noExtent, sizeFits}
+use Rattle.alignments.specs.Once.{Keep, found, refused, Asking, onceThen, alignmentOnce}
 
 module _ {M : Type 0} where
   -- a question that asks for no alignment

@@ -9,13 +9,13 @@ use Rattle.rules.specs.Writer.{Writer, _⨾_, put, stop, nothing, given, tooDee
 use Rattle.rules.specs.Types.{Name, Member, BtfType, Void, Int, Ptr, Array, Composite, Enum, Enum64, Fwd, Typedef, Mod, Func, Var, Datasec, FuncProto, Float, DeclTag, TypeTag, Btf, tableOf}
 use Rattle.rules.specs.Layout.{Pad, endOf}
 use Rattle.rules.specs.Placing.{tailPads}
-use Rattle.rules.specs.Names.{Space, identSpace, Resolved, Naming, Names, naming, resolveTypeName, builtin}
+use Rattle.rules.specs.Names.{identSpace, Resolved, Naming, resolveTypeName, builtin}
 use Rattle.rules.specs.Decl.{Entry, deeper, emitDeclTags, chainOf, pads, tailText, bitSize, emitCompositeFwd, emitFwdDef, enumValue, enum64Value, emitEnumDef, chainLoop, compositeHead, compositeEnd}
 use Rattle.rules.specs.Emit.{lineEnd, shown}
 use Rattle.rules.specs.Machine.{Machine, Sess, Answer, Req, one, all, single, every}
-use Rattle.demand.specs.Lists.{Lines, Ls, listMachine, afresh}
-use Rattle.demand.specs.Session.{Known, lineOf, Dump, dump, textOf, noNames}
-use Rattle.alignments.specs.Once.{Keep, Once, found, refused, Asking}
+use Rattle.demand.specs.Lists.{Lines, Ls, listMachine}
+use Rattle.demand.specs.Session.{Known, lineOf, Dump, dump, textOf}
+use Rattle.alignments.specs.Once.{Keep, Once, found, refused}
 use Rattle.alignments.specs.Steps.{paddingOnce, bodyOnce}
 
 -- What a body asks of a state that has the names and the memory: the pads before a member, and whether the body is packed.

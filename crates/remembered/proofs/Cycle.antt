@@ -1,23 +1,22 @@
 -- What each return of align_once and members_once comes to. Assumes nothing.
-use Prim.Native.Nat.{ℕ, zero, suc, _+_, _-_, _*_, _/_, _%_, _<_, _≤_}
+use Prim.Native.Nat.{ℕ, zero, suc, _+_, _-_, _/_, _%_, _<_, _≤_}
 use native.Mathlib.Omega.{arith}
 use mathlib.Core.Path.{_≡_, refl, ap, _∙_, sym, subst}
 use mathlib.Core.Bool.{Bool, true, false}
-use mathlib.Core.List.{List, [], _∷_}
-use mathlib.Core.Logic.{_⊎_, inl, inr, ⊎-elim}
-use lib.ListN.{getD, length}
-use lib.Dec.{ltb, leb, eqb}
-use borrow.Author.Tests.{lt-ltb, le-ltb, le-leb, lt-leb, ne-eqb}
+use mathlib.Core.List.{List, []}
+use mathlib.Core.Logic.{⊎-elim}
+use lib.ListN.{length}
+use lib.Dec.{leb, eqb}
+use borrow.Author.Tests.{ne-eqb}
 use Rattle.lent.proofs.Laws.{le-or-lt}
-use Rattle.rules.specs.Writer.{tooDeep}
-use Rattle.rules.specs.Layout.{smaller, larger, octets}
+use Rattle.rules.specs.Layout.{larger}
 use Rattle.rules.specs.Types.{Member, memberTypes, BtfType, Btf as Rules}
 use Rattle.btf.specs.declared.types.Btf.{Btf}
 use Rattle.btf.specs.declared.types.BtfType.{BtfType as Record}
 use Rattle.btf.specs.declared.types.Entries.{Entries}
-use Rattle.btf.specs.Cells.{getField, putField}
+use Rattle.btf.specs.Cells.{putField}
 use Rattle.btf.specs.Records.{sectionWord, kindOf, vlenOf, memberAt, memberOf, recordById, entriesOf}
-use Rattle.btf.specs.Table.{from, ruleMember, extraWord, membersOf, typeOf, btfOf}
+use Rattle.btf.specs.Table.{from, ruleMember, membersOf, typeOf, btfOf}
 use Rattle.btf.specs.Nodes.{memberIds}
 use Rattle.btf.proofs.Frame.{table-field}
 use Rattle.btf.proofs.KindLaws.{by-kind, member-types}
@@ -28,7 +27,7 @@ use Rattle.remembered.specs.declared.Once.{Once as Answer}
 use Rattle.remembered.specs.declared.Once.the-variants.{Found, No}
 use Rattle.remembered.specs.declared.Step.{Step}
 use Rattle.remembered.specs.declared.Step.the-variants.{Own, Through, Members}
-use Rattle.remembered.specs.Words.{seenWord, decoded, coded, counted, remembered, workKeep, seenIs, onceOf, heightOf, takenBy, forget, onceWith, idsOnce, idsWith, keptWith, stepAt}
+use Rattle.remembered.specs.Words.{seenWord, decoded, coded, counted, remembered, workKeep, onceOf, heightOf, takenBy, forget, onceWith, idsOnce, idsWith, keptWith, stepAt}
 use Rattle.remembered.proofs.Laws.{taken-over, taken-fits}
 use Rattle.remembered.proofs.Turns.{members-ids, next, then-next, forget-ids, forget-align, Held, held-forget, ids-held, align-held}
 

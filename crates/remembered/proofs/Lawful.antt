@@ -7,15 +7,14 @@ use mathlib.Core.List.{List, [], _∷_}
 use mathlib.Core.Logic.{_⊎_, inl, inr, ⊎-elim}
 use lib.ListN.{length}
 use lib.Dec.{ltb, leb, eqb}
-use borrow.Author.Tests.{lt-ltb, le-ltb, le-leb, lt-leb, ne-eqb}
-use Rattle.lent.specs.Words.{getWord, putWord}
+use borrow.Author.Tests.{lt-ltb, le-leb, lt-leb, ne-eqb}
 use Rattle.lent.proofs.Laws.{le-or-lt, put-out, put-length, get-put-same, get-put-other}
 use Rattle.rules.specs.Writer.{Ask, got, no, askThen}
 use Rattle.rules.specs.Types.{Member, BtfType, Void, Int, Ptr, Array, Composite, Enum, Enum64, Fwd, Typedef, Mod, Func, Var, Datasec, FuncProto, Float, DeclTag, TypeTag, Btf as Rules}
 use Rattle.rules.specs.Layout.{larger, smaller, octets, alignMembers, alignOf, getAlignOf}
 use Rattle.btf.specs.Cells.{getField, putField}
 use Rattle.btf.proofs.Frame.{field-other}
-use Rattle.alignments.specs.Once.{Seen, Known, unknown, known, Keep, Lawful, within, Tells, memberCount}
+use Rattle.alignments.specs.Once.{Seen, known, Keep, Lawful, Tells, memberCount}
 use Rattle.alignments.proofs.Right.{no-got, both-below, within-got, same-or}
 use Rattle.remembered.specs.Words.{seenWord, decoded, coded, counted, remembered, workKeep}
 use Rattle.remembered.proofs.Laws.{coded-fits, coded-wide, coded-high, remember-none, remember-past, remember-here}

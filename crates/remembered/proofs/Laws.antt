@@ -1,30 +1,25 @@
 -- What each return of the code comes to. Assumes nothing.
-use Prim.Native.Nat.{ℕ, zero, suc, _+_, _-_, _*_, _/_, _%_, _<_, _≤_}
+use Prim.Native.Nat.{ℕ, suc, _+_, _-_, _*_, _/_, _%_, _<_, _≤_}
 use native.Mathlib.Omega.{arith}
-use native.Mathlib.Numerals.{add-one}
-use mathlib.Core.Path.{_≡_, refl, ap, _∙_, sym, subst}
-use mathlib.Core.Bool.{Bool, true, false}
-use mathlib.Core.List.{List, [], _∷_}
+use mathlib.Core.Path.{_≡_, ap, _∙_, sym, subst}
+use mathlib.Core.Bool.{true, false}
+use mathlib.Core.List.{List, []}
 use mathlib.Core.Logic.{_⊎_, inl, inr, ⊎-elim}
-use lib.ListN.{getD, length}
-use lib.Dec.{ltb, leb, eqb}
+use lib.Dec.{leb}
 use borrow.Author.Tests.{lt-ltb, le-ltb, le-leb, lt-leb, ne-eqb}
 use Rattle.lent.proofs.Laws.{le-or-lt}
-use Rattle.rules.specs.Layout.{smaller, larger, octets}
-use Rattle.rules.specs.Types.{Member, memberTypes, BtfType, Btf as Rules}
+use Rattle.rules.specs.Layout.{smaller, octets}
 use Rattle.btf.specs.declared.types.Btf.{Btf}
 use Rattle.btf.specs.declared.types.BtfType.{BtfType as Record}
 use Rattle.btf.specs.declared.types.Entries.{Entries}
 use Rattle.btf.specs.Cells.{getField, putField}
-use Rattle.btf.specs.Records.{sectionWord, kindOf, vlenOf, memberAt, recordById, entriesOf}
-use Rattle.btf.specs.Table.{from, extraWord, membersOf, typeOf, btfOf}
-use Rattle.btf.specs.Nodes.{memberIds}
+use Rattle.btf.specs.Records.{kindOf, entriesOf}
+use Rattle.btf.specs.Table.{extraWord}
 use Rattle.remembered.specs.declared.Seen.{Seen as Code}
 use Rattle.remembered.specs.declared.Once.{Once as Answer}
 use Rattle.remembered.specs.declared.Once.the-variants.{Found, No}
-use Rattle.remembered.specs.declared.Step.{Step}
 use Rattle.remembered.specs.declared.Step.the-variants.{Own, Through, Members}
-use Rattle.alignments.specs.Once.{Seen, Known, unknown, known, Keep, Once as Told, found, refused, Asking, onceThen, memoryAfter, above, alone, widest, membersOnce, taken, typeOnce, keepOnce, alignOnce, memberCount}
+use Rattle.alignments.specs.Once.{Seen, Once as Told}
 use Rattle.remembered.specs.Words.{seenWord, coded, counted, remembered, seenIs, onceOf, heightOf, takenBy, keptWith, stepAt}
 
 -- ---- words

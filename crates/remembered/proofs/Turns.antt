@@ -1,15 +1,13 @@
 -- The remembering way over any memory: the visits made before change nothing else, the height is no more than the calls left, and what remembering
 -- keeps is kept. Assumes nothing.
-use Prim.Native.Nat.{ℕ, zero, suc, _+_, _<_, _≤_}
+use Prim.Native.Nat.{ℕ, zero, suc, _≤_}
 use native.Mathlib.Omega.{arith}
 use mathlib.Core.Path.{_≡_, refl, ap, _∙_, sym, subst}
 use mathlib.Core.Bool.{Bool, true, false}
 use mathlib.Core.List.{List, [], _∷_}
-use mathlib.Core.Logic.{_⊎_, inl, inr, ⊎-elim}
 use lib.Dec.{leb}
 use borrow.Author.Tests.{leb-true}
 use Rattle.rules.specs.Writer.{tooDeep}
-use Rattle.rules.specs.Layout.{larger}
 use Rattle.rules.specs.Types.{Member, memberTypes, BtfType, Void, Int, Ptr, Array, Composite, Enum, Enum64, Fwd, Typedef, Mod, Func, Var, Datasec, FuncProto, Float, DeclTag, TypeTag, Btf as Rules}
 use Rattle.alignments.specs.Once.{Seen, Known, unknown, known, Keep, Once, found, refused, Asking, onceThen, above, alone, widest, membersOnce, taken, typeOnce, keepOnce, alignOnce}
 use Rattle.alignments.proofs.Right.{both-below}

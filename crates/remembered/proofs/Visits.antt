@@ -1,27 +1,27 @@
 -- Of a work whose memory is right: align_once answers what get_align_of answers, and word 15 of void counts the visits, at most types plus members. Assumes
 -- nothing.
-use Prim.Native.Nat.{ℕ, zero, suc, _+_, _*_, _/_, _%_, _<_, _≤_}
+use Prim.Native.Nat.{ℕ, zero, suc, _+_, _*_, _/_, _<_, _≤_}
 use native.Mathlib.Omega.{arith}
 use mathlib.Core.Path.{_≡_, refl, ap, _∙_, sym, subst}
-use mathlib.Core.Bool.{Bool, true, false}
+use mathlib.Core.Bool.{true}
 use mathlib.Core.List.{List, [], _∷_, List·Memᴰ, List·Memᴰ·head, List·Memᴰ·tail}
-use mathlib.Core.Logic.{_⊎_, inl, inr, ⊎-elim}
+use mathlib.Core.Logic.{⊎-elim}
 use lib.ListN.{length}
-use lib.Dec.{ltb, leb, eqb}
+use lib.Dec.{leb}
 use borrow.Author.Tests.{le-leb}
 use Rattle.lent.proofs.Laws.{le-or-lt, get-put-same}
-use Rattle.rules.specs.Writer.{Ask, got, no, askThen, tooDeep}
+use Rattle.rules.specs.Writer.{Ask, got, askThen}
 use Rattle.rules.specs.Types.{Member, memberTypes, BtfType, Void, Int, Ptr, Array, Composite, Enum, Enum64, Fwd, Typedef, Mod, Func, Var, Datasec, FuncProto, Float, DeclTag, TypeTag, Btf as Rules, nodeOf}
 use Rattle.rules.specs.Layout.{smaller, alignOf, getAlignOf}
 use Rattle.btf.specs.Cells.{getField, putField}
 use Rattle.btf.proofs.Frame.{field-other}
 use Rattle.demand.specs.Needs.{kids}
-use Rattle.alignments.specs.Once.{Seen, Known, unknown, known, Keep, Once, found, refused, Asking, onceThen, answerOf, memoryAfter, above, alone, widest, membersOnce, taken, typeOnce, keepOnce, alignOnce, within, Tells, Right, memberCount, membersTo, paidTo}
+use Rattle.alignments.specs.Once.{Seen, Known, unknown, known, Keep, Once, found, refused, Asking, onceThen, answerOf, memoryAfter, above, alone, widest, membersOnce, taken, typeOnce, keepOnce, alignOnce, Right, memberCount, membersTo, paidTo}
 use Rattle.alignments.proofs.Right.{Told, align-of, above-tells, taken-found, taken-refused, type-told, not-inside, told, same-answer, stays-right}
 use Rattle.alignments.proofs.Counted.{paid-more, paid-most}
 use Rattle.remembered.specs.declared.Once.{Once as Answer}
 use Rattle.remembered.specs.declared.Once.the-variants.{Found, No}
-use Rattle.remembered.specs.Words.{seenWord, decoded, coded, counted, remembered, workKeep, onceOf, forget, onceWith}
+use Rattle.remembered.specs.Words.{coded, counted, workKeep, onceOf, forget, onceWith}
 use Rattle.remembered.proofs.Laws.{remember-here}
 use Rattle.remembered.proofs.Lawful.{Roomy, FitsWord, coded-is, work-lawful, tells-fits}
 

@@ -1,7 +1,7 @@
 -- What is remembered of alignments, as words of the work: word 14 of a type is 0, or 16 times the height of the calls of get_align_of and the alignment;
 -- word 15 of void counts the visits.
 use Prim.Native.Nat.{ℕ, suc, _+_, _*_, _/_, _%_}
-use mathlib.Core.Bool.{Bool, true, false}
+use mathlib.Core.Bool.{true, false}
 use mathlib.Core.List.{List, [], _∷_}
 use lib.ListN.{getD}
 use lib.Dec.{ltb, leb, eqb}

@@ -1,12 +1,11 @@
 -- The types and members of a section that opening accepts are fewer than 2^32: a member takes 12 bytes. Assumes nothing.
-use Prim.Native.Nat.{ℕ, zero, suc, _+_, _-_, _*_, _/_, _%_, _<_, _≤_}
+use Prim.Native.Nat.{ℕ, zero, suc, _+_, _-_, _*_, _<_, _≤_}
 use native.Mathlib.Omega.{arith}
 use mathlib.Core.Path.{_≡_, refl, ap, _∙_, sym, subst}
-use mathlib.Core.Bool.{Bool, true, false}
+use mathlib.Core.Bool.{true}
 use mathlib.Core.List.{List, []}
 use mathlib.Core.Logic.{⊎-elim}
 use lib.ListN.{length}
-use lib.Dec.{leb, eqb}
 use borrow.Author.Tests.{lt-leb, ne-eqb}
 use Rattle.lent.proofs.Laws.{le-or-lt}
 use Rattle.rules.specs.Types.{Btf as Rules}
@@ -14,7 +13,7 @@ use Rattle.btf.specs.declared.types.Btf.{Btf}
 use Rattle.btf.specs.declared.types.BtfType.{BtfType as Record}
 use Rattle.btf.specs.Records.{sectionWord, kindOf, vlenOf, memberOf, recordAt, voidRecord, recordById}
 use Rattle.btf.specs.Cells.{getField}
-use Rattle.btf.specs.Table.{from, ruleMember, membersOf, typeOf, btfOf}
+use Rattle.btf.specs.Table.{from, ruleMember, typeOf, btfOf}
 use Rattle.btf.proofs.KindLaws.{by-kind}
 use Rattle.records.specs.Reading.{kind, extra}
 use Rattle.records.specs.Places.{kindP, vlenP, sizeP, soundP, namedP, passesP, placeFrom}

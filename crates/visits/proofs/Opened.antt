@@ -3,9 +3,9 @@ use Prim.Native.Nat.{ℕ, _+_, _≤_}
 use native.Mathlib.Decide.{ℕ-discrete}
 use mathlib.Core.Path.{_≡_, refl, ap, _∙_, sym}
 use mathlib.Core.List.{List, []}
-use Rattle.rules.specs.Types.{Void, BtfType, Btf as Rules}
+use Rattle.rules.specs.Types.{Void, Btf as Rules}
 use Rattle.rules.specs.Machine.{Req}
-use Rattle.rules.specs.Names.{Names, naming}
+use Rattle.rules.specs.Names.{naming}
 use Rattle.btf.specs.declared.types.Btf.{Btf}
 use Rattle.btf.specs.Records.{voidRecord, recordById}
 use Rattle.btf.specs.Table.{btfOf, typeOf}
@@ -14,8 +14,8 @@ use Rattle.opening.specs.Causes.{openingNumber}
 use Rattle.demand.specs.Session.{noNames, openedBy, dumpTypes}
 use Rattle.claims.specs.Table.{openedTable}
 use Rattle.claims.proofs.Claims.{opening-gives}
-use Rattle.alignments.specs.Once.{Table, tableKeep, blank, membersTo}
-use Rattle.alignments.specs.Writers.{afterOnce, dumpedOnce, Minded, minded, mindedAsks, noVisits}
+use Rattle.alignments.specs.Once.{tableKeep, blank, membersTo}
+use Rattle.alignments.specs.Writers.{afterOnce, dumpedOnce, minded, mindedAsks, noVisits}
 use Rattle.alignments.proofs.Tables.{Any, Each, table-lawful}
 use Rattle.alignments.proofs.Session.{minded-session, session-visits}
 

@@ -1,10 +1,10 @@
 -- A session by the remembering way in the work that opening leaves, of every section that it accepts. Assumes nothing.
-use Prim.Native.Nat.{ℕ, zero, suc, _+_, _*_, _/_, _<_, _≤_}
+use Prim.Native.Nat.{ℕ, _+_, _*_, _/_, _<_, _≤_}
 use native.Mathlib.Omega.{arith}
 use mathlib.Core.Path.{_≡_, refl, ap, _∙_, sym, subst}
 use mathlib.Core.Bool.{Bool, true, false}
 use mathlib.Core.List.{List, []}
-use mathlib.Core.Logic.{_⊎_, inl, inr, ⊎-elim, _≢_}
+use mathlib.Core.Logic.{_≢_}
 use lib.ListN.{length}
 use lib.Dec.{ltb, eqb}
 use borrow.Author.Tests.{ltb-true}
@@ -20,19 +20,18 @@ use Rattle.classes.proofs.Keys.{place-apart}
 use Rattle.fill.proofs.Zeros.{other-field}
 use Rattle.opening.specs.Opened.{workOf}
 use Rattle.opening.specs.Causes.{openingNumber}
-use Rattle.opening.specs.Table.{typesOf}
 use Rattle.opening.proofs.ReadBack.{else-back, work-length, work-long}
 use Rattle.opening.proofs.Index.{some-type}
 use Rattle.demand.specs.Session.{openedBy, dumpTypes}
 use Rattle.claims.specs.Table.{headerOf, openedTable}
 use Rattle.claims.proofs.Described.{count-is}
 use Rattle.claims.proofs.Claims.{opening-gives}
-use Rattle.alignments.specs.Once.{Seen, Known, unknown, known, membersTo}
+use Rattle.alignments.specs.Once.{unknown, known, membersTo}
 use Rattle.alignments.specs.Writers.{dumpedOnce, afterOnce}
 use Rattle.alignments.proofs.Right.{known-unknown}
 use Rattle.alignments.proofs.Counted.{paid-none}
 use Rattle.remembered.specs.Words.{seenWord, decoded, workKeep}
-use Rattle.visits.specs.Work.{workAsks, Agree}
+use Rattle.visits.specs.Work.{workAsks}
 use Rattle.visits.proofs.Opened.{ends}
 use Rattle.visits.proofs.Few.{few}
 use Rattle.visits.proofs.Work.{InWork, work-session, work-visits}

@@ -1,35 +1,35 @@
 -- A session by the remembering way in the work: the same numbers, lengths and text as by the plain way. Assumes nothing.
-use Prim.Native.Nat.{ℕ, zero, suc, _+_, _-_, _*_, _/_, _%_, _<_, _≤_}
+use Prim.Native.Nat.{ℕ, _+_, _-_, _*_, _/_, _%_, _<_, _≤_}
 use native.Mathlib.Omega.{arith}
 use mathlib.Core.Path.{_≡_, refl, ap, _∙_, sym, subst}
 use mathlib.Core.Bool.{Bool, true, false}
-use mathlib.Core.List.{List, [], _∷_, List·Memᴰ}
-use mathlib.Core.Logic.{_⊎_, inl, inr, ⊎-elim}
+use mathlib.Core.List.{List, []}
+use mathlib.Core.Logic.{⊎-elim}
 use lib.ListN.{length}
 use lib.Dec.{ltb, leb, eqb}
 use Rattle.lent.specs.Words.{getWord, putWord, oneMore}
 use Rattle.lent.proofs.Laws.{le-or-lt, put-out, put-length, get-put-same, get-put-other}
-use Rattle.rules.specs.Writer.{Ask, got, no}
+use Rattle.rules.specs.Writer.{Ask}
 use Rattle.rules.specs.Layout.{bitPadding}
 use Rattle.rules.specs.Placing.{bodyPacked}
 use Rattle.rules.specs.Machine.{Req}
 use Rattle.rules.specs.Names.{Resolved}
 use Rattle.rules.proofs.Keeps.{any-name, any-value}
 use Rattle.rules.proofs.Related.{RelResolved, RelNaming}
-use Rattle.rules.specs.Types.{Void, nodeOf, tableOf, Btf as Rules}
+use Rattle.rules.specs.Types.{Void, tableOf, Btf as Rules}
 use Rattle.btf.specs.declared.types.Btf.{Btf}
-use Rattle.btf.specs.Cells.{getField, putField, placeOf, classP, countP, countOf, counted, withMore}
+use Rattle.btf.specs.Cells.{getField, putField, classP, countP, countOf, counted, withMore}
 use Rattle.btf.specs.Table.{typeVersionIn, valueVersionIn, enumeratorOf, workNaming}
 use Rattle.btf.proofs.Laws.{place-type, place-enum}
 use Rattle.btf.proofs.Frame.{enumerator-same}
-use Rattle.alignments.specs.Once.{Seen, Known, unknown, known, Keep, Lawful, Once, found, refused, alignOnce, Tells, Right, memberCount, membersTo, paidTo}
+use Rattle.alignments.specs.Once.{Seen, Known, known, Keep, Lawful, Once, found, refused, alignOnce, Right, memberCount, membersTo, paidTo}
 use Rattle.alignments.specs.Steps.{paddingOnce, bodyOnce}
 use Rattle.alignments.specs.Writers.{dumpedOnce, afterOnce}
 use Rattle.alignments.proofs.Right.{same-or}
 use Rattle.alignments.proofs.Counted.{paid-most}
 use Rattle.alignments.proofs.Fair.{After, Honest, Fair, fair-body, fair-padding}
 use Rattle.alignments.proofs.Session.{Kept, Sound, same-session, session-pair}
-use Rattle.demand.specs.Needs.{WF, kids}
+use Rattle.demand.specs.Needs.{WF}
 use Rattle.demand.specs.Session.{openedBy, dumped}
 use Rattle.remembered.specs.Words.{seenWord, decoded, coded, counted as visited, remembered, workKeep}
 use Rattle.remembered.proofs.Lawful.{Roomy, FitsWord, remembered-length, work-lawful, tells-fits}
