@@ -135,19 +135,19 @@ align-once-keep-once-requires-3 : (t : ℕ) → align-once-lts.Need-keep-once-re
 align-once-keep-once-requires-3 t c κs = omega (arith, after-members _ _ _ _ _ _ _ _ (c .before .before .before .members-once .ensures) .0)
 
 align-once-same-length-2 : (t : ℕ) → align-once-lts.Need-same-length-2 (align-once-claims t) (align-once-at t) align-once.Post
-align-once-same-length-2 t c = search needs
+align-once-same-length-2 t c = c .before .before .keep-once .kept .1 .0
 
 align-once-returns-3 : (t : ℕ) → align-once-lts.Need-returns-3 (align-once-claims t) (align-once-at t) align-once.Post
 align-once-returns-3 t c = once-own _ _ _ _ _ _ (c .before .before .before .before .before .before .before .before .before .before .before .before .before .if1 .left) (c .before .before .before .before .before .before .before .before .before .before .before .seen-word .ensures) (c .before .before .before .before .before .before .before .before .before .before .if2 .left) _ (c .before .before .before .before .before .before .before .before .type-by-id .ensures) _ (c .before .before .before .before .before .before .before .step-of .ensures) _ (c .before .before .before .before .before .a .given .1) _ _ (c .before .before .keep-once .ensures)
 
 align-once-same-length-3 : (t : ℕ) → align-once-lts.Need-same-length-3 (align-once-claims t) (align-once-at t) align-once.Post
-align-once-same-length-3 t c = search needs
+align-once-same-length-3 t c = c .before .before .keep-once2 .kept .1 .0 ∙ c .before .before .before .before .before .before .align-once .kept .1 .1 .0
 
 align-once-returns-4 : (t : ℕ) → align-once-lts.Need-returns-4 (align-once-claims t) (align-once-at t) align-once.Post
 align-once-returns-4 t c = once-through _ _ _ _ _ _ (c .before .before .before .before .before .before .before .before .before .before .before .before .before .before .before .before .before .if1 .left) (c .before .before .before .before .before .before .before .before .before .before .before .before .before .before .before .seen-word .ensures) (c .before .before .before .before .before .before .before .before .before .before .before .before .before .before .if2 .left) _ (c .before .before .before .before .before .before .before .before .before .before .before .before .type-by-id .ensures) _ (c .before .before .before .before .before .before .before .before .before .before .before .step-of .ensures) _ (c .before .before .before .before .before .before .before .before .before .x .given .1) _ _ (c .before .before .before .before .before .before .align-once .ensures) _ _ (c .before .before .keep-once2 .ensures)
 
 align-once-same-length-4 : (t : ℕ) → align-once-lts.Need-same-length-4 (align-once-claims t) (align-once-at t) align-once.Post
-align-once-same-length-4 t c = search needs
+align-once-same-length-4 t c = c .before .before .keep-once3 .kept .1 .0 ∙ c .before .before .before .before .before .before .members-once .kept .1 .1 .0
 
 align-once-returns-5 : (t : ℕ) → align-once-lts.Need-returns-5 (align-once-claims t) (align-once-at t) align-once.Post
 align-once-returns-5 t c = once-members _ _ _ _ _ _ (c .before .before .before .before .before .before .before .before .before .before .before .before .before .before .before .before .before .if1 .left) (c .before .before .before .before .before .before .before .before .before .before .before .before .before .before .before .seen-word .ensures) (c .before .before .before .before .before .before .before .before .before .before .before .before .before .before .if2 .left) _ (c .before .before .before .before .before .before .before .before .before .before .before .before .type-by-id .ensures) _ (c .before .before .before .before .before .before .before .before .before .before .before .step-of .ensures) _ (c .before .before .before .before .before .before .before .before .before .e .given .1) _ _ (c .before .before .before .before .before .before .members-once .ensures) _ _ (c .before .before .keep-once3 .ensures)
@@ -186,7 +186,7 @@ members-once-enum-known-c : (t : ℕ) → members-once-lts.Need-enum-known-c (me
 members-once-enum-known-c t c = search needs
 
 members-once-same-length : (t : ℕ) → members-once-lts.Need-same-length (members-once-claims t) (members-once-at t) members-once.Post members-once-Inv-loop members-once-μ-loop
-members-once-same-length t c = search needs
+members-once-same-length t c = c .before .before .before .before .before .align-once .kept .1 .1 .0 ∙ c .before .before .before .before .before .before .before .before .before .before .loop .inv .2
 
 members-once-returns : (t : ℕ) → members-once-lts.Need-returns (members-once-claims t) (members-once-at t) members-once.Post members-once-Inv-loop members-once-μ-loop
 members-once-returns t c = ids-refused _ _ _ _ _ _ _ _ _ _ _ _ (c .before .before .before .before .before .before .before .before .before .loop-test .taken) (c .before .before .before .before .before .before .before .before .member-place .ensures) (c .before .before .before .before .before .before .before .word .ensures) _ _ (turned _ _ _ _ _ _ _ _ (c .before .before .before .before .before .align-once .ensures) (c .before .before .before .before .before .before .before .before .before .before .loop .inv .3)) _ _ (c .before .before .before .before .before .before .before .before .before .before .loop .inv .4) (c .before .c .given .1)
@@ -201,7 +201,7 @@ members-once-loop-again : (t : ℕ) → members-once-lts.Need-loop-again (member
 members-once-loop-again t c = (omega arith, c .before .before .before .before .before .before .before .before .before .before .before .before .loop .inv .1, c .before .before .before .before .before .before .before .align-once .kept .1 .1 .0 ∙ c .before .before .before .before .before .before .before .before .before .before .before .before .loop .inv .2, after-align _ _ _ _ _ _ _ _ (c .before .before .before .before .before .before .before .align-once .ensures) .1 ∙ c .before .before .before .before .before .before .before .before .before .before .before .before .loop .inv .3, ids-more _ _ _ _ _ _ _ _ _ _ _ _ (c .before .before .before .before .before .before .before .before .before .before .before .loop-test .taken) (c .before .before .before .before .before .before .before .before .before .before .member-place .ensures) (c .before .before .before .before .before .before .before .before .before .word .ensures) _ _ (turned _ _ _ _ _ _ _ _ (c .before .before .before .before .before .before .before .align-once .ensures) (c .before .before .before .before .before .before .before .before .before .before .before .before .loop .inv .3)) _ _ _ _ (c .before .before .before .before .before .before .before .before .before .before .before .before .loop .inv .4) (c .before .before .before .s .given .1) (c .before .larger .ensures) (c .larger2 .ensures))
 
 members-once-same-length-2 : (t : ℕ) → members-once-lts.Need-same-length-2 (members-once-claims t) (members-once-at t) members-once.Post members-once-Inv-loop members-once-μ-loop
-members-once-same-length-2 t c = search needs
+members-once-same-length-2 t c = c .before .loop .inv .2
 
 members-once-returns-2 : (t : ℕ) → members-once-lts.Need-returns-2 (members-once-claims t) (members-once-at t) members-once.Post members-once-Inv-loop members-once-μ-loop
 members-once-returns-2 t c = ids-end _ _ _ _ _ _ _ _ _ _ _ (c .before .loop .inv .4) (c .loop-test .left)
