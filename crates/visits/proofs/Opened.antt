@@ -1,0 +1,45 @@
+-- What the theorems ask of a table holds of every section that opening accepts. Assumes nothing.
+use Prim.Native.Nat.{ℕ, _+_, _≤_}
+use native.Mathlib.Decide.{ℕ-discrete}
+use mathlib.Core.Path.{_≡_, refl, ap, _∙_, sym}
+use mathlib.Core.List.{List, []}
+use Rattle.rules.specs.Types.{Void, Btf as Rules}
+use Rattle.rules.specs.Machine.{Req}
+use Rattle.rules.specs.Names.{naming}
+use Rattle.btf.specs.declared.types.Btf.{Btf}
+use Rattle.btf.specs.Records.{voidRecord, recordById}
+use Rattle.btf.specs.Table.{btfOf, typeOf}
+use Rattle.btf.proofs.Laws.{void-past, void-zero}
+use Rattle.opened.specs.Causes.{openingNumber}
+use Rattle.demand.specs.Session.{noNames, openedBy, dumpTypes}
+use Rattle.claims.specs.Table.{openedTable}
+use Rattle.claims.proofs.Claims.{opening-gives}
+use Rattle.alignments.specs.Once.{tableKeep, blank, membersTo}
+use Rattle.alignments.specs.Writers.{afterOnce, dumpedOnce, minded, mindedAsks, noVisits}
+use Rattle.alignments.proofs.Tables.{Any, Each, table-lawful}
+use Rattle.alignments.proofs.Session.{minded-session, session-visits}
+
+-- past the count there is no type
+void-type : (b : Btf) (s : List ℕ) → typeOf b s voidRecord ≡ Void
+unfolding typeOf voidRecord
+void-type b s = refl
+
+pub ends : (b : Btf) (s w : List ℕ) (id : ℕ) → btfOf b s w .type-cnt ≤ id → btfOf b s w .type-by-id id ≡ Void
+unfolding btfOf
+ends b s w id l = ap (typeOf b s) (sym (past (ℕ-discrete id 0))) ∙ void-type b s
+  where
+    past : Dec (id ≡ 0) → voidRecord ≡ recordById b s w id
+    past (yes e) = void-zero b s w id voidRecord e refl
+    past (no n) = void-past b s w id voidRecord n l refl
+
+module _ (pointer modes : ℕ) (s : List ℕ) (n : ℕ) (ok : openingNumber pointer s n ≡ 0) (rs : List Req) where
+  abbrev B : Rules
+  B = openedTable pointer modes s n
+
+  -- the numbers, lengths and text of the rules, for every list of requests
+  pub opened-session : dumpedOnce (mindedAsks (tableKeep (B .type-cnt)) B) (minded naming) B [] rs (openedBy (minded naming) B (noVisits (noNames B) blank)) ≡ dumpTypes B rs
+  opened-session = minded-session (tableKeep (B .type-cnt)) naming B Any Each (table-lawful (B .type-cnt)) (λ id t q l. tt) (opening-gives pointer modes s n ok .well-formed) (ends _ s _) (noNames B) blank tt (λ id. refl) rs
+
+  -- "at most types plus members"
+  pub opened-visits : afterOnce (mindedAsks (tableKeep (B .type-cnt)) B) (minded naming) B rs (openedBy (minded naming) B (noVisits (noNames B) blank)) .mach .known .names .visits ≤ B .type-cnt + membersTo B (B .type-cnt)
+  opened-visits = session-visits (tableKeep (B .type-cnt)) naming B Any Each (table-lawful (B .type-cnt)) (λ id t q l. tt) (opening-gives pointer modes s n ok .well-formed) (ends _ s _) (noNames B) blank tt (λ id. refl) rs

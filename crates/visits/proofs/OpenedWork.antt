@@ -1,0 +1,104 @@
+-- A session by the remembering way in the work that opening leaves, of every section that it accepts. Assumes nothing.
+use Prim.Native.Nat.{ℕ, _+_, _*_, _/_, _<_, _≤_}
+use native.Mathlib.Omega.{arith}
+use mathlib.Core.Path.{_≡_, refl, ap, _∙_, sym, subst}
+use mathlib.Core.Bool.{Bool, true, false}
+use mathlib.Core.List.{List, []}
+use mathlib.Core.Logic.{_≢_}
+use lib.ListN.{length}
+use lib.Dec.{ltb, eqb}
+use borrow.Author.Tests.{ltb-true}
+use Rattle.lent.specs.Words.{pick}
+use Rattle.rules.specs.Types.{Btf as Rules}
+use Rattle.rules.specs.Machine.{Req}
+use Rattle.btf.specs.declared.types.Btf.{Btf}
+use Rattle.btf.specs.Cells.{getField}
+use Rattle.btf.specs.Table.{btfOf, workNaming}
+use Rattle.header.specs.Header.{btfOf as headerIn}
+use Rattle.btf.proofs.Laws.{place-type}
+use Rattle.classes.proofs.Keys.{place-apart}
+use Rattle.fill.proofs.Zeros.{other-field}
+use Rattle.opened.specs.Opened.{workOf}
+use Rattle.opened.specs.Causes.{openingNumber}
+use Rattle.opened.proofs.ReadBack.{else-back, work-length, work-long}
+use Rattle.opened.proofs.Index.{some-type}
+use Rattle.demand.specs.Session.{openedBy, dumpTypes}
+use Rattle.claims.specs.Table.{headerOf, openedTable}
+use Rattle.claims.proofs.Described.{count-is}
+use Rattle.claims.proofs.Claims.{opening-gives}
+use Rattle.alignments.specs.Once.{unknown, known, membersTo}
+use Rattle.alignments.specs.Writers.{dumpedOnce, afterOnce}
+use Rattle.alignments.proofs.Right.{known-unknown}
+use Rattle.alignments.proofs.Counted.{paid-none}
+use Rattle.remembered.specs.Words.{seenWord, decoded, workKeep}
+use Rattle.visits.specs.Work.{workAsks}
+use Rattle.visits.proofs.Opened.{ends}
+use Rattle.visits.proofs.Few.{few}
+use Rattle.visits.proofs.Work.{InWork, work-session, work-visits}
+
+module _ (p modes : ℕ) (s : List ℕ) (n : ℕ) (ok : openingNumber p s n ≡ 0) where
+  abbrev b : Btf
+  b = headerOf p modes s
+
+  abbrev B : Rules
+  B = openedTable p modes s n
+
+  abbrev w : List ℕ
+  w = workOf p modes s n
+
+  -- opening leaves 0 in a word that it does not use
+  zero-word : (x f : ℕ) → x < b .types → f < 16 → f ≢ 0 → f ≢ 9 → f ≢ 10 → f ≢ 12 → f ≢ 5 → f ≢ 7 → f ≢ 8 → getField w x f ≡ 0
+  zero-word x f l m a c d g f5 f7 f8 =
+      else-back p modes s n ok (x * 16 + f) (other-field (b .types) x f l m a c d g) (λ h k. (
+        λ q. place-apart (b .types) f 7 5 1 (m, omega arith, omega arith, omega arith, f5, λ z. omega arith) x h (sym (place-type (b .types) f 7 x l) ∙ q),
+        λ q. place-apart (b .types) f 7 7 3 (m, omega arith, omega arith, omega arith, f7, λ z. omega arith) x h (sym (place-type (b .types) f 7 x l) ∙ q),
+        λ q. place-apart (b .types) f 7 8 4 (m, omega arith, omega arith, omega arith, f8, λ z. omega arith) x h (sym (place-type (b .types) f 7 x l) ∙ q),
+      ))
+
+  pub no-alignment : (x : ℕ) → x < b .types → getField w x 14 ≡ 0
+  no-alignment x l = zero-word x 14 l (omega arith) (λ q. omega arith) (λ q. omega arith) (λ q. omega arith) (λ q. omega arith) (λ q. omega arith) (λ q. omega arith) (λ q. omega arith)
+
+  pub no-visits : 0 < b .types → getField w 0 15 ≡ 0
+  no-visits l = zero-word 0 15 l (omega arith) (λ q. omega arith) (λ q. omega arith) (λ q. omega arith) (λ q. omega arith) (λ q. omega arith) (λ q. omega arith) (λ q. omega arith)
+
+  types-are : B .type-cnt ≡ b .types
+  unfolding btfOf
+  types-are = refl
+
+  none : (id : ℕ) → workKeep (B .type-cnt) B .recall w id ≡ unknown
+  unfolding workKeep seenWord decoded
+  none id = by (ltb id (B .type-cnt)) refl
+    where
+      by : (t : Bool) → ltb id (B .type-cnt) ≡ t → decoded (elim t as (λ (x : Bool). ℕ) [ true ↦ getField w id 14 | false ↦ 0 ]) ≡ unknown
+      by true q = ap decoded (no-alignment id (subst (λ (k : ℕ). id < k) types-are (ltb-true id (B .type-cnt) q)))
+      by false q = refl
+
+  pointers : B .ptr-sz ≤ 15
+  unfolding btfOf headerIn
+  pointers = by (eqb p 4)
+    where
+      by : (t : Bool) → pick t 4 8 ≤ 15
+      by true = omega arith
+      by false = omega arith
+
+  roomy : B .type-cnt * 16 ≤ length w / 4
+  roomy = omega (arith, count-is p modes s n ok, work-length p modes s n ok, work-long p modes s n ok)
+
+  some : 0 < B .type-cnt
+  some = omega (arith, count-is p modes s n ok, some-type s)
+
+  -- nothing is remembered yet
+  begins : InWork b B pointers (opening-gives p modes s n ok .well-formed) (ends b s w) (few p modes s n ok) w w
+  begins = (
+    record { long = refl; words = λ i n m. refl },
+    λ id x e. absurd (known-unknown x (sym (none id) ∙ e)),
+    (roomy, no-visits (subst (λ (k : ℕ). 0 < k) types-are some) ∙ sym (paid-none B (workKeep (B .type-cnt) B .recall w) none (B .type-cnt))),
+  )
+
+  -- the same numbers, lengths and text as the rules have, for every list of requests
+  pub opened-work-session : (rs : List Req) → dumpedOnce (workAsks (B .type-cnt) B) (workNaming b) B [] rs (openedBy (workNaming b) B w) ≡ dumpTypes B rs
+  opened-work-session rs = work-session b B pointers (opening-gives p modes s n ok .well-formed) (ends b s w) (few p modes s n ok) w begins rs ∙ opening-gives p modes s n ok .same-text rs
+
+  -- "at most types plus members", in word 15 of void
+  pub opened-work-visits : (rs : List Req) → getField (afterOnce (workAsks (B .type-cnt) B) (workNaming b) B rs (openedBy (workNaming b) B w) .mach .known .names) 0 15 ≤ B .type-cnt + membersTo B (B .type-cnt)
+  opened-work-visits rs = work-visits b B pointers (opening-gives p modes s n ok .well-formed) (ends b s w) (few p modes s n ok) w begins rs
