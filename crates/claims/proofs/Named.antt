@@ -1,5 +1,5 @@
 -- The work that a successful opening leaves is indexed and fresh: the names in it are those of the Rust. Assumes nothing.
-use Prim.Native.Nat.{ℕ, suc, _+_, _-_, _*_, _<_, _≤_}
+use Prim.Native.Nat.{ℕ, suc, _+_, _-_, _*_, _/_, _%_, _<_, _≤_}
 use mathlib.Core.Path.{_≡_, refl, ap, _∙_, sym, subst}
 use mathlib.Core.Bool.{Bool, true, false}
 use mathlib.Core.List.{List}
@@ -7,14 +7,19 @@ use mathlib.Core.Logic.{inl, inr}
 use native.Mathlib.Omega.{arith}
 use native.Mathlib.Decide.{ℕ-discrete}
 use lib.ListN.{getD, replicate}
+use lib.Dec.{eqb}
 use Rattle.lent.specs.Words.{getWord}
 use Rattle.btf.specs.declared.types.Btf.{Btf}
 use Rattle.btf.specs.declared.types.BtfType.{BtfType as Record}
 use Rattle.btf.specs.Cells.{getField}
 use Rattle.btf.specs.Records.{sectionWord, kindOf, vlenOf, recordAt, recordById, voidRecord}
-use Rattle.btf.specs.Table.{enumeratorOf}
+use Rattle.btf.specs.Numbers.{headP}
+use Rattle.btf.specs.Table.{enumeratorOf, workNaming}
+use Rattle.rules.specs.Names.{Naming, Names, naming}
+use Rattle.rules.proofs.Related.{RelNaming}
 use Rattle.btf.proofs.Laws.{void-zero}
 use Rattle.classes.specs.Classes.{recordP}
+use Rattle.classes.proofs.Ledger.{the-words}
 use Rattle.opening.specs.Table.{typesOf, enumeratorsOf, recordPlace, recordKind, indexOf}
 use Rattle.fill.specs.Left as left
 use Rattle.fill.specs.Left.{enumeratorWord, isEnum, valuesAt, enumsTo}
@@ -25,10 +30,14 @@ use Rattle.opening.proofs.Sums.{enumerators-all}
 use Rattle.fill.proofs.Enumerators.{to-up}
 use Rattle.fill.proofs.Zeros.{zeros-word, before-else, other-field}
 use Rattle.opening.proofs.ReadBack.{header-ok, types-ok, order-ok, types-are, before, record-back, kind-back, value-back, enumerator-back, room-back, counts-back}
-use Rattle.ledger.specs.Indexed.{IsEnum, valuePlace, Value, placeOfValue, Indexed}
-use Rattle.ledger.specs.Alike.{Fresh}
+use Rattle.ledger.specs.Indexed.{IsEnum, valuePlace, Value, placeOfValue, Fits, FitsValue, Indexed, listsIn}
+use Rattle.ledger.specs.Passed.{passed}
+use Rattle.ledger.specs.Alike.{Alike, Fresh}
+use Rattle.ledger.proofs.Related.{work-names}
+use Rattle.ledger.proofs.Lists.{lists-are, lists-none}
+use Rattle.ledger.proofs.Claims.{none-is}
 use Rattle.ledger.proofs.Classed.{enumerator-place, classed-indexed, classed-fresh}
-use Rattle.claims.specs.Table.{headerOf}
+use Rattle.claims.specs.Table.{headerOf, namesIn}
 
 enum-kind : (k : ℕ) → IsEnum k → isEnum k ≡ true
 unfolding isEnum
@@ -126,3 +135,19 @@ module _ (p modes : ℕ) (s : List ℕ) (n : ℕ) (ok : openingNumber p s n ≡ 
   unfolding workOf left.filled
   opened-fresh =
       classed-fresh b (enumeratorsOf s) s (before p modes s n ok) (record { no-version = no-version-before; no-count = λ h m. counts-back p modes s n ok h })
+
+  -- no list of taken numbers has a first holder
+  heads-zero : (h : ℕ) → h < b .types + enumeratorsOf s → getWord w (headP (b .types) h) ≡ 0
+  unfolding workOf left.filled
+  heads-zero h l = the-words b (enumeratorsOf s) s (before p modes s n ok) .bucket h (room-back p modes s n ok) l
+
+  -- the names of the session are alike those in the work
+  pub opened-names : RelNaming (Alike b (enumeratorsOf s) s w) (Fits b s w) (FitsValue b s w) (workNaming b) (namesIn p modes s n)
+  unfolding namesIn
+  opened-names = go (eqb (modes / 8 % 2) 1)
+    where
+      go : (t : Bool) → RelNaming (Alike b (enumeratorsOf s) s w) (Fits b s w) (FitsValue b s w) (workNaming b) (elim t as (λ z. Naming Names) [ true ↦ passed (listsIn b (enumeratorsOf s) s w) | false ↦ naming ])
+      go true = work-names b (enumeratorsOf s) s w opened-indexed (lists-are b (enumeratorsOf s) s w)
+      go false =
+          subst (λ (N : Naming Names). RelNaming (Alike b (enumeratorsOf s) s w) (Fits b s w) (FitsValue b s w) (workNaming b) N) none-is
+          (work-names b (enumeratorsOf s) s w opened-indexed (lists-none b (enumeratorsOf s) s w heads-zero))

@@ -12,20 +12,22 @@ use Rattle.rules.specs.Order.{Table, Res}
 use Rattle.rules.specs.Machine.{Out, wrote, Machine, MLawful, Kept, obind, eeach, emit, Sess, emitted, ordered, ordering, shut}
 use Rattle.rules.specs.Types.{Btf as Rules, tableOf}
 use Rattle.rules.specs.Layout.{smaller}
-use Rattle.rules.specs.Names.{Names, naming}
+use Rattle.rules.specs.Names.{Names, Naming}
+use Rattle.rules.proofs.Related.{RelNaming}
 use Rattle.rules.specs.Place.{Wrote}
 use Rattle.btf.specs.declared.types.Btf.{Btf}
-use Rattle.btf.specs.Table.{btfOf}
+use Rattle.btf.specs.Table.{btfOf, workNaming}
 use Rattle.order.specs.Work.{workStore}
 use Rattle.order.proofs.Frame.{table-list}
 use Rattle.emit.specs.Sheet.{Sheet, sheetStore, emptied, sheetOf, lineIn, workMachine, listedOut, dumped}
 use Rattle.demand.specs.Needs.{WF}
 use Rattle.demand.specs.Lists.{Ls, listStore}
-use Rattle.demand.specs.Session.{Known, textOf, machine}
+use Rattle.demand.specs.Session.{Known, textOf, machineBy}
 use Rattle.demand.proofs.Alike.{Both, both, neither, AlikeStore, Went, order-alike, BothOut, both-wrote, both-stuck}
 use Rattle.demand.proofs.Lists.{Sized}
 use Rattle.demand.proofs.Session.{machine-lawful}
-use Rattle.ledger.specs.Indexed.{Indexed}
+use Rattle.ledger.specs.Indexed.{Indexed, Fits, FitsValue}
+use Rattle.ledger.specs.Alike.{Alike}
 use Rattle.claims.specs.Sheet.{Bears, Shows, BothLine, lines-on, lines-stop, BothRequest, both-served, both-refused}
 use Rattle.claims.proofs.Steps.{mark-step, emark-step, forwarded-step, push-step}
 use Rattle.claims.proofs.Start.{start-step}
@@ -49,7 +51,8 @@ emptied-word zero v i n = refl
 emptied-word (suc k) v i n = get-put-other (emptied k v) (k * 16 + 11) i 0 (λ q. n (omega arith)) ∙ emptied-word k v i n
 
 -- w is the work after opening; the text so far is `front`, and the room of the request is `room`
-module _ (b : Btf) (e : ℕ) (s w : List ℕ) (I : Indexed b e s w) (wf : WF (tableOf (btfOf b s w))) (front : List ℕ) (room : ℕ) where
+module _ (b : Btf) (e : ℕ) (s w : List ℕ) (I : Indexed b e s w) (N : Naming Names) (R : RelNaming (Alike b e s w) (Fits b s w) (FitsValue b s w) (workNaming b) N)
+    (wf : WF (tableOf (btfOf b s w))) (front : List ℕ) (room : ℕ) where
   abbrev B : Rules
   B = btfOf b s w
 
@@ -63,7 +66,7 @@ module _ (b : Btf) (e : ℕ) (s w : List ℕ) (I : Indexed b e s w) (wf : WF (ta
   X₁ = workMachine b B
 
   abbrev X : Machine State
-  X = machine B
+  X = machineBy N B
 
   abbrev Fit : State → Type 0
   Fit = Sized (T .count)
@@ -129,10 +132,10 @@ module _ (b : Btf) (e : ℕ) (s w : List ℕ) (I : Indexed b e s w) (wf : WF (ta
       shows = same-shows (m .text) (m .at) t (X .forwarded x t) refl refl refl (q .shows);
       same-room = q .same-room;
     };
-    a-fwd = λ m t q x l. to-out (m .len) (at-room m t q (forward-line b e s w I (m .work) (m .len) t (q .bears) front (m .text) (m .at) (q .shows) x));
-    a-alias = λ m t q x l. to-out (m .len) (at-room m t q (alias-line b e s w I (m .work) (m .len) t (q .bears) front (m .text) (m .at) (q .shows) x));
-    a-leaf = λ m t q x l. to-out (m .len) (at-room m t q (leaf-line b e s w I (m .work) (m .len) t (q .bears) front (m .text) (m .at) (q .shows) x));
-    a-body = λ m t q x l. to-out (m .len) (at-room m t q (body-line b e s w I (m .work) (m .len) t (q .bears) front (m .text) (m .at) (q .shows) x));
+    a-fwd = λ m t q x l. to-out (m .len) (at-room m t q (forward-line b e s w I N R (m .work) (m .len) t (q .bears) front (m .text) (m .at) (q .shows) x));
+    a-alias = λ m t q x l. to-out (m .len) (at-room m t q (alias-line b e s w I N R (m .work) (m .len) t (q .bears) front (m .text) (m .at) (q .shows) x));
+    a-leaf = λ m t q x l. to-out (m .len) (at-room m t q (leaf-line b e s w I N R (m .work) (m .len) t (q .bears) front (m .text) (m .at) (q .shows) x));
+    a-body = λ m t q x l. to-out (m .len) (at-room m t q (body-line b e s w I N R (m .work) (m .len) t (q .bears) front (m .text) (m .at) (q .shows) x));
   }
     where
       at-room : (m : Sheet) (t : State) → Related m t → {o : Wrote (List ℕ)} {l : Out State} → BothLine b e s w front (t .room) (m .len) o l → BothLine b e s w front room (m .len) o l
@@ -140,7 +143,7 @@ module _ (b : Btf) (e : ℕ) (s w : List ℕ) (I : Indexed b e s w) (wf : WF (ta
 
   -- ---- a request
   abbrev lawful : MLawful X Fit (T .count)
-  lawful = machine-lawful naming B (T .count)
+  lawful = machine-lawful N B (T .count)
 
   abbrev Goes : State → Sheet → State → Bool → Type 0
   Goes t₀ m t c = Went (X₁ .store) (X .store) T Fit (lawful .law) (Kept X Fit) (lawful .framed) (wf .below) Related alike-store t₀ m t c

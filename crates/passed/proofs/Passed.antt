@@ -13,10 +13,10 @@ use Rattle.lent.specs.Words.{oneMore}
 use Rattle.lent.proofs.Laws.{le-or-lt}
 use Rattle.rules.specs.Machine.{Req}
 use Rattle.rules.specs.Types.{Name, Btf, nameOf, tableOf}
-use Rattle.rules.specs.Names.{Space, identSpace, Resolved, Names, Naming, Holder, naming, spelled, holders, counted, typeVersion, valueVersion}
+use Rattle.rules.specs.Names.{Space, identSpace, Resolved, Names, Holder, spelled, holders, counted}
 use Rattle.rules.proofs.Related.{RelResolved, RelNaming}
 use Rattle.demand.specs.Needs.{WF}
-use Rattle.demand.specs.Session.{dumpTypes, noNames}
+use Rattle.demand.specs.Session.{noNames}
 use Rattle.demand.proofs.AnyNames.{dumps-alike}
 use Rattle.ledger.proofs.Holders.{count-here, count-there}
 use Rattle.apart.specs.Apart.{tableNames, Who, ofType, ofValue, Shown, Apart, spellingsIn, among, taken, passing, numberFor, shown, typeApart, valueApart, apart, noneShown, dumpApart, Ends}
@@ -25,19 +25,11 @@ use Rattle.apart.proofs.Splits.{splits-once}
 use Rattle.apart.proofs.Fair.{more-some, more-most, same-or-not, grows, spaceOf, entry, own}
 use Rattle.apart.proofs.Alike.{among-mem, in-spellings, spelled-low, more-stuck, more-first}
 use Rattle.apart.proofs.Session.{Fits, FitsValue, fits, set-one}
-use Rattle.passed.specs.Numbers.{settled, numberOver}
-use Rattle.passed.specs.Passed.{Lists, nextNumber, typePassed, valuePassed, passed, dumpPassed, none, Right}
-use Rattle.passed.proofs.Numbers.{Settles, settles, first-is, ends}
+use Rattle.btf.specs.Numbers.{numberOver}
+use Rattle.ledger.specs.Passed.{Lists, nextNumber, typePassed, valuePassed, passed}
+use Rattle.passed.specs.Passed.{dumpPassed, Right}
+use Rattle.numbers.proofs.Numbers.{Settles, settles, first-is, ends}
 use Rattle.passed.proofs.Search.{more-limit, from, limit, over, stops}
-
--- without taken numbers the names are those of the Rust
-over-none : (k : ℕ) → numberOver [] k ≡ k
-unfolding numberOver settled
-over-none k = refl
-
-pub none-is : passed none ≡ naming
-unfolding typePassed valuePassed typeVersion valueVersion numberOver settled
-none-is = refl
 
 spelling-more : (space : Space) (l : List Shown) (p : Shown) (s : Name) → List·Memᴰ s (spellingsIn space l) → List·Memᴰ s (spellingsIn space (p ∷ l))
 spelling-more space l p s m =

@@ -12,8 +12,8 @@ use lib.Dec.{ltb, leb}
 use borrow.Author.Tests.{leb-true, leb-false, ltb-false, ltb-true, lt-ltb, le-ltb}
 use Rattle.lent.specs.Words.{pick}
 use Rattle.lent.proofs.Laws.{le-or-lt}
-use Rattle.passed.specs.Numbers.{below, capped, settled, numberOver}
-use Rattle.passed.specs.Passed.{Distinct, Suffixes}
+use Rattle.btf.specs.Numbers.{below, capped, settled, numberOver}
+use Rattle.numbers.specs.Lists.{Distinct, Suffixes}
 
 -- ---- how many are at most n
 
@@ -271,3 +271,37 @@ module _ (ts : List ℕ) (D : Distinct ts) (S : Suffixes ts) (k : ℕ) (two : 2 
           let x : below ts (numberOver ts k) ≡ below ts (numberOver ts (w .0)) = ap (below ts) e in
           omega (arith, w .2, e, x, exact ts k (numberOver ts k) s (omega arith), exact ts (w .0) (numberOver ts (w .0)) s′ (omega (arith, e))))
           (only (numberOver ts k) (s .start) (omega arith) (all (numberOver ts k) (s .start) m))
+
+-- ---- as the code finds it: from k on, a step at a time, until there is none
+
+module _ (ts : List ℕ) (k : ℕ) where
+  pub record Nears (n : ℕ) : Type 0 where
+    pub up : n ≤ capped (k + below ts n)
+    pub least : (m : ℕ) → k + below ts m ≤ m → n ≤ m
+    pub start : k ≤ n
+    pub limit : n ≤ 4294967295
+
+  pub nears-first : k ≤ 4294967295 → Nears k
+  nears-first h = record {
+    up = ⊎-elim (λ l. omega (arith, cap-high (k + below ts k) l)) (λ l. omega (arith, cap-low (k + below ts k) l)) (le-or-lt 4294967295 (k + below ts k));
+    least = λ m l. omega arith;
+    start = omega arith;
+    limit = h;
+  }
+
+  pub nears-next : (n m : ℕ) → m ≡ capped (k + below ts n) → Nears n → Nears m
+  nears-next n m e s = subst Nears (sym e) (record {
+    up = step-up ts k n (step ts k n) (s .up);
+    least = λ m l. omega (arith, step-limit ts k n .1, mono ts n m (s .least m l));
+    start = omega (arith, s .up, s .start);
+    limit = step-limit ts k n .0;
+  })
+
+  at-most : (n m : ℕ) → Settles ts k n → Settles ts k m → n ≤ m
+  at-most n m s t = ⊎-elim (λ l. omega (arith, s .limit)) (λ l. s .least m (omega (arith, exact ts k m t l))) (le-or-lt 4294967295 m)
+
+  pub nears-end : (n m : ℕ) → m ≡ capped (k + below ts n) → m ≤ n → Nears n → n ≡ numberOver ts k
+  nears-end n m e l s =
+      let a : Settles ts k n = record { fixed = omega (arith, e, s .up); least = s .least; start = s .start; limit = s .limit } in
+      let b : Settles ts k (numberOver ts k) = settles ts k (omega (arith, s .start, s .limit)) in
+      omega (arith, at-most n (numberOver ts k) a b, at-most (numberOver ts k) n b a)
