@@ -89,13 +89,13 @@ module _ (len room : ℕ) (t tx : List ℕ) (is : take len t ≡ tx) (short : le
   zeros-fit = omega (arith, length-append (take len t) (replicate (room - len) 0), length-take-le len t short)
 
 -- the modes that the record keeps say what those at opening said
-union-kept : (m : ℕ) → m % 8 % 2 ≡ m % 2
+union-kept : (m : ℕ) → m % 16 % 2 ≡ m % 2
 union-kept m = omega arith
 
-arrays-kept : (m : ℕ) → m % 8 / 2 % 2 ≡ m / 2 % 2
+arrays-kept : (m : ℕ) → m % 16 / 2 % 2 ≡ m / 2 % 2
 arrays-kept m = omega arith
 
-placing-kept : (m : ℕ) → m % 8 / 4 % 2 ≡ m / 4 % 2
+placing-kept : (m : ℕ) → m % 16 / 4 % 2 ≡ m / 4 % 2
 placing-kept m = omega arith
 
 module _ (p modes : ℕ) (s : List ℕ) (n : ℕ) (ok : openingNumber p s n ≡ 0) where
@@ -303,7 +303,7 @@ module _ (p modes : ℕ) (s : List ℕ) (n : ℕ) (ok : openingNumber p s n ≡ 
     table-is =
         ap (λ (k : ℕ). settingsOf s k (S .modes) (S .types)) (h .pointer-size)
         ∙ ap (λ (k : ℕ). settingsOf s p k (S .types)) (h .mode)
-        ∙ ap (settingsOf s p (modes % 8)) (h .types)
+        ∙ ap (settingsOf s p (modes % 16)) (h .types)
         ∙ (λ i. record { «ptr_sz» = b .«ptr_sz»; «union_as_struct» = eqb (union-kept modes i) 1; «big_endian» = b .«big_endian»; «strong_arrays» = eqb (arrays-kept modes i) 1; placing = eqb (placing-kept modes i) 1; types = b .types; strs = b .strs })
 
     pub types-is : S .types ≡ T .count

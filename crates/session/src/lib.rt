@@ -12,7 +12,7 @@ ghost use Rattle.session.specs.Calls.{callOf, openCall, typeCall, typesC
 ghost use Rattle.session.specs.Lists.{idsIn, listCall};
 
 // The lengths are those at opening; text_len is the length of the text so far. Bit 0 of modes is union_as_struct,
-// bit 1 strong_arrays, bit 2 the placing mode.
+// bit 1 strong_arrays, bit 2 the placing mode, bit 3 names that cannot collide.
 pub struct Session {
     pub open: bool,
     pub section_len: u64,

@@ -1,5 +1,5 @@
 -- Laws of the lists, call by call. Assumes nothing.
-use Prim.Native.Nat.{ℕ, zero, suc, _+_, _-_, _≤_, _<_}
+use Prim.Native.Nat.{ℕ, zero, suc, _+_, _-_, _/_, _%_, _≤_, _<_}
 use mathlib.Core.Path.{_≡_, refl, ap, ap₂, _∙_, sym}
 use mathlib.Core.List.{List, [], _∷_}
 use mathlib.Core.Bool.{Bool, true, false}
@@ -13,7 +13,7 @@ use Rattle.btf.specs.Cells.{classP}
 use Rattle.btf.specs.Names.{nameAt}
 use Rattle.btf.specs.Numbers.{headP, nextP, takenP}
 use Rattle.classes.specs.Classes.{keyOf, keyIn}
-use Rattle.takers.specs.Takers.{afterUnderscores, numeralFrom, suffixIn, suffixOn, anySuffix, nameIn, baseFrom, listedOn, onBase, takerPut, takersPut, withTakers}
+use Rattle.takers.specs.Takers.{afterUnderscores, numeralFrom, suffixIn, suffixOn, anySuffix, nameIn, baseFrom, listedOn, onBase, takerPut, takersPut, withTakers, takersIn}
 
 -- ---- keys
 key-none : (s : List ℕ) (x a : ℕ) → x ≡ 2 → keyOf s x a ≡ x ∷ []
@@ -155,3 +155,14 @@ module _ (b : Btf) (e : ℕ) (s w : List ℕ) where
   pub takers-all : e ≤ 4294967295 - b .types → (u : List ℕ) → u ≡ takersPut b s (b .types + e) (b .types + e - 1) w → u ≡ withTakers b e s w
   unfolding withTakers
   takers-all h u q = q ∙ sym (ap (λ (t : Bool). elim t as (λ z. List ℕ) [ true ↦ w | false ↦ takersPut b s (b .types + e) (b .types + e - 1) w ]) (le-ltb (4294967295 - b .types) e h))
+
+module _ (modes : ℕ) (b : Btf) (e : ℕ) (s w : List ℕ) where
+  in-mode : (t : Bool) → eqb (modes / 8 % 2) 1 ≡ t → takersIn modes b e s w ≡ elim t as (λ z. List ℕ) [ true ↦ withTakers b e s w | false ↦ w ]
+  unfolding takersIn
+  in-mode t q = ap (λ (x : Bool). elim x as (λ z. List ℕ) [ true ↦ withTakers b e s w | false ↦ w ]) q
+
+  pub mode-off : (modes / 8 % 2 ≡ 1 → ⊥) → w ≡ takersIn modes b e s w
+  mode-off n = sym (in-mode false (ne-eqb (modes / 8 % 2) 1 n))
+
+  pub mode-on : (u : List ℕ) → modes / 8 % 2 ≡ 1 → u ≡ withTakers b e s w → u ≡ takersIn modes b e s w
+  mode-on u q z = z ∙ sym (in-mode true (eq-eqb (modes / 8 % 2) 1 q))

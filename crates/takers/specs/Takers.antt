@@ -1,6 +1,6 @@
 -- The lists of taken numbers that opening makes in the mode of names that cannot collide: a name that is another one of its space with three underscores and a
 -- number takes that number from it.
-use Prim.Native.Nat.{ℕ, zero, suc, _+_, _-_, _*_}
+use Prim.Native.Nat.{ℕ, zero, suc, _+_, _-_, _*_, _/_, _%_}
 use mathlib.Core.Bool.{Bool, true, false, _&&_}
 use mathlib.Core.List.{List, [], _∷_}
 use lib.Dec.{ltb, leb, eqb}
@@ -88,3 +88,7 @@ withTakers b enumerators s w =
       | true ↦ w
       | false ↦ takersPut b s (b .types + enumerators) (b .types + enumerators - 1) w
     ]
+
+-- bit 3 of the modes at opening: names that cannot collide
+unfoldable pub takersIn : ℕ → Btf → ℕ → List ℕ → List ℕ → List ℕ
+takersIn modes b enumerators s w = elim (eqb (modes / 8 % 2) 1) [ true ↦ withTakers b enumerators s w | false ↦ w ]

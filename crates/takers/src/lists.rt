@@ -10,7 +10,7 @@ use lent::put_word;
 ghost use mathlib.Core.Path.{_≡_};
 ghost use Prim.Native.Nat.{_-_};
 ghost use Rattle.classes.specs.Classes.{keyOf, keyIn};
-ghost use Rattle.takers.specs.Takers.{suffixOn, anySuffix, nameIn, baseFrom, listedOn, takerPut, withTakers};
+ghost use Rattle.takers.specs.Takers.{suffixOn, anySuffix, nameIn, baseFrom, listedOn, takerPut, withTakers, takersIn};
 
 // The number with which the key y is x with a suffix, or 0.
 fn key_suffix(section: &[u8], x: Key, y: Key) -> u32
@@ -81,7 +81,7 @@ fn put_taker(b: Btf, section: &[u8], work: &mut [u8], n: u32, h: u32)
 }
 
 // All holders, from the last to the first, so that those on a list stand in rising order.
-pub fn takers(b: Btf, section: &[u8], enumerators: u32, work: &mut [u8])
+fn put_takers(b: Btf, section: &[u8], enumerators: u32, work: &mut [u8])
     ensures { λ _. ⌜ now (work .exit) ≡ withTakers b enumerators (now (section .entry)) (now (work .entry)) ⌝ }
 {
     let types = b.types;
@@ -94,4 +94,14 @@ pub fn takers(b: Btf, section: &[u8], enumerators: u32, work: &mut [u8])
         h -= 1;
         put_taker(b, section, work, n, h);
     }
+}
+
+// Bit 3 of the modes: names that cannot collide. Without it there are no lists.
+pub fn takers(b: Btf, section: &[u8], modes: u32, enumerators: u32, work: &mut [u8])
+    ensures { λ _. ⌜ now (work .exit) ≡ takersIn modes b enumerators (now (section .entry)) (now (work .entry)) ⌝ }
+{
+    if modes / 8 % 2 != 1 {
+        return;
+    }
+    put_takers(b, section, enumerators, work)
 }
