@@ -139,7 +139,7 @@ module _ (b : Btf) (e : ℕ) (s w : List ℕ) (I : Indexed b e s w) where
     from-length f k zero = refl
     from-length f k (suc n) = ap suc (from-length f (k + 1) n)
 
-    listed-few : length (t .olist) < b .types → len < b .types
+    pub listed-few : length (t .olist) < b .types → len < b .types
     listed-few r = omega (arith, r, sym (ap length (h .list)) ∙ from-length (λ k. getField v k 11) 0 len)
 
     list-grows : length (t .olist) < b .types → from (λ k. getField (putField v len 11 x) k 11) 0 (oneMore len) ≡ t .olist ++ (x ∷ [])

@@ -15,7 +15,8 @@ use Rattle.btf.specs.Names.{nameAt}
 use Rattle.btf.specs.Numbers.{headP, numbersFrom, takenAt}
 use Rattle.classes.specs.Same.{sameList}
 use Rattle.classes.specs.Classes.{least, classOf, recordP, spaceAt, nameOf, keyOf, keyIn}
-use Rattle.classes.proofs.Laws.{class-key, class-le, same-from}
+use Rattle.classes.proofs.Laws.{class-key, class-le}
+use Rattle.classes.proofs.Names.{same-from}
 use Rattle.ledger.specs.Passed.{Lists, none}
 use Rattle.ledger.specs.Indexed.{number, Holds, Indexed, Listed, listsIn}
 
@@ -30,7 +31,7 @@ key-named s space at n = ap (λ (t : Bool). space ∷ elim t as (λ z. List ℕ)
 
 least-stays : (p : ℕ → Bool) (h d : ℕ) → p (least p h) ≡ true → least p (h + d) ≡ least p h
 unfolding least
-least-stays p h zero e = ap (least p) (omega arith)
+least-stays p h zero e = let q : h + 0 ≡ h = omega arith in ap (least p) q
 least-stays p h (suc d) e =
     let q : h + suc d ≡ suc (h + d) = omega arith in
     let r : least p (h + d) ≡ least p h = least-stays p h d e in
@@ -44,19 +45,24 @@ module _ (b : Btf) (e : ℕ) (s w : List ℕ) where
       ∙ key-named s (number space) (nameOf b s (getWord w (recordP (b .types) h))) (number-named space)
       ∙ ap (λ (l : List ℕ). number space ∷ l) (sym (q .its-name))
 
-  pub lists-are : Listed b e s w (listsIn b e s w)
-  unfolding listsIn classOf
-  lists-are h space name q =
-      ap (takenAt (b .types) w)
-      (sym (least-stays p h (b .types + e - h) found)
-      ∙ ap (least p) (omega (arith, q .below))
-      ∙ ap (λ (k : List ℕ). least (λ c. sameList (keyIn b s w c) k) (b .types + e)) (key-is h space name q))
-    where
-      p : ℕ → Bool
-      p c = sameList (keyIn b s w c) (keyIn b s w h)
+  module _ (h : ℕ) where
+    abbrev same : ℕ → Bool
+    same c = sameList (keyIn b s w c) (keyIn b s w h)
 
-      found : p (least p h) ≡ true
-      found = sym (same-from _ _ (class-key (keyIn b s w) h))
+    found : same (least same h) ≡ true
+    unfolding classOf
+    found = sym (same-from _ _ (class-key (keyIn b s w) h))
+
+    class-all : h < b .types + e → classOf (keyIn b s w) h ≡ least same (b .types + e)
+    unfolding classOf
+    class-all l =
+        let whole : h + (b .types + e - h) ≡ b .types + e = omega arith in
+        sym (least-stays same h (b .types + e - h) found) ∙ ap (least same) whole
+
+  pub lists-are : Listed b e s w (listsIn b e s w)
+  unfolding listsIn
+  lists-are h space name q =
+      ap (takenAt (b .types) w) (class-all h (q .below) ∙ ap (λ (k : List ℕ). least (λ c. sameList (keyIn b s w c) k) (b .types + e)) (key-is h space name q))
 
   -- no list has a first holder
   module _ (z : (h : ℕ) → h < b .types + e → getWord w (headP (b .types) h) ≡ 0) where
