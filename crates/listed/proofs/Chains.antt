@@ -1,7 +1,7 @@
 -- A list of taken numbers in the work is read back as the numbers of the holders that were put on it, in rising order. Assumes nothing.
 use Prim.Native.Nat.{ℕ, zero, suc, _+_, _-_, _*_, _/_, _<_, _≤_}
 use mathlib.Core.Path.{_≡_, refl, ap, ap₂, _∙_, sym, subst}
-use mathlib.Core.Bool.{Bool, true, false}
+use mathlib.Core.Bool.{Bool, true, false, true≢false}
 use mathlib.Core.List.{List, [], _∷_}
 use mathlib.Core.Logic.{_⊎_, inl, inr, _≢_}
 use native.Mathlib.Omega.{arith}
@@ -46,12 +46,14 @@ module _ (types e : ℕ) (base num : ℕ → ℕ) where
   keeps : (w u : List ℕ) (c x y f m : ℕ) → x ≡ y → ((h : ℕ) → f ≤ h → (getWord u (takenP types h) ≡ getWord w (takenP types h)) × (getWord u (nextP types h) ≡ getWord w (nextP types h)))
       → Chain w c x f m → Chain u c y f m
   keeps w u c x y f zero q k h = sym q ∙ h
-  keeps w u c x y f (suc m) q k h = go (eqb (base f) c) h
+  keeps w u c x y f (suc m) q k h =
+      go (eqb (base f) c) h (λ i j r z. keeps w u c i j (suc f) m r (λ h′ l. k h′ (omega arith)) z)
     where
       go : (t : Bool) → elim t as (λ z. Type 0) [ true ↦ (x ≡ f) × (getWord w (takenP types f) ≡ num f) × Chain w c (getWord w (nextP types f)) (suc f) m | false ↦ Chain w c x (suc f) m ]
+          → ((i j : ℕ) → i ≡ j → Chain w c i (suc f) m → Chain u c j (suc f) m)
           → elim t as (λ z. Type 0) [ true ↦ (y ≡ f) × (getWord u (takenP types f) ≡ num f) × Chain u c (getWord u (nextP types f)) (suc f) m | false ↦ Chain u c y (suc f) m ]
-      go true r = (sym q ∙ r .0, k f (omega arith) .0 ∙ r .1, keeps w u c (getWord w (nextP types f)) (getWord u (nextP types f)) (suc f) m (sym (k f (omega arith) .1)) (λ h l. k h (omega arith)) (r .2))
-      go false r = keeps w u c x y (suc f) m q (λ h l. k h (omega arith)) r
+      go true r g = (sym q ∙ r .0, k f (omega arith) .0 ∙ r .1, g (getWord w (nextP types f)) (getWord u (nextP types f)) (sym (k f (omega arith) .1)) (r .2))
+      go false r g = g x y q r
 
   -- ---- one holder
   module _ (w : List ℕ) (room : types * 16 + e * 8 ≤ length w / 4) (c h m : ℕ) (lc : c < n) (lh : h < n) where
@@ -134,10 +136,7 @@ module _ (types e : ℕ) (base num : ℕ → ℕ) where
           keeps w (listedOn types (suc c) h (num h) w) d (getWord w (headP types d)) (getWord (listedOn types (suc c) h (num h) w) (nextP types h)) (suc h) m
               (ap (λ (x : ℕ). getWord w (headP types x)) q ∙ sym (put-next w room (suc c) h (num h) lc lh)) later (cs d ld md),
         )
-        go (yes q) false f = absurd (no-way (sym (eq-eqb (base h) d (eb ∙ sym q)) ∙ f))
-          where
-            no-way : true ≡ false → ⊥
-            no-way ()
+        go (yes q) false f = absurd (true≢false (sym (eq-eqb (base h) d (eb ∙ sym q)) ∙ f))
         go (no q) true f = absurd (q (sym (eqb-true (base h) d f) ∙ eb))
         go (no q) false f = keeps w (listedOn types (suc c) h (num h) w) d (getWord w (headP types d)) (getWord (listedOn types (suc c) h (num h) w) (headP types d)) (suc h) m (sym (put-head-other w room (suc c) h (num h) lc lh d q)) later (cs d ld md)
 
@@ -184,15 +183,15 @@ module _ (types e : ℕ) (base num : ℕ → ℕ) where
   unfolding numbersOn
   chain-reads w c zero f x last fuel l k h = ap (numbersFrom fuel types w last) h ∙ ends fuel last w
   chain-reads w c (suc m) f x last zero l k h = absurd (omega arith)
-  chain-reads w c (suc m) f x last (suc fuel) l k h = go (eqb (base f) c) h
+  chain-reads w c (suc m) f x last (suc fuel) l k h =
+      go (eqb (base f) c) h (λ z. chain-reads w c m (suc f) (getWord w (nextP types f)) f fuel (omega arith) (omega arith) z) (λ z. chain-reads w c m (suc f) x last (suc fuel) (omega arith) (omega arith) z)
     where
       go : (t : Bool) → elim t as (λ z. Type 0) [ true ↦ (x ≡ f) × (getWord w (takenP types f) ≡ num f) × Chain w c (getWord w (nextP types f)) (suc f) m | false ↦ Chain w c x (suc f) m ]
+          → (Chain w c (getWord w (nextP types f)) (suc f) m → numbersFrom fuel types w f (getWord w (nextP types f)) ≡ numbersOn base num c (suc f) m)
+          → (Chain w c x (suc f) m → numbersFrom (suc fuel) types w last x ≡ numbersOn base num c (suc f) m)
           → _≡_ {A = List ℕ} (numbersFrom (suc fuel) types w last x) (elim t as (λ z. List ℕ) [ true ↦ num f ∷ numbersOn base num c (suc f) m | false ↦ numbersOn base num c (suc f) m ])
-      go true r =
-          ap (numbersFrom (suc fuel) types w last) (r .0)
-          ∙ more fuel last f w l
-          ∙ ap₂ (λ (i : ℕ) (t : List ℕ). i ∷ t) (r .1) (chain-reads w c m (suc f) (getWord w (nextP types f)) f fuel (omega arith) (omega arith) (r .2))
-      go false r = chain-reads w c m (suc f) x last (suc fuel) (omega arith) (omega arith) r
+      go true r g₁ g₂ = ap (numbersFrom (suc fuel) types w last) (r .0) ∙ more fuel last f w l ∙ ap₂ (λ (i : ℕ) (t : List ℕ). i ∷ t) (r .1) (g₁ (r .2))
+      go false r g₁ g₂ = g₂ r
 
   -- THE LISTS: after all holders were put on theirs, over a work without lists
   pub lists-read : ((h : ℕ) → base h < n) → (w : List ℕ) → types * 16 + e * 8 ≤ length w / 4 → n ≤ 4294967295 → ((c : ℕ) → c < n → getWord w (headP types c) ≡ 0)

@@ -27,15 +27,6 @@ stays types f g (lf, lg, n7, n8, n14, n3, n4, n6) c h m w k =
     ∙ get-put-other (putWord w (nextP types h) (getWord w (headP types c))) (takenP types h) (placeOf types f g k) m (place-apart types f g 14 6 (lf, omega arith, lg, omega arith, n14, n6) k h)
     ∙ get-put-other w (nextP types h) (placeOf types f g k) (getWord w (headP types c)) (place-apart types f g 8 4 (lf, omega arith, lg, omega arith, n8, n4) k h)
 
-base-few : (key : ℕ → List ℕ) (h f c : ℕ) → baseFrom key h f c < c + f + 1
-unfolding baseFrom
-base-few key h zero c = omega arith
-base-few key h (suc f) c = go (leb 2 (suffixOn (key c) (key h))) (base-few key h f (suc c))
-  where
-    go : (t : Bool) → baseFrom key h f (suc c) < suc c + f + 1 → elim t as (λ z. ℕ) [ true ↦ c | false ↦ baseFrom key h f (suc c) ] < c + suc f + 1
-    go true r = omega arith
-    go false r = omega arith
-
 base-below : (key : ℕ → List ℕ) (h f c : ℕ) → 1 ≤ c + f → baseFrom key h f c < c + f
 unfolding baseFrom
 base-below key h zero c l = omega arith
@@ -89,6 +80,10 @@ module _ (b : Btf) (e : ℕ) (s w₀ : List ℕ) (some : 1 ≤ b .types) where
         ap (λ (m : ℕ). listedOn (b .types) (suc c) h m w)
         (ap (λ (k : ℕ → List ℕ). suffixOn (k (suc c)) (k h)) (z .keys) ∙ ap (λ (x : ℕ). suffixOn (keyIn b s w₀ x) (keyIn b s w₀ h)) (sym q))
 
+    nothing : w ≡ onOne (b .types) e base num h w 0
+    unfolding onOne
+    nothing = refl
+
     one-is : takerPut b s n h w ≡ onOne (b .types) e base num h w (base h)
     unfolding takerPut baseOf
     one-is =
@@ -105,15 +100,7 @@ module _ (b : Btf) (e : ℕ) (s w₀ : List ℕ) (some : 1 ≤ b .types) where
             → elim p as (λ y. List ℕ) [ true ↦ elim q as (λ y. List ℕ) [ true ↦ onBase b s n h w (baseFrom (keyIn b s w₀) h (n - 1) 1) | false ↦ w ] | false ↦ w ] ≡ onOne (b .types) e base num h w (base h)
         go true f true g = let r : base h ≡ baseFrom (keyIn b s w₀) h (n - 1) 1 = is true true f g in on-base (baseFrom (keyIn b s w₀) h (n - 1) 1) r ∙ ap (onOne (b .types) e base num h w) (sym r)
         go true f false g = nothing ∙ ap (onOne (b .types) e base num h w) (sym (is true false f g))
-          where
-            nothing : w ≡ onOne (b .types) e base num h w 0
-            unfolding onOne
-            nothing = refl
         go false f q g = nothing ∙ ap (onOne (b .types) e base num h w) (sym (is false q f g))
-          where
-            nothing : w ≡ onOne (b .types) e base num h w 0
-            unfolding onOne
-            nothing = refl
 
   all-is : (k : ℕ) (w : List ℕ) → Same w → takersPut b s n k w ≡ onAll (b .types) e base num k w
   unfolding takersPut onAll
