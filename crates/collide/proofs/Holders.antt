@@ -102,7 +102,7 @@ unfolding number
 number-tag tagSpace e = refl
 number-tag identSpace e = absurd (omega (arith, e))
 
-number-ident : (space : Space) → 1 ≡ number space → space ≡ identSpace
+pub number-ident : (space : Space) → 1 ≡ number space → space ≡ identSpace
 unfolding number
 number-ident tagSpace e = absurd (omega (arith, e))
 number-ident identSpace e = refl

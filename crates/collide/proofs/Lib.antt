@@ -1,2 +1,3 @@
 pub mod Keys
 pub mod Holders
+pub mod Right

@@ -107,7 +107,7 @@ module _ (p modes : ℕ) (s : List ℕ) (n : ℕ) (ok : openingNumber p s n ≡ 
   tags-few (suc k) = omega (arith, length-append (tagsIn (B .type-by-id k)) (namesTo B tagSpace k), one-tag (B .type-by-id k), tags-few k)
 
   module _ (id : ℕ) (a : 1 ≤ id) (l : id < typesOf s) where
-    values-are : isEnum (kindOf (recordById b s w id .info)) ≡ true → valuesAt b s (getD (indexOf s) id 0) ≡ vlenOf (recordById b s w id .info)
+    pub values-are : isEnum (kindOf (recordById b s w id .info)) ≡ true → valuesAt b s (getD (indexOf s) id 0) ≡ vlenOf (recordById b s w id .info)
     unfolding valuesAt recordAt
     values-are e =
         (λ j. elim (isEnum (index-kind s small id a l j)) as (λ z. ℕ) [ true ↦ vlenOf (sectionWord b s (index-place s small id a l j + 4)) | false ↦ 0 ])
