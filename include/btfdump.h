@@ -68,6 +68,13 @@ extern "C" {
  * cannot be laid out so is refused by BTFDUMP_MISPLACED.
  */
 #define BTFDUMP_PLACING 4u
+/*
+ * Names apart: a number that would make a name of the table's same space (tags;
+ * typedefs and enumerators) is passed over and the next one taken. x, x and
+ * x___2 are then printed as x, x___3 and x___2. Without this bit numbers are
+ * those of the Rust, and two names can be printed alike.
+ */
+#define BTFDUMP_NAMES_APART 8u
 
 /* What a call answers: a number and a value, in the upper and the lower half. */
 typedef uint64_t btfdump_answer;

@@ -77,6 +77,12 @@ t.struct("S", 2097160, ("b", 1, 16777248))
 open(sys.argv[1] + "/far.btf", "wb").write(t.section())
 pads = "\tlong: 32;\n" + "\tlong: 64;\n" * 262144
 open(sys.argv[1] + "/far.h", "w").write("struct S {\n" + pads + "\tint b;\n};\n\n")
+t = Table()
+for name in ("x", "x", "x___2"):
+    t.struct(name, 0)
+open(sys.argv[1] + "/met.btf", "wb").write(t.section())
+for name, second in (("met", 2), ("apart", 3)):
+    open(f"{sys.argv[1]}/{name}.h", "w").write("struct x {};\n\nstruct x___%d {};\n\nstruct x___2 {};\n\n" % second)
 END
 python3 -B tests/placing.py "$out/btfheader" "$out"
 programs=(btfheader)
@@ -89,6 +95,8 @@ for program in "${programs[@]}"; do
 	header "standard input" 0 "$text" - <"$node"
 	header "standard input by default" 0 "$text" --union-as-struct <"$node"
 	header "a table without arrays, strong" 0 "$text" --strong-arrays "$node"
+	header "names that meet" 0 "$out/met.h" "$out/met.btf"
+	header "names apart" 0 "$out/apart.h" --names-apart "$out/met.btf"
 	header "a pointer of 4 bytes" 0 "$out/narrow.h" -p 4 "$node"
 	header "a long text" 0 "$out/far.h" "$out/far.btf"
 	header "a long text, by id" 0 "$out/far.h" "$out/far.btf" 2

@@ -140,7 +140,7 @@ static inline const char *differs(const struct call *c, btfdump_answer answer, u
 		put_word(after, 3, types);
 		put_word(after, 4, enumerators);
 		put_word(after, 6, c->a);
-		put_word(after, 7, c->b & (BTFDUMP_UNION_AS_STRUCT | BTFDUMP_STRONG_ARRAYS | BTFDUMP_PLACING));
+		put_word(after, 7, c->b & (BTFDUMP_UNION_AS_STRUCT | BTFDUMP_STRONG_ARRAYS | BTFDUMP_PLACING | BTFDUMP_NAMES_APART));
 		value = 0; /* of the text */
 		if (!zero(work, BTFDUMP_WORK_SIZE(types, enumerators)))
 			return "work past what the table needs";

@@ -281,9 +281,24 @@ def enums_and_names():
               ("struct", "S", 8, ("p", 4, 0))),
         (5, "struct x;\n\nstruct S {\n\tstruct x *p;\n};\n\n"),
         (2, "struct x___2 {\n\tint a;\n};\n\n"), (3, "struct x {\n\tint b;\n};\n\n"))
-    add("58 a numbered name meets the same name in the table",
-        table(("struct", "x", 0), ("struct", "x", 0), ("struct", "x___2", 0)),
+    met = table(("struct", "x", 0), ("struct", "x", 0), ("struct", "x___2", 0))
+    add("58a a numbered name meets the same name in the table", met,
         ("all", "struct x {};\n\nstruct x___2 {};\n\nstruct x___2 {};\n\n"))
+    add("58b the same with names apart", met, ("all", "struct x {};\n\nstruct x___3 {};\n\nstruct x___2 {};\n\n"),
+        modes=8)
+    add("58c the name that takes a number comes first", met, (3, "struct x___2 {};\n\n"), (2, "struct x {};\n\n"),
+        (1, "struct x___3 {};\n\n"), modes=8)
+    names = [("struct", n, 0) for n in ("x___3", "x", "x", "x___4", "x___2", "x", "x___04", "x___2___2", "x___2", "x__9")]
+    add("58d numbers in a row, and what takes none", table(*names),
+        ("all", "".join("struct %s {};\n\n" % n for n in (
+            "x___3", "x", "x___5", "x___4", "x___2", "x___6", "x___04", "x___2___2", "x___2___3", "x__9"))), modes=8)
+    add("58e typedefs and enumerators, apart from tags",
+        table("int", ("typedef", "x", 1), ("enum", "x___3", ("x", 0), ("x___2", 1), ("x", 2), ("", 3), ("", 4), ("___2", 5))),
+        ("all", "typedef int x;\n\nenum x___3 {\n\tx___3 = 0,\n\tx___2 = 1,\n\tx___4 = 2,\n\t = 3,\n\t___3 = 4,\n\t___2 = 5,\n};\n\n"),
+        modes=8)
+    add("58f the largest numbers", table(*[("struct", n, 0) for n in ("x", "x___4294967295", "x___4294967296", "x", "x___1")]),
+        ("all", "struct x {};\n\nstruct x___4294967295 {};\n\nstruct x___4294967296 {};\n\nstruct x___2 {};\n\nstruct x___1 {};\n\n"),
+        modes=8)
     t = Table()
     first, second, tail = t.string("x"), t.string("x"), t.string("yx") + 1
     for offset in (first, second, tail, tail + 1):      # the last is the 0 byte that ends yx

@@ -23,6 +23,7 @@ static const char help[] =
 	"  -u, --union-as-struct    a union's word is 'struct', with a comment\n"
 	"      --strong-arrays      elements of an array come before a pointer to it\n"
 	"  -P, --placing            pads that land where the table says, also after the last member\n"
+	"      --names-apart        numbers after names never make a name of the table\n"
 	"  -h, --help               this text\n"
 	"\n"
 	"Exit status: 0 printed, 1 the table or a request was refused (the text of the\n"
@@ -235,6 +236,8 @@ int main(int argc, char **argv)
 			job.modes |= BTFDUMP_STRONG_ARRAYS;
 		else if (!strcmp(argv[i], "-P") || !strcmp(argv[i], "--placing"))
 			job.modes |= BTFDUMP_PLACING;
+		else if (!strcmp(argv[i], "--names-apart"))
+			job.modes |= BTFDUMP_NAMES_APART;
 		else if (strcmp(argv[i], "-p") && strcmp(argv[i], "--pointer-size"))
 			usage("unknown option ", argv[i]);
 		else if (++i == argc || !number(argv[i], &job.pointer_size))

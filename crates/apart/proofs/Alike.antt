@@ -29,7 +29,7 @@ use Rattle.apart.proofs.Session.{Fits, FitsValue, fits, set-one}
 
 -- ---- what is among names stands there
 
-among-mem : (x : Name) (l : List Name) → among x l ≡ true → List·Memᴰ x l
+pub among-mem : (x : Name) (l : List Name) → among x l ≡ true → List·Memᴰ x l
 unfolding among
 among-mem x [] e = absurd (true≢false (sym e))
 among-mem x (y ∷ l) e = go (sameBytes x y) refl e (among-mem x l)
@@ -44,7 +44,7 @@ space-same tagSpace identSpace e = absurd (true≢false (sym e))
 space-same identSpace tagSpace e = absurd (true≢false (sym e))
 space-same identSpace identSpace e = refl
 
-in-spellings : (space : Space) (l : List Shown) (s : Name) → List·Memᴰ s (spellingsIn space l) → (b : Shown) × List·Memᴰ b l × (b .space ≡ space) × (s ≡ b .spelling)
+pub in-spellings : (space : Space) (l : List Shown) (s : Name) → List·Memᴰ s (spellingsIn space l) → (b : Shown) × List·Memᴰ b l × (b .space ≡ space) × (s ≡ b .spelling)
 unfolding spellingsIn
 in-spellings space [] s m = absurd (List·Memᴰ·not-nil m)
 in-spellings space (p ∷ l) s m = go (sameSpace (p .space) space) refl m (in-spellings space l s)
@@ -74,11 +74,11 @@ sticks t (suc most) n e = go (t n) (sticks t most n e)
     go true r = ap (passing t most) e ∙ r
     go false r = refl
 
-more-stuck : (n : ℕ) → 4294967295 ≤ n → oneMore n ≡ n
+pub more-stuck : (n : ℕ) → 4294967295 ≤ n → oneMore n ≡ n
 unfolding oneMore
 more-stuck n h = ap (λ (t : Bool). pick t (n + 1) n) (le-ltb n 4294967295 h)
 
-more-first : oneMore 0 ≡ 1
+pub more-first : oneMore 0 ≡ 1
 unfolding oneMore
 more-first = refl
 
@@ -97,7 +97,7 @@ not-passed B space name u e = go (eqb h 0) refl
     go true q = sym (ap oneMore (eqb-true (holders (u .names .ledger) space name) 0 q) ∙ more-first)
     go false q = stays (λ n. among (spelled name n) (taken B space u)) (length (taken B space u)) (oneMore (holders (u .names .ledger) space name)) e
 
-spelled-low : (name : Name) (n : ℕ) → n < 2 → spelled name n ≡ name
+pub spelled-low : (name : Name) (n : ℕ) → n < 2 → spelled name n ≡ name
 unfolding spelled
 spelled-low name n k = ap (λ (t : Bool). elim t as (λ w. Name) [ true ↦ name | false ↦ name ++ ascii "___" ++ decimal n ]) (lt-ltb n 2 k)
 

@@ -60,7 +60,7 @@ pub not-among : (x : Name) (l : List Name) → among x l ≡ false → List·Mem
 not-among x l e m = true≢false (sym (mem-among x l m) ∙ e)
 
 -- without one that is among them
-cut-out : (x : Name) (l : List Name) → among x l ≡ true → (k : List Name) × (suc (length k) ≡ length l) × ((y : Name) → sameBytes y x ≡ false → among y l ≡ among y k)
+pub cut-out : (x : Name) (l : List Name) → among x l ≡ true → (k : List Name) × (suc (length k) ≡ length l) × ((y : Name) → sameBytes y x ≡ false → among y l ≡ among y k)
 unfolding among
 cut-out x [] e = absurd (true≢false (sym e))
 cut-out x (z ∷ l) e = go (sameBytes x z) refl e (cut-out x l)

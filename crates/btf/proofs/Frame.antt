@@ -13,7 +13,8 @@ use Rattle.lent.proofs.Laws.{get-put-other, le-or-lt}
 use Rattle.rules.specs.Names.{Resolved}
 use Rattle.btf.specs.declared.types.Btf.{Btf}
 use Rattle.btf.specs.declared.types.BtfType.{BtfType as Record}
-use Rattle.btf.specs.Cells.{getField, putField, classP, countP, countOf, counted, withMore}
+use Rattle.btf.specs.Cells.{getField, putField, placeOf, classP, countP, counted, withMore}
+use Rattle.btf.specs.Numbers.{numberAt}
 use Rattle.btf.specs.Records.{recordAt, voidRecord, recordById}
 use Rattle.btf.specs.Table.{typeOf, tagsFrom, tagsOf, btfOf, typeVersionIn, valueVersionIn, enumeratorOf}
 use Rattle.btf.proofs.Laws.{place-type, place-enum}
@@ -140,7 +141,7 @@ module _ (b : Btf) (s w : List ℕ) where
   table-type-version id = go (eqb (getField w id 4) 0)
     where
       n : ℕ
-      n = countOf (classP (b .types)) (countP (b .types)) w id
+      n = numberAt (b .types) w id
 
       u : List ℕ
       u = counted (classP (b .types)) (countP (b .types)) w id
@@ -154,7 +155,7 @@ module _ (b : Btf) (s w : List ℕ) where
   table-value-version e = go (ltb (b .types + e) 4294967296)
     where
       n : ℕ
-      n = countOf (classP (b .types)) (countP (b .types)) w (b .types + e)
+      n = numberAt (b .types) w (b .types + e)
 
       u : List ℕ
       u = counted (classP (b .types)) (countP (b .types)) w (b .types + e)
@@ -169,7 +170,7 @@ module _ (types : ℕ) (w : List ℕ) (x k : ℕ) where
   enumerator-type-version id = go (eqb (getField w id 4) 0)
     where
       n : ℕ
-      n = countOf (classP types) (countP types) w id
+      n = numberAt types w id
 
       u : List ℕ
       u = counted (classP types) (countP types) w id
@@ -183,7 +184,7 @@ module _ (types : ℕ) (w : List ℕ) (x k : ℕ) where
   enumerator-value-version e = go (ltb (types + e) 4294967296)
     where
       n : ℕ
-      n = countOf (classP types) (countP types) w (types + e)
+      n = numberAt types w (types + e)
 
       u : List ℕ
       u = counted (classP types) (countP types) w (types + e)

@@ -1,6 +1,7 @@
 pub mod Cells
 pub mod Names
 pub mod Records
+pub mod Numbers
 pub mod Table
 pub mod Nodes
 pub mod Documented

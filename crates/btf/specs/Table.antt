@@ -9,8 +9,9 @@ use Rattle.rules.specs.Names.{Resolved, Naming}
 use Rattle.btf.specs.declared.types.Btf.{Btf}
 use Rattle.btf.specs.declared.types.BtfType.{BtfType as Record}
 use Rattle.btf.specs.declared.types.BtfMember.{BtfMember}
-use Rattle.btf.specs.Cells.{getField, putField, classP, countP, countOf, counted}
+use Rattle.btf.specs.Cells.{getField, putField, classP, countP, counted}
 use Rattle.btf.specs.Names.{strAt}
+use Rattle.btf.specs.Numbers.{numberAt}
 use Rattle.btf.specs.Records.{sectionWord, vlenOf, kindOf, flagOf, memberAt, paramAt, recordById, memberOf}
 
 -- f k, f (k + 1), .., n of them
@@ -108,14 +109,15 @@ btfOf b s w = record {
   decl-tags = tagsOf (b .types) w;
 }
 
--- The names in the work. A type: word 4 has its version, 0 while it has none. Holders of a name are counted at its class.
+-- The names in the work. A type: word 4 has its version, 0 while it has none. Holders of a name are counted at its class; a new holder's version
+-- is that count, with the numbers passed over that are listed there.
 unfoldable pub typeVersionIn : ℕ → ℕ → List ℕ → Resolved (List ℕ)
 typeVersionIn types id w =
     elim (eqb (getField w id 4) 0) [
       | false ↦ record { version = getField w id 4; names = w }
       | true ↦ record {
-        version = countOf (classP types) (countP types) w id;
-        names = putField (counted (classP types) (countP types) w id) id 4 (countOf (classP types) (countP types) w id);
+        version = numberAt types w id;
+        names = putField (counted (classP types) (countP types) w id) id 4 (numberAt types w id);
       }
     ]
 
@@ -128,7 +130,7 @@ unfoldable pub valueVersionIn : ℕ → ℕ → List ℕ → Resolved (List ℕ)
 valueVersionIn types e w =
     elim (ltb (types + e) 4294967296) [
       | true ↦ record {
-        version = countOf (classP types) (countP types) w (types + e);
+        version = numberAt types w (types + e);
         names = counted (classP types) (countP types) w (types + e);
       }
       | false ↦ record { version = 0; names = w }

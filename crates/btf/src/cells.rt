@@ -7,12 +7,16 @@
 //  4 version of its name, 0 while it has none
 //  5 name class: the first holder of its name  1
 //  6 holders of its name so far, at the class  2
-//  7, 8 used while opening                     3, 4
+//  7 first holder on the list of taken numbers, 3
+//    at the class; 8 next holder on such a list  4
 //  9 first declaration tag on it
 // 10 next tag on the same type, of a tag
 // 11 slot of the order list
 // 12 its first enumerator
 // 13 emit state: 0, 1 in progress, 2 emitted
+// 14 number that its name takes, on a list      6
+//
+// 7, 8, 3 and 4 are used for hashing while opening. Without the mode of names that cannot collide, 7, 8, 14, 3, 4 and 6 are 0.
 use lent::get_word;
 use lent::put_word;
 ghost use mathlib.Core.Path.{_≡_};

@@ -95,7 +95,7 @@ module _ (p modes : ℕ) (s w t : List ℕ) where
         ∙ ap (openedCall r (length s) (length w) p modes) (sym (ap (λ (q : Opening). openOut q w′ t′) e) ∙ eo)
 
     pub open-sound : (n m : ℕ) → o ≡ Sound n m → (r : Session)
-        → callOf (record { «open» = true; «section_len» = length s; «work_len» = length w; types = n; enumerators = m; «text_len» = 0; «pointer_size» = p; modes = modes % 8 }) (Accepted n) w′ t′ ≡ openCall r s w t p modes
+        → callOf (record { «open» = true; «section_len» = length s; «work_len» = length w; types = n; enumerators = m; «text_len» = 0; «pointer_size» = p; modes = modes % 16 }) (Accepted n) w′ t′ ≡ openCall r s w t p modes
     unfolding openOut callOf openCall openedCall answerOf
     open-sound n m e r = ap (openedCall r (length s) (length w) p modes) (sym (ap (λ (q : Opening). openOut q w′ t′) e) ∙ eo)
 

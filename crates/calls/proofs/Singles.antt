@@ -22,7 +22,8 @@ use Rattle.rules.specs.Emit.{definition, forward}
 use Rattle.rules.proofs.Keeps.{Keeps, keeps-definition, keeps-forward}
 use Rattle.rules.proofs.Refusals.{Tells, tells-definition, tells-forward}
 use Rattle.btf.specs.declared.types.Btf.{Btf}
-use Rattle.btf.specs.Cells.{getField, classP, countP, withMore, countOf, counted}
+use Rattle.btf.specs.Cells.{getField, putField, classP, countP, withMore, counted}
+use Rattle.btf.specs.Numbers.{numberAt}
 use Rattle.btf.specs.Table.{btfOf, typeVersionIn, enumeratorOf, valueVersionIn, workNaming}
 use Rattle.marks.specs.Work.{workStore}
 use Rattle.emit.specs.Sheet.{Sheet, sheetStore, sheetOf, emptied, lineIn, workMachine, dumped}
@@ -55,7 +56,7 @@ unfolding typeVersionIn
 type-length types id w = go (eqb (getField w id 4) 0) refl
   where
     go : (q : Bool) → eqb (getField w id 4) 0 ≡ q → length (typeVersionIn types id w .names) ≡ length w
-    go true e = rw (e, typeVersionIn) (put-length (counted (classP types) (countP types) w id) (id * 16 + 4) (countOf (classP types) (countP types) w id) ∙ counted-length types id w)
+    go true e = rw (e, typeVersionIn) (put-length (counted (classP types) (countP types) w id) (id * 16 + 4) (numberAt types w id) ∙ counted-length types id w)
     go false e = rw (e, typeVersionIn)
 
 value-length : (types e : ℕ) (w : List ℕ) → length (valueVersionIn types e w .names) ≡ length w

@@ -32,7 +32,7 @@ openedCall s section work pointer modes (opened types enumerators w t) = record 
     enumerators = enumerators;
     «text_len» = 0;
     «pointer_size» = pointer;
-    modes = modes % 8;
+    modes = modes % 16;
   };
   answer = answerOf 0 types;
   work = w;

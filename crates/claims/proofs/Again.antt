@@ -25,7 +25,7 @@ use Rattle.calls.proofs.Lists.{andThen, list-append, counted-goes, counted-stop
 use Rattle.demand.specs.Lists.{Ls}
 use Rattle.demand.specs.Session.{Known, textOf, linesBy, machine, noNames, opened}
 use Rattle.demand.proofs.Again.{asked-again}
-use Rattle.claims.specs.Table.{headerOf, openedTable}
+use Rattle.claims.specs.Table.{headerOf, openedTable, namesIn, machineIn}
 use Rattle.claims.specs.Session.{Holds, Tells, singlesFor, made, After, after-list}
 use Rattle.claims.specs.Demands.{Lent, AddsNothing, typesIn, ruled, Demand2, Twice}
 use Rattle.claims.proofs.Sound.{opened-wf}
@@ -42,7 +42,7 @@ module _ (p modes : ℕ) (s : List ℕ) (n : ℕ) (fine : openingNumber p s n �
   State = Ls (Known Names)
 
   abbrev X : Machine State
-  X = machine B
+  X = machineIn p modes s n
 
   -- ---- a single request for what was accepted before
   module _ (c : Call) (rs : List Req) (a : After p modes s n c rs) (d2 : Demand2 p modes s n c rs) (o : c .session .«open» ≡ true) (x : ℕ) (k : List·Memᴰ x (ruled p modes s n rs .asked)) (text : List ℕ) (l : Lent c text) where
@@ -50,7 +50,7 @@ module _ (p modes : ℕ) (s : List ℕ) (n : ℕ) (fine : openingNumber p s n �
     d = typeCall (c .session) s (c .work) text x
 
     again : (single X T (length text) (ruled p modes s n rs) x .number ≡ 0) × (single X T (length text) (ruled p modes s n rs) x .sess .mach .pieces ≡ ruled p modes s n rs .mach .pieces)
-    again = asked-again (linesBy naming B) T (opened-wf p modes s n fine) (record { names = noNames B; text-len = 0 }) rs (length text) x (sym (d2 .is-open) ∙ o) k
+    again = asked-again (linesBy (namesIn p modes s n) B) T (opened-wf p modes s n fine) (record { names = noNames B; text-len = 0 }) rs (length text) x (sym (d2 .is-open) ∙ o) k
 
     tells : Tells (length text) d (single X T (length text) (ruled p modes s n rs) x)
     tells = d2 .next-type text l x

@@ -14,9 +14,8 @@ use Rattle.turns.specs.Answers.{numberOf}
 use Rattle.turns.specs.Turns.{Call}
 use Rattle.calls.specs.Calls.{typeCall}
 use Rattle.demand.specs.Needs.{kids, NamedComp}
-use Rattle.demand.specs.Session.{machine}
 use Rattle.demand.proofs.Arrays.{array-of-itself}
-use Rattle.claims.specs.Table.{openedTable}
+use Rattle.claims.specs.Table.{machineIn}
 use Rattle.claims.specs.Session.{After}
 use Rattle.claims.specs.Demands.{Lent, typesIn, ruled}
 use Rattle.claims.proofs.Demands.{delivered}
@@ -32,7 +31,7 @@ module _ (p modes : ℕ) (s : List ℕ) (n : ℕ) where
   pub array-of-itself-call : modes / 2 % 2 ≡ 1 → (c : Call) (rs : List Req) → After p modes s n c rs → c .session .«open» ≡ true → (text : List ℕ) → Lent c text
       → (id m array : ℕ) → id < typesIn p modes s n .count → NamedComp (typesIn p modes s n) id → List·Memᴰ m (kids (typesIn p modes s n .node id))
       → typesIn p modes s n .node m ≡ ptr array → typesIn p modes s n .node array ≡ through true id
-      → (ordering (machine (openedTable p modes s n)) (typesIn p modes s n) (length text) (ruled p modes s n rs) id ≡ refused 12 → ⊥)
+      → (ordering (machineIn p modes s n) (typesIn p modes s n) (length text) (ruled p modes s n rs) id ≡ refused 12 → ⊥)
       → numberOf (typeCall (c .session) s (c .work) text id .answer) ≡ 13
   array-of-itself-call on c rs a o text l id m array below named member to-array to-itself deep =
       delivered p modes s n .demand3 c rs a .cycles o text l id below named deep .1

@@ -34,20 +34,21 @@ module _ (p modes : ℕ) (s : List ℕ) (n : ℕ) (ok : openingNumber p s n ≡ 
   abbrev b : Btf
   b = headerOf p modes s
 
-  zero-word : (x f : ℕ) → x < b .types → f < 16 → f ≢ 0 → f ≢ 9 → f ≢ 10 → f ≢ 12 → f ≢ 5 → f ≢ 7 → f ≢ 8 → getField (workOf p modes s n) x f ≡ 0
-  zero-word x f l m a c d g f5 f7 f8 =
+  zero-word : (x f : ℕ) → x < b .types → f < 16 → f ≢ 0 → f ≢ 9 → f ≢ 10 → f ≢ 12 → f ≢ 5 → f ≢ 7 → f ≢ 8 → f ≢ 14 → getField (workOf p modes s n) x f ≡ 0
+  zero-word x f l m a c d g f5 f7 f8 f14 =
       else-back p modes s n ok (x * 16 + f) (other-field (b .types) x f l m a c d g) (λ h k. (
         λ q. place-apart (b .types) f 7 5 1 (m, omega arith, omega arith, omega arith, f5, λ z. omega arith) x h (sym (place-type (b .types) f 7 x l) ∙ q),
         λ q. place-apart (b .types) f 7 7 3 (m, omega arith, omega arith, omega arith, f7, λ z. omega arith) x h (sym (place-type (b .types) f 7 x l) ∙ q),
         λ q. place-apart (b .types) f 7 8 4 (m, omega arith, omega arith, omega arith, f8, λ z. omega arith) x h (sym (place-type (b .types) f 7 x l) ∙ q),
       ))
+      (λ h k q. place-apart (b .types) f 7 14 6 (m, omega arith, omega arith, omega arith, f14, λ z. omega arith) x h (sym (place-type (b .types) f 7 x l) ∙ q))
 
   small : (x f : ℕ) → x < b .types → 1 ≤ f → f < 4 → getField (workOf p modes s n) x f ≡ 0
   small x f l m k =
-      zero-word x f l (omega arith) (λ q. absurd (omega arith)) (λ q. absurd (omega arith)) (λ q. absurd (omega arith)) (λ q. absurd (omega arith)) (λ q. absurd (omega arith)) (λ q. absurd (omega arith)) (λ q. absurd (omega arith))
+      zero-word x f l (omega arith) (λ q. absurd (omega arith)) (λ q. absurd (omega arith)) (λ q. absurd (omega arith)) (λ q. absurd (omega arith)) (λ q. absurd (omega arith)) (λ q. absurd (omega arith)) (λ q. absurd (omega arith)) (λ q. absurd (omega arith))
 
   thirteen : (x : ℕ) → x < b .types → getField (workOf p modes s n) x 13 ≡ 0
-  thirteen x l = zero-word x 13 l (omega arith) (λ q. omega arith) (λ q. omega arith) (λ q. omega arith) (λ q. omega arith) (λ q. omega arith) (λ q. omega arith) (λ q. omega arith)
+  thirteen x l = zero-word x 13 l (omega arith) (λ q. omega arith) (λ q. omega arith) (λ q. omega arith) (λ q. omega arith) (λ q. omega arith) (λ q. omega arith) (λ q. omega arith) (λ q. omega arith)
 
   pub opened-bears : Bears b (enumeratorsOf s) s (workOf p modes s n) (workOf p modes s n) 0 (opened (openedTable p modes s n) .mach)
   unfolding btfOf afresh from

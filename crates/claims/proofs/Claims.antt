@@ -3,17 +3,27 @@ use Prim.Native.Nat.{ℕ}
 use mathlib.Core.Path.{_≡_}
 use mathlib.Core.List.{List}
 use Rattle.records.specs.Reading.{Bytes}
-use Rattle.btf.specs.Table.{workNaming}
+use Rattle.btf.specs.Table.{btfOf, workNaming}
 use Rattle.opened.specs.Table.{enumeratorsOf}
 use Rattle.opened.specs.Opened.{workOf}
 use Rattle.opened.specs.Causes.{openingNumber}
-use Rattle.demand.proofs.Session.{by-demand3, header-demand3}
-use Rattle.ledger.proofs.Claims.{same-dumps}
-use Rattle.claims.specs.Table.{headerOf, openedTable}
+use Rattle.demand.specs.Session.{noNames}
+use Rattle.demand.proofs.Session.{by-demand3}
+use Rattle.demand.proofs.AnyNames.{dumps-alike}
+use Rattle.ledger.specs.Indexed.{Fits, FitsValue}
+use Rattle.ledger.specs.Alike.{Alike}
+use Rattle.ledger.proofs.Related.{alike-first}
+use Rattle.ledger.proofs.Table.{fits-table}
+use Rattle.claims.specs.Table.{headerOf, openedTable, namesIn}
 use Rattle.claims.specs.Claims.{Documents, Gives}
 use Rattle.claims.proofs.Described.{count-described, type-described, type-zero, type-past, tags-described}
 use Rattle.claims.proofs.Sound.{opened-wf}
-use Rattle.claims.proofs.Named.{opened-indexed, opened-fresh}
+use Rattle.claims.proofs.Named.{opened-indexed, opened-names, opened-fresh}
+
+-- the names in the work that opening left: no version, no holder
+opened-alike : (p modes : ℕ) (s : List ℕ) (n : ℕ) → openingNumber p s n ≡ 0 → Alike (headerOf p modes s) (enumeratorsOf s) s (workOf p modes s n) (workOf p modes s n) (noNames (openedTable p modes s n))
+unfolding btfOf
+opened-alike p modes s n ok = alike-first (headerOf p modes s) (enumeratorsOf s) s (workOf p modes s n) (opened-indexed p modes s n ok) (opened-fresh p modes s n ok)
 
 module _ (p modes : ℕ) (s : List ℕ) (n : ℕ) (ok : openingNumber p s n ≡ 0) where
   pub opened-documents : Bytes s → Documents p modes s n
@@ -31,7 +41,9 @@ module _ (p modes : ℕ) (s : List ℕ) (n : ℕ) (ok : openingNumber p s n ≡ 
     well-formed = opened-wf p modes s n ok;
     indexed = opened-indexed p modes s n ok;
     fresh = opened-fresh p modes s n ok;
-    demand3 = λ rs. header-demand3 (openedTable p modes s n) (opened-wf p modes s n ok) rs;
+    demand3 = λ rs. by-demand3 (namesIn p modes s n) (openedTable p modes s n) (opened-wf p modes s n ok) (noNames (openedTable p modes s n)) rs;
     work-demand3 = λ rs. by-demand3 (workNaming (headerOf p modes s)) (openedTable p modes s n) (opened-wf p modes s n ok) (workOf p modes s n) rs;
-    same-text = λ rs. same-dumps (headerOf p modes s) (enumeratorsOf s) s (workOf p modes s n) (opened-indexed p modes s n ok) (opened-fresh p modes s n ok) (opened-wf p modes s n ok) rs;
+    same-text = λ rs. dumps-alike (Alike (headerOf p modes s) (enumeratorsOf s) s (workOf p modes s n)) (Fits (headerOf p modes s) s (workOf p modes s n)) (FitsValue (headerOf p modes s) s (workOf p modes s n))
+        (workNaming (headerOf p modes s)) (namesIn p modes s n) (opened-names p modes s n ok) (openedTable p modes s n) (fits-table (headerOf p modes s) s (workOf p modes s n)) (opened-wf p modes s n ok)
+        (workOf p modes s n) (noNames (openedTable p modes s n)) (opened-alike p modes s n ok) rs;
   }

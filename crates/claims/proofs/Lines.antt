@@ -13,23 +13,23 @@ use Rattle.lent.specs.Words.{getWord}
 use Rattle.text.specs.Text.{Text, whole, cut, bytes, place, Out as Put, stopped, written, putText}
 use Rattle.rules.specs.Place.{Wrote, withNames, putSaid}
 use Rattle.rules.specs.Writer.{Said, said, saidNames}
-use Rattle.rules.specs.Names.{Names, Resolved, naming}
+use Rattle.rules.specs.Names.{Names, Resolved, Naming}
 use Rattle.rules.specs.Types.{BtfType, Btf as Rules}
 use Rattle.rules.specs.Emit.{definition, forward}
-use Rattle.rules.proofs.Related.{RelSaid, same, rel-definition, rel-forward}
+use Rattle.rules.proofs.Related.{RelSaid, same, RelNaming, rel-definition, rel-forward}
 use Rattle.rules.proofs.Keeps.{keeps-definition, keeps-forward}
 use Rattle.btf.specs.declared.types.Btf.{Btf}
-use Rattle.btf.specs.Cells.{getField, putField, classP, countP, countOf, counted}
+use Rattle.btf.specs.Cells.{getField, putField, classP, countP, counted}
+use Rattle.btf.specs.Numbers.{numberAt}
 use Rattle.btf.specs.Table.{from, btfOf, workNaming, typeVersionIn, valueVersionIn, enumeratorOf}
 use Rattle.btf.proofs.Frame.{counted-other, table-type-version, table-value-version}
 use Rattle.btf.proofs.Laws.{place-type, place-enum}
 use Rattle.lent.proofs.Laws.{get-put-other, le-or-lt}
 use Rattle.marks.specs.Work.{markOf}
 use Rattle.demand.specs.Lists.{Piece, defines, other, Line, cannot, Ls, putLine}
-use Rattle.demand.specs.Session.{Known, fitting, lineOf, textOf, machine}
+use Rattle.demand.specs.Session.{Known, fitting, lineOf, textOf, machineBy}
 use Rattle.ledger.specs.Indexed.{Indexed, Fits, FitsValue}
 use Rattle.ledger.specs.Alike.{Alike}
-use Rattle.ledger.proofs.Related.{work-names}
 use Rattle.ledger.proofs.Table.{fits-table}
 use Rattle.claims.specs.Sheet.{Bears, Shows, BothLine, lines-on, lines-stop}
 
@@ -44,7 +44,7 @@ module _ (b : Btf) (i : ℕ) (z : Free (b .types) i) where
   type-free id v = go (eqb (getField v id 4) 0)
     where
       n : ℕ
-      n = countOf (classP (b .types)) (countP (b .types)) v id
+      n = numberAt (b .types) v id
 
       u : List ℕ
       u = counted (classP (b .types)) (countP (b .types)) v id
@@ -58,7 +58,7 @@ module _ (b : Btf) (i : ℕ) (z : Free (b .types) i) where
   value-free k v = go (ltb (b .types + k) 4294967296)
     where
       n : ℕ
-      n = countOf (classP (b .types)) (countP (b .types)) v (b .types + k)
+      n = numberAt (b .types) v (b .types + k)
 
       u : List ℕ
       u = counted (classP (b .types)) (countP (b .types)) v (b .types + k)
@@ -191,7 +191,8 @@ module _ (b : Btf) (e : ℕ) (s w : List ℕ) (I : Indexed b e s w) (mk : List �
       go x false q = lines-stop 17
 
 -- ---- the lines of a session: B is the table that opening left
-module _ (b : Btf) (e : ℕ) (s w : List ℕ) (I : Indexed b e s w)
+-- N: names that are alike those in the work
+module _ (b : Btf) (e : ℕ) (s w : List ℕ) (I : Indexed b e s w) (N : Naming Names) (R : RelNaming (Alike b e s w) (Fits b s w) (FitsValue b s w) (workNaming b) N)
     (v : List ℕ) (len : ℕ) (t : Ls (Known Names)) (h : Bears b e s w v len t) (front text : List ℕ) (at : ℕ) (sh : Shows b e s w front text at t) (x : ℕ) where
   abbrev B : Rules
   B = btfOf b s w
@@ -200,27 +201,27 @@ module _ (b : Btf) (e : ℕ) (s w : List ℕ) (I : Indexed b e s w)
   type = B .type-by-id x
 
   definition-line : (mk : List ℕ → Piece) → ((a : List ℕ) → textOf (mk a ∷ []) ≡ a)
-      → BothLine b e s w front (t .room) len (putSaid text at (definition (workNaming b) B x type v)) (putLine mk t (lineOf (t .room) (t .known .text-len) (definition naming B x type (t .known .names))))
+      → BothLine b e s w front (t .room) len (putSaid text at (definition (workNaming b) B x type v)) (putLine mk t (lineOf (t .room) (t .known .text-len) (definition N B x type (t .known .names))))
   definition-line mk q =
-      subst (λ (n : ℕ). BothLine b e s w front (t .room) len (putSaid text at (definition (workNaming b) B x type v)) (putLine mk t (lineOf (t .room) n (definition naming B x type (t .known .names))))) (sh .place)
-      (one-line b e s w I mk q v len t h front text at sh (definition (workNaming b) B x type v) (definition naming B x type (t .known .names))
-      (rel-definition (Alike b e s w) (Fits b s w) (FitsValue b s w) (workNaming b) naming (work-names b e s w I) B (fits-table b s w) x type (fits-table b s w x) v (t .known .names) (h .names))
+      subst (λ (n : ℕ). BothLine b e s w front (t .room) len (putSaid text at (definition (workNaming b) B x type v)) (putLine mk t (lineOf (t .room) n (definition N B x type (t .known .names))))) (sh .place)
+      (one-line b e s w I mk q v len t h front text at sh (definition (workNaming b) B x type v) (definition N B x type (t .known .names))
+      (rel-definition (Alike b e s w) (Fits b s w) (FitsValue b s w) (workNaming b) N R B (fits-table b s w) x type (fits-table b s w x) v (t .known .names) (h .names))
       (definition-table b s B x type v) (λ i z. definition-free b i z B x type v))
 
   -- a composite's definition, and an enum's or a forward's
-  pub body-line : BothLine b e s w front (t .room) len (putSaid text at (definition (workNaming b) B x type v)) (machine B .body t x)
+  pub body-line : BothLine b e s w front (t .room) len (putSaid text at (definition (workNaming b) B x type v)) (machineBy N B .body t x)
   body-line = definition-line (defines x) (text-defines x)
 
-  pub leaf-line : BothLine b e s w front (t .room) len (putSaid text at (definition (workNaming b) B x type v)) (machine B .leafLine t x)
+  pub leaf-line : BothLine b e s w front (t .room) len (putSaid text at (definition (workNaming b) B x type v)) (machineBy N B .leafLine t x)
   leaf-line = definition-line other text-other
 
   -- a forward line, and a typedef
-  pub forward-line : BothLine b e s w front (t .room) len (putSaid text at (forward (workNaming b) B x type v)) (machine B .fwdLine t x)
+  pub forward-line : BothLine b e s w front (t .room) len (putSaid text at (forward (workNaming b) B x type v)) (machineBy N B .fwdLine t x)
   forward-line =
-      subst (λ (n : ℕ). BothLine b e s w front (t .room) len (putSaid text at (forward (workNaming b) B x type v)) (putLine other t (lineOf (t .room) n (forward naming B x type (t .known .names))))) (sh .place)
-      (one-line b e s w I other text-other v len t h front text at sh (forward (workNaming b) B x type v) (forward naming B x type (t .known .names))
-      (rel-forward (Alike b e s w) (Fits b s w) (FitsValue b s w) (workNaming b) naming (work-names b e s w I) B (fits-table b s w) x type (fits-table b s w x) v (t .known .names) (h .names))
+      subst (λ (n : ℕ). BothLine b e s w front (t .room) len (putSaid text at (forward (workNaming b) B x type v)) (putLine other t (lineOf (t .room) n (forward N B x type (t .known .names))))) (sh .place)
+      (one-line b e s w I other text-other v len t h front text at sh (forward (workNaming b) B x type v) (forward N B x type (t .known .names))
+      (rel-forward (Alike b e s w) (Fits b s w) (FitsValue b s w) (workNaming b) N R B (fits-table b s w) x type (fits-table b s w x) v (t .known .names) (h .names))
       (forward-table b s B x type v) (λ i z. forward-free b i z B x type v))
 
-  pub alias-line : BothLine b e s w front (t .room) len (putSaid text at (forward (workNaming b) B x type v)) (machine B .aliasLine t x)
+  pub alias-line : BothLine b e s w front (t .room) len (putSaid text at (forward (workNaming b) B x type v)) (machineBy N B .aliasLine t x)
   alias-line = forward-line

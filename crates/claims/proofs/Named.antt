@@ -1,20 +1,25 @@
 -- The work that a successful opening leaves is indexed and fresh: the names in it are those of the Rust. Assumes nothing.
-use Prim.Native.Nat.{ℕ, suc, _+_, _-_, _*_, _<_, _≤_}
-use mathlib.Core.Path.{_≡_, refl, ap, _∙_, sym, subst}
+use Prim.Native.Nat.{ℕ, suc, _+_, _-_, _*_, _/_, _%_, _<_, _≤_}
+use mathlib.Core.Path.{_≡_, refl, ap, _∙_, sym, subst, fun-ext}
 use mathlib.Core.Bool.{Bool, true, false}
 use mathlib.Core.List.{List}
-use mathlib.Core.Logic.{inl, inr}
+use mathlib.Core.Logic.{inl, inr, _≢_}
 use native.Mathlib.Omega.{arith}
 use native.Mathlib.Decide.{ℕ-discrete}
 use lib.ListN.{getD, replicate}
+use lib.Dec.{eqb}
+use borrow.Author.Tests.{eqb-false}
 use Rattle.lent.specs.Words.{getWord}
 use Rattle.btf.specs.declared.types.Btf.{Btf}
 use Rattle.btf.specs.declared.types.BtfType.{BtfType as Record}
-use Rattle.btf.specs.Cells.{getField}
+use Rattle.btf.specs.Cells.{getField, placeOf}
 use Rattle.btf.specs.Records.{sectionWord, kindOf, vlenOf, recordAt, recordById, voidRecord}
-use Rattle.btf.specs.Table.{enumeratorOf}
+use Rattle.btf.specs.Table.{enumeratorOf, workNaming}
+use Rattle.rules.specs.Names.{Naming, Names, naming}
+use Rattle.rules.proofs.Related.{RelNaming}
 use Rattle.btf.proofs.Laws.{void-zero}
-use Rattle.classes.specs.Classes.{recordP}
+use Rattle.classes.specs.Classes.{recordP, spaceAt, nameOf, keyOf, keyIn, classOf}
+use Rattle.classes.proofs.Ledger.{the-words}
 use Rattle.opened.specs.Table.{typesOf, enumeratorsOf, recordPlace, recordKind, indexOf}
 use Rattle.fill.specs.Left as left
 use Rattle.fill.specs.Left.{enumeratorWord, isEnum, valuesAt, enumsTo}
@@ -24,11 +29,16 @@ use Rattle.opened.proofs.Index.{types-few, some-type, index-place, index-kind}
 use Rattle.opened.proofs.Sums.{enumerators-all}
 use Rattle.fill.proofs.Enumerators.{to-up}
 use Rattle.fill.proofs.Zeros.{zeros-word, before-else, other-field}
-use Rattle.opened.proofs.ReadBack.{header-ok, types-ok, order-ok, types-are, before, record-back, kind-back, value-back, enumerator-back, room-back, counts-back}
-use Rattle.ledger.specs.Indexed.{IsEnum, valuePlace, Value, placeOfValue, Indexed}
-use Rattle.ledger.specs.Alike.{Fresh}
-use Rattle.ledger.proofs.Classed.{enumerator-place, classed-indexed, classed-fresh}
-use Rattle.claims.specs.Table.{headerOf}
+use Rattle.opened.proofs.ReadBack.{header-ok, types-ok, order-ok, work-long, types-are, before, classed, else-listed, record-back, kind-back, value-back, enumerator-back, room-back, bucket-back, work-length, counts-back}
+use Rattle.takers.proofs.Frame.{field-unlisted, place-unlisted}
+use Rattle.ledger.specs.Indexed.{IsEnum, valuePlace, Value, placeOfValue, Fits, FitsValue, Indexed, listsIn}
+use Rattle.ledger.specs.Passed.{passed}
+use Rattle.ledger.specs.Alike.{Alike, Fresh}
+use Rattle.ledger.proofs.Related.{work-names}
+use Rattle.ledger.proofs.Lists.{lists-are, lists-none}
+use Rattle.ledger.proofs.Claims.{none-is}
+use Rattle.ledger.proofs.Classed.{enumerator-place, keys-stay, classed-fresh}
+use Rattle.claims.specs.Table.{headerOf, namesIn}
 
 enum-kind : (k : ℕ) → IsEnum k → isEnum k ≡ true
 unfolding isEnum
@@ -109,10 +119,37 @@ module _ (p modes : ℕ) (s : List ℕ) (n : ℕ) (ok : openingNumber p s n ≡ 
         ∙ same-place (recordKind s (id - 1)) (recordPlace s (id - 1)) i
         ∙ sym (λ j. valuePlace (kind-back p modes s n ok id a l j) (record-back p modes s n ok id a l j .at) i)
 
+  -- the lists of taken numbers leave what names are read by
+  abbrev u : List ℕ
+  u = classed p modes s n ok
+
+  some : 1 ≤ b .types
+  some = omega (arith, types-are p modes s n ok, some-type s)
+
+  listed-place : (f g h : ℕ) → f < 16 → g < 8 → f ≢ 7 → f ≢ 8 → f ≢ 14 → g ≢ 3 → g ≢ 4 → g ≢ 6 → getWord w (placeOf (b .types) f g h) ≡ getWord u (placeOf (b .types) f g h)
+  listed-place f g h a c n7 n8 n14 n3 n4 n6 = else-listed p modes s n ok (placeOf (b .types) f g h) (place-unlisted (b .types) (b .types + enumeratorsOf s) f g h a c n7 n8 n14 n3 n4 n6)
+
+  listed-field : (f id : ℕ) → id < b .types → f < 16 → f ≢ 7 → f ≢ 8 → f ≢ 14 → getField w id f ≡ getField u id f
+  listed-field f id l a n7 n8 n14 = else-listed p modes s n ok (id * 16 + f) (field-unlisted (b .types) (b .types + enumeratorsOf s) id f l a n7 n8 n14)
+
+  keys-same : keyIn b s w ≡ keyIn b s u
+  unfolding keyIn
+  keys-same = fun-ext (λ h. ap (λ (at : ℕ). keyOf s (spaceAt b s at h) (nameOf b s at)) (listed-place 0 0 h (omega arith) (omega arith) (λ q. omega arith) (λ q. omega arith) (λ q. omega arith) (λ q. omega arith) (λ q. omega arith) (λ q. omega arith)))
+
   -- room for all names, the class of each, and the values of enums at their numbers
   pub opened-indexed : Indexed b (enumeratorsOf s) s w
-  unfolding workOf left.filled
-  opened-indexed = classed-indexed b (enumeratorsOf s) s (before p modes s n ok) (room-back p modes s n ok) (λ id i v. its-number id i v) (λ id i v. its-place id i v)
+  opened-indexed = record {
+    room = record {
+      numbered = room-back p modes s n ok .numbered;
+      words = omega (arith, work-length p modes s n ok, work-long p modes s n ok, types-are p modes s n ok);
+    };
+    class = λ h l.
+        listed-place 5 1 h (omega arith) (omega arith) (λ q. omega arith) (λ q. omega arith) (λ q. omega arith) (λ q. omega arith) (λ q. omega arith) (λ q. omega arith)
+        ∙ the-words b (enumeratorsOf s) s (before p modes s n ok) .class h (room-back p modes s n ok) l
+        ∙ ap (λ (k : ℕ → List ℕ). classOf k h) (sym (keys-same ∙ keys-stay b (enumeratorsOf s) s (before p modes s n ok)));
+    numbered = λ id i v. its-number id i v;
+    place = λ id i v. its-place id i v;
+  }
 
   no-version-before : (id : ℕ) → id < b .types → getField (before p modes s n ok) id 4 ≡ 0
   no-version-before id m =
@@ -121,8 +158,23 @@ module _ (p modes : ℕ) (s : List ℕ) (n : ℕ) (ok : openingNumber p s n ≡ 
       (replicate n 0) (omega (arith, types-are p modes s n ok, some-type s))
       ∙ zeros-word n (id * 16 + 4)
 
+  classes-fresh : Fresh b (enumeratorsOf s) s u
+  classes-fresh = classed-fresh b (enumeratorsOf s) s (before p modes s n ok) (record { no-version = no-version-before; no-count = λ h m. counts-back p modes s n ok h })
+
   -- no type has a version, no name a holder
   pub opened-fresh : Fresh b (enumeratorsOf s) s w
-  unfolding workOf left.filled
-  opened-fresh =
-      classed-fresh b (enumeratorsOf s) s (before p modes s n ok) (record { no-version = no-version-before; no-count = λ h m. counts-back p modes s n ok h })
+  opened-fresh = record {
+    no-version = λ id l. listed-field 4 id l (omega arith) (λ q. omega arith) (λ q. omega arith) (λ q. omega arith) ∙ classes-fresh .no-version id l;
+    no-count = λ h l. listed-place 6 2 h (omega arith) (omega arith) (λ q. omega arith) (λ q. omega arith) (λ q. omega arith) (λ q. omega arith) (λ q. omega arith) (λ q. omega arith) ∙ classes-fresh .no-count h l;
+  }
+
+  -- the names of the session are alike those in the work: without bit 3 of the modes no list has a first holder
+  pub opened-names : RelNaming (Alike b (enumeratorsOf s) s w) (Fits b s w) (FitsValue b s w) (workNaming b) (namesIn p modes s n)
+  unfolding namesIn
+  opened-names = go (eqb (modes / 8 % 2) 1) refl
+    where
+      go : (t : Bool) → eqb (modes / 8 % 2) 1 ≡ t → RelNaming (Alike b (enumeratorsOf s) s w) (Fits b s w) (FitsValue b s w) (workNaming b) (elim t as (λ z. Naming Names) [ true ↦ passed (listsIn b (enumeratorsOf s) s w) | false ↦ naming ])
+      go true q = work-names b (enumeratorsOf s) s w opened-indexed (lists-are b (enumeratorsOf s) s w)
+      go false q =
+          subst (λ (N : Naming Names). RelNaming (Alike b (enumeratorsOf s) s w) (Fits b s w) (FitsValue b s w) (workNaming b) N) none-is
+          (work-names b (enumeratorsOf s) s w opened-indexed (lists-none b (enumeratorsOf s) s w (bucket-back p modes s n ok (eqb-false (modes / 8 % 2) 1 q))))

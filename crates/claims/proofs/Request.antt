@@ -1,33 +1,36 @@
 -- One request in lent bytes and over plain lists: the same refusal, or states that go on alike. Assumes nothing.
-use Prim.Native.Nat.{ℕ, zero, suc, _+_, _*_, _%_, _<_}
+use Prim.Native.Nat.{ℕ, zero, suc, _+_, _*_, _<_, _≤_}
 use mathlib.Core.Path.{_≡_, refl, ap, _∙_, sym, subst}
-use mathlib.Core.Bool.{Bool, false}
+use mathlib.Core.Bool.{Bool, true, false}
 use mathlib.Core.List.{List, List·Memᴰ·not-nil}
 use mathlib.Core.Logic.{_≢_}
 use native.Mathlib.Omega.{arith}
 use lib.ListN.{length}
-use Rattle.lent.specs.Words.{getWord}
+use lib.Dec.{ltb}
+use Rattle.lent.specs.Words.{getWord, oneMore, pick}
 use Rattle.lent.proofs.Laws.{get-put-other, put-length}
 use Rattle.rules.specs.Order.{Table, Res}
 use Rattle.rules.specs.Machine.{Out, wrote, Machine, MLawful, Kept, obind, eeach, emit, Sess, emitted, ordered, ordering, shut}
 use Rattle.rules.specs.Types.{Btf as Rules, tableOf}
 use Rattle.rules.specs.Layout.{smaller}
-use Rattle.rules.specs.Names.{Names, naming}
+use Rattle.rules.specs.Names.{Names, Naming}
+use Rattle.rules.proofs.Related.{RelNaming}
 use Rattle.rules.specs.Place.{Wrote}
 use Rattle.btf.specs.declared.types.Btf.{Btf}
-use Rattle.btf.specs.Table.{btfOf}
+use Rattle.btf.specs.Table.{btfOf, workNaming}
 use Rattle.marks.specs.Work.{workStore}
 use Rattle.marks.proofs.Frame.{table-list}
 use Rattle.emit.specs.Sheet.{Sheet, sheetStore, emptied, sheetOf, lineIn, workMachine, listedOut, dumped}
 use Rattle.demand.specs.Needs.{WF}
 use Rattle.demand.specs.Lists.{Ls, listStore}
-use Rattle.demand.specs.Session.{Known, textOf, machine}
+use Rattle.demand.specs.Session.{Known, textOf, machineBy}
 use Rattle.demand.proofs.Alike.{Both, both, neither, AlikeStore, Went, order-alike, BothOut, both-wrote, both-stuck}
 use Rattle.demand.proofs.Lists.{Sized}
 use Rattle.demand.proofs.Session.{machine-lawful}
-use Rattle.ledger.specs.Indexed.{Indexed}
+use Rattle.ledger.specs.Indexed.{Indexed, Fits, FitsValue}
+use Rattle.ledger.specs.Alike.{Alike}
 use Rattle.claims.specs.Sheet.{Bears, Shows, BothLine, lines-on, lines-stop, BothRequest, both-served, both-refused}
-use Rattle.claims.proofs.Steps.{mark-step, emark-step, forwarded-step, push-step}
+use Rattle.claims.proofs.Steps.{mark-step, emark-step, forwarded-step, listed-few, push-step}
 use Rattle.claims.proofs.Start.{start-step}
 use Rattle.claims.proofs.Lines.{body-line, leaf-line, forward-line, alias-line}
 use Rattle.claims.proofs.Emission.{AlikeSteps, eeach-alike, emit-alike}
@@ -43,13 +46,22 @@ unfolding emptied
 emptied-table b s zero v = refl
 emptied-table b s (suc k) v = table-list b s (emptied k v) k 0 ∙ emptied-table b s k v
 
-emptied-word : (k : ℕ) (v : List ℕ) (i : ℕ) → i % 16 ≢ 11 → getWord (emptied k v) i ≡ getWord v i
+emptied-word : (k : ℕ) (v : List ℕ) (i : ℕ) → ((j : ℕ) → j < k → i ≢ j * 16 + 11) → getWord (emptied k v) i ≡ getWord v i
 unfolding emptied
 emptied-word zero v i n = refl
-emptied-word (suc k) v i n = get-put-other (emptied k v) (k * 16 + 11) i 0 (λ q. n (omega arith)) ∙ emptied-word k v i n
+emptied-word (suc k) v i n = get-put-other (emptied k v) (k * 16 + 11) i 0 (n k (omega arith)) ∙ emptied-word k v i (λ j l. n j (omega arith))
+
+more-most : (n : ℕ) → oneMore n ≤ n + 1
+unfolding oneMore
+more-most n = go (ltb n 4294967295)
+  where
+    go : (t : Bool) → pick t (n + 1) n ≤ n + 1
+    go true = omega arith
+    go false = omega arith
 
 -- w is the work after opening; the text so far is `front`, and the room of the request is `room`
-module _ (b : Btf) (e : ℕ) (s w : List ℕ) (I : Indexed b e s w) (wf : WF (tableOf (btfOf b s w))) (front : List ℕ) (room : ℕ) where
+module _ (b : Btf) (e : ℕ) (s w : List ℕ) (I : Indexed b e s w) (N : Naming Names) (R : RelNaming (Alike b e s w) (Fits b s w) (FitsValue b s w) (workNaming b) N)
+    (wf : WF (tableOf (btfOf b s w))) (front : List ℕ) (room : ℕ) where
   abbrev B : Rules
   B = btfOf b s w
 
@@ -63,7 +75,7 @@ module _ (b : Btf) (e : ℕ) (s w : List ℕ) (I : Indexed b e s w) (wf : WF (ta
   X₁ = workMachine b B
 
   abbrev X : Machine State
-  X = machine B
+  X = machineBy N B
 
   abbrev Fit : State → Type 0
   Fit = Sized (T .count)
@@ -72,6 +84,8 @@ module _ (b : Btf) (e : ℕ) (s w : List ℕ) (I : Indexed b e s w) (wf : WF (ta
     pub bears : Bears b e s w (m .work) (m .len) t
     pub shows : Shows b e s w front (m .text) (m .at) t
     pub same-room : t .room ≡ room
+    -- the order list has a word of each type
+    pub short : m .len ≤ b .types
 
   counted : T .count ≡ b .types
   unfolding btfOf
@@ -90,10 +104,10 @@ module _ (b : Btf) (e : ℕ) (s w : List ℕ) (I : Indexed b e s w) (wf : WF (ta
     so-far = h .so-far ∙ ap textOf p;
   }
 
-  to-out : (len : ℕ) {o : Wrote (List ℕ)} {l : Out State} → BothLine b e s w front room len o l → BothOut Related (sheetOf len o) l
+  to-out : (len : ℕ) → len ≤ b .types → {o : Wrote (List ℕ)} {l : Out State} → BothLine b e s w front room len o l → BothOut Related (sheetOf len o) l
   unfolding sheetOf
-  to-out len (lines-on text at v t be sh r) = both-wrote (record { work = v; text = text; at = at; len = len }) t (record { bears = be; shows = sh; same-room = r })
-  to-out len (lines-stop c) = both-stuck c
+  to-out len m (lines-on text at v t be sh r) = both-wrote (record { work = v; text = text; at = at; len = len }) t (record { bears = be; shows = sh; same-room = r; short = m })
+  to-out len m (lines-stop c) = both-stuck c
 
   -- ---- ordering
   alike-store : AlikeStore (X₁ .store) (X .store) (T .count) Fit Related
@@ -105,11 +119,13 @@ module _ (b : Btf) (e : ℕ) (s w : List ℕ) (I : Indexed b e s w) (wf : WF (ta
       bears = mark-step b e s w I (m .work) (m .len) t (q .bears) x (below x l) k;
       shows = same-shows (m .text) (m .at) t (listStore .mark k x t) refl refl refl (q .shows);
       same-room = q .same-room;
+      short = q .short;
     };
     a-push = λ x m t q l r. record {
       bears = push-step b e s w I (m .work) (m .len) t (q .bears) x (below x l) (subst (λ (n : ℕ). length (t .olist) < n) counted r);
       shows = same-shows (m .text) (m .at) t (listStore .push x t) refl refl refl (q .shows);
       same-room = q .same-room;
+      short = let z : m .len < b .types = listed-few b e s w I (m .work) (m .len) t (q .bears) x (below x l) (subst (λ (n : ℕ). length (t .olist) < n) counted r) in omega (arith, z, more-most (m .len));
     };
   }
 
@@ -122,17 +138,19 @@ module _ (b : Btf) (e : ℕ) (s w : List ℕ) (I : Indexed b e s w) (wf : WF (ta
       bears = emark-step b e s w I (m .work) (m .len) t (q .bears) x (below x l) B k;
       shows = same-shows (m .text) (m .at) t (X .emark k x t) refl refl refl (q .shows);
       same-room = q .same-room;
+      short = q .short;
     };
     a-has = λ m t q x l. q .bears .fwds x (below x l);
     a-forwarded = λ x m t q l. record {
       bears = forwarded-step b e s w I (m .work) (m .len) t (q .bears) x (below x l) B;
       shows = same-shows (m .text) (m .at) t (X .forwarded x t) refl refl refl (q .shows);
       same-room = q .same-room;
+      short = q .short;
     };
-    a-fwd = λ m t q x l. to-out (m .len) (at-room m t q (forward-line b e s w I (m .work) (m .len) t (q .bears) front (m .text) (m .at) (q .shows) x));
-    a-alias = λ m t q x l. to-out (m .len) (at-room m t q (alias-line b e s w I (m .work) (m .len) t (q .bears) front (m .text) (m .at) (q .shows) x));
-    a-leaf = λ m t q x l. to-out (m .len) (at-room m t q (leaf-line b e s w I (m .work) (m .len) t (q .bears) front (m .text) (m .at) (q .shows) x));
-    a-body = λ m t q x l. to-out (m .len) (at-room m t q (body-line b e s w I (m .work) (m .len) t (q .bears) front (m .text) (m .at) (q .shows) x));
+    a-fwd = λ m t q x l. to-out (m .len) (q .short) (at-room m t q (forward-line b e s w I N R (m .work) (m .len) t (q .bears) front (m .text) (m .at) (q .shows) x));
+    a-alias = λ m t q x l. to-out (m .len) (q .short) (at-room m t q (alias-line b e s w I N R (m .work) (m .len) t (q .bears) front (m .text) (m .at) (q .shows) x));
+    a-leaf = λ m t q x l. to-out (m .len) (q .short) (at-room m t q (leaf-line b e s w I N R (m .work) (m .len) t (q .bears) front (m .text) (m .at) (q .shows) x));
+    a-body = λ m t q x l. to-out (m .len) (q .short) (at-room m t q (body-line b e s w I N R (m .work) (m .len) t (q .bears) front (m .text) (m .at) (q .shows) x));
   }
     where
       at-room : (m : Sheet) (t : State) → Related m t → {o : Wrote (List ℕ)} {l : Out State} → BothLine b e s w front (t .room) (m .len) o l → BothLine b e s w front room (m .len) o l
@@ -140,7 +158,7 @@ module _ (b : Btf) (e : ℕ) (s w : List ℕ) (I : Indexed b e s w) (wf : WF (ta
 
   -- ---- a request
   abbrev lawful : MLawful X Fit (T .count)
-  lawful = machine-lawful naming B (T .count)
+  lawful = machine-lawful N B (T .count)
 
   abbrev Goes : State → Sheet → State → Bool → Type 0
   Goes t₀ m t c = Went (X₁ .store) (X .store) T Fit (lawful .law) (Kept X Fit) (lawful .framed) (wf .below) Related alike-store t₀ m t c
@@ -154,7 +172,7 @@ module _ (b : Btf) (e : ℕ) (s w : List ℕ) (I : Indexed b e s w) (wf : WF (ta
     unfolding obind emitted shut workMachine
     emitted-alike (both-wrote m t q) =
         both-served (record { work = emptied (m .len) (m .work); text = m .text; at = m .at; len = 0 }) t
-        (start-step b e s w (m .work) (emptied (m .len) (m .work)) (emptied-long (m .len) (m .work)) (emptied-table b s (m .len) (m .work)) (emptied-word (m .len) (m .work)) B 0 (m .len) t (q .bears))
+        (start-step b e s w (m .work) (emptied (m .len) (m .work)) (emptied-long (m .len) (m .work)) (emptied-table b s (m .len) (m .work)) (λ i z. emptied-word (m .len) (m .work) i (λ j l. z j (omega (arith, l, q .short)))) B 0 (m .len) t (q .bears))
         (q .shows) (q .same-room)
     emitted-alike (both-stuck c) = both-refused c
 
@@ -177,6 +195,7 @@ module _ (b : Btf) (e : ℕ) (s w : List ℕ) (I : Indexed b e s w) (wf : WF (ta
             bears = subst (λ (n : ℕ). Bears b e s w (m .work) n (X .start room (S .mach))) (sym z) (start-step b e s w (m .work) (m .work) refl refl (λ i q. refl) B room 0 (X .start 0 (S .mach)) h);
             shows = sh;
             same-room = refl;
+            short = omega (arith, z);
           };
           room = omega arith;
           ids = λ y q. absurd (List·Memᴰ·not-nil q);

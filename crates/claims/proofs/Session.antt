@@ -40,12 +40,12 @@ use Rattle.turns.specs.declared.Answer.the-variants.{Refused}
 use Rattle.calls.proofs.Claims.{number-is, value-is, type-settles, types-settle, type-not-below, type-not-current, types-not-current, closed-stays, type-current}
 use Rattle.demand.specs.Lists.{Ls, afresh}
 use Rattle.demand.specs.Session.{Known, textOf, machine, opened}
-use Rattle.claims.specs.Table.{headerOf}
+use Rattle.claims.specs.Table.{headerOf, namesIn, machineIn}
 use Rattle.claims.specs.Sheet.{Bears, Shows, BothRequest, both-served, both-refused}
 use Rattle.claims.specs.Session.{Holds, Tells, singlesFor, made, After, after-open, after-one, after-all, after-list}
 use Rattle.claims.proofs.Described.{count-described, count-is}
 use Rattle.claims.proofs.Sound.{opened-wf}
-use Rattle.claims.proofs.Named.{opened-indexed}
+use Rattle.claims.proofs.Named.{opened-indexed, opened-names}
 use Rattle.claims.proofs.Start.{start-step}
 use Rattle.claims.proofs.Began.{opened-bears}
 use Rattle.claims.proofs.Request.{request-alike}
@@ -90,13 +90,13 @@ module _ (len room : ℕ) (t tx : List ℕ) (is : take len t ≡ tx) (short : le
   zeros-fit = omega (arith, length-append (take len t) (replicate (room - len) 0), length-take-le len t short)
 
 -- the modes that the record keeps say what those at opening said
-union-kept : (m : ℕ) → m % 8 % 2 ≡ m % 2
+union-kept : (m : ℕ) → m % 16 % 2 ≡ m % 2
 union-kept m = omega arith
 
-arrays-kept : (m : ℕ) → m % 8 / 2 % 2 ≡ m / 2 % 2
+arrays-kept : (m : ℕ) → m % 16 / 2 % 2 ≡ m / 2 % 2
 arrays-kept m = omega arith
 
-placing-kept : (m : ℕ) → m % 8 / 4 % 2 ≡ m / 4 % 2
+placing-kept : (m : ℕ) → m % 16 / 4 % 2 ≡ m / 4 % 2
 placing-kept m = omega arith
 
 module _ (p modes : ℕ) (s : List ℕ) (n : ℕ) (ok : openingNumber p s n ≡ 0) where
@@ -119,7 +119,7 @@ module _ (p modes : ℕ) (s : List ℕ) (n : ℕ) (ok : openingNumber p s n ≡ 
   State = Ls (Known Names)
 
   abbrev X : Machine State
-  X = machine B
+  X = machineIn p modes s n
 
   -- in the course of a call on a text slice of `room` bytes
   pub record Going (len : ℕ) (v t : List ℕ) (room : ℕ) (L : Sess State) : Type 0 where
@@ -226,7 +226,7 @@ module _ (p modes : ℕ) (s : List ℕ) (n : ℕ) (ok : openingNumber p s n ≡ 
     request-reach l =
         subst (λ (r : Reach). BothReach room r (single X T room L x)) (sym table-now)
         (subst (λ (a : Answer State). BothReach room (cameTo len t (dumped (workMachine b B) T sheet x)) a) (sym (single-is l))
-        (came (request-alike b e s w (opened-indexed p modes s n ok) (opened-wf p modes s n ok) (take len t) room L x sheet refl (g .bears) begins (below l)) positive))
+        (came (request-alike b e s w (opened-indexed p modes s n ok) (namesIn p modes s n) (opened-names p modes s n ok) (opened-wf p modes s n ok) (take len t) room L x sheet refl (g .bears) begins (below l)) positive))
 
   -- ---- one after the other
   onward-reach : (room : ℕ) {r : Reach} {a : Answer State} (k₁ : ℕ → List ℕ → List ℕ → Reach) (k : Sess State → Answer State) → BothReach room r a
@@ -304,7 +304,7 @@ module _ (p modes : ℕ) (s : List ℕ) (n : ℕ) (ok : openingNumber p s n ≡ 
     table-is =
         ap (λ (k : ℕ). settingsOf s k (S .modes) (S .types)) (h .pointer-size)
         ∙ ap (λ (k : ℕ). settingsOf s p k (S .types)) (h .mode)
-        ∙ ap (settingsOf s p (modes % 8)) (h .types)
+        ∙ ap (settingsOf s p (modes % 16)) (h .types)
         ∙ (λ i. record { «ptr_sz» = b .«ptr_sz»; «union_as_struct» = eqb (union-kept modes i) 1; «big_endian» = b .«big_endian»; «strong_arrays» = eqb (arrays-kept modes i) 1; placing = eqb (placing-kept modes i) 1; types = b .types; strs = b .strs })
 
     pub types-is : S .types ≡ T .count

@@ -16,6 +16,7 @@ use Rattle.rules.specs.Names.{Names}
 use Rattle.rules.specs.Types.{Btf as Rules}
 use Rattle.btf.specs.declared.types.Btf.{Btf}
 use Rattle.btf.specs.Cells.{getField, putField, classP, countP, placeOf}
+use Rattle.btf.specs.Numbers.{headP, nextP, takenP}
 use Rattle.btf.specs.Table.{from, btfOf}
 use Rattle.btf.proofs.Laws.{place-type}
 use Rattle.btf.proofs.Frame.{field-other, table-field}
@@ -37,7 +38,7 @@ mark-code done = refl
 
 module _ (b : Btf) (e : ℕ) (s w : List ℕ) (I : Indexed b e s w) where
   -- a word of a type that names do not use
-  module _ (f : ℕ) (lf : f < 16) (f0 : f ≢ 0) (f4 : f ≢ 4) (f5 : f ≢ 5) (f6 : f ≢ 6) (f12 : f ≢ 12) (v : List ℕ) (u : Names) (x c : ℕ) (l : x < b .types) (a : Alike b e s w v u) where
+  module _ (f : ℕ) (lf : f < 16) (f0 : f ≢ 0) (f4 : f ≢ 4) (f5 : f ≢ 5) (f6 : f ≢ 6) (f7 : f ≢ 7) (f8 : f ≢ 8) (f12 : f ≢ 12) (f14 : f ≢ 14) (v : List ℕ) (u : Names) (x c : ℕ) (l : x < b .types) (a : Alike b e s w v u) where
     elsewhere : (i : ℕ) → placeOf (b .types) f 7 x ≢ i → getWord (putField v x f c) i ≡ getWord v i
     elsewhere i m = get-put-other v (x * 16 + f) i c (λ q. m (sym (place-type (b .types) f 7 x l) ∙ sym q))
 
@@ -47,6 +48,9 @@ module _ (b : Btf) (e : ℕ) (s w : List ℕ) (I : Indexed b e s w) where
       class = λ h m. elsewhere (classP (b .types) h) (place-apart (b .types) f 7 5 1 (lf, omega arith, omega arith, omega arith, f5, λ q. omega arith) x h) ∙ a .kept .class h m;
       place = λ h m. elsewhere (recordP (b .types) h) (place-apart (b .types) f 7 0 0 (lf, omega arith, omega arith, omega arith, f0, λ q. omega arith) x h) ∙ a .kept .place h m;
       first = λ id m. field-other v x f c id 12 lf (omega arith) f12 ∙ a .kept .first id m;
+      heads = λ h. elsewhere (headP (b .types) h) (place-apart (b .types) f 7 7 3 (lf, omega arith, omega arith, omega arith, f7, λ q. omega arith) x h) ∙ a .kept .heads h;
+      nexts = λ h. elsewhere (nextP (b .types) h) (place-apart (b .types) f 7 8 4 (lf, omega arith, omega arith, omega arith, f8, λ q. omega arith) x h) ∙ a .kept .nexts h;
+      takens = λ h. elsewhere (takenP (b .types) h) (place-apart (b .types) f 7 14 6 (lf, omega arith, omega arith, omega arith, f14, λ q. omega arith) x h) ∙ a .kept .takens h;
     }
 
     pub put-alike : Alike b e s w (putField v x f c) u
@@ -90,10 +94,10 @@ module _ (b : Btf) (e : ℕ) (s w : List ℕ) (I : Indexed b e s w) where
     -- ordering's mark
     pub mark-step : (k : Mark) → Bears b e s w (putField v x 1 (code k)) len (listStore .mark k x t)
     mark-step k = record {
-      table = put-table 1 (omega arith) (λ q. omega arith) (λ q. omega arith) (λ q. omega arith) (λ q. omega arith) (λ q. omega arith) v u x (code k) l (h .names) (λ q. omega arith) (λ q. omega arith) ∙ h .table;
-      names = put-alike 1 (omega arith) (λ q. omega arith) (λ q. omega arith) (λ q. omega arith) (λ q. omega arith) (λ q. omega arith) v u x (code k) l (h .names);
-      marks = put-seen 1 (omega arith) (λ q. omega arith) (λ q. omega arith) (λ q. omega arith) (λ q. omega arith) (λ q. omega arith) v u x (code k) l (h .names) markOf (t .marks) k new (mark-code k) (h .marks-n) (h .marks);
-      list = put-list 1 (omega arith) (λ q. omega arith) (λ q. omega arith) (λ q. omega arith) (λ q. omega arith) (λ q. omega arith) v u x (code k) l (h .names) (λ q. omega arith) len ∙ h .list;
+      table = put-table 1 (omega arith) (λ q. omega arith) (λ q. omega arith) (λ q. omega arith) (λ q. omega arith) (λ q. omega arith) (λ q. omega arith) (λ q. omega arith) (λ q. omega arith) v u x (code k) l (h .names) (λ q. omega arith) (λ q. omega arith) ∙ h .table;
+      names = put-alike 1 (omega arith) (λ q. omega arith) (λ q. omega arith) (λ q. omega arith) (λ q. omega arith) (λ q. omega arith) (λ q. omega arith) (λ q. omega arith) (λ q. omega arith) v u x (code k) l (h .names);
+      marks = put-seen 1 (omega arith) (λ q. omega arith) (λ q. omega arith) (λ q. omega arith) (λ q. omega arith) (λ q. omega arith) (λ q. omega arith) (λ q. omega arith) (λ q. omega arith) v u x (code k) l (h .names) markOf (t .marks) k new (mark-code k) (h .marks-n) (h .marks);
+      list = put-list 1 (omega arith) (λ q. omega arith) (λ q. omega arith) (λ q. omega arith) (λ q. omega arith) (λ q. omega arith) (λ q. omega arith) (λ q. omega arith) (λ q. omega arith) v u x (code k) l (h .names) (λ q. omega arith) len ∙ h .list;
       emits = λ y m. ap markOf (field-other v x 1 (code k) y 13 (omega arith) (omega arith) (λ q. omega arith)) ∙ h .emits y m;
       fwds = λ y m. ap (λ (z : ℕ). not (eqb z 0)) (field-other v x 1 (code k) y 3 (omega arith) (omega arith) (λ q. omega arith)) ∙ h .fwds y m;
       marks-n = length-set (t .marks) x k ∙ h .marks-n;
@@ -104,11 +108,11 @@ module _ (b : Btf) (e : ℕ) (s w : List ℕ) (I : Indexed b e s w) where
     -- emission's mark
     pub emark-step : (B : Rules) (k : Mark) → Bears b e s w (putField v x 13 (code k)) len (machine B .emark k x t)
     emark-step B k = record {
-      table = put-table 13 (omega arith) (λ q. omega arith) (λ q. omega arith) (λ q. omega arith) (λ q. omega arith) (λ q. omega arith) v u x (code k) l (h .names) (λ q. omega arith) (λ q. omega arith) ∙ h .table;
-      names = put-alike 13 (omega arith) (λ q. omega arith) (λ q. omega arith) (λ q. omega arith) (λ q. omega arith) (λ q. omega arith) v u x (code k) l (h .names);
+      table = put-table 13 (omega arith) (λ q. omega arith) (λ q. omega arith) (λ q. omega arith) (λ q. omega arith) (λ q. omega arith) (λ q. omega arith) (λ q. omega arith) (λ q. omega arith) v u x (code k) l (h .names) (λ q. omega arith) (λ q. omega arith) ∙ h .table;
+      names = put-alike 13 (omega arith) (λ q. omega arith) (λ q. omega arith) (λ q. omega arith) (λ q. omega arith) (λ q. omega arith) (λ q. omega arith) (λ q. omega arith) (λ q. omega arith) v u x (code k) l (h .names);
       marks = λ y m. ap markOf (field-other v x 13 (code k) y 1 (omega arith) (omega arith) (λ q. omega arith)) ∙ h .marks y m;
-      list = put-list 13 (omega arith) (λ q. omega arith) (λ q. omega arith) (λ q. omega arith) (λ q. omega arith) (λ q. omega arith) v u x (code k) l (h .names) (λ q. omega arith) len ∙ h .list;
-      emits = put-seen 13 (omega arith) (λ q. omega arith) (λ q. omega arith) (λ q. omega arith) (λ q. omega arith) (λ q. omega arith) v u x (code k) l (h .names) markOf (t .emits) k new (mark-code k) (h .emits-n) (h .emits);
+      list = put-list 13 (omega arith) (λ q. omega arith) (λ q. omega arith) (λ q. omega arith) (λ q. omega arith) (λ q. omega arith) (λ q. omega arith) (λ q. omega arith) (λ q. omega arith) v u x (code k) l (h .names) (λ q. omega arith) len ∙ h .list;
+      emits = put-seen 13 (omega arith) (λ q. omega arith) (λ q. omega arith) (λ q. omega arith) (λ q. omega arith) (λ q. omega arith) (λ q. omega arith) (λ q. omega arith) (λ q. omega arith) v u x (code k) l (h .names) markOf (t .emits) k new (mark-code k) (h .emits-n) (h .emits);
       fwds = λ y m. ap (λ (z : ℕ). not (eqb z 0)) (field-other v x 13 (code k) y 3 (omega arith) (omega arith) (λ q. omega arith)) ∙ h .fwds y m;
       marks-n = h .marks-n;
       emits-n = length-set (t .emits) x k ∙ h .emits-n;
@@ -118,12 +122,12 @@ module _ (b : Btf) (e : ℕ) (s w : List ℕ) (I : Indexed b e s w) where
     -- the flag of a forward line
     pub forwarded-step : (B : Rules) → Bears b e s w (putField v x 3 1) len (machine B .forwarded x t)
     forwarded-step B = record {
-      table = put-table 3 (omega arith) (λ q. omega arith) (λ q. omega arith) (λ q. omega arith) (λ q. omega arith) (λ q. omega arith) v u x 1 l (h .names) (λ q. omega arith) (λ q. omega arith) ∙ h .table;
-      names = put-alike 3 (omega arith) (λ q. omega arith) (λ q. omega arith) (λ q. omega arith) (λ q. omega arith) (λ q. omega arith) v u x 1 l (h .names);
+      table = put-table 3 (omega arith) (λ q. omega arith) (λ q. omega arith) (λ q. omega arith) (λ q. omega arith) (λ q. omega arith) (λ q. omega arith) (λ q. omega arith) (λ q. omega arith) v u x 1 l (h .names) (λ q. omega arith) (λ q. omega arith) ∙ h .table;
+      names = put-alike 3 (omega arith) (λ q. omega arith) (λ q. omega arith) (λ q. omega arith) (λ q. omega arith) (λ q. omega arith) (λ q. omega arith) (λ q. omega arith) (λ q. omega arith) v u x 1 l (h .names);
       marks = λ y m. ap markOf (field-other v x 3 1 y 1 (omega arith) (omega arith) (λ q. omega arith)) ∙ h .marks y m;
-      list = put-list 3 (omega arith) (λ q. omega arith) (λ q. omega arith) (λ q. omega arith) (λ q. omega arith) (λ q. omega arith) v u x 1 l (h .names) (λ q. omega arith) len ∙ h .list;
+      list = put-list 3 (omega arith) (λ q. omega arith) (λ q. omega arith) (λ q. omega arith) (λ q. omega arith) (λ q. omega arith) (λ q. omega arith) (λ q. omega arith) (λ q. omega arith) v u x 1 l (h .names) (λ q. omega arith) len ∙ h .list;
       emits = λ y m. ap markOf (field-other v x 3 1 y 13 (omega arith) (omega arith) (λ q. omega arith)) ∙ h .emits y m;
-      fwds = put-seen 3 (omega arith) (λ q. omega arith) (λ q. omega arith) (λ q. omega arith) (λ q. omega arith) (λ q. omega arith) v u x 1 l (h .names) (λ (z : ℕ). not (eqb z 0)) (t .fwds) true false refl (h .fwds-n) (h .fwds);
+      fwds = put-seen 3 (omega arith) (λ q. omega arith) (λ q. omega arith) (λ q. omega arith) (λ q. omega arith) (λ q. omega arith) (λ q. omega arith) (λ q. omega arith) (λ q. omega arith) v u x 1 l (h .names) (λ (z : ℕ). not (eqb z 0)) (t .fwds) true false refl (h .fwds-n) (h .fwds);
       marks-n = h .marks-n;
       emits-n = h .emits-n;
       fwds-n = length-set (t .fwds) x true ∙ h .fwds-n;
@@ -135,7 +139,7 @@ module _ (b : Btf) (e : ℕ) (s w : List ℕ) (I : Indexed b e s w) where
     from-length f k zero = refl
     from-length f k (suc n) = ap suc (from-length f (k + 1) n)
 
-    listed-few : length (t .olist) < b .types → len < b .types
+    pub listed-few : length (t .olist) < b .types → len < b .types
     listed-few r = omega (arith, r, sym (ap length (h .list)) ∙ from-length (λ k. getField v k 11) 0 len)
 
     list-grows : length (t .olist) < b .types → from (λ k. getField (putField v len 11 x) k 11) 0 (oneMore len) ≡ t .olist ++ (x ∷ [])
@@ -146,8 +150,8 @@ module _ (b : Btf) (e : ℕ) (s w : List ℕ) (I : Indexed b e s w) where
 
     pub push-step : length (t .olist) < b .types → Bears b e s w (putField v len 11 x) (oneMore len) (listStore .push x t)
     push-step r = record {
-      table = put-table 11 (omega arith) (λ q. omega arith) (λ q. omega arith) (λ q. omega arith) (λ q. omega arith) (λ q. omega arith) v u len x (listed-few r) (h .names) (λ q. omega arith) (λ q. omega arith) ∙ h .table;
-      names = put-alike 11 (omega arith) (λ q. omega arith) (λ q. omega arith) (λ q. omega arith) (λ q. omega arith) (λ q. omega arith) v u len x (listed-few r) (h .names);
+      table = put-table 11 (omega arith) (λ q. omega arith) (λ q. omega arith) (λ q. omega arith) (λ q. omega arith) (λ q. omega arith) (λ q. omega arith) (λ q. omega arith) (λ q. omega arith) v u len x (listed-few r) (h .names) (λ q. omega arith) (λ q. omega arith) ∙ h .table;
+      names = put-alike 11 (omega arith) (λ q. omega arith) (λ q. omega arith) (λ q. omega arith) (λ q. omega arith) (λ q. omega arith) (λ q. omega arith) (λ q. omega arith) (λ q. omega arith) v u len x (listed-few r) (h .names);
       marks = λ y m. ap markOf (field-other v len 11 x y 1 (omega arith) (omega arith) (λ q. omega arith)) ∙ h .marks y m;
       list = list-grows r;
       emits = λ y m. ap markOf (field-other v len 11 x y 13 (omega arith) (omega arith) (λ q. omega arith)) ∙ h .emits y m;

@@ -13,10 +13,10 @@ use Rattle.opened.specs.Table.{describedIn, typesOf, enumeratorsOf}
 use Rattle.opened.specs.Opened.{workOf}
 use Rattle.demand.specs.Needs.{WF}
 use Rattle.demand.specs.Demand.{Demand3}
-use Rattle.demand.specs.Session.{machineBy, openedBy, machine, opened, dumped, dumpTypes}
+use Rattle.demand.specs.Session.{machineBy, openedBy, dumped}
 use Rattle.ledger.specs.Indexed.{Indexed}
 use Rattle.ledger.specs.Alike.{Fresh}
-use Rattle.claims.specs.Table.{headerOf, openedTable, tagIds}
+use Rattle.claims.specs.Table.{headerOf, openedTable, namesIn, machineIn, openedIn, tagIds}
 
 module _ (pointer modes : ℕ) (s : List ℕ) (n : ℕ) where
   -- the table is the documented one: void, then each described type as the Rust's `load_types` keeps it
@@ -33,9 +33,9 @@ module _ (pointer modes : ℕ) (s : List ℕ) (n : ℕ) where
     pub well-formed : WF (tableOf (openedTable pointer modes s n))
     pub indexed : Indexed (headerOf pointer modes s) (enumeratorsOf s) s (workOf pointer modes s n)
     pub fresh : Fresh (headerOf pointer modes s) (enumeratorsOf s) s (workOf pointer modes s n)
-    -- demand 3, with the names of the Rust, and with the names in the work
+    -- demand 3, with the names of the session, and with the names in the work
     pub demand3 : (rs : List Req)
-        → Demand3 (machine (openedTable pointer modes s n)) (tableOf (openedTable pointer modes s n)) (run (machine (openedTable pointer modes s n)) (tableOf (openedTable pointer modes s n)) rs (opened (openedTable pointer modes s n)))
+        → Demand3 (machineIn pointer modes s n) (tableOf (openedTable pointer modes s n)) (run (machineIn pointer modes s n) (tableOf (openedTable pointer modes s n)) rs (openedIn pointer modes s n))
     pub work-demand3 : (rs : List Req)
         → Demand3 (machineBy (workNaming (headerOf pointer modes s)) (openedTable pointer modes s n)) (tableOf (openedTable pointer modes s n))
         (run (machineBy (workNaming (headerOf pointer modes s)) (openedTable pointer modes s n)) (tableOf (openedTable pointer modes s n)) rs
@@ -43,4 +43,4 @@ module _ (pointer modes : ℕ) (s : List ℕ) (n : ℕ) where
     -- the same numbers, lengths and text with the one and with the other
     pub same-text : (rs : List Req)
         → dumped (workNaming (headerOf pointer modes s)) (openedTable pointer modes s n) [] rs (openedBy (workNaming (headerOf pointer modes s)) (openedTable pointer modes s n) (workOf pointer modes s n))
-        ≡ dumpTypes (openedTable pointer modes s n) rs
+        ≡ dumped (namesIn pointer modes s n) (openedTable pointer modes s n) [] rs (openedIn pointer modes s n)

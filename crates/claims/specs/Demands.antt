@@ -17,8 +17,8 @@ use Rattle.calls.specs.Lists.{listCall}
 use Rattle.demand.specs.Needs.{NamedComp, MeetsTwice}
 use Rattle.demand.specs.Demand.{Demand3}
 use Rattle.demand.specs.Lists.{Ls}
-use Rattle.demand.specs.Session.{Known, textOf, machine, opened}
-use Rattle.claims.specs.Table.{openedTable}
+use Rattle.demand.specs.Session.{Known, textOf}
+use Rattle.claims.specs.Table.{openedTable, machineIn, openedIn}
 use Rattle.claims.specs.Session.{After, Tells}
 
 -- "a text slice of any length that begins with the text so far"
@@ -39,9 +39,9 @@ module _ (pointer modes : ℕ) (s : List ℕ) (n : ℕ) where
   typesIn = tableOf (openedTable pointer modes s n)
 
   -- "as the rules give them when begun afresh at opening and carried on from each accepted request to the next": with plain lists, and the
-  -- names of the Rust
+  -- names of the Rust, or those that cannot collide (specs/Table: namesIn)
   abbrev pub ruled : List Req → Sess (Ls (Known Names))
-  ruled rs = run (machine (openedTable pointer modes s n)) typesIn rs (opened (openedTable pointer modes s n))
+  ruled rs = run (machineIn pointer modes s n) typesIn rs (openedIn pointer modes s n)
 
   -- DEMAND 2. c: the last call, after the requests rs. "The text after the list is the slice up to the text length last returned"; it is the
   -- pieces of the rules, joined. The next request has the number that the rules give, 13 and 14 among them, and leaves the text of theirs.
@@ -49,18 +49,18 @@ module _ (pointer modes : ℕ) (s : List ℕ) (n : ℕ) where
     pub text : take (c .session .«text_len») (c .text) ≡ textOf (ruled rs .mach .pieces)
     pub text-len : c .session .«text_len» ≡ length (textOf (ruled rs .mach .pieces))
     pub is-open : c .session .«open» ≡ ruled rs .isOpen
-    pub next-type : (text : List ℕ) → Lent c text → (id : ℕ) → Tells (length text) (typeCall (c .session) s (c .work) text id) (single (machine (openedTable pointer modes s n)) typesIn (length text) (ruled rs) id)
+    pub next-type : (text : List ℕ) → Lent c text → (id : ℕ) → Tells (length text) (typeCall (c .session) s (c .work) text id) (single (machineIn pointer modes s n) typesIn (length text) (ruled rs) id)
     pub next-types : (text : List ℕ) → Lent c text
-        → Tells (length text) (typesCall (c .session) s (c .work) text) (every (machine (openedTable pointer modes s n)) typesIn (length text) (ruled rs) (ruled rs .isOpen))
+        → Tells (length text) (typesCall (c .session) s (c .work) text) (every (machineIn pointer modes s n) typesIn (length text) (ruled rs) (ruled rs .isOpen))
 
   -- DEMAND 3. The pieces that make up that text define each named composite that was asked for and accepted once, and each after all that it
   -- needs; and while the session is open, the next request for a named composite, unless too deep, is refused by 13 exactly when a chain of
   -- needs from it meets some composite twice.
   pub record Demand3Calls (c : Call) (rs : List Req) : Type 0 where
     pub text : take (c .session .«text_len») (c .text) ≡ textOf (ruled rs .mach .pieces)
-    pub pieces : Demand3 (machine (openedTable pointer modes s n)) typesIn (ruled rs)
+    pub pieces : Demand3 (machineIn pointer modes s n) typesIn (ruled rs)
     pub cycles : c .session .«open» ≡ true → (text : List ℕ) → Lent c text → (id : ℕ) → id < typesIn .count → NamedComp typesIn id
-        → (ordering (machine (openedTable pointer modes s n)) typesIn (length text) (ruled rs) id ≡ refused 12 → ⊥)
+        → (ordering (machineIn pointer modes s n) typesIn (length text) (ruled rs) id ≡ refused 12 → ⊥)
         → (numberOf (typeCall (c .session) s (c .work) text id .answer) ≡ 13) ↔ MeetsTwice typesIn id
 
   -- "An id given twice adds no text": while the session is open, a request for an id that was accepted before, and a list that ends in an id

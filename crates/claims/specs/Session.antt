@@ -41,7 +41,7 @@ module _ (pointer modes : ℕ) (s : List ℕ) (n : ℕ) where
     pub its-work : S .«work_len» ≡ length work
     pub types : S .types ≡ typesOf s
     pub pointer-size : S .«pointer_size» ≡ pointer
-    pub mode : S .modes ≡ modes % 8
+    pub mode : S .modes ≡ modes % 16
     pub its-length : S .«text_len» ≡ L .mach .known .text-len
     pub its-text : take (S .«text_len») text ≡ textOf (L .mach .pieces)
     pub fits : S .«text_len» ≤ length text

@@ -1,5 +1,5 @@
 -- The table of a section that opening accepts, as the rules see it, and the DECL_TAGs of a table.
-use Prim.Native.Nat.{ℕ, zero, suc}
+use Prim.Native.Nat.{ℕ, zero, suc, _/_, _%_}
 use mathlib.Core.Bool.{Bool, true, false}
 use mathlib.Core.List.{List, [], _∷_}
 use lib.Dec.{eqb}
@@ -7,8 +7,14 @@ use Rattle.rules.specs.Types.{BtfType, Void, Int, Ptr, Array, Composite, Enum, 
 use Rattle.btf.specs.declared.types.Btf.{Btf}
 use Rattle.btf.specs.Table as btf
 use Rattle.header.specs.Header as header
-use Rattle.opened.specs.Table.{typesOf}
+use Rattle.opened.specs.Table.{typesOf, enumeratorsOf}
 use Rattle.opened.specs.Opened.{workOf}
+use Rattle.rules.specs.Names.{Naming, Names, naming}
+use Rattle.rules.specs.Machine.{Machine, Sess}
+use Rattle.demand.specs.Lists.{Ls}
+use Rattle.demand.specs.Session.{Known, machineBy, openedBy, noNames}
+use Rattle.ledger.specs.Passed.{passed}
+use Rattle.ledger.specs.Indexed.{listsIn}
 
 -- what the code knows of the section s after opening: pointer size, mode, order of bytes, the count of types, the place of the strings
 abbrev pub headerOf : ℕ → ℕ → List ℕ → Btf
@@ -17,6 +23,21 @@ headerOf pointer modes s = header.btfOf s pointer modes (typesOf s)
 -- the table that the section and the work of n bytes spell after opening
 abbrev pub openedTable : ℕ → ℕ → List ℕ → ℕ → Rules
 openedTable pointer modes s n = btf.btfOf (headerOf pointer modes s) s (workOf pointer modes s n)
+
+-- the names of a session: those of the Rust; with bit 3 of the modes those over the lists of taken numbers that opening left
+unfoldable pub namesIn : ℕ → ℕ → List ℕ → ℕ → Naming Names
+namesIn pointer modes s n =
+    elim (eqb (modes / 8 % 2) 1) [
+      | true ↦ passed (listsIn (headerOf pointer modes s) (enumeratorsOf s) s (workOf pointer modes s n))
+      | false ↦ naming
+    ]
+
+-- the machine of the rules with these names, and what opening leaves
+abbrev pub machineIn : ℕ → ℕ → List ℕ → ℕ → Machine (Ls (Known Names))
+machineIn pointer modes s n = machineBy (namesIn pointer modes s n) (openedTable pointer modes s n)
+
+abbrev pub openedIn : ℕ → ℕ → List ℕ → ℕ → Sess (Ls (Known Names))
+openedIn pointer modes s n = openedBy (namesIn pointer modes s n) (openedTable pointer modes s n) (noNames (openedTable pointer modes s n))
 
 -- a DECL_TAG on type id
 abbrev pub isTagFor : ℕ → BtfType → Bool

@@ -7,7 +7,7 @@ ghost use Rattle.classes.specs.Same.{sameList};
 ghost use Rattle.classes.specs.Table.{stepOf, hashFrom};
 
 // The byte at off + k, or 0 past the end.
-fn byte_at(section: &[u8], off: usize, k: usize) -> u8
+pub fn byte_at(section: &[u8], off: usize, k: usize) -> u8
     ensures { λ r. ⌜ r ≡ getD (now (section .entry)) (off + k) 0 ⌝ }
 {
     if off < section.len() {

@@ -46,12 +46,12 @@ fn name_of(b: Btf, section: &[u8], at: u32) -> usize
 }
 
 // The space of a holder, and where its name stands. A name without a space is not looked at.
-struct Key {
-    space: u32,
-    name: usize,
+pub struct Key {
+    pub space: u32,
+    pub name: usize,
 }
 
-fn load_key(b: Btf, section: &[u8], work: &[u8], h: u32) -> Key
+pub fn load_key(b: Btf, section: &[u8], work: &[u8], h: u32) -> Key
     ensures { λ r. ⌜ keyOf (now (section .entry)) (r .space) (r .name) ≡ keyIn b (now (section .entry)) (now (work .entry)) h ⌝ }
 {
     let at = get_word(work, holder_word(b.types, 0, 0, h));

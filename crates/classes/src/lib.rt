@@ -3,4 +3,7 @@
 mod hash;
 mod holders;
 
+pub use hash::byte_at;
+pub use holders::Key;
 pub use holders::classes;
+pub use holders::load_key;

@@ -15,7 +15,8 @@ use Rattle.rules.proofs.Writing.{put-then-kept}
 use Rattle.rules.proofs.Keeps.{Keeps}
 use Rattle.btf.specs.declared.types.Btf.{Btf}
 use Rattle.btf.specs.declared.types.BtfType.{BtfType as Record}
-use Rattle.btf.specs.Cells.{getField, putField, classP, countP, countOf, counted}
+use Rattle.btf.specs.Cells.{getField, putField, classP, countP, counted}
+use Rattle.btf.specs.Numbers.{numberAt}
 use Rattle.btf.specs.Records.{recordById}
 use Rattle.btf.specs.Table.{typeOf, btfOf, workNaming, typeVersionIn, valueVersionIn, enumeratorOf}
 use Rattle.btf.proofs.Frame.{field-other, count-0, record-same, counted-other, table-type-version, table-value-version}
@@ -54,7 +55,7 @@ module _ (b : Btf) (s : List ℕ) where
   place-type w id j = go (eqb (getField w id 4) 0)
     where
       n : ℕ
-      n = countOf (classP (b .types)) (countP (b .types)) w id
+      n = numberAt (b .types) w id
 
       u : List ℕ
       u = counted (classP (b .types)) (countP (b .types)) w id
@@ -68,7 +69,7 @@ module _ (b : Btf) (s : List ℕ) where
   place-value w e j = go (ltb (b .types + e) 4294967296)
     where
       n : ℕ
-      n = countOf (classP (b .types)) (countP (b .types)) w (b .types + e)
+      n = numberAt (b .types) w (b .types + e)
 
       u : List ℕ
       u = counted (classP (b .types)) (countP (b .types)) w (b .types + e)

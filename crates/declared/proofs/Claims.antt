@@ -1,24 +1,30 @@
 -- THE THEOREM: every tag or typedef name in the text is declared above its use, or is the tag of the definition in which it appears.
 -- Assumes nothing.
-use Prim.Native.Nat.{ℕ}
+use Prim.Native.Nat.{ℕ, _/_, _%_}
 use mathlib.Core.Path.{_≡_, ap, _∙_, sym}
+use mathlib.Core.Bool.{Bool, true, false}
 use mathlib.Core.List.{List}
 use lib.ListN.{length-replicate}
+use lib.Dec.{eqb}
 use Rattle.rules.specs.Machine.{Req, run}
 use Rattle.rules.specs.Types.{Btf, tableOf}
-use Rattle.rules.specs.Names.{naming}
+use Rattle.rules.specs.Names.{Naming, Names, naming}
 use Rattle.opened.specs.Causes.{openingNumber}
 use Rattle.turns.specs.Turns.{Call}
 use Rattle.demand.specs.Needs.{WF}
 use Rattle.demand.specs.Session.{textOf, machine, noNames, opened}
-use Rattle.claims.specs.Table.{openedTable}
+use Rattle.ledger.specs.Passed.{passed}
+use Rattle.ledger.specs.Indexed.{listsIn}
+use Rattle.opened.specs.Table.{enumeratorsOf}
+use Rattle.opened.specs.Opened.{workOf}
+use Rattle.claims.specs.Table.{headerOf, openedTable, namesIn}
 use Rattle.claims.specs.Session.{After, after-open, after-one, after-all, after-list}
 use Rattle.claims.proofs.Claims.{opening-gives}
 use Rattle.claims.proofs.Demands.{open-number, delivered}
 use Rattle.declared.specs.Notes.{notesOf, piecesIn}
 use Rattle.declared.specs.Declared.{NoBuiltin, DeclaredAbove}
 use Rattle.declared.specs.Calls.{DeclaredCalls, DeclaredFirst}
-use Rattle.declared.proofs.Kept.{Sized, Has, naming-keeps}
+use Rattle.declared.proofs.Kept.{Keeping, Sized, Has, passed-keeps, naming-keeps}
 use Rattle.declared.proofs.Session.{notes-declared}
 use Rattle.declared.proofs.Alike.{notes-pieces}
 use Rattle.declared.proofs.Renamed.{only-mentions}
@@ -42,15 +48,26 @@ module _ (p modes : ℕ) (s : List ℕ) (n : ℕ) (c : Call) (rs : List Req) (a 
   sound : WF (tableOf (openedTable p modes s n))
   sound = opening-gives p modes s n (after-sound p modes s n a) .well-formed
 
+  abbrev B : Btf
+  B = openedTable p modes s n
+
+  keeps : Keeping (namesIn p modes s n) (B .type-cnt) (Sized (B .type-cnt)) Has
+  unfolding namesIn
+  keeps = go (eqb (modes / 8 % 2) 1)
+    where
+      go : (t : Bool) → Keeping (elim t as (λ z. Naming Names) [ true ↦ passed (listsIn (headerOf p modes s) (enumeratorsOf s) s (workOf p modes s n)) | false ↦ naming ]) (B .type-cnt) (Sized (B .type-cnt)) Has
+      go true = passed-keeps (listsIn (headerOf p modes s) (enumeratorsOf s) s (workOf p modes s n)) (B .type-cnt)
+      go false = naming-keeps (B .type-cnt)
+
   after-declared : DeclaredCalls p modes s n c rs
   after-declared = record {
-    text = delivered p modes s n .demand2 c rs a .text ∙ ap textOf (sym (header-pieces (openedTable p modes s n) sound rs));
-    declared = λ nb. header-declared (openedTable p modes s n) nb sound rs;
+    text = delivered p modes s n .demand2 c rs a .text ∙ ap textOf (sym (notes-pieces (namesIn p modes s n) B sound (noNames B) rs));
+    declared = λ nb. notes-declared (namesIn p modes s n) B nb sound (Sized (B .type-cnt)) Has keeps (noNames B) (length-replicate (B .type-cnt) 0) rs;
   }
 
 -- of the calls: all pointer sizes, modes, sections and lengths of the work
 pub declared-first : (p modes : ℕ) (s : List ℕ) (n : ℕ) → DeclaredFirst p modes s n
 declared-first p modes s n = record {
   calls = λ c rs a. after-declared p modes s n c rs a;
-  only = λ other ren. only-mentions naming other ren (openedTable p modes s n);
+  only = λ other ren. only-mentions (namesIn p modes s n) other ren (openedTable p modes s n);
 }

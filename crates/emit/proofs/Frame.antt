@@ -17,7 +17,8 @@ use Rattle.rules.specs.Place.{withNames, putSaid}
 use Rattle.rules.specs.Emit.{definition, forward}
 use Rattle.rules.proofs.Keeps.{Keeps, keeps-definition, keeps-forward}
 use Rattle.btf.specs.declared.types.Btf.{Btf}
-use Rattle.btf.specs.Cells.{getField, putField, classP, countP, countOf, counted}
+use Rattle.btf.specs.Cells.{getField, putField, classP, countP, counted}
+use Rattle.btf.specs.Numbers.{numberAt}
 use Rattle.btf.specs.Table.{btfOf, workNaming, typeVersionIn, valueVersionIn, enumeratorOf}
 use Rattle.btf.proofs.Laws.{place-type, place-enum}
 use Rattle.btf.proofs.Frame.{field-other, table-field, table-type-version, table-value-version, counted-other}
@@ -197,7 +198,7 @@ unfolding workNaming typeVersionIn
 places-names b space id name w = go (eqb (getField w id 4) 0)
   where
     n : ℕ
-    n = countOf (classP (b .types)) (countP (b .types)) w id
+    n = numberAt (b .types) w id
 
     u : List ℕ
     u = counted (classP (b .types)) (countP (b .types)) w id
@@ -211,7 +212,7 @@ unfolding workNaming valueVersionIn
 places-values b id i name w = go (ltb (b .types + enumeratorOf w id i) 4294967296)
   where
     n : ℕ
-    n = countOf (classP (b .types)) (countP (b .types)) w (b .types + enumeratorOf w id i)
+    n = numberAt (b .types) w (b .types + enumeratorOf w id i)
 
     u : List ℕ
     u = counted (classP (b .types)) (countP (b .types)) w (b .types + enumeratorOf w id i)

@@ -23,7 +23,8 @@ use Rattle.rules.specs.Emit.{definition, forward}
 use Rattle.rules.proofs.Keeps.{Keeps, keeps-definition, keeps-forward}
 use Rattle.rules.proofs.Refusals.{Told, told, cut-by, Tells, tells-definition, tells-forward}
 use Rattle.btf.specs.declared.types.Btf.{Btf}
-use Rattle.btf.specs.Cells.{getField, putField, classP, countP, countOf, counted, withMore}
+use Rattle.btf.specs.Cells.{getField, putField, classP, countP, counted, withMore}
+use Rattle.btf.specs.Numbers.{numberAt}
 use Rattle.btf.specs.Table.{from, workNaming, typeVersionIn, valueVersionIn, enumeratorOf}
 use Rattle.btf.proofs.Laws.{place-type, place-enum}
 use Rattle.btf.proofs.Frame.{field-other, counted-other}
@@ -52,7 +53,7 @@ module _ {Z : Type 0} (P : List ℕ → Z) (field4 : (w : List ℕ) (x v : ℕ) 
   names-keep space id name w = go (eqb (getField w id 4) 0)
     where
       n : ℕ
-      n = countOf (classP (b .types)) (countP (b .types)) w id
+      n = numberAt (b .types) w id
 
       u : List ℕ
       u = counted (classP (b .types)) (countP (b .types)) w id
@@ -66,7 +67,7 @@ module _ {Z : Type 0} (P : List ℕ → Z) (field4 : (w : List ℕ) (x v : ℕ) 
   values-keep id i name w = go (ltb (b .types + enumeratorOf w id i) 4294967296)
     where
       n : ℕ
-      n = countOf (classP (b .types)) (countP (b .types)) w (b .types + enumeratorOf w id i)
+      n = numberAt (b .types) w (b .types + enumeratorOf w id i)
 
       u : List ℕ
       u = counted (classP (b .types)) (countP (b .types)) w (b .types + enumeratorOf w id i)

@@ -1,5 +1,5 @@
 -- What it comes to: the text of every line and of every list of requests is the same with the names in the work and with the names
--- of the Rust; and document 01, "Name ledger", sentence by sentence, of the names of the Rust. Assumes nothing.
+-- over lists of taken numbers, which without any are those of the Rust; and document 01, "Name ledger", sentence by sentence, of the names of the Rust. Assumes nothing.
 use Prim.Native.Nat.{ℕ, suc, zero-le, _+_, _<_, _≤_}
 use mathlib.Core.Path.{_≡_, refl, ap, ap₂, _∙_, sym}
 use mathlib.Core.Bool.{Bool, true, false, _&&_, true≢false}
@@ -21,13 +21,14 @@ use Rattle.rules.specs.Emit.{definition, forward}
 use Rattle.rules.specs.Machine.{Req}
 use Rattle.rules.proofs.Related.{RelSaid, rel-text, rel-names, rel-definition, rel-forward}
 use Rattle.btf.specs.declared.types.Btf.{Btf}
-use Rattle.btf.specs.Cells.{classP, countP, countOf}
+use Rattle.btf.specs.Numbers.{settled, numberOver, numberAt}
 use Rattle.btf.specs.Table.{btfOf, workNaming}
 use Rattle.classes.specs.Classes.{keyIn, classOf}
 use Rattle.demand.specs.Needs.{WF}
-use Rattle.demand.specs.Session.{dumped, openedBy, dumpTypes}
+use Rattle.demand.specs.Session.{dumped, openedBy}
 use Rattle.demand.proofs.AnyNames.{dumps-alike}
-use Rattle.ledger.specs.Indexed.{Fits, FitsValue, Holds, Indexed}
+use Rattle.ledger.specs.Passed.{Lists, nextNumber, typePassed, valuePassed, passed, none}
+use Rattle.ledger.specs.Indexed.{Fits, FitsValue, Holds, Indexed, Listed}
 use Rattle.ledger.specs.Alike.{Alike, Fresh, noNames}
 use Rattle.ledger.specs.Printed.{ledgerOf, times}
 use Rattle.ledger.proofs.Holders.{holds-same, holds-equal, count-here, count-there}
@@ -37,37 +38,37 @@ use Rattle.ledger.proofs.Table.{fits-table}
 use Rattle.ledger.proofs.Now.{fits-now}
 
 -- ---- w is the work after opening
-module _ (b : Btf) (e : ℕ) (s w : List ℕ) (I : Indexed b e s w) where
+module _ (b : Btf) (e : ℕ) (s w : List ℕ) (I : Indexed b e s w) {T : Lists} (L : Listed b e s w T) where
   -- the work v now; the names there and those of the Rust are alike
   module _ (v : List ℕ) (u : Names) (a : Alike b e s w v u) (id : ℕ) where
-    definitions : RelSaid (Alike b e s w) (definition (workNaming b) (btfOf b s v) id (btfOf b s v .type-by-id id) v) (definition naming (btfOf b s v) id (btfOf b s v .type-by-id id) u)
+    definitions : RelSaid (Alike b e s w) (definition (workNaming b) (btfOf b s v) id (btfOf b s v .type-by-id id) v) (definition (passed T) (btfOf b s v) id (btfOf b s v .type-by-id id) u)
     definitions =
-        rel-definition (Alike b e s w) (Fits b s w) (FitsValue b s w) (workNaming b) naming (work-names b e s w I) (btfOf b s v) (fits-now b e s w v (a .kept))
+        rel-definition (Alike b e s w) (Fits b s w) (FitsValue b s w) (workNaming b) (passed T) (work-names b e s w I L) (btfOf b s v) (fits-now b e s w v (a .kept))
         id (btfOf b s v .type-by-id id) (fits-now b e s w v (a .kept) id) v u a
 
-    forwards : RelSaid (Alike b e s w) (forward (workNaming b) (btfOf b s v) id (btfOf b s v .type-by-id id) v) (forward naming (btfOf b s v) id (btfOf b s v .type-by-id id) u)
+    forwards : RelSaid (Alike b e s w) (forward (workNaming b) (btfOf b s v) id (btfOf b s v .type-by-id id) v) (forward (passed T) (btfOf b s v) id (btfOf b s v .type-by-id id) u)
     forwards =
-        rel-forward (Alike b e s w) (Fits b s w) (FitsValue b s w) (workNaming b) naming (work-names b e s w I) (btfOf b s v) (fits-now b e s w v (a .kept))
+        rel-forward (Alike b e s w) (Fits b s w) (FitsValue b s w) (workNaming b) (passed T) (work-names b e s w I L) (btfOf b s v) (fits-now b e s w v (a .kept))
         id (btfOf b s v .type-by-id id) (fits-now b e s w v (a .kept) id) v u a
 
     -- a definition: the same text, and names that are alike after it
-    pub definition-text : saidText (definition (workNaming b) (btfOf b s v) id (btfOf b s v .type-by-id id) v) ≡ saidText (definition naming (btfOf b s v) id (btfOf b s v .type-by-id id) u)
+    pub definition-text : saidText (definition (workNaming b) (btfOf b s v) id (btfOf b s v .type-by-id id) v) ≡ saidText (definition (passed T) (btfOf b s v) id (btfOf b s v .type-by-id id) u)
     definition-text = rel-text (Alike b e s w) definitions
 
-    pub definition-names : Alike b e s w (saidNames (definition (workNaming b) (btfOf b s v) id (btfOf b s v .type-by-id id) v)) (saidNames (definition naming (btfOf b s v) id (btfOf b s v .type-by-id id) u))
+    pub definition-names : Alike b e s w (saidNames (definition (workNaming b) (btfOf b s v) id (btfOf b s v .type-by-id id) v)) (saidNames (definition (passed T) (btfOf b s v) id (btfOf b s v .type-by-id id) u))
     definition-names = rel-names (Alike b e s w) definitions
 
     -- a forward line or a typedef: the same
-    pub forward-text : saidText (forward (workNaming b) (btfOf b s v) id (btfOf b s v .type-by-id id) v) ≡ saidText (forward naming (btfOf b s v) id (btfOf b s v .type-by-id id) u)
+    pub forward-text : saidText (forward (workNaming b) (btfOf b s v) id (btfOf b s v .type-by-id id) v) ≡ saidText (forward (passed T) (btfOf b s v) id (btfOf b s v .type-by-id id) u)
     forward-text = rel-text (Alike b e s w) forwards
 
-    pub forward-names : Alike b e s w (saidNames (forward (workNaming b) (btfOf b s v) id (btfOf b s v .type-by-id id) v)) (saidNames (forward naming (btfOf b s v) id (btfOf b s v .type-by-id id) u))
+    pub forward-names : Alike b e s w (saidNames (forward (workNaming b) (btfOf b s v) id (btfOf b s v .type-by-id id) v)) (saidNames (forward (passed T) (btfOf b s v) id (btfOf b s v .type-by-id id) u))
     forward-names = rel-names (Alike b e s w) forwards
 
-  -- "the n-th": the number that the next holder of a name gets in the work is the one that the Rust gives it
+  -- "the n-th": the number that the next holder of a name gets in the work is the one over its list of taken numbers; with none, the one that the Rust gives it
   pub next-number : (v : List ℕ) (u : Names) → Alike b e s w v u → (h : ℕ) (space : Space) (name : Name) → Holds b e s w h space name
-      → countOf (classP (b .types)) (countP (b .types)) v h ≡ oneMore (holders (u .ledger) space name)
-  next-number v u a h space name q = next-alike b e s w I v u a h space name q
+      → numberAt (b .types) v h ≡ nextNumber T space name u
+  next-number v u a h space name q = next-alike b e s w I v u a h space name q L
 
   -- "a name": two holders share a count if and only if they have the same space and the same bytes
   pub one-count : (h k : ℕ) (x y : Space) (m n : Name) → Holds b e s w h x m → Holds b e s w k y n
@@ -75,11 +76,16 @@ module _ (b : Btf) (e : ℕ) (s w : List ℕ) (I : Indexed b e s w) where
   one-count h k x y m n p q = (λ c. (class-space b e s w h k x y m n p q c, class-name b e s w h k x y m n p q c), one-class b e s w h k x y m n p q)
 
   -- a list of requests after opening: the same numbers, lengths and text
-  pub same-dumps : Fresh b e s w → WF (tableOf (btfOf b s w)) → (rs : List Req) → dumped (workNaming b) (btfOf b s w) [] rs (openedBy (workNaming b) (btfOf b s w) w) ≡ dumpTypes (btfOf b s w) rs
+  pub same-dumps : Fresh b e s w → WF (tableOf (btfOf b s w)) → (rs : List Req) → dumped (workNaming b) (btfOf b s w) [] rs (openedBy (workNaming b) (btfOf b s w) w) ≡ dumped (passed T) (btfOf b s w) [] rs (openedBy (passed T) (btfOf b s w) (noNames b))
   unfolding btfOf
   same-dumps z wf rs =
-      dumps-alike (Alike b e s w) (Fits b s w) (FitsValue b s w) (workNaming b) naming (work-names b e s w I) (btfOf b s w) (fits-table b s w) wf
+      dumps-alike (Alike b e s w) (Fits b s w) (FitsValue b s w) (workNaming b) (passed T) (work-names b e s w I L) (btfOf b s w) (fits-table b s w) wf
       w (noNames b) (alike-first b e s w I z) rs
+
+-- without taken numbers the names are those of the Rust
+pub none-is : passed none ≡ naming
+unfolding typePassed valuePassed typeVersion valueVersion numberOver settled
+none-is = refl
 
 -- ---- 01, Name ledger, sentence by sentence, of the names of the Rust
 -- "Two spaces: tags; typedefs with enumerators.": what one space holds changes nothing in the other

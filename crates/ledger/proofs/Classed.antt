@@ -49,7 +49,7 @@ module _ (b : Btf) (e : ℕ) (s w : List ℕ) where
           (λ l. sym (record-there b s (tableClassed b e s w) id n l) ∙ ap (recordAt b s) (place-stays id) ∙ record-there b s w id n l)
           (le-or-lt (b .types) id)
 
-  keys-stay : keyIn b s (tableClassed b e s w) ≡ keyIn b s w
+  pub keys-stay : keyIn b s (tableClassed b e s w) ≡ keyIn b s w
   unfolding keyIn
   keys-stay = fun-ext (λ h. ap (λ (at : ℕ). keyOf s (spaceAt b s at h) (nameOf b s at)) (place-stays h))
 

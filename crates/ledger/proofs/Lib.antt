@@ -3,6 +3,7 @@ pub mod Holders
 pub mod Keys
 pub mod Stores
 pub mod Related
+pub mod Lists
 pub mod Table
 pub mod Now
 pub mod Classed

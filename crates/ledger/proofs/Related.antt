@@ -11,26 +11,30 @@ use lib.Dec.{eqb}
 use borrow.Author.Tests.{lt-ltb}
 use Rattle.lent.specs.Words.{getWord, oneMore}
 use Rattle.rules.specs.Types.{Name}
-use Rattle.rules.specs.Names.{Space, identSpace, Resolved, Names, holders, counted as oneMoreHolds, naming, typeVersion, valueVersion}
+use Rattle.rules.specs.Names.{Space, identSpace, Resolved, Names, holders, counted as oneMoreHolds}
 use Rattle.rules.proofs.Related.{RelResolved, RelNaming}
 use Rattle.btf.specs.declared.types.Btf.{Btf}
-use Rattle.btf.specs.Cells.{getField, putField, classP, countP, countOf, counted}
+use Rattle.btf.specs.Cells.{getField, putField, classP, countP, counted}
+use Rattle.btf.specs.Numbers.{numberOver, numberAt}
 use Rattle.btf.specs.Table.{enumeratorOf, typeVersionIn, valueVersionIn, workNaming}
 use Rattle.btf.proofs.Frame.{enumerator-same}
 use Rattle.classes.specs.Classes.{keyIn, classOf}
-use Rattle.ledger.specs.Indexed.{Fits, FitsValue, Holds, Indexed, Kept}
+use Rattle.ledger.specs.Passed.{Lists, nextNumber, typePassed, valuePassed, passed}
+use Rattle.ledger.specs.Indexed.{Fits, FitsValue, Holds, Indexed, Listed, Kept}
 use Rattle.ledger.specs.Alike.{Alike, Fresh, noNames}
 use Rattle.ledger.proofs.Holders.{count-here, count-there}
 use Rattle.ledger.proofs.Keys.{one-class, class-space, class-name, type-holds, value-holds}
-use Rattle.ledger.proofs.Stores.{class-below, count-is, count-grows, count-stays, count-version, count-kept, version-here, version-there, version-count, version-kept}
+use Rattle.ledger.proofs.Stores.{class-below, number-is, count-is, count-grows, count-stays, count-version, count-kept, version-here, version-there, version-count, version-kept}
 
 module _ (b : Btf) (e : ℕ) (s w : List ℕ) (I : Indexed b e s w) where
   module _ (v : List ℕ) (u : Names) (a : Alike b e s w v u) where
     -- ---- one more holder of a name
     module _ (h : ℕ) (space : Space) (name : Name) (q : Holds b e s w h space name) where
       -- the version that it gets
-      pub next-alike : countOf (classP (b .types)) (countP (b .types)) v h ≡ oneMore (holders (u .ledger) space name)
-      next-alike = count-is b e s w I v (a .kept) h (q .below) ∙ ap oneMore (a .its-count h space name q)
+      pub next-alike : {T : Lists} → Listed b e s w T → numberAt (b .types) v h ≡ nextNumber T space name u
+      next-alike L =
+          number-is b e s w I v (a .kept) h (q .below)
+          ∙ ap₂ numberOver (L h space name q) (count-is b e s w I v (a .kept) h (q .below) ∙ ap oneMore (a .its-count h space name q))
 
       counts-alike : (k : ℕ) (space′ : Space) (name′ : Name) → Holds b e s w k space′ name′
           → getWord (counted (classP (b .types)) (countP (b .types)) v h) (countP (b .types) (classOf (keyIn b s w) k)) ≡ holders (oneMoreHolds (u .ledger) space name) space′ name′
@@ -92,20 +96,20 @@ module _ (b : Btf) (e : ℕ) (s w : List ℕ) (I : Indexed b e s w) where
     }
 
   -- ---- a name of a type
-  module _ (v : List ℕ) (u : Names) (a : Alike b e s w v u) (space : Space) (id : ℕ) (name : Name) (f : Fits b s w space id name) where
+  module _ {T : Lists} (L : Listed b e s w T) (v : List ℕ) (u : Names) (a : Alike b e s w v u) (space : Space) (id : ℕ) (name : Name) (f : Fits b s w space id name) where
     q : Holds b e s w id space name
     q = type-holds b e s w id space name f
 
-    type-new : Alike b e s w (putField (counted (classP (b .types)) (countP (b .types)) v id) id 4 (countOf (classP (b .types)) (countP (b .types)) v id))
-        (record { versions = set (u .versions) id (oneMore (holders (u .ledger) space name)); ledger = oneMoreHolds (u .ledger) space name })
+    type-new : Alike b e s w (putField (counted (classP (b .types)) (countP (b .types)) v id) id 4 (numberAt (b .types) v id))
+        (record { versions = set (u .versions) id (nextNumber T space name u); ledger = oneMoreHolds (u .ledger) space name })
     type-new =
         subst
-        (λ (n : ℕ). Alike b e s w (putField (counted (classP (b .types)) (countP (b .types)) v id) id 4 (countOf (classP (b .types)) (countP (b .types)) v id)) (record { versions = set (u .versions) id n; ledger = oneMoreHolds (u .ledger) space name }))
-        (next-alike v u a id space name q)
-        (version-alike _ _ (count-alike v u a id space name q) id (countOf (classP (b .types)) (countP (b .types)) v id) (f .below))
+        (λ (n : ℕ). Alike b e s w (putField (counted (classP (b .types)) (countP (b .types)) v id) id 4 (numberAt (b .types) v id)) (record { versions = set (u .versions) id n; ledger = oneMoreHolds (u .ledger) space name }))
+        (next-alike v u a id space name q L)
+        (version-alike _ _ (count-alike v u a id space name q) id (numberAt (b .types) v id) (f .below))
 
-    pub type-alike : RelResolved (Alike b e s w) (typeVersionIn (b .types) id v) (typeVersion space id name u)
-    unfolding typeVersionIn typeVersion oneMore
+    pub type-alike : RelResolved (Alike b e s w) (typeVersionIn (b .types) id v) (typePassed T space id name u)
+    unfolding typeVersionIn typePassed
     type-alike =
         subst
         (λ (y : ℕ). RelResolved (Alike b e s w)
@@ -115,51 +119,51 @@ module _ (b : Btf) (e : ℕ) (s w : List ℕ) (I : Indexed b e s w) where
         (step (eqb (getField v id 4) 0))
       where
         n : ℕ
-        n = countOf (classP (b .types)) (countP (b .types)) v id
+        n = numberAt (b .types) v id
 
         m : ℕ
-        m = oneMore (holders (u .ledger) space name)
+        m = nextNumber T space name u
 
         step : (t : Bool)
             → RelResolved (Alike b e s w)
             (elim t as (λ z. Resolved (List ℕ)) [ false ↦ record { version = getField v id 4; names = v } | true ↦ record { version = n; names = putField (counted (classP (b .types)) (countP (b .types)) v id) id 4 n } ])
             (elim t as (λ z. Resolved Names) [ false ↦ record { version = getField v id 4; names = u } | true ↦ record { version = m; names = record { versions = set (u .versions) id m; ledger = oneMoreHolds (u .ledger) space name } } ])
         step false = (refl, a)
-        step true = (next-alike v u a id space name q, type-new)
+        step true = (next-alike v u a id space name q L, type-new)
 
   -- ---- a name of a value
-  module _ (v : List ℕ) (u : Names) (a : Alike b e s w v u) (id i : ℕ) (name : Name) (f : FitsValue b s w id i name) where
+  module _ {T : Lists} (L : Listed b e s w T) (v : List ℕ) (u : Names) (a : Alike b e s w v u) (id i : ℕ) (name : Name) (f : FitsValue b s w id i name) where
     -- the enumerator is the one that opening numbered
     same-enumerator : enumeratorOf v id i ≡ enumeratorOf w id i
     same-enumerator = enumerator-same v w id i (a .kept .first id (f .value .below))
 
-    number-alike : RelResolved (Alike b e s w) (valueVersionIn (b .types) (enumeratorOf w id i) v) (valueVersion name u)
-    unfolding valueVersionIn valueVersion
+    number-alike : RelResolved (Alike b e s w) (valueVersionIn (b .types) (enumeratorOf w id i) v) (valuePassed T name u)
+    unfolding valueVersionIn valuePassed
     number-alike =
         let l : enumeratorOf w id i < e = I .numbered id i (f .value) in
         let m : b .types + enumeratorOf w id i < 4294967296 = omega (arith, I .room .numbered) in
         let q : Holds b e s w (b .types + enumeratorOf w id i) identSpace name = value-holds b e s w I id i name f in
         subst
         (λ (t : Bool). RelResolved (Alike b e s w)
-        (elim t as (λ z. Resolved (List ℕ)) [ true ↦ record { version = countOf (classP (b .types)) (countP (b .types)) v (b .types + enumeratorOf w id i); names = counted (classP (b .types)) (countP (b .types)) v (b .types + enumeratorOf w id i) } | false ↦ record { version = 0; names = v } ])
-        (valueVersion name u))
+        (elim t as (λ z. Resolved (List ℕ)) [ true ↦ record { version = numberAt (b .types) v (b .types + enumeratorOf w id i); names = counted (classP (b .types)) (countP (b .types)) v (b .types + enumeratorOf w id i) } | false ↦ record { version = 0; names = v } ])
+        (valuePassed T name u))
         (sym (lt-ltb (b .types + enumeratorOf w id i) 4294967296 m))
-        (next-alike v u a (b .types + enumeratorOf w id i) identSpace name q, count-alike v u a (b .types + enumeratorOf w id i) identSpace name q)
+        (next-alike v u a (b .types + enumeratorOf w id i) identSpace name q L, count-alike v u a (b .types + enumeratorOf w id i) identSpace name q)
 
-    pub value-alike : RelResolved (Alike b e s w) (valueVersionIn (b .types) (enumeratorOf v id i) v) (valueVersion name u)
-    value-alike = subst (λ (k : ℕ). RelResolved (Alike b e s w) (valueVersionIn (b .types) k v) (valueVersion name u)) (sym same-enumerator) number-alike
+    pub value-alike : RelResolved (Alike b e s w) (valueVersionIn (b .types) (enumeratorOf v id i) v) (valuePassed T name u)
+    value-alike = subst (λ (k : ℕ). RelResolved (Alike b e s w) (valueVersionIn (b .types) k v) (valuePassed T name u)) (sym same-enumerator) number-alike
 
-  -- the names kept in the work are the Rust's names
-  pub work-names : RelNaming (Alike b e s w) (Fits b s w) (FitsValue b s w) (workNaming b) naming
+  -- the names kept in the work are those over the lists: with none, the Rust's names
+  pub work-names : {T : Lists} → Listed b e s w T → RelNaming (Alike b e s w) (Fits b s w) (FitsValue b s w) (workNaming b) (passed T)
   unfolding workNaming
-  work-names = record {
-    rel-type = λ space id name f n v u a. type-alike v u a space id name f;
-    rel-value = λ id i name f v u a. value-alike v u a id i name f;
+  work-names L = record {
+    rel-type = λ space id name f n v u a. type-alike L v u a space id name f;
+    rel-value = λ id i name f v u a. value-alike L v u a id i name f;
   }
 
   -- ---- at first
   pub kept-self : Kept b e s w w
-  kept-self = record { long = refl; class = λ h l. refl; place = λ h l. refl; first = λ id l. refl }
+  kept-self = record { long = refl; class = λ h l. refl; place = λ h l. refl; first = λ id l. refl; heads = λ h. refl; nexts = λ h. refl; takens = λ h. refl }
 
   pub alike-first : Fresh b e s w → Alike b e s w w (noNames b)
   unfolding holders

@@ -11,6 +11,8 @@ use Rattle.lent.specs.Words.{getWord, putWord, pick, oneMore}
 use Rattle.lent.proofs.Laws.{put-length, get-put-same, get-put-other}
 use Rattle.btf.specs.declared.types.Btf.{Btf}
 use Rattle.btf.specs.Cells.{getField, putField, placeOf, classP, countP, withMore, countOf, counted}
+use Rattle.btf.specs.Numbers.{headP, nextP, takenP, takenAt, numberOver, numberAt}
+use Rattle.numbers.proofs.Lists.{taken-same}
 use Rattle.btf.proofs.Laws.{place-type}
 use Rattle.btf.proofs.Frame.{count-4, count-12, field-other}
 use Rattle.classes.specs.Classes.{recordP, keyIn, classOf}
@@ -69,6 +71,13 @@ module _ (b : Btf) (e : ℕ) (s w : List ℕ) (I : Indexed b e s w) (v : List �
     unfolding countOf
     count-is = ap (λ (c : ℕ). oneMore (getWord v (countP (b .types) c))) (class-now h l)
 
+    -- the taken numbers are as opening listed them
+    pub number-is : numberAt (b .types) v h ≡ numberOver (takenAt (b .types) w (classOf (keyIn b s w) h)) (countOf (classP (b .types)) (countP (b .types)) v h)
+    unfolding numberAt
+    number-is =
+        ap (λ (l : List ℕ). numberOver l (countOf (classP (b .types)) (countP (b .types)) v h))
+        (ap (takenAt (b .types) v) (class-now h l) ∙ taken-same (b .types) v w (K .nexts) (K .takens) (classOf (keyIn b s w) h) (K .heads (classOf (keyIn b s w) h)))
+
     pub count-grows : getWord (counted (classP (b .types)) (countP (b .types)) v h) (countP (b .types) (classOf (keyIn b s w) h)) ≡ oneMore (getWord v (countP (b .types) (classOf (keyIn b s w) h)))
     count-grows = ap (λ (u : List ℕ). getWord u at) counted-is ∙ more-same v at (inside 6 2 (omega arith) (omega arith) (classOf (keyIn b s w) h) (class-below h l))
 
@@ -87,6 +96,9 @@ module _ (b : Btf) (e : ℕ) (s w : List ℕ) (I : Indexed b e s w) (v : List �
       class = λ k q. count-else (classP (b .types) k) (class-count (b .types) k _) ∙ K .class k q;
       place = λ k q. count-else (recordP (b .types) k) (place-apart (b .types) 0 0 6 2 (omega arith) k _) ∙ K .place k q;
       first = λ id q. count-else (id * 16 + 12) (count-12 (b .types) _ id) ∙ K .first id q;
+      heads = λ k. count-else (headP (b .types) k) (place-apart (b .types) 7 3 6 2 (omega arith) k _) ∙ K .heads k;
+      nexts = λ k. count-else (nextP (b .types) k) (place-apart (b .types) 8 4 6 2 (omega arith) k _) ∙ K .nexts k;
+      takens = λ k. count-else (takenP (b .types) k) (place-apart (b .types) 14 6 6 2 (omega arith) k _) ∙ K .takens k;
     }
 
   -- ---- a version
@@ -110,4 +122,7 @@ module _ (b : Btf) (e : ℕ) (s w : List ℕ) (I : Indexed b e s w) (v : List �
       class = λ k q. version-else (classP (b .types) k) (place-apart (b .types) 5 1 4 5 (omega arith) k id) ∙ K .class k q;
       place = λ k q. version-else (recordP (b .types) k) (place-apart (b .types) 0 0 4 5 (omega arith) k id) ∙ K .place k q;
       first = λ j q. field-other v id 4 n j 12 (omega arith) (omega arith) (λ z. omega arith) ∙ K .first j q;
+      heads = λ k. version-else (headP (b .types) k) (place-apart (b .types) 7 3 4 5 (omega arith) k id) ∙ K .heads k;
+      nexts = λ k. version-else (nextP (b .types) k) (place-apart (b .types) 8 4 4 5 (omega arith) k id) ∙ K .nexts k;
+      takens = λ k. version-else (takenP (b .types) k) (place-apart (b .types) 14 6 4 5 (omega arith) k id) ∙ K .takens k;
     }

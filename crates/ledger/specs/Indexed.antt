@@ -1,7 +1,7 @@
 -- The work that opening leaves, as far as names go: the holders of names, and what stands in their words.
 use Prim.Native.Nat.{ℕ, _+_, _<_}
 use mathlib.Core.Path.{_≡_}
-use mathlib.Core.List.{List}
+use mathlib.Core.List.{List, _∷_}
 use mathlib.Core.Logic.{_⊎_}
 use lib.ListN.{length}
 use lib.Dec.{eqb}
@@ -11,10 +11,13 @@ use Rattle.rules.specs.Names.{Space, tagSpace, identSpace}
 use Rattle.btf.specs.declared.types.Btf.{Btf}
 use Rattle.btf.specs.Cells.{getField, classP}
 use Rattle.btf.specs.Names.{nameAt, strAt}
+use Rattle.btf.specs.Numbers.{headP, nextP, takenP, takenAt}
 use Rattle.btf.specs.Records.{sectionWord, vlenOf, kindOf, memberAt, paramAt, recordById}
 use Rattle.btf.specs.Table.{recordName, enumeratorOf}
-use Rattle.classes.specs.Classes.{recordP, spaceOf, spaceAt, nameOf, keyIn, classOf}
+use Rattle.classes.specs.Classes.{recordP, spaceOf, spaceAt, nameOf, keyIn, classOf, least}
+use Rattle.classes.specs.Same.{sameList}
 use Rattle.classes.specs.Claims.{Room}
+use Rattle.ledger.specs.Passed.{Lists}
 
 -- the numbers of the spaces: 0 tags, 1 typedefs with enumerators; 2 is for what has no space
 unfoldable pub number : Space → ℕ
@@ -66,9 +69,21 @@ module _ (b : Btf) (e : ℕ) (s w : List ℕ) where
     pub numbered : (id i : ℕ) → Value b s w id i → enumeratorOf w id i < e
     pub place : (id i : ℕ) → Value b s w id i → getWord w (recordP (b .types) (b .types + enumeratorOf w id i)) ≡ placeOfValue b s w id i
 
-  -- what emission leaves as it was: the length, classes and places of holders, and the first enumerator of each type (word 12)
+  -- and the taken numbers that are listed at the class of each holder: those of its name
+  abbrev pub Listed : Lists → Type 0
+  Listed T = (h : ℕ) (space : Space) (name : Name) → Holds h space name → takenAt (b .types) w (classOf (keyIn b s w) h) ≡ T space name
+
+  -- the lists of a work: that of a name stands at the first holder of the name
+  unfoldable pub listsIn : Lists
+  listsIn space name = takenAt (b .types) w (least (λ c. sameList (keyIn b s w c) (number space ∷ name)) (b .types + e))
+
+  -- what emission leaves as it was: the length, classes and places of holders, the lists of taken numbers, and the first enumerator of each
+  -- type (word 12)
   pub record Kept (v : List ℕ) : Type 0 where
     pub long : length v ≡ length w
     pub class : (h : ℕ) → h < b .types + e → getWord v (classP (b .types) h) ≡ getWord w (classP (b .types) h)
     pub place : (h : ℕ) → h < b .types + e → getWord v (recordP (b .types) h) ≡ getWord w (recordP (b .types) h)
     pub first : (id : ℕ) → id < b .types → getField v id 12 ≡ getField w id 12
+    pub heads : (h : ℕ) → getWord v (headP (b .types) h) ≡ getWord w (headP (b .types) h)
+    pub nexts : (h : ℕ) → getWord v (nextP (b .types) h) ≡ getWord w (nextP (b .types) h)
+    pub takens : (h : ℕ) → getWord v (takenP (b .types) h) ≡ getWord w (takenP (b .types) h)

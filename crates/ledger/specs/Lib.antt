@@ -1,3 +1,4 @@
+pub mod Passed
 pub mod Indexed
 pub mod Alike
 pub mod Printed

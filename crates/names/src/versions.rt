@@ -1,10 +1,10 @@
-// Names as they are printed. The first holder of a name prints it bare; the n-th, from 2 on, adds three underscores and n.
+// Names as they are printed. The first holder of a name prints it bare; the n-th, from 2 on, adds three underscores and n, or a
+// later number where opening listed numbers that are passed over.
 use btf::Btf;
-use btf::get_count;
 use btf::get_field;
 use btf::put_field;
 use fixed::put_underscores;
-use strings::is_empty;
+use numbers::get_number;
 use strings::put_str;
 use text::put_byte;
 use text::put_decimal;
@@ -48,7 +48,7 @@ pub fn resolve_type_name(b: Btf, section: &[u8], work: &mut [u8], id: u32, off: 
             version: version,
         };
     }
-    let n = get_count(work, b.types, id);
+    let n = get_number(work, b.types, id);
     put_field(work, id, 4, n);
     Name {
         off: off,
@@ -64,7 +64,7 @@ pub fn resolve_name(b: Btf, work: &mut [u8], e: u32, off: u32) -> Name
     if h < 4294967296 {
         return Name {
             off: off,
-            version: get_count(work, b.types, h as u32),
+            version: get_number(work, b.types, h as u32),
         };
     }
     bare(off)

@@ -24,6 +24,7 @@ use Rattle.area.specs.Pass.{countP, enumsP, indexP, Scan, unsound, found, scanO
 use Rattle.opened.specs.Table.{describedIn, typesOf, enumeratorsOf, emptyIndex, indexFor, indexOf}
 use Rattle.opened.specs.Causes.{cause2, cause3, cause5, cause6, cause7, cause8, cause9, tableOf, next, firstOf, early, late, fromSix, openingNumber}
 use Rattle.fill.specs.Left.{filled}
+use Rattle.takers.specs.Takers.{takersIn}
 use Rattle.opened.specs.Opened.{refused, opened, openOut, workOf, openingOf, Examined, refusedBy, soundWith, examineOut, examined}
 use Rattle.header.proofs.Headers.{read4, read8, read12, read20, and-left, order-is}
 use Rattle.opened.proofs.Sections.{pass-decides, pass-count, pass-enums, pass-index}
@@ -326,19 +327,20 @@ module _ (p modes : ℕ) (s w t : List ℕ) where
         go false f = ap (λ (n : ℕ). refused n w t) (ap numberIn (is ∙ is-refused f)) ∙ sym (opens-refused f)
 
     pub open-sound : (n m : ℕ) → r ≡ Sound n m → (t′ : List ℕ) → t′ ≡ replicate (length t) 0 → (w′ : List ℕ) → w′ ≡ replicate (length w) 0 → (b : Btf) → b ≡ btfOf s p modes n
-        → (w″ : List ℕ) → w″ ≡ filled b s start m w′ → openOut (Sound n m) w″ t′ ≡ openingOf p modes s w t
+        → (w″ : List ℕ) → w″ ≡ filled b s start m w′ → (w‴ : List ℕ) → w‴ ≡ takersIn modes b m s w″ → openOut (Sound n m) w‴ t′ ≡ openingOf p modes s w t
     unfolding openOut examineOut workOf
-    open-sound n m e t′ et w′ ew b eb w″ ef = go (eqb num 0) refl
+    open-sound n m e t′ et w′ ew b eb w″ ef w‴ el = go (eqb num 0) refl
       where
         is : soundWith n m start ≡ examined p s (length w)
         is = sym (ap (λ (q : Opening). examineOut q start) e) ∙ er
 
-        go : (q : Bool) → eqb num 0 ≡ q → openOut (Sound n m) w″ t′ ≡ openingOf p modes s w t
+        go : (q : Bool) → eqb num 0 ≡ q → openOut (Sound n m) w‴ t′ ≡ openingOf p modes s w t
         go true f =
             let n-is : n ≡ typesOf s = ap typesWith (is ∙ is-sound f) in
             let m-is : m ≡ enumeratorsOf s = ap enumsWith (is ∙ is-sound f) in
             let i-is : start ≡ indexOf s = ap indexWith (is ∙ is-sound f) in
             let b-is : b ≡ btfOf s p modes (typesOf s) = eb ∙ ap (btfOf s p modes) n-is in
             let w-is : w″ ≡ filled (btfOf s p modes (typesOf s)) s (indexOf s) (enumeratorsOf s) (replicate (length w) 0) = ef ∙ (λ i. filled (b-is i) s (i-is i) (m-is i) (ew i)) in
-            (λ i. opened (n-is i) (m-is i) (w-is i) (et i)) ∙ sym (opens-sound f)
+            let l-is : w‴ ≡ workOf p modes s (length w) = el ∙ (λ i. takersIn modes (b-is i) (m-is i) s (w-is i)) in
+            (λ i. opened (n-is i) (m-is i) (l-is i) (et i)) ∙ sym (opens-sound f)
         go false f = absurd (true≢false (sym (ap isRefused (is ∙ is-refused f))))

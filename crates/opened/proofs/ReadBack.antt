@@ -3,7 +3,7 @@ use Prim.Native.Nat.{ℕ, suc, _+_, _-_, _*_, _/_, _%_, _<_, _≤_}
 use mathlib.Core.Path.{_≡_, refl, ap, _∙_, sym}
 use mathlib.Core.Bool.{true, false, true≢false}
 use mathlib.Core.List.{List}
-use mathlib.Core.Logic.{⊎-elim, inl}
+use mathlib.Core.Logic.{⊎-elim, inl, _≢_}
 use native.Mathlib.Omega.{arith}
 use lib.ListN.{length, getD, replicate, length-replicate}
 use borrow.Author.Tests.{ltb-false, not-false, ne-eqb, le-leb, lt-leb}
@@ -12,8 +12,10 @@ use Rattle.lent.proofs.Laws.{le-or-lt}
 use Rattle.btf.specs.declared.types.Btf.{Btf}
 use Rattle.btf.specs.declared.types.BtfType.{BtfType}
 use Rattle.btf.specs.Cells.{getField, classP, countP}
-use Rattle.btf.specs.Records.{kindOf, recordAt, recordById}
-use Rattle.btf.specs.Table.{tagsOf, enumeratorOf}
+use Rattle.btf.specs.Records.{sectionWord, kindOf, recordAt, recordById}
+use Rattle.btf.specs.Numbers.{takenP}
+use Rattle.btf.specs.Table.{tagsFrom, tagsOf, enumeratorOf}
+use Rattle.btf.proofs.Frame.{tags-same}
 use Rattle.btf.specs.Table as btf
 use Rattle.records.specs.Documentation.{Described}
 use Rattle.records.specs.Reading.{Bytes}
@@ -26,6 +28,9 @@ use Rattle.followed.proofs.BadIds.{bad-reference}
 use Rattle.classes.specs.Classes.{bucketP, linkP, keyIn, classOf, tableClassed}
 use Rattle.classes.specs.Claims.{Room, Else}
 use Rattle.classes.proofs.Ledger.{the-words}
+use Rattle.takers.specs.Takers.{takersIn}
+use Rattle.takers.proofs.Holders.{mode-off}
+use Rattle.takers.proofs.Frame.{Unlisted, takers-word, takers-long, field-unlisted, nine-unlisted, entry-unlisted, place-unlisted}
 use Rattle.header.specs.Header.{btfOf}
 use Rattle.opened.specs.Table.{describedIn, typesOf, enumeratorsOf, recordPlace, recordKind, indexOf}
 use Rattle.opened.specs.Causes.{cause2, cause3, cause4, cause5, cause6, cause9, tableOf, causes, openingNumber}
@@ -97,9 +102,20 @@ module _ (p modes : ℕ) (s : List ℕ) (n : ℕ) (ok : openingNumber p s n ≡ 
   abbrev pub before : List ℕ
   before = tagsPut b s start (b .types - 1) w2
 
-  pub work-is : workOf p modes s n ≡ tableClassed b (enumeratorsOf s) s before
+  -- the work before the lists of taken numbers are put in
+  abbrev pub classed : List ℕ
+  classed = tableClassed b (enumeratorsOf s) s before
+
+  pub work-is : workOf p modes s n ≡ takersIn modes b (enumeratorsOf s) s classed
   unfolding workOf filled
   work-is = refl
+
+  -- they leave all other words alone
+  pub else-listed : (i : ℕ) → Unlisted (b .types) (b .types + enumeratorsOf s) i → getWord (workOf p modes s n) i ≡ getWord classed i
+  else-listed i z = ap (λ (q : List ℕ). getWord q i) work-is ∙ takers-word modes b (enumeratorsOf s) s classed (omega (arith, types-are, some-type s)) i z
+
+  field-listed : (id f : ℕ) → id < b .types → f < 16 → f ≢ 7 → f ≢ 8 → f ≢ 14 → getField (workOf p modes s n) id f ≡ getField classed id f
+  field-listed id f l m n7 n8 n14 = else-listed (id * 16 + f) (field-unlisted (b .types) (b .types + enumeratorsOf s) id f l m n7 n8 n14)
 
   room0 : b .types * 16 ≤ length zeros / 4
   room0 = omega (arith, zeros-long, work-long, types-are)
@@ -134,8 +150,11 @@ module _ (p modes : ℕ) (s : List ℕ) (n : ℕ) (ok : openingNumber p s n ≡ 
 
   -- word 0 of a type: the place of its record
   pub place-back : (id : ℕ) → 1 ≤ id → id < typesOf s → getField (workOf p modes s n) id 0 ≡ recordPlace s (id - 1)
-  unfolding workOf
-  place-back id a l = filled-place b s start (enumeratorsOf s) zeros room0 id a (omega (arith, types-are)) ∙ index-place s few id a l
+  unfolding filled
+  place-back id a l =
+      field-listed id 0 (omega (arith, types-are)) (omega arith) (λ q. omega arith) (λ q. omega arith) (λ q. omega arith)
+      ∙ filled-place b s start (enumeratorsOf s) zeros room0 id a (omega (arith, types-are))
+      ∙ index-place s few id a l
 
   -- and the type read there, field by field, is the one that the documentation describes
   pub described-back : Bytes s → (id : ℕ) → 1 ≤ id → id < typesOf s → (d : Described) → typeP (wordOf s) (getField (workOf p modes s n) id 0) ≡ getD (describedIn s) (id - 1) d
@@ -171,7 +190,8 @@ module _ (p modes : ℕ) (s : List ℕ) (n : ℕ) (ok : openingNumber p s n ≡ 
       let chain : Chain u (getField u id 9) l1 =
       chain-keeps (b .types) before u 0 (λ y a c. keeps-10 y c) l1 0 (getField before id 9) (getField u id 9) (omega arith) (sym (keeps-9 id m)) rises (all-tags id m) in
       let short : length l1 < 4294967296 = omega (arith, on-short b s start id 1 (b .types - 1), few, types-are) in
-      ap (λ (q : List ℕ). tagsOf (b .types) q id) work-is
+      tags-same (workOf p modes s n) u 4294967296 (b .types) (λ x c. field-listed x 10 c (omega arith) (λ q. omega arith) (λ q. omega arith) (λ q. omega arith)) 0 (getField (workOf p modes s n) id 9)
+      ∙ ap (tagsFrom 4294967296 (b .types) u 0) (else-listed (id * 16 + 9) (nine-unlisted (b .types) (b .types + enumeratorsOf s) id))
       ∙ chain-read (b .types) u l1 4294967296 0 (getField u id 9) short rises chain
 
   -- word 12 of an enum: how many enumerators come before its own
@@ -181,7 +201,7 @@ module _ (p modes : ℕ) (s : List ℕ) (n : ℕ) (ok : openingNumber p s n ≡ 
       let d : enumsTo b s start (id - 1) ≤ enumsTo b s start (b .types - 1) = to-up b s start (id - 1) (b .types - 1) (omega arith) in
       let t : enumsTo b s start (b .types - 1) ≡ enumeratorsOf s = ap (λ (q : ℕ). enumsTo b s start (q - 1)) types-are ∙ enumerators-all b s order-ok header-ok types-ok few in
       let v : enumsTo b s start (id - 1) % 4294967296 ≡ enumsTo b s start (id - 1) = omega (arith, enumerators-few b s order-ok header-ok types-ok, section-short) in
-      ap (λ (q : List ℕ). getField q id 12) work-is
+      field-listed id 12 m (omega arith) (λ q. omega arith) (λ q. omega arith) (λ q. omega arith)
       ∙ classes-keep (b .types) id 12 m (omega arith) (λ q. absurd (omega arith)) (λ q. absurd (omega arith)) (λ q. absurd (omega arith)) b refl (enumeratorsOf s) s before
       ∙ tags-keep b s start (b .types - 1) w2 id 12 (omega arith) (λ q. absurd (omega arith)) (λ q. absurd (omega arith))
       ∙ first-at b s start w1 room1 (b .types - 1) id a (omega arith) (omega arith) (ap isEnum (index-kind s few id a l) ∙ e)
@@ -195,22 +215,26 @@ module _ (p modes : ℕ) (s : List ℕ) (n : ℕ) (ok : openingNumber p s n ≡ 
   unfolding enumeratorWord
   wide t = omega (arith, t, w1-long, work-long, types-are)
 
+  entry-listed : (e : ℕ) → getWord (workOf p modes s n) (enumeratorWord (b .types) e) ≡ getWord classed (enumeratorWord (b .types) e)
+  unfolding enumeratorWord
+  entry-listed e = else-listed (b .types * 16 + e * 8) (entry-unlisted (b .types) (b .types + enumeratorsOf s) e)
+
   -- the first word of an enumerator: where its entry stands
   pub value-back : (id k : ℕ) → 1 ≤ id → id < typesOf s → k < valuesAt b s (getD start id 0)
       → getWord (workOf p modes s n) (enumeratorWord (b .types) (enumsTo b s start (id - 1) + k)) ≡ valuePlace (recordKind s (id - 1)) (recordPlace s (id - 1)) k
   value-back id k a l h =
       let e = enumsTo b s start (id - 1) + k in
       let t : enumsTo b s start (b .types - 1) ≡ enumeratorsOf s = ap (λ (q : ℕ). enumsTo b s start (q - 1)) types-are ∙ enumerators-all b s order-ok header-ok types-ok few in
-      ap (λ (q : List ℕ). getWord q (enumeratorWord (b .types) e)) work-is
+      entry-listed e
       ∙ classes-past b s start (enumeratorsOf s) e before
       ∙ tags-past b s start (b .types - 1) w2 (enumeratorWord (b .types) e) (omega (arith, types-are, some-type s)) (past e)
       ∙ value-at b s start w1 room1 (b .types - 1) id k a (omega (arith, types-are)) (omega (arith, types-are, some-type s)) h (wide t)
       ∙ (λ i. valuePlace (index-kind s few id a l i) (index-place s few id a l i) k)
 
-  -- every word that is none of these, no class and no scratch word, is 0
-  pub else-back : (i : ℕ) → Other (b .types) i → Else (b .types) (b .types + enumeratorsOf s) i → getWord (workOf p modes s n) i ≡ 0
-  else-back i o c =
-      ap (λ (q : List ℕ). getWord q i) work-is
+  -- every word that is none of these, no class and none of a list, is 0
+  pub else-back : (i : ℕ) → Other (b .types) i → Else (b .types) (b .types + enumeratorsOf s) i → ((h : ℕ) → h < b .types + enumeratorsOf s → i ≢ takenP (b .types) h) → getWord (workOf p modes s n) i ≡ 0
+  else-back i o c d =
+      else-listed i (record { no-head = λ h l. c h l .1; no-next = λ h l. c h l .2; no-taken = d })
       ∙ the-words b (enumeratorsOf s) s before .else i c
       ∙ before-else b s start i o zeros (omega (arith, types-are, some-type s))
       ∙ zeros-word n i
@@ -218,7 +242,7 @@ module _ (p modes : ℕ) (s : List ℕ) (n : ℕ) (ok : openingNumber p s n ≡ 
   -- word 0 of void, word 12 of a type that is no enum, and word 10 of one that is no tag on a type of the table, are 0
   pub void-back : getField (workOf p modes s n) 0 0 ≡ 0
   void-back =
-      ap (λ (q : List ℕ). getField q 0 0) work-is
+      field-listed 0 0 (omega (arith, types-are, some-type s)) (omega arith) (λ q. omega arith) (λ q. omega arith) (λ q. omega arith)
       ∙ classes-keep (b .types) 0 0 (omega (arith, types-are, some-type s)) (omega arith) (λ q. absurd (omega arith)) (λ q. absurd (omega arith)) (λ q. absurd (omega arith)) b refl (enumeratorsOf s) s before
       ∙ tags-keep b s start (b .types - 1) w2 0 0 (omega arith) (λ q. absurd (omega arith)) (λ q. absurd (omega arith))
       ∙ enums-keep b s start w1 (b .types - 1) 0 0 (omega (arith, types-are, some-type s)) (omega arith) (λ q. absurd (omega arith))
@@ -228,7 +252,7 @@ module _ (p modes : ℕ) (s : List ℕ) (n : ℕ) (ok : openingNumber p s n ≡ 
   pub first-none-back : (id : ℕ) → id < typesOf s → isEnum (getD start id 0 % 32) ≡ false → getField (workOf p modes s n) id 12 ≡ 0
   first-none-back id l e =
       let m : id < b .types = omega (arith, types-are) in
-      ap (λ (q : List ℕ). getField q id 12) work-is
+      field-listed id 12 m (omega arith) (λ q. omega arith) (λ q. omega arith) (λ q. omega arith)
       ∙ classes-keep (b .types) id 12 m (omega arith) (λ q. absurd (omega arith)) (λ q. absurd (omega arith)) (λ q. absurd (omega arith)) b refl (enumeratorsOf s) s before
       ∙ tags-keep b s start (b .types - 1) w2 id 12 (omega arith) (λ q. absurd (omega arith)) (λ q. absurd (omega arith))
       ∙ first-not b s start w1 room1 (b .types - 1) id m (omega arith) e
@@ -238,7 +262,7 @@ module _ (p modes : ℕ) (s : List ℕ) (n : ℕ) (ok : openingNumber p s n ≡ 
   pub next-none-back : (x : ℕ) → x < typesOf s → ((id : ℕ) → id < b .types → isTagOn b s id (getD start x 0) ≡ false) → getField (workOf p modes s n) x 10 ≡ 0
   next-none-back x l h =
       let m : x < b .types = omega (arith, types-are) in
-      ap (λ (q : List ℕ). getField q x 10) work-is
+      field-listed x 10 m (omega arith) (λ q. omega arith) (λ q. omega arith) (λ q. omega arith)
       ∙ keeps-10 x m
       ∙ next-not b s start (b .types - 1) w2 x h
       ∙ enums-keep b s start w1 (b .types - 1) x 10 m (omega arith) (λ q. absurd (omega arith))
@@ -260,17 +284,22 @@ module _ (p modes : ℕ) (s : List ℕ) (n : ℕ) (ok : openingNumber p s n ≡ 
   }
 
   pub class-back : (h : ℕ) → h < b .types + enumeratorsOf s → getWord (workOf p modes s n) (classP (b .types) h) ≡ classOf (keyIn b s before) h
-  class-back h l = ap (λ (q : List ℕ). getWord q (classP (b .types) h)) work-is ∙ the-words b (enumeratorsOf s) s before .class h room-back l
+  class-back h l =
+      else-listed (classP (b .types) h) (place-unlisted (b .types) (b .types + enumeratorsOf s) 5 1 h (omega arith) (omega arith) (λ q. omega arith) (λ q. omega arith) (λ q. omega arith) (λ q. omega arith) (λ q. omega arith) (λ q. omega arith))
+      ∙ the-words b (enumeratorsOf s) s before .class h room-back l
 
-  -- the two scratch words of each holder are 0 again
-  pub bucket-back : (h : ℕ) → h < b .types + enumeratorsOf s → getWord (workOf p modes s n) (bucketP (b .types) h) ≡ 0
-  bucket-back h l = ap (λ (q : List ℕ). getWord q (bucketP (b .types) h)) work-is ∙ the-words b (enumeratorsOf s) s before .bucket h room-back l
+  -- without bit 3 of the modes the two scratch words of each holder are 0 again: there are no lists
+  unlisted : (modes / 8 % 2 ≡ 1 → ⊥) → workOf p modes s n ≡ classed
+  unlisted off = work-is ∙ sym (mode-off modes b (enumeratorsOf s) s classed off)
 
-  pub link-back : (h : ℕ) → h < b .types + enumeratorsOf s → getWord (workOf p modes s n) (linkP (b .types) h) ≡ 0
-  link-back h l = ap (λ (q : List ℕ). getWord q (linkP (b .types) h)) work-is ∙ the-words b (enumeratorsOf s) s before .link h room-back l
+  pub bucket-back : (modes / 8 % 2 ≡ 1 → ⊥) → (h : ℕ) → h < b .types + enumeratorsOf s → getWord (workOf p modes s n) (bucketP (b .types) h) ≡ 0
+  bucket-back off h l = ap (λ (q : List ℕ). getWord q (bucketP (b .types) h)) (unlisted off) ∙ the-words b (enumeratorsOf s) s before .bucket h room-back l
+
+  pub link-back : (modes / 8 % 2 ≡ 1 → ⊥) → (h : ℕ) → h < b .types + enumeratorsOf s → getWord (workOf p modes s n) (linkP (b .types) h) ≡ 0
+  link-back off h l = ap (λ (q : List ℕ). getWord q (linkP (b .types) h)) (unlisted off) ∙ the-words b (enumeratorsOf s) s before .link h room-back l
 
   pub work-length : length (workOf p modes s n) ≡ n
-  work-length = ap length work-is ∙ the-words b (enumeratorsOf s) s before .long ∙ before-long
+  work-length = ap length work-is ∙ takers-long modes b (enumeratorsOf s) s classed (omega (arith, types-are, some-type s)) ∙ the-words b (enumeratorsOf s) s before .long ∙ before-long
 
   -- the record of a type as crate btf finds it
   pub record-back : (id : ℕ) → 1 ≤ id → id < typesOf s → recordById b s (workOf p modes s n) id ≡ recordAt b s (recordPlace s (id - 1))

@@ -10,6 +10,7 @@ use Rattle.header.specs.Header.{btfOf}
 use Rattle.opened.specs.Table.{typesOf, enumeratorsOf, indexOf}
 use Rattle.opened.specs.Causes.{openingNumber}
 use Rattle.fill.specs.Left.{filled}
+use Rattle.takers.specs.Takers.{takersIn}
 
 -- a refusal and its number; or the count of types, void counted, and that of enumerators; then work and text
 pub data Outcome : Type 0 where
@@ -21,9 +22,11 @@ unfoldable pub openOut : Opening → List ℕ → List ℕ → Outcome
 openOut (Refused n) w t = refused n w t
 openOut (Sound types enumerators) w t = opened types enumerators w t
 
--- the work of n bytes that a successful opening leaves: places of records and of enumerators, tags, name classes, and else zeros
+-- the work of n bytes that a successful opening leaves: places of records and of enumerators, tags, name classes, with bit 3 of the modes the lists of
+-- taken numbers, and else zeros
 unfoldable pub workOf : ℕ → ℕ → List ℕ → ℕ → List ℕ
-workOf pointer modes s n = filled (btfOf s pointer modes (typesOf s)) s (indexOf s) (enumeratorsOf s) (replicate n 0)
+workOf pointer modes s n =
+    takersIn modes (btfOf s pointer modes (typesOf s)) (enumeratorsOf s) s (filled (btfOf s pointer modes (typesOf s)) s (indexOf s) (enumeratorsOf s) (replicate n 0))
 
 -- document 01: the first cause that holds refuses, and work and text are left as they were; where none holds, the text is zero
 unfoldable pub openingOf : ℕ → ℕ → List ℕ → List ℕ → List ℕ → Outcome

@@ -108,6 +108,7 @@ pub fn open(
             clear(work);
             let b = btf_of(section, pointer_size, modes, types);
             fill::fill(b, section, enumerators, &start, work);
+            takers::takers(b, section, modes, enumerators, work);
             Opening::Sound(types, enumerators)
         }
     }

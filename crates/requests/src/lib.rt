@@ -46,7 +46,7 @@ pub fn open_core(
                 enumerators: enumerators,
                 text_len: 0,
                 pointer_size: pointer_size,
-                modes: modes % 8,
+                modes: modes % 16,
             },
             answer: Answer::Accepted(types),
         },

@@ -6,7 +6,7 @@ ghost use Rattle.turns.specs.Answers.{answerOf};
 ghost use Rattle.turns.specs.Turns.{callOf, turnOf, isCurrent, reachOf, withText, thenZeros, settled};
 
 // The lengths are those at opening; text_len is the length of the text so far. Bit 0 of modes is union_as_struct,
-// bit 1 strong_arrays, bit 2 the placing mode.
+// bit 1 strong_arrays, bit 2 the placing mode, bit 3 names that cannot collide.
 pub struct Session {
     pub open: bool,
     pub section_len: u64,

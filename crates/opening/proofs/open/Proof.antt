@@ -6,10 +6,11 @@ use Rattle.opening.proofs.open.Statement.{statement}
 use Rattle.opening.proofs.open.Tie as tie
 use Rattle.opening.proofs.open.Reads as reads
 use Rattle.opening.proofs.open.Lts as lts
-use Rattle.lent.proofs.clear.Reads as clear-reads
-use Rattle.header.proofs.btf_of.Reads as btf-of-reads
-use Rattle.opening.proofs.examine.Reads as examine-reads
 use Rattle.fill.proofs.fill.Reads as fill-reads
+use Rattle.header.proofs.btf_of.Reads as btf-of-reads
+use Rattle.lent.proofs.clear.Reads as clear-reads
+use Rattle.opening.proofs.examine.Reads as examine-reads
+use Rattle.takers.proofs.takers.Reads as takers-reads
 
 slice-aggregate-examine : tie.Need-slice-aggregate-examine
 slice-aggregate-examine c = search needs
@@ -39,17 +40,20 @@ slice-aggregate-fill c = search needs
 fill-requires : tie.Need-fill-requires
 fill-requires c κs = search needs
 
+takers-requires : tie.Need-takers-requires
+takers-requires c κs = search needs
+
 returns : tie.Need-returns
 returns c = open-refused _ _ _ _ _ _ _ (c .before .before .before .before .examine .ensures) _ (c .before .c .given .1)
 
 same-length : tie.Need-same-length
-same-length c = c .before .before .fill .kept .1 .1 .1 .1 .0 ∙ c .before .before .before .before .before .before .before .before .clear2 .kept .0
+same-length c = c .before .before .takers .kept .1 .1 .1 .1 .0 ∙ c .before .before .before .before .before .before .fill .kept .1 .1 .1 .1 .0 ∙ c .before .before .before .before .before .before .before .before .before .before .before .before .clear2 .kept .0
 
 same-length-2 : tie.Need-same-length-2
 same-length-2 c = search needs
 
 returns-2 : tie.Need-returns-2
-returns-2 c = open-sound _ _ _ _ _ _ _ (c .before .before .before .before .before .before .before .before .before .before .before .before .before .before .before .before .before .before .examine .ensures) _ _ (c .before .before .before .before .before .before .before .before .before .before .before .before .before .before .before .types .given .1) _ (c .before .before .before .before .before .before .before .before .before .before .before .before .clear .ensures) _ (c .before .before .before .before .before .before .before .before .clear2 .ensures) _ (c .before .before .before .before .before .btf-of .ensures) _ (c .before .before .fill .ensures)
+returns-2 c = open-sound _ _ _ _ _ _ _ (c .before .before .before .before .before .before .before .before .before .before .before .before .before .before .before .before .before .before .before .before .before .before .examine .ensures) _ _ (c .before .before .before .before .before .before .before .before .before .before .before .before .before .before .before .before .before .before .before .types .given .1) _ (c .before .before .before .before .before .before .before .before .before .before .before .before .before .before .before .before .clear .ensures) _ (c .before .before .before .before .before .before .before .before .before .before .before .before .clear2 .ensures) _ (c .before .before .before .before .before .before .before .before .before .btf-of .ensures) _ (c .before .before .before .before .before .before .fill .ensures) _ (c .before .before .takers .ensures)
 
 pub open-spec : {M : Type 1} → statement M
 open-spec =
@@ -64,6 +68,7 @@ open-spec =
     btf-of-requires
     slice-aggregate-fill
     fill-requires
+    takers-requires
     returns
     same-length
     same-length-2

@@ -5,7 +5,7 @@ use Rattle.names.proofs.versions.resolve_name.Statement.{statement}
 use Rattle.names.proofs.versions.resolve_name.Tie as tie
 use Rattle.names.proofs.versions.resolve_name.Reads as reads
 use Rattle.names.proofs.versions.resolve_name.Lts as lts
-use Rattle.btf.proofs.get_count.Reads as get-count-reads
+use Rattle.numbers.proofs.get_number.Reads as get-number-reads
 use Rattle.names.proofs.versions.bare.Reads as bare-reads
 
 cast-h : tie.Need-cast-h
@@ -14,17 +14,17 @@ cast-h c = search needs
 add-h : tie.Need-add-h
 add-h c = search needs
 
-cast-get-count : tie.Need-cast-get-count
-cast-get-count c = search needs
+cast-get-number : tie.Need-cast-get-number
+cast-get-number c = search needs
 
-get-count-requires : tie.Need-get-count-requires
-get-count-requires c κs = search needs
+get-number-requires : tie.Need-get-number-requires
+get-number-requires c κs = search needs
 
 same-length : tie.Need-same-length
 same-length c = search needs
 
 returns : tie.Need-returns
-returns c = let v = value-counted _ _ _ _ _ (c .before .before .before .before .if1 .taken) (c .before .before .get-count .ensures) in (refl, v .0, v .1)
+returns c = let v = value-counted _ _ _ _ _ (c .before .before .before .before .if1 .taken) (c .before .before .get-number .ensures) in (refl, v .0, v .1)
 
 bare-requires : tie.Need-bare-requires
 bare-requires c κs = search needs
@@ -38,8 +38,8 @@ resolve-name-spec =
     (tie.spec
     cast-h
     add-h
-    cast-get-count
-    get-count-requires
+    cast-get-number
+    get-number-requires
     same-length
     returns
     bare-requires

@@ -8,7 +8,7 @@ use Rattle.names.proofs.versions.resolve_type_name.Statement.{statement
 use Rattle.names.proofs.versions.resolve_type_name.Tie as tie
 use Rattle.names.proofs.versions.resolve_type_name.Reads as reads
 use Rattle.names.proofs.versions.resolve_type_name.Lts as lts
-use Rattle.btf.proofs.get_count.Reads as get-count-reads
+use Rattle.numbers.proofs.get_number.Reads as get-number-reads
 use Rattle.btf.proofs.get_field.Reads as get-field-reads
 use Rattle.btf.proofs.put_field.Reads as put-field-reads
 use Rattle.strings.proofs.is_empty.Reads as is-empty-reads
@@ -32,8 +32,8 @@ same-length c = search needs
 returns-2 : tie.Need-returns-2
 returns-2 c = (refl, type-held _ _ _ _ _ _ (sym (c .before .before .before .before .is-empty .ensures) ∙ c .before .before .before .if1 .left) (c .if2 .taken) (c .before .get-field .ensures))
 
-get-count-requires : tie.Need-get-count-requires
-get-count-requires c κs = search needs
+get-number-requires : tie.Need-get-number-requires
+get-number-requires c κs = search needs
 
 put-field-requires : tie.Need-put-field-requires
 put-field-requires c κs = search needs
@@ -42,7 +42,7 @@ same-length-2 : tie.Need-same-length-2
 same-length-2 c = search needs
 
 returns-3 : tie.Need-returns-3
-returns-3 c = (refl, type-counted _ _ _ _ _ _ _ _ _ (sym (c .before .before .before .before .before .before .before .before .before .before .before .before .is-empty .ensures) ∙ c .before .before .before .before .before .before .before .before .before .before .before .if1 .left) (c .before .before .before .before .before .before .before .before .if2 .left) (c .before .before .before .before .before .before .before .before .before .get-field .ensures) (c .before .before .before .before .before .before .get-count .ensures .0) (c .before .before .before .before .before .before .get-count .ensures .1) (c .before .before .put-field .ensures))
+returns-3 c = (refl, type-counted _ _ _ _ _ _ _ _ _ (sym (c .before .before .before .before .before .before .before .before .before .before .before .before .is-empty .ensures) ∙ c .before .before .before .before .before .before .before .before .before .before .before .if1 .left) (c .before .before .before .before .before .before .before .before .if2 .left) (c .before .before .before .before .before .before .before .before .before .get-field .ensures) (c .before .before .before .before .before .before .get-number .ensures .0) (c .before .before .before .before .before .before .get-number .ensures .1) (c .before .before .put-field .ensures))
 
 pub resolve-type-name-spec : {M : Type 1} → statement M
 resolve-type-name-spec =
@@ -54,7 +54,7 @@ resolve-type-name-spec =
     get-field-requires
     same-length
     returns-2
-    get-count-requires
+    get-number-requires
     put-field-requires
     same-length-2
     returns-3)

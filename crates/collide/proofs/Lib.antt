@@ -1,0 +1,4 @@
+pub mod Keys
+pub mod Holders
+pub mod Right
+pub mod Claims

@@ -1,0 +1,74 @@
+use Rattle.takers.proofs.Holders.{taker-later, taker-plain, taker-none, taker-some}
+use borrow.Author.Tests.{not-true, not-false}
+use borrow.Author.Needs.{needs}
+use Rattle.takers.proofs.lists.put_taker.Statement.{statement}
+use Rattle.takers.proofs.lists.put_taker.Tie as tie
+use Rattle.takers.proofs.lists.put_taker.Reads as reads
+use Rattle.takers.proofs.lists.put_taker.Lts as lts
+use Rattle.btf.proofs.holder_word.Reads as holder-word-reads
+use Rattle.classes.proofs.load_key.Reads as load-key-reads
+use Rattle.lent.proofs.get_word.Reads as get-word-reads
+use Rattle.takers.proofs.lists.base_of.Reads as base-of-reads
+use Rattle.takers.proofs.lists.is_suffixed.Reads as is-suffixed-reads
+use Rattle.takers.proofs.lists.put_on.Reads as put-on-reads
+
+holder-word-requires : tie.Need-holder-word-requires
+holder-word-requires c κs = search needs
+
+get-word-requires : tie.Need-get-word-requires
+get-word-requires c κs = search needs
+
+same-length : tie.Need-same-length
+same-length c = search needs
+
+returns : tie.Need-returns
+returns c = taker-later _ _ _ _ _ _ _ (c .before .before .holder-word .ensures) (c .before .get-word .ensures) (c .if1 .taken)
+
+load-key-requires : tie.Need-load-key-requires
+load-key-requires c κs = search needs
+
+is-suffixed-requires : tie.Need-is-suffixed-requires
+is-suffixed-requires c κs = search needs
+
+same-length-2 : tie.Need-same-length-2
+same-length-2 c = search needs
+
+returns-2 : tie.Need-returns-2
+returns-2 c = taker-plain _ _ _ _ _ _ _ (c .before .before .before .before .before .before .holder-word .ensures) (c .before .before .before .before .before .get-word .ensures) (c .before .before .before .before .if1 .left) _ (c .before .before .load-key .ensures) _ (c .before .is-suffixed .ensures) (not-true _ (c .if2 .taken))
+
+base-of-requires : tie.Need-base-of-requires
+base-of-requires c κs = search needs
+
+same-length-3 : tie.Need-same-length-3
+same-length-3 c = search needs
+
+returns-3 : tie.Need-returns-3
+returns-3 c = taker-none _ _ _ _ _ _ _ (c .before .before .before .before .before .before .before .before .before .holder-word .ensures) (c .before .before .before .before .before .before .before .before .get-word .ensures) (c .before .before .before .before .before .before .before .if1 .left) _ (c .before .before .before .before .before .load-key .ensures) _ (c .before .before .before .before .is-suffixed .ensures) (not-false _ (c .before .before .before .if2 .left)) _ (c .before .base-of .ensures) (c .if3 .taken)
+
+put-on-requires : tie.Need-put-on-requires
+put-on-requires c κs = search needs
+
+same-length-4 : tie.Need-same-length-4
+same-length-4 c = search needs
+
+returns-4 : tie.Need-returns-4
+returns-4 c = taker-some _ _ _ _ _ _ _ (c .before .before .before .before .before .before .before .before .before .before .before .before .before .holder-word .ensures) (c .before .before .before .before .before .before .before .before .before .before .before .before .get-word .ensures) (c .before .before .before .before .before .before .before .before .before .before .before .if1 .left) _ (c .before .before .before .before .before .before .before .before .before .load-key .ensures) _ (c .before .before .before .before .before .before .before .before .is-suffixed .ensures) (not-false _ (c .before .before .before .before .before .before .before .if2 .left)) _ (c .before .before .before .before .before .base-of .ensures) _ (c .before .before .before .before .if3 .left) (c .before .before .put-on .ensures)
+
+pub put-taker-spec : {M : Type 1} → statement M
+put-taker-spec =
+    tie.close
+    (tie.spec
+    holder-word-requires
+    get-word-requires
+    same-length
+    returns
+    load-key-requires
+    is-suffixed-requires
+    same-length-2
+    returns-2
+    base-of-requires
+    same-length-3
+    returns-3
+    put-on-requires
+    same-length-4
+    returns-4)

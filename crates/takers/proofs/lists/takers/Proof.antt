@@ -1,0 +1,22 @@
+use Rattle.takers.proofs.Holders.{mode-off, mode-on}
+use borrow.Author.Needs.{needs}
+use Rattle.takers.proofs.lists.takers.Statement.{statement}
+use Rattle.takers.proofs.lists.takers.Tie as tie
+use Rattle.takers.proofs.lists.takers.Reads as reads
+use Rattle.takers.proofs.lists.takers.Lts as lts
+use Rattle.takers.proofs.lists.put_takers.Reads as put-takers-reads
+
+returns : tie.Need-returns
+returns c = mode-off _ _ _ _ _ (c .if1 .taken)
+
+put-takers-requires : tie.Need-put-takers-requires
+put-takers-requires c κs = search needs
+
+same-length : tie.Need-same-length
+same-length c = search needs
+
+returns-2 : tie.Need-returns-2
+returns-2 c = mode-on _ _ _ _ _ _ (c .before .before .before .before .if1 .left) (c .before .before .put-takers .ensures)
+
+pub takers-spec : {M : Type 1} → statement M
+takers-spec = tie.close (tie.spec returns put-takers-requires same-length returns-2)

@@ -1,0 +1,107 @@
+// Each name that is another one of its space with a suffix is put on that one's list.
+use crate::suffix::has_suffix;
+use crate::suffix::suffix_on;
+use btf::Btf;
+use btf::holder_word;
+use classes::Key;
+use classes::load_key;
+use lent::get_word;
+use lent::put_word;
+ghost use mathlib.Core.Path.{_≡_};
+ghost use Prim.Native.Nat.{_-_};
+ghost use Rattle.classes.specs.Classes.{keyOf, keyIn};
+ghost use Rattle.takers.specs.Takers.{suffixOn, anySuffix, nameIn, baseFrom, listedOn, takerPut, withTakers, takersIn};
+
+// The number with which the key y is x with a suffix, or 0.
+fn key_suffix(section: &[u8], x: Key, y: Key) -> u32
+    ensures { λ r. ⌜ r ≡ suffixOn (keyOf (now (section .entry)) (x .space) (x .name)) (keyOf (now (section .entry)) (y .space) (y .name)) ⌝ }
+{
+    if x.space != y.space {
+        return 0;
+    }
+    if x.space == 2 {
+        return 0;
+    }
+    suffix_on(section, x.name, y.name)
+}
+
+// Whether the name of a key ends in a suffix.
+fn is_suffixed(section: &[u8], x: Key) -> bool
+    ensures { λ r. ⌜ r ≡ anySuffix (nameIn (keyOf (now (section .entry)) (x .space) (x .name))) ⌝ }
+{
+    if x.space == 2 {
+        return false;
+    }
+    has_suffix(section, x.name)
+}
+
+// The first holder below n whose name, with a suffix, is that of h; or 0.
+fn base_of(b: Btf, section: &[u8], work: &[u8], n: u32, h: u32) -> u32
+    ensures { λ r. ⌜ r ≡ baseFrom (keyIn b (now (section .entry)) (now (work .entry))) h (n - 1) 1 ⌝ }
+{
+    let key = load_key(b, section, work, h);
+    let mut c: u32 = 1;
+    while c < n {
+        if 2 <= key_suffix(section, load_key(b, section, work, c), key) {
+            return c;
+        }
+        c += 1;
+    }
+    0
+}
+
+// Puts h in front of the list of c, with the number that its name takes.
+fn put_on(b: Btf, section: &[u8], work: &mut [u8], c: u32, h: u32)
+    ensures { λ _. ⌜ now (work .exit) ≡ listedOn (b .types) c h (suffixOn (keyIn b (now (section .entry)) (now (work .entry)) c) (keyIn b (now (section .entry)) (now (work .entry)) h)) (now (work .entry)) ⌝ }
+{
+    let key = load_key(b, section, work, h);
+    let m = key_suffix(section, load_key(b, section, work, c), key);
+    let at = holder_word(b.types, 7, 3, c);
+    let old = get_word(work, at);
+    put_word(work, holder_word(b.types, 8, 4, h), old);
+    put_word(work, holder_word(b.types, 14, 6, h), m);
+    put_word(work, at, h);
+}
+
+// Puts h on a list, if it is the first of its name and there is a name that it is with a suffix.
+fn put_taker(b: Btf, section: &[u8], work: &mut [u8], n: u32, h: u32)
+    ensures { λ _. ⌜ now (work .exit) ≡ takerPut b (now (section .entry)) n h (now (work .entry)) ⌝ }
+{
+    if get_word(work, holder_word(b.types, 5, 1, h)) != h {
+        return;
+    }
+    if !is_suffixed(section, load_key(b, section, work, h)) {
+        return;
+    }
+    let c = base_of(b, section, work, n, h);
+    if c == 0 {
+        return;
+    }
+    put_on(b, section, work, c, h)
+}
+
+// All holders, from the last to the first, so that those on a list stand in rising order.
+fn put_takers(b: Btf, section: &[u8], enumerators: u32, work: &mut [u8])
+    ensures { λ _. ⌜ now (work .exit) ≡ withTakers b enumerators (now (section .entry)) (now (work .entry)) ⌝ }
+{
+    let types = b.types;
+    if 4294967295 - types < enumerators {
+        return;
+    }
+    let n = types + enumerators;
+    let mut h = n;
+    while 1 < h {
+        h -= 1;
+        put_taker(b, section, work, n, h);
+    }
+}
+
+// Bit 3 of the modes: names that cannot collide. Without it there are no lists.
+pub fn takers(b: Btf, section: &[u8], modes: u32, enumerators: u32, work: &mut [u8])
+    ensures { λ _. ⌜ now (work .exit) ≡ takersIn modes b enumerators (now (section .entry)) (now (work .entry)) ⌝ }
+{
+    if modes / 8 % 2 != 1 {
+        return;
+    }
+    put_takers(b, section, enumerators, work)
+}
