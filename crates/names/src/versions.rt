@@ -5,6 +5,7 @@ use btf::get_field;
 use btf::put_field;
 use fixed::put_underscores;
 use numbers::get_number;
+use strings::is_empty;
 use strings::put_str;
 use text::put_byte;
 use text::put_decimal;
