@@ -41,11 +41,11 @@ pub tally-is : (r : Tallied) (len n a m : ℕ) → r ≡ record { tally = record
     → endWithin s (record { tally = record { len = len; number = n; accepted = a }; made = m }) w t ≡ whole → endWithin s r w t ≡ whole
 tally-is r len n a m e s w t whole f = ap (λ (x : Tallied). endWithin s x w t) e ∙ f
 
-counted-goes : (n : ℕ) (d : CallWithin) (f : CallWithin → CallWithin) → numberOf (d .call .answer) ≡ 0 → countedWithin n d f ≡ f d
+pub counted-goes : (n : ℕ) (d : CallWithin) (f : CallWithin → CallWithin) → numberOf (d .call .answer) ≡ 0 → countedWithin n d f ≡ f d
 unfolding countedWithin
 counted-goes n d f e = rw (e, countedWithin)
 
-counted-stops : (n m : ℕ) (d : CallWithin) (f : CallWithin → CallWithin) → numberOf (d .call .answer) ≡ m → (m ≡ 0 → ⊥)
+pub counted-stops : (n m : ℕ) (d : CallWithin) (f : CallWithin → CallWithin) → numberOf (d .call .answer) ≡ m → (m ≡ 0 → ⊥)
     → countedWithin n d f ≡ record { call = callOf (d .call .session) (answerOf m n) (d .call .work) (d .call .text); made = d .made }
 unfolding countedWithin
 counted-stops n zero d f e h = absurd (h refl)
