@@ -163,7 +163,7 @@ all-allowed i o sl small low (t ∷ ts) p h = (
   all-allowed i o sl small low ts (λ n k. p n (mem-two (mentions t) (allMentions ts) n k)) (h .1),
 )
 
-just-fits : (sl : ℕ) (ts : List Described) → Every (Allowed sl) ts → Every Fits ts
+pub just-fits : (sl : ℕ) (ts : List Described) → Every (Allowed sl) ts → Every Fits ts
 just-fits sl [] h = tt
 just-fits sl (t ∷ ts) h = (h .0 .0, just-fits sl ts (h .1))
 

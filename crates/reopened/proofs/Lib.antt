@@ -2,3 +2,4 @@
 pub mod Followed
 pub mod Renamed
 pub mod Causes
+pub mod Accepts
