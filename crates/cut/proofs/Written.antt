@@ -137,7 +137,7 @@ module _ (i o : ℕ → ℕ) (sl : ℕ) (small : sl ≤ 4294967296) (low : (x : 
 
 -- ---- all of them
 
-every-kept : (P : Described → Type 0) (m : ℕ → Bool) (x : ℕ) (ts : List Described) → Every P ts → Every P (keptTypes m x ts)
+pub every-kept : (P : Described → Type 0) (m : ℕ → Bool) (x : ℕ) (ts : List Described) → Every P ts → Every P (keptTypes m x ts)
 unfolding keptTypes
 every-kept P m x [] h = tt
 every-kept P m x (t ∷ ts) h = go (m x) (every-kept P m (suc x) ts (h .1))

@@ -3,3 +3,4 @@ pub mod Followed
 pub mod Renamed
 pub mod Causes
 pub mod Accepts
+pub mod Strings
