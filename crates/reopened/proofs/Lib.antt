@@ -4,3 +4,4 @@ pub mod Renamed
 pub mod Causes
 pub mod Accepts
 pub mod Strings
+pub mod Reopened
