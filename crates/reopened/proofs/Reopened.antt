@@ -32,6 +32,7 @@ use Rattle.demand.specs.Session.{Known, textOf, machine, opened, dumpTypes}
 use Rattle.cut.specs.Kept.{voidType, Tells}
 use Rattle.cut.specs.Renumbered.{newId}
 use Rattle.cut.specs.Strings.{allMentions}
+use Rattle.cut.specs.Test.{isKept}
 use Rattle.cut.specs.Section.{typesOf, oldTypes, newTypes, newOffset, newStrings, cutSection}
 use Rattle.cut.specs.Stands.{Renumbered, no-requests, request}
 use Rattle.cut.specs.Table as cut
@@ -40,6 +41,7 @@ use Rattle.cut.proofs.Numbers.{Stays, is-void, is-kept}
 use Rattle.cut.proofs.Written.{every-kept}
 use Rattle.cut.proofs.Steps.{BothSess, BothAnswer}
 use Rattle.cut.proofs.Sessions.{pieces-text}
+use Rattle.cut.proofs.Test.{kept-tells}
 use Rattle.cut.proofs.Claims as cut-claims
 use Rattle.claims.specs.Table as claims
 use Rattle.claims.specs.Table.{headerOf, openedTable}
@@ -245,3 +247,9 @@ module _ (p modes : ℕ) (s : List ℕ) (n : ℕ) (ok : openingNumber p s n ≡ 
     same-answer = answer-same;
     by-rules = λ rs rs′ r. dumps r;
   }
+
+-- of the test that computes what is kept
+pub cut-reopens : (p modes : ℕ) (s : List ℕ) (n : ℕ) → openingNumber p s n ≡ 0 → Bytes s → (given : List ℕ) → length (cutSection (isKept (typesOf s) given) s) ≤ 16777216 → (n′ : ℕ)
+    → 4 * (16 * opening.typesOf (cutSection (isKept (typesOf s) given) s) + 8 * enumeratorsOf (cutSection (isKept (typesOf s) given) s) + 4096) ≤ n′
+    → Reopens p modes s n (isKept (typesOf s) given) n′
+cut-reopens p modes s n ok y given short n′ enough = reopens p modes s n ok y given (isKept (typesOf s) given) (kept-tells (typesOf s) given) short n′ enough
