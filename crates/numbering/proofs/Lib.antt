@@ -1,0 +1,2 @@
+-- Marks: the closed marks are those of the reached ids.
+pub mod Marks
