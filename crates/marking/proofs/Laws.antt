@@ -100,7 +100,7 @@ unfolding weight
 one-less m st d = omega arith
 
 module _ (b : Btf) (s start : List ℕ) where
-  turn-light : (m st : List ℕ) (d : ℕ) → weight (turned b s start (heap m st (suc d))) < weight (heap m st (suc d))
+  pub turn-light : (m st : List ℕ) (d : ℕ) → weight (turned b s start (heap m st (suc d))) < weight (heap m st (suc d))
   unfolding turned
   turn-light m st d =
       let a : weight (pushedTo (followedId b s start (getD st d 0)) (heap m st d) (followedCount b s start (getD st d 0))) ≤ weight (heap m st d) = to-light (followedId b s start (getD st d 0)) (heap m st d) (followedCount b s start (getD st d 0)) in

@@ -4,22 +4,45 @@ use native.Mathlib.Omega.{arith}
 use native.Mathlib.Decide.{ℕ-discrete}
 use mathlib.Core.Path.{_≡_, refl, sym, _∙_, ap, subst}
 use mathlib.Core.Bool.{Bool, true, false}
-use mathlib.Core.List.{List, [], _∷_, List·Memᴰ}
+use mathlib.Core.List.{List, [], _∷_, List·Memᴰ, List·Memᴰ·head, List·Memᴰ·tail, List·Memᴰ·not-nil}
 use mathlib.Core.Logic.{_⊎_, inl, inr}
 use lib.ListN.{length, getD, set, length-set}
 use lib.Seq.{getD-set-same, getD-set-other}
 use lib.Dec.{ltb, eqb}
 use borrow.Author.Tests.{eqb-true, eqb-false, ltb-true, ltb-false}
+use Rattle.lent.specs.Words.{table}
 use Rattle.lent.proofs.Laws.{le-or-lt}
 use Rattle.records.specs.Documentation.{Described}
 use Rattle.btf.specs.declared.types.Btf.{Btf}
-use Rattle.followed.specs.Followed.{followedCount, followedId}
+use Rattle.followed.specs.Followed.{countOf, followedCount, followedId}
+use Rattle.followed.specs.Bounds.{count-fits, followed-none}
 use Rattle.followed.specs.Zeros.{zeros}
 use Rattle.followed.proofs.Zeros.{zeros-less}
 use Rattle.cut.specs.Kept.{followedIds, typeOf, Reached, asked, onward}
 use Rattle.reopened.specs.Seen.{Seen}
 use Rattle.marking.specs.Marks.{Heap, heap, pushed, pushedTo, weight, turned, closed}
+use Rattle.marking.proofs.Laws.{turn-light}
 use Rattle.numbering.specs.Marked.{Has, Markable, OnStack, Good, Grows, Passed, Pending}
+
+-- an entry of a list that is made from a function
+table-any : (f : ℕ → ℕ) (k n y : ℕ) → List·Memᴰ y (table f k n) → (j : ℕ) × (j < n) × (f (k + j) ≡ y)
+table-any f k zero y h = absurd (List·Memᴰ·not-nil h)
+table-any f k (suc n) y (List·Memᴰ·head q) = let z : k + 0 ≡ k = omega arith in (0, omega arith, ap f z ∙ sym q)
+table-any f k (suc n) y (List·Memᴰ·tail h) =
+    let r = table-any f (suc k) n y h in
+    let l : r .0 < n = r .1 in
+    let z : k + suc (r .0) ≡ suc k + r .0 = omega arith in
+    (suc (r .0), omega (arith, l), ap f z ∙ r .2)
+
+pub table-from : (f : ℕ → ℕ) (k n y : ℕ) → List·Memᴰ y (table f 0 n) → (j : ℕ) × (j < n) × (f j ≡ y)
+table-from f k n y h = let r = table-any f 0 n y h in let z : r .0 ≡ 0 + r .0 = omega arith in (r .0, r .1, ap f z ∙ r .2)
+
+pub table-to : (f : ℕ → ℕ) (k n j : ℕ) → j < n → List·Memᴰ (f (k + j)) (table f k n)
+table-to f k zero j l = absurd (omega (arith, l))
+table-to f k (suc n) zero l = let e : k + 0 ≡ k = omega arith in List·Memᴰ·head (ap f e)
+table-to f k (suc n) (suc j) l =
+    let e : suc k + j ≡ k + suc j = omega arith in
+    List·Memᴰ·tail (subst (λ (x : ℕ). List·Memᴰ (f x) (table f (suc k) n)) e (table-to f (suc k) n j (omega (arith, l))))
 
 grow-none : (m st : List ℕ) (d : ℕ) → Grows m st d m st d
 grow-none m st d = record { keeps = λ x h. h; higher = omega arith; same = λ j l. refl; news = λ x h. inl h }
@@ -198,14 +221,14 @@ module _ (ts : List Described) (gs : List ℕ) where
         next : (h : Heap) → Pushes m st d (Marks-to f n) h → Pushes m st d (Marks-to f (suc n)) (pushed h (f n))
         next _ (pushes m′ st′ d′ g′ w p) = last m′ st′ d′ w p (pushed (heap m′ st′ d′) (f n)) (push-good m′ st′ d′ g′ (f n) (r n (omega arith)))
 
-  -- ---- turns
-  pub data Closes : Heap → Type 0 where
-    closes : (m st : List ℕ) (d : ℕ) → Good ts gs m st d → Pending ts m st d → Closes (heap m st d)
+  -- ---- turns. f, n: the ids that were pushed first
+  module _ (b : Btf) (s start : List ℕ) (see : Seen b s start ts) (f : ℕ → ℕ) (n : ℕ) where
+    pub data Closes : Heap → Type 0 where
+      closes : (m st : List ℕ) (d : ℕ) → Good ts gs m st d → Pending ts m st d → Marks-to f n m → Closes (heap m st d)
 
-  module _ (b : Btf) (s start : List ℕ) (see : Seen b s start ts) where
-    turn-closes : (m st : List ℕ) (d : ℕ) → Good ts gs m st (suc d) → Pending ts m st (suc d) → Closes (turned b s start (heap m st (suc d)))
+    turn-closes : (m st : List ℕ) (d : ℕ) → Good ts gs m st (suc d) → Pending ts m st (suc d) → Marks-to f n m → Closes (turned b s start (heap m st (suc d)))
     unfolding turned
-    turn-closes m st d g pend = next (pushedTo (followedId b s start x) (heap m st d) (followedCount b s start x)) (all-good m st d popped (followedId b s start x) (followedCount b s start x) onwards)
+    turn-closes m st d g pend first = next (pushedTo (followedId b s start x) (heap m st d) (followedCount b s start x)) (all-good m st d popped (followedId b s start x) (followedCount b s start x) onwards)
       where
         x : ℕ
         x = getD st d 0
@@ -225,10 +248,10 @@ module _ (ts : List Described) (gs : List ℕ) where
         onwards k l = onward (g .sound x (g .stacked d (omega arith))) (see .to x k l)
 
         next : (h : Heap) → Pushes m st d (Marks-to (followedId b s start x) (followedCount b s start x)) h → Closes h
-        next _ (pushes m′ st′ d′ g′ w p) = closes m′ st′ d′ g′ (λ u h. by u (w .news u h))
+        next _ (pushes m′ st′ d′ g′ w p) = closes m′ st′ d′ g′ (λ u h. by u (w .news u h)) (λ k l q. w .keeps (f k) (first k l q))
           where
             own : Passed ts m′ x
-            own y k q = let f = see .from x y k in subst (Has m′) (f .2) (p (f .0) (f .1) (subst Markable (sym (f .2)) q))
+            own y k q = let r = see .from x y k in subst (Has m′) (r .2) (p (r .0) (r .1) (subst Markable (sym (r .2)) q))
 
             was : (u : ℕ) → OnStack st (suc d) u ⊎ Passed ts m u → OnStack st′ d′ u ⊎ Passed ts m′ u
             was u (inr q) = inr (λ y k v. w .keeps y (q y k v))
@@ -241,3 +264,35 @@ module _ (ts : List Described) (gs : List ℕ) where
             by : (u : ℕ) → Has m u ⊎ OnStack st′ d′ u → OnStack st′ d′ u ⊎ Passed ts m′ u
             by u (inl h) = was u (pend u h)
             by u (inr o) = inl o
+
+    -- the stack is empty in the end
+    pub data Closed : Heap → Type 0 where
+      is-closed : (m st : List ℕ) → Good ts gs m st 0 → Pending ts m st 0 → Marks-to f n m → Closed (heap m st 0)
+
+    pub closed-ends : (k : ℕ) (h : Heap) → weight h ≤ k → Closes h → Closed (closed b s start k h)
+    unfolding closed weight
+    closed-ends zero _ l (closes m st zero g p q) = is-closed m st g p q
+    closed-ends zero _ l (closes m st (suc d) g p q) = absurd (omega (arith, l))
+    closed-ends (suc k) _ l (closes m st zero g p q) = is-closed m st g p q
+    closed-ends (suc k) _ l (closes m st (suc d) g p q) =
+        closed-ends k (turned b s start (heap m st (suc d))) (omega (arith, l, turn-light b s start m st d)) (turn-closes m st d g p q)
+
+    -- what is reached has a mark
+    pub reached-marked : (gs ≡ table f 0 n) → (m st : List ℕ) → Good ts gs m st 0 → Pending ts m st 0 → Marks-to f n m → {x : ℕ} → Reached ts gs x → Markable x → Has m x
+    reached-marked e m st g p q (asked {x = x} k) v = let r = table-from f 0 n x (subst (List·Memᴰ x) e k) in subst (Has m) (r .2) (q (r .0) (r .1) (subst Markable (sym (r .2)) v))
+    reached-marked e m st g p q (onward {x = x} {y = y} r k) v = passed (p x (reached-marked e m st g p q r (in-table x y k))) y k v
+      where
+        passed : OnStack st 0 x ⊎ Passed ts m x → Passed ts m x
+        passed (inl o) = absurd (omega (arith, o .1))
+        passed (inr w) = w
+
+        in-table : (x y : ℕ) → List·Memᴰ y (followedIds (typeOf ts x)) → Markable x
+        in-table zero y k = absurd (List·Memᴰ·not-nil k)
+        in-table (suc i) y k = (omega arith, go (le-or-lt (countOf b) (suc i)))
+          where
+            w : (j : ℕ) × (j < followedCount b s start (suc i)) × (followedId b s start (suc i) j ≡ y)
+            w = see .from (suc i) y k
+
+            go : (countOf b ≤ suc i) ⊎ (suc i < countOf b) → suc i < 262145
+            go (inl q) = absurd (omega (arith, w .1, followed-none b s start (suc i) q))
+            go (inr q) = omega (arith, q, count-fits b)

@@ -8,10 +8,10 @@ use mathlib.Core.Logic.{_⊎_, inl, inr}
 use lib.ListN.{length, getD}
 use lib.Dec.{leb, eqb}
 use Rattle.lent.proofs.Laws.{le-or-lt}
-use Rattle.records.specs.Documentation.{Member, Param, param, Described}
+use Rattle.records.specs.Documentation.{Member, Param, param, Described, described}
 use Rattle.records.specs.Reading.{Bytes, kindTable, none, kind, shape, known}
 use Rattle.records.specs.Places.{kindP, memberP, tabulate, typeP, soundP}
-use Rattle.records.specs.Fields.{kindIn}
+use Rattle.records.specs.Fields.{kindIn, sizeOrType}
 use Rattle.records.specs.Section.{wordOf, typesAt, typeLen, headerSound, typesSound}
 use Rattle.records.proofs.Claims.{section-fields, section-sound-at}
 use Rattle.records.proofs.Fields as F
@@ -27,7 +27,7 @@ use Rattle.header.proofs.Headers.{order-is}
 use Rattle.opening.specs.Table.{describedIn, typesOf, recordPlace, recordKind, indexOf}
 use Rattle.opening.specs.Causes.{tableOf}
 use Rattle.opening.proofs.Index.{types-few, table-count, followed-place, followed-kind}
-use Rattle.cut.specs.Kept.{memberIds, paramIds, followedIds, voidType, typeOf}
+use Rattle.cut.specs.Kept.{memberIds, paramIds, followedIds, voidType, typeOf, third}
 use Rattle.reopened.specs.Seen.{Seen}
 
 get-past : {A : Type 0} (l : List A) (i : ℕ) (d : A) → length l ≤ i → getD l i d ≡ d
@@ -108,6 +108,10 @@ module _ (c : Btf) (s : List ℕ) (at : ℕ) where
       (λ e h. ap followedIds (F.type-ENUM64 w at e))
       (λ k l e h. absurd (true≢false (sym (sym (ap (λ n. known (shape n)) (get-past kindTable k none l)) ∙ h))))
 
+third-is : (t : Described) → sizeOrType t ≡ third t
+unfolding sizeOrType
+third-is (described n f z body) = refl
+
 and-one : (a b : Bool) → (a && b) ≡ true → (a ≡ true) × (b ≡ true)
 and-one true b h = (refl, h)
 and-one false b h = absurd (true≢false (sym h))
@@ -158,6 +162,14 @@ module _ (p : ℕ) (s : List ℕ) (y : Bytes s) (h : headerSound s ≡ true) (t 
     unfolding recordKind kindP
     kind-in = sym (F.kind-word (wordOf s) (recordPlace s i) known-at) ∙ ap kindIn type-at
 
+    third-at : sectionWord c s (placeOf c (indexOf s) (suc i) + 8) ≡ third (getD ts i voidType)
+    third-at =
+        ap (λ (p : ℕ). sectionWord c s (p + 8)) place-at
+        ∙ ap (λ (w : ℕ → ℕ). w (recordPlace s i + 8)) reads
+        ∙ sym (F.size-word (wordOf s) (recordPlace s i))
+        ∙ ap sizeOrType type-at
+        ∙ third-is (getD ts i voidType)
+
     ids-at : followedIds (getD ts i voidType) ≡ tabulate (followedId c s (indexOf s) (suc i)) 0 (followedCount c s (indexOf s) (suc i))
     unfolding followedId followedCount recordKind kindP
     ids-at =
@@ -198,4 +210,4 @@ module _ (p : ℕ) (s : List ℕ) (y : Bytes s) (h : headerSound s ≡ true) (t 
 
   -- the table that opening tests is that of the described types
   pub seen : Seen (tableOf p s) s (indexOf s) (describedIn s)
-  seen = record { count = counted; zero-kind = zero-at; kind = λ i l. kind-at i l ∙ kind-in i l; to = to-ids; from = from-ids }
+  seen = record { count = counted; zero-kind = zero-at; kind = λ i l. kind-at i l ∙ kind-in i l; third-word = third-at; to = to-ids; from = from-ids }
