@@ -6,12 +6,12 @@ use native.Mathlib.Nat.{mul-le-mul-right}
 use mathlib.Core.Path.{_≡_, refl, sym, _∙_, ap, ap₂, subst}
 use mathlib.Core.Bool.{Bool, true, false, not, true≢false}
 use mathlib.Core.List.{List, [], _∷_, _++_}
-use lib.ListN.{length, getD, set, drop, length-drop}
+use lib.ListN.{length, getD, set, drop, length-drop, length-append}
 use lib.Seq.{drop-cons}
 use lib.Dec.{ltb, eqb}
 use borrow.Author.Tests.{eq-eqb, ne-eqb, lt-ltb, le-ltb}
-use Rattle.lent.specs.Text.{ascii, whole, putOut, putText}
-use Rattle.lent.proofs.TextLaws.{put-seq, put-same, put-empty}
+use Rattle.lent.specs.Text.{ascii, whole, bytes, putOut, written, putText}
+use Rattle.lent.proofs.TextLaws.{put-fits, went, put-seq, put-empty}
 use Rattle.rules.specs.Types.{isEmpty}
 use Rattle.rules.specs.Names.{sameBytes}
 use Rattle.btf.specs.declared.types.Btf.{Btf}
@@ -20,7 +20,8 @@ use Rattle.btf.specs.Names.{upToZero, nameAt, strAt}
 use Rattle.followed.specs.Followed.{countOf, entryAt}
 use Rattle.cutting.specs.Words.{digitAt, fixedWords, entryWords, roles, column, role, wordsIn, wordOf}
 use Rattle.cutting.specs.Names.{isName, orName, namedTo, firstFrom, mentions, orMentions, mentionedTo, isNew, newSize, newSizes, recordSize, baseOf, basesTo, placeAt, placeFrom, placeOf}
-use Rattle.cutting.specs.Bytes.{wordBytes, magicBytes, headBytes, typeSize, typesSize, newWord, recordBytes, typeBytes, typesBytes, nameBytes, namesBytes, ownBytes, newsBytes, stringsBytes}
+use Rattle.cutting.specs.Bytes.{wordBytes, magicBytes, headBytes, typeSize, typesSize, newWord, recordBytes, typeBytes, typesBytes, nameBytes, namesBytes, ownBytes, newsBytes, stringsBytes, allBytes, Wrote, wroteOf, zeroBases, fittingWritten, keptWritten}
+use Rattle.cutting.proofs.Sizes.{head-length, types-length, strings-length}
 
 get-past : (l : List ℕ) (i d : ℕ) → length l ≤ i → getD l i d ≡ d
 get-past [] i d h = refl
@@ -556,3 +557,70 @@ pub magic-little : (t : List ℕ) (at : ℕ) (big : Bool) (v p : ℕ) (u : List 
     → putOut r u′ ≡ putText t at (whole (magicBytes big v))
 unfolding magicBytes
 magic-little t at big v p u r u′ e h g = put-seq t at _ _ p u r u′ h g ∙ ap (λ (q : Bool). putText t at (whole (magicBytes q v))) (sym e)
+
+-- ---- the whole
+module _ (b : Btf) (s start ids : List ℕ) where
+  pub all-put : (bases t : List ℕ) (types strings f : ℕ) (p : ℕ) (u : List ℕ) (q : ℕ) (v : List ℕ) (r : ℕ) (w : List ℕ) → f ≡ getD s 3 0 → putOut p u ≡ putText t 0 (whole (headBytes (b .«big_endian») f types strings))
+      → putOut q v ≡ putText u p (whole (typesBytes b s start ids bases (countOf b))) → putOut r w ≡ putText v q (whole (stringsBytes b s start ids (countOf b)))
+      → putOut r w ≡ putText t 0 (whole (allBytes b s start ids bases types strings))
+  unfolding allBytes
+  all-put bases t types strings f p u q v r w e h g k =
+      put-seq t 0 (headBytes (b .«big_endian») (getD s 3 0) types strings ++ typesBytes b s start ids bases (countOf b)) (stringsBytes b s start ids (countOf b)) q v r w
+      (put-seq t 0 (headBytes (b .«big_endian») (getD s 3 0) types strings) (typesBytes b s start ids bases (countOf b)) p u q v (h ∙ ap (λ (z : ℕ). putText t 0 (whole (headBytes (b .«big_endian») z types strings))) e) g) k
+
+  all-length : (bases : List ℕ) (types strings : ℕ) → types ≡ typesSize b s start ids (countOf b) → strings ≡ baseOf b s start ids (countOf b) → length (allBytes b s start ids bases types strings) ≡ 24 + types + strings
+  unfolding allBytes
+  all-length bases types strings e f =
+      let big : Bool = b .«big_endian» in
+      let x : List ℕ = headBytes big (getD s 3 0) types strings in
+      let y : List ℕ = typesBytes b s start ids bases (countOf b) in
+      let z : List ℕ = stringsBytes b s start ids (countOf b) in
+      length-append (x ++ y) z ∙ ap (λ (k : ℕ). k + length z) (length-append x y)
+      ∙ (λ i. head-length big (getD s 3 0) types strings i + (types-length b s start ids bases (countOf b) ∙ sym e) i + (strings-length b s start ids (countOf b) ∙ sym f) i)
+
+  -- what is written where there is room
+  whole-put : (t a : List ℕ) (r : ℕ) (u : List ℕ) → length a ≤ length t → putOut r u ≡ putText t 0 (whole a) → u ≡ a ++ drop (length a) t
+  unfolding written bytes
+  whole-put t a r u l h =
+      let z : 0 + length a ≡ length a = omega arith in
+      let g : putText t 0 (whole a) ≡ written t 0 (whole a) = put-fits t 0 (whole a) (omega (arith, l)) in
+      went u r (a ++ drop (0 + length a) t) (0 + length a) (h ∙ g) .0 ∙ ap (λ (k : ℕ). a ++ drop k t) z
+
+  module _ (bases : List ℕ) (types strings : ℕ) (out : List ℕ) where
+    pub fit-over : 16777216 < 24 + types + strings → wroteOf 0 out ≡ fittingWritten b s start ids bases types strings out
+    unfolding fittingWritten
+    fit-over h = rw (lt-ltb 16777216 (24 + types + strings) h, fittingWritten)
+
+    module _ (l : 24 + types + strings ≤ 16777216) where
+      pub fit-short : length out < 24 + types + strings → wroteOf 0 out ≡ fittingWritten b s start ids bases types strings out
+      unfolding fittingWritten
+      fit-short h = rw (le-ltb 16777216 (24 + types + strings) l, fittingWritten, lt-ltb (length out) (24 + types + strings) h)
+
+      pub fit-is : 24 + types + strings ≤ length out → types ≡ typesSize b s start ids (countOf b) → strings ≡ baseOf b s start ids (countOf b) → (r : ℕ) (u : List ℕ)
+          → putOut r u ≡ putText out 0 (whole (allBytes b s start ids bases types strings)) → wroteOf (24 + types + strings) u ≡ fittingWritten b s start ids bases types strings out
+      unfolding fittingWritten
+      fit-is h e f r u p =
+          let n = all-length bases types strings e f in
+          ap (wroteOf (24 + types + strings)) (whole-put out (allBytes b s start ids bases types strings) r u (omega (arith, h, n)) p ∙ ap (λ (k : ℕ). allBytes b s start ids bases types strings ++ drop k out) n)
+          ∙ rw (le-ltb 16777216 (24 + types + strings) l, fittingWritten, le-ltb (length out) (24 + types + strings) h)
+
+  module _ (out : List ℕ) where
+    pub kept-long : 16777216 < length s → wroteOf 0 out ≡ keptWritten b s start ids out
+    unfolding keptWritten
+    kept-long h = rw (lt-ltb 16777216 (length s) h, keptWritten)
+
+    module _ (l : length s ≤ 16777216) (strings : ℕ) (e : strings ≡ baseOf b s start ids (countOf b)) where
+      pub kept-strings : 16777216 < strings → wroteOf 0 out ≡ keptWritten b s start ids out
+      unfolding keptWritten
+      kept-strings h = rw (le-ltb 16777216 (length s) l, keptWritten, lt-ltb 16777216 (baseOf b s start ids (countOf b)) (omega (arith, h, e)))
+
+      module _ (k : strings ≤ 16777216) (types : ℕ) (f : types ≡ typesSize b s start ids (countOf b)) where
+        pub kept-types : 16777216 < types → wroteOf 0 out ≡ keptWritten b s start ids out
+        unfolding keptWritten
+        kept-types h = rw (le-ltb 16777216 (length s) l, keptWritten, le-ltb 16777216 (baseOf b s start ids (countOf b)) (omega (arith, k, e)), lt-ltb 16777216 (typesSize b s start ids (countOf b)) (omega (arith, h, f)))
+
+        pub kept-is : types ≤ 16777216 → (bases : List ℕ) → bases ≡ basesTo b s start ids zeroBases (countOf b) → (w : Wrote) → w ≡ fittingWritten b s start ids bases types strings out → w ≡ keptWritten b s start ids out
+        unfolding keptWritten
+        kept-is h bases g w p =
+            p ∙ (λ i. fittingWritten b s start ids (g i) (f i) (e i) out)
+            ∙ rw (le-ltb 16777216 (length s) l, keptWritten, le-ltb 16777216 (baseOf b s start ids (countOf b)) (omega (arith, k, e)), le-ltb 16777216 (typesSize b s start ids (countOf b)) (omega (arith, h, f)))

@@ -2,13 +2,13 @@
 use Prim.Native.Nat.{ℕ, zero, suc, _+_, _*_, _%_, _/_}
 use mathlib.Core.Bool.{Bool, true, false}
 use mathlib.Core.List.{List, [], _∷_, _++_}
-use lib.ListN.{length, getD}
-use lib.Dec.{eqb}
+use lib.ListN.{length, getD, drop, replicate}
+use lib.Dec.{ltb, eqb}
 use Rattle.btf.specs.declared.types.Btf.{Btf}
 use Rattle.btf.specs.Names.{strAt}
-use Rattle.followed.specs.Followed.{entryAt}
+use Rattle.followed.specs.Followed.{countOf, entryAt}
 use Rattle.cutting.specs.Words.{role, wordsIn, wordOf}
-use Rattle.cutting.specs.Names.{isNew, placeOf}
+use Rattle.cutting.specs.Names.{isNew, placeOf, baseOf, basesTo}
 
 -- a word in four bytes, the most significant first where `big`
 unfoldable pub wordBytes : Bool → ℕ → List ℕ
@@ -71,3 +71,40 @@ module _ (b : Btf) (s start ids : List ℕ) where
   -- "After the leading 0 each distinct name"
   unfoldable pub stringsBytes : ℕ → List ℕ
   stringsBytes x = (0 ∷ []) ++ newsBytes x
+
+  -- the whole section; types and strings: the lengths of the two
+  unfoldable pub allBytes : List ℕ → ℕ → ℕ → List ℕ
+  allBytes bases types strings = (headBytes (b .«big_endian») (getD s 3 0) types strings ++ typesBytes bases (countOf b)) ++ stringsBytes (countOf b)
+
+-- the length written, and the output slice
+pub data Wrote : Type 0 where
+  wroteOf : ℕ → List ℕ → Wrote
+
+-- void and as many types as there may be
+unfoldable pub zeroBases : List ℕ
+zeroBases = replicate 262145 0
+
+module _ (b : Btf) (s start ids : List ℕ) where
+  -- "23 when the output slice is short or the new section would pass 16,777,216 bytes; nothing is written"; "0 when refused; the rest of the slice .. never altered"
+  unfoldable pub fittingWritten : List ℕ → ℕ → ℕ → List ℕ → Wrote
+  fittingWritten bases types strings out =
+      elim (ltb 16777216 (24 + types + strings)) [
+        | true ↦ wroteOf 0 out
+        | false ↦ elim (ltb (length out) (24 + types + strings)) [
+          | true ↦ wroteOf 0 out
+          | false ↦ wroteOf (24 + types + strings) (allBytes b s start ids bases types strings ++ drop (24 + types + strings) out)
+        ]
+      ]
+
+  unfoldable pub keptWritten : List ℕ → Wrote
+  keptWritten out =
+      elim (ltb 16777216 (length s)) [
+        | true ↦ wroteOf 0 out
+        | false ↦ elim (ltb 16777216 (baseOf b s start ids (countOf b))) [
+          | true ↦ wroteOf 0 out
+          | false ↦ elim (ltb 16777216 (typesSize b s start ids (countOf b))) [
+            | true ↦ wroteOf 0 out
+            | false ↦ fittingWritten (basesTo b s start ids zeroBases (countOf b)) (typesSize b s start ids (countOf b)) (baseOf b s start ids (countOf b)) out
+          ]
+        ]
+      ]

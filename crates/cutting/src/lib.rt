@@ -2,3 +2,5 @@
 mod names;
 mod words;
 mod write;
+
+pub use write::write_kept;

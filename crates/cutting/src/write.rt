@@ -1,4 +1,5 @@
 // Writing the new section.
+use crate::names::fill_bases;
 use crate::names::is_new;
 use crate::names::peek;
 use crate::names::place_of;
@@ -14,11 +15,12 @@ use lent::put_two;
 ghost use mathlib.Core.Path.{_≡_};
 ghost use mathlib.Core.List.{[], _∷_};
 ghost use Prim.Native.Nat.{_≤_};
-ghost use lib.ListN.{length};
+ghost use lib.ListN.{length, getD};
 ghost use Rattle.lent.specs.Text.{whole, putOut, putText};
 ghost use Rattle.followed.specs.Followed.{countOf, entryAt};
 ghost use Rattle.cutting.specs.Words.{wordsIn};
-ghost use Rattle.cutting.specs.Bytes.{wordBytes, magicBytes, headBytes, typeSize, typesSize, newWord, recordBytes, typeBytes, typesBytes, nameBytes, namesBytes, ownBytes, newsBytes, stringsBytes};
+ghost use Rattle.cutting.specs.Names.{baseOf};
+ghost use Rattle.cutting.specs.Bytes.{wordBytes, magicBytes, headBytes, typeSize, typesSize, newWord, recordBytes, typeBytes, typesBytes, nameBytes, namesBytes, ownBytes, newsBytes, stringsBytes, allBytes, wroteOf, fittingWritten, keptWritten};
 
 // A word, the most significant byte first where `big`.
 fn put_word(out: &mut [u8], at: usize, big: bool, v: u32) -> usize
@@ -259,4 +261,86 @@ pub fn put_strings(
 {
     let p = put_byte(out, at, 0);
     put_news(b, section, start, ids, out, p)
+}
+
+// Header, types and strings.
+fn put_all(
+    b: Btf,
+    section: &[u8],
+    start: &[u32],
+    ids: &[u32],
+    bases: &[u32],
+    types: u32,
+    strings: u32,
+    out: &mut [u8],
+) -> usize
+    requires { ⌜ length (now section) ≤ 16777216 ⌝ }
+    ensures { λ r. ⌜ putOut r (now (out .exit)) ≡ putText (now (out .entry)) 0 (whole (allBytes b (now (section .entry)) (now (start .entry)) (now (ids .entry)) (now (bases .entry)) types strings)) ⌝ }
+{
+    let flags = byte_at(section, 3);
+    let p = put_head(out, b.big_endian, flags, types, strings);
+    let q = put_types(b, section, start, ids, bases, out, p);
+    put_strings(b, section, start, ids, out, q)
+}
+
+fn byte_at(l: &[u8], i: usize) -> u8
+    ensures { λ r. ⌜ r ≡ getD (now (l .entry)) i 0 ⌝ }
+{
+    if i < l.len() {
+        return l[i];
+    }
+    0
+}
+
+// Measures first: 0 and nothing written, where the output slice is short or the section would pass 16,777,216 bytes; else
+// the length written. The rest of the slice stays.
+pub fn write_kept(b: Btf, section: &[u8], start: &[u32], ids: &[u32], out: &mut [u8]) -> u64
+    ensures { λ r. ⌜ wroteOf r (now (out .exit)) ≡ keptWritten b (now (section .entry)) (now (start .entry)) (now (ids .entry)) (now (out .entry)) ⌝ }
+{
+    if 16777216 < section.len() {
+        return 0;
+    }
+    let mut bases = [0u32; 262145];
+    let strings = fill_bases(b, section, start, ids, &mut bases);
+    let types = types_size(b, section, start, ids);
+    if 16777216 < strings {
+        return 0;
+    }
+    if 16777216 < types {
+        return 0;
+    }
+    write_fitting(
+        b,
+        section,
+        start,
+        ids,
+        &bases,
+        types as u32,
+        strings as u32,
+        out,
+    )
+}
+
+fn write_fitting(
+    b: Btf,
+    section: &[u8],
+    start: &[u32],
+    ids: &[u32],
+    bases: &[u32],
+    types: u32,
+    strings: u32,
+    out: &mut [u8],
+) -> u64
+    requires { ⌜ (length (now section) ≤ 16777216) × (types ≤ 16777216) × (strings ≤ 16777216) × (types ≡ typesSize b (now section) (now start) (now ids) (countOf b)) × (strings ≡ baseOf b (now section) (now start) (now ids) (countOf b)) ⌝ }
+    ensures { λ r. ⌜ wroteOf r (now (out .exit)) ≡ fittingWritten b (now (section .entry)) (now (start .entry)) (now (ids .entry)) (now (bases .entry)) types strings (now (out .entry)) ⌝ }
+{
+    let len = 24 + types + strings;
+    if 16777216 < len {
+        return 0;
+    }
+    if out.len() < (len as usize) {
+        return 0;
+    }
+    put_all(b, section, start, ids, bases, types, strings, out);
+    len as u64
 }
