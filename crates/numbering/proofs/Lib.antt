@@ -2,3 +2,4 @@
 pub mod Claims
 pub mod Marks
 pub mod Numbers
+mod Examples
