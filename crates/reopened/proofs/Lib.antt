@@ -5,3 +5,4 @@ pub mod Causes
 pub mod Accepts
 pub mod Strings
 pub mod Reopened
+pub mod Work
