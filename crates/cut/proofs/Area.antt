@@ -54,7 +54,7 @@ unfolding addAll nameAt
 add-all-sound old a [] ss h = h
 add-all-sound old a (n ∷ ns) ss h = add-all-sound old a ns (addName ss (nameAt old n)) (add-sound ss (nameAt old n) h (name-ascii (drop n old) (drop-ascii n old a)))
 
-sound-ascii : (a : List ℕ) → stringsSound a ≡ true → allAscii a ≡ true
+pub sound-ascii : (a : List ℕ) → stringsSound a ≡ true → allAscii a ≡ true
 unfolding stringsSound
 sound-ascii a h =
     let p = and-both (leb 1 (length a)) (eqb (getD a 0 1) 0 && (eqb (lastOf 1 a) 0 && allAscii a)) h in

@@ -7,11 +7,13 @@ use mathlib.Core.List.{List, [], _∷_, List·Memᴰ, List·Memᴰ·not-nil}
 use lib.ListN.{length, getD}
 use Rattle.records.specs.Documentation.{int, ptr, array, struct, union, enum, fwd, typedef, volatile, const, restrict, func, func-proto, var, datasec, float, decl-tag, type-tag, enum64, Described, described, encodeStrings}
 use Rattle.records.specs.Section.{stringArea}
-use Rattle.rules.specs.Types.{Name, Btf as Rules}
-use Rattle.rules.specs.Machine.{Req}
+use Rattle.rules.specs.Types.{Name, Btf as Rules, tableOf}
+use Rattle.rules.specs.Names.{Names}
+use Rattle.rules.specs.Machine.{Sess, Req, single}
 use Rattle.btf.specs.declared.types.Btf.{Btf}
 use Rattle.btf.specs.Names.{nameAt, strAt}
-use Rattle.demand.specs.Session.{dumpTypes}
+use Rattle.demand.specs.Lists.{Ls}
+use Rattle.demand.specs.Session.{Known, machine, opened, dumpTypes}
 use Rattle.cut.specs.Kept.{followedIds, voidType, typeOf, Reached, asked, onward, isDeclTag, third, Kept, reached, its-tag, Tells}
 use Rattle.cut.specs.Renumbered.{newId, keptTypes, keptTo}
 use Rattle.cut.specs.Strings.{mentions, allMentions, firstNames}
@@ -21,7 +23,8 @@ use Rattle.cut.specs.Table.{Reads}
 use Rattle.cut.proofs.Numbers.{Stays, is-void, is-kept, type-at, new-below, new-kept}
 use Rattle.cut.proofs.Names.{all-has, mention-in, name-no-zero, name-placed, place-below}
 use Rattle.cut.proofs.Tables.{Number, cut-stands}
-use Rattle.cut.proofs.Sessions.{same-dump}
+use Rattle.cut.proofs.Steps.{BothSess, BothAnswer}
+use Rattle.cut.proofs.Sessions.{SameState, opened-same, request-same, same-dump}
 
 tag-follows : (t : Described) → isDeclTag t ≡ true → (y : ℕ) → List·Memᴰ y (followedIds t) → ⊥
 tag-follows (described n f z (int v a c d e g)) h y k = true≢false (sym h)
@@ -114,3 +117,19 @@ module _ (given : List ℕ) (m : ℕ → Bool) (s s′ : List ℕ) (b b′ : Btf
 
   pub same-answers : {rs rs′ : List Req} → Renumbered NewNumber rs rs′ → dumpTypes B rs ≡ dumpTypes B′ rs′
   same-answers {rs} {rs′} r = same-dump B (B′ .type-cnt) (B′ .type-by-id) (B′ .decl-tags) NewNumber stands r ∙ ap (λ (C : Rules). dumpTypes C rs′) settings
+
+  -- the same, request by request: two sessions of the rules that go alike
+  abbrev pub SameStates : Ls (Known Names) → Ls (Known Names) → Type 0
+  SameStates t t′ = SameState B (B′ .type-cnt) (B′ .type-by-id) (B′ .decl-tags) NewNumber stands t t′
+
+  abbrev pub Alike : Sess (Ls (Known Names)) → Sess (Ls (Known Names)) → Type 0
+  Alike S S′ = BothSess SameStates NewNumber S S′
+
+  pub opened-alike : Alike (opened B) (opened B′)
+  opened-alike = subst (λ (C : Rules). Alike (opened B) (opened C)) settings (opened-same B (B′ .type-cnt) (B′ .type-by-id) (B′ .decl-tags) NewNumber stands)
+
+  pub request-alike : (S S′ : Sess (Ls (Known Names))) → Alike S S′ → (room x x′ : ℕ) → NewNumber x x′
+      → BothAnswer SameStates NewNumber (single (machine B) (tableOf B) room S x) (single (machine B′) (tableOf B′) room S′ x′)
+  request-alike S S′ h room x x′ i =
+      subst (λ (C : Rules). BothAnswer SameStates NewNumber (single (machine B) (tableOf B) room S x) (single (machine C) (tableOf C) room S′ x′)) settings
+      (request-same B (B′ .type-cnt) (B′ .type-by-id) (B′ .decl-tags) NewNumber stands S S′ h room x x′ i)

@@ -9,3 +9,5 @@ pub mod Tables
 pub mod Claims
 pub mod Written
 pub mod Area
+pub mod Test
+mod Examples

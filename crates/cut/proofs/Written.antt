@@ -137,7 +137,7 @@ module _ (i o : ℕ → ℕ) (sl : ℕ) (small : sl ≤ 4294967296) (low : (x : 
 
 -- ---- all of them
 
-every-kept : (P : Described → Type 0) (m : ℕ → Bool) (x : ℕ) (ts : List Described) → Every P ts → Every P (keptTypes m x ts)
+pub every-kept : (P : Described → Type 0) (m : ℕ → Bool) (x : ℕ) (ts : List Described) → Every P ts → Every P (keptTypes m x ts)
 unfolding keptTypes
 every-kept P m x [] h = tt
 every-kept P m x (t ∷ ts) h = go (m x) (every-kept P m (suc x) ts (h .1))
@@ -163,7 +163,7 @@ all-allowed i o sl small low (t ∷ ts) p h = (
   all-allowed i o sl small low ts (λ n k. p n (mem-two (mentions t) (allMentions ts) n k)) (h .1),
 )
 
-just-fits : (sl : ℕ) (ts : List Described) → Every (Allowed sl) ts → Every Fits ts
+pub just-fits : (sl : ℕ) (ts : List Described) → Every (Allowed sl) ts → Every Fits ts
 just-fits sl [] h = tt
 just-fits sl (t ∷ ts) h = (h .0 .0, just-fits sl ts (h .1))
 

@@ -4,3 +4,4 @@ pub mod Strings
 pub mod Section
 pub mod Stands
 pub mod Table
+pub mod Test

@@ -1,0 +1,65 @@
+use Rattle.cutting.proofs.Laws.{from-start, from-here, from-on, from-none}
+use Rattle.cutting.specs.Names.{placeFrom}
+use native.Mathlib.Omega.{arith}
+use mathlib.Core.Path.{_≡_, refl, _∙_}
+use Prim.Native.Nat.{_-_, _≤_}
+use borrow.Author.Needs.{needs}
+use Rattle.cutting.proofs.names.place_from.Statement.{statement}
+use Rattle.cutting.proofs.names.place_from.Tie as tie
+use Rattle.cutting.proofs.names.place_from.Reads as reads
+use Rattle.cutting.proofs.names.place_from.Lts as lts
+use Rattle.cutting.proofs.names.place_at.Reads as place-at-reads
+use Rattle.followed.proofs.count.Reads as count-reads
+
+abbrev Inv-loop : tie.InvT-loop
+Inv-loop b section start ids bases off n x₀ x = (placeFrom b section start ids bases off 0 n ≡ placeFrom b section start ids bases off x (n - x)) × (x ≤ n)
+
+abbrev μ-loop : tie.MeasureT-loop
+μ-loop b section start ids bases off n x₀ x = n - x
+
+-- src/names.rt:237:9
+count-requires : tie.Need-count-requires Inv-loop μ-loop
+count-requires c κs = search needs
+
+-- src/names.rt:239:5
+loop-holds : tie.Need-loop-holds Inv-loop μ-loop
+loop-holds c = (from-start _ _ _ _ _ _ _, omega arith)
+
+-- src/names.rt:240:13
+place-at-requires : tie.Need-place-at-requires Inv-loop μ-loop
+place-at-requires c κs = c .before .before .before .before .before .before .before .pre
+
+-- src/names.rt:242:13
+returns : tie.Need-returns Inv-loop μ-loop
+returns c = from-here _ _ _ _ _ _ _ _ (c .before .before .loop-test .taken) (c .before .before .before .loop .inv .0) _ (c .before .place-at .ensures) (c .if1 .taken) (c .before .before .before .before .count .ensures)
+
+-- src/names.rt:244:9
+add-x : tie.Need-add-x Inv-loop μ-loop
+add-x c = omega arith
+
+-- src/names.rt:239:5
+loop-less : tie.Need-loop-less Inv-loop μ-loop
+loop-less c = omega arith
+
+-- src/names.rt:239:5
+loop-again : tie.Need-loop-again Inv-loop μ-loop
+loop-again c = (from-on _ _ _ _ _ _ _ _ (c .before .before .loop-test .taken) (c .before .before .before .loop .inv .0) _ (c .before .place-at .ensures) (c .if1 .left), omega arith)
+
+-- src/names.rt:233:1
+returns-2 : tie.Need-returns-2 Inv-loop μ-loop
+returns-2 c = from-none _ _ _ _ _ _ _ _ (c .loop-test .left) (c .before .loop .inv .0) (c .before .before .count .ensures)
+
+pub place-from-spec : {M : Type 1} → statement M
+place-from-spec =
+    tie.close
+    (tie.spec
+    Inv-loop
+    μ-loop
+    count-requires
+    loop-holds
+    place-at-requires
+    returns
+    add-x
+    loop-less
+    loop-again
+    returns-2)

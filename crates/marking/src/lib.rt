@@ -1,0 +1,179 @@
+// Which types are kept, and their new numbers. Marks are closed over followed ids: each id is marked once and put on a stack
+// once, so every reference is looked at once. Then the declaration tags of what is marked, then the numbers in old order.
+use btf::Btf;
+use btf::word;
+use followed::count;
+use followed::count_at;
+use followed::entry;
+use followed::id_at;
+use followed::kind_at;
+use lent::get_word;
+ghost use mathlib.Core.Path.{_≡_};
+ghost use Prim.Native.Nat.{_/_, _<_};
+ghost use lib.ListN.{length, getD};
+ghost use Rattle.lent.specs.Words.{getWord};
+ghost use Rattle.followed.specs.Followed.{countOf, followedCount, followedId};
+ghost use Rattle.marking.specs.Marks.{heap, pushed, pushedTo, weight, closed, tagOn, taggedAt, taggedTo, numbered, numberedAt, numbersOf, idsOf};
+
+// Word i, and 0 past the end.
+fn peek(l: &[u32], i: usize) -> u32
+    ensures { λ r. ⌜ r ≡ getD (now (l .entry)) i 0 ⌝ }
+{
+    if i < l.len() {
+        return l[i];
+    }
+    0
+}
+
+// Marks y and puts it on the stack, if it has no mark; void has none.
+fn push(marks: &mut [u32], stack: &mut [u32], d: usize, y: u32) -> usize
+    ensures { λ r. ⌜ heap (now (marks .exit)) (now (stack .exit)) r ≡ pushed (heap (now (marks .entry)) (now (stack .entry)) d) y ⌝ }
+{
+    let at = y as usize;
+    if at == 0 {
+        return d;
+    }
+    if marks.len() <= at {
+        return d;
+    }
+    if stack.len() <= d {
+        return d;
+    }
+    if marks[at] != 0 {
+        return d;
+    }
+    marks[at] = 1;
+    stack[d] = y;
+    d + 1
+}
+
+// What type x follows.
+fn push_followed(
+    b: Btf,
+    section: &[u8],
+    start: &[u32],
+    marks: &mut [u32],
+    stack: &mut [u32],
+    d: usize,
+    x: u32,
+) -> usize
+    ensures { λ r. ⌜ heap (now (marks .exit)) (now (stack .exit)) r ≡ pushedTo (followedId b (now (section .entry)) (now (start .entry)) x) (heap (now (marks .entry)) (now (stack .entry)) d) (followedCount b (now (section .entry)) (now (start .entry)) x) ⌝ }
+{
+    let e = entry(b, start, x);
+    let kind = e % 32;
+    let at = e / 32;
+    let n = count_at(b, section, kind, at);
+    let mut top = d;
+    let mut k: u32 = 0;
+    while k < n {
+        top = push(marks, stack, top, id_at(b, section, kind, at, k));
+        k += 1;
+    }
+    top
+}
+
+// Until the stack is empty: the last id is taken from it, and what it follows is marked.
+fn close(b: Btf, section: &[u8], start: &[u32], marks: &mut [u32], stack: &mut [u32], d: usize)
+    ensures { λ _. ⌜ heap (now (marks .exit)) (now (stack .exit)) 0 ≡ closed b (now (section .entry)) (now (start .entry)) (weight (heap (now (marks .entry)) (now (stack .entry)) d)) (heap (now (marks .entry)) (now (stack .entry)) d) ⌝ }
+{
+    let mut top = d;
+    while top > 0 {
+        let x = peek(stack, top - 1);
+        top = push_followed(b, section, start, marks, stack, top - 1, x);
+    }
+}
+
+// The given ids, four bytes each, least significant first.
+fn push_given(given: &[u8], marks: &mut [u32], stack: &mut [u32]) -> usize
+    ensures { λ r. ⌜ heap (now (marks .exit)) (now (stack .exit)) r ≡ pushedTo (getWord (now (given .entry))) (heap (now (marks .entry)) (now (stack .entry)) 0) (length (now (given .entry)) / 4) ⌝ }
+{
+    let n = given.len() / 4;
+    let mut top: usize = 0;
+    let mut k: usize = 0;
+    while k < n {
+        top = push(marks, stack, top, get_word(given, k));
+        k += 1;
+    }
+    top
+}
+
+// What the DECL_TAG x is on, where that is no DECL_TAG; else 0.
+fn tag_on(b: Btf, section: &[u8], start: &[u32], x: u32) -> u32
+    ensures { λ r. ⌜ r ≡ tagOn b (now (section .entry)) (now (start .entry)) x ⌝ }
+{
+    let e = entry(b, start, x);
+    if e % 32 != 17 {
+        return 0;
+    }
+    let t = word(b, section, ((e / 32) as usize) + 8);
+    if kind_at(b, start, t) == 17 {
+        return 0;
+    }
+    t
+}
+
+// Marks x, if it is a tag on what is marked.
+fn mark_tag(b: Btf, section: &[u8], start: &[u32], marks: &mut [u32], x: u32)
+    ensures { λ _. ⌜ now (marks .exit) ≡ taggedAt b (now (section .entry)) (now (start .entry)) (now (marks .entry)) x ⌝ }
+{
+    let t = tag_on(b, section, start, x);
+    if t == 0 {
+        return;
+    }
+    if peek(marks, t as usize) == 0 {
+        return;
+    }
+    let at = x as usize;
+    if at < marks.len() {
+        marks[at] = 1;
+    }
+}
+
+fn mark_tags(b: Btf, section: &[u8], start: &[u32], marks: &mut [u32])
+    ensures { λ _. ⌜ now (marks .exit) ≡ taggedTo b (now (section .entry)) (now (start .entry)) (now (marks .entry)) (countOf b) ⌝ }
+{
+    let n = count(b);
+    let mut x: u32 = 0;
+    while x < n {
+        mark_tag(b, section, start, marks, x);
+        x += 1;
+    }
+}
+
+// The number after c for x, if x has a mark.
+fn number_one(ids: &mut [u32], x: usize, c: u32) -> u32
+    requires { ⌜ c < 4294967295 ⌝ }
+    ensures { λ r. ⌜ numbered (now (ids .exit)) r ≡ numberedAt (numbered (now (ids .entry)) c) x ⌝ }
+{
+    if peek(ids, x) == 0 {
+        return c;
+    }
+    if ids.len() <= x {
+        return c;
+    }
+    ids[x] = c + 1;
+    c + 1
+}
+
+// "ids renumbered in old order": each mark becomes a number.
+fn number(ids: &mut [u32])
+    ensures { λ _. ⌜ now (ids .exit) ≡ numbersOf (now (ids .entry)) ⌝ }
+{
+    let mut c: u32 = 0;
+    let mut x: usize = 0;
+    while x < 262145 {
+        c = number_one(ids, x, c);
+        x += 1;
+    }
+}
+
+// For each id its new number, and 0 for what is not kept. The ids lent are zeros, 262145 of them; other words count as marks.
+pub fn number_kept(b: Btf, section: &[u8], start: &[u32], given: &[u8], ids: &mut [u32])
+    ensures { λ _. ⌜ now (ids .exit) ≡ idsOf b (now (section .entry)) (now (start .entry)) (now (given .entry)) (now (ids .entry)) ⌝ }
+{
+    let mut stack = [0u32; 262145];
+    let d = push_given(given, ids, &mut stack);
+    close(b, section, start, ids, &mut stack, d);
+    mark_tags(b, section, start, ids);
+    number(ids);
+}

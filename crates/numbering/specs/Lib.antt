@@ -1,0 +1,2 @@
+-- What the marks keep while they are closed over followed ids.
+pub mod Marked
