@@ -1,7 +1,7 @@
 #!/usr/bin/env python3
 """words.py LIBRARY: the fixed words of the text in a built static library.
 
-Each stands once, in the table of crates/lent/src/fixed.rt, which has at most 512 bytes; none stands in other read-only
+Each stands once, in the table of crates/fixed/src/lib.rt, which has at most 512 bytes; none stands in other read-only
 data, and none in the code that writes. (The reader of declarations compares a word with seven of them, in its code.)"""
 import os
 import re
@@ -25,7 +25,7 @@ def sections(elf):
 
 
 def main(library):
-    source = os.path.join(os.path.dirname(__file__), "../crates/lent/src/fixed.rt")
+    source = os.path.join(os.path.dirname(__file__), "../crates/fixed/src/lib.rt")
     table, = re.findall(r'b"(.*?)"', open(source).read())
     table = table.encode()
     elf = subprocess.run(["ar", "p", library], check=True, capture_output=True).stdout

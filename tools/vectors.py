@@ -252,7 +252,7 @@ use Prim.Native.Nat.{ℕ}
 use Prim.Native.String.{String}
 use mathlib.Core.Bool.{Bool}
 use mathlib.Core.List.{List, [], _∷_}
-use Rattle.lent.specs.Text.{ascii}
+use Rattle.text.specs.Text.{ascii}
 use Rattle.rules.specs.Machine.{Req}
 use Rattle.rules.specs.Types.{Member, Param, Enumerator, BtfType}
 use Rattle.rules.specs.Listed.{listed}
@@ -294,7 +294,7 @@ SPECS = """-- Written by tools/vectors.py. {title}
 use Prim.Native.Nat.{{ℕ}}
 use mathlib.Core.Bool.{{Bool, true, false}}
 use mathlib.Core.List.{{List, [], _∷_}}
-use Rattle.lent.specs.Text.{{ascii}}
+use Rattle.text.specs.Text.{{ascii}}
 {uses}
 use Rattle.rules.specs.Types.{{volatile, const, restrict, Void, Int, Ptr, Array, Composite, Enum, Enum64, Fwd, Typedef, Mod, Func, Var, Datasec, FuncProto, Float, DeclTag, TypeTag}}
 
@@ -320,7 +320,7 @@ use mathlib.Core.Bool.{Bool, true, false}
 use mathlib.Core.List.{List, [], _∷_}
 use lib.ListN.{length}
 use lib.Dec.{ltb, leb}
-use Rattle.lent.specs.Text.{ascii}
+use Rattle.text.specs.Text.{ascii}
 use Rattle.records.specs.Section.{bigEndian, wordOf}
 use Rattle.rules.specs.Types.{BtfType, Void}
 use Rattle.rules.specs.Listed.{listed}

@@ -9,8 +9,8 @@ use lib.ListN.{length, getD, set, replicate}
 use lib.Dec.{ltb, eqb}
 use borrow.Author.Tests.{eqb-true, eqb-false, ltb-false, lt-ltb, le-ltb}
 use Rattle.lent.specs.Words.{oneMore, pick}
-use Rattle.lent.specs.Text.{ascii}
-use Rattle.lent.specs.Decimal.{decimal}
+use Rattle.text.specs.Text.{ascii}
+use Rattle.text.specs.Decimal.{decimal}
 use Rattle.lent.proofs.Laws.{le-or-lt}
 use Rattle.rules.specs.Machine.{Req}
 use Rattle.rules.specs.Types.{Name, Btf, nameOf, tableOf}

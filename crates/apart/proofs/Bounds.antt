@@ -8,7 +8,7 @@ use native.Mathlib.Omega.{arith}
 use lib.ListN.{length, getD, set, length-set, replicate, length-replicate}
 use lib.Dec.{leb}
 use borrow.Author.Tests.{leb-true, leb-false}
-use Rattle.lent.specs.Text.{Text, whole, cut, bytes}
+use Rattle.text.specs.Text.{Text, whole, cut, bytes}
 use Rattle.rules.specs.Order.{Mark, new}
 use Rattle.rules.specs.Machine.{Out, wrote, stuck, Sess, Req, run}
 use Rattle.rules.specs.Writer.{Said, said, Writer}

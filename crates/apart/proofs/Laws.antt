@@ -10,9 +10,9 @@ use lib.ListN.{length}
 use lib.Dec.{ltb, eqb}
 use borrow.Author.Tests.{eqb-true, eq-eqb, lt-ltb, le-ltb}
 use Rattle.lent.specs.Words.{oneMore, pick}
-use Rattle.lent.specs.Text.{ascii}
-use Rattle.lent.specs.Decimal.{decimal}
-use Rattle.lent.proofs.Digits.{horner, decimal-is}
+use Rattle.text.specs.Text.{ascii}
+use Rattle.text.specs.Decimal.{decimal}
+use Rattle.text.proofs.Digits.{horner, decimal-is}
 use Rattle.rules.specs.Types.{Name}
 use Rattle.rules.specs.Names.{Space, tagSpace, identSpace, sameSpace, sameBytes, spelled}
 use Rattle.apart.specs.Apart.{Shown, among, passing, spellingsIn}

@@ -6,8 +6,8 @@ use mathlib.Core.List.{List, [], _∷_, _++_}
 use native.Mathlib.Omega.{arith}
 use lib.ListN.{length, getD, set, length-append}
 use lib.Dec.{ltb, eqb}
-use Rattle.lent.specs.Text.{ascii, pfx, Text, whole, cut, join}
-use Rattle.lent.specs.Decimal.{decimal}
+use Rattle.text.specs.Text.{ascii, pfx, Text, whole, cut, join}
+use Rattle.text.specs.Decimal.{decimal}
 use Rattle.rules.specs.Writer.{Ask, got, no, Said, said, Writer, _⨾_, put, stop, given, after, next}
 use Rattle.rules.specs.Types.{Name, isEmpty, Member, Param, Enumerator, BtfType, Void, Int, Ptr, Array, Composite, Enum, Enum64, Fwd, Typedef, Mod, Func, Var, Datasec, FuncProto, Float, DeclTag, TypeTag, Btf}
 use Rattle.rules.specs.Layout.{Pad, bitPadding, endOf}

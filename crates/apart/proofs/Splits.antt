@@ -4,9 +4,9 @@ use mathlib.Core.Path.{_≡_, refl, sym, _∙_, ap, ap₂, subst}
 use mathlib.Core.List.{List, [], _∷_, _++_, append-cancel-right}
 use native.Mathlib.Omega.{arith}
 use lib.ListN.{getD}
-use Rattle.lent.specs.Text.{ascii}
-use Rattle.lent.specs.Decimal.{decimal}
-use Rattle.lent.proofs.Digits.{horner, AllDigits, decimal-is}
+use Rattle.text.specs.Text.{ascii}
+use Rattle.text.specs.Decimal.{decimal}
+use Rattle.text.proofs.Digits.{horner, AllDigits, decimal-is}
 use Rattle.rules.specs.Types.{Name}
 use Rattle.rules.specs.Names.{spelled}
 use Rattle.apart.proofs.Laws.{spelled-later}

@@ -1,8 +1,8 @@
 -- When no suffix is passed over, whatever is requested.
 use Prim.Native.Nat.{ℕ, _≤_}
 use mathlib.Core.List.{List, _++_, List·Memᴰ}
-use Rattle.lent.specs.Text.{ascii}
-use Rattle.lent.specs.Decimal.{decimal}
+use Rattle.text.specs.Text.{ascii}
+use Rattle.text.specs.Decimal.{decimal}
 use Rattle.rules.specs.Types.{Name, Btf}
 use Rattle.rules.specs.Names.{Space}
 use Rattle.apart.specs.Apart.{tableNames}

@@ -2,7 +2,7 @@
 use Prim.Native.Nat.{ℕ}
 use mathlib.Core.Bool.{true, false}
 use mathlib.Core.List.{List, [], _∷_}
-use Rattle.lent.specs.Text.{ascii}
+use Rattle.text.specs.Text.{ascii}
 use Rattle.rules.specs.Machine.{all}
 use Rattle.rules.specs.Types.{Void, Int, Composite, Enum, Typedef, Btf}
 use Rattle.rules.specs.Samples.{Sample, gives, table, threeOfX}

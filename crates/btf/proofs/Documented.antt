@@ -2,10 +2,9 @@
 use Prim.Native.Nat.{ℕ, zero, suc, _+_, _-_, _*_, _/_, _%_, _<_, _≤_}
 use mathlib.Core.Path.{_≡_, refl, ap, ap₂, _∙_, sym}
 use mathlib.Core.Bool.{Bool, true, false}
-use mathlib.Core.List.{List, [], _∷_}
+use mathlib.Core.List.{List, _∷_}
 use mathlib.Core.Logic.{⊎-elim}
 use native.Mathlib.Omega.{arith}
-use native.Mathlib.Nat.{add-assoc}
 use native.Mathlib.Numerals.{add-one}
 use lib.Dec.{leb}
 use lib.ListN.{length, getD, List·getD-eq-default}
@@ -20,12 +19,12 @@ use Rattle.records.proofs.Types.{and-left, and-right}
 use Rattle.records.proofs.Fields as F
 use Rattle.records.proofs.Claims as Claims
 use Rattle.rules.specs.Types as R
-use Rattle.rules.specs.Types.{BtfType, Void, Int, Ptr, Array, Composite, Enum, Enum64, Fwd, Typedef, Mod, Func, Var, Datasec, FuncProto, Float, DeclTag, TypeTag}
+use Rattle.rules.specs.Types.{Array, Composite, Enum, Enum64, Fwd, Func, FuncProto, DeclTag, TypeTag}
 use Rattle.btf.specs.declared.types.Btf.{Btf}
 use Rattle.btf.specs.declared.types.BtfType.{BtfType as Record}
 use Rattle.btf.specs.Names.{strAt}
-use Rattle.btf.specs.Records.{sectionWord, recordAt, memberOf, kindOf, flagOf, vlenOf, memberAt, paramAt}
-use Rattle.btf.specs.Table.{from, ruleMember, paramOf, valueOf, value64Of, membersOf, paramsOf, valuesOf, values64Of, typeOf}
+use Rattle.btf.specs.Records.{sectionWord, recordAt, memberOf, kindOf, flagOf}
+use Rattle.btf.specs.Table.{from, ruleMember, paramOf, valueOf, value64Of, typeOf}
 use Rattle.btf.specs.Documented.{isSet, keptMembers, keptParams, keptValues, keptValues64, kept}
 use Rattle.btf.proofs.KindLaws as K
 

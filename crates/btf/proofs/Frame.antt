@@ -1,6 +1,6 @@
 -- What a store into the work leaves alone: the table reads words 0, 9 and 10 of types, and the number of an enumerator word 12.
 -- Stores of versions (word 4) and of counts (word 6 of a type, word 2 of an enumerator) change neither. Assumes nothing.
-use Prim.Native.Nat.{ℕ, zero, suc, _+_, _-_, _*_, _<_, _≤_}
+use Prim.Native.Nat.{ℕ, zero, suc, _+_, _-_, _*_, _<_}
 use mathlib.Core.Path.{_≡_, refl, ap, _∙_, sym}
 use mathlib.Core.List.{List, [], _∷_}
 use mathlib.Core.Bool.{Bool, true, false, _&&_}
@@ -10,11 +10,10 @@ use lib.Dec.{ltb, leb, eqb}
 use borrow.Author.Tests.{ltb-true}
 use Rattle.lent.specs.Words.{getWord, putWord}
 use Rattle.lent.proofs.Laws.{get-put-other, le-or-lt}
-use Rattle.rules.specs.Types.{Btf as Rules}
 use Rattle.rules.specs.Names.{Resolved}
 use Rattle.btf.specs.declared.types.Btf.{Btf}
 use Rattle.btf.specs.declared.types.BtfType.{BtfType as Record}
-use Rattle.btf.specs.Cells.{getField, putField, placeOf, classP, countP, countOf, counted, withMore}
+use Rattle.btf.specs.Cells.{getField, putField, classP, countP, countOf, counted, withMore}
 use Rattle.btf.specs.Records.{recordAt, voidRecord, recordById}
 use Rattle.btf.specs.Table.{typeOf, tagsFrom, tagsOf, btfOf, typeVersionIn, valueVersionIn, enumeratorOf}
 use Rattle.btf.proofs.Laws.{place-type, place-enum}

@@ -1,22 +1,17 @@
 -- The kinds 0 to 19 and those from 20 on: an eliminator, and the type of a record of each kind. Assumes nothing.
-use Prim.Native.Nat.{ℕ, zero, suc, _+_, _*_, _/_, _%_, _-_, _<_, _≤_}
+use Prim.Native.Nat.{ℕ, zero, suc, _+_, _*_, _%_, _-_, _<_, _≤_}
 use mathlib.Core.Path.{_≡_, refl, ap, _∙_, sym}
-use mathlib.Core.List.{List, [], _∷_}
+use mathlib.Core.List.{List, _∷_}
 use mathlib.Core.Bool.{Bool, true, false, not}
 use mathlib.Core.Logic.{_⊎_, inl, inr}
 use native.Mathlib.Omega.{arith}
-use native.Mathlib.Nat.{zero-add}
-use lib.ListN.{getD, List·getD-eq-default}
-use Rattle.rules.specs.Types.{BtfType, Void, Int, Ptr, Array, Composite, Enum, Enum64, Fwd, Typedef, Mod, Func, Var, Datasec, FuncProto, Float, DeclTag, TypeTag, volatile, const, restrict, Member, Param, isEmpty, isNamed, nodeOf, memberTypes, paramTypes}
-use Rattle.rules.specs.Order.{Node, ignored, plain, listed, through, ptr, tdef, proto, comp}
+use Rattle.rules.specs.Types.{Void, Int, Ptr, Array, Composite, Enum, Enum64, Fwd, Typedef, Mod, Func, Var, Datasec, FuncProto, Float, DeclTag, TypeTag, volatile, const, restrict, Member, isEmpty, isNamed, nodeOf, memberTypes, paramTypes}
+use Rattle.rules.specs.Order.{ignored, listed, through, ptr, proto, comp}
 use Rattle.btf.specs.declared.types.Btf.{Btf}
 use Rattle.btf.specs.declared.types.BtfType.{BtfType as Record}
 use Rattle.btf.specs.declared.types.Entries.{Entries}
-use Rattle.btf.specs.declared.types.Extra.{Extra}
 use Rattle.btf.specs.declared.types.Extra.the-variants.{Bytes, Refused}
-use Rattle.btf.specs.declared.node.Node.{Node as Code}
 use Rattle.btf.specs.declared.node.Node.the-variants as code
-use Rattle.btf.specs.Names.{strAt}
 use Rattle.btf.specs.Records.{sectionWord, kindOf, flagOf, vlenOf, memberAt, paramAt, memberOf, entriesOf, extraOf}
 use Rattle.btf.specs.Table.{from, ruleMember, paramOf, recordName, extraWord, nelemsWord, membersOf, paramsOf, valuesOf, values64Of, typeOf}
 use Rattle.btf.specs.Nodes.{nodeIs, memberIds, paramIds}

@@ -1,6 +1,6 @@
 -- The places of the words of types and enumerators. Assumes nothing.
 use Prim.Native.Nat.{ℕ, _+_, _-_, _*_, _/_, _%_, _<_, _≤_}
-use mathlib.Core.Path.{_≡_, refl, ap, _∙_, sym}
+use mathlib.Core.Path.{_≡_, refl, ap, _∙_}
 use mathlib.Core.List.{List}
 use mathlib.Core.Bool.{true, false}
 use borrow.Author.Tests.{lt-ltb, le-ltb, le-leb, lt-leb, ne-eqb}

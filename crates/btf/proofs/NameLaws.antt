@@ -7,13 +7,13 @@ use mathlib.Core.Logic.{⊎-elim}
 use native.Mathlib.Omega.{arith}
 use native.Mathlib.Numerals.{add-one}
 use native.Mathlib.Nat.{add-zero}
-use lib.ListN.{length, getD, set, take, drop, drop-of-length-le, length-append, length-drop, length-set, List·getD-eq-default}
+use lib.ListN.{length, getD, set, take, drop, drop-of-length-le, length-drop, List·getD-eq-default}
 use lib.Seq.{drop-cons, take-suc, take-length, getD-drop}
 use lib.Dec.{eqb}
 use borrow.Author.Tests.{eq-eqb, ne-eqb}
-use Rattle.lent.specs.Text.{whole, putOut, putText}
+use Rattle.text.specs.Text.{whole, putOut, putText}
 use Rattle.lent.proofs.Laws.{le-or-lt}
-use Rattle.lent.proofs.TextLaws.{put-seq, put-same, put-empty, put-full, put-set}
+use Rattle.text.proofs.TextLaws.{put-seq, put-same, put-empty, put-full, put-set}
 use Rattle.rules.specs.Types.{isEmpty}
 use Rattle.rules.specs.Names.{startsWith, contains, escapedByte, escaped}
 use Rattle.btf.specs.declared.types.Btf.{Btf}

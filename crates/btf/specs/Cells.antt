@@ -1,6 +1,6 @@
 -- The words of types and enumerators in the lent work.
 use Prim.Native.Nat.{ℕ, _+_, _*_, _-_}
-use mathlib.Core.Bool.{Bool, true, false}
+use mathlib.Core.Bool.{true, false}
 use mathlib.Core.List.{List}
 use lib.Dec.{ltb}
 use Rattle.lent.specs.Words.{getWord, putWord, oneMore}

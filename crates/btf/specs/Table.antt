@@ -1,12 +1,11 @@
 -- The type table that a section and the work spell, as the rules see it.
-use Prim.Native.Nat.{ℕ, zero, suc, _+_, _-_, _*_, _/_, _%_}
-use mathlib.Core.Bool.{Bool, true, false, _&&_}
+use Prim.Native.Nat.{ℕ, zero, suc, _+_, _-_, _*_, _%_}
+use mathlib.Core.Bool.{true, false, _&&_}
 use mathlib.Core.List.{List, [], _∷_}
-use lib.ListN.{getD, length}
+use lib.ListN.{getD}
 use lib.Dec.{ltb, leb, eqb}
-use Rattle.lent.specs.Words.{getWord}
 use Rattle.rules.specs.Types.{Name, Member, Param, Enumerator, volatile, const, restrict, BtfType, Void, Int, Ptr, Array, Composite, Enum, Enum64, Fwd, Typedef, Mod, Func, Var, Datasec, FuncProto, Float, DeclTag, TypeTag, Btf as Rules}
-use Rattle.rules.specs.Names.{Space, Resolved, Naming}
+use Rattle.rules.specs.Names.{Resolved, Naming}
 use Rattle.btf.specs.declared.types.Btf.{Btf}
 use Rattle.btf.specs.declared.types.BtfType.{BtfType as Record}
 use Rattle.btf.specs.declared.types.BtfMember.{BtfMember}

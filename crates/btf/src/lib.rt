@@ -1,7 +1,6 @@
 // A type table read from the bytes of its section: header, records, names.
 mod cells;
 mod node;
-mod strings;
 mod types;
 
 pub use cells::get_count;
@@ -10,11 +9,6 @@ pub use cells::holder_word;
 pub use cells::put_field;
 pub use node::Node;
 pub use node::node_of;
-pub use strings::get_btf_str;
-pub use strings::is_builtin;
-pub use strings::is_empty;
-pub use strings::put_escaped;
-pub use strings::put_str;
 pub use types::Btf;
 pub use types::BtfMember;
 pub use types::BtfType;
@@ -26,7 +20,6 @@ pub use types::comp_idx_of;
 pub use types::entries_of;
 pub use types::extra_of;
 pub use types::int_bits;
-pub use types::is_named;
 pub use types::is_struct;
 pub use types::kind_flag_of;
 pub use types::kind_of;

@@ -1,6 +1,5 @@
 // Records of the type area, as the Linux documentation lays them out. A record is named by its place in the section.
 use crate::cells::get_field;
-use crate::strings::is_empty;
 use lent::Three;
 use lent::three_in;
 use lent::word_in;
@@ -8,8 +7,7 @@ ghost use mathlib.Core.Path.{_≡_};
 ghost use Prim.Native.Nat.{_+_, _*_, _%_};
 ghost use lib.Dec.{eqb};
 ghost use Rattle.btf.specs.Records.{sectionWord, sectionThree, vlenOf, kindOf, flagOf, memberAt, paramAt, extraOf, recordAt, voidRecord, recordById, entriesOf, memberOf};
-ghost use Rattle.rules.specs.Types.{isNamed};
-ghost use Rattle.btf.specs.Table.{extraWord, nelemsWord, typeOf};
+ghost use Rattle.btf.specs.Table.{extraWord, nelemsWord};
 
 // A section that was opened: the settings chosen then, the order of its bytes, the count of types, and where its string area
 // starts. (Sixteen bytes, since it is handed on with every call.)
@@ -226,18 +224,4 @@ pub fn comp_idx_of(b: Btf, section: &[u8], t: BtfType) -> u32
     ensures { λ r. ⌜ r ≡ extraWord b (now (section .entry)) t ⌝ }
 {
     word(b, section, (t.at as usize) + 12)
-}
-
-// Whether BtfType::name() is not empty: some kinds have none.
-pub fn is_named(b: Btf, section: &[u8], t: BtfType) -> bool
-    ensures { λ r. ⌜ r ≡ isNamed (typeOf b (now (section .entry)) t) ⌝ }
-{
-    match kind_of(t.info) {
-        1 | 4 | 5 | 6 | 7 | 8 | 12 | 14 | 15 | 16 | 17 | 18 | 19 => !is_empty(
-            b,
-            section,
-            t.name_off,
-        ),
-        _ => false,
-    }
 }

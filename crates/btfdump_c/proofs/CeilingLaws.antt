@@ -8,8 +8,8 @@ use Rattle.turns.specs.declared.Session.{Session}
 use Rattle.turns.specs.Turns.{callOf}
 use Rattle.c_record.specs.Record.{packed, decoded, recordAfter, recordListed}
 use Rattle.turns.specs.Answers.{numberOf, valueOf}
-use Rattle.requests.specs.Lists.{idsIn}
-use Rattle.requests.proofs.Lists.{ids-none, ids-some}
+use Rattle.calls.specs.Lists.{idsIn}
+use Rattle.calls.proofs.Lists.{ids-none, ids-some}
 use Rattle.within.specs.Lists.{listCallWithin}
 use Rattle.within.specs.declared.Counted.{Counted}
 use Rattle.within.specs.Within.{CallWithin, countedOf, typeCallWithin, typesCallWithin}

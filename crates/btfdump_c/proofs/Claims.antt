@@ -1,7 +1,7 @@
 -- The record's bytes after a call say the session after it, and so the calls for C are the calls of crate session. Assumes nothing.
-use Prim.Native.Nat.{ℕ, zero, suc, zero-le, _+_, _-_, _*_, _/_, _%_, _<_, _≤_}
+use Prim.Native.Nat.{ℕ, zero, suc, _+_, _-_, _*_, _/_, _%_, _<_, _≤_}
 use mathlib.Core.Path.{_≡_, refl, ap, _∙_, sym, subst}
-use mathlib.Core.Bool.{Bool, true, false, _&&_, true≢false}
+use mathlib.Core.Bool.{Bool, true, false, _&&_}
 use mathlib.Core.List.{List, [], _∷_}
 use mathlib.Core.Logic.{_≢_}
 use native.Mathlib.Omega.{arith}
@@ -11,15 +11,13 @@ use lib.ListN.{length, take, getD}
 use borrow.Author.Tests.{le-ltb, ltb-true, ltb-false}
 use Rattle.lent.specs.Words.{getWord, putWord}
 use Rattle.lent.proofs.Laws.{get-put-same, get-put-other, put-length}
-use Rattle.turns.specs.declared.Answer.{Answer}
-use Rattle.turns.specs.declared.Answer.the-variants.{Accepted, Refused}
+use Rattle.turns.specs.declared.Answer.the-variants.{Refused}
 use Rattle.turns.specs.declared.Session.{Session}
 use Rattle.turns.specs.Answers.{answerOf}
-use Rattle.requests.specs.Refusals.{number, value, notCurrent, idNotBelow, refusal}
-use Rattle.turns.specs.Turns.{Call, isCurrent, Reach, reached, refusedBy, withText, settled, unchanged, tableFor}
-use Rattle.requests.specs.Calls.{requested, requestedFrom, typeCall, typesCall}
+use Rattle.turns.specs.Turns.{Call, isCurrent, Reach, withText, settled, unchanged, tableFor}
+use Rattle.calls.specs.Calls.{requested, requestedFrom, typeCall, typesCall}
 use Rattle.turns.proofs.Laws.{current-fits}
-use Rattle.requests.proofs.Claims.{Sane, on, off, request-sane, from-sane, type-settles, type-not-below, type-not-current, types-settle, types-not-current}
+use Rattle.calls.proofs.Claims.{Sane, on, off, request-sane, from-sane, type-settles, type-not-below, type-not-current, types-settle, types-not-current}
 use Rattle.c_record.specs.Record.{getLong, putLong, putLongs, decoded, wordsOf, encoded, recordRefused, recordAfter}
 
 -- ---- words of 64 bits

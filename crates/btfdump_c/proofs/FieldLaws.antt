@@ -6,7 +6,7 @@ use lib.ListN.{length}
 use borrow.Author.Tests.{lt-ltb, le-ltb}
 use Rattle.turns.specs.declared.Answer.{Answer}
 use Rattle.turns.specs.declared.Session.{Session}
-use Rattle.field.specs.Calls.{Found, foundOf, fieldCall}
+use Rattle.field.specs.Calls.{foundOf, fieldCall}
 use Rattle.c_record.specs.Record.{decoded}
 use Rattle.c_record.specs.Record.{packed}
 use Rattle.btfdump_c.specs.Field.{pathExportOf, foundBy, fieldExport}

@@ -1,22 +1,15 @@
 -- A law for each return of src/lib.rt. Assumes nothing.
-use Prim.Native.Nat.{ℕ, zero, suc, _+_, _-_, _*_, _/_, _%_, _<_, _≤_}
-use mathlib.Core.Path.{_≡_, refl, ap, _∙_, sym}
-use mathlib.Core.Bool.{Bool, true, false}
-use mathlib.Core.List.{List, [], _∷_}
-use native.Mathlib.Omega.{arith}
-use native.Mathlib.Numerals.{add-one}
-use lib.Dec.{eqb, ltb}
+use Prim.Native.Nat.{ℕ, _-_, _/_, _<_, _≤_}
+use mathlib.Core.Path.{_≡_, ap, _∙_, sym}
+use mathlib.Core.List.{List}
+use lib.Dec.{ltb}
 use lib.ListN.{length}
 use borrow.Author.Tests.{lt-ltb, le-ltb}
-use Rattle.lent.specs.Words.{getWord, putWord}
-use Rattle.turns.specs.declared.Answer.{Answer}
-use Rattle.turns.specs.declared.Answer.the-variants.{Accepted, Refused}
 use Rattle.turns.specs.declared.Session.{Session}
 use Rattle.turns.specs.declared.Turn.{Turn}
-use Rattle.turns.specs.Answers.{numberOf, valueOf}
 use Rattle.turns.specs.Turns.{Call, callOf}
-use Rattle.requests.specs.Calls.{openCall, typeCall, typesCall}
-use Rattle.c_record.specs.Record.{getLong, putLong, putLongs, decoded, encodedLast, encoded, unusedZero, recordOpened, recordRefused, recordAfter}
+use Rattle.calls.specs.Calls.{openCall, typeCall, typesCall}
+use Rattle.c_record.specs.Record.{decoded, recordOpened, recordAfter}
 use Rattle.c_record.specs.Record.{packed}
 use Rattle.btfdump_c.specs.Exports.{Export, exportOf, openedBy, answeredBy, openExport, typeExport, typesExport}
 

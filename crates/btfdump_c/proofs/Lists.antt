@@ -6,19 +6,18 @@ use mathlib.Core.List.{List, [], _∷_}
 use native.Mathlib.Omega.{arith}
 use lib.Dec.{ltb}
 use lib.ListN.{length}
-use borrow.Author.Tests.{lt-ltb, le-ltb, ltb-true}
+use borrow.Author.Tests.{le-ltb, ltb-true}
 use Rattle.lent.specs.Words.{getWord, putWord}
 use Rattle.lent.proofs.Laws.{put-again, put-swap}
 use Rattle.turns.specs.declared.Answer.{Answer}
-use Rattle.turns.specs.declared.Answer.the-variants.{Accepted, Refused}
+use Rattle.turns.specs.declared.Answer.the-variants.{Refused}
 use Rattle.turns.specs.declared.Session.{Session}
 use Rattle.turns.specs.declared.Turn.{Turn}
 use Rattle.turns.specs.Answers.{numberOf, valueOf, answerOf}
 use Rattle.turns.specs.Turns.{Call, callOf}
-use Rattle.requests.specs.Calls.{typeCall}
-use Rattle.requests.specs.Lists.{idsIn, counted, listFrom, listCall, countIn}
-use Rattle.requests.proofs.Claims.{number-is, value-is}
-use Rattle.requests.proofs.Lists.{idsFrom, ids-none, ids-some, counted-goes, counted-stops, Single, type-single, Counts, list-counts}
+use Rattle.calls.specs.Calls.{typeCall}
+use Rattle.calls.specs.Lists.{idsIn, counted, listFrom, listCall, countIn}
+use Rattle.calls.proofs.Lists.{idsFrom, ids-none, ids-some, counted-goes, counted-stops, Single, type-single, Counts, list-counts}
 use Rattle.c_record.specs.Record.{putLong, decoded, recordRefused, recordAfter, recordLonger, recordListed}
 use Rattle.c_record.specs.Record.{packed}
 use Rattle.btfdump_c.specs.Exports.{Export, exportOf, answeredBy, typeExport, countedExport, listExportFrom, listExport}

@@ -1,10 +1,11 @@
 -- Laws for reading a declaration back from C. Assumes nothing.
 use Prim.Native.Nat.{ℕ, _≤_, _<_}
-use mathlib.Core.Path.{_≡_, refl, ap, sym, _∙_}
+use mathlib.Core.Path.{_≡_, ap, sym, _∙_}
 use mathlib.Core.List.{List}
 use lib.ListN.{length}
 use borrow.Author.Tests.{lt-ltb, le-ltb, eq-eqb, ne-eqb}
-use Rattle.reader.specs.Encoding.{Placed, placed, readInto}
+use Rattle.bases.specs.Items.{placed}
+use Rattle.reader.specs.Encoding.{readInto}
 use Rattle.btfdump_c.specs.Declarations.{numbered, readExport}
 
 module _ (s t : List ℕ) where

@@ -4,7 +4,8 @@ use mathlib.Core.Bool.{true, false}
 use mathlib.Core.List.{List}
 use lib.Dec.{ltb, eqb}
 use lib.ListN.{length}
-use Rattle.reader.specs.Encoding.{Placed, placed, readInto}
+use Rattle.bases.specs.Items.{Placed, placed}
+use Rattle.reader.specs.Encoding.{readInto}
 
 -- no entry is number 19, in the upper half of 64 bits
 unfoldable pub numbered : Placed → Placed

@@ -5,7 +5,7 @@ use mathlib.Core.List.{List, [], _∷_}
 use lib.Dec.{ltb}
 use lib.ListN.{length}
 use Rattle.turns.specs.Turns.{Call}
-use Rattle.requests.specs.Calls.{openCall, typeCall, typesCall}
+use Rattle.calls.specs.Calls.{openCall, typeCall, typesCall}
 use Rattle.c_record.specs.Record.{packed, decoded, recordOpened, recordAfter}
 
 pub record Export : Type 0 where

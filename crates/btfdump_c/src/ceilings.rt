@@ -7,7 +7,7 @@ use within::dump_type_within;
 use within::dump_types_within;
 ghost use mathlib.Core.Path.{_≡_};
 ghost use Rattle.btfdump_c.specs.Ceilings.{withinExportOf, typeWithinExport, typesWithinExport, listWithinExport};
-ghost use Rattle.requests.specs.Lists.{idsIn};
+ghost use Rattle.calls.specs.Lists.{idsIn};
 
 #[no_mangle]
 pub extern "C" fn btfdump_dump_type_within(

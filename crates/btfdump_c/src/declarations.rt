@@ -1,7 +1,7 @@
 // Reading a declaration back, for C.
 use reader::read_declaration;
 ghost use mathlib.Core.Path.{_≡_};
-ghost use Rattle.reader.specs.Encoding.{placed};
+ghost use Rattle.bases.specs.Items.{placed};
 ghost use Rattle.btfdump_c.specs.Declarations.{readExport};
 
 #[no_mangle]

@@ -15,7 +15,7 @@ use requests::dump_types_core;
 use requests::open_core;
 ghost use mathlib.Core.Path.{_≡_};
 ghost use Rattle.btfdump_c.specs.Exports.{exportOf, openExport, typeExport, typesExport, listExport};
-ghost use Rattle.requests.specs.Lists.{idsIn};
+ghost use Rattle.calls.specs.Lists.{idsIn};
 ghost use Rattle.btfdump_c.specs.Field.{pathExportOf, fieldExport};
 
 #[no_mangle]

@@ -8,8 +8,8 @@ use native.Mathlib.Omega.{arith}
 use lib.ListN.{List·getD-eq-default}
 use lib.Dec.{eqb}
 use borrow.Author.Tests.{le-leb, lt-leb, ne-eqb, eq-eqb}
-use Rattle.lent.specs.Text.{ascii, whole, putOut, putText}
-use Rattle.lent.proofs.TextLaws.{put-same}
+use Rattle.text.specs.Text.{ascii, whole, putOut, putText}
+use Rattle.text.proofs.TextLaws.{put-same}
 use Rattle.rules.specs.Types.{Name, Param, Qualifier, volatile, const, restrict, BtfType, Void, Int, Ptr, Array, Composite, Enum, Enum64, Fwd, Typedef, Mod, Func, Var, Datasec, FuncProto, Float, DeclTag, TypeTag}
 use Rattle.rules.specs.Decl.{Entry, base, star, qual, array, proto, tag, Link, ends, leads, linkOf, qualifier, mods, noMods, isArray}
 use Rattle.rules.specs.Chain.{entryBy}

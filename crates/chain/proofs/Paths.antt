@@ -8,8 +8,8 @@ use native.Mathlib.Numerals.{add-one}
 use lib.ListN.{length}
 use lib.Dec.{ltb}
 use borrow.Author.Tests.{lt-ltb, le-ltb}
-use Rattle.lent.specs.Text.{ascii, whole, join, putOut, putText}
-use Rattle.lent.proofs.TextLaws.{put-seq, put-same, put-empty, join-on}
+use Rattle.text.specs.Text.{ascii, whole, join, putOut, putText}
+use Rattle.text.proofs.TextLaws.{put-seq, put-same, put-empty, join-on}
 use Rattle.rules.specs.Writer.{Ask, got, no}
 use Rattle.rules.specs.Types.{Qualifier, Btf as Rules}
 use Rattle.rules.specs.Decl.{Entry, base, star, qual, array, proto, tag, Link, ends, leads, linkOf, chainOn, chainOf, qualifier, mods, noMods}

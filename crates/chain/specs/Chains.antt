@@ -4,7 +4,7 @@ use mathlib.Core.Bool.{Bool, true, false, _&&_}
 use mathlib.Core.List.{List, [], _∷_, _++_}
 use lib.ListN.{length, getD}
 use lib.Dec.{ltb, leb, eqb}
-use Rattle.lent.specs.Text.{ascii}
+use Rattle.text.specs.Text.{ascii}
 use Rattle.rules.specs.Writer.{Ask, got, no}
 use Rattle.rules.specs.Types.{Qualifier, volatile, const, restrict}
 use Rattle.rules.specs.Decl.{Entry, linkOf, qualifier, noMods}

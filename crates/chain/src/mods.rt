@@ -3,10 +3,10 @@ use crate::links::is_qualifier;
 use crate::links::kind_on_top;
 use crate::links::put_qualifier;
 use btf::Btf;
-use lent::put_byte;
+use text::put_byte;
 ghost use mathlib.Core.Path.{_≡_};
 ghost use Prim.Native.Nat.{_≤_};
-ghost use Rattle.lent.specs.Text.{whole, putOut, putText};
+ghost use Rattle.text.specs.Text.{whole, putOut, putText};
 ghost use Rattle.chain.specs.Chains.{skipped, modsDown};
 
 // How many of n entries stay when the qualifiers on top are popped.

@@ -13,15 +13,15 @@ use Rattle.rules.specs.Machine.{Out, wrote, stuck, Machine, Sess, Answer, shut,
 use Rattle.rules.specs.Types.{Btf as Rules, tableOf}
 use Rattle.rules.specs.Names.{Names, naming}
 use Rattle.btf.specs.Table.{btfOf}
-use Rattle.opening.specs.Opened.{workOf}
-use Rattle.opening.specs.Causes.{openingNumber}
+use Rattle.opened.specs.Opened.{workOf}
+use Rattle.opened.specs.Causes.{openingNumber}
 use Rattle.turns.specs.declared.Session.{Session}
 use Rattle.turns.specs.Answers.{numberOf, valueOf, answerOf}
 use Rattle.turns.specs.Turns.{Call, callOf, Reach, thenZeros}
-use Rattle.requests.specs.Calls.{requested, typeCall}
-use Rattle.requests.specs.Lists.{counted as countedCall, listFrom, listCall}
-use Rattle.requests.proofs.Claims.{number-is, value-is, type-not-below}
-use Rattle.requests.proofs.Lists.{andThen, list-append, counted-goes, counted-stops, type-single, Counts, list-counts}
+use Rattle.calls.specs.Calls.{requested, typeCall}
+use Rattle.calls.specs.Lists.{counted as countedCall, listFrom, listCall}
+use Rattle.calls.proofs.Claims.{number-is, value-is, type-not-below}
+use Rattle.calls.proofs.Lists.{andThen, list-append, counted-goes, counted-stops, type-single, Counts, list-counts}
 use Rattle.demand.specs.Lists.{Ls}
 use Rattle.demand.specs.Session.{Known, textOf, linesBy, machine, noNames, opened}
 use Rattle.demand.proofs.Again.{asked-again}

@@ -12,7 +12,7 @@ use Rattle.btf.specs.Table.{btfOf}
 use Rattle.header.specs.Header.{btfOf as settingsOf}
 use Rattle.turns.specs.Answers.{numberOf}
 use Rattle.turns.specs.Turns.{Call}
-use Rattle.requests.specs.Calls.{typeCall}
+use Rattle.calls.specs.Calls.{typeCall}
 use Rattle.demand.specs.Needs.{kids, NamedComp}
 use Rattle.demand.specs.Session.{machine}
 use Rattle.demand.proofs.Arrays.{array-of-itself}

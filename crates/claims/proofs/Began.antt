@@ -13,12 +13,12 @@ use Rattle.btf.specs.Cells.{getField}
 use Rattle.btf.specs.Table.{from, btfOf}
 use Rattle.btf.proofs.Laws.{place-type}
 use Rattle.classes.proofs.Keys.{place-apart}
-use Rattle.opening.specs.Table.{enumeratorsOf}
-use Rattle.opening.specs.Opened.{workOf}
-use Rattle.opening.specs.Causes.{openingNumber}
+use Rattle.opened.specs.Table.{enumeratorsOf}
+use Rattle.opened.specs.Opened.{workOf}
+use Rattle.opened.specs.Causes.{openingNumber}
 use Rattle.fill.proofs.Zeros.{other-field}
-use Rattle.opening.proofs.ReadBack.{else-back}
-use Rattle.order.specs.Work.{markOf}
+use Rattle.opened.proofs.ReadBack.{else-back}
+use Rattle.marks.specs.Work.{markOf}
 use Rattle.demand.specs.Lists.{afresh}
 use Rattle.demand.specs.Session.{opened}
 use Rattle.ledger.proofs.Related.{alike-first}

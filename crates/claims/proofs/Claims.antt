@@ -4,9 +4,9 @@ use mathlib.Core.Path.{_≡_}
 use mathlib.Core.List.{List}
 use Rattle.records.specs.Reading.{Bytes}
 use Rattle.btf.specs.Table.{workNaming}
-use Rattle.opening.specs.Table.{enumeratorsOf}
-use Rattle.opening.specs.Opened.{workOf}
-use Rattle.opening.specs.Causes.{openingNumber}
+use Rattle.opened.specs.Table.{enumeratorsOf}
+use Rattle.opened.specs.Opened.{workOf}
+use Rattle.opened.specs.Causes.{openingNumber}
 use Rattle.demand.proofs.Session.{by-demand3, header-demand3}
 use Rattle.ledger.proofs.Claims.{same-dumps}
 use Rattle.claims.specs.Table.{headerOf, openedTable}

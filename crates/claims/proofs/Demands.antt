@@ -10,14 +10,14 @@ use lib.Dec.{eqb}
 use lib.Seq.{length-take-le}
 use borrow.Author.Tests.{eqb-true}
 use Rattle.rules.specs.Machine.{Req}
-use Rattle.opening.specs.Table.{typesOf}
-use Rattle.opening.specs.Causes.{openingNumber}
+use Rattle.opened.specs.Table.{typesOf}
+use Rattle.opened.specs.Causes.{openingNumber}
 use Rattle.turns.specs.declared.Session.{Session}
 use Rattle.turns.specs.Answers.{numberOf}
 use Rattle.turns.specs.Turns.{Call}
-use Rattle.requests.specs.Calls.{openedCall, openCall}
-use Rattle.requests.proofs.Laws.{opens-sound, opens-refused}
-use Rattle.requests.proofs.Claims.{number-is}
+use Rattle.calls.specs.Calls.{openedCall, openCall}
+use Rattle.calls.proofs.Laws.{opens-sound, opens-refused}
+use Rattle.calls.proofs.Claims.{number-is}
 use Rattle.demand.specs.Needs.{MeetsTwice}
 use Rattle.claims.specs.Session.{Holds, After, after-open, after-one, after-all, after-list}
 use Rattle.claims.specs.Demands.{typesIn, ruled, Demand2, Demand3Calls, Twice, Delivered}

@@ -19,13 +19,13 @@ use Rattle.btf.specs.Documented.{kept}
 use Rattle.btf.proofs.Documented.{section-documented}
 use Rattle.btf.proofs.Laws.{void-zero, void-past}
 use Rattle.btf.proofs.KindLaws as K
-use Rattle.opening.specs.Table.{describedIn, typesOf, recordPlace, recordKind, indexOf}
+use Rattle.opened.specs.Table.{describedIn, typesOf, recordPlace, recordKind, indexOf}
 use Rattle.fill.specs.Left.{isTagOn, tagsOn}
-use Rattle.opening.specs.Opened.{workOf}
-use Rattle.opening.specs.Causes.{openingNumber}
-use Rattle.opening.proofs.Index.{types-few, some-type, index-place, index-kind}
-use Rattle.opening.proofs.ReadBack.{header-ok, types-ok, order-ok, types-are, record-back, tags-are}
-use Rattle.opening.proofs.Sections.{kind-is}
+use Rattle.opened.specs.Opened.{workOf}
+use Rattle.opened.specs.Causes.{openingNumber}
+use Rattle.opened.proofs.Index.{types-few, some-type, index-place, index-kind}
+use Rattle.opened.proofs.ReadBack.{header-ok, types-ok, order-ok, types-are, record-back, tags-are}
+use Rattle.opened.proofs.Sections.{kind-is}
 use Rattle.claims.specs.Table.{headerOf, openedTable, isTagFor, tagIds}
 
 pub void-type : (b : Btf) (s : List ℕ) → typeOf b s voidRecord ≡ Void

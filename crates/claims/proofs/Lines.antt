@@ -10,7 +10,7 @@ use lib.Seq.{length-take-le, take-append-seam}
 use lib.Dec.{leb, eqb, ltb}
 use borrow.Author.Tests.{le-leb, lt-leb, leb-true}
 use Rattle.lent.specs.Words.{getWord}
-use Rattle.lent.specs.Text.{Text, whole, cut, bytes, place, Out as Put, stopped, written, putText}
+use Rattle.text.specs.Text.{Text, whole, cut, bytes, place, Out as Put, stopped, written, putText}
 use Rattle.rules.specs.Place.{Wrote, withNames, putSaid}
 use Rattle.rules.specs.Writer.{Said, said, saidNames}
 use Rattle.rules.specs.Names.{Names, Resolved, naming}
@@ -24,7 +24,7 @@ use Rattle.btf.specs.Table.{from, btfOf, workNaming, typeVersionIn, valueVersio
 use Rattle.btf.proofs.Frame.{counted-other, table-type-version, table-value-version}
 use Rattle.btf.proofs.Laws.{place-type, place-enum}
 use Rattle.lent.proofs.Laws.{get-put-other, le-or-lt}
-use Rattle.order.specs.Work.{markOf}
+use Rattle.marks.specs.Work.{markOf}
 use Rattle.demand.specs.Lists.{Piece, defines, other, Line, cannot, Ls, putLine}
 use Rattle.demand.specs.Session.{Known, fitting, lineOf, textOf, machine}
 use Rattle.ledger.specs.Indexed.{Indexed, Fits, FitsValue}

@@ -15,16 +15,16 @@ use Rattle.btf.specs.Records.{sectionWord, kindOf, vlenOf, recordAt, recordById
 use Rattle.btf.specs.Table.{enumeratorOf}
 use Rattle.btf.proofs.Laws.{void-zero}
 use Rattle.classes.specs.Classes.{recordP}
-use Rattle.opening.specs.Table.{typesOf, enumeratorsOf, recordPlace, recordKind, indexOf}
+use Rattle.opened.specs.Table.{typesOf, enumeratorsOf, recordPlace, recordKind, indexOf}
 use Rattle.fill.specs.Left as left
 use Rattle.fill.specs.Left.{enumeratorWord, isEnum, valuesAt, enumsTo}
-use Rattle.opening.specs.Opened.{workOf}
-use Rattle.opening.specs.Causes.{openingNumber}
-use Rattle.opening.proofs.Index.{types-few, some-type, index-place, index-kind}
-use Rattle.opening.proofs.Sums.{enumerators-all}
+use Rattle.opened.specs.Opened.{workOf}
+use Rattle.opened.specs.Causes.{openingNumber}
+use Rattle.opened.proofs.Index.{types-few, some-type, index-place, index-kind}
+use Rattle.opened.proofs.Sums.{enumerators-all}
 use Rattle.fill.proofs.Enumerators.{to-up}
 use Rattle.fill.proofs.Zeros.{zeros-word, before-else, other-field}
-use Rattle.opening.proofs.ReadBack.{header-ok, types-ok, order-ok, types-are, before, record-back, kind-back, value-back, enumerator-back, room-back, counts-back}
+use Rattle.opened.proofs.ReadBack.{header-ok, types-ok, order-ok, types-are, before, record-back, kind-back, value-back, enumerator-back, room-back, counts-back}
 use Rattle.ledger.specs.Indexed.{IsEnum, valuePlace, Value, placeOfValue, Indexed}
 use Rattle.ledger.specs.Alike.{Fresh}
 use Rattle.ledger.proofs.Classed.{enumerator-place, classed-indexed, classed-fresh}

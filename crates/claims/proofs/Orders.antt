@@ -26,10 +26,10 @@ use Rattle.btf.specs.Names.{upToZero, nameAt, strAt}
 use Rattle.btf.specs.Records.{sectionWord}
 use Rattle.btf.specs.Documented.{isSet, keptMembers, keptParams, keptValues, keptValues64, kept}
 use Rattle.header.specs.Header.{btfOf, stringsAt as stringsPlace}
-use Rattle.opening.specs.Table.{describedIn, typesOf}
-use Rattle.opening.specs.Causes.{cause3, openingNumber}
+use Rattle.opened.specs.Table.{describedIn, typesOf}
+use Rattle.opened.specs.Causes.{cause3, openingNumber}
 use Rattle.header.proofs.Headers.{read4, read16}
-use Rattle.opening.proofs.ReadBack.{section-short}
+use Rattle.opened.proofs.ReadBack.{section-short}
 use Rattle.claims.specs.Table.{headerOf, openedTable, tagIds}
 use Rattle.claims.proofs.Described.{type-described, type-zero, type-past, tags-described}
 

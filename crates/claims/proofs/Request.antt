@@ -16,8 +16,8 @@ use Rattle.rules.specs.Names.{Names, naming}
 use Rattle.rules.specs.Place.{Wrote}
 use Rattle.btf.specs.declared.types.Btf.{Btf}
 use Rattle.btf.specs.Table.{btfOf}
-use Rattle.order.specs.Work.{workStore}
-use Rattle.order.proofs.Frame.{table-list}
+use Rattle.marks.specs.Work.{workStore}
+use Rattle.marks.proofs.Frame.{table-list}
 use Rattle.emit.specs.Sheet.{Sheet, sheetStore, emptied, sheetOf, lineIn, workMachine, listedOut, dumped}
 use Rattle.demand.specs.Needs.{WF}
 use Rattle.demand.specs.Lists.{Ls, listStore}

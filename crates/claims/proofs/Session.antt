@@ -13,7 +13,7 @@ use lib.Dec.{eqb, ltb}
 use borrow.Author.Tests.{le-leb, lt-leb, eq-eqb, ne-eqb, lt-ltb, le-ltb}
 use borrow.Rule.Slice.PartMut.{mid-len}
 use Rattle.lent.specs.Words.{pick}
-use Rattle.lent.specs.Text.{place}
+use Rattle.text.specs.Text.{place}
 use Rattle.lent.proofs.Laws.{le-or-lt}
 use Rattle.rules.specs.Order.{Table}
 use Rattle.rules.specs.Machine.{Out, stuck, Machine, Sess, Answer, ordered, ordering, gate, single, onward, from, every, Req, one, all, serve, run}
@@ -23,21 +23,21 @@ use Rattle.rules.specs.Layout.{smaller}
 use Rattle.btf.specs.declared.types.Btf.{Btf}
 use Rattle.btf.specs.Table.{btfOf}
 use Rattle.header.specs.Header.{btfOf as settingsOf}
-use Rattle.opening.specs.Table.{typesOf, enumeratorsOf}
-use Rattle.opening.specs.Opened.{workOf, opened as soundly}
-use Rattle.opening.specs.Causes.{openingNumber}
-use Rattle.opening.proofs.ReadBack.{work-length}
+use Rattle.opened.specs.Table.{typesOf, enumeratorsOf}
+use Rattle.opened.specs.Opened.{workOf, opened as soundly}
+use Rattle.opened.specs.Causes.{openingNumber}
+use Rattle.opened.proofs.ReadBack.{work-length}
 use Rattle.emit.specs.Sheet.{Sheet, workMachine, dumped}
 use Rattle.turns.specs.declared.Session.{Session}
 use Rattle.turns.specs.Answers.{numberOf, valueOf, answerOf}
 use Rattle.turns.specs.Turns.{Call, isCurrent, Reach, reached, refusedBy, thenZeros, settled, withText, tableFor, callOf}
-use Rattle.requests.specs.Calls.{openedCall, openCall, limitOf, cameTo, lentTo, requested, onward as goOn, requestedFrom, typeCall, typesCall}
-use Rattle.requests.specs.Lists.{counted as countedCall, listFrom, listCall}
-use Rattle.requests.proofs.Lists.{counted-goes, counted-stops, type-single, Counts, list-counts}
-use Rattle.requests.proofs.Fair.{placed, fair-request}
-use Rattle.requests.proofs.Laws.{limit-short, limit-long, limit-between, stuck-listed, opens-sound}
+use Rattle.calls.specs.Calls.{openedCall, openCall, limitOf, cameTo, lentTo, requested, onward as goOn, requestedFrom, typeCall, typesCall}
+use Rattle.calls.specs.Lists.{counted as countedCall, listFrom, listCall}
+use Rattle.calls.proofs.Lists.{counted-goes, counted-stops, type-single, Counts, list-counts}
+use Rattle.calls.proofs.Fair.{placed, fair-request}
+use Rattle.calls.proofs.Laws.{limit-short, limit-long, limit-between, stuck-listed, opens-sound}
 use Rattle.turns.specs.declared.Answer.the-variants.{Refused}
-use Rattle.requests.proofs.Claims.{number-is, value-is, type-settles, types-settle, type-not-below, type-not-current, types-not-current, closed-stays, type-current}
+use Rattle.calls.proofs.Claims.{number-is, value-is, type-settles, types-settle, type-not-below, type-not-current, types-not-current, closed-stays, type-current}
 use Rattle.demand.specs.Lists.{Ls, afresh}
 use Rattle.demand.specs.Session.{Known, textOf, machine, opened}
 use Rattle.claims.specs.Table.{headerOf}

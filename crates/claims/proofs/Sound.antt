@@ -23,14 +23,14 @@ use Rattle.prototypes.specs.Prototypes as walk
 use Rattle.prototypes.specs.Prototypes.{holders, anyLeads, ToProto, ends, passes}
 use Rattle.followed.proofs.Accessors.{id-param}
 use Rattle.prototypes.proofs.Held.{any-leads}
-use Rattle.opening.specs.Table.{typesOf, recordPlace, recordKind, indexOf}
+use Rattle.opened.specs.Table.{typesOf, recordPlace, recordKind, indexOf}
 use Rattle.header.specs.Header.{btfOf as settingsOf}
-use Rattle.opening.specs.Causes as causes
-use Rattle.opening.specs.Causes.{cause7, openingNumber}
-use Rattle.opening.proofs.Order.{sound-none}
-use Rattle.opening.proofs.Index.{types-few, table-count, followed-place, followed-kind}
-use Rattle.opening.proofs.ReadBack.{header-ok, types-ok, order-ok, record-back, followed-below}
-use Rattle.opening.proofs.Sections.{kind-is}
+use Rattle.opened.specs.Causes as causes
+use Rattle.opened.specs.Causes.{cause7, openingNumber}
+use Rattle.opened.proofs.Order.{sound-none}
+use Rattle.opened.proofs.Index.{types-few, table-count, followed-place, followed-kind}
+use Rattle.opened.proofs.ReadBack.{header-ok, types-ok, order-ok, record-back, followed-below}
+use Rattle.opened.proofs.Sections.{kind-is}
 use Rattle.demand.specs.Needs.{kids, weaken, isHolder, isProto, ProtoVia, it, on, WF}
 use Rattle.claims.specs.Table.{headerOf, openedTable}
 use Rattle.claims.proofs.Described.{count-is, type-zero, type-past}

@@ -21,8 +21,8 @@ use Rattle.btf.proofs.Laws.{place-type}
 use Rattle.btf.proofs.Frame.{field-other, table-field}
 use Rattle.classes.specs.Classes.{recordP, keyIn, classOf}
 use Rattle.classes.proofs.Keys.{place-apart}
-use Rattle.order.specs.Work.{markOf, code, workStore}
-use Rattle.order.proofs.Lawful.{work-lawful}
+use Rattle.marks.specs.Work.{markOf, code, workStore}
+use Rattle.marks.proofs.Lawful.{work-lawful}
 use Rattle.demand.specs.Lists.{Ls, listStore}
 use Rattle.demand.specs.Session.{Known, machine}
 use Rattle.ledger.specs.Indexed.{Indexed, Kept}

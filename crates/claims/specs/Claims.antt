@@ -9,8 +9,8 @@ use Rattle.rules.specs.Types.{Void, tableOf}
 use Rattle.rules.specs.Machine.{Req, run}
 use Rattle.btf.specs.Documented.{kept}
 use Rattle.btf.specs.Table.{workNaming}
-use Rattle.opening.specs.Table.{describedIn, typesOf, enumeratorsOf}
-use Rattle.opening.specs.Opened.{workOf}
+use Rattle.opened.specs.Table.{describedIn, typesOf, enumeratorsOf}
+use Rattle.opened.specs.Opened.{workOf}
 use Rattle.demand.specs.Needs.{WF}
 use Rattle.demand.specs.Demand.{Demand3}
 use Rattle.demand.specs.Session.{machineBy, openedBy, machine, opened, dumped, dumpTypes}

@@ -12,8 +12,8 @@ use Rattle.rules.specs.Machine.{Sess, Req, ordering, single, every, run}
 use Rattle.rules.specs.Types.{tableOf}
 use Rattle.turns.specs.Answers.{numberOf, valueOf}
 use Rattle.turns.specs.Turns.{Call, thenZeros}
-use Rattle.requests.specs.Calls.{typeCall, typesCall}
-use Rattle.requests.specs.Lists.{listCall}
+use Rattle.calls.specs.Calls.{typeCall, typesCall}
+use Rattle.calls.specs.Lists.{listCall}
 use Rattle.demand.specs.Needs.{NamedComp, MeetsTwice}
 use Rattle.demand.specs.Demand.{Demand3}
 use Rattle.demand.specs.Lists.{Ls}

@@ -8,13 +8,13 @@ use lib.Dec.{eqb}
 use Rattle.lent.specs.Words.{pick}
 use Rattle.rules.specs.Names.{Names}
 use Rattle.rules.specs.Machine.{Sess, Answer, Req, one, all}
-use Rattle.opening.specs.Table.{typesOf, enumeratorsOf}
-use Rattle.opening.specs.Opened.{workOf}
+use Rattle.opened.specs.Table.{typesOf, enumeratorsOf}
+use Rattle.opened.specs.Opened.{workOf}
 use Rattle.turns.specs.declared.Session.{Session}
 use Rattle.turns.specs.Answers.{numberOf, valueOf}
 use Rattle.turns.specs.Turns.{Call}
-use Rattle.requests.specs.Calls.{openCall, typeCall, typesCall}
-use Rattle.requests.specs.Lists.{listCall}
+use Rattle.calls.specs.Calls.{openCall, typeCall, typesCall}
+use Rattle.calls.specs.Lists.{listCall}
 use Rattle.demand.specs.Lists.{Ls}
 use Rattle.demand.specs.Session.{Known, textOf, machine}
 use Rattle.claims.specs.Table.{headerOf, openedTable}

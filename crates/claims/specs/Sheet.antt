@@ -14,7 +14,7 @@ use Rattle.rules.specs.Layout.{smaller}
 use Rattle.btf.specs.declared.types.Btf.{Btf}
 use Rattle.btf.specs.Cells.{getField}
 use Rattle.btf.specs.Table.{from, btfOf}
-use Rattle.order.specs.Work.{markOf}
+use Rattle.marks.specs.Work.{markOf}
 use Rattle.demand.specs.Lists.{Ls}
 use Rattle.emit.specs.Sheet.{Sheet}
 use Rattle.demand.specs.Session.{Known, textOf, machine}

@@ -7,8 +7,8 @@ use Rattle.rules.specs.Types.{BtfType, Void, Int, Ptr, Array, Composite, Enum, 
 use Rattle.btf.specs.declared.types.Btf.{Btf}
 use Rattle.btf.specs.Table as btf
 use Rattle.header.specs.Header as header
-use Rattle.opening.specs.Table.{typesOf}
-use Rattle.opening.specs.Opened.{workOf}
+use Rattle.opened.specs.Table.{typesOf}
+use Rattle.opened.specs.Opened.{workOf}
 
 -- what the code knows of the section s after opening: pointer size, mode, order of bytes, the count of types, the place of the strings
 abbrev pub headerOf : ℕ → ℕ → List ℕ → Btf

@@ -8,7 +8,7 @@ use lib.ListN.{length, getD, set, replicate, length-replicate}
 use lib.Seq.{getD-set-same, getD-set-other, lt-length-set}
 use lib.Dec.{leb, eqb}
 use Rattle.lent.specs.Words.{oneMore}
-use Rattle.lent.specs.Text.{Text, whole, cut, bytes}
+use Rattle.text.specs.Text.{Text, whole, cut, bytes}
 use Rattle.rules.specs.Types.{Name, BtfType, Btf, tableOf}
 use Rattle.rules.specs.Order.{Mark, new}
 use Rattle.rules.specs.Machine.{Out, wrote, stuck, Machine, Sess, Answer, Req, one, single}

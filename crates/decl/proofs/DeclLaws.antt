@@ -5,7 +5,7 @@ use mathlib.Core.Bool.{Bool, true, false}
 use mathlib.Core.List.{List, [], _∷_}
 use native.Mathlib.Omega.{arith}
 use lib.ListN.{length}
-use Rattle.lent.specs.Text.{whole, cut, putOut, putText}
+use Rattle.text.specs.Text.{whole, cut, putOut, putText}
 use Rattle.rules.specs.Writer.{Said, Writer, stop, nothing, _⨾_}
 use Rattle.rules.specs.Types.{Name}
 use Rattle.rules.specs.Decl.{Entry, base, star, qual, array, proto, tag, chainOf, emitName, emitTypeDecl, emitTypeChain}
@@ -19,7 +19,7 @@ use Rattle.chain.specs.Chains.{chainAt, chainIs}
 use Rattle.chain.proofs.Paths.{chain-top, chain-length}
 use Rattle.chain.proofs.Linked.{false-true}
 use Rattle.decl.specs.declared.Chain.{Chain}
-use Rattle.decl.specs.Pieces.{entryLeft, entryStar, entryNamed, entryText, chainRest}
+use Rattle.bodies.specs.Pieces.{entryLeft, entryStar, entryNamed, entryText, chainRest}
 use Rattle.decl.proofs.Turns.{chain-turn, chain-done, chain-named, decl-none, chain-none, decl-some, chain-some}
 use Rattle.decl.proofs.Kept.{seen, Leads, leads-end, leads-turn}
 use Rattle.decl.proofs.Keeping.{said-as, put-emit-name, N, T, kept-entry}

@@ -6,8 +6,8 @@ use mathlib.Core.List.{List, [], _∷_}
 use native.Mathlib.Omega.{arith}
 use lib.Dec.{eqb}
 use borrow.Author.Tests.{ne-eqb}
-use Rattle.lent.specs.Text.{ascii, whole, putOut, putText}
-use Rattle.lent.proofs.TextLaws.{put-seq}
+use Rattle.text.specs.Text.{ascii, whole, putOut, putText}
+use Rattle.text.proofs.TextLaws.{put-seq}
 use Rattle.rules.specs.Writer.{Writer, put, nothing, _⨾_}
 use Rattle.rules.specs.Types.{Name, isEmpty, Member, BtfType, Composite, Btf as Rules}
 use Rattle.rules.specs.Names.{identSpace, resolveTypeName}
@@ -23,9 +23,9 @@ use Rattle.chain.specs.Chains.{isQualifier, qualifierOf, entryOf, pathAt, chain
 use Rattle.chain.proofs.Paths.{chain-top, no-mods-skipped, put-mods, top-some}
 use Rattle.chain.proofs.Linked.{array-is, entry-star, entry-array, entry-proto, entry-tag, entry-base, entry-qual, qual-in, link-high}
 use Rattle.decl.specs.declared.Chain.{Chain}
-use Rattle.decl.specs.Pieces.{entryLeft, entryStar, entryNamed, gap, starText, wordBelow, paramsBelow, arrayBelow, protoBelow, paramListBelow, entryText, enumText}
+use Rattle.bodies.specs.Pieces.{entryLeft, entryStar, entryNamed, gap, starText, wordBelow, paramsBelow, arrayBelow, protoBelow, paramListBelow, entryText, enumText}
 use Rattle.decl.proofs.Turns.{word-any}
-use Rattle.decl.proofs.BodyLaws.{also}
+use Rattle.bodies.proofs.BodyLaws.{also}
 use Rattle.decl.proofs.Kept.{seen, then-on}
 use Rattle.decl.proofs.Keeping.{said-as, put-emit-name, N, T, kept-proto}
 use mathlib.Core.Logic.{_⊎_, inl, inr, ⊎-elim}

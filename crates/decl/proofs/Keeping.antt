@@ -3,7 +3,7 @@ use Prim.Native.Nat.{ℕ}
 use mathlib.Core.Path.{_≡_, ap, _∙_, sym}
 use mathlib.Core.Bool.{Bool}
 use mathlib.Core.List.{List, [], _∷_}
-use Rattle.lent.specs.Text.{whole, putOut, putText}
+use Rattle.text.specs.Text.{whole, putOut, putText}
 use Rattle.rules.specs.Writer.{Ask, got, no, Writer, given}
 use Rattle.rules.specs.Types.{Name, Member, Param, BtfType, Btf as Rules}
 use Rattle.rules.specs.Names.{Naming}
@@ -16,7 +16,7 @@ use Rattle.btf.specs.declared.types.Btf.{Btf}
 use Rattle.btf.specs.Table.{btfOf, workNaming}
 use Rattle.names.specs.Spelling.{nameAfter}
 use Rattle.names.proofs.Spellings.{emit-name-is}
-use Rattle.decl.specs.Pieces.{arrayBelow, protoBelow, paramListBelow, entryText, paramText, memberTail, memberText}
+use Rattle.bodies.specs.Pieces.{arrayBelow, protoBelow, paramListBelow, entryText, paramText, memberTail, memberText}
 use Rattle.decl.proofs.Kept.{seen, keeps-type, keeps-value}
 
 -- the same writer, said in another way

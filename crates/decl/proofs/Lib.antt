@@ -1,10 +1,8 @@
--- Sequences: one writer after another. Turns: a loop of the rules is its first turn and then the rest. WordLaws, BodyLaws:
--- what src/words.rt and src/bodies.rt write. Kept: what no version of a name changes; a loop's rest. Keeping: the emitters
+-- Sequences: one writer after another. Turns: a loop of the rules is its first turn and then the rest. Kept: what no version of a
+-- name changes; a loop's rest. Keeping: the emitters
 -- keep it. DeclLaws, EntryLaws, MemberLaws: what each return of the functions that call each other comes to.
 pub mod Sequences
 pub mod Turns
-pub mod WordLaws
-pub mod BodyLaws
 pub mod Kept
 pub mod Keeping
 pub mod DeclLaws

@@ -1,13 +1,12 @@
 -- The text of a body's members is the text of its lines: what is laid out is what is printed. Assumes nothing.
-use Prim.Native.Nat.{ℕ, zero, suc, _+_}
+use Prim.Native.Nat.{ℕ, suc, _+_}
 use mathlib.Core.Path.{_≡_, refl, ap, ap₂, _∙_, sym}
-use mathlib.Core.Bool.{Bool, true, false}
+use mathlib.Core.Bool.{Bool}
 use mathlib.Core.List.{List, [], _∷_, _++_, append-assoc}
 use native.Mathlib.Omega.{arith}
-use native.Mathlib.Numerals.{add-one}
 use lib.Dec.{eqb}
 use borrow.Author.Tests.{ne-eqb}
-use Rattle.lent.specs.Text.{ascii, pfx, join}
+use Rattle.text.specs.Text.{ascii, pfx, join}
 use Rattle.rules.specs.Writer.{Ask, got, no, askThen, Writer, after, next, _⨾_, put, given}
 use Rattle.rules.specs.Types.{Name, Member, Btf}
 use Rattle.rules.specs.Names.{Naming}

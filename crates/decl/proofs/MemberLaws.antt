@@ -6,7 +6,7 @@ use mathlib.Core.List.{List, [], _∷_}
 use native.Mathlib.Omega.{arith}
 use lib.Dec.{eqb, leb}
 use borrow.Author.Tests.{ne-eqb, le-leb, lt-leb}
-use Rattle.lent.specs.Text.{ascii, pfx, whole, cut, putOut, putText}
+use Rattle.text.specs.Text.{ascii, pfx, whole, cut, putOut, putText}
 use Rattle.rules.specs.Writer.{Said, Writer, put, stop, nothing, given, _⨾_, saidNames}
 use Rattle.rules.specs.Types.{Name, Member, Param, Btf as Rules, Typedef}
 use Rattle.rules.specs.Names.{tagSpace, identSpace, resolveTypeName, builtin}
@@ -25,11 +25,11 @@ use Rattle.layout.specs.declared.Packed.{Packed}
 use Rattle.layout.specs.declared.Packed.the-variants.{Is, No as NoPacked}
 use Rattle.layout.specs.Answers.{packedOf}
 use Rattle.names.proofs.Resolve.{put-type-name, resolved-type}
-use Rattle.padding.specs.Texts.{padText}
-use Rattle.decl.specs.Pieces.{comma, paramsBelow, paramText, memberTail, memberText, membersBelow, endFrom, noDecl}
+use Rattle.pads.specs.Texts.{padText}
+use Rattle.bodies.specs.Pieces.{comma, paramsBelow, paramText, memberTail, memberText, membersBelow, endFrom, noDecl}
 use Rattle.decl.proofs.Sequences.{then-assoc, nothing-then}
 use Rattle.decl.proofs.Turns.{params-turn, members-turn, def-none, def-some}
-use Rattle.decl.proofs.BodyLaws.{also}
+use Rattle.bodies.proofs.BodyLaws.{also}
 use Rattle.decl.proofs.Kept.{Seen, seen, keeps-type, keeps-value, then-on, Leads, leads-end, leads-turn}
 use Rattle.decl.proofs.Keeping.{said-as, N, T, KeptBy, kept-decl, kept-word, kept-param, kept-member}
 use mathlib.Core.Logic.{⊎-elim}
@@ -37,8 +37,8 @@ use Rattle.btf.specs.declared.types.BtfMember.{BtfMember}
 use Rattle.names.specs.declared.versions.Name.{Name as Printing}
 use Rattle.names.specs.Spelling.{nameText}
 use Rattle.names.proofs.Spellings.{bare-text}
-use Rattle.padding.proofs.Laws.{put-padding}
-use Rattle.decl.specs.declared.bodies.Spot.{Spot}
+use Rattle.pads.proofs.Laws.{put-padding}
+use Rattle.bodies.specs.declared.bodies.Spot.{Spot}
 use Rattle.lent.proofs.Laws.{le-or-lt}
 
 -- lists by their first: what is left of n from the k-th on

@@ -3,7 +3,7 @@
 use Prim.Native.Nat.{ℕ}
 use mathlib.Core.Path.{_≡_, refl, ap}
 use mathlib.Core.List.{List, [], _∷_, _++_, append-assoc}
-use Rattle.lent.specs.Text.{Text, whole, cut, join}
+use Rattle.text.specs.Text.{Text, whole, cut, join}
 use Rattle.rules.specs.Writer.{Said, said, Writer, after, next, put, stop, nothing, _⨾_}
 
 append-none : (a : List ℕ) → a ++ [] ≡ a

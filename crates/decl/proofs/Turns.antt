@@ -5,13 +5,13 @@ use mathlib.Core.Bool.{Bool, true, false}
 use mathlib.Core.List.{List, [], _∷_}
 use native.Mathlib.Omega.{arith}
 use lib.ListN.{length}
-use Rattle.lent.specs.Text.{ascii, pfx}
+use Rattle.text.specs.Text.{ascii, pfx}
 use Rattle.rules.specs.Writer.{Ask, got, no, Writer, _⨾_, put, stop, nothing, given}
 use Rattle.rules.specs.Types.{Name, Member, Param, BtfType, Void, Int, Ptr, Array, Composite, Enum, Enum64, Fwd, Typedef, Mod, Func, Var, Datasec, FuncProto, Float, DeclTag, TypeTag, Btf}
 use Rattle.rules.specs.Names.{Naming}
 use Rattle.rules.specs.Layout.{Pad, bitPadding, endOf}
 use Rattle.rules.specs.Decl.{Entry, base, star, qual, array, proto, tag, noMods, noParams, emitName, pads, bitSize, emitDeclTags, emitParams, chainOf, baseWord, chainLoop, emitMembers, compositeDef, emitTypeDecl, emitTypeChain, emitCompositeDef}
-use Rattle.decl.specs.Pieces.{entryLeft, entryStar, entryNamed, starText, wordBelow, loopBelow, entryText, chainRest, paramText, memberTail, memberText, membersBelow, endFrom, comma}
+use Rattle.bodies.specs.Pieces.{entryLeft, entryStar, entryNamed, starText, wordBelow, loopBelow, entryText, chainRest, paramText, memberTail, memberText, membersBelow, endFrom, comma}
 use Rattle.decl.proofs.Sequences.{then-assoc, then-nothing, stop-then}
 
 no-mods-length : (c : List Entry) → length (noMods c) ≤ length c

@@ -1,28 +1,31 @@
 // Declarations, their chains and the bodies of composites, which call each other. `left` is how many more calls of
 // emit_type_decl, emit_type_chain and emit_composite_def may be open; `below` is that for the calls within one of them.
-mod bodies;
-mod words;
-
 use bodies::Spot;
 use bodies::emit_composite_end;
 use bodies::emit_composite_head;
 use bodies::emit_enum_word;
 use bodies::emit_enum64_word;
 use bodies::emit_member_end;
+use bodies::is_any_more;
+use bodies::put_close;
+use bodies::put_comma;
+use bodies::put_count;
+use bodies::put_gap;
+use bodies::put_open;
+use bodies::put_star;
+use bodies::put_type_tag;
 use bodies::put_typedef_name;
+use bodies::shown_params;
 use btf::Btf;
 use btf::BtfType;
 use btf::Entries;
 use btf::array_nelems;
 use btf::entries_of;
-use btf::is_builtin;
-use btf::is_empty;
 use btf::is_struct;
 use btf::kind_flag_of;
 use btf::kind_of;
 use btf::load_member;
 use btf::param_place;
-use btf::put_str;
 use btf::type_by_id;
 use btf::vlen_of;
 use btf::word;
@@ -33,49 +36,41 @@ use chain::path_at;
 use chain::put_qualifier;
 use chain::skip_mods;
 use enums::deeper;
+use fixed::put_dots;
+use fixed::put_void;
 use layout::Ask;
 use layout::Packed;
-use lent::put_byte;
-use lent::put_dots;
-use lent::put_tabs;
-use lent::put_two;
-use lent::put_typedef;
-use lent::put_void;
-use lent::stop;
-use lent::stopped;
 use names::Name;
 use names::bare;
 use names::emit_composite_fwd;
-use names::emit_decl_tags;
 use names::emit_fwd_def;
 use names::emit_name;
-use names::resolve_type_name;
 use padding::emit_bit_padding;
 use padding::emit_tail_padding;
 use placing::body_packed;
-use words::put_close;
-use words::put_comma;
-use words::put_count;
-use words::put_gap;
-use words::put_open;
-use words::put_star;
-use words::put_type_tag;
+use strings::is_builtin;
+use strings::is_empty;
+use strings::put_str;
+use text::put_byte;
+use text::put_tabs;
+use text::put_two;
+use text::stop;
+use text::stopped;
 ghost use mathlib.Core.Path.{_≡_};
-ghost use mathlib.Core.Bool.{true, false, _&&_};
+ghost use mathlib.Core.Bool.{true, false};
 ghost use Prim.Native.Nat.{_≤_, _<_, _-_, _+_};
 ghost use lib.Dec.{eqb, leb};
 ghost use Rattle.rules.specs.Writer.{put, _⨾_};
 ghost use Rattle.rules.specs.Layout.{endOf};
 ghost use Rattle.rules.specs.Placing.{tailPads};
 ghost use Rattle.rules.specs.Types.{Composite};
-ghost use Rattle.rules.specs.Decl.{mods, noMods, shownParams, emitTypeDecl, emitTypeChain, emitCompositeDef, emitTypedefDef};
+ghost use Rattle.rules.specs.Decl.{mods, noMods, shownParams, emitTypeDecl, emitTypeChain, emitCompositeDef};
 ghost use Rattle.rules.specs.Place.{outOf, putSaid};
-ghost use Rattle.btf.specs.Names.{strAt};
 ghost use Rattle.btf.specs.Records.{kindOf, memberOf};
 ghost use Rattle.btf.specs.Table.{from, paramOf, paramsOf, membersOf, recordName, ruleMember, typeOf, btfOf, workNaming};
 ghost use Rattle.names.specs.Spelling.{nameText};
 ghost use Rattle.chain.specs.Chains.{chainAt};
-ghost use Rattle.decl.specs.Pieces.{entryLeft, entryStar, entryNamed, wordBelow, paramsBelow, arrayBelow, protoBelow, paramListBelow, entryText, paramText, memberText, membersBelow, endFrom};
+ghost use Rattle.bodies.specs.Pieces.{entryLeft, entryStar, entryNamed, wordBelow, paramsBelow, arrayBelow, protoBelow, paramListBelow, entryText, paramText, memberText, membersBelow, endFrom};
 
 // What is declared: the type that the chain starts from, the declared name, and the level of indentation.
 pub struct Declarator {
@@ -346,22 +341,6 @@ fn emit_proto(
     put_close(text, c)
 }
 
-// The parameters that are printed: a single one of type void is none.
-fn shown_params(b: Btf, section: &[u8], params: Entries) -> Entries
-    ensures { λ r. ⌜ from (paramOf b (now (section .entry)) (r .at)) 0 (r .vlen) ≡ shownParams (from (paramOf b (now (section .entry)) (params .at)) 0 (params .vlen)) ⌝ }
-{
-    if params.vlen != 1 {
-        return params;
-    }
-    if word(b, section, param_place(params, 0) + 4) != 0 {
-        return params;
-    }
-    Entries {
-        at: params.at,
-        vlen: 0,
-    }
-}
-
 // The parameters in parentheses.
 fn emit_params(
     b: Btf,
@@ -414,19 +393,6 @@ fn emit_param(
         return put_dots(text, a);
     }
     emit_type_decl(b, section, work, text, a, d, below)
-}
-
-// Whether parameter k of vlen is the last, and void.
-fn is_any_more(vlen: u32, k: u32, type_id: u32) -> bool
-    ensures { λ r. ⌜ r ≡ (leb vlen (k + 1) && eqb «type_id» 0) ⌝ }
-{
-    if type_id != 0 {
-        return false;
-    }
-    if vlen == 0 {
-        return true;
-    }
-    vlen - 1 <= k
 }
 
 pub fn emit_composite_def(
@@ -525,29 +491,4 @@ fn emit_member(
     let e = put_tabs(text, c, lvl);
     let f = emit_type_decl(b, section, work, text, e, d, below);
     emit_member_end(b, section, work, text, f, id, k, m)
-}
-
-// A typedef's line, without its end. The compiler's own type has none: see the caller.
-pub fn emit_typedef_def(
-    b: Btf,
-    section: &[u8],
-    work: &mut [u8],
-    text: &mut [u8],
-    at: usize,
-    id: u32,
-    name_off: u32,
-    type_id: u32,
-) -> usize
-    ensures { λ r. ⌜ outOf r (now (text .exit)) (now (work .exit)) ≡ putSaid (now (text .entry)) at (emitTypedefDef (workNaming b) (btfOf b (now (section .entry)) (now (work .entry))) id (strAt b (now (section .entry)) «name_off») «type_id» (now (work .entry))) ⌝ }
-{
-    let name = resolve_type_name(b, section, work, id, name_off);
-    let d = Declarator {
-        id: type_id,
-        name: name,
-        lvl: 0,
-    };
-    let a = put_typedef(text, at);
-    let c = put_byte(text, a, b' ');
-    let e = emit_type_decl(b, section, work, text, c, d, 512);
-    emit_decl_tags(b, section, work, text, e, id, 4294967295)
 }

@@ -5,7 +5,7 @@ use mathlib.Core.Bool.{Bool, true, false}
 use mathlib.Core.List.{List, [], _∷_, _++_}
 use lib.ListN.{length, getD, set, length-set, length-replicate}
 use lib.Dec.{leb}
-use Rattle.lent.specs.Text.{Text, whole, cut, bytes}
+use Rattle.text.specs.Text.{Text, whole, cut, bytes}
 use Rattle.rules.specs.Order.{new}
 use Rattle.rules.specs.Machine.{Req, run}
 use Rattle.rules.specs.Writer.{Said}

@@ -7,7 +7,7 @@ use lib.ListN.{length-replicate}
 use Rattle.rules.specs.Machine.{Req, run}
 use Rattle.rules.specs.Types.{Btf, tableOf}
 use Rattle.rules.specs.Names.{naming}
-use Rattle.opening.specs.Causes.{openingNumber}
+use Rattle.opened.specs.Causes.{openingNumber}
 use Rattle.turns.specs.Turns.{Call}
 use Rattle.demand.specs.Needs.{WF}
 use Rattle.demand.specs.Session.{textOf, machine, noNames, opened}

@@ -4,7 +4,7 @@ use mathlib.Core.Path.{_≡_, refl, sym, _∙_, ap, subst}
 use mathlib.Core.Bool.{Bool, true, false, not, true≢false}
 use mathlib.Core.List.{List, [], _∷_, _++_, append-assoc, List·Memᴰ, List·Memᴰ·head, List·Memᴰ·not-nil, List·Memᴰ·append-cases, List·Memᴰ·eq-of-singleton}
 use mathlib.Core.Logic.{_⊎_, inl, inr}
-use Rattle.lent.specs.Text.{whole, cut, join}
+use Rattle.text.specs.Text.{whole, cut, join}
 use Rattle.rules.specs.Order.{Node, ignored, plain, listed, through, ptr, tdef, proto, comp, isComp}
 use Rattle.rules.specs.Writer.{Ask, got, no, Said, said, saidNames, Writer, after, next, _⨾_, put, stop, given}
 use Rattle.rules.specs.Types.{Name, isEmpty, Member, Enumerator, BtfType, Void, Int, Ptr, Array, Composite, Enum, Enum64, Fwd, Typedef, Mod, Func, Var, Datasec, FuncProto, Float, DeclTag, TypeTag, Btf, memberTypes, nodeOf, nameOf}

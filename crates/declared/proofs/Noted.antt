@@ -7,7 +7,7 @@ use mathlib.Core.Logic.{_⊎_, inl, inr}
 use lib.ListN.{length, length-set}
 use lib.Seq.{getD-set-same, getD-set-other}
 use lib.Dec.{leb}
-use Rattle.lent.specs.Text.{Text, whole, cut, bytes}
+use Rattle.text.specs.Text.{Text, whole, cut, bytes}
 use Rattle.rules.specs.Order.{Node, listed, tdef, comp, Table, isComp, new}
 use Rattle.rules.specs.Machine.{Out}
 use Rattle.rules.specs.Writer.{Said, said, Writer}

@@ -5,7 +5,7 @@ use mathlib.Core.Bool.{Bool, true, false, not, true≢false}
 use mathlib.Core.List.{List, [], _∷_, _++_, append-assoc, append-nil, List·Memᴰ, List·Memᴰ·cases-cons, List·Memᴰ·append-cases}
 use mathlib.Core.Logic.{_⊎_, inl, inr}
 use lib.ListN.{length}
-use Rattle.lent.specs.Text.{ascii, Text, whole, cut, join}
+use Rattle.text.specs.Text.{ascii, Text, whole, cut, join}
 use Rattle.rules.specs.Writer.{Ask, got, no, Said, said, saidText, Writer, after, next, _⨾_, put, stop, given}
 use Rattle.rules.specs.Types.{Name, isEmpty, Member, Btf}
 use Rattle.rules.specs.Names.{Naming}

@@ -6,7 +6,7 @@ use mathlib.Core.List.{List, [], _∷_, List·Memᴰ, List·Memᴰ·head, List·
 use mathlib.Core.Logic.{_⊎_, inl, inr}
 use lib.ListN.{length}
 use lib.Dec.{eqb}
-use Rattle.lent.specs.Text.{whole, cut}
+use Rattle.text.specs.Text.{whole, cut}
 use Rattle.rules.specs.Order.{Table, isComp}
 use Rattle.rules.specs.Writer.{Ask, got, no, Said, said, saidNames, Writer, after, next, _⨾_, put, stop, given}
 use Rattle.rules.specs.Types.{Name, isEmpty, Member, Param, Enumerator, BtfType, Void, Int, Ptr, Array, Composite, Enum, Enum64, Fwd, Typedef, Mod, Func, Var, Datasec, FuncProto, Float, DeclTag, TypeTag, Btf, memberTypes, paramTypes, nodeOf, nameOf, isNamed, tableOf}

@@ -2,7 +2,7 @@
 use Prim.Native.Nat.{ℕ}
 use mathlib.Core.Bool.{true}
 use mathlib.Core.List.{List, [], _∷_}
-use Rattle.lent.specs.Text.{ascii}
+use Rattle.text.specs.Text.{ascii}
 use Rattle.rules.specs.Machine.{one}
 use Rattle.rules.specs.Types.{Void, Int, Ptr, Composite, Typedef, FuncProto, Btf}
 use Rattle.rules.specs.Samples.{table, member}

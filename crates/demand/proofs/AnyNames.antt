@@ -5,7 +5,7 @@ use mathlib.Core.Bool.{Bool, true, false}
 use mathlib.Core.List.{List, [], _∷_, _++_, List·Memᴰ}
 use lib.ListN.{length, getD, set, length-set, replicate, length-replicate}
 use lib.Dec.{leb}
-use Rattle.lent.specs.Text.{Text, whole, cut, bytes}
+use Rattle.text.specs.Text.{Text, whole, cut, bytes}
 use Rattle.rules.specs.Order.{Mark, new}
 use Rattle.rules.specs.Machine.{Out, wrote, stuck, Sess, Answer, Req, one, all, single, every}
 use Rattle.rules.specs.Writer.{Said, said, Writer}

@@ -7,7 +7,7 @@ use mathlib.Core.List.{List}
 use mathlib.Core.Logic.{_⊎_, inl, inr}
 use lib.ListN.{length}
 use lib.Dec.{leb}
-use Rattle.lent.specs.Text.{Text, whole, cut, bytes}
+use Rattle.text.specs.Text.{Text, whole, cut, bytes}
 use Rattle.rules.specs.Machine.{Fine, MLawful, Req, run}
 use Rattle.rules.specs.Writer.{Said, said, saidText}
 use Rattle.rules.specs.Types.{Btf, tableOf}

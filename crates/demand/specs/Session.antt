@@ -4,8 +4,8 @@ use mathlib.Core.Bool.{Bool, true, false}
 use mathlib.Core.List.{List, [], _∷_, _++_}
 use lib.ListN.{length, replicate}
 use lib.Dec.{leb}
-use Rattle.lent.specs.Text.{ascii, Text, whole, cut, bytes}
-use Rattle.lent.specs.Decimal.{decimal}
+use Rattle.text.specs.Text.{ascii, Text, whole, cut, bytes}
+use Rattle.text.specs.Decimal.{decimal}
 use Rattle.rules.specs.Machine.{Machine, Sess, Answer, Req, one, all, single, every}
 use Rattle.rules.specs.Writer.{Said, said}
 use Rattle.rules.specs.Types.{Btf, tableOf}

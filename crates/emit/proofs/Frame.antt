@@ -1,13 +1,12 @@
 -- What emission leaves alone: whatever reads neither emission's marks and flags nor the names. Assumes nothing.
-use Prim.Native.Nat.{ℕ, zero, suc, _+_, _-_, _*_, _<_, _≤_}
+use Prim.Native.Nat.{ℕ, zero, suc, _+_, _-_, _*_, _<_}
 use mathlib.Core.Path.{_≡_, refl, ap, _∙_, sym}
 use mathlib.Core.List.{List, [], _∷_}
 use mathlib.Core.Bool.{Bool, true, false, not, _&&_, _||_}
 use mathlib.Core.Logic.{⊎-elim, _≢_}
 use native.Mathlib.Omega.{arith}
 use lib.Dec.{eqb, ltb}
-use Rattle.lent.specs.Text.{Text, Out as TextOut, done as lies, stopped, putText}
-use Rattle.lent.specs.Words.{getWord}
+use Rattle.text.specs.Text.{Text, Out as TextOut, done as lies, stopped, putText}
 use Rattle.lent.proofs.Laws.{le-or-lt}
 use Rattle.rules.specs.Order.{Node, ignored, plain, listed, through, ptr, tdef, proto, comp, Mark, new, busy, done}
 use Rattle.rules.specs.Machine.{Out, wrote, stuck, isZero, pick, obind, eeach, once, mention, again, close, leaf, within, begin, allowed, look, emit}
@@ -22,7 +21,7 @@ use Rattle.btf.specs.Cells.{getField, putField, classP, countP, countOf, counte
 use Rattle.btf.specs.Table.{btfOf, workNaming, typeVersionIn, valueVersionIn, enumeratorOf}
 use Rattle.btf.proofs.Laws.{place-type, place-enum}
 use Rattle.btf.proofs.Frame.{field-other, table-field, table-type-version, table-value-version, counted-other}
-use Rattle.order.specs.Work.{code}
+use Rattle.marks.specs.Work.{code}
 use Rattle.emit.specs.Sheet.{Sheet, sheetOf, lineIn, workMachine}
 
 module _ {X : Type 0} (P : List ℕ → X) where

@@ -1,6 +1,6 @@
 -- The machine in the lent slices, with the list of tags beside it, is lawful in the sense of the theory, for n types: the work has at least 64
 -- bytes a type, and the place lies in the text. Assumes nothing.
-use Prim.Native.Nat.{ℕ, zero, suc, _+_, _*_, _-_, _/_, _<_, _≤_}
+use Prim.Native.Nat.{ℕ, zero, suc, _+_, _*_, _-_, _<_, _≤_}
 use mathlib.Core.Path.{_≡_, refl, ap, _∙_, sym, subst}
 use mathlib.Core.List.{List, [], _∷_, _++_}
 use mathlib.Core.Bool.{Bool, true, false}
@@ -9,10 +9,10 @@ use native.Mathlib.Omega.{arith}
 use lib.Dec.{eqb, ltb}
 use lib.ListN.{length, take, drop, length-append, length-drop}
 use lib.Seq.{length-take-le}
-use Rattle.lent.specs.Text.{Text, whole, cut, bytes, Out as TextOut, done as lies, stopped, place, written, putText}
+use Rattle.text.specs.Text.{Text, whole, cut, bytes, Out as TextOut, done as lies, place, written, putText}
 use Rattle.lent.specs.Words.{getWord, putWord}
 use Rattle.lent.proofs.Laws.{le-or-lt, get-put-same, get-put-other, put-length}
-use Rattle.lent.proofs.TextLaws.{put-fits, put-none}
+use Rattle.text.proofs.TextLaws.{put-fits, put-none}
 use Rattle.rules.specs.Order.{Table, Mark, new, busy, done, Store, Lawful, Framed}
 use Rattle.rules.specs.Machine.{Out, wrote, stuck, Machine, Fine, OHolds, ogood, obad, Same, Kept, Defines, MLawful}
 use Rattle.rules.specs.Types.{Name, BtfType, Btf as Rules}
@@ -27,9 +27,9 @@ use Rattle.btf.specs.Cells.{getField, putField, classP, countP, countOf, counte
 use Rattle.btf.specs.Table.{from, workNaming, typeVersionIn, valueVersionIn, enumeratorOf}
 use Rattle.btf.proofs.Laws.{place-type, place-enum}
 use Rattle.btf.proofs.Frame.{field-other, counted-other}
-use Rattle.order.specs.Work.{Marks, markOf, code, workStore}
-use Rattle.order.proofs.Lawful.{work-lawful}
-use Rattle.emit.specs.Sheet.{Sheet, marksIn, withWork, sheetStore, emptied, sheetOf, lineIn, workMachine, dumped}
+use Rattle.marks.specs.Work.{Marks, markOf, code, workStore}
+use Rattle.marks.proofs.Lawful.{work-lawful}
+use Rattle.emit.specs.Sheet.{Sheet, marksIn, sheetStore, emptied, sheetOf, lineIn, workMachine, dumped}
 use Rattle.emit.specs.Tagged.{Tagged, tagged, taggedMachine}
 use Rattle.emit.proofs.Maps.{omap, StoreMap, MachineMap, map-dumped}
 

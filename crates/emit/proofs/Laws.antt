@@ -1,22 +1,21 @@
 -- What each return of emission's code comes to, against the rules. Assumes nothing.
-use Prim.Native.Nat.{ℕ, zero, suc, _+_, _*_, _-_, _<_, _≤_}
+use Prim.Native.Nat.{ℕ, zero, suc, _+_, _-_, _<_, _≤_}
 use mathlib.Core.Path.{_≡_, refl, ap, _∙_, sym, subst}
-use mathlib.Core.List.{List, [], _∷_}
+use mathlib.Core.List.{List, []}
 use mathlib.Core.Bool.{Bool, true, false, not, _&&_, _||_}
-use mathlib.Core.Logic.{_⊎_, inl, inr, ⊎-elim}
+use mathlib.Core.Logic.{_⊎_, ⊎-elim}
 use native.Mathlib.Omega.{arith}
-use native.Mathlib.Numerals.{add-one}
-use lib.Dec.{eqb, ltb}
+use lib.Dec.{eqb}
 use lib.ListN.{length}
 use borrow.Author.Tests.{eq-eqb, ne-eqb}
-use Rattle.lent.specs.Text.{Text, whole, cut, bytes, Out as TextOut, done as lies, stopped, isStopped, putOut, written, putText}
-use Rattle.lent.proofs.TextLaws.{out-done, out-stopped, put-fits, stays, not-stopped}
+use Rattle.text.specs.Text.{Text, whole, cut, bytes, Out as TextOut, stopped, isStopped, putOut, written, putText}
+use Rattle.text.proofs.TextLaws.{out-done, out-stopped, put-fits, stays}
 use Rattle.lent.proofs.Laws.{le-or-lt}
-use Rattle.rules.specs.Order.{Table, Node, ignored, plain, listed, through, ptr, tdef, proto, comp, Mark, new, busy, done, isComp}
+use Rattle.rules.specs.Order.{Node, ignored, plain, listed, through, ptr, tdef, proto, comp, Mark, new, busy, done}
 use Rattle.rules.specs.Machine.{Out, wrote, stuck, Machine, isZero, pick, obind, eeach, once, mention, again, close, leaf, within, begin, allowed, look, emit}
 use Rattle.rules.specs.Types.{BtfType, Btf as Rules, nodeOf, isNamed, memberTypes, tableOf}
 use Rattle.rules.specs.Writer.{Said, Writer}
-use Rattle.rules.specs.Place.{Wrote, withNames, outOf, putSaid}
+use Rattle.rules.specs.Place.{withNames, outOf, putSaid}
 use Rattle.rules.specs.Emit.{definition, forward}
 use Rattle.rules.proofs.Writing.{said-stopped}
 use Rattle.btf.specs.declared.types.Btf.{Btf}
@@ -30,10 +29,10 @@ use Rattle.btf.specs.Table.{from, membersOf, typeOf, btfOf, workNaming}
 use Rattle.btf.specs.Nodes.{nodeIs, memberIds, paramIds}
 use Rattle.btf.proofs.Frame.{field-other}
 use Rattle.btf.proofs.KindLaws.{by-kind, type-0, type-1, type-2, type-3, type-4, type-5, type-6, type-7, type-8, type-9, type-10, type-11, type-12, type-13, type-14, type-15, type-16, type-17, type-18, type-19, type-none}
-use Rattle.order.specs.Work.{markOf, tableIn}
-use Rattle.order.proofs.Laws.{is-done, is-busy, is-new, type-at, node-at, named-at, node-is}
+use Rattle.marks.specs.Work.{markOf}
+use Rattle.marks.proofs.Laws.{is-done, is-busy, is-new, type-at, node-at, named-at, node-is}
 use Rattle.emit.specs.Sheet.{Sheet, sheetOf, withWork, emitOut, lineIn, workMachine, emitIn, newIn, againIn, leafIn, compositeIn, onceIn, mentionIn}
-use Rattle.emit.proofs.Frame.{Stays, on, off, stays-from, stays-then, table-emark, table-emit, table-each, places, places-emit}
+use Rattle.emit.proofs.Frame.{Stays, on, off, stays-then, table-emark, table-emit, table-each}
 
 abbrev pub sheet : ℕ → ℕ → List ℕ → List ℕ → Sheet
 sheet n at t w = record { work = w; text = t; at = at; len = n }
@@ -46,12 +45,6 @@ not-true false e = refl
 pub not-false : (x : Bool) → not x ≡ false → x ≡ true
 not-false true e = refl
 not-false false e = sym e
-
-pub lt-ne : (k a c : ℕ) → k < a → a ≤ c → k ≡ c → ⊥
-lt-ne k a c l h e = omega arith
-
-pub gt-ne : (k a c : ℕ) → a ≤ k → c < a → k ≡ c → ⊥
-gt-ne k a c l h e = omega arith
 
 -- ---- a place inside, or a refusal
 pub goes : (n at : ℕ) (t w : List ℕ) → at ≤ length t → emitOut n at t w ≡ wrote (sheet n at t w)

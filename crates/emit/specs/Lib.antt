@@ -1,3 +1,2 @@
-pub mod Metered
 pub mod Sheet
 pub mod Tagged

@@ -12,7 +12,7 @@ use Rattle.rules.specs.Emit.{definition, forward}
 use Rattle.btf.specs.declared.types.Btf.{Btf}
 use Rattle.btf.specs.Cells.{getField, putField}
 use Rattle.btf.specs.Table.{workNaming}
-use Rattle.order.specs.Work.{Marks, markOf, code, workStore}
+use Rattle.marks.specs.Work.{Marks, markOf, code, workStore}
 
 -- the work, the text, the next place in it, and how many places of the order list are taken
 pub record Sheet : Type 0 where

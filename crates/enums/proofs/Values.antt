@@ -10,9 +10,9 @@ use mir.Syntax.{w32, w64}
 use mir.Val.{SFits, toZ, ofZ}
 use mir.ValLaws.{toZ-ofZ}
 use borrow.Author.Tests.{lt-ltb, le-ltb, le-leb, lt-leb}
-use Rattle.lent.specs.Text.{ascii, pfx, whole, join, putOut, putText}
-use Rattle.lent.specs.Decimal.{decimal}
-use Rattle.lent.proofs.TextLaws.{put-seq, put-same}
+use Rattle.text.specs.Text.{ascii, pfx, whole, join, putOut, putText}
+use Rattle.text.specs.Decimal.{decimal}
+use Rattle.text.proofs.TextLaws.{put-seq, put-same}
 use Rattle.signed.specs.Signed.{twos, signed, signedLL}
 use Rattle.rules.specs.Types.{Name, Enumerator, Btf as Rules}
 use Rattle.rules.specs.Writer.{Writer, after, next, put, _⨾_}

@@ -3,7 +3,7 @@ use Prim.Native.Nat.{ℕ, _+_}
 use mathlib.Core.Bool.{true, false}
 use mathlib.Core.List.{List, _++_}
 use lib.Dec.{leb}
-use Rattle.lent.specs.Text.{ascii, pfx}
+use Rattle.text.specs.Text.{ascii, pfx}
 use Rattle.rules.specs.Types.{Name}
 use Rattle.rules.specs.Writer.{Writer, _⨾_, put}
 use Rattle.rules.specs.Names.{Naming, tagSpace, resolveTypeName}

@@ -12,8 +12,8 @@ use lib.Seq.{getD-set-same, getD-set-other}
 use lib.Dec.{eqb, ltb}
 use borrow.Author.Tests.{ne-eqb, lt-ltb, le-ltb}
 use Rattle.lent.specs.Words.{oneMore, pick}
-use Rattle.lent.specs.Text.{ascii}
-use Rattle.lent.specs.Decimal.{decimal}
+use Rattle.text.specs.Text.{ascii}
+use Rattle.text.specs.Decimal.{decimal}
 use Rattle.rules.specs.Writer.{saidText, saidNames}
 use Rattle.rules.specs.Types.{Name, tableOf}
 use Rattle.rules.specs.Names.{Space, tagSpace, identSpace, spelled, Resolved, Holder, Names, sameSpace, sameBytes, holds, holders, counted, typeVersion, valueVersion, naming}

@@ -7,9 +7,9 @@ use mathlib.Core.Bool.{Bool, true, false}
 use mathlib.Core.Logic.{⊎-elim, _⊎_, inl, inr, _≢_}
 use native.Mathlib.Omega.{arith}
 use lib.ListN.{length, getD, set, length-set, List·getD-eq-default, drop, replicate, drop-of-length-le}
-use native.Mathlib.Nat.{zero-add, add-suc, suc-add, le-refl}
+use native.Mathlib.Nat.{le-refl}
 use borrow.Author.Fill.{fill-more}
-use lib.Seq.{ext-getD, set-out, set-comm, getD-set-same, getD-set-other}
+use lib.Seq.{ext-getD, set-comm, getD-set-same, getD-set-other}
 use lib.Dec.{ltb}
 use borrow.Author.Tests.{lt-ltb, le-ltb}
 use Rattle.lent.specs.Words.{getWord, putWord, wordAt, wordAtBig, wordIn, turn, joinAt, joinBig, setWord, pick, pickList, table, words}

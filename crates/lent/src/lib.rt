@@ -1,39 +1,6 @@
-// Memory that the caller lends: words in byte slices, and text written into a slice.
-mod decimal;
-mod fixed;
-mod text;
+// Memory that the caller lends: words in byte slices.
 mod words;
 
-pub use decimal::put_decimal;
-pub use fixed::put_attribute_start;
-pub use fixed::put_char;
-pub use fixed::put_const;
-pub use fixed::put_decl_tag;
-pub use fixed::put_dots;
-pub use fixed::put_enum;
-pub use fixed::put_int;
-pub use fixed::put_ll;
-pub use fixed::put_long;
-pub use fixed::put_minus_one;
-pub use fixed::put_packed_name;
-pub use fixed::put_restrict;
-pub use fixed::put_short;
-pub use fixed::put_struct;
-pub use fixed::put_struct_union;
-pub use fixed::put_type_tag;
-pub use fixed::put_typedef;
-pub use fixed::put_ull;
-pub use fixed::put_underscores;
-pub use fixed::put_union;
-pub use fixed::put_void;
-pub use fixed::put_volatile;
-pub use text::put_byte;
-pub use text::put_bytes;
-pub use text::put_tabs;
-pub use text::put_three;
-pub use text::put_two;
-pub use text::stop;
-pub use text::stopped;
 pub use words::Three;
 pub use words::clear;
 pub use words::get_word;

@@ -3,7 +3,7 @@ use Prim.Native.Nat.{ℕ}
 use mathlib.Core.List.{List, [], _∷_}
 use lib.ListN.{replicate}
 use mathlib.Core.Bool.{Bool, true, false}
-use Rattle.lent.specs.Text.{ascii}
+use Rattle.text.specs.Text.{ascii}
 use Rattle.rules.specs.Order.{new, Res, ok, refused, order}
 use Rattle.rules.specs.Machine.{one}
 use Rattle.rules.specs.Types.{Void, Int, Ptr, Composite, Typedef, FuncProto, Btf, tableOf}

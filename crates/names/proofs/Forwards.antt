@@ -3,7 +3,7 @@ use Prim.Native.Nat.{ℕ}
 use mathlib.Core.Path.{_≡_, refl, ap, _∙_, sym}
 use mathlib.Core.List.{List, [], _∷_}
 use mathlib.Core.Bool.{Bool, true, false, not}
-use Rattle.lent.specs.Text.{ascii, whole, putOut, putText}
+use Rattle.text.specs.Text.{ascii, whole, putOut, putText}
 use Rattle.rules.specs.Types.{Name, Btf as Rules}
 use Rattle.rules.specs.Writer.{Writer, _⨾_, put, nothing}
 use Rattle.rules.specs.Place.{outOf, putSaid}

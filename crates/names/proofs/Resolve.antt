@@ -4,7 +4,7 @@ use mathlib.Core.Path.{_≡_, refl, ap, ap₂, _∙_, sym}
 use mathlib.Core.List.{List, [], _∷_, _++_}
 use mathlib.Core.Bool.{Bool, true, false}
 use borrow.Author.Tests.{lt-ltb, le-ltb, ne-eqb}
-use Rattle.lent.specs.Text.{whole, bytes}
+use Rattle.text.specs.Text.{whole, bytes}
 use Rattle.rules.specs.Types.{isEmpty}
 use Rattle.rules.specs.Writer.{Said, said, saidText, saidNames, Writer, put}
 use Rattle.rules.specs.Place.{outOf, putSaid}

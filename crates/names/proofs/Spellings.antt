@@ -4,9 +4,9 @@ use mathlib.Core.Path.{_≡_, refl, ap, _∙_, sym}
 use mathlib.Core.List.{List, [], _∷_, _++_}
 use mathlib.Core.Bool.{Bool, true, false}
 use borrow.Author.Tests.{lt-ltb, le-ltb}
-use Rattle.lent.specs.Text.{ascii, whole, putOut, putText}
-use Rattle.lent.specs.Decimal.{decimal}
-use Rattle.lent.proofs.TextLaws.{put-seq, put-same, put-empty}
+use Rattle.text.specs.Text.{ascii, whole, putOut, putText}
+use Rattle.text.specs.Decimal.{decimal}
+use Rattle.text.proofs.TextLaws.{put-seq, put-same, put-empty}
 use Rattle.rules.specs.Types.{isEmpty}
 use Rattle.rules.specs.Writer.{put}
 use Rattle.rules.specs.Names.{spelled}

@@ -6,9 +6,9 @@ use mathlib.Core.Bool.{Bool, true, false}
 use native.Mathlib.Omega.{arith}
 use borrow.Author.Tests.{lt-ltb, le-ltb, ne-eqb, eq-eqb}
 use lib.Dec.{ltb, eqb}
-use Rattle.lent.specs.Text.{ascii, whole, putOut, putText, join}
-use Rattle.lent.specs.Fixed.{tagName}
-use Rattle.lent.proofs.TextLaws.{put-seq, put-same, put-empty, join-on}
+use Rattle.text.specs.Text.{ascii, whole, putOut, putText, join}
+use Rattle.fixed.specs.Fixed.{tagName}
+use Rattle.text.proofs.TextLaws.{put-seq, put-same, put-empty, join-on}
 use Rattle.rules.specs.Types.{BtfType, Void, Int, Ptr, Array, Composite, Enum, Enum64, Fwd, Typedef, Mod, Func, Var, Datasec, FuncProto, Float, DeclTag, TypeTag, Btf as Rules}
 use Rattle.rules.specs.Names.{escaped}
 use Rattle.rules.specs.Decl.{attribute, declTag, declTags}

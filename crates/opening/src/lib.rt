@@ -6,19 +6,14 @@ use header::has_bad_header;
 use header::has_bad_strings;
 use lent::clear;
 use loops::has_loop;
+use opened::Opening;
 use prototypes::leads_to_proto;
 ghost use mathlib.Core.Path.{_≡_};
 ghost use mathlib.Core.Bool.{not};
 ghost use Prim.Native.Nat.{_+_, _*_};
-ghost use Rattle.opening.specs.Causes.{cause1, firstOf, early, late, fromSix};
-ghost use Rattle.opening.specs.Table.{emptyIndex};
-ghost use Rattle.opening.specs.Opened.{openOut, openingOf, examineOut, examined};
-
-// The refusal, or the count of types, void counted, and of enumerators.
-pub enum Opening {
-    Refused(u32),
-    Sound(u32, u32),
-}
+ghost use Rattle.opened.specs.Causes.{cause1, firstOf, early, late, fromSix};
+ghost use Rattle.opened.specs.Table.{emptyIndex};
+ghost use Rattle.opened.specs.Opened.{openOut, openingOf, examineOut, examined};
 
 // Causes 6, 7 and 8, or 0.
 fn reference_cause(b: Btf, section: &[u8], start: &[u32]) -> u32

@@ -2,13 +2,13 @@
 use Prim.Native.Nat.{ℕ}
 use mathlib.Core.Bool.{false}
 use mathlib.Core.List.{List, [], _∷_, _++_}
-use Rattle.lent.specs.Text.{ascii, Text, whole, Out, putOut, putText}
-use Rattle.lent.specs.Decimal.{decimal}
+use Rattle.text.specs.Text.{ascii, Text, whole, Out, putOut, putText}
+use Rattle.text.specs.Decimal.{decimal}
 use Rattle.turns.specs.declared.Answer.{Answer}
 use Rattle.turns.specs.declared.Answer.the-variants.{Accepted, Refused}
 use Rattle.turns.specs.declared.Session.{Session}
 use Rattle.turns.specs.Turns.{Call}
-use Rattle.requests.specs.Calls.{openCall, typesCall}
+use Rattle.calls.specs.Calls.{openCall, typesCall}
 
 -- a session record that was never opened
 abbrev pub neverOpened : Session

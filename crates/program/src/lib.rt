@@ -1,13 +1,13 @@
 // What the program does with a section: every id, pointer size 8, unions under their own word.
-use lent::put_bytes;
-use lent::put_decimal;
 use requests::dump_types_core;
 use requests::open_core;
+use text::put_bytes;
+use text::put_decimal;
 use turns::Answer;
 use turns::Session;
 ghost use mathlib.Core.Path.{_≡_};
-ghost use Rattle.lent.specs.Text.{putOut, putText};
-ghost use Rattle.requests.specs.Calls.{typesCall};
+ghost use Rattle.text.specs.Text.{putOut, putText};
+ghost use Rattle.calls.specs.Calls.{typesCall};
 ghost use Rattle.program.specs.Printed.{neverOpened, refusedLine, ranTo, ranAll, ranOn};
 
 fn closed() -> Session

@@ -1,5 +1,5 @@
 -- Laws for the reader: what it returns is the chain of the definition, or 19. Assumes nothing.
-use Prim.Native.Nat.{ℕ, zero, suc, _+_, _-_, _≤_, _<_}
+use Prim.Native.Nat.{ℕ, suc, _+_, _≤_, _<_}
 use mathlib.Core.Path.{_≡_, refl, ap, sym, _∙_}
 use mathlib.Core.Bool.{Bool, true, false, _&&_}
 use mathlib.Core.List.{List, [], _∷_, _++_, append-nil}
@@ -9,18 +9,23 @@ use borrow.Author.Tests.{lt-ltb, le-ltb, le-leb, lt-leb, leb-true, leb-false}
 use lib.ListN.{length, replicate, length-append}
 use lib.Dec.{ltb, leb}
 use Rattle.rules.specs.Types.{Qualifier, volatile, const, restrict}
-use Rattle.reader.specs.Chain.{Layers, named, pointer, array, proto, Params, closed, dots, param, Chain, layerEntries, paramEntries, entries}
-use Rattle.reader.specs.Tokens.{Token, qual, word, number, mark, tagWord, voidWord, otherWord, tokens}
-use Rattle.reader.specs.Reading.{Reads, reads, fails, andThen, distinct, qualRun, afterQuals, wordRun, afterWords, wordsOf, isBase, readBase, declarator, most, Read, chain, refused, readTokens, counted, whole, readWith}
-use Rattle.reader.specs.Encoding.{Span, Item, item, qualItems, baseItem, baseKind, anyParams, layerItems, paramItems, chainItems, oneMore, putItem, Placed, placed, placing, answerOf, readInto}
-use Rattle.reader.specs.Looking.{tokensAt, signOf, Looked, BaseAt}
-use Rattle.reader.specs.Emission.{outcome, emits, baseItems}
-use Rattle.reader.specs.declared.tokens.Tok.{Tok}
-use Rattle.reader.specs.declared.bases.Base.{Base}
-use Rattle.reader.specs.declared.items.Spot.{Spot}
-use Rattle.reader.proofs.Shapes.{passed, failed}
-use Rattle.reader.proofs.ItemLaws.{placing-then}
-use Rattle.reader.proofs.ParseLaws as parse
+use Rattle.grammar.specs.Chain.{Layers, named, pointer, array, proto, Params, closed, dots, param, Chain, layerEntries, paramEntries, entries}
+use Rattle.tokens.specs.Tokens.{Token, qual, word, number, mark, tagWord, voidWord, otherWord}
+use Rattle.grammar.specs.Grammar.{Reads, reads, fails, andThen, readBase, declarator}
+use Rattle.bases.specs.Bases.{distinct, qualRun, afterQuals, wordRun, afterWords, wordsOf, isBase}
+use Rattle.reader.specs.Reading.{most, Read, chain, refused, readTokens, counted, whole, readWith}
+use Rattle.tokens.specs.Looking.{Span, tokensAt, signOf, Looked}
+use Rattle.bases.specs.Items.{Item, item, qualItems, oneMore, putItem, Placed, placed, placing}
+use Rattle.grammar.specs.Encoding.{baseItem, baseKind, anyParams, layerItems, paramItems}
+use Rattle.reader.specs.Encoding.{chainItems, answerOf, readInto}
+use Rattle.bases.specs.Looking.{BaseAt, baseItems}
+use Rattle.grammar.specs.Emission.{outcome, emits}
+use Rattle.tokens.specs.declared.Tok.{Tok}
+use Rattle.bases.specs.declared.Base.{Base}
+use Rattle.bases.specs.declared.items.Spot.{Spot}
+use Rattle.tokens.proofs.Cases.{passed, failed}
+use Rattle.bases.proofs.ItemLaws.{placing-then}
+use Rattle.grammar.proofs.ParseLaws as parse
 
 abbrev Ts : Type 0
 Ts = List (Token Span)

@@ -1,9 +1,2 @@
-pub mod Chain
-pub mod Tokens
 pub mod Reading
-pub mod Written
-pub mod Drawn
 pub mod Encoding
-pub mod Looking
-pub mod Emission
-pub mod Samples

@@ -1,16 +1,12 @@
 // Reading one declaration's text back into its chain.
-mod bases;
-mod items;
-mod parse;
-mod tokens;
-
 use bases::base_at;
-use items::put_base;
-use parse::declarator;
+use bases::put_base;
+use grammar::declarator;
 use tokens::token;
 ghost use mathlib.Core.Path.{_≡_};
 ghost use lib.ListN.{length, replicate};
-ghost use Rattle.reader.specs.Encoding.{placed, readInto};
+ghost use Rattle.bases.specs.Items.{placed};
+ghost use Rattle.reader.specs.Encoding.{readInto};
 
 // Sets every word to 0: an empty chain.
 fn refuse(chain: &mut [u64]) -> u32

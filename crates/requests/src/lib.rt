@@ -3,10 +3,11 @@ use btf::Btf;
 use header::btf_of;
 use lent::clear;
 use lent::get_word;
-use opening::Opening;
+use opened::Opening;
 use turns::Answer;
 use turns::Reached;
 use turns::Session;
+use turns::Tally;
 use turns::Turn;
 use turns::answer_of;
 use turns::clear_from;
@@ -19,8 +20,8 @@ ghost use mathlib.Core.Bool.{true};
 ghost use mathlib.Core.Path.{_≡_};
 ghost use lib.ListN.{length};
 ghost use Rattle.turns.specs.Turns.{callOf, isCurrent, reachOf};
-ghost use Rattle.requests.specs.Calls.{openCall, limitOf, arrivedAt, requested, requestedFrom, typeCall, typesCall};
-ghost use Rattle.requests.specs.Lists.{idsIn, listCall, countIn, tailed, listEnd};
+ghost use Rattle.calls.specs.Calls.{openCall, limitOf, arrivedAt, requested, requestedFrom, typeCall, typesCall};
+ghost use Rattle.calls.specs.Lists.{idsIn, listCall, countIn, tailed, listEnd};
 
 pub fn open_core(
     s: Session,
@@ -87,7 +88,7 @@ fn dump_one(b: Btf, section: &[u8], work: &mut [u8], text: &mut [u8], len: u32, 
 {
     let from = len as usize;
     let to = limit(text.len(), from);
-    let at = emit::dump_type(b, section, work, &mut text[from..to], 0, id);
+    let at = dump::dump_type(b, section, work, &mut text[from..to], 0, id);
     arrived(len, to - from, at)
 }
 
@@ -96,7 +97,7 @@ fn dump_next(b: Btf, section: &[u8], work: &mut [u8], text: &mut [u8], len: u32,
     requires { ⌜ len ≤ length (now text) ⌝ }
     ensures { λ r. ⌜ (reachOf r (now (work .exit)) (now (text .exit)) ≡ requested b (now (section .entry)) id len (now (work .entry)) (now (text .entry))) × (r .len ≤ length (now (text .exit))) ⌝ }
 {
-    if emit::is_idle(b, section, work, id) {
+    if dump::is_idle(b, section, work, id) {
         return Reached {
             len: len,
             number: 0,
@@ -149,13 +150,6 @@ pub fn dump_types_core(s: Session, section: &[u8], work: &mut [u8], text: &mut [
     let b = btf_of(section, s.pointer_size, s.modes, s.types);
     let r = dump_all(b, section, work, text, s.text_len);
     settle(s, work, text, r)
-}
-
-// Where the ids of a list have come to: as Reached, and how many were accepted.
-pub struct Tally {
-    pub len: u32,
-    pub number: u32,
-    pub accepted: u32,
 }
 
 // How many ids there are: as many as the answer's value can count, at most.

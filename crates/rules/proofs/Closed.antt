@@ -7,7 +7,7 @@ use mathlib.Core.List.{List, [], _∷_, _++_}
 use mathlib.Core.Logic.{_⊎_, inl, inr}
 use lib.ListN.{length}
 use lib.Dec.{ltb, leb, eqb}
-use Rattle.lent.specs.Text.{ascii, pfx}
+use Rattle.text.specs.Text.{ascii, pfx}
 use Rattle.rules.specs.Writer.{Ask, got, no, askThen, checked, tooDeep, alignZero, overflow, Writer, _⨾_, put, stop, nothing, given}
 use Rattle.rules.specs.Types.{Name, isEmpty, Member, Param, Enumerator, BtfType, Void, Int, Ptr, Array, Composite, Enum, Enum64, Fwd, Typedef, Mod, Func, Var, Datasec, FuncProto, Float, DeclTag, TypeTag, Btf}
 use Rattle.rules.specs.Layout.{sizeOf, getSizeOf, larger, alignMembers, alignOf, getAlignOf, offAlign, membersPacked, isStructPacked, Pad, bitPadding, endOf}

@@ -3,7 +3,7 @@ use Prim.Native.Nat.{ℕ, zero, suc, _+_}
 use mathlib.Core.Path.{_≡_, refl}
 use mathlib.Core.Bool.{Bool, true, false}
 use mathlib.Core.List.{List, [], _∷_}
-use Rattle.lent.specs.Text.{Text, whole, cut, join}
+use Rattle.text.specs.Text.{Text, whole, cut, join}
 use Rattle.rules.specs.Writer.{Said, said, saidText, Writer, after, next, put, stop, _⨾_}
 use Rattle.rules.specs.Types.{Name, Enumerator, Member, BtfType, Btf}
 use Rattle.rules.specs.Names.{Resolved, Naming, resolving}

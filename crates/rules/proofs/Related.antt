@@ -4,7 +4,7 @@ use Prim.Native.Nat.{ℕ, zero, suc, _+_}
 use mathlib.Core.Path.{_≡_, refl, ap, _∙_, sym, subst}
 use mathlib.Core.Bool.{Bool, true, false}
 use mathlib.Core.List.{List, [], _∷_}
-use Rattle.lent.specs.Text.{Text, whole, cut, join}
+use Rattle.text.specs.Text.{Text, whole, cut, join}
 use Rattle.rules.specs.Writer.{Said, said, saidText, saidNames, Writer, after, next, put, stop, _⨾_}
 use Rattle.rules.specs.Types.{Name, isEmpty, Member, Param, Enumerator, BtfType, Void, Int, Ptr, Array, Composite, Enum, Enum64, Fwd, Typedef, Mod, Func, Var, Datasec, FuncProto, Float, DeclTag, TypeTag, Btf}
 use Rattle.rules.specs.Names.{Space, tagSpace, identSpace, Resolved, Naming, resolving}

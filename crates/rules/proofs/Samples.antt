@@ -1,8 +1,8 @@
 -- The samples of document 01 hold of the definitions.
 use mathlib.Core.Path.{_≡_, refl}
 use Rattle.lent.specs.Words.{oneMore}
-use Rattle.lent.specs.Text.{join, bytes, pfx}
-use Rattle.lent.specs.Decimal.{digits, decimal}
+use Rattle.text.specs.Text.{join, bytes, pfx}
+use Rattle.text.specs.Decimal.{digits, decimal}
 use Rattle.signed.specs.Signed.{twos, signed, signedLL}
 use Rattle.rules.specs.Order.{bind, each, meet, pushIf, enter, alias, fresh, visit, order}
 use Rattle.rules.specs.Writer.{askThen, checked, saidText, saidNames, after, next, put, stop, given, _⨾_}

@@ -4,8 +4,8 @@ use mathlib.Core.Path.{_≡_, refl, ap, ap₂, _∙_, sym}
 use mathlib.Core.List.{List, []}
 use mathlib.Core.Bool.{Bool, true, false}
 use native.Mathlib.Omega.{arith}
-use Rattle.lent.specs.Text.{Text, whole, cut, join, Out, done, stopped, isStopped, putOut, putText}
-use Rattle.lent.proofs.TextLaws.{stays, join-on, put-empty, cut-stops}
+use Rattle.text.specs.Text.{Text, whole, cut, join, Out, done, stopped, isStopped, putOut, putText}
+use Rattle.text.proofs.TextLaws.{stays, join-on, put-empty, cut-stops}
 use Rattle.rules.specs.Writer.{Ask, got, no, Said, said, saidNames, Writer, after, next, put, stop, given, _⨾_}
 use Rattle.rules.specs.Place.{Wrote, wrote, refused, withNames, outOf, putSaid}
 use Rattle.rules.specs.Names.{Resolved, resolving}

@@ -4,8 +4,8 @@ use mathlib.Core.Bool.{Bool, true, false, not, _&&_}
 use mathlib.Core.List.{List, [], _∷_, _++_}
 use lib.ListN.{length}
 use lib.Dec.{ltb, eqb}
-use Rattle.lent.specs.Text.{ascii, pfx}
-use Rattle.lent.specs.Decimal.{decimal}
+use Rattle.text.specs.Text.{ascii, pfx}
+use Rattle.text.specs.Decimal.{decimal}
 use Rattle.signed.specs.Signed.{twos, signed, signedLL}
 use Rattle.rules.specs.Writer.{Ask, got, no, tooDeep, Writer, _⨾_, put, stop, nothing, given}
 use Rattle.rules.specs.Types.{Name, isEmpty, Member, Param, Enumerator, Qualifier, volatile, const, restrict, BtfType, Void, Int, Ptr, Array, Composite, Enum, Enum64, Fwd, Typedef, Mod, Func, Var, Datasec, FuncProto, Float, DeclTag, TypeTag, Btf}

@@ -5,8 +5,8 @@ use mathlib.Core.List.{List, [], _∷_, _++_}
 use lib.ListN.{getD, set}
 use lib.Dec.{ltb, eqb}
 use Rattle.lent.specs.Words.{oneMore}
-use Rattle.lent.specs.Text.{ascii}
-use Rattle.lent.specs.Decimal.{decimal}
+use Rattle.text.specs.Text.{ascii}
+use Rattle.text.specs.Decimal.{decimal}
 use Rattle.rules.specs.Types.{Name, isEmpty}
 use Rattle.rules.specs.Writer.{Writer}
 

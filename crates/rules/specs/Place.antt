@@ -1,7 +1,7 @@
 -- Writing into a lent text: what the next place, the bytes and the names at exit say, against what a writer says.
 use Prim.Native.Nat.{ℕ}
 use mathlib.Core.List.{List}
-use Rattle.lent.specs.Text.{Out, done, stopped, putOut, putText}
+use Rattle.text.specs.Text.{Out, done, stopped, putOut, putText}
 use Rattle.rules.specs.Writer.{Said, said}
 
 -- the slice, the next place and the names; or a refusal, after which nothing is said of them

@@ -4,8 +4,8 @@ use Prim.Native.String.{String}
 use mathlib.Core.Bool.{Bool, true, false}
 use mathlib.Core.List.{List, [], _∷_, _++_}
 use lib.ListN.{getD, set}
-use Rattle.lent.specs.Text.{Text, whole, cut, ascii, bytes}
-use Rattle.lent.specs.Decimal.{decimal}
+use Rattle.text.specs.Text.{Text, whole, cut, ascii, bytes}
+use Rattle.text.specs.Decimal.{decimal}
 use Rattle.rules.specs.Order.{Mark, new, Store, Res, ok, refused, order}
 use Rattle.rules.specs.Writer.{saidText, Writer, _⨾_, put}
 use Rattle.rules.specs.Types.{Member, BtfType, Void, Int, Ptr, Array, Composite, Typedef, FuncProto, Btf, tableOf}

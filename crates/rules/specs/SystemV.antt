@@ -5,7 +5,7 @@ use mathlib.Core.Path.{_≡_}
 use mathlib.Core.Bool.{Bool, true, false, not, _&&_}
 use mathlib.Core.List.{List, [], _∷_}
 use lib.Dec.{eqb}
-use Rattle.lent.specs.Text.{ascii, pfx}
+use Rattle.text.specs.Text.{ascii, pfx}
 use Rattle.rules.specs.Writer.{Ask, got, no, askThen, Writer, _⨾_, put, nothing}
 use Rattle.rules.specs.Types.{Name, isEmpty, Member, Btf}
 use Rattle.rules.specs.Layout.{larger, getSizeOf, alignMembers, getAlignOf, PadUnit, long, int, short, char, Pad, bitPadding, endOf}

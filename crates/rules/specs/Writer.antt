@@ -3,7 +3,7 @@ use Prim.Native.Nat.{ℕ}
 use mathlib.Core.Bool.{Bool, true, false}
 use mathlib.Core.List.{List, [], _∷_}
 use lib.Dec.{ltb}
-use Rattle.lent.specs.Text.{Text, whole, cut, join}
+use Rattle.text.specs.Text.{Text, whole, cut, join}
 
 -- the refusals of document 01 that a line can meet; 17 is decided where the text is put into the slice, 13 and 14 come
 -- from ordering and emission

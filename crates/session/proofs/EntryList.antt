@@ -19,8 +19,8 @@ use types.Run.{look, look-raw, init, store-raw, forget, stop, hop, fld, from, lo
 use types.Part.{agg, whole, sub, look-in}
 use types.SemTy.{Body}
 use sound.WpLaws.{FmC, fmOf, WpFn-mono}
-use denote.RattleType.{RattleType, flat, owns}
-use denote.Laws.{Is, shows, Makes}
+use denote.RattleType.{flat, owns}
+use denote.Laws.{Is, shows}
 use denote.Memory.{mem, pointee}
 use denote.Builtin.{u8}
 use denote.Ref.{RefT, ptr-vals, mut-tells}
@@ -37,7 +37,7 @@ use denote.Triple.Call.{calls-at}
 use denote.Triple.Clauses.{Ended, closing, ensured, lasts, Lasts, atExit}
 use denote.Triple.Walked.{Stays, stay-ref, stay-none-slice, gave-slice, walkOf, AllGo, goes-ref, goes-none-slice, goes-gave-slice, Walks, ends-at, walked, walk-meets}
 use denote.Exit.{yes}
-use Rattle.session.proofs.Lent.{val, Known, opened, closed}
+use Rattle.session.proofs.Lent.{val, opened, closed}
 use Rattle.session.proofs.Entry.{Turning, Says, clausesOf}
 
 module _ (D : Declared) (L : LL.Laws D) (T : Turning D L) where

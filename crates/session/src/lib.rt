@@ -7,8 +7,8 @@ use turns::Answer;
 use turns::Session;
 ghost use mathlib.Core.Path.{_≡_};
 ghost use Rattle.turns.specs.Turns.{callOf};
-ghost use Rattle.requests.specs.Calls.{openCall, typeCall, typesCall};
-ghost use Rattle.requests.specs.Lists.{idsIn, listCall};
+ghost use Rattle.calls.specs.Calls.{openCall, typeCall, typesCall};
+ghost use Rattle.calls.specs.Lists.{idsIn, listCall};
 
 pub fn open(
     s: &mut Session,

@@ -13,8 +13,8 @@ use lib.Signed.{mag, ltZ, nonNeg}
 use mir.Syntax.{Width, w32, w64}
 use mir.Val.{bits, hbits, Fits, SFits, toZ, ofZ}
 use mir.ValLaws.{toZ-ofZ, toZ-pos, pow-bits}
-use Rattle.lent.specs.Text.{ascii}
-use Rattle.lent.specs.Decimal.{decimal, digits}
+use Rattle.text.specs.Text.{ascii}
+use Rattle.text.specs.Decimal.{decimal, digits}
 use Rattle.signed.specs.Signed.{twos, signed, signedLL}
 
 -- ---- as_i32, as_i64: two's complement

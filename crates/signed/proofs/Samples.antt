@@ -1,8 +1,8 @@
 -- Enumerators at the ends of their widths, on the definitions: from the bits to the text. Document 01 marks the least of
 -- 64 bits; the others are what the Rust prints. Assumes nothing.
 use mathlib.Core.Path.{_≡_, refl}
-use Rattle.lent.specs.Text.{ascii}
-use Rattle.lent.specs.Decimal.{digits, decimal}
+use Rattle.text.specs.Text.{ascii}
+use Rattle.text.specs.Decimal.{digits, decimal}
 use Rattle.signed.specs.Signed.{twos, signed, signedLL}
 
 least-64 : signedLL (twos 9223372036854775808 9223372036854775808) ≡ ascii "(-9223372036854775807LL - 1)"

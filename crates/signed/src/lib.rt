@@ -1,12 +1,12 @@
 // Numbers that have a sign, from their bits and in decimal.
-use lent::put_byte;
-use lent::put_decimal;
-use lent::put_ll;
-use lent::put_minus_one;
-use lent::put_two;
+use fixed::put_ll;
+use fixed::put_minus_one;
+use text::put_byte;
+use text::put_decimal;
+use text::put_two;
 ghost use mathlib.Core.Path.{_≡_};
 ghost use lib.IntN.{natAbs};
-ghost use Rattle.lent.specs.Text.{ascii, whole, putOut, putText};
+ghost use Rattle.text.specs.Text.{ascii, whole, putOut, putText};
 ghost use Rattle.signed.specs.Signed.{twos, signed, signedLL};
 
 // The number of 32 bits in two's complement.

@@ -36,6 +36,13 @@ pub struct Reached {
     pub number: u32,
 }
 
+// Where the ids of a list have come to: as Reached, and how many were accepted.
+pub struct Tally {
+    pub len: u32,
+    pub number: u32,
+    pub accepted: u32,
+}
+
 pub fn answer_of(number: u32, value: u32) -> Answer
     ensures { λ r. ⌜ r ≡ answerOf number value ⌝ }
 {

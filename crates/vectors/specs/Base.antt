@@ -3,7 +3,7 @@ use Prim.Native.Nat.{ℕ}
 use Prim.Native.String.{String}
 use mathlib.Core.Bool.{Bool}
 use mathlib.Core.List.{List, [], _∷_}
-use Rattle.lent.specs.Text.{ascii}
+use Rattle.text.specs.Text.{ascii}
 use Rattle.rules.specs.Machine.{Req}
 use Rattle.rules.specs.Types.{Member, Param, Enumerator, BtfType}
 use Rattle.rules.specs.Listed.{listed}

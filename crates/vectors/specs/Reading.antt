@@ -5,7 +5,7 @@ use mathlib.Core.Bool.{Bool, true, false}
 use mathlib.Core.List.{List, [], _∷_}
 use lib.ListN.{length}
 use lib.Dec.{ltb, leb}
-use Rattle.lent.specs.Text.{ascii}
+use Rattle.text.specs.Text.{ascii}
 use Rattle.records.specs.Section.{bigEndian, wordOf}
 use Rattle.rules.specs.Types.{BtfType, Void}
 use Rattle.rules.specs.Listed.{listed}

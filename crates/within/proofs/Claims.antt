@@ -10,12 +10,12 @@ use lib.ListN.{length, take}
 use lib.Dec.{ltb}
 use Rattle.lent.proofs.Laws.{le-or-lt}
 use Rattle.btf.specs.declared.types.Btf.{Btf}
-use Rattle.emit.specs.Metered.{callsIn}
+use Rattle.dump.specs.Metered.{callsIn}
 use Rattle.turns.specs.declared.Session.{Session}
 use Rattle.turns.specs.Answers.{numberOf, answerOf}
 use Rattle.turns.specs.Turns.{Call, isCurrent, Reach, reached, refusedBy, settled, tableFor}
-use Rattle.requests.specs.Calls.{requested, onward, requestedFrom, typeCall, typesCall}
-use Rattle.requests.proofs.Claims.{number-is}
+use Rattle.calls.specs.Calls.{requested, onward, requestedFrom, typeCall, typesCall}
+use Rattle.calls.proofs.Claims.{number-is}
 use Rattle.within.specs.Within.{Within, requestedWithin, onwardWithin, requestedFromWithin, CallWithin, settledWithin, typeCallWithin, typesCallWithin}
 use Rattle.within.proofs.Laws.{request-fits, request-over}
 

@@ -11,29 +11,29 @@ use lib.Dec.{eqb, leb, ltb}
 use lib.Seq.{length-take-le, take-at}
 use borrow.Author.Tests.{le-leb, lt-leb, le-ltb, lt-ltb, not-true, not-false}
 use borrow.Rule.Slice.PartMut.{midOf, postOf, putMid, mid-len, same-len-mid}
-use Rattle.lent.specs.Text.{Out as TextOut}
+use Rattle.text.specs.Text.{Out as TextOut}
 use Rattle.lent.proofs.Laws.{le-or-lt}
-use Rattle.lent.proofs.TextLaws.{out-done, out-stopped}
+use Rattle.text.proofs.TextLaws.{out-done, out-stopped}
 use Rattle.rules.specs.Machine.{Out, wrote, stuck, obind}
 use Rattle.rules.specs.Types.{tableOf}
 use Rattle.rules.specs.Place.{outOf, withNames}
 use Rattle.btf.specs.declared.types.Btf.{Btf}
 use Rattle.btf.specs.Cells.{getField}
 use Rattle.btf.specs.Table.{btfOf}
-use Rattle.order.specs.Work.{markOf, tableIn}
+use Rattle.marks.specs.Work.{markOf, tableIn}
 use Rattle.header.specs.Header.{btfOf as settingsOf}
 use Rattle.emit.specs.Sheet.{Sheet, sheetOf, emitOut, workMachine, dumped, isIdle}
-use Rattle.emit.specs.Metered.{callsIn, dumpedWithin}
-use Rattle.emit.proofs.Requests.{idle-calls}
+use Rattle.dump.specs.Metered.{callsIn, dumpedWithin}
+use Rattle.dump.proofs.Requests.{idle-calls}
 use Rattle.turns.specs.declared.Session.{Session}
 use Rattle.turns.specs.declared.Turn.{Turn}
 use Rattle.turns.specs.declared.Reached.{Reached}
 use Rattle.turns.specs.Answers.{answerOf}
 use Rattle.turns.specs.Turns.{Call, callOf, turnOf, isCurrent, Reach, reached, refusedBy, reachOf, settled, unchanged}
 use Rattle.turns.proofs.Laws.{reach-accepted, reach-refused}
-use Rattle.requests.specs.Refusals.{number, value, notCurrent, idNotBelow, refusal}
-use Rattle.requests.specs.Calls.{limitOf, arrivedAt, requested}
-use Rattle.requests.proofs.Laws.{arrived-in, arrived-past, one-bound, one-reach, idle-reach}
+use Rattle.calls.specs.Refusals.{number, value, notCurrent, idNotBelow, refusal}
+use Rattle.calls.specs.Calls.{limitOf, arrivedAt, requested}
+use Rattle.calls.proofs.Laws.{arrived-in, arrived-past, one-bound, one-reach, idle-reach}
 use Rattle.within.specs.declared.Counted.{Counted}
 use Rattle.within.specs.declared.Metered.{Metered}
 use Rattle.within.specs.Within.{Within, withinOf, requestedWithin, onwardWithin, requestedFromWithin, CallWithin, countedOf, settledWithin, typeCallWithin, typesCallWithin}

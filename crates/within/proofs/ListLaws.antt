@@ -14,7 +14,7 @@ use borrow.Author.Tests.{lt-leb, lt-ltb, le-ltb, not-true}
 use Rattle.lent.specs.Words.{getWord}
 use Rattle.lent.proofs.Laws.{le-or-lt}
 use Rattle.btf.specs.declared.types.Btf.{Btf}
-use Rattle.emit.specs.Metered.{callsIn}
+use Rattle.dump.specs.Metered.{callsIn}
 use Rattle.turns.specs.declared.Answer.{Answer}
 use Rattle.turns.specs.declared.Answer.the-variants.{Accepted, Refused}
 use Rattle.turns.specs.declared.Session.{Session}
@@ -23,13 +23,13 @@ use Rattle.turns.specs.declared.Reached.{Reached}
 use Rattle.turns.specs.Answers.{numberOf, answerOf}
 use Rattle.turns.specs.Turns.{Call, callOf, turnOf, isCurrent, Reach, reached, refusedBy, reachOf, withText, thenZeros, settled, unchanged, tableFor}
 use Rattle.turns.proofs.Laws.{reach-accepted, reach-refused, zeros-twice}
-use Rattle.requests.specs.declared.Tally.{Tally}
-use Rattle.requests.specs.Refusals.{number, value, notCurrent, idNotBelow, refusal}
-use Rattle.requests.specs.Calls.{requested, typeCall}
-use Rattle.requests.specs.Lists.{idsIn, countIn, tailed, listEnd}
-use Rattle.requests.proofs.Claims.{number-is, request-sane}
-use Rattle.requests.proofs.Singles.{settled-with}
-use Rattle.requests.proofs.Lists.{idsFrom, ids-all, ids-none, ids-some, ids-cons, tail-length, tail-head, current, called, open-now, sane-listed}
+use Rattle.turns.specs.declared.Tally.{Tally}
+use Rattle.calls.specs.Refusals.{number, value, notCurrent, idNotBelow, refusal}
+use Rattle.calls.specs.Calls.{requested, typeCall}
+use Rattle.calls.specs.Lists.{idsIn, countIn, tailed, listEnd}
+use Rattle.calls.proofs.Claims.{number-is, request-sane}
+use Rattle.calls.proofs.Singles.{settled-with}
+use Rattle.calls.proofs.Lists.{idsFrom, ids-all, ids-none, ids-some, ids-cons, tail-length, tail-head, current, called, open-now, sane-listed}
 use Rattle.within.specs.declared.Counted.{Counted}
 use Rattle.within.specs.declared.Metered.{Metered}
 use Rattle.within.specs.declared.lists.Tallied.{Tallied}

@@ -1,11 +1,11 @@
 -- A list of ids under a ceiling: the single requests for them in their order, up to and including the first that is refused; "shared by the single
--- requests of one call". As `listFrom` (requests/specs/Lists), with the calls made before handed on from each to the next.
+-- requests of one call". As `listFrom` (calls/specs/Lists), with the calls made before handed on from each to the next.
 use Prim.Native.Nat.{ℕ, zero, suc}
 use mathlib.Core.List.{List, [], _∷_}
 use Rattle.turns.specs.declared.Session.{Session}
 use Rattle.turns.specs.Answers.{numberOf, answerOf}
 use Rattle.turns.specs.Turns.{callOf}
-use Rattle.requests.specs.Lists.{listEnd}
+use Rattle.calls.specs.Lists.{listEnd}
 use Rattle.within.specs.declared.lists.Tallied.{Tallied}
 use Rattle.within.specs.Within.{CallWithin, typeCallWithin}
 

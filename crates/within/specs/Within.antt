@@ -6,11 +6,11 @@ use mathlib.Core.List.{List}
 use lib.ListN.{length, take}
 use lib.Dec.{leb, ltb}
 use Rattle.btf.specs.declared.types.Btf.{Btf}
-use Rattle.emit.specs.Metered.{callsIn}
+use Rattle.dump.specs.Metered.{callsIn}
 use Rattle.turns.specs.declared.Session.{Session}
 use Rattle.turns.specs.Turns.{Call, callOf, isCurrent, tableFor, Reach, reached, refusedBy, reachOf, settled, unchanged}
-use Rattle.requests.specs.Refusals.{notCurrent, idNotBelow, refusal}
-use Rattle.requests.specs.Calls.{requested}
+use Rattle.calls.specs.Refusals.{notCurrent, idNotBelow, refusal}
+use Rattle.calls.specs.Calls.{requested}
 use Rattle.within.specs.declared.Counted.{Counted}
 use Rattle.within.specs.declared.Metered.{Metered}
 

@@ -13,7 +13,7 @@ use turns::turn_of;
 ghost use Prim.Native.Nat.{_+_, _-_, _<_, _≤_};
 ghost use mathlib.Core.Path.{_≡_};
 ghost use lib.ListN.{length};
-ghost use Rattle.requests.specs.Calls.{limitOf, arrivedAt};
+ghost use Rattle.calls.specs.Calls.{limitOf, arrivedAt};
 ghost use Rattle.within.specs.Within.{withinOf, countedOf, requestedWithin, requestedFromWithin, typeCallWithin, typesCallWithin};
 
 // What a call under a ceiling comes to, and the calls of the ordering rule that it made.
@@ -72,7 +72,7 @@ fn dump_one(
 {
     let from = len as usize;
     let to = limit(text.len(), from);
-    let d = emit::dump_type_within(b, section, work, &mut text[from..to], 0, id, ceiling - made);
+    let d = dump::dump_type_within(b, section, work, &mut text[from..to], 0, id, ceiling - made);
     Metered {
         reached: arrived(len, to - from, d.at),
         made: ceiling - d.spare,
@@ -93,7 +93,7 @@ fn dump_next(
     requires { ⌜ (len ≤ length (now text)) × (made ≤ ceiling) ⌝ }
     ensures { λ r. ⌜ (withinOf r (now (work .exit)) (now (text .exit)) ≡ requestedWithin ceiling b (now (section .entry)) id len (now (work .entry)) (now (text .entry)) made) × (r .reached .len ≤ length (now (text .exit))) × (r .made ≤ ceiling) ⌝ }
 {
-    if !emit::is_idle(b, section, work, id) {
+    if !dump::is_idle(b, section, work, id) {
         return dump_one(b, section, work, text, len, id, made, ceiling);
     }
     if ceiling <= made {

@@ -1,9 +1,8 @@
 use Rattle.btf.specs.Records.{sectionWord, memberAt, paramAt}
-use mathlib.Core.Bool.{true, false}
-use mathlib.Core.Path.{_≡_, refl, ap, sym, _∙_}
+use mathlib.Core.Path.{_≡_, refl, sym, _∙_}
 use lib.ListN.{length}
 use Prim.Native.Nat.{ℕ, zero-le, _<_, _≤_, _+_, _-_, _*_}
-use Rattle.order.proofs.Laws.{entry-word}
+use Rattle.marks.proofs.Laws.{entry-word}
 use Rattle.emit.proofs.Laws as laws
 use borrow.Author.Needs.{needs}
 use native.Mathlib.Omega.{arith}
@@ -25,21 +24,21 @@ use Rattle.emit.proofs.emit_type.Reads as emit-type
 use Rattle.emit.proofs.emit_type.Kinds as emit-type-kinds
 use Rattle.emit.proofs.+emit_composite+emit_members+emit_new+emit_params+emit_type.Lts-emit_type as emit-type-lts
 use Rattle.btf.proofs.node_of.Reads as node-of-reads
-use Rattle.btf.proofs.is_named.Reads as is-named-reads
+use Rattle.strings.proofs.is_named.Reads as is-named-reads
 use Rattle.btf.proofs.member_place.Reads as member-place-reads
 use Rattle.btf.proofs.param_place.Reads as param-place-reads
 use Rattle.btf.proofs.type_by_id.Reads as type-by-id-reads
 use Rattle.btf.proofs.word.Reads as word-reads
 use Rattle.emit.proofs.emit_again.Reads as emit-again-reads
-use Rattle.emit.proofs.emit_definition.Reads as emit-definition-reads
+use Rattle.lines.proofs.emit_definition.Reads as emit-definition-reads
 use Rattle.emit.proofs.emit_leaf.Reads as emit-leaf-reads
 use Rattle.emit.proofs.emit_mention.Reads as emit-mention-reads
 use Rattle.emit.proofs.emit_once.Reads as emit-once-reads
 use Rattle.emit.proofs.get_emit_state.Reads as get-emit-state-reads
 use Rattle.emit.proofs.inner.Reads as inner-reads
 use Rattle.emit.proofs.set_emit_state.Reads as set-emit-state-reads
-use Rattle.lent.proofs.stop.Reads as stop-reads
-use Rattle.lent.proofs.stopped.Reads as stopped-reads
+use Rattle.text.proofs.stop.Reads as stop-reads
+use Rattle.text.proofs.stopped.Reads as stopped-reads
 use Rattle.emit.proofs.+emit_composite+emit_members+emit_new+emit_params+emit_type.{
   statement,
 }

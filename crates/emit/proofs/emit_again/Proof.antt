@@ -1,16 +1,17 @@
 use native.Mathlib.Omega.{arith}
 use Rattle.emit.proofs.Laws as laws
+use Rattle.lines.proofs.Laws as lines
 use borrow.Author.Needs.{needs}
 use Rattle.emit.proofs.emit_again.Statement.{statement}
 use Rattle.emit.proofs.emit_again.Tie as tie
 use Rattle.emit.proofs.emit_again.Reads as reads
 use Rattle.emit.proofs.emit_again.Lts as lts
-use Rattle.btf.proofs.is_named.Reads as is-named-reads
+use Rattle.strings.proofs.is_named.Reads as is-named-reads
 use Rattle.btf.proofs.kind_of.Reads as kind-of-reads
 use Rattle.btf.proofs.type_by_id.Reads as type-by-id-reads
 use Rattle.emit.proofs.emit_once.Reads as emit-once-reads
 use Rattle.emit.proofs.get_fwd_emitted.Reads as get-fwd-emitted-reads
-use Rattle.lent.proofs.stop.Reads as stop-reads
+use Rattle.text.proofs.stop.Reads as stop-reads
 
 get-fwd-emitted-requires : tie.Need-get-fwd-emitted-requires
 get-fwd-emitted-requires c κs = search needs
@@ -76,13 +77,13 @@ same-length-9 : tie.Need-same-length-9
 same-length-9 c = search needs
 
 returns-6 : tie.Need-returns-6
-returns-6 c = λ n. laws.again-other _ _ n _ _ _ _ _ _ (c .before .before .before .before .before .before .get-fwd-emitted .ensures) (c .before .before .before .before .before .if1 .left) _ (c .before .before .before .type-by-id .ensures) _ (c .before .before .kind-of .ensures) (laws.lt-ne _ 4 4 (c .if2 .taken) (omega arith)) (laws.lt-ne _ 4 5 (c .if2 .taken) (omega arith)) (laws.lt-ne _ 4 8 (c .if2 .taken) (omega arith))
+returns-6 c = λ n. laws.again-other _ _ n _ _ _ _ _ _ (c .before .before .before .before .before .before .get-fwd-emitted .ensures) (c .before .before .before .before .before .if1 .left) _ (c .before .before .before .type-by-id .ensures) _ (c .before .before .kind-of .ensures) (lines.lt-ne _ 4 4 (c .if2 .taken) (omega arith)) (lines.lt-ne _ 4 5 (c .if2 .taken) (omega arith)) (lines.lt-ne _ 4 8 (c .if2 .taken) (omega arith))
 
 same-length-10 : tie.Need-same-length-10
 same-length-10 c = search needs
 
 returns-7 : tie.Need-returns-7
-returns-7 c = λ n. laws.again-other _ _ n _ _ _ _ _ _ (c .before .before .before .before .before .before .before .get-fwd-emitted .ensures) (c .before .before .before .before .before .before .if1 .left) _ (c .before .before .before .before .type-by-id .ensures) _ (c .before .before .before .kind-of .ensures) (laws.gt-ne _ 6 4 (c .if3 .left) (omega arith)) (laws.gt-ne _ 6 5 (c .if3 .left) (omega arith)) (c .before .before .match .rest .1)
+returns-7 c = λ n. laws.again-other _ _ n _ _ _ _ _ _ (c .before .before .before .before .before .before .before .get-fwd-emitted .ensures) (c .before .before .before .before .before .before .if1 .left) _ (c .before .before .before .before .type-by-id .ensures) _ (c .before .before .before .kind-of .ensures) (lines.gt-ne _ 6 4 (c .if3 .left) (omega arith)) (lines.gt-ne _ 6 5 (c .if3 .left) (omega arith)) (c .before .before .match .rest .1)
 
 pub emit-again-spec : {M : Type 1} → statement M
 emit-again-spec =

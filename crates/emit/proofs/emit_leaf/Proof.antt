@@ -4,7 +4,7 @@ use Rattle.emit.proofs.emit_leaf.Statement.{statement}
 use Rattle.emit.proofs.emit_leaf.Tie as tie
 use Rattle.emit.proofs.emit_leaf.Reads as reads
 use Rattle.emit.proofs.emit_leaf.Lts as lts
-use Rattle.emit.proofs.emit_definition.Reads as emit-definition-reads
+use Rattle.lines.proofs.emit_definition.Reads as emit-definition-reads
 use Rattle.emit.proofs.set_emit_state.Reads as set-emit-state-reads
 
 emit-definition-requires : tie.Need-emit-definition-requires

@@ -4,7 +4,7 @@ use Rattle.emit.proofs.emit_once.Statement.{statement}
 use Rattle.emit.proofs.emit_once.Tie as tie
 use Rattle.emit.proofs.emit_once.Reads as reads
 use Rattle.emit.proofs.emit_once.Lts as lts
-use Rattle.emit.proofs.emit_forward.Reads as emit-forward-reads
+use Rattle.lines.proofs.emit_forward.Reads as emit-forward-reads
 use Rattle.emit.proofs.get_fwd_emitted.Reads as get-fwd-emitted-reads
 use Rattle.emit.proofs.set_fwd_emitted.Reads as set-fwd-emitted-reads
 

@@ -1,12 +1,12 @@
 use Rattle.enums.proofs.Definitions.{end-put}
-use Rattle.lent.proofs.TextLaws.{put-seq}
+use Rattle.text.proofs.TextLaws.{put-seq}
 use borrow.Author.Needs.{needs}
 use Rattle.enums.proofs.emit_enum_end.Statement.{statement}
 use Rattle.enums.proofs.emit_enum_end.Tie as tie
 use Rattle.enums.proofs.emit_enum_end.Reads as reads
 use Rattle.enums.proofs.emit_enum_end.Lts as lts
-use Rattle.lent.proofs.put_byte.Reads as put-byte-reads
-use Rattle.lent.proofs.put_tabs.Reads as put-tabs-reads
+use Rattle.text.proofs.put_byte.Reads as put-byte-reads
+use Rattle.text.proofs.put_tabs.Reads as put-tabs-reads
 
 put-byte-requires : tie.Need-put-byte-requires
 put-byte-requires c κs = search needs

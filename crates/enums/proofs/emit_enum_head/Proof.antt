@@ -4,7 +4,7 @@ use Rattle.enums.proofs.emit_enum_head.Statement.{statement}
 use Rattle.enums.proofs.emit_enum_head.Tie as tie
 use Rattle.enums.proofs.emit_enum_head.Reads as reads
 use Rattle.enums.proofs.emit_enum_head.Lts as lts
-use Rattle.lent.proofs.put_enum.Reads as put-enum-reads
+use Rattle.fixed.proofs.put_enum.Reads as put-enum-reads
 use Rattle.names.proofs.put_sep_name.Reads as put-sep-name-reads
 use Rattle.names.proofs.resolve_type_name.Reads as resolve-type-name-reads
 

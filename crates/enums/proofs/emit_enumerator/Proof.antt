@@ -1,13 +1,13 @@
 use Rattle.enums.proofs.Values.{head-is}
-use Rattle.lent.proofs.TextLaws.{put-seq}
+use Rattle.text.proofs.TextLaws.{put-seq}
 use borrow.Author.Needs.{needs}
 use Rattle.enums.proofs.emit_enumerator.Statement.{statement}
 use Rattle.enums.proofs.emit_enumerator.Tie as tie
 use Rattle.enums.proofs.emit_enumerator.Reads as reads
 use Rattle.enums.proofs.emit_enumerator.Lts as lts
-use Rattle.lent.proofs.put_byte.Reads as put-byte-reads
-use Rattle.lent.proofs.put_tabs.Reads as put-tabs-reads
-use Rattle.lent.proofs.put_three.Reads as put-three-reads
+use Rattle.text.proofs.put_byte.Reads as put-byte-reads
+use Rattle.text.proofs.put_tabs.Reads as put-tabs-reads
+use Rattle.text.proofs.put_three.Reads as put-three-reads
 use Rattle.names.proofs.put_name.Reads as put-name-reads
 use Rattle.names.proofs.resolve_name.Reads as resolve-name-reads
 

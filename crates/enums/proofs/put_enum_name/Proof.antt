@@ -1,12 +1,12 @@
-use Rattle.lent.proofs.TextLaws.{put-seq}
+use Rattle.text.proofs.TextLaws.{put-seq}
 use Rattle.enums.proofs.Definitions.{word-put}
 use borrow.Author.Needs.{needs}
 use Rattle.enums.proofs.put_enum_name.Statement.{statement}
 use Rattle.enums.proofs.put_enum_name.Tie as tie
 use Rattle.enums.proofs.put_enum_name.Reads as reads
 use Rattle.enums.proofs.put_enum_name.Lts as lts
-use Rattle.lent.proofs.put_enum.Reads as put-enum-reads
-use Rattle.lent.proofs.put_byte.Reads as put-byte-reads
+use Rattle.fixed.proofs.put_enum.Reads as put-enum-reads
+use Rattle.text.proofs.put_byte.Reads as put-byte-reads
 use Rattle.names.proofs.put_name.Reads as put-name-reads
 use Rattle.names.proofs.resolve_type_name.Reads as resolve-type-name-reads
 

@@ -1,12 +1,12 @@
 use Rattle.enums.proofs.Values.{put-signed64, put-plain64}
-use Rattle.lent.proofs.TextLaws.{put-seq}
+use Rattle.text.proofs.TextLaws.{put-seq}
 use borrow.Author.Needs.{needs}
 use Rattle.enums.proofs.put_value64.Statement.{statement}
 use Rattle.enums.proofs.put_value64.Tie as tie
 use Rattle.enums.proofs.put_value64.Reads as reads
 use Rattle.enums.proofs.put_value64.Lts as lts
-use Rattle.lent.proofs.put_decimal.Reads as put-decimal-reads
-use Rattle.lent.proofs.put_ull.Reads as put-ull-reads
+use Rattle.text.proofs.put_decimal.Reads as put-decimal-reads
+use Rattle.fixed.proofs.put_ull.Reads as put-ull-reads
 use Rattle.signed.proofs.as_i64.Reads as as-i64-reads
 use Rattle.signed.proofs.put_i64.Reads as put-i64-reads
 

@@ -1,5 +1,5 @@
 use borrow.Author.Tests.{not-true, not-false}
-use Rattle.opening.proofs.Opens.{examine-early, examine-5, examine-late, examine-9, examine-0, says-refused, says-sound}
+use Rattle.opened.proofs.Opens.{examine-early, examine-5, examine-late, examine-9, examine-0, says-refused, says-sound}
 use borrow.Author.Needs.{needs}
 use Rattle.opening.proofs.examine.Statement.{statement}
 use Rattle.opening.proofs.examine.Tie as tie

@@ -1,5 +1,5 @@
 use borrow.Author.Tests.{not-true, not-false}
-use Rattle.opening.proofs.First.{early-1, early-2, early-3, early-4, early-0}
+use Rattle.opened.proofs.First.{early-1, early-2, early-3, early-4, early-0}
 use borrow.Author.Needs.{needs}
 use Rattle.opening.proofs.header_cause.Statement.{statement}
 use Rattle.opening.proofs.header_cause.Tie as tie

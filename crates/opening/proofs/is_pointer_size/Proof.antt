@@ -1,4 +1,4 @@
-use Rattle.opening.proofs.First.{pointer-four, pointer-else}
+use Rattle.opened.proofs.First.{pointer-four, pointer-else}
 use Rattle.opening.proofs.is_pointer_size.Statement.{statement}
 use Rattle.opening.proofs.is_pointer_size.Tie as tie
 use Rattle.opening.proofs.is_pointer_size.Reads as reads

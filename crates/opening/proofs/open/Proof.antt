@@ -1,6 +1,6 @@
-use Rattle.opening.specs.Table.{emptyIndex}
+use Rattle.opened.specs.Table.{emptyIndex}
 use mathlib.Core.Path.{refl, _∙_}
-use Rattle.opening.proofs.Opens.{open-refused, open-sound}
+use Rattle.opened.proofs.Opens.{open-refused, open-sound}
 use borrow.Author.Needs.{needs}
 use Rattle.opening.proofs.open.Statement.{statement}
 use Rattle.opening.proofs.open.Tie as tie

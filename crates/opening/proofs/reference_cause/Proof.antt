@@ -1,4 +1,4 @@
-use Rattle.opening.proofs.Opens.{late-6, late-7, late-8, late-0}
+use Rattle.opened.proofs.Opens.{late-6, late-7, late-8, late-0}
 use borrow.Author.Needs.{needs}
 use Rattle.opening.proofs.reference_cause.Statement.{statement}
 use Rattle.opening.proofs.reference_cause.Tie as tie

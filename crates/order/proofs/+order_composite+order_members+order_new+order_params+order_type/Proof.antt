@@ -1,9 +1,9 @@
 use Rattle.btf.specs.Records.{sectionWord, memberAt, paramAt}
-use mathlib.Core.Bool.{true, false}
-use mathlib.Core.Path.{_≡_, refl, ap, sym, _∙_}
+use mathlib.Core.Bool.{false}
+use mathlib.Core.Path.{_≡_, refl, _∙_}
 use lib.ListN.{length}
 use Prim.Native.Nat.{ℕ, zero-le, _<_, _≤_, _+_, _-_, _*_}
-use Rattle.order.proofs.Laws as laws
+use Rattle.marks.proofs.Laws as laws
 use borrow.Author.Needs.{needs}
 use native.Mathlib.Omega.{arith}
 use borrow.Fn.Kinds.{In}
@@ -24,19 +24,19 @@ use Rattle.order.proofs.order_type.Reads as order-type
 use Rattle.order.proofs.order_type.Kinds as order-type-kinds
 use Rattle.order.proofs.+order_composite+order_members+order_new+order_params+order_type.Lts-order_type as order-type-lts
 use Rattle.btf.proofs.node_of.Reads as node-of-reads
-use Rattle.btf.proofs.is_named.Reads as is-named-reads
+use Rattle.strings.proofs.is_named.Reads as is-named-reads
 use Rattle.btf.proofs.member_place.Reads as member-place-reads
 use Rattle.btf.proofs.param_place.Reads as param-place-reads
 use Rattle.btf.proofs.type_by_id.Reads as type-by-id-reads
 use Rattle.btf.proofs.word.Reads as word-reads
-use Rattle.order.proofs.finish.Reads as finish-reads
-use Rattle.order.proofs.finish_typedef.Reads as finish-typedef-reads
-use Rattle.order.proofs.get_order_state.Reads as get-order-state-reads
+use Rattle.marks.proofs.finish.Reads as finish-reads
+use Rattle.marks.proofs.finish_typedef.Reads as finish-typedef-reads
+use Rattle.marks.proofs.get_order_state.Reads as get-order-state-reads
 use Rattle.order.proofs.meet.Reads as meet-reads
 use Rattle.order.proofs.paid.Reads as paid-reads
-use Rattle.order.proofs.refused.Reads as refused-reads
-use Rattle.order.proofs.set_order_state.Reads as set-order-state-reads
-use Rattle.order.proofs.strong.Reads as strong-reads
+use Rattle.marks.proofs.refused.Reads as refused-reads
+use Rattle.marks.proofs.set_order_state.Reads as set-order-state-reads
+use Rattle.marks.proofs.strong.Reads as strong-reads
 use Rattle.order.proofs.+order_composite+order_members+order_new+order_params+order_type.{
   statement,
 }

@@ -1,15 +1,15 @@
 use mathlib.Core.Logic.{⊎-elim}
-use Rattle.order.proofs.Laws as laws
+use Rattle.marks.proofs.Laws as laws
 use borrow.Author.Needs.{needs}
 use Rattle.order.proofs.meet.Statement.{statement}
 use Rattle.order.proofs.meet.Tie as tie
 use Rattle.order.proofs.meet.Reads as reads
 use Rattle.order.proofs.meet.Lts as lts
-use Rattle.btf.proofs.is_named.Reads as is-named-reads
+use Rattle.strings.proofs.is_named.Reads as is-named-reads
 use Rattle.btf.proofs.kind_of.Reads as kind-of-reads
 use Rattle.btf.proofs.type_by_id.Reads as type-by-id-reads
-use Rattle.order.proofs.refused.Reads as refused-reads
-use Rattle.order.proofs.strong.Reads as strong-reads
+use Rattle.marks.proofs.refused.Reads as refused-reads
+use Rattle.marks.proofs.strong.Reads as strong-reads
 
 refused-requires : tie.Need-refused-requires
 refused-requires c κs = search needs

@@ -1,10 +1,10 @@
-use Rattle.padding.proofs.Laws.{mode-is, ptr-size, emit-none, emit-gap, emit-refused}
+use Rattle.pads.proofs.Laws.{mode-is, ptr-size, emit-none, emit-gap, emit-refused}
 use borrow.Author.Needs.{needs}
 use Rattle.padding.proofs.emit_bit_padding.Statement.{statement}
 use Rattle.padding.proofs.emit_bit_padding.Tie as tie
 use Rattle.padding.proofs.emit_bit_padding.Reads as reads
 use Rattle.padding.proofs.emit_bit_padding.Lts as lts
-use Rattle.lent.proofs.stop.Reads as stop-reads
+use Rattle.text.proofs.stop.Reads as stop-reads
 use Rattle.padding.proofs.gap_align.Reads as gap-align-reads
 use Rattle.padding.proofs.put_pads_before.Reads as put-pads-before-reads
 

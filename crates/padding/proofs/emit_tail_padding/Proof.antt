@@ -1,6 +1,6 @@
 use borrow.Author.Needs.{needs}
-use Rattle.padding.proofs.Placing.{tail-old, tail-union, tail-full, tail-put}
-use Rattle.lent.proofs.TextLaws.{put-same, put-empty}
+use Rattle.pads.proofs.Placing.{tail-old, tail-union, tail-full, tail-put}
+use Rattle.text.proofs.TextLaws.{put-same, put-empty}
 use mathlib.Core.Path.{refl, sym, _∙_}
 use borrow.Author.Tests.{not-true, not-false}
 use Rattle.padding.proofs.emit_tail_padding.Statement.{statement}
@@ -9,7 +9,7 @@ use Rattle.padding.proofs.emit_tail_padding.Reads as reads
 use Rattle.padding.proofs.emit_tail_padding.Lts as lts
 use Rattle.btf.proofs.is_struct.Reads as is-struct-reads
 use Rattle.padding.proofs.put_own_line.Reads as put-own-line-reads
-use Rattle.padding.proofs.put_placed_pads.Reads as put-placed-pads-reads
+use Rattle.pads.proofs.put_placed_pads.Reads as put-placed-pads-reads
 
 -- src/lib.rt:316:9
 returns : tie.Need-returns

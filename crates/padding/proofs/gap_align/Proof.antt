@@ -1,4 +1,4 @@
-use Rattle.padding.proofs.Laws.{align-packed, align-plain}
+use Rattle.pads.proofs.Laws.{align-packed, align-plain}
 use borrow.Author.Needs.{needs}
 use Rattle.padding.proofs.gap_align.Statement.{statement}
 use Rattle.padding.proofs.gap_align.Tie as tie

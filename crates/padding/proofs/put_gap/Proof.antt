@@ -1,10 +1,10 @@
-use Rattle.padding.proofs.Laws.{gap-bits, gap-natural, gap-wide, put-wide, put-natural}
+use Rattle.pads.proofs.Laws.{gap-bits, gap-natural, gap-wide, put-wide, put-natural}
 use borrow.Author.Needs.{needs}
 use Rattle.padding.proofs.put_gap.Statement.{statement}
 use Rattle.padding.proofs.put_gap.Tie as tie
 use Rattle.padding.proofs.put_gap.Reads as reads
 use Rattle.padding.proofs.put_gap.Lts as lts
-use Rattle.padding.proofs.put_pads.Reads as put-pads-reads
+use Rattle.pads.proofs.put_pads.Reads as put-pads-reads
 
 -- src/lib.rt:126:9
 put-pads-requires : tie.Need-put-pads-requires

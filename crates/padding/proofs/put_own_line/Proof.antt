@@ -1,11 +1,11 @@
-use Rattle.padding.proofs.Placing.{lone-none, lone-line}
-use Rattle.lent.proofs.TextLaws.{put-same, put-empty}
+use Rattle.pads.proofs.Placing.{lone-none, lone-line}
+use Rattle.text.proofs.TextLaws.{put-same, put-empty}
 use borrow.Author.Needs.{needs}
 use Rattle.padding.proofs.put_own_line.Statement.{statement}
 use Rattle.padding.proofs.put_own_line.Tie as tie
 use Rattle.padding.proofs.put_own_line.Reads as reads
 use Rattle.padding.proofs.put_own_line.Lts as lts
-use Rattle.lent.proofs.put_byte.Reads as put-byte-reads
+use Rattle.text.proofs.put_byte.Reads as put-byte-reads
 
 -- src/lib.rt:298:9
 returns : tie.Need-returns

@@ -1,5 +1,5 @@
 use borrow.Author.Needs.{needs}
-use Rattle.padding.proofs.Placing.{before-placed, before-old}
+use Rattle.pads.proofs.Placing.{before-placed, before-old}
 use Rattle.padding.proofs.put_pads_before.Statement.{statement}
 use Rattle.padding.proofs.put_pads_before.Tie as tie
 use Rattle.padding.proofs.put_pads_before.Reads as reads

@@ -1,11 +1,11 @@
 use borrow.Author.Needs.{needs}
-use Rattle.padding.proofs.Placing.{placed-bits, placed-natural, placed-wide}
+use Rattle.pads.proofs.Placing.{placed-bits, placed-natural, placed-wide}
 use mathlib.Core.Path.{refl}
 use Rattle.padding.proofs.put_placed_gap.Statement.{statement}
 use Rattle.padding.proofs.put_placed_gap.Tie as tie
 use Rattle.padding.proofs.put_placed_gap.Reads as reads
 use Rattle.padding.proofs.put_placed_gap.Lts as lts
-use Rattle.padding.proofs.put_placed_pads.Reads as put-placed-pads-reads
+use Rattle.pads.proofs.put_placed_pads.Reads as put-placed-pads-reads
 
 -- src/lib.rt:241:15
 add-end : tie.Need-add-end

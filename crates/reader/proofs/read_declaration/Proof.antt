@@ -8,11 +8,11 @@ use Rattle.reader.proofs.read_declaration.Statement.{statement}
 use Rattle.reader.proofs.read_declaration.Tie as tie
 use Rattle.reader.proofs.read_declaration.Reads as reads
 use Rattle.reader.proofs.read_declaration.Lts as lts
-use Rattle.reader.proofs.bases.base_at.Reads as base-at-reads
-use Rattle.reader.proofs.items.put_base.Reads as put-base-reads
-use Rattle.reader.proofs.parse.declarator.Reads as declarator-reads
+use Rattle.bases.proofs.base_at.Reads as base-at-reads
+use Rattle.bases.proofs.put_base.Reads as put-base-reads
+use Rattle.grammar.proofs.declarator.Reads as declarator-reads
 use Rattle.reader.proofs.refuse.Reads as refuse-reads
-use Rattle.reader.proofs.tokens.token.Reads as token-reads
+use Rattle.tokens.proofs.token.Reads as token-reads
 
 base-at-requires : tie.Need-base-at-requires
 base-at-requires c κs = search needs

@@ -1,4 +1,4 @@
-use Rattle.reader.specs.Encoding.{placed}
+use Rattle.bases.specs.Items.{placed}
 use Rattle.lent.proofs.Laws.{cleared, cleared-none, cleared-more, cleared-all}
 use lib.ListN.{length, length-set}
 use mathlib.Core.Path.{_≡_, refl, ap}

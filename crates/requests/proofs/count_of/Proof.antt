@@ -1,4 +1,4 @@
-use Rattle.requests.proofs.Lists as lists
+use Rattle.calls.proofs.Lists as lists
 use mathlib.Core.Path.{sym}
 use borrow.Author.Needs.{needs}
 use Rattle.requests.proofs.count_of.Statement.{statement}

@@ -1,8 +1,8 @@
-use Rattle.requests.proofs.Laws as laws
-use mathlib.Core.Path.{_≡_, refl, sym, _∙_}
+use Rattle.calls.proofs.Laws as laws
+use mathlib.Core.Path.{_≡_, refl, _∙_}
 use Prim.Native.Nat.{_+_, _-_, _<_, _≤_}
 use lib.ListN.{length}
-use Rattle.requests.specs.Calls.{requestedFrom}
+use Rattle.calls.specs.Calls.{requestedFrom}
 use native.Mathlib.Omega.{arith}
 use borrow.Author.Needs.{needs}
 use Rattle.requests.proofs.dump_all.Statement.{statement}

@@ -1,11 +1,11 @@
-use Rattle.requests.proofs.Lists as lists
+use Rattle.calls.proofs.Lists as lists
 use mathlib.Core.Path.{_≡_, refl, sym, _∙_}
 use mathlib.Core.Bool.{true}
-use Prim.Native.Nat.{_+_, _-_, _<_, _≤_}
+use Prim.Native.Nat.{_-_, _<_, _≤_}
 use lib.ListN.{length}
 use Rattle.turns.specs.Turns.{withText, tableFor}
-use Rattle.requests.specs.Lists.{idsIn, listCall, listFrom, tailed}
-use Rattle.requests.proofs.Lists.{idsFrom}
+use Rattle.calls.specs.Lists.{idsIn, listCall, listFrom, tailed}
+use Rattle.calls.proofs.Lists.{idsFrom}
 use native.Mathlib.Omega.{arith}
 use borrow.Author.Needs.{needs}
 use Rattle.requests.proofs.dump_ids.Statement.{statement}

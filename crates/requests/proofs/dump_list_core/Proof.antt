@@ -1,4 +1,4 @@
-use Rattle.requests.proofs.Lists as lists
+use Rattle.calls.proofs.Lists as lists
 use mathlib.Core.Path.{sym, _∙_}
 use borrow.Author.Tests.{not-false}
 use borrow.Author.Needs.{needs}

@@ -1,4 +1,4 @@
-use Rattle.requests.proofs.Laws as laws
+use Rattle.calls.proofs.Laws as laws
 use borrow.Author.Needs.{needs}
 use Rattle.requests.proofs.dump_next.Statement.{statement}
 use Rattle.requests.proofs.dump_next.Tie as tie

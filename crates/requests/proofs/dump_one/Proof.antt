@@ -1,4 +1,4 @@
-use Rattle.requests.proofs.Laws as laws
+use Rattle.calls.proofs.Laws as laws
 use native.Mathlib.Omega.{arith}
 use borrow.Author.Needs.{needs}
 use Rattle.requests.proofs.dump_one.Statement.{statement}

@@ -1,4 +1,4 @@
-use Rattle.requests.proofs.Laws as laws
+use Rattle.calls.proofs.Laws as laws
 use borrow.Author.Needs.{needs}
 use Rattle.requests.proofs.open_core.Statement.{statement}
 use Rattle.requests.proofs.open_core.Tie as tie

@@ -1,4 +1,4 @@
-use Rattle.lent.proofs.TextLaws.{put-same}
+use Rattle.text.proofs.TextLaws.{put-same}
 use Rattle.signed.proofs.Laws.{widen, widened}
 use borrow.Author.Needs.{needs}
 use Rattle.signed.proofs.put_i32.Statement.{statement}

@@ -1,11 +1,11 @@
-use Rattle.lent.proofs.TextLaws.{put-same, put-seq}
+use Rattle.text.proofs.TextLaws.{put-same, put-seq}
 use Rattle.signed.proofs.Laws.{least, other}
 use borrow.Author.Needs.{needs}
 use Rattle.signed.proofs.put_i64.Statement.{statement}
 use Rattle.signed.proofs.put_i64.Tie as tie
 use Rattle.signed.proofs.put_i64.Reads as reads
 use Rattle.signed.proofs.put_i64.Lts as lts
-use Rattle.lent.proofs.put_ll.Reads as put-ll-reads
+use Rattle.fixed.proofs.put_ll.Reads as put-ll-reads
 use Rattle.signed.proofs.put_least.Reads as put-least-reads
 use Rattle.signed.proofs.put_signed.Reads as put-signed-reads
 

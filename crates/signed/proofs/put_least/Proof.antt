@@ -1,14 +1,14 @@
-use Rattle.lent.proofs.TextLaws.{put-same, put-seq}
+use Rattle.text.proofs.TextLaws.{put-same, put-seq}
 use Rattle.signed.proofs.Laws.{least-parts}
 use borrow.Author.Needs.{needs}
 use Rattle.signed.proofs.put_least.Statement.{statement}
 use Rattle.signed.proofs.put_least.Tie as tie
 use Rattle.signed.proofs.put_least.Reads as reads
 use Rattle.signed.proofs.put_least.Lts as lts
-use Rattle.lent.proofs.put_decimal.Reads as put-decimal-reads
-use Rattle.lent.proofs.put_ll.Reads as put-ll-reads
-use Rattle.lent.proofs.put_minus_one.Reads as put-minus-one-reads
-use Rattle.lent.proofs.put_two.Reads as put-two-reads
+use Rattle.text.proofs.put_decimal.Reads as put-decimal-reads
+use Rattle.fixed.proofs.put_ll.Reads as put-ll-reads
+use Rattle.fixed.proofs.put_minus_one.Reads as put-minus-one-reads
+use Rattle.text.proofs.put_two.Reads as put-two-reads
 
 put-two-requires : tie.Need-put-two-requires
 put-two-requires c κs = search needs

@@ -1,12 +1,12 @@
-use Rattle.lent.proofs.TextLaws.{put-same, put-seq}
+use Rattle.text.proofs.TextLaws.{put-same, put-seq}
 use Rattle.signed.proofs.Laws.{with-minus, with-none}
 use borrow.Author.Needs.{needs}
 use Rattle.signed.proofs.put_signed.Statement.{statement}
 use Rattle.signed.proofs.put_signed.Tie as tie
 use Rattle.signed.proofs.put_signed.Reads as reads
 use Rattle.signed.proofs.put_signed.Lts as lts
-use Rattle.lent.proofs.put_decimal.Reads as put-decimal-reads
-use Rattle.lent.proofs.put_byte.Reads as put-byte-reads
+use Rattle.text.proofs.put_decimal.Reads as put-decimal-reads
+use Rattle.text.proofs.put_byte.Reads as put-byte-reads
 use Rattle.signed.proofs.magnitude.Reads as magnitude-reads
 
 put-byte-requires : tie.Need-put-byte-requires

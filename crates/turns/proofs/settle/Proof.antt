@@ -1,5 +1,4 @@
 use Rattle.turns.proofs.Laws as laws
-use native.Mathlib.Omega.{arith}
 use borrow.Author.Needs.{needs}
 use Rattle.turns.proofs.settle.Statement.{statement}
 use Rattle.turns.proofs.settle.Tie as tie

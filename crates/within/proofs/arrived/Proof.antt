@@ -1,6 +1,6 @@
 use native.Mathlib.Omega.{arith}
 use mathlib.Core.Path.{_≡_, refl, sym, _∙_}
-use Rattle.requests.proofs.Laws as plain
+use Rattle.calls.proofs.Laws as plain
 use borrow.Author.Needs.{needs}
 use Rattle.within.proofs.arrived.Statement.{statement}
 use Rattle.within.proofs.arrived.Tie as tie

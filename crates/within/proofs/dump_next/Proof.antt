@@ -6,7 +6,7 @@ use Rattle.within.proofs.dump_next.Statement.{statement}
 use Rattle.within.proofs.dump_next.Tie as tie
 use Rattle.within.proofs.dump_next.Reads as reads
 use Rattle.within.proofs.dump_next.Lts as lts
-use Rattle.emit.proofs.is_idle.Reads as is-idle-reads
+use Rattle.dump.proofs.is_idle.Reads as is-idle-reads
 use Rattle.within.proofs.dump_one.Reads as dump-one-reads
 
 is-idle-requires : tie.Need-is-idle-requires

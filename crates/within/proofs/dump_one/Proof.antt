@@ -5,7 +5,7 @@ use Rattle.within.proofs.dump_one.Statement.{statement}
 use Rattle.within.proofs.dump_one.Tie as tie
 use Rattle.within.proofs.dump_one.Reads as reads
 use Rattle.within.proofs.dump_one.Lts as lts
-use Rattle.emit.proofs.dump_type_within.Reads as dump-type-within-reads
+use Rattle.dump.proofs.dump_type_within.Reads as dump-type-within-reads
 use Rattle.within.proofs.arrived.Reads as arrived-reads
 use Rattle.within.proofs.limit.Reads as limit-reads
 

@@ -1,6 +1,6 @@
 use native.Mathlib.Omega.{arith}
 use mathlib.Core.Path.{_≡_, refl, sym, _∙_}
-use Rattle.requests.proofs.Laws as plain
+use Rattle.calls.proofs.Laws as plain
 use Rattle.within.proofs.limit.Statement.{statement}
 use Rattle.within.proofs.limit.Tie as tie
 use Rattle.within.proofs.limit.Reads as reads

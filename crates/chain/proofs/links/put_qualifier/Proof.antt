@@ -4,9 +4,9 @@ use Rattle.chain.proofs.links.put_qualifier.Statement.{statement}
 use Rattle.chain.proofs.links.put_qualifier.Tie as tie
 use Rattle.chain.proofs.links.put_qualifier.Reads as reads
 use Rattle.chain.proofs.links.put_qualifier.Lts as lts
-use Rattle.lent.proofs.put_const.Reads as put-const-reads
-use Rattle.lent.proofs.put_restrict.Reads as put-restrict-reads
-use Rattle.lent.proofs.put_volatile.Reads as put-volatile-reads
+use Rattle.fixed.proofs.put_const.Reads as put-const-reads
+use Rattle.fixed.proofs.put_restrict.Reads as put-restrict-reads
+use Rattle.fixed.proofs.put_volatile.Reads as put-volatile-reads
 
 put-volatile-requires : tie.Need-put-volatile-requires
 put-volatile-requires c κs = search needs

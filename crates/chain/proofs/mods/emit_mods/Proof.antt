@@ -1,6 +1,6 @@
 use Rattle.chain.proofs.Paths.{mods-end, mods-turn}
 use Rattle.chain.specs.Chains.{modsDown}
-use Rattle.lent.specs.Text.{whole, putText}
+use Rattle.text.specs.Text.{whole, putText}
 use lib.ListN.{length}
 use mathlib.Core.Path.{_≡_, refl, _∙_}
 use borrow.Author.Needs.{needs}
@@ -11,7 +11,7 @@ use Rattle.chain.proofs.mods.emit_mods.Reads as reads
 use Rattle.chain.proofs.mods.emit_mods.Lts as lts
 use Rattle.chain.proofs.links.kind_on_top.Reads as kind-on-top-reads
 use Rattle.chain.proofs.links.put_qualifier.Reads as put-qualifier-reads
-use Rattle.lent.proofs.put_byte.Reads as put-byte-reads
+use Rattle.text.proofs.put_byte.Reads as put-byte-reads
 
 abbrev Inv-loop : tie.InvT-loop
 Inv-loop b section work text₀ at start n m p₀ k₀ text p k = (length text ≡ length text₀) × (putText text p (whole (modsDown b section work start m k)) ≡ putText text₀ at (whole (modsDown b section work start m n)))

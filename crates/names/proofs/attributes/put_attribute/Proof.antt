@@ -1,17 +1,17 @@
 use Rattle.names.proofs.Tags.{put-own, put-worded}
 use Rattle.rules.specs.Names.{escaped}
-use Rattle.lent.proofs.TextLaws.{put-seq, put-same}
+use Rattle.text.proofs.TextLaws.{put-seq, put-same}
 use mathlib.Core.Path.{ap}
 use borrow.Author.Needs.{needs}
 use Rattle.names.proofs.attributes.put_attribute.Statement.{statement}
 use Rattle.names.proofs.attributes.put_attribute.Tie as tie
 use Rattle.names.proofs.attributes.put_attribute.Reads as reads
 use Rattle.names.proofs.attributes.put_attribute.Lts as lts
-use Rattle.btf.proofs.get_btf_str.Reads as get-btf-str-reads
-use Rattle.btf.proofs.put_escaped.Reads as put-escaped-reads
-use Rattle.lent.proofs.put_attribute_start.Reads as put-attribute-start-reads
-use Rattle.lent.proofs.put_bytes.Reads as put-bytes-reads
-use Rattle.lent.proofs.put_two.Reads as put-two-reads
+use Rattle.strings.proofs.get_btf_str.Reads as get-btf-str-reads
+use Rattle.strings.proofs.put_escaped.Reads as put-escaped-reads
+use Rattle.fixed.proofs.put_attribute_start.Reads as put-attribute-start-reads
+use Rattle.text.proofs.put_bytes.Reads as put-bytes-reads
+use Rattle.text.proofs.put_two.Reads as put-two-reads
 use Rattle.names.proofs.attributes.put_tag_name.Reads as put-tag-name-reads
 
 put-attribute-start-requires : tie.Need-put-attribute-start-requires

@@ -4,8 +4,8 @@ use Rattle.names.proofs.attributes.put_tag_name.Statement.{statement}
 use Rattle.names.proofs.attributes.put_tag_name.Tie as tie
 use Rattle.names.proofs.attributes.put_tag_name.Reads as reads
 use Rattle.names.proofs.attributes.put_tag_name.Lts as lts
-use Rattle.lent.proofs.put_decl_tag.Reads as put-decl-tag-reads
-use Rattle.lent.proofs.put_type_tag.Reads as put-type-tag-reads
+use Rattle.fixed.proofs.put_decl_tag.Reads as put-decl-tag-reads
+use Rattle.fixed.proofs.put_type_tag.Reads as put-type-tag-reads
 
 put-decl-tag-requires : tie.Need-put-decl-tag-requires
 put-decl-tag-requires c κs = search needs

@@ -1,5 +1,5 @@
 use Rattle.names.proofs.Forwards.{keyword-same, fwd-builtin, fwd-named}
-use Rattle.lent.proofs.TextLaws.{put-same}
+use Rattle.text.proofs.TextLaws.{put-same}
 use mathlib.Core.Path.{_∙_, sym, ap}
 use mathlib.Core.List.{[]}
 use borrow.Author.Needs.{needs}
@@ -7,8 +7,8 @@ use Rattle.names.proofs.composite.emit_composite_fwd.Statement.{stateme
 use Rattle.names.proofs.composite.emit_composite_fwd.Tie as tie
 use Rattle.names.proofs.composite.emit_composite_fwd.Reads as reads
 use Rattle.names.proofs.composite.emit_composite_fwd.Lts as lts
-use Rattle.btf.proofs.is_builtin.Reads as is-builtin-reads
-use Rattle.lent.proofs.put_byte.Reads as put-byte-reads
+use Rattle.strings.proofs.is_builtin.Reads as is-builtin-reads
+use Rattle.text.proofs.put_byte.Reads as put-byte-reads
 use Rattle.names.proofs.composite.put_keyword.Reads as put-keyword-reads
 use Rattle.names.proofs.versions.put_name.Reads as put-name-reads
 use Rattle.names.proofs.versions.resolve_type_name.Reads as resolve-type-name-reads

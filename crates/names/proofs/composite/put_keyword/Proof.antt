@@ -5,9 +5,9 @@ use Rattle.names.proofs.composite.put_keyword.Statement.{statement}
 use Rattle.names.proofs.composite.put_keyword.Tie as tie
 use Rattle.names.proofs.composite.put_keyword.Reads as reads
 use Rattle.names.proofs.composite.put_keyword.Lts as lts
-use Rattle.lent.proofs.put_struct.Reads as put-struct-reads
-use Rattle.lent.proofs.put_struct_union.Reads as put-struct-union-reads
-use Rattle.lent.proofs.put_union.Reads as put-union-reads
+use Rattle.fixed.proofs.put_struct.Reads as put-struct-reads
+use Rattle.fixed.proofs.put_struct_union.Reads as put-struct-union-reads
+use Rattle.fixed.proofs.put_union.Reads as put-union-reads
 
 put-struct-requires : tie.Need-put-struct-requires
 put-struct-requires c κs = search needs

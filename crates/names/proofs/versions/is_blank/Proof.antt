@@ -4,7 +4,7 @@ use Rattle.names.proofs.versions.is_blank.Statement.{statement}
 use Rattle.names.proofs.versions.is_blank.Tie as tie
 use Rattle.names.proofs.versions.is_blank.Reads as reads
 use Rattle.names.proofs.versions.is_blank.Lts as lts
-use Rattle.btf.proofs.is_empty.Reads as is-empty-reads
+use Rattle.strings.proofs.is_empty.Reads as is-empty-reads
 
 is-empty-requires : tie.Need-is-empty-requires
 is-empty-requires c κs = search needs

@@ -1,13 +1,13 @@
 use Rattle.names.proofs.Spellings.{put-bare, put-more}
-use Rattle.lent.proofs.TextLaws.{put-seq}
+use Rattle.text.proofs.TextLaws.{put-seq}
 use borrow.Author.Needs.{needs}
 use Rattle.names.proofs.versions.put_name.Statement.{statement}
 use Rattle.names.proofs.versions.put_name.Tie as tie
 use Rattle.names.proofs.versions.put_name.Reads as reads
 use Rattle.names.proofs.versions.put_name.Lts as lts
-use Rattle.btf.proofs.put_str.Reads as put-str-reads
-use Rattle.lent.proofs.put_decimal.Reads as put-decimal-reads
-use Rattle.lent.proofs.put_underscores.Reads as put-underscores-reads
+use Rattle.strings.proofs.put_str.Reads as put-str-reads
+use Rattle.text.proofs.put_decimal.Reads as put-decimal-reads
+use Rattle.fixed.proofs.put_underscores.Reads as put-underscores-reads
 
 put-str-requires : tie.Need-put-str-requires
 put-str-requires c κs = search needs

@@ -1,12 +1,12 @@
 use Rattle.names.proofs.Spellings.{put-no-name, put-sep}
-use Rattle.lent.proofs.TextLaws.{put-seq}
+use Rattle.text.proofs.TextLaws.{put-seq}
 use mathlib.Core.Path.{_∙_, sym}
 use borrow.Author.Needs.{needs}
 use Rattle.names.proofs.versions.put_sep_name.Statement.{statement}
 use Rattle.names.proofs.versions.put_sep_name.Tie as tie
 use Rattle.names.proofs.versions.put_sep_name.Reads as reads
 use Rattle.names.proofs.versions.put_sep_name.Lts as lts
-use Rattle.lent.proofs.put_byte.Reads as put-byte-reads
+use Rattle.text.proofs.put_byte.Reads as put-byte-reads
 use Rattle.names.proofs.versions.is_blank.Reads as is-blank-reads
 use Rattle.names.proofs.versions.put_name.Reads as put-name-reads
 

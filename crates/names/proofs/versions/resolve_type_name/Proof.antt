@@ -11,7 +11,7 @@ use Rattle.names.proofs.versions.resolve_type_name.Lts as lts
 use Rattle.btf.proofs.get_count.Reads as get-count-reads
 use Rattle.btf.proofs.get_field.Reads as get-field-reads
 use Rattle.btf.proofs.put_field.Reads as put-field-reads
-use Rattle.btf.proofs.is_empty.Reads as is-empty-reads
+use Rattle.strings.proofs.is_empty.Reads as is-empty-reads
 use Rattle.names.proofs.versions.bare.Reads as bare-reads
 
 is-empty-requires : tie.Need-is-empty-requires

@@ -1,14 +1,14 @@
 use borrow.Author.Needs.{needs}
 use Rattle.within.specs.Lists.{listCallWithin, listFromWithin}
-use Rattle.requests.proofs.Lists.{idsFrom}
-use Rattle.requests.specs.Lists.{idsIn, tailed}
+use Rattle.calls.proofs.Lists.{idsFrom}
+use Rattle.calls.specs.Lists.{idsIn, tailed}
 use Rattle.turns.specs.Turns.{withText, tableFor}
 use lib.ListN.{length}
 use Prim.Native.Nat.{zero-le, _+_, _-_, _<_, _≤_}
 use mathlib.Core.Bool.{true}
 use mathlib.Core.Path.{_≡_, refl, sym, _∙_}
 use native.Mathlib.Omega.{arith}
-use Rattle.requests.proofs.Lists as lists
+use Rattle.calls.proofs.Lists as lists
 use Rattle.within.proofs.ListLaws as laws
 use Rattle.within.proofs.lists.dump_ids.Statement.{statement}
 use Rattle.within.proofs.lists.dump_ids.Tie as tie

@@ -1,0 +1,3 @@
+-- Laws of qualifiers, bases and entries.
+pub mod BaseLaws
+pub mod ItemLaws

@@ -1,0 +1,21 @@
+use borrow.Author.Tests.{not-true, not-false}
+use denote.Ref.{now}
+use lib.ListN.{length}
+use mathlib.Core.Path.{_≡_, refl, sym, _∙_}
+use Prim.Native.Nat.{_≤_, _<_, _-_}
+use Rattle.bases.proofs.BaseLaws as laws
+use borrow.Author.Needs.{needs}
+use native.Mathlib.Omega.{arith}
+use Rattle.bases.proofs.is_qualifier.Statement.{statement}
+use Rattle.bases.proofs.is_qualifier.Tie as tie
+use Rattle.bases.proofs.is_qualifier.Reads as reads
+use Rattle.bases.proofs.is_qualifier.Lts as lts
+
+returns : tie.Need-returns
+returns c = laws.qualifier-zero _ (c .if1 .taken)
+
+returns-2 : tie.Need-returns-2
+returns-2 c = laws.qualifier-some _ (c .if1 .left)
+
+pub is-qualifier-spec : {M : Type 1} → statement M
+is-qualifier-spec = tie.close (tie.spec returns returns-2)

@@ -1,0 +1,21 @@
+use borrow.Author.Tests.{not-true, not-false}
+use denote.Ref.{now}
+use lib.ListN.{length}
+use mathlib.Core.Path.{_≡_, refl, sym, _∙_}
+use Prim.Native.Nat.{_≤_, _<_, _-_}
+use Rattle.bases.proofs.BaseLaws as laws
+use borrow.Author.Needs.{needs}
+use native.Mathlib.Omega.{arith}
+use Rattle.bases.proofs.is_word.Statement.{statement}
+use Rattle.bases.proofs.is_word.Tie as tie
+use Rattle.bases.proofs.is_word.Reads as reads
+use Rattle.bases.proofs.is_word.Lts as lts
+
+returns : tie.Need-returns
+returns c = laws.word-below _ (c .if1 .taken)
+
+returns-2 : tie.Need-returns-2
+returns-2 c = let h : 4 ≤ c .before .args .sign = omega arith in laws.word-above _ h
+
+pub is-word-spec : {M : Type 1} → statement M
+is-word-spec = tie.close (tie.spec returns returns-2)

@@ -1,0 +1,34 @@
+use borrow.Author.Tests.{not-true, not-false}
+use denote.Ref.{now}
+use lib.ListN.{length, length-set}
+use mathlib.Core.Path.{_≡_, refl, sym, _∙_}
+use Prim.Native.Nat.{_≤_, _<_, _-_, _*_, _+_}
+use Rattle.bases.proofs.ItemLaws as items
+use Rattle.bases.proofs.BaseLaws as laws
+use native.Mathlib.Omega.{arith}
+use borrow.Author.Needs.{needs}
+use Rattle.bases.proofs.items.put_qual.Statement.{statement}
+use Rattle.bases.proofs.items.put_qual.Tie as tie
+use Rattle.bases.proofs.items.put_qual.Reads as reads
+use Rattle.bases.proofs.items.put_qual.Lts as lts
+use Rattle.bases.proofs.is_qualifier.Reads as is-qualifier-reads
+use Rattle.bases.proofs.items.put_item.Reads as put-item-reads
+
+is-qualifier-requires : tie.Need-is-qualifier-requires
+is-qualifier-requires c κs = search needs
+
+put-item-requires : tie.Need-put-item-requires
+put-item-requires c κs = search needs
+
+same-length : tie.Need-same-length
+same-length c = search needs
+
+returns : tie.Need-returns
+returns c = items.qual-put _ _ _ _ (c .before .before .before .before .before .is-qualifier .ensures) (c .before .before .before .before .if1 .taken) _ _ (c .before .before .put-item .ensures)
+
+returns-2 : tie.Need-returns-2
+returns-2 c = items.qual-not _ _ _ _ (c .before .is-qualifier .ensures) (c .if1 .left)
+
+pub put-qual-spec : {M : Type 1} → statement M
+put-qual-spec =
+    tie.close (tie.spec is-qualifier-requires put-item-requires same-length returns returns-2)

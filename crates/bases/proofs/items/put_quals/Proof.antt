@@ -1,0 +1,34 @@
+use borrow.Author.Tests.{not-true, not-false}
+use denote.Ref.{now}
+use lib.ListN.{length, length-set}
+use mathlib.Core.Path.{_≡_, refl, sym, _∙_}
+use Prim.Native.Nat.{_≤_, _<_, _-_, _*_, _+_}
+use Rattle.bases.proofs.ItemLaws as items
+use Rattle.bases.proofs.BaseLaws as laws
+use native.Mathlib.Omega.{arith}
+use borrow.Author.Needs.{needs}
+use Rattle.bases.proofs.items.put_quals.Statement.{statement}
+use Rattle.bases.proofs.items.put_quals.Tie as tie
+use Rattle.bases.proofs.items.put_quals.Reads as reads
+use Rattle.bases.proofs.items.put_quals.Lts as lts
+use Rattle.bases.proofs.items.put_qual.Reads as put-qual-reads
+
+put-qual-requires : tie.Need-put-qual-requires
+put-qual-requires c κs = search needs
+
+put-qual-requires-2 : tie.Need-put-qual-requires-2
+put-qual-requires-2 c κs = search needs
+
+put-qual-requires-3 : tie.Need-put-qual-requires-3
+put-qual-requires-3 c κs = search needs
+
+same-length : tie.Need-same-length
+same-length c = search needs
+
+returns : tie.Need-returns
+returns c = items.quals-put _ _ _ _ _ _ _ _ _ _ _ (c .before .before .before .before .before .before .before .before .before .before .put-qual .ensures) (c .before .before .before .before .before .before .put-qual2 .ensures) (c .before .before .put-qual3 .ensures)
+
+pub put-quals-spec : {M : Type 1} → statement M
+put-quals-spec =
+    tie.close
+    (tie.spec put-qual-requires put-qual-requires-2 put-qual-requires-3 same-length returns)

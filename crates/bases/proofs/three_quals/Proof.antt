@@ -1,0 +1,56 @@
+use borrow.Author.Tests.{not-true, not-false}
+use denote.Ref.{now}
+use lib.ListN.{length}
+use mathlib.Core.Path.{_≡_, refl, sym, _∙_}
+use Prim.Native.Nat.{_≤_, _<_, _-_}
+use Rattle.bases.proofs.BaseLaws as laws
+use native.Mathlib.Omega.{arith}
+use borrow.Author.Needs.{needs}
+use Rattle.bases.proofs.three_quals.Statement.{statement}
+use Rattle.bases.proofs.three_quals.Tie as tie
+use Rattle.bases.proofs.three_quals.Reads as reads
+use Rattle.bases.proofs.three_quals.Lts as lts
+use Rattle.bases.proofs.is_qualifier.Reads as is-qualifier-reads
+use Rattle.bases.proofs.twice.Reads as twice-reads
+use Rattle.tokens.proofs.token.Reads as token-reads
+
+twice-requires : tie.Need-twice-requires
+twice-requires c κs = search needs
+
+returns : tie.Need-returns
+returns c = laws.third-first _ _ _ _ _ _ (c .twice .ensures) (c .before .if1 .taken)
+
+twice-requires-2 : tie.Need-twice-requires-2
+twice-requires-2 c κs = search needs
+
+returns-2 : tie.Need-returns-2
+returns-2 c = laws.third-second _ _ _ _ _ _ (c .twice2 .ensures) (c .before .before .if1 .left) (c .before .if2 .taken)
+
+token-requires : tie.Need-token-requires
+token-requires c κs = search needs
+
+is-qualifier-requires : tie.Need-is-qualifier-requires
+is-qualifier-requires c κs = search needs
+
+twice-requires-3 : tie.Need-twice-requires-3
+twice-requires-3 c κs = search needs
+
+returns-3 : tie.Need-returns-3
+returns-3 c = laws.third-fourth _ _ _ _ _ (c .before .before .before .before .before .if1 .left) (c .before .before .before .before .if2 .left) _ (c .before .before .before .token .ensures) _ (c .before .before .is-qualifier .ensures) _ (c .twice3 .ensures) (c .before .if3 .taken)
+
+returns-4 : tie.Need-returns-4
+returns-4 c = laws.third-good _ _ _ _ _ (c .before .before .before .before .if1 .left) (c .before .before .before .if2 .left) _ (c .before .before .token .ensures) _ (c .before .is-qualifier .ensures) (c .if3 .left)
+
+pub three-quals-spec : {M : Type 1} → statement M
+three-quals-spec =
+    tie.close
+    (tie.spec
+    twice-requires
+    returns
+    twice-requires-2
+    returns-2
+    token-requires
+    is-qualifier-requires
+    twice-requires-3
+    returns-3
+    returns-4)

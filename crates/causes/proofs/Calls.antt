@@ -1,0 +1,113 @@
+-- THE THEOREM: what a call adds to the text is the lines of the entries that the rules note for it. Assumes nothing.
+use Prim.Native.Nat.{ℕ, zero, suc}
+use mathlib.Core.Path.{_≡_, refl, ap, _∙_, sym, subst}
+use mathlib.Core.Bool.{Bool}
+use mathlib.Core.List.{List, [], _∷_, _++_, List·Memᴰ, List·Memᴰ·not-nil, List·Memᴰ·cases-cons}
+use mathlib.Core.Logic.{_⊎_, inl, inr}
+use native.Mathlib.Omega.{arith}
+use lib.ListN.{length, getD, replicate}
+use Rattle.rules.specs.Order.{plain, new, busy}
+use Rattle.rules.specs.Machine.{Req, one, all, Sess, Answer, single, every, serve, run}
+use Rattle.rules.specs.Names.{Names, naming}
+use Rattle.rules.specs.Types.{Btf, tableOf}
+use Rattle.opened.specs.Causes.{openingNumber}
+use Rattle.turns.specs.Turns.{Call}
+use Rattle.calls.specs.Calls.{typeCall, typesCall}
+use Rattle.demand.specs.Lists.{Piece, Ls, afresh}
+use Rattle.demand.specs.Session.{Known, machine, opened, textOf}
+use Rattle.claims.specs.Table.{openedTable}
+use Rattle.claims.specs.Session.{After, after-open, after-one, after-all, after-list, Tells}
+use Rattle.claims.specs.Demands.{Lent, typesIn, ruled, Demand2}
+use Rattle.claims.proofs.Claims.{opening-gives}
+use Rattle.claims.proofs.Demands.{open-number, delivered}
+use Rattle.causes.specs.Causes.{Entry, showsIn, always, Told, untold, singleNoted, everyNoted}
+use Rattle.causes.specs.Claims.{Fits}
+use Rattle.causes.specs.Lines.{Pairs, none, more, blank, Grown, Explains, Reason}
+use Rattle.causes.specs.Calls.{Beside, Explained}
+use Rattle.causes.proofs.Requests.{single-fits, every-fits}
+use Rattle.causes.proofs.Numbered.{machine-numbered}
+use Rattle.causes.proofs.Lines.{Idle, single-grown, every-grown, text-grown}
+
+-- what holds of each entry
+pairs-all : (B : Btf) (Why : Entry → Type 0) {es : List Entry} {ps : List Piece} → Pairs naming B Why es ps → (e : Entry) → List·Memᴰ e es → Why e
+pairs-all B Why none e m = absurd (List·Memᴰ·not-nil m)
+pairs-all B Why (more d t es ps w s p) e m = by (List·Memᴰ·cases-cons m) (λ q. pairs-all B Why p e q)
+  where
+    by : (e ≡ d) ⊎ List·Memᴰ e es → (List·Memᴰ e es → Why e) → Why e
+    by (inl q) f = subst Why (sym q) w
+    by (inr q) f = f q
+pairs-all B Why (blank es ps p) e m = pairs-all B Why p e m
+
+-- ---- nothing is in progress between requests
+idle-fresh : (n y : ℕ) → getD (replicate n new) y new ≡ new
+idle-fresh zero y = refl
+idle-fresh (suc n) zero = refl
+idle-fresh (suc n) (suc y) = idle-fresh n y
+
+module _ (B : Btf) (void : tableOf B .node 0 ≡ plain) where
+  serve-idle : (r : Req) (S : Sess (Ls (Known Names))) → Idle (S .mach) → Idle (serve (machine B) (tableOf B) S r .mach)
+  unfolding serve
+  serve-idle (one room x) S i =
+      subst (λ (a : Answer (Ls (Known Names))). Idle (a .sess .mach)) (single-fits (machine B) (tableOf B) (showsIn B) (machine-numbered naming B) room x (untold S) .same) (single-grown naming B void always room x (untold S) i .idle)
+  serve-idle (all room) S i =
+      subst (λ (a : Answer (Ls (Known Names))). Idle (a .sess .mach)) (every-fits (machine B) (tableOf B) (showsIn B) (machine-numbered naming B) room S (S .isOpen) .same) (every-grown naming B void always room S i (S .isOpen) .idle)
+
+  run-idle : (rs : List Req) (S : Sess (Ls (Known Names))) → Idle (S .mach) → Idle (run (machine B) (tableOf B) rs S .mach)
+  unfolding run
+  run-idle [] S i = i
+  run-idle (r ∷ rs) S i = run-idle rs (serve (machine B) (tableOf B) S r) (serve-idle r S i)
+
+  opened-idle : Idle (opened B .mach)
+  unfolding afresh
+  opened-idle y e = let z : new ≡ busy = sym (idle-fresh (B .type-cnt) y) ∙ e in let q : _≡_ {A = ℕ} 0 1 = cc in omega arith
+
+-- the opening that a list starts at was accepted
+after-sound : (p modes : ℕ) (s : List ℕ) (n : ℕ) {c : Call} {rs : List Req} → After p modes s n c rs → openingNumber p s n ≡ 0
+after-sound p modes s n (after-open S work text z q) = ap (openingNumber p s) (sym z) ∙ sym (open-number S s work text p modes) ∙ q
+after-sound p modes s n (after-one c rs a text f same id) = after-sound p modes s n a
+after-sound p modes s n (after-all c rs a text f same) = after-sound p modes s n a
+after-sound p modes s n (after-list c rs a text f same ids) = after-sound p modes s n a
+
+module _ (p modes : ℕ) (s : List ℕ) (n : ℕ) (c : Call) (rs : List Req) (a : After p modes s n c rs) where
+  abbrev B : Btf
+  B = openedTable p modes s n
+
+  abbrev S : Sess (Ls (Known Names))
+  S = ruled p modes s n rs
+
+  abbrev before : Demand2 p modes s n c rs
+  before = delivered p modes s n .demand2 c rs a
+
+  void : typesIn p modes s n .node 0 ≡ plain
+  void = opening-gives p modes s n (after-sound p modes s n a) .well-formed .void
+
+  still : Idle (S .mach)
+  still = run-idle B void rs (opened B) (opened-idle B void)
+
+  is-beside : (room : ℕ) (d : Call) (F : (ℕ → Bool) → Told (Ls (Known Names))) (P : Answer (Ls (Known Names))) → Tells room d P → Fits 0 F P
+      → Grown naming B (Reason (typesIn p modes s n)) [] (F always .entries) (S .mach .pieces) (F always .answer .sess .mach .pieces) → Beside p modes s n c d (F always)
+  is-beside room d F P t h g =
+      let w = text-grown naming B (Reason (typesIn p modes s n)) [] (F always .entries) (S .mach .pieces) (F always .answer .sess .mach .pieces) g in
+      record {
+        number = t .number ∙ ap (λ (q : Answer (Ls (Known Names))). q .number) (sym (h .same));
+        added = w .1;
+        text = t .begins ∙ ap (λ (q : Answer (Ls (Known Names))). textOf (q .sess .mach .pieces)) (sym (h .same)) ∙ w .3 ∙ ap (λ (l : List ℕ). l ++ w .1) (sym (before .text));
+        explains = subst (λ (es : List Entry). Explains naming B es (w .1)) (sym (w .2)) (w .4);
+        reasons = λ e m. pairs-all B (Reason (typesIn p modes s n)) (g .pairs) e (subst (List·Memᴰ e) (g .entries-are) m);
+      }
+
+  type-beside : (text : List ℕ) → Lent c text → (id : ℕ) → Beside p modes s n c (typeCall (c .session) s (c .work) text id) (singleNoted (machine B) (typesIn p modes s n) always (showsIn B) (length text) id (untold S))
+  type-beside text l id =
+      is-beside (length text) (typeCall (c .session) s (c .work) text id) (λ r. singleNoted (machine B) (typesIn p modes s n) r (showsIn B) (length text) id (untold S)) (single (machine B) (typesIn p modes s n) (length text) S id)
+      (before .next-type text l id) (single-fits (machine B) (typesIn p modes s n) (showsIn B) (machine-numbered naming B) (length text) id (untold S)) (single-grown naming B void always (length text) id (untold S) still .grown)
+
+  types-beside : (text : List ℕ) → Lent c text → Beside p modes s n c (typesCall (c .session) s (c .work) text) (everyNoted (machine B) (typesIn p modes s n) always (showsIn B) (length text) S (S .isOpen))
+  types-beside text l =
+      is-beside (length text) (typesCall (c .session) s (c .work) text) (λ r. everyNoted (machine B) (typesIn p modes s n) r (showsIn B) (length text) S (S .isOpen)) (every (machine B) (typesIn p modes s n) (length text) S (S .isOpen))
+      (before .next-types text l) (every-fits (machine B) (typesIn p modes s n) (showsIn B) (machine-numbered naming B) (length text) S (S .isOpen)) (every-grown naming B void always (length text) S still (S .isOpen) .grown)
+
+pub calls-explained : (p modes : ℕ) (s : List ℕ) (n : ℕ) → Explained p modes s n
+calls-explained p modes s n = record {
+  type = λ c rs a text l id. type-beside p modes s n c rs a text l id;
+  types = λ c rs a text l. types-beside p modes s n c rs a text l;
+}

@@ -1,0 +1,10 @@
+pub mod Ordering
+pub mod Emission
+pub mod Requests
+pub mod Keeps
+pub mod Back
+pub mod Lines
+pub mod Numbered
+pub mod Calls
+pub mod Bytes
+pub mod Samples

@@ -1,0 +1,22 @@
+use Rattle.dump.proofs.Requests as requests
+use borrow.Author.Needs.{needs}
+use Rattle.dump.proofs.dump_type.Statement.{statement}
+use Rattle.dump.proofs.dump_type.Tie as tie
+use Rattle.dump.proofs.dump_type.Reads as reads
+use Rattle.dump.proofs.dump_type.Lts as lts
+use Rattle.dump.proofs.dump_metered.Reads as dump-metered-reads
+
+dump-metered-requires : tie.Need-dump-metered-requires
+dump-metered-requires c κs = search needs
+
+same-length : tie.Need-same-length
+same-length c = search needs
+
+same-length-2 : tie.Need-same-length-2
+same-length-2 c = search needs
+
+returns : tie.Need-returns
+returns c = requests.dump-plain _ _ _ _ _ _ (c .before .before .before .before .dump-metered .ensures .0)
+
+pub dump-type-spec : {M : Type 1} → statement M
+dump-type-spec = tie.close (tie.spec dump-metered-requires same-length same-length-2 returns)

@@ -1,0 +1,23 @@
+use mathlib.Core.Path.{_∙_}
+use Rattle.dump.proofs.Requests as requests
+use borrow.Author.Needs.{needs}
+use Rattle.dump.proofs.dump_type_within.Statement.{statement}
+use Rattle.dump.proofs.dump_type_within.Tie as tie
+use Rattle.dump.proofs.dump_type_within.Reads as reads
+use Rattle.dump.proofs.dump_type_within.Lts as lts
+use Rattle.dump.proofs.dump_metered.Reads as dump-metered-reads
+
+dump-metered-requires : tie.Need-dump-metered-requires
+dump-metered-requires c κs = search needs
+
+same-length : tie.Need-same-length
+same-length c = search needs
+
+same-length-2 : tie.Need-same-length-2
+same-length-2 c = search needs
+
+returns : tie.Need-returns
+returns c = (requests.dump-within _ _ _ _ _ _ _ _ (c .before .before .before .before .dump-metered .ensures .0), c .before .before .before .before .dump-metered .ensures .1 ∙ requests.within-spare _ _ _ _ _)
+
+pub dump-type-within-spec : {M : Type 1} → statement M
+dump-type-within-spec = tie.close (tie.spec dump-metered-requires same-length same-length-2 returns)

@@ -1,0 +1,4 @@
+pub mod Chain
+pub mod Grammar
+pub mod Encoding
+pub mod Emission

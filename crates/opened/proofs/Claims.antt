@@ -1,0 +1,163 @@
+-- What the definitions say, for a reader: the nine causes in document 01's terms, the number, and what success leaves. Every statement is about
+-- specs/ alone; the proofs are cited. Assumes nothing.
+use Prim.Native.Nat.{ℕ, suc, _+_, _*_, _<_, _≤_}
+use mathlib.Core.Path.{_≡_, refl, ap, _∙_, sym}
+use mathlib.Core.Bool.{Bool, true, false, true≢false, not, _&&_}
+use mathlib.Core.List.{List}
+use mathlib.Core.Logic.{_↔_}
+use lib.ListN.{length, replicate}
+use lib.Dec.{eqb}
+use borrow.Author.Tests.{lt-ltb, ltb-true, ne-eqb, eqb-true, eqb-false, not-false}
+use Rattle.records.specs.Documentation.{Every, Allowed, Described, encodeAll}
+use Rattle.records.specs.Reading.{Bytes}
+use Rattle.records.specs.Section.{bigEndian, typeArea, strLen, typesSound}
+use Rattle.records.proofs.Claims.{sound-iff}
+use Rattle.followed.specs.References.{BadReference}
+use Rattle.prototypes.specs.Prototypes.{ProtoInside}
+use Rattle.loops.specs.Loops.{TypeLoop}
+use Rattle.followed.proofs.BadIds.{bad-reference}
+use Rattle.prototypes.proofs.Held.{any-leads}
+use Rattle.loops.proofs.TypeLoops.{type-loop}
+use Rattle.opened.specs.Table.{typesOf, enumeratorsOf, indexOf}
+use Rattle.opened.specs.Causes.{cause1, cause2, cause5, cause6, cause7, cause8, cause9, tableOf, causes, openingNumber}
+use Rattle.opened.specs.declared.Opening.{Opening}
+use Rattle.opened.specs.declared.Opening.the-variants.{Refused, Sound}
+use Rattle.opened.specs.Opened.{Outcome, refused, opened, openOut, workOf, openingOf}
+use Rattle.opened.proofs.Order as order
+
+-- the number: 0 if and only if no cause holds; k + 1 if and only if cause k + 1 holds and none before it
+pub sound-none : (pointer : ℕ) (s : List ℕ) (work : ℕ) → (openingNumber pointer s work ≡ 0) ↔ order.NoneHolds (causes pointer s work)
+sound-none = order.sound-none
+
+pub refused-first : (pointer : ℕ) (s : List ℕ) (work k : ℕ) → (openingNumber pointer s work ≡ suc k) ↔ order.FirstHolds (causes pointer s work) k
+refused-first = order.refused-first
+
+-- 1: neither 4 nor 8
+pub cause-1 : (pointer : ℕ) → (cause1 pointer ≡ true) ↔ ((pointer ≡ 4 → ⊥) × (pointer ≡ 8 → ⊥))
+unfolding cause1
+cause-1 pointer = (go (eqb pointer 4) refl (eqb pointer 8) refl, λ h. rw (ne-eqb pointer 4 (h .0), ne-eqb pointer 8 (h .1)))
+  where
+    go : (t : Bool) → eqb pointer 4 ≡ t → (u : Bool) → eqb pointer 8 ≡ u → (not t && not u) ≡ true → (pointer ≡ 4 → ⊥) × (pointer ≡ 8 → ⊥)
+    go true e u f h = absurd (true≢false (sym h))
+    go false e true f h = absurd (true≢false (sym h))
+    go false e false f h = (eqb-false pointer 4 e, eqb-false pointer 8 f)
+
+-- 2
+pub cause-2 : (s : List ℕ) → (cause2 s ≡ true) ↔ (16777216 < length s)
+unfolding cause2
+cause-2 s = (ltb-true 16777216 (length s), lt-ltb 16777216 (length s))
+
+-- 5: the type area is not the layout of at most 262,144 types whose numbers fit and whose names lie in the string area
+pub cause-5 : (s : List ℕ) → Bytes (typeArea s)
+    → (cause5 s ≡ false) ↔ ((ts : List Described) × Every (Allowed (strLen s)) ts × (length ts ≤ 262144) × (encodeAll (bigEndian s) ts ≡ typeArea s))
+unfolding cause5 typesSound
+cause-5 s y = (λ h. sound-iff (bigEndian s) (strLen s) (typeArea s) y .0 (not-false (typesSound s) h), λ h. rw (sound-iff (bigEndian s) (strLen s) (typeArea s) y .1 h))
+
+-- 6, 7, 8: over the index of the section, whose entries are the places and kinds of its records (Index: followed-place, followed-kind)
+module _ (pointer : ℕ) (s : List ℕ) where
+  pub cause-6 : (cause6 pointer s ≡ true) ↔ BadReference (tableOf pointer s) s (indexOf s)
+  unfolding cause6
+  cause-6 = bad-reference (tableOf pointer s) s (indexOf s)
+
+  pub cause-7 : (cause7 pointer s ≡ true) ↔ ProtoInside (tableOf pointer s) s (indexOf s)
+  unfolding cause7
+  cause-7 = any-leads (tableOf pointer s) s (indexOf s)
+
+  pub cause-8 : (cause8 pointer s ≡ true) ↔ TypeLoop (tableOf pointer s) s (indexOf s)
+  unfolding cause8
+  cause-8 = type-loop (tableOf pointer s) s (indexOf s)
+
+-- 9
+pub cause-9 : (s : List ℕ) (work : ℕ) → (cause9 s work ≡ true) ↔ (work < 4 * (16 * typesOf s + 8 * enumeratorsOf s + 4096))
+unfolding cause9
+cause-9 s work = (ltb-true work (4 * (16 * typesOf s + 8 * enumeratorsOf s + 4096)), lt-ltb work (4 * (16 * typesOf s + 8 * enumeratorsOf s + 4096)))
+
+-- ---- what an answer of `open` says, from its contract alone
+abbrev isOpened : Outcome → Bool
+isOpened (refused n w t) = false
+isOpened (opened c e w t) = true
+
+abbrev numberIn : Outcome → ℕ
+numberIn (refused n w t) = n
+numberIn (opened c e w t) = 0
+
+abbrev typesIn : Outcome → ℕ
+typesIn (refused n w t) = 0
+typesIn (opened c e w t) = c
+
+abbrev enumeratorsIn : Outcome → ℕ
+enumeratorsIn (refused n w t) = 0
+enumeratorsIn (opened c e w t) = e
+
+abbrev workIn : Outcome → List ℕ
+workIn (refused n w t) = w
+workIn (opened c e w t) = w
+
+abbrev textIn : Outcome → List ℕ
+textIn (refused n w t) = t
+textIn (opened c e w t) = t
+
+-- success: no cause holds, the counts are the section's, the work is `workOf`, the text is zero
+pub record Success (pointer modes : ℕ) (s w t : List ℕ) (types enumerators : ℕ) (w′ t′ : List ℕ) : Type 0 where
+  pub number : openingNumber pointer s (length w) ≡ 0
+  pub types-is : types ≡ typesOf s
+  pub enumerators-is : enumerators ≡ enumeratorsOf s
+  pub work-is : w′ ≡ workOf pointer modes s (length w)
+  pub text-is : t′ ≡ replicate (length t) 0
+
+-- a refusal: the number is that of the first cause that holds; work and text are as they were
+pub record Refusal (pointer : ℕ) (s w t : List ℕ) (n : ℕ) (w′ t′ : List ℕ) : Type 0 where
+  pub number : openingNumber pointer s (length w) ≡ n
+  pub some : n ≡ 0 → ⊥
+  pub work-is : w′ ≡ w
+  pub text-is : t′ ≡ t
+
+module _ (pointer modes : ℕ) (s w t : List ℕ) where
+  abbrev num : ℕ
+  num = openingNumber pointer s (length w)
+
+  is-refused : eqb num 0 ≡ false → openingOf pointer modes s w t ≡ refused num w t
+  unfolding openingOf
+  is-refused e = rw (e, openingOf)
+
+  is-opened : eqb num 0 ≡ true → openingOf pointer modes s w t ≡ opened (typesOf s) (enumeratorsOf s) (workOf pointer modes s (length w)) (replicate (length t) 0)
+  unfolding openingOf
+  is-opened e = rw (e, openingOf)
+
+  module _ (r : Opening) (w′ t′ : List ℕ) (contract : openOut r w′ t′ ≡ openingOf pointer modes s w t) where
+    pub opened-says : (c e : ℕ) → r ≡ Sound c e → Success pointer modes s w t c e w′ t′
+    unfolding openOut
+    opened-says c e f = go (eqb num 0) refl
+      where
+        out : opened c e w′ t′ ≡ openingOf pointer modes s w t
+        out = sym (ap (λ (q : Opening). openOut q w′ t′) f) ∙ contract
+
+        go : (q : Bool) → eqb num 0 ≡ q → Success pointer modes s w t c e w′ t′
+        go true g =
+            let is = out ∙ is-opened g in
+            record {
+              number = eqb-true num 0 g;
+              types-is = ap typesIn is;
+              enumerators-is = ap enumeratorsIn is;
+              work-is = ap workIn is;
+              text-is = ap textIn is;
+            }
+        go false g = absurd (true≢false (ap isOpened (out ∙ is-refused g)))
+
+    pub refused-says : (n : ℕ) → r ≡ Refused n → Refusal pointer s w t n w′ t′
+    unfolding openOut
+    refused-says n f = go (eqb num 0) refl
+      where
+        out : refused n w′ t′ ≡ openingOf pointer modes s w t
+        out = sym (ap (λ (q : Opening). openOut q w′ t′) f) ∙ contract
+
+        go : (q : Bool) → eqb num 0 ≡ q → Refusal pointer s w t n w′ t′
+        go true g = absurd (true≢false (sym (ap isOpened (out ∙ is-opened g))))
+        go false g =
+            let is = out ∙ is-refused g in
+            record {
+              number = sym (ap numberIn is);
+              some = λ z. eqb-false num 0 g (sym (ap numberIn is) ∙ z);
+              work-is = ap workIn is;
+              text-is = ap textIn is;
+            }

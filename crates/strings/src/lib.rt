@@ -1,0 +1,166 @@
+// Names in the string area: the bytes from a place up to the first 0.
+use btf::Btf;
+use btf::BtfType;
+use btf::kind_of;
+use text::put_byte;
+use text::put_two;
+ghost use mathlib.Core.Path.{_≡_};
+ghost use Prim.Native.Nat.{_≤_, _-_};
+ghost use lib.ListN.{length, take, drop};
+ghost use Rattle.text.specs.Text.{whole, putOut, putText};
+ghost use Rattle.rules.specs.Types.{isEmpty, isNamed};
+ghost use Rattle.rules.specs.Names as rules;
+ghost use Rattle.rules.specs.Names.{startsWith, builtin, escapedByte, escaped};
+ghost use Rattle.btf.specs.Names.{nameAt, namePlace, strAt};
+ghost use Rattle.btf.specs.Table.{typeOf};
+
+// The place of the name at an offset of the string area.
+fn name_place(b: Btf, off: u32) -> usize
+    ensures { λ r. ⌜ r ≡ namePlace b off ⌝ }
+{
+    (b.strs as usize) + (off as usize)
+}
+
+// Where the name that starts at a place ends.
+fn name_end(section: &[u8], at: usize) -> usize
+    requires { ⌜ at ≤ length (now section) ⌝ }
+    ensures { λ r. ⌜ (at ≤ r) × (r ≤ length (now (section .entry))) × (take (r - at) (drop at (now (section .entry))) ≡ nameAt (now (section .entry)) at) ⌝ }
+{
+    let mut e = at;
+    while e < section.len() {
+        if section[e] == 0 {
+            return e;
+        }
+        e += 1;
+    }
+    e
+}
+
+// The name at an offset.
+pub fn get_btf_str(b: Btf, section: &[u8], off: u32) -> &[u8]
+    ensures { λ r. ⌜ now r ≡ strAt b (now (section .entry)) off ⌝ }
+{
+    let at = name_place(b, off);
+    if section.len() < at {
+        return &section[..0];
+    }
+    let e = name_end(section, at);
+    &section[at..e]
+}
+
+// Writes the name at an offset, in one pass.
+pub fn put_str(b: Btf, section: &[u8], text: &mut [u8], at: usize, off: u32) -> usize
+    ensures { λ r. ⌜ putOut r (now (text .exit)) ≡ putText (now (text .entry)) at (whole (strAt b (now (section .entry)) off)) ⌝ }
+{
+    if text.len() < at {
+        return at;
+    }
+    let mut p = at;
+    let mut i = name_place(b, off);
+    while i < section.len() {
+        let c = section[i];
+        if c == 0 {
+            return p;
+        }
+        if text.len() <= p {
+            return text.len() + 18;
+        }
+        text[p] = c;
+        p += 1;
+        i += 1;
+    }
+    p
+}
+
+pub fn is_empty(b: Btf, section: &[u8], off: u32) -> bool
+    ensures { λ r. ⌜ r ≡ isEmpty (strAt b (now (section .entry)) off) ⌝ }
+{
+    let at = name_place(b, off);
+    if at < section.len() {
+        return section[at] == 0;
+    }
+    true
+}
+
+// Whether w stands in s at a place.
+fn stands_at(s: &[u8], at: usize, w: &[u8]) -> bool
+    requires { ⌜ at ≤ length (now s) ⌝ }
+    ensures { λ r. ⌜ r ≡ startsWith (now (w .entry)) (drop at (now (s .entry))) ⌝ }
+{
+    if s.len() - at < w.len() {
+        return false;
+    }
+    let mut j = 0;
+    while j < w.len() {
+        if s[at + j] != w[j] {
+            return false;
+        }
+        j += 1;
+    }
+    true
+}
+
+fn contains(s: &[u8], w: &[u8]) -> bool
+    ensures { λ r. ⌜ r ≡ rules.contains (now (w .entry)) (now (s .entry)) ⌝ }
+{
+    if s.len() < w.len() {
+        return false;
+    }
+    let last = s.len() - w.len();
+    let mut i = 0;
+    while i <= last {
+        if stands_at(s, i, w) {
+            return true;
+        }
+        i += 1;
+    }
+    false
+}
+
+// NAMES_BLACKLIST: whether the name contains the name of the compiler's own type.
+pub fn is_builtin(b: Btf, section: &[u8], off: u32) -> bool
+    ensures { λ r. ⌜ r ≡ builtin (strAt b (now (section .entry)) off) ⌝ }
+{
+    contains(get_btf_str(b, section, off), b"__builtin_va_list")
+}
+
+// One byte of c_str_escape.
+fn put_escaped_byte(text: &mut [u8], at: usize, c: u8) -> usize
+    ensures { λ r. ⌜ putOut r (now (text .exit)) ≡ putText (now (text .entry)) at (whole (escapedByte c)) ⌝ }
+{
+    match c {
+        92 => put_two(text, at, b'\\', b'\\'),
+        34 => put_two(text, at, b'\\', b'"'),
+        10 => put_two(text, at, b'\\', b'n'),
+        13 => put_two(text, at, b'\\', b'r'),
+        9 => put_two(text, at, b'\\', b't'),
+        _ => put_byte(text, at, c),
+    }
+}
+
+// c_str_escape: a name as it stands in a C string literal.
+pub fn put_escaped(text: &mut [u8], at: usize, name: &[u8]) -> usize
+    ensures { λ r. ⌜ putOut r (now (text .exit)) ≡ putText (now (text .entry)) at (whole (escaped (now (name .entry)))) ⌝ }
+{
+    let mut p = at;
+    let mut i = 0;
+    while i < name.len() {
+        p = put_escaped_byte(text, p, name[i]);
+        i += 1;
+    }
+    p
+}
+
+// Whether BtfType::name() is not empty: some kinds have none.
+pub fn is_named(b: Btf, section: &[u8], t: BtfType) -> bool
+    ensures { λ r. ⌜ r ≡ isNamed (typeOf b (now (section .entry)) t) ⌝ }
+{
+    match kind_of(t.info) {
+        1 | 4 | 5 | 6 | 7 | 8 | 12 | 14 | 15 | 16 | 17 | 18 | 19 => !is_empty(
+            b,
+            section,
+            t.name_off,
+        ),
+        _ => false,
+    }
+}

@@ -1,0 +1,49 @@
+use Rattle.text.proofs.TextLaws.{put-seq}
+use Rattle.decl.proofs.MemberLaws as members
+use borrow.Author.Needs.{needs}
+use Rattle.typedefs.proofs.emit_typedef_def.Statement.{statement}
+use Rattle.typedefs.proofs.emit_typedef_def.Tie as tie
+use Rattle.typedefs.proofs.emit_typedef_def.Reads as reads
+use Rattle.typedefs.proofs.emit_typedef_def.Lts as lts
+use Rattle.decl.proofs.emit_type_decl.Reads as emit-type-decl-reads
+use Rattle.fixed.proofs.put_typedef.Reads as put-typedef-reads
+use Rattle.text.proofs.put_byte.Reads as put-byte-reads
+use Rattle.names.proofs.emit_decl_tags.Reads as emit-decl-tags-reads
+use Rattle.names.proofs.resolve_type_name.Reads as resolve-type-name-reads
+
+resolve-type-name-requires : tie.Need-resolve-type-name-requires
+resolve-type-name-requires c κs = search needs
+
+put-typedef-requires : tie.Need-put-typedef-requires
+put-typedef-requires c κs = search needs
+
+put-byte-requires : tie.Need-put-byte-requires
+put-byte-requires c κs = search needs
+
+emit-type-decl-requires : tie.Need-emit-type-decl-requires
+emit-type-decl-requires c κs = search needs
+
+emit-decl-tags-requires : tie.Need-emit-decl-tags-requires
+emit-decl-tags-requires c κs = search needs
+
+same-length : tie.Need-same-length
+same-length c = search needs
+
+same-length-2 : tie.Need-same-length-2
+same-length-2 c = search needs
+
+returns : tie.Need-returns
+returns c = members.typedef-put _ _ _ _ _ _ _ _ _ _ (c .before .before .before .before .before .before .before .before .before .before .before .before .before .before .before .before .before .before .before .before .before .before .resolve-type-name .ensures .1) _ _ _ _ _ _ _ (put-seq _ _ _ _ _ _ _ _ (c .before .before .before .before .before .before .before .before .before .before .before .before .before .before .before .before .before .before .put-typedef .ensures) (c .before .before .before .before .before .before .before .before .before .before .before .before .before .before .put-byte .ensures)) (c .before .before .before .before .before .before .before .before .before .emit-type-decl .ensures) (c .before .before .emit-decl-tags .ensures)
+
+pub emit-typedef-def-spec : {M : Type 1} → statement M
+emit-typedef-def-spec =
+    tie.close
+    (tie.spec
+    resolve-type-name-requires
+    put-typedef-requires
+    put-byte-requires
+    emit-type-decl-requires
+    emit-decl-tags-requires
+    same-length
+    same-length-2
+    returns)
