@@ -7,10 +7,10 @@ use native.Mathlib.Omega.{arith}
 use Rattle.turns.specs.declared.Session.{Session}
 use Rattle.turns.specs.Answers.{numberOf}
 use Rattle.turns.specs.Turns.{Call, callOf}
-use Rattle.requests.specs.Calls.{typeCall}
-use Rattle.requests.specs.Lists.{counted, listFrom, listCall}
-use Rattle.requests.proofs.Claims.{number-is}
-use Rattle.requests.proofs.Lists.{counted-goes as plain-goes, counted-stops as plain-stops}
+use Rattle.calls.specs.Calls.{typeCall}
+use Rattle.calls.specs.Lists.{counted, listFrom, listCall}
+use Rattle.calls.proofs.Claims.{number-is}
+use Rattle.calls.proofs.Lists.{counted-goes as plain-goes, counted-stops as plain-stops}
 use Rattle.within.specs.Within.{CallWithin, typeCallWithin}
 use Rattle.within.specs.Lists.{countedWithin, listFromWithin, listCallWithin}
 use Rattle.within.proofs.Claims.{Fits, type-fits}
