@@ -133,3 +133,9 @@ module _ (s : Session) (section w t : List ℕ) where
 
   pub types-fits : (c : ℕ) → (numberOf (typesCallWithin c s section w t .call .answer) ≡ 22 → ⊥) → Fits c (typesCall s section w t) (λ c′. typesCallWithin c′ s section w t)
   types-fits c n = types-by c (isCurrent s (length section) (length w) (length t)) refl n
+
+-- "22 when one more call would pass the ceiling": the count is the ceiling, and the call ends as every refusal that closes the session
+pub type-22 : (s : Session) (section w t : List ℕ) (c id k : ℕ) → isCurrent s (length section) (length w) (length t) ≡ true → ltb id (s .types) ≡ true → c < k + callsIn (tableFor s section) section w id
+    → typeCallWithin c s section w t id k ≡ record { call = settled s (length w) (length t) (refusedBy 22 (s .«text_len») (take (s .«text_len») t)); made = c }
+unfolding settledWithin
+type-22 s section w t c id k e f l = type-on s section w t id k e f c ∙ ap (settledWithin s (length w) (length t)) (request-over c (tableFor s section) section id (s .«text_len») w t k l)
