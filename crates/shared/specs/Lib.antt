@@ -1,0 +1,5 @@
+pub mod Steps
+pub mod Shared
+pub mod Requests
+pub mod Calls
+pub mod Samples
