@@ -1,2 +1,5 @@
 pub mod Samples
 pub mod Steps
+pub mod Told
+pub mod Play
+pub mod Emission
