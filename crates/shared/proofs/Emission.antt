@@ -57,7 +57,7 @@ module _ {W : Type 0} (N : Naming W) (k : ℕ) (B : Btf) (below : (x y : ℕ) �
   abbrev BE : End Shelf → Out Plain → Type 0
   BE r₁ r = BothEnd Q Free₁ Free₂ r₁ r
 
-  each-both : (f₁ : Shelf → ℕ → End Shelf) (f : Plain → ℕ → Out Plain) → ((s : Shelf) (t : Plain) (y : ℕ) → Q s t → BE (f₁ s y) (f t y))
+  pub each-both : (f₁ : Shelf → ℕ → End Shelf) (f : Plain → ℕ → Out Plain) → ((s : Shelf) (t : Plain) (y : ℕ) → Q s t → BE (f₁ s y) (f t y))
       → (ys : List ℕ) (s : Shelf) (t : Plain) → Q s t → BE (eachOn f₁ ys s) (eeach f ys t)
   unfolding eeach eachOn
   each-both f₁ f hf [] s t q = both-went s t q
@@ -147,7 +147,7 @@ module _ {W : Type 0} (N : Naming W) (k : ℕ) (B : Btf) (below : (x y : ℕ) �
       look-both busy = again-both cont s t q (tableOf B .node x)
       look-both done = both-went s t q
 
-  emit-both : (n : ℕ) (s : Shelf) (t : Plain) (x cont : ℕ) → Q s t → BE (emitOn k B n s x cont) (emit (machineBy N B) (tableOf B) n t x cont)
+  pub emit-both : (n : ℕ) (s : Shelf) (t : Plain) (x cont : ℕ) → Q s t → BE (emitOn k B n s x cont) (emit (machineBy N B) (tableOf B) n t x cont)
   unfolding emit emitOn
   emit-both zero s t x cont q = both-halted s 12
   emit-both (suc n) s t x cont q =

@@ -3,3 +3,4 @@ pub mod Steps
 pub mod Told
 pub mod Play
 pub mod Emission
+pub mod Requests
