@@ -4,3 +4,4 @@ pub mod Told
 pub mod Play
 pub mod Emission
 pub mod Requests
+pub mod Boards
