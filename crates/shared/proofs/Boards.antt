@@ -69,17 +69,26 @@ module _ {W : Type 0} (g : ℕ → ℕ) (v : List Piece → List Piece) (R : Hel
     };
   }
 
+-- a piece without its bytes
+abbrev pub blank : Piece → Piece
+blank (defines x t) = defines x []
+blank (other t) = other []
+
+-- a way of making pieces that differ in their bytes only
+abbrev Blanked : (List ℕ → Piece) → Type 0
+Blanked mk = (a b : List ℕ) → blank (mk a) ≡ blank (mk b)
+
 -- all of a board but its lines
 module _ {W : Type 0} (g : ℕ → ℕ) (v : List Piece → List Piece) (R : Held → W → Type 0) (N : Naming W) (k : ℕ) (B : Btf) (Free₁ Free₂ : ℕ → Type 0) where
   abbrev L : Shelf → Ls (Known W) → Type 0
   L s t = Like g v R (B .type-cnt) s t
 
   abbrev Fwds : Type 0
-  Fwds = (mk : List ℕ → Piece) (s : Shelf) (t : Ls (Known W)) → L s t → (x : ℕ)
+  Fwds = (mk : List ℕ → Piece) → Blanked mk → (s : Shelf) (t : Ls (Known W)) → L s t → (x : ℕ)
       → BothEnd L Free₁ Free₂ (lineOn k mk s (forwardSteps B x (B .type-by-id x))) (putLine mk t (lineOf (t .room) (t .known .text-len) (forward N B x (B .type-by-id x) (t .known .names))))
 
   abbrev Defs : Type 0
-  Defs = (mk : List ℕ → Piece) (s : Shelf) (t : Ls (Known W)) → L s t → (x : ℕ)
+  Defs = (mk : List ℕ → Piece) → Blanked mk → (s : Shelf) (t : Ls (Known W)) → L s t → (x : ℕ)
       → BothEnd L Free₁ Free₂ (lineOn k mk s (definitionSteps B x (B .type-by-id x))) (putLine mk t (lineOf (t .room) (t .known .text-len) (definition N B x (B .type-by-id x) (t .known .names))))
 
   board : Fwds → Defs → AlikeBoard N k B L Free₁ Free₂
@@ -103,9 +112,9 @@ module _ {W : Type 0} (g : ℕ → ℕ) (v : List Piece → List Piece) (R : Hel
       names = h .names;
       sized = record { marks-n = h .sized .marks-n; emits-n = h .sized .emits-n };
     };
-    a-fwd = λ s t h x. fs other s t h x;
-    a-leaf = λ s t h x. ds other s t h x;
-    a-body = λ s t h x. ds (defines x) s t h x;
+    a-fwd = λ s t h x. fs other (λ a b. refl) s t h x;
+    a-leaf = λ s t h x. ds other (λ a b. refl) s t h x;
+    a-body = λ s t h x. ds (defines x) (λ a b. refl) s t h x;
   }
 
 -- ---- the same names: all alike, short of 20
@@ -247,19 +256,14 @@ module _ (k : ℕ) where
 
   pub whole-board : (B : Btf) → AlikeBoard naming k B (Whole (B .type-cnt)) Is20 Never
   whole-board B = board (λ x. x) (λ l. l) SameNames naming k B Is20 Never
-      (λ mk s t h x. line-whole (B .type-cnt) mk s t h (forwardSteps B x (B .type-by-id x)) (forward naming B x (B .type-by-id x) (t .known .names))
+      (λ mk e s t h x. line-whole (B .type-cnt) mk s t h (forwardSteps B x (B .type-by-id x)) (forward naming B x (B .type-by-id x) (t .known .names))
       (subst (λ (w : Said Held). RelSaid SameNames w (forward naming B x (B .type-by-id x) (t .known .names))) (forward-told (sharing k) B x (B .type-by-id x) (s .known .names))
       (rel-forward SameNames AnyType AnyValue (sharing k) naming same-naming B (λ id. type-fits id (B .type-by-id id)) x (B .type-by-id x) (type-fits x (B .type-by-id x)) (s .known .names) (t .known .names) (h .names))))
-      (λ mk s t h x. line-whole (B .type-cnt) mk s t h (definitionSteps B x (B .type-by-id x)) (definition naming B x (B .type-by-id x) (t .known .names))
+      (λ mk e s t h x. line-whole (B .type-cnt) mk s t h (definitionSteps B x (B .type-by-id x)) (definition naming B x (B .type-by-id x) (t .known .names))
       (subst (λ (w : Said Held). RelSaid SameNames w (definition naming B x (B .type-by-id x) (t .known .names))) (definition-told (sharing k) B x (B .type-by-id x) (s .known .names))
       (rel-definition SameNames AnyType AnyValue (sharing k) naming same-naming B (λ id. type-fits id (B .type-by-id id)) x (B .type-by-id x) (type-fits x (B .type-by-id x)) (s .known .names) (t .known .names) (h .names))))
 
 -- ---- any names: marks, lists, and which ids are defined, until 17 or 20
-
--- a piece without its bytes
-abbrev pub blank : Piece → Piece
-blank (defines x t) = defines x []
-blank (other t) = other []
 
 unfoldable pub blanks : List Piece → List Piece
 blanks [] = []
@@ -281,3 +285,55 @@ blanks-more : (l : List Piece) (p : Piece) → blanks (l ++ (p ∷ [])) ≡ blan
 unfolding blanks
 blanks-more [] p = refl
 blanks-more (x ∷ l) p = ap {B = List Piece} (λ r. blank x ∷ r) (blanks-more l p)
+
+module _ {W : Type 0} (N : Naming W) (k : ℕ) where
+  module _ (n : ℕ) (mk : List ℕ → Piece) (bl : Blanked mk) (s : Shelf) (t : Ls (Known W)) (q : Shape n s t) where
+    abbrev Goes : Played → Line (Known W) → Type 0
+    Goes p l = BothEnd (Shape n) Is17or20 Is17 (playedOn mk s p) (putLine mk t l)
+
+    -- of the pieces, with the rest as it is
+    abbrev withPieces : List Piece → Ls ℕ
+    withPieces l = record { marks = t .marks; olist = t .olist; emits = t .emits; fwds = t .fwds; room = 0; known = 0; pieces = l }
+
+    wrote-shape : (h : Held) (u : W) (len : ℕ) (a b : List ℕ) → Goes (played h a) (fitting len u (whole b))
+    unfolding playedOn fitting
+    wrote-shape h u len a b = both-went _ _ (record {
+      rest = ap {B = Ls ℕ} (λ (l : List Piece). record { marks = s .marks; olist = s .olist; emits = s .emits; fwds = s .fwds; room = 0; known = 0; pieces = l }) (blanks-more (s .pieces) (mk a))
+          ∙ ap {B = Ls ℕ} (λ (l : Ls ℕ). record { marks = l .marks; olist = l .olist; emits = l .emits; fwds = l .fwds; room = 0; known = 0; pieces = l .pieces ++ (blank (mk a) ∷ []) }) (q .rest)
+          ∙ ap {B = Ls ℕ} (λ (x : Piece). withPieces (blanks (t .pieces) ++ (x ∷ []))) (bl a b)
+          ∙ ap withPieces (sym (blanks-more (t .pieces) (mk b)));
+      names = tt;
+      sized = record { marks-n = q .sized .marks-n; emits-n = q .sized .emits-n };
+    })
+
+    cut-shape : (h : Held) (u : W) (len : ℕ) (a : List ℕ) (c : ℕ) → Goes (broken h c) (fitting len u (cut a c))
+    unfolding playedOn fitting
+    cut-shape h u len a c = both-halted (holding h s) c
+
+    excused : (h : Held) (e : ℕ) → Is17or20 e → (l : Line (Known W)) → Goes (broken h e) l
+    unfolding playedOn
+    excused h e w l = left-free (holding h s) e (putLine mk t l) w
+
+    -- where the other one's text does not fit it is refused by 17
+    by-room : (p : Played) (l : Line (Known W)) → Goes p l → (b : Bool) → Goes p (elim b [ true ↦ l | false ↦ cannot 17 ])
+    by-room p l g true = g
+    by-room p l g false = right-free (playedOn mk s p) 17 refl
+
+    line-shape : (limit len room len₂ : ℕ) (p : Played) (s₁ : Said Held) (s₂ : Said W) → PlaysAs limit len p s₁ → SameEnd s₂ s₁ → Goes p (lineOf room len₂ s₂)
+    unfolding lineOf
+    line-shape limit len room len₂ _ _ s₂ (over h _) w = excused h 20 (inr refl) (lineOf room len₂ s₂)
+    line-shape limit len room len₂ _ _ s₂ (full g h x l) w = excused g 17 (inl refl) (lineOf room len₂ s₂)
+    line-shape limit len room len₂ _ _ _ (fits h a l) (both-whole u _ b _) = by-room (played h a) (fitting len₂ u (whole b)) (wrote-shape h u len₂ a b) (leb (len₂ + length (bytes (whole b))) (smaller room 1073741824))
+    line-shape limit len room len₂ _ _ _ (cuts h a c l) (both-cut u _ b _ _) = by-room (broken h c) (fitting len₂ u (cut b c)) (cut-shape h u len₂ b c) (leb (len₂ + length (bytes (cut b c))) (smaller room 1073741824))
+
+    pub line-on : (p : Steps) (s₂ : Said W) → SameEnd s₂ (told (sharing k) p (s .known .names))
+        → BothEnd (Shape n) Is17or20 Is17 (lineOn k mk s p) (putLine mk t (lineOf (t .room) (t .known .text-len) s₂))
+    unfolding lineOn
+    line-on p s₂ w =
+        line-shape (smaller (s .room) 1073741824) (s .known .text-len) (t .room) (t .known .text-len) (playLine k (s .room) (s .known .text-len) p (s .known .names)) (told (sharing k) p (s .known .names)) s₂
+        (plays-line k (s .room) (s .known .text-len) p (s .known .names)) w
+
+  pub shape-board : (B : Btf) → AlikeBoard N k B (Shape (B .type-cnt)) Is17or20 Is17
+  shape-board B = board (λ x. 0) blanks AnyNames N k B Is17or20 Is17
+      (λ mk e s t h x. line-on (B .type-cnt) mk e s t h (forwardSteps B x (B .type-by-id x)) (forward N B x (B .type-by-id x) (t .known .names)) (forward-ends N (sharing k) B x (B .type-by-id x) (t .known .names) (s .known .names)))
+      (λ mk e s t h x. line-on (B .type-cnt) mk e s t h (definitionSteps B x (B .type-by-id x)) (definition N B x (B .type-by-id x) (t .known .names)) (definition-ends N (sharing k) B x (B .type-by-id x) (t .known .names) (s .known .names)))
