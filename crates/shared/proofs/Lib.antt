@@ -5,3 +5,4 @@ pub mod Play
 pub mod Emission
 pub mod Requests
 pub mod Boards
+pub mod Claims

@@ -3,3 +3,4 @@ pub mod Shared
 pub mod Requests
 pub mod Calls
 pub mod Samples
+pub mod Claims
