@@ -6,3 +6,4 @@ pub mod Emission
 pub mod Requests
 pub mod Boards
 pub mod Claims
+pub mod Keeps
