@@ -7,3 +7,4 @@ pub mod Requests
 pub mod Boards
 pub mod Claims
 pub mod Keeps
+pub mod Accounts

@@ -4,3 +4,4 @@ pub mod Requests
 pub mod Calls
 pub mod Samples
 pub mod Claims
+pub mod Accounts
