@@ -1,5 +1,5 @@
 -- THE CLAIM of specs/Accounts. Assumes nothing.
-use Prim.Native.Nat.{ℕ, zero, suc, zero-le, _+_, _-_, _/_, _≤_, _<_}
+use Prim.Native.Nat.{ℕ, zero, suc, zero-le, _+_, _-_, _≤_, _<_}
 use native.Mathlib.Omega.{arith}
 use native.Mathlib.Nat.{le-refl}
 use mathlib.Core.Path.{_≡_, refl, sym, _∙_, ap, subst}
@@ -7,14 +7,14 @@ use mathlib.Core.Bool.{Bool, true, false, true≢false, _||_}
 use mathlib.Core.List.{List, [], _∷_, _++_}
 use lib.ListN.{length, getD, set, length-set, length-append}
 use lib.Dec.{ltb, leb, eqb}
-use borrow.Author.Tests.{leb-false, ltb-true, ltb-false, eqb-true, eqb-false, eq-eqb}
+use borrow.Author.Tests.{leb-false, ltb-false, eqb-true, eqb-false, eq-eqb}
 use Rattle.lent.specs.Words.{oneMore, pick}
 use Rattle.rules.specs.Types.{Name, Btf}
 use Rattle.rules.specs.Machine.{Req}
 use Rattle.rules.specs.Names.{Space, tagSpace, identSpace, Holder, sameSpace, sameBytes, holds, holders, counted}
-use Rattle.shared.specs.Shared.{Account, Ledger, noAccount, account, charged, known, made, taking, passing, numberOf}
+use Rattle.shared.specs.Shared.{Account, Ledger, noAccount, account, known, made, taking, passing, numberOf}
 use Rattle.shared.specs.Calls.{capacity, reserved, ledgerShort, joined, begun, Part, Side, kernel, module′, Call, opens, asks, World, partOf, withPart, lent, answered, opening, asking, called, calls, newWorld}
-use Rattle.shared.specs.Accounts.{usedAll, AllHeld, Sound, Reached, here, takes, opened, Accounts, Claim}
+use Rattle.shared.specs.Accounts.{usedAll, AllHeld, Sound, Reached, here, takes, opened, Claim}
 use Rattle.shared.proofs.Keeps.{answer-keeps}
 
 -- ---- one more holder

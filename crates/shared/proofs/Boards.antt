@@ -1,6 +1,6 @@
 -- Two ways in which a session over the shared ledger and one of the rules go alike. With the same names and the same ledger: all of it, short of 20. With
 -- any names: the marks, the lists, and what is defined, until 17 or 20. Assumes nothing.
-use Prim.Native.Nat.{ℕ, zero, suc, _+_, _≤_, _<_}
+use Prim.Native.Nat.{ℕ, _+_, _<_}
 use native.Mathlib.Omega.{arith}
 use mathlib.Core.Path.{_≡_, refl, sym, _∙_, ap, subst}
 use mathlib.Core.Bool.{Bool, true, false}
@@ -14,12 +14,12 @@ use Rattle.rules.specs.Order.{new}
 use Rattle.rules.specs.Writer.{Said, said}
 use Rattle.rules.specs.Layout.{smaller}
 use Rattle.rules.specs.Types.{Name, Enumerator, BtfType, Void, Int, Ptr, Array, Composite, Enum, Enum64, Fwd, Typedef, Mod, Func, Var, Datasec, FuncProto, Float, DeclTag, TypeTag, Btf}
-use Rattle.rules.specs.Names.{Space, identSpace, Resolved, Naming, Names, Holder, naming, holders, counted, typeVersion, valueVersion}
+use Rattle.rules.specs.Names.{Space, identSpace, Resolved, Naming, Names, naming, holders, counted, typeVersion, valueVersion}
 use Rattle.rules.specs.Emit.{definition, forward}
 use Rattle.rules.proofs.Closed.{ValuesFit, TypeFits}
 use Rattle.rules.proofs.Related.{RelSaid, same, RelResolved, RelNaming, rel-definition, rel-forward}
-use Rattle.demand.specs.Lists.{Piece, defines, other, Line, says, cannot, Ls, putLine, listStore, tagsOf}
-use Rattle.demand.specs.Session.{Known, fitting, lineOf, machineBy}
+use Rattle.demand.specs.Lists.{Piece, defines, other, Line, cannot, Ls, putLine, listStore}
+use Rattle.demand.specs.Session.{Known, fitting, lineOf}
 use Rattle.demand.proofs.Lists.{Sized}
 use Rattle.demand.proofs.Alike.{AlikeStore}
 use Rattle.shared.specs.Steps.{Steps, told, definitionSteps, forwardSteps}

@@ -1,11 +1,11 @@
 -- THE CLAIM of specs/Claims, of every two tables, every list of calls of two sessions in any order. Assumes nothing.
-use Prim.Native.Nat.{ℕ, zero, suc}
+use Prim.Native.Nat.{ℕ}
 use native.Mathlib.Omega.{arith}
 use mathlib.Core.Path.{_≡_, refl, sym, _∙_, ap, subst}
 use mathlib.Core.Bool.{Bool, true, false, true≢false}
-use mathlib.Core.List.{List, [], _∷_, _++_}
+use mathlib.Core.List.{List, [], _∷_}
 use mathlib.Core.Logic.{_⊎_, inl, inr}
-use lib.ListN.{length, replicate, length-replicate}
+use lib.ListN.{length-replicate}
 use lib.Dec.{eqb}
 use borrow.Author.Tests.{eq-eqb}
 use Rattle.rules.specs.Order.{new}
@@ -19,8 +19,8 @@ use Rattle.demand.proofs.Lists.{Sized}
 use Rattle.shared.specs.Shared.{Ledger, Held, Shelf, holding}
 use Rattle.shared.specs.Requests.{answerOn}
 use Rattle.shared.specs.Calls.{Side, kernel, module′, Call, opens, asks, World, Part, partOf, withPart, lent, ledgerShort, joined, begun, opening, asking, called, answered}
-use Rattle.shared.specs.Claims.{Seen, seen, Printed, printed, sameSide, together, alone, Agree, none, same, left-ends, right-ends, requestsOf, Silent, no-call, own, joins, EndsOrder, Ends20, Nothing, Shared, Claim}
-use Rattle.shared.proofs.Boards.{Like, blank, blanks, AnyNames, SameNames, Is20, Never, Whole, whole-board, Is17or20, Is17, Shape, shape-board}
+use Rattle.shared.specs.Claims.{Seen, seen, Printed, printed, sameSide, together, alone, Agree, none, same, left-ends, right-ends, requestsOf, Silent, no-call, own, joins, EndsOrder, Ends20, Nothing, Claim}
+use Rattle.shared.proofs.Boards.{Like, blanks, AnyNames, Is20, Never, Whole, whole-board, Is17or20, Is17, Shape, shape-board}
 use Rattle.shared.proofs.Requests.{BothSess, BothAnswer, alike, left-out, right-out, answer-both}
 
 -- a piece's id does not hang on its bytes
@@ -305,4 +305,4 @@ module _ (B : Side → Btf) (d : Side) (wf : WF (tableOf (B d))) where
 
 -- THE CLAIM
 pub two-headers : Claim
-two-headers B d wf = record { order-as-alone = order-alone B d wf; equal-short-of-20 = equal-alone B d wf }
+two-headers B d wf = record { order-as-alone = order-alone B d wf; equal-short-of-20 = equal-alone B d wf; other-kept = λ W e words r q. asks-kept B W d e q words r }

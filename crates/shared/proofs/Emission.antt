@@ -1,25 +1,20 @@
 -- Emission and requests over the shared ledger go as those of the rules, up to refusals that are excused on the one side or the other. After
 -- demand/proofs/Alike, with refusals that carry the machine on one side. Assumes nothing.
-use Prim.Native.Nat.{ℕ, zero, suc, _-_, _<_, _≤_}
-use native.Mathlib.Omega.{arith}
-use mathlib.Core.Path.{_≡_, refl, sym, _∙_, ap, subst}
+use Prim.Native.Nat.{ℕ, zero, suc, _-_}
+use mathlib.Core.Path.{_≡_, sym, subst}
 use mathlib.Core.Bool.{Bool, true, false, not, _&&_, _||_}
-use mathlib.Core.List.{List, [], _∷_, _++_, List·Memᴰ, List·Memᴰ·head, List·Memᴰ·tail, List·Memᴰ·not-nil}
-use lib.ListN.{length}
-use lib.Dec.{T as True, ltb, eqb, ltb→lt}
-use Rattle.rules.specs.Order.{Node, ignored, plain, listed, through, ptr, tdef, proto, comp, Table, Mark, new, busy, done, Res, ok, refused, order}
-use Rattle.rules.specs.Machine.{Out, wrote, stuck, MLawful, Kept, isZero, pick, obind, eeach, once, mention, again, close, leaf, within, begin, allowed, look, emit, Sess, Answer, Req, one, all, shut, emitted, ordered, gate, single, onward, from, every}
+use mathlib.Core.List.{List, [], _∷_}
+use lib.Dec.{eqb}
+use Rattle.rules.specs.Order.{Node, ignored, plain, listed, through, ptr, tdef, proto, comp, Mark, new, busy, done}
+use Rattle.rules.specs.Machine.{Out, wrote, stuck, isZero, pick, obind, eeach, once, mention, again, close, leaf, within, begin, allowed, look, emit}
 use Rattle.rules.specs.Types.{Btf, tableOf}
 use Rattle.rules.specs.Names.{Naming}
-use Rattle.demand.specs.Needs.{kids}
 use Rattle.demand.specs.Lists.{Ls, listStore}
-use Rattle.demand.specs.Session.{Known, machineBy, answerOf}
-use Rattle.demand.proofs.Ways.{tally}
+use Rattle.demand.specs.Session.{Known, machineBy}
 use Rattle.demand.proofs.Lists.{Sized}
-use Rattle.demand.proofs.Session.{machine-lawful}
-use Rattle.demand.proofs.Alike.{Both, both, neither, AlikeStore, Live, Went, order-alike}
-use Rattle.shared.specs.Shared.{Ledger, Held, sharing, End, went, halted, Shelf, holding}
-use Rattle.shared.specs.Requests.{ebind, eachOn, fwdOn, leafOn, bodyOn, onceOn, mentionOn, againOn, closeOn, leafEnd, withinOn, beginOn, allowedOn, lookOn, emitOn, shutOn, emittedOn, orderedOn, gateOn, singleOn, onwardOn, fromOn, everyOn, answerOn}
+use Rattle.demand.proofs.Alike.{AlikeStore}
+use Rattle.shared.specs.Shared.{sharing, End, went, halted, Shelf}
+use Rattle.shared.specs.Requests.{ebind, eachOn, fwdOn, leafOn, bodyOn, onceOn, mentionOn, againOn, closeOn, leafEnd, withinOn, beginOn, allowedOn, lookOn, emitOn}
 
 -- both go on, alike; both are refused by one number; or one is refused by a number that is excused there
 pub data BothEnd {M₁ M : Type 0} (Q : M₁ → M → Type 0) (Free₁ Free₂ : ℕ → Type 0) : End M₁ → Out M → Type 0 where
@@ -49,7 +44,7 @@ pub record AlikeBoard {W : Type 0} (N : Naming W) (k : ℕ) (B : Btf) (Q : Shelf
   pub a-leaf : (s : Shelf) (t : Ls (Known W)) → Q s t → (x : ℕ) → BothEnd Q Free₁ Free₂ (leafOn k B s x) (machineBy N B .leafLine t x)
   pub a-body : (s : Shelf) (t : Ls (Known W)) → Q s t → (x : ℕ) → BothEnd Q Free₁ Free₂ (bodyOn k B s x) (machineBy N B .body t x)
 
-module _ {W : Type 0} (N : Naming W) (k : ℕ) (B : Btf) (below : (x y : ℕ) → List·Memᴰ y (kids (tableOf B .node x)) → y < B .type-cnt)
+module _ {W : Type 0} (N : Naming W) (k : ℕ) (B : Btf)
     (Q : Shelf → Ls (Known W) → Type 0) (Free₁ Free₂ : ℕ → Type 0) (al : AlikeBoard N k B Q Free₁ Free₂) where
   abbrev Plain : Type 0
   Plain = Ls (Known W)

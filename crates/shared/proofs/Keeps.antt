@@ -1,6 +1,6 @@
 -- What every name that is taken keeps, lines, emission, requests and calls keep, refused ones too. Assumes nothing.
 use Prim.Native.Nat.{ℕ, zero, suc, _+_, _-_}
-use mathlib.Core.Path.{_≡_, refl, sym, subst}
+use mathlib.Core.Path.{_≡_, refl}
 use mathlib.Core.Bool.{Bool, true, false, not, _&&_, _||_}
 use mathlib.Core.List.{List, [], _∷_, _++_}
 use lib.ListN.{length, getD, set}
@@ -13,8 +13,8 @@ use Rattle.rules.specs.Names.{Space, identSpace, Resolved}
 use Rattle.demand.specs.Lists.{Piece, defines, other, listStore}
 use Rattle.demand.specs.Session.{machineBy}
 use Rattle.shared.specs.Steps.{Steps, end, prints, refuses, takesType, takesValue, definitionSteps, forwardSteps}
-use Rattle.shared.specs.Shared.{Ledger, Held, numberOf, taking, sharing, passing, typeShared, valueShared, typePasses, unless, Played, played, broken, onTop, from20, play, playLine, End, went, halted, Shelf, holding, playedOn, lineOn}
-use Rattle.shared.specs.Requests.{ebind, eachOn, fwdOn, leafOn, bodyOn, onceOn, mentionOn, againOn, closeOn, leafEnd, withinOn, beginOn, allowedOn, lookOn, emitOn, shutOn, emittedOn, orderedOn, gateOn, singleOn, onwardOn, fromOn, everyOn, answerOn}
+use Rattle.shared.specs.Shared.{Ledger, Held, numberOf, taking, sharing, passing, typeShared, valueShared, typePasses, unless, Played, played, broken, onTop, from20, play, playLine, End, went, halted, Shelf, playedOn, lineOn}
+use Rattle.shared.specs.Requests.{ebind, eachOn, onceOn, mentionOn, againOn, closeOn, leafEnd, withinOn, beginOn, allowedOn, lookOn, emitOn, shutOn, emittedOn, orderedOn, gateOn, singleOn, onwardOn, fromOn, everyOn, answerOn}
 
 -- what a ledger is asked to keep
 module _ (I : Ledger → Type 0) where

@@ -1,19 +1,18 @@
 -- A line played over the shared ledger, against what the rules' writers write with the same names: unless it is refused by 20, it is what they write,
 -- and 17 comes exactly where their text does not fit. Assumes nothing.
-use Prim.Native.Nat.{ℕ, zero, suc, _+_, _≤_, _<_}
+use Prim.Native.Nat.{ℕ, _+_, _≤_, _<_}
 use native.Mathlib.Omega.{arith}
-use mathlib.Core.Path.{_≡_, refl, sym, _∙_, ap, subst}
+use mathlib.Core.Path.{_≡_, refl}
 use mathlib.Core.Bool.{Bool, true, false}
-use mathlib.Core.List.{List, [], _∷_, _++_}
+use mathlib.Core.List.{List, [], _++_}
 use lib.ListN.{length, length-append}
 use lib.Dec.{leb}
 use borrow.Author.Tests.{leb-true, leb-false}
 use Rattle.text.specs.Text.{Text, whole, cut, join, bytes}
 use Rattle.rules.specs.Writer.{Said, said, after, next, _⨾_, put, stop}
-use Rattle.rules.specs.Layout.{smaller}
 use Rattle.rules.specs.Names.{identSpace, Resolved, resolving}
 use Rattle.shared.specs.Steps.{Steps, end, prints, refuses, takesType, takesValue, told}
-use Rattle.shared.specs.Shared.{Held, sharing, passing, typeShared, valueShared, typePasses, unless, Taken, gave, passes, Played, played, broken, onTop, from20, play, playLine}
+use Rattle.shared.specs.Shared.{Held, sharing, passing, typeShared, valueShared, typePasses, unless, Played, played, broken, onTop, from20, play}
 
 pub data PlaysAs (limit len : ℕ) : Played → Said Held → Type 0 where
   over : (h : Held) (s : Said Held) → PlaysAs limit len (broken h 20) s

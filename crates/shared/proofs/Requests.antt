@@ -1,19 +1,17 @@
 -- Requests over the shared ledger go as those of the rules, up to the numbers that are excused. Assumes nothing.
-use Prim.Native.Nat.{ℕ, zero, suc, _-_, _<_, _≤_}
+use Prim.Native.Nat.{ℕ, zero, suc, _-_, _<_}
 use native.Mathlib.Omega.{arith}
-use mathlib.Core.Path.{_≡_, refl, sym, _∙_, ap, subst}
+use mathlib.Core.Path.{_≡_, refl, sym, ap, subst}
 use mathlib.Core.Bool.{Bool, true, false, true≢false}
 use mathlib.Core.List.{List, [], _∷_, _++_, List·Memᴰ, List·Memᴰ·not-nil}
-use lib.ListN.{length}
 use lib.Dec.{T as True, ltb, ltb→lt}
-use Rattle.rules.specs.Order.{Res, ok, refused, order}
+use Rattle.rules.specs.Order.{Res}
 use Rattle.rules.specs.Machine.{Out, Kept, eeach, emit, Sess, Answer, Req, one, all, shut, emitted, ordered, gate, single, onward, from, every}
 use Rattle.rules.specs.Types.{Btf, tableOf}
 use Rattle.rules.specs.Names.{Naming}
 use Rattle.demand.specs.Needs.{kids}
 use Rattle.demand.specs.Lists.{Ls, listStore}
 use Rattle.demand.specs.Session.{Known, machineBy, answerOf}
-use Rattle.demand.proofs.Ways.{tally}
 use Rattle.demand.proofs.Lists.{Sized}
 use Rattle.demand.proofs.Session.{machine-lawful}
 use Rattle.demand.proofs.Alike.{Both, both, neither, Live, Went, order-alike}
@@ -79,7 +77,7 @@ module _ {W : Type 0} (N : Naming W) (k : ℕ) (B : Btf) (below : (x y : ℕ) �
     unfolding ordered orderedOn
     ordered-both x t₀ (both s t b w) =
         emitted-both x (subst (λ (l : List ℕ). BothEnd Q Free₁ Free₂ (eachOn (λ m y. emitOn k B 512 m y 0) l s) (eeach (λ m y. emit (machineBy N B) (tableOf B) 512 m y 0) (t .olist) t)) (sym (al .a-list s t (w .live .related)))
-        (each-both N k B below Q Free₁ Free₂ al (λ m y. emitOn k B 512 m y 0) (λ m y. emit (machineBy N B) (tableOf B) 512 m y 0) (λ s′ t′ y q. emit-both N k B below Q Free₁ Free₂ al 512 s′ t′ y 0 q) (t .olist) s t (w .live .related)))
+        (each-both N k B Q Free₁ Free₂ al (λ m y. emitOn k B 512 m y 0) (λ m y. emit (machineBy N B) (tableOf B) 512 m y 0) (λ s′ t′ y q. emit-both N k B Q Free₁ Free₂ al 512 s′ t′ y 0 q) (t .olist) s t (w .live .related)))
     ordered-both x t₀ (neither e) = shut-both (S₁ .mach .known .names .ledger) e
 
     gate-both : (room x : ℕ) (o b : Bool) → S .isOpen ≡ o → ltb x (B .type-cnt) ≡ b → BA (gateOn k B room S₁ x o b) (gate (machineBy N B) (tableOf B) room S x o b)

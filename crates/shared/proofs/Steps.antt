@@ -1,20 +1,19 @@
 -- The steps of specs/Steps write what the writers of the rules write, with any way of keeping names; and whether and by what number a line is refused
 -- does not hang on the names. One theorem over all emitters, after rules/proofs/Closed, with steps on one side. Assumes nothing.
 use Prim.Native.Nat.{ℕ, zero, suc, _+_}
-use mathlib.Core.Path.{_≡_, refl, sym, _∙_, ap, subst}
 use mathlib.Core.Bool.{Bool, true, false, not, _&&_}
-use mathlib.Core.List.{List, [], _∷_, _++_, append-nil, append-assoc}
+use mathlib.Core.List.{List, [], _∷_}
 use lib.ListN.{length}
 use lib.Dec.{eqb}
-use Rattle.text.specs.Text.{ascii, Text, whole, cut, join}
-use Rattle.rules.specs.Writer.{Ask, got, no, Said, said, Writer, after, next, _⨾_, put, stop, given}
+use Rattle.text.specs.Text.{ascii}
+use Rattle.rules.specs.Writer.{Ask, got, no, Writer, _⨾_, put, stop, given}
 use Rattle.rules.specs.Types.{Name, isEmpty, Member, Param, Enumerator, BtfType, Void, Int, Ptr, Array, Composite, Enum, Enum64, Fwd, Typedef, Mod, Func, Var, Datasec, FuncProto, Float, DeclTag, TypeTag, Btf}
 use Rattle.rules.specs.Layout.{Pad, bitPadding, endOf}
 use Rattle.rules.specs.Placing.{bodyPacked, tailPads}
 use Rattle.rules.specs.Names.{Space, tagSpace, identSpace, Naming, resolving, spelled, resolveTypeName, resolveName, builtin}
 use Rattle.rules.specs.Decl.{deeper, sepName, enumValue, enum64Value, Entry, base, star, qual, array, proto, tag, chainOf, noMods, isArray, noParams, shownParams, emitCompositeFwd, emitFwdDef, enumWord, emitValues, enumBody, emitEnumDef, emitName, parens, emitParam, emitParams, baseWord, emitArray, emitProto, paramList, chainLoop, emitMembers, compositeHead, compositeEnd, compositeBody, compositeDef, emitTypeDecl, emitTypeChain, emitCompositeDef, emitTypedefDef}
 use Rattle.rules.specs.Emit.{definition, shown, forward}
-use Rattle.shared.specs.Steps.{Steps, end, prints, refuses, takesType, takesValue, _⨟_, told, print, refuse, asking, typeName, valueName, compositeFwdSteps, fwdDefSteps, enumWordSteps, valuesSteps, enumBodySteps, enumDefSteps, nameSteps, parensSteps, paramSteps, paramsSteps, baseWordSteps, arraySteps, protoSteps, paramListSteps, chainLoopSteps, membersSteps, compositeHeadSteps, compositeEndSteps, compositeBodySteps, compositeDefSteps, typeDeclSteps, typeChainSteps, wholeCompositeSteps, typedefDefSteps, definitionSteps, shownSteps, forwardSteps}
+use Rattle.shared.specs.Steps.{Steps, end, takesType, takesValue, _⨟_, print, refuse, asking, typeName, valueName, compositeFwdSteps, fwdDefSteps, enumWordSteps, valuesSteps, enumBodySteps, enumDefSteps, nameSteps, parensSteps, paramSteps, paramsSteps, baseWordSteps, arraySteps, protoSteps, paramListSteps, chainLoopSteps, membersSteps, compositeHeadSteps, compositeEndSteps, compositeBodySteps, compositeDefSteps, typeDeclSteps, typeChainSteps, wholeCompositeSteps, typedefDefSteps, definitionSteps, shownSteps, forwardSteps}
 
 -- a relation between writers and steps that texts, refusals, one after another, and names keep; Named: which spellings may stand for one another
 pub record Closed {U : Type 0} (N : Naming U) (Named : Name → Name → Type 0) (S : Writer U → Steps → Type 0) : Type 0 where

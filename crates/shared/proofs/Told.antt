@@ -1,11 +1,11 @@
 -- The steps write what the rules' writers write, with the same names after it; with other names the line is refused by the same number or not at all.
-use Prim.Native.Nat.{ℕ, zero, suc, _+_}
+use Prim.Native.Nat.{ℕ, _+_}
 use mathlib.Core.Path.{_≡_, refl, sym, _∙_, ap, subst}
-use mathlib.Core.List.{List, [], _∷_, _++_, append-nil, append-assoc}
-use Rattle.text.specs.Text.{Text, whole, cut, join}
+use mathlib.Core.List.{List, [], _++_, append-nil, append-assoc}
+use Rattle.text.specs.Text.{whole, cut, join}
 use Rattle.rules.specs.Writer.{Said, said, Writer, after, next, _⨾_, put, stop}
-use Rattle.rules.specs.Types.{Name, BtfType, Btf}
-use Rattle.rules.specs.Names.{Naming, resolving, spelled}
+use Rattle.rules.specs.Types.{BtfType, Btf}
+use Rattle.rules.specs.Names.{Naming, resolving}
 use Rattle.rules.specs.Emit.{definition, forward}
 use Rattle.shared.specs.Steps.{Steps, end, prints, refuses, takesType, takesValue, _⨟_, told, print, refuse, definitionSteps, forwardSteps}
 use Rattle.shared.proofs.Steps.{Closed, r-definition, r-forward}

@@ -6,9 +6,9 @@ use lib.ListN.{length, replicate}
 use lib.Dec.{ltb, leb, eqb}
 use Rattle.rules.specs.Types.{Btf}
 use Rattle.rules.specs.Machine.{Sess, Answer, Req}
-use Rattle.demand.specs.Lists.{Ls, afresh}
-use Rattle.demand.specs.Session.{Known, textOf}
-use Rattle.shared.specs.Shared.{Account, Ledger, newLedger, account, Held, Shelf, holding}
+use Rattle.demand.specs.Lists.{afresh}
+use Rattle.demand.specs.Session.{textOf}
+use Rattle.shared.specs.Shared.{Account, Ledger, newLedger, Shelf, holding}
 use Rattle.shared.specs.Requests.{answerOn}
 
 -- ---- opening

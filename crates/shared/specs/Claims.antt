@@ -91,6 +91,8 @@ pub record Shared (B : Side → Btf) (d : Side) : Type 0 where
   -- "Short of 20, equality is claimed for a session whose partner made no request."
   pub equal-short-of-20 : (W : World) (reserve : ℕ) → ledgerShort (W .ledger) reserve ≡ false → W .ledger .entries ≡ [] → (cs : List Call) → Silent d (W .ledger .words) cs
       → Agree Ends20 Nothing (together printed B d (called B W (opens d reserve) .world) cs) (alone printed (B d) (opened (B d)) (requestsOf d cs))
+  -- "it closes that session only": a call of one side, however it ends, leaves the other side's session
+  pub other-kept : (W : World) (e : Side) (words : ℕ) (r : Req) → sameSide d e ≡ false → partOf (called B W (asks e words r) .world) d ≡ partOf W d
 
 abbrev pub Claim : Type 0
 Claim = (B : Side → Btf) (d : Side) → WF (tableOf (B d)) → Shared B d

@@ -4,13 +4,13 @@ use Prim.Native.Nat.{ℕ, zero, suc, _-_}
 use mathlib.Core.Bool.{Bool, true, false, not, _&&_, _||_}
 use mathlib.Core.List.{List, [], _∷_, _++_}
 use lib.Dec.{ltb, eqb}
-use Rattle.rules.specs.Order.{Node, ignored, plain, listed, through, ptr, tdef, proto, comp, Table, Mark, new, busy, done, Store, Res, ok, refused, order}
+use Rattle.rules.specs.Order.{Node, ignored, plain, listed, through, ptr, tdef, proto, comp, Mark, new, busy, done, Res, ok, refused, order}
 use Rattle.rules.specs.Machine.{isZero, pick, Sess, Answer, Req, one, all}
 use Rattle.rules.specs.Types.{Btf, tableOf}
 use Rattle.demand.specs.Lists.{defines, other, listStore}
 use Rattle.demand.specs.Session.{machineBy}
 use Rattle.shared.specs.Steps.{definitionSteps, forwardSteps}
-use Rattle.shared.specs.Shared.{Ledger, Held, sharing, End, went, halted, Shelf, holding, lineOn}
+use Rattle.shared.specs.Shared.{Ledger, sharing, End, went, halted, Shelf, holding, lineOn}
 
 module _ {M : Type 0} where
   unfoldable pub ebind : End M → (M → End M) → End M

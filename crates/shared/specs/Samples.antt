@@ -4,7 +4,7 @@ use mathlib.Core.Bool.{true}
 use mathlib.Core.List.{List, [], _∷_}
 use Rattle.text.specs.Text.{ascii}
 use Rattle.rules.specs.Machine.{one, all}
-use Rattle.rules.specs.Types.{Void, Int, Composite, Typedef, Btf}
+use Rattle.rules.specs.Types.{Void, Composite, Btf}
 use Rattle.rules.specs.Samples.{Sample, gives, table}
 use Rattle.shared.specs.Calls.{Side, kernel, module′, Call, opens, asks, World, called, calls, headerOf, newWorld}
 

@@ -1,17 +1,17 @@
 -- "Two sessions may now share one ledger, each with a reserved number of entries given at opening." The ledger, names over it, lines, and refusals that
 -- leave the names taken.
-use Prim.Native.Nat.{ℕ, zero, suc, _+_, _-_, _/_}
-use mathlib.Core.Bool.{Bool, true, false, _||_}
+use Prim.Native.Nat.{ℕ, _+_, _-_}
+use mathlib.Core.Bool.{Bool, true, false}
 use mathlib.Core.List.{List, [], _∷_, _++_}
-use lib.ListN.{length, getD, set, replicate}
-use lib.Dec.{ltb, leb, eqb}
+use lib.ListN.{length, getD, set}
+use lib.Dec.{leb, eqb}
 use Rattle.lent.specs.Words.{oneMore}
-use Rattle.rules.specs.Types.{Name, Btf}
+use Rattle.rules.specs.Types.{Name}
 use Rattle.rules.specs.Layout.{smaller}
 use Rattle.rules.specs.Names.{Space, identSpace, Resolved, Naming, Holder, holders, counted}
-use Rattle.demand.specs.Lists.{Piece, defines, other, Ls}
+use Rattle.demand.specs.Lists.{Piece, Ls}
 use Rattle.demand.specs.Session.{Known}
-use Rattle.shared.specs.Steps.{Steps, end, prints, refuses, takesType, takesValue, definitionSteps, forwardSteps}
+use Rattle.shared.specs.Steps.{Steps, end, prints, refuses, takesType, takesValue}
 
 -- ---- the ledger
 
@@ -146,7 +146,11 @@ holding h s = record { marks = s .marks; olist = s .olist; emits = s .emits; fwd
 
 unfoldable pub playedOn : (List ℕ → Piece) → Shelf → Played → End Shelf
 playedOn mk s (played h a) = went (record {
-  marks = s .marks; olist = s .olist; emits = s .emits; fwds = s .fwds; room = s .room;
+  marks = s .marks;
+  olist = s .olist;
+  emits = s .emits;
+  fwds = s .fwds;
+  room = s .room;
   known = record { names = h; text-len = s .known .text-len + length a };
   pieces = s .pieces ++ (mk a ∷ []);
 })
