@@ -1,0 +1,308 @@
+-- THE CLAIM of specs/Claims, of every two tables, every list of calls of two sessions in any order. Assumes nothing.
+use Prim.Native.Nat.{ℕ}
+use native.Mathlib.Omega.{arith}
+use mathlib.Core.Path.{_≡_, refl, sym, _∙_, ap, subst}
+use mathlib.Core.Bool.{Bool, true, false, true≢false}
+use mathlib.Core.List.{List, [], _∷_}
+use mathlib.Core.Logic.{_⊎_, inl, inr}
+use lib.ListN.{length-replicate}
+use lib.Dec.{eqb}
+use borrow.Author.Tests.{eq-eqb}
+use Rattle.rules.specs.Order.{new}
+use Rattle.rules.specs.Machine.{Sess, Answer, Req}
+use Rattle.rules.specs.Types.{Btf, tableOf}
+use Rattle.rules.specs.Names.{Names, naming}
+use Rattle.demand.specs.Needs.{WF}
+use Rattle.demand.specs.Lists.{Piece, defines, other, Ls, tagsOf, afresh}
+use Rattle.demand.specs.Session.{Known, textOf, answerOf, opened}
+use Rattle.demand.proofs.Lists.{Sized}
+use Rattle.shared.specs.Shared.{Ledger, Held, Shelf, holding}
+use Rattle.shared.specs.Requests.{answerOn}
+use Rattle.shared.specs.Calls.{Side, kernel, module′, Call, opens, asks, World, Part, partOf, withPart, lent, ledgerShort, joined, begun, opening, asking, called, answered}
+use Rattle.shared.specs.Claims.{Seen, seen, Printed, printed, sameSide, together, alone, Agree, none, same, left-ends, right-ends, requestsOf, Silent, no-call, own, joins, EndsOrder, Ends20, Nothing, Claim}
+use Rattle.shared.proofs.Boards.{Like, blanks, AnyNames, Is20, Never, Whole, whole-board, Is17or20, Is17, Shape, shape-board}
+use Rattle.shared.proofs.Requests.{BothSess, BothAnswer, alike, left-out, right-out, answer-both}
+
+-- a piece's id does not hang on its bytes
+tags-blank : (l : List Piece) → tagsOf (blanks l) ≡ tagsOf l
+unfolding tagsOf blanks
+tags-blank [] = refl
+tags-blank (defines x t ∷ l) = ap {B = List ℕ} (λ r. x ∷ r) (tags-blank l)
+tags-blank (other t ∷ l) = tags-blank l
+
+-- ---- the sides
+
+same-side : (d e : Side) → sameSide d e ≡ true → d ≡ e
+same-side kernel kernel q = refl
+same-side kernel module′ q = absurd (true≢false (sym q))
+same-side module′ kernel q = absurd (true≢false (sym q))
+same-side module′ module′ q = refl
+
+is-same : (d : Side) → sameSide d d ≡ true
+is-same kernel = refl
+is-same module′ = refl
+
+part-own : (W : World) (d : Side) (L : Ledger) (p : Part) → partOf (withPart W d L p) d ≡ p
+part-own W kernel L p = refl
+part-own W module′ L p = refl
+
+part-kept : (W : World) (d e : Side) (L : Ledger) (p : Part) → sameSide d e ≡ false → partOf (withPart W e L p) d ≡ partOf W d
+part-kept W kernel kernel L p q = absurd (true≢false q)
+part-kept W kernel module′ L p q = refl
+part-kept W module′ kernel L p q = refl
+part-kept W module′ module′ L p q = absurd (true≢false q)
+
+ledger-own : (W : World) (d : Side) (L : Ledger) (p : Part) → withPart W d L p .ledger ≡ L
+ledger-own W kernel L p = refl
+ledger-own W module′ L p = refl
+
+-- what the partner calls leaves the session
+module _ (B : Side → Btf) (W : World) (d e : Side) (q : sameSide d e ≡ false) where
+  opens-kept : (reserve : ℕ) → partOf (called B W (opens e reserve) .world) d ≡ partOf W d
+  unfolding called opening
+  opens-kept reserve = go (ledgerShort (W .ledger) reserve)
+    where
+      go : (b : Bool) → partOf (opening B W e reserve b .world) d ≡ partOf W d
+      go true = refl
+      go false = part-kept W d e (joined (W .ledger) reserve) (begun (B e) (W .ledger) reserve) q
+
+  asks-kept : (words : ℕ) (r : Req) → partOf (called B W (asks e words r) .world) d ≡ partOf W d
+  unfolding called asking
+  asks-kept words r = go (eqb words (partOf W e .words))
+    where
+      go : (b : Bool) → partOf (asking B W e r b .world) d ≡ partOf W d
+      go false = refl
+      go true = part-kept W d e _ _ q
+
+-- ---- any partner
+
+module _ (B : Side → Btf) (d : Side) (wf : WF (tableOf (B d))) where
+  abbrev Sh : Sess Shelf → Sess (Ls (Known Names)) → Type 0
+  Sh S₁ S = BothSess (Shape (B d .type-cnt)) (Shape (B d .type-cnt)) S₁ S
+
+  any-names : (s : Shelf) (t : Ls (Known Names)) (h : Held) → Shape (B d .type-cnt) s t → Shape (B d .type-cnt) (holding h s) t
+  any-names s t h q = record { rest = q .rest; names = tt; sized = q .sized }
+
+  lent-shape : (L : Ledger) (S₁ : Sess Shelf) (S : Sess (Ls (Known Names))) → Sh S₁ S → Sh (lent L S₁) S
+  lent-shape L S₁ S h = record {
+    same-open = h .same-open;
+    same-asked = h .same-asked;
+    shape = any-names (S₁ .mach) (S .mach) (record { versions = S₁ .mach .known .names .versions; ledger = L }) (h .shape);
+    live = λ o. any-names (S₁ .mach) (S .mach) (record { versions = S₁ .mach .known .names .versions; ledger = L }) (h .live o);
+  }
+
+  seen-same : (n m : ℕ) (S₁ : Sess Shelf) (S : Sess (Ls (Known Names))) → n ≡ m → Sh S₁ S → seen n S₁ ≡ seen m S
+  seen-same n m S₁ S e h i = record {
+    number = e i;
+    asked = h .same-asked i;
+    listed = h .shape .rest i .olist;
+    defined = (sym (tags-blank (S₁ .mach .pieces)) ∙ ap (λ (l : Ls ℕ). tagsOf (l .pieces)) (h .shape .rest) ∙ tags-blank (S .mach .pieces)) i;
+  }
+
+  ends₁ : (n : ℕ) → Is17or20 n → (n ≡ 11) ⊎ (n ≡ 17) ⊎ (n ≡ 20)
+  ends₁ n (inl e) = inr (inl e)
+  ends₁ n (inr e) = inr (inr e)
+
+  answer-shape : (k : ℕ) (S₁ : Sess Shelf) (S : Sess (Ls (Known Names))) → Sh S₁ S → (r : Req)
+      → BothAnswer (Shape (B d .type-cnt)) (Shape (B d .type-cnt)) Is17or20 Is17 (answerOn k (B d) S₁ r) (answerOf naming (B d) S r)
+  answer-shape k S₁ S h r =
+      answer-both naming k (B d) (wf .below) (Shape (B d .type-cnt)) (Shape (B d .type-cnt)) Is17or20 Is17 (shape-board naming k (B d)) (λ s t q. q) any-names no-zero₁ (λ e. omega arith) S₁ S h r
+    where
+      no-zero₁ : Is17or20 0 → ⊥
+      no-zero₁ (inl e) = omega arith
+      no-zero₁ (inr e) = omega arith
+
+  -- the outcome of one request, and what follows if it ended nothing
+  after-one : (a₁ : Answer Shelf) (a : Answer (Ls (Known Names))) (l k : List Seen)
+      → BothAnswer (Shape (B d .type-cnt)) (Shape (B d .type-cnt)) Is17or20 Is17 a₁ a → (Sh (a₁ .sess) (a .sess) → Agree EndsOrder EndsOrder l k)
+      → Agree EndsOrder EndsOrder (seen (a₁ .number) (a₁ .sess) ∷ l) (seen (a .number) (a .sess) ∷ k)
+  after-one a₁ a l k (alike e h) f = same (seen (a₁ .number) (a₁ .sess)) (seen (a .number) (a .sess)) l k (seen-same (a₁ .number) (a .number) (a₁ .sess) (a .sess) e h) (f h)
+  after-one a₁ a l k (left-out w) f = left-ends (seen (a₁ .number) (a₁ .sess)) l (seen (a .number) (a .sess) ∷ k) (ends₁ (a₁ .number) w)
+  after-one a₁ a l k (right-out w) f = right-ends (seen (a .number) (a .sess)) (seen (a₁ .number) (a₁ .sess) ∷ l) k (inr (inl w))
+
+  abbrev Agrees : World → Sess (Ls (Known Names)) → List Call → Type 0
+  Agrees W S cs = Agree EndsOrder EndsOrder (together seen B d W cs) (alone seen (B d) S (requestsOf d cs))
+
+  module _ (W : World) (S : Sess (Ls (Known Names))) (h : Sh (partOf W d .sess) S) (cs : List Call) (on : (W′ : World) (S′ : Sess (Ls (Known Names))) → Sh (partOf W′ d .sess) S′ → Agrees W′ S′ cs) where
+    own-by : (r : Req) (b : Bool)
+        → Agree EndsOrder EndsOrder (seen (asking B W d r b .number) (partOf (asking B W d r b .world) d .sess) ∷ together seen B d (asking B W d r b .world) cs) (alone seen (B d) S (r ∷ requestsOf d cs))
+    unfolding asking alone
+    own-by r false = left-ends (seen 11 (partOf W d .sess)) _ _ (inl refl)
+    own-by r true =
+        let a = answered (B d) (partOf W d) (W .ledger) r in
+        let p : Part = record { number = partOf W d .number; words = partOf W d .words; sess = a .sess } in
+        let W′ = withPart W d (a .sess .mach .known .names .ledger) p in
+        subst (λ (x : Part). Agree EndsOrder EndsOrder (seen (a .number) (x .sess) ∷ together seen B d W′ cs) (alone seen (B d) S (r ∷ requestsOf d cs))) (sym (part-own W d (a .sess .mach .known .names .ledger) p))
+        (after-one a (answerOf naming (B d) S r) (together seen B d W′ cs) (alone seen (B d) (answerOf naming (B d) S r .sess) (requestsOf d cs)) (answer-shape (partOf W d .number) (lent (W .ledger) (partOf W d .sess)) S (lent-shape (W .ledger) (partOf W d .sess) S h) r)
+        (λ g. on W′ (answerOf naming (B d) S r .sess) (subst (λ (x : Part). Sh (x .sess) (answerOf naming (B d) S r .sess)) (sym (part-own W d (a .sess .mach .known .names .ledger) p)) g)))
+
+    own-call : (words : ℕ) (r : Req) → Agree EndsOrder EndsOrder (seen (called B W (asks d words r) .number) (partOf (called B W (asks d words r) .world) d .sess) ∷ together seen B d (called B W (asks d words r) .world) cs) (alone seen (B d) S (r ∷ requestsOf d cs))
+    unfolding called
+    own-call words r = own-by r (eqb words (partOf W d .words))
+
+    asks-by : (e : Side) (words : ℕ) (r : Req) (b : Bool) → sameSide d e ≡ b
+        → Agree EndsOrder EndsOrder (elim b as (λ x. List Seen) [
+          | true ↦ seen (called B W (asks e words r) .number) (partOf (called B W (asks e words r) .world) d .sess) ∷ together seen B d (called B W (asks e words r) .world) cs
+          | false ↦ together seen B d (called B W (asks e words r) .world) cs
+        ]) (alone seen (B d) S (elim b as (λ x. List Req) [ true ↦ r ∷ requestsOf d cs | false ↦ requestsOf d cs ]))
+    asks-by e words r true q =
+        subst (λ (x : Side). Agree EndsOrder EndsOrder (seen (called B W (asks x words r) .number) (partOf (called B W (asks x words r) .world) d .sess) ∷ together seen B d (called B W (asks x words r) .world) cs) (alone seen (B d) S (r ∷ requestsOf d cs))) (same-side d e q)
+        (own-call words r)
+    asks-by e words r false q = on (called B W (asks e words r) .world) S (subst (λ (x : Part). Sh (x .sess) S) (sym (asks-kept B W d e q words r)) h)
+
+    opens-by : (e : Side) (reserve : ℕ) (b : Bool) → sameSide d e ≡ b
+        → Agree EndsOrder EndsOrder (elim b as (λ x. List Seen) [ true ↦ [] | false ↦ together seen B d (called B W (opens e reserve) .world) cs ]) (alone seen (B d) S (elim b as (λ x. List Req) [ true ↦ [] | false ↦ requestsOf d cs ]))
+    unfolding alone
+    opens-by e reserve true q = none
+    opens-by e reserve false q = on (called B W (opens e reserve) .world) S (subst (λ (x : Part). Sh (x .sess) S) (sym (opens-kept B W d e q reserve)) h)
+
+  agrees : (cs : List Call) (W : World) (S : Sess (Ls (Known Names))) → Sh (partOf W d .sess) S → Agrees W S cs
+  unfolding together requestsOf alone
+  agrees [] W S h = none
+  agrees (opens e reserve ∷ cs) W S h = opens-by W S h cs (λ W′ S′ h′. agrees cs W′ S′ h′) e reserve (sameSide d e) refl
+  agrees (asks e words r ∷ cs) W S h = asks-by W S h cs (λ W′ S′ h′. agrees cs W′ S′ h′) e words r (sameSide d e) refl
+
+  -- opening leaves the session afresh
+  begun-shape : (L : Ledger) (reserve : ℕ) → Sh (begun (B d) L reserve .sess) (opened (B d))
+  unfolding afresh
+  begun-shape L reserve =
+      let q : Shape (B d .type-cnt) (begun (B d) L reserve .sess .mach) (opened (B d) .mach) = record { rest = refl; names = tt; sized = record { marks-n = length-replicate (B d .type-cnt) new; emits-n = length-replicate (B d .type-cnt) new } } in
+      record { same-open = refl; same-asked = refl; shape = q; live = λ o. q }
+
+  opened-part : (W : World) (reserve : ℕ) → ledgerShort (W .ledger) reserve ≡ false → called B W (opens d reserve) .world ≡ withPart W d (joined (W .ledger) reserve) (begun (B d) (W .ledger) reserve)
+  unfolding called opening
+  opened-part W reserve e = ap (λ (b : Bool). opening B W d reserve b .world) e
+
+  pub order-alone : (W : World) (reserve : ℕ) → ledgerShort (W .ledger) reserve ≡ false → (cs : List Call) → Agrees (called B W (opens d reserve) .world) (opened (B d)) cs
+  order-alone W reserve e cs =
+      subst (λ (X : World). Agrees X (opened (B d)) cs) (sym (opened-part W reserve e))
+      (agrees cs (withPart W d (joined (W .ledger) reserve) (begun (B d) (W .ledger) reserve)) (opened (B d))
+      (subst (λ (x : Part). Sh (x .sess) (opened (B d))) (sym (part-own W d (joined (W .ledger) reserve) (begun (B d) (W .ledger) reserve))) (begun-shape (W .ledger) reserve)))
+
+-- ---- a partner that made no request
+
+-- opening of either side leaves the entries
+opens-entries : (B : Side → Btf) (W : World) (e : Side) (reserve : ℕ) → called B W (opens e reserve) .world .ledger .entries ≡ W .ledger .entries
+unfolding called opening
+opens-entries B W e reserve = go (ledgerShort (W .ledger) reserve)
+  where
+    go : (b : Bool) → opening B W e reserve b .world .ledger .entries ≡ W .ledger .entries
+    go true = refl
+    go false = ap (λ (L : Ledger). L .entries) (ledger-own W e (joined (W .ledger) reserve) (begun (B e) (W .ledger) reserve))
+
+module _ (B : Side → Btf) (d : Side) (wf : WF (tableOf (B d))) where
+  -- the same text, whatever the names
+  abbrev Text₂ : Shelf → Ls (Known Names) → Type 0
+  Text₂ s t = Like (λ x. x) (λ l. l) AnyNames (B d .type-cnt) s t
+
+  abbrev Wh : Sess Shelf → Sess (Ls (Known Names)) → Type 0
+  Wh S₁ S = BothSess Text₂ (Whole (B d .type-cnt)) S₁ S
+
+  other-names : (s : Shelf) (t : Ls (Known Names)) (h : Held) → Text₂ s t → Text₂ (holding h s) t
+  other-names s t h q = record { rest = q .rest; names = tt; sized = q .sized }
+
+  -- over a ledger with the same entries
+  lent-whole : (L : Ledger) (S₁ : Sess Shelf) (S : Sess (Ls (Known Names))) → S₁ .mach .known .names .ledger .entries ≡ L .entries → Wh S₁ S → Wh (lent L S₁) S
+  lent-whole L S₁ S e h = record {
+    same-open = h .same-open;
+    same-asked = h .same-asked;
+    shape = other-names (S₁ .mach) (S .mach) (record { versions = S₁ .mach .known .names .versions; ledger = L }) (h .shape);
+    live = λ o. record { rest = h .live o .rest; names = (h .live o .names .0, sym e ∙ h .live o .names .1); sized = h .live o .sized };
+  }
+
+  answer-whole : (k : ℕ) (S₁ : Sess Shelf) (S : Sess (Ls (Known Names))) → Wh S₁ S → (r : Req)
+      → BothAnswer Text₂ (Whole (B d .type-cnt)) Is20 Never (answerOn k (B d) S₁ r) (answerOf naming (B d) S r)
+  answer-whole k S₁ S h r =
+      answer-both naming k (B d) (wf .below) Text₂ (Whole (B d .type-cnt)) Is20 Never (whole-board k (B d)) (λ s t q. record { rest = q .rest; names = tt; sized = q .sized }) other-names (λ e. omega arith) (λ e. e) S₁ S h r
+
+  printed-same : (n m : ℕ) (S₁ : Sess Shelf) (S : Sess (Ls (Known Names))) → n ≡ m → Wh S₁ S → printed n S₁ ≡ printed m S
+  printed-same n m S₁ S e h i = record { number = e i; text-len = h .shape .rest i .known; text = textOf (h .shape .rest i .pieces) }
+
+  then-one : (a₁ : Answer Shelf) (a : Answer (Ls (Known Names))) (l k : List Printed) → BothAnswer Text₂ (Whole (B d .type-cnt)) Is20 Never a₁ a → (Wh (a₁ .sess) (a .sess) → Agree Ends20 Nothing l k)
+      → Agree Ends20 Nothing (printed (a₁ .number) (a₁ .sess) ∷ l) (printed (a .number) (a .sess) ∷ k)
+  then-one a₁ a l k (alike e h) f = same (printed (a₁ .number) (a₁ .sess)) (printed (a .number) (a .sess)) l k (printed-same (a₁ .number) (a .number) (a₁ .sess) (a .sess) e h) (f h)
+  then-one a₁ a l k (left-out w) f = left-ends (printed (a₁ .number) (a₁ .sess)) l (printed (a .number) (a .sess) ∷ k) w
+  then-one a₁ a l k (right-out w) f = absurd w
+
+  -- the session with the ledger as it stands
+  pub record Ready (words : ℕ) (W : World) (S : Sess (Ls (Known Names))) : Type 0 where
+    pub length-kept : partOf W d .words ≡ words
+    pub with-ledger : Wh (lent (W .ledger) (partOf W d .sess)) S
+
+  abbrev Equals : World → Sess (Ls (Known Names)) → List Call → Type 0
+  Equals W S cs = Agree Ends20 Nothing (together printed B d W cs) (alone printed (B d) S (requestsOf d cs))
+
+  module _ (words : ℕ) (W : World) (S : Sess (Ls (Known Names))) (h : Ready words W S) (cs : List Call) (on : (W′ : World) (S′ : Sess (Ls (Known Names))) → Ready words W′ S′ → Equals W′ S′ cs) where
+    ready-own : (p : Part) (S′ : Sess (Ls (Known Names))) → p .words ≡ words → Wh (p .sess) S′ → Ready words (withPart W d (p .sess .mach .known .names .ledger) p) S′
+    ready-own p S′ e g =
+        let L = p .sess .mach .known .names .ledger in
+        record {
+          length-kept = ap (λ (x : Part). x .words) (part-own W d L p) ∙ e;
+          with-ledger = subst (λ (x : Part). Wh (lent (withPart W d L p .ledger) (x .sess)) S′) (sym (part-own W d L p))
+              (subst (λ (M : Ledger). Wh (lent M (p .sess)) S′) (sym (ledger-own W d L p)) (lent-whole L (p .sess) S′ refl g));
+        }
+
+    request-by : (r : Req) (b : Bool) → b ≡ true
+        → Agree Ends20 Nothing (printed (asking B W d r b .number) (partOf (asking B W d r b .world) d .sess) ∷ together printed B d (asking B W d r b .world) cs) (alone printed (B d) S (r ∷ requestsOf d cs))
+    unfolding asking alone
+    request-by r false q = absurd (true≢false (sym q))
+    request-by r true q =
+        let a = answered (B d) (partOf W d) (W .ledger) r in
+        let p : Part = record { number = partOf W d .number; words = partOf W d .words; sess = a .sess } in
+        let W′ = withPart W d (a .sess .mach .known .names .ledger) p in
+        subst (λ (x : Part). Agree Ends20 Nothing (printed (a .number) (x .sess) ∷ together printed B d W′ cs) (alone printed (B d) S (r ∷ requestsOf d cs))) (sym (part-own W d (a .sess .mach .known .names .ledger) p))
+        (then-one a (answerOf naming (B d) S r) (together printed B d W′ cs) (alone printed (B d) (answerOf naming (B d) S r .sess) (requestsOf d cs)) (answer-whole (partOf W d .number) (lent (W .ledger) (partOf W d .sess)) S (h .with-ledger) r)
+        (λ g. on W′ (answerOf naming (B d) S r .sess) (ready-own p (answerOf naming (B d) S r .sess) (h .length-kept) g)))
+
+    request : (r : Req) → Agree Ends20 Nothing (printed (called B W (asks d words r) .number) (partOf (called B W (asks d words r) .world) d .sess) ∷ together printed B d (called B W (asks d words r) .world) cs) (alone printed (B d) S (r ∷ requestsOf d cs))
+    unfolding called
+    request r = request-by r (eqb words (partOf W d .words)) (eq-eqb words (partOf W d .words) (sym (h .length-kept)))
+
+    own-side : (r : Req) (b : Bool) → sameSide d d ≡ b
+        → Agree Ends20 Nothing (elim b as (λ x. List Printed) [
+          | true ↦ printed (called B W (asks d words r) .number) (partOf (called B W (asks d words r) .world) d .sess) ∷ together printed B d (called B W (asks d words r) .world) cs
+          | false ↦ together printed B d (called B W (asks d words r) .world) cs
+        ]) (alone printed (B d) S (elim b as (λ x. List Req) [ true ↦ r ∷ requestsOf d cs | false ↦ requestsOf d cs ]))
+    own-side r true q = request r
+    own-side r false q = absurd (true≢false (sym (is-same d) ∙ q))
+
+    ready-joined : (e : Side) (reserve : ℕ) → sameSide d e ≡ false → Ready words (called B W (opens e reserve) .world) S
+    ready-joined e reserve q = record {
+      length-kept = ap (λ (x : Part). x .words) (opens-kept B W d e q reserve) ∙ h .length-kept;
+      with-ledger = subst (λ (x : Part). Wh (lent (called B W (opens e reserve) .world .ledger) (x .sess)) S) (sym (opens-kept B W d e q reserve))
+          (lent-whole (called B W (opens e reserve) .world .ledger) (lent (W .ledger) (partOf W d .sess)) S (sym (opens-entries B W e reserve)) (h .with-ledger));
+    }
+
+    other-side : (e : Side) (reserve : ℕ) (b : Bool) → sameSide d e ≡ false → sameSide d e ≡ b
+        → Agree Ends20 Nothing (elim b as (λ x. List Printed) [ true ↦ [] | false ↦ together printed B d (called B W (opens e reserve) .world) cs ]) (alone printed (B d) S (elim b as (λ x. List Req) [ true ↦ [] | false ↦ requestsOf d cs ]))
+    other-side e reserve true q q′ = absurd (true≢false (sym q′ ∙ q))
+    other-side e reserve false q q′ = on (called B W (opens e reserve) .world) S (ready-joined e reserve q)
+
+  equals : (words : ℕ) (cs : List Call) → Silent d words cs → (W : World) (S : Sess (Ls (Known Names))) → Ready words W S → Equals W S cs
+  unfolding together requestsOf alone
+  equals words _ no-call W S h = none
+  equals words _ (own r cs q) W S h = own-side words W S h cs (λ W′ S′ h′. equals words cs q W′ S′ h′) r (sameSide d d) refl
+  equals words _ (joins e reserve cs n q) W S h = other-side words W S h cs (λ W′ S′ h′. equals words cs q W′ S′ h′) e reserve (sameSide d e) n refl
+
+  begun-whole : (L : Ledger) (reserve : ℕ) → L .entries ≡ [] → Wh (begun (B d) L reserve .sess) (opened (B d))
+  unfolding afresh
+  begun-whole L reserve e =
+      let z : Sized (B d .type-cnt) (opened (B d) .mach) = record { marks-n = length-replicate (B d .type-cnt) new; emits-n = length-replicate (B d .type-cnt) new } in
+      record { same-open = refl; same-asked = refl; shape = record { rest = refl; names = tt; sized = z }; live = λ o. record { rest = refl; names = (refl, e); sized = z } }
+
+  pub equal-alone : (W : World) (reserve : ℕ) → ledgerShort (W .ledger) reserve ≡ false → W .ledger .entries ≡ [] → (cs : List Call) → Silent d (W .ledger .words) cs
+      → Equals (called B W (opens d reserve) .world) (opened (B d)) cs
+  unfolding afresh
+  equal-alone W reserve e n cs q =
+      let L = joined (W .ledger) reserve in
+      let p = begun (B d) (W .ledger) reserve in
+      subst (λ (X : World). Equals X (opened (B d)) cs) (sym (opened-part B d wf W reserve e))
+      (equals (W .ledger .words) cs q (withPart W d L p) (opened (B d)) (record {
+        length-kept = ap (λ (x : Part). x .words) (part-own W d L p);
+        with-ledger = subst (λ (x : Part). Wh (lent (withPart W d L p .ledger) (x .sess)) (opened (B d))) (sym (part-own W d L p))
+            (subst (λ (M : Ledger). Wh (lent M (p .sess)) (opened (B d))) (sym (ledger-own W d L p)) (lent-whole L (p .sess) (opened (B d)) refl (begun-whole (W .ledger) reserve n)));
+      }))
+
+-- THE CLAIM
+pub two-headers : Claim
+two-headers B d wf = record { order-as-alone = order-alone B d wf; equal-short-of-20 = equal-alone B d wf; other-kept = λ W e words r q. asks-kept B W d e q words r }

@@ -1,0 +1,10 @@
+pub mod Samples
+pub mod Steps
+pub mod Told
+pub mod Play
+pub mod Emission
+pub mod Requests
+pub mod Boards
+pub mod Claims
+pub mod Keeps
+pub mod Accounts

@@ -1,0 +1,98 @@
+-- What is claimed of two headers over one ledger: statements only. proofs/Claims.antt has the proofs; they assume nothing.
+use Prim.Native.Nat.{ℕ}
+use mathlib.Core.Path.{_≡_}
+use mathlib.Core.Bool.{Bool, true, false}
+use mathlib.Core.List.{List, [], _∷_}
+use mathlib.Core.Logic.{_⊎_}
+use Rattle.rules.specs.Machine.{Sess, Req}
+use Rattle.rules.specs.Types.{Btf, tableOf}
+use Rattle.rules.specs.Names.{Names, naming}
+use Rattle.demand.specs.Needs.{WF}
+use Rattle.demand.specs.Lists.{Ls, tagsOf}
+use Rattle.demand.specs.Session.{Known, textOf, answerOf, opened}
+use Rattle.shared.specs.Shared.{Shelf}
+use Rattle.shared.specs.Calls.{Side, kernel, module′, Call, opens, asks, World, partOf, ledgerShort, called}
+
+-- ---- what is seen of a session after each of its requests
+
+-- the number, the ids asked for and accepted, those listed by the last ordering, those defined in the text
+pub record Seen : Type 0 where
+  pub number : ℕ
+  pub asked : List ℕ
+  pub listed : List ℕ
+  pub defined : List ℕ
+
+abbrev pub seen : {U : Type 0} → ℕ → Sess (Ls (Known U)) → Seen
+seen n S = record { number = n; asked = S .asked; listed = S .mach .olist; defined = tagsOf (S .mach .pieces) }
+
+-- the number, the text's length and the text
+pub record Printed : Type 0 where
+  pub number : ℕ
+  pub text-len : ℕ
+  pub text : List ℕ
+
+abbrev pub printed : {U : Type 0} → ℕ → Sess (Ls (Known U)) → Printed
+printed n S = record { number = n; text-len = S .mach .known .text-len; text = textOf (S .mach .pieces) }
+
+abbrev pub sameSide : Side → Side → Bool
+sameSide kernel kernel = true
+sameSide kernel module′ = false
+sameSide module′ kernel = false
+sameSide module′ module′ = true
+
+module _ {A : Type 0} where
+  -- side d's requests among the calls of both, up to its next opening
+  unfoldable pub together : (ℕ → Sess Shelf → A) → (Side → Btf) → Side → World → List Call → List A
+  together view B d W [] = []
+  together view B d W (opens e reserve ∷ cs) = elim (sameSide d e) [ true ↦ [] | false ↦ together view B d (called B W (opens e reserve) .world) cs ]
+  together view B d W (asks e words r ∷ cs) =
+      elim (sameSide d e) [
+        | true ↦ view (called B W (asks e words r) .number) (partOf (called B W (asks e words r) .world) d .sess) ∷ together view B d (called B W (asks e words r) .world) cs
+        | false ↦ together view B d (called B W (asks e words r) .world) cs
+      ]
+
+  -- the same requests of a session of the plain rules with the Rust's names
+  unfoldable pub alone : (ℕ → Sess (Ls (Known Names)) → A) → Btf → Sess (Ls (Known Names)) → List Req → List A
+  alone view B S [] = []
+  alone view B S (r ∷ rs) = view (answerOf naming B S r .number) (answerOf naming B S r .sess) ∷ alone view B (answerOf naming B S r .sess) rs
+
+  -- equal, one after the other, until one that ends the comparison
+  pub data Agree (Ends₁ Ends₂ : A → Type 0) : List A → List A → Type 0 where
+    none : Agree Ends₁ Ends₂ [] []
+    same : (a b : A) (l m : List A) → a ≡ b → Agree Ends₁ Ends₂ l m → Agree Ends₁ Ends₂ (a ∷ l) (b ∷ m)
+    left-ends : (a : A) (l m : List A) → Ends₁ a → Agree Ends₁ Ends₂ (a ∷ l) m
+    right-ends : (b : A) (l m : List A) → Ends₂ b → Agree Ends₁ Ends₂ l (b ∷ m)
+
+unfoldable pub requestsOf : Side → List Call → List Req
+requestsOf d [] = []
+requestsOf d (opens e reserve ∷ cs) = elim (sameSide d e) [ true ↦ [] | false ↦ requestsOf d cs ]
+requestsOf d (asks e words r ∷ cs) = elim (sameSide d e) [ true ↦ r ∷ requestsOf d cs | false ↦ requestsOf d cs ]
+
+-- calls of side d alone, lent a ledger of the same length; the partner may open, but "made no request"
+pub data Silent (d : Side) (words : ℕ) : List Call → Type 0 where
+  no-call : Silent d words []
+  own : (r : Req) (cs : List Call) → Silent d words cs → Silent d words (asks d words r ∷ cs)
+  joins : (e : Side) (reserve : ℕ) (cs : List Call) → sameSide d e ≡ false → Silent d words cs → Silent d words (opens e reserve ∷ cs)
+
+abbrev pub EndsOrder : Seen → Type 0
+EndsOrder a = (a .number ≡ 11) ⊎ (a .number ≡ 17) ⊎ (a .number ≡ 20)
+
+abbrev pub Ends20 : Printed → Type 0
+Ends20 a = a .number ≡ 20
+
+abbrev pub Nothing : Printed → Type 0
+Nothing a = ⊥
+
+-- THE CLAIM, of side d of two sessions from its opening on, in any world whose ledger is not short
+pub record Shared (B : Side → Btf) (d : Side) : Type 0 where
+  -- "Until an 11, 17 or 20 in either run, its order, layout and cycle refusals are those it would have alone."
+  pub order-as-alone : (W : World) (reserve : ℕ) → ledgerShort (W .ledger) reserve ≡ false → (cs : List Call)
+      → Agree EndsOrder EndsOrder (together seen B d (called B W (opens d reserve) .world) cs) (alone seen (B d) (opened (B d)) (requestsOf d cs))
+  -- "Short of 20, equality is claimed for a session whose partner made no request."
+  pub equal-short-of-20 : (W : World) (reserve : ℕ) → ledgerShort (W .ledger) reserve ≡ false → W .ledger .entries ≡ [] → (cs : List Call) → Silent d (W .ledger .words) cs
+      → Agree Ends20 Nothing (together printed B d (called B W (opens d reserve) .world) cs) (alone printed (B d) (opened (B d)) (requestsOf d cs))
+  -- "it closes that session only": a call of one side, however it ends, leaves the other side's session
+  pub other-kept : (W : World) (e : Side) (words : ℕ) (r : Req) → sameSide d e ≡ false → partOf (called B W (asks e words r) .world) d ≡ partOf W d
+
+abbrev pub Claim : Type 0
+Claim = (B : Side → Btf) (d : Side) → WF (tableOf (B d)) → Shared B d

@@ -1,0 +1,7 @@
+pub mod Steps
+pub mod Shared
+pub mod Requests
+pub mod Calls
+pub mod Samples
+pub mod Claims
+pub mod Accounts

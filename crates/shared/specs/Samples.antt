@@ -1,0 +1,55 @@
+-- Small tables, and what two sessions over one ledger print of them and answer. That they do is proofs/Samples.
+use Prim.Native.Nat.{ℕ}
+use mathlib.Core.Bool.{true}
+use mathlib.Core.List.{List, [], _∷_}
+use Rattle.text.specs.Text.{ascii}
+use Rattle.rules.specs.Machine.{one, all}
+use Rattle.rules.specs.Types.{Void, Composite, Btf}
+use Rattle.rules.specs.Samples.{Sample, gives, table}
+use Rattle.shared.specs.Calls.{Side, kernel, module′, Call, opens, asks, World, called, calls, headerOf, newWorld}
+
+-- struct x, struct y
+abbrev pub tags : Btf
+tags = table (Void ∷ Composite true (ascii "x") 0 [] ∷ Composite true (ascii "y") 0 [] ∷ [])
+
+-- the header of a side after calls over a new ledger of 48 words, that is of 4 entries
+abbrev pub header : Side → List Call → List ℕ
+header d cs = headerOf (calls (λ e. tags) (newWorld 48) cs) d
+
+unfoldable pub numbersFrom : World → List Call → List ℕ
+numbersFrom W [] = []
+numbersFrom W (c ∷ cs) = called (λ e. tags) W c .number ∷ numbersFrom (called (λ e. tags) W c .world) cs
+
+abbrev pub answers : List Call → List ℕ → Sample
+answers cs ns = record { is = numbersFrom (newWorld 48) cs; wanted = ns }
+
+-- both ask for everything, in turn
+abbrev pub inTurn : ℕ → ℕ → List Call
+inTurn m n = opens kernel m ∷ opens module′ n ∷ asks kernel 48 (one 100 1) ∷ asks module′ 48 (all 100) ∷ asks kernel 48 (one 100 2) ∷ []
+
+abbrev pub sharedSamples : List Sample
+sharedSamples =
+    -- struct x is the kernel's first, y the module's
+    gives (header kernel (inTurn 2 2)) "struct x {};\n\nstruct y___2 {};\n\n"
+    ∷ gives (header module′ (inTurn 2 2)) "struct x___2 {};\n\nstruct y {};\n\n"
+    ∷ answers (inTurn 2 2) (0 ∷ 0 ∷ 0 ∷ 0 ∷ 0 ∷ [])
+    -- a name that has an entry is charged to nobody again: one entry each is enough
+    ∷ answers (inTurn 1 1) (0 ∷ 0 ∷ 0 ∷ 0 ∷ 0 ∷ [])
+    -- y is the kernel's second new name
+    ∷ answers (opens kernel 1 ∷ asks kernel 48 (all 100) ∷ asks kernel 48 (one 100 1) ∷ []) (0 ∷ 20 ∷ 11 ∷ [])
+    -- 20 closes that session only; what it printed before stays
+    ∷ gives (header kernel (opens kernel 1 ∷ asks kernel 48 (all 100) ∷ [])) "struct x {};\n\n"
+    ∷ answers (opens kernel 1 ∷ opens module′ 2 ∷ asks kernel 48 (all 100) ∷ asks module′ 48 (all 100) ∷ []) (0 ∷ 0 ∷ 20 ∷ 0 ∷ [])
+    -- 20 comes before 17 of the print that uses the name, and after 17 of a print before it
+    ∷ answers (opens kernel 0 ∷ asks kernel 48 (one 0 1) ∷ []) (0 ∷ 20 ∷ [])
+    ∷ answers (opens kernel 1 ∷ asks kernel 48 (one 0 1) ∷ []) (0 ∷ 17 ∷ [])
+    ∷ answers (opens kernel 1 ∷ asks kernel 48 (all 12) ∷ []) (0 ∷ 17 ∷ [])
+    -- the names that a refused request took stay
+    ∷ gives (header module′ (opens kernel 1 ∷ opens module′ 3 ∷ asks kernel 48 (one 0 1) ∷ asks module′ 48 (all 100) ∷ [])) "struct x___2 {};\n\nstruct y {};\n\n"
+    -- a third session; too few entries left; another length
+    ∷ answers (opens kernel 1 ∷ opens module′ 1 ∷ opens kernel 1 ∷ []) (0 ∷ 0 ∷ 9 ∷ [])
+    ∷ answers (opens kernel 3 ∷ opens module′ 2 ∷ opens module′ 1 ∷ []) (0 ∷ 9 ∷ 0 ∷ [])
+    ∷ answers (opens kernel 3 ∷ asks kernel 56 (all 100) ∷ asks kernel 48 (all 100) ∷ []) (0 ∷ 11 ∷ 0 ∷ [])
+    ∷ record { is = numbersFrom (newWorld 15) (opens kernel 0 ∷ []); wanted = 9 ∷ [] }
+    ∷ record { is = numbersFrom (newWorld 16) (opens kernel 0 ∷ []); wanted = 0 ∷ [] }
+    ∷ []
