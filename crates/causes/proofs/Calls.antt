@@ -8,14 +8,14 @@ use native.Mathlib.Omega.{arith}
 use lib.ListN.{length, getD, replicate}
 use Rattle.rules.specs.Order.{plain, new, busy}
 use Rattle.rules.specs.Machine.{Req, one, all, Sess, Answer, single, every, serve, run}
-use Rattle.rules.specs.Names.{Names, naming}
+use Rattle.rules.specs.Names.{Names, Naming}
 use Rattle.rules.specs.Types.{Btf, tableOf}
 use Rattle.opened.specs.Causes.{openingNumber}
 use Rattle.turns.specs.Turns.{Call}
 use Rattle.calls.specs.Calls.{typeCall, typesCall}
 use Rattle.demand.specs.Lists.{Piece, Ls, afresh}
-use Rattle.demand.specs.Session.{Known, machine, opened, textOf}
-use Rattle.claims.specs.Table.{openedTable}
+use Rattle.demand.specs.Session.{Known, machineBy, openedBy, noNames, textOf}
+use Rattle.claims.specs.Table.{openedTable, namesIn}
 use Rattle.claims.specs.Session.{After, after-open, after-one, after-all, after-list, Tells}
 use Rattle.claims.specs.Demands.{Lent, typesIn, ruled, Demand2}
 use Rattle.claims.proofs.Claims.{opening-gives}
@@ -29,14 +29,14 @@ use Rattle.causes.proofs.Numbered.{machine-numbered}
 use Rattle.causes.proofs.Lines.{Idle, single-grown, every-grown, text-grown}
 
 -- what holds of each entry
-pairs-all : (B : Btf) (Why : Entry → Type 0) {es : List Entry} {ps : List Piece} → Pairs naming B Why es ps → (e : Entry) → List·Memᴰ e es → Why e
-pairs-all B Why none e m = absurd (List·Memᴰ·not-nil m)
-pairs-all B Why (more d t es ps w s p) e m = by (List·Memᴰ·cases-cons m) (λ q. pairs-all B Why p e q)
+pairs-all : (N : Naming Names) (B : Btf) (Why : Entry → Type 0) {es : List Entry} {ps : List Piece} → Pairs N B Why es ps → (e : Entry) → List·Memᴰ e es → Why e
+pairs-all N B Why none e m = absurd (List·Memᴰ·not-nil m)
+pairs-all N B Why (more d t es ps w s p) e m = by (List·Memᴰ·cases-cons m) (λ q. pairs-all N B Why p e q)
   where
     by : (e ≡ d) ⊎ List·Memᴰ e es → (List·Memᴰ e es → Why e) → Why e
     by (inl q) f = subst Why (sym q) w
     by (inr q) f = f q
-pairs-all B Why (blank es ps p) e m = pairs-all B Why p e m
+pairs-all N B Why (blank es ps p) e m = pairs-all N B Why p e m
 
 -- ---- nothing is in progress between requests
 idle-fresh : (n y : ℕ) → getD (replicate n new) y new ≡ new
@@ -44,20 +44,20 @@ idle-fresh zero y = refl
 idle-fresh (suc n) zero = refl
 idle-fresh (suc n) (suc y) = idle-fresh n y
 
-module _ (B : Btf) (void : tableOf B .node 0 ≡ plain) where
-  serve-idle : (r : Req) (S : Sess (Ls (Known Names))) → Idle (S .mach) → Idle (serve (machine B) (tableOf B) S r .mach)
+module _ (N : Naming Names) (B : Btf) (void : tableOf B .node 0 ≡ plain) where
+  serve-idle : (r : Req) (S : Sess (Ls (Known Names))) → Idle (S .mach) → Idle (serve (machineBy N B) (tableOf B) S r .mach)
   unfolding serve
   serve-idle (one room x) S i =
-      subst (λ (a : Answer (Ls (Known Names))). Idle (a .sess .mach)) (single-fits (machine B) (tableOf B) (showsIn B) (machine-numbered naming B) room x (untold S) .same) (single-grown naming B void always room x (untold S) i .idle)
+      subst (λ (a : Answer (Ls (Known Names))). Idle (a .sess .mach)) (single-fits (machineBy N B) (tableOf B) (showsIn B) (machine-numbered N B) room x (untold S) .same) (single-grown N B void always room x (untold S) i .idle)
   serve-idle (all room) S i =
-      subst (λ (a : Answer (Ls (Known Names))). Idle (a .sess .mach)) (every-fits (machine B) (tableOf B) (showsIn B) (machine-numbered naming B) room S (S .isOpen) .same) (every-grown naming B void always room S i (S .isOpen) .idle)
+      subst (λ (a : Answer (Ls (Known Names))). Idle (a .sess .mach)) (every-fits (machineBy N B) (tableOf B) (showsIn B) (machine-numbered N B) room S (S .isOpen) .same) (every-grown N B void always room S i (S .isOpen) .idle)
 
-  run-idle : (rs : List Req) (S : Sess (Ls (Known Names))) → Idle (S .mach) → Idle (run (machine B) (tableOf B) rs S .mach)
+  run-idle : (rs : List Req) (S : Sess (Ls (Known Names))) → Idle (S .mach) → Idle (run (machineBy N B) (tableOf B) rs S .mach)
   unfolding run
   run-idle [] S i = i
-  run-idle (r ∷ rs) S i = run-idle rs (serve (machine B) (tableOf B) S r) (serve-idle r S i)
+  run-idle (r ∷ rs) S i = run-idle rs (serve (machineBy N B) (tableOf B) S r) (serve-idle r S i)
 
-  opened-idle : Idle (opened B .mach)
+  opened-idle : Idle (openedBy N B (noNames B) .mach)
   unfolding afresh
   opened-idle y e = let z : new ≡ busy = sym (idle-fresh (B .type-cnt) y) ∙ e in let q : _≡_ {A = ℕ} 0 1 = cc in omega arith
 
@@ -72,6 +72,9 @@ module _ (p modes : ℕ) (s : List ℕ) (n : ℕ) (c : Call) (rs : List Req) (a 
   abbrev B : Btf
   B = openedTable p modes s n
 
+  abbrev N : Naming Names
+  N = namesIn p modes s n
+
   abbrev S : Sess (Ls (Known Names))
   S = ruled p modes s n rs
 
@@ -82,29 +85,29 @@ module _ (p modes : ℕ) (s : List ℕ) (n : ℕ) (c : Call) (rs : List Req) (a 
   void = opening-gives p modes s n (after-sound p modes s n a) .well-formed .void
 
   still : Idle (S .mach)
-  still = run-idle B void rs (opened B) (opened-idle B void)
+  still = run-idle N B void rs (openedBy N B (noNames B)) (opened-idle N B void)
 
   is-beside : (room : ℕ) (d : Call) (F : (ℕ → Bool) → Told (Ls (Known Names))) (P : Answer (Ls (Known Names))) → Tells room d P → Fits 0 F P
-      → Grown naming B (Reason (typesIn p modes s n)) [] (F always .entries) (S .mach .pieces) (F always .answer .sess .mach .pieces) → Beside p modes s n c d (F always)
+      → Grown N B (Reason (typesIn p modes s n)) [] (F always .entries) (S .mach .pieces) (F always .answer .sess .mach .pieces) → Beside p modes s n c d (F always)
   is-beside room d F P t h g =
-      let w = text-grown naming B (Reason (typesIn p modes s n)) [] (F always .entries) (S .mach .pieces) (F always .answer .sess .mach .pieces) g in
+      let w = text-grown N B (Reason (typesIn p modes s n)) [] (F always .entries) (S .mach .pieces) (F always .answer .sess .mach .pieces) g in
       record {
         number = t .number ∙ ap (λ (q : Answer (Ls (Known Names))). q .number) (sym (h .same));
         added = w .1;
         text = t .begins ∙ ap (λ (q : Answer (Ls (Known Names))). textOf (q .sess .mach .pieces)) (sym (h .same)) ∙ w .3 ∙ ap (λ (l : List ℕ). l ++ w .1) (sym (before .text));
-        explains = subst (λ (es : List Entry). Explains naming B es (w .1)) (sym (w .2)) (w .4);
-        reasons = λ e m. pairs-all B (Reason (typesIn p modes s n)) (g .pairs) e (subst (List·Memᴰ e) (g .entries-are) m);
+        explains = subst (λ (es : List Entry). Explains N B es (w .1)) (sym (w .2)) (w .4);
+        reasons = λ e m. pairs-all N B (Reason (typesIn p modes s n)) (g .pairs) e (subst (List·Memᴰ e) (g .entries-are) m);
       }
 
-  type-beside : (text : List ℕ) → Lent c text → (id : ℕ) → Beside p modes s n c (typeCall (c .session) s (c .work) text id) (singleNoted (machine B) (typesIn p modes s n) always (showsIn B) (length text) id (untold S))
+  type-beside : (text : List ℕ) → Lent c text → (id : ℕ) → Beside p modes s n c (typeCall (c .session) s (c .work) text id) (singleNoted (machineBy N B) (typesIn p modes s n) always (showsIn B) (length text) id (untold S))
   type-beside text l id =
-      is-beside (length text) (typeCall (c .session) s (c .work) text id) (λ r. singleNoted (machine B) (typesIn p modes s n) r (showsIn B) (length text) id (untold S)) (single (machine B) (typesIn p modes s n) (length text) S id)
-      (before .next-type text l id) (single-fits (machine B) (typesIn p modes s n) (showsIn B) (machine-numbered naming B) (length text) id (untold S)) (single-grown naming B void always (length text) id (untold S) still .grown)
+      is-beside (length text) (typeCall (c .session) s (c .work) text id) (λ r. singleNoted (machineBy N B) (typesIn p modes s n) r (showsIn B) (length text) id (untold S)) (single (machineBy N B) (typesIn p modes s n) (length text) S id)
+      (before .next-type text l id) (single-fits (machineBy N B) (typesIn p modes s n) (showsIn B) (machine-numbered N B) (length text) id (untold S)) (single-grown N B void always (length text) id (untold S) still .grown)
 
-  types-beside : (text : List ℕ) → Lent c text → Beside p modes s n c (typesCall (c .session) s (c .work) text) (everyNoted (machine B) (typesIn p modes s n) always (showsIn B) (length text) S (S .isOpen))
+  types-beside : (text : List ℕ) → Lent c text → Beside p modes s n c (typesCall (c .session) s (c .work) text) (everyNoted (machineBy N B) (typesIn p modes s n) always (showsIn B) (length text) S (S .isOpen))
   types-beside text l =
-      is-beside (length text) (typesCall (c .session) s (c .work) text) (λ r. everyNoted (machine B) (typesIn p modes s n) r (showsIn B) (length text) S (S .isOpen)) (every (machine B) (typesIn p modes s n) (length text) S (S .isOpen))
-      (before .next-types text l) (every-fits (machine B) (typesIn p modes s n) (showsIn B) (machine-numbered naming B) (length text) S (S .isOpen)) (every-grown naming B void always (length text) S still (S .isOpen) .grown)
+      is-beside (length text) (typesCall (c .session) s (c .work) text) (λ r. everyNoted (machineBy N B) (typesIn p modes s n) r (showsIn B) (length text) S (S .isOpen)) (every (machineBy N B) (typesIn p modes s n) (length text) S (S .isOpen))
+      (before .next-types text l) (every-fits (machineBy N B) (typesIn p modes s n) (showsIn B) (machine-numbered N B) (length text) S (S .isOpen)) (every-grown N B void always (length text) S still (S .isOpen) .grown)
 
 pub calls-explained : (p modes : ℕ) (s : List ℕ) (n : ℕ) → Explained p modes s n
 calls-explained p modes s n = record {
