@@ -55,11 +55,11 @@ module _ (p modes : ℕ) (s : List ℕ) (n : ℕ) (ok : openingNumber p s n ≡ 
         λ q. place-apart (b .types) f 7 8 4 (m, omega arith, omega arith, omega arith, f8, λ z. omega arith) x h (sym (place-type (b .types) f 7 x l) ∙ q),
       ))
 
-  pub no-alignment : (x : ℕ) → x < b .types → getField w x 14 ≡ 0
-  no-alignment x l = zero-word x 14 l (omega arith) (λ q. omega arith) (λ q. omega arith) (λ q. omega arith) (λ q. omega arith) (λ q. omega arith) (λ q. omega arith) (λ q. omega arith)
+  pub no-alignment : (x : ℕ) → x < b .types → getField w x 15 ≡ 0
+  no-alignment x l = zero-word x 15 l (omega arith) (λ q. omega arith) (λ q. omega arith) (λ q. omega arith) (λ q. omega arith) (λ q. omega arith) (λ q. omega arith) (λ q. omega arith)
 
-  pub no-visits : 0 < b .types → getField w 0 15 ≡ 0
-  no-visits l = zero-word 0 15 l (omega arith) (λ q. omega arith) (λ q. omega arith) (λ q. omega arith) (λ q. omega arith) (λ q. omega arith) (λ q. omega arith) (λ q. omega arith)
+  pub no-visits : 0 < b .types → getField w 0 2 ≡ 0
+  no-visits l = zero-word 0 2 l (omega arith) (λ q. omega arith) (λ q. omega arith) (λ q. omega arith) (λ q. omega arith) (λ q. omega arith) (λ q. omega arith) (λ q. omega arith)
 
   types-are : B .type-cnt ≡ b .types
   unfolding btfOf
@@ -69,7 +69,7 @@ module _ (p modes : ℕ) (s : List ℕ) (n : ℕ) (ok : openingNumber p s n ≡ 
   unfolding workKeep seenWord decoded
   none id = by (ltb id (B .type-cnt)) refl
     where
-      by : (t : Bool) → ltb id (B .type-cnt) ≡ t → decoded (elim t as (λ (x : Bool). ℕ) [ true ↦ getField w id 14 | false ↦ 0 ]) ≡ unknown
+      by : (t : Bool) → ltb id (B .type-cnt) ≡ t → decoded (elim t as (λ (x : Bool). ℕ) [ true ↦ getField w id 15 | false ↦ 0 ]) ≡ unknown
       by true q = ap decoded (no-alignment id (subst (λ (k : ℕ). id < k) types-are (ltb-true id (B .type-cnt) q)))
       by false q = refl
 
@@ -99,6 +99,6 @@ module _ (p modes : ℕ) (s : List ℕ) (n : ℕ) (ok : openingNumber p s n ≡ 
   pub opened-work-session : (rs : List Req) → dumpedOnce (workAsks (B .type-cnt) B) (workNaming b) B [] rs (openedBy (workNaming b) B w) ≡ dumpTypes B rs
   opened-work-session rs = work-session b B pointers (opening-gives p modes s n ok .well-formed) (ends b s w) (few p modes s n ok) w begins rs ∙ opening-gives p modes s n ok .same-text rs
 
-  -- "at most types plus members", in word 15 of void
-  pub opened-work-visits : (rs : List Req) → getField (afterOnce (workAsks (B .type-cnt) B) (workNaming b) B rs (openedBy (workNaming b) B w) .mach .known .names) 0 15 ≤ B .type-cnt + membersTo B (B .type-cnt)
+  -- "at most types plus members", in word 2 of void
+  pub opened-work-visits : (rs : List Req) → getField (afterOnce (workAsks (B .type-cnt) B) (workNaming b) B rs (openedBy (workNaming b) B w) .mach .known .names) 0 2 ≤ B .type-cnt + membersTo B (B .type-cnt)
   opened-work-visits rs = work-visits b B pointers (opening-gives p modes s n ok .well-formed) (ends b s w) (few p modes s n ok) w begins rs

@@ -46,14 +46,14 @@ module _ (w u : List ℕ) (a : Agree w u) where
         (λ ne. get-put-other w i k v ne ∙ a .words k n m ∙ sym (get-put-other u i k v ne));
   }
     where
-      here : (i % 16 ≡ 14 → ⊥) → (i ≡ 15 → ⊥) → getWord (putWord w i v) i ≡ getWord (putWord u i v) i
+      here : (i % 16 ≡ 15 → ⊥) → (i ≡ 2 → ⊥) → getWord (putWord w i v) i ≡ getWord (putWord u i v) i
       here n m =
           ⊎-elim
           (λ l. let l′ : length u / 4 ≤ i = subst (λ (x : ℕ). x / 4 ≤ i) (a .long) l in ap (λ (x : List ℕ). getWord x i) (put-out w i v l) ∙ a .words i n m ∙ ap (λ (x : List ℕ). getWord x i) (sym (put-out u i v l′)))
           (λ l. let l′ : i < length u / 4 = subst (λ (x : ℕ). i < x / 4) (a .long) l in get-put-same w i v l ∙ sym (get-put-same u i v l′))
           (le-or-lt (length w / 4) i)
 
-  agree-more : (i : ℕ) → (i % 16 ≡ 14 → ⊥) → (i ≡ 15 → ⊥) → Agree (withMore w i) (withMore u i)
+  agree-more : (i : ℕ) → (i % 16 ≡ 15 → ⊥) → (i ≡ 2 → ⊥) → Agree (withMore w i) (withMore u i)
   unfolding withMore
   agree-more i n m =
       subst (λ (x : ℕ). Agree (elim (ltb x 4294967295) as (λ (b : Bool). List ℕ) [ true ↦ putWord w i (x + 1) | false ↦ w ]) (withMore u i)) (sym (a .words i n m)) (by (ltb (getWord u i) 4294967295))
@@ -64,14 +64,14 @@ module _ (w u : List ℕ) (a : Agree w u) where
 
 -- ---- no word of a name is one of the memory's
 module _ (types h : ℕ) where
-  class-apart : (classP types h % 16 ≡ 14 → ⊥) × (classP types h ≡ 15 → ⊥)
+  class-apart : (classP types h % 16 ≡ 15 → ⊥) × (classP types h ≡ 2 → ⊥)
   class-apart =
       ⊎-elim
       (λ l. let e : classP types h ≡ types * 16 + (h - types) * 8 + 1 = sym (place-enum types 5 1 h l) in (λ q. omega (arith, e, q), λ q. omega (arith, e, q)))
       (λ l. let e : classP types h ≡ h * 16 + 5 = sym (place-type types 5 1 h l) in (λ q. omega (arith, e, q), λ q. omega (arith, e, q)))
       (le-or-lt types h)
 
-  count-apart : (countP types h % 16 ≡ 14 → ⊥) × (countP types h ≡ 15 → ⊥)
+  count-apart : (countP types h % 16 ≡ 15 → ⊥) × (countP types h ≡ 2 → ⊥)
   count-apart =
       ⊎-elim
       (λ l. let e : countP types h ≡ types * 16 + (h - types) * 8 + 2 = sym (place-enum types 6 2 h l) in (λ q. omega (arith, e, q), λ q. omega (arith, e, q)))
@@ -81,14 +81,14 @@ module _ (types h : ℕ) where
 -- ---- what the memory reads
 pub record Memory (w₂ w : List ℕ) : Type 0 where
   pub long : length w₂ ≡ length w
-  pub fourteen : (j : ℕ) → getField w₂ j 14 ≡ getField w j 14
-  pub fifteen : getField w₂ 0 15 ≡ getField w 0 15
+  pub fourteen : (j : ℕ) → getField w₂ j 15 ≡ getField w j 15
+  pub fifteen : getField w₂ 0 2 ≡ getField w 0 2
 
-memory-put : (w : List ℕ) (i v : ℕ) → (i % 16 ≡ 14 → ⊥) → (i ≡ 15 → ⊥) → Memory (putWord w i v) w
+memory-put : (w : List ℕ) (i v : ℕ) → (i % 16 ≡ 15 → ⊥) → (i ≡ 2 → ⊥) → Memory (putWord w i v) w
 memory-put w i v n m = record {
   long = put-length w i v;
-  fourteen = λ j. get-put-other w i (j * 16 + 14) v (λ e. n (omega (arith, e)));
-  fifteen = get-put-other w i (0 * 16 + 15) v (λ e. m (sym e));
+  fourteen = λ j. get-put-other w i (j * 16 + 15) v (λ e. n (omega (arith, e)));
+  fifteen = get-put-other w i (0 * 16 + 2) v (λ e. m (sym e));
 }
 
 memory-same : (w : List ℕ) → Memory w w
@@ -97,7 +97,7 @@ memory-same w = record { long = refl; fourteen = λ j. refl; fifteen = refl }
 memory-then : (a b c : List ℕ) → Memory a b → Memory b c → Memory a c
 memory-then a b c h k = record { long = h .long ∙ k .long; fourteen = λ j. h .fourteen j ∙ k .fourteen j; fifteen = h .fifteen ∙ k .fifteen }
 
-memory-more : (w : List ℕ) (i : ℕ) → (i % 16 ≡ 14 → ⊥) → (i ≡ 15 → ⊥) → Memory (withMore w i) w
+memory-more : (w : List ℕ) (i : ℕ) → (i % 16 ≡ 15 → ⊥) → (i ≡ 2 → ⊥) → Memory (withMore w i) w
 unfolding withMore
 memory-more w i n m = by (ltb (getWord w i) 4294967295)
   where
@@ -126,14 +126,14 @@ module _ (types : ℕ) (w : List ℕ) (h : ℕ) where
         let c = count-apart types (getWord u (classP types h)) in
         subst (λ (x : ℕ). Agree (withMore w (countP types x)) (withMore u (countP types (getWord u (classP types h))))) (sym class-same) (agree-more w u a (countP types (getWord u (classP types h))) (c .0) (c .1))
 
-remembered-other : (types id v n : ℕ) (w : List ℕ) (i : ℕ) → (i % 16 ≡ 14 → ⊥) → (i ≡ 15 → ⊥) → getWord (remembered types id v n w) i ≡ getWord w i
+remembered-other : (types id v n : ℕ) (w : List ℕ) (i : ℕ) → (i % 16 ≡ 15 → ⊥) → (i ≡ 2 → ⊥) → getWord (remembered types id v n w) i ≡ getWord w i
 unfolding remembered visited
 remembered-other types id v n w i n14 n15 = by (eqb v 0) (leb types id)
   where
-    by : (p q : Bool) → getWord (elim p as (λ (x : Bool). List ℕ) [ true ↦ w | false ↦ elim q as (λ (x : Bool). List ℕ) [ true ↦ w | false ↦ putField (visited n w) id 14 v ] ]) i ≡ getWord w i
+    by : (p q : Bool) → getWord (elim p as (λ (x : Bool). List ℕ) [ true ↦ w | false ↦ elim q as (λ (x : Bool). List ℕ) [ true ↦ w | false ↦ putField (visited n w) id 15 v ] ]) i ≡ getWord w i
     by true q = refl
     by false true = refl
-    by false false = get-put-other (visited n w) (id * 16 + 14) i v (λ e. n14 (omega (arith, e))) ∙ get-put-other w (0 * 16 + 15) i _ (λ e. n15 e)
+    by false false = get-put-other (visited n w) (id * 16 + 15) i v (λ e. n14 (omega (arith, e))) ∙ get-put-other w (0 * 16 + 2) i _ (λ e. n15 e)
 
 -- ---- names and memory in one work
 module _ (b : Btf) (B : Rules) (small : B .ptr-sz ≤ 15) (wf : WF (tableOf B)) (ends : (id : ℕ) → B .type-cnt ≤ id → B .type-by-id id ≡ Void) (few : B .type-cnt + membersTo B (B .type-cnt) < 4294967296) where
@@ -146,7 +146,7 @@ module _ (b : Btf) (B : Rules) (small : B .ptr-sz ≤ 15) (wf : WF (tableOf B)) 
   abbrev Took : List ℕ → Type 0
   Took w = Counted types B small (wf .below) few w
 
-  -- the plain way's work has the same words, but for the memory; which is right, with its visits in word 15 of void
+  -- the plain way's work has the same words, but for the memory; which is right, with its visits in word 2 of void
   abbrev pub InWork : List ℕ → List ℕ → Type 0
   InWork w u = Agree w u × Right K B w × Took w
 
@@ -214,7 +214,7 @@ module _ (b : Btf) (B : Rules) (small : B .ptr-sz ≤ 15) (wf : WF (tableOf B)) 
   unfolding workKeep
   agree-remember w u a id s = record { long = remembered-length types id (coded s) (memberCount (B .type-by-id id)) w ∙ a .long; words = λ i n m. other-word i n m ∙ a .words i n m }
     where
-      other-word : (i : ℕ) → (i % 16 ≡ 14 → ⊥) → (i ≡ 15 → ⊥) → getWord (remembered types id (coded s) (memberCount (B .type-by-id id)) w) i ≡ getWord w i
+      other-word : (i : ℕ) → (i % 16 ≡ 15 → ⊥) → (i ≡ 2 → ⊥) → getWord (remembered types id (coded s) (memberCount (B .type-by-id id)) w) i ≡ getWord w i
       other-word i n m = remembered-other types id (coded s) (memberCount (B .type-by-id id)) w i n m
 
   abbrev Good : List ℕ → List ℕ → Type 0
@@ -229,7 +229,7 @@ module _ (b : Btf) (B : Rules) (small : B .ptr-sz ≤ 15) (wf : WF (tableOf B)) 
   }
 
   abbrev Also : List ℕ → Type 0
-  Also w = getField w 0 15 ≡ paidTo B (K .recall w) types
+  Also w = getField w 0 2 ≡ paidTo B (K .recall w) types
 
   keeps : (u : List ℕ) (left id : ℕ) → left ≤ 512 → (m : List ℕ) (k : ℕ) → id < types → Right K B m → Good u m → Also m → After Also (alignOnce K left B id m k)
   keeps u left id c m k l r g a = by (alignOnce K left B id m k) (align-holds types B small (wf .below) few left id c m k l r (g .0, a))
@@ -243,16 +243,16 @@ module _ (b : Btf) (B : Rules) (small : B .ptr-sz ≤ 15) (wf : WF (tableOf B)) 
   fair-kept u x (found a m k) f = (f .0, (f .1 .good .1, f .1 .right, (f .1 .good .0, f .1 .also)))
   fair-kept u x (refused c m k) f = f
 
-  honest : (w u : List ℕ) → InWork w u → Honest K B types (Good u) FitsWord (law u) (tells-fits B small) (wf .below) Also (keeps u) w (getField w 0 15)
+  honest : (w u : List ℕ) → InWork w u → Honest K B types (Good u) FitsWord (law u) (tells-fits B small) (wf .below) Also (keeps u) w (getField w 0 2)
   honest w u p = record { right = p .1; good = (p .2 .0, p .0); visits = p .2 .1; also = p .2 .1 }
 
   work-sound : Sound (workAsks types B) (workNaming b) (workNaming b) B wf ends InWork
   work-sound = record {
     named = work-named;
     bodies = λ id s name sz ms e l w u p.
-        fair-kept u (bodyPacked B s sz ms) (bodyOnce K B s id sz ms w (getField w 0 15)) (fair-body K B types (Good u) FitsWord (law u) (tells-fits B small) (wf .below) Also (keeps u) id l s name sz ms e w (getField w 0 15) (honest w u p));
+        fair-kept u (bodyPacked B s sz ms) (bodyOnce K B s id sz ms w (getField w 0 2)) (fair-body K B types (Good u) FitsWord (law u) (tells-fits B small) (wf .below) Also (keeps u) id l s name sz ms e w (getField w 0 2) (honest w u p));
     pads = λ offset x packed l w u p.
-        fair-kept u (bitPadding B offset x packed) (paddingOnce K B offset x packed w (getField w 0 15)) (fair-padding K B types (Good u) FitsWord (law u) (tells-fits B small) (wf .below) Also (keeps u) offset x packed l w (getField w 0 15) (honest w u p));
+        fair-kept u (bitPadding B offset x packed) (paddingOnce K B offset x packed w (getField w 0 2)) (fair-padding K B types (Good u) FitsWord (law u) (tells-fits B small) (wf .below) Also (keeps u) offset x packed l w (getField w 0 2) (honest w u p));
   }
 
   -- from a work in which nothing is remembered
@@ -261,8 +261,8 @@ module _ (b : Btf) (B : Rules) (small : B .ptr-sz ≤ 15) (wf : WF (tableOf B)) 
     pub work-session : dumpedOnce (workAsks types B) (workNaming b) B [] rs (openedBy (workNaming b) B w) ≡ dumped (workNaming b) B [] rs (openedBy (workNaming b) B w)
     work-session = same-session (workAsks types B) (workNaming b) (workNaming b) B wf ends InWork work-sound w w p rs
 
-    -- "at most types plus members", in word 15 of void
-    pub work-visits : getField (afterOnce (workAsks types B) (workNaming b) B rs (openedBy (workNaming b) B w) .mach .known .names) 0 15 ≤ types + membersTo B types
+    -- "at most types plus members", in word 2 of void
+    pub work-visits : getField (afterOnce (workAsks types B) (workNaming b) B rs (openedBy (workNaming b) B w) .mach .known .names) 0 2 ≤ types + membersTo B types
     work-visits =
         let q = session-pair (workAsks types B) (workNaming b) (workNaming b) B wf ends InWork work-sound w w p rs .1 .2 .1 in
         subst (λ (x : ℕ). x ≤ types + membersTo B types) (sym q) (paid-most B (K .recall (afterOnce (workAsks types B) (workNaming b) B rs (openedBy (workNaming b) B w) .mach .known .names)) types)
