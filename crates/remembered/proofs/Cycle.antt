@@ -31,20 +31,20 @@ use Rattle.remembered.specs.Words.{seenWord, decoded, coded, counted, re
 use Rattle.remembered.proofs.Laws.{taken-over, taken-fits}
 use Rattle.remembered.proofs.Turns.{members-ids, next, then-next, forget-ids, forget-align, Held, held-forget, ids-held, align-held}
 
--- ---- the table does not read words 14 and 15
+-- ---- the table does not read words 2 and 15
 module _ (b : Btf) (s : List ℕ) where
   table-counted : (n : ℕ) (w : List ℕ) → btfOf b s (counted n w) ≡ btfOf b s w
   unfolding counted
-  table-counted n w = table-field w 0 15 _ (omega arith) b s (λ e. omega arith) (λ e. omega arith) (λ e. omega arith)
+  table-counted n w = table-field w 0 2 _ (omega arith) b s (λ e. omega arith) (λ e. omega arith) (λ e. omega arith)
 
   table-remembered : (types id v n : ℕ) (w : List ℕ) → btfOf b s (remembered types id v n w) ≡ btfOf b s w
   unfolding remembered
   table-remembered types id v n w = by (eqb v 0) (leb types id)
     where
-      by : (p q : Bool) → btfOf b s (elim p as (λ (x : Bool). List ℕ) [ true ↦ w | false ↦ elim q as (λ (x : Bool). List ℕ) [ true ↦ w | false ↦ putField (counted n w) id 14 v ] ]) ≡ btfOf b s w
+      by : (p q : Bool) → btfOf b s (elim p as (λ (x : Bool). List ℕ) [ true ↦ w | false ↦ elim q as (λ (x : Bool). List ℕ) [ true ↦ w | false ↦ putField (counted n w) id 15 v ] ]) ≡ btfOf b s w
       by true q = refl
       by false true = refl
-      by false false = table-field (counted n w) id 14 v (omega arith) b s (λ e. omega arith) (λ e. omega arith) (λ e. omega arith) ∙ table-counted n w
+      by false false = table-field (counted n w) id 15 v (omega arith) b s (λ e. omega arith) (λ e. omega arith) (λ e. omega arith) ∙ table-counted n w
 
   pub table-keeps : (types : ℕ) (B : Rules) (id : ℕ) (x : Seen) (w : List ℕ) → btfOf b s (workKeep types B .remember id x w) ≡ btfOf b s w
   unfolding workKeep

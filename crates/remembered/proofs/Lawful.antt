@@ -48,28 +48,28 @@ module _ (s : Seen) where
       (le-or-lt (s .align) 15)
 
 module _ (n id : ℕ) (w : List ℕ) where
-  counted-field : getField (counted n w) id 14 ≡ getField w id 14
+  counted-field : getField (counted n w) id 15 ≡ getField w id 15
   unfolding counted
-  counted-field = field-other w 0 15 _ id 14 (omega arith) (omega arith) (λ e. omega arith)
+  counted-field = field-other w 0 2 _ id 15 (omega arith) (omega arith) (λ e. omega arith)
 
   counted-length : length (counted n w) ≡ length w
   unfolding counted
-  counted-length = put-length w (0 * 16 + 15) _
+  counted-length = put-length w (0 * 16 + 2) _
 
 pub remembered-length : (types id v n : ℕ) (w : List ℕ) → length (remembered types id v n w) ≡ length w
 unfolding remembered
 remembered-length types id v n w = by (eqb v 0) (leb types id)
   where
-    by : (p q : Bool) → length {A = ℕ} (elim p as (λ (x : Bool). List ℕ) [ true ↦ w | false ↦ elim q as (λ (x : Bool). List ℕ) [ true ↦ w | false ↦ putField (counted n w) id 14 v ] ]) ≡ length w
+    by : (p q : Bool) → length {A = ℕ} (elim p as (λ (x : Bool). List ℕ) [ true ↦ w | false ↦ elim q as (λ (x : Bool). List ℕ) [ true ↦ w | false ↦ putField (counted n w) id 15 v ] ]) ≡ length w
     by true q = refl
     by false true = refl
-    by false false = put-length (counted n w) (id * 16 + 14) v ∙ counted-length n id w
+    by false false = put-length (counted n w) (id * 16 + 15) v ∙ counted-length n id w
 
 module _ (types : ℕ) (B : Rules) where
   abbrev K : Keep (List ℕ)
   K = workKeep types B
 
-  seen-is : (w : List ℕ) (id : ℕ) → id < types → seenWord types w id ≡ getField w id 14
+  seen-is : (w : List ℕ) (id : ℕ) → id < types → seenWord types w id ≡ getField w id 15
   unfolding seenWord
   seen-is w id l = rw (lt-ltb id types l, seenWord)
 
@@ -80,13 +80,13 @@ module _ (types : ℕ) (B : Rules) where
     abbrev u : List ℕ
     u = remembered types id (coded s) n w
 
-    u-is : (coded s ≡ 0 → ⊥) → id < types → u ≡ putField (counted n w) id 14 (coded s)
-    u-is nz l = sym (remember-here types id (coded s) n w nz l (counted n w) (putField (counted n w) id 14 (coded s)) refl refl)
+    u-is : (coded s ≡ 0 → ⊥) → id < types → u ≡ putField (counted n w) id 15 (coded s)
+    u-is nz l = sym (remember-here types id (coded s) n w nz l (counted n w) (putField (counted n w) id 15 (coded s)) refl refl)
 
-    in-room : (coded s ≡ 0 → ⊥) → id < types → id * 16 + 14 < length w / 4 → decoded (seenWord types u id) ≡ known s
+    in-room : (coded s ≡ 0 → ⊥) → id < types → id * 16 + 15 < length w / 4 → decoded (seenWord types u id) ≡ known s
     in-room nz l r =
-        let q : id * 16 + 14 < length (counted n w) / 4 = subst (λ (x : ℕ). id * 16 + 14 < x / 4) (sym (counted-length n id w)) r in
-        ap decoded (seen-is u id l ∙ ap (λ (x : List ℕ). getField x id 14) (u-is nz l) ∙ get-put-same (counted n w) (id * 16 + 14) (coded s) q) ∙ decoded-back s nz
+        let q : id * 16 + 15 < length (counted n w) / 4 = subst (λ (x : ℕ). id * 16 + 15 < x / 4) (sym (counted-length n id w)) r in
+        ap decoded (seen-is u id l ∙ ap (λ (x : List ℕ). getField x id 15) (u-is nz l) ∙ get-put-same (counted n w) (id * 16 + 15) (coded s) q) ∙ decoded-back s nz
 
     work-kept : (decoded (seenWord types u id) ≡ known s) ⊎ (decoded (seenWord types u id) ≡ decoded (seenWord types w id))
     work-kept =
@@ -96,20 +96,20 @@ module _ (types : ℕ) (B : Rules) where
         (λ l. inr (ap (λ (x : List ℕ). decoded (seenWord types x id)) (sym (remember-past types id (coded s) n w nz l))))
         (λ l. ⊎-elim
         (λ r. inr (
-        let q : length (counted n w) / 4 ≤ id * 16 + 14 = subst (λ (x : ℕ). x / 4 ≤ id * 16 + 14) (sym (counted-length n id w)) r in
-        ap decoded (seen-is u id l ∙ ap (λ (x : List ℕ). getField x id 14) (u-is nz l ∙ put-out (counted n w) (id * 16 + 14) (coded s) q) ∙ counted-field n id w ∙ sym (seen-is w id l))))
+        let q : length (counted n w) / 4 ≤ id * 16 + 15 = subst (λ (x : ℕ). x / 4 ≤ id * 16 + 15) (sym (counted-length n id w)) r in
+        ap decoded (seen-is u id l ∙ ap (λ (x : List ℕ). getField x id 15) (u-is nz l ∙ put-out (counted n w) (id * 16 + 15) (coded s) q) ∙ counted-field n id w ∙ sym (seen-is w id l))))
         (λ r. inl (in-room nz l r))
-        (le-or-lt (length w / 4) (id * 16 + 14)))
+        (le-or-lt (length w / 4) (id * 16 + 15)))
         (le-or-lt types id))
 
     work-other : (d : ℕ) → (d ≡ id → ⊥) → seenWord types u d ≡ seenWord types w d
     unfolding seenWord remembered
     work-other d ne = ap (λ (x : ℕ). elim (ltb d types) as (λ (b : Bool). ℕ) [ true ↦ x | false ↦ 0 ]) (by (eqb (coded s) 0) (leb types id))
       where
-        by : (p q : Bool) → getField (elim p as (λ (x : Bool). List ℕ) [ true ↦ w | false ↦ elim q as (λ (x : Bool). List ℕ) [ true ↦ w | false ↦ putField (counted n w) id 14 (coded s) ] ]) d 14 ≡ getField w d 14
+        by : (p q : Bool) → getField (elim p as (λ (x : Bool). List ℕ) [ true ↦ w | false ↦ elim q as (λ (x : Bool). List ℕ) [ true ↦ w | false ↦ putField (counted n w) id 15 (coded s) ] ]) d 15 ≡ getField w d 15
         by true q = refl
         by false true = refl
-        by false false = get-put-other (counted n w) (id * 16 + 14) (d * 16 + 14) (coded s) (λ e. ne (omega arith)) ∙ counted-field n d w
+        by false false = get-put-other (counted n w) (id * 16 + 15) (d * 16 + 15) (coded s) (λ e. ne (omega arith)) ∙ counted-field n d w
 
     work-same : FitsWord s → Roomy types w → id < types → decoded (seenWord types u id) ≡ known s
     work-same f g l = in-room (λ z. omega (arith, coded-is s f, f .1)) l (omega arith)

@@ -24,7 +24,7 @@ use Rattle.remembered.specs.Words.{seenWord, coded, counted, remembered,
 
 -- ---- words
 module _ (types : ℕ) (w : List ℕ) (id : ℕ) where
-  pub seen-in : (r : ℕ) → id < types → r ≡ getField w id 14 → r ≡ seenWord types w id
+  pub seen-in : (r : ℕ) → id < types → r ≡ getField w id 15 → r ≡ seenWord types w id
   unfolding seenWord
   seen-in r l e = rw (lt-ltb id types l, seenWord) e
 
@@ -45,18 +45,18 @@ module _ (s : Seen) where
   unfolding coded
   coded-fits h l = rw (le-ltb 15 (s .align) h, coded, le-ltb 268435454 (s .height) l)
 
-module _ (w : List ℕ) (n g : ℕ) (e : g ≡ getField w 0 15) where
-  pub count-fits : (u : List ℕ) → g + n + 1 < 4294967296 → u ≡ putField w 0 15 (g + n + 1) → u ≡ counted n w
+module _ (w : List ℕ) (n g : ℕ) (e : g ≡ getField w 0 2) where
+  pub count-fits : (u : List ℕ) → g + n + 1 < 4294967296 → u ≡ putField w 0 2 (g + n + 1) → u ≡ counted n w
   unfolding counted smaller
   count-fits u l q =
-      let f : leb (getField w 0 15 + n + 1) 4294967295 ≡ true = le-leb (getField w 0 15 + n + 1) 4294967295 (subst (λ (x : ℕ). x + n + 1 ≤ 4294967295) e (omega arith)) in
-      q ∙ ap (λ (x : ℕ). putField w 0 15 (x + n + 1)) e ∙ ap (putField w 0 15) (rw (f, smaller))
+      let f : leb (getField w 0 2 + n + 1) 4294967295 ≡ true = le-leb (getField w 0 2 + n + 1) 4294967295 (subst (λ (x : ℕ). x + n + 1 ≤ 4294967295) e (omega arith)) in
+      q ∙ ap (λ (x : ℕ). putField w 0 2 (x + n + 1)) e ∙ ap (putField w 0 2) (rw (f, smaller))
 
-  pub count-over : (u : List ℕ) → 4294967296 ≤ g + n + 1 → u ≡ putField w 0 15 4294967295 → u ≡ counted n w
+  pub count-over : (u : List ℕ) → 4294967296 ≤ g + n + 1 → u ≡ putField w 0 2 4294967295 → u ≡ counted n w
   unfolding counted smaller
   count-over u l q =
-      let f : leb (getField w 0 15 + n + 1) 4294967295 ≡ false = lt-leb (getField w 0 15 + n + 1) 4294967295 (subst (λ (x : ℕ). 4294967295 < x + n + 1) e (omega arith)) in
-      q ∙ ap (putField w 0 15) (rw (f, smaller))
+      let f : leb (getField w 0 2 + n + 1) 4294967295 ≡ false = lt-leb (getField w 0 2 + n + 1) 4294967295 (subst (λ (x : ℕ). 4294967295 < x + n + 1) e (omega arith)) in
+      q ∙ ap (putField w 0 2) (rw (f, smaller))
 
 module _ (types id v n : ℕ) (w : List ℕ) where
   pub remember-none : v ≡ 0 → w ≡ remembered types id v n w
@@ -68,9 +68,9 @@ module _ (types id v n : ℕ) (w : List ℕ) where
     unfolding remembered
     remember-past l = rw (ne-eqb v 0 nv, remembered, le-leb types id l)
 
-    pub remember-here : id < types → (w₁ w₂ : List ℕ) → w₁ ≡ counted n w → w₂ ≡ putField w₁ id 14 v → w₂ ≡ remembered types id v n w
+    pub remember-here : id < types → (w₁ w₂ : List ℕ) → w₁ ≡ counted n w → w₂ ≡ putField w₁ id 15 v → w₂ ≡ remembered types id v n w
     unfolding remembered
-    remember-here l w₁ w₂ e₁ e₂ = rw (ne-eqb v 0 nv, remembered, lt-leb types id l) (e₂ ∙ ap (λ (u : List ℕ). putField u id 14 v) e₁)
+    remember-here l w₁ w₂ e₁ e₂ = rw (ne-eqb v 0 nv, remembered, lt-leb types id l) (e₂ ∙ ap (λ (u : List ℕ). putField u id 15 v) e₁)
 
 module _ (v left : ℕ) where
   pub taken-over : left < v / 16 → No 12 ≡ takenBy v left

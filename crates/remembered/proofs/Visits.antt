@@ -1,4 +1,4 @@
--- Of a work whose memory is right: align_once answers what get_align_of answers, and word 15 of void counts the visits, at most types plus members. Assumes
+-- Of a work whose memory is right: align_once answers what get_align_of answers, and word 2 of void counts the visits, at most types plus members. Assumes
 -- nothing.
 use Prim.Native.Nat.{ℕ, zero, suc, _+_, _*_, _/_, _<_, _≤_}
 use native.Mathlib.Omega.{arith}
@@ -50,7 +50,7 @@ module _ (types : ℕ) (B : Rules) (small : B .ptr-sz ≤ 15) (below : (x y : �
 
   -- room for the words, and the visits that the memory took
   abbrev pub Counted : List ℕ → Type 0
-  Counted w = Roomy types w × (getField w 0 15 ≡ paid w)
+  Counted w = Roomy types w × (getField w 0 2 ≡ paid w)
 
   abbrev pub Holds : Once (List ℕ) Seen → Type 0
   Holds (found s m k) = Counted m
@@ -61,16 +61,16 @@ module _ (types : ℕ) (B : Rules) (small : B .ptr-sz ≤ 15) (below : (x y : �
     more-paid : paid (K .remember id s w) ≡ paid w + suc (memberCount (B .type-by-id id))
     more-paid = paid-more B (K .recall w) (K .recall (K .remember id s w)) id (work-lawful types B .other id s w) s u (work-lawful types B .same id s w f (h .0) l) types l
 
-    more-counted : getField (K .remember id s w) 0 15 ≡ getField w 0 15 + memberCount (B .type-by-id id) + 1
+    more-counted : getField (K .remember id s w) 0 2 ≡ getField w 0 2 + memberCount (B .type-by-id id) + 1
     unfolding workKeep counted smaller
     more-counted =
         let nz : coded s ≡ 0 → ⊥ = λ z. omega (arith, coded-is s f, f .1) in
-        let b : getField w 0 15 + memberCount (B .type-by-id id) + 1 ≤ 4294967295 = omega (arith, h .1, more-paid, paid-most B (K .recall (K .remember id s w)) types, few) in
-        let q : 0 * 16 + 15 < length w / 4 = omega (arith, h .0, l) in
-        ap (λ (x : List ℕ). getField x 0 15) (sym (remember-here types id (coded s) (memberCount (B .type-by-id id)) w nz l (counted (memberCount (B .type-by-id id)) w) (putField (counted (memberCount (B .type-by-id id)) w) id 14 (coded s)) refl refl))
-        ∙ field-other (counted (memberCount (B .type-by-id id)) w) id 14 (coded s) 0 15 (omega arith) (omega arith) (λ e. omega arith)
-        ∙ get-put-same w (0 * 16 + 15) _ q
-        ∙ (let e : leb (getField w 0 15 + memberCount (B .type-by-id id) + 1) 4294967295 ≡ true = le-leb _ _ b in rw (e, smaller))
+        let b : getField w 0 2 + memberCount (B .type-by-id id) + 1 ≤ 4294967295 = omega (arith, h .1, more-paid, paid-most B (K .recall (K .remember id s w)) types, few) in
+        let q : 0 * 16 + 2 < length w / 4 = omega (arith, h .0, l) in
+        ap (λ (x : List ℕ). getField x 0 2) (sym (remember-here types id (coded s) (memberCount (B .type-by-id id)) w nz l (counted (memberCount (B .type-by-id id)) w) (putField (counted (memberCount (B .type-by-id id)) w) id 15 (coded s)) refl refl))
+        ∙ field-other (counted (memberCount (B .type-by-id id)) w) id 15 (coded s) 0 2 (omega arith) (omega arith) (λ e. omega arith)
+        ∙ get-put-same w (0 * 16 + 2) _ q
+        ∙ (let e : leb (getField w 0 2 + memberCount (B .type-by-id id) + 1) 4294967295 ≡ true = le-leb _ _ b in rw (e, smaller))
 
     more : Counted (K .remember id s w)
     more = (work-lawful types B .good id s w (h .0), omega (arith, more-counted, more-paid, h .1))
@@ -160,5 +160,5 @@ module _ (types : ℕ) (B : Rules) (small : B .ptr-sz ≤ 15) (below : (x y : �
     counted-after = subst Counted (sym memory-is) (holds-memory X (align-holds left id b w 0 l right g))
 
     -- "at most types plus members"
-    pub few-visits : getField u 0 15 ≤ types + membersTo B types
+    pub few-visits : getField u 0 2 ≤ types + membersTo B types
     few-visits = subst (λ (n : ℕ). n ≤ types + membersTo B types) (sym (counted-after .1)) (paid-most B (K .recall u) types)

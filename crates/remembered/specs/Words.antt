@@ -1,5 +1,5 @@
--- What is remembered of alignments, as words of the work: word 14 of a type is 0, or 16 times the height of the calls of get_align_of and the alignment;
--- word 15 of void counts the visits.
+-- What is remembered of alignments, as words of the work: word 15 of a type is 0, or 16 times the height of the calls of get_align_of and the alignment;
+-- word 2 of void counts the visits.
 use Prim.Native.Nat.{ℕ, suc, _+_, _*_, _/_, _%_}
 use mathlib.Core.Bool.{true, false}
 use mathlib.Core.List.{List, [], _∷_}
@@ -21,7 +21,7 @@ use Rattle.remembered.specs.declared.Step.the-variants.{Own, Through, Me
 
 -- ---- the words
 unfoldable pub seenWord : ℕ → List ℕ → ℕ → ℕ
-seenWord types w id = elim (ltb id types) [ true ↦ getField w id 14 | false ↦ 0 ]
+seenWord types w id = elim (ltb id types) [ true ↦ getField w id 15 | false ↦ 0 ]
 
 unfoldable pub decoded : ℕ → Known
 decoded v = elim (eqb v 0) [ true ↦ unknown | false ↦ known (record { align = v % 16; height = v / 16 }) ]
@@ -32,13 +32,13 @@ coded s = elim (ltb 15 (s .align)) [ true ↦ 0 | false ↦ elim (ltb 268435454 
 
 -- the visits of a type with so many members; the largest number stays
 unfoldable pub counted : ℕ → List ℕ → List ℕ
-counted members w = putField w 0 15 (smaller (getField w 0 15 + members + 1) 4294967295)
+counted members w = putField w 0 2 (smaller (getField w 0 2 + members + 1) 4294967295)
 
 unfoldable pub remembered : ℕ → ℕ → ℕ → ℕ → List ℕ → List ℕ
 remembered types id v members w =
     elim (eqb v 0) [
       | true ↦ w
-      | false ↦ elim (leb types id) [ true ↦ w | false ↦ putField (counted members w) id 14 v ]
+      | false ↦ elim (leb types id) [ true ↦ w | false ↦ putField (counted members w) id 15 v ]
     ]
 
 -- a memory in the work, beside the names

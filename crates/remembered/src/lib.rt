@@ -1,5 +1,5 @@
-// Alignments that are remembered in the work. Word 14 of a type is 0, or 16 times the height of the calls of get_align_of and the
-// alignment; word 15 of void counts the visits.
+// Alignments that are remembered in the work. Word 15 of a type is 0, or 16 times the height of the calls of get_align_of and the
+// alignment; word 2 of void counts the visits.
 use btf::Btf;
 use btf::BtfType;
 use btf::Entries;
@@ -43,7 +43,7 @@ fn seen_word(b: Btf, work: &[u8], id: u32) -> u32
     ensures { λ r. ⌜ r ≡ seenWord (b .types) (now (work .entry)) id ⌝ }
 {
     if id < b.types {
-        return get_field(work, id, 14);
+        return get_field(work, id, 15);
     }
     0
 }
@@ -67,11 +67,11 @@ fn coded(s: Seen) -> u32
 fn count_visits(work: &mut [u8], members: u32)
     ensures { λ _. ⌜ now (work .exit) ≡ counted members (now (work .entry)) ⌝ }
 {
-    let sum = (get_field(work, 0, 15) as u64) + (members as u64) + 1;
+    let sum = (get_field(work, 0, 2) as u64) + (members as u64) + 1;
     if sum < 4294967296 {
-        put_field(work, 0, 15, sum as u32);
+        put_field(work, 0, 2, sum as u32);
     } else {
-        put_field(work, 0, 15, 4294967295);
+        put_field(work, 0, 2, 4294967295);
     }
 }
 
@@ -85,7 +85,7 @@ fn remember(b: Btf, work: &mut [u8], id: u32, v: u32, members: u32)
         return;
     }
     count_visits(work, members);
-    put_field(work, id, 14, v);
+    put_field(work, id, 15, v);
 }
 
 // A remembered alignment; 12 where the plain way would have more calls open than are left.

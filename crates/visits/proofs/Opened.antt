@@ -5,14 +5,14 @@ use mathlib.Core.Path.{_≡_, refl, ap, _∙_, sym}
 use mathlib.Core.List.{List, []}
 use Rattle.rules.specs.Types.{Void, Btf as Rules}
 use Rattle.rules.specs.Machine.{Req}
-use Rattle.rules.specs.Names.{naming}
+use Rattle.rules.specs.Names.{Naming, Names}
 use Rattle.btf.specs.declared.types.Btf.{Btf}
 use Rattle.btf.specs.Records.{voidRecord, recordById}
 use Rattle.btf.specs.Table.{btfOf, typeOf}
 use Rattle.btf.proofs.Laws.{void-past, void-zero}
 use Rattle.opened.specs.Causes.{openingNumber}
-use Rattle.demand.specs.Session.{noNames, openedBy, dumpTypes}
-use Rattle.claims.specs.Table.{openedTable}
+use Rattle.demand.specs.Session.{noNames, openedBy, dumped}
+use Rattle.claims.specs.Table.{openedTable, namesIn, openedIn}
 use Rattle.claims.proofs.Claims.{opening-gives}
 use Rattle.alignments.specs.Once.{tableKeep, blank, membersTo}
 use Rattle.alignments.specs.Writers.{afterOnce, dumpedOnce, minded, mindedAsks, noVisits}
@@ -36,10 +36,13 @@ module _ (pointer modes : ℕ) (s : List ℕ) (n : ℕ) (ok : openingNumber poin
   abbrev B : Rules
   B = openedTable pointer modes s n
 
-  -- the numbers, lengths and text of the rules, for every list of requests
-  pub opened-session : dumpedOnce (mindedAsks (tableKeep (B .type-cnt)) B) (minded naming) B [] rs (openedBy (minded naming) B (noVisits (noNames B) blank)) ≡ dumpTypes B rs
-  opened-session = minded-session (tableKeep (B .type-cnt)) naming B Any Each (table-lawful (B .type-cnt)) (λ id t q l. tt) (opening-gives pointer modes s n ok .well-formed) (ends _ s _) (noNames B) blank tt (λ id. refl) rs
+  abbrev N : Naming Names
+  N = namesIn pointer modes s n
+
+  -- the numbers, lengths and text of the rules with the names of the session, for every list of requests
+  pub opened-session : dumpedOnce (mindedAsks (tableKeep (B .type-cnt)) B) (minded N) B [] rs (openedBy (minded N) B (noVisits (noNames B) blank)) ≡ dumped N B [] rs (openedIn pointer modes s n)
+  opened-session = minded-session (tableKeep (B .type-cnt)) N B Any Each (table-lawful (B .type-cnt)) (λ id t q l. tt) (opening-gives pointer modes s n ok .well-formed) (ends _ s _) (noNames B) blank tt (λ id. refl) rs
 
   -- "at most types plus members"
-  pub opened-visits : afterOnce (mindedAsks (tableKeep (B .type-cnt)) B) (minded naming) B rs (openedBy (minded naming) B (noVisits (noNames B) blank)) .mach .known .names .visits ≤ B .type-cnt + membersTo B (B .type-cnt)
-  opened-visits = session-visits (tableKeep (B .type-cnt)) naming B Any Each (table-lawful (B .type-cnt)) (λ id t q l. tt) (opening-gives pointer modes s n ok .well-formed) (ends _ s _) (noNames B) blank tt (λ id. refl) rs
+  pub opened-visits : afterOnce (mindedAsks (tableKeep (B .type-cnt)) B) (minded N) B rs (openedBy (minded N) B (noVisits (noNames B) blank)) .mach .known .names .visits ≤ B .type-cnt + membersTo B (B .type-cnt)
+  opened-visits = session-visits (tableKeep (B .type-cnt)) N B Any Each (table-lawful (B .type-cnt)) (λ id t q l. tt) (opening-gives pointer modes s n ok .well-formed) (ends _ s _) (noNames B) blank tt (λ id. refl) rs

@@ -10,14 +10,14 @@ use Rattle.alignments.specs.Steps.{paddingOnce, bodyOnce}
 use Rattle.alignments.specs.Writers.{Asks}
 use Rattle.remembered.specs.Words.{workKeep}
 
--- what a body asks of the work; the visits so far stand in word 15 of void
+-- what a body asks of the work; the visits so far stand in word 2 of void
 abbrev pub workAsks : ℕ → Rules → Asks (List ℕ)
 workAsks types B = record {
-  padding = λ offset x packed w. paddingOnce (workKeep types B) B offset x packed w (getField w 0 15);
-  body = λ is-struct id sz ms w. bodyOnce (workKeep types B) B is-struct id sz ms w (getField w 0 15);
+  padding = λ offset x packed w. paddingOnce (workKeep types B) B offset x packed w (getField w 0 2);
+  body = λ is-struct id sz ms w. bodyOnce (workKeep types B) B is-struct id sz ms w (getField w 0 2);
 }
 
--- two works with the same words, but for the memory's (14 of each type) and the count of visits (15 of void)
+-- two works with the same words, but for the memory's (15 of each type) and the count of visits (2 of void)
 pub record Agree (w u : List ℕ) : Type 0 where
   pub long : length w ≡ length u
-  pub words : (i : ℕ) → (i % 16 ≡ 14 → ⊥) → (i ≡ 15 → ⊥) → getWord w i ≡ getWord u i
+  pub words : (i : ℕ) → (i % 16 ≡ 15 → ⊥) → (i ≡ 2 → ⊥) → getWord w i ≡ getWord u i
