@@ -12,7 +12,7 @@ use Rattle.records.specs.Reading.{Bytes}
 use Rattle.records.specs.Section.{strLen, stringArea, stringsSound}
 use Rattle.records.proofs.Claims.{section-fields}
 use Rattle.rules.specs.Types.{BtfType, Btf as Rules, tableOf}
-use Rattle.rules.specs.Names.{Names}
+use Rattle.rules.specs.Names.{Names, Naming, naming}
 use Rattle.rules.specs.Order.{Table}
 use Rattle.rules.specs.Machine.{Machine, Sess, Answer, Req, one, single, serve, run}
 use Rattle.btf.specs.declared.types.Btf.{Btf}
@@ -29,7 +29,7 @@ use Rattle.turns.specs.Answers.{numberOf, valueOf}
 use Rattle.turns.specs.Turns.{Call}
 use Rattle.calls.specs.Calls.{openCall, typeCall}
 use Rattle.demand.specs.Lists.{Ls}
-use Rattle.demand.specs.Session.{Known, textOf, machine, opened, dumpTypes}
+use Rattle.demand.specs.Session.{Known, textOf, machineBy, openedBy, machine, noNames, opened, dumpTypes}
 use Rattle.cut.specs.Kept.{voidType, Tells}
 use Rattle.cut.specs.Renumbered.{newId}
 use Rattle.cut.specs.Strings.{allMentions}
@@ -45,14 +45,14 @@ use Rattle.cut.proofs.Sessions.{pieces-text}
 use Rattle.cut.proofs.Test.{kept-tells}
 use Rattle.cut.proofs.Claims as cut-claims
 use Rattle.claims.specs.Table as claims
-use Rattle.claims.specs.Table.{headerOf, openedTable}
+use Rattle.claims.specs.Table.{headerOf, openedTable, namesIn}
 use Rattle.claims.specs.Claims.{Documents}
 use Rattle.claims.specs.Session as told
 use Rattle.claims.specs.Session.{After, after-open, after-one}
 use Rattle.claims.specs.Demands.{Lent, typesIn, ruled, Demand2}
 use Rattle.claims.proofs.Claims.{opened-documents}
 use Rattle.claims.proofs.Demands.{open-number, delivered}
-use Rattle.reopened.specs.Reopened.{SameText, SameAnswer, HasNumber, HasNewNumber, Beside, both-open, both-ask, Reopens}
+use Rattle.reopened.specs.Reopened.{OldNames, SameText, SameAnswer, HasNumber, HasNewNumber, Beside, both-open, both-ask, Reopens}
 use Rattle.reopened.proofs.Accepts as accepts
 use Rattle.reopened.proofs.Strings.{all-below, area-length, name-in-area}
 
@@ -85,13 +85,24 @@ unfolding run
 run-more X T [] r L = refl
 run-more X T (q ∷ rs) r L = run-more X T rs r (serve X T L q)
 
-module _ (p modes : ℕ) (s : List ℕ) (n : ℕ) (ok : openingNumber p s n ≡ 0) (y : Bytes s) (given : List ℕ) (m : ℕ → Bool) (tells : Tells (typesOf s) given m)
+-- "the old naming mode" has the names of the Rust
+old-names : (p modes : ℕ) (s : List ℕ) (n : ℕ) → OldNames modes → namesIn p modes s n ≡ naming
+unfolding namesIn
+old-names p modes s n e = rw (e, namesIn)
+
+module _ (p modes : ℕ) (old : OldNames modes) (s : List ℕ) (n : ℕ) (ok : openingNumber p s n ≡ 0) (y : Bytes s) (given : List ℕ) (m : ℕ → Bool) (tells : Tells (typesOf s) given m)
     (short : length (cutSection m s) ≤ 16777216) (n′ : ℕ) (enough : 4 * (16 * opening.typesOf (cutSection m s) + 8 * enumeratorsOf (cutSection m s) + 4096) ≤ n′) where
   abbrev s′ : List ℕ
   s′ = cutSection m s
 
   ok′ : openingNumber p s′ n′ ≡ 0
   ok′ = accepts.accepted p s n ok y given m tells short n′ enough
+
+  names : namesIn p modes s n ≡ naming
+  names = old-names p modes s n old
+
+  names′ : namesIn p modes s′ n′ ≡ naming
+  names′ = old-names p modes s′ n′ old
 
   abbrev B : Rules
   B = openedTable p modes s n
@@ -105,8 +116,8 @@ module _ (p modes : ℕ) (s : List ℕ) (n : ℕ) (ok : openingNumber p s n ≡ 
   abbrev b′ : Btf
   b′ = headerOf p modes s′
 
-  old : Reads B b s (typesOf s)
-  old = reads p modes s n ok y
+  was : Reads B b s (typesOf s)
+  was = reads p modes s n ok y
 
   new : Reads B′ b′ s′ (newTypes m s)
   new = subst (λ (ts : List Described). Reads B′ b′ s′ ts) (accepts.types-read p s n ok y given m tells short) (reads p modes s′ n′ ok′ (accepts.new-bytes p s n ok y given m tells short))
@@ -143,10 +154,10 @@ module _ (p modes : ℕ) (s : List ℕ) (n : ℕ) (ok : openingNumber p s n ≡ 
   same-placing = refl
 
   abbrev NewNumber : ℕ → ℕ → Type 0
-  NewNumber x x′ = cut-claims.NewNumber given m s s′ b b′ B B′ tells good old new in-area in-new same-pointer same-union same-strong same-placing x x′
+  NewNumber x x′ = cut-claims.NewNumber given m s s′ b b′ B B′ tells good was new in-area in-new same-pointer same-union same-strong same-placing x x′
 
   abbrev Alike : Sess (Ls (Known Names)) → Sess (Ls (Known Names)) → Type 0
-  Alike S S′ = cut-claims.Alike given m s s′ b b′ B B′ tells good old new in-area in-new same-pointer same-union same-strong same-placing S S′
+  Alike S S′ = cut-claims.Alike given m s s′ b b′ B B′ tells good was new in-area in-new same-pointer same-union same-strong same-placing S S′
 
   number : (x : ℕ) → HasNumber p modes s n m n′ x → NewNumber x (newId m x)
   unfolding opening.typesOf
@@ -163,7 +174,14 @@ module _ (p modes : ℕ) (s : List ℕ) (n : ℕ) (ok : openingNumber p s n ≡ 
 
   -- `same-answers` of crate cut, of the tables that the two openings leave
   dumps : {rs rs′ : List Req} → Renumbered (HasNewNumber p modes s n m n′) rs rs′ → dumpTypes B rs ≡ dumpTypes B′ rs′
-  dumps r = cut-claims.same-answers given m s s′ b b′ B B′ tells good old new in-area in-new same-pointer same-union same-strong same-placing (renumbered r)
+  dumps r = cut-claims.same-answers given m s s′ b b′ B B′ tells good was new in-area in-new same-pointer same-union same-strong same-placing (renumbered r)
+
+  -- what the rules come to with the names of the Rust
+  abbrev ran : Rules → List Req → Sess (Ls (Known Names))
+  ran C rs = run (machine C) (tableOf C) rs (opened C)
+
+  abbrev Told : Rules → Call → List Req → List ℕ → List ℕ → ℕ → Naming Names → Type 0
+  Told C c rs q text x N = told.Tells (length text) (typeCall (c .session) q (c .work) text x) (single (machineBy N C) (tableOf C) (length text) (run (machineBy N C) (tableOf C) rs (openedBy N C (noNames C))) x)
 
   -- calls beside each other follow requests after which the rules go alike
   record Follows (c c′ : Call) : Type 0 where
@@ -171,13 +189,13 @@ module _ (p modes : ℕ) (s : List ℕ) (n : ℕ) (ok : openingNumber p s n ≡ 
     rs′ : List Req
     after : After p modes s n c rs
     after′ : After p modes s′ n′ c′ rs′
-    alike : Alike (ruled p modes s n rs) (ruled p modes s′ n′ rs′)
+    alike : Alike (ran B rs) (ran B′ rs′)
 
-  answers : (rs rs′ : List Req) → Alike (ruled p modes s n rs) (ruled p modes s′ n′ rs′) → (room x : ℕ) → HasNumber p modes s n m n′ x
-      → BothAnswer (cut-claims.SameStates given m s s′ b b′ B B′ tells good old new in-area in-new same-pointer same-union same-strong same-placing) NewNumber
-      (single (machine B) (tableOf B) room (ruled p modes s n rs) x) (single (machine B′) (tableOf B′) room (ruled p modes s′ n′ rs′) (newId m x))
+  answers : (rs rs′ : List Req) → Alike (ran B rs) (ran B′ rs′) → (room x : ℕ) → HasNumber p modes s n m n′ x
+      → BothAnswer (cut-claims.SameStates given m s s′ b b′ B B′ tells good was new in-area in-new same-pointer same-union same-strong same-placing) NewNumber
+      (single (machine B) (tableOf B) room (ran B rs) x) (single (machine B′) (tableOf B′) room (ran B′ rs′) (newId m x))
   answers rs rs′ h room x k =
-      cut-claims.request-alike given m s s′ b b′ B B′ tells good old new in-area in-new same-pointer same-union same-strong same-placing (ruled p modes s n rs) (ruled p modes s′ n′ rs′) h room x (newId m x) (number x k)
+      cut-claims.request-alike given m s s′ b b′ B B′ tells good was new in-area in-new same-pointer same-union same-strong same-placing (ran B rs) (ran B′ rs′) h room x (newId m x) (number x k)
 
   follows : {c c′ : Call} → Beside p modes s n m n′ c c′ → Follows c c′
   unfolding run serve
@@ -186,7 +204,7 @@ module _ (p modes : ℕ) (s : List ℕ) (n : ℕ) (ok : openingNumber p s n ≡ 
     rs′ = [];
     after = after-open S work text e (open-number S s work text p modes ∙ ap (openingNumber p s) e ∙ ok);
     after′ = after-open S′ work′ text′ e′ (open-number S′ s′ work′ text′ p modes ∙ ap (openingNumber p s′) e′ ∙ ok′);
-    alike = cut-claims.opened-alike given m s s′ b b′ B B′ tells good old new in-area in-new same-pointer same-union same-strong same-placing;
+    alike = cut-claims.opened-alike given m s s′ b b′ B B′ tells good was new in-area in-new same-pointer same-union same-strong same-placing;
   }
   follows (both-ask c c′ h text text′ e l l′ x k) = next (follows h)
     where
@@ -197,9 +215,9 @@ module _ (p modes : ℕ) (s : List ℕ) (n : ℕ) (ok : openingNumber p s n ≡ 
         after = after-one c (f .rs) (f .after) text (l .long) (l .begins) x;
         after′ = after-one c′ (f .rs′) (f .after′) text′ (l′ .long) (l′ .begins) (newId m x);
         alike =
-            subst (λ (S : Sess (Ls (Known Names))). Alike S (ruled p modes s′ n′ (f .rs′ ++ (one (length text′) (newId m x) ∷ [])))) (sym (run-more (machine B) (tableOf B) (f .rs) (one (length text) x) (opened B)))
-            (subst (λ (S : Sess (Ls (Known Names))). Alike (single (machine B) (tableOf B) (length text) (ruled p modes s n (f .rs)) x .sess) S) (sym (run-more (machine B′) (tableOf B′) (f .rs′) (one (length text′) (newId m x)) (opened B′)))
-            (subst (λ (room : ℕ). Alike (single (machine B) (tableOf B) (length text) (ruled p modes s n (f .rs)) x .sess) (single (machine B′) (tableOf B′) room (ruled p modes s′ n′ (f .rs′)) (newId m x) .sess)) e
+            subst (λ (S : Sess (Ls (Known Names))). Alike S (ran B′ (f .rs′ ++ (one (length text′) (newId m x) ∷ [])))) (sym (run-more (machine B) (tableOf B) (f .rs) (one (length text) x) (opened B)))
+            (subst (λ (S : Sess (Ls (Known Names))). Alike (single (machine B) (tableOf B) (length text) (ran B (f .rs)) x .sess) S) (sym (run-more (machine B′) (tableOf B′) (f .rs′) (one (length text′) (newId m x)) (opened B′)))
+            (subst (λ (room : ℕ). Alike (single (machine B) (tableOf B) (length text) (ran B (f .rs)) x .sess) (single (machine B′) (tableOf B′) room (ran B′ (f .rs′)) (newId m x) .sess)) e
             (answers (f .rs) (f .rs′) (f .alike) (length text) x k .sessions)));
       }
 
@@ -211,11 +229,13 @@ module _ (p modes : ℕ) (s : List ℕ) (n : ℕ) (ok : openingNumber p s n ≡ 
       let f = follows h in
       let d = delivered p modes s n .demand2 c (f .rs) (f .after) in
       let d′ = delivered p modes s′ n′ .demand2 c′ (f .rs′) (f .after′) in
-      let e = texts-same (ruled p modes s n (f .rs)) (ruled p modes s′ n′ (f .rs′)) (f .alike) in
+      let e = texts-same (ran B (f .rs)) (ran B′ (f .rs′)) (f .alike) in
+      let z = ap (λ (N : Naming Names). run (machineBy N B) (tableOf B) (f .rs) (openedBy N B (noNames B))) names in
+      let z′ = ap (λ (N : Naming Names). run (machineBy N B′) (tableOf B′) (f .rs′) (openedBy N B′ (noNames B′))) names′ in
       record {
-        is-open = d .is-open ∙ f .alike .same-open ∙ sym (d′ .is-open);
-        text-len = d .text-len ∙ ap length e ∙ sym (d′ .text-len);
-        text = d .text ∙ e ∙ sym (d′ .text);
+        is-open = d .is-open ∙ ap (λ (S : Sess (Ls (Known Names))). S .isOpen) z ∙ f .alike .same-open ∙ sym (d′ .is-open ∙ ap (λ (S : Sess (Ls (Known Names))). S .isOpen) z′);
+        text-len = d .text-len ∙ ap (λ (S : Sess (Ls (Known Names))). length (textOf (S .mach .pieces))) z ∙ ap length e ∙ sym (d′ .text-len ∙ ap (λ (S : Sess (Ls (Known Names))). length (textOf (S .mach .pieces))) z′);
+        text = d .text ∙ ap (λ (S : Sess (Ls (Known Names))). textOf (S .mach .pieces)) z ∙ e ∙ sym (d′ .text ∙ ap (λ (S : Sess (Ls (Known Names))). textOf (S .mach .pieces)) z′);
       }
 
   tells-same : (room room′ : ℕ) → room ≡ room′ → (c c′ : Call) (a a′ : Answer (Ls (Known Names))) → a .number ≡ a′ .number → textOf (a .sess .mach .pieces) ≡ textOf (a′ .sess .mach .pieces)
@@ -235,10 +255,10 @@ module _ (p modes : ℕ) (s : List ℕ) (n : ℕ) (ok : openingNumber p s n ≡ 
   answer-same c c′ h text text′ r l l′ x k =
       let f = follows h in
       let a = answers (f .rs) (f .rs′) (f .alike) (length text) x k in
-      let q = delivered p modes s n .demand2 c (f .rs) (f .after) .next-type text l x in
-      let q′ = delivered p modes s′ n′ .demand2 c′ (f .rs′) (f .after′) .next-type text′ l′ (newId m x) in
+      let q = subst (Told B c (f .rs) s text x) names (delivered p modes s n .demand2 c (f .rs) (f .after) .next-type text l x) in
+      let q′ = subst (Told B′ c′ (f .rs′) s′ text′ (newId m x)) names′ (delivered p modes s′ n′ .demand2 c′ (f .rs′) (f .after′) .next-type text′ l′ (newId m x)) in
       tells-same (length text) (length text′) r _ _ _ _ (a .same-number) (pieces-text (a .sessions .alike .pieces-same)) q
-      (subst (λ (room : ℕ). told.Tells (length text′) (typeCall (c′ .session) s′ (c′ .work) text′ (newId m x)) (single (machine B′) (tableOf B′) room (ruled p modes s′ n′ (f .rs′)) (newId m x))) (sym r) q′)
+      (subst (λ (room : ℕ). told.Tells (length text′) (typeCall (c′ .session) s′ (c′ .work) text′ (newId m x)) (single (machine B′) (tableOf B′) room (ran B′ (f .rs′)) (newId m x))) (sym r) q′)
 
   -- THE THEOREM
   pub reopens : Reopens p modes s n m n′
@@ -250,7 +270,7 @@ module _ (p modes : ℕ) (s : List ℕ) (n : ℕ) (ok : openingNumber p s n ≡ 
   }
 
 -- of the test that computes what is kept
-pub cut-reopens : (p modes : ℕ) (s : List ℕ) (n : ℕ) → openingNumber p s n ≡ 0 → Bytes s → (given : List ℕ) → length (cutSection (isKept (typesOf s) given) s) ≤ 16777216 → (n′ : ℕ)
+pub cut-reopens : (p modes : ℕ) → OldNames modes → (s : List ℕ) (n : ℕ) → openingNumber p s n ≡ 0 → Bytes s → (given : List ℕ) → length (cutSection (isKept (typesOf s) given) s) ≤ 16777216 → (n′ : ℕ)
     → 4 * (16 * opening.typesOf (cutSection (isKept (typesOf s) given) s) + 8 * enumeratorsOf (cutSection (isKept (typesOf s) given) s) + 4096) ≤ n′
     → Reopens p modes s n (isKept (typesOf s) given) n′
-cut-reopens p modes s n ok y given short n′ enough = reopens p modes s n ok y given (isKept (typesOf s) given) (kept-tells (typesOf s) given) short n′ enough
+cut-reopens p modes old s n ok y given short n′ enough = reopens p modes old s n ok y given (isKept (typesOf s) given) (kept-tells (typesOf s) given) short n′ enough

@@ -1,7 +1,7 @@
 -- A session over a section and one over its cut, call beside call: statements only. proofs/Reopened.antt has the proof.
 -- "Opened afresh with the same settings, a new ledger, long enough work and text, and the old naming mode, the new section gives for the
 -- renumbered requests the same text and refusals as the old so opened."
-use Prim.Native.Nat.{ℕ, _<_}
+use Prim.Native.Nat.{ℕ, _/_, _%_, _<_}
 use mathlib.Core.Path.{_≡_}
 use mathlib.Core.Bool.{Bool, true}
 use mathlib.Core.List.{List}
@@ -19,6 +19,10 @@ use Rattle.cut.specs.Section.{cutSection}
 use Rattle.cut.specs.Stands.{Renumbered}
 use Rattle.claims.specs.Table.{openedTable}
 use Rattle.claims.specs.Demands.{Lent}
+
+-- "the old naming mode": bit 3 of the modes is 0
+abbrev pub OldNames : ℕ → Type 0
+OldNames modes = modes / 8 % 2 ≡ 0
 
 -- the sessions after two calls: open or closed alike, with the same text
 pub record SameText (c c′ : Call) : Type 0 where
