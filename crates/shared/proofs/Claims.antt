@@ -21,6 +21,7 @@ use Rattle.shared.specs.Requests.{answerOn}
 use Rattle.shared.specs.Calls.{Side, kernel, module′, Call, opens, asks, World, Part, partOf, withPart, lent, ledgerShort, openNumber, joined, begun, opening, asking, called, answered}
 use Rattle.shared.specs.Claims.{Seen, seen, Printed, printed, sameSide, together, alone, Agree, none, same, left-ends, right-ends, requestsOf, Silent, no-call, own, joins, EndsOrder, Ends20, Nothing, Claim}
 use Rattle.shared.proofs.Boards.{Like, blanks, AnyNames, Is20, Never, Whole, whole-board, Is17or20, Is17, Shape, shape-board}
+use Rattle.shared.proofs.Closes.{request-closes}
 use Rattle.shared.proofs.Requests.{BothSess, BothAnswer, alike, left-out, right-out, answer-both}
 
 -- a piece's id does not hang on its bytes
@@ -344,5 +345,6 @@ two-headers B d wf = record {
   order-as-over-its-own = own-ledger B d wf;
   equal-short-of-20 = equal-alone B d wf printed printed Ends20 Nothing (printed-same B d wf) (λ n S₁ w. w);
   other-kept = λ W e words r q. asks-kept B W d e q words r;
+  closes = λ W words r. request-closes B W d words r;
   opening-number = opens-number B d;
 }

@@ -83,6 +83,10 @@ Ends20 a = a .number ≡ 20
 abbrev pub Nothing : Printed → Type 0
 Nothing a = ⊥
 
+-- accepted, refused by 10 or 11, or closed
+abbrev pub Closing : ℕ → Sess Shelf → Type 0
+Closing n S = (n ≡ 0) ⊎ (n ≡ 10) ⊎ (n ≡ 11) ⊎ (S .isOpen ≡ false)
+
 -- THE CLAIM, of side d of two sessions from its opening on, in any world whose ledger is not short
 pub record Shared (B : Side → Btf) (d : Side) : Type 0 where
   -- "Until an 11, 17 or 20 in either run, its order, layout and cycle refusals are those it would have alone."
@@ -97,6 +101,8 @@ pub record Shared (B : Side → Btf) (d : Side) : Type 0 where
       → Agree Ends20 Nothing (together printed B d (called B W (opens d reserve) .world) cs) (alone printed (B d) (opened (B d)) (requestsOf d cs))
   -- "it closes that session only": a call of one side, however it ends, leaves the other side's session
   pub other-kept : (W : World) (e : Side) (words : ℕ) (r : Req) → sameSide d e ≡ false → partOf (called B W (asks e words r) .world) d ≡ partOf W d
+  -- 20 closes "otherwise as 12 to 17 do"
+  pub closes : (W : World) (words : ℕ) (r : Req) → Closing (called B W (asks d words r) .number) (partOf (called B W (asks d words r) .world) d .sess)
   -- opening answers as its causes say: 9 for the ledger comes last
   pub opening-number : (W : World) (reserve : ℕ) → called B W (opens d reserve) .number ≡ openNumber 0 (W .ledger) reserve
 
