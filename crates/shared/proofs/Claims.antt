@@ -18,9 +18,10 @@ use Rattle.demand.specs.Session.{Known, textOf, answerOf, opened}
 use Rattle.demand.proofs.Lists.{Sized}
 use Rattle.shared.specs.Shared.{Ledger, Held, Shelf, holding}
 use Rattle.shared.specs.Requests.{answerOn}
-use Rattle.shared.specs.Calls.{Side, kernel, module′, Call, opens, asks, World, Part, partOf, withPart, lent, ledgerShort, joined, begun, opening, asking, called, answered}
+use Rattle.shared.specs.Calls.{Side, kernel, module′, Call, opens, asks, World, Part, partOf, withPart, lent, ledgerShort, openNumber, joined, begun, opening, asking, called, answered}
 use Rattle.shared.specs.Claims.{Seen, seen, Printed, printed, sameSide, together, alone, Agree, none, same, left-ends, right-ends, requestsOf, Silent, no-call, own, joins, EndsOrder, Ends20, Nothing, Claim}
 use Rattle.shared.proofs.Boards.{Like, blanks, AnyNames, Is20, Never, Whole, whole-board, Is17or20, Is17, Shape, shape-board}
+use Rattle.shared.proofs.Closes.{request-closes}
 use Rattle.shared.proofs.Requests.{BothSess, BothAnswer, alike, left-out, right-out, answer-both}
 
 -- a piece's id does not hang on its bytes
@@ -218,91 +219,132 @@ module _ (B : Side → Btf) (d : Side) (wf : WF (tableOf (B d))) where
   printed-same : (n m : ℕ) (S₁ : Sess Shelf) (S : Sess (Ls (Known Names))) → n ≡ m → Wh S₁ S → printed n S₁ ≡ printed m S
   printed-same n m S₁ S e h i = record { number = e i; text-len = h .shape .rest i .known; text = textOf (h .shape .rest i .pieces) }
 
-  then-one : (a₁ : Answer Shelf) (a : Answer (Ls (Known Names))) (l k : List Printed) → BothAnswer Text₂ (Whole (B d .type-cnt)) Is20 Never a₁ a → (Wh (a₁ .sess) (a .sess) → Agree Ends20 Nothing l k)
-      → Agree Ends20 Nothing (printed (a₁ .number) (a₁ .sess) ∷ l) (printed (a .number) (a .sess) ∷ k)
-  then-one a₁ a l k (alike e h) f = same (printed (a₁ .number) (a₁ .sess)) (printed (a .number) (a .sess)) l k (printed-same (a₁ .number) (a .number) (a₁ .sess) (a .sess) e h) (f h)
-  then-one a₁ a l k (left-out w) f = left-ends (printed (a₁ .number) (a₁ .sess)) l (printed (a .number) (a .sess) ∷ k) w
-  then-one a₁ a l k (right-out w) f = absurd w
-
-  -- the session with the ledger as it stands
-  pub record Ready (words : ℕ) (W : World) (S : Sess (Ls (Known Names))) : Type 0 where
-    pub length-kept : partOf W d .words ≡ words
-    pub with-ledger : Wh (lent (W .ledger) (partOf W d .sess)) S
-
-  abbrev Equals : World → Sess (Ls (Known Names)) → List Call → Type 0
-  Equals W S cs = Agree Ends20 Nothing (together printed B d W cs) (alone printed (B d) S (requestsOf d cs))
-
-  module _ (words : ℕ) (W : World) (S : Sess (Ls (Known Names))) (h : Ready words W S) (cs : List Call) (on : (W′ : World) (S′ : Sess (Ls (Known Names))) → Ready words W′ S′ → Equals W′ S′ cs) where
-    ready-own : (p : Part) (S′ : Sess (Ls (Known Names))) → p .words ≡ words → Wh (p .sess) S′ → Ready words (withPart W d (p .sess .mach .known .names .ledger) p) S′
-    ready-own p S′ e g =
-        let L = p .sess .mach .known .names .ledger in
-        record {
-          length-kept = ap (λ (x : Part). x .words) (part-own W d L p) ∙ e;
-          with-ledger = subst (λ (x : Part). Wh (lent (withPart W d L p .ledger) (x .sess)) S′) (sym (part-own W d L p))
-              (subst (λ (M : Ledger). Wh (lent M (p .sess)) S′) (sym (ledger-own W d L p)) (lent-whole L (p .sess) S′ refl g));
-        }
-
-    request-by : (r : Req) (b : Bool) → b ≡ true
-        → Agree Ends20 Nothing (printed (asking B W d r b .number) (partOf (asking B W d r b .world) d .sess) ∷ together printed B d (asking B W d r b .world) cs) (alone printed (B d) S (r ∷ requestsOf d cs))
-    unfolding asking alone
-    request-by r false q = absurd (true≢false (sym q))
-    request-by r true q =
-        let a = answered (B d) (partOf W d) (W .ledger) r in
-        let p : Part = record { number = partOf W d .number; words = partOf W d .words; sess = a .sess } in
-        let W′ = withPart W d (a .sess .mach .known .names .ledger) p in
-        subst (λ (x : Part). Agree Ends20 Nothing (printed (a .number) (x .sess) ∷ together printed B d W′ cs) (alone printed (B d) S (r ∷ requestsOf d cs))) (sym (part-own W d (a .sess .mach .known .names .ledger) p))
-        (then-one a (answerOf naming (B d) S r) (together printed B d W′ cs) (alone printed (B d) (answerOf naming (B d) S r .sess) (requestsOf d cs)) (answer-whole (partOf W d .number) (lent (W .ledger) (partOf W d .sess)) S (h .with-ledger) r)
-        (λ g. on W′ (answerOf naming (B d) S r .sess) (ready-own p (answerOf naming (B d) S r .sess) (h .length-kept) g)))
-
-    request : (r : Req) → Agree Ends20 Nothing (printed (called B W (asks d words r) .number) (partOf (called B W (asks d words r) .world) d .sess) ∷ together printed B d (called B W (asks d words r) .world) cs) (alone printed (B d) S (r ∷ requestsOf d cs))
-    unfolding called
-    request r = request-by r (eqb words (partOf W d .words)) (eq-eqb words (partOf W d .words) (sym (h .length-kept)))
-
-    own-side : (r : Req) (b : Bool) → sameSide d d ≡ b
-        → Agree Ends20 Nothing (elim b as (λ x. List Printed) [
-          | true ↦ printed (called B W (asks d words r) .number) (partOf (called B W (asks d words r) .world) d .sess) ∷ together printed B d (called B W (asks d words r) .world) cs
-          | false ↦ together printed B d (called B W (asks d words r) .world) cs
-        ]) (alone printed (B d) S (elim b as (λ x. List Req) [ true ↦ r ∷ requestsOf d cs | false ↦ requestsOf d cs ]))
-    own-side r true q = request r
-    own-side r false q = absurd (true≢false (sym (is-same d) ∙ q))
-
-    ready-joined : (e : Side) (reserve : ℕ) → sameSide d e ≡ false → Ready words (called B W (opens e reserve) .world) S
-    ready-joined e reserve q = record {
-      length-kept = ap (λ (x : Part). x .words) (opens-kept B W d e q reserve) ∙ h .length-kept;
-      with-ledger = subst (λ (x : Part). Wh (lent (called B W (opens e reserve) .world .ledger) (x .sess)) S) (sym (opens-kept B W d e q reserve))
-          (lent-whole (called B W (opens e reserve) .world .ledger) (lent (W .ledger) (partOf W d .sess)) S (sym (opens-entries B W e reserve)) (h .with-ledger));
-    }
-
-    other-side : (e : Side) (reserve : ℕ) (b : Bool) → sameSide d e ≡ false → sameSide d e ≡ b
-        → Agree Ends20 Nothing (elim b as (λ x. List Printed) [ true ↦ [] | false ↦ together printed B d (called B W (opens e reserve) .world) cs ]) (alone printed (B d) S (elim b as (λ x. List Req) [ true ↦ [] | false ↦ requestsOf d cs ]))
-    other-side e reserve true q q′ = absurd (true≢false (sym q′ ∙ q))
-    other-side e reserve false q q′ = on (called B W (opens e reserve) .world) S (ready-joined e reserve q)
-
-  equals : (words : ℕ) (cs : List Call) → Silent d words cs → (W : World) (S : Sess (Ls (Known Names))) → Ready words W S → Equals W S cs
-  unfolding together requestsOf alone
-  equals words _ no-call W S h = none
-  equals words _ (own r cs q) W S h = own-side words W S h cs (λ W′ S′ h′. equals words cs q W′ S′ h′) r (sameSide d d) refl
-  equals words _ (joins e reserve cs n q) W S h = other-side words W S h cs (λ W′ S′ h′. equals words cs q W′ S′ h′) e reserve (sameSide d e) n refl
-
   begun-whole : (L : Ledger) (reserve : ℕ) → L .entries ≡ [] → Wh (begun (B d) L reserve .sess) (opened (B d))
   unfolding afresh
   begun-whole L reserve e =
       let z : Sized (B d .type-cnt) (opened (B d) .mach) = record { marks-n = length-replicate (B d .type-cnt) new; emits-n = length-replicate (B d .type-cnt) new } in
       record { same-open = refl; same-asked = refl; shape = record { rest = refl; names = tt; sized = z }; live = λ o. record { rest = refl; names = (refl, e); sized = z } }
 
-  pub equal-alone : (W : World) (reserve : ℕ) → ledgerShort (W .ledger) reserve ≡ false → W .ledger .entries ≡ [] → (cs : List Call) → Silent d (W .ledger .words) cs
-      → Equals (called B W (opens d reserve) .world) (opened (B d)) cs
-  unfolding afresh
-  equal-alone W reserve e n cs q =
-      let L = joined (W .ledger) reserve in
-      let p = begun (B d) (W .ledger) reserve in
-      subst (λ (X : World). Equals X (opened (B d)) cs) (sym (opened-part B d wf W reserve e))
-      (equals (W .ledger .words) cs q (withPart W d L p) (opened (B d)) (record {
-        length-kept = ap (λ (x : Part). x .words) (part-own W d L p);
-        with-ledger = subst (λ (x : Part). Wh (lent (withPart W d L p .ledger) (x .sess)) (opened (B d))) (sym (part-own W d L p))
-            (subst (λ (M : Ledger). Wh (lent M (p .sess)) (opened (B d))) (sym (ledger-own W d L p)) (lent-whole L (p .sess) (opened (B d)) refl (begun-whole (W .ledger) reserve n)));
-      }))
+  -- whatever is looked at
+  module _ {A : Type 0} (view₁ : ℕ → Sess Shelf → A) (view₂ : ℕ → Sess (Ls (Known Names)) → A) (E₁ E₂ : A → Type 0)
+      (view-same : (n m : ℕ) (S₁ : Sess Shelf) (S : Sess (Ls (Known Names))) → n ≡ m → Wh S₁ S → view₁ n S₁ ≡ view₂ m S) (is-20 : (n : ℕ) (S₁ : Sess Shelf) → n ≡ 20 → E₁ (view₁ n S₁)) where
+    then-one : (a₁ : Answer Shelf) (a : Answer (Ls (Known Names))) (l k : List A) → BothAnswer Text₂ (Whole (B d .type-cnt)) Is20 Never a₁ a → (Wh (a₁ .sess) (a .sess) → Agree E₁ E₂ l k)
+        → Agree E₁ E₂ (view₁ (a₁ .number) (a₁ .sess) ∷ l) (view₂ (a .number) (a .sess) ∷ k)
+    then-one a₁ a l k (alike e h) f = same (view₁ (a₁ .number) (a₁ .sess)) (view₂ (a .number) (a .sess)) l k (view-same (a₁ .number) (a .number) (a₁ .sess) (a .sess) e h) (f h)
+    then-one a₁ a l k (left-out w) f = left-ends (view₁ (a₁ .number) (a₁ .sess)) l (view₂ (a .number) (a .sess) ∷ k) (is-20 (a₁ .number) (a₁ .sess) w)
+    then-one a₁ a l k (right-out w) f = absurd w
+
+    -- the session with the ledger as it stands
+    pub record Ready (words : ℕ) (W : World) (S : Sess (Ls (Known Names))) : Type 0 where
+      pub length-kept : partOf W d .words ≡ words
+      pub with-ledger : Wh (lent (W .ledger) (partOf W d .sess)) S
+
+    abbrev Equals : World → Sess (Ls (Known Names)) → List Call → Type 0
+    Equals W S cs = Agree E₁ E₂ (together view₁ B d W cs) (alone view₂ (B d) S (requestsOf d cs))
+
+    module _ (words : ℕ) (W : World) (S : Sess (Ls (Known Names))) (h : Ready words W S) (cs : List Call) (on : (W′ : World) (S′ : Sess (Ls (Known Names))) → Ready words W′ S′ → Equals W′ S′ cs) where
+      ready-own : (p : Part) (S′ : Sess (Ls (Known Names))) → p .words ≡ words → Wh (p .sess) S′ → Ready words (withPart W d (p .sess .mach .known .names .ledger) p) S′
+      ready-own p S′ e g =
+          let L = p .sess .mach .known .names .ledger in
+          record {
+            length-kept = ap (λ (x : Part). x .words) (part-own W d L p) ∙ e;
+            with-ledger = subst (λ (x : Part). Wh (lent (withPart W d L p .ledger) (x .sess)) S′) (sym (part-own W d L p))
+                (subst (λ (M : Ledger). Wh (lent M (p .sess)) S′) (sym (ledger-own W d L p)) (lent-whole L (p .sess) S′ refl g));
+          }
+
+      request-by : (r : Req) (b : Bool) → b ≡ true
+          → Agree E₁ E₂ (view₁ (asking B W d r b .number) (partOf (asking B W d r b .world) d .sess) ∷ together view₁ B d (asking B W d r b .world) cs) (alone view₂ (B d) S (r ∷ requestsOf d cs))
+      unfolding asking alone
+      request-by r false q = absurd (true≢false (sym q))
+      request-by r true q =
+          let a = answered (B d) (partOf W d) (W .ledger) r in
+          let p : Part = record { number = partOf W d .number; words = partOf W d .words; sess = a .sess } in
+          let W′ = withPart W d (a .sess .mach .known .names .ledger) p in
+          subst (λ (x : Part). Agree E₁ E₂ (view₁ (a .number) (x .sess) ∷ together view₁ B d W′ cs) (alone view₂ (B d) S (r ∷ requestsOf d cs))) (sym (part-own W d (a .sess .mach .known .names .ledger) p))
+          (then-one a (answerOf naming (B d) S r) (together view₁ B d W′ cs) (alone view₂ (B d) (answerOf naming (B d) S r .sess) (requestsOf d cs)) (answer-whole (partOf W d .number) (lent (W .ledger) (partOf W d .sess)) S (h .with-ledger) r)
+          (λ g. on W′ (answerOf naming (B d) S r .sess) (ready-own p (answerOf naming (B d) S r .sess) (h .length-kept) g)))
+
+      request : (r : Req) → Agree E₁ E₂ (view₁ (called B W (asks d words r) .number) (partOf (called B W (asks d words r) .world) d .sess) ∷ together view₁ B d (called B W (asks d words r) .world) cs) (alone view₂ (B d) S (r ∷ requestsOf d cs))
+      unfolding called
+      request r = request-by r (eqb words (partOf W d .words)) (eq-eqb words (partOf W d .words) (sym (h .length-kept)))
+
+      own-side : (r : Req) (b : Bool) → sameSide d d ≡ b
+          → Agree E₁ E₂ (elim b as (λ x. List A) [
+            | true ↦ view₁ (called B W (asks d words r) .number) (partOf (called B W (asks d words r) .world) d .sess) ∷ together view₁ B d (called B W (asks d words r) .world) cs
+            | false ↦ together view₁ B d (called B W (asks d words r) .world) cs
+          ]) (alone view₂ (B d) S (elim b as (λ x. List Req) [ true ↦ r ∷ requestsOf d cs | false ↦ requestsOf d cs ]))
+      own-side r true q = request r
+      own-side r false q = absurd (true≢false (sym (is-same d) ∙ q))
+
+      ready-joined : (e : Side) (reserve : ℕ) → sameSide d e ≡ false → Ready words (called B W (opens e reserve) .world) S
+      ready-joined e reserve q = record {
+        length-kept = ap (λ (x : Part). x .words) (opens-kept B W d e q reserve) ∙ h .length-kept;
+        with-ledger = subst (λ (x : Part). Wh (lent (called B W (opens e reserve) .world .ledger) (x .sess)) S) (sym (opens-kept B W d e q reserve))
+            (lent-whole (called B W (opens e reserve) .world .ledger) (lent (W .ledger) (partOf W d .sess)) S (sym (opens-entries B W e reserve)) (h .with-ledger));
+      }
+
+      other-side : (e : Side) (reserve : ℕ) (b : Bool) → sameSide d e ≡ false → sameSide d e ≡ b
+          → Agree E₁ E₂ (elim b as (λ x. List A) [ true ↦ [] | false ↦ together view₁ B d (called B W (opens e reserve) .world) cs ]) (alone view₂ (B d) S (elim b as (λ x. List Req) [ true ↦ [] | false ↦ requestsOf d cs ]))
+      other-side e reserve true q q′ = absurd (true≢false (sym q′ ∙ q))
+      other-side e reserve false q q′ = on (called B W (opens e reserve) .world) S (ready-joined e reserve q)
+
+    equals : (words : ℕ) (cs : List Call) → Silent d words cs → (W : World) (S : Sess (Ls (Known Names))) → Ready words W S → Equals W S cs
+    unfolding together requestsOf alone
+    equals words _ no-call W S h = none
+    equals words _ (own r cs q) W S h = own-side words W S h cs (λ W′ S′ h′. equals words cs q W′ S′ h′) r (sameSide d d) refl
+    equals words _ (joins e reserve cs n q) W S h = other-side words W S h cs (λ W′ S′ h′. equals words cs q W′ S′ h′) e reserve (sameSide d e) n refl
+
+    pub equal-alone : (W : World) (reserve : ℕ) → ledgerShort (W .ledger) reserve ≡ false → W .ledger .entries ≡ [] → (cs : List Call) → Silent d (W .ledger .words) cs
+        → Equals (called B W (opens d reserve) .world) (opened (B d)) cs
+    unfolding afresh
+    equal-alone W reserve e n cs q =
+        let L = joined (W .ledger) reserve in
+        let p = begun (B d) (W .ledger) reserve in
+        subst (λ (X : World). Equals X (opened (B d)) cs) (sym (opened-part B d wf W reserve e))
+        (equals (W .ledger .words) cs q (withPart W d L p) (opened (B d)) (record {
+          length-kept = ap (λ (x : Part). x .words) (part-own W d L p);
+          with-ledger = subst (λ (x : Part). Wh (lent (withPart W d L p .ledger) (x .sess)) (opened (B d))) (sym (part-own W d L p))
+              (subst (λ (M : Ledger). Wh (lent M (p .sess)) (opened (B d))) (sym (ledger-own W d L p)) (lent-whole L (p .sess) (opened (B d)) refl (begun-whole (W .ledger) reserve n)));
+        }))
+
+-- two runs that are compared with a third
+agree-join : {A : Type 0} (E F : A → Type 0) → ((a : A) → F a → E a) → (l p m : List A) → Agree E E l p → Agree F (λ a. ⊥) m p → Agree E E l m
+agree-join E F up _ _ _ none none = none
+agree-join E F up _ _ _ none (left-ends c m _ f) = right-ends c [] m (up c f)
+agree-join E F up _ _ _ (left-ends a l _ w) r = left-ends a l _ w
+agree-join E F up _ _ _ (same a b l p e q) (same c _ m _ e′ r) = same a c l m (e ∙ sym e′) (agree-join E F up l p m q r)
+agree-join E F up _ _ _ (same a b l p e q) (left-ends c m _ f) = right-ends c (a ∷ l) m (up c f)
+agree-join E F up _ _ _ (same a b l p e q) (right-ends _ _ _ z) = absurd z
+agree-join E F up _ _ _ (right-ends b l p w) (same c _ m _ e′ r) = right-ends c l m (subst E (sym e′) w)
+agree-join E F up _ _ _ (right-ends b l p w) (left-ends c m _ f) = right-ends c l m (up c f)
+agree-join E F up _ _ _ (right-ends b l p w) (right-ends _ _ _ z) = absurd z
+
+module _ (B : Side → Btf) (d : Side) (wf : WF (tableOf (B d))) where
+  seen-whole : (n m : ℕ) (S₁ : Sess Shelf) (S : Sess (Ls (Known Names))) → n ≡ m → Wh B d wf S₁ S → seen n S₁ ≡ seen m S
+  seen-whole n m S₁ S e h i = record { number = e i; asked = h .same-asked i; listed = h .shape .rest i .olist; defined = tagsOf (h .shape .rest i .pieces) }
+
+  own-ledger : (W Z : World) (reserve reserve′ : ℕ) → ledgerShort (W .ledger) reserve ≡ false → ledgerShort (Z .ledger) reserve′ ≡ false → Z .ledger .entries ≡ [] → (cs ds : List Call) → Silent d (Z .ledger .words) ds
+      → requestsOf d cs ≡ requestsOf d ds → Agree EndsOrder EndsOrder (together seen B d (called B W (opens d reserve) .world) cs) (together seen B d (called B Z (opens d reserve′) .world) ds)
+  own-ledger W Z reserve reserve′ e e′ n cs ds q same-requests =
+      agree-join EndsOrder EndsOrder (λ a w. w) _ (alone seen (B d) (opened (B d)) (requestsOf d ds)) _
+      (subst (λ (rs : List Req). Agree EndsOrder EndsOrder (together seen B d (called B W (opens d reserve) .world) cs) (alone seen (B d) (opened (B d)) rs)) same-requests (order-alone B d wf W reserve e cs))
+      (equal-alone B d wf seen seen EndsOrder (λ a. ⊥) seen-whole (λ m S₁ w. inr (inr w)) Z reserve′ e′ n ds q)
+
+opens-number : (B : Side → Btf) (d : Side) (W : World) (reserve : ℕ) → called B W (opens d reserve) .number ≡ openNumber 0 (W .ledger) reserve
+unfolding called opening openNumber
+opens-number B d W reserve = go (ledgerShort (W .ledger) reserve)
+  where
+    go : (b : Bool) → opening B W d reserve b .number ≡ (elim b as (λ x. ℕ) [ true ↦ 9 | false ↦ 0 ])
+    go true = refl
+    go false = refl
 
 -- THE CLAIM
 pub two-headers : Claim
-two-headers B d wf = record { order-as-alone = order-alone B d wf; equal-short-of-20 = equal-alone B d wf; other-kept = λ W e words r q. asks-kept B W d e q words r }
+two-headers B d wf = record {
+  order-as-alone = order-alone B d wf;
+  order-as-over-its-own = own-ledger B d wf;
+  equal-short-of-20 = equal-alone B d wf printed printed Ends20 Nothing (printed-same B d wf) (λ n S₁ w. w);
+  other-kept = λ W e words r q. asks-kept B W d e q words r;
+  closes = λ W words r. request-closes B W d words r;
+  opening-number = opens-number B d;
+}

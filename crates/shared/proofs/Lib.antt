@@ -8,3 +8,4 @@ pub mod Boards
 pub mod Claims
 pub mod Keeps
 pub mod Accounts
+pub mod Closes

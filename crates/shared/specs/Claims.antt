@@ -11,7 +11,7 @@ use Rattle.demand.specs.Needs.{WF}
 use Rattle.demand.specs.Lists.{Ls, tagsOf}
 use Rattle.demand.specs.Session.{Known, textOf, answerOf, opened}
 use Rattle.shared.specs.Shared.{Shelf}
-use Rattle.shared.specs.Calls.{Side, kernel, module′, Call, opens, asks, World, partOf, ledgerShort, called}
+use Rattle.shared.specs.Calls.{Side, kernel, module′, Call, opens, asks, World, partOf, ledgerShort, openNumber, called}
 
 -- ---- what is seen of a session after each of its requests
 
@@ -83,16 +83,28 @@ Ends20 a = a .number ≡ 20
 abbrev pub Nothing : Printed → Type 0
 Nothing a = ⊥
 
+-- accepted, refused by 10 or 11, or closed
+abbrev pub Closing : ℕ → Sess Shelf → Type 0
+Closing n S = (n ≡ 0) ⊎ (n ≡ 10) ⊎ (n ≡ 11) ⊎ (S .isOpen ≡ false)
+
 -- THE CLAIM, of side d of two sessions from its opening on, in any world whose ledger is not short
 pub record Shared (B : Side → Btf) (d : Side) : Type 0 where
   -- "Until an 11, 17 or 20 in either run, its order, layout and cycle refusals are those it would have alone."
   pub order-as-alone : (W : World) (reserve : ℕ) → ledgerShort (W .ledger) reserve ≡ false → (cs : List Call)
       → Agree EndsOrder EndsOrder (together seen B d (called B W (opens d reserve) .world) cs) (alone seen (B d) (opened (B d)) (requestsOf d cs))
+  -- the same against a session over a ledger of its own, which may meet 20 too: "in either run"
+  pub order-as-over-its-own : (W Z : World) (reserve reserve′ : ℕ) → ledgerShort (W .ledger) reserve ≡ false → ledgerShort (Z .ledger) reserve′ ≡ false → Z .ledger .entries ≡ []
+      → (cs ds : List Call) → Silent d (Z .ledger .words) ds → requestsOf d cs ≡ requestsOf d ds
+      → Agree EndsOrder EndsOrder (together seen B d (called B W (opens d reserve) .world) cs) (together seen B d (called B Z (opens d reserve′) .world) ds)
   -- "Short of 20, equality is claimed for a session whose partner made no request."
   pub equal-short-of-20 : (W : World) (reserve : ℕ) → ledgerShort (W .ledger) reserve ≡ false → W .ledger .entries ≡ [] → (cs : List Call) → Silent d (W .ledger .words) cs
       → Agree Ends20 Nothing (together printed B d (called B W (opens d reserve) .world) cs) (alone printed (B d) (opened (B d)) (requestsOf d cs))
   -- "it closes that session only": a call of one side, however it ends, leaves the other side's session
   pub other-kept : (W : World) (e : Side) (words : ℕ) (r : Req) → sameSide d e ≡ false → partOf (called B W (asks e words r) .world) d ≡ partOf W d
+  -- 20 closes "otherwise as 12 to 17 do"
+  pub closes : (W : World) (words : ℕ) (r : Req) → Closing (called B W (asks d words r) .number) (partOf (called B W (asks d words r) .world) d .sess)
+  -- opening answers as its causes say: 9 for the ledger comes last
+  pub opening-number : (W : World) (reserve : ℕ) → called B W (opens d reserve) .number ≡ openNumber 0 (W .ledger) reserve
 
 abbrev pub Claim : Type 0
 Claim = (B : Side → Btf) (d : Side) → WF (tableOf (B d)) → Shared B d

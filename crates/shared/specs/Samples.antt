@@ -1,11 +1,11 @@
 -- Small tables, and what two sessions over one ledger print of them and answer. That they do is proofs/Samples.
 use Prim.Native.Nat.{ℕ}
-use mathlib.Core.Bool.{true}
+use mathlib.Core.Bool.{true, false}
 use mathlib.Core.List.{List, [], _∷_}
 use Rattle.text.specs.Text.{ascii}
 use Rattle.rules.specs.Machine.{one, all}
-use Rattle.rules.specs.Types.{Void, Composite, Btf}
-use Rattle.rules.specs.Samples.{Sample, gives, table}
+use Rattle.rules.specs.Types.{Void, Int, Ptr, Composite, Enum, Typedef, Btf}
+use Rattle.rules.specs.Samples.{Sample, gives, table, member}
 use Rattle.shared.specs.Calls.{Side, kernel, module′, Call, opens, asks, World, called, calls, headerOf, newWorld}
 
 -- struct x, struct y
@@ -16,12 +16,27 @@ tags = table (Void ∷ Composite true (ascii "x") 0 [] ∷ Composite true (ascii
 abbrev pub header : Side → List Call → List ℕ
 header d cs = headerOf (calls (λ e. tags) (newWorld 48) cs) d
 
-unfoldable pub numbersFrom : World → List Call → List ℕ
-numbersFrom W [] = []
-numbersFrom W (c ∷ cs) = called (λ e. tags) W c .number ∷ numbersFrom (called (λ e. tags) W c .world) cs
+unfoldable pub numbersFrom : Btf → World → List Call → List ℕ
+numbersFrom B W [] = []
+numbersFrom B W (c ∷ cs) = called (λ e. B) W c .number ∷ numbersFrom B (called (λ e. B) W c .world) cs
 
 abbrev pub answers : List Call → List ℕ → Sample
-answers cs ns = record { is = numbersFrom (newWorld 48) cs; wanted = ns }
+answers cs ns = record { is = numbersFrom tags (newWorld 48) cs; wanted = ns }
+
+-- typedef t, enum e with the value a, a struct s with a pointer to itself
+abbrev pub others : Btf
+others = table (
+    Void
+    ∷ Int (ascii "int") 32
+    ∷ Typedef (ascii "t") 1
+    ∷ Enum false (ascii "e") 4 (record { name = ascii "a"; value = 0 } ∷ [])
+    ∷ Composite true (ascii "s") 8 (member "p" 5 0 ∷ [])
+    ∷ Ptr 4
+    ∷ [])
+
+-- the number that the request for an id gets, with a reserve and a room
+abbrev pub first : ℕ → ℕ → ℕ → ℕ → Sample
+first reserve room id n = record { is = numbersFrom others (newWorld 48) (opens kernel reserve ∷ asks kernel 48 (one room id) ∷ []); wanted = 0 ∷ n ∷ [] }
 
 -- both ask for everything, in turn
 abbrev pub inTurn : ℕ → ℕ → List Call
@@ -44,12 +59,22 @@ sharedSamples =
     ∷ answers (opens kernel 0 ∷ asks kernel 48 (one 0 1) ∷ []) (0 ∷ 20 ∷ [])
     ∷ answers (opens kernel 1 ∷ asks kernel 48 (one 0 1) ∷ []) (0 ∷ 17 ∷ [])
     ∷ answers (opens kernel 1 ∷ asks kernel 48 (all 12) ∷ []) (0 ∷ 17 ∷ [])
+    ∷ first 0 0 2 20
+    ∷ first 1 0 2 17
+    ∷ first 0 0 3 20
+    -- the value's name comes after the 8 bytes of `enum e {`, before the line that has it
+    ∷ first 1 7 3 17
+    ∷ first 1 8 3 20
+    ∷ first 2 8 3 17
+    ∷ first 2 100 3 0
+    -- a type takes its name once
+    ∷ first 1 100 4 0
     -- the names that a refused request took stay
     ∷ gives (header module′ (opens kernel 1 ∷ opens module′ 3 ∷ asks kernel 48 (one 0 1) ∷ asks module′ 48 (all 100) ∷ [])) "struct x___2 {};\n\nstruct y {};\n\n"
     -- a third session; too few entries left; another length
     ∷ answers (opens kernel 1 ∷ opens module′ 1 ∷ opens kernel 1 ∷ []) (0 ∷ 0 ∷ 9 ∷ [])
     ∷ answers (opens kernel 3 ∷ opens module′ 2 ∷ opens module′ 1 ∷ []) (0 ∷ 9 ∷ 0 ∷ [])
     ∷ answers (opens kernel 3 ∷ asks kernel 56 (all 100) ∷ asks kernel 48 (all 100) ∷ []) (0 ∷ 11 ∷ 0 ∷ [])
-    ∷ record { is = numbersFrom (newWorld 15) (opens kernel 0 ∷ []); wanted = 9 ∷ [] }
-    ∷ record { is = numbersFrom (newWorld 16) (opens kernel 0 ∷ []); wanted = 0 ∷ [] }
+    ∷ record { is = numbersFrom tags (newWorld 15) (opens kernel 0 ∷ []); wanted = 9 ∷ [] }
+    ∷ record { is = numbersFrom tags (newWorld 16) (opens kernel 0 ∷ []); wanted = 0 ∷ [] }
     ∷ []
