@@ -12,7 +12,7 @@ use Rattle.btf.specs.declared.types.Btf.{Btf}
 use Rattle.btf.specs.Cells.{getField}
 use Rattle.btf.specs.Table.{from, btfOf}
 use Rattle.btf.proofs.Laws.{place-type}
-use Rattle.classes.proofs.Keys.{place-apart}
+use Rattle.classed.proofs.Keys.{place-apart}
 use Rattle.opened.specs.Table.{enumeratorsOf}
 use Rattle.opened.specs.Opened.{workOf}
 use Rattle.opened.specs.Causes.{openingNumber}

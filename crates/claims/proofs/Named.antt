@@ -18,8 +18,8 @@ use Rattle.btf.specs.Table.{enumeratorOf, workNaming}
 use Rattle.rules.specs.Names.{Naming, Names, naming}
 use Rattle.rules.proofs.Related.{RelNaming}
 use Rattle.btf.proofs.Laws.{void-zero}
-use Rattle.classes.specs.Classes.{recordP, spaceAt, nameOf, keyOf, keyIn, classOf}
-use Rattle.classes.proofs.Ledger.{the-words}
+use Rattle.classed.specs.Classes.{recordP, spaceAt, nameOf, keyOf, keyIn, classOf}
+use Rattle.classed.proofs.Ledger.{the-words}
 use Rattle.opened.specs.Table.{typesOf, enumeratorsOf, recordPlace, recordKind, indexOf}
 use Rattle.fill.specs.Left as left
 use Rattle.fill.specs.Left.{enumeratorWord, isEnum, valuesAt, enumsTo}

@@ -16,7 +16,7 @@ use Rattle.btf.specs.Cells.{classP, countP, placeOf}
 use Rattle.btf.specs.Numbers.{headP, nextP, takenP}
 use Rattle.btf.specs.Table.{from, btfOf}
 use Rattle.btf.proofs.Laws.{place-type, place-enum}
-use Rattle.classes.specs.Classes.{recordP, keyIn, classOf}
+use Rattle.classed.specs.Classes.{recordP, keyIn, classOf}
 use Rattle.marks.specs.Work.{markOf}
 use Rattle.demand.specs.Lists.{Ls}
 use Rattle.demand.specs.Session.{Known, machine}

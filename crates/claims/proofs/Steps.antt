@@ -20,8 +20,8 @@ use Rattle.btf.specs.Numbers.{headP, nextP, takenP}
 use Rattle.btf.specs.Table.{from, btfOf}
 use Rattle.btf.proofs.Laws.{place-type}
 use Rattle.btf.proofs.Frame.{field-other, table-field}
-use Rattle.classes.specs.Classes.{recordP, keyIn, classOf}
-use Rattle.classes.proofs.Keys.{place-apart}
+use Rattle.classed.specs.Classes.{recordP, keyIn, classOf}
+use Rattle.classed.proofs.Keys.{place-apart}
 use Rattle.marks.specs.Work.{markOf, code, workStore}
 use Rattle.marks.proofs.Lawful.{work-lawful}
 use Rattle.demand.specs.Lists.{Ls, listStore}

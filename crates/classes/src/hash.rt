@@ -3,8 +3,8 @@ ghost use mathlib.Core.Path.{_≡_};
 ghost use Prim.Native.Nat.{_+_};
 ghost use lib.ListN.{getD};
 ghost use Rattle.btf.specs.Names.{nameAt};
-ghost use Rattle.classes.specs.Same.{sameList};
-ghost use Rattle.classes.specs.Table.{stepOf, hashFrom};
+ghost use Rattle.classed.specs.Same.{sameList};
+ghost use Rattle.classed.specs.Table.{stepOf, hashFrom};
 
 // The byte at off + k, or 0 past the end.
 pub fn byte_at(section: &[u8], off: usize, k: usize) -> u8

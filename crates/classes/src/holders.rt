@@ -10,9 +10,9 @@ use lent::put_word;
 ghost use mathlib.Core.Path.{_≡_};
 ghost use Rattle.lent.specs.Words.{pick};
 ghost use Rattle.btf.specs.Cells.{placeOf};
-ghost use Rattle.classes.specs.Same.{sameList};
-ghost use Rattle.classes.specs.Classes.{classOf, fill, noughts, bucketP, linkP, spaceOf, spaceAt, nameOf, keyOf, keyIn, tableClassed};
-ghost use Rattle.classes.specs.Table.{HoldersReady, HolderFinds, holderPlaced};
+ghost use Rattle.classed.specs.Same.{sameList};
+ghost use Rattle.classed.specs.Classes.{classOf, fill, noughts, bucketP, linkP, spaceOf, spaceAt, nameOf, keyOf, keyIn, tableClassed};
+ghost use Rattle.classed.specs.Table.{HoldersReady, HolderFinds, holderPlaced};
 
 // The space of a kind: 0 tags, 1 identifiers, 2 none.
 fn space_of(kind: u32) -> u32

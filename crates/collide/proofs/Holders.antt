@@ -18,8 +18,8 @@ use Rattle.btf.specs.Names.{strAt}
 use Rattle.btf.specs.Records.{sectionWord, vlenOf, kindOf, recordAt, recordById}
 use Rattle.btf.specs.Table.{from, valueOf, value64Of, recordName, typeOf, btfOf, enumeratorOf}
 use Rattle.btf.proofs.KindLaws.{by-kind, type-0, type-1, type-2, type-3, type-4, type-5, type-6, type-7, type-8, type-9, type-10, type-11, type-12, type-13, type-14, type-15, type-16, type-17, type-18, type-19, type-none}
-use Rattle.classes.specs.Classes.{recordP, among, spaceOf, spaceAt, nameOf}
-use Rattle.classes.proofs.Keys.{space-high}
+use Rattle.classed.specs.Classes.{recordP, among, spaceOf, spaceAt, nameOf}
+use Rattle.classed.proofs.Keys.{space-high}
 use Rattle.ledger.specs.Indexed.{IsEnum, number, valuePlace, Value, placeOfValue, Fits, FitsValue, Holds, Indexed}
 use Rattle.ledger.proofs.Keys.{record-there, type-holds, value-holds}
 use Rattle.ledger.proofs.Table.{fits-table}

@@ -17,8 +17,8 @@ use Rattle.rules.specs.Types.{Name}
 use Rattle.rules.specs.Names.{spelled}
 use Rattle.btf.specs.declared.types.Btf.{Btf}
 use Rattle.btf.specs.Cells.{classP}
-use Rattle.classes.specs.Classes.{keyIn, classOf}
-use Rattle.classes.proofs.Laws.{class-first, class-same}
+use Rattle.classed.specs.Classes.{keyIn, classOf}
+use Rattle.classed.proofs.Laws.{class-first, class-same}
 use Rattle.takers.specs.Takers.{afterUnderscores, suffixIn, suffixOn, anySuffix, nameIn, baseFrom}
 use Rattle.numbers.specs.Lists.{Distinct}
 use Rattle.apart.proofs.Laws.{spelled-later}

@@ -20,10 +20,10 @@ use Rattle.btf.specs.Names.{nameAt, strAt}
 use Rattle.btf.specs.Numbers.{headP, takenAt}
 use Rattle.btf.specs.Records.{sectionWord, kindOf, vlenOf, recordById}
 use Rattle.btf.specs.Table.{btfOf, enumeratorOf}
-use Rattle.classes.specs.Classes.{recordP, spaceAt, nameOf, keyOf, keyIn, classOf, tableClassed}
-use Rattle.classes.proofs.Laws.{class-le, class-key, class-again}
-use Rattle.classes.proofs.Ledger.{the-words}
-use Rattle.classes.proofs.Keys.{space-enum}
+use Rattle.classed.specs.Classes.{recordP, spaceAt, nameOf, keyOf, keyIn, classOf, tableClassed}
+use Rattle.classed.proofs.Laws.{class-le, class-key, class-again}
+use Rattle.classed.proofs.Ledger.{the-words}
+use Rattle.classed.proofs.Keys.{space-enum}
 use Rattle.fill.specs.Left.{isEnum, valuesAt, enumsTo}
 use Rattle.takers.specs.Takers.{takersPut, withTakers, takersIn}
 use Rattle.takers.proofs.Frame.{place-unlisted}

@@ -12,7 +12,7 @@ use Rattle.lent.specs.Words.{putWord}
 use Rattle.btf.specs.declared.types.Btf.{Btf}
 use Rattle.btf.specs.Cells.{getField, putField}
 use Rattle.btf.specs.Records.{sectionWord, vlenOf, memberAt, paramAt}
-use Rattle.classes.specs.Classes.{tableClassed}
+use Rattle.classed.specs.Classes.{tableClassed}
 use Rattle.fill.specs.Left.{placesPut, valuePlace, enumeratorWord, valuesPut, isEnum, enumWith, valuesAt, tagPut, enumsTo, enumsPut, tagsPut, filled}
 
 pub entry-out : (start : List ℕ) (i : ℕ) → length start ≤ i → 0 ≡ getD start i 0

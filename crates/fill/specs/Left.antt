@@ -8,7 +8,7 @@ use Rattle.lent.specs.Words.{putWord, pick}
 use Rattle.btf.specs.declared.types.Btf.{Btf}
 use Rattle.btf.specs.Cells.{getField, putField}
 use Rattle.btf.specs.Records.{sectionWord, vlenOf, memberAt, paramAt}
-use Rattle.classes.specs.Classes.{tableClassed}
+use Rattle.classed.specs.Classes.{tableClassed}
 
 -- the place of each record in word 0 of its type
 unfoldable pub placesPut : List ℕ → List ℕ → ℕ → List ℕ

@@ -23,7 +23,7 @@ use Rattle.rules.proofs.Related.{RelSaid, rel-text, rel-names, rel-definition, 
 use Rattle.btf.specs.declared.types.Btf.{Btf}
 use Rattle.btf.specs.Numbers.{settled, numberOver, numberAt}
 use Rattle.btf.specs.Table.{btfOf, workNaming}
-use Rattle.classes.specs.Classes.{keyIn, classOf}
+use Rattle.classed.specs.Classes.{keyIn, classOf}
 use Rattle.demand.specs.Needs.{WF}
 use Rattle.demand.specs.Session.{dumped, openedBy}
 use Rattle.demand.proofs.AnyNames.{dumps-alike}

@@ -14,10 +14,10 @@ use Rattle.btf.specs.Records.{vlenOf, kindOf, recordAt, voidRecord, recordById}
 use Rattle.btf.specs.Table.{enumeratorOf}
 use Rattle.btf.proofs.Laws.{place-type, place-enum, void-zero, void-past}
 use Rattle.btf.proofs.Frame.{enumerator-same}
-use Rattle.classes.specs.Classes.{recordP, spaceAt, nameOf, keyOf, keyIn, classOf, tableClassed}
-use Rattle.classes.specs.Claims.{Room}
-use Rattle.classes.proofs.Keys.{place-apart, class-count, count-bucket, count-link}
-use Rattle.classes.proofs.Ledger.{the-words}
+use Rattle.classed.specs.Classes.{recordP, spaceAt, nameOf, keyOf, keyIn, classOf, tableClassed}
+use Rattle.classed.specs.Claims.{Room}
+use Rattle.classed.proofs.Keys.{place-apart, class-count, count-bucket, count-link}
+use Rattle.classed.proofs.Ledger.{the-words}
 use Rattle.ledger.specs.Indexed.{IsEnum, valuePlace, Value, placeOfValue, Indexed}
 use Rattle.ledger.specs.Alike.{Fresh}
 use Rattle.ledger.proofs.Keys.{record-there}

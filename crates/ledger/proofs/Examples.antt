@@ -12,8 +12,8 @@ use Rattle.btf.specs.declared.types.Btf.{Btf}
 use Rattle.btf.specs.Cells.{placeOf, countP}
 use Rattle.btf.specs.Records.{sectionWord, recordAt, voidRecord, recordById}
 use Rattle.btf.specs.Table.{enumeratorOf}
-use Rattle.classes.specs.Classes.{fill, recordP, tableClassed}
-use Rattle.classes.specs.Claims.{Room}
+use Rattle.classed.specs.Classes.{fill, recordP, tableClassed}
+use Rattle.classed.specs.Claims.{Room}
 use Rattle.ledger.specs.Indexed.{valuePlace, Value, placeOfValue, Indexed}
 use Rattle.ledger.specs.Alike.{Fresh}
 use Rattle.ledger.proofs.Classed.{placed-indexed, classed-fresh}

@@ -16,9 +16,9 @@ use Rattle.btf.specs.Names.{nameAt, strAt}
 use Rattle.btf.specs.Records.{sectionWord, kindOf, recordAt, voidRecord, recordById}
 use Rattle.btf.specs.Table.{enumeratorOf}
 use Rattle.btf.proofs.Laws.{place-type, by-id, void-zero, void-past}
-use Rattle.classes.specs.Classes.{recordP, spaceOf, among, spaceAt, nameOf, keyOf, keyIn, classOf}
-use Rattle.classes.proofs.Laws.{class-key, class-same}
-use Rattle.classes.proofs.Keys.{space-type, space-enum, name-is}
+use Rattle.classed.specs.Classes.{recordP, spaceOf, among, spaceAt, nameOf, keyOf, keyIn, classOf}
+use Rattle.classed.proofs.Laws.{class-key, class-same}
+use Rattle.classed.proofs.Keys.{space-type, space-enum, name-is}
 use Rattle.ledger.specs.Indexed.{number, Fits, FitsValue, Holds, Indexed}
 
 pub number-one : (x y : Space) → number x ≡ number y → x ≡ y

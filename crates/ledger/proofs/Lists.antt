@@ -13,10 +13,10 @@ use Rattle.rules.specs.Names.{Space, tagSpace, identSpace}
 use Rattle.btf.specs.declared.types.Btf.{Btf}
 use Rattle.btf.specs.Names.{nameAt}
 use Rattle.btf.specs.Numbers.{headP, numbersFrom, takenAt}
-use Rattle.classes.specs.Same.{sameList}
-use Rattle.classes.specs.Classes.{least, classOf, recordP, spaceAt, nameOf, keyOf, keyIn}
-use Rattle.classes.proofs.Laws.{class-key, class-le}
-use Rattle.classes.proofs.Names.{same-from}
+use Rattle.classed.specs.Same.{sameList}
+use Rattle.classed.specs.Classes.{least, classOf, recordP, spaceAt, nameOf, keyOf, keyIn}
+use Rattle.classed.proofs.Laws.{class-key, class-le}
+use Rattle.classed.proofs.Names.{same-from}
 use Rattle.ledger.specs.Passed.{Lists, none}
 use Rattle.ledger.specs.Indexed.{number, Holds, Indexed, Listed, listsIn}
 

@@ -15,8 +15,8 @@ use Rattle.btf.specs.Records.{vlenOf, kindOf, recordAt, voidRecord, recordById}
 use Rattle.btf.specs.Table.{enumeratorOf, typeOf, btfOf}
 use Rattle.btf.proofs.Laws.{void-zero, void-past}
 use Rattle.btf.proofs.Frame.{enumerator-same}
-use Rattle.classes.specs.Classes.{recordP, spaceAt, nameOf, keyOf, keyIn, classOf}
-use Rattle.classes.proofs.Laws.{class-le, class-key, class-first}
+use Rattle.classed.specs.Classes.{recordP, spaceAt, nameOf, keyOf, keyIn, classOf}
+use Rattle.classed.proofs.Laws.{class-le, class-key, class-first}
 use Rattle.ledger.specs.Indexed.{IsEnum, valuePlace, Value, Fits, FitsValue, Indexed, Kept}
 use Rattle.ledger.proofs.Keys.{record-there}
 use Rattle.ledger.proofs.Table.{fits-table}

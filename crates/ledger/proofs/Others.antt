@@ -13,8 +13,8 @@ use Rattle.btf.specs.Cells.{getField, putField, placeOf, classP, countP}
 use Rattle.btf.proofs.Laws.{place-type}
 use Rattle.btf.proofs.Frame.{field-other}
 use Rattle.btf.specs.Numbers.{headP, nextP, takenP}
-use Rattle.classes.specs.Classes.{recordP}
-use Rattle.classes.proofs.Keys.{place-apart}
+use Rattle.classed.specs.Classes.{recordP}
+use Rattle.classed.proofs.Keys.{place-apart}
 use Rattle.ledger.specs.Indexed.{Indexed}
 use Rattle.ledger.specs.Alike.{Alike}
 use Rattle.ledger.proofs.Related.{alike-kept}

@@ -18,7 +18,7 @@ use Rattle.btf.specs.Cells.{getField, putField, classP, countP, counted}
 use Rattle.btf.specs.Numbers.{numberOver, numberAt}
 use Rattle.btf.specs.Table.{enumeratorOf, typeVersionIn, valueVersionIn, workNaming}
 use Rattle.btf.proofs.Frame.{enumerator-same}
-use Rattle.classes.specs.Classes.{keyIn, classOf}
+use Rattle.classed.specs.Classes.{keyIn, classOf}
 use Rattle.ledger.specs.Passed.{Lists, nextNumber, typePassed, valuePassed, passed}
 use Rattle.ledger.specs.Indexed.{Fits, FitsValue, Holds, Indexed, Listed, Kept}
 use Rattle.ledger.specs.Alike.{Alike, Fresh, noNames}

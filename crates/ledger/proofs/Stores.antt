@@ -15,9 +15,9 @@ use Rattle.btf.specs.Numbers.{headP, nextP, takenP, takenAt, numberOver, number
 use Rattle.numbers.proofs.Lists.{taken-same}
 use Rattle.btf.proofs.Laws.{place-type}
 use Rattle.btf.proofs.Frame.{count-4, count-12, field-other}
-use Rattle.classes.specs.Classes.{recordP, keyIn, classOf}
-use Rattle.classes.proofs.Laws.{class-le}
-use Rattle.classes.proofs.Keys.{place-in, place-apart, count-one, class-count}
+use Rattle.classed.specs.Classes.{recordP, keyIn, classOf}
+use Rattle.classed.proofs.Laws.{class-le}
+use Rattle.classed.proofs.Keys.{place-in, place-apart, count-one, class-count}
 use Rattle.ledger.specs.Indexed.{Indexed, Kept}
 
 -- ---- one more at a word

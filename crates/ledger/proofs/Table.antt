@@ -13,7 +13,7 @@ use Rattle.btf.specs.Names.{strAt}
 use Rattle.btf.specs.Records.{sectionWord, vlenOf, kindOf, recordById}
 use Rattle.btf.specs.Table.{from, valueOf, value64Of, recordName, typeOf, btfOf}
 use Rattle.btf.proofs.KindLaws.{by-kind, type-0, type-1, type-2, type-3, type-4, type-5, type-6, type-7, type-8, type-9, type-10, type-11, type-12, type-13, type-14, type-15, type-16, type-17, type-18, type-19, type-none}
-use Rattle.classes.specs.Classes.{spaceOf, among}
+use Rattle.classed.specs.Classes.{spaceOf, among}
 use Rattle.ledger.specs.Indexed.{number, valuePlace, Fits, FitsValue}
 use Rattle.ledger.proofs.Keys.{no-void}
 

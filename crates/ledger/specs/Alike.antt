@@ -8,7 +8,7 @@ use Rattle.rules.specs.Types.{Name}
 use Rattle.rules.specs.Names.{Space, Names, holders}
 use Rattle.btf.specs.declared.types.Btf.{Btf}
 use Rattle.btf.specs.Cells.{getField, countP}
-use Rattle.classes.specs.Classes.{keyIn, classOf}
+use Rattle.classed.specs.Classes.{keyIn, classOf}
 use Rattle.ledger.specs.Indexed.{Holds, Kept}
 
 -- w is the work after opening, v the work now

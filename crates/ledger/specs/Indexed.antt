@@ -14,9 +14,9 @@ use Rattle.btf.specs.Names.{nameAt, strAt}
 use Rattle.btf.specs.Numbers.{headP, nextP, takenP, takenAt}
 use Rattle.btf.specs.Records.{sectionWord, vlenOf, kindOf, memberAt, paramAt, recordById}
 use Rattle.btf.specs.Table.{recordName, enumeratorOf}
-use Rattle.classes.specs.Classes.{recordP, spaceOf, spaceAt, nameOf, keyIn, classOf, least}
-use Rattle.classes.specs.Same.{sameList}
-use Rattle.classes.specs.Claims.{Room}
+use Rattle.classed.specs.Classes.{recordP, spaceOf, spaceAt, nameOf, keyIn, classOf, least}
+use Rattle.classed.specs.Same.{sameList}
+use Rattle.classed.specs.Claims.{Room}
 use Rattle.ledger.specs.Passed.{Lists}
 
 -- the numbers of the spaces: 0 tags, 1 typedefs with enumerators; 2 is for what has no space

@@ -13,8 +13,8 @@ use Rattle.lent.proofs.Laws.{get-put-other}
 use Rattle.btf.specs.declared.types.Btf.{Btf}
 use Rattle.btf.specs.Cells.{placeOf, classP}
 use Rattle.btf.specs.Numbers.{headP, nextP, takenP, takenAt}
-use Rattle.classes.specs.Classes.{recordP, spaceAt, nameOf, keyOf, keyIn}
-use Rattle.classes.proofs.Keys.{place-apart}
+use Rattle.classed.specs.Classes.{recordP, spaceAt, nameOf, keyOf, keyIn}
+use Rattle.classed.proofs.Keys.{place-apart}
 use Rattle.takers.specs.Takers.{suffixOn, anySuffix, nameIn, baseFrom, listedOn, onBase, takerPut, takersPut}
 use Rattle.listed.specs.Listed.{numbersOn, baseOf, numberOf}
 use Rattle.listed.proofs.Chains.{onOne, onAll, lists-read}

@@ -6,7 +6,7 @@ use lib.Dec.{eqb}
 use Rattle.lent.specs.Words.{getWord}
 use Rattle.btf.specs.declared.types.Btf.{Btf}
 use Rattle.btf.specs.Cells.{classP}
-use Rattle.classes.specs.Classes.{keyIn}
+use Rattle.classed.specs.Classes.{keyIn}
 use Rattle.takers.specs.Takers.{suffixOn, anySuffix, nameIn, baseFrom, listedOn}
 
 -- ---- any bases and numbers: `base` has the holder on whose list h stands, or 0; `num` the number that it takes

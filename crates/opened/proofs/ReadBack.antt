@@ -25,9 +25,9 @@ use Rattle.records.specs.Section.{bigEndian, wordOf, stringArea, headerSound, s
 use Rattle.followed.specs.Followed.{countOf, followedCount, followedId}
 use Rattle.followed.specs.References.{BadReference}
 use Rattle.followed.proofs.BadIds.{bad-reference}
-use Rattle.classes.specs.Classes.{bucketP, linkP, keyIn, classOf, tableClassed}
-use Rattle.classes.specs.Claims.{Room, Else}
-use Rattle.classes.proofs.Ledger.{the-words}
+use Rattle.classed.specs.Classes.{bucketP, linkP, keyIn, classOf, tableClassed}
+use Rattle.classed.specs.Claims.{Room, Else}
+use Rattle.classed.proofs.Ledger.{the-words}
 use Rattle.takers.specs.Takers.{takersIn}
 use Rattle.takers.proofs.Holders.{mode-off}
 use Rattle.takers.proofs.Frame.{Unlisted, takers-word, takers-long, field-unlisted, nine-unlisted, entry-unlisted, place-unlisted}

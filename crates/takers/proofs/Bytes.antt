@@ -12,7 +12,7 @@ use borrow.Author.Tests.{le-leb, lt-leb, eq-eqb, ne-eqb}
 use Rattle.lent.specs.Words.{pick}
 use Rattle.lent.proofs.Laws.{le-or-lt}
 use Rattle.btf.specs.Names.{nameAt}
-use Rattle.classes.proofs.Names.{name-end, name-zero, name-more}
+use Rattle.classed.proofs.Names.{name-end, name-zero, name-more}
 use Rattle.takers.specs.Takers.{digitAfter, numeralFrom, numeral, afterUnderscores, suffixIn, suffixOn, anySuffix}
 
 -- ---- digit_after

@@ -12,7 +12,7 @@ use Rattle.btf.specs.declared.types.Btf.{Btf}
 use Rattle.btf.specs.Cells.{classP}
 use Rattle.btf.specs.Names.{nameAt}
 use Rattle.btf.specs.Numbers.{headP, nextP, takenP}
-use Rattle.classes.specs.Classes.{keyOf, keyIn}
+use Rattle.classed.specs.Classes.{keyOf, keyIn}
 use Rattle.takers.specs.Takers.{afterUnderscores, numeralFrom, suffixIn, suffixOn, anySuffix, nameIn, baseFrom, listedOn, onBase, takerPut, takersPut, withTakers, takersIn}
 
 -- ---- keys

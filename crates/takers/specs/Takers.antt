@@ -8,7 +8,7 @@ use Rattle.lent.specs.Words.{getWord, putWord, pick}
 use Rattle.btf.specs.declared.types.Btf.{Btf}
 use Rattle.btf.specs.Cells.{classP}
 use Rattle.btf.specs.Numbers.{headP, nextP, takenP}
-use Rattle.classes.specs.Classes.{keyIn}
+use Rattle.classed.specs.Classes.{keyIn}
 
 -- ---- suffixes
 

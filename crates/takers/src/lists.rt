@@ -9,7 +9,7 @@ use lent::get_word;
 use lent::put_word;
 ghost use mathlib.Core.Path.{_≡_};
 ghost use Prim.Native.Nat.{_-_};
-ghost use Rattle.classes.specs.Classes.{keyOf, keyIn};
+ghost use Rattle.classed.specs.Classes.{keyOf, keyIn};
 ghost use Rattle.takers.specs.Takers.{suffixOn, anySuffix, nameIn, baseFrom, listedOn, takerPut, withTakers, takersIn};
 
 // The number with which the key y is x with a suffix, or 0.

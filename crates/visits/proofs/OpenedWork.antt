@@ -16,7 +16,7 @@ use Rattle.btf.specs.Cells.{getField}
 use Rattle.btf.specs.Table.{btfOf, workNaming}
 use Rattle.header.specs.Header.{btfOf as headerIn}
 use Rattle.btf.proofs.Laws.{place-type}
-use Rattle.classes.proofs.Keys.{place-apart}
+use Rattle.classed.proofs.Keys.{place-apart}
 use Rattle.fill.proofs.Zeros.{other-field}
 use Rattle.opened.specs.Opened.{workOf}
 use Rattle.opened.specs.Causes.{openingNumber}

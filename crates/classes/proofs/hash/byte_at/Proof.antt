@@ -1,6 +1,6 @@
 use denote.Ref.{now}
 use Prim.Native.Nat.{_+_}
-use Rattle.classes.proofs.Names as laws
+use Rattle.classed.proofs.Names as laws
 use native.Mathlib.Omega.{arith}
 use borrow.Author.Needs.{needs}
 use Rattle.classes.proofs.hash.byte_at.Statement.{statement}

@@ -1,9 +1,9 @@
-use Rattle.classes.specs.Table.{hashFrom}
+use Rattle.classed.specs.Table.{hashFrom}
 use Rattle.btf.specs.Names.{nameAt}
 use lib.ListN.{length}
 use mathlib.Core.Path.{_≡_, refl}
 use Prim.Native.Nat.{_-_}
-use Rattle.classes.proofs.Names as laws
+use Rattle.classed.proofs.Names as laws
 use borrow.Author.Needs.{needs}
 use native.Mathlib.Omega.{arith}
 use Rattle.classes.proofs.hash.hash_name.Statement.{statement}

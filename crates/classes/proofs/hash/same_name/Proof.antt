@@ -1,9 +1,9 @@
 use Rattle.btf.specs.Names.{nameAt}
-use Rattle.classes.specs.Same.{sameList}
+use Rattle.classed.specs.Same.{sameList}
 use lib.ListN.{length}
 use mathlib.Core.Path.{_≡_, ap}
 use Prim.Native.Nat.{_-_, _+_}
-use Rattle.classes.proofs.Names as laws
+use Rattle.classed.proofs.Names as laws
 use borrow.Author.Needs.{needs}
 use native.Mathlib.Omega.{arith}
 use Rattle.classes.proofs.hash.same_name.Statement.{statement}

@@ -1,7 +1,7 @@
 use native.Mathlib.Omega.{arith}
 use borrow.Author.Needs.{needs}
-use Rattle.classes.proofs.Keys as keys
-use Rattle.classes.proofs.Keys.{State}
+use Rattle.classed.proofs.Keys as keys
+use Rattle.classed.proofs.Keys.{State}
 use Prim.Native.Nat.{_-_, _+_, _*_, _≤_, _/_}
 use mathlib.Core.Path.{_≡_, refl, _∙_}
 use lib.ListN.{length}

@@ -1,12 +1,12 @@
 use native.Mathlib.Omega.{arith}
 use borrow.Author.Needs.{needs}
-use Rattle.classes.proofs.Keys as keys
-use Rattle.classes.proofs.Fill as fills
+use Rattle.classed.proofs.Keys as keys
+use Rattle.classed.proofs.Fill as fills
 use Prim.Native.Nat.{ℕ, _-_, _≤_}
 use mathlib.Core.Path.{_≡_, refl, ap, _∙_}
 use mathlib.Core.List.{List}
 use lib.ListN.{length}
-use Rattle.classes.specs.Classes.{bucketP, linkP, fill, noughts}
+use Rattle.classed.specs.Classes.{bucketP, linkP, fill, noughts}
 use Rattle.classes.proofs.holders.clear_scratch.Statement.{statement}
 use Rattle.classes.proofs.holders.clear_scratch.Tie as tie
 use Rattle.classes.proofs.holders.clear_scratch.Reads as reads

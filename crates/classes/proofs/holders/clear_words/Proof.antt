@@ -1,9 +1,9 @@
 use Rattle.btf.specs.Cells.{placeOf}
-use Rattle.classes.specs.Classes.{fill, noughts}
+use Rattle.classed.specs.Classes.{fill, noughts}
 use lib.ListN.{length}
 use mathlib.Core.Path.{_≡_, refl, ap, _∙_}
 use Prim.Native.Nat.{_-_, _≤_}
-use Rattle.classes.proofs.Fill as fills
+use Rattle.classed.proofs.Fill as fills
 use borrow.Author.Needs.{needs}
 use native.Mathlib.Omega.{arith}
 use Rattle.classes.proofs.holders.clear_words.Statement.{statement}

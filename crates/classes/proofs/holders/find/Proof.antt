@@ -1,11 +1,11 @@
 use native.Mathlib.Omega.{arith}
 use borrow.Author.Needs.{needs}
-use Rattle.classes.proofs.Laws as laws
-use Rattle.classes.proofs.Laws.{Walk}
+use Rattle.classed.proofs.Laws as laws
+use Rattle.classed.proofs.Laws.{Walk}
 use mathlib.Core.Path.{ap, ap₂, _∙_}
 use Rattle.lent.specs.Words.{getWord}
-use Rattle.classes.specs.Classes.{keyIn, bucketP, linkP}
-use Rattle.classes.specs.Same.{sameList}
+use Rattle.classed.specs.Classes.{keyIn, bucketP, linkP}
+use Rattle.classed.specs.Same.{sameList}
 use Rattle.classes.proofs.holders.find.Statement.{statement}
 use Rattle.classes.proofs.holders.find.Tie as tie
 use Rattle.classes.proofs.holders.find.Reads as reads

@@ -1,10 +1,10 @@
-use Rattle.classes.proofs.Keys as keys
-use Rattle.classes.proofs.Laws as laws
-use Rattle.classes.proofs.Fill as fills
+use Rattle.classed.proofs.Keys as keys
+use Rattle.classed.proofs.Laws as laws
+use Rattle.classed.proofs.Fill as fills
 use mathlib.Core.Path.{ap, _∙_}
 use Rattle.lent.specs.Words.{getWord}
 use Rattle.btf.specs.Cells.{classP}
-use Rattle.classes.specs.Classes.{bucketP, linkP}
+use Rattle.classed.specs.Classes.{bucketP, linkP}
 use borrow.Author.Needs.{needs}
 use Rattle.classes.proofs.holders.put_holder.Statement.{statement}
 use Rattle.classes.proofs.holders.put_holder.Tie as tie

@@ -1,4 +1,4 @@
-use Rattle.classes.proofs.Keys as keys
+use Rattle.classed.proofs.Keys as keys
 use borrow.Author.Needs.{needs}
 use Rattle.classes.proofs.holders.same_key.Statement.{statement}
 use Rattle.classes.proofs.holders.same_key.Tie as tie

@@ -1,5 +1,5 @@
 use native.Mathlib.Omega.{arith}
-use Rattle.classes.proofs.Keys as keys
+use Rattle.classed.proofs.Keys as keys
 use borrow.Author.Needs.{needs}
 use Rattle.classes.proofs.holders.space_at.Statement.{statement}
 use Rattle.classes.proofs.holders.space_at.Tie as tie

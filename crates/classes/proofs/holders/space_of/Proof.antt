@@ -1,4 +1,4 @@
-use Rattle.classes.proofs.Keys as keys
+use Rattle.classed.proofs.Keys as keys
 use Rattle.classes.proofs.holders.space_of.Statement.{statement}
 use Rattle.classes.proofs.holders.space_of.Tie as tie
 use Rattle.classes.proofs.holders.space_of.Reads as reads

@@ -1,6 +1,6 @@
 use Rattle.takers.proofs.Holders.{base-found, base-turn, base-end}
 use Rattle.takers.specs.Takers.{suffixOn, baseFrom}
-use Rattle.classes.specs.Classes.{keyIn}
+use Rattle.classed.specs.Classes.{keyIn}
 use mathlib.Core.Path.{_≡_, refl, ap₂, _∙_}
 use Prim.Native.Nat.{_-_}
 use native.Mathlib.Omega.{arith}

@@ -11,14 +11,14 @@ use lib.Dec.{eqb}
 use borrow.Author.Tests.{eqb-true, eqb-false, lt-ltb, le-ltb}
 use Rattle.lent.specs.Words.{getWord, putWord, pick, oneMore}
 use Rattle.lent.proofs.Laws.{put-length, get-put-same, get-put-other}
-use Rattle.classes.specs.Same.{sameList}
-use Rattle.classes.proofs.Names.{same-equal, same-from}
-use Rattle.classes.specs.Classes.{classOf, timesOf, fill, noughts, withClasses, countedAll}
+use Rattle.classed.specs.Same.{sameList}
+use Rattle.classed.proofs.Names.{same-equal, same-from}
+use Rattle.classed.specs.Classes.{classOf, timesOf, fill, noughts, withClasses, countedAll}
 use Rattle.btf.specs.Cells.{withMore, countOf, counted}
-use Rattle.classes.specs.Claims.{Below}
-use Rattle.classes.specs.Table.{Places}
-use Rattle.classes.proofs.Fill.{fill-length, get-else, get-fill}
-use Rattle.classes.proofs.Laws.{by, class-le, class-key, class-same, class-again}
+use Rattle.classed.specs.Claims.{Below}
+use Rattle.classed.specs.Table.{Places}
+use Rattle.classed.proofs.Fill.{fill-length, get-else, get-fill}
+use Rattle.classed.proofs.Laws.{by, class-le, class-key, class-same, class-again}
 
 -- ---- what stands at each word
 module _ (key : ℕ → List ℕ) (class bucket link : ℕ → ℕ) (n : ℕ) (w : List ℕ) where

@@ -11,9 +11,9 @@ use Rattle.btf.specs.declared.types.Btf.{Btf}
 use Rattle.btf.specs.Cells.{placeOf, withMore, countOf, counted, classP, countP}
 use Rattle.btf.specs.Records.{sectionWord}
 use Rattle.btf.specs.Names.{upToZero, nameAt}
-use Rattle.classes.specs.Same.{sameList}
-use Rattle.classes.specs.Claims.{afterCounts, nextCount}
-use Rattle.classes.specs.Classes.{least, classOf, fill, withClasses, countedAll, recordP, bucketP, linkP, among, spaceOf, spaceAt, nameOf, keyOf, keyIn, tableClassed}
+use Rattle.classed.specs.Same.{sameList}
+use Rattle.classed.specs.Claims.{afterCounts, nextCount}
+use Rattle.classed.specs.Classes.{least, classOf, fill, withClasses, countedAll, recordP, bucketP, linkP, among, spaceOf, spaceAt, nameOf, keyOf, keyIn, tableClassed}
 
 -- words, lowest byte first, and bytes after them
 pub bytes : List ℕ → List ℕ → List ℕ

@@ -9,11 +9,11 @@ use Rattle.lent.specs.Words.{getWord}
 use Rattle.lent.proofs.Laws.{le-or-lt}
 use Rattle.btf.specs.declared.types.Btf.{Btf}
 use Rattle.btf.specs.Cells.{placeOf, classP, countP}
-use Rattle.classes.specs.Classes.{timesOf, bucketP, linkP, keyIn, withClasses, tableClassed}
-use Rattle.classes.specs.Claims.{First, Room, Words, Ledger}
-use Rattle.classes.proofs.Laws.{class-le, class-key, class-first, class-same}
-use Rattle.classes.proofs.Count.{with-length, with-else, with-class, with-bucket, with-link, Books, count-law}
-use Rattle.classes.proofs.Keys.{places, place-in, count-one, class-count, count-bucket, count-link, key-is, class-void, too-many, too-short, long-enough}
+use Rattle.classed.specs.Classes.{timesOf, bucketP, linkP, keyIn, withClasses, tableClassed}
+use Rattle.classed.specs.Claims.{First, Room, Words, Ledger}
+use Rattle.classed.proofs.Laws.{class-le, class-key, class-first, class-same}
+use Rattle.classed.proofs.Count.{with-length, with-else, with-class, with-bucket, with-link, Books, count-law}
+use Rattle.classed.proofs.Keys.{places, place-in, count-one, class-count, count-bucket, count-link, key-is, class-void, too-many, too-short, long-enough}
 
 pub first : First
 first =

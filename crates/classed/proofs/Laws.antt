@@ -12,11 +12,11 @@ use lib.Dec.{eqb}
 use borrow.Author.Tests.{eq-eqb, ne-eqb, eqb-true, eqb-false}
 use Rattle.lent.specs.Words.{getWord, putWord, pick}
 use Rattle.lent.proofs.Laws.{le-or-lt}
-use Rattle.classes.specs.Same.{sameList}
-use Rattle.classes.proofs.Names.{same-self, same-equal, same-from}
-use Rattle.classes.specs.Classes.{least, classOf, fill, noughts, withClasses}
-use Rattle.classes.specs.Table.{hashFrom, hashKey, bucketOf, stands, lastOf, nextOf, Places, Ready, Finds, placed, stateOf}
-use Rattle.classes.proofs.Fill.{fill-length, get-else, put-else, get-fill, put-fill, fill-same, fill-over, fill-swap}
+use Rattle.classed.specs.Same.{sameList}
+use Rattle.classed.proofs.Names.{same-self, same-equal, same-from}
+use Rattle.classed.specs.Classes.{least, classOf, fill, noughts, withClasses}
+use Rattle.classed.specs.Table.{hashFrom, hashKey, bucketOf, stands, lastOf, nextOf, Places, Ready, Finds, placed, stateOf}
+use Rattle.classed.proofs.Fill.{fill-length, get-else, put-else, get-fill, put-fill, fill-same, fill-over, fill-swap}
 
 pub by : (t : Bool) → (P : Type 0) → (t ≡ true → P) → (t ≡ false → P) → P
 by true P a b = a refl

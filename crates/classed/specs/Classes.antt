@@ -9,7 +9,7 @@ use Rattle.btf.specs.declared.types.Btf.{Btf}
 use Rattle.btf.specs.Cells.{placeOf, withMore, countOf, counted, classP, countP}
 use Rattle.btf.specs.Records.{sectionWord, kindOf}
 use Rattle.btf.specs.Names.{nameAt, namePlace}
-use Rattle.classes.specs.Same.{sameList}
+use Rattle.classed.specs.Same.{sameList}
 
 -- ---- any holders: `key` gives the space and the name of each
 -- the least number up to h that has p; h where none has

@@ -14,12 +14,12 @@ use Rattle.btf.specs.Cells.{placeOf, classP, countP}
 use Rattle.btf.specs.Records.{sectionWord, kindOf}
 use Rattle.btf.proofs.Laws.{place-type, place-enum}
 use Rattle.btf.specs.Names.{nameAt}
-use Rattle.classes.specs.Same.{sameList}
-use Rattle.classes.specs.Classes.{classOf, fill, noughts, withClasses, recordP, bucketP, linkP, among, spaceOf, spaceAt, nameOf, keyOf, keyIn, tableClassed}
-use Rattle.classes.specs.Table.{hashFrom, bucketOf, Places, Ready, Finds, placed, stateOf}
-use Rattle.classes.proofs.Names.{same-from, same-heads, other-heads}
-use Rattle.classes.proofs.Fill.{get-else}
-use Rattle.classes.proofs.Laws as laws
+use Rattle.classed.specs.Same.{sameList}
+use Rattle.classed.specs.Classes.{classOf, fill, noughts, withClasses, recordP, bucketP, linkP, among, spaceOf, spaceAt, nameOf, keyOf, keyIn, tableClassed}
+use Rattle.classed.specs.Table.{hashFrom, bucketOf, Places, Ready, Finds, placed, stateOf}
+use Rattle.classed.proofs.Names.{same-from, same-heads, other-heads}
+use Rattle.classed.proofs.Fill.{get-else}
+use Rattle.classed.proofs.Laws as laws
 
 -- ---- places
 module _ (t f g : ℕ) where

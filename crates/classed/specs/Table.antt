@@ -7,7 +7,7 @@ use mathlib.Core.Logic.{_≢_}
 use lib.Dec.{eqb}
 use Rattle.lent.specs.Words.{getWord, putWord, pick}
 use Rattle.btf.specs.declared.types.Btf.{Btf}
-use Rattle.classes.specs.Classes.{classOf, fill, bucketP, linkP, keyIn}
+use Rattle.classed.specs.Classes.{classOf, fill, bucketP, linkP, keyIn}
 use Rattle.btf.specs.Cells.{classP}
 
 -- a hash; another one would change no class

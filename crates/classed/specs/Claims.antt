@@ -6,7 +6,7 @@ use mathlib.Core.Logic.{_≢_}
 use lib.ListN.{length}
 use Rattle.lent.specs.Words.{getWord}
 use Rattle.btf.specs.declared.types.Btf.{Btf}
-use Rattle.classes.specs.Classes.{recordP, bucketP, linkP, spaceAt, keyIn, classOf, tableClassed, countedAll, timesOf}
+use Rattle.classed.specs.Classes.{recordP, bucketP, linkP, spaceAt, keyIn, classOf, tableClassed, countedAll, timesOf}
 use Rattle.btf.specs.Cells.{classP, countP, countOf}
 
 -- 01, Name ledger, "The first holder of a name": the class of h is the first holder, from 0 up, with the space and the name of h

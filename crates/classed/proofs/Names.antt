@@ -13,8 +13,8 @@ use borrow.Author.Tests.{eq-eqb, ne-eqb, eqb-true}
 use lib.Dec.{eqb}
 use Rattle.lent.proofs.Laws.{le-or-lt}
 use Rattle.btf.specs.Names.{upToZero, nameAt}
-use Rattle.classes.specs.Same.{sameList}
-use Rattle.classes.specs.Table.{stepOf, hashFrom}
+use Rattle.classed.specs.Same.{sameList}
+use Rattle.classed.specs.Table.{stepOf, hashFrom}
 
 up-zero : (x : ℕ) (l : List ℕ) → x ≡ 0 → upToZero (x ∷ l) ≡ []
 unfolding upToZero

@@ -8,7 +8,7 @@ use native.Mathlib.Numerals.{add-one}
 use lib.ListN.{length}
 use Rattle.lent.specs.Words.{getWord, putWord}
 use Rattle.lent.proofs.Laws.{le-or-lt, put-length, get-put-same, get-put-other, put-again, put-swap}
-use Rattle.classes.specs.Classes.{fill}
+use Rattle.classed.specs.Classes.{fill}
 
 module _ (at : ℕ → ℕ) where
   pub fill-length : (g : ℕ → ℕ) (w : List ℕ) (n : ℕ) → length (fill at g w n) ≡ length w
