@@ -99,7 +99,7 @@ pub fn open_ours(ours: &mut Ours, plan: &Plan, expect: Result<Sound, u32>) -> Re
             same("opening, work past the need", spare, &vec![0; spare.len()])?;
             let record = record_words([
                 1, ours.section.len() as u64, ours.work.len() as u64, sound.types as u64, sound.enumerators as u64, 0,
-                plan.pointer_size as u64, plan.modes as u64 & 7,
+                plan.pointer_size as u64, plan.modes as u64 & 15,
             ]);
             same("opening, record", ours.record, &record)?;
             Ok(record)

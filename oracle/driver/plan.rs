@@ -104,8 +104,8 @@ pub fn plan(r: &mut Random, types: u32, how: u32) -> Plan {
         .collect();
     Plan {
         pointer_size: r.pick(&[4, 8]),
-        // bits 1 and 2, strong arrays and placing mode, are not the Rust's
-        modes: if r.percent(10) { r.next() as u32 & !6 } else { r.below(2) },
+        // bits 1 to 3, strong arrays, placing mode and names apart, are not the Rust's
+        modes: if r.percent(10) { r.next() as u32 & !14 } else { r.below(2) },
         spare_work: if r.percent(30) { r.below(70) } else { 0 },
         open_text: r.pick(&[0, 0, 1, 17, 300, 5000]),
         junk: r.pick(&[0x00, 0xcd, 0x31, 0xff]),
