@@ -153,7 +153,7 @@ fn put_type(
 }
 
 // The types that are kept.
-pub fn put_types(
+fn put_types(
     b: Btf,
     section: &[u8],
     start: &[u32],
