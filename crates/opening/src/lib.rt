@@ -1,64 +1,13 @@
 // Opening a section: causes 1 to 9, and what success leaves.
-use btf::Btf;
-use followed::has_bad_reference;
+use examined::header_cause;
+use examined::reference_cause;
 use header::btf_of;
-use header::has_bad_header;
-use header::has_bad_strings;
 use lent::clear;
-use loops::has_loop;
 use opened::Opening;
-use prototypes::leads_to_proto;
 ghost use mathlib.Core.Path.{_≡_};
-ghost use mathlib.Core.Bool.{not};
 ghost use Prim.Native.Nat.{_+_, _*_};
-ghost use Rattle.opened.specs.Causes.{cause1, firstOf, early, late, fromSix};
 ghost use Rattle.opened.specs.Table.{emptyIndex};
 ghost use Rattle.opened.specs.Opened.{openOut, openingOf, examineOut, examined};
-
-// Causes 6, 7 and 8, or 0.
-fn reference_cause(b: Btf, section: &[u8], start: &[u32]) -> u32
-    ensures { λ r. ⌜ r ≡ fromSix (firstOf (late b (now (section .entry)) (now (start .entry)))) ⌝ }
-{
-    if has_bad_reference(b, section, start) {
-        return 6;
-    }
-    if leads_to_proto(b, section, start) {
-        return 7;
-    }
-    if has_loop(b, section, start) {
-        return 8;
-    }
-    0
-}
-
-// Whether cause 1 does not hold.
-fn is_pointer_size(pointer_size: u32) -> bool
-    ensures { λ r. ⌜ r ≡ not (cause1 «pointer_size») ⌝ }
-{
-    if pointer_size == 4 {
-        return true;
-    }
-    pointer_size == 8
-}
-
-// Causes 1 to 4, or 0.
-fn header_cause(section: &[u8], pointer_size: u32) -> u32
-    ensures { λ r. ⌜ r ≡ firstOf (early «pointer_size» (now (section .entry))) ⌝ }
-{
-    if !is_pointer_size(pointer_size) {
-        return 1;
-    }
-    if 16777216 < section.len() {
-        return 2;
-    }
-    if has_bad_header(section) {
-        return 3;
-    }
-    if has_bad_strings(section) {
-        return 4;
-    }
-    0
-}
 
 // The bytes of work that a table needs.
 fn work_size(types: u32, enumerators: u32) -> u64

@@ -7,8 +7,8 @@ use Rattle.opening.proofs.examine.Reads as reads
 use Rattle.opening.proofs.examine.Lts as lts
 use Rattle.area.proofs.scan.Reads as scan-reads
 use Rattle.header.proofs.btf_of.Reads as btf-of-reads
-use Rattle.opening.proofs.header_cause.Reads as header-cause-reads
-use Rattle.opening.proofs.reference_cause.Reads as reference-cause-reads
+use Rattle.examined.proofs.header_cause.Reads as header-cause-reads
+use Rattle.examined.proofs.reference_cause.Reads as reference-cause-reads
 use Rattle.opening.proofs.work_size.Reads as work-size-reads
 
 header-cause-requires : tie.Need-header-cause-requires

@@ -1,13 +1,13 @@
 use borrow.Author.Tests.{not-true, not-false}
 use Rattle.opened.proofs.First.{early-1, early-2, early-3, early-4, early-0}
 use borrow.Author.Needs.{needs}
-use Rattle.opening.proofs.header_cause.Statement.{statement}
-use Rattle.opening.proofs.header_cause.Tie as tie
-use Rattle.opening.proofs.header_cause.Reads as reads
-use Rattle.opening.proofs.header_cause.Lts as lts
+use Rattle.examined.proofs.header_cause.Statement.{statement}
+use Rattle.examined.proofs.header_cause.Tie as tie
+use Rattle.examined.proofs.header_cause.Reads as reads
+use Rattle.examined.proofs.header_cause.Lts as lts
 use Rattle.header.proofs.has_bad_header.Reads as has-bad-header-reads
 use Rattle.header.proofs.has_bad_strings.Reads as has-bad-strings-reads
-use Rattle.opening.proofs.is_pointer_size.Reads as is-pointer-size-reads
+use Rattle.examined.proofs.is_pointer_size.Reads as is-pointer-size-reads
 
 is-pointer-size-requires : tie.Need-is-pointer-size-requires
 is-pointer-size-requires c κs = search needs

@@ -1,8 +1,8 @@
 use Rattle.opened.proofs.First.{pointer-four, pointer-else}
-use Rattle.opening.proofs.is_pointer_size.Statement.{statement}
-use Rattle.opening.proofs.is_pointer_size.Tie as tie
-use Rattle.opening.proofs.is_pointer_size.Reads as reads
-use Rattle.opening.proofs.is_pointer_size.Lts as lts
+use Rattle.examined.proofs.is_pointer_size.Statement.{statement}
+use Rattle.examined.proofs.is_pointer_size.Tie as tie
+use Rattle.examined.proofs.is_pointer_size.Reads as reads
+use Rattle.examined.proofs.is_pointer_size.Lts as lts
 
 returns : tie.Need-returns
 returns c = pointer-four _ (c .if1 .taken)

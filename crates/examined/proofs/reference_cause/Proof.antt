@@ -1,9 +1,9 @@
 use Rattle.opened.proofs.Opens.{late-6, late-7, late-8, late-0}
 use borrow.Author.Needs.{needs}
-use Rattle.opening.proofs.reference_cause.Statement.{statement}
-use Rattle.opening.proofs.reference_cause.Tie as tie
-use Rattle.opening.proofs.reference_cause.Reads as reads
-use Rattle.opening.proofs.reference_cause.Lts as lts
+use Rattle.examined.proofs.reference_cause.Statement.{statement}
+use Rattle.examined.proofs.reference_cause.Tie as tie
+use Rattle.examined.proofs.reference_cause.Reads as reads
+use Rattle.examined.proofs.reference_cause.Lts as lts
 use Rattle.loops.proofs.has_loop.Reads as has-loop-reads
 use Rattle.prototypes.proofs.leads_to_proto.Reads as leads-to-proto-reads
 use Rattle.followed.proofs.has_bad_reference.Reads as has-bad-reference-reads
