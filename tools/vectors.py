@@ -1,7 +1,8 @@
 #!/usr/bin/env python3
-"""Writes the crate crates/vectors: stored sections, on which the prover computes the rules and must find what the Rust gave.
+"""Writes the crates vectors (programs) and answered (sessions): stored sections, on which the prover computes the rules and must find what the
+Rust gave.
 
-  tools/vectors.py            writes crates/vectors/specs and crates/vectors/proofs, in the layout of rt fmt
+  tools/vectors.py            writes specs and proofs of both crates, in the layout of rt fmt
   tools/vectors.py --check    only says whether they hold what it would write
 
 What it reads:
@@ -19,7 +20,7 @@ import struct
 import sys
 
 HERE = os.path.dirname(os.path.dirname(os.path.abspath(__file__)))
-CRATE = os.path.join(HERE, "crates/vectors")
+CRATES = ("vectors", "answered")
 WIDTH = 150     # columns
 DEEP = " " * 4
 BIG = "-big-endian"     # the end of the name of a section that is another one turned
@@ -411,27 +412,27 @@ unfolding bigEndian wordOf wordIn wordAtBig wordAt upToZero nameAt sectionWord r
 {name}-read = refl
 """
 
-# what is taken, whether of LIMITS, the most lines of a file, the files' names, the kind of an entry, the title, where the lists of both sides
-# are, what an entry uses
+# the crate, what is taken, whether of LIMITS, the most lines of a file, the files' names, the kind of an entry, the title, where the lists of
+# both sides are, what an entry uses
 GROUPS = [
-    (programs, False, 470, "Programs", "Printed", "Sections of crates/replay/data: bytes, types, and what the program prints.",
+    ("vectors", programs, False, 470, "Programs", "Printed", "Sections of crates/replay/data: bytes, types, and what the program prints.",
      "Rattle.vectors.specs.Reading", [
          "use Rattle.vectors.specs.Base.{member, param, value}",
          "use Rattle.vectors.specs.Reading.{Printed, prints}"]),
-    (programs, True, 150, "DeepPrograms", "Sample", "Sections of crates/replay/data at the limits of depth, each beside what the program prints.",
+    ("vectors", programs, True, 150, "DeepPrograms", "Sample", "Sections of crates/replay/data at the limits of depth, each beside what the program prints.",
      "Rattle.rules.specs.Samples", [
          "use Rattle.rules.specs.Listed.{listed}",
          "use Rattle.rules.specs.Samples.{Sample, gives}",
          "use Rattle.demand.specs.Session.{program}",
          "use Rattle.vectors.specs.Base.{member}"]),
-    (sessions, False, 470, "Sessions", "Vector", "Sections and requests of oracle/answers.cases, each beside the answers.",
+    ("answered", sessions, False, 470, "Sessions", "Vector", "Sections and requests of oracle/answers.cases, each beside the answers.",
      "Rattle.vectors.specs.Base", [
          "use Rattle.rules.specs.Machine.{one, all}",
          "use Rattle.vectors.specs.Base.{member, param, value, Vector, session}"]),
-    (sessions, True, 150, "DeepSessions", "Vector", "Sections and requests of oracle/answers.cases at the limits of depth, each beside the answers.",
+    ("answered", sessions, True, 150, "DeepSessions", "Vector", "Sections and requests of oracle/answers.cases at the limits of depth, each beside the answers.",
      "Rattle.vectors.specs.Base", [
          "use Rattle.rules.specs.Machine.{one, all}",
          "use Rattle.vectors.specs.Base.{member, param, value, Vector, session}"]),
 ]
 
 
@@ -455,21 +456,24 @@ def chunks(entries, most):
 
 
 def files():
-    out, modules, reads = {"specs/Base.antt": BASE}, [], []
+    """Each file that is written, by its path below crates/."""
+    out = {"vectors/specs/Base.antt": BASE, "vectors/specs/Reading.antt": READING}
+    specs, proofs = {"vectors": ["Base", "Reading"], "answered": []}, {c: [] for c in CRATES}
     uses, names = unfolded()
-    for taken, limits, most, group, kind, title, lists, spec_uses in GROUPS:
+    for crate, taken, limits, most, group, kind, title, lists, spec_uses in GROUPS:
         for i, part in enumerate(chunks([e[3] for e in taken() if (e[0] in LIMITS) == limits], most)):
             module, name = f"{group}{i}", f"{group[0].lower()}{group[1:]}{i}"
-            modules.append(module)
-            out[f"specs/{module}.antt"] = SPECS.format(title=title, module=module, name=name, kind=kind, uses="\n".join(spec_uses), entries="\n    ∷ ".join(part))
-            more = [f"use {lists}.{{allGiven, allWanted}}", f"use Rattle.vectors.specs.{module}.{{{name}}}"]
-            out[f"proofs/{module}.antt"] = PROOFS.format(module=module, name=name, uses="\n".join(uses + more), names=broken(names, "    "))
+            specs[crate].append(module)
+            proofs[crate].append(module)
+            out[f"{crate}/specs/{module}.antt"] = SPECS.format(title=title, module=module, name=name, kind=kind, uses="\n".join(spec_uses), entries="\n    ∷ ".join(part))
+            more = [f"use {lists}.{{allGiven, allWanted}}", f"use Rattle.{crate}.specs.{module}.{{{name}}}"]
+            out[f"{crate}/proofs/{module}.antt"] = PROOFS.format(module=module, name=name, uses="\n".join(uses + more), names=broken(names, "    "))
             if kind == "Printed":
-                reads.append(f"Read{i}")
-                out[f"proofs/Read{i}.antt"] = READS.format(module=module, name=name)
-    out["specs/Reading.antt"] = READING
-    out["specs/Lib.antt"] = "".join(f"pub mod {m}\n" for m in ["Base", "Reading"] + modules)
-    out["proofs/Lib.antt"] = "".join(f"pub mod {m}\n" for m in reads + modules)
+                proofs[crate].insert(i, f"Read{i}")
+                out[f"{crate}/proofs/Read{i}.antt"] = READS.format(module=module, name=name)
+    for crate in CRATES:
+        out[f"{crate}/specs/Lib.antt"] = "".join(f"pub mod {m}\n" for m in specs[crate])
+        out[f"{crate}/proofs/Lib.antt"] = "".join(f"pub mod {m}\n" for m in proofs[crate])
     return out
 
 
@@ -485,16 +489,17 @@ def summary():
 
 def main():
     made = files()
-    stands = {os.path.relpath(p, CRATE): contents(p).decode() for d in ("specs", "proofs") for p in glob.glob(f"{CRATE}/{d}/*.antt")}
+    below = os.path.join(HERE, "crates")
+    stands = {os.path.relpath(p, below): contents(p).decode() for c in CRATES for d in ("specs", "proofs") for p in glob.glob(f"{below}/{c}/{d}/*.antt")}
     if sys.argv[1:] == ["--check"]:
         differ = sorted(p for p in made.keys() | stands.keys() if made.get(p) != stands.get(p))
         if differ:
             sys.exit("tools/vectors.py: not what it would write: " + ", ".join(differ))
     else:
         for p in stands.keys() - made.keys():
-            os.remove(os.path.join(CRATE, p))
+            os.remove(os.path.join(below, p))
         for p, text in made.items():
-            with open(os.path.join(CRATE, p), "w") as f:
+            with open(os.path.join(below, p), "w") as f:
                 f.write(text)
     summary()
 

@@ -16,8 +16,8 @@ use Rattle.rules.specs.Listed.{tagsId, tagsFrom}
 use Rattle.demand.specs.Lists.{tagsOf, afresh}
 use Rattle.demand.specs.Session.{fitting, lineOf, textOf, answerOf, dumped, printed, program}
 use Rattle.signed.specs.Signed.{twos, signed, signedLL}
 use Rattle.vectors.specs.Base.{allGiven, allWanted}
-use Rattle.vectors.specs.Sessions4.{sessions4}
+use Rattle.answered.specs.Sessions4.{sessions4}
 
 pub sessions4-hold : allGiven sessions4 ≡ allWanted sessions4
 unfolding oneMore join bytes pfx digits decimal bind each meet pushIf enter alias fresh visit order obind eeach once mention again close leaf within begin
