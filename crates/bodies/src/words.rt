@@ -6,7 +6,7 @@ use fixed::put_attribute_start;
 use fixed::put_packed_name;
 use names::Name;
 use names::is_blank;
-use names::put_attribute;
+use tags::put_attribute;
 use text::put_byte;
 use text::put_decimal;
 use text::put_two;

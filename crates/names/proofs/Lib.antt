@@ -1,6 +1,4 @@
--- Resolve: what is written with a name that was resolved. Spellings: names as they are printed. Forwards: keywords and
--- forwards. Tags: the tags of a type.
+-- Resolve: what is written with a name that was resolved. Spellings: names as they are printed. Forwards: keywords and forwards.
 pub mod Resolve
 pub mod Spellings
 pub mod Forwards
-pub mod Tags

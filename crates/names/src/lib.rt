@@ -1,10 +1,7 @@
 // Names as they are printed, and the words that stand around them.
-mod attributes;
 mod composite;
 mod versions;
 
-pub use attributes::emit_decl_tags;
-pub use attributes::put_attribute;
 pub use composite::emit_composite_fwd;
 pub use composite::emit_fwd_def;
 pub use composite::put_keyword;

@@ -1,5 +1,5 @@
 // Names that end in three underscores and a number.
-use classes::byte_at;
+use keys::byte_at;
 ghost use mathlib.Core.Path.{_≡_};
 ghost use Rattle.btf.specs.Names.{nameAt};
 ghost use Rattle.takers.specs.Takers.{digitAfter, numeral, suffixIn, suffixOn, anySuffix};

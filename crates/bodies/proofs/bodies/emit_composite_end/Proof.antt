@@ -9,7 +9,7 @@ use Rattle.bodies.proofs.words.put_last_newline.Reads as put-last-newli
 use Rattle.bodies.proofs.words.put_packed.Reads as put-packed-reads
 use Rattle.text.proofs.put_byte.Reads as put-byte-reads
 use Rattle.text.proofs.put_tabs.Reads as put-tabs-reads
-use Rattle.names.proofs.emit_decl_tags.Reads as emit-decl-tags-reads
+use Rattle.tags.proofs.emit_decl_tags.Reads as emit-decl-tags-reads
 
 vlen-of-requires : tie.Need-vlen-of-requires
 vlen-of-requires c κs = search needs

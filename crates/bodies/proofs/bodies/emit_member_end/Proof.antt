@@ -8,7 +8,7 @@ use Rattle.bodies.proofs.words.put_bit_size.Reads as put-bit-size-reads
 use Rattle.layout.proofs.member_end.Reads as member-end-reads
 use Rattle.text.proofs.put_byte.Reads as put-byte-reads
 use Rattle.text.proofs.stop.Reads as stop-reads
-use Rattle.names.proofs.emit_decl_tags.Reads as emit-decl-tags-reads
+use Rattle.tags.proofs.emit_decl_tags.Reads as emit-decl-tags-reads
 
 put-bit-size-requires : tie.Need-put-bit-size-requires
 put-bit-size-requires c κs = search needs

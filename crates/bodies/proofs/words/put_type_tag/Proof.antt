@@ -6,7 +6,7 @@ use Rattle.bodies.proofs.words.put_type_tag.Tie as tie
 use Rattle.bodies.proofs.words.put_type_tag.Reads as reads
 use Rattle.bodies.proofs.words.put_type_tag.Lts as lts
 use Rattle.btf.proofs.kind_flag_of.Reads as kind-flag-of-reads
-use Rattle.names.proofs.put_attribute.Reads as put-attribute-reads
+use Rattle.tags.proofs.put_attribute.Reads as put-attribute-reads
 
 kind-flag-of-requires : tie.Need-kind-flag-of-requires
 kind-flag-of-requires c κs = search needs

@@ -11,7 +11,7 @@ use Rattle.takers.proofs.lists.base_of.Statement.{statement}
 use Rattle.takers.proofs.lists.base_of.Tie as tie
 use Rattle.takers.proofs.lists.base_of.Reads as reads
 use Rattle.takers.proofs.lists.base_of.Lts as lts
-use Rattle.classes.proofs.load_key.Reads as load-key-reads
+use Rattle.keys.proofs.load_key.Reads as load-key-reads
 use Rattle.takers.proofs.lists.key_suffix.Reads as key-suffix-reads
 
 abbrev Inv-loop : tie.InvT-loop

@@ -9,7 +9,7 @@ use Rattle.takers.proofs.lists.put_on.Tie as tie
 use Rattle.takers.proofs.lists.put_on.Reads as reads
 use Rattle.takers.proofs.lists.put_on.Lts as lts
 use Rattle.btf.proofs.holder_word.Reads as holder-word-reads
-use Rattle.classes.proofs.load_key.Reads as load-key-reads
+use Rattle.keys.proofs.load_key.Reads as load-key-reads
 use Rattle.lent.proofs.get_word.Reads as get-word-reads
 use Rattle.lent.proofs.put_word.Reads as put-word-reads
 use Rattle.takers.proofs.lists.key_suffix.Reads as key-suffix-reads

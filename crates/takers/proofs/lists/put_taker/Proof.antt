@@ -6,7 +6,7 @@ use Rattle.takers.proofs.lists.put_taker.Tie as tie
 use Rattle.takers.proofs.lists.put_taker.Reads as reads
 use Rattle.takers.proofs.lists.put_taker.Lts as lts
 use Rattle.btf.proofs.holder_word.Reads as holder-word-reads
-use Rattle.classes.proofs.load_key.Reads as load-key-reads
+use Rattle.keys.proofs.load_key.Reads as load-key-reads
 use Rattle.lent.proofs.get_word.Reads as get-word-reads
 use Rattle.takers.proofs.lists.base_of.Reads as base-of-reads
 use Rattle.takers.proofs.lists.is_suffixed.Reads as is-suffixed-reads

@@ -8,7 +8,7 @@ use Rattle.takers.proofs.suffix.suffix_at.Statement.{statement}
 use Rattle.takers.proofs.suffix.suffix_at.Tie as tie
 use Rattle.takers.proofs.suffix.suffix_at.Reads as reads
 use Rattle.takers.proofs.suffix.suffix_at.Lts as lts
-use Rattle.classes.proofs.byte_at.Reads as byte-at-reads
+use Rattle.keys.proofs.byte_at.Reads as byte-at-reads
 use Rattle.takers.proofs.suffix.numeral_at.Reads as numeral-at-reads
 
 byte-at-requires : tie.Need-byte-at-requires

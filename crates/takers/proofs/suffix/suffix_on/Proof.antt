@@ -13,7 +13,7 @@ use Rattle.takers.proofs.suffix.suffix_on.Statement.{statement}
 use Rattle.takers.proofs.suffix.suffix_on.Tie as tie
 use Rattle.takers.proofs.suffix.suffix_on.Reads as reads
 use Rattle.takers.proofs.suffix.suffix_on.Lts as lts
-use Rattle.classes.proofs.byte_at.Reads as byte-at-reads
+use Rattle.keys.proofs.byte_at.Reads as byte-at-reads
 use Rattle.takers.proofs.suffix.suffix_at.Reads as suffix-at-reads
 
 abbrev Inv-loop : tie.InvT-loop

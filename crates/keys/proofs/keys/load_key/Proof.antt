@@ -1,0 +1,30 @@
+use Rattle.classed.proofs.Keys as keys
+use borrow.Author.Needs.{needs}
+use Rattle.keys.proofs.keys.load_key.Statement.{statement}
+use Rattle.keys.proofs.keys.load_key.Tie as tie
+use Rattle.keys.proofs.keys.load_key.Reads as reads
+use Rattle.keys.proofs.keys.load_key.Lts as lts
+use Rattle.btf.proofs.holder_word.Reads as holder-word-reads
+use Rattle.keys.proofs.keys.name_of.Reads as name-of-reads
+use Rattle.keys.proofs.keys.space_at.Reads as space-at-reads
+use Rattle.lent.proofs.get_word.Reads as get-word-reads
+
+holder-word-requires : tie.Need-holder-word-requires
+holder-word-requires c κs = search needs
+
+get-word-requires : tie.Need-get-word-requires
+get-word-requires c κs = search needs
+
+space-at-requires : tie.Need-space-at-requires
+space-at-requires c κs = search needs
+
+name-of-requires : tie.Need-name-of-requires
+name-of-requires c κs = search needs
+
+returns : tie.Need-returns
+returns c = keys.key-is _ _ _ _ _ _ _ _ (c .before .before .before .holder-word .ensures) (c .before .before .get-word .ensures) (c .before .space-at .ensures) (c .name-of .ensures)
+
+pub load-key-spec : {M : Type 1} → statement M
+load-key-spec =
+    tie.close
+    (tie.spec holder-word-requires get-word-requires space-at-requires name-of-requires returns)
