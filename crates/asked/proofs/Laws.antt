@@ -45,6 +45,11 @@ not-false : (y : Bool) → not y ≡ false → y ≡ true
 not-false true e = refl
 not-false false e = sym e
 
+pub plain-packed : (u : List ℕ) (q : Packed) → forget (plainly (packedOf q) u 0) ≡ packedIn q u
+unfolding packedOf plainly forget packedIn
+plain-packed u (packed.Is p) = refl
+plain-packed u (packed.No c) = refl
+
 module _ (types : ℕ) (B : Rules) where
   abbrev K : Keep (List ℕ)
   K = workKeep types B
@@ -94,15 +99,10 @@ module _ (types : ℕ) (B : Rules) where
           ∙ then-next (λ a. plainly (offBy a (x .bit-offset))) (λ a. steady-plainly (offBy a (x .bit-offset))) (alignmentOnce K 512 B (x .type-id) w 0)
           ∙ ap (next (λ (a : ℕ). plainly {M = List ℕ} (offBy a (x .bit-offset)))) (sym er)
 
-      plain-packed : (q : Packed) → forget (plainly (packedOf q) u 0) ≡ packedIn q u
-      unfolding packedOf plainly forget packedIn
-      plain-packed (packed.Is p) = refl
-      plain-packed (packed.No c) = refl
-
       pub off-got : (a : ℕ) → r ≡ ask.Got a → (q : Packed) → packedOf q ≡ offBy a (x .bit-offset) → packedIn q u ≡ offIn types B x w
       unfolding askIn next
       off-got a e q eq =
-          sym (off-asked ∙ ap (λ (y : Code). next (λ (a : ℕ). plainly {M = List ℕ} (offBy a (x .bit-offset))) (askIn y u)) e ∙ ap (λ (y : Ask Bool). forget (plainly {M = List ℕ} y u 0)) (sym eq) ∙ plain-packed q)
+          sym (off-asked ∙ ap (λ (y : Code). next (λ (a : ℕ). plainly {M = List ℕ} (offBy a (x .bit-offset))) (askIn y u)) e ∙ ap (λ (y : Ask Bool). forget (plainly {M = List ℕ} y u 0)) (sym eq) ∙ plain-packed u q)
 
       pub off-no : (c : ℕ) → r ≡ ask.No c → packedIn (packed.No c) u ≡ offIn types B x w
       unfolding askIn next packedIn

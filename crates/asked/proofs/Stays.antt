@@ -85,6 +85,38 @@ module _ {M : Type 0} where
     pub steady-tested : (sz a : ℕ) (ms : List Member) → Steady {M = M} {A = Bool} (λ m k. elim (eqb (sz % a) 0) [ true ↦ membersPackedOnce K B ms m k | false ↦ found true m k ])
     steady-tested sz a ms = steady-if (eqb (sz % a) 0) (membersPackedOnce K B ms) (found true) (steady-members ms) (steady-found true)
 
+    pub steady-packed : (is-struct : Bool) (id sz : ℕ) (ms : List Member) → Steady (packedOnce K B is-struct id sz ms)
+    unfolding packedOnce forget
+    steady-packed is-struct id sz ms = by is-struct
+      where
+        by : (q : Bool) → Steady {M = M} {A = Bool} (λ m k. elim q [ false ↦ found false m k | true ↦ onceThen (alignmentOnce K 512 B id m k) (λ a m′ k′. elim (eqb (sz % a) 0) [ true ↦ membersPackedOnce K B ms m′ k′ | false ↦ found true m′ k′ ]) ])
+        by false = λ m k. refl
+        by true = steady-then (alignmentOnce K 512 B id) (λ a m′ k′. elim (eqb (sz % a) 0) [ true ↦ membersPackedOnce K B ms m′ k′ | false ↦ found true m′ k′ ]) (steady-alignment 512 id) (λ a. steady-tested sz a ms)
+
+    pub steady-gap : (packed : Bool) (id : ℕ) → Steady (gapAlignOnce K B packed id)
+    unfolding gapAlignOnce
+    steady-gap packed id = steady-if packed (found 1) (alignmentOnce K 512 B id) (steady-found 1) (steady-alignment 512 id)
+
+    steady-union : (is-struct : Bool) (id : ℕ) → Steady (unionAlignOnce K B is-struct id)
+    unfolding unionAlignOnce
+    steady-union is-struct id = steady-if is-struct (found 1) (alignmentOnce K 512 B id) (steady-found 1) (steady-alignment 512 id)
+
+    pub steady-padding : (offset : ℕ) (x : Member) (packed : Bool) → Steady (paddingOnce K B offset x packed)
+    unfolding paddingOnce
+    steady-padding offset x packed =
+        steady-if (leb (x .bit-offset) offset) _ _ (steady-found [])
+        (steady-then (gapAlignOnce K B packed (x .type-id)) (λ a. found (padsBefore (B .placing) (B .ptr-sz) offset (x .bit-size) (x .bit-offset - offset) a)) (steady-gap packed (x .type-id)) (λ a. steady-found _))
+
+    pub steady-judged : (is-struct : Bool) (id sz : ℕ) (ms : List Member) (a : ℕ) → Steady {M = M} {A = Bool} (λ m k. onceThen (packedOnce K B is-struct id sz ms m k) (λ packed. plainly (judged B is-struct sz ms a packed)))
+    steady-judged is-struct id sz ms a = steady-then (packedOnce K B is-struct id sz ms) (λ packed. plainly (judged B is-struct sz ms a packed)) (steady-packed is-struct id sz ms) (λ packed. steady-plainly (judged B is-struct sz ms a packed))
+
+    pub steady-body : (is-struct : Bool) (id sz : ℕ) (ms : List Member) → Steady (bodyOnce K B is-struct id sz ms)
+    unfolding bodyOnce measuredOnce
+    steady-body is-struct id sz ms =
+        steady-if (B .placing) _ (packedOnce K B is-struct id sz ms)
+        (steady-then (unionAlignOnce K B is-struct id) (λ a m₁ k₁. onceThen (packedOnce K B is-struct id sz ms m₁ k₁) (λ packed. plainly (judged B is-struct sz ms a packed))) (steady-union is-struct id) (λ a. steady-judged is-struct id sz ms a))
+        (steady-packed is-struct id sz ms)
+
 -- ---- what remembering keeps is kept
 module _ {M X : Type 0} (P : M → X) where
   abbrev pub Stays : {A : Type 0} → M → Once M A → Type 0

@@ -10,7 +10,9 @@ use Rattle.layout.specs.declared.Ask.the-variants.{Got, No}
 use Rattle.layout.specs.declared.Packed.{Packed}
 use Rattle.layout.specs.declared.Packed.the-variants.{Is, No as NoPacked}
 use Rattle.alignments.specs.Once.{Keep, Once, found, refused, Asking, onceThen, alignmentOnce}
-use Rattle.alignments.specs.Steps.{plainly, membersPackedOnce, packedOnce, gapAlignOnce, unionAlignOnce}
+use Rattle.btf.specs.Cells.{getField}
+use Rattle.alignments.specs.Steps.{plainly, membersPackedOnce, packedOnce, gapAlignOnce, unionAlignOnce, paddingOnce, bodyOnce}
+use Rattle.alignments.specs.Writers.{Asks}
 use Rattle.remembered.specs.Words.{workKeep, forget}
 
 -- what the code's answers say, with the work at that moment
@@ -52,3 +54,10 @@ module _ (types : ℕ) (B : Rules) where
 
   unfoldable pub packedAt : Bool → ℕ → ℕ → List Member → List ℕ → Once (List ℕ) Bool
   packedAt is-struct id sz ms w = forget (packedOnce (workKeep types B) B is-struct id sz ms w 0)
+
+-- what an emitter asks of the work; the visits so far stand in word 2 of void
+abbrev pub workAsks : ℕ → Rules → Asks (List ℕ)
+workAsks types B = record {
+  padding = λ offset x packed w. paddingOnce (workKeep types B) B offset x packed w (getField w 0 2);
+  body = λ is-struct id sz ms w. bodyOnce (workKeep types B) B is-struct id sz ms w (getField w 0 2);
+}
