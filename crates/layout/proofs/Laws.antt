@@ -128,24 +128,23 @@ module _ (b : Btf) (s w : List ℕ) (left id : ℕ) where
           let f : 4 ≤ k = omega arith in
           near 4 k f (λ e. size-sized (inl e)) (λ g. near 5 k g (λ e. size-sized (inr (inl e))) (λ i. size-sized (inr (inr (inl (omega arith))))))
 
-      -- 8 to 11; 17 and 18
-      module _ (r : Code) (er : askOf r ≡ getSizeOf (left - 1) (btfOf b s w) (t .«type_id»)) where
-        pub size-through : 8 ≤ k → k < 12 → askOf r ≡ getSizeOf left (btfOf b s w) id
-        unfolding sizeOf
-        size-through l h =
-            near 8 k l (λ e. er ∙ sym (size-is _ (type-8 b s t (sym ek ∙ e)))) (λ l9.
-            near 9 k l9 (λ e. er ∙ sym (size-is _ (type-9 b s t (sym ek ∙ e)))) (λ l10.
-            near 10 k l10 (λ e. er ∙ sym (size-is _ (type-10 b s t (sym ek ∙ e)))) (λ l11.
-            let e : k ≡ 11 = omega arith in
-            er ∙ sym (size-is _ (type-11 b s t (sym ek ∙ e))))))
+      -- 8 to 11; 17 and 18: the type that it names, with one call less
+      pub size-through : 8 ≤ k → k < 12 → getSizeOf left (btfOf b s w) id ≡ getSizeOf (left - 1) (btfOf b s w) (t .«type_id»)
+      unfolding sizeOf
+      size-through l h =
+          near 8 k l (λ e. size-is _ (type-8 b s t (sym ek ∙ e))) (λ l9.
+          near 9 k l9 (λ e. size-is _ (type-9 b s t (sym ek ∙ e))) (λ l10.
+          near 10 k l10 (λ e. size-is _ (type-10 b s t (sym ek ∙ e))) (λ l11.
+          let e : k ≡ 11 = omega arith in
+          size-is _ (type-11 b s t (sym ek ∙ e)))))
 
-        pub size-tagged : 16 ≤ k → k < 19 → ((k ≡ 16) ⊎ (k ≡ 19) → ⊥) → askOf r ≡ getSizeOf left (btfOf b s w) id
-        unfolding sizeOf
-        size-tagged l h n =
-            near 16 k l (λ e. absurd (n (inl e))) (λ l17.
-            near 17 k l17 (λ e. er ∙ sym (size-is _ (type-17 b s t (sym ek ∙ e)))) (λ l18.
-            let e : k ≡ 18 = omega arith in
-            er ∙ sym (size-is _ (type-18 b s t (sym ek ∙ e)))))
+      pub size-tagged : 16 ≤ k → k < 19 → ((k ≡ 16) ⊎ (k ≡ 19) → ⊥) → getSizeOf left (btfOf b s w) id ≡ getSizeOf (left - 1) (btfOf b s w) (t .«type_id»)
+      unfolding sizeOf
+      size-tagged l h n =
+          near 16 k l (λ e. absurd (n (inl e))) (λ l17.
+          near 17 k l17 (λ e. size-is _ (type-17 b s t (sym ek ∙ e))) (λ l18.
+          let e : k ≡ 18 = omega arith in
+          size-is _ (type-18 b s t (sym ek ∙ e))))
 
       size-none : (T : BtfType) → typeOf b s t ≡ T → sizeOf (btfOf b s w) (getSizeOf (left - 1) (btfOf b s w)) T ≡ got 0 → askOf (Got 0) ≡ getSizeOf left (btfOf b s w) id
       unfolding askOf

@@ -73,21 +73,34 @@ fn octets(bits: u32) -> u32
 pub fn get_size_of(b: Btf, section: &[u8], work: &[u8], id: u32, left: u32) -> Ask
     ensures { λ r. ⌜ askOf r ≡ getSizeOf left (btfOf b (now (section .entry)) (now (work .entry))) id ⌝ }
 {
-    if left == 0 {
-        return Ask::No(12);
-    }
-    let t = type_by_id(b, section, work, id);
-    match kind_of(t.info) {
-        1 => Ask::Got(octets(int_bits(b, section, t))),
-        2 => Ask::Got(b.ptr_sz),
-        3 => {
-            let element = get_size_of(b, section, work, array_type(b, section, t), left - 1);
-            product(array_nelems(b, section, t), element)
+    let mut at = id;
+    let mut more = left;
+    while more != 0 {
+        let t = type_by_id(b, section, work, at);
+        more -= 1;
+        match kind_of(t.info) {
+            1 => {
+                return Ask::Got(octets(int_bits(b, section, t)));
+            }
+            2 => {
+                return Ask::Got(b.ptr_sz);
+            }
+            3 => {
+                let element = get_size_of(b, section, work, array_type(b, section, t), more);
+                return product(array_nelems(b, section, t), element);
+            }
+            4..=6 | 16 | 19 => {
+                return Ask::Got(t.type_id);
+            }
+            8..=11 | 17 | 18 => {
+                at = t.type_id;
+            }
+            _ => {
+                return Ask::Got(0);
+            }
         }
-        4..=6 | 16 | 19 => Ask::Got(t.type_id),
-        8..=11 | 17 | 18 => get_size_of(b, section, work, t.type_id, left - 1),
-        _ => Ask::Got(0),
     }
+    Ask::No(12)
 }
 
 pub fn get_align_of(b: Btf, section: &[u8], work: &[u8], id: u32, left: u32) -> Ask
