@@ -106,19 +106,36 @@ pub fn get_size_of(b: Btf, section: &[u8], work: &[u8], id: u32, left: u32) -> A
 pub fn get_align_of(b: Btf, section: &[u8], work: &[u8], id: u32, left: u32) -> Ask
     ensures { λ r. ⌜ askOf r ≡ getAlignOf left (btfOf b (now (section .entry)) (now (work .entry))) id ⌝ }
 {
-    if left == 0 {
-        return Ask::No(12);
+    let mut at = id;
+    let mut more = left;
+    while more != 0 {
+        let t = type_by_id(b, section, work, at);
+        more -= 1;
+        match kind_of(t.info) {
+            1 => {
+                return Ask::Got(smaller(b.ptr_sz, octets(int_bits(b, section, t))));
+            }
+            2 => {
+                return Ask::Got(b.ptr_sz);
+            }
+            3 => {
+                at = array_type(b, section, t);
+            }
+            4 | 5 => {
+                return align_members(b, section, work, entries_of(t), more);
+            }
+            6 | 16 | 19 => {
+                return Ask::Got(smaller(b.ptr_sz, t.type_id));
+            }
+            8..=11 | 18 => {
+                at = t.type_id;
+            }
+            _ => {
+                return Ask::Got(0);
+            }
+        }
     }
-    let t = type_by_id(b, section, work, id);
-    match kind_of(t.info) {
-        1 => Ask::Got(smaller(b.ptr_sz, octets(int_bits(b, section, t)))),
-        2 => Ask::Got(b.ptr_sz),
-        3 => get_align_of(b, section, work, array_type(b, section, t), left - 1),
-        4 | 5 => align_members(b, section, work, entries_of(t), left - 1),
-        6 | 16 | 19 => Ask::Got(smaller(b.ptr_sz, t.type_id)),
-        8..=11 | 18 => get_align_of(b, section, work, t.type_id, left - 1),
-        _ => Ask::Got(0),
-    }
+    Ask::No(12)
 }
 
 // The largest of the members' alignments, at least 1. `last` is the type before, whose alignment is in `align` already; from
