@@ -45,3 +45,11 @@ module _ (B : Btf) (below : WF (tableOf B)) (rs : List Req) (h : PassesNone B rs
 
 pub both-alike : Claim
 both-alike B below rs h = record { watched = is-watched B below rs h; alike = sym (is-watched B below rs h) ∙ is-old B below rs h }
+
+-- what is so of a list of requests is so of each list that it begins with
+pub passes-before : (B : Btf) (rs qs : List Req) → PassesNone B (rs ++ qs) → PassesNone B rs
+passes-before B rs qs h = go rs (openedWatched B) h
+  where
+    go : (ps : List Req) (S : Sess (Ls (Known Watched))) → NeverOver (linesWatched (watched B) B) (tableOf B) (ps ++ qs) S → NeverOver (linesWatched (watched B) B) (tableOf B) ps S
+    go [] S k = tt
+    go (p ∷ ps) S k = (k .0, go ps (answerWatched (linesWatched (watched B) B) (tableOf B) S p .sess) (k .1))
