@@ -1,11 +1,10 @@
 -- THE THEOREM: where no number is passed over, both modes print alike, of the calls of two sessions. Assumes nothing.
-use Prim.Native.Nat.{ℕ, zero, suc, _/_, _%_}
+use Prim.Native.Nat.{ℕ, _/_, _%_}
 use mathlib.Core.Path.{_≡_, refl, ap, _∙_, sym, subst}
 use mathlib.Core.Bool.{Bool, true, false}
 use mathlib.Core.List.{List, [], _∷_, _++_}
 use native.Mathlib.Omega.{arith}
-use lib.ListN.{length, take}
-use lib.Dec.{eqb}
+use lib.ListN.{length}
 use borrow.Author.Tests.{eq-eqb, ne-eqb}
 use Rattle.rules.specs.Machine.{Sess, Answer, Req, one, all, single, every, serve, run}
 use Rattle.rules.specs.Types.{Btf, tableOf}
@@ -14,7 +13,6 @@ use Rattle.opened.specs.Table.{enumeratorsOf}
 use Rattle.opened.specs.Opened.{workOf}
 use Rattle.opened.specs.Causes.{openingNumber}
 use Rattle.turns.specs.Turns.{Call}
-use Rattle.turns.specs.Answers.{numberOf, valueOf}
 use Rattle.calls.specs.Calls.{typeCall, typesCall}
 use Rattle.demand.specs.Lists.{Ls}
 use Rattle.demand.specs.Session.{Known, Dump, dump, textOf, machineBy, openedBy, answerOf, dumped, noNames, dumpTypes}

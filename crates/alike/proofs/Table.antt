@@ -1,7 +1,7 @@
 -- Openings that differ in bit 3 of the modes only leave the same table: the lists of taken numbers leave all that it reads alone. Assumes nothing but that
 -- opening accepts the section.
-use Prim.Native.Nat.{ℕ, _+_, _-_, _*_, _/_, _%_, _<_, _≤_}
-use mathlib.Core.Path.{_≡_, refl, ap, _∙_, sym}
+use Prim.Native.Nat.{ℕ, _+_, _-_, _*_, _/_, _%_, _≤_}
+use mathlib.Core.Path.{_≡_, ap, _∙_, sym}
 use mathlib.Core.List.{List}
 use mathlib.Core.Logic.{⊎-elim}
 use native.Mathlib.Omega.{arith}
@@ -9,7 +9,6 @@ use lib.ListN.{replicate}
 use lib.Dec.{eqb}
 use Rattle.lent.specs.Words.{getWord}
 use Rattle.lent.proofs.Laws.{le-or-lt}
-use Rattle.rules.specs.Types.{Btf as Rules}
 use Rattle.btf.specs.declared.types.Btf.{Btf}
 use Rattle.btf.specs.Cells.{getField}
 use Rattle.btf.specs.Table.{btfOf}
@@ -18,7 +17,7 @@ use Rattle.header.specs.Header.{btfOf as settingsOf}
 use Rattle.takers.specs.Takers.{takersIn}
 use Rattle.takers.proofs.Frame.{Unlisted, takers-word, field-unlisted, nine-unlisted, entry-unlisted}
 use Rattle.fill.specs.Left.{filled}
-use Rattle.opened.specs.Table.{typesOf, enumeratorsOf, indexOf}
+use Rattle.opened.specs.Table.{enumeratorsOf, indexOf}
 use Rattle.opened.specs.Opened.{workOf}
 use Rattle.opened.specs.Causes.{openingNumber}
 use Rattle.claims.specs.Table.{headerOf, openedTable}

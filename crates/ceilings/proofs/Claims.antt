@@ -1,36 +1,36 @@
 -- THE THEOREM: the claims of specs/Claims hold. Assumes nothing.
-use Prim.Native.Nat.{ℕ, zero, suc, zero-le, _-_}
+use Prim.Native.Nat.{ℕ, zero-le, _-_}
 use mathlib.Core.Path.{_≡_, refl, ap, _∙_, sym, subst}
-use mathlib.Core.Bool.{true, false}
-use mathlib.Core.List.{List, [], _∷_, _++_}
+use mathlib.Core.Bool.{false}
+use mathlib.Core.List.{List, [], _∷_}
 use mathlib.Core.Logic.{_↔_}
 use native.Mathlib.Omega.{arith}
-use lib.ListN.{length, take}
+use lib.ListN.{length}
 use lib.Seq.{length-take-le}
 use Rattle.rules.specs.Machine.{Sess, Req, single, every, run}
 use Rattle.rules.specs.Names.{Names}
 use Rattle.opened.specs.Causes.{openingNumber}
 use Rattle.turns.specs.declared.Answer.the-variants.{Refused}
 use Rattle.turns.specs.declared.Session.{Session}
-use Rattle.turns.specs.Answers.{numberOf, valueOf, answerOf}
+use Rattle.turns.specs.Answers.{numberOf, valueOf}
 use Rattle.turns.specs.Turns.{Call, callOf, unchanged, isCurrent}
 use Rattle.calls.specs.Calls.{typeCall, typesCall}
 use Rattle.calls.specs.Lists.{counted, listFrom, listCall}
 use Rattle.calls.proofs.Claims.{type-not-current, types-not-current, closed-stays}
 use Rattle.calls.proofs.Lists.{counted-stops}
 use Rattle.within.specs.Within.{CallWithin, typeCallWithin, typesCallWithin}
-use Rattle.within.specs.Lists.{countedWithin, listFromWithin, listCallWithin}
+use Rattle.within.specs.Lists.{listFromWithin, listCallWithin}
 use Rattle.within.proofs.ListLaws.{counted-stops as within-stops}
 use Rattle.demand.specs.Needs.{MeetsTwice}
 use Rattle.demand.specs.Lists.{Ls}
-use Rattle.demand.specs.Session.{Known, textOf}
+use Rattle.demand.specs.Session.{Known}
 use Rattle.claims.specs.Table.{machineIn}
 use Rattle.claims.specs.Session.{After, after-open, after-one, after-all, after-list, Tells, singlesFor}
 use Rattle.claims.specs.Demands.{Lent, typesIn, ruled, Demand2, Demand3Calls}
 use Rattle.claims.proofs.Claims.{opening-gives}
 use Rattle.claims.proofs.Session.{after-holds, run-then}
 use Rattle.claims.proofs.Demands.{open-number, delivered}
-use Rattle.ceilings.specs.Ceilings.{Ceiling, none, upTo, typeUnder, typesUnder, listUnder, Within, Over, acceptedOf, onesFrom, Under, Ended, ended-one, ended-all, ended-list, later-one, later-all, later-list}
+use Rattle.ceilings.specs.Ceilings.{Ceiling, none, upTo, typeUnder, typesUnder, listUnder, acceptedOf, onesFrom, Under, Ended, ended-one, ended-all, ended-list, later-one, later-all, later-list}
 use Rattle.ceilings.specs.Claims.{NoneOver, Stands, UnderCeilings}
 use Rattle.ceilings.proofs.Plain.{type-plain, types-plain, under-plain}
 use Rattle.ceilings.proofs.Shut.{Shut, one-shut, all-shut, list-over}

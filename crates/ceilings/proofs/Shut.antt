@@ -1,8 +1,8 @@
 -- What 22 leaves: the text of the requests accepted before it, in a closed session. Assumes nothing but that opening accepts the section.
 use Prim.Native.Nat.{ℕ, zero, suc, _+_, _-_, _/_, _%_, _<_, _≤_}
 use mathlib.Core.Path.{_≡_, refl, ap, _∙_, sym, subst}
-use mathlib.Core.Bool.{Bool, true, false, true≢false}
-use mathlib.Core.List.{List, [], _∷_, _++_}
+use mathlib.Core.Bool.{true, false}
+use mathlib.Core.List.{List, [], _∷_}
 use mathlib.Core.Logic.{⊎-elim}
 use native.Mathlib.Omega.{arith}
 use native.Mathlib.Nat.{le-refl}
@@ -11,7 +11,7 @@ use lib.Seq.{length-take-le, take-take}
 use lib.Dec.{eqb}
 use Rattle.lent.proofs.Laws.{le-or-lt}
 use Rattle.rules.specs.Order.{Table}
-use Rattle.rules.specs.Machine.{Machine, Sess, Answer, Req, one, single, serve, run}
+use Rattle.rules.specs.Machine.{Machine, Sess, Answer, Req, single, serve, run}
 use Rattle.rules.specs.Names.{Names}
 use Rattle.btf.specs.declared.types.Btf.{Btf}
 use Rattle.btf.specs.Table.{btfOf}
@@ -36,7 +36,7 @@ use Rattle.claims.specs.Table.{headerOf, machineIn}
 use Rattle.claims.specs.Session.{Holds, singlesFor}
 use Rattle.claims.specs.Demands.{typesIn}
 use Rattle.claims.proofs.Described.{count-described}
-use Rattle.claims.proofs.Session.{Going, BothReach, both-reached, both-ended, request-reach, going, types-is, type-keeps}
+use Rattle.claims.proofs.Session.{Going, BothReach, both-reached, both-ended, request-reach, going, type-keeps}
 use Rattle.ceilings.specs.Ceilings.{Over, oneMoreIf, acceptedFrom, acceptedOf, onesFrom}
 use Rattle.ceilings.proofs.Over.{TypeOver, type-over, every, TypesOver, types-over}
 

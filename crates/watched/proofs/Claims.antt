@@ -5,14 +5,14 @@ use mathlib.Core.List.{List, [], _∷_, _++_}
 use mathlib.Core.Logic.{⊎-elim}
 use Rattle.rules.specs.Machine.{Sess, Answer, Req, one, all}
 use Rattle.rules.specs.Types.{Btf, tableOf}
-use Rattle.rules.specs.Names.{Naming, Names, naming}
+use Rattle.rules.specs.Names.{Naming, naming}
 use Rattle.demand.specs.Needs.{WF}
 use Rattle.demand.specs.Lists.{Lines, Ls}
-use Rattle.demand.specs.Session.{Known, linesBy, Dump, answerOf, openedBy, dumped, noNames, dumpTypes}
+use Rattle.demand.specs.Session.{Known, linesBy, answerOf, dumped, noNames, dumpTypes}
 use Rattle.demand.proofs.AnyNames.{dumps-alike}
 use Rattle.apart.specs.Apart.{Apart, apart, noneShown, dumpApart}
-use Rattle.watched.specs.Watched.{Watched, watched, passedOver, linesWatched, answerWatched, dumpedWatched, NeverOver, noneWatched, openedWatched, dumpWatched, PassesNone}
-use Rattle.watched.specs.Claims.{BothAlike, Claim}
+use Rattle.watched.specs.Watched.{Watched, watched, linesWatched, answerWatched, dumpedWatched, NeverOver, noneWatched, openedWatched, dumpWatched, PassesNone}
+use Rattle.watched.specs.Claims.{Claim}
 use Rattle.watched.proofs.Stops.{AnswerUp, single-up, every-up}
 use Rattle.watched.proofs.Lines.{AnyName, AnyValue, any-fits, counting, lines-same, watched-names, Rel, counting-names, lines-up}
 

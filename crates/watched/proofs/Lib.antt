@@ -1,4 +1,5 @@
 pub mod Stops
 pub mod Lines
+pub mod Exactly
 pub mod Samples
 pub mod Claims

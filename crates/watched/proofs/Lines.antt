@@ -2,7 +2,7 @@
 -- equal, and from there on both lines are refused. Assumes nothing.
 use Prim.Native.Nat.{ℕ, _+_}
 use mathlib.Core.Path.{_≡_, refl, ap, _∙_, sym, subst}
-use mathlib.Core.Bool.{Bool, true, false, _||_, _&&_}
+use mathlib.Core.Bool.{Bool, true, false, _||_}
 use mathlib.Core.List.{List, [], _∷_}
 use mathlib.Core.Logic.{_⊎_, inl, inr, ⊎-elim}
 use lib.ListN.{getD, set}
@@ -16,9 +16,9 @@ use Rattle.rules.specs.Names.{Space, identSpace, Resolved, Naming, Names, spell
 use Rattle.rules.specs.Emit.{definition, forward}
 use Rattle.rules.proofs.Closed.{ValuesFit, TypeFits, Closed, r-definition, r-forward}
 use Rattle.rules.proofs.Related.{RelResolved, RelNaming}
-use Rattle.demand.specs.Lists.{Line, cannot, Lines}
+use Rattle.demand.specs.Lists.{Line, cannot}
 use Rattle.demand.specs.Session.{Known, lineOf, linesBy}
-use Rattle.apart.specs.Apart.{ofType, ofValue, Apart, among, taken, spellingsIn, numberFor, shown, typeApart, valueApart, apart}
+use Rattle.apart.specs.Apart.{ofType, ofValue, Apart, among, taken, numberFor, shown, typeApart, valueApart, apart}
 use Rattle.apart.proofs.Alike.{not-passed, more-first}
 use Rattle.watched.specs.Watched.{passesOver, Watched, typeWatched, valueWatched, watched, passedOver, lineWatched, linesWatched}
 use Rattle.watched.proofs.Stops.{LineUp, LinesUp}

@@ -8,7 +8,7 @@ use lib.ListN.{getD}
 use lib.Dec.{eqb}
 use Rattle.lent.specs.Words.{oneMore}
 use Rattle.rules.specs.Order.{Table}
-use Rattle.rules.specs.Machine.{Machine, Sess, Answer, Req, one, all, single, every}
+use Rattle.rules.specs.Machine.{Sess, Answer, Req, one, all, single, every}
 use Rattle.rules.specs.Writer.{Said, said}
 use Rattle.rules.specs.Types.{Name, Btf, tableOf}
 use Rattle.rules.specs.Names.{Space, identSpace, Resolved, Naming, spelled, holders}
