@@ -35,6 +35,7 @@ module _ (pointer modes old : ℕ) (s : List ℕ) (n : ℕ) where
   pub record PrintAlike (c d : Call) (rs : List Req) : Type 0 where
     pub text-len : NonePassed rs → c .session .«text_len» ≡ d .session .«text_len»
     pub text : NonePassed rs → take (c .session .«text_len») (c .text) ≡ take (d .session .«text_len») (d .text)
+    pub is-open : NonePassed rs → c .session .«open» ≡ d .session .«open»
     -- and the next request
     pub next-type : (t u : List ℕ) → Lent c t → Lent d u → length t ≡ length u → (id : ℕ) → NonePassed (rs ++ (one (length t) id ∷ []))
         → SameAnswer (typeCall (c .session) s (c .work) t id) (typeCall (d .session) s (d .work) u id)
