@@ -29,7 +29,7 @@ use Rattle.apart.proofs.Tables.{table-ends}
 use Rattle.passed.proofs.Passed.{lists-alike}
 use Rattle.collide.proofs.Right.{lists-right}
 use Rattle.watched.proofs.Claims.{both-alike}
-use Rattle.watched.proofs.Probe.{told, told-once, past-number, passes-past}
+use Rattle.watched.proofs.Probe.{told-once, past-number, passes-past}
 use Rattle.alike.specs.Claims.{SameAnswer, OnlyNames, NonePassed}
 use Rattle.alike.proofs.Table.{tables-same}
 

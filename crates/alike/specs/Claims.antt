@@ -8,8 +8,9 @@ use Rattle.rules.specs.Machine.{Req, one, all}
 use Rattle.turns.specs.Answers.{numberOf, valueOf}
 use Rattle.turns.specs.Turns.{Call}
 use Rattle.calls.specs.Calls.{typeCall, typesCall}
+use Rattle.calls.specs.Lists.{listCall}
 use Rattle.claims.specs.Table.{openedTable}
-use Rattle.claims.specs.Session.{After}
+use Rattle.claims.specs.Session.{singlesFor, made, After}
 use Rattle.claims.specs.Demands.{Lent}
 use Rattle.watched.specs.Watched.{PassesNone}
 
@@ -18,6 +19,13 @@ pub record SameAnswer (c d : Call) : Type 0 where
   pub number : numberOf (c .answer) ≡ numberOf (d .answer)
   pub value : valueOf (c .answer) ≡ valueOf (d .answer)
   pub text : take (valueOf (c .answer)) (c .text) ≡ take (valueOf (d .answer)) (d .text)
+
+-- of a list: the same number, as many accepted, and the same text
+pub record SameList (c d : Call) : Type 0 where
+  pub number : numberOf (c .answer) ≡ numberOf (d .answer)
+  pub accepted : valueOf (c .answer) ≡ valueOf (d .answer)
+  pub text-len : c .session .«text_len» ≡ d .session .«text_len»
+  pub text : take (c .session .«text_len») (c .text) ≡ take (d .session .«text_len») (d .text)
 
 -- pointer size, section and length of the work, as at both openings; the modes of the one and of the other
 module _ (pointer modes old : ℕ) (s : List ℕ) (n : ℕ) where
@@ -41,6 +49,9 @@ module _ (pointer modes old : ℕ) (s : List ℕ) (n : ℕ) where
         → SameAnswer (typeCall (c .session) s (c .work) t id) (typeCall (d .session) s (d .work) u id)
     pub next-types : (t u : List ℕ) → Lent c t → Lent d u → length t ≡ length u → NonePassed (rs ++ (all (length t) ∷ []))
         → SameAnswer (typesCall (c .session) s (c .work) t) (typesCall (d .session) s (d .work) u)
+    pub next-list : (t u : List ℕ) → Lent c t → Lent d u → length t ≡ length u → (ids : List ℕ)
+        → NonePassed (rs ++ singlesFor (length t) (made 0 (listCall (c .session) s (c .work) t ids)) ids)
+        → SameList (listCall (c .session) s (c .work) t ids) (listCall (d .session) s (d .work) u ids)
 
   -- THE CLAIM, of all pointer sizes, sections and lengths of the work, and all modes that differ in bit 3 only
   abbrev pub BothModes : Type 0

@@ -1,13 +1,12 @@
 -- A number is passed over exactly if the number that is taken is not the one after the holders there are. Assumes nothing.
 use Prim.Native.Nat.{ℕ, zero, suc, _+_, _<_, _≤_}
-use mathlib.Core.Path.{_≡_, refl, ap, _∙_, sym, subst}
+use mathlib.Core.Path.{_≡_, refl, sym, subst}
 use mathlib.Core.Bool.{Bool, true, false, true≢false}
 use mathlib.Core.List.{List, [], _∷_}
 use native.Mathlib.Omega.{arith}
 use native.Mathlib.Nat.{le-refl}
 use lib.ListN.{length}
 use lib.Dec.{eqb}
-use borrow.Author.Tests.{eqb-false}
 use Rattle.lent.specs.Words.{oneMore}
 use Rattle.rules.specs.Types.{Name, Btf}
 use Rattle.rules.specs.Names.{Space, spelled, holders}
