@@ -11,18 +11,18 @@ use Rattle.calls.specs.Lists.{listCall}
 use Rattle.within.proofs.Claims.{type-fits, types-fits}
 use Rattle.within.proofs.ListClaims.{list-fits}
 use Rattle.claims.specs.Session.{singlesFor, made, After, after-open, after-one, after-all, after-list}
-use Rattle.ceilings.specs.Ceilings.{Ceiling, none, upTo, typeUnder, typesUnder, listUnder, Within, Under, under-open, under-one, under-all, under-list}
+use Rattle.ceilings.specs.Ceilings.{Ceiling, none, upTo, typeUnder, typesUnder, listUnder, NotOver, Under, under-open, under-one, under-all, under-list}
 
 module _ (s : List ℕ) (S : Session) (w t : List ℕ) where
-  pub type-plain : (l : Ceiling) (id : ℕ) → Within (typeUnder l S s w t id) → typeUnder l S s w t id ≡ typeCall S s w t id
+  pub type-plain : (l : Ceiling) (id : ℕ) → NotOver (typeUnder l S s w t id) → typeUnder l S s w t id ≡ typeCall S s w t id
   type-plain none id q = refl
   type-plain (upTo k) id q = type-fits S s w t k id 0 zero-le q .same-call
 
-  pub types-plain : (l : Ceiling) → Within (typesUnder l S s w t) → typesUnder l S s w t ≡ typesCall S s w t
+  pub types-plain : (l : Ceiling) → NotOver (typesUnder l S s w t) → typesUnder l S s w t ≡ typesCall S s w t
   types-plain none q = refl
   types-plain (upTo k) q = types-fits S s w t k q .same-call
 
-  pub list-plain : (l : Ceiling) (ids : List ℕ) → Within (listUnder l S s w t ids) → listUnder l S s w t ids ≡ listCall S s w t ids
+  pub list-plain : (l : Ceiling) (ids : List ℕ) → NotOver (listUnder l S s w t ids) → listUnder l S s w t ids ≡ listCall S s w t ids
   list-plain none ids q = refl
   list-plain (upTo k) ids q = list-fits k S s w t ids q .same-call
 

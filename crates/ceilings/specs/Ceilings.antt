@@ -38,8 +38,8 @@ listUnder (upTo k) s section work text ids = listCallWithin k s section work tex
 abbrev pub Over : Call → Type 0
 Over c = numberOf (c .answer) ≡ 22
 
-abbrev pub Within : Call → Type 0
-Within c = numberOf (c .answer) ≡ 22 → ⊥
+abbrev pub NotOver : Call → Type 0
+NotOver c = numberOf (c .answer) ≡ 22 → ⊥
 
 -- ---- how many ids of a request for all were accepted before the first that is refused
 
@@ -65,11 +65,11 @@ module _ (pointer modes : ℕ) (s : List ℕ) (n : ℕ) where
   -- A call after a successful opening, and the requests since: no 22 came.
   pub data Under : Call → List Req → Type 0 where
     under-open : (S : Session) (work text : List ℕ) → length work ≡ n → numberOf (openCall S s work text pointer modes .answer) ≡ 0 → Under (openCall S s work text pointer modes) []
-    under-one : (c : Call) (rs : List Req) → Under c rs → (text : List ℕ) → Lent c text → (l : Ceiling) (id : ℕ) → Within (typeUnder l (c .session) s (c .work) text id)
+    under-one : (c : Call) (rs : List Req) → Under c rs → (text : List ℕ) → Lent c text → (l : Ceiling) (id : ℕ) → NotOver (typeUnder l (c .session) s (c .work) text id)
         → Under (typeUnder l (c .session) s (c .work) text id) (rs ++ (one (length text) id ∷ []))
-    under-all : (c : Call) (rs : List Req) → Under c rs → (text : List ℕ) → Lent c text → (l : Ceiling) → Within (typesUnder l (c .session) s (c .work) text)
+    under-all : (c : Call) (rs : List Req) → Under c rs → (text : List ℕ) → Lent c text → (l : Ceiling) → NotOver (typesUnder l (c .session) s (c .work) text)
         → Under (typesUnder l (c .session) s (c .work) text) (rs ++ (all (length text) ∷ []))
-    under-list : (c : Call) (rs : List Req) → Under c rs → (text : List ℕ) → Lent c text → (l : Ceiling) (ids : List ℕ) → Within (listUnder l (c .session) s (c .work) text ids)
+    under-list : (c : Call) (rs : List Req) → Under c rs → (text : List ℕ) → Lent c text → (l : Ceiling) (ids : List ℕ) → NotOver (listUnder l (c .session) s (c .work) text ids)
         → Under (listUnder l (c .session) s (c .work) text ids) (rs ++ singlesFor (length text) (made 0 (listUnder l (c .session) s (c .work) text ids)) ids)
 
   -- A call that 22 ended, or one after it: "after 12 to 17 the list may go on". The requests are those accepted before, the single requests

@@ -18,7 +18,7 @@ use Rattle.demand.specs.Session.{textOf}
 use Rattle.claims.specs.Table.{machineIn}
 use Rattle.claims.specs.Session.{After, Tells}
 use Rattle.claims.specs.Demands.{Lent, typesIn, ruled, Demand2, Demand3Calls, Twice}
-use Rattle.ceilings.specs.Ceilings.{Ceiling, typeUnder, typesUnder, listUnder, Within, Under, Ended}
+use Rattle.ceilings.specs.Ceilings.{Ceiling, typeUnder, typesUnder, listUnder, NotOver, Under, Ended}
 
 -- pointer size, mode, section and length of the work, as at opening
 module _ (pointer modes : ℕ) (s : List ℕ) (n : ℕ) where
@@ -29,13 +29,13 @@ module _ (pointer modes : ℕ) (s : List ℕ) (n : ℕ) where
     pub demand2 : Demand2 pointer modes s n c rs
     pub demand3 : Demand3Calls pointer modes s n c rs
     pub twice : Twice pointer modes s n c rs
-    pub next-type : (text : List ℕ) → Lent c text → (l : Ceiling) (id : ℕ) → Within (typeUnder l (c .session) s (c .work) text id)
+    pub next-type : (text : List ℕ) → Lent c text → (l : Ceiling) (id : ℕ) → NotOver (typeUnder l (c .session) s (c .work) text id)
         → Tells (length text) (typeUnder l (c .session) s (c .work) text id) (single (machineIn pointer modes s n) (typesIn pointer modes s n) (length text) (ruled pointer modes s n rs) id)
-    pub next-types : (text : List ℕ) → Lent c text → (l : Ceiling) → Within (typesUnder l (c .session) s (c .work) text)
+    pub next-types : (text : List ℕ) → Lent c text → (l : Ceiling) → NotOver (typesUnder l (c .session) s (c .work) text)
         → Tells (length text) (typesUnder l (c .session) s (c .work) text) (every (machineIn pointer modes s n) (typesIn pointer modes s n) (length text) (ruled pointer modes s n rs) (ruled pointer modes s n rs .isOpen))
     pub cycles : c .session .«open» ≡ true → (text : List ℕ) → Lent c text → (l : Ceiling) (id : ℕ) → id < typesIn pointer modes s n .count → NamedComp (typesIn pointer modes s n) id
         → (ordering (machineIn pointer modes s n) (typesIn pointer modes s n) (length text) (ruled pointer modes s n rs) id ≡ refused 12 → ⊥)
-        → Within (typeUnder l (c .session) s (c .work) text id)
+        → NotOver (typeUnder l (c .session) s (c .work) text id)
         → (numberOf (typeUnder l (c .session) s (c .work) text id .answer) ≡ 13) ↔ MeetsTwice (typesIn pointer modes s n) id
 
   -- c: a call that 22 ended, or a later one; rs: the requests accepted before it. Their text stands, and what demand 3 says of its pieces; the
