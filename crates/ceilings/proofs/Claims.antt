@@ -12,7 +12,7 @@ use Rattle.rules.specs.Names.{Names}
 use Rattle.opened.specs.Causes.{openingNumber}
 use Rattle.turns.specs.declared.Answer.the-variants.{Refused}
 use Rattle.turns.specs.declared.Session.{Session}
-use Rattle.turns.specs.Answers.{numberOf, valueOf}
+use Rattle.turns.specs.Answers.{numberOf, valueOf, answerOf}
 use Rattle.turns.specs.Turns.{Call, callOf, unchanged, isCurrent}
 use Rattle.calls.specs.Calls.{typeCall, typesCall}
 use Rattle.calls.specs.Lists.{counted, listFrom, listCall}
@@ -31,7 +31,7 @@ use Rattle.claims.proofs.Claims.{opening-gives}
 use Rattle.claims.proofs.Session.{after-holds, run-then}
 use Rattle.claims.proofs.Demands.{open-number, delivered}
 use Rattle.ceilings.specs.Ceilings.{Ceiling, none, upTo, typeUnder, typesUnder, listUnder, acceptedOf, onesFrom, Under, Ended, ended-one, ended-all, ended-list, later-one, later-all, later-list}
-use Rattle.ceilings.specs.Claims.{NoneOver, Stands, UnderCeilings}
+use Rattle.ceilings.specs.Claims.{elevenOf, NoneOver, Stands, UnderCeilings}
 use Rattle.ceilings.proofs.Plain.{type-plain, types-plain, under-plain}
 use Rattle.ceilings.proofs.Shut.{Shut, one-shut, all-shut, list-over}
 
@@ -60,24 +60,19 @@ module _ (s : List ℕ) (S : Session) (w : List ℕ) (off : S .«open» ≡ fals
       let r : typesCallWithin k S s w text .call ≡ typesCall S s w text = rw (e, typesCallWithin, typesCall) refl in
       r ∙ types-not-current S s w text e
 
-  abbrev Left : List ℕ → Call → Type 0
-  Left text y = (y .session ≡ S) × (y .work ≡ w) × (y .text ≡ text)
-
-  list-shut : (text : List ℕ) (l : Ceiling) (ids : List ℕ) → Left text (listUnder l S s w text ids)
-  unfolding listCall listFrom listCallWithin listFromWithin callOf numberOf
-  list-shut text none [] = (refl, refl, refl)
+  list-shut : (text : List ℕ) (l : Ceiling) (ids : List ℕ) → listUnder l S s w text ids ≡ unchanged S (elevenOf ids) w text
+  unfolding listCall listFrom listCallWithin listFromWithin callOf numberOf answerOf
+  list-shut text none [] = refl
   list-shut text none (x ∷ ids) =
-      let e : typeCall S s w text x ≡ unchanged S (Refused 11 (S .«text_len»)) w text = type-shut text none x in
       let rest : Call → Call = λ c. listFrom 1 (c .session) s (c .work) (c .text) ids in
-      subst (λ (y : Call). Left text (counted 0 y rest)) (sym e)
-      (subst (Left text) (sym (counted-stops 0 11 (unchanged S (Refused 11 (S .«text_len»)) w text) rest refl (λ z. absurd (omega arith)))) (refl, refl, refl))
-  list-shut text (upTo k) [] = (refl, refl, refl)
+      ap (λ (y : Call). counted 0 y rest) (type-shut text none x) ∙ counted-stops 0 11 (unchanged S (Refused 11 (S .«text_len»)) w text) rest refl (λ z. absurd (omega arith))
+  list-shut text (upTo k) [] = refl
   list-shut text (upTo k) (x ∷ ids) =
       let d : CallWithin = typeCallWithin k S s w text x 0 in
       let e : d .call ≡ unchanged S (Refused 11 (S .«text_len»)) w text = type-shut text (upTo k) x in
       let rest : CallWithin → CallWithin = λ y. listFromWithin k 1 (y .call .session) s (y .call .work) (y .call .text) ids (y .made) in
-      subst (λ (y : CallWithin). Left text (y .call)) (sym (within-stops 0 11 d rest (ap (λ (y : Call). numberOf (y .answer)) e) (λ z. absurd (omega arith))))
-      (ap (λ (y : Call). y .session) e, ap (λ (y : Call). y .work) e, ap (λ (y : Call). y .text) e)
+      ap (λ (y : CallWithin). y .call) (within-stops 0 11 d rest (ap (λ (y : Call). numberOf (y .answer)) e) (λ z. absurd (omega arith)))
+      ∙ ap (λ (y : Call). unchanged (y .session) (Refused 11 0) (y .work) (y .text)) e
 
 module _ (p modes : ℕ) (s : List ℕ) (n : ℕ) where
   -- ---- no 22
@@ -142,7 +137,7 @@ module _ (p modes : ℕ) (s : List ℕ) (n : ℕ) where
     ended-shut (later-list c rs d text l k ids) =
         let h = ended-shut d in
         let e = list-shut s (c .session) (c .work) (h .closed) text k ids in
-        relent c (ruled p modes s n rs) h text l _ _ (e .0) (e .2)
+        relent c (ruled p modes s n rs) h text l _ _ (ap (λ (y : Call). y .session) e) (ap (λ (y : Call). y .text) e)
 
   stands : (c : Call) (rs : List Req) → Ended p modes s n c rs → Stands p modes s n c rs
   stands c rs d =

@@ -4,12 +4,13 @@
 use Prim.Native.Nat.{ℕ, _<_}
 use mathlib.Core.Path.{_≡_}
 use mathlib.Core.Bool.{true, false}
-use mathlib.Core.List.{List}
+use mathlib.Core.List.{List, [], _∷_}
 use mathlib.Core.Logic.{_↔_}
 use lib.ListN.{length, take}
 use Rattle.rules.specs.Order.{refused}
 use Rattle.rules.specs.Machine.{Req, ordering, single, every}
-use Rattle.turns.specs.declared.Answer.the-variants.{Refused}
+use Rattle.turns.specs.declared.Answer.{Answer}
+use Rattle.turns.specs.declared.Answer.the-variants.{Accepted, Refused}
 use Rattle.turns.specs.Answers.{numberOf}
 use Rattle.turns.specs.Turns.{Call, unchanged}
 use Rattle.demand.specs.Needs.{NamedComp, MeetsTwice}
@@ -19,6 +20,11 @@ use Rattle.claims.specs.Table.{machineIn}
 use Rattle.claims.specs.Session.{After, Tells}
 use Rattle.claims.specs.Demands.{Lent, typesIn, ruled, Demand2, Demand3Calls, Twice}
 use Rattle.ceilings.specs.Ceilings.{Ceiling, typeUnder, typesUnder, listUnder, NotOver, Under, Ended}
+
+-- the answer to a list in a closed session: none of its ids is accepted
+abbrev pub elevenOf : List ℕ → Answer
+elevenOf [] = Accepted 0
+elevenOf (x ∷ ids) = Refused 11 0
 
 -- pointer size, mode, section and length of the work, as at opening
 module _ (pointer modes : ℕ) (s : List ℕ) (n : ℕ) where
@@ -48,8 +54,7 @@ module _ (pointer modes : ℕ) (s : List ℕ) (n : ℕ) where
     pub closed : c .session .«open» ≡ false
     pub later-type : (text : List ℕ) (l : Ceiling) (id : ℕ) → typeUnder l (c .session) s (c .work) text id ≡ unchanged (c .session) (Refused 11 (c .session .«text_len»)) (c .work) text
     pub later-types : (text : List ℕ) (l : Ceiling) → typesUnder l (c .session) s (c .work) text ≡ unchanged (c .session) (Refused 11 (c .session .«text_len»)) (c .work) text
-    pub later-list : (text : List ℕ) (l : Ceiling) (ids : List ℕ)
-        → (listUnder l (c .session) s (c .work) text ids .session ≡ c .session) × (listUnder l (c .session) s (c .work) text ids .work ≡ c .work) × (listUnder l (c .session) s (c .work) text ids .text ≡ text)
+    pub later-list : (text : List ℕ) (l : Ceiling) (ids : List ℕ) → listUnder l (c .session) s (c .work) text ids ≡ unchanged (c .session) (elevenOf ids) (c .work) text
 
   -- THE CLAIM, of all pointer sizes, modes, sections and lengths of the work
   pub record UnderCeilings : Type 0 where
