@@ -219,7 +219,8 @@ fn with_member(f: Fit, a: u32, m: BtfMember) -> Fit
     }
 }
 
-// The alignments of the members are those that get_align_of of the struct asks, so 511 calls are left for them.
+// The alignments of the members are those that get_align_of of the struct asks, so 511 calls are left for them. `align` is the
+// alignment of the type `last`, which is not asked twice in a row; from 4294967296 on there is none.
 fn fit_members(b: Btf, section: &[u8], work: &[u8], t: BtfType) -> Fits
     ensures { λ r. ⌜ fitsOf r ≡ fitMembers (getAlignOf 511 (btfOf b (now (section .entry)) (now (work .entry)))) noMember (membersOf b (now (section .entry)) t) ⌝ }
 {
@@ -228,17 +229,23 @@ fn fit_members(b: Btf, section: &[u8], work: &[u8], t: BtfType) -> Fits
         align: 1,
         verdict: 0,
     };
+    let mut align: u32 = 0;
+    let mut last: u64 = 4294967296;
     let mut k: u32 = 0;
     while k < vlen {
         let m = load_member(b, section, t, k);
-        match get_align_of(b, section, work, m.type_id, 511) {
-            Ask::Got(a) => {
-                f = with_member(f, a, m);
+        if (m.type_id as u64) != last {
+            match get_align_of(b, section, work, m.type_id, 511) {
+                Ask::Got(a) => {
+                    align = a;
+                }
+                Ask::No(c) => {
+                    return Fits::No(c);
+                }
             }
-            Ask::No(c) => {
-                return Fits::No(c);
-            }
+            last = m.type_id as u64;
         }
+        f = with_member(f, align, m);
         k += 1;
     }
     Fits::Got(f)
