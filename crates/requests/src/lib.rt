@@ -92,7 +92,7 @@ fn dump_one(b: Btf, section: &[u8], work: &mut [u8], text: &mut [u8], len: u32, 
     arrived(len, to - from, at)
 }
 
-// The same; most ids of a table have nothing to write.
+// The same for the request for all ids, of which most have nothing to write.
 fn dump_next(b: Btf, section: &[u8], work: &mut [u8], text: &mut [u8], len: u32, id: u32) -> Reached
     requires { ⌜ len ≤ length (now text) ⌝ }
     ensures { λ r. ⌜ (reachOf r (now (work .exit)) (now (text .exit)) ≡ requested b (now (section .entry)) id len (now (work .entry)) (now (text .entry))) × (r .len ≤ length (now (text .exit))) ⌝ }
@@ -182,7 +182,7 @@ fn dump_ids(s: Session, section: &[u8], work: &mut [u8], text: &mut [u8], ids: &
                 accepted: k,
             };
         }
-        let r = dump_next(b, section, work, text, len, id);
+        let r = dump_one(b, section, work, text, len, id);
         if r.number != 0 {
             return Tally {
                 len: r.len,
