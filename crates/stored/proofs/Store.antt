@@ -104,7 +104,7 @@ place-before [] t n e = absurd (true≢false (sym e))
 place-before (s ∷ ss) t n e = go (sameBytes s n) e (place-before ss t n)
   where
     go : (q : Bool) → orElse q (has ss n) ≡ true → (has ss n ≡ true → placeIn (ss ++ t) n ≡ placeIn ss n)
-        → elim q as (λ z. ℕ) [ true ↦ 0 | false ↦ suc (length s) + placeIn (ss ++ t) n ] ≡ elim q as (λ z. ℕ) [ true ↦ 0 | false ↦ suc (length s) + placeIn ss n ]
+        → _≡_ {A = ℕ} (elim q [ true ↦ 0 | false ↦ suc (length s) + placeIn (ss ++ t) n ]) (elim q [ true ↦ 0 | false ↦ suc (length s) + placeIn ss n ])
     go true h r = refl
     go false h r = ap (λ (k : ℕ). suc (length s) + k) (r h)
 
@@ -117,7 +117,7 @@ place-last (s ∷ ss) n e = go (sameBytes s n) e (place-last ss n)
     len = length-append s (0 ∷ encodeStrings ss)
 
     go : (q : Bool) → orElse q (has ss n) ≡ false → (has ss n ≡ false → placeIn (ss ++ (n ∷ [])) n ≡ length (encodeStrings ss))
-        → elim q as (λ z. ℕ) [ true ↦ 0 | false ↦ suc (length s) + placeIn (ss ++ (n ∷ [])) n ] ≡ length (s ++ (0 ∷ encodeStrings ss))
+        → _≡_ {A = ℕ} (elim q [ true ↦ 0 | false ↦ suc (length s) + placeIn (ss ++ (n ∷ [])) n ]) (length (s ++ (0 ∷ encodeStrings ss)))
     go true h r = absurd (true≢false h)
     go false h r = omega (arith, len, r h)
 
@@ -136,3 +136,21 @@ place-store ss (x ∷ ns) n e = place-store (addName ss x) ns n (has-add ss x n 
 
 pub keeps-store : (ss ns : List Name) (n : Name) → has ss n ≡ true → has (store ss ns) n ≡ true
 keeps-store ss ns n e = has-store ss ns n ∙ ap (λ (t : Bool). orElse t (has ns n)) e
+
+or-true : (q : Bool) → orElse q true ≡ true
+or-true true = refl
+or-true false = refl
+
+pub has-added : (ss : List Name) (n : Name) → has (addName ss n) n ≡ true
+has-added ss n = has-add ss n n ∙ ap (orElse (has ss n)) (bytes-same n) ∙ or-true (has ss n)
+
+-- the empty name stands first
+first-place : (ss : List Name) (n : Name) → isEmpty n ≡ true → placeIn (firstNames ++ ss) n ≡ 0
+unfolding isEmpty placeIn sameBytes
+first-place ss [] e = refl
+first-place ss (x ∷ n) e = absurd (true≢false (sym e))
+
+pub place-empty : (ns : List Name) (n : Name) → isEmpty n ≡ true → placeIn (stored ns) n ≡ 0
+place-empty ns n e =
+    place-store firstNames ns n (has-first n ∙ e)
+    ∙ first-place [] n e
