@@ -155,7 +155,7 @@ module _ (p : ℕ) (s : List ℕ) (y : Bytes s) (short : length s ≤ 16777216) 
 
   -- ---- the section
 
-  section-size : length (cutSection m s) ≡ 24 + T + S
+  pub section-size : length (cutSection m s) ≡ 24 + T + S
   unfolding cutSection encodeSection encodeHeader
   section-size =
       let a : List ℕ = encodeAll (bigEndian s) (newTypes m s) in
