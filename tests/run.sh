@@ -21,6 +21,7 @@ compile lists tests/lists.c
 compile ceilings tests/ceilings.c
 compile field tests/field.c
 compile declarations tests/declarations.c
+compile cut tests/cut.c
 compile btfheader tools/btfheader.c
 
 # the example of the README, on the sample section
@@ -48,6 +49,7 @@ done
 "$out/ceilings" "${files[@]}"
 "$out/field" "${files[@]}"
 "$out/declarations"
+"$out/cut" "${files[@]}"
 "$out/guard" 20000 1 "${files[@]}"
 if command -v valgrind >/dev/null; then
 	say valgrind valgrind -q --error-exitcode=1 "$out/guard" 300 1 tests/traps.cases
