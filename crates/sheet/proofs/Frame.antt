@@ -23,7 +23,7 @@ use Rattle.btf.specs.Table.{btfOf, workNaming, typeVersionIn, valueVersionIn, e
 use Rattle.btf.proofs.Laws.{place-type, place-enum}
 use Rattle.btf.proofs.Frame.{field-other, table-field, table-type-version, table-value-version, counted-other}
 use Rattle.marks.specs.Work.{code}
-use Rattle.emit.specs.Sheet.{Sheet, sheetOf, lineIn, workMachine}
+use Rattle.sheet.specs.Sheet.{Sheet, sheetOf, lineIn, workMachine}
 
 module _ {X : Type 0} (P : List ℕ → X) where
   pub data Stays (w : List ℕ) : Out Sheet → Type 0 where

@@ -30,9 +30,9 @@ use Rattle.btf.proofs.Laws.{place-type, place-enum}
 use Rattle.btf.proofs.Frame.{field-other, counted-other}
 use Rattle.marks.specs.Work.{Marks, markOf, code, workStore}
 use Rattle.marks.proofs.Lawful.{work-lawful}
-use Rattle.emit.specs.Sheet.{Sheet, marksIn, sheetStore, emptied, sheetOf, lineIn, workMachine, dumped}
-use Rattle.emit.specs.Tagged.{Tagged, tagged, taggedMachine}
-use Rattle.emit.proofs.Maps.{omap, StoreMap, MachineMap, map-dumped}
+use Rattle.sheet.specs.Sheet.{Sheet, marksIn, sheetStore, emptied, sheetOf, lineIn, workMachine, dumped}
+use Rattle.sheet.specs.Tagged.{Tagged, tagged, taggedMachine}
+use Rattle.sheet.proofs.Maps.{omap, StoreMap, MachineMap, map-dumped}
 
 -- ---- what names leave alone: the length, and words 1 and 13 of the cells
 abbrev words : ℕ → List ℕ → ℕ → ℕ

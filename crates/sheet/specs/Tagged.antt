@@ -5,7 +5,7 @@ use mathlib.Core.List.{List, [], _∷_, _++_}
 use Rattle.rules.specs.Machine.{Out, wrote, stuck, Machine}
 use Rattle.rules.specs.Types.{Btf as Rules}
 use Rattle.btf.specs.declared.types.Btf.{Btf}
-use Rattle.emit.specs.Sheet.{Sheet, sheetStore, workMachine}
+use Rattle.sheet.specs.Sheet.{Sheet, sheetStore, workMachine}
 
 pub record Tagged : Type 0 where
   pub sheet : Sheet

@@ -31,8 +31,8 @@ use Rattle.btf.proofs.Frame.{field-other}
 use Rattle.btf.proofs.KindLaws.{by-kind, type-0, type-1, type-2, type-3, type-4, type-5, type-6, type-7, type-8, type-9, type-10, type-11, type-12, type-13, type-14, type-15, type-16, type-17, type-18, type-19, type-none}
 use Rattle.marks.specs.Work.{markOf}
 use Rattle.marks.proofs.Laws.{is-done, is-busy, is-new, type-at, node-at, named-at, node-is}
-use Rattle.emit.specs.Sheet.{Sheet, sheetOf, withWork, emitOut, lineIn, workMachine, emitIn, newIn, againIn, leafIn, compositeIn, onceIn, mentionIn}
-use Rattle.emit.proofs.Frame.{Stays, on, off, stays-then, table-emark, table-emit, table-each}
+use Rattle.sheet.specs.Sheet.{Sheet, sheetOf, withWork, emitOut, lineIn, workMachine, emitIn, newIn, againIn, leafIn, compositeIn, onceIn, mentionIn}
+use Rattle.sheet.proofs.Frame.{Stays, on, off, stays-then, table-emark, table-emit, table-each}
 
 abbrev pub sheet : ℕ → ℕ → List ℕ → List ℕ → Sheet
 sheet n at t w = record { work = w; text = t; at = at; len = n }

@@ -6,7 +6,7 @@ use mathlib.Core.Bool.{Bool, true, false, not, _&&_, _||_}
 use lib.Dec.{eqb}
 use Rattle.rules.specs.Order.{Table, Node, ignored, plain, listed, through, ptr, tdef, proto, comp, Mark, new, busy, done, Store, Res, ok, refused, bind, isComp, isDone, each, meet, pushIf, finish, enter, alias, fresh, visit, order}
 use Rattle.rules.specs.Machine.{Out, wrote, stuck, Machine, isZero, pick, obind, eeach, once, mention, again, close, leaf, within, begin, allowed, look, emit}
-use Rattle.emit.specs.Sheet.{listedOut, dumped}
+use Rattle.sheet.specs.Sheet.{listedOut, dumped}
 
 module _ {A C : Type 0} (g : A → C) where
   abbrev pub rmap : Res A → Res C
