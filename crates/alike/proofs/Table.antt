@@ -14,9 +14,9 @@ use Rattle.btf.specs.Cells.{getField}
 use Rattle.btf.specs.Table.{btfOf}
 use Rattle.btf.proofs.Frame.{table-same}
 use Rattle.header.specs.Header.{btfOf as settingsOf}
-use Rattle.takers.specs.Takers.{takersIn}
-use Rattle.takers.proofs.Frame.{Unlisted, takers-word, field-unlisted, nine-unlisted, entry-unlisted}
-use Rattle.fill.specs.Left.{filled}
+use Rattle.filled.specs.Takers.{takersIn}
+use Rattle.filled.proofs.Frame.{Unlisted, takers-word, field-unlisted, nine-unlisted, entry-unlisted}
+use Rattle.filled.specs.Left.{filled}
 use Rattle.opened.specs.Table.{enumeratorsOf, indexOf}
 use Rattle.opened.specs.Opened.{workOf}
 use Rattle.opened.specs.Causes.{openingNumber}

@@ -14,7 +14,7 @@ use Rattle.btf.specs.Cells.{getField, putField}
 use Rattle.btf.specs.Records.{sectionWord}
 use Rattle.btf.specs.Table.{tagsFrom}
 use Rattle.btf.proofs.Frame.{field-other}
-use Rattle.fill.specs.Left.{tagPut, tagsPut, isTagOn, tagsOn}
+use Rattle.filled.specs.Left.{tagPut, tagsPut, isTagOn, tagsOn}
 
 -- word 9 or 10 holds h, and the tags from there on are l
 abbrev pub Chain : List ℕ → ℕ → List ℕ → Type 0

@@ -13,7 +13,7 @@ use Rattle.lent.specs.Words.{pick}
 use Rattle.lent.proofs.Laws.{le-or-lt}
 use Rattle.btf.specs.Names.{nameAt}
 use Rattle.classed.proofs.Names.{name-end, name-zero, name-more}
-use Rattle.takers.specs.Takers.{digitAfter, numeralFrom, numeral, afterUnderscores, suffixIn, suffixOn, anySuffix}
+use Rattle.filled.specs.Takers.{digitAfter, numeralFrom, numeral, afterUnderscores, suffixIn, suffixOn, anySuffix}
 
 -- ---- digit_after
 module _ (acc x : ℕ) where

@@ -17,7 +17,7 @@ use Rattle.btf.proofs.Laws.{place-type, place-enum}
 use Rattle.btf.proofs.Frame.{field-other}
 use Rattle.classed.specs.Classes.{tableClassed}
 use Rattle.classed.proofs.Ledger.{the-words}
-use Rattle.fill.specs.Left.{placesPut, valuePlace, enumeratorWord, valuesPut, isEnum, enumWith, valuesAt, tagPut, enumsTo, enumsPut, tagsPut, filled}
+use Rattle.filled.specs.Left.{placesPut, valuePlace, enumeratorWord, valuesPut, isEnum, enumWith, valuesAt, tagPut, enumsTo, enumsPut, tagsPut, filled}
 
 -- ---- which words each part leaves as they were
 -- word f of a type, where f is no class and no scratch word

@@ -14,7 +14,7 @@ use Rattle.btf.specs.declared.types.Btf.{Btf}
 use Rattle.btf.specs.Cells.{getField, putField, countP}
 use Rattle.btf.specs.Records.{sectionWord}
 use Rattle.btf.proofs.Laws.{place-type, place-enum}
-use Rattle.fill.specs.Left.{placesPut, valuePlace, enumeratorWord, valuesPut, isEnum, enumWith, valuesAt, tagPut, enumsTo, enumsPut, tagsPut}
+use Rattle.filled.specs.Left.{placesPut, valuePlace, enumeratorWord, valuesPut, isEnum, enumWith, valuesAt, tagPut, enumsTo, enumsPut, tagsPut}
 
 zero-at : (n i : ℕ) → getD {A = ℕ} (replicate n 0) i 0 ≡ 0
 zero-at n i = ⊎-elim (λ l. List·getD-eq-default (replicate n 0) 0 {n = i} (rw (length-replicate {A = ℕ} n 0) l)) (λ l. getD-replicate {A = ℕ} n i 0 0 l) (le-or-lt n i)

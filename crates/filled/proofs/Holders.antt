@@ -13,7 +13,7 @@ use Rattle.btf.specs.Cells.{classP}
 use Rattle.btf.specs.Names.{nameAt}
 use Rattle.btf.specs.Numbers.{headP, nextP, takenP}
 use Rattle.classed.specs.Classes.{keyOf, keyIn}
-use Rattle.takers.specs.Takers.{afterUnderscores, numeralFrom, suffixIn, suffixOn, anySuffix, nameIn, baseFrom, listedOn, onBase, takerPut, takersPut, withTakers, takersIn}
+use Rattle.filled.specs.Takers.{afterUnderscores, numeralFrom, suffixIn, suffixOn, anySuffix, nameIn, baseFrom, listedOn, onBase, takerPut, takersPut, withTakers, takersIn}
 
 -- ---- keys
 key-none : (s : List ℕ) (x a : ℕ) → x ≡ 2 → keyOf s x a ≡ x ∷ []

@@ -17,7 +17,7 @@ use Rattle.btf.specs.Records.{sectionWord, vlenOf}
 use Rattle.btf.proofs.Laws.{place-type, place-enum}
 use Rattle.classed.specs.Classes.{tableClassed}
 use Rattle.classed.proofs.Ledger.{the-words}
-use Rattle.fill.specs.Left.{valuePlace, enumeratorWord, valuesPut, isEnum, enumWith, valuesAt, tagPut, enumsTo, enumsPut, tagsPut}
+use Rattle.filled.specs.Left.{valuePlace, enumeratorWord, valuesPut, isEnum, enumWith, valuesAt, tagPut, enumsTo, enumsPut, tagsPut}
 
 -- ---- the values of one enum
 module _ (types kind at first : ℕ) (w : List ℕ) where

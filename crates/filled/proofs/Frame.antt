@@ -14,7 +14,7 @@ use Rattle.btf.specs.Cells.{getField, placeOf, classP}
 use Rattle.btf.specs.Numbers.{headP, nextP, takenP}
 use Rattle.btf.proofs.Laws.{place-type, place-enum}
 use Rattle.classed.specs.Classes.{keyIn}
-use Rattle.takers.specs.Takers.{suffixOn, anySuffix, nameIn, baseFrom, listedOn, onBase, takerPut, takersPut, withTakers, takersIn}
+use Rattle.filled.specs.Takers.{suffixOn, anySuffix, nameIn, baseFrom, listedOn, onBase, takerPut, takersPut, withTakers, takersIn}
 
 -- word i is none of a list of the first n holders
 pub record Unlisted (types n i : ℕ) : Type 0 where

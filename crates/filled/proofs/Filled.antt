@@ -13,7 +13,7 @@ use Rattle.btf.specs.declared.types.Btf.{Btf}
 use Rattle.btf.specs.Cells.{getField, putField}
 use Rattle.btf.specs.Records.{sectionWord, vlenOf, memberAt, paramAt}
 use Rattle.classed.specs.Classes.{tableClassed}
-use Rattle.fill.specs.Left.{placesPut, valuePlace, enumeratorWord, valuesPut, isEnum, enumWith, valuesAt, tagPut, enumsTo, enumsPut, tagsPut, filled}
+use Rattle.filled.specs.Left.{placesPut, valuePlace, enumeratorWord, valuesPut, isEnum, enumWith, valuesAt, tagPut, enumsTo, enumsPut, tagsPut, filled}
 
 pub entry-out : (start : List ℕ) (i : ℕ) → length start ≤ i → 0 ≡ getD start i 0
 entry-out start i h = sym (List·getD-eq-default start 0 {n = i} h)
