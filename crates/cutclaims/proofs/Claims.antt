@@ -22,6 +22,7 @@ use Rattle.reopened.specs.Reopened.{OldNames, Reopens}
 use Rattle.reopened.proofs.Reopened.{cut-reopens}
 use Rattle.reopened.proofs.Work.{work-enough}
 use Rattle.cutcall.specs.Calls.{Cut, cutOf, passes, isOpenOn, sectionFor, cutBy, cutCall}
+use Rattle.cutclaims.proofs.Lists.{lists-alike}
 use Rattle.cutclaims.specs.Claims.{Untouched, writtenBy, Written, Carried}
 
 take-all : (a c : List ℕ) → take (length a) (a ++ c) ≡ a
@@ -118,6 +119,7 @@ module _ (S : Session) (s given out : List ℕ) where
       written = written;
       opens = λ S′ work text e. ap (λ (w : List ℕ). numberOf (openCall S′ w work text pointer modes .answer)) (written .whole) ∙ alike .opens S′ work text e;
       alike = alike;
+      lists = lists-alike pointer modes s n (isKept (describedIn s) (words given)) n′ alike;
     }
       where
         m : ℕ → Bool

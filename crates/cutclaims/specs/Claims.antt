@@ -12,6 +12,7 @@ use Rattle.calls.specs.Calls.{openCall}
 use Rattle.cut.specs.Test.{isKept}
 use Rattle.reopened.specs.Reopened.{Reopens}
 use Rattle.cutcall.specs.Calls.{sectionFor, cutCall}
+use Rattle.cutclaims.specs.Lists.{ListsAlike}
 
 module _ (S : Session) (s given out : List ℕ) where
   -- "nothing is written. The answer is [..] 0 when refused"
@@ -37,3 +38,4 @@ module _ (S : Session) (s given out : List ℕ) where
     pub written : Written
     pub opens : (S′ : Session) (work text : List ℕ) → length work ≡ n′ → numberOf (openCall S′ writtenBy work text pointer modes .answer) ≡ 0
     pub alike : Reopens pointer modes s n (isKept (describedIn s) (words given)) n′
+    pub lists : ListsAlike pointer modes s n (isKept (describedIn s) (words given)) n′
