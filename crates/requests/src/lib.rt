@@ -1,4 +1,6 @@
 // The calls of a session by value: opening, one request, the request for all ids and a list of ids.
+use arrival::arrived;
+use arrival::limit;
 use btf::Btf;
 use header::btf_of;
 use lent::clear;
@@ -20,7 +22,7 @@ ghost use mathlib.Core.Bool.{true};
 ghost use mathlib.Core.Path.{_≡_};
 ghost use lib.ListN.{length};
 ghost use Rattle.turns.specs.Turns.{callOf, isCurrent, reachOf};
-ghost use Rattle.calls.specs.Calls.{openCall, limitOf, arrivedAt, requested, requestedFrom, typeCall, typesCall};
+ghost use Rattle.calls.specs.Calls.{openCall, requested, requestedFrom, typeCall, typesCall};
 ghost use Rattle.calls.specs.Lists.{idsIn, listCall, countIn, tailed, listEnd};
 
 pub fn open_core(
@@ -50,34 +52,6 @@ pub fn open_core(
             },
             answer: Answer::Accepted(types),
         },
-    }
-}
-
-// How far a text slice may be written after its first bytes: 1,073,741,824 bytes at most.
-fn limit(text_len: usize, from: usize) -> usize
-    requires { ⌜ from ≤ «text_len» ⌝ }
-    ensures { λ r. ⌜ (r ≡ limitOf «text_len» from) × (from ≤ r) × (r ≤ «text_len») × (r - from ≤ 1073741824 - from) ⌝ }
-{
-    if text_len <= 1073741824 {
-        return text_len;
-    }
-    if from <= 1073741824 { 1073741824 } else { from }
-}
-
-// What a place in a slice of so many bytes says, after a text of len bytes: the new length, or a refusal.
-fn arrived(len: u32, room: usize, at: usize) -> Reached
-    requires { ⌜ (len + room < 4294967296) × (at ≤ room + 19) ⌝ }
-    ensures { λ r. ⌜ r ≡ arrivedAt len room at ⌝ }
-{
-    if at <= room {
-        return Reached {
-            len: len + (at as u32),
-            number: 0,
-        };
-    }
-    Reached {
-        len: len,
-        number: (at - room - 1) as u32,
     }
 }
 
