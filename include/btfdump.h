@@ -112,6 +112,8 @@ enum btfdump_number {
 	BTFDUMP_NO_MEMBER = 21,      /* no member covers the bit, or the type is no struct or union */
 	/* requests under a ceiling only; as after 12 */
 	BTFDUMP_CEILING = 22,        /* one more call of the ordering rule would pass the ceiling */
+	/* btfdump_cut only; value 0, and nothing is written */
+	BTFDUMP_NO_ROOM = 23,        /* the output slice is too short, or the new section would pass 16,777,216 bytes */
 	/* opening, and reading a declaration into too few words; nothing is touched */
 	BTFDUMP_RECORD_TOO_SHORT = 255 /* record_len is under BTFDUMP_RECORD_SIZE (requests: BTFDUMP_NOT_OPEN) */
 };
@@ -221,6 +223,30 @@ btfdump_answer btfdump_field(const uint8_t *record, size_t record_len,
 			     const uint8_t *work, size_t work_len,
 			     uint8_t *path, size_t path_len,
 			     uint32_t id, uint32_t bit);
+
+/*
+ * A section cut down to what is used: writes a new section that holds the types
+ * reachable from the given ids, their declaration tags and their names. Types
+ * keep their order and get the numbers 1, 2, ..; an id that is stored but not
+ * followed, and whose type is left out, becomes 0. Order of bytes, version and
+ * flags are the old. The list is bytes, four an id, least significant first;
+ * the rest of it is ignored. Opened afresh with the same settings (without
+ * BTFDUMP_NAMES_APART) and as much work, the new section gives for the new
+ * numbers the text and the refusals that the old one gives for the old.
+ *
+ * The value is the length written; the rest of the output slice stays. Record
+ * and section are only read, and neither work nor text is lent. The output
+ * slice must not overlap the others. Every name is compared with those before
+ * it, so the time grows with the square of their number.
+ *
+ * Refused with value 0, nothing written, and the session still open: 11 (here:
+ * no open session, another length of the section than at opening, or a section
+ * that one of 2 to 6 would now refuse), 10 (one of the ids), 23.
+ */
+btfdump_answer btfdump_cut(const uint8_t *record, size_t record_len,
+			   const uint8_t *section, size_t section_len,
+			   const uint8_t *ids, size_t ids_len,
+			   uint8_t *out, size_t out_len);
 
 /* words that the chain of a declaration takes at most: three for each of 512 entries */
 #define BTFDUMP_CHAIN_WORDS 1536

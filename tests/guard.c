@@ -24,7 +24,7 @@ struct area {
 	size_t length;
 };
 
-static struct area record, section, work, text;
+static struct area record, section, work, text, output;
 static uint8_t *copy_of_section, *copy_of_text;
 static uint64_t random_state, seed;
 static unsigned long seen[256], calls;
@@ -338,6 +338,37 @@ static void which_field(void)
 		wrong("bytes past the path", answer);
 }
 
+/* A section cut down: reads record and section, and writes the output slice alone. */
+static void cut_down(void)
+{
+	uint8_t ids[12];
+	uint32_t number, value;
+	btfdump_answer answer;
+
+	doing = "cut";
+	lend_last(&output, below(3) ? 2 * section.length : below(section.length + 1));
+	memset(output.bytes, 0x5a, output.length);
+	memcpy(copy_of_section, section.bytes, section.length);
+	for (int i = 0; i < 3; i++)
+		put32(ids + 4 * i, below(20) ? (uint32_t)below(section.length / 24 + 1) : odd_number());
+	answer = btfdump_cut(record.bytes, record.length, section.bytes, section.length, ids, below(sizeof ids + 1), output.bytes, output.length);
+	number = btfdump_number(answer);
+	value = btfdump_value(answer);
+	calls++;
+	seen[number < 256 ? number : 254]++;
+	if (number && number != 10 && number != 11 && number != 23)
+		wrong("no number of this call", answer);
+	if ((record.length < BTFDUMP_RECORD_SIZE || get_word(record.bytes, 0) != 1 || get_word(record.bytes, 1) != section.length) && number != 11)
+		wrong("11 by record and length", answer);
+	if (number ? value : value < 25 || value > output.length)
+		wrong("length written", answer);
+	for (size_t i = value; i < output.length; i++)
+		if (output.bytes[i] != 0x5a)
+			wrong("bytes past the new section", answer);
+	if (memcmp(copy_of_section, section.bytes, section.length))
+		wrong("section changed", answer);
+}
+
 /* What a host may do to lent memory between two calls. */
 static void alter(void)
 {
@@ -381,6 +412,8 @@ static void one_case_of(uint64_t number)
 		if (below(2))
 			alter();
 		which_field();
+		if (below(8) == 0)
+			cut_down();
 		request();
 		if (below(40) == 0)
 			opening();
@@ -432,6 +465,7 @@ int main(int argc, char **argv)
 	map(&section);
 	map(&work);
 	map(&text);
+	map(&output);
 	copy_of_section = need(malloc(MOST));
 	copy_of_text = need(malloc(MOST));
 	sigaction(SIGALRM, &action, NULL);

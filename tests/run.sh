@@ -21,6 +21,7 @@ compile lists tests/lists.c
 compile ceilings tests/ceilings.c
 compile field tests/field.c
 compile declarations tests/declarations.c
+compile cut tests/cut.c
 compile btfheader tools/btfheader.c
 
 # the example of the README, on the sample section
@@ -48,6 +49,7 @@ done
 "$out/ceilings" "${files[@]}"
 "$out/field" "${files[@]}"
 "$out/declarations"
+"$out/cut" "${files[@]}"
 "$out/guard" 20000 1 "${files[@]}"
 if command -v valgrind >/dev/null; then
 	say valgrind valgrind -q --error-exitcode=1 "$out/guard" 300 1 tests/traps.cases
@@ -97,6 +99,10 @@ for program in "${programs[@]}"; do
 	header "a table without arrays, strong" 0 "$text" --strong-arrays "$node"
 	header "names that meet" 0 "$out/met.h" "$out/met.btf"
 	header "names apart" 0 "$out/apart.h" --names-apart "$out/met.btf"
+	header "a ceiling" 0 "$text" --ceiling 6 "$node"
+	header "a ceiling that the last id passes" 1 "$text" --ceiling 5 "$node"
+	header "a ceiling for each id" 0 "$text" --ceiling 4 "$node" 2 2 2
+	header "a ceiling of 65 bits" 2 /dev/null --ceiling 18446744073709551616 "$node"
 	header "a pointer of 4 bytes" 0 "$out/narrow.h" -p 4 "$node"
 	header "a long text" 0 "$out/far.h" "$out/far.btf"
 	header "a long text, by id" 0 "$out/far.h" "$out/far.btf" 2
@@ -113,4 +119,4 @@ for program in "${programs[@]}"; do
 	header "an unknown option" 2 /dev/null -x
 done
 "$out/btfheader" --help | grep -q usage
-echo "btfheader: 19 uses, ${programs[*]}"
+echo "btfheader: 24 uses, ${programs[*]}"

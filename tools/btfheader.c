@@ -13,7 +13,7 @@
 #include <string.h>
 
 static const char help[] =
-	"usage: btfheader [-p 4|8] [-u] [--strong-arrays] [FILE [ID ..]]\n"
+	"usage: btfheader [OPTION ..] [FILE [ID ..]]\n"
 	"\n"
 	"Prints the C header of a type table: of all types, or of the types with the\n"
 	"ids given and what they need. FILE is a raw .BTF section of either byte order,\n"
@@ -24,6 +24,9 @@ static const char help[] =
 	"      --strong-arrays      elements of an array come before a pointer to it\n"
 	"  -P, --placing            pads that land where the table says, also after the last member\n"
 	"      --names-apart        numbers after names never make a name of the table\n"
+	"      --ceiling N          at most N calls of the ordering rule for a request, that is for\n"
+	"                           all types or for an id; 22: it takes more, and is refused. Any\n"
+	"                           other request prints what it prints without a ceiling\n"
 	"  -h, --help               this text\n"
 	"\n"
 	"Exit status: 0 printed, 1 the table or a request was refused (the text of the\n"
@@ -49,6 +52,7 @@ static const char *words_for(uint32_t number)
 	case BTFDUMP_OVERFLOW: return "a size or an offset does not fit in 32 bits";
 	case BTFDUMP_TEXT_FULL: return "the text is longer than 1,073,741,824 bytes";
 	case BTFDUMP_MISPLACED: return "a struct or union has members that no compiler places so";
+	case BTFDUMP_CEILING: return "ordering the types takes more calls than --ceiling allows";
 	default: return "unexpected answer";
 	}
 }
@@ -57,6 +61,7 @@ struct job {
 	uint8_t *section;
 	size_t length;
 	uint32_t pointer_size, modes;
+	const uint64_t *ceiling; /* none: no bound on ordering */
 	uint32_t *ids; /* none: all */
 	size_t ids_len;
 	const uint32_t *at; /* the id of the last request */
@@ -140,6 +145,23 @@ static size_t work_size(const uint8_t *section, size_t length)
 	return BTFDUMP_WORK_SIZE(length / 12 + 1, length / 8);
 }
 
+/* A request for the id at `job->at`, or for all; under the ceiling, if there is one. */
+static btfdump_answer request(const struct job *job, uint8_t *record, size_t record_len,
+			      uint8_t *work, size_t work_len, size_t lent)
+{
+	uint64_t made;
+
+	if (job->ceiling)
+		return job->at ? btfdump_dump_type_within(record, record_len, job->section, job->length, work, work_len,
+							  job->text, lent, *job->at, *job->ceiling, &made)
+			       : btfdump_dump_types_within(record, record_len, job->section, job->length, work, work_len,
+							   job->text, lent, *job->ceiling, &made);
+	return job->at ? btfdump_dump_type(record, record_len, job->section, job->length, work, work_len,
+					   job->text, lent, *job->at)
+		       : btfdump_dump_types(record, record_len, job->section, job->length, work, work_len,
+					    job->text, lent);
+}
+
 /*
  * One session; `room` is lent for each request beyond the text so far. Gives the
  * last answer, and in *lent how much text it was lent.
@@ -161,10 +183,7 @@ static btfdump_answer session(struct job *job, uint8_t *work, size_t work_len, s
 		*lent = job->text_len + room < BTFDUMP_MAX_TEXT ? job->text_len + room : BTFDUMP_MAX_TEXT;
 		job->text = need(realloc(job->text, *lent));
 		job->at = job->ids_len ? &job->ids[i] : NULL;
-		answer = job->at ? btfdump_dump_type(record, sizeof record, job->section, job->length,
-						     work, work_len, job->text, *lent, *job->at)
-				 : btfdump_dump_types(record, sizeof record, job->section, job->length,
-						      work, work_len, job->text, *lent);
+		answer = request(job, record, sizeof record, work, work_len, *lent);
 		job->text_len = btfdump_value(answer);
 	} while (btfdump_number(answer) == BTFDUMP_OK && ++i < job->ids_len);
 	return answer;
@@ -206,23 +225,38 @@ static _Noreturn void usage(const char *what, const char *argument)
 	exit(2);
 }
 
-/* A decimal number below 2^32. */
-static int number(const char *s, uint32_t *value)
+/* A decimal number of at most 64 bits. */
+static int long_number(const char *s, uint64_t *value)
 {
 	uint64_t n = 0;
 
 	for (const char *p = s; *p; p++) {
-		if (*p < '0' || *p > '9' || (n = 10 * n + (uint64_t)(*p - '0')) > UINT32_MAX)
+		uint64_t digit = (uint64_t)(*p - '0');
+
+		if (*p < '0' || *p > '9' || n > (UINT64_MAX - digit) / 10)
 			return 0;
+		n = 10 * n + digit;
 	}
-	*value = (uint32_t)n;
+	*value = n;
 	return *s != 0;
+}
+
+/* A decimal number below 2^32. */
+static int number(const char *s, uint32_t *value)
+{
+	uint64_t n;
+
+	if (!long_number(s, &n) || n > UINT32_MAX)
+		return 0;
+	*value = (uint32_t)n;
+	return 1;
 }
 
 int main(int argc, char **argv)
 {
 	struct job job = {.pointer_size = 8};
 	const char *path;
+	uint64_t ceiling;
 	pthread_attr_t attributes;
 	pthread_t thread;
 	int i = 1;
@@ -238,7 +272,11 @@ int main(int argc, char **argv)
 			job.modes |= BTFDUMP_PLACING;
 		else if (!strcmp(argv[i], "--names-apart"))
 			job.modes |= BTFDUMP_NAMES_APART;
-		else if (strcmp(argv[i], "-p") && strcmp(argv[i], "--pointer-size"))
+		else if (!strcmp(argv[i], "--ceiling")) {
+			if (++i == argc || !long_number(argv[i], &ceiling))
+				usage("--ceiling wants a number of 64 bits", "");
+			job.ceiling = &ceiling;
+		} else if (strcmp(argv[i], "-p") && strcmp(argv[i], "--pointer-size"))
 			usage("unknown option ", argv[i]);
 		else if (++i == argc || !number(argv[i], &job.pointer_size))
 			usage("--pointer-size wants a number", "");

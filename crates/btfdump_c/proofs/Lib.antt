@@ -3,4 +3,5 @@ pub mod Laws
 pub mod Claims
 pub mod Lists
 pub mod FieldLaws
+pub mod CutLaws
 pub mod ReadingBack

@@ -1,6 +1,7 @@
 // The calls for C, on numbers and byte slices. The session record crosses as bytes (`c_record`), and an answer as a number of
 // 64 bits.
 mod ceilings;
+mod cuts;
 mod declarations;
 
 use c_record::answered;

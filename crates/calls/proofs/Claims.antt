@@ -18,7 +18,7 @@ use Rattle.btf.specs.declared.types.Btf.{Btf}
 use Rattle.opened.specs.Causes.{openingNumber}
 use Rattle.opened.specs.Table.{typesOf}
 use Rattle.opened.specs.Opened.{Outcome, openingOf}
-use Rattle.emit.specs.Sheet.{Sheet}
+use Rattle.sheet.specs.Sheet.{Sheet}
 use Rattle.turns.specs.declared.Answer.the-variants.{Refused}
 use Rattle.turns.specs.declared.Session.{Session}
 use Rattle.turns.specs.Answers.{numberOf, valueOf, answerOf}

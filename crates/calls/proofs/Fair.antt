@@ -20,7 +20,7 @@ use Rattle.rules.proofs.Closed.{Code}
 use Rattle.rules.proofs.Refusals.{Told, told, cut-by, Tells}
 use Rattle.refusals.proofs.InWork.{definition-tells, forward-tells}
 use Rattle.btf.specs.declared.types.Btf.{Btf}
-use Rattle.emit.specs.Sheet.{Sheet, sheetStore, sheetOf, lineIn, workMachine, listedOut, dumped}
+use Rattle.sheet.specs.Sheet.{Sheet, sheetStore, sheetOf, lineIn, workMachine, listedOut, dumped}
 
 -- a refusal of a request, by its number in document 01
 abbrev pub Listed : ℕ → Type 0

@@ -28,7 +28,7 @@ use Rattle.header.specs.Header.{btfOf as settingsOf}
 use Rattle.opened.specs.Causes.{openingNumber}
 use Rattle.opened.specs.Table.{typesOf, enumeratorsOf}
 use Rattle.opened.specs.Opened.{refused, opened, openOut, openingOf, workOf}
-use Rattle.emit.specs.Sheet.{Sheet, sheetStore, sheetOf, emptied, emitOut, workMachine, listedOut, dumped, isIgnored, isIdle}
+use Rattle.sheet.specs.Sheet.{Sheet, sheetStore, sheetOf, emptied, emitOut, workMachine, listedOut, dumped, isIgnored, isIdle}
 use Rattle.turns.specs.declared.Answer.the-variants.{Accepted}
 use Rattle.turns.specs.declared.Session.{Session}
 use Rattle.turns.specs.declared.Turn.{Turn}

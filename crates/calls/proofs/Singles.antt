@@ -28,7 +28,7 @@ use Rattle.btf.specs.Cells.{getField, putField, classP, countP, withMore, count
 use Rattle.btf.specs.Numbers.{numberAt}
 use Rattle.btf.specs.Table.{btfOf, typeVersionIn, enumeratorOf, valueVersionIn, workNaming}
 use Rattle.marks.specs.Work.{workStore}
-use Rattle.emit.specs.Sheet.{Sheet, sheetStore, sheetOf, emptied, lineIn, workMachine, dumped}
+use Rattle.sheet.specs.Sheet.{Sheet, sheetStore, sheetOf, emptied, lineIn, workMachine, dumped}
 use Rattle.header.specs.Header.{btfOf as settingsOf}
 use Rattle.turns.specs.declared.Session.{Session}
 use Rattle.turns.specs.Answers.{numberOf, answerOf}

@@ -18,7 +18,7 @@ use Rattle.rules.specs.Types.{Btf as Rules, tableOf}
 use Rattle.rules.specs.Writer.{Said, said, Writer}
 use Rattle.rules.specs.Place.{withNames, putSaid}
 use Rattle.btf.specs.declared.types.Btf.{Btf}
-use Rattle.emit.specs.Sheet.{Sheet, sheetStore, sheetOf, lineIn, workMachine, listedOut, dumped}
+use Rattle.sheet.specs.Sheet.{Sheet, sheetStore, sheetOf, lineIn, workMachine, listedOut, dumped}
 use Rattle.calls.proofs.Fair.{placed}
 
 module _ {M : Type 0} (R : M → M → Type 0) where

@@ -10,7 +10,7 @@ use Rattle.rules.specs.Types.{tableOf}
 use Rattle.btf.specs.declared.types.Btf.{Btf}
 use Rattle.btf.specs.Table.{btfOf}
 use Rattle.opened.specs.Opened.{Outcome, refused, opened, openingOf}
-use Rattle.emit.specs.Sheet.{Sheet, workMachine, dumped}
+use Rattle.sheet.specs.Sheet.{Sheet, workMachine, dumped}
 use Rattle.turns.specs.declared.Session.{Session}
 use Rattle.turns.specs.declared.Reached.{Reached}
 use Rattle.turns.specs.Answers.{answerOf}

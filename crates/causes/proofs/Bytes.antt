@@ -13,7 +13,7 @@ use Rattle.rules.specs.Machine.{Out, wrote, stuck, Machine, eeach, emit}
 use Rattle.rules.specs.Types.{tableOf}
 use Rattle.btf.specs.declared.types.Btf.{Btf}
 use Rattle.btf.specs.Table.{btfOf}
-use Rattle.emit.specs.Sheet.{Sheet, workMachine, listedOut, dumped}
+use Rattle.sheet.specs.Sheet.{Sheet, workMachine, listedOut, dumped}
 use Rattle.turns.specs.declared.Session.{Session}
 use Rattle.turns.specs.Answers.{numberOf, answerOf}
 use Rattle.calls.specs.Refusals.{notCurrent, idNotBelow, refusal}

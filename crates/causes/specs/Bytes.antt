@@ -11,7 +11,7 @@ use Rattle.rules.specs.Machine.{Out, wrote, stuck, Machine, obind}
 use Rattle.rules.specs.Types.{tableOf}
 use Rattle.btf.specs.declared.types.Btf.{Btf}
 use Rattle.btf.specs.Table.{btfOf}
-use Rattle.emit.specs.Sheet.{Sheet, workMachine}
+use Rattle.sheet.specs.Sheet.{Sheet, workMachine}
 use Rattle.turns.specs.declared.Session.{Session}
 use Rattle.turns.specs.Answers.{numberOf}
 use Rattle.calls.specs.Refusals.{notCurrent, idNotBelow, refusal}

@@ -16,7 +16,7 @@ use Rattle.classed.proofs.Keys.{place-apart}
 use Rattle.opened.specs.Table.{enumeratorsOf}
 use Rattle.opened.specs.Opened.{workOf}
 use Rattle.opened.specs.Causes.{openingNumber}
-use Rattle.fill.proofs.Zeros.{other-field}
+use Rattle.filled.proofs.Zeros.{other-field}
 use Rattle.opened.proofs.ReadBack.{else-back}
 use Rattle.marks.specs.Work.{markOf}
 use Rattle.demand.specs.Lists.{afresh}

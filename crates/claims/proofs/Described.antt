@@ -20,7 +20,7 @@ use Rattle.btf.proofs.Documented.{section-documented}
 use Rattle.btf.proofs.Laws.{void-zero, void-past}
 use Rattle.btf.proofs.KindLaws as K
 use Rattle.opened.specs.Table.{describedIn, typesOf, recordPlace, recordKind, indexOf}
-use Rattle.fill.specs.Left.{isTagOn, tagsOn}
+use Rattle.filled.specs.Left.{isTagOn, tagsOn}
 use Rattle.opened.specs.Opened.{workOf}
 use Rattle.opened.specs.Causes.{openingNumber}
 use Rattle.opened.proofs.Index.{types-few, some-type, index-place, index-kind}

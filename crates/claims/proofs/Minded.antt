@@ -18,7 +18,7 @@ use Rattle.btf.specs.Table.{btfOf, typeOf}
 use Rattle.btf.proofs.Laws.{place-type, void-past, void-zero}
 use Rattle.header.specs.Header.{btfOf as headerIn}
 use Rattle.classed.proofs.Keys.{place-apart}
-use Rattle.fill.proofs.Zeros.{other-field}
+use Rattle.filled.proofs.Zeros.{other-field}
 use Rattle.opened.specs.Opened.{workOf}
 use Rattle.opened.specs.Causes.{openingNumber}
 use Rattle.opened.proofs.ReadBack.{else-back, work-length, work-long}

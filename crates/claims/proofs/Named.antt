@@ -21,16 +21,16 @@ use Rattle.btf.proofs.Laws.{void-zero}
 use Rattle.classed.specs.Classes.{recordP, spaceAt, nameOf, keyOf, keyIn, classOf}
 use Rattle.classed.proofs.Ledger.{the-words}
 use Rattle.opened.specs.Table.{typesOf, enumeratorsOf, recordPlace, recordKind, indexOf}
-use Rattle.fill.specs.Left as left
-use Rattle.fill.specs.Left.{enumeratorWord, isEnum, valuesAt, enumsTo}
+use Rattle.filled.specs.Left as left
+use Rattle.filled.specs.Left.{enumeratorWord, isEnum, valuesAt, enumsTo}
 use Rattle.opened.specs.Opened.{workOf}
 use Rattle.opened.specs.Causes.{openingNumber}
 use Rattle.opened.proofs.Index.{types-few, some-type, index-place, index-kind}
 use Rattle.opened.proofs.Sums.{enumerators-all}
-use Rattle.fill.proofs.Enumerators.{to-up}
-use Rattle.fill.proofs.Zeros.{zeros-word, before-else, other-field}
+use Rattle.filled.proofs.Enumerators.{to-up}
+use Rattle.filled.proofs.Zeros.{zeros-word, before-else, other-field}
 use Rattle.opened.proofs.ReadBack.{header-ok, types-ok, order-ok, work-long, types-are, before, classed, else-listed, record-back, kind-back, value-back, enumerator-back, room-back, bucket-back, work-length, counts-back}
-use Rattle.takers.proofs.Frame.{field-unlisted, place-unlisted}
+use Rattle.filled.proofs.Frame.{field-unlisted, place-unlisted}
 use Rattle.ledger.specs.Indexed.{IsEnum, valuePlace, Value, placeOfValue, Fits, FitsValue, Indexed, listsIn}
 use Rattle.ledger.specs.Passed.{passed}
 use Rattle.ledger.specs.Alike.{Alike, Fresh}

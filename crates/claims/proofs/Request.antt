@@ -20,7 +20,7 @@ use Rattle.btf.specs.declared.types.Btf.{Btf}
 use Rattle.btf.specs.Table.{btfOf, workNaming}
 use Rattle.marks.specs.Work.{workStore}
 use Rattle.marks.proofs.Frame.{table-list}
-use Rattle.emit.specs.Sheet.{Sheet, sheetStore, emptied, sheetOf, lineIn, workMachine, listedOut, dumped}
+use Rattle.sheet.specs.Sheet.{Sheet, sheetStore, emptied, sheetOf, lineIn, workMachine, listedOut, dumped}
 use Rattle.demand.specs.Needs.{WF}
 use Rattle.demand.specs.Lists.{Ls, listStore}
 use Rattle.demand.specs.Session.{Known, textOf, machineBy}

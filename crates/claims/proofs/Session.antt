@@ -27,7 +27,7 @@ use Rattle.opened.specs.Table.{typesOf, enumeratorsOf}
 use Rattle.opened.specs.Opened.{workOf, opened as soundly}
 use Rattle.opened.specs.Causes.{openingNumber}
 use Rattle.opened.proofs.ReadBack.{work-length}
-use Rattle.emit.specs.Sheet.{Sheet, workMachine, dumped}
+use Rattle.sheet.specs.Sheet.{Sheet, workMachine, dumped}
 use Rattle.turns.specs.declared.Session.{Session}
 use Rattle.turns.specs.Answers.{numberOf, valueOf, answerOf}
 use Rattle.turns.specs.Turns.{Call, isCurrent, Reach, reached, refusedBy, thenZeros, settled, withText, tableFor, callOf}

@@ -16,7 +16,7 @@ use Rattle.btf.specs.Cells.{getField}
 use Rattle.btf.specs.Table.{from, btfOf}
 use Rattle.marks.specs.Work.{markOf}
 use Rattle.demand.specs.Lists.{Ls}
-use Rattle.emit.specs.Sheet.{Sheet}
+use Rattle.sheet.specs.Sheet.{Sheet}
 use Rattle.demand.specs.Session.{Known, textOf, machine}
 use Rattle.ledger.specs.Alike.{Alike}
 use Rattle.minds.specs.Work.{Minds}

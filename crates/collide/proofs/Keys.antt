@@ -19,7 +19,7 @@ use Rattle.btf.specs.declared.types.Btf.{Btf}
 use Rattle.btf.specs.Cells.{classP}
 use Rattle.classed.specs.Classes.{keyIn, classOf}
 use Rattle.classed.proofs.Laws.{class-first, class-same}
-use Rattle.takers.specs.Takers.{afterUnderscores, suffixIn, suffixOn, anySuffix, nameIn, baseFrom}
+use Rattle.filled.specs.Takers.{afterUnderscores, suffixIn, suffixOn, anySuffix, nameIn, baseFrom}
 use Rattle.numbers.specs.Lists.{Distinct}
 use Rattle.apart.proofs.Laws.{spelled-later}
 use Rattle.apart.proofs.Splits.{splits-once}

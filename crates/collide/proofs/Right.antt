@@ -24,10 +24,10 @@ use Rattle.classed.specs.Classes.{recordP, spaceAt, nameOf, keyOf, keyIn, class
 use Rattle.classed.proofs.Laws.{class-le, class-key, class-again}
 use Rattle.classed.proofs.Ledger.{the-words}
 use Rattle.classed.proofs.Keys.{space-enum}
-use Rattle.fill.specs.Left.{isEnum, valuesAt, enumsTo}
-use Rattle.takers.specs.Takers.{takersPut, withTakers, takersIn}
-use Rattle.takers.proofs.Frame.{place-unlisted}
-use Rattle.takers.proofs.Holders.{mode-on, takers-all}
+use Rattle.filled.specs.Left.{isEnum, valuesAt, enumsTo}
+use Rattle.filled.specs.Takers.{takersPut, withTakers, takersIn}
+use Rattle.filled.proofs.Frame.{place-unlisted}
+use Rattle.filled.proofs.Holders.{mode-on, takers-all}
 use Rattle.opened.specs.Table.{typesOf, enumeratorsOf, recordPlace, recordKind, indexOf}
 use Rattle.opened.specs.Opened.{workOf}
 use Rattle.opened.specs.Causes.{openingNumber}

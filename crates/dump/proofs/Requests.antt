@@ -30,10 +30,10 @@ use Rattle.marks.proofs.Frame.{table-order}
 use Rattle.marks.proofs.Frame as ordFrame
 use Rattle.marks.proofs.Laws.{going, stops, counted, run, is-done, is-busy, is-new, node-at}
 use Rattle.dump.specs.Metered.{orderedIn, besideOf, dumpedMetered, callsIn, dumpedWithin}
-use Rattle.emit.specs.Sheet.{Sheet, marksIn, withMarks, sheetStore, emptied, emitOut, workMachine, emitIn, listedOut, dumped, isIgnored, isIdle}
-use Rattle.emit.proofs.Frame.{Stays, on, off, stays-then, places, places-emit}
-use Rattle.emit.proofs.Maps.{rmap, StoreMap, map-order}
-use Rattle.emit.proofs.Laws.{sheet, goes, halts, by-out, obind-then, at-sheet, entry-stays, Rest, rest-start, rest-turn, rest-end}
+use Rattle.sheet.specs.Sheet.{Sheet, marksIn, withMarks, sheetStore, emptied, emitOut, workMachine, emitIn, listedOut, dumped, isIgnored, isIdle}
+use Rattle.sheet.proofs.Frame.{Stays, on, off, stays-then, places, places-emit}
+use Rattle.sheet.proofs.Maps.{rmap, StoreMap, map-order}
+use Rattle.sheet.proofs.Laws.{sheet, goes, halts, by-out, obind-then, at-sheet, entry-stays, Rest, rest-start, rest-turn, rest-end}
 
 -- ---- the listed ids
 -- the walk, and that the list is as it was

@@ -11,7 +11,7 @@ use Rattle.btf.specs.declared.types.Btf.{Btf}
 use Rattle.btf.specs.Table.{btfOf}
 use Rattle.ceiling.specs.Ceiling.{Told, told, halted, orderMetered, calls}
 use Rattle.marks.specs.Work.{Marks, workStore}
-use Rattle.emit.specs.Sheet.{Sheet, marksIn, withMarks, workMachine, listedOut, dumped}
+use Rattle.sheet.specs.Sheet.{Sheet, marksIn, withMarks, workMachine, listedOut, dumped}
 
 -- ordering as a request starts it, over a work whose order list is empty
 abbrev pub orderedIn : Rules → ℕ → Marks → ℕ → ℕ → Told Marks

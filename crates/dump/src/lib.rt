@@ -18,7 +18,7 @@ ghost use Rattle.btf.specs.Table.{btfOf};
 ghost use Rattle.marks.specs.Work.{markOf, tableIn};
 ghost use Rattle.ceiling.specs.Ceiling.{countOf};
 ghost use Rattle.dump.specs.Metered.{orderedIn, dumpedMetered, callsIn, dumpedWithin};
-ghost use Rattle.emit.specs.Sheet.{sheetStore, emptied, emitOut, workMachine, emitIn, dumped, isIdle};
+ghost use Rattle.sheet.specs.Sheet.{sheetStore, emptied, emitOut, workMachine, emitIn, dumped, isIdle};
 
 // Emits the first n ids of the order list.
 fn emit_listed(b: Btf, section: &[u8], work: &mut [u8], text: &mut [u8], at: usize, n: u32) -> usize

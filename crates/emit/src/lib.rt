@@ -25,7 +25,7 @@ ghost use Rattle.btf.specs.Cells.{getField, putField};
 ghost use Rattle.btf.specs.Records.{recordById};
 ghost use Rattle.btf.specs.Table.{typeOf, btfOf};
 ghost use Rattle.btf.specs.Nodes.{memberIds, paramIds};
-ghost use Rattle.emit.specs.Sheet.{emitOut, emitIn, newIn, againIn, leafIn, compositeIn, onceIn, mentionIn};
+ghost use Rattle.sheet.specs.Sheet.{emitOut, emitIn, newIn, againIn, leafIn, compositeIn, onceIn, mentionIn};
 
 fn get_emit_state(work: &[u8], id: u32) -> u32
     ensures { λ r. ⌜ r ≡ getField (now (work .entry)) id 13 ⌝ }

@@ -13,7 +13,7 @@ use Rattle.btf.specs.declared.types.BtfType.{BtfType as Record}
 use Rattle.btf.specs.Records.{sectionWord, kindOf, vlenOf, recordAt, recordById}
 use Rattle.btf.specs.Table.{from, valueOf, value64Of, typeOf, btfOf}
 use Rattle.btf.proofs.KindLaws.{by-kind, type-0, type-1, type-2, type-3, type-4, type-5, type-6, type-7, type-8, type-9, type-10, type-11, type-12, type-13, type-14, type-15, type-16, type-17, type-18, type-19, type-none}
-use Rattle.fill.specs.Left.{isEnum, valuesAt, enumsTo}
+use Rattle.filled.specs.Left.{isEnum, valuesAt, enumsTo}
 use Rattle.opened.specs.Table.{typesOf, enumeratorsOf, recordPlace, recordKind, indexOf}
 use Rattle.opened.specs.Opened.{workOf}
 use Rattle.opened.specs.Causes.{openingNumber}

@@ -12,7 +12,7 @@ use lent::put_word;
 ghost use mathlib.Core.Path.{_≡_};
 ghost use Prim.Native.Nat.{_+_, _-_, _/_, _%_, _≤_, _<_};
 ghost use lib.ListN.{getD};
-ghost use Rattle.fill.specs.Left.{placesPut, valuePlace, enumeratorWord, valuesPut, enumWith, valuesAt, tagPut, enumsPut, tagsPut, filled};
+ghost use Rattle.filled.specs.Left.{placesPut, valuePlace, enumeratorWord, valuesPut, enumWith, valuesAt, tagPut, enumsPut, tagsPut, filled};
 
 // Entry x of the index: place * 32 + kind.
 fn entry_of(start: &[u32], x: u32) -> u32

@@ -128,24 +128,23 @@ module _ (b : Btf) (s w : List ℕ) (left id : ℕ) where
           let f : 4 ≤ k = omega arith in
           near 4 k f (λ e. size-sized (inl e)) (λ g. near 5 k g (λ e. size-sized (inr (inl e))) (λ i. size-sized (inr (inr (inl (omega arith))))))
 
-      -- 8 to 11; 17 and 18
-      module _ (r : Code) (er : askOf r ≡ getSizeOf (left - 1) (btfOf b s w) (t .«type_id»)) where
-        pub size-through : 8 ≤ k → k < 12 → askOf r ≡ getSizeOf left (btfOf b s w) id
-        unfolding sizeOf
-        size-through l h =
-            near 8 k l (λ e. er ∙ sym (size-is _ (type-8 b s t (sym ek ∙ e)))) (λ l9.
-            near 9 k l9 (λ e. er ∙ sym (size-is _ (type-9 b s t (sym ek ∙ e)))) (λ l10.
-            near 10 k l10 (λ e. er ∙ sym (size-is _ (type-10 b s t (sym ek ∙ e)))) (λ l11.
-            let e : k ≡ 11 = omega arith in
-            er ∙ sym (size-is _ (type-11 b s t (sym ek ∙ e))))))
+      -- 8 to 11; 17 and 18: the type that it names, with one call less
+      pub size-through : 8 ≤ k → k < 12 → getSizeOf left (btfOf b s w) id ≡ getSizeOf (left - 1) (btfOf b s w) (t .«type_id»)
+      unfolding sizeOf
+      size-through l h =
+          near 8 k l (λ e. size-is _ (type-8 b s t (sym ek ∙ e))) (λ l9.
+          near 9 k l9 (λ e. size-is _ (type-9 b s t (sym ek ∙ e))) (λ l10.
+          near 10 k l10 (λ e. size-is _ (type-10 b s t (sym ek ∙ e))) (λ l11.
+          let e : k ≡ 11 = omega arith in
+          size-is _ (type-11 b s t (sym ek ∙ e)))))
 
-        pub size-tagged : 16 ≤ k → k < 19 → ((k ≡ 16) ⊎ (k ≡ 19) → ⊥) → askOf r ≡ getSizeOf left (btfOf b s w) id
-        unfolding sizeOf
-        size-tagged l h n =
-            near 16 k l (λ e. absurd (n (inl e))) (λ l17.
-            near 17 k l17 (λ e. er ∙ sym (size-is _ (type-17 b s t (sym ek ∙ e)))) (λ l18.
-            let e : k ≡ 18 = omega arith in
-            er ∙ sym (size-is _ (type-18 b s t (sym ek ∙ e)))))
+      pub size-tagged : 16 ≤ k → k < 19 → ((k ≡ 16) ⊎ (k ≡ 19) → ⊥) → getSizeOf left (btfOf b s w) id ≡ getSizeOf (left - 1) (btfOf b s w) (t .«type_id»)
+      unfolding sizeOf
+      size-tagged l h n =
+          near 16 k l (λ e. absurd (n (inl e))) (λ l17.
+          near 17 k l17 (λ e. size-is _ (type-17 b s t (sym ek ∙ e))) (λ l18.
+          let e : k ≡ 18 = omega arith in
+          size-is _ (type-18 b s t (sym ek ∙ e))))
 
       size-none : (T : BtfType) → typeOf b s t ≡ T → sizeOf (btfOf b s w) (getSizeOf (left - 1) (btfOf b s w)) T ≡ got 0 → askOf (Got 0) ≡ getSizeOf left (btfOf b s w) id
       unfolding askOf
@@ -181,9 +180,9 @@ module _ (b : Btf) (s w : List ℕ) (left id : ℕ) where
       unfolding askOf alignOf btfOf
       align-ptr e = sym (align-is _ (type-2 b s t (sym ek ∙ e)))
 
-      pub align-array : (x : ℕ) (r : Code) → k ≡ 3 → x ≡ extraWord b s t → askOf r ≡ getAlignOf (left - 1) (btfOf b s w) x → askOf r ≡ getAlignOf left (btfOf b s w) id
+      pub align-array : (x : ℕ) → k ≡ 3 → x ≡ extraWord b s t → getAlignOf left (btfOf b s w) id ≡ getAlignOf (left - 1) (btfOf b s w) x
       unfolding alignOf
-      align-array x r e ex er = er ∙ ap (getAlignOf (left - 1) (btfOf b s w)) ex ∙ sym (align-is _ (type-3 b s t (sym ek ∙ e)))
+      align-array x e ex = align-is _ (type-3 b s t (sym ek ∙ e)) ∙ ap (getAlignOf (left - 1) (btfOf b s w)) (sym ex)
 
       pub align-sized : (y : ℕ) → (k ≡ 6) ⊎ ((k ≡ 16) ⊎ (k ≡ 19)) → y ≡ smaller (b .«ptr_sz») (t .«type_id») → askOf (Got y) ≡ getAlignOf left (btfOf b s w) id
       unfolding askOf alignOf btfOf
@@ -203,20 +202,19 @@ module _ (b : Btf) (s w : List ℕ) (left id : ℕ) where
           let e : k ≡ 5 = omega arith in
           sym (align-is _ (type-5 b s t (sym ek ∙ e))))
 
-      -- 18; 8 to 11
-      module _ (r : Code) (er : askOf r ≡ getAlignOf (left - 1) (btfOf b s w) (t .«type_id»)) where
-        pub align-tagged : k ≡ 18 → askOf r ≡ getAlignOf left (btfOf b s w) id
-        unfolding alignOf
-        align-tagged e = er ∙ sym (align-is _ (type-18 b s t (sym ek ∙ e)))
+      -- 18; 8 to 11: the type that it names, with one call less
+      pub align-tagged : k ≡ 18 → getAlignOf left (btfOf b s w) id ≡ getAlignOf (left - 1) (btfOf b s w) (t .«type_id»)
+      unfolding alignOf
+      align-tagged e = align-is _ (type-18 b s t (sym ek ∙ e))
 
-        pub align-through : 8 ≤ k → k < 12 → askOf r ≡ getAlignOf left (btfOf b s w) id
-        unfolding alignOf
-        align-through l h =
-            near 8 k l (λ e. er ∙ sym (align-is _ (type-8 b s t (sym ek ∙ e)))) (λ l9.
-            near 9 k l9 (λ e. er ∙ sym (align-is _ (type-9 b s t (sym ek ∙ e)))) (λ l10.
-            near 10 k l10 (λ e. er ∙ sym (align-is _ (type-10 b s t (sym ek ∙ e)))) (λ l11.
-            let e : k ≡ 11 = omega arith in
-            er ∙ sym (align-is _ (type-11 b s t (sym ek ∙ e))))))
+      pub align-through : 8 ≤ k → k < 12 → getAlignOf left (btfOf b s w) id ≡ getAlignOf (left - 1) (btfOf b s w) (t .«type_id»)
+      unfolding alignOf
+      align-through l h =
+          near 8 k l (λ e. align-is _ (type-8 b s t (sym ek ∙ e))) (λ l9.
+          near 9 k l9 (λ e. align-is _ (type-9 b s t (sym ek ∙ e))) (λ l10.
+          near 10 k l10 (λ e. align-is _ (type-10 b s t (sym ek ∙ e))) (λ l11.
+          let e : k ≡ 11 = omega arith in
+          align-is _ (type-11 b s t (sym ek ∙ e)))))
 
       align-none : (T : BtfType) → typeOf b s t ≡ T → alignOf (btfOf b s w) (getAlignOf (left - 1) (btfOf b s w)) T ≡ got 0 → askOf (Got 0) ≡ getAlignOf left (btfOf b s w) id
       unfolding askOf

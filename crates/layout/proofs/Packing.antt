@@ -220,6 +220,33 @@ module _ (B : Rules) (sz : ℕ) where
   unfolding Passed tested rest isStructPacked
   pass-is ms = let l : 1 ≤ 1 = omega arith in passed ms 1 0 l
 
+-- ---- the type that was asked last: its alignment is known; from 4294967296 on there is none
+module _ (f : ℕ → Ask ℕ) where
+  pub Known : ℕ → ℕ → Type 0
+  Known align last = last < 4294967296 → f last ≡ got align
+
+  pub known-none : (a : ℕ) → Known a 4294967296
+  unfolding Known
+  known-none a l = absurd (omega arith)
+
+  module _ (r : Code) (id a : ℕ) (er : askOf r ≡ f id) (g : r ≡ ask.Got a) (align : ℕ) (ea : align ≡ a) where
+    pub known-here : f id ≡ got align
+    unfolding askOf
+    known-here = sym er ∙ ap askOf g ∙ ap got (sym ea)
+
+    pub known-next : (last : ℕ) → last ≡ id → Known align last
+    unfolding Known
+    known-next last el l = ap f el ∙ known-here
+
+  module _ (align last align′ : ℕ) (i : Known align last) (ea : align′ ≡ align) where
+    pub known-same : (id : ℕ) → id < 4294967296 → id ≡ last → f id ≡ got align′
+    unfolding Known
+    known-same id l e = ap f e ∙ i (omega arith) ∙ ap got (sym ea)
+
+    pub known-still : (last′ : ℕ) → last′ ≡ last → Known align′ last′
+    unfolding Known
+    known-still last′ e l = ap f e ∙ i (omega arith) ∙ ap got (sym ea)
+
 -- ---- the loop of fit_members, with the alignments that f gives
 module _ (f : ℕ → Ask ℕ) (b : Btf) (s : List ℕ) (t : Record) where
   -- what the members from k on make of x
@@ -252,6 +279,18 @@ module _ (f : ℕ → Ask ℕ) (b : Btf) (s : List ℕ) (t : Record) where
   fit-end T x k n i en l =
       let z : vlenOf (t .info) - k ≡ 0 = omega arith in
       sym (i ∙ ap (λ (n : ℕ). fitMembers f x (from (λ i. ruleMember b s (memberOf b s t i)) k n)) z)
+
+  module _ (x : Fit) (k n : ℕ) (m : BtfMember) (en : n ≡ vlenOf (t .info)) (l : k < n) (em : m ≡ memberOf b s t k) where
+    fit-next : (a : ℕ) → f (m .«type_id») ≡ got a → (T : Ask Fit) (x′ : Fit) → T ≡ fitRest x k → x′ ≡ withMember x a (m .«bit_offset») (m .«bit_size») → T ≡ fitRest x′ (k + 1)
+    unfolding askOf
+    fit-next a ea T x′ i ex = fit-more x k n m (ask.Got a) en l em (sym ea) T a x′ i refl ex
+
+    -- another type than that of the member before, and the same one
+    pub fit-asked : (r : Code) (a align : ℕ) → askOf r ≡ f (m .«type_id») → r ≡ ask.Got a → align ≡ a → (T : Ask Fit) (x′ : Fit) → T ≡ fitRest x k → x′ ≡ withMember x align (m .«bit_offset») (m .«bit_size») → T ≡ fitRest x′ (k + 1)
+    fit-asked r a align er g ea = fit-next align (known-here f r (m .«type_id») a er g align ea)
+
+    pub fit-known : (align last align′ : ℕ) → Known f align last → align′ ≡ align → m .«type_id» < 4294967296 → m .«type_id» ≡ last → (T : Ask Fit) (x′ : Fit) → T ≡ fitRest x k → x′ ≡ withMember x align′ (m .«bit_offset») (m .«bit_size») → T ≡ fitRest x′ (k + 1)
+    fit-known align last align′ h ea b e = fit-next align′ (known-same f align last align′ h ea (m .«type_id») b e)
 
 -- ---- is_struct_packed
 not-false : (x : Bool) → not x ≡ true → x ≡ false

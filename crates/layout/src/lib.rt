@@ -73,39 +73,69 @@ fn octets(bits: u32) -> u32
 pub fn get_size_of(b: Btf, section: &[u8], work: &[u8], id: u32, left: u32) -> Ask
     ensures { λ r. ⌜ askOf r ≡ getSizeOf left (btfOf b (now (section .entry)) (now (work .entry))) id ⌝ }
 {
-    if left == 0 {
-        return Ask::No(12);
-    }
-    let t = type_by_id(b, section, work, id);
-    match kind_of(t.info) {
-        1 => Ask::Got(octets(int_bits(b, section, t))),
-        2 => Ask::Got(b.ptr_sz),
-        3 => {
-            let element = get_size_of(b, section, work, array_type(b, section, t), left - 1);
-            product(array_nelems(b, section, t), element)
+    let mut at = id;
+    let mut more = left;
+    while more != 0 {
+        let t = type_by_id(b, section, work, at);
+        more -= 1;
+        match kind_of(t.info) {
+            1 => {
+                return Ask::Got(octets(int_bits(b, section, t)));
+            }
+            2 => {
+                return Ask::Got(b.ptr_sz);
+            }
+            3 => {
+                let element = get_size_of(b, section, work, array_type(b, section, t), more);
+                return product(array_nelems(b, section, t), element);
+            }
+            4..=6 | 16 | 19 => {
+                return Ask::Got(t.type_id);
+            }
+            8..=11 | 17 | 18 => {
+                at = t.type_id;
+            }
+            _ => {
+                return Ask::Got(0);
+            }
         }
-        4..=6 | 16 | 19 => Ask::Got(t.type_id),
-        8..=11 | 17 | 18 => get_size_of(b, section, work, t.type_id, left - 1),
-        _ => Ask::Got(0),
     }
+    Ask::No(12)
 }
 
 pub fn get_align_of(b: Btf, section: &[u8], work: &[u8], id: u32, left: u32) -> Ask
     ensures { λ r. ⌜ askOf r ≡ getAlignOf left (btfOf b (now (section .entry)) (now (work .entry))) id ⌝ }
 {
-    if left == 0 {
-        return Ask::No(12);
+    let mut at = id;
+    let mut more = left;
+    while more != 0 {
+        let t = type_by_id(b, section, work, at);
+        more -= 1;
+        match kind_of(t.info) {
+            1 => {
+                return Ask::Got(smaller(b.ptr_sz, octets(int_bits(b, section, t))));
+            }
+            2 => {
+                return Ask::Got(b.ptr_sz);
+            }
+            3 => {
+                at = array_type(b, section, t);
+            }
+            4 | 5 => {
+                return align_members(b, section, work, entries_of(t), more);
+            }
+            6 | 16 | 19 => {
+                return Ask::Got(smaller(b.ptr_sz, t.type_id));
+            }
+            8..=11 | 18 => {
+                at = t.type_id;
+            }
+            _ => {
+                return Ask::Got(0);
+            }
+        }
     }
-    let t = type_by_id(b, section, work, id);
-    match kind_of(t.info) {
-        1 => Ask::Got(smaller(b.ptr_sz, octets(int_bits(b, section, t)))),
-        2 => Ask::Got(b.ptr_sz),
-        3 => get_align_of(b, section, work, array_type(b, section, t), left - 1),
-        4 | 5 => align_members(b, section, work, entries_of(t), left - 1),
-        6 | 16 | 19 => Ask::Got(smaller(b.ptr_sz, t.type_id)),
-        8..=11 | 18 => get_align_of(b, section, work, t.type_id, left - 1),
-        _ => Ask::Got(0),
-    }
+    Ask::No(12)
 }
 
 // The largest of the members' alignments, at least 1. `last` is the type before, whose alignment is in `align` already; from
@@ -189,7 +219,8 @@ fn with_member(f: Fit, a: u32, m: BtfMember) -> Fit
     }
 }
 
-// The alignments of the members are those that get_align_of of the struct asks, so 511 calls are left for them.
+// The alignments of the members are those that get_align_of of the struct asks, so 511 calls are left for them. `align` is the
+// alignment of the type `last`, which is not asked twice in a row; from 4294967296 on there is none.
 fn fit_members(b: Btf, section: &[u8], work: &[u8], t: BtfType) -> Fits
     ensures { λ r. ⌜ fitsOf r ≡ fitMembers (getAlignOf 511 (btfOf b (now (section .entry)) (now (work .entry)))) noMember (membersOf b (now (section .entry)) t) ⌝ }
 {
@@ -198,17 +229,23 @@ fn fit_members(b: Btf, section: &[u8], work: &[u8], t: BtfType) -> Fits
         align: 1,
         verdict: 0,
     };
+    let mut align: u32 = 0;
+    let mut last: u64 = 4294967296;
     let mut k: u32 = 0;
     while k < vlen {
         let m = load_member(b, section, t, k);
-        match get_align_of(b, section, work, m.type_id, 511) {
-            Ask::Got(a) => {
-                f = with_member(f, a, m);
+        if (m.type_id as u64) != last {
+            match get_align_of(b, section, work, m.type_id, 511) {
+                Ask::Got(a) => {
+                    align = a;
+                }
+                Ask::No(c) => {
+                    return Fits::No(c);
+                }
             }
-            Ask::No(c) => {
-                return Fits::No(c);
-            }
+            last = m.type_id as u64;
         }
+        f = with_member(f, align, m);
         k += 1;
     }
     Fits::Got(f)

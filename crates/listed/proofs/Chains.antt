@@ -14,7 +14,7 @@ use Rattle.lent.proofs.Laws.{get-put-same, get-put-other, put-length}
 use Rattle.btf.specs.Cells.{placeOf}
 use Rattle.btf.specs.Numbers.{headP, nextP, takenP, numbersFrom, takenAt}
 use Rattle.classed.proofs.Keys.{place-one, place-apart, place-in}
-use Rattle.takers.specs.Takers.{listedOn}
+use Rattle.filled.specs.Takers.{listedOn}
 use Rattle.listed.specs.Listed.{numbersOn}
 
 module _ (types e : ℕ) (base num : ℕ → ℕ) where

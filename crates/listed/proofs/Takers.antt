@@ -15,7 +15,7 @@ use Rattle.btf.specs.Cells.{placeOf, classP}
 use Rattle.btf.specs.Numbers.{headP, nextP, takenP, takenAt}
 use Rattle.classed.specs.Classes.{recordP, spaceAt, nameOf, keyOf, keyIn}
 use Rattle.classed.proofs.Keys.{place-apart}
-use Rattle.takers.specs.Takers.{suffixOn, anySuffix, nameIn, baseFrom, listedOn, onBase, takerPut, takersPut}
+use Rattle.filled.specs.Takers.{suffixOn, anySuffix, nameIn, baseFrom, listedOn, onBase, takerPut, takersPut}
 use Rattle.listed.specs.Listed.{numbersOn, baseOf, numberOf}
 use Rattle.listed.proofs.Chains.{onOne, onAll, lists-read}
 

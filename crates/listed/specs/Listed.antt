@@ -7,7 +7,7 @@ use Rattle.lent.specs.Words.{getWord}
 use Rattle.btf.specs.declared.types.Btf.{Btf}
 use Rattle.btf.specs.Cells.{classP}
 use Rattle.classed.specs.Classes.{keyIn}
-use Rattle.takers.specs.Takers.{suffixOn, anySuffix, nameIn, baseFrom, listedOn}
+use Rattle.filled.specs.Takers.{suffixOn, anySuffix, nameIn, baseFrom, listedOn}
 
 -- ---- any bases and numbers: `base` has the holder on whose list h stands, or 0; `num` the number that it takes
 module _ (base num : ℕ → ℕ) where

@@ -23,8 +23,8 @@ use Rattle.header.specs.Header.{btfOf}
 use Rattle.area.specs.Pass.{countP, enumsP, indexP, Scan, unsound, found, scanOut, scanP, scanSection}
 use Rattle.opened.specs.Table.{describedIn, typesOf, enumeratorsOf, emptyIndex, indexFor, indexOf}
 use Rattle.opened.specs.Causes.{cause2, cause3, cause5, cause6, cause7, cause8, cause9, tableOf, next, firstOf, early, late, fromSix, openingNumber}
-use Rattle.fill.specs.Left.{filled}
-use Rattle.takers.specs.Takers.{takersIn}
+use Rattle.filled.specs.Left.{filled}
+use Rattle.filled.specs.Takers.{takersIn}
 use Rattle.opened.specs.Opened.{refused, opened, openOut, workOf, openingOf, Examined, refusedBy, soundWith, examineOut, examined}
 use Rattle.header.proofs.Headers.{read4, read8, read12, read20, and-left, order-is}
 use Rattle.opened.proofs.Sections.{pass-decides, pass-count, pass-enums, pass-index}

@@ -28,23 +28,23 @@ use Rattle.followed.proofs.BadIds.{bad-reference}
 use Rattle.classed.specs.Classes.{bucketP, linkP, keyIn, classOf, tableClassed}
 use Rattle.classed.specs.Claims.{Room, Else}
 use Rattle.classed.proofs.Ledger.{the-words}
-use Rattle.takers.specs.Takers.{takersIn}
-use Rattle.takers.proofs.Holders.{mode-off}
-use Rattle.takers.proofs.Frame.{Unlisted, takers-word, takers-long, field-unlisted, nine-unlisted, entry-unlisted, place-unlisted}
+use Rattle.filled.specs.Takers.{takersIn}
+use Rattle.filled.proofs.Holders.{mode-off}
+use Rattle.filled.proofs.Frame.{Unlisted, takers-word, takers-long, field-unlisted, nine-unlisted, entry-unlisted, place-unlisted}
 use Rattle.header.specs.Header.{btfOf}
 use Rattle.opened.specs.Table.{describedIn, typesOf, enumeratorsOf, recordPlace, recordKind, indexOf}
 use Rattle.opened.specs.Causes.{cause2, cause3, cause4, cause5, cause6, cause9, tableOf, causes, openingNumber}
-use Rattle.fill.specs.Left.{placesPut, valuePlace, enumeratorWord, isEnum, valuesAt, enumsTo, enumsPut, tagsPut, isTagOn, tagsOn, filled}
+use Rattle.filled.specs.Left.{placesPut, valuePlace, enumeratorWord, isEnum, valuesAt, enumsTo, enumsPut, tagsPut, isTagOn, tagsOn, filled}
 use Rattle.opened.specs.Opened.{workOf}
 use Rattle.opened.proofs.Order.{NoneHolds, sound-none}
 use Rattle.opened.proofs.Index.{types-few, some-type, index-place, index-kind, table-types, table-count}
-use Rattle.fill.proofs.Work.{classes-keep, tags-keep, enums-keep, places-keep, places-void, places-long, filled-place}
-use Rattle.fill.proofs.Tags.{Rising, Chain, Chains, chain-keeps, chain-read, chains-all, tags-long, next-not, on-rises, on-short}
-use Rattle.fill.proofs.Enumerators.{to-up, enums-long, first-at, first-not, value-at, tags-past, classes-past}
+use Rattle.filled.proofs.Work.{classes-keep, tags-keep, enums-keep, places-keep, places-void, places-long, filled-place}
+use Rattle.filled.proofs.Tags.{Rising, Chain, Chains, chain-keeps, chain-read, chains-all, tags-long, next-not, on-rises, on-short}
+use Rattle.filled.proofs.Enumerators.{to-up, enums-long, first-at, first-not, value-at, tags-past, classes-past}
 use Rattle.header.proofs.Headers.{order-is}
 use Rattle.opened.proofs.Sections.{kind-is}
 use Rattle.opened.proofs.Sums.{enumerators-few, enumerators-all}
-use Rattle.fill.proofs.Zeros.{Other, zeros-word, before-else, other-count}
+use Rattle.filled.proofs.Zeros.{Other, zeros-word, before-else, other-count}
 
 module _ (p modes : ℕ) (s : List ℕ) (n : ℕ) (ok : openingNumber p s n ≡ 0) where
   none : NoneHolds (causes p s n)

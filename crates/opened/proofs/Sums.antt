@@ -17,7 +17,7 @@ use Rattle.records.specs.Section.{bigEndian, typesAt, typeLen, strLen, headerSo
 use Rattle.records.proofs.SectionFields.{from-next, area-inside}
 use Rattle.area.specs.Pass.{enumsOf, countP, enumsP}
 use Rattle.opened.specs.Table.{typesOf, enumeratorsOf, recordPlace, recordKind, indexOf}
-use Rattle.fill.specs.Left.{isEnum, valuesAt, enumsTo}
+use Rattle.filled.specs.Left.{isEnum, valuesAt, enumsTo}
 use Rattle.header.proofs.Headers.{and-left, and-right}
 use Rattle.area.proofs.Pass.{enums-small, ends-in, count-in, count-end, enums-in, enums-end, passes-in}
 use Rattle.opened.proofs.Sections.{pass-decides, pass-count, pass-enums, place-is, kind-is}

@@ -9,8 +9,8 @@ use Rattle.opened.specs.declared.Opening.the-variants.{Refused, Sound}
 use Rattle.header.specs.Header.{btfOf}
 use Rattle.opened.specs.Table.{typesOf, enumeratorsOf, indexOf}
 use Rattle.opened.specs.Causes.{openingNumber}
-use Rattle.fill.specs.Left.{filled}
-use Rattle.takers.specs.Takers.{takersIn}
+use Rattle.filled.specs.Left.{filled}
+use Rattle.filled.specs.Takers.{takersIn}
 
 -- a refusal and its number; or the count of types, void counted, and that of enumerators; then work and text
 pub data Outcome : Type 0 where

@@ -17,8 +17,8 @@ use Rattle.text.proofs.Digits.{horner, AllDigits, Numeral, decimal-is}
 use Rattle.rules.specs.Types.{Name}
 use Rattle.rules.specs.Names.{spelled}
 use Rattle.apart.proofs.Laws.{spelled-later}
-use Rattle.takers.specs.Takers.{digitAfter, numeralFrom, numeral, afterUnderscores, suffixIn, suffixOn}
-use Rattle.takers.proofs.Bytes.{digit-low, digit-high, digit-past, digit-next}
+use Rattle.filled.specs.Takers.{digitAfter, numeralFrom, numeral, afterUnderscores, suffixIn, suffixOn}
+use Rattle.filled.proofs.Bytes.{digit-low, digit-high, digit-past, digit-next}
 
 -- ---- digits
 grows : (d : List ℕ) (a : ℕ) → a ≤ horner a d

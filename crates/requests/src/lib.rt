@@ -1,4 +1,6 @@
 // The calls of a session by value: opening, one request, the request for all ids and a list of ids.
+use arrival::arrived;
+use arrival::limit;
 use btf::Btf;
 use header::btf_of;
 use lent::clear;
@@ -20,7 +22,7 @@ ghost use mathlib.Core.Bool.{true};
 ghost use mathlib.Core.Path.{_≡_};
 ghost use lib.ListN.{length};
 ghost use Rattle.turns.specs.Turns.{callOf, isCurrent, reachOf};
-ghost use Rattle.calls.specs.Calls.{openCall, limitOf, arrivedAt, requested, requestedFrom, typeCall, typesCall};
+ghost use Rattle.calls.specs.Calls.{openCall, requested, requestedFrom, typeCall, typesCall};
 ghost use Rattle.calls.specs.Lists.{idsIn, listCall, countIn, tailed, listEnd};
 
 pub fn open_core(
@@ -53,34 +55,6 @@ pub fn open_core(
     }
 }
 
-// How far a text slice may be written after its first bytes: 1,073,741,824 bytes at most.
-fn limit(text_len: usize, from: usize) -> usize
-    requires { ⌜ from ≤ «text_len» ⌝ }
-    ensures { λ r. ⌜ (r ≡ limitOf «text_len» from) × (from ≤ r) × (r ≤ «text_len») × (r - from ≤ 1073741824 - from) ⌝ }
-{
-    if text_len <= 1073741824 {
-        return text_len;
-    }
-    if from <= 1073741824 { 1073741824 } else { from }
-}
-
-// What a place in a slice of so many bytes says, after a text of len bytes: the new length, or a refusal.
-fn arrived(len: u32, room: usize, at: usize) -> Reached
-    requires { ⌜ (len + room < 4294967296) × (at ≤ room + 19) ⌝ }
-    ensures { λ r. ⌜ r ≡ arrivedAt len room at ⌝ }
-{
-    if at <= room {
-        return Reached {
-            len: len + (at as u32),
-            number: 0,
-        };
-    }
-    Reached {
-        len: len,
-        number: (at - room - 1) as u32,
-    }
-}
-
 // One id, after a text of len bytes: it is lent only what follows that text.
 fn dump_one(b: Btf, section: &[u8], work: &mut [u8], text: &mut [u8], len: u32, id: u32) -> Reached
     requires { ⌜ len ≤ length (now text) ⌝ }
@@ -92,7 +66,7 @@ fn dump_one(b: Btf, section: &[u8], work: &mut [u8], text: &mut [u8], len: u32, 
     arrived(len, to - from, at)
 }
 
-// The same; most ids of a table have nothing to write.
+// The same for the request for all ids, of which most have nothing to write.
 fn dump_next(b: Btf, section: &[u8], work: &mut [u8], text: &mut [u8], len: u32, id: u32) -> Reached
     requires { ⌜ len ≤ length (now text) ⌝ }
     ensures { λ r. ⌜ (reachOf r (now (work .exit)) (now (text .exit)) ≡ requested b (now (section .entry)) id len (now (work .entry)) (now (text .entry))) × (r .len ≤ length (now (text .exit))) ⌝ }
@@ -182,7 +156,7 @@ fn dump_ids(s: Session, section: &[u8], work: &mut [u8], text: &mut [u8], ids: &
                 accepted: k,
             };
         }
-        let r = dump_next(b, section, work, text, len, id);
+        let r = dump_one(b, section, work, text, len, id);
         if r.number != 0 {
             return Tally {
                 len: r.len,

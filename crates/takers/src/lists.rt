@@ -10,7 +10,7 @@ use lent::put_word;
 ghost use mathlib.Core.Path.{_≡_};
 ghost use Prim.Native.Nat.{_-_};
 ghost use Rattle.classed.specs.Classes.{keyOf, keyIn};
-ghost use Rattle.takers.specs.Takers.{suffixOn, anySuffix, nameIn, baseFrom, listedOn, takerPut, withTakers, takersIn};
+ghost use Rattle.filled.specs.Takers.{suffixOn, anySuffix, nameIn, baseFrom, listedOn, takerPut, withTakers, takersIn};
 
 // The number with which the key y is x with a suffix, or 0.
 fn key_suffix(section: &[u8], x: Key, y: Key) -> u32

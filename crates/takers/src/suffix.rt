@@ -2,7 +2,7 @@
 use keys::byte_at;
 ghost use mathlib.Core.Path.{_≡_};
 ghost use Rattle.btf.specs.Names.{nameAt};
-ghost use Rattle.takers.specs.Takers.{digitAfter, numeral, suffixIn, suffixOn, anySuffix};
+ghost use Rattle.filled.specs.Takers.{digitAfter, numeral, suffixIn, suffixOn, anySuffix};
 
 // The number so far with one more digit, or 0.
 fn digit_after(acc: u32, x: u8) -> u32

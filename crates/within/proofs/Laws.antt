@@ -22,7 +22,7 @@ use Rattle.btf.specs.Cells.{getField}
 use Rattle.btf.specs.Table.{btfOf}
 use Rattle.marks.specs.Work.{markOf, tableIn}
 use Rattle.header.specs.Header.{btfOf as settingsOf}
-use Rattle.emit.specs.Sheet.{Sheet, sheetOf, emitOut, workMachine, dumped, isIdle}
+use Rattle.sheet.specs.Sheet.{Sheet, sheetOf, emitOut, workMachine, dumped, isIdle}
 use Rattle.dump.specs.Metered.{callsIn, dumpedWithin}
 use Rattle.dump.proofs.Requests.{idle-calls}
 use Rattle.turns.specs.declared.Session.{Session}

@@ -1,6 +1,8 @@
 // Requests under a ceiling on the calls of the ordering rule: one id, all ids, and a list of ids.
 mod lists;
 
+use arrival::arrived;
+use arrival::limit;
 use btf::Btf;
 use header::btf_of;
 pub use lists::dump_list_within;
@@ -13,7 +15,6 @@ use turns::turn_of;
 ghost use Prim.Native.Nat.{_+_, _-_, _<_, _≤_};
 ghost use mathlib.Core.Path.{_≡_};
 ghost use lib.ListN.{length};
-ghost use Rattle.calls.specs.Calls.{limitOf, arrivedAt};
 ghost use Rattle.within.specs.Within.{withinOf, countedOf, requestedWithin, requestedFromWithin, typeCallWithin, typesCallWithin};
 
 // What a call under a ceiling comes to, and the calls of the ordering rule that it made.
@@ -26,34 +27,6 @@ pub struct Counted {
 struct Metered {
     reached: Reached,
     made: u64,
-}
-
-// How far a text slice may be written after its first bytes: 1,073,741,824 bytes at most.
-fn limit(text_len: usize, from: usize) -> usize
-    requires { ⌜ from ≤ «text_len» ⌝ }
-    ensures { λ r. ⌜ (r ≡ limitOf «text_len» from) × (from ≤ r) × (r ≤ «text_len») × (r - from ≤ 1073741824 - from) ⌝ }
-{
-    if text_len <= 1073741824 {
-        return text_len;
-    }
-    if from <= 1073741824 { 1073741824 } else { from }
-}
-
-// What a place in a slice of so many bytes says, after a text of len bytes: the new length, or a refusal.
-fn arrived(len: u32, room: usize, at: usize) -> Reached
-    requires { ⌜ (len + room < 4294967296) × (at ≤ room + 23) ⌝ }
-    ensures { λ r. ⌜ r ≡ arrivedAt len room at ⌝ }
-{
-    if at <= room {
-        return Reached {
-            len: len + (at as u32),
-            number: 0,
-        };
-    }
-    Reached {
-        len: len,
-        number: (at - room - 1) as u32,
-    }
 }
 
 // One id, after a text of len bytes and so many calls.

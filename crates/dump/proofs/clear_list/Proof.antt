@@ -1,4 +1,4 @@
-use Rattle.emit.specs.Sheet.{emptied}
+use Rattle.sheet.specs.Sheet.{emptied}
 use mathlib.Core.Path.{_≡_, refl, _∙_}
 use lib.ListN.{length}
 use Prim.Native.Nat.{zero-le, _≤_, _-_}

@@ -1,5 +1,5 @@
 use native.Mathlib.Omega.{arith}
-use Rattle.emit.proofs.Laws as laws
+use Rattle.sheet.proofs.Laws as laws
 use Rattle.lines.proofs.Laws as lines
 use borrow.Author.Needs.{needs}
 use Rattle.emit.proofs.emit_again.Statement.{statement}

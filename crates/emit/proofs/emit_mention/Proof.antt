@@ -1,4 +1,4 @@
-use Rattle.emit.proofs.Laws as laws
+use Rattle.sheet.proofs.Laws as laws
 use borrow.Author.Needs.{needs}
 use Rattle.emit.proofs.emit_mention.Statement.{statement}
 use Rattle.emit.proofs.emit_mention.Tie as tie

@@ -2,7 +2,7 @@ use Prim.Native.Nat.{ℕ}
 use lib.Dec.{eqb}
 use mathlib.Core.Bool.{not}
 use mathlib.Core.Path.{ap}
-use Rattle.emit.proofs.Laws as laws
+use Rattle.sheet.proofs.Laws as laws
 use borrow.Author.Needs.{needs}
 use Rattle.emit.proofs.get_fwd_emitted.Statement.{statement}
 use Rattle.emit.proofs.get_fwd_emitted.Tie as tie

@@ -1,4 +1,4 @@
-use Rattle.fill.proofs.Filled.{entry-out}
+use Rattle.filled.proofs.Filled.{entry-out}
 use borrow.Author.Needs.{needs}
 use Rattle.fill.proofs.entry_of.Statement.{statement}
 use Rattle.fill.proofs.entry_of.Tie as tie

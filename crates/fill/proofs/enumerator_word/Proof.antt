@@ -1,5 +1,5 @@
 use mathlib.Core.Path.{refl}
-use Rattle.fill.specs.Left.{enumeratorWord}
+use Rattle.filled.specs.Left.{enumeratorWord}
 use borrow.Author.Needs.{needs}
 use Rattle.fill.proofs.enumerator_word.Statement.{statement}
 use Rattle.fill.proofs.enumerator_word.Tie as tie

@@ -1,4 +1,4 @@
-use Rattle.fill.proofs.Filled.{filled-is}
+use Rattle.filled.proofs.Filled.{filled-is}
 use borrow.Author.Needs.{needs}
 use Rattle.fill.proofs.fill.Statement.{statement}
 use Rattle.fill.proofs.fill.Tie as tie

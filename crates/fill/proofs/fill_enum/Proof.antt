@@ -1,4 +1,4 @@
-use Rattle.fill.proofs.Filled.{enum-put, enum-left}
+use Rattle.filled.proofs.Filled.{enum-put, enum-left}
 use borrow.Author.Needs.{needs}
 use Rattle.fill.proofs.fill_enum.Statement.{statement}
 use Rattle.fill.proofs.fill_enum.Tie as tie

@@ -1,10 +1,10 @@
 use borrow.Author.Needs.{needs}
 use native.Mathlib.Omega.{arith}
-use Rattle.fill.specs.Left.{enumsPut, enumsTo}
+use Rattle.filled.specs.Left.{enumsPut, enumsTo}
 use lib.ListN.{length}
 use mathlib.Core.Path.{_≡_, refl}
 use Prim.Native.Nat.{_≤_, _-_, _*_}
-use Rattle.fill.proofs.Filled.{enums-none, first-none, first-more, enums-more, enums-all, few-of}
+use Rattle.filled.proofs.Filled.{enums-none, first-none, first-more, enums-more, enums-all, few-of}
 use Rattle.fill.proofs.fill_enums.Statement.{statement}
 use Rattle.fill.proofs.fill_enums.Tie as tie
 use Rattle.fill.proofs.fill_enums.Reads as reads

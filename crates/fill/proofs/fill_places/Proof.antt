@@ -1,10 +1,10 @@
 use borrow.Author.Needs.{needs}
 use native.Mathlib.Omega.{arith}
-use Rattle.fill.specs.Left.{placesPut}
+use Rattle.filled.specs.Left.{placesPut}
 use lib.ListN.{length}
 use mathlib.Core.Path.{_≡_, refl}
 use Prim.Native.Nat.{_≤_, _-_}
-use Rattle.fill.proofs.Filled.{places-none, places-more, places-all}
+use Rattle.filled.proofs.Filled.{places-none, places-more, places-all}
 use Rattle.fill.proofs.fill_places.Statement.{statement}
 use Rattle.fill.proofs.fill_places.Tie as tie
 use Rattle.fill.proofs.fill_places.Reads as reads

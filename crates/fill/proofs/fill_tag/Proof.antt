@@ -1,4 +1,4 @@
-use Rattle.fill.proofs.Filled.{tag-other, tag-past, tag-put}
+use Rattle.filled.proofs.Filled.{tag-other, tag-past, tag-put}
 use borrow.Author.Needs.{needs}
 use Rattle.fill.proofs.fill_tag.Statement.{statement}
 use Rattle.fill.proofs.fill_tag.Tie as tie

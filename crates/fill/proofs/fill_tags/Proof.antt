@@ -1,10 +1,10 @@
 use borrow.Author.Needs.{needs}
 use native.Mathlib.Omega.{arith}
-use Rattle.fill.specs.Left.{tagsPut}
+use Rattle.filled.specs.Left.{tagsPut}
 use lib.ListN.{length}
 use mathlib.Core.Path.{_≡_, refl}
 use Prim.Native.Nat.{_-_}
-use Rattle.fill.proofs.Filled.{tags-more, tags-all}
+use Rattle.filled.proofs.Filled.{tags-more, tags-all}
 use Rattle.fill.proofs.fill_tags.Statement.{statement}
 use Rattle.fill.proofs.fill_tags.Tie as tie
 use Rattle.fill.proofs.fill_tags.Reads as reads

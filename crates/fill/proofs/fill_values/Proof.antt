@@ -1,10 +1,10 @@
 use borrow.Author.Needs.{needs}
 use native.Mathlib.Omega.{arith}
-use Rattle.fill.specs.Left.{valuesPut}
+use Rattle.filled.specs.Left.{valuesPut}
 use lib.ListN.{length}
 use mathlib.Core.Path.{_≡_, refl}
 use Prim.Native.Nat.{_≤_, _-_}
-use Rattle.fill.proofs.Filled.{values-none, values-more, values-all}
+use Rattle.filled.proofs.Filled.{values-none, values-more, values-all}
 use Rattle.fill.proofs.fill_values.Statement.{statement}
 use Rattle.fill.proofs.fill_values.Tie as tie
 use Rattle.fill.proofs.fill_values.Reads as reads

@@ -1,4 +1,4 @@
-use Rattle.fill.proofs.Filled.{value-64, value-32}
+use Rattle.filled.proofs.Filled.{value-64, value-32}
 use borrow.Author.Needs.{needs}
 use Rattle.fill.proofs.value_place.Statement.{statement}
 use Rattle.fill.proofs.value_place.Tie as tie

@@ -1,4 +1,4 @@
-use Rattle.fill.proofs.Filled.{values-some, values-zero}
+use Rattle.filled.proofs.Filled.{values-some, values-zero}
 use borrow.Author.Needs.{needs}
 use Rattle.fill.proofs.values_at.Statement.{statement}
 use Rattle.fill.proofs.values_at.Tie as tie

@@ -4,7 +4,7 @@ use Rattle.btf.specs.Nodes.{memberIds}
 use Rattle.btf.specs.Table.{btfOf}
 use Rattle.rules.specs.Layout.{getAlignOf}
 use mathlib.Core.Logic.{⊎-elim}
-use mathlib.Core.Path.{_≡_, _∙_}
+use mathlib.Core.Path.{_≡_, refl, _∙_, sym}
 use borrow.Author.Needs.{needs}
 use native.Mathlib.Omega.{arith}
 use Prim.Native.Nat.{ℕ, _<_, _≤_, _+_, _-_}
@@ -85,8 +85,6 @@ get-align-of-claims t = (
   smaller-reads.Learnt,
   array-type-reads.Asked,
   array-type-reads.Learnt,
-  get-align-of-below t,
-  get-align-of.Post,
   entries-of-reads.Asked,
   entries-of-reads.Learnt,
   align-members-below t,
@@ -144,77 +142,86 @@ align-members-loop-again t c = (omega arith, c .before .before .before .before .
 align-members-returns-2 : (t : ℕ) → align-members-lts.Need-returns-2 (align-members-claims t) (align-members-at t) align-members.Post align-members-Inv-loop align-members-μ-loop
 align-members-returns-2 t c = rest-end _ _ _ _ _ _ _ (c .before .loop .inv .2) (c .loop-test .left)
 
-get-align-of-returns : (t : ℕ) → get-align-of-lts.Need-returns (get-align-of-claims t) (get-align-of-at t) get-align-of.Post
-get-align-of-returns t c = align-deep _ _ _ _ _ (c .if1 .taken)
+abbrev get-align-of-Inv-loop : get-align-of-lts.InvT-loop
+get-align-of-Inv-loop b section work id left at₀ more₀ at more = (getAlignOf left (btfOf b section work) id ≡ getAlignOf more (btfOf b section work) at) × (more ≤ left)
 
-get-align-of-type-by-id-requires : (t : ℕ) → get-align-of-lts.Need-type-by-id-requires (get-align-of-claims t) (get-align-of-at t) get-align-of.Post
+abbrev get-align-of-μ-loop : get-align-of-lts.MeasureT-loop
+get-align-of-μ-loop b section work id left at₀ more₀ at more = more
+
+get-align-of-loop-holds : (t : ℕ) → get-align-of-lts.Need-loop-holds (get-align-of-claims t) (get-align-of-at t) get-align-of.Post get-align-of-Inv-loop get-align-of-μ-loop
+get-align-of-loop-holds t c = (refl, omega arith)
+
+get-align-of-type-by-id-requires : (t : ℕ) → get-align-of-lts.Need-type-by-id-requires (get-align-of-claims t) (get-align-of-at t) get-align-of.Post get-align-of-Inv-loop get-align-of-μ-loop
 get-align-of-type-by-id-requires t c κs = search needs
 
-get-align-of-kind-of-requires : (t : ℕ) → get-align-of-lts.Need-kind-of-requires (get-align-of-claims t) (get-align-of-at t) get-align-of.Post
+get-align-of-sub-more : (t : ℕ) → get-align-of-lts.Need-sub-more (get-align-of-claims t) (get-align-of-at t) get-align-of.Post get-align-of-Inv-loop get-align-of-μ-loop
+get-align-of-sub-more t c = omega arith
+
+get-align-of-kind-of-requires : (t : ℕ) → get-align-of-lts.Need-kind-of-requires (get-align-of-claims t) (get-align-of-at t) get-align-of.Post get-align-of-Inv-loop get-align-of-μ-loop
 get-align-of-kind-of-requires t c κs = search needs
 
-get-align-of-int-bits-requires : (t : ℕ) → get-align-of-lts.Need-int-bits-requires (get-align-of-claims t) (get-align-of-at t) get-align-of.Post
+get-align-of-int-bits-requires : (t : ℕ) → get-align-of-lts.Need-int-bits-requires (get-align-of-claims t) (get-align-of-at t) get-align-of.Post get-align-of-Inv-loop get-align-of-μ-loop
 get-align-of-int-bits-requires t c κs = search needs
 
-get-align-of-octets-requires : (t : ℕ) → get-align-of-lts.Need-octets-requires (get-align-of-claims t) (get-align-of-at t) get-align-of.Post
+get-align-of-octets-requires : (t : ℕ) → get-align-of-lts.Need-octets-requires (get-align-of-claims t) (get-align-of-at t) get-align-of.Post get-align-of-Inv-loop get-align-of-μ-loop
 get-align-of-octets-requires t c κs = search needs
 
-get-align-of-smaller-requires : (t : ℕ) → get-align-of-lts.Need-smaller-requires (get-align-of-claims t) (get-align-of-at t) get-align-of.Post
+get-align-of-smaller-requires : (t : ℕ) → get-align-of-lts.Need-smaller-requires (get-align-of-claims t) (get-align-of-at t) get-align-of.Post get-align-of-Inv-loop get-align-of-μ-loop
 get-align-of-smaller-requires t c κs = search needs
 
-get-align-of-array-type-requires : (t : ℕ) → get-align-of-lts.Need-array-type-requires (get-align-of-claims t) (get-align-of-at t) get-align-of.Post
+get-align-of-returns : (t : ℕ) → get-align-of-lts.Need-returns (get-align-of-claims t) (get-align-of-at t) get-align-of.Post get-align-of-Inv-loop get-align-of-μ-loop
+get-align-of-returns t c = align-int _ _ _ _ _ (c .before .before .before .before .before .before .loop-test .taken) _ (c .before .before .before .before .before .type-by-id .ensures) _ (c .before .before .before .before .kind-of .ensures) _ _ _ (c .before .before .before .match .keys1) (c .before .before .int-bits .ensures) (c .before .octets .ensures) (c .smaller .ensures) ∙ sym (c .before .before .before .before .before .before .before .loop .inv .0)
+
+get-align-of-returns-2 : (t : ℕ) → get-align-of-lts.Need-returns-2 (get-align-of-claims t) (get-align-of-at t) get-align-of.Post get-align-of-Inv-loop get-align-of-μ-loop
+get-align-of-returns-2 t c = align-ptr _ _ _ _ _ (c .before .before .before .loop-test .taken) _ (c .before .before .type-by-id .ensures) _ (c .before .kind-of .ensures) (c .match .keys2) ∙ sym (c .before .before .before .before .loop .inv .0)
+
+get-align-of-array-type-requires : (t : ℕ) → get-align-of-lts.Need-array-type-requires (get-align-of-claims t) (get-align-of-at t) get-align-of.Post get-align-of-Inv-loop get-align-of-μ-loop
 get-align-of-array-type-requires t c κs = search needs
 
-get-align-of-sub-get-align-of : (t : ℕ) → get-align-of-lts.Need-sub-get-align-of (get-align-of-claims t) (get-align-of-at t) get-align-of.Post
-get-align-of-sub-get-align-of t c = omega arith
+get-align-of-loop-less : (t : ℕ) → get-align-of-lts.Need-loop-less (get-align-of-claims t) (get-align-of-at t) get-align-of.Post get-align-of-Inv-loop get-align-of-μ-loop
+get-align-of-loop-less t c = omega arith
 
-get-align-of-get-align-of-requires : (t : ℕ) → get-align-of-lts.Need-get-align-of-requires (get-align-of-claims t) (get-align-of-at t) get-align-of.Post
-get-align-of-get-align-of-requires t c κs = (omega arith, tt)
+get-align-of-loop-again : (t : ℕ) → get-align-of-lts.Need-loop-again (get-align-of-claims t) (get-align-of-at t) get-align-of.Post get-align-of-Inv-loop get-align-of-μ-loop
+get-align-of-loop-again t c = (c .before .before .before .before .before .loop .inv .0 ∙ align-array _ _ _ _ _ (c .before .before .before .before .loop-test .taken) _ (c .before .before .before .type-by-id .ensures) _ (c .before .before .kind-of .ensures) _ (c .before .match .keys3) (c .array-type .ensures), omega arith)
 
-get-align-of-smaller-requires-2 : (t : ℕ) → get-align-of-lts.Need-smaller-requires-2 (get-align-of-claims t) (get-align-of-at t) get-align-of.Post
+get-align-of-smaller-requires-2 : (t : ℕ) → get-align-of-lts.Need-smaller-requires-2 (get-align-of-claims t) (get-align-of-at t) get-align-of.Post get-align-of-Inv-loop get-align-of-μ-loop
 get-align-of-smaller-requires-2 t c κs = search needs
 
-get-align-of-entries-of-requires : (t : ℕ) → get-align-of-lts.Need-entries-of-requires (get-align-of-claims t) (get-align-of-at t) get-align-of.Post
+get-align-of-returns-3 : (t : ℕ) → get-align-of-lts.Need-returns-3 (get-align-of-claims t) (get-align-of-at t) get-align-of.Post get-align-of-Inv-loop get-align-of-μ-loop
+get-align-of-returns-3 t c = align-sized _ _ _ _ _ (c .before .before .before .before .loop-test .taken) _ (c .before .before .before .type-by-id .ensures) _ (c .before .before .kind-of .ensures) _ (c .before .match .keys4) (c .smaller2 .ensures) ∙ sym (c .before .before .before .before .before .loop .inv .0)
+
+get-align-of-entries-of-requires : (t : ℕ) → get-align-of-lts.Need-entries-of-requires (get-align-of-claims t) (get-align-of-at t) get-align-of.Post get-align-of-Inv-loop get-align-of-μ-loop
 get-align-of-entries-of-requires t c κs = search needs
 
-get-align-of-sub-align-members : (t : ℕ) → get-align-of-lts.Need-sub-align-members (get-align-of-claims t) (get-align-of-at t) get-align-of.Post
-get-align-of-sub-align-members t c = omega arith
-
-get-align-of-align-members-requires : (t : ℕ) → get-align-of-lts.Need-align-members-requires (get-align-of-claims t) (get-align-of-at t) get-align-of.Post
+get-align-of-align-members-requires : (t : ℕ) → get-align-of-lts.Need-align-members-requires (get-align-of-claims t) (get-align-of-at t) get-align-of.Post get-align-of-Inv-loop get-align-of-μ-loop
 get-align-of-align-members-requires t c κs = (omega arith, tt)
 
-get-align-of-sub-get-align-of-2 : (t : ℕ) → get-align-of-lts.Need-sub-get-align-of-2 (get-align-of-claims t) (get-align-of-at t) get-align-of.Post
-get-align-of-sub-get-align-of-2 t c = omega arith
+get-align-of-returns-4 : (t : ℕ) → get-align-of-lts.Need-returns-4 (get-align-of-claims t) (get-align-of-at t) get-align-of.Post get-align-of-Inv-loop get-align-of-μ-loop
+get-align-of-returns-4 t c = align-composite _ _ _ _ _ (c .before .before .before .before .before .before .before .loop-test .taken) _ (c .before .before .before .before .before .before .type-by-id .ensures) _ (c .before .before .before .before .before .kind-of .ensures) _ _ (c .before .before .before .if1 .left) (c .before .before .if2 .taken) (c .before .before .before .before .match .rest .0 .0 .0 .0 .1) (c .before .before .before .before .match .rest .0 .0 .0 .1) (c .before .before .before .before .match .rest .0 .0 .1) (c .before .entries-of .ensures) (c .align-members .ensures) ∙ sym (c .before .before .before .before .before .before .before .before .loop .inv .0)
 
-get-align-of-get-align-of-requires-2 : (t : ℕ) → get-align-of-lts.Need-get-align-of-requires-2 (get-align-of-claims t) (get-align-of-at t) get-align-of.Post
-get-align-of-get-align-of-requires-2 t c κs = (omega arith, tt)
+get-align-of-returns-5 : (t : ℕ) → get-align-of-lts.Need-returns-5 (get-align-of-claims t) (get-align-of-at t) get-align-of.Post get-align-of-Inv-loop get-align-of-μ-loop
+get-align-of-returns-5 t c = align-void _ _ _ _ _ (c .before .before .before .before .loop-test .taken) _ (c .before .before .before .type-by-id .ensures) _ (c .before .before .kind-of .ensures) (c .if1 .taken) ∙ sym (c .before .before .before .before .before .loop .inv .0)
 
-get-align-of-returns-2 : (t : ℕ) → get-align-of-lts.Need-returns-2 (get-align-of-claims t) (get-align-of-at t) get-align-of.Post
-get-align-of-returns-2 t c = align-int _ _ _ _ _ (c .before .before .before .before .before .before .if1 .left) _ (c .before .before .before .before .before .type-by-id .ensures) _ (c .before .before .before .before .kind-of .ensures) _ _ _ (c .before .before .before .match .keys1) (c .before .before .int-bits .ensures) (c .before .octets .ensures) (c .smaller .ensures)
+get-align-of-returns-6 : (t : ℕ) → get-align-of-lts.Need-returns-6 (get-align-of-claims t) (get-align-of-at t) get-align-of.Post get-align-of-Inv-loop get-align-of-μ-loop
+get-align-of-returns-6 t c = align-fwd _ _ _ _ _ (c .before .before .before .before .before .before .loop-test .taken) _ (c .before .before .before .before .before .type-by-id .ensures) _ (c .before .before .before .before .kind-of .ensures) (c .before .if2 .left) (c .if3 .taken) (c .before .before .before .match .rest .0 .1) ∙ sym (c .before .before .before .before .before .before .before .loop .inv .0)
 
-get-align-of-returns-3 : (t : ℕ) → get-align-of-lts.Need-returns-3 (get-align-of-claims t) (get-align-of-at t) get-align-of.Post
-get-align-of-returns-3 t c = align-ptr _ _ _ _ _ (c .before .before .before .if1 .left) _ (c .before .before .type-by-id .ensures) _ (c .before .kind-of .ensures) (c .match .keys2)
+get-align-of-returns-7 : (t : ℕ) → get-align-of-lts.Need-returns-7 (get-align-of-claims t) (get-align-of-at t) get-align-of.Post get-align-of-Inv-loop get-align-of-μ-loop
+get-align-of-returns-7 t c = align-past _ _ _ _ _ (c .before .before .before .before .before .before .before .loop-test .taken) _ (c .before .before .before .before .before .before .type-by-id .ensures) _ (c .before .before .before .before .before .kind-of .ensures) (c .if4 .left) (c .before .before .before .before .match .rest .0 .1) (c .before .before .before .before .match .rest .1) ∙ sym (c .before .before .before .before .before .before .before .before .loop .inv .0)
 
-get-align-of-returns-4 : (t : ℕ) → get-align-of-lts.Need-returns-4 (get-align-of-claims t) (get-align-of-at t) get-align-of.Post
-get-align-of-returns-4 t c = align-array _ _ _ _ _ (c .before .before .before .before .before .if1 .left) _ (c .before .before .before .before .type-by-id .ensures) _ (c .before .before .before .kind-of .ensures) _ _ (c .before .before .match .keys3) (c .before .array-type .ensures) (c .get-align-of .ensures)
+get-align-of-loop-less-2 : (t : ℕ) → get-align-of-lts.Need-loop-less-2 (get-align-of-claims t) (get-align-of-at t) get-align-of.Post get-align-of-Inv-loop get-align-of-μ-loop
+get-align-of-loop-less-2 t c = omega arith
 
-get-align-of-returns-5 : (t : ℕ) → get-align-of-lts.Need-returns-5 (get-align-of-claims t) (get-align-of-at t) get-align-of.Post
-get-align-of-returns-5 t c = align-sized _ _ _ _ _ (c .before .before .before .before .if1 .left) _ (c .before .before .before .type-by-id .ensures) _ (c .before .before .kind-of .ensures) _ (c .before .match .keys4) (c .smaller2 .ensures)
+get-align-of-loop-again-2 : (t : ℕ) → get-align-of-lts.Need-loop-again-2 (get-align-of-claims t) (get-align-of-at t) get-align-of.Post get-align-of-Inv-loop get-align-of-μ-loop
+get-align-of-loop-again-2 t c = (c .before .before .before .before .loop .inv .0 ∙ align-tagged _ _ _ _ _ (c .before .before .before .loop-test .taken) _ (c .before .before .type-by-id .ensures) _ (c .before .kind-of .ensures) (c .match .keys5), omega arith)
 
-get-align-of-returns-6 : (t : ℕ) → get-align-of-lts.Need-returns-6 (get-align-of-claims t) (get-align-of-at t) get-align-of.Post
-get-align-of-returns-6 t c = align-composite _ _ _ _ _ (c .before .before .before .before .before .before .before .if1 .left) _ (c .before .before .before .before .before .before .type-by-id .ensures) _ (c .before .before .before .before .before .kind-of .ensures) _ _ (c .before .before .before .if2 .left) (c .before .before .if3 .taken) (c .before .before .before .before .match .rest .0 .0 .0 .0 .1) (c .before .before .before .before .match .rest .0 .0 .0 .1) (c .before .before .before .before .match .rest .0 .0 .1) (c .before .entries-of .ensures) (c .align-members .ensures)
+get-align-of-loop-less-3 : (t : ℕ) → get-align-of-lts.Need-loop-less-3 (get-align-of-claims t) (get-align-of-at t) get-align-of.Post get-align-of-Inv-loop get-align-of-μ-loop
+get-align-of-loop-less-3 t c = omega arith
 
-get-align-of-returns-7 : (t : ℕ) → get-align-of-lts.Need-returns-7 (get-align-of-claims t) (get-align-of-at t) get-align-of.Post
-get-align-of-returns-7 t c = align-void _ _ _ _ _ (c .before .before .before .before .if1 .left) _ (c .before .before .before .type-by-id .ensures) _ (c .before .before .kind-of .ensures) (c .if2 .taken)
+get-align-of-loop-again-3 : (t : ℕ) → get-align-of-lts.Need-loop-again-3 (get-align-of-claims t) (get-align-of-at t) get-align-of.Post get-align-of-Inv-loop get-align-of-μ-loop
+get-align-of-loop-again-3 t c = (c .before .before .before .before .before .before .before .before .loop .inv .0 ∙ align-through _ _ _ _ _ (c .before .before .before .before .before .before .before .loop-test .taken) _ (c .before .before .before .before .before .before .type-by-id .ensures) _ (c .before .before .before .before .before .kind-of .ensures) (c .before .if3 .left) (c .if4 .taken), omega arith)
 
-get-align-of-returns-8 : (t : ℕ) → get-align-of-lts.Need-returns-8 (get-align-of-claims t) (get-align-of-at t) get-align-of.Post
-get-align-of-returns-8 t c = align-fwd _ _ _ _ _ (c .before .before .before .before .before .before .if1 .left) _ (c .before .before .before .before .before .type-by-id .ensures) _ (c .before .before .before .before .kind-of .ensures) (c .before .if3 .left) (c .if4 .taken) (c .before .before .before .match .rest .0 .1)
-
-get-align-of-returns-9 : (t : ℕ) → get-align-of-lts.Need-returns-9 (get-align-of-claims t) (get-align-of-at t) get-align-of.Post
-get-align-of-returns-9 t c = align-past _ _ _ _ _ (c .before .before .before .before .before .before .before .if1 .left) _ (c .before .before .before .before .before .before .type-by-id .ensures) _ (c .before .before .before .before .before .kind-of .ensures) (c .if5 .left) (c .before .before .before .before .match .rest .0 .1) (c .before .before .before .before .match .rest .1)
-
-get-align-of-returns-10 : (t : ℕ) → get-align-of-lts.Need-returns-10 (get-align-of-claims t) (get-align-of-at t) get-align-of.Post
-get-align-of-returns-10 t c = ⊎-elim (λ j. align-tagged _ _ _ _ _ (c .before .before .before .before .if1 .left) _ (c .before .before .before .type-by-id .ensures) _ (c .before .before .kind-of .ensures) _ (c .get-align-of2 .ensures) (j .keys5)) (λ j. align-through _ _ _ _ _ (c .before .before .before .before .if1 .left) _ (c .before .before .before .type-by-id .ensures) _ (c .before .before .kind-of .ensures) _ (c .get-align-of2 .ensures) (j .3 .left) (j .4 .taken)) (c .before .match .came)
+get-align-of-returns-8 : (t : ℕ) → get-align-of-lts.Need-returns-8 (get-align-of-claims t) (get-align-of-at t) get-align-of.Post get-align-of-Inv-loop get-align-of-μ-loop
+get-align-of-returns-8 t c = align-deep _ _ _ _ _ (c .loop-test .left) ∙ sym (c .before .loop .inv .0)
 
 pub +align-members+get-align-of-spec : {M : Type 1} → statement M
 +align-members+get-align-of-spec =
@@ -260,8 +267,6 @@ pub +align-members+get-align-of-spec : {M : Type 1} → statement M
       smaller-reads.Learnt,
       array-type-reads.Asked,
       array-type-reads.Learnt,
-      get-align-of-below t,
-      get-align-of.Post,
       entries-of-reads.Asked,
       entries-of-reads.Learnt,
       align-members-below t,
@@ -269,27 +274,30 @@ pub +align-members+get-align-of-spec : {M : Type 1} → statement M
     )
     (get-align-of-at t)
     get-align-of.Post
-    (get-align-of-returns t)
+    get-align-of-Inv-loop
+    get-align-of-μ-loop
+    (get-align-of-loop-holds t)
     (get-align-of-type-by-id-requires t)
+    (get-align-of-sub-more t)
     (get-align-of-kind-of-requires t)
     (get-align-of-int-bits-requires t)
     (get-align-of-octets-requires t)
     (get-align-of-smaller-requires t)
-    (get-align-of-array-type-requires t)
-    (get-align-of-sub-get-align-of t)
-    (get-align-of-get-align-of-requires t)
-    (get-align-of-smaller-requires-2 t)
-    (get-align-of-entries-of-requires t)
-    (get-align-of-sub-align-members t)
-    (get-align-of-align-members-requires t)
-    (get-align-of-sub-get-align-of-2 t)
-    (get-align-of-get-align-of-requires-2 t)
+    (get-align-of-returns t)
     (get-align-of-returns-2 t)
+    (get-align-of-array-type-requires t)
+    (get-align-of-loop-less t)
+    (get-align-of-loop-again t)
+    (get-align-of-smaller-requires-2 t)
     (get-align-of-returns-3 t)
+    (get-align-of-entries-of-requires t)
+    (get-align-of-align-members-requires t)
     (get-align-of-returns-4 t)
     (get-align-of-returns-5 t)
     (get-align-of-returns-6 t)
     (get-align-of-returns-7 t)
+    (get-align-of-loop-less-2 t)
+    (get-align-of-loop-again-2 t)
+    (get-align-of-loop-less-3 t)
+    (get-align-of-loop-again-3 t)
     (get-align-of-returns-8 t)
-    (get-align-of-returns-9 t)
-    (get-align-of-returns-10 t)

@@ -1,8 +1,10 @@
 use Rattle.layout.proofs.Laws.{size-deep, size-int, size-ptr, size-array, size-keyed, size-range, size-through, size-tagged, size-void, size-fwd, size-data, size-past}
-use mathlib.Core.Logic.{inl, inr, ⊎-elim}
-use native.Mathlib.Omega.{arith}
+use Rattle.btf.specs.Table.{btfOf}
+use Rattle.rules.specs.Layout.{getSizeOf}
+use mathlib.Core.Path.{_≡_, refl, _∙_, sym}
 use borrow.Author.Needs.{needs}
-use Prim.Native.Nat.{ℕ, _<_}
+use native.Mathlib.Omega.{arith}
+use Prim.Native.Nat.{ℕ, _<_, _≤_}
 use borrow.Fn.Kinds.{In}
 use borrow.Fn.PlainCycle.{Measures, is, falls, and}
 use Rattle.layout.proofs.get_size_of.Reads as get-size-of
@@ -49,89 +51,106 @@ get-size-of-claims t = (
   product-reads.Learnt,
 )
 
-get-size-of-returns : (t : ℕ) → get-size-of-lts.Need-returns (get-size-of-claims t) (get-size-of-at t) get-size-of.Post
-get-size-of-returns t c = size-deep _ _ _ _ _ (c .if1 .taken)
+abbrev get-size-of-Inv-loop : get-size-of-lts.InvT-loop
+get-size-of-Inv-loop b section work id left at₀ more₀ at more = (getSizeOf left (btfOf b section work) id ≡ getSizeOf more (btfOf b section work) at) × (more ≤ left)
 
-get-size-of-type-by-id-requires : (t : ℕ) → get-size-of-lts.Need-type-by-id-requires (get-size-of-claims t) (get-size-of-at t) get-size-of.Post
+abbrev get-size-of-μ-loop : get-size-of-lts.MeasureT-loop
+get-size-of-μ-loop b section work id left at₀ more₀ at more = more
+
+get-size-of-loop-holds : (t : ℕ) → get-size-of-lts.Need-loop-holds (get-size-of-claims t) (get-size-of-at t) get-size-of.Post get-size-of-Inv-loop get-size-of-μ-loop
+get-size-of-loop-holds t c = (refl, omega arith)
+
+get-size-of-type-by-id-requires : (t : ℕ) → get-size-of-lts.Need-type-by-id-requires (get-size-of-claims t) (get-size-of-at t) get-size-of.Post get-size-of-Inv-loop get-size-of-μ-loop
 get-size-of-type-by-id-requires t c κs = search needs
 
-get-size-of-kind-of-requires : (t : ℕ) → get-size-of-lts.Need-kind-of-requires (get-size-of-claims t) (get-size-of-at t) get-size-of.Post
+get-size-of-sub-more : (t : ℕ) → get-size-of-lts.Need-sub-more (get-size-of-claims t) (get-size-of-at t) get-size-of.Post get-size-of-Inv-loop get-size-of-μ-loop
+get-size-of-sub-more t c = omega arith
+
+get-size-of-kind-of-requires : (t : ℕ) → get-size-of-lts.Need-kind-of-requires (get-size-of-claims t) (get-size-of-at t) get-size-of.Post get-size-of-Inv-loop get-size-of-μ-loop
 get-size-of-kind-of-requires t c κs = search needs
 
-get-size-of-int-bits-requires : (t : ℕ) → get-size-of-lts.Need-int-bits-requires (get-size-of-claims t) (get-size-of-at t) get-size-of.Post
+get-size-of-int-bits-requires : (t : ℕ) → get-size-of-lts.Need-int-bits-requires (get-size-of-claims t) (get-size-of-at t) get-size-of.Post get-size-of-Inv-loop get-size-of-μ-loop
 get-size-of-int-bits-requires t c κs = search needs
 
-get-size-of-octets-requires : (t : ℕ) → get-size-of-lts.Need-octets-requires (get-size-of-claims t) (get-size-of-at t) get-size-of.Post
+get-size-of-octets-requires : (t : ℕ) → get-size-of-lts.Need-octets-requires (get-size-of-claims t) (get-size-of-at t) get-size-of.Post get-size-of-Inv-loop get-size-of-μ-loop
 get-size-of-octets-requires t c κs = search needs
 
-get-size-of-array-type-requires : (t : ℕ) → get-size-of-lts.Need-array-type-requires (get-size-of-claims t) (get-size-of-at t) get-size-of.Post
+get-size-of-returns : (t : ℕ) → get-size-of-lts.Need-returns (get-size-of-claims t) (get-size-of-at t) get-size-of.Post get-size-of-Inv-loop get-size-of-μ-loop
+get-size-of-returns t c = size-int _ _ _ _ _ (c .before .before .before .before .before .loop-test .taken) _ (c .before .before .before .before .type-by-id .ensures) _ (c .before .before .before .kind-of .ensures) _ _ (c .before .before .match .keys1) (c .before .int-bits .ensures) (c .octets .ensures) ∙ sym (c .before .before .before .before .before .before .loop .inv .0)
+
+get-size-of-returns-2 : (t : ℕ) → get-size-of-lts.Need-returns-2 (get-size-of-claims t) (get-size-of-at t) get-size-of.Post get-size-of-Inv-loop get-size-of-μ-loop
+get-size-of-returns-2 t c = size-ptr _ _ _ _ _ (c .before .before .before .loop-test .taken) _ (c .before .before .type-by-id .ensures) _ (c .before .kind-of .ensures) (c .match .keys2) ∙ sym (c .before .before .before .before .loop .inv .0)
+
+get-size-of-array-type-requires : (t : ℕ) → get-size-of-lts.Need-array-type-requires (get-size-of-claims t) (get-size-of-at t) get-size-of.Post get-size-of-Inv-loop get-size-of-μ-loop
 get-size-of-array-type-requires t c κs = search needs
 
-get-size-of-sub-get-size-of : (t : ℕ) → get-size-of-lts.Need-sub-get-size-of (get-size-of-claims t) (get-size-of-at t) get-size-of.Post
-get-size-of-sub-get-size-of t c = omega arith
-
-get-size-of-get-size-of-requires : (t : ℕ) → get-size-of-lts.Need-get-size-of-requires (get-size-of-claims t) (get-size-of-at t) get-size-of.Post
+get-size-of-get-size-of-requires : (t : ℕ) → get-size-of-lts.Need-get-size-of-requires (get-size-of-claims t) (get-size-of-at t) get-size-of.Post get-size-of-Inv-loop get-size-of-μ-loop
 get-size-of-get-size-of-requires t c κs = (omega arith, tt)
 
-get-size-of-array-nelems-requires : (t : ℕ) → get-size-of-lts.Need-array-nelems-requires (get-size-of-claims t) (get-size-of-at t) get-size-of.Post
+get-size-of-array-nelems-requires : (t : ℕ) → get-size-of-lts.Need-array-nelems-requires (get-size-of-claims t) (get-size-of-at t) get-size-of.Post get-size-of-Inv-loop get-size-of-μ-loop
 get-size-of-array-nelems-requires t c κs = search needs
 
-get-size-of-product-requires : (t : ℕ) → get-size-of-lts.Need-product-requires (get-size-of-claims t) (get-size-of-at t) get-size-of.Post
+get-size-of-product-requires : (t : ℕ) → get-size-of-lts.Need-product-requires (get-size-of-claims t) (get-size-of-at t) get-size-of.Post get-size-of-Inv-loop get-size-of-μ-loop
 get-size-of-product-requires t c κs = search needs
 
-get-size-of-sub-get-size-of-2 : (t : ℕ) → get-size-of-lts.Need-sub-get-size-of-2 (get-size-of-claims t) (get-size-of-at t) get-size-of.Post
-get-size-of-sub-get-size-of-2 t c = omega arith
+get-size-of-returns-3 : (t : ℕ) → get-size-of-lts.Need-returns-3 (get-size-of-claims t) (get-size-of-at t) get-size-of.Post get-size-of-Inv-loop get-size-of-μ-loop
+get-size-of-returns-3 t c = size-array _ _ _ _ _ (c .before .before .before .before .before .before .before .loop-test .taken) _ (c .before .before .before .before .before .before .type-by-id .ensures) _ (c .before .before .before .before .before .kind-of .ensures) _ _ _ _ (c .before .before .before .before .match .keys3) (c .before .before .before .array-type .ensures) (c .before .array-nelems .ensures) (c .before .before .get-size-of .ensures) (c .product .ensures) ∙ sym (c .before .before .before .before .before .before .before .before .loop .inv .0)
 
-get-size-of-get-size-of-requires-2 : (t : ℕ) → get-size-of-lts.Need-get-size-of-requires-2 (get-size-of-claims t) (get-size-of-at t) get-size-of.Post
-get-size-of-get-size-of-requires-2 t c κs = (omega arith, tt)
+get-size-of-loop-less : (t : ℕ) → get-size-of-lts.Need-loop-less (get-size-of-claims t) (get-size-of-at t) get-size-of.Post get-size-of-Inv-loop get-size-of-μ-loop
+get-size-of-loop-less t c = omega arith
 
-get-size-of-returns-2 : (t : ℕ) → get-size-of-lts.Need-returns-2 (get-size-of-claims t) (get-size-of-at t) get-size-of.Post
-get-size-of-returns-2 t c = size-int _ _ _ _ _ (c .before .before .before .before .before .if1 .left) _ (c .before .before .before .before .type-by-id .ensures) _ (c .before .before .before .kind-of .ensures) _ _ (c .before .before .match .keys1) (c .before .int-bits .ensures) (c .octets .ensures)
+get-size-of-loop-again : (t : ℕ) → get-size-of-lts.Need-loop-again (get-size-of-claims t) (get-size-of-at t) get-size-of.Post get-size-of-Inv-loop get-size-of-μ-loop
+get-size-of-loop-again t c = (c .before .before .before .before .before .before .before .before .loop .inv .0 ∙ size-through _ _ _ _ _ (c .before .before .before .before .before .before .before .loop-test .taken) _ (c .before .before .before .before .before .before .type-by-id .ensures) _ (c .before .before .before .before .before .kind-of .ensures) (c .before .if3 .left) (c .if4 .taken), omega arith)
 
-get-size-of-returns-3 : (t : ℕ) → get-size-of-lts.Need-returns-3 (get-size-of-claims t) (get-size-of-at t) get-size-of.Post
-get-size-of-returns-3 t c = size-ptr _ _ _ _ _ (c .before .before .before .if1 .left) _ (c .before .before .type-by-id .ensures) _ (c .before .kind-of .ensures) (c .match .keys2)
+get-size-of-loop-less-2 : (t : ℕ) → get-size-of-lts.Need-loop-less-2 (get-size-of-claims t) (get-size-of-at t) get-size-of.Post get-size-of-Inv-loop get-size-of-μ-loop
+get-size-of-loop-less-2 t c = omega arith
 
-get-size-of-returns-4 : (t : ℕ) → get-size-of-lts.Need-returns-4 (get-size-of-claims t) (get-size-of-at t) get-size-of.Post
-get-size-of-returns-4 t c = size-array _ _ _ _ _ (c .before .before .before .before .before .before .before .if1 .left) _ (c .before .before .before .before .before .before .type-by-id .ensures) _ (c .before .before .before .before .before .kind-of .ensures) _ _ _ _ (c .before .before .before .before .match .keys3) (c .before .before .before .array-type .ensures) (c .before .array-nelems .ensures) (c .before .before .get-size-of .ensures) (c .product .ensures)
+get-size-of-loop-again-2 : (t : ℕ) → get-size-of-lts.Need-loop-again-2 (get-size-of-claims t) (get-size-of-at t) get-size-of.Post get-size-of-Inv-loop get-size-of-μ-loop
+get-size-of-loop-again-2 t c = (c .before .before .before .before .before .before .before .before .before .before .loop .inv .0 ∙ size-tagged _ _ _ _ _ (c .before .before .before .before .before .before .before .before .before .loop-test .taken) _ (c .before .before .before .before .before .before .before .before .type-by-id .ensures) _ (c .before .before .before .before .before .before .before .kind-of .ensures) (c .before .if5 .left) (c .if6 .taken) (c .before .before .before .before .before .before .match .rest .1), omega arith)
 
-get-size-of-returns-5 : (t : ℕ) → get-size-of-lts.Need-returns-5 (get-size-of-claims t) (get-size-of-at t) get-size-of.Post
-get-size-of-returns-5 t c = ⊎-elim (λ j. size-through _ _ _ _ _ (c .before .before .before .before .before .before .before .before .if1 .left) _ (c .before .before .before .before .before .before .before .type-by-id .ensures) _ (c .before .before .before .before .before .before .kind-of .ensures) _ (c .get-size-of2 .ensures) (c .before .before .if4 .left) (j .taken)) (λ j. size-tagged _ _ _ _ _ (c .before .before .before .before .before .before .before .before .if1 .left) _ (c .before .before .before .before .before .before .before .type-by-id .ensures) _ (c .before .before .before .before .before .before .kind-of .ensures) _ (c .get-size-of2 .ensures) (j .1 .left) (j .2 .taken) (c .before .before .before .before .before .match .rest .1)) (c .before .if5 .came)
+get-size-of-returns-4 : (t : ℕ) → get-size-of-lts.Need-returns-4 (get-size-of-claims t) (get-size-of-at t) get-size-of.Post get-size-of-Inv-loop get-size-of-μ-loop
+get-size-of-returns-4 t c = size-void _ _ _ _ _ (c .before .before .before .before .loop-test .taken) _ (c .before .before .before .type-by-id .ensures) _ (c .before .before .kind-of .ensures) (c .if1 .taken) ∙ sym (c .before .before .before .before .before .loop .inv .0)
 
-get-size-of-returns-6 : (t : ℕ) → get-size-of-lts.Need-returns-6 (get-size-of-claims t) (get-size-of-at t) get-size-of.Post
-get-size-of-returns-6 t c = size-void _ _ _ _ _ (c .before .before .before .before .if1 .left) _ (c .before .before .before .type-by-id .ensures) _ (c .before .before .kind-of .ensures) (c .if2 .taken)
+get-size-of-returns-5 : (t : ℕ) → get-size-of-lts.Need-returns-5 (get-size-of-claims t) (get-size-of-at t) get-size-of.Post get-size-of-Inv-loop get-size-of-μ-loop
+get-size-of-returns-5 t c = size-fwd _ _ _ _ _ (c .before .before .before .before .before .before .loop-test .taken) _ (c .before .before .before .before .before .type-by-id .ensures) _ (c .before .before .before .before .kind-of .ensures) (c .before .if2 .left) (c .if3 .taken) ∙ sym (c .before .before .before .before .before .before .before .loop .inv .0)
 
-get-size-of-returns-7 : (t : ℕ) → get-size-of-lts.Need-returns-7 (get-size-of-claims t) (get-size-of-at t) get-size-of.Post
-get-size-of-returns-7 t c = size-fwd _ _ _ _ _ (c .before .before .before .before .before .before .if1 .left) _ (c .before .before .before .before .before .type-by-id .ensures) _ (c .before .before .before .before .kind-of .ensures) (c .before .if3 .left) (c .if4 .taken)
+get-size-of-returns-6 : (t : ℕ) → get-size-of-lts.Need-returns-6 (get-size-of-claims t) (get-size-of-at t) get-size-of.Post get-size-of-Inv-loop get-size-of-μ-loop
+get-size-of-returns-6 t c = size-data _ _ _ _ _ (c .before .before .before .before .before .before .before .before .loop-test .taken) _ (c .before .before .before .before .before .before .before .type-by-id .ensures) _ (c .before .before .before .before .before .before .kind-of .ensures) (c .before .if4 .left) (c .if5 .taken) ∙ sym (c .before .before .before .before .before .before .before .before .before .loop .inv .0)
 
-get-size-of-returns-8 : (t : ℕ) → get-size-of-lts.Need-returns-8 (get-size-of-claims t) (get-size-of-at t) get-size-of.Post
-get-size-of-returns-8 t c = size-data _ _ _ _ _ (c .before .before .before .before .before .before .before .before .if1 .left) _ (c .before .before .before .before .before .before .before .type-by-id .ensures) _ (c .before .before .before .before .before .before .kind-of .ensures) (c .before .if5 .left) (c .if6 .taken)
+get-size-of-returns-7 : (t : ℕ) → get-size-of-lts.Need-returns-7 (get-size-of-claims t) (get-size-of-at t) get-size-of.Post get-size-of-Inv-loop get-size-of-μ-loop
+get-size-of-returns-7 t c = size-past _ _ _ _ _ (c .before .before .before .before .before .before .before .before .before .loop-test .taken) _ (c .before .before .before .before .before .before .before .before .type-by-id .ensures) _ (c .before .before .before .before .before .before .before .kind-of .ensures) (c .if6 .left) (c .before .before .before .before .before .before .match .rest .1) ∙ sym (c .before .before .before .before .before .before .before .before .before .before .loop .inv .0)
 
-get-size-of-returns-9 : (t : ℕ) → get-size-of-lts.Need-returns-9 (get-size-of-claims t) (get-size-of-at t) get-size-of.Post
-get-size-of-returns-9 t c = size-past _ _ _ _ _ (c .before .before .before .before .before .before .before .before .before .if1 .left) _ (c .before .before .before .before .before .before .before .before .type-by-id .ensures) _ (c .before .before .before .before .before .before .before .kind-of .ensures) (c .if7 .left) (c .before .before .before .before .before .before .match .rest .1)
+get-size-of-returns-8 : (t : ℕ) → get-size-of-lts.Need-returns-8 (get-size-of-claims t) (get-size-of-at t) get-size-of.Post get-size-of-Inv-loop get-size-of-μ-loop
+get-size-of-returns-8 t c = size-keyed _ _ _ _ _ (c .before .before .before .loop-test .taken) _ (c .before .before .type-by-id .ensures) _ (c .before .kind-of .ensures) (c .match .keys4) ∙ sym (c .before .before .before .before .loop .inv .0)
 
-get-size-of-returns-10 : (t : ℕ) → get-size-of-lts.Need-returns-10 (get-size-of-claims t) (get-size-of-at t) get-size-of.Post
-get-size-of-returns-10 t c = size-keyed _ _ _ _ _ (c .before .before .before .if1 .left) _ (c .before .before .type-by-id .ensures) _ (c .before .kind-of .ensures) (c .match .keys4)
+get-size-of-returns-9 : (t : ℕ) → get-size-of-lts.Need-returns-9 (get-size-of-claims t) (get-size-of-at t) get-size-of.Post get-size-of-Inv-loop get-size-of-μ-loop
+get-size-of-returns-9 t c = size-range _ _ _ _ _ (c .before .before .before .before .before .loop-test .taken) _ (c .before .before .before .before .type-by-id .ensures) _ (c .before .before .before .kind-of .ensures) (c .before .if1 .left) (c .if2 .taken) (c .before .before .match .rest .0 .0 .0 .1) (c .before .before .match .rest .0 .0 .1) (c .before .before .match .rest .0 .1) ∙ sym (c .before .before .before .before .before .before .loop .inv .0)
 
-get-size-of-returns-11 : (t : ℕ) → get-size-of-lts.Need-returns-11 (get-size-of-claims t) (get-size-of-at t) get-size-of.Post
-get-size-of-returns-11 t c = size-range _ _ _ _ _ (c .before .before .before .before .before .if1 .left) _ (c .before .before .before .before .type-by-id .ensures) _ (c .before .before .before .kind-of .ensures) (c .before .if2 .left) (c .if3 .taken) (c .before .before .match .rest .0 .0 .0 .1) (c .before .before .match .rest .0 .0 .1) (c .before .before .match .rest .0 .1)
+get-size-of-returns-10 : (t : ℕ) → get-size-of-lts.Need-returns-10 (get-size-of-claims t) (get-size-of-at t) get-size-of.Post get-size-of-Inv-loop get-size-of-μ-loop
+get-size-of-returns-10 t c = size-deep _ _ _ _ _ (c .loop-test .left) ∙ sym (c .before .loop .inv .0)
 
 pub +get-size-of-spec : {M : Type 1} → statement M
 +get-size-of-spec = close μ-get-size-of λ t. get-size-of-lts.spec (get-size-of-claims t) (get-size-of-at t)
     get-size-of.Post
-    (get-size-of-returns t)
+    get-size-of-Inv-loop
+    get-size-of-μ-loop
+    (get-size-of-loop-holds t)
     (get-size-of-type-by-id-requires t)
+    (get-size-of-sub-more t)
     (get-size-of-kind-of-requires t)
     (get-size-of-int-bits-requires t)
     (get-size-of-octets-requires t)
+    (get-size-of-returns t)
+    (get-size-of-returns-2 t)
     (get-size-of-array-type-requires t)
-    (get-size-of-sub-get-size-of t)
     (get-size-of-get-size-of-requires t)
     (get-size-of-array-nelems-requires t)
     (get-size-of-product-requires t)
-    (get-size-of-sub-get-size-of-2 t)
-    (get-size-of-get-size-of-requires-2 t)
-    (get-size-of-returns-2 t)
     (get-size-of-returns-3 t)
+    (get-size-of-loop-less t)
+    (get-size-of-loop-again t)
+    (get-size-of-loop-less-2 t)
+    (get-size-of-loop-again-2 t)
     (get-size-of-returns-4 t)
     (get-size-of-returns-5 t)
     (get-size-of-returns-6 t)
@@ -139,4 +158,3 @@ pub +get-size-of-spec : {M : Type 1} → statement M
     (get-size-of-returns-8 t)
     (get-size-of-returns-9 t)
     (get-size-of-returns-10 t)
-    (get-size-of-returns-11 t)

@@ -43,8 +43,8 @@ same-length-2 c = search needs
 returns : tie.Need-returns Inv-loop μ-loop
 returns c = (lists.list-past _ _ _ (c .before .before .before .before .loop .inv .5) _ _ _ (c .before .before .before .before .loop .inv .6) _ _ _ _ (c .before .before .before .before .loop .inv .7) (c .before .before .before .before .loop .inv .4) (c .before .before .before .before .loop .inv .8) (c .before .before .before .loop-test .taken) _ (c .before .before .get-word .ensures) (c .if1 .taken), c .before .before .before .before .loop .inv .4)
 
-dump-next-requires : tie.Need-dump-next-requires Inv-loop μ-loop
-dump-next-requires c κs = c .before .before .before .before .before .before .loop .inv .4
+dump-one-requires : tie.Need-dump-one-requires Inv-loop μ-loop
+dump-one-requires c κs = c .before .before .before .before .before .before .loop .inv .4
 
 same-length-3 : tie.Need-same-length-3 Inv-loop μ-loop
 same-length-3 c = search needs
@@ -53,7 +53,7 @@ same-length-4 : tie.Need-same-length-4 Inv-loop μ-loop
 same-length-4 c = search needs
 
 returns-2 : tie.Need-returns-2 Inv-loop μ-loop
-returns-2 c = (lists.list-stop _ _ _ (c .before .before .before .before .before .before .before .before .before .before .before .before .before .loop .inv .5) _ _ _ (c .before .before .before .before .before .before .before .before .before .before .before .before .before .loop .inv .6) _ _ _ _ (c .before .before .before .before .before .before .before .before .before .before .before .before .before .loop .inv .7) (c .before .before .before .before .before .before .before .before .before .before .before .before .before .loop .inv .4) (c .before .before .before .before .before .before .before .before .before .before .before .before .before .loop .inv .8) (c .before .before .before .before .before .before .before .before .before .before .before .before .loop-test .taken) _ (c .before .before .before .before .before .before .before .before .before .before .before .get-word .ensures) (c .before .before .before .before .before .before .before .before .before .if1 .left) _ _ _ (c .before .before .before .before .before .before .dump-next .ensures .0) (c .before .before .before .before .before .before .dump-next .kept .1 .1 .0) (c .before .before .before .before .before .before .dump-next .kept .1 .1 .1 .0) (c .if2 .taken), c .before .before .before .before .before .before .dump-next .ensures .1)
+returns-2 c = (lists.list-stop _ _ _ (c .before .before .before .before .before .before .before .before .before .before .before .before .before .loop .inv .5) _ _ _ (c .before .before .before .before .before .before .before .before .before .before .before .before .before .loop .inv .6) _ _ _ _ (c .before .before .before .before .before .before .before .before .before .before .before .before .before .loop .inv .7) (c .before .before .before .before .before .before .before .before .before .before .before .before .before .loop .inv .4) (c .before .before .before .before .before .before .before .before .before .before .before .before .before .loop .inv .8) (c .before .before .before .before .before .before .before .before .before .before .before .before .loop-test .taken) _ (c .before .before .before .before .before .before .before .before .before .before .before .get-word .ensures) (c .before .before .before .before .before .before .before .before .before .if1 .left) _ _ _ (c .before .before .before .before .before .before .dump-one .ensures .0) (c .before .before .before .before .before .before .dump-one .kept .1 .1 .0) (c .before .before .before .before .before .before .dump-one .kept .1 .1 .1 .0) (c .if2 .taken), c .before .before .before .before .before .before .dump-one .ensures .1)
 
 add-k : tie.Need-add-k Inv-loop μ-loop
 add-k c = omega arith
@@ -62,7 +62,7 @@ loop-less : tie.Need-loop-less Inv-loop μ-loop
 loop-less c = omega arith
 
 loop-again : tie.Need-loop-again Inv-loop μ-loop
-loop-again c = (omega arith, omega arith, c .before .before .before .before .before .before .dump-next .kept .1 .1 .0 ∙ c .before .before .before .before .before .before .before .before .before .before .before .before .before .loop .inv .2, c .before .before .before .before .before .before .dump-next .kept .1 .1 .1 .0 ∙ c .before .before .before .before .before .before .before .before .before .before .before .before .before .loop .inv .3, c .before .before .before .before .before .before .dump-next .ensures .1, c .before .before .before .before .before .before .before .before .before .before .before .before .before .loop .inv .5, c .before .before .before .before .before .before .before .before .before .before .before .before .before .loop .inv .6, c .before .before .before .before .before .before .before .before .before .before .before .before .before .loop .inv .7 ∙ sym (c .before .before .before .before .before .before .dump-next .kept .1 .1 .0), lists.list-more (c .before .before .before .before .before .before .before .before .before .before .before .before .before .before .before .before .before .before .before .before .args .s) _ _ (c .before .before .before .before .before .before .before .before .before .before .before .before .before .loop .inv .5) _ _ _ (c .before .before .before .before .before .before .before .before .before .before .before .before .before .loop .inv .6) _ _ _ _ (c .before .before .before .before .before .before .before .before .before .before .before .before .before .loop .inv .7) (c .before .before .before .before .before .before .before .before .before .before .before .before .before .loop .inv .4) (c .before .before .before .before .before .before .before .before .before .before .before .before .before .loop .inv .8) (c .before .before .before .before .before .before .before .before .before .before .before .before .loop-test .taken) _ (c .before .before .before .before .before .before .before .before .before .before .before .get-word .ensures) (c .before .before .before .before .before .before .before .before .before .if1 .left) _ _ _ (c .before .before .before .before .before .before .dump-next .ensures .0) (c .before .before .before .before .before .before .dump-next .kept .1 .1 .1 .0) (c .if2 .left))
+loop-again c = (omega arith, omega arith, c .before .before .before .before .before .before .dump-one .kept .1 .1 .0 ∙ c .before .before .before .before .before .before .before .before .before .before .before .before .before .loop .inv .2, c .before .before .before .before .before .before .dump-one .kept .1 .1 .1 .0 ∙ c .before .before .before .before .before .before .before .before .before .before .before .before .before .loop .inv .3, c .before .before .before .before .before .before .dump-one .ensures .1, c .before .before .before .before .before .before .before .before .before .before .before .before .before .loop .inv .5, c .before .before .before .before .before .before .before .before .before .before .before .before .before .loop .inv .6, c .before .before .before .before .before .before .before .before .before .before .before .before .before .loop .inv .7 ∙ sym (c .before .before .before .before .before .before .dump-one .kept .1 .1 .0), lists.list-more (c .before .before .before .before .before .before .before .before .before .before .before .before .before .before .before .before .before .before .before .before .args .s) _ _ (c .before .before .before .before .before .before .before .before .before .before .before .before .before .loop .inv .5) _ _ _ (c .before .before .before .before .before .before .before .before .before .before .before .before .before .loop .inv .6) _ _ _ _ (c .before .before .before .before .before .before .before .before .before .before .before .before .before .loop .inv .7) (c .before .before .before .before .before .before .before .before .before .before .before .before .before .loop .inv .4) (c .before .before .before .before .before .before .before .before .before .before .before .before .before .loop .inv .8) (c .before .before .before .before .before .before .before .before .before .before .before .before .loop-test .taken) _ (c .before .before .before .before .before .before .before .before .before .before .before .get-word .ensures) (c .before .before .before .before .before .before .before .before .before .if1 .left) _ _ _ (c .before .before .before .before .before .before .dump-one .ensures .0) (c .before .before .before .before .before .before .dump-one .kept .1 .1 .1 .0) (c .if2 .left))
 
 same-length-5 : tie.Need-same-length-5 Inv-loop μ-loop
 same-length-5 c = search needs
@@ -87,7 +87,7 @@ dump-ids-spec =
     same-length
     same-length-2
     returns
-    dump-next-requires
+    dump-one-requires
     same-length-3
     same-length-4
     returns-2

@@ -1,4 +1,6 @@
 use Rattle.calls.proofs.Laws as laws
+use Rattle.arrival.proofs.Arrival.{from-to, to-end, room-fits, arrived-is}
+use mathlib.Core.Path.{_∙_}
 use native.Mathlib.Omega.{arith}
 use borrow.Author.Needs.{needs}
 use Rattle.requests.proofs.dump_one.Statement.{statement}
@@ -8,22 +10,22 @@ limit-requires : tie.Need-limit-requires
 limit-requires c κs = search needs
 
 sub-dump-type : tie.Need-sub-dump-type
-sub-dump-type c = omega arith
+sub-dump-type c = from-to _ _ _ (c .before .limit .ensures) (c .before .before .before .before .before .pre)
 
 part-dump-type-start : tie.Need-part-dump-type-start
-part-dump-type-start c = omega arith
+part-dump-type-start c = from-to _ _ _ (c .before .limit .ensures) (c .before .before .before .before .before .pre)
 
 part-dump-type-end : tie.Need-part-dump-type-end
-part-dump-type-end c = omega arith
+part-dump-type-end c = to-end _ _ _ (c .before .limit .ensures) (c .before .before .before .before .before .pre)
 
 dump-type-requires : tie.Need-dump-type-requires
 dump-type-requires c κs = search needs
 
 sub-arrived : tie.Need-sub-arrived
-sub-arrived c = omega arith
+sub-arrived c = from-to _ _ _ (c .before .before .before .before .before .before .before .limit .ensures) (c .before .before .before .before .before .before .before .before .before .before .before .pre)
 
 arrived-requires : tie.Need-arrived-requires
-arrived-requires c κs = (omega arith, laws.one-bound _ _ _ _ _ _ _ (c .before .before .before .before .before .before .before .limit .ensures .1) (c .before .before .before .before .before .before .before .limit .ensures .2) _ _ _ (c .before .before .before .before .dump-type .kept .1 .1 .1 .0) (c .before .before .before .before .dump-type .ensures))
+arrived-requires c κs = search needs
 
 same-length : tie.Need-same-length
 same-length c = search needs
@@ -32,7 +34,7 @@ same-length-2 : tie.Need-same-length-2
 same-length-2 c = search needs
 
 returns : tie.Need-returns
-returns c = laws.one-reach _ _ _ _ _ _ _ (c .before .before .before .before .before .before .before .before .limit .ensures .1) (c .before .before .before .before .before .before .before .before .limit .ensures .2) _ _ _ (c .before .before .before .before .before .dump-type .kept .1 .1 .1 .0) (c .before .before .before .before .before .dump-type .ensures) (c .before .before .before .before .before .before .before .before .limit .ensures .0) _ (c .arrived .ensures)
+returns c = laws.one-reach _ _ _ _ _ _ _ (from-to _ _ _ (c .before .before .before .before .before .before .before .before .limit .ensures) (c .before .before .before .before .before .before .before .before .before .before .before .before .pre)) (to-end _ _ _ (c .before .before .before .before .before .before .before .before .limit .ensures) (c .before .before .before .before .before .before .before .before .before .before .before .before .pre)) _ _ _ (c .before .before .before .before .before .dump-type .kept .1 .1 .1 .0) (c .before .before .before .before .before .dump-type .ensures) (c .before .before .before .before .before .before .before .before .limit .ensures) _ (c .arrived .ensures ∙ arrived-is _ _ _ (omega (arith, room-fits _ _ _ (c .before .before .before .before .before .before .before .before .limit .ensures) (c .before .before .before .before .before .before .before .before .before .before .before .before .pre))) (omega (arith, laws.one-bound _ _ _ _ _ _ _ (from-to _ _ _ (c .before .before .before .before .before .before .before .before .limit .ensures) (c .before .before .before .before .before .before .before .before .before .before .before .before .pre)) (to-end _ _ _ (c .before .before .before .before .before .before .before .before .limit .ensures) (c .before .before .before .before .before .before .before .before .before .before .before .before .pre)) _ _ _ (c .before .before .before .before .before .dump-type .kept .1 .1 .1 .0) (c .before .before .before .before .before .dump-type .ensures))))
 
 pub dump-one-spec : {M : Type 1} → statement M
 dump-one-spec =

@@ -1,5 +1,5 @@
-use Rattle.takers.proofs.Holders.{base-found, base-turn, base-end}
-use Rattle.takers.specs.Takers.{suffixOn, baseFrom}
+use Rattle.filled.proofs.Holders.{base-found, base-turn, base-end}
+use Rattle.filled.specs.Takers.{suffixOn, baseFrom}
 use Rattle.classed.specs.Classes.{keyIn}
 use mathlib.Core.Path.{_≡_, refl, ap₂, _∙_}
 use Prim.Native.Nat.{_-_}

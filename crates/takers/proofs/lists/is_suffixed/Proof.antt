@@ -1,4 +1,4 @@
-use Rattle.takers.proofs.Holders.{suffixed-none, suffixed-some}
+use Rattle.filled.proofs.Holders.{suffixed-none, suffixed-some}
 use borrow.Author.Needs.{needs}
 use Rattle.takers.proofs.lists.is_suffixed.Statement.{statement}
 use Rattle.takers.proofs.lists.is_suffixed.Tie as tie

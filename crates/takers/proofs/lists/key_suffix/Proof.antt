@@ -1,4 +1,4 @@
-use Rattle.takers.proofs.Holders.{keys-apart, keys-none, keys-some}
+use Rattle.filled.proofs.Holders.{keys-apart, keys-none, keys-some}
 use borrow.Author.Needs.{needs}
 use Rattle.takers.proofs.lists.key_suffix.Statement.{statement}
 use Rattle.takers.proofs.lists.key_suffix.Tie as tie

@@ -1,5 +1,5 @@
-use Rattle.takers.proofs.Holders.{put-on}
-use Rattle.takers.specs.Takers.{suffixOn, listedOn}
+use Rattle.filled.proofs.Holders.{put-on}
+use Rattle.filled.specs.Takers.{suffixOn, listedOn}
 use mathlib.Core.Path.{ap, ap₂, _∙_}
 use Prim.Native.Nat.{ℕ}
 use denote.Ref.{now}

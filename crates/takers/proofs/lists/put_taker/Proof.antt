@@ -1,4 +1,4 @@
-use Rattle.takers.proofs.Holders.{taker-later, taker-plain, taker-none, taker-some}
+use Rattle.filled.proofs.Holders.{taker-later, taker-plain, taker-none, taker-some}
 use borrow.Author.Tests.{not-true, not-false}
 use borrow.Author.Needs.{needs}
 use Rattle.takers.proofs.lists.put_taker.Statement.{statement}

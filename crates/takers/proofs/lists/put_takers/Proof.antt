@@ -1,5 +1,5 @@
-use Rattle.takers.proofs.Holders.{takers-past, takers-all, pass-turn, pass-end}
-use Rattle.takers.specs.Takers.{takersPut}
+use Rattle.filled.proofs.Holders.{takers-past, takers-all, pass-turn, pass-end}
+use Rattle.filled.specs.Takers.{takersPut}
 use mathlib.Core.Path.{_≡_, refl, _∙_}
 use Prim.Native.Nat.{_-_, _≤_}
 use lib.ListN.{length}

@@ -1,4 +1,4 @@
-use Rattle.takers.proofs.Holders.{mode-off, mode-on}
+use Rattle.filled.proofs.Holders.{mode-off, mode-on}
 use borrow.Author.Needs.{needs}
 use Rattle.takers.proofs.lists.takers.Statement.{statement}
 use Rattle.takers.proofs.lists.takers.Tie as tie

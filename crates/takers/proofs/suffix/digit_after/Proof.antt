@@ -1,4 +1,4 @@
-use Rattle.takers.proofs.Bytes.{digit-low, digit-high, digit-past, digit-next}
+use Rattle.filled.proofs.Bytes.{digit-low, digit-high, digit-past, digit-next}
 use mathlib.Core.Path.{refl}
 use borrow.Author.Needs.{needs}
 use Rattle.takers.proofs.suffix.digit_after.Statement.{statement}

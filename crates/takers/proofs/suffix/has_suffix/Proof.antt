@@ -1,5 +1,5 @@
-use Rattle.takers.proofs.Bytes.{any-zero, any-found, any-turn, any-end}
-use Rattle.takers.specs.Takers.{anySuffix}
+use Rattle.filled.proofs.Bytes.{any-zero, any-found, any-turn, any-end}
+use Rattle.filled.specs.Takers.{anySuffix}
 use Rattle.btf.specs.Names.{nameAt}
 use mathlib.Core.Path.{_≡_, refl}
 use Prim.Native.Nat.{_-_}

@@ -1,5 +1,5 @@
-use Rattle.takers.proofs.Bytes.{numeral-zero, numeral-no, numeral-turn, numeral-end}
-use Rattle.takers.specs.Takers.{numeralFrom}
+use Rattle.filled.proofs.Bytes.{numeral-zero, numeral-no, numeral-turn, numeral-end}
+use Rattle.filled.specs.Takers.{numeralFrom}
 use Rattle.btf.specs.Names.{nameAt}
 use mathlib.Core.Path.{_≡_, refl}
 use Prim.Native.Nat.{_-_}

@@ -1,7 +1,7 @@
 use denote.Ref.{now}
 use lib.ListN.{length}
 use Prim.Native.Nat.{_+_, _<_}
-use Rattle.takers.proofs.Bytes.{suffix-first, suffix-second, suffix-third, suffix-all, inside}
+use Rattle.filled.proofs.Bytes.{suffix-first, suffix-second, suffix-third, suffix-all, inside}
 use native.Mathlib.Omega.{arith}
 use borrow.Author.Needs.{needs}
 use Rattle.takers.proofs.suffix.suffix_at.Statement.{statement}

@@ -1,5 +1,5 @@
-use Rattle.takers.proofs.Bytes.{on-past, on-start, on-base, on-differ, on-turn, on-end}
-use Rattle.takers.specs.Takers.{suffixOn}
+use Rattle.filled.proofs.Bytes.{on-past, on-start, on-base, on-differ, on-turn, on-end}
+use Rattle.filled.specs.Takers.{suffixOn}
 use Rattle.btf.specs.Names.{nameAt}
 use mathlib.Core.Path.{_≡_}
 use Prim.Native.Nat.{_-_, _+_}

@@ -1,0 +1,4 @@
+pub mod Table
+pub mod Dumps
+pub mod Lists
+pub mod Claims

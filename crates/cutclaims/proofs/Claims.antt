@@ -1,0 +1,141 @@
+-- THE THEOREMS about the call for a section cut down. Assume nothing.
+use Prim.Native.Nat.{ℕ, zero, suc, _+_, _*_, _≤_}
+use native.Mathlib.Omega.{arith}
+use mathlib.Core.Path.{_≡_, refl, sym, _∙_, ap, subst}
+use mathlib.Core.Bool.{Bool, true, false, _&&_, _||_}
+use mathlib.Core.List.{List, [], _∷_, _++_}
+use lib.ListN.{length, take, drop}
+use lib.Dec.{ltb, eqb}
+use borrow.Author.Tests.{eq-eqb, ltb-false}
+use Rattle.lent.specs.Words.{words}
+use Rattle.records.specs.Reading.{Bytes}
+use Rattle.opened.specs.Table.{describedIn, typesOf, enumeratorsOf}
+use Rattle.opened.specs.Causes.{cause2, cause3, cause4, cause5, cause6, firstOf, causes, openingNumber}
+use Rattle.opened.proofs.Order.{NoneHolds, none-first, sound-none}
+use Rattle.turns.specs.declared.Session.{Session}
+use Rattle.turns.specs.Answers.{numberOf, valueOf, answerOf}
+use Rattle.calls.specs.Calls.{openCall}
+use Rattle.cut.specs.Section.{anyPast, cutNumber}
+use Rattle.cut.specs.Test.{isKept}
+use Rattle.cut.proofs.Test.{kept-tells}
+use Rattle.reopened.specs.Reopened.{OldNames, Reopens}
+use Rattle.reopened.proofs.Reopened.{cut-reopens}
+use Rattle.reopened.proofs.Work.{work-enough}
+use Rattle.cutcall.specs.Calls.{Cut, cutOf, passes, isOpenOn, sectionFor, cutBy, cutCall}
+use Rattle.cutclaims.proofs.Lists.{lists-alike}
+use Rattle.cutclaims.specs.Claims.{Untouched, writtenBy, Written, Carried}
+
+take-all : (a c : List ℕ) → take (length a) (a ++ c) ≡ a
+take-all [] c = refl
+take-all (x ∷ a) c = ap (λ (l : List ℕ). x ∷ l) (take-all a c)
+
+drop-all : (a c : List ℕ) → drop (length a) (a ++ c) ≡ c
+drop-all [] c = refl
+drop-all (x ∷ a) c = drop-all a c
+
+number-is : (n v : ℕ) → numberOf (answerOf n v) ≡ n
+unfolding numberOf answerOf
+number-is zero v = refl
+number-is (suc n) v = refl
+
+-- number 0: no test holds
+none-holds : (is-open : Bool) (count : ℕ) (given : List ℕ) (out len : ℕ) → cutNumber is-open count given out len ≡ 0 → (len ≤ out) × (len ≤ 16777216)
+unfolding cutNumber
+none-holds false count given out len e = absurd (omega (arith, e))
+none-holds true count given out len e = go (anyPast count given) (ltb out len) refl (ltb 16777216 len) refl e
+  where
+    go : (p q : Bool) → ltb out len ≡ q → (r : Bool) → ltb 16777216 len ≡ r
+        → _≡_ {A = ℕ} (elim p [ true ↦ 10 | false ↦ elim (q || r) [ true ↦ 23 | false ↦ 0 ] ]) 0 → (len ≤ out) × (len ≤ 16777216)
+    go true q a r b f = absurd (omega (arith, f))
+    go false true a r b f = absurd (omega (arith, f))
+    go false false a true b f = absurd (omega (arith, f))
+    go false false a false b f = (ltb-false out len a, ltb-false 16777216 len b)
+
+module _ (S : Session) (s given out : List ℕ) where
+  abbrev section : List ℕ
+  section = sectionFor s given
+
+  abbrev number : ℕ
+  number = cutNumber (isOpenOn S s) (typesOf s) (words given) (length out) (length section)
+
+  by-number : cutCall S s given out ≡ cutBy number section out
+  unfolding cutCall
+  by-number = refl
+
+  -- the number of the answer is that of the definition
+  pub number-told : numberOf (cutCall S s given out .answer) ≡ number
+  unfolding cutCall cutBy cutOf
+  number-told = number-is number _
+
+  refused-value : (k : ℕ) → valueOf (cutBy (suc k) section out .answer) ≡ 0
+  unfolding cutBy cutOf answerOf valueOf
+  refused-value k = refl
+
+  refused-slice : (k : ℕ) → cutBy (suc k) section out .out ≡ out
+  unfolding cutBy cutOf
+  refused-slice k = refl
+
+  accepted-value : valueOf (cutBy 0 section out .answer) ≡ length section
+  unfolding cutBy cutOf answerOf valueOf
+  accepted-value = refl
+
+  accepted-slice : cutBy 0 section out .out ≡ section ++ drop (length section) out
+  unfolding cutBy cutOf
+  accepted-slice = refl
+
+  -- a refused call
+  pub untouched : (numberOf (cutCall S s given out .answer) ≡ 0 → ⊥) → Untouched S s given out
+  untouched h = go number refl
+    where
+      go : (k : ℕ) → number ≡ k → Untouched S s given out
+      go zero e = absurd (h (number-told ∙ e))
+      go (suc k) e = record { value = ap (λ (c : Cut). valueOf (c .answer)) (by-number ∙ ap (λ (j : ℕ). cutBy j section out) e) ∙ refused-value k; slice = ap (λ (c : Cut). c .out) (by-number ∙ ap (λ (j : ℕ). cutBy j section out) e) ∙ refused-slice k }
+
+  -- an accepted call
+  module _ (ok : numberOf (cutCall S s given out .answer) ≡ 0) where
+    accepted : cutCall S s given out ≡ cutBy 0 section out
+    accepted = by-number ∙ ap (λ (j : ℕ). cutBy j section out) (sym number-told ∙ ok)
+
+    value-is : valueOf (cutCall S s given out .answer) ≡ length section
+    value-is = ap (λ (c : Cut). valueOf (c .answer)) accepted ∙ accepted-value
+
+    slice-is : cutCall S s given out .out ≡ section ++ drop (length section) out
+    slice-is = ap (λ (c : Cut). c .out) accepted ∙ accepted-slice
+
+    pub written : Written S s given out
+    written =
+        let l = none-holds (isOpenOn S s) (typesOf s) (words given) (length out) (length section) (sym number-told ∙ ok) in
+        record {
+          whole = (λ i. take (value-is i) (slice-is i)) ∙ take-all section (drop (length section) out);
+          value = value-is;
+          fits = l .0;
+          short = l .1;
+          rest = ap (drop (length section)) slice-is ∙ drop-all section (drop (length section) out);
+        }
+
+    -- THE THEOREM, of a section that opening accepted: what the call wrote, opened afresh with work of the old length or more, answers alike
+    pub carried : (pointer modes : ℕ) → OldNames modes → (n n′ : ℕ) → openingNumber pointer s n ≡ 0 → n ≤ n′ → Bytes s → Carried S s given out pointer modes n n′
+    carried pointer modes old n n′ opened more y = record {
+      written = written;
+      opens = λ S′ work text e. ap (λ (w : List ℕ). numberOf (openCall S′ w work text pointer modes .answer)) (written .whole) ∙ alike .opens S′ work text e;
+      alike = alike;
+      lists = lists-alike pointer modes s n (isKept (describedIn s) (words given)) n′ alike;
+    }
+      where
+        m : ℕ → Bool
+        m = isKept (describedIn s) (words given)
+
+        enough : 4 * (16 * typesOf section + 8 * enumeratorsOf section + 4096) ≤ n′
+        enough = omega (arith, more, work-enough pointer s n opened y (words given) m (kept-tells (describedIn s) (words given)) (written .short))
+
+        alike : Reopens pointer modes s n (isKept (describedIn s) (words given)) n′
+        alike = cut-reopens pointer modes old s n opened y (words given) (written .short) n′ enough
+
+-- and a session that is open on such a section is not refused by 11
+pub not-closed : (S : Session) (s : List ℕ) (n : ℕ) → openingNumber (S .«pointer_size») s n ≡ 0 → S .«open» ≡ true → S .«section_len» ≡ length s → isOpenOn S s ≡ true
+unfolding isOpenOn passes
+not-closed S s n ok o l =
+    let h = sound-none (S .«pointer_size») s n .0 ok in
+    let f : firstOf (cause2 s ∷ cause3 s ∷ cause4 s ∷ cause5 s ∷ cause6 (S .«pointer_size») s ∷ []) ≡ 0 =
+    none-first (cause2 s ∷ cause3 s ∷ cause4 s ∷ cause5 s ∷ cause6 (S .«pointer_size») s ∷ []) (h .1 .0, (h .1 .1 .0, (h .1 .1 .1 .0, (h .1 .1 .1 .1 .0, (h .1 .1 .1 .1 .1 .0, tt))))) in
+    λ i. (o i && eq-eqb (S .«section_len») (length s) l i) && eq-eqb (firstOf (cause2 s ∷ cause3 s ∷ cause4 s ∷ cause5 s ∷ cause6 (S .«pointer_size») s ∷ [])) 0 f i

@@ -1,0 +1,41 @@
+-- Statements about the call for a section cut down. proofs/Claims.antt has the proofs. S: the session; s: the section; given: the given ids in bytes;
+-- out: the output slice.
+use Prim.Native.Nat.{ℕ, _≤_}
+use mathlib.Core.Path.{_≡_}
+use mathlib.Core.List.{List}
+use lib.ListN.{length, take, drop}
+use Rattle.lent.specs.Words.{words}
+use Rattle.opened.specs.Table.{describedIn}
+use Rattle.turns.specs.declared.Session.{Session}
+use Rattle.turns.specs.Answers.{numberOf, valueOf}
+use Rattle.calls.specs.Calls.{openCall}
+use Rattle.cut.specs.Test.{isKept}
+use Rattle.reopened.specs.Reopened.{Reopens}
+use Rattle.cutcall.specs.Calls.{sectionFor, cutCall}
+use Rattle.cutclaims.specs.Lists.{ListsAlike}
+
+module _ (S : Session) (s given out : List ℕ) where
+  -- "nothing is written. The answer is [..] 0 when refused"
+  pub record Untouched : Type 0 where
+    pub value : valueOf (cutCall S s given out .answer) ≡ 0
+    pub slice : cutCall S s given out .out ≡ out
+
+  -- the bytes that an accepted call wrote
+  abbrev pub writtenBy : List ℕ
+  writtenBy = take (valueOf (cutCall S s given out .answer)) (cutCall S s given out .out)
+
+  -- "The answer is the length written"; "the rest of the slice [..] never altered"
+  pub record Written : Type 0 where
+    pub whole : writtenBy ≡ sectionFor s given
+    pub value : valueOf (cutCall S s given out .answer) ≡ length (sectionFor s given)
+    pub fits : length (sectionFor s given) ≤ length out
+    pub short : length (sectionFor s given) ≤ 16777216
+    pub rest : drop (length (sectionFor s given)) (cutCall S s given out .out) ≡ drop (length (sectionFor s given)) out
+
+  -- "Opened afresh with the same settings, [..] long enough work and text, and the old naming mode, the new section gives for the renumbered requests the same text
+  -- and refusals as the old so opened": pointer size and modes; n and n′: the lengths of the works
+  pub record Carried (pointer modes n n′ : ℕ) : Type 0 where
+    pub written : Written
+    pub opens : (S′ : Session) (work text : List ℕ) → length work ≡ n′ → numberOf (openCall S′ writtenBy work text pointer modes .answer) ≡ 0
+    pub alike : Reopens pointer modes s n (isKept (describedIn s) (words given)) n′
+    pub lists : ListsAlike pointer modes s n (isKept (describedIn s) (words given)) n′

@@ -1,2 +1,0 @@
--- What a successful opening leaves in the work.
-pub mod Left

@@ -1,0 +1,2 @@
+-- The words of a record, each with what it is.
+pub mod Items
