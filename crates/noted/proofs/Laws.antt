@@ -49,7 +49,7 @@ use Rattle.noted.proofs.Frame.{Stays, on, off, stays-then, table-emit, 
 abbrev pub paper : ℕ → Pen → List ℕ → List ℕ → List ℕ → Noted Sheet
 paper n p t w l = record { mach = sheet n (p .at) t w; entries = entriesOf (p .count) l }
 
-abbrev withN : Noted Sheet → List ℕ → Noted Sheet
+abbrev pub withN : Noted Sheet → List ℕ → Noted Sheet
 withN m w = record { mach = withWork (m .mach) w; entries = m .entries }
 
 -- ---- the entries of a list
@@ -202,7 +202,7 @@ module _ (n : ℕ) (p : Pen) (t w l : List ℕ) where
   at-sheet k k′ e = by-out _ (p .at) t (λ h. run k h ∙ e h ∙ sym (run k′ h)) (λ c q. halt k c q ∙ sym (halt k′ c q))
 
   -- nothing done
-  same-sheet : (k : Noted Sheet → Out (Noted Sheet)) → k (paper n p t w l) ≡ wrote (paper n p t w l) → Here ≡ obind Here k
+  pub same-sheet : (k : Noted Sheet → Out (Noted Sheet)) → k (paper n p t w l) ≡ wrote (paper n p t w l) → Here ≡ obind Here k
   same-sheet k e = sym (obind-wrote Here) ∙ at-sheet (λ m. wrote m) k (λ h. sym e)
 
   -- from a stopped place
@@ -228,13 +228,13 @@ module _ (n : ℕ) (p : Pen) (t w l : List ℕ) where
       (λ c q. ap (λ z. withEntries (entriesOf (p .count) l) (sheetOf n z)) (e ∙ sym (said-stopped t (p .at) (v w) w (ap isStopped q))) ∙ halts n p t w l c q ∙ sym (halt (λ m. withEntries (m .entries) (lineIn v (m .mach))) c q))
 
   -- a step on the work alone, and then more
-  work-sheet : (f : List ℕ → List ℕ) (w′ : List ℕ) (k : Noted Sheet → Out (Noted Sheet)) → w′ ≡ f w → obind (notedOut n p t w′ l) k ≡ obind Here (λ m. k (withN m (f (m .mach .work))))
+  pub work-sheet : (f : List ℕ → List ℕ) (w′ : List ℕ) (k : Noted Sheet → Out (Noted Sheet)) → w′ ≡ f w → obind (notedOut n p t w′ l) k ≡ obind Here (λ m. k (withN m (f (m .mach .work))))
   unfolding obind
   work-sheet f w′ k e = by-out _ (p .at) t
       (λ h. ap (λ (o : Out (Noted Sheet)). obind o k) (goes n p t w′ l h) ∙ ap (λ (u : List ℕ). k (paper n p t u l)) e ∙ sym (run (λ m. k (withN m (f (m .mach .work)))) h))
       (λ c q. ap (λ (o : Out (Noted Sheet)). obind o k) (halts n p t w′ l c q) ∙ sym (halt (λ m. k (withN m (f (m .mach .work)))) c q))
 
-  work-last : (f : List ℕ → List ℕ) (w′ : List ℕ) → w′ ≡ f w → notedOut n p t w′ l ≡ obind Here (λ m. wrote (withN m (f (m .mach .work))))
+  pub work-last : (f : List ℕ → List ℕ) (w′ : List ℕ) → w′ ≡ f w → notedOut n p t w′ l ≡ obind Here (λ m. wrote (withN m (f (m .mach .work))))
   work-last f w′ e = sym (obind-wrote (notedOut n p t w′ l)) ∙ work-sheet f w′ (λ m. wrote m) e
 
   -- ---- a note
@@ -296,14 +296,14 @@ module _ (b : Btf) (s : List ℕ) where
       go (wrote m) (on e) q = ap (λ (y : Noted Sheet). btfOf b s (y .mach .work)) (sym (same-wrote m (paper n a t₁ w₁ l₁) q)) ∙ e
       go (stuck c) off q = absurd (no c (paper n a t₁ w₁ l₁) q)
 
-  same-table : (n : ℕ) (a : Pen) (t₁ w₁ l₁ w : List ℕ) (k : Rules → Noted Sheet → Out (Noted Sheet)) → Stays (btfOf b s) w (notedOut n a t₁ w₁ l₁)
+  pub same-table : (n : ℕ) (a : Pen) (t₁ w₁ l₁ w : List ℕ) (k : Rules → Noted Sheet → Out (Noted Sheet)) → Stays (btfOf b s) w (notedOut n a t₁ w₁ l₁)
       → obind (notedOut n a t₁ w₁ l₁) (k (btfOf b s w₁)) ≡ obind (notedOut n a t₁ w₁ l₁) (k (btfOf b s w))
   same-table n a t₁ w₁ l₁ w k h = at-sheet n a t₁ w₁ l₁ (k (btfOf b s w₁)) (k (btfOf b s w)) (λ i. ap (λ (B : Rules). k B (paper n a t₁ w₁ l₁)) (table-run n a t₁ w₁ l₁ w h i))
 
   pub entry-stays : {X : Type 0} → (P : List ℕ → X) (n : ℕ) (p : Pen) (t w l : List ℕ) → Stays P w (notedOut n p t w l)
   entry-stays P n p t w l = by-out _ (p .at) t (λ i. subst (Stays P w) (sym (goes n p t w l i)) (on refl)) (λ c q. subst (Stays P w) (sym (halts n p t w l c q)) off)
 
-  called-stays : (n : ℕ) (p : Pen) (t w l : List ℕ) (a : Pen) (t₁ w₁ l₁ : List ℕ) (B : Rules) (room : ℕ) (why : ℕ → Entry) (y left cont : ℕ)
+  pub called-stays : (n : ℕ) (p : Pen) (t w l : List ℕ) (a : Pen) (t₁ w₁ l₁ : List ℕ) (B : Rules) (room : ℕ) (why : ℕ → Entry) (y left cont : ℕ)
       → notedOut n a t₁ w₁ l₁ ≡ obind (notedOut n p t w l) (λ m. emitN b B room why left cont m y) → Stays (btfOf b s) w (notedOut n a t₁ w₁ l₁)
   unfolding emitN
   called-stays n p t w l a t₁ w₁ l₁ B room why y left cont e =
