@@ -182,9 +182,9 @@ module _ (b : Btf) (s : List ℕ) (room : ℕ) (why : ℕ → Entry) (n : ℕ) (
           named-is f e = comp-at k ek l h ∙ ap (λ (g : Bool). mention (machN b B room why cont) (tableOf B) g (tableOf B .named id) id (paper n p tx w li)) (ne-eqb id cont ne)
               ∙ ap (λ (g : Bool). mention (machN b B room why cont) (tableOf B) false g id (paper n p tx w li)) (named-at b s w id t et ∙ sym en ∙ e)
 
-          pub again-nameless : nm ≡ false → (r : ℕ) → putOut r tx ≡ putText tx (p .at) (cut [] 13) → Again (notedOut n (record { at = r; count = p .count }) tx w li)
+          pub again-nameless : nm ≡ false → (r : Pen) → putOut (r .at) tx ≡ putText tx (p .at) (cut [] 13) → Again (notedOut n r tx w li)
           unfolding againN mention
-          again-nameless e r er = stop-sheet n p tx w li 13 (record { at = r; count = p .count }) (λ m. againN b B room why cont m id) er (λ _. named-is false e)
+          again-nameless e r er = stop-sheet n p tx w li 13 r (λ m. againN b B room why cont m id) er (λ _. named-is false e)
 
           pub again-named : nm ≡ true → (x : Out (Noted Sheet)) → x ≡ obind (notedOut n p tx w li) (λ m. onceN b B room (typeOf b s t) (entry id 2 cont) (hasN b B room m id) m id) → Again x
           unfolding againN mention hasN
@@ -217,9 +217,9 @@ module _ (b : Btf) (s : List ℕ) (room : ℕ) (why : ℕ → Entry) (n : ℕ) (
   abbrev Emits : Out (Noted Sheet) → Type 0
   Emits x = x ≡ obind (notedOut n p tx w li) (λ m. emitN b Bt room why left cont m id)
 
-  pub too-deep : left ≡ 0 → (r : ℕ) → putOut r tx ≡ putText tx (p .at) (cut [] 12) → Emits (notedOut n (record { at = r; count = p .count }) tx w li)
+  pub too-deep : left ≡ 0 → (r : Pen) → putOut (r .at) tx ≡ putText tx (p .at) (cut [] 12) → Emits (notedOut n r tx w li)
   unfolding emitN emitNoted
-  too-deep e r er = stop-sheet n p tx w li 12 (record { at = r; count = p .count }) (λ m. emitN b Bt room why left cont m id) er (λ _. ap (λ (l : ℕ). em l (paper n p tx w li) id cont) e)
+  too-deep e r er = stop-sheet n p tx w li 12 r (λ m. emitN b Bt room why left cont m id) er (λ _. ap (λ (l : ℕ). em l (paper n p tx w li) id cont) e)
 
   module _ (nz : left ≡ 0 → ⊥) (st : ℕ) (es : st ≡ getField w id 13) where
     unroll : (k : Mark) → markOf st ≡ k → em left (paper n p tx w li) id cont ≡ look (machN b Bt room why cont) (tableOf Bt) (λ m′ y c. em (left - 1) m′ y c) (paper n p tx w li) id cont k
@@ -245,9 +245,9 @@ module _ (b : Btf) (s : List ℕ) (room : ℕ) (why : ℕ → Entry) (n : ℕ) (
           ∙ ap (λ (g : Bool). allowed (machN b Bt room why cont) (tableOf Bt) (λ m′ y c. em (left - 1) m′ y c) (paper n p tx w li) id cont (eqb cont 0 && not g)) (named-at b s w id t et ∙ sym en)
           ∙ ap (allowed (machN b Bt room why cont) (tableOf Bt) (λ m′ y c. em (left - 1) m′ y c) (paper n p tx w li) id cont) e
 
-      pub emit-nameless : (eqb cont 0 && not nm) ≡ true → (r : ℕ) → putOut r tx ≡ putText tx (p .at) (cut [] 14) → Emits (notedOut n (record { at = r; count = p .count }) tx w li)
+      pub emit-nameless : (eqb cont 0 && not nm) ≡ true → (r : Pen) → putOut (r .at) tx ≡ putText tx (p .at) (cut [] 14) → Emits (notedOut n r tx w li)
       unfolding emitN allowed
-      emit-nameless e r er = stop-sheet n p tx w li 14 (record { at = r; count = p .count }) (λ m. emitN b Bt room why left cont m id) er (λ _. gate-is true e)
+      emit-nameless e r er = stop-sheet n p tx w li 14 r (λ m. emitN b Bt room why left cont m id) er (λ _. gate-is true e)
 
       pub emit-fresh : (eqb cont 0 && not nm) ≡ false → (x : Out (Noted Sheet)) → x ≡ obind (notedOut n p tx w li) (λ m. newN b Bt room why (left - 1) cont m id) → Emits x
       unfolding emitN allowed newN
