@@ -150,34 +150,30 @@ module _ (req turn : ℕ) where
     found : (ps : List (ℕ × ℕ)) (l : List ℕ) → length l ≡ n → ((p : ℕ × ℕ) → List·Memᴰ p ps → Fits n p) → (x : ℕ) → isNoted turn l x ≡ true → leaderIn req turn (tabled turn l ps) x ≡ leaderIn req turn l x
     unfolding tabled
     found [] l en h x e = refl
-    found (p ∷ ps) l en h x e =
-        by (eqb x (p .0)) refl
+    found (p ∷ ps) l en h x e = by (eqb x (p .0)) refl (λ a c. found ps (noteOf turn l p) (note-length l p ∙ en) (λ q i. h q (List·Memᴰ·tail i)) x a ∙ c)
       where
-        onwards : isNoted turn (noteOf turn l p) x ≡ true → leaderIn req turn (noteOf turn l p) x ≡ leaderIn req turn l x → leaderIn req turn (tabled turn (noteOf turn l p) ps) x ≡ leaderIn req turn l x
-        onwards a b = found ps (noteOf turn l p) (note-length l p ∙ en) (λ q i. h q (List·Memᴰ·tail i)) x a ∙ b
-
-        by : (c : Bool) → eqb x (p .0) ≡ c → leaderIn req turn (tabled turn (noteOf turn l p) ps) x ≡ leaderIn req turn l x
-        by true q = let k : noteOf turn l p ≡ l = note-again l p (ap (isNoted turn l) (sym (eqb-true x (p .0) q)) ∙ e) in onwards (ap (λ (u : List ℕ). isNoted turn u x) k ∙ e) (ap (λ (u : List ℕ). leaderIn req turn u x) k)
-        by false q = let k : wordAt (noteOf turn l p) x ≡ wordAt l x = note-other l p x (eqb-false x (p .0) q) in onwards (by-word l (noteOf turn l p) x k ∙ e) (leader-word l (noteOf turn l p) x k)
+        by : (c : Bool) → eqb x (p .0) ≡ c → (isNoted turn (noteOf turn l p) x ≡ true → leaderIn req turn (noteOf turn l p) x ≡ leaderIn req turn l x → leaderIn req turn (tabled turn (noteOf turn l p) ps) x ≡ leaderIn req turn l x)
+            → leaderIn req turn (tabled turn (noteOf turn l p) ps) x ≡ leaderIn req turn l x
+        by true q onwards = let k : noteOf turn l p ≡ l = note-again l p (ap (isNoted turn l) (sym (eqb-true x (p .0) q)) ∙ e) in onwards (ap (λ (u : List ℕ). isNoted turn u x) k ∙ e) (ap (λ (u : List ℕ). leaderIn req turn u x) k)
+        by false q onwards = let k : wordAt (noteOf turn l p) x ≡ wordAt l x = note-other l p x (eqb-false x (p .0) q) in onwards (by-word l (noteOf turn l p) x k ∙ e) (leader-word l (noteOf turn l p) x k)
 
     -- the leader at the first listing
     pub leader-is : (ps : List (ℕ × ℕ)) (l : List ℕ) → length l ≡ n → ((p : ℕ × ℕ) → List·Memᴰ p ps → Fits n p) → (x : ℕ) → isNoted turn l x ≡ false → leaderIn req turn (tabled turn l ps) x ≡ leaderOf req ps x
     unfolding tabled leaderOf
     leader-is [] l en h x e = none-leads l x e
-    leader-is (p ∷ ps) l en h x e = by (eqb (p .0) x) refl
+    leader-is (p ∷ ps) l en h x e = by (eqb (p .0) x) refl (λ q. leader-is ps (noteOf turn l p) (note-length l p ∙ en) (λ z i. h z (List·Memᴰ·tail i)) x q)
       where
         f : Fits n p
         f = h p (List·Memᴰ·head refl)
 
-        by : (c : Bool) → eqb (p .0) x ≡ c → leaderIn req turn (tabled turn (noteOf turn l p) ps) x ≡ (elim c [ true ↦ p .1 | false ↦ leaderOf req ps x ])
-        by true q =
+        by : (c : Bool) → eqb (p .0) x ≡ c → (isNoted turn (noteOf turn l p) x ≡ false → leaderIn req turn (tabled turn (noteOf turn l p) ps) x ≡ leaderOf req ps x)
+            → leaderIn req turn (tabled turn (noteOf turn l p) ps) x ≡ (elim c [ true ↦ p .1 | false ↦ leaderOf req ps x ])
+        by true q later =
             let s : p .0 ≡ x = eqb-true (p .0) x q in
             let u : wordAt (noteOf turn l p) x ≡ turn * 4294967296 + p .1 = ap (wordAt (noteOf turn l p)) (sym s) ∙ note-first l p (subst (λ (k : ℕ). Fits k p) (sym en) f) (ap (isNoted turn l) s ∙ e) in
             let v = word-noted (noteOf turn l p) x (p .1) (f .leader-fits) u in
             found ps (noteOf turn l p) (note-length l p ∙ en) (λ z i. h z (List·Memᴰ·tail i)) x (v .0) ∙ v .1
-        by false q =
-            let k : wordAt (noteOf turn l p) x ≡ wordAt l x = note-other l p x (λ z. eqb-false (p .0) x q (sym z)) in
-            leader-is ps (noteOf turn l p) (note-length l p ∙ en) (λ z i. h z (List·Memᴰ·tail i)) x (by-word l (noteOf turn l p) x k ∙ e)
+        by false q later = let k : wordAt (noteOf turn l p) x ≡ wordAt l x = note-other l p x (λ z. eqb-false (p .0) x q (sym z)) in later (by-word l (noteOf turn l p) x k ∙ e)
 
 -- the entry of a listed id
 pub entry-is : (req turn : ℕ) (l : List ℕ) (ps : List (ℕ × ℕ)) → ((x : ℕ) → leaderIn req turn l x ≡ leaderOf req ps x) → entryIn req turn l ≡ listedEntry req ps
