@@ -114,7 +114,19 @@ fn order_new(
         }
         Node::Composite(members) => {
             let named = is_named(b, section, t);
-            order_composite(b, section, work, leads, o, id, named, has_ptr, members, left, v)
+            order_composite(
+                b,
+                section,
+                work,
+                leads,
+                o,
+                id,
+                named,
+                has_ptr,
+                members,
+                left,
+                v,
+            )
         }
     }
 }

@@ -45,7 +45,6 @@ use Rattle.noted.specs.declared.Pen.{Pen}
 use Rattle.noted.specs.declared.Cause.{Cause}
 use Rattle.noted.specs.Noted.{entryAt, entriesOf, entryOf, entryPut, notedOut, noteN, noteIfN, lineN, shownOf, machN, emitN, newN, againN, leafN, compositeN, hasN, onceN, mentionN}
 use Rattle.noted.proofs.Frame.{Stays, on, off, stays-then, table-emit, table-each}
-
 use Rattle.noted.proofs.Laws.{paper, withN, obind-then, obind-wrote, obind-same, then, at-sheet, same-sheet, stop-sheet, work-sheet, work-last, same-table, entry-stays, called-stays}
 
 -- ---- emit_once, emit_mention

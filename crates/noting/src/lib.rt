@@ -166,7 +166,20 @@ pub fn emit_noted(
     if (cont_id == 0) & !is_named(b, section, t) {
         return stop_at(text, p, 14);
     }
-    emit_new(b, section, work, text, list, leads, q, p, id, t, cont_id, left - 1)
+    emit_new(
+        b,
+        section,
+        work,
+        text,
+        list,
+        leads,
+        q,
+        p,
+        id,
+        t,
+        cont_id,
+        left - 1,
+    )
 }
 
 // An id that is not emitted yet.
@@ -191,13 +204,50 @@ fn emit_new(
         Node::Ignored => p,
         Node::Plain => p,
         Node::Listed(is_fwd) => {
-            emit_leaf(b, section, work, text, list, leads, q, p, id, t, cont_id, is_fwd)
+            emit_leaf(
+                b,
+                section,
+                work,
+                text,
+                list,
+                leads,
+                q,
+                p,
+                id,
+                t,
+                cont_id,
+                is_fwd,
+            )
         }
         Node::Through(_, next) => {
-            emit_noted(b, section, work, text, list, leads, q, p, next, cont_id, left)
+            emit_noted(
+                b,
+                section,
+                work,
+                text,
+                list,
+                leads,
+                q,
+                p,
+                next,
+                cont_id,
+                left,
+            )
         }
         Node::Ptr(next) => {
-            emit_noted(b, section, work, text, list, leads, q, p, next, cont_id, left)
+            emit_noted(
+                b,
+                section,
+                work,
+                text,
+                list,
+                leads,
+                q,
+                p,
+                next,
+                cont_id,
+                left,
+            )
         }
         Node::Typedef(next) => {
             set_emit_state(work, id, 1);
@@ -208,11 +258,49 @@ fn emit_new(
             c
         }
         Node::Proto(res, params) => {
-            let a = emit_noted(b, section, work, text, list, leads, q, p, res, cont_id, left);
-            emit_params(b, section, work, text, list, leads, q, a, params, cont_id, left)
+            let a = emit_noted(
+                b,
+                section,
+                work,
+                text,
+                list,
+                leads,
+                q,
+                p,
+                res,
+                cont_id,
+                left,
+            );
+            emit_params(
+                b,
+                section,
+                work,
+                text,
+                list,
+                leads,
+                q,
+                a,
+                params,
+                cont_id,
+                left,
+            )
         }
         Node::Composite(members) => {
-            emit_composite(b, section, work, text, list, leads, q, p, id, t, cont_id, members, left)
+            emit_composite(
+                b,
+                section,
+                work,
+                text,
+                list,
+                leads,
+                q,
+                p,
+                id,
+                t,
+                cont_id,
+                members,
+                left,
+            )
         }
     }
 }
@@ -268,14 +356,38 @@ fn emit_composite(
     set_emit_state(work, id, 1);
     if cont_id == 0 {
         let cont = inner(named, id, cont_id);
-        let a = emit_members(b, section, work, text, list, leads, q, p, members, cont, left);
+        let a = emit_members(
+            b,
+            section,
+            work,
+            text,
+            list,
+            leads,
+            q,
+            p,
+            members,
+            cont,
+            left,
+        );
         let e = listed_cause(leads, q, id);
         let c = define(b, section, work, text, list, a, id, t, e);
         set_emit_state(work, id, 2);
         return c;
     }
     if !named {
-        let a = emit_members(b, section, work, text, list, leads, q, p, members, cont_id, left);
+        let a = emit_members(
+            b,
+            section,
+            work,
+            text,
+            list,
+            leads,
+            q,
+            p,
+            members,
+            cont_id,
+            left,
+        );
         set_emit_state(work, id, 0);
         return a;
     }

@@ -94,10 +94,7 @@ pub fn dump_noted(
     if o.stop != 0 {
         return stop_at(text, p, o.stop);
     }
-    let q = Asked {
-        req: id,
-        turn: 1,
-    };
+    let q = Asked { req: id, turn: 1 };
     let r = emit_listed(b, section, work, text, list, &leads, q, p, o.len);
     clear_list(work, o.len);
     r

@@ -116,79 +116,79 @@ order-params-below t =
 
 abbrev order-composite-claims : ℕ → order-composite-lts.Claims
 order-composite-claims t = (
-      strong-reads.Asked,
-      strong-reads.Learnt,
-      set-order-state-reads.Asked,
-      set-order-state-reads.Learnt,
-      inside-reads.Asked,
-      inside-reads.Learnt,
-      order-members-below t,
-      order-members.Post,
-      finish-led-reads.Asked,
-      finish-led-reads.Learnt,
-    )
+  strong-reads.Asked,
+  strong-reads.Learnt,
+  set-order-state-reads.Asked,
+  set-order-state-reads.Learnt,
+  inside-reads.Asked,
+  inside-reads.Learnt,
+  order-members-below t,
+  order-members.Post,
+  finish-led-reads.Asked,
+  finish-led-reads.Learnt,
+)
 
 abbrev order-led-claims : ℕ → order-led-lts.Claims
 order-led-claims t = (
-      refused-reads.Asked,
-      refused-reads.Learnt,
-      get-order-state-reads.Asked,
-      get-order-state-reads.Learnt,
-      strong-reads.Asked,
-      strong-reads.Learnt,
-      meet-reads.Asked,
-      meet-reads.Learnt,
-      order-new-below t,
-      order-new.Post,
-    )
+  refused-reads.Asked,
+  refused-reads.Learnt,
+  get-order-state-reads.Asked,
+  get-order-state-reads.Learnt,
+  strong-reads.Asked,
+  strong-reads.Learnt,
+  meet-reads.Asked,
+  meet-reads.Learnt,
+  order-new-below t,
+  order-new.Post,
+)
 
 abbrev order-members-claims : ℕ → order-members-lts.Claims
 order-members-claims t = (
-      member-place-reads.Asked,
-      member-place-reads.Learnt,
-      word-reads.Asked,
-      word-reads.Learnt,
-      order-led-below t,
-      order-led.Post,
-      strong-reads.Asked,
-      strong-reads.Learnt,
-    )
+  member-place-reads.Asked,
+  member-place-reads.Learnt,
+  word-reads.Asked,
+  word-reads.Learnt,
+  order-led-below t,
+  order-led.Post,
+  strong-reads.Asked,
+  strong-reads.Learnt,
+)
 
 abbrev order-new-claims : ℕ → order-new-lts.Claims
 order-new-claims t = (
-      type-by-id-reads.Asked,
-      type-by-id-reads.Learnt,
-      node-of-reads.Asked,
-      node-of-reads.Learnt,
-      strong-reads.Asked,
-      strong-reads.Learnt,
-      finish-led-reads.Asked,
-      finish-led-reads.Learnt,
-      is-named-reads.Asked,
-      is-named-reads.Learnt,
-      order-led-below t,
-      order-led.Post,
-      inside-reads.Asked,
-      inside-reads.Learnt,
-      finish-typedef-led-reads.Asked,
-      finish-typedef-led-reads.Learnt,
-      order-params-below t,
-      order-params.Post,
-      order-composite-below t,
-      order-composite.Post,
-    )
+  type-by-id-reads.Asked,
+  type-by-id-reads.Learnt,
+  node-of-reads.Asked,
+  node-of-reads.Learnt,
+  strong-reads.Asked,
+  strong-reads.Learnt,
+  finish-led-reads.Asked,
+  finish-led-reads.Learnt,
+  is-named-reads.Asked,
+  is-named-reads.Learnt,
+  order-led-below t,
+  order-led.Post,
+  inside-reads.Asked,
+  inside-reads.Learnt,
+  finish-typedef-led-reads.Asked,
+  finish-typedef-led-reads.Learnt,
+  order-params-below t,
+  order-params.Post,
+  order-composite-below t,
+  order-composite.Post,
+)
 
 abbrev order-params-claims : ℕ → order-params-lts.Claims
 order-params-claims t = (
-      param-place-reads.Asked,
-      param-place-reads.Learnt,
-      word-reads.Asked,
-      word-reads.Learnt,
-      order-led-below t,
-      order-led.Post,
-      strong-reads.Asked,
-      strong-reads.Learnt,
-    )
+  param-place-reads.Asked,
+  param-place-reads.Learnt,
+  word-reads.Asked,
+  word-reads.Learnt,
+  order-led-below t,
+  order-led.Post,
+  strong-reads.Asked,
+  strong-reads.Learnt,
+)
 
 order-composite-strong-requires : (t : ℕ) → order-composite-lts.Need-strong-requires (order-composite-claims t) (order-composite-at t) order-composite.Post
 order-composite-strong-requires t c κs = search needs

@@ -120,79 +120,79 @@ emit-params-below t =
 
 abbrev emit-composite-claims : ℕ → emit-composite-lts.Claims
 emit-composite-claims t = (
-      is-named-reads.Asked,
-      is-named-reads.Learnt,
-      set-emit-state-reads.Asked,
-      set-emit-state-reads.Learnt,
-      inner-reads.Asked,
-      inner-reads.Learnt,
-      emit-members-below t,
-      emit-members.Post,
-      listed-cause-reads.Asked,
-      listed-cause-reads.Learnt,
-      define-reads.Asked,
-      define-reads.Learnt,
-      emit-mention-reads.Asked,
-      emit-mention-reads.Learnt,
-    )
+  is-named-reads.Asked,
+  is-named-reads.Learnt,
+  set-emit-state-reads.Asked,
+  set-emit-state-reads.Learnt,
+  inner-reads.Asked,
+  inner-reads.Learnt,
+  emit-members-below t,
+  emit-members.Post,
+  listed-cause-reads.Asked,
+  listed-cause-reads.Learnt,
+  define-reads.Asked,
+  define-reads.Learnt,
+  emit-mention-reads.Asked,
+  emit-mention-reads.Learnt,
+)
 
 abbrev emit-members-claims : ℕ → emit-members-lts.Claims
 emit-members-claims t = (
-      member-place-reads.Asked,
-      member-place-reads.Learnt,
-      word-reads.Asked,
-      word-reads.Learnt,
-      emit-noted-below t,
-      emit-noted.Post,
-    )
+  member-place-reads.Asked,
+  member-place-reads.Learnt,
+  word-reads.Asked,
+  word-reads.Learnt,
+  emit-noted-below t,
+  emit-noted.Post,
+)
 
 abbrev emit-new-claims : ℕ → emit-new-lts.Claims
 emit-new-claims t = (
-      node-of-reads.Asked,
-      node-of-reads.Learnt,
-      emit-leaf-reads.Asked,
-      emit-leaf-reads.Learnt,
-      emit-noted-below t,
-      emit-noted.Post,
-      set-emit-state-reads.Asked,
-      set-emit-state-reads.Learnt,
-      cause-at-reads.Asked,
-      cause-at-reads.Learnt,
-      emit-once-reads.Asked,
-      emit-once-reads.Learnt,
-      emit-params-below t,
-      emit-params.Post,
-      emit-composite-below t,
-      emit-composite.Post,
-    )
+  node-of-reads.Asked,
+  node-of-reads.Learnt,
+  emit-leaf-reads.Asked,
+  emit-leaf-reads.Learnt,
+  emit-noted-below t,
+  emit-noted.Post,
+  set-emit-state-reads.Asked,
+  set-emit-state-reads.Learnt,
+  cause-at-reads.Asked,
+  cause-at-reads.Learnt,
+  emit-once-reads.Asked,
+  emit-once-reads.Learnt,
+  emit-params-below t,
+  emit-params.Post,
+  emit-composite-below t,
+  emit-composite.Post,
+)
 
 abbrev emit-noted-claims : ℕ → emit-noted-lts.Claims
 emit-noted-claims t = (
-      stopped-reads.Asked,
-      stopped-reads.Learnt,
-      stop-at-reads.Asked,
-      stop-at-reads.Learnt,
-      get-emit-state-reads.Asked,
-      get-emit-state-reads.Learnt,
-      emit-again-reads.Asked,
-      emit-again-reads.Learnt,
-      type-by-id-reads.Asked,
-      type-by-id-reads.Learnt,
-      is-named-reads.Asked,
-      is-named-reads.Learnt,
-      emit-new-below t,
-      emit-new.Post,
-    )
+  stopped-reads.Asked,
+  stopped-reads.Learnt,
+  stop-at-reads.Asked,
+  stop-at-reads.Learnt,
+  get-emit-state-reads.Asked,
+  get-emit-state-reads.Learnt,
+  emit-again-reads.Asked,
+  emit-again-reads.Learnt,
+  type-by-id-reads.Asked,
+  type-by-id-reads.Learnt,
+  is-named-reads.Asked,
+  is-named-reads.Learnt,
+  emit-new-below t,
+  emit-new.Post,
+)
 
 abbrev emit-params-claims : ℕ → emit-params-lts.Claims
 emit-params-claims t = (
-      param-place-reads.Asked,
-      param-place-reads.Learnt,
-      word-reads.Asked,
-      word-reads.Learnt,
-      emit-noted-below t,
-      emit-noted.Post,
-    )
+  param-place-reads.Asked,
+  param-place-reads.Learnt,
+  word-reads.Asked,
+  word-reads.Learnt,
+  emit-noted-below t,
+  emit-noted.Post,
+)
 
 emit-composite-is-named-requires : (t : ℕ) → emit-composite-lts.Need-is-named-requires (emit-composite-claims t) (emit-composite-at t) emit-composite.Post
 emit-composite-is-named-requires t c κs = search needs
