@@ -3,3 +3,4 @@ pub mod Exports
 pub mod Field
 pub mod Ceilings
 pub mod Declarations
+pub mod Causes

@@ -1,5 +1,6 @@
 // The calls for C, on numbers and byte slices. The session record crosses as bytes (`c_record`), and an answer as a number of
 // 64 bits.
+mod causes;
 mod ceilings;
 mod declarations;
 

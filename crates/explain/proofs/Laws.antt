@@ -192,9 +192,13 @@ module _ (b : Btf) (few : b .types ≤ 262145) (s w t l : List ℕ) (len id to :
         (λ i. absurd (no-wrote 17 (paper 0 d u w′ l′) (sym (lined .short (entriesIn l) zero-le i) ∙ in-place h))) (le-or-lt (lined .need) (entriesIn l)))
         (λ h. omega (arith, count-past h)) (le-or-lt (d .at) (to - len))
 
-    pub one-told : (cameOf (record { reached = r; count = count }) w′ text′ l′ ≡ requestedNoted (upTo (entriesIn l)) b s id [] len w t) × (count ≤ entriesIn l)
+    len-fits : r .len ≤ length text′
+    len-fits = ⊎-elim (λ h. one-reach b s w t len id to below ends (d .at) u w′ same (plain-out h) el r er .1)
+        (λ h. let k : r .len ≡ len = ap (λ (x : Reached). x .len) (er ∙ sym (arrived-past len (to - len) (d .at) (omega (arith, place-17 h)))) in omega (arith, same-len-mid len (to - len) t u same)) (le-or-lt (lined .need) (entriesIn l))
+
+    pub one-told : (cameOf (record { reached = r; count = count }) w′ text′ l′ ≡ requestedNoted (upTo (entriesIn l)) b s id [] len w t) × (count ≤ entriesIn l) × (r .len ≤ length text′)
     unfolding cameOf cameToNoted
-    one-told = ((λ i. record { reach = reach-is i; entries = entries-is i }) ∙ request-is, count-fits)
+    one-told = ((λ i. record { reach = reach-is i; entries = entries-is i }) ∙ request-is, count-fits, len-fits)
 
 pub count-yes : (n c : ℕ) → n ≡ 0 → c ≡ pick (eqb n 0) c 0
 count-yes n c e = ap (λ (x : Bool). pick x c 0) (sym (eq-eqb n 0 e))
@@ -220,12 +224,12 @@ few-settings section pointer modes types b e = subst (λ (n : ℕ). n ≤ 262145
     go false q = omega arith
 
 module _ (s : Session) (section w t l : List ℕ) (q : Bool) (eq : q ≡ isCurrent s (length section) (length w) (length t)) where
-  explained-is : (turn : Turn) (n : ℕ) (w′ t′ l′ : List ℕ) (c : CauseCall) → callOf (turn .session) (turn .answer) w′ t′ ≡ c .call → n ≡ c .count → l′ ≡ c .list → explainedOf (record { turn = turn; count = n }) w′ t′ l′ ≡ c
+  pub explained-is : (turn : Turn) (n : ℕ) (w′ t′ l′ : List ℕ) (c : CauseCall) → callOf (turn .session) (turn .answer) w′ t′ ≡ c .call → n ≡ c .count → l′ ≡ c .list → explainedOf (record { turn = turn; count = n }) w′ t′ l′ ≡ c
   unfolding explainedOf
   explained-is turn n w′ t′ l′ c ed en el = λ i. record { call = ed i; count = en i; list = el i }
 
   module _ (h : not q ≡ true) (turn : Turn) (et : turn ≡ turnOf s (answerOf 11 (s .«text_len»))) where
-    is-11 : callOf (turn .session) (turn .answer) w t ≡ unchanged s (refusal notCurrent (s .«text_len»)) w t
+    pub is-11 : callOf (turn .session) (turn .answer) w t ≡ unchanged s (refusal notCurrent (s .«text_len»)) w t
     unfolding callOf turnOf number value
     is-11 = λ i. record { session = et i .session; answer = et i .answer; work = w; text = t }
 
@@ -242,7 +246,7 @@ module _ (s : Session) (section w t l : List ℕ) (q : Bool) (eq : q ≡ isCurre
 
     module _ (b : Btf) (eb : b ≡ settingsOf section (s .«pointer_size») (s .modes) (s .types)) (r : Told) (w′ t′ l′ : List ℕ) (lw : length w′ ≡ length w) (lt : length t′ ≡ length t) (ll : length l′ ≡ length l)
         (turn : Turn) (w″ t″ l″ : List ℕ) (et : callOf (turn .session) (turn .answer) w″ t″ ≡ settled s (length w′) (length t′) (reachOf (r .reached) w′ t′)) (es : l″ ≡ filled (length l′) (entriesOf (r .count) l′)) where
-      settles : (a : Came) → cameOf r w′ t′ l′ ≡ a → explainedOf (record { turn = turn; count = r .count }) w″ t″ l″ ≡ settledNoted s (length w) (length t) l a
+      pub settles : (a : Came) → cameOf r w′ t′ l′ ≡ a → explainedOf (record { turn = turn; count = r .count }) w″ t″ l″ ≡ settledNoted s (length w) (length t) l a
       unfolding settledNoted cameOf
       settles a ea =
           explained-is turn (r .count) w″ t″ l″ (settledNoted s (length w′) (length t′) l′ (cameOf r w′ t′ l′)) et (sym (entries-length (r .count) l′)) es

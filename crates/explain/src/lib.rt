@@ -1,5 +1,8 @@
 // Why each line is there: a request that is lent a list, and leaves an entry in it for each line.
+mod every;
+
 use btf::Btf;
+pub use every::dump_types_causes;
 use header::btf_of;
 use lent::clear;
 use noted::Pen;
@@ -80,7 +83,7 @@ fn dump_one(
     id: u32,
 ) -> Told
     requires { ⌜ (len ≤ length (now text)) × (b .types ≤ 262145) ⌝ }
-    ensures { λ r. ⌜ (cameOf r (now (work .exit)) (now (text .exit)) (now (list .exit)) ≡ requestedNoted (upTo (entriesIn (now (list .entry)))) b (now (section .entry)) id [] len (now (work .entry)) (now (text .entry))) × (r .count ≤ entriesIn (now (list .entry))) ⌝ }
+    ensures { λ r. ⌜ (cameOf r (now (work .exit)) (now (text .exit)) (now (list .exit)) ≡ requestedNoted (upTo (entriesIn (now (list .entry)))) b (now (section .entry)) id [] len (now (work .entry)) (now (text .entry))) × (r .count ≤ entriesIn (now (list .entry))) × (r .reached .len ≤ length (now (text .exit))) ⌝ }
 {
     let from = len as usize;
     let to = limit(text.len(), from);
