@@ -5,7 +5,7 @@ use mathlib.Core.List.{List}
 use lib.Dec.{ltb}
 use lib.ListN.{length}
 use Rattle.c_record.specs.Record.{decoded}
-use Rattle.causes.specs.Bytes.{CauseCall, typeCauses}
+use Rattle.causes.specs.Bytes.{CauseCall, typeCauses, typesCauses}
 use Rattle.btfdump_c.specs.Exports.{Export, exportOf, answeredBy}
 
 pub record CausesExport : Type 0 where
@@ -23,3 +23,6 @@ answeredCauses r d = record { export = answeredBy r (d .call); count = d .count;
 unfoldable pub typeCausesExport : List ℕ → List ℕ → List ℕ → List ℕ → ℕ → List ℕ → CausesExport
 typeCausesExport r section w t id l =
     elim (ltb (length r) 128) [ true ↦ causesExportOf (11 * 4294967296) r w t 0 l | false ↦ answeredCauses r (typeCauses (decoded r) section w t id l) ]
+
+unfoldable pub typesCausesExport : List ℕ → List ℕ → List ℕ → List ℕ → List ℕ → CausesExport
+typesCausesExport r section w t l = elim (ltb (length r) 128) [ true ↦ causesExportOf (11 * 4294967296) r w t 0 l | false ↦ answeredCauses r (typesCauses (decoded r) section w t l) ]

@@ -1,8 +1,9 @@
 // The calls for C, on numbers and byte slices. The session record crosses as bytes (`c_record`), and an answer as a number of
 // 64 bits.
-mod causes;
+
 mod ceilings;
 mod declarations;
+mod explained;
 
 use c_record::answered;
 use c_record::decode;
