@@ -193,6 +193,35 @@ btfdump_answer btfdump_dump_list_within(uint8_t *record, size_t record_len,
 					const uint8_t *ids, size_t ids_len,
 					uint64_t ceiling, uint64_t *made);
 
+/*
+ * Why each line is there. The list is lent: for each line of the text that this
+ * request adds, a definition being one, it gets three words of four bytes, least
+ * significant first, from its start and in the text's order: the id, the cause,
+ * and the id that led there. Cause 0: the requested id, which leads to itself.
+ * 1: needed; the innermost other composite or typedef that was being ordered led
+ * there, else the requested id. 2: a forward line, 3: a typedef printed early;
+ * the composite or typedef being printed around it led there. *count gets the
+ * number of entries; what follows them is zero. The entries of a refused request
+ * are dropped; those of the ids before it stay. 10 and 11 leave the list as it
+ * was, with *count 0. A list too short for one more entry is 17; one with an
+ * entry for every three bytes of text is never too short. Everything else is as
+ * after the plain call. These requests need some 2.2 MiB of stack, and take longer
+ * than the plain ones: 2 MiB are cleared for each id that has something to do.
+ */
+btfdump_answer btfdump_dump_type_causes(uint8_t *record, size_t record_len,
+					const uint8_t *section, size_t section_len,
+					uint8_t *work, size_t work_len,
+					uint8_t *text, size_t text_len,
+					uint32_t id, uint8_t *list, size_t list_len,
+					uint64_t *count);
+
+btfdump_answer btfdump_dump_types_causes(uint8_t *record, size_t record_len,
+					 const uint8_t *section, size_t section_len,
+					 uint8_t *work, size_t work_len,
+					 uint8_t *text, size_t text_len,
+					 uint8_t *list, size_t list_len,
+					 uint64_t *count);
+
 /* The length of the text so far, of a record that an opening wrote. */
 static inline uint32_t btfdump_text_len(const uint8_t *record)
 {

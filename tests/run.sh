@@ -19,6 +19,7 @@ compile limits tests/limits.c
 compile guard tests/guard.c
 compile lists tests/lists.c
 compile ceilings tests/ceilings.c
+compile causes tests/causes.c
 compile field tests/field.c
 compile declarations tests/declarations.c
 compile cut tests/cut.c
@@ -47,6 +48,7 @@ done
 "$out/limits"
 "$out/lists" "${files[@]}"
 "$out/ceilings" "${files[@]}"
+"$out/causes" "${files[@]}"
 "$out/field" "${files[@]}"
 "$out/declarations"
 "$out/cut" "${files[@]}"

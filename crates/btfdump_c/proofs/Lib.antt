@@ -1,3 +1,4 @@
+pub mod CauseLaws
 pub mod CeilingLaws
 pub mod Laws
 pub mod Claims

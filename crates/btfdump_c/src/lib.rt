@@ -1,8 +1,10 @@
 // The calls for C, on numbers and byte slices. The session record crosses as bytes (`c_record`), and an answer as a number of
 // 64 bits.
+
 mod ceilings;
 mod cuts;
 mod declarations;
+mod explained;
 
 use c_record::answered;
 use c_record::decode;

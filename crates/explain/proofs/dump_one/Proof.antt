@@ -1,0 +1,67 @@
+use Prim.Native.Nat.{_<_}
+use native.Mathlib.Omega.{arith}
+use Rattle.explain.proofs.Laws as laws
+use Rattle.arrival.proofs.Arrival.{from-to, to-end, room-fits, arrived-is}
+use mathlib.Core.Path.{_∙_}
+use borrow.Author.Needs.{needs}
+use Rattle.explain.proofs.dump_one.Statement.{statement}
+use Rattle.explain.proofs.dump_one.Tie as tie
+use Rattle.explain.proofs.dump_one.Reads as reads
+use Rattle.explain.proofs.dump_one.Lts as lts
+use Rattle.arrival.proofs.arrived.Reads as arrived-reads
+use Rattle.explain.proofs.count_after.Reads as count-after-reads
+use Rattle.arrival.proofs.limit.Reads as limit-reads
+use Rattle.reasons.proofs.dump_noted.Reads as dump-noted-reads
+
+limit-requires : tie.Need-limit-requires
+limit-requires c κs = search needs
+
+sub-dump-noted : tie.Need-sub-dump-noted
+sub-dump-noted c = from-to _ _ _ (c .before .limit .ensures) (c .before .before .before .before .before .before .pre .0)
+
+part-dump-noted-start : tie.Need-part-dump-noted-start
+part-dump-noted-start c = from-to _ _ _ (c .before .limit .ensures) (c .before .before .before .before .before .before .pre .0)
+
+part-dump-noted-end : tie.Need-part-dump-noted-end
+part-dump-noted-end c = to-end _ _ _ (c .before .limit .ensures) (c .before .before .before .before .before .before .pre .0)
+
+dump-noted-requires : tie.Need-dump-noted-requires
+dump-noted-requires c κs = search needs
+
+sub-arrived : tie.Need-sub-arrived
+sub-arrived c = from-to _ _ _ (c .before .before .before .before .before .before .before .before .before .before .limit .ensures) (c .before .before .before .before .before .before .before .before .before .before .before .before .before .before .before .pre .0)
+
+arrived-requires : tie.Need-arrived-requires
+arrived-requires c κs = search needs
+
+count-after-requires : tie.Need-count-after-requires
+count-after-requires c κs = search needs
+
+same-length : tie.Need-same-length
+same-length c = search needs
+
+same-length-2 : tie.Need-same-length-2
+same-length-2 c = search needs
+
+same-length-3 : tie.Need-same-length-3
+same-length-3 c = search needs
+
+returns : tie.Need-returns
+returns c = let i : c .before .before .before .before .before .before .before .before .before .before .before .before .before .before .before .before .before .args .id < 4294967296 = omega arith in laws.one-told _ (c .before .before .before .before .before .before .before .before .before .before .before .before .before .before .before .before .before .pre .1) _ _ _ _ _ _ _ i (from-to _ _ _ (c .before .before .before .before .before .before .before .before .before .before .before .before .limit .ensures) (c .before .before .before .before .before .before .before .before .before .before .before .before .before .before .before .before .before .pre .0)) (to-end _ _ _ (c .before .before .before .before .before .before .before .before .before .before .before .before .limit .ensures) (c .before .before .before .before .before .before .before .before .before .before .before .before .before .before .before .before .before .pre .0)) _ _ _ _ (c .before .before .before .before .before .before .before .before .dump-noted .kept .1 .1 .1 .0) (c .before .before .before .before .before .before .before .before .dump-noted .ensures) (c .before .before .before .before .before .before .before .before .before .before .before .before .limit .ensures) _ (c .before .arrived .ensures ∙ arrived-is _ _ _ (omega (arith, room-fits _ _ _ (c .before .before .before .before .before .before .before .before .before .before .before .before .limit .ensures) (c .before .before .before .before .before .before .before .before .before .before .before .before .before .before .before .before .before .pre .0))) (omega (arith, laws.bound _ (c .before .before .before .before .before .before .before .before .before .before .before .before .before .before .before .before .before .pre .1) _ _ _ _ _ _ _ i (from-to _ _ _ (c .before .before .before .before .before .before .before .before .before .before .before .before .limit .ensures) (c .before .before .before .before .before .before .before .before .before .before .before .before .before .before .before .before .before .pre .0)) (to-end _ _ _ (c .before .before .before .before .before .before .before .before .before .before .before .before .limit .ensures) (c .before .before .before .before .before .before .before .before .before .before .before .before .before .before .before .before .before .pre .0)) _ _ _ _ (c .before .before .before .before .before .before .before .before .dump-noted .kept .1 .1 .1 .0) (c .before .before .before .before .before .before .before .before .dump-noted .ensures)))) _ (c .count-after .ensures)
+
+pub dump-one-spec : {M : Type 1} → statement M
+dump-one-spec =
+    tie.close
+    (tie.spec
+    limit-requires
+    sub-dump-noted
+    part-dump-noted-start
+    part-dump-noted-end
+    dump-noted-requires
+    sub-arrived
+    arrived-requires
+    count-after-requires
+    same-length
+    same-length-2
+    same-length-3
+    returns)

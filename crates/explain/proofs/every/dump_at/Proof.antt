@@ -1,0 +1,52 @@
+use Rattle.explain.proofs.EveryLaws as laws
+use borrow.Author.Needs.{needs}
+use Rattle.explain.proofs.every.dump_at.Statement.{statement}
+use Rattle.explain.proofs.every.dump_at.Tie as tie
+use Rattle.explain.proofs.every.dump_at.Reads as reads
+use Rattle.explain.proofs.every.dump_at.Lts as lts
+use Rattle.explain.proofs.dump_one.Reads as dump-one-reads
+
+mul-from : tie.Need-mul-from
+mul-from c = search needs
+
+sub-dump-one : tie.Need-sub-dump-one
+sub-dump-one c = search needs
+
+part-dump-one-start : tie.Need-part-dump-one-start
+part-dump-one-start c = search needs
+
+part-dump-one-end : tie.Need-part-dump-one-end
+part-dump-one-end c = search needs
+
+dump-one-requires : tie.Need-dump-one-requires
+dump-one-requires c κs = search needs
+
+add-t17 : tie.Need-add-t17
+add-t17 c = search needs
+
+same-length : tie.Need-same-length
+same-length c = search needs
+
+same-length-2 : tie.Need-same-length-2
+same-length-2 c = search needs
+
+same-length-3 : tie.Need-same-length-3
+same-length-3 c = search needs
+
+returns : tie.Need-returns
+returns c = laws.at-all _ _ _ _ _ _ _ _ (c .before .before .before .before .before .before .before .before .before .before .before .before .before .before .before .before .pre .2) _ _ _ _ (c .before .before .before .before .before .before .before .before .dump-one .kept .1 .1 .1 .1 .0) (c .before .before .before .before .before .before .before .before .dump-one .ensures .0) (c .before .before .before .before .before .before .before .before .dump-one .ensures .1) (c .before .before .before .before .before .before .before .before .dump-one .ensures .2)
+
+pub dump-at-spec : {M : Type 1} → statement M
+dump-at-spec =
+    tie.close
+    (tie.spec
+    mul-from
+    sub-dump-one
+    part-dump-one-start
+    part-dump-one-end
+    dump-one-requires
+    add-t17
+    same-length
+    same-length-2
+    same-length-3
+    returns)

@@ -1,0 +1,46 @@
+use borrow.Author.Tests as tests
+use Rattle.explain.proofs.EveryLaws as laws
+use borrow.Author.Needs.{needs}
+use Rattle.explain.proofs.every.dump_next.Statement.{statement}
+use Rattle.explain.proofs.every.dump_next.Tie as tie
+use Rattle.explain.proofs.every.dump_next.Reads as reads
+use Rattle.explain.proofs.every.dump_next.Lts as lts
+use Rattle.dump.proofs.is_idle.Reads as is-idle-reads
+use Rattle.explain.proofs.every.dump_at.Reads as dump-at-reads
+
+is-idle-requires : tie.Need-is-idle-requires
+is-idle-requires c κs = search needs
+
+dump-at-requires : tie.Need-dump-at-requires
+dump-at-requires c κs = search needs
+
+same-length : tie.Need-same-length
+same-length c = search needs
+
+same-length-2 : tie.Need-same-length-2
+same-length-2 c = search needs
+
+same-length-3 : tie.Need-same-length-3
+same-length-3 c = search needs
+
+returns : tie.Need-returns
+returns c = search needs
+
+same-length-4 : tie.Need-same-length-4
+same-length-4 c = search needs
+
+returns-2 : tie.Need-returns-2
+returns-2 c = (laws.next-idle _ _ _ _ _ _ _ _ _ (c .before .before .before .before .before .before .before .pre .0) _ (c .before .is-idle .ensures) (tests.not-false _ (c .if1 .left)), c .before .before .before .before .before .before .before .pre .2, c .before .before .before .before .before .before .before .pre .0)
+
+pub dump-next-spec : {M : Type 1} → statement M
+dump-next-spec =
+    tie.close
+    (tie.spec
+    is-idle-requires
+    dump-at-requires
+    same-length
+    same-length-2
+    same-length-3
+    returns
+    same-length-4
+    returns-2)

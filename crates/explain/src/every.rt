@@ -1,0 +1,126 @@
+// All ids, with one list of entries for the call.
+use crate::Explained;
+use crate::Told;
+use crate::clear_causes;
+use crate::dump_one;
+use btf::Btf;
+use dump::is_idle;
+use header::btf_of;
+use turns::Reached;
+use turns::Session;
+use turns::is_current;
+use turns::settle;
+use turns::turn_of;
+ghost use Prim.Native.Nat.{_-_, _≤_};
+ghost use mathlib.Core.Path.{_≡_};
+ghost use mathlib.Core.List.{[]};
+ghost use lib.ListN.{length};
+ghost use Rattle.causes.specs.Causes.{upTo, entriesIn};
+ghost use Rattle.causes.specs.Bytes.{requestedNoted, requestedFromNoted, typesCauses};
+ghost use Rattle.noted.specs.Noted.{entriesOf};
+ghost use Rattle.explain.specs.Explained.{cameOf, explainedOf};
+
+// One id, after a text of len bytes and so many entries.
+fn dump_at(
+    b: Btf,
+    section: &[u8],
+    work: &mut [u8],
+    text: &mut [u8],
+    list: &mut [u8],
+    len: u32,
+    count: usize,
+    id: u32,
+) -> Told
+    requires { ⌜ (len ≤ length (now text)) × (b .types ≤ 262145) × (count ≤ entriesIn (now list)) ⌝ }
+    ensures { λ r. ⌜ (cameOf r (now (work .exit)) (now (text .exit)) (now (list .exit)) ≡ requestedNoted (upTo (entriesIn (now (list .entry)))) b (now (section .entry)) id (entriesOf count (now (list .entry))) len (now (work .entry)) (now (text .entry))) × (r .count ≤ entriesIn (now (list .entry))) × (r .reached .len ≤ length (now (text .exit))) ⌝ }
+{
+    let from = count * 12;
+    let r = dump_one(b, section, work, text, &mut list[from..], len, id);
+    let reached = r.reached;
+    Told {
+        reached: reached,
+        count: count + r.count,
+    }
+}
+
+// The same; most ids of a table have nothing to write.
+fn dump_next(
+    b: Btf,
+    section: &[u8],
+    work: &mut [u8],
+    text: &mut [u8],
+    list: &mut [u8],
+    len: u32,
+    count: usize,
+    id: u32,
+) -> Told
+    requires { ⌜ (len ≤ length (now text)) × (b .types ≤ 262145) × (count ≤ entriesIn (now list)) ⌝ }
+    ensures { λ r. ⌜ (cameOf r (now (work .exit)) (now (text .exit)) (now (list .exit)) ≡ requestedNoted (upTo (entriesIn (now (list .entry)))) b (now (section .entry)) id (entriesOf count (now (list .entry))) len (now (work .entry)) (now (text .entry))) × (r .count ≤ entriesIn (now (list .entry))) × (r .reached .len ≤ length (now (text .exit))) ⌝ }
+{
+    if !is_idle(b, section, work, id) {
+        return dump_at(b, section, work, text, list, len, count, id);
+    }
+    Told {
+        reached: Reached {
+            len: len,
+            number: 0,
+        },
+        count: count,
+    }
+}
+
+// Every id from 1 upward, to the first that is refused.
+fn dump_all(
+    b: Btf,
+    section: &[u8],
+    work: &mut [u8],
+    text: &mut [u8],
+    list: &mut [u8],
+    len: u32,
+) -> Told
+    requires { ⌜ (len ≤ length (now text)) × (b .types ≤ 262145) ⌝ }
+    ensures { λ r. ⌜ (cameOf r (now (work .exit)) (now (text .exit)) (now (list .exit)) ≡ requestedFromNoted (upTo (entriesIn (now (list .entry)))) b (now (section .entry)) (b .types - 1) 1 [] len (now (work .entry)) (now (text .entry))) × (r .count ≤ entriesIn (now (list .entry))) ⌝ }
+{
+    let n = b.types;
+    let mut r = Told {
+        reached: Reached {
+            len: len,
+            number: 0,
+        },
+        count: 0,
+    };
+    let mut id: u32 = 1;
+    while id < n {
+        r = dump_next(b, section, work, text, list, r.reached.len, r.count, id);
+        if r.reached.number != 0 {
+            return r;
+        }
+        id += 1;
+    }
+    r
+}
+
+pub fn dump_types_causes(
+    s: Session,
+    section: &[u8],
+    work: &mut [u8],
+    text: &mut [u8],
+    list: &mut [u8],
+) -> Explained
+    ensures { λ r. ⌜ explainedOf r (now (work .exit)) (now (text .exit)) (now (list .exit)) ≡ typesCauses s (now (section .entry)) (now (work .entry)) (now (text .entry)) (now (list .entry)) ⌝ }
+{
+    if !is_current(s, section.len(), work.len(), text.len()) {
+        return Explained {
+            turn: turn_of(s, 11, s.text_len),
+            count: 0,
+        };
+    }
+    let b = btf_of(section, s.pointer_size, s.modes, s.types);
+    let r = dump_all(b, section, work, text, list, s.text_len);
+    let turn = settle(s, work, text, r.reached);
+    clear_causes(list, r.count);
+    Explained {
+        turn: turn,
+        count: r.count,
+    }
+}

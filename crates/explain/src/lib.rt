@@ -1,0 +1,114 @@
+// Why each line is there: a request that is lent a list, and leaves an entry in it for each line.
+mod every;
+
+use arrival::arrived;
+use arrival::limit;
+use btf::Btf;
+pub use every::dump_types_causes;
+use header::btf_of;
+use lent::clear;
+use noted::Pen;
+use reasons::dump_noted;
+use turns::Reached;
+use turns::Session;
+use turns::Turn;
+use turns::is_current;
+use turns::settle;
+use turns::turn_of;
+ghost use Prim.Native.Nat.{_*_, _-_, _+_, _/_, _<_, _≤_};
+ghost use mathlib.Core.Path.{_≡_};
+ghost use mathlib.Core.List.{[]};
+ghost use lib.ListN.{length};
+ghost use lib.Dec.{eqb};
+ghost use Rattle.rules.specs.Machine.{pick};
+ghost use Rattle.causes.specs.Causes.{upTo, entriesIn, filled};
+ghost use Rattle.causes.specs.Bytes.{requestedNoted, typeCauses};
+ghost use Rattle.noted.specs.Noted.{entriesOf};
+ghost use Rattle.explain.specs.Explained.{cameOf, explainedOf};
+
+// What a call comes to, and how many entries the list has.
+pub struct Explained {
+    pub turn: Turn,
+    pub count: usize,
+}
+
+// Where a request has come to, and how many entries it left.
+struct Told {
+    reached: Reached,
+    count: usize,
+}
+
+// A refused request's entries are dropped.
+fn count_after(number: u32, count: usize) -> usize
+    ensures { λ r. ⌜ r ≡ pick (eqb number 0) count 0 ⌝ }
+{
+    if number == 0 { count } else { 0 }
+}
+
+// One id, after a text of len bytes.
+fn dump_one(
+    b: Btf,
+    section: &[u8],
+    work: &mut [u8],
+    text: &mut [u8],
+    list: &mut [u8],
+    len: u32,
+    id: u32,
+) -> Told
+    requires { ⌜ (len ≤ length (now text)) × (b .types ≤ 262145) ⌝ }
+    ensures { λ r. ⌜ (cameOf r (now (work .exit)) (now (text .exit)) (now (list .exit)) ≡ requestedNoted (upTo (entriesIn (now (list .entry)))) b (now (section .entry)) id [] len (now (work .entry)) (now (text .entry))) × (r .count ≤ entriesIn (now (list .entry))) × (r .reached .len ≤ length (now (text .exit))) ⌝ }
+{
+    let from = len as usize;
+    let to = limit(text.len(), from);
+    let p = Pen { at: 0, count: 0 };
+    let d = dump_noted(b, section, work, &mut text[from..to], list, p, id);
+    let r = arrived(len, to - from, d.at);
+    Told {
+        reached: r,
+        count: count_after(r.number, d.count),
+    }
+}
+
+// Zeroes what follows the entries.
+fn clear_causes(list: &mut [u8], count: usize)
+    requires { ⌜ count ≤ entriesIn (now list) ⌝ }
+    ensures { λ _. ⌜ now (list .exit) ≡ filled (length (now (list .entry))) (entriesOf count (now (list .entry))) ⌝ }
+{
+    let from = count * 12;
+    if list.len() <= from {
+        return;
+    }
+    clear(&mut list[from..]);
+}
+
+pub fn dump_type_causes(
+    s: Session,
+    section: &[u8],
+    work: &mut [u8],
+    text: &mut [u8],
+    list: &mut [u8],
+    id: u32,
+) -> Explained
+    ensures { λ r. ⌜ explainedOf r (now (work .exit)) (now (text .exit)) (now (list .exit)) ≡ typeCauses s (now (section .entry)) (now (work .entry)) (now (text .entry)) id (now (list .entry)) ⌝ }
+{
+    if !is_current(s, section.len(), work.len(), text.len()) {
+        return Explained {
+            turn: turn_of(s, 11, s.text_len),
+            count: 0,
+        };
+    }
+    if s.types <= id {
+        return Explained {
+            turn: turn_of(s, 10, s.text_len),
+            count: 0,
+        };
+    }
+    let b = btf_of(section, s.pointer_size, s.modes, s.types);
+    let r = dump_one(b, section, work, text, list, s.text_len, id);
+    let turn = settle(s, work, text, r.reached);
+    clear_causes(list, r.count);
+    Explained {
+        turn: turn,
+        count: r.count,
+    }
+}

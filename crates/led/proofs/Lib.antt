@@ -1,0 +1,2 @@
+pub mod Leaders
+pub mod Requests

@@ -1,0 +1,167 @@
+// The lines of the text, each with its entry in the lent list: three words, before any other step of the line.
+use btf::Btf;
+use btf::BtfType;
+use leads::leader_of;
+use lent::put_word;
+use lines::emit_definition;
+use lines::emit_forward;
+use strings::is_builtin;
+use strings::is_named;
+use text::stop;
+use text::stopped;
+ghost use mathlib.Core.Path.{_≡_};
+ghost use mathlib.Core.Bool.{true};
+ghost use mathlib.Core.List.{List};
+ghost use Prim.Native.Nat.{ℕ, _<_, _/_};
+ghost use lib.ListN.{length};
+ghost use Rattle.rules.specs.Machine.{obind};
+ghost use Rattle.alignments.specs.Writers.{definitionOnce, forwardOnce};
+ghost use Rattle.asked.specs.Asked.{workAsks};
+ghost use Rattle.btf.specs.Table.{typeOf, btfOf, workNaming};
+ghost use Rattle.causes.specs.Causes.{causeAt, entriesIn};
+ghost use Rattle.leads.specs.Leads.{entryIn};
+ghost use Rattle.noted.specs.Noted.{entryOf, entryPut, notedOut, noteN, noteIfN, lineN, shownOf};
+
+// The next place in the text, and how many entries the list has.
+pub struct Pen {
+    pub at: usize,
+    pub count: usize,
+}
+
+// An entry: the id of a line, its cause, and the id that led there.
+pub struct Cause {
+    pub id: u32,
+    pub cause: u32,
+    pub leader: u32,
+}
+
+// The requested id, and which request of the call it is.
+pub struct Asked {
+    pub req: u32,
+    pub turn: u32,
+}
+
+// The entry of a listed id.
+pub fn listed_cause(leads: &[u64], q: Asked, id: u32) -> Cause
+    ensures { λ r. ⌜ entryOf r ≡ entryIn (q .req) (q .turn) (now (leads .entry)) id ⌝ }
+{
+    if id == q.req {
+        return Cause {
+            id: id,
+            cause: 0,
+            leader: id,
+        };
+    }
+    Cause {
+        id: id,
+        cause: 1,
+        leader: leader_of(leads, q.req, q.turn, id),
+    }
+}
+
+// At the top a line is there because its id is listed, within a container because of that.
+pub fn cause_at(leads: &[u64], q: Asked, within: u32, id: u32, cont_id: u32) -> Cause
+    ensures { λ r. ⌜ entryOf r ≡ causeAt within (entryIn (q .req) (q .turn) (now (leads .entry)) id) id «cont_id» ⌝ }
+{
+    if cont_id == 0 {
+        return listed_cause(leads, q, id);
+    }
+    Cause {
+        id: id,
+        cause: within,
+        leader: cont_id,
+    }
+}
+
+fn put_entry(list: &mut [u8], k: usize, e: Cause)
+    requires { ⌜ k < length (now list) / 12 ⌝ }
+    ensures { λ _. ⌜ now (list .exit) ≡ entryPut (now (list .entry)) k e ⌝ }
+{
+    put_word(list, k * 3, e.id);
+    put_word(list, k * 3 + 1, e.cause);
+    put_word(list, k * 3 + 2, e.leader);
+}
+
+// One more entry, or 17.
+fn note(text: &[u8], list: &mut [u8], p: Pen, e: Cause) -> Pen
+    ensures { λ r. ⌜ ((n : ℕ) (w : List ℕ) → notedOut n r (now (text .entry)) w (now (list .exit)) ≡ obind (notedOut n p (now (text .entry)) w (now (list .entry))) (λ m. noteN (entriesIn (now (list .entry))) (entryOf e) m)) ⌝ }
+{
+    if stopped(text, p.at) {
+        return p;
+    }
+    if list.len() / 12 <= p.count {
+        return Pen {
+            at: stop(text, p.at, 17),
+            count: p.count,
+        };
+    }
+    put_entry(list, p.count, e);
+    Pen {
+        at: p.at,
+        count: p.count + 1,
+    }
+}
+
+fn note_if(text: &[u8], list: &mut [u8], p: Pen, e: Cause, shown: bool) -> Pen
+    ensures { λ r. ⌜ ((n : ℕ) (w : List ℕ) → notedOut n r (now (text .entry)) w (now (list .exit)) ≡ obind (notedOut n p (now (text .entry)) w (now (list .entry))) (λ m. noteIfN shown (entriesIn (now (list .entry))) (entryOf e) m)) ⌝ }
+{
+    if shown {
+        return note(text, list, p, e);
+    }
+    p
+}
+
+// Whether the forward line or the typedef of a type prints anything: that of the compiler's own type does not.
+fn is_shown(b: Btf, section: &[u8], t: BtfType) -> bool
+    ensures { λ r. ⌜ r ≡ shownOf (typeOf b (now (section .entry)) t) ⌝ }
+{
+    if is_named(b, section, t) {
+        return !is_builtin(b, section, t.name_off);
+    }
+    true
+}
+
+// The definition of a composite, an enum or a forward, with its entry.
+pub fn define(
+    b: Btf,
+    section: &[u8],
+    work: &mut [u8],
+    text: &mut [u8],
+    list: &mut [u8],
+    p: Pen,
+    id: u32,
+    t: BtfType,
+    e: Cause,
+) -> Pen
+    ensures { λ r. ⌜ ((n : ℕ) → notedOut n r (now (text .exit)) (now (work .exit)) (now (list .exit)) ≡ obind (notedOut n p (now (text .entry)) (now (work .entry)) (now (list .entry))) (λ m. lineN (entriesIn (now (list .entry))) true (entryOf e) (definitionOnce (workAsks (b .types) (btfOf b (now (section .entry)) (now (work .entry)))) (workNaming b) (btfOf b (now (section .entry)) (now (work .entry))) id (typeOf b (now (section .entry)) t)) m)) ⌝ }
+{
+    let q = note(text, list, p, e);
+    let a = emit_definition(b, section, work, text, q.at, id, t);
+    Pen {
+        at: a,
+        count: q.count,
+    }
+}
+
+// A composite's forward line or a typedef, with its entry if it prints anything.
+pub fn forward(
+    b: Btf,
+    section: &[u8],
+    work: &mut [u8],
+    text: &mut [u8],
+    list: &mut [u8],
+    p: Pen,
+    id: u32,
+    t: BtfType,
+    e: Cause,
+) -> Pen
+    ensures { λ r. ⌜ ((n : ℕ) → notedOut n r (now (text .exit)) (now (work .exit)) (now (list .exit)) ≡ obind (notedOut n p (now (text .entry)) (now (work .entry)) (now (list .entry))) (λ m. lineN (entriesIn (now (list .entry))) (shownOf (typeOf b (now (section .entry)) t)) (entryOf e) (forwardOnce (workAsks (b .types) (btfOf b (now (section .entry)) (now (work .entry)))) (workNaming b) (btfOf b (now (section .entry)) (now (work .entry))) id (typeOf b (now (section .entry)) t)) m)) ⌝ }
+{
+    let shown = is_shown(b, section, t);
+    let q = note_if(text, list, p, e, shown);
+    let a = emit_forward(b, section, work, text, q.at, id, t);
+    Pen {
+        at: a,
+        count: q.count,
+    }
+}

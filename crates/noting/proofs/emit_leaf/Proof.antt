@@ -1,0 +1,54 @@
+use Rattle.noted.proofs.Walk as walk
+use borrow.Author.Needs.{needs}
+use Rattle.noting.proofs.emit_leaf.Statement.{statement}
+use Rattle.noting.proofs.emit_leaf.Tie as tie
+use Rattle.noting.proofs.emit_leaf.Reads as reads
+use Rattle.noting.proofs.emit_leaf.Lts as lts
+use Rattle.noted.proofs.cause_at.Reads as cause-at-reads
+use Rattle.noted.proofs.define.Reads as define-reads
+use Rattle.noting.proofs.set_emit_state.Reads as set-emit-state-reads
+
+cause-at-requires : tie.Need-cause-at-requires
+cause-at-requires c κs = search needs
+
+define-requires : tie.Need-define-requires
+define-requires c κs = search needs
+
+set-emit-state-requires : tie.Need-set-emit-state-requires
+set-emit-state-requires c κs = search needs
+
+same-length : tie.Need-same-length
+same-length c = search needs
+
+same-length-2 : tie.Need-same-length-2
+same-length-2 c = search needs
+
+same-length-3 : tie.Need-same-length-3
+same-length-3 c = search needs
+
+returns : tie.Need-returns
+returns c = λ n. walk.leaf-shown _ _ _ _ n _ _ _ _ _ _ _ (c .before .before .before .before .before .before .before .before .before .before .before .before .before .before .before .before .before .before .before .before .before .pre) _ (c .before .before .before .before .before .before .before .before .before .before .before .before .before .before .before .if1 .taken) _ (c .before .before .before .before .before .before .before .before .before .before .before .before .before .before .cause-at .ensures) _ _ _ _ _ (c .before .before .before .before .before .before .before .before .before .before .define .ensures n) (c .before .before .set-emit-state .ensures)
+
+set-emit-state-requires-2 : tie.Need-set-emit-state-requires-2
+set-emit-state-requires-2 c κs = search needs
+
+same-length-4 : tie.Need-same-length-4
+same-length-4 c = search needs
+
+returns-2 : tie.Need-returns-2
+returns-2 c = λ n. walk.leaf-quiet _ _ _ _ n _ _ _ _ _ _ _ (c .before .before .before .before .before .before .before .before .before .before .pre) _ (c .before .before .before .before .if1 .left) _ (c .before .before .set-emit-state2 .ensures)
+
+pub emit-leaf-spec : {M : Type 1} → statement M
+emit-leaf-spec =
+    tie.close
+    (tie.spec
+    cause-at-requires
+    define-requires
+    set-emit-state-requires
+    same-length
+    same-length-2
+    same-length-3
+    returns
+    set-emit-state-requires-2
+    same-length-4
+    returns-2)

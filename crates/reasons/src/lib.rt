@@ -1,0 +1,101 @@
+// One request with an entry for each line: ordering, then the lines of the listed ids, from the list's first to its last.
+use btf::Btf;
+use leading::order_led;
+use leads::Way;
+use marks::Order;
+use marks::clear_listed;
+use marks::get_listed;
+use noted::Asked;
+use noted::Pen;
+use noting::emit_noted;
+use text::stop;
+ghost use mathlib.Core.Path.{_≡_};
+ghost use mathlib.Core.List.{[]};
+ghost use Rattle.text.specs.Text.{cut, putOut, putText};
+ghost use Rattle.rules.specs.Machine.{obind, eeach};
+ghost use Rattle.btf.specs.Table.{btfOf};
+ghost use Rattle.sheet.specs.Sheet.{sheetStore, emptied};
+ghost use Rattle.causes.specs.Causes.{entriesIn};
+ghost use Rattle.leads.specs.Leads.{entryIn};
+ghost use Rattle.noted.specs.Noted.{notedOut, emitN};
+ghost use Rattle.reasons.specs.Reasons.{dumpedKept};
+
+// Emits the first n ids of the order list.
+fn emit_listed(
+    b: Btf,
+    section: &[u8],
+    work: &mut [u8],
+    text: &mut [u8],
+    list: &mut [u8],
+    leads: &[u64],
+    q: Asked,
+    p: Pen,
+    n: u32,
+) -> Pen
+    ensures { λ r. ⌜ notedOut n r (now (text .exit)) (now (work .exit)) (now (list .exit)) ≡ obind (notedOut n p (now (text .entry)) (now (work .entry)) (now (list .entry))) (λ m. eeach (emitN b (btfOf b (now (section .entry)) (now (work .entry))) (entriesIn (now (list .entry))) (entryIn (q .req) (q .turn) (now (leads .entry))) 512 0) (sheetStore .list (m .mach)) m) ⌝ }
+{
+    let mut a = p;
+    let mut k: u32 = 0;
+    while k < n {
+        let id = get_listed(work, k);
+        a = emit_noted(b, section, work, text, list, leads, q, a, id, 0, 512);
+        k += 1;
+    }
+    a
+}
+
+// Empties the first n places of the order list.
+fn clear_list(work: &mut [u8], n: u32)
+    ensures { λ _. ⌜ now (work .exit) ≡ emptied n (now (work .entry)) ⌝ }
+{
+    let mut k: u32 = 0;
+    while k < n {
+        clear_listed(work, k);
+        k += 1;
+    }
+}
+
+// Stopped by a refusal.
+fn stop_at(text: &[u8], p: Pen, c: u32) -> Pen
+    ensures { λ r. ⌜ putOut (r .at) (now (text .entry)) ≡ putText (now (text .entry)) (p .at) (cut [] c) ⌝ }
+{
+    Pen {
+        at: stop(text, p.at, c),
+        count: p.count,
+    }
+}
+
+// The place after the text of the request and the count of entries after it; or a place past the end that says which
+// refusal stopped it.
+pub fn dump_noted(
+    b: Btf,
+    section: &[u8],
+    work: &mut [u8],
+    text: &mut [u8],
+    list: &mut [u8],
+    p: Pen,
+    id: u32,
+) -> Pen
+    ensures { λ r. ⌜ notedOut 0 r (now (text .exit)) (now (work .exit)) (now (list .exit)) ≡ obind (notedOut 0 p (now (text .entry)) (now (work .entry)) (now (list .entry))) (λ m. dumpedKept b (btfOf b (now (section .entry)) (now (work .entry))) (entriesIn (now (list .entry))) m id) ⌝ }
+{
+    let mut leads = [0u64; 262145];
+    let start = Order {
+        spare: 0,
+        len: 0,
+        stop: 0,
+        is_strong: false,
+    };
+    let v = Way {
+        inner: id,
+        lead: id,
+        turn: 1,
+    };
+    let o = order_led(b, section, work, &mut leads, start, id, false, 512, v);
+    if o.stop != 0 {
+        return stop_at(text, p, o.stop);
+    }
+    let q = Asked { req: id, turn: 1 };
+    let r = emit_listed(b, section, work, text, list, &leads, q, p, o.len);
+    clear_list(work, o.len);
+    r
+}
