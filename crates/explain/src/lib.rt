@@ -89,7 +89,7 @@ pub fn dump_type_causes(
     list: &mut [u8],
     id: u32,
 ) -> Explained
-    ensures { λ r. ⌜ explainedOf r (now (work .exit)) (now (text .exit)) (now (list .exit)) ≡ typeCauses s (now (section .entry)) (now (work .entry)) (now (text .entry)) id (now (list .entry)) ⌝ }
+    ensures { λ r. ⌜ (explainedOf r (now (work .exit)) (now (text .exit)) (now (list .exit)) ≡ typeCauses s (now (section .entry)) (now (work .entry)) (now (text .entry)) id (now (list .entry))) × (r .count ≤ entriesIn (now (list .entry))) ⌝ }
 {
     if !is_current(s, section.len(), work.len(), text.len()) {
         return Explained {

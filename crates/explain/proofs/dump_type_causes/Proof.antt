@@ -1,3 +1,4 @@
+use Prim.Native.Nat.{zero-le}
 use Rattle.turns.proofs.Laws as ends
 use Rattle.explain.proofs.Laws as laws
 use borrow.Author.Needs.{needs}
@@ -19,13 +20,13 @@ turn-of-requires : tie.Need-turn-of-requires
 turn-of-requires c κs = search needs
 
 returns : tie.Need-returns
-returns c = laws.type-11 _ _ _ _ _ _ (c .before .before .is-current .ensures) (c .before .if1 .taken) _ (c .turn-of .ensures) _
+returns c = (laws.type-11 _ _ _ _ _ _ (c .before .before .is-current .ensures) (c .before .if1 .taken) _ (c .turn-of .ensures) _, zero-le)
 
 turn-of-requires-2 : tie.Need-turn-of-requires-2
 turn-of-requires-2 c κs = search needs
 
 returns-2 : tie.Need-returns-2
-returns-2 c = laws.type-10 _ _ _ _ _ _ (c .before .before .before .before .is-current .ensures) (c .before .before .before .if1 .left) _ (c .before .if2 .taken) _ (c .turn-of2 .ensures)
+returns-2 c = (laws.type-10 _ _ _ _ _ _ (c .before .before .before .before .is-current .ensures) (c .before .before .before .if1 .left) _ (c .before .if2 .taken) _ (c .turn-of2 .ensures), zero-le)
 
 btf-of-requires : tie.Need-btf-of-requires
 btf-of-requires c κs = search needs
@@ -49,7 +50,7 @@ same-length-3 : tie.Need-same-length-3
 same-length-3 c = search needs
 
 returns-3 : tie.Need-returns-3
-returns-3 c = laws.type-done _ _ _ _ _ _ (c .before .before .before .before .before .before .before .before .before .before .before .before .before .before .before .before .before .before .before .before .before .before .before .before .before .is-current .ensures) (c .before .before .before .before .before .before .before .before .before .before .before .before .before .before .before .before .before .before .before .before .before .before .before .before .if1 .left) _ (c .before .before .before .before .before .before .before .before .before .before .before .before .before .before .before .before .before .before .before .before .before .btf-of .ensures) _ _ _ _ (c .before .before .before .before .before .before .before .before .before .before .before .before .before .before .before .before .before .dump-one .kept .1 .1 .0) (c .before .before .before .before .before .before .before .before .before .before .before .before .before .before .before .before .before .dump-one .kept .1 .1 .1 .0) (c .before .before .before .before .before .before .before .before .before .before .before .before .before .before .before .before .before .dump-one .kept .1 .1 .1 .1 .0) _ _ _ _ (c .before .before .before .before .before .before .before .before .settle .ensures) (c .before .before .clear-causes .ensures) _ (c .before .before .before .before .before .before .before .before .before .before .before .before .before .before .before .before .before .before .before .before .before .before .if2 .left) (c .before .before .before .before .before .before .before .before .before .before .before .before .before .before .before .before .before .dump-one .ensures .0)
+returns-3 c = (laws.type-done _ _ _ _ _ _ (c .before .before .before .before .before .before .before .before .before .before .before .before .before .before .before .before .before .before .before .before .before .before .before .before .before .is-current .ensures) (c .before .before .before .before .before .before .before .before .before .before .before .before .before .before .before .before .before .before .before .before .before .before .before .before .if1 .left) _ (c .before .before .before .before .before .before .before .before .before .before .before .before .before .before .before .before .before .before .before .before .before .btf-of .ensures) _ _ _ _ (c .before .before .before .before .before .before .before .before .before .before .before .before .before .before .before .before .before .dump-one .kept .1 .1 .0) (c .before .before .before .before .before .before .before .before .before .before .before .before .before .before .before .before .before .dump-one .kept .1 .1 .1 .0) (c .before .before .before .before .before .before .before .before .before .before .before .before .before .before .before .before .before .dump-one .kept .1 .1 .1 .1 .0) _ _ _ _ (c .before .before .before .before .before .before .before .before .settle .ensures) (c .before .before .clear-causes .ensures) _ (c .before .before .before .before .before .before .before .before .before .before .before .before .before .before .before .before .before .before .before .before .before .before .if2 .left) (c .before .before .before .before .before .before .before .before .before .before .before .before .before .before .before .before .before .dump-one .ensures .0), c .before .before .before .before .before .before .before .before .before .before .before .before .before .before .before .before .before .dump-one .ensures .1)
 
 pub dump-type-causes-spec : {M : Type 1} → statement M
 dump-type-causes-spec =
