@@ -1,4 +1,4 @@
--- The loops of the rules (Decl) turn by turn: what one entry of a chain, one parameter, one member prints, and what stands
+-- The loops of the rules (Decl, and alignments/specs/Writers) turn by turn: what one entry of a chain, one parameter, one member prints, and what stands
 -- after it. That a loop is its first turn and then the rest is proved (proofs/Turns.antt); only private functions promise
 -- what is defined here.
 use Prim.Native.Nat.{ℕ}
@@ -11,8 +11,9 @@ use Rattle.text.specs.Decimal.{decimal}
 use Rattle.rules.specs.Writer.{Ask, got, no, Writer, _⨾_, put, nothing, given}
 use Rattle.rules.specs.Types.{Name, isEmpty, Member, Param, Enumerator, BtfType, Btf}
 use Rattle.rules.specs.Names.{Naming}
-use Rattle.rules.specs.Layout.{Pad, bitPadding, endOf}
-use Rattle.rules.specs.Decl.{Entry, base, star, qual, array, proto, tag, mods, noMods, qualifier, attribute, brackets, pads, bitSize, emitDeclTags, emitEnumDef, enumWord, emitParam, emitParams, baseWord, emitArray, emitProto, paramList, chainLoop, emitMembers, emitTypeDecl, emitTypeChain, emitCompositeDef}
+use Rattle.rules.specs.Layout.{Pad, endOf}
+use Rattle.rules.specs.Decl.{Entry, base, star, qual, array, proto, tag, mods, noMods, qualifier, attribute, brackets, pads, bitSize, emitDeclTags, emitEnumDef, enumWord, emitParam, emitParams, baseWord, emitArray, emitProto, paramList, chainLoop}
+use Rattle.alignments.specs.Writers.{Asks, givenOnce, emitMembersOnce, emitTypeDeclOnce, emitTypeChainOnce, emitCompositeDefOnce}
 
 -- ---- the chain: the entry on top of it
 
@@ -73,32 +74,32 @@ unfoldable pub sizeText : ℕ → List ℕ
 sizeText bit-size = elim (eqb bit-size 0) [ true ↦ [] | false ↦ ascii ": " ++ decimal bit-size ]
 
 -- ---- the parts of chainLoop with the three that they call. `below` is how many more of the three may be open.
-module _ {U : Type 0} (N : Naming U) (B : Btf) (below : ℕ) where
+module _ {U : Type 0} (Q : Asks U) (N : Naming U) (B : Btf) (below : ℕ) where
   -- the base's own words, which say nothing of the declared name
   abbrev pub wordBelow : ℕ → ℕ → BtfType → Writer U
-  wordBelow lvl id t = baseWord N B (emitTypeDecl N B below) (emitTypeChain N B below) (emitCompositeDef N B below) [] lvl id t
+  wordBelow lvl id t = baseWord N B (emitTypeDeclOnce Q N B below) (emitTypeChainOnce Q N B below) (emitCompositeDefOnce Q N B below) [] lvl id t
 
   -- the parameters in parentheses, those that are shown
   abbrev pub paramsBelow : ℕ → List Param → Writer U
-  paramsBelow lvl ps = put (ascii "(") ⨾ emitParams (λ id name. emitTypeDecl N B below id name lvl) true ps ⨾ put (ascii ")")
+  paramsBelow lvl ps = put (ascii "(") ⨾ emitParams (λ id name. emitTypeDeclOnce Q N B below id name lvl) true ps ⨾ put (ascii ")")
 
   module _ (fname : Name) (lvl : ℕ) where
     abbrev pub arrayBelow : Bool → List Entry → Writer U
-    arrayBelow last-was-ptr c = emitArray N B (emitTypeDecl N B below) (emitTypeChain N B below) (emitCompositeDef N B below) fname lvl last-was-ptr c
+    arrayBelow last-was-ptr c = emitArray N B (emitTypeDeclOnce Q N B below) (emitTypeChainOnce Q N B below) (emitCompositeDefOnce Q N B below) fname lvl last-was-ptr c
 
     abbrev pub protoBelow : Bool → List Entry → Writer U
-    protoBelow last-was-ptr c = emitProto N B (emitTypeDecl N B below) (emitTypeChain N B below) (emitCompositeDef N B below) fname lvl last-was-ptr c
+    protoBelow last-was-ptr c = emitProto N B (emitTypeDeclOnce Q N B below) (emitTypeChainOnce Q N B below) (emitCompositeDefOnce Q N B below) fname lvl last-was-ptr c
 
     abbrev pub paramListBelow : List Param → Writer U
-    paramListBelow ps = paramList N B (emitTypeDecl N B below) (emitTypeChain N B below) (emitCompositeDef N B below) fname lvl ps
+    paramListBelow ps = paramList N B (emitTypeDeclOnce Q N B below) (emitTypeChainOnce Q N B below) (emitCompositeDefOnce Q N B below) fname lvl ps
 
     abbrev pub loopBelow : ℕ → Bool → List Entry → Writer U
-    loopBelow n last-was-ptr c = chainLoop N B (emitTypeDecl N B below) (emitTypeChain N B below) (emitCompositeDef N B below) fname lvl n last-was-ptr c
+    loopBelow n last-was-ptr c = chainLoop N B (emitTypeDeclOnce Q N B below) (emitTypeChainOnce Q N B below) (emitCompositeDefOnce Q N B below) fname lvl n last-was-ptr c
 
     -- what the entry on top prints: a turn of chainLoop
     unfoldable pub entryText : Bool → List Entry → Writer U
     entryText last-was-ptr [] = nothing
-    entryText last-was-ptr (base id ∷ c) = put (mods c) ⨾ baseWord N B (emitTypeDecl N B below) (emitTypeChain N B below) (emitCompositeDef N B below) fname lvl id (B .type-by-id id)
+    entryText last-was-ptr (base id ∷ c) = put (mods c) ⨾ baseWord N B (emitTypeDeclOnce Q N B below) (emitTypeChainOnce Q N B below) (emitCompositeDefOnce Q N B below) fname lvl id (B .type-by-id id)
     entryText last-was-ptr (star ∷ c) = put (starText last-was-ptr)
     entryText last-was-ptr (qual q ∷ c) = put (ascii " " ++ qualifier q)
     entryText last-was-ptr (array k ∷ c) = arrayBelow last-was-ptr (noMods c) ⨾ put (brackets k)
@@ -117,16 +118,16 @@ paramText decl first p is-last = put (comma first) ⨾ emitParam decl p is-last
 unfoldable pub memberTail : {U : Type 0} → Btf → ℕ → ℕ → Member → Writer U
 memberTail B id i m = put (bitSize m) ⨾ given (endOf B m) (λ end. emitDeclTags B id i ⨾ put (ascii ";"))
 
-module _ {U : Type 0} (N : Naming U) (B : Btf) (below : ℕ) (id : ℕ) where
+module _ {U : Type 0} (Q : Asks U) (N : Naming U) (B : Btf) (below : ℕ) (id : ℕ) where
   unfoldable pub memberText : ℕ → Bool → ℕ → ℕ → Member → Writer U
   memberText lvl packed i offset m =
-      given (bitPadding B offset m packed) (λ ps. put (pads lvl ps))
+      givenOnce (Q .padding offset m packed) (λ ps. put (pads lvl ps))
       ⨾ put (ascii "\n") ⨾ put (pfx lvl)
-      ⨾ emitTypeDecl N B below (m .type-id) (m .name) lvl
+      ⨾ emitTypeDeclOnce Q N B below (m .type-id) (m .name) lvl
       ⨾ memberTail B id i m
 
   abbrev pub membersBelow : (ℕ → List Pad) → ℕ → Bool → ℕ → ℕ → List Member → Writer U
-  membersBelow tail lvl packed i offset ms = emitMembers N B (emitTypeDecl N B below) id tail lvl packed i offset ms
+  membersBelow tail lvl packed i offset ms = emitMembersOnce Q N B (emitTypeDeclOnce Q N B below) id tail lvl packed i offset ms
 
 -- where the next member may begin; 0 where there is no answer, and no next member either
 unfoldable pub endFrom : Ask ℕ → ℕ

@@ -17,9 +17,9 @@ use Rattle.rules.specs.Types.{Btf as Rules, tableOf}
 use Rattle.rules.specs.Writer.{Said, said, saidText, Writer}
 use Rattle.rules.specs.Place.{withNames, putSaid}
 use Rattle.rules.proofs.Closed.{Code}
-use Rattle.rules.proofs.Refusals.{Told, told, cut-by, Tells, tells-definition, tells-forward}
+use Rattle.rules.proofs.Refusals.{Told, told, cut-by, Tells}
+use Rattle.refusals.proofs.InWork.{definition-tells, forward-tells}
 use Rattle.btf.specs.declared.types.Btf.{Btf}
-use Rattle.btf.specs.Table.{workNaming}
 use Rattle.sheet.specs.Sheet.{Sheet, sheetStore, sheetOf, lineIn, workMachine, listedOut, dumped}
 
 -- a refusal of a request, by its number in document 01
@@ -247,10 +247,10 @@ module _ (b : Btf) (B : Rules) where
     start-good = λ room m g. g;
     emark-good = λ j x m g. g;
     forwarded-good = λ x m g. g;
-    fwd-fair = λ m x g. fair-line k _ (tells-forward (workNaming b) B x (B .type-by-id x)) m g;
-    alias-fair = λ m x g. fair-line k _ (tells-forward (workNaming b) B x (B .type-by-id x)) m g;
-    leaf-fair = λ m x g. fair-line k _ (tells-definition (workNaming b) B x (B .type-by-id x)) m g;
-    body-fair = λ m x g. fair-line k _ (tells-definition (workNaming b) B x (B .type-by-id x)) m g;
+    fwd-fair = λ m x g. fair-line k _ (forward-tells b B x (B .type-by-id x)) m g;
+    alias-fair = λ m x g. fair-line k _ (forward-tells b B x (B .type-by-id x)) m g;
+    leaf-fair = λ m x g. fair-line k _ (definition-tells b B x (B .type-by-id x)) m g;
+    body-fair = λ m x g. fair-line k _ (definition-tells b B x (B .type-by-id x)) m g;
   }
 
   pub fair-request : (k : ℕ) (m : Sheet) (x : ℕ) → Inside k m → Fair (Inside k) (dumped (workMachine b B) (tableOf B) m x)

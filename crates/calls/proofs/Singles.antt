@@ -18,9 +18,11 @@ use Rattle.rules.specs.Machine.{Out}
 use Rattle.rules.specs.Types.{Btf as Rules, tableOf}
 use Rattle.rules.specs.Writer.{Said, said, saidNames, Writer}
 use Rattle.rules.specs.Place.{withNames, putSaid}
-use Rattle.rules.specs.Emit.{definition, forward}
-use Rattle.rules.proofs.Keeps.{Keeps, keeps-definition, keeps-forward}
-use Rattle.rules.proofs.Refusals.{Tells, tells-definition, tells-forward}
+use Rattle.alignments.specs.Writers.{definitionOnce, forwardOnce}
+use Rattle.asked.specs.Asked.{workAsks}
+use Rattle.refusals.proofs.InWork.{definition-keeps, forward-keeps, definition-tells, forward-tells}
+use Rattle.rules.proofs.Keeps.{Keeps}
+use Rattle.rules.proofs.Refusals.{Tells}
 use Rattle.btf.specs.declared.types.Btf.{Btf}
 use Rattle.btf.specs.Cells.{getField, putField, classP, countP, withMore, counted}
 use Rattle.btf.specs.Numbers.{numberAt}
@@ -91,13 +93,13 @@ sized-line k j v h keeps m g = go (v (m .work)) refl
         (sized-out k j (m .len) u same _ (subst (λ (s : Said (List ℕ)). Fair (Inside k) (sheetOf (m .len) (putSaid (m .text) (m .at) s))) e (fair-line k v h m (g .0, g .1))))
 
 module _ (b : Btf) (B : Rules) where
-  keeps-def : (x : ℕ) → Keeps (λ (u : List ℕ). length u) (definition (workNaming b) B x (B .type-by-id x))
+  keeps-def : (x : ℕ) → Keeps (λ (u : List ℕ). length u) (definitionOnce (workAsks (b .types) B) (workNaming b) B x (B .type-by-id x))
   unfolding workNaming
-  keeps-def x = keeps-definition (workNaming b) (λ (u : List ℕ). length u) (λ space id name w. type-length (b .types) id w) (λ id i name w. value-length (b .types) (enumeratorOf w id i) w) B x (B .type-by-id x)
+  keeps-def x = definition-keeps (λ (u : List ℕ). length u) (λ w v. put-length w (0 * 16 + 2) v) (λ w x v. put-length w (x * 16 + 15) v) b B (λ space id name w. type-length (b .types) id w) (λ id i name w. value-length (b .types) (enumeratorOf w id i) w) x (B .type-by-id x)
 
-  keeps-fwd : (x : ℕ) → Keeps (λ (u : List ℕ). length u) (forward (workNaming b) B x (B .type-by-id x))
+  keeps-fwd : (x : ℕ) → Keeps (λ (u : List ℕ). length u) (forwardOnce (workAsks (b .types) B) (workNaming b) B x (B .type-by-id x))
   unfolding workNaming
-  keeps-fwd x = keeps-forward (workNaming b) (λ (u : List ℕ). length u) (λ space id name w. type-length (b .types) id w) (λ id i name w. value-length (b .types) (enumeratorOf w id i) w) B x (B .type-by-id x)
+  keeps-fwd x = forward-keeps (λ (u : List ℕ). length u) (λ w v. put-length w (0 * 16 + 2) v) (λ w x v. put-length w (x * 16 + 15) v) b B (λ space id name w. type-length (b .types) id w) (λ id i name w. value-length (b .types) (enumeratorOf w id i) w) x (B .type-by-id x)
 
   sized : (k j : ℕ) → Fairly (Sized k j) (workMachine b B)
   unfolding workMachine sheetStore workStore
@@ -107,10 +109,10 @@ module _ (b : Btf) (B : Rules) where
     start-good = λ room m g. (g .0, g .1, emptied-length (m .len) (m .work) ∙ g .2);
     emark-good = λ s x m g. (g .0, g .1, put-length (m .work) _ _ ∙ g .2);
     forwarded-good = λ x m g. (g .0, g .1, put-length (m .work) (x * 16 + 3) 1 ∙ g .2);
-    fwd-fair = λ m x g. sized-line k j _ (tells-forward (workNaming b) B x (B .type-by-id x)) (keeps-fwd x) m g;
-    alias-fair = λ m x g. sized-line k j _ (tells-forward (workNaming b) B x (B .type-by-id x)) (keeps-fwd x) m g;
-    leaf-fair = λ m x g. sized-line k j _ (tells-definition (workNaming b) B x (B .type-by-id x)) (keeps-def x) m g;
-    body-fair = λ m x g. sized-line k j _ (tells-definition (workNaming b) B x (B .type-by-id x)) (keeps-def x) m g;
+    fwd-fair = λ m x g. sized-line k j _ (forward-tells b B x (B .type-by-id x)) (keeps-fwd x) m g;
+    alias-fair = λ m x g. sized-line k j _ (forward-tells b B x (B .type-by-id x)) (keeps-fwd x) m g;
+    leaf-fair = λ m x g. sized-line k j _ (definition-tells b B x (B .type-by-id x)) (keeps-def x) m g;
+    body-fair = λ m x g. sized-line k j _ (definition-tells b B x (B .type-by-id x)) (keeps-def x) m g;
   }
 
   -- a request leaves text and work as long as they were

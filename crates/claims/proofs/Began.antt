@@ -25,6 +25,7 @@ use Rattle.ledger.proofs.Related.{alike-first}
 use Rattle.claims.specs.Table.{headerOf, openedTable}
 use Rattle.claims.specs.Sheet.{Bears}
 use Rattle.claims.proofs.Named.{opened-indexed, opened-fresh}
+use Rattle.claims.proofs.Minded.{opened-minds}
 
 zero-new : markOf 0 ≡ new
 unfolding markOf
@@ -62,4 +63,5 @@ module _ (p modes : ℕ) (s : List ℕ) (n : ℕ) (ok : openingNumber p s n ≡ 
     marks-n = length-replicate (b .types) new;
     emits-n = length-replicate (b .types) new;
     fwds-n = length-replicate (b .types) false;
+    memory = opened-minds p modes s n ok;
   }

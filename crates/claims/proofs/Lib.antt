@@ -3,6 +3,8 @@ pub mod Named
 pub mod Sound
 pub mod Claims
 pub mod Steps
+pub mod Few
+pub mod Minded
 pub mod Began
 pub mod Lines
 pub mod Start

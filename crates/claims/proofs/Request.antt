@@ -29,6 +29,7 @@ use Rattle.demand.proofs.Lists.{Sized}
 use Rattle.demand.proofs.Session.{machine-lawful}
 use Rattle.ledger.specs.Indexed.{Indexed, Fits, FitsValue}
 use Rattle.ledger.specs.Alike.{Alike}
+use Rattle.minds.specs.Work.{Sane}
 use Rattle.claims.specs.Sheet.{Bears, Shows, BothLine, lines-on, lines-stop, BothRequest, both-served, both-refused}
 use Rattle.claims.proofs.Steps.{mark-step, emark-step, forwarded-step, listed-few, push-step}
 use Rattle.claims.proofs.Start.{start-step}
@@ -60,7 +61,7 @@ more-most n = go (ltb n 4294967295)
     go false = omega arith
 
 -- w is the work after opening; the text so far is `front`, and the room of the request is `room`
-module _ (b : Btf) (e : ℕ) (s w : List ℕ) (I : Indexed b e s w) (N : Naming Names) (R : RelNaming (Alike b e s w) (Fits b s w) (FitsValue b s w) (workNaming b) N)
+module _ (b : Btf) (e : ℕ) (s w : List ℕ) (I : Indexed b e s w) (Z : Sane b (btfOf b s w)) (N : Naming Names) (R : RelNaming (Alike b e s w) (Fits b s w) (FitsValue b s w) (workNaming b) N)
     (wf : WF (tableOf (btfOf b s w))) (front : List ℕ) (room : ℕ) where
   abbrev B : Rules
   B = btfOf b s w
@@ -147,10 +148,10 @@ module _ (b : Btf) (e : ℕ) (s w : List ℕ) (I : Indexed b e s w) (N : Naming 
       same-room = q .same-room;
       short = q .short;
     };
-    a-fwd = λ m t q x l. to-out (m .len) (q .short) (at-room m t q (forward-line b e s w I N R (m .work) (m .len) t (q .bears) front (m .text) (m .at) (q .shows) x));
-    a-alias = λ m t q x l. to-out (m .len) (q .short) (at-room m t q (alias-line b e s w I N R (m .work) (m .len) t (q .bears) front (m .text) (m .at) (q .shows) x));
-    a-leaf = λ m t q x l. to-out (m .len) (q .short) (at-room m t q (leaf-line b e s w I N R (m .work) (m .len) t (q .bears) front (m .text) (m .at) (q .shows) x));
-    a-body = λ m t q x l. to-out (m .len) (q .short) (at-room m t q (body-line b e s w I N R (m .work) (m .len) t (q .bears) front (m .text) (m .at) (q .shows) x));
+    a-fwd = λ m t q x l. to-out (m .len) (q .short) (at-room m t q (forward-line b e s w I Z N R (m .work) (m .len) t (q .bears) front (m .text) (m .at) (q .shows) x));
+    a-alias = λ m t q x l. to-out (m .len) (q .short) (at-room m t q (alias-line b e s w I Z N R (m .work) (m .len) t (q .bears) front (m .text) (m .at) (q .shows) x));
+    a-leaf = λ m t q x l. to-out (m .len) (q .short) (at-room m t q (leaf-line b e s w I Z N R (m .work) (m .len) t (q .bears) front (m .text) (m .at) (q .shows) x));
+    a-body = λ m t q x l. to-out (m .len) (q .short) (at-room m t q (body-line b e s w I Z N R (m .work) (m .len) t (q .bears) front (m .text) (m .at) (q .shows) x));
   }
     where
       at-room : (m : Sheet) (t : State) → Related m t → {o : Wrote (List ℕ)} {l : Out State} → BothLine b e s w front (t .room) (m .len) o l → BothLine b e s w front room (m .len) o l

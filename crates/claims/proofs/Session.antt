@@ -45,6 +45,7 @@ use Rattle.claims.specs.Sheet.{Bears, Shows, BothRequest, both-served, b
 use Rattle.claims.specs.Session.{Holds, Tells, singlesFor, made, After, after-open, after-one, after-all, after-list}
 use Rattle.claims.proofs.Described.{count-described, count-is}
 use Rattle.claims.proofs.Sound.{opened-wf}
+use Rattle.claims.proofs.Minded.{opened-sane}
 use Rattle.claims.proofs.Named.{opened-indexed, opened-names}
 use Rattle.claims.proofs.Start.{start-step}
 use Rattle.claims.proofs.Began.{opened-bears}
@@ -226,7 +227,7 @@ module _ (p modes : ℕ) (s : List ℕ) (n : ℕ) (ok : openingNumber p s n ≡ 
     request-reach l =
         subst (λ (r : Reach). BothReach room r (single X T room L x)) (sym table-now)
         (subst (λ (a : Answer State). BothReach room (cameTo len t (dumped (workMachine b B) T sheet x)) a) (sym (single-is l))
-        (came (request-alike b e s w (opened-indexed p modes s n ok) (namesIn p modes s n) (opened-names p modes s n ok) (opened-wf p modes s n ok) (take len t) room L x sheet refl (g .bears) begins (below l)) positive))
+        (came (request-alike b e s w (opened-indexed p modes s n ok) (opened-sane p modes s n ok) (namesIn p modes s n) (opened-names p modes s n ok) (opened-wf p modes s n ok) (take len t) room L x sheet refl (g .bears) begins (below l)) positive))
 
   -- ---- one after the other
   onward-reach : (room : ℕ) {r : Reach} {a : Answer State} (k₁ : ℕ → List ℕ → List ℕ → Reach) (k : Sess State → Answer State) → BothReach room r a

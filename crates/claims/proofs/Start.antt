@@ -21,6 +21,7 @@ use Rattle.marks.specs.Work.{markOf}
 use Rattle.demand.specs.Lists.{Ls}
 use Rattle.demand.specs.Session.{Known, machine}
 use Rattle.ledger.specs.Alike.{Alike}
+use Rattle.minds.proofs.Lines.{minds-same}
 use Rattle.claims.specs.Sheet.{Bears}
 
 -- no word of a holder that is no word 11 is word 11 of a type
@@ -60,4 +61,5 @@ module _ (b : Btf) (e : ℕ) (s w v v′ : List ℕ) (long : length v′ ≡ len
     marks-n = h .marks-n;
     emits-n = h .emits-n;
     fwds-n = h .fwds-n;
+    memory = minds-same (btfOf b s w) v v′ (record { long = long; aligned = λ j. k (j * 16 + 15) (λ i m q. omega arith); count = k (0 * 16 + 2) (λ i m q. omega arith) }) (h .memory);
   }

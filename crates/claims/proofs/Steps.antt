@@ -28,6 +28,8 @@ use Rattle.demand.specs.Lists.{Ls, listStore}
 use Rattle.demand.specs.Session.{Known, machine}
 use Rattle.ledger.specs.Indexed.{Indexed, Kept}
 use Rattle.ledger.specs.Alike.{Alike}
+use Rattle.minds.proofs.Work.{memory-put}
+use Rattle.minds.proofs.Lines.{minds-same}
 use Rattle.claims.specs.Sheet.{Bears}
 
 mark-code : (k : Mark) → markOf (code k) ≡ k
@@ -103,6 +105,7 @@ module _ (b : Btf) (e : ℕ) (s w : List ℕ) (I : Indexed b e s w) where
       marks-n = length-set (t .marks) x k ∙ h .marks-n;
       emits-n = h .emits-n;
       fwds-n = h .fwds-n;
+      memory = minds-same (btfOf b s w) v (putField v x 1 (code k)) (memory-put v (x * 16 + 1) (code k) (λ q. omega arith) (λ q. omega arith)) (h .memory);
     }
 
     -- emission's mark
@@ -117,6 +120,7 @@ module _ (b : Btf) (e : ℕ) (s w : List ℕ) (I : Indexed b e s w) where
       marks-n = h .marks-n;
       emits-n = length-set (t .emits) x k ∙ h .emits-n;
       fwds-n = h .fwds-n;
+      memory = minds-same (btfOf b s w) v (putField v x 13 (code k)) (memory-put v (x * 16 + 13) (code k) (λ q. omega arith) (λ q. omega arith)) (h .memory);
     }
 
     -- the flag of a forward line
@@ -131,6 +135,7 @@ module _ (b : Btf) (e : ℕ) (s w : List ℕ) (I : Indexed b e s w) where
       marks-n = h .marks-n;
       emits-n = h .emits-n;
       fwds-n = length-set (t .fwds) x true ∙ h .fwds-n;
+      memory = minds-same (btfOf b s w) v (putField v x 3 1) (memory-put v (x * 16 + 3) 1 (λ q. omega arith) (λ q. omega arith)) (h .memory);
     }
 
     -- one more on the order list
@@ -159,4 +164,5 @@ module _ (b : Btf) (e : ℕ) (s w : List ℕ) (I : Indexed b e s w) where
       marks-n = h .marks-n;
       emits-n = h .emits-n;
       fwds-n = h .fwds-n;
+      memory = minds-same (btfOf b s w) v (putField v len 11 x) (memory-put v (len * 16 + 11) x (λ q. omega arith) (λ q. omega arith)) (h .memory);
     }

@@ -19,6 +19,7 @@ use Rattle.demand.specs.Lists.{Ls}
 use Rattle.sheet.specs.Sheet.{Sheet}
 use Rattle.demand.specs.Session.{Known, textOf, machine}
 use Rattle.ledger.specs.Alike.{Alike}
+use Rattle.minds.specs.Work.{Minds}
 
 -- w is the work after opening
 module _ (b : Btf) (e : ℕ) (s w : List ℕ) where
@@ -34,6 +35,8 @@ module _ (b : Btf) (e : ℕ) (s w : List ℕ) where
     pub marks-n : length (t .marks) ≡ b .types
     pub emits-n : length (t .emits) ≡ b .types
     pub fwds-n : length (t .fwds) ≡ b .types
+    -- what is remembered of alignments is what get_align_of says
+    pub memory : Minds (btfOf b s w) v
 
   -- The text: its front, from before the request, and the slice that the request is lent. They are as long as the room, and no longer than
   -- 2^30 bytes. What was written stands in the front and in the slice up to the next place.

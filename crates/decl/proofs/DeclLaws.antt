@@ -8,7 +8,8 @@ use lib.ListN.{length}
 use Rattle.text.specs.Text.{whole, cut, putOut, putText}
 use Rattle.rules.specs.Writer.{Said, Writer, stop, nothing, _⨾_}
 use Rattle.rules.specs.Types.{Name}
-use Rattle.rules.specs.Decl.{Entry, base, star, qual, array, proto, tag, chainOf, emitName, emitTypeDecl, emitTypeChain}
+use Rattle.rules.specs.Decl.{Entry, base, star, qual, array, proto, tag, chainOf, emitName}
+use Rattle.alignments.specs.Writers.{emitTypeDeclOnce, emitTypeChainOnce}
 use Rattle.rules.specs.Place.{outOf, putSaid}
 use Rattle.rules.proofs.Writing.{stop-only, put-nothing, put-given, put-refused}
 use Rattle.btf.specs.declared.types.Btf.{Btf}
@@ -22,36 +23,36 @@ use Rattle.decl.specs.declared.Chain.{Chain}
 use Rattle.bodies.specs.Pieces.{entryLeft, entryStar, entryNamed, entryText, chainRest}
 use Rattle.decl.proofs.Turns.{chain-turn, chain-done, chain-named, decl-none, chain-none, decl-some, chain-some}
 use Rattle.decl.proofs.Kept.{seen, Leads, leads-end, leads-turn}
-use Rattle.decl.proofs.Keeping.{said-as, put-emit-name, N, T, kept-entry}
+use Rattle.decl.proofs.Keeping.{said-as, put-emit-name, N, Q, T, kept-entry}
 
 module _ (b : Btf) (s : List ℕ) where
   -- ---- emit_type_decl
   module _ (t : List ℕ) (at : ℕ) (u : List ℕ) (id : ℕ) (fname : Name) (lvl left r : ℕ) where
-    pub decl-zero : left ≡ 0 → putOut r t ≡ putText t at (cut [] 12) → outOf r t u ≡ putSaid t at (emitTypeDecl (N b s) (T b s u) left id fname lvl u)
-    decl-zero e o = said-as t at (stop 12) _ u r t u (sym (decl-none (N b s) (T b s u) left id fname lvl e)) (stop-only t at 12 u r t o)
+    pub decl-zero : left ≡ 0 → putOut r t ≡ putText t at (cut [] 12) → outOf r t u ≡ putSaid t at (emitTypeDeclOnce (Q b s (T b s u)) (N b s) (T b s u) left id fname lvl u)
+    decl-zero e o = said-as t at (stop 12) _ u r t u (sym (decl-none (Q b s (T b s u)) (N b s) (T b s u) left id fname lvl e)) (stop-only t at 12 u r t o)
 
     module _ (h : left ≡ 0 → ⊥) (x : Code) (a : chainIs b s u id x ≡ chainOf 512 (T b s u) id []) where
       pub decl-got : (n : ℕ) (t′ u′ : List ℕ) → x ≡ Got n
-          → outOf r t′ u′ ≡ putSaid t at (emitTypeChain (N b s) (T b s u) (left - 1) (chainAt b s u id n) fname lvl u) → outOf r t′ u′ ≡ putSaid t at (emitTypeDecl (N b s) (T b s u) left id fname lvl u)
+          → outOf r t′ u′ ≡ putSaid t at (emitTypeChainOnce (Q b s (T b s u)) (N b s) (T b s u) (left - 1) (chainAt b s u id n) fname lvl u) → outOf r t′ u′ ≡ putSaid t at (emitTypeDeclOnce (Q b s (T b s u)) (N b s) (T b s u) left id fname lvl u)
       unfolding chainIs
       decl-got n t′ u′ e o =
-          said-as t at _ _ u r t′ u′ (sym (decl-some (N b s) (T b s u) left id fname lvl h))
-          (put-given t at (λ c. emitTypeChain (N b s) (T b s u) (left - 1) c fname lvl) u (chainAt b s u id n) (chainOf 512 (T b s u) id []) r t′ u′ (sym a ∙ ap (chainIs b s u id) e) o)
+          said-as t at _ _ u r t′ u′ (sym (decl-some (Q b s (T b s u)) (N b s) (T b s u) left id fname lvl h))
+          (put-given t at (λ c. emitTypeChainOnce (Q b s (T b s u)) (N b s) (T b s u) (left - 1) c fname lvl) u (chainAt b s u id n) (chainOf 512 (T b s u) id []) r t′ u′ (sym a ∙ ap (chainIs b s u id) e) o)
 
-      pub decl-no : (c : ℕ) → x ≡ No c → putOut r t ≡ putText t at (cut [] c) → outOf r t u ≡ putSaid t at (emitTypeDecl (N b s) (T b s u) left id fname lvl u)
+      pub decl-no : (c : ℕ) → x ≡ No c → putOut r t ≡ putText t at (cut [] c) → outOf r t u ≡ putSaid t at (emitTypeDeclOnce (Q b s (T b s u)) (N b s) (T b s u) left id fname lvl u)
       unfolding chainIs
       decl-no c e o =
-          said-as t at _ _ u r t u (sym (decl-some (N b s) (T b s u) left id fname lvl h))
-          (put-refused t at (λ c. emitTypeChain (N b s) (T b s u) (left - 1) c fname lvl) u c (chainOf 512 (T b s u) id []) r t u (sym a ∙ ap (chainIs b s u id) e) (stop-only t at c u r t o))
+          said-as t at _ _ u r t u (sym (decl-some (Q b s (T b s u)) (N b s) (T b s u) left id fname lvl h))
+          (put-refused t at (λ c. emitTypeChainOnce (Q b s (T b s u)) (N b s) (T b s u) (left - 1) c fname lvl) u c (chainOf 512 (T b s u) id []) r t u (sym a ∙ ap (chainIs b s u id) e) (stop-only t at c u r t o))
 
   -- ---- emit_type_chain
   module _ (t : List ℕ) (at : ℕ) (u : List ℕ) (c : List Entry) (fname : Name) (lvl left r : ℕ) where
-    pub chain-zero : left ≡ 0 → putOut r t ≡ putText t at (cut [] 12) → outOf r t u ≡ putSaid t at (emitTypeChain (N b s) (T b s u) left c fname lvl u)
-    chain-zero e o = said-as t at (stop 12) _ u r t u (sym (chain-none (N b s) (T b s u) left c fname lvl e)) (stop-only t at 12 u r t o)
+    pub chain-zero : left ≡ 0 → putOut r t ≡ putText t at (cut [] 12) → outOf r t u ≡ putSaid t at (emitTypeChainOnce (Q b s (T b s u)) (N b s) (T b s u) left c fname lvl u)
+    chain-zero e o = said-as t at (stop 12) _ u r t u (sym (chain-none (Q b s (T b s u)) (N b s) (T b s u) left c fname lvl e)) (stop-only t at 12 u r t o)
 
   -- what is left of a chain that is being printed
   pub chainLeft : ℕ → ℕ → Name → ℕ → Chain → List ℕ → Said (List ℕ)
-  chainLeft below id fname lvl c w = chainRest (N b s) (T b s w) below fname lvl (c .«is_named») (c .«last_was_ptr») (chainAt b s w id (c .n)) w
+  chainLeft below id fname lvl c w = chainRest (Q b s (T b s w)) (N b s) (T b s w) below fname lvl (c .«is_named») (c .«last_was_ptr») (chainAt b s w id (c .n)) w
 
   named-left : (c : List Entry) → entryNamed c ≡ true → entryLeft c ≡ []
   unfolding entryNamed entryLeft
@@ -75,7 +76,7 @@ module _ (b : Btf) (s : List ℕ) where
     -- an entry's promise
     abbrev pub Printed : List ℕ → Chain → List ℕ → List ℕ → Type 0
     Printed t r t′ w′ =
-        (outOf (r .at) t′ w′ ≡ putSaid t (c .at) (entryText (N b s) (T b s w) below fname lvl (c .«last_was_ptr») (chainAt b s w id (c .n)) w))
+        (outOf (r .at) t′ w′ ≡ putSaid t (c .at) (entryText (Q b s (T b s w)) (N b s) (T b s w) below fname lvl (c .«last_was_ptr») (chainAt b s w id (c .n)) w))
         × (chainAt b s w id (r .n) ≡ entryLeft (chainAt b s w id (c .n)))
         × (r .«last_was_ptr» ≡ entryStar (chainAt b s w id (c .n)))
         × (r .«is_named» ≡ entryNamed (chainAt b s w id (c .n)))
@@ -92,19 +93,19 @@ module _ (b : Btf) (s : List ℕ) where
 
     turn-is : (r : Chain) → 0 < c .n → Clear c
         → chainAt b s w id (r .n) ≡ entryLeft (chainAt b s w id (c .n)) → r .«last_was_ptr» ≡ entryStar (chainAt b s w id (c .n)) → r .«is_named» ≡ entryNamed (chainAt b s w id (c .n))
-        → chainRest (N b s) (T b s w) below fname lvl (c .«is_named») (c .«last_was_ptr») (chainAt b s w id (c .n))
-        ≡ entryText (N b s) (T b s w) below fname lvl (c .«last_was_ptr») (chainAt b s w id (c .n)) ⨾ chainRest (N b s) (T b s w) below fname lvl (r .«is_named») (r .«last_was_ptr») (chainAt b s w id (r .n))
+        → chainRest (Q b s (T b s w)) (N b s) (T b s w) below fname lvl (c .«is_named») (c .«last_was_ptr») (chainAt b s w id (c .n))
+        ≡ entryText (Q b s (T b s w)) (N b s) (T b s w) below fname lvl (c .«last_was_ptr») (chainAt b s w id (c .n)) ⨾ chainRest (Q b s (T b s w)) (N b s) (T b s w) below fname lvl (r .«is_named») (r .«last_was_ptr») (chainAt b s w id (r .n))
     turn-is r h k e₁ e₂ e₃ =
         let f = not-named (c .«is_named») refl k h in
         let top = chain-top b s w id (c .n) (λ z. omega arith) in
-        rw (f, e₁, e₂, e₃, top) (chain-turn (N b s) (T b s w) below fname lvl (c .«last_was_ptr») _ _)
+        rw (f, e₁, e₂, e₃, top) (chain-turn (Q b s (T b s w)) (N b s) (T b s w) below fname lvl (c .«last_was_ptr») _ _)
 
     pub chain-again : (t₀ : List ℕ) (at₀ : ℕ) (s₀ : Said (List ℕ)) (t : List ℕ) (r : Chain) (t′ w′ : List ℕ) → 0 < c .n → Clear c
         → Leads b s t₀ at₀ s₀ t (c .at) (chainLeft below id fname lvl c w) → Printed t r t′ w′ → Leads b s t₀ at₀ s₀ t′ (r .at) (chainLeft below id fname lvl r w′)
     unfolding chainLeft seen
     chain-again t₀ at₀ s₀ t r t′ w′ h k l p =
-        leads-turn b s (λ x. chainRest (N b s) (x .0) below fname lvl (r .«is_named») (r .«last_was_ptr») (x .1 id (r .n))) t₀ at₀ s₀ t (c .at) _
-        (entryText (N b s) (T b s w) below fname lvl (c .«last_was_ptr») (chainAt b s w id (c .n))) w (r .at) t′ w′ l
+        leads-turn b s (λ x. chainRest (Q b s (x .0)) (N b s) (x .0) below fname lvl (r .«is_named») (r .«last_was_ptr») (x .1 id (r .n))) t₀ at₀ s₀ t (c .at) _
+        (entryText (Q b s (T b s w)) (N b s) (T b s w) below fname lvl (c .«last_was_ptr») (chainAt b s w id (c .n))) w (r .at) t′ w′ l
         (ap (λ (v : Writer (List ℕ)). v w) (turn-is r h k (p .1) (p .2) (p .3)))
         (kept-entry b s (T b s w) below fname lvl (c .«last_was_ptr») (chainAt b s w id (c .n)))
         (p .0)
@@ -115,7 +116,7 @@ module _ (b : Btf) (s : List ℕ) where
     unfolding chainLeft
     chain-stands t₀ at₀ s₀ t l e =
         leads-end b s t₀ at₀ s₀ t (c .at) _ (c .at) t w l
-        (said-as t (c .at) nothing _ w (c .at) t w (sym (ap (λ q. chainRest (N b s) (T b s w) below fname lvl q (c .«last_was_ptr») (chainAt b s w id (c .n))) e ∙ chain-named (N b s) (T b s w) below fname lvl (c .«last_was_ptr») _)) (put-nothing t (c .at) w))
+        (said-as t (c .at) nothing _ w (c .at) t w (sym (ap (λ q. chainRest (Q b s (T b s w)) (N b s) (T b s w) below fname lvl q (c .«last_was_ptr») (chainAt b s w id (c .n))) e ∙ chain-named (Q b s (T b s w)) (N b s) (T b s w) below fname lvl (c .«last_was_ptr») _)) (put-nothing t (c .at) w))
 
     none-left : (n : ℕ) → n ≤ 0 → chainAt b s w id n ≡ []
     unfolding chainAt
@@ -130,12 +131,12 @@ module _ (b : Btf) (s : List ℕ) where
     chain-ends t₀ at₀ s₀ t r t′ l h e o =
         leads-end b s t₀ at₀ s₀ t (c .at) _ r t′ w l
         (said-as t (c .at) (emitName fname (c .«last_was_ptr»)) _ w r t′ w
-        (sym (ap₂ (λ q a. chainRest (N b s) (T b s w) below fname lvl q (c .«last_was_ptr») a) e (none-left (c .n) h) ∙ chain-done (N b s) (T b s w) below fname lvl (c .«last_was_ptr»)))
+        (sym (ap₂ (λ q a. chainRest (Q b s (T b s w)) (N b s) (T b s w) below fname lvl q (c .«last_was_ptr») a) e (none-left (c .n) h) ∙ chain-done (Q b s (T b s w)) (N b s) (T b s w) below fname lvl (c .«last_was_ptr»)))
         (put-emit-name t (c .at) fname (c .«last_was_ptr») w r t′ o))
 
   -- the whole chain
   pub chain-whole : (t : List ℕ) (at : ℕ) (u : List ℕ) (id n : ℕ) (fname : Name) (lvl left r : ℕ) (t′ u′ : List ℕ) → (left ≡ 0 → ⊥)
       → outOf r t′ u′ ≡ putSaid t at (chainLeft (left - 1) id fname lvl (record { at = at; n = n; «last_was_ptr» = true; «is_named» = false }) u)
-      → outOf r t′ u′ ≡ putSaid t at (emitTypeChain (N b s) (T b s u) left (chainAt b s u id n) fname lvl u)
+      → outOf r t′ u′ ≡ putSaid t at (emitTypeChainOnce (Q b s (T b s u)) (N b s) (T b s u) left (chainAt b s u id n) fname lvl u)
   unfolding chainLeft
-  chain-whole t at u id n fname lvl left r t′ u′ h o = said-as t at _ _ u r t′ u′ (sym (chain-some (N b s) (T b s u) left (chainAt b s u id n) fname lvl h)) o
+  chain-whole t at u id n fname lvl left r t′ u′ h o = said-as t at _ _ u r t′ u′ (sym (chain-some (Q b s (T b s u)) (N b s) (T b s u) left (chainAt b s u id n) fname lvl h)) o

@@ -11,7 +11,8 @@ use Rattle.text.proofs.TextLaws.{put-seq}
 use Rattle.rules.specs.Writer.{Writer, put, nothing, _⨾_}
 use Rattle.rules.specs.Types.{Name, isEmpty, Member, BtfType, Composite, Btf as Rules}
 use Rattle.rules.specs.Names.{identSpace, resolveTypeName}
-use Rattle.rules.specs.Decl.{Entry, base, star, qual, array, proto, tag, isArray, mods, noMods, qualifier, attribute, brackets, shownParams, parens, emitName, emitCompositeFwd, baseWord, emitArray, emitProto, paramList, emitTypeChain, emitCompositeDef, enumValue, enum64Value, emitFwdDef}
+use Rattle.rules.specs.Decl.{Entry, base, star, qual, array, proto, tag, isArray, mods, noMods, qualifier, attribute, brackets, shownParams, parens, emitName, emitCompositeFwd, baseWord, emitArray, emitProto, paramList, enumValue, enum64Value, emitFwdDef}
+use Rattle.alignments.specs.Writers.{emitTypeChainOnce, emitCompositeDefOnce}
 use Rattle.rules.specs.Place.{outOf, putSaid}
 use Rattle.rules.proofs.Writing.{put-only, put-nothing, put-then}
 use Rattle.btf.specs.declared.types.Btf.{Btf}
@@ -27,7 +28,7 @@ use Rattle.bodies.specs.Pieces.{entryLeft, entryStar, entryNamed, gap, starText
 use Rattle.decl.proofs.Turns.{word-any}
 use Rattle.bodies.proofs.BodyLaws.{also}
 use Rattle.decl.proofs.Kept.{seen, then-on}
-use Rattle.decl.proofs.Keeping.{said-as, put-emit-name, N, T, kept-proto}
+use Rattle.decl.proofs.Keeping.{said-as, put-emit-name, N, Q, T, kept-proto}
 use mathlib.Core.Logic.{_⊎_, inl, inr, ⊎-elim}
 use Rattle.btf.specs.declared.types.Entries.{Entries}
 use Rattle.btf.proofs.KindLaws.{by-kind, type-0, type-1, type-2, type-3, type-4, type-5, type-6, type-7, type-8, type-9, type-10, type-11, type-12, type-13, type-14, type-15, type-16, type-17, type-18, type-19, type-none}
@@ -81,7 +82,7 @@ module _ (b : Btf) (s : List ℕ) where
 
     entry-done : (e : Entry) (r : Chain) (p m : ℕ) (t′ w′ : List ℕ) → entryOf b s w x ≡ e
         → r ≡ record { at = p; n = m; «last_was_ptr» = entryStar (e ∷ below-top); «is_named» = entryNamed (e ∷ below-top) }
-        → outOf p t′ w′ ≡ putSaid txt (c .at) (entryText (N b s) (T b s w) below fname lvl (c .«last_was_ptr») (e ∷ below-top) w)
+        → outOf p t′ w′ ≡ putSaid txt (c .at) (entryText (Q b s (T b s w)) (N b s) (T b s w) below fname lvl (c .«last_was_ptr») (e ∷ below-top) w)
         → chainAt b s w id m ≡ entryLeft (e ∷ below-top) → m ≤ c .n - 1 → Printed b s below id fname lvl c w txt r t′ w′
     entry-done e r p m t′ w′ q er o l g = rw (top e q, er) (o, l, refl, refl, g)
 
@@ -92,14 +93,14 @@ module _ (b : Btf) (s : List ℕ) where
         entry-done star r p (c .n - 1) t′ w (entry-star b s w x t et (sym ek ∙ e)) er (put-only txt (c .at) _ w p t′ o) refl (omega arith)
 
     pub arm-array : (r : Chain) (n m a : ℕ) (t₁ w₁ : List ℕ) (p : ℕ) (t₂ : List ℕ) → k ≡ 3 → n ≡ nelemsWord b s t → m ≡ skipped b s w id (c .n - 1)
-        → outOf a t₁ w₁ ≡ putSaid txt (c .at) (arrayBelow (N b s) (T b s w) below fname lvl (c .«last_was_ptr») (chainAt b s w id m) w)
+        → outOf a t₁ w₁ ≡ putSaid txt (c .at) (arrayBelow (Q b s (T b s w)) (N b s) (T b s w) below fname lvl (c .«last_was_ptr») (chainAt b s w id m) w)
         → putOut p t₂ ≡ putText t₁ a (whole (brackets n))
         → r ≡ record { at = p; n = 0; «last_was_ptr» = false; «is_named» = true } → Printed b s below id fname lvl c w txt r t₂ w₁
     unfolding entryText entryStar entryNamed entryLeft chainAt
     arm-array r n m a t₁ w₁ p t₂ e en em o₁ o₂ er =
         entry-done (array (nelemsWord b s t)) r p 0 t₂ w₁ (entry-array b s w x t et (sym ek ∙ e)) er
         (put-then txt (c .at) _ _ w a t₁ w₁ p t₂ w₁
-        (said-as txt (c .at) _ _ w a t₁ w₁ (ap (arrayBelow (N b s) (T b s w) below fname lvl (c .«last_was_ptr»)) (no-mods w id (c .n - 1) m em)) o₁)
+        (said-as txt (c .at) _ _ w a t₁ w₁ (ap (arrayBelow (Q b s (T b s w)) (N b s) (T b s w) below fname lvl (c .«last_was_ptr»)) (no-mods w id (c .n - 1) m em)) o₁)
         (put-only t₁ a _ w₁ p t₂ (o₂ ∙ ap (putText t₁ a) (ap whole (ap brackets en)))))
         refl
         (omega arith)
@@ -115,7 +116,7 @@ module _ (b : Btf) (s : List ℕ) where
         (omega arith)
 
     pub arm-proto : (r : Chain) (p : ℕ) (t′ w′ : List ℕ) → k ≡ 13
-        → outOf p t′ w′ ≡ putSaid txt (c .at) ((put (mods (chainAt b s w id (c .n - 1))) ⨾ protoBelow (N b s) (T b s w) below fname lvl (c .«last_was_ptr») (noMods (chainAt b s w id (c .n - 1))) ⨾ paramListBelow (N b s) (T b s w) below fname lvl (paramsOf b s t)) w)
+        → outOf p t′ w′ ≡ putSaid txt (c .at) ((put (mods (chainAt b s w id (c .n - 1))) ⨾ protoBelow (Q b s (T b s w)) (N b s) (T b s w) below fname lvl (c .«last_was_ptr») (noMods (chainAt b s w id (c .n - 1))) ⨾ paramListBelow (Q b s (T b s w)) (N b s) (T b s w) below fname lvl (paramsOf b s t)) w)
         → r ≡ record { at = p; n = 0; «last_was_ptr» = false; «is_named» = true } → Printed b s below id fname lvl c w txt r t′ w′
     unfolding entryText entryStar entryNamed entryLeft chainAt
     arm-proto r p t′ w′ e o er = entry-done (proto (paramsOf b s t)) r p 0 t′ w′ (entry-proto b s w x t et (sym ek ∙ e)) er o refl (omega arith)
@@ -135,13 +136,13 @@ module _ (b : Btf) (s : List ℕ) where
     word-here = ap (typeOf b s) (sym et)
 
     pub arm-base : (r : Chain) (m a : ℕ) (t₁ : List ℕ) (p : ℕ) (t₂ w₂ : List ℕ) → isLink k ≡ false → m ≡ skipped b s w id (c .n - 1) → m ≤ c .n - 1
-        → putOut a t₁ ≡ putText txt (c .at) (whole (modsDown b s w id m (c .n - 1))) → outOf p t₂ w₂ ≡ putSaid t₁ a (wordBelow (N b s) (T b s w) below lvl x (typeOf b s t) w)
+        → putOut a t₁ ≡ putText txt (c .at) (whole (modsDown b s w id m (c .n - 1))) → outOf p t₂ w₂ ≡ putSaid t₁ a (wordBelow (Q b s (T b s w)) (N b s) (T b s w) below lvl x (typeOf b s t) w)
         → r ≡ record { at = p; n = m; «last_was_ptr» = false; «is_named» = false } → Printed b s below id fname lvl c w txt r t₂ w₂
     unfolding entryText entryStar entryNamed entryLeft
     arm-base r m a t₁ p t₂ w₂ e em g o₁ o₂ er =
         entry-done (base x) r p m t₂ w₂ (entry-base b s w x t et (ap isLink (sym ek) ∙ e)) er
         (also txt (c .at) _ _ w a t₁ p t₂ w₂ (put-mods b s w id txt (c .at) a t₁ m (c .n - 1) em o₁)
-        (said-as t₁ a _ _ w p t₂ w₂ (ap (wordBelow (N b s) (T b s w) below lvl x) (sym word-here) ∙ sym (word-any (N b s) (T b s w) below fname lvl x (T b s w .type-by-id x))) o₂))
+        (said-as t₁ a _ _ w p t₂ w₂ (ap (wordBelow (Q b s (T b s w)) (N b s) (T b s w) below lvl x) (sym word-here) ∙ sym (word-any (Q b s (T b s w)) (N b s) (T b s w) below fname lvl x (T b s w .type-by-id x))) o₂))
         (no-mods w id (c .n - 1) m em)
         g
 
@@ -149,24 +150,24 @@ module _ (b : Btf) (s : List ℕ) where
   pub function-put : (below id : ℕ) (fname : Name) (lvl : ℕ) (p : Bool) (w txt : List ℕ) (at n m a : ℕ) (t₁ : List ℕ) (f : ℕ) (t₂ w₂ : List ℕ) (r : ℕ) (t₃ w₃ : List ℕ) (t : Record) (es : Entries)
       → m ≡ skipped b s w id n → es ≡ entriesOf t
       → putOut a t₁ ≡ putText txt at (whole (modsDown b s w id m n))
-      → outOf f t₂ w₂ ≡ putSaid t₁ a (protoBelow (N b s) (T b s w) below fname lvl p (chainAt b s w id m) w)
-      → outOf r t₃ w₃ ≡ putSaid t₂ f (paramsBelow (N b s) (T b s w₂) below lvl (shownParams (from (paramOf b s (es .at)) 0 (es .vlen))) w₂)
-      → outOf r t₃ w₃ ≡ putSaid txt at ((put (mods (chainAt b s w id n)) ⨾ protoBelow (N b s) (T b s w) below fname lvl p (noMods (chainAt b s w id n)) ⨾ paramListBelow (N b s) (T b s w) below fname lvl (paramsOf b s t)) w)
+      → outOf f t₂ w₂ ≡ putSaid t₁ a (protoBelow (Q b s (T b s w)) (N b s) (T b s w) below fname lvl p (chainAt b s w id m) w)
+      → outOf r t₃ w₃ ≡ putSaid t₂ f (paramsBelow (Q b s (T b s w₂)) (N b s) (T b s w₂) below lvl (shownParams (from (paramOf b s (es .at)) 0 (es .vlen))) w₂)
+      → outOf r t₃ w₃ ≡ putSaid txt at ((put (mods (chainAt b s w id n)) ⨾ protoBelow (Q b s (T b s w)) (N b s) (T b s w) below fname lvl p (noMods (chainAt b s w id n)) ⨾ paramListBelow (Q b s (T b s w)) (N b s) (T b s w) below fname lvl (paramsOf b s t)) w)
   unfolding seen paramList
   function-put below id fname lvl p w txt at n m a t₁ f t₂ w₂ r t₃ w₃ t es em ee o₁ o₂ o₃ =
       also txt at _ _ w a t₁ r t₃ w₃ (put-mods b s w id txt at a t₁ m n em o₁)
-      (then-on b s (λ x. paramListBelow (N b s) (x .0) below fname lvl (paramsOf b s t)) t₁ a _ w f t₂ w₂ r t₃ w₃
+      (then-on b s (λ x. paramListBelow (Q b s (x .0)) (N b s) (x .0) below fname lvl (paramsOf b s t)) t₁ a _ w f t₂ w₂ r t₃ w₃
       (kept-proto b s (T b s w) below fname lvl p (noMods (chainAt b s w id n)))
-      (said-as t₁ a _ _ w f t₂ w₂ (ap (protoBelow (N b s) (T b s w) below fname lvl p) (no-mods w id n m em)) o₂)
-      (o₃ ∙ ap (λ (x : Entries). putSaid t₂ f (paramsBelow (N b s) (T b s w₂) below lvl (shownParams (from (paramOf b s (x .at)) 0 (x .vlen))) w₂)) ee))
+      (said-as t₁ a _ _ w f t₂ w₂ (ap (protoBelow (Q b s (T b s w)) (N b s) (T b s w) below fname lvl p) (no-mods w id n m em)) o₂)
+      (o₃ ∙ ap (λ (x : Entries). putSaid t₂ f (paramsBelow (Q b s (T b s w₂)) (N b s) (T b s w₂) below lvl (shownParams (from (paramOf b s (x .at)) 0 (x .vlen))) w₂)) ee))
 
   -- ---- emit_base: k is the kind of t
   module _ (B : Rules) (below lvl id : ℕ) (t : Record) (k : ℕ) (ek : k ≡ kindOf (t .info)) (txt : List ℕ) (at : ℕ) (u : List ℕ) (r : ℕ) (t′ u′ : List ℕ) where
     abbrev Spoken : Type 0
-    Spoken = outOf r t′ u′ ≡ putSaid txt at (wordBelow (N b s) B below lvl id (typeOf b s t) u)
+    Spoken = outOf r t′ u′ ≡ putSaid txt at (wordBelow (Q b s B) (N b s) B below lvl id (typeOf b s t) u)
 
-    word-as : (x : BtfType) → typeOf b s t ≡ x → outOf r t′ u′ ≡ putSaid txt at (wordBelow (N b s) B below lvl id x u) → Spoken
-    word-as x e o = o ∙ ap (λ (y : BtfType). putSaid txt at (wordBelow (N b s) B below lvl id y u)) (sym e)
+    word-as : (x : BtfType) → typeOf b s t ≡ x → outOf r t′ u′ ≡ putSaid txt at (wordBelow (Q b s B) (N b s) B below lvl id x u) → Spoken
+    word-as x e o = o ∙ ap (λ (y : BtfType). putSaid txt at (wordBelow (Q b s B) (N b s) B below lvl id y u)) (sym e)
 
     pub word-name : (k ≡ 1) ⊎ (k ≡ 16) → outOf r t′ u′ ≡ putSaid txt at (put (recordName b s t) u) → Spoken
     unfolding baseWord
@@ -190,7 +191,7 @@ module _ (b : Btf) (s : List ℕ) where
     word-typedef e o = word-as _ (type-8 b s t (sym ek ∙ e)) o
 
     pub word-composite : 1 ≤ k → 4 ≤ k → k < 6
-        → outOf r t′ u′ ≡ putSaid txt at (wordBelow (N b s) B below lvl id (Composite (eqb (kindOf (t .info)) 4) (recordName b s t) (t .«type_id») (membersOf b s t)) u) → Spoken
+        → outOf r t′ u′ ≡ putSaid txt at (wordBelow (Q b s B) (N b s) B below lvl id (Composite (eqb (kindOf (t .info)) 4) (recordName b s t) (t .«type_id») (membersOf b s t)) u) → Spoken
     word-composite g₀ g l o =
         word-as _
         (by-kind
@@ -222,9 +223,9 @@ module _ (b : Btf) (s : List ℕ) where
   -- the kinds that have no words, and void
   module _ (B : Rules) (below lvl id : ℕ) (t : Record) (k : ℕ) (ek : k ≡ kindOf (t .info)) (txt : List ℕ) (at : ℕ) (u : List ℕ) where
     said-of : BtfType → Writer (List ℕ)
-    said-of x = wordBelow (N b s) B below lvl id x
+    said-of x = wordBelow (Q b s B) (N b s) B below lvl id x
 
-    pub word-low : 1 ≤ k → k < 4 → ((k ≡ 1) ⊎ (k ≡ 16) → ⊥) → outOf at txt u ≡ putSaid txt at (wordBelow (N b s) B below lvl id (typeOf b s t) u)
+    pub word-low : 1 ≤ k → k < 4 → ((k ≡ 1) ⊎ (k ≡ 16) → ⊥) → outOf at txt u ≡ putSaid txt at (wordBelow (Q b s B) (N b s) B below lvl id (typeOf b s t) u)
     unfolding baseWord said-of
     word-low g l n =
         said-as txt at nothing _ u at txt u (sym (
@@ -253,7 +254,7 @@ module _ (b : Btf) (s : List ℕ) where
         (λ j h e g l n. absurd (omega arith))
         k ek g l n)) (put-nothing txt at u)
 
-    pub word-mid : 6 ≤ k → k < 19 → ((k ≡ 1) ⊎ (k ≡ 16) → ⊥) → (k ≡ 6 → ⊥) → (k ≡ 7 → ⊥) → (k ≡ 8 → ⊥) → outOf at txt u ≡ putSaid txt at (wordBelow (N b s) B below lvl id (typeOf b s t) u)
+    pub word-mid : 6 ≤ k → k < 19 → ((k ≡ 1) ⊎ (k ≡ 16) → ⊥) → (k ≡ 6 → ⊥) → (k ≡ 7 → ⊥) → (k ≡ 8 → ⊥) → outOf at txt u ≡ putSaid txt at (wordBelow (Q b s B) (N b s) B below lvl id (typeOf b s t) u)
     unfolding baseWord said-of
     word-mid g l n₁ n₆ n₇ n₈ =
         said-as txt at nothing _ u at txt u (sym (
@@ -283,7 +284,7 @@ module _ (b : Btf) (s : List ℕ) where
         k ek g l n₁ n₆ n₇ n₈)) (put-nothing txt at u)
 
     pub word-void : (r : ℕ) (t′ : List ℕ) → (k ≡ 19 → ⊥) → (k < 1) ⊎ (19 ≤ k) → putOut r t′ ≡ putText txt at (whole (ascii "void"))
-        → outOf r t′ u ≡ putSaid txt at (wordBelow (N b s) B below lvl id (typeOf b s t) u)
+        → outOf r t′ u ≡ putSaid txt at (wordBelow (Q b s B) (N b s) B below lvl id (typeOf b s t) u)
     unfolding baseWord said-of
     word-void r t′ n z o =
         said-as txt at (put (ascii "void")) _ u r t′ u (sym (
@@ -314,13 +315,13 @@ module _ (b : Btf) (s : List ℕ) where
 
   -- ---- emit_composite_word
   module _ (below lvl id : ℕ) (is-struct : Bool) (name : Name) (sz : ℕ) (ms : List Member) (txt : List ℕ) (at : ℕ) (u : List ℕ) (r : ℕ) (t′ u′ : List ℕ) (B : Rules) where
-    pub composite-inline : isEmpty name ≡ true → outOf r t′ u′ ≡ putSaid txt at (emitCompositeDef (N b s) B below id is-struct name sz ms lvl u)
-        → outOf r t′ u′ ≡ putSaid txt at (wordBelow (N b s) B below lvl id (Composite is-struct name sz ms) u)
+    pub composite-inline : isEmpty name ≡ true → outOf r t′ u′ ≡ putSaid txt at (emitCompositeDefOnce (Q b s B) (N b s) B below id is-struct name sz ms lvl u)
+        → outOf r t′ u′ ≡ putSaid txt at (wordBelow (Q b s B) (N b s) B below lvl id (Composite is-struct name sz ms) u)
     unfolding baseWord
     composite-inline h o = rw (h, baseWord) o
 
     pub composite-named : (x : Bool) → isEmpty name ≡ false → x ≡ is-struct → outOf r t′ u′ ≡ putSaid txt at (emitCompositeFwd (N b s) B id x name u)
-        → outOf r t′ u′ ≡ putSaid txt at (wordBelow (N b s) B below lvl id (Composite is-struct name sz ms) u)
+        → outOf r t′ u′ ≡ putSaid txt at (wordBelow (Q b s B) (N b s) B below lvl id (Composite is-struct name sz ms) u)
     unfolding baseWord
     composite-named x h e o = rw (h, baseWord) (o ∙ ap (λ (q : Bool). putSaid txt at (emitCompositeFwd (N b s) B id q name u)) e)
 
@@ -331,23 +332,23 @@ module _ (b : Btf) (s : List ℕ) where
     none e = rw e
 
     pub array-name : (r : ℕ) (t′ : List ℕ) → n ≡ 0 → putOut r t′ ≡ putText txt at (whole (nameAfter fname p))
-        → outOf r t′ w ≡ putSaid txt at (arrayBelow (N b s) (T b s w) below fname lvl p (chainAt b s w id n) w)
+        → outOf r t′ w ≡ putSaid txt at (arrayBelow (Q b s (T b s w)) (N b s) (T b s w) below fname lvl p (chainAt b s w id n) w)
     unfolding emitArray
-    array-name r t′ e o = said-as txt at (emitName fname p) _ w r t′ w (sym (ap (arrayBelow (N b s) (T b s w) below fname lvl p) (none e))) (put-emit-name txt at fname p w r t′ o)
+    array-name r t′ e o = said-as txt at (emitName fname p) _ w r t′ w (sym (ap (arrayBelow (Q b s (T b s w)) (N b s) (T b s w) below fname lvl p) (none e))) (put-emit-name txt at fname p w r t′ o)
 
     pub proto-name : (r : ℕ) (t′ : List ℕ) → n ≡ 0 → putOut r t′ ≡ putText txt at (whole (nameAfter fname p))
-        → outOf r t′ w ≡ putSaid txt at (protoBelow (N b s) (T b s w) below fname lvl p (chainAt b s w id n) w)
+        → outOf r t′ w ≡ putSaid txt at (protoBelow (Q b s (T b s w)) (N b s) (T b s w) below fname lvl p (chainAt b s w id n) w)
     unfolding emitProto
-    proto-name r t′ e o = said-as txt at (emitName fname p) _ w r t′ w (sym (ap (protoBelow (N b s) (T b s w) below fname lvl p) (none e))) (put-emit-name txt at fname p w r t′ o)
+    proto-name r t′ e o = said-as txt at (emitName fname p) _ w r t′ w (sym (ap (protoBelow (Q b s (T b s w)) (N b s) (T b s w) below fname lvl p) (none e))) (put-emit-name txt at fname p w r t′ o)
 
     module _ (h : n ≡ 0 → ⊥) where
       abbrev on-top : Entry
       on-top = entryOf b s w (pathAt b s w id (n - 1))
 
       abbrev inside : Writer (List ℕ)
-      inside = emitTypeChain (N b s) (T b s w) below (chainAt b s w id n) fname lvl
+      inside = emitTypeChainOnce (Q b s (T b s w)) (N b s) (T b s w) below (chainAt b s w id n) fname lvl
 
-      array-is-some : arrayBelow (N b s) (T b s w) below fname lvl p (chainAt b s w id n) ≡ put (gap fname p) ⨾ parens (not (isArray on-top)) inside
+      array-is-some : arrayBelow (Q b s (T b s w)) (N b s) (T b s w) below fname lvl p (chainAt b s w id n) ≡ put (gap fname p) ⨾ parens (not (isArray on-top)) inside
       unfolding emitArray gap
       array-is-some = rw (chain-top b s w id n h)
 
@@ -359,7 +360,7 @@ module _ (b : Btf) (s : List ℕ) where
 
       pub array-array : (k a : ℕ) (t₁ : List ℕ) (r : ℕ) (t₂ w₂ : List ℕ) → k ≡ kindOnTop b s w id n → k ≡ 3
           → putOut a t₁ ≡ putText txt at (whole (gap fname p)) → outOf r t₂ w₂ ≡ putSaid t₁ a (inside w)
-          → outOf r t₂ w₂ ≡ putSaid txt at (arrayBelow (N b s) (T b s w) below fname lvl p (chainAt b s w id n) w)
+          → outOf r t₂ w₂ ≡ putSaid txt at (arrayBelow (Q b s (T b s w)) (N b s) (T b s w) below fname lvl p (chainAt b s w id n) w)
       unfolding parens
       array-array k a t₁ r t₂ w₂ ek e o₁ o₂ =
           let q : isArray on-top ≡ true = top-array ∙ ap (λ (j : ℕ). eqb j 3) (sym ek ∙ e) in
@@ -369,20 +370,20 @@ module _ (b : Btf) (s : List ℕ) where
       pub array-other : (k a : ℕ) (t₁ : List ℕ) (c : ℕ) (t₂ : List ℕ) (e : ℕ) (t₃ w₃ : List ℕ) (r : ℕ) (t₄ : List ℕ) → k ≡ kindOnTop b s w id n → (k ≡ 3 → ⊥)
           → putOut a t₁ ≡ putText txt at (whole (gap fname p)) → putOut c t₂ ≡ putText t₁ a (whole (ascii "("))
           → outOf e t₃ w₃ ≡ putSaid t₂ c (inside w) → putOut r t₄ ≡ putText t₃ e (whole (ascii ")"))
-          → outOf r t₄ w₃ ≡ putSaid txt at (arrayBelow (N b s) (T b s w) below fname lvl p (chainAt b s w id n) w)
+          → outOf r t₄ w₃ ≡ putSaid txt at (arrayBelow (Q b s (T b s w)) (N b s) (T b s w) below fname lvl p (chainAt b s w id n) w)
       unfolding parens
       array-other k a t₁ c t₂ e t₃ w₃ r t₄ ek g o₁ o₂ o₃ o₄ =
           let q : isArray on-top ≡ false = top-array ∙ ne-eqb (kindOnTop b s w id n) 3 (λ z. g (ek ∙ z)) in
           said-as txt at _ _ w r t₄ w₃ (sym (array-is-some ∙ ap (λ (x : Bool). put (gap fname p) ⨾ parens (not x) inside) q))
           (also txt at _ _ w a t₁ r t₄ w₃ o₁ (also t₁ a _ _ w c t₂ r t₄ w₃ o₂ (put-then t₂ c _ _ w e t₃ w₃ r t₄ w₃ o₃ (put-only t₃ e _ w₃ r t₄ o₄))))
 
-      proto-is-some : protoBelow (N b s) (T b s w) below fname lvl p (chainAt b s w id n) ≡ put (ascii " (") ⨾ inside ⨾ put (ascii ")")
+      proto-is-some : protoBelow (Q b s (T b s w)) (N b s) (T b s w) below fname lvl p (chainAt b s w id n) ≡ put (ascii " (") ⨾ inside ⨾ put (ascii ")")
       unfolding emitProto
       proto-is-some = rw (chain-top b s w id n h)
 
       pub proto-some : (a : ℕ) (t₁ : List ℕ) (c : ℕ) (t₂ w₂ : List ℕ) (r : ℕ) (t₃ : List ℕ)
           → putOut a t₁ ≡ putText txt at (whole (ascii " (")) → outOf c t₂ w₂ ≡ putSaid t₁ a (inside w) → putOut r t₃ ≡ putText t₂ c (whole (ascii ")"))
-          → outOf r t₃ w₂ ≡ putSaid txt at (protoBelow (N b s) (T b s w) below fname lvl p (chainAt b s w id n) w)
+          → outOf r t₃ w₂ ≡ putSaid txt at (protoBelow (Q b s (T b s w)) (N b s) (T b s w) below fname lvl p (chainAt b s w id n) w)
       proto-some a t₁ c t₂ w₂ r t₃ o₁ o₂ o₃ =
           said-as txt at _ _ w r t₃ w₂ (sym proto-is-some)
           (also txt at _ _ w a t₁ r t₃ w₂ o₁ (put-then t₁ a _ _ w c t₂ w₂ r t₃ w₂ o₂ (put-only t₂ c _ w₂ r t₃ o₃)))

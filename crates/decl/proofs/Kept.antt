@@ -1,12 +1,12 @@
--- What no version of a name changes: the table, and the chains in it. So emitters keep both. Assumes nothing.
+-- What no version of a name and no alignment that is remembered changes: the table, and the chains in it. So emitters keep both. Assumes nothing.
 use Prim.Native.Nat.{ℕ, zero, suc, _+_, _*_}
-use mathlib.Core.Path.{_≡_, refl, ap, ap₂, _∙_, sym}
+use mathlib.Core.Path.{_≡_, refl, ap, ap₂, _∙_, sym, subst}
 use mathlib.Core.Bool.{Bool, true, false}
 use mathlib.Core.List.{List, _∷_}
 use native.Mathlib.Omega.{arith}
-use lib.Dec.{ltb, eqb}
+use lib.Dec.{ltb, leb, eqb}
 use Rattle.rules.specs.Writer.{Said, Writer, _⨾_}
-use Rattle.rules.specs.Types.{Name, Btf as Rules}
+use Rattle.rules.specs.Types.{Name, Member, Btf as Rules}
 use Rattle.rules.specs.Names.{Space, Resolved}
 use Rattle.rules.specs.Decl.{Entry, linkOf}
 use Rattle.rules.specs.Chain.{entryBy}
@@ -21,6 +21,14 @@ use Rattle.btf.specs.Records.{recordById}
 use Rattle.btf.specs.Table.{typeOf, btfOf, workNaming, typeVersionIn, valueVersionIn, enumeratorOf}
 use Rattle.btf.proofs.Frame.{field-other, count-0, record-same, counted-other, table-type-version, table-value-version}
 use Rattle.chain.specs.Chains.{nextOf, entryOf, pathAt, chainAt}
+use Rattle.alignments.specs.Once.{Seen as Alignment, Once, found, refused, memoryAfter, memberCount}
+use Rattle.remembered.specs.Words.{coded, counted as visited, remembered, workKeep}
+use Rattle.remembered.proofs.Cycle.{table-keeps}
+use Rattle.asked.specs.Asked.{packedIn, workAsks}
+use Rattle.asked.proofs.Stays.{Stays, stays-forget, stays-padding, stays-body}
+use Rattle.placing.specs.Steps.{bodyIn}
+use Rattle.layout.specs.declared.Packed.{Packed}
+use Rattle.layout.specs.declared.Packed.the-variants.{Is, No}
 
 module _ (b : Btf) (s : List ℕ) where
   module _ (u w : List ℕ) (h : (id : ℕ) → recordById b s u id ≡ recordById b s w id) where
@@ -86,6 +94,43 @@ module _ (b : Btf) (s : List ℕ) where
   unfolding workNaming
   keeps-value id i name u =
       seen-same (valueVersionIn (b .types) (enumeratorOf u id i) u .names) u (table-value-version b s u (enumeratorOf u id i)) (place-value u (enumeratorOf u id i))
+
+  -- ---- nor does remembering an alignment
+  place-remember : (B : Rules) (id : ℕ) (x : Alignment) (w : List ℕ) (j : ℕ) → getField (workKeep (b .types) B .remember id x w) j 0 ≡ getField w j 0
+  unfolding workKeep remembered visited
+  place-remember B id x w j = go (eqb (coded x) 0) (leb (b .types) id)
+    where
+      u : List ℕ
+      u = visited (memberCount (B .type-by-id id)) w
+
+      go : (p q : Bool) → getField (elim p as (λ (z : Bool). List ℕ) [ true ↦ w | false ↦ elim q as (λ (z : Bool). List ℕ) [ true ↦ w | false ↦ putField u id 15 (coded x) ] ]) j 0 ≡ getField w j 0
+      go true q = refl
+      go false true = refl
+      go false false = field-other u id 15 (coded x) j 0 (omega arith) (omega arith) (λ e. omega arith) ∙ field-other w 0 2 _ j 0 (omega arith) (omega arith) (λ e. omega arith)
+
+  keeps-remember : (B : Rules) (id : ℕ) (x : Alignment) (w : List ℕ) → seen (workKeep (b .types) B .remember id x w) ≡ seen w
+  keeps-remember B id x w = seen-same (workKeep (b .types) B .remember id x w) w (table-keeps b s (b .types) B id x w) (place-remember B id x w)
+
+  memory-stays : {A : Type 0} (w : List ℕ) (r : Once (List ℕ) A) → Stays seen w r → seen (memoryAfter r) ≡ seen w
+  unfolding memoryAfter
+  memory-stays w (found a m k) h = h
+  memory-stays w (refused c m k) h = h
+
+  pub keeps-padding : (B : Rules) (offset : ℕ) (x : Member) (packed : Bool) (w : List ℕ) → seen (memoryAfter (workAsks (b .types) B .padding offset x packed w)) ≡ seen w
+  keeps-padding B offset x packed w = memory-stays w _ (stays-padding seen (workKeep (b .types) B) B (keeps-remember B) offset x packed w (getField w 0 2))
+
+  pub keeps-body : (B : Rules) (is-struct : Bool) (id sz : ℕ) (ms : List Member) (w : List ℕ) → seen (memoryAfter (workAsks (b .types) B .body is-struct id sz ms w)) ≡ seen w
+  keeps-body B is-struct id sz ms w = memory-stays w _ (stays-body seen (workKeep (b .types) B) B (keeps-remember B) is-struct id sz ms w (getField w 0 2))
+
+  told-body : (w : List ℕ) (y : Packed) (u : List ℕ) → Stays seen w (packedIn y u) → seen u ≡ seen w
+  unfolding packedIn
+  told-body w (Is p) u h = h
+  told-body w (No c) u h = h
+
+  pub body-seen : (is-struct : Bool) (id sz : ℕ) (ms : List Member) (w : List ℕ) (y : Packed) (u : List ℕ) → packedIn y u ≡ bodyIn (b .types) (btfOf b s w) is-struct id sz ms w → seen u ≡ seen w
+  unfolding bodyIn
+  body-seen is-struct id sz ms w y u e =
+      told-body w y u (subst (Stays seen w) (sym e) (stays-forget seen w _ (stays-body seen (workKeep (b .types) (btfOf b s w)) (btfOf b s w) (keeps-remember (btfOf b s w)) is-struct id sz ms w 0)))
 
   -- v, and then what is written with what is seen
   pub then-on : (x : Seen → Writer (List ℕ)) (t : List ℕ) (at : ℕ) (v : Writer (List ℕ)) (u : List ℕ) (n : ℕ) (t′ u′ : List ℕ) (r : ℕ) (t″ u″ : List ℕ)

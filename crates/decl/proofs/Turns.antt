@@ -9,8 +9,9 @@ use Rattle.text.specs.Text.{ascii, pfx}
 use Rattle.rules.specs.Writer.{Ask, got, no, Writer, _⨾_, put, stop, nothing, given}
 use Rattle.rules.specs.Types.{Name, Member, Param, BtfType, Void, Int, Ptr, Array, Composite, Enum, Enum64, Fwd, Typedef, Mod, Func, Var, Datasec, FuncProto, Float, DeclTag, TypeTag, Btf}
 use Rattle.rules.specs.Names.{Naming}
-use Rattle.rules.specs.Layout.{Pad, bitPadding, endOf}
-use Rattle.rules.specs.Decl.{Entry, base, star, qual, array, proto, tag, noMods, noParams, emitName, pads, bitSize, emitDeclTags, emitParams, chainOf, baseWord, chainLoop, emitMembers, compositeDef, emitTypeDecl, emitTypeChain, emitCompositeDef}
+use Rattle.rules.specs.Layout.{Pad, endOf}
+use Rattle.rules.specs.Decl.{Entry, base, star, qual, array, proto, tag, noMods, noParams, emitName, pads, bitSize, emitDeclTags, emitParams, chainOf, baseWord, chainLoop}
+use Rattle.alignments.specs.Writers.{Asks, givenOnce, emitMembersOnce, compositeDefOnce, emitTypeDeclOnce, emitTypeChainOnce, emitCompositeDefOnce}
 use Rattle.bodies.specs.Pieces.{entryLeft, entryStar, entryNamed, starText, wordBelow, loopBelow, entryText, chainRest, paramText, memberTail, memberText, membersBelow, endFrom, comma}
 use Rattle.decl.proofs.Sequences.{then-assoc, then-nothing, stop-then}
 
@@ -24,9 +25,9 @@ no-mods-length (array n ∷ c) = omega arith
 no-mods-length (proto ps ∷ c) = omega arith
 no-mods-length (tag a n ∷ c) = omega arith
 
-module _ {U : Type 0} (N : Naming U) (B : Btf) (below : ℕ) (fname : Name) (lvl : ℕ) where
+module _ {U : Type 0} (Q : Asks U) (N : Naming U) (B : Btf) (below : ℕ) (fname : Name) (lvl : ℕ) where
   -- the loop ends by itself: any number of turns that is no less than the entries gives the same
-  loop-enough : (f g : ℕ) (p : Bool) (c : List Entry) → length c ≤ f → length c ≤ g → loopBelow N B below fname lvl f p c ≡ loopBelow N B below fname lvl g p c
+  loop-enough : (f g : ℕ) (p : Bool) (c : List Entry) → length c ≤ f → length c ≤ g → loopBelow Q N B below fname lvl f p c ≡ loopBelow Q N B below fname lvl g p c
   unfolding chainLoop
   loop-enough zero zero p c h k = refl
   loop-enough zero (suc g) p [] h k = refl
@@ -47,7 +48,7 @@ module _ {U : Type 0} (N : Naming U) (B : Btf) (below : ℕ) (fname : Name) (lvl
 
   -- a chain with an entry on top: what the entry prints, then what is left
   pub chain-turn : (p : Bool) (e : Entry) (c : List Entry)
-      → chainRest N B below fname lvl false p (e ∷ c) ≡ entryText N B below fname lvl p (e ∷ c) ⨾ chainRest N B below fname lvl (entryNamed (e ∷ c)) (entryStar (e ∷ c)) (entryLeft (e ∷ c))
+      → chainRest Q N B below fname lvl false p (e ∷ c) ≡ entryText Q N B below fname lvl p (e ∷ c) ⨾ chainRest Q N B below fname lvl (entryNamed (e ∷ c)) (entryStar (e ∷ c)) (entryLeft (e ∷ c))
   unfolding chainRest chainLoop entryText entryNamed entryStar entryLeft starText
   chain-turn p (base id) c =
       sym (then-assoc _ _ _) ∙ ap (_⨾_ _) (loop-enough (length c) (length (noMods c)) false (noMods c) (no-mods-length c) (omega arith))
@@ -59,17 +60,17 @@ module _ {U : Type 0} (N : Naming U) (B : Btf) (below : ℕ) (fname : Name) (lvl
       sym (then-assoc _ _ _) ∙ ap (_⨾_ _) (loop-enough (length c) (length (noMods c)) false (noMods c) (no-mods-length c) (omega arith))
 
   -- no entry left: the name, unless it stands
-  pub chain-done : (p : Bool) → chainRest N B below fname lvl false p [] ≡ emitName fname p
+  pub chain-done : (p : Bool) → chainRest Q N B below fname lvl false p [] ≡ emitName fname p
   unfolding chainRest chainLoop
   chain-done p = refl
 
-  pub chain-named : (p : Bool) (c : List Entry) → chainRest N B below fname lvl true p c ≡ nothing
+  pub chain-named : (p : Bool) (c : List Entry) → chainRest Q N B below fname lvl true p c ≡ nothing
   unfolding chainRest
   chain-named p c = refl
 
   -- the base's own words say nothing of the declared name
   pub word-any : (id : ℕ) (t : BtfType)
-      → baseWord N B (emitTypeDecl N B below) (emitTypeChain N B below) (emitCompositeDef N B below) fname lvl id t ≡ wordBelow N B below lvl id t
+      → baseWord N B (emitTypeDeclOnce Q N B below) (emitTypeChainOnce Q N B below) (emitCompositeDefOnce Q N B below) fname lvl id t ≡ wordBelow Q N B below lvl id t
   unfolding baseWord
   word-any id Void = refl
   word-any id (Int n b) = refl
@@ -95,7 +96,7 @@ pub params-turn : {U : Type 0} → (decl : ℕ → Name → Writer U) (first : B
 unfolding emitParams paramText comma
 params-turn decl first p ps = sym (then-assoc _ _ _)
 
-module _ {U : Type 0} (N : Naming U) (B : Btf) (below : ℕ) (id : ℕ) where
+module _ {U : Type 0} (Q : Asks U) (N : Naming U) (B : Btf) (below : ℕ) (id : ℕ) where
   tail-then : (i : ℕ) (m : Member) (k : ℕ → Writer U) (a : Ask ℕ) → endOf B m ≡ a
       → given a (λ end. emitDeclTags B id i ⨾ put (ascii ";") ⨾ k end) ≡ given a (λ end. emitDeclTags B id i ⨾ put (ascii ";")) ⨾ k (endFrom a)
   unfolding given endFrom
@@ -104,38 +105,38 @@ module _ {U : Type 0} (N : Naming U) (B : Btf) (below : ℕ) (id : ℕ) where
 
   -- a member and those after it
   pub members-turn : (tail : ℕ → List Pad) (lvl : ℕ) (packed : Bool) (i offset : ℕ) (m : Member) (ms : List Member)
-      → membersBelow N B below id tail lvl packed i offset (m ∷ ms) ≡ memberText N B below id lvl packed i offset m ⨾ membersBelow N B below id tail lvl packed (i + 1) (endFrom (endOf B m)) ms
-  unfolding emitMembers memberText memberTail
+      → membersBelow Q N B below id tail lvl packed i offset (m ∷ ms) ≡ memberText Q N B below id lvl packed i offset m ⨾ membersBelow Q N B below id tail lvl packed (i + 1) (endFrom (endOf B m)) ms
+  unfolding emitMembersOnce memberText memberTail
   members-turn tail lvl packed i offset m ms =
-      ap (λ (w : Writer U). given (bitPadding B offset m packed) (λ ps. put (pads lvl ps)) ⨾ put (ascii "\n") ⨾ put (pfx lvl) ⨾ emitTypeDecl N B below (m .type-id) (m .name) lvl ⨾ put (bitSize m) ⨾ w)
-      (tail-then i m (λ end. membersBelow N B below id tail lvl packed (i + 1) end ms) (endOf B m) refl)
+      ap (λ (w : Writer U). givenOnce (Q .padding offset m packed) (λ ps. put (pads lvl ps)) ⨾ put (ascii "\n") ⨾ put (pfx lvl) ⨾ emitTypeDeclOnce Q N B below (m .type-id) (m .name) lvl ⨾ put (bitSize m) ⨾ w)
+      (tail-then i m (λ end. membersBelow Q N B below id tail lvl packed (i + 1) end ms) (endOf B m) refl)
       ∙ sym (then-assoc _ _ _ ∙ ap (_⨾_ _) (then-assoc _ _ _ ∙ ap (_⨾_ _) (then-assoc _ _ _ ∙ ap (_⨾_ _) (then-assoc _ _ _ ∙ ap (_⨾_ _) (then-assoc _ _ _)))))
 
 -- ---- the three, unrolled
-module _ {U : Type 0} (N : Naming U) (B : Btf) where
-  pub decl-none : (left id : ℕ) (fname : Name) (lvl : ℕ) → left ≡ 0 → emitTypeDecl N B left id fname lvl ≡ stop 12
-  unfolding emitTypeDecl
+module _ {U : Type 0} (Q : Asks U) (N : Naming U) (B : Btf) where
+  pub decl-none : (left id : ℕ) (fname : Name) (lvl : ℕ) → left ≡ 0 → emitTypeDeclOnce Q N B left id fname lvl ≡ stop 12
+  unfolding emitTypeDeclOnce
   decl-none left id fname lvl e = rw e
 
-  pub chain-none : (left : ℕ) (c : List Entry) (fname : Name) (lvl : ℕ) → left ≡ 0 → emitTypeChain N B left c fname lvl ≡ stop 12
-  unfolding emitTypeChain
+  pub chain-none : (left : ℕ) (c : List Entry) (fname : Name) (lvl : ℕ) → left ≡ 0 → emitTypeChainOnce Q N B left c fname lvl ≡ stop 12
+  unfolding emitTypeChainOnce
   chain-none left c fname lvl e = rw e
 
-  pub def-none : (left id : ℕ) (is-struct : Bool) (name : Name) (sz : ℕ) (ms : List Member) (lvl : ℕ) → left ≡ 0 → emitCompositeDef N B left id is-struct name sz ms lvl ≡ stop 12
-  unfolding emitCompositeDef
+  pub def-none : (left id : ℕ) (is-struct : Bool) (name : Name) (sz : ℕ) (ms : List Member) (lvl : ℕ) → left ≡ 0 → emitCompositeDefOnce Q N B left id is-struct name sz ms lvl ≡ stop 12
+  unfolding emitCompositeDefOnce
   def-none left id is-struct name sz ms lvl e = rw e
 
   pub decl-some : (left id : ℕ) (fname : Name) (lvl : ℕ) → (left ≡ 0 → ⊥)
-      → emitTypeDecl N B left id fname lvl ≡ given (chainOf 512 B id []) (λ c. emitTypeChain N B (left - 1) c fname lvl)
-  unfolding emitTypeDecl
-  decl-some left id fname lvl h = let e : left ≡ suc (left - 1) = omega arith in ap (λ (n : ℕ). emitTypeDecl N B n id fname lvl) e
+      → emitTypeDeclOnce Q N B left id fname lvl ≡ given (chainOf 512 B id []) (λ c. emitTypeChainOnce Q N B (left - 1) c fname lvl)
+  unfolding emitTypeDeclOnce
+  decl-some left id fname lvl h = let e : left ≡ suc (left - 1) = omega arith in ap (λ (n : ℕ). emitTypeDeclOnce Q N B n id fname lvl) e
 
   pub chain-some : (left : ℕ) (c : List Entry) (fname : Name) (lvl : ℕ) → (left ≡ 0 → ⊥)
-      → emitTypeChain N B left c fname lvl ≡ chainRest N B (left - 1) fname lvl false true c
-  unfolding emitTypeChain chainRest
-  chain-some left c fname lvl h = let e : left ≡ suc (left - 1) = omega arith in ap (λ (n : ℕ). emitTypeChain N B n c fname lvl) e
+      → emitTypeChainOnce Q N B left c fname lvl ≡ chainRest Q N B (left - 1) fname lvl false true c
+  unfolding emitTypeChainOnce chainRest
+  chain-some left c fname lvl h = let e : left ≡ suc (left - 1) = omega arith in ap (λ (n : ℕ). emitTypeChainOnce Q N B n c fname lvl) e
 
   pub def-some : (left id : ℕ) (is-struct : Bool) (name : Name) (sz : ℕ) (ms : List Member) (lvl : ℕ) → (left ≡ 0 → ⊥)
-      → emitCompositeDef N B left id is-struct name sz ms lvl ≡ compositeDef N B (emitTypeDecl N B (left - 1)) id is-struct name sz ms lvl
-  unfolding emitCompositeDef
-  def-some left id is-struct name sz ms lvl h = let e : left ≡ suc (left - 1) = omega arith in ap (λ (n : ℕ). emitCompositeDef N B n id is-struct name sz ms lvl) e
+      → emitCompositeDefOnce Q N B left id is-struct name sz ms lvl ≡ compositeDefOnce Q N B (emitTypeDeclOnce Q N B (left - 1)) id is-struct name sz ms lvl
+  unfolding emitCompositeDefOnce
+  def-some left id is-struct name sz ms lvl h = let e : left ≡ suc (left - 1) = omega arith in ap (λ (n : ℕ). emitCompositeDefOnce Q N B n id is-struct name sz ms lvl) e

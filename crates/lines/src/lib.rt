@@ -15,7 +15,8 @@ use typedefs::emit_typedef_def;
 ghost use mathlib.Core.Path.{_≡_};
 ghost use Rattle.text.specs.Text.{ascii, whole, putOut, putText};
 ghost use Rattle.rules.specs.Place.{outOf, putSaid};
-ghost use Rattle.rules.specs.Emit.{definition, forward};
+ghost use Rattle.alignments.specs.Writers.{definitionOnce, forwardOnce};
+ghost use Rattle.asked.specs.Asked.{workAsks};
 ghost use Rattle.btf.specs.Table.{typeOf, btfOf, workNaming};
 
 fn put_line_end(text: &mut [u8], at: usize) -> usize
@@ -34,7 +35,7 @@ pub fn emit_definition(
     id: u32,
     t: BtfType,
 ) -> usize
-    ensures { λ r. ⌜ outOf r (now (text .exit)) (now (work .exit)) ≡ putSaid (now (text .entry)) at (definition (workNaming b) (btfOf b (now (section .entry)) (now (work .entry))) id (typeOf b (now (section .entry)) t) (now (work .entry))) ⌝ }
+    ensures { λ r. ⌜ outOf r (now (text .exit)) (now (work .exit)) ≡ putSaid (now (text .entry)) at (definitionOnce (workAsks (b .types) (btfOf b (now (section .entry)) (now (work .entry)))) (workNaming b) (btfOf b (now (section .entry)) (now (work .entry))) id (typeOf b (now (section .entry)) t) (now (work .entry))) ⌝ }
 {
     match kind_of(t.info) {
         4 | 5 => {
@@ -68,7 +69,7 @@ pub fn emit_forward(
     id: u32,
     t: BtfType,
 ) -> usize
-    ensures { λ r. ⌜ outOf r (now (text .exit)) (now (work .exit)) ≡ putSaid (now (text .entry)) at (forward (workNaming b) (btfOf b (now (section .entry)) (now (work .entry))) id (typeOf b (now (section .entry)) t) (now (work .entry))) ⌝ }
+    ensures { λ r. ⌜ outOf r (now (text .exit)) (now (work .exit)) ≡ putSaid (now (text .entry)) at (forwardOnce (workAsks (b .types) (btfOf b (now (section .entry)) (now (work .entry)))) (workNaming b) (btfOf b (now (section .entry)) (now (work .entry))) id (typeOf b (now (section .entry)) t) (now (work .entry))) ⌝ }
 {
     if is_builtin(b, section, t.name_off) {
         return at;

@@ -15,8 +15,10 @@ use Rattle.rules.specs.Types.{Name, Btf as Rules, tableOf}
 use Rattle.rules.specs.Names.{Space, Resolved}
 use Rattle.rules.specs.Writer.{Said, said, saidNames, Writer}
 use Rattle.rules.specs.Place.{withNames, putSaid}
-use Rattle.rules.specs.Emit.{definition, forward}
-use Rattle.rules.proofs.Keeps.{Keeps, keeps-definition, keeps-forward}
+use Rattle.alignments.specs.Writers.{definitionOnce, forwardOnce}
+use Rattle.asked.specs.Asked.{workAsks}
+use Rattle.rules.proofs.Keeps.{Keeps}
+use Rattle.refusals.proofs.InWork.{definition-keeps, forward-keeps}
 use Rattle.btf.specs.declared.types.Btf.{Btf}
 use Rattle.btf.specs.Cells.{getField, putField, classP, countP, counted}
 use Rattle.btf.specs.Numbers.{numberAt}
@@ -44,6 +46,7 @@ module _ {X : Type 0} (P : List ℕ → X) where
   stays-then w (stuck c) k off h = off
 
   module _ (b : Btf) (marks : (w : List ℕ) (x v : ℕ) → P (putField w x 13 v) ≡ P w) (flags : (w : List ℕ) (x v : ℕ) → P (putField w x 3 v) ≡ P w)
+      (count : (w : List ℕ) (v : ℕ) → P (putField w 0 2 v) ≡ P w) (aligns : (w : List ℕ) (x v : ℕ) → P (putField w x 15 v) ≡ P w)
       (types : (space : Space) (id : ℕ) (name : Name) (w : List ℕ) → P (workNaming b .typeVersion space id name w .names) ≡ P w)
       (values : (id i : ℕ) (name : Name) (w : List ℕ) → P (workNaming b .valueVersion id i name w .names) ≡ P w) (B : Rules) (room : ℕ) (why : ℕ → Entry) where
     stays-said : (v : Writer (List ℕ)) → Keeps P v → (es : List Entry) (m : Sheet) → Stays (m .work) (withEntries es (lineIn v m))
@@ -79,19 +82,19 @@ module _ {X : Type 0} (P : List ℕ → X) where
 
     stays-fwd : (cont : ℕ) (m : Noted Sheet) (x : ℕ) → Stays (m .mach .work) (N cont .fwdLine m x)
     unfolding workMachine
-    stays-fwd cont m x = stays-line (showsIn B x) (entry x 2 cont) (forward (workNaming b) B x (B .type-by-id x)) (keeps-forward (workNaming b) P types values B x (B .type-by-id x)) m
+    stays-fwd cont m x = stays-line (showsIn B x) (entry x 2 cont) (forwardOnce (workAsks (b .types) B) (workNaming b) B x (B .type-by-id x)) (forward-keeps P count aligns b B types values x (B .type-by-id x)) m
 
     stays-alias : (cont : ℕ) (m : Noted Sheet) (x : ℕ) → Stays (m .mach .work) (N cont .aliasLine m x)
     unfolding workMachine
-    stays-alias cont m x = stays-line (showsIn B x) (causeAt 3 (why x) x cont) (forward (workNaming b) B x (B .type-by-id x)) (keeps-forward (workNaming b) P types values B x (B .type-by-id x)) m
+    stays-alias cont m x = stays-line (showsIn B x) (causeAt 3 (why x) x cont) (forwardOnce (workAsks (b .types) B) (workNaming b) B x (B .type-by-id x)) (forward-keeps P count aligns b B types values x (B .type-by-id x)) m
 
     stays-leaf-line : (cont : ℕ) (m : Noted Sheet) (x : ℕ) → Stays (m .mach .work) (N cont .leafLine m x)
     unfolding workMachine
-    stays-leaf-line cont m x = stays-line true (causeAt 2 (why x) x cont) (definition (workNaming b) B x (B .type-by-id x)) (keeps-definition (workNaming b) P types values B x (B .type-by-id x)) m
+    stays-leaf-line cont m x = stays-line true (causeAt 2 (why x) x cont) (definitionOnce (workAsks (b .types) B) (workNaming b) B x (B .type-by-id x)) (definition-keeps P count aligns b B types values x (B .type-by-id x)) m
 
     stays-body : (cont : ℕ) (m : Noted Sheet) (x : ℕ) → Stays (m .mach .work) (N cont .body m x)
     unfolding workMachine
-    stays-body cont m x = stays-line true (why x) (definition (workNaming b) B x (B .type-by-id x)) (keeps-definition (workNaming b) P types values B x (B .type-by-id x)) m
+    stays-body cont m x = stays-line true (why x) (definitionOnce (workAsks (b .types) B) (workNaming b) B x (B .type-by-id x)) (definition-keeps P count aligns b B types values x (B .type-by-id x)) m
 
     stays-eeach : (f : Noted Sheet → ℕ → Out (Noted Sheet)) → ((m : Noted Sheet) (y : ℕ) → Stays (m .mach .work) (f m y)) → (ys : List ℕ) (m : Noted Sheet) → Stays (m .mach .work) (eeach f ys m)
     unfolding eeach
@@ -175,6 +178,12 @@ module _ {X : Type 0} (P : List ℕ → X) where
 table-flag : (b : Btf) (s : List ℕ) (w : List ℕ) (x v : ℕ) → btfOf b s (putField w x 3 v) ≡ btfOf b s w
 table-flag b s w x v = table-field w x 3 v (omega arith) b s (λ e. omega arith) (λ e. omega arith) (λ e. omega arith)
 
+table-count : (b : Btf) (s : List ℕ) (w : List ℕ) (v : ℕ) → btfOf b s (putField w 0 2 v) ≡ btfOf b s w
+table-count b s w v = table-field w 0 2 v (omega arith) b s (λ e. omega arith) (λ e. omega arith) (λ e. omega arith)
+
+table-aligns : (b : Btf) (s : List ℕ) (w : List ℕ) (x v : ℕ) → btfOf b s (putField w x 15 v) ≡ btfOf b s w
+table-aligns b s w x v = table-field w x 15 v (omega arith) b s (λ e. omega arith) (λ e. omega arith) (λ e. omega arith)
+
 table-names : (b : Btf) (s : List ℕ) (space : Space) (id : ℕ) (name : Name) (w : List ℕ) → btfOf b s (workNaming b .typeVersion space id name w .names) ≡ btfOf b s w
 unfolding workNaming
 table-names b s space id name w = table-type-version b s w id
@@ -185,11 +194,11 @@ table-values b s id i name w = table-value-version b s w (enumeratorOf w id i)
 
 module _ (b : Btf) (s : List ℕ) (B : Rules) (room : ℕ) (why : ℕ → Entry) where
   pub table-emit : (n : ℕ) (m : Noted Sheet) (x cont : ℕ) → Stays (btfOf b s) (m .mach .work) (emitNoted (workMachine b B) (upTo room) (showsIn B) why (tableOf B) n m x cont)
-  table-emit = stays-emit (btfOf b s) b (table-emark b s) (table-flag b s) (table-names b s) (table-values b s) B room why
+  table-emit = stays-emit (btfOf b s) b (table-emark b s) (table-flag b s) (table-count b s) (table-aligns b s) (table-names b s) (table-values b s) B room why
 
   pub table-each : (n cont : ℕ) (ys : List ℕ) (m : Noted Sheet) → Stays (btfOf b s) (m .mach .work) (eeach (λ m′ y. emitNoted (workMachine b B) (upTo room) (showsIn B) why (tableOf B) n m′ y cont) ys m)
   table-each n cont ys m =
-      stays-eeach (btfOf b s) b (table-emark b s) (table-flag b s) (table-names b s) (table-values b s) B room why (λ m′ y. emitNoted (workMachine b B) (upTo room) (showsIn B) why (tableOf B) n m′ y cont) (λ m′ y. table-emit n m′ y cont) ys m
+      stays-eeach (btfOf b s) b (table-emark b s) (table-flag b s) (table-count b s) (table-aligns b s) (table-names b s) (table-values b s) B room why (λ m′ y. emitNoted (workMachine b B) (upTo room) (showsIn B) why (tableOf B) n m′ y cont) (λ m′ y. table-emit n m′ y cont) ys m
 
 -- the places of the order list
 place-apart : (types c j : ℕ) → j * 16 + 11 ≢ countP types c
@@ -234,4 +243,4 @@ places-values b id i name w = go (ltb (b .types + enumeratorOf w id i) 429496729
     go true = places-counted (b .types) w (b .types + enumeratorOf w id i)
 
 pub places-emit : (b : Btf) (B : Rules) (room : ℕ) (why : ℕ → Entry) (n : ℕ) (m : Noted Sheet) (x cont : ℕ) → Stays places (m .mach .work) (emitNoted (workMachine b B) (upTo room) (showsIn B) why (tableOf B) n m x cont)
-places-emit b = stays-emit places b (places-field 13 (omega arith) (λ e. omega arith)) (places-field 3 (omega arith) (λ e. omega arith)) (places-names b) (places-values b)
+places-emit b = stays-emit places b (places-field 13 (omega arith) (λ e. omega arith)) (places-field 3 (omega arith) (λ e. omega arith)) (λ w v. places-field 2 (omega arith) (λ e. omega arith) w 0 v) (places-field 15 (omega arith) (λ e. omega arith)) (places-names b) (places-values b)

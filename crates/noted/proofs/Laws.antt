@@ -19,7 +19,8 @@ use Rattle.rules.specs.Types.{BtfType, Btf as Rules, nameOf, nodeOf, isNamed, i
 use Rattle.rules.specs.Names.{contains, builtin}
 use Rattle.rules.specs.Writer.{Said, Writer}
 use Rattle.rules.specs.Place.{withNames, outOf, putSaid}
-use Rattle.rules.specs.Emit.{definition, forward}
+use Rattle.alignments.specs.Writers.{definitionOnce, forwardOnce}
+use Rattle.asked.specs.Asked.{workAsks}
 use Rattle.rules.proofs.Writing.{said-stopped}
 use Rattle.btf.specs.declared.types.Btf.{Btf}
 use Rattle.btf.specs.declared.types.BtfType.{BtfType as Record}

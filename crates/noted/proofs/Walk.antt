@@ -19,7 +19,8 @@ use Rattle.rules.specs.Types.{BtfType, Btf as Rules, nameOf, nodeOf, isNamed, i
 use Rattle.rules.specs.Names.{contains, builtin}
 use Rattle.rules.specs.Writer.{Said, Writer}
 use Rattle.rules.specs.Place.{withNames, outOf, putSaid}
-use Rattle.rules.specs.Emit.{definition, forward}
+use Rattle.alignments.specs.Writers.{definitionOnce, forwardOnce}
+use Rattle.asked.specs.Asked.{workAsks}
 use Rattle.rules.proofs.Writing.{said-stopped}
 use Rattle.btf.specs.declared.types.Btf.{Btf}
 use Rattle.btf.specs.declared.types.BtfType.{BtfType as Record}
@@ -61,13 +62,13 @@ module _ (b : Btf) (B : Rules) (room : ℕ) (ty : BtfType) (n : ℕ) (p : Pen) (
     unfolding onceN once
     once-had h = same-sheet n p t w li onceThen (ap (λ (x : Bool). onceN b B room ty e x (paper n p t w li) id) (sym (had-is had eh) ∙ h))
 
-    pub once-new : had ≡ false → (a : Pen) (t₁ w₁ l₁ w₂ : List ℕ) → notedOut n a t₁ w₁ l₁ ≡ obind (notedOut n p t w li) (λ m. lineN room (shownOf ty) e (forward (workNaming b) B id ty) m) → w₂ ≡ putField w₁ id 3 1
+    pub once-new : had ≡ false → (a : Pen) (t₁ w₁ l₁ w₂ : List ℕ) → notedOut n a t₁ w₁ l₁ ≡ obind (notedOut n p t w li) (λ m. lineN room (shownOf ty) e (forwardOnce (workAsks (b .types) B) (workNaming b) B id ty) m) → w₂ ≡ putField w₁ id 3 1
         → notedOut n a t₁ w₂ l₁ ≡ obind (notedOut n p t w li) onceThen
     unfolding onceN once workMachine
     once-new h a t₁ w₁ l₁ w₂ el ew =
-        then (notedOut n p t w li) (λ m. lineN room (shownOf ty) e (forward (workNaming b) B id ty) m) (λ m. wrote (withN m (putField (m .mach .work) id 3 1))) (notedOut n a t₁ w₁ l₁) (notedOut n a t₁ w₂ l₁) el
+        then (notedOut n p t w li) (λ m. lineN room (shownOf ty) e (forwardOnce (workAsks (b .types) B) (workNaming b) B id ty) m) (λ m. wrote (withN m (putField (m .mach .work) id 3 1))) (notedOut n a t₁ w₁ l₁) (notedOut n a t₁ w₂ l₁) el
         (work-last n a t₁ w₁ l₁ (λ u. putField u id 3 1) w₂ ew)
-        ∙ at-sheet n p t w li (λ m. obind (lineN room (shownOf ty) e (forward (workNaming b) B id ty) m) (λ m′. wrote (withN m′ (putField (m′ .mach .work) id 3 1)))) onceThen
+        ∙ at-sheet n p t w li (λ m. obind (lineN room (shownOf ty) e (forwardOnce (workAsks (b .types) B) (workNaming b) B id ty) m) (λ m′. wrote (withN m′ (putField (m′ .mach .work) id 3 1)))) onceThen
         (λ _. ap (λ (x : Bool). onceN b B room ty e x (paper n p t w li) id) (sym (sym (had-is had eh) ∙ h)))
 
   pub mention-self : (cont : ℕ) → id ≡ cont → notedOut n p t w li ≡ obind (notedOut n p t w li) (λ m. mentionN b B room ty cont m id)
@@ -94,14 +95,14 @@ module _ (b : Btf) (B : Rules) (room : ℕ) (why : ℕ → Entry) (cont : ℕ) (
   once-fwd : (m : Noted Sheet) (id : ℕ) (had : Bool) → ty ≡ B .type-by-id id → onceN b B room ty (entry id 2 cont) had m id ≡ once (machN b B room why cont) (tableOf B) (machN b B room why cont .fwdLine) id had m
   unfolding onceN once workMachine lineN
   once-fwd m id true e = refl
-  once-fwd m id false e = ap (λ (y : BtfType). obind (line (upTo room) (shownOf y) (entry id 2 cont) (λ k. lineIn (forward (workNaming b) B id y) k) m) (λ m′. wrote (withN m′ (putField (m′ .mach .work) id 3 1)))) e
+  once-fwd m id false e = ap (λ (y : BtfType). obind (line (upTo room) (shownOf y) (entry id 2 cont) (λ k. lineIn (forwardOnce (workAsks (b .types) B) (workNaming b) B id y) k) m) (λ m′. wrote (withN m′ (putField (m′ .mach .work) id 3 1)))) e
 
   once-alias : (e : Entry) (m : Noted Sheet) (id : ℕ) → e ≡ causeAt 3 (why id) id cont → (had : Bool) → ty ≡ B .type-by-id id → onceN b B room ty e had m id ≡ once (machN b B room why cont) (tableOf B) (machN b B room why cont .aliasLine) id had m
   unfolding onceN once workMachine lineN
   once-alias e m id ee true q = refl
   once-alias e m id ee false q =
-      ap (λ (y : BtfType). obind (line (upTo room) (shownOf y) e (λ k. lineIn (forward (workNaming b) B id y) k) m) (λ m′. wrote (withN m′ (putField (m′ .mach .work) id 3 1)))) q
-      ∙ ap (λ (z : Entry). obind (line (upTo room) (showsIn B id) z (λ k. lineIn (forward (workNaming b) B id (B .type-by-id id)) k) m) (λ m′. wrote (withN m′ (putField (m′ .mach .work) id 3 1)))) ee
+      ap (λ (y : BtfType). obind (line (upTo room) (shownOf y) e (λ k. lineIn (forwardOnce (workAsks (b .types) B) (workNaming b) B id y) k) m) (λ m′. wrote (withN m′ (putField (m′ .mach .work) id 3 1)))) q
+      ∙ ap (λ (z : Entry). obind (line (upTo room) (showsIn B id) z (λ k. lineIn (forwardOnce (workAsks (b .types) B) (workNaming b) B id (B .type-by-id id)) k) m) (λ m′. wrote (withN m′ (putField (m′ .mach .work) id 3 1)))) ee
 
 again-kind : (b : Btf) (s : List ℕ) (B : Rules) (room : ℕ) (why : ℕ → Entry) (m : Noted Sheet) (id cont : ℕ) (t : Record) (k : ℕ) → kindOf (t .info) ≡ k → (k ≡ 4 → ⊥) → (k ≡ 5 → ⊥) → (k ≡ 8 → ⊥) → again (machN b B room why cont) (tableOf B) m id cont (nodeOf (typeOf b s t)) ≡ wrote m
 unfolding again
@@ -261,14 +262,14 @@ module _ (b : Btf) (s : List ℕ) (room : ℕ) (why : ℕ → Entry) (n : ℕ) (
   shown-is f e = sym (ap (λ (g : Bool). is-fwd || g) (zero-is cont) ∙ e)
 
   pub leaf-shown : (is-fwd || eqb cont 0) ≡ true → (e : Entry) → e ≡ causeAt 2 (why id) id cont → (a : Pen) (t₁ w₁ l₁ w₂ : List ℕ)
-      → notedOut n a t₁ w₁ l₁ ≡ obind (notedOut n p tx w li) (λ m. lineN room true e (definition (workNaming b) (btfOf b s w) id (typeOf b s t)) m) → w₂ ≡ putField w₁ id 13 2 → notedOut n a t₁ w₂ l₁ ≡ obind (notedOut n p tx w li) Leaf
+      → notedOut n a t₁ w₁ l₁ ≡ obind (notedOut n p tx w li) (λ m. lineN room true e (definitionOnce (workAsks (b .types) (btfOf b s w)) (workNaming b) (btfOf b s w) id (typeOf b s t)) m) → w₂ ≡ putField w₁ id 13 2 → notedOut n a t₁ w₂ l₁ ≡ obind (notedOut n p tx w li) Leaf
   unfolding leafN leaf workMachine lineN
   leaf-shown f e ee a t₁ w₁ l₁ w₂ el ew =
-      then (notedOut n p tx w li) (λ m. lineN room true e (definition (workNaming b) (btfOf b s w) id (typeOf b s t)) m) (λ m. wrote (withN m (putField (m .mach .work) id 13 2))) (notedOut n a t₁ w₁ l₁) (notedOut n a t₁ w₂ l₁)
+      then (notedOut n p tx w li) (λ m. lineN room true e (definitionOnce (workAsks (b .types) (btfOf b s w)) (workNaming b) (btfOf b s w) id (typeOf b s t)) m) (λ m. wrote (withN m (putField (m .mach .work) id 13 2))) (notedOut n a t₁ w₁ l₁) (notedOut n a t₁ w₂ l₁)
       el (work-last n a t₁ w₁ l₁ (λ u. putField u id 13 2) w₂ ew)
-      ∙ obind-same (notedOut n p tx w li) (λ m. obind (lineN room true e (definition (workNaming b) (btfOf b s w) id (typeOf b s t)) m) (λ m′. wrote (withN m′ (putField (m′ .mach .work) id 13 2)))) Leaf
-      (λ m. ap (λ (y : BtfType). obind (lineN room true e (definition (workNaming b) (btfOf b s w) id y) m) (λ m′. wrote (withN m′ (putField (m′ .mach .work) id 13 2)))) (sym (type-at b s w id t et))
-      ∙ ap (λ (z : Entry). obind (lineN room true z (definition (workNaming b) (btfOf b s w) id (btfOf b s w .type-by-id id)) m) (λ m′. wrote (withN m′ (putField (m′ .mach .work) id 13 2)))) ee
+      ∙ obind-same (notedOut n p tx w li) (λ m. obind (lineN room true e (definitionOnce (workAsks (b .types) (btfOf b s w)) (workNaming b) (btfOf b s w) id (typeOf b s t)) m) (λ m′. wrote (withN m′ (putField (m′ .mach .work) id 13 2)))) Leaf
+      (λ m. ap (λ (y : BtfType). obind (lineN room true e (definitionOnce (workAsks (b .types) (btfOf b s w)) (workNaming b) (btfOf b s w) id y) m) (λ m′. wrote (withN m′ (putField (m′ .mach .work) id 13 2)))) (sym (type-at b s w id t et))
+      ∙ ap (λ (z : Entry). obind (lineN room true z (definitionOnce (workAsks (b .types) (btfOf b s w)) (workNaming b) (btfOf b s w) id (btfOf b s w .type-by-id id)) m) (λ m′. wrote (withN m′ (putField (m′ .mach .work) id 13 2)))) ee
       ∙ ap (λ (g : Bool). leaf (machN b (btfOf b s w) room why cont) (tableOf (btfOf b s w)) g id m) (shown-is true f))
 
   pub leaf-quiet : (is-fwd || eqb cont 0) ≡ false → (w₂ : List ℕ) → w₂ ≡ putField w id 13 2 → notedOut n p tx w₂ li ≡ obind (notedOut n p tx w li) Leaf
@@ -392,14 +393,14 @@ module _ (b : Btf) (s : List ℕ) (room : ℕ) (why : ℕ → Entry) (n : ℕ) (
 
   pub composite-top : cont ≡ 0 → (c₀ : ℕ) → c₀ ≡ pick nm id cont → (a : Pen) (t₂ w₂ l₂ : List ℕ) → notedOut n a t₂ w₂ l₂ ≡ obind (notedOut n p tx w₁ li) (λ m. eeach (emitN b (btfOf b s w₁) room why left c₀) ms m)
       → (f : Entry) → f ≡ why id → (room₂ : ℕ) → room₂ ≡ room
-      → (c : Pen) (t₃ w₃ l₃ : List ℕ) → notedOut n c t₃ w₃ l₃ ≡ obind (notedOut n a t₂ w₂ l₂) (λ m. lineN room₂ true f (definition (workNaming b) (btfOf b s w₂) id (typeOf b s t)) m) → (w₄ : List ℕ) → w₄ ≡ putField w₃ id 13 2
+      → (c : Pen) (t₃ w₃ l₃ : List ℕ) → notedOut n c t₃ w₃ l₃ ≡ obind (notedOut n a t₂ w₂ l₂) (λ m. lineN room₂ true f (definitionOnce (workAsks (b .types) (btfOf b s w₂)) (workNaming b) (btfOf b s w₂) id (typeOf b s t)) m) → (w₄ : List ℕ) → w₄ ≡ putField w₃ id 13 2
       → notedOut n c t₃ w₄ l₃ ≡ obind (notedOut n p tx w li) Composed
   unfolding within close emitN workMachine lineN
   composite-top z c₀ ec a t₂ w₂ l₂ e₂ f ef room₂ er c t₃ w₃ l₃ e₃ w₄ e₄ =
-      then (notedOut n a t₂ w₂ l₂) (λ m. lineN room true f (definition (workNaming b) Bc id (typeOf b s t)) m) (λ m. wrote (withN m (putField (m .mach .work) id 13 2))) (notedOut n c t₃ w₃ l₃) (notedOut n c t₃ w₄ l₃)
-      (e₃ ∙ ap (λ (r : ℕ). obind (notedOut n a t₂ w₂ l₂) (λ m. lineN r true f (definition (workNaming b) (btfOf b s w₂) id (typeOf b s t)) m)) er
-      ∙ same-table b s n a t₂ w₂ l₂ w₁ (λ Q m. lineN room true f (definition (workNaming b) Q id (typeOf b s t)) m) (members-stay c₀ a t₂ w₂ l₂ e₂)
-      ∙ ap (λ (Q : Rules). obind (notedOut n a t₂ w₂ l₂) (λ m. lineN room true f (definition (workNaming b) Q id (typeOf b s t)) m)) same₁)
+      then (notedOut n a t₂ w₂ l₂) (λ m. lineN room true f (definitionOnce (workAsks (b .types) Bc) (workNaming b) Bc id (typeOf b s t)) m) (λ m. wrote (withN m (putField (m .mach .work) id 13 2))) (notedOut n c t₃ w₃ l₃) (notedOut n c t₃ w₄ l₃)
+      (e₃ ∙ ap (λ (r : ℕ). obind (notedOut n a t₂ w₂ l₂) (λ m. lineN r true f (definitionOnce (workAsks (b .types) (btfOf b s w₂)) (workNaming b) (btfOf b s w₂) id (typeOf b s t)) m)) er
+      ∙ same-table b s n a t₂ w₂ l₂ w₁ (λ Q m. lineN room true f (definitionOnce (workAsks (b .types) Q) (workNaming b) Q id (typeOf b s t)) m) (members-stay c₀ a t₂ w₂ l₂ e₂)
+      ∙ ap (λ (Q : Rules). obind (notedOut n a t₂ w₂ l₂) (λ m. lineN room true f (definitionOnce (workAsks (b .types) Q) (workNaming b) Q id (typeOf b s t)) m)) same₁)
       (work-last n c t₃ w₃ l₃ (λ u. putField u id 13 2) w₄ e₄)
       ∙ ap (λ (o : Out (Noted Sheet)). obind o (shut f (typeOf b s t))) (members-call c₀ a t₂ w₂ l₂ e₂)
       ∙ obind-then (notedOut n p tx w li) (λ m. eeach (emitN b Bc room why left c₀) ms (withN m (putField (m .mach .work) id 13 1))) (shut f (typeOf b s t))
@@ -410,7 +411,7 @@ module _ (b : Btf) (s : List ℕ) (room : ℕ) (why : ℕ → Entry) (n : ℕ) (
       ∙ begun true nm (ap isZero z) refl m)
     where
       shut : Entry → BtfType → Noted Sheet → Out (Noted Sheet)
-      shut g y m = obind (lineN room true g (definition (workNaming b) Bc id y) m) (λ m′. wrote (withN m′ (putField (m′ .mach .work) id 13 2)))
+      shut g y m = obind (lineN room true g (definitionOnce (workAsks (b .types) Bc) (workNaming b) Bc id y) m) (λ m′. wrote (withN m′ (putField (m′ .mach .work) id 13 2)))
 
   not-top : (cont ≡ 0 → ⊥) → isZero cont ≡ false
   not-top z = zero-is cont ∙ ne-eqb cont 0 z

@@ -10,7 +10,8 @@ use Rattle.rules.specs.Machine.{Out, wrote, stuck, Machine, isZero, once, again
 use Rattle.rules.specs.Types.{BtfType, Btf as Rules, nameOf, tableOf}
 use Rattle.rules.specs.Names.{builtin}
 use Rattle.rules.specs.Writer.{Writer}
-use Rattle.rules.specs.Emit.{forward}
+use Rattle.alignments.specs.Writers.{forwardOnce}
+use Rattle.asked.specs.Asked.{workAsks}
 use Rattle.btf.specs.declared.types.Btf.{Btf}
 use Rattle.btf.specs.Table.{workNaming}
 use Rattle.sheet.specs.Sheet.{Sheet, emitOut, lineIn, workMachine}
@@ -81,7 +82,7 @@ module _ (b : Btf) (B : Rules) (room : ℕ) where
   hasN m x = workMachine b B .hasFwd (m .mach) x
 
   unfoldable pub onceN : BtfType → Entry → Bool → Noted Sheet → ℕ → Out (Noted Sheet)
-  onceN ty e had m x = once (machN b B room (λ y. e) 0) (tableOf B) (λ m′ y. lineN room (shownOf ty) e (forward (workNaming b) B y ty) m′) x had m
+  onceN ty e had m x = once (machN b B room (λ y. e) 0) (tableOf B) (λ m′ y. lineN room (shownOf ty) e (forwardOnce (workAsks (b .types) B) (workNaming b) B y ty) m′) x had m
 
   unfoldable pub mentionN : BtfType → ℕ → Noted Sheet → ℕ → Out (Noted Sheet)
   mentionN ty cont m x = onceN ty (entry x 2 cont) (hasN m x || eqb x cont) m x

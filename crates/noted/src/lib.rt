@@ -15,7 +15,8 @@ ghost use mathlib.Core.List.{List};
 ghost use Prim.Native.Nat.{ℕ, _<_, _/_};
 ghost use lib.ListN.{length};
 ghost use Rattle.rules.specs.Machine.{obind};
-ghost use Rattle.rules.specs.Emit.{definition, forward as forwardOf};
+ghost use Rattle.alignments.specs.Writers.{definitionOnce, forwardOnce};
+ghost use Rattle.asked.specs.Asked.{workAsks};
 ghost use Rattle.btf.specs.Table.{typeOf, btfOf, workNaming};
 ghost use Rattle.causes.specs.Causes.{causeAt, entriesIn};
 ghost use Rattle.leads.specs.Leads.{entryIn};
@@ -132,7 +133,7 @@ pub fn define(
     t: BtfType,
     e: Cause,
 ) -> Pen
-    ensures { λ r. ⌜ ((n : ℕ) → notedOut n r (now (text .exit)) (now (work .exit)) (now (list .exit)) ≡ obind (notedOut n p (now (text .entry)) (now (work .entry)) (now (list .entry))) (λ m. lineN (entriesIn (now (list .entry))) true (entryOf e) (definition (workNaming b) (btfOf b (now (section .entry)) (now (work .entry))) id (typeOf b (now (section .entry)) t)) m)) ⌝ }
+    ensures { λ r. ⌜ ((n : ℕ) → notedOut n r (now (text .exit)) (now (work .exit)) (now (list .exit)) ≡ obind (notedOut n p (now (text .entry)) (now (work .entry)) (now (list .entry))) (λ m. lineN (entriesIn (now (list .entry))) true (entryOf e) (definitionOnce (workAsks (b .types) (btfOf b (now (section .entry)) (now (work .entry)))) (workNaming b) (btfOf b (now (section .entry)) (now (work .entry))) id (typeOf b (now (section .entry)) t)) m)) ⌝ }
 {
     let q = note(text, list, p, e);
     let a = emit_definition(b, section, work, text, q.at, id, t);
@@ -154,7 +155,7 @@ pub fn forward(
     t: BtfType,
     e: Cause,
 ) -> Pen
-    ensures { λ r. ⌜ ((n : ℕ) → notedOut n r (now (text .exit)) (now (work .exit)) (now (list .exit)) ≡ obind (notedOut n p (now (text .entry)) (now (work .entry)) (now (list .entry))) (λ m. lineN (entriesIn (now (list .entry))) (shownOf (typeOf b (now (section .entry)) t)) (entryOf e) (forwardOf (workNaming b) (btfOf b (now (section .entry)) (now (work .entry))) id (typeOf b (now (section .entry)) t)) m)) ⌝ }
+    ensures { λ r. ⌜ ((n : ℕ) → notedOut n r (now (text .exit)) (now (work .exit)) (now (list .exit)) ≡ obind (notedOut n p (now (text .entry)) (now (work .entry)) (now (list .entry))) (λ m. lineN (entriesIn (now (list .entry))) (shownOf (typeOf b (now (section .entry)) t)) (entryOf e) (forwardOnce (workAsks (b .types) (btfOf b (now (section .entry)) (now (work .entry)))) (workNaming b) (btfOf b (now (section .entry)) (now (work .entry))) id (typeOf b (now (section .entry)) t)) m)) ⌝ }
 {
     let shown = is_shown(b, section, t);
     let q = note_if(text, list, p, e, shown);

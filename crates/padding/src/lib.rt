@@ -1,10 +1,10 @@
 // Pads before a member, and in placing mode after the last.
+use asked::gap_align;
 use btf::Btf;
 use btf::BtfMember;
 use btf::BtfType;
 use btf::is_struct;
 use layout::Ask;
-use layout::get_align_of;
 use pads::put_pads;
 use pads::put_placed_pads;
 use text::put_byte;
@@ -13,23 +13,14 @@ ghost use mathlib.Core.Path.{_≡_};
 ghost use Prim.Native.Nat.{_*_, _-_};
 ghost use lib.Dec.{eqb};
 ghost use Rattle.text.specs.Text.{whole, putOut, putText};
-ghost use Rattle.rules.specs.Layout.{gapPads, placedGap, padsBefore, bitPadding};
+ghost use Rattle.rules.specs.Layout.{gapPads, placedGap, padsBefore};
 ghost use Rattle.rules.specs.Placing.{tailPads};
 ghost use Rattle.rules.specs.Decl.{pads, tailText};
 ghost use Rattle.btf.specs.Records.{kindOf};
 ghost use Rattle.btf.specs.Table.{btfOf, ruleMember};
-ghost use Rattle.layout.specs.Answers.{askOf};
-ghost use Rattle.pads.specs.Texts.{gapAlign, padText, loneLine};
-
-// The alignment that decides whether a gap is natural.
-fn gap_align(b: Btf, section: &[u8], work: &[u8], m: BtfMember, packed: bool) -> Ask
-    ensures { λ r. ⌜ askOf r ≡ gapAlign (btfOf b (now (section .entry)) (now (work .entry))) (m .«type_id») packed ⌝ }
-{
-    if packed {
-        return Ask::Got(1);
-    }
-    get_align_of(b, section, work, m.type_id, 512)
-}
+ghost use Rattle.rules.specs.Place.{outOf, putSaid};
+ghost use Rattle.pads.specs.Texts.{loneLine};
+ghost use Rattle.padding.specs.Asking.{padSaid};
 
 // The pads of a gap before a member with an alignment; before a plain member a natural gap has none.
 fn put_gap(
@@ -99,7 +90,7 @@ fn put_pads_before(
 pub fn emit_bit_padding(
     b: Btf,
     section: &[u8],
-    work: &[u8],
+    work: &mut [u8],
     text: &mut [u8],
     at: usize,
     offset: u32,
@@ -107,13 +98,13 @@ pub fn emit_bit_padding(
     packed: bool,
     lvl: u32,
 ) -> usize
-    ensures { λ r. ⌜ putOut r (now (text .exit)) ≡ putText (now (text .entry)) at (padText lvl (bitPadding (btfOf b (now (section .entry)) (now (work .entry))) offset (ruleMember b (now (section .entry)) m) packed)) ⌝ }
+    ensures { λ r. ⌜ outOf r (now (text .exit)) (now (work .exit)) ≡ putSaid (now (text .entry)) at (padSaid (b .types) (btfOf b (now (section .entry)) (now (work .entry))) offset (ruleMember b (now (section .entry)) m) packed lvl (now (work .entry))) ⌝ }
 {
     let end = m.bit_offset;
     if end <= offset {
         return at;
     }
-    match gap_align(b, section, work, m, packed) {
+    match gap_align(b, section, work, m.type_id, packed) {
         Ask::Got(a) => put_pads_before(b, text, at, offset, m.bit_size, end - offset, a, lvl),
         Ask::No(c) => stop(text, at, c),
     }

@@ -9,8 +9,8 @@ use lib.Dec.{eqb, leb}
 use borrow.Author.Tests.{le-leb, lt-leb, eq-eqb, ne-eqb, lt-ltb, le-ltb}
 use Rattle.rules.specs.Writer.{Ask, got, no, askThen, checked, misplaced}
 use Rattle.rules.specs.Types.{Member, Btf as Rules}
-use Rattle.rules.specs.Layout.{larger, getSizeOf, alignMembers, getAlignOf, isStructPacked, endOf}
-use Rattle.rules.specs.Placing.{roundUp, sameUnit, fieldSize, fieldFits, startFits, memberFits, Extent, reached, withMember, extentOf, noExtent, unionAlign, sizeFits, measured, bodyPacked}
+use Rattle.rules.specs.Layout.{larger, getSizeOf, endOf}
+use Rattle.rules.specs.Placing.{roundUp, sameUnit, fieldSize, fieldFits, startFits, memberFits, Extent, reached, withMember, extentOf, noExtent, sizeFits}
 use Rattle.btf.specs.declared.types.Btf.{Btf}
 use Rattle.btf.specs.declared.types.BtfType.{BtfType as Record}
 use Rattle.btf.specs.declared.types.BtfMember.{BtfMember}
@@ -24,7 +24,14 @@ use Rattle.layout.specs.Answers.{askOf, packedOf}
 use Rattle.placing.specs.declared.Extent.{Extent as Code}
 use Rattle.placing.specs.declared.Extents.{Extents}
 use Rattle.placing.specs.declared.Extents.the-variants.{Got, No}
-use Rattle.placing.specs.Steps.{extentIs, extentsOf, withExtent, oneMember, judged, measuredBy}
+use Rattle.alignments.specs.Once.{Keep, Once, Asking, onceThen}
+use Rattle.alignments.specs.Steps.{plainly, packedOnce, unionAlignOnce, judged as judgedBy, measuredOnce, bodyOnce}
+use Rattle.remembered.specs.Words.{workKeep, forget}
+use Rattle.remembered.proofs.Turns.{next, then-next}
+use Rattle.asked.specs.Asked.{askIn, packedIn, unionIn, packedAt}
+use Rattle.asked.proofs.Stays.{steady-plainly, steady-judged}
+use Rattle.asked.proofs.Laws.{plain-packed}
+use Rattle.placing.specs.Steps.{extentIs, extentsOf, withExtent, oneMember, judged, byIn, measuredIn, bodyIn}
 
 -- ---- round_up
 module _ (n a : ℕ) where
@@ -192,16 +199,6 @@ module _ (B : Rules) (b : Btf) (s : List ℕ) (t : Record) (is p : Bool) where
 pub extent-as : (B : Rules) (is kind p : Bool) (ms : List Member) (r : Ask Extent) → is ≡ kind → r ≡ extentOf B is p noExtent ms → r ≡ extentOf B kind p noExtent ms
 extent-as B is kind p ms r e er = er ∙ ap (λ (z : Bool). extentOf B z p noExtent ms) e
 
--- ---- union_align
-module _ (B : Rules) (is : Bool) (ms : List Member) where
-  pub align-struct : is ≡ true → askOf (ask.Got 1) ≡ unionAlign B is ms
-  unfolding askOf unionAlign
-  align-struct e = rw e
-
-  pub align-union : is ≡ false → (r : Answer) → askOf r ≡ alignMembers (getAlignOf 511 B) 1 ms → askOf r ≡ unionAlign B is ms
-  unfolding unionAlign
-  align-union e r er = er ∙ rw e
-
 -- ---- size_fits
 module _ (is : Bool) (a last bits : ℕ) where
   pub size-struct : is ≡ true → leb last bits ≡ sizeFits is a last bits
@@ -251,45 +248,59 @@ module _ (is : Bool) (sz a : ℕ) (p : Bool) (x : Code) where
       judged-size e = let f : sizeFits is a (x .last) (sz * 8) ≡ false = sym eq ∙ e in rw (sized-so, t, f)
 
 -- ---- measured_by, measured, body_packed
-module _ (B : Rules) (is : Bool) (sz : ℕ) (ms : List Member) (a : ℕ) (q : Packed) (eq : packedOf q ≡ isStructPacked B is sz ms) where
-  pub by-refused : (c : ℕ) → q ≡ packed.No c → packedOf (packed.No c) ≡ measuredBy B is sz ms a
-  unfolding measuredBy askThen packedOf
-  by-refused c e = ap (λ (y : Ask Bool). askThen y (λ p. askThen (extentOf B is p noExtent ms) (judged is sz a p))) (sym (ap packedOf e) ∙ eq)
+module _ (types : ℕ) (B : Rules) (is : Bool) (id sz : ℕ) (ms : List Member) (w : List ℕ) where
+  abbrev K : Keep (List ℕ)
+  K = workKeep types B
 
-  module _ (p : Bool) (e : q ≡ packed.Is p) (r : Extents) (er : extentsOf r ≡ extentOf B is p noExtent ms) where
-    by-packed : measuredBy B is sz ms a ≡ askThen (extentsOf r) (judged is sz a p)
-    unfolding measuredBy askThen packedOf
-    by-packed =
-        ap (λ (y : Ask Bool). askThen y (λ p. askThen (extentOf B is p noExtent ms) (judged is sz a p))) (sym eq ∙ ap packedOf e)
-        ∙ ap (λ (y : Ask Extent). askThen y (judged is sz a p)) (sym er)
+  abbrev last : ℕ → Bool → Asking (List ℕ) Bool
+  last a p = plainly (judgedBy B is sz ms a p)
 
-    pub by-endless : (c : ℕ) → r ≡ No c → packedOf (packed.No c) ≡ measuredBy B is sz ms a
-    unfolding askThen packedOf extentsOf
-    by-endless c f = sym (by-packed ∙ ap (λ (y : Extents). askThen (extentsOf y) (judged is sz a p)) f)
+  module _ (a : ℕ) (q : Packed) (u : List ℕ) (eq : packedIn q u ≡ packedAt types B is id sz ms w) where
+    by-asked : byIn types B is id sz ms a w ≡ next (last a) (packedIn q u)
+    unfolding byIn packedAt
+    by-asked = then-next (last a) (λ p. steady-plainly (judgedBy B is sz ms a p)) (packedOnce K B is id sz ms w 0) ∙ ap (next (last a)) (sym eq)
 
-    pub by-judged : (x : Code) → r ≡ Got x → (z : Packed) → packedOf z ≡ judged is sz a p (extentIs x) → packedOf z ≡ measuredBy B is sz ms a
-    unfolding askThen extentsOf
-    by-judged x f z ez = ez ∙ sym (by-packed ∙ ap (λ (y : Extents). askThen (extentsOf y) (judged is sz a p)) f)
+    pub by-refused : (c : ℕ) → q ≡ packed.No c → packedIn (packed.No c) u ≡ byIn types B is id sz ms a w
+    unfolding packedIn next
+    by-refused c e = sym (by-asked ∙ ap (λ (y : Packed). next (last a) (packedIn y u)) e)
 
-module _ (B : Rules) (is : Bool) (sz : ℕ) (ms : List Member) where
-  measured-is : measured B is sz ms ≡ askThen (unionAlign B is ms) (measuredBy B is sz ms)
-  unfolding measured measuredBy judged
-  measured-is = refl
+    module _ (p : Bool) (e : q ≡ packed.Is p) (C : Rules) (eC : C ≡ B) (r : Extents) (er : extentsOf r ≡ extentOf C is p noExtent ms) where
+      by-packed : byIn types B is id sz ms a w ≡ forget (plainly (askThen (extentsOf r) (judged is sz a p)) u 0)
+      unfolding packedIn next judgedBy judged
+      by-packed =
+          by-asked ∙ ap (λ (y : Packed). next (last a) (packedIn y u)) e
+          ∙ ap (λ (y : Ask Extent). forget (plainly {M = List ℕ} (askThen y (judged is sz a p)) u 0)) (sym (er ∙ ap (λ (D : Rules). extentOf D is p noExtent ms) eC))
 
-  module _ (q : Answer) (eq : askOf q ≡ unionAlign B is ms) where
-    pub measured-refused : (c : ℕ) → q ≡ ask.No c → packedOf (packed.No c) ≡ measured B is sz ms
-    unfolding askThen packedOf askOf
-    measured-refused c e = sym (measured-is ∙ ap (λ (y : Ask ℕ). askThen y (measuredBy B is sz ms)) (sym eq ∙ ap askOf e))
+      pub by-endless : (c : ℕ) → r ≡ No c → packedIn (packed.No c) u ≡ byIn types B is id sz ms a w
+      unfolding askThen packedIn extentsOf plainly forget
+      by-endless c f = sym (by-packed ∙ ap (λ (y : Extents). forget (plainly {M = List ℕ} (askThen (extentsOf y) (judged is sz a p)) u 0)) f)
 
-    pub measured-got : (a : ℕ) → q ≡ ask.Got a → (z : Packed) → packedOf z ≡ measuredBy B is sz ms a → packedOf z ≡ measured B is sz ms
-    unfolding askThen askOf
-    measured-got a e z ez = ez ∙ sym (measured-is ∙ ap (λ (y : Ask ℕ). askThen y (measuredBy B is sz ms)) (sym eq ∙ ap askOf e))
+      pub by-judged : (x : Code) → r ≡ Got x → (z : Packed) → packedOf z ≡ judged is sz a p (extentIs x) → packedIn z u ≡ byIn types B is id sz ms a w
+      unfolding askThen extentsOf
+      by-judged x f z ez =
+          sym (by-packed ∙ ap (λ (y : Extents). forget (plainly {M = List ℕ} (askThen (extentsOf y) (judged is sz a p)) u 0)) f ∙ ap (λ (y : Ask Bool). forget (plainly {M = List ℕ} y u 0)) (sym ez) ∙ plain-packed u z)
 
-module _ (b : Btf) (s w : List ℕ) (is : Bool) (sz : ℕ) (ms : List Member) (z : Packed) where
-  pub body-placed : b .placing ≡ true → packedOf z ≡ measured (btfOf b s w) is sz ms → packedOf z ≡ bodyPacked (btfOf b s w) is sz ms
-  unfolding bodyPacked btfOf
+  abbrev rest : ℕ → Asking (List ℕ) Bool
+  rest a m k = onceThen (packedOnce K B is id sz ms m k) (last a)
+
+  module _ (q : Answer) (u : List ℕ) (eq : askIn q u ≡ unionIn types B is id w) where
+    measured-is : measuredIn types B is id sz ms w ≡ next rest (askIn q u)
+    unfolding measuredIn measuredOnce unionIn
+    measured-is = then-next rest (λ a. steady-judged K B is id sz ms a) (unionAlignOnce K B is id w 0) ∙ ap (next rest) (sym eq)
+
+    pub measured-refused : (c : ℕ) → q ≡ ask.No c → packedIn (packed.No c) u ≡ measuredIn types B is id sz ms w
+    unfolding packedIn askIn next
+    measured-refused c e = sym (measured-is ∙ ap (λ (y : Answer). next rest (askIn y u)) e)
+
+    pub measured-got : (a : ℕ) → q ≡ ask.Got a → (C : Rules) → C ≡ B → (z : Packed) (u′ : List ℕ) → packedIn z u′ ≡ byIn types C is id sz ms a u → packedIn z u′ ≡ measuredIn types B is id sz ms w
+    unfolding askIn next byIn
+    measured-got a e C eC z u′ ez = ez ∙ ap (λ (D : Rules). byIn types D is id sz ms a u) eC ∙ sym (measured-is ∙ ap (λ (y : Answer). next rest (askIn y u)) e)
+
+module _ (b : Btf) (s w : List ℕ) (is : Bool) (id sz : ℕ) (ms : List Member) (z : Packed) (u : List ℕ) where
+  pub body-placed : b .placing ≡ true → packedIn z u ≡ measuredIn (b .types) (btfOf b s w) is id sz ms w → packedIn z u ≡ bodyIn (b .types) (btfOf b s w) is id sz ms w
+  unfolding bodyIn bodyOnce measuredIn btfOf
   body-placed e ez = ez ∙ rw e
 
-  pub body-old : b .placing ≡ false → packedOf z ≡ isStructPacked (btfOf b s w) is sz ms → packedOf z ≡ bodyPacked (btfOf b s w) is sz ms
-  unfolding bodyPacked btfOf
+  pub body-old : b .placing ≡ false → packedIn z u ≡ packedAt (b .types) (btfOf b s w) is id sz ms w → packedIn z u ≡ bodyIn (b .types) (btfOf b s w) is id sz ms w
+  unfolding bodyIn bodyOnce packedAt btfOf
   body-old e ez = ez ∙ rw e

@@ -1,11 +1,14 @@
--- The measuring of a body (rules, Placing), step by step; only private functions promise what is defined here.
+-- The measuring of a body (rules, Placing), step by step.
 use Prim.Native.Nat.{ℕ, _*_}
 use mathlib.Core.Bool.{Bool, true, false, _&&_}
 use mathlib.Core.List.{List}
 use Rattle.rules.specs.Writer.{Ask, got, no, askThen, checked, misplaced}
 use Rattle.rules.specs.Types.{Member, Btf}
-use Rattle.rules.specs.Layout.{isStructPacked, endOf}
-use Rattle.rules.specs.Placing.{Extent, fieldSize, withMember, extentOf, noExtent, sizeFits}
+use Rattle.rules.specs.Layout.{endOf}
+use Rattle.rules.specs.Placing.{Extent, fieldSize, withMember, sizeFits}
+use Rattle.alignments.specs.Once.{Once, onceThen}
+use Rattle.alignments.specs.Steps.{plainly, packedOnce, judged as judgedBy, measuredOnce, bodyOnce}
+use Rattle.remembered.specs.Words.{workKeep, forget}
 use Rattle.placing.specs.declared.Extent.{Extent as Code}
 use Rattle.placing.specs.declared.Extents.{Extents}
 use Rattle.placing.specs.declared.Extents.the-variants.{Got, No}
@@ -30,5 +33,13 @@ unfoldable pub judged : Bool → ℕ → ℕ → Bool → Extent → Ask Bool
 judged is-struct sz a packed x =
     askThen (checked (8 * sz)) (λ bits. elim (x .fits && sizeFits is-struct a (x .last) bits) [ true ↦ got packed | false ↦ no misplaced ])
 
-unfoldable pub measuredBy : Btf → Bool → ℕ → List Member → ℕ → Ask Bool
-measuredBy B is-struct sz ms a = askThen (isStructPacked B is-struct sz ms) (λ packed. askThen (extentOf B is-struct packed noExtent ms) (judged is-struct sz a packed))
+-- ---- over the work, in which alignments are remembered
+module _ (types : ℕ) (B : Btf) where
+  unfoldable pub byIn : Bool → ℕ → ℕ → List Member → ℕ → List ℕ → Once (List ℕ) Bool
+  byIn is-struct id sz ms a w = forget (onceThen (packedOnce (workKeep types B) B is-struct id sz ms w 0) (λ packed. plainly (judgedBy B is-struct sz ms a packed)))
+
+  unfoldable pub measuredIn : Bool → ℕ → ℕ → List Member → List ℕ → Once (List ℕ) Bool
+  measuredIn is-struct id sz ms w = forget (measuredOnce (workKeep types B) B is-struct id sz ms w 0)
+
+  unfoldable pub bodyIn : Bool → ℕ → ℕ → List Member → List ℕ → Once (List ℕ) Bool
+  bodyIn is-struct id sz ms w = forget (bodyOnce (workKeep types B) B is-struct id sz ms w 0)

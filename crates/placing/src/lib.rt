@@ -1,4 +1,6 @@
 // Placing mode: a body is measured before its first name or byte.
+use asked::is_packed;
+use asked::union_align;
 use btf::Btf;
 use btf::BtfMember;
 use btf::BtfType;
@@ -7,19 +9,18 @@ use btf::load_member;
 use btf::vlen_of;
 use layout::Ask;
 use layout::Packed;
-use layout::composite_align;
 use layout::get_size_of;
-use layout::is_struct_packed;
 use layout::member_end;
 use rules::larger;
 ghost use mathlib.Core.Path.{_≡_};
 ghost use Prim.Native.Nat.{_*_};
 ghost use lib.Dec.{eqb};
-ghost use Rattle.rules.specs.Placing.{roundUp, sameUnit, fieldSize, fieldFits, startFits, memberFits, reached, unionAlign, sizeFits, measured, bodyPacked, extentOf, noExtent};
+ghost use Rattle.rules.specs.Placing.{roundUp, sameUnit, fieldSize, fieldFits, startFits, memberFits, reached, sizeFits, extentOf, noExtent};
 ghost use Rattle.btf.specs.Records.{kindOf};
 ghost use Rattle.btf.specs.Table.{btfOf, membersOf, ruleMember};
 ghost use Rattle.layout.specs.Answers.{askOf, packedOf};
-ghost use Rattle.placing.specs.Steps.{extentIs, extentsOf, oneMember, withExtent, judged, measuredBy};
+ghost use Rattle.asked.specs.Asked.{packedIn};
+ghost use Rattle.placing.specs.Steps.{extentIs, extentsOf, oneMember, withExtent, judged, byIn, measuredIn, bodyIn};
 
 // What the members reach, a struct's last end or a union's largest member, and whether all of them fit.
 struct Extent {
@@ -179,16 +180,6 @@ fn extent_of(b: Btf, section: &[u8], work: &[u8], t: BtfType, packed: bool) -> E
     Extents::Got(x)
 }
 
-// A union's alignment; a struct's is asked by the packed test.
-fn union_align(b: Btf, section: &[u8], work: &[u8], t: BtfType) -> Ask
-    ensures { λ r. ⌜ askOf r ≡ unionAlign (btfOf b (now (section .entry)) (now (work .entry))) (eqb (kindOf (t .info)) 4) (membersOf b (now (section .entry)) t) ⌝ }
-{
-    if is_struct(t) {
-        return Ask::Got(1);
-    }
-    composite_align(b, section, work, t)
-}
-
 fn size_fits(in_struct: bool, a: u32, last: u32, bits: u64) -> bool
     ensures { λ r. ⌜ r ≡ sizeFits «in_struct» a last bits ⌝ }
 {
@@ -216,10 +207,10 @@ fn judged(t: BtfType, a: u32, x: Extent, packed: bool) -> Packed
 }
 
 // The packed test, then the members, then the whole.
-fn measured_by(b: Btf, section: &[u8], work: &[u8], t: BtfType, a: u32) -> Packed
-    ensures { λ r. ⌜ packedOf r ≡ measuredBy (btfOf b (now (section .entry)) (now (work .entry))) (eqb (kindOf (t .info)) 4) (t .«type_id») (membersOf b (now (section .entry)) t) a ⌝ }
+fn measured_by(b: Btf, section: &[u8], work: &mut [u8], id: u32, t: BtfType, a: u32) -> Packed
+    ensures { λ r. ⌜ packedIn r (now (work .exit)) ≡ byIn (b .types) (btfOf b (now (section .entry)) (now (work .entry))) (eqb (kindOf (t .info)) 4) id (t .«type_id») (membersOf b (now (section .entry)) t) a (now (work .entry)) ⌝ }
 {
-    match is_struct_packed(b, section, work, t) {
+    match is_packed(b, section, work, id, t) {
         Packed::Is(packed) => match extent_of(b, section, work, t, packed) {
             Extents::Got(x) => judged(t, a, x, packed),
             Extents::No(c) => Packed::No(c),
@@ -228,21 +219,21 @@ fn measured_by(b: Btf, section: &[u8], work: &[u8], t: BtfType, a: u32) -> Packe
     }
 }
 
-fn measured(b: Btf, section: &[u8], work: &[u8], t: BtfType) -> Packed
-    ensures { λ r. ⌜ packedOf r ≡ measured (btfOf b (now (section .entry)) (now (work .entry))) (eqb (kindOf (t .info)) 4) (t .«type_id») (membersOf b (now (section .entry)) t) ⌝ }
+fn measured(b: Btf, section: &[u8], work: &mut [u8], id: u32, t: BtfType) -> Packed
+    ensures { λ r. ⌜ packedIn r (now (work .exit)) ≡ measuredIn (b .types) (btfOf b (now (section .entry)) (now (work .entry))) (eqb (kindOf (t .info)) 4) id (t .«type_id») (membersOf b (now (section .entry)) t) (now (work .entry)) ⌝ }
 {
-    match union_align(b, section, work, t) {
-        Ask::Got(a) => measured_by(b, section, work, t, a),
+    match union_align(b, section, work, id, t) {
+        Ask::Got(a) => measured_by(b, section, work, id, t, a),
         Ask::No(c) => Packed::No(c),
     }
 }
 
 // What is known of a body before its first name or byte: whether it is packed, or the refusal. The mode chooses.
-pub fn body_packed(b: Btf, section: &[u8], work: &[u8], t: BtfType) -> Packed
-    ensures { λ r. ⌜ packedOf r ≡ bodyPacked (btfOf b (now (section .entry)) (now (work .entry))) (eqb (kindOf (t .info)) 4) (t .«type_id») (membersOf b (now (section .entry)) t) ⌝ }
+pub fn body_packed(b: Btf, section: &[u8], work: &mut [u8], id: u32, t: BtfType) -> Packed
+    ensures { λ r. ⌜ packedIn r (now (work .exit)) ≡ bodyIn (b .types) (btfOf b (now (section .entry)) (now (work .entry))) (eqb (kindOf (t .info)) 4) id (t .«type_id») (membersOf b (now (section .entry)) t) (now (work .entry)) ⌝ }
 {
     if b.placing {
-        return measured(b, section, work, t);
+        return measured(b, section, work, id, t);
     }
-    is_struct_packed(b, section, work, t)
+    is_packed(b, section, work, id, t)
 }

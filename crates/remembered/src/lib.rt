@@ -23,7 +23,7 @@ ghost use Rattle.remembered.specs.Words.{seenIs, seenWord, coded, counte
 
 // What is remembered of a type.
 pub struct Seen {
-    align: u32,
+    pub align: u32,
     height: u32,
 }
 

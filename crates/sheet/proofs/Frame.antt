@@ -1,4 +1,4 @@
--- What emission leaves alone: whatever reads neither emission's marks and flags nor the names. Assumes nothing.
+-- What emission leaves alone: whatever reads neither emission's marks and flags nor the names nor the remembered alignments. Assumes nothing.
 use Prim.Native.Nat.{ℕ, zero, suc, _+_, _-_, _*_, _<_}
 use mathlib.Core.Path.{_≡_, refl, ap, _∙_, sym}
 use mathlib.Core.List.{List, [], _∷_}
@@ -14,8 +14,10 @@ use Rattle.rules.specs.Types.{Name, Btf as Rules, tableOf}
 use Rattle.rules.specs.Names.{Space, Resolved}
 use Rattle.rules.specs.Writer.{Said, said, saidNames, Writer}
 use Rattle.rules.specs.Place.{withNames, putSaid}
-use Rattle.rules.specs.Emit.{definition, forward}
-use Rattle.rules.proofs.Keeps.{Keeps, keeps-definition, keeps-forward}
+use Rattle.alignments.specs.Writers.{definitionOnce, forwardOnce}
+use Rattle.asked.specs.Asked.{workAsks}
+use Rattle.rules.proofs.Keeps.{Keeps}
+use Rattle.refusals.proofs.InWork.{definition-keeps, forward-keeps}
 use Rattle.btf.specs.declared.types.Btf.{Btf}
 use Rattle.btf.specs.Cells.{getField, putField, classP, countP, counted}
 use Rattle.btf.specs.Numbers.{numberAt}
@@ -40,6 +42,7 @@ module _ {X : Type 0} (P : List ℕ → X) where
   stays-then w (stuck c) k off h = off
 
   module _ (b : Btf) (marks : (w : List ℕ) (x v : ℕ) → P (putField w x 13 v) ≡ P w) (flags : (w : List ℕ) (x v : ℕ) → P (putField w x 3 v) ≡ P w)
+      (count : (w : List ℕ) (v : ℕ) → P (putField w 0 2 v) ≡ P w) (aligns : (w : List ℕ) (x v : ℕ) → P (putField w x 15 v) ≡ P w)
       (types : (space : Space) (id : ℕ) (name : Name) (w : List ℕ) → P (workNaming b .typeVersion space id name w .names) ≡ P w)
       (values : (id i : ℕ) (name : Name) (w : List ℕ) → P (workNaming b .valueVersion id i name w .names) ≡ P w) (B : Rules) where
     stays-line : (v : Writer (List ℕ)) → Keeps P v → (m : Sheet) → Stays (m .work) (lineIn v m)
@@ -63,19 +66,19 @@ module _ {X : Type 0} (P : List ℕ → X) where
 
     stays-fwd : (m : Sheet) (x : ℕ) → Stays (m .work) (workMachine b B .fwdLine m x)
     unfolding workMachine
-    stays-fwd m x = stays-line (forward (workNaming b) B x (B .type-by-id x)) (keeps-forward (workNaming b) P types values B x (B .type-by-id x)) m
+    stays-fwd m x = stays-line (forwardOnce (workAsks (b .types) B) (workNaming b) B x (B .type-by-id x)) (forward-keeps P count aligns b B types values x (B .type-by-id x)) m
 
     stays-alias : (m : Sheet) (x : ℕ) → Stays (m .work) (workMachine b B .aliasLine m x)
     unfolding workMachine
-    stays-alias m x = stays-line (forward (workNaming b) B x (B .type-by-id x)) (keeps-forward (workNaming b) P types values B x (B .type-by-id x)) m
+    stays-alias m x = stays-line (forwardOnce (workAsks (b .types) B) (workNaming b) B x (B .type-by-id x)) (forward-keeps P count aligns b B types values x (B .type-by-id x)) m
 
     stays-leaf-line : (m : Sheet) (x : ℕ) → Stays (m .work) (workMachine b B .leafLine m x)
     unfolding workMachine
-    stays-leaf-line m x = stays-line (definition (workNaming b) B x (B .type-by-id x)) (keeps-definition (workNaming b) P types values B x (B .type-by-id x)) m
+    stays-leaf-line m x = stays-line (definitionOnce (workAsks (b .types) B) (workNaming b) B x (B .type-by-id x)) (definition-keeps P count aligns b B types values x (B .type-by-id x)) m
 
     stays-body : (m : Sheet) (x : ℕ) → Stays (m .work) (workMachine b B .body m x)
     unfolding workMachine
-    stays-body m x = stays-line (definition (workNaming b) B x (B .type-by-id x)) (keeps-definition (workNaming b) P types values B x (B .type-by-id x)) m
+    stays-body m x = stays-line (definitionOnce (workAsks (b .types) B) (workNaming b) B x (B .type-by-id x)) (definition-keeps P count aligns b B types values x (B .type-by-id x)) m
 
     stays-eeach : (f : Sheet → ℕ → Out Sheet) → ((m : Sheet) (y : ℕ) → Stays (m .work) (f m y)) → (ys : List ℕ) (m : Sheet) → Stays (m .work) (eeach f ys m)
     unfolding eeach
@@ -162,6 +165,12 @@ table-emark b s w x v = table-field w x 13 v (omega arith) b s (λ e. omega arit
 table-flag : (b : Btf) (s : List ℕ) (w : List ℕ) (x v : ℕ) → btfOf b s (putField w x 3 v) ≡ btfOf b s w
 table-flag b s w x v = table-field w x 3 v (omega arith) b s (λ e. omega arith) (λ e. omega arith) (λ e. omega arith)
 
+table-count : (b : Btf) (s : List ℕ) (w : List ℕ) (v : ℕ) → btfOf b s (putField w 0 2 v) ≡ btfOf b s w
+table-count b s w v = table-field w 0 2 v (omega arith) b s (λ e. omega arith) (λ e. omega arith) (λ e. omega arith)
+
+table-aligns : (b : Btf) (s : List ℕ) (w : List ℕ) (x v : ℕ) → btfOf b s (putField w x 15 v) ≡ btfOf b s w
+table-aligns b s w x v = table-field w x 15 v (omega arith) b s (λ e. omega arith) (λ e. omega arith) (λ e. omega arith)
+
 table-names : (b : Btf) (s : List ℕ) (space : Space) (id : ℕ) (name : Name) (w : List ℕ) → btfOf b s (workNaming b .typeVersion space id name w .names) ≡ btfOf b s w
 unfolding workNaming
 table-names b s space id name w = table-type-version b s w id
@@ -171,10 +180,10 @@ unfolding workNaming
 table-values b s id i name w = table-value-version b s w (enumeratorOf w id i)
 
 pub table-emit : (b : Btf) (s : List ℕ) (B : Rules) (n : ℕ) (m : Sheet) (x cont : ℕ) → Stays (btfOf b s) (m .work) (emit (workMachine b B) (tableOf B) n m x cont)
-table-emit b s = stays-emit (btfOf b s) b (table-emark b s) (table-flag b s) (table-names b s) (table-values b s)
+table-emit b s = stays-emit (btfOf b s) b (table-emark b s) (table-flag b s) (table-count b s) (table-aligns b s) (table-names b s) (table-values b s)
 
 pub table-each : (b : Btf) (s : List ℕ) (B : Rules) (n cont : ℕ) (ys : List ℕ) (m : Sheet) → Stays (btfOf b s) (m .work) (eeach (λ m′ y. emit (workMachine b B) (tableOf B) n m′ y cont) ys m)
-table-each b s B n cont ys m = stays-eeach (btfOf b s) b (table-emark b s) (table-flag b s) (table-names b s) (table-values b s) B (λ m′ y. emit (workMachine b B) (tableOf B) n m′ y cont) (λ m′ y. table-emit b s B n m′ y cont) ys m
+table-each b s B n cont ys m = stays-eeach (btfOf b s) b (table-emark b s) (table-flag b s) (table-count b s) (table-aligns b s) (table-names b s) (table-values b s) B (λ m′ y. emit (workMachine b B) (tableOf B) n m′ y cont) (λ m′ y. table-emit b s B n m′ y cont) ys m
 
 -- the places of the order list
 abbrev pub places : List ℕ → ℕ → ℕ
@@ -222,4 +231,4 @@ places-values b id i name w = go (ltb (b .types + enumeratorOf w id i) 429496729
     go true = places-counted (b .types) w (b .types + enumeratorOf w id i)
 
 pub places-emit : (b : Btf) (B : Rules) (n : ℕ) (m : Sheet) (x cont : ℕ) → Stays places (m .work) (emit (workMachine b B) (tableOf B) n m x cont)
-places-emit b = stays-emit places b (places-field 13 (omega arith) (λ e. omega arith)) (places-field 3 (omega arith) (λ e. omega arith)) (places-names b) (places-values b)
+places-emit b = stays-emit places b (places-field 13 (omega arith) (λ e. omega arith)) (places-field 3 (omega arith) (λ e. omega arith)) (λ w v. places-field 2 (omega arith) (λ e. omega arith) w 0 v) (places-field 15 (omega arith) (λ e. omega arith)) (places-names b) (places-values b)

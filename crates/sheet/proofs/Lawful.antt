@@ -19,9 +19,11 @@ use Rattle.rules.specs.Types.{Name, BtfType, Btf as Rules}
 use Rattle.rules.specs.Names.{Space, Resolved}
 use Rattle.rules.specs.Writer.{Said, said, saidText, saidNames, Writer}
 use Rattle.rules.specs.Place.{withNames, putSaid}
-use Rattle.rules.specs.Emit.{definition, forward}
-use Rattle.rules.proofs.Keeps.{Keeps, keeps-definition, keeps-forward}
-use Rattle.rules.proofs.Refusals.{Told, told, cut-by, Tells, tells-definition, tells-forward}
+use Rattle.alignments.specs.Writers.{definitionOnce, forwardOnce}
+use Rattle.asked.specs.Asked.{workAsks}
+use Rattle.rules.proofs.Keeps.{Keeps}
+use Rattle.refusals.proofs.InWork.{definition-keeps as def-keeps, forward-keeps as fwd-keeps, definition-tells, forward-tells}
+use Rattle.rules.proofs.Refusals.{Told, told, cut-by, Tells}
 use Rattle.btf.specs.declared.types.Btf.{Btf}
 use Rattle.btf.specs.Cells.{getField, putField, classP, countP, counted, withMore}
 use Rattle.btf.specs.Numbers.{numberAt}
@@ -47,7 +49,8 @@ more-length w i = go (ltb (getWord w i) 4294967295)
     go false = refl
 
 module _ {Z : Type 0} (P : List ℕ → Z) (field4 : (w : List ℕ) (x v : ℕ) → P (putField w x 4 v) ≡ P w)
-    (counts : (types : ℕ) (w : List ℕ) (h : ℕ) → P (counted (classP types) (countP types) w h) ≡ P w) (b : Btf) where
+    (counts : (types : ℕ) (w : List ℕ) (h : ℕ) → P (counted (classP types) (countP types) w h) ≡ P w)
+    (memory : (w : List ℕ) (x f v : ℕ) → (f ≡ 2) ⊎ (f ≡ 15) → P (putField w x f v) ≡ P w) (b : Btf) where
   names-keep : (space : Space) (id : ℕ) (name : Name) (w : List ℕ) → P (workNaming b .typeVersion space id name w .names) ≡ P w
   unfolding workNaming typeVersionIn
   names-keep space id name w = go (eqb (getField w id 4) 0)
@@ -77,11 +80,11 @@ module _ {Z : Type 0} (P : List ℕ → Z) (field4 : (w : List ℕ) (x v : ℕ) 
       go true = counts (b .types) w (b .types + enumeratorOf w id i)
 
   module _ (B : Rules) (id : ℕ) (t : BtfType) where
-    forward-keeps : Keeps P (forward (workNaming b) B id t)
-    forward-keeps = keeps-forward (workNaming b) P names-keep values-keep B id t
+    forward-keeps : Keeps P (forwardOnce (workAsks (b .types) B) (workNaming b) B id t)
+    forward-keeps = fwd-keeps P (λ w v. memory w 0 2 v (inl refl)) (λ w x v. memory w x 15 v (inr refl)) b B names-keep values-keep id t
 
-    definition-keeps : Keeps P (definition (workNaming b) B id t)
-    definition-keeps = keeps-definition (workNaming b) P names-keep values-keep B id t
+    definition-keeps : Keeps P (definitionOnce (workAsks (b .types) B) (workNaming b) B id t)
+    definition-keeps = def-keeps P (λ w v. memory w 0 2 v (inl refl)) (λ w x v. memory w x 15 v (inr refl)) b B names-keep values-keep id t
 
 count-length : (types : ℕ) (w : List ℕ) (h : ℕ) → length (counted (classP types) (countP types) w h) ≡ length w
 unfolding counted
@@ -93,6 +96,17 @@ module _ (f : ℕ) (below : f < 16) (n4 : 4 ≢ f) (types : (types c j : ℕ) �
 
   words-counts : (ts : ℕ) (w : List ℕ) (h : ℕ) → words f (counted (classP ts) (countP ts) w h) ≡ words f w
   words-counts ts w h = λ i k. counted-other ts w h (k * 16 + f) (λ c. types ts c k) i
+
+words-memory : (f : ℕ) → f < 16 → 2 ≢ f → 15 ≢ f → (w : List ℕ) (x g v : ℕ) → (g ≡ 2) ⊎ (g ≡ 15) → words f (putField w x g v) ≡ words f w
+words-memory f l n2 n15 w x g v q = λ i k. field-other w x g v k f (small q) l (apart q) i
+  where
+    small : (g ≡ 2) ⊎ (g ≡ 15) → g < 16
+    small (inl e) = omega (arith, e)
+    small (inr e) = omega (arith, e)
+
+    apart : (g ≡ 2) ⊎ (g ≡ 15) → g ≢ f
+    apart (inl e) h = n2 (sym e ∙ h)
+    apart (inr e) h = n15 (sym e ∙ h)
 
 apart-1 : (types c j : ℕ) → j * 16 + 1 ≢ countP types c
 apart-1 types c j e =
@@ -151,19 +165,19 @@ line-holds v long one state tells m inside = go (v (m .work)) (long (m .work)) (
     go (said u x) a b c h = put-line m inside u a b c x h
 
 module _ (b : Btf) (B : Rules) (m : Sheet) (inside : m .at ≤ length (m .text)) (x : ℕ) where
-  forward-line : Line m (lineIn (forward (workNaming b) B x (B .type-by-id x)) m)
-  forward-line = line-holds (forward (workNaming b) B x (B .type-by-id x))
-      (forward-keeps length (λ w i v. put-length w (i * 16 + 4) v) count-length b B x (B .type-by-id x))
-      (forward-keeps (words 1) (words-field4 1 (omega arith) (λ e. omega arith) apart-1) (words-counts 1 (omega arith) (λ e. omega arith) apart-1) b B x (B .type-by-id x))
-      (forward-keeps (words 13) (words-field4 13 (omega arith) (λ e. omega arith) apart-13) (words-counts 13 (omega arith) (λ e. omega arith) apart-13) b B x (B .type-by-id x))
-      (tells-forward (workNaming b) B x (B .type-by-id x)) m inside
+  forward-line : Line m (lineIn (forwardOnce (workAsks (b .types) B) (workNaming b) B x (B .type-by-id x)) m)
+  forward-line = line-holds (forwardOnce (workAsks (b .types) B) (workNaming b) B x (B .type-by-id x))
+      (forward-keeps length (λ w i v. put-length w (i * 16 + 4) v) count-length (λ w x f v q. put-length w (x * 16 + f) v) b B x (B .type-by-id x))
+      (forward-keeps (words 1) (words-field4 1 (omega arith) (λ e. omega arith) apart-1) (words-counts 1 (omega arith) (λ e. omega arith) apart-1) (words-memory 1 (omega arith) (λ e. omega arith) (λ e. omega arith)) b B x (B .type-by-id x))
+      (forward-keeps (words 13) (words-field4 13 (omega arith) (λ e. omega arith) apart-13) (words-counts 13 (omega arith) (λ e. omega arith) apart-13) (words-memory 13 (omega arith) (λ e. omega arith) (λ e. omega arith)) b B x (B .type-by-id x))
+      (forward-tells b B x (B .type-by-id x)) m inside
 
-  definition-line : Line m (lineIn (definition (workNaming b) B x (B .type-by-id x)) m)
-  definition-line = line-holds (definition (workNaming b) B x (B .type-by-id x))
-      (definition-keeps length (λ w i v. put-length w (i * 16 + 4) v) count-length b B x (B .type-by-id x))
-      (definition-keeps (words 1) (words-field4 1 (omega arith) (λ e. omega arith) apart-1) (words-counts 1 (omega arith) (λ e. omega arith) apart-1) b B x (B .type-by-id x))
-      (definition-keeps (words 13) (words-field4 13 (omega arith) (λ e. omega arith) apart-13) (words-counts 13 (omega arith) (λ e. omega arith) apart-13) b B x (B .type-by-id x))
-      (tells-definition (workNaming b) B x (B .type-by-id x)) m inside
+  definition-line : Line m (lineIn (definitionOnce (workAsks (b .types) B) (workNaming b) B x (B .type-by-id x)) m)
+  definition-line = line-holds (definitionOnce (workAsks (b .types) B) (workNaming b) B x (B .type-by-id x))
+      (definition-keeps length (λ w i v. put-length w (i * 16 + 4) v) count-length (λ w x f v q. put-length w (x * 16 + f) v) b B x (B .type-by-id x))
+      (definition-keeps (words 1) (words-field4 1 (omega arith) (λ e. omega arith) apart-1) (words-counts 1 (omega arith) (λ e. omega arith) apart-1) (words-memory 1 (omega arith) (λ e. omega arith) (λ e. omega arith)) b B x (B .type-by-id x))
+      (definition-keeps (words 13) (words-field4 13 (omega arith) (λ e. omega arith) apart-13) (words-counts 13 (omega arith) (λ e. omega arith) apart-13) (words-memory 13 (omega arith) (λ e. omega arith) (λ e. omega arith)) b B x (B .type-by-id x))
+      (definition-tells b B x (B .type-by-id x)) m inside
 
 -- ---- the emptied list
 emptied-length : (n : ℕ) (w : List ℕ) → length (emptied n w) ≡ length w
@@ -265,10 +279,10 @@ module _ (n : ℕ) where
         egets = λ d. ap markOf (field-other (m .sheet .work) x 3 1 d 13 (omega arith) (omega arith) (λ e. omega arith));
         tagsSame = refl;
       };
-      fwd-same = λ m x g l. line-same m g (lineIn (forward (workNaming b) B x (B .type-by-id x)) (m .sheet)) (forward-line b B (m .sheet) (g .inside) x);
-      alias-same = λ m x g l. line-same m g (lineIn (forward (workNaming b) B x (B .type-by-id x)) (m .sheet)) (forward-line b B (m .sheet) (g .inside) x);
-      leaf-same = λ m x g l. line-same m g (lineIn (definition (workNaming b) B x (B .type-by-id x)) (m .sheet)) (definition-line b B (m .sheet) (g .inside) x);
-      body-defines = λ m x g l. line-defines m x g (lineIn (definition (workNaming b) B x (B .type-by-id x)) (m .sheet)) (definition-line b B (m .sheet) (g .inside) x);
+      fwd-same = λ m x g l. line-same m g (lineIn (forwardOnce (workAsks (b .types) B) (workNaming b) B x (B .type-by-id x)) (m .sheet)) (forward-line b B (m .sheet) (g .inside) x);
+      alias-same = λ m x g l. line-same m g (lineIn (forwardOnce (workAsks (b .types) B) (workNaming b) B x (B .type-by-id x)) (m .sheet)) (forward-line b B (m .sheet) (g .inside) x);
+      leaf-same = λ m x g l. line-same m g (lineIn (definitionOnce (workAsks (b .types) B) (workNaming b) B x (B .type-by-id x)) (m .sheet)) (definition-line b B (m .sheet) (g .inside) x);
+      body-defines = λ m x g l. line-defines m x g (lineIn (definitionOnce (workAsks (b .types) B) (workNaming b) B x (B .type-by-id x)) (m .sheet)) (definition-line b B (m .sheet) (g .inside) x);
     }
 
 -- ---- what it does to the sheet is what the code's machine does

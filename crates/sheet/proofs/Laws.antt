@@ -16,7 +16,8 @@ use Rattle.rules.specs.Machine.{Out, wrote, stuck, Machine, isZero, pick, obind
 use Rattle.rules.specs.Types.{BtfType, Btf as Rules, nodeOf, isNamed, memberTypes, tableOf}
 use Rattle.rules.specs.Writer.{Said, Writer}
 use Rattle.rules.specs.Place.{withNames, outOf, putSaid}
-use Rattle.rules.specs.Emit.{definition, forward}
+use Rattle.alignments.specs.Writers.{definitionOnce, forwardOnce}
+use Rattle.asked.specs.Asked.{workAsks}
 use Rattle.rules.proofs.Writing.{said-stopped}
 use Rattle.btf.specs.declared.types.Btf.{Btf}
 use Rattle.btf.specs.declared.types.BtfType.{BtfType as Record}
@@ -151,21 +152,21 @@ module _ (b : Btf) (s : List ℕ) where
 module _ (b : Btf) (B : Rules) (ty : BtfType) (n at : ℕ) (t w : List ℕ) (id : ℕ) where
   pub once-had : (had : Bool) → had ≡ not (eqb (getField w id 3) 0) → had ≡ true → emitOut n at t w ≡ obind (emitOut n at t w) (λ m. onceIn b B ty m id)
   unfolding onceIn once workMachine
-  once-had had e h = same-sheet n at t w (λ m. onceIn b B ty m id) (ap (λ (x : Bool). once (workMachine b B) (tableOf B) (λ m′ y. lineIn (forward (workNaming b) B y ty) m′) id x (sheet n at t w)) (sym e ∙ h))
+  once-had had e h = same-sheet n at t w (λ m. onceIn b B ty m id) (ap (λ (x : Bool). once (workMachine b B) (tableOf B) (λ m′ y. lineIn (forwardOnce (workAsks (b .types) B) (workNaming b) B y ty) m′) id x (sheet n at t w)) (sym e ∙ h))
 
-  pub once-new : (had : Bool) → had ≡ not (eqb (getField w id 3) 0) → had ≡ false → (a : ℕ) (t₁ w₁ w₂ : List ℕ) → outOf a t₁ w₁ ≡ putSaid t at (forward (workNaming b) B id ty w) → w₂ ≡ putField w₁ id 3 1
+  pub once-new : (had : Bool) → had ≡ not (eqb (getField w id 3) 0) → had ≡ false → (a : ℕ) (t₁ w₁ w₂ : List ℕ) → outOf a t₁ w₁ ≡ putSaid t at (forwardOnce (workAsks (b .types) B) (workNaming b) B id ty w) → w₂ ≡ putField w₁ id 3 1
       → emitOut n a t₁ w₂ ≡ obind (emitOut n at t w) (λ m. onceIn b B ty m id)
   unfolding onceIn once workMachine
   once-new had e h a t₁ w₁ w₂ el ew =
-      then (emitOut n at t w) (λ m. lineIn (forward (workNaming b) B id ty) m) (λ m. wrote (withWork m (putField (m .work) id 3 1))) (emitOut n a t₁ w₁) (emitOut n a t₁ w₂)
-      (line-sheet n at t w (forward (workNaming b) B id ty) a t₁ w₁ el) (work-last n a t₁ w₁ (λ u. putField u id 3 1) w₂ ew)
+      then (emitOut n at t w) (λ m. lineIn (forwardOnce (workAsks (b .types) B) (workNaming b) B id ty) m) (λ m. wrote (withWork m (putField (m .work) id 3 1))) (emitOut n a t₁ w₁) (emitOut n a t₁ w₂)
+      (line-sheet n at t w (forwardOnce (workAsks (b .types) B) (workNaming b) B id ty) a t₁ w₁ el) (work-last n a t₁ w₁ (λ u. putField u id 3 1) w₂ ew)
       ∙ at-sheet n at t w _ (λ m. onceIn b B ty m id)
-      (λ l. ap (λ (x : Bool). once (workMachine b B) (tableOf B) (λ m′ y. lineIn (forward (workNaming b) B y ty) m′) id x (sheet n at t w)) (sym (sym e ∙ h)))
+      (λ l. ap (λ (x : Bool). once (workMachine b B) (tableOf B) (λ m′ y. lineIn (forwardOnce (workAsks (b .types) B) (workNaming b) B y ty) m′) id x (sheet n at t w)) (sym (sym e ∙ h)))
 
   pub mention-self : (cont : ℕ) → id ≡ cont → emitOut n at t w ≡ obind (emitOut n at t w) (λ m. mentionIn b B ty cont m id)
   unfolding mentionIn once
   mention-self cont e = same-sheet n at t w (λ m. mentionIn b B ty cont m id)
-      (ap (λ (x : Bool). once (workMachine b B) (tableOf B) (λ m′ y. lineIn (forward (workNaming b) B y ty) m′) id x (sheet n at t w)) (or-true (workMachine b B .hasFwd (sheet n at t w) id) (eqb id cont) (is e)))
+      (ap (λ (x : Bool). once (workMachine b B) (tableOf B) (λ m′ y. lineIn (forwardOnce (workAsks (b .types) B) (workNaming b) B y ty) m′) id x (sheet n at t w)) (or-true (workMachine b B .hasFwd (sheet n at t w) id) (eqb id cont) (is e)))
     where
       or-true : (x y : Bool) → y ≡ true → (x || y) ≡ true
       or-true true y h = refl
@@ -177,7 +178,7 @@ module _ (b : Btf) (B : Rules) (ty : BtfType) (n at : ℕ) (t w : List ℕ) (id 
   pub mention-other : (cont : ℕ) → (id ≡ cont → ⊥) → (x : Out Sheet) → x ≡ obind (emitOut n at t w) (λ m. onceIn b B ty m id) → x ≡ obind (emitOut n at t w) (λ m. mentionIn b B ty cont m id)
   unfolding mentionIn onceIn
   mention-other cont e x ex = ex ∙ obind-same (emitOut n at t w) (λ m. onceIn b B ty m id) (λ m. mentionIn b B ty cont m id)
-      (λ m. ap (λ (y : Bool). once (workMachine b B) (tableOf B) (λ m′ z. lineIn (forward (workNaming b) B z ty) m′) id y m) (or-false (workMachine b B .hasFwd m id) (eqb id cont) (ne-eqb id cont e)))
+      (λ m. ap (λ (y : Bool). once (workMachine b B) (tableOf B) (λ m′ z. lineIn (forwardOnce (workAsks (b .types) B) (workNaming b) B z ty) m′) id y m) (or-false (workMachine b B .hasFwd m id) (eqb id cont) (ne-eqb id cont e)))
     where
       or-false : (x y : Bool) → y ≡ false → x ≡ (x || y)
       or-false true y h = refl
@@ -186,10 +187,10 @@ module _ (b : Btf) (B : Rules) (ty : BtfType) (n at : ℕ) (t w : List ℕ) (id 
 -- ---- emit_again
 -- the line of an id, by its type
 once-line : (b : Btf) (B : Rules) (ty : BtfType) (m : Sheet) (id : ℕ) (had : Bool) → ty ≡ B .type-by-id id
-    → once (workMachine b B) (tableOf B) (λ m′ y. lineIn (forward (workNaming b) B y ty) m′) id had m ≡ once (workMachine b B) (tableOf B) (workMachine b B .fwdLine) id had m
+    → once (workMachine b B) (tableOf B) (λ m′ y. lineIn (forwardOnce (workAsks (b .types) B) (workNaming b) B y ty) m′) id had m ≡ once (workMachine b B) (tableOf B) (workMachine b B .fwdLine) id had m
 unfolding once workMachine
 once-line b B ty m id true e = refl
-once-line b B ty m id false e = ap (λ (y : BtfType). obind (lineIn (forward (workNaming b) B id y) m) (λ m′. wrote (workMachine b B .forwarded id m′))) e
+once-line b B ty m id false e = ap (λ (y : BtfType). obind (lineIn (forwardOnce (workAsks (b .types) B) (workNaming b) B id y) m) (λ m′. wrote (workMachine b B .forwarded id m′))) e
 
 once-alias : (b : Btf) (B : Rules) (m : Sheet) (id : ℕ) (had : Bool)
     → once (workMachine b B) (tableOf B) (workMachine b B .fwdLine) id had m ≡ once (workMachine b B) (tableOf B) (workMachine b B .aliasLine) id had m
@@ -346,14 +347,14 @@ module _ (b : Btf) (s : List ℕ) (n at : ℕ) (tx w : List ℕ) (id cont left :
 
 -- ---- emit_leaf
 module _ (b : Btf) (s : List ℕ) (n at : ℕ) (tx w : List ℕ) (id cont : ℕ) (t : Record) (et : t ≡ recordById b s w id) (is-fwd : Bool) where
-  pub leaf-shown : (is-fwd || eqb cont 0) ≡ true → (a : ℕ) (t₁ w₁ w₂ : List ℕ) → outOf a t₁ w₁ ≡ putSaid tx at (definition (workNaming b) (btfOf b s w) id (typeOf b s t) w) → w₂ ≡ putField w₁ id 13 2
+  pub leaf-shown : (is-fwd || eqb cont 0) ≡ true → (a : ℕ) (t₁ w₁ w₂ : List ℕ) → outOf a t₁ w₁ ≡ putSaid tx at (definitionOnce (workAsks (b .types) (btfOf b s w)) (workNaming b) (btfOf b s w) id (typeOf b s t) w) → w₂ ≡ putField w₁ id 13 2
       → emitOut n a t₁ w₂ ≡ obind (emitOut n at tx w) (λ m. leafIn b (btfOf b s w) is-fwd cont m id)
   unfolding leafIn leaf workMachine
   leaf-shown e a t₁ w₁ w₂ el ew =
-      then (emitOut n at tx w) (λ m. lineIn (definition (workNaming b) (btfOf b s w) id (typeOf b s t)) m) (λ m. wrote (withWork m (putField (m .work) id 13 2))) (emitOut n a t₁ w₁) (emitOut n a t₁ w₂)
-      (line-sheet n at tx w (definition (workNaming b) (btfOf b s w) id (typeOf b s t)) a t₁ w₁ el) (work-last n a t₁ w₁ (λ u. putField u id 13 2) w₂ ew)
+      then (emitOut n at tx w) (λ m. lineIn (definitionOnce (workAsks (b .types) (btfOf b s w)) (workNaming b) (btfOf b s w) id (typeOf b s t)) m) (λ m. wrote (withWork m (putField (m .work) id 13 2))) (emitOut n a t₁ w₁) (emitOut n a t₁ w₂)
+      (line-sheet n at tx w (definitionOnce (workAsks (b .types) (btfOf b s w)) (workNaming b) (btfOf b s w) id (typeOf b s t)) a t₁ w₁ el) (work-last n a t₁ w₁ (λ u. putField u id 13 2) w₂ ew)
       ∙ obind-same (emitOut n at tx w) _ (λ m. leafIn b (btfOf b s w) is-fwd cont m id)
-      (λ m. ap (λ (y : BtfType). obind (lineIn (definition (workNaming b) (btfOf b s w) id y) m) (λ m′. wrote (withWork m′ (putField (m′ .work) id 13 2)))) (sym (type-at b s w id t et))
+      (λ m. ap (λ (y : BtfType). obind (lineIn (definitionOnce (workAsks (b .types) (btfOf b s w)) (workNaming b) (btfOf b s w) id y) m) (λ m′. wrote (withWork m′ (putField (m′ .work) id 13 2)))) (sym (type-at b s w id t et))
       ∙ ap (λ (f : Bool). leaf (workMachine b (btfOf b s w)) (tableOf (btfOf b s w)) f id m) (sym (ap (λ (f : Bool). is-fwd || f) (zero-is cont) ∙ e)))
 
   pub leaf-quiet : (is-fwd || eqb cont 0) ≡ false → (w₂ : List ℕ) → w₂ ≡ putField w id 13 2 → emitOut n at tx w₂ ≡ obind (emitOut n at tx w) (λ m. leafIn b (btfOf b s w) is-fwd cont m id)
@@ -468,14 +469,14 @@ module _ (b : Btf) (s : List ℕ) (n at : ℕ) (tx w : List ℕ) (id cont left :
       (stays-then (btfOf b s) w₁ (emitOut n at tx w₁) (λ m. eeach (emitIn b (btfOf b s w₁) left c) ms m) (entry-stays b s (btfOf b s) n at tx w₁) (λ m. table-each b s (btfOf b s w₁) left c ms m))
 
   pub composite-top : cont ≡ 0 → (c₀ : ℕ) → c₀ ≡ pick nm id cont → (a : ℕ) (t₂ w₂ : List ℕ) → emitOut n a t₂ w₂ ≡ obind (emitOut n at tx w₁) (λ m. eeach (emitIn b (btfOf b s w₁) left c₀) ms m)
-      → (c : ℕ) (t₃ w₃ : List ℕ) → outOf c t₃ w₃ ≡ putSaid t₂ a (definition (workNaming b) (btfOf b s w₂) id (typeOf b s t) w₂) → (w₄ : List ℕ) → w₄ ≡ putField w₃ id 13 2
+      → (c : ℕ) (t₃ w₃ : List ℕ) → outOf c t₃ w₃ ≡ putSaid t₂ a (definitionOnce (workAsks (b .types) (btfOf b s w₂)) (workNaming b) (btfOf b s w₂) id (typeOf b s t) w₂) → (w₄ : List ℕ) → w₄ ≡ putField w₃ id 13 2
       → emitOut n c t₃ w₄ ≡ obind (emitOut n at tx w) (λ m. compositeIn b Bc left cont ms m id)
   unfolding within close emitIn workMachine
   composite-top z c₀ ec a t₂ w₂ e₂ c t₃ w₃ e₃ w₄ e₄ =
-      then (emitOut n a t₂ w₂) (λ m. lineIn (definition (workNaming b) Bc id (typeOf b s t)) m) (λ m. wrote (withWork m (putField (m .work) id 13 2))) (emitOut n c t₃ w₃) (emitOut n c t₃ w₄)
-      (line-sheet n a t₂ w₂ (definition (workNaming b) (btfOf b s w₂) id (typeOf b s t)) c t₃ w₃ e₃
-      ∙ same-table b s n a t₂ w₂ w₁ (λ Q m. lineIn (definition (workNaming b) Q id (typeOf b s t)) m) (members-stay c₀ a t₂ w₂ e₂)
-      ∙ ap (λ (Q : Rules). obind (emitOut n a t₂ w₂) (λ m. lineIn (definition (workNaming b) Q id (typeOf b s t)) m)) same₁)
+      then (emitOut n a t₂ w₂) (λ m. lineIn (definitionOnce (workAsks (b .types) Bc) (workNaming b) Bc id (typeOf b s t)) m) (λ m. wrote (withWork m (putField (m .work) id 13 2))) (emitOut n c t₃ w₃) (emitOut n c t₃ w₄)
+      (line-sheet n a t₂ w₂ (definitionOnce (workAsks (b .types) (btfOf b s w₂)) (workNaming b) (btfOf b s w₂) id (typeOf b s t)) c t₃ w₃ e₃
+      ∙ same-table b s n a t₂ w₂ w₁ (λ Q m. lineIn (definitionOnce (workAsks (b .types) Q) (workNaming b) Q id (typeOf b s t)) m) (members-stay c₀ a t₂ w₂ e₂)
+      ∙ ap (λ (Q : Rules). obind (emitOut n a t₂ w₂) (λ m. lineIn (definitionOnce (workAsks (b .types) Q) (workNaming b) Q id (typeOf b s t)) m)) same₁)
       (work-last n c t₃ w₃ (λ u. putField u id 13 2) w₄ e₄)
       ∙ ap (λ (o : Out Sheet). obind o (shut (typeOf b s t))) (members-call c₀ a t₂ w₂ e₂)
       ∙ obind-then (emitOut n at tx w) (λ m. eeach (emitIn b Bc left c₀) ms (withWork m (putField (m .work) id 13 1))) (shut (typeOf b s t))
@@ -485,7 +486,7 @@ module _ (b : Btf) (s : List ℕ) (n at : ℕ) (tx w : List ℕ) (id cont left :
       ∙ begun true nm (ap isZero z) refl m)
     where
       shut : BtfType → Sheet → Out Sheet
-      shut y m = obind (lineIn (definition (workNaming b) Bc id y) m) (λ m′. wrote (withWork m′ (putField (m′ .work) id 13 2)))
+      shut y m = obind (lineIn (definitionOnce (workAsks (b .types) Bc) (workNaming b) Bc id y) m) (λ m′. wrote (withWork m′ (putField (m′ .work) id 13 2)))
 
   not-top : (cont ≡ 0 → ⊥) → isZero cont ≡ false
   not-top z = zero-is cont ∙ ne-eqb cont 0 z

@@ -8,7 +8,8 @@ use Rattle.rules.specs.Machine.{Out, wrote, stuck, Machine, isZero, obind, eeac
 use Rattle.rules.specs.Types.{BtfType, Btf as Rules, tableOf}
 use Rattle.rules.specs.Writer.{Writer}
 use Rattle.rules.specs.Place.{Wrote, wrote as written, refused as cutOff, outOf, putSaid}
-use Rattle.rules.specs.Emit.{definition, forward}
+use Rattle.alignments.specs.Writers.{definitionOnce, forwardOnce}
+use Rattle.asked.specs.Asked.{workAsks}
 use Rattle.btf.specs.declared.types.Btf.{Btf}
 use Rattle.btf.specs.Cells.{getField, putField}
 use Rattle.btf.specs.Table.{workNaming}
@@ -58,7 +59,7 @@ unfoldable pub lineIn : Writer (List ℕ) → Sheet → Out Sheet
 lineIn v m = sheetOf (m .len) (putSaid (m .text) (m .at) (v (m .work)))
 
 module _ (b : Btf) (B : Rules) where
-  -- Emission's marks stand in words 13, the flags of forward lines in words 3. The text is the lent slice, so `start` has no room to
+  -- Lines by the remembering way: alignments are remembered in the work. Emission's marks stand in words 13, the flags of forward lines in words 3. The text is the lent slice, so `start` has no room to
   -- set. No list of tags is kept: whoever reasons about what is defined carries it beside the sheet.
   unfoldable pub workMachine : Machine Sheet
   workMachine = record {
@@ -68,10 +69,10 @@ module _ (b : Btf) (B : Rules) where
     emark = λ k x m. withWork m (putField (m .work) x 13 (code k));
     hasFwd = λ m x. not (eqb (getField (m .work) x 3) 0);
     forwarded = λ x m. withWork m (putField (m .work) x 3 1);
-    fwdLine = λ m x. lineIn (forward (workNaming b) B x (B .type-by-id x)) m;
-    aliasLine = λ m x. lineIn (forward (workNaming b) B x (B .type-by-id x)) m;
-    leafLine = λ m x. lineIn (definition (workNaming b) B x (B .type-by-id x)) m;
-    body = λ m x. lineIn (definition (workNaming b) B x (B .type-by-id x)) m;
+    fwdLine = λ m x. lineIn (forwardOnce (workAsks (b .types) B) (workNaming b) B x (B .type-by-id x)) m;
+    aliasLine = λ m x. lineIn (forwardOnce (workAsks (b .types) B) (workNaming b) B x (B .type-by-id x)) m;
+    leafLine = λ m x. lineIn (definitionOnce (workAsks (b .types) B) (workNaming b) B x (B .type-by-id x)) m;
+    body = λ m x. lineIn (definitionOnce (workAsks (b .types) B) (workNaming b) B x (B .type-by-id x)) m;
     tags = λ m. [];
   }
 
@@ -93,10 +94,10 @@ module _ (b : Btf) (B : Rules) where
   compositeIn left cont members m x = begin workMachine (tableOf B) (λ m′ y c. emit workMachine (tableOf B) left m′ y c) m x cont (isZero cont) (comp members)
 
   unfoldable pub onceIn : BtfType → Sheet → ℕ → Out Sheet
-  onceIn t m x = once workMachine (tableOf B) (λ m′ y. lineIn (forward (workNaming b) B y t) m′) x (workMachine .hasFwd m x) m
+  onceIn t m x = once workMachine (tableOf B) (λ m′ y. lineIn (forwardOnce (workAsks (b .types) B) (workNaming b) B y t) m′) x (workMachine .hasFwd m x) m
 
   unfoldable pub mentionIn : BtfType → ℕ → Sheet → ℕ → Out Sheet
-  mentionIn t cont m x = once workMachine (tableOf B) (λ m′ y. lineIn (forward (workNaming b) B y t) m′) x (workMachine .hasFwd m x || eqb x cont) m
+  mentionIn t cont m x = once workMachine (tableOf B) (λ m′ y. lineIn (forwardOnce (workAsks (b .types) B) (workNaming b) B y t) m′) x (workMachine .hasFwd m x || eqb x cont) m
 
 -- One request: what ordering listed, each emitted at the top, and then the order list is empty again.
 module _ {M : Type 0} (X : Machine M) (T : Table) where

@@ -7,7 +7,8 @@ use names::resolve_type_name;
 use tags::emit_decl_tags;
 use text::put_byte;
 ghost use mathlib.Core.Path.{_≡_};
-ghost use Rattle.rules.specs.Decl.{emitTypedefDef};
+ghost use Rattle.alignments.specs.Writers.{emitTypedefDefOnce};
+ghost use Rattle.asked.specs.Asked.{workAsks};
 ghost use Rattle.rules.specs.Place.{outOf, putSaid};
 ghost use Rattle.btf.specs.Names.{strAt};
 ghost use Rattle.btf.specs.Table.{btfOf, workNaming};
@@ -23,7 +24,7 @@ pub fn emit_typedef_def(
     name_off: u32,
     type_id: u32,
 ) -> usize
-    ensures { λ r. ⌜ outOf r (now (text .exit)) (now (work .exit)) ≡ putSaid (now (text .entry)) at (emitTypedefDef (workNaming b) (btfOf b (now (section .entry)) (now (work .entry))) id (strAt b (now (section .entry)) «name_off») «type_id» (now (work .entry))) ⌝ }
+    ensures { λ r. ⌜ outOf r (now (text .exit)) (now (work .exit)) ≡ putSaid (now (text .entry)) at (emitTypedefDefOnce (workAsks (b .types) (btfOf b (now (section .entry)) (now (work .entry)))) (workNaming b) (btfOf b (now (section .entry)) (now (work .entry))) id (strAt b (now (section .entry)) «name_off») «type_id» (now (work .entry))) ⌝ }
 {
     let name = resolve_type_name(b, section, work, id, name_off);
     let d = Declarator {

@@ -1,5 +1,4 @@
--- Opened: names and memory side by side. Work: both in one list. Few: types and members are few. OpenedWork: in the work that opening leaves.
+-- Opened: names and memory side by side. OpenedWork: in the work that opening leaves. Calls: in the work of the calls.
 pub mod Opened
-pub mod Work
-pub mod Few
 pub mod OpenedWork
+pub mod Calls

@@ -1,36 +1,19 @@
 -- What the theorems ask of a table holds of every section that opening accepts. Assumes nothing.
 use Prim.Native.Nat.{ℕ, _+_, _≤_}
-use native.Mathlib.Decide.{ℕ-discrete}
-use mathlib.Core.Path.{_≡_, refl, ap, _∙_, sym}
+use mathlib.Core.Path.{_≡_, refl}
 use mathlib.Core.List.{List, []}
-use Rattle.rules.specs.Types.{Void, Btf as Rules}
+use Rattle.rules.specs.Types.{Btf as Rules}
 use Rattle.rules.specs.Machine.{Req}
 use Rattle.rules.specs.Names.{Naming, Names}
-use Rattle.btf.specs.declared.types.Btf.{Btf}
-use Rattle.btf.specs.Records.{voidRecord, recordById}
-use Rattle.btf.specs.Table.{btfOf, typeOf}
-use Rattle.btf.proofs.Laws.{void-past, void-zero}
 use Rattle.opened.specs.Causes.{openingNumber}
 use Rattle.demand.specs.Session.{noNames, openedBy, dumped}
 use Rattle.claims.specs.Table.{openedTable, namesIn, openedIn}
 use Rattle.claims.proofs.Claims.{opening-gives}
+use Rattle.claims.proofs.Minded.{ends}
 use Rattle.alignments.specs.Once.{tableKeep, blank, membersTo}
 use Rattle.alignments.specs.Writers.{afterOnce, dumpedOnce, minded, mindedAsks, noVisits}
 use Rattle.alignments.proofs.Tables.{Any, Each, table-lawful}
 use Rattle.alignments.proofs.Session.{minded-session, session-visits}
-
--- past the count there is no type
-void-type : (b : Btf) (s : List ℕ) → typeOf b s voidRecord ≡ Void
-unfolding typeOf voidRecord
-void-type b s = refl
-
-pub ends : (b : Btf) (s w : List ℕ) (id : ℕ) → btfOf b s w .type-cnt ≤ id → btfOf b s w .type-by-id id ≡ Void
-unfolding btfOf
-ends b s w id l = ap (typeOf b s) (sym (past (ℕ-discrete id 0))) ∙ void-type b s
-  where
-    past : Dec (id ≡ 0) → voidRecord ≡ recordById b s w id
-    past (yes e) = void-zero b s w id voidRecord e refl
-    past (no n) = void-past b s w id voidRecord n l refl
 
 module _ (pointer modes : ℕ) (s : List ℕ) (n : ℕ) (ok : openingNumber pointer s n ≡ 0) (rs : List Req) where
   abbrev B : Rules

@@ -1,44 +1,29 @@
 -- A session by the remembering way in the work that opening leaves, of every section that it accepts. Assumes nothing.
-use Prim.Native.Nat.{ℕ, _+_, _*_, _/_, _%_, _<_, _≤_}
-use native.Mathlib.Omega.{arith}
-use mathlib.Core.Path.{_≡_, refl, ap, _∙_, sym, subst}
+use Prim.Native.Nat.{ℕ, _+_, _/_, _%_, _≤_}
+use mathlib.Core.Path.{_≡_, refl, ap, _∙_}
 use mathlib.Core.Bool.{Bool, true, false}
 use mathlib.Core.List.{List, []}
-use mathlib.Core.Logic.{_≢_}
-use lib.ListN.{length}
-use lib.Dec.{ltb, eqb}
-use borrow.Author.Tests.{ltb-true}
-use Rattle.lent.specs.Words.{pick}
+use lib.Dec.{eqb}
 use Rattle.rules.specs.Types.{Btf as Rules}
 use Rattle.rules.specs.Machine.{Req}
+use Rattle.rules.specs.Names.{Naming, Names, naming}
 use Rattle.btf.specs.declared.types.Btf.{Btf}
 use Rattle.btf.specs.Cells.{getField}
-use Rattle.btf.specs.Table.{btfOf, workNaming}
-use Rattle.header.specs.Header.{btfOf as headerIn}
-use Rattle.btf.proofs.Laws.{place-type}
-use Rattle.classed.proofs.Keys.{place-apart}
-use Rattle.filled.proofs.Zeros.{other-field}
+use Rattle.btf.specs.Table.{workNaming}
 use Rattle.opened.specs.Opened.{workOf}
 use Rattle.opened.specs.Causes.{openingNumber}
-use Rattle.opened.proofs.ReadBack.{else-back, work-length, work-long}
-use Rattle.opened.proofs.Index.{some-type}
-use Rattle.rules.specs.Names.{Naming, Names, naming}
+use Rattle.opened.specs.Table.{enumeratorsOf}
 use Rattle.demand.specs.Session.{Dump, noNames, openedBy, dumped, dumpTypes}
 use Rattle.ledger.specs.Passed.{passed}
 use Rattle.ledger.specs.Indexed.{listsIn}
-use Rattle.opened.specs.Table.{enumeratorsOf}
 use Rattle.claims.specs.Table.{headerOf, openedTable, namesIn, openedIn}
-use Rattle.claims.proofs.Described.{count-is}
 use Rattle.claims.proofs.Claims.{opening-gives}
-use Rattle.alignments.specs.Once.{unknown, known, membersTo}
+use Rattle.claims.proofs.Minded.{opened-sane, opened-minds}
+use Rattle.alignments.specs.Once.{membersTo}
 use Rattle.alignments.specs.Writers.{dumpedOnce, afterOnce}
-use Rattle.alignments.proofs.Right.{known-unknown}
-use Rattle.alignments.proofs.Counted.{paid-none}
-use Rattle.remembered.specs.Words.{seenWord, decoded, workKeep}
-use Rattle.visits.specs.Work.{workAsks}
-use Rattle.visits.proofs.Opened.{ends}
-use Rattle.visits.proofs.Few.{few}
-use Rattle.visits.proofs.Work.{InWork, work-session, work-visits}
+use Rattle.asked.specs.Asked.{workAsks}
+use Rattle.minds.specs.Work.{Sane}
+use Rattle.minds.proofs.Work.{InWork, work-session, work-visits}
 
 module _ (p modes : ℕ) (s : List ℕ) (n : ℕ) (ok : openingNumber p s n ≡ 0) where
   abbrev b : Btf
@@ -50,59 +35,16 @@ module _ (p modes : ℕ) (s : List ℕ) (n : ℕ) (ok : openingNumber p s n ≡ 
   abbrev w : List ℕ
   w = workOf p modes s n
 
-  -- opening leaves 0 in a word that it does not use
-  zero-word : (x f : ℕ) → x < b .types → f < 16 → f ≢ 0 → f ≢ 9 → f ≢ 10 → f ≢ 12 → f ≢ 5 → f ≢ 7 → f ≢ 8 → f ≢ 14 → getField w x f ≡ 0
-  zero-word x f l m a c d g f5 f7 f8 f14 =
-      else-back p modes s n ok (x * 16 + f) (other-field (b .types) x f l m a c d g) (λ h k. (
-        λ q. place-apart (b .types) f 7 5 1 (m, omega arith, omega arith, omega arith, f5, λ z. omega arith) x h (sym (place-type (b .types) f 7 x l) ∙ q),
-        λ q. place-apart (b .types) f 7 7 3 (m, omega arith, omega arith, omega arith, f7, λ z. omega arith) x h (sym (place-type (b .types) f 7 x l) ∙ q),
-        λ q. place-apart (b .types) f 7 8 4 (m, omega arith, omega arith, omega arith, f8, λ z. omega arith) x h (sym (place-type (b .types) f 7 x l) ∙ q),
-      ))
-      (λ h k q. place-apart (b .types) f 7 14 6 (m, omega arith, omega arith, omega arith, f14, λ z. omega arith) x h (sym (place-type (b .types) f 7 x l) ∙ q))
-
-  pub no-alignment : (x : ℕ) → x < b .types → getField w x 15 ≡ 0
-  no-alignment x l = zero-word x 15 l (omega arith) (λ q. omega arith) (λ q. omega arith) (λ q. omega arith) (λ q. omega arith) (λ q. omega arith) (λ q. omega arith) (λ q. omega arith) (λ q. omega arith)
-
-  pub no-visits : 0 < b .types → getField w 0 2 ≡ 0
-  no-visits l = zero-word 0 2 l (omega arith) (λ q. omega arith) (λ q. omega arith) (λ q. omega arith) (λ q. omega arith) (λ q. omega arith) (λ q. omega arith) (λ q. omega arith) (λ q. omega arith)
-
-  types-are : B .type-cnt ≡ b .types
-  unfolding btfOf
-  types-are = refl
-
-  none : (id : ℕ) → workKeep (B .type-cnt) B .recall w id ≡ unknown
-  unfolding workKeep seenWord decoded
-  none id = by (ltb id (B .type-cnt)) refl
-    where
-      by : (t : Bool) → ltb id (B .type-cnt) ≡ t → decoded (elim t as (λ (x : Bool). ℕ) [ true ↦ getField w id 15 | false ↦ 0 ]) ≡ unknown
-      by true q = ap decoded (no-alignment id (subst (λ (k : ℕ). id < k) types-are (ltb-true id (B .type-cnt) q)))
-      by false q = refl
-
-  pointers : B .ptr-sz ≤ 15
-  unfolding btfOf headerIn
-  pointers = by (eqb p 4)
-    where
-      by : (t : Bool) → pick t 4 8 ≤ 15
-      by true = omega arith
-      by false = omega arith
-
-  roomy : B .type-cnt * 16 ≤ length w / 4
-  roomy = omega (arith, count-is p modes s n ok, work-length p modes s n ok, work-long p modes s n ok)
-
-  some : 1 ≤ b .types
-  some = subst (λ (k : ℕ). 1 ≤ k) types-are (omega (arith, count-is p modes s n ok, some-type s))
+  abbrev Z : Sane b B
+  Z = opened-sane p modes s n ok
 
   -- nothing is remembered yet
-  begins : InWork b some B pointers (opening-gives p modes s n ok .well-formed) (ends b s w) (few p modes s n ok) w w
-  begins = (
-    record { long = refl; words = λ i n m. refl },
-    λ id x e. absurd (known-unknown x (sym (none id) ∙ e)),
-    (roomy, no-visits some ∙ sym (paid-none B (workKeep (B .type-cnt) B .recall w) none (B .type-cnt))),
-  )
+  begins : InWork b (Z .some) B (Z .small) (Z .wf) (Z .ends) (Z .few) w w
+  begins = let m = opened-minds p modes s n ok in (record { long = refl; words = λ i n m. refl }, m .right, (m .roomy, m .count))
 
   -- the same numbers, lengths and text as the rules have with the names of the session, for every list of requests
   pub opened-work-session : (rs : List Req) → dumpedOnce (workAsks (B .type-cnt) B) (workNaming b) B [] rs (openedBy (workNaming b) B w) ≡ dumped (namesIn p modes s n) B [] rs (openedIn p modes s n)
-  opened-work-session rs = work-session b some B pointers (opening-gives p modes s n ok .well-formed) (ends b s w) (few p modes s n ok) w begins rs ∙ opening-gives p modes s n ok .same-text rs
+  opened-work-session rs = work-session b (Z .some) B (Z .small) (Z .wf) (Z .ends) (Z .few) w begins rs ∙ opening-gives p modes s n ok .same-text rs
 
   -- without bit 3 of the modes these are the names of the Rust
   pub opened-work-rust : eqb (modes / 8 % 2) 1 ≡ false → (rs : List Req) → dumpedOnce (workAsks (B .type-cnt) B) (workNaming b) B [] rs (openedBy (workNaming b) B w) ≡ dumpTypes B rs
@@ -115,4 +57,4 @@ module _ (p modes : ℕ) (s : List ℕ) (n : ℕ) (ok : openingNumber p s n ≡ 
 
   -- "at most types plus members", in word 2 of void
   pub opened-work-visits : (rs : List Req) → getField (afterOnce (workAsks (B .type-cnt) B) (workNaming b) B rs (openedBy (workNaming b) B w) .mach .known .names) 0 2 ≤ B .type-cnt + membersTo B (B .type-cnt)
-  opened-work-visits rs = work-visits b some B pointers (opening-gives p modes s n ok .well-formed) (ends b s w) (few p modes s n ok) w begins rs
+  opened-work-visits rs = work-visits b (Z .some) B (Z .small) (Z .wf) (Z .ends) (Z .few) w begins rs

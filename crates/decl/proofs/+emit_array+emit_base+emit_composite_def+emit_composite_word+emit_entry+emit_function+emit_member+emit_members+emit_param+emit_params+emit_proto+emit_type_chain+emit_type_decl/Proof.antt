@@ -785,7 +785,7 @@ emit-composite-def-same-length-5 : (t : ℕ) → emit-composite-def-lts.Need-sam
 emit-composite-def-same-length-5 t c = search needs
 
 emit-composite-def-returns-4 : (t : ℕ) → emit-composite-def-lts.Need-returns-4 (emit-composite-def-claims t) (emit-composite-def-at t) emit-composite-def.Post
-emit-composite-def-returns-4 t c = members.def-body _ _ _ _ _ _ _ _ _ _ _ _ _ (c .before .before .before .before .before .before .before .before .before .before .before .before .before .before .before .before .before .before .before .before .before .before .before .before .before .before .before .before .before .before .if1 .left) (sym (c .before .before .before .before .before .before .before .before .before .before .before .before .before .before .before .before .before .before .before .before .before .before .before .before .before .before .is-builtin .ensures) ∙ c .before .before .before .before .before .before .before .before .before .before .before .before .before .before .before .before .before .before .before .before .before .before .before .before .before .if3 .left) _ (c .before .before .before .before .before .before .before .before .before .before .before .before .before .before .before .before .before .before .before .before .before .before .before .body-packed .ensures) _ _ _ _ _ _ _ _ _ (c .before .before .before .before .before .before .before .before .before .before .before .before .before .before .before .before .before .before .before .before .before .packed .given .1) (c .before .before .before .before .before .before .before .before .before .before .deeper .ensures) (c .before .before .before .before .before .before .before .before .before .before .before .before .before .before .before .before .before .emit-composite-head .ensures) (c .before .before .before .before .before .before .before .before .before .emit-members .ensures) (c .before .before .emit-composite-end .ensures)
+emit-composite-def-returns-4 t c = members.def-body _ _ _ _ _ _ _ _ _ _ _ _ _ (c .before .before .before .before .before .before .before .before .before .before .before .before .before .before .before .before .before .before .before .before .before .before .before .before .before .before .before .before .before .before .before .before .if1 .left) (sym (c .before .before .before .before .before .before .before .before .before .before .before .before .before .before .before .before .before .before .before .before .before .before .before .before .before .before .before .before .is-builtin .ensures) ∙ c .before .before .before .before .before .before .before .before .before .before .before .before .before .before .before .before .before .before .before .before .before .before .before .before .before .before .before .if3 .left) _ _ (c .before .before .before .before .before .before .before .before .before .before .before .before .before .before .before .before .before .before .before .before .before .before .before .before .before .body-packed .ensures) _ _ _ _ _ _ _ _ _ (c .before .before .before .before .before .before .before .before .before .before .before .before .before .before .before .before .before .before .before .before .before .packed .given .1) (c .before .before .before .before .before .before .before .before .before .before .deeper .ensures) (c .before .before .before .before .before .before .before .before .before .before .before .before .before .before .before .before .before .emit-composite-head .ensures) (c .before .before .before .before .before .before .before .before .before .emit-members .ensures) (c .before .before .emit-composite-end .ensures)
 
 emit-composite-def-same-length-6 : (t : ℕ) → emit-composite-def-lts.Need-same-length-6 (emit-composite-def-claims t) (emit-composite-def-at t) emit-composite-def.Post
 emit-composite-def-same-length-6 t c = search needs
@@ -794,7 +794,7 @@ emit-composite-def-same-length-7 : (t : ℕ) → emit-composite-def-lts.Need-sam
 emit-composite-def-same-length-7 t c = search needs
 
 emit-composite-def-returns-5 : (t : ℕ) → emit-composite-def-lts.Need-returns-5 (emit-composite-def-claims t) (emit-composite-def-at t) emit-composite-def.Post
-emit-composite-def-returns-5 t c = members.def-refused _ _ _ _ _ _ _ _ _ _ _ _ _ (c .before .before .before .before .before .before .before .before .before .before .before .before .if1 .left) (sym (c .before .before .before .before .before .before .before .before .is-builtin .ensures) ∙ c .before .before .before .before .before .before .before .if3 .left) _ (c .before .before .before .before .before .body-packed .ensures) _ (c .before .before .before .c .given .1) (c .stop2 .ensures)
+emit-composite-def-returns-5 t c = members.def-refused _ _ _ _ _ _ _ _ _ _ _ _ _ (c .before .before .before .before .before .before .before .before .before .before .before .before .before .before .if1 .left) (sym (c .before .before .before .before .before .before .before .before .before .before .is-builtin .ensures) ∙ c .before .before .before .before .before .before .before .before .before .if3 .left) _ _ (c .before .before .before .before .before .before .before .body-packed .ensures) _ (c .before .before .before .c .given .1) (c .stop2 .ensures)
 
 emit-composite-word-is-empty-requires : (t : ℕ) → emit-composite-word-lts.Need-is-empty-requires (emit-composite-word-claims t) (emit-composite-word-at t) emit-composite-word.Post
 emit-composite-word-is-empty-requires t c κs = search needs
@@ -1030,7 +1030,7 @@ emit-member-same-length-2 : (t : ℕ) → emit-member-lts.Need-same-length-2 (em
 emit-member-same-length-2 t c = search needs
 
 emit-member-returns : (t : ℕ) → emit-member-lts.Need-returns (emit-member-claims t) (emit-member-at t) emit-member.Post
-emit-member-returns t c = members.member-put _ _ _ _ _ _ _ _ _ _ _ _ _ _ _ _ _ _ _ _ _ _ _ _ (c .before .before .before .before .before .before .before .before .before .before .before .before .before .before .before .before .before .before .before .before .before .before .before .before .before .before .load-member .ensures) (c .before .before .before .before .before .before .before .before .before .before .before .before .before .before .before .before .before .before .before .before .before .before .before .before .before .bare .ensures) (c .before .before .before .before .before .before .before .before .before .before .before .before .before .before .before .before .before .before .before .before .before .before .emit-bit-padding .ensures) (c .before .before .before .before .before .before .before .before .before .before .before .before .before .before .before .before .before .before .put-byte .ensures) (c .before .before .before .before .before .before .before .before .before .before .before .before .before .before .put-tabs .ensures) (c .before .before .before .before .before .before .before .before .before .emit-type-decl .ensures) (c .before .before .emit-member-end .ensures)
+emit-member-returns t c = members.member-put _ _ _ _ _ _ _ _ _ _ _ _ _ _ _ _ _ _ _ _ _ _ _ _ _ (c .before .before .before .before .before .before .before .before .before .before .before .before .before .before .before .before .before .before .before .before .before .before .before .before .before .before .before .before .load-member .ensures) (c .before .before .before .before .before .before .before .before .before .before .before .before .before .before .before .before .before .before .before .before .before .before .before .before .before .before .before .bare .ensures) (c .before .before .before .before .before .before .before .before .before .before .before .before .before .before .before .before .before .before .before .before .before .before .before .before .emit-bit-padding .ensures) (c .before .before .before .before .before .before .before .before .before .before .before .before .before .before .before .before .before .before .put-byte .ensures) (c .before .before .before .before .before .before .before .before .before .before .before .before .before .before .put-tabs .ensures) (c .before .before .before .before .before .before .before .before .before .emit-type-decl .ensures) (c .before .before .emit-member-end .ensures)
 
 abbrev emit-members-Inv-loop : emit-members-lts.InvT-loop
 emit-members-Inv-loop b section work₀ text₀ at id t packed lvl below vlen s₀ k₀ work text s k = (Leads b section text₀ (s₀ .at) (membersLeft b section below id (tailPads (b .placing) (b .«ptr_sz») (eqb (kindOf (t .info)) 4) (t .«type_id»)) lvl packed (λ j. ruleMember b section (memberOf b section t j)) vlen k₀ (s₀ .offset) work₀) text (s .at) (membersLeft b section below id (tailPads (b .placing) (b .«ptr_sz») (eqb (kindOf (t .info)) 4) (t .«type_id»)) lvl packed (λ j. ruleMember b section (memberOf b section t j)) vlen k (s .offset) work)) × (k ≤ vlen) × (vlen < 4294967296) × (length work ≡ length work₀) × (length text ≡ length text₀)

@@ -36,7 +36,8 @@ use Rattle.demand.specs.Session.{openedBy, dumped}
 use Rattle.remembered.specs.Words.{seenWord, decoded, coded, counted as visited, remembered, workKeep}
 use Rattle.remembered.proofs.Lawful.{Roomy, FitsWord, remembered-length, work-lawful, tells-fits}
 use Rattle.remembered.proofs.Visits.{Counted, Holds, align-holds}
-use Rattle.visits.specs.Work.{workAsks, Agree}
+use Rattle.asked.specs.Asked.{workAsks}
+use Rattle.minds.specs.Work.{Agree}
 
 -- ---- stores at the same place
 module _ (w u : List ℕ) (a : Agree w u) where
@@ -65,11 +66,11 @@ module _ (w u : List ℕ) (a : Agree w u) where
       by false = a
 
 -- ---- no word of a name, and none of a list of taken numbers, is one of the memory's
-abbrev Off : ℕ → Type 0
+abbrev pub Off : ℕ → Type 0
 Off i = (i % 16 ≡ 15 → ⊥) × (i ≡ 2 → ⊥)
 
 module _ (types : ℕ) where
-  place-off : (f g : ℕ) → f < 15 → f ≢ 2 → g < 7 → g ≢ 2 → (h : ℕ) → Off (placeOf types f g h)
+  pub place-off : (f g : ℕ) → f < 15 → f ≢ 2 → g < 7 → g ≢ 2 → (h : ℕ) → Off (placeOf types f g h)
   place-off f g l nf m ng h =
       ⊎-elim
       (λ k. let e : placeOf types f g h ≡ types * 16 + (h - types) * 8 + g = sym (place-enum types f g h k) in (λ q. omega (arith, e, q, m), λ q. ng (omega (arith, e, q, m))))
@@ -80,7 +81,7 @@ module _ (types : ℕ) where
   class-apart = place-off 5 1 (omega arith) (λ q. omega arith) (omega arith) (λ q. omega arith)
 
   -- word 2 of the first enumerator is word 2 of void only where there is no type
-  count-apart : 1 ≤ types → (h : ℕ) → Off (countP types h)
+  pub count-apart : 1 ≤ types → (h : ℕ) → Off (countP types h)
   count-apart some h =
       ⊎-elim
       (λ l. let e : countP types h ≡ types * 16 + (h - types) * 8 + 2 = sym (place-enum types 6 2 h l) in (λ q. omega (arith, e, q), λ q. omega (arith, e, q, some)))
@@ -93,7 +94,7 @@ pub record Memory (w₂ w : List ℕ) : Type 0 where
   pub aligned : (j : ℕ) → getField w₂ j 15 ≡ getField w j 15
   pub count : getField w₂ 0 2 ≡ getField w 0 2
 
-memory-put : (w : List ℕ) (i v : ℕ) → (i % 16 ≡ 15 → ⊥) → (i ≡ 2 → ⊥) → Memory (putWord w i v) w
+pub memory-put : (w : List ℕ) (i v : ℕ) → (i % 16 ≡ 15 → ⊥) → (i ≡ 2 → ⊥) → Memory (putWord w i v) w
 memory-put w i v n m = record {
   long = put-length w i v;
   aligned = λ j. get-put-other w i (j * 16 + 15) v (λ e. n (omega (arith, e)));
@@ -164,7 +165,7 @@ module _ (b : Btf) (some : 1 ≤ b .types) (B : Rules) (small : B .ptr-sz ≤ 15
   abbrev K : Keep (List ℕ)
   K = workKeep types B
 
-  abbrev Took : List ℕ → Type 0
+  abbrev pub Took : List ℕ → Type 0
   Took w = Counted types B small (wf .below) few w
 
   -- the plain way's work has the same words, but for the memory; which is right, with its visits in word 2 of void
@@ -175,7 +176,7 @@ module _ (b : Btf) (some : 1 ≤ b .types) (B : Rules) (small : B .ptr-sz ≤ 15
   unfolding workKeep seenWord
   recall-same w w₂ h id = ap (λ (x : ℕ). decoded (elim (ltb id types) as (λ (b : Bool). ℕ) [ true ↦ x | false ↦ 0 ])) (h .aligned id)
 
-  kept-memory : (w w₂ : List ℕ) → Memory w₂ w → Right K B w → Took w → Right K B w₂ × Took w₂
+  pub kept-memory : (w w₂ : List ℕ) → Memory w₂ w → Right K B w → Took w → Right K B w₂ × Took w₂
   kept-memory w w₂ h r t = (
     λ id s e. r id s (sym (recall-same w w₂ h id) ∙ e),
     (subst (λ (x : ℕ). types * 16 ≤ x / 4) (sym (h .long)) (t .0), h .count ∙ t .1 ∙ ap (λ (f : ℕ → Known). paidTo B f types) (λ i id. sym (recall-same w w₂ h id) i)),
@@ -267,7 +268,7 @@ module _ (b : Btf) (some : 1 ≤ b .types) (B : Rules) (small : B .ptr-sz ≤ 15
   honest : (w u : List ℕ) → InWork w u → Honest K B types (Good u) FitsWord (law u) (tells-fits B small) (wf .below) Also (keeps u) w (getField w 0 2)
   honest w u p = record { right = p .1; good = (p .2 .0, p .0); visits = p .2 .1; also = p .2 .1 }
 
-  work-sound : Sound (workAsks types B) (workNaming b) (workNaming b) B wf ends InWork
+  pub work-sound : Sound (workAsks types B) (workNaming b) (workNaming b) B wf ends InWork
   work-sound = record {
     named = work-named;
     bodies = λ id s name sz ms e l w u p.

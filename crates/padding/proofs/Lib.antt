@@ -1,0 +1,2 @@
+-- Laws: what each return of emit_bit_padding comes to.
+pub mod Laws
