@@ -206,8 +206,9 @@ btfdump_answer btfdump_dump_list_within(uint8_t *record, size_t record_len,
  * was, with *count 0. A list too short for one more entry is 17; one with an
  * entry for every three bytes of text is never too short. Everything else is as
  * after the plain call. A list of ids is the single requests in their order, each
- * lent what follows the entries so far. These requests need some 2.2 MiB of stack, and take longer
- * than the plain ones: 2 MiB are cleared for each id that has something to do.
+ * lent what follows the entries so far. These requests keep 2 MiB more on the
+ * stack and clear them for each id, or, for all ids, for each that has something
+ * to do.
  */
 btfdump_answer btfdump_dump_type_causes(uint8_t *record, size_t record_len,
 					const uint8_t *section, size_t section_len,
