@@ -205,8 +205,10 @@ btfdump_answer btfdump_dump_list_within(uint8_t *record, size_t record_len,
  * are dropped; those of the ids before it stay. 10 and 11 leave the list as it
  * was, with *count 0. A list too short for one more entry is 17; one with an
  * entry for every three bytes of text is never too short. Everything else is as
- * after the plain call. These requests need some 2.2 MiB of stack, and take longer
- * than the plain ones: 2 MiB are cleared for each id that has something to do.
+ * after the plain call. A list of ids is the single requests in their order, each
+ * lent what follows the entries so far. These requests keep 2 MiB more on the
+ * stack and clear them for each id, or, for all ids, for each that has something
+ * to do.
  */
 btfdump_answer btfdump_dump_type_causes(uint8_t *record, size_t record_len,
 					const uint8_t *section, size_t section_len,
@@ -221,6 +223,14 @@ btfdump_answer btfdump_dump_types_causes(uint8_t *record, size_t record_len,
 					 uint8_t *text, size_t text_len,
 					 uint8_t *list, size_t list_len,
 					 uint64_t *count);
+
+btfdump_answer btfdump_dump_list_causes(uint8_t *record, size_t record_len,
+					const uint8_t *section, size_t section_len,
+					uint8_t *work, size_t work_len,
+					uint8_t *text, size_t text_len,
+					const uint8_t *ids, size_t ids_len,
+					uint8_t *list, size_t list_len,
+					uint64_t *count);
 
 /* The length of the text so far, of a record that an opening wrote. */
 static inline uint32_t btfdump_text_len(const uint8_t *record)

@@ -10,7 +10,9 @@
 #include "session.h"
 
 #define RECORD BTFDUMP_RECORD_SIZE
-#define ALL 0u /* what is asked for: an id, or all ids */
+#define ALL 0u /* what is asked for: an id, all ids, or the list */
+#define LIST UINT32_MAX
+#define IDS 7
 #define FULL 17
 
 struct memory {
@@ -24,6 +26,18 @@ struct sizes {
 
 static uint32_t calls, refused, differ;
 static uint64_t lines;
+static uint8_t ids[4 * IDS];
+
+/* every third id, from the last down; with another turn the last ones are past the table */
+static void fill_list(uint32_t types, uint32_t turn)
+{
+	for (uint32_t i = 0; i < IDS; i++) {
+		uint32_t id = turn ? i * 3 * turn : types - 1 - i * 3 % types;
+
+		for (int j = 0; j < 4; j++)
+			ids[4 * i + j] = (uint8_t)(id >> 8 * j);
+	}
+}
 
 static struct memory same_as(const struct memory *from, const struct sizes *z)
 {
@@ -45,6 +59,9 @@ static void drop(struct memory *m)
 
 static btfdump_answer plain(struct memory *m, const struct sizes *z, uint32_t id)
 {
+	if (id == LIST)
+		return btfdump_dump_list(m->record, RECORD, z->section, z->section_len, m->work, z->work_len, m->text, z->text_len,
+					 ids, sizeof ids);
 	if (id == ALL)
 		return btfdump_dump_types(m->record, RECORD, z->section, z->section_len, m->work, z->work_len, m->text, z->text_len);
 	return btfdump_dump_type(m->record, RECORD, z->section, z->section_len, m->work, z->work_len, m->text, z->text_len, id);
@@ -54,6 +71,9 @@ static btfdump_answer noted(struct memory *m, const struct sizes *z, uint32_t id
 {
 	*count = UINT64_MAX / 3;
 	memset(list, OLD_BYTE, list_len);
+	if (id == LIST)
+		return btfdump_dump_list_causes(m->record, RECORD, z->section, z->section_len, m->work, z->work_len, m->text,
+						z->text_len, ids, sizeof ids, list, list_len, count);
 	if (id == ALL)
 		return btfdump_dump_types_causes(m->record, RECORD, z->section, z->section_len, m->work, z->work_len, m->text,
 						 z->text_len, list, list_len, count);
@@ -75,10 +95,10 @@ static int all_are(const uint8_t *p, size_t n, uint8_t byte)
 	return 1;
 }
 
-/* Whole entries of ids of the table from the start, and then zeros; 10 and 11 leave the list. */
-static int is_list(const uint8_t *list, size_t len, uint64_t count, uint32_t types, uint32_t number)
+/* Whole entries of ids of the table from the start, and then zeros; 10 and 11 of the first id leave the list. */
+static int is_list(const uint8_t *list, size_t len, uint64_t count, uint32_t types, int left)
 {
-	if (number == 10 || number == 11)
+	if (left)
 		return count == 0 && all_are(list, len, OLD_BYTE);
 	for (uint64_t i = 0; i < count; i++) {
 		const uint8_t *e = list + 12 * i;
@@ -99,10 +119,11 @@ static const char *one_request(struct memory *m, const struct sizes *z, uint32_t
 	const char *wrong = NULL;
 	btfdump_answer first = plain(m, z, id), long_enough = noted(&a, z, id, list, len, &count);
 	uint32_t number = btfdump_number(first);
+	int left = (number == 10 || number == 11) && (id != LIST || btfdump_value(first) == 0);
 
 	calls++;
 	lines += count;
-	if (long_enough != first || !equal(&a, m, z) || !is_list(list, len, count, types, number))
+	if (long_enough != first || !equal(&a, m, z) || !is_list(list, len, count, types, left))
 		wrong = "a list that is long enough";
 	else if (number == 0) {
 		if (noted(&b, z, id, other, 12 * count + 11, &again) != first || again != count || !equal(&b, m, z) ||
@@ -113,7 +134,7 @@ static const char *one_request(struct memory *m, const struct sizes *z, uint32_t
 
 			refused++;
 			if (btfdump_number(full) != FULL || get_word(c.record, 0) != 0 || !all_are(c.work, z->work_len, 0) ||
-			    less >= count || !is_list(other, 12 * count - 1, less, types, FULL) || memcmp(list, other, 12 * less))
+			    less >= count || !is_list(other, 12 * count - 1, less, types, 0) || memcmp(list, other, 12 * less))
 				wrong = "a list of one entry less";
 		}
 	}
@@ -131,9 +152,13 @@ static void one_session(const char *path, const struct one_case *c, const uint8_
 	const char *wrong = btfdump_number(opened) ? "opening" : NULL;
 	uint32_t types = btfdump_value(opened);
 
-	if (by_id)
+	if (by_id == 1)
 		for (uint32_t id = types; id > 0 && !wrong; id--)
 			wrong = one_request(&m, &z, id, types);
+	for (uint32_t turn = 0; by_id == 2 && turn < 3 && !wrong; turn++) {
+		fill_list(types, turn);
+		wrong = one_request(&m, &z, LIST, types);
+	}
 	for (int i = 0; i < 2 && !wrong; i++)
 		wrong = one_request(&m, &z, ALL, types);
 	if (wrong) {
@@ -153,7 +178,7 @@ static void one_file(const char *path)
 			const uint8_t *p = c.calls + 32 * (size_t)i;
 
 			if (u32_at(p) == OPENING && u32_at(p + 24) == 0) {
-				for (int how = 0; how < 2; how++)
+				for (int how = 0; how < 3; how++)
 					one_session(path, &c, p, how);
 				break;
 			}

@@ -1,17 +1,21 @@
 -- A law for each return of src/explained.rt. Assumes nothing.
 use Prim.Native.Nat.{ℕ, _<_, _≤_}
 use mathlib.Core.Path.{_≡_, refl, ap, _∙_, sym}
-use mathlib.Core.List.{List}
+use mathlib.Core.List.{List, [], _∷_}
 use lib.ListN.{length}
 use borrow.Author.Tests.{lt-ltb, le-ltb}
 use Rattle.turns.specs.declared.Session.{Session}
 use Rattle.turns.specs.Turns.{callOf}
-use Rattle.c_record.specs.Record.{packed, decoded, recordAfter}
+use Rattle.turns.specs.Answers.{numberOf, valueOf}
+use Rattle.calls.specs.Lists.{idsIn}
+use Rattle.calls.proofs.Lists.{ids-none, ids-some}
+use Rattle.c_record.specs.Record.{packed, decoded, recordAfter, recordListed}
 use Rattle.causes.specs.Bytes.{CauseCall, typeCauses, typesCauses}
 use Rattle.explain.specs.declared.Explained.{Explained}
 use Rattle.explain.specs.Explained.{explainedOf}
+use Rattle.several.specs.Several.{listCausesCall}
 use Rattle.btfdump_c.specs.Exports.{exportOf, answeredBy}
-use Rattle.btfdump_c.specs.Causes.{causesExportOf, answeredCauses, typeCausesExport, typesCausesExport}
+use Rattle.btfdump_c.specs.Causes.{causesExportOf, answeredCauses, typeCausesExport, typesCausesExport, listedCauses, listCausesExport}
 
 module _ (r section w t l : List ℕ) where
   module _ (h : length r < 128) where
@@ -35,3 +39,23 @@ module _ (r section w t l : List ℕ) where
     pub types-is : explainedOf d w′ t′ l′ ≡ typesCauses s section w t l → (u ≡ packed (d .turn .answer)) × (r′ ≡ recordAfter (d .turn .answer) r) → causesExportOf u r′ w′ t′ (d .count) l′ ≡ typesCausesExport r section w t l
     unfolding typesCausesExport
     types-is e eu = tells _ (e ∙ ap (λ (q : Session). typesCauses q section w t l) es) eu ∙ sym (rw (le-ltb (length r) 128 h, typesCausesExport))
+
+-- ---- a list
+module _ (r section w t ids l : List ℕ) where
+  pub list-none : length ids < 4 → causesExportOf 0 r w t 0 l ≡ listCausesExport r section w t (idsIn ids) l
+  unfolding listCausesExport
+  list-none h = sym (ap (λ (xs : List ℕ). listCausesExport r section w t xs l) (ids-none ids h))
+
+  module _ (some : 4 ≤ length ids) where
+    pub list-short : length r < 128 → causesExportOf 47244640256 r w t 0 l ≡ listCausesExport r section w t (idsIn ids) l
+    unfolding listCausesExport
+    list-short h = sym (ap (λ (xs : List ℕ). listCausesExport r section w t xs l) (ids-some ids some) ∙ rw (lt-ltb (length r) 128 h, listCausesExport))
+
+    pub list-is : 128 ≤ length r → (s : Session) → s ≡ decoded r → (d : Explained) (w′ t′ l′ : List ℕ) (u : ℕ) (r′ : List ℕ) → explainedOf d w′ t′ l′ ≡ listCausesCall s section w t (idsIn ids) l
+        → (u ≡ packed (d .turn .answer)) × (r′ ≡ recordListed (numberOf (d .turn .answer)) (valueOf (d .turn .answer)) (d .turn .session .«text_len») r)
+        → causesExportOf u r′ w′ t′ (d .count) l′ ≡ listCausesExport r section w t (idsIn ids) l
+    unfolding causesExportOf listedCauses listCausesExport explainedOf callOf
+    list-is h s es d w′ t′ l′ u r′ e eu =
+        (λ i. causesExportOf (eu .0 i) (eu .1 i) w′ t′ (d .count) l′)
+        ∙ ap (listedCauses r) (e ∙ (λ i. listCausesCall (es i) section w t (ids-some ids some i) l))
+        ∙ sym (ap (λ (xs : List ℕ). listCausesExport r section w t xs l) (ids-some ids some) ∙ rw (le-ltb (length r) 128 h, listCausesExport))

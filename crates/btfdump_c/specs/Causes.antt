@@ -1,11 +1,13 @@
 -- What each request that is lent a list comes to for C: what the plain call's contract tells, the list, and the count of its entries.
 use Prim.Native.Nat.{ℕ, _*_}
 use mathlib.Core.Bool.{true, false}
-use mathlib.Core.List.{List}
+use mathlib.Core.List.{List, [], _∷_}
 use lib.Dec.{ltb}
 use lib.ListN.{length}
-use Rattle.c_record.specs.Record.{decoded}
+use Rattle.turns.specs.Answers.{numberOf, valueOf}
+use Rattle.c_record.specs.Record.{packed, decoded, recordListed}
 use Rattle.causes.specs.Bytes.{CauseCall, typeCauses, typesCauses}
+use Rattle.several.specs.Several.{listCausesCall}
 use Rattle.btfdump_c.specs.Exports.{Export, exportOf, answeredBy}
 
 pub record CausesExport : Type 0 where
@@ -26,3 +28,16 @@ typeCausesExport r section w t id l =
 
 unfoldable pub typesCausesExport : List ℕ → List ℕ → List ℕ → List ℕ → List ℕ → CausesExport
 typesCausesExport r section w t l = elim (ltb (length r) 128) [ true ↦ causesExportOf (11 * 4294967296) r w t 0 l | false ↦ answeredCauses r (typesCauses (decoded r) section w t l) ]
+
+-- a list of ids: the value is the count of the accepted; an empty list tests and changes nothing
+unfoldable pub listedCauses : List ℕ → CauseCall → CausesExport
+listedCauses r d = record {
+  export = exportOf (packed (d .call .answer)) (recordListed (numberOf (d .call .answer)) (valueOf (d .call .answer)) (d .call .session .«text_len») r) (d .call .work) (d .call .text);
+  count = d .count;
+  list = d .list;
+}
+
+unfoldable pub listCausesExport : List ℕ → List ℕ → List ℕ → List ℕ → List ℕ → List ℕ → CausesExport
+listCausesExport r section w t [] l = causesExportOf 0 r w t 0 l
+listCausesExport r section w t (id ∷ ids) l =
+    elim (ltb (length r) 128) [ true ↦ causesExportOf (11 * 4294967296) r w t 0 l | false ↦ listedCauses r (listCausesCall (decoded r) section w t (id ∷ ids) l) ]
