@@ -1,27 +1,24 @@
--- What each return of the code comes to: sizes, alignments, ends of members, widths of pads. Assumes nothing.
-use Prim.Native.Nat.{ℕ, zero, suc, _+_, _-_, _*_, _/_, _%_, _<_, _≤_}
-use mathlib.Core.Path.{_≡_, refl, ap, ap₂, _∙_, sym}
-use mathlib.Core.Bool.{Bool, true, false}
-use mathlib.Core.List.{List, [], _∷_}
+-- What each return of the code comes to: sizes, ends of members, widths of pads. Assumes nothing.
+use Prim.Native.Nat.{ℕ, suc, _+_, _-_, _*_, _/_, _%_, _<_, _≤_}
+use mathlib.Core.Path.{_≡_, refl, ap, _∙_, sym}
+use mathlib.Core.List.{List}
 use mathlib.Core.Logic.{_⊎_, inl, inr, ⊎-elim}
 use native.Mathlib.Omega.{arith}
 use native.Mathlib.Nat.{mod-zero}
-use borrow.Author.Tests.{lt-ltb, le-ltb, le-leb, lt-leb, ne-eqb}
+use borrow.Author.Tests.{lt-ltb, le-ltb, ne-eqb}
 use Rattle.lent.proofs.Laws.{le-or-lt}
 use Rattle.rules.specs.Writer.{Ask, got, no, askThen, checked}
-use Rattle.rules.specs.Types.{Member, memberTypes, BtfType, Void, Int, Ptr, Array, Composite, Enum, Enum64, Fwd, Typedef, Mod, Func, Var, Datasec, FuncProto, Float, DeclTag, TypeTag}
-use Rattle.rules.specs.Layout.{octets, smaller, larger, sizeOf, getSizeOf, alignMembers, alignOf, getAlignOf, endOf, chipAwayBits}
+use Rattle.rules.specs.Types.{BtfType}
+use Rattle.rules.specs.Layout.{octets, sizeOf, getSizeOf, endOf, chipAwayBits}
 use Rattle.btf.specs.declared.types.Btf.{Btf}
 use Rattle.btf.specs.declared.types.BtfType.{BtfType as Record}
 use Rattle.btf.specs.declared.types.BtfMember.{BtfMember}
-use Rattle.btf.specs.declared.types.Entries.{Entries}
-use Rattle.btf.specs.Records.{sectionWord, kindOf, vlenOf, memberAt, recordById, entriesOf}
-use Rattle.btf.specs.Table.{from, ruleMember, extraWord, nelemsWord, membersOf, typeOf, btfOf}
-use Rattle.btf.specs.Nodes.{memberIds}
-use Rattle.btf.proofs.KindLaws.{type-0, type-1, type-2, type-3, type-4, type-5, type-6, type-7, type-8, type-9, type-10, type-11, type-12, type-13, type-14, type-15, type-16, type-17, type-18, type-19, type-none, member-types}
+use Rattle.btf.specs.Records.{kindOf, recordById}
+use Rattle.btf.specs.Table.{ruleMember, extraWord, nelemsWord, typeOf, btfOf}
+use Rattle.btf.proofs.KindLaws.{type-0, type-1, type-2, type-3, type-4, type-5, type-6, type-7, type-8, type-9, type-10, type-11, type-12, type-13, type-14, type-15, type-16, type-17, type-18, type-19, type-none}
 use Rattle.layout.specs.declared.Ask.{Ask as Code}
 use Rattle.layout.specs.declared.Ask.the-variants.{Got, No}
-use Rattle.layout.specs.Answers.{askOf, alignIds}
+use Rattle.layout.specs.Answers.{askOf}
 
 -- ---- numbers of 32 bits
 pub checked-fits : (n : ℕ) → n < 4294967296 → askOf (Got n) ≡ checked n
@@ -59,25 +56,11 @@ unfolding askThen
 then-twice (got n) g h = refl
 then-twice (no c) g h = refl
 
--- alignMembers looks at the types alone
-pub align-ids : (f : ℕ → Ask ℕ) (a : ℕ) (ms : List Member) → alignMembers f a ms ≡ alignIds f a (memberTypes ms)
-unfolding alignMembers alignIds
-align-ids f a [] = refl
-align-ids f a (m ∷ ms) = ap (askThen (f (m .type-id))) (λ i c. align-ids f (larger a c) ms i)
-
--- composite_align
-pub whole-align : (f : ℕ → Ask ℕ) (b : Btf) (s : List ℕ) (t : Record) (x : Entries) (r : Code) → x ≡ entriesOf t → askOf r ≡ alignIds f 1 (memberIds b s x) → askOf r ≡ alignMembers f 1 (membersOf b s t)
-whole-align f b s t x r ex er = er ∙ ap (λ (z : Entries). alignIds f 1 (memberIds b s z)) ex ∙ ap (alignIds f 1) (sym (member-types b s t)) ∙ sym (align-ids f 1 (membersOf b s t))
-
 -- ---- get_size_of
 module _ (b : Btf) (s w : List ℕ) (left id : ℕ) where
   pub size-deep : left ≡ 0 → askOf (No 12) ≡ getSizeOf left (btfOf b s w) id
   unfolding askOf getSizeOf
   size-deep e = rw e
-
-  pub align-deep : left ≡ 0 → askOf (No 12) ≡ getAlignOf left (btfOf b s w) id
-  unfolding askOf getAlignOf
-  align-deep e = rw e
 
   module _ (deep : left ≡ 0 → ⊥) (t : Record) (et : t ≡ recordById b s w id) where
     size-is : (T : BtfType) → typeOf b s t ≡ T → getSizeOf left (btfOf b s w) id ≡ sizeOf (btfOf b s w) (getSizeOf (left - 1) (btfOf b s w)) T
@@ -86,13 +69,6 @@ module _ (b : Btf) (s w : List ℕ) (left id : ℕ) where
         let e : left ≡ suc (left - 1) = omega arith in
         ap (λ (n : ℕ). getSizeOf n (btfOf b s w) id) e
         ∙ ap (sizeOf (btfOf b s w) (getSizeOf (left - 1) (btfOf b s w))) (ap (typeOf b s) (sym et) ∙ q)
-
-    align-is : (T : BtfType) → typeOf b s t ≡ T → getAlignOf left (btfOf b s w) id ≡ alignOf (btfOf b s w) (getAlignOf (left - 1) (btfOf b s w)) T
-    unfolding getAlignOf btfOf
-    align-is T q =
-        let e : left ≡ suc (left - 1) = omega arith in
-        ap (λ (n : ℕ). getAlignOf n (btfOf b s w) id) e
-        ∙ ap (alignOf (btfOf b s w) (getAlignOf (left - 1) (btfOf b s w))) (ap (typeOf b s) (sym et) ∙ q)
 
     module _ (k : ℕ) (ek : k ≡ kindOf (t .info)) where
       pub size-int : (x y : ℕ) → k ≡ 1 → x ≡ extraWord b s t % 256 → y ≡ octets x → askOf (Got y) ≡ getSizeOf left (btfOf b s w) id
@@ -170,154 +146,7 @@ module _ (b : Btf) (s w : List ℕ) (left id : ℕ) where
       pub size-past : 19 ≤ k → ((k ≡ 16) ⊎ (k ≡ 19) → ⊥) → askOf (Got 0) ≡ getSizeOf left (btfOf b s w) id
       unfolding sizeOf
       size-past l n = near 19 k l (λ e. absurd (n (inr e))) (λ l20. let h : 20 ≤ kindOf (t .info) = omega arith in size-none _ (type-none b s t h) refl)
-
       -- ---- get_align_of
-      pub align-int : (x o y : ℕ) → k ≡ 1 → x ≡ extraWord b s t % 256 → o ≡ octets x → y ≡ smaller (b .«ptr_sz») o → askOf (Got y) ≡ getAlignOf left (btfOf b s w) id
-      unfolding askOf alignOf btfOf
-      align-int x o y e ex eo ey = ap got (ey ∙ ap (smaller (b .«ptr_sz»)) (eo ∙ ap octets ex)) ∙ sym (align-is _ (type-1 b s t (sym ek ∙ e)))
-
-      pub align-ptr : k ≡ 2 → askOf (Got (b .«ptr_sz»)) ≡ getAlignOf left (btfOf b s w) id
-      unfolding askOf alignOf btfOf
-      align-ptr e = sym (align-is _ (type-2 b s t (sym ek ∙ e)))
-
-      pub align-array : (x : ℕ) → k ≡ 3 → x ≡ extraWord b s t → getAlignOf left (btfOf b s w) id ≡ getAlignOf (left - 1) (btfOf b s w) x
-      unfolding alignOf
-      align-array x e ex = align-is _ (type-3 b s t (sym ek ∙ e)) ∙ ap (getAlignOf (left - 1) (btfOf b s w)) (sym ex)
-
-      pub align-sized : (y : ℕ) → (k ≡ 6) ⊎ ((k ≡ 16) ⊎ (k ≡ 19)) → y ≡ smaller (b .«ptr_sz») (t .«type_id») → askOf (Got y) ≡ getAlignOf left (btfOf b s w) id
-      unfolding askOf alignOf btfOf
-      align-sized y (inl e) ey = ap got ey ∙ sym (align-is _ (type-6 b s t (sym ek ∙ e)))
-      align-sized y (inr (inl e)) ey = ap got ey ∙ sym (align-is _ (type-16 b s t (sym ek ∙ e)))
-      align-sized y (inr (inr e)) ey = ap got ey ∙ sym (align-is _ (type-19 b s t (sym ek ∙ e)))
-
-      -- 4, 5
-      pub align-composite : (x : Entries) (r : Code) → 1 ≤ k → k < 6 → (k ≡ 1 → ⊥) → (k ≡ 2 → ⊥) → (k ≡ 3 → ⊥) → x ≡ entriesOf t → askOf r ≡ alignIds (getAlignOf (left - 1) (btfOf b s w)) 1 (memberIds b s x) → askOf r ≡ getAlignOf left (btfOf b s w) id
-      unfolding alignOf
-      align-composite x r l h n1 n2 n3 ex er =
-          let f : 4 ≤ k = omega arith in
-          er ∙ ap (λ (z : Entries). alignIds (getAlignOf (left - 1) (btfOf b s w)) 1 (memberIds b s z)) ex
-          ∙ ap (alignIds (getAlignOf (left - 1) (btfOf b s w)) 1) (sym (member-types b s t))
-          ∙ sym (align-ids (getAlignOf (left - 1) (btfOf b s w)) 1 (membersOf b s t))
-          ∙ near 4 k f (λ e. sym (align-is _ (type-4 b s t (sym ek ∙ e)))) (λ g.
-          let e : k ≡ 5 = omega arith in
-          sym (align-is _ (type-5 b s t (sym ek ∙ e))))
-
-      -- 18; 8 to 11: the type that it names, with one call less
-      pub align-tagged : k ≡ 18 → getAlignOf left (btfOf b s w) id ≡ getAlignOf (left - 1) (btfOf b s w) (t .«type_id»)
-      unfolding alignOf
-      align-tagged e = align-is _ (type-18 b s t (sym ek ∙ e))
-
-      pub align-through : 8 ≤ k → k < 12 → getAlignOf left (btfOf b s w) id ≡ getAlignOf (left - 1) (btfOf b s w) (t .«type_id»)
-      unfolding alignOf
-      align-through l h =
-          near 8 k l (λ e. align-is _ (type-8 b s t (sym ek ∙ e))) (λ l9.
-          near 9 k l9 (λ e. align-is _ (type-9 b s t (sym ek ∙ e))) (λ l10.
-          near 10 k l10 (λ e. align-is _ (type-10 b s t (sym ek ∙ e))) (λ l11.
-          let e : k ≡ 11 = omega arith in
-          align-is _ (type-11 b s t (sym ek ∙ e)))))
-
-      align-none : (T : BtfType) → typeOf b s t ≡ T → alignOf (btfOf b s w) (getAlignOf (left - 1) (btfOf b s w)) T ≡ got 0 → askOf (Got 0) ≡ getAlignOf left (btfOf b s w) id
-      unfolding askOf
-      align-none T q e = sym (align-is T q ∙ e)
-
-      pub align-void : k < 1 → askOf (Got 0) ≡ getAlignOf left (btfOf b s w) id
-      unfolding alignOf
-      align-void h = let e : k ≡ 0 = omega arith in align-none _ (type-0 b s t (sym ek ∙ e)) refl
-
-      pub align-fwd : 6 ≤ k → k < 8 → ((k ≡ 6) ⊎ ((k ≡ 16) ⊎ (k ≡ 19)) → ⊥) → askOf (Got 0) ≡ getAlignOf left (btfOf b s w) id
-      unfolding alignOf
-      align-fwd l h n = near 6 k l (λ e. absurd (n (inl e))) (λ g. let e : k ≡ 7 = omega arith in align-none _ (type-7 b s t (sym ek ∙ e)) refl)
-
-      -- 12 to 15, 17, from 20 on
-      pub align-past : 12 ≤ k → ((k ≡ 6) ⊎ ((k ≡ 16) ⊎ (k ≡ 19)) → ⊥) → (k ≡ 18 → ⊥) → askOf (Got 0) ≡ getAlignOf left (btfOf b s w) id
-      unfolding alignOf
-      align-past l n n18 =
-          near 12 k l (λ e. align-none _ (type-12 b s t (sym ek ∙ e)) refl) (λ l13.
-          near 13 k l13 (λ e. align-none _ (type-13 b s t (sym ek ∙ e)) refl) (λ l14.
-          near 14 k l14 (λ e. align-none _ (type-14 b s t (sym ek ∙ e)) refl) (λ l15.
-          near 15 k l15 (λ e. align-none _ (type-15 b s t (sym ek ∙ e)) refl) (λ l16.
-          near 16 k l16 (λ e. absurd (n (inr (inl e)))) (λ l17.
-          near 17 k l17 (λ e. align-none _ (type-17 b s t (sym ek ∙ e)) refl) (λ l18.
-          near 18 k l18 (λ e. absurd (n18 e)) (λ l19.
-          near 19 k l19 (λ e. absurd (n (inr (inr e)))) (λ l20.
-          let h : 20 ≤ kindOf (t .info) = omega arith in align-none _ (type-none b s t h) refl))))))))
-
--- ---- the loop of align_members, with the alignments that f gives
-larger-last : (a c : ℕ) → a ≤ c → larger a c ≡ c
-unfolding larger
-larger-last a c l = rw (le-leb a c l, larger)
-
-larger-first : (a c : ℕ) → c < a → larger a c ≡ a
-unfolding larger
-larger-first a c l = rw (lt-leb a c l, larger)
-
-larger-twice : (a c : ℕ) → larger (larger a c) c ≡ larger a c
-larger-twice a c = ⊎-elim here there (le-or-lt a c)
-  where
-    here : a ≤ c → larger (larger a c) c ≡ larger a c
-    here l = ap (λ (n : ℕ). larger n c) (larger-last a c l) ∙ larger-last c c (omega arith) ∙ sym (larger-last a c l)
-
-    there : c < a → larger (larger a c) c ≡ larger a c
-    there l = ap (λ (n : ℕ). larger n c) (larger-first a c l)
-
-module _ (f : ℕ → Ask ℕ) where
-  -- the type `last`, if it is one, changes a no more
-  pub Seen : ℕ → ℕ → Type 0
-  Seen a last = last < 4294967296 → askThen (f last) (λ c. got (larger a c)) ≡ got a
-
-  pub seen-none : (a : ℕ) → Seen a 4294967296
-  unfolding Seen
-  seen-none a l = absurd (omega arith)
-
-  pub seen-next : (a x : ℕ) (r : Code) (c a′ last : ℕ) → askOf r ≡ f x → r ≡ Got c → a′ ≡ larger a c → last ≡ x → Seen a′ last
-  unfolding Seen askThen askOf
-  seen-next a x r c a′ last er g ea el l =
-      ap (λ (y : Ask ℕ). askThen y (λ c. got (larger a′ c))) (ap f el ∙ sym er ∙ ap askOf g) ∙ ap (λ (n : ℕ). got (larger n c)) ea ∙ ap got (larger-twice a c ∙ sym ea)
-
-  pub seen-still : (a last a′ last′ : ℕ) → Seen a last → a′ ≡ a → last′ ≡ last → Seen a′ last′
-  seen-still a last a′ last′ h ea el = rw (ea, el) h
-
-module _ (f : ℕ → Ask ℕ) (b : Btf) (s : List ℕ) (e : Entries) where
-  -- what the members from k on make of a
-  pub alignRest : ℕ → ℕ → Ask ℕ
-  alignRest a k = alignIds f a (from (λ i. sectionWord b s (memberAt (e .at) i + 4)) k (e .vlen - k))
-
-  pub rest-start : alignIds f 1 (memberIds b s e) ≡ alignRest 1 0
-  unfolding alignRest memberIds
-  rest-start = let z : e .vlen ≡ e .vlen - 0 = omega arith in ap (λ (n : ℕ). alignIds f 1 (from (λ i. sectionWord b s (memberAt (e .at) i + 4)) 0 n)) z
-
-  module _ (a k p x : ℕ) (l : k < e .vlen) (ep : p ≡ memberAt (e .at) k) (ex : x ≡ sectionWord b s (p + 4)) where
-    rest-step : alignRest a k ≡ askThen (f x) (λ c. alignRest (larger a c) (k + 1))
-    unfolding alignRest from alignIds
-    rest-step =
-        let z : e .vlen - k ≡ suc (e .vlen - (k + 1)) = omega arith in
-        ap (λ (n : ℕ). alignIds f a (from (λ i. sectionWord b s (memberAt (e .at) i + 4)) k n)) z
-        ∙ ap (λ (y : ℕ). askThen (f y) (λ c. alignRest (larger a c) (k + 1))) (ap (λ (q : ℕ). sectionWord b s (q + 4)) (sym ep) ∙ sym ex)
-
-    module _ (r : Code) (er : askOf r ≡ f x) where
-      rest-asked : alignRest a k ≡ askThen (askOf r) (λ c. alignRest (larger a c) (k + 1))
-      rest-asked = rest-step ∙ ap (λ (y : Ask ℕ). askThen y (λ c. alignRest (larger a c) (k + 1))) (sym er)
-
-      pub rest-more : (T : Ask ℕ) (c a′ : ℕ) → T ≡ alignRest a k → r ≡ Got c → a′ ≡ larger a c → T ≡ alignRest a′ (k + 1)
-      unfolding askThen askOf
-      rest-more T c a′ i g ea = i ∙ rest-asked ∙ ap (λ (y : Code). askThen (askOf y) (λ c. alignRest (larger a c) (k + 1))) g ∙ ap (λ (n : ℕ). alignRest n (k + 1)) (sym ea)
-
-      pub rest-refused : (T : Ask ℕ) (c : ℕ) → T ≡ alignRest a k → r ≡ No c → askOf (No c) ≡ T
-      unfolding askThen askOf
-      rest-refused T c i g = sym (i ∙ rest-asked ∙ ap (λ (y : Code). askThen (askOf y) (λ c. alignRest (larger a c) (k + 1))) g)
-
-    pub rest-skips : (T : Ask ℕ) (last a′ : ℕ) → T ≡ alignRest a k → Seen f a last → x < 4294967296 → x ≡ last → a′ ≡ a → T ≡ alignRest a′ (k + 1)
-    unfolding Seen askThen
-    rest-skips T last a′ i h m q ea =
-        i ∙ rest-step ∙ then-twice (f x) (λ c. got (larger a c)) (λ c. alignRest c (k + 1))
-        ∙ ap (λ (y : Ask ℕ). askThen y (λ c. alignRest c (k + 1))) (ap (λ (y : ℕ). askThen (f y) (λ c. got (larger a c))) q ∙ h (rw q at m))
-        ∙ ap (λ (n : ℕ). alignRest n (k + 1)) (sym ea)
-
-  pub rest-end : (T : Ask ℕ) (a k : ℕ) → T ≡ alignRest a k → e .vlen ≤ k → askOf (Got a) ≡ T
-  unfolding alignRest from alignIds askOf
-  rest-end T a k i l =
-      let z : e .vlen - k ≡ 0 = omega arith in
-      sym (i ∙ ap (λ (n : ℕ). alignIds f a (from (λ i. sectionWord b s (memberAt (e .at) i + 4)) k n)) z)
 
 -- ---- member_end
 module _ (b : Btf) (s w : List ℕ) (m : BtfMember) where

@@ -1,9 +1,7 @@
 -- What an answer of the code says, as the rules have it.
 use Prim.Native.Nat.{ℕ}
 use mathlib.Core.Bool.{Bool}
-use mathlib.Core.List.{List, [], _∷_}
-use Rattle.rules.specs.Writer.{Ask, got, no, askThen}
-use Rattle.rules.specs.Layout.{larger}
+use Rattle.rules.specs.Writer.{Ask, got, no}
 use Rattle.layout.specs.declared.Ask.{Ask as Code}
 use Rattle.layout.specs.declared.Ask.the-variants.{Got, No}
 use Rattle.layout.specs.declared.Packed.{Packed}
@@ -16,8 +14,3 @@ askOf (No c) = no c
 unfoldable pub packedOf : Packed → Ask Bool
 packedOf (Is b) = got b
 packedOf (NoPacked c) = no c
-
--- alignMembers of the rules, of the members' types alone
-unfoldable pub alignIds : (ℕ → Ask ℕ) → ℕ → List ℕ → Ask ℕ
-alignIds align a [] = got a
-alignIds align a (x ∷ xs) = askThen (align x) (λ b. alignIds align (larger a b) xs)

@@ -1,3 +1,2 @@
--- Answers: what an answer of the code says. Pass: what the one pass over the members of a struct finds.
+-- Answers: what an answer of the code says.
 pub mod Answers
-pub mod Pass
