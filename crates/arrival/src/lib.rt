@@ -1,8 +1,17 @@
-// Where a request may write, and where it came to.
+// Where a request may write, where it came to, and how a list of ids ends.
+use lent::clear;
 use turns::Reached;
+use turns::Session;
+use turns::Tally;
+use turns::Turn;
+use turns::answer_of;
+use turns::clear_from;
+use turns::with_text;
 ghost use mathlib.Core.Path.{_≡_};
 ghost use Prim.Native.Nat.{_+_};
+ghost use Rattle.turns.specs.Turns.{callOf};
 ghost use Rattle.calls.specs.Calls.{limitOf};
+ghost use Rattle.calls.specs.Lists.{countIn, tailed, listEnd};
 ghost use Rattle.arrival.specs.Arrival.{clipped, arrivedIn};
 
 // How far a text slice may be written after its first bytes: 1,073,741,824 bytes at most.
@@ -39,5 +48,48 @@ pub fn arrived(len: u32, room: usize, at: usize) -> Reached
     Reached {
         len: len,
         number: sum(0, at - room - 1),
+    }
+}
+
+// How many ids there are: as many as the answer's value can count, at most.
+pub fn count_of(ids: &[u8]) -> u32
+    ensures { λ r. ⌜ r ≡ countIn (now (ids .entry)) ⌝ }
+{
+    let n = ids.len() / 4;
+    if n <= 4294967295 {
+        n as u32
+    } else {
+        4294967295
+    }
+}
+
+// Zeroes what follows the text, if an id was accepted.
+fn clear_after(text: &mut [u8], accepted: u32, len: u32)
+    ensures { λ _. ⌜ now (text .exit) ≡ tailed accepted len (now (text .entry)) ⌝ }
+{
+    if accepted == 0 {
+        return;
+    }
+    clear_from(text, len);
+}
+
+// The end of a call with a list: 10 leaves what the accepted ids left, 12 to 17 close the session.
+pub fn settle_list(s: Session, work: &mut [u8], text: &mut [u8], r: Tally) -> Turn
+    ensures { λ t. ⌜ callOf (t .session) (t .answer) (now (work .exit)) (now (text .exit)) ≡ listEnd s r (now (work .entry)) (now (text .entry)) ⌝ }
+{
+    let len = r.len;
+    let answer = answer_of(r.number, r.accepted);
+    if r.number <= 10 {
+        clear_after(text, r.accepted, len);
+        return Turn {
+            session: with_text(s, true, len),
+            answer: answer,
+        };
+    }
+    clear_from(text, len);
+    clear(work);
+    Turn {
+        session: with_text(s, false, len),
+        answer: answer,
     }
 }

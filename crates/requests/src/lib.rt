@@ -1,9 +1,10 @@
 // The calls of a session by value: opening, one request, the request for all ids and a list of ids.
 use arrival::arrived;
+use arrival::count_of;
 use arrival::limit;
+use arrival::settle_list;
 use btf::Btf;
 use header::btf_of;
-use lent::clear;
 use lent::get_word;
 use opened::Opening;
 use turns::Answer;
@@ -11,19 +12,16 @@ use turns::Reached;
 use turns::Session;
 use turns::Tally;
 use turns::Turn;
-use turns::answer_of;
-use turns::clear_from;
 use turns::is_current;
 use turns::settle;
 use turns::turn_of;
-use turns::with_text;
-ghost use Prim.Native.Nat.{_+_, _-_, _<_, _≤_};
+ghost use Prim.Native.Nat.{_-_, _≤_};
 ghost use mathlib.Core.Bool.{true};
 ghost use mathlib.Core.Path.{_≡_};
 ghost use lib.ListN.{length};
 ghost use Rattle.turns.specs.Turns.{callOf, isCurrent, reachOf};
 ghost use Rattle.calls.specs.Calls.{openCall, requested, requestedFrom, typeCall, typesCall};
-ghost use Rattle.calls.specs.Lists.{idsIn, listCall, countIn, tailed, listEnd};
+ghost use Rattle.calls.specs.Lists.{idsIn, listCall, listEnd};
 
 pub fn open_core(
     s: Session,
@@ -126,18 +124,6 @@ pub fn dump_types_core(s: Session, section: &[u8], work: &mut [u8], text: &mut [
     settle(s, work, text, r)
 }
 
-// How many ids there are: as many as the answer's value can count, at most.
-pub fn count_of(ids: &[u8]) -> u32
-    ensures { λ r. ⌜ r ≡ countIn (now (ids .entry)) ⌝ }
-{
-    let n = ids.len() / 4;
-    if n <= 4294967295 {
-        n as u32
-    } else {
-        4294967295
-    }
-}
-
 // The ids of a list in their order, to the first that is refused; what follows the text is not zeroed yet.
 fn dump_ids(s: Session, section: &[u8], work: &mut [u8], text: &mut [u8], ids: &[u8]) -> Tally
     requires { ⌜ isCurrent s (length (now section)) (length (now work)) (length (now text)) ≡ true ⌝ }
@@ -171,37 +157,6 @@ fn dump_ids(s: Session, section: &[u8], work: &mut [u8], text: &mut [u8], ids: &
         len: len,
         number: 0,
         accepted: k,
-    }
-}
-
-// Zeroes what follows the text, if an id was accepted.
-fn clear_after(text: &mut [u8], accepted: u32, len: u32)
-    ensures { λ _. ⌜ now (text .exit) ≡ tailed accepted len (now (text .entry)) ⌝ }
-{
-    if accepted == 0 {
-        return;
-    }
-    clear_from(text, len);
-}
-
-// The end of a call with a list: 10 leaves what the accepted ids left, 12 to 17 close the session.
-pub fn settle_list(s: Session, work: &mut [u8], text: &mut [u8], r: Tally) -> Turn
-    ensures { λ t. ⌜ callOf (t .session) (t .answer) (now (work .exit)) (now (text .exit)) ≡ listEnd s r (now (work .entry)) (now (text .entry)) ⌝ }
-{
-    let len = r.len;
-    let answer = answer_of(r.number, r.accepted);
-    if r.number <= 10 {
-        clear_after(text, r.accepted, len);
-        return Turn {
-            session: with_text(s, true, len),
-            answer: answer,
-        };
-    }
-    clear_from(text, len);
-    clear(work);
-    Turn {
-        session: with_text(s, false, len),
-        answer: answer,
     }
 }
 

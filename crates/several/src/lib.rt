@@ -1,8 +1,8 @@
 // Why each line is there, of a list of ids: one list of entries for the call.
+use arrival::count_of;
 use explain::Explained;
 use explain::dump_type_causes;
 use lent::get_word;
-use requests::count_of;
 use turns::Answer;
 use turns::Session;
 use turns::turn_of;

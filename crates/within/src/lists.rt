@@ -1,10 +1,10 @@
 // A list of ids under a ceiling.
 use crate::Counted;
 use crate::dump_next;
+use arrival::count_of;
+use arrival::settle_list;
 use header::btf_of;
 use lent::get_word;
-use requests::count_of;
-use requests::settle_list;
 use turns::Session;
 use turns::Tally;
 use turns::is_current;

@@ -6,7 +6,7 @@ use Rattle.within.proofs.lists.dump_list_within.Statement.{statement}
 use Rattle.within.proofs.lists.dump_list_within.Tie as tie
 use Rattle.within.proofs.lists.dump_list_within.Reads as reads
 use Rattle.within.proofs.lists.dump_list_within.Lts as lts
-use Rattle.requests.proofs.settle_list.Reads as settle-list-reads
+use Rattle.arrival.proofs.settle_list.Reads as settle-list-reads
 use Rattle.turns.proofs.is_current.Reads as is-current-reads
 use Rattle.turns.proofs.turn_of.Reads as turn-of-reads
 use Rattle.within.proofs.lists.dump_ids.Reads as dump-ids-reads

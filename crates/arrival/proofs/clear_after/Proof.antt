@@ -1,7 +1,7 @@
 use Rattle.calls.proofs.Lists as lists
 use borrow.Author.Needs.{needs}
-use Rattle.requests.proofs.clear_after.Statement.{statement}
-use Rattle.requests.proofs.clear_after.Tie as tie
+use Rattle.arrival.proofs.clear_after.Statement.{statement}
+use Rattle.arrival.proofs.clear_after.Tie as tie
 
 returns : tie.Need-returns
 returns c = lists.tail-kept _ _ _ (c .if1 .taken)

@@ -1,7 +1,7 @@
 use Rattle.calls.proofs.Lists as lists
 use borrow.Author.Needs.{needs}
-use Rattle.requests.proofs.settle_list.Statement.{statement}
-use Rattle.requests.proofs.settle_list.Tie as tie
+use Rattle.arrival.proofs.settle_list.Statement.{statement}
+use Rattle.arrival.proofs.settle_list.Tie as tie
 
 answer-of-requires : tie.Need-answer-of-requires
 answer-of-requires c κs = search needs

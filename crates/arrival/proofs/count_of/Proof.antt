@@ -1,8 +1,8 @@
 use Rattle.calls.proofs.Lists as lists
 use mathlib.Core.Path.{sym}
 use borrow.Author.Needs.{needs}
-use Rattle.requests.proofs.count_of.Statement.{statement}
-use Rattle.requests.proofs.count_of.Tie as tie
+use Rattle.arrival.proofs.count_of.Statement.{statement}
+use Rattle.arrival.proofs.count_of.Tie as tie
 
 cast-result : tie.Need-cast-result
 cast-result c = search needs
