@@ -1,6 +1,6 @@
 #!/bin/bash
 # The tests outside the language, on the static library that is built: run.sh
-# Each prints one line; any failure ends the script with a status that is not 0.
+# Each prints one line; any failure ends the script with a status that is not 0. What needs nothing of each other runs at the same time.
 set -euo pipefail
 cd "$(dirname "$0")/.."
 
@@ -14,16 +14,23 @@ compile() { # NAME SOURCE FLAG ..
 	shift 2
 	gcc -std=c11 -O2 -g -Wall -Wextra -Werror "$@" -Iinclude "$source" "$library" -lpthread -o "$out/$name"
 }
-compile replay tests/replay.c
-compile limits tests/limits.c
-compile guard tests/guard.c
-compile lists tests/lists.c
-compile ceilings tests/ceilings.c
-compile causes tests/causes.c
-compile field tests/field.c
-compile declarations tests/declarations.c
-compile cut tests/cut.c
-compile btfheader tools/btfheader.c
+at_once=()
+start() { # COMMAND ..: beside this script; what it says is kept
+	"$@" >"$out/said.${#at_once[@]}" 2>&1 &
+	at_once+=($!)
+}
+finish() { # waits for what was started, and prints what each said
+	local i
+	for i in "${!at_once[@]}"; do
+		wait "${at_once[$i]}" || { cat "$out/said.$i" >&2; exit 1; }
+		cat "$out/said.$i"
+	done
+	at_once=()
+}
+
+for name in replay limits guard lists ceilings causes field declarations cut; do start compile "$name" "tests/$name.c"; done
+start compile btfheader tools/btfheader.c
+finish
 
 # the example of the README, on the sample section
 sed -n '/^```c$/,/^```$/p' README.md | sed '/^```/d' >"$out/readme.c"
@@ -41,21 +48,20 @@ say() { # LABEL COMMAND ..
 	line=$("${@:2}") || { echo "$line" >&2; exit 1; }
 	echo "$1: $line"
 }
+start "$out/causes" "${files[@]}"
 for file in "${files[@]}"; do
-	say "$file" "$out/replay" "$file"
-	say "$file, most significant byte first" "$out/replay" -b "$file"
+	start say "$file" "$out/replay" "$file"
+	start say "$file, most significant byte first" "$out/replay" -b "$file"
 done
-"$out/limits"
-"$out/lists" "${files[@]}"
-"$out/ceilings" "${files[@]}"
-"$out/causes" "${files[@]}"
-"$out/field" "${files[@]}"
-"$out/declarations"
-"$out/cut" "${files[@]}"
-"$out/guard" 20000 1 "${files[@]}"
+start "$out/limits"
+for name in lists ceilings field cut; do start "$out/$name" "${files[@]}"; done
+start "$out/declarations"
+start "$out/guard" 20000 1 "${files[@]}"
 if command -v valgrind >/dev/null; then
-	say valgrind valgrind -q --error-exitcode=1 "$out/guard" 300 1 tests/traps.cases
+	start say valgrind valgrind -q --error-exitcode=1 "$out/guard" 300 1 tests/traps.cases
 fi
+start python3 -B tests/placing.py "$out/btfheader" "$out"
+finish
 
 # btfheader: prints, of a file, of standard input, of ids, and refuses with a status and words.
 header() { # WHAT STATUS EXPECTED-TEXT ARGUMENT ..
@@ -88,7 +94,6 @@ open(sys.argv[1] + "/met.btf", "wb").write(t.section())
 for name, second in (("met", 2), ("apart", 3)):
     open(f"{sys.argv[1]}/{name}.h", "w").write("struct x {};\n\nstruct x___%d {};\n\nstruct x___2 {};\n\n" % second)
 END
-python3 -B tests/placing.py "$out/btfheader" "$out"
 programs=(btfheader)
 if echo 'int main(void){return 0;}' | gcc -xc -fsanitize=address,undefined - -o "$out/probe" 2>/dev/null; then
 	compile btfheader_sanitized tools/btfheader.c -fsanitize=address,undefined -fno-sanitize-recover=all
