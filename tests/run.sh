@@ -23,6 +23,7 @@ compile causes tests/causes.c
 compile field tests/field.c
 compile declarations tests/declarations.c
 compile cut tests/cut.c
+compile visits tests/visits.c
 compile btfheader tools/btfheader.c
 
 # the example of the README, on the sample section
@@ -52,6 +53,38 @@ done
 "$out/field" "${files[@]}"
 "$out/declarations"
 "$out/cut" "${files[@]}"
+"$out/visits" "${files[@]}"
+# a struct over 20 unions, each twice in the next, and an array and a pointer: the count is taken in Python, over what the alignment of the struct needs
+PYTHONPATH=tests python3 -B - "$out/unions.btf" >"$out/unions.txt" <<'END'
+import sys
+from sections import Table
+t = Table()
+ways = {}               # of each type, its members or what its alignment is that of
+inner = t.int()
+ways[inner] = []
+other = t.ptr(inner)    # its target is not looked at
+ways[other] = []
+for i in range(20):
+    outer = t.union("u%d" % i, 4, ("a", inner, 0), ("b", inner, 0))
+    ways[outer] = [inner, inner]
+    inner = outer
+row = t.array(inner, 3)
+ways[row] = [inner]
+name = t.typedef("n", row)
+ways[name] = [row]
+top = t.struct("S", 24, ("p", other, 0), ("r", name, 64), ("u", inner, 160))
+ways[top] = [other, name, inner]
+members = lambda i: len(ways[i]) if i == top or i not in (row, name) else 0
+seen, left = set(), [top]
+while left:
+    i = left.pop()
+    if i not in seen:
+        seen.add(i)
+        left += ways[i]
+open(sys.argv[1], "wb").write(t.section())
+print(sum(1 + members(i) for i in seen), top)
+END
+"$out/visits" -k $(cat "$out/unions.txt") "$out/unions.btf"
 "$out/guard" 20000 1 "${files[@]}"
 if command -v valgrind >/dev/null; then
 	say valgrind valgrind -q --error-exitcode=1 "$out/guard" 300 1 tests/traps.cases
