@@ -232,6 +232,18 @@ btfdump_answer btfdump_dump_list_causes(uint8_t *record, size_t record_len,
 					uint8_t *list, size_t list_len,
 					uint64_t *count);
 
+/*
+ * The visits so far, of a record that an opening wrote: one for each type or
+ * member looked at to find an alignment, by the requests accepted so far (those of
+ * a list or of all ids up to the first refused). An alignment is worked out once
+ * in a session and then remembered, which counts none; so these are at most the
+ * types, void counted, plus the members of the table. A refusal leaves them.
+ */
+static inline uint32_t btfdump_visits(const uint8_t *record)
+{
+	return record[64] | (uint32_t)record[65] << 8 | (uint32_t)record[66] << 16 | (uint32_t)record[67] << 24;
+}
+
 /* The length of the text so far, of a record that an opening wrote. */
 static inline uint32_t btfdump_text_len(const uint8_t *record)
 {

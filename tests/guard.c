@@ -306,6 +306,12 @@ static void request(void)
 		wrong("work not zero", answer);
 	put_word(before, 0, number ? 0 : 1);
 	memcpy(before + 40, record.bytes + 40, 8);
+	/* visits: the work's count, or as they were; of all ids the last accepted one's */
+	if (!number)
+		put_word(before, 8, work.length < 12 ? 0 : u32_at(work.bytes + 8));
+	else if (all)
+		memcpy(before + 64, record.bytes + 64, 4);
+	memset(before + 68, 0, 4);
 	if (memcmp(before, record.bytes, sizeof before) || (uint32_t)get_word(record.bytes, 5) != value)
 		wrong("record", answer);
 }
@@ -381,7 +387,7 @@ static void alter(void)
 	} else if (what == 3) {
 		damage(&section, 1 + below(8));
 	} else if (what == 4 && record.length >= BTFDUMP_RECORD_SIZE) {
-		put_word(record.bytes, 3 + (int)below(5), odd_number());
+		put_word(record.bytes, 3 + (int)below(6), odd_number());
 	} else if (what == 5) {
 		damage(&record, 1 + below(8));
 	} else if (what == 6) {

@@ -28,7 +28,7 @@ finish() { # waits for what was started, and prints what each said
 	at_once=()
 }
 
-for name in replay limits guard lists ceilings causes field declarations cut; do start compile "$name" "tests/$name.c"; done
+for name in replay limits guard lists ceilings causes field declarations cut visits; do start compile "$name" "tests/$name.c"; done
 start compile btfheader tools/btfheader.c
 finish
 
@@ -48,14 +48,45 @@ say() { # LABEL COMMAND ..
 	line=$("${@:2}") || { echo "$line" >&2; exit 1; }
 	echo "$1: $line"
 }
+# a struct over 20 unions, each twice in the next, and an array and a pointer: the count is taken in Python, over what the alignment of the struct needs
+PYTHONPATH=tests python3 -B - "$out/unions.btf" >"$out/unions.txt" <<'END'
+import sys
+from sections import Table
+t = Table()
+ways = {}               # of each type, its members or what its alignment is that of
+inner = t.int()
+ways[inner] = []
+other = t.ptr(inner)    # its target is not looked at
+ways[other] = []
+for i in range(20):
+    outer = t.union("u%d" % i, 4, ("a", inner, 0), ("b", inner, 0))
+    ways[outer] = [inner, inner]
+    inner = outer
+row = t.array(inner, 3)
+ways[row] = [inner]
+name = t.typedef("n", row)
+ways[name] = [row]
+top = t.struct("S", 24, ("p", other, 0), ("r", name, 64), ("u", inner, 160))
+ways[top] = [other, name, inner]
+members = lambda i: len(ways[i]) if i == top or i not in (row, name) else 0
+seen, left = set(), [top]
+while left:
+    i = left.pop()
+    if i not in seen:
+        seen.add(i)
+        left += ways[i]
+open(sys.argv[1], "wb").write(t.section())
+print(sum(1 + members(i) for i in seen), top)
+END
 start "$out/causes" "${files[@]}"
 for file in "${files[@]}"; do
 	start say "$file" "$out/replay" "$file"
 	start say "$file, most significant byte first" "$out/replay" -b "$file"
 done
 start "$out/limits"
-for name in lists ceilings field cut; do start "$out/$name" "${files[@]}"; done
+for name in lists ceilings field cut visits; do start "$out/$name" "${files[@]}"; done
 start "$out/declarations"
+start "$out/visits" -k $(cat "$out/unions.txt") "$out/unions.btf"
 start "$out/guard" 20000 1 "${files[@]}"
 if command -v valgrind >/dev/null; then
 	start say valgrind valgrind -q --error-exitcode=1 "$out/guard" 300 1 tests/traps.cases

@@ -101,6 +101,35 @@ static inline void count_types(const uint8_t *section, uint32_t *types, uint32_t
 	}
 }
 
+/*
+ * The visits by a count of its own: the types whose alignment the work remembers (word 15), and their members as the
+ * section has them. members: all those of the table.
+ */
+static inline uint64_t count_visits(const uint8_t *section, const uint8_t *work, uint32_t types, uint64_t *members)
+{
+	const uint8_t *p = section + word_of(section, section + 4) + word_of(section, section + 8);
+	uint64_t visits = u32_at(work + 4 * 15) != 0;
+
+	*members = 0;
+	for (uint32_t id = 1; id < types; id++) {
+		uint32_t info = word_of(section, p + 4), kind = info >> 24 & 31, entries = info & 0xffff;
+		uint32_t has = kind == 4 || kind == 5 ? entries : 0;
+
+		*members += has;
+		if (u32_at(work + 4 * (16 * (size_t)id + 15)))
+			visits += 1 + has;
+		p += 12;
+		switch (kind) {
+		case 1: case 14: case 17: p += 4; break;
+		case 3: p += 12; break;
+		case 4: case 5: case 15: case 19: p += 12 * (size_t)entries; break;
+		case 6: case 13: p += 8 * (size_t)entries; break;
+		default: break;
+		}
+	}
+	return visits;
+}
+
 /* What differs from the promises of the header, or NULL. */
 static inline const char *differs(const struct call *c, btfdump_answer answer, uint32_t held,
 				  const uint8_t *expected_text, const struct lent *record, const struct lent *section,
@@ -148,6 +177,17 @@ static inline const char *differs(const struct call *c, btfdump_answer answer, u
 		if (number)
 			put_word(after, 0, 0);
 		put_word(after, 5, value);
+		if (!number) {
+			uint64_t members, visits = count_visits(section->bytes, work->bytes, (uint32_t)get_word(after, 3), &members);
+
+			if (visits > get_word(after, 3) + members)
+				return "more visits than types and members";
+			put_word(after, 8, visits);
+		} else if (c->what == ALL_IDS) { /* those of the last id that was accepted: tests/visits.c */
+			if (get_word(record->bytes, 8) < get_word(after, 8))
+				return "fewer visits than before";
+			put_word(after, 8, get_word(record->bytes, 8));
+		}
 		if (!zero(work, number ? 0 : BTFDUMP_WORK_SIZE(get_word(after, 3), get_word(after, 4))))
 			return "work not zero";
 		if (!same(text, 0, held))

@@ -21,25 +21,25 @@ module _ (n : ℕ) where
   clip-past h = sym (rw (lt-leb n 4294967295 h, clipped))
 
 -- ---- arrived
-module _ (len room at : ℕ) where
-  pub in-is : at ≤ room → (x : ℕ) → x ≡ clipped (len + at) → record { len = x; number = 0 } ≡ arrivedIn len room at
+module _ (len v room at : ℕ) where
+  pub in-is : at ≤ room → (x : ℕ) → x ≡ clipped (len + at) → record { len = x; number = 0; visits = v } ≡ arrivedIn len v room at
   unfolding arrivedIn
-  in-is h x e = ap {B = Reached} (λ (y : ℕ). record { len = y; number = 0 }) e ∙ sym (rw (le-leb at room h, arrivedIn))
+  in-is h x e = ap {B = Reached} (λ (y : ℕ). record { len = y; number = 0; visits = v }) e ∙ sym (rw (le-leb at room h, arrivedIn))
 
-  pub past-is : room < at → (x : ℕ) → x ≡ clipped (0 + (at - room - 1)) → record { len = len; number = x } ≡ arrivedIn len room at
+  pub past-is : room < at → (x : ℕ) → x ≡ clipped (0 + (at - room - 1)) → record { len = len; number = x; visits = v } ≡ arrivedIn len v room at
   unfolding arrivedIn
   past-is h x e =
       let q : 0 + (at - room - 1) ≡ at - (room + 1) = omega arith in
-      ap {B = Reached} (λ (y : ℕ). record { len = len; number = y }) (e ∙ ap clipped q) ∙ sym (rw (lt-leb at room h, arrivedIn))
+      ap {B = Reached} (λ (y : ℕ). record { len = len; number = y; visits = v }) (e ∙ ap clipped q) ∙ sym (rw (lt-leb at room h, arrivedIn))
 
   -- "text over 1,073,741,824 bytes" is refused, and refusals are small numbers
-  pub arrived-is : len + room < 4294967296 → at ≤ room + 4294967295 → arrivedIn len room at ≡ arrivedAt len room at
+  pub arrived-is : len + room < 4294967296 → at ≤ room + 4294967295 → arrivedIn len v room at ≡ arrivedAt len v room at
   arrived-is f g =
       ⊎-elim
-      (λ h. sym (in-is h (len + at) (clip-fits (len + at) (omega arith))) ∙ sym (arrived-in len room at h))
+      (λ h. sym (in-is h (len + at) (clip-fits (len + at) (omega arith))) ∙ sym (arrived-in len v room at h))
       (λ h.
       let z : at - room - 1 ≡ 0 + (at - room - 1) = omega arith in
-      sym (past-is h (at - room - 1) (z ∙ clip-fits (0 + (at - room - 1)) (omega arith))) ∙ arrived-past len room at h)
+      sym (past-is h (at - room - 1) (z ∙ clip-fits (0 + (at - room - 1)) (omega arith))) ∙ arrived-past len v room at h)
       (le-or-lt at room)
 
 -- ---- the slice that a request is lent

@@ -7,6 +7,6 @@ use Rattle.turns.specs.declared.Reached.{Reached}
 unfoldable pub clipped : ℕ → ℕ
 clipped n = elim (leb n 4294967295) [ true ↦ n | false ↦ 4294967295 ]
 
-unfoldable pub arrivedIn : ℕ → ℕ → ℕ → Reached
-arrivedIn len room at =
-    elim (leb at room) [ true ↦ record { len = clipped (len + at); number = 0 } | false ↦ record { len = len; number = clipped (at - (room + 1)) } ]
+unfoldable pub arrivedIn : ℕ → ℕ → ℕ → ℕ → Reached
+arrivedIn len v room at =
+    elim (leb at room) [ true ↦ record { len = clipped (len + at); number = 0; visits = v } | false ↦ record { len = len; number = clipped (at - (room + 1)); visits = v } ]

@@ -35,19 +35,21 @@ fn sum(a: u32, n: usize) -> u32
     }
 }
 
-// What a place in a slice of so many bytes says, after a text of len bytes: the new length, or a refusal.
-pub fn arrived(len: u32, room: usize, at: usize) -> Reached
-    ensures { λ r. ⌜ r ≡ arrivedIn len room at ⌝ }
+// What a place in a slice of so many bytes says, after a text of len bytes and so many visits: the new length, or a refusal.
+pub fn arrived(len: u32, visits: u32, room: usize, at: usize) -> Reached
+    ensures { λ r. ⌜ r ≡ arrivedIn len visits room at ⌝ }
 {
     if at <= room {
         return Reached {
             len: sum(len, at),
             number: 0,
+            visits: visits,
         };
     }
     Reached {
         len: len,
         number: sum(0, at - room - 1),
+        visits: visits,
     }
 }
 
@@ -82,14 +84,14 @@ pub fn settle_list(s: Session, work: &mut [u8], text: &mut [u8], r: Tally) -> Tu
     if r.number <= 10 {
         clear_after(text, r.accepted, len);
         return Turn {
-            session: with_text(s, true, len),
+            session: with_text(s, true, len, r.visits),
             answer: answer,
         };
     }
     clear_from(text, len);
     clear(work);
     Turn {
-        session: with_text(s, false, len),
+        session: with_text(s, false, len, r.visits),
         answer: answer,
     }
 }

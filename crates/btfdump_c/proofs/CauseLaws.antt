@@ -9,7 +9,8 @@ use Rattle.turns.specs.Turns.{callOf}
 use Rattle.turns.specs.Answers.{numberOf, valueOf}
 use Rattle.calls.specs.Lists.{idsIn}
 use Rattle.calls.proofs.Lists.{ids-none, ids-some}
-use Rattle.c_record.specs.Record.{packed, decoded, recordAfter, recordListed}
+use Rattle.c_words.specs.Words.{packed, decoded}
+use Rattle.c_record.specs.Record.{recordAfter, recordListed}
 use Rattle.causes.specs.Bytes.{CauseCall, typeCauses, typesCauses}
 use Rattle.explain.specs.declared.Explained.{Explained}
 use Rattle.explain.specs.Explained.{explainedOf}
@@ -28,15 +29,15 @@ module _ (r section w t l : List ℕ) where
     types-short = sym (rw (lt-ltb (length r) 128 h, typesCausesExport))
 
   module _ (h : 128 ≤ length r) (s : Session) (es : s ≡ decoded r) (d : Explained) (w′ t′ l′ : List ℕ) (u : ℕ) (r′ : List ℕ) where
-    tells : (a : CauseCall) → explainedOf d w′ t′ l′ ≡ a → (u ≡ packed (d .turn .answer)) × (r′ ≡ recordAfter (d .turn .answer) r) → causesExportOf u r′ w′ t′ (d .count) l′ ≡ answeredCauses r a
+    tells : (a : CauseCall) → explainedOf d w′ t′ l′ ≡ a → (u ≡ packed (d .turn .answer)) × (r′ ≡ recordAfter (d .turn .answer) (d .turn .session .visits) r) → causesExportOf u r′ w′ t′ (d .count) l′ ≡ answeredCauses r a
     unfolding causesExportOf answeredCauses answeredBy explainedOf callOf
     tells a e eu = (λ i. causesExportOf (eu .0 i) (eu .1 i) w′ t′ (d .count) l′) ∙ ap (answeredCauses r) e
 
-    pub type-is : (id : ℕ) → explainedOf d w′ t′ l′ ≡ typeCauses s section w t id l → (u ≡ packed (d .turn .answer)) × (r′ ≡ recordAfter (d .turn .answer) r) → causesExportOf u r′ w′ t′ (d .count) l′ ≡ typeCausesExport r section w t id l
+    pub type-is : (id : ℕ) → explainedOf d w′ t′ l′ ≡ typeCauses s section w t id l → (u ≡ packed (d .turn .answer)) × (r′ ≡ recordAfter (d .turn .answer) (d .turn .session .visits) r) → causesExportOf u r′ w′ t′ (d .count) l′ ≡ typeCausesExport r section w t id l
     unfolding typeCausesExport
     type-is id e eu = tells _ (e ∙ ap (λ (q : Session). typeCauses q section w t id l) es) eu ∙ sym (rw (le-ltb (length r) 128 h, typeCausesExport))
 
-    pub types-is : explainedOf d w′ t′ l′ ≡ typesCauses s section w t l → (u ≡ packed (d .turn .answer)) × (r′ ≡ recordAfter (d .turn .answer) r) → causesExportOf u r′ w′ t′ (d .count) l′ ≡ typesCausesExport r section w t l
+    pub types-is : explainedOf d w′ t′ l′ ≡ typesCauses s section w t l → (u ≡ packed (d .turn .answer)) × (r′ ≡ recordAfter (d .turn .answer) (d .turn .session .visits) r) → causesExportOf u r′ w′ t′ (d .count) l′ ≡ typesCausesExport r section w t l
     unfolding typesCausesExport
     types-is e eu = tells _ (e ∙ ap (λ (q : Session). typesCauses q section w t l) es) eu ∙ sym (rw (le-ltb (length r) 128 h, typesCausesExport))
 
@@ -52,7 +53,7 @@ module _ (r section w t ids l : List ℕ) where
     list-short h = sym (ap (λ (xs : List ℕ). listCausesExport r section w t xs l) (ids-some ids some) ∙ rw (lt-ltb (length r) 128 h, listCausesExport))
 
     pub list-is : 128 ≤ length r → (s : Session) → s ≡ decoded r → (d : Explained) (w′ t′ l′ : List ℕ) (u : ℕ) (r′ : List ℕ) → explainedOf d w′ t′ l′ ≡ listCausesCall s section w t (idsIn ids) l
-        → (u ≡ packed (d .turn .answer)) × (r′ ≡ recordListed (numberOf (d .turn .answer)) (valueOf (d .turn .answer)) (d .turn .session .«text_len») r)
+        → (u ≡ packed (d .turn .answer)) × (r′ ≡ recordListed (numberOf (d .turn .answer)) (valueOf (d .turn .answer)) (d .turn .session .«text_len») (d .turn .session .visits) r)
         → causesExportOf u r′ w′ t′ (d .count) l′ ≡ listCausesExport r section w t (idsIn ids) l
     unfolding causesExportOf listedCauses listCausesExport explainedOf callOf
     list-is h s es d w′ t′ l′ u r′ e eu =

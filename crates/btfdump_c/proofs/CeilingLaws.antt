@@ -6,7 +6,8 @@ use lib.ListN.{length}
 use borrow.Author.Tests.{lt-ltb, le-ltb}
 use Rattle.turns.specs.declared.Session.{Session}
 use Rattle.turns.specs.Turns.{callOf}
-use Rattle.c_record.specs.Record.{packed, decoded, recordAfter, recordListed}
+use Rattle.c_words.specs.Words.{packed, decoded}
+use Rattle.c_record.specs.Record.{recordAfter, recordListed}
 use Rattle.turns.specs.Answers.{numberOf, valueOf}
 use Rattle.calls.specs.Lists.{idsIn}
 use Rattle.calls.proofs.Lists.{ids-none, ids-some}
@@ -27,15 +28,15 @@ module _ (c : ℕ) (r section w t : List ℕ) where
     types-short = sym (rw (lt-ltb (length r) 128 h, typesWithinExport))
 
   module _ (h : 128 ≤ length r) (s : Session) (es : s ≡ decoded r) (d : Counted) (w′ t′ : List ℕ) (u : ℕ) (r′ : List ℕ) where
-    tells : (a : CallWithin) → countedOf d w′ t′ ≡ a → (u ≡ packed (d .turn .answer)) × (r′ ≡ recordAfter (d .turn .answer) r) → withinExportOf u r′ w′ t′ (d .made) ≡ answeredWithin r a
+    tells : (a : CallWithin) → countedOf d w′ t′ ≡ a → (u ≡ packed (d .turn .answer)) × (r′ ≡ recordAfter (d .turn .answer) (d .turn .session .visits) r) → withinExportOf u r′ w′ t′ (d .made) ≡ answeredWithin r a
     unfolding withinExportOf answeredWithin answeredBy countedOf callOf
     tells a e eu = (λ i. withinExportOf (eu .0 i) (eu .1 i) w′ t′ (d .made)) ∙ ap (answeredWithin r) e
 
-    pub type-is : (id : ℕ) → countedOf d w′ t′ ≡ typeCallWithin c s section w t id 0 → (u ≡ packed (d .turn .answer)) × (r′ ≡ recordAfter (d .turn .answer) r) → withinExportOf u r′ w′ t′ (d .made) ≡ typeWithinExport c r section w t id
+    pub type-is : (id : ℕ) → countedOf d w′ t′ ≡ typeCallWithin c s section w t id 0 → (u ≡ packed (d .turn .answer)) × (r′ ≡ recordAfter (d .turn .answer) (d .turn .session .visits) r) → withinExportOf u r′ w′ t′ (d .made) ≡ typeWithinExport c r section w t id
     unfolding typeWithinExport
     type-is id e eu = tells _ (e ∙ ap (λ (q : Session). typeCallWithin c q section w t id 0) es) eu ∙ sym (rw (le-ltb (length r) 128 h, typeWithinExport))
 
-    pub types-is : countedOf d w′ t′ ≡ typesCallWithin c s section w t → (u ≡ packed (d .turn .answer)) × (r′ ≡ recordAfter (d .turn .answer) r) → withinExportOf u r′ w′ t′ (d .made) ≡ typesWithinExport c r section w t
+    pub types-is : countedOf d w′ t′ ≡ typesCallWithin c s section w t → (u ≡ packed (d .turn .answer)) × (r′ ≡ recordAfter (d .turn .answer) (d .turn .session .visits) r) → withinExportOf u r′ w′ t′ (d .made) ≡ typesWithinExport c r section w t
     unfolding typesWithinExport
     types-is e eu = tells _ (e ∙ ap (λ (q : Session). typesCallWithin c q section w t) es) eu ∙ sym (rw (le-ltb (length r) 128 h, typesWithinExport))
 
@@ -51,7 +52,7 @@ module _ (c : ℕ) (r section w t ids : List ℕ) where
     list-short h = sym (ap (listWithinExport c r section w t) (ids-some ids some) ∙ rw (lt-ltb (length r) 128 h, listWithinExport))
 
     pub list-is : 128 ≤ length r → (s : Session) → s ≡ decoded r → (d : Counted) (w′ t′ : List ℕ) (u : ℕ) (r′ : List ℕ) → countedOf d w′ t′ ≡ listCallWithin c s section w t (idsIn ids)
-        → (u ≡ packed (d .turn .answer)) × (r′ ≡ recordListed (numberOf (d .turn .answer)) (valueOf (d .turn .answer)) (d .turn .session .«text_len») r)
+        → (u ≡ packed (d .turn .answer)) × (r′ ≡ recordListed (numberOf (d .turn .answer)) (valueOf (d .turn .answer)) (d .turn .session .«text_len») (d .turn .session .visits) r)
         → withinExportOf u r′ w′ t′ (d .made) ≡ listWithinExport c r section w t (idsIn ids)
     unfolding withinExportOf listedWithin listWithinExport countedOf callOf
     list-is h s es d w′ t′ u r′ e eu =

@@ -14,11 +14,12 @@ use Rattle.lent.proofs.Laws.{get-put-same, get-put-other, put-length}
 use Rattle.turns.specs.declared.Answer.the-variants.{Refused}
 use Rattle.turns.specs.declared.Session.{Session}
 use Rattle.turns.specs.Answers.{answerOf}
-use Rattle.turns.specs.Turns.{Call, isCurrent, Reach, withText, settled, unchanged, tableFor}
+use Rattle.turns.specs.Turns.{Call, isCurrent, Reach, withText, settled, unchanged, tableFor, visitsIn}
 use Rattle.calls.specs.Calls.{requested, requestedFrom, typeCall, typesCall}
 use Rattle.turns.proofs.Laws.{current-fits}
 use Rattle.calls.proofs.Claims.{Sane, on, off, request-sane, from-sane, type-settles, type-not-below, type-not-current, types-settle, types-not-current}
-use Rattle.c_record.specs.Record.{getLong, putLong, putLongs, decoded, wordsOf, encoded, recordRefused, recordAfter}
+use Rattle.c_words.specs.Words.{getLong, putLong, putLongs, decoded, wordsOf, encoded, putReached}
+use Rattle.c_record.specs.Record.{recordRefused, recordAfter}
 
 -- ---- words of 64 bits
 pub long-length : (r : List ℕ) (i v : ℕ) → length (putLong r i v) ≡ length r
@@ -54,23 +55,47 @@ module _ (r : List ℕ) (i v : ℕ) where
     long-same = (λ j. high-same j * 4294967296 + low-same j) ∙ omega arith
 
 -- ---- a request
+-- the text length, and the visits
+pub reached-length : (r : List ℕ) (len v : ℕ) → length (putReached r len v) ≡ length r
+unfolding putReached
+reached-length r len v = long-length (putLong r 5 len) 8 v ∙ long-length r 5 len
+
 module _ (r : List ℕ) (h : 128 ≤ length r) where
-  pub text-decodes : (len : ℕ) → len < 4294967296 → decoded (putLong r 5 len) ≡ withText (decoded r) (decoded r .«open») len
+  -- word k, of neither
+  long-past : (len v k : ℕ) → k ≢ 5 → k ≢ 8 → getLong (putReached r len v) k ≡ getLong r k
+  unfolding putReached
+  long-past len v k n m = long-other (putLong r 5 len) 8 v k m ∙ long-other r 5 len k n
+
+  low-past : (len v k : ℕ) → k ≢ 5 → k ≢ 8 → getWord (putReached r len v) (k * 2) ≡ getWord r (k * 2)
+  unfolding putReached
+  low-past len v k n m = low-other (putLong r 5 len) 8 v k m ∙ low-other r 5 len k n
+
+  text-back : (len v : ℕ) → getWord (putReached r len v) 10 ≡ len % 4294967296
+  unfolding putReached
+  text-back len v = low-other (putLong r 5 len) 8 v 5 (λ e. absurd (omega arith)) ∙ low-same r 5 len h (omega arith)
+
+  visits-back : (len v : ℕ) → getWord (putReached r len v) 16 ≡ v % 4294967296
+  unfolding putReached
+  visits-back len v = low-same (putLong r 5 len) 8 v (omega (arith, long-length r 5 len)) (omega arith)
+
+  pub text-decodes : (len v : ℕ) → len < 4294967296 → v < 4294967296 → decoded (putReached r len v) ≡ withText (decoded r) (decoded r .«open») len v
   unfolding decoded
-  text-decodes len l =
+  text-decodes len v l k =
       let small : len % 4294967296 ≡ len = omega arith in
+      let few : v % 4294967296 ≡ v = omega arith in
       λ i. record {
-        «open» = eqb (long-other r 5 len 0 (λ e. absurd (omega arith)) i) 1;
-        «section_len» = long-other r 5 len 1 (λ e. absurd (omega arith)) i;
-        «work_len» = long-other r 5 len 2 (λ e. absurd (omega arith)) i;
-        types = low-other r 5 len 3 (λ e. absurd (omega arith)) i;
-        enumerators = low-other r 5 len 4 (λ e. absurd (omega arith)) i;
-        «text_len» = (low-same r 5 len h (omega arith) ∙ small) i;
-        «pointer_size» = low-other r 5 len 6 (λ e. absurd (omega arith)) i;
-        modes = low-other r 5 len 7 (λ e. absurd (omega arith)) i;
+        «open» = eqb (long-past len v 0 (λ e. absurd (omega arith)) (λ e. absurd (omega arith)) i) 1;
+        «section_len» = long-past len v 1 (λ e. absurd (omega arith)) (λ e. absurd (omega arith)) i;
+        «work_len» = long-past len v 2 (λ e. absurd (omega arith)) (λ e. absurd (omega arith)) i;
+        types = low-past len v 3 (λ e. absurd (omega arith)) (λ e. absurd (omega arith)) i;
+        enumerators = low-past len v 4 (λ e. absurd (omega arith)) (λ e. absurd (omega arith)) i;
+        «text_len» = (text-back len v ∙ small) i;
+        «pointer_size» = low-past len v 6 (λ e. absurd (omega arith)) (λ e. absurd (omega arith)) i;
+        modes = low-past len v 7 (λ e. absurd (omega arith)) (λ e. absurd (omega arith)) i;
+        visits = (visits-back len v ∙ few) i;
       }
 
-  pub close-decodes : decoded (putLong r 0 0) ≡ withText (decoded r) false (decoded r .«text_len»)
+  pub close-decodes : decoded (putLong r 0 0) ≡ withText (decoded r) false (decoded r .«text_len») (decoded r .visits)
   unfolding decoded
   close-decodes = λ i. record {
     «open» = eqb (long-same r 0 0 h (omega arith) i) 1;
@@ -81,36 +106,37 @@ module _ (r : List ℕ) (h : 128 ≤ length r) where
     «text_len» = low-other r 0 0 5 (λ e. absurd (omega arith)) i;
     «pointer_size» = low-other r 0 0 6 (λ e. absurd (omega arith)) i;
     modes = low-other r 0 0 7 (λ e. absurd (omega arith)) i;
+    visits = low-other r 0 0 8 (λ e. absurd (omega arith)) i;
   }
 
 -- what the bytes say after a request
 abbrev pub Says : List ℕ → Call → Type 0
-Says r c = c .session .«text_len» < 4294967296 → decoded (recordAfter (c .answer) r) ≡ c .session
+Says r c = c .session .«text_len» < 4294967296 → c .session .visits < 4294967296 → decoded (recordAfter (c .answer) (c .session .visits) r) ≡ c .session
 
 module _ (r : List ℕ) (h : 128 ≤ length r) where
-  closing : (c len : ℕ) → 12 ≤ c → recordAfter (answerOf c len) r ≡ putLong (putLong r 0 0) 5 len
+  closing : (c len v : ℕ) → 12 ≤ c → recordAfter (answerOf c len) v r ≡ putReached (putLong r 0 0) len v
   unfolding recordAfter answerOf recordRefused
-  closing zero len l = absurd (omega arith)
-  closing (suc c) len l = rw (le-ltb (suc c) 12 l, recordRefused)
+  closing zero len v l = absurd (omega arith)
+  closing (suc c) len v l = rw (le-ltb (suc c) 12 l, recordRefused)
 
   -- what a call settles to
   settled-says : decoded r .«open» ≡ true → (l : ℕ) (p : List ℕ) (n work : ℕ) (q : Reach) → Sane l p n q → Says r (settled (decoded r) work n q)
   unfolding settled recordAfter answerOf
-  settled-says o l p n work _ (on len w t a b c d) small = text-decodes r h len small ∙ ap (λ (x : Bool). withText (decoded r) x len) o
-  settled-says o l p n work _ (off c len t q a b e d) small =
+  settled-says o l p n work _ (on len w t a b c d) small few = text-decodes r h len (visitsIn w) small few ∙ ap (λ (x : Bool). withText (decoded r) x len (visitsIn w)) o
+  settled-says o l p n work _ (off c len v t q a b e d) small few =
       let h₀ : 128 ≤ length (putLong r 0 0) = omega (arith, long-length r 0 0) in
-      ap decoded (closing c len (q .0))
-      ∙ text-decodes (putLong r 0 0) h₀ len small
-      ∙ ap (λ (s : Session). withText s (s .«open») len) (close-decodes r h)
+      ap decoded (closing c len v (q .0))
+      ∙ text-decodes (putLong r 0 0) h₀ len v small few
+      ∙ ap (λ (s : Session). withText s (s .«open») len v) (close-decodes r h)
 
   -- 11 and 10
   kept-says-11 : (v : ℕ) (w t : List ℕ) → Says r (unchanged (decoded r) (Refused 11 v) w t)
   unfolding recordAfter recordRefused
-  kept-says-11 v w t small = refl
+  kept-says-11 v w t small few = refl
 
   kept-says-10 : (v : ℕ) (w t : List ℕ) → Says r (unchanged (decoded r) (Refused 10 v) w t)
   unfolding recordAfter recordRefused
-  kept-says-10 v w t small = refl
+  kept-says-10 v w t small few = refl
 
 first-of : (p q : Bool) → p && q ≡ true → p ≡ true
 first-of true q e = refl
@@ -132,8 +158,8 @@ module _ (r section w t : List ℕ) (h : 128 ≤ length r) where
           let fits : decoded r .«text_len» ≤ length t = current-fits (decoded r) (length section) (length w) (length t) true (sym e) refl in
           subst (λ (c : Call). Says r c) (sym (type-settles (decoded r) section w t id e (ltb-true id (decoded r .types) f)))
           (settled-says r h (current-open (decoded r) (length section) (length w) (length t) e) (decoded r .«text_len») (take (decoded r .«text_len») t) (length t) (length w)
-          (requested (tableFor (decoded r) section) section id (decoded r .«text_len») w t)
-          (request-sane (decoded r .«text_len») (take (decoded r .«text_len») t) (length t) (decoded r .«text_len») t (le-refl (decoded r .«text_len»)) fits refl refl (tableFor (decoded r) section) section id w))
+          (requested (tableFor (decoded r) section) section id (decoded r .«text_len») (decoded r .visits) w t)
+          (request-sane (decoded r .«text_len») (take (decoded r .«text_len») t) (length t) (decoded r .«text_len») t (le-refl (decoded r .«text_len»)) fits refl refl (tableFor (decoded r) section) section id (decoded r .visits) w))
 
   pub types-say : Says r (typesCall (decoded r) section w t)
   types-say = go (isCurrent (decoded r) (length section) (length w) (length t)) refl
@@ -179,14 +205,15 @@ module _ (s : Session) (r : List ℕ) (h : 128 ≤ length r) where
       ∙ reads (λ b k. getWord b (k * 2)) (λ v. v % 4294967296) low-other low-same r 0 (wordsOf s) j h (omega arith) l
 
   -- the record that an accepted opening writes says the session that it opened
-  pub opened-says : s .«open» ≡ true → s .types < 4294967296 → s .enumerators < 4294967296 → s .«text_len» < 4294967296 → s .«pointer_size» < 4294967296 → s .modes < 4294967296 → decoded (encoded s r) ≡ s
+  pub opened-says : s .«open» ≡ true → s .types < 4294967296 → s .enumerators < 4294967296 → s .«text_len» < 4294967296 → s .«pointer_size» < 4294967296 → s .modes < 4294967296 → s .visits < 4294967296 → decoded (encoded s r) ≡ s
   unfolding decoded
-  opened-says o a b c d e =
+  opened-says o a b c d e f =
       let ea : s .types % 4294967296 ≡ s .types = omega arith in
       let eb : s .enumerators % 4294967296 ≡ s .enumerators = omega arith in
       let ec : s .«text_len» % 4294967296 ≡ s .«text_len» = omega arith in
       let ed : s .«pointer_size» % 4294967296 ≡ s .«pointer_size» = omega arith in
       let ee : s .modes % 4294967296 ≡ s .modes = omega arith in
+      let ef : s .visits % 4294967296 ≡ s .visits = omega arith in
       λ i. record {
         «open» = (ap (λ (x : ℕ). eqb x 1) (long-back 0 (omega arith)) ∙ sym o) i;
         «section_len» = long-back 1 (omega arith) i;
@@ -196,4 +223,5 @@ module _ (s : Session) (r : List ℕ) (h : 128 ≤ length r) where
         «text_len» = (low-back 5 (omega arith) ∙ ec) i;
         «pointer_size» = (low-back 6 (omega arith) ∙ ed) i;
         modes = (low-back 7 (omega arith) ∙ ee) i;
+        visits = (low-back 8 (omega arith) ∙ ef) i;
       }

@@ -7,7 +7,7 @@ use borrow.Author.Tests.{lt-ltb, le-ltb}
 use Rattle.turns.specs.declared.Answer.{Answer}
 use Rattle.turns.specs.declared.Session.{Session}
 use Rattle.cutcall.specs.Calls.{cutOf, cutCall}
-use Rattle.c_record.specs.Record.{packed, decoded}
+use Rattle.c_words.specs.Words.{packed, decoded}
 use Rattle.btfdump_c.specs.Cuts.{cutExportOf, cutFor, cutExport}
 
 module _ (r section given out : List ℕ) where

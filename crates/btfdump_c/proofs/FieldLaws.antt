@@ -7,8 +7,7 @@ use borrow.Author.Tests.{lt-ltb, le-ltb}
 use Rattle.turns.specs.declared.Answer.{Answer}
 use Rattle.turns.specs.declared.Session.{Session}
 use Rattle.field.specs.Calls.{foundOf, fieldCall}
-use Rattle.c_record.specs.Record.{decoded}
-use Rattle.c_record.specs.Record.{packed}
+use Rattle.c_words.specs.Words.{decoded, packed}
 use Rattle.btfdump_c.specs.Field.{pathExportOf, foundBy, fieldExport}
 
 module _ (r section w path : List ℕ) (id bit : ℕ) where

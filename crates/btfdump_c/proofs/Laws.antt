@@ -9,8 +9,8 @@ use Rattle.turns.specs.declared.Session.{Session}
 use Rattle.turns.specs.declared.Turn.{Turn}
 use Rattle.turns.specs.Turns.{Call, callOf}
 use Rattle.calls.specs.Calls.{openCall, typeCall, typesCall}
-use Rattle.c_record.specs.Record.{decoded, recordOpened, recordAfter}
-use Rattle.c_record.specs.Record.{packed}
+use Rattle.c_words.specs.Words.{decoded, packed}
+use Rattle.c_record.specs.Record.{recordOpened, recordAfter}
 use Rattle.btfdump_c.specs.Exports.{Export, exportOf, openedBy, answeredBy, openExport, typeExport, typesExport}
 
 -- ---- the exports
@@ -36,14 +36,14 @@ module _ (r section w t : List ℕ) where
         ∙ ap (openedBy r) (e ∙ ap (λ (q : Session). openCall q section w t p m) es)
         ∙ sym (rw (le-ltb (length r) 128 h, openExport))
 
-    pub type-is : (id : ℕ) → callOf (turn .session) (turn .answer) w′ t′ ≡ typeCall s section w t id → (u ≡ packed (turn .answer)) × (r′ ≡ recordAfter (turn .answer) r) → exportOf u r′ w′ t′ ≡ typeExport r section w t id
+    pub type-is : (id : ℕ) → callOf (turn .session) (turn .answer) w′ t′ ≡ typeCall s section w t id → (u ≡ packed (turn .answer)) × (r′ ≡ recordAfter (turn .answer) (turn .session .visits) r) → exportOf u r′ w′ t′ ≡ typeExport r section w t id
     unfolding typeExport answeredBy callOf
     type-is id e eu =
         (λ i. exportOf (eu .0 i) (eu .1 i) w′ t′)
         ∙ ap (answeredBy r) (e ∙ ap (λ (q : Session). typeCall q section w t id) es)
         ∙ sym (rw (le-ltb (length r) 128 h, typeExport))
 
-    pub types-is : callOf (turn .session) (turn .answer) w′ t′ ≡ typesCall s section w t → (u ≡ packed (turn .answer)) × (r′ ≡ recordAfter (turn .answer) r) → exportOf u r′ w′ t′ ≡ typesExport r section w t
+    pub types-is : callOf (turn .session) (turn .answer) w′ t′ ≡ typesCall s section w t → (u ≡ packed (turn .answer)) × (r′ ≡ recordAfter (turn .answer) (turn .session .visits) r) → exportOf u r′ w′ t′ ≡ typesExport r section w t
     unfolding typesExport answeredBy callOf
     types-is e eu =
         (λ i. exportOf (eu .0 i) (eu .1 i) w′ t′)

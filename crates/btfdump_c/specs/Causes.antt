@@ -5,7 +5,8 @@ use mathlib.Core.List.{List, [], _∷_}
 use lib.Dec.{ltb}
 use lib.ListN.{length}
 use Rattle.turns.specs.Answers.{numberOf, valueOf}
-use Rattle.c_record.specs.Record.{packed, decoded, recordListed}
+use Rattle.c_words.specs.Words.{packed, decoded}
+use Rattle.c_record.specs.Record.{recordListed}
 use Rattle.causes.specs.Bytes.{CauseCall, typeCauses, typesCauses}
 use Rattle.several.specs.Several.{listCausesCall}
 use Rattle.btfdump_c.specs.Exports.{Export, exportOf, answeredBy}
@@ -32,7 +33,7 @@ typesCausesExport r section w t l = elim (ltb (length r) 128) [ true ↦ causesE
 -- a list of ids: the value is the count of the accepted; an empty list tests and changes nothing
 unfoldable pub listedCauses : List ℕ → CauseCall → CausesExport
 listedCauses r d = record {
-  export = exportOf (packed (d .call .answer)) (recordListed (numberOf (d .call .answer)) (valueOf (d .call .answer)) (d .call .session .«text_len») r) (d .call .work) (d .call .text);
+  export = exportOf (packed (d .call .answer)) (recordListed (numberOf (d .call .answer)) (valueOf (d .call .answer)) (d .call .session .«text_len») (d .call .session .visits) r) (d .call .work) (d .call .text);
   count = d .count;
   list = d .list;
 }

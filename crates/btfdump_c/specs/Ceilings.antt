@@ -5,7 +5,8 @@ use mathlib.Core.List.{List, [], _∷_}
 use lib.Dec.{ltb}
 use lib.ListN.{length}
 use Rattle.turns.specs.Answers.{numberOf, valueOf}
-use Rattle.c_record.specs.Record.{packed, decoded, recordListed}
+use Rattle.c_words.specs.Words.{packed, decoded}
+use Rattle.c_record.specs.Record.{recordListed}
 use Rattle.within.specs.Within.{CallWithin, typeCallWithin, typesCallWithin}
 use Rattle.within.specs.Lists.{listCallWithin}
 use Rattle.btfdump_c.specs.Exports.{Export, exportOf, answeredBy}
@@ -32,7 +33,7 @@ typesWithinExport c r section w t =
 -- a list of ids: the value is the count of the accepted, and the record has the text length that they left; an empty list tests and changes nothing
 unfoldable pub listedWithin : List ℕ → CallWithin → WithinExport
 listedWithin r d = record {
-  export = exportOf (packed (d .call .answer)) (recordListed (numberOf (d .call .answer)) (valueOf (d .call .answer)) (d .call .session .«text_len») r) (d .call .work) (d .call .text);
+  export = exportOf (packed (d .call .answer)) (recordListed (numberOf (d .call .answer)) (valueOf (d .call .answer)) (d .call .session .«text_len») (d .call .session .visits) r) (d .call .work) (d .call .text);
   made = d .made;
 }
 

@@ -4,7 +4,7 @@ use mathlib.Core.Bool.{true, false}
 use mathlib.Core.List.{List}
 use lib.Dec.{ltb}
 use lib.ListN.{length}
-use Rattle.c_record.specs.Record.{packed, decoded}
+use Rattle.c_words.specs.Words.{packed, decoded}
 use Rattle.cutcall.specs.Calls.{Cut, cutCall}
 
 pub record CutExport : Type 0 where

@@ -6,7 +6,8 @@ use lib.Dec.{ltb}
 use lib.ListN.{length}
 use Rattle.turns.specs.Turns.{Call}
 use Rattle.calls.specs.Calls.{openCall, typeCall, typesCall}
-use Rattle.c_record.specs.Record.{packed, decoded, recordOpened, recordAfter}
+use Rattle.c_words.specs.Words.{packed, decoded}
+use Rattle.c_record.specs.Record.{recordOpened, recordAfter}
 
 pub record Export : Type 0 where
   pub result : ℕ
@@ -22,7 +23,7 @@ unfoldable pub openedBy : List ℕ → Call → Export
 openedBy r c = exportOf (packed (c .answer)) (recordOpened (c .answer) (c .session) r) (c .work) (c .text)
 
 unfoldable pub answeredBy : List ℕ → Call → Export
-answeredBy r c = exportOf (packed (c .answer)) (recordAfter (c .answer) r) (c .work) (c .text)
+answeredBy r c = exportOf (packed (c .answer)) (recordAfter (c .answer) (c .session .visits) r) (c .work) (c .text)
 
 -- a record of under 128 bytes: number 255 at opening, and 11 with value 0 of a request; nothing is touched
 unfoldable pub openExport : List ℕ → List ℕ → ℕ → ℕ → List ℕ → List ℕ → Export

@@ -5,8 +5,7 @@ use mathlib.Core.List.{List}
 use lib.Dec.{ltb}
 use lib.ListN.{length}
 use Rattle.field.specs.Calls.{Found, fieldCall}
-use Rattle.c_record.specs.Record.{decoded}
-use Rattle.c_record.specs.Record.{packed}
+use Rattle.c_words.specs.Words.{decoded, packed}
 
 pub record PathExport : Type 0 where
   pub result : ℕ

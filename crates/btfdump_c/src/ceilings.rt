@@ -1,7 +1,7 @@
 // Requests under a ceiling on the calls of the ordering rule, for C. How many were made is stored in `made`.
 use c_record::answered;
-use c_record::decode;
 use c_record::listed;
+use c_words::decode;
 use within::dump_list_within;
 use within::dump_type_within;
 use within::dump_types_within;

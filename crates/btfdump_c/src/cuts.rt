@@ -1,6 +1,6 @@
 // A section cut down to what is used, for C.
-use c_record::decode;
-use c_record::number_and_value;
+use c_words::decode;
+use c_words::number_and_value;
 use cutcall::cut;
 ghost use mathlib.Core.Path.{_≡_};
 ghost use Rattle.btfdump_c.specs.Cuts.{cutExportOf, cutExport};

@@ -1,7 +1,7 @@
 // Requests that are lent a list and leave an entry in it for each line, for C. How many entries there are is stored in `count`.
 use c_record::answered;
-use c_record::decode;
 use c_record::listed;
+use c_words::decode;
 use explain::dump_type_causes;
 use explain::dump_types_causes;
 use several::dump_list_causes;

@@ -7,10 +7,10 @@ mod declarations;
 mod explained;
 
 use c_record::answered;
-use c_record::decode;
 use c_record::listed;
-use c_record::number_and_value;
 use c_record::opened;
+use c_words::decode;
+use c_words::number_and_value;
 use field::which_field;
 use requests::dump_list_core;
 use requests::dump_type_core;

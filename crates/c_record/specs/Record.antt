@@ -1,81 +1,33 @@
--- The session record as it crosses to C: sixteen words of 64 bits, least significant byte first. Word 0 is 1 while the session is open;
--- then section length, work length, types, enumerators, text length, pointer size, modes, and eight words of zero.
-use Prim.Native.Nat.{ℕ, zero, suc, _+_, _*_, _/_, _%_}
+-- The session record after each call: the words are those of c_words/specs.
+use Prim.Native.Nat.{ℕ, zero, suc}
 use mathlib.Core.Bool.{true, false}
-use mathlib.Core.List.{List, [], _∷_}
-use lib.Dec.{eqb, ltb}
-use Rattle.lent.specs.Words.{getWord, putWord}
+use mathlib.Core.List.{List}
+use lib.Dec.{ltb}
 use Rattle.turns.specs.declared.Answer.{Answer}
 use Rattle.turns.specs.declared.Answer.the-variants.{Accepted, Refused}
 use Rattle.turns.specs.declared.Session.{Session}
-use Rattle.turns.specs.Answers.{numberOf, valueOf}
-
--- word i, and the bytes with word i set to v
-unfoldable pub getLong : List ℕ → ℕ → ℕ
-getLong r i = getWord r (i * 2 + 1) * 4294967296 + getWord r (i * 2)
-
-unfoldable pub putLong : List ℕ → ℕ → ℕ → List ℕ
-putLong r i v = putWord (putWord r (i * 2) (v % 4294967296)) (i * 2 + 1) (v / 4294967296)
-
--- the words from i on
-unfoldable pub putLongs : List ℕ → ℕ → List ℕ → List ℕ
-putLongs r i [] = r
-putLongs r i (v ∷ vs) = putLongs (putLong r i v) (suc i) vs
-
--- the session that the bytes say; of a word that holds 32 bits the upper half does not matter
-unfoldable pub decoded : List ℕ → Session
-decoded r = record {
-  «open» = eqb (getLong r 0) 1;
-  «section_len» = getLong r 1;
-  «work_len» = getLong r 2;
-  types = getWord r 6;
-  enumerators = getWord r 8;
-  «text_len» = getWord r 10;
-  «pointer_size» = getWord r 12;
-  modes = getWord r 14;
-}
-
--- the words of a session that is open, from its text length on, and whole
-abbrev pub lastWords : Session → List ℕ
-lastWords s = s .«text_len» ∷ s .«pointer_size» ∷ s .modes ∷ 0 ∷ 0 ∷ 0 ∷ 0 ∷ 0 ∷ 0 ∷ 0 ∷ 0 ∷ []
-
-abbrev pub wordsOf : Session → List ℕ
-wordsOf s = 1 ∷ s .«section_len» ∷ s .«work_len» ∷ s .types ∷ s .enumerators ∷ lastWords s
-
-unfoldable pub encodedLast : Session → List ℕ → List ℕ
-encodedLast s r = putLongs r 5 (lastWords s)
-
-unfoldable pub encoded : Session → List ℕ → List ℕ
-encoded s r = putLongs r 0 (wordsOf s)
-
--- the first n of the eight words that are not used, zeroed
-unfoldable pub unusedZero : ℕ → List ℕ → List ℕ
-unusedZero zero r = r
-unusedZero (suc n) r = putLong (unusedZero n r) (8 + n) 0
+use Rattle.c_words.specs.Words.{putLong, putReached, encoded}
 
 -- opening writes the record whole, and a refused opening leaves it
 unfoldable pub recordOpened : Answer → Session → List ℕ → List ℕ
 recordOpened (Accepted value) s r = encoded s r
 recordOpened (Refused number value) s r = r
 
--- a refused request: 10 and 11 change nothing, the others close the session and write the text length
-unfoldable pub recordRefused : ℕ → ℕ → List ℕ → List ℕ
-recordRefused number len r = elim (ltb number 12) [ true ↦ r | false ↦ putLong (putLong r 0 0) 5 len ]
+-- a refused request: 10 and 11 change nothing, the others close the session and write the text length and the visits
+unfoldable pub recordRefused : ℕ → ℕ → ℕ → List ℕ → List ℕ
+recordRefused number len v r = elim (ltb number 12) [ true ↦ r | false ↦ putReached (putLong r 0 0) len v ]
 
--- a request writes the text length
-unfoldable pub recordAfter : Answer → List ℕ → List ℕ
-recordAfter (Accepted len) r = putLong r 5 len
-recordAfter (Refused number len) r = recordRefused number len r
+-- a request writes the text length and the visits
+unfoldable pub recordAfter : Answer → ℕ → List ℕ → List ℕ
+recordAfter (Accepted len) v r = putReached r len v
+recordAfter (Refused number len) v r = recordRefused number len v r
 
--- a list writes the text length if an id was accepted
-unfoldable pub recordLonger : ℕ → ℕ → List ℕ → List ℕ
-recordLonger zero len r = r
-recordLonger (suc n) len r = putLong r 5 len
+-- a list writes them if an id was accepted
+unfoldable pub recordLonger : ℕ → ℕ → ℕ → List ℕ → List ℕ
+recordLonger zero len v r = r
+recordLonger (suc n) len v r = putReached r len v
 
--- the record after a list that was stopped by this number, 0 if by none, after so many accepted ids, where the text has len bytes
-unfoldable pub recordListed : ℕ → ℕ → ℕ → List ℕ → List ℕ
-recordListed number accepted len r = elim (ltb number 12) [ true ↦ recordLonger accepted len r | false ↦ putLong (putLong r 0 0) 5 len ]
-
--- an answer: the number in the upper half of 64 bits, the value in the lower
-unfoldable pub packed : Answer → ℕ
-packed a = numberOf a * 4294967296 + valueOf a
+-- the record after a list that was stopped by this number, 0 if by none, after so many accepted ids, where the text has len bytes and v
+-- visits are counted
+unfoldable pub recordListed : ℕ → ℕ → ℕ → ℕ → List ℕ → List ℕ
+recordListed number accepted len v r = elim (ltb number 12) [ true ↦ recordLonger accepted len v r | false ↦ putReached (putLong r 0 0) len v ]

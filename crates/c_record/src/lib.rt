@@ -1,89 +1,14 @@
-// The session record as it crosses to C: sixteen words of 64 bits, least significant byte first: open, section length, work
-// length, types, enumerators, text length, pointer size, modes, and eight of zero. An answer is its number in the upper half
-// of 64 bits and its value in the lower.
-use lent::get_word;
-use lent::put_word;
+// The session record, as bytes, after each call of C.
+use c_words::encode;
+use c_words::number_and_value;
+use c_words::put_long;
+use c_words::put_reached;
 use turns::Answer;
-use turns::Session;
 use turns::Turn;
 ghost use mathlib.Core.Path.{_≡_};
-ghost use Prim.Native.Nat.{_<_};
-ghost use Rattle.c_record.specs.Record.{packed, getLong, putLong, decoded, encodedLast, encoded, unusedZero, recordOpened, recordRefused, recordAfter, recordLonger, recordListed};
 ghost use Rattle.turns.specs.Answers.{numberOf, valueOf};
-
-pub fn number_and_value(a: Answer) -> u64
-    ensures { λ r. ⌜ r ≡ packed a ⌝ }
-{
-    match a {
-        Answer::Accepted(value) => value as u64,
-        Answer::Refused(number, value) => (number as u64) * 4294967296 + (value as u64),
-    }
-}
-
-// Word i of the record.
-fn get_long(record: &[u8], i: usize) -> u64
-    requires { ⌜ i < 16 ⌝ }
-    ensures { λ r. ⌜ r ≡ getLong (now («record» .entry)) i ⌝ }
-{
-    let low = get_word(record, i * 2);
-    let high = get_word(record, i * 2 + 1);
-    (high as u64) * 4294967296 + (low as u64)
-}
-
-fn put_long(record: &mut [u8], i: usize, v: u64)
-    requires { ⌜ i < 16 ⌝ }
-    ensures { λ _. ⌜ now («record» .exit) ≡ putLong (now («record» .entry)) i v ⌝ }
-{
-    put_word(record, i * 2, (v % 4294967296) as u32);
-    put_word(record, i * 2 + 1, (v / 4294967296) as u32);
-}
-
-// The record's value; of a word that holds 32 bits the upper half does not matter.
-pub fn decode(record: &[u8]) -> Session
-    ensures { λ r. ⌜ r ≡ decoded (now («record» .entry)) ⌝ }
-{
-    Session {
-        open: get_long(record, 0) == 1,
-        section_len: get_long(record, 1),
-        work_len: get_long(record, 2),
-        types: get_word(record, 6),
-        enumerators: get_word(record, 8),
-        text_len: get_word(record, 10),
-        pointer_size: get_word(record, 12),
-        modes: get_word(record, 14),
-    }
-}
-
-// Writes the words that opening decides; the rest of the sixteen is zero.
-fn encode(record: &mut [u8], s: Session)
-    ensures { λ _. ⌜ now («record» .exit) ≡ encoded s (now («record» .entry)) ⌝ }
-{
-    put_long(record, 0, 1);
-    put_long(record, 1, s.section_len);
-    put_long(record, 2, s.work_len);
-    put_long(record, 3, s.types as u64);
-    put_long(record, 4, s.enumerators as u64);
-    encode_rest(record, s);
-}
-
-fn encode_rest(record: &mut [u8], s: Session)
-    ensures { λ _. ⌜ now («record» .exit) ≡ encodedLast s (now («record» .entry)) ⌝ }
-{
-    put_long(record, 5, s.text_len as u64);
-    put_long(record, 6, s.pointer_size as u64);
-    put_long(record, 7, s.modes as u64);
-    clear_unused(record);
-}
-
-fn clear_unused(record: &mut [u8])
-    ensures { λ _. ⌜ now («record» .exit) ≡ unusedZero 8 (now («record» .entry)) ⌝ }
-{
-    let mut i: usize = 8;
-    while i < 16 {
-        put_long(record, i, 0);
-        i += 1;
-    }
-}
+ghost use Rattle.c_words.specs.Words.{packed};
+ghost use Rattle.c_record.specs.Record.{recordOpened, recordRefused, recordAfter, recordLonger, recordListed};
 
 // Opening writes the record whole, and a refused opening leaves it.
 pub fn opened(record: &mut [u8], t: Turn) -> u64
@@ -99,68 +24,75 @@ pub fn opened(record: &mut [u8], t: Turn) -> u64
     }
 }
 
-// A request changes the text length, and the open word where it closes the session; 10 and 11 change nothing.
+// A request changes the text length and the visits, and the open word where it closes the session; 10 and 11 change nothing.
 fn store(record: &mut [u8], t: Turn)
-    ensures { λ _. ⌜ now («record» .exit) ≡ recordAfter (t .answer) (now («record» .entry)) ⌝ }
+    ensures { λ _. ⌜ now («record» .exit) ≡ recordAfter (t .answer) (t .session .visits) (now («record» .entry)) ⌝ }
 {
     let a = t.answer;
+    let s = t.session;
     match a {
-        Answer::Accepted(len) => put_long(record, 5, len as u64),
-        Answer::Refused(number, len) => store_refused(record, number, len),
+        Answer::Accepted(len) => put_reached(record, len, s.visits),
+        Answer::Refused(number, len) => store_refused(record, number, len, s.visits),
     }
 }
 
-fn store_refused(record: &mut [u8], number: u32, len: u32)
-    ensures { λ _. ⌜ now («record» .exit) ≡ recordRefused number len (now («record» .entry)) ⌝ }
+fn store_refused(record: &mut [u8], number: u32, len: u32, visits: u32)
+    ensures { λ _. ⌜ now («record» .exit) ≡ recordRefused number len visits (now («record» .entry)) ⌝ }
 {
     if number < 12 {
         return;
     }
     put_long(record, 0, 0);
-    put_long(record, 5, len as u64)
+    put_reached(record, len, visits)
 }
 
 pub fn answered(record: &mut [u8], t: Turn) -> u64
-    ensures { λ r. ⌜ (r ≡ packed (t .answer)) × (now («record» .exit) ≡ recordAfter (t .answer) (now («record» .entry))) ⌝ }
+    ensures { λ r. ⌜ (r ≡ packed (t .answer)) × (now («record» .exit) ≡ recordAfter (t .answer) (t .session .visits) (now («record» .entry))) ⌝ }
 {
     let a = t.answer;
     store(record, t);
     number_and_value(a)
 }
 
-// A list changes the text length if an id was accepted.
-fn store_longer(record: &mut [u8], accepted: u32, len: u32)
-    ensures { λ _. ⌜ now («record» .exit) ≡ recordLonger accepted len (now («record» .entry)) ⌝ }
+// A list changes them if an id was accepted.
+fn store_longer(record: &mut [u8], accepted: u32, len: u32, visits: u32)
+    ensures { λ _. ⌜ now («record» .exit) ≡ recordLonger accepted len visits (now («record» .entry)) ⌝ }
 {
     if accepted == 0 {
         return;
     }
-    put_long(record, 5, len as u64)
+    put_reached(record, len, visits)
 }
 
-fn store_stopped(record: &mut [u8], number: u32, accepted: u32, len: u32)
-    ensures { λ _. ⌜ now («record» .exit) ≡ recordListed number accepted len (now («record» .entry)) ⌝ }
+fn store_stopped(record: &mut [u8], number: u32, accepted: u32, len: u32, visits: u32)
+    ensures { λ _. ⌜ now («record» .exit) ≡ recordListed number accepted len visits (now («record» .entry)) ⌝ }
 {
     if number > 11 {
-        store_refused(record, number, len);
+        store_refused(record, number, len, visits);
         return;
     }
-    store_longer(record, accepted, len)
+    store_longer(record, accepted, len, visits)
 }
 
 fn store_list(record: &mut [u8], t: Turn)
-    ensures { λ _. ⌜ now («record» .exit) ≡ recordListed (numberOf (t .answer)) (valueOf (t .answer)) (t .session .«text_len») (now («record» .entry)) ⌝ }
+    ensures { λ _. ⌜ now («record» .exit) ≡ recordListed (numberOf (t .answer)) (valueOf (t .answer)) (t .session .«text_len») (t .session .visits) (now («record» .entry)) ⌝ }
 {
     let a = t.answer;
     let s = t.session;
     match a {
-        Answer::Accepted(accepted) => store_longer(record, accepted, s.text_len),
-        Answer::Refused(number, accepted) => store_stopped(record, number, accepted, s.text_len),
+        Answer::Accepted(accepted) => store_longer(record, accepted, s.text_len, s.visits),
+        Answer::Refused(number, accepted) => store_stopped(
+            record,
+            number,
+            accepted,
+            s.text_len,
+            s.visits,
+        ),
     }
 }
 
 pub fn listed(record: &mut [u8], t: Turn) -> u64
-    ensures { λ r. ⌜ (r ≡ packed (t .answer)) × (now («record» .exit) ≡ recordListed (numberOf (t .answer)) (valueOf (t .answer)) (t .session .«text_len») (now («record» .entry))) ⌝ }
+    ensures { λ r. ⌜ (r ≡ packed (t .answer)) × (now («record» .exit) ≡ recordListed (numberOf (t .answer)) (valueOf (t .answer)) (t .session .«text_len») (t .session .visits) (now («record» .entry))) ⌝ }
 {
     let a = t.answer;
     store_list(record, t);

@@ -23,7 +23,7 @@ use Rattle.turns.specs.declared.Answer.the-variants.{Refused}
 use Rattle.turns.specs.declared.Session.{Session}
 use Rattle.turns.specs.Answers.{numberOf, valueOf, answerOf}
 use Rattle.calls.specs.Refusals.{number, value}
-use Rattle.turns.specs.Turns.{Call, isCurrent, Reach, reached, refusedBy, thenZeros, settled, unchanged, tableFor}
+use Rattle.turns.specs.Turns.{Call, isCurrent, Reach, reached, refusedBy, thenZeros, settled, unchanged, tableFor, visitsIn}
 use Rattle.calls.specs.Calls.{openedCall, openCall, limitOf, cameTo, lentTo, requested, onward, requestedFrom, typeCall, typesCall}
 use Rattle.calls.proofs.Fair.{Listed, Fair, goes, stops, Inside, placed}
 use Rattle.calls.proofs.Laws.{opens-refused, opens-sound, limit-between, fair-asked}
@@ -83,13 +83,13 @@ accepted-opening s section w t pointer modes h = go (eqb (openingNumber pointer 
 -- ---- where requests come to, on a text slice of n bytes that begins with the l bytes p
 pub data Sane (l : ℕ) (p : List ℕ) (n : ℕ) : Reach → Type 0 where
   on : (len : ℕ) (w t : List ℕ) → l ≤ len → len ≤ n → length t ≡ n → take l t ≡ p → Sane l p n (reached len w t)
-  off : (c len : ℕ) (t : List ℕ) → Listed c → l ≤ len → len ≤ n → length t ≡ len → take l t ≡ p → Sane l p n (refusedBy c len t)
+  off : (c len v : ℕ) (t : List ℕ) → Listed c → l ≤ len → len ≤ n → length t ≡ len → take l t ≡ p → Sane l p n (refusedBy c len v t)
 
 module _ (l : ℕ) (p : List ℕ) (n : ℕ) where
   module _ (len : ℕ) (t : List ℕ) (low : l ≤ len) (high : len ≤ n) (long : length t ≡ n) (begins : take l t ≡ p) where
-    came-sane : (k : ℕ) → len + k ≤ n → (o : Out Sheet) → Fair (Inside k) o → Sane l p n (cameTo len t o)
+    came-sane : (v k : ℕ) → len + k ≤ n → (o : Out Sheet) → Fair (Inside k) o → Sane l p n (cameTo len v t o)
     unfolding cameTo
-    came-sane k fits _ (goes m g) =
+    came-sane v k fits _ (goes m g) =
         let room : len + length (m .text) ≤ length t = omega (arith, g .1) in
         let size : length (place t len (m .text)) ≡ length t = placed t len (m .text) room in
         let head : length (take len t) ≡ len = length-take-le len t (omega arith) in
@@ -101,27 +101,52 @@ module _ (l : ℕ) (p : List ℕ) (n : ℕ) where
       where
         assoc : (a b c : List ℕ) → a ++ b ++ c ≡ a ++ (b ++ c)
         assoc a b c = simp append-assoc
-    came-sane k fits _ (stops c q) =
-        off c len (take len t) q low high (length-take-le len t (omega arith)) (take-take l len t low ∙ begins)
+    came-sane v k fits _ (stops c q) =
+        off c len v (take len t) q low high (length-take-le len t (omega arith)) (take-take l len t low ∙ begins)
 
-    pub request-sane : (b : Btf) (s : List ℕ) (id : ℕ) (w : List ℕ) → Sane l p n (requested b s id len w t)
+    pub request-sane : (b : Btf) (s : List ℕ) (id v : ℕ) (w : List ℕ) → Sane l p n (requested b s id len v w t)
     unfolding requested
-    request-sane b s id w =
+    request-sane b s id v w =
         let lim : (len ≤ limitOf (length t) len) × (limitOf (length t) len ≤ length t) = limit-between (length t) len (omega arith) in
         let size : length (lentTo len t) ≡ limitOf (length t) len - len = mid-len len (limitOf (length t) len) t (lim .1) in
-        came-sane (length (lentTo len t)) (omega (arith, lim .0, lim .1, size)) _ (fair-asked b s w id (lentTo len t))
+        came-sane v (length (lentTo len t)) (omega (arith, lim .0, lim .1, size)) _ (fair-asked b s w id (lentTo len t))
 
   onward-sane : (r : Reach) (k : ℕ → List ℕ → List ℕ → Reach) → Sane l p n r → ((len : ℕ) (w t : List ℕ) → l ≤ len → len ≤ n → length t ≡ n → take l t ≡ p → Sane l p n (k len w t)) → Sane l p n (onward r k)
   unfolding onward
   onward-sane _ k (on len w t a b c d) h = h len w t a b c d
-  onward-sane _ k (off c len t q a b e d) h = off c len t q a b e d
+  onward-sane _ k (off c len v t q a b e d) h = off c len v t q a b e d
 
   pub from-sane : (b : Btf) (s : List ℕ) (count id len : ℕ) (w t : List ℕ) → l ≤ len → len ≤ n → length t ≡ n → take l t ≡ p → Sane l p n (requestedFrom b s count id len w t)
   unfolding requestedFrom
   from-sane b s zero id len w t a b′ c d = on len w t a b′ c d
   from-sane b s (suc count) id len w t a b′ c d =
-      onward-sane (requested b s id len w t) (requestedFrom b s count (suc id)) (request-sane len t a b′ c d b s id w)
+      onward-sane (requested b s id len (visitsIn w) w t) (requestedFrom b s count (suc id)) (request-sane len t a b′ c d b s id (visitsIn w) w)
       (λ len′ w′ t′ a′ b″ c′ d′. from-sane b s count (suc id) len′ w′ t′ a′ b″ c′ d′)
+
+-- ---- visits: an accepted request leaves those that its work counts, and a refused one those before it
+pub data Visited (v : ℕ) : Reach → Type 0 where
+  went : (len : ℕ) (w t : List ℕ) → Visited v (reached len w t)
+  stayed : (c len : ℕ) (t : List ℕ) → 0 < c → Visited v (refusedBy c len v t)
+
+came-counts : (len v k : ℕ) (t : List ℕ) (o : Out Sheet) → Fair (Inside k) o → Visited v (cameTo len v t o)
+unfolding cameTo
+came-counts len v k t _ (goes m g) = went (len + m .at) (m .work) (place t len (m .text))
+came-counts len v k t _ (stops c q) = stayed c len (take len t) (omega (arith, q .0))
+
+pub request-counts : (b : Btf) (s : List ℕ) (id len v : ℕ) (w t : List ℕ) → Visited v (requested b s id len v w t)
+unfolding requested
+request-counts b s id len v w t = came-counts len v (length (lentTo len t)) t _ (fair-asked b s w id (lentTo len t))
+
+module _ (s : Session) (wn tn v : ℕ) where
+  pub accepted-counts : (r : Reach) → Visited v r → numberOf (settled s wn tn r .answer) ≡ 0 → settled s wn tn r .session .visits ≡ visitsIn (settled s wn tn r .work)
+  unfolding settled
+  accepted-counts _ (went len w t) z = refl
+  accepted-counts _ (stayed c len t q) z = let n : numberOf (answerOf c len) ≡ c = number-is c len in absurd (omega arith)
+
+  pub refused-counts : (r : Reach) → Visited v r → (numberOf (settled s wn tn r .answer) ≡ 0 → ⊥) → settled s wn tn r .session .visits ≡ v
+  unfolding settled
+  refused-counts _ (went len w t) z = absurd (z (number-is 0 len))
+  refused-counts _ (stayed c len t q) z = refl
 
 -- What every request keeps: of a session s and a text slice that is long enough, against the call c.
 pub record Kept (s : Session) (text : List ℕ) (c : Call) : Type 0 where
@@ -165,7 +190,7 @@ module _ (s : Session) (work : ℕ) (text : List ℕ) where
         number-kept = inl (number-is 0 len);
         closes = λ q. let z : numberOf (answerOf 0 len) ≡ 0 = number-is 0 len in absurd (omega (arith, q .0));
       }
-  settled-kept _ (off c len t q a b e d) =
+  settled-kept _ (off c len v t q a b e d) =
       let short : len ≤ length t = omega arith in
       let z : numberOf (answerOf c len) ≡ c = number-is c len in
       record {
@@ -182,7 +207,7 @@ module _ (s : Session) (work : ℕ) (text : List ℕ) where
 -- A request for one id: 11 and 10 leave everything; else what `Kept` says.
 module _ (s : Session) (section work text : List ℕ) where
   pub type-settles : (id : ℕ) → isCurrent s (length section) (length work) (length text) ≡ true → id < s .types
-      → typeCall s section work text id ≡ settled s (length work) (length text) (requested (tableFor s section) section id (s .«text_len») work text)
+      → typeCall s section work text id ≡ settled s (length work) (length text) (requested (tableFor s section) section id (s .«text_len») (s .visits) work text)
   unfolding typeCall
   type-settles id h l = rw (h, typeCall, lt-ltb id (s .types) l)
 
@@ -196,7 +221,7 @@ module _ (s : Session) (section work text : List ℕ) where
   type-current id h l =
       let fits : s .«text_len» ≤ length text = current-fits s (length section) (length work) (length text) true (sym h) refl in
       rw (h, typeCall, lt-ltb id (s .types) l)
-      (settled-kept s (length work) text _ (request-sane (s .«text_len») (take (s .«text_len») text) (length text) (s .«text_len») text (le-refl (s .«text_len»)) fits refl refl (tableFor s section) section id work))
+      (settled-kept s (length work) text _ (request-sane (s .«text_len») (take (s .«text_len») text) (length text) (s .«text_len») text (le-refl (s .«text_len»)) fits refl refl (tableFor s section) section id (s .visits) work))
 
   pub type-not-below : (id : ℕ) → isCurrent s (length section) (length work) (length text) ≡ true → s .types ≤ id → typeCall s section work text id ≡ unchanged s (Refused 10 (s .«text_len»)) work text
   unfolding typeCall number value answerOf

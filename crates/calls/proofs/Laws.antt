@@ -35,7 +35,7 @@ use Rattle.turns.specs.declared.Turn.{Turn}
 use Rattle.turns.specs.declared.Reached.{Reached}
 use Rattle.turns.specs.Answers.{answerOf}
 use Rattle.calls.specs.Refusals.{number, value, notCurrent, refusal}
-use Rattle.turns.specs.Turns.{Call, callOf, turnOf, isCurrent, Reach, reached, refusedBy, reachOf, settled, unchanged}
+use Rattle.turns.specs.Turns.{Call, callOf, turnOf, isCurrent, Reach, reached, refusedBy, reachOf, settled, unchanged, visitsIn}
 use Rattle.calls.specs.Calls.{openedCall, openCall, limitOf, arrivedAt, cameTo, lentTo, requested, onward, requestedFrom, typeCall, typesCall}
 use Rattle.turns.proofs.Laws.{reach-accepted, reach-refused}
 use Rattle.calls.proofs.Fair.{Listed, Fair, goes, stops, Inside, fair-request}
@@ -63,19 +63,19 @@ module _ (n len : ℕ) where
       (le-or-lt n 1073741824)
 
 -- ---- arrived
-module _ (len room at : ℕ) where
-  pub arrived-in : at ≤ room → arrivedAt len room at ≡ record { len = len + at; number = 0 }
+module _ (len v room at : ℕ) where
+  pub arrived-in : at ≤ room → arrivedAt len v room at ≡ record { len = len + at; number = 0; visits = v }
   unfolding arrivedAt
   arrived-in h = rw (le-leb at room h, arrivedAt)
 
-  arrived-out : room < at → arrivedAt len room at ≡ record { len = len; number = at - (room + 1) }
+  arrived-out : room < at → arrivedAt len v room at ≡ record { len = len; number = at - (room + 1); visits = v }
   unfolding arrivedAt
   arrived-out h = rw (lt-leb at room h, arrivedAt)
 
-  pub arrived-past : room < at → record { len = len; number = at - room - 1 } ≡ arrivedAt len room at
+  pub arrived-past : room < at → record { len = len; number = at - room - 1; visits = v } ≡ arrivedAt len v room at
   arrived-past h =
       let e : at - room - 1 ≡ at - (room + 1) = omega arith in
-      ap {B = Reached} (λ (n : ℕ). record { len = len; number = n }) e ∙ sym (arrived-out h)
+      ap {B = Reached} (λ (n : ℕ). record { len = len; number = n; visits = v }) e ∙ sym (arrived-out h)
 
 -- ---- open_core
 module _ (p modes : ℕ) (s w t : List ℕ) where
@@ -95,7 +95,7 @@ module _ (p modes : ℕ) (s w t : List ℕ) where
         ∙ ap (openedCall r (length s) (length w) p modes) (sym (ap (λ (q : Opening). openOut q w′ t′) e) ∙ eo)
 
     pub open-sound : (n m : ℕ) → o ≡ Sound n m → (r : Session)
-        → callOf (record { «open» = true; «section_len» = length s; «work_len» = length w; types = n; enumerators = m; «text_len» = 0; «pointer_size» = p; modes = modes % 16 }) (Accepted n) w′ t′ ≡ openCall r s w t p modes
+        → callOf (record { «open» = true; «section_len» = length s; «work_len» = length w; types = n; enumerators = m; «text_len» = 0; «pointer_size» = p; modes = modes % 16; visits = 0 }) (Accepted n) w′ t′ ≡ openCall r s w t p modes
     unfolding openOut callOf openCall openedCall answerOf
     open-sound n m e r = ap (openedCall r (length s) (length w) p modes) (sym (ap (λ (q : Opening). openOut q w′ t′) e) ∙ eo)
 
@@ -149,10 +149,10 @@ module _ (b : Btf) (s w t : List ℕ) (len id to : ℕ) (below : len ≤ to) (en
   pub one-bound : at ≤ to - len + 19
   one-bound = ⊎-elim (λ l. omega arith) (λ l. omega (arith, past-listed l .1)) (le-or-lt at (to - len))
 
-  module _ (el : to ≡ limitOf (length t) len) (r : Reached) (er : r ≡ arrivedAt len (to - len) at) where
-    request-is : cameTo len t (asked b s w id (midOf len (to - len) t)) ≡ requested b s id len w t
+  module _ (el : to ≡ limitOf (length t) len) (r : Reached) (v : ℕ) (er : r ≡ arrivedAt len v (to - len) at) where
+    request-is : cameTo len v t (asked b s w id (midOf len (to - len) t)) ≡ requested b s id len v w t
     unfolding requested
-    request-is = ap (λ (z : ℕ). cameTo len t (asked b s w id (take (z - len) (drop len t)))) el
+    request-is = ap (λ (z : ℕ). cameTo len v t (asked b s w id (take (z - len) (drop len t)))) el
 
     kept-prefix : take len (putMid len (to - len) t u) ≡ take len t
     kept-prefix = take-at (take len t) (u ++ postOf len (to - len) t) len (length-take-le len t (omega arith))
@@ -160,32 +160,32 @@ module _ (b : Btf) (s w t : List ℕ) (len id to : ℕ) (below : len ≤ to) (en
     whole-length : length (putMid len (to - len) t u) ≡ length t
     whole-length = same-len-mid len (to - len) t u same
 
-    one-in : at ≤ to - len → (reachOf r w′ (putMid len (to - len) t u) ≡ requested b s id len w t) × (r .len ≤ length (putMid len (to - len) t u))
+    one-in : at ≤ to - len → (reachOf r w′ (putMid len (to - len) t u) ≡ requested b s id len v w t) × (r .len ≤ length (putMid len (to - len) t u))
     unfolding cameTo
     one-in h =
-        let q : r ≡ record { len = len + at; number = 0 } = er ∙ arrived-in len (to - len) at h in (
+        let q : r ≡ record { len = len + at; number = 0; visits = v } = er ∙ arrived-in len v (to - len) at h in (
           reach-accepted r w′ (putMid len (to - len) t u) (ap (λ (x : Reached). x .number) q)
               ∙ (λ i. reached (q i .len) w′ (mid-place t u len (to - len) long i))
-              ∙ ap (cameTo len t) (sym (came-in h))
+              ∙ ap (cameTo len v t) (sym (came-in h))
               ∙ request-is,
           omega (arith, ap (λ (x : Reached). x .len) q, whole-length),
         )
 
-    one-past : to - len < at → (reachOf r w′ (putMid len (to - len) t u) ≡ requested b s id len w t) × (r .len ≤ length (putMid len (to - len) t u))
+    one-past : to - len < at → (reachOf r w′ (putMid len (to - len) t u) ≡ requested b s id len v w t) × (r .len ≤ length (putMid len (to - len) t u))
     unfolding cameTo
     one-past h =
-        let q : r ≡ record { len = len; number = at - (to - len + 1) } = er ∙ arrived-out len (to - len) at h in
+        let q : r ≡ record { len = len; number = at - (to - len + 1); visits = v } = er ∙ arrived-out len v (to - len) at h in
         let n : r .number ≡ at - (to - len + 1) = ap (λ (x : Reached). x .number) q in
         let l : r .len ≡ len = ap (λ (x : Reached). x .len) q in (
           reach-refused r w′ (putMid len (to - len) t u) (λ z. absurd (omega (arith, past-listed h .0)))
-              ∙ (λ i. refusedBy (n i) (l i) (take (l i) (putMid len (to - len) t u)))
-              ∙ ap (refusedBy (at - (to - len + 1)) len) kept-prefix
-              ∙ ap (cameTo len t) (sym (came-past h))
+              ∙ (λ i. refusedBy (n i) (l i) (q i .visits) (take (l i) (putMid len (to - len) t u)))
+              ∙ ap (refusedBy (at - (to - len + 1)) len v) kept-prefix
+              ∙ ap (cameTo len v t) (sym (came-past h))
               ∙ request-is,
           omega (arith, whole-length),
         )
 
-    pub one-reach : (reachOf r w′ (putMid len (to - len) t u) ≡ requested b s id len w t) × (r .len ≤ length (putMid len (to - len) t u))
+    pub one-reach : (reachOf r w′ (putMid len (to - len) t u) ≡ requested b s id len v w t) × (r .len ≤ length (putMid len (to - len) t u))
     one-reach = ⊎-elim one-in one-past (le-or-lt at (to - len))
 
 -- ---- an id with nothing to write
@@ -217,27 +217,31 @@ module _ (b : Btf) (s w u : List ℕ) (id : ℕ) where
   unfolding dumped order workMachine sheetStore workStore
   idle-dumped h = idle-visit (markOf (getField w id 1)) h
 
-pub idle-reach : (b : Btf) (s w t : List ℕ) (len id : ℕ) → len ≤ length t → (q : Bool) → q ≡ isIdle (markOf (getField w id 1)) (tableIn b s w .node id) → q ≡ true
-    → (reachOf (record { len = len; number = 0 }) w t ≡ requested b s id len w t) × (len ≤ length t)
+pub idle-reach : (b : Btf) (s w t : List ℕ) (len u v id : ℕ) → len ≤ length t → (q : Bool) → q ≡ isIdle (markOf (getField w id 1)) (tableIn b s w .node id) → q ≡ true
+    → (reachOf (record { len = len; number = 0; visits = u }) w t ≡ requested b s id len v w t) × (len ≤ length t)
 unfolding requested cameTo
-idle-reach b s w t len id h q e z =
+idle-reach b s w t len u v id h q e z =
     let lim : (len ≤ limitOf (length t) len) × (limitOf (length t) len ≤ length t) = limit-between (length t) len h in
     let size : length (lentTo len t) ≡ limitOf (length t) len - len = mid-len len (limitOf (length t) len) t (lim .1) in
     let back : t ≡ place t len (lentTo len t) = sym (put-same len (limitOf (length t) len - len) t) ∙ mid-place t (lentTo len t) len (limitOf (length t) len - len) size in
     let none : len ≡ len + 0 = omega arith in (
-      reach-accepted (record { len = len; number = 0 }) w t refl
+      reach-accepted (record { len = len; number = 0; visits = u }) w t refl
           ∙ (λ i. reached (none i) w (back i))
-          ∙ ap (cameTo len t) (sym (idle-dumped b s w (lentTo len t) id (sym e ∙ z))),
+          ∙ ap (cameTo len v t) (sym (idle-dumped b s w (lentTo len t) id (sym e ∙ z))),
       h,
     )
 
+-- the visits as the code reads them
+pub read-before : (b : Btf) (s w t : List ℕ) (len id v : ℕ) (q : Reach) → q ≡ requested b s id len v w t → v ≡ visitsIn w → q ≡ requested b s id len (visitsIn w) w t
+read-before b s w t len id v q e h = e ∙ ap (λ (u : ℕ). requested b s id len u w t) h
+
 -- ---- all ids
 module _ (b : Btf) (s : List ℕ) (whole : Reach) where
-  unroll : (n id len : ℕ) (w t : List ℕ) → id < n → requestedFrom b s (n - id) id len w t ≡ onward (requested b s id len w t) (requestedFrom b s (n - (id + 1)) (id + 1))
+  unroll : (n id len : ℕ) (w t : List ℕ) → id < n → requestedFrom b s (n - id) id len w t ≡ onward (requested b s id len (visitsIn w) w t) (requestedFrom b s (n - (id + 1)) (id + 1))
   unfolding requestedFrom
   unroll n id len w t h =
       let e : n - id ≡ suc (n - (id + 1)) = omega arith in
-      ap (λ (k : ℕ). requestedFrom b s k id len w t) e ∙ ap (λ (k : ℕ). onward (requested b s id len w t) (requestedFrom b s (n - (id + 1)) k)) (sym (add-one id))
+      ap (λ (k : ℕ). requestedFrom b s k id len w t) e ∙ ap (λ (k : ℕ). onward (requested b s id len (visitsIn w) w t) (requestedFrom b s (n - (id + 1)) k)) (sym (add-one id))
 
   pub all-done : (n id : ℕ) (r : Reached) (w t : List ℕ) → n ≤ id → r .number ≡ 0 → whole ≡ requestedFrom b s (n - id) id (r .len) w t → reachOf r w t ≡ whole
   unfolding requestedFrom
@@ -245,7 +249,7 @@ module _ (b : Btf) (s : List ℕ) (whole : Reach) where
       let k : n - id ≡ 0 = omega arith in
       reach-accepted r w t z ∙ sym (e ∙ ap (λ (m : ℕ). requestedFrom b s m id (r .len) w t) k)
 
-  module _ (n id len : ℕ) (w t : List ℕ) (h : id < n) (e : whole ≡ requestedFrom b s (n - id) id len w t) (r : Reached) (w′ t′ : List ℕ) (er : reachOf r w′ t′ ≡ requested b s id len w t) where
+  module _ (n id len : ℕ) (w t : List ℕ) (h : id < n) (e : whole ≡ requestedFrom b s (n - id) id len w t) (r : Reached) (w′ t′ : List ℕ) (er : reachOf r w′ t′ ≡ requested b s id len (visitsIn w) w t) where
     goes-on : whole ≡ onward (reachOf r w′ t′) (requestedFrom b s (n - (id + 1)) (id + 1))
     goes-on = e ∙ unroll n id len w t h ∙ ap (λ (q : Reach). onward q (requestedFrom b s (n - (id + 1)) (id + 1))) (sym er)
 
@@ -286,11 +290,11 @@ module _ (s : Session) (section w t : List ℕ) (q : Bool) (eq : q ≡ isCurrent
 
     module _ (b : Btf) (eb : b ≡ settingsOf section (s .«pointer_size») (s .modes) (s .types)) (r : Reached) (w′ t′ : List ℕ) (lw : length w′ ≡ length w) (lt : length t′ ≡ length t)
         (turn : Turn) (w″ t″ : List ℕ) (et : callOf (turn .session) (turn .answer) w″ t″ ≡ settled s (length w′) (length t′) (reachOf r w′ t′)) where
-      pub type-done : (id : ℕ) → id < s .types → reachOf r w′ t′ ≡ requested b section id (s .«text_len») w t → callOf (turn .session) (turn .answer) w″ t″ ≡ typeCall s section w t id
+      pub type-done : (id : ℕ) → id < s .types → reachOf r w′ t′ ≡ requested b section id (s .«text_len») (s .visits) w t → callOf (turn .session) (turn .answer) w″ t″ ≡ typeCall s section w t id
       unfolding typeCall
       type-done id l er =
           et
-          ∙ (λ i. settled s (lw i) (lt i) ((er ∙ ap (λ (c : Btf). requested c section id (s .«text_len») w t) eb) i))
+          ∙ (λ i. settled s (lw i) (lt i) ((er ∙ ap (λ (c : Btf). requested c section id (s .«text_len») (s .visits) w t) eb) i))
           ∙ sym (rw (sym eq ∙ not-false q h, typeCall, lt-ltb id (s .types) l))
 
       pub types-done : reachOf r w′ t′ ≡ requestedFrom b section (b .types - 1) 1 (s .«text_len») w t → callOf (turn .session) (turn .answer) w″ t″ ≡ typesCall s section w t

@@ -21,12 +21,12 @@ use Rattle.turns.specs.declared.Turn.{Turn}
 use Rattle.turns.specs.declared.Reached.{Reached}
 use Rattle.turns.specs.declared.Tally.{Tally}
 use Rattle.turns.specs.Answers.{numberOf, valueOf, answerOf}
-use Rattle.turns.specs.Turns.{Call, callOf, turnOf, isCurrent, Reach, reached, refusedBy, reachOf, withText, thenZeros, settled, unchanged, tableFor}
+use Rattle.turns.specs.Turns.{Call, callOf, turnOf, isCurrent, Reach, reached, refusedBy, reachOf, withText, thenZeros, settled, unchanged, tableFor, visitsIn}
 use Rattle.calls.specs.Calls.{requested, typeCall}
 use Rattle.calls.specs.Lists.{idsIn, counted, listFrom, listCall, countIn, tailed, listEnd}
 use Rattle.calls.proofs.Fair.{Listed}
 use Rattle.turns.proofs.Laws.{current-fits, reach-accepted, reach-refused, zeros-twice}
-use Rattle.calls.proofs.Claims.{number-is, value-is, Sane, on, off, request-sane, zeros-length, zeros-head, Kept, type-settles, type-current, type-not-below, type-not-current}
+use Rattle.calls.proofs.Claims.{number-is, value-is, Sane, on, off, request-sane, zeros-length, zeros-head, Kept, type-settles, type-current, type-not-below, type-not-current, Visited, request-counts, accepted-counts, refused-counts}
 use Rattle.calls.proofs.Singles.{Pair, on-both, off-both, request-pair, settled-with, settled-tail, parts-of}
 
 -- ---- the ids
@@ -105,18 +105,18 @@ module _ (n len : ℕ) (t : List ℕ) (short : len ≤ length t) where
 
 -- ---- settle_list
 module _ (s : Session) (r : Tally) (w t t′ : List ℕ) (a : Answer) (ea : a ≡ answerOf (r .number) (r .accepted)) (s′ : Session) where
-  pub end-open : r .number ≤ 10 → t′ ≡ tailed (r .accepted) (r .len) t → s′ ≡ withText s true (r .len) → callOf s′ a w t′ ≡ listEnd s r w t
+  pub end-open : r .number ≤ 10 → t′ ≡ tailed (r .accepted) (r .len) t → s′ ≡ withText s true (r .len) (r .visits) → callOf s′ a w t′ ≡ listEnd s r w t
   unfolding listEnd
   end-open h et es = (λ i. callOf (es i) (ea i) w (et i)) ∙ sym (rw (le-leb (r .number) 10 h, listEnd))
 
-  pub end-closed : 10 < r .number → t′ ≡ thenZeros (length t) (r .len) t → (w′ : List ℕ) → w′ ≡ replicate (length w) 0 → s′ ≡ withText s false (r .len) → callOf s′ a w′ t′ ≡ listEnd s r w t
+  pub end-closed : 10 < r .number → t′ ≡ thenZeros (length t) (r .len) t → (w′ : List ℕ) → w′ ≡ replicate (length w) 0 → s′ ≡ withText s false (r .len) (r .visits) → callOf s′ a w′ t′ ≡ listEnd s r w t
   unfolding listEnd
   end-closed h et w′ ew es = (λ i. callOf (es i) (ea i) (ew i) (et i)) ∙ sym (rw (lt-leb (r .number) 10 h, listEnd))
 
 -- ---- one id after another
-pub sane-listed : (l : ℕ) (p : List ℕ) (n : ℕ) (q : Reach) → Sane l p n q → (c len : ℕ) (t : List ℕ) → q ≡ refusedBy c len t → Listed c
-sane-listed l p n _ (on len′ w u a b d e) c len t q = let z : _≡_ {A = ℕ} 0 1 = cc in absurd (omega arith)
-sane-listed l p n _ (off c′ len′ u k a b d e) c len t q = let z : c′ ≡ c = cc in (omega (arith, k .0), omega (arith, k .1))
+pub sane-listed : (l : ℕ) (p : List ℕ) (n : ℕ) (q : Reach) → Sane l p n q → (c len v : ℕ) (t : List ℕ) → q ≡ refusedBy c len v t → Listed c
+sane-listed l p n _ (on len′ w u a b d e) c len v t q = let z : _≡_ {A = ℕ} 0 1 = cc in absurd (omega arith)
+sane-listed l p n _ (off c′ len′ v′ u k a b d e) c len v t q = let z : c′ ≡ c = cc in (omega (arith, k .0), omega (arith, k .1))
 
 pub counted-goes : (n : ℕ) (c : Call) (k : Call → Call) → numberOf (c .answer) ≡ 0 → counted n c k ≡ k c
 unfolding counted
@@ -130,85 +130,86 @@ counted-stops n (suc m) c k e h = rw (e, counted)
 module _ (s : Session) (section : List ℕ) where
   pair-settled : (wn tn : ℕ) (q q′ : Reach) → Pair wn tn q q′ → settled s wn tn q′ ≡ settled s wn tn q
   pair-settled wn tn _ _ (on-both len w t t′ h lw lt e) = settled-tail s wn tn len w t′ t (sym e)
-  pair-settled wn tn _ _ (off-both c len t l) = refl
+  pair-settled wn tn _ _ (off-both c len v t l) = refl
 
   -- a call on another text that begins alike comes to what the request comes to
-  module _ (es : s .«section_len» ≡ length section) (len : ℕ) (w t t′ : List ℕ) (ew : s .«work_len» ≡ length w) (lt : length t′ ≡ length t) (h : len ≤ length t) (same : take len t ≡ take len t′) (id : ℕ) where
-    pub current : isCurrent (withText s true len) (length section) (length w) (length t′) ≡ true
+  module _ (es : s .«section_len» ≡ length section) (len v : ℕ) (w t t′ : List ℕ) (ew : s .«work_len» ≡ length w) (lt : length t′ ≡ length t) (h : len ≤ length t) (same : take len t ≡ take len t′) (id : ℕ) where
+    pub current : isCurrent (withText s true len v) (length section) (length w) (length t′) ≡ true
     unfolding isCurrent
     current = λ i. true && (eq-eqb (s .«section_len») (length section) es i && (eq-eqb (s .«work_len») (length w) ew i && le-leb len (length t′) (omega arith) i))
 
-    pub called : id < s .types → typeCall (withText s true len) section w t′ id ≡ settled s (length w) (length t) (requested (tableFor s section) section id len w t)
+    pub called : id < s .types → typeCall (withText s true len v) section w t′ id ≡ settled s (length w) (length t) (requested (tableFor s section) section id len v w t)
     called l =
-        type-settles (withText s true len) section w t′ id current l
-        ∙ ap (λ (n : ℕ). settled (withText s true len) (length w) n (requested (tableFor s section) section id len w t′)) lt
-        ∙ settled-with s len (length w) (length t) (requested (tableFor s section) section id len w t′)
-        ∙ pair-settled (length w) (length t) _ _ (request-pair (length w) (length t) len t t′ refl lt h same (tableFor s section) section id w refl)
+        type-settles (withText s true len v) section w t′ id current l
+        ∙ ap (λ (n : ℕ). settled (withText s true len v) (length w) n (requested (tableFor s section) section id len v w t′)) lt
+        ∙ settled-with s len v (length w) (length t) (requested (tableFor s section) section id len v w t′)
+        ∙ pair-settled (length w) (length t) _ _ (request-pair (length w) (length t) len t t′ refl lt h same (tableFor s section) section id v w refl)
 
-    pub past : s .types ≤ id → typeCall (withText s true len) section w t′ id ≡ unchanged (withText s true len) (Refused 10 len) w t′
-    past l = type-not-below (withText s true len) section w t′ id current l
+    pub past : s .types ≤ id → typeCall (withText s true len v) section w t′ id ≡ unchanged (withText s true len v) (Refused 10 len) w t′
+    past l = type-not-below (withText s true len v) section w t′ id current l
 
   -- where the loop stands: k accepted, the text has len bytes; whole: what the call comes to
-  module _ (b : Btf) (eb : b ≡ tableFor s section) (ids : List ℕ) (n : ℕ) (whole : Call) (es : s .«section_len» ≡ length section) (k len : ℕ) (w t : List ℕ) (ew : s .«work_len» ≡ length w) (h : len ≤ length t)
-      (e : whole ≡ listFrom k (withText s true len) section w (tailed k len t) (idsFrom ids k (n - k))) where
-    pub list-done : n ≤ k → listEnd s (record { len = len; number = 0; accepted = k }) w t ≡ whole
+  module _ (b : Btf) (eb : b ≡ tableFor s section) (ids : List ℕ) (n : ℕ) (whole : Call) (es : s .«section_len» ≡ length section) (k len v : ℕ) (w t : List ℕ) (ew : s .«work_len» ≡ length w) (h : len ≤ length t)
+      (e : whole ≡ listFrom k (withText s true len v) section w (tailed k len t) (idsFrom ids k (n - k))) where
+    pub list-done : n ≤ k → listEnd s (record { len = len; number = 0; accepted = k; visits = v }) w t ≡ whole
     unfolding listEnd idsFrom listFrom
     list-done l =
         let z : n - k ≡ 0 = omega arith in
-        sym (e ∙ ap (λ (j : ℕ). listFrom k (withText s true len) section w (tailed k len t) (idsFrom ids k j)) z)
+        sym (e ∙ ap (λ (j : ℕ). listFrom k (withText s true len v) section w (tailed k len t) (idsFrom ids k j)) z)
 
     module _ (l : k < n) (id : ℕ) (ei : id ≡ getWord ids k) where
       abbrev rest : Call → Call
       rest c = listFrom (suc k) (c .session) section (c .work) (c .text) (idsFrom ids (k + 1) (n - (k + 1)))
 
-      next : whole ≡ counted k (typeCall (withText s true len) section w (tailed k len t) id) rest
+      next : whole ≡ counted k (typeCall (withText s true len v) section w (tailed k len t) id) rest
       unfolding listFrom
       next =
           e
-          ∙ ap (listFrom k (withText s true len) section w (tailed k len t)) (ids-cons ids k n l)
-          ∙ ap (λ (j : ℕ). counted k (typeCall (withText s true len) section w (tailed k len t) j) rest) (sym ei)
+          ∙ ap (listFrom k (withText s true len v) section w (tailed k len t)) (ids-cons ids k n l)
+          ∙ ap (λ (j : ℕ). counted k (typeCall (withText s true len v) section w (tailed k len t) j) rest) (sym ei)
 
-      pub list-past : s .types ≤ id → listEnd s (record { len = len; number = 10; accepted = k }) w t ≡ whole
+      pub list-past : s .types ≤ id → listEnd s (record { len = len; number = 10; accepted = k; visits = v }) w t ≡ whole
       unfolding listEnd numberOf
       list-past p =
           sym (next
-          ∙ ap (λ (c : Call). counted k c rest) (past es len w t (tailed k len t) ew (tail-length k len t h) h (tail-head k len t h) id p)
-          ∙ counted-stops k 10 (unchanged (withText s true len) (Refused 10 len) w (tailed k len t)) rest refl (λ z. absurd (omega arith)))
+          ∙ ap (λ (c : Call). counted k c rest) (past es len v w t (tailed k len t) ew (tail-length k len t h) h (tail-head k len t h) id p)
+          ∙ counted-stops k 10 (unchanged (withText s true len v) (Refused 10 len) w (tailed k len t)) rest refl (λ z. absurd (omega arith)))
 
-      module _ (p : id < s .types) (r : Reached) (w′ t′ : List ℕ) (er : reachOf r w′ t′ ≡ requested b section id len w t) where
-        came : requested (tableFor s section) section id len w t ≡ reachOf r w′ t′
-        came = sym (er ∙ ap (λ (c : Btf). requested c section id len w t) eb)
+      module _ (p : id < s .types) (r : Reached) (w′ t′ : List ℕ) (er : reachOf r w′ t′ ≡ requested b section id len v w t) where
+        came : requested (tableFor s section) section id len v w t ≡ reachOf r w′ t′
+        came = sym (er ∙ ap (λ (c : Btf). requested c section id len v w t) eb)
 
         onward : whole ≡ counted k (settled s (length w) (length t) (reachOf r w′ t′)) rest
         onward =
             next
-            ∙ ap (λ (c : Call). counted k c rest) (called es len w t (tailed k len t) ew (tail-length k len t h) h (tail-head k len t h) id p ∙ ap (settled s (length w) (length t)) came)
+            ∙ ap (λ (c : Call). counted k c rest) (called es len v w t (tailed k len t) ew (tail-length k len t h) h (tail-head k len t h) id p ∙ ap (settled s (length w) (length t)) came)
 
-        pub list-more : length t′ ≡ length t → r .number ≡ 0 → whole ≡ listFrom (k + 1) (withText s true (r .len)) section w′ (tailed (k + 1) (r .len) t′) (idsFrom ids (k + 1) (n - (k + 1)))
+        pub list-more : length t′ ≡ length t → r .number ≡ 0 → (u : ℕ) → u ≡ visitsIn w′ → whole ≡ listFrom (k + 1) (withText s true (r .len) u) section w′ (tailed (k + 1) (r .len) t′) (idsFrom ids (k + 1) (n - (k + 1)))
         unfolding settled tailed
-        list-more lt z =
+        list-more lt z u eu =
             onward
             ∙ ap (λ (q : Reach). counted k (settled s (length w) (length t) q) rest) (reach-accepted r w′ t′ z)
             ∙ counted-goes k (settled s (length w) (length t) (reached (r .len) w′ t′)) rest (number-is 0 (r .len))
-            ∙ ap (λ (j : ℕ). listFrom (suc k) (withText s true (r .len)) section w′ (thenZeros j (r .len) t′) (idsFrom ids (k + 1) (n - (k + 1)))) (sym lt)
-            ∙ ap (λ (j : ℕ). listFrom j (withText s true (r .len)) section w′ (tailed j (r .len) t′) (idsFrom ids (k + 1) (n - (k + 1)))) (sym (add-one k))
+            ∙ ap (λ (j : ℕ). listFrom (suc k) (withText s true (r .len) (visitsIn w′)) section w′ (thenZeros j (r .len) t′) (idsFrom ids (k + 1) (n - (k + 1)))) (sym lt)
+            ∙ ap (λ (j : ℕ). listFrom j (withText s true (r .len) (visitsIn w′)) section w′ (tailed j (r .len) t′) (idsFrom ids (k + 1) (n - (k + 1)))) (sym (add-one k))
+            ∙ ap (λ (j : ℕ). listFrom (k + 1) (withText s true (r .len) j) section w′ (tailed (k + 1) (r .len) t′) (idsFrom ids (k + 1) (n - (k + 1)))) (sym eu)
 
         listed : (r .number ≡ 0 → ⊥) → Listed (r .number)
         listed z =
-            sane-listed len (take len t) (length t) (requested (tableFor s section) section id len w t)
-            (request-sane len (take len t) (length t) len t (le-refl len) h refl refl (tableFor s section) section id w)
-            (r .number) (r .len) (take (r .len) t′) (came ∙ reach-refused r w′ t′ z)
+            sane-listed len (take len t) (length t) (requested (tableFor s section) section id len v w t)
+            (request-sane len (take len t) (length t) len t (le-refl len) h refl refl (tableFor s section) section id v w)
+            (r .number) (r .len) (r .visits) (take (r .len) t′) (came ∙ reach-refused r w′ t′ z)
 
-        pub list-stop : length w′ ≡ length w → length t′ ≡ length t → (r .number ≡ 0 → ⊥) → listEnd s (record { len = r .len; number = r .number; accepted = k }) w′ t′ ≡ whole
+        pub list-stop : length w′ ≡ length w → length t′ ≡ length t → (r .number ≡ 0 → ⊥) → listEnd s (record { len = r .len; number = r .number; accepted = k; visits = r .visits }) w′ t′ ≡ whole
         unfolding listEnd settled
         list-stop lw lt z =
             let o : 10 < r .number = omega (arith, listed z .0) in
             rw (lt-leb (r .number) 10 o, listEnd)
             (sym (onward
             ∙ ap (λ (q : Reach). counted k (settled s (length w) (length t) q) rest) (reach-refused r w′ t′ z)
-            ∙ counted-stops k (r .number) (settled s (length w) (length t) (refusedBy (r .number) (r .len) (take (r .len) t′))) rest (number-is (r .number) (r .len)) z
-            ∙ sym (λ i. callOf (withText s false (r .len)) (answerOf (r .number) k) (replicate (lw i) 0) (thenZeros (lt i) (r .len) (take (r .len) t′)))
-            ∙ ap (callOf (withText s false (r .len)) (answerOf (r .number) k) (replicate (length w′) 0)) (zeros-twice (length t′) (r .len) t′)))
+            ∙ counted-stops k (r .number) (settled s (length w) (length t) (refusedBy (r .number) (r .len) (r .visits) (take (r .len) t′))) rest (number-is (r .number) (r .len)) z
+            ∙ sym (λ i. callOf (withText s false (r .len) (r .visits)) (answerOf (r .number) k) (replicate (lw i) 0) (thenZeros (lt i) (r .len) (take (r .len) t′)))
+            ∙ ap (callOf (withText s false (r .len) (r .visits)) (answerOf (r .number) k) (replicate (length w′) 0)) (zeros-twice (length t′) (r .len) t′)))
 
   module _ (w t : List ℕ) (h : isCurrent s (length section) (length w) (length t) ≡ true) where
     parts : (eqb (s .«section_len») (length section) ≡ true) × (eqb (s .«work_len») (length w) ≡ true)
@@ -232,12 +233,12 @@ module _ (s : Session) (section : List ℕ) where
         first-of true q e = refl
         first-of false q e = e
 
-    pub list-start : (ids : List ℕ) (n : ℕ) → n ≡ countIn ids → listCall s section w t (idsIn ids) ≡ listFrom 0 (withText s true (s .«text_len»)) section w (tailed 0 (s .«text_len») t) (idsFrom ids 0 (n - 0))
+    pub list-start : (ids : List ℕ) (n : ℕ) → n ≡ countIn ids → listCall s section w t (idsIn ids) ≡ listFrom 0 (withText s true (s .«text_len») (s .visits)) section w (tailed 0 (s .«text_len») t) (idsFrom ids 0 (n - 0))
     unfolding listCall tailed
     list-start ids n e =
         let z : countIn ids ≡ n - 0 = omega arith in
         ap (listFrom 0 s section w t) (ids-all ids ∙ ap (idsFrom ids 0) z)
-        ∙ ap (λ (o : Bool). listFrom 0 (withText s o (s .«text_len»)) section w t (idsFrom ids 0 (n - 0))) open-now
+        ∙ ap (λ (o : Bool). listFrom 0 (withText s o (s .«text_len») (s .visits)) section w t (idsFrom ids 0 (n - 0))) open-now
 
 -- ---- dump_list_core
 module _ (s : Session) (section w t ids : List ℕ) where
@@ -261,6 +262,9 @@ pub record Single (s : Session) (t : List ℕ) (c : Call) : Type 0 where
   pub long : length (c .text) ≡ length t
   pub untouched : numberOf (c .answer) < 12 → (numberOf (c .answer) ≡ 0 → ⊥) → c .session ≡ s
   pub formed : c .answer ≡ answerOf (numberOf (c .answer)) (valueOf (c .answer))
+  -- "the counted visits [..] are kept in the record", and a refusal leaves them
+  pub counts : numberOf (c .answer) ≡ 0 → c .session .visits ≡ visitsIn (c .work)
+  pub leaves : (numberOf (c .answer) ≡ 0 → ⊥) → c .session .visits ≡ s .visits
 
 formed-of : (n v : ℕ) → answerOf n v ≡ answerOf (numberOf (answerOf n v)) (valueOf (answerOf n v))
 formed-of n v = sym (λ i. answerOf (number-is n v i) (value-is n v i))
@@ -268,20 +272,22 @@ formed-of n v = sym (λ i. answerOf (number-is n v i) (value-is n v i))
 settled-formed : (s : Session) (wn tn : ℕ) (r : Reach) → settled s wn tn r .answer ≡ answerOf (numberOf (settled s wn tn r .answer)) (valueOf (settled s wn tn r .answer))
 unfolding settled
 settled-formed s wn tn (reached len w t) = formed-of 0 len
-settled-formed s wn tn (refusedBy c len t) = formed-of c len
+settled-formed s wn tn (refusedBy c len v t) = formed-of c len
 
 module _ (s : Session) (section w t : List ℕ) where
   refused-single : (n : ℕ) → Single s t (unchanged s (Refused (suc n) (s .«text_len»)) w t)
   unfolding valueOf numberOf answerOf
-  refused-single n = record { value-same = refl; grows = le-refl (s .«text_len»); long = refl; untouched = λ l z. refl; formed = refl }
+  refused-single n = record { value-same = refl; grows = le-refl (s .«text_len»); long = refl; untouched = λ l z. refl; formed = refl; counts = λ z. absurd (omega arith); leaves = λ z. refl }
 
-  kept-single : (c : Call) → Kept s t c → (q : Reach) → c ≡ settled s (length w) (length t) q → Single s t c
-  kept-single c k q e = record {
+  kept-single : (c : Call) → Kept s t c → (q : Reach) → Visited (s .visits) q → c ≡ settled s (length w) (length t) q → Single s t c
+  kept-single c k q v e = record {
     value-same = k .value-kept;
     grows = k .grows;
     long = k .length-kept;
     untouched = λ l z. absurd (⊎-elim z (λ q. omega (arith, q .0)) (k .number-kept));
     formed = subst (λ (d : Call). d .answer ≡ answerOf (numberOf (d .answer)) (valueOf (d .answer))) (sym e) (settled-formed s (length w) (length t) q);
+    counts = subst (λ (d : Call). numberOf (d .answer) ≡ 0 → d .session .visits ≡ visitsIn (d .work)) (sym e) (accepted-counts s (length w) (length t) (s .visits) q v);
+    leaves = subst (λ (d : Call). (numberOf (d .answer) ≡ 0 → ⊥) → d .session .visits ≡ s .visits) (sym e) (refused-counts s (length w) (length t) (s .visits) q v);
   }
 
   pub type-single : (id : ℕ) → Single s t (typeCall s section w t id)
@@ -292,7 +298,7 @@ module _ (s : Session) (section w t : List ℕ) where
       go true false e f = subst (Single s t) (sym (type-not-below s section w t id e (ltb-false id (s .types) f))) (refused-single 9)
       go true true e f =
           kept-single (typeCall s section w t id) (type-current s section w t id e (ltb-true id (s .types) f))
-          (requested (tableFor s section) section id (s .«text_len») w t) (type-settles s section w t id e (ltb-true id (s .types) f))
+          (requested (tableFor s section) section id (s .«text_len») (s .visits) w t) (request-counts (tableFor s section) section id (s .«text_len») (s .visits) w t) (type-settles s section w t id e (ltb-true id (s .types) f))
 
 -- ---- a list after another
 -- after a call that was accepted for a list comes another list

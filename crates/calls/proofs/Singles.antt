@@ -32,7 +32,7 @@ use Rattle.sheet.specs.Sheet.{Sheet, sheetStore, sheetOf, emptied, lineIn, work
 use Rattle.header.specs.Header.{btfOf as settingsOf}
 use Rattle.turns.specs.declared.Session.{Session}
 use Rattle.turns.specs.Answers.{numberOf, answerOf}
-use Rattle.turns.specs.Turns.{Call, isCurrent, Reach, reached, refusedBy, withText, thenZeros, settled, tableFor}
+use Rattle.turns.specs.Turns.{Call, isCurrent, Reach, reached, refusedBy, withText, thenZeros, settled, tableFor, visitsIn}
 use Rattle.calls.specs.Calls.{limitOf, cameTo, lentTo, requested, onward, requestedFrom, typeCall, typesCall}
 use Rattle.calls.proofs.Fair.{Listed, Fair, goes, stops, Fairly, fair-dumped, Inside, fair-line, placed}
 use Rattle.calls.proofs.Laws.{limit-between}
@@ -122,7 +122,7 @@ module _ (b : Btf) (B : Rules) where
 -- ---- one request on two texts that agree up to len
 pub data Pair (wn tn : ℕ) : Reach → Reach → Type 0 where
   on-both : (len : ℕ) (w t t′ : List ℕ) → len ≤ tn → length w ≡ wn → length t ≡ tn → take len t ≡ take len t′ → Pair wn tn (reached len w t) (reached len w t′)
-  off-both : (c len : ℕ) (t : List ℕ) → Listed c → Pair wn tn (refusedBy c len t) (refusedBy c len t)
+  off-both : (c len v : ℕ) (t : List ℕ) → Listed c → Pair wn tn (refusedBy c len v t) (refusedBy c len v t)
 
 placed-take : (t u : List ℕ) (len at : ℕ) → len ≤ length t → at ≤ length u → take (len + at) (place t len u) ≡ take len t ++ take at u
 placed-take t u len at h k =
@@ -133,23 +133,23 @@ placed-take t u len at h k =
     ∙ ap (λ (l : List ℕ). take len t ++ l) (take-append-le at u (drop (len + length u) t) k)
 
 module _ (wn tn len : ℕ) (t t′ : List ℕ) (lt : length t ≡ tn) (lt′ : length t′ ≡ tn) (high : len ≤ tn) (same : take len t ≡ take len t′) where
-  came-pair : (k : ℕ) → len + k ≤ tn → (o o′ : Out Sheet) → Both Like o o′ → Fair (Sized k wn) o → Pair wn tn (cameTo len t o) (cameTo len t′ o′)
+  came-pair : (v k : ℕ) → len + k ≤ tn → (o o′ : Out Sheet) → Both Like o o′ → Fair (Sized k wn) o → Pair wn tn (cameTo len v t o) (cameTo len v t′ o′)
   unfolding cameTo
-  came-pair k fits _ _ (go-both _ _ (like w u u′ at ln h long eq)) (goes _ g) =
+  came-pair v k fits _ _ (go-both _ _ (like w u u′ at ln h long eq)) (goes _ g) =
       let room : len + length u ≤ length t = omega (arith, g .1) in
       on-both (len + at) w (place t len u) (place t′ len u′) (omega (arith, g .0, g .1)) (g .2) (placed t len u room ∙ lt)
       (placed-take t u len at (omega arith) h ∙ (λ i. same i ++ eq i) ∙ sym (placed-take t′ u′ len at (omega arith) (omega arith)))
-  came-pair k fits _ _ (stop-both c) (stops _ l) = subst (λ (p : List ℕ). Pair wn tn (refusedBy c len (take len t)) (refusedBy c len p)) same (off-both c len (take len t) l)
+  came-pair v k fits _ _ (stop-both c) (stops _ l) = subst (λ (p : List ℕ). Pair wn tn (refusedBy c len v (take len t)) (refusedBy c len v p)) same (off-both c len v (take len t) l)
 
-  pub request-pair : (b : Btf) (s : List ℕ) (id : ℕ) (w : List ℕ) → length w ≡ wn → Pair wn tn (requested b s id len w t) (requested b s id len w t′)
+  pub request-pair : (b : Btf) (s : List ℕ) (id v : ℕ) (w : List ℕ) → length w ≡ wn → Pair wn tn (requested b s id len v w t) (requested b s id len v w t′)
   unfolding requested
-  request-pair b s id w lw =
+  request-pair b s id v w lw =
       let lim : (len ≤ limitOf (length t) len) × (limitOf (length t) len ≤ length t) = limit-between (length t) len (omega arith) in
       let lim′ : (len ≤ limitOf (length t′) len) × (limitOf (length t′) len ≤ length t′) = limit-between (length t′) len (omega arith) in
       let size : length (lentTo len t) ≡ limitOf (length t) len - len = mid-len len (limitOf (length t) len) t (lim .1) in
       let size′ : length (lentTo len t′) ≡ limitOf (length t′) len - len = mid-len len (limitOf (length t′) len) t′ (lim′ .1) in
       let one : limitOf (length t) len ≡ limitOf (length t′) len = ap (λ (n : ℕ). limitOf n len) (lt ∙ sym lt′) in
-      came-pair (length (lentTo len t)) (omega (arith, lim .0, lim .1, size)) _ _
+      came-pair v (length (lentTo len t)) (omega (arith, lim .0, lim .1, size)) _ _
       (both-request b (btfOf b s w) w (lentTo len t) (lentTo len t′) id (size ∙ ap (λ (n : ℕ). n - len) one ∙ sym size′))
       (subst (λ (n : ℕ). Fair (Sized (length (lentTo len t)) n) (dumped (workMachine b (btfOf b s w)) (tableOf (btfOf b s w)) (record { work = w; text = lentTo len t; at = 0; len = 0 }) id)) lw (sized-request b (btfOf b s w) w (lentTo len t) id))
 
@@ -167,18 +167,18 @@ singles-stop section (suc n) id c h = go (numberOf (c .answer)) refl
     go zero e = absurd (h e)
     go (suc k) e = rw (e, singles)
 
-pub settled-with : (s : Session) (len wn tn : ℕ) (r : Reach) → settled (withText s true len) wn tn r ≡ settled s wn tn r
+pub settled-with : (s : Session) (len v wn tn : ℕ) (r : Reach) → settled (withText s true len v) wn tn r ≡ settled s wn tn r
 unfolding settled
-settled-with s len wn tn (reached l w t) = refl
-settled-with s len wn tn (refusedBy c l t) = refl
+settled-with s len v wn tn (reached l w t) = refl
+settled-with s len v wn tn (refusedBy c l u t) = refl
 
 pub settled-tail : (s : Session) (wn tn len : ℕ) (w t t′ : List ℕ) → take len t ≡ take len t′ → settled s wn tn (reached len w t) ≡ settled s wn tn (reached len w t′)
 unfolding settled thenZeros
-settled-tail s wn tn len w t t′ e = λ i. record { session = withText s true len; answer = answerOf 0 len; work = w; text = e i ++ replicate (tn - len) 0 }
+settled-tail s wn tn len w t t′ e = λ i. record { session = withText s true len (visitsIn w); answer = answerOf 0 len; work = w; text = e i ++ replicate (tn - len) 0 }
 
-settled-number : (s : Session) (wn tn c len : ℕ) (t : List ℕ) → Listed c → numberOf (settled s wn tn (refusedBy c len t) .answer) ≡ 0 → ⊥
+settled-number : (s : Session) (wn tn c len v : ℕ) (t : List ℕ) → Listed c → numberOf (settled s wn tn (refusedBy c len v t) .answer) ≡ 0 → ⊥
 unfolding settled
-settled-number s wn tn c len t l e = let z : numberOf (answerOf c len) ≡ c = number-is c len in omega (arith, l .0)
+settled-number s wn tn c len v t l e = let z : numberOf (answerOf c len) ≡ c = number-is c len in omega (arith, l .0)
 
 module _ (s : Session) (section : List ℕ) (wn tn : ℕ) (es : s .«section_len» ≡ length section) (ew : s .«work_len» ≡ wn) where
   abbrev Goal : ℕ → ℕ → ℕ → List ℕ → List ℕ → Type 0
@@ -188,24 +188,24 @@ module _ (s : Session) (section : List ℕ) (wn tn : ℕ) (es : s .«section_len
       → settled s wn tn (onward r (requestedFrom (tableFor s section) section n (suc id))) ≡ singles section n (suc id) (settled s wn tn r′)
   unfolding onward
   next n id ih _ _ (on-both len w t t′ h lw lt e) = ih len w t lw lt h ∙ ap (singles section n (suc id)) (settled-tail s wn tn len w t t′ e)
-  next n id ih _ _ (off-both c len t l) = sym (singles-stop section n (suc id) (settled s wn tn (refusedBy c len t)) (settled-number s wn tn c len t l))
+  next n id ih _ _ (off-both c len v t l) = sym (singles-stop section n (suc id) (settled s wn tn (refusedBy c len v t)) (settled-number s wn tn c len v t l))
 
   module _ (len : ℕ) (w t : List ℕ) (lw : length w ≡ wn) (lt : length t ≡ tn) (h : len ≤ tn) where
     zeroed : length (thenZeros tn len t) ≡ tn
     zeroed = zeros-length len tn t (omega arith) h
 
-    still : isCurrent (withText s true len) (length section) (length w) (length (thenZeros tn len t)) ≡ true
+    still : isCurrent (withText s true len (visitsIn w)) (length section) (length w) (length (thenZeros tn len t)) ≡ true
     unfolding isCurrent
     still = λ i. true && (eq-eqb (s .«section_len») (length section) es i && (eq-eqb (s .«work_len») (length w) (ew ∙ sym lw) i && le-leb len (length (thenZeros tn len t)) (omega (arith, zeroed)) i))
 
     -- the next single call
-    called : (id : ℕ) → id < s .types → typeCall (withText s true len) section w (thenZeros tn len t) id ≡ settled s wn tn (requested (tableFor s section) section id len w (thenZeros tn len t))
+    called : (id : ℕ) → id < s .types → typeCall (withText s true len (visitsIn w)) section w (thenZeros tn len t) id ≡ settled s wn tn (requested (tableFor s section) section id len (visitsIn w) w (thenZeros tn len t))
     called id i =
-        type-settles (withText s true len) section w (thenZeros tn len t) id still i
-        ∙ (λ j. settled (withText s true len) (lw j) (zeroed j) (requested (tableFor s section) section id len w (thenZeros tn len t)))
-        ∙ settled-with s len wn tn (requested (tableFor s section) section id len w (thenZeros tn len t))
+        type-settles (withText s true len (visitsIn w)) section w (thenZeros tn len t) id still i
+        ∙ (λ j. settled (withText s true len (visitsIn w)) (lw j) (zeroed j) (requested (tableFor s section) section id len (visitsIn w) w (thenZeros tn len t)))
+        ∙ settled-with s len (visitsIn w) wn tn (requested (tableFor s section) section id len (visitsIn w) w (thenZeros tn len t))
 
-    unrolled : (n id : ℕ) → singles section (suc n) id (settled s wn tn (reached len w t)) ≡ singles section n (suc id) (typeCall (withText s true len) section w (thenZeros tn len t) id)
+    unrolled : (n id : ℕ) → singles section (suc n) id (settled s wn tn (reached len w t)) ≡ singles section n (suc id) (typeCall (withText s true len (visitsIn w)) section w (thenZeros tn len t) id)
     unfolding singles settled answerOf numberOf
     unrolled n id = refl
 
@@ -215,8 +215,8 @@ module _ (s : Session) (section : List ℕ) (wn tn : ℕ) (es : s .«section_len
   from-singles (suc n) id below len w t lw lt h =
       let i : id < s .types = omega (arith, below 0 (omega arith)) in
       next n id (λ len′ w′ t′. from-singles n (suc id) (λ k l. omega (arith, below (suc k) (omega arith))) len′ w′ t′)
-      (requested (tableFor s section) section id len w t) (requested (tableFor s section) section id len w (thenZeros tn len t))
-      (request-pair wn tn len t (thenZeros tn len t) lt (zeroed len w t lw lt h) h (sym (zeros-head len tn t (omega arith) h len (le-refl len))) (tableFor s section) section id w lw)
+      (requested (tableFor s section) section id len (visitsIn w) w t) (requested (tableFor s section) section id len (visitsIn w) w (thenZeros tn len t))
+      (request-pair wn tn len t (thenZeros tn len t) lt (zeroed len w t lw lt h) h (sym (zeros-head len tn t (omega arith) h len (le-refl len))) (tableFor s section) section id (visitsIn w) w lw)
       ∙ sym (ap (singles section n (suc id)) (called len w t lw lt h id i))
       ∙ sym (unrolled len w t lw lt h n id)
 

@@ -14,7 +14,7 @@ use Rattle.sheet.specs.Sheet.{Sheet, workMachine, dumped}
 use Rattle.turns.specs.declared.Session.{Session}
 use Rattle.turns.specs.declared.Reached.{Reached}
 use Rattle.turns.specs.Answers.{answerOf}
-use Rattle.turns.specs.Turns.{Call, isCurrent, tableFor, Reach, reached, refusedBy, settled, unchanged}
+use Rattle.turns.specs.Turns.{Call, isCurrent, tableFor, Reach, reached, refusedBy, visitsIn, settled, unchanged}
 use Rattle.calls.specs.Refusals.{notCurrent, idNotBelow, refusal}
 
 -- ---- opening
@@ -33,6 +33,7 @@ openedCall s section work pointer modes (opened types enumerators w t) = record 
     «text_len» = 0;
     «pointer_size» = pointer;
     modes = modes % 16;
+    visits = 0;
   };
   answer = answerOf 0 types;
   work = w;
@@ -48,33 +49,34 @@ openCall s section work text pointer modes = openedCall s (length section) (leng
 unfoldable pub limitOf : ℕ → ℕ → ℕ
 limitOf n len = elim (leb n 1073741824) [ true ↦ n | false ↦ elim (leb len 1073741824) [ true ↦ 1073741824 | false ↦ len ] ]
 
--- what a place in a slice of so many bytes says, after a text of len bytes
-unfoldable pub arrivedAt : ℕ → ℕ → ℕ → Reached
-arrivedAt len room at = elim (leb at room) [ true ↦ record { len = len + at; number = 0 } | false ↦ record { len = len; number = at - (room + 1) } ]
+-- what a place in a slice of so many bytes says, after a text of len bytes and v visits
+unfoldable pub arrivedAt : ℕ → ℕ → ℕ → ℕ → Reached
+arrivedAt len v room at = elim (leb at room) [ true ↦ record { len = len + at; number = 0; visits = v } | false ↦ record { len = len; number = at - (room + 1); visits = v } ]
 
--- what a dump in the slice after the first len bytes of t leaves there
-unfoldable pub cameTo : ℕ → List ℕ → Out Sheet → Reach
-cameTo len t (wrote m) = reached (len + m .at) (m .work) (place t len (m .text))
-cameTo len t (stuck c) = refusedBy c len (take len t)
+-- what a dump in the slice after the first len bytes of t leaves there, where v visits were counted before it
+unfoldable pub cameTo : ℕ → ℕ → List ℕ → Out Sheet → Reach
+cameTo len v t (wrote m) = reached (len + m .at) (m .work) (place t len (m .text))
+cameTo len v t (stuck c) = refusedBy c len v (take len t)
 
 -- the slice that a request is lent: what follows the text so far, up to the limit
 abbrev pub lentTo : ℕ → List ℕ → List ℕ
 lentTo len t = take (limitOf (length t) len - len) (drop len t)
 
--- One request for an id, after a text of len bytes: the rules over the work, on that slice from its start.
-unfoldable pub requested : Btf → List ℕ → ℕ → ℕ → List ℕ → List ℕ → Reach
-requested b s id len w t =
-    cameTo len t (dumped (workMachine b (btfOf b s w)) (tableOf (btfOf b s w)) (record { work = w; text = lentTo len t; at = 0; len = 0 }) id)
+-- One request for an id, after a text of len bytes and v visits: the rules over the work, on that slice from its start.
+unfoldable pub requested : Btf → List ℕ → ℕ → ℕ → ℕ → List ℕ → List ℕ → Reach
+requested b s id len v w t =
+    cameTo len v t (dumped (workMachine b (btfOf b s w)) (tableOf (btfOf b s w)) (record { work = w; text = lentTo len t; at = 0; len = 0 }) id)
 
 -- after a refusal comes nothing
 unfoldable pub onward : Reach → (ℕ → List ℕ → List ℕ → Reach) → Reach
 onward (reached len w t) k = k len w t
-onward (refusedBy c len t) k = refusedBy c len t
+onward (refusedBy c len v t) k = refusedBy c len v t
 
--- "then the single requests from 1 upward, so a refusal keeps the text of those before it and returns its length": n ids from id on
+-- "then the single requests from 1 upward, so a refusal keeps the text of those before it and returns its length": n ids from id on. The
+-- visits before each are those that the work counts.
 unfoldable pub requestedFrom : Btf → List ℕ → ℕ → ℕ → ℕ → List ℕ → List ℕ → Reach
 requestedFrom b s zero id len w t = reached len w t
-requestedFrom b s (suc n) id len w t = onward (requested b s id len w t) (requestedFrom b s n (suc id))
+requestedFrom b s (suc n) id len w t = onward (requested b s id len (visitsIn w) w t) (requestedFrom b s n (suc id))
 
 unfoldable pub typeCall : Session → List ℕ → List ℕ → List ℕ → ℕ → Call
 typeCall s section work text id =
@@ -82,7 +84,7 @@ typeCall s section work text id =
       | false ↦ unchanged s (refusal notCurrent (s .«text_len»)) work text
       | true ↦ elim (ltb id (s .types)) [
         | false ↦ unchanged s (refusal idNotBelow (s .«text_len»)) work text
-        | true ↦ settled s (length work) (length text) (requested (tableFor s section) section id (s .«text_len») work text)
+        | true ↦ settled s (length work) (length text) (requested (tableFor s section) section id (s .«text_len») (s .visits) work text)
       ]
     ]
 

@@ -44,6 +44,6 @@ tailed (suc n) len t = thenZeros (length t) len t
 unfoldable pub listEnd : Session → Tally → List ℕ → List ℕ → Call
 listEnd s r w t =
     elim (leb (r .number) 10) [
-      | true ↦ callOf (withText s true (r .len)) (answerOf (r .number) (r .accepted)) w (tailed (r .accepted) (r .len) t)
-      | false ↦ callOf (withText s false (r .len)) (answerOf (r .number) (r .accepted)) (replicate (length w) 0) (thenZeros (length t) (r .len) t)
+      | true ↦ callOf (withText s true (r .len) (r .visits)) (answerOf (r .number) (r .accepted)) w (tailed (r .accepted) (r .len) t)
+      | false ↦ callOf (withText s false (r .len) (r .visits)) (answerOf (r .number) (r .accepted)) (replicate (length w) 0) (thenZeros (length t) (r .len) t)
     ]

@@ -17,7 +17,7 @@ use Rattle.sheet.specs.Sheet.{Sheet, workMachine, listedOut, dumped}
 use Rattle.turns.specs.declared.Session.{Session}
 use Rattle.turns.specs.Answers.{numberOf, answerOf}
 use Rattle.calls.specs.Refusals.{notCurrent, idNotBelow, refusal}
-use Rattle.turns.specs.Turns.{Call, isCurrent, Reach, reached, refusedBy, settled, unchanged, tableFor}
+use Rattle.turns.specs.Turns.{Call, isCurrent, Reach, reached, refusedBy, settled, unchanged, tableFor, visitsIn}
 use Rattle.calls.specs.Calls.{cameTo, lentTo, requested, onward, requestedFrom, typeCall, typesCall}
 use Rattle.causes.specs.Causes.{Entry, Led, orderLed, listedEntry, Noted, upTo, always, emitNoted, eachListed, showsIn, filled, entriesIn}
 use Rattle.causes.specs.Claims.{forget, Numbered, Lined, Listed}
@@ -53,7 +53,7 @@ module _ {M : Type 0} (X : Machine M) (T : Table) (shows : ℕ → Bool) where
 
 -- ---- where requests have come to
 abbrev Short : Reach → Type 0
-Short r = (len : ℕ) × (t : List ℕ) × (r ≡ refusedBy 17 len t)
+Short r = (len : ℕ) × (v : ℕ) × (t : List ℕ) × (r ≡ refusedBy 17 len v t)
 
 record ReachFits (k : ℕ) (F : (ℕ → Bool) → Reached) (P : Reach) : Type 0 where
   same : F always .reach ≡ P
@@ -66,40 +66,40 @@ record ReachFits (k : ℕ) (F : (ℕ → Bool) → Reached) (P : Reach) : Type 0
 
 abbrev isReached : Reach → ℕ
 isReached (reached len w t) = 1
-isReached (refusedBy c len t) = 0
+isReached (refusedBy c len v t) = 0
 
-module _ (len : ℕ) (t : List ℕ) (es : List Entry) where
+module _ (len v : ℕ) (t : List ℕ) (es : List Entry) where
   after-held : (n : ℕ) → length es ≤ n → (o : Out (Noted Sheet)) → ((m : Noted Sheet) → o ≡ wrote m → length (m .entries) ≡ n) → length (entriesAfter es o) ≤ n
   unfolding entriesAfter
   after-held n l (wrote m) h = let q : length (m .entries) ≡ n = h m refl in omega arith
   after-held n l (stuck c) h = l
 
-  after-counts : (n : ℕ) (o : Out (Noted Sheet)) → ((m : Noted Sheet) → o ≡ wrote m → length (m .entries) ≡ n) → isReached (cameTo len t (forget o)) ≡ 1 → length (entriesAfter es o) ≡ n
+  after-counts : (n : ℕ) (o : Out (Noted Sheet)) → ((m : Noted Sheet) → o ≡ wrote m → length (m .entries) ≡ n) → isReached (cameTo len v t (forget o)) ≡ 1 → length (entriesAfter es o) ≡ n
   unfolding entriesAfter cameTo forget
   after-counts n (wrote m) h q = h m refl
   after-counts n (stuck c) h q = absurd (let z : _≡_ {A = ℕ} 0 1 = q in omega arith)
 
-  stuck-short : Short (cameTo len t (forget (stuck 17)))
+  stuck-short : Short (cameTo len v t (forget (stuck 17)))
   unfolding cameTo forget
-  stuck-short = (len, _, refl)
+  stuck-short = (len, v, _, refl)
 
-  came-fits : (F : (ℕ → Bool) → Out (Noted Sheet)) (P : Out Sheet) → Lined ⊥ (length es) F P → ReachFits (length es) (λ r. cameToNoted len t es (F r)) (cameTo len t P)
+  came-fits : (F : (ℕ → Bool) → Out (Noted Sheet)) (P : Out Sheet) → Lined ⊥ (length es) F P → ReachFits (length es) (λ r. cameToNoted len v t es (F r)) (cameTo len v t P)
   unfolding cameToNoted
   came-fits F P h = record {
-    same = ap (cameTo len t) (h .same);
+    same = ap (cameTo len v t) (h .same);
     need = h .need;
     from = h .from;
     held = after-held (h .need) (h .from) (F always) (h .counts);
-    fits = λ c l. ap (cameToNoted len t es) (h .fits c l);
-    short = λ c l q. subst (λ (o : Out (Noted Sheet)). Short (cameTo len t (forget o))) (sym (h .short c l q)) stuck-short;
+    fits = λ c l. ap (cameToNoted len v t es) (h .fits c l);
+    short = λ c l q. subst (λ (o : Out (Noted Sheet)). Short (cameTo len v t (forget o))) (sym (h .short c l q)) stuck-short;
     counts = λ n w u e. after-counts (h .need) (F always) (h .counts) (ap isReached e);
   }
 
 module _ (b : Btf) (s : List ℕ) where
-  requested-fits : (id : ℕ) (es : List Entry) (len : ℕ) (w t : List ℕ) → ReachFits (length es) (λ r. requestedNoted r b s id es len w t) (requested b s id len w t)
+  requested-fits : (id : ℕ) (es : List Entry) (len v : ℕ) (w t : List ℕ) → ReachFits (length es) (λ r. requestedNoted r b s id es len v w t) (requested b s id len v w t)
   unfolding requestedNoted requested
-  requested-fits id es len w t =
-      came-fits len t es (λ r. dumpedNoted (workMachine b (btfOf b s w)) (tableOf (btfOf b s w)) r (showsIn (btfOf b s w)) (record { work = w; text = lentTo len t; at = 0; len = 0 }) es id)
+  requested-fits id es len v w t =
+      came-fits len v t es (λ r. dumpedNoted (workMachine b (btfOf b s w)) (tableOf (btfOf b s w)) r (showsIn (btfOf b s w)) (record { work = w; text = lentTo len t; at = 0; len = 0 }) es id)
       (dumped (workMachine b (btfOf b s w)) (tableOf (btfOf b s w)) (record { work = w; text = lentTo len t; at = 0; len = 0 }) id)
       (dumped-lined (workMachine b (btfOf b s w)) (tableOf (btfOf b s w)) (showsIn (btfOf b s w)) (record { work = w; text = lentTo len t; at = 0; len = 0 }) es id)
 
@@ -112,22 +112,22 @@ module _ (b : Btf) (s : List ℕ) where
     goes : (r : ℕ → Bool) (u : Reached) → F r ≡ u → (len : ℕ) (w t : List ℕ) → u .reach ≡ reached len w t → next r ≡ g r (u .entries) len w t
     unfolding onwardNoted
     goes r u e len w t q =
-        ap (λ (v : Reached). onwardNoted r b s v (g r)) e ∙ ap (λ (x : Reach). elim x as (λ (y : Reach). Reached) [ reached len′ w′ t′ ↦ g r (u .entries) len′ w′ t′ | refusedBy c′ len′ t′ ↦ u ]) q
+        ap (λ (v : Reached). onwardNoted r b s v (g r)) e ∙ ap (λ (x : Reach). elim x as (λ (y : Reach). Reached) [ reached len′ w′ t′ ↦ g r (u .entries) len′ w′ t′ | refusedBy c′ len′ v′ t′ ↦ u ]) q
 
-    stops : (r : ℕ → Bool) (c len : ℕ) (t : List ℕ) → F r .reach ≡ refusedBy c len t → next r ≡ F r
+    stops : (r : ℕ → Bool) (c len v : ℕ) (t : List ℕ) → F r .reach ≡ refusedBy c len v t → next r ≡ F r
     unfolding onwardNoted
-    stops r c len t q = ap (λ (x : Reach). elim x as (λ (y : Reach). Reached) [ reached len′ w′ t′ ↦ g r (F r .entries) len′ w′ t′ | refusedBy c′ len′ t′ ↦ F r ]) q
+    stops r c len v t q = ap (λ (x : Reach). elim x as (λ (y : Reach). Reached) [ reached len′ w′ t′ ↦ g r (F r .entries) len′ w′ t′ | refusedBy c′ len′ v′ t′ ↦ F r ]) q
 
     short-stops : (r : ℕ → Bool) → Short (F r .reach) → Short (next r .reach)
-    short-stops r q = (q .0, q .1, ap (λ (u : Reached). u .reach) (stops r 17 (q .0) (q .1) (q .2)) ∙ q .2)
+    short-stops r q = (q .0, q .1, q .2, ap (λ (u : Reached). u .reach) (stops r 17 (q .0) (q .1) (q .2) (q .3)) ∙ q .3)
 
     plain-goes : (len : ℕ) (w t : List ℕ) → P ≡ reached len w t → onward P p ≡ p len w t
     unfolding onward
     plain-goes len w t e = ap (λ (x : Reach). onward x p) e
 
-    plain-stops : (c len : ℕ) (t : List ℕ) → P ≡ refusedBy c len t → onward P p ≡ P
+    plain-stops : (c len v : ℕ) (t : List ℕ) → P ≡ refusedBy c len v t → onward P p ≡ P
     unfolding onward
-    plain-stops c len t e = ap (λ (x : Reach). onward x p) e ∙ sym e
+    plain-stops c len v t e = ap (λ (x : Reach). onward x p) e ∙ sym e
 
     by : (x : Reach) → F always .reach ≡ x → ReachFits k next (onward P p)
     by (reached len w t) e =
@@ -147,14 +147,14 @@ module _ (b : Btf) (s : List ℕ) where
               (λ f. short-stops (upTo c) (h .short c l f)) (le-or-lt (h .need) c);
           counts = λ len′ w′ t′ z. ap (λ (v : Reached). length (v .entries)) (goes always u refl len w t e) ∙ q .counts len′ w′ t′ (sym (ap (λ (v : Reached). v .reach) (goes always u refl len w t e)) ∙ z);
         }
-    by (refusedBy d len t) e = record {
-      same = ap (λ (v : Reached). v .reach) (stops always d len t e) ∙ h .same ∙ sym (plain-stops d len t (sym (h .same) ∙ e));
+    by (refusedBy d len i t) e = record {
+      same = ap (λ (v : Reached). v .reach) (stops always d len i t e) ∙ h .same ∙ sym (plain-stops d len i t (sym (h .same) ∙ e));
       need = h .need;
       from = h .from;
-      held = subst (λ (v : Reached). length (v .entries) ≤ h .need) (sym (stops always d len t e)) (h .held);
-      fits = λ c l. stops (upTo c) d len t (ap (λ (v : Reached). v .reach) (h .fits c l) ∙ e) ∙ h .fits c l ∙ sym (stops always d len t e);
+      held = subst (λ (v : Reached). length (v .entries) ≤ h .need) (sym (stops always d len i t e)) (h .held);
+      fits = λ c l. stops (upTo c) d len i t (ap (λ (v : Reached). v .reach) (h .fits c l) ∙ e) ∙ h .fits c l ∙ sym (stops always d len i t e);
       short = λ c l z. short-stops (upTo c) (h .short c l z);
-      counts = λ len′ w′ t′ z. absurd (let q : _≡_ {A = ℕ} 0 1 = ap isReached (sym e ∙ sym (ap (λ (v : Reached). v .reach) (stops always d len t e)) ∙ z) in omega arith);
+      counts = λ len′ w′ t′ z. absurd (let q : _≡_ {A = ℕ} 0 1 = ap isReached (sym e ∙ sym (ap (λ (v : Reached). v .reach) (stops always d len i t e)) ∙ z) in omega arith);
     }
 
     onward-fits : ReachFits k next (onward P p)
@@ -164,7 +164,7 @@ module _ (b : Btf) (s : List ℕ) where
   unfolding requestedFromNoted requestedFrom
   from-fits zero id es len w t = record { same = refl; need = length es; from = omega arith; held = omega arith; fits = λ c l. refl; short = λ c l q. absurd (omega arith); counts = λ len′ w′ t′ e. refl }
   from-fits (suc n) id es len w t =
-      onward-fits (length es) (λ r. requestedNoted r b s id es len w t) (requested b s id len w t) (requested-fits id es len w t) (λ r. requestedFromNoted r b s n (suc id)) (requestedFrom b s n (suc id)) (λ es′ len′ w′ t′. from-fits n (suc id) es′ len′ w′ t′)
+      onward-fits (length es) (λ r. requestedNoted r b s id es len (visitsIn w) w t) (requested b s id len (visitsIn w) w t) (requested-fits id es len (visitsIn w) w t) (λ r. requestedFromNoted r b s n (suc id)) (requestedFrom b s n (suc id)) (λ es′ len′ w′ t′. from-fits n (suc id) es′ len′ w′ t′)
 
 -- ---- calls
 module _ (s : Session) (work text : List ℕ) where
@@ -173,7 +173,7 @@ module _ (s : Session) (work text : List ℕ) where
 
   short-number : (r : Reach) → Short r → numberOf (settled s (length work) (length text) r .answer) ≡ 17
   unfolding settled numberOf answerOf
-  short-number r q = ap (λ (x : Reach). numberOf (settled s (length work) (length text) x .answer)) (q .2)
+  short-number r q = ap (λ (x : Reach). numberOf (settled s (length work) (length text) x .answer)) (q .3)
 
   settled-fits : (F : (ℕ → Bool) → Reached) (P : Reach) → ReachFits 0 F P → CauseFits (settled s (length work) (length text) P) (λ l. settledNoted s (length work) (length text) l (F (upTo (entriesIn l))))
   unfolding settledNoted
@@ -195,19 +195,19 @@ unfolding typeCauses typeCall
 type-fits s section work text id = by (isCurrent s (length section) (length work) (length text)) (ltb id (s .types))
   where
     by : (o b : Bool) → CauseFits
-        (elim o [ false ↦ unchanged s (refusal notCurrent (s .«text_len»)) work text | true ↦ elim b [ false ↦ unchanged s (refusal idNotBelow (s .«text_len»)) work text | true ↦ settled s (length work) (length text) (requested (tableFor s section) section id (s .«text_len») work text) ] ])
+        (elim o [ false ↦ unchanged s (refusal notCurrent (s .«text_len»)) work text | true ↦ elim b [ false ↦ unchanged s (refusal idNotBelow (s .«text_len»)) work text | true ↦ settled s (length work) (length text) (requested (tableFor s section) section id (s .«text_len») (s .visits) work text) ] ])
         (λ l. elim o [
           | false ↦ leftAlone (unchanged s (refusal notCurrent (s .«text_len»)) work text) l
           | true ↦ elim b [
             | false ↦ leftAlone (unchanged s (refusal idNotBelow (s .«text_len»)) work text) l
-            | true ↦ settledNoted s (length work) (length text) l (requestedNoted (upTo (entriesIn l)) (tableFor s section) section id [] (s .«text_len») work text)
+            | true ↦ settledNoted s (length work) (length text) l (requestedNoted (upTo (entriesIn l)) (tableFor s section) section id [] (s .«text_len») (s .visits) work text)
           ]
         ])
     by false b = left-fits s work text (unchanged s (refusal notCurrent (s .«text_len»)) work text)
     by true false = left-fits s work text (unchanged s (refusal idNotBelow (s .«text_len»)) work text)
     by true true =
-        settled-fits s work text (λ r. requestedNoted r (tableFor s section) section id [] (s .«text_len») work text) (requested (tableFor s section) section id (s .«text_len») work text)
-        (requested-fits (tableFor s section) section id [] (s .«text_len») work text)
+        settled-fits s work text (λ r. requestedNoted r (tableFor s section) section id [] (s .«text_len») (s .visits) work text) (requested (tableFor s section) section id (s .«text_len») (s .visits) work text)
+        (requested-fits (tableFor s section) section id [] (s .«text_len») (s .visits) work text)
 
 pub types-fits : (s : Session) (section work text : List ℕ) → CauseFits (typesCall s section work text) (λ l. typesCauses s section work text l)
 unfolding typesCauses typesCall

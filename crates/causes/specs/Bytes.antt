@@ -15,7 +15,7 @@ use Rattle.sheet.specs.Sheet.{Sheet, workMachine}
 use Rattle.turns.specs.declared.Session.{Session}
 use Rattle.turns.specs.Answers.{numberOf}
 use Rattle.calls.specs.Refusals.{notCurrent, idNotBelow, refusal}
-use Rattle.turns.specs.Turns.{Call, isCurrent, Reach, reached, refusedBy, settled, unchanged, tableFor}
+use Rattle.turns.specs.Turns.{Call, isCurrent, Reach, reached, refusedBy, settled, unchanged, tableFor, visitsIn}
 use Rattle.calls.specs.Calls.{cameTo, lentTo}
 use Rattle.causes.specs.Causes.{Entry, Led, orderLed, listedEntry, Noted, upTo, eachListed, showsIn, filled, entriesIn}
 use Rattle.causes.specs.Claims.{forget, Listed}
@@ -40,22 +40,22 @@ unfoldable pub entriesAfter : List Entry → Out (Noted Sheet) → List Entry
 entriesAfter es (wrote m) = m .entries
 entriesAfter es (stuck c) = es
 
-unfoldable pub cameToNoted : ℕ → List ℕ → List Entry → Out (Noted Sheet) → Reached
-cameToNoted len t es o = record { reach = cameTo len t (forget o); entries = entriesAfter es o }
+unfoldable pub cameToNoted : ℕ → ℕ → List ℕ → List Entry → Out (Noted Sheet) → Reached
+cameToNoted len v t es o = record { reach = cameTo len v t (forget o); entries = entriesAfter es o }
 
 module _ (more : ℕ → Bool) (b : Btf) (s : List ℕ) where
-  -- as `requested`: one request for an id, after a text of len bytes
-  unfoldable pub requestedNoted : ℕ → List Entry → ℕ → List ℕ → List ℕ → Reached
-  requestedNoted id es len w t =
-      cameToNoted len t es (dumpedNoted (workMachine b (btfOf b s w)) (tableOf (btfOf b s w)) more (showsIn (btfOf b s w)) (record { work = w; text = lentTo len t; at = 0; len = 0 }) es id)
+  -- as `requested`: one request for an id, after a text of len bytes and v visits
+  unfoldable pub requestedNoted : ℕ → List Entry → ℕ → ℕ → List ℕ → List ℕ → Reached
+  requestedNoted id es len v w t =
+      cameToNoted len v t es (dumpedNoted (workMachine b (btfOf b s w)) (tableOf (btfOf b s w)) more (showsIn (btfOf b s w)) (record { work = w; text = lentTo len t; at = 0; len = 0 }) es id)
 
   unfoldable pub onwardNoted : Reached → (List Entry → ℕ → List ℕ → List ℕ → Reached) → Reached
-  onwardNoted r k = elim (r .reach) [ reached len w t ↦ k (r .entries) len w t | refusedBy c len t ↦ r ]
+  onwardNoted r k = elim (r .reach) [ reached len w t ↦ k (r .entries) len w t | refusedBy c len v t ↦ r ]
 
   -- n ids from id on
   unfoldable pub requestedFromNoted : ℕ → ℕ → List Entry → ℕ → List ℕ → List ℕ → Reached
   requestedFromNoted zero id es len w t = record { reach = reached len w t; entries = es }
-  requestedFromNoted (suc n) id es len w t = onwardNoted (requestedNoted id es len w t) (requestedFromNoted n (suc id))
+  requestedFromNoted (suc n) id es len w t = onwardNoted (requestedNoted id es len (visitsIn w) w t) (requestedFromNoted n (suc id))
 
 -- what a call comes to: session, answer, work and text; how many entries there are; and the lent list
 pub record CauseCall : Type 0 where
@@ -76,7 +76,7 @@ typeCauses s section work text id list =
       | false ↦ leftAlone (unchanged s (refusal notCurrent (s .«text_len»)) work text) list
       | true ↦ elim (ltb id (s .types)) [
         | false ↦ leftAlone (unchanged s (refusal idNotBelow (s .«text_len»)) work text) list
-        | true ↦ settledNoted s (length work) (length text) list (requestedNoted (upTo (entriesIn list)) (tableFor s section) section id [] (s .«text_len») work text)
+        | true ↦ settledNoted s (length work) (length text) list (requestedNoted (upTo (entriesIn list)) (tableFor s section) section id [] (s .«text_len») (s .visits) work text)
       ]
     ]
 

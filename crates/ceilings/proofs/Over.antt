@@ -24,7 +24,7 @@ module _ (S : Session) (section w t : List ℕ) where
   -- a single request: 11 and 10 did not come, and the call ends as every refusal that closes the session
   pub record TypeOver (c id k : ℕ) : Type 0 where
     pub current : isCurrent S (length section) (length w) (length t) ≡ true
-    pub ended : typeCallWithin c S section w t id k .call ≡ settled S (length w) (length t) (refusedBy 22 (S .«text_len») (take (S .«text_len») t))
+    pub ended : typeCallWithin c S section w t id k .call ≡ settled S (length w) (length t) (refusedBy 22 (S .«text_len») (S .visits) (take (S .«text_len») t))
 
   pub type-over : (c id k : ℕ) → Over (typeCallWithin c S section w t id k .call) → TypeOver c id k
   unfolding typeCallWithin typeCall settledWithin numberOf
@@ -35,9 +35,9 @@ module _ (S : Session) (section w t : List ℕ) where
 
       fits : isCurrent S (length section) (length w) (length t) ≡ true → ltb id (S .types) ≡ true → k + callsIn (tableFor S section) section w id ≤ c → TypeOver c id k
       fits e f l =
-          let on : typeCallWithin c S section w t id k ≡ settledWithin S (length w) (length t) (requestedWithin c (tableFor S section) section id (S .«text_len») w t k) = rw (e, typeCallWithin, f) in
+          let on : typeCallWithin c S section w t id k ≡ settledWithin S (length w) (length t) (requestedWithin c (tableFor S section) section id (S .«text_len») (S .visits) w t k) = rw (e, typeCallWithin, f) in
           let r : typeCallWithin c S section w t id k .call ≡ typeCall S section w t id =
-          ap (λ (d : CallWithin). d .call) (on ∙ ap (settledWithin S (length w) (length t)) (request-fits c (tableFor S section) section id (S .«text_len») w t k l))
+          ap (λ (d : CallWithin). d .call) (on ∙ ap (settledWithin S (length w) (length t)) (request-fits c (tableFor S section) section id (S .«text_len») (S .visits) w t k l))
           ∙ sym (type-settles S section w t id e (ltb-true id (S .types) f)) in
           let z = plainly _ r refl in
           absurd (⊎-elim (λ q. omega (arith, q, z)) (λ q. omega (arith, q .1, z)) (type-current S section w t id e (ltb-true id (S .types) f) .number-kept))

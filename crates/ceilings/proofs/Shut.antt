@@ -20,7 +20,7 @@ use Rattle.header.specs.Header.{btfOf as settingsOf}
 use Rattle.opened.specs.Causes.{openingNumber}
 use Rattle.turns.specs.declared.Session.{Session}
 use Rattle.turns.specs.Answers.{numberOf, valueOf, answerOf}
-use Rattle.turns.specs.Turns.{Call, callOf, isCurrent, Reach, reached, refusedBy, settled, tableFor}
+use Rattle.turns.specs.Turns.{Call, callOf, isCurrent, Reach, reached, refusedBy, settled, tableFor, visitsIn}
 use Rattle.calls.specs.Calls.{requested, typeCall}
 use Rattle.calls.proofs.Fair.{Listed}
 use Rattle.calls.proofs.Claims.{number-is, value-is, zeros-length, zeros-head, request-sane}
@@ -57,9 +57,9 @@ pub record Stopped (room len : ℕ) (t : List ℕ) (L : Sess State) : Type 0 whe
   pub fits : len ≤ length t
   pub inside : len ≤ room
 
-settled-shut : (S : Session) (wn room e len : ℕ) (t : List ℕ) (L : Sess State) → Stopped room len t L → Shut (settled S wn room (refusedBy e len t) .session) (settled S wn room (refusedBy e len t) .text) L
+settled-shut : (S : Session) (wn room e len u : ℕ) (t : List ℕ) (L : Sess State) → Stopped room len t L → Shut (settled S wn room (refusedBy e len u t) .session) (settled S wn room (refusedBy e len u t) .text) L
 unfolding settled
-settled-shut S wn room e len t L h = record {
+settled-shut S wn room e len u t L h = record {
   closed = refl;
   running = h .running;
   its-text = zeros-head len room t (h .fits) (h .inside) len (le-refl len) ∙ h .its-text;
@@ -97,48 +97,48 @@ module _ (p modes : ℕ) (s : List ℕ) (n : ℕ) (ok : openingNumber p s n ≡ 
     }
 
     -- after a request that fits
-    next-over : (F : ℕ → List ℕ → List ℕ → ℕ → Within) (A : ℕ → List ℕ → List ℕ → ℕ → ℕ) (x j len′ : ℕ) (t′ : List ℕ)
-        → ((len : ℕ) (v t : List ℕ) (L : Sess State) → Going p modes s n ok len v t room L → F len v t j .reach ≡ refusedBy 22 len′ t′ → Stopped room len′ t′ (run X T (onesFrom room (A len v t j) (suc x)) L))
-        → (L : Sess State) {r : Reach} {a : Answer State} → single X T room L x ≡ a → BothReach p modes s n ok room r a → ((e len : ℕ) (t : List ℕ) → r ≡ refusedBy e len t → Listed e)
-        → onwardWithin r j F .reach ≡ refusedBy 22 len′ t′ → Stopped room len′ t′ (run X T (onesFrom room (oneMoreIf r j A) x) L)
+    next-over : (F : ℕ → List ℕ → List ℕ → ℕ → Within) (A : ℕ → List ℕ → List ℕ → ℕ → ℕ) (x j len′ u′ : ℕ) (t′ : List ℕ)
+        → ((len : ℕ) (v t : List ℕ) (L : Sess State) → Going p modes s n ok len v t room L → F len v t j .reach ≡ refusedBy 22 len′ u′ t′ → Stopped room len′ t′ (run X T (onesFrom room (A len v t j) (suc x)) L))
+        → (L : Sess State) {r : Reach} {a : Answer State} → single X T room L x ≡ a → BothReach p modes s n ok room r a → ((e len u : ℕ) (t : List ℕ) → r ≡ refusedBy e len u t → Listed e)
+        → onwardWithin r j F .reach ≡ refusedBy 22 len′ u′ t′ → Stopped room len′ t′ (run X T (onesFrom room (oneMoreIf r j A) x) L)
     unfolding onwardWithin oneMoreIf onesFrom run serve
-    next-over F A x j len′ t′ h L q (both-reached len v t L₁ g) l e =
+    next-over F A x j len′ u′ t′ h L q (both-reached len v t L₁ g) l e =
         subst (λ (K : Answer State). Stopped room len′ t′ (run X T (onesFrom room (A len v t j) (suc x)) (K .sess))) (sym q) (h len v t L₁ g e)
-    next-over F A x j len′ t′ h L q (both-ended d len t L₁ g) l e = let z = l 22 len′ t′ e in absurd (omega (arith, z .1))
+    next-over F A x j len′ u′ t′ h L q (both-ended d len u t L₁ g) l e = let z = l 22 len′ u′ t′ e in absurd (omega (arith, z .1))
 
     -- one more id
-    module _ (F : ℕ → List ℕ → List ℕ → ℕ → Within) (A : ℕ → List ℕ → List ℕ → ℕ → ℕ) (x len : ℕ) (v t : List ℕ) (L : Sess State) (g : Going p modes s n ok len v t room L) (m len′ : ℕ) (t′ : List ℕ) (below : x < T .count)
-        (h : (j len₁ : ℕ) (v₁ t₁ : List ℕ) (L₁ : Sess State) → Going p modes s n ok len₁ v₁ t₁ room L₁ → F len₁ v₁ t₁ j .reach ≡ refusedBy 22 len′ t′ → Stopped room len′ t′ (run X T (onesFrom room (A len₁ v₁ t₁ j) (suc x)) L₁)) where
+    module _ (F : ℕ → List ℕ → List ℕ → ℕ → Within) (A : ℕ → List ℕ → List ℕ → ℕ → ℕ) (x len : ℕ) (v t : List ℕ) (L : Sess State) (g : Going p modes s n ok len v t room L) (m len′ u′ : ℕ) (t′ : List ℕ) (below : x < T .count)
+        (h : (j len₁ : ℕ) (v₁ t₁ : List ℕ) (L₁ : Sess State) → Going p modes s n ok len₁ v₁ t₁ room L₁ → F len₁ v₁ t₁ j .reach ≡ refusedBy 22 len′ u′ t′ → Stopped room len′ t′ (run X T (onesFrom room (A len₁ v₁ t₁ j) (suc x)) L₁)) where
       abbrev Goal : Within → Type 0
-      Goal a = onwardWithin (a .reach) (a .made) F .reach ≡ refusedBy 22 len′ t′ → Stopped room len′ t′ (run X T (onesFrom room (oneMoreIf (a .reach) (a .made) A) x) L)
+      Goal a = onwardWithin (a .reach) (a .made) F .reach ≡ refusedBy 22 len′ u′ t′ → Stopped room len′ t′ (run X T (onesFrom room (oneMoreIf (a .reach) (a .made) A) x) L)
 
-      listed : (e′ l′ : ℕ) (u : List ℕ) → requested b s x len v t ≡ refusedBy e′ l′ u → Listed e′
-      listed e′ l′ u q = sane-listed len (take len t) (length t) (requested b s x len v t) (request-sane len (take len t) (length t) len t (le-refl len) (g .fits) refl refl b s x v) e′ l′ u q
+      listed : (e′ l′ d′ : ℕ) (u : List ℕ) → requested b s x len (visitsIn v) v t ≡ refusedBy e′ l′ d′ u → Listed e′
+      listed e′ l′ d′ u q = sane-listed len (take len t) (length t) (requested b s x len (visitsIn v) v t) (request-sane len (take len t) (length t) len t (le-refl len) (g .fits) refl refl b s x (visitsIn v) v) e′ l′ d′ u q
 
-      ends-here : (d : ℕ) → Goal (record { reach = refusedBy 22 len (take len t); made = d })
+      ends-here : (d : ℕ) → Goal (record { reach = refusedBy 22 len (visitsIn v) (take len t); made = d })
       unfolding onwardWithin oneMoreIf onesFrom run
       ends-here d q =
           let el : len ≡ len′ = cc in
           let et : take len t ≡ t′ = cc in
           subst (λ (y : ℕ). Stopped room y t′ L) el (subst (λ (y : List ℕ). Stopped room len y L) et (stopped-here len v t L g))
 
-      step-over : Goal (requestedWithin c b s x len v t m)
+      step-over : Goal (requestedWithin c b s x len (visitsIn v) v t m)
       step-over = ⊎-elim
-          (λ i. subst Goal (sym (request-fits c b s x len v t m i))
-          (λ q. next-over F A x (m + callsIn b s v x) len′ t′ (h (m + callsIn b s v x)) L refl (request-reach p modes s n ok len v t room L g x below) listed q))
-          (λ i. subst Goal (sym (request-over c b s x len v t m i)) (ends-here c))
+          (λ i. subst Goal (sym (request-fits c b s x len (visitsIn v) v t m i))
+          (λ q. next-over F A x (m + callsIn b s v x) len′ u′ t′ (h (m + callsIn b s v x)) L refl (request-reach p modes s n ok len v t room L g x (visitsIn v) below) listed q))
+          (λ i. subst Goal (sym (request-over c b s x len (visitsIn v) v t m i)) (ends-here c))
           (le-or-lt (m + callsIn b s v x) c)
 
-    not-reached : (len : ℕ) (v t : List ℕ) (len′ : ℕ) (t′ : List ℕ) → reached len v t ≡ refusedBy 22 len′ t′ → ⊥
-    not-reached len v t len′ t′ q = let z : _≡_ {A = ℕ} 0 1 = cc in absurd (omega arith)
+    not-reached : (len : ℕ) (v t : List ℕ) (len′ u′ : ℕ) (t′ : List ℕ) → reached len v t ≡ refusedBy 22 len′ u′ t′ → ⊥
+    not-reached len v t len′ u′ t′ q = let z : _≡_ {A = ℕ} 0 1 = cc in absurd (omega arith)
 
-    pub from-over : (k x : ℕ) → x + k ≤ T .count → (len : ℕ) (v t : List ℕ) (L : Sess State) → Going p modes s n ok len v t room L → (m len′ : ℕ) (t′ : List ℕ)
-        → requestedFromWithin c b s k x len v t m .reach ≡ refusedBy 22 len′ t′ → Stopped room len′ t′ (run X T (onesFrom room (acceptedFrom c b s k x len v t m) x) L)
+    pub from-over : (k x : ℕ) → x + k ≤ T .count → (len : ℕ) (v t : List ℕ) (L : Sess State) → Going p modes s n ok len v t room L → (m len′ u′ : ℕ) (t′ : List ℕ)
+        → requestedFromWithin c b s k x len v t m .reach ≡ refusedBy 22 len′ u′ t′ → Stopped room len′ t′ (run X T (onesFrom room (acceptedFrom c b s k x len v t m) x) L)
     unfolding requestedFromWithin acceptedFrom
-    from-over zero x l len v t L g m len′ t′ e = absurd (not-reached len v t len′ t′ e)
-    from-over (suc k) x l len v t L g m len′ t′ e =
-        step-over (requestedFromWithin c b s k (suc x)) (acceptedFrom c b s k (suc x)) x len v t L g m len′ t′ (omega arith)
-        (λ j len₁ v₁ t₁ L₁ g₁ q. from-over k (suc x) (omega arith) len₁ v₁ t₁ L₁ g₁ j len′ t′ q) e
+    from-over zero x l len v t L g m len′ u′ t′ e = absurd (not-reached len v t len′ u′ t′ e)
+    from-over (suc k) x l len v t L g m len′ u′ t′ e =
+        step-over (requestedFromWithin c b s k (suc x)) (acceptedFrom c b s k (suc x)) x len v t L g m len′ u′ t′ (omega arith)
+        (λ j len₁ v₁ t₁ L₁ g₁ q. from-over k (suc x) (omega arith) len₁ v₁ t₁ L₁ g₁ j len′ u′ t′ q) e
 
   -- ---- a call after another, lent a text that begins with the text so far
   module _ (c : ℕ) (S : Session) (work text₀ : List ℕ) (L : Sess State) (h : Holds p modes s n S work text₀ L) (text : List ℕ) (f : S .«text_len» ≤ length text)
@@ -158,22 +158,22 @@ module _ (p modes : ℕ) (s : List ℕ) (n : ℕ) (ok : openingNumber p s n ≡ 
     one-shut id k o =
         let e : TypeOver S s work text c id k = type-over S s work text c id k o in
         subst (λ (y : Call). Shut (y .session) (y .text) L) (sym (e .ended))
-        (settled-shut S (length work) (length text) 22 (S .«text_len») (take (S .«text_len») text) L (stopped-here c (length text) (S .«text_len») work text L (going p modes s n ok S work text₀ L h text f same (running (e .current)))))
+        (settled-shut S (length work) (length text) 22 (S .«text_len») (S .visits) (take (S .«text_len») text) L (stopped-here c (length text) (S .«text_len») work text L (going p modes s n ok S work text₀ L h text f same (running (e .current)))))
 
     counted : T .count ≡ b .types
     unfolding btfOf
     counted = refl
 
-    every-shut : (r : Reach) (L′ : Sess State) → numberOf (settled S (length work) (length text) r .answer) ≡ 22 → ((len : ℕ) (t : List ℕ) → r ≡ refusedBy 22 len t → Stopped (length text) len t L′)
+    every-shut : (r : Reach) (L′ : Sess State) → numberOf (settled S (length work) (length text) r .answer) ≡ 22 → ((len u : ℕ) (t : List ℕ) → r ≡ refusedBy 22 len u t → Stopped (length text) len t L′)
         → Shut (settled S (length work) (length text) r .session) (settled S (length work) (length text) r .text) L′
     unfolding settled
     every-shut (reached len v t) L′ o k = let z = sym (number-is 0 len) ∙ o in absurd (omega arith)
-    every-shut (refusedBy e len t) L′ o k =
+    every-shut (refusedBy e len u t) L′ o k =
         let z : e ≡ 22 = sym (number-is e len) ∙ o in
-        settled-shut S (length work) (length text) e len t L′ (k len t (ap (λ (y : ℕ). refusedBy y len t) z))
+        settled-shut S (length work) (length text) e len u t L′ (k len u t (ap (λ (y : ℕ). refusedBy y len u t) z))
 
     abbrev AllShut : Btf → Type 0
-    AllShut B = (len : ℕ) (t : List ℕ) → requestedFromWithin c B s (B .types - 1) 1 (S .«text_len») work text 0 .reach ≡ refusedBy 22 len t
+    AllShut B = (len u : ℕ) (t : List ℕ) → requestedFromWithin c B s (B .types - 1) 1 (S .«text_len») work text 0 .reach ≡ refusedBy 22 len u t
         → Stopped (length text) len t (run X T (onesFrom (length text) (acceptedFrom c B s (B .types - 1) 1 (S .«text_len») work text 0) 1) L)
 
     pub all-shut : Over (typesCallWithin c S s work text .call)
@@ -181,7 +181,7 @@ module _ (p modes : ℕ) (s : List ℕ) (n : ℕ) (ok : openingNumber p s n ≡ 
     all-shut o =
         let e : TypesOver S s work text c = types-over S s work text c o in
         let g : Going p modes s n ok (S .«text_len») work text (length text) L = going p modes s n ok S work text₀ L h text f same (running (e .current)) in
-        let k : AllShut b = λ len t q. from-over c (length text) (b .types - 1) 1 (omega (arith, count-described p modes s n ok, counted)) (S .«text_len») work text L g 0 len t q in
+        let k : AllShut b = λ len u t q. from-over c (length text) (b .types - 1) 1 (omega (arith, count-described p modes s n ok, counted)) (S .«text_len») work text L g 0 len u t q in
         subst (λ (y : Call). Shut (y .session) (y .text) (run X T (onesFrom (length text) (acceptedOf c S s work text) 1) L)) (sym (e .ended))
         (every-shut (every S s work text c) _ (ap (λ (y : Call). numberOf (y .answer)) (sym (e .ended)) ∙ o) (subst AllShut (sym table-is) k))
 

@@ -8,7 +8,7 @@ use Rattle.rules.specs.Machine.{Req, one, all}
 use Rattle.btf.specs.declared.types.Btf.{Btf}
 use Rattle.turns.specs.declared.Session.{Session}
 use Rattle.turns.specs.Answers.{numberOf, valueOf}
-use Rattle.turns.specs.Turns.{Call, tableFor, Reach, reached, refusedBy}
+use Rattle.turns.specs.Turns.{Call, tableFor, Reach, reached, refusedBy, visitsIn}
 use Rattle.calls.specs.Calls.{openCall, typeCall, typesCall}
 use Rattle.calls.specs.Lists.{listCall}
 use Rattle.within.specs.Within.{requestedWithin, typeCallWithin, typesCallWithin}
@@ -45,12 +45,12 @@ NotOver c = numberOf (c .answer) ≡ 22 → ⊥
 
 unfoldable pub oneMoreIf : Reach → ℕ → (ℕ → List ℕ → List ℕ → ℕ → ℕ) → ℕ
 oneMoreIf (reached len w t) k f = suc (f len w t k)
-oneMoreIf (refusedBy e len t) k f = 0
+oneMoreIf (refusedBy e len v t) k f = 0
 
 -- of n ids from id on, with k calls of ordering made before
 unfoldable pub acceptedFrom : ℕ → Btf → List ℕ → ℕ → ℕ → ℕ → List ℕ → List ℕ → ℕ → ℕ
 acceptedFrom c b s zero id len w t k = 0
-acceptedFrom c b s (suc n) id len w t k = oneMoreIf (requestedWithin c b s id len w t k .reach) (requestedWithin c b s id len w t k .made) (acceptedFrom c b s n (suc id))
+acceptedFrom c b s (suc n) id len w t k = oneMoreIf (requestedWithin c b s id len (visitsIn w) w t k .reach) (requestedWithin c b s id len (visitsIn w) w t k .made) (acceptedFrom c b s n (suc id))
 
 abbrev pub acceptedOf : ℕ → Session → List ℕ → List ℕ → List ℕ → ℕ
 acceptedOf c s section work text = acceptedFrom c (tableFor s section) section (tableFor s section .types - 1) 1 (s .«text_len») work text 0

@@ -91,7 +91,7 @@ module _ (p modes : ℕ) (s : List ℕ) (n : ℕ) (fine : openingNumber p s n �
 
   runs : (room : ℕ) (r : Reach) (b : Answer State) → BothReach p modes s n fine room r b → b .number ≡ 0 → b .sess .isOpen ≡ true
   runs room _ _ (both-reached len v t L g) e = g .running
-  runs room _ _ (both-ended c len t L g) e = absurd (omega arith)
+  runs room _ _ (both-ended c len u t L g) e = absurd (omega arith)
 
   module _ (S : Session) (work text₀ : List ℕ) (L : Sess State) (h : Holds p modes s n S work text₀ L) (text : List ℕ) (f : S .«text_len» ≤ length text) (same : take (S .«text_len») text ≡ take (S .«text_len») text₀)
       (o : L .isOpen ≡ true) (x : ℕ) (z : numberOf (typeCall S s work text x .answer) ≡ 0) where
@@ -107,7 +107,7 @@ module _ (p modes : ℕ) (s : List ℕ) (n : ℕ) (fine : openingNumber p s n �
 
     opens : b .sess .isOpen ≡ true
     opens =
-        runs (length text) _ b (request-reach p modes s n fine (S .«text_len») work text (length text) L (going p modes s n fine S work text₀ L h text f same o) x below)
+        runs (length text) _ b (request-reach p modes s n fine (S .«text_len») work text (length text) L (going p modes s n fine S work text₀ L h text f same o) x (S .visits) below)
         (sym (type-keeps p modes s n fine S work text₀ L h text f same x .tells .number) ∙ z)
 
     took : b .sess .asked ≡ L .asked ++ (x ∷ [])

@@ -30,7 +30,7 @@ use Rattle.opened.proofs.ReadBack.{work-length}
 use Rattle.sheet.specs.Sheet.{Sheet, workMachine, dumped}
 use Rattle.turns.specs.declared.Session.{Session}
 use Rattle.turns.specs.Answers.{numberOf, valueOf, answerOf}
-use Rattle.turns.specs.Turns.{Call, isCurrent, Reach, reached, refusedBy, thenZeros, settled, withText, tableFor, callOf}
+use Rattle.turns.specs.Turns.{Call, isCurrent, Reach, reached, refusedBy, thenZeros, settled, withText, tableFor, callOf, visitsIn}
 use Rattle.calls.specs.Calls.{openedCall, openCall, limitOf, cameTo, lentTo, requested, onward as goOn, requestedFrom, typeCall, typesCall}
 use Rattle.calls.specs.Lists.{counted as countedCall, listFrom, listCall}
 use Rattle.calls.proofs.Lists.{counted-goes, counted-stops, type-single, Counts, list-counts}
@@ -142,7 +142,7 @@ module _ (p modes : ℕ) (s : List ℕ) (n : ℕ) (ok : openingNumber p s n ≡ 
 
   pub data BothReach (room : ℕ) : Reach → Answer State → Type 0 where
     both-reached : (len : ℕ) (v t : List ℕ) (L : Sess State) → Going len v t room L → BothReach room (reached len v t) (record { sess = L; number = 0 })
-    both-ended : (c len : ℕ) (t : List ℕ) (L : Sess State) → Ended len t room L → BothReach room (refusedBy (suc c) len t) (record { sess = L; number = suc c })
+    both-ended : (c len u : ℕ) (t : List ℕ) (L : Sess State) → Ended len t room L → BothReach room (refusedBy (suc c) len u t) (record { sess = L; number = suc c })
 
   -- ---- one request
   module _ (len : ℕ) (v t : List ℕ) (room : ℕ) (L : Sess State) (g : Going len v t room L) (x : ℕ) where
@@ -200,11 +200,11 @@ module _ (p modes : ℕ) (s : List ℕ) (n : ℕ) (ok : openingNumber p s n ≡ 
       small = g .small;
     }
 
-    came : {o : Out Sheet} {a : Answer State} → BothRequest b e s w (take len t) room L x o a → ((c : ℕ) → o ≡ stuck c → 0 < c) → BothReach room (cameTo len t o) a
+    came : (u : ℕ) {o : Out Sheet} {a : Answer State} → BothRequest b e s w (take len t) room L x o a → ((c : ℕ) → o ≡ stuck c → 0 < c) → BothReach room (cameTo len u t o) a
     unfolding cameTo
-    came (both-served m u be sh r) k = both-reached (len + m .at) (m .work) (place t len (m .text)) _ (served m u be sh r)
-    came (both-refused zero) k = absurd (let q : 0 < 0 = k 0 refl in omega arith)
-    came (both-refused (suc c)) k = both-ended c len (take len t) _ ended
+    came d (both-served m u be sh r) k = both-reached (len + m .at) (m .work) (place t len (m .text)) _ (served m u be sh r)
+    came d (both-refused zero) k = absurd (let q : 0 < 0 = k 0 refl in omega arith)
+    came d (both-refused (suc c)) k = both-ended c len d (take len t) _ ended
 
     pub single-is : x < T .count → single X T room L x ≡ ordered X T L x (ordering X T room L x)
     unfolding single gate
@@ -215,32 +215,32 @@ module _ (p modes : ℕ) (s : List ℕ) (n : ℕ) (ok : openingNumber p s n ≡ 
         let z : (12 ≤ c) × (c ≤ 18) = stuck-listed (length (lentTo len t)) (dumped (workMachine b B) T sheet x) (fair-request b B (length (lentTo len t)) sheet x (omega arith, refl)) c q in
         omega (arith, z .0)
 
-    table-now : requested b s x len v t ≡ cameTo len t (dumped (workMachine b B) T sheet x)
+    table-now : (u : ℕ) → requested b s x len u v t ≡ cameTo len u t (dumped (workMachine b B) T sheet x)
     unfolding requested
-    table-now = ap (λ (K : Rules). cameTo len t (dumped (workMachine b K) (tableOf K) sheet x)) (g .bears .table)
+    table-now u = ap (λ (K : Rules). cameTo len u t (dumped (workMachine b K) (tableOf K) sheet x)) (g .bears .table)
 
     below : x < T .count → x < b .types
     unfolding btfOf
     below l = l
 
-    pub request-reach : x < T .count → BothReach room (requested b s x len v t) (single X T room L x)
-    request-reach l =
-        subst (λ (r : Reach). BothReach room r (single X T room L x)) (sym table-now)
-        (subst (λ (a : Answer State). BothReach room (cameTo len t (dumped (workMachine b B) T sheet x)) a) (sym (single-is l))
-        (came (request-alike b e s w (opened-indexed p modes s n ok) (opened-sane p modes s n ok) (namesIn p modes s n) (opened-names p modes s n ok) (opened-wf p modes s n ok) (take len t) room L x sheet refl (g .bears) begins (below l)) positive))
+    pub request-reach : (u : ℕ) → x < T .count → BothReach room (requested b s x len u v t) (single X T room L x)
+    request-reach u l =
+        subst (λ (r : Reach). BothReach room r (single X T room L x)) (sym (table-now u))
+        (subst (λ (a : Answer State). BothReach room (cameTo len u t (dumped (workMachine b B) T sheet x)) a) (sym (single-is l))
+        (came u (request-alike b e s w (opened-indexed p modes s n ok) (opened-sane p modes s n ok) (namesIn p modes s n) (opened-names p modes s n ok) (opened-wf p modes s n ok) (take len t) room L x sheet refl (g .bears) begins (below l)) positive))
 
   -- ---- one after the other
   onward-reach : (room : ℕ) {r : Reach} {a : Answer State} (k₁ : ℕ → List ℕ → List ℕ → Reach) (k : Sess State → Answer State) → BothReach room r a
       → ((len : ℕ) (v t : List ℕ) (L : Sess State) → Going len v t room L → BothReach room (k₁ len v t) (k L)) → BothReach room (goOn r k₁) (onward X T k a)
   unfolding goOn onward
   onward-reach room k₁ k (both-reached len v t L g) h = h len v t L g
-  onward-reach room k₁ k (both-ended c len t L d) h = both-ended c len t L d
+  onward-reach room k₁ k (both-ended c len u t L d) h = both-ended c len u t L d
 
   pub from-reach : (room k x : ℕ) → x + k ≤ T .count → (len : ℕ) (v t : List ℕ) (L : Sess State) → Going len v t room L → BothReach room (requestedFrom b s k x len v t) (from X T room k x L)
   unfolding requestedFrom from
   from-reach room zero x l len v t L g = both-reached len v t L g
   from-reach room (suc k) x l len v t L g =
-      onward-reach room (requestedFrom b s k (suc x)) (from X T room k (suc x)) (request-reach len v t room L g x (omega arith))
+      onward-reach room (requestedFrom b s k (suc x)) (from X T room k (suc x)) (request-reach len v t room L g x (visitsIn v) (omega arith))
       (λ len′ v′ t′ L′ g′. from-reach room k (suc x) (omega arith) len′ v′ t′ L′ g′)
 
   -- ---- the end of a call
@@ -274,9 +274,9 @@ module _ (p modes : ℕ) (s : List ℕ) (n : ℕ) (ok : openingNumber p s n ≡ 
         small = g .small;
         bears = λ q. g .bears;
       };
-      tells = told room 0 len (withText S true len) v t L (g .its-text) (g .fits);
+      tells = told room 0 len (withText S true len (visitsIn v)) v t L (g .its-text) (g .fits);
     }
-    settle (both-ended c len t L d) = record {
+    settle (both-ended c len u t L d) = record {
       holds = record {
         is-open = sym (d .closed);
         section = h .section;
@@ -290,7 +290,7 @@ module _ (p modes : ℕ) (s : List ℕ) (n : ℕ) (ok : openingNumber p s n ≡ 
         small = d .small;
         bears = λ q. absurd (true≢false (sym q ∙ d .closed));
       };
-      tells = told room (suc c) len (withText S false len) (replicate (length work) 0) t L (d .its-text) (d .fits);
+      tells = told room (suc c) len (withText S false len u) (replicate (length work) 0) t L (d .its-text) (d .fits);
     }
 
   counted : T .count ≡ b .types
@@ -362,8 +362,8 @@ module _ (p modes : ℕ) (s : List ℕ) (n : ℕ) (ok : openingNumber p s n ≡ 
 
     type-open : (x : ℕ) → L .isOpen ≡ true → x < T .count → KeptBy (typeCall S s work text x) (single X T (length text) L x)
     type-open x o l =
-        along (type-settles S s work text x (current o) (subst (λ (k : ℕ). x < k) (sym types-is) l) ∙ ap (λ (K : Btf). settled S (length work) (length text) (requested K s x (S .«text_len») work text)) table-is) refl
-        (settle S work text₀ L h (full-work o) (length text) (request-reach (S .«text_len») work text (length text) L (going o) x l))
+        along (type-settles S s work text x (current o) (subst (λ (k : ℕ). x < k) (sym types-is) l) ∙ ap (λ (K : Btf). settled S (length work) (length text) (requested K s x (S .«text_len») (S .visits) work text)) table-is) refl
+        (settle S work text₀ L h (full-work o) (length text) (request-reach (S .«text_len») work text (length text) L (going o) x (S .visits) l))
 
     type-past : (x : ℕ) → L .isOpen ≡ true → T .count ≤ x → KeptBy (typeCall S s work text x) (single X T (length text) L x)
     type-past x o l = along (type-not-below S s work text x (current o) (subst (λ (k : ℕ). k ≤ x) (sym types-is) l)) (single-past x o l) (still 10 (inl refl))

@@ -22,6 +22,7 @@ fn closed() -> Session
         text_len: 0,
         pointer_size: 0,
         modes: 0,
+        visits: 0,
     }
 }
 

@@ -15,11 +15,12 @@ use turns::Turn;
 use turns::is_current;
 use turns::settle;
 use turns::turn_of;
+use turns::visits_in;
 ghost use Prim.Native.Nat.{_-_, _≤_};
 ghost use mathlib.Core.Bool.{true};
 ghost use mathlib.Core.Path.{_≡_};
 ghost use lib.ListN.{length};
-ghost use Rattle.turns.specs.Turns.{callOf, isCurrent, reachOf};
+ghost use Rattle.turns.specs.Turns.{callOf, isCurrent, reachOf, visitsIn};
 ghost use Rattle.calls.specs.Calls.{openCall, requested, requestedFrom, typeCall, typesCall};
 ghost use Rattle.calls.specs.Lists.{idsIn, listCall, listEnd};
 
@@ -47,35 +48,46 @@ pub fn open_core(
                 text_len: 0,
                 pointer_size: pointer_size,
                 modes: modes % 16,
+                visits: 0,
             },
             answer: Answer::Accepted(types),
         },
     }
 }
 
-// One id, after a text of len bytes: it is lent only what follows that text.
-fn dump_one(b: Btf, section: &[u8], work: &mut [u8], text: &mut [u8], len: u32, id: u32) -> Reached
+// One id, after a text of len bytes and so many visits: it is lent only what follows that text.
+fn dump_one(
+    b: Btf,
+    section: &[u8],
+    work: &mut [u8],
+    text: &mut [u8],
+    len: u32,
+    visits: u32,
+    id: u32,
+) -> Reached
     requires { ⌜ len ≤ length (now text) ⌝ }
-    ensures { λ r. ⌜ (reachOf r (now (work .exit)) (now (text .exit)) ≡ requested b (now (section .entry)) id len (now (work .entry)) (now (text .entry))) × (r .len ≤ length (now (text .exit))) ⌝ }
+    ensures { λ r. ⌜ (reachOf r (now (work .exit)) (now (text .exit)) ≡ requested b (now (section .entry)) id len visits (now (work .entry)) (now (text .entry))) × (r .len ≤ length (now (text .exit))) ⌝ }
 {
     let from = len as usize;
     let to = limit(text.len(), from);
     let at = dump::dump_type(b, section, work, &mut text[from..to], 0, id);
-    arrived(len, to - from, at)
+    arrived(len, visits, to - from, at)
 }
 
 // The same for the request for all ids, of which most have nothing to write.
 fn dump_next(b: Btf, section: &[u8], work: &mut [u8], text: &mut [u8], len: u32, id: u32) -> Reached
     requires { ⌜ len ≤ length (now text) ⌝ }
-    ensures { λ r. ⌜ (reachOf r (now (work .exit)) (now (text .exit)) ≡ requested b (now (section .entry)) id len (now (work .entry)) (now (text .entry))) × (r .len ≤ length (now (text .exit))) ⌝ }
+    ensures { λ r. ⌜ (reachOf r (now (work .exit)) (now (text .exit)) ≡ requested b (now (section .entry)) id len (visitsIn (now (work .entry))) (now (work .entry)) (now (text .entry))) × (r .len ≤ length (now (text .exit))) ⌝ }
 {
     if dump::is_idle(b, section, work, id) {
         return Reached {
             len: len,
             number: 0,
+            visits: 0,
         };
     }
-    dump_one(b, section, work, text, len, id)
+    let visits = visits_in(work);
+    dump_one(b, section, work, text, len, visits, id)
 }
 
 // Every id from 1 upward, to the first that is refused.
@@ -87,6 +99,7 @@ fn dump_all(b: Btf, section: &[u8], work: &mut [u8], text: &mut [u8], len: u32) 
     let mut r = Reached {
         len: len,
         number: 0,
+        visits: 0,
     };
     let mut id: u32 = 1;
     while id < n {
@@ -109,7 +122,7 @@ pub fn dump_type_core(s: Session, section: &[u8], work: &mut [u8], text: &mut [u
         return turn_of(s, 10, s.text_len);
     }
     let b = btf_of(section, s.pointer_size, s.modes, s.types);
-    let r = dump_one(b, section, work, text, s.text_len, id);
+    let r = dump_one(b, section, work, text, s.text_len, s.visits, id);
     settle(s, work, text, r)
 }
 
@@ -132,6 +145,7 @@ fn dump_ids(s: Session, section: &[u8], work: &mut [u8], text: &mut [u8], ids: &
     let b = btf_of(section, s.pointer_size, s.modes, s.types);
     let n = count_of(ids);
     let mut len = s.text_len;
+    let mut visits = s.visits;
     let mut k: u32 = 0;
     while k < n {
         let id = get_word(ids, k as usize);
@@ -140,23 +154,27 @@ fn dump_ids(s: Session, section: &[u8], work: &mut [u8], text: &mut [u8], ids: &
                 len: len,
                 number: 10,
                 accepted: k,
+                visits: visits,
             };
         }
-        let r = dump_one(b, section, work, text, len, id);
+        let r = dump_one(b, section, work, text, len, visits, id);
         if r.number != 0 {
             return Tally {
                 len: r.len,
                 number: r.number,
                 accepted: k,
+                visits: r.visits,
             };
         }
         len = r.len;
+        visits = visits_in(work);
         k += 1;
     }
     Tally {
         len: len,
         number: 0,
         accepted: k,
+        visits: visits,
     }
 }
 

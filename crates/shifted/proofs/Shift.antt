@@ -97,16 +97,16 @@ module _ {M : Type 0} (X : Machine M) (T : Table) (shows : ℕ → Bool) (room :
 abbrev pub behind : List Entry → Came → Came
 behind es r = record { reach = r .reach; entries = es ++ r .entries }
 
-came-shift : (X : Machine Sheet) (T : Table) (shows : ℕ → Bool) (room len : ℕ) (t : List ℕ) (es : List Entry) (o : Out (Noted Sheet)) → cameToNoted len t es (omap (after X T shows room es) o) ≡ behind es (cameToNoted len t [] o)
+came-shift : (X : Machine Sheet) (T : Table) (shows : ℕ → Bool) (room len v : ℕ) (t : List ℕ) (es : List Entry) (o : Out (Noted Sheet)) → cameToNoted len v t es (omap (after X T shows room es) o) ≡ behind es (cameToNoted len v t [] o)
 unfolding cameToNoted forget entriesAfter
-came-shift X T shows room len t es (wrote m) = refl
-came-shift X T shows room len t es (stuck c) = ap (λ (l : List Entry). record { reach = cameTo len t (stuck c); entries = l }) (sym (append-nil es))
+came-shift X T shows room len v t es (wrote m) = refl
+came-shift X T shows room len v t es (stuck c) = ap (λ (l : List Entry). record { reach = cameTo len v t (stuck c); entries = l }) (sym (append-nil es))
 
-pub requested-shift : (room : ℕ) (b : Btf) (s : List ℕ) (id : ℕ) (es : List Entry) (len : ℕ) (w t : List ℕ) → requestedNoted (upTo room) b s id es len w t ≡ behind es (requestedNoted (upTo (room - length es)) b s id [] len w t)
+pub requested-shift : (room : ℕ) (b : Btf) (s : List ℕ) (id : ℕ) (es : List Entry) (len v : ℕ) (w t : List ℕ) → requestedNoted (upTo room) b s id es len v w t ≡ behind es (requestedNoted (upTo (room - length es)) b s id [] len v w t)
 unfolding requestedNoted
-requested-shift room b s id es len w t =
-    ap (cameToNoted len t es) (dumped-shift (workMachine b (btfOf b s w)) (tableOf (btfOf b s w)) (showsIn (btfOf b s w)) room es (record { work = w; text = lentTo len t; at = 0; len = 0 }) id)
-    ∙ came-shift (workMachine b (btfOf b s w)) (tableOf (btfOf b s w)) (showsIn (btfOf b s w)) room len t es (dumpedNoted (workMachine b (btfOf b s w)) (tableOf (btfOf b s w)) (upTo (room - length es)) (showsIn (btfOf b s w)) (record { work = w; text = lentTo len t; at = 0; len = 0 }) [] id)
+requested-shift room b s id es len v w t =
+    ap (cameToNoted len v t es) (dumped-shift (workMachine b (btfOf b s w)) (tableOf (btfOf b s w)) (showsIn (btfOf b s w)) room es (record { work = w; text = lentTo len t; at = 0; len = 0 }) id)
+    ∙ came-shift (workMachine b (btfOf b s w)) (tableOf (btfOf b s w)) (showsIn (btfOf b s w)) room len v t es (dumpedNoted (workMachine b (btfOf b s w)) (tableOf (btfOf b s w)) (upTo (room - length es)) (showsIn (btfOf b s w)) (record { work = w; text = lentTo len t; at = 0; len = 0 }) [] id)
 
 -- ---- an id with nothing to write
 module _ (b : Btf) (s w u : List ℕ) (id : ℕ) (more : ℕ → Bool) (es : List Entry) where

@@ -1,5 +1,5 @@
 -- A law for each return. Assumes nothing.
-use Prim.Native.Nat.{ℕ, zero, suc, _-_, _<_, _≤_}
+use Prim.Native.Nat.{ℕ, zero, suc, _-_, _%_, _<_, _≤_}
 use mathlib.Core.Path.{_≡_, refl, ap, _∙_, sym}
 use mathlib.Core.Bool.{Bool, true, false, not, _&&_, true≢false}
 use mathlib.Core.List.{List, [], _∷_, _++_, append-nil}
@@ -10,13 +10,14 @@ use lib.Seq.{take-all}
 use lib.Dec.{eqb, leb}
 use borrow.Author.Tests.{eq-eqb, ne-eqb, not-true, not-false, leb-true}
 use borrow.Rule.Slice.PartMut.{midOf, postOf, putMid, mid-len}
+use Rattle.lent.specs.Words.{getWord}
 use Rattle.turns.specs.declared.Answer.{Answer}
 use Rattle.turns.specs.declared.Answer.the-variants.{Accepted, Refused}
 use Rattle.turns.specs.declared.Session.{Session}
 use Rattle.turns.specs.declared.Turn.{Turn}
 use Rattle.turns.specs.declared.Reached.{Reached}
 use Rattle.turns.specs.Answers.{answerOf}
-use Rattle.turns.specs.Turns.{callOf, turnOf, isCurrent, reached, refusedBy, reachOf, withText, thenZeros, settled}
+use Rattle.turns.specs.Turns.{callOf, turnOf, isCurrent, reached, refusedBy, reachOf, withText, thenZeros, settled, visitsIn}
 
 -- ---- answer_of, turn_of
 pub answer-refused : (n v : ℕ) → 0 < n → Refused n v ≡ answerOf n v
@@ -81,13 +82,23 @@ none-follow t n h =
     let k : length t - n ≡ 0 = omega arith in
     sym ((λ i. take-all n t h i ++ replicate (k i) 0) ∙ append-nil t)
 
+-- ---- visits_in
+pub visits-is : (w : List ℕ) (v : ℕ) → v < 4294967296 → v ≡ getWord w 2 → v ≡ visitsIn w
+unfolding visitsIn
+visits-is w v l e = let m : v ≡ v % 4294967296 = omega arith in m ∙ ap (λ (k : ℕ). k % 4294967296) e
+
+-- a word of 32 bits
+pub visits-fit : (w : List ℕ) → visitsIn w < 4294967296
+unfolding visitsIn
+visits-fit w = omega arith
+
 -- ---- settle
 module _ (r : Reached) (w t : List ℕ) where
   pub reach-accepted : r .number ≡ 0 → reachOf r w t ≡ reached (r .len) w t
   unfolding reachOf
   reach-accepted h = rw (eq-eqb (r .number) 0 h, reachOf)
 
-  pub reach-refused : (r .number ≡ 0 → ⊥) → reachOf r w t ≡ refusedBy (r .number) (r .len) (take (r .len) t)
+  pub reach-refused : (r .number ≡ 0 → ⊥) → reachOf r w t ≡ refusedBy (r .number) (r .len) (r .visits) (take (r .len) t)
   unfolding reachOf
   reach-refused h = rw (ne-eqb (r .number) 0 h, reachOf)
 
@@ -102,13 +113,13 @@ zeros-twice n len t = ap (λ (l : List ℕ). l ++ replicate (n - len) 0) (again 
     again (suc k) (x ∷ l) = ap (λ (m : List ℕ). x ∷ m) (again k l)
 
 module _ (s : Session) (r : Reached) (w t t′ : List ℕ) (et : t′ ≡ thenZeros (length t) (r .len) t) (s′ : Session) where
-  pub settle-accepted : r .number ≡ 0 → s′ ≡ withText s true (r .len) → callOf s′ (Accepted (r .len)) w t′ ≡ settled s (length w) (length t) (reachOf r w t)
+  pub settle-accepted : r .number ≡ 0 → (v : ℕ) → v ≡ visitsIn w → s′ ≡ withText s true (r .len) v → callOf s′ (Accepted (r .len)) w t′ ≡ settled s (length w) (length t) (reachOf r w t)
   unfolding callOf settled answerOf
-  settle-accepted z es =
-      (λ i. record { session = es i; answer = Accepted (r .len); work = w; text = et i })
+  settle-accepted z v ev es =
+      (λ i. record { session = (es ∙ ap (withText s true (r .len)) ev) i; answer = Accepted (r .len); work = w; text = et i })
       ∙ ap (settled s (length w) (length t)) (sym (reach-accepted r w t z))
 
-  pub settle-refused : (r .number ≡ 0 → ⊥) → (w′ : List ℕ) → w′ ≡ replicate (length w) 0 → s′ ≡ withText s false (r .len) → (turn : Turn) → turn ≡ turnOf s′ (answerOf (r .number) (r .len))
+  pub settle-refused : (r .number ≡ 0 → ⊥) → (w′ : List ℕ) → w′ ≡ replicate (length w) 0 → s′ ≡ withText s false (r .len) (r .visits) → (turn : Turn) → turn ≡ turnOf s′ (answerOf (r .number) (r .len))
       → callOf (turn .session) (turn .answer) w′ t′ ≡ settled s (length w) (length t) (reachOf r w t)
   unfolding callOf settled turnOf
   settle-refused z w′ ew es turn e =

@@ -1,12 +1,14 @@
 // The session record, the answers, and what every call of a session shares: cause 11, and how it ends.
 use lent::clear;
+use lent::get_word;
 ghost use mathlib.Core.Path.{_≡_};
 ghost use lib.ListN.{length};
 ghost use Rattle.turns.specs.Answers.{answerOf};
-ghost use Rattle.turns.specs.Turns.{callOf, turnOf, isCurrent, reachOf, withText, thenZeros, settled};
+ghost use Rattle.turns.specs.Turns.{callOf, turnOf, isCurrent, reachOf, withText, thenZeros, visitsIn, settled};
 
 // The lengths are those at opening; text_len is the length of the text so far. Bit 0 of modes is union_as_struct,
-// bit 1 strong_arrays, bit 2 the placing mode, bit 3 names that cannot collide.
+// bit 1 strong_arrays, bit 2 the placing mode, bit 3 names that cannot collide. visits: the types and members looked
+// at to find alignments, by the requests accepted so far.
 pub struct Session {
     pub open: bool,
     pub section_len: u64,
@@ -16,6 +18,7 @@ pub struct Session {
     pub text_len: u32,
     pub pointer_size: u32,
     pub modes: u32,
+    pub visits: u32,
 }
 
 // Accepted: the value. Refused: the number and the value.
@@ -30,17 +33,20 @@ pub struct Turn {
     pub answer: Answer,
 }
 
-// Where the requests of a call have come to: the length of the accepted text, and the refusal that ended them, or 0.
+// Where the requests of a call have come to: the length of the accepted text, and the refusal that ended them, or 0; with a
+// refusal also the visits counted before it.
 pub struct Reached {
     pub len: u32,
     pub number: u32,
+    pub visits: u32,
 }
 
-// Where the ids of a list have come to: as Reached, and how many were accepted.
+// Where the ids of a list have come to: as Reached, and how many were accepted; the visits are those of the record.
 pub struct Tally {
     pub len: u32,
     pub number: u32,
     pub accepted: u32,
+    pub visits: u32,
 }
 
 pub fn answer_of(number: u32, value: u32) -> Answer
@@ -79,8 +85,8 @@ pub fn is_current(s: Session, section_len: usize, work_len: usize, text_len: usi
 }
 
 // The session after its requests, open or closed.
-pub fn with_text(s: Session, open: bool, len: u32) -> Session
-    ensures { λ r. ⌜ r ≡ withText s «open» len ⌝ }
+pub fn with_text(s: Session, open: bool, len: u32, visits: u32) -> Session
+    ensures { λ r. ⌜ r ≡ withText s «open» len visits ⌝ }
 {
     Session {
         open: open,
@@ -91,6 +97,7 @@ pub fn with_text(s: Session, open: bool, len: u32) -> Session
         text_len: len,
         pointer_size: s.pointer_size,
         modes: s.modes,
+        visits: visits,
     }
 }
 
@@ -105,17 +112,25 @@ pub fn clear_from(text: &mut [u8], n: u32)
     clear(&mut text[from..]);
 }
 
-// The end of a call: what follows the text is zero; after a refusal so is the work, and the session is closed.
+// The visits that the work counts, in word 2 of void.
+pub fn visits_in(work: &[u8]) -> u32
+    ensures { λ r. ⌜ r ≡ visitsIn (now (work .entry)) ⌝ }
+{
+    get_word(work, 2)
+}
+
+// The end of a call: what follows the text is zero; after a refusal so is the work, and the session is closed. The record gets the
+// visits that the work counts, or those that it counted before the refused request.
 pub fn settle(s: Session, work: &mut [u8], text: &mut [u8], r: Reached) -> Turn
     ensures { λ t. ⌜ callOf (t .session) (t .answer) (now (work .exit)) (now (text .exit)) ≡ settled s (length (now (work .entry))) (length (now (text .entry))) (reachOf r (now (work .entry)) (now (text .entry))) ⌝ }
 {
     clear_from(text, r.len);
     if r.number == 0 {
         return Turn {
-            session: with_text(s, true, r.len),
+            session: with_text(s, true, r.len, visits_in(work)),
             answer: Answer::Accepted(r.len),
         };
     }
     clear(work);
-    turn_of(with_text(s, false, r.len), r.number, r.len)
+    turn_of(with_text(s, false, r.len, r.visits), r.number, r.len)
 }

@@ -1,20 +1,26 @@
--- The visits in the work of the calls: after an opening that succeeded and any requests, while the session is open. Assumes nothing.
-use Prim.Native.Nat.{ℕ, _+_, _≤_}
-use mathlib.Core.Path.{_≡_, _∙_, sym, subst}
+-- The visits in the record: after an opening that succeeded and any requests, while the session is open, and after the refusal that closes it.
+-- Assumes nothing.
+use Prim.Native.Nat.{ℕ, _+_, _%_, _<_, _≤_}
+use native.Mathlib.Omega.{arith}
+use mathlib.Core.Path.{_≡_, ap, _∙_, sym, subst}
 use mathlib.Core.Bool.{true}
 use mathlib.Core.List.{List}
 use Rattle.rules.specs.Types.{Btf as Rules}
 use Rattle.rules.specs.Machine.{Req}
-use Rattle.btf.specs.Cells.{getField}
 use Rattle.opened.specs.Causes.{openingNumber}
-use Rattle.turns.specs.Turns.{Call}
+use Rattle.turns.specs.Answers.{numberOf}
+use Rattle.turns.specs.Turns.{Call, visitsIn}
+use Rattle.calls.specs.Calls.{typeCall}
+use Rattle.calls.proofs.Lists.{type-single}
 use Rattle.claims.specs.Table.{openedTable}
 use Rattle.claims.specs.Session.{After}
 use Rattle.claims.proofs.Session.{after-holds}
+use Rattle.claims.proofs.Few.{few}
 use Rattle.alignments.specs.Once.{membersTo, paidTo}
 use Rattle.alignments.proofs.Counted.{paid-most}
 use Rattle.remembered.specs.Words.{workKeep}
 use Rattle.minds.specs.Work.{Minds}
+use Rattle.visits.proofs.Record.{after-says}
 
 module _ (p modes : ℕ) (s : List ℕ) (n : ℕ) (ok : openingNumber p s n ≡ 0) (c : Call) (rs : List Req) (a : After p modes s n c rs) (o : c .session .«open» ≡ true) where
   abbrev B : Rules
@@ -24,10 +30,25 @@ module _ (p modes : ℕ) (s : List ℕ) (n : ℕ) (ok : openingNumber p s n ≡ 
   pub call-minds : Minds B (c .work)
   call-minds = let h = after-holds p modes s n ok a in h .bears (sym (h .is-open) ∙ o) .memory
 
-  -- word 2 of void counts the types that are remembered and their members
-  pub call-count : getField (c .work) 0 2 ≡ paidTo B (workKeep (B .type-cnt) B .recall (c .work)) (B .type-cnt)
-  call-count = call-minds .count
+  abbrev most : ℕ
+  most = B .type-cnt + membersTo B (B .type-cnt)
+
+  abbrev paid : ℕ
+  paid = paidTo B (workKeep (B .type-cnt) B .recall (c .work)) (B .type-cnt)
+
+  -- the visits in the record are the types that are remembered and their members
+  pub call-count : c .session .visits ≡ paid
+  unfolding visitsIn
+  call-count =
+      let m : paid ≤ most = paid-most B (workKeep (B .type-cnt) B .recall (c .work)) (B .type-cnt) in
+      let f : most < 4294967296 = few p modes s n ok in
+      let z : paid % 4294967296 ≡ paid = omega arith in
+      after-says p modes s n ok a o ∙ ap (λ (k : ℕ). k % 4294967296) (call-minds .count) ∙ z
 
   -- "at most types plus members"
-  pub call-visits : getField (c .work) 0 2 ≤ B .type-cnt + membersTo B (B .type-cnt)
-  call-visits = subst (λ (k : ℕ). k ≤ B .type-cnt + membersTo B (B .type-cnt)) (sym call-count) (paid-most B (workKeep (B .type-cnt) B .recall (c .work)) (B .type-cnt))
+  pub call-visits : c .session .visits ≤ most
+  call-visits = subst (λ (k : ℕ). k ≤ most) (sym call-count) (paid-most B (workKeep (B .type-cnt) B .recall (c .work)) (B .type-cnt))
+
+  -- and after the next request for one id too, whatever it is lent: a refusal leaves them
+  pub next-left : (w t : List ℕ) (id : ℕ) → (numberOf (typeCall (c .session) s w t id .answer) ≡ 0 → ⊥) → typeCall (c .session) s w t id .session .visits ≡ paid
+  next-left w t id z = type-single (c .session) s w t id .leaves z ∙ call-count

@@ -1,4 +1,5 @@
--- Opened: names and memory side by side. OpenedWork: in the work that opening leaves. Calls: in the work of the calls.
+-- Opened: names and memory side by side. OpenedWork: in the work that opening leaves. Record, Calls: in the record of the calls.
 pub mod Opened
 pub mod OpenedWork
+pub mod Record
 pub mod Calls

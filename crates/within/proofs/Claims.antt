@@ -13,7 +13,7 @@ use Rattle.btf.specs.declared.types.Btf.{Btf}
 use Rattle.dump.specs.Metered.{callsIn}
 use Rattle.turns.specs.declared.Session.{Session}
 use Rattle.turns.specs.Answers.{numberOf, answerOf}
-use Rattle.turns.specs.Turns.{Call, isCurrent, Reach, reached, refusedBy, settled, tableFor}
+use Rattle.turns.specs.Turns.{Call, isCurrent, Reach, reached, refusedBy, settled, tableFor, visitsIn}
 use Rattle.calls.specs.Calls.{requested, onward, requestedFrom, typeCall, typesCall}
 use Rattle.calls.proofs.Claims.{number-is}
 use Rattle.within.specs.Within.{Within, requestedWithin, onwardWithin, requestedFromWithin, CallWithin, settledWithin, typeCallWithin, typesCallWithin}
@@ -27,14 +27,14 @@ pub record Fits (c : ℕ) (plainly : Call) (under : ℕ → CallWithin) : Type 0
 
 -- requests that were not refused by 22
 abbrev Fine : Reach → Type 0
-Fine q = (len : ℕ) (t : List ℕ) → q ≡ refusedBy 22 len t → ⊥
+Fine q = (len v : ℕ) (t : List ℕ) → q ≡ refusedBy 22 len v t → ⊥
 
-settled-22 : (s : Session) (wn tn len : ℕ) (t : List ℕ) → numberOf (settled s wn tn (refusedBy 22 len t) .answer) ≡ 22
+settled-22 : (s : Session) (wn tn len v : ℕ) (t : List ℕ) → numberOf (settled s wn tn (refusedBy 22 len v t) .answer) ≡ 22
 unfolding settled
-settled-22 s wn tn len t = number-is 22 len
+settled-22 s wn tn len v t = number-is 22 len
 
 fine-settled : (s : Session) (wn tn : ℕ) (q : Reach) → (numberOf (settled s wn tn q .answer) ≡ 22 → ⊥) → Fine q
-fine-settled s wn tn q n len t e = n (ap (λ (p : Reach). numberOf (settled s wn tn p .answer)) e ∙ settled-22 s wn tn len t)
+fine-settled s wn tn q n len v t e = n (ap (λ (p : Reach). numberOf (settled s wn tn p .answer)) e ∙ settled-22 s wn tn len v t)
 
 -- ---- n ids in a row
 pub record Fit (c c′ : ℕ) (a a′ : Within) (q : Reach) : Type 0 where
@@ -48,26 +48,26 @@ module _ (c c′ : ℕ) (l : c ≤ c′) where
       → (q : Reach) → Fine (onwardWithin q j F .reach) → Fit c c′ (onwardWithin q j F) (onwardWithin q j F′) (onward q G)
   unfolding onwardWithin onward
   onward-fits F F′ G j i h (reached len w t) n = h len w t n
-  onward-fits F F′ G j i h (refusedBy e len t) n = record { same-reach = refl; few = i; same-within = refl }
+  onward-fits F F′ G j i h (refusedBy e len v t) n = record { same-reach = refl; few = i; same-within = refl }
 
   module _ (b : Btf) (s : List ℕ) where
-    pub one-fits : (id len : ℕ) (w t : List ℕ) (k : ℕ) → Fine (requestedWithin c b s id len w t k .reach) → k + callsIn b s w id ≤ c
-    one-fits id len w t k n = ⊎-elim (λ i. i) (λ i. absurd (n len (take len t) (ap (λ (a : Within). a .reach) (request-over c b s id len w t k i)))) (le-or-lt (k + callsIn b s w id) c)
+    pub one-fits : (id len v : ℕ) (w t : List ℕ) (k : ℕ) → Fine (requestedWithin c b s id len v w t k .reach) → k + callsIn b s w id ≤ c
+    one-fits id len v w t k n = ⊎-elim (λ i. i) (λ i. absurd (n len v (take len t) (ap (λ (a : Within). a .reach) (request-over c b s id len v w t k i)))) (le-or-lt (k + callsIn b s w id) c)
 
     first-fine : (F : ℕ → List ℕ → List ℕ → ℕ → Within) (a : Within) → Fine (onwardWithin (a .reach) (a .made) F .reach) → Fine (a .reach)
     unfolding onwardWithin
-    first-fine F a n len t e = n len t (ap (λ (q : Reach). onwardWithin q (a .made) F .reach) e)
+    first-fine F a n len v t e = n len v t (ap (λ (q : Reach). onwardWithin q (a .made) F .reach) e)
 
     pub from-fits : (n id len : ℕ) (w t : List ℕ) (k : ℕ) → k ≤ c → Fine (requestedFromWithin c b s n id len w t k .reach)
         → Fit c c′ (requestedFromWithin c b s n id len w t k) (requestedFromWithin c′ b s n id len w t k) (requestedFrom b s n id len w t)
     unfolding requestedFromWithin requestedFrom
     from-fits zero id len w t k i h = record { same-reach = refl; few = i; same-within = refl }
     from-fits (suc n) id len w t k i h =
-        let f : k + callsIn b s w id ≤ c = one-fits id len w t k (first-fine (requestedFromWithin c b s n (suc id)) (requestedWithin c b s id len w t k) h) in
-        let e = request-fits c b s id len w t k f in
-        let e′ = request-fits c′ b s id len w t k (omega arith) in
+        let f : k + callsIn b s w id ≤ c = one-fits id len (visitsIn w) w t k (first-fine (requestedFromWithin c b s n (suc id)) (requestedWithin c b s id len (visitsIn w) w t k) h) in
+        let e = request-fits c b s id len (visitsIn w) w t k f in
+        let e′ = request-fits c′ b s id len (visitsIn w) w t k (omega arith) in
         let r = onward-fits (requestedFromWithin c b s n (suc id)) (requestedFromWithin c′ b s n (suc id)) (requestedFrom b s n (suc id)) (k + callsIn b s w id) f
-        (λ len′ w′ t′ h′. from-fits n (suc id) len′ w′ t′ (k + callsIn b s w id) f h′) (requested b s id len w t)
+        (λ len′ w′ t′ h′. from-fits n (suc id) len′ w′ t′ (k + callsIn b s w id) f h′) (requested b s id len (visitsIn w) w t)
         (subst (λ (a : Within). Fine (onwardWithin (a .reach) (a .made) (requestedFromWithin c b s n (suc id)) .reach)) e h) in
         record {
           same-reach = ap (λ (a : Within). onwardWithin (a .reach) (a .made) (requestedFromWithin c b s n (suc id)) .reach) e ∙ r .same-reach;
@@ -82,11 +82,11 @@ module _ (s : Session) (section w t : List ℕ) where
   ends q = settled s (length w) (length t) q
 
   type-on : (id k : ℕ) → isCurrent s (length section) (length w) (length t) ≡ true → ltb id (s .types) ≡ true → (c : ℕ)
-      → typeCallWithin c s section w t id k ≡ settledWithin s (length w) (length t) (requestedWithin c (tableFor s section) section id (s .«text_len») w t k)
+      → typeCallWithin c s section w t id k ≡ settledWithin s (length w) (length t) (requestedWithin c (tableFor s section) section id (s .«text_len») (s .visits) w t k)
   unfolding typeCallWithin
   type-on id k e f c = rw (e, typeCallWithin, f)
 
-  plain-on : (id : ℕ) → isCurrent s (length section) (length w) (length t) ≡ true → ltb id (s .types) ≡ true → typeCall s section w t id ≡ ends (requested (tableFor s section) section id (s .«text_len») w t)
+  plain-on : (id : ℕ) → isCurrent s (length section) (length w) (length t) ≡ true → ltb id (s .types) ≡ true → typeCall s section w t id ≡ ends (requested (tableFor s section) section id (s .«text_len») (s .visits) w t)
   unfolding typeCall
   plain-on id e f = rw (e, typeCall, f)
 
@@ -97,10 +97,10 @@ module _ (s : Session) (section w t : List ℕ) where
   type-by c id k l true false e f n = record { same-call = rw (e, typeCallWithin, typeCall, f) refl; at-most = rw (e, typeCallWithin, f) l; larger = λ c′ i. rw (e, typeCallWithin, f) refl }
   type-by c id k l true true e f n =
       let on = type-on id k e f in
-      let fine : Fine (requestedWithin c (tableFor s section) section id (s .«text_len») w t k .reach) = fine-settled s (length w) (length t) _ (λ z. n (ap (λ (d : CallWithin). numberOf (d .call .answer)) (on c) ∙ z)) in
-      let few = one-fits c c (omega arith) (tableFor s section) section id (s .«text_len») w t k fine in
-      let at : (c′ : ℕ) → c ≤ c′ → typeCallWithin c′ s section w t id k ≡ record { call = ends (requested (tableFor s section) section id (s .«text_len») w t); made = k + callsIn (tableFor s section) section w id } =
-      λ c′ i. on c′ ∙ ap (settledWithin s (length w) (length t)) (request-fits c′ (tableFor s section) section id (s .«text_len») w t k (omega (arith, few))) in
+      let fine : Fine (requestedWithin c (tableFor s section) section id (s .«text_len») (s .visits) w t k .reach) = fine-settled s (length w) (length t) _ (λ z. n (ap (λ (d : CallWithin). numberOf (d .call .answer)) (on c) ∙ z)) in
+      let few = one-fits c c (omega arith) (tableFor s section) section id (s .«text_len») (s .visits) w t k fine in
+      let at : (c′ : ℕ) → c ≤ c′ → typeCallWithin c′ s section w t id k ≡ record { call = ends (requested (tableFor s section) section id (s .«text_len») (s .visits) w t); made = k + callsIn (tableFor s section) section w id } =
+      λ c′ i. on c′ ∙ ap (settledWithin s (length w) (length t)) (request-fits c′ (tableFor s section) section id (s .«text_len») (s .visits) w t k (omega (arith, few))) in
       record {
         same-call = ap (λ (d : CallWithin). d .call) (at c (omega arith)) ∙ sym (plain-on id e f);
         at-most = subst (λ (d : CallWithin). d .made ≤ c) (sym (at c (omega arith))) few;
@@ -136,6 +136,6 @@ module _ (s : Session) (section w t : List ℕ) where
 
 -- "22 when one more call would pass the ceiling": the count is the ceiling, and the call ends as every refusal that closes the session
 pub type-22 : (s : Session) (section w t : List ℕ) (c id k : ℕ) → isCurrent s (length section) (length w) (length t) ≡ true → ltb id (s .types) ≡ true → c < k + callsIn (tableFor s section) section w id
-    → typeCallWithin c s section w t id k ≡ record { call = settled s (length w) (length t) (refusedBy 22 (s .«text_len») (take (s .«text_len») t)); made = c }
+    → typeCallWithin c s section w t id k ≡ record { call = settled s (length w) (length t) (refusedBy 22 (s .«text_len») (s .visits) (take (s .«text_len») t)); made = c }
 unfolding settledWithin
-type-22 s section w t c id k e f l = type-on s section w t id k e f c ∙ ap (settledWithin s (length w) (length t)) (request-over c (tableFor s section) section id (s .«text_len») w t k l)
+type-22 s section w t c id k e f l = type-on s section w t id k e f c ∙ ap (settledWithin s (length w) (length t)) (request-over c (tableFor s section) section id (s .«text_len») (s .visits) w t k l)

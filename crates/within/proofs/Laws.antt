@@ -29,7 +29,7 @@ use Rattle.turns.specs.declared.Session.{Session}
 use Rattle.turns.specs.declared.Turn.{Turn}
 use Rattle.turns.specs.declared.Reached.{Reached}
 use Rattle.turns.specs.Answers.{answerOf}
-use Rattle.turns.specs.Turns.{Call, callOf, turnOf, isCurrent, Reach, reached, refusedBy, reachOf, settled, unchanged}
+use Rattle.turns.specs.Turns.{Call, callOf, turnOf, isCurrent, Reach, reached, refusedBy, reachOf, settled, unchanged, visitsIn}
 use Rattle.turns.proofs.Laws.{reach-accepted, reach-refused}
 use Rattle.calls.specs.Refusals.{number, value, notCurrent, idNotBelow, refusal}
 use Rattle.calls.specs.Calls.{limitOf, arrivedAt, requested}
@@ -39,12 +39,12 @@ use Rattle.within.specs.declared.Metered.{Metered}
 use Rattle.within.specs.Within.{Within, withinOf, requestedWithin, onwardWithin, requestedFromWithin, CallWithin, countedOf, settledWithin, typeCallWithin, typesCallWithin}
 
 -- ---- one request, by whether its calls fit
-module _ (c : ℕ) (b : Btf) (s : List ℕ) (id len : ℕ) (w t : List ℕ) (k : ℕ) where
-  pub request-fits : k + callsIn b s w id ≤ c → requestedWithin c b s id len w t k ≡ record { reach = requested b s id len w t; made = k + callsIn b s w id }
+module _ (c : ℕ) (b : Btf) (s : List ℕ) (id len v : ℕ) (w t : List ℕ) (k : ℕ) where
+  pub request-fits : k + callsIn b s w id ≤ c → requestedWithin c b s id len v w t k ≡ record { reach = requested b s id len v w t; made = k + callsIn b s w id }
   unfolding requestedWithin
   request-fits l = rw (le-leb (k + callsIn b s w id) c l, requestedWithin)
 
-  pub request-over : c < k + callsIn b s w id → requestedWithin c b s id len w t k ≡ record { reach = refusedBy 22 len (take len t); made = c }
+  pub request-over : c < k + callsIn b s w id → requestedWithin c b s id len v w t k ≡ record { reach = refusedBy 22 len v (take len t); made = c }
   unfolding requestedWithin
   request-over l = rw (lt-leb (k + callsIn b s w id) c l, requestedWithin)
 
@@ -103,50 +103,54 @@ module _ (c : ℕ) (b : Btf) (s w t : List ℕ) (len id to k : ℕ) (below : len
   pub bound : at ≤ to - len + 23
   bound = ⊎-elim (λ l. omega (arith, one-bound b s w t len id to below ends at u w′ same (fits l))) (λ l. omega (arith, over l)) (le-or-lt opens (c - k))
 
-  module _ (el : to ≡ limitOf (length t) len) (r : Reached) (er : r ≡ arrivedAt len (to - len) at) (spare : ℕ) (ep : spare ≡ c - k - opens) where
+  module _ (el : to ≡ limitOf (length t) len) (r : Reached) (v : ℕ) (er : r ≡ arrivedAt len v (to - len) at) (spare : ℕ) (ep : spare ≡ c - k - opens) where
     abbrev text′ : List ℕ
     text′ = putMid len (to - len) t u
 
     whole-length : length text′ ≡ length t
     whole-length = same-len-mid len (to - len) t u same
 
-    came-fits : opens ≤ c - k → (withinOf (record { reached = r; made = c - spare }) w′ text′ ≡ requestedWithin c b s id len w t k) × (r .len ≤ length text′)
+    came-fits : opens ≤ c - k → (withinOf (record { reached = r; made = c - spare }) w′ text′ ≡ requestedWithin c b s id len v w t k) × (r .len ≤ length text′)
     came-fits l =
-        let q = one-reach b s w t len id to below ends at u w′ same (fits l) el r er in
-        (within-is r (c - spare) w′ text′ _ _ (q .0) (omega (arith, ep)) ∙ sym (request-fits c b s id len w t k (omega arith)), q .1)
+        let q = one-reach b s w t len id to below ends at u w′ same (fits l) el r v er in
+        (within-is r (c - spare) w′ text′ _ _ (q .0) (omega (arith, ep)) ∙ sym (request-fits c b s id len v w t k (omega arith)), q .1)
 
-    came-over : c - k < opens → (withinOf (record { reached = r; made = c - spare }) w′ text′ ≡ requestedWithin c b s id len w t k) × (r .len ≤ length text′)
+    came-over : c - k < opens → (withinOf (record { reached = r; made = c - spare }) w′ text′ ≡ requestedWithin c b s id len v w t k) × (r .len ≤ length text′)
     came-over l =
-        let p : r ≡ record { len = len; number = at - (to - len) - 1 } = er ∙ sym (arrived-past len (to - len) at (omega (arith, over l))) in
+        let p : r ≡ record { len = len; number = at - (to - len) - 1; visits = v } = er ∙ sym (arrived-past len v (to - len) at (omega (arith, over l))) in
         let n : r .number ≡ 22 = ap (λ (x : Reached). x .number) p ∙ omega (arith, over l) in
         let h : r .len ≡ len = ap (λ (x : Reached). x .len) p in (
           within-is r (c - spare) w′ text′ _ _
-              (reach-refused r w′ text′ (λ z. absurd (omega arith)) ∙ (λ i. refusedBy (n i) (h i) (take (h i) text′)) ∙ ap (refusedBy 22 len) (take-at (take len t) (u ++ postOf len (to - len) t) len (length-take-le len t (omega arith))))
+              (reach-refused r w′ text′ (λ z. absurd (omega arith)) ∙ (λ i. refusedBy (n i) (h i) (p i .visits) (take (h i) text′)) ∙ ap (refusedBy 22 len v) (take-at (take len t) (u ++ postOf len (to - len) t) len (length-take-le len t (omega arith))))
               (omega (arith, ep))
-              ∙ sym (request-over c b s id len w t k (omega arith)),
+              ∙ sym (request-over c b s id len v w t k (omega arith)),
           omega (arith, whole-length),
         )
 
-    pub one-within : (withinOf (record { reached = r; made = c - spare }) w′ text′ ≡ requestedWithin c b s id len w t k) × (r .len ≤ length text′) × (c - spare ≤ c)
+    pub one-within : (withinOf (record { reached = r; made = c - spare }) w′ text′ ≡ requestedWithin c b s id len v w t k) × (r .len ≤ length text′) × (c - spare ≤ c)
     one-within = let q = ⊎-elim came-fits came-over (le-or-lt opens (c - k)) in (q .0, q .1, omega arith)
 
+-- the visits as the code reads them
+pub read-before : (c : ℕ) (b : Btf) (s w t : List ℕ) (len id v k : ℕ) (q : Within) → q ≡ requestedWithin c b s id len v w t k → v ≡ visitsIn w → q ≡ requestedWithin c b s id len (visitsIn w) w t k
+read-before c b s w t len id v k q e h = e ∙ ap (λ (u : ℕ). requestedWithin c b s id len u w t k) h
+
 -- ---- dump_next: an id with nothing to write opens one call
-module _ (c : ℕ) (b : Btf) (s w t : List ℕ) (len id k : ℕ) (short : len ≤ length t) (small : k ≤ c) (q : Bool) (e : q ≡ isIdle (markOf (getField w id 1)) (tableIn b s w .node id)) (h : q ≡ true) where
+module _ (c : ℕ) (b : Btf) (s w t : List ℕ) (len v id k : ℕ) (short : len ≤ length t) (small : k ≤ c) (q : Bool) (e : q ≡ isIdle (markOf (getField w id 1)) (tableIn b s w .node id)) (h : q ≡ true) where
   one-call : callsIn b s w id ≡ 1
   one-call = idle-calls b s w id (sym e ∙ h)
 
-  pub next-none : c ≤ k → (withinOf (record { reached = record { len = len; number = 22 }; made = k }) w t ≡ requestedWithin c b s id len w t k) × (len ≤ length t) × (k ≤ c)
+  pub next-none : c ≤ k → (withinOf (record { reached = record { len = len; number = 22; visits = v }; made = k }) w t ≡ requestedWithin c b s id len v w t k) × (len ≤ length t) × (k ≤ c)
   next-none l = (
-    within-is (record { len = len; number = 22 }) k w t (refusedBy 22 len (take len t)) c (reach-refused (record { len = len; number = 22 }) w t (λ z. absurd (omega arith))) (omega arith)
-        ∙ sym (request-over c b s id len w t k (omega (arith, one-call))),
+    within-is (record { len = len; number = 22; visits = v }) k w t (refusedBy 22 len v (take len t)) c (reach-refused (record { len = len; number = 22; visits = v }) w t (λ z. absurd (omega arith))) (omega arith)
+        ∙ sym (request-over c b s id len v w t k (omega (arith, one-call))),
     short,
     small,
   )
 
-  pub next-more : k < c → (withinOf (record { reached = record { len = len; number = 0 }; made = k + 1 }) w t ≡ requestedWithin c b s id len w t k) × (len ≤ length t) × (k + 1 ≤ c)
+  pub next-more : k < c → (withinOf (record { reached = record { len = len; number = 0; visits = v }; made = k + 1 }) w t ≡ requestedWithin c b s id len v w t k) × (len ≤ length t) × (k + 1 ≤ c)
   next-more l = (
-    within-is (record { len = len; number = 0 }) (k + 1) w t (requested b s id len w t) (k + callsIn b s w id) (idle-reach b s w t len id short q e h .0) (omega (arith, one-call))
-        ∙ sym (request-fits c b s id len w t k (omega (arith, one-call))),
+    within-is (record { len = len; number = 0; visits = v }) (k + 1) w t (requested b s id len v w t) (k + callsIn b s w id) (idle-reach b s w t len v v id short q e h .0) (omega (arith, one-call))
+        ∙ sym (request-fits c b s id len v w t k (omega (arith, one-call))),
     short,
     omega arith,
   )
@@ -154,12 +158,12 @@ module _ (c : ℕ) (b : Btf) (s w t : List ℕ) (len id k : ℕ) (short : len �
 -- ---- dump_all
 module _ (c : ℕ) (b : Btf) (s : List ℕ) (whole : Within) where
   unroll : (n id len : ℕ) (w t : List ℕ) (k : ℕ) → id < n
-      → requestedFromWithin c b s (n - id) id len w t k ≡ onwardWithin (requestedWithin c b s id len w t k .reach) (requestedWithin c b s id len w t k .made) (requestedFromWithin c b s (n - (id + 1)) (id + 1))
+      → requestedFromWithin c b s (n - id) id len w t k ≡ onwardWithin (requestedWithin c b s id len (visitsIn w) w t k .reach) (requestedWithin c b s id len (visitsIn w) w t k .made) (requestedFromWithin c b s (n - (id + 1)) (id + 1))
   unfolding requestedFromWithin
   unroll n id len w t k h =
       let e : n - id ≡ suc (n - (id + 1)) = omega arith in
       ap (λ (j : ℕ). requestedFromWithin c b s j id len w t k) e
-      ∙ ap (λ (j : ℕ). onwardWithin (requestedWithin c b s id len w t k .reach) (requestedWithin c b s id len w t k .made) (requestedFromWithin c b s (n - (id + 1)) j)) (sym (add-one id))
+      ∙ ap (λ (j : ℕ). onwardWithin (requestedWithin c b s id len (visitsIn w) w t k .reach) (requestedWithin c b s id len (visitsIn w) w t k .made) (requestedFromWithin c b s (n - (id + 1)) j)) (sym (add-one id))
 
   pub all-done : (n id : ℕ) (r : Metered) (w t : List ℕ) → n ≤ id → r .reached .number ≡ 0 → whole ≡ requestedFromWithin c b s (n - id) id (r .reached .len) w t (r .made) → withinOf r w t ≡ whole
   unfolding requestedFromWithin
@@ -168,7 +172,7 @@ module _ (c : ℕ) (b : Btf) (s : List ℕ) (whole : Within) where
       within-is (r .reached) (r .made) w t (reached (r .reached .len) w t) (r .made) (reach-accepted (r .reached) w t z) refl
       ∙ sym (e ∙ ap (λ (m : ℕ). requestedFromWithin c b s m id (r .reached .len) w t (r .made)) k)
 
-  module _ (n id len : ℕ) (w t : List ℕ) (k : ℕ) (h : id < n) (e : whole ≡ requestedFromWithin c b s (n - id) id len w t k) (r : Metered) (w′ t′ : List ℕ) (er : withinOf r w′ t′ ≡ requestedWithin c b s id len w t k) where
+  module _ (n id len : ℕ) (w t : List ℕ) (k : ℕ) (h : id < n) (e : whole ≡ requestedFromWithin c b s (n - id) id len w t k) (r : Metered) (w′ t′ : List ℕ) (er : withinOf r w′ t′ ≡ requestedWithin c b s id len (visitsIn w) w t k) where
     goes-on : whole ≡ onwardWithin (reachOf (r .reached) w′ t′) (r .made) (requestedFromWithin c b s (n - (id + 1)) (id + 1))
     unfolding withinOf
     goes-on = e ∙ unroll n id len w t k h ∙ ap (λ (q : Within). onwardWithin (q .reach) (q .made) (requestedFromWithin c b s (n - (id + 1)) (id + 1))) (sym er)
@@ -180,7 +184,7 @@ module _ (c : ℕ) (b : Btf) (s : List ℕ) (whole : Within) where
     pub all-stop : (r .reached .number ≡ 0 → ⊥) → withinOf r w′ t′ ≡ whole
     unfolding onwardWithin
     all-stop z =
-        within-is (r .reached) (r .made) w′ t′ (refusedBy (r .reached .number) (r .reached .len) (take (r .reached .len) t′)) (r .made) (reach-refused (r .reached) w′ t′ z) refl
+        within-is (r .reached) (r .made) w′ t′ (refusedBy (r .reached .number) (r .reached .len) (r .reached .visits) (take (r .reached .len) t′)) (r .made) (reach-refused (r .reached) w′ t′ z) refl
         ∙ sym (goes-on ∙ ap (λ (q : Reach). onwardWithin q (r .made) (requestedFromWithin c b s (n - (id + 1)) (id + 1))) (reach-refused (r .reached) w′ t′ z))
 
 -- ---- the calls
@@ -215,10 +219,10 @@ module _ (c : ℕ) (s : Session) (section w t : List ℕ) (q : Bool) (eq : q ≡
       unfolding settledWithin withinOf
       settles a ea = counted-is turn (r .made) w″ t″ _ _ et refl ∙ (λ i. settledWithin s (lw i) (lt i) (ea i))
 
-      pub type-done : (id k : ℕ) → id < s .types → withinOf r w′ t′ ≡ requestedWithin c b section id (s .«text_len») w t k → countedOf (record { turn = turn; made = r .made }) w″ t″ ≡ typeCallWithin c s section w t id k
+      pub type-done : (id k : ℕ) → id < s .types → withinOf r w′ t′ ≡ requestedWithin c b section id (s .«text_len») (s .visits) w t k → countedOf (record { turn = turn; made = r .made }) w″ t″ ≡ typeCallWithin c s section w t id k
       unfolding typeCallWithin
       type-done id k l er =
-          settles _ (er ∙ ap (λ (a : Btf). requestedWithin c a section id (s .«text_len») w t k) eb)
+          settles _ (er ∙ ap (λ (a : Btf). requestedWithin c a section id (s .«text_len») (s .visits) w t k) eb)
           ∙ sym (rw (sym eq ∙ not-false q h, typeCallWithin, lt-ltb id (s .types) l))
 
       pub types-done : withinOf r w′ t′ ≡ requestedFromWithin c b section (b .types - 1) 1 (s .«text_len») w t 0 → countedOf (record { turn = turn; made = r .made }) w″ t″ ≡ typesCallWithin c s section w t

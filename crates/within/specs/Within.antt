@@ -8,7 +8,7 @@ use lib.Dec.{leb, ltb}
 use Rattle.btf.specs.declared.types.Btf.{Btf}
 use Rattle.dump.specs.Metered.{callsIn}
 use Rattle.turns.specs.declared.Session.{Session}
-use Rattle.turns.specs.Turns.{Call, callOf, isCurrent, tableFor, Reach, reached, refusedBy, reachOf, settled, unchanged}
+use Rattle.turns.specs.Turns.{Call, callOf, isCurrent, tableFor, Reach, reached, refusedBy, visitsIn, reachOf, settled, unchanged}
 use Rattle.calls.specs.Refusals.{notCurrent, idNotBelow, refusal}
 use Rattle.calls.specs.Calls.{requested}
 use Rattle.within.specs.declared.Counted.{Counted}
@@ -24,22 +24,22 @@ unfoldable pub withinOf : Metered → List ℕ → List ℕ → Within
 withinOf r w t = record { reach = reachOf (r .reached) w t; made = r .made }
 
 -- One request: the plain one, where the calls that it opens fit, and else "22 when one more call would pass the ceiling".
-unfoldable pub requestedWithin : ℕ → Btf → List ℕ → ℕ → ℕ → List ℕ → List ℕ → ℕ → Within
-requestedWithin c b s id len w t k =
+unfoldable pub requestedWithin : ℕ → Btf → List ℕ → ℕ → ℕ → ℕ → List ℕ → List ℕ → ℕ → Within
+requestedWithin c b s id len v w t k =
     elim (leb (k + callsIn b s w id) c) [
-      | true ↦ record { reach = requested b s id len w t; made = k + callsIn b s w id }
-      | false ↦ record { reach = refusedBy 22 len (take len t); made = c }
+      | true ↦ record { reach = requested b s id len v w t; made = k + callsIn b s w id }
+      | false ↦ record { reach = refusedBy 22 len v (take len t); made = c }
     ]
 
 -- after a refusal comes nothing
 unfoldable pub onwardWithin : Reach → ℕ → (ℕ → List ℕ → List ℕ → ℕ → Within) → Within
 onwardWithin (reached len w t) k f = f len w t k
-onwardWithin (refusedBy n len t) k f = record { reach = refusedBy n len t; made = k }
+onwardWithin (refusedBy n len v t) k f = record { reach = refusedBy n len v t; made = k }
 
 -- n ids from id on
 unfoldable pub requestedFromWithin : ℕ → Btf → List ℕ → ℕ → ℕ → ℕ → List ℕ → List ℕ → ℕ → Within
 requestedFromWithin c b s zero id len w t k = record { reach = reached len w t; made = k }
-requestedFromWithin c b s (suc n) id len w t k = onwardWithin (requestedWithin c b s id len w t k .reach) (requestedWithin c b s id len w t k .made) (requestedFromWithin c b s n (suc id))
+requestedFromWithin c b s (suc n) id len w t k = onwardWithin (requestedWithin c b s id len (visitsIn w) w t k .reach) (requestedWithin c b s id len (visitsIn w) w t k .made) (requestedFromWithin c b s n (suc id))
 
 -- what a call comes to, and the calls made; 11 and 10 make none
 pub record CallWithin : Type 0 where
@@ -59,7 +59,7 @@ typeCallWithin c s section work text id k =
       | false ↦ record { call = unchanged s (refusal notCurrent (s .«text_len»)) work text; made = k }
       | true ↦ elim (ltb id (s .types)) [
         | false ↦ record { call = unchanged s (refusal idNotBelow (s .«text_len»)) work text; made = k }
-        | true ↦ settledWithin s (length work) (length text) (requestedWithin c (tableFor s section) section id (s .«text_len») work text k)
+        | true ↦ settledWithin s (length work) (length text) (requestedWithin c (tableFor s section) section id (s .«text_len») (s .visits) work text k)
       ]
     ]
 

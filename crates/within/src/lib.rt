@@ -12,6 +12,7 @@ use turns::Turn;
 use turns::is_current;
 use turns::settle;
 use turns::turn_of;
+use turns::visits_in;
 ghost use Prim.Native.Nat.{_+_, _-_, _<_, _≤_};
 ghost use mathlib.Core.Path.{_≡_};
 ghost use lib.ListN.{length};
@@ -29,25 +30,26 @@ struct Metered {
     made: u64,
 }
 
-// One id, after a text of len bytes and so many calls.
+// One id, after a text of len bytes, so many visits and so many calls.
 fn dump_one(
     b: Btf,
     section: &[u8],
     work: &mut [u8],
     text: &mut [u8],
     len: u32,
+    visits: u32,
     id: u32,
     made: u64,
     ceiling: u64,
 ) -> Metered
     requires { ⌜ (len ≤ length (now text)) × (made ≤ ceiling) ⌝ }
-    ensures { λ r. ⌜ (withinOf r (now (work .exit)) (now (text .exit)) ≡ requestedWithin ceiling b (now (section .entry)) id len (now (work .entry)) (now (text .entry)) made) × (r .reached .len ≤ length (now (text .exit))) × (r .made ≤ ceiling) ⌝ }
+    ensures { λ r. ⌜ (withinOf r (now (work .exit)) (now (text .exit)) ≡ requestedWithin ceiling b (now (section .entry)) id len visits (now (work .entry)) (now (text .entry)) made) × (r .reached .len ≤ length (now (text .exit))) × (r .made ≤ ceiling) ⌝ }
 {
     let from = len as usize;
     let to = limit(text.len(), from);
     let d = dump::dump_type_within(b, section, work, &mut text[from..to], 0, id, ceiling - made);
     Metered {
-        reached: arrived(len, to - from, d.at),
+        reached: arrived(len, visits, to - from, d.at),
         made: ceiling - d.spare,
     }
 }
@@ -59,21 +61,23 @@ fn dump_next(
     work: &mut [u8],
     text: &mut [u8],
     len: u32,
+    visits: u32,
     id: u32,
     made: u64,
     ceiling: u64,
 ) -> Metered
     requires { ⌜ (len ≤ length (now text)) × (made ≤ ceiling) ⌝ }
-    ensures { λ r. ⌜ (withinOf r (now (work .exit)) (now (text .exit)) ≡ requestedWithin ceiling b (now (section .entry)) id len (now (work .entry)) (now (text .entry)) made) × (r .reached .len ≤ length (now (text .exit))) × (r .made ≤ ceiling) ⌝ }
+    ensures { λ r. ⌜ (withinOf r (now (work .exit)) (now (text .exit)) ≡ requestedWithin ceiling b (now (section .entry)) id len visits (now (work .entry)) (now (text .entry)) made) × (r .reached .len ≤ length (now (text .exit))) × (r .made ≤ ceiling) ⌝ }
 {
     if !dump::is_idle(b, section, work, id) {
-        return dump_one(b, section, work, text, len, id, made, ceiling);
+        return dump_one(b, section, work, text, len, visits, id, made, ceiling);
     }
     if ceiling <= made {
         return Metered {
             reached: Reached {
                 len: len,
                 number: 22,
+                visits: visits,
             },
             made: made,
         };
@@ -82,6 +86,7 @@ fn dump_next(
         reached: Reached {
             len: len,
             number: 0,
+            visits: visits,
         },
         made: made + 1,
     }
@@ -104,12 +109,15 @@ fn dump_all(
         reached: Reached {
             len: len,
             number: 0,
+            visits: 0,
         },
         made: 0,
     };
     let mut id: u32 = 1;
     while id < n {
-        r = dump_next(b, section, work, text, r.reached.len, id, r.made, ceiling);
+        let at = r.reached.len;
+        let visits = visits_in(work);
+        r = dump_next(b, section, work, text, at, visits, id, r.made, ceiling);
         if r.reached.number != 0 {
             return r;
         }
@@ -141,7 +149,7 @@ pub fn dump_type_within(
         };
     }
     let b = btf_of(section, s.pointer_size, s.modes, s.types);
-    let r = dump_one(b, section, work, text, s.text_len, id, 0, ceiling);
+    let r = dump_one(b, section, work, text, s.text_len, s.visits, id, 0, ceiling);
     Counted {
         turn: settle(s, work, text, r.reached),
         made: r.made,

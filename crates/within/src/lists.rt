@@ -9,6 +9,7 @@ use turns::Session;
 use turns::Tally;
 use turns::is_current;
 use turns::turn_of;
+use turns::visits_in;
 ghost use mathlib.Core.Bool.{true};
 ghost use mathlib.Core.Path.{_≡_};
 ghost use lib.ListN.{length};
@@ -23,14 +24,15 @@ struct Tallied {
     made: u64,
 }
 
-fn tally_of(len: u32, number: u32, accepted: u32, made: u64) -> Tallied
-    ensures { λ r. ⌜ r ≡ record { tally = record { len = len; number = number; accepted = accepted }; made = made } ⌝ }
+fn tally_of(len: u32, number: u32, accepted: u32, visits: u32, made: u64) -> Tallied
+    ensures { λ r. ⌜ r ≡ record { tally = record { len = len; number = number; accepted = accepted; visits = visits }; made = made } ⌝ }
 {
     Tallied {
         tally: Tally {
             len: len,
             number: number,
             accepted: accepted,
+            visits: visits,
         },
         made: made,
     }
@@ -51,22 +53,24 @@ fn dump_ids(
     let b = btf_of(section, s.pointer_size, s.modes, s.types);
     let n = count_of(ids);
     let mut len = s.text_len;
+    let mut visits = s.visits;
     let mut made: u64 = 0;
     let mut k: u32 = 0;
     while k < n {
         let id = get_word(ids, k as usize);
         if s.types <= id {
-            return tally_of(len, 10, k, made);
+            return tally_of(len, 10, k, visits, made);
         }
-        let r = dump_next(b, section, work, text, len, id, made, ceiling);
+        let r = dump_next(b, section, work, text, len, visits, id, made, ceiling);
         if r.reached.number != 0 {
-            return tally_of(r.reached.len, r.reached.number, k, r.made);
+            return tally_of(r.reached.len, r.reached.number, k, r.reached.visits, r.made);
         }
         len = r.reached.len;
+        visits = visits_in(work);
         made = r.made;
         k += 1;
     }
-    tally_of(len, 0, k, made)
+    tally_of(len, 0, k, visits, made)
 }
 
 pub fn dump_list_within(

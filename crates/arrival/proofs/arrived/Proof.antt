@@ -10,7 +10,7 @@ sum-requires : tie.Need-sum-requires
 sum-requires c κs = search needs
 
 returns : tie.Need-returns
-returns c = in-is _ _ _ (c .before .if1 .taken) _ (c .sum .ensures)
+returns c = in-is _ _ _ _ (c .before .if1 .taken) _ (c .sum .ensures)
 
 sub-sum : tie.Need-sub-sum
 sub-sum c = search needs
@@ -22,7 +22,7 @@ sum-requires-2 : tie.Need-sum-requires-2
 sum-requires-2 c κs = search needs
 
 returns-2 : tie.Need-returns-2
-returns-2 c = past-is _ _ _ (c .before .if1 .left) _ (c .sum2 .ensures)
+returns-2 c = past-is _ _ _ _ (c .before .if1 .left) _ (c .sum2 .ensures)
 
 pub arrived-spec : {M : Type 1} → statement M
 arrived-spec = tie.close (tie.spec sum-requires returns sub-sum sub-sum-2 sum-requires-2 returns-2)

@@ -4,8 +4,8 @@ use Rattle.btfdump_c.proofs.btfdump_field.Statement.{statement}
 use Rattle.btfdump_c.proofs.btfdump_field.Tie as tie
 use Rattle.btfdump_c.proofs.btfdump_field.Reads as reads
 use Rattle.btfdump_c.proofs.btfdump_field.Lts as lts
-use Rattle.c_record.proofs.decode.Reads as decode-reads
-use Rattle.c_record.proofs.number_and_value.Reads as number-and-value-reads
+use Rattle.c_words.proofs.decode.Reads as decode-reads
+use Rattle.c_words.proofs.number_and_value.Reads as number-and-value-reads
 use Rattle.field.proofs.which_field.Reads as which-field-reads
 
 returns : tie.Need-returns

@@ -23,13 +23,13 @@ same-length : tie.Need-same-length
 same-length c = search needs
 
 returns : tie.Need-returns
-returns c = laws.store-accepted _ _ _ _ (c .before .before .before .before .before .a .given .1) (c .before .before .put-long .ensures)
+returns c = laws.store-accepted _ _ _ _ _ (c .before .before .before .before .before .a .given .1) (c .before .before .put-reached .ensures)
 
 same-length-2 : tie.Need-same-length-2
 same-length-2 c = search needs
 
 returns-2 : tie.Need-returns-2
-returns-2 c = laws.store-refused _ _ _ _ _ (c .before .before .before .before .before .a2 .given .1) (c .before .before .store-refused .ensures)
+returns-2 c = laws.store-refused _ _ _ _ _ _ (c .before .before .before .before .before .a2 .given .1) (c .before .before .store-refused .ensures)
 
 pub store-spec : {M : Type 1} → statement M
 store-spec =

@@ -19,13 +19,13 @@ same-length : tie.Need-same-length
 same-length c = search needs
 
 returns : tie.Need-returns
-returns c = laws.list-accepted _ _ _ _ _ (c .before .before .before .before .before .a .given .1) (c .before .before .store-longer .ensures)
+returns c = laws.list-accepted _ _ _ _ _ _ (c .before .before .before .before .before .a .given .1) (c .before .before .store-longer .ensures)
 
 same-length-2 : tie.Need-same-length-2
 same-length-2 c = search needs
 
 returns-2 : tie.Need-returns-2
-returns-2 c = laws.list-refused _ _ _ _ _ _ (c .before .before .before .before .before .a2 .given .1) (c .before .before .store-stopped .ensures)
+returns-2 c = laws.list-refused _ _ _ _ _ _ _ (c .before .before .before .before .before .a2 .given .1) (c .before .before .store-stopped .ensures)
 
 pub store-list-spec : {M : Type 1} → statement M
 store-list-spec =

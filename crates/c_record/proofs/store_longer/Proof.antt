@@ -4,16 +4,16 @@ use Rattle.c_record.proofs.store_longer.Statement.{statement}
 use Rattle.c_record.proofs.store_longer.Tie as tie
 
 returns : tie.Need-returns
-returns c = laws.longer-none _ _ _ (c .if1 .taken)
+returns c = laws.longer-none _ _ _ _ (c .if1 .taken)
 
-put-long-requires : tie.Need-put-long-requires
-put-long-requires c κs = search needs
+put-reached-requires : tie.Need-put-reached-requires
+put-reached-requires c κs = search needs
 
 same-length : tie.Need-same-length
 same-length c = search needs
 
 returns-2 : tie.Need-returns-2
-returns-2 c = laws.longer-some _ _ _ _ (c .before .before .before .before .if1 .left) (c .before .before .put-long .ensures)
+returns-2 c = laws.longer-some _ _ _ _ _ (c .before .before .before .before .if1 .left) (c .before .before .put-reached .ensures)
 
 pub store-longer-spec : {M : Type 1} → statement M
-store-longer-spec = tie.close (tie.spec returns put-long-requires same-length returns-2)
+store-longer-spec = tie.close (tie.spec returns put-reached-requires same-length returns-2)

@@ -4,19 +4,19 @@ use Rattle.c_record.proofs.store_refused.Statement.{statement}
 use Rattle.c_record.proofs.store_refused.Tie as tie
 
 returns : tie.Need-returns
-returns c = laws.kept-below _ _ _ (c .if1 .taken)
+returns c = laws.kept-below _ _ _ _ (c .if1 .taken)
 
 put-long-requires : tie.Need-put-long-requires
 put-long-requires c κs = search needs
 
-put-long-requires-2 : tie.Need-put-long-requires-2
-put-long-requires-2 c κs = search needs
+put-reached-requires : tie.Need-put-reached-requires
+put-reached-requires c κs = search needs
 
 same-length : tie.Need-same-length
 same-length c = search needs
 
 returns-2 : tie.Need-returns-2
-returns-2 c = laws.closed-is _ _ _ _ _ (c .before .before .before .before .before .before .before .before .if1 .left) (c .before .before .before .before .before .before .put-long .ensures) (c .before .before .put-long2 .ensures)
+returns-2 c = laws.closed-is _ _ _ _ _ _ (c .before .before .before .before .before .before .before .before .if1 .left) (c .before .before .before .before .before .before .put-long .ensures) (c .before .before .put-reached .ensures)
 
 pub store-refused-spec : {M : Type 1} → statement M
 store-refused-spec =
@@ -24,6 +24,6 @@ store-refused-spec =
     (tie.spec
     returns
     put-long-requires
-    put-long-requires-2
+    put-reached-requires
     same-length
     returns-2)

@@ -10,7 +10,7 @@ same-length : tie.Need-same-length
 same-length c = search needs
 
 returns : tie.Need-returns
-returns c = laws.listed-closed _ _ _ _ _ (c .before .before .before .before .if1 .taken) (c .before .before .store-refused .ensures)
+returns c = laws.listed-closed _ _ _ _ _ _ (c .before .before .before .before .if1 .taken) (c .before .before .store-refused .ensures)
 
 store-longer-requires : tie.Need-store-longer-requires
 store-longer-requires c κs = search needs
@@ -19,7 +19,7 @@ same-length-2 : tie.Need-same-length-2
 same-length-2 c = search needs
 
 returns-2 : tie.Need-returns-2
-returns-2 c = laws.listed-below _ _ _ _ _ (c .before .before .before .before .if1 .left) (c .before .before .store-longer .ensures)
+returns-2 c = laws.listed-below _ _ _ _ _ _ (c .before .before .before .before .if1 .left) (c .before .before .store-longer .ensures)
 
 pub store-stopped-spec : {M : Type 1} → statement M
 store-stopped-spec =

@@ -12,12 +12,12 @@ use Rattle.requests.proofs.dump_ids.Statement.{statement}
 use Rattle.requests.proofs.dump_ids.Tie as tie
 
 abbrev Inv-loop : tie.InvT-loop
-Inv-loop s section work₀ text₀ ids b n len₀ k₀ work text len k =
+Inv-loop s section work₀ text₀ ids b n len₀ visits₀ k₀ work text len visits k =
     (k ≤ n) × (n < 4294967296) × (length work ≡ length work₀) × (length text ≡ length text₀) × (len ≤ length text) × (b ≡ tableFor s section) × (s .«section_len» ≡ length section) × (s .«work_len» ≡ length work)
-    × (listCall s section work₀ text₀ (idsIn ids) ≡ listFrom k (withText s true len) section work (tailed k len text) (idsFrom ids k (n - k)))
+    × (listCall s section work₀ text₀ (idsIn ids) ≡ listFrom k (withText s true len visits) section work (tailed k len text) (idsFrom ids k (n - k)))
 
 abbrev μ-loop : tie.MeasureT-loop
-μ-loop s section work₀ text₀ ids b n len₀ k₀ work text len k = n - k
+μ-loop s section work₀ text₀ ids b n len₀ visits₀ k₀ work text len visits k = n - k
 
 btf-of-requires : tie.Need-btf-of-requires Inv-loop μ-loop
 btf-of-requires c κs = search needs
@@ -41,7 +41,7 @@ same-length-2 : tie.Need-same-length-2 Inv-loop μ-loop
 same-length-2 c = search needs
 
 returns : tie.Need-returns Inv-loop μ-loop
-returns c = (lists.list-past _ _ _ (c .before .before .before .before .loop .inv .5) _ _ _ (c .before .before .before .before .loop .inv .6) _ _ _ _ (c .before .before .before .before .loop .inv .7) (c .before .before .before .before .loop .inv .4) (c .before .before .before .before .loop .inv .8) (c .before .before .before .loop-test .taken) _ (c .before .before .get-word .ensures) (c .if1 .taken), c .before .before .before .before .loop .inv .4)
+returns c = (lists.list-past _ _ _ (c .before .before .before .before .loop .inv .5) _ _ _ (c .before .before .before .before .loop .inv .6) _ _ _ _ _ (c .before .before .before .before .loop .inv .7) (c .before .before .before .before .loop .inv .4) (c .before .before .before .before .loop .inv .8) (c .before .before .before .loop-test .taken) _ (c .before .before .get-word .ensures) (c .if1 .taken), c .before .before .before .before .loop .inv .4)
 
 dump-one-requires : tie.Need-dump-one-requires Inv-loop μ-loop
 dump-one-requires c κs = c .before .before .before .before .before .before .loop .inv .4
@@ -53,7 +53,10 @@ same-length-4 : tie.Need-same-length-4 Inv-loop μ-loop
 same-length-4 c = search needs
 
 returns-2 : tie.Need-returns-2 Inv-loop μ-loop
-returns-2 c = (lists.list-stop _ _ _ (c .before .before .before .before .before .before .before .before .before .before .before .before .before .loop .inv .5) _ _ _ (c .before .before .before .before .before .before .before .before .before .before .before .before .before .loop .inv .6) _ _ _ _ (c .before .before .before .before .before .before .before .before .before .before .before .before .before .loop .inv .7) (c .before .before .before .before .before .before .before .before .before .before .before .before .before .loop .inv .4) (c .before .before .before .before .before .before .before .before .before .before .before .before .before .loop .inv .8) (c .before .before .before .before .before .before .before .before .before .before .before .before .loop-test .taken) _ (c .before .before .before .before .before .before .before .before .before .before .before .get-word .ensures) (c .before .before .before .before .before .before .before .before .before .if1 .left) _ _ _ (c .before .before .before .before .before .before .dump-one .ensures .0) (c .before .before .before .before .before .before .dump-one .kept .1 .1 .0) (c .before .before .before .before .before .before .dump-one .kept .1 .1 .1 .0) (c .if2 .taken), c .before .before .before .before .before .before .dump-one .ensures .1)
+returns-2 c = (lists.list-stop _ _ _ (c .before .before .before .before .before .before .before .before .before .before .before .before .before .loop .inv .5) _ _ _ (c .before .before .before .before .before .before .before .before .before .before .before .before .before .loop .inv .6) _ _ _ _ _ (c .before .before .before .before .before .before .before .before .before .before .before .before .before .loop .inv .7) (c .before .before .before .before .before .before .before .before .before .before .before .before .before .loop .inv .4) (c .before .before .before .before .before .before .before .before .before .before .before .before .before .loop .inv .8) (c .before .before .before .before .before .before .before .before .before .before .before .before .loop-test .taken) _ (c .before .before .before .before .before .before .before .before .before .before .before .get-word .ensures) (c .before .before .before .before .before .before .before .before .before .if1 .left) _ _ _ (c .before .before .before .before .before .before .dump-one .ensures .0) (c .before .before .before .before .before .before .dump-one .kept .1 .1 .0) (c .before .before .before .before .before .before .dump-one .kept .1 .1 .1 .0) (c .if2 .taken), c .before .before .before .before .before .before .dump-one .ensures .1)
+
+visits-in-requires : tie.Need-visits-in-requires Inv-loop μ-loop
+visits-in-requires c κs = search needs
 
 add-k : tie.Need-add-k Inv-loop μ-loop
 add-k c = omega arith
@@ -62,7 +65,7 @@ loop-less : tie.Need-loop-less Inv-loop μ-loop
 loop-less c = omega arith
 
 loop-again : tie.Need-loop-again Inv-loop μ-loop
-loop-again c = (omega arith, omega arith, c .before .before .before .before .before .before .dump-one .kept .1 .1 .0 ∙ c .before .before .before .before .before .before .before .before .before .before .before .before .before .loop .inv .2, c .before .before .before .before .before .before .dump-one .kept .1 .1 .1 .0 ∙ c .before .before .before .before .before .before .before .before .before .before .before .before .before .loop .inv .3, c .before .before .before .before .before .before .dump-one .ensures .1, c .before .before .before .before .before .before .before .before .before .before .before .before .before .loop .inv .5, c .before .before .before .before .before .before .before .before .before .before .before .before .before .loop .inv .6, c .before .before .before .before .before .before .before .before .before .before .before .before .before .loop .inv .7 ∙ sym (c .before .before .before .before .before .before .dump-one .kept .1 .1 .0), lists.list-more (c .before .before .before .before .before .before .before .before .before .before .before .before .before .before .before .before .before .before .before .before .args .s) _ _ (c .before .before .before .before .before .before .before .before .before .before .before .before .before .loop .inv .5) _ _ _ (c .before .before .before .before .before .before .before .before .before .before .before .before .before .loop .inv .6) _ _ _ _ (c .before .before .before .before .before .before .before .before .before .before .before .before .before .loop .inv .7) (c .before .before .before .before .before .before .before .before .before .before .before .before .before .loop .inv .4) (c .before .before .before .before .before .before .before .before .before .before .before .before .before .loop .inv .8) (c .before .before .before .before .before .before .before .before .before .before .before .before .loop-test .taken) _ (c .before .before .before .before .before .before .before .before .before .before .before .get-word .ensures) (c .before .before .before .before .before .before .before .before .before .if1 .left) _ _ _ (c .before .before .before .before .before .before .dump-one .ensures .0) (c .before .before .before .before .before .before .dump-one .kept .1 .1 .1 .0) (c .if2 .left))
+loop-again c = (omega arith, omega arith, c .before .before .before .before .before .before .before .before .dump-one .kept .1 .1 .0 ∙ c .before .before .before .before .before .before .before .before .before .before .before .before .before .before .before .loop .inv .2, c .before .before .before .before .before .before .before .before .dump-one .kept .1 .1 .1 .0 ∙ c .before .before .before .before .before .before .before .before .before .before .before .before .before .before .before .loop .inv .3, c .before .before .before .before .before .before .before .before .dump-one .ensures .1, c .before .before .before .before .before .before .before .before .before .before .before .before .before .before .before .loop .inv .5, c .before .before .before .before .before .before .before .before .before .before .before .before .before .before .before .loop .inv .6, c .before .before .before .before .before .before .before .before .before .before .before .before .before .before .before .loop .inv .7 ∙ sym (c .before .before .before .before .before .before .before .before .dump-one .kept .1 .1 .0), lists.list-more (c .before .before .before .before .before .before .before .before .before .before .before .before .before .before .before .before .before .before .before .before .before .before .args .s) _ _ (c .before .before .before .before .before .before .before .before .before .before .before .before .before .before .before .loop .inv .5) _ _ _ (c .before .before .before .before .before .before .before .before .before .before .before .before .before .before .before .loop .inv .6) _ _ _ _ _ (c .before .before .before .before .before .before .before .before .before .before .before .before .before .before .before .loop .inv .7) (c .before .before .before .before .before .before .before .before .before .before .before .before .before .before .before .loop .inv .4) (c .before .before .before .before .before .before .before .before .before .before .before .before .before .before .before .loop .inv .8) (c .before .before .before .before .before .before .before .before .before .before .before .before .before .before .loop-test .taken) _ (c .before .before .before .before .before .before .before .before .before .before .before .before .before .get-word .ensures) (c .before .before .before .before .before .before .before .before .before .before .before .if1 .left) _ _ _ (c .before .before .before .before .before .before .before .before .dump-one .ensures .0) (c .before .before .before .before .before .before .before .before .dump-one .kept .1 .1 .1 .0) (c .before .before .if2 .left) _ (c .visits-in .ensures))
 
 same-length-5 : tie.Need-same-length-5 Inv-loop μ-loop
 same-length-5 c = search needs
@@ -71,7 +74,7 @@ same-length-6 : tie.Need-same-length-6 Inv-loop μ-loop
 same-length-6 c = search needs
 
 returns-3 : tie.Need-returns-3 Inv-loop μ-loop
-returns-3 c = (lists.list-done _ _ _ (c .before .loop .inv .5) _ _ _ (c .before .loop .inv .6) _ _ _ _ (c .before .loop .inv .7) (c .before .loop .inv .4) (c .before .loop .inv .8) (c .loop-test .left), c .before .loop .inv .4)
+returns-3 c = (lists.list-done _ _ _ (c .before .loop .inv .5) _ _ _ (c .before .loop .inv .6) _ _ _ _ _ (c .before .loop .inv .7) (c .before .loop .inv .4) (c .before .loop .inv .8) (c .loop-test .left), c .before .loop .inv .4)
 
 pub dump-ids-spec : {M : Type 1} → statement M
 dump-ids-spec =
@@ -91,6 +94,7 @@ dump-ids-spec =
     same-length-3
     same-length-4
     returns-2
+    visits-in-requires
     add-k
     loop-less
     loop-again

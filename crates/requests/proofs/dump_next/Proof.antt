@@ -10,7 +10,10 @@ same-length : tie.Need-same-length
 same-length c = search needs
 
 returns : tie.Need-returns
-returns c = laws.idle-reach _ _ _ _ _ _ (c .before .before .before .before .before .before .pre) _ (c .before .is-idle .ensures) (c .if1 .taken)
+returns c = laws.idle-reach _ _ _ _ _ _ _ _ (c .before .before .before .before .before .before .pre) _ (c .before .is-idle .ensures) (c .if1 .taken)
+
+visits-in-requires : tie.Need-visits-in-requires
+visits-in-requires c κs = search needs
 
 dump-one-requires : tie.Need-dump-one-requires
 dump-one-requires c κs = search needs
@@ -22,7 +25,7 @@ same-length-3 : tie.Need-same-length-3
 same-length-3 c = search needs
 
 returns-2 : tie.Need-returns-2
-returns-2 c = c .before .before .before .before .dump-one .ensures
+returns-2 c = (laws.read-before _ _ _ _ _ _ _ _ (c .before .before .before .before .dump-one .ensures .0) (c .before .before .before .before .before .before .before .visits-in .ensures), c .before .before .before .before .dump-one .ensures .1)
 
 pub dump-next-spec : {M : Type 1} → statement M
 dump-next-spec =
@@ -31,6 +34,7 @@ dump-next-spec =
     is-idle-requires
     same-length
     returns
+    visits-in-requires
     dump-one-requires
     same-length-2
     same-length-3

@@ -34,7 +34,7 @@ same-length-2 : tie.Need-same-length-2
 same-length-2 c = search needs
 
 returns : tie.Need-returns
-returns c = laws.one-reach _ _ _ _ _ _ _ (from-to _ _ _ (c .before .before .before .before .before .before .before .before .limit .ensures) (c .before .before .before .before .before .before .before .before .before .before .before .before .pre)) (to-end _ _ _ (c .before .before .before .before .before .before .before .before .limit .ensures) (c .before .before .before .before .before .before .before .before .before .before .before .before .pre)) _ _ _ (c .before .before .before .before .before .dump-type .kept .1 .1 .1 .0) (c .before .before .before .before .before .dump-type .ensures) (c .before .before .before .before .before .before .before .before .limit .ensures) _ (c .arrived .ensures ∙ arrived-is _ _ _ (omega (arith, room-fits _ _ _ (c .before .before .before .before .before .before .before .before .limit .ensures) (c .before .before .before .before .before .before .before .before .before .before .before .before .pre))) (omega (arith, laws.one-bound _ _ _ _ _ _ _ (from-to _ _ _ (c .before .before .before .before .before .before .before .before .limit .ensures) (c .before .before .before .before .before .before .before .before .before .before .before .before .pre)) (to-end _ _ _ (c .before .before .before .before .before .before .before .before .limit .ensures) (c .before .before .before .before .before .before .before .before .before .before .before .before .pre)) _ _ _ (c .before .before .before .before .before .dump-type .kept .1 .1 .1 .0) (c .before .before .before .before .before .dump-type .ensures))))
+returns c = laws.one-reach _ _ _ _ _ _ _ (from-to _ _ _ (c .before .before .before .before .before .before .before .before .limit .ensures) (c .before .before .before .before .before .before .before .before .before .before .before .before .pre)) (to-end _ _ _ (c .before .before .before .before .before .before .before .before .limit .ensures) (c .before .before .before .before .before .before .before .before .before .before .before .before .pre)) _ _ _ (c .before .before .before .before .before .dump-type .kept .1 .1 .1 .0) (c .before .before .before .before .before .dump-type .ensures) (c .before .before .before .before .before .before .before .before .limit .ensures) _ _ (c .arrived .ensures ∙ arrived-is _ _ _ _ (omega (arith, room-fits _ _ _ (c .before .before .before .before .before .before .before .before .limit .ensures) (c .before .before .before .before .before .before .before .before .before .before .before .before .pre))) (omega (arith, laws.one-bound _ _ _ _ _ _ _ (from-to _ _ _ (c .before .before .before .before .before .before .before .before .limit .ensures) (c .before .before .before .before .before .before .before .before .before .before .before .before .pre)) (to-end _ _ _ (c .before .before .before .before .before .before .before .before .limit .ensures) (c .before .before .before .before .before .before .before .before .before .before .before .before .pre)) _ _ _ (c .before .before .before .before .before .dump-type .kept .1 .1 .1 .0) (c .before .before .before .before .before .dump-type .ensures))))
 
 pub dump-one-spec : {M : Type 1} → statement M
 dump-one-spec =

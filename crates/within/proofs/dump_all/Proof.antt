@@ -22,8 +22,11 @@ abbrev μ-loop : tie.MeasureT-loop
 loop-holds : tie.Need-loop-holds Inv-loop μ-loop
 loop-holds c = (omega arith, omega arith, omega arith, refl, refl, refl, c .before .before .before .pre, refl, zero-le, refl)
 
+visits-in-requires : tie.Need-visits-in-requires Inv-loop μ-loop
+visits-in-requires c κs = search needs
+
 dump-next-requires : tie.Need-dump-next-requires Inv-loop μ-loop
-dump-next-requires c κs = (c .before .before .before .loop .inv .6, c .before .before .before .loop .inv .8)
+dump-next-requires c κs = (c .before .before .before .before .before .loop .inv .6, c .before .before .before .before .before .loop .inv .8)
 
 same-length : tie.Need-same-length Inv-loop μ-loop
 same-length c = search needs
@@ -32,7 +35,7 @@ same-length-2 : tie.Need-same-length-2 Inv-loop μ-loop
 same-length-2 c = search needs
 
 returns : tie.Need-returns Inv-loop μ-loop
-returns c = laws.all-stop _ _ _ _ _ _ _ _ _ _ (c .before .before .before .before .before .before .before .before .before .loop-test .taken) (c .before .before .before .before .before .before .before .before .before .before .loop .inv .9) _ _ _ (c .before .before .before .before .before .before .dump-next .ensures .0) (c .if1 .taken)
+returns c = laws.all-stop _ _ _ _ _ _ _ _ _ _ (c .before .before .before .before .before .before .before .before .before .before .before .loop-test .taken) (c .before .before .before .before .before .before .before .before .before .before .before .before .loop .inv .9) _ _ _ (laws.read-before _ _ _ _ _ _ _ _ _ _ (c .before .before .before .before .before .before .dump-next .ensures .0) (c .before .before .before .before .before .before .before .before .before .visits-in .ensures)) (c .if1 .taken)
 
 add-id : tie.Need-add-id Inv-loop μ-loop
 add-id c = omega arith
@@ -41,7 +44,7 @@ loop-less : tie.Need-loop-less Inv-loop μ-loop
 loop-less c = omega arith
 
 loop-again : tie.Need-loop-again Inv-loop μ-loop
-loop-again c = (omega arith, omega arith, omega arith, c .before .before .before .before .before .before .dump-next .kept .1 .1 .0 ∙ c .before .before .before .before .before .before .before .before .before .before .loop .inv .3, c .before .before .before .before .before .before .dump-next .kept .1 .1 .1 .0 ∙ c .before .before .before .before .before .before .before .before .before .before .loop .inv .4, c .if1 .left, c .before .before .before .before .before .before .dump-next .ensures .1, c .before .before .before .before .before .before .before .before .before .before .loop .inv .7, c .before .before .before .before .before .before .dump-next .ensures .2, laws.all-more _ _ _ _ _ _ _ _ _ _ (c .before .before .before .before .before .before .before .before .before .loop-test .taken) (c .before .before .before .before .before .before .before .before .before .before .loop .inv .9) _ _ _ (c .before .before .before .before .before .before .dump-next .ensures .0) (c .if1 .left))
+loop-again c = (omega arith, omega arith, omega arith, c .before .before .before .before .before .before .dump-next .kept .1 .1 .0 ∙ c .before .before .before .before .before .before .before .before .before .before .before .before .loop .inv .3, c .before .before .before .before .before .before .dump-next .kept .1 .1 .1 .0 ∙ c .before .before .before .before .before .before .before .before .before .before .before .before .loop .inv .4, c .if1 .left, c .before .before .before .before .before .before .dump-next .ensures .1, c .before .before .before .before .before .before .before .before .before .before .before .before .loop .inv .7, c .before .before .before .before .before .before .dump-next .ensures .2, laws.all-more _ _ _ _ _ _ _ _ _ _ (c .before .before .before .before .before .before .before .before .before .before .before .loop-test .taken) (c .before .before .before .before .before .before .before .before .before .before .before .before .loop .inv .9) _ _ _ (laws.read-before _ _ _ _ _ _ _ _ _ _ (c .before .before .before .before .before .before .dump-next .ensures .0) (c .before .before .before .before .before .before .before .before .before .visits-in .ensures)) (c .if1 .left))
 
 same-length-3 : tie.Need-same-length-3 Inv-loop μ-loop
 same-length-3 c = search needs
@@ -59,6 +62,7 @@ dump-all-spec =
     Inv-loop
     μ-loop
     loop-holds
+    visits-in-requires
     dump-next-requires
     same-length
     same-length-2

@@ -28,16 +28,16 @@ same-length-3 : tie.Need-same-length-3
 same-length-3 c = search needs
 
 returns-2 : tie.Need-returns-2
-returns-2 c = laws.next-none _ _ _ _ _ _ _ _ (c .before .before .before .before .before .before .before .pre .0) (c .before .before .before .before .before .before .before .pre .1) _ (c .before .before .is-idle .ensures) (tests.not-false _ (c .before .if1 .left)) (c .if2 .taken)
+returns-2 c = laws.next-none _ _ _ _ _ _ _ _ _ (c .before .before .before .before .before .before .before .pre .0) (c .before .before .before .before .before .before .before .pre .1) _ (c .before .before .is-idle .ensures) (tests.not-false _ (c .before .if1 .left)) (c .if2 .taken)
 
-add-t19 : tie.Need-add-t19
-add-t19 c = omega arith
+add-t20 : tie.Need-add-t20
+add-t20 c = omega arith
 
 same-length-4 : tie.Need-same-length-4
 same-length-4 c = search needs
 
 returns-3 : tie.Need-returns-3
-returns-3 c = laws.next-more _ _ _ _ _ _ _ _ (c .before .before .before .before .before .before .before .pre .0) (c .before .before .before .before .before .before .before .pre .1) _ (c .before .before .is-idle .ensures) (tests.not-false _ (c .before .if1 .left)) (c .if2 .left)
+returns-3 c = laws.next-more _ _ _ _ _ _ _ _ _ (c .before .before .before .before .before .before .before .pre .0) (c .before .before .before .before .before .before .before .pre .1) _ (c .before .before .is-idle .ensures) (tests.not-false _ (c .before .if1 .left)) (c .if2 .left)
 
 pub dump-next-spec : {M : Type 1} → statement M
 dump-next-spec =
@@ -50,6 +50,6 @@ dump-next-spec =
     returns
     same-length-3
     returns-2
-    add-t19
+    add-t20
     same-length-4
     returns-3)

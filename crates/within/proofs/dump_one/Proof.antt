@@ -35,8 +35,8 @@ sub-arrived c = from-to _ _ _ (c .before .before .before .before .before .before
 arrived-requires : tie.Need-arrived-requires
 arrived-requires c κs = search needs
 
-sub-t18 : tie.Need-sub-t18
-sub-t18 c = omega (arith, c .before .before .before .before .before .before .dump-type-within .ensures .1)
+sub-t19 : tie.Need-sub-t19
+sub-t19 c = omega (arith, c .before .before .before .before .before .before .dump-type-within .ensures .1)
 
 same-length : tie.Need-same-length
 same-length c = search needs
@@ -45,7 +45,7 @@ same-length-2 : tie.Need-same-length-2
 same-length-2 c = search needs
 
 returns : tie.Need-returns
-returns c = laws.one-within _ _ _ _ _ _ _ _ _ (from-to _ _ _ (c .before .before .before .before .before .before .before .before .before .limit .ensures) (c .before .before .before .before .before .before .before .before .before .before .before .before .before .pre .0)) (to-end _ _ _ (c .before .before .before .before .before .before .before .before .before .limit .ensures) (c .before .before .before .before .before .before .before .before .before .before .before .before .before .pre .0)) (c .before .before .before .before .before .before .before .before .before .before .before .before .before .pre .1) _ _ _ (c .before .before .before .before .before .before .dump-type-within .kept .1 .1 .1 .0) (c .before .before .before .before .before .before .dump-type-within .ensures .0) (c .before .before .before .before .before .before .before .before .before .limit .ensures) _ (c .before .arrived .ensures ∙ arrived-is _ _ _ (omega (arith, room-fits _ _ _ (c .before .before .before .before .before .before .before .before .before .limit .ensures) (c .before .before .before .before .before .before .before .before .before .before .before .before .before .pre .0))) (omega (arith, laws.bound _ _ _ _ _ _ _ _ _ (from-to _ _ _ (c .before .before .before .before .before .before .before .before .before .limit .ensures) (c .before .before .before .before .before .before .before .before .before .before .before .before .before .pre .0)) (to-end _ _ _ (c .before .before .before .before .before .before .before .before .before .limit .ensures) (c .before .before .before .before .before .before .before .before .before .before .before .before .before .pre .0)) (c .before .before .before .before .before .before .before .before .before .before .before .before .before .pre .1) _ _ _ (c .before .before .before .before .before .before .dump-type-within .kept .1 .1 .1 .0) (c .before .before .before .before .before .before .dump-type-within .ensures .0)))) _ (c .before .before .before .before .before .before .dump-type-within .ensures .1)
+returns c = laws.one-within _ _ _ _ _ _ _ _ _ (from-to _ _ _ (c .before .before .before .before .before .before .before .before .before .limit .ensures) (c .before .before .before .before .before .before .before .before .before .before .before .before .before .pre .0)) (to-end _ _ _ (c .before .before .before .before .before .before .before .before .before .limit .ensures) (c .before .before .before .before .before .before .before .before .before .before .before .before .before .pre .0)) (c .before .before .before .before .before .before .before .before .before .before .before .before .before .pre .1) _ _ _ (c .before .before .before .before .before .before .dump-type-within .kept .1 .1 .1 .0) (c .before .before .before .before .before .before .dump-type-within .ensures .0) (c .before .before .before .before .before .before .before .before .before .limit .ensures) _ _ (c .before .arrived .ensures ∙ arrived-is _ _ _ _ (omega (arith, room-fits _ _ _ (c .before .before .before .before .before .before .before .before .before .limit .ensures) (c .before .before .before .before .before .before .before .before .before .before .before .before .before .pre .0))) (omega (arith, laws.bound _ _ _ _ _ _ _ _ _ (from-to _ _ _ (c .before .before .before .before .before .before .before .before .before .limit .ensures) (c .before .before .before .before .before .before .before .before .before .before .before .before .before .pre .0)) (to-end _ _ _ (c .before .before .before .before .before .before .before .before .before .limit .ensures) (c .before .before .before .before .before .before .before .before .before .before .before .before .before .pre .0)) (c .before .before .before .before .before .before .before .before .before .before .before .before .before .pre .1) _ _ _ (c .before .before .before .before .before .before .dump-type-within .kept .1 .1 .1 .0) (c .before .before .before .before .before .before .dump-type-within .ensures .0)))) _ (c .before .before .before .before .before .before .dump-type-within .ensures .1)
 
 pub dump-one-spec : {M : Type 1} → statement M
 dump-one-spec =
@@ -59,7 +59,7 @@ dump-one-spec =
     dump-type-within-requires
     sub-arrived
     arrived-requires
-    sub-t18
+    sub-t19
     same-length
     same-length-2
     returns)

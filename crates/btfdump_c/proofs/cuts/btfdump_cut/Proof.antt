@@ -4,8 +4,8 @@ use Rattle.btfdump_c.proofs.cuts.btfdump_cut.Statement.{statement}
 use Rattle.btfdump_c.proofs.cuts.btfdump_cut.Tie as tie
 use Rattle.btfdump_c.proofs.cuts.btfdump_cut.Reads as reads
 use Rattle.btfdump_c.proofs.cuts.btfdump_cut.Lts as lts
-use Rattle.c_record.proofs.decode.Reads as decode-reads
-use Rattle.c_record.proofs.number_and_value.Reads as number-and-value-reads
+use Rattle.c_words.proofs.decode.Reads as decode-reads
+use Rattle.c_words.proofs.number_and_value.Reads as number-and-value-reads
 use Rattle.cutcall.proofs.cut.Reads as cut-reads
 
 returns : tie.Need-returns

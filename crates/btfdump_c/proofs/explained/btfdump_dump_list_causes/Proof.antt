@@ -4,7 +4,7 @@ use Rattle.btfdump_c.proofs.explained.btfdump_dump_list_causes.Statemen
 use Rattle.btfdump_c.proofs.explained.btfdump_dump_list_causes.Tie as tie
 use Rattle.btfdump_c.proofs.explained.btfdump_dump_list_causes.Reads as reads
 use Rattle.btfdump_c.proofs.explained.btfdump_dump_list_causes.Lts as lts
-use Rattle.c_record.proofs.decode.Reads as decode-reads
+use Rattle.c_words.proofs.decode.Reads as decode-reads
 use Rattle.c_record.proofs.listed.Reads as listed-reads
 use Rattle.several.proofs.dump_list_causes.Reads as dump-list-causes-reads
 

@@ -5,7 +5,7 @@ use Rattle.btfdump_c.proofs.explained.btfdump_dump_type_causes.Tie as t
 use Rattle.btfdump_c.proofs.explained.btfdump_dump_type_causes.Reads as reads
 use Rattle.btfdump_c.proofs.explained.btfdump_dump_type_causes.Lts as lts
 use Rattle.c_record.proofs.answered.Reads as answered-reads
-use Rattle.c_record.proofs.decode.Reads as decode-reads
+use Rattle.c_words.proofs.decode.Reads as decode-reads
 use Rattle.explain.proofs.dump_type_causes.Reads as dump-type-causes-reads
 
 returns : tie.Need-returns

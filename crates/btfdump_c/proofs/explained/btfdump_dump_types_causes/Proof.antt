@@ -5,7 +5,7 @@ use Rattle.btfdump_c.proofs.explained.btfdump_dump_types_causes.Tie as 
 use Rattle.btfdump_c.proofs.explained.btfdump_dump_types_causes.Reads as reads
 use Rattle.btfdump_c.proofs.explained.btfdump_dump_types_causes.Lts as lts
 use Rattle.c_record.proofs.answered.Reads as answered-reads
-use Rattle.c_record.proofs.decode.Reads as decode-reads
+use Rattle.c_words.proofs.decode.Reads as decode-reads
 use Rattle.explain.proofs.dump_types_causes.Reads as dump-types-causes-reads
 
 returns : tie.Need-returns

@@ -21,12 +21,12 @@ use Rattle.within.proofs.dump_next.Reads as dump-next-reads
 use Rattle.within.proofs.lists.tally_of.Reads as tally-of-reads
 
 abbrev Inv-loop : tie.InvT-loop
-Inv-loop s section work₀ text₀ ids ceiling b n len₀ made₀ k₀ work text len made k =
+Inv-loop s section work₀ text₀ ids ceiling b n len₀ visits₀ made₀ k₀ work text len visits made k =
     (k ≤ n) × (n < 4294967296) × (length work ≡ length work₀) × (length text ≡ length text₀) × (len ≤ length text) × (b ≡ tableFor s section) × (s .«section_len» ≡ length section) × (s .«work_len» ≡ length work) × (made ≤ ceiling)
-    × (listCallWithin ceiling s section work₀ text₀ (idsIn ids) ≡ listFromWithin ceiling k (withText s true len) section work (tailed k len text) (idsFrom ids k (n - k)) made)
+    × (listCallWithin ceiling s section work₀ text₀ (idsIn ids) ≡ listFromWithin ceiling k (withText s true len visits) section work (tailed k len text) (idsFrom ids k (n - k)) made)
 
 abbrev μ-loop : tie.MeasureT-loop
-μ-loop s section work₀ text₀ ids ceiling b n len₀ made₀ k₀ work text len made k = n - k
+μ-loop s section work₀ text₀ ids ceiling b n len₀ visits₀ made₀ k₀ work text len visits made k = n - k
 
 btf-of-requires : tie.Need-btf-of-requires Inv-loop μ-loop
 btf-of-requires c κs = search needs
@@ -53,7 +53,7 @@ same-length-2 : tie.Need-same-length-2 Inv-loop μ-loop
 same-length-2 c = search needs
 
 returns : tie.Need-returns Inv-loop μ-loop
-returns c = laws.tally-is _ _ _ _ _ (c .tally-of .ensures) _ _ _ _ (laws.list-past _ _ _ _ (c .before .before .before .before .before .loop .inv .5) _ _ _ (c .before .before .before .before .before .loop .inv .6) _ _ _ _ _ (c .before .before .before .before .before .loop .inv .7) (c .before .before .before .before .before .loop .inv .4) (c .before .before .before .before .before .loop .inv .9) (c .before .before .before .before .loop-test .taken) _ (c .before .before .before .get-word .ensures) (c .before .if1 .taken))
+returns c = laws.tally-is _ _ _ _ _ _ (c .tally-of .ensures) _ _ _ _ (laws.list-past _ _ _ _ (c .before .before .before .before .before .loop .inv .5) _ _ _ (c .before .before .before .before .before .loop .inv .6) _ _ _ _ _ _ (c .before .before .before .before .before .loop .inv .7) (c .before .before .before .before .before .loop .inv .4) (c .before .before .before .before .before .loop .inv .9) (c .before .before .before .before .loop-test .taken) _ (c .before .before .before .get-word .ensures) (c .before .if1 .taken))
 
 dump-next-requires : tie.Need-dump-next-requires Inv-loop μ-loop
 dump-next-requires c κs = (c .before .before .before .before .before .before .loop .inv .4, c .before .before .before .before .before .before .loop .inv .8)
@@ -68,7 +68,10 @@ same-length-4 : tie.Need-same-length-4 Inv-loop μ-loop
 same-length-4 c = search needs
 
 returns-2 : tie.Need-returns-2 Inv-loop μ-loop
-returns-2 c = laws.tally-is _ _ _ _ _ (c .tally-of2 .ensures) _ _ _ _ (laws.list-stop _ _ _ _ (c .before .before .before .before .before .before .before .before .before .before .before .before .before .before .loop .inv .5) _ _ _ (c .before .before .before .before .before .before .before .before .before .before .before .before .before .before .loop .inv .6) _ _ _ _ _ (c .before .before .before .before .before .before .before .before .before .before .before .before .before .before .loop .inv .7) (c .before .before .before .before .before .before .before .before .before .before .before .before .before .before .loop .inv .4) (c .before .before .before .before .before .before .before .before .before .before .before .before .before .before .loop .inv .9) (c .before .before .before .before .before .before .before .before .before .before .before .before .before .loop-test .taken) _ (c .before .before .before .before .before .before .before .before .before .before .before .before .get-word .ensures) (c .before .before .before .before .before .before .before .before .before .before .if1 .left) _ _ _ (c .before .before .before .before .before .before .before .dump-next .ensures .0) (c .before .before .before .before .before .before .before .dump-next .kept .1 .1 .0) (c .before .before .before .before .before .before .before .dump-next .kept .1 .1 .1 .0) (c .before .if2 .taken))
+returns-2 c = laws.tally-is _ _ _ _ _ _ (c .tally-of2 .ensures) _ _ _ _ (laws.list-stop _ _ _ _ (c .before .before .before .before .before .before .before .before .before .before .before .before .before .before .loop .inv .5) _ _ _ (c .before .before .before .before .before .before .before .before .before .before .before .before .before .before .loop .inv .6) _ _ _ _ _ _ (c .before .before .before .before .before .before .before .before .before .before .before .before .before .before .loop .inv .7) (c .before .before .before .before .before .before .before .before .before .before .before .before .before .before .loop .inv .4) (c .before .before .before .before .before .before .before .before .before .before .before .before .before .before .loop .inv .9) (c .before .before .before .before .before .before .before .before .before .before .before .before .before .loop-test .taken) _ (c .before .before .before .before .before .before .before .before .before .before .before .before .get-word .ensures) (c .before .before .before .before .before .before .before .before .before .before .if1 .left) _ _ _ (c .before .before .before .before .before .before .before .dump-next .ensures .0) (c .before .before .before .before .before .before .before .dump-next .kept .1 .1 .0) (c .before .before .before .before .before .before .before .dump-next .kept .1 .1 .1 .0) (c .before .if2 .taken))
+
+visits-in-requires : tie.Need-visits-in-requires Inv-loop μ-loop
+visits-in-requires c κs = search needs
 
 add-k : tie.Need-add-k Inv-loop μ-loop
 add-k c = omega arith
@@ -77,7 +80,7 @@ loop-less : tie.Need-loop-less Inv-loop μ-loop
 loop-less c = omega arith
 
 loop-again : tie.Need-loop-again Inv-loop μ-loop
-loop-again c = (omega arith, c .before .before .before .before .before .before .before .before .before .before .before .before .before .loop .inv .1, c .before .before .before .before .before .before .dump-next .kept .1 .1 .0 ∙ c .before .before .before .before .before .before .before .before .before .before .before .before .before .loop .inv .2, c .before .before .before .before .before .before .dump-next .kept .1 .1 .1 .0 ∙ c .before .before .before .before .before .before .before .before .before .before .before .before .before .loop .inv .3, c .before .before .before .before .before .before .dump-next .ensures .1, c .before .before .before .before .before .before .before .before .before .before .before .before .before .loop .inv .5, c .before .before .before .before .before .before .before .before .before .before .before .before .before .loop .inv .6, c .before .before .before .before .before .before .before .before .before .before .before .before .before .loop .inv .7 ∙ sym (c .before .before .before .before .before .before .dump-next .kept .1 .1 .0), c .before .before .before .before .before .before .dump-next .ensures .2, laws.list-more _ (c .before .before .before .before .before .before .before .before .before .before .before .before .before .before .before .before .before .before .before .before .args .s) _ _ (c .before .before .before .before .before .before .before .before .before .before .before .before .before .loop .inv .5) _ _ _ (c .before .before .before .before .before .before .before .before .before .before .before .before .before .loop .inv .6) _ _ _ _ _ (c .before .before .before .before .before .before .before .before .before .before .before .before .before .loop .inv .7) (c .before .before .before .before .before .before .before .before .before .before .before .before .before .loop .inv .4) (c .before .before .before .before .before .before .before .before .before .before .before .before .before .loop .inv .9) (c .before .before .before .before .before .before .before .before .before .before .before .before .loop-test .taken) _ (c .before .before .before .before .before .before .before .before .before .before .before .get-word .ensures) (c .before .before .before .before .before .before .before .before .before .if1 .left) _ _ _ (c .before .before .before .before .before .before .dump-next .ensures .0) (c .before .before .before .before .before .before .dump-next .kept .1 .1 .1 .0) (c .if2 .left))
+loop-again c = (omega arith, c .before .before .before .before .before .before .before .before .before .before .before .before .before .before .before .loop .inv .1, c .before .before .before .before .before .before .before .before .dump-next .kept .1 .1 .0 ∙ c .before .before .before .before .before .before .before .before .before .before .before .before .before .before .before .loop .inv .2, c .before .before .before .before .before .before .before .before .dump-next .kept .1 .1 .1 .0 ∙ c .before .before .before .before .before .before .before .before .before .before .before .before .before .before .before .loop .inv .3, c .before .before .before .before .before .before .before .before .dump-next .ensures .1, c .before .before .before .before .before .before .before .before .before .before .before .before .before .before .before .loop .inv .5, c .before .before .before .before .before .before .before .before .before .before .before .before .before .before .before .loop .inv .6, c .before .before .before .before .before .before .before .before .before .before .before .before .before .before .before .loop .inv .7 ∙ sym (c .before .before .before .before .before .before .before .before .dump-next .kept .1 .1 .0), c .before .before .before .before .before .before .before .before .dump-next .ensures .2, laws.list-more _ (c .before .before .before .before .before .before .before .before .before .before .before .before .before .before .before .before .before .before .before .before .before .before .args .s) _ _ (c .before .before .before .before .before .before .before .before .before .before .before .before .before .before .before .loop .inv .5) _ _ _ (c .before .before .before .before .before .before .before .before .before .before .before .before .before .before .before .loop .inv .6) _ _ _ _ _ _ (c .before .before .before .before .before .before .before .before .before .before .before .before .before .before .before .loop .inv .7) (c .before .before .before .before .before .before .before .before .before .before .before .before .before .before .before .loop .inv .4) (c .before .before .before .before .before .before .before .before .before .before .before .before .before .before .before .loop .inv .9) (c .before .before .before .before .before .before .before .before .before .before .before .before .before .before .loop-test .taken) _ (c .before .before .before .before .before .before .before .before .before .before .before .before .before .get-word .ensures) (c .before .before .before .before .before .before .before .before .before .before .before .if1 .left) _ _ _ (c .before .before .before .before .before .before .before .before .dump-next .ensures .0) (c .before .before .before .before .before .before .before .before .dump-next .kept .1 .1 .1 .0) (c .before .before .if2 .left) _ (c .visits-in .ensures))
 
 tally-of-requires-3 : tie.Need-tally-of-requires-3 Inv-loop μ-loop
 tally-of-requires-3 c κs = search needs
@@ -89,7 +92,7 @@ same-length-6 : tie.Need-same-length-6 Inv-loop μ-loop
 same-length-6 c = search needs
 
 returns-3 : tie.Need-returns-3 Inv-loop μ-loop
-returns-3 c = laws.tally-is _ _ _ _ _ (c .tally-of3 .ensures) _ _ _ _ (laws.list-done _ _ _ _ (c .before .before .loop .inv .5) _ _ _ (c .before .before .loop .inv .6) _ _ _ _ _ (c .before .before .loop .inv .7) (c .before .before .loop .inv .4) (c .before .before .loop .inv .9) (c .before .loop-test .left))
+returns-3 c = laws.tally-is _ _ _ _ _ _ (c .tally-of3 .ensures) _ _ _ _ (laws.list-done _ _ _ _ (c .before .before .loop .inv .5) _ _ _ (c .before .before .loop .inv .6) _ _ _ _ _ _ (c .before .before .loop .inv .7) (c .before .before .loop .inv .4) (c .before .before .loop .inv .9) (c .before .loop-test .left))
 
 pub dump-ids-spec : {M : Type 1} → statement M
 dump-ids-spec =
@@ -111,6 +114,7 @@ dump-ids-spec =
     same-length-3
     same-length-4
     returns-2
+    visits-in-requires
     add-k
     loop-less
     loop-again

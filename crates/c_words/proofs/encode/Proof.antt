@@ -1,8 +1,8 @@
-use Rattle.c_record.proofs.Laws as laws
+use Rattle.c_words.proofs.Laws as laws
 use native.Mathlib.Omega.{arith}
 use borrow.Author.Needs.{needs}
-use Rattle.c_record.proofs.encode.Statement.{statement}
-use Rattle.c_record.proofs.encode.Tie as tie
+use Rattle.c_words.proofs.encode.Statement.{statement}
+use Rattle.c_words.proofs.encode.Tie as tie
 
 put-long-requires : tie.Need-put-long-requires
 put-long-requires c κs = search needs

@@ -1,8 +1,8 @@
-use Rattle.c_record.proofs.Laws as laws
+use Rattle.c_words.proofs.Laws as laws
 use native.Mathlib.Omega.{arith}
 use borrow.Author.Needs.{needs}
-use Rattle.c_record.proofs.get_long.Statement.{statement}
-use Rattle.c_record.proofs.get_long.Tie as tie
+use Rattle.c_words.proofs.get_long.Statement.{statement}
+use Rattle.c_words.proofs.get_long.Tie as tie
 
 mul-get-word : tie.Need-mul-get-word
 mul-get-word c = omega arith

@@ -1,8 +1,8 @@
-use Rattle.c_record.proofs.Laws as laws
+use Rattle.c_words.proofs.Laws as laws
 use native.Mathlib.Omega.{arith}
 use borrow.Author.Needs.{needs}
-use Rattle.c_record.proofs.encode_rest.Statement.{statement}
-use Rattle.c_record.proofs.encode_rest.Tie as tie
+use Rattle.c_words.proofs.encode_rest.Statement.{statement}
+use Rattle.c_words.proofs.encode_rest.Tie as tie
 
 cast-put-long : tie.Need-cast-put-long
 cast-put-long c = omega arith
@@ -22,6 +22,12 @@ cast-put-long-3 c = omega arith
 put-long-requires-3 : tie.Need-put-long-requires-3
 put-long-requires-3 c κs = search needs
 
+cast-put-long-4 : tie.Need-cast-put-long-4
+cast-put-long-4 c = omega arith
+
+put-long-requires-4 : tie.Need-put-long-requires-4
+put-long-requires-4 c κs = search needs
+
 clear-unused-requires : tie.Need-clear-unused-requires
 clear-unused-requires c κs = search needs
 
@@ -29,7 +35,7 @@ same-length : tie.Need-same-length
 same-length c = search needs
 
 returns : tie.Need-returns
-returns c = laws.last-is _ _ _ _ _ _ (c .before .before .before .before .before .before .before .before .before .before .before .before .before .before .before .before .put-long .ensures) (c .before .before .before .before .before .before .before .before .before .before .before .put-long2 .ensures) (c .before .before .before .before .before .before .put-long3 .ensures) (c .before .before .clear-unused .ensures)
+returns c = laws.last-is _ _ _ _ _ _ _ (c .before .before .before .before .before .before .before .before .before .before .before .before .before .before .before .before .before .before .before .before .before .put-long .ensures) (c .before .before .before .before .before .before .before .before .before .before .before .before .before .before .before .before .put-long2 .ensures) (c .before .before .before .before .before .before .before .before .before .before .before .put-long3 .ensures) (c .before .before .before .before .before .before .put-long4 .ensures) (c .before .before .clear-unused .ensures)
 
 pub encode-rest-spec : {M : Type 1} → statement M
 encode-rest-spec =
@@ -41,6 +47,8 @@ encode-rest-spec =
     put-long-requires-2
     cast-put-long-3
     put-long-requires-3
+    cast-put-long-4
+    put-long-requires-4
     clear-unused-requires
     same-length
     returns)

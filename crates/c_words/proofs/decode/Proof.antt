@@ -1,7 +1,7 @@
-use Rattle.c_record.proofs.Laws as laws
+use Rattle.c_words.proofs.Laws as laws
 use borrow.Author.Needs.{needs}
-use Rattle.c_record.proofs.decode.Statement.{statement}
-use Rattle.c_record.proofs.decode.Tie as tie
+use Rattle.c_words.proofs.decode.Statement.{statement}
+use Rattle.c_words.proofs.decode.Tie as tie
 
 get-long-requires : tie.Need-get-long-requires
 get-long-requires c κs = search needs
@@ -27,8 +27,11 @@ get-word-requires-4 c κs = search needs
 get-word-requires-5 : tie.Need-get-word-requires-5
 get-word-requires-5 c κs = search needs
 
+get-word-requires-6 : tie.Need-get-word-requires-6
+get-word-requires-6 c κs = search needs
+
 returns : tie.Need-returns
-returns c = laws.decoded-is _ _ _ _ _ _ _ _ _ (c .before .before .before .before .before .before .before .get-long .ensures) (c .before .before .before .before .before .before .get-long2 .ensures) (c .before .before .before .before .before .get-long3 .ensures) (c .before .before .before .before .get-word .ensures) (c .before .before .before .get-word2 .ensures) (c .before .before .get-word3 .ensures) (c .before .get-word4 .ensures) (c .get-word5 .ensures)
+returns c = laws.decoded-is _ _ _ _ _ _ _ _ _ _ (c .before .before .before .before .before .before .before .before .get-long .ensures) (c .before .before .before .before .before .before .before .get-long2 .ensures) (c .before .before .before .before .before .before .get-long3 .ensures) (c .before .before .before .before .before .get-word .ensures) (c .before .before .before .before .get-word2 .ensures) (c .before .before .before .get-word3 .ensures) (c .before .before .get-word4 .ensures) (c .before .get-word5 .ensures) (c .get-word6 .ensures)
 
 pub decode-spec : {M : Type 1} → statement M
 decode-spec =
@@ -42,4 +45,5 @@ decode-spec =
     get-word-requires-3
     get-word-requires-4
     get-word-requires-5
+    get-word-requires-6
     returns)

@@ -1,15 +1,15 @@
-use Rattle.c_record.proofs.Laws as laws
+use Rattle.c_words.proofs.Laws as laws
 use mathlib.Core.Path.{_≡_, refl, _∙_}
 use Prim.Native.Nat.{_-_, _≤_}
 use lib.ListN.{length}
-use Rattle.c_record.specs.Record.{unusedZero}
+use Rattle.c_words.specs.Words.{unusedZero}
 use native.Mathlib.Omega.{arith}
 use borrow.Author.Needs.{needs}
-use Rattle.c_record.proofs.clear_unused.Statement.{statement}
-use Rattle.c_record.proofs.clear_unused.Tie as tie
+use Rattle.c_words.proofs.clear_unused.Statement.{statement}
+use Rattle.c_words.proofs.clear_unused.Tie as tie
 
 abbrev Inv-loop : tie.InvT-loop
-Inv-loop r₀ i₀ r i = (8 ≤ i) × (i ≤ 16) × (length r ≡ length r₀) × (r ≡ unusedZero (i - 8) r₀)
+Inv-loop r₀ i₀ r i = (9 ≤ i) × (i ≤ 16) × (length r ≡ length r₀) × (r ≡ unusedZero (i - 9) r₀)
 
 abbrev μ-loop : tie.MeasureT-loop
 μ-loop r₀ i₀ r i = 16 - i

@@ -1,8 +1,8 @@
-use Rattle.c_record.proofs.Laws as laws
+use Rattle.c_words.proofs.Laws as laws
 use native.Mathlib.Omega.{arith}
 use borrow.Author.Needs.{needs}
-use Rattle.c_record.proofs.number_and_value.Statement.{statement}
-use Rattle.c_record.proofs.number_and_value.Tie as tie
+use Rattle.c_words.proofs.number_and_value.Statement.{statement}
+use Rattle.c_words.proofs.number_and_value.Tie as tie
 
 enum-known-a : tie.Need-enum-known-a
 enum-known-a c = search needs
