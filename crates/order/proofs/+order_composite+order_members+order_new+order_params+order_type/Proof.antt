@@ -4,6 +4,7 @@ use mathlib.Core.Path.{_≡_, refl, _∙_}
 use lib.ListN.{length}
 use Prim.Native.Nat.{ℕ, zero-le, _<_, _≤_, _+_, _-_, _*_}
 use Rattle.marks.proofs.Laws as laws
+use Rattle.progress.proofs.Laws as progress
 use borrow.Author.Needs.{needs}
 use native.Mathlib.Omega.{arith}
 use borrow.Fn.Kinds.{In}
@@ -31,10 +32,7 @@ use Rattle.btf.proofs.type_by_id.Reads as type-by-id-reads
 use Rattle.btf.proofs.word.Reads as word-reads
 use Rattle.marks.proofs.finish.Reads as finish-reads
 use Rattle.marks.proofs.finish_typedef.Reads as finish-typedef-reads
-use Rattle.marks.proofs.get_order_state.Reads as get-order-state-reads
-use Rattle.order.proofs.meet.Reads as meet-reads
-use Rattle.order.proofs.paid.Reads as paid-reads
-use Rattle.marks.proofs.refused.Reads as refused-reads
+use Rattle.progress.proofs.begin.Reads as begin-reads
 use Rattle.marks.proofs.set_order_state.Reads as set-order-state-reads
 use Rattle.marks.proofs.strong.Reads as strong-reads
 use Rattle.order.proofs.+order_composite+order_members+order_new+order_params+order_type.{
@@ -173,20 +171,7 @@ order-params-claims t = (
 )
 
 abbrev order-type-claims : ℕ → order-type-lts.Claims
-order-type-claims t = (
-  refused-reads.Asked,
-  refused-reads.Learnt,
-  paid-reads.Asked,
-  paid-reads.Learnt,
-  get-order-state-reads.Asked,
-  get-order-state-reads.Learnt,
-  strong-reads.Asked,
-  strong-reads.Learnt,
-  meet-reads.Asked,
-  meet-reads.Learnt,
-  order-new-below t,
-  order-new.Post,
-)
+order-type-claims t = (begin-reads.Asked, begin-reads.Learnt, order-new-below t, order-new.Post)
 
 order-composite-strong-requires : (t : ℕ) → order-composite-lts.Need-strong-requires (order-composite-claims t) (order-composite-at t) order-composite.Post
 order-composite-strong-requires t c κs = search needs
@@ -414,56 +399,32 @@ order-params-same-length t c = search needs
 order-params-returns : (t : ℕ) → order-params-lts.Need-returns (order-params-claims t) (order-params-at t) order-params.Post order-params-Inv-loop order-params-μ-loop
 order-params-returns t c = laws.params-end _ _ _ _ _ _ _ _ _ _ _ (c .before .loop .inv .4) (omega arith)
 
-order-type-returns : (t : ℕ) → order-type-lts.Need-returns (order-type-claims t) (order-type-at t) order-type.Post
-order-type-returns t c = laws.stopped _ _ _ (c .if1 .taken)
+order-type-begin-requires : (t : ℕ) → order-type-lts.Need-begin-requires (order-type-claims t) (order-type-at t) order-type.Post
+order-type-begin-requires t c κs = search needs
 
-order-type-refused-requires : (t : ℕ) → order-type-lts.Need-refused-requires (order-type-claims t) (order-type-at t) order-type.Post
-order-type-refused-requires t c κs = search needs
+order-type-enum-known-r : (t : ℕ) → order-type-lts.Need-enum-known-r (order-type-claims t) (order-type-at t) order-type.Post
+order-type-enum-known-r t c = search needs
 
-order-type-returns-2 : (t : ℕ) → order-type-lts.Need-returns-2 (order-type-claims t) (order-type-at t) order-type.Post
-order-type-returns-2 t c = laws.too-deep _ _ _ (c .before .before .if1 .left) _ _ _ _ _ (c .before .if2 .taken) (c .refused .ensures)
+order-type-enum-known-p : (t : ℕ) → order-type-lts.Need-enum-known-p (order-type-claims t) (order-type-at t) order-type.Post
+order-type-enum-known-p t c = search needs
 
-order-type-refused-requires-2 : (t : ℕ) → order-type-lts.Need-refused-requires-2 (order-type-claims t) (order-type-at t) order-type.Post
-order-type-refused-requires-2 t c κs = search needs
+order-type-sub-order-new : (t : ℕ) → order-type-lts.Need-sub-order-new (order-type-claims t) (order-type-at t) order-type.Post
+order-type-sub-order-new t c = progress.below _ _ _ (c .before .before .p .given .1) (c .before .before .before .before .begin .ensures .1)
 
-order-type-returns-3 : (t : ℕ) → order-type-lts.Need-returns-3 (order-type-claims t) (order-type-at t) order-type.Post
-order-type-returns-3 t c = laws.none-left _ _ _ (c .before .before .before .before .if1 .left) _ _ _ _ (c .before .before .before .if2 .left) _ (c .before .if3 .taken) (c .refused2 .ensures)
-
-order-type-paid-requires : (t : ℕ) → order-type-lts.Need-paid-requires (order-type-claims t) (order-type-at t) order-type.Post
-order-type-paid-requires t c κs = search needs
-
-order-type-get-order-state-requires : (t : ℕ) → order-type-lts.Need-get-order-state-requires (order-type-claims t) (order-type-at t) order-type.Post
-order-type-get-order-state-requires t c κs = search needs
-
-order-type-strong-requires : (t : ℕ) → order-type-lts.Need-strong-requires (order-type-claims t) (order-type-at t) order-type.Post
-order-type-strong-requires t c κs = search needs
+order-type-order-new-requires : (t : ℕ) → order-type-lts.Need-order-new-requires (order-type-claims t) (order-type-at t) order-type.Post
+order-type-order-new-requires t c κs = (omega (arith, progress.below _ _ _ (c .before .before .p .given .1) (c .before .before .before .before .begin .ensures .1)), tt)
 
 order-type-same-length : (t : ℕ) → order-type-lts.Need-same-length (order-type-claims t) (order-type-at t) order-type.Post
 order-type-same-length t c = search needs
 
-order-type-returns-4 : (t : ℕ) → order-type-lts.Need-returns-4 (order-type-claims t) (order-type-at t) order-type.Post
-order-type-returns-4 t c = laws.order-done _ _ _ (c .before .before .before .before .before .before .before .before .if1 .left) _ _ _ _ (c .before .before .before .before .before .before .before .if2 .left) (c .before .before .before .before .before .if3 .left) _ (c .before .before .before .before .paid .ensures) _ (c .before .before .get-order-state .ensures) _ (c .before .if4 .taken) (c .strong .ensures)
-
-order-type-meet-requires : (t : ℕ) → order-type-lts.Need-meet-requires (order-type-claims t) (order-type-at t) order-type.Post
-order-type-meet-requires t c κs = laws.paid-stop _ _ _ (c .before .before .before .before .before .paid .ensures) (c .before .before .before .before .before .before .before .before .before .if1 .left)
+order-type-returns : (t : ℕ) → order-type-lts.Need-returns (order-type-claims t) (order-type-at t) order-type.Post
+order-type-returns t c = progress.known _ _ _ _ _ _ _ _ (c .before .before .before .begin .ensures .0) _ (c .before .r .given .1)
 
 order-type-same-length-2 : (t : ℕ) → order-type-lts.Need-same-length-2 (order-type-claims t) (order-type-at t) order-type.Post
 order-type-same-length-2 t c = search needs
 
-order-type-returns-5 : (t : ℕ) → order-type-lts.Need-returns-5 (order-type-claims t) (order-type-at t) order-type.Post
-order-type-returns-5 t c = laws.order-busy _ _ _ (c .before .before .before .before .before .before .before .before .before .before .if1 .left) _ _ _ _ (c .before .before .before .before .before .before .before .before .before .if2 .left) (c .before .before .before .before .before .before .before .if3 .left) _ (c .before .before .before .before .before .before .paid .ensures) _ (c .before .before .before .before .get-order-state .ensures) _ (c .before .before .if5 .taken) (c .meet .ensures)
-
-order-type-sub-order-new : (t : ℕ) → order-type-lts.Need-sub-order-new (order-type-claims t) (order-type-at t) order-type.Post
-order-type-sub-order-new t c = omega arith
-
-order-type-order-new-requires : (t : ℕ) → order-type-lts.Need-order-new-requires (order-type-claims t) (order-type-at t) order-type.Post
-order-type-order-new-requires t c κs = (omega arith, tt)
-
-order-type-same-length-3 : (t : ℕ) → order-type-lts.Need-same-length-3 (order-type-claims t) (order-type-at t) order-type.Post
-order-type-same-length-3 t c = search needs
-
-order-type-returns-6 : (t : ℕ) → order-type-lts.Need-returns-6 (order-type-claims t) (order-type-at t) order-type.Post
-order-type-returns-6 t c = laws.order-fresh _ _ _ (c .before .before .before .before .before .before .before .before .before .before .before .before .if1 .left) _ _ _ _ (c .before .before .before .before .before .before .before .before .before .before .before .if2 .left) (c .before .before .before .before .before .before .before .before .before .if3 .left) _ (c .before .before .before .before .before .before .before .before .paid .ensures) _ (c .before .before .before .before .before .before .get-order-state .ensures) _ (c .before .before .before .before .before .if4 .left) (c .before .before .before .before .if5 .left) (c .before .before .order-new .ensures)
+order-type-returns-2 : (t : ℕ) → order-type-lts.Need-returns-2 (order-type-claims t) (order-type-at t) order-type.Post
+order-type-returns-2 t c = progress.entered _ _ _ _ _ _ _ _ (c .before .before .before .before .before .before .before .begin .ensures .0) _ (c .before .before .before .before .before .p .given .1) _ (c .before .before .order-new .ensures)
 
 pub +order-composite+order-members+order-new+order-params+order-type-spec :
     {M : Type 1} → statement M
@@ -605,35 +566,19 @@ pub +order-composite+order-members+order-new+order-params+order-type-spec :
     (order-params-same-length t)
     (order-params-returns t))
     λ t. order-type-lts.spec (
-      refused-reads.Asked,
-      refused-reads.Learnt,
-      paid-reads.Asked,
-      paid-reads.Learnt,
-      get-order-state-reads.Asked,
-      get-order-state-reads.Learnt,
-      strong-reads.Asked,
-      strong-reads.Learnt,
-      meet-reads.Asked,
-      meet-reads.Learnt,
+      begin-reads.Asked,
+      begin-reads.Learnt,
       order-new-below t,
       order-new.Post,
     )
     (order-type-at t)
     order-type.Post
-    (order-type-returns t)
-    (order-type-refused-requires t)
-    (order-type-returns-2 t)
-    (order-type-refused-requires-2 t)
-    (order-type-returns-3 t)
-    (order-type-paid-requires t)
-    (order-type-get-order-state-requires t)
-    (order-type-strong-requires t)
-    (order-type-same-length t)
-    (order-type-returns-4 t)
-    (order-type-meet-requires t)
-    (order-type-same-length-2 t)
-    (order-type-returns-5 t)
+    (order-type-begin-requires t)
+    (order-type-enum-known-r t)
+    (order-type-enum-known-p t)
     (order-type-sub-order-new t)
     (order-type-order-new-requires t)
-    (order-type-same-length-3 t)
-    (order-type-returns-6 t)
+    (order-type-same-length t)
+    (order-type-returns t)
+    (order-type-same-length-2 t)
+    (order-type-returns-2 t)
