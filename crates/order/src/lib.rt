@@ -15,6 +15,8 @@ use marks::strong;
 use progress::Begun;
 use progress::begin;
 use strings::is_named;
+use ways::is_passed;
+use ways::is_weak_past;
 ghost use mathlib.Core.Path.{_≡_};
 ghost use mathlib.Core.Bool.{false};
 ghost use Rattle.ceiling.specs.Ceiling.{thenBind, eachWithin, orderMetered};
@@ -62,7 +64,7 @@ fn order_new(
             finish(work, o, id, named, true)
         }
         Node::Through(is_array, t) => {
-            let weak = !(is_array & b.strong_arrays) & has_ptr;
+            let weak = is_weak_past(b, is_array, has_ptr);
             order_type(b, section, work, o, t, weak, left, cost)
         }
         Node::Ptr(t) => {
@@ -99,7 +101,7 @@ fn order_composite(
 ) -> Order
     ensures { λ r. ⌜ orderOut r (now (work .exit)) ≡ thenBind (orderOut o (now (work .entry))) (λ m _ k. enterIn (tableIn b (now (section .entry)) (now (work .entry))) left cost m id «has_ptr» named (memberIds b (now (section .entry)) members) k) ⌝ }
 {
-    if has_ptr & named {
+    if is_passed(named, has_ptr) {
         return strong(o, false);
     }
     set_order_state(work, id, 1);

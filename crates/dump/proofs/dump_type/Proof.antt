@@ -7,7 +7,7 @@ use Rattle.dump.proofs.dump_type.Lts as lts
 use Rattle.dump.proofs.dump_metered.Reads as dump-metered-reads
 
 dump-metered-requires : tie.Need-dump-metered-requires
-dump-metered-requires c κs = search needs
+dump-metered-requires c κs = tt
 
 same-length : tie.Need-same-length
 same-length c = search needs
