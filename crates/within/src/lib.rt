@@ -12,6 +12,7 @@ use turns::Turn;
 use turns::is_current;
 use turns::settle;
 use turns::turn_of;
+use ways::count_idle;
 ghost use Prim.Native.Nat.{_+_, _-_, _<_, _≤_};
 ghost use mathlib.Core.Path.{_≡_};
 ghost use lib.ListN.{length};
@@ -69,21 +70,13 @@ fn dump_next(
     if !dump::is_idle(b, section, work, id) {
         return dump_one(b, section, work, text, len, id, made, ceiling);
     }
-    if ceiling <= made {
-        return Metered {
-            reached: Reached {
-                len: len,
-                number: 22,
-            },
-            made: made,
-        };
-    }
+    let n = count_idle(made, ceiling);
     Metered {
         reached: Reached {
             len: len,
-            number: 0,
+            number: n.number,
         },
-        made: made + 1,
+        made: n.made,
     }
 }
 

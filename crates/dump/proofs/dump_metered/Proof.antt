@@ -1,3 +1,4 @@
+use mathlib.Core.Path.{_∙_}
 use Rattle.dump.proofs.Requests as requests
 use borrow.Author.Needs.{needs}
 use Rattle.dump.proofs.dump_metered.Statement.{statement}
@@ -16,7 +17,7 @@ stop-requires : tie.Need-stop-requires
 stop-requires c κs = tt
 
 same-length : tie.Need-same-length
-same-length c = search needs
+same-length c = c .before .before .before .before .before .before .order-type .kept .1 .1 .0
 
 same-length-2 : tie.Need-same-length-2
 same-length-2 c = search needs
@@ -31,10 +32,10 @@ clear-list-requires : tie.Need-clear-list-requires
 clear-list-requires c κs = tt
 
 same-length-3 : tie.Need-same-length-3
-same-length-3 c = search needs
+same-length-3 c = c .before .before .clear-list .kept .0 ∙ c .before .before .before .before .before .before .before .before .emit-listed .kept .1 .1 .0 ∙ c .before .before .before .before .before .before .before .before .before .before .before .before .before .before .before .order-type .kept .1 .1 .0
 
 same-length-4 : tie.Need-same-length-4
-same-length-4 c = search needs
+same-length-4 c = c .before .before .before .before .before .before .before .before .emit-listed .kept .1 .1 .1 .0
 
 returns-2 : tie.Need-returns-2
 returns-2 c = (requests.dump-listed _ _ _ _ _ _ _ _ _ _ (c .before .before .before .before .before .before .before .before .before .before .before .before .before .before .before .order-type .ensures) (c .before .before .before .before .before .before .before .before .before .before .before .if1 .left) _ _ _ (c .before .before .before .before .before .before .before .before .emit-listed .ensures) _ (c .before .before .clear-list .ensures), requests.spare-is _ _ _ _ _ _ _ _ (c .before .before .before .before .before .before .before .before .before .before .before .before .before .before .before .order-type .ensures))

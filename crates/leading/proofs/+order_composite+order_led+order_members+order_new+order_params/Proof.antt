@@ -221,10 +221,10 @@ order-composite-finish-led-requires : (t : ℕ) → order-composite-lts.Need-fin
 order-composite-finish-led-requires t c κs = tt
 
 order-composite-same-length : (t : ℕ) → order-composite-lts.Need-same-length (order-composite-claims t) (order-composite-at t) order-composite.Post
-order-composite-same-length t c = search needs
+order-composite-same-length t c = c .before .before .before .before .finish-led .kept .0 ∙ c .before .before .before .before .before .before .before .before .before .before .before .order-members .kept .1 .1 .0 ∙ c .before .before .before .before .before .before .before .before .before .before .before .before .before .before .before .before .before .set-order-state .kept .0
 
 order-composite-same-length-2 : (t : ℕ) → order-composite-lts.Need-same-length-2 (order-composite-claims t) (order-composite-at t) order-composite.Post
-order-composite-same-length-2 t c = search needs
+order-composite-same-length-2 t c = c .before .before .before .before .finish-led .kept .1 .0 ∙ c .before .before .before .before .before .before .before .before .before .before .before .order-members .kept .1 .1 .1 .0
 
 order-composite-returns-2 : (t : ℕ) → order-composite-lts.Need-returns-2 (order-composite-claims t) (order-composite-at t) order-composite.Post
 order-composite-returns-2 t c = laws.composite-entered _ _ _ _ _ _ _ _ _ _ _ _ _ _ _ _ _ (c .before .before .before .before .before .before .before .before .before .before .before .before .before .before .before .before .before .before .before .if1 .left) (c .before .before .before .before .before .before .before .before .before .before .before .before .before .before .before .before .before .set-order-state .ensures) (c .before .before .before .before .before .before .before .before .before .before .before .before .inside .ensures) (c .before .before .before .before .before .before .before .before .before .before .before .order-members .ensures) (c .before .before .before .before .finish-led .ensures)
@@ -266,10 +266,10 @@ order-led-order-new-requires : (t : ℕ) → order-led-lts.Need-order-new-requir
 order-led-order-new-requires t c κs = (omega arith, tt)
 
 order-led-same-length-3 : (t : ℕ) → order-led-lts.Need-same-length-3 (order-led-claims t) (order-led-at t) order-led.Post
-order-led-same-length-3 t c = search needs
+order-led-same-length-3 t c = c .before .before .before .before .order-new .kept .1 .1 .0
 
 order-led-same-length-4 : (t : ℕ) → order-led-lts.Need-same-length-4 (order-led-claims t) (order-led-at t) order-led.Post
-order-led-same-length-4 t c = search needs
+order-led-same-length-4 t c = c .before .before .before .before .order-new .kept .1 .1 .1 .0
 
 order-led-returns-5 : (t : ℕ) → order-led-lts.Need-returns-5 (order-led-claims t) (order-led-at t) order-led.Post
 order-led-returns-5 t c = laws.order-fresh _ _ _ _ (c .before .before .before .before .before .before .before .before .before .before .before .before .if1 .left) _ _ _ _ (c .before .before .before .before .before .before .before .before .before .before .before .if2 .left) _ (c .before .before .before .before .before .before .before .before .before .get-order-state .ensures) _ (c .before .before .before .before .before .before .before .before .if3 .left) (c .before .before .before .before .before .before .before .if4 .left) (c .before .before .before .before .order-new .ensures)
@@ -395,64 +395,64 @@ order-new-returns : (t : ℕ) → order-new-lts.Need-returns (order-new-claims t
 order-new-returns t c = laws.new-ignored _ _ _ _ _ _ _ _ _ _ (c .before .before .before .before .type-by-id .ensures) _ (c .before .before .before .node-of .ensures) _ (c .before .enum-told .given .1) _ refl (c .strong .ensures)
 
 order-new-same-length-2 : (t : ℕ) → order-new-lts.Need-same-length-2 (order-new-claims t) (order-new-at t) order-new.Post
-order-new-same-length-2 t c = search needs
+order-new-same-length-2 t c = c .before .before .before .before .finish-led .kept .0
 
 order-new-same-length-3 : (t : ℕ) → order-new-lts.Need-same-length-3 (order-new-claims t) (order-new-at t) order-new.Post
-order-new-same-length-3 t c = search needs
+order-new-same-length-3 t c = c .before .before .before .before .finish-led .kept .1 .0
 
 order-new-returns-2 : (t : ℕ) → order-new-lts.Need-returns-2 (order-new-claims t) (order-new-at t) order-new.Post
 order-new-returns-2 t c = laws.new-plain _ _ _ _ _ _ _ _ _ _ (c .before .before .before .before .before .before .before .before .before .before .type-by-id .ensures) _ (c .before .before .before .before .before .before .before .before .before .node-of .ensures) _ (c .before .before .before .before .before .before .before .enum-told2 .given .1) (c .before .before .before .before .finish-led .ensures)
 
 order-new-same-length-4 : (t : ℕ) → order-new-lts.Need-same-length-4 (order-new-claims t) (order-new-at t) order-new.Post
-order-new-same-length-4 t c = search needs
+order-new-same-length-4 t c = c .before .before .before .before .finish-led2 .kept .0
 
 order-new-same-length-5 : (t : ℕ) → order-new-lts.Need-same-length-5 (order-new-claims t) (order-new-at t) order-new.Post
-order-new-same-length-5 t c = search needs
+order-new-same-length-5 t c = c .before .before .before .before .finish-led2 .kept .1 .0
 
 order-new-returns-3 : (t : ℕ) → order-new-lts.Need-returns-3 (order-new-claims t) (order-new-at t) order-new.Post
 order-new-returns-3 t c = laws.new-listed _ _ _ _ _ _ _ _ _ _ (c .before .before .before .before .before .before .before .before .before .before .before .type-by-id .ensures) _ (c .before .before .before .before .before .before .before .before .before .before .node-of .ensures) _ _ (c .before .before .before .before .before .before .before .before .enum-told3 .given .1) _ (c .before .before .before .before .before .before .before .is-named .ensures) (c .before .before .before .before .finish-led2 .ensures)
 
 order-new-same-length-6 : (t : ℕ) → order-new-lts.Need-same-length-6 (order-new-claims t) (order-new-at t) order-new.Post
-order-new-same-length-6 t c = search needs
+order-new-same-length-6 t c = c .before .before .before .before .order-led .kept .1 .1 .0
 
 order-new-same-length-7 : (t : ℕ) → order-new-lts.Need-same-length-7 (order-new-claims t) (order-new-at t) order-new.Post
-order-new-same-length-7 t c = search needs
+order-new-same-length-7 t c = c .before .before .before .before .order-led .kept .1 .1 .1 .0
 
 order-new-returns-4 : (t : ℕ) → order-new-lts.Need-returns-4 (order-new-claims t) (order-new-at t) order-new.Post
 order-new-returns-4 t c = laws.new-through _ _ _ _ _ _ _ _ _ _ (c .before .before .before .before .before .before .before .before .before .before .before .before .type-by-id .ensures) _ (c .before .before .before .before .before .before .before .before .before .before .before .node-of .ensures) _ _ _ (c .before .before .before .before .before .before .before .before .before .is-array .given .1) (c .before .before .before .before .order-led .ensures)
 
 order-new-same-length-8 : (t : ℕ) → order-new-lts.Need-same-length-8 (order-new-claims t) (order-new-at t) order-new.Post
-order-new-same-length-8 t c = search needs
+order-new-same-length-8 t c = c .before .before .before .before .finish-led3 .kept .0 ∙ c .before .before .before .before .before .before .before .before .before .before .before .order-led2 .kept .1 .1 .0
 
 order-new-same-length-9 : (t : ℕ) → order-new-lts.Need-same-length-9 (order-new-claims t) (order-new-at t) order-new.Post
-order-new-same-length-9 t c = search needs
+order-new-same-length-9 t c = c .before .before .before .before .finish-led3 .kept .1 .0 ∙ c .before .before .before .before .before .before .before .before .before .before .before .order-led2 .kept .1 .1 .1 .0
 
 order-new-returns-5 : (t : ℕ) → order-new-lts.Need-returns-5 (order-new-claims t) (order-new-at t) order-new.Post
 order-new-returns-5 t c = laws.new-ptr _ _ _ _ _ _ _ _ _ _ (c .before .before .before .before .before .before .before .before .before .before .before .before .before .before .before .before .before .before .type-by-id .ensures) _ (c .before .before .before .before .before .before .before .before .before .before .before .before .before .before .before .before .before .node-of .ensures) _ _ (c .before .before .before .before .before .before .before .before .before .before .before .before .before .before .before .t .given .1) _ _ _ (c .before .before .before .before .before .before .before .before .before .before .before .order-led2 .ensures) (c .before .before .before .before .finish-led3 .ensures)
 
 order-new-same-length-10 : (t : ℕ) → order-new-lts.Need-same-length-10 (order-new-claims t) (order-new-at t) order-new.Post
-order-new-same-length-10 t c = search needs
+order-new-same-length-10 t c = c .before .before .before .before .finish-typedef-led .kept .0 ∙ c .before .before .before .before .before .before .before .before .before .before .before .order-led3 .kept .1 .1 .0
 
 order-new-same-length-11 : (t : ℕ) → order-new-lts.Need-same-length-11 (order-new-claims t) (order-new-at t) order-new.Post
-order-new-same-length-11 t c = search needs
+order-new-same-length-11 t c = c .before .before .before .before .finish-typedef-led .kept .1 .0 ∙ c .before .before .before .before .before .before .before .before .before .before .before .order-led3 .kept .1 .1 .1 .0
 
 order-new-returns-6 : (t : ℕ) → order-new-lts.Need-returns-6 (order-new-claims t) (order-new-at t) order-new.Post
 order-new-returns-6 t c = laws.new-typedef _ _ _ _ _ _ _ _ _ _ (c .before .before .before .before .before .before .before .before .before .before .before .before .before .before .before .before .before .before .before .type-by-id .ensures) _ (c .before .before .before .before .before .before .before .before .before .before .before .before .before .before .before .before .before .before .node-of .ensures) _ _ (c .before .before .before .before .before .before .before .before .before .before .before .before .before .before .before .before .t2 .given .1) _ (c .before .before .before .before .before .before .before .before .before .before .before .before .inside .ensures) _ _ _ (c .before .before .before .before .before .before .before .before .before .before .before .order-led3 .ensures) (c .before .before .before .before .finish-typedef-led .ensures)
 
 order-new-same-length-12 : (t : ℕ) → order-new-lts.Need-same-length-12 (order-new-claims t) (order-new-at t) order-new.Post
-order-new-same-length-12 t c = search needs
+order-new-same-length-12 t c = c .before .before .before .before .order-params .kept .1 .1 .0 ∙ c .before .before .before .before .before .before .before .before .before .before .before .order-led4 .kept .1 .1 .0
 
 order-new-same-length-13 : (t : ℕ) → order-new-lts.Need-same-length-13 (order-new-claims t) (order-new-at t) order-new.Post
-order-new-same-length-13 t c = search needs
+order-new-same-length-13 t c = c .before .before .before .before .order-params .kept .1 .1 .1 .0 ∙ c .before .before .before .before .before .before .before .before .before .before .before .order-led4 .kept .1 .1 .1 .0
 
 order-new-returns-7 : (t : ℕ) → order-new-lts.Need-returns-7 (order-new-claims t) (order-new-at t) order-new.Post
 order-new-returns-7 t c = laws.new-proto _ _ _ _ _ _ _ _ _ _ (c .before .before .before .before .before .before .before .before .before .before .before .before .before .before .before .before .before .before .type-by-id .ensures) _ (c .before .before .before .before .before .before .before .before .before .before .before .before .before .before .before .before .before .node-of .ensures) _ _ _ (c .before .before .before .before .before .before .before .before .before .before .before .before .before .before .before .res .given .1) _ _ _ (c .before .before .before .before .before .before .before .before .before .before .before .order-led4 .ensures) (c .before .before .before .before .order-params .ensures)
 
 order-new-same-length-14 : (t : ℕ) → order-new-lts.Need-same-length-14 (order-new-claims t) (order-new-at t) order-new.Post
-order-new-same-length-14 t c = search needs
+order-new-same-length-14 t c = c .before .before .before .before .order-composite .kept .1 .1 .0
 
 order-new-same-length-15 : (t : ℕ) → order-new-lts.Need-same-length-15 (order-new-claims t) (order-new-at t) order-new.Post
-order-new-same-length-15 t c = search needs
+order-new-same-length-15 t c = c .before .before .before .before .order-composite .kept .1 .1 .1 .0
 
 order-new-returns-8 : (t : ℕ) → order-new-lts.Need-returns-8 (order-new-claims t) (order-new-at t) order-new.Post
 order-new-returns-8 t c = laws.new-composite _ _ _ _ _ _ _ _ _ _ (c .before .before .before .before .before .before .before .before .before .before .before .before .type-by-id .ensures) _ (c .before .before .before .before .before .before .before .before .before .before .before .node-of .ensures) _ _ (c .before .before .before .before .before .before .before .before .before .members .given .1) _ (c .before .before .before .before .before .before .before .is-named2 .ensures) (c .before .before .before .before .order-composite .ensures)
