@@ -31,7 +31,7 @@ same-length-3 : tie.Need-same-length-3
 same-length-3 c = search needs
 
 returns-2 : tie.Need-returns-2
-returns-2 c = laws.next-idle _ _ _ _ _ _ _ _ (@pre .0) (@pre .1) _ (@is-idle .ensures) (tests.not-false _ (@if1 .left)) _ (@count-idle .ensures)
+returns-2 c = laws.next-idle _ _ _ _ _ _ _ _ (c .before .before .before .before .before .before .before .pre .0) (c .before .before .before .before .before .before .before .pre .1) _ (c .before .before .is-idle .ensures) (tests.not-false _ (c .before .if1 .left)) _ (c .count-idle .ensures)
 
 pub dump-next-spec : {M : Type 1} → statement M
 dump-next-spec =
