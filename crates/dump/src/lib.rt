@@ -4,10 +4,10 @@ use btf::kind_of;
 use btf::type_by_id;
 use emit::emit_type;
 use marks::Order;
-use marks::clear_listed;
 use marks::get_listed;
 use marks::get_order_state;
 use order::order_type;
+use sheet::clear_list;
 use text::stop;
 ghost use mathlib.Core.Path.{_≡_};
 ghost use Prim.Native.Nat.{_-_};
@@ -18,7 +18,7 @@ ghost use Rattle.btf.specs.Table.{btfOf};
 ghost use Rattle.marks.specs.Work.{markOf, tableIn};
 ghost use Rattle.ceiling.specs.Ceiling.{countOf};
 ghost use Rattle.dump.specs.Metered.{orderedIn, dumpedMetered, callsIn, dumpedWithin};
-ghost use Rattle.sheet.specs.Sheet.{sheetStore, emptied, emitOut, workMachine, emitIn, dumped, isIdle};
+ghost use Rattle.sheet.specs.Sheet.{sheetStore, emitOut, workMachine, emitIn, dumped, isIdle};
 
 // Emits the first n ids of the order list.
 fn emit_listed(b: Btf, section: &[u8], work: &mut [u8], text: &mut [u8], at: usize, n: u32) -> usize
@@ -32,17 +32,6 @@ fn emit_listed(b: Btf, section: &[u8], work: &mut [u8], text: &mut [u8], at: usi
         k += 1;
     }
     p
-}
-
-// Empties the first n places of the order list.
-fn clear_list(work: &mut [u8], n: u32)
-    ensures { λ _. ⌜ now (work .exit) ≡ emptied n (now (work .entry)) ⌝ }
-{
-    let mut k: u32 = 0;
-    while k < n {
-        clear_listed(work, k);
-        k += 1;
-    }
 }
 
 // A request for an id that is ordered, or is a function, a variable, a section or a tag, does nothing.

@@ -2,7 +2,6 @@
 use btf::Btf;
 use btf::Entries;
 use btf::Node;
-use btf::kind_of;
 use btf::member_place;
 use btf::node_of;
 use btf::param_place;
@@ -17,32 +16,14 @@ use marks::get_order_state;
 use marks::refused;
 use marks::set_order_state;
 use marks::strong;
+use progress::meet;
 use strings::is_named;
 ghost use mathlib.Core.Path.{_≡_};
 ghost use mathlib.Core.Bool.{false};
 ghost use Rattle.rules.specs.Order.{bind, each};
-ghost use Rattle.ceiling.specs.Ceiling.{thenBind};
 ghost use Rattle.btf.specs.Nodes.{memberIds, paramIds};
-ghost use Rattle.marks.specs.Work.{tableIn, orderOut, meetIn};
+ghost use Rattle.marks.specs.Work.{tableIn};
 ghost use Rattle.leads.specs.Leads.{orderKept, keptOut, wayKept, freshKept, enterKept};
-
-// An id in progress: a named composite behind a pointer is passed over, anything else is a cycle.
-fn meet(b: Btf, section: &[u8], work: &[u8], o: Order, id: u32, has_ptr: bool) -> Order
-    requires { ⌜ o .stop ≡ 0 ⌝ }
-    ensures { λ r. ⌜ orderOut r (now (work .entry)) ≡ thenBind (orderOut o (now (work .entry))) (λ m _ k. meetIn (tableIn b (now (section .entry)) (now (work .entry))) m id «has_ptr» k) ⌝ }
-{
-    if !has_ptr {
-        return refused(o, 13);
-    }
-    let t = type_by_id(b, section, work, id);
-    if !is_named(b, section, t) {
-        return refused(o, 13);
-    }
-    match kind_of(t.info) {
-        4 | 5 => strong(o, false),
-        _ => refused(o, 13),
-    }
-}
 
 // v: what is being ordered around the call.
 pub fn order_led(

@@ -2,7 +2,6 @@
 use btf::Btf;
 use btf::Entries;
 use btf::Node;
-use btf::kind_of;
 use btf::member_place;
 use btf::node_of;
 use btf::param_place;
@@ -11,50 +10,20 @@ use btf::word;
 use marks::Order;
 use marks::finish;
 use marks::finish_typedef;
-use marks::get_order_state;
-use marks::refused;
 use marks::set_order_state;
 use marks::strong;
+use progress::Begun;
+use progress::begin;
 use strings::is_named;
+use ways::is_passed;
+use ways::is_weak_past;
 ghost use mathlib.Core.Path.{_≡_};
 ghost use mathlib.Core.Bool.{false};
-ghost use Prim.Native.Nat.{_≤_};
 ghost use Rattle.ceiling.specs.Ceiling.{thenBind, eachWithin, orderMetered};
 ghost use Rattle.btf.specs.Nodes.{memberIds, paramIds};
-ghost use Rattle.marks.specs.Work.{workStore, tableIn, orderOut, paidOf, meetIn, wayIn, enterIn, freshIn};
+ghost use Rattle.marks.specs.Work.{workStore, tableIn, orderOut, wayIn, enterIn, freshIn};
 
-// One call is opened, and takes its cost of those that are left.
-fn paid(o: Order, cost: u64) -> Order
-    requires { ⌜ cost ≤ o .spare ⌝ }
-    ensures { λ r. ⌜ r ≡ paidOf o cost ⌝ }
-{
-    Order {
-        spare: o.spare - cost,
-        len: o.len,
-        stop: o.stop,
-        is_strong: o.is_strong,
-    }
-}
-
-// An id in progress: a named composite behind a pointer is passed over, anything else is a cycle.
-fn meet(b: Btf, section: &[u8], work: &[u8], o: Order, id: u32, has_ptr: bool) -> Order
-    requires { ⌜ o .stop ≡ 0 ⌝ }
-    ensures { λ r. ⌜ orderOut r (now (work .entry)) ≡ thenBind (orderOut o (now (work .entry))) (λ m _ k. meetIn (tableIn b (now (section .entry)) (now (work .entry))) m id «has_ptr» k) ⌝ }
-{
-    if !has_ptr {
-        return refused(o, 13);
-    }
-    let t = type_by_id(b, section, work, id);
-    if !is_named(b, section, t) {
-        return refused(o, 13);
-    }
-    match kind_of(t.info) {
-        4 | 5 => strong(o, false),
-        _ => refused(o, 13),
-    }
-}
-
-// A call costs 1 under a ceiling, and 0 where there is none: then it is never refused by 22, which comes after 12.
+// A call costs 1 under a ceiling, and 0 where there is none.
 pub fn order_type(
     b: Btf,
     section: &[u8],
@@ -67,24 +36,10 @@ pub fn order_type(
 ) -> Order
     ensures { λ r. ⌜ orderOut r (now (work .exit)) ≡ thenBind (orderOut o (now (work .entry))) (λ m _ k. orderMetered workStore cost left (tableIn b (now (section .entry)) (now (work .entry))) m id «has_ptr» k) ⌝ }
 {
-    if o.stop != 0 {
-        return o;
+    match begin(b, section, work, o, id, has_ptr, left, cost) {
+        Begun::Known(r) => r,
+        Begun::New(p) => order_new(b, section, work, p, id, has_ptr, left - 1, cost),
     }
-    if left == 0 {
-        return refused(o, 12);
-    }
-    if o.spare < cost {
-        return refused(o, 22);
-    }
-    let p = paid(o, cost);
-    let state = get_order_state(work, id);
-    if state == 2 {
-        return strong(p, true);
-    }
-    if state == 1 {
-        return meet(b, section, work, p, id, has_ptr);
-    }
-    order_new(b, section, work, p, id, has_ptr, left - 1, cost)
 }
 
 // An id that is not ordered yet.
@@ -109,7 +64,7 @@ fn order_new(
             finish(work, o, id, named, true)
         }
         Node::Through(is_array, t) => {
-            let weak = !(is_array & b.strong_arrays) & has_ptr;
+            let weak = is_weak_past(b, is_array, has_ptr);
             order_type(b, section, work, o, t, weak, left, cost)
         }
         Node::Ptr(t) => {
@@ -146,7 +101,7 @@ fn order_composite(
 ) -> Order
     ensures { λ r. ⌜ orderOut r (now (work .exit)) ≡ thenBind (orderOut o (now (work .entry))) (λ m _ k. enterIn (tableIn b (now (section .entry)) (now (work .entry))) left cost m id «has_ptr» named (memberIds b (now (section .entry)) members) k) ⌝ }
 {
-    if has_ptr & named {
+    if is_passed(named, has_ptr) {
         return strong(o, false);
     }
     set_order_state(work, id, 1);

@@ -2,3 +2,4 @@ pub mod Frame
 pub mod Laws
 pub mod Lawful
 pub mod Maps
+pub mod Emptied

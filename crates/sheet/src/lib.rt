@@ -1,8 +1,15 @@
-// Emission in the lent words: the machine over work and text in specs/, its laws in proofs/. No code but this stands here.
+// Emission in the lent words: the machine over work and text in specs/, its laws in proofs/; and the order list emptied.
+use marks::clear_listed;
 ghost use mathlib.Core.Path.{_≡_};
+ghost use Rattle.sheet.specs.Sheet.{emptied};
 
-pub fn same(x: u32) -> u32
-    ensures { λ r. ⌜ r ≡ x ⌝ }
+// Empties the first n places of the order list.
+pub fn clear_list(work: &mut [u8], n: u32)
+    ensures { λ _. ⌜ now (work .exit) ≡ emptied n (now (work .entry)) ⌝ }
 {
-    x
+    let mut k: u32 = 0;
+    while k < n {
+        clear_listed(work, k);
+        k += 1;
+    }
 }

@@ -34,6 +34,9 @@ use Rattle.turns.proofs.Laws.{reach-accepted, reach-refused}
 use Rattle.calls.specs.Refusals.{number, value, notCurrent, idNotBelow, refusal}
 use Rattle.calls.specs.Calls.{limitOf, arrivedAt, requested}
 use Rattle.calls.proofs.Laws.{arrived-in, arrived-past, one-bound, one-reach, idle-reach}
+use Rattle.ways.specs.declared.Idle.{Idle}
+use Rattle.ways.specs.Idle.{idleIn}
+use Rattle.ways.proofs.Laws.{idle-none, idle-one}
 use Rattle.within.specs.declared.Counted.{Counted}
 use Rattle.within.specs.declared.Metered.{Metered}
 use Rattle.within.specs.Within.{Within, withinOf, requestedWithin, onwardWithin, requestedFromWithin, CallWithin, countedOf, settledWithin, typeCallWithin, typesCallWithin}
@@ -139,7 +142,7 @@ module _ (c : ℕ) (b : Btf) (s w t : List ℕ) (len v id k : ℕ) (short : len 
   one-call : callsIn b s w id ≡ 1
   one-call = idle-calls b s w id (sym e ∙ h)
 
-  pub next-none : c ≤ k → (withinOf (record { reached = record { len = len; number = 22; visits = v }; made = k }) w t ≡ requestedWithin c b s id len v w t k) × (len ≤ length t) × (k ≤ c)
+  next-none : c ≤ k → (withinOf (record { reached = record { len = len; number = 22; visits = v }; made = k }) w t ≡ requestedWithin c b s id len v w t k) × (len ≤ length t) × (k ≤ c)
   next-none l = (
     within-is (record { len = len; number = 22; visits = v }) k w t (refusedBy 22 len v (take len t)) c (reach-refused (record { len = len; number = 22; visits = v }) w t (λ z. absurd (omega arith))) (omega arith)
         ∙ sym (request-over c b s id len v w t k (omega (arith, one-call))),
@@ -147,13 +150,19 @@ module _ (c : ℕ) (b : Btf) (s w t : List ℕ) (len v id k : ℕ) (short : len 
     small,
   )
 
-  pub next-more : k < c → (withinOf (record { reached = record { len = len; number = 0; visits = v }; made = k + 1 }) w t ≡ requestedWithin c b s id len v w t k) × (len ≤ length t) × (k + 1 ≤ c)
+  next-more : k < c → (withinOf (record { reached = record { len = len; number = 0; visits = v }; made = k + 1 }) w t ≡ requestedWithin c b s id len v w t k) × (len ≤ length t) × (k + 1 ≤ c)
   next-more l = (
     within-is (record { len = len; number = 0; visits = v }) (k + 1) w t (requested b s id len v w t) (k + callsIn b s w id) (idle-reach b s w t len v v id short q e h .0) (omega (arith, one-call))
         ∙ sym (request-fits c b s id len v w t k (omega (arith, one-call))),
     short,
     omega arith,
   )
+
+  abbrev Next : Idle → Type 0
+  Next r = (withinOf (record { reached = record { len = len; number = r .number; visits = v }; made = r .made }) w t ≡ requestedWithin c b s id len v w t k) × (len ≤ length t) × (r .made ≤ c)
+
+  pub next-idle : (r : Idle) → r ≡ idleIn k c → Next r
+  next-idle r er = ⊎-elim (λ l. subst Next (idle-none k c l ∙ sym er) (next-none l)) (λ l. subst Next (idle-one k c l ∙ sym er) (next-more l)) (le-or-lt c k)
 
 -- ---- dump_all
 module _ (c : ℕ) (b : Btf) (s : List ℕ) (whole : Within) where

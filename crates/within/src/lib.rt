@@ -13,6 +13,7 @@ use turns::is_current;
 use turns::settle;
 use turns::turn_of;
 use turns::visits_in;
+use ways::count_idle;
 ghost use Prim.Native.Nat.{_+_, _-_, _<_, _≤_};
 ghost use mathlib.Core.Path.{_≡_};
 ghost use lib.ListN.{length};
@@ -72,23 +73,14 @@ fn dump_next(
     if !dump::is_idle(b, section, work, id) {
         return dump_one(b, section, work, text, len, visits, id, made, ceiling);
     }
-    if ceiling <= made {
-        return Metered {
-            reached: Reached {
-                len: len,
-                number: 22,
-                visits: visits,
-            },
-            made: made,
-        };
-    }
+    let n = count_idle(made, ceiling);
     Metered {
         reached: Reached {
             len: len,
-            number: 0,
+            number: n.number,
             visits: visits,
         },
-        made: made + 1,
+        made: n.made,
     }
 }
 

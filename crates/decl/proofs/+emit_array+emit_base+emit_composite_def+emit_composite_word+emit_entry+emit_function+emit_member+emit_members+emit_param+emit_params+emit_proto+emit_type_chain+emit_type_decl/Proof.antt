@@ -518,7 +518,7 @@ emit-type-decl-claims t = (
 )
 
 emit-array-emit-name-requires : (t : ℕ) → emit-array-lts.Need-emit-name-requires (emit-array-claims t) (emit-array-at t) emit-array.Post
-emit-array-emit-name-requires t c κs = search needs
+emit-array-emit-name-requires t c κs = tt
 
 emit-array-same-length : (t : ℕ) → emit-array-lts.Need-same-length (emit-array-claims t) (emit-array-at t) emit-array.Post
 emit-array-same-length t c = search needs
@@ -527,10 +527,10 @@ emit-array-returns : (t : ℕ) → emit-array-lts.Need-returns (emit-array-claim
 emit-array-returns t c = entries.array-name _ _ _ _ _ _ _ _ _ _ _ _ _ (c .before .before .before .before .if1 .taken) (c .before .before .emit-name .ensures)
 
 emit-array-put-gap-requires : (t : ℕ) → emit-array-lts.Need-put-gap-requires (emit-array-claims t) (emit-array-at t) emit-array.Post
-emit-array-put-gap-requires t c κs = search needs
+emit-array-put-gap-requires t c κs = tt
 
 emit-array-kind-on-top-requires : (t : ℕ) → emit-array-lts.Need-kind-on-top-requires (emit-array-claims t) (emit-array-at t) emit-array.Post
-emit-array-kind-on-top-requires t c κs = search needs
+emit-array-kind-on-top-requires t c κs = tt
 
 emit-array-emit-type-chain-requires : (t : ℕ) → emit-array-lts.Need-emit-type-chain-requires (emit-array-claims t) (emit-array-at t) emit-array.Post
 emit-array-emit-type-chain-requires t c κs = (omega arith, tt)
@@ -545,13 +545,13 @@ emit-array-returns-2 : (t : ℕ) → emit-array-lts.Need-returns-2 (emit-array-c
 emit-array-returns-2 t c = entries.array-array _ _ _ _ _ _ _ _ _ _ _ (c .before .before .before .before .before .before .before .before .before .before .before .before .before .before .if1 .left) _ _ _ _ _ _ (c .before .before .before .before .before .before .before .before .kind-on-top .ensures) (c .before .before .before .before .before .before .before .if2 .taken) (c .before .before .before .before .before .before .before .before .before .before .before .before .put-gap .ensures) (c .before .before .before .before .emit-type-chain .ensures)
 
 emit-array-put-open-requires : (t : ℕ) → emit-array-lts.Need-put-open-requires (emit-array-claims t) (emit-array-at t) emit-array.Post
-emit-array-put-open-requires t c κs = search needs
+emit-array-put-open-requires t c κs = tt
 
 emit-array-emit-type-chain-requires-2 : (t : ℕ) → emit-array-lts.Need-emit-type-chain-requires-2 (emit-array-claims t) (emit-array-at t) emit-array.Post
 emit-array-emit-type-chain-requires-2 t c κs = (omega arith, tt)
 
 emit-array-put-close-requires : (t : ℕ) → emit-array-lts.Need-put-close-requires (emit-array-claims t) (emit-array-at t) emit-array.Post
-emit-array-put-close-requires t c κs = search needs
+emit-array-put-close-requires t c κs = tt
 
 emit-array-same-length-4 : (t : ℕ) → emit-array-lts.Need-same-length-4 (emit-array-claims t) (emit-array-at t) emit-array.Post
 emit-array-same-length-4 t c = search needs
@@ -563,31 +563,31 @@ emit-array-returns-3 : (t : ℕ) → emit-array-lts.Need-returns-3 (emit-array-c
 emit-array-returns-3 t c = entries.array-other _ _ _ _ _ _ _ _ _ _ _ (c .before .before .before .before .before .before .before .before .before .before .before .before .before .before .before .before .before .before .before .before .before .before .if1 .left) _ _ _ _ _ _ _ _ _ _ (c .before .before .before .before .before .before .before .before .before .before .before .before .before .before .before .before .kind-on-top .ensures) (c .before .before .before .before .before .before .before .before .before .before .before .before .before .before .before .if2 .left) (c .before .before .before .before .before .before .before .before .before .before .before .before .before .before .before .before .before .before .before .before .put-gap .ensures) (c .before .before .before .before .before .before .before .before .before .before .before .before .before .put-open .ensures) (c .before .before .before .before .before .before .before .before .emit-type-chain2 .ensures) (c .before .before .put-close .ensures)
 
 emit-base-kind-of-requires : (t : ℕ) → emit-base-lts.Need-kind-of-requires (emit-base-claims t) (emit-base-at t) emit-base.Post
-emit-base-kind-of-requires t c κs = search needs
+emit-base-kind-of-requires t c κs = tt
 
 emit-base-put-str-requires : (t : ℕ) → emit-base-lts.Need-put-str-requires (emit-base-claims t) (emit-base-at t) emit-base.Post
-emit-base-put-str-requires t c κs = search needs
+emit-base-put-str-requires t c κs = tt
 
 emit-base-emit-enum-word-requires : (t : ℕ) → emit-base-lts.Need-emit-enum-word-requires (emit-base-claims t) (emit-base-at t) emit-base.Post
-emit-base-emit-enum-word-requires t c κs = search needs
+emit-base-emit-enum-word-requires t c κs = tt
 
 emit-base-kind-flag-of-requires : (t : ℕ) → emit-base-lts.Need-kind-flag-of-requires (emit-base-claims t) (emit-base-at t) emit-base.Post
-emit-base-kind-flag-of-requires t c κs = search needs
+emit-base-kind-flag-of-requires t c κs = tt
 
 emit-base-emit-fwd-def-requires : (t : ℕ) → emit-base-lts.Need-emit-fwd-def-requires (emit-base-claims t) (emit-base-at t) emit-base.Post
-emit-base-emit-fwd-def-requires t c κs = search needs
+emit-base-emit-fwd-def-requires t c κs = tt
 
 emit-base-put-typedef-name-requires : (t : ℕ) → emit-base-lts.Need-put-typedef-name-requires (emit-base-claims t) (emit-base-at t) emit-base.Post
-emit-base-put-typedef-name-requires t c κs = search needs
+emit-base-put-typedef-name-requires t c κs = tt
 
 emit-base-emit-enum64-word-requires : (t : ℕ) → emit-base-lts.Need-emit-enum64-word-requires (emit-base-claims t) (emit-base-at t) emit-base.Post
-emit-base-emit-enum64-word-requires t c κs = search needs
+emit-base-emit-enum64-word-requires t c κs = tt
 
 emit-base-emit-composite-word-requires : (t : ℕ) → emit-base-lts.Need-emit-composite-word-requires (emit-base-claims t) (emit-base-at t) emit-base.Post
 emit-base-emit-composite-word-requires t c κs = (omega arith, tt)
 
 emit-base-put-void-requires : (t : ℕ) → emit-base-lts.Need-put-void-requires (emit-base-claims t) (emit-base-at t) emit-base.Post
-emit-base-put-void-requires t c κs = search needs
+emit-base-put-void-requires t c κs = tt
 
 emit-base-same-length : (t : ℕ) → emit-base-lts.Need-same-length (emit-base-claims t) (emit-base-at t) emit-base.Post
 emit-base-same-length t c = search needs
@@ -653,7 +653,7 @@ emit-base-returns-9 : (t : ℕ) → emit-base-lts.Need-returns-9 (emit-base-clai
 emit-base-returns-9 t c = entries.word-void _ _ _ _ _ _ _ _ (c .before .before .before .before .before .before .kind-of .ensures) _ _ _ _ _ (c .before .before .before .before .before .match .rest .1) (⊎-elim (λ x. inl (x .taken)) (λ x. inr (x .3 .left)) (c .before .before .before .before .if1 .came)) (c .before .before .put-void .ensures)
 
 emit-composite-def-stop-requires : (t : ℕ) → emit-composite-def-lts.Need-stop-requires (emit-composite-def-claims t) (emit-composite-def-at t) emit-composite-def.Post
-emit-composite-def-stop-requires t c κs = search needs
+emit-composite-def-stop-requires t c κs = tt
 
 emit-composite-def-same-length : (t : ℕ) → emit-composite-def-lts.Need-same-length (emit-composite-def-claims t) (emit-composite-def-at t) emit-composite-def.Post
 emit-composite-def-same-length t c = search needs
@@ -662,7 +662,7 @@ emit-composite-def-returns : (t : ℕ) → emit-composite-def-lts.Need-returns (
 emit-composite-def-returns t c = members.def-zero _ _ _ _ _ _ _ _ _ _ _ _ _ (c .before .before .if1 .taken) (c .stop .ensures)
 
 emit-composite-def-stopped-requires : (t : ℕ) → emit-composite-def-lts.Need-stopped-requires (emit-composite-def-claims t) (emit-composite-def-at t) emit-composite-def.Post
-emit-composite-def-stopped-requires t c κs = search needs
+emit-composite-def-stopped-requires t c κs = tt
 
 emit-composite-def-same-length-2 : (t : ℕ) → emit-composite-def-lts.Need-same-length-2 (emit-composite-def-claims t) (emit-composite-def-at t) emit-composite-def.Post
 emit-composite-def-same-length-2 t c = search needs
@@ -671,7 +671,7 @@ emit-composite-def-returns-2 : (t : ℕ) → emit-composite-def-lts.Need-returns
 emit-composite-def-returns-2 t c = said-stopped _ _ _ _ (sym (c .before .stopped .ensures) ∙ c .if2 .taken)
 
 emit-composite-def-is-builtin-requires : (t : ℕ) → emit-composite-def-lts.Need-is-builtin-requires (emit-composite-def-claims t) (emit-composite-def-at t) emit-composite-def.Post
-emit-composite-def-is-builtin-requires t c κs = search needs
+emit-composite-def-is-builtin-requires t c κs = tt
 
 emit-composite-def-same-length-3 : (t : ℕ) → emit-composite-def-lts.Need-same-length-3 (emit-composite-def-claims t) (emit-composite-def-at t) emit-composite-def.Post
 emit-composite-def-same-length-3 t c = search needs
@@ -698,7 +698,7 @@ emit-composite-def-body-packed-requires :
       emit-composite-end-reads.Asked,
       emit-composite-end-reads.Learnt,
     ) (emit-composite-def-at t) emit-composite-def.Post
-emit-composite-def-body-packed-requires t c κs = search needs
+emit-composite-def-body-packed-requires t c κs = tt
 
 emit-composite-def-enum-known-packed : (t : ℕ) → emit-composite-def-lts.Need-enum-known-packed (emit-composite-def-claims t) (emit-composite-def-at t) emit-composite-def.Post
 emit-composite-def-enum-known-packed t c = search needs
@@ -722,10 +722,10 @@ emit-composite-def-emit-composite-head-requires :
       emit-composite-end-reads.Asked,
       emit-composite-end-reads.Learnt,
     ) (emit-composite-def-at t) emit-composite-def.Post
-emit-composite-def-emit-composite-head-requires t c κs = search needs
+emit-composite-def-emit-composite-head-requires t c κs = tt
 
 emit-composite-def-deeper-requires : (t : ℕ) → emit-composite-def-lts.Need-deeper-requires (emit-composite-def-claims t) (emit-composite-def-at t) emit-composite-def.Post
-emit-composite-def-deeper-requires t c κs = search needs
+emit-composite-def-deeper-requires t c κs = tt
 
 emit-composite-def-sub-emit-members : (t : ℕ) → emit-composite-def-lts.Need-sub-emit-members (emit-composite-def-claims t) (emit-composite-def-at t) emit-composite-def.Post
 emit-composite-def-sub-emit-members t c = omega arith
@@ -770,13 +770,13 @@ emit-composite-def-emit-composite-end-requires :
       emit-composite-end-reads.Asked,
       emit-composite-end-reads.Learnt,
     ) (emit-composite-def-at t) emit-composite-def.Post
-emit-composite-def-emit-composite-end-requires t c κs = search needs
+emit-composite-def-emit-composite-end-requires t c κs = tt
 
 emit-composite-def-enum-known-c : (t : ℕ) → emit-composite-def-lts.Need-enum-known-c (emit-composite-def-claims t) (emit-composite-def-at t) emit-composite-def.Post
 emit-composite-def-enum-known-c t c = search needs
 
 emit-composite-def-stop-requires-2 : (t : ℕ) → emit-composite-def-lts.Need-stop-requires-2 (emit-composite-def-claims t) (emit-composite-def-at t) emit-composite-def.Post
-emit-composite-def-stop-requires-2 t c κs = search needs
+emit-composite-def-stop-requires-2 t c κs = tt
 
 emit-composite-def-same-length-4 : (t : ℕ) → emit-composite-def-lts.Need-same-length-4 (emit-composite-def-claims t) (emit-composite-def-at t) emit-composite-def.Post
 emit-composite-def-same-length-4 t c = search needs
@@ -797,7 +797,7 @@ emit-composite-def-returns-5 : (t : ℕ) → emit-composite-def-lts.Need-returns
 emit-composite-def-returns-5 t c = members.def-refused _ _ _ _ _ _ _ _ _ _ _ _ _ (c .before .before .before .before .before .before .before .before .before .before .before .before .before .before .if1 .left) (sym (c .before .before .before .before .before .before .before .before .before .before .is-builtin .ensures) ∙ c .before .before .before .before .before .before .before .before .before .if3 .left) _ _ (c .before .before .before .before .before .before .before .body-packed .ensures) _ (c .before .before .before .c .given .1) (c .stop2 .ensures)
 
 emit-composite-word-is-empty-requires : (t : ℕ) → emit-composite-word-lts.Need-is-empty-requires (emit-composite-word-claims t) (emit-composite-word-at t) emit-composite-word.Post
-emit-composite-word-is-empty-requires t c κs = search needs
+emit-composite-word-is-empty-requires t c κs = tt
 
 emit-composite-word-emit-composite-def-requires :
     (t : ℕ) → emit-composite-word-lts.Need-emit-composite-def-requires (
@@ -822,7 +822,7 @@ emit-composite-word-returns : (t : ℕ) → emit-composite-word-lts.Need-returns
 emit-composite-word-returns t c = entries.composite-inline _ (now (c .before .before .before .before .before .before .before .before .before .before .before .before .args .section)) _ _ _ _ _ _ _ _ _ _ _ _ _ _ (sym (c .before .before .before .before .before .before .before .before .is-empty .ensures) ∙ c .before .before .before .before .before .before .before .if1 .taken) (c .before .before .before .before .emit-composite-def .ensures)
 
 emit-composite-word-is-struct-requires : (t : ℕ) → emit-composite-word-lts.Need-is-struct-requires (emit-composite-word-claims t) (emit-composite-word-at t) emit-composite-word.Post
-emit-composite-word-is-struct-requires t c κs = search needs
+emit-composite-word-is-struct-requires t c κs = tt
 
 emit-composite-word-emit-composite-fwd-requires :
     (t : ℕ) → emit-composite-word-lts.Need-emit-composite-fwd-requires (
@@ -835,7 +835,7 @@ emit-composite-word-emit-composite-fwd-requires :
       emit-composite-fwd-reads.Asked,
       emit-composite-fwd-reads.Learnt,
     ) (emit-composite-word-at t) emit-composite-word.Post
-emit-composite-word-emit-composite-fwd-requires t c κs = search needs
+emit-composite-word-emit-composite-fwd-requires t c κs = tt
 
 emit-composite-word-same-length-3 : (t : ℕ) → emit-composite-word-lts.Need-same-length-3 (emit-composite-word-claims t) (emit-composite-word-at t) emit-composite-word.Post
 emit-composite-word-same-length-3 t c = search needs
@@ -850,76 +850,76 @@ emit-entry-sub-n : (t : ℕ) → emit-entry-lts.Need-sub-n (emit-entry-claims t)
 emit-entry-sub-n t c = omega arith
 
 emit-entry-path-at-requires : (t : ℕ) → emit-entry-lts.Need-path-at-requires (emit-entry-claims t) (emit-entry-at t) emit-entry.Post
-emit-entry-path-at-requires t c κs = search needs
+emit-entry-path-at-requires t c κs = tt
 
 emit-entry-type-by-id-requires : (t : ℕ) → emit-entry-lts.Need-type-by-id-requires (emit-entry-claims t) (emit-entry-at t) emit-entry.Post
-emit-entry-type-by-id-requires t c κs = search needs
+emit-entry-type-by-id-requires t c κs = tt
 
 emit-entry-kind-of-requires : (t : ℕ) → emit-entry-lts.Need-kind-of-requires (emit-entry-claims t) (emit-entry-at t) emit-entry.Post
-emit-entry-kind-of-requires t c κs = search needs
+emit-entry-kind-of-requires t c κs = tt
 
 emit-entry-put-star-requires : (t : ℕ) → emit-entry-lts.Need-put-star-requires (emit-entry-claims t) (emit-entry-at t) emit-entry.Post
-emit-entry-put-star-requires t c κs = search needs
+emit-entry-put-star-requires t c κs = tt
 
 emit-entry-goes-on-requires : (t : ℕ) → emit-entry-lts.Need-goes-on-requires (emit-entry-claims t) (emit-entry-at t) emit-entry.Post
-emit-entry-goes-on-requires t c κs = search needs
+emit-entry-goes-on-requires t c κs = tt
 
 emit-entry-array-nelems-requires : (t : ℕ) → emit-entry-lts.Need-array-nelems-requires (emit-entry-claims t) (emit-entry-at t) emit-entry.Post
-emit-entry-array-nelems-requires t c κs = search needs
+emit-entry-array-nelems-requires t c κs = tt
 
 emit-entry-skip-mods-requires : (t : ℕ) → emit-entry-lts.Need-skip-mods-requires (emit-entry-claims t) (emit-entry-at t) emit-entry.Post
-emit-entry-skip-mods-requires t c κs = search needs
+emit-entry-skip-mods-requires t c κs = tt
 
 emit-entry-emit-array-requires : (t : ℕ) → emit-entry-lts.Need-emit-array-requires (emit-entry-claims t) (emit-entry-at t) emit-entry.Post
 emit-entry-emit-array-requires t c κs = (omega arith, tt)
 
 emit-entry-put-count-requires : (t : ℕ) → emit-entry-lts.Need-put-count-requires (emit-entry-claims t) (emit-entry-at t) emit-entry.Post
-emit-entry-put-count-requires t c κs = search needs
+emit-entry-put-count-requires t c κs = tt
 
 emit-entry-named-requires : (t : ℕ) → emit-entry-lts.Need-named-requires (emit-entry-claims t) (emit-entry-at t) emit-entry.Post
-emit-entry-named-requires t c κs = search needs
+emit-entry-named-requires t c κs = tt
 
 emit-entry-emit-function-requires : (t : ℕ) → emit-entry-lts.Need-emit-function-requires (emit-entry-claims t) (emit-entry-at t) emit-entry.Post
 emit-entry-emit-function-requires t c κs = (omega arith, c .before .before .before .before .before .before .before .before .before .before .before .before .pre .1)
 
 emit-entry-named-requires-2 : (t : ℕ) → emit-entry-lts.Need-named-requires-2 (emit-entry-claims t) (emit-entry-at t) emit-entry.Post
-emit-entry-named-requires-2 t c κs = search needs
+emit-entry-named-requires-2 t c κs = tt
 
 emit-entry-skip-mods-requires-2 : (t : ℕ) → emit-entry-lts.Need-skip-mods-requires-2 (emit-entry-claims t) (emit-entry-at t) emit-entry.Post
-emit-entry-skip-mods-requires-2 t c κs = search needs
+emit-entry-skip-mods-requires-2 t c κs = tt
 
 emit-entry-emit-mods-requires : (t : ℕ) → emit-entry-lts.Need-emit-mods-requires (emit-entry-claims t) (emit-entry-at t) emit-entry.Post
-emit-entry-emit-mods-requires t c κs = search needs
+emit-entry-emit-mods-requires t c κs = tt
 
 emit-entry-put-type-tag-requires : (t : ℕ) → emit-entry-lts.Need-put-type-tag-requires (emit-entry-claims t) (emit-entry-at t) emit-entry.Post
-emit-entry-put-type-tag-requires t c κs = search needs
+emit-entry-put-type-tag-requires t c κs = tt
 
 emit-entry-goes-on-requires-2 : (t : ℕ) → emit-entry-lts.Need-goes-on-requires-2 (emit-entry-claims t) (emit-entry-at t) emit-entry.Post
-emit-entry-goes-on-requires-2 t c κs = search needs
+emit-entry-goes-on-requires-2 t c κs = tt
 
 emit-entry-put-byte-requires : (t : ℕ) → emit-entry-lts.Need-put-byte-requires (emit-entry-claims t) (emit-entry-at t) emit-entry.Post
-emit-entry-put-byte-requires t c κs = search needs
+emit-entry-put-byte-requires t c κs = tt
 
 emit-entry-kind-of-requires-2 : (t : ℕ) → emit-entry-lts.Need-kind-of-requires-2 (emit-entry-claims t) (emit-entry-at t) emit-entry.Post
-emit-entry-kind-of-requires-2 t c κs = search needs
+emit-entry-kind-of-requires-2 t c κs = tt
 
 emit-entry-put-qualifier-requires : (t : ℕ) → emit-entry-lts.Need-put-qualifier-requires (emit-entry-claims t) (emit-entry-at t) emit-entry.Post
-emit-entry-put-qualifier-requires t c κs = search needs
+emit-entry-put-qualifier-requires t c κs = tt
 
 emit-entry-goes-on-requires-3 : (t : ℕ) → emit-entry-lts.Need-goes-on-requires-3 (emit-entry-claims t) (emit-entry-at t) emit-entry.Post
-emit-entry-goes-on-requires-3 t c κs = search needs
+emit-entry-goes-on-requires-3 t c κs = tt
 
 emit-entry-skip-mods-requires-3 : (t : ℕ) → emit-entry-lts.Need-skip-mods-requires-3 (emit-entry-claims t) (emit-entry-at t) emit-entry.Post
-emit-entry-skip-mods-requires-3 t c κs = search needs
+emit-entry-skip-mods-requires-3 t c κs = tt
 
 emit-entry-emit-mods-requires-2 : (t : ℕ) → emit-entry-lts.Need-emit-mods-requires-2 (emit-entry-claims t) (emit-entry-at t) emit-entry.Post
-emit-entry-emit-mods-requires-2 t c κs = search needs
+emit-entry-emit-mods-requires-2 t c κs = tt
 
 emit-entry-emit-base-requires : (t : ℕ) → emit-entry-lts.Need-emit-base-requires (emit-entry-claims t) (emit-entry-at t) emit-entry.Post
 emit-entry-emit-base-requires t c κs = (omega (arith, c .before .before .before .before .before .before .before .before .before .before .before .before .before .before .before .before .before .before .before .before .pre .0), tt)
 
 emit-entry-goes-on-requires-4 : (t : ℕ) → emit-entry-lts.Need-goes-on-requires-4 (emit-entry-claims t) (emit-entry-at t) emit-entry.Post
-emit-entry-goes-on-requires-4 t c κs = search needs
+emit-entry-goes-on-requires-4 t c κs = tt
 
 emit-entry-same-length : (t : ℕ) → emit-entry-lts.Need-same-length (emit-entry-claims t) (emit-entry-at t) emit-entry.Post
 emit-entry-same-length t c = search needs
@@ -979,16 +979,16 @@ emit-function-sub-n : (t : ℕ) → emit-function-lts.Need-sub-n (emit-function-
 emit-function-sub-n t c = omega arith
 
 emit-function-skip-mods-requires : (t : ℕ) → emit-function-lts.Need-skip-mods-requires (emit-function-claims t) (emit-function-at t) emit-function.Post
-emit-function-skip-mods-requires t c κs = search needs
+emit-function-skip-mods-requires t c κs = tt
 
 emit-function-emit-mods-requires : (t : ℕ) → emit-function-lts.Need-emit-mods-requires (emit-function-claims t) (emit-function-at t) emit-function.Post
-emit-function-emit-mods-requires t c κs = search needs
+emit-function-emit-mods-requires t c κs = tt
 
 emit-function-emit-proto-requires : (t : ℕ) → emit-function-lts.Need-emit-proto-requires (emit-function-claims t) (emit-function-at t) emit-function.Post
 emit-function-emit-proto-requires t c κs = (omega arith, tt)
 
 emit-function-entries-of-requires : (t : ℕ) → emit-function-lts.Need-entries-of-requires (emit-function-claims t) (emit-function-at t) emit-function.Post
-emit-function-entries-of-requires t c κs = search needs
+emit-function-entries-of-requires t c κs = tt
 
 emit-function-emit-params-requires : (t : ℕ) → emit-function-lts.Need-emit-params-requires (emit-function-claims t) (emit-function-at t) emit-function.Post
 emit-function-emit-params-requires t c κs = (omega arith, tt)
@@ -1003,25 +1003,25 @@ emit-function-returns : (t : ℕ) → emit-function-lts.Need-returns (emit-funct
 emit-function-returns t c = entries.function-put _ _ _ _ _ _ _ _ _ _ _ _ _ _ _ _ _ _ _ _ (c .before .before .before .before .before .before .before .before .before .before .before .before .before .before .before .before .before .before .before .before .before .before .before .before .before .before .args .t) _ (c .before .before .before .before .before .before .before .before .before .before .before .before .before .before .before .before .before .before .before .before .skip-mods .ensures .0) (c .before .before .before .before .before .entries-of .ensures) (c .before .before .before .before .before .before .before .before .before .before .before .before .before .before .before .before .before .emit-mods .ensures) (c .before .before .before .before .before .before .before .before .before .before .before .before .emit-proto .ensures) (c .before .before .before .before .emit-params .ensures)
 
 emit-member-load-member-requires : (t : ℕ) → emit-member-lts.Need-load-member-requires (emit-member-claims t) (emit-member-at t) emit-member.Post
-emit-member-load-member-requires t c κs = search needs
+emit-member-load-member-requires t c κs = tt
 
 emit-member-bare-requires : (t : ℕ) → emit-member-lts.Need-bare-requires (emit-member-claims t) (emit-member-at t) emit-member.Post
-emit-member-bare-requires t c κs = search needs
+emit-member-bare-requires t c κs = tt
 
 emit-member-emit-bit-padding-requires : (t : ℕ) → emit-member-lts.Need-emit-bit-padding-requires (emit-member-claims t) (emit-member-at t) emit-member.Post
-emit-member-emit-bit-padding-requires t c κs = search needs
+emit-member-emit-bit-padding-requires t c κs = tt
 
 emit-member-put-byte-requires : (t : ℕ) → emit-member-lts.Need-put-byte-requires (emit-member-claims t) (emit-member-at t) emit-member.Post
-emit-member-put-byte-requires t c κs = search needs
+emit-member-put-byte-requires t c κs = tt
 
 emit-member-put-tabs-requires : (t : ℕ) → emit-member-lts.Need-put-tabs-requires (emit-member-claims t) (emit-member-at t) emit-member.Post
-emit-member-put-tabs-requires t c κs = search needs
+emit-member-put-tabs-requires t c κs = tt
 
 emit-member-emit-type-decl-requires : (t : ℕ) → emit-member-lts.Need-emit-type-decl-requires (emit-member-claims t) (emit-member-at t) emit-member.Post
 emit-member-emit-type-decl-requires t c κs = (omega arith, tt)
 
 emit-member-emit-member-end-requires : (t : ℕ) → emit-member-lts.Need-emit-member-end-requires (emit-member-claims t) (emit-member-at t) emit-member.Post
-emit-member-emit-member-end-requires t c κs = search needs
+emit-member-emit-member-end-requires t c κs = tt
 
 emit-member-same-length : (t : ℕ) → emit-member-lts.Need-same-length (emit-member-claims t) (emit-member-at t) emit-member.Post
 emit-member-same-length t c = search needs
@@ -1039,13 +1039,13 @@ abbrev emit-members-μ-loop : emit-members-lts.MeasureT-loop
 emit-members-μ-loop b section work₀ text₀ at id t packed lvl below vlen s₀ k₀ work text s k = vlen - k
 
 emit-members-vlen-of-requires : (t : ℕ) → emit-members-lts.Need-vlen-of-requires (emit-members-claims t) (emit-members-at t) emit-members.Post emit-members-Inv-loop emit-members-μ-loop
-emit-members-vlen-of-requires t c κs = search needs
+emit-members-vlen-of-requires t c κs = tt
 
 emit-members-loop-holds : (t : ℕ) → emit-members-lts.Need-loop-holds (emit-members-claims t) (emit-members-at t) emit-members.Post emit-members-Inv-loop emit-members-μ-loop
 emit-members-loop-holds t c = (leads-start _ _ _ _ _, omega arith, omega arith, refl, refl)
 
 emit-members-stopped-requires : (t : ℕ) → emit-members-lts.Need-stopped-requires (emit-members-claims t) (emit-members-at t) emit-members.Post emit-members-Inv-loop emit-members-μ-loop
-emit-members-stopped-requires t c κs = search needs
+emit-members-stopped-requires t c κs = tt
 
 emit-members-same-length : (t : ℕ) → emit-members-lts.Need-same-length (emit-members-claims t) (emit-members-at t) emit-members.Post emit-members-Inv-loop emit-members-μ-loop
 emit-members-same-length t c = search needs
@@ -1069,7 +1069,7 @@ emit-members-loop-again : (t : ℕ) → emit-members-lts.Need-loop-again (emit-m
 emit-members-loop-again t c = (members.members-again _ _ _ _ _ _ _ _ _ _ _ _ _ _ _ _ _ _ _ _ (c .before .before .before .before .before .before .before .before .before .before .loop-test .taken) (c .before .before .before .before .before .before .before .before .before .before .before .loop .inv .0) (c .before .before .before .before .emit-member .ensures), omega arith, c .before .before .before .before .before .before .before .before .before .before .before .loop .inv .2, search needs, search needs)
 
 emit-members-emit-tail-padding-requires : (t : ℕ) → emit-members-lts.Need-emit-tail-padding-requires (emit-members-claims t) (emit-members-at t) emit-members.Post emit-members-Inv-loop emit-members-μ-loop
-emit-members-emit-tail-padding-requires t c κs = search needs
+emit-members-emit-tail-padding-requires t c κs = tt
 
 emit-members-same-length-3 : (t : ℕ) → emit-members-lts.Need-same-length-3 (emit-members-claims t) (emit-members-at t) emit-members.Post emit-members-Inv-loop emit-members-μ-loop
 emit-members-same-length-3 t c = search needs
@@ -1081,28 +1081,28 @@ emit-members-returns-2 : (t : ℕ) → emit-members-lts.Need-returns-2 (emit-mem
 emit-members-returns-2 t c = members.members-whole _ _ _ _ _ _ _ _ _ _ _ _ _ _ _ _ (c .before .before .before .before .before .before .vlen-of .ensures) (members.members-end _ _ _ _ _ _ _ _ _ _ _ _ _ _ _ _ _ _ _ (c .before .before .before .before .loop-test .left) (c .before .before .before .before .before .loop .inv .0) (c .before .before .emit-tail-padding .ensures))
 
 emit-param-param-place-requires : (t : ℕ) → emit-param-lts.Need-param-place-requires (emit-param-claims t) (emit-param-at t) emit-param.Post
-emit-param-param-place-requires t c κs = search needs
+emit-param-param-place-requires t c κs = tt
 
 emit-param-add-word : (t : ℕ) → emit-param-lts.Need-add-word (emit-param-claims t) (emit-param-at t) emit-param.Post
 emit-param-add-word t c = omega arith
 
 emit-param-word-requires : (t : ℕ) → emit-param-lts.Need-word-requires (emit-param-claims t) (emit-param-at t) emit-param.Post
-emit-param-word-requires t c κs = search needs
+emit-param-word-requires t c κs = tt
 
 emit-param-word-requires-2 : (t : ℕ) → emit-param-lts.Need-word-requires-2 (emit-param-claims t) (emit-param-at t) emit-param.Post
-emit-param-word-requires-2 t c κs = search needs
+emit-param-word-requires-2 t c κs = tt
 
 emit-param-bare-requires : (t : ℕ) → emit-param-lts.Need-bare-requires (emit-param-claims t) (emit-param-at t) emit-param.Post
-emit-param-bare-requires t c κs = search needs
+emit-param-bare-requires t c κs = tt
 
 emit-param-put-comma-requires : (t : ℕ) → emit-param-lts.Need-put-comma-requires (emit-param-claims t) (emit-param-at t) emit-param.Post
-emit-param-put-comma-requires t c κs = search needs
+emit-param-put-comma-requires t c κs = tt
 
 emit-param-is-any-more-requires : (t : ℕ) → emit-param-lts.Need-is-any-more-requires (emit-param-claims t) (emit-param-at t) emit-param.Post
-emit-param-is-any-more-requires t c κs = search needs
+emit-param-is-any-more-requires t c κs = tt
 
 emit-param-put-dots-requires : (t : ℕ) → emit-param-lts.Need-put-dots-requires (emit-param-claims t) (emit-param-at t) emit-param.Post
-emit-param-put-dots-requires t c κs = search needs
+emit-param-put-dots-requires t c κs = tt
 
 emit-param-same-length : (t : ℕ) → emit-param-lts.Need-same-length (emit-param-claims t) (emit-param-at t) emit-param.Post
 emit-param-same-length t c = search needs
@@ -1129,16 +1129,16 @@ abbrev emit-params-μ-loop : emit-params-lts.MeasureT-loop
 emit-params-μ-loop b section work₀ text₀ at lvl below shown p₀ k₀ work text p k = shown .vlen - k
 
 emit-params-shown-params-requires : (t : ℕ) → emit-params-lts.Need-shown-params-requires (emit-params-claims t) (emit-params-at t) emit-params.Post emit-params-Inv-loop emit-params-μ-loop
-emit-params-shown-params-requires t c κs = search needs
+emit-params-shown-params-requires t c κs = tt
 
 emit-params-put-open-requires : (t : ℕ) → emit-params-lts.Need-put-open-requires (emit-params-claims t) (emit-params-at t) emit-params.Post emit-params-Inv-loop emit-params-μ-loop
-emit-params-put-open-requires t c κs = search needs
+emit-params-put-open-requires t c κs = tt
 
 emit-params-loop-holds : (t : ℕ) → emit-params-lts.Need-loop-holds (emit-params-claims t) (emit-params-at t) emit-params.Post emit-params-Inv-loop emit-params-μ-loop
 emit-params-loop-holds t c = (leads-start _ _ _ _ _, omega arith, omega arith, refl, refl)
 
 emit-params-stopped-requires : (t : ℕ) → emit-params-lts.Need-stopped-requires (emit-params-claims t) (emit-params-at t) emit-params.Post emit-params-Inv-loop emit-params-μ-loop
-emit-params-stopped-requires t c κs = search needs
+emit-params-stopped-requires t c κs = tt
 
 emit-params-same-length : (t : ℕ) → emit-params-lts.Need-same-length (emit-params-claims t) (emit-params-at t) emit-params.Post emit-params-Inv-loop emit-params-μ-loop
 emit-params-same-length t c = search needs
@@ -1162,7 +1162,7 @@ emit-params-loop-again : (t : ℕ) → emit-params-lts.Need-loop-again (emit-par
 emit-params-loop-again t c = (members.params-again _ _ _ _ _ _ _ _ _ _ _ _ _ _ _ _ (c .before .before .before .before .before .before .before .before .before .before .if1 .taken) (c .before .before .before .before .before .before .before .before .before .before .before .before .loop .inv .0) (c .before .before .before .before .emit-param .ensures), omega arith, c .before .before .before .before .before .before .before .before .before .before .before .before .loop .inv .2, search needs, search needs)
 
 emit-params-put-close-requires : (t : ℕ) → emit-params-lts.Need-put-close-requires (emit-params-claims t) (emit-params-at t) emit-params.Post emit-params-Inv-loop emit-params-μ-loop
-emit-params-put-close-requires t c κs = search needs
+emit-params-put-close-requires t c κs = tt
 
 emit-params-same-length-3 : (t : ℕ) → emit-params-lts.Need-same-length-3 (emit-params-claims t) (emit-params-at t) emit-params.Post emit-params-Inv-loop emit-params-μ-loop
 emit-params-same-length-3 t c = search needs
@@ -1174,7 +1174,7 @@ emit-params-returns-2 : (t : ℕ) → emit-params-lts.Need-returns-2 (emit-param
 emit-params-returns-2 t c = members.params-whole _ _ _ _ _ _ _ _ _ _ _ _ _ _ _ (c .before .before .before .before .before .before .before .before .before .before .before .shown-params .ensures) (c .before .before .before .before .before .before .before .before .before .put-open .ensures) (members.params-end _ _ _ _ _ _ _ _ _ _ _ _ _ _ _ (c .before .before .before .before .if1 .left) (c .before .before .before .before .before .before .loop .inv .0) (c .before .before .put-close .ensures))
 
 emit-proto-emit-name-requires : (t : ℕ) → emit-proto-lts.Need-emit-name-requires (emit-proto-claims t) (emit-proto-at t) emit-proto.Post
-emit-proto-emit-name-requires t c κs = search needs
+emit-proto-emit-name-requires t c κs = tt
 
 emit-proto-same-length : (t : ℕ) → emit-proto-lts.Need-same-length (emit-proto-claims t) (emit-proto-at t) emit-proto.Post
 emit-proto-same-length t c = search needs
@@ -1183,13 +1183,13 @@ emit-proto-returns : (t : ℕ) → emit-proto-lts.Need-returns (emit-proto-claim
 emit-proto-returns t c = entries.proto-name _ _ _ _ _ _ _ _ _ _ _ _ _ (c .before .before .before .before .before .if1 .taken) (c .before .before .emit-name .ensures)
 
 emit-proto-put-two-requires : (t : ℕ) → emit-proto-lts.Need-put-two-requires (emit-proto-claims t) (emit-proto-at t) emit-proto.Post
-emit-proto-put-two-requires t c κs = search needs
+emit-proto-put-two-requires t c κs = tt
 
 emit-proto-emit-type-chain-requires : (t : ℕ) → emit-proto-lts.Need-emit-type-chain-requires (emit-proto-claims t) (emit-proto-at t) emit-proto.Post
 emit-proto-emit-type-chain-requires t c κs = (omega arith, tt)
 
 emit-proto-put-close-requires : (t : ℕ) → emit-proto-lts.Need-put-close-requires (emit-proto-claims t) (emit-proto-at t) emit-proto.Post
-emit-proto-put-close-requires t c κs = search needs
+emit-proto-put-close-requires t c κs = tt
 
 emit-proto-same-length-2 : (t : ℕ) → emit-proto-lts.Need-same-length-2 (emit-proto-claims t) (emit-proto-at t) emit-proto.Post
 emit-proto-same-length-2 t c = search needs
@@ -1207,7 +1207,7 @@ abbrev emit-type-chain-μ-loop : emit-type-chain-lts.MeasureT-loop
 emit-type-chain-μ-loop b section work₀ text₀ at d n left below c₀ work text c = c .n
 
 emit-type-chain-stop-requires : (t : ℕ) → emit-type-chain-lts.Need-stop-requires (emit-type-chain-claims t) (emit-type-chain-at t) emit-type-chain.Post emit-type-chain-Inv-loop emit-type-chain-μ-loop
-emit-type-chain-stop-requires t c κs = search needs
+emit-type-chain-stop-requires t c κs = tt
 
 emit-type-chain-same-length : (t : ℕ) → emit-type-chain-lts.Need-same-length (emit-type-chain-claims t) (emit-type-chain-at t) emit-type-chain.Post emit-type-chain-Inv-loop emit-type-chain-μ-loop
 emit-type-chain-same-length t c = search needs
@@ -1216,7 +1216,7 @@ emit-type-chain-returns : (t : ℕ) → emit-type-chain-lts.Need-returns (emit-t
 emit-type-chain-returns t c = chains.chain-zero _ _ _ _ _ _ _ _ _ _ (c .before .before .if1 .taken) (c .stop .ensures)
 
 emit-type-chain-stopped-requires : (t : ℕ) → emit-type-chain-lts.Need-stopped-requires (emit-type-chain-claims t) (emit-type-chain-at t) emit-type-chain.Post emit-type-chain-Inv-loop emit-type-chain-μ-loop
-emit-type-chain-stopped-requires t c κs = search needs
+emit-type-chain-stopped-requires t c κs = tt
 
 emit-type-chain-same-length-2 : (t : ℕ) → emit-type-chain-lts.Need-same-length-2 (emit-type-chain-claims t) (emit-type-chain-at t) emit-type-chain.Post emit-type-chain-Inv-loop emit-type-chain-μ-loop
 emit-type-chain-same-length-2 t c = search needs
@@ -1249,7 +1249,7 @@ emit-type-chain-returns-3 : (t : ℕ) → emit-type-chain-lts.Need-returns-3 (em
 emit-type-chain-returns-3 t c = chains.chain-whole _ _ _ _ _ _ _ _ _ _ _ _ _ (c .before .before .before .before .before .before .before .if1 .left) (chains.chain-stands _ _ _ _ _ _ _ _ _ _ _ _ (c .before .before .before .loop .inv .0) (c .if4 .taken))
 
 emit-type-chain-emit-name-requires : (t : ℕ) → emit-type-chain-lts.Need-emit-name-requires (emit-type-chain-claims t) (emit-type-chain-at t) emit-type-chain.Post emit-type-chain-Inv-loop emit-type-chain-μ-loop
-emit-type-chain-emit-name-requires t c κs = search needs
+emit-type-chain-emit-name-requires t c κs = tt
 
 emit-type-chain-same-length-5 : (t : ℕ) → emit-type-chain-lts.Need-same-length-5 (emit-type-chain-claims t) (emit-type-chain-at t) emit-type-chain.Post emit-type-chain-Inv-loop emit-type-chain-μ-loop
 emit-type-chain-same-length-5 t c = search needs
@@ -1261,7 +1261,7 @@ emit-type-chain-returns-4 : (t : ℕ) → emit-type-chain-lts.Need-returns-4 (em
 emit-type-chain-returns-4 t c = chains.chain-whole _ _ _ _ _ _ _ _ _ _ _ _ _ (c .before .before .before .before .before .before .before .before .before .before .before .before .if1 .left) (chains.chain-ends _ _ _ _ _ _ _ _ _ _ _ _ _ _ (c .before .before .before .before .before .before .before .before .loop .inv .0) (omega arith) (c .before .before .before .before .before .if4 .left) (c .before .before .emit-name .ensures))
 
 emit-type-decl-stop-requires : (t : ℕ) → emit-type-decl-lts.Need-stop-requires (emit-type-decl-claims t) (emit-type-decl-at t) emit-type-decl.Post
-emit-type-decl-stop-requires t c κs = search needs
+emit-type-decl-stop-requires t c κs = tt
 
 emit-type-decl-same-length : (t : ℕ) → emit-type-decl-lts.Need-same-length (emit-type-decl-claims t) (emit-type-decl-at t) emit-type-decl.Post
 emit-type-decl-same-length t c = search needs
@@ -1270,7 +1270,7 @@ emit-type-decl-returns : (t : ℕ) → emit-type-decl-lts.Need-returns (emit-typ
 emit-type-decl-returns t c = chains.decl-zero _ _ _ _ _ _ _ _ _ _ (c .before .before .if1 .taken) (c .stop .ensures)
 
 emit-type-decl-stopped-requires : (t : ℕ) → emit-type-decl-lts.Need-stopped-requires (emit-type-decl-claims t) (emit-type-decl-at t) emit-type-decl.Post
-emit-type-decl-stopped-requires t c κs = search needs
+emit-type-decl-stopped-requires t c κs = tt
 
 emit-type-decl-same-length-2 : (t : ℕ) → emit-type-decl-lts.Need-same-length-2 (emit-type-decl-claims t) (emit-type-decl-at t) emit-type-decl.Post
 emit-type-decl-same-length-2 t c = search needs
@@ -1279,7 +1279,7 @@ emit-type-decl-returns-2 : (t : ℕ) → emit-type-decl-lts.Need-returns-2 (emit
 emit-type-decl-returns-2 t c = said-stopped _ _ _ _ (sym (c .before .stopped .ensures) ∙ c .if2 .taken)
 
 emit-type-decl-chain-len-requires : (t : ℕ) → emit-type-decl-lts.Need-chain-len-requires (emit-type-decl-claims t) (emit-type-decl-at t) emit-type-decl.Post
-emit-type-decl-chain-len-requires t c κs = search needs
+emit-type-decl-chain-len-requires t c κs = tt
 
 emit-type-decl-enum-known-n : (t : ℕ) → emit-type-decl-lts.Need-enum-known-n (emit-type-decl-claims t) (emit-type-decl-at t) emit-type-decl.Post
 emit-type-decl-enum-known-n t c = search needs
@@ -1304,7 +1304,7 @@ emit-type-decl-enum-known-c : (t : ℕ) → emit-type-decl-lts.Need-enum-known-c
 emit-type-decl-enum-known-c t c = search needs
 
 emit-type-decl-stop-requires-2 : (t : ℕ) → emit-type-decl-lts.Need-stop-requires-2 (emit-type-decl-claims t) (emit-type-decl-at t) emit-type-decl.Post
-emit-type-decl-stop-requires-2 t c κs = search needs
+emit-type-decl-stop-requires-2 t c κs = tt
 
 emit-type-decl-same-length-3 : (t : ℕ) → emit-type-decl-lts.Need-same-length-3 (emit-type-decl-claims t) (emit-type-decl-at t) emit-type-decl.Post
 emit-type-decl-same-length-3 t c = search needs

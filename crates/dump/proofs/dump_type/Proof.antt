@@ -1,3 +1,4 @@
+use mathlib.Core.Path.{_∙_}
 use Rattle.dump.proofs.Requests as requests
 use borrow.Author.Needs.{needs}
 use Rattle.dump.proofs.dump_type.Statement.{statement}
@@ -7,13 +8,13 @@ use Rattle.dump.proofs.dump_type.Lts as lts
 use Rattle.dump.proofs.dump_metered.Reads as dump-metered-reads
 
 dump-metered-requires : tie.Need-dump-metered-requires
-dump-metered-requires c κs = search needs
+dump-metered-requires c κs = tt
 
 same-length : tie.Need-same-length
-same-length c = search needs
+same-length c = c .before .before .before .before .dump-metered .kept .1 .1 .0
 
 same-length-2 : tie.Need-same-length-2
-same-length-2 c = search needs
+same-length-2 c = c .before .before .before .before .dump-metered .kept .1 .1 .1 .0
 
 returns : tie.Need-returns
 returns c = requests.dump-plain _ _ _ _ _ _ (c .before .before .before .before .dump-metered .ensures .0)

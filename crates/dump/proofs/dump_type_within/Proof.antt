@@ -8,13 +8,13 @@ use Rattle.dump.proofs.dump_type_within.Lts as lts
 use Rattle.dump.proofs.dump_metered.Reads as dump-metered-reads
 
 dump-metered-requires : tie.Need-dump-metered-requires
-dump-metered-requires c κs = search needs
+dump-metered-requires c κs = tt
 
 same-length : tie.Need-same-length
-same-length c = search needs
+same-length c = c .before .before .before .before .dump-metered .kept .1 .1 .0
 
 same-length-2 : tie.Need-same-length-2
-same-length-2 c = search needs
+same-length-2 c = c .before .before .before .before .dump-metered .kept .1 .1 .1 .0
 
 returns : tie.Need-returns
 returns c = (requests.dump-within _ _ _ _ _ _ _ _ (c .before .before .before .before .dump-metered .ensures .0), c .before .before .before .before .dump-metered .ensures .1 ∙ requests.within-spare _ _ _ _ _)

@@ -12,7 +12,7 @@ use Rattle.btf.proofs.type_by_id.Reads as type-by-id-reads
 use Rattle.marks.proofs.get_order_state.Reads as get-order-state-reads
 
 get-order-state-requires : tie.Need-get-order-state-requires
-get-order-state-requires c κs = search needs
+get-order-state-requires c κs = tt
 
 returns : tie.Need-returns
 returns c = requests.idle-done _ _ _ _ _ (c .before .get-order-state .ensures) (c .if1 .taken)
@@ -21,10 +21,10 @@ returns-2 : tie.Need-returns-2
 returns-2 c = requests.idle-busy _ _ _ _ _ (c .before .before .get-order-state .ensures) (c .if2 .taken)
 
 type-by-id-requires : tie.Need-type-by-id-requires
-type-by-id-requires c κs = search needs
+type-by-id-requires c κs = tt
 
 kind-of-requires : tie.Need-kind-of-requires
-kind-of-requires c κs = search needs
+kind-of-requires c κs = tt
 
 returns-3 : tie.Need-returns-3
 returns-3 c = requests.idle-no _ _ _ _ _ (c .before .before .before .before .before .before .get-order-state .ensures) (c .before .before .before .before .before .if1 .left) (c .before .before .before .before .if2 .left) _ (c .before .before .before .type-by-id .ensures) _ (c .before .before .kind-of .ensures) (λ e. c .before .match .rest .1 (inl e)) (laws.lt-ne _ 14 14 (c .if3 .taken) (omega arith)) (laws.lt-ne _ 14 15 (c .if3 .taken) (omega arith)) (λ e. c .before .match .rest .1 (inr e))

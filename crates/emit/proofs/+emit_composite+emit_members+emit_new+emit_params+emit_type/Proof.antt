@@ -184,13 +184,13 @@ emit-type-claims t = (
 )
 
 emit-composite-is-named-requires : (t : ℕ) → emit-composite-lts.Need-is-named-requires (emit-composite-claims t) (emit-composite-at t) emit-composite.Post
-emit-composite-is-named-requires t c κs = search needs
+emit-composite-is-named-requires t c κs = tt
 
 emit-composite-set-emit-state-requires : (t : ℕ) → emit-composite-lts.Need-set-emit-state-requires (emit-composite-claims t) (emit-composite-at t) emit-composite.Post
-emit-composite-set-emit-state-requires t c κs = search needs
+emit-composite-set-emit-state-requires t c κs = tt
 
 emit-composite-inner-requires : (t : ℕ) → emit-composite-lts.Need-inner-requires (emit-composite-claims t) (emit-composite-at t) emit-composite.Post
-emit-composite-inner-requires t c κs = search needs
+emit-composite-inner-requires t c κs = tt
 
 emit-composite-emit-members-requires : (t : ℕ) → emit-composite-lts.Need-emit-members-requires (emit-composite-claims t) (emit-composite-at t) emit-composite.Post
 emit-composite-emit-members-requires t c κs = (omega arith, tt)
@@ -210,7 +210,7 @@ emit-composite-emit-definition-requires :
       emit-mention-reads.Asked,
       emit-mention-reads.Learnt,
     ) (emit-composite-at t) emit-composite.Post
-emit-composite-emit-definition-requires t c κs = search needs
+emit-composite-emit-definition-requires t c κs = tt
 
 emit-composite-set-emit-state-requires-2 :
     (t : ℕ) → emit-composite-lts.Need-set-emit-state-requires-2 (
@@ -227,13 +227,13 @@ emit-composite-set-emit-state-requires-2 :
       emit-mention-reads.Asked,
       emit-mention-reads.Learnt,
     ) (emit-composite-at t) emit-composite.Post
-emit-composite-set-emit-state-requires-2 t c κs = search needs
+emit-composite-set-emit-state-requires-2 t c κs = tt
 
 emit-composite-same-length : (t : ℕ) → emit-composite-lts.Need-same-length (emit-composite-claims t) (emit-composite-at t) emit-composite.Post
-emit-composite-same-length t c = search needs
+emit-composite-same-length t c = c .before .before .set-emit-state2 .kept .0 ∙ c .before .before .before .before .before .before .before .before .emit-definition .kept .1 .1 .0 ∙ c .before .before .before .before .before .before .before .before .before .before .before .before .before .before .before .emit-members .kept .1 .1 .0 ∙ c .before .before .before .before .before .before .before .before .before .before .before .before .before .before .before .before .before .before .before .before .before .before .set-emit-state .kept .0
 
 emit-composite-same-length-2 : (t : ℕ) → emit-composite-lts.Need-same-length-2 (emit-composite-claims t) (emit-composite-at t) emit-composite.Post
-emit-composite-same-length-2 t c = search needs
+emit-composite-same-length-2 t c = c .before .before .before .before .before .before .before .before .emit-definition .kept .1 .1 .1 .0 ∙ c .before .before .before .before .before .before .before .before .before .before .before .before .before .before .before .emit-members .kept .1 .1 .1 .0
 
 emit-composite-returns : (t : ℕ) → emit-composite-lts.Need-returns (emit-composite-claims t) (emit-composite-at t) emit-composite.Post
 emit-composite-returns t c = λ n. laws.composite-top _ _ n _ _ _ _ _ _ _ (c .before .before .before .before .before .before .before .before .before .before .before .before .before .before .before .before .before .before .before .before .before .before .before .before .before .before .before .before .pre .1) _ (c .before .before .before .before .before .before .before .before .before .before .before .before .before .before .before .before .before .before .before .before .before .before .before .before .is-named .ensures) _ _ (c .before .before .before .before .before .before .before .before .before .before .before .before .before .before .before .before .before .before .before .before .before .before .set-emit-state .ensures) (c .before .before .before .before .before .before .before .before .before .before .before .before .before .before .before .before .before .before .before .if1 .taken) _ (c .before .before .before .before .before .before .before .before .before .before .before .before .before .before .before .before .before .before .inner .ensures) _ _ _ (c .before .before .before .before .before .before .before .before .before .before .before .before .before .before .before .emit-members .ensures n) _ _ _ (c .before .before .before .before .before .before .before .before .emit-definition .ensures) _ (c .before .before .set-emit-state2 .ensures)
@@ -256,19 +256,19 @@ emit-composite-set-emit-state-requires-3 :
       emit-mention-reads.Asked,
       emit-mention-reads.Learnt,
     ) (emit-composite-at t) emit-composite.Post
-emit-composite-set-emit-state-requires-3 t c κs = search needs
+emit-composite-set-emit-state-requires-3 t c κs = tt
 
 emit-composite-same-length-3 : (t : ℕ) → emit-composite-lts.Need-same-length-3 (emit-composite-claims t) (emit-composite-at t) emit-composite.Post
-emit-composite-same-length-3 t c = search needs
+emit-composite-same-length-3 t c = c .before .before .set-emit-state3 .kept .0 ∙ c .before .before .before .before .before .before .before .before .emit-members2 .kept .1 .1 .0 ∙ c .before .before .before .before .before .before .before .before .before .before .before .before .before .before .before .set-emit-state .kept .0
 
 emit-composite-same-length-4 : (t : ℕ) → emit-composite-lts.Need-same-length-4 (emit-composite-claims t) (emit-composite-at t) emit-composite.Post
-emit-composite-same-length-4 t c = search needs
+emit-composite-same-length-4 t c = c .before .before .before .before .before .before .before .before .emit-members2 .kept .1 .1 .1 .0
 
 emit-composite-returns-2 : (t : ℕ) → emit-composite-lts.Need-returns-2 (emit-composite-claims t) (emit-composite-at t) emit-composite.Post
 emit-composite-returns-2 t c = λ n. laws.composite-nameless _ _ n _ _ _ _ _ _ _ (c .before .before .before .before .before .before .before .before .before .before .before .before .before .before .before .before .before .before .before .before .before .pre .1) _ (c .before .before .before .before .before .before .before .before .before .before .before .before .before .before .before .before .before .is-named .ensures) _ _ (c .before .before .before .before .before .before .before .before .before .before .before .before .before .before .before .set-emit-state .ensures) (c .before .before .before .before .before .before .before .before .before .before .before .before .if1 .left) (laws.not-true _ (c .before .before .before .before .before .before .before .before .before .before .before .if2 .taken)) _ _ _ (c .before .before .before .before .before .before .before .before .emit-members2 .ensures n) _ (c .before .before .set-emit-state3 .ensures)
 
 emit-composite-emit-mention-requires : (t : ℕ) → emit-composite-lts.Need-emit-mention-requires (emit-composite-claims t) (emit-composite-at t) emit-composite.Post
-emit-composite-emit-mention-requires t c κs = search needs
+emit-composite-emit-mention-requires t c κs = tt
 
 emit-composite-set-emit-state-requires-4 :
     (t : ℕ) → emit-composite-lts.Need-set-emit-state-requires-4 (
@@ -285,13 +285,13 @@ emit-composite-set-emit-state-requires-4 :
       emit-mention-reads.Asked,
       emit-mention-reads.Learnt,
     ) (emit-composite-at t) emit-composite.Post
-emit-composite-set-emit-state-requires-4 t c κs = search needs
+emit-composite-set-emit-state-requires-4 t c κs = tt
 
 emit-composite-same-length-5 : (t : ℕ) → emit-composite-lts.Need-same-length-5 (emit-composite-claims t) (emit-composite-at t) emit-composite.Post
-emit-composite-same-length-5 t c = search needs
+emit-composite-same-length-5 t c = c .before .before .set-emit-state4 .kept .0 ∙ c .before .before .before .before .before .before .before .before .emit-mention .kept .1 .1 .0 ∙ c .before .before .before .before .before .before .before .before .before .before .before .before .before .before .before .set-emit-state .kept .0
 
 emit-composite-same-length-6 : (t : ℕ) → emit-composite-lts.Need-same-length-6 (emit-composite-claims t) (emit-composite-at t) emit-composite.Post
-emit-composite-same-length-6 t c = search needs
+emit-composite-same-length-6 t c = c .before .before .before .before .before .before .before .before .emit-mention .kept .1 .1 .1 .0
 
 emit-composite-returns-3 : (t : ℕ) → emit-composite-lts.Need-returns-3 (emit-composite-claims t) (emit-composite-at t) emit-composite.Post
 emit-composite-returns-3 t c = λ n. laws.composite-mention _ _ n _ _ _ _ _ _ _ (c .before .before .before .before .before .before .before .before .before .before .before .before .before .before .before .before .before .before .before .before .before .pre .1) _ (c .before .before .before .before .before .before .before .before .before .before .before .before .before .before .before .before .before .is-named .ensures) _ _ (c .before .before .before .before .before .before .before .before .before .before .before .before .before .before .before .set-emit-state .ensures) (c .before .before .before .before .before .before .before .before .before .before .before .before .if1 .left) (laws.not-false _ (c .before .before .before .before .before .before .before .before .before .before .before .if2 .left)) _ _ _ (c .before .before .before .before .before .before .before .before .emit-mention .ensures n) _ (c .before .before .set-emit-state4 .ensures)
@@ -306,13 +306,13 @@ emit-members-loop-holds : (t : ℕ) → emit-members-lts.Need-loop-holds (emit-m
 emit-members-loop-holds t c = (zero-le, refl, refl, omega arith, refl, λ n. laws.rest-start _ _ _ _ _ _ n _ _ _)
 
 emit-members-member-place-requires : (t : ℕ) → emit-members-lts.Need-member-place-requires (emit-members-claims t) (emit-members-at t) emit-members.Post emit-members-Inv-loop emit-members-μ-loop
-emit-members-member-place-requires t c κs = search needs
+emit-members-member-place-requires t c κs = tt
 
 emit-members-add-word : (t : ℕ) → emit-members-lts.Need-add-word (emit-members-claims t) (emit-members-at t) emit-members.Post emit-members-Inv-loop emit-members-μ-loop
 emit-members-add-word t c = omega arith
 
 emit-members-word-requires : (t : ℕ) → emit-members-lts.Need-word-requires (emit-members-claims t) (emit-members-at t) emit-members.Post emit-members-Inv-loop emit-members-μ-loop
-emit-members-word-requires t c κs = search needs
+emit-members-word-requires t c κs = tt
 
 emit-members-emit-type-requires : (t : ℕ) → emit-members-lts.Need-emit-type-requires (emit-members-claims t) (emit-members-at t) emit-members.Post emit-members-Inv-loop emit-members-μ-loop
 emit-members-emit-type-requires t c κs = (omega arith, tt)
@@ -336,7 +336,7 @@ emit-members-returns : (t : ℕ) → emit-members-lts.Need-returns (emit-members
 emit-members-returns t c = λ n. laws.members-end _ _ _ _ _ n _ _ _ _ _ _ _ (c .before .loop .inv .5 n) (omega arith)
 
 emit-new-node-of-requires : (t : ℕ) → emit-new-lts.Need-node-of-requires (emit-new-claims t) (emit-new-at t) emit-new.Post
-emit-new-node-of-requires t c κs = search needs
+emit-new-node-of-requires t c κs = tt
 
 emit-new-enum-told : (t : ℕ) → emit-new-lts.Need-enum-told (emit-new-claims t) (emit-new-at t) emit-new.Post
 emit-new-enum-told t c = search needs
@@ -366,16 +366,16 @@ emit-new-enum-known-next-3 : (t : ℕ) → emit-new-lts.Need-enum-known-next-3 (
 emit-new-enum-known-next-3 t c = search needs
 
 emit-new-set-emit-state-requires : (t : ℕ) → emit-new-lts.Need-set-emit-state-requires (emit-new-claims t) (emit-new-at t) emit-new.Post
-emit-new-set-emit-state-requires t c κs = search needs
+emit-new-set-emit-state-requires t c κs = tt
 
 emit-new-emit-type-requires-3 : (t : ℕ) → emit-new-lts.Need-emit-type-requires-3 (emit-new-claims t) (emit-new-at t) emit-new.Post
 emit-new-emit-type-requires-3 t c κs = (omega arith, tt)
 
 emit-new-emit-once-requires : (t : ℕ) → emit-new-lts.Need-emit-once-requires (emit-new-claims t) (emit-new-at t) emit-new.Post
-emit-new-emit-once-requires t c κs = search needs
+emit-new-emit-once-requires t c κs = tt
 
 emit-new-set-emit-state-requires-2 : (t : ℕ) → emit-new-lts.Need-set-emit-state-requires-2 (emit-new-claims t) (emit-new-at t) emit-new.Post
-emit-new-set-emit-state-requires-2 t c κs = search needs
+emit-new-set-emit-state-requires-2 t c κs = tt
 
 emit-new-enum-known-res : (t : ℕ) → emit-new-lts.Need-enum-known-res (emit-new-claims t) (emit-new-at t) emit-new.Post
 emit-new-enum-known-res t c = search needs
@@ -399,55 +399,55 @@ emit-new-returns-2 : (t : ℕ) → emit-new-lts.Need-returns-2 (emit-new-claims 
 emit-new-returns-2 t c = λ n. laws.new-plain _ _ n _ _ _ _ _ _ _ (c .before .before .before .before .before .before .pre .1) _ (c .before .before .node-of .ensures) _ (c .enum-told2 .given .1) refl
 
 emit-new-same-length : (t : ℕ) → emit-new-lts.Need-same-length (emit-new-claims t) (emit-new-at t) emit-new.Post
-emit-new-same-length t c = search needs
+emit-new-same-length t c = c .before .before .before .before .emit-leaf .kept .1 .1 .0
 
 emit-new-same-length-2 : (t : ℕ) → emit-new-lts.Need-same-length-2 (emit-new-claims t) (emit-new-at t) emit-new.Post
-emit-new-same-length-2 t c = search needs
+emit-new-same-length-2 t c = c .before .before .before .before .emit-leaf .kept .1 .1 .1 .0
 
 emit-new-returns-3 : (t : ℕ) → emit-new-lts.Need-returns-3 (emit-new-claims t) (emit-new-at t) emit-new.Post
 emit-new-returns-3 t c = λ n. laws.new-listed _ _ n _ _ _ _ _ _ _ (c .before .before .before .before .before .before .before .before .before .before .before .before .before .before .pre .1) _ (c .before .before .before .before .before .before .before .before .before .before .node-of .ensures) _ _ (c .before .before .before .before .before .before .before .before .is-fwd .given .1) (c .before .before .before .before .emit-leaf .ensures n)
 
 emit-new-same-length-3 : (t : ℕ) → emit-new-lts.Need-same-length-3 (emit-new-claims t) (emit-new-at t) emit-new.Post
-emit-new-same-length-3 t c = search needs
+emit-new-same-length-3 t c = c .before .before .before .before .emit-type .kept .1 .1 .0
 
 emit-new-same-length-4 : (t : ℕ) → emit-new-lts.Need-same-length-4 (emit-new-claims t) (emit-new-at t) emit-new.Post
-emit-new-same-length-4 t c = search needs
+emit-new-same-length-4 t c = c .before .before .before .before .emit-type .kept .1 .1 .1 .0
 
 emit-new-returns-4 : (t : ℕ) → emit-new-lts.Need-returns-4 (emit-new-claims t) (emit-new-at t) emit-new.Post
 emit-new-returns-4 t c = λ n. laws.new-through _ _ n _ _ _ _ _ _ _ (c .before .before .before .before .before .before .before .before .before .before .before .before .before .before .pre .1) _ (c .before .before .before .before .before .before .before .before .before .before .node-of .ensures) _ _ _ (c .before .before .before .before .before .before .before .before .next .given .1) (c .before .before .before .before .emit-type .ensures n)
 
 emit-new-same-length-5 : (t : ℕ) → emit-new-lts.Need-same-length-5 (emit-new-claims t) (emit-new-at t) emit-new.Post
-emit-new-same-length-5 t c = search needs
+emit-new-same-length-5 t c = c .before .before .before .before .emit-type2 .kept .1 .1 .0
 
 emit-new-same-length-6 : (t : ℕ) → emit-new-lts.Need-same-length-6 (emit-new-claims t) (emit-new-at t) emit-new.Post
-emit-new-same-length-6 t c = search needs
+emit-new-same-length-6 t c = c .before .before .before .before .emit-type2 .kept .1 .1 .1 .0
 
 emit-new-returns-5 : (t : ℕ) → emit-new-lts.Need-returns-5 (emit-new-claims t) (emit-new-at t) emit-new.Post
 emit-new-returns-5 t c = λ n. laws.new-ptr _ _ n _ _ _ _ _ _ _ (c .before .before .before .before .before .before .before .before .before .before .before .before .before .before .pre .1) _ (c .before .before .before .before .before .before .before .before .before .before .node-of .ensures) _ _ (c .before .before .before .before .before .before .before .before .next2 .given .1) (c .before .before .before .before .emit-type2 .ensures n)
 
 emit-new-same-length-7 : (t : ℕ) → emit-new-lts.Need-same-length-7 (emit-new-claims t) (emit-new-at t) emit-new.Post
-emit-new-same-length-7 t c = search needs
+emit-new-same-length-7 t c = c .before .before .set-emit-state2 .kept .0 ∙ c .before .before .before .before .before .before .before .before .emit-once .kept .1 .1 .0 ∙ c .before .before .before .before .before .before .before .before .before .before .before .before .before .before .before .emit-type3 .kept .1 .1 .0 ∙ c .before .before .before .before .before .before .before .before .before .before .before .before .before .before .before .before .before .before .before .before .set-emit-state .kept .0
 
 emit-new-same-length-8 : (t : ℕ) → emit-new-lts.Need-same-length-8 (emit-new-claims t) (emit-new-at t) emit-new.Post
-emit-new-same-length-8 t c = search needs
+emit-new-same-length-8 t c = c .before .before .before .before .before .before .before .before .emit-once .kept .1 .1 .1 .0 ∙ c .before .before .before .before .before .before .before .before .before .before .before .before .before .before .before .emit-type3 .kept .1 .1 .1 .0
 
 emit-new-returns-6 : (t : ℕ) → emit-new-lts.Need-returns-6 (emit-new-claims t) (emit-new-at t) emit-new.Post
 emit-new-returns-6 t c = λ n. laws.new-typedef _ _ n _ _ _ _ _ _ _ (c .before .before .before .before .before .before .before .before .before .before .before .before .before .before .before .before .before .before .before .before .before .before .before .before .before .before .before .before .before .pre .1) _ (c .before .before .before .before .before .before .before .before .before .before .before .before .before .before .before .before .before .before .before .before .before .before .before .before .before .node-of .ensures) _ _ (c .before .before .before .before .before .before .before .before .before .before .before .before .before .before .before .before .before .before .before .before .before .before .before .next3 .given .1) _ (c .before .before .before .before .before .before .before .before .before .before .before .before .before .before .before .before .before .before .before .before .set-emit-state .ensures) _ _ _ (c .before .before .before .before .before .before .before .before .before .before .before .before .before .before .before .emit-type3 .ensures n) _ _ _ (c .before .before .before .before .before .before .before .before .emit-once .ensures n) _ (c .before .before .set-emit-state2 .ensures) refl
 
 emit-new-same-length-9 : (t : ℕ) → emit-new-lts.Need-same-length-9 (emit-new-claims t) (emit-new-at t) emit-new.Post
-emit-new-same-length-9 t c = search needs
+emit-new-same-length-9 t c = c .before .before .before .before .emit-params .kept .1 .1 .0 ∙ c .before .before .before .before .before .before .before .before .before .before .before .emit-type4 .kept .1 .1 .0
 
 emit-new-same-length-10 : (t : ℕ) → emit-new-lts.Need-same-length-10 (emit-new-claims t) (emit-new-at t) emit-new.Post
-emit-new-same-length-10 t c = search needs
+emit-new-same-length-10 t c = c .before .before .before .before .emit-params .kept .1 .1 .1 .0 ∙ c .before .before .before .before .before .before .before .before .before .before .before .emit-type4 .kept .1 .1 .1 .0
 
 emit-new-returns-7 : (t : ℕ) → emit-new-lts.Need-returns-7 (emit-new-claims t) (emit-new-at t) emit-new.Post
 emit-new-returns-7 t c = λ n. laws.new-proto _ _ n _ _ _ _ _ _ _ (c .before .before .before .before .before .before .before .before .before .before .before .before .before .before .before .before .before .before .before .before .before .pre .1) _ (c .before .before .before .before .before .before .before .before .before .before .before .before .before .before .before .before .before .node-of .ensures) _ _ _ (c .before .before .before .before .before .before .before .before .before .before .before .before .before .before .before .res .given .1) _ _ _ (c .before .before .before .before .before .before .before .before .before .before .before .emit-type4 .ensures n) (c .before .before .before .before .emit-params .ensures n)
 
 emit-new-same-length-11 : (t : ℕ) → emit-new-lts.Need-same-length-11 (emit-new-claims t) (emit-new-at t) emit-new.Post
-emit-new-same-length-11 t c = search needs
+emit-new-same-length-11 t c = c .before .before .before .before .emit-composite .kept .1 .1 .0
 
 emit-new-same-length-12 : (t : ℕ) → emit-new-lts.Need-same-length-12 (emit-new-claims t) (emit-new-at t) emit-new.Post
-emit-new-same-length-12 t c = search needs
+emit-new-same-length-12 t c = c .before .before .before .before .emit-composite .kept .1 .1 .1 .0
 
 emit-new-returns-8 : (t : ℕ) → emit-new-lts.Need-returns-8 (emit-new-claims t) (emit-new-at t) emit-new.Post
 emit-new-returns-8 t c = λ n. laws.new-composite _ _ n _ _ _ _ _ _ _ (c .before .before .before .before .before .before .before .before .before .before .before .before .before .before .pre .1) _ (c .before .before .before .before .before .before .before .before .before .before .node-of .ensures) _ _ (c .before .before .before .before .before .before .before .before .members .given .1) (c .before .before .before .before .emit-composite .ensures n)
@@ -462,13 +462,13 @@ emit-params-loop-holds : (t : ℕ) → emit-params-lts.Need-loop-holds (emit-par
 emit-params-loop-holds t c = (zero-le, refl, refl, omega arith, refl, λ n. laws.rest-start _ _ _ _ _ _ n _ _ _)
 
 emit-params-param-place-requires : (t : ℕ) → emit-params-lts.Need-param-place-requires (emit-params-claims t) (emit-params-at t) emit-params.Post emit-params-Inv-loop emit-params-μ-loop
-emit-params-param-place-requires t c κs = search needs
+emit-params-param-place-requires t c κs = tt
 
 emit-params-add-word : (t : ℕ) → emit-params-lts.Need-add-word (emit-params-claims t) (emit-params-at t) emit-params.Post emit-params-Inv-loop emit-params-μ-loop
 emit-params-add-word t c = omega arith
 
 emit-params-word-requires : (t : ℕ) → emit-params-lts.Need-word-requires (emit-params-claims t) (emit-params-at t) emit-params.Post emit-params-Inv-loop emit-params-μ-loop
-emit-params-word-requires t c κs = search needs
+emit-params-word-requires t c κs = tt
 
 emit-params-emit-type-requires : (t : ℕ) → emit-params-lts.Need-emit-type-requires (emit-params-claims t) (emit-params-at t) emit-params.Post emit-params-Inv-loop emit-params-μ-loop
 emit-params-emit-type-requires t c κs = (omega arith, tt)
@@ -492,7 +492,7 @@ emit-params-returns : (t : ℕ) → emit-params-lts.Need-returns (emit-params-cl
 emit-params-returns t c = λ n. laws.params-end _ _ _ _ _ n _ _ _ _ _ _ _ (c .before .loop .inv .5 n) (omega arith)
 
 emit-type-stopped-requires : (t : ℕ) → emit-type-lts.Need-stopped-requires (emit-type-claims t) (emit-type-at t) emit-type.Post
-emit-type-stopped-requires t c κs = search needs
+emit-type-stopped-requires t c κs = tt
 
 emit-type-same-length : (t : ℕ) → emit-type-lts.Need-same-length (emit-type-claims t) (emit-type-at t) emit-type.Post
 emit-type-same-length t c = search needs
@@ -501,7 +501,7 @@ emit-type-returns : (t : ℕ) → emit-type-lts.Need-returns (emit-type-claims t
 emit-type-returns t c = λ n. laws.stopped-sheet n _ _ _ _ (sym (c .before .stopped .ensures) ∙ c .if1 .taken)
 
 emit-type-stop-requires : (t : ℕ) → emit-type-lts.Need-stop-requires (emit-type-claims t) (emit-type-at t) emit-type.Post
-emit-type-stop-requires t c κs = search needs
+emit-type-stop-requires t c κs = tt
 
 emit-type-same-length-2 : (t : ℕ) → emit-type-lts.Need-same-length-2 (emit-type-claims t) (emit-type-at t) emit-type.Post
 emit-type-same-length-2 t c = search needs
@@ -510,7 +510,7 @@ emit-type-returns-2 : (t : ℕ) → emit-type-lts.Need-returns-2 (emit-type-clai
 emit-type-returns-2 t c = λ n. laws.too-deep _ _ n _ _ _ _ _ _ (c .before .before .if2 .taken) _ (c .stop .ensures)
 
 emit-type-get-emit-state-requires : (t : ℕ) → emit-type-lts.Need-get-emit-state-requires (emit-type-claims t) (emit-type-at t) emit-type.Post
-emit-type-get-emit-state-requires t c κs = search needs
+emit-type-get-emit-state-requires t c κs = tt
 
 emit-type-same-length-3 : (t : ℕ) → emit-type-lts.Need-same-length-3 (emit-type-claims t) (emit-type-at t) emit-type.Post
 emit-type-same-length-3 t c = search needs
@@ -522,25 +522,25 @@ emit-type-returns-3 : (t : ℕ) → emit-type-lts.Need-returns-3 (emit-type-clai
 emit-type-returns-3 t c = λ n. laws.emit-done _ _ n _ _ _ _ _ _ (c .before .before .before .if2 .left) _ (c .before .get-emit-state .ensures) (c .if3 .taken)
 
 emit-type-emit-again-requires : (t : ℕ) → emit-type-lts.Need-emit-again-requires (emit-type-claims t) (emit-type-at t) emit-type.Post
-emit-type-emit-again-requires t c κs = search needs
+emit-type-emit-again-requires t c κs = tt
 
 emit-type-same-length-5 : (t : ℕ) → emit-type-lts.Need-same-length-5 (emit-type-claims t) (emit-type-at t) emit-type.Post
-emit-type-same-length-5 t c = search needs
+emit-type-same-length-5 t c = c .before .before .before .before .emit-again .kept .1 .1 .0
 
 emit-type-same-length-6 : (t : ℕ) → emit-type-lts.Need-same-length-6 (emit-type-claims t) (emit-type-at t) emit-type.Post
-emit-type-same-length-6 t c = search needs
+emit-type-same-length-6 t c = c .before .before .before .before .emit-again .kept .1 .1 .1 .0
 
 emit-type-returns-4 : (t : ℕ) → emit-type-lts.Need-returns-4 (emit-type-claims t) (emit-type-at t) emit-type.Post
 emit-type-returns-4 t c = λ n. laws.emit-busy _ _ n _ _ _ _ _ _ (c .before .before .before .before .before .before .before .before .before .before .before .if2 .left) _ (c .before .before .before .before .before .before .before .before .before .get-emit-state .ensures) (c .before .before .before .before .before .before .before .if4 .taken) _ (c .before .before .before .before .emit-again .ensures n)
 
 emit-type-type-by-id-requires : (t : ℕ) → emit-type-lts.Need-type-by-id-requires (emit-type-claims t) (emit-type-at t) emit-type.Post
-emit-type-type-by-id-requires t c κs = search needs
+emit-type-type-by-id-requires t c κs = tt
 
 emit-type-is-named-requires : (t : ℕ) → emit-type-lts.Need-is-named-requires (emit-type-claims t) (emit-type-at t) emit-type.Post
-emit-type-is-named-requires t c κs = search needs
+emit-type-is-named-requires t c κs = tt
 
 emit-type-stop-requires-2 : (t : ℕ) → emit-type-lts.Need-stop-requires-2 (emit-type-claims t) (emit-type-at t) emit-type.Post
-emit-type-stop-requires-2 t c κs = search needs
+emit-type-stop-requires-2 t c κs = tt
 
 emit-type-same-length-7 : (t : ℕ) → emit-type-lts.Need-same-length-7 (emit-type-claims t) (emit-type-at t) emit-type.Post
 emit-type-same-length-7 t c = search needs
@@ -558,10 +558,10 @@ emit-type-emit-new-requires : (t : ℕ) → emit-type-lts.Need-emit-new-requires
 emit-type-emit-new-requires t c κs = (omega arith, c .before .before .before .before .type-by-id .ensures)
 
 emit-type-same-length-9 : (t : ℕ) → emit-type-lts.Need-same-length-9 (emit-type-claims t) (emit-type-at t) emit-type.Post
-emit-type-same-length-9 t c = search needs
+emit-type-same-length-9 t c = c .before .before .before .before .emit-new .kept .1 .1 .0
 
 emit-type-same-length-10 : (t : ℕ) → emit-type-lts.Need-same-length-10 (emit-type-claims t) (emit-type-at t) emit-type.Post
-emit-type-same-length-10 t c = search needs
+emit-type-same-length-10 t c = c .before .before .before .before .emit-new .kept .1 .1 .1 .0
 
 emit-type-returns-6 : (t : ℕ) → emit-type-lts.Need-returns-6 (emit-type-claims t) (emit-type-at t) emit-type.Post
 emit-type-returns-6 t c = λ n. laws.emit-fresh _ _ n _ _ _ _ _ _ (c .before .before .before .before .before .before .before .before .before .before .before .before .before .before .before .if2 .left) _ (c .before .before .before .before .before .before .before .before .before .before .before .before .before .get-emit-state .ensures) (c .before .before .before .before .before .before .before .before .before .before .before .before .if3 .left) (c .before .before .before .before .before .before .before .before .before .before .before .if4 .left) _ (c .before .before .before .before .before .before .before .before .before .type-by-id .ensures) _ (c .before .before .before .before .before .before .before .before .is-named .ensures) (c .before .before .before .before .before .before .before .if5 .left) _ (c .before .before .before .before .emit-new .ensures n)

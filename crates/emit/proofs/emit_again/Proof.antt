@@ -1,3 +1,4 @@
+use mathlib.Core.Path.{_∙_}
 use native.Mathlib.Omega.{arith}
 use Rattle.sheet.proofs.Laws as laws
 use Rattle.lines.proofs.Laws as lines
@@ -14,7 +15,7 @@ use Rattle.emit.proofs.get_fwd_emitted.Reads as get-fwd-emitted-reads
 use Rattle.text.proofs.stop.Reads as stop-reads
 
 get-fwd-emitted-requires : tie.Need-get-fwd-emitted-requires
-get-fwd-emitted-requires c κs = search needs
+get-fwd-emitted-requires c κs = tt
 
 same-length : tie.Need-same-length
 same-length c = search needs
@@ -23,13 +24,13 @@ returns : tie.Need-returns
 returns c = λ n. laws.again-had _ _ n _ _ _ _ _ _ (c .before .get-fwd-emitted .ensures) (c .if1 .taken)
 
 type-by-id-requires : tie.Need-type-by-id-requires
-type-by-id-requires c κs = search needs
+type-by-id-requires c κs = tt
 
 kind-of-requires : tie.Need-kind-of-requires
-kind-of-requires c κs = search needs
+kind-of-requires c κs = tt
 
 emit-once-requires : tie.Need-emit-once-requires
-emit-once-requires c κs = search needs
+emit-once-requires c κs = tt
 
 same-length-2 : tie.Need-same-length-2
 same-length-2 c = search needs
@@ -38,10 +39,10 @@ returns-2 : tie.Need-returns-2
 returns-2 c = λ n. laws.again-self _ _ n _ _ _ _ _ _ (c .before .before .before .before .before .before .before .before .get-fwd-emitted .ensures) (c .before .before .before .before .before .before .before .if1 .left) _ (c .before .before .before .before .before .type-by-id .ensures) _ (c .before .before .before .before .kind-of .ensures) (c .before .before .if2 .left) (c .before .if3 .taken) (c .if4 .taken)
 
 is-named-requires : tie.Need-is-named-requires
-is-named-requires c κs = search needs
+is-named-requires c κs = tt
 
 stop-requires : tie.Need-stop-requires
-stop-requires c κs = search needs
+stop-requires c κs = tt
 
 same-length-3 : tie.Need-same-length-3
 same-length-3 c = search needs
@@ -53,22 +54,22 @@ returns-3 : tie.Need-returns-3
 returns-3 c = λ n. laws.again-nameless _ _ n _ _ _ _ _ _ (c .before .before .before .before .before .before .before .before .before .before .before .before .get-fwd-emitted .ensures) (c .before .before .before .before .before .before .before .before .before .before .before .if1 .left) _ (c .before .before .before .before .before .before .before .before .before .type-by-id .ensures) _ (c .before .before .before .before .before .before .before .before .kind-of .ensures) (c .before .before .before .before .before .before .if2 .left) (c .before .before .before .before .before .if3 .taken) (c .before .before .before .before .if4 .left) _ (c .before .before .before .is-named .ensures) (laws.not-true _ (c .before .before .if5 .taken)) _ (c .stop .ensures)
 
 emit-once-requires-2 : tie.Need-emit-once-requires-2
-emit-once-requires-2 c κs = search needs
+emit-once-requires-2 c κs = tt
 
 same-length-5 : tie.Need-same-length-5
-same-length-5 c = search needs
+same-length-5 c = c .before .before .before .before .emit-once .kept .1 .1 .0
 
 same-length-6 : tie.Need-same-length-6
-same-length-6 c = search needs
+same-length-6 c = c .before .before .before .before .emit-once .kept .1 .1 .1 .0
 
 returns-4 : tie.Need-returns-4
 returns-4 c = λ n. laws.again-typedef _ _ n _ _ _ _ _ _ (c .before .before .before .before .before .before .before .before .before .before .before .before .get-fwd-emitted .ensures) (c .before .before .before .before .before .before .before .before .before .before .before .if1 .left) _ (c .before .before .before .before .before .before .before .before .before .type-by-id .ensures) _ (c .before .before .before .before .before .before .before .before .kind-of .ensures) (c .before .before .before .before .before .before .before .match .keys1) _ (c .before .before .before .before .emit-once .ensures n)
 
 same-length-7 : tie.Need-same-length-7
-same-length-7 c = search needs
+same-length-7 c = c .before .before .before .before .emit-once2 .kept .1 .1 .0
 
 same-length-8 : tie.Need-same-length-8
-same-length-8 c = search needs
+same-length-8 c = c .before .before .before .before .emit-once2 .kept .1 .1 .1 .0
 
 returns-5 : tie.Need-returns-5
 returns-5 c = λ n. laws.again-named _ _ n _ _ _ _ _ _ (c .before .before .before .before .before .before .before .before .before .before .before .before .before .before .before .before .before .get-fwd-emitted .ensures) (c .before .before .before .before .before .before .before .before .before .before .before .before .before .before .before .before .if1 .left) _ (c .before .before .before .before .before .before .before .before .before .before .before .before .before .before .type-by-id .ensures) _ (c .before .before .before .before .before .before .before .before .before .before .before .before .before .kind-of .ensures) (c .before .before .before .before .before .before .before .before .before .before .before .if2 .left) (c .before .before .before .before .before .before .before .before .before .before .if3 .taken) (c .before .before .before .before .before .before .before .before .before .if4 .left) _ (c .before .before .before .before .before .before .before .before .is-named .ensures) (laws.not-false _ (c .before .before .before .before .before .before .before .if5 .left)) _ (c .before .before .before .before .emit-once2 .ensures n)

@@ -1,3 +1,4 @@
+use mathlib.Core.Path.{_∙_}
 use Rattle.sheet.proofs.Laws as laws
 use borrow.Author.Needs.{needs}
 use Rattle.emit.proofs.emit_leaf.Statement.{statement}
@@ -8,25 +9,25 @@ use Rattle.lines.proofs.emit_definition.Reads as emit-definition-reads
 use Rattle.emit.proofs.set_emit_state.Reads as set-emit-state-reads
 
 emit-definition-requires : tie.Need-emit-definition-requires
-emit-definition-requires c κs = search needs
+emit-definition-requires c κs = tt
 
 set-emit-state-requires : tie.Need-set-emit-state-requires
-set-emit-state-requires c κs = search needs
+set-emit-state-requires c κs = tt
 
 same-length : tie.Need-same-length
-same-length c = search needs
+same-length c = c .before .before .set-emit-state .kept .0 ∙ c .before .before .before .before .before .before .before .before .emit-definition .kept .1 .1 .0
 
 same-length-2 : tie.Need-same-length-2
-same-length-2 c = search needs
+same-length-2 c = c .before .before .before .before .before .before .before .before .emit-definition .kept .1 .1 .1 .0
 
 returns : tie.Need-returns
 returns c = λ n. laws.leaf-shown _ _ n _ _ _ _ _ _ (c .before .before .before .before .before .before .before .before .before .before .before .before .before .before .before .pre) _ (c .before .before .before .before .before .before .before .before .before .before .before .if1 .taken) _ _ _ _ (c .before .before .before .before .before .before .before .before .emit-definition .ensures) (c .before .before .set-emit-state .ensures)
 
 set-emit-state-requires-2 : tie.Need-set-emit-state-requires-2
-set-emit-state-requires-2 c κs = search needs
+set-emit-state-requires-2 c κs = tt
 
 same-length-3 : tie.Need-same-length-3
-same-length-3 c = search needs
+same-length-3 c = c .before .before .set-emit-state2 .kept .0
 
 returns-2 : tie.Need-returns-2
 returns-2 c = λ n. laws.leaf-quiet _ _ n _ _ _ _ _ _ (c .before .before .before .before .before .before .before .before .pre) _ (c .before .before .before .before .if1 .left) _ (c .before .before .set-emit-state2 .ensures)

@@ -1,3 +1,4 @@
+use mathlib.Core.Path.{_∙_}
 use Rattle.sheet.proofs.Laws as laws
 use borrow.Author.Needs.{needs}
 use Rattle.emit.proofs.emit_mention.Statement.{statement}
@@ -10,13 +11,13 @@ returns : tie.Need-returns
 returns c = λ n. laws.mention-self _ _ _ n _ _ _ _ _ (c .if1 .taken)
 
 emit-once-requires : tie.Need-emit-once-requires
-emit-once-requires c κs = search needs
+emit-once-requires c κs = tt
 
 same-length : tie.Need-same-length
-same-length c = search needs
+same-length c = c .before .before .before .before .emit-once .kept .1 .1 .0
 
 same-length-2 : tie.Need-same-length-2
-same-length-2 c = search needs
+same-length-2 c = c .before .before .before .before .emit-once .kept .1 .1 .1 .0
 
 returns-2 : tie.Need-returns-2
 returns-2 c = λ n. laws.mention-other _ _ _ n _ _ _ _ _ (c .before .before .before .before .before .before .before .if1 .left) _ (c .before .before .before .before .emit-once .ensures n)

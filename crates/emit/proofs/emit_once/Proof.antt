@@ -1,3 +1,4 @@
+use mathlib.Core.Path.{_∙_}
 use Rattle.sheet.proofs.Laws as laws
 use borrow.Author.Needs.{needs}
 use Rattle.emit.proofs.emit_once.Statement.{statement}
@@ -9,7 +10,7 @@ use Rattle.emit.proofs.get_fwd_emitted.Reads as get-fwd-emitted-reads
 use Rattle.emit.proofs.set_fwd_emitted.Reads as set-fwd-emitted-reads
 
 get-fwd-emitted-requires : tie.Need-get-fwd-emitted-requires
-get-fwd-emitted-requires c κs = search needs
+get-fwd-emitted-requires c κs = tt
 
 same-length : tie.Need-same-length
 same-length c = search needs
@@ -18,16 +19,16 @@ returns : tie.Need-returns
 returns c = λ n. laws.once-had _ _ _ n _ _ _ _ _ (c .before .get-fwd-emitted .ensures) (c .if1 .taken)
 
 emit-forward-requires : tie.Need-emit-forward-requires
-emit-forward-requires c κs = search needs
+emit-forward-requires c κs = tt
 
 set-fwd-emitted-requires : tie.Need-set-fwd-emitted-requires
-set-fwd-emitted-requires c κs = search needs
+set-fwd-emitted-requires c κs = tt
 
 same-length-2 : tie.Need-same-length-2
-same-length-2 c = search needs
+same-length-2 c = c .before .before .set-fwd-emitted .kept .0 ∙ c .before .before .before .before .before .before .before .before .emit-forward .kept .1 .1 .0
 
 same-length-3 : tie.Need-same-length-3
-same-length-3 c = search needs
+same-length-3 c = c .before .before .before .before .before .before .before .before .emit-forward .kept .1 .1 .1 .0
 
 returns-2 : tie.Need-returns-2
 returns-2 c = λ n. laws.once-new _ _ _ n _ _ _ _ _ (c .before .before .before .before .before .before .before .before .before .before .before .before .get-fwd-emitted .ensures) (c .before .before .before .before .before .before .before .before .before .before .before .if1 .left) _ _ _ _ (c .before .before .before .before .before .before .before .before .emit-forward .ensures) (c .before .before .set-fwd-emitted .ensures)

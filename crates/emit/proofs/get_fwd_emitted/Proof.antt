@@ -11,7 +11,7 @@ use Rattle.emit.proofs.get_fwd_emitted.Lts as lts
 use Rattle.btf.proofs.get_field.Reads as get-field-reads
 
 get-field-requires : tie.Need-get-field-requires
-get-field-requires c κs = search needs
+get-field-requires c κs = tt
 
 returns : tie.Need-returns
 returns c = ap (λ (v : ℕ). not (eqb v 0)) (c .get-field .ensures)

@@ -29,7 +29,7 @@ use Rattle.btf.proofs.member_place.Reads as member-place-reads
 use Rattle.btf.proofs.param_place.Reads as param-place-reads
 use Rattle.btf.proofs.type_by_id.Reads as type-by-id-reads
 use Rattle.btf.proofs.word.Reads as word-reads
-use Rattle.leading.proofs.meet.Reads as meet-reads
+use Rattle.progress.proofs.meet.Reads as meet-reads
 use Rattle.leads.proofs.finish_led.Reads as finish-led-reads
 use Rattle.leads.proofs.finish_typedef_led.Reads as finish-typedef-led-reads
 use Rattle.leads.proofs.inside.Reads as inside-reads
@@ -191,7 +191,7 @@ order-params-claims t = (
 )
 
 order-composite-strong-requires : (t : ℕ) → order-composite-lts.Need-strong-requires (order-composite-claims t) (order-composite-at t) order-composite.Post
-order-composite-strong-requires t c κs = search needs
+order-composite-strong-requires t c κs = tt
 
 order-composite-returns : (t : ℕ) → order-composite-lts.Need-returns (order-composite-claims t) (order-composite-at t) order-composite.Post
 order-composite-returns t c = laws.composite-passed _ _ _ _ _ _ _ _ _ _ _ _ (c .before .if1 .taken) (c .strong .ensures)
@@ -209,22 +209,22 @@ order-composite-set-order-state-requires :
       finish-led-reads.Asked,
       finish-led-reads.Learnt,
     ) (order-composite-at t) order-composite.Post
-order-composite-set-order-state-requires t c κs = search needs
+order-composite-set-order-state-requires t c κs = tt
 
 order-composite-inside-requires : (t : ℕ) → order-composite-lts.Need-inside-requires (order-composite-claims t) (order-composite-at t) order-composite.Post
-order-composite-inside-requires t c κs = search needs
+order-composite-inside-requires t c κs = tt
 
 order-composite-order-members-requires : (t : ℕ) → order-composite-lts.Need-order-members-requires (order-composite-claims t) (order-composite-at t) order-composite.Post
 order-composite-order-members-requires t c κs = (omega arith, tt)
 
 order-composite-finish-led-requires : (t : ℕ) → order-composite-lts.Need-finish-led-requires (order-composite-claims t) (order-composite-at t) order-composite.Post
-order-composite-finish-led-requires t c κs = search needs
+order-composite-finish-led-requires t c κs = tt
 
 order-composite-same-length : (t : ℕ) → order-composite-lts.Need-same-length (order-composite-claims t) (order-composite-at t) order-composite.Post
-order-composite-same-length t c = search needs
+order-composite-same-length t c = c .before .before .before .before .finish-led .kept .0 ∙ c .before .before .before .before .before .before .before .before .before .before .before .order-members .kept .1 .1 .0 ∙ c .before .before .before .before .before .before .before .before .before .before .before .before .before .before .before .before .before .set-order-state .kept .0
 
 order-composite-same-length-2 : (t : ℕ) → order-composite-lts.Need-same-length-2 (order-composite-claims t) (order-composite-at t) order-composite.Post
-order-composite-same-length-2 t c = search needs
+order-composite-same-length-2 t c = c .before .before .before .before .finish-led .kept .1 .0 ∙ c .before .before .before .before .before .before .before .before .before .before .before .order-members .kept .1 .1 .1 .0
 
 order-composite-returns-2 : (t : ℕ) → order-composite-lts.Need-returns-2 (order-composite-claims t) (order-composite-at t) order-composite.Post
 order-composite-returns-2 t c = laws.composite-entered _ _ _ _ _ _ _ _ _ _ _ _ _ _ _ _ _ (c .before .before .before .before .before .before .before .before .before .before .before .before .before .before .before .before .before .before .before .if1 .left) (c .before .before .before .before .before .before .before .before .before .before .before .before .before .before .before .before .before .set-order-state .ensures) (c .before .before .before .before .before .before .before .before .before .before .before .before .inside .ensures) (c .before .before .before .before .before .before .before .before .before .before .before .order-members .ensures) (c .before .before .before .before .finish-led .ensures)
@@ -233,16 +233,16 @@ order-led-returns : (t : ℕ) → order-led-lts.Need-returns (order-led-claims t
 order-led-returns t c = laws.stopped _ _ _ _ (c .if1 .taken)
 
 order-led-refused-requires : (t : ℕ) → order-led-lts.Need-refused-requires (order-led-claims t) (order-led-at t) order-led.Post
-order-led-refused-requires t c κs = search needs
+order-led-refused-requires t c κs = tt
 
 order-led-returns-2 : (t : ℕ) → order-led-lts.Need-returns-2 (order-led-claims t) (order-led-at t) order-led.Post
 order-led-returns-2 t c = laws.too-deep _ _ _ _ (c .before .before .if1 .left) _ _ _ _ _ (c .before .if2 .taken) (c .refused .ensures)
 
 order-led-get-order-state-requires : (t : ℕ) → order-led-lts.Need-get-order-state-requires (order-led-claims t) (order-led-at t) order-led.Post
-order-led-get-order-state-requires t c κs = search needs
+order-led-get-order-state-requires t c κs = tt
 
 order-led-strong-requires : (t : ℕ) → order-led-lts.Need-strong-requires (order-led-claims t) (order-led-at t) order-led.Post
-order-led-strong-requires t c κs = search needs
+order-led-strong-requires t c κs = tt
 
 order-led-same-length : (t : ℕ) → order-led-lts.Need-same-length (order-led-claims t) (order-led-at t) order-led.Post
 order-led-same-length t c = search needs
@@ -251,7 +251,7 @@ order-led-returns-3 : (t : ℕ) → order-led-lts.Need-returns-3 (order-led-clai
 order-led-returns-3 t c = laws.order-done _ _ _ _ (c .before .before .before .before .before .if1 .left) _ _ _ _ (c .before .before .before .before .if2 .left) _ (c .before .before .get-order-state .ensures) _ (c .before .if3 .taken) (c .strong .ensures)
 
 order-led-meet-requires : (t : ℕ) → order-led-lts.Need-meet-requires (order-led-claims t) (order-led-at t) order-led.Post
-order-led-meet-requires t c κs = search needs
+order-led-meet-requires t c κs = tt
 
 order-led-same-length-2 : (t : ℕ) → order-led-lts.Need-same-length-2 (order-led-claims t) (order-led-at t) order-led.Post
 order-led-same-length-2 t c = search needs
@@ -266,10 +266,10 @@ order-led-order-new-requires : (t : ℕ) → order-led-lts.Need-order-new-requir
 order-led-order-new-requires t c κs = (omega arith, tt)
 
 order-led-same-length-3 : (t : ℕ) → order-led-lts.Need-same-length-3 (order-led-claims t) (order-led-at t) order-led.Post
-order-led-same-length-3 t c = search needs
+order-led-same-length-3 t c = c .before .before .before .before .order-new .kept .1 .1 .0
 
 order-led-same-length-4 : (t : ℕ) → order-led-lts.Need-same-length-4 (order-led-claims t) (order-led-at t) order-led.Post
-order-led-same-length-4 t c = search needs
+order-led-same-length-4 t c = c .before .before .before .before .order-new .kept .1 .1 .1 .0
 
 order-led-returns-5 : (t : ℕ) → order-led-lts.Need-returns-5 (order-led-claims t) (order-led-at t) order-led.Post
 order-led-returns-5 t c = laws.order-fresh _ _ _ _ (c .before .before .before .before .before .before .before .before .before .before .before .before .if1 .left) _ _ _ _ (c .before .before .before .before .before .before .before .before .before .before .before .if2 .left) _ (c .before .before .before .before .before .before .before .before .before .get-order-state .ensures) _ (c .before .before .before .before .before .before .before .before .if3 .left) (c .before .before .before .before .before .before .before .if4 .left) (c .before .before .before .before .order-new .ensures)
@@ -284,19 +284,19 @@ order-members-loop-holds : (t : ℕ) → order-members-lts.Need-loop-holds (orde
 order-members-loop-holds t c = (zero-le, refl, refl, omega arith, refl, laws.rest-start _ _ _ _ _ _ _ _ _ _)
 
 order-members-member-place-requires : (t : ℕ) → order-members-lts.Need-member-place-requires (order-members-claims t) (order-members-at t) order-members.Post order-members-Inv-loop order-members-μ-loop
-order-members-member-place-requires t c κs = search needs
+order-members-member-place-requires t c κs = tt
 
 order-members-add-word : (t : ℕ) → order-members-lts.Need-add-word (order-members-claims t) (order-members-at t) order-members.Post order-members-Inv-loop order-members-μ-loop
 order-members-add-word t c = omega arith
 
 order-members-word-requires : (t : ℕ) → order-members-lts.Need-word-requires (order-members-claims t) (order-members-at t) order-members.Post order-members-Inv-loop order-members-μ-loop
-order-members-word-requires t c κs = search needs
+order-members-word-requires t c κs = tt
 
 order-members-order-led-requires : (t : ℕ) → order-members-lts.Need-order-led-requires (order-members-claims t) (order-members-at t) order-members.Post order-members-Inv-loop order-members-μ-loop
 order-members-order-led-requires t c κs = (omega arith, tt)
 
 order-members-strong-requires : (t : ℕ) → order-members-lts.Need-strong-requires (order-members-claims t) (order-members-at t) order-members.Post order-members-Inv-loop order-members-μ-loop
-order-members-strong-requires t c κs = search needs
+order-members-strong-requires t c κs = tt
 
 order-members-add-k : (t : ℕ) → order-members-lts.Need-add-k (order-members-claims t) (order-members-at t) order-members.Post order-members-Inv-loop order-members-μ-loop
 order-members-add-k t c = omega arith
@@ -317,31 +317,31 @@ order-members-returns : (t : ℕ) → order-members-lts.Need-returns (order-memb
 order-members-returns t c = laws.members-end _ _ _ _ _ _ _ _ _ _ _ _ _ (c .before .loop .inv .5) (omega arith)
 
 order-new-type-by-id-requires : (t : ℕ) → order-new-lts.Need-type-by-id-requires (order-new-claims t) (order-new-at t) order-new.Post
-order-new-type-by-id-requires t c κs = search needs
+order-new-type-by-id-requires t c κs = tt
 
 order-new-node-of-requires : (t : ℕ) → order-new-lts.Need-node-of-requires (order-new-claims t) (order-new-at t) order-new.Post
-order-new-node-of-requires t c κs = search needs
+order-new-node-of-requires t c κs = tt
 
 order-new-enum-told : (t : ℕ) → order-new-lts.Need-enum-told (order-new-claims t) (order-new-at t) order-new.Post
 order-new-enum-told t c = search needs
 
 order-new-strong-requires : (t : ℕ) → order-new-lts.Need-strong-requires (order-new-claims t) (order-new-at t) order-new.Post
-order-new-strong-requires t c κs = search needs
+order-new-strong-requires t c κs = tt
 
 order-new-enum-told-2 : (t : ℕ) → order-new-lts.Need-enum-told-2 (order-new-claims t) (order-new-at t) order-new.Post
 order-new-enum-told-2 t c = search needs
 
 order-new-finish-led-requires : (t : ℕ) → order-new-lts.Need-finish-led-requires (order-new-claims t) (order-new-at t) order-new.Post
-order-new-finish-led-requires t c κs = search needs
+order-new-finish-led-requires t c κs = tt
 
 order-new-enum-told-3 : (t : ℕ) → order-new-lts.Need-enum-told-3 (order-new-claims t) (order-new-at t) order-new.Post
 order-new-enum-told-3 t c = search needs
 
 order-new-is-named-requires : (t : ℕ) → order-new-lts.Need-is-named-requires (order-new-claims t) (order-new-at t) order-new.Post
-order-new-is-named-requires t c κs = search needs
+order-new-is-named-requires t c κs = tt
 
 order-new-finish-led-requires-2 : (t : ℕ) → order-new-lts.Need-finish-led-requires-2 (order-new-claims t) (order-new-at t) order-new.Post
-order-new-finish-led-requires-2 t c κs = search needs
+order-new-finish-led-requires-2 t c κs = tt
 
 order-new-enum-known-is-array : (t : ℕ) → order-new-lts.Need-enum-known-is-array (order-new-claims t) (order-new-at t) order-new.Post
 order-new-enum-known-is-array t c = search needs
@@ -356,19 +356,19 @@ order-new-order-led-requires-2 : (t : ℕ) → order-new-lts.Need-order-led-requ
 order-new-order-led-requires-2 t c κs = (omega arith, tt)
 
 order-new-finish-led-requires-3 : (t : ℕ) → order-new-lts.Need-finish-led-requires-3 (order-new-claims t) (order-new-at t) order-new.Post
-order-new-finish-led-requires-3 t c κs = search needs
+order-new-finish-led-requires-3 t c κs = tt
 
 order-new-enum-known-t-2 : (t : ℕ) → order-new-lts.Need-enum-known-t-2 (order-new-claims t) (order-new-at t) order-new.Post
 order-new-enum-known-t-2 t c = search needs
 
 order-new-inside-requires : (t : ℕ) → order-new-lts.Need-inside-requires (order-new-claims t) (order-new-at t) order-new.Post
-order-new-inside-requires t c κs = search needs
+order-new-inside-requires t c κs = tt
 
 order-new-order-led-requires-3 : (t : ℕ) → order-new-lts.Need-order-led-requires-3 (order-new-claims t) (order-new-at t) order-new.Post
 order-new-order-led-requires-3 t c κs = (omega arith, tt)
 
 order-new-finish-typedef-led-requires : (t : ℕ) → order-new-lts.Need-finish-typedef-led-requires (order-new-claims t) (order-new-at t) order-new.Post
-order-new-finish-typedef-led-requires t c κs = search needs
+order-new-finish-typedef-led-requires t c κs = tt
 
 order-new-enum-known-res : (t : ℕ) → order-new-lts.Need-enum-known-res (order-new-claims t) (order-new-at t) order-new.Post
 order-new-enum-known-res t c = search needs
@@ -383,7 +383,7 @@ order-new-enum-known-members : (t : ℕ) → order-new-lts.Need-enum-known-membe
 order-new-enum-known-members t c = search needs
 
 order-new-is-named-requires-2 : (t : ℕ) → order-new-lts.Need-is-named-requires-2 (order-new-claims t) (order-new-at t) order-new.Post
-order-new-is-named-requires-2 t c κs = search needs
+order-new-is-named-requires-2 t c κs = tt
 
 order-new-order-composite-requires : (t : ℕ) → order-new-lts.Need-order-composite-requires (order-new-claims t) (order-new-at t) order-new.Post
 order-new-order-composite-requires t c κs = (omega arith, tt)
@@ -395,64 +395,64 @@ order-new-returns : (t : ℕ) → order-new-lts.Need-returns (order-new-claims t
 order-new-returns t c = laws.new-ignored _ _ _ _ _ _ _ _ _ _ (c .before .before .before .before .type-by-id .ensures) _ (c .before .before .before .node-of .ensures) _ (c .before .enum-told .given .1) _ refl (c .strong .ensures)
 
 order-new-same-length-2 : (t : ℕ) → order-new-lts.Need-same-length-2 (order-new-claims t) (order-new-at t) order-new.Post
-order-new-same-length-2 t c = search needs
+order-new-same-length-2 t c = c .before .before .before .before .finish-led .kept .0
 
 order-new-same-length-3 : (t : ℕ) → order-new-lts.Need-same-length-3 (order-new-claims t) (order-new-at t) order-new.Post
-order-new-same-length-3 t c = search needs
+order-new-same-length-3 t c = c .before .before .before .before .finish-led .kept .1 .0
 
 order-new-returns-2 : (t : ℕ) → order-new-lts.Need-returns-2 (order-new-claims t) (order-new-at t) order-new.Post
 order-new-returns-2 t c = laws.new-plain _ _ _ _ _ _ _ _ _ _ (c .before .before .before .before .before .before .before .before .before .before .type-by-id .ensures) _ (c .before .before .before .before .before .before .before .before .before .node-of .ensures) _ (c .before .before .before .before .before .before .before .enum-told2 .given .1) (c .before .before .before .before .finish-led .ensures)
 
 order-new-same-length-4 : (t : ℕ) → order-new-lts.Need-same-length-4 (order-new-claims t) (order-new-at t) order-new.Post
-order-new-same-length-4 t c = search needs
+order-new-same-length-4 t c = c .before .before .before .before .finish-led2 .kept .0
 
 order-new-same-length-5 : (t : ℕ) → order-new-lts.Need-same-length-5 (order-new-claims t) (order-new-at t) order-new.Post
-order-new-same-length-5 t c = search needs
+order-new-same-length-5 t c = c .before .before .before .before .finish-led2 .kept .1 .0
 
 order-new-returns-3 : (t : ℕ) → order-new-lts.Need-returns-3 (order-new-claims t) (order-new-at t) order-new.Post
 order-new-returns-3 t c = laws.new-listed _ _ _ _ _ _ _ _ _ _ (c .before .before .before .before .before .before .before .before .before .before .before .type-by-id .ensures) _ (c .before .before .before .before .before .before .before .before .before .before .node-of .ensures) _ _ (c .before .before .before .before .before .before .before .before .enum-told3 .given .1) _ (c .before .before .before .before .before .before .before .is-named .ensures) (c .before .before .before .before .finish-led2 .ensures)
 
 order-new-same-length-6 : (t : ℕ) → order-new-lts.Need-same-length-6 (order-new-claims t) (order-new-at t) order-new.Post
-order-new-same-length-6 t c = search needs
+order-new-same-length-6 t c = c .before .before .before .before .order-led .kept .1 .1 .0
 
 order-new-same-length-7 : (t : ℕ) → order-new-lts.Need-same-length-7 (order-new-claims t) (order-new-at t) order-new.Post
-order-new-same-length-7 t c = search needs
+order-new-same-length-7 t c = c .before .before .before .before .order-led .kept .1 .1 .1 .0
 
 order-new-returns-4 : (t : ℕ) → order-new-lts.Need-returns-4 (order-new-claims t) (order-new-at t) order-new.Post
 order-new-returns-4 t c = laws.new-through _ _ _ _ _ _ _ _ _ _ (c .before .before .before .before .before .before .before .before .before .before .before .before .type-by-id .ensures) _ (c .before .before .before .before .before .before .before .before .before .before .before .node-of .ensures) _ _ _ (c .before .before .before .before .before .before .before .before .before .is-array .given .1) (c .before .before .before .before .order-led .ensures)
 
 order-new-same-length-8 : (t : ℕ) → order-new-lts.Need-same-length-8 (order-new-claims t) (order-new-at t) order-new.Post
-order-new-same-length-8 t c = search needs
+order-new-same-length-8 t c = c .before .before .before .before .finish-led3 .kept .0 ∙ c .before .before .before .before .before .before .before .before .before .before .before .order-led2 .kept .1 .1 .0
 
 order-new-same-length-9 : (t : ℕ) → order-new-lts.Need-same-length-9 (order-new-claims t) (order-new-at t) order-new.Post
-order-new-same-length-9 t c = search needs
+order-new-same-length-9 t c = c .before .before .before .before .finish-led3 .kept .1 .0 ∙ c .before .before .before .before .before .before .before .before .before .before .before .order-led2 .kept .1 .1 .1 .0
 
 order-new-returns-5 : (t : ℕ) → order-new-lts.Need-returns-5 (order-new-claims t) (order-new-at t) order-new.Post
 order-new-returns-5 t c = laws.new-ptr _ _ _ _ _ _ _ _ _ _ (c .before .before .before .before .before .before .before .before .before .before .before .before .before .before .before .before .before .before .type-by-id .ensures) _ (c .before .before .before .before .before .before .before .before .before .before .before .before .before .before .before .before .before .node-of .ensures) _ _ (c .before .before .before .before .before .before .before .before .before .before .before .before .before .before .before .t .given .1) _ _ _ (c .before .before .before .before .before .before .before .before .before .before .before .order-led2 .ensures) (c .before .before .before .before .finish-led3 .ensures)
 
 order-new-same-length-10 : (t : ℕ) → order-new-lts.Need-same-length-10 (order-new-claims t) (order-new-at t) order-new.Post
-order-new-same-length-10 t c = search needs
+order-new-same-length-10 t c = c .before .before .before .before .finish-typedef-led .kept .0 ∙ c .before .before .before .before .before .before .before .before .before .before .before .order-led3 .kept .1 .1 .0
 
 order-new-same-length-11 : (t : ℕ) → order-new-lts.Need-same-length-11 (order-new-claims t) (order-new-at t) order-new.Post
-order-new-same-length-11 t c = search needs
+order-new-same-length-11 t c = c .before .before .before .before .finish-typedef-led .kept .1 .0 ∙ c .before .before .before .before .before .before .before .before .before .before .before .order-led3 .kept .1 .1 .1 .0
 
 order-new-returns-6 : (t : ℕ) → order-new-lts.Need-returns-6 (order-new-claims t) (order-new-at t) order-new.Post
 order-new-returns-6 t c = laws.new-typedef _ _ _ _ _ _ _ _ _ _ (c .before .before .before .before .before .before .before .before .before .before .before .before .before .before .before .before .before .before .before .type-by-id .ensures) _ (c .before .before .before .before .before .before .before .before .before .before .before .before .before .before .before .before .before .before .node-of .ensures) _ _ (c .before .before .before .before .before .before .before .before .before .before .before .before .before .before .before .before .t2 .given .1) _ (c .before .before .before .before .before .before .before .before .before .before .before .before .inside .ensures) _ _ _ (c .before .before .before .before .before .before .before .before .before .before .before .order-led3 .ensures) (c .before .before .before .before .finish-typedef-led .ensures)
 
 order-new-same-length-12 : (t : ℕ) → order-new-lts.Need-same-length-12 (order-new-claims t) (order-new-at t) order-new.Post
-order-new-same-length-12 t c = search needs
+order-new-same-length-12 t c = c .before .before .before .before .order-params .kept .1 .1 .0 ∙ c .before .before .before .before .before .before .before .before .before .before .before .order-led4 .kept .1 .1 .0
 
 order-new-same-length-13 : (t : ℕ) → order-new-lts.Need-same-length-13 (order-new-claims t) (order-new-at t) order-new.Post
-order-new-same-length-13 t c = search needs
+order-new-same-length-13 t c = c .before .before .before .before .order-params .kept .1 .1 .1 .0 ∙ c .before .before .before .before .before .before .before .before .before .before .before .order-led4 .kept .1 .1 .1 .0
 
 order-new-returns-7 : (t : ℕ) → order-new-lts.Need-returns-7 (order-new-claims t) (order-new-at t) order-new.Post
 order-new-returns-7 t c = laws.new-proto _ _ _ _ _ _ _ _ _ _ (c .before .before .before .before .before .before .before .before .before .before .before .before .before .before .before .before .before .before .type-by-id .ensures) _ (c .before .before .before .before .before .before .before .before .before .before .before .before .before .before .before .before .before .node-of .ensures) _ _ _ (c .before .before .before .before .before .before .before .before .before .before .before .before .before .before .before .res .given .1) _ _ _ (c .before .before .before .before .before .before .before .before .before .before .before .order-led4 .ensures) (c .before .before .before .before .order-params .ensures)
 
 order-new-same-length-14 : (t : ℕ) → order-new-lts.Need-same-length-14 (order-new-claims t) (order-new-at t) order-new.Post
-order-new-same-length-14 t c = search needs
+order-new-same-length-14 t c = c .before .before .before .before .order-composite .kept .1 .1 .0
 
 order-new-same-length-15 : (t : ℕ) → order-new-lts.Need-same-length-15 (order-new-claims t) (order-new-at t) order-new.Post
-order-new-same-length-15 t c = search needs
+order-new-same-length-15 t c = c .before .before .before .before .order-composite .kept .1 .1 .1 .0
 
 order-new-returns-8 : (t : ℕ) → order-new-lts.Need-returns-8 (order-new-claims t) (order-new-at t) order-new.Post
 order-new-returns-8 t c = laws.new-composite _ _ _ _ _ _ _ _ _ _ (c .before .before .before .before .before .before .before .before .before .before .before .before .type-by-id .ensures) _ (c .before .before .before .before .before .before .before .before .before .before .before .node-of .ensures) _ _ (c .before .before .before .before .before .before .before .before .before .members .given .1) _ (c .before .before .before .before .before .before .before .is-named2 .ensures) (c .before .before .before .before .order-composite .ensures)
@@ -467,19 +467,19 @@ order-params-loop-holds : (t : ℕ) → order-params-lts.Need-loop-holds (order-
 order-params-loop-holds t c = (zero-le, refl, refl, omega arith, refl, laws.rest-start _ _ _ _ _ _ _ _ _ _)
 
 order-params-param-place-requires : (t : ℕ) → order-params-lts.Need-param-place-requires (order-params-claims t) (order-params-at t) order-params.Post order-params-Inv-loop order-params-μ-loop
-order-params-param-place-requires t c κs = search needs
+order-params-param-place-requires t c κs = tt
 
 order-params-add-word : (t : ℕ) → order-params-lts.Need-add-word (order-params-claims t) (order-params-at t) order-params.Post order-params-Inv-loop order-params-μ-loop
 order-params-add-word t c = omega arith
 
 order-params-word-requires : (t : ℕ) → order-params-lts.Need-word-requires (order-params-claims t) (order-params-at t) order-params.Post order-params-Inv-loop order-params-μ-loop
-order-params-word-requires t c κs = search needs
+order-params-word-requires t c κs = tt
 
 order-params-order-led-requires : (t : ℕ) → order-params-lts.Need-order-led-requires (order-params-claims t) (order-params-at t) order-params.Post order-params-Inv-loop order-params-μ-loop
 order-params-order-led-requires t c κs = (omega arith, tt)
 
 order-params-strong-requires : (t : ℕ) → order-params-lts.Need-strong-requires (order-params-claims t) (order-params-at t) order-params.Post order-params-Inv-loop order-params-μ-loop
-order-params-strong-requires t c κs = search needs
+order-params-strong-requires t c κs = tt
 
 order-params-add-k : (t : ℕ) → order-params-lts.Need-add-k (order-params-claims t) (order-params-at t) order-params.Post order-params-Inv-loop order-params-μ-loop
 order-params-add-k t c = omega arith

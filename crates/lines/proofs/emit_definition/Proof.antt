@@ -14,34 +14,34 @@ use Rattle.enums.proofs.emit_enum_def.Reads as emit-enum-def-reads
 use Rattle.names.proofs.emit_fwd_def.Reads as emit-fwd-def-reads
 
 kind-of-requires : tie.Need-kind-of-requires
-kind-of-requires c κs = search needs
+kind-of-requires c κs = tt
 
 emit-enum-def-requires : tie.Need-emit-enum-def-requires
-emit-enum-def-requires c κs = search needs
+emit-enum-def-requires c κs = tt
 
 put-line-end-requires : tie.Need-put-line-end-requires
-put-line-end-requires c κs = search needs
+put-line-end-requires c κs = tt
 
 kind-flag-of-requires : tie.Need-kind-flag-of-requires
-kind-flag-of-requires c κs = search needs
+kind-flag-of-requires c κs = tt
 
 emit-fwd-def-requires : tie.Need-emit-fwd-def-requires
-emit-fwd-def-requires c κs = search needs
+emit-fwd-def-requires c κs = tt
 
 put-line-end-requires-2 : tie.Need-put-line-end-requires-2
-put-line-end-requires-2 c κs = search needs
+put-line-end-requires-2 c κs = tt
 
 emit-enum64-def-requires : tie.Need-emit-enum64-def-requires
-emit-enum64-def-requires c κs = search needs
+emit-enum64-def-requires c κs = tt
 
 put-line-end-requires-3 : tie.Need-put-line-end-requires-3
-put-line-end-requires-3 c κs = search needs
+put-line-end-requires-3 c κs = tt
 
 emit-composite-def-requires : tie.Need-emit-composite-def-requires
-emit-composite-def-requires c κs = search needs
+emit-composite-def-requires c κs = tt
 
 put-line-end-requires-4 : tie.Need-put-line-end-requires-4
-put-line-end-requires-4 c κs = search needs
+put-line-end-requires-4 c κs = tt
 
 same-length : tie.Need-same-length
 same-length c = search needs

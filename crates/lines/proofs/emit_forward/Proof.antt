@@ -14,28 +14,28 @@ use Rattle.lines.proofs.put_line_end.Reads as put-line-end-reads
 use Rattle.names.proofs.emit_composite_fwd.Reads as emit-composite-fwd-reads
 
 is-builtin-requires : tie.Need-is-builtin-requires
-is-builtin-requires c κs = search needs
+is-builtin-requires c κs = tt
 
 returns : tie.Need-returns
 returns c = lines.forward-builtin _ _ _ _ _ _ _ _ _ refl _ (c .before .is-builtin .ensures) (c .if1 .taken)
 
 kind-of-requires : tie.Need-kind-of-requires
-kind-of-requires c κs = search needs
+kind-of-requires c κs = tt
 
 emit-typedef-def-requires : tie.Need-emit-typedef-def-requires
-emit-typedef-def-requires c κs = search needs
+emit-typedef-def-requires c κs = tt
 
 put-line-end-requires : tie.Need-put-line-end-requires
-put-line-end-requires c κs = search needs
+put-line-end-requires c κs = tt
 
 is-struct-requires : tie.Need-is-struct-requires
-is-struct-requires c κs = search needs
+is-struct-requires c κs = tt
 
 emit-composite-fwd-requires : tie.Need-emit-composite-fwd-requires
-emit-composite-fwd-requires c κs = search needs
+emit-composite-fwd-requires c κs = tt
 
 put-line-end-requires-2 : tie.Need-put-line-end-requires-2
-put-line-end-requires-2 c κs = search needs
+put-line-end-requires-2 c κs = tt
 
 same-length : tie.Need-same-length
 same-length c = search needs

@@ -1,9 +1,11 @@
 use Rattle.btf.specs.Records.{sectionWord, memberAt, paramAt}
 use mathlib.Core.Bool.{false}
-use mathlib.Core.Path.{_≡_, refl, _∙_}
+use mathlib.Core.Path.{_≡_, refl, _∙_, sym}
 use lib.ListN.{length}
 use Prim.Native.Nat.{ℕ, zero-le, _<_, _≤_, _+_, _-_, _*_}
 use Rattle.marks.proofs.Laws as laws
+use Rattle.progress.proofs.Laws as progress
+use Rattle.order.proofs.Laws as own
 use borrow.Author.Needs.{needs}
 use native.Mathlib.Omega.{arith}
 use borrow.Fn.Kinds.{In}
@@ -31,10 +33,9 @@ use Rattle.btf.proofs.type_by_id.Reads as type-by-id-reads
 use Rattle.btf.proofs.word.Reads as word-reads
 use Rattle.marks.proofs.finish.Reads as finish-reads
 use Rattle.marks.proofs.finish_typedef.Reads as finish-typedef-reads
-use Rattle.marks.proofs.get_order_state.Reads as get-order-state-reads
-use Rattle.order.proofs.meet.Reads as meet-reads
-use Rattle.order.proofs.paid.Reads as paid-reads
-use Rattle.marks.proofs.refused.Reads as refused-reads
+use Rattle.progress.proofs.begin.Reads as begin-reads
+use Rattle.ways.proofs.is_passed.Reads as is-passed-reads
+use Rattle.ways.proofs.is_weak_past.Reads as is-weak-past-reads
 use Rattle.marks.proofs.set_order_state.Reads as set-order-state-reads
 use Rattle.marks.proofs.strong.Reads as strong-reads
 use Rattle.order.proofs.+order_composite+order_members+order_new+order_params+order_type.{
@@ -116,6 +117,8 @@ order-type-below t =
 
 abbrev order-composite-claims : ℕ → order-composite-lts.Claims
 order-composite-claims t = (
+  is-passed-reads.Asked,
+  is-passed-reads.Learnt,
   strong-reads.Asked,
   strong-reads.Learnt,
   set-order-state-reads.Asked,
@@ -150,6 +153,8 @@ order-new-claims t = (
   finish-reads.Learnt,
   is-named-reads.Asked,
   is-named-reads.Learnt,
+  is-weak-past-reads.Asked,
+  is-weak-past-reads.Learnt,
   order-type-below t,
   order-type.Post,
   finish-typedef-reads.Asked,
@@ -173,51 +178,31 @@ order-params-claims t = (
 )
 
 abbrev order-type-claims : ℕ → order-type-lts.Claims
-order-type-claims t = (
-  refused-reads.Asked,
-  refused-reads.Learnt,
-  paid-reads.Asked,
-  paid-reads.Learnt,
-  get-order-state-reads.Asked,
-  get-order-state-reads.Learnt,
-  strong-reads.Asked,
-  strong-reads.Learnt,
-  meet-reads.Asked,
-  meet-reads.Learnt,
-  order-new-below t,
-  order-new.Post,
-)
+order-type-claims t = (begin-reads.Asked, begin-reads.Learnt, order-new-below t, order-new.Post)
+
+order-composite-is-passed-requires : (t : ℕ) → order-composite-lts.Need-is-passed-requires (order-composite-claims t) (order-composite-at t) order-composite.Post
+order-composite-is-passed-requires t c κs = tt
 
 order-composite-strong-requires : (t : ℕ) → order-composite-lts.Need-strong-requires (order-composite-claims t) (order-composite-at t) order-composite.Post
-order-composite-strong-requires t c κs = search needs
+order-composite-strong-requires t c κs = tt
 
 order-composite-returns : (t : ℕ) → order-composite-lts.Need-returns (order-composite-claims t) (order-composite-at t) order-composite.Post
-order-composite-returns t c = laws.composite-passed _ _ _ _ _ _ _ _ _ _ _ (c .before .if1 .taken) (c .strong .ensures)
+order-composite-returns t c = laws.composite-passed _ _ _ _ _ _ _ _ _ _ _ (sym (c .before .before .is-passed .ensures) ∙ c .before .if1 .taken) (c .strong .ensures)
 
-order-composite-set-order-state-requires :
-    (t : ℕ) → order-composite-lts.Need-set-order-state-requires (
-      strong-reads.Asked,
-      strong-reads.Learnt,
-      set-order-state-reads.Asked,
-      set-order-state-reads.Learnt,
-      order-members-below t,
-      order-members.Post,
-      finish-reads.Asked,
-      finish-reads.Learnt,
-    ) (order-composite-at t) order-composite.Post
-order-composite-set-order-state-requires t c κs = search needs
+order-composite-set-order-state-requires : (t : ℕ) → order-composite-lts.Need-set-order-state-requires (order-composite-claims t) (order-composite-at t) order-composite.Post
+order-composite-set-order-state-requires t c κs = tt
 
 order-composite-order-members-requires : (t : ℕ) → order-composite-lts.Need-order-members-requires (order-composite-claims t) (order-composite-at t) order-composite.Post
 order-composite-order-members-requires t c κs = (omega arith, tt)
 
 order-composite-finish-requires : (t : ℕ) → order-composite-lts.Need-finish-requires (order-composite-claims t) (order-composite-at t) order-composite.Post
-order-composite-finish-requires t c κs = search needs
+order-composite-finish-requires t c κs = tt
 
 order-composite-same-length : (t : ℕ) → order-composite-lts.Need-same-length (order-composite-claims t) (order-composite-at t) order-composite.Post
-order-composite-same-length t c = search needs
+order-composite-same-length t c = c .before .before .finish .kept .0 ∙ c .before .before .before .before .before .before .order-members .kept .1 .1 .0 ∙ c .before .before .before .before .before .before .before .before .before .before .set-order-state .kept .0
 
 order-composite-returns-2 : (t : ℕ) → order-composite-lts.Need-returns-2 (order-composite-claims t) (order-composite-at t) order-composite.Post
-order-composite-returns-2 t c = laws.composite-entered _ _ _ _ _ _ _ _ _ _ _ _ _ _ (c .before .before .before .before .before .before .before .before .before .before .before .before .if1 .left) (c .before .before .before .before .before .before .before .before .before .before .set-order-state .ensures) (c .before .before .before .before .before .before .order-members .ensures) (c .before .before .finish .ensures)
+order-composite-returns-2 t c = laws.composite-entered _ _ _ _ _ _ _ _ _ _ _ _ _ _ (sym (c .before .before .before .before .before .before .before .before .before .before .before .before .before .is-passed .ensures) ∙ c .before .before .before .before .before .before .before .before .before .before .before .before .if1 .left) (c .before .before .before .before .before .before .before .before .before .before .set-order-state .ensures) (c .before .before .before .before .before .before .order-members .ensures) (c .before .before .finish .ensures)
 
 abbrev order-members-Inv-loop : order-members-lts.InvT-loop
 order-members-Inv-loop b section work₀ members left cost vlen r₀ k₀ work r k = (k ≤ vlen) × (length work ≡ length work₀) × (vlen < 4294967296) × (vlen ≡ members .vlen) × laws.Rest b section work₀ left cost false (λ i. sectionWord b section (memberAt (members .at) i + 4)) r₀ (members .vlen) r work k
@@ -229,19 +214,19 @@ order-members-loop-holds : (t : ℕ) → order-members-lts.Need-loop-holds (orde
 order-members-loop-holds t c = (zero-le, refl, omega arith, refl, laws.rest-start _ _ _ _ _ _ _ _ _)
 
 order-members-member-place-requires : (t : ℕ) → order-members-lts.Need-member-place-requires (order-members-claims t) (order-members-at t) order-members.Post order-members-Inv-loop order-members-μ-loop
-order-members-member-place-requires t c κs = search needs
+order-members-member-place-requires t c κs = tt
 
 order-members-add-word : (t : ℕ) → order-members-lts.Need-add-word (order-members-claims t) (order-members-at t) order-members.Post order-members-Inv-loop order-members-μ-loop
 order-members-add-word t c = omega arith
 
 order-members-word-requires : (t : ℕ) → order-members-lts.Need-word-requires (order-members-claims t) (order-members-at t) order-members.Post order-members-Inv-loop order-members-μ-loop
-order-members-word-requires t c κs = search needs
+order-members-word-requires t c κs = tt
 
 order-members-order-type-requires : (t : ℕ) → order-members-lts.Need-order-type-requires (order-members-claims t) (order-members-at t) order-members.Post order-members-Inv-loop order-members-μ-loop
 order-members-order-type-requires t c κs = (omega arith, tt)
 
 order-members-strong-requires : (t : ℕ) → order-members-lts.Need-strong-requires (order-members-claims t) (order-members-at t) order-members.Post order-members-Inv-loop order-members-μ-loop
-order-members-strong-requires t c κs = search needs
+order-members-strong-requires t c κs = tt
 
 order-members-add-k : (t : ℕ) → order-members-lts.Need-add-k (order-members-claims t) (order-members-at t) order-members.Post order-members-Inv-loop order-members-μ-loop
 order-members-add-k t c = omega arith
@@ -253,40 +238,43 @@ order-members-loop-again : (t : ℕ) → order-members-lts.Need-loop-again (orde
 order-members-loop-again t c = (omega arith, c .before .before .before .before .order-type .kept .1 .1 .0 ∙ c .before .before .before .before .before .before .before .before .before .loop .inv .1, c .before .before .before .before .before .before .before .before .before .loop .inv .2, c .before .before .before .before .before .before .before .before .before .loop .inv .3, laws.rest-turn _ _ _ _ _ _ _ _ _ _ _ _ (c .before .before .before .before .before .before .before .before .before .loop .inv .4) (omega arith) _ (laws.entry-word _ _ _ _ _ (c .before .before .before .before .before .before .word .ensures) (c .before .before .before .before .before .before .before .member-place .ensures)) _ _ (c .before .before .before .before .order-type .ensures) _ (c .strong .ensures))
 
 order-members-same-length : (t : ℕ) → order-members-lts.Need-same-length (order-members-claims t) (order-members-at t) order-members.Post order-members-Inv-loop order-members-μ-loop
-order-members-same-length t c = search needs
+order-members-same-length t c = c .before .loop .inv .1
 
 order-members-returns : (t : ℕ) → order-members-lts.Need-returns (order-members-claims t) (order-members-at t) order-members.Post order-members-Inv-loop order-members-μ-loop
 order-members-returns t c = laws.members-end _ _ _ _ _ _ _ _ _ _ _ (c .before .loop .inv .4) (omega arith)
 
 order-new-type-by-id-requires : (t : ℕ) → order-new-lts.Need-type-by-id-requires (order-new-claims t) (order-new-at t) order-new.Post
-order-new-type-by-id-requires t c κs = search needs
+order-new-type-by-id-requires t c κs = tt
 
 order-new-node-of-requires : (t : ℕ) → order-new-lts.Need-node-of-requires (order-new-claims t) (order-new-at t) order-new.Post
-order-new-node-of-requires t c κs = search needs
+order-new-node-of-requires t c κs = tt
 
 order-new-enum-told : (t : ℕ) → order-new-lts.Need-enum-told (order-new-claims t) (order-new-at t) order-new.Post
 order-new-enum-told t c = search needs
 
 order-new-strong-requires : (t : ℕ) → order-new-lts.Need-strong-requires (order-new-claims t) (order-new-at t) order-new.Post
-order-new-strong-requires t c κs = search needs
+order-new-strong-requires t c κs = tt
 
 order-new-enum-told-2 : (t : ℕ) → order-new-lts.Need-enum-told-2 (order-new-claims t) (order-new-at t) order-new.Post
 order-new-enum-told-2 t c = search needs
 
 order-new-finish-requires : (t : ℕ) → order-new-lts.Need-finish-requires (order-new-claims t) (order-new-at t) order-new.Post
-order-new-finish-requires t c κs = search needs
+order-new-finish-requires t c κs = tt
 
 order-new-enum-told-3 : (t : ℕ) → order-new-lts.Need-enum-told-3 (order-new-claims t) (order-new-at t) order-new.Post
 order-new-enum-told-3 t c = search needs
 
 order-new-is-named-requires : (t : ℕ) → order-new-lts.Need-is-named-requires (order-new-claims t) (order-new-at t) order-new.Post
-order-new-is-named-requires t c κs = search needs
+order-new-is-named-requires t c κs = tt
 
 order-new-finish-requires-2 : (t : ℕ) → order-new-lts.Need-finish-requires-2 (order-new-claims t) (order-new-at t) order-new.Post
-order-new-finish-requires-2 t c κs = search needs
+order-new-finish-requires-2 t c κs = tt
 
 order-new-enum-known-is-array : (t : ℕ) → order-new-lts.Need-enum-known-is-array (order-new-claims t) (order-new-at t) order-new.Post
 order-new-enum-known-is-array t c = search needs
+
+order-new-is-weak-past-requires : (t : ℕ) → order-new-lts.Need-is-weak-past-requires (order-new-claims t) (order-new-at t) order-new.Post
+order-new-is-weak-past-requires t c κs = tt
 
 order-new-order-type-requires : (t : ℕ) → order-new-lts.Need-order-type-requires (order-new-claims t) (order-new-at t) order-new.Post
 order-new-order-type-requires t c κs = (omega arith, tt)
@@ -298,7 +286,7 @@ order-new-order-type-requires-2 : (t : ℕ) → order-new-lts.Need-order-type-re
 order-new-order-type-requires-2 t c κs = (omega arith, tt)
 
 order-new-finish-requires-3 : (t : ℕ) → order-new-lts.Need-finish-requires-3 (order-new-claims t) (order-new-at t) order-new.Post
-order-new-finish-requires-3 t c κs = search needs
+order-new-finish-requires-3 t c κs = tt
 
 order-new-enum-known-t-2 : (t : ℕ) → order-new-lts.Need-enum-known-t-2 (order-new-claims t) (order-new-at t) order-new.Post
 order-new-enum-known-t-2 t c = search needs
@@ -307,7 +295,7 @@ order-new-order-type-requires-3 : (t : ℕ) → order-new-lts.Need-order-type-re
 order-new-order-type-requires-3 t c κs = (omega arith, tt)
 
 order-new-finish-typedef-requires : (t : ℕ) → order-new-lts.Need-finish-typedef-requires (order-new-claims t) (order-new-at t) order-new.Post
-order-new-finish-typedef-requires t c κs = search needs
+order-new-finish-typedef-requires t c κs = tt
 
 order-new-enum-known-res : (t : ℕ) → order-new-lts.Need-enum-known-res (order-new-claims t) (order-new-at t) order-new.Post
 order-new-enum-known-res t c = search needs
@@ -322,55 +310,55 @@ order-new-enum-known-members : (t : ℕ) → order-new-lts.Need-enum-known-membe
 order-new-enum-known-members t c = search needs
 
 order-new-is-named-requires-2 : (t : ℕ) → order-new-lts.Need-is-named-requires-2 (order-new-claims t) (order-new-at t) order-new.Post
-order-new-is-named-requires-2 t c κs = search needs
+order-new-is-named-requires-2 t c κs = tt
 
 order-new-order-composite-requires : (t : ℕ) → order-new-lts.Need-order-composite-requires (order-new-claims t) (order-new-at t) order-new.Post
 order-new-order-composite-requires t c κs = (omega arith, tt)
 
 order-new-same-length : (t : ℕ) → order-new-lts.Need-same-length (order-new-claims t) (order-new-at t) order-new.Post
-order-new-same-length t c = search needs
+order-new-same-length t c = refl
 
 order-new-returns : (t : ℕ) → order-new-lts.Need-returns (order-new-claims t) (order-new-at t) order-new.Post
 order-new-returns t c = laws.new-ignored _ _ _ _ _ _ _ _ _ (c .before .before .before .before .type-by-id .ensures) _ (c .before .before .before .node-of .ensures) _ (c .before .enum-told .given .1) _ refl (c .strong .ensures)
 
 order-new-same-length-2 : (t : ℕ) → order-new-lts.Need-same-length-2 (order-new-claims t) (order-new-at t) order-new.Post
-order-new-same-length-2 t c = search needs
+order-new-same-length-2 t c = c .before .before .finish .kept .0
 
 order-new-returns-2 : (t : ℕ) → order-new-lts.Need-returns-2 (order-new-claims t) (order-new-at t) order-new.Post
 order-new-returns-2 t c = laws.new-plain _ _ _ _ _ _ _ _ _ (c .before .before .before .before .before .before .before .type-by-id .ensures) _ (c .before .before .before .before .before .before .node-of .ensures) _ (c .before .before .before .before .enum-told2 .given .1) (c .before .before .finish .ensures)
 
 order-new-same-length-3 : (t : ℕ) → order-new-lts.Need-same-length-3 (order-new-claims t) (order-new-at t) order-new.Post
-order-new-same-length-3 t c = search needs
+order-new-same-length-3 t c = c .before .before .finish2 .kept .0
 
 order-new-returns-3 : (t : ℕ) → order-new-lts.Need-returns-3 (order-new-claims t) (order-new-at t) order-new.Post
 order-new-returns-3 t c = laws.new-listed _ _ _ _ _ _ _ _ _ (c .before .before .before .before .before .before .before .before .type-by-id .ensures) _ (c .before .before .before .before .before .before .before .node-of .ensures) _ _ (c .before .before .before .before .before .enum-told3 .given .1) _ (c .before .before .before .before .is-named .ensures) (c .before .before .finish2 .ensures)
 
 order-new-same-length-4 : (t : ℕ) → order-new-lts.Need-same-length-4 (order-new-claims t) (order-new-at t) order-new.Post
-order-new-same-length-4 t c = search needs
+order-new-same-length-4 t c = c .before .before .order-type .kept .1 .1 .0
 
 order-new-returns-4 : (t : ℕ) → order-new-lts.Need-returns-4 (order-new-claims t) (order-new-at t) order-new.Post
-order-new-returns-4 t c = laws.new-through _ _ _ _ _ _ _ _ _ (c .before .before .before .before .before .before .before .before .before .type-by-id .ensures) _ (c .before .before .before .before .before .before .before .before .node-of .ensures) _ _ _ (c .before .before .before .before .before .before .is-array .given .1) (c .before .before .order-type .ensures)
+order-new-returns-4 t c = laws.new-through _ _ _ _ _ _ _ _ _ (c .before .before .before .before .before .before .before .before .before .type-by-id .ensures) _ (c .before .before .before .before .before .before .before .before .node-of .ensures) _ _ _ (c .before .before .before .before .before .before .is-array .given .1) (own.by-weak _ _ _ _ _ _ _ _ (c .before .before .before .before .is-weak-past .ensures) (c .before .before .order-type .ensures))
 
 order-new-same-length-5 : (t : ℕ) → order-new-lts.Need-same-length-5 (order-new-claims t) (order-new-at t) order-new.Post
-order-new-same-length-5 t c = search needs
+order-new-same-length-5 t c = c .before .before .finish3 .kept .0 ∙ c .before .before .before .before .before .before .order-type2 .kept .1 .1 .0
 
 order-new-returns-5 : (t : ℕ) → order-new-lts.Need-returns-5 (order-new-claims t) (order-new-at t) order-new.Post
 order-new-returns-5 t c = laws.new-ptr _ _ _ _ _ _ _ _ _ (c .before .before .before .before .before .before .before .before .before .before .before .before .type-by-id .ensures) _ (c .before .before .before .before .before .before .before .before .before .before .before .node-of .ensures) _ _ (c .before .before .before .before .before .before .before .before .before .t .given .1) _ _ (c .before .before .before .before .before .before .order-type2 .ensures) (c .before .before .finish3 .ensures)
 
 order-new-same-length-6 : (t : ℕ) → order-new-lts.Need-same-length-6 (order-new-claims t) (order-new-at t) order-new.Post
-order-new-same-length-6 t c = search needs
+order-new-same-length-6 t c = c .before .before .finish-typedef .kept .0 ∙ c .before .before .before .before .before .before .order-type3 .kept .1 .1 .0
 
 order-new-returns-6 : (t : ℕ) → order-new-lts.Need-returns-6 (order-new-claims t) (order-new-at t) order-new.Post
 order-new-returns-6 t c = laws.new-typedef _ _ _ _ _ _ _ _ _ (c .before .before .before .before .before .before .before .before .before .before .before .before .type-by-id .ensures) _ (c .before .before .before .before .before .before .before .before .before .before .before .node-of .ensures) _ _ (c .before .before .before .before .before .before .before .before .before .t2 .given .1) _ _ (c .before .before .before .before .before .before .order-type3 .ensures) (c .before .before .finish-typedef .ensures)
 
 order-new-same-length-7 : (t : ℕ) → order-new-lts.Need-same-length-7 (order-new-claims t) (order-new-at t) order-new.Post
-order-new-same-length-7 t c = search needs
+order-new-same-length-7 t c = c .before .before .order-params .kept .1 .1 .0 ∙ c .before .before .before .before .before .before .order-type4 .kept .1 .1 .0
 
 order-new-returns-7 : (t : ℕ) → order-new-lts.Need-returns-7 (order-new-claims t) (order-new-at t) order-new.Post
 order-new-returns-7 t c = laws.new-proto _ _ _ _ _ _ _ _ _ (c .before .before .before .before .before .before .before .before .before .before .before .before .type-by-id .ensures) _ (c .before .before .before .before .before .before .before .before .before .before .before .node-of .ensures) _ _ _ (c .before .before .before .before .before .before .before .before .before .res .given .1) _ _ (c .before .before .before .before .before .before .order-type4 .ensures) (c .before .before .order-params .ensures)
 
 order-new-same-length-8 : (t : ℕ) → order-new-lts.Need-same-length-8 (order-new-claims t) (order-new-at t) order-new.Post
-order-new-same-length-8 t c = search needs
+order-new-same-length-8 t c = c .before .before .order-composite .kept .1 .1 .0
 
 order-new-returns-8 : (t : ℕ) → order-new-lts.Need-returns-8 (order-new-claims t) (order-new-at t) order-new.Post
 order-new-returns-8 t c = laws.new-composite _ _ _ _ _ _ _ _ _ (c .before .before .before .before .before .before .before .before .before .type-by-id .ensures) _ (c .before .before .before .before .before .before .before .before .node-of .ensures) _ _ (c .before .before .before .before .before .before .members .given .1) _ (c .before .before .before .before .is-named2 .ensures) (c .before .before .order-composite .ensures)
@@ -385,19 +373,19 @@ order-params-loop-holds : (t : ℕ) → order-params-lts.Need-loop-holds (order-
 order-params-loop-holds t c = (zero-le, refl, omega arith, refl, laws.rest-start _ _ _ _ _ _ _ _ _)
 
 order-params-param-place-requires : (t : ℕ) → order-params-lts.Need-param-place-requires (order-params-claims t) (order-params-at t) order-params.Post order-params-Inv-loop order-params-μ-loop
-order-params-param-place-requires t c κs = search needs
+order-params-param-place-requires t c κs = tt
 
 order-params-add-word : (t : ℕ) → order-params-lts.Need-add-word (order-params-claims t) (order-params-at t) order-params.Post order-params-Inv-loop order-params-μ-loop
 order-params-add-word t c = omega arith
 
 order-params-word-requires : (t : ℕ) → order-params-lts.Need-word-requires (order-params-claims t) (order-params-at t) order-params.Post order-params-Inv-loop order-params-μ-loop
-order-params-word-requires t c κs = search needs
+order-params-word-requires t c κs = tt
 
 order-params-order-type-requires : (t : ℕ) → order-params-lts.Need-order-type-requires (order-params-claims t) (order-params-at t) order-params.Post order-params-Inv-loop order-params-μ-loop
 order-params-order-type-requires t c κs = (omega arith, tt)
 
 order-params-strong-requires : (t : ℕ) → order-params-lts.Need-strong-requires (order-params-claims t) (order-params-at t) order-params.Post order-params-Inv-loop order-params-μ-loop
-order-params-strong-requires t c κs = search needs
+order-params-strong-requires t c κs = tt
 
 order-params-add-k : (t : ℕ) → order-params-lts.Need-add-k (order-params-claims t) (order-params-at t) order-params.Post order-params-Inv-loop order-params-μ-loop
 order-params-add-k t c = omega arith
@@ -409,61 +397,37 @@ order-params-loop-again : (t : ℕ) → order-params-lts.Need-loop-again (order-
 order-params-loop-again t c = (omega arith, c .before .before .before .before .order-type .kept .1 .1 .0 ∙ c .before .before .before .before .before .before .before .before .before .loop .inv .1, c .before .before .before .before .before .before .before .before .before .loop .inv .2, c .before .before .before .before .before .before .before .before .before .loop .inv .3, laws.rest-turn _ _ _ _ _ _ _ _ _ _ _ _ (c .before .before .before .before .before .before .before .before .before .loop .inv .4) (omega arith) _ (laws.entry-word _ _ _ _ _ (c .before .before .before .before .before .before .word .ensures) (c .before .before .before .before .before .before .before .param-place .ensures)) _ _ (c .before .before .before .before .order-type .ensures) _ (c .strong .ensures))
 
 order-params-same-length : (t : ℕ) → order-params-lts.Need-same-length (order-params-claims t) (order-params-at t) order-params.Post order-params-Inv-loop order-params-μ-loop
-order-params-same-length t c = search needs
+order-params-same-length t c = c .before .loop .inv .1
 
 order-params-returns : (t : ℕ) → order-params-lts.Need-returns (order-params-claims t) (order-params-at t) order-params.Post order-params-Inv-loop order-params-μ-loop
 order-params-returns t c = laws.params-end _ _ _ _ _ _ _ _ _ _ _ (c .before .loop .inv .4) (omega arith)
 
-order-type-returns : (t : ℕ) → order-type-lts.Need-returns (order-type-claims t) (order-type-at t) order-type.Post
-order-type-returns t c = laws.stopped _ _ _ (c .if1 .taken)
+order-type-begin-requires : (t : ℕ) → order-type-lts.Need-begin-requires (order-type-claims t) (order-type-at t) order-type.Post
+order-type-begin-requires t c κs = tt
 
-order-type-refused-requires : (t : ℕ) → order-type-lts.Need-refused-requires (order-type-claims t) (order-type-at t) order-type.Post
-order-type-refused-requires t c κs = search needs
+order-type-enum-known-r : (t : ℕ) → order-type-lts.Need-enum-known-r (order-type-claims t) (order-type-at t) order-type.Post
+order-type-enum-known-r t c = search needs
 
-order-type-returns-2 : (t : ℕ) → order-type-lts.Need-returns-2 (order-type-claims t) (order-type-at t) order-type.Post
-order-type-returns-2 t c = laws.too-deep _ _ _ (c .before .before .if1 .left) _ _ _ _ _ (c .before .if2 .taken) (c .refused .ensures)
-
-order-type-refused-requires-2 : (t : ℕ) → order-type-lts.Need-refused-requires-2 (order-type-claims t) (order-type-at t) order-type.Post
-order-type-refused-requires-2 t c κs = search needs
-
-order-type-returns-3 : (t : ℕ) → order-type-lts.Need-returns-3 (order-type-claims t) (order-type-at t) order-type.Post
-order-type-returns-3 t c = laws.none-left _ _ _ (c .before .before .before .before .if1 .left) _ _ _ _ (c .before .before .before .if2 .left) _ (c .before .if3 .taken) (c .refused2 .ensures)
-
-order-type-paid-requires : (t : ℕ) → order-type-lts.Need-paid-requires (order-type-claims t) (order-type-at t) order-type.Post
-order-type-paid-requires t c κs = search needs
-
-order-type-get-order-state-requires : (t : ℕ) → order-type-lts.Need-get-order-state-requires (order-type-claims t) (order-type-at t) order-type.Post
-order-type-get-order-state-requires t c κs = search needs
-
-order-type-strong-requires : (t : ℕ) → order-type-lts.Need-strong-requires (order-type-claims t) (order-type-at t) order-type.Post
-order-type-strong-requires t c κs = search needs
-
-order-type-same-length : (t : ℕ) → order-type-lts.Need-same-length (order-type-claims t) (order-type-at t) order-type.Post
-order-type-same-length t c = search needs
-
-order-type-returns-4 : (t : ℕ) → order-type-lts.Need-returns-4 (order-type-claims t) (order-type-at t) order-type.Post
-order-type-returns-4 t c = laws.order-done _ _ _ (c .before .before .before .before .before .before .before .before .if1 .left) _ _ _ _ (c .before .before .before .before .before .before .before .if2 .left) (c .before .before .before .before .before .if3 .left) _ (c .before .before .before .before .paid .ensures) _ (c .before .before .get-order-state .ensures) _ (c .before .if4 .taken) (c .strong .ensures)
-
-order-type-meet-requires : (t : ℕ) → order-type-lts.Need-meet-requires (order-type-claims t) (order-type-at t) order-type.Post
-order-type-meet-requires t c κs = laws.paid-stop _ _ _ (c .before .before .before .before .before .paid .ensures) (c .before .before .before .before .before .before .before .before .before .if1 .left)
-
-order-type-same-length-2 : (t : ℕ) → order-type-lts.Need-same-length-2 (order-type-claims t) (order-type-at t) order-type.Post
-order-type-same-length-2 t c = search needs
-
-order-type-returns-5 : (t : ℕ) → order-type-lts.Need-returns-5 (order-type-claims t) (order-type-at t) order-type.Post
-order-type-returns-5 t c = laws.order-busy _ _ _ (c .before .before .before .before .before .before .before .before .before .before .if1 .left) _ _ _ _ (c .before .before .before .before .before .before .before .before .before .if2 .left) (c .before .before .before .before .before .before .before .if3 .left) _ (c .before .before .before .before .before .before .paid .ensures) _ (c .before .before .before .before .get-order-state .ensures) _ (c .before .before .if5 .taken) (c .meet .ensures)
+order-type-enum-known-p : (t : ℕ) → order-type-lts.Need-enum-known-p (order-type-claims t) (order-type-at t) order-type.Post
+order-type-enum-known-p t c = search needs
 
 order-type-sub-order-new : (t : ℕ) → order-type-lts.Need-sub-order-new (order-type-claims t) (order-type-at t) order-type.Post
-order-type-sub-order-new t c = omega arith
+order-type-sub-order-new t c = progress.below _ _ _ (c .before .before .p .given .1) (c .before .before .before .before .begin .ensures .1)
 
 order-type-order-new-requires : (t : ℕ) → order-type-lts.Need-order-new-requires (order-type-claims t) (order-type-at t) order-type.Post
-order-type-order-new-requires t c κs = (omega arith, tt)
+order-type-order-new-requires t c κs = (omega (arith, progress.below _ _ _ (c .before .before .p .given .1) (c .before .before .before .before .begin .ensures .1)), tt)
 
-order-type-same-length-3 : (t : ℕ) → order-type-lts.Need-same-length-3 (order-type-claims t) (order-type-at t) order-type.Post
-order-type-same-length-3 t c = search needs
+order-type-same-length : (t : ℕ) → order-type-lts.Need-same-length (order-type-claims t) (order-type-at t) order-type.Post
+order-type-same-length t c = refl
 
-order-type-returns-6 : (t : ℕ) → order-type-lts.Need-returns-6 (order-type-claims t) (order-type-at t) order-type.Post
-order-type-returns-6 t c = laws.order-fresh _ _ _ (c .before .before .before .before .before .before .before .before .before .before .before .before .if1 .left) _ _ _ _ (c .before .before .before .before .before .before .before .before .before .before .before .if2 .left) (c .before .before .before .before .before .before .before .before .before .if3 .left) _ (c .before .before .before .before .before .before .before .before .paid .ensures) _ (c .before .before .before .before .before .before .get-order-state .ensures) _ (c .before .before .before .before .before .if4 .left) (c .before .before .before .before .if5 .left) (c .before .before .order-new .ensures)
+order-type-returns : (t : ℕ) → order-type-lts.Need-returns (order-type-claims t) (order-type-at t) order-type.Post
+order-type-returns t c = progress.known _ _ _ _ _ _ _ _ (c .before .before .before .begin .ensures .0) _ (c .before .r .given .1)
+
+order-type-same-length-2 : (t : ℕ) → order-type-lts.Need-same-length-2 (order-type-claims t) (order-type-at t) order-type.Post
+order-type-same-length-2 t c = c .before .before .order-new .kept .1 .1 .0
+
+order-type-returns-2 : (t : ℕ) → order-type-lts.Need-returns-2 (order-type-claims t) (order-type-at t) order-type.Post
+order-type-returns-2 t c = progress.entered _ _ _ _ _ _ _ _ (c .before .before .before .before .before .before .before .begin .ensures .0) _ (c .before .before .before .before .before .p .given .1) _ (c .before .before .order-new .ensures)
 
 pub +order-composite+order-members+order-new+order-params+order-type-spec :
     {M : Type 1} → statement M
@@ -475,6 +439,8 @@ pub +order-composite+order-members+order-new+order-params+order-type-spec :
     μ-order-params
     μ-order-type
     (λ t. order-composite-lts.spec (
+      is-passed-reads.Asked,
+      is-passed-reads.Learnt,
       strong-reads.Asked,
       strong-reads.Learnt,
       set-order-state-reads.Asked,
@@ -486,6 +452,7 @@ pub +order-composite+order-members+order-new+order-params+order-type-spec :
     )
     (order-composite-at t)
     order-composite.Post
+    (order-composite-is-passed-requires t)
     (order-composite-strong-requires t)
     (order-composite-returns t)
     (order-composite-set-order-state-requires t)
@@ -529,6 +496,8 @@ pub +order-composite+order-members+order-new+order-params+order-type-spec :
       finish-reads.Learnt,
       is-named-reads.Asked,
       is-named-reads.Learnt,
+      is-weak-past-reads.Asked,
+      is-weak-past-reads.Learnt,
       order-type-below t,
       order-type.Post,
       finish-typedef-reads.Asked,
@@ -550,6 +519,7 @@ pub +order-composite+order-members+order-new+order-params+order-type-spec :
     (order-new-is-named-requires t)
     (order-new-finish-requires-2 t)
     (order-new-enum-known-is-array t)
+    (order-new-is-weak-past-requires t)
     (order-new-order-type-requires t)
     (order-new-enum-known-t t)
     (order-new-order-type-requires-2 t)
@@ -605,35 +575,19 @@ pub +order-composite+order-members+order-new+order-params+order-type-spec :
     (order-params-same-length t)
     (order-params-returns t))
     λ t. order-type-lts.spec (
-      refused-reads.Asked,
-      refused-reads.Learnt,
-      paid-reads.Asked,
-      paid-reads.Learnt,
-      get-order-state-reads.Asked,
-      get-order-state-reads.Learnt,
-      strong-reads.Asked,
-      strong-reads.Learnt,
-      meet-reads.Asked,
-      meet-reads.Learnt,
+      begin-reads.Asked,
+      begin-reads.Learnt,
       order-new-below t,
       order-new.Post,
     )
     (order-type-at t)
     order-type.Post
-    (order-type-returns t)
-    (order-type-refused-requires t)
-    (order-type-returns-2 t)
-    (order-type-refused-requires-2 t)
-    (order-type-returns-3 t)
-    (order-type-paid-requires t)
-    (order-type-get-order-state-requires t)
-    (order-type-strong-requires t)
-    (order-type-same-length t)
-    (order-type-returns-4 t)
-    (order-type-meet-requires t)
-    (order-type-same-length-2 t)
-    (order-type-returns-5 t)
+    (order-type-begin-requires t)
+    (order-type-enum-known-r t)
+    (order-type-enum-known-p t)
     (order-type-sub-order-new t)
     (order-type-order-new-requires t)
-    (order-type-same-length-3 t)
-    (order-type-returns-6 t)
+    (order-type-same-length t)
+    (order-type-returns t)
+    (order-type-same-length-2 t)
+    (order-type-returns-2 t)

@@ -1,14 +1,14 @@
 use Rattle.sheet.specs.Sheet.{emptied}
 use mathlib.Core.Path.{_≡_, refl, _∙_}
 use lib.ListN.{length}
 use Prim.Native.Nat.{zero-le, _≤_, _-_}
 use native.Mathlib.Omega.{arith}
 use borrow.Author.Needs.{needs}
-use Rattle.dump.proofs.Requests as requests
-use Rattle.dump.proofs.clear_list.Statement.{statement}
-use Rattle.dump.proofs.clear_list.Tie as tie
-use Rattle.dump.proofs.clear_list.Reads as reads
-use Rattle.dump.proofs.clear_list.Lts as lts
+use Rattle.sheet.proofs.Emptied as laws
+use Rattle.sheet.proofs.clear_list.Statement.{statement}
+use Rattle.sheet.proofs.clear_list.Tie as tie
+use Rattle.sheet.proofs.clear_list.Reads as reads
+use Rattle.sheet.proofs.clear_list.Lts as lts
 use Rattle.marks.proofs.clear_listed.Reads as clear-listed-reads
 
 abbrev Inv-loop : tie.InvT-loop
@@ -18,10 +18,10 @@ abbrev μ-loop : tie.MeasureT-loop
 μ-loop work₀ n k₀ work k = n - k
 
 loop-holds : tie.Need-loop-holds Inv-loop μ-loop
-loop-holds c = (zero-le, refl, requests.emptied-none _)
+loop-holds c = (zero-le, refl, laws.emptied-none _)
 
 clear-listed-requires : tie.Need-clear-listed-requires Inv-loop μ-loop
-clear-listed-requires c κs = search needs
+clear-listed-requires c κs = tt
 
 add-k : tie.Need-add-k Inv-loop μ-loop
 add-k c = omega arith
@@ -30,13 +30,13 @@ loop-less : tie.Need-loop-less Inv-loop μ-loop
 loop-less c = omega arith
 
 loop-again : tie.Need-loop-again Inv-loop μ-loop
-loop-again c = (omega arith, c .before .before .clear-listed .kept .0 ∙ c .before .before .before .before .before .loop .inv .1, requests.emptied-more _ _ _ _ (c .before .before .before .before .before .loop .inv .2) (c .before .before .clear-listed .ensures))
+loop-again c = (omega arith, c .before .before .clear-listed .kept .0 ∙ c .before .before .before .before .before .loop .inv .1, laws.emptied-more _ _ _ _ (c .before .before .before .before .before .loop .inv .2) (c .before .before .clear-listed .ensures))
 
 same-length : tie.Need-same-length Inv-loop μ-loop
-same-length c = search needs
+same-length c = c .before .loop .inv .1
 
 returns : tie.Need-returns Inv-loop μ-loop
-returns c = requests.emptied-all _ _ _ _ (c .before .loop .inv .0) (c .loop-test .left) (c .before .loop .inv .2)
+returns c = laws.emptied-all _ _ _ _ (c .before .loop .inv .0) (c .loop-test .left) (c .before .loop .inv .2)
 
 pub clear-list-spec : {M : Type 1} → statement M
 clear-list-spec =
