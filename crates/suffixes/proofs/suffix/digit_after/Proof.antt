@@ -1,10 +1,10 @@
 use Rattle.filled.proofs.Bytes.{digit-low, digit-high, digit-past, digit-next}
 use mathlib.Core.Path.{refl}
 use borrow.Author.Needs.{needs}
-use Rattle.takers.proofs.suffix.digit_after.Statement.{statement}
-use Rattle.takers.proofs.suffix.digit_after.Tie as tie
-use Rattle.takers.proofs.suffix.digit_after.Reads as reads
-use Rattle.takers.proofs.suffix.digit_after.Lts as lts
+use Rattle.suffixes.proofs.suffix.digit_after.Statement.{statement}
+use Rattle.suffixes.proofs.suffix.digit_after.Tie as tie
+use Rattle.suffixes.proofs.suffix.digit_after.Reads as reads
+use Rattle.suffixes.proofs.suffix.digit_after.Lts as lts
 
 returns : tie.Need-returns
 returns c = digit-low _ _ (c .if1 .taken)

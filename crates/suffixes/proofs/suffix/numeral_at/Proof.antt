@@ -9,11 +9,11 @@ use borrow.Author.Needs.{needs}
 use mathlib.Core.Path.{_≡_}
 use lib.ListN.{length}
 use Prim.Native.Nat.{_-_}
-use Rattle.takers.proofs.suffix.numeral_at.Statement.{statement}
-use Rattle.takers.proofs.suffix.numeral_at.Tie as tie
-use Rattle.takers.proofs.suffix.numeral_at.Reads as reads
-use Rattle.takers.proofs.suffix.numeral_at.Lts as lts
-use Rattle.takers.proofs.suffix.digit_after.Reads as digit-after-reads
+use Rattle.suffixes.proofs.suffix.numeral_at.Statement.{statement}
+use Rattle.suffixes.proofs.suffix.numeral_at.Tie as tie
+use Rattle.suffixes.proofs.suffix.numeral_at.Reads as reads
+use Rattle.suffixes.proofs.suffix.numeral_at.Lts as lts
+use Rattle.suffixes.proofs.suffix.digit_after.Reads as digit-after-reads
 
 abbrev Inv-loop : tie.InvT-loop
 Inv-loop section at acc₀ k₀ acc k = numeralFrom 0 (nameAt section at) ≡ numeralFrom acc (nameAt section k)

@@ -1,10 +1,10 @@
 use Rattle.filled.proofs.Holders.{suffixed-none, suffixed-some}
 use borrow.Author.Needs.{needs}
-use Rattle.takers.proofs.lists.is_suffixed.Statement.{statement}
-use Rattle.takers.proofs.lists.is_suffixed.Tie as tie
-use Rattle.takers.proofs.lists.is_suffixed.Reads as reads
-use Rattle.takers.proofs.lists.is_suffixed.Lts as lts
-use Rattle.takers.proofs.suffix.has_suffix.Reads as has-suffix-reads
+use Rattle.suffixes.proofs.bases.is_suffixed.Statement.{statement}
+use Rattle.suffixes.proofs.bases.is_suffixed.Tie as tie
+use Rattle.suffixes.proofs.bases.is_suffixed.Reads as reads
+use Rattle.suffixes.proofs.bases.is_suffixed.Lts as lts
+use Rattle.suffixes.proofs.suffix.has_suffix.Reads as has-suffix-reads
 
 returns : tie.Need-returns
 returns c = suffixed-none _ _ _ (c .if1 .taken)

@@ -1,10 +1,10 @@
 use Rattle.filled.proofs.Holders.{keys-apart, keys-none, keys-some}
 use borrow.Author.Needs.{needs}
-use Rattle.takers.proofs.lists.key_suffix.Statement.{statement}
-use Rattle.takers.proofs.lists.key_suffix.Tie as tie
-use Rattle.takers.proofs.lists.key_suffix.Reads as reads
-use Rattle.takers.proofs.lists.key_suffix.Lts as lts
-use Rattle.takers.proofs.suffix.suffix_on.Reads as suffix-on-reads
+use Rattle.suffixes.proofs.bases.key_suffix.Statement.{statement}
+use Rattle.suffixes.proofs.bases.key_suffix.Tie as tie
+use Rattle.suffixes.proofs.bases.key_suffix.Reads as reads
+use Rattle.suffixes.proofs.bases.key_suffix.Lts as lts
+use Rattle.suffixes.proofs.suffix.suffix_on.Reads as suffix-on-reads
 
 returns : tie.Need-returns
 returns c = keys-apart _ _ _ _ _ (c .if1 .taken)

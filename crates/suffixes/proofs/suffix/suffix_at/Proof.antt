@@ -4,12 +4,12 @@ use Prim.Native.Nat.{_+_, _<_}
 use Rattle.filled.proofs.Bytes.{suffix-first, suffix-second, suffix-third, suffix-all, inside}
 use native.Mathlib.Omega.{arith}
 use borrow.Author.Needs.{needs}
-use Rattle.takers.proofs.suffix.suffix_at.Statement.{statement}
-use Rattle.takers.proofs.suffix.suffix_at.Tie as tie
-use Rattle.takers.proofs.suffix.suffix_at.Reads as reads
-use Rattle.takers.proofs.suffix.suffix_at.Lts as lts
+use Rattle.suffixes.proofs.suffix.suffix_at.Statement.{statement}
+use Rattle.suffixes.proofs.suffix.suffix_at.Tie as tie
+use Rattle.suffixes.proofs.suffix.suffix_at.Reads as reads
+use Rattle.suffixes.proofs.suffix.suffix_at.Lts as lts
 use Rattle.keys.proofs.byte_at.Reads as byte-at-reads
-use Rattle.takers.proofs.suffix.numeral_at.Reads as numeral-at-reads
+use Rattle.suffixes.proofs.suffix.numeral_at.Reads as numeral-at-reads
 
 byte-at-requires : tie.Need-byte-at-requires
 byte-at-requires c κs = search needs

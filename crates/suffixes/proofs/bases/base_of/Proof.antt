@@ -7,12 +7,12 @@ use native.Mathlib.Omega.{arith}
 use borrow.Author.Needs.{needs}
 use mathlib.Core.Path.{_≡_}
 use Prim.Native.Nat.{_-_}
-use Rattle.takers.proofs.lists.base_of.Statement.{statement}
-use Rattle.takers.proofs.lists.base_of.Tie as tie
-use Rattle.takers.proofs.lists.base_of.Reads as reads
-use Rattle.takers.proofs.lists.base_of.Lts as lts
+use Rattle.suffixes.proofs.bases.base_of.Statement.{statement}
+use Rattle.suffixes.proofs.bases.base_of.Tie as tie
+use Rattle.suffixes.proofs.bases.base_of.Reads as reads
+use Rattle.suffixes.proofs.bases.base_of.Lts as lts
 use Rattle.keys.proofs.load_key.Reads as load-key-reads
-use Rattle.takers.proofs.lists.key_suffix.Reads as key-suffix-reads
+use Rattle.suffixes.proofs.bases.key_suffix.Reads as key-suffix-reads
 
 abbrev Inv-loop : tie.InvT-loop
 Inv-loop b section work n h key c₀ c = baseFrom (keyIn b section work) h (n - 1) 1 ≡ baseFrom (keyIn b section work) h (n - c) c

@@ -9,12 +9,12 @@ use borrow.Author.Needs.{needs}
 use mathlib.Core.Path.{_≡_}
 use lib.ListN.{length}
 use Prim.Native.Nat.{_+_, _-_}
-use Rattle.takers.proofs.suffix.suffix_on.Statement.{statement}
-use Rattle.takers.proofs.suffix.suffix_on.Tie as tie
-use Rattle.takers.proofs.suffix.suffix_on.Reads as reads
-use Rattle.takers.proofs.suffix.suffix_on.Lts as lts
+use Rattle.suffixes.proofs.suffix.suffix_on.Statement.{statement}
+use Rattle.suffixes.proofs.suffix.suffix_on.Tie as tie
+use Rattle.suffixes.proofs.suffix.suffix_on.Reads as reads
+use Rattle.suffixes.proofs.suffix.suffix_on.Lts as lts
 use Rattle.keys.proofs.byte_at.Reads as byte-at-reads
-use Rattle.takers.proofs.suffix.suffix_at.Reads as suffix-at-reads
+use Rattle.suffixes.proofs.suffix.suffix_at.Reads as suffix-at-reads
 
 abbrev Inv-loop : tie.InvT-loop
 Inv-loop section a b k₀ k = suffixOn (nameAt section a) (nameAt section b) ≡ suffixOn (nameAt section (a + k)) (nameAt section (b + k))

@@ -9,11 +9,11 @@ use borrow.Author.Needs.{needs}
 use mathlib.Core.Path.{_≡_}
 use lib.ListN.{length}
 use Prim.Native.Nat.{_-_}
-use Rattle.takers.proofs.suffix.has_suffix.Statement.{statement}
-use Rattle.takers.proofs.suffix.has_suffix.Tie as tie
-use Rattle.takers.proofs.suffix.has_suffix.Reads as reads
-use Rattle.takers.proofs.suffix.has_suffix.Lts as lts
-use Rattle.takers.proofs.suffix.suffix_at.Reads as suffix-at-reads
+use Rattle.suffixes.proofs.suffix.has_suffix.Statement.{statement}
+use Rattle.suffixes.proofs.suffix.has_suffix.Tie as tie
+use Rattle.suffixes.proofs.suffix.has_suffix.Reads as reads
+use Rattle.suffixes.proofs.suffix.has_suffix.Lts as lts
+use Rattle.suffixes.proofs.suffix.suffix_at.Reads as suffix-at-reads
 
 abbrev Inv-loop : tie.InvT-loop
 Inv-loop section at k₀ k = anySuffix (nameAt section at) ≡ anySuffix (nameAt section k)
