@@ -17,7 +17,7 @@ use Rattle.demand.specs.Lists.{tagsOf, afresh}
 use Rattle.demand.specs.Session.{fitting, lineOf, textOf, answerOf, dumped, printed, program}
 use Rattle.signed.specs.Signed.{twos, signed, signedLL}
 use Rattle.vectors.specs.Base.{allGiven, allWanted}
-use Rattle.answered.specs.DeepSessions0.{deepSessions0}
+use Rattle.deep.specs.DeepSessions0.{deepSessions0}
 
 pub deepSessions0-hold : allGiven deepSessions0 ≡ allWanted deepSessions0
 unfolding oneMore join bytes pfx digits decimal bind each meet pushIf enter alias fresh visit order obind eeach once mention again close leaf within begin

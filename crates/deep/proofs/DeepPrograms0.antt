@@ -1,4 +1,4 @@
--- Written by tools/vectors.py. By computation, the rules give what the Rust gave on the sections of specs/DeepPrograms1.
+-- Written by tools/vectors.py. By computation, the rules give what the Rust gave on the sections of specs/DeepPrograms0.
 use mathlib.Core.Path.{_≡_, refl}
 use Rattle.lent.specs.Words.{oneMore}
 use Rattle.text.specs.Text.{join, bytes, pfx}
@@ -17,9 +17,9 @@ use Rattle.demand.specs.Lists.{tagsOf, afresh}
 use Rattle.demand.specs.Session.{fitting, lineOf, textOf, answerOf, dumped, printed, program}
 use Rattle.signed.specs.Signed.{twos, signed, signedLL}
 use Rattle.rules.specs.Samples.{allGiven, allWanted}
-use Rattle.vectors.specs.DeepPrograms1.{deepPrograms1}
+use Rattle.deep.specs.DeepPrograms0.{deepPrograms0}
 
-pub deepPrograms1-hold : allGiven deepPrograms1 ≡ allWanted deepPrograms1
+pub deepPrograms0-hold : allGiven deepPrograms0 ≡ allWanted deepPrograms0
 unfolding oneMore join bytes pfx digits decimal bind each meet pushIf enter alias fresh visit order obind eeach once mention again close leaf within begin
     allowed look emit shut emitted ordered gate single onward from every askThen checked saidText saidNames after next put stop given _⨾_ isEmpty
     larger smaller octets sizeOf getSizeOf alignMembers alignOf getAlignOf offAlign membersPacked isStructPacked chipAwayBits padOf padsOf gapPads
@@ -29,4 +29,4 @@ unfolding oneMore join bytes pfx digits decimal bind each meet pushIf enter alia
     emitEnumDef emitName brackets parens emitParam emitParams baseWord emitArray emitProto paramList chainLoop emitMembers compositeHead compositeEnd
     compositeBody compositeDef emitTypedefDef emitTypeDecl emitTypeChain emitCompositeDef definition shown forward tagsId tagsFrom tagsOf afresh
     fitting lineOf textOf answerOf dumped printed program twos signed signedLL
-deepPrograms1-hold = refl
+deepPrograms0-hold = refl
