@@ -1,15 +1,15 @@
-use Rattle.marking.proofs.Laws.{none-numbered, more-numbered, all-numbered, number-up}
-use Rattle.marking.specs.Marks.{numbered, numberedTo}
+use Rattle.tagging.proofs.Laws.{none-numbered, more-numbered, all-numbered, number-up}
+use Rattle.tagging.specs.Tags.{numbered, numberedTo}
 use native.Mathlib.Omega.{arith}
 use lib.ListN.{length}
 use Prim.Native.Nat.{_-_, _≤_}
 use mathlib.Core.Path.{_≡_, refl, _∙_}
 use borrow.Author.Needs.{needs}
-use Rattle.marking.proofs.number.Statement.{statement}
-use Rattle.marking.proofs.number.Tie as tie
-use Rattle.marking.proofs.number.Reads as reads
-use Rattle.marking.proofs.number.Lts as lts
-use Rattle.marking.proofs.number_one.Reads as number-one-reads
+use Rattle.tagging.proofs.number.Statement.{statement}
+use Rattle.tagging.proofs.number.Tie as tie
+use Rattle.tagging.proofs.number.Reads as reads
+use Rattle.tagging.proofs.number.Lts as lts
+use Rattle.tagging.proofs.number_one.Reads as number-one-reads
 
 abbrev Inv-loop : tie.InvT-loop
 Inv-loop ids₀ c₀ x₀ ids c x = (numbered ids c ≡ numberedTo (numbered ids₀ 0) x) × (c ≤ x) × (x ≤ 262145) × (length ids ≡ length ids₀)
@@ -17,31 +17,24 @@ Inv-loop ids₀ c₀ x₀ ids c x = (numbered ids c ≡ numberedTo (numbered ids
 abbrev μ-loop : tie.MeasureT-loop
 μ-loop ids₀ c₀ x₀ ids c x = 262145 - x
 
--- src/lib.rt:164:5
 loop-holds : tie.Need-loop-holds Inv-loop μ-loop
 loop-holds c = (none-numbered _, omega arith, omega arith, refl)
 
--- src/lib.rt:165:9
 number-one-requires : tie.Need-number-one-requires Inv-loop μ-loop
 number-one-requires c κs = omega (arith, c .before .before .loop .inv .1)
 
--- src/lib.rt:166:9
 add-x : tie.Need-add-x Inv-loop μ-loop
 add-x c = omega arith
 
--- src/lib.rt:164:5
 loop-less : tie.Need-loop-less Inv-loop μ-loop
 loop-less c = omega arith
 
--- src/lib.rt:164:5
 loop-again : tie.Need-loop-again Inv-loop μ-loop
 loop-again c = (more-numbered _ _ _ _ _ _ (c .before .before .before .before .before .loop .inv .0) (c .before .before .number-one .ensures), omega (arith, c .before .before .before .before .before .loop .inv .1, number-up _ _ _ _ _ (c .before .before .number-one .ensures)), omega arith, c .before .before .number-one .kept .0 ∙ c .before .before .before .before .before .loop .inv .3)
 
--- src/lib.rt:159:1
 same-length : tie.Need-same-length Inv-loop μ-loop
 same-length c = c .before .loop .inv .3
 
--- src/lib.rt:159:1
 returns : tie.Need-returns Inv-loop μ-loop
 returns c = all-numbered _ _ _ _ (c .before .loop .inv .2) (c .loop-test .left) (c .before .loop .inv .0)
 

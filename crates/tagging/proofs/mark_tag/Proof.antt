@@ -1,57 +1,45 @@
-use Rattle.marking.proofs.Laws.{no-tag, tag-unmarked, tag-marked, tag-past}
+use Rattle.tagging.proofs.Laws.{no-tag, tag-unmarked, tag-marked, tag-past}
 use borrow.Author.Needs.{needs}
-use Rattle.marking.proofs.mark_tag.Statement.{statement}
-use Rattle.marking.proofs.mark_tag.Tie as tie
-use Rattle.marking.proofs.mark_tag.Reads as reads
-use Rattle.marking.proofs.mark_tag.Lts as lts
-use Rattle.marking.proofs.peek.Reads as peek-reads
-use Rattle.marking.proofs.tag_on.Reads as tag-on-reads
+use Rattle.tagging.proofs.mark_tag.Statement.{statement}
+use Rattle.tagging.proofs.mark_tag.Tie as tie
+use Rattle.tagging.proofs.mark_tag.Reads as reads
+use Rattle.tagging.proofs.mark_tag.Lts as lts
+use Rattle.tagging.proofs.peek.Reads as peek-reads
+use Rattle.tagging.proofs.tag_on.Reads as tag-on-reads
 
--- src/lib.rt:119:9
 tag-on-requires : tie.Need-tag-on-requires
 tag-on-requires c κs = search needs
 
--- src/lib.rt:121:9
 returns : tie.Need-returns
 returns c = no-tag _ _ _ _ _ _ (c .before .tag-on .ensures) (c .if1 .taken)
 
--- src/lib.rt:123:20
 cast-peek : tie.Need-cast-peek
 cast-peek c = search needs
 
--- src/lib.rt:123:8
 peek-requires : tie.Need-peek-requires
 peek-requires c κs = search needs
 
--- src/lib.rt:124:9
 same-length : tie.Need-same-length
 same-length c = search needs
 
--- src/lib.rt:124:9
 returns-2 : tie.Need-returns-2
 returns-2 c = tag-unmarked _ _ _ _ _ _ (c .before .before .before .before .tag-on .ensures) (c .before .before .before .if1 .left) _ (c .before .peek .ensures) (c .if2 .taken)
 
--- src/lib.rt:128:9
 mul-marks : tie.Need-mul-marks
 mul-marks c = search needs
 
--- src/lib.rt:128:9
 slice-write-marks : tie.Need-slice-write-marks
 slice-write-marks c = search needs
 
--- src/lib.rt:116:1
 same-length-2 : tie.Need-same-length-2
 same-length-2 c = search needs
 
--- src/lib.rt:116:1
 returns-3 : tie.Need-returns-3
 returns-3 c = tag-marked _ _ _ _ _ _ (c .before .before .before .before .before .tag-on .ensures) (c .before .before .before .before .if1 .left) _ (c .before .before .peek .ensures) (c .before .if2 .left) (c .if3 .taken)
 
--- src/lib.rt:116:1
 same-length-3 : tie.Need-same-length-3
 same-length-3 c = search needs
 
--- src/lib.rt:116:1
 returns-4 : tie.Need-returns-4
 returns-4 c = tag-past _ _ _ _ _ _ (c .before .before .before .before .before .tag-on .ensures) (c .before .before .before .before .if1 .left) _ (c .before .before .peek .ensures) (c .before .if2 .left) (c .if3 .left)
 
