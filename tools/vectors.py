@@ -1,8 +1,8 @@
 #!/usr/bin/env python3
-"""Writes the crates vectors (programs) and answered (sessions): stored sections, on which the prover computes the rules and must find what the
-Rust gave.
+"""Writes the crates vectors (programs), answered (sessions) and deep (both, at the limits of depth): stored sections, on which the prover computes
+the rules and must find what the Rust gave.
 
-  tools/vectors.py            writes specs and proofs of both crates, in the layout of rt fmt
+  tools/vectors.py            writes specs and proofs of the crates, in the layout of rt fmt
   tools/vectors.py --check    only says whether they hold what it would write
 
 What it reads:
@@ -20,7 +20,7 @@ import struct
 import sys
 
 HERE = os.path.dirname(os.path.dirname(os.path.abspath(__file__)))
-CRATES = ("vectors", "answered")
+CRATES = ("vectors", "answered", "deep")
 WIDTH = 150     # columns
 DEEP = " " * 4
 BIG = "-big-endian"     # the end of the name of a section that is another one turned
@@ -347,12 +347,10 @@ pairs (a ∷ b ∷ l) = (digit a * 16 + digit b) ∷ pairs l
 unfoldable pub typesFrom : Btf → List ℕ → ℕ → ℕ → ℕ → List BtfType
 typesFrom b s end zero at = []
 typesFrom b s end (suc n) at =
+    let r = recordAt b s at in
     elim (ltb at end) [
       | false ↦ []
-      | true ↦ elim (extraOf (kindOf (recordAt b s at .info)) (vlenOf (recordAt b s at .info))) [
-        | Bytes k ↦ typeOf b s (recordAt b s at) ∷ typesFrom b s end n (at + 12 + k)
-        | Refused ↦ []
-      ]
+      | true ↦ elim (extraOf (kindOf (r .info)) (vlenOf (r .info))) [ Bytes k ↦ typeOf b s r ∷ typesFrom b s end n (at + 12 + k) | Refused ↦ [] ]
     ]
 
 -- struct btf_header: hdr_len at 4, type_off at 8, type_len at 12, str_off at 16
@@ -419,17 +417,17 @@ GROUPS = [
      "Rattle.vectors.specs.Reading", [
          "use Rattle.vectors.specs.Base.{member, param, value}",
          "use Rattle.vectors.specs.Reading.{Printed, prints}"]),
-    ("vectors", programs, True, 150, "DeepPrograms", "Sample", "Sections of crates/replay/data at the limits of depth, each beside what the program prints.",
+    ("deep", programs, True, 150, "DeepPrograms", "Sample", "Sections of crates/replay/data at the limits of depth, each beside what the program prints.",
      "Rattle.rules.specs.Samples", [
          "use Rattle.rules.specs.Listed.{listed}",
          "use Rattle.rules.specs.Samples.{Sample, gives}",
          "use Rattle.demand.specs.Session.{program}",
          "use Rattle.vectors.specs.Base.{member}"]),
     ("answered", sessions, False, 470, "Sessions", "Vector", "Sections and requests of oracle/answers.cases, each beside the answers.",
      "Rattle.vectors.specs.Base", [
          "use Rattle.rules.specs.Machine.{one, all}",
          "use Rattle.vectors.specs.Base.{member, param, value, Vector, session}"]),
-    ("answered", sessions, True, 150, "DeepSessions", "Vector", "Sections and requests of oracle/answers.cases at the limits of depth, each beside the answers.",
+    ("deep", sessions, True, 150, "DeepSessions", "Vector", "Sections and requests of oracle/answers.cases at the limits of depth, each beside the answers.",
      "Rattle.vectors.specs.Base", [
          "use Rattle.rules.specs.Machine.{one, all}",
          "use Rattle.vectors.specs.Base.{member, param, value, Vector, session}"]),
@@ -458,7 +456,7 @@ def chunks(entries, most):
 def files():
     """Each file that is written, by its path below crates/."""
     out = {"vectors/specs/Base.antt": BASE, "vectors/specs/Reading.antt": READING}
-    specs, proofs = {"vectors": ["Base", "Reading"], "answered": []}, {c: [] for c in CRATES}
+    specs, proofs = {"vectors": ["Base", "Reading"], "answered": [], "deep": []}, {c: [] for c in CRATES}
     uses, names = unfolded()
     for crate, taken, limits, most, group, kind, title, lists, spec_uses in GROUPS:
         for i, part in enumerate(chunks([e[3] for e in taken() if (e[0] in LIMITS) == limits], most)):

@@ -7,5 +7,3 @@ pub mod Sessions5
 pub mod Sessions6
 pub mod Sessions7
 pub mod Sessions8
-pub mod DeepSessions0
-pub mod DeepSessions1

@@ -3,7 +3,7 @@
 -- the second "ab", and "b" is the tail of the first.
 use Prim.Native.Nat.{ℕ, _/_, _%_}
 use mathlib.Core.Path.{_≡_, refl}
-use mathlib.Core.List.{List, [], _∷_}
+use mathlib.Core.List.{List, [], _∷_, map}
 use mathlib.Core.Bool.{false}
 use lib.ListN.{getD, replicate}
 use Rattle.lent.specs.Words.{getWord, putWord, wordAt, wordIn, table, oneMore}
@@ -39,9 +39,13 @@ context = record { «ptr_sz» = 8; «union_as_struct» = false; «big_endian» =
 pub work : ℕ → List ℕ
 work x = fill (recordP 7) (λ h. getD (0 ∷ 24 ∷ 36 ∷ 48 ∷ 60 ∷ 88 ∷ 100 ∷ 72 ∷ 80 ∷ []) h 0) (replicate 514 x) 9
 
--- words of the nine holders afterwards
-pub after : ℕ → (ℕ → ℕ) → List ℕ
-after x place = table (λ h. getWord (tableClassed context 2 section (work x)) (place h)) 0 9
+-- words of the nine holders in a work
+pub nine : List ℕ → (ℕ → ℕ) → List ℕ
+nine w place = table (λ h. getWord w (place h)) 0 9
+
+-- class, bucket, link and count of each afterwards
+pub after : ℕ → List (List ℕ)
+after x = map (nine (tableClassed context 2 section (work x))) (classP 7 ∷ bucketP 7 ∷ linkP 7 ∷ countP 7 ∷ [])
 
 -- kind by kind
 pub spaces : table spaceOf 0 21 ≡ 2 ∷ 2 ∷ 2 ∷ 2 ∷ 0 ∷ 0 ∷ 0 ∷ 0 ∷ 1 ∷ 2 ∷ 2 ∷ 2 ∷ 2 ∷ 2 ∷ 2 ∷ 2 ∷ 2 ∷ 2 ∷ 2 ∷ 0 ∷ 2 ∷ []
@@ -53,19 +57,15 @@ unfolding bytes section context work fill keyIn keyOf spaceAt spaceOf among name
 some-keys = (refl, refl, refl)
 
 -- the FWD has the class of the STRUCT, the first enumerator that of the TYPEDEF, the FUNC that of void; the scratch words are 0; the counts stay
-pub found :
-    (after 1 (classP 7) ≡ 0 ∷ 1 ∷ 2 ∷ 3 ∷ 4 ∷ 1 ∷ 0 ∷ 2 ∷ 8 ∷ [])
-    × (after 1 (bucketP 7) ≡ replicate 9 0)
-    × (after 1 (linkP 7) ≡ replicate 9 0)
-    × (after 1 (countP 7) ≡ replicate 9 16843009)
-unfolding after bytes section context work tableClassed withClasses fill classOf least sameList keyIn keyOf spaceAt spaceOf among nameOf nameAt upToZero sectionWord wordIn wordAt placeOf getWord putWord
-found = (refl, refl, refl, refl)
+pub found : after 1 ≡ (0 ∷ 1 ∷ 2 ∷ 3 ∷ 4 ∷ 1 ∷ 0 ∷ 2 ∷ 8 ∷ []) ∷ replicate 9 0 ∷ replicate 9 0 ∷ replicate 9 16843009 ∷ []
+unfolding after nine bytes section context work tableClassed withClasses fill classOf least sameList keyIn keyOf spaceAt spaceOf among nameOf nameAt upToZero sectionWord wordIn wordAt placeOf getWord putWord
+found = refl
 
 -- the count of h after those of the STRUCT, the TYPEDEF, the UNION and the FWD
 pub next : ℕ → ℕ
 next = nextCount context (afterCounts context (tableClassed context 2 section (work 0)) (5 ∷ 3 ∷ 2 ∷ 1 ∷ []))
 
 -- the tag "ab" is had for the third time, the identifier "ab" for the second, the identifier "abc" for the first
-pub counted-so : (next 1 ≡ 3) × (next 5 ≡ 3) × (next 7 ≡ 2) × (next 8 ≡ 1)
+pub counted-so : map next (1 ∷ 5 ∷ 7 ∷ 8 ∷ []) ≡ 3 ∷ 3 ∷ 2 ∷ 1 ∷ []
 unfolding next countedAll counted withMore countOf oneMore bytes section context work tableClassed withClasses fill classOf least sameList keyIn keyOf spaceAt spaceOf among nameOf nameAt upToZero sectionWord wordIn wordAt placeOf getWord putWord
-counted-so = (refl, refl, refl, refl)
+counted-so = refl

@@ -26,8 +26,8 @@ use Rattle.turns.specs.declared.Session.{Session}
 use Rattle.turns.specs.Answers.{answerOf}
 use Rattle.followed.specs.Followed.{countOf}
 use Rattle.marking.specs.Marks.{allZero, idsOf}
-use Rattle.cutting.specs.Names.{baseOf, basesTo}
-use Rattle.cutting.specs.Bytes.{Wrote, wroteOf, zeroBases, typesSize, allBytes, fittingWritten, keptWritten}
+use Rattle.mentioned.specs.Names.{zeroBases, baseOf, basesTo}
+use Rattle.cutting.specs.Bytes.{Wrote, wroteOf, typesSize, allBytes, fittingWritten, keptWritten}
 use Rattle.cut.specs.Section.{cutSection, anyPast, cutNumber, cutValue, cutOutput}
 use Rattle.cut.specs.Test.{isKept}
 use Rattle.written.proofs.Claims.{twentyThree, section-size, kept-written}

@@ -2,13 +2,13 @@
 use Prim.Native.Nat.{ℕ, zero, suc, _+_, _*_, _%_, _/_}
 use mathlib.Core.Bool.{Bool, true, false}
 use mathlib.Core.List.{List, [], _∷_, _++_}
-use lib.ListN.{length, getD, drop, replicate}
+use lib.ListN.{length, getD, drop}
 use lib.Dec.{ltb, eqb}
 use Rattle.btf.specs.declared.types.Btf.{Btf}
-use Rattle.btf.specs.Names.{strAt}
 use Rattle.followed.specs.Followed.{countOf, entryAt}
-use Rattle.cutting.specs.Words.{role, wordsIn, wordOf}
-use Rattle.cutting.specs.Names.{isNew, placeOf, baseOf, basesTo}
+use Rattle.roles.specs.Words.{role, wordsIn, wordOf}
+use Rattle.mentioned.specs.Names.{placeOf, baseOf, basesTo, zeroBases}
+use Rattle.mentioned.specs.Strings.{stringsBytes}
 
 -- a word in four bytes, the most significant first where `big`
 unfoldable pub wordBytes : Bool → ℕ → List ℕ
@@ -53,36 +53,13 @@ module _ (b : Btf) (s start ids : List ℕ) where
     typesBytes zero = []
     typesBytes (suc x) = typesBytes x ++ typeBytes x
 
-  -- a new name, and its 0
-  unfoldable pub nameBytes : ℕ → ℕ → ℕ → List ℕ
-  nameBytes x e j = elim (isNew b s start ids x e j) [ true ↦ strAt b s (wordOf b s e j) ++ (0 ∷ []) | false ↦ [] ]
-
-  unfoldable pub namesBytes : ℕ → ℕ → ℕ → List ℕ
-  namesBytes x e zero = []
-  namesBytes x e (suc n) = namesBytes x e n ++ nameBytes x e n
-
-  unfoldable pub ownBytes : ℕ → List ℕ
-  ownBytes x = elim (eqb (getD ids x 0) 0) [ true ↦ [] | false ↦ namesBytes x (entryAt b start x) (wordsIn b s (entryAt b start x)) ]
-
-  unfoldable pub newsBytes : ℕ → List ℕ
-  newsBytes zero = []
-  newsBytes (suc x) = newsBytes x ++ ownBytes x
-
-  -- "After the leading 0 each distinct name"
-  unfoldable pub stringsBytes : ℕ → List ℕ
-  stringsBytes x = (0 ∷ []) ++ newsBytes x
-
   -- the whole section; types and strings: the lengths of the two
   unfoldable pub allBytes : List ℕ → ℕ → ℕ → List ℕ
-  allBytes bases types strings = (headBytes (b .«big_endian») (getD s 3 0) types strings ++ typesBytes bases (countOf b)) ++ stringsBytes (countOf b)
+  allBytes bases types strings = (headBytes (b .«big_endian») (getD s 3 0) types strings ++ typesBytes bases (countOf b)) ++ stringsBytes b s start ids (countOf b)
 
 -- the length written, and the output slice
 pub data Wrote : Type 0 where
   wroteOf : ℕ → List ℕ → Wrote
-
--- void and as many types as there may be
-unfoldable pub zeroBases : List ℕ
-zeroBases = replicate 262145 0
 
 module _ (b : Btf) (s start ids : List ℕ) where
   -- "23 when the output slice is short or the new section would pass 16,777,216 bytes; nothing is written"; "0 when refused; the rest of the slice .. never altered"

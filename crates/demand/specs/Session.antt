@@ -59,9 +59,10 @@ module _ {U : Type 0} (N : Naming U) (B : Btf) where
   answerOf S (one room x) = single machineBy (tableOf B) room S x
   answerOf S (all room) = every machineBy (tableOf B) room S (S .isOpen)
 
+  -- the answer is computed once
   unfoldable pub dumped : List (ℕ × ℕ) → List Req → Sess (Ls (Known U)) → Dump
   dumped ns [] S = dump ns (textOf (S .mach .pieces))
-  dumped ns (r ∷ rs) S = dumped (ns ++ ((answerOf S r .number, answerOf S r .sess .mach .known .text-len) ∷ [])) rs (answerOf S r .sess)
+  dumped ns (r ∷ rs) S = let a = answerOf S r in dumped (ns ++ ((a .number, a .sess .mach .known .text-len) ∷ [])) rs (a .sess)
 
 -- with the names of the Rust
 abbrev pub machine : Btf → Machine (Ls (Known Names))

@@ -16,7 +16,7 @@ use Rattle.records.specs.Fields.{info}
 use Rattle.records.proofs.Fields as F
 use Rattle.records.proofs.Types.{int-parts}
 use Rattle.btf.proofs.KindLaws.{by-kind}
-use Rattle.cutting.specs.Words.{digitAt, fixedWords, entryWords, roles, column, role}
+use Rattle.roles.specs.Words.{digitAt, fixedWords, entryWords, roles, column, role}
 use Rattle.items.specs.Items.{Item, nm, tid, raw, item, memberItems, valueItems, paramItems, secinfoItems, value64Items, thirdItem, bodyItems, items}
 
 -- ---- entries of two and of three words, from word 3 on

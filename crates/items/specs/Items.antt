@@ -8,7 +8,7 @@ use Rattle.records.specs.Documentation.{pack, btf-info, btf-int, Member, member
 pub data Item : Type 0 where
   nm tid raw : ℕ → Item
 
--- a word with a role of crate cutting: 1 a name, 2 an id
+-- a word with a role of crate roles: 1 a name, 2 an id
 unfoldable pub item : ℕ → ℕ → Item
 item role v = elim (eqb role 1) [ true ↦ nm v | false ↦ elim (eqb role 2) [ true ↦ tid v | false ↦ raw v ] ]
 

@@ -1,29 +1,19 @@
 // Which types are kept, and their new numbers. Marks are closed over followed ids: each id is marked once and put on a stack
-// once, so every reference is looked at once. Then the declaration tags of what is marked, then the numbers in old order.
+// once, so every reference is looked at once. The tags and the numbers are of crate tagging.
 use btf::Btf;
-use btf::word;
-use followed::count;
 use followed::count_at;
 use followed::entry;
 use followed::id_at;
-use followed::kind_at;
 use lent::get_word;
+use tagging::mark_tags;
+use tagging::number;
+use tagging::peek;
 ghost use mathlib.Core.Path.{_≡_};
-ghost use Prim.Native.Nat.{_/_, _<_};
-ghost use lib.ListN.{length, getD};
+ghost use Prim.Native.Nat.{_/_};
+ghost use lib.ListN.{length};
 ghost use Rattle.lent.specs.Words.{getWord};
-ghost use Rattle.followed.specs.Followed.{countOf, followedCount, followedId};
-ghost use Rattle.marking.specs.Marks.{heap, pushed, pushedTo, weight, closed, tagOn, taggedAt, taggedTo, numbered, numberedAt, numbersOf, idsOf};
-
-// Word i, and 0 past the end.
-fn peek(l: &[u32], i: usize) -> u32
-    ensures { λ r. ⌜ r ≡ getD (now (l .entry)) i 0 ⌝ }
-{
-    if i < l.len() {
-        return l[i];
-    }
-    0
-}
+ghost use Rattle.followed.specs.Followed.{followedCount, followedId};
+ghost use Rattle.marking.specs.Marks.{heap, pushed, pushedTo, weight, closed, idsOf};
 
 // Marks y and puts it on the stack, if it has no mark; void has none.
 fn push(marks: &mut [u32], stack: &mut [u32], d: usize, y: u32) -> usize
@@ -95,76 +85,6 @@ fn push_given(given: &[u8], marks: &mut [u32], stack: &mut [u32]) -> usize
         k += 1;
     }
     top
-}
-
-// What the DECL_TAG x is on, where that is no DECL_TAG; else 0.
-fn tag_on(b: Btf, section: &[u8], start: &[u32], x: u32) -> u32
-    ensures { λ r. ⌜ r ≡ tagOn b (now (section .entry)) (now (start .entry)) x ⌝ }
-{
-    let e = entry(b, start, x);
-    if e % 32 != 17 {
-        return 0;
-    }
-    let t = word(b, section, ((e / 32) as usize) + 8);
-    if kind_at(b, start, t) == 17 {
-        return 0;
-    }
-    t
-}
-
-// Marks x, if it is a tag on what is marked.
-fn mark_tag(b: Btf, section: &[u8], start: &[u32], marks: &mut [u32], x: u32)
-    ensures { λ _. ⌜ now (marks .exit) ≡ taggedAt b (now (section .entry)) (now (start .entry)) (now (marks .entry)) x ⌝ }
-{
-    let t = tag_on(b, section, start, x);
-    if t == 0 {
-        return;
-    }
-    if peek(marks, t as usize) == 0 {
-        return;
-    }
-    let at = x as usize;
-    if at < marks.len() {
-        marks[at] = 1;
-    }
-}
-
-fn mark_tags(b: Btf, section: &[u8], start: &[u32], marks: &mut [u32])
-    ensures { λ _. ⌜ now (marks .exit) ≡ taggedTo b (now (section .entry)) (now (start .entry)) (now (marks .entry)) (countOf b) ⌝ }
-{
-    let n = count(b);
-    let mut x: u32 = 0;
-    while x < n {
-        mark_tag(b, section, start, marks, x);
-        x += 1;
-    }
-}
-
-// The number after c for x, if x has a mark.
-fn number_one(ids: &mut [u32], x: usize, c: u32) -> u32
-    requires { ⌜ c < 4294967295 ⌝ }
-    ensures { λ r. ⌜ numbered (now (ids .exit)) r ≡ numberedAt (numbered (now (ids .entry)) c) x ⌝ }
-{
-    if peek(ids, x) == 0 {
-        return c;
-    }
-    if ids.len() <= x {
-        return c;
-    }
-    ids[x] = c + 1;
-    c + 1
-}
-
-// "ids renumbered in old order": each mark becomes a number.
-fn number(ids: &mut [u32])
-    ensures { λ _. ⌜ now (ids .exit) ≡ numbersOf (now (ids .entry)) ⌝ }
-{
-    let mut c: u32 = 0;
-    let mut x: usize = 0;
-    while x < 262145 {
-        c = number_one(ids, x, c);
-        x += 1;
-    }
 }
 
 // For each id its new number, and 0 for what is not kept. The ids lent are zeros, 262145 of them; other words count as marks.

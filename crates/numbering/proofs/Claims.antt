@@ -23,7 +23,8 @@ use Rattle.cut.specs.Test.{isKept}
 use Rattle.cut.proofs.Test.{kept-tells}
 use Rattle.reopened.specs.Seen.{Seen}
 use Rattle.reopened.proofs.Renamed.{tag-kind}
-use Rattle.marking.specs.Marks.{Heap, heap, marksIn, pushedTo, weight, closed, tagOn, taggedTo, numbersOf, allZero, asked as first, reachedMarks, idsOf}
+use Rattle.tagging.specs.Tags.{tagOn, taggedTo, numbersOf}
+use Rattle.marking.specs.Marks.{Heap, heap, marksIn, pushedTo, weight, closed, allZero, asked as first, reachedMarks, idsOf}
 use Rattle.numbering.specs.Marked.{Has, Markable, OnStack, Good, Passed}
 use Rattle.numbering.proofs.Marks as marks
 use Rattle.numbering.proofs.Marks.{table-to}

@@ -17,9 +17,10 @@ use Rattle.followed.specs.Followed.{countOf, entryAt}
 use Rattle.cut.specs.Renumbered.{keptTo, newId, keptTypes, renamed}
 use Rattle.cut.specs.Strings.{mentions, allMentions, has, addName, addAll, placeIn}
 use Rattle.cut.specs.Section.{cutSection}
-use Rattle.cutting.specs.Words.{digitAt, fixedWords, entryWords, roles, column, role, wordsIn, wordOf}
-use Rattle.cutting.specs.Names as code
-use Rattle.cutting.specs.Bytes.{wordBytes, magicBytes, headBytes, typeSize, typesSize, newWord, recordBytes, typeBytes, typesBytes, nameBytes, namesBytes, ownBytes, newsBytes, stringsBytes, allBytes}
+use Rattle.roles.specs.Words.{digitAt, fixedWords, entryWords, roles, column, role, wordsIn, wordOf}
+use Rattle.mentioned.specs.Names as code
+use Rattle.mentioned.specs.Strings.{nameBytes, namesBytes, ownBytes, newsBytes, stringsBytes}
+use Rattle.cutting.specs.Bytes.{wordBytes, magicBytes, headBytes, typeSize, typesSize, newWord, recordBytes, typeBytes, typesBytes, allBytes}
 
 -- 1 INT int, 2 STRUCT node (next, type 3; v, type 1), 3 PTR to 2, 4 INT of another name; the strings are stored in another order than they are mentioned
 abbrev types : List Described

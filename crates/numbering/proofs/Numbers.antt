@@ -16,7 +16,7 @@ use Rattle.btf.specs.Records.{sectionWord}
 use Rattle.followed.specs.Followed.{kindAt, placeOf}
 use Rattle.cut.specs.Renumbered.{keptTo, newId}
 use Rattle.cut.proofs.Numbers.{kept-yes, kept-no, new-zero, new-kept, new-dropped}
-use Rattle.marking.specs.Marks.{tagOn, taggedAt, taggedTo, Numbered, numbered, numbersIn, numberedAt, numberedTo, numbersOf}
+use Rattle.tagging.specs.Tags.{tagOn, taggedAt, taggedTo, Numbered, numbered, numbersIn, numberedAt, numberedTo, numbersOf}
 use Rattle.numbering.specs.Marked.{Has}
 
 pub positive : (v : ℕ) → (v ≡ 0 → ⊥) → 0 < v

@@ -16,10 +16,10 @@ use Rattle.btf.specs.Names.{strAt}
 use Rattle.followed.specs.Followed.{countOf, entryAt}
 use Rattle.cut.specs.Strings.{has, addName, firstNames, placeIn}
 use Rattle.cut.proofs.Names.{same-bytes, place-below}
-use Rattle.cutting.specs.Words.{role, wordsIn, wordOf}
-use Rattle.cutting.specs.Names.{isName, orName, namedTo, firstFrom, mentions, orMentions, mentionedTo, isNew, newSize, newSizes, recordSize, baseOf, basesTo, placeAt, placeFrom, placeOf}
-use Rattle.cutting.specs.Bytes.{nameBytes, namesBytes, stringsBytes, zeroBases}
-use Rattle.cutting.proofs.Sizes.{strings-length}
+use Rattle.roles.specs.Words.{role, wordsIn, wordOf}
+use Rattle.mentioned.specs.Names.{zeroBases, isName, orName, namedTo, firstFrom, mentions, orMentions, mentionedTo, isNew, newSize, newSizes, recordSize, baseOf, basesTo, placeAt, placeFrom, placeOf}
+use Rattle.mentioned.specs.Strings.{nameBytes, namesBytes, stringsBytes}
+use Rattle.mentioned.proofs.Sizes.{strings-length}
 use Rattle.stored.specs.Mentioned.{store, stored, orElse, wordName, namesTo, keptNames, namesBefore}
 use Rattle.stored.proofs.Store.{store-append, has-added, has-stored, place-empty, add-new, place-last, place-store, keeps-store}
 use Rattle.stored.proofs.Strings.{named-is, mentioned-is, before, stored-has, names-bytes, strings-are}

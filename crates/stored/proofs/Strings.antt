@@ -13,10 +13,10 @@ use Rattle.btf.specs.declared.types.Btf.{Btf}
 use Rattle.btf.specs.Names.{strAt}
 use Rattle.followed.specs.Followed.{entryAt}
 use Rattle.cut.specs.Strings.{has, addName, firstNames}
-use Rattle.cutting.specs.Words.{role, wordsIn, wordOf}
-use Rattle.cutting.specs.Names.{isName, orName, namedTo, mentions, orMentions, mentionedTo, isNew, newSize, newSizes, baseOf}
-use Rattle.cutting.specs.Bytes.{nameBytes, namesBytes, ownBytes, newsBytes, stringsBytes}
-use Rattle.cutting.proofs.Sizes.{strings-length}
+use Rattle.roles.specs.Words.{role, wordsIn, wordOf}
+use Rattle.mentioned.specs.Names.{isName, orName, namedTo, mentions, orMentions, mentionedTo, isNew, newSize, newSizes, baseOf}
+use Rattle.mentioned.specs.Strings.{nameBytes, namesBytes, ownBytes, newsBytes, stringsBytes}
+use Rattle.mentioned.proofs.Sizes.{strings-length}
 use Rattle.stored.specs.Mentioned.{store, stored, orElse, wordName, namesTo, keptNames, namesBefore}
 use Rattle.stored.proofs.Store.{store-append, has-append, has-one, has-stored, strings-add}
 

@@ -1,4 +1,4 @@
--- The names that the code of crate cutting meets, in the order of mention, and the list that they are stored in. b, s, start: the table, the section,
+-- The names that the code of crate mentioned meets, in the order of mention, and the list that they are stored in. b, s, start: the table, the section,
 -- its index; ids: the new numbers, 0 for what is not kept.
 use Prim.Native.Nat.{ℕ, zero, suc, _%_}
 use mathlib.Core.Bool.{Bool, true, false}
@@ -10,7 +10,7 @@ use Rattle.btf.specs.declared.types.Btf.{Btf}
 use Rattle.btf.specs.Names.{strAt}
 use Rattle.followed.specs.Followed.{entryAt}
 use Rattle.cut.specs.Strings.{addName, firstNames}
-use Rattle.cutting.specs.Words.{role, wordsIn, wordOf}
+use Rattle.roles.specs.Words.{role, wordsIn, wordOf}
 
 -- "each distinct name is stored once": these names after the ones that are stored
 unfoldable pub store : List Name → List Name → List Name

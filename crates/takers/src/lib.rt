@@ -1,5 +1,4 @@
 // The lists of taken numbers, for names that cannot collide: what opening adds to the work in that mode.
 mod lists;
-mod suffix;
 
 pub use lists::takers;

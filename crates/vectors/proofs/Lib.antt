@@ -2,5 +2,3 @@ pub mod Read0
 pub mod Read1
 pub mod Programs0
 pub mod Programs1
-pub mod DeepPrograms0
-pub mod DeepPrograms1

@@ -31,12 +31,10 @@ pairs (a ∷ b ∷ l) = (digit a * 16 + digit b) ∷ pairs l
 unfoldable pub typesFrom : Btf → List ℕ → ℕ → ℕ → ℕ → List BtfType
 typesFrom b s end zero at = []
 typesFrom b s end (suc n) at =
+    let r = recordAt b s at in
     elim (ltb at end) [
       | false ↦ []
-      | true ↦ elim (extraOf (kindOf (recordAt b s at .info)) (vlenOf (recordAt b s at .info))) [
-        | Bytes k ↦ typeOf b s (recordAt b s at) ∷ typesFrom b s end n (at + 12 + k)
-        | Refused ↦ []
-      ]
+      | true ↦ elim (extraOf (kindOf (r .info)) (vlenOf (r .info))) [ Bytes k ↦ typeOf b s r ∷ typesFrom b s end n (at + 12 + k) | Refused ↦ [] ]
     ]
 
 -- struct btf_header: hdr_len at 4, type_off at 8, type_len at 12, str_off at 16

@@ -33,9 +33,11 @@ use Rattle.reopened.proofs.Followed.{seen}
 use Rattle.reopened.proofs.Causes.{references}
 use Rattle.reopened.proofs.Strings.{all-below, area-length, name-in-area}
 use Rattle.marking.specs.Marks.{allZero, idsOf}
-use Rattle.cutting.specs.Names.{baseOf, basesTo, placeOf}
-use Rattle.cutting.specs.Bytes.{headBytes, typesSize, typesBytes, stringsBytes, allBytes, zeroBases, Wrote, wroteOf, fittingWritten, keptWritten}
-use Rattle.cutting.proofs.Sizes.{types-length, strings-length}
+use Rattle.mentioned.specs.Names.{zeroBases, baseOf, basesTo, placeOf}
+use Rattle.mentioned.specs.Strings.{stringsBytes}
+use Rattle.cutting.specs.Bytes.{headBytes, typesSize, typesBytes, allBytes, Wrote, wroteOf, fittingWritten, keptWritten}
+use Rattle.mentioned.proofs.Sizes.{strings-length}
+use Rattle.cutting.proofs.Sizes.{types-length}
 use Rattle.stored.specs.Mentioned.{store, stored, namesBefore}
 use Rattle.stored.proofs.Strings.{strings-are}
 use Rattle.stored.proofs.Places.{place-is}

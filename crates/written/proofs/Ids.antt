@@ -21,7 +21,8 @@ use Rattle.cut.proofs.Numbers.{new-dropped}
 use Rattle.cut.proofs.Test.{kept-tells}
 use Rattle.cut.proofs.Claims.{GoodReferences}
 use Rattle.reopened.specs.Seen.{Seen}
-use Rattle.marking.specs.Marks.{Heap, heap, marksIn, pushed, pushedTo, weight, turned, closed, tagOn, taggedAt, taggedTo, Numbered, numbered, numbersIn, numberedAt, numberedTo, numbersOf, allZero, asked as first, reachedMarks, idsOf}
+use Rattle.tagging.specs.Tags.{tagOn, taggedAt, taggedTo, Numbered, numbered, numbersIn, numberedAt, numberedTo, numbersOf}
+use Rattle.marking.specs.Marks.{Heap, heap, marksIn, pushed, pushedTo, weight, turned, closed, allZero, asked as first, reachedMarks, idsOf}
 use Rattle.numbering.proofs.Claims.{ids-are}
 
 pub get-past : {A : Type 0} (l : List A) (i : ℕ) (d : A) → length l ≤ i → getD l i d ≡ d

@@ -26,8 +26,8 @@ use Rattle.opened.proofs.Index.{types-few, table-count, followed-place, followe
 use Rattle.cut.specs.Kept.{voidType}
 use Rattle.cut.specs.Renumbered.{renamed}
 use Rattle.cut.specs.Strings.{mentions}
-use Rattle.cutting.specs.Words.{fixedWords, entryWords, role, wordsIn, wordOf}
-use Rattle.cutting.specs.Names.{placeFrom, placeOf}
+use Rattle.roles.specs.Words.{fixedWords, entryWords, role, wordsIn, wordOf}
+use Rattle.mentioned.specs.Names.{placeFrom, placeOf}
 use Rattle.cutting.specs.Bytes.{wordBytes, newWord, recordBytes}
 use Rattle.items.specs.Items.{Item, nm, tid, raw, item, act, flat, nameItem, items}
 use Rattle.items.proofs.Described.{put, encode-items, mentions-items}

@@ -20,8 +20,8 @@ use Rattle.cut.specs.Kept.{voidType}
 use Rattle.cut.specs.Renumbered.{keptTo, newId, keptTypes, renamed, renamedAll}
 use Rattle.cut.specs.Strings.{mentions, allMentions}
 use Rattle.cut.proofs.Numbers.{new-zero, new-kept, new-dropped, new-le}
-use Rattle.cutting.specs.Words.{wordsIn}
-use Rattle.cutting.specs.Names.{placeOf}
+use Rattle.roles.specs.Words.{wordsIn}
+use Rattle.mentioned.specs.Names.{placeOf}
 use Rattle.cutting.specs.Bytes.{recordBytes, typeBytes, typesBytes}
 use Rattle.stored.specs.Mentioned.{namesTo, keptNames, namesBefore}
 use Rattle.written.proofs.Record.{record-is, names-are, count-is}

@@ -1,6 +1,8 @@
+use Prim.Native.Nat.{ℕ}
+use lib.ListN.{length-replicate}
 use Rattle.cutcall.proofs.Laws as laws
 use native.Mathlib.Omega.{arith}
-use mathlib.Core.Path.{refl}
+use mathlib.Core.Path.{refl, sym, _∙_}
 use Rattle.marking.specs.Marks.{allZero}
 use borrow.Author.Needs.{needs}
 use Rattle.cutcall.proofs.write_cut.Statement.{statement}
@@ -12,23 +14,23 @@ use Rattle.marking.proofs.number_kept.Reads as number-kept-reads
 
 -- src/lib.rt:86:43
 slice-aggregate-number-kept : tie.Need-slice-aggregate-number-kept
-slice-aggregate-number-kept c = search needs
+slice-aggregate-number-kept c = sym (length-replicate {A = ℕ} 262145 0)
 
 -- src/lib.rt:86:5
 number-kept-requires : tie.Need-number-kept-requires
-number-kept-requires c κs = search needs
+number-kept-requires c κs = tt
 
 -- src/lib.rt:87:45
 slice-aggregate-write-kept : tie.Need-slice-aggregate-write-kept
-slice-aggregate-write-kept c = search needs
+slice-aggregate-write-kept c = sym (c .before .before .number-kept .kept .1 .1 .1 .1 .0 ∙ length-replicate {A = ℕ} 262145 0)
 
 -- src/lib.rt:87:9
 write-kept-requires : tie.Need-write-kept-requires
-write-kept-requires c κs = search needs
+write-kept-requires c κs = tt
 
 -- src/lib.rt:89:9
 same-length : tie.Need-same-length
-same-length c = search needs
+same-length c = c .before .before .before .write-kept .kept .1 .1 .1 .1 .0
 
 -- src/lib.rt:89:9
 returns : tie.Need-returns
@@ -41,7 +43,7 @@ cast-t16 c = omega (arith, laws.kept-small _ _ _ _ _ _ _ (c .before .before .bef
 
 -- src/lib.rt:82:1
 same-length-2 : tie.Need-same-length-2
-same-length-2 c = search needs
+same-length-2 c = c .before .before .before .write-kept .kept .1 .1 .1 .1 .0
 
 -- src/lib.rt:82:1
 returns-2 : tie.Need-returns-2

@@ -1,3 +1,6 @@
+use Prim.Native.Nat.{ℕ}
+use mathlib.Core.Path.{sym}
+use lib.ListN.{length-replicate}
 use Rattle.loops.proofs.Walks.{first}
 use borrow.Author.Needs.{needs}
 use Rattle.loops.proofs.has_loop.Statement.{statement}
@@ -7,16 +10,16 @@ use Rattle.loops.proofs.has_loop.Lts as lts
 use Rattle.loops.proofs.scan.Reads as scan-reads
 
 slice-aggregate-scan : tie.Need-slice-aggregate-scan
-slice-aggregate-scan c = search needs
+slice-aggregate-scan c = sym (length-replicate {A = ℕ} 262145 0)
 
 slice-aggregate-scan-2 : tie.Need-slice-aggregate-scan-2
-slice-aggregate-scan-2 c = search needs
+slice-aggregate-scan-2 c = sym (length-replicate {A = ℕ} 262145 0)
 
 scan-requires : tie.Need-scan-requires
 scan-requires c κs = first _
 
 returns : tie.Need-returns
-returns c = search needs
+returns c = c .before .before .scan .ensures
 
 pub has-loop-spec : {M : Type 1} → statement M
 has-loop-spec =

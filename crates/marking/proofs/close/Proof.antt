@@ -8,7 +8,7 @@ use Rattle.marking.proofs.close.Statement.{statement}
 use Rattle.marking.proofs.close.Tie as tie
 use Rattle.marking.proofs.close.Reads as reads
 use Rattle.marking.proofs.close.Lts as lts
-use Rattle.marking.proofs.peek.Reads as peek-reads
+use Rattle.tagging.proofs.peek.Reads as peek-reads
 use Rattle.marking.proofs.push_followed.Reads as push-followed-reads
 
 abbrev Inv-loop : tie.InvT-loop
@@ -17,43 +17,33 @@ Inv-loop b section start marks₀ stack₀ d top₀ marks stack top = (closed b 
 abbrev μ-loop : tie.MeasureT-loop
 μ-loop b section start marks₀ stack₀ d top₀ marks stack top = weight (heap marks stack top)
 
--- src/lib.rt:80:5
 loop-holds : tie.Need-loop-holds Inv-loop μ-loop
 loop-holds c = (refl, refl, refl)
 
--- src/lib.rt:81:29
 sub-peek : tie.Need-sub-peek Inv-loop μ-loop
 sub-peek c = omega arith
 
--- src/lib.rt:81:13
 peek-requires : tie.Need-peek-requires Inv-loop μ-loop
 peek-requires c κs = search needs
 
--- src/lib.rt:82:62
 sub-push-followed : tie.Need-sub-push-followed Inv-loop μ-loop
 sub-push-followed c = omega arith
 
--- src/lib.rt:82:9
 push-followed-requires : tie.Need-push-followed-requires Inv-loop μ-loop
 push-followed-requires c κs = search needs
 
--- src/lib.rt:80:5
 loop-less : tie.Need-loop-less Inv-loop μ-loop
 loop-less c = close-less _ _ _ _ _ _ (c .before .before .before .before .before .before .before .before .before .loop-test .taken) _ _ _ _ (c .before .before .before .before .before .before .before .peek .ensures) (c .before .before .before .before .push-followed .ensures)
 
--- src/lib.rt:80:5
 loop-again : tie.Need-loop-again Inv-loop μ-loop
 loop-again c = (c .before .before .before .before .before .before .before .before .before .before .loop .inv .0 ∙ close-more _ _ _ _ _ _ (c .before .before .before .before .before .before .before .before .before .loop-test .taken) _ _ _ _ (c .before .before .before .before .before .before .before .peek .ensures) (c .before .before .before .before .push-followed .ensures), c .before .before .before .before .push-followed .kept .1 .1 .1 .0 ∙ c .before .before .before .before .before .before .before .before .before .before .loop .inv .1, c .before .before .before .before .push-followed .kept .1 .1 .1 .1 .0 ∙ c .before .before .before .before .before .before .before .before .before .before .loop .inv .2)
 
--- src/lib.rt:76:1
 same-length : tie.Need-same-length Inv-loop μ-loop
 same-length c = c .before .loop .inv .1
 
--- src/lib.rt:76:1
 same-length-2 : tie.Need-same-length-2 Inv-loop μ-loop
 same-length-2 c = c .before .loop .inv .2
 
--- src/lib.rt:76:1
 returns : tie.Need-returns Inv-loop μ-loop
 returns c = close-end _ _ _ _ _ _ (c .loop-test .left) _ (c .before .loop .inv .0)
 

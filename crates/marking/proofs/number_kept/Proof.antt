@@ -1,45 +1,39 @@
+use Prim.Native.Nat.{ℕ}
+use lib.ListN.{length-replicate}
 use Rattle.marking.proofs.Laws.{ids-are}
 use Rattle.marking.specs.Marks.{allZero}
-use mathlib.Core.Path.{_≡_, refl, _∙_}
+use mathlib.Core.Path.{sym, _∙_}
 use borrow.Author.Needs.{needs}
 use Rattle.marking.proofs.number_kept.Statement.{statement}
 use Rattle.marking.proofs.number_kept.Tie as tie
 use Rattle.marking.proofs.number_kept.Reads as reads
 use Rattle.marking.proofs.number_kept.Lts as lts
 use Rattle.marking.proofs.close.Reads as close-reads
-use Rattle.marking.proofs.mark_tags.Reads as mark-tags-reads
-use Rattle.marking.proofs.number.Reads as number-reads
+use Rattle.tagging.proofs.mark_tags.Reads as mark-tags-reads
+use Rattle.tagging.proofs.number.Reads as number-reads
 use Rattle.marking.proofs.push_given.Reads as push-given-reads
 
--- src/lib.rt:175:36
 slice-aggregate-push-given : tie.Need-slice-aggregate-push-given
-slice-aggregate-push-given c = search needs
+slice-aggregate-push-given c = sym (length-replicate {A = ℕ} 262145 0)
 
--- src/lib.rt:175:9
 push-given-requires : tie.Need-push-given-requires
-push-given-requires c κs = search needs
+push-given-requires c κs = tt
 
--- src/lib.rt:176:35
 slice-aggregate-close : tie.Need-slice-aggregate-close
-slice-aggregate-close c = search needs
+slice-aggregate-close c = sym (c .before .before .before .before .before .push-given .kept .1 .1 .0 ∙ length-replicate {A = ℕ} 262145 0)
 
--- src/lib.rt:176:5
 close-requires : tie.Need-close-requires
-close-requires c κs = search needs
+close-requires c κs = tt
 
--- src/lib.rt:177:5
 mark-tags-requires : tie.Need-mark-tags-requires
-mark-tags-requires c κs = search needs
+mark-tags-requires c κs = tt
 
--- src/lib.rt:178:5
 number-requires : tie.Need-number-requires
-number-requires c κs = search needs
+number-requires c κs = tt
 
--- src/lib.rt:171:1
 same-length : tie.Need-same-length
 same-length c = c .before .before .number .kept .0 ∙ c .before .before .before .before .before .before .mark-tags .kept .1 .1 .1 .0 ∙ c .before .before .before .before .before .before .before .before .before .before .before .close .kept .1 .1 .1 .0 ∙ c .before .before .before .before .before .before .before .before .before .before .before .before .before .before .before .before .before .push-given .kept .1 .0
 
--- src/lib.rt:171:1
 returns : tie.Need-returns
 unfolding allZero
 returns c = ids-are _ _ _ _ _ _ _ _ _ _ _ _ (c .before .before .before .before .before .before .before .before .before .before .before .before .before .before .before .before .before .push-given .ensures) (c .before .before .before .before .before .before .before .before .before .before .before .close .ensures) (c .before .before .before .before .before .before .mark-tags .ensures) (c .before .before .number .ensures)

@@ -21,47 +21,36 @@ Inv-loop b section start marks₀ stack₀ d x e kind at n top₀ k₀ marks sta
 abbrev μ-loop : tie.MeasureT-loop
 μ-loop b section start marks₀ stack₀ d x e kind at n top₀ k₀ marks stack top k = n - k
 
--- src/lib.rt:62:9
 entry-requires : tie.Need-entry-requires Inv-loop μ-loop
 entry-requires c κs = search needs
 
--- src/lib.rt:65:9
 count-at-requires : tie.Need-count-at-requires Inv-loop μ-loop
 count-at-requires c κs = search needs
 
--- src/lib.rt:68:5
 loop-holds : tie.Need-loop-holds Inv-loop μ-loop
 loop-holds c = (none-pushed _ _, omega arith, refl, refl)
 
--- src/lib.rt:69:39
 id-at-requires : tie.Need-id-at-requires Inv-loop μ-loop
 id-at-requires c κs = search needs
 
--- src/lib.rt:69:9
 push-requires : tie.Need-push-requires Inv-loop μ-loop
 push-requires c κs = search needs
 
--- src/lib.rt:70:9
 add-k : tie.Need-add-k Inv-loop μ-loop
 add-k c = omega arith
 
--- src/lib.rt:68:5
 loop-less : tie.Need-loop-less Inv-loop μ-loop
 loop-less c = omega arith
 
--- src/lib.rt:68:5
 loop-again : tie.Need-loop-again Inv-loop μ-loop
 loop-again c = (more-pushed _ _ _ _ _ _ _ _ _ _ (c .before .before .before .before .before .before .before .before .before .loop .inv .0) (c .before .before .before .before .before .id-at .ensures) (c .before .before .before .before .push .ensures), omega arith, c .before .before .before .before .push .kept .0 ∙ c .before .before .before .before .before .before .before .before .before .loop .inv .2, c .before .before .before .before .push .kept .1 .0 ∙ c .before .before .before .before .before .before .before .before .before .loop .inv .3)
 
--- src/lib.rt:51:1
 same-length : tie.Need-same-length Inv-loop μ-loop
 same-length c = c .before .loop .inv .2
 
--- src/lib.rt:51:1
 same-length-2 : tie.Need-same-length-2 Inv-loop μ-loop
 same-length-2 c = c .before .loop .inv .3
 
--- src/lib.rt:51:1
 returns : tie.Need-returns Inv-loop μ-loop
 returns c = all-followed _ _ _ _ _ (c .before .before .before .entry .ensures) _ _ (c .before .before .count-at .ensures) (c .before .loop .inv .1) (c .loop-test .left) _ _ (c .before .loop .inv .0)
 

@@ -19,39 +19,30 @@ Inv-loop given marks₀ stack₀ n top₀ k₀ marks stack top k = (heap marks s
 abbrev μ-loop : tie.MeasureT-loop
 μ-loop given marks₀ stack₀ n top₀ k₀ marks stack top k = n - k
 
--- src/lib.rt:93:5
 loop-holds : tie.Need-loop-holds Inv-loop μ-loop
 loop-holds c = (none-pushed _ _, omega arith, refl, refl)
 
--- src/lib.rt:94:39
 get-word-requires : tie.Need-get-word-requires Inv-loop μ-loop
 get-word-requires c κs = search needs
 
--- src/lib.rt:94:9
 push-requires : tie.Need-push-requires Inv-loop μ-loop
 push-requires c κs = search needs
 
--- src/lib.rt:95:9
 add-k : tie.Need-add-k Inv-loop μ-loop
 add-k c = omega arith
 
--- src/lib.rt:93:5
 loop-less : tie.Need-loop-less Inv-loop μ-loop
 loop-less c = omega arith
 
--- src/lib.rt:93:5
 loop-again : tie.Need-loop-again Inv-loop μ-loop
 loop-again c = (more-pushed _ _ _ _ _ _ _ _ _ _ (c .before .before .before .before .before .before .before .before .before .loop .inv .0) (c .before .before .before .before .before .get-word .ensures) (c .before .before .before .before .push .ensures), omega arith, c .before .before .before .before .push .kept .0 ∙ c .before .before .before .before .before .before .before .before .before .loop .inv .2, c .before .before .before .before .push .kept .1 .0 ∙ c .before .before .before .before .before .before .before .before .before .loop .inv .3)
 
--- src/lib.rt:87:1
 same-length : tie.Need-same-length Inv-loop μ-loop
 same-length c = c .before .loop .inv .2
 
--- src/lib.rt:87:1
 same-length-2 : tie.Need-same-length-2 Inv-loop μ-loop
 same-length-2 c = c .before .loop .inv .3
 
--- src/lib.rt:87:1
 returns : tie.Need-returns Inv-loop μ-loop
 returns c = all-pushed _ _ _ _ _ (c .before .loop .inv .1) (c .loop-test .left) (c .before .loop .inv .0)
 

@@ -1,5 +1,7 @@
+use Prim.Native.Nat.{ℕ}
+use lib.ListN.{length-replicate}
 use Rattle.opened.specs.Table.{emptyIndex}
-use mathlib.Core.Path.{refl, _∙_}
+use mathlib.Core.Path.{refl, sym, _∙_}
 use Rattle.opened.proofs.Opens.{open-refused, open-sound}
 use borrow.Author.Needs.{needs}
 use Rattle.opening.proofs.open.Statement.{statement}
@@ -13,7 +15,7 @@ use Rattle.opening.proofs.examine.Reads as examine-reads
 use Rattle.takers.proofs.takers.Reads as takers-reads
 
 slice-aggregate-examine : tie.Need-slice-aggregate-examine
-slice-aggregate-examine c = search needs
+slice-aggregate-examine c = sym (length-replicate {A = ℕ} 262145 0)
 
 examine-requires : tie.Need-examine-requires
 unfolding emptyIndex
@@ -26,22 +28,22 @@ enum-known-types : tie.Need-enum-known-types
 enum-known-types c = search needs
 
 clear-requires : tie.Need-clear-requires
-clear-requires c κs = search needs
+clear-requires c κs = tt
 
 clear-requires-2 : tie.Need-clear-requires-2
-clear-requires-2 c κs = search needs
+clear-requires-2 c κs = tt
 
 btf-of-requires : tie.Need-btf-of-requires
-btf-of-requires c κs = search needs
+btf-of-requires c κs = tt
 
 slice-aggregate-fill : tie.Need-slice-aggregate-fill
-slice-aggregate-fill c = search needs
+slice-aggregate-fill c = sym (c .before .before .before .before .before .before .before .before .before .before .before .before .before .before .examine .kept .1 .1 .1 .0 ∙ length-replicate {A = ℕ} 262145 0)
 
 fill-requires : tie.Need-fill-requires
-fill-requires c κs = search needs
+fill-requires c κs = tt
 
 takers-requires : tie.Need-takers-requires
-takers-requires c κs = search needs
+takers-requires c κs = tt
 
 returns : tie.Need-returns
 returns c = open-refused _ _ _ _ _ _ _ (c .before .before .before .before .examine .ensures) _ (c .before .c .given .1)
@@ -50,7 +52,7 @@ same-length : tie.Need-same-length
 same-length c = c .before .before .takers .kept .1 .1 .1 .1 .0 ∙ c .before .before .before .before .before .before .fill .kept .1 .1 .1 .1 .0 ∙ c .before .before .before .before .before .before .before .before .before .before .before .before .clear2 .kept .0
 
 same-length-2 : tie.Need-same-length-2
-same-length-2 c = search needs
+same-length-2 c = c .before .before .before .before .before .before .before .before .before .before .before .before .before .before .before .before .clear .kept .0
 
 returns-2 : tie.Need-returns-2
 returns-2 c = open-sound _ _ _ _ _ _ _ (c .before .before .before .before .before .before .before .before .before .before .before .before .before .before .before .before .before .before .before .before .before .before .examine .ensures) _ _ (c .before .before .before .before .before .before .before .before .before .before .before .before .before .before .before .before .before .before .before .types .given .1) _ (c .before .before .before .before .before .before .before .before .before .before .before .before .before .before .before .before .clear .ensures) _ (c .before .before .before .before .before .before .before .before .before .before .before .before .clear2 .ensures) _ (c .before .before .before .before .before .before .before .before .before .btf-of .ensures) _ (c .before .before .before .before .before .before .fill .ensures) _ (c .before .before .takers .ensures)

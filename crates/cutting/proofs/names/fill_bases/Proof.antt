@@ -1,5 +1,5 @@
 use Rattle.cutting.proofs.Laws.{first-base, next-base, no-bases, more-bases, all-bases, record-up}
-use Rattle.cutting.specs.Names.{baseOf, basesTo}
+use Rattle.mentioned.specs.Names.{baseOf, basesTo}
 use native.Mathlib.Omega.{arith}
 use mathlib.Core.Path.{_≡_, refl, _∙_}
 use lib.ListN.{length}
@@ -20,55 +20,42 @@ Inv-loop b section start ids bases₀ n len₀ x₀ bases len x = (len ≡ baseO
 abbrev μ-loop : tie.MeasureT-loop
 μ-loop b section start ids bases₀ n len₀ x₀ bases len x = n - x
 
--- src/names.rt:201:9
 count-requires : tie.Need-count-requires Inv-loop μ-loop
 count-requires c κs = search needs
 
--- src/names.rt:204:5
 loop-holds : tie.Need-loop-holds Inv-loop μ-loop
 loop-holds c = (first-base _ _ _ _, no-bases _ _ _ _ _, omega arith, refl, omega arith)
 
--- src/names.rt:205:29
 cast-bases : tie.Need-cast-bases Inv-loop μ-loop
 cast-bases c = omega arith
 
--- src/names.rt:205:15
 cast-bases-2 : tie.Need-cast-bases-2 Inv-loop μ-loop
 cast-bases-2 c = omega arith
 
--- src/names.rt:205:9
 mul-bases : tie.Need-mul-bases Inv-loop μ-loop
 mul-bases c = omega (arith, c .before .loop .inv .3, c .before .before .before .before .before .before .before .pre .1, c .before .before .count .ensures, count-fits (c .before .before .before .before .before .before .before .args .b))
 
--- src/names.rt:205:9
 slice-write-bases : tie.Need-slice-write-bases Inv-loop μ-loop
 slice-write-bases c = omega (arith, c .before .loop .inv .3, c .before .before .before .before .before .before .before .pre .1, c .before .before .count .ensures, count-fits (c .before .before .before .before .before .before .before .args .b))
 
--- src/names.rt:206:16
 record-size-requires : tie.Need-record-size-requires Inv-loop μ-loop
 record-size-requires c κs = c .before .before .before .before .before .before .before .pre .0
 
--- src/names.rt:206:9
 add-len : tie.Need-add-len Inv-loop μ-loop
 add-len c = omega (arith, c .before .before .loop .inv .4, c .before .before .before .count .ensures, count-fits (c .before .before .before .before .before .before .before .before .args .b), record-up _ _ _ _ (c .before .before .before .before .before .before .before .before .pre .0) _ _ (c .record-size .ensures))
 
--- src/names.rt:207:9
 add-x : tie.Need-add-x Inv-loop μ-loop
 add-x c = omega arith
 
--- src/names.rt:204:5
 loop-less : tie.Need-loop-less Inv-loop μ-loop
 loop-less c = omega arith
 
--- src/names.rt:204:5
 loop-again : tie.Need-loop-again Inv-loop μ-loop
 loop-again c = (next-base _ _ _ _ _ _ _ (c .before .before .loop .inv .0) (c .record-size .ensures), more-bases _ _ _ _ _ _ _ _ (c .before .before .loop .inv .1) (c .before .before .loop .inv .0), omega arith, simp length-set (c .before .before .loop .inv .3), omega (arith, c .before .before .loop .inv .4, record-up _ _ _ _ (c .before .before .before .before .before .before .before .before .pre .0) _ _ (c .record-size .ensures)))
 
--- src/names.rt:197:1
 same-length : tie.Need-same-length Inv-loop μ-loop
 same-length c = c .before .loop .inv .3
 
--- src/names.rt:197:1
 returns : tie.Need-returns Inv-loop μ-loop
 returns c = all-bases _ _ _ _ _ _ _ _ _ (c .before .before .count .ensures) (c .before .loop .inv .2) (c .loop-test .left) (c .before .loop .inv .0) (c .before .loop .inv .1)
 

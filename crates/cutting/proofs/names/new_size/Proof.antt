@@ -5,30 +5,24 @@ use Rattle.cutting.proofs.names.new_size.Tie as tie
 use Rattle.cutting.proofs.names.new_size.Reads as reads
 use Rattle.cutting.proofs.names.new_size.Lts as lts
 use Rattle.strings.proofs.get_btf_str.Reads as get-btf-str-reads
-use Rattle.cutting.proofs.names.is_new.Reads as is-new-reads
-use Rattle.cutting.proofs.words.word_of.Reads as word-of-reads
+use Rattle.mentioned.proofs.is_new.Reads as is-new-reads
+use Rattle.roles.proofs.word_of.Reads as word-of-reads
 
--- src/names.rt:165:9
 is-new-requires : tie.Need-is-new-requires
 is-new-requires c κs = search needs
 
--- src/names.rt:166:9
 returns : tie.Need-returns
 returns c = size-none _ _ _ _ _ _ _ _ (c .before .is-new .ensures) (c .if1 .taken)
 
--- src/names.rt:168:30
 word-of-requires : tie.Need-word-of-requires
 word-of-requires c κs = search needs
 
--- src/names.rt:168:6
 get-btf-str-requires : tie.Need-get-btf-str-requires
 get-btf-str-requires c κs = search needs
 
--- src/names.rt:168:5
 add-result : tie.Need-add-result
 add-result c = search needs
 
--- src/names.rt:161:1
 returns-2 : tie.Need-returns-2
 returns-2 c = size-is _ _ _ _ _ _ _ _ (c .before .before .before .is-new .ensures) (c .before .before .if1 .left) _ (c .before .word-of .ensures) _ (c .get-btf-str .ensures)
 

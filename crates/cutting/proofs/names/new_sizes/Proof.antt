@@ -1,5 +1,5 @@
 use Rattle.cutting.proofs.Laws.{none-new, more-new, all-new, size-up}
-use Rattle.cutting.specs.Names.{newSizes}
+use Rattle.mentioned.specs.Names.{newSizes}
 use native.Mathlib.Omega.{arith}
 use mathlib.Core.Path.{_≡_, refl, _∙_}
 use Prim.Native.Nat.{_-_, _*_, _≤_}
@@ -16,31 +16,24 @@ Inv-loop b section start ids x e n len₀ j₀ len j = (len ≡ newSizes b secti
 abbrev μ-loop : tie.MeasureT-loop
 μ-loop b section start ids x e n len₀ j₀ len j = n - j
 
--- src/names.rt:177:5
 loop-holds : tie.Need-loop-holds Inv-loop μ-loop
 loop-holds c = (none-new _ _ _ _ _ _, omega arith, omega arith)
 
--- src/names.rt:178:16
 new-size-requires : tie.Need-new-size-requires Inv-loop μ-loop
 new-size-requires c κs = c .before .before .before .before .before .pre
 
--- src/names.rt:178:9
 add-len : tie.Need-add-len Inv-loop μ-loop
 add-len c = omega (arith, c .before .before .loop .inv .2, size-up _ _ _ _ (c .before .before .before .before .before .before .pre) _ _ _ _ (c .new-size .ensures))
 
--- src/names.rt:179:9
 add-j : tie.Need-add-j Inv-loop μ-loop
 add-j c = omega arith
 
--- src/names.rt:177:5
 loop-less : tie.Need-loop-less Inv-loop μ-loop
 loop-less c = omega arith
 
--- src/names.rt:177:5
 loop-again : tie.Need-loop-again Inv-loop μ-loop
 loop-again c = (more-new _ _ _ _ _ _ _ _ _ (c .before .before .loop .inv .0) (c .new-size .ensures), omega arith, omega (arith, c .before .before .loop .inv .2, size-up _ _ _ _ (c .before .before .before .before .before .before .pre) _ _ _ _ (c .new-size .ensures)))
 
--- src/names.rt:171:1
 returns : tie.Need-returns Inv-loop μ-loop
 returns c = all-new _ _ _ _ _ _ _ _ _ (c .before .loop .inv .1) (c .loop-test .left) (c .before .loop .inv .0)
 

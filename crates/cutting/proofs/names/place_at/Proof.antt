@@ -5,50 +5,40 @@ use Rattle.cutting.proofs.names.place_at.Statement.{statement}
 use Rattle.cutting.proofs.names.place_at.Tie as tie
 use Rattle.cutting.proofs.names.place_at.Reads as reads
 use Rattle.cutting.proofs.names.place_at.Lts as lts
-use Rattle.cutting.proofs.names.first_name.Reads as first-name-reads
-use Rattle.cutting.proofs.names.mentions.Reads as mentions-reads
+use Rattle.mentioned.proofs.first_name.Reads as first-name-reads
+use Rattle.mentioned.proofs.mentions.Reads as mentions-reads
 use Rattle.cutting.proofs.names.new_sizes.Reads as new-sizes-reads
-use Rattle.cutting.proofs.names.peek.Reads as peek-reads
-use Rattle.cutting.proofs.words.words_in.Reads as words-in-reads
+use Rattle.mentioned.proofs.peek.Reads as peek-reads
+use Rattle.roles.proofs.words_in.Reads as words-in-reads
 use Rattle.followed.proofs.entry.Reads as entry-reads
 
--- src/names.rt:225:9
 mentions-requires : tie.Need-mentions-requires
 mentions-requires c κs = search needs
 
--- src/names.rt:226:9
 returns : tie.Need-returns
 returns c = place-none _ _ _ _ _ _ _ _ (c .before .mentions .ensures) (c .if1 .taken)
 
--- src/names.rt:228:9
 entry-requires : tie.Need-entry-requires
 entry-requires c κs = search needs
 
--- src/names.rt:229:44
 words-in-requires : tie.Need-words-in-requires
 words-in-requires c κs = search needs
 
--- src/names.rt:229:9
 first-name-requires : tie.Need-first-name-requires
 first-name-requires c κs = search needs
 
--- src/names.rt:230:6
 peek-requires : tie.Need-peek-requires
 peek-requires c κs = search needs
 
--- src/names.rt:230:6
 cast-result : tie.Need-cast-result
 cast-result c = search needs
 
--- src/names.rt:230:40
 new-sizes-requires : tie.Need-new-sizes-requires
 new-sizes-requires c κs = search needs
 
--- src/names.rt:230:5
 add-result : tie.Need-add-result
 add-result c = omega (arith, sizes-up _ _ _ _ (c .before .before .before .before .before .before .before .before .before .before .before .pre) _ _ _ _ (c .new-sizes .ensures))
 
--- src/names.rt:213:1
 returns-2 : tie.Need-returns-2
 returns-2 c = place-is _ _ _ _ _ _ _ _ (c .before .before .before .before .before .before .mentions .ensures) (c .before .before .before .before .before .if1 .left) _ (c .before .before .before .before .entry .ensures) _ (c .before .before .before .words-in .ensures) _ (c .before .before .first-name .ensures) _ (c .before .peek .ensures) _ (c .new-sizes .ensures)
 

@@ -1,5 +1,5 @@
 use Rattle.cutting.proofs.Laws.{from-start, from-here, from-on, from-none}
-use Rattle.cutting.specs.Names.{placeFrom}
+use Rattle.mentioned.specs.Names.{placeFrom}
 use native.Mathlib.Omega.{arith}
 use mathlib.Core.Path.{_≡_, refl, _∙_}
 use Prim.Native.Nat.{_-_, _≤_}
@@ -17,35 +17,27 @@ Inv-loop b section start ids bases off n x₀ x = (placeFrom b section start ids
 abbrev μ-loop : tie.MeasureT-loop
 μ-loop b section start ids bases off n x₀ x = n - x
 
--- src/names.rt:237:9
 count-requires : tie.Need-count-requires Inv-loop μ-loop
 count-requires c κs = search needs
 
--- src/names.rt:239:5
 loop-holds : tie.Need-loop-holds Inv-loop μ-loop
 loop-holds c = (from-start _ _ _ _ _ _ _, omega arith)
 
--- src/names.rt:240:13
 place-at-requires : tie.Need-place-at-requires Inv-loop μ-loop
 place-at-requires c κs = c .before .before .before .before .before .before .before .pre
 
--- src/names.rt:242:13
 returns : tie.Need-returns Inv-loop μ-loop
 returns c = from-here _ _ _ _ _ _ _ _ (c .before .before .loop-test .taken) (c .before .before .before .loop .inv .0) _ (c .before .place-at .ensures) (c .if1 .taken) (c .before .before .before .before .count .ensures)
 
--- src/names.rt:244:9
 add-x : tie.Need-add-x Inv-loop μ-loop
 add-x c = omega arith
 
--- src/names.rt:239:5
 loop-less : tie.Need-loop-less Inv-loop μ-loop
 loop-less c = omega arith
 
--- src/names.rt:239:5
 loop-again : tie.Need-loop-again Inv-loop μ-loop
 loop-again c = (from-on _ _ _ _ _ _ _ _ (c .before .before .loop-test .taken) (c .before .before .before .loop .inv .0) _ (c .before .place-at .ensures) (c .if1 .left), omega arith)
 
--- src/names.rt:233:1
 returns-2 : tie.Need-returns-2 Inv-loop μ-loop
 returns-2 c = from-none _ _ _ _ _ _ _ _ (c .loop-test .left) (c .before .loop .inv .0) (c .before .before .count .ensures)
 

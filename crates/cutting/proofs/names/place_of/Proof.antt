@@ -7,23 +7,18 @@ use Rattle.cutting.proofs.names.place_of.Lts as lts
 use Rattle.strings.proofs.is_empty.Reads as is-empty-reads
 use Rattle.cutting.proofs.names.place_from.Reads as place-from-reads
 
--- src/names.rt:254:8
 is-empty-requires : tie.Need-is-empty-requires
 is-empty-requires c κs = search needs
 
--- src/names.rt:255:9
 returns : tie.Need-returns
 returns c = place-first _ _ _ _ _ _ _ (c .before .is-empty .ensures) (c .if1 .taken)
 
--- src/names.rt:257:6
 place-from-requires : tie.Need-place-from-requires
 place-from-requires c κs = search needs
 
--- src/names.rt:257:5
 cast-result : tie.Need-cast-result
 cast-result c = search needs
 
--- src/names.rt:250:1
 returns-2 : tie.Need-returns-2
 returns-2 c = place-found _ _ _ _ _ _ _ (c .before .before .is-empty .ensures) (c .before .if1 .left) _ (c .place-from .ensures)
 

@@ -5,31 +5,25 @@ use Rattle.cutting.proofs.names.record_size.Tie as tie
 use Rattle.cutting.proofs.names.record_size.Reads as reads
 use Rattle.cutting.proofs.names.record_size.Lts as lts
 use Rattle.cutting.proofs.names.new_sizes.Reads as new-sizes-reads
-use Rattle.cutting.proofs.names.peek.Reads as peek-reads
-use Rattle.cutting.proofs.words.words_in.Reads as words-in-reads
+use Rattle.mentioned.proofs.peek.Reads as peek-reads
+use Rattle.roles.proofs.words_in.Reads as words-in-reads
 use Rattle.followed.proofs.entry.Reads as entry-reads
 
--- src/names.rt:189:8
 peek-requires : tie.Need-peek-requires
 peek-requires c κs = search needs
 
--- src/names.rt:190:9
 returns : tie.Need-returns
 returns c = record-none _ _ _ _ _ _ (c .before .peek .ensures) (c .if1 .taken)
 
--- src/names.rt:192:9
 entry-requires : tie.Need-entry-requires
 entry-requires c κs = search needs
 
--- src/names.rt:193:45
 words-in-requires : tie.Need-words-in-requires
 words-in-requires c κs = search needs
 
--- src/names.rt:193:5
 new-sizes-requires : tie.Need-new-sizes-requires
 new-sizes-requires c κs = search needs
 
--- src/names.rt:185:1
 returns-2 : tie.Need-returns-2
 returns-2 c = record-is _ _ _ _ _ _ (c .before .before .before .before .peek .ensures) (c .before .before .before .if1 .left) _ (c .before .before .entry .ensures) _ (c .before .words-in .ensures) _ (c .new-sizes .ensures)
 

@@ -1,20 +1,17 @@
 use denote.Ref.{now}
-use Rattle.cutting.proofs.Laws.{peek-past}
+use Rattle.mentioned.proofs.Laws.{peek-past}
 use borrow.Author.Needs.{needs}
 use Rattle.cutting.proofs.write.byte_at.Statement.{statement}
 use Rattle.cutting.proofs.write.byte_at.Tie as tie
 use Rattle.cutting.proofs.write.byte_at.Reads as reads
 use Rattle.cutting.proofs.write.byte_at.Lts as lts
 
--- src/write.rt:289:16
 shared-slice-read-result : tie.Need-shared-slice-read-result
 shared-slice-read-result c = search needs
 
--- src/write.rt:289:9
 returns : tie.Need-returns
 returns c = search needs
 
--- src/write.rt:285:1
 returns-2 : tie.Need-returns-2
 returns-2 c = peek-past (now (c .before .args .l)) (c .before .args .i) (c .if1 .left)
 

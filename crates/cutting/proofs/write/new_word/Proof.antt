@@ -4,40 +4,32 @@ use Rattle.cutting.proofs.write.new_word.Statement.{statement}
 use Rattle.cutting.proofs.write.new_word.Tie as tie
 use Rattle.cutting.proofs.write.new_word.Reads as reads
 use Rattle.cutting.proofs.write.new_word.Lts as lts
-use Rattle.cutting.proofs.names.peek.Reads as peek-reads
+use Rattle.mentioned.proofs.peek.Reads as peek-reads
 use Rattle.cutting.proofs.names.place_of.Reads as place-of-reads
-use Rattle.cutting.proofs.words.role.Reads as role-reads
-use Rattle.cutting.proofs.words.word_of.Reads as word-of-reads
+use Rattle.roles.proofs.role.Reads as role-reads
+use Rattle.roles.proofs.word_of.Reads as word-of-reads
 
--- src/write.rt:99:9
 role-requires : tie.Need-role-requires
 role-requires c κs = search needs
 
--- src/write.rt:100:9
 word-of-requires : tie.Need-word-of-requires
 word-of-requires c κs = search needs
 
--- src/write.rt:102:9
 place-of-requires : tie.Need-place-of-requires
 place-of-requires c κs = search needs
 
--- src/write.rt:102:9
 returns : tie.Need-returns
 returns c = word-name _ _ _ _ _ _ _ _ _ (c .before .before .before .role .ensures) (c .before .before .word-of .ensures) (c .before .if1 .taken) _ (c .place-of .ensures)
 
--- src/write.rt:105:26
 cast-peek : tie.Need-cast-peek
 cast-peek c = search needs
 
--- src/write.rt:105:9
 peek-requires : tie.Need-peek-requires
 peek-requires c κs = search needs
 
--- src/write.rt:105:9
 returns-2 : tie.Need-returns-2
 returns-2 c = word-id _ _ _ _ _ _ _ _ _ (c .before .before .before .before .role .ensures) (c .before .before .before .word-of .ensures) (c .before .before .if1 .left) (c .before .if2 .taken) _ (c .peek .ensures)
 
--- src/write.rt:87:1
 returns-3 : tie.Need-returns-3
 returns-3 c = word-plain _ _ _ _ _ _ _ _ _ (c .before .before .before .role .ensures) (c .before .before .word-of .ensures) (c .before .if1 .left) (c .if2 .left)
 

@@ -6,30 +6,24 @@ use Rattle.cutting.proofs.write.put_all.Reads as reads
 use Rattle.cutting.proofs.write.put_all.Lts as lts
 use Rattle.cutting.proofs.write.byte_at.Reads as byte-at-reads
 use Rattle.cutting.proofs.write.put_head.Reads as put-head-reads
-use Rattle.cutting.proofs.write.put_strings.Reads as put-strings-reads
+use Rattle.mentioned.proofs.put_strings.Reads as put-strings-reads
 use Rattle.cutting.proofs.write.put_types.Reads as put-types-reads
 
--- src/write.rt:279:9
 byte-at-requires : tie.Need-byte-at-requires
 byte-at-requires c κs = search needs
 
--- src/write.rt:280:9
 put-head-requires : tie.Need-put-head-requires
 put-head-requires c κs = search needs
 
--- src/write.rt:281:9
 put-types-requires : tie.Need-put-types-requires
 put-types-requires c κs = search needs
 
--- src/write.rt:282:5
 put-strings-requires : tie.Need-put-strings-requires
 put-strings-requires c κs = search needs
 
--- src/write.rt:266:1
 same-length : tie.Need-same-length
 same-length c = search needs
 
--- src/write.rt:266:1
 returns : tie.Need-returns
 returns c = all-put _ _ _ _ _ _ _ _ _ _ _ _ _ _ _ (c .before .before .before .before .before .before .before .before .before .before .before .before .byte-at .ensures) (c .before .before .before .before .before .before .before .before .before .before .put-head .ensures) (c .before .before .before .before .before .before .put-types .ensures) (c .before .before .put-strings .ensures)
 

@@ -6,35 +6,27 @@ use Rattle.cutting.proofs.write.put_magic.Reads as reads
 use Rattle.cutting.proofs.write.put_magic.Lts as lts
 use Rattle.text.proofs.put_two.Reads as put-two-reads
 
--- src/write.rt:43:13
 put-two-requires : tie.Need-put-two-requires
 put-two-requires c κs = search needs
 
--- src/write.rt:44:9
 put-two-requires-2 : tie.Need-put-two-requires-2
 put-two-requires-2 c κs = search needs
 
--- src/write.rt:44:9
 same-length : tie.Need-same-length
 same-length c = search needs
 
--- src/write.rt:44:9
 returns : tie.Need-returns
 returns c = magic-big _ _ _ _ _ _ _ _ (c .before .before .before .before .before .before .before .before .if1 .taken) (c .before .before .before .before .before .before .put-two .ensures) (c .before .before .put-two2 .ensures)
 
--- src/write.rt:46:9
 put-two-requires-3 : tie.Need-put-two-requires-3
 put-two-requires-3 c κs = search needs
 
--- src/write.rt:47:5
 put-two-requires-4 : tie.Need-put-two-requires-4
 put-two-requires-4 c κs = search needs
 
--- src/write.rt:39:1
 same-length-2 : tie.Need-same-length-2
 same-length-2 c = search needs
 
--- src/write.rt:39:1
 returns-2 : tie.Need-returns-2
 returns-2 c = magic-little _ _ _ _ _ _ _ _ (c .before .before .before .before .before .before .before .before .if1 .left) (c .before .before .before .before .before .before .put-two3 .ensures) (c .before .before .put-two4 .ensures)
 

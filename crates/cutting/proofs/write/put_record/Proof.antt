@@ -10,7 +10,7 @@ use Rattle.cutting.proofs.write.put_record.Statement.{statement}
 use Rattle.cutting.proofs.write.put_record.Tie as tie
 use Rattle.cutting.proofs.write.put_record.Reads as reads
 use Rattle.cutting.proofs.write.put_record.Lts as lts
-use Rattle.cutting.proofs.words.words_in.Reads as words-in-reads
+use Rattle.roles.proofs.words_in.Reads as words-in-reads
 use Rattle.cutting.proofs.write.new_word.Reads as new-word-reads
 use Rattle.cutting.proofs.write.put_word.Reads as put-word-reads
 
@@ -20,39 +20,30 @@ Inv-loop b section start ids bases e out₀ at n p₀ j₀ out p j = (putOut p o
 abbrev μ-loop : tie.MeasureT-loop
 μ-loop b section start ids bases e out₀ at n p₀ j₀ out p j = n - j
 
--- src/write.rt:123:9
 words-in-requires : tie.Need-words-in-requires Inv-loop μ-loop
 words-in-requires c κs = search needs
 
--- src/write.rt:126:5
 loop-holds : tie.Need-loop-holds Inv-loop μ-loop
 loop-holds c = (no-words _ _ _ _ _ _ _ _, omega arith, refl)
 
--- src/write.rt:127:13
 new-word-requires : tie.Need-new-word-requires Inv-loop μ-loop
 new-word-requires c κs = c .before .before .before .before .before .before .before .before .pre
 
--- src/write.rt:128:9
 put-word-requires : tie.Need-put-word-requires Inv-loop μ-loop
 put-word-requires c κs = search needs
 
--- src/write.rt:129:9
 add-j : tie.Need-add-j Inv-loop μ-loop
 add-j c = omega arith
 
--- src/write.rt:126:5
 loop-less : tie.Need-loop-less Inv-loop μ-loop
 loop-less c = omega arith
 
--- src/write.rt:126:5
 loop-again : tie.Need-loop-again Inv-loop μ-loop
 loop-again c = (more-words _ _ _ _ _ _ _ _ _ _ _ _ _ _ (c .before .before .before .before .before .before .loop .inv .0) (c .before .before .before .before .new-word .ensures) (c .before .before .put-word .ensures), omega arith, c .before .before .put-word .kept .0 ∙ c .before .before .before .before .before .before .loop .inv .2)
 
--- src/write.rt:110:1
 same-length : tie.Need-same-length Inv-loop μ-loop
 same-length c = c .before .loop .inv .2
 
--- src/write.rt:110:1
 returns : tie.Need-returns Inv-loop μ-loop
 returns c = all-words _ _ _ _ _ _ _ _ _ _ _ _ (c .before .before .words-in .ensures) (c .before .loop .inv .1) (c .loop-test .left) (c .before .loop .inv .0)
 

@@ -4,31 +4,25 @@ use Rattle.cutting.proofs.write.put_type.Statement.{statement}
 use Rattle.cutting.proofs.write.put_type.Tie as tie
 use Rattle.cutting.proofs.write.put_type.Reads as reads
 use Rattle.cutting.proofs.write.put_type.Lts as lts
-use Rattle.cutting.proofs.names.peek.Reads as peek-reads
+use Rattle.mentioned.proofs.peek.Reads as peek-reads
 use Rattle.cutting.proofs.write.put_record.Reads as put-record-reads
 use Rattle.followed.proofs.entry.Reads as entry-reads
 
--- src/write.rt:147:8
 peek-requires : tie.Need-peek-requires
 peek-requires c κs = search needs
 
--- src/write.rt:148:9
 returns : tie.Need-returns
 returns c = type-none _ _ _ _ _ _ _ _ _ (c .before .peek .ensures) (c .if1 .taken)
 
--- src/write.rt:150:47
 entry-requires : tie.Need-entry-requires
 entry-requires c κs = search needs
 
--- src/write.rt:150:5
 put-record-requires : tie.Need-put-record-requires
 put-record-requires c κs = search needs
 
--- src/write.rt:134:1
 same-length : tie.Need-same-length
 same-length c = search needs
 
--- src/write.rt:134:1
 returns-2 : tie.Need-returns-2
 returns-2 c = type-is _ _ _ _ _ _ _ _ _ (c .before .before .before .before .before .before .peek .ensures) (c .before .before .before .before .before .if1 .left) _ (c .before .before .before .before .entry .ensures) _ _ (c .before .before .put-record .ensures)
 

@@ -19,35 +19,27 @@ Inv-loop b section start ids bases out₀ at n p₀ x₀ out p x = (putOut p out
 abbrev μ-loop : tie.MeasureT-loop
 μ-loop b section start ids bases out₀ at n p₀ x₀ out p x = n - x
 
--- src/write.rt:166:9
 count-requires : tie.Need-count-requires Inv-loop μ-loop
 count-requires c κs = search needs
 
--- src/write.rt:169:5
 loop-holds : tie.Need-loop-holds Inv-loop μ-loop
 loop-holds c = (no-types _ _ _ _ _ _ _, omega arith, refl)
 
--- src/write.rt:170:9
 put-type-requires : tie.Need-put-type-requires Inv-loop μ-loop
 put-type-requires c κs = c .before .before .before .before .before .before .before .before .before .pre
 
--- src/write.rt:171:9
 add-x : tie.Need-add-x Inv-loop μ-loop
 add-x c = omega arith
 
--- src/write.rt:169:5
 loop-less : tie.Need-loop-less Inv-loop μ-loop
 loop-less c = omega arith
 
--- src/write.rt:169:5
 loop-again : tie.Need-loop-again Inv-loop μ-loop
 loop-again c = (more-types _ _ _ _ _ _ _ _ _ _ _ _ (c .before .before .before .before .before .loop .inv .0) (c .before .before .put-type .ensures), omega arith, c .before .before .put-type .kept .1 .1 .1 .1 .1 .1 .0 ∙ c .before .before .before .before .before .loop .inv .2)
 
--- src/write.rt:154:1
 same-length : tie.Need-same-length Inv-loop μ-loop
 same-length c = c .before .loop .inv .2
 
--- src/write.rt:154:1
 returns : tie.Need-returns Inv-loop μ-loop
 returns c = all-types _ _ _ _ _ _ _ _ _ _ _ (c .before .before .count .ensures) (c .before .loop .inv .1) (c .loop-test .left) (c .before .loop .inv .0)
 

@@ -6,51 +6,39 @@ use Rattle.cutting.proofs.write.put_word.Reads as reads
 use Rattle.cutting.proofs.write.put_word.Lts as lts
 use Rattle.text.proofs.put_two.Reads as put-two-reads
 
--- src/write.rt:27:13
 cast-a : tie.Need-cast-a
 cast-a c = search needs
 
--- src/write.rt:28:13
 cast-c : tie.Need-cast-c
 cast-c c = search needs
 
--- src/write.rt:29:13
 cast-d : tie.Need-cast-d
 cast-d c = search needs
 
--- src/write.rt:30:13
 cast-f : tie.Need-cast-f
 cast-f c = search needs
 
--- src/write.rt:32:13
 put-two-requires : tie.Need-put-two-requires
 put-two-requires c κs = search needs
 
--- src/write.rt:33:9
 put-two-requires-2 : tie.Need-put-two-requires-2
 put-two-requires-2 c κs = search needs
 
--- src/write.rt:33:9
 same-length : tie.Need-same-length
 same-length c = search needs
 
--- src/write.rt:33:9
 returns : tie.Need-returns
 returns c = word-big _ _ _ _ _ _ _ _ (c .before .before .before .before .before .before .before .before .if1 .taken) (c .before .before .before .before .before .before .put-two .ensures) (c .before .before .put-two2 .ensures)
 
--- src/write.rt:35:9
 put-two-requires-3 : tie.Need-put-two-requires-3
 put-two-requires-3 c κs = search needs
 
--- src/write.rt:36:5
 put-two-requires-4 : tie.Need-put-two-requires-4
 put-two-requires-4 c κs = search needs
 
--- src/write.rt:24:1
 same-length-2 : tie.Need-same-length-2
 same-length-2 c = search needs
 
--- src/write.rt:24:1
 returns-2 : tie.Need-returns-2
 returns-2 c = word-little _ _ _ _ _ _ _ _ (c .before .before .before .before .before .before .before .before .if1 .left) (c .before .before .before .before .before .before .put-two3 .ensures) (c .before .before .put-two4 .ensures)
 

@@ -4,39 +4,31 @@ use Rattle.cutting.proofs.write.type_size.Statement.{statement}
 use Rattle.cutting.proofs.write.type_size.Tie as tie
 use Rattle.cutting.proofs.write.type_size.Reads as reads
 use Rattle.cutting.proofs.write.type_size.Lts as lts
-use Rattle.cutting.proofs.names.peek.Reads as peek-reads
-use Rattle.cutting.proofs.words.words_in.Reads as words-in-reads
+use Rattle.mentioned.proofs.peek.Reads as peek-reads
+use Rattle.roles.proofs.words_in.Reads as words-in-reads
 use Rattle.followed.proofs.entry.Reads as entry-reads
 
--- src/write.rt:80:8
 peek-requires : tie.Need-peek-requires
 peek-requires c κs = search needs
 
--- src/write.rt:81:9
 returns : tie.Need-returns
 returns c = tsize-none _ _ _ _ _ _ _ (c .before .peek .ensures) (c .if1 .taken)
 
--- src/write.rt:83:33
 entry-requires : tie.Need-entry-requires
 entry-requires c κs = search needs
 
--- src/write.rt:83:12
 words-in-requires : tie.Need-words-in-requires
 words-in-requires c κs = search needs
 
--- src/write.rt:83:12
 cast-result : tie.Need-cast-result
 cast-result c = search needs
 
--- src/write.rt:83:11
 mul-result : tie.Need-mul-result
 mul-result c = search needs
 
--- src/write.rt:83:5
 add-result : tie.Need-add-result
 add-result c = search needs
 
--- src/write.rt:76:1
 returns-2 : tie.Need-returns-2
 returns-2 c = tsize-is _ _ _ _ _ _ _ (c .before .before .before .peek .ensures) (c .before .before .if1 .left) _ (c .before .entry .ensures) _ (c .words-in .ensures)
 

@@ -17,31 +17,24 @@ Inv-loop b section start ids n len₀ x₀ len x = (len ≡ typesSize b section 
 abbrev μ-loop : tie.MeasureT-loop
 μ-loop b section start ids n len₀ x₀ len x = n - x
 
--- src/write.rt:66:9
 count-requires : tie.Need-count-requires Inv-loop μ-loop
 count-requires c κs = search needs
 
--- src/write.rt:69:5
 loop-holds : tie.Need-loop-holds Inv-loop μ-loop
 loop-holds c = (no-size _ _ _ _, omega arith, omega arith)
 
--- src/write.rt:70:9
 type-size-requires : tie.Need-type-size-requires Inv-loop μ-loop
 type-size-requires c κs = omega (arith, c .before .loop .inv .2)
 
--- src/write.rt:71:9
 add-x : tie.Need-add-x Inv-loop μ-loop
 add-x c = omega arith
 
--- src/write.rt:69:5
 loop-less : tie.Need-loop-less Inv-loop μ-loop
 loop-less c = omega arith
 
--- src/write.rt:69:5
 loop-again : tie.Need-loop-again Inv-loop μ-loop
 loop-again c = (more-size _ _ _ _ _ _ _ (c .before .before .loop .inv .0) (c .type-size .ensures), omega arith, omega (arith, c .before .before .loop .inv .2, tsize-up _ _ _ _ _ _ _ (c .type-size .ensures)))
 
--- src/write.rt:63:1
 returns : tie.Need-returns Inv-loop μ-loop
 returns c = all-size _ _ _ _ _ _ _ (c .before .before .count .ensures) (c .before .loop .inv .1) (c .loop-test .left) (c .before .loop .inv .0)
 

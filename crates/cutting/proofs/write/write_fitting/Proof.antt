@@ -6,39 +6,30 @@ use Rattle.cutting.proofs.write.write_fitting.Reads as reads
 use Rattle.cutting.proofs.write.write_fitting.Lts as lts
 use Rattle.cutting.proofs.write.put_all.Reads as put-all-reads
 
--- src/write.rt:327:15
 add-len : tie.Need-add-len
 add-len c = search needs
 
--- src/write.rt:327:15
 add-len-2 : tie.Need-add-len-2
 add-len-2 c = search needs
 
--- src/write.rt:329:9
 returns : tie.Need-returns
 returns c = fit-over _ _ _ _ _ _ _ _ (c .if1 .taken)
 
--- src/write.rt:331:21
 cast-if2 : tie.Need-cast-if2
 cast-if2 c = search needs
 
--- src/write.rt:332:9
 returns-2 : tie.Need-returns-2
 returns-2 c = fit-short _ _ _ _ _ _ _ _ (c .before .if1 .left) (c .if2 .taken)
 
--- src/write.rt:334:5
 put-all-requires : tie.Need-put-all-requires
 put-all-requires c κs = search needs
 
--- src/write.rt:335:5
 cast-result : tie.Need-cast-result
 cast-result c = search needs
 
--- src/write.rt:314:1
 same-length : tie.Need-same-length
 same-length c = search needs
 
--- src/write.rt:314:1
 returns-3 : tie.Need-returns-3
 returns-3 c = fit-is _ _ _ _ _ _ _ _ (c .before .before .before .before .before .if1 .left) (c .before .before .before .before .if2 .left) (c .before .before .before .before .before .before .before .before .before .before .before .pre .3) (c .before .before .before .before .before .before .before .before .before .before .before .pre .4) _ _ (c .before .before .put-all .ensures)
 

@@ -1,5 +1,8 @@
+use Prim.Native.Nat.{ℕ}
+use mathlib.Core.Path.{sym, _∙_}
+use lib.ListN.{length-replicate}
 use Rattle.cutting.proofs.Laws.{kept-long, kept-strings, kept-types, kept-is}
-use Rattle.cutting.specs.Bytes.{zeroBases}
+use Rattle.mentioned.specs.Names.{zeroBases}
 use borrow.Author.Needs.{needs}
 use Rattle.cutting.proofs.write.write_kept.Statement.{statement}
 use Rattle.cutting.proofs.write.write_kept.Tie as tie
@@ -9,51 +12,39 @@ use Rattle.cutting.proofs.names.fill_bases.Reads as fill-bases-reads
 use Rattle.cutting.proofs.write.types_size.Reads as types-size-reads
 use Rattle.cutting.proofs.write.write_fitting.Reads as write-fitting-reads
 
--- src/write.rt:300:9
 returns : tie.Need-returns
 returns c = kept-long _ _ _ _ _ (c .if1 .taken)
 
--- src/write.rt:303:54
 slice-aggregate-fill-bases : tie.Need-slice-aggregate-fill-bases
-slice-aggregate-fill-bases c = search needs
+slice-aggregate-fill-bases c = sym (length-replicate {A = ℕ} 262145 0)
 
--- src/write.rt:303:9
 fill-bases-requires : tie.Need-fill-bases-requires
-fill-bases-requires c κs = search needs
+fill-bases-requires c κs = (c .before .if1 .left, length-replicate {A = ℕ} 262145 0)
 
--- src/write.rt:304:9
 types-size-requires : tie.Need-types-size-requires
-types-size-requires c κs = search needs
+types-size-requires c κs = tt
 
--- src/write.rt:306:9
 returns-2 : tie.Need-returns-2
 returns-2 c = kept-strings _ _ _ _ _ (c .before .before .before .before .before .if1 .left) _ (c .before .before .before .fill-bases .ensures .0) (c .if2 .taken)
 
--- src/write.rt:309:9
 returns-3 : tie.Need-returns-3
 returns-3 c = kept-types _ _ _ _ _ (c .before .before .before .before .before .before .if1 .left) _ (c .before .before .before .before .fill-bases .ensures .0) (c .before .if2 .left) _ (c .before .before .types-size .ensures) (c .if3 .taken)
 
--- src/write.rt:311:43
 slice-aggregate-write-fitting : tie.Need-slice-aggregate-write-fitting
-slice-aggregate-write-fitting c = search needs
+slice-aggregate-write-fitting c = sym (c .before .before .before .before .before .fill-bases .kept .1 .1 .1 .1 .0 ∙ length-replicate {A = ℕ} 262145 0)
 
--- src/write.rt:311:51
 cast-write-fitting : tie.Need-cast-write-fitting
 cast-write-fitting c = search needs
 
--- src/write.rt:311:65
 cast-write-fitting-2 : tie.Need-cast-write-fitting-2
 cast-write-fitting-2 c = search needs
 
--- src/write.rt:311:5
 write-fitting-requires : tie.Need-write-fitting-requires
 write-fitting-requires c κs = (c .before .before .before .before .before .before .before .before .if1 .left, c .before .before .if3 .left, c .before .before .before .if2 .left, c .before .before .before .before .types-size .ensures, c .before .before .before .before .before .before .fill-bases .ensures .0)
 
--- src/write.rt:296:1
 same-length : tie.Need-same-length
 same-length c = search needs
 
--- src/write.rt:296:1
 returns-4 : tie.Need-returns-4
 unfolding zeroBases
 returns-4 c = kept-is _ _ _ _ _ (c .before .before .before .before .before .before .before .before .before .before .before .if1 .left) _ (c .before .before .before .before .before .before .before .before .before .fill-bases .ensures .0) (c .before .before .before .before .before .before .if2 .left) _ (c .before .before .before .before .before .before .before .types-size .ensures) (c .before .before .before .before .before .if3 .left) _ (c .before .before .before .before .before .before .before .before .before .fill-bases .ensures .1) _ (c .before .before .write-fitting .ensures)

@@ -12,7 +12,7 @@ use Rattle.btf.proofs.holder_word.Reads as holder-word-reads
 use Rattle.keys.proofs.load_key.Reads as load-key-reads
 use Rattle.lent.proofs.get_word.Reads as get-word-reads
 use Rattle.lent.proofs.put_word.Reads as put-word-reads
-use Rattle.takers.proofs.lists.key_suffix.Reads as key-suffix-reads
+use Rattle.suffixes.proofs.key_suffix.Reads as key-suffix-reads
 
 load-key-requires : tie.Need-load-key-requires
 load-key-requires c κs = search needs

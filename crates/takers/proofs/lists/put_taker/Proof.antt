@@ -8,8 +8,8 @@ use Rattle.takers.proofs.lists.put_taker.Lts as lts
 use Rattle.btf.proofs.holder_word.Reads as holder-word-reads
 use Rattle.keys.proofs.load_key.Reads as load-key-reads
 use Rattle.lent.proofs.get_word.Reads as get-word-reads
-use Rattle.takers.proofs.lists.base_of.Reads as base-of-reads
-use Rattle.takers.proofs.lists.is_suffixed.Reads as is-suffixed-reads
+use Rattle.suffixes.proofs.base_of.Reads as base-of-reads
+use Rattle.suffixes.proofs.is_suffixed.Reads as is-suffixed-reads
 use Rattle.takers.proofs.lists.put_on.Reads as put-on-reads
 
 holder-word-requires : tie.Need-holder-word-requires

@@ -1,0 +1,4 @@
+pub mod DeepPrograms0
+pub mod DeepPrograms1
+pub mod DeepSessions0
+pub mod DeepSessions1

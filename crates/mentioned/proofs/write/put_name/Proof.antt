@@ -1,0 +1,43 @@
+use Rattle.mentioned.proofs.Laws.{name-none, name-put}
+use borrow.Author.Needs.{needs}
+use Rattle.mentioned.proofs.write.put_name.Statement.{statement}
+use Rattle.mentioned.proofs.write.put_name.Tie as tie
+use Rattle.mentioned.proofs.write.put_name.Reads as reads
+use Rattle.mentioned.proofs.write.put_name.Lts as lts
+use Rattle.strings.proofs.put_str.Reads as put-str-reads
+use Rattle.mentioned.proofs.names.is_new.Reads as is-new-reads
+use Rattle.roles.proofs.word_of.Reads as word-of-reads
+use Rattle.text.proofs.put_byte.Reads as put-byte-reads
+
+is-new-requires : tie.Need-is-new-requires
+is-new-requires c κs = search needs
+
+returns : tie.Need-returns
+returns c = name-none _ _ _ _ _ _ _ _ _ _ (c .before .is-new .ensures) (c .if1 .taken)
+
+word-of-requires : tie.Need-word-of-requires
+word-of-requires c κs = search needs
+
+put-str-requires : tie.Need-put-str-requires
+put-str-requires c κs = search needs
+
+put-byte-requires : tie.Need-put-byte-requires
+put-byte-requires c κs = search needs
+
+same-length : tie.Need-same-length
+same-length c = search needs
+
+returns-2 : tie.Need-returns-2
+returns-2 c = name-put _ _ _ _ _ _ _ _ _ _ (c .before .before .before .before .before .before .before .before .before .before .is-new .ensures) (c .before .before .before .before .before .before .before .before .before .if1 .left) _ (c .before .before .before .before .before .before .before .word-of .ensures) _ _ _ _ (c .before .before .before .before .before .before .put-str .ensures) (c .before .before .put-byte .ensures)
+
+pub put-name-spec : {M : Type 1} → statement M
+put-name-spec =
+    tie.close
+    (tie.spec
+    is-new-requires
+    returns
+    word-of-requires
+    put-str-requires
+    put-byte-requires
+    same-length
+    returns-2)

@@ -1,0 +1,2 @@
+-- Laws: a law for each return.
+pub mod Laws

@@ -1,0 +1,2 @@
+-- Words: the words of a record and what they are.
+pub mod Words
