@@ -35,7 +35,7 @@ use chain::kind_on_top;
 use chain::path_at;
 use chain::put_qualifier;
 use chain::skip_mods;
-use enums::deeper;
+use enumerators::deeper;
 use fixed::put_dots;
 use fixed::put_void;
 use layout::Ask;

@@ -6,7 +6,7 @@ use btf::kind_flag_of;
 use btf::kind_of;
 use decl::emit_composite_def;
 use enums::emit_enum_def;
-use enums::emit_enum64_def;
+use enums64::emit_enum64_def;
 use names::emit_composite_fwd;
 use names::emit_fwd_def;
 use strings::is_builtin;

@@ -95,7 +95,7 @@ use Rattle.bodies.proofs.put_gap.Reads as put-gap-reads
 use Rattle.bodies.proofs.put_open.Reads as put-open-reads
 use Rattle.bodies.proofs.put_star.Reads as put-star-reads
 use Rattle.bodies.proofs.put_type_tag.Reads as put-type-tag-reads
-use Rattle.enums.proofs.deeper.Reads as deeper-reads
+use Rattle.enumerators.proofs.deeper.Reads as deeper-reads
 use Rattle.placing.proofs.body_packed.Reads as body-packed-reads
 use Rattle.text.proofs.put_byte.Reads as put-byte-reads
 use Rattle.fixed.proofs.put_dots.Reads as put-dots-reads

@@ -1,4 +1,4 @@
-use Rattle.enums.proofs.Values.{put-signed, put-plain}
+use Rattle.enums.proofs.Numbers.{put-signed, put-plain}
 use borrow.Author.Needs.{needs}
 use Rattle.enums.proofs.put_value.Statement.{statement}
 use Rattle.enums.proofs.put_value.Tie as tie
