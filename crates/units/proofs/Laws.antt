@@ -1,13 +1,39 @@
 -- What each return of the code comes to. Assumes nothing.
-use Prim.Native.Nat.{ℕ, _*_, _<_, _≤_}
+use Prim.Native.Nat.{ℕ, _*_, _%_, _<_, _≤_}
 use mathlib.Core.Path.{_≡_, ap, _∙_, sym}
-use mathlib.Core.Logic.{inl, inr}
+use mathlib.Core.Logic.{inl, inr, ⊎-elim}
 use native.Mathlib.Omega.{arith}
-use borrow.Author.Tests.{le-leb, lt-leb}
+use native.Mathlib.Nat.{mod-zero}
+use borrow.Author.Tests.{le-leb, lt-leb, ne-eqb}
+use Rattle.lent.proofs.Laws.{le-or-lt}
 use Rattle.rules.specs.Layout.{smaller, long, int, short, char, chipAwayBits, padOf}
 use Rattle.units.specs.declared.Pad.{Pad as Code}
 use Rattle.units.specs.Units.{unitOf, padIs}
 use Rattle.units.proofs.Widths.{chip-bits, pad-long, no-long, pad-int, pad-short, pad-char}
+
+-- ---- chip_away_bits
+module _ (total at-most : ℕ) where
+  pub chip-none : at-most ≡ 0 → total ≡ chipAwayBits total at-most
+  unfolding chipAwayBits
+  chip-none e = ⊎-elim here there (le-or-lt 1 total)
+    where
+      z : total % at-most ≡ total
+      z = ap (λ (n : ℕ). total % n) e ∙ mod-zero total
+
+      here : 1 ≤ total → total ≡ chipAwayBits total at-most
+      here l = let n : total % at-most ≡ 0 → ⊥ = λ q. let q′ : total ≡ 0 = sym z ∙ q in omega arith in rw (ne-eqb (total % at-most) 0 n, chipAwayBits) (sym z)
+
+      there : total < 1 → total ≡ chipAwayBits total at-most
+      there l = let o : total ≡ 0 = omega arith in rw (z ∙ o, chipAwayBits) (o ∙ sym e)
+
+  module _ (rest : ℕ) (er : rest ≡ total % at-most) where
+    pub chip-whole : rest ≡ 0 → at-most ≡ chipAwayBits total at-most
+    unfolding chipAwayBits
+    chip-whole e = rw (sym er ∙ e, chipAwayBits)
+
+    pub chip-rest : (rest ≡ 0 → ⊥) → rest ≡ chipAwayBits total at-most
+    unfolding chipAwayBits
+    chip-rest n = rw (ne-eqb (total % at-most) 0 (λ q. n (er ∙ q)), chipAwayBits) er
 
 -- ---- ptr_bits, short_pad, pad_of
 pub bits-few : (p : ℕ) → p < 536870912 → p * 8 ≡ smaller (p * 8) 4294967295

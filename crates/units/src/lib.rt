@@ -1,14 +1,24 @@
 // The next pad of a gap, in both modes: its unit and its width.
-use layout::chip_away_bits;
 ghost use mathlib.Core.Path.{_≡_};
 ghost use Prim.Native.Nat.{_*_};
-ghost use Rattle.rules.specs.Layout.{smaller, padOf, placedPad};
+ghost use Rattle.rules.specs.Layout.{smaller, chipAwayBits, padOf, placedPad};
 ghost use Rattle.units.specs.Units.{padIs, suitsBy, placedChar};
 
 // A pad: its unit (3 long, 2 int, 1 short, 0 char) and its width in bits.
 pub struct Pad {
     pub unit: u32,
     pub width: u32,
+}
+
+// (Of at_most 0 the rest is the total.)
+fn chip_away_bits(total: u32, at_most: u32) -> u32
+    ensures { λ r. ⌜ r ≡ chipAwayBits total «at_most» ⌝ }
+{
+    if at_most == 0 {
+        return total;
+    }
+    let rest = total % at_most;
+    if rest == 0 { at_most } else { rest }
 }
 
 // The bits of a pointer, or the largest number.

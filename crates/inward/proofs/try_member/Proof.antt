@@ -6,7 +6,7 @@ use Rattle.inward.proofs.try_member.Tie as tie
 use Rattle.inward.proofs.try_member.Reads as reads
 use Rattle.inward.proofs.try_member.Lts as lts
 use Rattle.inward.proofs.member_step.Reads as member-step-reads
-use Rattle.layout.proofs.member_end.Reads as member-end-reads
+use Rattle.ends.proofs.member_end.Reads as member-end-reads
 
 member-end-requires : tie.Need-member-end-requires
 member-end-requires c κs = search needs

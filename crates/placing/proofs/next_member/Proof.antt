@@ -4,7 +4,7 @@ use Rattle.placing.proofs.next_member.Statement.{statement}
 use Rattle.placing.proofs.next_member.Tie as tie
 use Rattle.placing.proofs.next_member.Reads as reads
 use Rattle.placing.proofs.next_member.Lts as lts
-use Rattle.layout.proofs.member_end.Reads as member-end-reads
+use Rattle.ends.proofs.member_end.Reads as member-end-reads
 use Rattle.placing.proofs.field_size.Reads as field-size-reads
 use Rattle.placing.proofs.with_member.Reads as with-member-reads
 

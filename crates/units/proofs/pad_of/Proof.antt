@@ -5,7 +5,7 @@ use Rattle.units.proofs.pad_of.Statement.{statement}
 use Rattle.units.proofs.pad_of.Tie as tie
 use Rattle.units.proofs.pad_of.Reads as reads
 use Rattle.units.proofs.pad_of.Lts as lts
-use Rattle.layout.proofs.chip_away_bits.Reads as chip-away-bits-reads
+use Rattle.units.proofs.chip_away_bits.Reads as chip-away-bits-reads
 use Rattle.units.proofs.ptr_bits.Reads as ptr-bits-reads
 use Rattle.units.proofs.short_pad.Reads as short-pad-reads
 

@@ -4,7 +4,7 @@ use Rattle.units.proofs.short_pad.Statement.{statement}
 use Rattle.units.proofs.short_pad.Tie as tie
 use Rattle.units.proofs.short_pad.Reads as reads
 use Rattle.units.proofs.short_pad.Lts as lts
-use Rattle.layout.proofs.chip_away_bits.Reads as chip-away-bits-reads
+use Rattle.units.proofs.chip_away_bits.Reads as chip-away-bits-reads
 
 -- src/lib.rt:42:20
 chip-away-bits-requires : tie.Need-chip-away-bits-requires
