@@ -1,12 +1,12 @@
-use Rattle.placing.proofs.Laws.{member-before, member-plain, member-field}
+use Rattle.extents.proofs.Laws.{member-before, member-plain, member-field}
 use borrow.Author.Tests.{not-true, not-false}
 use borrow.Author.Needs.{needs}
-use Rattle.placing.proofs.member_fits.Statement.{statement}
-use Rattle.placing.proofs.member_fits.Tie as tie
-use Rattle.placing.proofs.member_fits.Reads as reads
-use Rattle.placing.proofs.member_fits.Lts as lts
-use Rattle.placing.proofs.field_fits.Reads as field-fits-reads
-use Rattle.placing.proofs.start_fits.Reads as start-fits-reads
+use Rattle.extents.proofs.member_fits.Statement.{statement}
+use Rattle.extents.proofs.member_fits.Tie as tie
+use Rattle.extents.proofs.member_fits.Reads as reads
+use Rattle.extents.proofs.member_fits.Lts as lts
+use Rattle.extents.proofs.field_fits.Reads as field-fits-reads
+use Rattle.extents.proofs.start_fits.Reads as start-fits-reads
 
 -- src/lib.rt:85:9
 start-fits-requires : tie.Need-start-fits-requires

@@ -1,10 +1,10 @@
-use Rattle.placing.proofs.Laws.{size-struct, size-union}
+use Rattle.extents.proofs.Laws.{size-struct, size-union}
 use borrow.Author.Needs.{needs}
-use Rattle.placing.proofs.size_fits.Statement.{statement}
-use Rattle.placing.proofs.size_fits.Tie as tie
-use Rattle.placing.proofs.size_fits.Reads as reads
-use Rattle.placing.proofs.size_fits.Lts as lts
-use Rattle.placing.proofs.round_up.Reads as round-up-reads
+use Rattle.extents.proofs.size_fits.Statement.{statement}
+use Rattle.extents.proofs.size_fits.Tie as tie
+use Rattle.extents.proofs.size_fits.Reads as reads
+use Rattle.extents.proofs.size_fits.Lts as lts
+use Rattle.extents.proofs.round_up.Reads as round-up-reads
 
 -- src/lib.rt:189:9
 returns : tie.Need-returns

@@ -1,12 +1,12 @@
-use Rattle.placing.proofs.Laws.{round-none, round-some}
+use Rattle.extents.proofs.Laws.{round-none, round-some}
 use Prim.Native.Nat.{_+_, _-_, _*_}
 use native.Mathlib.Nat.{div-mul-le-self}
 use native.Mathlib.Omega.{arith}
 use borrow.Author.Needs.{needs}
-use Rattle.placing.proofs.round_up.Statement.{statement}
-use Rattle.placing.proofs.round_up.Tie as tie
-use Rattle.placing.proofs.round_up.Reads as reads
-use Rattle.placing.proofs.round_up.Lts as lts
+use Rattle.extents.proofs.round_up.Statement.{statement}
+use Rattle.extents.proofs.round_up.Tie as tie
+use Rattle.extents.proofs.round_up.Reads as reads
+use Rattle.extents.proofs.round_up.Lts as lts
 
 -- src/lib.rt:40:9
 returns : tie.Need-returns

@@ -1,19 +1,19 @@
-use Rattle.placing.proofs.Laws.{extentRest, extent-start, extent-more, extent-refused, extent-end, extent-as}
-use Rattle.placing.specs.Steps.{extentIs}
+use Rattle.extents.proofs.Laws.{extentRest, extent-start, extent-more, extent-refused, extent-end, extent-as}
+use Rattle.extents.specs.Steps.{extentIs}
 use Rattle.rules.specs.Placing.{extentOf, noExtent}
 use Rattle.btf.specs.Table.{btfOf, membersOf}
 use native.Mathlib.Omega.{arith}
 use mathlib.Core.Path.{_≡_}
 use Prim.Native.Nat.{_≤_, _<_, _-_}
 use borrow.Author.Needs.{needs}
-use Rattle.placing.proofs.extent_of.Statement.{statement}
-use Rattle.placing.proofs.extent_of.Tie as tie
-use Rattle.placing.proofs.extent_of.Reads as reads
-use Rattle.placing.proofs.extent_of.Lts as lts
+use Rattle.extents.proofs.extent_of.Statement.{statement}
+use Rattle.extents.proofs.extent_of.Tie as tie
+use Rattle.extents.proofs.extent_of.Reads as reads
+use Rattle.extents.proofs.extent_of.Lts as lts
 use Rattle.btf.proofs.is_struct.Reads as is-struct-reads
 use Rattle.btf.proofs.load_member.Reads as load-member-reads
 use Rattle.btf.proofs.vlen_of.Reads as vlen-of-reads
-use Rattle.placing.proofs.next_member.Reads as next-member-reads
+use Rattle.extents.proofs.next_member.Reads as next-member-reads
 
 abbrev Inv-loop : tie.InvT-loop
 Inv-loop b section work t packed vlen in-struct x₀ k₀ x k = (k ≤ vlen) × (vlen < 4294967296) × (extentOf (btfOf b section work) in-struct packed noExtent (membersOf b section t) ≡ extentRest (btfOf b section work) b section t in-struct packed (extentIs x) k)

@@ -1,9 +1,9 @@
-use Rattle.placing.proofs.Laws.{size-plain, size-field}
+use Rattle.extents.proofs.Laws.{size-plain, size-field}
 use borrow.Author.Needs.{needs}
-use Rattle.placing.proofs.field_size.Statement.{statement}
-use Rattle.placing.proofs.field_size.Tie as tie
-use Rattle.placing.proofs.field_size.Reads as reads
-use Rattle.placing.proofs.field_size.Lts as lts
+use Rattle.extents.proofs.field_size.Statement.{statement}
+use Rattle.extents.proofs.field_size.Tie as tie
+use Rattle.extents.proofs.field_size.Reads as reads
+use Rattle.extents.proofs.field_size.Lts as lts
 use Rattle.layout.proofs.get_size_of.Reads as get-size-of-reads
 
 -- src/lib.rt:99:9

@@ -1,9 +1,9 @@
-use Rattle.placing.proofs.Laws.{start-struct, start-union}
+use Rattle.extents.proofs.Laws.{start-struct, start-union}
 use borrow.Author.Needs.{needs}
-use Rattle.placing.proofs.start_fits.Statement.{statement}
-use Rattle.placing.proofs.start_fits.Tie as tie
-use Rattle.placing.proofs.start_fits.Reads as reads
-use Rattle.placing.proofs.start_fits.Lts as lts
+use Rattle.extents.proofs.start_fits.Statement.{statement}
+use Rattle.extents.proofs.start_fits.Tie as tie
+use Rattle.extents.proofs.start_fits.Reads as reads
+use Rattle.extents.proofs.start_fits.Lts as lts
 
 -- src/lib.rt:77:9
 returns : tie.Need-returns

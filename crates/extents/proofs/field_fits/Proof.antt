@@ -1,10 +1,10 @@
-use Rattle.placing.proofs.Laws.{field-wide, field-packed, field-unit}
+use Rattle.extents.proofs.Laws.{field-wide, field-packed, field-unit}
 use borrow.Author.Needs.{needs}
-use Rattle.placing.proofs.field_fits.Statement.{statement}
-use Rattle.placing.proofs.field_fits.Tie as tie
-use Rattle.placing.proofs.field_fits.Reads as reads
-use Rattle.placing.proofs.field_fits.Lts as lts
-use Rattle.placing.proofs.same_unit.Reads as same-unit-reads
+use Rattle.extents.proofs.field_fits.Statement.{statement}
+use Rattle.extents.proofs.field_fits.Tie as tie
+use Rattle.extents.proofs.field_fits.Reads as reads
+use Rattle.extents.proofs.field_fits.Lts as lts
+use Rattle.extents.proofs.same_unit.Reads as same-unit-reads
 
 -- src/lib.rt:64:8
 mul-if1 : tie.Need-mul-if1

@@ -1,9 +1,9 @@
-use Rattle.placing.proofs.Laws.{unit-none, unit-empty, unit-tested}
+use Rattle.extents.proofs.Laws.{unit-none, unit-empty, unit-tested}
 use borrow.Author.Needs.{needs}
-use Rattle.placing.proofs.same_unit.Statement.{statement}
-use Rattle.placing.proofs.same_unit.Tie as tie
-use Rattle.placing.proofs.same_unit.Reads as reads
-use Rattle.placing.proofs.same_unit.Lts as lts
+use Rattle.extents.proofs.same_unit.Statement.{statement}
+use Rattle.extents.proofs.same_unit.Tie as tie
+use Rattle.extents.proofs.same_unit.Reads as reads
+use Rattle.extents.proofs.same_unit.Lts as lts
 
 -- src/lib.rt:50:16
 mul-unit : tie.Need-mul-unit

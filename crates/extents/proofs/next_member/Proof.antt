@@ -1,12 +1,12 @@
-use Rattle.placing.proofs.Laws.{next-none, next-endless, next-got}
+use Rattle.extents.proofs.Laws.{next-none, next-endless, next-got}
 use borrow.Author.Needs.{needs}
-use Rattle.placing.proofs.next_member.Statement.{statement}
-use Rattle.placing.proofs.next_member.Tie as tie
-use Rattle.placing.proofs.next_member.Reads as reads
-use Rattle.placing.proofs.next_member.Lts as lts
+use Rattle.extents.proofs.next_member.Statement.{statement}
+use Rattle.extents.proofs.next_member.Tie as tie
+use Rattle.extents.proofs.next_member.Reads as reads
+use Rattle.extents.proofs.next_member.Lts as lts
 use Rattle.ends.proofs.member_end.Reads as member-end-reads
-use Rattle.placing.proofs.field_size.Reads as field-size-reads
-use Rattle.placing.proofs.with_member.Reads as with-member-reads
+use Rattle.extents.proofs.field_size.Reads as field-size-reads
+use Rattle.extents.proofs.with_member.Reads as with-member-reads
 
 -- src/lib.rt:141:11
 field-size-requires : tie.Need-field-size-requires

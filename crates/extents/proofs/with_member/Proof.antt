@@ -1,12 +1,12 @@
-use Rattle.placing.proofs.Laws.{with-misfit, with-fit}
+use Rattle.extents.proofs.Laws.{with-misfit, with-fit}
 use borrow.Author.Tests.{not-true, not-false}
 use borrow.Author.Needs.{needs}
-use Rattle.placing.proofs.with_member.Statement.{statement}
-use Rattle.placing.proofs.with_member.Tie as tie
-use Rattle.placing.proofs.with_member.Reads as reads
-use Rattle.placing.proofs.with_member.Lts as lts
-use Rattle.placing.proofs.member_fits.Reads as member-fits-reads
-use Rattle.placing.proofs.reached.Reads as reached-reads
+use Rattle.extents.proofs.with_member.Statement.{statement}
+use Rattle.extents.proofs.with_member.Tie as tie
+use Rattle.extents.proofs.with_member.Reads as reads
+use Rattle.extents.proofs.with_member.Lts as lts
+use Rattle.extents.proofs.member_fits.Reads as member-fits-reads
+use Rattle.extents.proofs.reached.Reads as reached-reads
 
 -- src/lib.rt:116:9
 reached-requires : tie.Need-reached-requires

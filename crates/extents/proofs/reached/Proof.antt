@@ -1,9 +1,9 @@
-use Rattle.placing.proofs.Laws.{reached-struct, reached-union}
+use Rattle.extents.proofs.Laws.{reached-struct, reached-union}
 use borrow.Author.Needs.{needs}
-use Rattle.placing.proofs.reached.Statement.{statement}
-use Rattle.placing.proofs.reached.Tie as tie
-use Rattle.placing.proofs.reached.Reads as reads
-use Rattle.placing.proofs.reached.Lts as lts
+use Rattle.extents.proofs.reached.Statement.{statement}
+use Rattle.extents.proofs.reached.Tie as tie
+use Rattle.extents.proofs.reached.Reads as reads
+use Rattle.extents.proofs.reached.Lts as lts
 use Rattle.rules.proofs.larger.Reads as larger-reads
 
 -- src/lib.rt:108:9

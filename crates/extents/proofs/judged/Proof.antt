@@ -1,12 +1,12 @@
-use Rattle.placing.proofs.Laws.{judged-large, judged-misfit, judged-sound, judged-size, size-as}
+use Rattle.extents.proofs.Laws.{judged-large, judged-misfit, judged-sound, judged-size, size-as}
 use borrow.Author.Tests.{not-true, not-false}
 use borrow.Author.Needs.{needs}
-use Rattle.placing.proofs.judged.Statement.{statement}
-use Rattle.placing.proofs.judged.Tie as tie
-use Rattle.placing.proofs.judged.Reads as reads
-use Rattle.placing.proofs.judged.Lts as lts
+use Rattle.extents.proofs.judged.Statement.{statement}
+use Rattle.extents.proofs.judged.Tie as tie
+use Rattle.extents.proofs.judged.Reads as reads
+use Rattle.extents.proofs.judged.Lts as lts
 use Rattle.btf.proofs.is_struct.Reads as is-struct-reads
-use Rattle.placing.proofs.size_fits.Reads as size-fits-reads
+use Rattle.extents.proofs.size_fits.Reads as size-fits-reads
 
 -- src/lib.rt:198:17
 cast-bits : tie.Need-cast-bits
