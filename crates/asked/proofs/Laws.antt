@@ -26,7 +26,7 @@ use Rattle.remembered.specs.declared.Once.{Once as Answer}
 use Rattle.remembered.specs.declared.Once.the-variants.{Found, No}
 use Rattle.remembered.specs.Words.{workKeep, onceOf, forget, onceWith}
 use Rattle.remembered.proofs.Turns.{next, then-next}
-use Rattle.remembered.proofs.Cycle.{table-keeps}
+use Rattle.remembered.proofs.Keeps.{table-keeps}
 use Rattle.asked.specs.Asked.{askIn, packedIn, offBy, offOnce, alignIn, gapIn, unionIn, offIn, membersIn, packedAt}
 use Rattle.asked.proofs.Stays.{Steady, steady-plainly, steady-members, steady-tested, offThen, members-turn, Stays, stays-forget, stays-alignment, stays-union, stays-off, stays-packed}
 

@@ -15,7 +15,7 @@ use Rattle.rules.proofs.Writing.{put-only, stop-only, put-then, put-given, put-
 use Rattle.btf.specs.declared.types.Btf.{Btf}
 use Rattle.btf.specs.Table.{from, btfOf, workNaming}
 use Rattle.names.proofs.Resolve.{put-type-name}
-use Rattle.names.proofs.Forwards.{keyword-same}
+use Rattle.forwards.proofs.Forwards.{keyword-same}
 use Rattle.layout.specs.declared.Ask.{Ask as Code}
 use Rattle.layout.specs.declared.Ask.the-variants.{Got, No}
 use Rattle.layout.specs.Answers.{askOf}

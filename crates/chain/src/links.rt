@@ -5,17 +5,13 @@ use btf::BtfType;
 use btf::array_type;
 use btf::kind_of;
 use btf::type_by_id;
-use fixed::put_const;
-use fixed::put_restrict;
-use fixed::put_volatile;
 use layout::Ask;
 ghost use mathlib.Core.Path.{_≡_};
 ghost use mathlib.Core.List.{[]};
-ghost use Rattle.text.specs.Text.{whole, putOut, putText};
-ghost use Rattle.rules.specs.Decl.{qualifier, chainOf};
+ghost use Rattle.rules.specs.Decl.{chainOf};
 ghost use Rattle.btf.specs.Table.{btfOf};
 ghost use Rattle.chain.specs.Chains as chains;
-ghost use Rattle.chain.specs.Chains.{qualifierOf, nextOf, pathAt, chainIs, kindOnTop};
+ghost use Rattle.chain.specs.Chains.{nextOf, pathAt, chainIs, kindOnTop};
 
 // Whether a kind leads on in a chain; any other is a base.
 fn is_link(kind: u32) -> bool
@@ -84,15 +80,5 @@ pub fn is_qualifier(kind: u32) -> bool
     match kind {
         9..=11 => true,
         _ => false,
-    }
-}
-
-pub fn put_qualifier(text: &mut [u8], at: usize, kind: u32) -> usize
-    ensures { λ r. ⌜ putOut r (now (text .exit)) ≡ putText (now (text .entry)) at (whole (qualifier (qualifierOf kind))) ⌝ }
-{
-    match kind {
-        9 => put_volatile(text, at),
-        10 => put_const(text, at),
-        _ => put_restrict(text, at),
     }
 }

@@ -23,7 +23,7 @@ use Rattle.btf.proofs.Frame.{field-other, count-0, record-same, counted-other, 
 use Rattle.chain.specs.Chains.{nextOf, entryOf, pathAt, chainAt}
 use Rattle.alignments.specs.Once.{Seen as Alignment, Once, found, refused, memoryAfter, memberCount}
 use Rattle.remembered.specs.Words.{coded, counted as visited, remembered, workKeep}
-use Rattle.remembered.proofs.Cycle.{table-keeps}
+use Rattle.remembered.proofs.Keeps.{table-keeps}
 use Rattle.asked.specs.Asked.{packedIn, workAsks}
 use Rattle.asked.proofs.Stays.{Stays, stays-forget, stays-padding, stays-body}
 use Rattle.placing.specs.Steps.{bodyIn}

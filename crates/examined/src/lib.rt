@@ -1,10 +1,10 @@
 // The causes of a refused opening that need no memory: 1 to 4 of the header, 6 to 8 of the references.
 use btf::Btf;
 use followed::has_bad_reference;
-use header::has_bad_header;
-use header::has_bad_strings;
 use loops::has_loop;
 use prototypes::leads_to_proto;
+use sound::has_bad_header;
+use sound::has_bad_strings;
 ghost use mathlib.Core.Path.{_≡_};
 ghost use mathlib.Core.Bool.{not};
 ghost use Rattle.opened.specs.Causes.{cause1, firstOf, early, late, fromSix};

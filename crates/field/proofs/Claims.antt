@@ -21,7 +21,7 @@ use Rattle.turns.specs.declared.Answer.the-variants.{Accepted, Refused}
 use Rattle.turns.specs.declared.Session.{Session}
 use Rattle.turns.specs.Answers.{numberOf, valueOf}
 use Rattle.turns.specs.Turns.{isCurrent, tableFor}
-use Rattle.field.specs.Path.{Shape, plain, through, array, composite, shapeOf, isComposite, behind, Step, stay, enter, field, covers, entered, tried, placed, stepIn, full, onward, pathFrom, someEntry, fieldPath}
+use Rattle.inward.specs.Path.{Shape, plain, through, array, composite, shapeOf, isComposite, behind, Step, stay, enter, field, covers, entered, tried, placed, stepIn, full, onward, pathFrom, someEntry, fieldPath}
 use Rattle.field.specs.Calls.{Found, foundOf, putWords, lentPath, fieldCall}
 use Rattle.field.specs.Leads.{Covers, Uncovered, none, next, Leads}
 use Rattle.field.proofs.Sound.{got-same, then-got, zero-or, Tried, entered-or, tried-is, is-covered, by-composite, is-composite, field-plain, field-composite, first-step, sound}

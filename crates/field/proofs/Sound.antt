@@ -14,7 +14,7 @@ use Rattle.lent.proofs.Laws.{le-or-lt}
 use Rattle.rules.specs.Writer.{Ask, got, no, askThen, checked}
 use Rattle.rules.specs.Types.{Name, Member, BtfType, Void, Int, Ptr, Array, Composite, Enum, Enum64, Fwd, Typedef, Mod, Func, Var, Datasec, FuncProto, Float, DeclTag, TypeTag, Btf}
 use Rattle.rules.specs.Layout.{sizeOf, getSizeOf, endOf}
-use Rattle.field.specs.Path.{Shape, plain, through, array, composite, shapeOf, isComposite, passed, behind, Step, stay, enter, field, covers, entered, tried, placed, stepIn, full, onward, pathFrom, someEntry, fieldPath}
+use Rattle.inward.specs.Path.{Shape, plain, through, array, composite, shapeOf, isComposite, passed, behind, Step, stay, enter, field, covers, entered, tried, placed, stepIn, full, onward, pathFrom, someEntry, fieldPath}
 use Rattle.field.specs.Leads.{Covers, by-size, by-field, First, here, later, Uncovered, none, next, Leads, passes, place, member, bit-field, ends, gap}
 
 -- ---- answers

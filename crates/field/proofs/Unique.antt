@@ -10,7 +10,7 @@ use Rattle.lent.proofs.Laws.{le-or-lt}
 use Rattle.rules.specs.Writer.{Ask, got, no}
 use Rattle.rules.specs.Types.{Member, BtfType, Array, Btf}
 use Rattle.rules.specs.Layout.{getSizeOf}
-use Rattle.field.specs.Path.{Shape, plain, through, array, composite, shapeOf, fieldPath}
+use Rattle.inward.specs.Path.{Shape, plain, through, array, composite, shapeOf, fieldPath}
 use Rattle.field.specs.Leads.{Covers, First, here, later, Uncovered, none, next, Leads, passes, place, member, bit-field, ends, gap}
 use Rattle.field.proofs.Sound.{got-same, sound}
 

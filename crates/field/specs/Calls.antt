@@ -11,7 +11,7 @@ use Rattle.turns.specs.declared.Answer.{Answer}
 use Rattle.turns.specs.declared.Answer.the-variants.{Accepted, Refused}
 use Rattle.turns.specs.declared.Session.{Session}
 use Rattle.turns.specs.Turns.{isCurrent, tableFor}
-use Rattle.field.specs.Path.{fieldPath}
+use Rattle.inward.specs.Path.{fieldPath}
 
 pub record Found : Type 0 where
   pub answer : Answer

@@ -5,7 +5,7 @@ use mathlib.Core.List.{List, [], _∷_}
 use Rattle.rules.specs.Writer.{got}
 use Rattle.rules.specs.Types.{Member, Array, Btf}
 use Rattle.rules.specs.Layout.{getSizeOf}
-use Rattle.field.specs.Path.{plain, through, composite, shapeOf}
+use Rattle.inward.specs.Path.{plain, through, composite, shapeOf}
 
 -- "A member covers the bits of its size or of its field"
 pub data Covers (B : Btf) (m : Member) (bit : ℕ) : Type 0 where

@@ -1,6 +1,5 @@
--- Which field covers a bit of a composite. Path: the walk on the rules' table. Calls: what the call comes to. Leads: what a
--- path says, in the words of the request. Code: what the code's answers say. Samples: a small table.
-pub mod Path
+-- Which field covers a bit of a composite (the walk: Path of `inward`). Calls: what the call comes to. Leads: what a path says, in
+-- the words of the request. Code: what the code's answers say. Samples: a small table.
 pub mod Code
 pub mod Calls
 pub mod Leads

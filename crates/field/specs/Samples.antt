@@ -6,7 +6,7 @@ use mathlib.Core.List.{List, [], _∷_}
 use Rattle.rules.specs.Writer.{Ask, got, no}
 use Rattle.rules.specs.Types.{Member, BtfType, Void, Int, Array, Composite, Typedef, Mod, const, Btf}
 use Rattle.rules.specs.Listed.{listed}
-use Rattle.field.specs.Path.{fieldPath}
+use Rattle.inward.specs.Path.{fieldPath}
 
 abbrev pub member : ℕ → ℕ → Member
 member t offset = record { name = []; type-id = t; bit-offset = offset; bit-size = 0 }

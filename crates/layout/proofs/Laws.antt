@@ -1,15 +1,14 @@
--- What each return of the code comes to: sizes, ends of members, widths of pads. Assumes nothing.
+-- What each return of the code comes to: sizes, ends of members. Assumes nothing.
 use Prim.Native.Nat.{ℕ, suc, _+_, _-_, _*_, _/_, _%_, _<_, _≤_}
 use mathlib.Core.Path.{_≡_, refl, ap, _∙_, sym}
 use mathlib.Core.List.{List}
 use mathlib.Core.Logic.{_⊎_, inl, inr, ⊎-elim}
 use native.Mathlib.Omega.{arith}
-use native.Mathlib.Nat.{mod-zero}
 use borrow.Author.Tests.{lt-ltb, le-ltb, ne-eqb}
 use Rattle.lent.proofs.Laws.{le-or-lt}
 use Rattle.rules.specs.Writer.{Ask, got, no, askThen, checked}
 use Rattle.rules.specs.Types.{BtfType}
-use Rattle.rules.specs.Layout.{octets, sizeOf, getSizeOf, endOf, chipAwayBits}
+use Rattle.rules.specs.Layout.{octets, sizeOf, getSizeOf, endOf}
 use Rattle.btf.specs.declared.types.Btf.{Btf}
 use Rattle.btf.specs.declared.types.BtfType.{BtfType as Record}
 use Rattle.btf.specs.declared.types.BtfMember.{BtfMember}
@@ -168,27 +167,3 @@ module _ (b : Btf) (s w : List ℕ) (m : BtfMember) where
 
     pub end-refused : (c : ℕ) → p ≡ No c → askOf (No c) ≡ endOf (btfOf b s w) (ruleMember b s m)
     end-refused c g = then-no (λ n. checked (m .«bit_offset» + n)) p c g ∙ sym end-plain
-
--- ---- chip_away_bits
-module _ (total at-most : ℕ) where
-  pub chip-none : at-most ≡ 0 → total ≡ chipAwayBits total at-most
-  unfolding chipAwayBits
-  chip-none e = ⊎-elim here there (le-or-lt 1 total)
-    where
-      z : total % at-most ≡ total
-      z = ap (λ (n : ℕ). total % n) e ∙ mod-zero total
-
-      here : 1 ≤ total → total ≡ chipAwayBits total at-most
-      here l = let n : total % at-most ≡ 0 → ⊥ = λ q. let q′ : total ≡ 0 = sym z ∙ q in omega arith in rw (ne-eqb (total % at-most) 0 n, chipAwayBits) (sym z)
-
-      there : total < 1 → total ≡ chipAwayBits total at-most
-      there l = let o : total ≡ 0 = omega arith in rw (z ∙ o, chipAwayBits) (o ∙ sym e)
-
-  module _ (rest : ℕ) (er : rest ≡ total % at-most) where
-    pub chip-whole : rest ≡ 0 → at-most ≡ chipAwayBits total at-most
-    unfolding chipAwayBits
-    chip-whole e = rw (sym er ∙ e, chipAwayBits)
-
-    pub chip-rest : (rest ≡ 0 → ⊥) → rest ≡ chipAwayBits total at-most
-    unfolding chipAwayBits
-    chip-rest n = rw (ne-eqb (total % at-most) 0 (λ q. n (er ∙ q)), chipAwayBits) er

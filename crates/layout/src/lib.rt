@@ -1,7 +1,5 @@
-// Sizes, and where members end; alignments are asked with a memory (crates remembered, asked). `left` is how many more calls may be open.
-
+// Sizes; alignments are asked with a memory (crates remembered, asked). `left` is how many more calls may be open.
 use btf::Btf;
-use btf::BtfMember;
 use btf::array_nelems;
 use btf::array_type;
 use btf::int_bits;
@@ -10,8 +8,8 @@ use btf::type_by_id;
 ghost use mathlib.Core.Path.{_≡_};
 ghost use Prim.Native.Nat.{_*_};
 ghost use Rattle.rules.specs.Writer.{checked, askThen};
-ghost use Rattle.rules.specs.Layout.{octets, getSizeOf, endOf, chipAwayBits};
-ghost use Rattle.btf.specs.Table.{btfOf, ruleMember};
+ghost use Rattle.rules.specs.Layout.{octets, getSizeOf};
+ghost use Rattle.btf.specs.Table.{btfOf};
 ghost use Rattle.layout.specs.Answers.{askOf};
 
 // A value, or the refusal that asking for it meets.
@@ -27,7 +25,7 @@ pub enum Packed {
 }
 
 // A number of 32 bits, or 16.
-fn checked(n: u64) -> Ask
+pub fn checked(n: u64) -> Ask
     ensures { λ r. ⌜ askOf r ≡ checked n ⌝ }
 {
     if n < 4294967296 {
@@ -37,7 +35,7 @@ fn checked(n: u64) -> Ask
     }
 }
 
-fn product(x: u32, y: Ask) -> Ask
+pub fn product(x: u32, y: Ask) -> Ask
     ensures { λ r. ⌜ askOf r ≡ askThen (askOf y) (λ s. checked (x * s)) ⌝ }
 {
     match y {
@@ -88,28 +86,4 @@ pub fn get_size_of(b: Btf, section: &[u8], work: &[u8], id: u32, left: u32) -> A
         }
     }
     Ask::No(12)
-}
-
-// Where the next member may begin.
-pub fn member_end(b: Btf, section: &[u8], work: &[u8], m: BtfMember) -> Ask
-    ensures { λ r. ⌜ askOf r ≡ endOf (btfOf b (now (section .entry)) (now (work .entry))) (ruleMember b (now (section .entry)) m) ⌝ }
-{
-    if m.bit_size != 0 {
-        return checked((m.bit_offset as u64) + (m.bit_size as u64));
-    }
-    match product(8, get_size_of(b, section, work, m.type_id, 512)) {
-        Ask::Got(bits) => checked((m.bit_offset as u64) + (bits as u64)),
-        Ask::No(c) => Ask::No(c),
-    }
-}
-
-// (Of at_most 0 the rest is the total.)
-pub fn chip_away_bits(total: u32, at_most: u32) -> u32
-    ensures { λ r. ⌜ r ≡ chipAwayBits total «at_most» ⌝ }
-{
-    if at_most == 0 {
-        return total;
-    }
-    let rest = total % at_most;
-    if rest == 0 { at_most } else { rest }
 }

@@ -1,4 +1,3 @@
--- Resolve: what is written with a name that was resolved. Spellings: names as they are printed. Forwards: keywords and forwards.
+-- Resolve: what is written with a name that was resolved. Spellings: names as they are printed.
 pub mod Resolve
 pub mod Spellings
-pub mod Forwards

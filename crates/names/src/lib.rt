@@ -1,10 +1,6 @@
-// Names as they are printed, and the words that stand around them.
-mod composite;
+// Names as they are printed.
 mod versions;
 
-pub use composite::emit_composite_fwd;
-pub use composite::emit_fwd_def;
-pub use composite::put_keyword;
 pub use versions::Name;
 pub use versions::bare;
 pub use versions::emit_name;

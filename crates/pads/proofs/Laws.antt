@@ -1,63 +1,21 @@
--- What each return of the code comes to, and how a caller's writer has it. Assumes nothing.
+-- What each return of the code comes to. Assumes nothing.
 use Prim.Native.Nat.{ℕ, _+_, _-_, _*_, _<_, _≤_}
-use mathlib.Core.Path.{_≡_, refl, ap, ap₂, _∙_, sym}
-use mathlib.Core.Bool.{Bool, true, false}
+use mathlib.Core.Path.{_≡_, refl, ap, _∙_, sym}
+use mathlib.Core.Bool.{true}
 use mathlib.Core.List.{List, [], _∷_, _++_}
-use mathlib.Core.Logic.{inl, inr}
 use native.Mathlib.Omega.{arith}
-use borrow.Author.Tests.{lt-ltb, le-ltb, le-leb, lt-leb, ne-eqb}
-use Rattle.text.specs.Text.{Text, whole, cut, isStopped, putOut, putText, ascii, pfx}
+use borrow.Author.Tests.{lt-ltb, le-ltb, ne-eqb}
+use Rattle.text.specs.Text.{whole, isStopped, putOut, putText, ascii, pfx}
 use Rattle.text.specs.Decimal.{decimal}
 use Rattle.text.proofs.TextLaws.{put-seq, put-same, put-empty, put-stopped}
-use Rattle.rules.specs.Writer.{Ask, got, no, askThen, Said, said, put, stop, given}
-use Rattle.rules.specs.Place.{outOf, putSaid}
-use Rattle.rules.specs.Types.{Member, Btf as Rules}
-use Rattle.rules.specs.Layout.{smaller, long, int, short, char, Pad, chipAwayBits, padOf, padsOf, gapPads, padsBefore, getAlignOf, bitPadding}
+use Rattle.rules.specs.Layout.{long, int, short, char, Pad, padOf, padsOf, gapPads}
 use Rattle.rules.specs.Decl.{unitWord, pads}
-use Rattle.rules.proofs.Writing.{text-only}
 use Rattle.btf.specs.declared.types.Btf.{Btf}
 use Rattle.btf.specs.Table.{btfOf}
-use Rattle.layout.specs.declared.Ask.{Ask as Answer}
-use Rattle.layout.specs.declared.Ask.the-variants.{Got, No}
-use Rattle.layout.specs.Answers.{askOf}
-use Rattle.pads.specs.declared.Pad.{Pad as Code}
-use Rattle.pads.specs.Texts.{unitOf, padIs, padLine, gapAlign, padText}
-use Rattle.pads.proofs.Widths.{chip-bits, pad-long, no-long, pad-int, pad-short, pad-char, pad-within, pads-next, pads-none}
-
--- ---- ptr_bits, short_pad, pad_of
-pub bits-few : (p : ℕ) → p < 536870912 → p * 8 ≡ smaller (p * 8) 4294967295
-unfolding smaller
-bits-few p h = let l : p * 8 ≤ 4294967295 = omega arith in rw (le-leb (p * 8) 4294967295 l, smaller)
-
-pub bits-many : (p : ℕ) → 536870912 ≤ p → 4294967295 ≡ smaller (p * 8) 4294967295
-unfolding smaller
-bits-many p h = let l : 4294967295 < p * 8 = omega arith in rw (lt-leb (p * 8) 4294967295 l, smaller)
-
-module _ (gap w : ℕ) where
-  pub is-int : 16 < gap → w ≡ chipAwayBits gap 32 → padIs (record { unit = 2; width = w }) ≡ padOf 0 gap
-  unfolding padIs unitOf
-  is-int h e = (λ i. record { unit = int; width = e i }) ∙ sym (pad-int gap h)
-
-  pub is-short : gap ≤ 16 → 8 < gap → w ≡ chipAwayBits gap 16 → padIs (record { unit = 1; width = w }) ≡ padOf 0 gap
-  unfolding padIs unitOf
-  is-short l h e = (λ i. record { unit = short; width = e i }) ∙ sym (pad-short gap l h)
-
-  pub is-char : gap ≤ 16 → gap ≤ 8 → w ≡ chipAwayBits gap 8 → padIs (record { unit = 0; width = w }) ≡ padOf 0 gap
-  unfolding padIs unitOf
-  is-char l h e = (λ i. record { unit = char; width = e i }) ∙ sym (pad-char gap l h)
-
-pub is-long : (p gap n w : ℕ) → 32 < gap → gap < 4294967296 → 4 < p → n ≡ smaller (p * 8) 4294967295 → w ≡ chipAwayBits gap n → padIs (record { unit = 3; width = w }) ≡ padOf p gap
-unfolding padIs unitOf
-is-long p gap n w h m f en ew =
-    let l : 1 ≤ gap = omega arith in
-    let e : w ≡ chipAwayBits gap (p * 8) = ew ∙ ap (chipAwayBits gap) en ∙ chip-bits p gap l m in
-    (λ i. record { unit = long; width = e i }) ∙ sym (pad-long p gap f h)
-
-pub is-narrow : (p gap : ℕ) (r : Code) → gap ≤ 32 → padIs r ≡ padOf 0 gap → padIs r ≡ padOf p gap
-is-narrow p gap r h e = e ∙ sym (no-long p gap (inr h))
-
-pub is-small : (p gap : ℕ) (r : Code) → p ≤ 4 → padIs r ≡ padOf 0 gap → padIs r ≡ padOf p gap
-is-small p gap r h e = e ∙ sym (no-long p gap (inl h))
+use Rattle.units.specs.declared.Pad.{Pad as Code}
+use Rattle.units.specs.Units.{unitOf, padIs}
+use Rattle.units.proofs.Widths.{pad-within, pads-next, pads-none}
+use Rattle.pads.specs.Texts.{padLine}
 
 -- ---- put_unit
 module _ (unit : ℕ) where
@@ -145,16 +103,6 @@ module _ (ptr-sz bit-size gap a : ℕ) where
   unfolding pads
   put-natural lvl t at e = put-empty t at ∙ ap (λ (ps : List Pad). putText t at (whole (pads lvl ps))) e
 
--- ---- gap_align
-module _ (B : Rules) (id : ℕ) (packed : Bool) where
-  pub align-packed : packed ≡ true → askOf (Got 1) ≡ gapAlign B id packed
-  unfolding askOf gapAlign
-  align-packed e = rw e
-
-  pub align-plain : (r : Answer) → packed ≡ false → askOf r ≡ getAlignOf 512 B id → askOf r ≡ gapAlign B id packed
-  unfolding gapAlign
-  align-plain r e er = rw e er
-
 -- ---- emit_bit_padding
 pub ptr-size : (b : Btf) (s w : List ℕ) → b .«ptr_sz» ≡ btfOf b s w .ptr-sz
 unfolding btfOf
@@ -163,36 +111,3 @@ ptr-size b s w = refl
 pub mode-is : (b : Btf) (s w : List ℕ) → b .placing ≡ btfOf b s w .placing
 unfolding btfOf
 mode-is b s w = refl
-
-module _ (B : Rules) (offset : ℕ) (m : Member) (packed : Bool) (lvl : ℕ) (t : List ℕ) (at : ℕ) where
-  pub emit-none : m .bit-offset ≤ offset → putOut at t ≡ putText t at (padText lvl (bitPadding B offset m packed))
-  unfolding bitPadding padText pads
-  emit-none h = let e : bitPadding B offset m packed ≡ got [] = rw (le-leb (m .bit-offset) offset h, bitPadding) in put-empty t at ∙ sym (ap (λ (x : Ask (List Pad)). putText t at (padText lvl x)) e)
-
-  module _ (h : offset < m .bit-offset) (y : Answer) (ey : askOf y ≡ gapAlign B (m .type-id) packed) where
-    asked : bitPadding B offset m packed ≡ askThen (askOf y) (λ a. got (padsBefore (B .placing) (B .ptr-sz) offset (m .bit-size) (m .bit-offset - offset) a))
-    unfolding bitPadding gapAlign
-    asked = rw (lt-leb (m .bit-offset) offset h, bitPadding) (ap (λ (x : Ask ℕ). askThen x (λ a. got (padsBefore (B .placing) (B .ptr-sz) offset (m .bit-size) (m .bit-offset - offset) a))) (sym ey))
-
-    pub emit-gap : (pl : Bool) (p a r : ℕ) (u : List ℕ) → pl ≡ B .placing → p ≡ B .ptr-sz → y ≡ Got a → putOut r u ≡ putText t at (whole (pads lvl (padsBefore pl p offset (m .bit-size) (m .bit-offset - offset) a))) → putOut r u ≡ putText t at (padText lvl (bitPadding B offset m packed))
-    unfolding padText askThen askOf
-    emit-gap pl p a r u el ep g e =
-        e
-        ∙ ap₂ (λ (l : Bool) (n : ℕ). putText t at (whole (pads lvl (padsBefore l n offset (m .bit-size) (m .bit-offset - offset) a)))) el ep
-        ∙ sym (ap (λ (x : Ask (List Pad)). putText t at (padText lvl x)) (asked ∙ ap (λ (z : Answer). askThen (askOf z) (λ a. got (padsBefore (B .placing) (B .ptr-sz) offset (m .bit-size) (m .bit-offset - offset) a))) g))
-
-    pub emit-refused : (c r : ℕ) (u : List ℕ) → y ≡ No c → putOut r u ≡ putText t at (cut [] c) → putOut r u ≡ putText t at (padText lvl (bitPadding B offset m packed))
-    unfolding padText askThen askOf
-    emit-refused c r u g e =
-        e
-        ∙ sym (ap (λ (x : Ask (List Pad)). putText t at (padText lvl x)) (asked ∙ ap (λ (z : Answer). askThen (askOf z) (λ a. got (padsBefore (B .placing) (B .ptr-sz) offset (m .bit-size) (m .bit-offset - offset) a))) g))
-
--- ---- for a caller: the text is what the rules' writer says
-module _ {U : Type 0} where
-  pub pad-said : (lvl : ℕ) (x : Ask (List Pad)) (u : U) → given x (λ ps. put (pads lvl ps)) u ≡ said u (padText lvl x)
-  unfolding given put stop padText
-  pad-said lvl (got ps) u = refl
-  pad-said lvl (no c) u = refl
-
-  pub put-padding : (t : List ℕ) (at lvl : ℕ) (x : Ask (List Pad)) (u : U) (r : ℕ) (t′ : List ℕ) → putOut r t′ ≡ putText t at (padText lvl x) → outOf r t′ u ≡ putSaid t at (given x (λ ps. put (pads lvl ps)) u)
-  put-padding t at lvl x u r t′ e = text-only t at (padText lvl x) u r t′ e ∙ ap (putSaid t at) (sym (pad-said lvl x u))

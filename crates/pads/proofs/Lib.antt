@@ -1,4 +1,3 @@
--- Widths: the pads of a gap. Laws: what each return of the code comes to, and how a caller's writer has it.
-pub mod Widths
+-- Laws: what each return of the code comes to. Placing: in placing mode.
 pub mod Laws
 pub mod Placing

@@ -1,2 +1,2 @@
--- Texts: what the code's pads stand for, and the text of a gap.
+-- Texts: the text of a pad, and of a line of its own.
 pub mod Texts

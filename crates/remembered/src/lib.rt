@@ -1,30 +1,17 @@
 // Alignments that are remembered in the work. Word 15 of a type is 0, or 16 times the height of the calls of get_align_of and the
 // alignment; word 2 of void counts the visits.
 use btf::Btf;
-use btf::BtfType;
 use btf::Entries;
-use btf::array_type;
-use btf::entries_of;
 use btf::get_field;
-use btf::int_bits;
-use btf::kind_of;
-use btf::member_place;
 use btf::put_field;
-use btf::type_by_id;
-use btf::word;
-use rules::larger;
-use rules::smaller;
 ghost use mathlib.Core.Path.{_≡_};
 ghost use Prim.Native.Nat.{_<_};
-ghost use Rattle.btf.specs.Table.{btfOf};
-ghost use Rattle.btf.specs.Nodes.{memberIds};
-ghost use Rattle.alignments.specs.Once.{alone};
-ghost use Rattle.remembered.specs.Words.{seenIs, seenWord, coded, counted, remembered, takenBy, stepAt, onceOf, heightOf, keptWith, onceWith, idsWith};
+ghost use Rattle.remembered.specs.Words.{seenIs, coded, counted, remembered, onceOf, heightOf, keptWith};
 
 // What is remembered of a type.
 pub struct Seen {
     pub align: u32,
-    height: u32,
+    pub height: u32,
 }
 
 pub enum Once {
@@ -33,19 +20,10 @@ pub enum Once {
 }
 
 // What get_align_of asks of a type: nothing, one other type, or its members.
-enum Step {
+pub enum Step {
     Own(u32),
     Through(u32),
     Members(Entries),
-}
-
-fn seen_word(b: Btf, work: &[u8], id: u32) -> u32
-    ensures { λ r. ⌜ r ≡ seenWord (b .types) (now (work .entry)) id ⌝ }
-{
-    if id < b.types {
-        return get_field(work, id, 15);
-    }
-    0
 }
 
 // The word of what is seen; 0 where it does not fit.
@@ -88,35 +66,8 @@ fn remember(b: Btf, work: &mut [u8], id: u32, v: u32, members: u32)
     put_field(work, id, 15, v);
 }
 
-// A remembered alignment; 12 where the plain way would have more calls open than are left.
-fn taken(v: u32, left: u32) -> Once
-    ensures { λ r. ⌜ r ≡ takenBy v left ⌝ }
-{
-    if left < v / 16 {
-        return Once::No(12);
-    }
-    Once::Found(Seen {
-        align: v % 16,
-        height: v / 16,
-    })
-}
-
-fn step_of(b: Btf, section: &[u8], t: BtfType) -> Step
-    ensures { λ r. ⌜ r ≡ stepAt b (now (section .entry)) t ⌝ }
-{
-    match kind_of(t.info) {
-        1 => Step::Own(smaller(b.ptr_sz, (int_bits(b, section, t) + 7) / 8)),
-        2 => Step::Own(b.ptr_sz),
-        3 => Step::Through(array_type(b, section, t)),
-        4 | 5 => Step::Members(entries_of(t)),
-        6 | 16 | 19 => Step::Own(smaller(b.ptr_sz, t.type_id)),
-        8..=11 | 18 => Step::Through(t.type_id),
-        _ => Step::Own(0),
-    }
-}
-
 // What was found of a type is remembered; of a refused one nothing is.
-fn keep_once(b: Btf, work: &mut [u8], id: u32, r: Once, members: u32) -> Once
+pub fn keep_once(b: Btf, work: &mut [u8], id: u32, r: Once, members: u32) -> Once
     requires { ⌜ heightOf r < 4294967295 ⌝ }
     ensures { λ q. ⌜ onceOf q (now (work .exit)) ≡ keptWith (b .types) id members r (now (work .entry)) ⌝ }
 {
@@ -131,62 +82,4 @@ fn keep_once(b: Btf, work: &mut [u8], id: u32, r: Once, members: u32) -> Once
         }
         Once::No(c) => Once::No(c),
     }
-}
-
-// get_align_of with a memory.
-pub fn align_once(b: Btf, section: &[u8], work: &mut [u8], id: u32, left: u32) -> Once
-    ensures { λ r. ⌜ onceOf r (now (work .exit)) ≡ onceWith (b .types) (btfOf b (now (section .entry)) (now (work .entry))) left id (now (work .entry)) ⌝ }
-{
-    if left == 0 {
-        return Once::No(12);
-    }
-    let v = seen_word(b, work, id);
-    if v != 0 {
-        return taken(v, left);
-    }
-    let t = type_by_id(b, section, work, id);
-    match step_of(b, section, t) {
-        Step::Own(a) => {
-            let r = Once::Found(Seen {
-                align: a,
-                height: 0,
-            });
-            keep_once(b, work, id, r, 0)
-        }
-        Step::Through(x) => {
-            let r = align_once(b, section, work, x, left - 1);
-            keep_once(b, work, id, r, 0)
-        }
-        Step::Members(e) => {
-            let r = members_once(b, section, work, e, left - 1);
-            keep_once(b, work, id, r, e.vlen)
-        }
-    }
-}
-
-// The largest of the members' alignments, at least 1, and the largest of their heights.
-fn members_once(b: Btf, section: &[u8], work: &mut [u8], members: Entries, left: u32) -> Once
-    ensures { λ r. ⌜ onceOf r (now (work .exit)) ≡ idsWith (b .types) (btfOf b (now (section .entry)) (now (work .entry))) left (alone 1) (memberIds b (now (section .entry)) members) (now (work .entry)) ⌝ }
-{
-    let vlen = members.vlen;
-    let mut align: u32 = 1;
-    let mut height: u32 = 0;
-    let mut k: u32 = 0;
-    while k < vlen {
-        let x = word(b, section, member_place(members, k) + 4);
-        match align_once(b, section, work, x, left) {
-            Once::Found(s) => {
-                align = larger(align, s.align);
-                height = larger(height, s.height);
-            }
-            Once::No(c) => {
-                return Once::No(c);
-            }
-        }
-        k += 1;
-    }
-    Once::Found(Seen {
-        align: align,
-        height: height,
-    })
 }

@@ -1,3 +1,2 @@
--- Laws of numbers that have a sign, and samples of their texts.
-pub mod Laws
+-- Samples of the texts of numbers that have a sign.
 pub mod Samples

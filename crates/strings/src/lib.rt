@@ -2,15 +2,13 @@
 use btf::Btf;
 use btf::BtfType;
 use btf::kind_of;
-use text::put_byte;
-use text::put_two;
 ghost use mathlib.Core.Path.{_≡_};
 ghost use Prim.Native.Nat.{_≤_, _-_};
 ghost use lib.ListN.{length, take, drop};
 ghost use Rattle.text.specs.Text.{whole, putOut, putText};
 ghost use Rattle.rules.specs.Types.{isEmpty, isNamed};
 ghost use Rattle.rules.specs.Names as rules;
-ghost use Rattle.rules.specs.Names.{startsWith, builtin, escapedByte, escaped};
+ghost use Rattle.rules.specs.Names.{startsWith, builtin};
 ghost use Rattle.btf.specs.Names.{nameAt, namePlace, strAt};
 ghost use Rattle.btf.specs.Table.{typeOf};
 
@@ -122,33 +120,6 @@ pub fn is_builtin(b: Btf, section: &[u8], off: u32) -> bool
     ensures { λ r. ⌜ r ≡ builtin (strAt b (now (section .entry)) off) ⌝ }
 {
     contains(get_btf_str(b, section, off), b"__builtin_va_list")
-}
-
-// One byte of c_str_escape.
-fn put_escaped_byte(text: &mut [u8], at: usize, c: u8) -> usize
-    ensures { λ r. ⌜ putOut r (now (text .exit)) ≡ putText (now (text .entry)) at (whole (escapedByte c)) ⌝ }
-{
-    match c {
-        92 => put_two(text, at, b'\\', b'\\'),
-        34 => put_two(text, at, b'\\', b'"'),
-        10 => put_two(text, at, b'\\', b'n'),
-        13 => put_two(text, at, b'\\', b'r'),
-        9 => put_two(text, at, b'\\', b't'),
-        _ => put_byte(text, at, c),
-    }
-}
-
-// c_str_escape: a name as it stands in a C string literal.
-pub fn put_escaped(text: &mut [u8], at: usize, name: &[u8]) -> usize
-    ensures { λ r. ⌜ putOut r (now (text .exit)) ≡ putText (now (text .entry)) at (whole (escaped (now (name .entry)))) ⌝ }
-{
-    let mut p = at;
-    let mut i = 0;
-    while i < name.len() {
-        p = put_escaped_byte(text, p, name[i]);
-        i += 1;
-    }
-    p
 }
 
 // Whether BtfType::name() is not empty: some kinds have none.

@@ -4,7 +4,7 @@ use Rattle.asked.proofs.alignment.Statement.{statement}
 use Rattle.asked.proofs.alignment.Tie as tie
 use Rattle.asked.proofs.alignment.Reads as reads
 use Rattle.asked.proofs.alignment.Lts as lts
-use Rattle.remembered.proofs.align_once.Reads as align-once-reads
+use Rattle.recalled.proofs.align_once.Reads as align-once-reads
 
 -- src/lib.rt:23:11
 align-once-requires : tie.Need-align-once-requires

@@ -4,8 +4,8 @@ use Rattle.cutcall.proofs.is_sound.Statement.{statement}
 use Rattle.cutcall.proofs.is_sound.Tie as tie
 use Rattle.cutcall.proofs.is_sound.Reads as reads
 use Rattle.cutcall.proofs.is_sound.Lts as lts
-use Rattle.header.proofs.has_bad_header.Reads as has-bad-header-reads
-use Rattle.header.proofs.has_bad_strings.Reads as has-bad-strings-reads
+use Rattle.sound.proofs.has_bad_header.Reads as has-bad-header-reads
+use Rattle.sound.proofs.has_bad_strings.Reads as has-bad-strings-reads
 
 -- src/lib.rt:40:9
 returns : tie.Need-returns

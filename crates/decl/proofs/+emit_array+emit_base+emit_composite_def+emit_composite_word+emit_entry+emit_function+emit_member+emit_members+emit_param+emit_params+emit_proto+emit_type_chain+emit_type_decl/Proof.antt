@@ -75,9 +75,9 @@ use Rattle.btf.proofs.word.Reads as word-reads
 use Rattle.chain.proofs.chain_len.Reads as chain-len-reads
 use Rattle.chain.proofs.kind_on_top.Reads as kind-on-top-reads
 use Rattle.chain.proofs.path_at.Reads as path-at-reads
-use Rattle.chain.proofs.put_qualifier.Reads as put-qualifier-reads
-use Rattle.chain.proofs.emit_mods.Reads as emit-mods-reads
-use Rattle.chain.proofs.skip_mods.Reads as skip-mods-reads
+use Rattle.mods.proofs.put_qualifier.Reads as put-qualifier-reads
+use Rattle.mods.proofs.emit_mods.Reads as emit-mods-reads
+use Rattle.mods.proofs.skip_mods.Reads as skip-mods-reads
 use Rattle.bodies.proofs.emit_composite_end.Reads as emit-composite-end-reads
 use Rattle.bodies.proofs.emit_composite_head.Reads as emit-composite-head-reads
 use Rattle.bodies.proofs.emit_enum64_word.Reads as emit-enum64-word-reads
@@ -95,7 +95,7 @@ use Rattle.bodies.proofs.put_gap.Reads as put-gap-reads
 use Rattle.bodies.proofs.put_open.Reads as put-open-reads
 use Rattle.bodies.proofs.put_star.Reads as put-star-reads
 use Rattle.bodies.proofs.put_type_tag.Reads as put-type-tag-reads
-use Rattle.enums.proofs.deeper.Reads as deeper-reads
+use Rattle.enumerators.proofs.deeper.Reads as deeper-reads
 use Rattle.placing.proofs.body_packed.Reads as body-packed-reads
 use Rattle.text.proofs.put_byte.Reads as put-byte-reads
 use Rattle.fixed.proofs.put_dots.Reads as put-dots-reads
@@ -104,8 +104,8 @@ use Rattle.fixed.proofs.put_void.Reads as put-void-reads
 use Rattle.text.proofs.put_tabs.Reads as put-tabs-reads
 use Rattle.text.proofs.stop.Reads as stop-reads
 use Rattle.text.proofs.stopped.Reads as stopped-reads
-use Rattle.names.proofs.emit_composite_fwd.Reads as emit-composite-fwd-reads
-use Rattle.names.proofs.emit_fwd_def.Reads as emit-fwd-def-reads
+use Rattle.forwards.proofs.emit_composite_fwd.Reads as emit-composite-fwd-reads
+use Rattle.forwards.proofs.emit_fwd_def.Reads as emit-fwd-def-reads
 use Rattle.names.proofs.bare.Reads as bare-reads
 use Rattle.names.proofs.emit_name.Reads as emit-name-reads
 use Rattle.padding.proofs.emit_bit_padding.Reads as emit-bit-padding-reads

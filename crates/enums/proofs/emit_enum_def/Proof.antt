@@ -1,4 +1,4 @@
-use Rattle.enums.proofs.Definitions.{def-builtin, def-none, def-some}
+use Rattle.enumerators.proofs.Definitions.{def-builtin, def-none, def-some}
 use Rattle.btf.specs.declared.types.Entries.{Entries}
 use mathlib.Core.Path.{ap, sym, _∙_}
 use borrow.Author.Needs.{needs}
@@ -8,9 +8,9 @@ use Rattle.enums.proofs.emit_enum_def.Reads as reads
 use Rattle.enums.proofs.emit_enum_def.Lts as lts
 use Rattle.strings.proofs.is_builtin.Reads as is-builtin-reads
 use Rattle.btf.proofs.entries_of.Reads as entries-of-reads
-use Rattle.enums.proofs.deeper.Reads as deeper-reads
-use Rattle.enums.proofs.emit_enum_end.Reads as emit-enum-end-reads
-use Rattle.enums.proofs.emit_enum_head.Reads as emit-enum-head-reads
+use Rattle.enumerators.proofs.deeper.Reads as deeper-reads
+use Rattle.enumerators.proofs.emit_enum_end.Reads as emit-enum-end-reads
+use Rattle.enumerators.proofs.emit_enum_head.Reads as emit-enum-head-reads
 use Rattle.enums.proofs.emit_values.Reads as emit-values-reads
 use Rattle.text.proofs.put_two.Reads as put-two-reads
 

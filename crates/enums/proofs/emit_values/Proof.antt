@@ -1,4 +1,5 @@
-use Rattle.enums.proofs.Values.{ValuesLeft, values-start, values-turn, values-end, value-name, value-bits, put-flag, subst-below, subst-above}
+use Rattle.enumerators.proofs.Values.{ValuesLeft, values-start, values-turn, values-end, put-flag, subst-below, subst-above}
+use Rattle.enums.proofs.Numbers.{value-name, value-bits}
 use Rattle.btf.specs.Table.{btfOf, valueOf}
 use Rattle.btf.specs.Records.{vlenOf, flagOf}
 use Rattle.btf.specs.declared.types.Entries.{Entries}
@@ -19,8 +20,8 @@ use Rattle.btf.proofs.kind_flag_of.Reads as kind-flag-of-reads
 use Rattle.btf.proofs.load_enum_value.Reads as load-enum-value-reads
 use Rattle.btf.proofs.param_place.Reads as param-place-reads
 use Rattle.btf.proofs.word.Reads as word-reads
-use Rattle.enums.proofs.emit_enumerator.Reads as emit-enumerator-reads
-use Rattle.enums.proofs.nth.Reads as nth-reads
+use Rattle.enumerators.proofs.emit_enumerator.Reads as emit-enumerator-reads
+use Rattle.enumerators.proofs.nth.Reads as nth-reads
 use Rattle.enums.proofs.put_value.Reads as put-value-reads
 use Rattle.text.proofs.put_byte.Reads as put-byte-reads
 

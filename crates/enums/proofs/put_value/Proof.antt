@@ -1,12 +1,12 @@
-use Rattle.enums.proofs.Values.{put-signed, put-plain}
+use Rattle.enums.proofs.Numbers.{put-signed, put-plain}
 use borrow.Author.Needs.{needs}
 use Rattle.enums.proofs.put_value.Statement.{statement}
 use Rattle.enums.proofs.put_value.Tie as tie
 use Rattle.enums.proofs.put_value.Reads as reads
 use Rattle.enums.proofs.put_value.Lts as lts
 use Rattle.text.proofs.put_decimal.Reads as put-decimal-reads
-use Rattle.signed.proofs.as_i32.Reads as as-i32-reads
-use Rattle.signed.proofs.put_i32.Reads as put-i32-reads
+use Rattle.signs.proofs.as_i32.Reads as as-i32-reads
+use Rattle.signs.proofs.put_i32.Reads as put-i32-reads
 
 as-i32-requires : tie.Need-as-i32-requires
 as-i32-requires c κs = search needs

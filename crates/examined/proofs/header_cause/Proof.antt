@@ -5,8 +5,8 @@ use Rattle.examined.proofs.header_cause.Statement.{statement}
 use Rattle.examined.proofs.header_cause.Tie as tie
 use Rattle.examined.proofs.header_cause.Reads as reads
 use Rattle.examined.proofs.header_cause.Lts as lts
-use Rattle.header.proofs.has_bad_header.Reads as has-bad-header-reads
-use Rattle.header.proofs.has_bad_strings.Reads as has-bad-strings-reads
+use Rattle.sound.proofs.has_bad_header.Reads as has-bad-header-reads
+use Rattle.sound.proofs.has_bad_strings.Reads as has-bad-strings-reads
 use Rattle.examined.proofs.is_pointer_size.Reads as is-pointer-size-reads
 
 is-pointer-size-requires : tie.Need-is-pointer-size-requires

@@ -8,8 +8,8 @@ use Rattle.field.proofs.walk.Reads as walk
 use Rattle.field.proofs.walk.Kinds as walk-kinds
 use Rattle.field.proofs.+walk.Lts-walk as walk-lts
 use Rattle.field.proofs.behind.Reads as behind-reads
-use Rattle.field.proofs.entry_before.Reads as entry-before-reads
-use Rattle.field.proofs.next_step.Reads as next-step-reads
+use Rattle.inward.proofs.entry_before.Reads as entry-before-reads
+use Rattle.inward.proofs.next_step.Reads as next-step-reads
 use Rattle.field.proofs.+walk.{statement}
 use Rattle.field.proofs.+walk.Tie.{close}
 

@@ -9,9 +9,9 @@ use Rattle.btf.proofs.kind_flag_of.Reads as kind-flag-of-reads
 use Rattle.btf.proofs.kind_of.Reads as kind-of-reads
 use Rattle.decl.proofs.emit_composite_def.Reads as emit-composite-def-reads
 use Rattle.lines.proofs.put_line_end.Reads as put-line-end-reads
-use Rattle.enums.proofs.emit_enum64_def.Reads as emit-enum64-def-reads
+use Rattle.enums64.proofs.emit_enum64_def.Reads as emit-enum64-def-reads
 use Rattle.enums.proofs.emit_enum_def.Reads as emit-enum-def-reads
-use Rattle.names.proofs.emit_fwd_def.Reads as emit-fwd-def-reads
+use Rattle.forwards.proofs.emit_fwd_def.Reads as emit-fwd-def-reads
 
 kind-of-requires : tie.Need-kind-of-requires
 kind-of-requires c κs = tt

@@ -11,7 +11,7 @@ use Rattle.btf.proofs.is_struct.Reads as is-struct-reads
 use Rattle.btf.proofs.kind_of.Reads as kind-of-reads
 use Rattle.typedefs.proofs.emit_typedef_def.Reads as emit-typedef-def-reads
 use Rattle.lines.proofs.put_line_end.Reads as put-line-end-reads
-use Rattle.names.proofs.emit_composite_fwd.Reads as emit-composite-fwd-reads
+use Rattle.forwards.proofs.emit_composite_fwd.Reads as emit-composite-fwd-reads
 
 is-builtin-requires : tie.Need-is-builtin-requires
 is-builtin-requires c κs = tt

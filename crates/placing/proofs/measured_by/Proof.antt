@@ -6,8 +6,8 @@ use Rattle.placing.proofs.measured_by.Tie as tie
 use Rattle.placing.proofs.measured_by.Reads as reads
 use Rattle.placing.proofs.measured_by.Lts as lts
 use Rattle.asked.proofs.is_packed.Reads as is-packed-reads
-use Rattle.placing.proofs.extent_of.Reads as extent-of-reads
-use Rattle.placing.proofs.judged.Reads as judged-reads
+use Rattle.extents.proofs.extent_of.Reads as extent-of-reads
+use Rattle.extents.proofs.judged.Reads as judged-reads
 
 -- src/lib.rt:213:11
 is-packed-requires : tie.Need-is-packed-requires

@@ -6,8 +6,8 @@ use Rattle.bodies.proofs.bodies.emit_enum64_word.Tie as tie
 use Rattle.bodies.proofs.bodies.emit_enum64_word.Reads as reads
 use Rattle.bodies.proofs.bodies.emit_enum64_word.Lts as lts
 use Rattle.strings.proofs.is_empty.Reads as is-empty-reads
-use Rattle.enums.proofs.emit_enum64_def.Reads as emit-enum64-def-reads
-use Rattle.enums.proofs.put_enum_name.Reads as put-enum-name-reads
+use Rattle.enums64.proofs.emit_enum64_def.Reads as emit-enum64-def-reads
+use Rattle.enumerators.proofs.put_enum_name.Reads as put-enum-name-reads
 
 is-empty-requires : tie.Need-is-empty-requires
 is-empty-requires c κs = search needs

@@ -7,7 +7,7 @@ use Rattle.bodies.proofs.bodies.emit_enum_word.Reads as reads
 use Rattle.bodies.proofs.bodies.emit_enum_word.Lts as lts
 use Rattle.strings.proofs.is_empty.Reads as is-empty-reads
 use Rattle.enums.proofs.emit_enum_def.Reads as emit-enum-def-reads
-use Rattle.enums.proofs.put_enum_name.Reads as put-enum-name-reads
+use Rattle.enumerators.proofs.put_enum_name.Reads as put-enum-name-reads
 
 is-empty-requires : tie.Need-is-empty-requires
 is-empty-requires c κs = search needs

@@ -1,0 +1,44 @@
+use Rattle.text.proofs.TextLaws.{put-seq}
+use Rattle.enumerators.proofs.Definitions.{word-put}
+use borrow.Author.Needs.{needs}
+use Rattle.enumerators.proofs.put_enum_name.Statement.{statement}
+use Rattle.enumerators.proofs.put_enum_name.Tie as tie
+use Rattle.enumerators.proofs.put_enum_name.Reads as reads
+use Rattle.enumerators.proofs.put_enum_name.Lts as lts
+use Rattle.fixed.proofs.put_enum.Reads as put-enum-reads
+use Rattle.text.proofs.put_byte.Reads as put-byte-reads
+use Rattle.names.proofs.put_name.Reads as put-name-reads
+use Rattle.names.proofs.resolve_type_name.Reads as resolve-type-name-reads
+
+resolve-type-name-requires : tie.Need-resolve-type-name-requires
+resolve-type-name-requires c κs = search needs
+
+put-enum-requires : tie.Need-put-enum-requires
+put-enum-requires c κs = search needs
+
+put-byte-requires : tie.Need-put-byte-requires
+put-byte-requires c κs = search needs
+
+put-name-requires : tie.Need-put-name-requires
+put-name-requires c κs = search needs
+
+same-length : tie.Need-same-length
+same-length c = search needs
+
+same-length-2 : tie.Need-same-length-2
+same-length-2 c = search needs
+
+returns : tie.Need-returns
+returns c = word-put (c .before .before .before .before .before .before .before .before .before .before .before .before .before .before .before .before .before .before .before .args .b) _ _ _ _ _ _ _ _ _ _ _ (c .before .before .before .before .before .before .before .before .before .before .before .before .before .before .resolve-type-name .ensures .1) _ (put-seq _ _ _ _ _ _ _ _ (c .before .before .before .before .before .before .before .before .before .before .put-enum .ensures) (c .before .before .before .before .before .before .put-byte .ensures)) (c .before .before .put-name .ensures)
+
+pub put-enum-name-spec : {M : Type 1} → statement M
+put-enum-name-spec =
+    tie.close
+    (tie.spec
+    resolve-type-name-requires
+    put-enum-requires
+    put-byte-requires
+    put-name-requires
+    same-length
+    same-length-2
+    returns)
