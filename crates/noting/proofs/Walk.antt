@@ -1,5 +1,5 @@
 -- The walk of emission with entries, an id that is not emitted yet: what each return comes to. Assumes nothing.
-use Prim.Native.Nat.{ℕ, _-_}
+use Prim.Native.Nat.{ℕ, _+_, _-_, _*_, _<_}
 use mathlib.Core.Path.{_≡_, refl, ap, _∙_, sym, subst}
 use mathlib.Core.List.{List}
 use mathlib.Core.Bool.{Bool, true, false, not, _&&_, _||_, true≢false}
@@ -27,6 +27,25 @@ use Rattle.noted.proofs.Frame.{Stays, stays-then, table-each}
 use Rattle.noted.proofs.Laws.{withN, obind-then, obind-wrote, obind-same, then, work-sheet, same-table, entry-stays, called-stays}
 use Rattle.noted.proofs.Walk.{once-fwd, once-alias, zero-is}
 use Rattle.alone.specs.Alone.{typedefN, mentionedN, endedN}
+
+-- ---- the measures: a call's is below its caller's
+pub to-composite-members : (l t : ℕ) → 4 * l + 2 ≡ t → 4 * l + 1 < t
+to-composite-members l t e = omega arith
+
+pub to-new-params : (l t : ℕ) → 4 * l + 3 ≡ t → 4 * l + 1 < t
+to-new-params l t e = omega arith
+
+pub to-new-composite : (l t : ℕ) → 4 * l + 3 ≡ t → 4 * l + 2 < t
+to-new-composite l t e = omega arith
+
+pub to-new-noted : (l t : ℕ) → 4 * l + 3 ≡ t → 4 * l < t
+to-new-noted l t e = omega arith
+
+pub to-loop-noted : (l t : ℕ) → 4 * l + 1 ≡ t → 4 * l < t
+to-loop-noted l t e = omega arith
+
+pub to-noted-new : (l t : ℕ) → 4 * l ≡ t → (l ≡ 0 → ⊥) → 4 * (l - 1) + 3 < t
+to-noted-new l t e z = omega arith
 
 -- ---- emit_new
 module _ (b : Btf) (s : List ℕ) (room : ℕ) (why : ℕ → Entry) (n : ℕ) (p : Pen) (tx w li : List ℕ) (id cont left : ℕ) (t : Record) (et : t ≡ recordById b s w id) (nd : Code) (en : nodeIs b s nd ≡ nodeOf (typeOf b s t)) (x : Out (Noted Sheet)) where

@@ -9,7 +9,7 @@ use Rattle.reasons.proofs.dump_noted.Lts as lts
 use Rattle.leading.proofs.order_led.Reads as order-led-reads
 use Rattle.reasons.proofs.clear_list.Reads as clear-list-reads
 use Rattle.reasons.proofs.emit_listed.Reads as emit-listed-reads
-use Rattle.reasons.proofs.stop_at.Reads as stop-at-reads
+use Rattle.alone.proofs.stop_at.Reads as stop-at-reads
 
 slice-aggregate-order-led : tie.Need-slice-aggregate-order-led
 slice-aggregate-order-led c = sym (length-replicate {A = ℕ} 262145 0)
