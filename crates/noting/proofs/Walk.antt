@@ -172,7 +172,6 @@ module _ (b : Btf) (s : List ℕ) (room : ℕ) (why : ℕ → Entry) (n : ℕ) (
     members-stay c a t₂ w₂ l₂ e = subst (Stays (btfOf b s) w₁) (sym e)
         (stays-then (btfOf b s) w₁ (notedOut n p tx w₁ li) (λ m. eeach (emitN b (btfOf b s w₁) room why left c) ms m) (entry-stays b s (btfOf b s) n p tx w₁ li) (λ m. table-each b s (btfOf b s w₁) room why left c ms m))
 
-
     -- the members within c, and what ends the composite
     abbrev thenEnds : ℕ → Bool → BtfType → Noted Sheet → Out (Noted Sheet)
     thenEnds c f y m = obind (eeach (emitN b Bc room why left c) ms (withN m (putField (m .mach .work) id 13 1))) (λ m′. endedN b Bc room f y (why id) m′ id)
