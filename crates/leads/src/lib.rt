@@ -5,7 +5,6 @@ use marks::get_order_state;
 use marks::strong;
 ghost use mathlib.Core.Path.{_≡_};
 ghost use Rattle.rules.specs.Order.{ok, bind, finish as finishOf};
-ghost use Rattle.causes.specs.Causes.{Entry};
 ghost use Rattle.leads.specs.Leads.{ledTwo, insideOf, wordAt, isNoted, noteIn, noteIf, leaderIn, keptStore, keptOut, aliasKept};
 
 // The innermost composite or typedef that is being ordered, and the leader of that one; both are the requested id where

@@ -4,7 +4,7 @@ use mathlib.Core.Path.{_≡_, refl, ap, _∙_, sym, subst}
 use mathlib.Core.List.{List, []}
 use mathlib.Core.Bool.{Bool, true, false}
 use native.Mathlib.Omega.{arith}
-use lib.ListN.{length}
+use lib.ListN.{length, replicate}
 use Rattle.text.specs.Text.{Text, cut, bytes, stopped, putOut, written, putText}
 use Rattle.text.proofs.TextLaws.{put-fits, stays}
 use Rattle.rules.specs.Order.{Res, ok, refused, bind}
@@ -67,17 +67,22 @@ module _ (b : Btf) (s : List ℕ) (room : ℕ) (why : ℕ → Entry) (w₀ : Lis
         ∙ at-sheet n p₀ tx₀ w₀ l₀ (λ m. eeach (emitN b (btfOf b s w₀) room why 512 0) (from (places w₀) 0 n) m) (λ m. eeach (emitN b (btfOf b s w₀) room why 512 0) (sheetStore .list (m .mach)) m) (λ _. refl)
 
 -- ---- dump_noted
+-- the array, as the code makes it
+pub made : replicate 262145 0 ≡ noLeads
+unfolding noLeads
+made = refl
+
 abbrev begin : Order
 begin = record { spare = 0; len = 0; stop = 0; «is_strong» = false }
 
-module _ (b : Btf) (s : List ℕ) (room : ℕ) (p : Pen) (tx w li : List ℕ) (id : ℕ) (o : Order) (w₁ l₁ : List ℕ)
-    (e : keptOut o w₁ l₁ ≡ bind (keptOut begin w noLeads) (λ m _. orderKept (wayTo id) 512 (tableIn b s w) m id false)) where
+module _ (b : Btf) (s : List ℕ) (room : ℕ) (p : Pen) (tx w li : List ℕ) (id : ℕ) (o : Order) (w₁ l₁ : List ℕ) (l₀ : List ℕ) (z₀ : l₀ ≡ noLeads)
+    (e : keptOut o w₁ l₁ ≡ bind (keptOut begin w l₀) (λ m _. orderKept (wayTo id) 512 (tableIn b s w) m id false)) where
   abbrev X : Rules
   X = btfOf b s w
 
   order-is : keptOut o w₁ l₁ ≡ orderedKept X (sheet 0 (p .at) tx w) id
   unfolding orderedKept
-  order-is = e ∙ kept.run begin w noLeads (λ m _. orderKept (wayTo id) 512 (tableIn b s w) m id false) refl
+  order-is = e ∙ ap (λ (l : List ℕ). bind (keptOut begin w l) (λ m _. orderKept (wayTo id) 512 (tableIn b s w) m id false)) z₀ ∙ kept.run begin w noLeads (λ m _. orderKept (wayTo id) 512 (tableIn b s w) m id false) refl
 
   abbrev dumps : Noted Sheet → Out (Noted Sheet)
   dumps m = dumpedKept b X room m id

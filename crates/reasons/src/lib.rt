@@ -1,4 +1,5 @@
 // One request with an entry for each line: ordering, then the lines of the listed ids, from the list's first to its last.
+use alone::stop_at;
 use btf::Btf;
 use leading::order_led;
 use leads::Way;
@@ -8,10 +9,7 @@ use marks::get_listed;
 use noted::Asked;
 use noted::Pen;
 use noting::emit_noted;
-use text::stop;
 ghost use mathlib.Core.Path.{_≡_};
-ghost use mathlib.Core.List.{[]};
-ghost use Rattle.text.specs.Text.{cut, putOut, putText};
 ghost use Rattle.rules.specs.Machine.{obind, eeach};
 ghost use Rattle.btf.specs.Table.{btfOf};
 ghost use Rattle.sheet.specs.Sheet.{sheetStore, emptied};
@@ -52,16 +50,6 @@ fn clear_list(work: &mut [u8], n: u32)
     while k < n {
         clear_listed(work, k);
         k += 1;
-    }
-}
-
-// Stopped by a refusal.
-fn stop_at(text: &[u8], p: Pen, c: u32) -> Pen
-    ensures { λ r. ⌜ putOut (r .at) (now (text .entry)) ≡ putText (now (text .entry)) (p .at) (cut [] c) ⌝ }
-{
-    Pen {
-        at: stop(text, p.at, c),
-        count: p.count,
     }
 }
 

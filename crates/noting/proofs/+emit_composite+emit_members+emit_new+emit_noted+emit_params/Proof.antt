@@ -7,6 +7,7 @@ use Rattle.btf.specs.Records.{sectionWord, memberAt, paramAt}
 use Rattle.marks.proofs.Laws as plainly
 use Rattle.noted.proofs.Laws as laws
 use Rattle.noted.proofs.Walk as walk
+use Rattle.noting.proofs.Walk as new
 use borrow.Author.Needs.{needs}
 use native.Mathlib.Omega.{arith}
 use Prim.Native.Nat.{ℕ, zero-le, _<_, _≤_, _+_, _-_, _*_, _/_}
@@ -32,17 +33,15 @@ use Rattle.btf.proofs.member_place.Reads as member-place-reads
 use Rattle.btf.proofs.param_place.Reads as param-place-reads
 use Rattle.btf.proofs.type_by_id.Reads as type-by-id-reads
 use Rattle.btf.proofs.word.Reads as word-reads
-use Rattle.noted.proofs.cause_at.Reads as cause-at-reads
-use Rattle.noted.proofs.define.Reads as define-reads
-use Rattle.noted.proofs.listed_cause.Reads as listed-cause-reads
-use Rattle.noting.proofs.emit_again.Reads as emit-again-reads
-use Rattle.noting.proofs.emit_leaf.Reads as emit-leaf-reads
-use Rattle.noting.proofs.emit_mention.Reads as emit-mention-reads
-use Rattle.noting.proofs.emit_once.Reads as emit-once-reads
-use Rattle.noting.proofs.get_emit_state.Reads as get-emit-state-reads
-use Rattle.noting.proofs.inner.Reads as inner-reads
-use Rattle.noting.proofs.set_emit_state.Reads as set-emit-state-reads
-use Rattle.noting.proofs.stop_at.Reads as stop-at-reads
+use Rattle.alone.proofs.emit_again.Reads as emit-again-reads
+use Rattle.alone.proofs.emit_leaf.Reads as emit-leaf-reads
+use Rattle.alone.proofs.get_emit_state.Reads as get-emit-state-reads
+use Rattle.alone.proofs.inner.Reads as inner-reads
+use Rattle.alone.proofs.set_emit_state.Reads as set-emit-state-reads
+use Rattle.alone.proofs.stop_at.Reads as stop-at-reads
+use Rattle.alone.proofs.end_composite.Reads as end-composite-reads
+use Rattle.alone.proofs.end_typedef.Reads as end-typedef-reads
+use Rattle.alone.proofs.mention_composite.Reads as mention-composite-reads
 use Rattle.strings.proofs.is_named.Reads as is-named-reads
 use Rattle.text.proofs.stopped.Reads as stopped-reads
 use Rattle.noting.proofs.+emit_composite+emit_members+emit_new+emit_noted+emit_params.{
@@ -122,18 +121,16 @@ abbrev emit-composite-claims : ℕ → emit-composite-lts.Claims
 emit-composite-claims t = (
   is-named-reads.Asked,
   is-named-reads.Learnt,
+  mention-composite-reads.Asked,
+  mention-composite-reads.Learnt,
   set-emit-state-reads.Asked,
   set-emit-state-reads.Learnt,
   inner-reads.Asked,
   inner-reads.Learnt,
   emit-members-below t,
   emit-members.Post,
-  listed-cause-reads.Asked,
-  listed-cause-reads.Learnt,
-  define-reads.Asked,
-  define-reads.Learnt,
-  emit-mention-reads.Asked,
-  emit-mention-reads.Learnt,
+  end-composite-reads.Asked,
+  end-composite-reads.Learnt,
 )
 
 abbrev emit-members-claims : ℕ → emit-members-lts.Claims
@@ -156,10 +153,8 @@ emit-new-claims t = (
   emit-noted.Post,
   set-emit-state-reads.Asked,
   set-emit-state-reads.Learnt,
-  cause-at-reads.Asked,
-  cause-at-reads.Learnt,
-  emit-once-reads.Asked,
-  emit-once-reads.Learnt,
+  end-typedef-reads.Asked,
+  end-typedef-reads.Learnt,
   emit-params-below t,
   emit-params.Post,
   emit-composite-below t,
@@ -195,121 +190,46 @@ emit-params-claims t = (
 )
 
 emit-composite-is-named-requires : (t : ℕ) → emit-composite-lts.Need-is-named-requires (emit-composite-claims t) (emit-composite-at t) emit-composite.Post
-emit-composite-is-named-requires t c κs = search needs
+emit-composite-is-named-requires t c κs = tt
 
-emit-composite-set-emit-state-requires : (t : ℕ) → emit-composite-lts.Need-set-emit-state-requires (emit-composite-claims t) (emit-composite-at t) emit-composite.Post
-emit-composite-set-emit-state-requires t c κs = search needs
-
-emit-composite-inner-requires : (t : ℕ) → emit-composite-lts.Need-inner-requires (emit-composite-claims t) (emit-composite-at t) emit-composite.Post
-emit-composite-inner-requires t c κs = search needs
-
-emit-composite-emit-members-requires : (t : ℕ) → emit-composite-lts.Need-emit-members-requires (emit-composite-claims t) (emit-composite-at t) emit-composite.Post
-emit-composite-emit-members-requires t c κs = (omega arith, tt)
-
-emit-composite-listed-cause-requires : (t : ℕ) → emit-composite-lts.Need-listed-cause-requires (emit-composite-claims t) (emit-composite-at t) emit-composite.Post
-emit-composite-listed-cause-requires t c κs = search needs
-
-emit-composite-define-requires : (t : ℕ) → emit-composite-lts.Need-define-requires (emit-composite-claims t) (emit-composite-at t) emit-composite.Post
-emit-composite-define-requires t c κs = search needs
-
-emit-composite-set-emit-state-requires-2 :
-    (t : ℕ) → emit-composite-lts.Need-set-emit-state-requires-2 (
-      is-named-reads.Asked,
-      is-named-reads.Learnt,
-      set-emit-state-reads.Asked,
-      set-emit-state-reads.Learnt,
-      inner-reads.Asked,
-      inner-reads.Learnt,
-      emit-members-below t,
-      emit-members.Post,
-      listed-cause-reads.Asked,
-      listed-cause-reads.Learnt,
-      define-reads.Asked,
-      define-reads.Learnt,
-      emit-mention-reads.Asked,
-      emit-mention-reads.Learnt,
-    ) (emit-composite-at t) emit-composite.Post
-emit-composite-set-emit-state-requires-2 t c κs = search needs
+emit-composite-mention-composite-requires : (t : ℕ) → emit-composite-lts.Need-mention-composite-requires (emit-composite-claims t) (emit-composite-at t) emit-composite.Post
+emit-composite-mention-composite-requires t c κs = tt
 
 emit-composite-same-length : (t : ℕ) → emit-composite-lts.Need-same-length (emit-composite-claims t) (emit-composite-at t) emit-composite.Post
-emit-composite-same-length t c = c .before .before .set-emit-state2 .kept .0 ∙ c .before .before .before .before .before .before .before .before .before .before .define .kept .1 .1 .0 ∙ c .before .before .before .before .before .before .before .before .before .before .before .before .before .before .before .before .before .before .before .before .before .emit-members .kept .1 .1 .0 ∙ c .before .before .before .before .before .before .before .before .before .before .before .before .before .before .before .before .before .before .before .before .before .before .before .before .before .before .before .before .before .set-emit-state .kept .0
+emit-composite-same-length t c = c .before .before .before .before .before .before .mention-composite .kept .1 .1 .0
 
 emit-composite-same-length-2 : (t : ℕ) → emit-composite-lts.Need-same-length-2 (emit-composite-claims t) (emit-composite-at t) emit-composite.Post
-emit-composite-same-length-2 t c = search needs
+emit-composite-same-length-2 t c = c .before .before .before .before .before .before .mention-composite .kept .1 .1 .1 .0
 
 emit-composite-same-length-3 : (t : ℕ) → emit-composite-lts.Need-same-length-3 (emit-composite-claims t) (emit-composite-at t) emit-composite.Post
-emit-composite-same-length-3 t c = search needs
+emit-composite-same-length-3 t c = c .before .before .before .before .before .before .mention-composite .kept .1 .1 .1 .1 .0
 
 emit-composite-returns : (t : ℕ) → emit-composite-lts.Need-returns (emit-composite-claims t) (emit-composite-at t) emit-composite.Post
-emit-composite-returns t c = λ n. walk.composite-top _ _ _ _ n _ _ _ _ _ _ _ _ (c .before .before .before .before .before .before .before .before .before .before .before .before .before .before .before .before .before .before .before .before .before .before .before .before .before .before .before .before .before .before .before .before .before .before .before .before .before .pre .1) _ (c .before .before .before .before .before .before .before .before .before .before .before .before .before .before .before .before .before .before .before .before .before .before .before .before .before .before .before .before .before .before .before .is-named .ensures) _ _ (c .before .before .before .before .before .before .before .before .before .before .before .before .before .before .before .before .before .before .before .before .before .before .before .before .before .before .before .before .before .set-emit-state .ensures) (c .before .before .before .before .before .before .before .before .before .before .before .before .before .before .before .before .before .before .before .before .before .before .before .before .before .before .if1 .taken) _ (c .before .before .before .before .before .before .before .before .before .before .before .before .before .before .before .before .before .before .before .before .before .before .before .before .before .inner .ensures) _ _ _ _ (c .before .before .before .before .before .before .before .before .before .before .before .before .before .before .before .before .before .before .before .before .before .emit-members .ensures n) _ (c .before .before .before .before .before .before .before .before .before .before .before .before .before .before .listed-cause .ensures) _ (ap (λ (i : ℕ). i / 12) (c .before .before .before .before .before .before .before .before .before .before .before .before .before .before .before .before .before .before .before .before .before .emit-members .kept .1 .1 .1 .1 .0)) _ _ _ _ (c .before .before .before .before .before .before .before .before .before .before .define .ensures n) _ (c .before .before .set-emit-state2 .ensures)
+emit-composite-returns t c = λ n. new.composite-mention _ _ _ _ n _ _ _ _ _ _ _ _ (c .before .before .before .before .before .before .before .before .before .before .before .before .before .before .before .before .before .pre .1) _ (c .before .before .before .before .before .before .before .before .before .before .before .is-named .ensures) _ (c .before .before .before .before .before .before .before .before .before .before .if1 .taken) _ (c .before .before .before .before .before .before .mention-composite .ensures n)
 
-emit-composite-emit-members-requires-2 : (t : ℕ) → emit-composite-lts.Need-emit-members-requires-2 (emit-composite-claims t) (emit-composite-at t) emit-composite.Post
-emit-composite-emit-members-requires-2 t c κs = (omega arith, tt)
+emit-composite-set-emit-state-requires : (t : ℕ) → emit-composite-lts.Need-set-emit-state-requires (emit-composite-claims t) (emit-composite-at t) emit-composite.Post
+emit-composite-set-emit-state-requires t c κs = tt
 
-emit-composite-set-emit-state-requires-3 :
-    (t : ℕ) → emit-composite-lts.Need-set-emit-state-requires-3 (
-      is-named-reads.Asked,
-      is-named-reads.Learnt,
-      set-emit-state-reads.Asked,
-      set-emit-state-reads.Learnt,
-      inner-reads.Asked,
-      inner-reads.Learnt,
-      emit-members-below t,
-      emit-members.Post,
-      listed-cause-reads.Asked,
-      listed-cause-reads.Learnt,
-      define-reads.Asked,
-      define-reads.Learnt,
-      emit-mention-reads.Asked,
-      emit-mention-reads.Learnt,
-    ) (emit-composite-at t) emit-composite.Post
-emit-composite-set-emit-state-requires-3 t c κs = search needs
+emit-composite-inner-requires : (t : ℕ) → emit-composite-lts.Need-inner-requires (emit-composite-claims t) (emit-composite-at t) emit-composite.Post
+emit-composite-inner-requires t c κs = tt
+
+emit-composite-emit-members-requires : (t : ℕ) → emit-composite-lts.Need-emit-members-requires (emit-composite-claims t) (emit-composite-at t) emit-composite.Post
+emit-composite-emit-members-requires t c κs = (new.to-composite-members (c .before .before .before .before .before .before .before .before .before .before .before .before .before .before .before .args .left) t (c .before .before .before .before .before .before .before .before .before .before .before .before .before .before .before .pre .0), tt)
+
+emit-composite-end-composite-requires : (t : ℕ) → emit-composite-lts.Need-end-composite-requires (emit-composite-claims t) (emit-composite-at t) emit-composite.Post
+emit-composite-end-composite-requires t c κs = tt
 
 emit-composite-same-length-4 : (t : ℕ) → emit-composite-lts.Need-same-length-4 (emit-composite-claims t) (emit-composite-at t) emit-composite.Post
-emit-composite-same-length-4 t c = search needs
+emit-composite-same-length-4 t c = c .before .before .before .before .before .before .end-composite .kept .1 .1 .0 ∙ c .before .before .before .before .before .before .before .before .before .before .before .before .before .before .before .before .emit-members .kept .1 .1 .0 ∙ c .before .before .before .before .before .before .before .before .before .before .before .before .before .before .before .before .before .before .before .before .before .before .before .set-emit-state .kept .0
 
 emit-composite-same-length-5 : (t : ℕ) → emit-composite-lts.Need-same-length-5 (emit-composite-claims t) (emit-composite-at t) emit-composite.Post
-emit-composite-same-length-5 t c = search needs
+emit-composite-same-length-5 t c = c .before .before .before .before .before .before .end-composite .kept .1 .1 .1 .0 ∙ c .before .before .before .before .before .before .before .before .before .before .before .before .before .before .before .before .emit-members .kept .1 .1 .1 .0
 
 emit-composite-same-length-6 : (t : ℕ) → emit-composite-lts.Need-same-length-6 (emit-composite-claims t) (emit-composite-at t) emit-composite.Post
-emit-composite-same-length-6 t c = search needs
+emit-composite-same-length-6 t c = c .before .before .before .before .before .before .end-composite .kept .1 .1 .1 .1 .0 ∙ c .before .before .before .before .before .before .before .before .before .before .before .before .before .before .before .before .emit-members .kept .1 .1 .1 .1 .0
 
 emit-composite-returns-2 : (t : ℕ) → emit-composite-lts.Need-returns-2 (emit-composite-claims t) (emit-composite-at t) emit-composite.Post
-emit-composite-returns-2 t c = λ n. walk.composite-nameless _ _ _ _ n _ _ _ _ _ _ _ _ (c .before .before .before .before .before .before .before .before .before .before .before .before .before .before .before .before .before .before .before .before .before .before .before .before .before .before .pre .1) _ (c .before .before .before .before .before .before .before .before .before .before .before .before .before .before .before .before .before .before .before .before .is-named .ensures) _ _ (c .before .before .before .before .before .before .before .before .before .before .before .before .before .before .before .before .before .before .set-emit-state .ensures) (c .before .before .before .before .before .before .before .before .before .before .before .before .before .before .before .if1 .left) (plainly.not-true _ (c .before .before .before .before .before .before .before .before .before .before .before .before .before .before .if2 .taken)) _ _ _ _ (c .before .before .before .before .before .before .before .before .before .before .emit-members2 .ensures n) _ (c .before .before .set-emit-state3 .ensures)
-
-emit-composite-emit-mention-requires : (t : ℕ) → emit-composite-lts.Need-emit-mention-requires (emit-composite-claims t) (emit-composite-at t) emit-composite.Post
-emit-composite-emit-mention-requires t c κs = search needs
-
-emit-composite-set-emit-state-requires-4 :
-    (t : ℕ) → emit-composite-lts.Need-set-emit-state-requires-4 (
-      is-named-reads.Asked,
-      is-named-reads.Learnt,
-      set-emit-state-reads.Asked,
-      set-emit-state-reads.Learnt,
-      inner-reads.Asked,
-      inner-reads.Learnt,
-      emit-members-below t,
-      emit-members.Post,
-      listed-cause-reads.Asked,
-      listed-cause-reads.Learnt,
-      define-reads.Asked,
-      define-reads.Learnt,
-      emit-mention-reads.Asked,
-      emit-mention-reads.Learnt,
-    ) (emit-composite-at t) emit-composite.Post
-emit-composite-set-emit-state-requires-4 t c κs = search needs
-
-emit-composite-same-length-7 : (t : ℕ) → emit-composite-lts.Need-same-length-7 (emit-composite-claims t) (emit-composite-at t) emit-composite.Post
-emit-composite-same-length-7 t c = search needs
-
-emit-composite-same-length-8 : (t : ℕ) → emit-composite-lts.Need-same-length-8 (emit-composite-claims t) (emit-composite-at t) emit-composite.Post
-emit-composite-same-length-8 t c = search needs
-
-emit-composite-same-length-9 : (t : ℕ) → emit-composite-lts.Need-same-length-9 (emit-composite-claims t) (emit-composite-at t) emit-composite.Post
-emit-composite-same-length-9 t c = search needs
-
-emit-composite-returns-3 : (t : ℕ) → emit-composite-lts.Need-returns-3 (emit-composite-claims t) (emit-composite-at t) emit-composite.Post
-emit-composite-returns-3 t c = λ n. walk.composite-mention _ _ _ _ n _ _ _ _ _ _ _ _ (c .before .before .before .before .before .before .before .before .before .before .before .before .before .before .before .before .before .before .before .before .before .before .before .before .before .before .pre .1) _ (c .before .before .before .before .before .before .before .before .before .before .before .before .before .before .before .before .before .before .before .before .is-named .ensures) _ _ (c .before .before .before .before .before .before .before .before .before .before .before .before .before .before .before .before .before .before .set-emit-state .ensures) (c .before .before .before .before .before .before .before .before .before .before .before .before .before .before .before .if1 .left) (plainly.not-false _ (c .before .before .before .before .before .before .before .before .before .before .before .before .before .before .if2 .left)) _ _ _ _ (c .before .before .before .before .before .before .before .before .before .before .emit-mention .ensures n) _ (c .before .before .set-emit-state4 .ensures)
+emit-composite-returns-2 t c = λ n. new.composite-ends _ _ _ _ n _ _ _ _ _ _ _ _ (c .before .before .before .before .before .before .before .before .before .before .before .before .before .before .before .before .before .before .before .before .before .before .before .before .before .before .before .before .before .before .before .before .pre .1) _ (c .before .before .before .before .before .before .before .before .before .before .before .before .before .before .before .before .before .before .before .before .before .before .before .before .before .before .is-named .ensures) _ (c .before .before .before .before .before .before .before .before .before .before .before .before .before .before .before .before .before .before .before .before .before .before .before .before .before .if1 .left) _ (c .before .before .before .before .before .before .before .before .before .before .before .before .before .before .before .before .before .before .before .before .before .before .before .set-emit-state .ensures) _ (c .before .before .before .before .before .before .before .before .before .before .before .before .before .before .before .before .before .before .before .before .inner .ensures) _ _ _ _ (c .before .before .before .before .before .before .before .before .before .before .before .before .before .before .before .before .emit-members .ensures n) _ (ap (λ (i : ℕ). i / 12) (c .before .before .before .before .before .before .before .before .before .before .before .before .before .before .before .before .emit-members .kept .1 .1 .1 .1 .0)) _ (c .before .before .before .before .before .before .end-composite .ensures n)
 
 abbrev emit-members-Inv-loop : emit-members-lts.InvT-loop
 emit-members-Inv-loop b section work₀ text₀ list₀ leads q members cont-id left vlen a₀ k₀ work text list a k = (k ≤ vlen) × (length work ≡ length work₀) × (length text ≡ length text₀) × (length list ≡ length list₀) × (vlen < 4294967296) × (vlen ≡ members .vlen) × ((n : ℕ) → walk.Rest b section (entriesIn list₀) (entryIn (q .req) (q .turn) leads) work₀ left cont-id (λ i. sectionWord b section (memberAt (members .at) i + 4)) n a₀ text₀ list₀ (members .vlen) a text work list k)
@@ -321,16 +241,16 @@ emit-members-loop-holds : (t : ℕ) → emit-members-lts.Need-loop-holds (emit-m
 emit-members-loop-holds t c = (zero-le, refl, refl, refl, omega arith, refl, λ n. walk.rest-start _ _ _ _ _ _ _ _ n _ _ _ _)
 
 emit-members-member-place-requires : (t : ℕ) → emit-members-lts.Need-member-place-requires (emit-members-claims t) (emit-members-at t) emit-members.Post emit-members-Inv-loop emit-members-μ-loop
-emit-members-member-place-requires t c κs = search needs
+emit-members-member-place-requires t c κs = tt
 
 emit-members-add-word : (t : ℕ) → emit-members-lts.Need-add-word (emit-members-claims t) (emit-members-at t) emit-members.Post emit-members-Inv-loop emit-members-μ-loop
 emit-members-add-word t c = omega arith
 
 emit-members-word-requires : (t : ℕ) → emit-members-lts.Need-word-requires (emit-members-claims t) (emit-members-at t) emit-members.Post emit-members-Inv-loop emit-members-μ-loop
-emit-members-word-requires t c κs = search needs
+emit-members-word-requires t c κs = tt
 
 emit-members-emit-noted-requires : (t : ℕ) → emit-members-lts.Need-emit-noted-requires (emit-members-claims t) (emit-members-at t) emit-members.Post emit-members-Inv-loop emit-members-μ-loop
-emit-members-emit-noted-requires t c κs = (omega arith, tt)
+emit-members-emit-noted-requires t c κs = (new.to-loop-noted (c .before .before .before .before .before .before .before .before .before .before .before .before .args .left) t (c .before .before .before .before .before .before .before .before .before .before .before .before .pre .0), tt)
 
 emit-members-add-k : (t : ℕ) → emit-members-lts.Need-add-k (emit-members-claims t) (emit-members-at t) emit-members.Post emit-members-Inv-loop emit-members-μ-loop
 emit-members-add-k t c = omega arith
@@ -342,19 +262,19 @@ emit-members-loop-again : (t : ℕ) → emit-members-lts.Need-loop-again (emit-m
 emit-members-loop-again t c = (omega arith, c .before .before .before .before .before .before .emit-noted .kept .1 .1 .0 ∙ c .before .before .before .before .before .before .before .before .before .before .before .before .before .loop .inv .1, c .before .before .before .before .before .before .emit-noted .kept .1 .1 .1 .0 ∙ c .before .before .before .before .before .before .before .before .before .before .before .before .before .loop .inv .2, c .before .before .before .before .before .before .emit-noted .kept .1 .1 .1 .1 .0 ∙ c .before .before .before .before .before .before .before .before .before .before .before .before .before .loop .inv .3, c .before .before .before .before .before .before .before .before .before .before .before .before .before .loop .inv .4, c .before .before .before .before .before .before .before .before .before .before .before .before .before .loop .inv .5, λ n. walk.rest-turn _ _ _ _ _ _ _ _ n _ _ _ _ _ _ _ _ _ (c .before .before .before .before .before .before .before .before .before .before .before .before .before .loop .inv .6 n) _ (λ _. entry-word _ _ _ _ _ (c .before .before .before .before .before .before .before .before .before .before .word .ensures) (c .before .before .before .before .before .before .before .before .before .before .before .member-place .ensures)) _ (ap (λ (i : ℕ). i / 12) (c .before .before .before .before .before .before .before .before .before .before .before .before .before .loop .inv .3)) _ _ _ _ (c .before .before .before .before .before .before .emit-noted .ensures n) (omega arith))
 
 emit-members-same-length : (t : ℕ) → emit-members-lts.Need-same-length (emit-members-claims t) (emit-members-at t) emit-members.Post emit-members-Inv-loop emit-members-μ-loop
-emit-members-same-length t c = search needs
+emit-members-same-length t c = c .before .loop .inv .1
 
 emit-members-same-length-2 : (t : ℕ) → emit-members-lts.Need-same-length-2 (emit-members-claims t) (emit-members-at t) emit-members.Post emit-members-Inv-loop emit-members-μ-loop
-emit-members-same-length-2 t c = search needs
+emit-members-same-length-2 t c = c .before .loop .inv .2
 
 emit-members-same-length-3 : (t : ℕ) → emit-members-lts.Need-same-length-3 (emit-members-claims t) (emit-members-at t) emit-members.Post emit-members-Inv-loop emit-members-μ-loop
-emit-members-same-length-3 t c = search needs
+emit-members-same-length-3 t c = c .before .loop .inv .3
 
 emit-members-returns : (t : ℕ) → emit-members-lts.Need-returns (emit-members-claims t) (emit-members-at t) emit-members.Post emit-members-Inv-loop emit-members-μ-loop
 emit-members-returns t c = λ n. walk.members-end _ _ _ _ _ _ _ n _ _ _ _ _ _ _ _ _ (c .before .loop .inv .6 n) (omega arith)
 
 emit-new-node-of-requires : (t : ℕ) → emit-new-lts.Need-node-of-requires (emit-new-claims t) (emit-new-at t) emit-new.Post
-emit-new-node-of-requires t c κs = search needs
+emit-new-node-of-requires t c κs = tt
 
 emit-new-enum-told : (t : ℕ) → emit-new-lts.Need-enum-told (emit-new-claims t) (emit-new-at t) emit-new.Post
 emit-new-enum-told t c = search needs
@@ -366,190 +286,184 @@ emit-new-enum-known-is-fwd : (t : ℕ) → emit-new-lts.Need-enum-known-is-fwd (
 emit-new-enum-known-is-fwd t c = search needs
 
 emit-new-emit-leaf-requires : (t : ℕ) → emit-new-lts.Need-emit-leaf-requires (emit-new-claims t) (emit-new-at t) emit-new.Post
-emit-new-emit-leaf-requires t c κs = search needs
+emit-new-emit-leaf-requires t c κs = c .before .before .before .before .before .before .before .before .before .before .before .before .pre .1
 
 emit-new-enum-known-next : (t : ℕ) → emit-new-lts.Need-enum-known-next (emit-new-claims t) (emit-new-at t) emit-new.Post
 emit-new-enum-known-next t c = search needs
 
 emit-new-emit-noted-requires : (t : ℕ) → emit-new-lts.Need-emit-noted-requires (emit-new-claims t) (emit-new-at t) emit-new.Post
-emit-new-emit-noted-requires t c κs = (omega arith, tt)
+emit-new-emit-noted-requires t c κs = (new.to-new-noted (c .before .before .before .before .before .before .before .before .before .before .before .before .args .left) t (c .before .before .before .before .before .before .before .before .before .before .before .before .pre .0), tt)
 
 emit-new-enum-known-next-2 : (t : ℕ) → emit-new-lts.Need-enum-known-next-2 (emit-new-claims t) (emit-new-at t) emit-new.Post
 emit-new-enum-known-next-2 t c = search needs
 
 emit-new-emit-noted-requires-2 : (t : ℕ) → emit-new-lts.Need-emit-noted-requires-2 (emit-new-claims t) (emit-new-at t) emit-new.Post
-emit-new-emit-noted-requires-2 t c κs = (omega arith, tt)
+emit-new-emit-noted-requires-2 t c κs = (new.to-new-noted (c .before .before .before .before .before .before .before .before .before .before .before .before .args .left) t (c .before .before .before .before .before .before .before .before .before .before .before .before .pre .0), tt)
 
 emit-new-enum-known-next-3 : (t : ℕ) → emit-new-lts.Need-enum-known-next-3 (emit-new-claims t) (emit-new-at t) emit-new.Post
 emit-new-enum-known-next-3 t c = search needs
 
 emit-new-set-emit-state-requires : (t : ℕ) → emit-new-lts.Need-set-emit-state-requires (emit-new-claims t) (emit-new-at t) emit-new.Post
-emit-new-set-emit-state-requires t c κs = search needs
+emit-new-set-emit-state-requires t c κs = tt
 
 emit-new-emit-noted-requires-3 : (t : ℕ) → emit-new-lts.Need-emit-noted-requires-3 (emit-new-claims t) (emit-new-at t) emit-new.Post
-emit-new-emit-noted-requires-3 t c κs = (omega arith, tt)
+emit-new-emit-noted-requires-3 t c κs = (new.to-new-noted (c .before .before .before .before .before .before .before .before .before .before .before .before .before .before .before .before .args .left) t (c .before .before .before .before .before .before .before .before .before .before .before .before .before .before .before .before .pre .0), tt)
 
-emit-new-cause-at-requires : (t : ℕ) → emit-new-lts.Need-cause-at-requires (emit-new-claims t) (emit-new-at t) emit-new.Post
-emit-new-cause-at-requires t c κs = search needs
-
-emit-new-emit-once-requires : (t : ℕ) → emit-new-lts.Need-emit-once-requires (emit-new-claims t) (emit-new-at t) emit-new.Post
-emit-new-emit-once-requires t c κs = search needs
-
-emit-new-set-emit-state-requires-2 : (t : ℕ) → emit-new-lts.Need-set-emit-state-requires-2 (emit-new-claims t) (emit-new-at t) emit-new.Post
-emit-new-set-emit-state-requires-2 t c κs = search needs
+emit-new-end-typedef-requires : (t : ℕ) → emit-new-lts.Need-end-typedef-requires (emit-new-claims t) (emit-new-at t) emit-new.Post
+emit-new-end-typedef-requires t c κs = tt
 
 emit-new-enum-known-res : (t : ℕ) → emit-new-lts.Need-enum-known-res (emit-new-claims t) (emit-new-at t) emit-new.Post
 emit-new-enum-known-res t c = search needs
 
 emit-new-emit-noted-requires-4 : (t : ℕ) → emit-new-lts.Need-emit-noted-requires-4 (emit-new-claims t) (emit-new-at t) emit-new.Post
-emit-new-emit-noted-requires-4 t c κs = (omega arith, tt)
+emit-new-emit-noted-requires-4 t c κs = (new.to-new-noted (c .before .before .before .before .before .before .before .before .before .before .before .before .args .left) t (c .before .before .before .before .before .before .before .before .before .before .before .before .pre .0), tt)
 
 emit-new-emit-params-requires : (t : ℕ) → emit-new-lts.Need-emit-params-requires (emit-new-claims t) (emit-new-at t) emit-new.Post
-emit-new-emit-params-requires t c κs = (omega arith, tt)
+emit-new-emit-params-requires t c κs = (new.to-new-params (c .before .before .before .before .before .before .before .before .before .before .before .before .before .before .before .before .before .before .before .before .before .before .args .left) t (c .before .before .before .before .before .before .before .before .before .before .before .before .before .before .before .before .before .before .before .before .before .before .pre .0), tt)
 
 emit-new-enum-known-members : (t : ℕ) → emit-new-lts.Need-enum-known-members (emit-new-claims t) (emit-new-at t) emit-new.Post
 emit-new-enum-known-members t c = search needs
 
 emit-new-emit-composite-requires : (t : ℕ) → emit-new-lts.Need-emit-composite-requires (emit-new-claims t) (emit-new-at t) emit-new.Post
-emit-new-emit-composite-requires t c κs = (omega arith, c .before .before .before .before .before .before .before .before .before .before .before .before .pre .1)
+emit-new-emit-composite-requires t c κs = (new.to-new-composite (c .before .before .before .before .before .before .before .before .before .before .before .before .args .left) t (c .before .before .before .before .before .before .before .before .before .before .before .before .pre .0), c .before .before .before .before .before .before .before .before .before .before .before .before .pre .1)
 
 emit-new-returns : (t : ℕ) → emit-new-lts.Need-returns (emit-new-claims t) (emit-new-at t) emit-new.Post
-emit-new-returns t c = λ n. walk.new-ignored _ _ _ _ n _ _ _ _ _ _ _ _ (c .before .before .before .before .before .before .before .before .pre .1) _ (c .before .before .node-of .ensures) _ (c .enum-told .given .1) refl
+emit-new-returns t c = λ n. new.new-ignored _ _ _ _ n _ _ _ _ _ _ _ _ (c .before .before .before .before .before .before .before .before .pre .1) _ (c .before .before .node-of .ensures) _ (c .enum-told .given .1) refl
 
 emit-new-returns-2 : (t : ℕ) → emit-new-lts.Need-returns-2 (emit-new-claims t) (emit-new-at t) emit-new.Post
-emit-new-returns-2 t c = λ n. walk.new-plain _ _ _ _ n _ _ _ _ _ _ _ _ (c .before .before .before .before .before .before .before .before .pre .1) _ (c .before .before .node-of .ensures) _ (c .enum-told2 .given .1) refl
+emit-new-returns-2 t c = λ n. new.new-plain _ _ _ _ n _ _ _ _ _ _ _ _ (c .before .before .before .before .before .before .before .before .pre .1) _ (c .before .before .node-of .ensures) _ (c .enum-told2 .given .1) refl
 
 emit-new-same-length : (t : ℕ) → emit-new-lts.Need-same-length (emit-new-claims t) (emit-new-at t) emit-new.Post
-emit-new-same-length t c = search needs
+emit-new-same-length t c = c .before .before .before .before .before .before .emit-leaf .kept .1 .1 .0
 
 emit-new-same-length-2 : (t : ℕ) → emit-new-lts.Need-same-length-2 (emit-new-claims t) (emit-new-at t) emit-new.Post
-emit-new-same-length-2 t c = search needs
+emit-new-same-length-2 t c = c .before .before .before .before .before .before .emit-leaf .kept .1 .1 .1 .0
 
 emit-new-same-length-3 : (t : ℕ) → emit-new-lts.Need-same-length-3 (emit-new-claims t) (emit-new-at t) emit-new.Post
-emit-new-same-length-3 t c = search needs
+emit-new-same-length-3 t c = c .before .before .before .before .before .before .emit-leaf .kept .1 .1 .1 .1 .0
 
 emit-new-returns-3 : (t : ℕ) → emit-new-lts.Need-returns-3 (emit-new-claims t) (emit-new-at t) emit-new.Post
-emit-new-returns-3 t c = λ n. walk.new-listed _ _ _ _ n _ _ _ _ _ _ _ _ (c .before .before .before .before .before .before .before .before .before .before .before .before .before .before .before .before .before .before .before .pre .1) _ (c .before .before .before .before .before .before .before .before .before .before .before .before .before .node-of .ensures) _ _ (c .before .before .before .before .before .before .before .before .before .before .before .is-fwd .given .1) (c .before .before .before .before .before .before .emit-leaf .ensures n)
+emit-new-returns-3 t c = λ n. new.new-listed _ _ _ _ n _ _ _ _ _ _ _ _ (c .before .before .before .before .before .before .before .before .before .before .before .before .before .before .before .before .before .before .before .pre .1) _ (c .before .before .before .before .before .before .before .before .before .before .before .before .before .node-of .ensures) _ _ (c .before .before .before .before .before .before .before .before .before .before .before .is-fwd .given .1) (c .before .before .before .before .before .before .emit-leaf .ensures n)
 
 emit-new-same-length-4 : (t : ℕ) → emit-new-lts.Need-same-length-4 (emit-new-claims t) (emit-new-at t) emit-new.Post
-emit-new-same-length-4 t c = search needs
+emit-new-same-length-4 t c = c .before .before .before .before .before .before .emit-noted .kept .1 .1 .0
 
 emit-new-same-length-5 : (t : ℕ) → emit-new-lts.Need-same-length-5 (emit-new-claims t) (emit-new-at t) emit-new.Post
-emit-new-same-length-5 t c = search needs
+emit-new-same-length-5 t c = c .before .before .before .before .before .before .emit-noted .kept .1 .1 .1 .0
 
 emit-new-same-length-6 : (t : ℕ) → emit-new-lts.Need-same-length-6 (emit-new-claims t) (emit-new-at t) emit-new.Post
-emit-new-same-length-6 t c = search needs
+emit-new-same-length-6 t c = c .before .before .before .before .before .before .emit-noted .kept .1 .1 .1 .1 .0
 
 emit-new-returns-4 : (t : ℕ) → emit-new-lts.Need-returns-4 (emit-new-claims t) (emit-new-at t) emit-new.Post
-emit-new-returns-4 t c = λ n. walk.new-through _ _ _ _ n _ _ _ _ _ _ _ _ (c .before .before .before .before .before .before .before .before .before .before .before .before .before .before .before .before .before .before .before .pre .1) _ (c .before .before .before .before .before .before .before .before .before .before .before .before .before .node-of .ensures) _ _ _ (c .before .before .before .before .before .before .before .before .before .before .before .next .given .1) (c .before .before .before .before .before .before .emit-noted .ensures n)
+emit-new-returns-4 t c = λ n. new.new-through _ _ _ _ n _ _ _ _ _ _ _ _ (c .before .before .before .before .before .before .before .before .before .before .before .before .before .before .before .before .before .before .before .pre .1) _ (c .before .before .before .before .before .before .before .before .before .before .before .before .before .node-of .ensures) _ _ _ (c .before .before .before .before .before .before .before .before .before .before .before .next .given .1) (c .before .before .before .before .before .before .emit-noted .ensures n)
 
 emit-new-same-length-7 : (t : ℕ) → emit-new-lts.Need-same-length-7 (emit-new-claims t) (emit-new-at t) emit-new.Post
-emit-new-same-length-7 t c = search needs
+emit-new-same-length-7 t c = c .before .before .before .before .before .before .emit-noted2 .kept .1 .1 .0
 
 emit-new-same-length-8 : (t : ℕ) → emit-new-lts.Need-same-length-8 (emit-new-claims t) (emit-new-at t) emit-new.Post
-emit-new-same-length-8 t c = search needs
+emit-new-same-length-8 t c = c .before .before .before .before .before .before .emit-noted2 .kept .1 .1 .1 .0
 
 emit-new-same-length-9 : (t : ℕ) → emit-new-lts.Need-same-length-9 (emit-new-claims t) (emit-new-at t) emit-new.Post
-emit-new-same-length-9 t c = search needs
+emit-new-same-length-9 t c = c .before .before .before .before .before .before .emit-noted2 .kept .1 .1 .1 .1 .0
 
 emit-new-returns-5 : (t : ℕ) → emit-new-lts.Need-returns-5 (emit-new-claims t) (emit-new-at t) emit-new.Post
-emit-new-returns-5 t c = λ n. walk.new-ptr _ _ _ _ n _ _ _ _ _ _ _ _ (c .before .before .before .before .before .before .before .before .before .before .before .before .before .before .before .before .before .before .before .pre .1) _ (c .before .before .before .before .before .before .before .before .before .before .before .before .before .node-of .ensures) _ _ (c .before .before .before .before .before .before .before .before .before .before .before .next2 .given .1) (c .before .before .before .before .before .before .emit-noted2 .ensures n)
+emit-new-returns-5 t c = λ n. new.new-ptr _ _ _ _ n _ _ _ _ _ _ _ _ (c .before .before .before .before .before .before .before .before .before .before .before .before .before .before .before .before .before .before .before .pre .1) _ (c .before .before .before .before .before .before .before .before .before .before .before .before .before .node-of .ensures) _ _ (c .before .before .before .before .before .before .before .before .before .before .before .next2 .given .1) (c .before .before .before .before .before .before .emit-noted2 .ensures n)
 
 emit-new-same-length-10 : (t : ℕ) → emit-new-lts.Need-same-length-10 (emit-new-claims t) (emit-new-at t) emit-new.Post
-emit-new-same-length-10 t c = c .before .before .set-emit-state2 .kept .0 ∙ c .before .before .before .before .before .before .before .before .before .before .emit-once .kept .1 .1 .0 ∙ c .before .before .before .before .before .before .before .before .before .before .before .before .before .before .before .before .before .before .before .before .before .emit-noted3 .kept .1 .1 .0 ∙ c .before .before .before .before .before .before .before .before .before .before .before .before .before .before .before .before .before .before .before .before .before .before .before .before .before .before .before .set-emit-state .kept .0
+emit-new-same-length-10 t c = c .before .before .before .before .before .before .end-typedef .kept .1 .1 .0 ∙ c .before .before .before .before .before .before .before .before .before .before .before .before .before .before .before .before .emit-noted3 .kept .1 .1 .0 ∙ c .before .before .before .before .before .before .before .before .before .before .before .before .before .before .before .before .before .before .before .before .before .before .set-emit-state .kept .0
 
 emit-new-same-length-11 : (t : ℕ) → emit-new-lts.Need-same-length-11 (emit-new-claims t) (emit-new-at t) emit-new.Post
-emit-new-same-length-11 t c = search needs
+emit-new-same-length-11 t c = c .before .before .before .before .before .before .end-typedef .kept .1 .1 .1 .0 ∙ c .before .before .before .before .before .before .before .before .before .before .before .before .before .before .before .before .emit-noted3 .kept .1 .1 .1 .0
 
 emit-new-same-length-12 : (t : ℕ) → emit-new-lts.Need-same-length-12 (emit-new-claims t) (emit-new-at t) emit-new.Post
-emit-new-same-length-12 t c = search needs
+emit-new-same-length-12 t c = c .before .before .before .before .before .before .end-typedef .kept .1 .1 .1 .1 .0 ∙ c .before .before .before .before .before .before .before .before .before .before .before .before .before .before .before .before .emit-noted3 .kept .1 .1 .1 .1 .0
 
 emit-new-returns-6 : (t : ℕ) → emit-new-lts.Need-returns-6 (emit-new-claims t) (emit-new-at t) emit-new.Post
-emit-new-returns-6 t c = λ n. walk.new-typedef _ _ _ _ n _ _ _ _ _ _ _ _ (c .before .before .before .before .before .before .before .before .before .before .before .before .before .before .before .before .before .before .before .before .before .before .before .before .before .before .before .before .before .before .before .before .before .before .before .before .before .before .pre .1) _ (c .before .before .before .before .before .before .before .before .before .before .before .before .before .before .before .before .before .before .before .before .before .before .before .before .before .before .before .before .before .before .before .before .node-of .ensures) _ _ (c .before .before .before .before .before .before .before .before .before .before .before .before .before .before .before .before .before .before .before .before .before .before .before .before .before .before .before .before .before .before .next3 .given .1) _ (c .before .before .before .before .before .before .before .before .before .before .before .before .before .before .before .before .before .before .before .before .before .before .before .before .before .before .before .set-emit-state .ensures) _ _ _ _ (c .before .before .before .before .before .before .before .before .before .before .before .before .before .before .before .before .before .before .before .before .before .emit-noted3 .ensures n) _ (c .before .before .before .before .before .before .before .before .before .before .before .before .before .before .cause-at .ensures) _ (ap (λ (i : ℕ). i / 12) (c .before .before .before .before .before .before .before .before .before .before .before .before .before .before .before .before .before .before .before .before .before .emit-noted3 .kept .1 .1 .1 .1 .0)) _ _ _ _ (c .before .before .before .before .before .before .before .before .before .before .emit-once .ensures n) _ (c .before .before .set-emit-state2 .ensures) refl
+emit-new-returns-6 t c = λ n. new.new-typedef _ _ _ _ n _ _ _ _ _ _ _ _ (c .before .before .before .before .before .before .before .before .before .before .before .before .before .before .before .before .before .before .before .before .before .before .before .before .before .before .before .before .before .before .before .before .before .pre .1) _ (c .before .before .before .before .before .before .before .before .before .before .before .before .before .before .before .before .before .before .before .before .before .before .before .before .before .before .before .node-of .ensures) _ _ (c .before .before .before .before .before .before .before .before .before .before .before .before .before .before .before .before .before .before .before .before .before .before .before .before .before .next3 .given .1) _ (c .before .before .before .before .before .before .before .before .before .before .before .before .before .before .before .before .before .before .before .before .before .before .set-emit-state .ensures) _ _ _ _ (c .before .before .before .before .before .before .before .before .before .before .before .before .before .before .before .before .emit-noted3 .ensures n) _ (ap (λ (i : ℕ). i / 12) (c .before .before .before .before .before .before .before .before .before .before .before .before .before .before .before .before .emit-noted3 .kept .1 .1 .1 .1 .0)) (c .before .before .before .before .before .before .end-typedef .ensures n)
 
 emit-new-same-length-13 : (t : ℕ) → emit-new-lts.Need-same-length-13 (emit-new-claims t) (emit-new-at t) emit-new.Post
-emit-new-same-length-13 t c = search needs
+emit-new-same-length-13 t c = c .before .before .before .before .before .before .emit-params .kept .1 .1 .0 ∙ c .before .before .before .before .before .before .before .before .before .before .before .before .before .before .before .before .emit-noted4 .kept .1 .1 .0
 
 emit-new-same-length-14 : (t : ℕ) → emit-new-lts.Need-same-length-14 (emit-new-claims t) (emit-new-at t) emit-new.Post
-emit-new-same-length-14 t c = search needs
+emit-new-same-length-14 t c = c .before .before .before .before .before .before .emit-params .kept .1 .1 .1 .0 ∙ c .before .before .before .before .before .before .before .before .before .before .before .before .before .before .before .before .emit-noted4 .kept .1 .1 .1 .0
 
 emit-new-same-length-15 : (t : ℕ) → emit-new-lts.Need-same-length-15 (emit-new-claims t) (emit-new-at t) emit-new.Post
-emit-new-same-length-15 t c = search needs
+emit-new-same-length-15 t c = c .before .before .before .before .before .before .emit-params .kept .1 .1 .1 .1 .0 ∙ c .before .before .before .before .before .before .before .before .before .before .before .before .before .before .before .before .emit-noted4 .kept .1 .1 .1 .1 .0
 
 emit-new-returns-7 : (t : ℕ) → emit-new-lts.Need-returns-7 (emit-new-claims t) (emit-new-at t) emit-new.Post
-emit-new-returns-7 t c = λ n. walk.new-proto _ _ _ _ n _ _ _ _ _ _ _ _ (c .before .before .before .before .before .before .before .before .before .before .before .before .before .before .before .before .before .before .before .before .before .before .before .before .before .before .before .before .before .pre .1) _ (c .before .before .before .before .before .before .before .before .before .before .before .before .before .before .before .before .before .before .before .before .before .before .before .node-of .ensures) _ _ _ (c .before .before .before .before .before .before .before .before .before .before .before .before .before .before .before .before .before .before .before .before .before .res .given .1) _ _ _ _ _ (ap (λ (i : ℕ). i / 12) (c .before .before .before .before .before .before .before .before .before .before .before .before .before .before .before .before .emit-noted4 .kept .1 .1 .1 .1 .0)) (c .before .before .before .before .before .before .before .before .before .before .before .before .before .before .before .before .emit-noted4 .ensures n) (c .before .before .before .before .before .before .emit-params .ensures n)
+emit-new-returns-7 t c = λ n. new.new-proto _ _ _ _ n _ _ _ _ _ _ _ _ (c .before .before .before .before .before .before .before .before .before .before .before .before .before .before .before .before .before .before .before .before .before .before .before .before .before .before .before .before .before .pre .1) _ (c .before .before .before .before .before .before .before .before .before .before .before .before .before .before .before .before .before .before .before .before .before .before .before .node-of .ensures) _ _ _ (c .before .before .before .before .before .before .before .before .before .before .before .before .before .before .before .before .before .before .before .before .before .res .given .1) _ _ _ _ _ (ap (λ (i : ℕ). i / 12) (c .before .before .before .before .before .before .before .before .before .before .before .before .before .before .before .before .emit-noted4 .kept .1 .1 .1 .1 .0)) (c .before .before .before .before .before .before .before .before .before .before .before .before .before .before .before .before .emit-noted4 .ensures n) (c .before .before .before .before .before .before .emit-params .ensures n)
 
 emit-new-same-length-16 : (t : ℕ) → emit-new-lts.Need-same-length-16 (emit-new-claims t) (emit-new-at t) emit-new.Post
-emit-new-same-length-16 t c = search needs
+emit-new-same-length-16 t c = c .before .before .before .before .before .before .emit-composite .kept .1 .1 .0
 
 emit-new-same-length-17 : (t : ℕ) → emit-new-lts.Need-same-length-17 (emit-new-claims t) (emit-new-at t) emit-new.Post
-emit-new-same-length-17 t c = search needs
+emit-new-same-length-17 t c = c .before .before .before .before .before .before .emit-composite .kept .1 .1 .1 .0
 
 emit-new-same-length-18 : (t : ℕ) → emit-new-lts.Need-same-length-18 (emit-new-claims t) (emit-new-at t) emit-new.Post
-emit-new-same-length-18 t c = search needs
+emit-new-same-length-18 t c = c .before .before .before .before .before .before .emit-composite .kept .1 .1 .1 .1 .0
 
 emit-new-returns-8 : (t : ℕ) → emit-new-lts.Need-returns-8 (emit-new-claims t) (emit-new-at t) emit-new.Post
-emit-new-returns-8 t c = λ n. walk.new-composite _ _ _ _ n _ _ _ _ _ _ _ _ (c .before .before .before .before .before .before .before .before .before .before .before .before .before .before .before .before .before .before .before .pre .1) _ (c .before .before .before .before .before .before .before .before .before .before .before .before .before .node-of .ensures) _ _ (c .before .before .before .before .before .before .before .before .before .before .before .members .given .1) (c .before .before .before .before .before .before .emit-composite .ensures n)
+emit-new-returns-8 t c = λ n. new.new-composite _ _ _ _ n _ _ _ _ _ _ _ _ (c .before .before .before .before .before .before .before .before .before .before .before .before .before .before .before .before .before .before .before .pre .1) _ (c .before .before .before .before .before .before .before .before .before .before .before .before .before .node-of .ensures) _ _ (c .before .before .before .before .before .before .before .before .before .before .before .members .given .1) (c .before .before .before .before .before .before .emit-composite .ensures n)
 
 emit-noted-stopped-requires : (t : ℕ) → emit-noted-lts.Need-stopped-requires (emit-noted-claims t) (emit-noted-at t) emit-noted.Post
-emit-noted-stopped-requires t c κs = search needs
+emit-noted-stopped-requires t c κs = tt
 
 emit-noted-same-length : (t : ℕ) → emit-noted-lts.Need-same-length (emit-noted-claims t) (emit-noted-at t) emit-noted.Post
-emit-noted-same-length t c = search needs
+emit-noted-same-length t c = refl
 
 emit-noted-returns : (t : ℕ) → emit-noted-lts.Need-returns (emit-noted-claims t) (emit-noted-at t) emit-noted.Post
 emit-noted-returns t c = λ n. laws.stopped-sheet n _ _ _ _ _ (sym (c .before .stopped .ensures) ∙ c .if1 .taken)
 
 emit-noted-stop-at-requires : (t : ℕ) → emit-noted-lts.Need-stop-at-requires (emit-noted-claims t) (emit-noted-at t) emit-noted.Post
-emit-noted-stop-at-requires t c κs = search needs
+emit-noted-stop-at-requires t c κs = tt
 
 emit-noted-same-length-2 : (t : ℕ) → emit-noted-lts.Need-same-length-2 (emit-noted-claims t) (emit-noted-at t) emit-noted.Post
-emit-noted-same-length-2 t c = search needs
+emit-noted-same-length-2 t c = refl
 
 emit-noted-returns-2 : (t : ℕ) → emit-noted-lts.Need-returns-2 (emit-noted-claims t) (emit-noted-at t) emit-noted.Post
 emit-noted-returns-2 t c = λ n. walk.too-deep _ _ _ _ n _ _ _ _ _ _ _ (c .before .before .if2 .taken) _ (c .stop-at .ensures)
 
 emit-noted-get-emit-state-requires : (t : ℕ) → emit-noted-lts.Need-get-emit-state-requires (emit-noted-claims t) (emit-noted-at t) emit-noted.Post
-emit-noted-get-emit-state-requires t c κs = search needs
+emit-noted-get-emit-state-requires t c κs = tt
 
 emit-noted-same-length-3 : (t : ℕ) → emit-noted-lts.Need-same-length-3 (emit-noted-claims t) (emit-noted-at t) emit-noted.Post
-emit-noted-same-length-3 t c = search needs
+emit-noted-same-length-3 t c = refl
 
 emit-noted-same-length-4 : (t : ℕ) → emit-noted-lts.Need-same-length-4 (emit-noted-claims t) (emit-noted-at t) emit-noted.Post
-emit-noted-same-length-4 t c = search needs
+emit-noted-same-length-4 t c = refl
 
 emit-noted-returns-3 : (t : ℕ) → emit-noted-lts.Need-returns-3 (emit-noted-claims t) (emit-noted-at t) emit-noted.Post
 emit-noted-returns-3 t c = λ n. walk.emit-done _ _ _ _ n _ _ _ _ _ _ _ (c .before .before .before .if2 .left) _ (c .before .get-emit-state .ensures) (c .if3 .taken)
 
 emit-noted-emit-again-requires : (t : ℕ) → emit-noted-lts.Need-emit-again-requires (emit-noted-claims t) (emit-noted-at t) emit-noted.Post
-emit-noted-emit-again-requires t c κs = search needs
+emit-noted-emit-again-requires t c κs = tt
 
 emit-noted-same-length-5 : (t : ℕ) → emit-noted-lts.Need-same-length-5 (emit-noted-claims t) (emit-noted-at t) emit-noted.Post
-emit-noted-same-length-5 t c = search needs
+emit-noted-same-length-5 t c = c .before .before .before .before .before .before .emit-again .kept .1 .1 .0
 
 emit-noted-same-length-6 : (t : ℕ) → emit-noted-lts.Need-same-length-6 (emit-noted-claims t) (emit-noted-at t) emit-noted.Post
-emit-noted-same-length-6 t c = search needs
+emit-noted-same-length-6 t c = c .before .before .before .before .before .before .emit-again .kept .1 .1 .1 .0
 
 emit-noted-same-length-7 : (t : ℕ) → emit-noted-lts.Need-same-length-7 (emit-noted-claims t) (emit-noted-at t) emit-noted.Post
-emit-noted-same-length-7 t c = search needs
+emit-noted-same-length-7 t c = c .before .before .before .before .before .before .emit-again .kept .1 .1 .1 .1 .0
 
 emit-noted-returns-4 : (t : ℕ) → emit-noted-lts.Need-returns-4 (emit-noted-claims t) (emit-noted-at t) emit-noted.Post
 emit-noted-returns-4 t c = λ n. walk.emit-busy _ _ _ _ n _ _ _ _ _ _ _ (c .before .before .before .before .before .before .before .before .before .before .before .before .before .before .if2 .left) _ (c .before .before .before .before .before .before .before .before .before .before .before .before .get-emit-state .ensures) (c .before .before .before .before .before .before .before .before .before .before .if4 .taken) _ (c .before .before .before .before .before .before .emit-again .ensures n)
 
 emit-noted-type-by-id-requires : (t : ℕ) → emit-noted-lts.Need-type-by-id-requires (emit-noted-claims t) (emit-noted-at t) emit-noted.Post
-emit-noted-type-by-id-requires t c κs = search needs
+emit-noted-type-by-id-requires t c κs = tt
 
 emit-noted-is-named-requires : (t : ℕ) → emit-noted-lts.Need-is-named-requires (emit-noted-claims t) (emit-noted-at t) emit-noted.Post
-emit-noted-is-named-requires t c κs = search needs
+emit-noted-is-named-requires t c κs = tt
 
 emit-noted-stop-at-requires-2 : (t : ℕ) → emit-noted-lts.Need-stop-at-requires-2 (emit-noted-claims t) (emit-noted-at t) emit-noted.Post
-emit-noted-stop-at-requires-2 t c κs = search needs
+emit-noted-stop-at-requires-2 t c κs = tt
 
 emit-noted-same-length-8 : (t : ℕ) → emit-noted-lts.Need-same-length-8 (emit-noted-claims t) (emit-noted-at t) emit-noted.Post
-emit-noted-same-length-8 t c = search needs
+emit-noted-same-length-8 t c = refl
 
 emit-noted-same-length-9 : (t : ℕ) → emit-noted-lts.Need-same-length-9 (emit-noted-claims t) (emit-noted-at t) emit-noted.Post
-emit-noted-same-length-9 t c = search needs
+emit-noted-same-length-9 t c = refl
 
 emit-noted-returns-5 : (t : ℕ) → emit-noted-lts.Need-returns-5 (emit-noted-claims t) (emit-noted-at t) emit-noted.Post
 emit-noted-returns-5 t c = λ n. walk.emit-nameless _ _ _ _ n _ _ _ _ _ _ _ (c .before .before .before .before .before .before .before .before .before .before .if2 .left) _ (c .before .before .before .before .before .before .before .before .get-emit-state .ensures) (c .before .before .before .before .before .before .before .if3 .left) (c .before .before .before .before .before .before .if4 .left) _ (c .before .before .before .before .type-by-id .ensures) _ (c .before .before .before .is-named .ensures) (c .before .before .if5 .taken) _ (c .stop-at2 .ensures)
@@ -558,16 +472,16 @@ emit-noted-sub-emit-new : (t : ℕ) → emit-noted-lts.Need-sub-emit-new (emit-n
 emit-noted-sub-emit-new t c = omega arith
 
 emit-noted-emit-new-requires : (t : ℕ) → emit-noted-lts.Need-emit-new-requires (emit-noted-claims t) (emit-noted-at t) emit-noted.Post
-emit-noted-emit-new-requires t c κs = (omega arith, c .before .before .before .before .before .type-by-id .ensures)
+emit-noted-emit-new-requires t c κs = (new.to-noted-new (c .before .before .before .before .before .before .before .before .before .before .before .before .before .before .before .before .before .before .before .before .args .left) t (c .before .before .before .before .before .before .before .before .before .before .before .before .before .before .before .before .before .before .before .before .pre .0) (c .before .before .before .before .before .before .before .before .before .before .before .if2 .left), c .before .before .before .before .before .type-by-id .ensures)
 
 emit-noted-same-length-10 : (t : ℕ) → emit-noted-lts.Need-same-length-10 (emit-noted-claims t) (emit-noted-at t) emit-noted.Post
-emit-noted-same-length-10 t c = search needs
+emit-noted-same-length-10 t c = c .before .before .before .before .before .before .emit-new .kept .1 .1 .0
 
 emit-noted-same-length-11 : (t : ℕ) → emit-noted-lts.Need-same-length-11 (emit-noted-claims t) (emit-noted-at t) emit-noted.Post
-emit-noted-same-length-11 t c = search needs
+emit-noted-same-length-11 t c = c .before .before .before .before .before .before .emit-new .kept .1 .1 .1 .0
 
 emit-noted-same-length-12 : (t : ℕ) → emit-noted-lts.Need-same-length-12 (emit-noted-claims t) (emit-noted-at t) emit-noted.Post
-emit-noted-same-length-12 t c = search needs
+emit-noted-same-length-12 t c = c .before .before .before .before .before .before .emit-new .kept .1 .1 .1 .1 .0
 
 emit-noted-returns-6 : (t : ℕ) → emit-noted-lts.Need-returns-6 (emit-noted-claims t) (emit-noted-at t) emit-noted.Post
 emit-noted-returns-6 t c = λ n. walk.emit-fresh _ _ _ _ n _ _ _ _ _ _ _ (c .before .before .before .before .before .before .before .before .before .before .before .before .before .before .before .before .before .before .if2 .left) _ (c .before .before .before .before .before .before .before .before .before .before .before .before .before .before .before .before .get-emit-state .ensures) (c .before .before .before .before .before .before .before .before .before .before .before .before .before .before .before .if3 .left) (c .before .before .before .before .before .before .before .before .before .before .before .before .before .before .if4 .left) _ (c .before .before .before .before .before .before .before .before .before .before .before .before .type-by-id .ensures) _ (c .before .before .before .before .before .before .before .before .before .before .before .is-named .ensures) (c .before .before .before .before .before .before .before .before .before .before .if5 .left) _ (c .before .before .before .before .before .before .emit-new .ensures n)
@@ -582,16 +496,16 @@ emit-params-loop-holds : (t : ℕ) → emit-params-lts.Need-loop-holds (emit-par
 emit-params-loop-holds t c = (zero-le, refl, refl, refl, omega arith, refl, λ n. walk.rest-start _ _ _ _ _ _ _ _ n _ _ _ _)
 
 emit-params-param-place-requires : (t : ℕ) → emit-params-lts.Need-param-place-requires (emit-params-claims t) (emit-params-at t) emit-params.Post emit-params-Inv-loop emit-params-μ-loop
-emit-params-param-place-requires t c κs = search needs
+emit-params-param-place-requires t c κs = tt
 
 emit-params-add-word : (t : ℕ) → emit-params-lts.Need-add-word (emit-params-claims t) (emit-params-at t) emit-params.Post emit-params-Inv-loop emit-params-μ-loop
 emit-params-add-word t c = omega arith
 
 emit-params-word-requires : (t : ℕ) → emit-params-lts.Need-word-requires (emit-params-claims t) (emit-params-at t) emit-params.Post emit-params-Inv-loop emit-params-μ-loop
-emit-params-word-requires t c κs = search needs
+emit-params-word-requires t c κs = tt
 
 emit-params-emit-noted-requires : (t : ℕ) → emit-params-lts.Need-emit-noted-requires (emit-params-claims t) (emit-params-at t) emit-params.Post emit-params-Inv-loop emit-params-μ-loop
-emit-params-emit-noted-requires t c κs = (omega arith, tt)
+emit-params-emit-noted-requires t c κs = (new.to-loop-noted (c .before .before .before .before .before .before .before .before .before .before .before .before .args .left) t (c .before .before .before .before .before .before .before .before .before .before .before .before .pre .0), tt)
 
 emit-params-add-k : (t : ℕ) → emit-params-lts.Need-add-k (emit-params-claims t) (emit-params-at t) emit-params.Post emit-params-Inv-loop emit-params-μ-loop
 emit-params-add-k t c = omega arith
@@ -603,13 +517,13 @@ emit-params-loop-again : (t : ℕ) → emit-params-lts.Need-loop-again (emit-par
 emit-params-loop-again t c = (omega arith, c .before .before .before .before .before .before .emit-noted .kept .1 .1 .0 ∙ c .before .before .before .before .before .before .before .before .before .before .before .before .before .loop .inv .1, c .before .before .before .before .before .before .emit-noted .kept .1 .1 .1 .0 ∙ c .before .before .before .before .before .before .before .before .before .before .before .before .before .loop .inv .2, c .before .before .before .before .before .before .emit-noted .kept .1 .1 .1 .1 .0 ∙ c .before .before .before .before .before .before .before .before .before .before .before .before .before .loop .inv .3, c .before .before .before .before .before .before .before .before .before .before .before .before .before .loop .inv .4, c .before .before .before .before .before .before .before .before .before .before .before .before .before .loop .inv .5, λ n. walk.rest-turn _ _ _ _ _ _ _ _ n _ _ _ _ _ _ _ _ _ (c .before .before .before .before .before .before .before .before .before .before .before .before .before .loop .inv .6 n) _ (λ _. entry-word _ _ _ _ _ (c .before .before .before .before .before .before .before .before .before .before .word .ensures) (c .before .before .before .before .before .before .before .before .before .before .before .param-place .ensures)) _ (ap (λ (i : ℕ). i / 12) (c .before .before .before .before .before .before .before .before .before .before .before .before .before .loop .inv .3)) _ _ _ _ (c .before .before .before .before .before .before .emit-noted .ensures n) (omega arith))
 
 emit-params-same-length : (t : ℕ) → emit-params-lts.Need-same-length (emit-params-claims t) (emit-params-at t) emit-params.Post emit-params-Inv-loop emit-params-μ-loop
-emit-params-same-length t c = search needs
+emit-params-same-length t c = c .before .loop .inv .1
 
 emit-params-same-length-2 : (t : ℕ) → emit-params-lts.Need-same-length-2 (emit-params-claims t) (emit-params-at t) emit-params.Post emit-params-Inv-loop emit-params-μ-loop
-emit-params-same-length-2 t c = search needs
+emit-params-same-length-2 t c = c .before .loop .inv .2
 
 emit-params-same-length-3 : (t : ℕ) → emit-params-lts.Need-same-length-3 (emit-params-claims t) (emit-params-at t) emit-params.Post emit-params-Inv-loop emit-params-μ-loop
-emit-params-same-length-3 t c = search needs
+emit-params-same-length-3 t c = c .before .loop .inv .3
 
 emit-params-returns : (t : ℕ) → emit-params-lts.Need-returns (emit-params-claims t) (emit-params-at t) emit-params.Post emit-params-Inv-loop emit-params-μ-loop
 emit-params-returns t c = λ n. walk.params-end _ _ _ _ _ _ _ n _ _ _ _ _ _ _ _ _ (c .before .loop .inv .6 n) (omega arith)
@@ -622,55 +536,24 @@ pub +emit-composite+emit-members+emit-new+emit-noted+emit-params-spec : {M : Typ
     μ-emit-new
     μ-emit-noted
     μ-emit-params
-    (λ t. emit-composite-lts.spec (
-      is-named-reads.Asked,
-      is-named-reads.Learnt,
-      set-emit-state-reads.Asked,
-      set-emit-state-reads.Learnt,
-      inner-reads.Asked,
-      inner-reads.Learnt,
-      emit-members-below t,
-      emit-members.Post,
-      listed-cause-reads.Asked,
-      listed-cause-reads.Learnt,
-      define-reads.Asked,
-      define-reads.Learnt,
-      emit-mention-reads.Asked,
-      emit-mention-reads.Learnt,
-    )
+    (λ t. emit-composite-lts.spec (emit-composite-claims t)
     (emit-composite-at t)
     emit-composite.Post
     (emit-composite-is-named-requires t)
-    (emit-composite-set-emit-state-requires t)
-    (emit-composite-inner-requires t)
-    (emit-composite-emit-members-requires t)
-    (emit-composite-listed-cause-requires t)
-    (emit-composite-define-requires t)
-    (emit-composite-set-emit-state-requires-2 t)
+    (emit-composite-mention-composite-requires t)
     (emit-composite-same-length t)
     (emit-composite-same-length-2 t)
     (emit-composite-same-length-3 t)
     (emit-composite-returns t)
-    (emit-composite-emit-members-requires-2 t)
-    (emit-composite-set-emit-state-requires-3 t)
+    (emit-composite-set-emit-state-requires t)
+    (emit-composite-inner-requires t)
+    (emit-composite-emit-members-requires t)
+    (emit-composite-end-composite-requires t)
     (emit-composite-same-length-4 t)
     (emit-composite-same-length-5 t)
     (emit-composite-same-length-6 t)
-    (emit-composite-returns-2 t)
-    (emit-composite-emit-mention-requires t)
-    (emit-composite-set-emit-state-requires-4 t)
-    (emit-composite-same-length-7 t)
-    (emit-composite-same-length-8 t)
-    (emit-composite-same-length-9 t)
-    (emit-composite-returns-3 t))
-    (λ t. emit-members-lts.spec (
-      member-place-reads.Asked,
-      member-place-reads.Learnt,
-      word-reads.Asked,
-      word-reads.Learnt,
-      emit-noted-below t,
-      emit-noted.Post,
-    )
+    (emit-composite-returns-2 t))
+    (λ t. emit-members-lts.spec (emit-members-claims t)
     (emit-members-at t)
     emit-members.Post
     emit-members-Inv-loop
@@ -687,24 +570,7 @@ pub +emit-composite+emit-members+emit-new+emit-noted+emit-params-spec : {M : Typ
     (emit-members-same-length-2 t)
     (emit-members-same-length-3 t)
     (emit-members-returns t))
-    (λ t. emit-new-lts.spec (
-      node-of-reads.Asked,
-      node-of-reads.Learnt,
-      emit-leaf-reads.Asked,
-      emit-leaf-reads.Learnt,
-      emit-noted-below t,
-      emit-noted.Post,
-      set-emit-state-reads.Asked,
-      set-emit-state-reads.Learnt,
-      cause-at-reads.Asked,
-      cause-at-reads.Learnt,
-      emit-once-reads.Asked,
-      emit-once-reads.Learnt,
-      emit-params-below t,
-      emit-params.Post,
-      emit-composite-below t,
-      emit-composite.Post,
-    )
+    (λ t. emit-new-lts.spec (emit-new-claims t)
     (emit-new-at t)
     emit-new.Post
     (emit-new-node-of-requires t)
@@ -719,9 +585,7 @@ pub +emit-composite+emit-members+emit-new+emit-noted+emit-params-spec : {M : Typ
     (emit-new-enum-known-next-3 t)
     (emit-new-set-emit-state-requires t)
     (emit-new-emit-noted-requires-3 t)
-    (emit-new-cause-at-requires t)
-    (emit-new-emit-once-requires t)
-    (emit-new-set-emit-state-requires-2 t)
+    (emit-new-end-typedef-requires t)
     (emit-new-enum-known-res t)
     (emit-new-emit-noted-requires-4 t)
     (emit-new-emit-params-requires t)
@@ -753,22 +617,7 @@ pub +emit-composite+emit-members+emit-new+emit-noted+emit-params-spec : {M : Typ
     (emit-new-same-length-17 t)
     (emit-new-same-length-18 t)
     (emit-new-returns-8 t))
-    (λ t. emit-noted-lts.spec (
-      stopped-reads.Asked,
-      stopped-reads.Learnt,
-      stop-at-reads.Asked,
-      stop-at-reads.Learnt,
-      get-emit-state-reads.Asked,
-      get-emit-state-reads.Learnt,
-      emit-again-reads.Asked,
-      emit-again-reads.Learnt,
-      type-by-id-reads.Asked,
-      type-by-id-reads.Learnt,
-      is-named-reads.Asked,
-      is-named-reads.Learnt,
-      emit-new-below t,
-      emit-new.Post,
-    )
+    (λ t. emit-noted-lts.spec (emit-noted-claims t)
     (emit-noted-at t)
     emit-noted.Post
     (emit-noted-stopped-requires t)
@@ -798,14 +647,7 @@ pub +emit-composite+emit-members+emit-new+emit-noted+emit-params-spec : {M : Typ
     (emit-noted-same-length-11 t)
     (emit-noted-same-length-12 t)
     (emit-noted-returns-6 t))
-    λ t. emit-params-lts.spec (
-      param-place-reads.Asked,
-      param-place-reads.Learnt,
-      word-reads.Asked,
-      word-reads.Learnt,
-      emit-noted-below t,
-      emit-noted.Post,
-    )
+    λ t. emit-params-lts.spec (emit-params-claims t)
     (emit-params-at t)
     emit-params.Post
     emit-params-Inv-loop

@@ -1,4 +1,3 @@
-use borrow.Author.Needs.{needs}
 use Prim.Native.Nat.{ℕ, zero-le, _≤_, _-_, _/_}
 use Rattle.reasons.proofs.Laws as laws
 use Rattle.leads.specs.Leads.{entryIn}
@@ -23,10 +22,10 @@ loop-holds : tie.Need-loop-holds Inv-loop μ-loop
 loop-holds c = (zero-le, refl, refl, refl, laws.listing-start _ _ _ _ _ _ _ _ _)
 
 get-listed-requires : tie.Need-get-listed-requires Inv-loop μ-loop
-get-listed-requires c κs = search needs
+get-listed-requires c κs = tt
 
 emit-noted-requires : tie.Need-emit-noted-requires Inv-loop μ-loop
-emit-noted-requires c κs = search needs
+emit-noted-requires c κs = tt
 
 add-k : tie.Need-add-k Inv-loop μ-loop
 add-k c = omega arith
@@ -38,13 +37,13 @@ loop-again : tie.Need-loop-again Inv-loop μ-loop
 loop-again c = (omega arith, c .before .before .before .before .before .before .emit-noted .kept .1 .1 .0 ∙ c .before .before .before .before .before .before .before .before .before .before .before .before .before .loop .inv .1, c .before .before .before .before .before .before .emit-noted .kept .1 .1 .1 .0 ∙ c .before .before .before .before .before .before .before .before .before .before .before .before .before .loop .inv .2, c .before .before .before .before .before .before .emit-noted .kept .1 .1 .1 .1 .0 ∙ c .before .before .before .before .before .before .before .before .before .before .before .before .before .loop .inv .3, laws.listing-turn _ _ _ _ _ _ _ _ _ _ _ _ _ _ (c .before .before .before .before .before .before .before .before .before .before .before .before .before .loop .inv .4) (c .before .before .before .before .before .before .before .before .before .before .before .before .loop-test .taken) _ (c .before .before .before .before .before .before .before .before .before .before .get-listed .ensures) _ (ap (λ (i : ℕ). i / 12) (c .before .before .before .before .before .before .before .before .before .before .before .before .before .loop .inv .3)) _ _ _ _ (c .before .before .before .before .before .before .emit-noted .ensures (c .before .before .before .before .before .before .before .before .before .before .before .before .before .before .before .before .before .before .before .args .n)))
 
 same-length : tie.Need-same-length Inv-loop μ-loop
-same-length c = search needs
+same-length c = c .before .loop .inv .1
 
 same-length-2 : tie.Need-same-length-2 Inv-loop μ-loop
-same-length-2 c = search needs
+same-length-2 c = c .before .loop .inv .2
 
 same-length-3 : tie.Need-same-length-3 Inv-loop μ-loop
-same-length-3 c = search needs
+same-length-3 c = c .before .loop .inv .3
 
 returns : tie.Need-returns Inv-loop μ-loop
 returns c = laws.listing-end _ _ _ _ _ _ _ _ _ _ _ _ _ _ (c .before .loop .inv .4) (c .loop-test .left)

@@ -2,15 +2,14 @@ use mathlib.Core.Path.{ap}
 use mathlib.Core.Bool.{not}
 use lib.Dec.{eqb}
 use Prim.Native.Nat.{ℕ}
-use borrow.Author.Needs.{needs}
-use Rattle.noting.proofs.get_fwd_emitted.Statement.{statement}
-use Rattle.noting.proofs.get_fwd_emitted.Tie as tie
-use Rattle.noting.proofs.get_fwd_emitted.Reads as reads
-use Rattle.noting.proofs.get_fwd_emitted.Lts as lts
+use Rattle.alone.proofs.get_fwd_emitted.Statement.{statement}
+use Rattle.alone.proofs.get_fwd_emitted.Tie as tie
+use Rattle.alone.proofs.get_fwd_emitted.Reads as reads
+use Rattle.alone.proofs.get_fwd_emitted.Lts as lts
 use Rattle.btf.proofs.get_field.Reads as get-field-reads
 
 get-field-requires : tie.Need-get-field-requires
-get-field-requires c κs = search needs
+get-field-requires c κs = tt
 
 returns : tie.Need-returns
 returns c = ap (λ (v : ℕ). not (eqb v 0)) (c .get-field .ensures)

@@ -1,0 +1,115 @@
+-- Entries one after another in a lent list, and the list after one request. Assumes nothing.
+use Prim.Native.Nat.{ℕ, zero, suc, _+_, _-_, _*_, _<_, _≤_}
+use mathlib.Core.Path.{_≡_, refl, ap, _∙_, sym}
+use mathlib.Core.Bool.{Bool, true, false}
+use mathlib.Core.List.{List, [], _∷_, _++_, append-assoc}
+use native.Mathlib.Omega.{arith}
+use lib.ListN.{length, take, drop, replicate, getD, length-append, length-replicate, getD-replicate}
+use lib.Seq.{take-at, getD-append-add}
+use lib.Dec.{ltb}
+use Rattle.turns.specs.declared.Session.{Session}
+use Rattle.turns.specs.Answers.{numberOf, answerOf}
+use Rattle.turns.specs.Turns.{Call, isCurrent, settled, unchanged, tableFor}
+use Rattle.calls.specs.Refusals.{notCurrent, idNotBelow, number, refusal}
+use Rattle.calls.specs.Calls.{requested, typeCall}
+use Rattle.causes.specs.Causes.{Entry, upTo, wordBytes, bytesOf, filled, entriesIn}
+use Rattle.causes.specs.Claims.{Listed}
+use Rattle.causes.specs.Bytes.{CauseCall, requestedNoted, settledNoted, leftAlone, typeCauses, CauseFits}
+use Rattle.causes.proofs.Bytes.{type-fits}
+
+bytes-length : (es : List Entry) → length (bytesOf es) ≡ 12 * length es
+unfolding bytesOf
+bytes-length [] = refl
+bytes-length (e ∷ es) = let h : length (bytesOf es) ≡ 12 * length es = bytes-length es in omega arith
+
+bytes-append : (es fs : List Entry) → bytesOf (es ++ fs) ≡ bytesOf es ++ bytesOf fs
+unfolding bytesOf
+bytes-append [] fs = refl
+bytes-append (e ∷ es) fs = ap (λ (x : List ℕ). wordBytes (e .id) ++ (wordBytes (e .cause) ++ (wordBytes (e .leader) ++ x))) (bytes-append es fs)
+
+-- ---- a list with entries es: they fit, and they are its first bytes
+module _ (n : ℕ) (es : List Entry) (a : List ℕ) (h : Listed n es a) where
+  pub listed-fits : 12 * length es ≤ n
+  listed-fits =
+      let zs : List ℕ = replicate (n - 12 * length es) 0 in
+      let e : length a ≡ length (bytesOf es) + length zs = ap length (h .is) ∙ length-append (bytesOf es) zs in
+      let f : length zs ≡ n - 12 * length es = length-replicate {A = ℕ} (n - 12 * length es) 0 in
+      let g : length (bytesOf es) ≡ 12 * length es = bytes-length es in
+      let i : length a ≡ n = h .size in
+      omega arith
+
+  first-bytes : take (length es * 12) a ≡ bytesOf es
+  first-bytes = ap (take (length es * 12)) (h .is) ∙ take-at (bytesOf es) (replicate (n - 12 * length es) 0) (length es * 12) (let g : length (bytesOf es) ≡ 12 * length es = bytes-length es in omega arith)
+
+  -- and the entries fs in what follows them
+  pub listed-both : (m : ℕ) → m ≡ n - length es * 12 → (fs : List Entry) (b : List ℕ) → Listed m fs b → Listed n (es ++ fs) (take (length es * 12) a ++ b)
+  listed-both m em fs b k = record {
+    is = (λ i. first-bytes i ++ k .is i) ∙ sym (append-assoc (bytesOf es) (bytesOf fs) (replicate (m - 12 * length fs) 0))
+        ∙ (λ i. together i ++ replicate (left i) 0);
+    size = length-append (take (length es * 12) a) b ∙ (let e : length (take (length es * 12) a) ≡ length (bytesOf es) = ap length first-bytes in let g : length (bytesOf es) ≡ 12 * length es = bytes-length es in let s : length b ≡ m = k .size in let f : 12 * length es ≤ n = listed-fits in omega arith);
+  }
+    where
+      together : bytesOf es ++ bytesOf fs ≡ bytesOf (es ++ fs)
+      together = sym (bytes-append es fs)
+
+      left : m - 12 * length fs ≡ n - 12 * length (es ++ fs)
+      left = let e : length (es ++ fs) ≡ length es + length fs = length-append es fs in omega arith
+
+-- ---- a request leaves the list alone, refused, or fills it
+data View (c : Call) (d : CauseCall) (l : List ℕ) : Type 0 where
+  alone : d .count ≡ 0 → (numberOf (c .answer) ≡ 0 → ⊥) → View c d l
+  full : (es : List Entry) → d .count ≡ length es → d .list ≡ filled (length l) es → View c d l
+
+module _ (s : Session) (section work text : List ℕ) (id : ℕ) where
+  view : (l : List ℕ) → View (typeCall s section work text id) (typeCauses s section work text id l) l
+  unfolding typeCauses typeCall settledNoted numberOf answerOf number
+  view l = by (isCurrent s (length section) (length work) (length text)) (ltb id (s .types))
+    where
+      by : (o b : Bool) → View
+          (elim o [ false ↦ unchanged s (refusal notCurrent (s .«text_len»)) work text | true ↦ elim b [ false ↦ unchanged s (refusal idNotBelow (s .«text_len»)) work text | true ↦ settled s (length work) (length text) (requested (tableFor s section) section id (s .«text_len») work text) ] ])
+          (elim o [
+            | false ↦ leftAlone (unchanged s (refusal notCurrent (s .«text_len»)) work text) l
+            | true ↦ elim b [
+              | false ↦ leftAlone (unchanged s (refusal idNotBelow (s .«text_len»)) work text) l
+              | true ↦ settledNoted s (length work) (length text) l (requestedNoted (upTo (entriesIn l)) (tableFor s section) section id [] (s .«text_len») work text)
+            ]
+          ]) l
+      by false b = alone refl (λ e. let z : _≡_ {A = ℕ} 11 0 = e in omega arith)
+      by true false = alone refl (λ e. let z : _≡_ {A = ℕ} 10 0 = e in omega arith)
+      by true true = full (requestedNoted (upTo (entriesIn l)) (tableFor s section) section id [] (s .«text_len») work text .entries) refl refl
+
+  abbrev fit : CauseFits (typeCall s section work text id) (λ l. typeCauses s section work text id l)
+  fit = type-fits s section work text id
+
+  -- a long list of ones: what fills it leaves a zero
+  ones : List ℕ
+  ones = replicate (12 * (fit .need + length (fit .entries) + 1)) 1
+
+  ones-long : length ones ≡ 12 * (fit .need + length (fit .entries) + 1)
+  unfolding ones
+  ones-long = length-replicate {A = ℕ} (12 * (fit .need + length (fit .entries) + 1)) 1
+
+  ones-room : fit .need ≤ entriesIn ones
+  ones-room = let e : length ones ≡ 12 * (fit .need + length (fit .entries) + 1) = ones-long in omega arith
+
+  not-filled : (es : List Entry) → length es ≡ length (fit .entries) → filled (length ones) es ≡ ones → ⊥
+  unfolding filled ones
+  not-filled es ee e =
+      let n : length (bytesOf es) ≡ 12 * length es = bytes-length es in
+      let o : length ones ≡ 12 * (fit .need + length (fit .entries) + 1) = ones-long in
+      let z : getD ones (length (bytesOf es) + 0) 0 ≡ 0 =
+      ap (λ (x : List ℕ). getD x (length (bytesOf es) + 0) 0) (sym e) ∙ getD-append-add (bytesOf es) (replicate (length ones - 12 * length es) 0) 0 0 ∙ getD-replicate (length ones - 12 * length es) 0 0 0 (omega arith) in
+      let u : getD ones (length (bytesOf es) + 0) 0 ≡ 1 = getD-replicate (12 * (fit .need + length (fit .entries) + 1)) (length (bytesOf es) + 0) 1 0 (omega arith) in
+      omega arith
+
+  -- a request that leaves the list alone has no entries, and is refused
+  pub quiet : fit .zeroed ≡ false → (fit .entries ≡ []) × (numberOf (typeCall s section work text id .answer) ≡ 0 → ⊥)
+  quiet z = go (view ones)
+    where
+      none : (es : List Entry) → length es ≡ 0 → es ≡ []
+      none [] e = refl
+      none (x ∷ es) e = absurd (omega arith)
+
+      go : View (typeCall s section work text id) (typeCauses s section work text id ones) ones → (fit .entries ≡ []) × (numberOf (typeCall s section work text id .answer) ≡ 0 → ⊥)
+      go (alone e f) = (none (fit .entries) (sym (fit .counts ones ones-room) ∙ e), f)
+      go (full es e f) = absurd (not-filled es (sym e ∙ fit .counts ones ones-room) (sym f ∙ fit .leaves z ones))
