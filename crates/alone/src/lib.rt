@@ -2,10 +2,10 @@
 // composite within another, and the ends of a typedef and a composite.
 use btf::Btf;
 use btf::BtfType;
-use btf::get_field;
-use btf::kind_of;
-use btf::put_field;
-use btf::type_by_id;
+use cells::get_field;
+use cells::put_field;
+use kinds::kind_of;
+use nodes::type_by_id;
 use noted::Asked;
 use noted::Cause;
 use noted::Pen;

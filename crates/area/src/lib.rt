@@ -1,11 +1,11 @@
 // Cause 5: the records, one after the other, and the index of where each starts.
 use btf::Btf;
 use btf::Extra;
-use btf::extra_of;
-use btf::kind_of;
-use btf::vlen_of;
-use btf::word;
 use header::btf_header;
+use kinds::extra_of;
+use kinds::kind_of;
+use kinds::vlen_of;
+use sections::word;
 ghost use mathlib.Core.Path.{_≡_};
 ghost use Prim.Native.Nat.{_+_, _*_, _%_, _≤_};
 ghost use lib.ListN.{set};

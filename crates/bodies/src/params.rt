@@ -1,8 +1,8 @@
 // Which parameters of a prototype are printed, and how.
 use btf::Btf;
 use btf::Entries;
-use btf::param_place;
-use btf::word;
+use kinds::param_place;
+use sections::word;
 ghost use mathlib.Core.Path.{_≡_};
 ghost use mathlib.Core.Bool.{_&&_};
 ghost use Prim.Native.Nat.{_+_};

@@ -1,9 +1,9 @@
 // The words that stand between names: stars, brackets, commas, sizes, attributes.
 use btf::Btf;
 use btf::BtfType;
-use btf::kind_flag_of;
 use fixed::put_attribute_start;
 use fixed::put_packed_name;
+use kinds::kind_flag_of;
 use names::Name;
 use names::is_blank;
 use tags::put_attribute;

@@ -39,18 +39,19 @@ more-full : (w : List ℕ) (i n : ℕ) → n ≡ getWord w i → 4294967295 ≤ 
 unfolding withMore
 more-full w i n e l = rw (le-ltb (getWord w i) 4294967295 (rw e at l), withMore)
 
-module _ (types : ℕ) (w : List ℕ) (h p class at n : ℕ) (ep : p ≡ placeOf types 5 1 h) (ec : class ≡ getWord w p) (ea : at ≡ placeOf types 6 2 class) (en : n ≡ getWord w at) where
+pub more-counted : (w u : List ℕ) (i n : ℕ) → n ≡ getWord w i → n < 4294967295 → u ≡ putWord w i (n + 1) → (n + 1 ≡ oneMore (getWord w i)) × (u ≡ withMore w i)
+more-counted w u i n e l eu = (one-up (getWord w i) n e l, eu ∙ more-up w i n e l)
+
+pub full-counted : (w : List ℕ) (i n : ℕ) → n ≡ getWord w i → 4294967295 ≤ n → (n ≡ oneMore (getWord w i)) × (w ≡ withMore w i)
+full-counted w i n e l = (one-full (getWord w i) n e l, more-full w i n e l)
+
+module _ (types : ℕ) (w : List ℕ) (h p class at : ℕ) (ep : p ≡ placeOf types 5 1 h) (ec : class ≡ getWord w p) (ea : at ≡ placeOf types 6 2 class) where
   where-is : at ≡ countP types (getWord w (classP types h))
   where-is = ea ∙ ap (λ (x : ℕ). placeOf types 6 2 x) (ec ∙ ap (getWord w) ep)
 
-  pub count-up : (u : List ℕ) → n < 4294967295 → u ≡ putWord w at (n + 1) → (n + 1 ≡ countOf (classP types) (countP types) w h) × (u ≡ counted (classP types) (countP types) w h)
+  pub counted-at : (r : ℕ) (u : List ℕ) → (r ≡ oneMore (getWord w at)) × (u ≡ withMore w at) → (r ≡ countOf (classP types) (countP types) w h) × (u ≡ counted (classP types) (countP types) w h)
   unfolding countOf counted
-  count-up u l eu =
-      (one-up (getWord w at) n en l ∙ ap (λ (x : ℕ). oneMore (getWord w x)) where-is, eu ∙ more-up w at n en l ∙ ap (withMore w) where-is)
-
-  pub count-full : 4294967295 ≤ n → (n ≡ countOf (classP types) (countP types) w h) × (w ≡ counted (classP types) (countP types) w h)
-  unfolding countOf counted
-  count-full l = (one-full (getWord w at) n en l ∙ ap (λ (x : ℕ). oneMore (getWord w x)) where-is, more-full w at n en l ∙ ap (withMore w) where-is)
+  counted-at r u m = (m .0 ∙ ap (λ (x : ℕ). oneMore (getWord w x)) where-is, m .1 ∙ ap (withMore w) where-is)
 
 -- ---- records
 module _ (b : Btf) (s : List ℕ) where

@@ -1,34 +1,11 @@
-// A type table read from the bytes of its section: header, records, names.
-mod cells;
+// A type table read from the bytes of its section: header, records, names. Structs, definitions and laws; the code stands in
+// `cells`, `kinds`, `sections`, `entries` and `nodes`.
 mod node;
 mod types;
 
-pub use cells::get_count;
-pub use cells::get_field;
-pub use cells::holder_word;
-pub use cells::put_field;
 pub use node::Node;
-pub use node::node_of;
 pub use types::Btf;
 pub use types::BtfMember;
 pub use types::BtfType;
 pub use types::Entries;
 pub use types::Extra;
-pub use types::array_nelems;
-pub use types::array_type;
-pub use types::comp_idx_of;
-pub use types::entries_of;
-pub use types::extra_of;
-pub use types::int_bits;
-pub use types::is_struct;
-pub use types::kind_flag_of;
-pub use types::kind_of;
-pub use types::load_enum_value;
-pub use types::load_enum64_value;
-pub use types::load_member;
-pub use types::load_type;
-pub use types::member_place;
-pub use types::param_place;
-pub use types::type_by_id;
-pub use types::vlen_of;
-pub use types::word;

@@ -2,10 +2,10 @@
 // only popped, so it is kept as the id that it starts from and how many entries it has: entry k is k steps from there.
 use btf::Btf;
 use btf::BtfType;
-use btf::array_type;
-use btf::kind_of;
-use btf::type_by_id;
+use kinds::kind_of;
 use layout::Ask;
+use nodes::type_by_id;
+use sections::array_type;
 ghost use mathlib.Core.Path.{_≡_};
 ghost use mathlib.Core.List.{[]};
 ghost use Rattle.rules.specs.Decl.{chainOf};

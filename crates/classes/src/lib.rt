@@ -2,7 +2,7 @@
 // void, for a type whose name has no space. They are found by hashing, in scratch words that are 0 again afterwards.
 // Holder h is type h below the number of types, and after those an enumerator.
 use btf::Btf;
-use btf::holder_word;
+use cells::holder_word;
 use keys::Key;
 use keys::hash_name;
 use keys::load_key;

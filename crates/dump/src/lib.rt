@@ -1,11 +1,11 @@
 // One request: ordering, then the lines of the listed ids, from the list's first to its last.
 use btf::Btf;
-use btf::kind_of;
-use btf::type_by_id;
 use emit::emit_type;
+use kinds::kind_of;
 use marks::Order;
 use marks::get_listed;
 use marks::get_order_state;
+use nodes::type_by_id;
 use order::order_type;
 use sheet::clear_list;
 use text::stop;

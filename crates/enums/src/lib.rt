@@ -1,17 +1,17 @@
 // Enums of 32 bits.
 use btf::Btf;
 use btf::BtfType;
-use btf::entries_of;
-use btf::get_field;
-use btf::kind_flag_of;
-use btf::load_enum_value;
-use btf::param_place;
-use btf::word;
+use cells::get_field;
+use entries::load_enum_value;
 use enumerators::deeper;
 use enumerators::emit_enum_end;
 use enumerators::emit_enum_head;
 use enumerators::emit_enumerator;
 use enumerators::nth;
+use kinds::entries_of;
+use kinds::kind_flag_of;
+use kinds::param_place;
+use sections::word;
 use signs::as_i32;
 use signs::put_i32;
 use strings::is_builtin;

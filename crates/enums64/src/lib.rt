@@ -1,18 +1,18 @@
 // Enums of 64 bits.
 use btf::Btf;
 use btf::BtfType;
-use btf::entries_of;
-use btf::get_field;
-use btf::kind_flag_of;
-use btf::load_enum64_value;
-use btf::member_place;
-use btf::word;
+use cells::get_field;
+use entries::load_enum64_value;
 use enumerators::deeper;
 use enumerators::emit_enum_end;
 use enumerators::emit_enum_head;
 use enumerators::emit_enumerator;
 use enumerators::nth;
 use fixed::put_ull;
+use kinds::entries_of;
+use kinds::kind_flag_of;
+use kinds::member_place;
+use sections::word;
 use signs::as_i64;
 use signs::put_i64;
 use strings::is_builtin;

@@ -2,15 +2,15 @@
 // four bytes each, least significant first.
 use btf::Btf;
 use btf::BtfType;
-use btf::array_type;
-use btf::kind_of;
-use btf::type_by_id;
 use header::btf_of;
 use inward::Shape;
 use inward::Step;
 use inward::entry_before;
 use inward::next_step;
+use kinds::kind_of;
 use layout::Ask;
+use nodes::type_by_id;
+use sections::array_type;
 use turns::Answer;
 use turns::Session;
 use turns::is_current;

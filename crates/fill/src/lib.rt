@@ -1,14 +1,14 @@
 // What success leaves in the work: the places of records and enumerators, the tags of each type, the name classes.
 use btf::Btf;
 use btf::Entries;
-use btf::get_field;
-use btf::member_place;
-use btf::param_place;
-use btf::put_field;
-use btf::vlen_of;
-use btf::word;
+use cells::get_field;
+use cells::put_field;
 use classes::classes;
+use kinds::member_place;
+use kinds::param_place;
+use kinds::vlen_of;
 use lent::put_word;
+use sections::word;
 ghost use mathlib.Core.Path.{_≡_};
 ghost use Prim.Native.Nat.{_+_, _-_, _/_, _%_, _≤_, _<_};
 ghost use lib.ListN.{getD};

@@ -1,10 +1,10 @@
 // Types by id, through the index, and the ids that they follow.
 use btf::Btf;
 use btf::Entries;
-use btf::member_place;
-use btf::param_place;
-use btf::vlen_of;
-use btf::word;
+use kinds::member_place;
+use kinds::param_place;
+use kinds::vlen_of;
+use sections::word;
 ghost use mathlib.Core.Path.{_≡_};
 ghost use Prim.Native.Nat.{_+_};
 ghost use Rattle.btf.specs.Records.{sectionWord, vlenOf};

@@ -2,9 +2,9 @@
 use btf::Btf;
 use btf::BtfMember;
 use btf::BtfType;
-use btf::load_member;
-use btf::vlen_of;
 use ends::member_end;
+use entries::load_member;
+use kinds::vlen_of;
 use layout::Ask;
 use layout::get_size_of;
 use lent::put_word;

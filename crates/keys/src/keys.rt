@@ -2,10 +2,10 @@
 // those an enumerator.
 use crate::hash::same_name;
 use btf::Btf;
-use btf::holder_word;
-use btf::kind_of;
-use btf::word;
+use cells::holder_word;
+use kinds::kind_of;
 use lent::get_word;
+use sections::word;
 ghost use mathlib.Core.Path.{_≡_};
 ghost use Rattle.classed.specs.Same.{sameList};
 ghost use Rattle.classed.specs.Classes.{spaceOf, spaceAt, nameOf, keyOf, keyIn};

@@ -1,10 +1,10 @@
 // Sizes; alignments are asked with a memory (crates remembered, asked). `left` is how many more calls may be open.
 use btf::Btf;
-use btf::array_nelems;
-use btf::array_type;
-use btf::int_bits;
-use btf::kind_of;
-use btf::type_by_id;
+use kinds::kind_of;
+use nodes::type_by_id;
+use sections::array_nelems;
+use sections::array_type;
+use sections::int_bits;
 ghost use mathlib.Core.Path.{_≡_};
 ghost use Prim.Native.Nat.{_*_};
 ghost use Rattle.rules.specs.Writer.{checked, askThen};

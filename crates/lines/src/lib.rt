@@ -1,14 +1,14 @@
 // The lines of the text: definitions, forward lines and typedefs, each with its end.
 use btf::Btf;
 use btf::BtfType;
-use btf::is_struct;
-use btf::kind_flag_of;
-use btf::kind_of;
 use decl::emit_composite_def;
 use enums::emit_enum_def;
 use enums64::emit_enum64_def;
 use forwards::emit_composite_fwd;
 use forwards::emit_fwd_def;
+use kinds::is_struct;
+use kinds::kind_flag_of;
+use kinds::kind_of;
 use strings::is_builtin;
 use text::put_three;
 use typedefs::emit_typedef_def;

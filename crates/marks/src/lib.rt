@@ -1,6 +1,6 @@
 // What ordering keeps: the order states of the types and the order list, both in the work words, and what it has come to.
-use btf::get_field;
-use btf::put_field;
+use cells::get_field;
+use cells::put_field;
 ghost use mathlib.Core.Path.{_≡_};
 ghost use Rattle.rules.specs.Order.{finish as finishOf};
 ghost use Rattle.ceiling.specs.Ceiling.{told, thenBind};

@@ -1,8 +1,8 @@
 // Names as they are printed. The first holder of a name prints it bare; the n-th, from 2 on, adds three underscores and n, or a
 // later number where opening listed numbers that are passed over.
 use btf::Btf;
-use btf::get_field;
-use btf::put_field;
+use cells::get_field;
+use cells::put_field;
 use fixed::put_underscores;
 use numbers::get_number;
 use strings::is_empty;

@@ -1,7 +1,7 @@
 // The number that the next holder of a name gets: how many there are then, with the numbers passed over that are listed at the
 // class of its name.
-use btf::get_count;
-use btf::holder_word;
+use cells::get_count;
+use cells::holder_word;
 use lent::get_word;
 ghost use mathlib.Core.Path.{_≡_};
 ghost use Prim.Native.Nat.{_+_};

@@ -3,7 +3,7 @@ use asked::gap_align;
 use btf::Btf;
 use btf::BtfMember;
 use btf::BtfType;
-use btf::is_struct;
+use kinds::is_struct;
 use layout::Ask;
 use pads::put_pads;
 use pads::put_placed_pads;

@@ -1,11 +1,11 @@
 // How a call of ordering starts: what it costs, and an id that is ordered or in progress.
 use btf::Btf;
-use btf::kind_of;
-use btf::type_by_id;
+use kinds::kind_of;
 use marks::Order;
 use marks::get_order_state;
 use marks::refused;
 use marks::strong;
+use nodes::type_by_id;
 use strings::is_named;
 ghost use mathlib.Core.Path.{_≡_};
 ghost use Prim.Native.Nat.{_≤_};

@@ -2,8 +2,8 @@
 // alignment; word 2 of void counts the visits.
 use btf::Btf;
 use btf::Entries;
-use btf::get_field;
-use btf::put_field;
+use cells::get_field;
+use cells::put_field;
 ghost use mathlib.Core.Path.{_≡_};
 ghost use Prim.Native.Nat.{_<_};
 ghost use Rattle.remembered.specs.Words.{seenIs, coded, counted, remembered, onceOf, heightOf, keptWith};

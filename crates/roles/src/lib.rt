@@ -1,7 +1,7 @@
 // The words of a record. The tables are texts of digits, one for each kind 0 to 19.
 use btf::Btf;
-use btf::vlen_of;
-use btf::word;
+use kinds::vlen_of;
+use sections::word;
 ghost use mathlib.Core.Path.{_≡_};
 ghost use Rattle.roles.specs.Words.{digitAt, fixedWords, entryWords, column, role, wordsIn, wordOf};
 

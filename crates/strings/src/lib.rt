@@ -1,7 +1,7 @@
 // Names in the string area: the bytes from a place up to the first 0.
 use btf::Btf;
 use btf::BtfType;
-use btf::kind_of;
+use kinds::kind_of;
 ghost use mathlib.Core.Path.{_≡_};
 ghost use Prim.Native.Nat.{_≤_, _-_};
 ghost use lib.ListN.{length, take, drop};

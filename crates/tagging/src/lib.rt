@@ -1,9 +1,9 @@
 // After the marks: the declaration tags of what is marked, then the numbers in old order.
 use btf::Btf;
-use btf::word;
 use followed::count;
 use followed::entry;
 use followed::kind_at;
+use sections::word;
 ghost use mathlib.Core.Path.{_≡_};
 ghost use Prim.Native.Nat.{_<_};
 ghost use lib.ListN.{getD};

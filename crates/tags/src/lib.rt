@@ -1,14 +1,14 @@
 // Declaration tags and type tags.
 use btf::Btf;
-use btf::comp_idx_of;
-use btf::get_field;
-use btf::kind_flag_of;
-use btf::kind_of;
-use btf::type_by_id;
+use cells::get_field;
 use escapes::put_escaped;
 use fixed::put_attribute_start;
 use fixed::put_decl_tag;
 use fixed::put_type_tag;
+use kinds::kind_flag_of;
+use kinds::kind_of;
+use nodes::type_by_id;
+use sections::comp_idx_of;
 use strings::get_btf_str;
 use text::put_bytes;
 use text::put_two;

@@ -1,6 +1,6 @@
 // Each name that is another one of its space with a suffix is put on that one's list.
 use btf::Btf;
-use btf::holder_word;
+use cells::holder_word;
 use keys::load_key;
 use lent::get_word;
 use lent::put_word;

@@ -7,8 +7,8 @@ use Rattle.alone.proofs.emit_again.Statement.{statement}
 use Rattle.alone.proofs.emit_again.Tie as tie
 use Rattle.alone.proofs.emit_again.Reads as reads
 use Rattle.alone.proofs.emit_again.Lts as lts
-use Rattle.btf.proofs.kind_of.Reads as kind-of-reads
-use Rattle.btf.proofs.type_by_id.Reads as type-by-id-reads
+use Rattle.kinds.proofs.kind_of.Reads as kind-of-reads
+use Rattle.nodes.proofs.type_by_id.Reads as type-by-id-reads
 use Rattle.noted.proofs.cause_at.Reads as cause-at-reads
 use Rattle.alone.proofs.emit_once.Reads as emit-once-reads
 use Rattle.alone.proofs.get_fwd_emitted.Reads as get-fwd-emitted-reads

@@ -4,9 +4,9 @@ use Rattle.area.proofs.are_record_names_inside.Statement.{statement}
 use Rattle.area.proofs.are_record_names_inside.Tie as tie
 use Rattle.area.proofs.are_record_names_inside.Reads as reads
 use Rattle.area.proofs.are_record_names_inside.Lts as lts
-use Rattle.btf.proofs.kind_of.Reads as kind-of-reads
-use Rattle.btf.proofs.vlen_of.Reads as vlen-of-reads
-use Rattle.btf.proofs.word.Reads as word-reads
+use Rattle.kinds.proofs.kind_of.Reads as kind-of-reads
+use Rattle.kinds.proofs.vlen_of.Reads as vlen-of-reads
+use Rattle.sections.proofs.word.Reads as word-reads
 use Rattle.area.proofs.are_names_inside.Reads as are-names-inside-reads
 use Rattle.area.proofs.named_entry.Reads as named-entry-reads
 

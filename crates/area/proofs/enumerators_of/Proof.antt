@@ -4,8 +4,8 @@ use Rattle.area.proofs.enumerators_of.Statement.{statement}
 use Rattle.area.proofs.enumerators_of.Tie as tie
 use Rattle.area.proofs.enumerators_of.Reads as reads
 use Rattle.area.proofs.enumerators_of.Lts as lts
-use Rattle.btf.proofs.kind_of.Reads as kind-of-reads
-use Rattle.btf.proofs.vlen_of.Reads as vlen-of-reads
+use Rattle.kinds.proofs.kind_of.Reads as kind-of-reads
+use Rattle.kinds.proofs.vlen_of.Reads as vlen-of-reads
 
 kind-of-requires : tie.Need-kind-of-requires
 kind-of-requires c κs = search needs

@@ -5,10 +5,10 @@ use Rattle.area.proofs.next_record.Statement.{statement}
 use Rattle.area.proofs.next_record.Tie as tie
 use Rattle.area.proofs.next_record.Reads as reads
 use Rattle.area.proofs.next_record.Lts as lts
-use Rattle.btf.proofs.extra_of.Reads as extra-of-reads
-use Rattle.btf.proofs.kind_of.Reads as kind-of-reads
-use Rattle.btf.proofs.vlen_of.Reads as vlen-of-reads
-use Rattle.btf.proofs.word.Reads as word-reads
+use Rattle.kinds.proofs.extra_of.Reads as extra-of-reads
+use Rattle.kinds.proofs.kind_of.Reads as kind-of-reads
+use Rattle.kinds.proofs.vlen_of.Reads as vlen-of-reads
+use Rattle.sections.proofs.word.Reads as word-reads
 use Rattle.area.proofs.are_record_names_inside.Reads as are-record-names-inside-reads
 
 returns : tie.Need-returns

@@ -9,8 +9,8 @@ use Rattle.area.proofs.scan_area.Statement.{statement}
 use Rattle.area.proofs.scan_area.Tie as tie
 use Rattle.area.proofs.scan_area.Reads as reads
 use Rattle.area.proofs.scan_area.Lts as lts
-use Rattle.btf.proofs.kind_of.Reads as kind-of-reads
-use Rattle.btf.proofs.word.Reads as word-reads
+use Rattle.kinds.proofs.kind_of.Reads as kind-of-reads
+use Rattle.sections.proofs.word.Reads as word-reads
 use Rattle.area.proofs.enumerators_of.Reads as enumerators-of-reads
 use Rattle.area.proofs.next_record.Reads as next-record-reads
 use Rattle.area.proofs.put_start.Reads as put-start-reads

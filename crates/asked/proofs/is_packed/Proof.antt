@@ -7,7 +7,7 @@ use Rattle.asked.proofs.is_packed.Lts as lts
 use Rattle.asked.proofs.alignment.Reads as alignment-reads
 use Rattle.asked.proofs.is_multiple.Reads as is-multiple-reads
 use Rattle.asked.proofs.members_packed.Reads as members-packed-reads
-use Rattle.btf.proofs.is_struct.Reads as is-struct-reads
+use Rattle.kinds.proofs.is_struct.Reads as is-struct-reads
 
 -- src/lib.rt:110:9
 is-struct-requires : tie.Need-is-struct-requires

@@ -11,8 +11,8 @@ use Rattle.asked.proofs.members_packed.Tie as tie
 use Rattle.asked.proofs.members_packed.Reads as reads
 use Rattle.asked.proofs.members_packed.Lts as lts
 use Rattle.asked.proofs.member_off.Reads as member-off-reads
-use Rattle.btf.proofs.load_member.Reads as load-member-reads
-use Rattle.btf.proofs.vlen_of.Reads as vlen-of-reads
+use Rattle.entries.proofs.load_member.Reads as load-member-reads
+use Rattle.kinds.proofs.vlen_of.Reads as vlen-of-reads
 
 abbrev Inv-loop : tie.InvT-loop
 Inv-loop b section work₀ t vlen k₀ work k = (k ≤ vlen) × (vlen < 4294967296) × (length work ≡ length work₀) × (btfOf b section work ≡ btfOf b section work₀) × (membersIn (b .types) (btfOf b section work₀) (membersOf b section t) work₀ ≡ membersRest (b .types) (btfOf b section work₀) b section t k work)

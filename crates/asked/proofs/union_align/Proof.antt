@@ -5,7 +5,7 @@ use Rattle.asked.proofs.union_align.Tie as tie
 use Rattle.asked.proofs.union_align.Reads as reads
 use Rattle.asked.proofs.union_align.Lts as lts
 use Rattle.asked.proofs.alignment.Reads as alignment-reads
-use Rattle.btf.proofs.is_struct.Reads as is-struct-reads
+use Rattle.kinds.proofs.is_struct.Reads as is-struct-reads
 
 -- src/lib.rt:43:8
 is-struct-requires : tie.Need-is-struct-requires

@@ -11,7 +11,7 @@ use Rattle.classes.proofs.clear_scratch.Statement.{statement}
 use Rattle.classes.proofs.clear_scratch.Tie as tie
 use Rattle.classes.proofs.clear_scratch.Reads as reads
 use Rattle.classes.proofs.clear_scratch.Lts as lts
-use Rattle.btf.proofs.holder_word.Reads as holder-word-reads
+use Rattle.cells.proofs.holder_word.Reads as holder-word-reads
 use Rattle.lent.proofs.put_word.Reads as put-word-reads
 
 abbrev Inv-loop : tie.InvT-loop

@@ -10,7 +10,7 @@ use Rattle.classes.proofs.clear_words.Statement.{statement}
 use Rattle.classes.proofs.clear_words.Tie as tie
 use Rattle.classes.proofs.clear_words.Reads as reads
 use Rattle.classes.proofs.clear_words.Lts as lts
-use Rattle.btf.proofs.holder_word.Reads as holder-word-reads
+use Rattle.cells.proofs.holder_word.Reads as holder-word-reads
 use Rattle.lent.proofs.put_word.Reads as put-word-reads
 
 abbrev Inv-loop : tie.InvT-loop

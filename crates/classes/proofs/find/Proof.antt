@@ -10,7 +10,7 @@ use Rattle.classes.proofs.find.Statement.{statement}
 use Rattle.classes.proofs.find.Tie as tie
 use Rattle.classes.proofs.find.Reads as reads
 use Rattle.classes.proofs.find.Lts as lts
-use Rattle.btf.proofs.holder_word.Reads as holder-word-reads
+use Rattle.cells.proofs.holder_word.Reads as holder-word-reads
 use Rattle.keys.proofs.load_key.Reads as load-key-reads
 use Rattle.keys.proofs.same_key.Reads as same-key-reads
 use Rattle.lent.proofs.get_word.Reads as get-word-reads

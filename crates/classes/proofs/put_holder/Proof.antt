@@ -10,7 +10,7 @@ use Rattle.classes.proofs.put_holder.Statement.{statement}
 use Rattle.classes.proofs.put_holder.Tie as tie
 use Rattle.classes.proofs.put_holder.Reads as reads
 use Rattle.classes.proofs.put_holder.Lts as lts
-use Rattle.btf.proofs.holder_word.Reads as holder-word-reads
+use Rattle.cells.proofs.holder_word.Reads as holder-word-reads
 use Rattle.keys.proofs.hash_name.Reads as hash-name-reads
 use Rattle.classes.proofs.choose.Reads as choose-reads
 use Rattle.classes.proofs.find.Reads as find-reads

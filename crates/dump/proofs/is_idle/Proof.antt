@@ -7,8 +7,8 @@ use Rattle.dump.proofs.is_idle.Statement.{statement}
 use Rattle.dump.proofs.is_idle.Tie as tie
 use Rattle.dump.proofs.is_idle.Reads as reads
 use Rattle.dump.proofs.is_idle.Lts as lts
-use Rattle.btf.proofs.kind_of.Reads as kind-of-reads
-use Rattle.btf.proofs.type_by_id.Reads as type-by-id-reads
+use Rattle.kinds.proofs.kind_of.Reads as kind-of-reads
+use Rattle.nodes.proofs.type_by_id.Reads as type-by-id-reads
 use Rattle.marks.proofs.get_order_state.Reads as get-order-state-reads
 
 get-order-state-requires : tie.Need-get-order-state-requires

@@ -23,12 +23,12 @@ use Rattle.emit.proofs.+emit_composite+emit_members+emit_new+emit_param
 use Rattle.emit.proofs.emit_type.Reads as emit-type
 use Rattle.emit.proofs.emit_type.Kinds as emit-type-kinds
 use Rattle.emit.proofs.+emit_composite+emit_members+emit_new+emit_params+emit_type.Lts-emit_type as emit-type-lts
-use Rattle.btf.proofs.node_of.Reads as node-of-reads
+use Rattle.nodes.proofs.node_of.Reads as node-of-reads
 use Rattle.strings.proofs.is_named.Reads as is-named-reads
-use Rattle.btf.proofs.member_place.Reads as member-place-reads
-use Rattle.btf.proofs.param_place.Reads as param-place-reads
-use Rattle.btf.proofs.type_by_id.Reads as type-by-id-reads
-use Rattle.btf.proofs.word.Reads as word-reads
+use Rattle.kinds.proofs.member_place.Reads as member-place-reads
+use Rattle.kinds.proofs.param_place.Reads as param-place-reads
+use Rattle.nodes.proofs.type_by_id.Reads as type-by-id-reads
+use Rattle.sections.proofs.word.Reads as word-reads
 use Rattle.emit.proofs.emit_again.Reads as emit-again-reads
 use Rattle.lines.proofs.emit_definition.Reads as emit-definition-reads
 use Rattle.emit.proofs.emit_leaf.Reads as emit-leaf-reads

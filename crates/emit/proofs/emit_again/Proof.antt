@@ -8,8 +8,8 @@ use Rattle.emit.proofs.emit_again.Tie as tie
 use Rattle.emit.proofs.emit_again.Reads as reads
 use Rattle.emit.proofs.emit_again.Lts as lts
 use Rattle.strings.proofs.is_named.Reads as is-named-reads
-use Rattle.btf.proofs.kind_of.Reads as kind-of-reads
-use Rattle.btf.proofs.type_by_id.Reads as type-by-id-reads
+use Rattle.kinds.proofs.kind_of.Reads as kind-of-reads
+use Rattle.nodes.proofs.type_by_id.Reads as type-by-id-reads
 use Rattle.emit.proofs.emit_once.Reads as emit-once-reads
 use Rattle.emit.proofs.get_fwd_emitted.Reads as get-fwd-emitted-reads
 use Rattle.text.proofs.stop.Reads as stop-reads

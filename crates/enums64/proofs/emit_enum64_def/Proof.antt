@@ -7,7 +7,7 @@ use Rattle.enums64.proofs.emit_enum64_def.Tie as tie
 use Rattle.enums64.proofs.emit_enum64_def.Reads as reads
 use Rattle.enums64.proofs.emit_enum64_def.Lts as lts
 use Rattle.strings.proofs.is_builtin.Reads as is-builtin-reads
-use Rattle.btf.proofs.entries_of.Reads as entries-of-reads
+use Rattle.kinds.proofs.entries_of.Reads as entries-of-reads
 use Rattle.enumerators.proofs.deeper.Reads as deeper-reads
 use Rattle.enumerators.proofs.emit_enum_end.Reads as emit-enum-end-reads
 use Rattle.enumerators.proofs.emit_enum_head.Reads as emit-enum-head-reads

@@ -10,9 +10,9 @@ use Rattle.extents.proofs.extent_of.Statement.{statement}
 use Rattle.extents.proofs.extent_of.Tie as tie
 use Rattle.extents.proofs.extent_of.Reads as reads
 use Rattle.extents.proofs.extent_of.Lts as lts
-use Rattle.btf.proofs.is_struct.Reads as is-struct-reads
-use Rattle.btf.proofs.load_member.Reads as load-member-reads
-use Rattle.btf.proofs.vlen_of.Reads as vlen-of-reads
+use Rattle.kinds.proofs.is_struct.Reads as is-struct-reads
+use Rattle.entries.proofs.load_member.Reads as load-member-reads
+use Rattle.kinds.proofs.vlen_of.Reads as vlen-of-reads
 use Rattle.extents.proofs.next_member.Reads as next-member-reads
 
 abbrev Inv-loop : tie.InvT-loop

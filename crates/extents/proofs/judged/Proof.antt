@@ -5,7 +5,7 @@ use Rattle.extents.proofs.judged.Statement.{statement}
 use Rattle.extents.proofs.judged.Tie as tie
 use Rattle.extents.proofs.judged.Reads as reads
 use Rattle.extents.proofs.judged.Lts as lts
-use Rattle.btf.proofs.is_struct.Reads as is-struct-reads
+use Rattle.kinds.proofs.is_struct.Reads as is-struct-reads
 use Rattle.extents.proofs.size_fits.Reads as size-fits-reads
 
 -- src/lib.rt:198:17

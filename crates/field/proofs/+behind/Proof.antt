@@ -7,7 +7,7 @@ use borrow.Fn.PlainCycle.{Measures, is, falls, and}
 use Rattle.field.proofs.behind.Reads as behind
 use Rattle.field.proofs.behind.Kinds as behind-kinds
 use Rattle.field.proofs.+behind.Lts-behind as behind-lts
-use Rattle.btf.proofs.type_by_id.Reads as type-by-id-reads
+use Rattle.nodes.proofs.type_by_id.Reads as type-by-id-reads
 use Rattle.field.proofs.shape_of.Reads as shape-of-reads
 use Rattle.field.proofs.+behind.{statement}
 use Rattle.field.proofs.+behind.Tie.{close}

@@ -6,7 +6,7 @@ use Rattle.field.proofs.find_field.Statement.{statement}
 use Rattle.field.proofs.find_field.Tie as tie
 use Rattle.field.proofs.find_field.Reads as reads
 use Rattle.field.proofs.find_field.Lts as lts
-use Rattle.btf.proofs.type_by_id.Reads as type-by-id-reads
+use Rattle.nodes.proofs.type_by_id.Reads as type-by-id-reads
 use Rattle.field.proofs.answer_to.Reads as answer-to-reads
 use Rattle.field.proofs.is_composite.Reads as is-composite-reads
 use Rattle.field.proofs.walk.Reads as walk-reads

@@ -4,8 +4,8 @@ use Rattle.field.proofs.shape_of.Statement.{statement}
 use Rattle.field.proofs.shape_of.Tie as tie
 use Rattle.field.proofs.shape_of.Reads as reads
 use Rattle.field.proofs.shape_of.Lts as lts
-use Rattle.btf.proofs.array_type.Reads as array-type-reads
-use Rattle.btf.proofs.kind_of.Reads as kind-of-reads
+use Rattle.sections.proofs.array_type.Reads as array-type-reads
+use Rattle.kinds.proofs.kind_of.Reads as kind-of-reads
 
 kind-of-requires : tie.Need-kind-of-requires
 kind-of-requires c κs = search needs

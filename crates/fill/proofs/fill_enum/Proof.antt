@@ -4,7 +4,7 @@ use Rattle.fill.proofs.fill_enum.Statement.{statement}
 use Rattle.fill.proofs.fill_enum.Tie as tie
 use Rattle.fill.proofs.fill_enum.Reads as reads
 use Rattle.fill.proofs.fill_enum.Lts as lts
-use Rattle.btf.proofs.put_field.Reads as put-field-reads
+use Rattle.cells.proofs.put_field.Reads as put-field-reads
 use Rattle.fill.proofs.fill_values.Reads as fill-values-reads
 
 cast-put-field : tie.Need-cast-put-field

@@ -9,7 +9,7 @@ use Rattle.fill.proofs.fill_places.Statement.{statement}
 use Rattle.fill.proofs.fill_places.Tie as tie
 use Rattle.fill.proofs.fill_places.Reads as reads
 use Rattle.fill.proofs.fill_places.Lts as lts
-use Rattle.btf.proofs.put_field.Reads as put-field-reads
+use Rattle.cells.proofs.put_field.Reads as put-field-reads
 use Rattle.fill.proofs.entry_of.Reads as entry-of-reads
 
 abbrev Inv-loop : tie.InvT-loop

@@ -4,9 +4,9 @@ use Rattle.fill.proofs.fill_tag.Statement.{statement}
 use Rattle.fill.proofs.fill_tag.Tie as tie
 use Rattle.fill.proofs.fill_tag.Reads as reads
 use Rattle.fill.proofs.fill_tag.Lts as lts
-use Rattle.btf.proofs.get_field.Reads as get-field-reads
-use Rattle.btf.proofs.put_field.Reads as put-field-reads
-use Rattle.btf.proofs.word.Reads as word-reads
+use Rattle.cells.proofs.get_field.Reads as get-field-reads
+use Rattle.cells.proofs.put_field.Reads as put-field-reads
+use Rattle.sections.proofs.word.Reads as word-reads
 
 returns : tie.Need-returns
 returns c = tag-other _ _ _ _ _ (c .if1 .taken)

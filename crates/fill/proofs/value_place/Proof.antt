@@ -4,8 +4,8 @@ use Rattle.fill.proofs.value_place.Statement.{statement}
 use Rattle.fill.proofs.value_place.Tie as tie
 use Rattle.fill.proofs.value_place.Reads as reads
 use Rattle.fill.proofs.value_place.Lts as lts
-use Rattle.btf.proofs.member_place.Reads as member-place-reads
-use Rattle.btf.proofs.param_place.Reads as param-place-reads
+use Rattle.kinds.proofs.member_place.Reads as member-place-reads
+use Rattle.kinds.proofs.param_place.Reads as param-place-reads
 
 member-place-requires : tie.Need-member-place-requires
 member-place-requires c κs = search needs

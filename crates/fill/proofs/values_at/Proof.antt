@@ -4,8 +4,8 @@ use Rattle.fill.proofs.values_at.Statement.{statement}
 use Rattle.fill.proofs.values_at.Tie as tie
 use Rattle.fill.proofs.values_at.Reads as reads
 use Rattle.fill.proofs.values_at.Lts as lts
-use Rattle.btf.proofs.vlen_of.Reads as vlen-of-reads
-use Rattle.btf.proofs.word.Reads as word-reads
+use Rattle.kinds.proofs.vlen_of.Reads as vlen-of-reads
+use Rattle.sections.proofs.word.Reads as word-reads
 
 cast-word : tie.Need-cast-word
 cast-word c = search needs

@@ -9,8 +9,8 @@ use Rattle.inward.proofs.find_member.Statement.{statement}
 use Rattle.inward.proofs.find_member.Tie as tie
 use Rattle.inward.proofs.find_member.Reads as reads
 use Rattle.inward.proofs.find_member.Lts as lts
-use Rattle.btf.proofs.load_member.Reads as load-member-reads
-use Rattle.btf.proofs.vlen_of.Reads as vlen-of-reads
+use Rattle.entries.proofs.load_member.Reads as load-member-reads
+use Rattle.kinds.proofs.vlen_of.Reads as vlen-of-reads
 use Rattle.inward.proofs.is_stay.Reads as is-stay-reads
 use Rattle.inward.proofs.try_member.Reads as try-member-reads
 

@@ -10,11 +10,11 @@ use borrow.Fn.PlainCycle.{Measures, is, falls, and}
 use Rattle.layout.proofs.get_size_of.Reads as get-size-of
 use Rattle.layout.proofs.get_size_of.Kinds as get-size-of-kinds
 use Rattle.layout.proofs.+get_size_of.Lts-get_size_of as get-size-of-lts
-use Rattle.btf.proofs.array_nelems.Reads as array-nelems-reads
-use Rattle.btf.proofs.array_type.Reads as array-type-reads
-use Rattle.btf.proofs.int_bits.Reads as int-bits-reads
-use Rattle.btf.proofs.kind_of.Reads as kind-of-reads
-use Rattle.btf.proofs.type_by_id.Reads as type-by-id-reads
+use Rattle.sections.proofs.array_nelems.Reads as array-nelems-reads
+use Rattle.sections.proofs.array_type.Reads as array-type-reads
+use Rattle.sections.proofs.int_bits.Reads as int-bits-reads
+use Rattle.kinds.proofs.kind_of.Reads as kind-of-reads
+use Rattle.nodes.proofs.type_by_id.Reads as type-by-id-reads
 use Rattle.layout.proofs.octets.Reads as octets-reads
 use Rattle.layout.proofs.product.Reads as product-reads
 use Rattle.layout.proofs.+get_size_of.{statement}

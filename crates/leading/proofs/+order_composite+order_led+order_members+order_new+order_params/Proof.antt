@@ -24,11 +24,11 @@ use Rattle.leading.proofs.+order_composite+order_led+order_members+orde
 use Rattle.leading.proofs.order_params.Reads as order-params
 use Rattle.leading.proofs.order_params.Kinds as order-params-kinds
 use Rattle.leading.proofs.+order_composite+order_led+order_members+order_new+order_params.Lts-order_params as order-params-lts
-use Rattle.btf.proofs.node_of.Reads as node-of-reads
-use Rattle.btf.proofs.member_place.Reads as member-place-reads
-use Rattle.btf.proofs.param_place.Reads as param-place-reads
-use Rattle.btf.proofs.type_by_id.Reads as type-by-id-reads
-use Rattle.btf.proofs.word.Reads as word-reads
+use Rattle.nodes.proofs.node_of.Reads as node-of-reads
+use Rattle.kinds.proofs.member_place.Reads as member-place-reads
+use Rattle.kinds.proofs.param_place.Reads as param-place-reads
+use Rattle.nodes.proofs.type_by_id.Reads as type-by-id-reads
+use Rattle.sections.proofs.word.Reads as word-reads
 use Rattle.progress.proofs.meet.Reads as meet-reads
 use Rattle.leads.proofs.finish_led.Reads as finish-led-reads
 use Rattle.leads.proofs.finish_typedef_led.Reads as finish-typedef-led-reads

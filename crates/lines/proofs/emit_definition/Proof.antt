@@ -5,8 +5,8 @@ use Rattle.lines.proofs.emit_definition.Statement.{statement}
 use Rattle.lines.proofs.emit_definition.Tie as tie
 use Rattle.lines.proofs.emit_definition.Reads as reads
 use Rattle.lines.proofs.emit_definition.Lts as lts
-use Rattle.btf.proofs.kind_flag_of.Reads as kind-flag-of-reads
-use Rattle.btf.proofs.kind_of.Reads as kind-of-reads
+use Rattle.kinds.proofs.kind_flag_of.Reads as kind-flag-of-reads
+use Rattle.kinds.proofs.kind_of.Reads as kind-of-reads
 use Rattle.decl.proofs.emit_composite_def.Reads as emit-composite-def-reads
 use Rattle.lines.proofs.put_line_end.Reads as put-line-end-reads
 use Rattle.enums64.proofs.emit_enum64_def.Reads as emit-enum64-def-reads

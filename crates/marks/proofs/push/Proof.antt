@@ -4,7 +4,7 @@ use Rattle.marks.proofs.push.Statement.{statement}
 use Rattle.marks.proofs.push.Tie as tie
 use Rattle.marks.proofs.push.Reads as reads
 use Rattle.marks.proofs.push.Lts as lts
-use Rattle.btf.proofs.put_field.Reads as put-field-reads
+use Rattle.cells.proofs.put_field.Reads as put-field-reads
 use Rattle.marks.proofs.more.Reads as more-reads
 
 put-field-requires : tie.Need-put-field-requires

@@ -28,11 +28,11 @@ use Rattle.noting.proofs.+emit_composite+emit_members+emit_new+emit_not
 use Rattle.noting.proofs.emit_params.Reads as emit-params
 use Rattle.noting.proofs.emit_params.Kinds as emit-params-kinds
 use Rattle.noting.proofs.+emit_composite+emit_members+emit_new+emit_noted+emit_params.Lts-emit_params as emit-params-lts
-use Rattle.btf.proofs.node_of.Reads as node-of-reads
-use Rattle.btf.proofs.member_place.Reads as member-place-reads
-use Rattle.btf.proofs.param_place.Reads as param-place-reads
-use Rattle.btf.proofs.type_by_id.Reads as type-by-id-reads
-use Rattle.btf.proofs.word.Reads as word-reads
+use Rattle.nodes.proofs.node_of.Reads as node-of-reads
+use Rattle.kinds.proofs.member_place.Reads as member-place-reads
+use Rattle.kinds.proofs.param_place.Reads as param-place-reads
+use Rattle.nodes.proofs.type_by_id.Reads as type-by-id-reads
+use Rattle.sections.proofs.word.Reads as word-reads
 use Rattle.alone.proofs.emit_again.Reads as emit-again-reads
 use Rattle.alone.proofs.emit_leaf.Reads as emit-leaf-reads
 use Rattle.alone.proofs.get_emit_state.Reads as get-emit-state-reads

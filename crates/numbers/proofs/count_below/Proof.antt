@@ -6,7 +6,7 @@ use Rattle.numbers.proofs.count_below.Statement.{statement}
 use Rattle.numbers.proofs.count_below.Tie as tie
 use Rattle.numbers.proofs.count_below.Reads as reads
 use Rattle.numbers.proofs.count_below.Lts as lts
-use Rattle.btf.proofs.holder_word.Reads as holder-word-reads
+use Rattle.cells.proofs.holder_word.Reads as holder-word-reads
 use Rattle.lent.proofs.get_word.Reads as get-word-reads
 use Rattle.numbers.proofs.add_if.Reads as add-if-reads
 

@@ -25,12 +25,12 @@ use Rattle.order.proofs.+order_composite+order_members+order_new+order_
 use Rattle.order.proofs.order_type.Reads as order-type
 use Rattle.order.proofs.order_type.Kinds as order-type-kinds
 use Rattle.order.proofs.+order_composite+order_members+order_new+order_params+order_type.Lts-order_type as order-type-lts
-use Rattle.btf.proofs.node_of.Reads as node-of-reads
+use Rattle.nodes.proofs.node_of.Reads as node-of-reads
 use Rattle.strings.proofs.is_named.Reads as is-named-reads
-use Rattle.btf.proofs.member_place.Reads as member-place-reads
-use Rattle.btf.proofs.param_place.Reads as param-place-reads
-use Rattle.btf.proofs.type_by_id.Reads as type-by-id-reads
-use Rattle.btf.proofs.word.Reads as word-reads
+use Rattle.kinds.proofs.member_place.Reads as member-place-reads
+use Rattle.kinds.proofs.param_place.Reads as param-place-reads
+use Rattle.nodes.proofs.type_by_id.Reads as type-by-id-reads
+use Rattle.sections.proofs.word.Reads as word-reads
 use Rattle.marks.proofs.finish.Reads as finish-reads
 use Rattle.marks.proofs.finish_typedef.Reads as finish-typedef-reads
 use Rattle.progress.proofs.begin.Reads as begin-reads

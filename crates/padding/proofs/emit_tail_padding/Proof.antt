@@ -7,7 +7,7 @@ use Rattle.padding.proofs.emit_tail_padding.Statement.{statement}
 use Rattle.padding.proofs.emit_tail_padding.Tie as tie
 use Rattle.padding.proofs.emit_tail_padding.Reads as reads
 use Rattle.padding.proofs.emit_tail_padding.Lts as lts
-use Rattle.btf.proofs.is_struct.Reads as is-struct-reads
+use Rattle.kinds.proofs.is_struct.Reads as is-struct-reads
 use Rattle.padding.proofs.put_own_line.Reads as put-own-line-reads
 use Rattle.pads.proofs.put_placed_pads.Reads as put-placed-pads-reads
 

@@ -5,8 +5,8 @@ use Rattle.progress.proofs.meet.Statement.{statement}
 use Rattle.progress.proofs.meet.Tie as tie
 use Rattle.progress.proofs.meet.Reads as reads
 use Rattle.progress.proofs.meet.Lts as lts
-use Rattle.btf.proofs.kind_of.Reads as kind-of-reads
-use Rattle.btf.proofs.type_by_id.Reads as type-by-id-reads
+use Rattle.kinds.proofs.kind_of.Reads as kind-of-reads
+use Rattle.nodes.proofs.type_by_id.Reads as type-by-id-reads
 use Rattle.marks.proofs.refused.Reads as refused-reads
 use Rattle.marks.proofs.strong.Reads as strong-reads
 use Rattle.strings.proofs.is_named.Reads as is-named-reads

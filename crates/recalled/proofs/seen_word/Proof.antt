@@ -5,7 +5,7 @@ use Rattle.recalled.proofs.seen_word.Statement.{statement}
 use Rattle.recalled.proofs.seen_word.Tie as tie
 use Rattle.recalled.proofs.seen_word.Reads as reads
 use Rattle.recalled.proofs.seen_word.Lts as lts
-use Rattle.btf.proofs.get_field.Reads as get-field-reads
+use Rattle.cells.proofs.get_field.Reads as get-field-reads
 
 -- src/lib.rt:46:9
 get-field-requires : tie.Need-get-field-requires

@@ -5,10 +5,10 @@ use Rattle.recalled.proofs.step_of.Statement.{statement}
 use Rattle.recalled.proofs.step_of.Tie as tie
 use Rattle.recalled.proofs.step_of.Reads as reads
 use Rattle.recalled.proofs.step_of.Lts as lts
-use Rattle.btf.proofs.array_type.Reads as array-type-reads
-use Rattle.btf.proofs.entries_of.Reads as entries-of-reads
-use Rattle.btf.proofs.int_bits.Reads as int-bits-reads
-use Rattle.btf.proofs.kind_of.Reads as kind-of-reads
+use Rattle.sections.proofs.array_type.Reads as array-type-reads
+use Rattle.kinds.proofs.entries_of.Reads as entries-of-reads
+use Rattle.sections.proofs.int_bits.Reads as int-bits-reads
+use Rattle.kinds.proofs.kind_of.Reads as kind-of-reads
 use Rattle.rules.proofs.smaller.Reads as smaller-reads
 
 -- src/lib.rt:107:11

@@ -5,8 +5,8 @@ use Rattle.remembered.proofs.count_visits.Statement.{statement}
 use Rattle.remembered.proofs.count_visits.Tie as tie
 use Rattle.remembered.proofs.count_visits.Reads as reads
 use Rattle.remembered.proofs.count_visits.Lts as lts
-use Rattle.btf.proofs.get_field.Reads as get-field-reads
-use Rattle.btf.proofs.put_field.Reads as put-field-reads
+use Rattle.cells.proofs.get_field.Reads as get-field-reads
+use Rattle.cells.proofs.put_field.Reads as put-field-reads
 
 -- src/lib.rt:70:16
 get-field-requires : tie.Need-get-field-requires

@@ -5,7 +5,7 @@ use Rattle.remembered.proofs.remember.Statement.{statement}
 use Rattle.remembered.proofs.remember.Tie as tie
 use Rattle.remembered.proofs.remember.Reads as reads
 use Rattle.remembered.proofs.remember.Lts as lts
-use Rattle.btf.proofs.put_field.Reads as put-field-reads
+use Rattle.cells.proofs.put_field.Reads as put-field-reads
 use Rattle.remembered.proofs.count_visits.Reads as count-visits-reads
 
 -- src/lib.rt:82:9

@@ -4,7 +4,7 @@ use Rattle.roles.proofs.word_of.Statement.{statement}
 use Rattle.roles.proofs.word_of.Tie as tie
 use Rattle.roles.proofs.word_of.Reads as reads
 use Rattle.roles.proofs.word_of.Lts as lts
-use Rattle.btf.proofs.word.Reads as word-reads
+use Rattle.sections.proofs.word.Reads as word-reads
 
 cast-word : tie.Need-cast-word
 cast-word c = search needs

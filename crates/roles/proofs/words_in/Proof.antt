@@ -5,8 +5,8 @@ use Rattle.roles.proofs.words_in.Statement.{statement}
 use Rattle.roles.proofs.words_in.Tie as tie
 use Rattle.roles.proofs.words_in.Reads as reads
 use Rattle.roles.proofs.words_in.Lts as lts
-use Rattle.btf.proofs.vlen_of.Reads as vlen-of-reads
-use Rattle.btf.proofs.word.Reads as word-reads
+use Rattle.kinds.proofs.vlen_of.Reads as vlen-of-reads
+use Rattle.sections.proofs.word.Reads as word-reads
 use Rattle.roles.proofs.entry_words.Reads as entry-words-reads
 use Rattle.roles.proofs.fixed_words.Reads as fixed-words-reads
 

@@ -6,7 +6,7 @@ use Rattle.strings.proofs.is_named.Tie as tie
 use Rattle.strings.proofs.is_named.Reads as reads
 use Rattle.strings.proofs.is_named.Lts as lts
 use Rattle.strings.proofs.is_empty.Reads as is-empty-reads
-use Rattle.btf.proofs.kind_of.Reads as kind-of-reads
+use Rattle.kinds.proofs.kind_of.Reads as kind-of-reads
 
 kind-of-requires : tie.Need-kind-of-requires
 kind-of-requires c κs = search needs

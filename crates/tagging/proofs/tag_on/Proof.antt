@@ -4,7 +4,7 @@ use Rattle.tagging.proofs.tag_on.Statement.{statement}
 use Rattle.tagging.proofs.tag_on.Tie as tie
 use Rattle.tagging.proofs.tag_on.Reads as reads
 use Rattle.tagging.proofs.tag_on.Lts as lts
-use Rattle.btf.proofs.word.Reads as word-reads
+use Rattle.sections.proofs.word.Reads as word-reads
 use Rattle.followed.proofs.entry.Reads as entry-reads
 use Rattle.followed.proofs.kind_at.Reads as kind-at-reads
 

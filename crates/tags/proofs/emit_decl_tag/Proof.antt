@@ -4,10 +4,10 @@ use Rattle.tags.proofs.emit_decl_tag.Statement.{statement}
 use Rattle.tags.proofs.emit_decl_tag.Tie as tie
 use Rattle.tags.proofs.emit_decl_tag.Reads as reads
 use Rattle.tags.proofs.emit_decl_tag.Lts as lts
-use Rattle.btf.proofs.comp_idx_of.Reads as comp-idx-of-reads
-use Rattle.btf.proofs.kind_flag_of.Reads as kind-flag-of-reads
-use Rattle.btf.proofs.kind_of.Reads as kind-of-reads
-use Rattle.btf.proofs.type_by_id.Reads as type-by-id-reads
+use Rattle.sections.proofs.comp_idx_of.Reads as comp-idx-of-reads
+use Rattle.kinds.proofs.kind_flag_of.Reads as kind-flag-of-reads
+use Rattle.kinds.proofs.kind_of.Reads as kind-of-reads
+use Rattle.nodes.proofs.type_by_id.Reads as type-by-id-reads
 use Rattle.tags.proofs.put_attribute.Reads as put-attribute-reads
 
 type-by-id-requires : tie.Need-type-by-id-requires

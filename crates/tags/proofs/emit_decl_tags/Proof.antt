@@ -9,7 +9,7 @@ use Rattle.tags.proofs.emit_decl_tags.Statement.{statement}
 use Rattle.tags.proofs.emit_decl_tags.Tie as tie
 use Rattle.tags.proofs.emit_decl_tags.Reads as reads
 use Rattle.tags.proofs.emit_decl_tags.Lts as lts
-use Rattle.btf.proofs.get_field.Reads as get-field-reads
+use Rattle.cells.proofs.get_field.Reads as get-field-reads
 use Rattle.tags.proofs.emit_decl_tag.Reads as emit-decl-tag-reads
 
 abbrev Inv-loop : tie.InvT-loop

@@ -4,7 +4,7 @@ use Rattle.bodies.proofs.bodies.emit_composite_end.Statement.{statement
 use Rattle.bodies.proofs.bodies.emit_composite_end.Tie as tie
 use Rattle.bodies.proofs.bodies.emit_composite_end.Reads as reads
 use Rattle.bodies.proofs.bodies.emit_composite_end.Lts as lts
-use Rattle.btf.proofs.vlen_of.Reads as vlen-of-reads
+use Rattle.kinds.proofs.vlen_of.Reads as vlen-of-reads
 use Rattle.bodies.proofs.words.put_last_newline.Reads as put-last-newline-reads
 use Rattle.bodies.proofs.words.put_packed.Reads as put-packed-reads
 use Rattle.text.proofs.put_byte.Reads as put-byte-reads

@@ -7,8 +7,8 @@ use Rattle.bodies.proofs.params.shown_params.Statement.{statement}
 use Rattle.bodies.proofs.params.shown_params.Tie as tie
 use Rattle.bodies.proofs.params.shown_params.Reads as reads
 use Rattle.bodies.proofs.params.shown_params.Lts as lts
-use Rattle.btf.proofs.param_place.Reads as param-place-reads
-use Rattle.btf.proofs.word.Reads as word-reads
+use Rattle.kinds.proofs.param_place.Reads as param-place-reads
+use Rattle.sections.proofs.word.Reads as word-reads
 
 returns : tie.Need-returns
 returns c = laws.shown-many _ _ (c .if1 .taken)

@@ -5,7 +5,7 @@ use Rattle.bodies.proofs.words.put_type_tag.Statement.{statement}
 use Rattle.bodies.proofs.words.put_type_tag.Tie as tie
 use Rattle.bodies.proofs.words.put_type_tag.Reads as reads
 use Rattle.bodies.proofs.words.put_type_tag.Lts as lts
-use Rattle.btf.proofs.kind_flag_of.Reads as kind-flag-of-reads
+use Rattle.kinds.proofs.kind_flag_of.Reads as kind-flag-of-reads
 use Rattle.tags.proofs.put_attribute.Reads as put-attribute-reads
 
 kind-flag-of-requires : tie.Need-kind-flag-of-requires

@@ -6,8 +6,8 @@ use Rattle.chain.proofs.links.chain_len.Statement.{statement}
 use Rattle.chain.proofs.links.chain_len.Tie as tie
 use Rattle.chain.proofs.links.chain_len.Reads as reads
 use Rattle.chain.proofs.links.chain_len.Lts as lts
-use Rattle.btf.proofs.kind_of.Reads as kind-of-reads
-use Rattle.btf.proofs.type_by_id.Reads as type-by-id-reads
+use Rattle.kinds.proofs.kind_of.Reads as kind-of-reads
+use Rattle.nodes.proofs.type_by_id.Reads as type-by-id-reads
 use Rattle.chain.proofs.links.is_link.Reads as is-link-reads
 use Rattle.chain.proofs.links.next_of.Reads as next-of-reads
 

@@ -4,8 +4,8 @@ use Rattle.chain.proofs.links.kind_on_top.Statement.{statement}
 use Rattle.chain.proofs.links.kind_on_top.Tie as tie
 use Rattle.chain.proofs.links.kind_on_top.Reads as reads
 use Rattle.chain.proofs.links.kind_on_top.Lts as lts
-use Rattle.btf.proofs.kind_of.Reads as kind-of-reads
-use Rattle.btf.proofs.type_by_id.Reads as type-by-id-reads
+use Rattle.kinds.proofs.kind_of.Reads as kind-of-reads
+use Rattle.nodes.proofs.type_by_id.Reads as type-by-id-reads
 use Rattle.chain.proofs.links.path_at.Reads as path-at-reads
 
 returns : tie.Need-returns

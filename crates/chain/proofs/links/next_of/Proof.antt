@@ -4,8 +4,8 @@ use Rattle.chain.proofs.links.next_of.Statement.{statement}
 use Rattle.chain.proofs.links.next_of.Tie as tie
 use Rattle.chain.proofs.links.next_of.Reads as reads
 use Rattle.chain.proofs.links.next_of.Lts as lts
-use Rattle.btf.proofs.array_type.Reads as array-type-reads
-use Rattle.btf.proofs.kind_of.Reads as kind-of-reads
+use Rattle.sections.proofs.array_type.Reads as array-type-reads
+use Rattle.kinds.proofs.kind_of.Reads as kind-of-reads
 
 kind-of-requires : tie.Need-kind-of-requires
 kind-of-requires c κs = search needs

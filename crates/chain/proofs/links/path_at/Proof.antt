@@ -9,7 +9,7 @@ use Rattle.chain.proofs.links.path_at.Statement.{statement}
 use Rattle.chain.proofs.links.path_at.Tie as tie
 use Rattle.chain.proofs.links.path_at.Reads as reads
 use Rattle.chain.proofs.links.path_at.Lts as lts
-use Rattle.btf.proofs.type_by_id.Reads as type-by-id-reads
+use Rattle.nodes.proofs.type_by_id.Reads as type-by-id-reads
 use Rattle.chain.proofs.links.next_of.Reads as next-of-reads
 
 abbrev Inv-loop : tie.InvT-loop

@@ -4,7 +4,7 @@ use Rattle.followed.proofs.index.id_at.Statement.{statement}
 use Rattle.followed.proofs.index.id_at.Tie as tie
 use Rattle.followed.proofs.index.id_at.Reads as reads
 use Rattle.followed.proofs.index.id_at.Lts as lts
-use Rattle.btf.proofs.word.Reads as word-reads
+use Rattle.sections.proofs.word.Reads as word-reads
 use Rattle.followed.proofs.index.id_place.Reads as id-place-reads
 
 id-place-requires : tie.Need-id-place-requires

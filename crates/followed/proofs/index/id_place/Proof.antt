@@ -7,8 +7,8 @@ use Rattle.followed.proofs.index.id_place.Statement.{statement}
 use Rattle.followed.proofs.index.id_place.Tie as tie
 use Rattle.followed.proofs.index.id_place.Reads as reads
 use Rattle.followed.proofs.index.id_place.Lts as lts
-use Rattle.btf.proofs.member_place.Reads as member-place-reads
-use Rattle.btf.proofs.param_place.Reads as param-place-reads
+use Rattle.kinds.proofs.member_place.Reads as member-place-reads
+use Rattle.kinds.proofs.param_place.Reads as param-place-reads
 
 add-result : tie.Need-add-result
 add-result c = search needs

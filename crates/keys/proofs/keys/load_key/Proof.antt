@@ -4,7 +4,7 @@ use Rattle.keys.proofs.keys.load_key.Statement.{statement}
 use Rattle.keys.proofs.keys.load_key.Tie as tie
 use Rattle.keys.proofs.keys.load_key.Reads as reads
 use Rattle.keys.proofs.keys.load_key.Lts as lts
-use Rattle.btf.proofs.holder_word.Reads as holder-word-reads
+use Rattle.cells.proofs.holder_word.Reads as holder-word-reads
 use Rattle.keys.proofs.keys.name_of.Reads as name-of-reads
 use Rattle.keys.proofs.keys.space_at.Reads as space-at-reads
 use Rattle.lent.proofs.get_word.Reads as get-word-reads

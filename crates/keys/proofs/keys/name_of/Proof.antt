@@ -4,7 +4,7 @@ use Rattle.keys.proofs.keys.name_of.Statement.{statement}
 use Rattle.keys.proofs.keys.name_of.Tie as tie
 use Rattle.keys.proofs.keys.name_of.Reads as reads
 use Rattle.keys.proofs.keys.name_of.Lts as lts
-use Rattle.btf.proofs.word.Reads as word-reads
+use Rattle.sections.proofs.word.Reads as word-reads
 
 cast-result : tie.Need-cast-result
 cast-result c = search needs

@@ -5,8 +5,8 @@ use Rattle.keys.proofs.keys.space_at.Statement.{statement}
 use Rattle.keys.proofs.keys.space_at.Tie as tie
 use Rattle.keys.proofs.keys.space_at.Reads as reads
 use Rattle.keys.proofs.keys.space_at.Lts as lts
-use Rattle.btf.proofs.kind_of.Reads as kind-of-reads
-use Rattle.btf.proofs.word.Reads as word-reads
+use Rattle.kinds.proofs.kind_of.Reads as kind-of-reads
+use Rattle.sections.proofs.word.Reads as word-reads
 use Rattle.keys.proofs.keys.space_of.Reads as space-of-reads
 
 returns : tie.Need-returns

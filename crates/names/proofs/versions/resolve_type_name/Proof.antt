@@ -9,8 +9,8 @@ use Rattle.names.proofs.versions.resolve_type_name.Tie as tie
 use Rattle.names.proofs.versions.resolve_type_name.Reads as reads
 use Rattle.names.proofs.versions.resolve_type_name.Lts as lts
 use Rattle.numbers.proofs.get_number.Reads as get-number-reads
-use Rattle.btf.proofs.get_field.Reads as get-field-reads
-use Rattle.btf.proofs.put_field.Reads as put-field-reads
+use Rattle.cells.proofs.get_field.Reads as get-field-reads
+use Rattle.cells.proofs.put_field.Reads as put-field-reads
 use Rattle.strings.proofs.is_empty.Reads as is-empty-reads
 use Rattle.names.proofs.versions.bare.Reads as bare-reads
 
