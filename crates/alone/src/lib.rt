@@ -14,7 +14,7 @@ use noted::define;
 use noted::forward;
 use noted::listed_cause;
 use strings::is_named;
-use text::stop;
+use put::stop;
 ghost use mathlib.Core.Path.{_≡_};
 ghost use mathlib.Core.Bool.{not};
 ghost use lib.Dec.{eqb};

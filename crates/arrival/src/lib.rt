@@ -1,5 +1,5 @@
 // Where a request may write, where it came to, and how a list of ids ends.
-use lent::clear;
+use words::clear;
 use turns::Reached;
 use turns::Session;
 use turns::Tally;

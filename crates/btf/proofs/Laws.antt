@@ -6,7 +6,7 @@ use mathlib.Core.Bool.{true, false}
 use borrow.Author.Tests.{lt-ltb, le-ltb, le-leb, lt-leb, ne-eqb}
 use Rattle.lent.specs.Words.{getWord, putWord, oneMore}
 use Rattle.lent.specs.Three.{threeIn}
-use Rattle.lent.specs.declared.words.Three.{Three}
+use Rattle.lent.specs.declared.Three.{Three}
 use Rattle.btf.specs.declared.types.Btf.{Btf}
 use Rattle.btf.specs.declared.types.BtfType.{BtfType as Record}
 use Rattle.btf.specs.declared.types.Entries.{Entries}

@@ -5,7 +5,7 @@ use mathlib.Core.List.{List, [], _∷_}
 use lib.Dec.{leb, eqb}
 use lib.ListN.{getD}
 use Rattle.lent.specs.Words.{wordIn}
-use Rattle.lent.specs.declared.words.Three.{Three}
+use Rattle.lent.specs.declared.Three.{Three}
 use Rattle.btf.specs.declared.types.Btf.{Btf}
 use Rattle.btf.specs.declared.types.BtfType.{BtfType}
 use Rattle.btf.specs.declared.types.BtfMember.{BtfMember}

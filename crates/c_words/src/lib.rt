@@ -1,8 +1,8 @@
 // The session record as it crosses to C: sixteen words of 64 bits, least significant byte first: open, section length, work
 // length, types, enumerators, text length, pointer size, modes, visits, and seven of zero. An answer is its number in the upper half
 // of 64 bits and its value in the lower.
-use lent::get_word;
-use lent::put_word;
+use words::get_word;
+use words::put_word;
 use turns::Answer;
 use turns::Session;
 ghost use mathlib.Core.Path.{_≡_};

@@ -17,8 +17,8 @@
 // 14 number that its name takes, on a list      6
 //
 // 7, 8, 3 and 4 are used for hashing while opening. Without the mode of names that cannot collide, 7, 8, 14, 3, 4 and 6 are 0.
-use lent::get_word;
-use lent::put_word;
+use words::get_word;
+use words::put_word;
 ghost use mathlib.Core.Path.{_≡_};
 ghost use Rattle.lent.specs.Words.{getWord, oneMore};
 ghost use Rattle.btf.specs.Cells.{getField, putField, placeOf, classP, countP, countOf, counted, withMore};

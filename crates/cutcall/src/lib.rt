@@ -3,7 +3,7 @@ use btf::Btf;
 use cutting::write_kept;
 use followed::has_bad_reference;
 use header::btf_of;
-use lent::get_word;
+use words::get_word;
 use marking::number_kept;
 use sound::has_bad_header;
 use sound::has_bad_strings;

@@ -9,7 +9,7 @@ use mentioned::put_strings;
 use roles::role;
 use roles::word_of;
 use roles::words_in;
-use text::put_two;
+use put::put_two;
 ghost use mathlib.Core.Path.{_≡_};
 ghost use Prim.Native.Nat.{_≤_};
 ghost use lib.ListN.{length, getD};

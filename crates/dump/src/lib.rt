@@ -8,7 +8,7 @@ use marks::get_order_state;
 use nodes::type_by_id;
 use order::order_type;
 use sheet::clear_list;
-use text::stop;
+use put::stop;
 ghost use mathlib.Core.Path.{_≡_};
 ghost use Prim.Native.Nat.{_-_};
 ghost use Rattle.rules.specs.Machine.{obind, eeach};

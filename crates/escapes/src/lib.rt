@@ -1,6 +1,6 @@
 // A name as it stands in a C string literal.
-use text::put_byte;
-use text::put_two;
+use put::put_byte;
+use put::put_two;
 ghost use mathlib.Core.Path.{_≡_};
 ghost use Rattle.text.specs.Text.{whole, putOut, putText};
 ghost use Rattle.rules.specs.Names.{escapedByte, escaped};

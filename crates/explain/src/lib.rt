@@ -6,7 +6,7 @@ use arrival::limit;
 use btf::Btf;
 pub use every::dump_types_causes;
 use header::btf_of;
-use lent::clear;
+use words::clear;
 use noted::Pen;
 use reasons::dump_noted;
 use turns::Reached;

@@ -7,7 +7,7 @@ use classes::classes;
 use kinds::member_place;
 use kinds::param_place;
 use kinds::vlen_of;
-use lent::put_word;
+use words::put_word;
 use sections::word;
 ghost use mathlib.Core.Path.{_≡_};
 ghost use Prim.Native.Nat.{_+_, _-_, _/_, _%_, _≤_, _<_};

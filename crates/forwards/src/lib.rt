@@ -6,7 +6,7 @@ use fixed::put_union;
 use names::put_name;
 use names::resolve_type_name;
 use strings::is_builtin;
-use text::put_byte;
+use put::put_byte;
 ghost use mathlib.Core.Path.{_≡_};
 ghost use mathlib.Core.List.{[]};
 ghost use Rattle.text.specs.Text.{whole, putOut, putText};

@@ -1,6 +1,6 @@
 // The header, and what the types of a table need of header and settings.
 use btf::Btf;
-use lent::word_in;
+use words::word_in;
 ghost use mathlib.Core.Path.{_≡_};
 ghost use Prim.Native.Nat.{_+_};
 ghost use lib.Dec.{ltb, eqb};

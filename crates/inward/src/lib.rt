@@ -7,7 +7,7 @@ use entries::load_member;
 use kinds::vlen_of;
 use layout::Ask;
 use layout::get_size_of;
-use lent::put_word;
+use words::put_word;
 ghost use mathlib.Core.Path.{_≡_};
 ghost use Rattle.rules.specs.Writer.{got, askThen};
 ghost use Rattle.rules.specs.Layout.{getSizeOf, endOf};

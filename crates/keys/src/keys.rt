@@ -4,7 +4,7 @@ use crate::hash::same_name;
 use btf::Btf;
 use cells::holder_word;
 use kinds::kind_of;
-use lent::get_word;
+use words::get_word;
 use sections::word;
 ghost use mathlib.Core.Path.{_≡_};
 ghost use Rattle.classed.specs.Same.{sameList};

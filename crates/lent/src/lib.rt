@@ -1,9 +1,15 @@
-// Memory that the caller lends: words in byte slices.
-mod words;
+// Memory that the caller lends: words in byte slices. Definitions in specs/, laws in proofs/; the code is in `words`.
+ghost use mathlib.Core.Path.{_≡_};
 
-pub use words::Three;
-pub use words::clear;
-pub use words::get_word;
-pub use words::put_word;
-pub use words::three_in;
-pub use words::word_in;
+// Three words in a row.
+pub struct Three {
+    pub first: u32,
+    pub second: u32,
+    pub third: u32,
+}
+
+pub fn same(x: u32) -> u32
+    ensures { λ r. ⌜ r ≡ x ⌝ }
+{
+    x
+}

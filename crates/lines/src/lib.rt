@@ -10,7 +10,7 @@ use kinds::is_struct;
 use kinds::kind_flag_of;
 use kinds::kind_of;
 use strings::is_builtin;
-use text::put_three;
+use put::put_three;
 use typedefs::emit_typedef_def;
 ghost use mathlib.Core.Path.{_≡_};
 ghost use Rattle.text.specs.Text.{ascii, whole, putOut, putText};

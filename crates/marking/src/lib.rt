@@ -4,7 +4,7 @@ use btf::Btf;
 use followed::count_at;
 use followed::entry;
 use followed::id_at;
-use lent::get_word;
+use words::get_word;
 use tagging::mark_tags;
 use tagging::number;
 use tagging::peek;

@@ -7,7 +7,7 @@ use followed::entry;
 use roles::word_of;
 use roles::words_in;
 use strings::put_str;
-use text::put_byte;
+use put::put_byte;
 ghost use mathlib.Core.Path.{_≡_};
 ghost use Rattle.text.specs.Text.{whole, putOut, putText};
 ghost use Rattle.followed.specs.Followed.{countOf};

@@ -5,7 +5,7 @@ use chain::kind_on_top;
 use fixed::put_const;
 use fixed::put_restrict;
 use fixed::put_volatile;
-use text::put_byte;
+use put::put_byte;
 ghost use mathlib.Core.Path.{_≡_};
 ghost use Prim.Native.Nat.{_≤_};
 ghost use Rattle.text.specs.Text.{whole, putOut, putText};

@@ -20,7 +20,7 @@ use noted::Asked;
 use noted::Pen;
 use sections::word;
 use strings::is_named;
-use text::stopped;
+use put::stopped;
 ghost use mathlib.Core.Path.{_≡_};
 ghost use Prim.Native.Nat.{ℕ};
 ghost use Rattle.rules.specs.Machine.{obind, eeach};

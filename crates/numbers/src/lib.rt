@@ -2,7 +2,7 @@
 // class of its name.
 use cells::get_count;
 use cells::holder_word;
-use lent::get_word;
+use words::get_word;
 ghost use mathlib.Core.Path.{_≡_};
 ghost use Prim.Native.Nat.{_+_};
 ghost use Rattle.btf.specs.Cells.{classP, countP, counted};

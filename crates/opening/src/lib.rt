@@ -2,7 +2,7 @@
 use examined::header_cause;
 use examined::reference_cause;
 use header::btf_of;
-use lent::clear;
+use words::clear;
 use opened::Opening;
 ghost use mathlib.Core.Path.{_≡_};
 ghost use Prim.Native.Nat.{_+_, _*_};

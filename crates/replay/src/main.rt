@@ -1,8 +1,8 @@
 // Runs the program's work on each stored section that the file `names` lists, and compares what it would print with the
 // stored text: NAME.btf with NAME.out.
 use libc::STDOUT_FILENO;
-use text::put_bytes;
-use text::put_decimal;
+use put::put_bytes;
+use put::put_decimal;
 ghost use Prim.Native.Nat.{_≤_};
 ghost use lib.ListN.{length};
 

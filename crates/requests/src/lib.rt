@@ -5,7 +5,7 @@ use arrival::limit;
 use arrival::settle_list;
 use btf::Btf;
 use header::btf_of;
-use lent::get_word;
+use words::get_word;
 use opened::Opening;
 use turns::Answer;
 use turns::Reached;

@@ -2,8 +2,8 @@
 use btf::Btf;
 use btf::BtfType;
 use lent::Three;
-use lent::three_in;
-use lent::word_in;
+use words::three_in;
+use words::word_in;
 ghost use mathlib.Core.Path.{_≡_};
 ghost use Prim.Native.Nat.{_%_};
 ghost use Rattle.btf.specs.Records.{sectionWord, sectionThree, recordAt};

@@ -2,7 +2,7 @@
 use arrival::count_of;
 use explain::Explained;
 use explain::dump_type_causes;
-use lent::get_word;
+use words::get_word;
 use turns::Answer;
 use turns::Session;
 use turns::turn_of;

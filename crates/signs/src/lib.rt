@@ -1,9 +1,9 @@
 // Numbers that have a sign, from their bits and in decimal.
 use fixed::put_ll;
 use fixed::put_minus_one;
-use text::put_byte;
-use text::put_decimal;
-use text::put_two;
+use put::put_byte;
+use put::put_decimal;
+use put::put_two;
 ghost use mathlib.Core.Path.{_≡_};
 ghost use lib.IntN.{natAbs};
 ghost use Rattle.text.specs.Text.{ascii, whole, putOut, putText};

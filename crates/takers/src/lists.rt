@@ -2,8 +2,8 @@
 use btf::Btf;
 use cells::holder_word;
 use keys::load_key;
-use lent::get_word;
-use lent::put_word;
+use words::get_word;
+use words::put_word;
 use suffixes::base_of;
 use suffixes::is_suffixed;
 use suffixes::key_suffix;

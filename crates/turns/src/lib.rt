@@ -1,6 +1,6 @@
 // The session record, the answers, and what every call of a session shares: cause 11, and how it ends.
-use lent::clear;
-use lent::get_word;
+use words::clear;
+use words::get_word;
 ghost use mathlib.Core.Path.{_≡_};
 ghost use lib.ListN.{length};
 ghost use Rattle.turns.specs.Answers.{answerOf};

@@ -5,7 +5,7 @@ use decl::emit_type_decl;
 use fixed::put_typedef;
 use names::resolve_type_name;
 use tags::emit_decl_tags;
-use text::put_byte;
+use put::put_byte;
 ghost use mathlib.Core.Path.{_≡_};
 ghost use Rattle.alignments.specs.Writers.{emitTypedefDefOnce};
 ghost use Rattle.asked.specs.Asked.{workAsks};

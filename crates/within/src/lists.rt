@@ -4,7 +4,7 @@ use crate::dump_next;
 use arrival::count_of;
 use arrival::settle_list;
 use header::btf_of;
-use lent::get_word;
+use words::get_word;
 use turns::Session;
 use turns::Tally;
 use turns::is_current;

@@ -4,8 +4,8 @@ use Rattle.cells.proofs.count_at.Statement.{statement}
 use Rattle.cells.proofs.count_at.Tie as tie
 use Rattle.cells.proofs.count_at.Reads as reads
 use Rattle.cells.proofs.count_at.Lts as lts
-use Rattle.lent.proofs.get_word.Reads as get-word-reads
-use Rattle.lent.proofs.put_word.Reads as put-word-reads
+use Rattle.words.proofs.get_word.Reads as get-word-reads
+use Rattle.words.proofs.put_word.Reads as put-word-reads
 
 get-word-requires : tie.Need-get-word-requires
 get-word-requires c κs = search needs

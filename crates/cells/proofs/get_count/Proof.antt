@@ -6,7 +6,7 @@ use Rattle.cells.proofs.get_count.Reads as reads
 use Rattle.cells.proofs.get_count.Lts as lts
 use Rattle.cells.proofs.count_at.Reads as count-at-reads
 use Rattle.cells.proofs.holder_word.Reads as holder-word-reads
-use Rattle.lent.proofs.get_word.Reads as get-word-reads
+use Rattle.words.proofs.get_word.Reads as get-word-reads
 
 holder-word-requires : tie.Need-holder-word-requires
 holder-word-requires c κs = search needs

@@ -12,7 +12,7 @@ use Rattle.classes.proofs.clear_scratch.Tie as tie
 use Rattle.classes.proofs.clear_scratch.Reads as reads
 use Rattle.classes.proofs.clear_scratch.Lts as lts
 use Rattle.cells.proofs.holder_word.Reads as holder-word-reads
-use Rattle.lent.proofs.put_word.Reads as put-word-reads
+use Rattle.words.proofs.put_word.Reads as put-word-reads
 
 abbrev Inv-loop : tie.InvT-loop
 Inv-loop work₀ types n k₀ work k = (k ≤ n) × (length work ≡ length work₀) × (work ≡ fill (bucketP types) noughts (fill (linkP types) noughts work₀ k) k)

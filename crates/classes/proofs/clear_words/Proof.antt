@@ -11,7 +11,7 @@ use Rattle.classes.proofs.clear_words.Tie as tie
 use Rattle.classes.proofs.clear_words.Reads as reads
 use Rattle.classes.proofs.clear_words.Lts as lts
 use Rattle.cells.proofs.holder_word.Reads as holder-word-reads
-use Rattle.lent.proofs.put_word.Reads as put-word-reads
+use Rattle.words.proofs.put_word.Reads as put-word-reads
 
 abbrev Inv-loop : tie.InvT-loop
 Inv-loop work₀ types n f g k₀ work k = (k ≤ n) × (length work ≡ length work₀) × (work ≡ fill (placeOf types f g) noughts work₀ k)

@@ -13,7 +13,7 @@ use Rattle.classes.proofs.find.Lts as lts
 use Rattle.cells.proofs.holder_word.Reads as holder-word-reads
 use Rattle.keys.proofs.load_key.Reads as load-key-reads
 use Rattle.keys.proofs.same_key.Reads as same-key-reads
-use Rattle.lent.proofs.get_word.Reads as get-word-reads
+use Rattle.words.proofs.get_word.Reads as get-word-reads
 
 abbrev Inv-loop : tie.InvT-loop
 Inv-loop b section work h bucket key l₀ l = Walk (keyIn b section work) (bucketP (b .types)) (linkP (b .types)) h bucket work l

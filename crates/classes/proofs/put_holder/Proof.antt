@@ -15,8 +15,8 @@ use Rattle.keys.proofs.hash_name.Reads as hash-name-reads
 use Rattle.classes.proofs.choose.Reads as choose-reads
 use Rattle.classes.proofs.find.Reads as find-reads
 use Rattle.keys.proofs.load_key.Reads as load-key-reads
-use Rattle.lent.proofs.get_word.Reads as get-word-reads
-use Rattle.lent.proofs.put_word.Reads as put-word-reads
+use Rattle.words.proofs.get_word.Reads as get-word-reads
+use Rattle.words.proofs.put_word.Reads as put-word-reads
 
 load-key-requires : tie.Need-load-key-requires
 load-key-requires c κs = search needs

@@ -6,7 +6,7 @@ use Rattle.cutcall.proofs.is_past.Statement.{statement}
 use Rattle.cutcall.proofs.is_past.Tie as tie
 use Rattle.cutcall.proofs.is_past.Reads as reads
 use Rattle.cutcall.proofs.is_past.Lts as lts
-use Rattle.lent.proofs.get_word.Reads as get-word-reads
+use Rattle.words.proofs.get_word.Reads as get-word-reads
 
 abbrev Inv-loop : tie.InvT-loop
 Inv-loop given count n k₀ k = (laws.Left given count k) × (k ≤ n)

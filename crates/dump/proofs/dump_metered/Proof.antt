@@ -7,7 +7,7 @@ use Rattle.dump.proofs.dump_metered.Reads as reads
 use Rattle.dump.proofs.dump_metered.Lts as lts
 use Rattle.sheet.proofs.clear_list.Reads as clear-list-reads
 use Rattle.dump.proofs.emit_listed.Reads as emit-listed-reads
-use Rattle.text.proofs.stop.Reads as stop-reads
+use Rattle.put.proofs.stop.Reads as stop-reads
 use Rattle.order.proofs.order_type.Reads as order-type-reads
 
 order-type-requires : tie.Need-order-type-requires

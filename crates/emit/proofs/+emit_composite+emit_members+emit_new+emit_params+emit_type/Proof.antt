@@ -37,8 +37,8 @@ use Rattle.emit.proofs.emit_once.Reads as emit-once-reads
 use Rattle.emit.proofs.get_emit_state.Reads as get-emit-state-reads
 use Rattle.emit.proofs.inner.Reads as inner-reads
 use Rattle.emit.proofs.set_emit_state.Reads as set-emit-state-reads
-use Rattle.text.proofs.stop.Reads as stop-reads
-use Rattle.text.proofs.stopped.Reads as stopped-reads
+use Rattle.put.proofs.stop.Reads as stop-reads
+use Rattle.put.proofs.stopped.Reads as stopped-reads
 use Rattle.emit.proofs.+emit_composite+emit_members+emit_new+emit_params+emit_type.{
   statement,
 }

@@ -12,7 +12,7 @@ use Rattle.kinds.proofs.kind_of.Reads as kind-of-reads
 use Rattle.nodes.proofs.type_by_id.Reads as type-by-id-reads
 use Rattle.emit.proofs.emit_once.Reads as emit-once-reads
 use Rattle.emit.proofs.get_fwd_emitted.Reads as get-fwd-emitted-reads
-use Rattle.text.proofs.stop.Reads as stop-reads
+use Rattle.put.proofs.stop.Reads as stop-reads
 
 get-fwd-emitted-requires : tie.Need-get-fwd-emitted-requires
 get-fwd-emitted-requires c κs = tt

@@ -5,8 +5,8 @@ use Rattle.enumerators.proofs.emit_enum_end.Statement.{statement}
 use Rattle.enumerators.proofs.emit_enum_end.Tie as tie
 use Rattle.enumerators.proofs.emit_enum_end.Reads as reads
 use Rattle.enumerators.proofs.emit_enum_end.Lts as lts
-use Rattle.text.proofs.put_byte.Reads as put-byte-reads
-use Rattle.text.proofs.put_tabs.Reads as put-tabs-reads
+use Rattle.put.proofs.put_byte.Reads as put-byte-reads
+use Rattle.put.proofs.put_tabs.Reads as put-tabs-reads
 
 put-byte-requires : tie.Need-put-byte-requires
 put-byte-requires c κs = search needs

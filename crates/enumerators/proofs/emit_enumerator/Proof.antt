@@ -5,9 +5,9 @@ use Rattle.enumerators.proofs.emit_enumerator.Statement.{statement}
 use Rattle.enumerators.proofs.emit_enumerator.Tie as tie
 use Rattle.enumerators.proofs.emit_enumerator.Reads as reads
 use Rattle.enumerators.proofs.emit_enumerator.Lts as lts
-use Rattle.text.proofs.put_byte.Reads as put-byte-reads
-use Rattle.text.proofs.put_tabs.Reads as put-tabs-reads
-use Rattle.text.proofs.put_three.Reads as put-three-reads
+use Rattle.put.proofs.put_byte.Reads as put-byte-reads
+use Rattle.put.proofs.put_tabs.Reads as put-tabs-reads
+use Rattle.put.proofs.put_three.Reads as put-three-reads
 use Rattle.names.proofs.put_name.Reads as put-name-reads
 use Rattle.names.proofs.resolve_name.Reads as resolve-name-reads
 

@@ -6,7 +6,7 @@ use Rattle.enumerators.proofs.put_enum_name.Tie as tie
 use Rattle.enumerators.proofs.put_enum_name.Reads as reads
 use Rattle.enumerators.proofs.put_enum_name.Lts as lts
 use Rattle.fixed.proofs.put_enum.Reads as put-enum-reads
-use Rattle.text.proofs.put_byte.Reads as put-byte-reads
+use Rattle.put.proofs.put_byte.Reads as put-byte-reads
 use Rattle.names.proofs.put_name.Reads as put-name-reads
 use Rattle.names.proofs.resolve_type_name.Reads as resolve-type-name-reads
 

@@ -4,7 +4,7 @@ use Rattle.enums.proofs.put_value.Statement.{statement}
 use Rattle.enums.proofs.put_value.Tie as tie
 use Rattle.enums.proofs.put_value.Reads as reads
 use Rattle.enums.proofs.put_value.Lts as lts
-use Rattle.text.proofs.put_decimal.Reads as put-decimal-reads
+use Rattle.put.proofs.put_decimal.Reads as put-decimal-reads
 use Rattle.signs.proofs.as_i32.Reads as as-i32-reads
 use Rattle.signs.proofs.put_i32.Reads as put-i32-reads
 

@@ -12,7 +12,7 @@ use Rattle.enumerators.proofs.deeper.Reads as deeper-reads
 use Rattle.enumerators.proofs.emit_enum_end.Reads as emit-enum-end-reads
 use Rattle.enumerators.proofs.emit_enum_head.Reads as emit-enum-head-reads
 use Rattle.enums64.proofs.emit_values64.Reads as emit-values64-reads
-use Rattle.text.proofs.put_two.Reads as put-two-reads
+use Rattle.put.proofs.put_two.Reads as put-two-reads
 
 is-builtin-requires : tie.Need-is-builtin-requires
 is-builtin-requires c κs = search needs

@@ -23,7 +23,7 @@ use Rattle.sections.proofs.word.Reads as word-reads
 use Rattle.enumerators.proofs.emit_enumerator.Reads as emit-enumerator-reads
 use Rattle.enumerators.proofs.nth.Reads as nth-reads
 use Rattle.enums64.proofs.put_value64.Reads as put-value64-reads
-use Rattle.text.proofs.put_byte.Reads as put-byte-reads
+use Rattle.put.proofs.put_byte.Reads as put-byte-reads
 
 abbrev Inv-loop : tie.InvT-loop
 Inv-loop b section work₀ text₀ at id t lvl values vlen first p₀ k₀ work text p k = (length text ≡ length text₀) × (length work ≡ length work₀) × (k ≤ vlen) × (vlen < 4294967296) × ValuesLeft b (btfOf b section work₀) (enum64Value (flagOf (t .info))) (value64Of b section (t .at)) id lvl (vlenOf (t .info)) first text₀ at work₀ text p work k

@@ -5,7 +5,7 @@ use Rattle.enums64.proofs.put_value64.Statement.{statement}
 use Rattle.enums64.proofs.put_value64.Tie as tie
 use Rattle.enums64.proofs.put_value64.Reads as reads
 use Rattle.enums64.proofs.put_value64.Lts as lts
-use Rattle.text.proofs.put_decimal.Reads as put-decimal-reads
+use Rattle.put.proofs.put_decimal.Reads as put-decimal-reads
 use Rattle.fixed.proofs.put_ull.Reads as put-ull-reads
 use Rattle.signs.proofs.as_i64.Reads as as-i64-reads
 use Rattle.signs.proofs.put_i64.Reads as put-i64-reads

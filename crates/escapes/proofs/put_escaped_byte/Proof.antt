@@ -5,8 +5,8 @@ use Rattle.escapes.proofs.put_escaped_byte.Statement.{statement}
 use Rattle.escapes.proofs.put_escaped_byte.Tie as tie
 use Rattle.escapes.proofs.put_escaped_byte.Reads as reads
 use Rattle.escapes.proofs.put_escaped_byte.Lts as lts
-use Rattle.text.proofs.put_byte.Reads as put-byte-reads
-use Rattle.text.proofs.put_two.Reads as put-two-reads
+use Rattle.put.proofs.put_byte.Reads as put-byte-reads
+use Rattle.put.proofs.put_two.Reads as put-two-reads
 
 put-two-requires : tie.Need-put-two-requires
 put-two-requires c κs = search needs

@@ -6,7 +6,7 @@ use Rattle.explain.proofs.clear_causes.Statement.{statement}
 use Rattle.explain.proofs.clear_causes.Tie as tie
 use Rattle.explain.proofs.clear_causes.Reads as reads
 use Rattle.explain.proofs.clear_causes.Lts as lts
-use Rattle.lent.proofs.clear.Reads as clear-reads
+use Rattle.words.proofs.clear.Reads as clear-reads
 
 mul-from : tie.Need-mul-from
 mul-from c = search needs

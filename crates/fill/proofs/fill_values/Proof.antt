@@ -9,7 +9,7 @@ use Rattle.fill.proofs.fill_values.Statement.{statement}
 use Rattle.fill.proofs.fill_values.Tie as tie
 use Rattle.fill.proofs.fill_values.Reads as reads
 use Rattle.fill.proofs.fill_values.Lts as lts
-use Rattle.lent.proofs.put_word.Reads as put-word-reads
+use Rattle.words.proofs.put_word.Reads as put-word-reads
 use Rattle.fill.proofs.enumerator_word.Reads as enumerator-word-reads
 use Rattle.fill.proofs.value_place.Reads as value-place-reads
 

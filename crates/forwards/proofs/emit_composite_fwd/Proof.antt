@@ -8,7 +8,7 @@ use Rattle.forwards.proofs.emit_composite_fwd.Tie as tie
 use Rattle.forwards.proofs.emit_composite_fwd.Reads as reads
 use Rattle.forwards.proofs.emit_composite_fwd.Lts as lts
 use Rattle.strings.proofs.is_builtin.Reads as is-builtin-reads
-use Rattle.text.proofs.put_byte.Reads as put-byte-reads
+use Rattle.put.proofs.put_byte.Reads as put-byte-reads
 use Rattle.forwards.proofs.put_keyword.Reads as put-keyword-reads
 use Rattle.names.proofs.put_name.Reads as put-name-reads
 use Rattle.names.proofs.resolve_type_name.Reads as resolve-type-name-reads

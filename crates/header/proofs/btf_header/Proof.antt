@@ -4,7 +4,7 @@ use Rattle.header.proofs.btf_header.Statement.{statement}
 use Rattle.header.proofs.btf_header.Tie as tie
 use Rattle.header.proofs.btf_header.Reads as reads
 use Rattle.header.proofs.btf_header.Lts as lts
-use Rattle.lent.proofs.word_in.Reads as word-in-reads
+use Rattle.words.proofs.word_in.Reads as word-in-reads
 use Rattle.header.proofs.is_big_endian.Reads as is-big-endian-reads
 
 -- src/lib.rt:37:9

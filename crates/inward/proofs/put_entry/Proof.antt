@@ -4,7 +4,7 @@ use Rattle.inward.proofs.put_entry.Statement.{statement}
 use Rattle.inward.proofs.put_entry.Tie as tie
 use Rattle.inward.proofs.put_entry.Reads as reads
 use Rattle.inward.proofs.put_entry.Lts as lts
-use Rattle.lent.proofs.put_word.Reads as put-word-reads
+use Rattle.words.proofs.put_word.Reads as put-word-reads
 
 returns : tie.Need-returns
 returns c = laws.entry-short _ _ _ _ (c .if1 .taken)

@@ -10,7 +10,7 @@ use Rattle.marking.proofs.push_given.Statement.{statement}
 use Rattle.marking.proofs.push_given.Tie as tie
 use Rattle.marking.proofs.push_given.Reads as reads
 use Rattle.marking.proofs.push_given.Lts as lts
-use Rattle.lent.proofs.get_word.Reads as get-word-reads
+use Rattle.words.proofs.get_word.Reads as get-word-reads
 use Rattle.marking.proofs.push.Reads as push-reads
 
 abbrev Inv-loop : tie.InvT-loop

@@ -11,7 +11,7 @@ use Rattle.mods.proofs.emit_mods.Reads as reads
 use Rattle.mods.proofs.emit_mods.Lts as lts
 use Rattle.chain.proofs.kind_on_top.Reads as kind-on-top-reads
 use Rattle.mods.proofs.put_qualifier.Reads as put-qualifier-reads
-use Rattle.text.proofs.put_byte.Reads as put-byte-reads
+use Rattle.put.proofs.put_byte.Reads as put-byte-reads
 
 abbrev Inv-loop : tie.InvT-loop
 Inv-loop b section work text₀ at start n m p₀ k₀ text p k = (length text ≡ length text₀) × (putText text p (whole (modsDown b section work start m k)) ≡ putText text₀ at (whole (modsDown b section work start m n)))

@@ -6,8 +6,8 @@ use Rattle.noted.proofs.note.Tie as tie
 use Rattle.noted.proofs.note.Reads as reads
 use Rattle.noted.proofs.note.Lts as lts
 use Rattle.noted.proofs.put_entry.Reads as put-entry-reads
-use Rattle.text.proofs.stop.Reads as stop-reads
-use Rattle.text.proofs.stopped.Reads as stopped-reads
+use Rattle.put.proofs.stop.Reads as stop-reads
+use Rattle.put.proofs.stopped.Reads as stopped-reads
 
 stopped-requires : tie.Need-stopped-requires
 stopped-requires c κs = search needs

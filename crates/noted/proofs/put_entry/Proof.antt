@@ -4,7 +4,7 @@ use Rattle.noted.proofs.put_entry.Statement.{statement}
 use Rattle.noted.proofs.put_entry.Tie as tie
 use Rattle.noted.proofs.put_entry.Reads as reads
 use Rattle.noted.proofs.put_entry.Lts as lts
-use Rattle.lent.proofs.put_word.Reads as put-word-reads
+use Rattle.words.proofs.put_word.Reads as put-word-reads
 
 mul-put-word : tie.Need-mul-put-word
 mul-put-word c = search needs

@@ -43,7 +43,7 @@ use Rattle.alone.proofs.end_composite.Reads as end-composite-reads
 use Rattle.alone.proofs.end_typedef.Reads as end-typedef-reads
 use Rattle.alone.proofs.mention_composite.Reads as mention-composite-reads
 use Rattle.strings.proofs.is_named.Reads as is-named-reads
-use Rattle.text.proofs.stopped.Reads as stopped-reads
+use Rattle.put.proofs.stopped.Reads as stopped-reads
 use Rattle.noting.proofs.+emit_composite+emit_members+emit_new+emit_noted+emit_params.{
   statement,
 }

@@ -7,7 +7,7 @@ use Rattle.numbers.proofs.count_below.Tie as tie
 use Rattle.numbers.proofs.count_below.Reads as reads
 use Rattle.numbers.proofs.count_below.Lts as lts
 use Rattle.cells.proofs.holder_word.Reads as holder-word-reads
-use Rattle.lent.proofs.get_word.Reads as get-word-reads
+use Rattle.words.proofs.get_word.Reads as get-word-reads
 use Rattle.numbers.proofs.add_if.Reads as add-if-reads
 
 abbrev Inv-loop : tie.InvT-loop

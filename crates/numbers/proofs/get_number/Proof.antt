@@ -6,7 +6,7 @@ use Rattle.numbers.proofs.get_number.Reads as reads
 use Rattle.numbers.proofs.get_number.Lts as lts
 use Rattle.cells.proofs.get_count.Reads as get-count-reads
 use Rattle.cells.proofs.holder_word.Reads as holder-word-reads
-use Rattle.lent.proofs.get_word.Reads as get-word-reads
+use Rattle.words.proofs.get_word.Reads as get-word-reads
 use Rattle.numbers.proofs.number_over.Reads as number-over-reads
 
 holder-word-requires : tie.Need-holder-word-requires

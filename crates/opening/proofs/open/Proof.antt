@@ -10,7 +10,7 @@ use Rattle.opening.proofs.open.Reads as reads
 use Rattle.opening.proofs.open.Lts as lts
 use Rattle.fill.proofs.fill.Reads as fill-reads
 use Rattle.header.proofs.btf_of.Reads as btf-of-reads
-use Rattle.lent.proofs.clear.Reads as clear-reads
+use Rattle.words.proofs.clear.Reads as clear-reads
 use Rattle.opening.proofs.examine.Reads as examine-reads
 use Rattle.takers.proofs.takers.Reads as takers-reads
 

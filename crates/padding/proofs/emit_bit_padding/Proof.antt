@@ -7,7 +7,7 @@ use Rattle.padding.proofs.emit_bit_padding.Reads as reads
 use Rattle.padding.proofs.emit_bit_padding.Lts as lts
 use Rattle.asked.proofs.gap_align.Reads as gap-align-reads
 use Rattle.padding.proofs.put_pads_before.Reads as put-pads-before-reads
-use Rattle.text.proofs.stop.Reads as stop-reads
+use Rattle.put.proofs.stop.Reads as stop-reads
 
 -- src/lib.rt:105:9
 returns : tie.Need-returns

@@ -5,7 +5,7 @@ use Rattle.padding.proofs.put_own_line.Statement.{statement}
 use Rattle.padding.proofs.put_own_line.Tie as tie
 use Rattle.padding.proofs.put_own_line.Reads as reads
 use Rattle.padding.proofs.put_own_line.Lts as lts
-use Rattle.text.proofs.put_byte.Reads as put-byte-reads
+use Rattle.put.proofs.put_byte.Reads as put-byte-reads
 
 -- src/lib.rt:298:9
 returns : tie.Need-returns

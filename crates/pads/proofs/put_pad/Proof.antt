@@ -5,10 +5,10 @@ use Rattle.pads.proofs.put_pad.Statement.{statement}
 use Rattle.pads.proofs.put_pad.Tie as tie
 use Rattle.pads.proofs.put_pad.Reads as reads
 use Rattle.pads.proofs.put_pad.Lts as lts
-use Rattle.text.proofs.put_decimal.Reads as put-decimal-reads
-use Rattle.text.proofs.put_byte.Reads as put-byte-reads
-use Rattle.text.proofs.put_tabs.Reads as put-tabs-reads
-use Rattle.text.proofs.put_two.Reads as put-two-reads
+use Rattle.put.proofs.put_decimal.Reads as put-decimal-reads
+use Rattle.put.proofs.put_byte.Reads as put-byte-reads
+use Rattle.put.proofs.put_tabs.Reads as put-tabs-reads
+use Rattle.put.proofs.put_two.Reads as put-two-reads
 use Rattle.pads.proofs.put_unit.Reads as put-unit-reads
 
 put-byte-requires : tie.Need-put-byte-requires

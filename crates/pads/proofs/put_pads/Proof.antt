@@ -9,7 +9,7 @@ use Rattle.pads.proofs.put_pads.Statement.{statement}
 use Rattle.pads.proofs.put_pads.Tie as tie
 use Rattle.pads.proofs.put_pads.Reads as reads
 use Rattle.pads.proofs.put_pads.Lts as lts
-use Rattle.text.proofs.stopped.Reads as stopped-reads
+use Rattle.put.proofs.stopped.Reads as stopped-reads
 use Rattle.units.proofs.pad_of.Reads as pad-of-reads
 use Rattle.pads.proofs.put_pad.Reads as put-pad-reads
 

@@ -12,7 +12,7 @@ use Rattle.pads.proofs.put_placed_pads.Statement.{statement}
 use Rattle.pads.proofs.put_placed_pads.Tie as tie
 use Rattle.pads.proofs.put_placed_pads.Reads as reads
 use Rattle.pads.proofs.put_placed_pads.Lts as lts
-use Rattle.text.proofs.stopped.Reads as stopped-reads
+use Rattle.put.proofs.stopped.Reads as stopped-reads
 use Rattle.units.proofs.placed_pad.Reads as placed-pad-reads
 use Rattle.pads.proofs.put_pad.Reads as put-pad-reads
 

@@ -5,7 +5,7 @@ use Rattle.sections.proofs.three.Statement.{statement}
 use Rattle.sections.proofs.three.Tie as tie
 use Rattle.sections.proofs.three.Reads as reads
 use Rattle.sections.proofs.three.Lts as lts
-use Rattle.lent.proofs.three_in.Reads as three-in-reads
+use Rattle.words.proofs.three_in.Reads as three-in-reads
 
 three-in-requires : tie.Need-three-in-requires
 three-in-requires c κs = search needs

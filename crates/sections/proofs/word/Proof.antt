@@ -4,7 +4,7 @@ use Rattle.sections.proofs.word.Statement.{statement}
 use Rattle.sections.proofs.word.Tie as tie
 use Rattle.sections.proofs.word.Reads as reads
 use Rattle.sections.proofs.word.Lts as lts
-use Rattle.lent.proofs.word_in.Reads as word-in-reads
+use Rattle.words.proofs.word_in.Reads as word-in-reads
 
 word-in-requires : tie.Need-word-in-requires
 word-in-requires c κs = search needs

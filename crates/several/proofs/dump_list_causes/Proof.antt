@@ -13,7 +13,7 @@ use Rattle.several.proofs.dump_list_causes.Tie as tie
 use Rattle.several.proofs.dump_list_causes.Reads as reads
 use Rattle.several.proofs.dump_list_causes.Lts as lts
 use Rattle.explain.proofs.dump_type_causes.Reads as dump-type-causes-reads
-use Rattle.lent.proofs.get_word.Reads as get-word-reads
+use Rattle.words.proofs.get_word.Reads as get-word-reads
 use Rattle.arrival.proofs.count_of.Reads as count-of-reads
 use Rattle.several.proofs.number_of.Reads as number-of-reads
 use Rattle.turns.proofs.turn_of.Reads as turn-of-reads

@@ -5,10 +5,10 @@ use Rattle.signs.proofs.put_least.Statement.{statement}
 use Rattle.signs.proofs.put_least.Tie as tie
 use Rattle.signs.proofs.put_least.Reads as reads
 use Rattle.signs.proofs.put_least.Lts as lts
-use Rattle.text.proofs.put_decimal.Reads as put-decimal-reads
+use Rattle.put.proofs.put_decimal.Reads as put-decimal-reads
 use Rattle.fixed.proofs.put_ll.Reads as put-ll-reads
 use Rattle.fixed.proofs.put_minus_one.Reads as put-minus-one-reads
-use Rattle.text.proofs.put_two.Reads as put-two-reads
+use Rattle.put.proofs.put_two.Reads as put-two-reads
 
 put-two-requires : tie.Need-put-two-requires
 put-two-requires c κs = search needs

@@ -5,8 +5,8 @@ use Rattle.signs.proofs.put_signed.Statement.{statement}
 use Rattle.signs.proofs.put_signed.Tie as tie
 use Rattle.signs.proofs.put_signed.Reads as reads
 use Rattle.signs.proofs.put_signed.Lts as lts
-use Rattle.text.proofs.put_decimal.Reads as put-decimal-reads
-use Rattle.text.proofs.put_byte.Reads as put-byte-reads
+use Rattle.put.proofs.put_decimal.Reads as put-decimal-reads
+use Rattle.put.proofs.put_byte.Reads as put-byte-reads
 use Rattle.signs.proofs.magnitude.Reads as magnitude-reads
 
 put-byte-requires : tie.Need-put-byte-requires

@@ -10,8 +10,8 @@ use Rattle.tags.proofs.put_attribute.Lts as lts
 use Rattle.strings.proofs.get_btf_str.Reads as get-btf-str-reads
 use Rattle.escapes.proofs.put_escaped.Reads as put-escaped-reads
 use Rattle.fixed.proofs.put_attribute_start.Reads as put-attribute-start-reads
-use Rattle.text.proofs.put_bytes.Reads as put-bytes-reads
-use Rattle.text.proofs.put_two.Reads as put-two-reads
+use Rattle.put.proofs.put_bytes.Reads as put-bytes-reads
+use Rattle.put.proofs.put_two.Reads as put-two-reads
 use Rattle.tags.proofs.put_tag_name.Reads as put-tag-name-reads
 
 put-attribute-start-requires : tie.Need-put-attribute-start-requires

@@ -7,7 +7,7 @@ use Rattle.typedefs.proofs.emit_typedef_def.Reads as reads
 use Rattle.typedefs.proofs.emit_typedef_def.Lts as lts
 use Rattle.decl.proofs.emit_type_decl.Reads as emit-type-decl-reads
 use Rattle.fixed.proofs.put_typedef.Reads as put-typedef-reads
-use Rattle.text.proofs.put_byte.Reads as put-byte-reads
+use Rattle.put.proofs.put_byte.Reads as put-byte-reads
 use Rattle.tags.proofs.emit_decl_tags.Reads as emit-decl-tags-reads
 use Rattle.names.proofs.resolve_type_name.Reads as resolve-type-name-reads
 

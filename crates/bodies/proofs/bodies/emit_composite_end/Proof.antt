@@ -7,8 +7,8 @@ use Rattle.bodies.proofs.bodies.emit_composite_end.Lts as lts
 use Rattle.kinds.proofs.vlen_of.Reads as vlen-of-reads
 use Rattle.bodies.proofs.words.put_last_newline.Reads as put-last-newline-reads
 use Rattle.bodies.proofs.words.put_packed.Reads as put-packed-reads
-use Rattle.text.proofs.put_byte.Reads as put-byte-reads
-use Rattle.text.proofs.put_tabs.Reads as put-tabs-reads
+use Rattle.put.proofs.put_byte.Reads as put-byte-reads
+use Rattle.put.proofs.put_tabs.Reads as put-tabs-reads
 use Rattle.tags.proofs.emit_decl_tags.Reads as emit-decl-tags-reads
 
 vlen-of-requires : tie.Need-vlen-of-requires

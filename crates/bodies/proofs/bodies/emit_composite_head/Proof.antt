@@ -5,7 +5,7 @@ use Rattle.bodies.proofs.bodies.emit_composite_head.Tie as tie
 use Rattle.bodies.proofs.bodies.emit_composite_head.Reads as reads
 use Rattle.bodies.proofs.bodies.emit_composite_head.Lts as lts
 use Rattle.kinds.proofs.is_struct.Reads as is-struct-reads
-use Rattle.text.proofs.put_two.Reads as put-two-reads
+use Rattle.put.proofs.put_two.Reads as put-two-reads
 use Rattle.forwards.proofs.put_keyword.Reads as put-keyword-reads
 use Rattle.names.proofs.put_sep_name.Reads as put-sep-name-reads
 use Rattle.names.proofs.resolve_type_name.Reads as resolve-type-name-reads

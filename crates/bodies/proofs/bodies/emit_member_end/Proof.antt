@@ -6,8 +6,8 @@ use Rattle.bodies.proofs.bodies.emit_member_end.Reads as reads
 use Rattle.bodies.proofs.bodies.emit_member_end.Lts as lts
 use Rattle.bodies.proofs.words.put_bit_size.Reads as put-bit-size-reads
 use Rattle.ends.proofs.member_end.Reads as member-end-reads
-use Rattle.text.proofs.put_byte.Reads as put-byte-reads
-use Rattle.text.proofs.stop.Reads as stop-reads
+use Rattle.put.proofs.put_byte.Reads as put-byte-reads
+use Rattle.put.proofs.stop.Reads as stop-reads
 use Rattle.tags.proofs.emit_decl_tags.Reads as emit-decl-tags-reads
 
 put-bit-size-requires : tie.Need-put-bit-size-requires

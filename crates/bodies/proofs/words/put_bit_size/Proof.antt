@@ -5,8 +5,8 @@ use Rattle.bodies.proofs.words.put_bit_size.Statement.{statement}
 use Rattle.bodies.proofs.words.put_bit_size.Tie as tie
 use Rattle.bodies.proofs.words.put_bit_size.Reads as reads
 use Rattle.bodies.proofs.words.put_bit_size.Lts as lts
-use Rattle.text.proofs.put_decimal.Reads as put-decimal-reads
-use Rattle.text.proofs.put_two.Reads as put-two-reads
+use Rattle.put.proofs.put_decimal.Reads as put-decimal-reads
+use Rattle.put.proofs.put_two.Reads as put-two-reads
 
 returns : tie.Need-returns
 returns c = put-same _ _ _ _ _ _ (laws.size-none _ (c .if1 .taken)) (put-empty _ _)

@@ -5,7 +5,7 @@ use Rattle.bodies.proofs.words.put_comma.Statement.{statement}
 use Rattle.bodies.proofs.words.put_comma.Tie as tie
 use Rattle.bodies.proofs.words.put_comma.Reads as reads
 use Rattle.bodies.proofs.words.put_comma.Lts as lts
-use Rattle.text.proofs.put_two.Reads as put-two-reads
+use Rattle.put.proofs.put_two.Reads as put-two-reads
 
 returns : tie.Need-returns
 returns c = put-same _ _ _ _ _ _ (laws.comma-first _ (c .if1 .taken)) (put-empty _ _)

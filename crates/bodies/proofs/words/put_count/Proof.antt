@@ -4,8 +4,8 @@ use Rattle.bodies.proofs.words.put_count.Statement.{statement}
 use Rattle.bodies.proofs.words.put_count.Tie as tie
 use Rattle.bodies.proofs.words.put_count.Reads as reads
 use Rattle.bodies.proofs.words.put_count.Lts as lts
-use Rattle.text.proofs.put_decimal.Reads as put-decimal-reads
-use Rattle.text.proofs.put_byte.Reads as put-byte-reads
+use Rattle.put.proofs.put_decimal.Reads as put-decimal-reads
+use Rattle.put.proofs.put_byte.Reads as put-byte-reads
 
 put-byte-requires : tie.Need-put-byte-requires
 put-byte-requires c κs = search needs

@@ -6,7 +6,7 @@ use Rattle.bodies.proofs.words.put_gap.Statement.{statement}
 use Rattle.bodies.proofs.words.put_gap.Tie as tie
 use Rattle.bodies.proofs.words.put_gap.Reads as reads
 use Rattle.bodies.proofs.words.put_gap.Lts as lts
-use Rattle.text.proofs.put_byte.Reads as put-byte-reads
+use Rattle.put.proofs.put_byte.Reads as put-byte-reads
 use Rattle.names.proofs.is_blank.Reads as is-blank-reads
 
 returns : tie.Need-returns

@@ -5,7 +5,7 @@ use Rattle.bodies.proofs.words.put_last_newline.Statement.{statement}
 use Rattle.bodies.proofs.words.put_last_newline.Tie as tie
 use Rattle.bodies.proofs.words.put_last_newline.Reads as reads
 use Rattle.bodies.proofs.words.put_last_newline.Lts as lts
-use Rattle.text.proofs.put_byte.Reads as put-byte-reads
+use Rattle.put.proofs.put_byte.Reads as put-byte-reads
 
 returns : tie.Need-returns
 returns c = put-same _ _ _ _ _ _ (laws.line-none _ (c .if1 .taken)) (put-empty _ _)

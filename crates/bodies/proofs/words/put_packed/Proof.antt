@@ -7,7 +7,7 @@ use Rattle.bodies.proofs.words.put_packed.Reads as reads
 use Rattle.bodies.proofs.words.put_packed.Lts as lts
 use Rattle.fixed.proofs.put_attribute_start.Reads as put-attribute-start-reads
 use Rattle.fixed.proofs.put_packed_name.Reads as put-packed-name-reads
-use Rattle.text.proofs.put_two.Reads as put-two-reads
+use Rattle.put.proofs.put_two.Reads as put-two-reads
 
 put-attribute-start-requires : tie.Need-put-attribute-start-requires
 put-attribute-start-requires c κs = search needs

@@ -5,8 +5,8 @@ use Rattle.bodies.proofs.words.put_star.Statement.{statement}
 use Rattle.bodies.proofs.words.put_star.Tie as tie
 use Rattle.bodies.proofs.words.put_star.Reads as reads
 use Rattle.bodies.proofs.words.put_star.Lts as lts
-use Rattle.text.proofs.put_byte.Reads as put-byte-reads
-use Rattle.text.proofs.put_two.Reads as put-two-reads
+use Rattle.put.proofs.put_byte.Reads as put-byte-reads
+use Rattle.put.proofs.put_two.Reads as put-two-reads
 
 put-byte-requires : tie.Need-put-byte-requires
 put-byte-requires c κs = search needs

@@ -4,7 +4,7 @@ use Rattle.cutting.proofs.write.put_magic.Statement.{statement}
 use Rattle.cutting.proofs.write.put_magic.Tie as tie
 use Rattle.cutting.proofs.write.put_magic.Reads as reads
 use Rattle.cutting.proofs.write.put_magic.Lts as lts
-use Rattle.text.proofs.put_two.Reads as put-two-reads
+use Rattle.put.proofs.put_two.Reads as put-two-reads
 
 put-two-requires : tie.Need-put-two-requires
 put-two-requires c κs = search needs

@@ -4,7 +4,7 @@ use Rattle.cutting.proofs.write.put_word.Statement.{statement}
 use Rattle.cutting.proofs.write.put_word.Tie as tie
 use Rattle.cutting.proofs.write.put_word.Reads as reads
 use Rattle.cutting.proofs.write.put_word.Lts as lts
-use Rattle.text.proofs.put_two.Reads as put-two-reads
+use Rattle.put.proofs.put_two.Reads as put-two-reads
 
 cast-a : tie.Need-cast-a
 cast-a c = search needs

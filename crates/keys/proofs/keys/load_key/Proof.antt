@@ -7,7 +7,7 @@ use Rattle.keys.proofs.keys.load_key.Lts as lts
 use Rattle.cells.proofs.holder_word.Reads as holder-word-reads
 use Rattle.keys.proofs.keys.name_of.Reads as name-of-reads
 use Rattle.keys.proofs.keys.space_at.Reads as space-at-reads
-use Rattle.lent.proofs.get_word.Reads as get-word-reads
+use Rattle.words.proofs.get_word.Reads as get-word-reads
 
 holder-word-requires : tie.Need-holder-word-requires
 holder-word-requires c κs = search needs

@@ -7,7 +7,7 @@ use Rattle.mentioned.proofs.write.put_name.Lts as lts
 use Rattle.strings.proofs.put_str.Reads as put-str-reads
 use Rattle.mentioned.proofs.names.is_new.Reads as is-new-reads
 use Rattle.roles.proofs.word_of.Reads as word-of-reads
-use Rattle.text.proofs.put_byte.Reads as put-byte-reads
+use Rattle.put.proofs.put_byte.Reads as put-byte-reads
 
 is-new-requires : tie.Need-is-new-requires
 is-new-requires c κs = search needs

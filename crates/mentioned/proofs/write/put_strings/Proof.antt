@@ -6,7 +6,7 @@ use Rattle.mentioned.proofs.write.put_strings.Tie as tie
 use Rattle.mentioned.proofs.write.put_strings.Reads as reads
 use Rattle.mentioned.proofs.write.put_strings.Lts as lts
 use Rattle.mentioned.proofs.write.put_news.Reads as put-news-reads
-use Rattle.text.proofs.put_byte.Reads as put-byte-reads
+use Rattle.put.proofs.put_byte.Reads as put-byte-reads
 
 put-byte-requires : tie.Need-put-byte-requires
 put-byte-requires c κs = search needs

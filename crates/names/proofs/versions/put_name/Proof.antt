@@ -6,7 +6,7 @@ use Rattle.names.proofs.versions.put_name.Tie as tie
 use Rattle.names.proofs.versions.put_name.Reads as reads
 use Rattle.names.proofs.versions.put_name.Lts as lts
 use Rattle.strings.proofs.put_str.Reads as put-str-reads
-use Rattle.text.proofs.put_decimal.Reads as put-decimal-reads
+use Rattle.put.proofs.put_decimal.Reads as put-decimal-reads
 use Rattle.fixed.proofs.put_underscores.Reads as put-underscores-reads
 
 put-str-requires : tie.Need-put-str-requires

@@ -6,7 +6,7 @@ use Rattle.names.proofs.versions.put_sep_name.Statement.{statement}
 use Rattle.names.proofs.versions.put_sep_name.Tie as tie
 use Rattle.names.proofs.versions.put_sep_name.Reads as reads
 use Rattle.names.proofs.versions.put_sep_name.Lts as lts
-use Rattle.text.proofs.put_byte.Reads as put-byte-reads
+use Rattle.put.proofs.put_byte.Reads as put-byte-reads
 use Rattle.names.proofs.versions.is_blank.Reads as is-blank-reads
 use Rattle.names.proofs.versions.put_name.Reads as put-name-reads
 

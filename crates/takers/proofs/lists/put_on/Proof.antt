@@ -10,8 +10,8 @@ use Rattle.takers.proofs.lists.put_on.Reads as reads
 use Rattle.takers.proofs.lists.put_on.Lts as lts
 use Rattle.cells.proofs.holder_word.Reads as holder-word-reads
 use Rattle.keys.proofs.load_key.Reads as load-key-reads
-use Rattle.lent.proofs.get_word.Reads as get-word-reads
-use Rattle.lent.proofs.put_word.Reads as put-word-reads
+use Rattle.words.proofs.get_word.Reads as get-word-reads
+use Rattle.words.proofs.put_word.Reads as put-word-reads
 use Rattle.suffixes.proofs.key_suffix.Reads as key-suffix-reads
 
 load-key-requires : tie.Need-load-key-requires

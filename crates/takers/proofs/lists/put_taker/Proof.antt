@@ -7,7 +7,7 @@ use Rattle.takers.proofs.lists.put_taker.Reads as reads
 use Rattle.takers.proofs.lists.put_taker.Lts as lts
 use Rattle.cells.proofs.holder_word.Reads as holder-word-reads
 use Rattle.keys.proofs.load_key.Reads as load-key-reads
-use Rattle.lent.proofs.get_word.Reads as get-word-reads
+use Rattle.words.proofs.get_word.Reads as get-word-reads
 use Rattle.suffixes.proofs.base_of.Reads as base-of-reads
 use Rattle.suffixes.proofs.is_suffixed.Reads as is-suffixed-reads
 use Rattle.takers.proofs.lists.put_on.Reads as put-on-reads

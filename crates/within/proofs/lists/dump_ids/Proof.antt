@@ -15,7 +15,7 @@ use Rattle.within.proofs.lists.dump_ids.Tie as tie
 use Rattle.within.proofs.lists.dump_ids.Reads as reads
 use Rattle.within.proofs.lists.dump_ids.Lts as lts
 use Rattle.header.proofs.btf_of.Reads as btf-of-reads
-use Rattle.lent.proofs.get_word.Reads as get-word-reads
+use Rattle.words.proofs.get_word.Reads as get-word-reads
 use Rattle.arrival.proofs.count_of.Reads as count-of-reads
 use Rattle.within.proofs.dump_next.Reads as dump-next-reads
 use Rattle.within.proofs.lists.tally_of.Reads as tally-of-reads

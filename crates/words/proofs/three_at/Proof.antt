@@ -1,0 +1,54 @@
+use native.Mathlib.Omega.{arith}
+use Rattle.lent.proofs.ThreeLaws.{three-in, three-out}
+use borrow.Author.Needs.{needs}
+use Rattle.words.proofs.three_at.Statement.{statement}
+use Rattle.words.proofs.three_at.Tie as tie
+use Rattle.words.proofs.three_at.Reads as reads
+use Rattle.words.proofs.three_at.Lts as lts
+use Rattle.words.proofs.join_at.Reads as join-at-reads
+use Rattle.words.proofs.three_apart.Reads as three-apart-reads
+
+sub-if2 : tie.Need-sub-if2
+sub-if2 c = search needs
+
+join-at-requires : tie.Need-join-at-requires
+join-at-requires c κs = search needs
+
+add-join-at : tie.Need-add-join-at
+add-join-at c = search needs
+
+join-at-requires-2 : tie.Need-join-at-requires-2
+join-at-requires-2 c κs = search needs
+
+add-join-at-2 : tie.Need-add-join-at-2
+add-join-at-2 c = search needs
+
+join-at-requires-3 : tie.Need-join-at-requires-3
+join-at-requires-3 c κs = search needs
+
+returns : tie.Need-returns
+returns c = three-in _ _ _ _ _ (omega arith) (c .before .before .join-at .ensures) (c .before .join-at2 .ensures) (c .join-at3 .ensures)
+
+three-apart-requires : tie.Need-three-apart-requires
+three-apart-requires c κs = search needs
+
+returns-2 : tie.Need-returns-2
+returns-2 c = search needs
+
+returns-3 : tie.Need-returns-3
+returns-3 c = three-out _ _ (c .if1 .left)
+
+pub three-at-spec : {M : Type 1} → statement M
+three-at-spec =
+    tie.close
+    (tie.spec
+    sub-if2
+    join-at-requires
+    add-join-at
+    join-at-requires-2
+    add-join-at-2
+    join-at-requires-3
+    returns
+    three-apart-requires
+    returns-2
+    returns-3)
