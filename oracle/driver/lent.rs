@@ -152,8 +152,14 @@ pub fn one_call(o: &mut Ours, call: Call, odd: Odd, lent: usize, before: &[u8], 
             record[40..48].copy_from_slice(&(want.text.len() as u64).to_le_bytes());
             if n != 0 {
                 record[0..8].fill(0);
+                // a refused id leaves the visits; of all ids they are those of the last one accepted
+                if matches!(call, Call::All) {
+                    record[64..68].copy_from_slice(&o.record[64..68]);
+                }
                 same("work after a refusal", o.work, &vec![0; o.work.len()])?;
             } else {
+                // the visits are what the work counts
+                record[64..68].copy_from_slice(&o.work[8..12]);
                 let spare = &o.work[sound.work_bytes() as usize..];
                 same("work past the need", spare, &vec![0; spare.len()])?;
             }

@@ -24,7 +24,7 @@ use Rattle.turns.specs.declared.Session.{Session}
 use Rattle.turns.specs.declared.Turn.{Turn}
 use Rattle.turns.specs.declared.Reached.{Reached}
 use Rattle.turns.specs.Answers.{answerOf}
-use Rattle.turns.specs.Turns.{Call, callOf, turnOf, isCurrent, Reach, reached, refusedBy, reachOf, settled, unchanged}
+use Rattle.turns.specs.Turns.{Call, callOf, turnOf, isCurrent, Reach, reached, refusedBy, reachOf, settled, unchanged, visitsIn}
 use Rattle.turns.proofs.Laws.{reach-accepted, reach-refused}
 use Rattle.calls.specs.Refusals.{notCurrent, refusal}
 use Rattle.calls.specs.Calls.{cameTo, lentTo, requested}
@@ -101,34 +101,38 @@ module _ (l u : List ℕ) (k : ℕ) (h : k * 12 ≤ length l) (same : length u �
       ∙ append-assoc (entriesOf k l) (entriesOf j u) (entryAt u j ∷ [])
 
 -- ---- dump_at
-module _ (b : Btf) (s w t l : List ℕ) (len k id : ℕ) (h : k ≤ entriesIn l) (r : Told) (w′ t′ u : List ℕ) (same : length u ≡ length (midOf (k * 12) (length l - k * 12) l))
-    (e : cameOf r w′ t′ u ≡ requestedNoted (upTo (entriesIn (midOf (k * 12) (length l - k * 12) l))) b s id [] len w t) (small : r .count ≤ entriesIn (midOf (k * 12) (length l - k * 12) l)) where
+module _ (b : Btf) (s w t l : List ℕ) (len v k id : ℕ) (h : k ≤ entriesIn l) (r : Told) (w′ t′ u : List ℕ) (same : length u ≡ length (midOf (k * 12) (length l - k * 12) l))
+    (e : cameOf r w′ t′ u ≡ requestedNoted (upTo (entriesIn (midOf (k * 12) (length l - k * 12) l))) b s id [] len v w t) (small : r .count ≤ entriesIn (midOf (k * 12) (length l - k * 12) l)) where
   tail-length : length (midOf (k * 12) (length l - k * 12) l) ≡ length l - k * 12
   tail-length = mid-len (k * 12) (length l) l (omega arith)
 
   at-count : k + r .count ≤ entriesIn l
   at-count = omega (arith, tail-length)
 
-  at-told : cameOf (record { reached = r .reached; count = k + r .count }) w′ t′ (putMid (k * 12) (length l - k * 12) l u) ≡ requestedNoted (upTo (entriesIn l)) b s id (entriesOf k l) len w t
+  at-told : cameOf (record { reached = r .reached; count = k + r .count }) w′ t′ (putMid (k * 12) (length l - k * 12) l u) ≡ requestedNoted (upTo (entriesIn l)) b s id (entriesOf k l) len v w t
   unfolding cameOf
   at-told =
       let es : length (entriesOf k l) ≡ k = entries-length k l in
       let m : entriesIn (midOf (k * 12) (length l - k * 12) l) ≡ entriesIn l - length (entriesOf k l) = omega (arith, tail-length) in
       (λ i. record { reach = reachOf (r .reached) w′ t′; entries = joined l u k (omega arith) same (r .count) (omega (arith, same)) i })
-      ∙ ap (behind (entriesOf k l)) (e ∙ ap (λ (n : ℕ). requestedNoted (upTo n) b s id [] len w t) m)
-      ∙ sym (requested-shift (entriesIn l) b s id (entriesOf k l) len w t)
+      ∙ ap (behind (entriesOf k l)) (e ∙ ap (λ (n : ℕ). requestedNoted (upTo n) b s id [] len v w t) m)
+      ∙ sym (requested-shift (entriesIn l) b s id (entriesOf k l) len v w t)
 
-  pub at-all : r .reached .len ≤ length t′ → (cameOf (record { reached = r .reached; count = k + r .count }) w′ t′ (putMid (k * 12) (length l - k * 12) l u) ≡ requestedNoted (upTo (entriesIn l)) b s id (entriesOf k l) len w t) × (k + r .count ≤ entriesIn l) × (r .reached .len ≤ length t′)
+  pub at-all : r .reached .len ≤ length t′ → (cameOf (record { reached = r .reached; count = k + r .count }) w′ t′ (putMid (k * 12) (length l - k * 12) l u) ≡ requestedNoted (upTo (entriesIn l)) b s id (entriesOf k l) len v w t) × (k + r .count ≤ entriesIn l) × (r .reached .len ≤ length t′)
   at-all q = (at-told, at-count, q)
 
 -- ---- dump_next
-pub next-idle : (b : Btf) (s w t l : List ℕ) (room len k id : ℕ) → len ≤ length t → (q : Bool) → q ≡ isIdle (markOf (getField w id 1)) (tableIn b s w .node id) → q ≡ true
-    → cameOf (record { reached = record { len = len; number = 0 }; count = k }) w t l ≡ requestedNoted (upTo room) b s id (entriesOf k l) len w t
+-- the visits as the code reads them
+pub read-before : (room : ℕ) (b : Btf) (s w t : List ℕ) (es : List Entry) (len id v : ℕ) (q : Came) → q ≡ requestedNoted (upTo room) b s id es len v w t → v ≡ visitsIn w → q ≡ requestedNoted (upTo room) b s id es len (visitsIn w) w t
+read-before room b s w t es len id v q e h = e ∙ ap (λ (u : ℕ). requestedNoted (upTo room) b s id es len u w t) h
+
+pub next-idle : (b : Btf) (s w t l : List ℕ) (room len u v k id : ℕ) → len ≤ length t → (q : Bool) → q ≡ isIdle (markOf (getField w id 1)) (tableIn b s w .node id) → q ≡ true
+    → cameOf (record { reached = record { len = len; number = 0; visits = u }; count = k }) w t l ≡ requestedNoted (upTo room) b s id (entriesOf k l) len v w t
 unfolding cameOf requestedNoted cameToNoted forget entriesAfter requested
-next-idle b s w t l room len k id h q e z =
+next-idle b s w t l room len u v k id h q e z =
     let idle : isIdle (markOf (getField w id 1)) (tableIn b s w .node id) ≡ true = sym e ∙ z in
-    ap (λ (x : Reach). record { reach = x; entries = entriesOf k l }) (idle-reach b s w t len id h q e z .0 ∙ ap (cameTo len t) (idle-request b (btfOf b s w) 0 (lentTo len t) w id idle))
-    ∙ sym (ap (cameToNoted len t (entriesOf k l)) (idle-noted b s w (lentTo len t) id (upTo room) (entriesOf k l) idle))
+    ap (λ (x : Reach). record { reach = x; entries = entriesOf k l }) (idle-reach b s w t len u v id h q e z .0 ∙ ap (cameTo len v t) (idle-request b (btfOf b s w) 0 (lentTo len t) w id idle))
+    ∙ sym (ap (cameToNoted len v t (entriesOf k l)) (idle-noted b s w (lentTo len t) id (upTo room) (entriesOf k l) idle))
 
 -- ---- dump_all
 pub all-start : (more : ℕ → Bool) (b : Btf) (s : List ℕ) (n id len : ℕ) (w t l : List ℕ) → requestedFromNoted more b s n id [] len w t ≡ requestedFromNoted more b s n id (entriesOf 0 l) len w t
@@ -139,11 +143,11 @@ module _ (room : ℕ) (b : Btf) (s : List ℕ) (whole : Came) where
   abbrev more : ℕ → Bool
   more = upTo room
 
-  unroll : (n id : ℕ) (es : List Entry) (len : ℕ) (w t : List ℕ) → id < n → requestedFromNoted more b s (n - id) id es len w t ≡ onwardNoted more b s (requestedNoted more b s id es len w t) (requestedFromNoted more b s (n - (id + 1)) (id + 1))
+  unroll : (n id : ℕ) (es : List Entry) (len : ℕ) (w t : List ℕ) → id < n → requestedFromNoted more b s (n - id) id es len w t ≡ onwardNoted more b s (requestedNoted more b s id es len (visitsIn w) w t) (requestedFromNoted more b s (n - (id + 1)) (id + 1))
   unfolding requestedFromNoted
   unroll n id es len w t h =
       let e : n - id ≡ suc (n - (id + 1)) = omega arith in
-      ap (λ (j : ℕ). requestedFromNoted more b s j id es len w t) e ∙ ap (λ (j : ℕ). onwardNoted more b s (requestedNoted more b s id es len w t) (requestedFromNoted more b s (n - (id + 1)) j)) (sym (add-one id))
+      ap (λ (j : ℕ). requestedFromNoted more b s j id es len w t) e ∙ ap (λ (j : ℕ). onwardNoted more b s (requestedNoted more b s id es len (visitsIn w) w t) (requestedFromNoted more b s (n - (id + 1)) j)) (sym (add-one id))
 
   pub all-done : (n id : ℕ) (r : Told) (w t l : List ℕ) → n ≤ id → r .reached .number ≡ 0 → whole ≡ requestedFromNoted more b s (n - id) id (entriesOf (r .count) l) (r .reached .len) w t → cameOf r w t l ≡ whole
   unfolding requestedFromNoted cameOf
@@ -152,17 +156,17 @@ module _ (room : ℕ) (b : Btf) (s : List ℕ) (whole : Came) where
       ap (λ (q : Reach). record { reach = q; entries = entriesOf (r .count) l }) (reach-accepted (r .reached) w t z)
       ∙ sym (e ∙ ap (λ (m : ℕ). requestedFromNoted more b s m id (entriesOf (r .count) l) (r .reached .len) w t) k)
 
-  module _ (n id : ℕ) (es : List Entry) (len : ℕ) (w t : List ℕ) (h : id < n) (e : whole ≡ requestedFromNoted more b s (n - id) id es len w t) (r : Told) (w′ t′ l′ : List ℕ) (room₁ : ℕ) (e₁ : room₁ ≡ room) (er : cameOf r w′ t′ l′ ≡ requestedNoted (upTo room₁) b s id es len w t) where
+  module _ (n id : ℕ) (es : List Entry) (len : ℕ) (w t : List ℕ) (h : id < n) (e : whole ≡ requestedFromNoted more b s (n - id) id es len w t) (r : Told) (w′ t′ l′ : List ℕ) (room₁ : ℕ) (e₁ : room₁ ≡ room) (er : cameOf r w′ t′ l′ ≡ requestedNoted (upTo room₁) b s id es len (visitsIn w) w t) where
     goes-on : whole ≡ onwardNoted more b s (cameOf r w′ t′ l′) (requestedFromNoted more b s (n - (id + 1)) (id + 1))
-    goes-on = e ∙ unroll n id es len w t h ∙ ap (λ (q : Came). onwardNoted more b s q (requestedFromNoted more b s (n - (id + 1)) (id + 1))) (sym (er ∙ ap (λ (n : ℕ). requestedNoted (upTo n) b s id es len w t) e₁))
+    goes-on = e ∙ unroll n id es len w t h ∙ ap (λ (q : Came). onwardNoted more b s q (requestedFromNoted more b s (n - (id + 1)) (id + 1))) (sym (er ∙ ap (λ (n : ℕ). requestedNoted (upTo n) b s id es len (visitsIn w) w t) e₁))
 
     pub all-more : r .reached .number ≡ 0 → whole ≡ requestedFromNoted more b s (n - (id + 1)) (id + 1) (entriesOf (r .count) l′) (r .reached .len) w′ t′
     unfolding onwardNoted cameOf
-    all-more z = goes-on ∙ ap (λ (q : Reach). elim q as (λ (x : Reach). Came) [ reached a c d ↦ requestedFromNoted more b s (n - (id + 1)) (id + 1) (entriesOf (r .count) l′) a c d | refusedBy a c d ↦ cameOf r w′ t′ l′ ]) (reach-accepted (r .reached) w′ t′ z)
+    all-more z = goes-on ∙ ap (λ (q : Reach). elim q as (λ (x : Reach). Came) [ reached a c d ↦ requestedFromNoted more b s (n - (id + 1)) (id + 1) (entriesOf (r .count) l′) a c d | refusedBy a c f d ↦ cameOf r w′ t′ l′ ]) (reach-accepted (r .reached) w′ t′ z)
 
     pub all-stop : (r .reached .number ≡ 0 → ⊥) → cameOf r w′ t′ l′ ≡ whole
     unfolding onwardNoted cameOf
-    all-stop z = sym (goes-on ∙ ap (λ (q : Reach). elim q as (λ (x : Reach). Came) [ reached a c d ↦ requestedFromNoted more b s (n - (id + 1)) (id + 1) (entriesOf (r .count) l′) a c d | refusedBy a c d ↦ cameOf r w′ t′ l′ ]) (reach-refused (r .reached) w′ t′ z))
+    all-stop z = sym (goes-on ∙ ap (λ (q : Reach). elim q as (λ (x : Reach). Came) [ reached a c d ↦ requestedFromNoted more b s (n - (id + 1)) (id + 1) (entriesOf (r .count) l′) a c d | refusedBy a c f d ↦ cameOf r w′ t′ l′ ]) (reach-refused (r .reached) w′ t′ z))
 
 -- ---- dump_types_causes
 module _ (s : Session) (section w t l : List ℕ) (q : Bool) (eq : q ≡ isCurrent s (length section) (length w) (length t)) where

@@ -126,32 +126,32 @@ module _ (b : Btf) (few : b .types ≤ 262145) (s w t l : List ℕ) (len id to :
   pub bound : d .at ≤ to - len + 23
   bound = ⊎-elim (λ h. omega (arith, one-bound b s w t len id to below ends (d .at) u w′ same (plain-out h))) (λ h. omega (arith, place-17 h)) (le-or-lt (lined .need) (entriesIn l))
 
-  module _ (el : to ≡ limitOf (length t) len) (r : Reached) (er : r ≡ arrivedAt len (to - len) (d .at)) (count : ℕ) (ec : count ≡ pick (eqb (r .number) 0) (d .count) 0) where
+  module _ (el : to ≡ limitOf (length t) len) (r : Reached) (v : ℕ) (er : r ≡ arrivedAt len v (to - len) (d .at)) (count : ℕ) (ec : count ≡ pick (eqb (r .number) 0) (d .count) 0) where
     abbrev text′ : List ℕ
     text′ = putMid len (to - len) t u
 
     -- the request, on the slice that it is lent
-    request-is : cameToNoted len t [] (F (upTo (entriesIn l))) ≡ requestedNoted (upTo (entriesIn l)) b s id [] len w t
+    request-is : cameToNoted len v t [] (F (upTo (entriesIn l))) ≡ requestedNoted (upTo (entriesIn l)) b s id [] len v w t
     unfolding requestedNoted
-    request-is = ap (λ (z : ℕ). cameToNoted len t [] (dumpedNoted (workMachine b X) (tableOf X) (upTo (entriesIn l)) (showsIn X) (record { work = w; text = take (z - len) (drop len t); at = 0; len = 0 }) [] id)) el
+    request-is = ap (λ (z : ℕ). cameToNoted len v t [] (dumpedNoted (workMachine b X) (tableOf X) (upTo (entriesIn l)) (showsIn X) (record { work = w; text = take (z - len) (drop len t); at = 0; len = 0 }) [] id)) el
 
-    plain-is : cameTo len t (asked b s w id mid) ≡ requested b s id len w t
+    plain-is : cameTo len v t (asked b s w id mid) ≡ requested b s id len v w t
     unfolding requested
-    plain-is = ap (λ (z : ℕ). cameTo len t (asked b s w id (take (z - len) (drop len t)))) el
+    plain-is = ap (λ (z : ℕ). cameTo len v t (asked b s w id (take (z - len) (drop len t)))) el
 
-    reach-fits : lined .need ≤ entriesIn l → reachOf r w′ text′ ≡ cameTo len t (forget (F (upTo (entriesIn l))))
-    reach-fits h = one-reach b s w t len id to below ends (d .at) u w′ same (plain-out h) el r er .0 ∙ sym plain-is ∙ ap (cameTo len t) (sym (ap forget (lined .fits (entriesIn l) h) ∙ lined .same))
+    reach-fits : lined .need ≤ entriesIn l → reachOf r w′ text′ ≡ cameTo len v t (forget (F (upTo (entriesIn l))))
+    reach-fits h = one-reach b s w t len id to below ends (d .at) u w′ same (plain-out h) el r v er .0 ∙ sym plain-is ∙ ap (cameTo len v t) (sym (ap forget (lined .fits (entriesIn l) h) ∙ lined .same))
 
-    reach-short : entriesIn l < lined .need → reachOf r w′ text′ ≡ cameTo len t (forget (F (upTo (entriesIn l))))
+    reach-short : entriesIn l < lined .need → reachOf r w′ text′ ≡ cameTo len v t (forget (F (upTo (entriesIn l))))
     unfolding cameTo forget
     reach-short h =
-        let p : r ≡ record { len = len; number = d .at - (to - len) - 1 } = er ∙ sym (arrived-past len (to - len) (d .at) (omega (arith, place-17 h))) in
+        let p : r ≡ record { len = len; number = d .at - (to - len) - 1; visits = v } = er ∙ sym (arrived-past len v (to - len) (d .at) (omega (arith, place-17 h))) in
         let n : r .number ≡ 17 = ap (λ (x : Reached). x .number) p ∙ omega (arith, place-17 h) in
         let k : r .len ≡ len = ap (λ (x : Reached). x .len) p in
-        reach-refused r w′ text′ (λ z. absurd (omega arith)) ∙ (λ i. refusedBy (n i) (k i) (take (k i) text′)) ∙ ap (refusedBy 17 len) (take-at (take len t) (u ++ postOf len (to - len) t) len (length-take-le len t (omega arith)))
-        ∙ sym (ap (λ (o : Out (Noted Sheet)). cameTo len t (forget o)) (lined .short (entriesIn l) zero-le h))
+        reach-refused r w′ text′ (λ z. absurd (omega arith)) ∙ (λ i. refusedBy (n i) (k i) (p i .visits) (take (k i) text′)) ∙ ap (refusedBy 17 len v) (take-at (take len t) (u ++ postOf len (to - len) t) len (length-take-le len t (omega arith)))
+        ∙ sym (ap (λ (o : Out (Noted Sheet)). cameTo len v t (forget o)) (lined .short (entriesIn l) zero-le h))
 
-    reach-is : reachOf r w′ text′ ≡ cameTo len t (forget (F (upTo (entriesIn l))))
+    reach-is : reachOf r w′ text′ ≡ cameTo len v t (forget (F (upTo (entriesIn l))))
     reach-is = ⊎-elim reach-fits reach-short (le-or-lt (lined .need) (entriesIn l))
 
     in-place : d .at ≤ to - len → F (upTo (entriesIn l)) ≡ wrote (paper 0 d u w′ l′)
@@ -164,17 +164,17 @@ module _ (b : Btf) (few : b .types ≤ 262145) (s w t l : List ℕ) (len id to :
     refusal-some : to - len < d .at → r .number ≡ 0 → ⊥
     unfolding cameTo forget
     refusal-some h z =
-        let p : r ≡ record { len = len; number = d .at - (to - len) - 1 } = er ∙ sym (arrived-past len (to - len) (d .at) h) in
+        let p : r ≡ record { len = len; number = d .at - (to - len) - 1; visits = v } = er ∙ sym (arrived-past len v (to - len) (d .at) h) in
         let n : r .number ≡ d .at - (to - len) - 1 = ap (λ (x : Reached). x .number) p in
         ⊎-elim
-        (λ i. no-reach (sym (reach-accepted r w′ text′ z) ∙ reach-is ∙ ap (λ (o : Out (Noted Sheet)). cameTo len t (forget o)) (past-place h)))
+        (λ i. no-reach (sym (reach-accepted r w′ text′ z) ∙ reach-is ∙ ap (λ (o : Out (Noted Sheet)). cameTo len v t (forget o)) (past-place h)))
         (λ i. omega (arith, place-17 i)) (le-or-lt (lined .need) (entriesIn l))
       where
-        no-reach : reached (r .len) w′ text′ ≡ cameTo len t (forget (stuck (d .at - (length u + 1)))) → ⊥
+        no-reach : reached (r .len) w′ text′ ≡ cameTo len v t (forget (stuck (d .at - (length u + 1)))) → ⊥
         no-reach q = let z : _≡_ {A = ℕ} 0 1 = cc in omega arith
 
     count-in : d .at ≤ to - len → count ≡ d .count
-    count-in h = ec ∙ ap (λ (c : Bool). pick c (d .count) 0) (eq-eqb (r .number) 0 (ap (λ (x : Reached). x .number) (er ∙ arrived-in len (to - len) (d .at) h)))
+    count-in h = ec ∙ ap (λ (c : Bool). pick c (d .count) 0) (eq-eqb (r .number) 0 (ap (λ (x : Reached). x .number) (er ∙ arrived-in len v (to - len) (d .at) h)))
 
     count-past : to - len < d .at → count ≡ 0
     count-past h = ec ∙ ap (λ (c : Bool). pick c (d .count) 0) (ne-eqb (r .number) 0 (refusal-some h))
@@ -193,10 +193,10 @@ module _ (b : Btf) (few : b .types ≤ 262145) (s w t l : List ℕ) (len id to :
         (λ h. omega (arith, count-past h)) (le-or-lt (d .at) (to - len))
 
     len-fits : r .len ≤ length text′
-    len-fits = ⊎-elim (λ h. one-reach b s w t len id to below ends (d .at) u w′ same (plain-out h) el r er .1)
-        (λ h. let k : r .len ≡ len = ap (λ (x : Reached). x .len) (er ∙ sym (arrived-past len (to - len) (d .at) (omega (arith, place-17 h)))) in omega (arith, same-len-mid len (to - len) t u same)) (le-or-lt (lined .need) (entriesIn l))
+    len-fits = ⊎-elim (λ h. one-reach b s w t len id to below ends (d .at) u w′ same (plain-out h) el r v er .1)
+        (λ h. let k : r .len ≡ len = ap (λ (x : Reached). x .len) (er ∙ sym (arrived-past len v (to - len) (d .at) (omega (arith, place-17 h)))) in omega (arith, same-len-mid len (to - len) t u same)) (le-or-lt (lined .need) (entriesIn l))
 
-    pub one-told : (cameOf (record { reached = r; count = count }) w′ text′ l′ ≡ requestedNoted (upTo (entriesIn l)) b s id [] len w t) × (count ≤ entriesIn l) × (r .len ≤ length text′)
+    pub one-told : (cameOf (record { reached = r; count = count }) w′ text′ l′ ≡ requestedNoted (upTo (entriesIn l)) b s id [] len v w t) × (count ≤ entriesIn l) × (r .len ≤ length text′)
     unfolding cameOf cameToNoted
     one-told = ((λ i. record { reach = reach-is i; entries = entries-is i }) ∙ request-is, count-fits, len-fits)
 
@@ -252,8 +252,8 @@ module _ (s : Session) (section w t l : List ℕ) (q : Bool) (eq : q ≡ isCurre
           explained-is turn (r .count) w″ t″ l″ (settledNoted s (length w′) (length t′) l′ (cameOf r w′ t′ l′)) et (sym (entries-length (r .count) l′)) es
           ∙ (λ i. record { call = settled s (lw i) (lt i) (ea i .reach); count = length (ea i .entries); list = filled (ll i) (ea i .entries) })
 
-      pub type-done : (id : ℕ) → id < s .types → cameOf r w′ t′ l′ ≡ requestedNoted (upTo (entriesIn l)) b section id [] (s .«text_len») w t → explainedOf (record { turn = turn; count = r .count }) w″ t″ l″ ≡ typeCauses s section w t id l
+      pub type-done : (id : ℕ) → id < s .types → cameOf r w′ t′ l′ ≡ requestedNoted (upTo (entriesIn l)) b section id [] (s .«text_len») (s .visits) w t → explainedOf (record { turn = turn; count = r .count }) w″ t″ l″ ≡ typeCauses s section w t id l
       unfolding typeCauses
       type-done id i er =
-          settles _ (er ∙ ap (λ (a : Btf). requestedNoted (upTo (entriesIn l)) a section id [] (s .«text_len») w t) eb)
+          settles _ (er ∙ ap (λ (a : Btf). requestedNoted (upTo (entriesIn l)) a section id [] (s .«text_len») (s .visits) w t) eb)
           ∙ sym (rw (sym eq ∙ not-false q h, typeCauses, lt-ltb id (s .types) i))

@@ -11,16 +11,18 @@ use turns::Session;
 use turns::is_current;
 use turns::settle;
 use turns::turn_of;
+use turns::visits_in;
 ghost use Prim.Native.Nat.{_-_, _≤_};
 ghost use mathlib.Core.Path.{_≡_};
 ghost use mathlib.Core.List.{[]};
 ghost use lib.ListN.{length};
+ghost use Rattle.turns.specs.Turns.{visitsIn};
 ghost use Rattle.causes.specs.Causes.{upTo, entriesIn};
 ghost use Rattle.causes.specs.Bytes.{requestedNoted, requestedFromNoted, typesCauses};
 ghost use Rattle.noted.specs.Noted.{entriesOf};
 ghost use Rattle.explain.specs.Explained.{cameOf, explainedOf};
 
-// One id, after a text of len bytes and so many entries.
+// One id, after a text of len bytes, so many visits and so many entries.
 fn dump_at(
     b: Btf,
     section: &[u8],
@@ -28,14 +30,15 @@ fn dump_at(
     text: &mut [u8],
     list: &mut [u8],
     len: u32,
+    visits: u32,
     count: usize,
     id: u32,
 ) -> Told
     requires { ⌜ (len ≤ length (now text)) × (b .types ≤ 262145) × (count ≤ entriesIn (now list)) ⌝ }
-    ensures { λ r. ⌜ (cameOf r (now (work .exit)) (now (text .exit)) (now (list .exit)) ≡ requestedNoted (upTo (entriesIn (now (list .entry)))) b (now (section .entry)) id (entriesOf count (now (list .entry))) len (now (work .entry)) (now (text .entry))) × (r .count ≤ entriesIn (now (list .entry))) × (r .reached .len ≤ length (now (text .exit))) ⌝ }
+    ensures { λ r. ⌜ (cameOf r (now (work .exit)) (now (text .exit)) (now (list .exit)) ≡ requestedNoted (upTo (entriesIn (now (list .entry)))) b (now (section .entry)) id (entriesOf count (now (list .entry))) len visits (now (work .entry)) (now (text .entry))) × (r .count ≤ entriesIn (now (list .entry))) × (r .reached .len ≤ length (now (text .exit))) ⌝ }
 {
     let from = count * 12;
-    let r = dump_one(b, section, work, text, &mut list[from..], len, id);
+    let r = dump_one(b, section, work, text, &mut list[from..], len, visits, id);
     let reached = r.reached;
     Told {
         reached: reached,
@@ -55,15 +58,17 @@ fn dump_next(
     id: u32,
 ) -> Told
     requires { ⌜ (len ≤ length (now text)) × (b .types ≤ 262145) × (count ≤ entriesIn (now list)) ⌝ }
-    ensures { λ r. ⌜ (cameOf r (now (work .exit)) (now (text .exit)) (now (list .exit)) ≡ requestedNoted (upTo (entriesIn (now (list .entry)))) b (now (section .entry)) id (entriesOf count (now (list .entry))) len (now (work .entry)) (now (text .entry))) × (r .count ≤ entriesIn (now (list .entry))) × (r .reached .len ≤ length (now (text .exit))) ⌝ }
+    ensures { λ r. ⌜ (cameOf r (now (work .exit)) (now (text .exit)) (now (list .exit)) ≡ requestedNoted (upTo (entriesIn (now (list .entry)))) b (now (section .entry)) id (entriesOf count (now (list .entry))) len (visitsIn (now (work .entry))) (now (work .entry)) (now (text .entry))) × (r .count ≤ entriesIn (now (list .entry))) × (r .reached .len ≤ length (now (text .exit))) ⌝ }
 {
     if !is_idle(b, section, work, id) {
-        return dump_at(b, section, work, text, list, len, count, id);
+        let visits = visits_in(work);
+        return dump_at(b, section, work, text, list, len, visits, count, id);
     }
     Told {
         reached: Reached {
             len: len,
             number: 0,
+            visits: 0,
         },
         count: count,
     }
@@ -86,6 +91,7 @@ fn dump_all(
         reached: Reached {
             len: len,
             number: 0,
+            visits: 0,
         },
         count: 0,
     };

@@ -45,7 +45,7 @@ fn count_after(number: u32, count: usize) -> usize
     if number == 0 { count } else { 0 }
 }
 
-// One id, after a text of len bytes.
+// One id, after a text of len bytes and so many visits.
 fn dump_one(
     b: Btf,
     section: &[u8],
@@ -53,16 +53,17 @@ fn dump_one(
     text: &mut [u8],
     list: &mut [u8],
     len: u32,
+    visits: u32,
     id: u32,
 ) -> Told
     requires { ⌜ (len ≤ length (now text)) × (b .types ≤ 262145) ⌝ }
-    ensures { λ r. ⌜ (cameOf r (now (work .exit)) (now (text .exit)) (now (list .exit)) ≡ requestedNoted (upTo (entriesIn (now (list .entry)))) b (now (section .entry)) id [] len (now (work .entry)) (now (text .entry))) × (r .count ≤ entriesIn (now (list .entry))) × (r .reached .len ≤ length (now (text .exit))) ⌝ }
+    ensures { λ r. ⌜ (cameOf r (now (work .exit)) (now (text .exit)) (now (list .exit)) ≡ requestedNoted (upTo (entriesIn (now (list .entry)))) b (now (section .entry)) id [] len visits (now (work .entry)) (now (text .entry))) × (r .count ≤ entriesIn (now (list .entry))) × (r .reached .len ≤ length (now (text .exit))) ⌝ }
 {
     let from = len as usize;
     let to = limit(text.len(), from);
     let p = Pen { at: 0, count: 0 };
     let d = dump_noted(b, section, work, &mut text[from..to], list, p, id);
-    let r = arrived(len, to - from, d.at);
+    let r = arrived(len, visits, to - from, d.at);
     Told {
         reached: r,
         count: count_after(r.number, d.count),
@@ -104,7 +105,7 @@ pub fn dump_type_causes(
         };
     }
     let b = btf_of(section, s.pointer_size, s.modes, s.types);
-    let r = dump_one(b, section, work, text, list, s.text_len, id);
+    let r = dump_one(b, section, work, text, list, s.text_len, s.visits, id);
     let turn = settle(s, work, text, r.reached);
     clear_causes(list, r.count);
     Explained {

@@ -1,5 +1,4 @@
 use Rattle.c_record.proofs.Laws as laws
-use native.Mathlib.Omega.{arith}
 use borrow.Author.Needs.{needs}
 use Rattle.c_record.proofs.store.Statement.{statement}
 use Rattle.c_record.proofs.store.Tie as tie
@@ -7,11 +6,8 @@ use Rattle.c_record.proofs.store.Tie as tie
 enum-known-a : tie.Need-enum-known-a
 enum-known-a c = search needs
 
-cast-put-long : tie.Need-cast-put-long
-cast-put-long c = omega arith
-
-put-long-requires : tie.Need-put-long-requires
-put-long-requires c κs = search needs
+put-reached-requires : tie.Need-put-reached-requires
+put-reached-requires c κs = search needs
 
 enum-known-a-2 : tie.Need-enum-known-a-2
 enum-known-a-2 c = search needs
@@ -36,8 +32,7 @@ store-spec =
     tie.close
     (tie.spec
     enum-known-a
-    cast-put-long
-    put-long-requires
+    put-reached-requires
     enum-known-a-2
     store-refused-requires
     same-length

@@ -47,7 +47,7 @@ same-length-3 : tie.Need-same-length-3
 same-length-3 c = search needs
 
 returns : tie.Need-returns
-returns c = let i : c .before .before .before .before .before .before .before .before .before .before .before .before .before .before .before .before .before .args .id < 4294967296 = omega arith in laws.one-told _ (c .before .before .before .before .before .before .before .before .before .before .before .before .before .before .before .before .before .pre .1) _ _ _ _ _ _ _ i (from-to _ _ _ (c .before .before .before .before .before .before .before .before .before .before .before .before .limit .ensures) (c .before .before .before .before .before .before .before .before .before .before .before .before .before .before .before .before .before .pre .0)) (to-end _ _ _ (c .before .before .before .before .before .before .before .before .before .before .before .before .limit .ensures) (c .before .before .before .before .before .before .before .before .before .before .before .before .before .before .before .before .before .pre .0)) _ _ _ _ (c .before .before .before .before .before .before .before .before .dump-noted .kept .1 .1 .1 .0) (c .before .before .before .before .before .before .before .before .dump-noted .ensures) (c .before .before .before .before .before .before .before .before .before .before .before .before .limit .ensures) _ (c .before .arrived .ensures ∙ arrived-is _ _ _ (omega (arith, room-fits _ _ _ (c .before .before .before .before .before .before .before .before .before .before .before .before .limit .ensures) (c .before .before .before .before .before .before .before .before .before .before .before .before .before .before .before .before .before .pre .0))) (omega (arith, laws.bound _ (c .before .before .before .before .before .before .before .before .before .before .before .before .before .before .before .before .before .pre .1) _ _ _ _ _ _ _ i (from-to _ _ _ (c .before .before .before .before .before .before .before .before .before .before .before .before .limit .ensures) (c .before .before .before .before .before .before .before .before .before .before .before .before .before .before .before .before .before .pre .0)) (to-end _ _ _ (c .before .before .before .before .before .before .before .before .before .before .before .before .limit .ensures) (c .before .before .before .before .before .before .before .before .before .before .before .before .before .before .before .before .before .pre .0)) _ _ _ _ (c .before .before .before .before .before .before .before .before .dump-noted .kept .1 .1 .1 .0) (c .before .before .before .before .before .before .before .before .dump-noted .ensures)))) _ (c .count-after .ensures)
+returns c = let i : c .before .before .before .before .before .before .before .before .before .before .before .before .before .before .before .before .before .args .id < 4294967296 = omega arith in laws.one-told _ (c .before .before .before .before .before .before .before .before .before .before .before .before .before .before .before .before .before .pre .1) _ _ _ _ _ _ _ i (from-to _ _ _ (c .before .before .before .before .before .before .before .before .before .before .before .before .limit .ensures) (c .before .before .before .before .before .before .before .before .before .before .before .before .before .before .before .before .before .pre .0)) (to-end _ _ _ (c .before .before .before .before .before .before .before .before .before .before .before .before .limit .ensures) (c .before .before .before .before .before .before .before .before .before .before .before .before .before .before .before .before .before .pre .0)) _ _ _ _ (c .before .before .before .before .before .before .before .before .dump-noted .kept .1 .1 .1 .0) (c .before .before .before .before .before .before .before .before .dump-noted .ensures) (c .before .before .before .before .before .before .before .before .before .before .before .before .limit .ensures) _ _ (c .before .arrived .ensures ∙ arrived-is _ _ _ _ (omega (arith, room-fits _ _ _ (c .before .before .before .before .before .before .before .before .before .before .before .before .limit .ensures) (c .before .before .before .before .before .before .before .before .before .before .before .before .before .before .before .before .before .pre .0))) (omega (arith, laws.bound _ (c .before .before .before .before .before .before .before .before .before .before .before .before .before .before .before .before .before .pre .1) _ _ _ _ _ _ _ i (from-to _ _ _ (c .before .before .before .before .before .before .before .before .before .before .before .before .limit .ensures) (c .before .before .before .before .before .before .before .before .before .before .before .before .before .before .before .before .before .pre .0)) (to-end _ _ _ (c .before .before .before .before .before .before .before .before .before .before .before .before .limit .ensures) (c .before .before .before .before .before .before .before .before .before .before .before .before .before .before .before .before .before .pre .0)) _ _ _ _ (c .before .before .before .before .before .before .before .before .dump-noted .kept .1 .1 .1 .0) (c .before .before .before .before .before .before .before .before .dump-noted .ensures)))) _ (c .count-after .ensures)
 
 pub dump-one-spec : {M : Type 1} → statement M
 dump-one-spec =

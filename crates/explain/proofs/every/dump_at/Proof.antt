@@ -21,8 +21,8 @@ part-dump-one-end c = search needs
 dump-one-requires : tie.Need-dump-one-requires
 dump-one-requires c κs = search needs
 
-add-t17 : tie.Need-add-t17
-add-t17 c = search needs
+add-t18 : tie.Need-add-t18
+add-t18 c = search needs
 
 same-length : tie.Need-same-length
 same-length c = search needs
@@ -34,7 +34,7 @@ same-length-3 : tie.Need-same-length-3
 same-length-3 c = search needs
 
 returns : tie.Need-returns
-returns c = laws.at-all _ _ _ _ _ _ _ _ (c .before .before .before .before .before .before .before .before .before .before .before .before .before .before .before .before .pre .2) _ _ _ _ (c .before .before .before .before .before .before .before .before .dump-one .kept .1 .1 .1 .1 .0) (c .before .before .before .before .before .before .before .before .dump-one .ensures .0) (c .before .before .before .before .before .before .before .before .dump-one .ensures .1) (c .before .before .before .before .before .before .before .before .dump-one .ensures .2)
+returns c = laws.at-all _ _ _ _ _ _ _ _ _ (c .before .before .before .before .before .before .before .before .before .before .before .before .before .before .before .before .pre .2) _ _ _ _ (c .before .before .before .before .before .before .before .before .dump-one .kept .1 .1 .1 .1 .0) (c .before .before .before .before .before .before .before .before .dump-one .ensures .0) (c .before .before .before .before .before .before .before .before .dump-one .ensures .1) (c .before .before .before .before .before .before .before .before .dump-one .ensures .2)
 
 pub dump-at-spec : {M : Type 1} → statement M
 dump-at-spec =
@@ -45,7 +45,7 @@ dump-at-spec =
     part-dump-one-start
     part-dump-one-end
     dump-one-requires
-    add-t17
+    add-t18
     same-length
     same-length-2
     same-length-3

@@ -11,6 +11,9 @@ use Rattle.explain.proofs.every.dump_at.Reads as dump-at-reads
 is-idle-requires : tie.Need-is-idle-requires
 is-idle-requires c κs = search needs
 
+visits-in-requires : tie.Need-visits-in-requires
+visits-in-requires c κs = search needs
+
 dump-at-requires : tie.Need-dump-at-requires
 dump-at-requires c κs = search needs
 
@@ -24,19 +27,20 @@ same-length-3 : tie.Need-same-length-3
 same-length-3 c = search needs
 
 returns : tie.Need-returns
-returns c = search needs
+returns c = (laws.read-before _ _ _ _ _ _ _ _ _ _ (c .before .before .before .before .before .before .dump-at .ensures .0) (c .before .before .before .before .before .before .before .before .before .before .visits-in .ensures), c .before .before .before .before .before .before .dump-at .ensures .1, c .before .before .before .before .before .before .dump-at .ensures .2)
 
 same-length-4 : tie.Need-same-length-4
 same-length-4 c = search needs
 
 returns-2 : tie.Need-returns-2
-returns-2 c = (laws.next-idle _ _ _ _ _ _ _ _ _ (c .before .before .before .before .before .before .before .pre .0) _ (c .before .is-idle .ensures) (tests.not-false _ (c .if1 .left)), c .before .before .before .before .before .before .before .pre .2, c .before .before .before .before .before .before .before .pre .0)
+returns-2 c = (laws.next-idle _ _ _ _ _ _ _ _ _ _ _ (c .before .before .before .before .before .before .before .pre .0) _ (c .before .is-idle .ensures) (tests.not-false _ (c .if1 .left)), c .before .before .before .before .before .before .before .pre .2, c .before .before .before .before .before .before .before .pre .0)
 
 pub dump-next-spec : {M : Type 1} → statement M
 dump-next-spec =
     tie.close
     (tie.spec
     is-idle-requires
+    visits-in-requires
     dump-at-requires
     same-length
     same-length-2
