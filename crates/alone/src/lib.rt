@@ -13,8 +13,8 @@ use noted::cause_at;
 use noted::define;
 use noted::forward;
 use noted::listed_cause;
-use strings::is_named;
 use put::stop;
+use strings::is_named;
 ghost use mathlib.Core.Path.{_≡_};
 ghost use mathlib.Core.Bool.{not};
 ghost use lib.Dec.{eqb};
@@ -23,11 +23,10 @@ ghost use mathlib.Core.List.{[]};
 ghost use Rattle.text.specs.Text.{cut, putOut, putText};
 ghost use Rattle.rules.specs.Machine.{pick, obind};
 ghost use Rattle.btf.specs.Cells.{getField, putField};
-ghost use Rattle.btf.specs.Records.{recordById};
 ghost use Rattle.btf.specs.Table.{typeOf, btfOf};
 ghost use Rattle.causes.specs.Causes.{causeAt, entriesIn};
 ghost use Rattle.leads.specs.Leads.{entryIn};
-ghost use Rattle.noted.specs.Noted.{entryOf, notedOut, hasN, onceN, mentionN, againN, leafN};
+ghost use Rattle.noted.specs.Noted.{entryOf, notedOut, hasN, onceN, mentionN, againN};
 ghost use Rattle.alone.specs.Alone.{typedefN, mentionedN, endedN};
 
 pub fn get_emit_state(work: &[u8], id: u32) -> u32
@@ -125,34 +124,6 @@ pub fn emit_again(
         }
         _ => p,
     }
-}
-
-// An enum is defined at the top only; a forward is printed wherever it is met.
-pub fn emit_leaf(
-    b: Btf,
-    section: &[u8],
-    work: &mut [u8],
-    text: &mut [u8],
-    list: &mut [u8],
-    leads: &[u64],
-    q: Asked,
-    p: Pen,
-    id: u32,
-    t: BtfType,
-    cont_id: u32,
-    is_fwd: bool,
-) -> Pen
-    requires { ⌜ t ≡ recordById b (now section) (now work) id ⌝ }
-    ensures { λ r. ⌜ ((n : ℕ) → notedOut n r (now (text .exit)) (now (work .exit)) (now (list .exit)) ≡ obind (notedOut n p (now (text .entry)) (now (work .entry)) (now (list .entry))) (λ m. leafN b (btfOf b (now (section .entry)) (now (work .entry))) (entriesIn (now (list .entry))) (entryIn (q .req) (q .turn) (now (leads .entry))) «is_fwd» «cont_id» m id)) ⌝ }
-{
-    if is_fwd | (cont_id == 0) {
-        let e = cause_at(leads, q, 2, id, cont_id);
-        let a = define(b, section, work, text, list, p, id, t, e);
-        set_emit_state(work, id, 2);
-        return a;
-    }
-    set_emit_state(work, id, 2);
-    p
 }
 
 // What the members of a composite are emitted within.

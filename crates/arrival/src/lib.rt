@@ -1,5 +1,4 @@
 // Where a request may write, where it came to, and how a list of ids ends.
-use words::clear;
 use turns::Reached;
 use turns::Session;
 use turns::Tally;
@@ -7,6 +6,7 @@ use turns::Turn;
 use turns::answer_of;
 use turns::clear_from;
 use turns::with_text;
+use words::clear;
 ghost use mathlib.Core.Path.{_≡_};
 ghost use Prim.Native.Nat.{_+_};
 ghost use Rattle.turns.specs.Turns.{callOf};

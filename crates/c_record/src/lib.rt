@@ -1,8 +1,8 @@
 // The session record, as bytes, after each call of C.
 use c_words::encode;
 use c_words::number_and_value;
-use c_words::put_long;
 use c_words::put_reached;
+use c_words::shut;
 use turns::Answer;
 use turns::Turn;
 ghost use mathlib.Core.Path.{_≡_};
@@ -42,7 +42,7 @@ fn store_refused(record: &mut [u8], number: u32, len: u32, visits: u32)
     if number < 12 {
         return;
     }
-    put_long(record, 0, 0);
+    shut(record);
     put_reached(record, len, visits)
 }
 

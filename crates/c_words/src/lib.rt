@@ -1,10 +1,10 @@
 // The session record as it crosses to C: sixteen words of 64 bits, least significant byte first: open, section length, work
 // length, types, enumerators, text length, pointer size, modes, visits, and seven of zero. An answer is its number in the upper half
 // of 64 bits and its value in the lower.
-use words::get_word;
-use words::put_word;
 use turns::Answer;
 use turns::Session;
+use words::get_word;
+use words::put_word;
 ghost use mathlib.Core.Path.{_≡_};
 ghost use Prim.Native.Nat.{_<_};
 ghost use Rattle.c_words.specs.Words.{packed, getLong, putLong, putReached, decoded, encodedLast, encoded, unusedZero};
@@ -28,12 +28,19 @@ fn get_long(record: &[u8], i: usize) -> u64
     (high as u64) * 4294967296 + (low as u64)
 }
 
-pub fn put_long(record: &mut [u8], i: usize, v: u64)
+fn put_long(record: &mut [u8], i: usize, v: u64)
     requires { ⌜ i < 16 ⌝ }
     ensures { λ _. ⌜ now («record» .exit) ≡ putLong (now («record» .entry)) i v ⌝ }
 {
     put_word(record, i * 2, (v % 4294967296) as u32);
     put_word(record, i * 2 + 1, (v / 4294967296) as u32);
+}
+
+// A record that is closed: its first word is 0.
+pub fn shut(record: &mut [u8])
+    ensures { λ _. ⌜ now («record» .exit) ≡ putLong (now («record» .entry)) 0 0 ⌝ }
+{
+    put_long(record, 0, 0)
 }
 
 // The record's value; of a word that holds 32 bits the upper half does not matter.

@@ -3,7 +3,16 @@ use Prim.Native.Nat.{ℕ, suc}
 use mathlib.Core.Bool.{Bool, true, false}
 use mathlib.Core.List.{List, [], _∷_, _++_}
 use lib.Dec.{eqb}
-use Rattle.text.specs.Text.{ascii}
+use lib.ListN.{take, drop}
+use Rattle.text.specs.Text.{ascii, place}
+
+-- n bytes of a table, those from a place on
+abbrev pub part : List ℕ → ℕ → ℕ → List ℕ
+part s start n = take n (drop start s)
+
+-- t with such a part in it from `at` on
+unfoldable pub copied : List ℕ → ℕ → List ℕ → ℕ → ℕ → List ℕ
+copied t at s start n = place t at (part s start n)
 
 -- "store each fixed word of the text once, in one table of at most 512 bytes, and assemble the lines from it"
 abbrev pub table : List ℕ

@@ -2,13 +2,13 @@
 use btf::Btf;
 use btf::BtfType;
 use leads::leader_of;
-use words::put_word;
 use lines::emit_definition;
 use lines::emit_forward;
-use strings::is_builtin;
-use strings::is_named;
 use put::stop;
 use put::stopped;
+use strings::is_builtin;
+use strings::is_named;
+use words::put_word;
 ghost use mathlib.Core.Path.{_≡_};
 ghost use mathlib.Core.Bool.{true};
 ghost use mathlib.Core.List.{List};

@@ -1,6 +1,5 @@
 // Emission with an entry for each line: the walk of crate emit, with the lent list beside the text.
 use alone::emit_again;
-use alone::emit_leaf;
 use alone::end_composite;
 use alone::end_typedef;
 use alone::get_emit_state;
@@ -18,9 +17,11 @@ use nodes::node_of;
 use nodes::type_by_id;
 use noted::Asked;
 use noted::Pen;
+use noted::cause_at;
+use noted::define;
+use put::stopped;
 use sections::word;
 use strings::is_named;
-use put::stopped;
 ghost use mathlib.Core.Path.{_≡_};
 ghost use Prim.Native.Nat.{ℕ};
 ghost use Rattle.rules.specs.Machine.{obind, eeach};
@@ -29,7 +30,7 @@ ghost use Rattle.btf.specs.Table.{btfOf};
 ghost use Rattle.btf.specs.Nodes.{memberIds, paramIds};
 ghost use Rattle.causes.specs.Causes.{entriesIn};
 ghost use Rattle.leads.specs.Leads.{entryIn};
-ghost use Rattle.noted.specs.Noted.{notedOut, emitN, newN, compositeN};
+ghost use Rattle.noted.specs.Noted.{notedOut, emitN, newN, compositeN, leafN};
 
 // cont_id is the composite or typedef that is being emitted around id, or 0 at the top.
 pub fn emit_noted(
@@ -291,4 +292,32 @@ fn emit_params(
         k += 1;
     }
     a
+}
+
+// An enum is defined at the top only; a forward is printed wherever it is met.
+fn emit_leaf(
+    b: Btf,
+    section: &[u8],
+    work: &mut [u8],
+    text: &mut [u8],
+    list: &mut [u8],
+    leads: &[u64],
+    q: Asked,
+    p: Pen,
+    id: u32,
+    t: BtfType,
+    cont_id: u32,
+    is_fwd: bool,
+) -> Pen
+    requires { ⌜ t ≡ recordById b (now section) (now work) id ⌝ }
+    ensures { λ r. ⌜ ((n : ℕ) → notedOut n r (now (text .exit)) (now (work .exit)) (now (list .exit)) ≡ obind (notedOut n p (now (text .entry)) (now (work .entry)) (now (list .entry))) (λ m. leafN b (btfOf b (now (section .entry)) (now (work .entry))) (entriesIn (now (list .entry))) (entryIn (q .req) (q .turn) (now (leads .entry))) «is_fwd» «cont_id» m id)) ⌝ }
+{
+    if is_fwd | (cont_id == 0) {
+        let e = cause_at(leads, q, 2, id, cont_id);
+        let a = define(b, section, work, text, list, p, id, t, e);
+        set_emit_state(work, id, 2);
+        return a;
+    }
+    set_emit_state(work, id, 2);
+    p
 }

@@ -2,8 +2,8 @@
 use examined::header_cause;
 use examined::reference_cause;
 use header::btf_of;
-use words::clear;
 use opened::Opening;
+use words::clear;
 ghost use mathlib.Core.Path.{_≡_};
 ghost use Prim.Native.Nat.{_+_, _*_};
 ghost use Rattle.opened.specs.Table.{emptyIndex};

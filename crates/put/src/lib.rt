@@ -1,8 +1,7 @@
 // Text written into a slice that the caller lends.
-mod decimal;
 mod bytes;
+mod decimal;
 
-pub use decimal::put_decimal;
 pub use bytes::put_byte;
 pub use bytes::put_bytes;
 pub use bytes::put_tabs;
@@ -10,3 +9,4 @@ pub use bytes::put_three;
 pub use bytes::put_two;
 pub use bytes::stop;
 pub use bytes::stopped;
+pub use decimal::put_decimal;

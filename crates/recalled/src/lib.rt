@@ -10,17 +10,19 @@ use nodes::type_by_id;
 use remembered::Once;
 use remembered::Seen;
 use remembered::Step;
-use remembered::keep_once;
+use remembered::coded;
+use remembered::remember;
 use rules::larger;
 use rules::smaller;
 use sections::array_type;
 use sections::int_bits;
 use sections::word;
 ghost use mathlib.Core.Path.{_≡_};
+ghost use Prim.Native.Nat.{_<_};
 ghost use Rattle.btf.specs.Table.{btfOf};
 ghost use Rattle.btf.specs.Nodes.{memberIds};
 ghost use Rattle.alignments.specs.Once.{alone};
-ghost use Rattle.remembered.specs.Words.{seenWord, takenBy, stepAt, onceOf, onceWith, idsWith};
+ghost use Rattle.remembered.specs.Words.{seenWord, takenBy, stepAt, onceOf, onceWith, idsWith, heightOf, keptWith};
 
 fn seen_word(b: Btf, work: &[u8], id: u32) -> u32
     ensures { λ r. ⌜ r ≡ seenWord (b .types) (now (work .entry)) id ⌝ }
@@ -55,6 +57,24 @@ fn step_of(b: Btf, section: &[u8], t: BtfType) -> Step
         6 | 16 | 19 => Step::Own(smaller(b.ptr_sz, t.type_id)),
         8..=11 | 18 => Step::Through(t.type_id),
         _ => Step::Own(0),
+    }
+}
+
+// What was found of a type is remembered; of a refused one nothing is.
+fn keep_once(b: Btf, work: &mut [u8], id: u32, r: Once, members: u32) -> Once
+    requires { ⌜ heightOf r < 4294967295 ⌝ }
+    ensures { λ q. ⌜ onceOf q (now (work .exit)) ≡ keptWith (b .types) id members r (now (work .entry)) ⌝ }
+{
+    match r {
+        Once::Found(s) => {
+            let up = Seen {
+                align: s.align,
+                height: s.height + 1,
+            };
+            remember(b, work, id, coded(up), members);
+            Once::Found(up)
+        }
+        Once::No(c) => Once::No(c),
     }
 }
 

@@ -5,8 +5,7 @@ use btf::Entries;
 use cells::get_field;
 use cells::put_field;
 ghost use mathlib.Core.Path.{_≡_};
-ghost use Prim.Native.Nat.{_<_};
-ghost use Rattle.remembered.specs.Words.{seenIs, coded, counted, remembered, onceOf, heightOf, keptWith};
+ghost use Rattle.remembered.specs.Words.{seenIs, coded, counted, remembered};
 
 // What is remembered of a type.
 pub struct Seen {
@@ -27,7 +26,7 @@ pub enum Step {
 }
 
 // The word of what is seen; 0 where it does not fit.
-fn coded(s: Seen) -> u32
+pub fn coded(s: Seen) -> u32
     ensures { λ r. ⌜ r ≡ coded (seenIs s) ⌝ }
 {
     let align = s.align;
@@ -53,7 +52,8 @@ fn count_visits(work: &mut [u8], members: u32)
     }
 }
 
-fn remember(b: Btf, work: &mut [u8], id: u32, v: u32, members: u32)
+// A type is remembered, with the visits of it and of its members; the word 0 is not.
+pub fn remember(b: Btf, work: &mut [u8], id: u32, v: u32, members: u32)
     ensures { λ _. ⌜ now (work .exit) ≡ remembered (b .types) id v members (now (work .entry)) ⌝ }
 {
     if v == 0 {
@@ -64,22 +64,4 @@ fn remember(b: Btf, work: &mut [u8], id: u32, v: u32, members: u32)
     }
     count_visits(work, members);
     put_field(work, id, 15, v);
-}
-
-// What was found of a type is remembered; of a refused one nothing is.
-pub fn keep_once(b: Btf, work: &mut [u8], id: u32, r: Once, members: u32) -> Once
-    requires { ⌜ heightOf r < 4294967295 ⌝ }
-    ensures { λ q. ⌜ onceOf q (now (work .exit)) ≡ keptWith (b .types) id members r (now (work .entry)) ⌝ }
-{
-    match r {
-        Once::Found(s) => {
-            let up = Seen {
-                align: s.align,
-                height: s.height + 1,
-            };
-            remember(b, work, id, coded(up), members);
-            Once::Found(up)
-        }
-        Once::No(c) => Once::No(c),
-    }
 }

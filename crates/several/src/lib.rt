@@ -2,10 +2,10 @@
 use arrival::count_of;
 use explain::Explained;
 use explain::dump_type_causes;
-use words::get_word;
 use turns::Answer;
 use turns::Session;
 use turns::turn_of;
+use words::get_word;
 ghost use mathlib.Core.Path.{_≡_};
 ghost use Rattle.turns.specs.Answers.{numberOf};
 ghost use Rattle.calls.specs.Lists.{idsIn};

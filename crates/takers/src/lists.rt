@@ -2,11 +2,11 @@
 use btf::Btf;
 use cells::holder_word;
 use keys::load_key;
-use words::get_word;
-use words::put_word;
 use suffixes::base_of;
 use suffixes::is_suffixed;
 use suffixes::key_suffix;
+use words::get_word;
+use words::put_word;
 ghost use mathlib.Core.Path.{_≡_};
 ghost use Rattle.classed.specs.Classes.{keyIn};
 ghost use Rattle.filled.specs.Takers.{suffixOn, listedOn, takerPut, withTakers, takersIn};

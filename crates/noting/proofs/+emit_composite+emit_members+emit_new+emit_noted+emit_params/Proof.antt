@@ -34,7 +34,7 @@ use Rattle.kinds.proofs.param_place.Reads as param-place-reads
 use Rattle.nodes.proofs.type_by_id.Reads as type-by-id-reads
 use Rattle.sections.proofs.word.Reads as word-reads
 use Rattle.alone.proofs.emit_again.Reads as emit-again-reads
-use Rattle.alone.proofs.emit_leaf.Reads as emit-leaf-reads
+use Rattle.noting.proofs.emit_leaf.Reads as emit-leaf-reads
 use Rattle.alone.proofs.get_emit_state.Reads as get-emit-state-reads
 use Rattle.alone.proofs.inner.Reads as inner-reads
 use Rattle.alone.proofs.set_emit_state.Reads as set-emit-state-reads

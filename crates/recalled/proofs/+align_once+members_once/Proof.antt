@@ -19,7 +19,7 @@ use Rattle.recalled.proofs.+align_once+members_once.Lts-members_once as
 use Rattle.kinds.proofs.member_place.Reads as member-place-reads
 use Rattle.nodes.proofs.type_by_id.Reads as type-by-id-reads
 use Rattle.sections.proofs.word.Reads as word-reads
-use Rattle.remembered.proofs.keep_once.Reads as keep-once-reads
+use Rattle.recalled.proofs.keep_once.Reads as keep-once-reads
 use Rattle.recalled.proofs.seen_word.Reads as seen-word-reads
 use Rattle.recalled.proofs.step_of.Reads as step-of-reads
 use Rattle.recalled.proofs.taken.Reads as taken-reads

@@ -1,13 +1,13 @@
 use denote.Ref.{now}
 use native.Mathlib.Omega.{arith}
 use Rattle.text.proofs.TextLaws.{put-stays}
-use Rattle.copies.proofs.Laws.{part-none, copied-put}
+use Rattle.fixed.proofs.Laws.{part-none, copied-put}
 use borrow.Author.Needs.{needs}
-use Rattle.copies.proofs.put_part.Statement.{statement}
-use Rattle.copies.proofs.put_part.Tie as tie
-use Rattle.copies.proofs.put_part.Reads as reads
-use Rattle.copies.proofs.put_part.Lts as lts
-use Rattle.copies.proofs.copy_word.Reads as copy-word-reads
+use Rattle.fixed.proofs.put_part.Statement.{statement}
+use Rattle.fixed.proofs.put_part.Tie as tie
+use Rattle.fixed.proofs.put_part.Reads as reads
+use Rattle.fixed.proofs.put_part.Lts as lts
+use Rattle.fixed.proofs.copy_word.Reads as copy-word-reads
 
 returns : tie.Need-returns
 returns c = put-stays _ _ _ (omega arith)

@@ -1,42 +1,34 @@
 use native.Mathlib.Omega.{arith}
 use Rattle.remembered.proofs.Laws.{height-of, keep-found, keep-no}
 use borrow.Author.Needs.{needs}
-use Rattle.remembered.proofs.keep_once.Statement.{statement}
-use Rattle.remembered.proofs.keep_once.Tie as tie
-use Rattle.remembered.proofs.keep_once.Reads as reads
-use Rattle.remembered.proofs.keep_once.Lts as lts
+use Rattle.recalled.proofs.keep_once.Statement.{statement}
+use Rattle.recalled.proofs.keep_once.Tie as tie
+use Rattle.recalled.proofs.keep_once.Reads as reads
+use Rattle.recalled.proofs.keep_once.Lts as lts
 use Rattle.remembered.proofs.coded.Reads as coded-reads
 use Rattle.remembered.proofs.remember.Reads as remember-reads
 
--- src/lib.rt:124:21
 enum-known-r : tie.Need-enum-known-r
 enum-known-r c = search needs
 
--- src/lib.rt:127:25
 add-remember : tie.Need-add-remember
 add-remember c = omega (arith, height-of _ _ (c .before .before .r .given .1), c .before .before .before .before .before .pre)
 
--- src/lib.rt:129:35
 coded-requires : tie.Need-coded-requires
 coded-requires c κs = search needs
 
--- src/lib.rt:129:13
 remember-requires : tie.Need-remember-requires
 remember-requires c κs = search needs
 
--- src/lib.rt:132:18
 enum-known-r-2 : tie.Need-enum-known-r-2
 enum-known-r-2 c = search needs
 
--- src/lib.rt:119:1
 same-length : tie.Need-same-length
 same-length c = search needs
 
--- src/lib.rt:119:1
 returns : tie.Need-returns
 returns c = keep-found _ _ _ _ _ _ (c .before .before .before .before .before .before .before .r .given .1) _ _ (c .before .before .before .coded .ensures) (c .before .before .remember .ensures)
 
--- src/lib.rt:119:1
 returns-2 : tie.Need-returns-2
 returns-2 c = keep-no _ _ _ _ _ _ (c .before .r2 .given .1)
 

@@ -1,12 +1,12 @@
 use native.Mathlib.Omega.{arith}
 use lib.ListN.{length-set}
 use denote.Ref.{now}
-use Rattle.copies.proofs.Laws.{copied-two}
+use Rattle.fixed.proofs.Laws.{copied-two}
 use borrow.Author.Needs.{needs}
-use Rattle.copies.proofs.copy_two.Statement.{statement}
-use Rattle.copies.proofs.copy_two.Tie as tie
-use Rattle.copies.proofs.copy_two.Reads as reads
-use Rattle.copies.proofs.copy_two.Lts as lts
+use Rattle.fixed.proofs.copy_two.Statement.{statement}
+use Rattle.fixed.proofs.copy_two.Tie as tie
+use Rattle.fixed.proofs.copy_two.Reads as reads
+use Rattle.fixed.proofs.copy_two.Lts as lts
 
 shared-slice-read-text : tie.Need-shared-slice-read-text
 shared-slice-read-text c = search needs

@@ -1,12 +1,12 @@
 use mathlib.Core.Path.{_∙_}
 use Rattle.noted.proofs.Walk as walk
-use Rattle.alone.proofs.emit_leaf.Statement.{statement}
-use Rattle.alone.proofs.emit_leaf.Tie as tie
-use Rattle.alone.proofs.emit_leaf.Reads as reads
-use Rattle.alone.proofs.emit_leaf.Lts as lts
+use Rattle.noting.proofs.emit_leaf.Statement.{statement}
+use Rattle.noting.proofs.emit_leaf.Tie as tie
+use Rattle.noting.proofs.emit_leaf.Reads as reads
+use Rattle.noting.proofs.emit_leaf.Lts as lts
 use Rattle.noted.proofs.cause_at.Reads as cause-at-reads
 use Rattle.noted.proofs.define.Reads as define-reads
 use Rattle.alone.proofs.set_emit_state.Reads as set-emit-state-reads
 
 cause-at-requires : tie.Need-cause-at-requires
 cause-at-requires c κs = tt

@@ -1,11 +1,11 @@
 use native.Mathlib.Omega.{arith}
-use Rattle.copies.proofs.Laws.{copied-over}
+use Rattle.fixed.proofs.Laws.{copied-over}
 use borrow.Author.Needs.{needs}
-use Rattle.copies.proofs.copy_eight.Statement.{statement}
-use Rattle.copies.proofs.copy_eight.Tie as tie
-use Rattle.copies.proofs.copy_eight.Reads as reads
-use Rattle.copies.proofs.copy_eight.Lts as lts
-use Rattle.copies.proofs.copy_four.Reads as copy-four-reads
+use Rattle.fixed.proofs.copy_eight.Statement.{statement}
+use Rattle.fixed.proofs.copy_eight.Tie as tie
+use Rattle.fixed.proofs.copy_eight.Reads as reads
+use Rattle.fixed.proofs.copy_eight.Lts as lts
+use Rattle.fixed.proofs.copy_four.Reads as copy-four-reads
 
 copy-four-requires : tie.Need-copy-four-requires
 copy-four-requires c κs = search needs
