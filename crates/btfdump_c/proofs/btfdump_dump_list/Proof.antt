@@ -29,7 +29,7 @@ same-length-3 : tie.Need-same-length-3
 same-length-3 c = search needs
 
 returns-3 : tie.Need-returns-3
-returns-3 c = lists.list-is _ _ _ _ _ (c .before .before .before .before .before .before .before .before .before .before .before .before .before .if2 .left) _ (c .before .before .before .before .before .before .before .before .before .before .before .decode .ensures) _ _ _ _ _ (omega arith) (omega arith) (c .before .before .before .before .before .before .before .before .dump-list-core .ensures) (c .before .before .listed .ensures)
+returns-3 c = lists.list-is _ _ _ _ _ (c .before .before .before .before .before .before .before .before .before .before .before .before .before .if2 .left) _ (c .before .before .before .before .before .before .before .before .before .before .before .decode .ensures) _ _ _ _ _ (omega arith) (omega (arith, c .before .before .before .before .before .before .before .before .dump-list-core .ok)) (c .before .before .before .before .before .before .before .before .dump-list-core .ensures) (c .before .before .listed .ensures)
 
 pub btfdump-dump-list-spec : {M : Type 1} → statement M
 btfdump-dump-list-spec =
