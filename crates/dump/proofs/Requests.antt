@@ -1,4 +1,4 @@
--- Laws of a request: the listed ids, the emptied list, ordering beside a text, and requests that have nothing to do. Assumes nothing.
+-- Laws of a request: the listed ids, ordering beside a text, and requests that have nothing to do. Assumes nothing.
 use Prim.Native.Nat.{ℕ, zero, suc, _+_, _-_, _<_, _≤_}
 use mathlib.Core.Path.{_≡_, refl, ap, _∙_, sym, subst}
 use mathlib.Core.List.{List, []}
@@ -71,18 +71,6 @@ module _ (b : Btf) (s : List ℕ) (w₀ : List ℕ) (n at : ℕ) (tx₀ : List �
     unfolding sheetStore workStore
     listing-end l = rest-end b s w₀ 512 0 (places w₀) n at tx₀ n p tx w k (inv .rest) l
         ∙ at-sheet n at tx₀ w₀ (λ m. eeach (emitIn b (btfOf b s w₀) 512 0) (from (places w₀) 0 n) m) (λ m. eeach (emitIn b (btfOf b s w₀) 512 0) (sheetStore .list m) m) (λ h. refl)
-
--- ---- the emptied list
-pub emptied-none : (w : List ℕ) → w ≡ emptied 0 w
-unfolding emptied
-emptied-none w = refl
-
-pub emptied-more : (w u : List ℕ) (k : ℕ) (u′ : List ℕ) → u ≡ emptied k w → u′ ≡ putField u k 11 0 → u′ ≡ emptied (k + 1) w
-unfolding emptied
-emptied-more w u k u′ e f = f ∙ ap (λ (l : List ℕ). putField l k 11 0) e ∙ rw add-one
-
-pub emptied-all : (w u : List ℕ) (k n : ℕ) → k ≤ n → n ≤ k → u ≡ emptied k w → u ≡ emptied n w
-emptied-all w u k n l h e = let q : k ≡ n = omega arith in e ∙ ap (λ (i : ℕ). emptied i w) q
 
 -- ---- ordering beside a text: what the store in the work gives, and the text as it was
 module _ (t : List ℕ) (at : ℕ) where

@@ -4,15 +4,15 @@ use btf::Btf;
 use leading::order_led;
 use leads::Way;
 use marks::Order;
-use marks::clear_listed;
 use marks::get_listed;
 use noted::Asked;
 use noted::Pen;
 use noting::emit_noted;
+use sheet::clear_list;
 ghost use mathlib.Core.Path.{_≡_};
 ghost use Rattle.rules.specs.Machine.{obind, eeach};
 ghost use Rattle.btf.specs.Table.{btfOf};
-ghost use Rattle.sheet.specs.Sheet.{sheetStore, emptied};
+ghost use Rattle.sheet.specs.Sheet.{sheetStore};
 ghost use Rattle.causes.specs.Causes.{entriesIn};
 ghost use Rattle.leads.specs.Leads.{entryIn};
 ghost use Rattle.noted.specs.Noted.{notedOut, emitN};
@@ -40,17 +40,6 @@ fn emit_listed(
         k += 1;
     }
     a
-}
-
-// Empties the first n places of the order list.
-fn clear_list(work: &mut [u8], n: u32)
-    ensures { λ _. ⌜ now (work .exit) ≡ emptied n (now (work .entry)) ⌝ }
-{
-    let mut k: u32 = 0;
-    while k < n {
-        clear_listed(work, k);
-        k += 1;
-    }
 }
 
 // The place after the text of the request and the count of entries after it; or a place past the end that says which

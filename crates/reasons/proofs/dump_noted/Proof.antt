@@ -7,7 +7,7 @@ use Rattle.reasons.proofs.dump_noted.Tie as tie
 use Rattle.reasons.proofs.dump_noted.Reads as reads
 use Rattle.reasons.proofs.dump_noted.Lts as lts
 use Rattle.leading.proofs.order_led.Reads as order-led-reads
-use Rattle.reasons.proofs.clear_list.Reads as clear-list-reads
+use Rattle.sheet.proofs.clear_list.Reads as clear-list-reads
 use Rattle.reasons.proofs.emit_listed.Reads as emit-listed-reads
 use Rattle.alone.proofs.stop_at.Reads as stop-at-reads
 
