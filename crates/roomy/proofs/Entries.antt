@@ -66,17 +66,17 @@ module _ (s : Session) (section work text : List ℕ) (id : ℕ) where
   view l = by (isCurrent s (length section) (length work) (length text)) (ltb id (s .types))
     where
       by : (o b : Bool) → View
-          (elim o [ false ↦ unchanged s (refusal notCurrent (s .«text_len»)) work text | true ↦ elim b [ false ↦ unchanged s (refusal idNotBelow (s .«text_len»)) work text | true ↦ settled s (length work) (length text) (requested (tableFor s section) section id (s .«text_len») work text) ] ])
+          (elim o [ false ↦ unchanged s (refusal notCurrent (s .«text_len»)) work text | true ↦ elim b [ false ↦ unchanged s (refusal idNotBelow (s .«text_len»)) work text | true ↦ settled s (length work) (length text) (requested (tableFor s section) section id (s .«text_len») (s .visits) work text) ] ])
           (elim o [
             | false ↦ leftAlone (unchanged s (refusal notCurrent (s .«text_len»)) work text) l
             | true ↦ elim b [
               | false ↦ leftAlone (unchanged s (refusal idNotBelow (s .«text_len»)) work text) l
-              | true ↦ settledNoted s (length work) (length text) l (requestedNoted (upTo (entriesIn l)) (tableFor s section) section id [] (s .«text_len») work text)
+              | true ↦ settledNoted s (length work) (length text) l (requestedNoted (upTo (entriesIn l)) (tableFor s section) section id [] (s .«text_len») (s .visits) work text)
             ]
           ]) l
       by false b = alone refl (λ e. let z : _≡_ {A = ℕ} 11 0 = e in omega arith)
       by true false = alone refl (λ e. let z : _≡_ {A = ℕ} 10 0 = e in omega arith)
-      by true true = full (requestedNoted (upTo (entriesIn l)) (tableFor s section) section id [] (s .«text_len») work text .entries) refl refl
+      by true true = full (requestedNoted (upTo (entriesIn l)) (tableFor s section) section id [] (s .«text_len») (s .visits) work text .entries) refl refl
 
   abbrev fit : CauseFits (typeCall s section work text id) (λ l. typeCauses s section work text id l)
   fit = type-fits s section work text id
