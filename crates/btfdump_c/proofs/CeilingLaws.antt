@@ -11,9 +11,9 @@ use Rattle.c_record.specs.Record.{recordAfter, recordListed}
 use Rattle.turns.specs.Answers.{numberOf, valueOf}
 use Rattle.calls.specs.Lists.{idsIn}
 use Rattle.calls.proofs.Lists.{ids-none, ids-some}
-use Rattle.within.specs.Lists.{listCallWithin}
-use Rattle.within.specs.declared.Counted.{Counted}
-use Rattle.within.specs.Within.{CallWithin, countedOf, typeCallWithin, typesCallWithin}
+use Rattle.metering.specs.Lists.{listCallWithin}
+use Rattle.metering.specs.declared.Counted.{Counted}
+use Rattle.metering.specs.Within.{CallWithin, countedOf, typeCallWithin, typesCallWithin}
 use Rattle.btfdump_c.specs.Exports.{exportOf, answeredBy}
 use Rattle.btfdump_c.specs.Ceilings.{withinExportOf, answeredWithin, typeWithinExport, typesWithinExport, listedWithin, listWithinExport}
 

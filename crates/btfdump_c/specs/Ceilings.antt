@@ -7,8 +7,8 @@ use lib.ListN.{length}
 use Rattle.turns.specs.Answers.{numberOf, valueOf}
 use Rattle.c_words.specs.Words.{packed, decoded}
 use Rattle.c_record.specs.Record.{recordListed}
-use Rattle.within.specs.Within.{CallWithin, typeCallWithin, typesCallWithin}
-use Rattle.within.specs.Lists.{listCallWithin}
+use Rattle.metering.specs.Within.{CallWithin, typeCallWithin, typesCallWithin}
+use Rattle.metering.specs.Lists.{listCallWithin}
 use Rattle.btfdump_c.specs.Exports.{Export, exportOf, answeredBy}
 
 pub record WithinExport : Type 0 where

@@ -18,9 +18,9 @@ use Rattle.calls.specs.Calls.{typeCall, typesCall}
 use Rattle.calls.specs.Lists.{counted, listFrom, listCall}
 use Rattle.calls.proofs.Claims.{type-not-current, types-not-current, closed-stays}
 use Rattle.calls.proofs.Lists.{counted-stops}
-use Rattle.within.specs.Within.{CallWithin, typeCallWithin, typesCallWithin}
-use Rattle.within.specs.Lists.{listFromWithin, listCallWithin}
-use Rattle.within.proofs.ListLaws.{counted-stops as within-stops}
+use Rattle.metering.specs.Within.{CallWithin, typeCallWithin, typesCallWithin}
+use Rattle.metering.specs.Lists.{listFromWithin, listCallWithin}
+use Rattle.metering.proofs.ListLaws.{counted-stops as within-stops}
 use Rattle.demand.specs.Needs.{MeetsTwice}
 use Rattle.demand.specs.Lists.{Ls}
 use Rattle.demand.specs.Session.{Known}

@@ -15,9 +15,9 @@ use Rattle.turns.specs.Answers.{numberOf}
 use Rattle.turns.specs.Turns.{Call, isCurrent, Reach, refusedBy, settled, tableFor}
 use Rattle.calls.specs.Calls.{typeCall, typesCall}
 use Rattle.calls.proofs.Claims.{type-settles, type-current, type-not-below, type-not-current, types-not-current}
-use Rattle.within.specs.Within.{CallWithin, requestedWithin, requestedFromWithin, settledWithin, typeCallWithin, typesCallWithin}
-use Rattle.within.proofs.Laws.{request-fits}
-use Rattle.within.proofs.Claims.{type-22}
+use Rattle.metering.specs.Within.{CallWithin, requestedWithin, requestedFromWithin, settledWithin, typeCallWithin, typesCallWithin}
+use Rattle.metering.proofs.Laws.{request-fits}
+use Rattle.metering.proofs.Claims.{type-22}
 use Rattle.ceilings.specs.Ceilings.{Over}
 
 module _ (S : Session) (section w t : List ℕ) where

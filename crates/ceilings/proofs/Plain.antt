@@ -8,8 +8,8 @@ use Rattle.turns.specs.declared.Session.{Session}
 use Rattle.turns.specs.Turns.{Call}
 use Rattle.calls.specs.Calls.{typeCall, typesCall}
 use Rattle.calls.specs.Lists.{listCall}
-use Rattle.within.proofs.Claims.{type-fits, types-fits}
-use Rattle.within.proofs.ListClaims.{list-fits}
+use Rattle.metering.proofs.Claims.{type-fits, types-fits}
+use Rattle.metering.proofs.ListClaims.{list-fits}
 use Rattle.claims.specs.Session.{singlesFor, made, After, after-open, after-one, after-all, after-list}
 use Rattle.ceilings.specs.Ceilings.{Ceiling, none, upTo, typeUnder, typesUnder, listUnder, NotOver, Under, under-open, under-one, under-all, under-list}
 

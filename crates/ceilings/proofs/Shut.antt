@@ -25,11 +25,11 @@ use Rattle.calls.specs.Calls.{requested, typeCall}
 use Rattle.calls.proofs.Fair.{Listed}
 use Rattle.calls.proofs.Claims.{number-is, value-is, zeros-length, zeros-head, request-sane}
 use Rattle.calls.proofs.Lists.{open-now, sane-listed, type-single}
-use Rattle.within.specs.Within.{Within, CallWithin, requestedWithin, onwardWithin, requestedFromWithin, typeCallWithin, typesCallWithin}
-use Rattle.within.specs.Lists.{countedWithin, listFromWithin}
-use Rattle.within.proofs.Laws.{request-fits, request-over}
-use Rattle.within.proofs.Claims.{Fits, type-fits}
-use Rattle.within.proofs.ListLaws.{counted-goes, counted-stops}
+use Rattle.metering.specs.Within.{Within, CallWithin, requestedWithin, onwardWithin, requestedFromWithin, typeCallWithin, typesCallWithin}
+use Rattle.metering.specs.Lists.{countedWithin, listFromWithin}
+use Rattle.metering.proofs.Laws.{request-fits, request-over}
+use Rattle.metering.proofs.Claims.{Fits, type-fits}
+use Rattle.metering.proofs.ListLaws.{counted-goes, counted-stops}
 use Rattle.demand.specs.Lists.{Ls}
 use Rattle.demand.specs.Session.{Known, textOf}
 use Rattle.claims.specs.Table.{headerOf, machineIn}

@@ -11,8 +11,8 @@ use Rattle.turns.specs.Answers.{numberOf, valueOf}
 use Rattle.turns.specs.Turns.{Call, tableFor, Reach, reached, refusedBy, visitsIn}
 use Rattle.calls.specs.Calls.{openCall, typeCall, typesCall}
 use Rattle.calls.specs.Lists.{listCall}
-use Rattle.within.specs.Within.{requestedWithin, typeCallWithin, typesCallWithin}
-use Rattle.within.specs.Lists.{listCallWithin}
+use Rattle.metering.specs.Within.{requestedWithin, typeCallWithin, typesCallWithin}
+use Rattle.metering.specs.Lists.{listCallWithin}
 use Rattle.claims.specs.Session.{singlesFor, made}
 use Rattle.claims.specs.Demands.{Lent}
 

@@ -6,6 +6,8 @@ use arrival::limit;
 use btf::Btf;
 use header::btf_of;
 pub use lists::dump_list_within;
+use metering::Counted;
+use metering::Metered;
 use turns::Reached;
 use turns::Session;
 use turns::Turn;
@@ -17,19 +19,7 @@ use ways::count_idle;
 ghost use Prim.Native.Nat.{_+_, _-_, _<_, _≤_};
 ghost use mathlib.Core.Path.{_≡_};
 ghost use lib.ListN.{length};
-ghost use Rattle.within.specs.Within.{withinOf, countedOf, requestedWithin, requestedFromWithin, typeCallWithin, typesCallWithin};
-
-// What a call under a ceiling comes to, and the calls of the ordering rule that it made.
-pub struct Counted {
-    pub turn: Turn,
-    pub made: u64,
-}
-
-// Where the requests of a call have come to, and the calls made.
-struct Metered {
-    reached: Reached,
-    made: u64,
-}
+ghost use Rattle.metering.specs.Within.{withinOf, countedOf, requestedWithin, requestedFromWithin, typeCallWithin, typesCallWithin};
 
 // One id, after a text of len bytes, so many visits and so many calls.
 fn dump_one(

@@ -1,9 +1,10 @@
 // A list of ids under a ceiling.
-use crate::Counted;
 use crate::dump_next;
 use arrival::count_of;
 use arrival::settle_list;
 use header::btf_of;
+use metering::Counted;
+use metering::Tallied;
 use turns::Session;
 use turns::Tally;
 use turns::is_current;
@@ -15,14 +16,8 @@ ghost use mathlib.Core.Path.{_≡_};
 ghost use lib.ListN.{length};
 ghost use Rattle.turns.specs.Turns.{isCurrent};
 ghost use Rattle.calls.specs.Lists.{idsIn};
-ghost use Rattle.within.specs.Within.{countedOf};
-ghost use Rattle.within.specs.Lists.{listCallWithin, endWithin};
-
-// Where the ids of a list have come to, and the calls made.
-struct Tallied {
-    tally: Tally,
-    made: u64,
-}
+ghost use Rattle.metering.specs.Within.{countedOf};
+ghost use Rattle.metering.specs.Lists.{listCallWithin, endWithin};
 
 fn tally_of(len: u32, number: u32, accepted: u32, visits: u32, made: u64) -> Tallied
     ensures { λ r. ⌜ r ≡ record { tally = record { len = len; number = number; accepted = accepted; visits = visits }; made = made } ⌝ }

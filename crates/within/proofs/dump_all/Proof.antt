@@ -1,10 +1,10 @@
 use borrow.Author.Needs.{needs}
-use Rattle.within.specs.Within.{requestedFromWithin}
+use Rattle.metering.specs.Within.{requestedFromWithin}
 use lib.ListN.{length}
 use Prim.Native.Nat.{zero-le, _+_, _-_, _<_, _≤_}
 use mathlib.Core.Path.{_≡_, refl, sym, _∙_}
 use native.Mathlib.Omega.{arith}
-use Rattle.within.proofs.Laws as laws
+use Rattle.metering.proofs.Laws as laws
 use Rattle.within.proofs.dump_all.Statement.{statement}
 use Rattle.within.proofs.dump_all.Tie as tie
 use Rattle.within.proofs.dump_all.Reads as reads

@@ -1,5 +1,5 @@
 use borrow.Author.Tests as tests
-use Rattle.within.proofs.Laws as laws
+use Rattle.metering.proofs.Laws as laws
 use borrow.Author.Needs.{needs}
 use Rattle.within.proofs.dump_next.Statement.{statement}
 use Rattle.within.proofs.dump_next.Tie as tie

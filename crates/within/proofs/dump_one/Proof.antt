@@ -1,5 +1,5 @@
 use native.Mathlib.Omega.{arith}
-use Rattle.within.proofs.Laws as laws
+use Rattle.metering.proofs.Laws as laws
 use Rattle.arrival.proofs.Arrival.{from-to, to-end, room-fits, arrived-is}
 use mathlib.Core.Path.{_∙_}
 use borrow.Author.Needs.{needs}

@@ -1,7 +1,7 @@
 use Prim.Native.Nat.{zero-le}
 use native.Mathlib.Omega.{arith}
 use Rattle.turns.proofs.Laws as ends
-use Rattle.within.proofs.Laws as laws
+use Rattle.metering.proofs.Laws as laws
 use borrow.Author.Needs.{needs}
 use Rattle.within.proofs.dump_type_within.Statement.{statement}
 use Rattle.within.proofs.dump_type_within.Tie as tie

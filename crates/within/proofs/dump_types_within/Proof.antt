@@ -1,6 +1,6 @@
 use native.Mathlib.Omega.{arith}
 use Rattle.turns.proofs.Laws as ends
-use Rattle.within.proofs.Laws as laws
+use Rattle.metering.proofs.Laws as laws
 use borrow.Author.Needs.{needs}
 use Rattle.within.proofs.dump_types_within.Statement.{statement}
 use Rattle.within.proofs.dump_types_within.Tie as tie

@@ -1,5 +1,5 @@
 use borrow.Author.Needs.{needs}
-use Rattle.within.specs.Lists.{listCallWithin, listFromWithin}
+use Rattle.metering.specs.Lists.{listCallWithin, listFromWithin}
 use Rattle.calls.proofs.Lists.{idsFrom}
 use Rattle.calls.specs.Lists.{idsIn, tailed}
 use Rattle.turns.specs.Turns.{withText, tableFor}
@@ -9,7 +9,7 @@ use mathlib.Core.Bool.{true}
 use mathlib.Core.Path.{_≡_, refl, sym, _∙_}
 use native.Mathlib.Omega.{arith}
 use Rattle.calls.proofs.Lists as lists
-use Rattle.within.proofs.ListLaws as laws
+use Rattle.metering.proofs.ListLaws as laws
 use Rattle.within.proofs.lists.dump_ids.Statement.{statement}
 use Rattle.within.proofs.lists.dump_ids.Tie as tie
 use Rattle.within.proofs.lists.dump_ids.Reads as reads

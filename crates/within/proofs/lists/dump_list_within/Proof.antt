@@ -1,6 +1,6 @@
 use mathlib.Core.Path.{sym, _∙_}
 use borrow.Author.Tests as tests
-use Rattle.within.proofs.ListLaws as laws
+use Rattle.metering.proofs.ListLaws as laws
 use borrow.Author.Needs.{needs}
 use Rattle.within.proofs.lists.dump_list_within.Statement.{statement}
 use Rattle.within.proofs.lists.dump_list_within.Tie as tie

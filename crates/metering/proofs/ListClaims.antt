@@ -11,10 +11,10 @@ use Rattle.calls.specs.Calls.{typeCall}
 use Rattle.calls.specs.Lists.{counted, listFrom, listCall}
 use Rattle.calls.proofs.Claims.{number-is}
 use Rattle.calls.proofs.Lists.{counted-goes as plain-goes, counted-stops as plain-stops}
-use Rattle.within.specs.Within.{CallWithin, typeCallWithin}
-use Rattle.within.specs.Lists.{countedWithin, listFromWithin, listCallWithin}
-use Rattle.within.proofs.Claims.{Fits, type-fits}
-use Rattle.within.proofs.ListLaws.{counted-goes, counted-stops}
+use Rattle.metering.specs.Within.{CallWithin, typeCallWithin}
+use Rattle.metering.specs.Lists.{countedWithin, listFromWithin, listCallWithin}
+use Rattle.metering.proofs.Claims.{Fits, type-fits}
+use Rattle.metering.proofs.ListLaws.{counted-goes, counted-stops}
 
 not-zero : (m : ℕ) → suc m ≡ 0 → ⊥
 not-zero m e = absurd (omega arith)

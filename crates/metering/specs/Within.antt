@@ -11,8 +11,8 @@ use Rattle.turns.specs.declared.Session.{Session}
 use Rattle.turns.specs.Turns.{Call, callOf, isCurrent, tableFor, Reach, reached, refusedBy, visitsIn, reachOf, settled, unchanged}
 use Rattle.calls.specs.Refusals.{notCurrent, idNotBelow, refusal}
 use Rattle.calls.specs.Calls.{requested}
-use Rattle.within.specs.declared.Counted.{Counted}
-use Rattle.within.specs.declared.Metered.{Metered}
+use Rattle.metering.specs.declared.Counted.{Counted}
+use Rattle.metering.specs.declared.Metered.{Metered}
 
 -- where the requests of a call have come to, and the calls made
 pub record Within : Type 0 where

@@ -6,8 +6,8 @@ use Rattle.turns.specs.declared.Session.{Session}
 use Rattle.turns.specs.Answers.{numberOf, answerOf}
 use Rattle.turns.specs.Turns.{callOf}
 use Rattle.calls.specs.Lists.{listEnd}
-use Rattle.within.specs.declared.lists.Tallied.{Tallied}
-use Rattle.within.specs.Within.{CallWithin, typeCallWithin}
+use Rattle.metering.specs.declared.Tallied.{Tallied}
+use Rattle.metering.specs.Within.{CallWithin, typeCallWithin}
 
 -- after n accepted ids, the call for the next: the list goes on from it, or is stopped by its number
 unfoldable pub countedWithin : ℕ → CallWithin → (CallWithin → CallWithin) → CallWithin

@@ -30,12 +30,12 @@ use Rattle.calls.specs.Lists.{idsIn, countIn, tailed, listEnd}
 use Rattle.calls.proofs.Claims.{number-is, request-sane}
 use Rattle.calls.proofs.Singles.{settled-with}
 use Rattle.calls.proofs.Lists.{idsFrom, ids-all, ids-none, ids-some, ids-cons, tail-length, tail-head, current, called, open-now, sane-listed}
-use Rattle.within.specs.declared.Counted.{Counted}
-use Rattle.within.specs.declared.Metered.{Metered}
-use Rattle.within.specs.declared.lists.Tallied.{Tallied}
-use Rattle.within.specs.Within.{Within, withinOf, requestedWithin, CallWithin, countedOf, settledWithin, typeCallWithin}
-use Rattle.within.specs.Lists.{countedWithin, listFromWithin, listCallWithin, endWithin}
-use Rattle.within.proofs.Laws.{request-fits, request-over}
+use Rattle.metering.specs.declared.Counted.{Counted}
+use Rattle.metering.specs.declared.Metered.{Metered}
+use Rattle.metering.specs.declared.Tallied.{Tallied}
+use Rattle.metering.specs.Within.{Within, withinOf, requestedWithin, CallWithin, countedOf, settledWithin, typeCallWithin}
+use Rattle.metering.specs.Lists.{countedWithin, listFromWithin, listCallWithin, endWithin}
+use Rattle.metering.proofs.Laws.{request-fits, request-over}
 
 pub tally-is : (r : Tallied) (len n a v m : ℕ) → r ≡ record { tally = record { len = len; number = n; accepted = a; visits = v }; made = m } → (s : Session) (w t : List ℕ) (whole : CallWithin)
     → endWithin s (record { tally = record { len = len; number = n; accepted = a; visits = v }; made = m }) w t ≡ whole → endWithin s r w t ≡ whole

@@ -37,9 +37,9 @@ use Rattle.calls.proofs.Laws.{arrived-in, arrived-past, one-bound, one-reach, i
 use Rattle.ways.specs.declared.Idle.{Idle}
 use Rattle.ways.specs.Idle.{idleIn}
 use Rattle.ways.proofs.Laws.{idle-none, idle-one}
-use Rattle.within.specs.declared.Counted.{Counted}
-use Rattle.within.specs.declared.Metered.{Metered}
-use Rattle.within.specs.Within.{Within, withinOf, requestedWithin, onwardWithin, requestedFromWithin, CallWithin, countedOf, settledWithin, typeCallWithin, typesCallWithin}
+use Rattle.metering.specs.declared.Counted.{Counted}
+use Rattle.metering.specs.declared.Metered.{Metered}
+use Rattle.metering.specs.Within.{Within, withinOf, requestedWithin, onwardWithin, requestedFromWithin, CallWithin, countedOf, settledWithin, typeCallWithin, typesCallWithin}
 
 -- ---- one request, by whether its calls fit
 module _ (c : ℕ) (b : Btf) (s : List ℕ) (id len v : ℕ) (w t : List ℕ) (k : ℕ) where

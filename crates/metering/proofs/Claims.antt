@@ -16,8 +16,8 @@ use Rattle.turns.specs.Answers.{numberOf, answerOf}
 use Rattle.turns.specs.Turns.{Call, isCurrent, Reach, reached, refusedBy, settled, tableFor, visitsIn}
 use Rattle.calls.specs.Calls.{requested, onward, requestedFrom, typeCall, typesCall}
 use Rattle.calls.proofs.Claims.{number-is}
-use Rattle.within.specs.Within.{Within, requestedWithin, onwardWithin, requestedFromWithin, CallWithin, settledWithin, typeCallWithin, typesCallWithin}
-use Rattle.within.proofs.Laws.{request-fits, request-over}
+use Rattle.metering.specs.Within.{Within, requestedWithin, onwardWithin, requestedFromWithin, CallWithin, settledWithin, typeCallWithin, typesCallWithin}
+use Rattle.metering.proofs.Laws.{request-fits, request-over}
 
 -- a call that fits under c
 pub record Fits (c : ℕ) (plainly : Call) (under : ℕ → CallWithin) : Type 0 where
