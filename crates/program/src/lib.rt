@@ -1,14 +1,12 @@
 // What the program does with a section: every id, pointer size 8, unions under their own word.
-use put::put_bytes;
-use put::put_decimal;
+use printed::put_refused;
 use requests::dump_types_core;
 use requests::open_core;
 use turns::Answer;
 use turns::Session;
 ghost use mathlib.Core.Path.{_≡_};
-ghost use Rattle.text.specs.Text.{putOut, putText};
 ghost use Rattle.calls.specs.Calls.{typesCall};
-ghost use Rattle.program.specs.Printed.{neverOpened, refusedLine, ranTo, ranAll, ranOn};
+ghost use Rattle.printed.specs.Printed.{neverOpened, ranTo, ranAll, ranOn};
 
 fn closed() -> Session
     ensures { λ r. ⌜ r ≡ neverOpened ⌝ }
@@ -24,15 +22,6 @@ fn closed() -> Session
         modes: 0,
         visits: 0,
     }
-}
-
-// The line that a refusal prints: how long it is, at the start of the text.
-fn put_refused(text: &mut [u8], number: u32) -> usize
-    ensures { λ r. ⌜ putOut r (now (text .exit)) ≡ putText (now (text .entry)) 0 (refusedLine number) ⌝ }
-{
-    let a = put_bytes(text, 0, b"refused ");
-    let c = put_decimal(text, a, number as u64);
-    put_bytes(text, c, b"\n")
 }
 
 // Leaves what is printed at the start of the text: how long it is.

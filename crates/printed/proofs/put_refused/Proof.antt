@@ -1,7 +1,7 @@
-use Rattle.program.proofs.Laws as laws
+use Rattle.printed.proofs.Laws as laws
 use borrow.Author.Needs.{needs}
-use Rattle.program.proofs.put_refused.Statement.{statement}
-use Rattle.program.proofs.put_refused.Tie as tie
+use Rattle.printed.proofs.put_refused.Statement.{statement}
+use Rattle.printed.proofs.put_refused.Tie as tie
 
 slice-aggregate-put-bytes : tie.Need-slice-aggregate-put-bytes
 slice-aggregate-put-bytes c = search needs

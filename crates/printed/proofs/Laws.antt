@@ -11,7 +11,7 @@ use Rattle.turns.specs.declared.Session.{Session}
 use Rattle.turns.specs.declared.Turn.{Turn}
 use Rattle.turns.specs.Turns.{Call, callOf}
 use Rattle.calls.specs.Calls.{openCall, typesCall}
-use Rattle.program.specs.Printed.{neverOpened, refusedLine, Ran, ranTo, shown, ranAll, ranOpened, ranOn}
+use Rattle.printed.specs.Printed.{neverOpened, refusedLine, Ran, ranTo, shown, ranAll, ranOpened, ranOn}
 
 pub line-is : (t : List ℕ) (n : ℕ) (p₁ : ℕ) (t₁ : List ℕ) (p₂ : ℕ) (t₂ : List ℕ) (p₃ : ℕ) (t₃ : List ℕ) → putOut p₁ t₁ ≡ putText t 0 (whole (ascii "refused ")) → putOut p₂ t₂ ≡ putText t₁ p₁ (whole (decimal n)) → putOut p₃ t₃ ≡ putText t₂ p₂ (whole (10 ∷ []))
     → putOut p₃ t₃ ≡ putText t 0 (refusedLine n)
