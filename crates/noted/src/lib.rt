@@ -1,26 +1,21 @@
-// The lines of the text, each with its entry in the lent list: three words, before any other step of the line.
+// The entry of a line in the lent list: three words, before any other step of the line. The lines are in `lined`.
 use btf::Btf;
 use btf::BtfType;
 use leads::leader_of;
-use lines::emit_definition;
-use lines::emit_forward;
 use put::stop;
 use put::stopped;
 use strings::is_builtin;
 use strings::is_named;
 use words::put_word;
 ghost use mathlib.Core.Path.{_≡_};
-ghost use mathlib.Core.Bool.{true};
 ghost use mathlib.Core.List.{List};
 ghost use Prim.Native.Nat.{ℕ, _<_, _/_};
 ghost use lib.ListN.{length};
 ghost use Rattle.rules.specs.Machine.{obind};
-ghost use Rattle.alignments.specs.Writers.{definitionOnce, forwardOnce};
-ghost use Rattle.asked.specs.Asked.{workAsks};
-ghost use Rattle.btf.specs.Table.{typeOf, btfOf, workNaming};
+ghost use Rattle.btf.specs.Table.{typeOf};
 ghost use Rattle.causes.specs.Causes.{causeAt, entriesIn};
 ghost use Rattle.leads.specs.Leads.{entryIn};
-ghost use Rattle.noted.specs.Noted.{entryOf, entryPut, notedOut, noteN, noteIfN, lineN, shownOf};
+ghost use Rattle.noted.specs.Noted.{entryOf, entryPut, notedOut, noteN, noteIfN, shownOf};
 
 // The next place in the text, and how many entries the list has.
 pub struct Pen {
@@ -83,7 +78,7 @@ fn put_entry(list: &mut [u8], k: usize, e: Cause)
 }
 
 // One more entry, or 17.
-fn note(text: &[u8], list: &mut [u8], p: Pen, e: Cause) -> Pen
+pub fn note(text: &[u8], list: &mut [u8], p: Pen, e: Cause) -> Pen
     ensures { λ r. ⌜ ((n : ℕ) (w : List ℕ) → notedOut n r (now (text .entry)) w (now (list .exit)) ≡ obind (notedOut n p (now (text .entry)) w (now (list .entry))) (λ m. noteN (entriesIn (now (list .entry))) (entryOf e) m)) ⌝ }
 {
     if stopped(text, p.at) {
@@ -102,7 +97,8 @@ fn note(text: &[u8], list: &mut [u8], p: Pen, e: Cause) -> Pen
     }
 }
 
-fn note_if(text: &[u8], list: &mut [u8], p: Pen, e: Cause, shown: bool) -> Pen
+// Of a line that prints nothing there is no entry.
+pub fn note_if(text: &[u8], list: &mut [u8], p: Pen, e: Cause, shown: bool) -> Pen
     ensures { λ r. ⌜ ((n : ℕ) (w : List ℕ) → notedOut n r (now (text .entry)) w (now (list .exit)) ≡ obind (notedOut n p (now (text .entry)) w (now (list .entry))) (λ m. noteIfN shown (entriesIn (now (list .entry))) (entryOf e) m)) ⌝ }
 {
     if shown {
@@ -112,56 +108,11 @@ fn note_if(text: &[u8], list: &mut [u8], p: Pen, e: Cause, shown: bool) -> Pen
 }
 
 // Whether the forward line or the typedef of a type prints anything: that of the compiler's own type does not.
-fn is_shown(b: Btf, section: &[u8], t: BtfType) -> bool
+pub fn is_shown(b: Btf, section: &[u8], t: BtfType) -> bool
     ensures { λ r. ⌜ r ≡ shownOf (typeOf b (now (section .entry)) t) ⌝ }
 {
     if is_named(b, section, t) {
         return !is_builtin(b, section, t.name_off);
     }
     true
-}
-
-// The definition of a composite, an enum or a forward, with its entry.
-pub fn define(
-    b: Btf,
-    section: &[u8],
-    work: &mut [u8],
-    text: &mut [u8],
-    list: &mut [u8],
-    p: Pen,
-    id: u32,
-    t: BtfType,
-    e: Cause,
-) -> Pen
-    ensures { λ r. ⌜ ((n : ℕ) → notedOut n r (now (text .exit)) (now (work .exit)) (now (list .exit)) ≡ obind (notedOut n p (now (text .entry)) (now (work .entry)) (now (list .entry))) (λ m. lineN (entriesIn (now (list .entry))) true (entryOf e) (definitionOnce (workAsks (b .types) (btfOf b (now (section .entry)) (now (work .entry)))) (workNaming b) (btfOf b (now (section .entry)) (now (work .entry))) id (typeOf b (now (section .entry)) t)) m)) ⌝ }
-{
-    let q = note(text, list, p, e);
-    let a = emit_definition(b, section, work, text, q.at, id, t);
-    Pen {
-        at: a,
-        count: q.count,
-    }
-}
-
-// A composite's forward line or a typedef, with its entry if it prints anything.
-pub fn forward(
-    b: Btf,
-    section: &[u8],
-    work: &mut [u8],
-    text: &mut [u8],
-    list: &mut [u8],
-    p: Pen,
-    id: u32,
-    t: BtfType,
-    e: Cause,
-) -> Pen
-    ensures { λ r. ⌜ ((n : ℕ) → notedOut n r (now (text .exit)) (now (work .exit)) (now (list .exit)) ≡ obind (notedOut n p (now (text .entry)) (now (work .entry)) (now (list .entry))) (λ m. lineN (entriesIn (now (list .entry))) (shownOf (typeOf b (now (section .entry)) t)) (entryOf e) (forwardOnce (workAsks (b .types) (btfOf b (now (section .entry)) (now (work .entry)))) (workNaming b) (btfOf b (now (section .entry)) (now (work .entry))) id (typeOf b (now (section .entry)) t)) m)) ⌝ }
-{
-    let shown = is_shown(b, section, t);
-    let q = note_if(text, list, p, e, shown);
-    let a = emit_forward(b, section, work, text, q.at, id, t);
-    Pen {
-        at: a,
-        count: q.count,
-    }
 }

@@ -4,7 +4,7 @@ use Rattle.alone.proofs.emit_once.Statement.{statement}
 use Rattle.alone.proofs.emit_once.Tie as tie
 use Rattle.alone.proofs.emit_once.Reads as reads
 use Rattle.alone.proofs.emit_once.Lts as lts
-use Rattle.noted.proofs.forward.Reads as forward-reads
+use Rattle.lined.proofs.forward.Reads as forward-reads
 use Rattle.alone.proofs.get_fwd_emitted.Reads as get-fwd-emitted-reads
 use Rattle.alone.proofs.set_fwd_emitted.Reads as set-fwd-emitted-reads
 

@@ -5,7 +5,7 @@ use Rattle.alone.proofs.end_composite.Tie as tie
 use Rattle.alone.proofs.end_composite.Reads as reads
 use Rattle.alone.proofs.end_composite.Lts as lts
 use Rattle.alone.proofs.set_emit_state.Reads as set-emit-state-reads
-use Rattle.noted.proofs.define.Reads as define-reads
+use Rattle.lined.proofs.define.Reads as define-reads
 use Rattle.noted.proofs.listed_cause.Reads as listed-cause-reads
 
 set-emit-state-requires : tie.Need-set-emit-state-requires

@@ -5,7 +5,7 @@ use Rattle.noting.proofs.emit_leaf.Tie as tie
 use Rattle.noting.proofs.emit_leaf.Reads as reads
 use Rattle.noting.proofs.emit_leaf.Lts as lts
 use Rattle.noted.proofs.cause_at.Reads as cause-at-reads
-use Rattle.noted.proofs.define.Reads as define-reads
+use Rattle.lined.proofs.define.Reads as define-reads
 use Rattle.alone.proofs.set_emit_state.Reads as set-emit-state-reads
 
 cause-at-requires : tie.Need-cause-at-requires

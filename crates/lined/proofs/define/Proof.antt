@@ -1,13 +1,13 @@
 use mathlib.Core.Path.{refl}
 use mathlib.Core.Bool.{true}
 use Rattle.noted.proofs.Laws as laws
 use borrow.Author.Needs.{needs}
-use Rattle.noted.proofs.define.Statement.{statement}
-use Rattle.noted.proofs.define.Tie as tie
-use Rattle.noted.proofs.define.Reads as reads
-use Rattle.noted.proofs.define.Lts as lts
+use Rattle.lined.proofs.define.Statement.{statement}
+use Rattle.lined.proofs.define.Tie as tie
+use Rattle.lined.proofs.define.Reads as reads
+use Rattle.lined.proofs.define.Lts as lts
 use Rattle.lines.proofs.emit_definition.Reads as emit-definition-reads
 use Rattle.noted.proofs.note.Reads as note-reads
 
 note-requires : tie.Need-note-requires
 note-requires c κs = search needs

@@ -1,12 +1,12 @@
 use Rattle.noted.proofs.Laws as laws
 use borrow.Author.Needs.{needs}
-use Rattle.noted.proofs.forward.Statement.{statement}
-use Rattle.noted.proofs.forward.Tie as tie
-use Rattle.noted.proofs.forward.Reads as reads
-use Rattle.noted.proofs.forward.Lts as lts
+use Rattle.lined.proofs.forward.Statement.{statement}
+use Rattle.lined.proofs.forward.Tie as tie
+use Rattle.lined.proofs.forward.Reads as reads
+use Rattle.lined.proofs.forward.Lts as lts
 use Rattle.lines.proofs.emit_forward.Reads as emit-forward-reads
 use Rattle.noted.proofs.is_shown.Reads as is-shown-reads
 use Rattle.noted.proofs.note_if.Reads as note-if-reads
 
 is-shown-requires : tie.Need-is-shown-requires
 is-shown-requires c κs = search needs
