@@ -68,28 +68,6 @@ module _ {U : Type 0} (Q : Asks U) (N : Naming U) (B : Btf) (below : ℕ) (fname
   unfolding chainRest
   chain-named p c = refl
 
-  -- the base's own words say nothing of the declared name
-  pub word-any : (id : ℕ) (t : BtfType)
-      → baseWord N B (emitTypeDeclOnce Q N B below) (emitTypeChainOnce Q N B below) (emitCompositeDefOnce Q N B below) fname lvl id t ≡ wordBelow Q N B below lvl id t
-  unfolding baseWord
-  word-any id Void = refl
-  word-any id (Int n b) = refl
-  word-any id (Ptr t) = refl
-  word-any id (Array t k) = refl
-  word-any id (Composite s n z ms) = refl
-  word-any id (Enum s n z vs) = refl
-  word-any id (Enum64 s n z vs) = refl
-  word-any id (Fwd u n) = refl
-  word-any id (Typedef n t) = refl
-  word-any id (Mod q t) = refl
-  word-any id (Func n) = refl
-  word-any id (Var n) = refl
-  word-any id (Datasec n) = refl
-  word-any id (FuncProto r ps) = refl
-  word-any id (Float n z) = refl
-  word-any id (DeclTag a n t k) = refl
-  word-any id (TypeTag a n t) = refl
-
 -- a parameter and those after it
 pub params-turn : {U : Type 0} → (decl : ℕ → Name → Writer U) (first : Bool) (p : Param) (ps : List Param)
     → emitParams decl first (p ∷ ps) ≡ paramText decl first p (noParams ps) ⨾ emitParams decl false ps

@@ -22,50 +22,45 @@ use borrow.Fn.Kinds.{In}
 use borrow.Fn.PlainCycle.{Measures, is, falls, and}
 use Rattle.decl.proofs.emit_array.Reads as emit-array
 use Rattle.decl.proofs.emit_array.Kinds as emit-array-kinds
-use Rattle.decl.proofs.+emit_array+emit_base+emit_composite_def+emit_composite_word+emit_entry+emit_function+emit_member+emit_members+emit_param+emit_params+emit_proto+emit_type_chain+emit_type_decl.Lts-emit_array as emit-array-lts
-use Rattle.decl.proofs.emit_base.Reads as emit-base
-use Rattle.decl.proofs.emit_base.Kinds as emit-base-kinds
-use Rattle.decl.proofs.+emit_array+emit_base+emit_composite_def+emit_composite_word+emit_entry+emit_function+emit_member+emit_members+emit_param+emit_params+emit_proto+emit_type_chain+emit_type_decl.Lts-emit_base as emit-base-lts
+use Rattle.decl.proofs.+emit_array+emit_composite_def+emit_composite_word+emit_entry+emit_function+emit_member+emit_members+emit_param+emit_params+emit_proto+emit_type_chain+emit_type_decl.Lts-emit_array as emit-array-lts
 use Rattle.decl.proofs.emit_composite_def.Reads as emit-composite-def
 use Rattle.decl.proofs.emit_composite_def.Kinds as emit-composite-def-kinds
-use Rattle.decl.proofs.+emit_array+emit_base+emit_composite_def+emit_composite_word+emit_entry+emit_function+emit_member+emit_members+emit_param+emit_params+emit_proto+emit_type_chain+emit_type_decl.Lts-emit_composite_def as emit-composite-def-lts
+use Rattle.decl.proofs.+emit_array+emit_composite_def+emit_composite_word+emit_entry+emit_function+emit_member+emit_members+emit_param+emit_params+emit_proto+emit_type_chain+emit_type_decl.Lts-emit_composite_def as emit-composite-def-lts
 use Rattle.decl.proofs.emit_composite_word.Reads as emit-composite-word
 use Rattle.decl.proofs.emit_composite_word.Kinds as emit-composite-word-kinds
-use Rattle.decl.proofs.+emit_array+emit_base+emit_composite_def+emit_composite_word+emit_entry+emit_function+emit_member+emit_members+emit_param+emit_params+emit_proto+emit_type_chain+emit_type_decl.Lts-emit_composite_word as emit-composite-word-lts
+use Rattle.decl.proofs.+emit_array+emit_composite_def+emit_composite_word+emit_entry+emit_function+emit_member+emit_members+emit_param+emit_params+emit_proto+emit_type_chain+emit_type_decl.Lts-emit_composite_word as emit-composite-word-lts
 use Rattle.decl.proofs.emit_entry.Reads as emit-entry
 use Rattle.decl.proofs.emit_entry.Kinds as emit-entry-kinds
-use Rattle.decl.proofs.+emit_array+emit_base+emit_composite_def+emit_composite_word+emit_entry+emit_function+emit_member+emit_members+emit_param+emit_params+emit_proto+emit_type_chain+emit_type_decl.Lts-emit_entry as emit-entry-lts
+use Rattle.decl.proofs.+emit_array+emit_composite_def+emit_composite_word+emit_entry+emit_function+emit_member+emit_members+emit_param+emit_params+emit_proto+emit_type_chain+emit_type_decl.Lts-emit_entry as emit-entry-lts
 use Rattle.decl.proofs.emit_function.Reads as emit-function
 use Rattle.decl.proofs.emit_function.Kinds as emit-function-kinds
-use Rattle.decl.proofs.+emit_array+emit_base+emit_composite_def+emit_composite_word+emit_entry+emit_function+emit_member+emit_members+emit_param+emit_params+emit_proto+emit_type_chain+emit_type_decl.Lts-emit_function as emit-function-lts
+use Rattle.decl.proofs.+emit_array+emit_composite_def+emit_composite_word+emit_entry+emit_function+emit_member+emit_members+emit_param+emit_params+emit_proto+emit_type_chain+emit_type_decl.Lts-emit_function as emit-function-lts
 use Rattle.decl.proofs.emit_member.Reads as emit-member
 use Rattle.decl.proofs.emit_member.Kinds as emit-member-kinds
-use Rattle.decl.proofs.+emit_array+emit_base+emit_composite_def+emit_composite_word+emit_entry+emit_function+emit_member+emit_members+emit_param+emit_params+emit_proto+emit_type_chain+emit_type_decl.Lts-emit_member as emit-member-lts
+use Rattle.decl.proofs.+emit_array+emit_composite_def+emit_composite_word+emit_entry+emit_function+emit_member+emit_members+emit_param+emit_params+emit_proto+emit_type_chain+emit_type_decl.Lts-emit_member as emit-member-lts
 use Rattle.decl.proofs.emit_members.Reads as emit-members
 use Rattle.decl.proofs.emit_members.Kinds as emit-members-kinds
-use Rattle.decl.proofs.+emit_array+emit_base+emit_composite_def+emit_composite_word+emit_entry+emit_function+emit_member+emit_members+emit_param+emit_params+emit_proto+emit_type_chain+emit_type_decl.Lts-emit_members as emit-members-lts
+use Rattle.decl.proofs.+emit_array+emit_composite_def+emit_composite_word+emit_entry+emit_function+emit_member+emit_members+emit_param+emit_params+emit_proto+emit_type_chain+emit_type_decl.Lts-emit_members as emit-members-lts
 use Rattle.decl.proofs.emit_param.Reads as emit-param
 use Rattle.decl.proofs.emit_param.Kinds as emit-param-kinds
-use Rattle.decl.proofs.+emit_array+emit_base+emit_composite_def+emit_composite_word+emit_entry+emit_function+emit_member+emit_members+emit_param+emit_params+emit_proto+emit_type_chain+emit_type_decl.Lts-emit_param as emit-param-lts
+use Rattle.decl.proofs.+emit_array+emit_composite_def+emit_composite_word+emit_entry+emit_function+emit_member+emit_members+emit_param+emit_params+emit_proto+emit_type_chain+emit_type_decl.Lts-emit_param as emit-param-lts
 use Rattle.decl.proofs.emit_params.Reads as emit-params
 use Rattle.decl.proofs.emit_params.Kinds as emit-params-kinds
-use Rattle.decl.proofs.+emit_array+emit_base+emit_composite_def+emit_composite_word+emit_entry+emit_function+emit_member+emit_members+emit_param+emit_params+emit_proto+emit_type_chain+emit_type_decl.Lts-emit_params as emit-params-lts
+use Rattle.decl.proofs.+emit_array+emit_composite_def+emit_composite_word+emit_entry+emit_function+emit_member+emit_members+emit_param+emit_params+emit_proto+emit_type_chain+emit_type_decl.Lts-emit_params as emit-params-lts
 use Rattle.decl.proofs.emit_proto.Reads as emit-proto
 use Rattle.decl.proofs.emit_proto.Kinds as emit-proto-kinds
-use Rattle.decl.proofs.+emit_array+emit_base+emit_composite_def+emit_composite_word+emit_entry+emit_function+emit_member+emit_members+emit_param+emit_params+emit_proto+emit_type_chain+emit_type_decl.Lts-emit_proto as emit-proto-lts
+use Rattle.decl.proofs.+emit_array+emit_composite_def+emit_composite_word+emit_entry+emit_function+emit_member+emit_members+emit_param+emit_params+emit_proto+emit_type_chain+emit_type_decl.Lts-emit_proto as emit-proto-lts
 use Rattle.decl.proofs.emit_type_chain.Reads as emit-type-chain
 use Rattle.decl.proofs.emit_type_chain.Kinds as emit-type-chain-kinds
-use Rattle.decl.proofs.+emit_array+emit_base+emit_composite_def+emit_composite_word+emit_entry+emit_function+emit_member+emit_members+emit_param+emit_params+emit_proto+emit_type_chain+emit_type_decl.Lts-emit_type_chain as emit-type-chain-lts
+use Rattle.decl.proofs.+emit_array+emit_composite_def+emit_composite_word+emit_entry+emit_function+emit_member+emit_members+emit_param+emit_params+emit_proto+emit_type_chain+emit_type_decl.Lts-emit_type_chain as emit-type-chain-lts
 use Rattle.decl.proofs.emit_type_decl.Reads as emit-type-decl
 use Rattle.decl.proofs.emit_type_decl.Kinds as emit-type-decl-kinds
-use Rattle.decl.proofs.+emit_array+emit_base+emit_composite_def+emit_composite_word+emit_entry+emit_function+emit_member+emit_members+emit_param+emit_params+emit_proto+emit_type_chain+emit_type_decl.Lts-emit_type_decl as emit-type-decl-lts
+use Rattle.decl.proofs.+emit_array+emit_composite_def+emit_composite_word+emit_entry+emit_function+emit_member+emit_members+emit_param+emit_params+emit_proto+emit_type_chain+emit_type_decl.Lts-emit_type_decl as emit-type-decl-lts
 use Rattle.strings.proofs.is_builtin.Reads as is-builtin-reads
 use Rattle.strings.proofs.is_empty.Reads as is-empty-reads
-use Rattle.strings.proofs.put_str.Reads as put-str-reads
 use Rattle.sections.proofs.array_nelems.Reads as array-nelems-reads
 use Rattle.kinds.proofs.entries_of.Reads as entries-of-reads
 use Rattle.kinds.proofs.is_struct.Reads as is-struct-reads
-use Rattle.kinds.proofs.kind_flag_of.Reads as kind-flag-of-reads
 use Rattle.kinds.proofs.kind_of.Reads as kind-of-reads
 use Rattle.entries.proofs.load_member.Reads as load-member-reads
 use Rattle.kinds.proofs.param_place.Reads as param-place-reads
@@ -75,53 +70,43 @@ use Rattle.sections.proofs.word.Reads as word-reads
 use Rattle.chain.proofs.chain_len.Reads as chain-len-reads
 use Rattle.chain.proofs.kind_on_top.Reads as kind-on-top-reads
 use Rattle.chain.proofs.path_at.Reads as path-at-reads
-use Rattle.mods.proofs.put_qualifier.Reads as put-qualifier-reads
 use Rattle.mods.proofs.emit_mods.Reads as emit-mods-reads
 use Rattle.mods.proofs.skip_mods.Reads as skip-mods-reads
 use Rattle.bodies.proofs.emit_composite_end.Reads as emit-composite-end-reads
 use Rattle.bodies.proofs.emit_composite_head.Reads as emit-composite-head-reads
-use Rattle.bodies.proofs.emit_enum64_word.Reads as emit-enum64-word-reads
-use Rattle.bodies.proofs.emit_enum_word.Reads as emit-enum-word-reads
 use Rattle.bodies.proofs.emit_member_end.Reads as emit-member-end-reads
-use Rattle.bodies.proofs.put_typedef_name.Reads as put-typedef-name-reads
-use Rattle.decl.proofs.goes_on.Reads as goes-on-reads
+use Rattle.plain.proofs.goes_on.Reads as goes-on-reads
 use Rattle.bodies.proofs.is_any_more.Reads as is-any-more-reads
-use Rattle.decl.proofs.named.Reads as named-reads
+use Rattle.plain.proofs.named.Reads as named-reads
+use Rattle.plain.proofs.emit_plain.Reads as emit-plain-reads
 use Rattle.bodies.proofs.shown_params.Reads as shown-params-reads
 use Rattle.bodies.proofs.put_close.Reads as put-close-reads
 use Rattle.bodies.proofs.put_comma.Reads as put-comma-reads
 use Rattle.bodies.proofs.put_count.Reads as put-count-reads
 use Rattle.bodies.proofs.put_gap.Reads as put-gap-reads
 use Rattle.bodies.proofs.put_open.Reads as put-open-reads
-use Rattle.bodies.proofs.put_star.Reads as put-star-reads
-use Rattle.bodies.proofs.put_type_tag.Reads as put-type-tag-reads
 use Rattle.enumerators.proofs.deeper.Reads as deeper-reads
 use Rattle.placing.proofs.body_packed.Reads as body-packed-reads
 use Rattle.put.proofs.put_byte.Reads as put-byte-reads
 use Rattle.fixed.proofs.put_dots.Reads as put-dots-reads
 use Rattle.put.proofs.put_two.Reads as put-two-reads
-use Rattle.fixed.proofs.put_void.Reads as put-void-reads
 use Rattle.put.proofs.put_tabs.Reads as put-tabs-reads
 use Rattle.put.proofs.stop.Reads as stop-reads
 use Rattle.put.proofs.stopped.Reads as stopped-reads
 use Rattle.forwards.proofs.emit_composite_fwd.Reads as emit-composite-fwd-reads
-use Rattle.forwards.proofs.emit_fwd_def.Reads as emit-fwd-def-reads
 use Rattle.names.proofs.bare.Reads as bare-reads
 use Rattle.names.proofs.emit_name.Reads as emit-name-reads
 use Rattle.padding.proofs.emit_bit_padding.Reads as emit-bit-padding-reads
 use Rattle.padding.proofs.emit_tail_padding.Reads as emit-tail-padding-reads
-use Rattle.decl.proofs.+emit_array+emit_base+emit_composite_def+emit_composite_word+emit_entry+emit_function+emit_member+emit_members+emit_param+emit_params+emit_proto+emit_type_chain+emit_type_decl.{
+use Rattle.decl.proofs.+emit_array+emit_composite_def+emit_composite_word+emit_entry+emit_function+emit_member+emit_members+emit_param+emit_params+emit_proto+emit_type_chain+emit_type_decl.{
   statement,
 }
-use Rattle.decl.proofs.+emit_array+emit_base+emit_composite_def+emit_composite_word+emit_entry+emit_function+emit_member+emit_members+emit_param+emit_params+emit_proto+emit_type_chain+emit_type_decl.Tie.{
+use Rattle.decl.proofs.+emit_array+emit_composite_def+emit_composite_word+emit_entry+emit_function+emit_member+emit_members+emit_param+emit_params+emit_proto+emit_type_chain+emit_type_decl.Tie.{
   close,
 }
 
 abbrev μ-emit-array : Measures 3 emit-array-kinds.ps ℕ
 μ-emit-array κs a = 8 * (a .1 .1 .1 .1 .1 .1 .1 .1 .0) + 5
-
-abbrev μ-emit-base : Measures 3 emit-base-kinds.ps ℕ
-μ-emit-base κs a = 8 * (a .1 .1 .1 .1 .1 .1 .1 .1 .0) + 5
 
 abbrev μ-emit-composite-def : Measures 3 emit-composite-def-kinds.ps ℕ
 μ-emit-composite-def κs a = 8 * (a .1 .1 .1 .1 .1 .1 .1 .1 .0)
@@ -163,13 +148,6 @@ emit-array-at t =
 abbrev emit-array-below : ℕ → In 3 emit-array-kinds.ps
 emit-array-below t =
     and 3 emit-array-kinds.ps (falls 3 emit-array-kinds.ps _<_ μ-emit-array t) emit-array.Pre
-
-abbrev emit-base-at : ℕ → In 3 emit-base-kinds.ps
-emit-base-at t = and 3 emit-base-kinds.ps (is 3 emit-base-kinds.ps μ-emit-base t) emit-base.Pre
-
-abbrev emit-base-below : ℕ → In 3 emit-base-kinds.ps
-emit-base-below t =
-    and 3 emit-base-kinds.ps (falls 3 emit-base-kinds.ps _<_ μ-emit-base t) emit-base.Pre
 
 abbrev emit-composite-def-at : ℕ → In 3 emit-composite-def-kinds.ps
 emit-composite-def-at t =
@@ -315,28 +293,6 @@ emit-array-claims t = (
   put-close-reads.Learnt,
 )
 
-abbrev emit-base-claims : ℕ → emit-base-lts.Claims
-emit-base-claims t = (
-  kind-of-reads.Asked,
-  kind-of-reads.Learnt,
-  put-str-reads.Asked,
-  put-str-reads.Learnt,
-  emit-enum-word-reads.Asked,
-  emit-enum-word-reads.Learnt,
-  kind-flag-of-reads.Asked,
-  kind-flag-of-reads.Learnt,
-  emit-fwd-def-reads.Asked,
-  emit-fwd-def-reads.Learnt,
-  put-typedef-name-reads.Asked,
-  put-typedef-name-reads.Learnt,
-  emit-enum64-word-reads.Asked,
-  emit-enum64-word-reads.Learnt,
-  emit-composite-word-below t,
-  emit-composite-word.Post,
-  put-void-reads.Asked,
-  put-void-reads.Learnt,
-)
-
 abbrev emit-composite-def-claims : ℕ → emit-composite-def-lts.Claims
 emit-composite-def-claims t = (
   stop-reads.Asked,
@@ -377,10 +333,6 @@ emit-entry-claims t = (
   type-by-id-reads.Learnt,
   kind-of-reads.Asked,
   kind-of-reads.Learnt,
-  put-star-reads.Asked,
-  put-star-reads.Learnt,
-  goes-on-reads.Asked,
-  goes-on-reads.Learnt,
   array-nelems-reads.Asked,
   array-nelems-reads.Learnt,
   skip-mods-reads.Asked,
@@ -395,14 +347,12 @@ emit-entry-claims t = (
   emit-function.Post,
   emit-mods-reads.Asked,
   emit-mods-reads.Learnt,
-  put-type-tag-reads.Asked,
-  put-type-tag-reads.Learnt,
-  put-byte-reads.Asked,
-  put-byte-reads.Learnt,
-  put-qualifier-reads.Asked,
-  put-qualifier-reads.Learnt,
-  emit-base-below t,
-  emit-base.Post,
+  emit-composite-word-below t,
+  emit-composite-word.Post,
+  goes-on-reads.Asked,
+  goes-on-reads.Learnt,
+  emit-plain-reads.Asked,
+  emit-plain-reads.Learnt,
 )
 
 abbrev emit-function-claims : ℕ → emit-function-lts.Claims
@@ -561,96 +511,6 @@ emit-array-same-length-5 t c = search needs
 
 emit-array-returns-3 : (t : ℕ) → emit-array-lts.Need-returns-3 (emit-array-claims t) (emit-array-at t) emit-array.Post
 emit-array-returns-3 t c = entries.array-other _ _ _ _ _ _ _ _ _ _ _ (c .before .before .before .before .before .before .before .before .before .before .before .before .before .before .before .before .before .before .before .before .before .before .if1 .left) _ _ _ _ _ _ _ _ _ _ (c .before .before .before .before .before .before .before .before .before .before .before .before .before .before .before .before .kind-on-top .ensures) (c .before .before .before .before .before .before .before .before .before .before .before .before .before .before .before .if2 .left) (c .before .before .before .before .before .before .before .before .before .before .before .before .before .before .before .before .before .before .before .before .put-gap .ensures) (c .before .before .before .before .before .before .before .before .before .before .before .before .before .put-open .ensures) (c .before .before .before .before .before .before .before .before .emit-type-chain2 .ensures) (c .before .before .put-close .ensures)
-
-emit-base-kind-of-requires : (t : ℕ) → emit-base-lts.Need-kind-of-requires (emit-base-claims t) (emit-base-at t) emit-base.Post
-emit-base-kind-of-requires t c κs = tt
-
-emit-base-put-str-requires : (t : ℕ) → emit-base-lts.Need-put-str-requires (emit-base-claims t) (emit-base-at t) emit-base.Post
-emit-base-put-str-requires t c κs = tt
-
-emit-base-emit-enum-word-requires : (t : ℕ) → emit-base-lts.Need-emit-enum-word-requires (emit-base-claims t) (emit-base-at t) emit-base.Post
-emit-base-emit-enum-word-requires t c κs = tt
-
-emit-base-kind-flag-of-requires : (t : ℕ) → emit-base-lts.Need-kind-flag-of-requires (emit-base-claims t) (emit-base-at t) emit-base.Post
-emit-base-kind-flag-of-requires t c κs = tt
-
-emit-base-emit-fwd-def-requires : (t : ℕ) → emit-base-lts.Need-emit-fwd-def-requires (emit-base-claims t) (emit-base-at t) emit-base.Post
-emit-base-emit-fwd-def-requires t c κs = tt
-
-emit-base-put-typedef-name-requires : (t : ℕ) → emit-base-lts.Need-put-typedef-name-requires (emit-base-claims t) (emit-base-at t) emit-base.Post
-emit-base-put-typedef-name-requires t c κs = tt
-
-emit-base-emit-enum64-word-requires : (t : ℕ) → emit-base-lts.Need-emit-enum64-word-requires (emit-base-claims t) (emit-base-at t) emit-base.Post
-emit-base-emit-enum64-word-requires t c κs = tt
-
-emit-base-emit-composite-word-requires : (t : ℕ) → emit-base-lts.Need-emit-composite-word-requires (emit-base-claims t) (emit-base-at t) emit-base.Post
-emit-base-emit-composite-word-requires t c κs = (omega arith, tt)
-
-emit-base-put-void-requires : (t : ℕ) → emit-base-lts.Need-put-void-requires (emit-base-claims t) (emit-base-at t) emit-base.Post
-emit-base-put-void-requires t c κs = tt
-
-emit-base-same-length : (t : ℕ) → emit-base-lts.Need-same-length (emit-base-claims t) (emit-base-at t) emit-base.Post
-emit-base-same-length t c = search needs
-
-emit-base-returns : (t : ℕ) → emit-base-lts.Need-returns (emit-base-claims t) (emit-base-at t) emit-base.Post
-emit-base-returns t c = entries.word-name _ _ _ _ _ _ _ _ (c .before .before .before .before .before .kind-of .ensures) _ _ _ _ _ _ (c .before .before .before .before .match .keys1) (put-only _ _ _ _ _ _ (c .before .before .put-str .ensures))
-
-emit-base-same-length-2 : (t : ℕ) → emit-base-lts.Need-same-length-2 (emit-base-claims t) (emit-base-at t) emit-base.Post
-emit-base-same-length-2 t c = search needs
-
-emit-base-same-length-3 : (t : ℕ) → emit-base-lts.Need-same-length-3 (emit-base-claims t) (emit-base-at t) emit-base.Post
-emit-base-same-length-3 t c = search needs
-
-emit-base-returns-2 : (t : ℕ) → emit-base-lts.Need-returns-2 (emit-base-claims t) (emit-base-at t) emit-base.Post
-emit-base-returns-2 t c = entries.word-enum _ _ _ _ _ _ _ _ (c .before .before .before .before .before .before .before .before .kind-of .ensures) _ _ _ _ _ _ (c .before .before .before .before .before .before .before .match .keys2) (c .before .before .before .before .emit-enum-word .ensures)
-
-emit-base-same-length-4 : (t : ℕ) → emit-base-lts.Need-same-length-4 (emit-base-claims t) (emit-base-at t) emit-base.Post
-emit-base-same-length-4 t c = search needs
-
-emit-base-same-length-5 : (t : ℕ) → emit-base-lts.Need-same-length-5 (emit-base-claims t) (emit-base-at t) emit-base.Post
-emit-base-same-length-5 t c = search needs
-
-emit-base-returns-3 : (t : ℕ) → emit-base-lts.Need-returns-3 (emit-base-claims t) (emit-base-at t) emit-base.Post
-emit-base-returns-3 t c = entries.word-fwd _ _ _ _ _ _ _ _ (c .before .before .before .before .before .before .before .before .before .kind-of .ensures) _ _ _ _ _ _ _ (c .before .before .before .before .before .before .before .before .match .keys3) (c .before .before .before .before .before .kind-flag-of .ensures) (c .before .before .before .before .emit-fwd-def .ensures)
-
-emit-base-same-length-6 : (t : ℕ) → emit-base-lts.Need-same-length-6 (emit-base-claims t) (emit-base-at t) emit-base.Post
-emit-base-same-length-6 t c = search needs
-
-emit-base-same-length-7 : (t : ℕ) → emit-base-lts.Need-same-length-7 (emit-base-claims t) (emit-base-at t) emit-base.Post
-emit-base-same-length-7 t c = search needs
-
-emit-base-returns-4 : (t : ℕ) → emit-base-lts.Need-returns-4 (emit-base-claims t) (emit-base-at t) emit-base.Post
-emit-base-returns-4 t c = entries.word-typedef _ _ _ _ _ _ _ _ (c .before .before .before .before .before .before .before .before .kind-of .ensures) _ _ _ _ _ _ (c .before .before .before .before .before .before .before .match .keys4) (c .before .before .before .before .put-typedef-name .ensures)
-
-emit-base-same-length-8 : (t : ℕ) → emit-base-lts.Need-same-length-8 (emit-base-claims t) (emit-base-at t) emit-base.Post
-emit-base-same-length-8 t c = search needs
-
-emit-base-same-length-9 : (t : ℕ) → emit-base-lts.Need-same-length-9 (emit-base-claims t) (emit-base-at t) emit-base.Post
-emit-base-same-length-9 t c = search needs
-
-emit-base-returns-5 : (t : ℕ) → emit-base-lts.Need-returns-5 (emit-base-claims t) (emit-base-at t) emit-base.Post
-emit-base-returns-5 t c = entries.word-enum64 _ _ _ _ _ _ _ _ (c .before .before .before .before .before .before .before .before .kind-of .ensures) _ _ _ _ _ _ (c .before .before .before .before .before .before .before .match .keys5) (c .before .before .before .before .emit-enum64-word .ensures)
-
-emit-base-same-length-10 : (t : ℕ) → emit-base-lts.Need-same-length-10 (emit-base-claims t) (emit-base-at t) emit-base.Post
-emit-base-same-length-10 t c = search needs
-
-emit-base-same-length-11 : (t : ℕ) → emit-base-lts.Need-same-length-11 (emit-base-claims t) (emit-base-at t) emit-base.Post
-emit-base-same-length-11 t c = search needs
-
-emit-base-returns-6 : (t : ℕ) → emit-base-lts.Need-returns-6 (emit-base-claims t) (emit-base-at t) emit-base.Post
-emit-base-returns-6 t c = entries.word-composite _ _ _ _ _ _ _ _ (c .before .before .before .before .before .before .before .before .before .before .before .kind-of .ensures) _ _ _ _ _ _ (c .before .before .before .before .before .before .before .before .before .if1 .left) (c .before .before .before .before .before .before .before .before .if2 .left) (c .before .before .before .before .before .before .before .if3 .taken) (c .before .before .before .before .emit-composite-word .ensures)
-
-emit-base-returns-7 : (t : ℕ) → emit-base-lts.Need-returns-7 (emit-base-claims t) (emit-base-at t) emit-base.Post
-emit-base-returns-7 t c = entries.word-low _ _ _ _ _ _ _ _ (c .before .before .before .kind-of .ensures) _ _ _ (c .before .if1 .left) (c .if2 .taken) (c .before .before .match .rest .0 .0 .0 .0 .1)
-
-emit-base-returns-8 : (t : ℕ) → emit-base-lts.Need-returns-8 (emit-base-claims t) (emit-base-at t) emit-base.Post
-emit-base-returns-8 t c = entries.word-mid _ _ _ _ _ _ _ _ (c .before .before .before .before .before .kind-of .ensures) _ _ _ (c .before .if3 .left) (c .if4 .taken) (c .before .before .before .before .match .rest .0 .0 .0 .0 .1) (c .before .before .before .before .match .rest .0 .0 .0 .1) (c .before .before .before .before .match .rest .0 .0 .1) (c .before .before .before .before .match .rest .0 .1)
-
-emit-base-same-length-12 : (t : ℕ) → emit-base-lts.Need-same-length-12 (emit-base-claims t) (emit-base-at t) emit-base.Post
-emit-base-same-length-12 t c = search needs
-
-emit-base-returns-9 : (t : ℕ) → emit-base-lts.Need-returns-9 (emit-base-claims t) (emit-base-at t) emit-base.Post
-emit-base-returns-9 t c = entries.word-void _ _ _ _ _ _ _ _ (c .before .before .before .before .before .before .kind-of .ensures) _ _ _ _ _ (c .before .before .before .before .before .match .rest .1) (⊎-elim (λ x. inl (x .taken)) (λ x. inr (x .3 .left)) (c .before .before .before .before .if1 .came)) (c .before .before .put-void .ensures)
 
 emit-composite-def-stop-requires : (t : ℕ) → emit-composite-def-lts.Need-stop-requires (emit-composite-def-claims t) (emit-composite-def-at t) emit-composite-def.Post
 emit-composite-def-stop-requires t c κs = tt
@@ -858,12 +718,6 @@ emit-entry-type-by-id-requires t c κs = tt
 emit-entry-kind-of-requires : (t : ℕ) → emit-entry-lts.Need-kind-of-requires (emit-entry-claims t) (emit-entry-at t) emit-entry.Post
 emit-entry-kind-of-requires t c κs = tt
 
-emit-entry-put-star-requires : (t : ℕ) → emit-entry-lts.Need-put-star-requires (emit-entry-claims t) (emit-entry-at t) emit-entry.Post
-emit-entry-put-star-requires t c κs = tt
-
-emit-entry-goes-on-requires : (t : ℕ) → emit-entry-lts.Need-goes-on-requires (emit-entry-claims t) (emit-entry-at t) emit-entry.Post
-emit-entry-goes-on-requires t c κs = tt
-
 emit-entry-array-nelems-requires : (t : ℕ) → emit-entry-lts.Need-array-nelems-requires (emit-entry-claims t) (emit-entry-at t) emit-entry.Post
 emit-entry-array-nelems-requires t c κs = tt
 
@@ -891,35 +745,14 @@ emit-entry-skip-mods-requires-2 t c κs = tt
 emit-entry-emit-mods-requires : (t : ℕ) → emit-entry-lts.Need-emit-mods-requires (emit-entry-claims t) (emit-entry-at t) emit-entry.Post
 emit-entry-emit-mods-requires t c κs = tt
 
-emit-entry-put-type-tag-requires : (t : ℕ) → emit-entry-lts.Need-put-type-tag-requires (emit-entry-claims t) (emit-entry-at t) emit-entry.Post
-emit-entry-put-type-tag-requires t c κs = tt
+emit-entry-emit-composite-word-requires : (t : ℕ) → emit-entry-lts.Need-emit-composite-word-requires (emit-entry-claims t) (emit-entry-at t) emit-entry.Post
+emit-entry-emit-composite-word-requires t c κs = (omega (arith, c .before .before .before .before .before .before .before .before .before .before .before .before .before .before .before .before .before .before .before .before .before .pre .0), tt)
 
-emit-entry-goes-on-requires-2 : (t : ℕ) → emit-entry-lts.Need-goes-on-requires-2 (emit-entry-claims t) (emit-entry-at t) emit-entry.Post
-emit-entry-goes-on-requires-2 t c κs = tt
+emit-entry-goes-on-requires : (t : ℕ) → emit-entry-lts.Need-goes-on-requires (emit-entry-claims t) (emit-entry-at t) emit-entry.Post
+emit-entry-goes-on-requires t c κs = tt
 
-emit-entry-put-byte-requires : (t : ℕ) → emit-entry-lts.Need-put-byte-requires (emit-entry-claims t) (emit-entry-at t) emit-entry.Post
-emit-entry-put-byte-requires t c κs = tt
-
-emit-entry-kind-of-requires-2 : (t : ℕ) → emit-entry-lts.Need-kind-of-requires-2 (emit-entry-claims t) (emit-entry-at t) emit-entry.Post
-emit-entry-kind-of-requires-2 t c κs = tt
-
-emit-entry-put-qualifier-requires : (t : ℕ) → emit-entry-lts.Need-put-qualifier-requires (emit-entry-claims t) (emit-entry-at t) emit-entry.Post
-emit-entry-put-qualifier-requires t c κs = tt
-
-emit-entry-goes-on-requires-3 : (t : ℕ) → emit-entry-lts.Need-goes-on-requires-3 (emit-entry-claims t) (emit-entry-at t) emit-entry.Post
-emit-entry-goes-on-requires-3 t c κs = tt
-
-emit-entry-skip-mods-requires-3 : (t : ℕ) → emit-entry-lts.Need-skip-mods-requires-3 (emit-entry-claims t) (emit-entry-at t) emit-entry.Post
-emit-entry-skip-mods-requires-3 t c κs = tt
-
-emit-entry-emit-mods-requires-2 : (t : ℕ) → emit-entry-lts.Need-emit-mods-requires-2 (emit-entry-claims t) (emit-entry-at t) emit-entry.Post
-emit-entry-emit-mods-requires-2 t c κs = tt
-
-emit-entry-emit-base-requires : (t : ℕ) → emit-entry-lts.Need-emit-base-requires (emit-entry-claims t) (emit-entry-at t) emit-entry.Post
-emit-entry-emit-base-requires t c κs = (omega (arith, c .before .before .before .before .before .before .before .before .before .before .before .before .before .before .before .before .before .before .before .before .pre .0), tt)
-
-emit-entry-goes-on-requires-4 : (t : ℕ) → emit-entry-lts.Need-goes-on-requires-4 (emit-entry-claims t) (emit-entry-at t) emit-entry.Post
-emit-entry-goes-on-requires-4 t c κs = tt
+emit-entry-emit-plain-requires : (t : ℕ) → emit-entry-lts.Need-emit-plain-requires (emit-entry-claims t) (emit-entry-at t) emit-entry.Post
+emit-entry-emit-plain-requires t c κs = tt
 
 emit-entry-same-length : (t : ℕ) → emit-entry-lts.Need-same-length (emit-entry-claims t) (emit-entry-at t) emit-entry.Post
 emit-entry-same-length t c = search needs
@@ -928,7 +761,7 @@ emit-entry-same-length-2 : (t : ℕ) → emit-entry-lts.Need-same-length-2 (emit
 emit-entry-same-length-2 t c = search needs
 
 emit-entry-returns : (t : ℕ) → emit-entry-lts.Need-returns (emit-entry-claims t) (emit-entry-at t) emit-entry.Post
-emit-entry-returns t c = entries.arm-star _ _ _ _ _ _ (c .before .before .before .before .before .before .before .before .before .before .before .before .before .before .before .args .c) _ _ (c .before .before .before .before .before .before .before .before .before .before .before .before .before .before .before .pre .1) _ (c .before .before .before .before .before .before .before .before .before .path-at .ensures) _ (c .before .before .before .before .before .before .before .type-by-id .ensures) _ (c .before .before .before .before .before .before .kind-of .ensures) _ _ _ (c .before .before .before .before .before .match .keys1) (c .before .before .before .put-star .ensures) (c .goes-on .ensures)
+emit-entry-returns t c = entries.arm-array _ _ _ _ _ _ (c .before .before .before .before .before .before .before .before .before .before .before .before .before .before .before .before .before .before .before .before .before .before .before .before .before .args .c) _ _ (c .before .before .before .before .before .before .before .before .before .before .before .before .before .before .before .before .before .before .before .before .before .before .before .before .before .pre .1) _ (c .before .before .before .before .before .before .before .before .before .before .before .before .before .before .before .before .before .before .before .path-at .ensures) _ (c .before .before .before .before .before .before .before .before .before .before .before .before .before .before .before .before .before .type-by-id .ensures) _ (c .before .before .before .before .before .before .before .before .before .before .before .before .before .before .before .before .kind-of .ensures) _ _ _ _ _ _ _ _ (c .before .before .before .before .before .before .before .before .before .before .before .before .before .before .before .match .keys1) (c .before .before .before .before .before .before .before .before .before .before .before .before .before .before .array-nelems .ensures) (c .before .before .before .before .before .before .before .before .before .before .before .before .skip-mods .ensures .0) (c .before .before .before .before .before .before .before .before .before .emit-array .ensures) (c .before .before .before .put-count .ensures) (c .named .ensures)
 
 emit-entry-same-length-3 : (t : ℕ) → emit-entry-lts.Need-same-length-3 (emit-entry-claims t) (emit-entry-at t) emit-entry.Post
 emit-entry-same-length-3 t c = search needs
@@ -937,7 +770,7 @@ emit-entry-same-length-4 : (t : ℕ) → emit-entry-lts.Need-same-length-4 (emit
 emit-entry-same-length-4 t c = search needs
 
 emit-entry-returns-2 : (t : ℕ) → emit-entry-lts.Need-returns-2 (emit-entry-claims t) (emit-entry-at t) emit-entry.Post
-emit-entry-returns-2 t c = entries.arm-array _ _ _ _ _ _ (c .before .before .before .before .before .before .before .before .before .before .before .before .before .before .before .before .before .before .before .before .before .before .before .before .before .args .c) _ _ (c .before .before .before .before .before .before .before .before .before .before .before .before .before .before .before .before .before .before .before .before .before .before .before .before .before .pre .1) _ (c .before .before .before .before .before .before .before .before .before .before .before .before .before .before .before .before .before .before .before .path-at .ensures) _ (c .before .before .before .before .before .before .before .before .before .before .before .before .before .before .before .before .before .type-by-id .ensures) _ (c .before .before .before .before .before .before .before .before .before .before .before .before .before .before .before .before .kind-of .ensures) _ _ _ _ _ _ _ _ (c .before .before .before .before .before .before .before .before .before .before .before .before .before .before .before .match .keys2) (c .before .before .before .before .before .before .before .before .before .before .before .before .before .before .array-nelems .ensures) (c .before .before .before .before .before .before .before .before .before .before .before .before .skip-mods .ensures .0) (c .before .before .before .before .before .before .before .before .before .emit-array .ensures) (c .before .before .before .put-count .ensures) (c .named .ensures)
+emit-entry-returns-2 t c = entries.arm-proto _ _ _ _ _ _ (c .before .before .before .before .before .before .before .before .before .before .before .before .before .before .before .before .before .before .args .c) _ _ (c .before .before .before .before .before .before .before .before .before .before .before .before .before .before .before .before .before .before .pre .1) _ (c .before .before .before .before .before .before .before .before .before .before .before .before .path-at .ensures) _ (c .before .before .before .before .before .before .before .before .before .before .type-by-id .ensures) _ (c .before .before .before .before .before .before .before .before .before .kind-of .ensures) _ _ _ _ (c .before .before .before .before .before .before .before .before .match .keys2) (c .before .before .before .before .before .emit-function .ensures) (c .named2 .ensures)
 
 emit-entry-same-length-5 : (t : ℕ) → emit-entry-lts.Need-same-length-5 (emit-entry-claims t) (emit-entry-at t) emit-entry.Post
 emit-entry-same-length-5 t c = search needs
@@ -946,7 +779,7 @@ emit-entry-same-length-6 : (t : ℕ) → emit-entry-lts.Need-same-length-6 (emit
 emit-entry-same-length-6 t c = search needs
 
 emit-entry-returns-3 : (t : ℕ) → emit-entry-lts.Need-returns-3 (emit-entry-claims t) (emit-entry-at t) emit-entry.Post
-emit-entry-returns-3 t c = entries.arm-proto _ _ _ _ _ _ (c .before .before .before .before .before .before .before .before .before .before .before .before .before .before .before .before .before .before .args .c) _ _ (c .before .before .before .before .before .before .before .before .before .before .before .before .before .before .before .before .before .before .pre .1) _ (c .before .before .before .before .before .before .before .before .before .before .before .before .path-at .ensures) _ (c .before .before .before .before .before .before .before .before .before .before .type-by-id .ensures) _ (c .before .before .before .before .before .before .before .before .before .kind-of .ensures) _ _ _ _ (c .before .before .before .before .before .before .before .before .match .keys3) (c .before .before .before .before .before .emit-function .ensures) (c .named2 .ensures)
+emit-entry-returns-3 t c = entries.arm-composite _ _ _ _ _ _ (c .before .before .before .before .before .before .before .before .before .before .before .before .before .before .before .before .before .before .before .before .before .before .before .before .before .before .before .args .c) _ _ (c .before .before .before .before .before .before .before .before .before .before .before .before .before .before .before .before .before .before .before .before .before .before .before .before .before .before .before .pre .1) _ (c .before .before .before .before .before .before .before .before .before .before .before .before .before .before .before .before .before .before .before .before .before .path-at .ensures) _ (c .before .before .before .before .before .before .before .before .before .before .before .before .before .before .before .before .before .before .before .type-by-id .ensures) _ (c .before .before .before .before .before .before .before .before .before .before .before .before .before .before .before .before .before .before .kind-of .ensures) _ _ _ _ _ _ _ (c .before .before .before .before .before .before .before .before .before .before .before .before .before .before .before .before .before .match .rest .0 .1) (c .before .before .before .before .before .before .before .before .before .before .before .before .before .before .before .before .if1 .left) (c .before .before .before .before .before .before .before .before .before .before .before .before .before .before .before .if2 .taken) (c .before .before .before .before .before .before .before .before .before .before .before .before .before .skip-mods2 .ensures .0) (c .before .before .before .before .before .before .before .before .before .before .before .before .before .skip-mods2 .ensures .1) (c .before .before .before .before .before .before .before .before .before .before .emit-mods .ensures) (c .before .before .before .before .before .emit-composite-word .ensures) (c .goes-on .ensures)
 
 emit-entry-same-length-7 : (t : ℕ) → emit-entry-lts.Need-same-length-7 (emit-entry-claims t) (emit-entry-at t) emit-entry.Post
 emit-entry-same-length-7 t c = search needs
@@ -955,25 +788,7 @@ emit-entry-same-length-8 : (t : ℕ) → emit-entry-lts.Need-same-length-8 (emit
 emit-entry-same-length-8 t c = search needs
 
 emit-entry-returns-4 : (t : ℕ) → emit-entry-lts.Need-returns-4 (emit-entry-claims t) (emit-entry-at t) emit-entry.Post
-emit-entry-returns-4 t c = entries.arm-tag _ _ _ _ _ _ (c .before .before .before .before .before .before .before .before .before .before .before .before .before .before .before .before .before .before .before .before .before .before .args .c) _ _ (c .before .before .before .before .before .before .before .before .before .before .before .before .before .before .before .before .before .before .before .before .before .before .pre .1) _ (c .before .before .before .before .before .before .before .before .before .before .before .before .before .before .before .before .path-at .ensures) _ (c .before .before .before .before .before .before .before .before .before .before .before .before .before .before .type-by-id .ensures) _ (c .before .before .before .before .before .before .before .before .before .before .before .before .before .kind-of .ensures) _ _ _ _ _ _ (c .before .before .before .before .before .before .before .before .before .before .before .before .match .keys4) (c .before .before .before .before .before .before .before .before .before .before .skip-mods2 .ensures .0) (c .before .before .before .before .before .before .before .before .before .before .skip-mods2 .ensures .1) (c .before .before .before .before .before .before .before .emit-mods .ensures) (c .before .before .before .put-type-tag .ensures) (c .goes-on2 .ensures)
-
-emit-entry-same-length-9 : (t : ℕ) → emit-entry-lts.Need-same-length-9 (emit-entry-claims t) (emit-entry-at t) emit-entry.Post
-emit-entry-same-length-9 t c = search needs
-
-emit-entry-same-length-10 : (t : ℕ) → emit-entry-lts.Need-same-length-10 (emit-entry-claims t) (emit-entry-at t) emit-entry.Post
-emit-entry-same-length-10 t c = search needs
-
-emit-entry-returns-5 : (t : ℕ) → emit-entry-lts.Need-returns-5 (emit-entry-claims t) (emit-entry-at t) emit-entry.Post
-emit-entry-returns-5 t c = entries.arm-qual _ _ _ _ _ _ (c .before .before .before .before .before .before .before .before .before .before .before .before .before .before .before .before .before .before .before .before .before .before .args .c) _ _ (c .before .before .before .before .before .before .before .before .before .before .before .before .before .before .before .before .before .before .before .before .before .before .pre .1) _ (c .before .before .before .before .before .before .before .before .before .before .before .before .before .before .before .before .path-at .ensures) _ (c .before .before .before .before .before .before .before .before .before .before .before .before .before .before .type-by-id .ensures) _ (c .before .before .before .before .before .before .before .before .before .before .before .before .before .kind-of .ensures) _ _ _ _ _ _ (c .before .before .before .before .before .before .before .before .before .before .before .if1 .left) (c .before .before .before .before .before .before .before .before .before .before .if2 .taken) (c .before .before .before .before .kind-of2 .ensures) (c .before .before .before .before .before .before .before .before .put-byte .ensures) (c .before .before .before .put-qualifier .ensures) (c .goes-on3 .ensures)
-
-emit-entry-same-length-11 : (t : ℕ) → emit-entry-lts.Need-same-length-11 (emit-entry-claims t) (emit-entry-at t) emit-entry.Post
-emit-entry-same-length-11 t c = search needs
-
-emit-entry-same-length-12 : (t : ℕ) → emit-entry-lts.Need-same-length-12 (emit-entry-claims t) (emit-entry-at t) emit-entry.Post
-emit-entry-same-length-12 t c = search needs
-
-emit-entry-returns-6 : (t : ℕ) → emit-entry-lts.Need-returns-6 (emit-entry-claims t) (emit-entry-at t) emit-entry.Post
-emit-entry-returns-6 t c = entries.arm-base _ _ _ _ _ _ (c .before .before .before .before .before .before .before .before .before .before .before .before .before .before .before .before .before .before .before .before .before .before .before .before .before .before .args .c) _ _ (c .before .before .before .before .before .before .before .before .before .before .before .before .before .before .before .before .before .before .before .before .before .before .before .before .before .before .pre .1) _ (c .before .before .before .before .before .before .before .before .before .before .before .before .before .before .before .before .before .before .before .before .path-at .ensures) _ (c .before .before .before .before .before .before .before .before .before .before .before .before .before .before .before .before .before .before .type-by-id .ensures) _ (c .before .before .before .before .before .before .before .before .before .before .before .before .before .before .before .before .before .kind-of .ensures) _ _ _ _ _ _ _ (entries.no-link _ (c .before .before .before .before .before .before .before .before .before .before .before .before .before .before .before .before .match .rest .0 .0 .0 .1) (c .before .before .before .before .before .before .before .before .before .before .before .before .before .before .before .before .match .rest .0 .0 .1) (c .before .before .before .before .before .before .before .before .before .before .before .before .before .before .before .before .match .rest .0 .1) (c .before .before .before .before .before .before .before .before .before .before .before .before .before .before .before .before .match .rest .1) (⊎-elim (λ x. inl (x .taken)) (λ x. inr (x .1 .left)) (c .before .before .before .before .before .before .before .before .before .before .before .before .before .before .before .if1 .came))) (c .before .before .before .before .before .before .before .before .before .before .before .before .before .skip-mods3 .ensures .0) (c .before .before .before .before .before .before .before .before .before .before .before .before .before .skip-mods3 .ensures .1) (c .before .before .before .before .before .before .before .before .before .before .emit-mods2 .ensures) (c .before .before .before .before .before .emit-base .ensures) (c .goes-on4 .ensures)
+emit-entry-returns-4 t c = entries.arm-plain _ _ _ _ _ _ (c .before .before .before .before .before .before .before .before .before .before .before .before .before .before .before .before .before .before .args .c) _ _ (c .before .before .before .before .before .before .before .before .before .before .before .before .before .before .before .before .before .before .pre .1) _ (c .before .before .before .before .before .before .before .before .before .before .before .before .path-at .ensures) _ (c .before .before .before .before .before .before .before .before .before .before .type-by-id .ensures) _ (c .before .before .before .before .before .before .before .before .before .kind-of .ensures) _ _ _ (c .before .before .before .before .before .before .before .before .match .rest .0 .1) (c .before .before .before .before .before .before .before .before .match .rest .1) (⊎-elim (λ x. inl (x .taken)) (λ x. inr (x .1 .left)) (c .before .before .before .before .before .before .before .if1 .came)) (c .before .before .before .before .emit-plain .ensures)
 
 emit-function-sub-n : (t : ℕ) → emit-function-lts.Need-sub-n (emit-function-claims t) (emit-function-at t) emit-function.Post
 emit-function-sub-n t c = omega arith
@@ -1324,12 +1139,11 @@ emit-type-decl-same-length-6 t c = search needs
 emit-type-decl-returns-4 : (t : ℕ) → emit-type-decl-lts.Need-returns-4 (emit-type-decl-claims t) (emit-type-decl-at t) emit-type-decl.Post
 emit-type-decl-returns-4 t c = chains.decl-no _ _ _ _ _ _ _ _ _ _ (c .before .before .before .before .before .before .before .before .before .before .if1 .left) _ (c .before .before .before .before .before .chain-len .ensures) _ (c .before .before .before .c .given .1) (c .stop2 .ensures)
 
-pub +emit-array+emit-base+emit-composite-def+emit-composite-word+emit-entry+emit-function+emit-member+emit-members+emit-param+emit-params+emit-proto+emit-type-chain+emit-type-decl-spec :
+pub +emit-array+emit-composite-def+emit-composite-word+emit-entry+emit-function+emit-member+emit-members+emit-param+emit-params+emit-proto+emit-type-chain+emit-type-decl-spec :
     {M : Type 1} → statement M
-+emit-array+emit-base+emit-composite-def+emit-composite-word+emit-entry+emit-function+emit-member+emit-members+emit-param+emit-params+emit-proto+emit-type-chain+emit-type-decl-spec =
++emit-array+emit-composite-def+emit-composite-word+emit-entry+emit-function+emit-member+emit-members+emit-param+emit-params+emit-proto+emit-type-chain+emit-type-decl-spec =
     close
     μ-emit-array
-    μ-emit-base
     μ-emit-composite-def
     μ-emit-composite-word
     μ-emit-entry
@@ -1372,58 +1186,6 @@ pub +emit-array+emit-base+emit-composite-def+emit-composite-word+emit-entry+emit
     (emit-array-same-length-4 t)
     (emit-array-same-length-5 t)
     (emit-array-returns-3 t))
-    (λ t. emit-base-lts.spec (
-      kind-of-reads.Asked,
-      kind-of-reads.Learnt,
-      put-str-reads.Asked,
-      put-str-reads.Learnt,
-      emit-enum-word-reads.Asked,
-      emit-enum-word-reads.Learnt,
-      kind-flag-of-reads.Asked,
-      kind-flag-of-reads.Learnt,
-      emit-fwd-def-reads.Asked,
-      emit-fwd-def-reads.Learnt,
-      put-typedef-name-reads.Asked,
-      put-typedef-name-reads.Learnt,
-      emit-enum64-word-reads.Asked,
-      emit-enum64-word-reads.Learnt,
-      emit-composite-word-below t,
-      emit-composite-word.Post,
-      put-void-reads.Asked,
-      put-void-reads.Learnt,
-    )
-    (emit-base-at t)
-    emit-base.Post
-    (emit-base-kind-of-requires t)
-    (emit-base-put-str-requires t)
-    (emit-base-emit-enum-word-requires t)
-    (emit-base-kind-flag-of-requires t)
-    (emit-base-emit-fwd-def-requires t)
-    (emit-base-put-typedef-name-requires t)
-    (emit-base-emit-enum64-word-requires t)
-    (emit-base-emit-composite-word-requires t)
-    (emit-base-put-void-requires t)
-    (emit-base-same-length t)
-    (emit-base-returns t)
-    (emit-base-same-length-2 t)
-    (emit-base-same-length-3 t)
-    (emit-base-returns-2 t)
-    (emit-base-same-length-4 t)
-    (emit-base-same-length-5 t)
-    (emit-base-returns-3 t)
-    (emit-base-same-length-6 t)
-    (emit-base-same-length-7 t)
-    (emit-base-returns-4 t)
-    (emit-base-same-length-8 t)
-    (emit-base-same-length-9 t)
-    (emit-base-returns-5 t)
-    (emit-base-same-length-10 t)
-    (emit-base-same-length-11 t)
-    (emit-base-returns-6 t)
-    (emit-base-returns-7 t)
-    (emit-base-returns-8 t)
-    (emit-base-same-length-12 t)
-    (emit-base-returns-9 t))
     (λ t. emit-composite-def-lts.spec (
       stop-reads.Asked,
       stop-reads.Learnt,
@@ -1497,10 +1259,6 @@ pub +emit-array+emit-base+emit-composite-def+emit-composite-word+emit-entry+emit
       type-by-id-reads.Learnt,
       kind-of-reads.Asked,
       kind-of-reads.Learnt,
-      put-star-reads.Asked,
-      put-star-reads.Learnt,
-      goes-on-reads.Asked,
-      goes-on-reads.Learnt,
       array-nelems-reads.Asked,
       array-nelems-reads.Learnt,
       skip-mods-reads.Asked,
@@ -1515,14 +1273,12 @@ pub +emit-array+emit-base+emit-composite-def+emit-composite-word+emit-entry+emit
       emit-function.Post,
       emit-mods-reads.Asked,
       emit-mods-reads.Learnt,
-      put-type-tag-reads.Asked,
-      put-type-tag-reads.Learnt,
-      put-byte-reads.Asked,
-      put-byte-reads.Learnt,
-      put-qualifier-reads.Asked,
-      put-qualifier-reads.Learnt,
-      emit-base-below t,
-      emit-base.Post,
+      emit-composite-word-below t,
+      emit-composite-word.Post,
+      goes-on-reads.Asked,
+      goes-on-reads.Learnt,
+      emit-plain-reads.Asked,
+      emit-plain-reads.Learnt,
     )
     (emit-entry-at t)
     emit-entry.Post
@@ -1530,8 +1286,6 @@ pub +emit-array+emit-base+emit-composite-def+emit-composite-word+emit-entry+emit
     (emit-entry-path-at-requires t)
     (emit-entry-type-by-id-requires t)
     (emit-entry-kind-of-requires t)
-    (emit-entry-put-star-requires t)
-    (emit-entry-goes-on-requires t)
     (emit-entry-array-nelems-requires t)
     (emit-entry-skip-mods-requires t)
     (emit-entry-emit-array-requires t)
@@ -1541,16 +1295,9 @@ pub +emit-array+emit-base+emit-composite-def+emit-composite-word+emit-entry+emit
     (emit-entry-named-requires-2 t)
     (emit-entry-skip-mods-requires-2 t)
     (emit-entry-emit-mods-requires t)
-    (emit-entry-put-type-tag-requires t)
-    (emit-entry-goes-on-requires-2 t)
-    (emit-entry-put-byte-requires t)
-    (emit-entry-kind-of-requires-2 t)
-    (emit-entry-put-qualifier-requires t)
-    (emit-entry-goes-on-requires-3 t)
-    (emit-entry-skip-mods-requires-3 t)
-    (emit-entry-emit-mods-requires-2 t)
-    (emit-entry-emit-base-requires t)
-    (emit-entry-goes-on-requires-4 t)
+    (emit-entry-emit-composite-word-requires t)
+    (emit-entry-goes-on-requires t)
+    (emit-entry-emit-plain-requires t)
     (emit-entry-same-length t)
     (emit-entry-same-length-2 t)
     (emit-entry-returns t)
@@ -1562,13 +1309,7 @@ pub +emit-array+emit-base+emit-composite-def+emit-composite-word+emit-entry+emit
     (emit-entry-returns-3 t)
     (emit-entry-same-length-7 t)
     (emit-entry-same-length-8 t)
-    (emit-entry-returns-4 t)
-    (emit-entry-same-length-9 t)
-    (emit-entry-same-length-10 t)
-    (emit-entry-returns-5 t)
-    (emit-entry-same-length-11 t)
-    (emit-entry-same-length-12 t)
-    (emit-entry-returns-6 t))
+    (emit-entry-returns-4 t))
     (λ t. emit-function-lts.spec (
       skip-mods-reads.Asked,
       skip-mods-reads.Learnt,

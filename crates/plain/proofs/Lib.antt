@@ -1,0 +1,2 @@
+-- PlainLaws: what each return of the functions comes to.
+pub mod PlainLaws
