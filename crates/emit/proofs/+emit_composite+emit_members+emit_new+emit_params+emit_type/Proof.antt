@@ -3,6 +3,7 @@ use mathlib.Core.Path.{_≡_, refl, sym, _∙_}
 use lib.ListN.{length}
 use Prim.Native.Nat.{ℕ, zero-le, _<_, _≤_, _+_, _-_, _*_}
 use Rattle.marks.proofs.Laws.{entry-word}
+use Rattle.emit.proofs.Measures as measures
 use Rattle.sheet.proofs.Laws as laws
 use borrow.Author.Needs.{needs}
 use native.Mathlib.Omega.{arith}
@@ -205,7 +206,7 @@ emit-composite-inner-requires : (t : ℕ) → emit-composite-lts.Need-inner-requ
 emit-composite-inner-requires t c κs = tt
 
 emit-composite-emit-members-requires : (t : ℕ) → emit-composite-lts.Need-emit-members-requires (emit-composite-claims t) (emit-composite-at t) emit-composite.Post
-emit-composite-emit-members-requires t c κs = (omega arith, tt)
+emit-composite-emit-members-requires t c κs = (measures.to-composite-members (c .before .before .before .before .before .before .before .before .before .before .before .before .args .left) t (c .before .before .before .before .before .before .before .before .before .before .before .before .pre .0), tt)
 
 emit-composite-end-composite-requires : (t : ℕ) → emit-composite-lts.Need-end-composite-requires (emit-composite-claims t) (emit-composite-at t) emit-composite.Post
 emit-composite-end-composite-requires t c κs = tt
@@ -238,7 +239,7 @@ emit-members-word-requires : (t : ℕ) → emit-members-lts.Need-word-requires (
 emit-members-word-requires t c κs = tt
 
 emit-members-emit-type-requires : (t : ℕ) → emit-members-lts.Need-emit-type-requires (emit-members-claims t) (emit-members-at t) emit-members.Post emit-members-Inv-loop emit-members-μ-loop
-emit-members-emit-type-requires t c κs = (omega arith, tt)
+emit-members-emit-type-requires t c κs = (measures.to-loop-type (c .before .before .before .before .before .before .before .before .before .args .left) t (c .before .before .before .before .before .before .before .before .before .pre .0), tt)
 
 emit-members-add-k : (t : ℕ) → emit-members-lts.Need-add-k (emit-members-claims t) (emit-members-at t) emit-members.Post emit-members-Inv-loop emit-members-μ-loop
 emit-members-add-k t c = omega arith
@@ -277,13 +278,13 @@ emit-new-enum-known-next : (t : ℕ) → emit-new-lts.Need-enum-known-next (emit
 emit-new-enum-known-next t c = search needs
 
 emit-new-emit-type-requires : (t : ℕ) → emit-new-lts.Need-emit-type-requires (emit-new-claims t) (emit-new-at t) emit-new.Post
-emit-new-emit-type-requires t c κs = (omega arith, tt)
+emit-new-emit-type-requires t c κs = (measures.to-new-type (c .before .before .before .before .before .before .before .before .before .args .left) t (c .before .before .before .before .before .before .before .before .before .pre .0), tt)
 
 emit-new-enum-known-next-2 : (t : ℕ) → emit-new-lts.Need-enum-known-next-2 (emit-new-claims t) (emit-new-at t) emit-new.Post
 emit-new-enum-known-next-2 t c = search needs
 
 emit-new-emit-type-requires-2 : (t : ℕ) → emit-new-lts.Need-emit-type-requires-2 (emit-new-claims t) (emit-new-at t) emit-new.Post
-emit-new-emit-type-requires-2 t c κs = (omega arith, tt)
+emit-new-emit-type-requires-2 t c κs = (measures.to-new-type (c .before .before .before .before .before .before .before .before .before .args .left) t (c .before .before .before .before .before .before .before .before .before .pre .0), tt)
 
 emit-new-enum-known-next-3 : (t : ℕ) → emit-new-lts.Need-enum-known-next-3 (emit-new-claims t) (emit-new-at t) emit-new.Post
 emit-new-enum-known-next-3 t c = search needs
@@ -292,7 +293,7 @@ emit-new-set-emit-state-requires : (t : ℕ) → emit-new-lts.Need-set-emit-stat
 emit-new-set-emit-state-requires t c κs = tt
 
 emit-new-emit-type-requires-3 : (t : ℕ) → emit-new-lts.Need-emit-type-requires-3 (emit-new-claims t) (emit-new-at t) emit-new.Post
-emit-new-emit-type-requires-3 t c κs = (omega arith, tt)
+emit-new-emit-type-requires-3 t c κs = (measures.to-new-type (c .before .before .before .before .before .before .before .before .before .before .before .before .before .args .left) t (c .before .before .before .before .before .before .before .before .before .before .before .before .before .pre .0), tt)
 
 emit-new-end-typedef-requires : (t : ℕ) → emit-new-lts.Need-end-typedef-requires (emit-new-claims t) (emit-new-at t) emit-new.Post
 emit-new-end-typedef-requires t c κs = tt
@@ -301,16 +302,16 @@ emit-new-enum-known-res : (t : ℕ) → emit-new-lts.Need-enum-known-res (emit-n
 emit-new-enum-known-res t c = search needs
 
 emit-new-emit-type-requires-4 : (t : ℕ) → emit-new-lts.Need-emit-type-requires-4 (emit-new-claims t) (emit-new-at t) emit-new.Post
-emit-new-emit-type-requires-4 t c κs = (omega arith, tt)
+emit-new-emit-type-requires-4 t c κs = (measures.to-new-type (c .before .before .before .before .before .before .before .before .before .args .left) t (c .before .before .before .before .before .before .before .before .before .pre .0), tt)
 
 emit-new-emit-params-requires : (t : ℕ) → emit-new-lts.Need-emit-params-requires (emit-new-claims t) (emit-new-at t) emit-new.Post
-emit-new-emit-params-requires t c κs = (omega arith, tt)
+emit-new-emit-params-requires t c κs = (measures.to-new-params (c .before .before .before .before .before .before .before .before .before .before .before .before .before .before .before .before .args .left) t (c .before .before .before .before .before .before .before .before .before .before .before .before .before .before .before .before .pre .0), tt)
 
 emit-new-enum-known-members : (t : ℕ) → emit-new-lts.Need-enum-known-members (emit-new-claims t) (emit-new-at t) emit-new.Post
 emit-new-enum-known-members t c = search needs
 
 emit-new-emit-composite-requires : (t : ℕ) → emit-new-lts.Need-emit-composite-requires (emit-new-claims t) (emit-new-at t) emit-new.Post
-emit-new-emit-composite-requires t c κs = (omega arith, c .before .before .before .before .before .before .before .before .before .pre .1)
+emit-new-emit-composite-requires t c κs = (measures.to-new-composite (c .before .before .before .before .before .before .before .before .before .args .left) t (c .before .before .before .before .before .before .before .before .before .pre .0), c .before .before .before .before .before .before .before .before .before .pre .1)
 
 emit-new-returns : (t : ℕ) → emit-new-lts.Need-returns (emit-new-claims t) (emit-new-at t) emit-new.Post
 emit-new-returns t c = λ n. laws.new-ignored _ _ n _ _ _ _ _ _ _ (c .before .before .before .before .before .before .pre .1) _ (c .before .before .node-of .ensures) _ (c .enum-told .given .1) refl
@@ -391,7 +392,7 @@ emit-params-word-requires : (t : ℕ) → emit-params-lts.Need-word-requires (em
 emit-params-word-requires t c κs = tt
 
 emit-params-emit-type-requires : (t : ℕ) → emit-params-lts.Need-emit-type-requires (emit-params-claims t) (emit-params-at t) emit-params.Post emit-params-Inv-loop emit-params-μ-loop
-emit-params-emit-type-requires t c κs = (omega arith, tt)
+emit-params-emit-type-requires t c κs = (measures.to-loop-type (c .before .before .before .before .before .before .before .before .before .args .left) t (c .before .before .before .before .before .before .before .before .before .pre .0), tt)
 
 emit-params-add-k : (t : ℕ) → emit-params-lts.Need-add-k (emit-params-claims t) (emit-params-at t) emit-params.Post emit-params-Inv-loop emit-params-μ-loop
 emit-params-add-k t c = omega arith
@@ -475,7 +476,7 @@ emit-type-sub-emit-new : (t : ℕ) → emit-type-lts.Need-sub-emit-new (emit-typ
 emit-type-sub-emit-new t c = omega arith
 
 emit-type-emit-new-requires : (t : ℕ) → emit-type-lts.Need-emit-new-requires (emit-type-claims t) (emit-type-at t) emit-type.Post
-emit-type-emit-new-requires t c κs = (omega arith, c .before .before .before .before .type-by-id .ensures)
+emit-type-emit-new-requires t c κs = (measures.to-type-new (c .before .before .before .before .before .before .before .before .before .before .before .before .before .before .before .before .before .args .left) t (c .before .before .before .before .before .before .before .before .before .before .before .before .before .before .before .before .before .pre .0) (c .before .before .before .before .before .before .before .before .before .before .if2 .left), c .before .before .before .before .type-by-id .ensures)
 
 emit-type-same-length-9 : (t : ℕ) → emit-type-lts.Need-same-length-9 (emit-type-claims t) (emit-type-at t) emit-type.Post
 emit-type-same-length-9 t c = c .before .before .before .before .emit-new .kept .1 .1 .0
