@@ -2,7 +2,7 @@
 use Prim.Native.Nat.{ℕ, zero, suc, _+_, _-_, _<_, _≤_}
 use mathlib.Core.Path.{_≡_, refl, ap, _∙_, sym, subst}
 use mathlib.Core.List.{List, []}
-use mathlib.Core.Bool.{Bool, true, false, not, _&&_, _||_}
+use mathlib.Core.Bool.{Bool, true, false, not, _&&_, _||_, true≢false}
 use mathlib.Core.Logic.{_⊎_, ⊎-elim}
 use native.Mathlib.Omega.{arith}
 use lib.Dec.{eqb}
@@ -32,7 +32,7 @@ use Rattle.btf.proofs.Frame.{field-other}
 use Rattle.btf.proofs.KindLaws.{by-kind, type-0, type-1, type-2, type-3, type-4, type-5, type-6, type-7, type-8, type-9, type-10, type-11, type-12, type-13, type-14, type-15, type-16, type-17, type-18, type-19, type-none}
 use Rattle.marks.specs.Work.{markOf}
 use Rattle.marks.proofs.Laws.{is-done, is-busy, is-new, type-at, node-at, named-at, node-is}
-use Rattle.sheet.specs.Sheet.{Sheet, sheetOf, withWork, emitOut, lineIn, workMachine, emitIn, newIn, againIn, leafIn, compositeIn, onceIn, mentionIn}
+use Rattle.sheet.specs.Sheet.{Sheet, sheetOf, withWork, emitOut, lineIn, workMachine, emitIn, newIn, againIn, shownIn, compositeIn, onceIn, mentionIn, typedefIn, mentionedIn, endedIn}
 use Rattle.sheet.proofs.Frame.{Stays, on, off, stays-then, table-emark, table-emit, table-each}
 
 abbrev pub sheet : ℕ → ℕ → List ℕ → List ℕ → Sheet
@@ -345,24 +345,48 @@ module _ (b : Btf) (s : List ℕ) (n at : ℕ) (tx w : List ℕ) (id cont left :
       unfolding emitIn allowed newIn
       emit-fresh e x ex = ex ∙ at-sheet n at tx w (λ m. newIn b Bt (left - 1) cont m id) (λ m. emitIn b Bt left cont m id) (λ _. sym (gate-is false e))
 
--- ---- emit_leaf
-module _ (b : Btf) (s : List ℕ) (n at : ℕ) (tx w : List ℕ) (id cont : ℕ) (t : Record) (et : t ≡ recordById b s w id) (is-fwd : Bool) where
-  pub leaf-shown : (is-fwd || eqb cont 0) ≡ true → (a : ℕ) (t₁ w₁ w₂ : List ℕ) → outOf a t₁ w₁ ≡ putSaid tx at (definitionOnce (workAsks (b .types) (btfOf b s w)) (workNaming b) (btfOf b s w) id (typeOf b s t) w) → w₂ ≡ putField w₁ id 13 2
-      → emitOut n a t₁ w₂ ≡ obind (emitOut n at tx w) (λ m. leafIn b (btfOf b s w) is-fwd cont m id)
-  unfolding leafIn leaf workMachine
-  leaf-shown e a t₁ w₁ w₂ el ew =
-      then (emitOut n at tx w) (λ m. lineIn (definitionOnce (workAsks (b .types) (btfOf b s w)) (workNaming b) (btfOf b s w) id (typeOf b s t)) m) (λ m. wrote (withWork m (putField (m .work) id 13 2))) (emitOut n a t₁ w₁) (emitOut n a t₁ w₂)
-      (line-sheet n at tx w (definitionOnce (workAsks (b .types) (btfOf b s w)) (workNaming b) (btfOf b s w) id (typeOf b s t)) a t₁ w₁ el) (work-last n a t₁ w₁ (λ u. putField u id 13 2) w₂ ew)
-      ∙ obind-same (emitOut n at tx w) _ (λ m. leafIn b (btfOf b s w) is-fwd cont m id)
-      (λ m. ap (λ (y : BtfType). obind (lineIn (definitionOnce (workAsks (b .types) (btfOf b s w)) (workNaming b) (btfOf b s w) id y) m) (λ m′. wrote (withWork m′ (putField (m′ .work) id 13 2)))) (sym (type-at b s w id t et))
-      ∙ ap (λ (f : Bool). leaf (workMachine b (btfOf b s w)) (tableOf (btfOf b s w)) f id m) (sym (ap (λ (f : Bool). is-fwd || f) (zero-is cont) ∙ e)))
+-- ---- emit_leaf, end_typedef, end_composite
+module _ (b : Btf) (B : Rules) (ty : BtfType) (n at : ℕ) (t w : List ℕ) (id : ℕ) where
+  -- a definition, and the id is done
+  defined : (a : ℕ) (t₁ w₁ : List ℕ) → outOf a t₁ w₁ ≡ putSaid t at (definitionOnce (workAsks (b .types) B) (workNaming b) B id ty w) → (w₂ : List ℕ) → w₂ ≡ putField w₁ id 13 2
+      → emitOut n a t₁ w₂ ≡ obind (emitOut n at t w) (λ m. obind (lineIn (definitionOnce (workAsks (b .types) B) (workNaming b) B id ty) m) (λ k. wrote (withWork k (putField (k .work) id 13 2))))
+  defined a t₁ w₁ el w₂ ew =
+      then (emitOut n at t w) (λ m. lineIn (definitionOnce (workAsks (b .types) B) (workNaming b) B id ty) m) (λ m. wrote (withWork m (putField (m .work) id 13 2))) (emitOut n a t₁ w₁) (emitOut n a t₁ w₂)
+      (line-sheet n at t w (definitionOnce (workAsks (b .types) B) (workNaming b) B id ty) a t₁ w₁ el) (work-last n a t₁ w₁ (λ u. putField u id 13 2) w₂ ew)
 
-  pub leaf-quiet : (is-fwd || eqb cont 0) ≡ false → (w₂ : List ℕ) → w₂ ≡ putField w id 13 2 → emitOut n at tx w₂ ≡ obind (emitOut n at tx w) (λ m. leafIn b (btfOf b s w) is-fwd cont m id)
-  unfolding leafIn leaf workMachine
-  leaf-quiet e w₂ ew =
-      work-last n at tx w (λ u. putField u id 13 2) w₂ ew
-      ∙ obind-same (emitOut n at tx w) _ (λ m. leafIn b (btfOf b s w) is-fwd cont m id)
-      (λ m. ap (λ (f : Bool). leaf (workMachine b (btfOf b s w)) (tableOf (btfOf b s w)) f id m) (sym (ap (λ (f : Bool). is-fwd || f) (zero-is cont) ∙ e)))
+  pub leaf-shown : (f : Bool) → f ≡ true → (a : ℕ) (t₁ w₁ : List ℕ) → outOf a t₁ w₁ ≡ putSaid t at (definitionOnce (workAsks (b .types) B) (workNaming b) B id ty w) → (w₂ : List ℕ) → w₂ ≡ putField w₁ id 13 2
+      → emitOut n a t₁ w₂ ≡ obind (emitOut n at t w) (λ m. shownIn b B f ty m id)
+  unfolding shownIn
+  leaf-shown f e a t₁ w₁ el w₂ ew = defined a t₁ w₁ el w₂ ew ∙ ap (λ (g : Bool). obind (emitOut n at t w) (λ m. shownIn b B g ty m id)) (sym e)
+
+  pub leaf-quiet : (f : Bool) → f ≡ false → (w₂ : List ℕ) → w₂ ≡ putField w id 13 2 → emitOut n at t w₂ ≡ obind (emitOut n at t w) (λ m. shownIn b B f ty m id)
+  unfolding shownIn
+  leaf-quiet f e w₂ ew = work-last n at t w (λ u. putField u id 13 2) w₂ ew ∙ ap (λ (g : Bool). obind (emitOut n at t w) (λ m. shownIn b B g ty m id)) (sym e)
+
+  pub typedef-ends : (a : ℕ) (t₁ w₁ : List ℕ) → emitOut n a t₁ w₁ ≡ obind (emitOut n at t w) (λ m. onceIn b B ty m id) → (w₂ : List ℕ) → w₂ ≡ putField w₁ id 13 2
+      → emitOut n a t₁ w₂ ≡ obind (emitOut n at t w) (λ m. typedefIn b B ty m id)
+  unfolding typedefIn
+  typedef-ends a t₁ w₁ e₁ w₂ e₂ = then (emitOut n at t w) (λ m. onceIn b B ty m id) (λ m. wrote (withWork m (putField (m .work) id 13 2))) (emitOut n a t₁ w₁) (emitOut n a t₁ w₂) e₁ (work-last n a t₁ w₁ (λ u. putField u id 13 2) w₂ e₂)
+
+  pub ends-within : (cont : ℕ) → (cont ≡ 0 → ⊥) → (w₁ : List ℕ) → w₁ ≡ putField w id 13 0 → emitOut n at t w₁ ≡ obind (emitOut n at t w) (λ m. endedIn b B (eqb cont 0) ty m id)
+  unfolding endedIn
+  ends-within cont z w₁ e₁ = work-last n at t w (λ u. putField u id 13 0) w₁ e₁ ∙ ap (λ (f : Bool). obind (emitOut n at t w) (λ m. endedIn b B f ty m id)) (sym (ne-eqb cont 0 z))
+
+  pub ends-top : (cont : ℕ) → cont ≡ 0 → (a : ℕ) (t₁ w₁ : List ℕ) → outOf a t₁ w₁ ≡ putSaid t at (definitionOnce (workAsks (b .types) B) (workNaming b) B id ty w) → (w₂ : List ℕ) → w₂ ≡ putField w₁ id 13 2
+      → emitOut n a t₁ w₂ ≡ obind (emitOut n at t w) (λ m. endedIn b B (eqb cont 0) ty m id)
+  unfolding endedIn
+  ends-top cont z a t₁ w₁ el w₂ ew = defined a t₁ w₁ el w₂ ew ∙ ap (λ (f : Bool). obind (emitOut n at t w) (λ m. endedIn b B f ty m id)) (sym (eq-eqb cont 0 z))
+
+-- ---- mention_composite
+module _ (b : Btf) (s : List ℕ) (ty : BtfType) (n at : ℕ) (tx w : List ℕ) (id cont : ℕ) where
+  pub mentioned : (w₁ : List ℕ) → w₁ ≡ putField w id 13 1 → (a : ℕ) (t₂ w₂ : List ℕ) → emitOut n a t₂ w₂ ≡ obind (emitOut n at tx w₁) (λ m. mentionIn b (btfOf b s w₁) ty cont m id)
+      → (w₃ : List ℕ) → w₃ ≡ putField w₂ id 13 0 → emitOut n a t₂ w₃ ≡ obind (emitOut n at tx w) (λ m. mentionedIn b (btfOf b s w) ty cont m id)
+  unfolding mentionedIn
+  mentioned w₁ e₁ a t₂ w₂ e₂ w₃ e₃ =
+      then (emitOut n at tx w) (λ m. mentionIn b (btfOf b s w) ty cont (withWork m (putField (m .work) id 13 1)) id) (λ m. wrote (withWork m (putField (m .work) id 13 0))) (emitOut n a t₂ w₂) (emitOut n a t₂ w₃)
+      (e₂ ∙ ap (λ (Q : Rules). obind (emitOut n at tx w₁) (λ m. mentionIn b Q ty cont m id)) (ap (btfOf b s) e₁ ∙ table-emark b s w id 1)
+      ∙ work-sheet n at tx w (λ u. putField u id 13 1) w₁ (λ m. mentionIn b (btfOf b s w) ty cont m id) e₁)
+      (work-last n a t₂ w₂ (λ u. putField u id 13 0) w₃ e₃)
 
 -- ---- emit_new
 module _ (b : Btf) (s : List ℕ) (n at : ℕ) (tx w : List ℕ) (id cont left : ℕ) (t : Record) (et : t ≡ recordById b s w id) (nd : Code) (en : nodeIs b s nd ≡ nodeOf (typeOf b s t)) (x : Out Sheet) where
@@ -389,9 +413,15 @@ module _ (b : Btf) (s : List ℕ) (n at : ℕ) (tx w : List ℕ) (id cont left :
   unfolding nodeIs begin
   new-plain e ex = by-node code.Plain e (λ m. wrote m) (ex ∙ sym (obind-wrote (emitOut n at tx w))) (λ m. refl)
 
-  pub new-listed : (fwd : Bool) → nd ≡ code.Listed fwd → x ≡ obind (emitOut n at tx w) (λ m. leafIn b Bn fwd cont m id) → Goal
-  unfolding nodeIs begin leafIn
-  new-listed fwd e ex = by-node (code.Listed fwd) e (λ m. leafIn b Bn fwd cont m id) ex (λ m. refl)
+  leaf-is : (f : Bool) (m : Sheet) → shownIn b Bn f (typeOf b s t) m id ≡ leaf (workMachine b Bn) (tableOf Bn) f id m
+  unfolding shownIn leaf workMachine
+  leaf-is true m = ap (λ (y : BtfType). obind (lineIn (definitionOnce (workAsks (b .types) Bn) (workNaming b) Bn id y) m) (λ m′. wrote (withWork m′ (putField (m′ .work) id 13 2)))) (sym (type-at b s w id t et))
+  leaf-is false m = refl
+
+  pub new-listed : (fwd : Bool) → nd ≡ code.Listed fwd → x ≡ obind (emitOut n at tx w) (λ m. shownIn b Bn (fwd || eqb cont 0) (typeOf b s t) m id) → Goal
+  unfolding nodeIs begin
+  new-listed fwd e ex = by-node (code.Listed fwd) e (λ m. shownIn b Bn (fwd || eqb cont 0) (typeOf b s t) m id) ex
+      (λ m. leaf-is (fwd || eqb cont 0) m ∙ ap (λ (f : Bool). leaf (workMachine b Bn) (tableOf Bn) (fwd || f) id m) (sym (zero-is cont)))
 
   pub new-through : (a : Bool) (y : ℕ) → nd ≡ code.Through a y → x ≡ obind (emitOut n at tx w) (λ m. emitIn b Bn left cont m y) → Goal
   unfolding nodeIs begin emitIn
@@ -413,13 +443,11 @@ module _ (b : Btf) (s : List ℕ) (n at : ℕ) (tx w : List ℕ) (id cont left :
       (ex ∙ same-table b s n a t₁ w₁ w (λ Q m. eeach (emitIn b Q left cont) (paramIds b s es) m) (called-stays b s n at tx w a t₁ w₁ Bn y left cont ea))) (λ m. refl)
 
   pub new-typedef : (y : ℕ) → nd ≡ code.Typedef y → (w₁ : List ℕ) → w₁ ≡ putField w id 13 1 → (a : ℕ) (t₂ w₂ : List ℕ) → emitOut n a t₂ w₂ ≡ obind (emitOut n at tx w₁) (λ m. emitIn b (btfOf b s w₁) left id m y)
-      → (c : ℕ) (t₃ w₃ : List ℕ) → emitOut n c t₃ w₃ ≡ obind (emitOut n a t₂ w₂) (λ m. onceIn b (btfOf b s w₂) (typeOf b s t) m id)
-      → (w₄ : List ℕ) → w₄ ≡ putField w₃ id 13 2 → x ≡ emitOut n c t₃ w₄ → Goal
-  unfolding nodeIs begin emitIn onceIn workMachine
-  new-typedef y e w₁ e₁ a t₂ w₂ e₂ c t₃ w₃ e₃ w₄ e₄ ex =
-      by-node (code.Typedef y) e (λ m. obind (rec (withWork m (putField (m .work) id 13 1)) y id) (λ m′. obind (onceIn b Bn (typeOf b s t) m′ id) (λ m″. wrote (withWork m″ (putField (m″ .work) id 13 2)))))
-      (ex
-      ∙ then (emitOut n a t₂ w₂) (λ m. onceIn b Bn (typeOf b s t) m id) (λ m. wrote (withWork m (putField (m .work) id 13 2))) (emitOut n c t₃ w₃) (emitOut n c t₃ w₄) once₃ (work-last n c t₃ w₃ (λ u. putField u id 13 2) w₄ e₄)
+      → x ≡ obind (emitOut n a t₂ w₂) (λ m. typedefIn b (btfOf b s w₂) (typeOf b s t) m id) → Goal
+  unfolding nodeIs begin emitIn onceIn workMachine typedefIn
+  new-typedef y e w₁ e₁ a t₂ w₂ e₂ ex =
+      by-node (code.Typedef y) e (λ m. obind (rec (withWork m (putField (m .work) id 13 1)) y id) rest)
+      (end₃
       ∙ ap (λ (o : Out Sheet). obind o rest) call₂
       ∙ obind-then (emitOut n at tx w₁) (λ m. emitIn b Bn left id m y) rest
       ∙ work-sheet n at tx w (λ u. putField u id 13 1) w₁ (λ m. obind (emitIn b Bn left id m y) rest) e₁)
@@ -428,7 +456,7 @@ module _ (b : Btf) (s : List ℕ) (n at : ℕ) (tx w : List ℕ) (id cont left :
       (once-line b Bn (typeOf b s t) m′ id (workMachine b Bn .hasFwd m′ id) (sym (type-at b s w id t et)) ∙ once-alias b Bn m′ id (workMachine b Bn .hasFwd m′ id))))
     where
       rest : Sheet → Out Sheet
-      rest m′ = obind (onceIn b Bn (typeOf b s t) m′ id) (λ m″. wrote (withWork m″ (putField (m″ .work) id 13 2)))
+      rest m′ = typedefIn b Bn (typeOf b s t) m′ id
 
       same₁ : btfOf b s w₁ ≡ Bn
       same₁ = ap (btfOf b s) e₁ ∙ table-emark b s w id 1
@@ -436,81 +464,81 @@ module _ (b : Btf) (s : List ℕ) (n at : ℕ) (tx w : List ℕ) (id cont left :
       call₂ : emitOut n a t₂ w₂ ≡ obind (emitOut n at tx w₁) (λ m. emitIn b Bn left id m y)
       call₂ = e₂ ∙ ap (λ (Q : Rules). obind (emitOut n at tx w₁) (λ m. emitIn b Q left id m y)) same₁
 
-      once₃ : emitOut n c t₃ w₃ ≡ obind (emitOut n a t₂ w₂) (λ m. onceIn b Bn (typeOf b s t) m id)
-      once₃ = e₃ ∙ same-table b s n a t₂ w₂ w₁ (λ Q m. onceIn b Q (typeOf b s t) m id) (called-stays b s n at tx w₁ a t₂ w₂ (btfOf b s w₁) y left id e₂)
-          ∙ ap (λ (Q : Rules). obind (emitOut n a t₂ w₂) (λ m. onceIn b Q (typeOf b s t) m id)) same₁
+      end₃ : x ≡ obind (emitOut n a t₂ w₂) rest
+      end₃ = ex ∙ same-table b s n a t₂ w₂ w₁ (λ Q m. typedefIn b Q (typeOf b s t) m id) (called-stays b s n at tx w₁ a t₂ w₂ (btfOf b s w₁) y left id e₂)
+          ∙ ap (λ (Q : Rules). obind (emitOut n a t₂ w₂) (λ m. typedefIn b Q (typeOf b s t) m id)) same₁
 
 -- ---- emit_composite
-module _ (b : Btf) (s : List ℕ) (n at : ℕ) (tx w : List ℕ) (id cont left : ℕ) (t : Record) (et : t ≡ recordById b s w id) (nm : Bool) (en : nm ≡ isNamed (typeOf b s t)) (ms : List ℕ) (w₁ : List ℕ) (e₁ : w₁ ≡ putField w id 13 1) where
+module _ (b : Btf) (s : List ℕ) (n at : ℕ) (tx w : List ℕ) (id cont left : ℕ) (t : Record) (et : t ≡ recordById b s w id) (nm : Bool) (en : nm ≡ isNamed (typeOf b s t)) (ms : List ℕ) where
   abbrev Bc : Rules
   Bc = btfOf b s w
 
-  same₁ : btfOf b s w₁ ≡ Bc
-  same₁ = ap (btfOf b s) e₁ ∙ table-emark b s w id 1
+  abbrev recc : Sheet → ℕ → ℕ → Out Sheet
+  recc m′ y c = emit (workMachine b Bc) (tableOf Bc) left m′ y c
 
-  Composed : Out Sheet → Type 0
-  Composed x = x ≡ obind (emitOut n at tx w) (λ m. compositeIn b Bc left cont ms m id)
+  abbrev Composed : Sheet → Out Sheet
+  Composed m = compositeIn b Bc left cont ms m id
 
   -- the clause, by its tests
   begun : (top nm′ : Bool) → isZero cont ≡ top → nm ≡ nm′ → (m : Sheet)
-      → obind (within (workMachine b Bc) (tableOf Bc) (λ m′ y c. emit (workMachine b Bc) (tableOf Bc) left m′ y c) m id cont (top || not nm′) nm′ ms) (close (workMachine b Bc) (tableOf Bc) top id) ≡ compositeIn b Bc left cont ms m id
+      → obind (within (workMachine b Bc) (tableOf Bc) recc m id cont (top || not nm′) nm′ ms) (close (workMachine b Bc) (tableOf Bc) top id) ≡ Composed m
   unfolding compositeIn begin
   begun top nm′ ez e m =
-      ap (λ (f : Bool). obind (within (workMachine b Bc) (tableOf Bc) (λ m′ y c. emit (workMachine b Bc) (tableOf Bc) left m′ y c) m id cont (f || not nm′) nm′ ms) (close (workMachine b Bc) (tableOf Bc) f id)) (sym ez)
-      ∙ ap (λ (g : Bool). obind (within (workMachine b Bc) (tableOf Bc) (λ m′ y c. emit (workMachine b Bc) (tableOf Bc) left m′ y c) m id cont (isZero cont || not g) g ms) (close (workMachine b Bc) (tableOf Bc) (isZero cont) id)) (sym (named-at b s w id t et ∙ sym en ∙ e))
+      ap (λ (f : Bool). obind (within (workMachine b Bc) (tableOf Bc) recc m id cont (f || not nm′) nm′ ms) (close (workMachine b Bc) (tableOf Bc) f id)) (sym ez)
+      ∙ ap (λ (g : Bool). obind (within (workMachine b Bc) (tableOf Bc) recc m id cont (isZero cont || not g) g ms) (close (workMachine b Bc) (tableOf Bc) (isZero cont) id)) (sym (named-at b s w id t et ∙ sym en ∙ e))
 
-  members-call : (c a : ℕ) (t₂ w₂ : List ℕ) → emitOut n a t₂ w₂ ≡ obind (emitOut n at tx w₁) (λ m. eeach (emitIn b (btfOf b s w₁) left c) ms m)
-      → emitOut n a t₂ w₂ ≡ obind (emitOut n at tx w) (λ m. eeach (emitIn b Bc left c) ms (withWork m (putField (m .work) id 13 1)))
-  members-call c a t₂ w₂ e = e ∙ ap (λ (Q : Rules). obind (emitOut n at tx w₁) (λ m. eeach (emitIn b Q left c) ms m)) same₁ ∙ work-sheet n at tx w (λ u. putField u id 13 1) w₁ (λ m. eeach (emitIn b Bc left c) ms m) e₁
+  both : (v f : Bool) → (v && not f) ≡ true → v ≡ true
+  both true f e = refl
+  both false f e = e
 
-  members-stay : (c a : ℕ) (t₂ w₂ : List ℕ) → emitOut n a t₂ w₂ ≡ obind (emitOut n at tx w₁) (λ m. eeach (emitIn b (btfOf b s w₁) left c) ms m) → Stays (btfOf b s) w₁ (emitOut n a t₂ w₂)
-  unfolding emitIn
-  members-stay c a t₂ w₂ e = subst (Stays (btfOf b s) w₁) (sym e)
-      (stays-then (btfOf b s) w₁ (emitOut n at tx w₁) (λ m. eeach (emitIn b (btfOf b s w₁) left c) ms m) (entry-stays b s (btfOf b s) n at tx w₁) (λ m. table-each b s (btfOf b s w₁) left c ms m))
+  within-is : (v f : Bool) → (v && not f) ≡ true → f ≡ false
+  within-is true true e = sym e
+  within-is true false e = refl
+  within-is false f e = absurd (true≢false (sym e))
 
-  pub composite-top : cont ≡ 0 → (c₀ : ℕ) → c₀ ≡ pick nm id cont → (a : ℕ) (t₂ w₂ : List ℕ) → emitOut n a t₂ w₂ ≡ obind (emitOut n at tx w₁) (λ m. eeach (emitIn b (btfOf b s w₁) left c₀) ms m)
-      → (c : ℕ) (t₃ w₃ : List ℕ) → outOf c t₃ w₃ ≡ putSaid t₂ a (definitionOnce (workAsks (b .types) (btfOf b s w₂)) (workNaming b) (btfOf b s w₂) id (typeOf b s t) w₂) → (w₄ : List ℕ) → w₄ ≡ putField w₃ id 13 2
-      → emitOut n c t₃ w₄ ≡ obind (emitOut n at tx w) (λ m. compositeIn b Bc left cont ms m id)
-  unfolding within close emitIn workMachine
-  composite-top z c₀ ec a t₂ w₂ e₂ c t₃ w₃ e₃ w₄ e₄ =
-      then (emitOut n a t₂ w₂) (λ m. lineIn (definitionOnce (workAsks (b .types) Bc) (workNaming b) Bc id (typeOf b s t)) m) (λ m. wrote (withWork m (putField (m .work) id 13 2))) (emitOut n c t₃ w₃) (emitOut n c t₃ w₄)
-      (line-sheet n a t₂ w₂ (definitionOnce (workAsks (b .types) (btfOf b s w₂)) (workNaming b) (btfOf b s w₂) id (typeOf b s t)) c t₃ w₃ e₃
-      ∙ same-table b s n a t₂ w₂ w₁ (λ Q m. lineIn (definitionOnce (workAsks (b .types) Q) (workNaming b) Q id (typeOf b s t)) m) (members-stay c₀ a t₂ w₂ e₂)
-      ∙ ap (λ (Q : Rules). obind (emitOut n a t₂ w₂) (λ m. lineIn (definitionOnce (workAsks (b .types) Q) (workNaming b) Q id (typeOf b s t)) m)) same₁)
-      (work-last n c t₃ w₃ (λ u. putField u id 13 2) w₄ e₄)
-      ∙ ap (λ (o : Out Sheet). obind o (shut (typeOf b s t))) (members-call c₀ a t₂ w₂ e₂)
-      ∙ obind-then (emitOut n at tx w) (λ m. eeach (emitIn b Bc left c₀) ms (withWork m (putField (m .work) id 13 1))) (shut (typeOf b s t))
-      ∙ obind-same (emitOut n at tx w) _ (λ m. compositeIn b Bc left cont ms m id)
-      (λ m. ap (λ (i : ℕ). obind (eeach (emitIn b Bc left i) ms (withWork m (putField (m .work) id 13 1))) (shut (typeOf b s t))) ec
-      ∙ ap (λ (y : BtfType). obind (eeach (emitIn b Bc left (pick nm id cont)) ms (withWork m (putField (m .work) id 13 1))) (shut y)) (sym (type-at b s w id t et))
-      ∙ begun true nm (ap isZero z) refl m)
-    where
-      shut : BtfType → Sheet → Out Sheet
-      shut y m = obind (lineIn (definitionOnce (workAsks (b .types) Bc) (workNaming b) Bc id y) m) (λ m′. wrote (withWork m′ (putField (m′ .work) id 13 2)))
-
-  not-top : (cont ≡ 0 → ⊥) → isZero cont ≡ false
-  not-top z = zero-is cont ∙ ne-eqb cont 0 z
-
-  pub composite-nameless : (cont ≡ 0 → ⊥) → nm ≡ false → (a : ℕ) (t₂ w₂ : List ℕ) → emitOut n a t₂ w₂ ≡ obind (emitOut n at tx w₁) (λ m. eeach (emitIn b (btfOf b s w₁) left cont) ms m)
-      → (w₃ : List ℕ) → w₃ ≡ putField w₂ id 13 0 → emitOut n a t₂ w₃ ≡ obind (emitOut n at tx w) (λ m. compositeIn b Bc left cont ms m id)
-  unfolding within close emitIn workMachine
-  composite-nameless z e a t₂ w₂ e₂ w₃ e₃ =
-      then (emitOut n at tx w) (λ m. eeach (emitIn b Bc left cont) ms (withWork m (putField (m .work) id 13 1))) (λ m. wrote (withWork m (putField (m .work) id 13 0))) (emitOut n a t₂ w₂) (emitOut n a t₂ w₃)
-      (members-call cont a t₂ w₂ e₂) (work-last n a t₂ w₂ (λ u. putField u id 13 0) w₃ e₃)
-      ∙ obind-same (emitOut n at tx w) _ (λ m. compositeIn b Bc left cont ms m id) (λ m. begun false false (not-top z) e m)
-
-  pub composite-mention : (cont ≡ 0 → ⊥) → nm ≡ true → (a : ℕ) (t₂ w₂ : List ℕ) → emitOut n a t₂ w₂ ≡ obind (emitOut n at tx w₁) (λ m. mentionIn b (btfOf b s w₁) (typeOf b s t) cont m id)
-      → (w₃ : List ℕ) → w₃ ≡ putField w₂ id 13 0 → emitOut n a t₂ w₃ ≡ obind (emitOut n at tx w) (λ m. compositeIn b Bc left cont ms m id)
-  unfolding within close mentionIn workMachine
-  composite-mention z e a t₂ w₂ e₂ w₃ e₃ =
-      then (emitOut n at tx w) (λ m. mentionIn b Bc (typeOf b s t) cont (withWork m (putField (m .work) id 13 1)) id) (λ m. wrote (withWork m (putField (m .work) id 13 0))) (emitOut n a t₂ w₂) (emitOut n a t₂ w₃)
-      (e₂ ∙ ap (λ (Q : Rules). obind (emitOut n at tx w₁) (λ m. mentionIn b Q (typeOf b s t) cont m id)) same₁ ∙ work-sheet n at tx w (λ u. putField u id 13 1) w₁ (λ m. mentionIn b Bc (typeOf b s t) cont m id) e₁)
-      (work-last n a t₂ w₂ (λ u. putField u id 13 0) w₃ e₃)
-      ∙ obind-same (emitOut n at tx w) _ (λ m. compositeIn b Bc left cont ms m id)
+  pub composite-mention : (nm && not (eqb cont 0)) ≡ true → (x : Out Sheet) → x ≡ obind (emitOut n at tx w) (λ m. mentionedIn b Bc (typeOf b s t) cont m id) → x ≡ obind (emitOut n at tx w) Composed
+  unfolding within close mentionIn mentionedIn workMachine
+  composite-mention z x ex = ex ∙ obind-same (emitOut n at tx w) (λ m. mentionedIn b Bc (typeOf b s t) cont m id) Composed
       (λ m. ap (λ (o : Out Sheet). obind o (λ m′. wrote (withWork m′ (putField (m′ .work) id 13 0))))
       (once-line b Bc (typeOf b s t) (withWork m (putField (m .work) id 13 1)) id (not (eqb (getField (putField (m .work) id 13 1) id 3) 0) || eqb id cont) (sym (type-at b s w id t et))
       ∙ ap (λ (v : ℕ). once (workMachine b Bc) (tableOf Bc) (workMachine b Bc .fwdLine) id (not (eqb v 0) || eqb id cont) (withWork m (putField (m .work) id 13 1))) (field-other (m .work) id 13 1 id 3 (omega arith) (omega arith) (λ q. omega arith)))
-      ∙ begun false true (not-top z) e m)
+      ∙ begun false true (zero-is cont ∙ within-is nm (eqb cont 0) z) (both nm (eqb cont 0) z) m)
+
+  module _ (g : (nm && not (eqb cont 0)) ≡ false) (w₁ : List ℕ) (e₁ : w₁ ≡ putField w id 13 1) where
+    same₁ : btfOf b s w₁ ≡ Bc
+    same₁ = ap (btfOf b s) e₁ ∙ table-emark b s w id 1
+
+    members-call : (c a : ℕ) (t₂ w₂ : List ℕ) → emitOut n a t₂ w₂ ≡ obind (emitOut n at tx w₁) (λ m. eeach (emitIn b (btfOf b s w₁) left c) ms m)
+        → emitOut n a t₂ w₂ ≡ obind (emitOut n at tx w) (λ m. eeach (emitIn b Bc left c) ms (withWork m (putField (m .work) id 13 1)))
+    members-call c a t₂ w₂ e = e ∙ ap (λ (Q : Rules). obind (emitOut n at tx w₁) (λ m. eeach (emitIn b Q left c) ms m)) same₁ ∙ work-sheet n at tx w (λ u. putField u id 13 1) w₁ (λ m. eeach (emitIn b Bc left c) ms m) e₁
+
+    members-stay : (c a : ℕ) (t₂ w₂ : List ℕ) → emitOut n a t₂ w₂ ≡ obind (emitOut n at tx w₁) (λ m. eeach (emitIn b (btfOf b s w₁) left c) ms m) → Stays (btfOf b s) w₁ (emitOut n a t₂ w₂)
+    unfolding emitIn
+    members-stay c a t₂ w₂ e = subst (Stays (btfOf b s) w₁) (sym e)
+        (stays-then (btfOf b s) w₁ (emitOut n at tx w₁) (λ m. eeach (emitIn b (btfOf b s w₁) left c) ms m) (entry-stays b s (btfOf b s) n at tx w₁) (λ m. table-each b s (btfOf b s w₁) left c ms m))
+
+    -- the members within c, and what ends the composite
+    abbrev thenEnds : ℕ → Bool → BtfType → Sheet → Out Sheet
+    thenEnds c f y m = obind (eeach (emitIn b Bc left c) ms (withWork m (putField (m .work) id 13 1))) (λ m′. endedIn b Bc f y m′ id)
+
+    nameless : (v : Bool) → (v && true) ≡ false → v ≡ false
+    nameless true e = e
+    nameless false e = refl
+
+    ended-is : (f : Bool) → eqb cont 0 ≡ f → (nm && not f) ≡ false → (m : Sheet) → thenEnds (pick nm id cont) f (typeOf b s t) m ≡ Composed m
+    unfolding within close emitIn workMachine endedIn
+    ended-is true z h m = ap (λ (y : BtfType). thenEnds (pick nm id cont) true y m) (sym (type-at b s w id t et)) ∙ begun true nm (zero-is cont ∙ z) refl m
+    ended-is false z h m = ap (λ (v : Bool). thenEnds (pick v id cont) false (typeOf b s t) m) (nameless nm h) ∙ begun false false (zero-is cont ∙ z) (nameless nm h) m
+
+    pub composite-ends : (c₀ : ℕ) → c₀ ≡ pick nm id cont → (a : ℕ) (t₂ w₂ : List ℕ) → emitOut n a t₂ w₂ ≡ obind (emitOut n at tx w₁) (λ m. eeach (emitIn b (btfOf b s w₁) left c₀) ms m)
+        → (x : Out Sheet) → x ≡ obind (emitOut n a t₂ w₂) (λ m. endedIn b (btfOf b s w₂) (eqb cont 0) (typeOf b s t) m id) → x ≡ obind (emitOut n at tx w) Composed
+    composite-ends c₀ ec a t₂ w₂ e₂ x ex =
+        ex ∙ same-table b s n a t₂ w₂ w₁ (λ Q m. endedIn b Q (eqb cont 0) (typeOf b s t) m id) (members-stay c₀ a t₂ w₂ e₂)
+        ∙ ap (λ (Q : Rules). obind (emitOut n a t₂ w₂) (λ m. endedIn b Q (eqb cont 0) (typeOf b s t) m id)) same₁
+        ∙ ap (λ (o : Out Sheet). obind o (λ m. endedIn b Bc (eqb cont 0) (typeOf b s t) m id)) (members-call c₀ a t₂ w₂ e₂)
+        ∙ obind-then (emitOut n at tx w) (λ m. eeach (emitIn b Bc left c₀) ms (withWork m (putField (m .work) id 13 1))) (λ m. endedIn b Bc (eqb cont 0) (typeOf b s t) m id)
+        ∙ obind-same (emitOut n at tx w) (λ m. thenEnds c₀ (eqb cont 0) (typeOf b s t) m) Composed
+        (λ m. ap (λ (i : ℕ). thenEnds i (eqb cont 0) (typeOf b s t) m) ec ∙ ended-is (eqb cont 0) refl g m)
 
 -- ---- emit_members, emit_params, emit_listed: what is left is the whole
 pub record Rest (b : Btf) (s : List ℕ) (w₀ : List ℕ) (left cont : ℕ) (id : ℕ → ℕ) (n at : ℕ) (tx₀ : List ℕ) (vlen p : ℕ) (tx w : List ℕ) (k : ℕ) : Type 0 where

@@ -76,8 +76,8 @@ module _ (b : Btf) (B : Rules) where
     tags = λ m. [];
   }
 
-  -- The clauses of the rules over it: emit_type, an id that is not emitted yet, one that is being emitted, an enum or a forward, a
-  -- composite with its members' types, and the lines that come once for each id, of the type t.
+  -- The clauses of the rules over it: emit_type, an id that is not emitted yet, one that is being emitted, a composite with its
+  -- members' types, and the lines that come once for each id, of the type t.
   unfoldable pub emitIn : ℕ → ℕ → Sheet → ℕ → Out Sheet
   emitIn left cont m x = emit workMachine (tableOf B) left m x cont
 
@@ -87,9 +87,6 @@ module _ (b : Btf) (B : Rules) where
   unfoldable pub againIn : ℕ → Sheet → ℕ → Out Sheet
   againIn cont m x = again workMachine (tableOf B) m x cont (tableOf B .node x)
 
-  unfoldable pub leafIn : Bool → ℕ → Sheet → ℕ → Out Sheet
-  leafIn is-fwd cont m x = leaf workMachine (tableOf B) (is-fwd || isZero cont) x m
-
   unfoldable pub compositeIn : ℕ → ℕ → List ℕ → Sheet → ℕ → Out Sheet
   compositeIn left cont members m x = begin workMachine (tableOf B) (λ m′ y c. emit workMachine (tableOf B) left m′ y c) m x cont (isZero cont) (comp members)
 
@@ -98,6 +95,24 @@ module _ (b : Btf) (B : Rules) where
 
   unfoldable pub mentionIn : BtfType → ℕ → Sheet → ℕ → Out Sheet
   mentionIn t cont m x = once workMachine (tableOf B) (λ m′ y. lineIn (forwardOnce (workAsks (b .types) B) (workNaming b) B y t) m′) x (workMachine .hasFwd m x || eqb x cont) m
+
+  -- Lines with the emit state around them. An enum or a forward: its definition where it is shown; then it is done.
+  unfoldable pub shownIn : Bool → BtfType → Sheet → ℕ → Out Sheet
+  shownIn true t m x = obind (lineIn (definitionOnce (workAsks (b .types) B) (workNaming b) B x t) m) (λ k. wrote (withWork k (putField (k .work) x 13 2)))
+  shownIn false t m x = wrote (withWork m (putField (m .work) x 13 2))
+
+  -- a typedef's line, unless it had one; then it is done
+  unfoldable pub typedefIn : BtfType → Sheet → ℕ → Out Sheet
+  typedefIn t m x = obind (onceIn t m x) (λ k. wrote (withWork k (putField (k .work) x 13 2)))
+
+  -- a named composite within cont: the forward line, while it is begun
+  unfoldable pub mentionedIn : BtfType → ℕ → Sheet → ℕ → Out Sheet
+  mentionedIn t cont m x = obind (mentionIn t cont (withWork m (putField (m .work) x 13 1)) x) (λ k. wrote (withWork k (putField (k .work) x 13 0)))
+
+  -- a composite after its members: at the top the definition, and it is done; else it is new again
+  unfoldable pub endedIn : Bool → BtfType → Sheet → ℕ → Out Sheet
+  endedIn true t m x = obind (lineIn (definitionOnce (workAsks (b .types) B) (workNaming b) B x t) m) (λ k. wrote (withWork k (putField (k .work) x 13 2)))
+  endedIn false t m x = wrote (withWork m (putField (m .work) x 13 0))
 
 -- One request: what ordering listed, each emitted at the top, and then the order list is empty again.
 module _ {M : Type 0} (X : Machine M) (T : Table) where

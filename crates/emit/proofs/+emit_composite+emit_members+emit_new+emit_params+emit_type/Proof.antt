@@ -3,6 +3,7 @@ use mathlib.Core.Path.{_≡_, refl, sym, _∙_}
 use lib.ListN.{length}
 use Prim.Native.Nat.{ℕ, zero-le, _<_, _≤_, _+_, _-_, _*_}
 use Rattle.marks.proofs.Laws.{entry-word}
+use Rattle.emit.proofs.Measures as measures
 use Rattle.sheet.proofs.Laws as laws
 use borrow.Author.Needs.{needs}
 use native.Mathlib.Omega.{arith}
@@ -29,14 +30,14 @@ use Rattle.kinds.proofs.member_place.Reads as member-place-reads
 use Rattle.kinds.proofs.param_place.Reads as param-place-reads
 use Rattle.nodes.proofs.type_by_id.Reads as type-by-id-reads
 use Rattle.sections.proofs.word.Reads as word-reads
-use Rattle.emit.proofs.emit_again.Reads as emit-again-reads
-use Rattle.lines.proofs.emit_definition.Reads as emit-definition-reads
-use Rattle.emit.proofs.emit_leaf.Reads as emit-leaf-reads
-use Rattle.emit.proofs.emit_mention.Reads as emit-mention-reads
-use Rattle.emit.proofs.emit_once.Reads as emit-once-reads
-use Rattle.emit.proofs.get_emit_state.Reads as get-emit-state-reads
-use Rattle.emit.proofs.inner.Reads as inner-reads
-use Rattle.emit.proofs.set_emit_state.Reads as set-emit-state-reads
+use Rattle.steps.proofs.emit_again.Reads as emit-again-reads
+use Rattle.steps.proofs.end_composite.Reads as end-composite-reads
+use Rattle.steps.proofs.end_typedef.Reads as end-typedef-reads
+use Rattle.steps.proofs.mention_composite.Reads as mention-composite-reads
+use Rattle.steps.proofs.emit_leaf.Reads as emit-leaf-reads
+use Rattle.steps.proofs.get_emit_state.Reads as get-emit-state-reads
+use Rattle.steps.proofs.inner.Reads as inner-reads
+use Rattle.steps.proofs.set_emit_state.Reads as set-emit-state-reads
 use Rattle.put.proofs.stop.Reads as stop-reads
 use Rattle.put.proofs.stopped.Reads as stopped-reads
 use Rattle.emit.proofs.+emit_composite+emit_members+emit_new+emit_params+emit_type.{
@@ -115,16 +116,16 @@ abbrev emit-composite-claims : ℕ → emit-composite-lts.Claims
 emit-composite-claims t = (
   is-named-reads.Asked,
   is-named-reads.Learnt,
+  mention-composite-reads.Asked,
+  mention-composite-reads.Learnt,
   set-emit-state-reads.Asked,
   set-emit-state-reads.Learnt,
   inner-reads.Asked,
   inner-reads.Learnt,
   emit-members-below t,
   emit-members.Post,
-  emit-definition-reads.Asked,
-  emit-definition-reads.Learnt,
-  emit-mention-reads.Asked,
-  emit-mention-reads.Learnt,
+  end-composite-reads.Asked,
+  end-composite-reads.Learnt,
 )
 
 abbrev emit-members-claims : ℕ → emit-members-lts.Claims
@@ -147,8 +148,8 @@ emit-new-claims t = (
   emit-type.Post,
   set-emit-state-reads.Asked,
   set-emit-state-reads.Learnt,
-  emit-once-reads.Asked,
-  emit-once-reads.Learnt,
+  end-typedef-reads.Asked,
+  end-typedef-reads.Learnt,
   emit-params-below t,
   emit-params.Post,
   emit-composite-below t,
@@ -186,6 +187,18 @@ emit-type-claims t = (
 emit-composite-is-named-requires : (t : ℕ) → emit-composite-lts.Need-is-named-requires (emit-composite-claims t) (emit-composite-at t) emit-composite.Post
 emit-composite-is-named-requires t c κs = tt
 
+emit-composite-mention-composite-requires : (t : ℕ) → emit-composite-lts.Need-mention-composite-requires (emit-composite-claims t) (emit-composite-at t) emit-composite.Post
+emit-composite-mention-composite-requires t c κs = tt
+
+emit-composite-same-length : (t : ℕ) → emit-composite-lts.Need-same-length (emit-composite-claims t) (emit-composite-at t) emit-composite.Post
+emit-composite-same-length t c = c .before .before .before .before .mention-composite .kept .1 .1 .0
+
+emit-composite-same-length-2 : (t : ℕ) → emit-composite-lts.Need-same-length-2 (emit-composite-claims t) (emit-composite-at t) emit-composite.Post
+emit-composite-same-length-2 t c = c .before .before .before .before .mention-composite .kept .1 .1 .1 .0
+
+emit-composite-returns : (t : ℕ) → emit-composite-lts.Need-returns (emit-composite-claims t) (emit-composite-at t) emit-composite.Post
+emit-composite-returns t c = λ n. laws.composite-mention _ _ n _ _ _ _ _ _ _ (c .before .before .before .before .before .before .before .before .before .before .before .before .pre .1) _ (c .before .before .before .before .before .before .before .before .is-named .ensures) _ (c .before .before .before .before .before .before .before .if1 .taken) _ (c .before .before .before .before .mention-composite .ensures n)
+
 emit-composite-set-emit-state-requires : (t : ℕ) → emit-composite-lts.Need-set-emit-state-requires (emit-composite-claims t) (emit-composite-at t) emit-composite.Post
 emit-composite-set-emit-state-requires t c κs = tt
 
@@ -193,108 +206,19 @@ emit-composite-inner-requires : (t : ℕ) → emit-composite-lts.Need-inner-requ
 emit-composite-inner-requires t c κs = tt
 
 emit-composite-emit-members-requires : (t : ℕ) → emit-composite-lts.Need-emit-members-requires (emit-composite-claims t) (emit-composite-at t) emit-composite.Post
-emit-composite-emit-members-requires t c κs = (omega arith, tt)
+emit-composite-emit-members-requires t c κs = (measures.to-composite-members (c .before .before .before .before .before .before .before .before .before .before .before .before .args .left) t (c .before .before .before .before .before .before .before .before .before .before .before .before .pre .0), tt)
 
-emit-composite-emit-definition-requires :
-    (t : ℕ) → emit-composite-lts.Need-emit-definition-requires (
-      is-named-reads.Asked,
-      is-named-reads.Learnt,
-      set-emit-state-reads.Asked,
-      set-emit-state-reads.Learnt,
-      inner-reads.Asked,
-      inner-reads.Learnt,
-      emit-members-below t,
-      emit-members.Post,
-      emit-definition-reads.Asked,
-      emit-definition-reads.Learnt,
-      emit-mention-reads.Asked,
-      emit-mention-reads.Learnt,
-    ) (emit-composite-at t) emit-composite.Post
-emit-composite-emit-definition-requires t c κs = tt
-
-emit-composite-set-emit-state-requires-2 :
-    (t : ℕ) → emit-composite-lts.Need-set-emit-state-requires-2 (
-      is-named-reads.Asked,
-      is-named-reads.Learnt,
-      set-emit-state-reads.Asked,
-      set-emit-state-reads.Learnt,
-      inner-reads.Asked,
-      inner-reads.Learnt,
-      emit-members-below t,
-      emit-members.Post,
-      emit-definition-reads.Asked,
-      emit-definition-reads.Learnt,
-      emit-mention-reads.Asked,
-      emit-mention-reads.Learnt,
-    ) (emit-composite-at t) emit-composite.Post
-emit-composite-set-emit-state-requires-2 t c κs = tt
-
-emit-composite-same-length : (t : ℕ) → emit-composite-lts.Need-same-length (emit-composite-claims t) (emit-composite-at t) emit-composite.Post
-emit-composite-same-length t c = c .before .before .set-emit-state2 .kept .0 ∙ c .before .before .before .before .before .before .before .before .emit-definition .kept .1 .1 .0 ∙ c .before .before .before .before .before .before .before .before .before .before .before .before .before .before .before .emit-members .kept .1 .1 .0 ∙ c .before .before .before .before .before .before .before .before .before .before .before .before .before .before .before .before .before .before .before .before .before .before .set-emit-state .kept .0
-
-emit-composite-same-length-2 : (t : ℕ) → emit-composite-lts.Need-same-length-2 (emit-composite-claims t) (emit-composite-at t) emit-composite.Post
-emit-composite-same-length-2 t c = c .before .before .before .before .before .before .before .before .emit-definition .kept .1 .1 .1 .0 ∙ c .before .before .before .before .before .before .before .before .before .before .before .before .before .before .before .emit-members .kept .1 .1 .1 .0
-
-emit-composite-returns : (t : ℕ) → emit-composite-lts.Need-returns (emit-composite-claims t) (emit-composite-at t) emit-composite.Post
-emit-composite-returns t c = λ n. laws.composite-top _ _ n _ _ _ _ _ _ _ (c .before .before .before .before .before .before .before .before .before .before .before .before .before .before .before .before .before .before .before .before .before .before .before .before .before .before .before .before .pre .1) _ (c .before .before .before .before .before .before .before .before .before .before .before .before .before .before .before .before .before .before .before .before .before .before .before .before .is-named .ensures) _ _ (c .before .before .before .before .before .before .before .before .before .before .before .before .before .before .before .before .before .before .before .before .before .before .set-emit-state .ensures) (c .before .before .before .before .before .before .before .before .before .before .before .before .before .before .before .before .before .before .before .if1 .taken) _ (c .before .before .before .before .before .before .before .before .before .before .before .before .before .before .before .before .before .before .inner .ensures) _ _ _ (c .before .before .before .before .before .before .before .before .before .before .before .before .before .before .before .emit-members .ensures n) _ _ _ (c .before .before .before .before .before .before .before .before .emit-definition .ensures) _ (c .before .before .set-emit-state2 .ensures)
-
-emit-composite-emit-members-requires-2 : (t : ℕ) → emit-composite-lts.Need-emit-members-requires-2 (emit-composite-claims t) (emit-composite-at t) emit-composite.Post
-emit-composite-emit-members-requires-2 t c κs = (omega arith, tt)
-
-emit-composite-set-emit-state-requires-3 :
-    (t : ℕ) → emit-composite-lts.Need-set-emit-state-requires-3 (
-      is-named-reads.Asked,
-      is-named-reads.Learnt,
-      set-emit-state-reads.Asked,
-      set-emit-state-reads.Learnt,
-      inner-reads.Asked,
-      inner-reads.Learnt,
-      emit-members-below t,
-      emit-members.Post,
-      emit-definition-reads.Asked,
-      emit-definition-reads.Learnt,
-      emit-mention-reads.Asked,
-      emit-mention-reads.Learnt,
-    ) (emit-composite-at t) emit-composite.Post
-emit-composite-set-emit-state-requires-3 t c κs = tt
+emit-composite-end-composite-requires : (t : ℕ) → emit-composite-lts.Need-end-composite-requires (emit-composite-claims t) (emit-composite-at t) emit-composite.Post
+emit-composite-end-composite-requires t c κs = tt
 
 emit-composite-same-length-3 : (t : ℕ) → emit-composite-lts.Need-same-length-3 (emit-composite-claims t) (emit-composite-at t) emit-composite.Post
-emit-composite-same-length-3 t c = c .before .before .set-emit-state3 .kept .0 ∙ c .before .before .before .before .before .before .before .before .emit-members2 .kept .1 .1 .0 ∙ c .before .before .before .before .before .before .before .before .before .before .before .before .before .before .before .set-emit-state .kept .0
+emit-composite-same-length-3 t c = c .before .before .before .before .end-composite .kept .1 .1 .0 ∙ c .before .before .before .before .before .before .before .before .before .before .before .emit-members .kept .1 .1 .0 ∙ c .before .before .before .before .before .before .before .before .before .before .before .before .before .before .before .before .before .set-emit-state .kept .0
 
 emit-composite-same-length-4 : (t : ℕ) → emit-composite-lts.Need-same-length-4 (emit-composite-claims t) (emit-composite-at t) emit-composite.Post
-emit-composite-same-length-4 t c = c .before .before .before .before .before .before .before .before .emit-members2 .kept .1 .1 .1 .0
+emit-composite-same-length-4 t c = c .before .before .before .before .end-composite .kept .1 .1 .1 .0 ∙ c .before .before .before .before .before .before .before .before .before .before .before .emit-members .kept .1 .1 .1 .0
 
 emit-composite-returns-2 : (t : ℕ) → emit-composite-lts.Need-returns-2 (emit-composite-claims t) (emit-composite-at t) emit-composite.Post
-emit-composite-returns-2 t c = λ n. laws.composite-nameless _ _ n _ _ _ _ _ _ _ (c .before .before .before .before .before .before .before .before .before .before .before .before .before .before .before .before .before .before .before .before .before .pre .1) _ (c .before .before .before .before .before .before .before .before .before .before .before .before .before .before .before .before .before .is-named .ensures) _ _ (c .before .before .before .before .before .before .before .before .before .before .before .before .before .before .before .set-emit-state .ensures) (c .before .before .before .before .before .before .before .before .before .before .before .before .if1 .left) (laws.not-true _ (c .before .before .before .before .before .before .before .before .before .before .before .if2 .taken)) _ _ _ (c .before .before .before .before .before .before .before .before .emit-members2 .ensures n) _ (c .before .before .set-emit-state3 .ensures)
-
-emit-composite-emit-mention-requires : (t : ℕ) → emit-composite-lts.Need-emit-mention-requires (emit-composite-claims t) (emit-composite-at t) emit-composite.Post
-emit-composite-emit-mention-requires t c κs = tt
-
-emit-composite-set-emit-state-requires-4 :
-    (t : ℕ) → emit-composite-lts.Need-set-emit-state-requires-4 (
-      is-named-reads.Asked,
-      is-named-reads.Learnt,
-      set-emit-state-reads.Asked,
-      set-emit-state-reads.Learnt,
-      inner-reads.Asked,
-      inner-reads.Learnt,
-      emit-members-below t,
-      emit-members.Post,
-      emit-definition-reads.Asked,
-      emit-definition-reads.Learnt,
-      emit-mention-reads.Asked,
-      emit-mention-reads.Learnt,
-    ) (emit-composite-at t) emit-composite.Post
-emit-composite-set-emit-state-requires-4 t c κs = tt
-
-emit-composite-same-length-5 : (t : ℕ) → emit-composite-lts.Need-same-length-5 (emit-composite-claims t) (emit-composite-at t) emit-composite.Post
-emit-composite-same-length-5 t c = c .before .before .set-emit-state4 .kept .0 ∙ c .before .before .before .before .before .before .before .before .emit-mention .kept .1 .1 .0 ∙ c .before .before .before .before .before .before .before .before .before .before .before .before .before .before .before .set-emit-state .kept .0
-
-emit-composite-same-length-6 : (t : ℕ) → emit-composite-lts.Need-same-length-6 (emit-composite-claims t) (emit-composite-at t) emit-composite.Post
-emit-composite-same-length-6 t c = c .before .before .before .before .before .before .before .before .emit-mention .kept .1 .1 .1 .0
-
-emit-composite-returns-3 : (t : ℕ) → emit-composite-lts.Need-returns-3 (emit-composite-claims t) (emit-composite-at t) emit-composite.Post
-emit-composite-returns-3 t c = λ n. laws.composite-mention _ _ n _ _ _ _ _ _ _ (c .before .before .before .before .before .before .before .before .before .before .before .before .before .before .before .before .before .before .before .before .before .pre .1) _ (c .before .before .before .before .before .before .before .before .before .before .before .before .before .before .before .before .before .is-named .ensures) _ _ (c .before .before .before .before .before .before .before .before .before .before .before .before .before .before .before .set-emit-state .ensures) (c .before .before .before .before .before .before .before .before .before .before .before .before .if1 .left) (laws.not-false _ (c .before .before .before .before .before .before .before .before .before .before .before .if2 .left)) _ _ _ (c .before .before .before .before .before .before .before .before .emit-mention .ensures n) _ (c .before .before .set-emit-state4 .ensures)
+emit-composite-returns-2 t c = λ n. laws.composite-ends _ _ n _ _ _ _ _ _ _ (c .before .before .before .before .before .before .before .before .before .before .before .before .before .before .before .before .before .before .before .before .before .before .before .before .pre .1) _ (c .before .before .before .before .before .before .before .before .before .before .before .before .before .before .before .before .before .before .before .before .is-named .ensures) _ (c .before .before .before .before .before .before .before .before .before .before .before .before .before .before .before .before .before .before .before .if1 .left) _ (c .before .before .before .before .before .before .before .before .before .before .before .before .before .before .before .before .before .set-emit-state .ensures) _ (c .before .before .before .before .before .before .before .before .before .before .before .before .before .before .inner .ensures) _ _ _ (c .before .before .before .before .before .before .before .before .before .before .before .emit-members .ensures n) _ (c .before .before .before .before .end-composite .ensures n)
 
 abbrev emit-members-Inv-loop : emit-members-lts.InvT-loop
 emit-members-Inv-loop b section work₀ text₀ at members cont-id left vlen p₀ k₀ work text p k = (k ≤ vlen) × (length work ≡ length work₀) × (length text ≡ length text₀) × (vlen < 4294967296) × (vlen ≡ members .vlen) × ((n : ℕ) → laws.Rest b section work₀ left cont-id (λ i. sectionWord b section (memberAt (members .at) i + 4)) n p₀ text₀ (members .vlen) p text work k)
@@ -315,7 +239,7 @@ emit-members-word-requires : (t : ℕ) → emit-members-lts.Need-word-requires (
 emit-members-word-requires t c κs = tt
 
 emit-members-emit-type-requires : (t : ℕ) → emit-members-lts.Need-emit-type-requires (emit-members-claims t) (emit-members-at t) emit-members.Post emit-members-Inv-loop emit-members-μ-loop
-emit-members-emit-type-requires t c κs = (omega arith, tt)
+emit-members-emit-type-requires t c κs = (measures.to-loop-type (c .before .before .before .before .before .before .before .before .before .args .left) t (c .before .before .before .before .before .before .before .before .before .pre .0), tt)
 
 emit-members-add-k : (t : ℕ) → emit-members-lts.Need-add-k (emit-members-claims t) (emit-members-at t) emit-members.Post emit-members-Inv-loop emit-members-μ-loop
 emit-members-add-k t c = omega arith
@@ -327,10 +251,10 @@ emit-members-loop-again : (t : ℕ) → emit-members-lts.Need-loop-again (emit-m
 emit-members-loop-again t c = (omega arith, c .before .before .before .before .emit-type .kept .1 .1 .0 ∙ c .before .before .before .before .before .before .before .before .before .before .loop .inv .1, c .before .before .before .before .emit-type .kept .1 .1 .1 .0 ∙ c .before .before .before .before .before .before .before .before .before .before .loop .inv .2, c .before .before .before .before .before .before .before .before .before .before .loop .inv .3, c .before .before .before .before .before .before .before .before .before .before .loop .inv .4, λ n. laws.rest-turn _ _ _ _ _ _ n _ _ _ _ _ _ _ (c .before .before .before .before .before .before .before .before .before .before .loop .inv .5 n) _ (λ _. entry-word _ _ _ _ _ (c .before .before .before .before .before .before .before .word .ensures) (c .before .before .before .before .before .before .before .before .member-place .ensures)) _ _ _ (c .before .before .before .before .emit-type .ensures n) (omega arith))
 
 emit-members-same-length : (t : ℕ) → emit-members-lts.Need-same-length (emit-members-claims t) (emit-members-at t) emit-members.Post emit-members-Inv-loop emit-members-μ-loop
-emit-members-same-length t c = search needs
+emit-members-same-length t c = c .before .loop .inv .1
 
 emit-members-same-length-2 : (t : ℕ) → emit-members-lts.Need-same-length-2 (emit-members-claims t) (emit-members-at t) emit-members.Post emit-members-Inv-loop emit-members-μ-loop
-emit-members-same-length-2 t c = search needs
+emit-members-same-length-2 t c = c .before .loop .inv .2
 
 emit-members-returns : (t : ℕ) → emit-members-lts.Need-returns (emit-members-claims t) (emit-members-at t) emit-members.Post emit-members-Inv-loop emit-members-μ-loop
 emit-members-returns t c = λ n. laws.members-end _ _ _ _ _ n _ _ _ _ _ _ _ (c .before .loop .inv .5 n) (omega arith)
@@ -348,19 +272,19 @@ emit-new-enum-known-is-fwd : (t : ℕ) → emit-new-lts.Need-enum-known-is-fwd (
 emit-new-enum-known-is-fwd t c = search needs
 
 emit-new-emit-leaf-requires : (t : ℕ) → emit-new-lts.Need-emit-leaf-requires (emit-new-claims t) (emit-new-at t) emit-new.Post
-emit-new-emit-leaf-requires t c κs = c .before .before .before .before .before .before .before .before .before .pre .1
+emit-new-emit-leaf-requires t c κs = tt
 
 emit-new-enum-known-next : (t : ℕ) → emit-new-lts.Need-enum-known-next (emit-new-claims t) (emit-new-at t) emit-new.Post
 emit-new-enum-known-next t c = search needs
 
 emit-new-emit-type-requires : (t : ℕ) → emit-new-lts.Need-emit-type-requires (emit-new-claims t) (emit-new-at t) emit-new.Post
-emit-new-emit-type-requires t c κs = (omega arith, tt)
+emit-new-emit-type-requires t c κs = (measures.to-new-type (c .before .before .before .before .before .before .before .before .before .args .left) t (c .before .before .before .before .before .before .before .before .before .pre .0), tt)
 
 emit-new-enum-known-next-2 : (t : ℕ) → emit-new-lts.Need-enum-known-next-2 (emit-new-claims t) (emit-new-at t) emit-new.Post
 emit-new-enum-known-next-2 t c = search needs
 
 emit-new-emit-type-requires-2 : (t : ℕ) → emit-new-lts.Need-emit-type-requires-2 (emit-new-claims t) (emit-new-at t) emit-new.Post
-emit-new-emit-type-requires-2 t c κs = (omega arith, tt)
+emit-new-emit-type-requires-2 t c κs = (measures.to-new-type (c .before .before .before .before .before .before .before .before .before .args .left) t (c .before .before .before .before .before .before .before .before .before .pre .0), tt)
 
 emit-new-enum-known-next-3 : (t : ℕ) → emit-new-lts.Need-enum-known-next-3 (emit-new-claims t) (emit-new-at t) emit-new.Post
 emit-new-enum-known-next-3 t c = search needs
@@ -369,28 +293,25 @@ emit-new-set-emit-state-requires : (t : ℕ) → emit-new-lts.Need-set-emit-stat
 emit-new-set-emit-state-requires t c κs = tt
 
 emit-new-emit-type-requires-3 : (t : ℕ) → emit-new-lts.Need-emit-type-requires-3 (emit-new-claims t) (emit-new-at t) emit-new.Post
-emit-new-emit-type-requires-3 t c κs = (omega arith, tt)
+emit-new-emit-type-requires-3 t c κs = (measures.to-new-type (c .before .before .before .before .before .before .before .before .before .before .before .before .before .args .left) t (c .before .before .before .before .before .before .before .before .before .before .before .before .before .pre .0), tt)
 
-emit-new-emit-once-requires : (t : ℕ) → emit-new-lts.Need-emit-once-requires (emit-new-claims t) (emit-new-at t) emit-new.Post
-emit-new-emit-once-requires t c κs = tt
-
-emit-new-set-emit-state-requires-2 : (t : ℕ) → emit-new-lts.Need-set-emit-state-requires-2 (emit-new-claims t) (emit-new-at t) emit-new.Post
-emit-new-set-emit-state-requires-2 t c κs = tt
+emit-new-end-typedef-requires : (t : ℕ) → emit-new-lts.Need-end-typedef-requires (emit-new-claims t) (emit-new-at t) emit-new.Post
+emit-new-end-typedef-requires t c κs = tt
 
 emit-new-enum-known-res : (t : ℕ) → emit-new-lts.Need-enum-known-res (emit-new-claims t) (emit-new-at t) emit-new.Post
 emit-new-enum-known-res t c = search needs
 
 emit-new-emit-type-requires-4 : (t : ℕ) → emit-new-lts.Need-emit-type-requires-4 (emit-new-claims t) (emit-new-at t) emit-new.Post
-emit-new-emit-type-requires-4 t c κs = (omega arith, tt)
+emit-new-emit-type-requires-4 t c κs = (measures.to-new-type (c .before .before .before .before .before .before .before .before .before .args .left) t (c .before .before .before .before .before .before .before .before .before .pre .0), tt)
 
 emit-new-emit-params-requires : (t : ℕ) → emit-new-lts.Need-emit-params-requires (emit-new-claims t) (emit-new-at t) emit-new.Post
-emit-new-emit-params-requires t c κs = (omega arith, tt)
+emit-new-emit-params-requires t c κs = (measures.to-new-params (c .before .before .before .before .before .before .before .before .before .before .before .before .before .before .before .before .args .left) t (c .before .before .before .before .before .before .before .before .before .before .before .before .before .before .before .before .pre .0), tt)
 
 emit-new-enum-known-members : (t : ℕ) → emit-new-lts.Need-enum-known-members (emit-new-claims t) (emit-new-at t) emit-new.Post
 emit-new-enum-known-members t c = search needs
 
 emit-new-emit-composite-requires : (t : ℕ) → emit-new-lts.Need-emit-composite-requires (emit-new-claims t) (emit-new-at t) emit-new.Post
-emit-new-emit-composite-requires t c κs = (omega arith, c .before .before .before .before .before .before .before .before .before .pre .1)
+emit-new-emit-composite-requires t c κs = (measures.to-new-composite (c .before .before .before .before .before .before .before .before .before .args .left) t (c .before .before .before .before .before .before .before .before .before .pre .0), c .before .before .before .before .before .before .before .before .before .pre .1)
 
 emit-new-returns : (t : ℕ) → emit-new-lts.Need-returns (emit-new-claims t) (emit-new-at t) emit-new.Post
 emit-new-returns t c = λ n. laws.new-ignored _ _ n _ _ _ _ _ _ _ (c .before .before .before .before .before .before .pre .1) _ (c .before .before .node-of .ensures) _ (c .enum-told .given .1) refl
@@ -426,13 +347,13 @@ emit-new-returns-5 : (t : ℕ) → emit-new-lts.Need-returns-5 (emit-new-claims 
 emit-new-returns-5 t c = λ n. laws.new-ptr _ _ n _ _ _ _ _ _ _ (c .before .before .before .before .before .before .before .before .before .before .before .before .before .before .pre .1) _ (c .before .before .before .before .before .before .before .before .before .before .node-of .ensures) _ _ (c .before .before .before .before .before .before .before .before .next2 .given .1) (c .before .before .before .before .emit-type2 .ensures n)
 
 emit-new-same-length-7 : (t : ℕ) → emit-new-lts.Need-same-length-7 (emit-new-claims t) (emit-new-at t) emit-new.Post
-emit-new-same-length-7 t c = c .before .before .set-emit-state2 .kept .0 ∙ c .before .before .before .before .before .before .before .before .emit-once .kept .1 .1 .0 ∙ c .before .before .before .before .before .before .before .before .before .before .before .before .before .before .before .emit-type3 .kept .1 .1 .0 ∙ c .before .before .before .before .before .before .before .before .before .before .before .before .before .before .before .before .before .before .before .before .set-emit-state .kept .0
+emit-new-same-length-7 t c = c .before .before .before .before .end-typedef .kept .1 .1 .0 ∙ c .before .before .before .before .before .before .before .before .before .before .before .emit-type3 .kept .1 .1 .0 ∙ c .before .before .before .before .before .before .before .before .before .before .before .before .before .before .before .before .set-emit-state .kept .0
 
 emit-new-same-length-8 : (t : ℕ) → emit-new-lts.Need-same-length-8 (emit-new-claims t) (emit-new-at t) emit-new.Post
-emit-new-same-length-8 t c = c .before .before .before .before .before .before .before .before .emit-once .kept .1 .1 .1 .0 ∙ c .before .before .before .before .before .before .before .before .before .before .before .before .before .before .before .emit-type3 .kept .1 .1 .1 .0
+emit-new-same-length-8 t c = c .before .before .before .before .end-typedef .kept .1 .1 .1 .0 ∙ c .before .before .before .before .before .before .before .before .before .before .before .emit-type3 .kept .1 .1 .1 .0
 
 emit-new-returns-6 : (t : ℕ) → emit-new-lts.Need-returns-6 (emit-new-claims t) (emit-new-at t) emit-new.Post
-emit-new-returns-6 t c = λ n. laws.new-typedef _ _ n _ _ _ _ _ _ _ (c .before .before .before .before .before .before .before .before .before .before .before .before .before .before .before .before .before .before .before .before .before .before .before .before .before .before .before .before .before .pre .1) _ (c .before .before .before .before .before .before .before .before .before .before .before .before .before .before .before .before .before .before .before .before .before .before .before .before .before .node-of .ensures) _ _ (c .before .before .before .before .before .before .before .before .before .before .before .before .before .before .before .before .before .before .before .before .before .before .before .next3 .given .1) _ (c .before .before .before .before .before .before .before .before .before .before .before .before .before .before .before .before .before .before .before .before .set-emit-state .ensures) _ _ _ (c .before .before .before .before .before .before .before .before .before .before .before .before .before .before .before .emit-type3 .ensures n) _ _ _ (c .before .before .before .before .before .before .before .before .emit-once .ensures n) _ (c .before .before .set-emit-state2 .ensures) refl
+emit-new-returns-6 t c = λ n. laws.new-typedef _ _ n _ _ _ _ _ _ _ (c .before .before .before .before .before .before .before .before .before .before .before .before .before .before .before .before .before .before .before .before .before .before .before .before .before .pre .1) _ (c .before .before .before .before .before .before .before .before .before .before .before .before .before .before .before .before .before .before .before .before .before .node-of .ensures) _ _ (c .before .before .before .before .before .before .before .before .before .before .before .before .before .before .before .before .before .before .before .next3 .given .1) _ (c .before .before .before .before .before .before .before .before .before .before .before .before .before .before .before .before .set-emit-state .ensures) _ _ _ (c .before .before .before .before .before .before .before .before .before .before .before .emit-type3 .ensures n) (c .before .before .before .before .end-typedef .ensures n)
 
 emit-new-same-length-9 : (t : ℕ) → emit-new-lts.Need-same-length-9 (emit-new-claims t) (emit-new-at t) emit-new.Post
 emit-new-same-length-9 t c = c .before .before .before .before .emit-params .kept .1 .1 .0 ∙ c .before .before .before .before .before .before .before .before .before .before .before .emit-type4 .kept .1 .1 .0
@@ -471,7 +392,7 @@ emit-params-word-requires : (t : ℕ) → emit-params-lts.Need-word-requires (em
 emit-params-word-requires t c κs = tt
 
 emit-params-emit-type-requires : (t : ℕ) → emit-params-lts.Need-emit-type-requires (emit-params-claims t) (emit-params-at t) emit-params.Post emit-params-Inv-loop emit-params-μ-loop
-emit-params-emit-type-requires t c κs = (omega arith, tt)
+emit-params-emit-type-requires t c κs = (measures.to-loop-type (c .before .before .before .before .before .before .before .before .before .args .left) t (c .before .before .before .before .before .before .before .before .before .pre .0), tt)
 
 emit-params-add-k : (t : ℕ) → emit-params-lts.Need-add-k (emit-params-claims t) (emit-params-at t) emit-params.Post emit-params-Inv-loop emit-params-μ-loop
 emit-params-add-k t c = omega arith
@@ -483,10 +404,10 @@ emit-params-loop-again : (t : ℕ) → emit-params-lts.Need-loop-again (emit-par
 emit-params-loop-again t c = (omega arith, c .before .before .before .before .emit-type .kept .1 .1 .0 ∙ c .before .before .before .before .before .before .before .before .before .before .loop .inv .1, c .before .before .before .before .emit-type .kept .1 .1 .1 .0 ∙ c .before .before .before .before .before .before .before .before .before .before .loop .inv .2, c .before .before .before .before .before .before .before .before .before .before .loop .inv .3, c .before .before .before .before .before .before .before .before .before .before .loop .inv .4, λ n. laws.rest-turn _ _ _ _ _ _ n _ _ _ _ _ _ _ (c .before .before .before .before .before .before .before .before .before .before .loop .inv .5 n) _ (λ _. entry-word _ _ _ _ _ (c .before .before .before .before .before .before .before .word .ensures) (c .before .before .before .before .before .before .before .before .param-place .ensures)) _ _ _ (c .before .before .before .before .emit-type .ensures n) (omega arith))
 
 emit-params-same-length : (t : ℕ) → emit-params-lts.Need-same-length (emit-params-claims t) (emit-params-at t) emit-params.Post emit-params-Inv-loop emit-params-μ-loop
-emit-params-same-length t c = search needs
+emit-params-same-length t c = c .before .loop .inv .1
 
 emit-params-same-length-2 : (t : ℕ) → emit-params-lts.Need-same-length-2 (emit-params-claims t) (emit-params-at t) emit-params.Post emit-params-Inv-loop emit-params-μ-loop
-emit-params-same-length-2 t c = search needs
+emit-params-same-length-2 t c = c .before .loop .inv .2
 
 emit-params-returns : (t : ℕ) → emit-params-lts.Need-returns (emit-params-claims t) (emit-params-at t) emit-params.Post emit-params-Inv-loop emit-params-μ-loop
 emit-params-returns t c = λ n. laws.params-end _ _ _ _ _ n _ _ _ _ _ _ _ (c .before .loop .inv .5 n) (omega arith)
@@ -495,7 +416,7 @@ emit-type-stopped-requires : (t : ℕ) → emit-type-lts.Need-stopped-requires (
 emit-type-stopped-requires t c κs = tt
 
 emit-type-same-length : (t : ℕ) → emit-type-lts.Need-same-length (emit-type-claims t) (emit-type-at t) emit-type.Post
-emit-type-same-length t c = search needs
+emit-type-same-length t c = refl
 
 emit-type-returns : (t : ℕ) → emit-type-lts.Need-returns (emit-type-claims t) (emit-type-at t) emit-type.Post
 emit-type-returns t c = λ n. laws.stopped-sheet n _ _ _ _ (sym (c .before .stopped .ensures) ∙ c .if1 .taken)
@@ -504,7 +425,7 @@ emit-type-stop-requires : (t : ℕ) → emit-type-lts.Need-stop-requires (emit-t
 emit-type-stop-requires t c κs = tt
 
 emit-type-same-length-2 : (t : ℕ) → emit-type-lts.Need-same-length-2 (emit-type-claims t) (emit-type-at t) emit-type.Post
-emit-type-same-length-2 t c = search needs
+emit-type-same-length-2 t c = refl
 
 emit-type-returns-2 : (t : ℕ) → emit-type-lts.Need-returns-2 (emit-type-claims t) (emit-type-at t) emit-type.Post
 emit-type-returns-2 t c = λ n. laws.too-deep _ _ n _ _ _ _ _ _ (c .before .before .if2 .taken) _ (c .stop .ensures)
@@ -513,10 +434,10 @@ emit-type-get-emit-state-requires : (t : ℕ) → emit-type-lts.Need-get-emit-st
 emit-type-get-emit-state-requires t c κs = tt
 
 emit-type-same-length-3 : (t : ℕ) → emit-type-lts.Need-same-length-3 (emit-type-claims t) (emit-type-at t) emit-type.Post
-emit-type-same-length-3 t c = search needs
+emit-type-same-length-3 t c = refl
 
 emit-type-same-length-4 : (t : ℕ) → emit-type-lts.Need-same-length-4 (emit-type-claims t) (emit-type-at t) emit-type.Post
-emit-type-same-length-4 t c = search needs
+emit-type-same-length-4 t c = refl
 
 emit-type-returns-3 : (t : ℕ) → emit-type-lts.Need-returns-3 (emit-type-claims t) (emit-type-at t) emit-type.Post
 emit-type-returns-3 t c = λ n. laws.emit-done _ _ n _ _ _ _ _ _ (c .before .before .before .if2 .left) _ (c .before .get-emit-state .ensures) (c .if3 .taken)
@@ -543,10 +464,10 @@ emit-type-stop-requires-2 : (t : ℕ) → emit-type-lts.Need-stop-requires-2 (em
 emit-type-stop-requires-2 t c κs = tt
 
 emit-type-same-length-7 : (t : ℕ) → emit-type-lts.Need-same-length-7 (emit-type-claims t) (emit-type-at t) emit-type.Post
-emit-type-same-length-7 t c = search needs
+emit-type-same-length-7 t c = refl
 
 emit-type-same-length-8 : (t : ℕ) → emit-type-lts.Need-same-length-8 (emit-type-claims t) (emit-type-at t) emit-type.Post
-emit-type-same-length-8 t c = search needs
+emit-type-same-length-8 t c = refl
 
 emit-type-returns-5 : (t : ℕ) → emit-type-lts.Need-returns-5 (emit-type-claims t) (emit-type-at t) emit-type.Post
 emit-type-returns-5 t c = λ n. laws.emit-nameless _ _ n _ _ _ _ _ _ (c .before .before .before .before .before .before .before .before .before .before .if2 .left) _ (c .before .before .before .before .before .before .before .before .get-emit-state .ensures) (c .before .before .before .before .before .before .before .if3 .left) (c .before .before .before .before .before .before .if4 .left) _ (c .before .before .before .before .type-by-id .ensures) _ (c .before .before .before .is-named .ensures) (c .before .before .if5 .taken) _ (c .stop2 .ensures)
@@ -555,7 +476,7 @@ emit-type-sub-emit-new : (t : ℕ) → emit-type-lts.Need-sub-emit-new (emit-typ
 emit-type-sub-emit-new t c = omega arith
 
 emit-type-emit-new-requires : (t : ℕ) → emit-type-lts.Need-emit-new-requires (emit-type-claims t) (emit-type-at t) emit-type.Post
-emit-type-emit-new-requires t c κs = (omega arith, c .before .before .before .before .type-by-id .ensures)
+emit-type-emit-new-requires t c κs = (measures.to-type-new (c .before .before .before .before .before .before .before .before .before .before .before .before .before .before .before .before .before .args .left) t (c .before .before .before .before .before .before .before .before .before .before .before .before .before .before .before .before .before .pre .0) (c .before .before .before .before .before .before .before .before .before .before .if2 .left), c .before .before .before .before .type-by-id .ensures)
 
 emit-type-same-length-9 : (t : ℕ) → emit-type-lts.Need-same-length-9 (emit-type-claims t) (emit-type-at t) emit-type.Post
 emit-type-same-length-9 t c = c .before .before .before .before .emit-new .kept .1 .1 .0
@@ -574,49 +495,22 @@ pub +emit-composite+emit-members+emit-new+emit-params+emit-type-spec : {M : Type
     μ-emit-new
     μ-emit-params
     μ-emit-type
-    (λ t. emit-composite-lts.spec (
-      is-named-reads.Asked,
-      is-named-reads.Learnt,
-      set-emit-state-reads.Asked,
-      set-emit-state-reads.Learnt,
-      inner-reads.Asked,
-      inner-reads.Learnt,
-      emit-members-below t,
-      emit-members.Post,
-      emit-definition-reads.Asked,
-      emit-definition-reads.Learnt,
-      emit-mention-reads.Asked,
-      emit-mention-reads.Learnt,
-    )
+    (λ t. emit-composite-lts.spec (emit-composite-claims t)
     (emit-composite-at t)
     emit-composite.Post
     (emit-composite-is-named-requires t)
-    (emit-composite-set-emit-state-requires t)
-    (emit-composite-inner-requires t)
-    (emit-composite-emit-members-requires t)
-    (emit-composite-emit-definition-requires t)
-    (emit-composite-set-emit-state-requires-2 t)
+    (emit-composite-mention-composite-requires t)
     (emit-composite-same-length t)
     (emit-composite-same-length-2 t)
     (emit-composite-returns t)
-    (emit-composite-emit-members-requires-2 t)
-    (emit-composite-set-emit-state-requires-3 t)
+    (emit-composite-set-emit-state-requires t)
+    (emit-composite-inner-requires t)
+    (emit-composite-emit-members-requires t)
+    (emit-composite-end-composite-requires t)
     (emit-composite-same-length-3 t)
     (emit-composite-same-length-4 t)
-    (emit-composite-returns-2 t)
-    (emit-composite-emit-mention-requires t)
-    (emit-composite-set-emit-state-requires-4 t)
-    (emit-composite-same-length-5 t)
-    (emit-composite-same-length-6 t)
-    (emit-composite-returns-3 t))
-    (λ t. emit-members-lts.spec (
-      member-place-reads.Asked,
-      member-place-reads.Learnt,
-      word-reads.Asked,
-      word-reads.Learnt,
-      emit-type-below t,
-      emit-type.Post,
-    )
+    (emit-composite-returns-2 t))
+    (λ t. emit-members-lts.spec (emit-members-claims t)
     (emit-members-at t)
     emit-members.Post
     emit-members-Inv-loop
@@ -632,22 +526,7 @@ pub +emit-composite+emit-members+emit-new+emit-params+emit-type-spec : {M : Type
     (emit-members-same-length t)
     (emit-members-same-length-2 t)
     (emit-members-returns t))
-    (λ t. emit-new-lts.spec (
-      node-of-reads.Asked,
-      node-of-reads.Learnt,
-      emit-leaf-reads.Asked,
-      emit-leaf-reads.Learnt,
-      emit-type-below t,
-      emit-type.Post,
-      set-emit-state-reads.Asked,
-      set-emit-state-reads.Learnt,
-      emit-once-reads.Asked,
-      emit-once-reads.Learnt,
-      emit-params-below t,
-      emit-params.Post,
-      emit-composite-below t,
-      emit-composite.Post,
-    )
+    (λ t. emit-new-lts.spec (emit-new-claims t)
     (emit-new-at t)
     emit-new.Post
     (emit-new-node-of-requires t)
@@ -662,8 +541,7 @@ pub +emit-composite+emit-members+emit-new+emit-params+emit-type-spec : {M : Type
     (emit-new-enum-known-next-3 t)
     (emit-new-set-emit-state-requires t)
     (emit-new-emit-type-requires-3 t)
-    (emit-new-emit-once-requires t)
-    (emit-new-set-emit-state-requires-2 t)
+    (emit-new-end-typedef-requires t)
     (emit-new-enum-known-res t)
     (emit-new-emit-type-requires-4 t)
     (emit-new-emit-params-requires t)
@@ -689,14 +567,7 @@ pub +emit-composite+emit-members+emit-new+emit-params+emit-type-spec : {M : Type
     (emit-new-same-length-11 t)
     (emit-new-same-length-12 t)
     (emit-new-returns-8 t))
-    (λ t. emit-params-lts.spec (
-      param-place-reads.Asked,
-      param-place-reads.Learnt,
-      word-reads.Asked,
-      word-reads.Learnt,
-      emit-type-below t,
-      emit-type.Post,
-    )
+    (λ t. emit-params-lts.spec (emit-params-claims t)
     (emit-params-at t)
     emit-params.Post
     emit-params-Inv-loop
@@ -712,22 +583,7 @@ pub +emit-composite+emit-members+emit-new+emit-params+emit-type-spec : {M : Type
     (emit-params-same-length t)
     (emit-params-same-length-2 t)
     (emit-params-returns t))
-    λ t. emit-type-lts.spec (
-      stopped-reads.Asked,
-      stopped-reads.Learnt,
-      stop-reads.Asked,
-      stop-reads.Learnt,
-      get-emit-state-reads.Asked,
-      get-emit-state-reads.Learnt,
-      emit-again-reads.Asked,
-      emit-again-reads.Learnt,
-      type-by-id-reads.Asked,
-      type-by-id-reads.Learnt,
-      is-named-reads.Asked,
-      is-named-reads.Learnt,
-      emit-new-below t,
-      emit-new.Post,
-    )
+    λ t. emit-type-lts.spec (emit-type-claims t)
     (emit-type-at t)
     emit-type.Post
     (emit-type-stopped-requires t)

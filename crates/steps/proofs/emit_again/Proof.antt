@@ -1,24 +1,23 @@
-use mathlib.Core.Path.{_∙_}
+use mathlib.Core.Path.{refl}
 use native.Mathlib.Omega.{arith}
 use Rattle.sheet.proofs.Laws as laws
 use Rattle.lines.proofs.Laws as lines
-use borrow.Author.Needs.{needs}
-use Rattle.emit.proofs.emit_again.Statement.{statement}
-use Rattle.emit.proofs.emit_again.Tie as tie
-use Rattle.emit.proofs.emit_again.Reads as reads
-use Rattle.emit.proofs.emit_again.Lts as lts
+use Rattle.steps.proofs.emit_again.Statement.{statement}
+use Rattle.steps.proofs.emit_again.Tie as tie
+use Rattle.steps.proofs.emit_again.Reads as reads
+use Rattle.steps.proofs.emit_again.Lts as lts
 use Rattle.strings.proofs.is_named.Reads as is-named-reads
 use Rattle.kinds.proofs.kind_of.Reads as kind-of-reads
 use Rattle.nodes.proofs.type_by_id.Reads as type-by-id-reads
-use Rattle.emit.proofs.emit_once.Reads as emit-once-reads
-use Rattle.emit.proofs.get_fwd_emitted.Reads as get-fwd-emitted-reads
+use Rattle.steps.proofs.emit_once.Reads as emit-once-reads
+use Rattle.steps.proofs.get_fwd_emitted.Reads as get-fwd-emitted-reads
 use Rattle.put.proofs.stop.Reads as stop-reads
 
 get-fwd-emitted-requires : tie.Need-get-fwd-emitted-requires
 get-fwd-emitted-requires c κs = tt
 
 same-length : tie.Need-same-length
-same-length c = search needs
+same-length c = refl
 
 returns : tie.Need-returns
 returns c = λ n. laws.again-had _ _ n _ _ _ _ _ _ (c .before .get-fwd-emitted .ensures) (c .if1 .taken)
@@ -33,7 +32,7 @@ emit-once-requires : tie.Need-emit-once-requires
 emit-once-requires c κs = tt
 
 same-length-2 : tie.Need-same-length-2
-same-length-2 c = search needs
+same-length-2 c = refl
 
 returns-2 : tie.Need-returns-2
 returns-2 c = λ n. laws.again-self _ _ n _ _ _ _ _ _ (c .before .before .before .before .before .before .before .before .get-fwd-emitted .ensures) (c .before .before .before .before .before .before .before .if1 .left) _ (c .before .before .before .before .before .type-by-id .ensures) _ (c .before .before .before .before .kind-of .ensures) (c .before .before .if2 .left) (c .before .if3 .taken) (c .if4 .taken)
@@ -45,10 +44,10 @@ stop-requires : tie.Need-stop-requires
 stop-requires c κs = tt
 
 same-length-3 : tie.Need-same-length-3
-same-length-3 c = search needs
+same-length-3 c = refl
 
 same-length-4 : tie.Need-same-length-4
-same-length-4 c = search needs
+same-length-4 c = refl
 
 returns-3 : tie.Need-returns-3
 returns-3 c = λ n. laws.again-nameless _ _ n _ _ _ _ _ _ (c .before .before .before .before .before .before .before .before .before .before .before .before .get-fwd-emitted .ensures) (c .before .before .before .before .before .before .before .before .before .before .before .if1 .left) _ (c .before .before .before .before .before .before .before .before .before .type-by-id .ensures) _ (c .before .before .before .before .before .before .before .before .kind-of .ensures) (c .before .before .before .before .before .before .if2 .left) (c .before .before .before .before .before .if3 .taken) (c .before .before .before .before .if4 .left) _ (c .before .before .before .is-named .ensures) (laws.not-true _ (c .before .before .if5 .taken)) _ (c .stop .ensures)
@@ -75,13 +74,13 @@ returns-5 : tie.Need-returns-5
 returns-5 c = λ n. laws.again-named _ _ n _ _ _ _ _ _ (c .before .before .before .before .before .before .before .before .before .before .before .before .before .before .before .before .before .get-fwd-emitted .ensures) (c .before .before .before .before .before .before .before .before .before .before .before .before .before .before .before .before .if1 .left) _ (c .before .before .before .before .before .before .before .before .before .before .before .before .before .before .type-by-id .ensures) _ (c .before .before .before .before .before .before .before .before .before .before .before .before .before .kind-of .ensures) (c .before .before .before .before .before .before .before .before .before .before .before .if2 .left) (c .before .before .before .before .before .before .before .before .before .before .if3 .taken) (c .before .before .before .before .before .before .before .before .before .if4 .left) _ (c .before .before .before .before .before .before .before .before .is-named .ensures) (laws.not-false _ (c .before .before .before .before .before .before .before .if5 .left)) _ (c .before .before .before .before .emit-once2 .ensures n)
 
 same-length-9 : tie.Need-same-length-9
-same-length-9 c = search needs
+same-length-9 c = refl
 
 returns-6 : tie.Need-returns-6
 returns-6 c = λ n. laws.again-other _ _ n _ _ _ _ _ _ (c .before .before .before .before .before .before .get-fwd-emitted .ensures) (c .before .before .before .before .before .if1 .left) _ (c .before .before .before .type-by-id .ensures) _ (c .before .before .kind-of .ensures) (lines.lt-ne _ 4 4 (c .if2 .taken) (omega arith)) (lines.lt-ne _ 4 5 (c .if2 .taken) (omega arith)) (lines.lt-ne _ 4 8 (c .if2 .taken) (omega arith))
 
 same-length-10 : tie.Need-same-length-10
-same-length-10 c = search needs
+same-length-10 c = refl
 
 returns-7 : tie.Need-returns-7
 returns-7 c = λ n. laws.again-other _ _ n _ _ _ _ _ _ (c .before .before .before .before .before .before .before .get-fwd-emitted .ensures) (c .before .before .before .before .before .before .if1 .left) _ (c .before .before .before .before .type-by-id .ensures) _ (c .before .before .before .kind-of .ensures) (lines.gt-ne _ 6 4 (c .if3 .left) (omega arith)) (lines.gt-ne _ 6 5 (c .if3 .left) (omega arith)) (c .before .before .match .rest .1)

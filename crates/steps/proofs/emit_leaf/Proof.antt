@@ -1,12 +1,11 @@
 use mathlib.Core.Path.{_∙_}
 use Rattle.sheet.proofs.Laws as laws
-use borrow.Author.Needs.{needs}
-use Rattle.emit.proofs.emit_leaf.Statement.{statement}
-use Rattle.emit.proofs.emit_leaf.Tie as tie
-use Rattle.emit.proofs.emit_leaf.Reads as reads
-use Rattle.emit.proofs.emit_leaf.Lts as lts
+use Rattle.steps.proofs.emit_leaf.Statement.{statement}
+use Rattle.steps.proofs.emit_leaf.Tie as tie
+use Rattle.steps.proofs.emit_leaf.Reads as reads
+use Rattle.steps.proofs.emit_leaf.Lts as lts
 use Rattle.lines.proofs.emit_definition.Reads as emit-definition-reads
-use Rattle.emit.proofs.set_emit_state.Reads as set-emit-state-reads
+use Rattle.steps.proofs.set_emit_state.Reads as set-emit-state-reads
 
 emit-definition-requires : tie.Need-emit-definition-requires
 emit-definition-requires c κs = tt
@@ -21,7 +20,7 @@ same-length-2 : tie.Need-same-length-2
 same-length-2 c = c .before .before .before .before .before .before .before .before .emit-definition .kept .1 .1 .1 .0
 
 returns : tie.Need-returns
-returns c = λ n. laws.leaf-shown _ _ n _ _ _ _ _ _ (c .before .before .before .before .before .before .before .before .before .before .before .before .before .before .before .pre) _ (c .before .before .before .before .before .before .before .before .before .before .before .if1 .taken) _ _ _ _ (c .before .before .before .before .before .before .before .before .emit-definition .ensures) (c .before .before .set-emit-state .ensures)
+returns c = λ n. laws.leaf-shown _ _ _ n _ _ _ _ _ (c .before .before .before .before .before .before .before .before .before .before .before .if1 .taken) _ _ _ (c .before .before .before .before .before .before .before .before .emit-definition .ensures) _ (c .before .before .set-emit-state .ensures)
 
 set-emit-state-requires-2 : tie.Need-set-emit-state-requires-2
 set-emit-state-requires-2 c κs = tt
@@ -30,7 +29,7 @@ same-length-3 : tie.Need-same-length-3
 same-length-3 c = c .before .before .set-emit-state2 .kept .0
 
 returns-2 : tie.Need-returns-2
-returns-2 c = λ n. laws.leaf-quiet _ _ n _ _ _ _ _ _ (c .before .before .before .before .before .before .before .before .pre) _ (c .before .before .before .before .if1 .left) _ (c .before .before .set-emit-state2 .ensures)
+returns-2 c = λ n. laws.leaf-quiet _ _ _ n _ _ _ _ _ (c .before .before .before .before .if1 .left) _ (c .before .before .set-emit-state2 .ensures)
 
 pub emit-leaf-spec : {M : Type 1} → statement M
 emit-leaf-spec =

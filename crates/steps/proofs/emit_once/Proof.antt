@@ -1,19 +1,18 @@
-use mathlib.Core.Path.{_∙_}
+use mathlib.Core.Path.{_∙_, refl}
 use Rattle.sheet.proofs.Laws as laws
-use borrow.Author.Needs.{needs}
-use Rattle.emit.proofs.emit_once.Statement.{statement}
-use Rattle.emit.proofs.emit_once.Tie as tie
-use Rattle.emit.proofs.emit_once.Reads as reads
-use Rattle.emit.proofs.emit_once.Lts as lts
+use Rattle.steps.proofs.emit_once.Statement.{statement}
+use Rattle.steps.proofs.emit_once.Tie as tie
+use Rattle.steps.proofs.emit_once.Reads as reads
+use Rattle.steps.proofs.emit_once.Lts as lts
 use Rattle.lines.proofs.emit_forward.Reads as emit-forward-reads
-use Rattle.emit.proofs.get_fwd_emitted.Reads as get-fwd-emitted-reads
-use Rattle.emit.proofs.set_fwd_emitted.Reads as set-fwd-emitted-reads
+use Rattle.steps.proofs.get_fwd_emitted.Reads as get-fwd-emitted-reads
+use Rattle.steps.proofs.set_fwd_emitted.Reads as set-fwd-emitted-reads
 
 get-fwd-emitted-requires : tie.Need-get-fwd-emitted-requires
 get-fwd-emitted-requires c κs = tt
 
 same-length : tie.Need-same-length
-same-length c = search needs
+same-length c = refl
 
 returns : tie.Need-returns
 returns c = λ n. laws.once-had _ _ _ n _ _ _ _ _ (c .before .get-fwd-emitted .ensures) (c .if1 .taken)

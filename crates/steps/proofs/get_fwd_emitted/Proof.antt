@@ -2,12 +2,10 @@ use Prim.Native.Nat.{ℕ}
 use lib.Dec.{eqb}
 use mathlib.Core.Bool.{not}
 use mathlib.Core.Path.{ap}
-use Rattle.sheet.proofs.Laws as laws
-use borrow.Author.Needs.{needs}
-use Rattle.emit.proofs.get_fwd_emitted.Statement.{statement}
-use Rattle.emit.proofs.get_fwd_emitted.Tie as tie
-use Rattle.emit.proofs.get_fwd_emitted.Reads as reads
-use Rattle.emit.proofs.get_fwd_emitted.Lts as lts
+use Rattle.steps.proofs.get_fwd_emitted.Statement.{statement}
+use Rattle.steps.proofs.get_fwd_emitted.Tie as tie
+use Rattle.steps.proofs.get_fwd_emitted.Reads as reads
+use Rattle.steps.proofs.get_fwd_emitted.Lts as lts
 use Rattle.cells.proofs.get_field.Reads as get-field-reads
 
 get-field-requires : tie.Need-get-field-requires

@@ -1,11 +1,9 @@
-use mathlib.Core.Path.{_∙_}
 use Rattle.sheet.proofs.Laws as laws
-use borrow.Author.Needs.{needs}
-use Rattle.emit.proofs.emit_mention.Statement.{statement}
-use Rattle.emit.proofs.emit_mention.Tie as tie
-use Rattle.emit.proofs.emit_mention.Reads as reads
-use Rattle.emit.proofs.emit_mention.Lts as lts
-use Rattle.emit.proofs.emit_once.Reads as emit-once-reads
+use Rattle.steps.proofs.emit_mention.Statement.{statement}
+use Rattle.steps.proofs.emit_mention.Tie as tie
+use Rattle.steps.proofs.emit_mention.Reads as reads
+use Rattle.steps.proofs.emit_mention.Lts as lts
+use Rattle.steps.proofs.emit_once.Reads as emit-once-reads
 
 returns : tie.Need-returns
 returns c = λ n. laws.mention-self _ _ _ n _ _ _ _ _ (c .if1 .taken)
