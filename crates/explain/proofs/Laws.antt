@@ -40,7 +40,7 @@ use Rattle.causes.proofs.Emission.{lined-wrote, lined-bind, each-lined, emit-li
 use Rattle.noted.specs.declared.Pen.{Pen}
 use Rattle.noted.specs.Noted.{entriesOf, notedOut}
 use Rattle.noted.proofs.Laws.{paper, goes, halts, entries-length}
-use Rattle.reasons.specs.Reasons.{dumpedKept}
+use Rattle.led.specs.Kept.{dumpedKept}
 use Rattle.led.proofs.Requests.{dumped-kept, few-types}
 use Rattle.explain.specs.declared.Told.{Told}
 use Rattle.explain.specs.declared.Explained.{Explained}

@@ -28,7 +28,7 @@ use Rattle.causes.proofs.Ordering.{Holds, holds, none, AllLed, order-led}
 use Rattle.leads.specs.declared.Way.{Way}
 use Rattle.leads.specs.Leads.{ledTwo, wordAt, isNoted, leaderIn, entryIn, Kept, orderKept}
 use Rattle.noted.specs.Noted.{emitN}
-use Rattle.reasons.specs.Reasons.{noLeads, wayTo, orderedKept, eachKept, listedKept, dumpedKept}
+use Rattle.led.specs.Kept.{noLeads, wayTo, orderedKept, eachKept, listedKept, dumpedKept}
 use Rattle.led.proofs.Leaders.{tabled, keptFrom, order-kept, besideLed, lift-led, Fits, leader-is, entry-is}
 
 -- no id past the words is a composite, a typedef, an enum or a FWD

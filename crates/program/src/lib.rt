@@ -1,7 +1,15 @@
 // What the program does with a section: every id, pointer size 8, unions under their own word.
+<<<<<<< ours
 use printed::put_refused;
+||||||| base
+use put::put_bytes;
+use put::put_decimal;
+=======
+use opens::open_core;
+use put::put_bytes;
+use put::put_decimal;
+>>>>>>> theirs
 use requests::dump_types_core;
-use requests::open_core;
 use turns::Answer;
 use turns::Session;
 ghost use mathlib.Core.Path.{_≡_};

@@ -28,7 +28,7 @@ use Rattle.noted.specs.Noted.{entriesOf, notedOut, emitN}
 use Rattle.noted.proofs.Frame.{Stays, on, off, stays-then, places-emit}
 use Rattle.noted.proofs.Laws.{paper, goes, halts, obind-then, at-sheet, entry-stays}
 use Rattle.noted.proofs.Walk.{Rest, rest-start, rest-turn, rest-end}
-use Rattle.reasons.specs.Reasons.{noLeads, wayTo, orderedKept, eachKept, listedKept, dumpedKept}
+use Rattle.led.specs.Kept.{noLeads, wayTo, orderedKept, eachKept, listedKept, dumpedKept}
 
 -- ---- the listed ids: the walk, and that the list is as it was
 pub record Listing (b : Btf) (s : List ℕ) (room : ℕ) (why : ℕ → Entry) (w₀ : List ℕ) (n : ℕ) (p₀ : Pen) (tx₀ l₀ : List ℕ) (p : Pen) (tx w li : List ℕ) (k : ℕ) : Type 0 where

@@ -16,7 +16,7 @@ ghost use Rattle.sheet.specs.Sheet.{sheetStore};
 ghost use Rattle.causes.specs.Causes.{entriesIn};
 ghost use Rattle.leads.specs.Leads.{entryIn};
 ghost use Rattle.noted.specs.Noted.{notedOut, emitN};
-ghost use Rattle.reasons.specs.Reasons.{dumpedKept};
+ghost use Rattle.led.specs.Kept.{dumpedKept};
 
 // Emits the first n ids of the order list.
 fn emit_listed(

@@ -1,11 +1,10 @@
-// The calls of a session by value: opening, one request, the request for all ids and a list of ids.
+// The calls of a session by value: one request, the request for all ids and a list of ids. Opening: crate opens.
 use arrival::arrived;
 use arrival::count_of;
 use arrival::limit;
 use arrival::settle_list;
 use btf::Btf;
 use header::btf_of;
-use opened::Opening;
 use turns::Answer;
 use turns::Reached;
 use turns::Session;
@@ -21,39 +20,8 @@ ghost use mathlib.Core.Bool.{true};
 ghost use mathlib.Core.Path.{_≡_};
 ghost use lib.ListN.{length};
 ghost use Rattle.turns.specs.Turns.{callOf, isCurrent, reachOf, visitsIn};
-ghost use Rattle.calls.specs.Calls.{openCall, requested, requestedFrom, typeCall, typesCall};
+ghost use Rattle.calls.specs.Calls.{requested, requestedFrom, typeCall, typesCall};
 ghost use Rattle.calls.specs.Lists.{idsIn, listCall, listEnd};
-
-pub fn open_core(
-    s: Session,
-    section: &[u8],
-    work: &mut [u8],
-    text: &mut [u8],
-    pointer_size: u32,
-    modes: u32,
-) -> Turn
-    ensures { λ r. ⌜ callOf (r .session) (r .answer) (now (work .exit)) (now (text .exit)) ≡ openCall s (now (section .entry)) (now (work .entry)) (now (text .entry)) «pointer_size» modes ⌝ }
-{
-    let section_len = section.len() as u64;
-    let work_len = work.len() as u64;
-    match opening::open(section, pointer_size, modes, work, text) {
-        Opening::Refused(c) => turn_of(s, c, 0),
-        Opening::Sound(types, enumerators) => Turn {
-            session: Session {
-                open: true,
-                section_len: section_len,
-                work_len: work_len,
-                types: types,
-                enumerators: enumerators,
-                text_len: 0,
-                pointer_size: pointer_size,
-                modes: modes % 16,
-                visits: 0,
-            },
-            answer: Answer::Accepted(types),
-        },
-    }
-}
 
 // One id, after a text of len bytes and so many visits: it is lent only what follows that text.
 fn dump_one(

@@ -1,8 +1,8 @@
 // The calls of a session whose record is lent by `&mut`: thin entry points over the calls by value of `requests`.
+use opens::open_core;
 use requests::dump_list_core;
 use requests::dump_type_core;
 use requests::dump_types_core;
-use requests::open_core;
 use turns::Answer;
 use turns::Session;
 ghost use mathlib.Core.Path.{_≡_};

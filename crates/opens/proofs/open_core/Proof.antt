@@ -1,7 +1,7 @@
 use Rattle.calls.proofs.Laws as laws
 use borrow.Author.Needs.{needs}
-use Rattle.requests.proofs.open_core.Statement.{statement}
-use Rattle.requests.proofs.open_core.Tie as tie
+use Rattle.opens.proofs.open_core.Statement.{statement}
+use Rattle.opens.proofs.open_core.Tie as tie
 
 open-requires : tie.Need-open-requires
 open-requires c κs = search needs
