@@ -1,14 +1,6 @@
 // What the program does with a section: every id, pointer size 8, unions under their own word.
-<<<<<<< ours
-use printed::put_refused;
-||||||| base
-use put::put_bytes;
-use put::put_decimal;
-=======
 use opens::open_core;
-use put::put_bytes;
-use put::put_decimal;
->>>>>>> theirs
+use printed::put_refused;
 use requests::dump_types_core;
 use turns::Answer;
 use turns::Session;
