@@ -12,7 +12,7 @@ import sys
 
 HERE = os.path.dirname(os.path.dirname(os.path.abspath(__file__)))
 HEAD = """# A crate and what it depends on; README.md says what each holds. Crates of one level need nothing of each other; within a level the one
-# that takes longest to check stands first (tools/crates.py). The programs name `led` and `several` only so that they are checked beside
+# that takes longest to check stands first (tools/crates.py). The programs name `reasons` and `several` only so that they are checked beside
 # `explain` and `btfdump_c`, which stand alone on their levels.
 """
 

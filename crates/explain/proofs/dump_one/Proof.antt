@@ -14,7 +14,7 @@ use Rattle.arrival.proofs.limit.Reads as limit-reads
 use Rattle.reasons.proofs.dump_noted.Reads as dump-noted-reads
 
 limit-requires : tie.Need-limit-requires
-limit-requires c κs = search needs
+limit-requires c κs = tt
 
 sub-dump-noted : tie.Need-sub-dump-noted
 sub-dump-noted c = from-to _ _ _ (c .before .limit .ensures) (c .before .before .before .before .before .before .pre .0)
@@ -26,25 +26,25 @@ part-dump-noted-end : tie.Need-part-dump-noted-end
 part-dump-noted-end c = to-end _ _ _ (c .before .limit .ensures) (c .before .before .before .before .before .before .pre .0)
 
 dump-noted-requires : tie.Need-dump-noted-requires
-dump-noted-requires c κs = search needs
+dump-noted-requires c κs = tt
 
 sub-arrived : tie.Need-sub-arrived
 sub-arrived c = from-to _ _ _ (c .before .before .before .before .before .before .before .before .before .before .limit .ensures) (c .before .before .before .before .before .before .before .before .before .before .before .before .before .before .before .pre .0)
 
 arrived-requires : tie.Need-arrived-requires
-arrived-requires c κs = search needs
+arrived-requires c κs = tt
 
 count-after-requires : tie.Need-count-after-requires
-count-after-requires c κs = search needs
+count-after-requires c κs = tt
 
 same-length : tie.Need-same-length
-same-length c = search needs
+same-length c = c .before .before .before .before .before .before .before .before .dump-noted .kept .1 .1 .0
 
 same-length-2 : tie.Need-same-length-2
 same-length-2 c = search needs
 
 same-length-3 : tie.Need-same-length-3
-same-length-3 c = search needs
+same-length-3 c = c .before .before .before .before .before .before .before .before .dump-noted .kept .1 .1 .1 .1 .0
 
 returns : tie.Need-returns
 returns c = let i : c .before .before .before .before .before .before .before .before .before .before .before .before .before .before .before .before .before .args .id < 4294967296 = omega arith in laws.one-told _ (c .before .before .before .before .before .before .before .before .before .before .before .before .before .before .before .before .before .pre .1) _ _ _ _ _ _ _ i (from-to _ _ _ (c .before .before .before .before .before .before .before .before .before .before .before .before .limit .ensures) (c .before .before .before .before .before .before .before .before .before .before .before .before .before .before .before .before .before .pre .0)) (to-end _ _ _ (c .before .before .before .before .before .before .before .before .before .before .before .before .limit .ensures) (c .before .before .before .before .before .before .before .before .before .before .before .before .before .before .before .before .before .pre .0)) _ _ _ _ (c .before .before .before .before .before .before .before .before .dump-noted .kept .1 .1 .1 .0) (c .before .before .before .before .before .before .before .before .dump-noted .ensures) (c .before .before .before .before .before .before .before .before .before .before .before .before .limit .ensures) _ _ (c .before .arrived .ensures ∙ arrived-is _ _ _ _ (omega (arith, room-fits _ _ _ (c .before .before .before .before .before .before .before .before .before .before .before .before .limit .ensures) (c .before .before .before .before .before .before .before .before .before .before .before .before .before .before .before .before .before .pre .0))) (omega (arith, laws.bound _ (c .before .before .before .before .before .before .before .before .before .before .before .before .before .before .before .before .before .pre .1) _ _ _ _ _ _ _ i (from-to _ _ _ (c .before .before .before .before .before .before .before .before .before .before .before .before .limit .ensures) (c .before .before .before .before .before .before .before .before .before .before .before .before .before .before .before .before .before .pre .0)) (to-end _ _ _ (c .before .before .before .before .before .before .before .before .before .before .before .before .limit .ensures) (c .before .before .before .before .before .before .before .before .before .before .before .before .before .before .before .before .before .pre .0)) _ _ _ _ (c .before .before .before .before .before .before .before .before .dump-noted .kept .1 .1 .1 .0) (c .before .before .before .before .before .before .before .before .dump-noted .ensures)))) _ (c .count-after .ensures)

@@ -4,7 +4,6 @@ use Prim.Native.Nat.{_+_, _-_, _<_, _≤_}
 use lib.ListN.{length}
 use Rattle.calls.specs.Calls.{requestedFrom}
 use native.Mathlib.Omega.{arith}
-use borrow.Author.Needs.{needs}
 use Rattle.requests.proofs.dump_all.Statement.{statement}
 use Rattle.requests.proofs.dump_all.Tie as tie
 
@@ -23,10 +22,10 @@ dump-next-requires : tie.Need-dump-next-requires Inv-loop μ-loop
 dump-next-requires c κs = c .before .before .before .loop .inv .6
 
 same-length : tie.Need-same-length Inv-loop μ-loop
-same-length c = search needs
+same-length c = c .before .before .before .before .before .before .dump-next .kept .1 .1 .0 ∙ c .before .before .before .before .before .before .before .before .before .before .loop .inv .3
 
 same-length-2 : tie.Need-same-length-2 Inv-loop μ-loop
-same-length-2 c = search needs
+same-length-2 c = c .before .before .before .before .before .before .dump-next .kept .1 .1 .1 .0 ∙ c .before .before .before .before .before .before .before .before .before .before .loop .inv .4
 
 returns : tie.Need-returns Inv-loop μ-loop
 returns c = (laws.all-stop _ _ _ _ _ _ _ _ (c .before .before .before .before .before .before .before .before .before .loop-test .taken) (c .before .before .before .before .before .before .before .before .before .before .loop .inv .8) _ _ _ (c .before .before .before .before .before .before .dump-next .ensures .0) (c .if1 .taken), c .before .before .before .before .before .before .dump-next .ensures .1)
@@ -41,10 +40,10 @@ loop-again : tie.Need-loop-again Inv-loop μ-loop
 loop-again c = (omega arith, omega arith, omega arith, c .before .before .before .before .before .before .dump-next .kept .1 .1 .0 ∙ c .before .before .before .before .before .before .before .before .before .before .loop .inv .3, c .before .before .before .before .before .before .dump-next .kept .1 .1 .1 .0 ∙ c .before .before .before .before .before .before .before .before .before .before .loop .inv .4, c .if1 .left, c .before .before .before .before .before .before .dump-next .ensures .1, c .before .before .before .before .before .before .before .before .before .before .loop .inv .7, laws.all-more _ _ _ _ _ _ _ _ (c .before .before .before .before .before .before .before .before .before .loop-test .taken) (c .before .before .before .before .before .before .before .before .before .before .loop .inv .8) _ _ _ (c .before .before .before .before .before .before .dump-next .ensures .0) (c .if1 .left))
 
 same-length-3 : tie.Need-same-length-3 Inv-loop μ-loop
-same-length-3 c = search needs
+same-length-3 c = c .before .loop .inv .3
 
 same-length-4 : tie.Need-same-length-4 Inv-loop μ-loop
-same-length-4 c = search needs
+same-length-4 c = c .before .loop .inv .4
 
 returns-2 : tie.Need-returns-2 Inv-loop μ-loop
 returns-2 c = (laws.all-done _ _ _ _ _ _ _ _ (c .loop-test .left) (c .before .loop .inv .5) (c .before .loop .inv .8), c .before .loop .inv .6)

@@ -7,7 +7,6 @@ use Rattle.turns.specs.Turns.{withText, tableFor}
 use Rattle.calls.specs.Lists.{idsIn, listCall, listFrom, tailed}
 use Rattle.calls.proofs.Lists.{idsFrom}
 use native.Mathlib.Omega.{arith}
-use borrow.Author.Needs.{needs}
 use Rattle.requests.proofs.dump_ids.Statement.{statement}
 use Rattle.requests.proofs.dump_ids.Tie as tie
 
@@ -20,10 +19,10 @@ abbrev μ-loop : tie.MeasureT-loop
 μ-loop s section work₀ text₀ ids b n len₀ visits₀ k₀ work text len visits k = n - k
 
 btf-of-requires : tie.Need-btf-of-requires Inv-loop μ-loop
-btf-of-requires c κs = search needs
+btf-of-requires c κs = tt
 
 count-of-requires : tie.Need-count-of-requires Inv-loop μ-loop
-count-of-requires c κs = search needs
+count-of-requires c κs = tt
 
 loop-holds : tie.Need-loop-holds Inv-loop μ-loop
 loop-holds c = (omega arith, omega arith, refl, refl, lists.its-text _ (c .before .before .before .before .before .before .args .section .now) (c .before .before .before .before .before .before .args .work .now) (c .before .before .before .before .before .before .args .text .now) (c .before .before .before .before .before .before .pre), c .before .btf-of .ensures, lists.its-section _ (c .before .before .before .before .before .before .args .section .now) (c .before .before .before .before .before .before .args .work .now) (c .before .before .before .before .before .before .args .text .now) (c .before .before .before .before .before .before .pre), lists.its-work _ (c .before .before .before .before .before .before .args .section .now) (c .before .before .before .before .before .before .args .work .now) (c .before .before .before .before .before .before .args .text .now) (c .before .before .before .before .before .before .pre), lists.list-start _ (c .before .before .before .before .before .before .args .section .now) (c .before .before .before .before .before .before .args .work .now) (c .before .before .before .before .before .before .args .text .now) (c .before .before .before .before .before .before .pre) _ _ (c .count-of .ensures))
@@ -32,13 +31,13 @@ cast-get-word : tie.Need-cast-get-word Inv-loop μ-loop
 cast-get-word c = omega arith
 
 get-word-requires : tie.Need-get-word-requires Inv-loop μ-loop
-get-word-requires c κs = search needs
+get-word-requires c κs = tt
 
 same-length : tie.Need-same-length Inv-loop μ-loop
-same-length c = search needs
+same-length c = c .before .before .before .before .loop .inv .2
 
 same-length-2 : tie.Need-same-length-2 Inv-loop μ-loop
-same-length-2 c = search needs
+same-length-2 c = c .before .before .before .before .loop .inv .3
 
 returns : tie.Need-returns Inv-loop μ-loop
 returns c = (lists.list-past _ _ _ (c .before .before .before .before .loop .inv .5) _ _ _ (c .before .before .before .before .loop .inv .6) _ _ _ _ _ (c .before .before .before .before .loop .inv .7) (c .before .before .before .before .loop .inv .4) (c .before .before .before .before .loop .inv .8) (c .before .before .before .loop-test .taken) _ (c .before .before .get-word .ensures) (c .if1 .taken), c .before .before .before .before .loop .inv .4)
@@ -47,16 +46,16 @@ dump-one-requires : tie.Need-dump-one-requires Inv-loop μ-loop
 dump-one-requires c κs = c .before .before .before .before .before .before .loop .inv .4
 
 same-length-3 : tie.Need-same-length-3 Inv-loop μ-loop
-same-length-3 c = search needs
+same-length-3 c = c .before .before .before .before .before .before .dump-one .kept .1 .1 .0 ∙ c .before .before .before .before .before .before .before .before .before .before .before .before .before .loop .inv .2
 
 same-length-4 : tie.Need-same-length-4 Inv-loop μ-loop
-same-length-4 c = search needs
+same-length-4 c = c .before .before .before .before .before .before .dump-one .kept .1 .1 .1 .0 ∙ c .before .before .before .before .before .before .before .before .before .before .before .before .before .loop .inv .3
 
 returns-2 : tie.Need-returns-2 Inv-loop μ-loop
 returns-2 c = (lists.list-stop _ _ _ (c .before .before .before .before .before .before .before .before .before .before .before .before .before .loop .inv .5) _ _ _ (c .before .before .before .before .before .before .before .before .before .before .before .before .before .loop .inv .6) _ _ _ _ _ (c .before .before .before .before .before .before .before .before .before .before .before .before .before .loop .inv .7) (c .before .before .before .before .before .before .before .before .before .before .before .before .before .loop .inv .4) (c .before .before .before .before .before .before .before .before .before .before .before .before .before .loop .inv .8) (c .before .before .before .before .before .before .before .before .before .before .before .before .loop-test .taken) _ (c .before .before .before .before .before .before .before .before .before .before .before .get-word .ensures) (c .before .before .before .before .before .before .before .before .before .if1 .left) _ _ _ (c .before .before .before .before .before .before .dump-one .ensures .0) (c .before .before .before .before .before .before .dump-one .kept .1 .1 .0) (c .before .before .before .before .before .before .dump-one .kept .1 .1 .1 .0) (c .if2 .taken), c .before .before .before .before .before .before .dump-one .ensures .1)
 
 visits-in-requires : tie.Need-visits-in-requires Inv-loop μ-loop
-visits-in-requires c κs = search needs
+visits-in-requires c κs = tt
 
 add-k : tie.Need-add-k Inv-loop μ-loop
 add-k c = omega arith
@@ -68,10 +67,10 @@ loop-again : tie.Need-loop-again Inv-loop μ-loop
 loop-again c = (omega arith, omega arith, c .before .before .before .before .before .before .before .before .dump-one .kept .1 .1 .0 ∙ c .before .before .before .before .before .before .before .before .before .before .before .before .before .before .before .loop .inv .2, c .before .before .before .before .before .before .before .before .dump-one .kept .1 .1 .1 .0 ∙ c .before .before .before .before .before .before .before .before .before .before .before .before .before .before .before .loop .inv .3, c .before .before .before .before .before .before .before .before .dump-one .ensures .1, c .before .before .before .before .before .before .before .before .before .before .before .before .before .before .before .loop .inv .5, c .before .before .before .before .before .before .before .before .before .before .before .before .before .before .before .loop .inv .6, c .before .before .before .before .before .before .before .before .before .before .before .before .before .before .before .loop .inv .7 ∙ sym (c .before .before .before .before .before .before .before .before .dump-one .kept .1 .1 .0), lists.list-more (c .before .before .before .before .before .before .before .before .before .before .before .before .before .before .before .before .before .before .before .before .before .before .args .s) _ _ (c .before .before .before .before .before .before .before .before .before .before .before .before .before .before .before .loop .inv .5) _ _ _ (c .before .before .before .before .before .before .before .before .before .before .before .before .before .before .before .loop .inv .6) _ _ _ _ _ (c .before .before .before .before .before .before .before .before .before .before .before .before .before .before .before .loop .inv .7) (c .before .before .before .before .before .before .before .before .before .before .before .before .before .before .before .loop .inv .4) (c .before .before .before .before .before .before .before .before .before .before .before .before .before .before .before .loop .inv .8) (c .before .before .before .before .before .before .before .before .before .before .before .before .before .before .loop-test .taken) _ (c .before .before .before .before .before .before .before .before .before .before .before .before .before .get-word .ensures) (c .before .before .before .before .before .before .before .before .before .before .before .if1 .left) _ _ _ (c .before .before .before .before .before .before .before .before .dump-one .ensures .0) (c .before .before .before .before .before .before .before .before .dump-one .kept .1 .1 .1 .0) (c .before .before .if2 .left) _ (c .visits-in .ensures))
 
 same-length-5 : tie.Need-same-length-5 Inv-loop μ-loop
-same-length-5 c = search needs
+same-length-5 c = c .before .loop .inv .2
 
 same-length-6 : tie.Need-same-length-6 Inv-loop μ-loop
-same-length-6 c = search needs
+same-length-6 c = c .before .loop .inv .3
 
 returns-3 : tie.Need-returns-3 Inv-loop μ-loop
 returns-3 c = (lists.list-done _ _ _ (c .before .loop .inv .5) _ _ _ (c .before .loop .inv .6) _ _ _ _ _ (c .before .loop .inv .7) (c .before .loop .inv .4) (c .before .loop .inv .8) (c .loop-test .left), c .before .loop .inv .4)

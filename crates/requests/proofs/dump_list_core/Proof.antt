@@ -1,7 +1,6 @@
 use Rattle.calls.proofs.Lists as lists
 use mathlib.Core.Path.{sym, _∙_}
 use borrow.Author.Tests.{not-false}
-use borrow.Author.Needs.{needs}
 use Rattle.requests.proofs.dump_list_core.Statement.{statement}
 use Rattle.requests.proofs.dump_list_core.Tie as tie
 
@@ -9,10 +8,10 @@ returns : tie.Need-returns
 returns c = lists.list-empty _ _ _ _ _ (c .if1 .taken)
 
 is-current-requires : tie.Need-is-current-requires
-is-current-requires c κs = search needs
+is-current-requires c κs = tt
 
 turn-of-requires : tie.Need-turn-of-requires
-turn-of-requires c κs = search needs
+turn-of-requires c κs = tt
 
 returns-2 : tie.Need-returns-2
 returns-2 c = lists.list-11 _ _ _ _ _ _ (c .before .before .is-current .ensures) (c .before .before .before .if1 .left) (c .before .if2 .taken) _ (c .turn-of .ensures)
@@ -21,13 +20,13 @@ dump-ids-requires : tie.Need-dump-ids-requires
 dump-ids-requires c κs = sym (c .before .before .before .is-current .ensures) ∙ not-false _ (c .before .before .if2 .left)
 
 settle-list-requires : tie.Need-settle-list-requires
-settle-list-requires c κs = search needs
+settle-list-requires c κs = tt
 
 same-length : tie.Need-same-length
-same-length c = search needs
+same-length c = c .before .before .before .before .settle-list .kept .1 .0 ∙ c .before .before .before .before .before .before .before .before .before .before .before .dump-ids .kept .1 .1 .0
 
 same-length-2 : tie.Need-same-length-2
-same-length-2 c = search needs
+same-length-2 c = c .before .before .before .before .settle-list .kept .1 .1 .0 ∙ c .before .before .before .before .before .before .before .before .before .before .before .dump-ids .kept .1 .1 .1 .0
 
 returns-3 : tie.Need-returns-3
 returns-3 c = c .before .before .before .before .settle-list .ensures ∙ c .before .before .before .before .before .before .before .before .before .before .before .dump-ids .ensures .0

@@ -7,7 +7,7 @@ use Rattle.requests.proofs.dump_one.Statement.{statement}
 use Rattle.requests.proofs.dump_one.Tie as tie
 
 limit-requires : tie.Need-limit-requires
-limit-requires c κs = search needs
+limit-requires c κs = tt
 
 sub-dump-type : tie.Need-sub-dump-type
 sub-dump-type c = from-to _ _ _ (c .before .limit .ensures) (c .before .before .before .before .before .pre)
@@ -19,16 +19,16 @@ part-dump-type-end : tie.Need-part-dump-type-end
 part-dump-type-end c = to-end _ _ _ (c .before .limit .ensures) (c .before .before .before .before .before .pre)
 
 dump-type-requires : tie.Need-dump-type-requires
-dump-type-requires c κs = search needs
+dump-type-requires c κs = tt
 
 sub-arrived : tie.Need-sub-arrived
 sub-arrived c = from-to _ _ _ (c .before .before .before .before .before .before .before .limit .ensures) (c .before .before .before .before .before .before .before .before .before .before .before .pre)
 
 arrived-requires : tie.Need-arrived-requires
-arrived-requires c κs = search needs
+arrived-requires c κs = tt
 
 same-length : tie.Need-same-length
-same-length c = search needs
+same-length c = c .before .before .before .before .before .dump-type .kept .1 .1 .0
 
 same-length-2 : tie.Need-same-length-2
 same-length-2 c = search needs

@@ -6,7 +6,6 @@ use native.Mathlib.Omega.{arith}
 use lib.ListN.{length}
 use mathlib.Core.Path.{_≡_, refl, _∙_}
 use Rattle.several.proofs.Laws as laws
-use borrow.Author.Needs.{needs}
 use Prim.Native.Nat.{ℕ, zero-le, _*_, _-_, _<_, _≤_}
 use Rattle.several.proofs.dump_list_causes.Statement.{statement}
 use Rattle.several.proofs.dump_list_causes.Tie as tie
@@ -25,7 +24,7 @@ abbrev μ-loop : tie.MeasureT-loop
 μ-loop section work₀ text₀ list₀ ids n session₀ count₀ k₀ work text list session count k = n - k
 
 count-of-requires : tie.Need-count-of-requires Inv-loop μ-loop
-count-of-requires c κs = search needs
+count-of-requires c κs = tt
 
 loop-holds : tie.Need-loop-holds Inv-loop μ-loop
 loop-holds c = (zero-le, refl, refl, refl, omega arith, zero-le, omega arith, laws.start _ _ _ _ _ _ _ (c .count-of .ensures))
@@ -34,7 +33,7 @@ cast-get-word : tie.Need-cast-get-word Inv-loop μ-loop
 cast-get-word c = omega arith
 
 get-word-requires : tie.Need-get-word-requires Inv-loop μ-loop
-get-word-requires c κs = search needs
+get-word-requires c κs = tt
 
 mul-from : tie.Need-mul-from Inv-loop μ-loop
 mul-from c = omega arith
@@ -49,16 +48,16 @@ part-dump-type-causes-end : tie.Need-part-dump-type-causes-end Inv-loop μ-loop
 part-dump-type-causes-end c = omega arith
 
 dump-type-causes-requires : tie.Need-dump-type-causes-requires Inv-loop μ-loop
-dump-type-causes-requires c κs = search needs
+dump-type-causes-requires c κs = tt
 
 add-count : tie.Need-add-count Inv-loop μ-loop
 add-count c = omega (arith, laws.sum-fits (c .before .before .before .before .before .before .before .before .before .before .before .before .before .before .before .loop .list) (c .before .before .before .before .before .before .before .before .before .before .before .before .before .before .before .loop .count) (c .before .before .before .before .before .before .before .before .before .dump-type-causes .result .count) (c .before .before .before .before .before .before .before .before .before .before .before .before .before .before .before .loop .inv .5) (c .before .before .before .before .before .before .before .before .before .dump-type-causes .ensures .1), c .before .before .before .before .before .before .before .before .before .before .before .before .before .before .before .loop .inv .3, c .before .before .before .before .before .before .before .before .before .before .before .before .before .before .before .loop .inv .6)
 
 number-of-requires : tie.Need-number-of-requires Inv-loop μ-loop
-number-of-requires c κs = search needs
+number-of-requires c κs = tt
 
 turn-of-requires : tie.Need-turn-of-requires Inv-loop μ-loop
-turn-of-requires c κs = search needs
+turn-of-requires c κs = tt
 
 same-length : tie.Need-same-length Inv-loop μ-loop
 same-length c = c .before .before .before .before .before .before .before .before .before .before .before .before .dump-type-causes .kept .1 .1 .0 ∙ c .before .before .before .before .before .before .before .before .before .before .before .before .before .before .before .before .before .before .loop .inv .1
@@ -82,16 +81,16 @@ loop-again : tie.Need-loop-again Inv-loop μ-loop
 loop-again c = let f : c .before .before .before .before .before .before .before .before .before .before .before .before .before .before .before .before .before .loop .count * 12 ≤ length (c .before .before .before .before .before .before .before .before .before .before .before .before .before .before .before .before .before .loop .list) = omega (arith, c .before .before .before .before .before .before .before .before .before .before .before .before .before .before .before .before .before .loop .inv .5) in (omega arith, c .before .before .before .before .before .before .before .before .before .before .before .dump-type-causes .kept .1 .1 .0 ∙ c .before .before .before .before .before .before .before .before .before .before .before .before .before .before .before .before .before .loop .inv .1, c .before .before .before .before .before .before .before .before .before .before .before .dump-type-causes .kept .1 .1 .1 .0 ∙ c .before .before .before .before .before .before .before .before .before .before .before .before .before .before .before .before .before .loop .inv .2, laws.put-length (c .before .before .before .before .before .before .before .before .before .before .before .before .before .before .before .before .before .loop .list) (c .before .before .before .before .before .before .before .before .before .before .before .dump-type-causes .last .1 .1 .1 .1 .0) (c .before .before .before .before .before .before .before .before .before .before .before .before .before .before .before .before .before .loop .count) (c .before .before .before .before .before .before .before .before .before .before .before .dump-type-causes .kept .1 .1 .1 .1 .0) ∙ c .before .before .before .before .before .before .before .before .before .before .before .before .before .before .before .before .before .loop .inv .3, c .before .before .before .before .before .before .before .before .before .before .before .before .before .before .before .before .before .loop .inv .4, laws.sum-put (c .before .before .before .before .before .before .before .before .before .before .before .before .before .before .before .before .before .loop .list) (c .before .before .before .before .before .before .before .before .before .before .before .dump-type-causes .last .1 .1 .1 .1 .0) (c .before .before .before .before .before .before .before .before .before .before .before .before .before .before .before .before .before .loop .count) (c .before .before .before .before .before .before .before .before .before .before .before .dump-type-causes .result .count) (c .before .before .before .before .before .before .before .before .before .before .before .dump-type-causes .kept .1 .1 .1 .1 .0) (c .before .before .before .before .before .before .before .before .before .before .before .before .before .before .before .before .before .loop .inv .5) (c .before .before .before .before .before .before .before .before .before .before .before .dump-type-causes .ensures .1), c .before .before .before .before .before .before .before .before .before .before .before .before .before .before .before .before .before .loop .inv .6, laws.more _ _ _ _ _ _ _ _ _ _ (c .before .before .before .before .before .before .before .before .before .before .before .before .before .before .before .before .before .loop .inv .7) f (c .before .before .before .before .before .before .before .before .before .before .before .before .before .before .before .before .loop-test .taken) _ (c .before .before .before .before .before .before .before .before .before .before .before .before .before .before .before .get-word .ensures) _ _ _ _ (c .before .before .before .before .before .before .before .before .before .before .before .dump-type-causes .ensures .0) _ (c .before .number-of .ensures) (c .if1 .left))
 
 turn-of-requires-2 : tie.Need-turn-of-requires-2 Inv-loop μ-loop
-turn-of-requires-2 c κs = search needs
+turn-of-requires-2 c κs = tt
 
 same-length-4 : tie.Need-same-length-4 Inv-loop μ-loop
-same-length-4 c = search needs
+same-length-4 c = c .before .before .loop .inv .1
 
 same-length-5 : tie.Need-same-length-5 Inv-loop μ-loop
-same-length-5 c = search needs
+same-length-5 c = c .before .before .loop .inv .2
 
 same-length-6 : tie.Need-same-length-6 Inv-loop μ-loop
-same-length-6 c = search needs
+same-length-6 c = c .before .before .loop .inv .3
 
 returns-2 : tie.Need-returns-2 Inv-loop μ-loop
 returns-2 c = laws.done _ _ _ _ _ _ _ _ _ _ (c .before .before .loop .inv .7) (c .before .loop-test .left) _ (c .turn-of2 .ensures)

@@ -6,7 +6,6 @@ use lib.ListN.{length}
 use mathlib.Core.List.{[]}
 use mathlib.Core.Path.{_≡_, refl, ap, _∙_}
 use Rattle.explain.proofs.EveryLaws as laws
-use borrow.Author.Needs.{needs}
 use Prim.Native.Nat.{ℕ, zero-le, _+_, _-_, _/_, _<_, _≤_}
 use Rattle.explain.proofs.every.dump_all.Statement.{statement}
 use Rattle.explain.proofs.every.dump_all.Tie as tie
@@ -27,13 +26,13 @@ dump-next-requires : tie.Need-dump-next-requires Inv-loop μ-loop
 dump-next-requires c κs = (c .before .before .before .before .loop .inv .7, c .before .before .before .before .before .before .before .before .before .pre .1, c .before .before .before .before .loop .inv .9)
 
 same-length : tie.Need-same-length Inv-loop μ-loop
-same-length c = search needs
+same-length c = c .before .before .before .before .before .before .before .before .dump-next .kept .1 .1 .0 ∙ c .before .before .before .before .before .before .before .before .before .before .before .before .before .loop .inv .3
 
 same-length-2 : tie.Need-same-length-2 Inv-loop μ-loop
-same-length-2 c = search needs
+same-length-2 c = c .before .before .before .before .before .before .before .before .dump-next .kept .1 .1 .1 .0 ∙ c .before .before .before .before .before .before .before .before .before .before .before .before .before .loop .inv .4
 
 same-length-3 : tie.Need-same-length-3 Inv-loop μ-loop
-same-length-3 c = search needs
+same-length-3 c = c .before .before .before .before .before .before .before .before .dump-next .kept .1 .1 .1 .1 .0 ∙ c .before .before .before .before .before .before .before .before .before .before .before .before .before .loop .inv .5
 
 returns : tie.Need-returns Inv-loop μ-loop
 returns c = (laws.all-stop _ _ _ _ _ _ _ _ _ _ (c .before .before .before .before .before .before .before .before .before .before .before .before .loop-test .taken) (c .before .before .before .before .before .before .before .before .before .before .before .before .before .loop .inv .10) _ _ _ _ _ (ap (λ (i : ℕ). i / 12) (c .before .before .before .before .before .before .before .before .before .before .before .before .before .loop .inv .5)) (c .before .before .before .before .before .before .before .before .dump-next .ensures .0) (c .if1 .taken), omega (arith, c .before .before .before .before .before .before .before .before .before .before .before .before .before .loop .inv .5, c .before .before .before .before .before .before .before .before .dump-next .ensures .1))
@@ -48,13 +47,13 @@ loop-again : tie.Need-loop-again Inv-loop μ-loop
 loop-again c = (omega arith, omega arith, omega arith, c .before .before .before .before .before .before .before .before .dump-next .kept .1 .1 .0 ∙ c .before .before .before .before .before .before .before .before .before .before .before .before .before .loop .inv .3, c .before .before .before .before .before .before .before .before .dump-next .kept .1 .1 .1 .0 ∙ c .before .before .before .before .before .before .before .before .before .before .before .before .before .loop .inv .4, c .before .before .before .before .before .before .before .before .dump-next .kept .1 .1 .1 .1 .0 ∙ c .before .before .before .before .before .before .before .before .before .before .before .before .before .loop .inv .5, c .if1 .left, c .before .before .before .before .before .before .before .before .dump-next .ensures .2, c .before .before .before .before .before .before .before .before .before .before .before .before .before .loop .inv .8, omega (arith, c .before .before .before .before .before .before .before .before .dump-next .kept .1 .1 .1 .1 .0, c .before .before .before .before .before .before .before .before .dump-next .ensures .1), laws.all-more _ _ _ _ _ _ _ _ _ _ (c .before .before .before .before .before .before .before .before .before .before .before .before .loop-test .taken) (c .before .before .before .before .before .before .before .before .before .before .before .before .before .loop .inv .10) _ _ _ _ _ (ap (λ (i : ℕ). i / 12) (c .before .before .before .before .before .before .before .before .before .before .before .before .before .loop .inv .5)) (c .before .before .before .before .before .before .before .before .dump-next .ensures .0) (c .if1 .left))
 
 same-length-4 : tie.Need-same-length-4 Inv-loop μ-loop
-same-length-4 c = search needs
+same-length-4 c = c .before .loop .inv .3
 
 same-length-5 : tie.Need-same-length-5 Inv-loop μ-loop
-same-length-5 c = search needs
+same-length-5 c = c .before .loop .inv .4
 
 same-length-6 : tie.Need-same-length-6 Inv-loop μ-loop
-same-length-6 c = search needs
+same-length-6 c = c .before .loop .inv .5
 
 returns-2 : tie.Need-returns-2 Inv-loop μ-loop
 returns-2 c = (laws.all-done _ _ _ _ _ _ _ _ _ _ (c .loop-test .left) (c .before .loop .inv .6) (c .before .loop .inv .10), omega (arith, c .before .loop .inv .5, c .before .loop .inv .9))

@@ -25,10 +25,10 @@ add-t18 : tie.Need-add-t18
 add-t18 c = search needs
 
 same-length : tie.Need-same-length
-same-length c = search needs
+same-length c = c .before .before .before .before .before .before .before .before .dump-one .kept .1 .1 .0
 
 same-length-2 : tie.Need-same-length-2
-same-length-2 c = search needs
+same-length-2 c = c .before .before .before .before .before .before .before .before .dump-one .kept .1 .1 .1 .0
 
 same-length-3 : tie.Need-same-length-3
 same-length-3 c = search needs

@@ -1,3 +1,4 @@
+use mathlib.Core.Path.{_∙_}
 use Rattle.turns.proofs.Laws as ends
 use Rattle.explain.proofs.Laws as one
 use Rattle.explain.proofs.EveryLaws as laws
@@ -14,34 +15,34 @@ use Rattle.turns.proofs.settle.Reads as settle-reads
 use Rattle.turns.proofs.turn_of.Reads as turn-of-reads
 
 is-current-requires : tie.Need-is-current-requires
-is-current-requires c κs = search needs
+is-current-requires c κs = tt
 
 turn-of-requires : tie.Need-turn-of-requires
-turn-of-requires c κs = search needs
+turn-of-requires c κs = tt
 
 returns : tie.Need-returns
 returns c = laws.types-11 _ _ _ _ _ _ (c .before .before .is-current .ensures) (c .before .if1 .taken) _ (c .turn-of .ensures)
 
 btf-of-requires : tie.Need-btf-of-requires
-btf-of-requires c κs = search needs
+btf-of-requires c κs = tt
 
 dump-all-requires : tie.Need-dump-all-requires
 dump-all-requires c κs = (ends.current-fits _ _ _ _ _ (c .before .before .before .before .before .is-current .ensures) (c .before .before .before .before .if1 .left), one.few-settings _ _ _ _ _ (c .before .before .before .btf-of .ensures))
 
 settle-requires : tie.Need-settle-requires
-settle-requires c κs = search needs
+settle-requires c κs = tt
 
 clear-causes-requires : tie.Need-clear-causes-requires
 clear-causes-requires c κs = search needs
 
 same-length : tie.Need-same-length
-same-length c = search needs
+same-length c = c .before .before .before .before .before .before .before .before .settle .kept .1 .0 ∙ c .before .before .before .before .before .before .before .before .before .before .before .before .before .before .before .before .before .dump-all .kept .1 .1 .0
 
 same-length-2 : tie.Need-same-length-2
-same-length-2 c = search needs
+same-length-2 c = c .before .before .before .before .before .before .before .before .settle .kept .1 .1 .0 ∙ c .before .before .before .before .before .before .before .before .before .before .before .before .before .before .before .before .before .dump-all .kept .1 .1 .1 .0
 
 same-length-3 : tie.Need-same-length-3
-same-length-3 c = search needs
+same-length-3 c = c .before .before .clear-causes .kept .0 ∙ c .before .before .before .before .before .before .before .before .before .before .before .before .before .before .before .before .before .dump-all .kept .1 .1 .1 .1 .0
 
 returns-2 : tie.Need-returns-2
 returns-2 c = laws.types-done _ _ _ _ _ _ (c .before .before .before .before .before .before .before .before .before .before .before .before .before .before .before .before .before .before .before .before .before .before .before .is-current .ensures) (c .before .before .before .before .before .before .before .before .before .before .before .before .before .before .before .before .before .before .before .before .before .before .if1 .left) _ (c .before .before .before .before .before .before .before .before .before .before .before .before .before .before .before .before .before .before .before .before .before .btf-of .ensures) _ _ _ _ (c .before .before .before .before .before .before .before .before .before .before .before .before .before .before .before .before .before .dump-all .kept .1 .1 .0) (c .before .before .before .before .before .before .before .before .before .before .before .before .before .before .before .before .before .dump-all .kept .1 .1 .1 .0) (c .before .before .before .before .before .before .before .before .before .before .before .before .before .before .before .before .before .dump-all .kept .1 .1 .1 .1 .0) _ _ _ _ (c .before .before .before .before .before .before .before .before .settle .ensures) (c .before .before .clear-causes .ensures) (c .before .before .before .before .before .before .before .before .before .before .before .before .before .before .before .before .before .dump-all .ensures .0)
