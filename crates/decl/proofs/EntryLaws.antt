@@ -1,4 +1,4 @@
--- What each return of emit_entry, emit_function and emit_base comes to. Assumes nothing.
+-- What each return of emit_entry, emit_function and emit_composite_word comes to. Assumes nothing.
 use Prim.Native.Nat.{ℕ, _-_, _<_, _≤_}
 use mathlib.Core.Path.{_≡_, refl, ap, _∙_, sym}
 use mathlib.Core.Bool.{Bool, true, false, not}
@@ -7,31 +7,29 @@ use native.Mathlib.Omega.{arith}
 use lib.Dec.{eqb}
 use borrow.Author.Tests.{ne-eqb}
 use Rattle.text.specs.Text.{ascii, whole, putOut, putText}
-use Rattle.text.proofs.TextLaws.{put-seq}
 use Rattle.rules.specs.Writer.{Writer, put, nothing, _⨾_}
-use Rattle.rules.specs.Types.{Name, isEmpty, Member, BtfType, Composite, Btf as Rules}
-use Rattle.rules.specs.Names.{identSpace, resolveTypeName}
-use Rattle.rules.specs.Decl.{Entry, base, star, qual, array, proto, tag, isArray, mods, noMods, qualifier, attribute, brackets, shownParams, parens, emitName, emitCompositeFwd, baseWord, emitArray, emitProto, paramList, enumValue, enum64Value, emitFwdDef}
+use Rattle.rules.specs.Types.{Name, isEmpty, Member, Composite, Btf as Rules}
+use Rattle.rules.specs.Decl.{Entry, base, array, proto, isArray, mods, noMods, brackets, shownParams, parens, emitName, emitCompositeFwd, baseWord, emitArray, emitProto, paramList}
 use Rattle.alignments.specs.Writers.{emitTypeChainOnce, emitCompositeDefOnce}
 use Rattle.rules.specs.Place.{outOf, putSaid}
-use Rattle.rules.proofs.Writing.{put-only, put-nothing, put-then}
+use Rattle.rules.proofs.Writing.{put-only, put-then}
 use Rattle.btf.specs.declared.types.Btf.{Btf}
 use Rattle.btf.specs.declared.types.BtfType.{BtfType as Record}
-use Rattle.btf.specs.Records.{kindOf, flagOf, recordById, entriesOf}
-use Rattle.btf.specs.Table.{from, paramOf, paramsOf, recordName, nelemsWord, membersOf, typeOf, btfOf, valuesOf, values64Of}
+use Rattle.btf.specs.Records.{kindOf, recordById, entriesOf}
+use Rattle.btf.specs.Table.{from, paramOf, paramsOf, recordName, nelemsWord, membersOf, typeOf, btfOf}
 use Rattle.names.specs.Spelling.{nameAfter}
-use Rattle.chain.specs.Chains.{isQualifier, qualifierOf, entryOf, pathAt, chainAt, kindOnTop, skipped, modsDown, isLink}
-use Rattle.chain.proofs.Paths.{chain-top, no-mods-skipped, put-mods, top-some}
-use Rattle.chain.proofs.Linked.{array-is, entry-star, entry-array, entry-proto, entry-tag, entry-base, entry-qual, qual-in, link-high}
+use Rattle.chain.specs.Chains.{entryOf, pathAt, chainAt, kindOnTop, skipped, modsDown, isLink}
+use Rattle.chain.proofs.Paths.{chain-top, put-mods, top-some}
+use Rattle.chain.proofs.Linked.{array-is, entry-array, entry-proto, entry-base}
 use Rattle.plain.specs.declared.Chain.{Chain}
-use Rattle.bodies.specs.Pieces.{entryLeft, entryStar, entryNamed, gap, starText, wordBelow, paramsBelow, arrayBelow, protoBelow, paramListBelow, entryText, enumText}
+use Rattle.bodies.specs.Pieces.{entryLeft, entryStar, entryNamed, gap, wordBelow, paramsBelow, arrayBelow, protoBelow, paramListBelow, entryText}
 use Rattle.bodies.proofs.BodyLaws.{also}
 use Rattle.decl.proofs.Kept.{seen, then-on}
 use Rattle.plain.proofs.PlainLaws.{said-as, no-link, no-mods, word-any, N, Q, T}
 use Rattle.decl.proofs.Keeping.{put-emit-name, kept-proto}
-use mathlib.Core.Logic.{_⊎_, inl, inr, ⊎-elim}
+use mathlib.Core.Logic.{_⊎_, inl, ⊎-elim}
 use Rattle.btf.specs.declared.types.Entries.{Entries}
-use Rattle.btf.proofs.KindLaws.{by-kind, type-0, type-1, type-2, type-3, type-4, type-5, type-6, type-7, type-8, type-9, type-10, type-11, type-12, type-13, type-14, type-15, type-16, type-17, type-18, type-19, type-none}
+use Rattle.btf.proofs.KindLaws.{by-kind, type-4, type-5}
 use Rattle.decl.proofs.DeclLaws.{Printed}
 
 module _ (b : Btf) (s : List ℕ) where

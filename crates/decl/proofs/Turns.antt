@@ -7,12 +7,12 @@ use native.Mathlib.Omega.{arith}
 use lib.ListN.{length}
 use Rattle.text.specs.Text.{ascii, pfx}
 use Rattle.rules.specs.Writer.{Ask, got, no, Writer, _⨾_, put, stop, nothing, given}
-use Rattle.rules.specs.Types.{Name, Member, Param, BtfType, Void, Int, Ptr, Array, Composite, Enum, Enum64, Fwd, Typedef, Mod, Func, Var, Datasec, FuncProto, Float, DeclTag, TypeTag, Btf}
+use Rattle.rules.specs.Types.{Name, Member, Param, Btf}
 use Rattle.rules.specs.Names.{Naming}
 use Rattle.rules.specs.Layout.{Pad, endOf}
-use Rattle.rules.specs.Decl.{Entry, base, star, qual, array, proto, tag, noMods, noParams, emitName, pads, bitSize, emitDeclTags, emitParams, chainOf, baseWord, chainLoop}
+use Rattle.rules.specs.Decl.{Entry, base, star, qual, array, proto, tag, noMods, noParams, emitName, pads, bitSize, emitDeclTags, emitParams, chainOf, chainLoop}
 use Rattle.alignments.specs.Writers.{Asks, givenOnce, emitMembersOnce, compositeDefOnce, emitTypeDeclOnce, emitTypeChainOnce, emitCompositeDefOnce}
-use Rattle.bodies.specs.Pieces.{entryLeft, entryStar, entryNamed, starText, wordBelow, loopBelow, entryText, chainRest, paramText, memberTail, memberText, membersBelow, endFrom, comma}
+use Rattle.bodies.specs.Pieces.{entryLeft, entryStar, entryNamed, starText, loopBelow, entryText, chainRest, paramText, memberTail, memberText, membersBelow, endFrom, comma}
 use Rattle.decl.proofs.Sequences.{then-assoc, then-nothing, stop-then}
 
 no-mods-length : (c : List Entry) → length (noMods c) ≤ length c

@@ -471,7 +471,7 @@ emit-array-emit-name-requires : (t : ℕ) → emit-array-lts.Need-emit-name-requ
 emit-array-emit-name-requires t c κs = tt
 
 emit-array-same-length : (t : ℕ) → emit-array-lts.Need-same-length (emit-array-claims t) (emit-array-at t) emit-array.Post
-emit-array-same-length t c = search needs
+emit-array-same-length t c = c .before .before .emit-name .kept .1 .1 .0
 
 emit-array-returns : (t : ℕ) → emit-array-lts.Need-returns (emit-array-claims t) (emit-array-at t) emit-array.Post
 emit-array-returns t c = entries.array-name _ _ _ _ _ _ _ _ _ _ _ _ _ (c .before .before .before .before .if1 .taken) (c .before .before .emit-name .ensures)
@@ -486,10 +486,10 @@ emit-array-emit-type-chain-requires : (t : ℕ) → emit-array-lts.Need-emit-typ
 emit-array-emit-type-chain-requires t c κs = (omega arith, tt)
 
 emit-array-same-length-2 : (t : ℕ) → emit-array-lts.Need-same-length-2 (emit-array-claims t) (emit-array-at t) emit-array.Post
-emit-array-same-length-2 t c = search needs
+emit-array-same-length-2 t c = c .before .before .before .before .emit-type-chain .kept .1 .1 .0
 
 emit-array-same-length-3 : (t : ℕ) → emit-array-lts.Need-same-length-3 (emit-array-claims t) (emit-array-at t) emit-array.Post
-emit-array-same-length-3 t c = search needs
+emit-array-same-length-3 t c = c .before .before .before .before .emit-type-chain .kept .1 .1 .1 .0 ∙ c .before .before .before .before .before .before .before .before .before .before .before .before .put-gap .kept .1 .1 .0
 
 emit-array-returns-2 : (t : ℕ) → emit-array-lts.Need-returns-2 (emit-array-claims t) (emit-array-at t) emit-array.Post
 emit-array-returns-2 t c = entries.array-array _ _ _ _ _ _ _ _ _ _ _ (c .before .before .before .before .before .before .before .before .before .before .before .before .before .before .if1 .left) _ _ _ _ _ _ (c .before .before .before .before .before .before .before .before .kind-on-top .ensures) (c .before .before .before .before .before .before .before .if2 .taken) (c .before .before .before .before .before .before .before .before .before .before .before .before .put-gap .ensures) (c .before .before .before .before .emit-type-chain .ensures)
@@ -504,10 +504,10 @@ emit-array-put-close-requires : (t : ℕ) → emit-array-lts.Need-put-close-requ
 emit-array-put-close-requires t c κs = tt
 
 emit-array-same-length-4 : (t : ℕ) → emit-array-lts.Need-same-length-4 (emit-array-claims t) (emit-array-at t) emit-array.Post
-emit-array-same-length-4 t c = search needs
+emit-array-same-length-4 t c = c .before .before .before .before .before .before .before .before .emit-type-chain2 .kept .1 .1 .0
 
 emit-array-same-length-5 : (t : ℕ) → emit-array-lts.Need-same-length-5 (emit-array-claims t) (emit-array-at t) emit-array.Post
-emit-array-same-length-5 t c = search needs
+emit-array-same-length-5 t c = c .before .before .put-close .kept .0 ∙ c .before .before .before .before .before .before .before .before .emit-type-chain2 .kept .1 .1 .1 .0 ∙ c .before .before .before .before .before .before .before .before .before .before .before .before .before .put-open .kept .0 ∙ c .before .before .before .before .before .before .before .before .before .before .before .before .before .before .before .before .before .before .before .before .put-gap .kept .1 .1 .0
 
 emit-array-returns-3 : (t : ℕ) → emit-array-lts.Need-returns-3 (emit-array-claims t) (emit-array-at t) emit-array.Post
 emit-array-returns-3 t c = entries.array-other _ _ _ _ _ _ _ _ _ _ _ (c .before .before .before .before .before .before .before .before .before .before .before .before .before .before .before .before .before .before .before .before .before .before .if1 .left) _ _ _ _ _ _ _ _ _ _ (c .before .before .before .before .before .before .before .before .before .before .before .before .before .before .before .before .kind-on-top .ensures) (c .before .before .before .before .before .before .before .before .before .before .before .before .before .before .before .if2 .left) (c .before .before .before .before .before .before .before .before .before .before .before .before .before .before .before .before .before .before .before .before .put-gap .ensures) (c .before .before .before .before .before .before .before .before .before .before .before .before .before .put-open .ensures) (c .before .before .before .before .before .before .before .before .emit-type-chain2 .ensures) (c .before .before .put-close .ensures)
@@ -534,7 +534,7 @@ emit-composite-def-is-builtin-requires : (t : ℕ) → emit-composite-def-lts.Ne
 emit-composite-def-is-builtin-requires t c κs = tt
 
 emit-composite-def-same-length-3 : (t : ℕ) → emit-composite-def-lts.Need-same-length-3 (emit-composite-def-claims t) (emit-composite-def-at t) emit-composite-def.Post
-emit-composite-def-same-length-3 t c = search needs
+emit-composite-def-same-length-3 t c = refl
 
 emit-composite-def-returns-3 : (t : ℕ) → emit-composite-def-lts.Need-returns-3 (emit-composite-def-claims t) (emit-composite-def-at t) emit-composite-def.Post
 emit-composite-def-returns-3 t c = members.def-builtin _ _ _ _ _ _ _ _ _ _ _ _ _ (c .before .before .before .before .before .if1 .left) refl (sym (c .before .is-builtin .ensures) ∙ c .if3 .taken)
@@ -639,19 +639,19 @@ emit-composite-def-stop-requires-2 : (t : ℕ) → emit-composite-def-lts.Need-s
 emit-composite-def-stop-requires-2 t c κs = tt
 
 emit-composite-def-same-length-4 : (t : ℕ) → emit-composite-def-lts.Need-same-length-4 (emit-composite-def-claims t) (emit-composite-def-at t) emit-composite-def.Post
-emit-composite-def-same-length-4 t c = search needs
+emit-composite-def-same-length-4 t c = c .before .before .before .before .before .before .before .before .before .emit-members .kept .1 .1 .0 ∙ c .before .before .before .before .before .before .before .before .before .before .before .before .before .before .before .before .before .emit-composite-head .kept .1 .1 .0 ∙ c .before .before .before .before .before .before .before .before .before .before .before .before .before .before .before .before .before .before .before .before .before .before .before .before .before .body-packed .kept .1 .1 .0
 
 emit-composite-def-same-length-5 : (t : ℕ) → emit-composite-def-lts.Need-same-length-5 (emit-composite-def-claims t) (emit-composite-def-at t) emit-composite-def.Post
-emit-composite-def-same-length-5 t c = search needs
+emit-composite-def-same-length-5 t c = c .before .before .emit-composite-end .kept .1 .1 .1 .0 ∙ c .before .before .before .before .before .before .before .before .before .emit-members .kept .1 .1 .1 .0 ∙ c .before .before .before .before .before .before .before .before .before .before .before .before .before .before .before .before .before .emit-composite-head .kept .1 .1 .1 .0
 
 emit-composite-def-returns-4 : (t : ℕ) → emit-composite-def-lts.Need-returns-4 (emit-composite-def-claims t) (emit-composite-def-at t) emit-composite-def.Post
 emit-composite-def-returns-4 t c = members.def-body _ _ _ _ _ _ _ _ _ _ _ _ _ (c .before .before .before .before .before .before .before .before .before .before .before .before .before .before .before .before .before .before .before .before .before .before .before .before .before .before .before .before .before .before .before .before .if1 .left) (sym (c .before .before .before .before .before .before .before .before .before .before .before .before .before .before .before .before .before .before .before .before .before .before .before .before .before .before .before .before .is-builtin .ensures) ∙ c .before .before .before .before .before .before .before .before .before .before .before .before .before .before .before .before .before .before .before .before .before .before .before .before .before .before .before .if3 .left) _ _ (c .before .before .before .before .before .before .before .before .before .before .before .before .before .before .before .before .before .before .before .before .before .before .before .before .before .body-packed .ensures) _ _ _ _ _ _ _ _ _ (c .before .before .before .before .before .before .before .before .before .before .before .before .before .before .before .before .before .before .before .before .before .packed .given .1) (c .before .before .before .before .before .before .before .before .before .before .deeper .ensures) (c .before .before .before .before .before .before .before .before .before .before .before .before .before .before .before .before .before .emit-composite-head .ensures) (c .before .before .before .before .before .before .before .before .before .emit-members .ensures) (c .before .before .emit-composite-end .ensures)
 
 emit-composite-def-same-length-6 : (t : ℕ) → emit-composite-def-lts.Need-same-length-6 (emit-composite-def-claims t) (emit-composite-def-at t) emit-composite-def.Post
-emit-composite-def-same-length-6 t c = search needs
+emit-composite-def-same-length-6 t c = c .before .before .before .before .before .before .before .body-packed .kept .1 .1 .0
 
 emit-composite-def-same-length-7 : (t : ℕ) → emit-composite-def-lts.Need-same-length-7 (emit-composite-def-claims t) (emit-composite-def-at t) emit-composite-def.Post
-emit-composite-def-same-length-7 t c = search needs
+emit-composite-def-same-length-7 t c = refl
 
 emit-composite-def-returns-5 : (t : ℕ) → emit-composite-def-lts.Need-returns-5 (emit-composite-def-claims t) (emit-composite-def-at t) emit-composite-def.Post
 emit-composite-def-returns-5 t c = members.def-refused _ _ _ _ _ _ _ _ _ _ _ _ _ (c .before .before .before .before .before .before .before .before .before .before .before .before .before .before .if1 .left) (sym (c .before .before .before .before .before .before .before .before .before .before .is-builtin .ensures) ∙ c .before .before .before .before .before .before .before .before .before .if3 .left) _ _ (c .before .before .before .before .before .before .before .body-packed .ensures) _ (c .before .before .before .c .given .1) (c .stop2 .ensures)
@@ -673,10 +673,10 @@ emit-composite-word-emit-composite-def-requires :
 emit-composite-word-emit-composite-def-requires t c κs = (omega arith, tt)
 
 emit-composite-word-same-length : (t : ℕ) → emit-composite-word-lts.Need-same-length (emit-composite-word-claims t) (emit-composite-word-at t) emit-composite-word.Post
-emit-composite-word-same-length t c = search needs
+emit-composite-word-same-length t c = c .before .before .before .before .emit-composite-def .kept .1 .1 .0
 
 emit-composite-word-same-length-2 : (t : ℕ) → emit-composite-word-lts.Need-same-length-2 (emit-composite-word-claims t) (emit-composite-word-at t) emit-composite-word.Post
-emit-composite-word-same-length-2 t c = search needs
+emit-composite-word-same-length-2 t c = c .before .before .before .before .emit-composite-def .kept .1 .1 .1 .0
 
 emit-composite-word-returns : (t : ℕ) → emit-composite-word-lts.Need-returns (emit-composite-word-claims t) (emit-composite-word-at t) emit-composite-word.Post
 emit-composite-word-returns t c = entries.composite-inline _ (now (c .before .before .before .before .before .before .before .before .before .before .before .before .args .section)) _ _ _ _ _ _ _ _ _ _ _ _ _ _ (sym (c .before .before .before .before .before .before .before .before .is-empty .ensures) ∙ c .before .before .before .before .before .before .before .if1 .taken) (c .before .before .before .before .emit-composite-def .ensures)
@@ -698,10 +698,10 @@ emit-composite-word-emit-composite-fwd-requires :
 emit-composite-word-emit-composite-fwd-requires t c κs = tt
 
 emit-composite-word-same-length-3 : (t : ℕ) → emit-composite-word-lts.Need-same-length-3 (emit-composite-word-claims t) (emit-composite-word-at t) emit-composite-word.Post
-emit-composite-word-same-length-3 t c = search needs
+emit-composite-word-same-length-3 t c = c .before .before .before .before .emit-composite-fwd .kept .1 .1 .0
 
 emit-composite-word-same-length-4 : (t : ℕ) → emit-composite-word-lts.Need-same-length-4 (emit-composite-word-claims t) (emit-composite-word-at t) emit-composite-word.Post
-emit-composite-word-same-length-4 t c = search needs
+emit-composite-word-same-length-4 t c = c .before .before .before .before .emit-composite-fwd .kept .1 .1 .1 .0
 
 emit-composite-word-returns-2 : (t : ℕ) → emit-composite-word-lts.Need-returns-2 (emit-composite-word-claims t) (emit-composite-word-at t) emit-composite-word.Post
 emit-composite-word-returns-2 t c = entries.composite-named _ (now (c .before .before .before .before .before .before .before .before .before .before .before .before .before .args .section)) _ _ _ _ _ _ _ _ _ _ _ _ _ _ _ (sym (c .before .before .before .before .before .before .before .before .before .is-empty .ensures) ∙ c .before .before .before .before .before .before .before .before .if1 .left) (c .before .before .before .before .before .is-struct .ensures) (c .before .before .before .before .emit-composite-fwd .ensures)
@@ -755,37 +755,37 @@ emit-entry-emit-plain-requires : (t : ℕ) → emit-entry-lts.Need-emit-plain-re
 emit-entry-emit-plain-requires t c κs = tt
 
 emit-entry-same-length : (t : ℕ) → emit-entry-lts.Need-same-length (emit-entry-claims t) (emit-entry-at t) emit-entry.Post
-emit-entry-same-length t c = search needs
+emit-entry-same-length t c = c .before .before .before .before .before .before .before .before .before .emit-array .kept .1 .1 .0
 
 emit-entry-same-length-2 : (t : ℕ) → emit-entry-lts.Need-same-length-2 (emit-entry-claims t) (emit-entry-at t) emit-entry.Post
-emit-entry-same-length-2 t c = search needs
+emit-entry-same-length-2 t c = c .before .before .before .put-count .kept .0 ∙ c .before .before .before .before .before .before .before .before .before .emit-array .kept .1 .1 .1 .0
 
 emit-entry-returns : (t : ℕ) → emit-entry-lts.Need-returns (emit-entry-claims t) (emit-entry-at t) emit-entry.Post
 emit-entry-returns t c = entries.arm-array _ _ _ _ _ _ (c .before .before .before .before .before .before .before .before .before .before .before .before .before .before .before .before .before .before .before .before .before .before .before .before .before .args .c) _ _ (c .before .before .before .before .before .before .before .before .before .before .before .before .before .before .before .before .before .before .before .before .before .before .before .before .before .pre .1) _ (c .before .before .before .before .before .before .before .before .before .before .before .before .before .before .before .before .before .before .before .path-at .ensures) _ (c .before .before .before .before .before .before .before .before .before .before .before .before .before .before .before .before .before .type-by-id .ensures) _ (c .before .before .before .before .before .before .before .before .before .before .before .before .before .before .before .before .kind-of .ensures) _ _ _ _ _ _ _ _ (c .before .before .before .before .before .before .before .before .before .before .before .before .before .before .before .match .keys1) (c .before .before .before .before .before .before .before .before .before .before .before .before .before .before .array-nelems .ensures) (c .before .before .before .before .before .before .before .before .before .before .before .before .skip-mods .ensures .0) (c .before .before .before .before .before .before .before .before .before .emit-array .ensures) (c .before .before .before .put-count .ensures) (c .named .ensures)
 
 emit-entry-same-length-3 : (t : ℕ) → emit-entry-lts.Need-same-length-3 (emit-entry-claims t) (emit-entry-at t) emit-entry.Post
-emit-entry-same-length-3 t c = search needs
+emit-entry-same-length-3 t c = c .before .before .before .before .before .emit-function .kept .1 .1 .0
 
 emit-entry-same-length-4 : (t : ℕ) → emit-entry-lts.Need-same-length-4 (emit-entry-claims t) (emit-entry-at t) emit-entry.Post
-emit-entry-same-length-4 t c = search needs
+emit-entry-same-length-4 t c = c .before .before .before .before .before .emit-function .kept .1 .1 .1 .0
 
 emit-entry-returns-2 : (t : ℕ) → emit-entry-lts.Need-returns-2 (emit-entry-claims t) (emit-entry-at t) emit-entry.Post
 emit-entry-returns-2 t c = entries.arm-proto _ _ _ _ _ _ (c .before .before .before .before .before .before .before .before .before .before .before .before .before .before .before .before .before .before .args .c) _ _ (c .before .before .before .before .before .before .before .before .before .before .before .before .before .before .before .before .before .before .pre .1) _ (c .before .before .before .before .before .before .before .before .before .before .before .before .path-at .ensures) _ (c .before .before .before .before .before .before .before .before .before .before .type-by-id .ensures) _ (c .before .before .before .before .before .before .before .before .before .kind-of .ensures) _ _ _ _ (c .before .before .before .before .before .before .before .before .match .keys2) (c .before .before .before .before .before .emit-function .ensures) (c .named2 .ensures)
 
 emit-entry-same-length-5 : (t : ℕ) → emit-entry-lts.Need-same-length-5 (emit-entry-claims t) (emit-entry-at t) emit-entry.Post
-emit-entry-same-length-5 t c = search needs
+emit-entry-same-length-5 t c = c .before .before .before .before .before .emit-composite-word .kept .1 .1 .0
 
 emit-entry-same-length-6 : (t : ℕ) → emit-entry-lts.Need-same-length-6 (emit-entry-claims t) (emit-entry-at t) emit-entry.Post
-emit-entry-same-length-6 t c = search needs
+emit-entry-same-length-6 t c = c .before .before .before .before .before .emit-composite-word .kept .1 .1 .1 .0 ∙ c .before .before .before .before .before .before .before .before .before .before .emit-mods .kept .1 .1 .1 .0
 
 emit-entry-returns-3 : (t : ℕ) → emit-entry-lts.Need-returns-3 (emit-entry-claims t) (emit-entry-at t) emit-entry.Post
 emit-entry-returns-3 t c = entries.arm-composite _ _ _ _ _ _ (c .before .before .before .before .before .before .before .before .before .before .before .before .before .before .before .before .before .before .before .before .before .before .before .before .before .before .before .args .c) _ _ (c .before .before .before .before .before .before .before .before .before .before .before .before .before .before .before .before .before .before .before .before .before .before .before .before .before .before .before .pre .1) _ (c .before .before .before .before .before .before .before .before .before .before .before .before .before .before .before .before .before .before .before .before .before .path-at .ensures) _ (c .before .before .before .before .before .before .before .before .before .before .before .before .before .before .before .before .before .before .before .type-by-id .ensures) _ (c .before .before .before .before .before .before .before .before .before .before .before .before .before .before .before .before .before .before .kind-of .ensures) _ _ _ _ _ _ _ (c .before .before .before .before .before .before .before .before .before .before .before .before .before .before .before .before .before .match .rest .0 .1) (c .before .before .before .before .before .before .before .before .before .before .before .before .before .before .before .before .if1 .left) (c .before .before .before .before .before .before .before .before .before .before .before .before .before .before .before .if2 .taken) (c .before .before .before .before .before .before .before .before .before .before .before .before .before .skip-mods2 .ensures .0) (c .before .before .before .before .before .before .before .before .before .before .before .before .before .skip-mods2 .ensures .1) (c .before .before .before .before .before .before .before .before .before .before .emit-mods .ensures) (c .before .before .before .before .before .emit-composite-word .ensures) (c .goes-on .ensures)
 
 emit-entry-same-length-7 : (t : ℕ) → emit-entry-lts.Need-same-length-7 (emit-entry-claims t) (emit-entry-at t) emit-entry.Post
-emit-entry-same-length-7 t c = search needs
+emit-entry-same-length-7 t c = c .before .before .before .before .emit-plain .kept .1 .1 .0
 
 emit-entry-same-length-8 : (t : ℕ) → emit-entry-lts.Need-same-length-8 (emit-entry-claims t) (emit-entry-at t) emit-entry.Post
-emit-entry-same-length-8 t c = search needs
+emit-entry-same-length-8 t c = c .before .before .before .before .emit-plain .kept .1 .1 .1 .0
 
 emit-entry-returns-4 : (t : ℕ) → emit-entry-lts.Need-returns-4 (emit-entry-claims t) (emit-entry-at t) emit-entry.Post
 emit-entry-returns-4 t c = entries.arm-plain _ _ _ _ _ _ (c .before .before .before .before .before .before .before .before .before .before .before .before .before .before .before .before .before .before .args .c) _ _ (c .before .before .before .before .before .before .before .before .before .before .before .before .before .before .before .before .before .before .pre .1) _ (c .before .before .before .before .before .before .before .before .before .before .before .before .path-at .ensures) _ (c .before .before .before .before .before .before .before .before .before .before .type-by-id .ensures) _ (c .before .before .before .before .before .before .before .before .before .kind-of .ensures) _ _ _ (c .before .before .before .before .before .before .before .before .match .rest .0 .1) (c .before .before .before .before .before .before .before .before .match .rest .1) (⊎-elim (λ x. inl (x .taken)) (λ x. inr (x .1 .left)) (c .before .before .before .before .before .before .before .if1 .came)) (c .before .before .before .before .emit-plain .ensures)
@@ -809,10 +809,10 @@ emit-function-emit-params-requires : (t : ℕ) → emit-function-lts.Need-emit-p
 emit-function-emit-params-requires t c κs = (omega arith, tt)
 
 emit-function-same-length : (t : ℕ) → emit-function-lts.Need-same-length (emit-function-claims t) (emit-function-at t) emit-function.Post
-emit-function-same-length t c = search needs
+emit-function-same-length t c = c .before .before .before .before .emit-params .kept .1 .1 .0 ∙ c .before .before .before .before .before .before .before .before .before .before .before .before .emit-proto .kept .1 .1 .0
 
 emit-function-same-length-2 : (t : ℕ) → emit-function-lts.Need-same-length-2 (emit-function-claims t) (emit-function-at t) emit-function.Post
-emit-function-same-length-2 t c = search needs
+emit-function-same-length-2 t c = c .before .before .before .before .emit-params .kept .1 .1 .1 .0 ∙ c .before .before .before .before .before .before .before .before .before .before .before .before .emit-proto .kept .1 .1 .1 .0 ∙ c .before .before .before .before .before .before .before .before .before .before .before .before .before .before .before .before .before .emit-mods .kept .1 .1 .1 .0
 
 emit-function-returns : (t : ℕ) → emit-function-lts.Need-returns (emit-function-claims t) (emit-function-at t) emit-function.Post
 emit-function-returns t c = entries.function-put _ _ _ _ _ _ _ _ _ _ _ _ _ _ _ _ _ _ _ _ (c .before .before .before .before .before .before .before .before .before .before .before .before .before .before .before .before .before .before .before .before .before .before .before .before .before .before .args .t) _ (c .before .before .before .before .before .before .before .before .before .before .before .before .before .before .before .before .before .before .before .before .skip-mods .ensures .0) (c .before .before .before .before .before .entries-of .ensures) (c .before .before .before .before .before .before .before .before .before .before .before .before .before .before .before .before .before .emit-mods .ensures) (c .before .before .before .before .before .before .before .before .before .before .before .before .emit-proto .ensures) (c .before .before .before .before .emit-params .ensures)
@@ -839,10 +839,10 @@ emit-member-emit-member-end-requires : (t : ℕ) → emit-member-lts.Need-emit-m
 emit-member-emit-member-end-requires t c κs = tt
 
 emit-member-same-length : (t : ℕ) → emit-member-lts.Need-same-length (emit-member-claims t) (emit-member-at t) emit-member.Post
-emit-member-same-length t c = search needs
+emit-member-same-length t c = c .before .before .before .before .before .before .before .before .before .emit-type-decl .kept .1 .1 .0 ∙ c .before .before .before .before .before .before .before .before .before .before .before .before .before .before .before .before .before .before .before .before .before .before .before .before .emit-bit-padding .kept .1 .1 .0
 
 emit-member-same-length-2 : (t : ℕ) → emit-member-lts.Need-same-length-2 (emit-member-claims t) (emit-member-at t) emit-member.Post
-emit-member-same-length-2 t c = search needs
+emit-member-same-length-2 t c = c .before .before .emit-member-end .kept .1 .1 .1 .0 ∙ c .before .before .before .before .before .before .before .before .before .emit-type-decl .kept .1 .1 .1 .0 ∙ c .before .before .before .before .before .before .before .before .before .before .before .before .before .before .put-tabs .kept .0 ∙ c .before .before .before .before .before .before .before .before .before .before .before .before .before .before .before .before .before .before .put-byte .kept .0 ∙ c .before .before .before .before .before .before .before .before .before .before .before .before .before .before .before .before .before .before .before .before .before .before .before .before .emit-bit-padding .kept .1 .1 .1 .0
 
 emit-member-returns : (t : ℕ) → emit-member-lts.Need-returns (emit-member-claims t) (emit-member-at t) emit-member.Post
 emit-member-returns t c = members.member-put _ _ _ _ _ _ _ _ _ _ _ _ _ _ _ _ _ _ _ _ _ _ _ _ _ (c .before .before .before .before .before .before .before .before .before .before .before .before .before .before .before .before .before .before .before .before .before .before .before .before .before .before .before .before .load-member .ensures) (c .before .before .before .before .before .before .before .before .before .before .before .before .before .before .before .before .before .before .before .before .before .before .before .before .before .before .before .bare .ensures) (c .before .before .before .before .before .before .before .before .before .before .before .before .before .before .before .before .before .before .before .before .before .before .before .before .emit-bit-padding .ensures) (c .before .before .before .before .before .before .before .before .before .before .before .before .before .before .before .before .before .before .put-byte .ensures) (c .before .before .before .before .before .before .before .before .before .before .before .before .before .before .put-tabs .ensures) (c .before .before .before .before .before .before .before .before .before .emit-type-decl .ensures) (c .before .before .emit-member-end .ensures)
@@ -920,7 +920,7 @@ emit-param-put-dots-requires : (t : ℕ) → emit-param-lts.Need-put-dots-requir
 emit-param-put-dots-requires t c κs = tt
 
 emit-param-same-length : (t : ℕ) → emit-param-lts.Need-same-length (emit-param-claims t) (emit-param-at t) emit-param.Post
-emit-param-same-length t c = search needs
+emit-param-same-length t c = c .before .before .put-dots .kept .0 ∙ c .before .before .before .before .before .before .before .before .put-comma .kept .0
 
 emit-param-returns : (t : ℕ) → emit-param-lts.Need-returns (emit-param-claims t) (emit-param-at t) emit-param.Post
 emit-param-returns t c = members.param-any _ _ _ _ _ _ _ _ _ _ _ _ (c .before .before .before .before .before .before .before .before .before .before .before .before .before .param-place .ensures) (c .before .before .before .before .before .before .before .before .before .before .before .before .word .ensures) _ (c .before .before .before .before .before .is-any-more .ensures) _ _ (c .before .before .before .before .before .before .before .before .put-comma .ensures) _ _ (c .before .before .before .before .if1 .taken) (c .before .before .put-dots .ensures)
@@ -929,10 +929,10 @@ emit-param-emit-type-decl-requires : (t : ℕ) → emit-param-lts.Need-emit-type
 emit-param-emit-type-decl-requires t c κs = (omega arith, tt)
 
 emit-param-same-length-2 : (t : ℕ) → emit-param-lts.Need-same-length-2 (emit-param-claims t) (emit-param-at t) emit-param.Post
-emit-param-same-length-2 t c = search needs
+emit-param-same-length-2 t c = c .before .before .before .before .emit-type-decl .kept .1 .1 .0
 
 emit-param-same-length-3 : (t : ℕ) → emit-param-lts.Need-same-length-3 (emit-param-claims t) (emit-param-at t) emit-param.Post
-emit-param-same-length-3 t c = search needs
+emit-param-same-length-3 t c = c .before .before .before .before .emit-type-decl .kept .1 .1 .1 .0 ∙ c .before .before .before .before .before .before .before .before .before .before .before .put-comma .kept .0
 
 emit-param-returns-2 : (t : ℕ) → emit-param-lts.Need-returns-2 (emit-param-claims t) (emit-param-at t) emit-param.Post
 emit-param-returns-2 t c = members.param-decl _ _ _ _ _ _ _ _ _ _ _ _ (c .before .before .before .before .before .before .before .before .before .before .before .before .before .before .before .before .param-place .ensures) (c .before .before .before .before .before .before .before .before .before .before .before .before .before .before .before .word .ensures) _ (c .before .before .before .before .before .before .before .before .is-any-more .ensures) _ _ (c .before .before .before .before .before .before .before .before .before .before .before .put-comma .ensures) _ _ _ _ _ (c .before .before .before .before .before .before .before .if1 .left) (c .before .before .before .before .before .before .before .before .before .before .before .before .before .before .word2 .ensures) (c .before .before .before .before .before .before .before .before .before .before .before .before .before .bare .ensures) (c .before .before .before .before .emit-type-decl .ensures)
@@ -992,7 +992,7 @@ emit-proto-emit-name-requires : (t : ℕ) → emit-proto-lts.Need-emit-name-requ
 emit-proto-emit-name-requires t c κs = tt
 
 emit-proto-same-length : (t : ℕ) → emit-proto-lts.Need-same-length (emit-proto-claims t) (emit-proto-at t) emit-proto.Post
-emit-proto-same-length t c = search needs
+emit-proto-same-length t c = c .before .before .emit-name .kept .1 .1 .0
 
 emit-proto-returns : (t : ℕ) → emit-proto-lts.Need-returns (emit-proto-claims t) (emit-proto-at t) emit-proto.Post
 emit-proto-returns t c = entries.proto-name _ _ _ _ _ _ _ _ _ _ _ _ _ (c .before .before .before .before .before .if1 .taken) (c .before .before .emit-name .ensures)
@@ -1007,10 +1007,10 @@ emit-proto-put-close-requires : (t : ℕ) → emit-proto-lts.Need-put-close-requ
 emit-proto-put-close-requires t c κs = tt
 
 emit-proto-same-length-2 : (t : ℕ) → emit-proto-lts.Need-same-length-2 (emit-proto-claims t) (emit-proto-at t) emit-proto.Post
-emit-proto-same-length-2 t c = search needs
+emit-proto-same-length-2 t c = c .before .before .before .before .before .before .before .before .emit-type-chain .kept .1 .1 .0
 
 emit-proto-same-length-3 : (t : ℕ) → emit-proto-lts.Need-same-length-3 (emit-proto-claims t) (emit-proto-at t) emit-proto.Post
-emit-proto-same-length-3 t c = search needs
+emit-proto-same-length-3 t c = c .before .before .put-close .kept .0 ∙ c .before .before .before .before .before .before .before .before .emit-type-chain .kept .1 .1 .1 .0 ∙ c .before .before .before .before .before .before .before .before .before .before .before .before .before .put-two .kept .0
 
 emit-proto-returns-2 : (t : ℕ) → emit-proto-lts.Need-returns-2 (emit-proto-claims t) (emit-proto-at t) emit-proto.Post
 emit-proto-returns-2 t c = entries.proto-some _ _ _ _ _ _ _ _ _ _ _ (c .before .before .before .before .before .before .before .before .before .before .before .before .before .before .before .if1 .left) _ _ _ _ _ _ _ (c .before .before .before .before .before .before .before .before .before .before .before .before .before .put-two .ensures) (c .before .before .before .before .before .before .before .before .emit-type-chain .ensures) (c .before .before .put-close .ensures)
@@ -1122,19 +1122,19 @@ emit-type-decl-stop-requires-2 : (t : ℕ) → emit-type-decl-lts.Need-stop-requ
 emit-type-decl-stop-requires-2 t c κs = tt
 
 emit-type-decl-same-length-3 : (t : ℕ) → emit-type-decl-lts.Need-same-length-3 (emit-type-decl-claims t) (emit-type-decl-at t) emit-type-decl.Post
-emit-type-decl-same-length-3 t c = search needs
+emit-type-decl-same-length-3 t c = c .before .before .before .before .emit-type-chain .kept .1 .1 .0
 
 emit-type-decl-same-length-4 : (t : ℕ) → emit-type-decl-lts.Need-same-length-4 (emit-type-decl-claims t) (emit-type-decl-at t) emit-type-decl.Post
-emit-type-decl-same-length-4 t c = search needs
+emit-type-decl-same-length-4 t c = c .before .before .before .before .emit-type-chain .kept .1 .1 .1 .0
 
 emit-type-decl-returns-3 : (t : ℕ) → emit-type-decl-lts.Need-returns-3 (emit-type-decl-claims t) (emit-type-decl-at t) emit-type-decl.Post
 emit-type-decl-returns-3 t c = chains.decl-got _ _ _ _ _ _ _ _ _ _ (c .before .before .before .before .before .before .before .before .before .before .before .before .before .before .before .if1 .left) _ (c .before .before .before .before .before .before .before .before .before .before .chain-len .ensures) _ _ _ (c .before .before .before .before .before .before .before .before .n .given .1) (c .before .before .before .before .emit-type-chain .ensures)
 
 emit-type-decl-same-length-5 : (t : ℕ) → emit-type-decl-lts.Need-same-length-5 (emit-type-decl-claims t) (emit-type-decl-at t) emit-type-decl.Post
-emit-type-decl-same-length-5 t c = search needs
+emit-type-decl-same-length-5 t c = refl
 
 emit-type-decl-same-length-6 : (t : ℕ) → emit-type-decl-lts.Need-same-length-6 (emit-type-decl-claims t) (emit-type-decl-at t) emit-type-decl.Post
-emit-type-decl-same-length-6 t c = search needs
+emit-type-decl-same-length-6 t c = refl
 
 emit-type-decl-returns-4 : (t : ℕ) → emit-type-decl-lts.Need-returns-4 (emit-type-decl-claims t) (emit-type-decl-at t) emit-type-decl.Post
 emit-type-decl-returns-4 t c = chains.decl-no _ _ _ _ _ _ _ _ _ _ (c .before .before .before .before .before .before .before .before .before .before .if1 .left) _ (c .before .before .before .before .before .chain-len .ensures) _ (c .before .before .before .c .given .1) (c .stop2 .ensures)
