@@ -15,7 +15,7 @@ use Rattle.causes.specs.Bytes.{CauseCall, typeCauses, typesCauses}
 use Rattle.explain.specs.declared.Explained.{Explained}
 use Rattle.explain.specs.Explained.{explainedOf}
 use Rattle.several.specs.Several.{listCausesCall}
-use Rattle.btfdump_c.specs.Exports.{exportOf, answeredBy}
+use Rattle.exports.specs.Exports.{exportOf, answeredBy}
 use Rattle.btfdump_c.specs.Causes.{causesExportOf, answeredCauses, typeCausesExport, typesCausesExport, listedCauses, listCausesExport}
 
 module _ (r section w t l : List ℕ) where

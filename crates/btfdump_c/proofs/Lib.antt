@@ -1,8 +1,1 @@
 pub mod CauseLaws
-pub mod CeilingLaws
-pub mod Laws
-pub mod Claims
-pub mod Lists
-pub mod FieldLaws
-pub mod CutLaws
-pub mod ReadingBack

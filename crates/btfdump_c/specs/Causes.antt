@@ -9,7 +9,7 @@ use Rattle.c_words.specs.Words.{packed, decoded}
 use Rattle.c_record.specs.Record.{recordListed}
 use Rattle.causes.specs.Bytes.{CauseCall, typeCauses, typesCauses}
 use Rattle.several.specs.Several.{listCausesCall}
-use Rattle.btfdump_c.specs.Exports.{Export, exportOf, answeredBy}
+use Rattle.exports.specs.Exports.{Export, exportOf, answeredBy}
 
 pub record CausesExport : Type 0 where
   pub export : Export

@@ -1,7 +1,2 @@
--- What each call for C comes to.
-pub mod Exports
-pub mod Field
-pub mod Ceilings
-pub mod Declarations
-pub mod Cuts
+-- What each call for C that is lent a list comes to.
 pub mod Causes

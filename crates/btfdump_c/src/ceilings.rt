@@ -1,12 +1,9 @@
 // Requests under a ceiling on the calls of the ordering rule, for C. How many were made is stored in `made`.
-use c_record::answered;
-use c_record::listed;
-use c_words::decode;
-use within::dump_list_within;
-use within::dump_type_within;
-use within::dump_types_within;
+use c_calls::c_dump_list_within;
+use c_calls::c_dump_type_within;
+use c_calls::c_dump_types_within;
 ghost use mathlib.Core.Path.{_≡_};
-ghost use Rattle.btfdump_c.specs.Ceilings.{withinExportOf, typeWithinExport, typesWithinExport, listWithinExport};
+ghost use Rattle.exports.specs.Ceilings.{withinExportOf, typeWithinExport, typesWithinExport, listWithinExport};
 ghost use Rattle.calls.specs.Lists.{idsIn};
 
 #[no_mangle]
@@ -21,13 +18,7 @@ pub extern "C" fn btfdump_dump_type_within(
 ) -> u64
     ensures { λ r. ⌜ withinExportOf r (now («record» .exit)) (now (work .exit)) (now (text .exit)) (now (made .exit)) ≡ typeWithinExport ceiling (now («record» .entry)) (now (section .entry)) (now (work .entry)) (now (text .entry)) id ⌝ }
 {
-    if record.len() < 128 {
-        *made = 0;
-        return 47244640256;
-    }
-    let d = dump_type_within(decode(record), section, work, text, id, ceiling);
-    *made = d.made;
-    answered(record, d.turn)
+    c_dump_type_within(record, section, work, text, id, ceiling, made)
 }
 
 #[no_mangle]
@@ -41,13 +32,7 @@ pub extern "C" fn btfdump_dump_types_within(
 ) -> u64
     ensures { λ r. ⌜ withinExportOf r (now («record» .exit)) (now (work .exit)) (now (text .exit)) (now (made .exit)) ≡ typesWithinExport ceiling (now («record» .entry)) (now (section .entry)) (now (work .entry)) (now (text .entry)) ⌝ }
 {
-    if record.len() < 128 {
-        *made = 0;
-        return 47244640256;
-    }
-    let d = dump_types_within(decode(record), section, work, text, ceiling);
-    *made = d.made;
-    answered(record, d.turn)
+    c_dump_types_within(record, section, work, text, ceiling, made)
 }
 
 #[no_mangle]
@@ -62,15 +47,5 @@ pub extern "C" fn btfdump_dump_list_within(
 ) -> u64
     ensures { λ r. ⌜ withinExportOf r (now («record» .exit)) (now (work .exit)) (now (text .exit)) (now (made .exit)) ≡ listWithinExport ceiling (now («record» .entry)) (now (section .entry)) (now (work .entry)) (now (text .entry)) (idsIn (now (ids .entry))) ⌝ }
 {
-    if ids.len() < 4 {
-        *made = 0;
-        return 0;
-    }
-    if record.len() < 128 {
-        *made = 0;
-        return 47244640256;
-    }
-    let d = dump_list_within(decode(record), section, work, text, ids, ceiling);
-    *made = d.made;
-    listed(record, d.turn)
+    c_dump_list_within(record, section, work, text, ids, ceiling, made)
 }

@@ -1,19 +1,12 @@
 // Reading a declaration back, for C.
-use reader::read_declaration;
+use c_calls::c_read_declaration;
 ghost use mathlib.Core.Path.{_≡_};
 ghost use Rattle.bases.specs.Items.{placed};
-ghost use Rattle.btfdump_c.specs.Declarations.{readExport};
+ghost use Rattle.exports.specs.Declarations.{readExport};
 
 #[no_mangle]
 pub extern "C" fn btfdump_read_declaration(text: &[u8], chain: &mut [u64]) -> u64
     ensures { λ r. ⌜ placed r (now (chain .exit)) ≡ readExport (now (text .entry)) (now (chain .entry)) ⌝ }
 {
-    if chain.len() < 1536 {
-        return 1095216660480;
-    }
-    let n = read_declaration(text, chain);
-    if n == 0 {
-        return 81604378624;
-    }
-    n as u64
+    c_read_declaration(text, chain)
 }

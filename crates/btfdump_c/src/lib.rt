@@ -1,25 +1,19 @@
-// The calls for C, on numbers and byte slices. The session record crosses as bytes (`c_record`), and an answer as a number of
-// 64 bits.
+// The calls for C, on numbers and byte slices: each is the call of `c_calls`, or stands in `explained`, under its name for C.
 
 mod ceilings;
 mod cuts;
 mod declarations;
 mod explained;
 
-use c_record::answered;
-use c_record::listed;
-use c_record::opened;
-use c_words::decode;
-use c_words::number_and_value;
-use field::which_field;
-use opens::open_core;
-use requests::dump_list_core;
-use requests::dump_type_core;
-use requests::dump_types_core;
+use c_calls::c_dump_list;
+use c_calls::c_dump_type;
+use c_calls::c_dump_types;
+use c_calls::c_field;
+use c_calls::c_open;
 ghost use mathlib.Core.Path.{_≡_};
-ghost use Rattle.btfdump_c.specs.Exports.{exportOf, openExport, typeExport, typesExport, listExport};
+ghost use Rattle.exports.specs.Exports.{exportOf, openExport, typeExport, typesExport, listExport};
 ghost use Rattle.calls.specs.Lists.{idsIn};
-ghost use Rattle.btfdump_c.specs.Field.{pathExportOf, fieldExport};
+ghost use Rattle.exports.specs.Field.{pathExportOf, fieldExport};
 
 #[no_mangle]
 pub extern "C" fn btfdump_open(
@@ -32,11 +26,7 @@ pub extern "C" fn btfdump_open(
 ) -> u64
     ensures { λ r. ⌜ exportOf r (now («record» .exit)) (now (work .exit)) (now (text .exit)) ≡ openExport (now («record» .entry)) (now (section .entry)) «pointer_size» modes (now (work .entry)) (now (text .entry)) ⌝ }
 {
-    if record.len() < 128 {
-        return 1095216660480;
-    }
-    let t = open_core(decode(record), section, work, text, pointer_size, modes);
-    opened(record, t)
+    c_open(record, section, pointer_size, modes, work, text)
 }
 
 #[no_mangle]
@@ -49,11 +39,7 @@ pub extern "C" fn btfdump_dump_type(
 ) -> u64
     ensures { λ r. ⌜ exportOf r (now («record» .exit)) (now (work .exit)) (now (text .exit)) ≡ typeExport (now («record» .entry)) (now (section .entry)) (now (work .entry)) (now (text .entry)) id ⌝ }
 {
-    if record.len() < 128 {
-        return 47244640256;
-    }
-    let t = dump_type_core(decode(record), section, work, text, id);
-    answered(record, t)
+    c_dump_type(record, section, work, text, id)
 }
 
 #[no_mangle]
@@ -65,11 +51,7 @@ pub extern "C" fn btfdump_dump_types(
 ) -> u64
     ensures { λ r. ⌜ exportOf r (now («record» .exit)) (now (work .exit)) (now (text .exit)) ≡ typesExport (now («record» .entry)) (now (section .entry)) (now (work .entry)) (now (text .entry)) ⌝ }
 {
-    if record.len() < 128 {
-        return 47244640256;
-    }
-    let t = dump_types_core(decode(record), section, work, text);
-    answered(record, t)
+    c_dump_types(record, section, work, text)
 }
 
 #[no_mangle]
@@ -82,14 +64,7 @@ pub extern "C" fn btfdump_dump_list(
 ) -> u64
     ensures { λ r. ⌜ exportOf r (now («record» .exit)) (now (work .exit)) (now (text .exit)) ≡ listExport (now («record» .entry)) (now (section .entry)) (now (work .entry)) (now (text .entry)) (idsIn (now (ids .entry))) ⌝ }
 {
-    if ids.len() < 4 {
-        return 0;
-    }
-    if record.len() < 128 {
-        return 47244640256;
-    }
-    let t = dump_list_core(decode(record), section, work, text, ids);
-    listed(record, t)
+    c_dump_list(record, section, work, text, ids)
 }
 
 #[no_mangle]
@@ -103,9 +78,5 @@ pub extern "C" fn btfdump_field(
 ) -> u64
     ensures { λ r. ⌜ pathExportOf r (now (path .exit)) ≡ fieldExport (now («record» .entry)) (now (section .entry)) (now (work .entry)) (now (path .entry)) id bit ⌝ }
 {
-    if record.len() < 128 {
-        return 47244640256;
-    }
-    let a = which_field(decode(record), section, work, path, id, bit);
-    number_and_value(a)
+    c_field(record, section, work, path, id, bit)
 }

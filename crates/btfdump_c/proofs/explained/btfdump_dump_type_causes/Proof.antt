@@ -12,13 +12,13 @@ returns : tie.Need-returns
 returns c = laws.type-short _ _ _ _ _ (c .if1 .taken) _
 
 decode-requires : tie.Need-decode-requires
-decode-requires c κs = search needs
+decode-requires c κs = tt
 
 dump-type-causes-requires : tie.Need-dump-type-causes-requires
-dump-type-causes-requires c κs = search needs
+dump-type-causes-requires c κs = tt
 
 answered-requires : tie.Need-answered-requires
-answered-requires c κs = search needs
+answered-requires c κs = tt
 
 same-length : tie.Need-same-length
 same-length c = search needs

@@ -1,0 +1,7 @@
+pub mod CeilingLaws
+pub mod Laws
+pub mod Claims
+pub mod Lists
+pub mod FieldLaws
+pub mod CutLaws
+pub mod ReadingBack
