@@ -53,7 +53,13 @@ fn record_size(b: Btf, section: &[u8], start: &[u32], ids: &[u32], x: u32) -> u6
 }
 
 // The length of the strings; the length before each type stands in `bases`.
-pub(crate) fn fill_bases(b: Btf, section: &[u8], start: &[u32], ids: &[u32], bases: &mut [u32]) -> u64
+pub(crate) fn fill_bases(
+    b: Btf,
+    section: &[u8],
+    start: &[u32],
+    ids: &[u32],
+    bases: &mut [u32],
+) -> u64
     requires { ⌜ (length (now section) ≤ 16777216) × (length (now bases) ≡ 262145) ⌝ }
     ensures { λ r. ⌜ (r ≡ baseOf b (now (section .entry)) (now (start .entry)) (now (ids .entry)) (countOf b)) × (now (bases .exit) ≡ basesTo b (now (section .entry)) (now (start .entry)) (now (ids .entry)) (now (bases .entry)) (countOf b)) ⌝ }
 {
@@ -106,7 +112,14 @@ fn place_from(b: Btf, section: &[u8], start: &[u32], ids: &[u32], bases: &[u32],
 }
 
 // Where a name stands in the new strings.
-pub(crate) fn place_of(b: Btf, section: &[u8], start: &[u32], ids: &[u32], bases: &[u32], off: u32) -> u32
+pub(crate) fn place_of(
+    b: Btf,
+    section: &[u8],
+    start: &[u32],
+    ids: &[u32],
+    bases: &[u32],
+    off: u32,
+) -> u32
     requires { ⌜ length (now section) ≤ 16777216 ⌝ }
     ensures { λ r. ⌜ r ≡ placeOf b (now (section .entry)) (now (start .entry)) (now (ids .entry)) (now (bases .entry)) off ⌝ }
 {
