@@ -19,12 +19,11 @@ use Rattle.names.specs.Spelling.{nameAfter}
 use Rattle.chain.specs.Chains.{chainAt, chainIs}
 use Rattle.chain.proofs.Paths.{chain-top, chain-length}
 use Rattle.chain.proofs.Linked.{false-true}
-use Rattle.plain.specs.declared.Chain.{Chain}
+use Rattle.decl.specs.declared.Chain.{Chain}
 use Rattle.bodies.specs.Pieces.{entryLeft, entryStar, entryNamed, entryText, chainRest}
 use Rattle.decl.proofs.Turns.{chain-turn, chain-done, chain-named, decl-none, chain-none, decl-some, chain-some}
 use Rattle.decl.proofs.Kept.{seen, Leads, leads-end, leads-turn}
-use Rattle.plain.proofs.PlainLaws.{said-as, N, Q, T}
-use Rattle.decl.proofs.Keeping.{put-emit-name, kept-entry}
+use Rattle.decl.proofs.Keeping.{said-as, put-emit-name, N, Q, T, kept-entry}
 
 module _ (b : Btf) (s : List ℕ) where
   -- ---- emit_type_decl

@@ -38,8 +38,7 @@ use Rattle.decl.proofs.Sequences.{then-assoc, nothing-then}
 use Rattle.decl.proofs.Turns.{params-turn, members-turn, def-none, def-some}
 use Rattle.bodies.proofs.BodyLaws.{also}
 use Rattle.decl.proofs.Kept.{Seen, seen, keeps-type, keeps-value, keeps-padding, keeps-body, body-seen, then-on, Leads, leads-end, leads-turn}
-use Rattle.plain.proofs.PlainLaws.{said-as, N, Q, T}
-use Rattle.decl.proofs.Keeping.{KeptBy, kept-decl, kept-word, kept-param, kept-pads, kept-member}
+use Rattle.decl.proofs.Keeping.{said-as, N, Q, T, KeptBy, kept-decl, kept-word, kept-param, kept-pads, kept-member}
 use mathlib.Core.Logic.{⊎-elim}
 use Rattle.btf.specs.declared.types.BtfMember.{BtfMember}
 use Rattle.names.specs.declared.versions.Name.{Name as Printing}

@@ -7,12 +7,12 @@ use native.Mathlib.Omega.{arith}
 use lib.ListN.{length}
 use Rattle.text.specs.Text.{ascii, pfx}
 use Rattle.rules.specs.Writer.{Ask, got, no, Writer, _⨾_, put, stop, nothing, given}
-use Rattle.rules.specs.Types.{Name, Member, Param, Btf}
+use Rattle.rules.specs.Types.{Name, Member, Param, BtfType, Void, Int, Ptr, Array, Composite, Enum, Enum64, Fwd, Typedef, Mod, Func, Var, Datasec, FuncProto, Float, DeclTag, TypeTag, Btf}
 use Rattle.rules.specs.Names.{Naming}
 use Rattle.rules.specs.Layout.{Pad, endOf}
-use Rattle.rules.specs.Decl.{Entry, base, star, qual, array, proto, tag, noMods, noParams, emitName, pads, bitSize, emitDeclTags, emitParams, chainOf, chainLoop}
+use Rattle.rules.specs.Decl.{Entry, base, star, qual, array, proto, tag, noMods, noParams, emitName, pads, bitSize, emitDeclTags, emitParams, chainOf, baseWord, chainLoop}
 use Rattle.alignments.specs.Writers.{Asks, givenOnce, emitMembersOnce, compositeDefOnce, emitTypeDeclOnce, emitTypeChainOnce, emitCompositeDefOnce}
-use Rattle.bodies.specs.Pieces.{entryLeft, entryStar, entryNamed, starText, loopBelow, entryText, chainRest, paramText, memberTail, memberText, membersBelow, endFrom, comma}
+use Rattle.bodies.specs.Pieces.{entryLeft, entryStar, entryNamed, starText, wordBelow, loopBelow, entryText, chainRest, paramText, memberTail, memberText, membersBelow, endFrom, comma}
 use Rattle.decl.proofs.Sequences.{then-assoc, then-nothing, stop-then}
 
 no-mods-length : (c : List Entry) → length (noMods c) ≤ length c
@@ -67,6 +67,28 @@ module _ {U : Type 0} (Q : Asks U) (N : Naming U) (B : Btf) (below : ℕ) (fname
   pub chain-named : (p : Bool) (c : List Entry) → chainRest Q N B below fname lvl true p c ≡ nothing
   unfolding chainRest
   chain-named p c = refl
+
+  -- the base's own words say nothing of the declared name
+  pub word-any : (id : ℕ) (t : BtfType)
+      → baseWord N B (emitTypeDeclOnce Q N B below) (emitTypeChainOnce Q N B below) (emitCompositeDefOnce Q N B below) fname lvl id t ≡ wordBelow Q N B below lvl id t
+  unfolding baseWord
+  word-any id Void = refl
+  word-any id (Int n b) = refl
+  word-any id (Ptr t) = refl
+  word-any id (Array t k) = refl
+  word-any id (Composite s n z ms) = refl
+  word-any id (Enum s n z vs) = refl
+  word-any id (Enum64 s n z vs) = refl
+  word-any id (Fwd u n) = refl
+  word-any id (Typedef n t) = refl
+  word-any id (Mod q t) = refl
+  word-any id (Func n) = refl
+  word-any id (Var n) = refl
+  word-any id (Datasec n) = refl
+  word-any id (FuncProto r ps) = refl
+  word-any id (Float n z) = refl
+  word-any id (DeclTag a n t k) = refl
+  word-any id (TypeTag a n t) = refl
 
 -- a parameter and those after it
 pub params-turn : {U : Type 0} → (decl : ℕ → Name → Writer U) (first : Bool) (p : Param) (ps : List Param)

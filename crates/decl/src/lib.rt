@@ -3,6 +3,8 @@
 use bodies::Spot;
 use bodies::emit_composite_end;
 use bodies::emit_composite_head;
+use bodies::emit_enum_word;
+use bodies::emit_enum64_word;
 use bodies::emit_member_end;
 use bodies::is_any_more;
 use bodies::put_close;
@@ -10,6 +12,9 @@ use bodies::put_comma;
 use bodies::put_count;
 use bodies::put_gap;
 use bodies::put_open;
+use bodies::put_star;
+use bodies::put_type_tag;
+use bodies::put_typedef_name;
 use bodies::shown_params;
 use btf::Btf;
 use btf::BtfType;
@@ -20,15 +25,19 @@ use chain::path_at;
 use entries::load_member;
 use enumerators::deeper;
 use fixed::put_dots;
+use fixed::put_void;
 use forwards::emit_composite_fwd;
+use forwards::emit_fwd_def;
 use kinds::entries_of;
 use kinds::is_struct;
+use kinds::kind_flag_of;
 use kinds::kind_of;
 use kinds::param_place;
 use kinds::vlen_of;
 use layout::Ask;
 use layout::Packed;
 use mods::emit_mods;
+use mods::put_qualifier;
 use mods::skip_mods;
 use names::Name;
 use names::bare;
@@ -37,10 +46,6 @@ use nodes::type_by_id;
 use padding::emit_bit_padding;
 use padding::emit_tail_padding;
 use placing::body_packed;
-use plain::Chain;
-use plain::emit_plain;
-use plain::goes_on;
-use plain::named;
 use put::put_byte;
 use put::put_tabs;
 use put::put_two;
@@ -50,6 +55,7 @@ use sections::array_nelems;
 use sections::word;
 use strings::is_builtin;
 use strings::is_empty;
+use strings::put_str;
 ghost use mathlib.Core.Path.{_≡_};
 ghost use mathlib.Core.Bool.{true, false};
 ghost use Prim.Native.Nat.{_≤_, _<_, _-_, _+_};
@@ -63,7 +69,7 @@ ghost use Rattle.alignments.specs.Writers.{emitTypeDeclOnce, emitTypeChainOnce,
 ghost use Rattle.asked.specs.Asked.{workAsks};
 ghost use Rattle.rules.specs.Place.{outOf, putSaid};
 ghost use Rattle.btf.specs.Records.{kindOf, memberOf};
-ghost use Rattle.btf.specs.Table.{from, paramOf, paramsOf, membersOf, recordName, ruleMember, btfOf, workNaming};
+ghost use Rattle.btf.specs.Table.{from, paramOf, paramsOf, membersOf, recordName, ruleMember, typeOf, btfOf, workNaming};
 ghost use Rattle.names.specs.Spelling.{nameText};
 ghost use Rattle.chain.specs.Chains.{chainAt};
 ghost use Rattle.bodies.specs.Pieces.{entryLeft, entryStar, entryNamed, wordBelow, paramsBelow, arrayBelow, protoBelow, paramListBelow, entryText, paramText, memberText, membersBelow, endFrom};
@@ -73,6 +79,14 @@ pub struct Declarator {
     pub id: u32,
     pub name: Name,
     pub lvl: u32,
+}
+
+// A chain that is being printed: the place in the text, the entries left, and whether the declared name stands already.
+struct Chain {
+    at: usize,
+    n: u32,
+    last_was_ptr: bool,
+    is_named: bool,
 }
 
 pub fn emit_type_decl(
@@ -133,6 +147,30 @@ fn emit_type_chain(
     emit_name(b, section, text, c.at, name, c.last_was_ptr)
 }
 
+// The chain goes on from a place with n entries.
+fn goes_on(at: usize, n: u32, last_was_ptr: bool) -> Chain
+    ensures { λ r. ⌜ r ≡ record { at = at; n = n; «last_was_ptr» = «last_was_ptr»; «is_named» = false } ⌝ }
+{
+    Chain {
+        at: at,
+        n: n,
+        last_was_ptr: last_was_ptr,
+        is_named: false,
+    }
+}
+
+// The declared name stands, and nothing is left.
+fn named(at: usize) -> Chain
+    ensures { λ r. ⌜ r ≡ record { at = at; n = 0; «last_was_ptr» = false; «is_named» = true } ⌝ }
+{
+    Chain {
+        at: at,
+        n: 0,
+        last_was_ptr: false,
+        is_named: true,
+    }
+}
+
 // Pops and prints the entry on top.
 fn emit_entry(
     b: Btf,
@@ -150,23 +188,32 @@ fn emit_entry(
     let id = path_at(b, section, work, d.id, n);
     let t = type_by_id(b, section, work, id);
     match kind_of(t.info) {
+        2 => goes_on(put_star(text, c.at, c.last_was_ptr), n, true),
         3 => {
             let nelems = array_nelems(b, section, t);
             let m = skip_mods(b, section, work, d.id, n);
             let a = emit_array(b, section, work, text, c.at, d, m, c.last_was_ptr, below);
             named(put_count(text, a, nelems))
         }
-        4 | 5 => {
+        9..=11 => {
+            let a = put_byte(text, c.at, b' ');
+            goes_on(put_qualifier(text, a, kind_of(t.info)), n, false)
+        }
+        13 => named(emit_function(b, section, work, text, c, d, t, below)),
+        18 => {
+            let m = skip_mods(b, section, work, d.id, n);
+            let a = emit_mods(b, section, work, text, c.at, d.id, n, m);
+            goes_on(put_type_tag(b, section, text, a, t), m, false)
+        }
+        _ => {
             let m = skip_mods(b, section, work, d.id, n);
             let a = emit_mods(b, section, work, text, c.at, d.id, n, m);
             goes_on(
-                emit_composite_word(b, section, work, text, a, id, t, d.lvl, below),
+                emit_base(b, section, work, text, a, id, t, d.lvl, below),
                 m,
                 false,
             )
         }
-        13 => named(emit_function(b, section, work, text, c, d, t, below)),
-        _ => emit_plain(b, section, work, text, c, d.id, n, id, t, d.lvl),
     }
 }
 
@@ -189,6 +236,41 @@ fn emit_function(
     let a = emit_mods(b, section, work, text, c.at, d.id, n, m);
     let f = emit_proto(b, section, work, text, a, d, m, c.last_was_ptr, below);
     emit_params(b, section, work, text, f, entries_of(t), d.lvl, below)
+}
+
+// The base's own words. What cannot be declared prints nothing, and a kind that there is not is void: opening refuses both.
+fn emit_base(
+    b: Btf,
+    section: &[u8],
+    work: &mut [u8],
+    text: &mut [u8],
+    at: usize,
+    id: u32,
+    t: BtfType,
+    lvl: u32,
+    below: u32,
+) -> usize
+    ensures { λ r. ⌜ outOf r (now (text .exit)) (now (work .exit)) ≡ putSaid (now (text .entry)) at (wordBelow (workAsks (b .types) (btfOf b (now (section .entry)) (now (work .entry)))) (workNaming b) (btfOf b (now (section .entry)) (now (work .entry))) below lvl id (typeOf b (now (section .entry)) t) (now (work .entry))) ⌝ }
+{
+    match kind_of(t.info) {
+        1 | 16 => put_str(b, section, text, at, t.name_off),
+        4 | 5 => emit_composite_word(b, section, work, text, at, id, t, lvl, below),
+        6 => emit_enum_word(b, section, work, text, at, id, t, lvl),
+        7 => emit_fwd_def(
+            b,
+            section,
+            work,
+            text,
+            at,
+            id,
+            kind_flag_of(t.info),
+            t.name_off,
+        ),
+        8 => put_typedef_name(b, section, work, text, at, id, t.name_off),
+        19 => emit_enum64_word(b, section, work, text, at, id, t, lvl),
+        2 | 3 | 9..=15 | 17 | 18 => at,
+        _ => put_void(text, at),
+    }
 }
 
 // A nameless composite is printed inline.

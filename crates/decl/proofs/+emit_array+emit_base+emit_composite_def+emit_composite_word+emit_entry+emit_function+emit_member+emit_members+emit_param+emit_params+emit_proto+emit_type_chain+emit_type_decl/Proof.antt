@@ -22,45 +22,50 @@ use borrow.Fn.Kinds.{In}
 use borrow.Fn.PlainCycle.{Measures, is, falls, and}
 use Rattle.decl.proofs.emit_array.Reads as emit-array
 use Rattle.decl.proofs.emit_array.Kinds as emit-array-kinds
-use Rattle.decl.proofs.+emit_array+emit_composite_def+emit_composite_word+emit_entry+emit_function+emit_member+emit_members+emit_param+emit_params+emit_proto+emit_type_chain+emit_type_decl.Lts-emit_array as emit-array-lts
+use Rattle.decl.proofs.+emit_array+emit_base+emit_composite_def+emit_composite_word+emit_entry+emit_function+emit_member+emit_members+emit_param+emit_params+emit_proto+emit_type_chain+emit_type_decl.Lts-emit_array as emit-array-lts
+use Rattle.decl.proofs.emit_base.Reads as emit-base
+use Rattle.decl.proofs.emit_base.Kinds as emit-base-kinds
+use Rattle.decl.proofs.+emit_array+emit_base+emit_composite_def+emit_composite_word+emit_entry+emit_function+emit_member+emit_members+emit_param+emit_params+emit_proto+emit_type_chain+emit_type_decl.Lts-emit_base as emit-base-lts
 use Rattle.decl.proofs.emit_composite_def.Reads as emit-composite-def
 use Rattle.decl.proofs.emit_composite_def.Kinds as emit-composite-def-kinds
-use Rattle.decl.proofs.+emit_array+emit_composite_def+emit_composite_word+emit_entry+emit_function+emit_member+emit_members+emit_param+emit_params+emit_proto+emit_type_chain+emit_type_decl.Lts-emit_composite_def as emit-composite-def-lts
+use Rattle.decl.proofs.+emit_array+emit_base+emit_composite_def+emit_composite_word+emit_entry+emit_function+emit_member+emit_members+emit_param+emit_params+emit_proto+emit_type_chain+emit_type_decl.Lts-emit_composite_def as emit-composite-def-lts
 use Rattle.decl.proofs.emit_composite_word.Reads as emit-composite-word
 use Rattle.decl.proofs.emit_composite_word.Kinds as emit-composite-word-kinds
-use Rattle.decl.proofs.+emit_array+emit_composite_def+emit_composite_word+emit_entry+emit_function+emit_member+emit_members+emit_param+emit_params+emit_proto+emit_type_chain+emit_type_decl.Lts-emit_composite_word as emit-composite-word-lts
+use Rattle.decl.proofs.+emit_array+emit_base+emit_composite_def+emit_composite_word+emit_entry+emit_function+emit_member+emit_members+emit_param+emit_params+emit_proto+emit_type_chain+emit_type_decl.Lts-emit_composite_word as emit-composite-word-lts
 use Rattle.decl.proofs.emit_entry.Reads as emit-entry
 use Rattle.decl.proofs.emit_entry.Kinds as emit-entry-kinds
-use Rattle.decl.proofs.+emit_array+emit_composite_def+emit_composite_word+emit_entry+emit_function+emit_member+emit_members+emit_param+emit_params+emit_proto+emit_type_chain+emit_type_decl.Lts-emit_entry as emit-entry-lts
+use Rattle.decl.proofs.+emit_array+emit_base+emit_composite_def+emit_composite_word+emit_entry+emit_function+emit_member+emit_members+emit_param+emit_params+emit_proto+emit_type_chain+emit_type_decl.Lts-emit_entry as emit-entry-lts
 use Rattle.decl.proofs.emit_function.Reads as emit-function
 use Rattle.decl.proofs.emit_function.Kinds as emit-function-kinds
-use Rattle.decl.proofs.+emit_array+emit_composite_def+emit_composite_word+emit_entry+emit_function+emit_member+emit_members+emit_param+emit_params+emit_proto+emit_type_chain+emit_type_decl.Lts-emit_function as emit-function-lts
+use Rattle.decl.proofs.+emit_array+emit_base+emit_composite_def+emit_composite_word+emit_entry+emit_function+emit_member+emit_members+emit_param+emit_params+emit_proto+emit_type_chain+emit_type_decl.Lts-emit_function as emit-function-lts
 use Rattle.decl.proofs.emit_member.Reads as emit-member
 use Rattle.decl.proofs.emit_member.Kinds as emit-member-kinds
-use Rattle.decl.proofs.+emit_array+emit_composite_def+emit_composite_word+emit_entry+emit_function+emit_member+emit_members+emit_param+emit_params+emit_proto+emit_type_chain+emit_type_decl.Lts-emit_member as emit-member-lts
+use Rattle.decl.proofs.+emit_array+emit_base+emit_composite_def+emit_composite_word+emit_entry+emit_function+emit_member+emit_members+emit_param+emit_params+emit_proto+emit_type_chain+emit_type_decl.Lts-emit_member as emit-member-lts
 use Rattle.decl.proofs.emit_members.Reads as emit-members
 use Rattle.decl.proofs.emit_members.Kinds as emit-members-kinds
-use Rattle.decl.proofs.+emit_array+emit_composite_def+emit_composite_word+emit_entry+emit_function+emit_member+emit_members+emit_param+emit_params+emit_proto+emit_type_chain+emit_type_decl.Lts-emit_members as emit-members-lts
+use Rattle.decl.proofs.+emit_array+emit_base+emit_composite_def+emit_composite_word+emit_entry+emit_function+emit_member+emit_members+emit_param+emit_params+emit_proto+emit_type_chain+emit_type_decl.Lts-emit_members as emit-members-lts
 use Rattle.decl.proofs.emit_param.Reads as emit-param
 use Rattle.decl.proofs.emit_param.Kinds as emit-param-kinds
-use Rattle.decl.proofs.+emit_array+emit_composite_def+emit_composite_word+emit_entry+emit_function+emit_member+emit_members+emit_param+emit_params+emit_proto+emit_type_chain+emit_type_decl.Lts-emit_param as emit-param-lts
+use Rattle.decl.proofs.+emit_array+emit_base+emit_composite_def+emit_composite_word+emit_entry+emit_function+emit_member+emit_members+emit_param+emit_params+emit_proto+emit_type_chain+emit_type_decl.Lts-emit_param as emit-param-lts
 use Rattle.decl.proofs.emit_params.Reads as emit-params
 use Rattle.decl.proofs.emit_params.Kinds as emit-params-kinds
-use Rattle.decl.proofs.+emit_array+emit_composite_def+emit_composite_word+emit_entry+emit_function+emit_member+emit_members+emit_param+emit_params+emit_proto+emit_type_chain+emit_type_decl.Lts-emit_params as emit-params-lts
+use Rattle.decl.proofs.+emit_array+emit_base+emit_composite_def+emit_composite_word+emit_entry+emit_function+emit_member+emit_members+emit_param+emit_params+emit_proto+emit_type_chain+emit_type_decl.Lts-emit_params as emit-params-lts
 use Rattle.decl.proofs.emit_proto.Reads as emit-proto
 use Rattle.decl.proofs.emit_proto.Kinds as emit-proto-kinds
-use Rattle.decl.proofs.+emit_array+emit_composite_def+emit_composite_word+emit_entry+emit_function+emit_member+emit_members+emit_param+emit_params+emit_proto+emit_type_chain+emit_type_decl.Lts-emit_proto as emit-proto-lts
+use Rattle.decl.proofs.+emit_array+emit_base+emit_composite_def+emit_composite_word+emit_entry+emit_function+emit_member+emit_members+emit_param+emit_params+emit_proto+emit_type_chain+emit_type_decl.Lts-emit_proto as emit-proto-lts
 use Rattle.decl.proofs.emit_type_chain.Reads as emit-type-chain
 use Rattle.decl.proofs.emit_type_chain.Kinds as emit-type-chain-kinds
-use Rattle.decl.proofs.+emit_array+emit_composite_def+emit_composite_word+emit_entry+emit_function+emit_member+emit_members+emit_param+emit_params+emit_proto+emit_type_chain+emit_type_decl.Lts-emit_type_chain as emit-type-chain-lts
+use Rattle.decl.proofs.+emit_array+emit_base+emit_composite_def+emit_composite_word+emit_entry+emit_function+emit_member+emit_members+emit_param+emit_params+emit_proto+emit_type_chain+emit_type_decl.Lts-emit_type_chain as emit-type-chain-lts
 use Rattle.decl.proofs.emit_type_decl.Reads as emit-type-decl
 use Rattle.decl.proofs.emit_type_decl.Kinds as emit-type-decl-kinds
-use Rattle.decl.proofs.+emit_array+emit_composite_def+emit_composite_word+emit_entry+emit_function+emit_member+emit_members+emit_param+emit_params+emit_proto+emit_type_chain+emit_type_decl.Lts-emit_type_decl as emit-type-decl-lts
+use Rattle.decl.proofs.+emit_array+emit_base+emit_composite_def+emit_composite_word+emit_entry+emit_function+emit_member+emit_members+emit_param+emit_params+emit_proto+emit_type_chain+emit_type_decl.Lts-emit_type_decl as emit-type-decl-lts
 use Rattle.strings.proofs.is_builtin.Reads as is-builtin-reads
 use Rattle.strings.proofs.is_empty.Reads as is-empty-reads
+use Rattle.strings.proofs.put_str.Reads as put-str-reads
 use Rattle.sections.proofs.array_nelems.Reads as array-nelems-reads
 use Rattle.kinds.proofs.entries_of.Reads as entries-of-reads
 use Rattle.kinds.proofs.is_struct.Reads as is-struct-reads
+use Rattle.kinds.proofs.kind_flag_of.Reads as kind-flag-of-reads
 use Rattle.kinds.proofs.kind_of.Reads as kind-of-reads
 use Rattle.entries.proofs.load_member.Reads as load-member-reads
 use Rattle.kinds.proofs.param_place.Reads as param-place-reads
@@ -70,43 +75,53 @@ use Rattle.sections.proofs.word.Reads as word-reads
 use Rattle.chain.proofs.chain_len.Reads as chain-len-reads
 use Rattle.chain.proofs.kind_on_top.Reads as kind-on-top-reads
 use Rattle.chain.proofs.path_at.Reads as path-at-reads
+use Rattle.mods.proofs.put_qualifier.Reads as put-qualifier-reads
 use Rattle.mods.proofs.emit_mods.Reads as emit-mods-reads
 use Rattle.mods.proofs.skip_mods.Reads as skip-mods-reads
 use Rattle.bodies.proofs.emit_composite_end.Reads as emit-composite-end-reads
 use Rattle.bodies.proofs.emit_composite_head.Reads as emit-composite-head-reads
+use Rattle.bodies.proofs.emit_enum64_word.Reads as emit-enum64-word-reads
+use Rattle.bodies.proofs.emit_enum_word.Reads as emit-enum-word-reads
 use Rattle.bodies.proofs.emit_member_end.Reads as emit-member-end-reads
-use Rattle.plain.proofs.goes_on.Reads as goes-on-reads
+use Rattle.bodies.proofs.put_typedef_name.Reads as put-typedef-name-reads
+use Rattle.decl.proofs.goes_on.Reads as goes-on-reads
 use Rattle.bodies.proofs.is_any_more.Reads as is-any-more-reads
-use Rattle.plain.proofs.named.Reads as named-reads
-use Rattle.plain.proofs.emit_plain.Reads as emit-plain-reads
+use Rattle.decl.proofs.named.Reads as named-reads
 use Rattle.bodies.proofs.shown_params.Reads as shown-params-reads
 use Rattle.bodies.proofs.put_close.Reads as put-close-reads
 use Rattle.bodies.proofs.put_comma.Reads as put-comma-reads
 use Rattle.bodies.proofs.put_count.Reads as put-count-reads
 use Rattle.bodies.proofs.put_gap.Reads as put-gap-reads
 use Rattle.bodies.proofs.put_open.Reads as put-open-reads
+use Rattle.bodies.proofs.put_star.Reads as put-star-reads
+use Rattle.bodies.proofs.put_type_tag.Reads as put-type-tag-reads
 use Rattle.enumerators.proofs.deeper.Reads as deeper-reads
 use Rattle.placing.proofs.body_packed.Reads as body-packed-reads
 use Rattle.put.proofs.put_byte.Reads as put-byte-reads
 use Rattle.fixed.proofs.put_dots.Reads as put-dots-reads
 use Rattle.put.proofs.put_two.Reads as put-two-reads
+use Rattle.fixed.proofs.put_void.Reads as put-void-reads
 use Rattle.put.proofs.put_tabs.Reads as put-tabs-reads
 use Rattle.put.proofs.stop.Reads as stop-reads
 use Rattle.put.proofs.stopped.Reads as stopped-reads
 use Rattle.forwards.proofs.emit_composite_fwd.Reads as emit-composite-fwd-reads
+use Rattle.forwards.proofs.emit_fwd_def.Reads as emit-fwd-def-reads
 use Rattle.names.proofs.bare.Reads as bare-reads
 use Rattle.names.proofs.emit_name.Reads as emit-name-reads
 use Rattle.padding.proofs.emit_bit_padding.Reads as emit-bit-padding-reads
 use Rattle.padding.proofs.emit_tail_padding.Reads as emit-tail-padding-reads
-use Rattle.decl.proofs.+emit_array+emit_composite_def+emit_composite_word+emit_entry+emit_function+emit_member+emit_members+emit_param+emit_params+emit_proto+emit_type_chain+emit_type_decl.{
+use Rattle.decl.proofs.+emit_array+emit_base+emit_composite_def+emit_composite_word+emit_entry+emit_function+emit_member+emit_members+emit_param+emit_params+emit_proto+emit_type_chain+emit_type_decl.{
   statement,
 }
-use Rattle.decl.proofs.+emit_array+emit_composite_def+emit_composite_word+emit_entry+emit_function+emit_member+emit_members+emit_param+emit_params+emit_proto+emit_type_chain+emit_type_decl.Tie.{
+use Rattle.decl.proofs.+emit_array+emit_base+emit_composite_def+emit_composite_word+emit_entry+emit_function+emit_member+emit_members+emit_param+emit_params+emit_proto+emit_type_chain+emit_type_decl.Tie.{
   close,
 }
 
 abbrev μ-emit-array : Measures 3 emit-array-kinds.ps ℕ
 μ-emit-array κs a = 8 * (a .1 .1 .1 .1 .1 .1 .1 .1 .0) + 5
+
+abbrev μ-emit-base : Measures 3 emit-base-kinds.ps ℕ
+μ-emit-base κs a = 8 * (a .1 .1 .1 .1 .1 .1 .1 .1 .0) + 5
 
 abbrev μ-emit-composite-def : Measures 3 emit-composite-def-kinds.ps ℕ
 μ-emit-composite-def κs a = 8 * (a .1 .1 .1 .1 .1 .1 .1 .1 .0)
@@ -148,6 +163,13 @@ emit-array-at t =
 abbrev emit-array-below : ℕ → In 3 emit-array-kinds.ps
 emit-array-below t =
     and 3 emit-array-kinds.ps (falls 3 emit-array-kinds.ps _<_ μ-emit-array t) emit-array.Pre
+
+abbrev emit-base-at : ℕ → In 3 emit-base-kinds.ps
+emit-base-at t = and 3 emit-base-kinds.ps (is 3 emit-base-kinds.ps μ-emit-base t) emit-base.Pre
+
+abbrev emit-base-below : ℕ → In 3 emit-base-kinds.ps
+emit-base-below t =
+    and 3 emit-base-kinds.ps (falls 3 emit-base-kinds.ps _<_ μ-emit-base t) emit-base.Pre
 
 abbrev emit-composite-def-at : ℕ → In 3 emit-composite-def-kinds.ps
 emit-composite-def-at t =
@@ -293,6 +315,28 @@ emit-array-claims t = (
   put-close-reads.Learnt,
 )
 
+abbrev emit-base-claims : ℕ → emit-base-lts.Claims
+emit-base-claims t = (
+  kind-of-reads.Asked,
+  kind-of-reads.Learnt,
+  put-str-reads.Asked,
+  put-str-reads.Learnt,
+  emit-enum-word-reads.Asked,
+  emit-enum-word-reads.Learnt,
+  kind-flag-of-reads.Asked,
+  kind-flag-of-reads.Learnt,
+  emit-fwd-def-reads.Asked,
+  emit-fwd-def-reads.Learnt,
+  put-typedef-name-reads.Asked,
+  put-typedef-name-reads.Learnt,
+  emit-enum64-word-reads.Asked,
+  emit-enum64-word-reads.Learnt,
+  emit-composite-word-below t,
+  emit-composite-word.Post,
+  put-void-reads.Asked,
+  put-void-reads.Learnt,
+)
+
 abbrev emit-composite-def-claims : ℕ → emit-composite-def-lts.Claims
 emit-composite-def-claims t = (
   stop-reads.Asked,
@@ -333,6 +377,10 @@ emit-entry-claims t = (
   type-by-id-reads.Learnt,
   kind-of-reads.Asked,
   kind-of-reads.Learnt,
+  put-star-reads.Asked,
+  put-star-reads.Learnt,
+  goes-on-reads.Asked,
+  goes-on-reads.Learnt,
   array-nelems-reads.Asked,
   array-nelems-reads.Learnt,
   skip-mods-reads.Asked,
@@ -347,12 +395,14 @@ emit-entry-claims t = (
   emit-function.Post,
   emit-mods-reads.Asked,
   emit-mods-reads.Learnt,
-  emit-composite-word-below t,
-  emit-composite-word.Post,
-  goes-on-reads.Asked,
-  goes-on-reads.Learnt,
-  emit-plain-reads.Asked,
-  emit-plain-reads.Learnt,
+  put-type-tag-reads.Asked,
+  put-type-tag-reads.Learnt,
+  put-byte-reads.Asked,
+  put-byte-reads.Learnt,
+  put-qualifier-reads.Asked,
+  put-qualifier-reads.Learnt,
+  emit-base-below t,
+  emit-base.Post,
 )
 
 abbrev emit-function-claims : ℕ → emit-function-lts.Claims
@@ -471,7 +521,7 @@ emit-array-emit-name-requires : (t : ℕ) → emit-array-lts.Need-emit-name-requ
 emit-array-emit-name-requires t c κs = tt
 
 emit-array-same-length : (t : ℕ) → emit-array-lts.Need-same-length (emit-array-claims t) (emit-array-at t) emit-array.Post
-emit-array-same-length t c = c .before .before .emit-name .kept .1 .1 .0
+emit-array-same-length t c = search needs
 
 emit-array-returns : (t : ℕ) → emit-array-lts.Need-returns (emit-array-claims t) (emit-array-at t) emit-array.Post
 emit-array-returns t c = entries.array-name _ _ _ _ _ _ _ _ _ _ _ _ _ (c .before .before .before .before .if1 .taken) (c .before .before .emit-name .ensures)
@@ -486,10 +536,10 @@ emit-array-emit-type-chain-requires : (t : ℕ) → emit-array-lts.Need-emit-typ
 emit-array-emit-type-chain-requires t c κs = (omega arith, tt)
 
 emit-array-same-length-2 : (t : ℕ) → emit-array-lts.Need-same-length-2 (emit-array-claims t) (emit-array-at t) emit-array.Post
-emit-array-same-length-2 t c = c .before .before .before .before .emit-type-chain .kept .1 .1 .0
+emit-array-same-length-2 t c = search needs
 
 emit-array-same-length-3 : (t : ℕ) → emit-array-lts.Need-same-length-3 (emit-array-claims t) (emit-array-at t) emit-array.Post
-emit-array-same-length-3 t c = c .before .before .before .before .emit-type-chain .kept .1 .1 .1 .0 ∙ c .before .before .before .before .before .before .before .before .before .before .before .before .put-gap .kept .1 .1 .0
+emit-array-same-length-3 t c = search needs
 
 emit-array-returns-2 : (t : ℕ) → emit-array-lts.Need-returns-2 (emit-array-claims t) (emit-array-at t) emit-array.Post
 emit-array-returns-2 t c = entries.array-array _ _ _ _ _ _ _ _ _ _ _ (c .before .before .before .before .before .before .before .before .before .before .before .before .before .before .if1 .left) _ _ _ _ _ _ (c .before .before .before .before .before .before .before .before .kind-on-top .ensures) (c .before .before .before .before .before .before .before .if2 .taken) (c .before .before .before .before .before .before .before .before .before .before .before .before .put-gap .ensures) (c .before .before .before .before .emit-type-chain .ensures)
@@ -504,13 +554,103 @@ emit-array-put-close-requires : (t : ℕ) → emit-array-lts.Need-put-close-requ
 emit-array-put-close-requires t c κs = tt
 
 emit-array-same-length-4 : (t : ℕ) → emit-array-lts.Need-same-length-4 (emit-array-claims t) (emit-array-at t) emit-array.Post
-emit-array-same-length-4 t c = c .before .before .before .before .before .before .before .before .emit-type-chain2 .kept .1 .1 .0
+emit-array-same-length-4 t c = search needs
 
 emit-array-same-length-5 : (t : ℕ) → emit-array-lts.Need-same-length-5 (emit-array-claims t) (emit-array-at t) emit-array.Post
-emit-array-same-length-5 t c = c .before .before .put-close .kept .0 ∙ c .before .before .before .before .before .before .before .before .emit-type-chain2 .kept .1 .1 .1 .0 ∙ c .before .before .before .before .before .before .before .before .before .before .before .before .before .put-open .kept .0 ∙ c .before .before .before .before .before .before .before .before .before .before .before .before .before .before .before .before .before .before .before .before .put-gap .kept .1 .1 .0
+emit-array-same-length-5 t c = search needs
 
 emit-array-returns-3 : (t : ℕ) → emit-array-lts.Need-returns-3 (emit-array-claims t) (emit-array-at t) emit-array.Post
 emit-array-returns-3 t c = entries.array-other _ _ _ _ _ _ _ _ _ _ _ (c .before .before .before .before .before .before .before .before .before .before .before .before .before .before .before .before .before .before .before .before .before .before .if1 .left) _ _ _ _ _ _ _ _ _ _ (c .before .before .before .before .before .before .before .before .before .before .before .before .before .before .before .before .kind-on-top .ensures) (c .before .before .before .before .before .before .before .before .before .before .before .before .before .before .before .if2 .left) (c .before .before .before .before .before .before .before .before .before .before .before .before .before .before .before .before .before .before .before .before .put-gap .ensures) (c .before .before .before .before .before .before .before .before .before .before .before .before .before .put-open .ensures) (c .before .before .before .before .before .before .before .before .emit-type-chain2 .ensures) (c .before .before .put-close .ensures)
+
+emit-base-kind-of-requires : (t : ℕ) → emit-base-lts.Need-kind-of-requires (emit-base-claims t) (emit-base-at t) emit-base.Post
+emit-base-kind-of-requires t c κs = tt
+
+emit-base-put-str-requires : (t : ℕ) → emit-base-lts.Need-put-str-requires (emit-base-claims t) (emit-base-at t) emit-base.Post
+emit-base-put-str-requires t c κs = tt
+
+emit-base-emit-enum-word-requires : (t : ℕ) → emit-base-lts.Need-emit-enum-word-requires (emit-base-claims t) (emit-base-at t) emit-base.Post
+emit-base-emit-enum-word-requires t c κs = tt
+
+emit-base-kind-flag-of-requires : (t : ℕ) → emit-base-lts.Need-kind-flag-of-requires (emit-base-claims t) (emit-base-at t) emit-base.Post
+emit-base-kind-flag-of-requires t c κs = tt
+
+emit-base-emit-fwd-def-requires : (t : ℕ) → emit-base-lts.Need-emit-fwd-def-requires (emit-base-claims t) (emit-base-at t) emit-base.Post
+emit-base-emit-fwd-def-requires t c κs = tt
+
+emit-base-put-typedef-name-requires : (t : ℕ) → emit-base-lts.Need-put-typedef-name-requires (emit-base-claims t) (emit-base-at t) emit-base.Post
+emit-base-put-typedef-name-requires t c κs = tt
+
+emit-base-emit-enum64-word-requires : (t : ℕ) → emit-base-lts.Need-emit-enum64-word-requires (emit-base-claims t) (emit-base-at t) emit-base.Post
+emit-base-emit-enum64-word-requires t c κs = tt
+
+emit-base-emit-composite-word-requires : (t : ℕ) → emit-base-lts.Need-emit-composite-word-requires (emit-base-claims t) (emit-base-at t) emit-base.Post
+emit-base-emit-composite-word-requires t c κs = (omega arith, tt)
+
+emit-base-put-void-requires : (t : ℕ) → emit-base-lts.Need-put-void-requires (emit-base-claims t) (emit-base-at t) emit-base.Post
+emit-base-put-void-requires t c κs = tt
+
+emit-base-same-length : (t : ℕ) → emit-base-lts.Need-same-length (emit-base-claims t) (emit-base-at t) emit-base.Post
+emit-base-same-length t c = search needs
+
+emit-base-returns : (t : ℕ) → emit-base-lts.Need-returns (emit-base-claims t) (emit-base-at t) emit-base.Post
+emit-base-returns t c = entries.word-name _ _ _ _ _ _ _ _ (c .before .before .before .before .before .kind-of .ensures) _ _ _ _ _ _ (c .before .before .before .before .match .keys1) (put-only _ _ _ _ _ _ (c .before .before .put-str .ensures))
+
+emit-base-same-length-2 : (t : ℕ) → emit-base-lts.Need-same-length-2 (emit-base-claims t) (emit-base-at t) emit-base.Post
+emit-base-same-length-2 t c = search needs
+
+emit-base-same-length-3 : (t : ℕ) → emit-base-lts.Need-same-length-3 (emit-base-claims t) (emit-base-at t) emit-base.Post
+emit-base-same-length-3 t c = search needs
+
+emit-base-returns-2 : (t : ℕ) → emit-base-lts.Need-returns-2 (emit-base-claims t) (emit-base-at t) emit-base.Post
+emit-base-returns-2 t c = entries.word-enum _ _ _ _ _ _ _ _ (c .before .before .before .before .before .before .before .before .kind-of .ensures) _ _ _ _ _ _ (c .before .before .before .before .before .before .before .match .keys2) (c .before .before .before .before .emit-enum-word .ensures)
+
+emit-base-same-length-4 : (t : ℕ) → emit-base-lts.Need-same-length-4 (emit-base-claims t) (emit-base-at t) emit-base.Post
+emit-base-same-length-4 t c = search needs
+
+emit-base-same-length-5 : (t : ℕ) → emit-base-lts.Need-same-length-5 (emit-base-claims t) (emit-base-at t) emit-base.Post
+emit-base-same-length-5 t c = search needs
+
+emit-base-returns-3 : (t : ℕ) → emit-base-lts.Need-returns-3 (emit-base-claims t) (emit-base-at t) emit-base.Post
+emit-base-returns-3 t c = entries.word-fwd _ _ _ _ _ _ _ _ (c .before .before .before .before .before .before .before .before .before .kind-of .ensures) _ _ _ _ _ _ _ (c .before .before .before .before .before .before .before .before .match .keys3) (c .before .before .before .before .before .kind-flag-of .ensures) (c .before .before .before .before .emit-fwd-def .ensures)
+
+emit-base-same-length-6 : (t : ℕ) → emit-base-lts.Need-same-length-6 (emit-base-claims t) (emit-base-at t) emit-base.Post
+emit-base-same-length-6 t c = search needs
+
+emit-base-same-length-7 : (t : ℕ) → emit-base-lts.Need-same-length-7 (emit-base-claims t) (emit-base-at t) emit-base.Post
+emit-base-same-length-7 t c = search needs
+
+emit-base-returns-4 : (t : ℕ) → emit-base-lts.Need-returns-4 (emit-base-claims t) (emit-base-at t) emit-base.Post
+emit-base-returns-4 t c = entries.word-typedef _ _ _ _ _ _ _ _ (c .before .before .before .before .before .before .before .before .kind-of .ensures) _ _ _ _ _ _ (c .before .before .before .before .before .before .before .match .keys4) (c .before .before .before .before .put-typedef-name .ensures)
+
+emit-base-same-length-8 : (t : ℕ) → emit-base-lts.Need-same-length-8 (emit-base-claims t) (emit-base-at t) emit-base.Post
+emit-base-same-length-8 t c = search needs
+
+emit-base-same-length-9 : (t : ℕ) → emit-base-lts.Need-same-length-9 (emit-base-claims t) (emit-base-at t) emit-base.Post
+emit-base-same-length-9 t c = search needs
+
+emit-base-returns-5 : (t : ℕ) → emit-base-lts.Need-returns-5 (emit-base-claims t) (emit-base-at t) emit-base.Post
+emit-base-returns-5 t c = entries.word-enum64 _ _ _ _ _ _ _ _ (c .before .before .before .before .before .before .before .before .kind-of .ensures) _ _ _ _ _ _ (c .before .before .before .before .before .before .before .match .keys5) (c .before .before .before .before .emit-enum64-word .ensures)
+
+emit-base-same-length-10 : (t : ℕ) → emit-base-lts.Need-same-length-10 (emit-base-claims t) (emit-base-at t) emit-base.Post
+emit-base-same-length-10 t c = search needs
+
+emit-base-same-length-11 : (t : ℕ) → emit-base-lts.Need-same-length-11 (emit-base-claims t) (emit-base-at t) emit-base.Post
+emit-base-same-length-11 t c = search needs
+
+emit-base-returns-6 : (t : ℕ) → emit-base-lts.Need-returns-6 (emit-base-claims t) (emit-base-at t) emit-base.Post
+emit-base-returns-6 t c = entries.word-composite _ _ _ _ _ _ _ _ (c .before .before .before .before .before .before .before .before .before .before .before .kind-of .ensures) _ _ _ _ _ _ (c .before .before .before .before .before .before .before .before .before .if1 .left) (c .before .before .before .before .before .before .before .before .if2 .left) (c .before .before .before .before .before .before .before .if3 .taken) (c .before .before .before .before .emit-composite-word .ensures)
+
+emit-base-returns-7 : (t : ℕ) → emit-base-lts.Need-returns-7 (emit-base-claims t) (emit-base-at t) emit-base.Post
+emit-base-returns-7 t c = entries.word-low _ _ _ _ _ _ _ _ (c .before .before .before .kind-of .ensures) _ _ _ (c .before .if1 .left) (c .if2 .taken) (c .before .before .match .rest .0 .0 .0 .0 .1)
+
+emit-base-returns-8 : (t : ℕ) → emit-base-lts.Need-returns-8 (emit-base-claims t) (emit-base-at t) emit-base.Post
+emit-base-returns-8 t c = entries.word-mid _ _ _ _ _ _ _ _ (c .before .before .before .before .before .kind-of .ensures) _ _ _ (c .before .if3 .left) (c .if4 .taken) (c .before .before .before .before .match .rest .0 .0 .0 .0 .1) (c .before .before .before .before .match .rest .0 .0 .0 .1) (c .before .before .before .before .match .rest .0 .0 .1) (c .before .before .before .before .match .rest .0 .1)
+
+emit-base-same-length-12 : (t : ℕ) → emit-base-lts.Need-same-length-12 (emit-base-claims t) (emit-base-at t) emit-base.Post
+emit-base-same-length-12 t c = search needs
+
+emit-base-returns-9 : (t : ℕ) → emit-base-lts.Need-returns-9 (emit-base-claims t) (emit-base-at t) emit-base.Post
+emit-base-returns-9 t c = entries.word-void _ _ _ _ _ _ _ _ (c .before .before .before .before .before .before .kind-of .ensures) _ _ _ _ _ (c .before .before .before .before .before .match .rest .1) (⊎-elim (λ x. inl (x .taken)) (λ x. inr (x .3 .left)) (c .before .before .before .before .if1 .came)) (c .before .before .put-void .ensures)
 
 emit-composite-def-stop-requires : (t : ℕ) → emit-composite-def-lts.Need-stop-requires (emit-composite-def-claims t) (emit-composite-def-at t) emit-composite-def.Post
 emit-composite-def-stop-requires t c κs = tt
@@ -534,7 +674,7 @@ emit-composite-def-is-builtin-requires : (t : ℕ) → emit-composite-def-lts.Ne
 emit-composite-def-is-builtin-requires t c κs = tt
 
 emit-composite-def-same-length-3 : (t : ℕ) → emit-composite-def-lts.Need-same-length-3 (emit-composite-def-claims t) (emit-composite-def-at t) emit-composite-def.Post
-emit-composite-def-same-length-3 t c = refl
+emit-composite-def-same-length-3 t c = search needs
 
 emit-composite-def-returns-3 : (t : ℕ) → emit-composite-def-lts.Need-returns-3 (emit-composite-def-claims t) (emit-composite-def-at t) emit-composite-def.Post
 emit-composite-def-returns-3 t c = members.def-builtin _ _ _ _ _ _ _ _ _ _ _ _ _ (c .before .before .before .before .before .if1 .left) refl (sym (c .before .is-builtin .ensures) ∙ c .if3 .taken)
@@ -639,19 +779,19 @@ emit-composite-def-stop-requires-2 : (t : ℕ) → emit-composite-def-lts.Need-s
 emit-composite-def-stop-requires-2 t c κs = tt
 
 emit-composite-def-same-length-4 : (t : ℕ) → emit-composite-def-lts.Need-same-length-4 (emit-composite-def-claims t) (emit-composite-def-at t) emit-composite-def.Post
-emit-composite-def-same-length-4 t c = c .before .before .before .before .before .before .before .before .before .emit-members .kept .1 .1 .0 ∙ c .before .before .before .before .before .before .before .before .before .before .before .before .before .before .before .before .before .emit-composite-head .kept .1 .1 .0 ∙ c .before .before .before .before .before .before .before .before .before .before .before .before .before .before .before .before .before .before .before .before .before .before .before .before .before .body-packed .kept .1 .1 .0
+emit-composite-def-same-length-4 t c = search needs
 
 emit-composite-def-same-length-5 : (t : ℕ) → emit-composite-def-lts.Need-same-length-5 (emit-composite-def-claims t) (emit-composite-def-at t) emit-composite-def.Post
-emit-composite-def-same-length-5 t c = c .before .before .emit-composite-end .kept .1 .1 .1 .0 ∙ c .before .before .before .before .before .before .before .before .before .emit-members .kept .1 .1 .1 .0 ∙ c .before .before .before .before .before .before .before .before .before .before .before .before .before .before .before .before .before .emit-composite-head .kept .1 .1 .1 .0
+emit-composite-def-same-length-5 t c = search needs
 
 emit-composite-def-returns-4 : (t : ℕ) → emit-composite-def-lts.Need-returns-4 (emit-composite-def-claims t) (emit-composite-def-at t) emit-composite-def.Post
 emit-composite-def-returns-4 t c = members.def-body _ _ _ _ _ _ _ _ _ _ _ _ _ (c .before .before .before .before .before .before .before .before .before .before .before .before .before .before .before .before .before .before .before .before .before .before .before .before .before .before .before .before .before .before .before .before .if1 .left) (sym (c .before .before .before .before .before .before .before .before .before .before .before .before .before .before .before .before .before .before .before .before .before .before .before .before .before .before .before .before .is-builtin .ensures) ∙ c .before .before .before .before .before .before .before .before .before .before .before .before .before .before .before .before .before .before .before .before .before .before .before .before .before .before .before .if3 .left) _ _ (c .before .before .before .before .before .before .before .before .before .before .before .before .before .before .before .before .before .before .before .before .before .before .before .before .before .body-packed .ensures) _ _ _ _ _ _ _ _ _ (c .before .before .before .before .before .before .before .before .before .before .before .before .before .before .before .before .before .before .before .before .before .packed .given .1) (c .before .before .before .before .before .before .before .before .before .before .deeper .ensures) (c .before .before .before .before .before .before .before .before .before .before .before .before .before .before .before .before .before .emit-composite-head .ensures) (c .before .before .before .before .before .before .before .before .before .emit-members .ensures) (c .before .before .emit-composite-end .ensures)
 
 emit-composite-def-same-length-6 : (t : ℕ) → emit-composite-def-lts.Need-same-length-6 (emit-composite-def-claims t) (emit-composite-def-at t) emit-composite-def.Post
-emit-composite-def-same-length-6 t c = c .before .before .before .before .before .before .before .body-packed .kept .1 .1 .0
+emit-composite-def-same-length-6 t c = search needs
 
 emit-composite-def-same-length-7 : (t : ℕ) → emit-composite-def-lts.Need-same-length-7 (emit-composite-def-claims t) (emit-composite-def-at t) emit-composite-def.Post
-emit-composite-def-same-length-7 t c = refl
+emit-composite-def-same-length-7 t c = search needs
 
 emit-composite-def-returns-5 : (t : ℕ) → emit-composite-def-lts.Need-returns-5 (emit-composite-def-claims t) (emit-composite-def-at t) emit-composite-def.Post
 emit-composite-def-returns-5 t c = members.def-refused _ _ _ _ _ _ _ _ _ _ _ _ _ (c .before .before .before .before .before .before .before .before .before .before .before .before .before .before .if1 .left) (sym (c .before .before .before .before .before .before .before .before .before .before .is-builtin .ensures) ∙ c .before .before .before .before .before .before .before .before .before .if3 .left) _ _ (c .before .before .before .before .before .before .before .body-packed .ensures) _ (c .before .before .before .c .given .1) (c .stop2 .ensures)
@@ -673,10 +813,10 @@ emit-composite-word-emit-composite-def-requires :
 emit-composite-word-emit-composite-def-requires t c κs = (omega arith, tt)
 
 emit-composite-word-same-length : (t : ℕ) → emit-composite-word-lts.Need-same-length (emit-composite-word-claims t) (emit-composite-word-at t) emit-composite-word.Post
-emit-composite-word-same-length t c = c .before .before .before .before .emit-composite-def .kept .1 .1 .0
+emit-composite-word-same-length t c = search needs
 
 emit-composite-word-same-length-2 : (t : ℕ) → emit-composite-word-lts.Need-same-length-2 (emit-composite-word-claims t) (emit-composite-word-at t) emit-composite-word.Post
-emit-composite-word-same-length-2 t c = c .before .before .before .before .emit-composite-def .kept .1 .1 .1 .0
+emit-composite-word-same-length-2 t c = search needs
 
 emit-composite-word-returns : (t : ℕ) → emit-composite-word-lts.Need-returns (emit-composite-word-claims t) (emit-composite-word-at t) emit-composite-word.Post
 emit-composite-word-returns t c = entries.composite-inline _ (now (c .before .before .before .before .before .before .before .before .before .before .before .before .args .section)) _ _ _ _ _ _ _ _ _ _ _ _ _ _ (sym (c .before .before .before .before .before .before .before .before .is-empty .ensures) ∙ c .before .before .before .before .before .before .before .if1 .taken) (c .before .before .before .before .emit-composite-def .ensures)
@@ -698,10 +838,10 @@ emit-composite-word-emit-composite-fwd-requires :
 emit-composite-word-emit-composite-fwd-requires t c κs = tt
 
 emit-composite-word-same-length-3 : (t : ℕ) → emit-composite-word-lts.Need-same-length-3 (emit-composite-word-claims t) (emit-composite-word-at t) emit-composite-word.Post
-emit-composite-word-same-length-3 t c = c .before .before .before .before .emit-composite-fwd .kept .1 .1 .0
+emit-composite-word-same-length-3 t c = search needs
 
 emit-composite-word-same-length-4 : (t : ℕ) → emit-composite-word-lts.Need-same-length-4 (emit-composite-word-claims t) (emit-composite-word-at t) emit-composite-word.Post
-emit-composite-word-same-length-4 t c = c .before .before .before .before .emit-composite-fwd .kept .1 .1 .1 .0
+emit-composite-word-same-length-4 t c = search needs
 
 emit-composite-word-returns-2 : (t : ℕ) → emit-composite-word-lts.Need-returns-2 (emit-composite-word-claims t) (emit-composite-word-at t) emit-composite-word.Post
 emit-composite-word-returns-2 t c = entries.composite-named _ (now (c .before .before .before .before .before .before .before .before .before .before .before .before .before .args .section)) _ _ _ _ _ _ _ _ _ _ _ _ _ _ _ (sym (c .before .before .before .before .before .before .before .before .before .is-empty .ensures) ∙ c .before .before .before .before .before .before .before .before .if1 .left) (c .before .before .before .before .before .is-struct .ensures) (c .before .before .before .before .emit-composite-fwd .ensures)
@@ -717,6 +857,12 @@ emit-entry-type-by-id-requires t c κs = tt
 
 emit-entry-kind-of-requires : (t : ℕ) → emit-entry-lts.Need-kind-of-requires (emit-entry-claims t) (emit-entry-at t) emit-entry.Post
 emit-entry-kind-of-requires t c κs = tt
+
+emit-entry-put-star-requires : (t : ℕ) → emit-entry-lts.Need-put-star-requires (emit-entry-claims t) (emit-entry-at t) emit-entry.Post
+emit-entry-put-star-requires t c κs = tt
+
+emit-entry-goes-on-requires : (t : ℕ) → emit-entry-lts.Need-goes-on-requires (emit-entry-claims t) (emit-entry-at t) emit-entry.Post
+emit-entry-goes-on-requires t c κs = tt
 
 emit-entry-array-nelems-requires : (t : ℕ) → emit-entry-lts.Need-array-nelems-requires (emit-entry-claims t) (emit-entry-at t) emit-entry.Post
 emit-entry-array-nelems-requires t c κs = tt
@@ -745,50 +891,89 @@ emit-entry-skip-mods-requires-2 t c κs = tt
 emit-entry-emit-mods-requires : (t : ℕ) → emit-entry-lts.Need-emit-mods-requires (emit-entry-claims t) (emit-entry-at t) emit-entry.Post
 emit-entry-emit-mods-requires t c κs = tt
 
-emit-entry-emit-composite-word-requires : (t : ℕ) → emit-entry-lts.Need-emit-composite-word-requires (emit-entry-claims t) (emit-entry-at t) emit-entry.Post
-emit-entry-emit-composite-word-requires t c κs = (omega (arith, c .before .before .before .before .before .before .before .before .before .before .before .before .before .before .before .before .before .before .before .before .before .pre .0), tt)
+emit-entry-put-type-tag-requires : (t : ℕ) → emit-entry-lts.Need-put-type-tag-requires (emit-entry-claims t) (emit-entry-at t) emit-entry.Post
+emit-entry-put-type-tag-requires t c κs = tt
 
-emit-entry-goes-on-requires : (t : ℕ) → emit-entry-lts.Need-goes-on-requires (emit-entry-claims t) (emit-entry-at t) emit-entry.Post
-emit-entry-goes-on-requires t c κs = tt
+emit-entry-goes-on-requires-2 : (t : ℕ) → emit-entry-lts.Need-goes-on-requires-2 (emit-entry-claims t) (emit-entry-at t) emit-entry.Post
+emit-entry-goes-on-requires-2 t c κs = tt
 
-emit-entry-emit-plain-requires : (t : ℕ) → emit-entry-lts.Need-emit-plain-requires (emit-entry-claims t) (emit-entry-at t) emit-entry.Post
-emit-entry-emit-plain-requires t c κs = tt
+emit-entry-put-byte-requires : (t : ℕ) → emit-entry-lts.Need-put-byte-requires (emit-entry-claims t) (emit-entry-at t) emit-entry.Post
+emit-entry-put-byte-requires t c κs = tt
+
+emit-entry-kind-of-requires-2 : (t : ℕ) → emit-entry-lts.Need-kind-of-requires-2 (emit-entry-claims t) (emit-entry-at t) emit-entry.Post
+emit-entry-kind-of-requires-2 t c κs = tt
+
+emit-entry-put-qualifier-requires : (t : ℕ) → emit-entry-lts.Need-put-qualifier-requires (emit-entry-claims t) (emit-entry-at t) emit-entry.Post
+emit-entry-put-qualifier-requires t c κs = tt
+
+emit-entry-goes-on-requires-3 : (t : ℕ) → emit-entry-lts.Need-goes-on-requires-3 (emit-entry-claims t) (emit-entry-at t) emit-entry.Post
+emit-entry-goes-on-requires-3 t c κs = tt
+
+emit-entry-skip-mods-requires-3 : (t : ℕ) → emit-entry-lts.Need-skip-mods-requires-3 (emit-entry-claims t) (emit-entry-at t) emit-entry.Post
+emit-entry-skip-mods-requires-3 t c κs = tt
+
+emit-entry-emit-mods-requires-2 : (t : ℕ) → emit-entry-lts.Need-emit-mods-requires-2 (emit-entry-claims t) (emit-entry-at t) emit-entry.Post
+emit-entry-emit-mods-requires-2 t c κs = tt
+
+emit-entry-emit-base-requires : (t : ℕ) → emit-entry-lts.Need-emit-base-requires (emit-entry-claims t) (emit-entry-at t) emit-entry.Post
+emit-entry-emit-base-requires t c κs = (omega (arith, c .before .before .before .before .before .before .before .before .before .before .before .before .before .before .before .before .before .before .before .before .pre .0), tt)
+
+emit-entry-goes-on-requires-4 : (t : ℕ) → emit-entry-lts.Need-goes-on-requires-4 (emit-entry-claims t) (emit-entry-at t) emit-entry.Post
+emit-entry-goes-on-requires-4 t c κs = tt
 
 emit-entry-same-length : (t : ℕ) → emit-entry-lts.Need-same-length (emit-entry-claims t) (emit-entry-at t) emit-entry.Post
-emit-entry-same-length t c = c .before .before .before .before .before .before .before .before .before .emit-array .kept .1 .1 .0
+emit-entry-same-length t c = search needs
 
 emit-entry-same-length-2 : (t : ℕ) → emit-entry-lts.Need-same-length-2 (emit-entry-claims t) (emit-entry-at t) emit-entry.Post
-emit-entry-same-length-2 t c = c .before .before .before .put-count .kept .0 ∙ c .before .before .before .before .before .before .before .before .before .emit-array .kept .1 .1 .1 .0
+emit-entry-same-length-2 t c = search needs
 
 emit-entry-returns : (t : ℕ) → emit-entry-lts.Need-returns (emit-entry-claims t) (emit-entry-at t) emit-entry.Post
-emit-entry-returns t c = entries.arm-array _ _ _ _ _ _ (c .before .before .before .before .before .before .before .before .before .before .before .before .before .before .before .before .before .before .before .before .before .before .before .before .before .args .c) _ _ (c .before .before .before .before .before .before .before .before .before .before .before .before .before .before .before .before .before .before .before .before .before .before .before .before .before .pre .1) _ (c .before .before .before .before .before .before .before .before .before .before .before .before .before .before .before .before .before .before .before .path-at .ensures) _ (c .before .before .before .before .before .before .before .before .before .before .before .before .before .before .before .before .before .type-by-id .ensures) _ (c .before .before .before .before .before .before .before .before .before .before .before .before .before .before .before .before .kind-of .ensures) _ _ _ _ _ _ _ _ (c .before .before .before .before .before .before .before .before .before .before .before .before .before .before .before .match .keys1) (c .before .before .before .before .before .before .before .before .before .before .before .before .before .before .array-nelems .ensures) (c .before .before .before .before .before .before .before .before .before .before .before .before .skip-mods .ensures .0) (c .before .before .before .before .before .before .before .before .before .emit-array .ensures) (c .before .before .before .put-count .ensures) (c .named .ensures)
+emit-entry-returns t c = entries.arm-star _ _ _ _ _ _ (c .before .before .before .before .before .before .before .before .before .before .before .before .before .before .before .args .c) _ _ (c .before .before .before .before .before .before .before .before .before .before .before .before .before .before .before .pre .1) _ (c .before .before .before .before .before .before .before .before .before .path-at .ensures) _ (c .before .before .before .before .before .before .before .type-by-id .ensures) _ (c .before .before .before .before .before .before .kind-of .ensures) _ _ _ (c .before .before .before .before .before .match .keys1) (c .before .before .before .put-star .ensures) (c .goes-on .ensures)
 
 emit-entry-same-length-3 : (t : ℕ) → emit-entry-lts.Need-same-length-3 (emit-entry-claims t) (emit-entry-at t) emit-entry.Post
-emit-entry-same-length-3 t c = c .before .before .before .before .before .emit-function .kept .1 .1 .0
+emit-entry-same-length-3 t c = search needs
 
 emit-entry-same-length-4 : (t : ℕ) → emit-entry-lts.Need-same-length-4 (emit-entry-claims t) (emit-entry-at t) emit-entry.Post
-emit-entry-same-length-4 t c = c .before .before .before .before .before .emit-function .kept .1 .1 .1 .0
+emit-entry-same-length-4 t c = search needs
 
 emit-entry-returns-2 : (t : ℕ) → emit-entry-lts.Need-returns-2 (emit-entry-claims t) (emit-entry-at t) emit-entry.Post
-emit-entry-returns-2 t c = entries.arm-proto _ _ _ _ _ _ (c .before .before .before .before .before .before .before .before .before .before .before .before .before .before .before .before .before .before .args .c) _ _ (c .before .before .before .before .before .before .before .before .before .before .before .before .before .before .before .before .before .before .pre .1) _ (c .before .before .before .before .before .before .before .before .before .before .before .before .path-at .ensures) _ (c .before .before .before .before .before .before .before .before .before .before .type-by-id .ensures) _ (c .before .before .before .before .before .before .before .before .before .kind-of .ensures) _ _ _ _ (c .before .before .before .before .before .before .before .before .match .keys2) (c .before .before .before .before .before .emit-function .ensures) (c .named2 .ensures)
+emit-entry-returns-2 t c = entries.arm-array _ _ _ _ _ _ (c .before .before .before .before .before .before .before .before .before .before .before .before .before .before .before .before .before .before .before .before .before .before .before .before .before .args .c) _ _ (c .before .before .before .before .before .before .before .before .before .before .before .before .before .before .before .before .before .before .before .before .before .before .before .before .before .pre .1) _ (c .before .before .before .before .before .before .before .before .before .before .before .before .before .before .before .before .before .before .before .path-at .ensures) _ (c .before .before .before .before .before .before .before .before .before .before .before .before .before .before .before .before .before .type-by-id .ensures) _ (c .before .before .before .before .before .before .before .before .before .before .before .before .before .before .before .before .kind-of .ensures) _ _ _ _ _ _ _ _ (c .before .before .before .before .before .before .before .before .before .before .before .before .before .before .before .match .keys2) (c .before .before .before .before .before .before .before .before .before .before .before .before .before .before .array-nelems .ensures) (c .before .before .before .before .before .before .before .before .before .before .before .before .skip-mods .ensures .0) (c .before .before .before .before .before .before .before .before .before .emit-array .ensures) (c .before .before .before .put-count .ensures) (c .named .ensures)
 
 emit-entry-same-length-5 : (t : ℕ) → emit-entry-lts.Need-same-length-5 (emit-entry-claims t) (emit-entry-at t) emit-entry.Post
-emit-entry-same-length-5 t c = c .before .before .before .before .before .emit-composite-word .kept .1 .1 .0
+emit-entry-same-length-5 t c = search needs
 
 emit-entry-same-length-6 : (t : ℕ) → emit-entry-lts.Need-same-length-6 (emit-entry-claims t) (emit-entry-at t) emit-entry.Post
-emit-entry-same-length-6 t c = c .before .before .before .before .before .emit-composite-word .kept .1 .1 .1 .0 ∙ c .before .before .before .before .before .before .before .before .before .before .emit-mods .kept .1 .1 .1 .0
+emit-entry-same-length-6 t c = search needs
 
 emit-entry-returns-3 : (t : ℕ) → emit-entry-lts.Need-returns-3 (emit-entry-claims t) (emit-entry-at t) emit-entry.Post
-emit-entry-returns-3 t c = entries.arm-composite _ _ _ _ _ _ (c .before .before .before .before .before .before .before .before .before .before .before .before .before .before .before .before .before .before .before .before .before .before .before .before .before .before .before .args .c) _ _ (c .before .before .before .before .before .before .before .before .before .before .before .before .before .before .before .before .before .before .before .before .before .before .before .before .before .before .before .pre .1) _ (c .before .before .before .before .before .before .before .before .before .before .before .before .before .before .before .before .before .before .before .before .before .path-at .ensures) _ (c .before .before .before .before .before .before .before .before .before .before .before .before .before .before .before .before .before .before .before .type-by-id .ensures) _ (c .before .before .before .before .before .before .before .before .before .before .before .before .before .before .before .before .before .before .kind-of .ensures) _ _ _ _ _ _ _ (c .before .before .before .before .before .before .before .before .before .before .before .before .before .before .before .before .before .match .rest .0 .1) (c .before .before .before .before .before .before .before .before .before .before .before .before .before .before .before .before .if1 .left) (c .before .before .before .before .before .before .before .before .before .before .before .before .before .before .before .if2 .taken) (c .before .before .before .before .before .before .before .before .before .before .before .before .before .skip-mods2 .ensures .0) (c .before .before .before .before .before .before .before .before .before .before .before .before .before .skip-mods2 .ensures .1) (c .before .before .before .before .before .before .before .before .before .before .emit-mods .ensures) (c .before .before .before .before .before .emit-composite-word .ensures) (c .goes-on .ensures)
+emit-entry-returns-3 t c = entries.arm-proto _ _ _ _ _ _ (c .before .before .before .before .before .before .before .before .before .before .before .before .before .before .before .before .before .before .args .c) _ _ (c .before .before .before .before .before .before .before .before .before .before .before .before .before .before .before .before .before .before .pre .1) _ (c .before .before .before .before .before .before .before .before .before .before .before .before .path-at .ensures) _ (c .before .before .before .before .before .before .before .before .before .before .type-by-id .ensures) _ (c .before .before .before .before .before .before .before .before .before .kind-of .ensures) _ _ _ _ (c .before .before .before .before .before .before .before .before .match .keys3) (c .before .before .before .before .before .emit-function .ensures) (c .named2 .ensures)
 
 emit-entry-same-length-7 : (t : ℕ) → emit-entry-lts.Need-same-length-7 (emit-entry-claims t) (emit-entry-at t) emit-entry.Post
-emit-entry-same-length-7 t c = c .before .before .before .before .emit-plain .kept .1 .1 .0
+emit-entry-same-length-7 t c = search needs
 
 emit-entry-same-length-8 : (t : ℕ) → emit-entry-lts.Need-same-length-8 (emit-entry-claims t) (emit-entry-at t) emit-entry.Post
-emit-entry-same-length-8 t c = c .before .before .before .before .emit-plain .kept .1 .1 .1 .0
+emit-entry-same-length-8 t c = search needs
 
 emit-entry-returns-4 : (t : ℕ) → emit-entry-lts.Need-returns-4 (emit-entry-claims t) (emit-entry-at t) emit-entry.Post
-emit-entry-returns-4 t c = entries.arm-plain _ _ _ _ _ _ (c .before .before .before .before .before .before .before .before .before .before .before .before .before .before .before .before .before .before .args .c) _ _ (c .before .before .before .before .before .before .before .before .before .before .before .before .before .before .before .before .before .before .pre .1) _ (c .before .before .before .before .before .before .before .before .before .before .before .before .path-at .ensures) _ (c .before .before .before .before .before .before .before .before .before .before .type-by-id .ensures) _ (c .before .before .before .before .before .before .before .before .before .kind-of .ensures) _ _ _ (c .before .before .before .before .before .before .before .before .match .rest .0 .1) (c .before .before .before .before .before .before .before .before .match .rest .1) (⊎-elim (λ x. inl (x .taken)) (λ x. inr (x .1 .left)) (c .before .before .before .before .before .before .before .if1 .came)) (c .before .before .before .before .emit-plain .ensures)
+emit-entry-returns-4 t c = entries.arm-tag _ _ _ _ _ _ (c .before .before .before .before .before .before .before .before .before .before .before .before .before .before .before .before .before .before .before .before .before .before .args .c) _ _ (c .before .before .before .before .before .before .before .before .before .before .before .before .before .before .before .before .before .before .before .before .before .before .pre .1) _ (c .before .before .before .before .before .before .before .before .before .before .before .before .before .before .before .before .path-at .ensures) _ (c .before .before .before .before .before .before .before .before .before .before .before .before .before .before .type-by-id .ensures) _ (c .before .before .before .before .before .before .before .before .before .before .before .before .before .kind-of .ensures) _ _ _ _ _ _ (c .before .before .before .before .before .before .before .before .before .before .before .before .match .keys4) (c .before .before .before .before .before .before .before .before .before .before .skip-mods2 .ensures .0) (c .before .before .before .before .before .before .before .before .before .before .skip-mods2 .ensures .1) (c .before .before .before .before .before .before .before .emit-mods .ensures) (c .before .before .before .put-type-tag .ensures) (c .goes-on2 .ensures)
+
+emit-entry-same-length-9 : (t : ℕ) → emit-entry-lts.Need-same-length-9 (emit-entry-claims t) (emit-entry-at t) emit-entry.Post
+emit-entry-same-length-9 t c = search needs
+
+emit-entry-same-length-10 : (t : ℕ) → emit-entry-lts.Need-same-length-10 (emit-entry-claims t) (emit-entry-at t) emit-entry.Post
+emit-entry-same-length-10 t c = search needs
+
+emit-entry-returns-5 : (t : ℕ) → emit-entry-lts.Need-returns-5 (emit-entry-claims t) (emit-entry-at t) emit-entry.Post
+emit-entry-returns-5 t c = entries.arm-qual _ _ _ _ _ _ (c .before .before .before .before .before .before .before .before .before .before .before .before .before .before .before .before .before .before .before .before .before .before .args .c) _ _ (c .before .before .before .before .before .before .before .before .before .before .before .before .before .before .before .before .before .before .before .before .before .before .pre .1) _ (c .before .before .before .before .before .before .before .before .before .before .before .before .before .before .before .before .path-at .ensures) _ (c .before .before .before .before .before .before .before .before .before .before .before .before .before .before .type-by-id .ensures) _ (c .before .before .before .before .before .before .before .before .before .before .before .before .before .kind-of .ensures) _ _ _ _ _ _ (c .before .before .before .before .before .before .before .before .before .before .before .if1 .left) (c .before .before .before .before .before .before .before .before .before .before .if2 .taken) (c .before .before .before .before .kind-of2 .ensures) (c .before .before .before .before .before .before .before .before .put-byte .ensures) (c .before .before .before .put-qualifier .ensures) (c .goes-on3 .ensures)
+
+emit-entry-same-length-11 : (t : ℕ) → emit-entry-lts.Need-same-length-11 (emit-entry-claims t) (emit-entry-at t) emit-entry.Post
+emit-entry-same-length-11 t c = search needs
+
+emit-entry-same-length-12 : (t : ℕ) → emit-entry-lts.Need-same-length-12 (emit-entry-claims t) (emit-entry-at t) emit-entry.Post
+emit-entry-same-length-12 t c = search needs
+
+emit-entry-returns-6 : (t : ℕ) → emit-entry-lts.Need-returns-6 (emit-entry-claims t) (emit-entry-at t) emit-entry.Post
+emit-entry-returns-6 t c = entries.arm-base _ _ _ _ _ _ (c .before .before .before .before .before .before .before .before .before .before .before .before .before .before .before .before .before .before .before .before .before .before .before .before .before .before .args .c) _ _ (c .before .before .before .before .before .before .before .before .before .before .before .before .before .before .before .before .before .before .before .before .before .before .before .before .before .before .pre .1) _ (c .before .before .before .before .before .before .before .before .before .before .before .before .before .before .before .before .before .before .before .before .path-at .ensures) _ (c .before .before .before .before .before .before .before .before .before .before .before .before .before .before .before .before .before .before .type-by-id .ensures) _ (c .before .before .before .before .before .before .before .before .before .before .before .before .before .before .before .before .before .kind-of .ensures) _ _ _ _ _ _ _ (entries.no-link _ (c .before .before .before .before .before .before .before .before .before .before .before .before .before .before .before .before .match .rest .0 .0 .0 .1) (c .before .before .before .before .before .before .before .before .before .before .before .before .before .before .before .before .match .rest .0 .0 .1) (c .before .before .before .before .before .before .before .before .before .before .before .before .before .before .before .before .match .rest .0 .1) (c .before .before .before .before .before .before .before .before .before .before .before .before .before .before .before .before .match .rest .1) (⊎-elim (λ x. inl (x .taken)) (λ x. inr (x .1 .left)) (c .before .before .before .before .before .before .before .before .before .before .before .before .before .before .before .if1 .came))) (c .before .before .before .before .before .before .before .before .before .before .before .before .before .skip-mods3 .ensures .0) (c .before .before .before .before .before .before .before .before .before .before .before .before .before .skip-mods3 .ensures .1) (c .before .before .before .before .before .before .before .before .before .before .emit-mods2 .ensures) (c .before .before .before .before .before .emit-base .ensures) (c .goes-on4 .ensures)
 
 emit-function-sub-n : (t : ℕ) → emit-function-lts.Need-sub-n (emit-function-claims t) (emit-function-at t) emit-function.Post
 emit-function-sub-n t c = omega arith
@@ -809,10 +994,10 @@ emit-function-emit-params-requires : (t : ℕ) → emit-function-lts.Need-emit-p
 emit-function-emit-params-requires t c κs = (omega arith, tt)
 
 emit-function-same-length : (t : ℕ) → emit-function-lts.Need-same-length (emit-function-claims t) (emit-function-at t) emit-function.Post
-emit-function-same-length t c = c .before .before .before .before .emit-params .kept .1 .1 .0 ∙ c .before .before .before .before .before .before .before .before .before .before .before .before .emit-proto .kept .1 .1 .0
+emit-function-same-length t c = search needs
 
 emit-function-same-length-2 : (t : ℕ) → emit-function-lts.Need-same-length-2 (emit-function-claims t) (emit-function-at t) emit-function.Post
-emit-function-same-length-2 t c = c .before .before .before .before .emit-params .kept .1 .1 .1 .0 ∙ c .before .before .before .before .before .before .before .before .before .before .before .before .emit-proto .kept .1 .1 .1 .0 ∙ c .before .before .before .before .before .before .before .before .before .before .before .before .before .before .before .before .before .emit-mods .kept .1 .1 .1 .0
+emit-function-same-length-2 t c = search needs
 
 emit-function-returns : (t : ℕ) → emit-function-lts.Need-returns (emit-function-claims t) (emit-function-at t) emit-function.Post
 emit-function-returns t c = entries.function-put _ _ _ _ _ _ _ _ _ _ _ _ _ _ _ _ _ _ _ _ (c .before .before .before .before .before .before .before .before .before .before .before .before .before .before .before .before .before .before .before .before .before .before .before .before .before .before .args .t) _ (c .before .before .before .before .before .before .before .before .before .before .before .before .before .before .before .before .before .before .before .before .skip-mods .ensures .0) (c .before .before .before .before .before .entries-of .ensures) (c .before .before .before .before .before .before .before .before .before .before .before .before .before .before .before .before .before .emit-mods .ensures) (c .before .before .before .before .before .before .before .before .before .before .before .before .emit-proto .ensures) (c .before .before .before .before .emit-params .ensures)
@@ -839,10 +1024,10 @@ emit-member-emit-member-end-requires : (t : ℕ) → emit-member-lts.Need-emit-m
 emit-member-emit-member-end-requires t c κs = tt
 
 emit-member-same-length : (t : ℕ) → emit-member-lts.Need-same-length (emit-member-claims t) (emit-member-at t) emit-member.Post
-emit-member-same-length t c = c .before .before .before .before .before .before .before .before .before .emit-type-decl .kept .1 .1 .0 ∙ c .before .before .before .before .before .before .before .before .before .before .before .before .before .before .before .before .before .before .before .before .before .before .before .before .emit-bit-padding .kept .1 .1 .0
+emit-member-same-length t c = search needs
 
 emit-member-same-length-2 : (t : ℕ) → emit-member-lts.Need-same-length-2 (emit-member-claims t) (emit-member-at t) emit-member.Post
-emit-member-same-length-2 t c = c .before .before .emit-member-end .kept .1 .1 .1 .0 ∙ c .before .before .before .before .before .before .before .before .before .emit-type-decl .kept .1 .1 .1 .0 ∙ c .before .before .before .before .before .before .before .before .before .before .before .before .before .before .put-tabs .kept .0 ∙ c .before .before .before .before .before .before .before .before .before .before .before .before .before .before .before .before .before .before .put-byte .kept .0 ∙ c .before .before .before .before .before .before .before .before .before .before .before .before .before .before .before .before .before .before .before .before .before .before .before .before .emit-bit-padding .kept .1 .1 .1 .0
+emit-member-same-length-2 t c = search needs
 
 emit-member-returns : (t : ℕ) → emit-member-lts.Need-returns (emit-member-claims t) (emit-member-at t) emit-member.Post
 emit-member-returns t c = members.member-put _ _ _ _ _ _ _ _ _ _ _ _ _ _ _ _ _ _ _ _ _ _ _ _ _ (c .before .before .before .before .before .before .before .before .before .before .before .before .before .before .before .before .before .before .before .before .before .before .before .before .before .before .before .before .load-member .ensures) (c .before .before .before .before .before .before .before .before .before .before .before .before .before .before .before .before .before .before .before .before .before .before .before .before .before .before .before .bare .ensures) (c .before .before .before .before .before .before .before .before .before .before .before .before .before .before .before .before .before .before .before .before .before .before .before .before .emit-bit-padding .ensures) (c .before .before .before .before .before .before .before .before .before .before .before .before .before .before .before .before .before .before .put-byte .ensures) (c .before .before .before .before .before .before .before .before .before .before .before .before .before .before .put-tabs .ensures) (c .before .before .before .before .before .before .before .before .before .emit-type-decl .ensures) (c .before .before .emit-member-end .ensures)
@@ -920,7 +1105,7 @@ emit-param-put-dots-requires : (t : ℕ) → emit-param-lts.Need-put-dots-requir
 emit-param-put-dots-requires t c κs = tt
 
 emit-param-same-length : (t : ℕ) → emit-param-lts.Need-same-length (emit-param-claims t) (emit-param-at t) emit-param.Post
-emit-param-same-length t c = c .before .before .put-dots .kept .0 ∙ c .before .before .before .before .before .before .before .before .put-comma .kept .0
+emit-param-same-length t c = search needs
 
 emit-param-returns : (t : ℕ) → emit-param-lts.Need-returns (emit-param-claims t) (emit-param-at t) emit-param.Post
 emit-param-returns t c = members.param-any _ _ _ _ _ _ _ _ _ _ _ _ (c .before .before .before .before .before .before .before .before .before .before .before .before .before .param-place .ensures) (c .before .before .before .before .before .before .before .before .before .before .before .before .word .ensures) _ (c .before .before .before .before .before .is-any-more .ensures) _ _ (c .before .before .before .before .before .before .before .before .put-comma .ensures) _ _ (c .before .before .before .before .if1 .taken) (c .before .before .put-dots .ensures)
@@ -929,10 +1114,10 @@ emit-param-emit-type-decl-requires : (t : ℕ) → emit-param-lts.Need-emit-type
 emit-param-emit-type-decl-requires t c κs = (omega arith, tt)
 
 emit-param-same-length-2 : (t : ℕ) → emit-param-lts.Need-same-length-2 (emit-param-claims t) (emit-param-at t) emit-param.Post
-emit-param-same-length-2 t c = c .before .before .before .before .emit-type-decl .kept .1 .1 .0
+emit-param-same-length-2 t c = search needs
 
 emit-param-same-length-3 : (t : ℕ) → emit-param-lts.Need-same-length-3 (emit-param-claims t) (emit-param-at t) emit-param.Post
-emit-param-same-length-3 t c = c .before .before .before .before .emit-type-decl .kept .1 .1 .1 .0 ∙ c .before .before .before .before .before .before .before .before .before .before .before .put-comma .kept .0
+emit-param-same-length-3 t c = search needs
 
 emit-param-returns-2 : (t : ℕ) → emit-param-lts.Need-returns-2 (emit-param-claims t) (emit-param-at t) emit-param.Post
 emit-param-returns-2 t c = members.param-decl _ _ _ _ _ _ _ _ _ _ _ _ (c .before .before .before .before .before .before .before .before .before .before .before .before .before .before .before .before .param-place .ensures) (c .before .before .before .before .before .before .before .before .before .before .before .before .before .before .before .word .ensures) _ (c .before .before .before .before .before .before .before .before .is-any-more .ensures) _ _ (c .before .before .before .before .before .before .before .before .before .before .before .put-comma .ensures) _ _ _ _ _ (c .before .before .before .before .before .before .before .if1 .left) (c .before .before .before .before .before .before .before .before .before .before .before .before .before .before .word2 .ensures) (c .before .before .before .before .before .before .before .before .before .before .before .before .before .bare .ensures) (c .before .before .before .before .emit-type-decl .ensures)
@@ -992,7 +1177,7 @@ emit-proto-emit-name-requires : (t : ℕ) → emit-proto-lts.Need-emit-name-requ
 emit-proto-emit-name-requires t c κs = tt
 
 emit-proto-same-length : (t : ℕ) → emit-proto-lts.Need-same-length (emit-proto-claims t) (emit-proto-at t) emit-proto.Post
-emit-proto-same-length t c = c .before .before .emit-name .kept .1 .1 .0
+emit-proto-same-length t c = search needs
 
 emit-proto-returns : (t : ℕ) → emit-proto-lts.Need-returns (emit-proto-claims t) (emit-proto-at t) emit-proto.Post
 emit-proto-returns t c = entries.proto-name _ _ _ _ _ _ _ _ _ _ _ _ _ (c .before .before .before .before .before .if1 .taken) (c .before .before .emit-name .ensures)
@@ -1007,10 +1192,10 @@ emit-proto-put-close-requires : (t : ℕ) → emit-proto-lts.Need-put-close-requ
 emit-proto-put-close-requires t c κs = tt
 
 emit-proto-same-length-2 : (t : ℕ) → emit-proto-lts.Need-same-length-2 (emit-proto-claims t) (emit-proto-at t) emit-proto.Post
-emit-proto-same-length-2 t c = c .before .before .before .before .before .before .before .before .emit-type-chain .kept .1 .1 .0
+emit-proto-same-length-2 t c = search needs
 
 emit-proto-same-length-3 : (t : ℕ) → emit-proto-lts.Need-same-length-3 (emit-proto-claims t) (emit-proto-at t) emit-proto.Post
-emit-proto-same-length-3 t c = c .before .before .put-close .kept .0 ∙ c .before .before .before .before .before .before .before .before .emit-type-chain .kept .1 .1 .1 .0 ∙ c .before .before .before .before .before .before .before .before .before .before .before .before .before .put-two .kept .0
+emit-proto-same-length-3 t c = search needs
 
 emit-proto-returns-2 : (t : ℕ) → emit-proto-lts.Need-returns-2 (emit-proto-claims t) (emit-proto-at t) emit-proto.Post
 emit-proto-returns-2 t c = entries.proto-some _ _ _ _ _ _ _ _ _ _ _ (c .before .before .before .before .before .before .before .before .before .before .before .before .before .before .before .if1 .left) _ _ _ _ _ _ _ (c .before .before .before .before .before .before .before .before .before .before .before .before .before .put-two .ensures) (c .before .before .before .before .before .before .before .before .emit-type-chain .ensures) (c .before .before .put-close .ensures)
@@ -1122,28 +1307,29 @@ emit-type-decl-stop-requires-2 : (t : ℕ) → emit-type-decl-lts.Need-stop-requ
 emit-type-decl-stop-requires-2 t c κs = tt
 
 emit-type-decl-same-length-3 : (t : ℕ) → emit-type-decl-lts.Need-same-length-3 (emit-type-decl-claims t) (emit-type-decl-at t) emit-type-decl.Post
-emit-type-decl-same-length-3 t c = c .before .before .before .before .emit-type-chain .kept .1 .1 .0
+emit-type-decl-same-length-3 t c = search needs
 
 emit-type-decl-same-length-4 : (t : ℕ) → emit-type-decl-lts.Need-same-length-4 (emit-type-decl-claims t) (emit-type-decl-at t) emit-type-decl.Post
-emit-type-decl-same-length-4 t c = c .before .before .before .before .emit-type-chain .kept .1 .1 .1 .0
+emit-type-decl-same-length-4 t c = search needs
 
 emit-type-decl-returns-3 : (t : ℕ) → emit-type-decl-lts.Need-returns-3 (emit-type-decl-claims t) (emit-type-decl-at t) emit-type-decl.Post
 emit-type-decl-returns-3 t c = chains.decl-got _ _ _ _ _ _ _ _ _ _ (c .before .before .before .before .before .before .before .before .before .before .before .before .before .before .before .if1 .left) _ (c .before .before .before .before .before .before .before .before .before .before .chain-len .ensures) _ _ _ (c .before .before .before .before .before .before .before .before .n .given .1) (c .before .before .before .before .emit-type-chain .ensures)
 
 emit-type-decl-same-length-5 : (t : ℕ) → emit-type-decl-lts.Need-same-length-5 (emit-type-decl-claims t) (emit-type-decl-at t) emit-type-decl.Post
-emit-type-decl-same-length-5 t c = refl
+emit-type-decl-same-length-5 t c = search needs
 
 emit-type-decl-same-length-6 : (t : ℕ) → emit-type-decl-lts.Need-same-length-6 (emit-type-decl-claims t) (emit-type-decl-at t) emit-type-decl.Post
-emit-type-decl-same-length-6 t c = refl
+emit-type-decl-same-length-6 t c = search needs
 
 emit-type-decl-returns-4 : (t : ℕ) → emit-type-decl-lts.Need-returns-4 (emit-type-decl-claims t) (emit-type-decl-at t) emit-type-decl.Post
 emit-type-decl-returns-4 t c = chains.decl-no _ _ _ _ _ _ _ _ _ _ (c .before .before .before .before .before .before .before .before .before .before .if1 .left) _ (c .before .before .before .before .before .chain-len .ensures) _ (c .before .before .before .c .given .1) (c .stop2 .ensures)
 
-pub +emit-array+emit-composite-def+emit-composite-word+emit-entry+emit-function+emit-member+emit-members+emit-param+emit-params+emit-proto+emit-type-chain+emit-type-decl-spec :
+pub +emit-array+emit-base+emit-composite-def+emit-composite-word+emit-entry+emit-function+emit-member+emit-members+emit-param+emit-params+emit-proto+emit-type-chain+emit-type-decl-spec :
     {M : Type 1} → statement M
-+emit-array+emit-composite-def+emit-composite-word+emit-entry+emit-function+emit-member+emit-members+emit-param+emit-params+emit-proto+emit-type-chain+emit-type-decl-spec =
++emit-array+emit-base+emit-composite-def+emit-composite-word+emit-entry+emit-function+emit-member+emit-members+emit-param+emit-params+emit-proto+emit-type-chain+emit-type-decl-spec =
     close
     μ-emit-array
+    μ-emit-base
     μ-emit-composite-def
     μ-emit-composite-word
     μ-emit-entry
@@ -1186,6 +1372,58 @@ pub +emit-array+emit-composite-def+emit-composite-word+emit-entry+emit-function+
     (emit-array-same-length-4 t)
     (emit-array-same-length-5 t)
     (emit-array-returns-3 t))
+    (λ t. emit-base-lts.spec (
+      kind-of-reads.Asked,
+      kind-of-reads.Learnt,
+      put-str-reads.Asked,
+      put-str-reads.Learnt,
+      emit-enum-word-reads.Asked,
+      emit-enum-word-reads.Learnt,
+      kind-flag-of-reads.Asked,
+      kind-flag-of-reads.Learnt,
+      emit-fwd-def-reads.Asked,
+      emit-fwd-def-reads.Learnt,
+      put-typedef-name-reads.Asked,
+      put-typedef-name-reads.Learnt,
+      emit-enum64-word-reads.Asked,
+      emit-enum64-word-reads.Learnt,
+      emit-composite-word-below t,
+      emit-composite-word.Post,
+      put-void-reads.Asked,
+      put-void-reads.Learnt,
+    )
+    (emit-base-at t)
+    emit-base.Post
+    (emit-base-kind-of-requires t)
+    (emit-base-put-str-requires t)
+    (emit-base-emit-enum-word-requires t)
+    (emit-base-kind-flag-of-requires t)
+    (emit-base-emit-fwd-def-requires t)
+    (emit-base-put-typedef-name-requires t)
+    (emit-base-emit-enum64-word-requires t)
+    (emit-base-emit-composite-word-requires t)
+    (emit-base-put-void-requires t)
+    (emit-base-same-length t)
+    (emit-base-returns t)
+    (emit-base-same-length-2 t)
+    (emit-base-same-length-3 t)
+    (emit-base-returns-2 t)
+    (emit-base-same-length-4 t)
+    (emit-base-same-length-5 t)
+    (emit-base-returns-3 t)
+    (emit-base-same-length-6 t)
+    (emit-base-same-length-7 t)
+    (emit-base-returns-4 t)
+    (emit-base-same-length-8 t)
+    (emit-base-same-length-9 t)
+    (emit-base-returns-5 t)
+    (emit-base-same-length-10 t)
+    (emit-base-same-length-11 t)
+    (emit-base-returns-6 t)
+    (emit-base-returns-7 t)
+    (emit-base-returns-8 t)
+    (emit-base-same-length-12 t)
+    (emit-base-returns-9 t))
     (λ t. emit-composite-def-lts.spec (
       stop-reads.Asked,
       stop-reads.Learnt,
@@ -1259,6 +1497,10 @@ pub +emit-array+emit-composite-def+emit-composite-word+emit-entry+emit-function+
       type-by-id-reads.Learnt,
       kind-of-reads.Asked,
       kind-of-reads.Learnt,
+      put-star-reads.Asked,
+      put-star-reads.Learnt,
+      goes-on-reads.Asked,
+      goes-on-reads.Learnt,
       array-nelems-reads.Asked,
       array-nelems-reads.Learnt,
       skip-mods-reads.Asked,
@@ -1273,12 +1515,14 @@ pub +emit-array+emit-composite-def+emit-composite-word+emit-entry+emit-function+
       emit-function.Post,
       emit-mods-reads.Asked,
       emit-mods-reads.Learnt,
-      emit-composite-word-below t,
-      emit-composite-word.Post,
-      goes-on-reads.Asked,
-      goes-on-reads.Learnt,
-      emit-plain-reads.Asked,
-      emit-plain-reads.Learnt,
+      put-type-tag-reads.Asked,
+      put-type-tag-reads.Learnt,
+      put-byte-reads.Asked,
+      put-byte-reads.Learnt,
+      put-qualifier-reads.Asked,
+      put-qualifier-reads.Learnt,
+      emit-base-below t,
+      emit-base.Post,
     )
     (emit-entry-at t)
     emit-entry.Post
@@ -1286,6 +1530,8 @@ pub +emit-array+emit-composite-def+emit-composite-word+emit-entry+emit-function+
     (emit-entry-path-at-requires t)
     (emit-entry-type-by-id-requires t)
     (emit-entry-kind-of-requires t)
+    (emit-entry-put-star-requires t)
+    (emit-entry-goes-on-requires t)
     (emit-entry-array-nelems-requires t)
     (emit-entry-skip-mods-requires t)
     (emit-entry-emit-array-requires t)
@@ -1295,9 +1541,16 @@ pub +emit-array+emit-composite-def+emit-composite-word+emit-entry+emit-function+
     (emit-entry-named-requires-2 t)
     (emit-entry-skip-mods-requires-2 t)
     (emit-entry-emit-mods-requires t)
-    (emit-entry-emit-composite-word-requires t)
-    (emit-entry-goes-on-requires t)
-    (emit-entry-emit-plain-requires t)
+    (emit-entry-put-type-tag-requires t)
+    (emit-entry-goes-on-requires-2 t)
+    (emit-entry-put-byte-requires t)
+    (emit-entry-kind-of-requires-2 t)
+    (emit-entry-put-qualifier-requires t)
+    (emit-entry-goes-on-requires-3 t)
+    (emit-entry-skip-mods-requires-3 t)
+    (emit-entry-emit-mods-requires-2 t)
+    (emit-entry-emit-base-requires t)
+    (emit-entry-goes-on-requires-4 t)
     (emit-entry-same-length t)
     (emit-entry-same-length-2 t)
     (emit-entry-returns t)
@@ -1309,7 +1562,13 @@ pub +emit-array+emit-composite-def+emit-composite-word+emit-entry+emit-function+
     (emit-entry-returns-3 t)
     (emit-entry-same-length-7 t)
     (emit-entry-same-length-8 t)
-    (emit-entry-returns-4 t))
+    (emit-entry-returns-4 t)
+    (emit-entry-same-length-9 t)
+    (emit-entry-same-length-10 t)
+    (emit-entry-returns-5 t)
+    (emit-entry-same-length-11 t)
+    (emit-entry-same-length-12 t)
+    (emit-entry-returns-6 t))
     (λ t. emit-function-lts.spec (
       skip-mods-reads.Asked,
       skip-mods-reads.Learnt,

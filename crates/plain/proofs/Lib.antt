@@ -1,2 +1,0 @@
--- PlainLaws: what each return of the functions comes to.
-pub mod PlainLaws
