@@ -11,15 +11,13 @@ import re
 import sys
 
 HERE = os.path.dirname(os.path.dirname(os.path.abspath(__file__)))
-HEAD = """# A crate and what it depends on; README.md says what each holds. Crates of one level need nothing of each other; within a level the one
-# that takes longest to check stands first (tools/crates.py). The programs name `reasons` and `several` only so that they are checked beside
-# `explain` and `btfdump_c`, which stand alone on their levels.
-"""
 
 
 def main():
     path = os.path.join(HERE, "crates.txt")
-    lines = [line.split("#")[0].strip() for line in open(path)]
+    text = open(path).read()
+    head = text[:text.index("# level 0")]
+    lines = [line.split("#")[0].strip() for line in text.split("\n")]
     needs = {name.strip(): deps.split() for name, deps in (line.split(":") for line in lines if line)}
     took = {name: int(n) for name, n in re.findall(r"^rt: (\w+) proved \((\d+) s\)", open(sys.argv[1]).read(), re.M)}
     level = {}
@@ -31,7 +29,7 @@ def main():
 
     order = sorted(needs, key=lambda name: (level_of(name), -took.get(name, 5), name))
     with open(path, "w") as out:
-        out.write(HEAD)
+        out.write(head)
         for i, name in enumerate(order):
             if i == 0 or level[name] != level[order[i - 1]]:
                 out.write(f"# level {level[name]}\n")
