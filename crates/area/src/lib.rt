@@ -62,8 +62,9 @@ fn are_record_names_inside(b: Btf, section: &[u8], at: u32, info: u32, str_len: 
     are_names_inside(b, section, at, vlen_of(info), width, str_len)
 }
 
-// The place after the record at a place, or 0 where it is malformed or reaches past the end of the area.
-fn next_record(b: Btf, section: &[u8], at: u32, end: u32, str_len: u32) -> u32
+// The place after the record at a place, whose info word is known, or 0 where it is malformed or reaches past the end of the area.
+fn next_record(b: Btf, section: &[u8], at: u32, info: u32, end: u32, str_len: u32) -> u32
+    requires { ⌜ info ≡ sectionWord b (now section) (at + 4) ⌝ }
     ensures { λ r. ⌜ r ≡ nextP (sectionWord b (now (section .entry))) «str_len» end at ⌝ }
 {
     if end < at {
@@ -72,7 +73,6 @@ fn next_record(b: Btf, section: &[u8], at: u32, end: u32, str_len: u32) -> u32
     if end - at < 12 {
         return 0;
     }
-    let info = word(b, section, (at as usize) + 4);
     if info / 65536 % 256 != 0 {
         return 0;
     }
@@ -144,7 +144,7 @@ fn scan_area(
         }
         let info = word(b, section, (at as usize) + 4);
         put_start(start, x, at, kind_of(info));
-        let next = next_record(b, section, at, end, str_len);
+        let next = next_record(b, section, at, info, end, str_len);
         if next <= at {
             return unsound();
         }

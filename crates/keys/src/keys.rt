@@ -51,8 +51,15 @@ pub fn load_key(b: Btf, section: &[u8], work: &[u8], h: u32) -> Key
     ensures { λ r. ⌜ keyOf (now (section .entry)) (r .space) (r .name) ≡ keyIn b (now (section .entry)) (now (work .entry)) h ⌝ }
 {
     let at = get_word(work, holder_word(b.types, 0, 0, h));
+    let space = space_at(b, section, at, h);
+    if space == 2 {
+        return Key {
+            space: space,
+            name: 0,
+        };
+    }
     Key {
-        space: space_at(b, section, at, h),
+        space: space,
         name: name_of(b, section, at),
     }
 }

@@ -73,8 +73,8 @@ fn settle(b: Btf, section: &[u8], start: &[u32], cell: &mut [u32], y: u32, m: u3
     }
 }
 
-// Does y lead to a prototype?
-fn ask(b: Btf, section: &[u8], start: &[u32], cell: &mut [u32], y: u32) -> bool
+// Does y, of which that is not known, lead to a prototype?
+fn walk(b: Btf, section: &[u8], start: &[u32], cell: &mut [u32], y: u32) -> bool
     requires { ⌜ Rest (trackOf b (now section) (now start)) (now cell) ⌝ }
     ensures { λ r. ⌜ Answer (trackOf b (now (section .entry)) (now (start .entry))) y (now (cell .exit)) r ⌝ }
 {
@@ -93,6 +93,21 @@ fn ask(b: Btf, section: &[u8], start: &[u32], cell: &mut [u32], y: u32) -> bool
         return true;
     }
     settle(b, section, start, cell, y, m, 1);
+    false
+}
+
+// Does y lead to a prototype? For most types that is known at once.
+fn ask(b: Btf, section: &[u8], start: &[u32], cell: &mut [u32], y: u32) -> bool
+    requires { ⌜ Rest (trackOf b (now section) (now start)) (now cell) ⌝ }
+    ensures { λ r. ⌜ Answer (trackOf b (now (section .entry)) (now (start .entry))) y (now (cell .exit)) r ⌝ }
+{
+    let s = look(b, section, start, cell, y);
+    if s == 0 {
+        return walk(b, section, start, cell, y);
+    }
+    if s == 2 {
+        return true;
+    }
     false
 }
 

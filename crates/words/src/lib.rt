@@ -1,7 +1,7 @@
 // A byte slice used as 32-bit little-endian words: word i is the bytes 4i to 4i + 3.
 use lent::Three;
 ghost use mathlib.Core.Path.{_≡_};
-ghost use Prim.Native.Nat.{_+_, _*_, _<_};
+ghost use Prim.Native.Nat.{_+_, _*_, _-_, _<_};
 ghost use lib.ListN.{length, replicate};
 ghost use Rattle.lent.specs.Words.{getWord, putWord, wordAt, joinAt, turn, wordIn};
 ghost use Rattle.lent.specs.Three.{threeAt, threeIn};
@@ -45,14 +45,19 @@ pub fn put_word(work: &mut [u8], i: usize, v: u32)
     }
 }
 
+// x - y, or 0: with it one comparison tells whether several bytes lie inside.
+fn less(x: usize, y: usize) -> usize
+    ensures { λ r. ⌜ r ≡ x - y ⌝ }
+{
+    if y < x { x - y } else { 0 }
+}
+
 // The word whose bytes start at `at`, or 0 where they do not all lie inside.
 pub fn word_at(b: &[u8], at: usize) -> u32
     ensures { λ r. ⌜ r ≡ wordAt (now (b .entry)) at ⌝ }
 {
-    if at < b.len() {
-        if 3 < b.len() - at {
-            return join_at(b, at);
-        }
+    if at < less(b.len(), 3) {
+        return join_at(b, at);
     }
     0
 }
@@ -79,28 +84,27 @@ pub fn word_in(big: bool, b: &[u8], at: usize) -> u32
 pub fn three_at(b: &[u8], at: usize) -> Three
     ensures { λ r. ⌜ r ≡ threeAt (now (b .entry)) at ⌝ }
 {
-    if at < b.len() {
-        if 11 < b.len() - at {
-            return Three {
-                first: join_at(b, at),
-                second: join_at(b, at + 4),
-                third: join_at(b, at + 8),
-            };
-        }
-        return three_apart(b, at);
+    if at < less(b.len(), 11) {
+        return Three {
+            first: join_at(b, at),
+            second: join_at(b, at + 4),
+            third: join_at(b, at + 8),
+        };
     }
-    Three {
-        first: 0,
-        second: 0,
-        third: 0,
-    }
+    three_apart(b, at)
 }
 
-// The same, each by itself. (A slice has fewer bytes than 2^63, so the places past `at` do not wrap.)
+// The same, each by itself. (A slice has fewer bytes than 2^63, so the places past an `at` inside it do not wrap.)
 fn three_apart(b: &[u8], at: usize) -> Three
-    requires { ⌜ at < length (now b) ⌝ }
     ensures { λ r. ⌜ r ≡ threeAt (now (b .entry)) at ⌝ }
 {
+    if b.len() <= at {
+        return Three {
+            first: 0,
+            second: 0,
+            third: 0,
+        };
+    }
     Three {
         first: word_at(b, at),
         second: word_at(b, at + 4),

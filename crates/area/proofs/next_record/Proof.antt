@@ -8,7 +8,6 @@ use Rattle.area.proofs.next_record.Lts as lts
 use Rattle.kinds.proofs.extra_of.Reads as extra-of-reads
 use Rattle.kinds.proofs.kind_of.Reads as kind-of-reads
 use Rattle.kinds.proofs.vlen_of.Reads as vlen-of-reads
-use Rattle.sections.proofs.word.Reads as word-reads
 use Rattle.area.proofs.are_record_names_inside.Reads as are-record-names-inside-reads
 
 returns : tie.Need-returns
@@ -17,17 +16,11 @@ returns c = next-past _ _ _ _ (omega arith)
 returns-2 : tie.Need-returns-2
 returns-2 c = next-past _ _ _ _ (omega arith)
 
-add-word : tie.Need-add-word
-add-word c = search needs
-
-word-requires : tie.Need-word-requires
-word-requires c κs = search needs
-
 returns-3 : tie.Need-returns-3
-returns-3 c = next-used _ _ _ _ _ (c .before .word .ensures) (c .if3 .taken)
+returns-3 c = next-used _ _ _ _ _ (c .before .before .before .before .pre) (c .if3 .taken)
 
 returns-4 : tie.Need-returns-4
-returns-4 c = next-used2 _ _ _ _ _ (c .before .before .word .ensures) (c .if4 .taken)
+returns-4 c = next-used2 _ _ _ _ _ (c .before .before .before .before .before .pre) (c .if4 .taken)
 
 kind-of-requires : tie.Need-kind-of-requires
 kind-of-requires c κs = search needs
@@ -45,7 +38,7 @@ sub-if5 : tie.Need-sub-if5
 sub-if5 c = search needs
 
 returns-5 : tie.Need-returns-5
-returns-5 c = next-long _ _ _ _ _ (c .before .before .before .before .before .before .before .before .before .word .ensures) _ (extra-long _ _ _ (c .before .before .before .before .before .before .kind-of .ensures) (c .before .before .before .before .before .vlen-of .ensures) _ (c .before .before .before .before .extra-of .ensures) _ (c .before .before .n .given .1)) (c .before .before .before .before .before .before .before .before .before .before .before .if1 .left) (c .before .before .before .before .before .before .before .before .before .before .if2 .left) (c .if5 .taken)
+returns-5 c = next-long _ _ _ _ _ (c .before .before .before .before .before .before .before .before .before .before .before .before .pre) _ (extra-long _ _ _ (c .before .before .before .before .before .before .kind-of .ensures) (c .before .before .before .before .before .vlen-of .ensures) _ (c .before .before .before .before .extra-of .ensures) _ (c .before .before .n .given .1)) (c .before .before .before .before .before .before .before .before .before .before .if1 .left) (c .before .before .before .before .before .before .before .before .before .if2 .left) (c .if5 .taken)
 
 are-record-names-inside-requires : tie.Need-are-record-names-inside-requires
 are-record-names-inside-requires c κs = search needs
@@ -57,16 +50,16 @@ add-result-2 : tie.Need-add-result-2
 add-result-2 c = search needs
 
 returns-6 : tie.Need-returns-6
-returns-6 c = next-is _ _ _ _ _ (c .before .before .before .before .before .before .before .before .before .before .before .word .ensures) _ (extra-long _ _ _ (c .before .before .before .before .before .before .before .before .kind-of .ensures) (c .before .before .before .before .before .before .before .vlen-of .ensures) _ (c .before .before .before .before .before .before .extra-of .ensures) _ (c .before .before .before .before .n .given .1)) _ (c .before .are-record-names-inside .ensures) (c .before .before .before .before .before .before .before .before .before .before .before .before .before .if1 .left) (c .before .before .before .before .before .before .before .before .before .before .before .before .if2 .left) (c .before .before .before .before .before .before .before .before .before .before .if3 .left) (c .before .before .before .before .before .before .before .before .before .if4 .left) (extra-known _ _ _ (c .before .before .before .before .before .before .before .before .kind-of .ensures) (c .before .before .before .before .before .before .before .vlen-of .ensures) _ (c .before .before .before .before .before .before .extra-of .ensures) _ (c .before .before .before .before .n .given .1)) (c .before .before .if5 .left) (c .if6 .taken)
+returns-6 c = next-is _ _ _ _ _ (c .before .before .before .before .before .before .before .before .before .before .before .before .before .before .pre) _ (extra-long _ _ _ (c .before .before .before .before .before .before .before .before .kind-of .ensures) (c .before .before .before .before .before .before .before .vlen-of .ensures) _ (c .before .before .before .before .before .before .extra-of .ensures) _ (c .before .before .before .before .n .given .1)) _ (c .before .are-record-names-inside .ensures) (c .before .before .before .before .before .before .before .before .before .before .before .before .if1 .left) (c .before .before .before .before .before .before .before .before .before .before .before .if2 .left) (c .before .before .before .before .before .before .before .before .before .before .if3 .left) (c .before .before .before .before .before .before .before .before .before .if4 .left) (extra-known _ _ _ (c .before .before .before .before .before .before .before .before .kind-of .ensures) (c .before .before .before .before .before .before .before .vlen-of .ensures) _ (c .before .before .before .before .before .before .extra-of .ensures) _ (c .before .before .before .before .n .given .1)) (c .before .before .if5 .left) (c .if6 .taken)
 
 enum-told : tie.Need-enum-told
 enum-told c = search needs
 
 returns-7 : tie.Need-returns-7
-returns-7 c = next-unnamed _ _ _ _ _ (c .before .before .before .before .before .before .before .before .before .before .before .word .ensures) _ (extra-long _ _ _ (c .before .before .before .before .before .before .before .before .kind-of .ensures) (c .before .before .before .before .before .before .before .vlen-of .ensures) _ (c .before .before .before .before .before .before .extra-of .ensures) _ (c .before .before .before .before .n .given .1)) _ (c .before .are-record-names-inside .ensures) (c .if6 .left)
+returns-7 c = next-unnamed _ _ _ _ _ (c .before .before .before .before .before .before .before .before .before .before .before .before .before .before .pre) _ (extra-long _ _ _ (c .before .before .before .before .before .before .before .before .kind-of .ensures) (c .before .before .before .before .before .before .before .vlen-of .ensures) _ (c .before .before .before .before .before .before .extra-of .ensures) _ (c .before .before .before .before .n .given .1)) _ (c .before .are-record-names-inside .ensures) (c .if6 .left)
 
 returns-8 : tie.Need-returns-8
-returns-8 c = next-unknown _ _ _ _ _ (c .before .before .before .before .before .before .before .word .ensures) (extra-unknown _ _ _ (c .before .before .before .before .kind-of .ensures) (c .before .before .before .vlen-of .ensures) _ (c .before .before .extra-of .ensures) (c .enum-told .given .1))
+returns-8 c = next-unknown _ _ _ _ _ (c .before .before .before .before .before .before .before .before .before .before .pre) (extra-unknown _ _ _ (c .before .before .before .before .kind-of .ensures) (c .before .before .before .vlen-of .ensures) _ (c .before .before .extra-of .ensures) (c .enum-told .given .1))
 
 pub next-record-spec : {M : Type 1} → statement M
 next-record-spec =
@@ -74,8 +67,6 @@ next-record-spec =
     (tie.spec
     returns
     returns-2
-    add-word
-    word-requires
     returns-3
     returns-4
     kind-of-requires

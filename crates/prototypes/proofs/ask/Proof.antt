@@ -1,90 +1,45 @@
-use Rattle.followed.specs.Zeros.{zeros}
-use Rattle.prototypes.specs.Cells.{Run, Looked}
-use Rattle.prototypes.specs.Prototypes.{trackOf}
-use Rattle.prototypes.proofs.Cells.{run-start, run-at, run-less, run-space, run-more, settle-yes, answer-yes, settle-no, answer-no}
+use Rattle.prototypes.proofs.Cells.{run-start, answer-yes, answer-no}
 use borrow.Author.Needs.{needs}
-use native.Mathlib.Omega.{arith}
 use Rattle.prototypes.proofs.ask.Statement.{statement}
 use Rattle.prototypes.proofs.ask.Tie as tie
 use Rattle.prototypes.proofs.ask.Reads as reads
 use Rattle.prototypes.proofs.ask.Lts as lts
 use Rattle.prototypes.proofs.look.Reads as look-reads
-use Rattle.prototypes.proofs.next.Reads as next-reads
-use Rattle.prototypes.proofs.settle.Reads as settle-reads
+use Rattle.prototypes.proofs.walk.Reads as walk-reads
 
-abbrev Inv-loop : tie.InvT-loop
-Inv-loop b section start cell₀ y z₀ m₀ s₀ cell z m s = Run (trackOf b section start) y cell z m × Looked (trackOf b section start) cell z s
+look-requires : tie.Need-look-requires
+look-requires c κs = search needs
 
-abbrev μ-loop : tie.MeasureT-loop
-μ-loop b section start cell₀ y z₀ m₀ s₀ cell z m s = zeros cell
+walk-requires : tie.Need-walk-requires
+walk-requires c κs = search needs
 
-look-requires : tie.Need-look-requires Inv-loop μ-loop
-look-requires c κs = c .before .before .before .before .pre .fairs
-
-loop-holds : tie.Need-loop-holds Inv-loop μ-loop
-loop-holds c = (run-start _ _ _ (c .before .before .before .before .before .pre), c .look .ensures)
-
-cast-at : tie.Need-cast-at Inv-loop μ-loop
-cast-at c = omega (arith, run-at _ _ _ _ _ (c .before .loop .inv .0) _ (c .before .loop .inv .1) (c .loop-test .taken))
-
-mul-cell : tie.Need-mul-cell Inv-loop μ-loop
-mul-cell c = omega (arith, run-at _ _ _ _ _ (c .before .loop .inv .0) _ (c .before .loop .inv .1) (c .loop-test .taken))
-
-slice-write-cell : tie.Need-slice-write-cell Inv-loop μ-loop
-slice-write-cell c = omega (arith, run-at _ _ _ _ _ (c .before .loop .inv .0) _ (c .before .loop .inv .1) (c .loop-test .taken), c .before .loop .inv .0 .fairs .cell-length)
-
-next-requires : tie.Need-next-requires Inv-loop μ-loop
-next-requires c κs = search needs
-
-add-m : tie.Need-add-m Inv-loop μ-loop
-add-m c = omega (arith, run-space _ _ _ _ _ (c .before .before .loop .inv .0) _ (c .before .before .loop .inv .1) (c .before .loop-test .taken))
-
-look-requires-2 : tie.Need-look-requires-2 Inv-loop μ-loop
-look-requires-2 c κs = run-more _ _ _ _ _ (c .before .before .before .loop .inv .0) _ (c .before .before .before .loop .inv .1) (c .before .before .loop-test .taken) _ (c .before .next .ensures) .fairs
-
-loop-less : tie.Need-loop-less Inv-loop μ-loop
-loop-less c = omega (arith, run-less _ _ _ _ _ (c .before .before .before .before .loop .inv .0) _ (c .before .before .before .before .loop .inv .1) (c .before .before .before .loop-test .taken))
-
-loop-again : tie.Need-loop-again Inv-loop μ-loop
-loop-again c = (run-more _ _ _ _ _ (c .before .before .before .before .loop .inv .0) _ (c .before .before .before .before .loop .inv .1) (c .before .before .before .loop-test .taken) _ (c .before .before .next .ensures), c .look2 .ensures)
-
-settle-requires : tie.Need-settle-requires Inv-loop μ-loop
-settle-requires c κs = settle-yes _ _ _ _ _ (c .before .before .before .loop .inv .0) _ (c .before .before .before .loop .inv .1) (c .before .if1 .taken)
-
-same-length : tie.Need-same-length Inv-loop μ-loop
+same-length : tie.Need-same-length
 same-length c = search needs
 
-returns : tie.Need-returns Inv-loop μ-loop
-returns c = answer-yes _ _ _ _ _ (c .before .before .before .before .before .before .loop .inv .0) _ (c .before .before .before .before .before .before .loop .inv .1) _ (c .before .before .before .before .if1 .taken) (c .before .before .settle .ensures)
+returns : tie.Need-returns
+returns c = search needs
 
-settle-requires-2 : tie.Need-settle-requires-2 Inv-loop μ-loop
-settle-requires-2 c κs = settle-no _ _ _ _ _ (c .before .before .before .loop .inv .0) _ (c .before .before .before .loop .inv .1) (c .before .before .loop-test .left) (c .before .if1 .left)
-
-same-length-2 : tie.Need-same-length-2 Inv-loop μ-loop
+same-length-2 : tie.Need-same-length-2
 same-length-2 c = search needs
 
-returns-2 : tie.Need-returns-2 Inv-loop μ-loop
-returns-2 c = answer-no _ _ _ _ _ (c .before .before .before .before .before .before .loop .inv .0) _ (c .before .before .before .before .before .before .loop .inv .1) _ (c .before .before .before .before .before .loop-test .left) (c .before .before .before .before .if1 .left) (c .before .before .settle2 .ensures)
+returns-2 : tie.Need-returns-2
+returns-2 c = answer-yes _ _ _ _ _ (run-start _ _ _ (c .before .before .before .before .before .before .before .pre)) _ (c .before .before .look .ensures) _ (c .if2 .taken) (c .before .before .before .before .before .before .before .pre)
+
+same-length-3 : tie.Need-same-length-3
+same-length-3 c = search needs
+
+returns-3 : tie.Need-returns-3
+returns-3 c = answer-no _ _ _ _ _ (run-start _ _ _ (c .before .before .before .before .before .before .before .pre)) _ (c .before .before .look .ensures) _ (c .before .if1 .left) (c .if2 .left) (c .before .before .before .before .before .before .before .pre)
 
 pub ask-spec : {M : Type 1} → statement M
 ask-spec =
     tie.close
     (tie.spec
-    Inv-loop
-    μ-loop
     look-requires
-    loop-holds
-    cast-at
-    mul-cell
-    slice-write-cell
-    next-requires
-    add-m
-    look-requires-2
-    loop-less
-    loop-again
-    settle-requires
+    walk-requires
     same-length
     returns
-    settle-requires-2
     same-length-2
-    returns-2)
+    returns-2
+    same-length-3
+    returns-3)

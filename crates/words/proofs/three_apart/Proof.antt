@@ -1,4 +1,4 @@
-use Rattle.lent.proofs.ThreeLaws.{three-of}
+use Rattle.lent.proofs.ThreeLaws.{three-of, three-out}
 use borrow.Author.Needs.{needs}
 use Rattle.words.proofs.three_apart.Statement.{statement}
 use Rattle.words.proofs.three_apart.Tie as tie
@@ -6,37 +6,35 @@ use Rattle.words.proofs.three_apart.Reads as reads
 use Rattle.words.proofs.three_apart.Lts as lts
 use Rattle.words.proofs.word_at.Reads as word-at-reads
 
--- src/words.rt:86:16
+returns : tie.Need-returns
+returns c = three-out _ _ (c .if1 .taken)
+
 word-at-requires : tie.Need-word-at-requires
 word-at-requires c κs = search needs
 
--- src/words.rt:87:28
 add-word-at : tie.Need-add-word-at
 add-word-at c = search needs
 
--- src/words.rt:87:17
 word-at-requires-2 : tie.Need-word-at-requires-2
 word-at-requires-2 c κs = search needs
 
--- src/words.rt:88:27
 add-word-at-2 : tie.Need-add-word-at-2
 add-word-at-2 c = search needs
 
--- src/words.rt:88:16
 word-at-requires-3 : tie.Need-word-at-requires-3
 word-at-requires-3 c κs = search needs
 
--- src/words.rt:81:1
-returns : tie.Need-returns
-returns c = three-of _ _ _ _ _ (c .before .before .word-at .ensures) (c .before .word-at2 .ensures) (c .word-at3 .ensures)
+returns-2 : tie.Need-returns-2
+returns-2 c = three-of _ _ _ _ _ (c .before .before .word-at .ensures) (c .before .word-at2 .ensures) (c .word-at3 .ensures)
 
 pub three-apart-spec : {M : Type 1} → statement M
 three-apart-spec =
     tie.close
     (tie.spec
+    returns
     word-at-requires
     add-word-at
     word-at-requires-2
     add-word-at-2
     word-at-requires-3
-    returns)
+    returns-2)

@@ -1,15 +1,16 @@
 use native.Mathlib.Omega.{arith}
-use Rattle.lent.proofs.ThreeLaws.{three-in, three-out}
+use Rattle.lent.proofs.ThreeLaws.{three-in}
 use borrow.Author.Needs.{needs}
 use Rattle.words.proofs.three_at.Statement.{statement}
 use Rattle.words.proofs.three_at.Tie as tie
 use Rattle.words.proofs.three_at.Reads as reads
 use Rattle.words.proofs.three_at.Lts as lts
 use Rattle.words.proofs.join_at.Reads as join-at-reads
+use Rattle.words.proofs.less.Reads as less-reads
 use Rattle.words.proofs.three_apart.Reads as three-apart-reads
 
-sub-if2 : tie.Need-sub-if2
-sub-if2 c = search needs
+less-requires : tie.Need-less-requires
+less-requires c κs = search needs
 
 join-at-requires : tie.Need-join-at-requires
 join-at-requires c κs = search needs
@@ -35,14 +36,11 @@ three-apart-requires c κs = search needs
 returns-2 : tie.Need-returns-2
 returns-2 c = search needs
 
-returns-3 : tie.Need-returns-3
-returns-3 c = three-out _ _ (c .if1 .left)
-
 pub three-at-spec : {M : Type 1} → statement M
 three-at-spec =
     tie.close
     (tie.spec
-    sub-if2
+    less-requires
     join-at-requires
     add-join-at
     join-at-requires-2
@@ -50,5 +48,4 @@ three-at-spec =
     join-at-requires-3
     returns
     three-apart-requires
-    returns-2
-    returns-3)
+    returns-2)

@@ -7,9 +7,10 @@ use Rattle.words.proofs.word_at.Tie as tie
 use Rattle.words.proofs.word_at.Reads as reads
 use Rattle.words.proofs.word_at.Lts as lts
 use Rattle.words.proofs.join_at.Reads as join-at-reads
+use Rattle.words.proofs.less.Reads as less-reads
 
-sub-if2 : tie.Need-sub-if2
-sub-if2 c = search needs
+less-requires : tie.Need-less-requires
+less-requires c κs = search needs
 
 join-at-requires : tie.Need-join-at-requires
 join-at-requires c κs = search needs
@@ -20,8 +21,5 @@ returns c = c .join-at .ensures ∙ sym (read-in _ _ (omega arith))
 returns-2 : tie.Need-returns-2
 returns-2 c = sym (read-out _ _ (omega arith))
 
-returns-3 : tie.Need-returns-3
-returns-3 c = sym (read-out _ _ (omega arith))
-
 pub word-at-spec : {M : Type 1} → statement M
-word-at-spec = tie.close (tie.spec sub-if2 join-at-requires returns returns-2 returns-3)
+word-at-spec = tie.close (tie.spec less-requires join-at-requires returns returns-2)

@@ -1,4 +1,8 @@
 use Rattle.classed.proofs.Keys as keys
+use Prim.Native.Nat.{ℕ}
+use mathlib.Core.Path.{_≡_, refl, _∙_}
+use mathlib.Core.List.{List}
+use Rattle.classed.specs.Classes.{keyOf}
 use borrow.Author.Needs.{needs}
 use Rattle.keys.proofs.keys.load_key.Statement.{statement}
 use Rattle.keys.proofs.keys.load_key.Tie as tie
@@ -18,13 +22,21 @@ get-word-requires c κs = search needs
 space-at-requires : tie.Need-space-at-requires
 space-at-requires c κs = search needs
 
+-- a name without a space is not looked at
+nameless : (s : List ℕ) (x p q : ℕ) → x ≡ 2 → keyOf s x p ≡ keyOf s x q
+unfolding keyOf
+nameless s x p q e = rw e refl
+
+returns : tie.Need-returns
+returns c = nameless _ _ _ _ (c .if1 .taken) ∙ keys.key-is _ _ _ _ _ _ _ _ (c .before .before .before .holder-word .ensures) (c .before .before .get-word .ensures) (c .before .space-at .ensures) refl
+
 name-of-requires : tie.Need-name-of-requires
 name-of-requires c κs = search needs
 
-returns : tie.Need-returns
-returns c = keys.key-is _ _ _ _ _ _ _ _ (c .before .before .before .holder-word .ensures) (c .before .before .get-word .ensures) (c .before .space-at .ensures) (c .name-of .ensures)
+returns-2 : tie.Need-returns-2
+returns-2 c = keys.key-is _ _ _ _ _ _ _ _ (c .before .before .before .before .holder-word .ensures) (c .before .before .before .get-word .ensures) (c .before .before .space-at .ensures) (c .name-of .ensures)
 
 pub load-key-spec : {M : Type 1} → statement M
 load-key-spec =
     tie.close
-    (tie.spec holder-word-requires get-word-requires space-at-requires name-of-requires returns)
+    (tie.spec holder-word-requires get-word-requires space-at-requires returns name-of-requires returns-2)
