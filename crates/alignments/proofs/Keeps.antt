@@ -1,14 +1,14 @@
 -- What no naming and no question changes, no emitter by the remembering way changes. Assumes nothing.
 use Prim.Native.Nat.{ℕ, zero, suc, _+_}
-use mathlib.Core.Path.{_≡_, refl, ap, _∙_}
+use mathlib.Core.Path.{_≡_, _∙_}
 use mathlib.Core.Bool.{Bool, true, false}
 use mathlib.Core.List.{List, [], _∷_}
 use lib.ListN.{length}
-use Rattle.rules.specs.Writer.{Ask, got, no, Writer, saidNames, _⨾_, put, stop, given}
+use Rattle.rules.specs.Writer.{Ask, got, no, Writer, saidNames, given}
 use Rattle.rules.specs.Types.{Name, isEmpty, Member, BtfType, Void, Int, Ptr, Array, Composite, Enum, Enum64, Fwd, Typedef, Mod, Func, Var, Datasec, FuncProto, Float, DeclTag, TypeTag, Btf}
 use Rattle.rules.specs.Layout.{Pad, endOf}
 use Rattle.rules.specs.Placing.{tailPads}
-use Rattle.rules.specs.Names.{Space, identSpace, Naming, resolving, spelled, resolveTypeName, builtin}
+use Rattle.rules.specs.Names.{Space, identSpace, Naming, spelled, resolveTypeName, builtin}
 use Rattle.rules.specs.Decl.{Entry, deeper, chainOf, enumValue, enum64Value}
 use Rattle.rules.specs.Emit.{shown}
 use Rattle.rules.proofs.Keeps.{Keeps, keeps-put, keeps-stop, keeps-then, keeps-resolving, keeps-chain-loop, keeps-composite-head, keeps-composite-end, keeps-emit-enum-def, keeps-emit-fwd-def, keeps-emit-composite-fwd}

@@ -2,7 +2,7 @@
 use Prim.Native.Nat.{ℕ, _+_, _<_, _≤_}
 use mathlib.Core.Path.{_≡_, refl, ap, _∙_, sym, subst}
 use mathlib.Core.Bool.{Bool, true, false, _&&_}
-use mathlib.Core.List.{List, [], List·Memᴰ}
+use mathlib.Core.List.{List, List·Memᴰ}
 use mathlib.Core.Logic.{_⊎_, inl, inr}
 use lib.Dec.{ltb, eqb}
 use borrow.Author.Tests.{lt-ltb, eq-eqb, ne-eqb}

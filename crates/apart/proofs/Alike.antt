@@ -6,8 +6,8 @@ use mathlib.Core.List.{List, [], _∷_, _++_, List·Memᴰ, List·Memᴰ·head, 
 use mathlib.Core.Logic.{_⊎_, inl, inr, ⊎-elim}
 use native.Mathlib.Omega.{arith}
 use lib.ListN.{length, getD, set, replicate}
-use lib.Dec.{ltb, eqb}
-use borrow.Author.Tests.{eqb-true, eqb-false, ltb-false, lt-ltb, le-ltb}
+use lib.Dec.{eqb}
+use borrow.Author.Tests.{eqb-true, eqb-false, lt-ltb, le-ltb}
 use Rattle.lent.specs.Words.{oneMore, pick}
 use Rattle.text.specs.Text.{ascii}
 use Rattle.text.specs.Decimal.{decimal}
@@ -22,9 +22,9 @@ use Rattle.demand.proofs.AnyNames.{dumps-alike}
 use Rattle.ledger.proofs.Holders.{count-here, count-there}
 use Rattle.apart.specs.Apart.{tableNames, Who, ofType, ofValue, Shown, Apart, spellingsIn, among, taken, passing, numberFor, shown, typeApart, valueApart, apart, noneShown, dumpApart, Ends}
 use Rattle.apart.specs.Alike.{Suffixless}
-use Rattle.apart.proofs.Laws.{bytes-same, spelled-first, spelled-later, more-is}
+use Rattle.apart.proofs.Laws.{bytes-same, spelled-later, more-is}
 use Rattle.apart.proofs.Splits.{splits-once}
-use Rattle.apart.proofs.Fair.{more-some, more-least, same-or-not, grows, spaceOf, entry}
+use Rattle.apart.proofs.Fair.{same-or-not, grows, spaceOf, entry}
 use Rattle.apart.proofs.Session.{Fits, FitsValue, fits, set-one}
 
 -- ---- what is among names stands there

@@ -1,27 +1,27 @@
 -- A session's text has at most 2^30 bytes, and so at most as many names: numbers of 32 bits are always enough, if the table has fewer than some two
 -- thousand million names. Assumes nothing.
-use Prim.Native.Nat.{ℕ, zero, suc, _+_, _≤_, _<_}
+use Prim.Native.Nat.{ℕ, _+_, _≤_, _<_}
 use mathlib.Core.Path.{_≡_, refl, sym, _∙_, ap, subst}
 use mathlib.Core.Bool.{Bool, true, false}
-use mathlib.Core.List.{List, [], _∷_, _++_}
+use mathlib.Core.List.{List, [], _∷_}
 use native.Mathlib.Omega.{arith}
-use lib.ListN.{length, getD, set, length-set, replicate, length-replicate}
+use lib.ListN.{length, getD, length-set, length-replicate}
 use lib.Dec.{leb}
-use borrow.Author.Tests.{leb-true, leb-false}
-use Rattle.text.specs.Text.{Text, whole, cut, bytes}
-use Rattle.rules.specs.Order.{Mark, new}
-use Rattle.rules.specs.Machine.{Out, wrote, stuck, Sess, Req, run}
-use Rattle.rules.specs.Writer.{Said, said, Writer}
+use borrow.Author.Tests.{leb-true}
+use Rattle.text.specs.Text.{whole, cut, bytes}
+use Rattle.rules.specs.Order.{new}
+use Rattle.rules.specs.Machine.{Sess, Req, run}
+use Rattle.rules.specs.Writer.{Said, said}
 use Rattle.rules.specs.Types.{Btf, tableOf}
 use Rattle.rules.specs.Layout.{smaller}
 use Rattle.rules.specs.Emit.{definition, forward}
 use Rattle.demand.specs.Needs.{WF}
-use Rattle.demand.specs.Lists.{Piece, defines, other, Line, says, cannot, Ls, putLine, afresh}
+use Rattle.demand.specs.Lists.{Piece, defines, other, cannot, Ls, putLine, afresh}
 use Rattle.demand.specs.Session.{Known, fitting, lineOf, linesBy, machineBy, openedBy}
 use Rattle.demand.proofs.Lists.{Sized}
 use Rattle.demand.proofs.Session.{machine-lawful}
-use Rattle.demand.proofs.Alike.{AlikeStore, AlikeMachine, BothOut, both-wrote, both-stuck, BothSess, serve-alike}
-use Rattle.apart.specs.Apart.{tableNames, Apart, apart, noneShown, afterAll, namesAfter, AllApart, Enough, Ends, FewNames}
+use Rattle.demand.proofs.Alike.{AlikeMachine, BothOut, both-wrote, both-stuck, BothSess, serve-alike}
+use Rattle.apart.specs.Apart.{Apart, apart, noneShown, afterAll, namesAfter, AllApart, Enough, Ends, FewNames}
 use Rattle.apart.proofs.Lengths.{Spent, S, s-definition, s-forward}
 use Rattle.apart.proofs.Session.{names-stay-apart}
 

@@ -1,5 +1,5 @@
 -- The claim of specs/Claims holds. Assumes nothing.
-use Rattle.apart.specs.Claims.{NoShared, NamesApart, Claim}
+use Rattle.apart.specs.Claims.{Claim}
 use Rattle.apart.proofs.Session.{two-types, two-values, typedef-then-value, value-then-typedef, apart-demand3}
 use Rattle.apart.proofs.Alike.{modes-alike}
 use Rattle.apart.proofs.Bounds.{always-enough, session-apart}

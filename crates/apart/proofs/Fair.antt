@@ -1,21 +1,19 @@
 -- What holds of the names at every time: all that was printed is apart. Each name that is given keeps it so. Assumes nothing.
-use Prim.Native.Nat.{ℕ, zero, suc, _+_, _≤_, _<_}
+use Prim.Native.Nat.{ℕ, _+_, _≤_}
 use mathlib.Core.Path.{_≡_, refl, sym, _∙_, ap, ap₂, subst}
 use mathlib.Core.Bool.{Bool, true, false, true≢false}
-use mathlib.Core.List.{List, [], _∷_, _++_, List·Memᴰ, List·Memᴰ·head, List·Memᴰ·tail, List·Memᴰ·not-nil, List·Memᴰ·cases-cons, Memᴰ·append-left, Memᴰ·append-right}
+use mathlib.Core.List.{List, [], _∷_, List·Memᴰ, List·Memᴰ·head, List·Memᴰ·tail, List·Memᴰ·not-nil, List·Memᴰ·cases-cons, Memᴰ·append-left, Memᴰ·append-right}
 use mathlib.Core.Logic.{_⊎_, inl, inr, ⊎-elim}
 use native.Mathlib.Omega.{arith}
-use native.Mathlib.Decide.{ℕ-discrete}
-use lib.ListN.{length, getD, set, length-append}
-use lib.Seq.{getD-set-other}
+use lib.ListN.{length, getD, length-append}
 use lib.Dec.{ltb, eqb}
 use borrow.Author.Tests.{eqb-true, eqb-false, ltb-false}
 use Rattle.lent.specs.Words.{oneMore, pick}
 use Rattle.rules.specs.Types.{Name, BtfType, Void, Int, Ptr, Array, Composite, Enum, Enum64, Fwd, Typedef, Mod, Func, Var, Datasec, FuncProto, Float, DeclTag, TypeTag, Btf, nameOf}
-use Rattle.rules.specs.Names.{Space, tagSpace, identSpace, Resolved, Names, Holder, spelled, sameSpace, sameBytes, holders, counted}
+use Rattle.rules.specs.Names.{Space, tagSpace, identSpace, Names, Holder, spelled, sameSpace, sameBytes, holders, counted}
 use Rattle.ledger.proofs.Holders.{count-here, count-there}
-use Rattle.apart.specs.Apart.{tableNames, Who, ofType, ofValue, Shown, Apart, spellingsIn, among, taken, passing, numberFor, shown, typeApart, valueApart, OneType, Alone, AllApart, Enough}
-use Rattle.apart.proofs.Laws.{bytes-same, bytes-self, mem-among, not-among, spelling-in, fewer, spelled-first, more-is, ends-free}
+use Rattle.apart.specs.Apart.{tableNames, Who, ofType, ofValue, Shown, Apart, spellingsIn, among, taken, passing, numberFor, OneType, Alone, AllApart, Enough}
+use Rattle.apart.proofs.Laws.{bytes-same, bytes-self, not-among, spelling-in, fewer, spelled-first, more-is, ends-free}
 
 -- ---- one more holder
 

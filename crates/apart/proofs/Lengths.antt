@@ -1,12 +1,12 @@
 -- Every printed name has a byte of the text for itself: a text of n bytes has at most n names in it. Assumes nothing.
-use Prim.Native.Nat.{ℕ, zero, suc, _+_, _≤_, _<_}
-use mathlib.Core.Path.{_≡_, refl, sym, _∙_, ap, subst}
+use Prim.Native.Nat.{ℕ, zero, suc, _+_, _≤_}
+use mathlib.Core.Path.{_≡_, refl}
 use mathlib.Core.Bool.{Bool, true, false, not, _&&_, true≢false}
 use mathlib.Core.List.{List, [], _∷_, _++_}
 use native.Mathlib.Omega.{arith}
 use lib.ListN.{length, getD, set, length-append}
 use lib.Dec.{ltb, eqb}
-use Rattle.text.specs.Text.{ascii, pfx, Text, whole, cut, join}
+use Rattle.text.specs.Text.{ascii, whole, cut, join}
 use Rattle.text.specs.Decimal.{decimal}
 use Rattle.rules.specs.Writer.{Ask, got, no, Said, said, Writer, _⨾_, put, stop, given, after, next}
 use Rattle.rules.specs.Types.{Name, isEmpty, Member, Param, Enumerator, BtfType, Void, Int, Ptr, Array, Composite, Enum, Enum64, Fwd, Typedef, Mod, Func, Var, Datasec, FuncProto, Float, DeclTag, TypeTag, Btf}
@@ -15,7 +15,7 @@ use Rattle.rules.specs.Placing.{bodyPacked, tailPads}
 use Rattle.rules.specs.Names.{Space, tagSpace, identSpace, Resolved, resolving, spelled, resolveTypeName, resolveName, builtin, counted}
 use Rattle.rules.specs.Decl.{deeper, enumValue, enum64Value, Entry, base, star, qual, array, proto, tag, chainOf, noMods, isArray, noParams, shownParams, emitCompositeFwd, emitFwdDef, enumWord, emitValues, enumBody, emitEnumDef, emitName, parens, emitParam, emitParams, baseWord, emitArray, emitProto, paramList, chainLoop, emitMembers, compositeHead, compositeEnd, compositeBody, compositeDef, emitTypeDecl, emitTypeChain, emitCompositeDef, emitTypedefDef}
 use Rattle.rules.specs.Emit.{definition, shown, forward}
-use Rattle.apart.specs.Apart.{Who, ofType, ofValue, Apart, numberFor, shown as shownIn, typeApart, valueApart, apart}
+use Rattle.apart.specs.Apart.{ofType, Apart, numberFor, shown as shownIn, typeApart, valueApart, apart}
 
 -- the names printed, and k bytes more, are no more than those printed before and the bytes of the text
 abbrev pub Spent : ℕ → Apart → Said Apart → Type 0

@@ -1,32 +1,32 @@
 -- "In one session no two types of a space, no two printed enumerators and no typedef and enumerator then share a spelling." For every table, every list
 -- of requests and every room. Assumes nothing.
-use Prim.Native.Nat.{ℕ, zero, suc, _+_, _≤_, _<_}
+use Prim.Native.Nat.{ℕ, zero, suc, _+_, _<_}
 use mathlib.Core.Path.{_≡_, refl, sym, _∙_, ap, ap₂, subst}
 use mathlib.Core.Bool.{Bool, true, false, true≢false}
 use mathlib.Core.List.{List, [], _∷_, _++_, List·Memᴰ, List·Memᴰ·head, List·Memᴰ·tail, List·Memᴰ·not-nil, Memᴰ·append-left, Memᴰ·append-right}
 use mathlib.Core.Logic.{_⊎_, inl, inr, ⊎-elim}
 use native.Mathlib.Omega.{arith}
 use native.Mathlib.Decide.{ℕ-discrete}
-use lib.ListN.{length, getD, set, replicate, length-replicate}
+use lib.ListN.{getD, set, replicate, length-replicate}
 use lib.Dec.{eqb}
 use borrow.Author.Tests.{eqb-false}
 use Rattle.lent.proofs.Laws.{le-or-lt}
 use Rattle.rules.specs.Order.{new}
 use Rattle.rules.specs.Machine.{Sess, Req, run}
-use Rattle.rules.specs.Types.{Name, isEmpty, Enumerator, BtfType, Void, Int, Ptr, Array, Composite, Enum, Enum64, Fwd, Typedef, Mod, Func, Var, Datasec, FuncProto, Float, DeclTag, TypeTag, Btf, nameOf, tableOf}
+use Rattle.rules.specs.Types.{Name, Enumerator, BtfType, Void, Int, Ptr, Array, Composite, Enum, Enum64, Fwd, Typedef, Mod, Func, Var, Datasec, FuncProto, Float, DeclTag, TypeTag, Btf, nameOf, tableOf}
 use Rattle.rules.specs.Names.{Space, tagSpace, identSpace, Resolved, Names, holders, counted}
 use Rattle.rules.proofs.Closed.{ValuesFit, TypeFits}
-use Rattle.rules.proofs.Related.{RelResolved, RelNaming}
+use Rattle.rules.proofs.Related.{RelNaming}
 use Rattle.demand.specs.Needs.{WF}
 use Rattle.demand.specs.Demand.{Demand3}
 use Rattle.demand.specs.Lists.{Ls, afresh}
-use Rattle.demand.specs.Session.{Known, machineBy, openedBy, noNames}
+use Rattle.demand.specs.Session.{Known, machineBy, openedBy}
 use Rattle.demand.proofs.Lists.{Sized}
 use Rattle.demand.proofs.Session.{machine-lawful, by-demand3}
 use Rattle.demand.proofs.Alike.{BothSess, serve-alike}
 use Rattle.demand.proofs.AnyNames.{Nearly, names-alike}
 use Rattle.apart.specs.Apart.{valueNames, namesIn, namesTo, tableNames, Who, ofType, ofValue, Shown, Apart, numberFor, shown, typeApart, valueApart, apart, noneShown, afterAll, namesAfter, OneType, Alone, AllApart, Earlier, Enough, Ends}
-use Rattle.apart.proofs.Fair.{spaceOf, spaceIn, entry, own, Fair, Picked, picked, again-fair, new-fair}
+use Rattle.apart.proofs.Fair.{spaceOf, spaceIn, entry, own, Fair, picked, again-fair, new-fair}
 
 -- ---- the names of the records are names of the table
 

@@ -1,5 +1,5 @@
 -- A spelling with a number splits in one way only into base, three underscores and digits. Assumes nothing.
-use Prim.Native.Nat.{ℕ, _+_, _≤_, _<_, _^_}
+use Prim.Native.Nat.{ℕ, _+_, _≤_}
 use mathlib.Core.Path.{_≡_, refl, sym, _∙_, ap, ap₂, subst}
 use mathlib.Core.List.{List, [], _∷_, _++_, append-cancel-right}
 use native.Mathlib.Omega.{arith}

@@ -1,10 +1,9 @@
 -- The table that a section and a work spell ends where its count says: past it there is nothing. Assumes nothing.
-use Prim.Native.Nat.{ℕ, _≤_}
+use Prim.Native.Nat.{ℕ}
 use native.Mathlib.Decide.{ℕ-discrete}
 use mathlib.Core.Path.{_≡_, refl, sym, _∙_, ap}
 use mathlib.Core.List.{List}
-use lib.ListN.{getD}
-use Rattle.rules.specs.Types.{Void, BtfType as RulesType}
+use Rattle.rules.specs.Types.{Void}
 use Rattle.btf.specs.declared.types.Btf.{Btf}
 use Rattle.btf.specs.Records.{voidRecord, recordById}
 use Rattle.btf.specs.Table.{btfOf, typeOf}

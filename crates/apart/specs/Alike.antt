@@ -1,6 +1,6 @@
 -- When no suffix is passed over, whatever is requested.
 use Prim.Native.Nat.{ℕ, _≤_}
-use mathlib.Core.List.{List, _++_, List·Memᴰ}
+use mathlib.Core.List.{_++_, List·Memᴰ}
 use Rattle.text.specs.Text.{ascii}
 use Rattle.text.specs.Decimal.{decimal}
 use Rattle.rules.specs.Types.{Name, Btf}

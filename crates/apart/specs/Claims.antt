@@ -9,7 +9,7 @@ use Rattle.rules.specs.Names.{identSpace}
 use Rattle.demand.specs.Needs.{WF}
 use Rattle.demand.specs.Demand.{Demand3}
 use Rattle.demand.specs.Session.{machineBy, dumpTypes}
-use Rattle.apart.specs.Apart.{ofType, ofValue, Shown, Apart, apart, dumpApart, afterAll, namesAfter, AllApart, Earlier, Ends, FewNames}
+use Rattle.apart.specs.Apart.{ofType, ofValue, Shown, apart, dumpApart, afterAll, namesAfter, AllApart, Earlier, Ends, FewNames}
 use Rattle.apart.specs.Alike.{Suffixless}
 
 -- b and a: two names that were printed for the requests rs, b first. Nameless types print none; nameless enumerators are not excepted here.

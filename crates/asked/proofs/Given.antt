@@ -1,13 +1,13 @@
 -- An emitter that asks a question with a memory: what was found, or the refusal, after which nothing is said of the memory. Assumes nothing.
 use Prim.Native.Nat.{ℕ, _+_, _-_}
-use mathlib.Core.Path.{_≡_, refl, ap, _∙_, sym}
+use mathlib.Core.Path.{_≡_, refl, ap, _∙_}
 use mathlib.Core.Bool.{Bool, true, false}
 use mathlib.Core.List.{List, []}
 use lib.ListN.{length}
 use lib.Dec.{leb}
-use Rattle.text.specs.Text.{Text, whole, cut, bytes, Out, stopped, written, putOut, putText}
-use Rattle.rules.specs.Writer.{Writer, said, stop}
-use Rattle.rules.specs.Place.{Wrote, withNames, outOf, putSaid}
+use Rattle.text.specs.Text.{cut, bytes, Out, stopped, written, putOut, putText}
+use Rattle.rules.specs.Writer.{Writer, stop}
+use Rattle.rules.specs.Place.{withNames, outOf, putSaid}
 use Rattle.alignments.specs.Once.{Once, found, refused}
 use Rattle.alignments.specs.Writers.{answered, givenOnce}
 use Rattle.remembered.specs.Words.{forget}

@@ -1,13 +1,13 @@
 -- What each return of the code comes to. Assumes nothing.
-use Prim.Native.Nat.{ℕ, zero, suc, _+_, _-_, _*_, _%_, _<_, _≤_}
+use Prim.Native.Nat.{ℕ, suc, _+_, _-_, _*_, _%_, _<_, _≤_}
 use native.Mathlib.Omega.{arith}
 use native.Mathlib.Nat.{mod-zero}
 use mathlib.Core.Path.{_≡_, refl, ap, _∙_, sym, subst}
 use mathlib.Core.Bool.{Bool, true, false, not}
-use mathlib.Core.List.{List, [], _∷_}
+use mathlib.Core.List.{List}
 use lib.Dec.{eqb}
 use borrow.Author.Tests.{ne-eqb}
-use Rattle.rules.specs.Writer.{Ask, got, no, alignZero}
+use Rattle.rules.specs.Writer.{Ask}
 use Rattle.rules.specs.Types.{Member, Btf as Rules}
 use Rattle.btf.specs.declared.types.Btf.{Btf}
 use Rattle.btf.specs.declared.types.BtfType.{BtfType as Record}
@@ -19,7 +19,7 @@ use Rattle.layout.specs.declared.Ask.the-variants as ask
 use Rattle.layout.specs.declared.Packed.{Packed}
 use Rattle.layout.specs.declared.Packed.the-variants as packed
 use Rattle.layout.specs.Answers.{packedOf}
-use Rattle.alignments.specs.Once.{Seen, Keep, Once, found, refused, Asking, onceThen, alignOnce, alignmentOnce}
+use Rattle.alignments.specs.Once.{Seen, Keep, Once, found, Asking, onceThen, alignOnce, alignmentOnce}
 use Rattle.alignments.specs.Steps.{plainly, membersPackedOnce, packedOnce, gapAlignOnce, unionAlignOnce}
 use Rattle.remembered.specs.declared.Seen.{Seen as SeenCode}
 use Rattle.remembered.specs.declared.Once.{Once as Answer}

@@ -11,7 +11,7 @@ use lib.ListN.{length, getD, List·getD-eq-default}
 use borrow.Author.Tests.{le-leb, lt-leb}
 use Rattle.lent.specs.Words.{wordIn}
 use Rattle.lent.proofs.Laws.{le-or-lt}
-use Rattle.records.specs.Documentation.{Member, Described, described}
+use Rattle.records.specs.Documentation.{Described}
 use Rattle.records.specs.Reading.{Bytes, decodeAll, Kind, none, kindTable, kind, shape, known}
 use Rattle.records.specs.Places.{memberP, paramP, enumeratorP, enumerator64P, tabulate, typeP, placeFrom, kindP, soundP}
 use Rattle.records.specs.Section.{bigEndian, wordOf, typesAt, typeLen, typeArea, headerSound, typesSound}
@@ -19,7 +19,7 @@ use Rattle.records.proofs.Types.{and-left, and-right}
 use Rattle.records.proofs.Fields as F
 use Rattle.records.proofs.Claims as Claims
 use Rattle.rules.specs.Types as R
-use Rattle.rules.specs.Types.{Array, Composite, Enum, Enum64, Fwd, Func, FuncProto, DeclTag, TypeTag}
+use Rattle.rules.specs.Types.{Array, Composite, Enum, Enum64, Fwd, FuncProto, DeclTag, TypeTag}
 use Rattle.btf.specs.declared.types.Btf.{Btf}
 use Rattle.btf.specs.declared.types.BtfType.{BtfType as Record}
 use Rattle.btf.specs.Names.{strAt}

@@ -13,7 +13,7 @@ use Rattle.lent.proofs.Laws.{get-put-other, le-or-lt}
 use Rattle.rules.specs.Names.{Resolved}
 use Rattle.btf.specs.declared.types.Btf.{Btf}
 use Rattle.btf.specs.declared.types.BtfType.{BtfType as Record}
-use Rattle.btf.specs.Cells.{getField, putField, placeOf, classP, countP, counted, withMore}
+use Rattle.btf.specs.Cells.{getField, putField, classP, countP, counted, withMore}
 use Rattle.btf.specs.Numbers.{numberAt}
 use Rattle.btf.specs.Records.{recordAt, voidRecord, recordById}
 use Rattle.btf.specs.Table.{typeOf, tagsFrom, tagsOf, btfOf, typeVersionIn, valueVersionIn, enumeratorOf}

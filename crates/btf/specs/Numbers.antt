@@ -1,7 +1,7 @@
 -- The number that the k-th holder of a name gets, where some numbers are taken: the k-th of those from 1 on that are not. Opening lists the taken numbers
 -- of a name at its class, in the mode of names that cannot collide; else there are none, and the number is the count.
 use Prim.Native.Nat.{ℕ, zero, suc, _+_}
-use mathlib.Core.Bool.{Bool, true, false}
+use mathlib.Core.Bool.{true, false}
 use mathlib.Core.List.{List, [], _∷_}
 use lib.ListN.{length}
 use lib.Dec.{ltb, leb}

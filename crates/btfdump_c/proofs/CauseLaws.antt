@@ -1,7 +1,7 @@
 -- A law for each return of src/explained.rt. Assumes nothing.
 use Prim.Native.Nat.{ℕ, _<_, _≤_}
-use mathlib.Core.Path.{_≡_, refl, ap, _∙_, sym}
-use mathlib.Core.List.{List, [], _∷_}
+use mathlib.Core.Path.{_≡_, ap, _∙_, sym}
+use mathlib.Core.List.{List}
 use lib.ListN.{length}
 use borrow.Author.Tests.{lt-ltb, le-ltb}
 use Rattle.turns.specs.declared.Session.{Session}
@@ -15,7 +15,7 @@ use Rattle.causes.specs.Bytes.{CauseCall, typeCauses, typesCauses}
 use Rattle.explain.specs.declared.Explained.{Explained}
 use Rattle.explain.specs.Explained.{explainedOf}
 use Rattle.several.specs.Several.{listCausesCall}
-use Rattle.exports.specs.Exports.{exportOf, answeredBy}
+use Rattle.exports.specs.Exports.{answeredBy}
 use Rattle.btfdump_c.specs.Causes.{causesExportOf, answeredCauses, typeCausesExport, typesCausesExport, listedCauses, listCausesExport}
 
 module _ (r section w t l : List ℕ) where

@@ -8,7 +8,7 @@ use mathlib.Core.Logic.{_⊎_, inl, inr}
 use native.Mathlib.Omega.{arith}
 use native.Mathlib.Nat.{le-refl}
 use lib.ListN.{length, take, drop, replicate, length-append, length-replicate}
-use lib.Dec.{eqb, ltb}
+use lib.Dec.{eqb}
 use lib.Seq.{length-take-le, take-take, take-append-le, drop-at}
 use borrow.Author.Tests.{lt-ltb, le-ltb, eqb-false}
 use borrow.Rule.Slice.PartMut.{mid-len}

@@ -1,6 +1,6 @@
 -- What a request leaves: its place in the text is not past the text's end, and what refuses it is 12 to 18. Assumes nothing.
 use Prim.Native.Nat.{ℕ, zero, suc, _+_, _-_, _≤_}
-use mathlib.Core.Path.{_≡_, ap, _∙_}
+use mathlib.Core.Path.{_≡_, _∙_}
 use mathlib.Core.Bool.{Bool, true, false, not, _&&_, _||_}
 use mathlib.Core.List.{List, [], _∷_, _++_}
 use mathlib.Core.Logic.{⊎-elim, _⊎_, inl, inr}
@@ -8,7 +8,7 @@ use native.Mathlib.Omega.{arith}
 use lib.ListN.{length, take, drop, length-append, length-drop}
 use lib.Dec.{eqb}
 use lib.Seq.{length-take-le}
-use Rattle.text.specs.Text.{Text, cut, bytes, stopped, putText, place, written}
+use Rattle.text.specs.Text.{Text, bytes, stopped, putText, place, written}
 use Rattle.lent.proofs.Laws.{le-or-lt}
 use Rattle.text.proofs.TextLaws.{put-fits, put-none}
 use Rattle.rules.specs.Order.{Node, ignored, plain, listed, through, ptr, tdef, proto, comp, Table, isComp, isDone, Mark, new, busy, done, Store, Res, ok, refused, bind, each, meet, pushIf, finish, enter, alias, fresh, visit, order}

@@ -7,15 +7,15 @@ use mathlib.Core.Logic.{⊎-elim, _⊎_}
 use native.Mathlib.Omega.{arith}
 use native.Mathlib.Numerals.{add-one}
 use lib.ListN.{length, take, drop, replicate}
-use lib.Dec.{eqb, leb, ltb}
+use lib.Dec.{eqb}
 use lib.Seq.{length-take-le, take-at, drop-drop}
 use borrow.Author.Tests.{le-leb, lt-leb, le-ltb, lt-ltb, not-true, not-false}
 use borrow.Rule.Slice.PartMut.{midOf, postOf, putMid, mid-len, same-len-mid, put-same}
-use Rattle.text.specs.Text.{Out as TextOut, stopped, place}
+use Rattle.text.specs.Text.{Out as TextOut, place}
 use Rattle.lent.proofs.Laws.{le-or-lt}
 use Rattle.text.proofs.TextLaws.{out-done, out-stopped}
 use Rattle.rules.specs.Order.{Node, ignored, plain, listed, through, ptr, tdef, proto, comp, Mark, new, busy, done, Res, fresh, visit, order}
-use Rattle.rules.specs.Machine.{Out, wrote, stuck, obind, eeach, emit}
+use Rattle.rules.specs.Machine.{Out, wrote, stuck, obind, eeach}
 use Rattle.rules.specs.Types.{tableOf}
 use Rattle.rules.specs.Place.{outOf, withNames}
 use Rattle.btf.specs.declared.types.Btf.{Btf}
@@ -35,7 +35,7 @@ use Rattle.turns.specs.declared.Turn.{Turn}
 use Rattle.turns.specs.declared.Reached.{Reached}
 use Rattle.turns.specs.Answers.{answerOf}
 use Rattle.calls.specs.Refusals.{number, value, notCurrent, refusal}
-use Rattle.turns.specs.Turns.{Call, callOf, turnOf, isCurrent, Reach, reached, refusedBy, reachOf, settled, unchanged, visitsIn}
+use Rattle.turns.specs.Turns.{callOf, turnOf, isCurrent, Reach, reached, refusedBy, reachOf, settled, unchanged, visitsIn}
 use Rattle.calls.specs.Calls.{openedCall, openCall, limitOf, arrivedAt, cameTo, lentTo, requested, onward, requestedFrom, typeCall, typesCall}
 use Rattle.turns.proofs.Laws.{reach-accepted, reach-refused}
 use Rattle.calls.proofs.Fair.{Listed, Fair, goes, stops, Inside, fair-request}

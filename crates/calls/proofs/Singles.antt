@@ -24,7 +24,7 @@ use Rattle.refusals.proofs.InWork.{definition-keeps, forward-keeps, definition-
 use Rattle.rules.proofs.Keeps.{Keeps}
 use Rattle.rules.proofs.Refusals.{Tells}
 use Rattle.btf.specs.declared.types.Btf.{Btf}
-use Rattle.btf.specs.Cells.{getField, putField, classP, countP, withMore, counted}
+use Rattle.btf.specs.Cells.{getField, classP, countP, withMore, counted}
 use Rattle.btf.specs.Numbers.{numberAt}
 use Rattle.btf.specs.Table.{btfOf, typeVersionIn, enumeratorOf, valueVersionIn, workNaming}
 use Rattle.marks.specs.Work.{workStore}

@@ -4,13 +4,13 @@ use Prim.Native.Nat.{ℕ, zero, suc, _+_, _-_, _<_, _≤_}
 use mathlib.Core.Path.{_≡_, refl, ap, _∙_, sym, subst}
 use mathlib.Core.Bool.{Bool, true, false, not, _&&_, _||_}
 use mathlib.Core.List.{List, [], _∷_}
-use mathlib.Core.Logic.{_⊎_, inl, inr, ⊎-elim, _↔_}
+use mathlib.Core.Logic.{_⊎_, ⊎-elim}
 use native.Mathlib.Omega.{arith}
 use lib.Dec.{ltb, leb}
-use borrow.Author.Tests.{lt-ltb, le-ltb, le-leb, lt-leb, ltb-true, ltb-false, leb-true}
+use borrow.Author.Tests.{lt-ltb, le-ltb, le-leb, lt-leb}
 use Rattle.lent.proofs.Laws.{le-or-lt}
 use Rattle.rules.specs.Order.{Node, ignored, plain, listed, through, ptr, tdef, proto, comp, Table, isComp, Mark, new, busy, done, isDone, Store, Res, ok, refused, bind, each, meet, finish, enter, alias, fresh, visit, order}
-use Rattle.rules.specs.Machine.{Machine, eeach, emit, Sess, Answer, shut, emitted, ordered, gate, single, onward, from, every}
+use Rattle.rules.specs.Machine.{Machine, Sess, Answer, shut, ordered, gate, single, onward, from, every}
 use Rattle.ceiling.specs.Ceiling.{Told, told, halted, thenBind, eachWithin, meetWithin, enterWithin, aliasWithin, freshWithin, visitWithin, orderWithin, onwards, callsEach, callsEnter, callsFresh, callsVisit, calls, Counted, orderedWithin, gateWithin, singleWithin, onwardWithin, listPlain, listWithin, fromWithin, everyWithin}
 
 -- ---- what the plain rule gives, with a count; and under the ceiling c

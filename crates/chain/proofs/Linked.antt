@@ -1,5 +1,5 @@
 -- Which kinds lead on, which are qualifiers, and the entry of a type by its kind. Assumes nothing.
-use Prim.Native.Nat.{ℕ, zero, suc, _<_, _≤_}
+use Prim.Native.Nat.{ℕ, _<_, _≤_}
 use mathlib.Core.Path.{_≡_, refl, ap, ap₂, _∙_, sym, subst}
 use mathlib.Core.List.{List, [], _∷_}
 use mathlib.Core.Bool.{Bool, true, false}
@@ -7,11 +7,10 @@ use mathlib.Core.Logic.{_⊎_, inl, inr}
 use native.Mathlib.Omega.{arith}
 use lib.ListN.{List·getD-eq-default}
 use lib.Dec.{eqb}
-use borrow.Author.Tests.{le-leb, lt-leb, ne-eqb, eq-eqb}
+use borrow.Author.Tests.{le-leb, lt-leb, ne-eqb}
 use Rattle.text.specs.Text.{ascii, whole, putOut, putText}
-use Rattle.text.proofs.TextLaws.{put-same}
-use Rattle.rules.specs.Types.{Name, Param, Qualifier, volatile, const, restrict, BtfType, Void, Int, Ptr, Array, Composite, Enum, Enum64, Fwd, Typedef, Mod, Func, Var, Datasec, FuncProto, Float, DeclTag, TypeTag}
-use Rattle.rules.specs.Decl.{Entry, base, star, qual, array, proto, tag, Link, ends, leads, linkOf, qualifier, mods, noMods, isArray}
+use Rattle.rules.specs.Types.{Name, Param, Qualifier, BtfType}
+use Rattle.rules.specs.Decl.{Entry, base, star, qual, array, proto, tag, ends, leads, linkOf, qualifier, mods, noMods, isArray}
 use Rattle.rules.specs.Chain.{entryBy}
 use Rattle.btf.specs.declared.types.Btf.{Btf}
 use Rattle.btf.specs.declared.types.BtfType.{BtfType as Record}

@@ -1,18 +1,16 @@
 -- The walks of a chain, and what stays of it when the qualifiers on top are popped. Assumes nothing.
-use Prim.Native.Nat.{ℕ, zero, suc, zero-le, _+_, _-_, _<_, _≤_}
+use Prim.Native.Nat.{ℕ, zero, suc, _+_, _-_, _<_, _≤_}
 use mathlib.Core.Path.{_≡_, refl, ap, ap₂, _∙_, sym}
 use mathlib.Core.List.{List, [], _∷_, _++_}
 use mathlib.Core.Bool.{Bool, true, false, not}
 use native.Mathlib.Omega.{arith}
 use native.Mathlib.Numerals.{add-one}
 use lib.ListN.{length}
-use lib.Dec.{ltb}
 use borrow.Author.Tests.{lt-ltb, le-ltb}
 use Rattle.text.specs.Text.{ascii, whole, join, putOut, putText}
 use Rattle.text.proofs.TextLaws.{put-seq, put-same, put-empty, join-on}
-use Rattle.rules.specs.Writer.{Ask, got, no}
-use Rattle.rules.specs.Types.{Qualifier, Btf as Rules}
-use Rattle.rules.specs.Decl.{Entry, base, star, qual, array, proto, tag, Link, ends, leads, linkOf, chainOn, chainOf, qualifier, mods, noMods}
+use Rattle.rules.specs.Writer.{got}
+use Rattle.rules.specs.Decl.{Entry, Link, ends, leads, linkOf, chainOn, chainOf, qualifier, mods, noMods}
 use Rattle.rules.specs.Chain.{entryBy}
 use Rattle.btf.specs.declared.types.Btf.{Btf}
 use Rattle.btf.specs.declared.types.BtfType.{BtfType as Record}

@@ -2,32 +2,30 @@
 -- Assumes nothing but that opening accepts the section.
 use Prim.Native.Nat.{ℕ, zero, suc, _-_, _<_, _≤_}
 use mathlib.Core.Path.{_≡_, refl, ap, _∙_, sym, subst}
-use mathlib.Core.Bool.{Bool, true, false, true≢false}
-use mathlib.Core.List.{List, [], _∷_, _++_, List·Memᴰ, List·Memᴰ·head, List·Memᴰ·tail, List·Memᴰ·not-nil, List·Memᴰ·cases-cons, Memᴰ·append-left, Memᴰ·append-right}
+use mathlib.Core.Bool.{true, true≢false}
+use mathlib.Core.List.{List, [], _∷_, _++_, List·Memᴰ, List·Memᴰ·head, List·Memᴰ·not-nil, List·Memᴰ·cases-cons, Memᴰ·append-left, Memᴰ·append-right}
 use mathlib.Core.Logic.{_⊎_, inl, inr, ⊎-elim}
 use native.Mathlib.Omega.{arith}
 use lib.ListN.{length, take, replicate}
 use Rattle.lent.proofs.Laws.{le-or-lt}
 use Rattle.rules.specs.Order.{Table, Res, ok, refused}
-use Rattle.rules.specs.Machine.{Out, wrote, stuck, Machine, Sess, Answer, shut, emitted, ordered, ordering, gate, single, eeach, emit, Req, one, serve, run}
-use Rattle.rules.specs.Types.{Btf as Rules, tableOf}
-use Rattle.rules.specs.Names.{Names, naming}
-use Rattle.btf.specs.Table.{btfOf}
-use Rattle.opened.specs.Opened.{workOf}
+use Rattle.rules.specs.Machine.{Out, wrote, stuck, Machine, Sess, Answer, shut, emitted, ordered, ordering, single, eeach, emit, Req, serve, run}
+use Rattle.rules.specs.Types.{Btf as Rules}
+use Rattle.rules.specs.Names.{Names}
 use Rattle.opened.specs.Causes.{openingNumber}
 use Rattle.turns.specs.declared.Session.{Session}
 use Rattle.turns.specs.Answers.{numberOf, valueOf, answerOf}
 use Rattle.turns.specs.Turns.{Call, callOf, Reach, thenZeros}
-use Rattle.calls.specs.Calls.{requested, typeCall}
+use Rattle.calls.specs.Calls.{typeCall}
 use Rattle.calls.specs.Lists.{counted as countedCall, listFrom, listCall}
 use Rattle.calls.proofs.Claims.{number-is, value-is, type-not-below}
-use Rattle.calls.proofs.Lists.{andThen, list-append, counted-goes, counted-stops, type-single, Counts, list-counts}
+use Rattle.calls.proofs.Lists.{andThen, list-append, counted-goes, counted-stops, type-single, list-counts}
 use Rattle.demand.specs.Lists.{Ls}
-use Rattle.demand.specs.Session.{Known, textOf, linesBy, machine, noNames, opened}
+use Rattle.demand.specs.Session.{Known, textOf, linesBy, noNames, opened}
 use Rattle.demand.proofs.Again.{asked-again}
-use Rattle.claims.specs.Table.{headerOf, openedTable, namesIn, machineIn}
+use Rattle.claims.specs.Table.{openedTable, namesIn, machineIn}
 use Rattle.claims.specs.Session.{Holds, Tells, singlesFor, made, After, after-list}
-use Rattle.claims.specs.Demands.{Lent, AddsNothing, typesIn, ruled, Demand2, Twice}
+use Rattle.claims.specs.Demands.{Lent, AddsNothing, typesIn, ruled, Demand2}
 use Rattle.claims.proofs.Sound.{opened-wf}
 use Rattle.claims.proofs.Session.{BothReach, both-reached, both-ended, request-reach, single-is, going, current, types-is, made-more, type-keeps, after-holds, run-then}
 

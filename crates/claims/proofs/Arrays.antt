@@ -1,7 +1,7 @@
 -- The setting for arrays behind pointers, in the calls of a session. Demand 3 (Demands.antt) is proved for all modes, so for both settings.
 use Prim.Native.Nat.{ℕ, _/_, _%_, _<_}
 use mathlib.Core.Path.{_≡_, refl, _∙_}
-use mathlib.Core.Bool.{Bool, true, false}
+use mathlib.Core.Bool.{true}
 use mathlib.Core.List.{List, List·Memᴰ}
 use lib.ListN.{length}
 use lib.Dec.{eqb}

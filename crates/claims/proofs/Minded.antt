@@ -23,7 +23,7 @@ use Rattle.opened.specs.Opened.{workOf}
 use Rattle.opened.specs.Causes.{openingNumber}
 use Rattle.opened.proofs.ReadBack.{else-back, work-length, work-long}
 use Rattle.opened.proofs.Index.{some-type}
-use Rattle.alignments.specs.Once.{unknown, known}
+use Rattle.alignments.specs.Once.{unknown}
 use Rattle.alignments.proofs.Right.{known-unknown}
 use Rattle.alignments.proofs.Counted.{paid-none}
 use Rattle.remembered.specs.Words.{seenWord, decoded, workKeep}

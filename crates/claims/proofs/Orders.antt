@@ -12,15 +12,15 @@ use lib.Dec.{ltb, leb, eqb}
 use borrow.Author.Tests.{lt-ltb}
 use Rattle.lent.specs.Words.{wordAt, wordAtBig, wordIn, pick}
 use Rattle.lent.proofs.Laws.{le-or-lt}
-use Rattle.records.specs.Documentation.{Member, member, Enumerator, enumerator, Param, param, Enumerator64, enumerator64, int, ptr, array, struct, union, enum, fwd, typedef, volatile, const, restrict, func, func-proto, var, datasec, float, decl-tag, type-tag, enum64, Described, described, kindOf, vlenOf, encode, encodeAll, Every, Allowed, Header, header, encodeHeader, encodeSection}
-use Rattle.records.specs.Reading.{Bytes, kind, extra, decodeAll}
-use Rattle.records.specs.Section.{bigEndian, littleEndian, wordOf, hdrLen, typeOff, typeLen, strOff, strLen, typesAt, stringsAt, readHeader, typeArea, headerSound}
+use Rattle.records.specs.Documentation.{Member, member, Enumerator, enumerator, Param, param, Enumerator64, enumerator64, int, ptr, array, struct, union, enum, fwd, typedef, volatile, const, restrict, func, func-proto, var, datasec, float, decl-tag, type-tag, enum64, Described, described, encode, encodeAll, Every, Allowed, Header, header, encodeHeader, encodeSection}
+use Rattle.records.specs.Reading.{Bytes, decodeAll}
+use Rattle.records.specs.Section.{bigEndian, littleEndian, wordOf, hdrLen, typeLen, strOff, strLen, typesAt, stringsAt, readHeader, typeArea, headerSound}
 use Rattle.records.proofs.Types.{body-long}
 use Rattle.records.proofs.Area.{allowed-fits}
 use Rattle.records.proofs.Section.{header-read, section-order, section-read}
 use Rattle.records.proofs.Written.{section-bytes}
 use Rattle.rules.specs.Types as R
-use Rattle.rules.specs.Types.{BtfType, Int, Ptr, Array, Composite, Enum, Enum64, Fwd, Typedef, Mod, Func, Var, Datasec, FuncProto, Float, DeclTag, TypeTag}
+use Rattle.rules.specs.Types.{Int, Composite, Enum, Enum64, Fwd, Typedef, Func, Var, Datasec, FuncProto, Float, DeclTag, TypeTag}
 use Rattle.btf.specs.declared.types.Btf.{Btf}
 use Rattle.btf.specs.Names.{upToZero, nameAt, strAt}
 use Rattle.btf.specs.Records.{sectionWord}

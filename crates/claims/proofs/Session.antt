@@ -2,7 +2,7 @@
 -- accepts the section.
 use Prim.Native.Nat.{ℕ, zero, suc, _+_, _-_, _/_, _%_, _<_, _≤_}
 use mathlib.Core.Path.{_≡_, refl, ap, _∙_, sym, subst}
-use mathlib.Core.Bool.{Bool, true, false, _||_, true≢false}
+use mathlib.Core.Bool.{Bool, true, false, true≢false}
 use mathlib.Core.List.{List, [], _∷_, _++_, append-nil}
 use mathlib.Core.Logic.{_⊎_, inl, inr, ⊎-elim}
 use native.Mathlib.Omega.{arith}
@@ -12,7 +12,6 @@ use lib.Seq.{length-take-le, take-at, take-take, take-append-le, take-append-add
 use lib.Dec.{eqb, ltb}
 use borrow.Author.Tests.{le-leb, lt-leb, eq-eqb, ne-eqb, lt-ltb, le-ltb}
 use borrow.Rule.Slice.PartMut.{mid-len}
-use Rattle.lent.specs.Words.{pick}
 use Rattle.text.specs.Text.{place}
 use Rattle.lent.proofs.Laws.{le-or-lt}
 use Rattle.rules.specs.Order.{Table}
@@ -33,13 +32,13 @@ use Rattle.turns.specs.Answers.{numberOf, valueOf, answerOf}
 use Rattle.turns.specs.Turns.{Call, isCurrent, Reach, reached, refusedBy, thenZeros, settled, withText, tableFor, callOf, visitsIn}
 use Rattle.calls.specs.Calls.{openedCall, openCall, limitOf, cameTo, lentTo, requested, onward as goOn, requestedFrom, typeCall, typesCall}
 use Rattle.calls.specs.Lists.{counted as countedCall, listFrom, listCall}
-use Rattle.calls.proofs.Lists.{counted-goes, counted-stops, type-single, Counts, list-counts}
+use Rattle.calls.proofs.Lists.{counted-goes, counted-stops, type-single, list-counts}
 use Rattle.calls.proofs.Fair.{placed, fair-request}
 use Rattle.calls.proofs.Laws.{limit-short, limit-long, limit-between, stuck-listed, opens-sound}
 use Rattle.turns.specs.declared.Answer.the-variants.{Refused}
 use Rattle.calls.proofs.Claims.{number-is, value-is, type-settles, types-settle, type-not-below, type-not-current, types-not-current, closed-stays, type-current}
 use Rattle.demand.specs.Lists.{Ls, afresh}
-use Rattle.demand.specs.Session.{Known, textOf, machine, opened}
+use Rattle.demand.specs.Session.{Known, textOf, opened}
 use Rattle.claims.specs.Table.{headerOf, namesIn, machineIn}
 use Rattle.claims.specs.Sheet.{Bears, Shows, BothRequest, both-served, both-refused}
 use Rattle.claims.specs.Session.{Holds, Tells, singlesFor, made, After, after-open, after-one, after-all, after-list}

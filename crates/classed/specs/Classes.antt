@@ -4,9 +4,9 @@ use mathlib.Core.List.{List, [], _∷_}
 use mathlib.Core.Bool.{Bool, true, false}
 use lib.ListN.{length}
 use lib.Dec.{ltb, eqb}
-use Rattle.lent.specs.Words.{getWord, putWord, pick, oneMore}
+use Rattle.lent.specs.Words.{getWord, putWord, pick}
 use Rattle.btf.specs.declared.types.Btf.{Btf}
-use Rattle.btf.specs.Cells.{placeOf, withMore, countOf, counted, classP, countP}
+use Rattle.btf.specs.Cells.{placeOf, counted, classP}
 use Rattle.btf.specs.Records.{sectionWord, kindOf}
 use Rattle.btf.specs.Names.{nameAt, namePlace}
 use Rattle.classed.specs.Same.{sameList}

@@ -1,9 +1,8 @@
 -- THE THEOREM: names cannot collide, of the calls of a session. Assumes nothing.
 use Prim.Native.Nat.{ℕ, _/_, _%_}
-use mathlib.Core.Path.{_≡_, refl, ap, _∙_, sym, subst}
+use mathlib.Core.Path.{_≡_, refl, ap, _∙_, sym}
 use mathlib.Core.Bool.{Bool, true, false}
 use mathlib.Core.List.{List, [], _∷_, _++_}
-use lib.Dec.{eqb}
 use borrow.Author.Tests.{eq-eqb}
 use Rattle.rules.specs.Machine.{Sess, Req, one, all, serve, run}
 use Rattle.rules.specs.Types.{Btf, tableOf}
@@ -20,9 +19,8 @@ use Rattle.claims.specs.Table.{headerOf, openedTable, namesIn}
 use Rattle.claims.specs.Session.{After, after-open, after-one, after-all, after-list}
 use Rattle.claims.proofs.Sound.{opened-wf}
 use Rattle.claims.proofs.Demands.{open-number, delivered}
-use Rattle.apart.specs.Apart.{apart, noneShown, dumpApart}
+use Rattle.apart.specs.Apart.{apart, noneShown}
 use Rattle.apart.proofs.Tables.{table-ends}
-use Rattle.passed.specs.Passed.{dumpPassed}
 use Rattle.passed.proofs.Passed.{lists-alike}
 use Rattle.few.proofs.Few.{opened}
 use Rattle.collide.specs.Claims.{Apart, CannotCollide}

@@ -1,9 +1,9 @@
 -- The names of the table are those of the holders. Assumes nothing.
-use Prim.Native.Nat.{ℕ, zero, suc, _+_, _-_, _*_, _<_, _≤_}
-use mathlib.Core.Path.{_≡_, refl, ap, ap₂, _∙_, sym, subst}
-use mathlib.Core.Bool.{Bool, true, false}
+use Prim.Native.Nat.{ℕ, zero, suc, _+_, _-_, _<_}
+use mathlib.Core.Path.{_≡_, refl, ap, _∙_, sym, subst}
+use mathlib.Core.Bool.{Bool, true}
 use mathlib.Core.List.{List, [], _∷_, _++_, List·Memᴰ, List·Memᴰ·head, List·Memᴰ·tail, List·Memᴰ·not-nil, List·Memᴰ·cases-cons, List·Memᴰ·append-cases, Memᴰ·append-left, Memᴰ·append-right}
-use mathlib.Core.Logic.{_⊎_, inl, inr, ⊎-elim, _≢_}
+use mathlib.Core.Logic.{_⊎_, ⊎-elim, _≢_}
 use native.Mathlib.Omega.{arith}
 use native.Mathlib.Decide.{ℕ-discrete}
 use lib.Dec.{ltb, eqb}
@@ -17,10 +17,10 @@ use Rattle.btf.specs.declared.types.BtfType.{BtfType as Record}
 use Rattle.btf.specs.Names.{strAt}
 use Rattle.btf.specs.Records.{sectionWord, vlenOf, kindOf, recordAt, recordById}
 use Rattle.btf.specs.Table.{from, valueOf, value64Of, recordName, typeOf, btfOf, enumeratorOf}
-use Rattle.btf.proofs.KindLaws.{by-kind, type-0, type-1, type-2, type-3, type-4, type-5, type-6, type-7, type-8, type-9, type-10, type-11, type-12, type-13, type-14, type-15, type-16, type-17, type-18, type-19, type-none}
+use Rattle.btf.proofs.KindLaws.{by-kind, type-4, type-5, type-6, type-7, type-8, type-19}
 use Rattle.classed.specs.Classes.{recordP, among, spaceOf, spaceAt, nameOf}
 use Rattle.classed.proofs.Keys.{space-high}
-use Rattle.ledger.specs.Indexed.{IsEnum, number, valuePlace, Value, placeOfValue, Fits, FitsValue, Holds, Indexed}
+use Rattle.ledger.specs.Indexed.{number, valuePlace, Fits, FitsValue, Holds, Indexed}
 use Rattle.ledger.proofs.Keys.{record-there, type-holds, value-holds}
 use Rattle.ledger.proofs.Table.{fits-table}
 use Rattle.apart.specs.Apart.{valueNames, tagsIn, identsIn, namesIn, namesTo, tableNames}

@@ -1,14 +1,14 @@
 -- The numbers on the list of a name, by the keys of the holders: those with which some holder's name is that name with a suffix, each once. Assumes
 -- nothing.
 use Prim.Native.Nat.{ℕ, zero, suc, _+_, _-_, _<_, _≤_}
-use mathlib.Core.Path.{_≡_, refl, ap, ap₂, _∙_, sym, subst}
+use mathlib.Core.Path.{_≡_, refl, ap, _∙_, sym, subst}
 use mathlib.Core.Bool.{Bool, true, false, true≢false}
 use mathlib.Core.List.{List, [], _∷_, _++_, List·Memᴰ, List·Memᴰ·head, List·Memᴰ·tail, List·Memᴰ·not-nil, List·Memᴰ·cases-cons}
-use mathlib.Core.Logic.{_⊎_, inl, inr, ⊎-elim, _≢_}
+use mathlib.Core.Logic.{_⊎_, ⊎-elim, _≢_}
 use native.Mathlib.Omega.{arith}
 use native.Mathlib.Decide.{ℕ-discrete}
 use lib.Dec.{leb, eqb}
-use borrow.Author.Tests.{leb-true, leb-false, le-leb, lt-leb, eqb-true, eq-eqb}
+use borrow.Author.Tests.{leb-true, le-leb, lt-leb, eqb-true, eq-eqb}
 use Rattle.lent.specs.Words.{getWord}
 use Rattle.text.specs.Text.{ascii}
 use Rattle.text.specs.Decimal.{decimal}
@@ -19,7 +19,7 @@ use Rattle.btf.specs.declared.types.Btf.{Btf}
 use Rattle.btf.specs.Cells.{classP}
 use Rattle.classed.specs.Classes.{keyIn, classOf}
 use Rattle.classed.proofs.Laws.{class-first, class-same}
-use Rattle.filled.specs.Takers.{afterUnderscores, suffixIn, suffixOn, anySuffix, nameIn, baseFrom}
+use Rattle.filled.specs.Takers.{suffixIn, suffixOn, anySuffix, nameIn, baseFrom}
 use Rattle.numbers.specs.Lists.{Distinct}
 use Rattle.apart.proofs.Laws.{spelled-later}
 use Rattle.apart.proofs.Splits.{splits-once}

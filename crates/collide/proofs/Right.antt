@@ -1,41 +1,40 @@
 -- The lists that opening left, with bit 3 of the modes, are right: they have the numbers with which a name of the table is another one of its space.
 -- Assumes nothing.
 use Prim.Native.Nat.{ℕ, zero, suc, _+_, _-_, _*_, _/_, _%_, _<_, _≤_}
-use mathlib.Core.Path.{_≡_, refl, ap, ap₂, _∙_, sym, subst, fun-ext}
+use mathlib.Core.Path.{_≡_, refl, ap, _∙_, sym, subst, fun-ext}
 use mathlib.Core.Bool.{Bool, true, false}
-use mathlib.Core.List.{List, [], _∷_, _++_, List·Memᴰ}
+use mathlib.Core.List.{List, [], _∷_, List·Memᴰ}
 use mathlib.Core.Logic.{_⊎_, inl, inr, ⊎-elim, _≢_}
 use native.Mathlib.Omega.{arith}
 use native.Mathlib.Decide.{ℕ-discrete}
 use lib.ListN.{length, getD}
-use lib.Dec.{ltb, eqb}
+use lib.Dec.{eqb}
 use borrow.Author.Tests.{eqb-true, ne-eqb}
-use Rattle.lent.specs.Words.{getWord, pick}
+use Rattle.lent.specs.Words.{getWord}
 use Rattle.lent.proofs.Laws.{le-or-lt}
 use Rattle.rules.specs.Types.{Name, Btf as Rules}
 use Rattle.rules.specs.Names.{Space, tagSpace, identSpace, spelled}
 use Rattle.btf.specs.declared.types.Btf.{Btf}
 use Rattle.btf.specs.Cells.{classP}
-use Rattle.btf.specs.Names.{nameAt, strAt}
-use Rattle.btf.specs.Numbers.{headP, takenAt}
+use Rattle.btf.specs.Names.{nameAt}
+use Rattle.btf.specs.Numbers.{takenAt}
 use Rattle.btf.specs.Records.{sectionWord, kindOf, vlenOf, recordById}
 use Rattle.btf.specs.Table.{btfOf, enumeratorOf}
-use Rattle.classed.specs.Classes.{recordP, spaceAt, nameOf, keyOf, keyIn, classOf, tableClassed}
+use Rattle.classed.specs.Classes.{recordP, spaceAt, nameOf, keyOf, keyIn, classOf}
 use Rattle.classed.proofs.Laws.{class-le, class-key, class-again}
 use Rattle.classed.proofs.Ledger.{the-words}
 use Rattle.classed.proofs.Keys.{space-enum}
 use Rattle.filled.specs.Left.{isEnum, valuesAt, enumsTo}
-use Rattle.filled.specs.Takers.{takersPut, withTakers, takersIn}
+use Rattle.filled.specs.Takers.{takersPut}
 use Rattle.filled.proofs.Frame.{place-unlisted}
 use Rattle.filled.proofs.Holders.{mode-on, takers-all}
-use Rattle.opened.specs.Table.{typesOf, enumeratorsOf, recordPlace, recordKind, indexOf}
+use Rattle.opened.specs.Table.{typesOf, enumeratorsOf, recordKind, indexOf}
 use Rattle.opened.specs.Opened.{workOf}
 use Rattle.opened.specs.Causes.{openingNumber}
 use Rattle.opened.proofs.Index.{types-few, some-type, index-kind}
 use Rattle.opened.proofs.Sums.{enumerators-all}
-use Rattle.opened.proofs.ReadBack.{header-ok, types-ok, order-ok, types-are, before, classed, work-is, else-listed, kind-back, enumerator-back, room-back, work-long}
-use Rattle.ledger.specs.Passed.{Lists}
-use Rattle.ledger.specs.Indexed.{IsEnum, number, Value, placeOfValue, FitsValue, Holds, Indexed, Listed, listsIn}
+use Rattle.opened.proofs.ReadBack.{header-ok, types-ok, order-ok, types-are, before, classed, work-is, else-listed, kind-back, enumerator-back, room-back}
+use Rattle.ledger.specs.Indexed.{IsEnum, number, Value, placeOfValue, Holds, Indexed, listsIn}
 use Rattle.ledger.proofs.Keys.{key-of}
 use Rattle.ledger.proofs.Classed.{keys-stay}
 use Rattle.ledger.proofs.Lists.{lists-are}
@@ -44,7 +43,7 @@ use Rattle.claims.proofs.Named.{opened-indexed}
 use Rattle.apart.specs.Apart.{tableNames}
 use Rattle.few.proofs.Few.{values-are}
 use Rattle.passed.specs.Passed.{Right}
-use Rattle.numbers.specs.Lists.{Distinct, Suffixes}
+use Rattle.numbers.specs.Lists.{Distinct}
 use Rattle.listed.specs.Listed.{numbersOn, baseOf, numberOf}
 use Rattle.listed.proofs.Takers.{takers-read}
 use Rattle.collide.proofs.Keys.{spelled-cons, on-list-of, list-distinct, list-holder}

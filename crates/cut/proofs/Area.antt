@@ -1,19 +1,19 @@
 -- The new strings are a sound string area (no cause 4), where the old ones are. Assumes nothing.
-use Prim.Native.Nat.{ℕ, zero, suc, _+_, _<_, _≤_}
+use Prim.Native.Nat.{ℕ, zero, suc, _+_}
 use native.Mathlib.Omega.{arith}
-use mathlib.Core.Path.{_≡_, refl, sym, _∙_, ap, subst}
+use mathlib.Core.Path.{_≡_, refl, sym, _∙_, ap}
 use mathlib.Core.Bool.{Bool, true, false, _&&_, true≢false}
 use mathlib.Core.List.{List, [], _∷_, _++_}
 use lib.ListN.{length, getD, drop}
 use lib.Dec.{leb, eqb}
 use borrow.Author.Tests.{leb-true}
-use Rattle.records.specs.Documentation.{Every, NonzeroAscii, encodeTable, encodeStrings}
+use Rattle.records.specs.Documentation.{Every, NonzeroAscii, encodeStrings}
 use Rattle.records.specs.Section.{allAscii, lastOf, stringsSound, stringArea}
 use Rattle.records.proofs.Strings.{strings-pass}
 use Rattle.rules.specs.Types.{Name}
 use Rattle.btf.specs.Names.{upToZero, nameAt}
 use Rattle.cut.specs.Strings.{has, addName, addAll, allMentions, firstNames}
-use Rattle.cut.specs.Section.{oldTypes, newNames, newStrings}
+use Rattle.cut.specs.Section.{oldTypes, newStrings}
 
 and-both : (a b : Bool) → (a && b) ≡ true → (a ≡ true) × (b ≡ true)
 and-both true b h = (refl, h)

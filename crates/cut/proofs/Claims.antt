@@ -3,19 +3,19 @@ use Prim.Native.Nat.{ℕ, zero, suc, _<_, _≤_}
 use native.Mathlib.Omega.{arith}
 use mathlib.Core.Path.{_≡_, refl, sym, _∙_, ap, subst}
 use mathlib.Core.Bool.{Bool, true, false, true≢false}
-use mathlib.Core.List.{List, [], _∷_, List·Memᴰ, List·Memᴰ·not-nil}
+use mathlib.Core.List.{List, List·Memᴰ, List·Memᴰ·not-nil}
 use lib.ListN.{length, getD}
-use Rattle.records.specs.Documentation.{int, ptr, array, struct, union, enum, fwd, typedef, volatile, const, restrict, func, func-proto, var, datasec, float, decl-tag, type-tag, enum64, Described, described, encodeStrings}
+use Rattle.records.specs.Documentation.{int, ptr, array, struct, union, enum, fwd, typedef, volatile, const, restrict, func, func-proto, var, datasec, float, decl-tag, type-tag, enum64, Described, described}
 use Rattle.records.specs.Section.{stringArea}
-use Rattle.rules.specs.Types.{Name, Btf as Rules, tableOf}
+use Rattle.rules.specs.Types.{Btf as Rules, tableOf}
 use Rattle.rules.specs.Names.{Names}
 use Rattle.rules.specs.Machine.{Sess, Req, single}
 use Rattle.btf.specs.declared.types.Btf.{Btf}
 use Rattle.btf.specs.Names.{nameAt, strAt}
 use Rattle.demand.specs.Lists.{Ls}
 use Rattle.demand.specs.Session.{Known, machine, opened, dumpTypes}
-use Rattle.cut.specs.Kept.{followedIds, voidType, typeOf, Reached, asked, onward, isDeclTag, third, Kept, reached, its-tag, Tells}
-use Rattle.cut.specs.Renumbered.{newId, keptTypes, keptTo}
+use Rattle.cut.specs.Kept.{followedIds, voidType, typeOf, Reached, onward, isDeclTag, third, Kept, reached, its-tag, Tells}
+use Rattle.cut.specs.Renumbered.{keptTo}
 use Rattle.cut.specs.Strings.{mentions, allMentions, firstNames}
 use Rattle.cut.specs.Section.{typesOf, oldTypes, newNames, newOffset, newTypes, newStrings}
 use Rattle.cut.specs.Stands.{withTypes, Stands, Renumbered}

@@ -1,7 +1,5 @@
 -- A table cut down, by computation.
-use Prim.Native.Nat.{ℕ}
 use mathlib.Core.Path.{_≡_, refl}
-use mathlib.Core.Bool.{Bool}
 use mathlib.Core.List.{List, [], _∷_}
 use Rattle.records.specs.Documentation.{member, int, ptr, array, struct, decl-tag, Described, described}
 use Rattle.cut.specs.Renumbered.{keptTo, newId, keptTypes, renamed, renamedAll}

@@ -1,21 +1,20 @@
 -- Every emitter writes the same text over two tables whose ids stand for each other, and leaves related names, where the two ways of keeping names give
 -- ids that stand for each other the same versions. Assumes nothing.
 use Prim.Native.Nat.{ℕ, zero, suc, _+_}
-use mathlib.Core.Path.{_≡_, refl, ap, ap₂, _∙_, sym, subst}
+use mathlib.Core.Path.{_≡_, refl, ap, ap₂, sym, subst}
 use mathlib.Core.Bool.{Bool, true, false, not, _&&_, true≢false}
 use mathlib.Core.List.{List, [], _∷_, _++_}
 use lib.ListN.{length}
-use lib.Dec.{eqb}
 use Rattle.text.specs.Text.{ascii}
-use Rattle.rules.specs.Writer.{Ask, got, no, Writer, _⨾_, put, stop, given}
-use Rattle.rules.specs.Types.{Name, isEmpty, Member, Param, Enumerator, BtfType, Btf, Qualifier}
-use Rattle.rules.specs.Layout.{bitPadding, endOf, Pad}
+use Rattle.rules.specs.Writer.{Ask, got, no, Writer, _⨾_, put, given}
+use Rattle.rules.specs.Types.{Name, isEmpty, Member, Param, Enumerator, BtfType, Btf}
+use Rattle.rules.specs.Layout.{Pad}
 use Rattle.rules.specs.Placing.{tailPads}
-use Rattle.rules.specs.Names.{Space, tagSpace, identSpace, Naming, resolving, spelled, resolveTypeName, resolveName, builtin}
-use Rattle.rules.specs.Decl.{deeper, keyword, qualifier, declTag, declTags, enumValue, enum64Value, Entry, base, star, qual, array, proto, tag, chainOf, mods, noMods, isArray, noParams, shownParams, pads, lastNewline, bitSize, emitCompositeFwd, emitFwdDef, enumWord, emitValues, enumBody, emitEnumDef, emitName, parens, emitParam, emitParams, baseWord, emitArray, emitProto, paramList, chainLoop, emitMembers, compositeHead, compositeEnd, compositeBody, compositeDef, emitTypeDecl, emitTypeChain, emitCompositeDef, emitTypedefDef}
+use Rattle.rules.specs.Names.{Space, tagSpace, identSpace, Naming, spelled, resolveTypeName, resolveName, builtin}
+use Rattle.rules.specs.Decl.{deeper, keyword, qualifier, declTag, declTags, enumValue, enum64Value, Entry, mods, noMods, isArray, noParams, shownParams, lastNewline, bitSize, emitCompositeFwd, emitFwdDef, enumWord, emitValues, enumBody, emitEnumDef, emitName, parens, emitParam, emitParams, baseWord, emitArray, emitProto, paramList, chainLoop, emitMembers, compositeHead, compositeEnd, compositeBody, compositeDef, emitTypeDecl, emitTypeChain, emitCompositeDef, emitTypedefDef}
 use Rattle.rules.specs.Emit.{definition, shown, forward}
 use Rattle.rules.proofs.Related.{RelW, RelResolved, rel-put, rel-stop, rel-then, rel-resolving}
-use Rattle.cut.specs.Stands.{withTypes, NoTag, Each, none, more, SameMembers, no-members, member, SameParams, no-params, param, SameType, void, int, ptr, array as t-array, composite, enum, enum64, fwd, typedef, qualified, func, var, datasec, proto as t-proto, float, decl-tag, type-tag, Followed, Tagged, Stands}
+use Rattle.cut.specs.Stands.{withTypes, Each, none, more, SameMembers, no-members, member, SameParams, no-params, param, SameType, void, int, ptr, array as t-array, composite, enum, enum64, fwd, typedef, qualified, func, var, datasec, proto as t-proto, float, decl-tag, type-tag, Followed, Tagged, Stands}
 use Rattle.cut.proofs.Sizes.{same-zero, body-same, padding-same, end-same, SameEntry, e-base, e-star, e-qual, e-array, e-proto, e-tag, SameChain, c-none, c-more, SameAsk, a-got, a-no, chain-same}
 
 -- ids that stand for each other get the same versions

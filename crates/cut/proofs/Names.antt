@@ -1,12 +1,11 @@
 -- Each name that a kept type mentions stands in the new strings, where its new offset says. Assumes nothing.
-use Prim.Native.Nat.{ℕ, zero, suc, _+_, _-_, _<_, _≤_}
+use Prim.Native.Nat.{ℕ, zero, suc, _+_, _-_, _<_}
 use native.Mathlib.Omega.{arith}
 use mathlib.Core.Path.{_≡_, refl, sym, _∙_, ap, ap₂, subst}
 use mathlib.Core.Bool.{Bool, true, false, true≢false}
 use mathlib.Core.List.{List, [], _∷_, _++_, List·Memᴰ, List·Memᴰ·head, List·Memᴰ·tail, List·Memᴰ·not-nil}
-use mathlib.Core.Logic.{_⊎_, inl, inr}
-use lib.ListN.{length, getD, drop, take, length-append}
-use lib.Dec.{eqb, eqb·suc-suc, eqb·zero-suc, eqb·suc-zero}
+use lib.ListN.{length, getD, drop, length-append}
+use lib.Dec.{eqb}
 use borrow.Author.Tests.{eq-eqb, eqb-true}
 use Rattle.records.specs.Documentation.{Described, encodeStrings}
 use Rattle.records.specs.Section.{lastOf}

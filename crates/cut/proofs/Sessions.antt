@@ -2,7 +2,7 @@
 use Prim.Native.Nat.{ℕ, zero, suc, _+_, _<_}
 use native.Mathlib.Decide.{ℕ-discrete}
 use mathlib.Core.Path.{_≡_, refl, sym, _∙_, ap, ap₂, subst}
-use mathlib.Core.Bool.{Bool, true, false, true≢false}
+use mathlib.Core.Bool.{Bool, true, false}
 use mathlib.Core.List.{List, [], _∷_, _++_}
 use lib.ListN.{length, getD, set, replicate, length-replicate}
 use lib.Seq.{getD-set-same, getD-set-other, lt-length-set}
@@ -10,16 +10,16 @@ use lib.Dec.{leb, eqb}
 use Rattle.lent.specs.Words.{oneMore}
 use Rattle.text.specs.Text.{Text, whole, cut, bytes}
 use Rattle.rules.specs.Types.{Name, BtfType, Btf, tableOf}
-use Rattle.rules.specs.Order.{Mark, new}
-use Rattle.rules.specs.Machine.{Out, wrote, stuck, Machine, Sess, Answer, Req, one, single}
+use Rattle.rules.specs.Order.{new}
+use Rattle.rules.specs.Machine.{Sess, Req, single}
 use Rattle.rules.specs.Layout.{smaller}
-use Rattle.rules.specs.Names.{Space, identSpace, Resolved, Naming, Names, Holder, holders, counted, typeVersion, valueVersion, naming}
-use Rattle.rules.specs.Writer.{Said, said}
+use Rattle.rules.specs.Names.{Space, identSpace, Resolved, Names, Holder, holders, counted, typeVersion, valueVersion, naming}
+use Rattle.rules.specs.Writer.{Said}
 use Rattle.rules.specs.Emit.{definition, forward}
 use Rattle.rules.proofs.Related.{RelSaid, same, RelResolved}
 use Rattle.demand.specs.Lists.{Piece, defines, other, Line, says, cannot, Ls, putLine, afresh}
-use Rattle.demand.specs.Session.{textOf, Dump, dump, Known, fitting, lineOf, machineBy, machine, opened, answerOf, dumped, dumpTypes}
-use Rattle.cut.specs.Stands.{withTypes, Each, none, more, Stands, Renumbered, no-requests, request}
+use Rattle.demand.specs.Session.{textOf, dump, Known, fitting, lineOf, machine, opened, answerOf, dumped, dumpTypes}
+use Rattle.cut.specs.Stands.{withTypes, Each, none, Stands, Renumbered, no-requests, request}
 use Rattle.cut.proofs.Lines.{SameNaming, definition-same, forward-same}
 use Rattle.cut.proofs.Steps.{BothOut, both-wrote, both-stuck, SameSteps, BothSess, BothAnswer, each-append, single-same}
 

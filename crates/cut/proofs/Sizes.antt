@@ -1,16 +1,15 @@
 -- Sizes, alignments, the packed test, pads and chains go alike over two tables whose ids stand for each other. Assumes nothing.
-use Prim.Native.Nat.{ℕ, zero, suc, _+_, _-_, _*_, _%_}
-use mathlib.Core.Path.{_≡_, refl, ap, ap₂, _∙_, sym, subst}
+use Prim.Native.Nat.{ℕ, zero, suc, _-_, _%_}
+use mathlib.Core.Path.{_≡_, refl, ap, _∙_, sym}
 use mathlib.Core.Bool.{Bool, true, false}
 use mathlib.Core.List.{List, [], _∷_}
-use lib.ListN.{length}
 use lib.Dec.{leb, eqb}
 use borrow.Author.Tests.{eq-eqb, ne-eqb, eqb-true, eqb-false}
-use Rattle.rules.specs.Writer.{Ask, got, no, askThen, checked}
+use Rattle.rules.specs.Writer.{Ask, got, no, askThen}
 use Rattle.rules.specs.Types.{Name, Member, Param, BtfType, Btf, Qualifier}
-use Rattle.rules.specs.Layout.{sizeOf, getSizeOf, larger, alignMembers, alignOf, getAlignOf, offAlign, membersPacked, isStructPacked, Pad, padsBefore, bitPadding, endOf}
+use Rattle.rules.specs.Layout.{sizeOf, getSizeOf, larger, alignMembers, alignOf, getAlignOf, offAlign, membersPacked, isStructPacked, bitPadding, endOf}
 use Rattle.rules.specs.Placing.{fieldSize, Extent, withMember, extentOf, noExtent, unionAlign, measured, bodyPacked}
-use Rattle.rules.specs.Decl.{Entry, base, star, qual, array, proto, tag, Link, ends, leads, linkOf, chainOn, chainOf}
+use Rattle.rules.specs.Decl.{Entry, base, star, qual, array, proto, tag, linkOf, chainOn, chainOf}
 use Rattle.cut.specs.Stands.{withTypes, NoTag, SameMembers, no-members, member, SameParams, SameType, void, int, ptr, array as t-array, composite, enum, enum64, fwd, typedef, qualified, func, var, datasec, proto as t-proto, float, decl-tag, type-tag, Followed, Stands}
 
 then-same : {A C : Type 0} {x y : Ask A} {k l : A → Ask C} → x ≡ y → ((a : A) → k a ≡ l a) → askThen x k ≡ askThen y l

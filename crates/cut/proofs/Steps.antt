@@ -1,14 +1,14 @@
 -- Ordering, emission and single requests go alike over two tables whose ids stand for each other, on two machines whose steps go alike.
 -- Assumes nothing.
-use Prim.Native.Nat.{ℕ, zero, suc, _<_}
+use Prim.Native.Nat.{ℕ, zero, suc}
 use mathlib.Core.Path.{_≡_, refl, sym, _∙_, ap, ap₂, subst}
 use mathlib.Core.Bool.{Bool, true, false, not, _&&_, _||_, true≢false}
 use mathlib.Core.List.{List, [], _∷_, _++_}
 use lib.Dec.{ltb, eqb, eqb·suc-zero}
 use borrow.Author.Tests.{lt-ltb}
-use Rattle.rules.specs.Types.{BtfType, Btf, Member, Param, nameOf, nodeOf, isNamed, isEmpty, tableOf, memberTypes, paramTypes}
+use Rattle.rules.specs.Types.{BtfType, Btf, Member, Param, nameOf, nodeOf, isEmpty, tableOf, memberTypes, paramTypes}
 use Rattle.rules.specs.Order.{Node, ignored, plain, listed, through, ptr, tdef, proto, comp, Table, isComp, Mark, new, busy, done, isDone, Store, Res, ok, refused, bind, each, meet, pushIf, finish, enter, alias, fresh, visit, order}
-use Rattle.rules.specs.Machine.{Out, wrote, stuck, Machine, isZero, pick, obind, eeach, once, mention, again, close, leaf, within, begin, allowed, look, emit, Sess, Answer, Req, one, shut, emitted, ordered, ordering, gate, single}
+use Rattle.rules.specs.Machine.{Out, wrote, stuck, Machine, isZero, pick, obind, eeach, once, mention, again, close, leaf, within, begin, allowed, look, emit, Sess, Answer, shut, emitted, ordered, gate, single}
 use Rattle.cut.specs.Stands.{withTypes, Each, none, more, SameMembers, no-members, member, SameParams, no-params, param, SameType, void, int, ptr as t-ptr, array, composite, enum, enum64, fwd, typedef, qualified, func, var, datasec, proto as t-proto, float, decl-tag, type-tag, Followed, Stands}
 use Rattle.cut.proofs.Sizes.{same-eqb, same-zero}
 

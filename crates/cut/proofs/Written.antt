@@ -1,14 +1,14 @@
 -- The new section is read back as the new types and strings: no cause 2 to 5 of opening holds of it. Assumes nothing.
-use Prim.Native.Nat.{ℕ, zero, suc, _+_, _-_, _*_, _^_, _<_, _≤_}
+use Prim.Native.Nat.{ℕ, suc, _+_, _-_, _^_, _<_, _≤_}
 use native.Mathlib.Omega.{arith}
-use mathlib.Core.Path.{_≡_, refl, sym, _∙_, ap, subst}
+use mathlib.Core.Path.{_≡_, refl, _∙_, ap, subst}
 use mathlib.Core.Bool.{Bool, true, false}
 use mathlib.Core.List.{List, [], _∷_, _++_, List·Memᴰ, List·Memᴰ·head, List·Memᴰ·tail, List·Memᴰ·not-nil}
 use lib.ListN.{length, getD}
-use Rattle.records.specs.Documentation.{Member, member, Enumerator, enumerator, Param, param, Secinfo, secinfo, Enumerator64, enumerator64, int, ptr, array, struct, union, enum, fwd, typedef, volatile, const, restrict, func, func-proto, var, datasec, float, decl-tag, type-tag, enum64, Described, described, vlenOf, kindOf, btf-info, FitRanges, Every, FitMember, FitEnumerator, FitParam, FitSecinfo, FitEnumerator64, FitBody, Fits, NamedMember, NamedEnumerator, NamedParam, NamedEnumerator64, NamedBody, Named, Allowed, encodeAll, encodeSection, encodeStrings}
+use Rattle.records.specs.Documentation.{Member, member, Enumerator, enumerator, Param, param, Secinfo, secinfo, Enumerator64, enumerator64, int, ptr, array, struct, union, enum, fwd, typedef, volatile, const, restrict, func, func-proto, var, datasec, float, decl-tag, type-tag, enum64, Described, described, btf-info, FitRanges, Every, FitMember, FitEnumerator, FitParam, FitSecinfo, FitEnumerator64, Fits, NamedMember, NamedEnumerator, NamedParam, NamedEnumerator64, Named, Allowed, encodeAll}
 use Rattle.records.specs.Reading.{decodeAll}
 use Rattle.records.specs.Section.{bigEndian, typeArea, stringArea, headerSound, typesSound}
-use Rattle.records.proofs.Section.{section-order, section-types, section-strings, section-header, section-sound, section-read}
+use Rattle.records.proofs.Section.{section-order, section-strings, section-header, section-sound, section-read}
 use Rattle.btf.specs.Names.{nameAt}
 use Rattle.cut.specs.Renumbered.{newId, keptTypes, newMembers, newParams, newValues, newValues64, newSecinfos, renamed, renamedAll}
 use Rattle.cut.specs.Strings.{memberNames, paramNames, valueNames, value64Names, mentions, allMentions, firstNames}

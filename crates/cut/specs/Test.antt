@@ -1,6 +1,6 @@
 -- A test that computes which ids are kept. proofs/Test.antt: it tells exactly those (`Tells`). It is the plain form, and slow.
 use Prim.Native.Nat.{ℕ, zero, suc}
-use mathlib.Core.Bool.{Bool, true, false, not, _&&_, _||_}
+use mathlib.Core.Bool.{Bool, false, not, _&&_, _||_}
 use mathlib.Core.List.{List, [], _∷_}
 use lib.ListN.{length}
 use lib.Dec.{eqb}

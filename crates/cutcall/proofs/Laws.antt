@@ -1,12 +1,12 @@
 -- A law for each return. Assumes nothing.
 use Prim.Native.Nat.{ℕ, zero, suc, _+_, _-_, _/_, _<_, _≤_}
 use native.Mathlib.Omega.{arith}
-use mathlib.Core.Path.{_≡_, refl, sym, _∙_, ap, ap₂, subst}
+use mathlib.Core.Path.{_≡_, refl, sym, _∙_, ap, subst}
 use mathlib.Core.Bool.{Bool, true, false, not, _&&_, _||_, true≢false}
 use mathlib.Core.List.{List, [], _∷_, _++_}
-use lib.ListN.{length, getD, drop}
+use lib.ListN.{length, drop}
 use lib.Dec.{ltb, eqb}
-use borrow.Author.Tests.{lt-ltb, le-ltb, ltb-false, ne-eqb, eqb-true, not-true, not-false}
+use borrow.Author.Tests.{lt-ltb, le-ltb, ltb-false, eqb-true, not-true, not-false}
 use Rattle.lent.specs.Words.{getWord, table, words}
 use Rattle.records.specs.Reading.{Bytes}
 use Rattle.records.specs.Section.{stringArea, headerSound, stringsSound, typesSound}
@@ -16,9 +16,9 @@ use Rattle.header.specs.Header.{btfOf, badStrings}
 use Rattle.header.proofs.Headers.{strings-decided, order-is}
 use Rattle.area.specs.declared.Records.{Records}
 use Rattle.area.specs.Pass.{Scan, unsound, found, scanOut, scanSection}
-use Rattle.opened.specs.Table.{describedIn, typesOf, enumeratorsOf, emptyIndex, indexOf}
+use Rattle.opened.specs.Table.{typesOf, enumeratorsOf, emptyIndex, indexOf}
 use Rattle.opened.specs.Causes.{cause2, cause3, cause4, cause5, cause6, tableOf, firstOf}
-use Rattle.opened.proofs.Order.{NoneHolds, first-none, none-first}
+use Rattle.opened.proofs.Order.{NoneHolds, first-none}
 use Rattle.opened.proofs.Opens.{section-is}
 use Rattle.turns.specs.declared.Answer.{Answer}
 use Rattle.turns.specs.declared.Answer.the-variants.{Accepted, Refused}
@@ -28,10 +28,9 @@ use Rattle.followed.specs.Followed.{countOf}
 use Rattle.marking.specs.Marks.{allZero, idsOf}
 use Rattle.mentioned.specs.Names.{zeroBases, baseOf, basesTo}
 use Rattle.cutting.specs.Bytes.{Wrote, wroteOf, typesSize, allBytes, fittingWritten, keptWritten}
-use Rattle.cut.specs.Section.{cutSection, anyPast, cutNumber, cutValue, cutOutput}
-use Rattle.cut.specs.Test.{isKept}
+use Rattle.cut.specs.Section.{anyPast, cutNumber, cutValue, cutOutput}
 use Rattle.written.proofs.Claims.{twentyThree, section-size, kept-written}
-use Rattle.cutcall.specs.Calls.{Cut, cutOf, passes, isOpenOn, sectionFor, cutBy, cutCall}
+use Rattle.cutcall.specs.Calls.{cutOf, passes, isOpenOn, sectionFor, cutBy, cutCall}
 use Rattle.cutcall.specs.Code.{Checked, unfit, fit, checkedOut, checkedOf, answered}
 
 -- what the pass finds in a section with a sound header, by cause 5

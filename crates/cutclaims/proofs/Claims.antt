@@ -1,17 +1,17 @@
 -- THE THEOREMS about the call for a section cut down. Assume nothing.
 use Prim.Native.Nat.{ℕ, zero, suc, _+_, _*_, _≤_}
 use native.Mathlib.Omega.{arith}
-use mathlib.Core.Path.{_≡_, refl, sym, _∙_, ap, subst}
+use mathlib.Core.Path.{_≡_, refl, sym, _∙_, ap}
 use mathlib.Core.Bool.{Bool, true, false, _&&_, _||_}
 use mathlib.Core.List.{List, [], _∷_, _++_}
 use lib.ListN.{length, take, drop}
-use lib.Dec.{ltb, eqb}
+use lib.Dec.{ltb}
 use borrow.Author.Tests.{eq-eqb, ltb-false}
 use Rattle.lent.specs.Words.{words}
 use Rattle.records.specs.Reading.{Bytes}
 use Rattle.opened.specs.Table.{describedIn, typesOf, enumeratorsOf}
-use Rattle.opened.specs.Causes.{cause2, cause3, cause4, cause5, cause6, firstOf, causes, openingNumber}
-use Rattle.opened.proofs.Order.{NoneHolds, none-first, sound-none}
+use Rattle.opened.specs.Causes.{cause2, cause3, cause4, cause5, cause6, firstOf, openingNumber}
+use Rattle.opened.proofs.Order.{none-first, sound-none}
 use Rattle.turns.specs.declared.Session.{Session}
 use Rattle.turns.specs.Answers.{numberOf, valueOf, answerOf}
 use Rattle.calls.specs.Calls.{openCall}
@@ -23,7 +23,7 @@ use Rattle.reopened.proofs.Reopened.{cut-reopens}
 use Rattle.reopened.proofs.Work.{work-enough}
 use Rattle.cutcall.specs.Calls.{Cut, cutOf, passes, isOpenOn, sectionFor, cutBy, cutCall}
 use Rattle.cutclaims.proofs.Lists.{lists-alike}
-use Rattle.cutclaims.specs.Claims.{Untouched, writtenBy, Written, Carried}
+use Rattle.cutclaims.specs.Claims.{Untouched, Written, Carried}
 
 take-all : (a c : List ℕ) → take (length a) (a ++ c) ≡ a
 take-all [] c = refl

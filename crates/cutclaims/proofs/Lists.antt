@@ -5,18 +5,18 @@ use mathlib.Core.Path.{_≡_, refl, sym, _∙_, ap, subst}
 use mathlib.Core.Bool.{Bool, true, false}
 use mathlib.Core.List.{List, [], _∷_, map}
 use mathlib.Core.Logic.{_⊎_, inl, inr}
-use lib.ListN.{length, take}
+use lib.ListN.{length}
 use Rattle.lent.proofs.Laws.{le-or-lt}
 use Rattle.records.specs.Documentation.{Every}
 use Rattle.turns.specs.declared.Session.{Session}
-use Rattle.turns.specs.Answers.{numberOf, valueOf, answerOf}
+use Rattle.turns.specs.Answers.{numberOf, answerOf}
 use Rattle.turns.specs.Turns.{Call, callOf, isCurrent}
 use Rattle.calls.specs.Calls.{typeCall}
 use Rattle.calls.specs.Lists.{counted, listFrom, listCall}
 use Rattle.calls.proofs.Claims.{type-current, type-not-below, type-not-current}
 use Rattle.cut.specs.Renumbered.{newId}
 use Rattle.cut.specs.Section.{cutSection}
-use Rattle.reopened.specs.Reopened.{SameText, SameAnswer, HasNumber, Beside, both-ask, Reopens}
+use Rattle.reopened.specs.Reopened.{HasNumber, Beside, both-ask, Reopens}
 use Rattle.claims.specs.Demands.{Lent}
 use Rattle.cutclaims.specs.Lists.{SameList, ListsAlike}
 

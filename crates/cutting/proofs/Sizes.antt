@@ -1,9 +1,9 @@
 -- What is measured is what is written: the lengths of the header and of the types. Assumes nothing.
 use Prim.Native.Nat.{ℕ, zero, suc, _+_, _*_}
 use native.Mathlib.Omega.{arith}
-use mathlib.Core.Path.{_≡_, refl, sym, _∙_, ap}
+use mathlib.Core.Path.{_≡_, refl, _∙_, ap}
 use mathlib.Core.Bool.{Bool, true, false}
-use mathlib.Core.List.{List, [], _∷_, _++_}
+use mathlib.Core.List.{List, []}
 use lib.ListN.{length, getD, length-append}
 use lib.Dec.{eqb}
 use Rattle.btf.specs.declared.types.Btf.{Btf}

@@ -4,7 +4,6 @@ use mathlib.Core.Path.{_≡_, refl, ap, ap₂, _∙_, sym}
 use mathlib.Core.Bool.{Bool}
 use mathlib.Core.List.{List, [], _∷_, _++_, append-assoc}
 use native.Mathlib.Omega.{arith}
-use lib.Dec.{eqb}
 use borrow.Author.Tests.{ne-eqb}
 use Rattle.text.specs.Text.{ascii, pfx, join}
 use Rattle.rules.specs.Writer.{Ask, got, no, askThen, Writer, after, next, _⨾_, put, given}
@@ -12,7 +11,7 @@ use Rattle.rules.specs.Types.{Name, Member, Btf}
 use Rattle.rules.specs.Names.{Naming}
 use Rattle.rules.specs.Layout.{Pad, bitPadding, endOf}
 use Rattle.rules.specs.Decl.{pads, ownLine, tailText, bitSize, emitDeclTags, emitMembers}
-use Rattle.rules.specs.SystemV.{Line, pad, field, padLines, bodyLines, writeLines}
+use Rattle.rules.specs.SystemV.{Line, field, padLines, bodyLines, writeLines}
 use Rattle.decl.proofs.Sequences.{then-assoc, nothing-then, then-nothing}
 
 no-got : {A : Type 0} (c : ℕ) (a : A) → no c ≡ got a → ⊥

@@ -1,12 +1,11 @@
 -- Written by tools/vectors.py. Sections and requests of oracle/answers.cases at the limits of depth, each beside the answers.
 -- That they are equal is `deepSessions0-hold` of proofs/DeepSessions0.
-use Prim.Native.Nat.{ℕ}
-use mathlib.Core.Bool.{Bool, true, false}
+use mathlib.Core.Bool.{true, false}
 use mathlib.Core.List.{List, [], _∷_}
 use Rattle.text.specs.Text.{ascii}
 use Rattle.rules.specs.Machine.{one, all}
-use Rattle.vectors.specs.Base.{member, param, value, Vector, session}
-use Rattle.rules.specs.Types.{volatile, const, restrict, Void, Int, Ptr, Array, Composite, Enum, Enum64, Fwd, Typedef, Mod, Func, Var, Datasec, FuncProto, Float, DeclTag, TypeTag}
+use Rattle.vectors.specs.Base.{member, param, Vector, session}
+use Rattle.rules.specs.Types.{Void, Int, Ptr, Array, Composite, Typedef, FuncProto}
 
 abbrev pub deepSessions0 : List Vector
 deepSessions0 =

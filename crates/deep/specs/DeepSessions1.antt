@@ -1,12 +1,11 @@
 -- Written by tools/vectors.py. Sections and requests of oracle/answers.cases at the limits of depth, each beside the answers.
 -- That they are equal is `deepSessions1-hold` of proofs/DeepSessions1.
-use Prim.Native.Nat.{ℕ}
-use mathlib.Core.Bool.{Bool, true, false}
+use mathlib.Core.Bool.{true}
 use mathlib.Core.List.{List, [], _∷_}
 use Rattle.text.specs.Text.{ascii}
-use Rattle.rules.specs.Machine.{one, all}
-use Rattle.vectors.specs.Base.{member, param, value, Vector, session}
-use Rattle.rules.specs.Types.{volatile, const, restrict, Void, Int, Ptr, Array, Composite, Enum, Enum64, Fwd, Typedef, Mod, Func, Var, Datasec, FuncProto, Float, DeclTag, TypeTag}
+use Rattle.rules.specs.Machine.{one}
+use Rattle.vectors.specs.Base.{param, Vector, session}
+use Rattle.rules.specs.Types.{Void, Int, Array, Typedef, FuncProto}
 
 abbrev pub deepSessions1 : List Vector
 deepSessions1 =

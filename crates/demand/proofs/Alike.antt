@@ -1,7 +1,6 @@
 -- Two stores, and two machines, whose steps go alike: ordering, emission and sessions then go alike, with the same answers. So what is proved of a
 -- machine of lists holds of one in lent bytes. Assumes nothing.
 use Prim.Native.Nat.{ℕ, zero, suc, _+_, _<_, _≤_, _-_}
-use native.Mathlib.Decide.{ℕ-discrete}
 use native.Mathlib.Omega.{arith}
 use mathlib.Core.Path.{_≡_, refl, sym, _∙_, ap, subst}
 use mathlib.Core.Bool.{Bool, true, false, not, _&&_, _||_, true≢false}
@@ -10,10 +9,10 @@ use mathlib.Core.Logic.{_⊎_, inl, inr, _≢_}
 use lib.ListN.{length}
 use lib.Dec.{T as True, ltb, eqb, ltb→lt}
 use Rattle.rules.specs.Order.{Node, ignored, plain, listed, through, ptr, tdef, proto, comp, Table, isComp, Mark, new, busy, done, isDone, Store, Lawful, Framed, Res, ok, refused, bind, each, meet, pushIf, finish, enter, alias, fresh, visit, order}
-use Rattle.rules.specs.Machine.{Out, wrote, stuck, Machine, MLawful, Kept, isZero, pick, obind, eeach, once, mention, again, close, leaf, within, begin, allowed, look, emit, Sess, Answer, Req, one, all, shut, emitted, ordered, ordering, gate, single, onward, from, every, serve, run}
+use Rattle.rules.specs.Machine.{Out, wrote, stuck, Machine, MLawful, Kept, isZero, pick, obind, eeach, once, mention, again, close, leaf, within, begin, allowed, look, emit, Sess, Answer, Req, one, all, shut, emitted, ordered, gate, single, onward, from, every, serve, run}
 use Rattle.demand.specs.Needs.{kids}
 use Rattle.demand.proofs.Ways.{clash, clash-new, clash-busy, tally, tally-mono, tally-room}
-use Rattle.demand.proofs.Sound.{Done, Busy, Grew, Room, grew-refl, grew-trans, grew-busy, grew-busy′, grew-finish, grew-around, finish-good, mem-finish-inv, room-finish}
+use Rattle.demand.proofs.Sound.{Grew, Room, grew-refl, grew-trans, grew-busy, grew-busy′, grew-finish, grew-around, mem-finish-inv, room-finish}
 
 -- what two orderings come to
 pub data Both {S₁ S : Type 0} (P : S₁ → S → Bool → Type 0) : Res S₁ → Res S → Type 0 where

@@ -1,14 +1,14 @@
 -- Two ways of keeping names that are related give the same text and the same answers, for every list of requests. Assumes nothing.
-use Prim.Native.Nat.{ℕ, zero, suc, _+_, _<_}
+use Prim.Native.Nat.{ℕ, _+_, _<_}
 use mathlib.Core.Path.{_≡_, refl, ap, _∙_, sym, subst}
 use mathlib.Core.Bool.{Bool, true, false}
-use mathlib.Core.List.{List, [], _∷_, _++_, List·Memᴰ}
-use lib.ListN.{length, getD, set, length-set, replicate, length-replicate}
+use mathlib.Core.List.{List, [], _∷_, _++_}
+use lib.ListN.{length, getD, set, length-set, length-replicate}
 use lib.Dec.{leb}
 use Rattle.text.specs.Text.{Text, whole, cut, bytes}
-use Rattle.rules.specs.Order.{Mark, new}
-use Rattle.rules.specs.Machine.{Out, wrote, stuck, Sess, Answer, Req, one, all, single, every}
-use Rattle.rules.specs.Writer.{Said, said, Writer}
+use Rattle.rules.specs.Order.{new}
+use Rattle.rules.specs.Machine.{Sess, Req, one, all}
+use Rattle.rules.specs.Writer.{Said}
 use Rattle.rules.specs.Types.{Name, Btf, tableOf}
 use Rattle.rules.specs.Layout.{smaller}
 use Rattle.rules.specs.Names.{Space, Naming}
@@ -16,11 +16,11 @@ use Rattle.rules.specs.Emit.{definition, forward}
 use Rattle.rules.proofs.Closed.{TypeFits}
 use Rattle.rules.proofs.Related.{RelSaid, same, RelNaming, rel-definition, rel-forward}
 use Rattle.demand.specs.Needs.{WF}
-use Rattle.demand.specs.Lists.{Piece, defines, other, Line, says, cannot, Lines, Ls, putLine, listMachine, afresh}
-use Rattle.demand.specs.Session.{Known, fitting, lineOf, linesBy, machineBy, openedBy, textOf, Dump, dump, answerOf, dumped}
+use Rattle.demand.specs.Lists.{Piece, defines, other, cannot, Ls, putLine, afresh}
+use Rattle.demand.specs.Session.{Known, fitting, lineOf, linesBy, machineBy, openedBy, textOf, dump, answerOf, dumped}
 use Rattle.demand.proofs.Lists.{Sized}
 use Rattle.demand.proofs.Session.{machine-lawful}
-use Rattle.demand.proofs.Alike.{AlikeStore, AlikeMachine, BothOut, both-wrote, both-stuck, BothSess, BothAnswer, single-alike, every-alike}
+use Rattle.demand.proofs.Alike.{AlikeMachine, BothOut, both-wrote, both-stuck, BothSess, BothAnswer, single-alike, every-alike}
 
 -- all but the names
 abbrev strip : {U : Type 0} → Ls (Known U) → Ls ℕ

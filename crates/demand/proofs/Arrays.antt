@@ -2,11 +2,11 @@
 use Prim.Native.Nat.{ℕ, _<_}
 use mathlib.Core.Path.{_≡_, refl, sym, _∙_, ap, subst}
 use mathlib.Core.Bool.{Bool, true, false, not, _&&_, _||_}
-use mathlib.Core.List.{List, [], _∷_, List·Memᴰ, List·Memᴰ·head}
+use mathlib.Core.List.{[], _∷_, List·Memᴰ, List·Memᴰ·head}
 use mathlib.Core.Logic.{inr}
 use Rattle.rules.specs.Order.{Node, ignored, plain, listed, through, ptr, tdef, proto, comp, Table, isComp, refused}
 use Rattle.rules.specs.Machine.{Machine, Sess, ordering, single}
-use Rattle.demand.specs.Needs.{kids, weaken, isArray, Way, here, past, Needs, Chain, end, next, now, MeetsTwice}
+use Rattle.demand.specs.Needs.{kids, weaken, isArray, here, past, Needs, end, next, now, MeetsTwice}
 use Rattle.demand.specs.Demand.{Demand3}
 
 abbrev pub isPtr : Node → Bool

@@ -1,20 +1,18 @@
 -- Demand 3 holds of every lawful machine.
 use Prim.Native.Nat.{ℕ, zero, suc, _<_, _≤_, _-_}
-use native.Mathlib.Decide.{ℕ-discrete}
 use native.Mathlib.Omega.{arith}
 use mathlib.Core.Path.{_≡_, refl, sym, _∙_, ap, subst}
-use mathlib.Core.Bool.{Bool, true, false, not, _&&_, _||_, true≢false}
+use mathlib.Core.Bool.{Bool, true, false, _&&_, true≢false}
 use mathlib.Core.List.{List, [], _∷_, _++_, append-assoc, append-nil, List·Memᴰ, List·Memᴰ·head, List·Memᴰ·tail, List·Memᴰ·not-nil, List·Memᴰ·cases-cons, List·Memᴰ·append-cases, List·Memᴰ·eq-of-singleton, Memᴰ·append-left, Memᴰ·append-right, Memᴰ·cast}
 use mathlib.Core.Logic.{_⊎_, inl, inr, _≢_, _↔_}
-use mathlib.Core.WellFounded.{Acc}
 use lib.ListN.{length}
 use lib.Dec.{T as True, ltb, ltb→lt, lt→ltb}
-use Rattle.rules.specs.Order.{Node, Table, isComp, Mark, new, busy, done, Store, Lawful, Framed, Res, ok, refused, order}
-use Rattle.demand.specs.Needs.{kids, weaken, Way, here, past, Needs, NamedComp, Via, MeetsTwice, WF}
-use Rattle.demand.proofs.Placed.{isDef, Listable, keep, defs, Placed, Sorted, none, snoc}
-use Rattle.demand.proofs.Ways.{Star, stop, step, Loops, Cyc, Gee, agree, via-comp, loops-twice, acc-once, tally}
-use Rattle.demand.proofs.Sound.{hit-lower, Inv, Ready, Ordered, Holds, good, bad, request-ok}
-use Rattle.rules.specs.Machine.{Out, wrote, stuck, Machine, Fine, OHolds, ogood, obad, Same, Kept, Defines, MLawful, eeach, emit, Sess, Answer, Req, one, all, shut, emitted, ordered, ordering, gate, single, onward, from, every, serve, run}
+use Rattle.rules.specs.Order.{Table, isComp, Mark, new, busy, done, Res, ok, refused}
+use Rattle.demand.specs.Needs.{weaken, Way, here, past, NamedComp, MeetsTwice, WF}
+use Rattle.demand.proofs.Placed.{Listable, keep, defs, Placed, Sorted, none, snoc}
+use Rattle.demand.proofs.Ways.{Loops, Gee, agree, via-comp, loops-twice, acc-once, tally}
+use Rattle.demand.proofs.Sound.{hit-lower, Ready, Ordered, Holds, good, bad, request-ok}
+use Rattle.rules.specs.Machine.{Out, wrote, stuck, Machine, OHolds, ogood, obad, Same, Kept, MLawful, eeach, emit, Sess, Answer, Req, one, all, shut, emitted, ordered, ordering, gate, single, onward, from, every, serve, run}
 use Rattle.demand.proofs.Quiet.{oholds-bind, oholds-map, defs-append, defs-one, EBusy, TopPost, Sound-top, emit-top}
 use Rattle.demand.specs.Demand.{Once, Demand3}
 

@@ -5,13 +5,13 @@ use native.Mathlib.Omega.{arith}
 use mathlib.Core.Path.{_≡_, refl, ap, _∙_, sym, subst}
 use mathlib.Core.Bool.{Bool, true, false, not, _&&_, _||_, true≢false}
 use mathlib.Core.List.{List, [], _∷_, List·Memᴰ, List·Memᴰ·head, List·Memᴰ·tail, List·Memᴰ·not-nil}
-use mathlib.Core.Logic.{_⊎_, inl, inr, ⊎-elim}
+use mathlib.Core.Logic.{_⊎_, ⊎-elim}
 use lib.Dec.{ltb}
 use borrow.Author.Tests.{ltb-true}
 use Rattle.lent.proofs.Laws.{le-or-lt}
 use Rattle.rules.specs.Order.{Node, ignored, plain, listed, through, ptr, tdef, proto, comp, Table}
-use Rattle.demand.specs.Needs.{kids, isHolder, WF, ProtoVia}
-use Rattle.demand.specs.Proto.{Step, yes-proto, nothing, to, stepOf, chase}
+use Rattle.demand.specs.Needs.{kids, isHolder, WF}
+use Rattle.demand.specs.Proto.{yes-proto, nothing, to, stepOf, chase}
 use Rattle.demand.specs.Fit.{isPlain, allBelow, noneProto, fitNode, fitTo, fit}
 use Rattle.demand.proofs.Proto.{chase-no}
 

@@ -1,12 +1,12 @@
 -- The machine of lists is lawful, and demand 3 holds of it, if no line is refused as a cycle.
 use Prim.Native.Nat.{ℕ, zero, suc, _<_}
 use mathlib.Core.Path.{_≡_, refl, sym, _∙_, ap, subst}
-use mathlib.Core.Bool.{Bool, true, false}
+use mathlib.Core.Bool.{true}
 use mathlib.Core.List.{List, [], _∷_, _++_, append-nil}
-use lib.ListN.{length, getD, set, length-set, replicate, length-replicate}
+use lib.ListN.{length, getD, length-set, replicate, length-replicate}
 use lib.Seq.{getD-set-same, getD-set-other}
-use Rattle.rules.specs.Order.{Table, Mark, new, Store, Lawful, Framed}
-use Rattle.rules.specs.Machine.{Out, wrote, stuck, Machine, Fine, OHolds, ogood, obad, Same, Kept, Defines, MLawful, Req, run}
+use Rattle.rules.specs.Order.{Table, new}
+use Rattle.rules.specs.Machine.{Fine, OHolds, ogood, obad, Same, Defines, MLawful, Req, run}
 use Rattle.demand.specs.Needs.{WF}
 use Rattle.demand.specs.Demand.{Demand3}
 use Rattle.demand.specs.Lists.{Piece, defines, other, tagsOf, Line, says, cannot, Lines, Ls, putLine, listMachine, afresh}

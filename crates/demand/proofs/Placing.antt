@@ -6,7 +6,7 @@ use mathlib.Core.List.{List}
 use lib.ListN.{length}
 use lib.Dec.{leb}
 use borrow.Author.Tests.{le-leb}
-use Rattle.text.specs.Text.{Text, whole, cut, bytes, Out, done, stopped, place, written, putText}
+use Rattle.text.specs.Text.{Text, whole, cut, bytes, Out, stopped, place, written, putText}
 use Rattle.rules.specs.Writer.{Said, said}
 use Rattle.rules.specs.Layout.{smaller}
 use Rattle.rules.specs.Place.{Wrote, wrote, refused, withNames, putSaid}

@@ -1,15 +1,15 @@
 -- Refusal 7 as a test that ends: follow single targets for as many steps as there are types. What it passes has no prototype there.
-use Prim.Native.Nat.{ℕ, zero, suc, _+_, _<_, _≤_}
+use Prim.Native.Nat.{ℕ, zero, suc, _<_, _≤_}
 use native.Mathlib.Decide.{ℕ-discrete}
 use native.Mathlib.Omega.{arith}
 use mathlib.Core.Path.{_≡_, refl, sym, _∙_, ap, subst}
-use mathlib.Core.Bool.{Bool, true, false, not, _&&_, true≢false, and-false}
-use mathlib.Core.List.{List, [], _∷_, List·Memᴰ, List·Memᴰ·head, List·Memᴰ·not-nil, List·Memᴰ·eq-of-singleton}
+use mathlib.Core.Bool.{true, false, not, _&&_, true≢false, and-false}
+use mathlib.Core.List.{[], _∷_, List·Memᴰ, List·Memᴰ·head, List·Memᴰ·not-nil, List·Memᴰ·eq-of-singleton}
 use mathlib.Core.Logic.{_⊎_, inl, inr, _≢_}
-use Rattle.rules.specs.Order.{Node, ignored, plain, listed, through, ptr, tdef, proto, comp, Table, isComp, Mark, new, busy, done}
+use Rattle.rules.specs.Order.{Node, ignored, plain, listed, through, ptr, tdef, proto, comp, Table, isComp, Mark, new, done}
 use Rattle.demand.specs.Needs.{kids, weaken, isProto, ProtoVia, it, on}
 use Rattle.demand.proofs.Ways.{tally, tally-max, tally-more}
-use Rattle.demand.specs.Proto.{Step, yes-proto, nothing, to, stepOf, chaseBy, chase}
+use Rattle.demand.specs.Proto.{yes-proto, to, stepOf, chaseBy, chase}
 
 data Links (T : Table) : ℕ → ℕ → Type 0 where
   arrived : {x k : ℕ} → stepOf (T .node x) ≡ yes-proto → k ≡ 0 → Links T x k

@@ -4,14 +4,14 @@ use native.Mathlib.Decide.{ℕ-discrete}
 use native.Mathlib.Omega.{arith}
 use mathlib.Core.Path.{_≡_, refl, sym, _∙_, ap, subst}
 use mathlib.Core.Bool.{Bool, true, false, not, _&&_, _||_, true≢false}
-use mathlib.Core.List.{List, [], _∷_, _++_, append-assoc, append-nil, List·Memᴰ, List·Memᴰ·head, List·Memᴰ·tail}
+use mathlib.Core.List.{List, [], _∷_, _++_, append-nil, List·Memᴰ, List·Memᴰ·head, List·Memᴰ·tail}
 use mathlib.Core.Logic.{_⊎_, inl, inr, _≢_}
 use lib.Dec.{eqb}
-use Rattle.rules.specs.Order.{Node, ignored, plain, listed, through, ptr, tdef, proto, comp, Table, isComp, Mark, new, busy, done, Store}
-use Rattle.demand.specs.Needs.{kids, weaken, Way, here, past, Needs, NamedComp, WF}
+use Rattle.rules.specs.Order.{Node, ignored, plain, listed, through, ptr, tdef, proto, comp, Table, isComp, Mark, new, busy, done}
+use Rattle.demand.specs.Needs.{kids, weaken, here, NamedComp, WF}
 use Rattle.demand.proofs.Placed.{isDef, Listable, keep, defs}
-use Rattle.demand.proofs.Ways.{Star, stop, Loops, Cyc, Gee, gee-past, gee-weaken, gee-member, way-lower, weaken-mono}
-use Rattle.rules.specs.Machine.{Out, wrote, stuck, Machine, Fine, OHolds, ogood, obad, Same, Defines, MLawful, isZero, pick, obind, eeach, once, mention, again, close, leaf, within, begin, allowed, look, emit}
+use Rattle.demand.proofs.Ways.{stop, Gee, gee-past, gee-weaken, gee-member, way-lower, weaken-mono}
+use Rattle.rules.specs.Machine.{Out, wrote, Machine, Fine, OHolds, ogood, obad, Same, MLawful, isZero, obind, eeach, once, mention, again, close, leaf, within, begin, allowed, look, emit}
 
 fine-12 : Fine 12
 fine-12 e = omega arith

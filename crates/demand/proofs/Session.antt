@@ -1,13 +1,12 @@
 -- Demand 3 holds of the header writer's own machine: every table that opening lets pass, every list of requests, every room.
 use Prim.Native.Nat.{ℕ, _+_}
 use native.Mathlib.Omega.{arith}
-use mathlib.Core.Path.{_≡_, refl}
 use mathlib.Core.Bool.{Bool, true, false}
 use mathlib.Core.List.{List}
-use mathlib.Core.Logic.{_⊎_, inl, inr}
+use mathlib.Core.Logic.{inl, inr}
 use lib.ListN.{length}
 use lib.Dec.{leb}
-use Rattle.text.specs.Text.{Text, whole, cut, bytes}
+use Rattle.text.specs.Text.{Text, bytes}
 use Rattle.rules.specs.Machine.{Fine, MLawful, Req, run}
 use Rattle.rules.specs.Writer.{Said, said, saidText}
 use Rattle.rules.specs.Types.{Btf, tableOf}
@@ -18,7 +17,7 @@ use Rattle.rules.proofs.Closed.{Code}
 use Rattle.rules.proofs.Refusals.{Told, told, cut-by, tells-definition, tells-forward}
 use Rattle.demand.specs.Needs.{WF}
 use Rattle.demand.specs.Demand.{Demand3}
-use Rattle.demand.specs.Lists.{Line, says, cannot, Lines}
+use Rattle.demand.specs.Lists.{cannot}
 use Rattle.demand.specs.Session.{Known, fitting, lineOf, linesBy, machineBy, openedBy, machine, noNames, opened}
 use Rattle.demand.proofs.Lists.{FineLine, fine-says, fine-cannot, FineLines, Sized, listLawful, lists-demand3}
 

@@ -4,14 +4,14 @@ use native.Mathlib.Decide.{ℕ-discrete}
 use native.Mathlib.Omega.{arith}
 use mathlib.Core.Path.{_≡_, refl, sym, _∙_, ap, subst}
 use mathlib.Core.Bool.{Bool, true, false, not, _&&_, _||_, true≢false, and-false}
-use mathlib.Core.List.{List, [], _∷_, _++_, append-assoc, List·Memᴰ, List·Memᴰ·head, List·Memᴰ·tail, List·Memᴰ·not-nil, List·Memᴰ·cases-cons, List·Memᴰ·append-cases, List·Memᴰ·eq-of-singleton, Memᴰ·append-left, Memᴰ·append-right, Memᴰ·cast}
+use mathlib.Core.List.{List, [], _∷_, _++_, append-assoc, List·Memᴰ, List·Memᴰ·head, List·Memᴰ·tail, List·Memᴰ·not-nil, List·Memᴰ·cases-cons, List·Memᴰ·append-cases, List·Memᴰ·eq-of-singleton, Memᴰ·append-left, Memᴰ·append-right}
 use mathlib.Core.Logic.{_⊎_, inl, inr, _≢_}
 use mathlib.Core.WellFounded.{Acc, Acc·intro}
 use lib.ListN.{length, length-append}
 use Rattle.rules.specs.Order.{Node, ignored, plain, listed, through, ptr, tdef, proto, comp, Table, isComp, Mark, new, busy, done, isDone, Store, Lawful, Framed, Res, ok, refused, bind, each, meet, pushIf, finish as finishK, enter, alias, fresh, visit, order}
-use Rattle.demand.specs.Needs.{kids, weaken, isArray, isProto, Way, here, past, Needs, NamedComp, Via, direct, through-nameless, MeetsTwice, ProtoVia, WF}
-use Rattle.demand.proofs.Placed.{isDef, Listable, Placed, Sorted, none, snoc}
-use Rattle.demand.proofs.Ways.{clash, clash-new, clash-busy, only, loosen, loosen-mono, Star, stop, step, Loops, Cyc, Gee, gee-past, gee-weaken, gee-member, way-lower, way-comp, via-comp, agree, and-yes, and-no, or-yes, loops-twice, acc-once, tally, tally-mono, tally-room, tally-more}
+use Rattle.demand.specs.Needs.{kids, weaken, isArray, Way, here, past, Needs, NamedComp, Via, direct, through-nameless, MeetsTwice, WF}
+use Rattle.demand.proofs.Placed.{isDef, Listable, Placed, Sorted, snoc}
+use Rattle.demand.proofs.Ways.{clash, clash-new, clash-busy, only, loosen, loosen-mono, stop, Loops, Gee, gee-past, gee-weaken, gee-member, way-lower, via-comp, agree, and-yes, and-no, or-yes, loops-twice, acc-once, tally, tally-mono, tally-room, tally-more}
 
 -- What a result comes to: Q of the state and the report, or a refusal, 12, or 13 with E.
 

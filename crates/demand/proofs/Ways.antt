@@ -4,13 +4,11 @@ use native.Mathlib.Decide.{ℕ-discrete}
 use native.Mathlib.Omega.{arith}
 use mathlib.Core.Path.{_≡_, refl, sym, _∙_, ap, subst}
 use mathlib.Core.Bool.{Bool, true, false, not, _&&_, _||_, true≢false}
-use mathlib.Core.List.{List, [], _∷_, _++_, append-assoc, List·Memᴰ, List·Memᴰ·head, List·Memᴰ·tail, List·Memᴰ·not-nil, List·Memᴰ·cases-cons, List·Memᴰ·append-cases, List·Memᴰ·eq-of-singleton, Memᴰ·append-left, Memᴰ·append-right, Memᴰ·cast}
+use mathlib.Core.List.{List, [], _∷_, List·Memᴰ, List·Memᴰ·head, List·Memᴰ·tail, List·Memᴰ·not-nil, List·Memᴰ·cases-cons, List·Memᴰ·eq-of-singleton}
 use mathlib.Core.Logic.{_⊎_, inl, inr, _≢_}
 use mathlib.Core.WellFounded.{Acc, Acc·intro}
-use lib.ListN.{length, length-append}
 use Rattle.rules.specs.Order.{Node, ignored, plain, listed, through, ptr, tdef, proto, comp, Table, isComp, Mark, new, busy, done}
-use Rattle.demand.specs.Needs.{kids, weaken, isArray, isHolder, isProto, Way, here, past, Needs, NamedComp, Via, direct, through-nameless, Chain, end, next, Twice, now, later, MeetsTwice, ProtoVia, it, on, WF}
-use Rattle.demand.proofs.Placed.{isDef, Listable, Placed, Sorted, none, snoc}
+use Rattle.demand.specs.Needs.{kids, weaken, isArray, isProto, Way, here, past, Needs, Via, direct, through-nameless, Chain, end, next, Twice, now, later, MeetsTwice, ProtoVia, it, on, WF}
 
 pub clash : (m : Mark) → m ≡ busy → m ≡ done → ⊥
 clash m p q = let z : _≡_ {A = ℕ} 0 1 = cc in omega arith

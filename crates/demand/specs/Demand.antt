@@ -1,7 +1,7 @@
 -- Demand 3, of a session after a list of requests.
 use Prim.Native.Nat.{ℕ, _<_}
 use mathlib.Core.Path.{_≡_}
-use mathlib.Core.Bool.{Bool, true}
+use mathlib.Core.Bool.{true}
 use mathlib.Core.List.{List, _∷_, _++_, List·Memᴰ}
 use mathlib.Core.Logic.{_↔_}
 use Rattle.rules.specs.Order.{Table, refused}

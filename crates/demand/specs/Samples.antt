@@ -1,5 +1,4 @@
 -- Samples of document 01 as whole programs: each section beside what the program prints of it. That they are equal is `programs-hold` of proofs/Samples.
-use Prim.Native.Nat.{ℕ}
 use mathlib.Core.List.{List, [], _∷_}
 use Rattle.rules.specs.Samples.{Sample, gives, threeOfX, node, itself, behindArray}
 use Rattle.rules.specs.Listed.{withStrongArrays}

@@ -2,22 +2,21 @@
 use Prim.Native.Nat.{ℕ, zero, suc, _+_, _-_, _<_, _≤_}
 use mathlib.Core.Path.{_≡_, refl, ap, _∙_, sym, subst}
 use mathlib.Core.List.{List, []}
-use mathlib.Core.Bool.{Bool, true, false, not, _||_, true≢false}
+use mathlib.Core.Bool.{Bool, true, false, _||_, true≢false}
 use mathlib.Core.Logic.{_⊎_, inl, inr, ⊎-elim}
 use native.Mathlib.Omega.{arith}
-use native.Mathlib.Numerals.{add-one}
-use lib.Dec.{eqb, ltb, leb}
+use lib.Dec.{eqb, ltb}
 use lib.ListN.{length}
 use borrow.Author.Tests.{ne-eqb, le-leb, lt-leb}
 use Rattle.lent.proofs.Laws.{le-or-lt}
-use Rattle.text.specs.Text.{Text, cut, bytes, putOut, written, putText}
+use Rattle.text.specs.Text.{cut, bytes, putOut, written, putText}
 use Rattle.text.proofs.TextLaws.{put-fits, stays}
-use Rattle.rules.specs.Order.{Table, Node, ignored, plain, listed, through, ptr, tdef, proto, comp, Mark, new, busy, done, Res, ok, refused, bind, fresh, visit, order}
+use Rattle.rules.specs.Order.{Table, Node, ignored, plain, listed, through, ptr, tdef, proto, comp, Mark, new, busy, done, Res, ok, refused, fresh, visit, order}
 use Rattle.rules.specs.Machine.{Out, wrote, stuck, Machine, obind, eeach, emit, Sess, Answer, shut, emitted, ordered, ordering, gate, single}
 use Rattle.rules.specs.Types.{BtfType, Btf as Rules, nodeOf, tableOf}
 use Rattle.btf.specs.declared.types.Btf.{Btf}
 use Rattle.btf.specs.declared.types.BtfType.{BtfType as Record}
-use Rattle.btf.specs.Cells.{getField, putField}
+use Rattle.btf.specs.Cells.{getField}
 use Rattle.btf.specs.Records.{kindOf, recordById}
 use Rattle.btf.specs.Table.{from, typeOf, btfOf}
 use Rattle.btf.proofs.KindLaws.{by-kind, type-0, type-1, type-2, type-3, type-4, type-5, type-6, type-7, type-8, type-9, type-10, type-11, type-12, type-13, type-14, type-15, type-16, type-17, type-18, type-19, type-none}

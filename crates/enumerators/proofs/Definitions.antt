@@ -1,10 +1,9 @@
 -- Heads, ends and whole definitions of enums. Assumes nothing.
 use Prim.Native.Nat.{ℕ, zero, suc, _+_}
-use mathlib.Core.Path.{_≡_, refl, ap, ap₂, _∙_, sym}
+use mathlib.Core.Path.{_≡_, refl, ap, _∙_, sym}
 use mathlib.Core.List.{List, [], _∷_, _++_, append-assoc}
-use mathlib.Core.Bool.{Bool, true, false}
+use mathlib.Core.Bool.{true, false}
 use Rattle.text.specs.Text.{ascii, pfx, whole, join, putOut, putText}
-use Rattle.text.proofs.TextLaws.{put-seq, put-same}
 use Rattle.rules.specs.Types.{Name, Enumerator, Btf as Rules}
 use Rattle.rules.specs.Writer.{Writer, after, next, put, nothing, _⨾_}
 use Rattle.rules.specs.Place.{outOf, putSaid}

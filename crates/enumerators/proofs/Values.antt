@@ -1,14 +1,13 @@
 -- The values of an enum: each one's line, and the loop over them. Assumes nothing.
-use Prim.Native.Nat.{ℕ, zero, suc, _+_, _-_, _*_, _<_, _≤_}
+use Prim.Native.Nat.{ℕ, suc, _+_, _-_, _<_, _≤_}
 use mathlib.Core.Path.{_≡_, refl, ap, ap₂, _∙_, sym}
 use mathlib.Core.List.{List, [], _∷_, _++_, append-assoc}
-use mathlib.Core.Bool.{Bool, true, false}
+use mathlib.Core.Bool.{Bool}
 use native.Mathlib.Omega.{arith}
-use lib.Dec.{leb}
 use borrow.Author.Tests.{lt-ltb, le-ltb, le-leb, lt-leb}
 use Rattle.text.specs.Text.{ascii, pfx, whole, join, putOut, putText}
-use Rattle.text.proofs.TextLaws.{put-seq, put-same}
-use Rattle.rules.specs.Types.{Name, Enumerator, Btf as Rules}
+use Rattle.text.proofs.TextLaws.{put-seq}
+use Rattle.rules.specs.Types.{Enumerator, Btf as Rules}
 use Rattle.rules.specs.Writer.{Writer, after, next, put, _⨾_}
 use Rattle.rules.specs.Place.{outOf, putSaid}
 use Rattle.rules.specs.Names.{spelled, resolveName}

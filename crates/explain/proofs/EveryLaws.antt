@@ -1,42 +1,38 @@
 -- A law for each return of src/every.rt. Assumes nothing.
-use Prim.Native.Nat.{ℕ, zero, suc, zero-le, _+_, _*_, _-_, _/_, _<_, _≤_}
-use mathlib.Core.Path.{_≡_, refl, ap, _∙_, sym, subst}
+use Prim.Native.Nat.{ℕ, zero, suc, _+_, _*_, _-_, _/_, _<_, _≤_}
+use mathlib.Core.Path.{_≡_, refl, ap, _∙_, sym}
 use mathlib.Core.Bool.{Bool, true, false, not}
 use mathlib.Core.List.{List, [], _∷_, _++_, append-assoc, append-nil}
 use native.Mathlib.Omega.{arith}
 use native.Mathlib.Numerals.{add-one}
-use lib.ListN.{length, getD, take, drop, length-append, List·getD-append}
+use lib.ListN.{length, getD, take, List·getD-append}
 use lib.Seq.{length-take-le, getD-append-add, getD-take}
 use borrow.Author.Tests.{not-true, not-false}
 use borrow.Rule.Slice.PartMut.{midOf, postOf, putMid, mid-len, same-len-mid}
 use Rattle.lent.specs.Words.{getWord}
 use Rattle.lent.proofs.Laws.{get-in}
-use Rattle.rules.specs.Machine.{Out, wrote, stuck}
-use Rattle.rules.specs.Types.{tableOf}
 use Rattle.btf.specs.declared.types.Btf.{Btf}
 use Rattle.btf.specs.Cells.{getField}
 use Rattle.btf.specs.Table.{btfOf}
 use Rattle.header.specs.Header.{btfOf as settingsOf}
 use Rattle.marks.specs.Work.{markOf, tableIn}
-use Rattle.sheet.specs.Sheet.{Sheet, workMachine, dumped, isIdle}
+use Rattle.sheet.specs.Sheet.{isIdle}
 use Rattle.dump.proofs.Requests.{idle-request}
 use Rattle.turns.specs.declared.Session.{Session}
 use Rattle.turns.specs.declared.Turn.{Turn}
-use Rattle.turns.specs.declared.Reached.{Reached}
 use Rattle.turns.specs.Answers.{answerOf}
-use Rattle.turns.specs.Turns.{Call, callOf, turnOf, isCurrent, Reach, reached, refusedBy, reachOf, settled, unchanged, visitsIn}
+use Rattle.turns.specs.Turns.{callOf, turnOf, isCurrent, Reach, reached, refusedBy, reachOf, settled, unchanged, visitsIn}
 use Rattle.turns.proofs.Laws.{reach-accepted, reach-refused}
 use Rattle.calls.specs.Refusals.{notCurrent, refusal}
 use Rattle.calls.specs.Calls.{cameTo, lentTo, requested}
-use Rattle.calls.proofs.Laws.{asked, idle-reach}
-use Rattle.causes.specs.Causes.{Entry, entry, Noted, upTo, showsIn, filled, entriesIn}
+use Rattle.calls.proofs.Laws.{idle-reach}
+use Rattle.causes.specs.Causes.{Entry, entry, upTo, filled, entriesIn}
 use Rattle.causes.specs.Claims.{forget}
-use Rattle.causes.specs.Bytes.{dumpedNoted, Reached as Came, entriesAfter, cameToNoted, requestedNoted, onwardNoted, requestedFromNoted, CauseCall, settledNoted, leftAlone, typesCauses}
+use Rattle.causes.specs.Bytes.{Reached as Came, entriesAfter, cameToNoted, requestedNoted, onwardNoted, requestedFromNoted, leftAlone, typesCauses}
 use Rattle.noted.specs.Noted.{entryAt, entriesOf}
 use Rattle.noted.proofs.Laws.{entries-length}
 use Rattle.shifted.proofs.Shift.{behind, requested-shift, idle-noted}
 use Rattle.explain.specs.declared.Told.{Told}
-use Rattle.explain.specs.declared.Explained.{Explained}
 use Rattle.explain.specs.Explained.{cameOf, explainedOf}
 use Rattle.explain.proofs.Laws.{explained-is, is-11, settles}
 

@@ -1,38 +1,36 @@
 -- A law for each return. Assumes nothing.
-use Prim.Native.Nat.{ℕ, zero, suc, zero-le, _+_, _*_, _-_, _/_, _<_, _≤_}
+use Prim.Native.Nat.{ℕ, zero-le, _+_, _*_, _-_, _<_, _≤_}
 use mathlib.Core.Path.{_≡_, refl, ap, _∙_, sym, subst}
 use mathlib.Core.Bool.{Bool, true, false, not}
-use mathlib.Core.List.{List, [], _∷_, _++_}
+use mathlib.Core.List.{List, [], _++_}
 use mathlib.Core.Logic.{⊎-elim}
 use native.Mathlib.Omega.{arith}
 use lib.ListN.{length, getD, take, drop, replicate}
-use lib.Dec.{eqb, leb, ltb}
+use lib.Dec.{eqb, ltb}
 use lib.Seq.{length-take-le, take-at}
 use borrow.Author.Tests.{ltb-true, eq-eqb, ne-eqb, le-ltb, lt-ltb, not-true, not-false}
 use borrow.Rule.Slice.PartMut.{midOf, postOf, putMid, mid-len, same-len-mid}
-use Rattle.text.specs.Text.{Out as TextOut}
 use Rattle.lent.proofs.Laws.{le-or-lt}
-use Rattle.text.proofs.TextLaws.{out-done, out-stopped}
+use Rattle.text.proofs.TextLaws.{out-stopped}
 use Rattle.rules.specs.Order.{Table, Res, ok, refused}
 use Rattle.rules.specs.Machine.{Out, wrote, stuck, Machine, pick, obind, eeach, emit}
 use Rattle.rules.specs.Types.{Btf as Rules, tableOf}
-use Rattle.rules.specs.Place.{outOf, withNames}
 use Rattle.btf.specs.declared.types.Btf.{Btf}
 use Rattle.btf.specs.Table.{btfOf}
 use Rattle.header.specs.Header.{btfOf as settingsOf}
-use Rattle.sheet.specs.Sheet.{Sheet, sheetOf, emitOut, workMachine, listedOut, dumped}
+use Rattle.sheet.specs.Sheet.{Sheet, emitOut, workMachine, listedOut, dumped}
 use Rattle.sheet.proofs.Laws.{sheet}
 use Rattle.sheet.proofs.Laws as plainly
 use Rattle.turns.specs.declared.Session.{Session}
 use Rattle.turns.specs.declared.Turn.{Turn}
 use Rattle.turns.specs.declared.Reached.{Reached}
 use Rattle.turns.specs.Answers.{answerOf}
-use Rattle.turns.specs.Turns.{Call, callOf, turnOf, isCurrent, tableFor, Reach, reached, refusedBy, reachOf, thenZeros, settled, unchanged}
+use Rattle.turns.specs.Turns.{callOf, turnOf, isCurrent, reached, refusedBy, reachOf, settled, unchanged}
 use Rattle.turns.proofs.Laws.{reach-accepted, reach-refused, cleared, none-follow}
 use Rattle.calls.specs.Refusals.{number, value, notCurrent, idNotBelow, refusal}
-use Rattle.calls.specs.Calls.{limitOf, arrivedAt, cameTo, lentTo, requested}
+use Rattle.calls.specs.Calls.{limitOf, arrivedAt, cameTo, requested}
 use Rattle.calls.proofs.Laws.{arrived-in, arrived-past, asked, one-bound, one-reach}
-use Rattle.causes.specs.Causes.{Entry, Led, orderLed, listedEntry, Noted, withEntries, upTo, always, emitNoted, eachListed, showsIn, filled, entriesIn}
+use Rattle.causes.specs.Causes.{Entry, Led, orderLed, listedEntry, Noted, withEntries, upTo, emitNoted, eachListed, showsIn, filled, entriesIn}
 use Rattle.causes.specs.Claims.{forget, Numbered, Lined}
 use Rattle.causes.specs.Bytes.{listedNoted, dumpedNoted, Reached as Came, entriesAfter, cameToNoted, requestedNoted, CauseCall, settledNoted, leftAlone, typeCauses}
 use Rattle.causes.proofs.Ordering.{forgetLed, order-forgets}
@@ -43,7 +41,6 @@ use Rattle.noted.proofs.Laws.{paper, goes, halts, entries-length}
 use Rattle.led.specs.Kept.{dumpedKept}
 use Rattle.led.proofs.Requests.{dumped-kept, few-types}
 use Rattle.explain.specs.declared.Told.{Told}
-use Rattle.explain.specs.declared.Explained.{Explained}
 use Rattle.explain.specs.Explained.{cameOf, explainedOf}
 use Rattle.explain.proofs.Bytes.{filled-is}
 

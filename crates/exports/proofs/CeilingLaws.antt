@@ -1,7 +1,7 @@
 -- A law for each return of c_calls/src/ceilings.rt. Assumes nothing.
 use Prim.Native.Nat.{ℕ, _<_, _≤_}
-use mathlib.Core.Path.{_≡_, refl, ap, _∙_, sym}
-use mathlib.Core.List.{List, [], _∷_}
+use mathlib.Core.Path.{_≡_, ap, _∙_, sym}
+use mathlib.Core.List.{List}
 use lib.ListN.{length}
 use borrow.Author.Tests.{lt-ltb, le-ltb}
 use Rattle.turns.specs.declared.Session.{Session}
@@ -14,7 +14,7 @@ use Rattle.calls.proofs.Lists.{ids-none, ids-some}
 use Rattle.metering.specs.Lists.{listCallWithin}
 use Rattle.metering.specs.declared.Counted.{Counted}
 use Rattle.metering.specs.Within.{CallWithin, countedOf, typeCallWithin, typesCallWithin}
-use Rattle.exports.specs.Exports.{exportOf, answeredBy}
+use Rattle.exports.specs.Exports.{answeredBy}
 use Rattle.exports.specs.Ceilings.{withinExportOf, answeredWithin, typeWithinExport, typesWithinExport, listedWithin, listWithinExport}
 
 module _ (c : ℕ) (r section w t : List ℕ) where

@@ -1,17 +1,16 @@
 -- A law for each return of the calls of c_calls/src/lib.rt. Assumes nothing.
-use Prim.Native.Nat.{ℕ, _-_, _/_, _<_, _≤_}
+use Prim.Native.Nat.{ℕ, _-_, _<_, _≤_}
 use mathlib.Core.Path.{_≡_, ap, _∙_, sym}
 use mathlib.Core.List.{List}
-use lib.Dec.{ltb}
 use lib.ListN.{length}
 use borrow.Author.Tests.{lt-ltb, le-ltb}
 use Rattle.turns.specs.declared.Session.{Session}
 use Rattle.turns.specs.declared.Turn.{Turn}
-use Rattle.turns.specs.Turns.{Call, callOf}
+use Rattle.turns.specs.Turns.{callOf}
 use Rattle.calls.specs.Calls.{openCall, typeCall, typesCall}
 use Rattle.c_words.specs.Words.{decoded, packed}
 use Rattle.c_record.specs.Record.{recordOpened, recordAfter}
-use Rattle.exports.specs.Exports.{Export, exportOf, openedBy, answeredBy, openExport, typeExport, typesExport}
+use Rattle.exports.specs.Exports.{exportOf, openedBy, answeredBy, openExport, typeExport, typesExport}
 
 -- ---- the exports
 module _ (r section w t : List ℕ) where

@@ -11,7 +11,6 @@ use borrow.Author.Tests.{le-ltb, ltb-true}
 use Rattle.lent.specs.Words.{getWord, putWord}
 use Rattle.lent.proofs.Laws.{put-again, put-swap}
 use Rattle.turns.specs.declared.Answer.{Answer}
-use Rattle.turns.specs.declared.Answer.the-variants.{Refused}
 use Rattle.turns.specs.declared.Session.{Session}
 use Rattle.turns.specs.declared.Turn.{Turn}
 use Rattle.turns.specs.Answers.{numberOf, valueOf, answerOf}

@@ -1,20 +1,19 @@
 -- A table that opening accepts has at most one name for each type and one for each enumerator, and these are few. Assumes nothing.
 use Prim.Native.Nat.{ℕ, zero, suc, _+_, _-_, _≤_, _<_}
 use mathlib.Core.Path.{_≡_, refl, ap, _∙_, sym, subst}
-use mathlib.Core.Bool.{Bool, true, false, true≢false}
-use mathlib.Core.List.{List, [], _∷_, _++_}
-use mathlib.Core.Logic.{_⊎_, inl, inr}
+use mathlib.Core.Bool.{Bool, true, false}
+use mathlib.Core.List.{List}
 use native.Mathlib.Omega.{arith}
 use lib.ListN.{length, getD, length-append}
 use Rattle.rules.specs.Types.{Enumerator, BtfType, Void, Int, Ptr, Array, Composite, Enum, Enum64, Fwd, Typedef, Mod, Func, Var, Datasec, FuncProto, Float, DeclTag, TypeTag, Btf as Rules}
-use Rattle.rules.specs.Names.{Space, tagSpace, identSpace}
+use Rattle.rules.specs.Names.{tagSpace, identSpace}
 use Rattle.btf.specs.declared.types.Btf.{Btf}
 use Rattle.btf.specs.declared.types.BtfType.{BtfType as Record}
 use Rattle.btf.specs.Records.{sectionWord, kindOf, vlenOf, recordAt, recordById}
 use Rattle.btf.specs.Table.{from, valueOf, value64Of, typeOf, btfOf}
 use Rattle.btf.proofs.KindLaws.{by-kind, type-0, type-1, type-2, type-3, type-4, type-5, type-6, type-7, type-8, type-9, type-10, type-11, type-12, type-13, type-14, type-15, type-16, type-17, type-18, type-19, type-none}
 use Rattle.filled.specs.Left.{isEnum, valuesAt, enumsTo}
-use Rattle.opened.specs.Table.{typesOf, enumeratorsOf, recordPlace, recordKind, indexOf}
+use Rattle.opened.specs.Table.{typesOf, enumeratorsOf, recordPlace, indexOf}
 use Rattle.opened.specs.Opened.{workOf}
 use Rattle.opened.specs.Causes.{openingNumber}
 use Rattle.opened.proofs.Index.{types-few, some-type, index-place, index-kind}
@@ -23,7 +22,7 @@ use Rattle.opened.proofs.ReadBack.{header-ok, types-ok, section-short, order-ok
 use Rattle.claims.specs.Table.{headerOf, openedTable}
 use Rattle.claims.proofs.Described.{type-zero}
 use Rattle.claims.proofs.Sound.{opened-wf}
-use Rattle.apart.specs.Apart.{valueNames, tagsIn, identsIn, namesIn, namesTo, tableNames, FewNames}
+use Rattle.apart.specs.Apart.{valueNames, tagsIn, identsIn, namesTo, FewNames}
 use Rattle.apart.proofs.Claims.{names-cannot-collide}
 use Rattle.apart.proofs.Tables.{table-ends}
 use Rattle.few.specs.Claims.{Claim}

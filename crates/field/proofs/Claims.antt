@@ -4,9 +4,9 @@ use Prim.Native.Nat.{ℕ, zero, suc, _+_, _-_, _*_, _/_, _<_, _≤_}
 use mathlib.Core.Path.{_≡_, refl, ap, _∙_, sym, subst}
 use mathlib.Core.Bool.{Bool, true, false}
 use mathlib.Core.List.{List, [], _∷_}
-use mathlib.Core.Logic.{_⊎_, inl, inr, ⊎-elim, _≢_}
+use mathlib.Core.Logic.{_⊎_, inl, inr, ⊎-elim}
 use native.Mathlib.Omega.{arith}
-use lib.Dec.{leb, ltb}
+use lib.Dec.{leb}
 use lib.ListN.{length, drop, getD}
 use lib.Seq.{drop-set-lt}
 use borrow.Author.Tests.{lt-ltb, le-ltb, le-leb, lt-leb, ne-eqb}
@@ -16,14 +16,13 @@ use Rattle.rules.specs.Writer.{Ask, got, no, askThen, checked}
 use Rattle.rules.specs.Types.{Member, BtfType, Void, Int, Ptr, Array, Composite, Enum, Enum64, Fwd, Typedef, Mod, Func, Var, Datasec, FuncProto, Float, DeclTag, TypeTag, Btf}
 use Rattle.rules.specs.Layout.{sizeOf, getSizeOf, endOf}
 use Rattle.btf.specs.Table.{btfOf}
-use Rattle.turns.specs.declared.Answer.{Answer}
 use Rattle.turns.specs.declared.Answer.the-variants.{Accepted, Refused}
 use Rattle.turns.specs.declared.Session.{Session}
 use Rattle.turns.specs.Answers.{numberOf, valueOf}
 use Rattle.turns.specs.Turns.{isCurrent, tableFor}
-use Rattle.inward.specs.Path.{Shape, plain, through, array, composite, shapeOf, isComposite, behind, Step, stay, enter, field, covers, entered, tried, placed, stepIn, full, onward, pathFrom, someEntry, fieldPath}
+use Rattle.inward.specs.Path.{Shape, plain, through, array, composite, shapeOf, isComposite, behind, Step, stay, enter, field, covers, tried, placed, stepIn, full, onward, pathFrom, someEntry, fieldPath}
 use Rattle.field.specs.Calls.{Found, foundOf, putWords, lentPath, fieldCall}
-use Rattle.field.specs.Leads.{Covers, Uncovered, none, next, Leads}
+use Rattle.field.specs.Leads.{Uncovered, none, next, Leads}
 use Rattle.field.proofs.Sound.{got-same, then-got, zero-or, Tried, entered-or, tried-is, is-covered, by-composite, is-composite, field-plain, field-composite, first-step, sound}
 
 -- ---- the refusals

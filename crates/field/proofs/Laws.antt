@@ -1,23 +1,21 @@
 -- A law for each return of src/lib.rt. Assumes nothing.
-use Prim.Native.Nat.{ℕ, zero, suc, zero-le, _+_, _-_, _*_, _/_, _%_, _<_, _≤_}
+use Prim.Native.Nat.{ℕ, zero, suc, zero-le, _+_, _-_, _/_, _<_, _≤_}
 use mathlib.Core.Path.{_≡_, refl, ap, _∙_, sym}
 use mathlib.Core.Bool.{Bool, true, false, not}
 use mathlib.Core.List.{List, [], _∷_}
-use mathlib.Core.Logic.{_⊎_, inl, inr, ⊎-elim}
+use mathlib.Core.Logic.{_⊎_, ⊎-elim}
 use native.Mathlib.Omega.{arith}
-use lib.Dec.{leb, ltb, eqb}
+use lib.Dec.{leb}
 use lib.ListN.{length}
-use borrow.Author.Tests.{lt-ltb, le-ltb, le-leb, lt-leb, ne-eqb}
+use borrow.Author.Tests.{lt-ltb, le-ltb, le-leb, lt-leb}
 use Rattle.lent.specs.Words.{putWord}
 use Rattle.lent.proofs.Laws.{le-or-lt}
 use Rattle.rules.specs.Writer.{Ask, got, no, askThen}
-use Rattle.rules.specs.Types.{Member, BtfType, Btf as Rules}
-use Rattle.rules.specs.Layout.{getSizeOf, endOf}
+use Rattle.rules.specs.Types.{BtfType}
 use Rattle.btf.specs.declared.types.Btf.{Btf}
 use Rattle.btf.specs.declared.types.BtfType.{BtfType as Record}
-use Rattle.btf.specs.declared.types.BtfMember.{BtfMember}
-use Rattle.btf.specs.Records.{kindOf, vlenOf, recordById, memberOf}
-use Rattle.btf.specs.Table.{from, ruleMember, extraWord, membersOf, typeOf, btfOf}
+use Rattle.btf.specs.Records.{kindOf, recordById}
+use Rattle.btf.specs.Table.{extraWord, typeOf, btfOf}
 use Rattle.btf.proofs.KindLaws.{type-0, type-1, type-2, type-3, type-4, type-5, type-6, type-7, type-8, type-9, type-10, type-11, type-12, type-13, type-14, type-15, type-16, type-17, type-18, type-19, type-none}
 use Rattle.layout.specs.declared.Ask.{Ask as Code}
 use Rattle.layout.specs.declared.Ask.the-variants as ask
@@ -30,10 +28,10 @@ use Rattle.inward.specs.declared.Shape.{Shape as CodeShape}
 use Rattle.inward.specs.declared.Shape.the-variants as shape
 use Rattle.inward.specs.declared.Step.{Step as CodeStep}
 use Rattle.inward.specs.declared.Step.the-variants as step
-use Rattle.inward.specs.Path.{Shape, plain, through, array, composite, shapeOf, isComposite, passed, behind, Step, stay, enter, field, covers, entered, tried, placed, stepIn, full, onward, pathFrom, someEntry, fieldPath}
-use Rattle.field.specs.Calls.{Found, foundOf, putWords, lentPath, fieldCall}
+use Rattle.inward.specs.Path.{Shape, array, shapeOf, isComposite, passed, behind, Step, stepIn, full, onward, pathFrom, someEntry, fieldPath}
+use Rattle.field.specs.Calls.{foundOf, putWords, lentPath, fieldCall}
 use Rattle.inward.proofs.Laws.{not-false, not-true}
-use Rattle.inward.specs.Code.{shapeIs, stepIs, memberStep, isStay, Led, ledTo, entryPut, entryBefore}
+use Rattle.inward.specs.Code.{shapeIs, stepIs, Led, ledTo, entryPut, entryBefore}
 use Rattle.field.specs.Code.{written, answerTo}
 
 -- ---- shape_of

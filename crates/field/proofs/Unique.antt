@@ -7,11 +7,11 @@ use mathlib.Core.Logic.{⊎-elim}
 use native.Mathlib.Omega.{arith}
 use native.Mathlib.Nat.{mul-le-mul-right, add-mul}
 use Rattle.lent.proofs.Laws.{le-or-lt}
-use Rattle.rules.specs.Writer.{Ask, got, no}
-use Rattle.rules.specs.Types.{Member, BtfType, Array, Btf}
+use Rattle.rules.specs.Writer.{got}
+use Rattle.rules.specs.Types.{Member, Array, Btf}
 use Rattle.rules.specs.Layout.{getSizeOf}
-use Rattle.inward.specs.Path.{Shape, plain, through, array, composite, shapeOf, fieldPath}
-use Rattle.field.specs.Leads.{Covers, First, here, later, Uncovered, none, next, Leads, passes, place, member, bit-field, ends, gap}
+use Rattle.inward.specs.Path.{plain, through, array, composite, shapeOf, fieldPath}
+use Rattle.field.specs.Leads.{First, here, later, Uncovered, next, Leads, passes, place, member, bit-field, ends, gap}
 use Rattle.field.proofs.Sound.{got-same, sound}
 
 -- ---- two shapes are never one

@@ -1,5 +1,5 @@
 -- What the call comes to, for all inputs: the answer, and the lent path after it. Session, section and work are only read.
-use Prim.Native.Nat.{ℕ, zero, suc, _/_}
+use Prim.Native.Nat.{ℕ, suc, _/_}
 use mathlib.Core.Bool.{true, false}
 use mathlib.Core.List.{List, [], _∷_}
 use lib.Dec.{leb, ltb}

@@ -4,7 +4,7 @@ use Prim.Native.Nat.{ℕ}
 use mathlib.Core.Bool.{true, false}
 use mathlib.Core.List.{List, [], _∷_}
 use Rattle.rules.specs.Writer.{Ask, got, no}
-use Rattle.rules.specs.Types.{Member, BtfType, Void, Int, Array, Composite, Typedef, Mod, const, Btf}
+use Rattle.rules.specs.Types.{Member, Void, Int, Array, Composite, Typedef, Mod, const, Btf}
 use Rattle.rules.specs.Listed.{listed}
 use Rattle.inward.specs.Path.{fieldPath}
 

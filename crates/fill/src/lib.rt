@@ -10,7 +10,7 @@ use kinds::vlen_of;
 use sections::word;
 use words::put_word;
 ghost use mathlib.Core.Path.{_≡_};
-ghost use Prim.Native.Nat.{_+_, _-_, _/_, _%_, _≤_, _<_};
+ghost use Prim.Native.Nat.{_+_, _-_, _/_, _%_, _<_};
 ghost use lib.ListN.{getD};
 ghost use Rattle.filled.specs.Left.{placesPut, valuePlace, enumeratorWord, valuesPut, enumWith, valuesAt, tagPut, enumsPut, tagsPut, filled};
 

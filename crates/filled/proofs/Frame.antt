@@ -1,6 +1,6 @@
 -- What the lists leave alone: all words but those of lists. Assumes nothing.
 use Prim.Native.Nat.{ℕ, zero, suc, _+_, _-_, _*_, _/_, _%_, _≤_, _<_}
-use mathlib.Core.Path.{_≡_, refl, ap, _∙_, sym}
+use mathlib.Core.Path.{_≡_, refl, _∙_, sym}
 use mathlib.Core.List.{List}
 use mathlib.Core.Bool.{Bool, true, false}
 use mathlib.Core.Logic.{_≢_, _⊎_, inl, inr, ⊎-elim}
@@ -10,7 +10,7 @@ use lib.Dec.{ltb, leb, eqb}
 use Rattle.lent.specs.Words.{getWord, putWord}
 use Rattle.lent.proofs.Laws.{le-or-lt, put-length, get-put-other}
 use Rattle.btf.specs.declared.types.Btf.{Btf}
-use Rattle.btf.specs.Cells.{getField, placeOf, classP}
+use Rattle.btf.specs.Cells.{placeOf, classP}
 use Rattle.btf.specs.Numbers.{headP, nextP, takenP}
 use Rattle.btf.proofs.Laws.{place-type, place-enum}
 use Rattle.classed.specs.Classes.{keyIn}

@@ -5,7 +5,7 @@ use mathlib.Core.List.{List, [], _∷_}
 use mathlib.Core.Bool.{Bool, true, false}
 use native.Mathlib.Omega.{arith}
 use native.Mathlib.Numerals.{add-one}
-use lib.Dec.{ltb, leb, eqb}
+use lib.Dec.{leb, eqb}
 use borrow.Author.Tests.{le-leb, lt-leb, eq-eqb, ne-eqb, lt-ltb, le-ltb}
 use Rattle.lent.specs.Words.{getWord, putWord}
 use Rattle.btf.specs.declared.types.Btf.{Btf}
@@ -13,7 +13,7 @@ use Rattle.btf.specs.Cells.{classP}
 use Rattle.btf.specs.Names.{nameAt}
 use Rattle.btf.specs.Numbers.{headP, nextP, takenP}
 use Rattle.classed.specs.Classes.{keyOf, keyIn}
-use Rattle.filled.specs.Takers.{afterUnderscores, numeralFrom, suffixIn, suffixOn, anySuffix, nameIn, baseFrom, listedOn, onBase, takerPut, takersPut, withTakers, takersIn}
+use Rattle.filled.specs.Takers.{afterUnderscores, suffixOn, anySuffix, nameIn, baseFrom, listedOn, onBase, takerPut, takersPut, withTakers, takersIn}
 
 -- ---- keys
 key-none : (s : List ℕ) (x a : ℕ) → x ≡ 2 → keyOf s x a ≡ x ∷ []

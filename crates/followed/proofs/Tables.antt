@@ -1,6 +1,6 @@
 -- Tables of two records after void, for examples.
 use Prim.Native.Nat.{ℕ, _+_, _*_}
-use mathlib.Core.Bool.{true, false}
+use mathlib.Core.Bool.{false}
 use mathlib.Core.List.{List, [], _∷_, _++_}
 use Rattle.btf.specs.declared.types.Btf.{Btf}
 

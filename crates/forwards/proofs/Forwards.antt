@@ -1,13 +1,13 @@
 -- Laws of the words of composites and forwards. Assumes nothing.
 use Prim.Native.Nat.{ℕ}
 use mathlib.Core.Path.{_≡_, refl, ap, _∙_, sym}
-use mathlib.Core.List.{List, [], _∷_}
+use mathlib.Core.List.{List}
 use mathlib.Core.Bool.{Bool, true, false, not}
 use Rattle.text.specs.Text.{ascii, whole, putOut, putText}
 use Rattle.rules.specs.Types.{Name, Btf as Rules}
-use Rattle.rules.specs.Writer.{Writer, _⨾_, put, nothing}
+use Rattle.rules.specs.Writer.{_⨾_, put}
 use Rattle.rules.specs.Place.{outOf, putSaid}
-use Rattle.rules.specs.Names.{Space, tagSpace, resolveTypeName, builtin}
+use Rattle.rules.specs.Names.{tagSpace, resolveTypeName, builtin}
 use Rattle.rules.specs.Decl.{keyword, emitCompositeFwd, emitFwdDef}
 use Rattle.rules.proofs.Writing.{put-only, put-nothing, put-then}
 use Rattle.btf.specs.declared.types.Btf.{Btf}

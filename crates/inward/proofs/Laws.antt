@@ -1,23 +1,20 @@
 -- A law for each return of the code of a step and of an entry. Assumes nothing.
-use Prim.Native.Nat.{ℕ, zero, suc, zero-le, _+_, _-_, _*_, _/_, _%_, _<_, _≤_}
+use Prim.Native.Nat.{ℕ, suc, _+_, _-_, _*_, _/_, _%_, _<_, _≤_}
 use mathlib.Core.Path.{_≡_, refl, ap, _∙_, sym}
 use mathlib.Core.Bool.{Bool, true, false, not}
-use mathlib.Core.List.{List, [], _∷_}
-use mathlib.Core.Logic.{_⊎_, inl, inr, ⊎-elim}
+use mathlib.Core.List.{List}
 use native.Mathlib.Omega.{arith}
-use lib.Dec.{leb, ltb, eqb}
+use lib.Dec.{eqb}
 use lib.ListN.{length}
 use borrow.Author.Tests.{lt-ltb, le-ltb, le-leb, lt-leb, ne-eqb}
 use Rattle.lent.specs.Words.{putWord}
-use Rattle.lent.proofs.Laws.{le-or-lt}
 use Rattle.rules.specs.Writer.{Ask, got, no, askThen}
-use Rattle.rules.specs.Types.{Member, BtfType, Btf as Rules}
 use Rattle.rules.specs.Layout.{getSizeOf, endOf}
 use Rattle.btf.specs.declared.types.Btf.{Btf}
 use Rattle.btf.specs.declared.types.BtfType.{BtfType as Record}
 use Rattle.btf.specs.declared.types.BtfMember.{BtfMember}
-use Rattle.btf.specs.Records.{kindOf, vlenOf, recordById, memberOf}
-use Rattle.btf.specs.Table.{from, ruleMember, extraWord, membersOf, typeOf, btfOf}
+use Rattle.btf.specs.Records.{vlenOf, memberOf}
+use Rattle.btf.specs.Table.{from, ruleMember, membersOf, btfOf}
 use Rattle.layout.specs.declared.Ask.{Ask as Code}
 use Rattle.layout.specs.declared.Ask.the-variants as ask
 use Rattle.layout.specs.Answers.{askOf}
@@ -25,8 +22,8 @@ use Rattle.inward.specs.declared.Shape.{Shape as CodeShape}
 use Rattle.inward.specs.declared.Shape.the-variants as shape
 use Rattle.inward.specs.declared.Step.{Step as CodeStep}
 use Rattle.inward.specs.declared.Step.the-variants as step
-use Rattle.inward.specs.Path.{Shape, plain, through, array, composite, shapeOf, isComposite, passed, behind, Step, stay, enter, field, covers, entered, tried, placed, stepIn, full, onward, pathFrom, someEntry, fieldPath}
-use Rattle.inward.specs.Code.{shapeIs, stepIs, memberStep, isStay, Led, ledTo, entryPut, entryBefore}
+use Rattle.inward.specs.Path.{Step, stay, covers, entered, tried, placed, stepIn}
+use Rattle.inward.specs.Code.{shapeIs, stepIs, memberStep, isStay, ledTo, entryPut, entryBefore}
 
 -- ---- member_step
 module _ (m : BtfMember) (k end bit : ℕ) where

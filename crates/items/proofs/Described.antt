@@ -1,13 +1,13 @@
 -- A described type, renamed, in bytes, and the names that it mentions, word by word. Assumes nothing.
-use Prim.Native.Nat.{ℕ, zero, suc}
+use Prim.Native.Nat.{ℕ, suc}
 use mathlib.Core.Path.{_≡_, refl, ap}
 use mathlib.Core.Bool.{Bool}
 use mathlib.Core.List.{List, [], _∷_, _++_}
 use lib.ListN.{length}
-use Rattle.records.specs.Documentation.{inBytes, pack, btf-info, putEach, putMember, putEnumerator, putParam, putSecinfo, putEnumerator64, offsetWord, Member, member, Enumerator, enumerator, Param, param, Secinfo, secinfo, Enumerator64, enumerator64, Body, int, ptr, array, struct, union, enum, fwd, typedef, volatile, const, restrict, func, func-proto, var, datasec, float, decl-tag, type-tag, enum64, Described, described, kindOf, vlenOf, encode}
+use Rattle.records.specs.Documentation.{inBytes, pack, btf-info, putEach, putMember, putEnumerator, putParam, putSecinfo, putEnumerator64, offsetWord, Member, member, Enumerator, enumerator, Param, param, Secinfo, secinfo, Enumerator64, enumerator64, int, ptr, array, struct, union, enum, fwd, typedef, volatile, const, restrict, func, func-proto, var, datasec, float, decl-tag, type-tag, enum64, Described, described, encode}
 use Rattle.cut.specs.Renumbered.{newMembers, newParams, newValues, newValues64, newSecinfos, renamed}
 use Rattle.cut.specs.Strings.{memberNames, paramNames, valueNames, value64Names, mentions}
-use Rattle.items.specs.Items.{Item, nm, tid, raw, act, flat, nameItem, memberItems, valueItems, paramItems, secinfoItems, value64Items, thirdItem, bodyItems, items}
+use Rattle.items.specs.Items.{Item, act, flat, nameItem, memberItems, valueItems, paramItems, secinfoItems, value64Items, items}
 
 module _ (big : Bool) (i o : ℕ → ℕ) where
   -- a word in bytes

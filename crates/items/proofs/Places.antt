@@ -6,10 +6,8 @@ use mathlib.Core.Path.{_≡_, refl, sym, _∙_, ap}
 use mathlib.Core.Bool.{Bool, true, false, true≢false}
 use mathlib.Core.List.{List, [], _∷_}
 use lib.ListN.{length, getD}
-use lib.Dec.{ltb}
 use borrow.Author.Tests.{le-ltb}
-use Rattle.text.specs.Text.{ascii}
-use Rattle.records.specs.Documentation.{pack, btf-info, btf-int, Member, member, Enumerator, enumerator, Param, param, Secinfo, secinfo, Enumerator64, enumerator64, Body, int, ptr, array, struct, union, enum, fwd, typedef, volatile, const, restrict, func, func-proto, var, datasec, float, decl-tag, type-tag, enum64, Described, described, kindOf, vlenOf}
+use Rattle.records.specs.Documentation.{pack, btf-info, btf-int, Member, enumerator, param, secinfo, enumerator64, Body, described, kindOf, vlenOf}
 use Rattle.records.specs.Reading.{kindTable, none, kind, shape, known}
 use Rattle.records.specs.Places.{memberP, tabulate, typeP, soundP}
 use Rattle.records.specs.Fields.{info}

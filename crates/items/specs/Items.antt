@@ -1,6 +1,6 @@
 -- The words of a record in their order, each with what it is: the offset of a name, a stored id, or neither.
-use Prim.Native.Nat.{ℕ, zero, suc}
-use mathlib.Core.Bool.{Bool, true, false}
+use Prim.Native.Nat.{ℕ}
+use mathlib.Core.Bool.{true, false}
 use mathlib.Core.List.{List, [], _∷_, _++_}
 use lib.Dec.{eqb}
 use Rattle.records.specs.Documentation.{pack, btf-info, btf-int, Member, member, Enumerator, enumerator, Param, param, Secinfo, secinfo, Enumerator64, enumerator64, Body, int, ptr, array, struct, union, enum, fwd, typedef, volatile, const, restrict, func, func-proto, var, datasec, float, decl-tag, type-tag, enum64, Described, described, kindOf, vlenOf, offsetWord}

@@ -1,9 +1,9 @@
 -- How many calls an answer takes: a chain of m typedefs takes m more than the type that it ends in. So of 512 calls a chain of
 -- 511 over a number leaves enough, and one of 512 is refused by 12. Assumes nothing.
-use Prim.Native.Nat.{ℕ, zero, suc, _+_, _<_, _≤_}
+use Prim.Native.Nat.{ℕ, zero, suc, _<_, _≤_}
 use mathlib.Core.Path.{_≡_, refl, ap, _∙_}
 use native.Mathlib.Omega.{arith}
-use Rattle.rules.specs.Writer.{Ask, got, no, tooDeep}
+use Rattle.rules.specs.Writer.{got, no, tooDeep}
 use Rattle.rules.specs.Types.{Name, Int, Typedef, Btf}
 use Rattle.rules.specs.Layout.{octets, smaller, sizeOf, getSizeOf, alignOf, getAlignOf}
 

@@ -7,7 +7,7 @@ use native.Mathlib.Omega.{arith}
 use lib.Dec.{eqb}
 use lib.ListN.{length, getD, set, List·getD-eq-default}
 use borrow.Author.Tests.{eq-eqb, ne-eqb}
-use Rattle.rules.specs.Order.{Table, Mark, new, busy, done, isComp, isDone, Res, ok, refused, bind, each, meet, pushIf, finish, enter, alias, fresh, visit, order}
+use Rattle.rules.specs.Order.{Table, Mark, new, busy, done, isComp, isDone, Res, ok, refused, bind, each, meet, pushIf, finish, enter, alias, fresh, visit}
 use Rattle.rules.specs.Types.{nodeOf, isNamed, tableOf}
 use Rattle.btf.specs.declared.types.Btf.{Btf}
 use Rattle.btf.specs.declared.types.BtfType.{BtfType as Record}
@@ -18,7 +18,7 @@ use Rattle.btf.specs.Cells.{getField, putField}
 use Rattle.btf.specs.Records.{sectionWord, memberAt, paramAt, recordById}
 use Rattle.btf.specs.Table.{from, typeOf, btfOf}
 use Rattle.btf.specs.Nodes.{nodeIs, memberIds, paramIds}
-use Rattle.ceiling.specs.Ceiling.{Told, told, halted, thenBind, meetWithin, orderMetered}
+use Rattle.ceiling.specs.Ceiling.{Told, told, halted, thenBind, meetWithin}
 use Rattle.ceiling.proofs.Counted.{tell}
 use Rattle.ceiling.proofs.Metered.{metered-plain}
 use Rattle.marks.specs.declared.Order.{Order}

@@ -5,7 +5,7 @@ use mathlib.Core.List.{List, [], _∷_}
 use mathlib.Core.Bool.{Bool, true, false, not, _&&_, _||_}
 use Rattle.rules.specs.Order.{Table, Node, ignored, plain, listed, through, ptr, tdef, proto, comp, Mark, new, busy, done, Store, Res, ok, refused, bind, isComp, isDone, each, meet, pushIf, finish, enter, alias, fresh, visit, order}
 use Rattle.sheet.proofs.Maps.{rmap, StoreMap}
-use Rattle.marks.specs.Work.{workStore, Marks}
+use Rattle.marks.specs.Work.{workStore}
 use Rattle.causes.specs.Causes.{isAround}
 use Rattle.leads.specs.declared.Way.{Way}
 use Rattle.leads.specs.Leads.{wayFor, Kept, keptStore, orderKept}

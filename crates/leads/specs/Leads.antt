@@ -5,7 +5,7 @@ use mathlib.Core.Bool.{Bool, true, false, not, _&&_, _||_}
 use mathlib.Core.List.{List}
 use lib.ListN.{getD, set}
 use lib.Dec.{eqb}
-use Rattle.rules.specs.Order.{Table, Mark, isComp, isDone, Store, Res, ok, refused, meet, enter, alias, fresh, visit}
+use Rattle.rules.specs.Order.{Table, isComp, isDone, Store, Res, ok, refused, meet, enter, alias, fresh, visit}
 use Rattle.marks.specs.declared.Order.{Order}
 use Rattle.marks.specs.Work.{Marks, workStore}
 use Rattle.causes.specs.Causes.{isAround, entry, Entry}

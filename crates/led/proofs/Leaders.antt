@@ -1,5 +1,5 @@
 -- Ordering with two numbers and words for the leaders is ordering with leaders (`orderLed` of crate causes). Assumes nothing.
-use Prim.Native.Nat.{ℕ, zero, suc, _+_, _*_, _/_, _%_, _<_, _≤_}
+use Prim.Native.Nat.{ℕ, zero, suc, _+_, _*_, _/_, _%_, _<_}
 use mathlib.Core.Path.{_≡_, refl, ap, _∙_, sym, subst}
 use mathlib.Core.Bool.{Bool, true, false}
 use mathlib.Core.List.{List, [], _∷_, _++_, List·Memᴰ, List·Memᴰ·head, List·Memᴰ·tail}
@@ -7,15 +7,15 @@ use mathlib.Core.Logic.{_≢_}
 use native.Mathlib.Omega.{arith}
 use lib.Dec.{eqb}
 use lib.ListN.{length, getD, set, length-set}
-use borrow.Author.Tests.{eqb-true, eqb-false, eq-eqb, ne-eqb}
-use Rattle.rules.specs.Order.{Table, Mark, Store, Res, ok, refused, order}
+use borrow.Author.Tests.{eqb-true, eqb-false, eq-eqb}
+use Rattle.rules.specs.Order.{Table}
 use Rattle.marks.specs.Work.{Marks, workStore}
 use Rattle.sheet.specs.Sheet.{Sheet, withMarks, sheetStore}
 use Rattle.sheet.proofs.Maps.{rmap, StoreMap}
-use Rattle.causes.specs.Causes.{ledBy, isAround, inside, Led, ledStore, orderLed, leaderOf, listedEntry, entry, Entry}
+use Rattle.causes.specs.Causes.{ledBy, isAround, inside, Led, ledStore, orderLed, leaderOf, listedEntry, entry}
 use Rattle.causes.proofs.Ordering.{two-numbers}
 use Rattle.leads.specs.declared.Way.{Way}
-use Rattle.leads.specs.Leads.{ledTwo, insideOf, wayFor, wordAt, isNoted, noteIn, leaderIn, entryIn, Kept, keptStore, orderKept}
+use Rattle.leads.specs.Leads.{ledTwo, wayFor, wordAt, isNoted, noteIn, leaderIn, entryIn, Kept, keptStore, orderKept}
 use Rattle.leads.proofs.Maps.{map-visit}
 
 -- ---- the words after some notes

@@ -1,16 +1,16 @@
 -- The code's request is the request of the definitions. Assumes nothing.
-use Prim.Native.Nat.{ℕ, zero, suc, _/_, _<_, _≤_}
+use Prim.Native.Nat.{ℕ, _/_, _<_, _≤_}
 use mathlib.Core.Path.{_≡_, refl, ap, _∙_, sym, subst}
 use mathlib.Core.Bool.{Bool, true, false, true≢false}
-use mathlib.Core.List.{List, [], _∷_, List·Memᴰ}
+use mathlib.Core.List.{List, [], List·Memᴰ}
 use mathlib.Core.Logic.{⊎-elim}
 use native.Mathlib.Omega.{arith}
 use lib.Dec.{eqb, leb}
 use lib.ListN.{length, getD, replicate, length-replicate, getD-replicate, List·getD-eq-default}
-use borrow.Author.Tests.{ne-eqb, le-leb}
+use borrow.Author.Tests.{le-leb}
 use Rattle.lent.proofs.Laws.{le-or-lt}
 use Rattle.rules.specs.Order.{Node, ignored, plain, listed, through, ptr, tdef, proto, comp, Table, Res, ok, refused}
-use Rattle.rules.specs.Machine.{Out, wrote, stuck, obind, eeach}
+use Rattle.rules.specs.Machine.{wrote, obind, eeach}
 use Rattle.rules.specs.Types.{Btf as Rules, nodeOf, tableOf}
 use Rattle.btf.specs.declared.types.Btf.{Btf}
 use Rattle.btf.specs.declared.types.BtfType.{BtfType as Record}
@@ -21,12 +21,11 @@ use Rattle.btf.specs.Table.{typeOf, btfOf}
 use Rattle.marks.specs.Work.{Marks, workStore}
 use Rattle.sheet.specs.Sheet.{Sheet, marksIn, withMarks, sheetStore, workMachine}
 use Rattle.sheet.proofs.Maps.{rmap}
-use Rattle.causes.specs.Causes.{Entry, ledBy, isAround, Led, orderLed, leaderOf, listedEntry, Noted, upTo, emitNoted, eachListed, showsIn}
+use Rattle.causes.specs.Causes.{Entry, ledBy, isAround, Led, orderLed, listedEntry, upTo, emitNoted, showsIn}
 use Rattle.causes.specs.Claims.{isListed, LedTo}
 use Rattle.causes.specs.Bytes.{listedNoted, dumpedNoted}
 use Rattle.causes.proofs.Ordering.{Holds, holds, none, AllLed, order-led}
-use Rattle.leads.specs.declared.Way.{Way}
-use Rattle.leads.specs.Leads.{ledTwo, wordAt, isNoted, leaderIn, entryIn, Kept, orderKept}
+use Rattle.leads.specs.Leads.{ledTwo, wordAt, isNoted, entryIn}
 use Rattle.noted.specs.Noted.{emitN}
 use Rattle.led.specs.Kept.{noLeads, wayTo, orderedKept, eachKept, listedKept, dumpedKept}
 use Rattle.led.proofs.Leaders.{tabled, keptFrom, order-kept, besideLed, lift-led, Fits, leader-is, entry-is}

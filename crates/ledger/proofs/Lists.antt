@@ -1,11 +1,10 @@
 -- The lists of a work are those at the classes of its holders; where every list is empty, the names are those of the Rust. Assumes nothing.
-use Prim.Native.Nat.{ℕ, zero, suc, _+_, _-_, _<_, _≤_}
-use mathlib.Core.Path.{_≡_, refl, ap, ap₂, _∙_, sym, subst, fun-ext}
+use Prim.Native.Nat.{ℕ, zero, suc, _+_, _-_, _<_}
+use mathlib.Core.Path.{_≡_, ap, _∙_, sym}
 use mathlib.Core.Bool.{Bool, true, false}
 use mathlib.Core.List.{List, [], _∷_}
 use mathlib.Core.Logic.{_≢_}
 use native.Mathlib.Omega.{arith}
-use lib.Dec.{eqb, ltb}
 use borrow.Author.Tests.{ne-eqb}
 use Rattle.lent.specs.Words.{getWord, pick}
 use Rattle.rules.specs.Types.{Name}
@@ -14,11 +13,11 @@ use Rattle.btf.specs.declared.types.Btf.{Btf}
 use Rattle.btf.specs.Names.{nameAt}
 use Rattle.btf.specs.Numbers.{headP, numbersFrom, takenAt}
 use Rattle.classed.specs.Same.{sameList}
-use Rattle.classed.specs.Classes.{least, classOf, recordP, spaceAt, nameOf, keyOf, keyIn}
+use Rattle.classed.specs.Classes.{least, classOf, recordP, nameOf, keyOf, keyIn}
 use Rattle.classed.proofs.Laws.{class-key, class-le}
 use Rattle.classed.proofs.Names.{same-from}
-use Rattle.ledger.specs.Passed.{Lists, none}
-use Rattle.ledger.specs.Indexed.{number, Holds, Indexed, Listed, listsIn}
+use Rattle.ledger.specs.Passed.{none}
+use Rattle.ledger.specs.Indexed.{number, Holds, Listed, listsIn}
 
 number-named : (space : Space) → number space ≢ 2
 unfolding number

@@ -1,15 +1,15 @@
 -- Stores to words that hold no names: the names are as they were. Ordering and emission mark types in such words, and list them past the
 -- words of the holders. Assumes nothing.
-use Prim.Native.Nat.{ℕ, _+_, _*_, _<_, _≤_}
+use Prim.Native.Nat.{ℕ, _+_, _*_, _<_}
 use mathlib.Core.Path.{_≡_, _∙_, sym}
 use mathlib.Core.List.{List}
 use mathlib.Core.Logic.{_≢_}
 use native.Mathlib.Omega.{arith}
-use Rattle.lent.specs.Words.{getWord, putWord}
+use Rattle.lent.specs.Words.{getWord}
 use Rattle.lent.proofs.Laws.{put-length, get-put-other}
 use Rattle.rules.specs.Names.{Names}
 use Rattle.btf.specs.declared.types.Btf.{Btf}
-use Rattle.btf.specs.Cells.{getField, putField, placeOf, classP, countP}
+use Rattle.btf.specs.Cells.{putField, placeOf, classP, countP}
 use Rattle.btf.proofs.Laws.{place-type}
 use Rattle.btf.proofs.Frame.{field-other}
 use Rattle.btf.specs.Numbers.{headP, nextP, takenP}

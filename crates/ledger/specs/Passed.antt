@@ -1,8 +1,8 @@
 -- Names with a list of taken numbers for each name: a holder's number follows from its count and from that list. Without taken numbers they are the
 -- names of the Rust; with those that crate passed says they are names that cannot collide.
 use Prim.Native.Nat.{ℕ}
-use mathlib.Core.Bool.{Bool, true, false}
-use mathlib.Core.List.{List, [], _∷_}
+use mathlib.Core.Bool.{true, false}
+use mathlib.Core.List.{List, []}
 use lib.ListN.{getD, set}
 use lib.Dec.{eqb}
 use Rattle.lent.specs.Words.{oneMore}

@@ -12,7 +12,7 @@ use borrow.Author.Fill.{fill-more}
 use lib.Seq.{ext-getD, set-comm, getD-set-same, getD-set-other}
 use lib.Dec.{ltb}
 use borrow.Author.Tests.{lt-ltb, le-ltb}
-use Rattle.lent.specs.Words.{getWord, putWord, wordAt, wordAtBig, wordIn, turn, joinAt, joinBig, setWord, pick, pickList, table, words}
+use Rattle.lent.specs.Words.{getWord, putWord, wordAt, wordAtBig, wordIn, turn, joinAt, joinBig, setWord, pickList, table, words}
 
 pub le-or-lt : (a b : ℕ) → (a ≤ b) ⊎ (b < a)
 le-or-lt zero b = inl zero-le

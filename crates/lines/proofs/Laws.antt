@@ -7,8 +7,8 @@ use native.Mathlib.Omega.{arith}
 use lib.Dec.{eqb}
 use borrow.Author.Tests.{ne-eqb, eq-eqb}
 use Rattle.text.specs.Text.{ascii, whole, putOut, putText}
-use Rattle.rules.specs.Types.{Name, BtfType, Composite, Enum, Fwd, Typedef, Btf as Rules}
-use Rattle.rules.specs.Names.{Naming, builtin}
+use Rattle.rules.specs.Types.{BtfType, Composite, Fwd, Btf as Rules}
+use Rattle.rules.specs.Names.{builtin}
 use Rattle.rules.specs.Writer.{Writer, put, nothing, _⨾_}
 use Rattle.rules.specs.Place.{outOf, putSaid}
 use Rattle.rules.specs.Decl.{emitCompositeFwd, emitFwdDef, enumValue, enum64Value, emitEnumDef}

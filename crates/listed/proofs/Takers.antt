@@ -1,19 +1,19 @@
 -- The lists that opening makes, over a work with classes and without lists: at c stand the numbers of the first holders whose name is that of c with
 -- a suffix. Assumes nothing.
 use Prim.Native.Nat.{ℕ, zero, suc, _+_, _-_, _*_, _/_, _<_, _≤_}
-use mathlib.Core.Path.{_≡_, refl, ap, ap₂, _∙_, sym, subst, fun-ext}
+use mathlib.Core.Path.{_≡_, refl, ap, _∙_, sym, fun-ext}
 use mathlib.Core.Bool.{Bool, true, false}
-use mathlib.Core.List.{List, [], _∷_}
-use mathlib.Core.Logic.{_⊎_, inl, inr, ⊎-elim, _≢_}
+use mathlib.Core.List.{List}
+use mathlib.Core.Logic.{_≢_}
 use native.Mathlib.Omega.{arith}
 use lib.ListN.{length}
-use lib.Dec.{ltb, leb, eqb}
+use lib.Dec.{leb, eqb}
 use Rattle.lent.specs.Words.{getWord, putWord}
 use Rattle.lent.proofs.Laws.{get-put-other}
 use Rattle.btf.specs.declared.types.Btf.{Btf}
 use Rattle.btf.specs.Cells.{placeOf, classP}
 use Rattle.btf.specs.Numbers.{headP, nextP, takenP, takenAt}
-use Rattle.classed.specs.Classes.{recordP, spaceAt, nameOf, keyOf, keyIn}
+use Rattle.classed.specs.Classes.{spaceAt, nameOf, keyOf, keyIn}
 use Rattle.classed.proofs.Keys.{place-apart}
 use Rattle.filled.specs.Takers.{suffixOn, anySuffix, nameIn, baseFrom, listedOn, onBase, takerPut, takersPut}
 use Rattle.listed.specs.Listed.{numbersOn, baseOf, numberOf}

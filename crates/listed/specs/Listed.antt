@@ -1,13 +1,13 @@
 -- The lists of taken numbers as lists: which holders stand on that of c, and what they take.
-use Prim.Native.Nat.{ℕ, zero, suc, _+_, _-_}
-use mathlib.Core.Bool.{Bool, true, false}
+use Prim.Native.Nat.{ℕ, zero, suc, _-_}
+use mathlib.Core.Bool.{true, false}
 use mathlib.Core.List.{List, [], _∷_}
 use lib.Dec.{eqb}
 use Rattle.lent.specs.Words.{getWord}
 use Rattle.btf.specs.declared.types.Btf.{Btf}
 use Rattle.btf.specs.Cells.{classP}
 use Rattle.classed.specs.Classes.{keyIn}
-use Rattle.filled.specs.Takers.{suffixOn, anySuffix, nameIn, baseFrom, listedOn}
+use Rattle.filled.specs.Takers.{suffixOn, anySuffix, nameIn, baseFrom}
 
 -- ---- any bases and numbers: `base` has the holder on whose list h stands, or 0; `num` the number that it takes
 module _ (base num : ℕ → ℕ) where

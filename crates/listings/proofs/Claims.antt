@@ -7,15 +7,15 @@ use mathlib.Core.List.{List, [], _∷_, _++_, List·Memᴰ·not-nil}
 use mathlib.Core.Logic.{inl}
 use lib.ListN.{length, getD, replicate, length-replicate}
 use lib.Dec.{ltb}
-use Rattle.rules.specs.Order.{Table, Mark, new, busy, Res, ok, refused}
-use Rattle.rules.specs.Machine.{Out, wrote, stuck, Machine, eeach, emit, Sess, Answer, Req, one, all, shut, emitted, ordered, ordering, gate, single, onward, from, every}
+use Rattle.rules.specs.Order.{Table, Mark, new, busy, Res}
+use Rattle.rules.specs.Machine.{Out, Machine, eeach, emit, Sess, Answer, Req, one, all, shut, emitted, ordered, ordering, gate, single, onward, from, every}
 use Rattle.rules.specs.Types.{Btf, tableOf}
 use Rattle.rules.specs.Names.{Naming, naming}
 use Rattle.demand.specs.Lists.{Lines, Ls, listMachine, afresh}
-use Rattle.demand.specs.Session.{Known, Dump, dump, textOf, linesBy, machineBy, openedBy, noNames, answerOf, dumped, dumpTypes}
+use Rattle.demand.specs.Session.{Known, dump, textOf, linesBy, openedBy, noNames, answerOf, dumped, dumpTypes}
 use Rattle.listings.specs.Twice.{orderingTwice, gateTwice, singleTwice, fromTwice, everyTwice, answerTwice, dumpedTwice, dumpTypesTwice}
 use Rattle.listings.proofs.Ordering.{bare, Rel, Both, both-ok, both-no, dnil, new-busy, order-sim}
-use Rattle.listings.proofs.Emission.{Alike, both-wrote, both-stuck, Stay, Fin, dup-emit}
+use Rattle.listings.proofs.Emission.{Alike, both-wrote, both-stuck, Fin, dup-emit}
 
 -- Two sessions, the first by the Rust's rule: equal but for the order list; nothing is in progress while they are open.
 pub record Twins {U : Type 0} (n : ℕ) (S₁ S : Sess (Ls U)) : Type 0 where

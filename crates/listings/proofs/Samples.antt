@@ -1,6 +1,6 @@
 -- The samples of specs/Samples hold of the definitions.
 use mathlib.Core.Path.{_≡_, refl}
-use mathlib.Core.List.{List, [], _∷_}
+use mathlib.Core.List.{[], _∷_}
 use Rattle.lent.specs.Words.{oneMore}
 use Rattle.text.specs.Text.{join, bytes, pfx}
 use Rattle.text.specs.Decimal.{digits, decimal}

@@ -2,7 +2,7 @@
 use Prim.Native.Nat.{ℕ}
 use mathlib.Core.List.{List, [], _∷_}
 use lib.ListN.{replicate}
-use mathlib.Core.Bool.{Bool, true, false}
+use mathlib.Core.Bool.{true, false}
 use Rattle.text.specs.Text.{ascii}
 use Rattle.rules.specs.Order.{new, Res, ok, refused, order}
 use Rattle.rules.specs.Machine.{one}

@@ -2,13 +2,12 @@
 use Prim.Native.Nat.{ℕ, zero, suc, _+_, _-_, _<_, _≤_}
 use mathlib.Core.Path.{_≡_, refl, ap, _∙_, sym, subst}
 use mathlib.Core.Bool.{true}
-use mathlib.Core.Logic.{⊎-elim, _⊎_, inl, inr, _↔_, _≢_}
+use mathlib.Core.Logic.{⊎-elim, _⊎_, _↔_}
 use native.Mathlib.Omega.{arith}
-use native.Mathlib.Decide.{ℕ-discrete}
 use Rattle.lent.proofs.Laws.{le-or-lt}
 use Rattle.loops.specs.Graph.{Graph, Edge, Loop, long, hasLoop}
 use Rattle.loops.specs.Walk.{Safe, safe}
-use Rattle.followed.proofs.Twice.{Twice, twice}
+use Rattle.followed.proofs.Twice.{twice}
 use Rattle.followed.proofs.Any.{any-find, any-yes}
 
 -- a walk that comes back to where it was has a loop in it

@@ -1,8 +1,8 @@
 -- Marks for the types that are kept, and the new numbers, as the code makes them. b has the count, s is the section, start its index (crate followed).
 -- The proofs say that these are the numbers of crate cut: proofs/Numbers.antt, and crate reopened for a section that opening accepts.
 use Prim.Native.Nat.{ℕ, zero, suc, _+_, _/_}
-use mathlib.Core.Bool.{Bool, true, false}
-use mathlib.Core.List.{List, [], _∷_}
+use mathlib.Core.Bool.{true, false}
+use mathlib.Core.List.{List}
 use lib.ListN.{length, getD, set, replicate}
 use lib.Dec.{ltb, eqb}
 use Rattle.lent.specs.Words.{getWord}

@@ -8,7 +8,7 @@ use lib.ListN.{length}
 use borrow.Author.Tests.{lt-ltb}
 use Rattle.lent.specs.Words.{getWord, oneMore}
 use Rattle.lent.proofs.Laws.{get-put-same, get-put-other, put-length}
-use Rattle.rules.specs.Order.{Mark, new, busy, done, Store, Lawful, Framed}
+use Rattle.rules.specs.Order.{Mark, new, busy, done, Lawful, Framed}
 use Rattle.btf.specs.declared.types.Btf.{Btf}
 use Rattle.btf.specs.Cells.{getField, putField}
 use Rattle.btf.specs.Table.{from, btfOf}

@@ -5,9 +5,9 @@ use mathlib.Core.List.{List, [], _∷_}
 use mathlib.Core.Bool.{Bool, true, false, not, _&&_, _||_}
 use mathlib.Core.Logic.{_⊎_, inl, inr}
 use native.Mathlib.Omega.{arith}
-use lib.Dec.{eqb, ltb}
+use lib.Dec.{eqb}
 use borrow.Author.Tests.{ne-eqb, lt-ltb, le-ltb}
-use Rattle.rules.specs.Order.{Table, ignored, plain, listed, through, ptr, proto, comp, Mark, new, busy, done, isComp, isDone, pushIf, finish}
+use Rattle.rules.specs.Order.{Table, Mark, new, busy, done, isComp, isDone, pushIf, finish}
 use Rattle.rules.specs.Types.{BtfType, nodeOf, isNamed, tableOf}
 use Rattle.btf.specs.declared.types.Btf.{Btf}
 use Rattle.btf.specs.declared.types.BtfType.{BtfType as Record}

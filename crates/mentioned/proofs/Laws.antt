@@ -2,13 +2,12 @@
 use Prim.Native.Nat.{ℕ, zero, suc, _+_, _-_, _%_, _<_, _≤_}
 use native.Mathlib.Omega.{arith}
 use native.Mathlib.Numerals.{add-one}
-use mathlib.Core.Path.{_≡_, refl, sym, _∙_, ap, ap₂, subst}
+use mathlib.Core.Path.{_≡_, refl, sym, _∙_, ap}
 use mathlib.Core.Bool.{Bool, true, false, not, true≢false}
-use mathlib.Core.List.{List, [], _∷_, _++_}
+use mathlib.Core.List.{List, [], _∷_}
 use lib.ListN.{length, getD, drop, length-drop}
 use lib.Seq.{drop-cons}
-use lib.Dec.{ltb, eqb}
-use borrow.Author.Tests.{eq-eqb, ne-eqb, lt-ltb, le-ltb}
+use borrow.Author.Tests.{eq-eqb, ne-eqb}
 use Rattle.text.specs.Text.{whole, putOut, putText}
 use Rattle.text.proofs.TextLaws.{put-seq, put-empty}
 use Rattle.rules.specs.Types.{isEmpty}
@@ -19,7 +18,7 @@ use Rattle.followed.specs.Followed.{countOf, entryAt}
 use Rattle.roles.specs.Words.{role, wordsIn, wordOf}
 use Rattle.roles.proofs.Laws.{get-past}
 use Rattle.mentioned.specs.Names.{isName, orName, namedTo, firstFrom, mentions, orMentions, mentionedTo, isNew}
-use Rattle.mentioned.specs.Strings.{nameBytes, namesBytes, ownBytes, newsBytes, stringsBytes}
+use Rattle.mentioned.specs.Strings.{nameBytes, namesBytes, ownBytes, newsBytes}
 
 pub peek-past : (l : List ℕ) (i : ℕ) → length l ≤ i → 0 ≡ getD l i 0
 peek-past l i h = sym (get-past l i 0 h)

@@ -1,10 +1,10 @@
 -- The names that are stored: "each distinct name is stored once, in order of first mention". b, s, start: the table, the section, its index;
 -- ids: the new numbers, 0 for what is not kept.
 use Prim.Native.Nat.{ℕ, zero, suc, _+_, _%_}
-use mathlib.Core.Bool.{Bool, true, false, not, _&&_, _||_}
-use mathlib.Core.List.{List, [], _∷_, _++_}
+use mathlib.Core.Bool.{Bool, true, false, not}
+use mathlib.Core.List.{List}
 use lib.ListN.{length, getD, set, replicate}
-use lib.Dec.{ltb, eqb}
+use lib.Dec.{eqb}
 use Rattle.rules.specs.Types.{isEmpty}
 use Rattle.rules.specs.Names.{sameBytes}
 use Rattle.btf.specs.declared.types.Btf.{Btf}

@@ -12,7 +12,7 @@ use Rattle.lent.proofs.Laws.{le-or-lt}
 use Rattle.btf.specs.declared.types.Btf.{Btf}
 use Rattle.dump.specs.Metered.{callsIn}
 use Rattle.turns.specs.declared.Session.{Session}
-use Rattle.turns.specs.Answers.{numberOf, answerOf}
+use Rattle.turns.specs.Answers.{numberOf}
 use Rattle.turns.specs.Turns.{Call, isCurrent, Reach, reached, refusedBy, settled, tableFor, visitsIn}
 use Rattle.calls.specs.Calls.{requested, onward, requestedFrom, typeCall, typesCall}
 use Rattle.calls.proofs.Claims.{number-is}

@@ -1,13 +1,12 @@
 -- A law for each return. Assumes nothing.
-use Prim.Native.Nat.{ℕ, zero, suc, zero-le, _+_, _-_, _<_, _≤_}
+use Prim.Native.Nat.{ℕ, suc, zero-le, _+_, _-_, _<_, _≤_}
 use mathlib.Core.Path.{_≡_, refl, ap, _∙_, sym, subst}
 use mathlib.Core.Bool.{Bool, true, false, not}
-use mathlib.Core.List.{List, [], _∷_, _++_}
+use mathlib.Core.List.{List, _++_}
 use mathlib.Core.Logic.{⊎-elim}
 use native.Mathlib.Omega.{arith}
 use native.Mathlib.Numerals.{add-one}
-use lib.ListN.{length, take, drop}
-use lib.Dec.{eqb, leb, ltb}
+use lib.ListN.{length, take}
 use lib.Seq.{length-take-le, take-at}
 use borrow.Author.Tests.{le-leb, lt-leb, le-ltb, lt-ltb, not-true, not-false}
 use borrow.Rule.Slice.PartMut.{midOf, postOf, putMid, mid-len, same-len-mid}
@@ -33,13 +32,12 @@ use Rattle.turns.specs.Turns.{Call, callOf, turnOf, isCurrent, Reach, reached, 
 use Rattle.turns.proofs.Laws.{reach-accepted, reach-refused}
 use Rattle.calls.specs.Refusals.{number, value, notCurrent, idNotBelow, refusal}
 use Rattle.calls.specs.Calls.{limitOf, arrivedAt, requested}
-use Rattle.calls.proofs.Laws.{arrived-in, arrived-past, one-bound, one-reach, idle-reach}
+use Rattle.calls.proofs.Laws.{arrived-past, one-bound, one-reach, idle-reach}
 use Rattle.ways.specs.declared.Idle.{Idle}
 use Rattle.ways.specs.Idle.{idleIn}
 use Rattle.ways.proofs.Laws.{idle-none, idle-one}
-use Rattle.metering.specs.declared.Counted.{Counted}
 use Rattle.metering.specs.declared.Metered.{Metered}
-use Rattle.metering.specs.Within.{Within, withinOf, requestedWithin, onwardWithin, requestedFromWithin, CallWithin, countedOf, settledWithin, typeCallWithin, typesCallWithin}
+use Rattle.metering.specs.Within.{Within, withinOf, requestedWithin, onwardWithin, requestedFromWithin, countedOf, settledWithin, typeCallWithin, typesCallWithin}
 
 -- ---- one request, by whether its calls fit
 module _ (c : ℕ) (b : Btf) (s : List ℕ) (id len v : ℕ) (w t : List ℕ) (k : ℕ) where

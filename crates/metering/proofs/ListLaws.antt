@@ -1,36 +1,30 @@
 -- A list of ids under a ceiling: a law for each return of src/lists.rt. It does not matter when what follows the text is zeroed (requests/proofs/Lists), so
 -- once is enough. Assumes nothing.
 use Prim.Native.Nat.{ℕ, zero, suc, _+_, _-_, _<_, _≤_}
-use mathlib.Core.Path.{_≡_, refl, ap, _∙_, sym, subst}
+use mathlib.Core.Path.{_≡_, refl, ap, _∙_, sym}
 use mathlib.Core.Bool.{Bool, true, false, not}
-use mathlib.Core.List.{List, [], _∷_}
+use mathlib.Core.List.{List}
 use mathlib.Core.Logic.{⊎-elim}
 use native.Mathlib.Omega.{arith}
 use native.Mathlib.Nat.{le-refl}
 use native.Mathlib.Numerals.{add-one}
 use lib.ListN.{length, take, replicate}
-use lib.Dec.{ltb}
 use borrow.Author.Tests.{lt-leb, lt-ltb, le-ltb, not-true}
 use Rattle.lent.specs.Words.{getWord}
 use Rattle.lent.proofs.Laws.{le-or-lt}
 use Rattle.btf.specs.declared.types.Btf.{Btf}
 use Rattle.dump.specs.Metered.{callsIn}
-use Rattle.turns.specs.declared.Answer.{Answer}
-use Rattle.turns.specs.declared.Answer.the-variants.{Accepted, Refused}
+use Rattle.turns.specs.declared.Answer.the-variants.{Refused}
 use Rattle.turns.specs.declared.Session.{Session}
 use Rattle.turns.specs.declared.Turn.{Turn}
-use Rattle.turns.specs.declared.Reached.{Reached}
 use Rattle.turns.specs.Answers.{numberOf, answerOf}
-use Rattle.turns.specs.Turns.{Call, callOf, turnOf, isCurrent, Reach, reached, refusedBy, reachOf, withText, thenZeros, settled, unchanged, tableFor, visitsIn}
+use Rattle.turns.specs.Turns.{callOf, turnOf, isCurrent, Reach, reached, refusedBy, reachOf, withText, thenZeros, settled, tableFor, visitsIn}
 use Rattle.turns.proofs.Laws.{reach-accepted, reach-refused, zeros-twice}
-use Rattle.turns.specs.declared.Tally.{Tally}
-use Rattle.calls.specs.Refusals.{number, value, notCurrent, idNotBelow, refusal}
+use Rattle.calls.specs.Refusals.{number, value}
 use Rattle.calls.specs.Calls.{requested, typeCall}
 use Rattle.calls.specs.Lists.{idsIn, countIn, tailed, listEnd}
 use Rattle.calls.proofs.Claims.{number-is, request-sane}
-use Rattle.calls.proofs.Singles.{settled-with}
 use Rattle.calls.proofs.Lists.{idsFrom, ids-all, ids-none, ids-some, ids-cons, tail-length, tail-head, current, called, open-now, sane-listed}
-use Rattle.metering.specs.declared.Counted.{Counted}
 use Rattle.metering.specs.declared.Metered.{Metered}
 use Rattle.metering.specs.declared.Tallied.{Tallied}
 use Rattle.metering.specs.Within.{Within, withinOf, requestedWithin, CallWithin, countedOf, settledWithin, typeCallWithin}

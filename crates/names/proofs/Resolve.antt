@@ -1,12 +1,12 @@
 -- What is written with a name that was resolved, in terms of the rules. Assumes nothing.
 use Prim.Native.Nat.{ℕ, _+_, _<_, _≤_}
 use mathlib.Core.Path.{_≡_, refl, ap, ap₂, _∙_, sym}
-use mathlib.Core.List.{List, [], _∷_, _++_}
+use mathlib.Core.List.{List}
 use mathlib.Core.Bool.{Bool, true, false}
 use borrow.Author.Tests.{lt-ltb, le-ltb, ne-eqb}
-use Rattle.text.specs.Text.{whole, bytes}
+use Rattle.text.specs.Text.{bytes}
 use Rattle.rules.specs.Types.{isEmpty}
-use Rattle.rules.specs.Writer.{Said, said, saidText, saidNames, Writer, put}
+use Rattle.rules.specs.Writer.{Said, saidText, saidNames, Writer, put}
 use Rattle.rules.specs.Place.{outOf, putSaid}
 use Rattle.rules.specs.Names.{Space, Resolved, spelled, resolving, resolveTypeName, resolveName}
 use Rattle.btf.specs.declared.types.Btf.{Btf}

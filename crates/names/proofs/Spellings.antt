@@ -6,7 +6,7 @@ use mathlib.Core.Bool.{Bool, true, false}
 use borrow.Author.Tests.{lt-ltb, le-ltb}
 use Rattle.text.specs.Text.{ascii, whole, putOut, putText}
 use Rattle.text.specs.Decimal.{decimal}
-use Rattle.text.proofs.TextLaws.{put-seq, put-same, put-empty}
+use Rattle.text.proofs.TextLaws.{put-same, put-empty}
 use Rattle.rules.specs.Types.{isEmpty}
 use Rattle.rules.specs.Writer.{put}
 use Rattle.rules.specs.Names.{spelled}

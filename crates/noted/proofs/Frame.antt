@@ -1,13 +1,13 @@
 -- What emission with entries leaves alone: whatever reads neither emission's marks and flags nor the names. Assumes nothing.
 use Prim.Native.Nat.{ℕ, zero, suc, _+_, _-_, _*_, _<_}
-use mathlib.Core.Path.{_≡_, refl, ap, _∙_, sym}
+use mathlib.Core.Path.{_≡_, refl, _∙_, sym}
 use mathlib.Core.List.{List, [], _∷_, _++_}
 use mathlib.Core.Bool.{Bool, true, false, not, _&&_, _||_}
 use mathlib.Core.Logic.{⊎-elim, _≢_}
 use native.Mathlib.Omega.{arith}
 use lib.Dec.{eqb, ltb}
 use lib.ListN.{length}
-use Rattle.text.specs.Text.{Text, Out as TextOut, done as lies, stopped, putText}
+use Rattle.text.specs.Text.{Out as TextOut, done as lies, stopped, putText}
 use Rattle.lent.proofs.Laws.{le-or-lt}
 use Rattle.rules.specs.Order.{Node, ignored, plain, listed, through, ptr, tdef, proto, comp, Mark, new, busy, done}
 use Rattle.rules.specs.Machine.{Out, wrote, stuck, Machine, isZero, pick, obind, eeach, once, mention, again, close, leaf, within, begin, allowed, look}
@@ -27,7 +27,7 @@ use Rattle.btf.proofs.Laws.{place-type, place-enum}
 use Rattle.btf.proofs.Frame.{field-other, table-field, table-type-version, table-value-version, counted-other}
 use Rattle.marks.specs.Work.{code}
 use Rattle.sheet.specs.Sheet.{Sheet, sheetOf, lineIn, workMachine}
-use Rattle.causes.specs.Causes.{Entry, entry, Noted, withEntries, upTo, line, causeAt, noting, emitNoted, showsIn}
+use Rattle.causes.specs.Causes.{Entry, entry, Noted, withEntries, upTo, line, causeAt, emitNoted, showsIn}
 use Rattle.sheet.proofs.Frame.{table-emark, places}
 use Rattle.noted.specs.Noted.{machN}
 

@@ -2,50 +2,38 @@
 use Prim.Native.Nat.{ℕ, zero, suc, _+_, _*_, _-_, _/_, _<_, _≤_}
 use mathlib.Core.Path.{_≡_, refl, ap, _∙_, sym, subst}
 use mathlib.Core.List.{List, [], _∷_, _++_}
-use mathlib.Core.Bool.{Bool, true, false, not, _&&_, _||_, true≢false}
-use mathlib.Core.Logic.{_⊎_, ⊎-elim}
+use mathlib.Core.Bool.{Bool, true, false, not, true≢false}
 use native.Mathlib.Omega.{arith}
 use native.Mathlib.Numerals.{add-one}
-use lib.Dec.{eqb, ltb}
+use lib.Dec.{ltb}
 use lib.ListN.{length, length-append}
 use borrow.Author.Tests.{eq-eqb, ne-eqb, lt-ltb, le-ltb}
-use Rattle.text.specs.Text.{Text, whole, cut, bytes, Out as TextOut, stopped, isStopped, putOut, written, putText}
-use Rattle.text.proofs.TextLaws.{out-done, out-stopped, put-fits, stays}
+use Rattle.text.specs.Text.{cut, bytes, stopped, isStopped, putOut, written, putText}
+use Rattle.text.proofs.TextLaws.{out-done, put-fits, stays}
 use Rattle.lent.specs.Words.{getWord, putWord}
-use Rattle.lent.proofs.Laws.{le-or-lt, put-length, get-put-same, get-put-other}
-use Rattle.rules.specs.Order.{Node, ignored, plain, listed, through, ptr, tdef, proto, comp, Mark, new, busy, done}
-use Rattle.rules.specs.Machine.{Out, wrote, stuck, Machine, isZero, pick, obind, eeach, once, mention, again, close, leaf, within, begin, allowed, look}
-use Rattle.rules.specs.Types.{BtfType, Btf as Rules, nameOf, nodeOf, isNamed, isEmpty, memberTypes, tableOf}
+use Rattle.lent.proofs.Laws.{put-length, get-put-same, get-put-other}
+use Rattle.rules.specs.Machine.{Out, wrote, stuck, obind}
+use Rattle.rules.specs.Types.{Btf as Rules, nameOf, isNamed, isEmpty}
 use Rattle.rules.specs.Names.{contains, builtin}
-use Rattle.rules.specs.Writer.{Said, Writer}
-use Rattle.rules.specs.Place.{withNames, outOf, putSaid}
-use Rattle.alignments.specs.Writers.{definitionOnce, forwardOnce}
-use Rattle.asked.specs.Asked.{workAsks}
+use Rattle.rules.specs.Writer.{Writer}
+use Rattle.rules.specs.Place.{outOf, putSaid}
 use Rattle.rules.proofs.Writing.{said-stopped}
 use Rattle.btf.specs.declared.types.Btf.{Btf}
 use Rattle.btf.specs.declared.types.BtfType.{BtfType as Record}
-use Rattle.btf.specs.declared.types.Entries.{Entries}
-use Rattle.btf.specs.declared.node.Node.{Node as Code}
 use Rattle.btf.specs.declared.node.Node.the-variants as code
-use Rattle.btf.specs.Cells.{getField, putField}
 use Rattle.btf.specs.Names.{strAt}
-use Rattle.btf.specs.Records.{kindOf, sectionWord, memberAt, paramAt, recordById}
-use Rattle.btf.specs.Table.{from, membersOf, typeOf, btfOf, workNaming}
-use Rattle.btf.specs.Nodes.{nodeIs, memberIds, paramIds}
-use Rattle.btf.proofs.Frame.{field-other}
+use Rattle.btf.specs.Records.{kindOf}
+use Rattle.btf.specs.Table.{typeOf, btfOf}
 use Rattle.btf.proofs.KindLaws.{by-kind, type-0, type-1, type-2, type-3, type-4, type-5, type-6, type-7, type-8, type-9, type-10, type-11, type-12, type-13, type-14, type-15, type-16, type-17, type-18, type-19, type-none}
-use Rattle.marks.specs.Work.{markOf}
-use Rattle.marks.proofs.Laws.{is-done, is-busy, is-new, type-at, node-at, named-at, node-is}
-use Rattle.sheet.specs.Sheet.{Sheet, sheetOf, withWork, emitOut, lineIn, workMachine}
+use Rattle.sheet.specs.Sheet.{Sheet, sheetOf, withWork, lineIn}
 use Rattle.sheet.proofs.Laws.{sheet, by-out}
 use Rattle.sheet.proofs.Laws as plainly
-use Rattle.sheet.proofs.Frame.{table-emark}
-use Rattle.causes.specs.Causes.{Entry, entry, Noted, withEntries, upTo, line, causeAt, noting, emitNoted, showsIn}
+use Rattle.causes.specs.Causes.{Entry, entry, Noted, withEntries, line, causeAt}
 use Rattle.leads.specs.Leads.{leaderIn, entryIn}
 use Rattle.noted.specs.declared.Pen.{Pen}
 use Rattle.noted.specs.declared.Cause.{Cause}
-use Rattle.noted.specs.Noted.{entryAt, entriesOf, entryOf, entryPut, notedOut, noteN, noteIfN, lineN, shownOf, machN, emitN, newN, againN, leafN, compositeN, hasN, onceN, mentionN}
-use Rattle.noted.proofs.Frame.{Stays, on, off, stays-then, table-emit, table-each}
+use Rattle.noted.specs.Noted.{entryAt, entriesOf, entryOf, entryPut, notedOut, noteN, noteIfN, lineN, shownOf, emitN}
+use Rattle.noted.proofs.Frame.{Stays, on, off, stays-then, table-emit}
 
 abbrev pub paper : ℕ → Pen → List ℕ → List ℕ → List ℕ → Noted Sheet
 paper n p t w l = record { mach = sheet n (p .at) t w; entries = entriesOf (p .count) l }

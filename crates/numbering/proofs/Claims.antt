@@ -4,26 +4,25 @@ use native.Mathlib.Omega.{arith}
 use mathlib.Core.Path.{_≡_, refl, sym, _∙_, ap, subst}
 use mathlib.Core.Bool.{Bool, true, false, not, true≢false}
 use mathlib.Core.List.{List, [], _∷_, List·Memᴰ}
-use mathlib.Core.Logic.{_⊎_, inl, inr, _↔_}
+use mathlib.Core.Logic.{_⊎_, inl, inr}
 use lib.ListN.{length, getD, replicate, length-replicate}
 use lib.Dec.{eqb}
-use borrow.Author.Tests.{eq-eqb, ne-eqb, eqb-true, eqb-false}
+use borrow.Author.Tests.{eqb-true, eqb-false}
 use Rattle.lent.specs.Words.{getWord, table, words}
 use Rattle.lent.proofs.Laws.{le-or-lt}
 use Rattle.records.specs.Documentation.{int, ptr, array, struct, union, enum, fwd, typedef, volatile, const, restrict, func, func-proto, var, datasec, float, decl-tag, type-tag, enum64, Described, described}
 use Rattle.records.specs.Fields.{kindIn}
 use Rattle.btf.specs.declared.types.Btf.{Btf}
 use Rattle.followed.specs.Followed.{countOf, kindAt}
-use Rattle.followed.specs.Bounds.{count-fits, kind-out}
-use Rattle.followed.specs.Zeros.{zeros}
+use Rattle.followed.specs.Bounds.{kind-out}
 use Rattle.followed.proofs.Zeros.{zeros-max}
-use Rattle.cut.specs.Kept.{voidType, typeOf, Reached, asked, isDeclTag, third, Kept, reached, its-tag, Tells}
+use Rattle.cut.specs.Kept.{voidType, typeOf, Reached, asked, isDeclTag, third, Kept, reached, its-tag}
 use Rattle.cut.specs.Renumbered.{keptTo, newId}
 use Rattle.cut.specs.Test.{isKept}
 use Rattle.cut.proofs.Test.{kept-tells}
 use Rattle.reopened.specs.Seen.{Seen}
 use Rattle.reopened.proofs.Renamed.{tag-kind}
-use Rattle.tagging.specs.Tags.{tagOn, taggedTo, numbersOf}
+use Rattle.tagging.specs.Tags.{tagOn, taggedTo}
 use Rattle.marking.specs.Marks.{Heap, heap, marksIn, pushedTo, weight, closed, allZero, asked as first, reachedMarks, idsOf}
 use Rattle.numbering.specs.Marked.{Has, Markable, OnStack, Good, Passed}
 use Rattle.numbering.proofs.Marks as marks

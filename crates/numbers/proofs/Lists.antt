@@ -1,12 +1,12 @@
 -- Laws of the lists in the work: the walk along one, and that counting leaves them alone. Assumes nothing.
-use Prim.Native.Nat.{ℕ, zero, suc, _+_, _-_, _*_, _≤_, _<_}
+use Prim.Native.Nat.{ℕ, zero, suc, _+_, _-_, _≤_, _<_}
 use mathlib.Core.Path.{_≡_, refl, sym, _∙_, ap, ap₂}
 use mathlib.Core.Bool.{Bool, true, false}
 use mathlib.Core.List.{List, [], _∷_}
 use mathlib.Core.Logic.{⊎-elim, _≢_}
 use native.Mathlib.Omega.{arith}
-use lib.Dec.{ltb, leb}
-use borrow.Author.Tests.{lt-ltb, le-ltb, lt-leb, le-leb, ltb-true, ltb-false}
+use lib.Dec.{ltb}
+use borrow.Author.Tests.{lt-ltb, le-ltb, lt-leb, le-leb}
 use Rattle.lent.specs.Words.{getWord, oneMore, pick}
 use Rattle.lent.proofs.Laws.{le-or-lt}
 use Rattle.btf.specs.Cells.{placeOf, classP, countP, countOf, counted}

@@ -12,7 +12,7 @@ use Rattle.lent.proofs.Laws.{le-or-lt}
 use Rattle.btf.specs.declared.types.Btf.{Btf}
 use Rattle.btf.specs.declared.types.BtfType.{BtfType}
 use Rattle.btf.specs.Cells.{getField, classP, countP}
-use Rattle.btf.specs.Records.{sectionWord, kindOf, recordAt, recordById}
+use Rattle.btf.specs.Records.{kindOf, recordAt, recordById}
 use Rattle.btf.specs.Numbers.{takenP}
 use Rattle.btf.specs.Table.{tagsFrom, tagsOf, enumeratorOf}
 use Rattle.btf.proofs.Frame.{tags-same}

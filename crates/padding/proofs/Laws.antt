@@ -3,7 +3,6 @@ use Prim.Native.Nat.{ℕ, _-_, _<_, _≤_}
 use mathlib.Core.Path.{_≡_, refl, ap, ap₂, _∙_, sym}
 use mathlib.Core.Bool.{Bool, true, false}
 use mathlib.Core.List.{List, []}
-use lib.Dec.{leb}
 use borrow.Author.Tests.{le-leb, lt-leb}
 use Rattle.text.specs.Text.{whole, cut, putOut, putText}
 use Rattle.rules.specs.Writer.{put}
@@ -15,7 +14,7 @@ use Rattle.rules.proofs.Writing.{put-only, put-nothing}
 use Rattle.btf.specs.Cells.{getField}
 use Rattle.layout.specs.declared.Ask.{Ask as Answer}
 use Rattle.layout.specs.declared.Ask.the-variants.{Got, No}
-use Rattle.alignments.specs.Once.{Keep, Once, found, refused, Asking, onceThen}
+use Rattle.alignments.specs.Once.{Keep, Once, found, Asking, onceThen}
 use Rattle.alignments.specs.Steps.{gapAlignOnce, paddingOnce}
 use Rattle.remembered.specs.Words.{workKeep, forget}
 use Rattle.remembered.proofs.Turns.{next, then-next}

@@ -8,7 +8,7 @@ use borrow.Author.Tests.{lt-ltb, le-ltb, ne-eqb}
 use Rattle.text.specs.Text.{whole, isStopped, putOut, putText, ascii, pfx}
 use Rattle.text.specs.Decimal.{decimal}
 use Rattle.text.proofs.TextLaws.{put-seq, put-same, put-empty, put-stopped}
-use Rattle.rules.specs.Layout.{long, int, short, char, Pad, padOf, padsOf, gapPads}
+use Rattle.rules.specs.Layout.{char, Pad, padOf, padsOf, gapPads}
 use Rattle.rules.specs.Decl.{unitWord, pads}
 use Rattle.btf.specs.declared.types.Btf.{Btf}
 use Rattle.btf.specs.Table.{btfOf}

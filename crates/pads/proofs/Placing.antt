@@ -1,20 +1,18 @@
 -- Placing mode: what each return of the code comes to. Assumes nothing.
-use Prim.Native.Nat.{ℕ, zero, suc, _+_, _-_, _*_, _/_, _%_, _<_, _≤_}
+use Prim.Native.Nat.{ℕ, zero, suc, _+_, _-_, _*_, _<_, _≤_}
 use mathlib.Core.Path.{_≡_, refl, ap, ap₂, _∙_, sym}
-use mathlib.Core.Bool.{Bool, true, false, not, _&&_}
+use mathlib.Core.Bool.{Bool, true, false, _&&_}
 use mathlib.Core.List.{List, [], _∷_, _++_}
 use native.Mathlib.Omega.{arith}
-use lib.Dec.{eqb, leb, ltb, leb·zero, leb·suc-zero, leb·suc-suc}
-use lib.Count.{trailingZeros, under}
-use borrow.Author.Tests.{lt-ltb, le-ltb, le-leb, lt-leb, eq-eqb, ne-eqb, eqb-true}
-use Rattle.text.specs.Text.{Text, whole, isStopped, putOut, putText, ascii}
+use borrow.Author.Tests.{lt-ltb, le-ltb, ne-eqb}
+use Rattle.text.specs.Text.{whole, isStopped, putOut, putText, ascii}
 use Rattle.text.proofs.TextLaws.{put-seq, put-same, put-empty, put-stopped}
-use Rattle.rules.specs.Layout.{char, Pad, suits, placedPad, placedPads, placedGap, gapPads, padsBefore}
+use Rattle.rules.specs.Layout.{Pad, placedPad, placedPads, placedGap, gapPads, padsBefore}
 use Rattle.rules.specs.Placing.{tailPads}
 use Rattle.rules.specs.Decl.{pads, ownLine, tailText}
 use Rattle.rules.proofs.Placed.{pad-stays}
 use Rattle.units.specs.declared.Pad.{Pad as Code}
-use Rattle.units.specs.Units.{unitOf, padIs}
+use Rattle.units.specs.Units.{padIs}
 use Rattle.pads.specs.Texts.{padLine, loneLine}
 use Rattle.pads.proofs.Laws.{Goes}
 

@@ -1,9 +1,9 @@
 -- With lists that are right the mode over lists writes what the mode of crate apart writes: the number of the k-th holder is the k-th that the table
 -- leaves free, since the numbers of the holders before were printed. For every table and every list of requests. Assumes nothing.
-use Prim.Native.Nat.{ℕ, zero, suc, _+_, _≤_, _<_}
+use Prim.Native.Nat.{ℕ, zero, suc, _≤_, _<_}
 use mathlib.Core.Path.{_≡_, refl, sym, _∙_, ap, ap₂, subst}
 use mathlib.Core.Bool.{Bool, true, false}
-use mathlib.Core.List.{List, [], _∷_, _++_, List·Memᴰ, List·Memᴰ·head, List·Memᴰ·tail, List·Memᴰ·not-nil, List·Memᴰ·cases-cons, List·Memᴰ·append-cases, Memᴰ·append-left, Memᴰ·append-right}
+use mathlib.Core.List.{List, _∷_, List·Memᴰ, List·Memᴰ·head, List·Memᴰ·tail, List·Memᴰ·not-nil, List·Memᴰ·cases-cons, List·Memᴰ·append-cases, Memᴰ·append-left, Memᴰ·append-right}
 use mathlib.Core.Logic.{_⊎_, inl, inr, ⊎-elim}
 use native.Mathlib.Omega.{arith}
 use lib.ListN.{length, getD, set, replicate}
@@ -23,7 +23,7 @@ use Rattle.apart.specs.Apart.{tableNames, Who, ofType, ofValue, Shown, Apart, s
 use Rattle.apart.proofs.Laws.{mem-among, spelling-in, spelled-first, more-is}
 use Rattle.apart.proofs.Splits.{splits-once}
 use Rattle.apart.proofs.Fair.{more-some, more-most, same-or-not, grows, spaceOf, entry, own}
-use Rattle.apart.proofs.Alike.{among-mem, in-spellings, spelled-low, more-stuck, more-first}
+use Rattle.apart.proofs.Alike.{among-mem, in-spellings, more-stuck, more-first}
 use Rattle.apart.proofs.Session.{Fits, FitsValue, fits, set-one}
 use Rattle.btf.specs.Numbers.{numberOver}
 use Rattle.ledger.specs.Passed.{Lists, nextNumber, typePassed, valuePassed, passed}

@@ -2,16 +2,15 @@
 use Prim.Native.Nat.{ℕ}
 use mathlib.Core.Path.{_≡_, refl, ap, _∙_, sym}
 use mathlib.Core.List.{List, [], _∷_, _++_}
-use Rattle.text.specs.Text.{ascii, Text, whole, Out, putOut, putText}
+use Rattle.text.specs.Text.{ascii, whole, putOut, putText}
 use Rattle.text.specs.Decimal.{decimal}
 use Rattle.text.proofs.TextLaws.{put-seq}
-use Rattle.turns.specs.declared.Answer.{Answer}
 use Rattle.turns.specs.declared.Answer.the-variants.{Accepted, Refused}
 use Rattle.turns.specs.declared.Session.{Session}
 use Rattle.turns.specs.declared.Turn.{Turn}
 use Rattle.turns.specs.Turns.{Call, callOf}
 use Rattle.calls.specs.Calls.{openCall, typesCall}
-use Rattle.printed.specs.Printed.{neverOpened, refusedLine, Ran, ranTo, shown, ranAll, ranOpened, ranOn}
+use Rattle.printed.specs.Printed.{neverOpened, refusedLine, ranTo, shown, ranAll, ranOpened, ranOn}
 
 pub line-is : (t : List ℕ) (n : ℕ) (p₁ : ℕ) (t₁ : List ℕ) (p₂ : ℕ) (t₂ : List ℕ) (p₃ : ℕ) (t₃ : List ℕ) → putOut p₁ t₁ ≡ putText t 0 (whole (ascii "refused ")) → putOut p₂ t₂ ≡ putText t₁ p₁ (whole (decimal n)) → putOut p₃ t₃ ≡ putText t₂ p₂ (whole (10 ∷ []))
     → putOut p₃ t₃ ≡ putText t 0 (refusedLine n)

@@ -1,30 +1,29 @@
 -- Laws of a request with its entries: the listed ids, and the emptied list. Assumes nothing.
-use Prim.Native.Nat.{ℕ, zero, suc, _+_, _-_, _<_, _≤_}
+use Prim.Native.Nat.{ℕ, _+_, _-_, _<_, _≤_}
 use mathlib.Core.Path.{_≡_, refl, ap, _∙_, sym, subst}
 use mathlib.Core.List.{List, []}
-use mathlib.Core.Bool.{Bool, true, false}
+use mathlib.Core.Bool.{Bool, false}
 use native.Mathlib.Omega.{arith}
 use lib.ListN.{length, replicate}
-use Rattle.text.specs.Text.{Text, cut, bytes, stopped, putOut, written, putText}
+use Rattle.text.specs.Text.{cut, bytes, stopped, putOut, written, putText}
 use Rattle.text.proofs.TextLaws.{put-fits, stays}
 use Rattle.rules.specs.Order.{Res, ok, refused, bind}
-use Rattle.rules.specs.Machine.{Out, wrote, stuck, Machine, obind, eeach}
-use Rattle.rules.specs.Types.{Btf as Rules, tableOf}
+use Rattle.rules.specs.Machine.{Out, wrote, stuck, obind, eeach}
+use Rattle.rules.specs.Types.{Btf as Rules}
 use Rattle.btf.specs.declared.types.Btf.{Btf}
 use Rattle.btf.specs.Cells.{getField}
 use Rattle.btf.specs.Table.{from, btfOf}
 use Rattle.marks.specs.declared.Order.{Order}
-use Rattle.marks.specs.Work.{Marks, workStore, tableIn}
+use Rattle.marks.specs.Work.{workStore, tableIn}
 use Rattle.sheet.specs.Sheet.{Sheet, sheetStore, emptied, workMachine}
 use Rattle.sheet.proofs.Frame.{places}
 use Rattle.sheet.proofs.Laws.{sheet, by-out}
 use Rattle.causes.specs.Causes.{Entry, Noted}
-use Rattle.leads.specs.declared.Way.{Way}
 use Rattle.leads.specs.Leads.{Kept, orderKept, keptOut, entryIn}
 use Rattle.leads.proofs.Laws.{keptOf, table-kept}
 use Rattle.leads.proofs.Laws as kept
 use Rattle.noted.specs.declared.Pen.{Pen}
-use Rattle.noted.specs.Noted.{entriesOf, notedOut, emitN}
+use Rattle.noted.specs.Noted.{notedOut, emitN}
 use Rattle.noted.proofs.Frame.{Stays, on, off, stays-then, places-emit}
 use Rattle.noted.proofs.Laws.{paper, goes, halts, obind-then, at-sheet, entry-stays}
 use Rattle.noted.proofs.Walk.{Rest, rest-start, rest-turn, rest-end}

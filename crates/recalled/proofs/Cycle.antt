@@ -2,11 +2,9 @@
 use Prim.Native.Nat.{ℕ, zero, suc, _+_, _-_, _/_, _%_, _<_, _≤_}
 use native.Mathlib.Omega.{arith}
 use mathlib.Core.Path.{_≡_, refl, ap, _∙_, sym, subst}
-use mathlib.Core.Bool.{Bool, true, false}
-use mathlib.Core.List.{List, []}
+use mathlib.Core.List.{List}
 use mathlib.Core.Logic.{⊎-elim}
 use lib.ListN.{length}
-use lib.Dec.{leb, eqb}
 use borrow.Author.Tests.{ne-eqb}
 use Rattle.lent.proofs.Laws.{le-or-lt}
 use Rattle.rules.specs.Layout.{larger}
@@ -14,11 +12,9 @@ use Rattle.rules.specs.Types.{Member, memberTypes, BtfType, Btf as Rules}
 use Rattle.btf.specs.declared.types.Btf.{Btf}
 use Rattle.btf.specs.declared.types.BtfType.{BtfType as Record}
 use Rattle.btf.specs.declared.types.Entries.{Entries}
-use Rattle.btf.specs.Cells.{putField}
 use Rattle.btf.specs.Records.{sectionWord, kindOf, vlenOf, memberAt, memberOf, recordById, entriesOf}
 use Rattle.btf.specs.Table.{from, ruleMember, membersOf, typeOf, btfOf}
 use Rattle.btf.specs.Nodes.{memberIds}
-use Rattle.btf.proofs.Frame.{table-field}
 use Rattle.btf.proofs.KindLaws.{by-kind, member-types}
 use Rattle.alignments.specs.Once.{Seen, Known, unknown, known, Keep, Once, found, refused, Asking, onceThen, above, alone, widest, membersOnce, taken, typeOnce, keepOnce, alignOnce, memberCount}
 use Rattle.alignments.proofs.Right.{taken-found, taken-refused}
@@ -27,7 +23,7 @@ use Rattle.remembered.specs.declared.Once.{Once as Answer}
 use Rattle.remembered.specs.declared.Once.the-variants.{Found, No}
 use Rattle.remembered.specs.declared.Step.{Step}
 use Rattle.remembered.specs.declared.Step.the-variants.{Own, Through, Members}
-use Rattle.remembered.specs.Words.{seenWord, decoded, coded, counted, remembered, workKeep, onceOf, heightOf, takenBy, forget, onceWith, idsOnce, idsWith, keptWith, stepAt}
+use Rattle.remembered.specs.Words.{seenWord, decoded, coded, remembered, workKeep, onceOf, heightOf, takenBy, forget, onceWith, idsOnce, idsWith, keptWith, stepAt}
 use Rattle.remembered.proofs.Laws.{taken-over, taken-fits}
 use Rattle.remembered.proofs.Keeps.{table-keeps}
 use Rattle.remembered.proofs.Turns.{members-ids, next, then-next, forget-ids, forget-align, Held, held-forget, ids-held, align-held}

@@ -1,7 +1,7 @@
 -- A whole type area: (a) reading what was laid out gives it back; (b) what passes the tests is the layout of exactly one list of types. Assumes nothing.
 use Prim.Native.Nat.{ℕ, zero, suc, zero-le, suc-le-suc, _+_, _<_, _≤_}
 use mathlib.Core.Path.{_≡_, refl, ap, _∙_, sym}
-use mathlib.Core.Bool.{Bool, true, false, _&&_}
+use mathlib.Core.Bool.{Bool, true, _&&_}
 use mathlib.Core.List.{List, [], _∷_, _++_, map}
 use mathlib.Core.Logic.{⊎-elim, _⊎_, inl, inr, _↔_}
 use native.Mathlib.Omega.{arith}

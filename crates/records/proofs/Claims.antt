@@ -3,7 +3,7 @@
 -- beside its premises. Each holds for both orders of bytes: for any order `big`, or for the one that the section's magic tells.
 use Prim.Native.Nat.{ℕ, _+_, _*_, _/_, _%_, _<_, _≤_, _^_}
 use mathlib.Core.Path.{_≡_, ap, _∙_}
-use mathlib.Core.Bool.{Bool, true, false, _||_}
+use mathlib.Core.Bool.{Bool, true, _||_}
 use mathlib.Core.List.{List, [], _∷_, _++_}
 use mathlib.Core.Logic.{_↔_}
 use native.Mathlib.Omega.{arith}

@@ -1,5 +1,5 @@
 -- The string area (2.1): read as it was laid out, and laid out as it was read. Assumes nothing.
-use Prim.Native.Nat.{ℕ, zero, suc, zero-le, suc-le-suc, _<_, _≤_}
+use Prim.Native.Nat.{ℕ, suc, zero-le, suc-le-suc, _<_, _≤_}
 use mathlib.Core.Path.{_≡_, refl, ap, _∙_, sym}
 use mathlib.Core.Bool.{Bool, true, false, true≢false}
 use mathlib.Core.List.{List, [], _∷_, _++_}

@@ -1,7 +1,7 @@
 -- The tables of the documentation: each field's bytes stand at the offset that the table gives, and the reader's lengths are the table's. Assumes nothing.
-use Prim.Native.Nat.{ℕ, zero, suc, _+_, _<_, _/_}
+use Prim.Native.Nat.{ℕ, zero, suc, _+_, _<_}
 use mathlib.Core.Path.{_≡_, refl, ap, _∙_, sym}
-use mathlib.Core.Bool.{Bool, true, false}
+use mathlib.Core.Bool.{Bool}
 use mathlib.Core.List.{List, [], _∷_, _++_, map, append-assoc}
 use native.Mathlib.Omega.{arith}
 use lib.ListN.{length, getD, take, drop, length-append, length-map}

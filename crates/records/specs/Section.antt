@@ -1,6 +1,6 @@
 -- A section as it is read: the fields of its header, its two areas, and the tests of causes 3, 4 and 5 of opening. Law types-places: the test of
 -- cause 5 by places in the section's own bytes is the one here.
-use Prim.Native.Nat.{ℕ, zero, suc, _+_, _<_, _≤_}
+use Prim.Native.Nat.{ℕ, _+_, _<_, _≤_}
 use mathlib.Core.Path.{_≡_}
 use mathlib.Core.Bool.{Bool, true, false, _&&_, _||_}
 use mathlib.Core.List.{List, [], _∷_}

@@ -5,7 +5,7 @@ use mathlib.Core.Bool.{Bool, true, false}
 use mathlib.Core.List.{List, [], _∷_}
 use mathlib.Core.Logic.{inl}
 use lib.ListN.{length}
-use Rattle.rules.specs.Writer.{Ask, Writer, saidText, _⨾_, put, stop, given}
+use Rattle.rules.specs.Writer.{Ask, Writer, saidText, _⨾_, put, given}
 use Rattle.rules.specs.Types.{Name, isEmpty, Member, BtfType, Void, Int, Ptr, Array, Composite, Enum, Enum64, Fwd, Typedef, Mod, Func, Var, Datasec, FuncProto, Float, DeclTag, TypeTag, Btf}
 use Rattle.rules.specs.Layout.{Pad, endOf}
 use Rattle.rules.specs.Placing.{tailPads}

@@ -1,11 +1,11 @@
 -- What refuses a question with a memory: 12, 15, 16 and 18. Assumes nothing.
 use Prim.Native.Nat.{ℕ, zero, suc, _-_, _*_, _%_}
-use mathlib.Core.Path.{_≡_, refl}
+use mathlib.Core.Path.{refl}
 use mathlib.Core.Bool.{Bool, true, false, _&&_}
 use mathlib.Core.List.{List, [], _∷_}
 use mathlib.Core.Logic.{inl, inr}
 use lib.Dec.{ltb, leb, eqb}
-use Rattle.rules.specs.Writer.{Ask, got, no, askThen, checked, tooDeep}
+use Rattle.rules.specs.Writer.{Ask, got, askThen, checked, tooDeep}
 use Rattle.rules.specs.Types.{Member, BtfType, Void, Int, Ptr, Array, Composite, Enum, Enum64, Fwd, Typedef, Mod, Func, Var, Datasec, FuncProto, Float, DeclTag, TypeTag, Btf}
 use Rattle.rules.specs.Layout.{getSizeOf, endOf, padsBefore}
 use Rattle.rules.specs.Placing.{fieldSize, Extent, withMember, extentOf, noExtent, sizeFits}

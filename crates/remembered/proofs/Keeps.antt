@@ -10,7 +10,7 @@ use Rattle.btf.specs.declared.types.Btf.{Btf}
 use Rattle.btf.specs.Cells.{putField}
 use Rattle.btf.specs.Table.{btfOf}
 use Rattle.btf.proofs.Frame.{table-field}
-use Rattle.alignments.specs.Once.{Seen, Keep, memberCount}
+use Rattle.alignments.specs.Once.{Seen, memberCount}
 use Rattle.remembered.specs.Words.{coded, counted, remembered, workKeep}
 
 module _ (b : Btf) (s : List ℕ) where

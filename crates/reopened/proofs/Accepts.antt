@@ -7,7 +7,7 @@ use mathlib.Core.List.{List, [], _∷_, _++_, List·Memᴰ}
 use lib.ListN.{length, getD, length-append}
 use lib.Dec.{leb}
 use borrow.Author.Tests.{leb-true, le-ltb}
-use Rattle.records.specs.Documentation.{Described, Every, Fits, Allowed, encodeAll, header, btf-header, btf-version, sizeOf, encodeHeader, encodeSection}
+use Rattle.records.specs.Documentation.{Described, Every, Fits, encodeAll, header, btf-header, btf-version, sizeOf, encodeHeader, encodeSection}
 use Rattle.records.specs.Reading.{Bytes}
 use Rattle.records.specs.Section.{bigEndian, strLen, stringArea, headerSound, stringsSound, typesSound, allAscii, ReadAs}
 use Rattle.records.proofs.Claims.{section-fields}
@@ -19,12 +19,11 @@ use Rattle.prototypes.proofs.Held.{any-leads}
 use Rattle.loops.specs.Loops.{TypeLoop}
 use Rattle.loops.proofs.TypeLoops.{type-loop}
 use Rattle.opened.specs.Table as opening
-use Rattle.opened.specs.Table.{describedIn, enumeratorsOf, indexOf}
-use Rattle.opened.specs.Causes.{cause1, cause2, cause3, cause4, cause5, cause6, cause7, cause8, cause9, tableOf, causes, openingNumber}
+use Rattle.opened.specs.Table.{enumeratorsOf, indexOf}
+use Rattle.opened.specs.Causes.{cause2, cause3, cause4, cause5, cause6, cause7, cause8, cause9, tableOf, causes, openingNumber}
 use Rattle.opened.proofs.Order.{NoneHolds, sound-none}
 use Rattle.opened.proofs.ReadBack.{header-ok, strings-ok, types-ok}
-use Rattle.cut.specs.Kept.{followedIds, typeOf, isDeclTag, Tells}
-use Rattle.cut.specs.Renumbered.{newId}
+use Rattle.cut.specs.Kept.{followedIds, typeOf, Tells}
 use Rattle.cut.specs.Section.{typesOf, newTypes, newOffset, newStrings, cutSection}
 use Rattle.cut.proofs.Numbers.{Stays}
 use Rattle.cut.proofs.Claims.{GoodReferences, kept-closed}

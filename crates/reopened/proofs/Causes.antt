@@ -20,7 +20,7 @@ use Rattle.followed.proofs.Accessors.{each}
 use Rattle.prototypes.specs.Prototypes.{through, ToProto, ends, passes, ProtoInside}
 use Rattle.loops.specs.Loops.{passing, TypeLoop}
 use Rattle.cut.specs.Kept.{followedIds, voidType, typeOf, isDeclTag}
-use Rattle.cut.specs.Renumbered.{keptTo, newId, keptTypes, renamedAll}
+use Rattle.cut.specs.Renumbered.{keptTo, newId, keptTypes}
 use Rattle.cut.proofs.Numbers.{Stays, is-void, is-kept, new-zero, new-kept, new-one, kept-length, new-below, renamed-length}
 use Rattle.cut.proofs.Claims.{GoodReferences}
 use Rattle.reopened.specs.Seen.{Seen}

@@ -6,9 +6,9 @@ use mathlib.Core.Bool.{Bool, true, false, _&&_, true≢false}
 use mathlib.Core.List.{List, [], _∷_, List·Memᴰ, List·Memᴰ·head, List·Memᴰ·tail, List·Memᴰ·not-nil}
 use mathlib.Core.Logic.{_⊎_, inl, inr}
 use lib.ListN.{length, getD}
-use lib.Dec.{leb, eqb}
+use lib.Dec.{leb}
 use Rattle.lent.proofs.Laws.{le-or-lt}
-use Rattle.records.specs.Documentation.{Member, Param, param, Described, described}
+use Rattle.records.specs.Documentation.{param, Described, described}
 use Rattle.records.specs.Reading.{Bytes, kindTable, none, kind, shape, known}
 use Rattle.records.specs.Places.{kindP, memberP, tabulate, typeP, soundP}
 use Rattle.records.specs.Fields.{kindIn, sizeOrType}
@@ -16,10 +16,10 @@ use Rattle.records.specs.Section.{wordOf, typesAt, typeLen, headerSound, typesS
 use Rattle.records.proofs.Claims.{section-fields, section-sound-at}
 use Rattle.records.proofs.Fields as F
 use Rattle.btf.specs.declared.types.Btf.{Btf}
-use Rattle.btf.specs.Records.{sectionWord, kindOf, vlenOf, memberAt, paramAt}
+use Rattle.btf.specs.Records.{sectionWord, paramAt}
 use Rattle.btf.proofs.Documented.{words-same}
 use Rattle.btf.proofs.KindLaws.{by-kind}
-use Rattle.followed.specs.Followed.{among, countOf, entryAt, placeOf, kindAt, countFor, idPlace, countAt, idAt, followedCount, followedId}
+use Rattle.followed.specs.Followed.{among, countOf, placeOf, kindAt, countFor, idPlace, countAt, idAt, followedCount, followedId}
 use Rattle.followed.specs.Bounds.{entry-void, followed-none}
 use Rattle.followed.proofs.Accessors.{id-param}
 use Rattle.header.specs.Header.{btfOf}

@@ -2,14 +2,14 @@
 -- of every section that opening accepts, and of every m that tells which ids are kept. Assumes nothing.
 use Prim.Native.Nat.{ℕ, zero, suc, _+_, _-_, _*_, _<_, _≤_}
 use native.Mathlib.Omega.{arith}
-use mathlib.Core.Path.{_≡_, refl, sym, _∙_, ap, ap₂, subst}
+use mathlib.Core.Path.{_≡_, refl, sym, _∙_, ap, subst}
 use mathlib.Core.Bool.{Bool, true, false}
 use mathlib.Core.List.{List, [], _∷_, _++_, List·Memᴰ}
 use mathlib.Core.Logic.{_⊎_, inl, inr}
-use lib.ListN.{length, getD, take, replicate}
+use lib.ListN.{length, getD, replicate}
 use Rattle.records.specs.Documentation.{Described, Every, Allowed}
 use Rattle.records.specs.Reading.{Bytes}
-use Rattle.records.specs.Section.{strLen, stringArea, stringsSound}
+use Rattle.records.specs.Section.{strLen, stringArea}
 use Rattle.records.proofs.Claims.{section-fields}
 use Rattle.rules.specs.Types.{BtfType, Btf as Rules, tableOf}
 use Rattle.rules.specs.Names.{Names, Naming, naming}
@@ -24,23 +24,21 @@ use Rattle.opened.specs.Table as opening
 use Rattle.opened.specs.Table.{enumeratorsOf}
 use Rattle.opened.specs.Causes.{openingNumber}
 use Rattle.opened.proofs.ReadBack.{header-ok, strings-ok, types-ok, section-short}
-use Rattle.turns.specs.declared.Session.{Session}
-use Rattle.turns.specs.Answers.{numberOf, valueOf}
 use Rattle.turns.specs.Turns.{Call}
-use Rattle.calls.specs.Calls.{openCall, typeCall}
+use Rattle.calls.specs.Calls.{typeCall}
 use Rattle.demand.specs.Lists.{Ls}
 use Rattle.demand.specs.Session.{Known, textOf, machineBy, openedBy, machine, noNames, opened, dumpTypes}
 use Rattle.cut.specs.Kept.{voidType, Tells}
 use Rattle.cut.specs.Renumbered.{newId}
 use Rattle.cut.specs.Strings.{allMentions}
 use Rattle.cut.specs.Test.{isKept}
-use Rattle.cut.specs.Section.{typesOf, oldTypes, newTypes, newOffset, newStrings, cutSection}
+use Rattle.cut.specs.Section.{typesOf, oldTypes, newTypes, newStrings, cutSection}
 use Rattle.cut.specs.Stands.{Renumbered, no-requests, request}
 use Rattle.cut.specs.Table as cut
 use Rattle.cut.specs.Table.{Reads}
 use Rattle.cut.proofs.Numbers.{Stays, is-void, is-kept}
 use Rattle.cut.proofs.Written.{every-kept}
-use Rattle.cut.proofs.Steps.{BothSess, BothAnswer}
+use Rattle.cut.proofs.Steps.{BothAnswer}
 use Rattle.cut.proofs.Sessions.{pieces-text}
 use Rattle.cut.proofs.Test.{kept-tells}
 use Rattle.cut.proofs.Claims as cut-claims
@@ -49,7 +47,7 @@ use Rattle.claims.specs.Table.{headerOf, openedTable, namesIn}
 use Rattle.claims.specs.Claims.{Documents}
 use Rattle.claims.specs.Session as told
 use Rattle.claims.specs.Session.{After, after-open, after-one}
-use Rattle.claims.specs.Demands.{Lent, typesIn, ruled, Demand2}
+use Rattle.claims.specs.Demands.{Lent}
 use Rattle.claims.proofs.Claims.{opened-documents}
 use Rattle.claims.proofs.Demands.{open-number, delivered}
 use Rattle.reopened.specs.Reopened.{OldNames, SameText, SameAnswer, HasNumber, HasNewNumber, Beside, both-open, both-ask, Reopens}

@@ -1,16 +1,15 @@
 -- Names in a section that opening accepted stand in its string area. Assumes nothing.
-use Prim.Native.Nat.{ℕ, zero, suc, _+_, _-_, _<_, _≤_}
+use Prim.Native.Nat.{ℕ, _+_, _-_, _<_, _≤_}
 use native.Mathlib.Omega.{arith}
-use mathlib.Core.Path.{_≡_, refl, sym, _∙_, ap, subst}
-use mathlib.Core.Bool.{Bool, true, false, _&&_, _||_}
+use mathlib.Core.Path.{_≡_, refl, sym, _∙_, ap}
+use mathlib.Core.Bool.{true, _||_}
 use mathlib.Core.List.{List, [], _∷_, _++_, List·Memᴰ, List·Memᴰ·head, List·Memᴰ·tail, List·Memᴰ·not-nil}
-use lib.ListN.{length, getD, take, drop, take-append-drop, length-drop}
+use lib.ListN.{length, getD, drop, take-append-drop, length-drop}
 use lib.Seq.{length-take-le, drop-drop}
 use lib.Dec.{leb, eqb}
 use borrow.Author.Tests.{leb-true, eqb-true, lt-ltb}
 use Rattle.records.specs.Documentation.{Member, member, Enumerator, enumerator, Param, param, Enumerator64, enumerator64, int, ptr, array, struct, union, enum, fwd, typedef, volatile, const, restrict, func, func-proto, var, datasec, float, decl-tag, type-tag, enum64, Described, described, Every, Named, Allowed, NamedMember, NamedParam, NamedEnumerator, NamedEnumerator64}
-use Rattle.records.specs.Section.{bigEndian, littleEndian, hdrLen, typeOff, typeLen, strOff, strLen, typesAt, stringsAt, stringArea, headerSound, stringsSound, allAscii, lastOf}
-use Rattle.btf.specs.declared.types.Btf.{Btf}
+use Rattle.records.specs.Section.{bigEndian, littleEndian, hdrLen, typeLen, strOff, strLen, typesAt, stringsAt, stringArea, headerSound, stringsSound, lastOf}
 use Rattle.btf.specs.Names.{upToZero, nameAt, strAt}
 use Rattle.header.specs.Header as header
 use Rattle.header.proofs.Headers.{and-left, and-right, read4, read16}

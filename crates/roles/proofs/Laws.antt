@@ -9,7 +9,7 @@ use borrow.Author.Tests.{eq-eqb, ne-eqb, lt-ltb, le-ltb}
 use Rattle.text.specs.Text.{ascii}
 use Rattle.btf.specs.declared.types.Btf.{Btf}
 use Rattle.btf.specs.Records.{sectionWord, vlenOf}
-use Rattle.roles.specs.Words.{digitAt, fixedWords, entryWords, roles, column, role, wordsIn, wordOf}
+use Rattle.roles.specs.Words.{digitAt, fixedWords, entryWords, roles, column, role, wordsIn}
 
 pub get-past : (l : List ℕ) (i d : ℕ) → length l ≤ i → getD l i d ≡ d
 get-past [] i d h = refl

@@ -1,10 +1,10 @@
 -- Entries one after another in a lent list, and the list after one request. Assumes nothing.
-use Prim.Native.Nat.{ℕ, zero, suc, _+_, _-_, _*_, _<_, _≤_}
+use Prim.Native.Nat.{ℕ, _+_, _-_, _*_, _≤_}
 use mathlib.Core.Path.{_≡_, refl, ap, _∙_, sym}
 use mathlib.Core.Bool.{Bool, true, false}
 use mathlib.Core.List.{List, [], _∷_, _++_, append-assoc}
 use native.Mathlib.Omega.{arith}
-use lib.ListN.{length, take, drop, replicate, getD, length-append, length-replicate, getD-replicate}
+use lib.ListN.{length, take, replicate, getD, length-append, length-replicate, getD-replicate}
 use lib.Seq.{take-at, getD-append-add}
 use lib.Dec.{ltb}
 use Rattle.turns.specs.declared.Session.{Session}

@@ -1,14 +1,14 @@
 -- Chains by two numbers are the chains of `emitTypeDecl`; more turns than entries change nothing.
-use Prim.Native.Nat.{ℕ, zero, suc, zero-le, _≤_, _<_}
+use Prim.Native.Nat.{ℕ, zero, suc, zero-le, _≤_}
 use mathlib.Core.Path.{_≡_, refl, ap, ap₂, _∙_, sym}
 use mathlib.Core.Bool.{Bool, true, false}
 use mathlib.Core.List.{List, [], _∷_}
 use native.Mathlib.Omega.{arith}
 use lib.ListN.{length}
-use Rattle.rules.specs.Writer.{Ask, got, no, askThen, Writer, _⨾_, put}
+use Rattle.rules.specs.Writer.{Ask, got, askThen, Writer, _⨾_}
 use Rattle.rules.specs.Types.{Name, Member, Btf}
 use Rattle.rules.specs.Names.{Naming}
-use Rattle.rules.specs.Decl.{Entry, base, star, qual, array, proto, tag, Link, ends, leads, linkOf, chainOn, chainOf, noMods, mods, qualifier, chainLoop}
+use Rattle.rules.specs.Decl.{Entry, base, star, qual, array, proto, tag, Link, ends, leads, linkOf, chainOn, chainOf, noMods, chainLoop}
 use Rattle.rules.specs.Chain.{entryBy, targetBy, pathAt, entryAt, chainTo, countOn, chainCount, keptBy, keptTo}
 
 module _ (B : Btf) (start : ℕ) where

@@ -3,18 +3,17 @@
 use Prim.Native.Nat.{ℕ, zero, suc, _+_, _-_, _*_, _%_}
 use mathlib.Core.Path.{_≡_, refl}
 use mathlib.Core.Bool.{Bool, true, false, not, _&&_}
-use mathlib.Core.List.{List, [], _∷_, _++_}
+use mathlib.Core.List.{List, [], _∷_}
 use mathlib.Core.Logic.{_⊎_, inl, inr}
 use lib.ListN.{length}
 use lib.Dec.{ltb, leb, eqb}
-use Rattle.text.specs.Text.{ascii, pfx}
-use Rattle.rules.specs.Writer.{Ask, got, no, askThen, checked, tooDeep, alignZero, overflow, Writer, _⨾_, put, stop, nothing, given}
+use Rattle.rules.specs.Writer.{Ask, got, no, askThen, checked, Writer, _⨾_, put, stop, given}
 use Rattle.rules.specs.Types.{Name, isEmpty, Member, Param, Enumerator, BtfType, Void, Int, Ptr, Array, Composite, Enum, Enum64, Fwd, Typedef, Mod, Func, Var, Datasec, FuncProto, Float, DeclTag, TypeTag, Btf}
 use Rattle.rules.specs.Layout.{sizeOf, getSizeOf, larger, alignMembers, alignOf, getAlignOf, offAlign, membersPacked, isStructPacked, Pad, bitPadding, endOf}
 use Rattle.rules.specs.Placing.{fieldSize, Extent, withMember, extentOf, noExtent, unionAlign, sizeFits, measured, bodyPacked, tailPads}
 use Rattle.rules.specs.Names.{Space, tagSpace, identSpace, Naming, resolving, spelled, resolveTypeName, resolveName, builtin}
-use Rattle.rules.specs.Decl.{deeper, sepName, keyword, attribute, declTags, emitDeclTags, qualifier, enumValue, enum64Value, Entry, base, star, qual, array, proto, tag, Link, ends, leads, linkOf, chainOn, chainOf, mods, noMods, isArray, noParams, shownParams, pads, lastNewline, bitSize, emitCompositeFwd, emitFwdDef, enumWord, emitValues, enumBody, emitEnumDef, emitName, brackets, parens, emitParam, emitParams, baseWord, emitArray, emitProto, paramList, chainLoop, emitMembers, compositeHead, compositeEnd, compositeBody, compositeDef, emitTypeDecl, emitTypeChain, emitCompositeDef, emitTypedefDef}
-use Rattle.rules.specs.Emit.{lineEnd, definition, shown, forward}
+use Rattle.rules.specs.Decl.{deeper, enumValue, enum64Value, Entry, base, star, qual, array, proto, tag, Link, ends, leads, linkOf, chainOn, chainOf, noMods, isArray, noParams, shownParams, emitCompositeFwd, emitFwdDef, enumWord, emitValues, enumBody, emitEnumDef, emitName, parens, emitParam, emitParams, baseWord, emitArray, emitProto, paramList, chainLoop, emitMembers, compositeHead, compositeEnd, compositeBody, compositeDef, emitTypeDecl, emitTypeChain, emitCompositeDef, emitTypedefDef}
+use Rattle.rules.specs.Emit.{definition, shown, forward}
 
 -- the refusals of a line
 abbrev pub Code : ℕ → Type 0

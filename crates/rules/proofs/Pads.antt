@@ -1,14 +1,14 @@
 -- The pads of a gap fill it, and more turns than its bits change nothing.
-use Prim.Native.Nat.{ℕ, zero, suc, zero-le, suc-le-suc, _+_, _-_, _*_, _/_, _%_, _≤_, _<_}
+use Prim.Native.Nat.{ℕ, zero, suc, _+_, _-_, _*_, _%_, _≤_, _<_}
 use native.Mathlib.Nat.{mod-le, mod-eq-of-lt}
-use mathlib.Core.Path.{_≡_, refl, ap, ap₂, _∙_, sym}
+use mathlib.Core.Path.{_≡_, refl, ap, sym}
 use mathlib.Core.Bool.{Bool, true, false, _&&_, true≢false}
 use mathlib.Core.Logic.{⊎-elim}
 use mathlib.Core.List.{List, [], _∷_}
 use native.Mathlib.Omega.{arith}
 use lib.Dec.{eqb, ltb}
 use borrow.Author.Tests.{eqb-true, eqb-false, ltb-true}
-use Rattle.rules.specs.Layout.{PadUnit, long, int, short, char, Pad, chipAwayBits, padOf, padsOf}
+use Rattle.rules.specs.Layout.{long, int, short, char, Pad, chipAwayBits, padOf, padsOf}
 use Rattle.lent.proofs.Laws.{le-or-lt}
 
 module _ (total m : ℕ) (some : 0 < total) (unit : 0 < m) where

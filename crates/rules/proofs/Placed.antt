@@ -1,5 +1,5 @@
 -- In placing mode the printed lines of a body that is not refused are laid out as the table says. Assumes nothing.
-use Prim.Native.Nat.{ℕ, zero, suc, zero-le, _+_, _-_, _*_, _/_, _%_, _≤_, _<_}
+use Prim.Native.Nat.{ℕ, zero, suc, _+_, _-_, _*_, _/_, _%_, _≤_, _<_}
 use native.Mathlib.Nat.{div-eq-of-lt-le, div-add-mod', mul-mod-left, mul-left-comm, add-mul, one-mul}
 use mathlib.Core.Path.{_≡_, refl, ap, ap₂, _∙_, sym, subst}
 use mathlib.Core.Bool.{Bool, true, false, not, _&&_, true≢false}
@@ -7,7 +7,7 @@ use mathlib.Core.Logic.{⊎-elim}
 use mathlib.Core.List.{List, [], _∷_}
 use native.Mathlib.Omega.{arith}
 use lib.Dec.{eqb, ltb, leb}
-use borrow.Author.Tests.{eqb-true, eqb-false, ltb-true, ltb-false, leb-true, leb-false, eq-eqb, le-leb, lt-leb}
+use borrow.Author.Tests.{eqb-true, eqb-false, ltb-true, leb-true, eq-eqb, le-leb, lt-leb}
 use Rattle.rules.specs.Writer.{Ask, got, no, askThen, checked, misplaced}
 use Rattle.rules.specs.Types.{Member, Btf}
 use Rattle.rules.specs.Layout.{larger, getSizeOf, alignMembers, getAlignOf, offAlign, membersPacked, isStructPacked, PadUnit, long, int, short, char, Pad, padsOf, gapPads, suits, placedPad, placedPads, placedGap, padsBefore, bitPadding, endOf}

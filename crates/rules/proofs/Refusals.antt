@@ -1,11 +1,10 @@
 -- The refusals of an emitter are 12, 15, 16 and 18. Assumes nothing.
-use Prim.Native.Nat.{ℕ, zero, suc, _+_}
-use mathlib.Core.Path.{_≡_, refl}
-use mathlib.Core.Bool.{Bool, true, false}
-use mathlib.Core.List.{List, [], _∷_}
+use Prim.Native.Nat.{ℕ}
+use mathlib.Core.Bool.{Bool}
+use mathlib.Core.List.{List, []}
 use Rattle.text.specs.Text.{Text, whole, cut, join}
 use Rattle.rules.specs.Writer.{Said, said, saidText, Writer, after, next, put, stop, _⨾_}
-use Rattle.rules.specs.Types.{Name, Enumerator, Member, BtfType, Btf}
+use Rattle.rules.specs.Types.{Name, Member, BtfType, Btf}
 use Rattle.rules.specs.Names.{Resolved, Naming, resolving}
 use Rattle.rules.specs.Decl.{Entry, emitTypeDecl, emitTypeChain, emitCompositeDef, emitTypedefDef}
 use Rattle.rules.specs.Emit.{definition, forward}

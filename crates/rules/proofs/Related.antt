@@ -1,17 +1,17 @@
 -- One theorem over all emitters: where two ways of keeping names give related names the same versions, every emitter writes the same text with both,
 -- and leaves related names. Assumes nothing.
-use Prim.Native.Nat.{ℕ, zero, suc, _+_}
-use mathlib.Core.Path.{_≡_, refl, ap, _∙_, sym, subst}
-use mathlib.Core.Bool.{Bool, true, false}
-use mathlib.Core.List.{List, [], _∷_}
+use Prim.Native.Nat.{ℕ}
+use mathlib.Core.Path.{_≡_, refl, subst}
+use mathlib.Core.Bool.{Bool, false}
+use mathlib.Core.List.{List, []}
 use Rattle.text.specs.Text.{Text, whole, cut, join}
 use Rattle.rules.specs.Writer.{Said, said, saidText, saidNames, Writer, after, next, put, stop, _⨾_}
-use Rattle.rules.specs.Types.{Name, isEmpty, Member, Param, Enumerator, BtfType, Void, Int, Ptr, Array, Composite, Enum, Enum64, Fwd, Typedef, Mod, Func, Var, Datasec, FuncProto, Float, DeclTag, TypeTag, Btf}
+use Rattle.rules.specs.Types.{Name, isEmpty, Member, Param, Enumerator, BtfType, Btf}
 use Rattle.rules.specs.Names.{Space, tagSpace, identSpace, Resolved, Naming, resolving}
 use Rattle.rules.specs.Layout.{Pad}
 use Rattle.rules.specs.Decl.{Entry, emitCompositeFwd, emitFwdDef, enumWord, emitValues, enumBody, emitEnumDef, emitName, parens, emitParam, emitParams, baseWord, emitArray, emitProto, paramList, chainLoop, emitMembers, compositeHead, compositeEnd, compositeBody, compositeDef, emitTypeDecl, emitTypeChain, emitCompositeDef, emitTypedefDef}
-use Rattle.rules.specs.Emit.{definition, shown, forward}
-use Rattle.rules.proofs.Closed.{Code, ValuesFit, TypeFits, Closed, r-emit-name, r-parens, r-emit-param, r-emit-params, r-emit-composite-fwd, r-emit-fwd-def, r-enum-word, r-emit-values, r-enum-body, r-emit-enum-def, r-base-word, r-emit-array, r-emit-proto, r-param-list, r-chain-loop, r-emit-members, r-composite-head, r-composite-end, r-composite-body, r-composite-def, r-emit-type-decl, r-emit-type-chain, r-emit-composite-def, r-emit-typedef-def, r-definition, r-shown, r-forward}
+use Rattle.rules.specs.Emit.{definition, forward}
+use Rattle.rules.proofs.Closed.{ValuesFit, TypeFits, Closed, r-emit-name, r-parens, r-emit-param, r-emit-params, r-emit-composite-fwd, r-emit-fwd-def, r-enum-word, r-emit-values, r-enum-body, r-emit-enum-def, r-base-word, r-emit-array, r-emit-proto, r-param-list, r-chain-loop, r-emit-members, r-composite-head, r-composite-end, r-composite-body, r-composite-def, r-emit-type-decl, r-emit-type-chain, r-emit-composite-def, r-emit-typedef-def, r-definition, r-forward}
 
 module _ {U W : Type 0} (R : U → W → Type 0) where
   -- the same text, related names

@@ -1,13 +1,13 @@
 -- Laws for code that writes text and keeps names: one writer after another, in a lent text. Assumes nothing.
-use Prim.Native.Nat.{ℕ, _<_, _≤_}
+use Prim.Native.Nat.{ℕ}
 use mathlib.Core.Path.{_≡_, refl, ap, ap₂, _∙_, sym}
 use mathlib.Core.List.{List, []}
-use mathlib.Core.Bool.{Bool, true, false}
+use mathlib.Core.Bool.{true, false}
 use native.Mathlib.Omega.{arith}
-use Rattle.text.specs.Text.{Text, whole, cut, join, Out, done, stopped, isStopped, putOut, putText}
+use Rattle.text.specs.Text.{Text, whole, cut, Out, done, stopped, isStopped, putOut, putText}
 use Rattle.text.proofs.TextLaws.{stays, join-on, put-empty, cut-stops}
 use Rattle.rules.specs.Writer.{Ask, got, no, Said, said, saidNames, Writer, after, next, put, stop, given, _⨾_}
-use Rattle.rules.specs.Place.{Wrote, wrote, refused, withNames, outOf, putSaid}
+use Rattle.rules.specs.Place.{wrote, refused, withNames, outOf, putSaid}
 use Rattle.rules.specs.Names.{Resolved, resolving}
 
 false-true : false ≡ true → ⊥

@@ -1,6 +1,5 @@
 -- A chain by two numbers, the id that it starts from and how many entries it has: what code can keep, since a chain is only popped.
 use Prim.Native.Nat.{ℕ, zero, suc}
-use mathlib.Core.Bool.{Bool, true, false}
 use mathlib.Core.List.{List, [], _∷_}
 use Rattle.rules.specs.Writer.{Ask, got, no, tooDeep}
 use Rattle.rules.specs.Types.{Btf}

@@ -1,7 +1,6 @@
 -- The lines of emit_type: what it prints of an id, once as a forward line or a typedef, once as a definition.
 use Prim.Native.Nat.{ℕ}
-use mathlib.Core.Bool.{Bool, true, false}
-use mathlib.Core.List.{List, []}
+use mathlib.Core.Bool.{true, false}
 use Rattle.text.specs.Text.{ascii}
 use Rattle.rules.specs.Writer.{Writer, _⨾_, put, nothing}
 use Rattle.rules.specs.Types.{Name, BtfType, Void, Int, Ptr, Array, Composite, Enum, Enum64, Fwd, Typedef, Mod, Func, Var, Datasec, FuncProto, Float, DeclTag, TypeTag, Btf}

@@ -1,12 +1,12 @@
 -- The whole machine: marks and order list, emission's marks, forward flags, the lines that it writes, and the ids that its pieces define.
 -- The rules of `emit_type`, of a request and of a session over any machine.
 use Prim.Native.Nat.{ℕ, zero, suc, _-_, _<_}
-use mathlib.Core.Path.{_≡_, refl}
+use mathlib.Core.Path.{_≡_}
 use mathlib.Core.Bool.{Bool, true, false, not, _&&_, _||_}
 use mathlib.Core.List.{List, [], _∷_, _++_}
 use mathlib.Core.Logic.{_≢_}
 use lib.Dec.{ltb, eqb}
-use Rattle.rules.specs.Order.{Node, ignored, plain, listed, through, ptr, tdef, proto, comp, Table, isComp, Mark, new, busy, done, Store, Lawful, Framed, Res, ok, refused, order}
+use Rattle.rules.specs.Order.{Node, ignored, plain, listed, through, ptr, tdef, proto, comp, Table, Mark, new, busy, done, Store, Lawful, Framed, Res, ok, refused, order}
 
 -- what a line, or a call, comes to
 pub data Out (M : Type 0) : Type 0 where

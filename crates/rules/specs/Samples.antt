@@ -7,7 +7,7 @@ use lib.ListN.{getD, set}
 use Rattle.text.specs.Text.{Text, whole, cut, ascii, bytes}
 use Rattle.text.specs.Decimal.{decimal}
 use Rattle.rules.specs.Order.{Mark, new, Store, Res, ok, refused, order}
-use Rattle.rules.specs.Writer.{saidText, Writer, _⨾_, put}
+use Rattle.rules.specs.Writer.{saidText, Writer, _⨾_}
 use Rattle.rules.specs.Types.{Member, BtfType, Void, Int, Ptr, Array, Composite, Typedef, FuncProto, Btf, tableOf}
 use Rattle.rules.specs.Layout.{gapPads, placedPads}
 use Rattle.rules.specs.Names.{Names, naming}

@@ -1,6 +1,6 @@
 -- The lines of a body, and how the x86-64 System V ABI lays them out (psABI, "Aggregates and Unions" and "Bit-Fields"). Bits are counted
 -- from the start of the body, "bit-fields are allocated from right to left", which is from the least significant bit on.
-use Prim.Native.Nat.{ℕ, zero, suc, _+_, _*_}
+use Prim.Native.Nat.{ℕ, suc, _+_, _*_}
 use mathlib.Core.Path.{_≡_}
 use mathlib.Core.Bool.{Bool, true, false, not, _&&_}
 use mathlib.Core.List.{List, [], _∷_}

@@ -1,7 +1,7 @@
 -- Writers: what a function of the Rust prints, as a text, and what it does to the names on the way.
 use Prim.Native.Nat.{ℕ}
-use mathlib.Core.Bool.{Bool, true, false}
-use mathlib.Core.List.{List, [], _∷_}
+use mathlib.Core.Bool.{true, false}
+use mathlib.Core.List.{List, []}
 use lib.Dec.{ltb}
 use Rattle.text.specs.Text.{Text, whole, cut, join}
 

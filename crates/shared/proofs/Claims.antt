@@ -19,7 +19,7 @@ use Rattle.demand.proofs.Lists.{Sized}
 use Rattle.shared.specs.Shared.{Ledger, Held, Shelf, holding}
 use Rattle.shared.specs.Requests.{answerOn}
 use Rattle.shared.specs.Calls.{Side, kernel, module′, Call, opens, asks, World, Part, partOf, withPart, lent, ledgerShort, openNumber, joined, begun, opening, asking, called, answered}
-use Rattle.shared.specs.Claims.{Seen, seen, Printed, printed, sameSide, together, alone, Agree, none, same, left-ends, right-ends, requestsOf, Silent, no-call, own, joins, EndsOrder, Ends20, Nothing, Claim}
+use Rattle.shared.specs.Claims.{Seen, seen, printed, sameSide, together, alone, Agree, none, same, left-ends, right-ends, requestsOf, Silent, no-call, own, joins, EndsOrder, Ends20, Nothing, Claim}
 use Rattle.shared.proofs.Boards.{Like, blanks, AnyNames, Is20, Never, Whole, whole-board, Is17or20, Is17, Shape, shape-board}
 use Rattle.shared.proofs.Closes.{request-closes}
 use Rattle.shared.proofs.Requests.{BothSess, BothAnswer, alike, left-out, right-out, answer-both}

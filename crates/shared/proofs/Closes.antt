@@ -2,7 +2,7 @@
 use Prim.Native.Nat.{ℕ, zero, suc, _-_}
 use mathlib.Core.Path.{_≡_, refl, subst}
 use mathlib.Core.Bool.{Bool, true, false}
-use mathlib.Core.Logic.{_⊎_, inl, inr}
+use mathlib.Core.Logic.{inl, inr}
 use lib.Dec.{ltb, eqb}
 use Rattle.rules.specs.Order.{Res, ok, refused, order}
 use Rattle.rules.specs.Machine.{Sess, Answer, Req, one, all}

@@ -1,12 +1,12 @@
 -- What emission leaves alone: whatever reads neither emission's marks and flags nor the names nor the remembered alignments. Assumes nothing.
 use Prim.Native.Nat.{ℕ, zero, suc, _+_, _-_, _*_, _<_}
-use mathlib.Core.Path.{_≡_, refl, ap, _∙_, sym}
+use mathlib.Core.Path.{_≡_, refl, _∙_, sym}
 use mathlib.Core.List.{List, [], _∷_}
 use mathlib.Core.Bool.{Bool, true, false, not, _&&_, _||_}
 use mathlib.Core.Logic.{⊎-elim, _≢_}
 use native.Mathlib.Omega.{arith}
 use lib.Dec.{eqb, ltb}
-use Rattle.text.specs.Text.{Text, Out as TextOut, done as lies, stopped, putText}
+use Rattle.text.specs.Text.{Out as TextOut, done as lies, stopped, putText}
 use Rattle.lent.proofs.Laws.{le-or-lt}
 use Rattle.rules.specs.Order.{Node, ignored, plain, listed, through, ptr, tdef, proto, comp, Mark, new, busy, done}
 use Rattle.rules.specs.Machine.{Out, wrote, stuck, isZero, pick, obind, eeach, once, mention, again, close, leaf, within, begin, allowed, look, emit}

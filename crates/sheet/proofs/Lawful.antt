@@ -9,11 +9,11 @@ use native.Mathlib.Omega.{arith}
 use lib.Dec.{eqb, ltb}
 use lib.ListN.{length, take, drop, length-append, length-drop}
 use lib.Seq.{length-take-le}
-use Rattle.text.specs.Text.{Text, whole, cut, bytes, Out as TextOut, done as lies, place, written, putText}
+use Rattle.text.specs.Text.{Text, whole, cut, bytes, Out as TextOut, place, written, putText}
 use Rattle.lent.specs.Words.{getWord, putWord}
 use Rattle.lent.proofs.Laws.{le-or-lt, get-put-same, get-put-other, put-length}
 use Rattle.text.proofs.TextLaws.{put-fits, put-none}
-use Rattle.rules.specs.Order.{Table, Mark, new, busy, done, Store, Lawful, Framed}
+use Rattle.rules.specs.Order.{Table, Mark, new, busy, done, Lawful, Framed}
 use Rattle.rules.specs.Machine.{Out, wrote, stuck, Machine, Fine, OHolds, ogood, obad, Same, Kept, Defines, MLawful}
 use Rattle.rules.specs.Types.{Name, BtfType, Btf as Rules}
 use Rattle.rules.specs.Names.{Space, Resolved}

@@ -8,13 +8,13 @@ use native.Mathlib.Omega.{arith}
 use lib.Dec.{eqb}
 use lib.ListN.{length}
 use borrow.Author.Tests.{eq-eqb, ne-eqb}
-use Rattle.text.specs.Text.{Text, whole, cut, bytes, Out as TextOut, stopped, isStopped, putOut, written, putText}
+use Rattle.text.specs.Text.{whole, cut, bytes, Out as TextOut, stopped, isStopped, putOut, written, putText}
 use Rattle.text.proofs.TextLaws.{out-done, out-stopped, put-fits, stays}
 use Rattle.lent.proofs.Laws.{le-or-lt}
 use Rattle.rules.specs.Order.{Node, ignored, plain, listed, through, ptr, tdef, proto, comp, Mark, new, busy, done}
-use Rattle.rules.specs.Machine.{Out, wrote, stuck, Machine, isZero, pick, obind, eeach, once, mention, again, close, leaf, within, begin, allowed, look, emit}
+use Rattle.rules.specs.Machine.{Out, wrote, stuck, isZero, pick, obind, eeach, once, mention, again, close, leaf, within, begin, allowed, look, emit}
 use Rattle.rules.specs.Types.{BtfType, Btf as Rules, nodeOf, isNamed, memberTypes, tableOf}
-use Rattle.rules.specs.Writer.{Said, Writer}
+use Rattle.rules.specs.Writer.{Writer}
 use Rattle.rules.specs.Place.{withNames, outOf, putSaid}
 use Rattle.alignments.specs.Writers.{definitionOnce, forwardOnce}
 use Rattle.asked.specs.Asked.{workAsks}

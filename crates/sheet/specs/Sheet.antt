@@ -4,7 +4,7 @@ use mathlib.Core.Bool.{Bool, true, false, not, _||_}
 use mathlib.Core.List.{List, []}
 use lib.Dec.{eqb}
 use Rattle.rules.specs.Order.{Node, ignored, plain, listed, through, ptr, tdef, proto, comp, Table, Mark, new, busy, done, Store, Res, ok, refused, order}
-use Rattle.rules.specs.Machine.{Out, wrote, stuck, Machine, isZero, obind, eeach, once, again, leaf, begin, emit}
+use Rattle.rules.specs.Machine.{Out, wrote, stuck, Machine, isZero, obind, eeach, once, again, begin, emit}
 use Rattle.rules.specs.Types.{BtfType, Btf as Rules, tableOf}
 use Rattle.rules.specs.Writer.{Writer}
 use Rattle.rules.specs.Place.{Wrote, wrote as written, refused as cutOff, outOf, putSaid}

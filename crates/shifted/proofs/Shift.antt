@@ -1,15 +1,15 @@
 -- A request after some entries: the request without them, in a list that is shorter by them, and then its entries behind them. Assumes nothing.
-use Prim.Native.Nat.{ℕ, zero, suc, _+_, _-_, _<_, _≤_}
+use Prim.Native.Nat.{ℕ, zero, suc, _+_, _-_}
 use mathlib.Core.Path.{_≡_, refl, ap, _∙_, sym}
 use mathlib.Core.List.{List, [], _∷_, _++_, append-assoc, append-nil}
-use mathlib.Core.Bool.{Bool, true, false, not, _&&_, true≢false}
+use mathlib.Core.Bool.{Bool, true, false, true≢false}
 use mathlib.Core.Logic.{⊎-elim}
 use native.Mathlib.Omega.{arith}
-use lib.Dec.{eqb, ltb}
+use lib.Dec.{ltb}
 use lib.ListN.{length, length-append}
 use borrow.Author.Tests.{lt-ltb, le-ltb}
 use Rattle.lent.proofs.Laws.{le-or-lt}
-use Rattle.rules.specs.Order.{Node, ignored, plain, listed, through, ptr, tdef, proto, comp, Table, Mark, new, busy, done, Store, Res, ok, refused, fresh, visit}
+use Rattle.rules.specs.Order.{Node, ignored, plain, listed, through, ptr, tdef, proto, comp, Table, Mark, new, busy, done, Res, ok, refused, fresh, visit}
 use Rattle.rules.specs.Machine.{Out, wrote, stuck, Machine, obind, eeach}
 use Rattle.rules.specs.Types.{Btf as Rules, tableOf}
 use Rattle.btf.specs.declared.types.Btf.{Btf}
@@ -17,7 +17,7 @@ use Rattle.btf.specs.Cells.{getField}
 use Rattle.btf.specs.Table.{from, btfOf}
 use Rattle.marks.specs.Work.{markOf, workStore}
 use Rattle.sheet.specs.Sheet.{Sheet, sheetStore, emptied, workMachine, isIgnored, isIdle}
-use Rattle.sheet.proofs.Maps.{omap, StoreMap, MachineMap}
+use Rattle.sheet.proofs.Maps.{omap, MachineMap}
 use Rattle.calls.specs.Calls.{cameTo, lentTo}
 use Rattle.causes.specs.Causes.{Entry, entry, Led, ledStore, inside, isAround, orderLed, listedEntry, Noted, withEntries, upTo, line, causeAt, noting, emitNoted, eachListed, showsIn}
 use Rattle.causes.specs.Claims.{forget}

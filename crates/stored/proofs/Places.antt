@@ -5,7 +5,7 @@ use native.Mathlib.Decide.{ℕ-discrete}
 use mathlib.Core.Path.{_≡_, refl, sym, _∙_, ap, subst}
 use mathlib.Core.Bool.{Bool, true, false, true≢false}
 use mathlib.Core.List.{List, [], _∷_, _++_, append-assoc}
-use lib.ListN.{length, getD, set, length-append, length-set, replicate, length-replicate}
+use lib.ListN.{length, getD, length-append, length-set, length-replicate}
 use lib.Seq.{getD-set-same, getD-set-other}
 use lib.Dec.{eqb}
 use Rattle.records.specs.Documentation.{encodeStrings}
@@ -17,12 +17,12 @@ use Rattle.followed.specs.Followed.{countOf, entryAt}
 use Rattle.cut.specs.Strings.{has, addName, firstNames, placeIn}
 use Rattle.cut.proofs.Names.{same-bytes, place-below}
 use Rattle.roles.specs.Words.{role, wordsIn, wordOf}
-use Rattle.mentioned.specs.Names.{zeroBases, isName, orName, namedTo, firstFrom, mentions, orMentions, mentionedTo, isNew, newSize, newSizes, recordSize, baseOf, basesTo, placeAt, placeFrom, placeOf}
+use Rattle.mentioned.specs.Names.{zeroBases, isName, orName, namedTo, firstFrom, mentions, orMentions, mentionedTo, isNew, newSize, newSizes, baseOf, basesTo, placeAt, placeFrom, placeOf}
 use Rattle.mentioned.specs.Strings.{nameBytes, namesBytes, stringsBytes}
 use Rattle.mentioned.proofs.Sizes.{strings-length}
 use Rattle.stored.specs.Mentioned.{store, stored, orElse, wordName, namesTo, keptNames, namesBefore}
 use Rattle.stored.proofs.Store.{store-append, has-added, has-stored, place-empty, add-new, place-last, place-store, keeps-store}
-use Rattle.stored.proofs.Strings.{named-is, mentioned-is, before, stored-has, names-bytes, strings-are}
+use Rattle.stored.proofs.Strings.{mentioned-is, before, stored-has, names-bytes, strings-are}
 
 word-small : (p : ℕ) → p < 4294967296 → p % 4294967296 ≡ p
 word-small p l = omega (arith, l)

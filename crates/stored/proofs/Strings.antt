@@ -1,10 +1,9 @@
 -- The new names that the code writes are the names stored by first mention. Assumes nothing.
 use Prim.Native.Nat.{ℕ, zero, suc, _+_, _%_}
-use native.Mathlib.Omega.{arith}
 use mathlib.Core.Path.{_≡_, refl, sym, _∙_, ap}
 use mathlib.Core.Bool.{Bool, true, false, not}
 use mathlib.Core.List.{List, [], _∷_, _++_, append-assoc}
-use lib.ListN.{length, getD, length-append}
+use lib.ListN.{getD}
 use lib.Dec.{eqb}
 use Rattle.records.specs.Documentation.{encodeStrings}
 use Rattle.rules.specs.Types.{Name, isEmpty}
@@ -12,11 +11,10 @@ use Rattle.rules.specs.Names.{sameBytes}
 use Rattle.btf.specs.declared.types.Btf.{Btf}
 use Rattle.btf.specs.Names.{strAt}
 use Rattle.followed.specs.Followed.{entryAt}
-use Rattle.cut.specs.Strings.{has, addName, firstNames}
+use Rattle.cut.specs.Strings.{has, firstNames}
 use Rattle.roles.specs.Words.{role, wordsIn, wordOf}
-use Rattle.mentioned.specs.Names.{isName, orName, namedTo, mentions, orMentions, mentionedTo, isNew, newSize, newSizes, baseOf}
+use Rattle.mentioned.specs.Names.{isName, orName, namedTo, mentions, orMentions, mentionedTo, isNew}
 use Rattle.mentioned.specs.Strings.{nameBytes, namesBytes, ownBytes, newsBytes, stringsBytes}
-use Rattle.mentioned.proofs.Sizes.{strings-length}
 use Rattle.stored.specs.Mentioned.{store, stored, orElse, wordName, namesTo, keptNames, namesBefore}
 use Rattle.stored.proofs.Store.{store-append, has-append, has-one, has-stored, strings-add}
 

@@ -8,7 +8,6 @@ use mathlib.Core.List.{List, [], _∷_}
 use lib.ListN.{length, getD, set}
 use lib.Dec.{ltb, eqb}
 use borrow.Author.Tests.{eq-eqb, ne-eqb, lt-ltb, le-ltb}
-use Rattle.lent.specs.Words.{pick}
 use Rattle.btf.specs.declared.types.Btf.{Btf}
 use Rattle.btf.specs.Records.{sectionWord}
 use Rattle.followed.specs.Followed.{countOf, entryAt, kindAt, placeOf}

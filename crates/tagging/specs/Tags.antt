@@ -1,7 +1,7 @@
 -- The declaration tags of what is marked, and the new numbers, as the code makes them. b has the count, s is the section, start its index (crate followed).
 use Prim.Native.Nat.{ℕ, zero, suc, _+_}
-use mathlib.Core.Bool.{Bool, true, false}
-use mathlib.Core.List.{List, [], _∷_}
+use mathlib.Core.Bool.{true, false}
+use mathlib.Core.List.{List}
 use lib.ListN.{length, getD, set}
 use lib.Dec.{ltb, eqb}
 use Rattle.lent.specs.Words.{pick}

@@ -5,11 +5,10 @@ use mathlib.Core.List.{List, [], _∷_, _++_}
 use mathlib.Core.Bool.{Bool, true, false}
 use native.Mathlib.Omega.{arith}
 use borrow.Author.Tests.{lt-ltb, le-ltb, ne-eqb, eq-eqb}
-use lib.Dec.{ltb, eqb}
 use Rattle.text.specs.Text.{ascii, whole, putOut, putText, join}
 use Rattle.fixed.specs.Fixed.{tagName}
-use Rattle.text.proofs.TextLaws.{put-seq, put-same, put-empty, join-on}
-use Rattle.rules.specs.Types.{BtfType, Void, Int, Ptr, Array, Composite, Enum, Enum64, Fwd, Typedef, Mod, Func, Var, Datasec, FuncProto, Float, DeclTag, TypeTag, Btf as Rules}
+use Rattle.text.proofs.TextLaws.{put-same, put-empty, join-on}
+use Rattle.rules.specs.Types.{DeclTag, Btf as Rules}
 use Rattle.rules.specs.Names.{escaped}
 use Rattle.rules.specs.Decl.{attribute, declTag, declTags}
 use Rattle.btf.specs.declared.types.Btf.{Btf}

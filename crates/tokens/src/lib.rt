@@ -3,12 +3,12 @@
 // and 0 where the text ends.
 ghost use mathlib.Core.Path.{_≡_};
 ghost use mathlib.Core.Bool.{true};
-ghost use Prim.Native.Nat.{_+_, _-_, _<_, _≤_};
-ghost use lib.ListN.{length, getD, take, drop};
+ghost use Prim.Native.Nat.{_+_, _-_, _<_};
+ghost use lib.ListN.{length, getD};
 ghost use Rattle.rules.specs.Names.{sameBytes};
 ghost use Rattle.tokens.specs.Tokens.{isDigit, isLetter, isWordByte, inRun};
 ghost use Rattle.tokens.specs.Tokens as defs;
-ghost use Rattle.tokens.specs.Looking.{tokensAt, countValue, kindSign, wordSign, runSign, runCount, Skipped, Ran, Looked};
+ghost use Rattle.tokens.specs.Looking.{countValue, kindSign, wordSign, runSign, runCount, Skipped, Ran, Looked};
 
 pub struct Tok {
     pub sign: u32,

@@ -1,15 +1,12 @@
 -- What each return of the code comes to, in placing mode. Assumes nothing.
-use Prim.Native.Nat.{ℕ, zero, suc, _+_, _-_, _*_, _/_, _%_, _<_, _≤_}
-use mathlib.Core.Path.{_≡_, refl, ap, ap₂, _∙_, sym}
-use mathlib.Core.Bool.{Bool, true, false, not, _&&_}
-use mathlib.Core.List.{List, [], _∷_, _++_}
+use Prim.Native.Nat.{ℕ, zero, suc, _-_, _/_, _%_, _<_, _≤_}
+use mathlib.Core.Path.{_≡_, refl, ap, _∙_, sym}
+use mathlib.Core.Bool.{Bool, true, false, _&&_}
 use native.Mathlib.Omega.{arith}
-use lib.Dec.{eqb, leb, ltb, leb·zero, leb·suc-zero, leb·suc-suc}
+use lib.Dec.{eqb, leb, leb·zero, leb·suc-zero, leb·suc-suc}
 use lib.Count.{trailingZeros, under}
-use borrow.Author.Tests.{lt-ltb, le-ltb, le-leb, lt-leb, eq-eqb, ne-eqb, eqb-true}
-use Rattle.rules.specs.Layout.{char, Pad, suits, placedPad, placedPads, placedGap, gapPads, padsBefore}
-use Rattle.rules.specs.Placing.{tailPads}
-use Rattle.rules.proofs.Placed.{pad-stays}
+use borrow.Author.Tests.{le-leb, lt-leb, eq-eqb, ne-eqb, eqb-true}
+use Rattle.rules.specs.Layout.{suits, placedPad}
 use Rattle.units.specs.declared.Pad.{Pad as Code}
 use Rattle.units.specs.Units.{unitOf, padIs, suitsBy, placedChar}
 

@@ -1,12 +1,11 @@
 -- Written by tools/vectors.py. Sections of crates/replay/data: bytes, types, and what the program prints.
 -- That they are equal is `programs1-hold` of proofs/Programs1.
-use Prim.Native.Nat.{ℕ}
-use mathlib.Core.Bool.{Bool, true, false}
+use mathlib.Core.Bool.{true, false}
 use mathlib.Core.List.{List, [], _∷_}
 use Rattle.text.specs.Text.{ascii}
 use Rattle.vectors.specs.Base.{member, param, value}
 use Rattle.vectors.specs.Reading.{Printed, prints}
-use Rattle.rules.specs.Types.{volatile, const, restrict, Void, Int, Ptr, Array, Composite, Enum, Enum64, Fwd, Typedef, Mod, Func, Var, Datasec, FuncProto, Float, DeclTag, TypeTag}
+use Rattle.rules.specs.Types.{volatile, const, restrict, Void, Int, Ptr, Array, Composite, Enum, Enum64, Fwd, Typedef, Mod, FuncProto, TypeTag}
 
 abbrev pub programs1 : List Printed
 programs1 =

@@ -1,7 +1,7 @@
 -- Written by tools/vectors.py. The types that the bytes of a section spell, record after record, each read as the table of crates/btf reads it.
 use Prim.Native.Nat.{ℕ, zero, suc, _+_, _*_, _-_}
 use Prim.Native.String.{String}
-use mathlib.Core.Bool.{Bool, true, false}
+use mathlib.Core.Bool.{true, false}
 use mathlib.Core.List.{List, [], _∷_}
 use lib.ListN.{length}
 use lib.Dec.{ltb, leb}
@@ -11,8 +11,6 @@ use Rattle.rules.specs.Types.{BtfType, Void}
 use Rattle.rules.specs.Listed.{listed}
 use Rattle.demand.specs.Session.{program}
 use Rattle.btf.specs.declared.types.Btf.{Btf}
-use Rattle.btf.specs.declared.types.BtfType.{BtfType as Record}
-use Rattle.btf.specs.declared.types.Extra.{Extra}
 use Rattle.btf.specs.declared.types.Extra.the-variants.{Bytes, Refused}
 use Rattle.btf.specs.Records.{vlenOf, kindOf, extraOf, recordAt}
 use Rattle.btf.specs.Table.{typeOf}

@@ -1,5 +1,5 @@
 -- While the session is open the record says what the work counts. Assumes nothing.
-use Prim.Native.Nat.{ℕ, zero, suc, _<_, _%_}
+use Prim.Native.Nat.{ℕ, zero, suc, _%_}
 use native.Mathlib.Omega.{arith}
 use mathlib.Core.Path.{_≡_, refl, ap, _∙_, sym, subst}
 use mathlib.Core.Bool.{Bool, true, false, true≢false}

@@ -2,7 +2,6 @@
 use Prim.Native.Nat.{ℕ, _+_, _<_, _≤_}
 use mathlib.Core.Path.{_≡_}
 use borrow.Author.Tests.{le-leb, lt-leb}
-use Rattle.ways.specs.declared.Idle.{Idle}
 use Rattle.ways.specs.Idle.{idleIn}
 
 pub idle-none : (k c : ℕ) → c ≤ k → record { number = 22; made = k } ≡ idleIn k c

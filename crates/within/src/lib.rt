@@ -10,7 +10,6 @@ use metering::Counted;
 use metering::Metered;
 use turns::Reached;
 use turns::Session;
-use turns::Turn;
 use turns::is_current;
 use turns::settle;
 use turns::turn_of;

@@ -1,5 +1,5 @@
 -- Types that are renamed alike have the same bytes; and the same length, however they are renamed. The header. Assumes nothing.
-use Prim.Native.Nat.{ℕ, zero, suc, _+_, _/_, _%_, _<_, _≤_}
+use Prim.Native.Nat.{ℕ, suc, _+_, _/_, _%_, _<_}
 use native.Mathlib.Omega.{arith}
 use mathlib.Core.Path.{_≡_, refl, sym, _∙_, ap, subst}
 use mathlib.Core.Bool.{Bool, true, false}
@@ -12,7 +12,7 @@ use Rattle.btf.specs.Names.{nameAt}
 use Rattle.cut.specs.Renumbered.{renamed, renamedAll}
 use Rattle.cut.specs.Strings.{mentions, allMentions, has, addName, addAll}
 use Rattle.cut.proofs.Names.{bytes-same}
-use Rattle.cutting.specs.Bytes.{wordBytes, magicBytes, headBytes}
+use Rattle.cutting.specs.Bytes.{magicBytes, headBytes}
 use Rattle.items.specs.Items.{Item, nm, tid, raw, flat, nameItem, items}
 use Rattle.items.proofs.Described.{put, encode-items, mentions-items}
 use Rattle.stored.specs.Mentioned.{store, orElse}

@@ -1,9 +1,9 @@
 -- THE THEOREM: what the code writes is the section of the definition, of every section that passes causes 2 to 6. Assumes nothing.
-use Prim.Native.Nat.{ℕ, zero, suc, _+_, _*_, _<_, _≤_}
+use Prim.Native.Nat.{ℕ, suc, _+_, _<_, _≤_}
 use native.Mathlib.Omega.{arith}
-use mathlib.Core.Path.{_≡_, refl, sym, _∙_, ap, ap₂, subst}
+use mathlib.Core.Path.{_≡_, refl, sym, _∙_, ap, ap₂}
 use mathlib.Core.Bool.{Bool, true, false, _||_, true≢false}
-use mathlib.Core.List.{List, [], _∷_, _++_, map, append-assoc, List·Memᴰ}
+use mathlib.Core.List.{List, _++_, map, append-assoc, List·Memᴰ}
 use lib.ListN.{length, getD, drop, length-append}
 use lib.Dec.{ltb}
 use borrow.Author.Tests.{le-ltb, lt-ltb, ltb-true, ltb-false}
@@ -23,12 +23,11 @@ use Rattle.opened.specs.Table as opening
 use Rattle.opened.specs.Table.{indexOf}
 use Rattle.opened.specs.Causes.{cause6, tableOf}
 use Rattle.cut.specs.Renumbered.{newId}
-use Rattle.cut.specs.Strings.{allMentions, has, addAll, firstNames, placeIn}
+use Rattle.cut.specs.Strings.{allMentions, has, firstNames, placeIn}
 use Rattle.cut.specs.Section.{typesOf, oldTypes, newNames, newOffset, newTypes, newStrings, cutSection, anyPast, cutValue, cutOutput}
 use Rattle.cut.specs.Test.{isKept}
 use Rattle.cut.proofs.Claims.{GoodReferences}
 use Rattle.cut.proofs.Written.{every-kept}
-use Rattle.reopened.specs.Seen.{Seen}
 use Rattle.reopened.proofs.Followed.{seen}
 use Rattle.reopened.proofs.Causes.{references}
 use Rattle.reopened.proofs.Strings.{all-below, area-length, name-in-area}
@@ -38,7 +37,7 @@ use Rattle.mentioned.specs.Strings.{stringsBytes}
 use Rattle.cutting.specs.Bytes.{headBytes, typesSize, typesBytes, allBytes, Wrote, wroteOf, fittingWritten, keptWritten}
 use Rattle.mentioned.proofs.Sizes.{strings-length}
 use Rattle.cutting.proofs.Sizes.{types-length}
-use Rattle.stored.specs.Mentioned.{store, stored, namesBefore}
+use Rattle.stored.specs.Mentioned.{stored, namesBefore}
 use Rattle.stored.proofs.Strings.{strings-are}
 use Rattle.stored.proofs.Places.{place-is}
 use Rattle.written.proofs.Ids.{ids-all}

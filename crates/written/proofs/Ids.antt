@@ -1,11 +1,11 @@
 -- The new numbers of the code are those of the definition for every id, also past the largest table. Assumes nothing.
-use Prim.Native.Nat.{ℕ, zero, suc, _+_, _/_, _<_, _≤_}
+use Prim.Native.Nat.{ℕ, zero, suc, _/_, _<_, _≤_}
 use native.Mathlib.Omega.{arith}
-use mathlib.Core.Path.{_≡_, refl, sym, _∙_, ap, subst}
+use mathlib.Core.Path.{_≡_, refl, sym, _∙_, ap}
 use mathlib.Core.Bool.{Bool, true, false, not, _||_, true≢false}
 use mathlib.Core.List.{List, [], _∷_, List·Memᴰ, List·Memᴰ·head, List·Memᴰ·tail, List·Memᴰ·not-nil}
 use mathlib.Core.Logic.{_⊎_, inl, inr}
-use lib.ListN.{length, getD, set, length-set, replicate, length-replicate}
+use lib.ListN.{length, getD, set, length-set, length-replicate}
 use lib.Dec.{ltb, eqb}
 use borrow.Author.Tests.{ltb-true}
 use Rattle.lent.specs.Words.{words}
@@ -13,8 +13,8 @@ use Rattle.lent.proofs.Laws.{le-or-lt}
 use Rattle.records.specs.Documentation.{Described}
 use Rattle.btf.specs.declared.types.Btf.{Btf}
 use Rattle.followed.specs.Followed.{countOf, followedCount, followedId}
-use Rattle.cut.specs.Kept.{voidType, followedIds, typeOf, Reached, asked, onward, isDeclTag, Kept, reached, its-tag}
-use Rattle.cut.specs.Renumbered.{keptTo, newId}
+use Rattle.cut.specs.Kept.{voidType, typeOf, Reached, asked, onward, isDeclTag, Kept, reached, its-tag}
+use Rattle.cut.specs.Renumbered.{newId}
 use Rattle.cut.specs.Section.{anyPast}
 use Rattle.cut.specs.Test.{isKept}
 use Rattle.cut.proofs.Numbers.{new-dropped}

@@ -17,7 +17,7 @@ use Rattle.followed.specs.Followed.{entryAt, countOf}
 use Rattle.opened.specs.Table.{describedIn, indexOf}
 use Rattle.opened.specs.Causes.{tableOf}
 use Rattle.cut.specs.Kept.{voidType}
-use Rattle.cut.specs.Renumbered.{keptTo, newId, keptTypes, renamed, renamedAll}
+use Rattle.cut.specs.Renumbered.{newId, keptTypes, renamed, renamedAll}
 use Rattle.cut.specs.Strings.{mentions, allMentions}
 use Rattle.cut.proofs.Numbers.{new-zero, new-kept, new-dropped, new-le}
 use Rattle.roles.specs.Words.{wordsIn}

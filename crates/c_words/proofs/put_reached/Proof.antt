@@ -1,5 +1,4 @@
 use Rattle.c_words.proofs.Laws as laws
-use native.Mathlib.Omega.{arith}
 use borrow.Author.Needs.{needs}
 use Rattle.c_words.proofs.put_reached.Statement.{statement}
 use Rattle.c_words.proofs.put_reached.Tie as tie

@@ -2,9 +2,8 @@ use native.Mathlib.Omega.{arith}
 use borrow.Author.Needs.{needs}
 use Rattle.classed.proofs.Keys as keys
 use Rattle.classed.proofs.Fill as fills
-use Prim.Native.Nat.{ℕ, _-_, _≤_}
-use mathlib.Core.Path.{_≡_, refl, ap, _∙_}
-use mathlib.Core.List.{List}
+use Prim.Native.Nat.{_-_, _≤_}
+use mathlib.Core.Path.{_≡_, refl, _∙_}
 use lib.ListN.{length}
 use Rattle.classed.specs.Classes.{bucketP, linkP, fill, noughts}
 use Rattle.classes.proofs.clear_scratch.Statement.{statement}

@@ -4,7 +4,6 @@ use Rattle.cutcall.proofs.Laws as laws
 use native.Mathlib.Omega.{arith}
 use mathlib.Core.Path.{refl, sym, _∙_}
 use Rattle.opened.specs.Table.{emptyIndex}
-use borrow.Author.Needs.{needs}
 use Rattle.cutcall.proofs.cut.Statement.{statement}
 use Rattle.cutcall.proofs.cut.Tie as tie
 use Rattle.cutcall.proofs.cut.Reads as reads

@@ -4,7 +4,6 @@ use Rattle.cutcall.proofs.Laws as laws
 use native.Mathlib.Omega.{arith}
 use mathlib.Core.Path.{refl, sym, _∙_}
 use Rattle.marking.specs.Marks.{allZero}
-use borrow.Author.Needs.{needs}
 use Rattle.cutcall.proofs.write_cut.Statement.{statement}
 use Rattle.cutcall.proofs.write_cut.Tie as tie
 use Rattle.cutcall.proofs.write_cut.Reads as reads

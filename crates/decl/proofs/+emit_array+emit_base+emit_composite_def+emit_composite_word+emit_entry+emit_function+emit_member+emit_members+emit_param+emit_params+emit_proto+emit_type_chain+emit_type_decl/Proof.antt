@@ -1,4 +1,4 @@
-use mathlib.Core.Path.{_≡_, refl, _∙_, sym, ap}
+use mathlib.Core.Path.{_≡_, refl, _∙_, sym}
 use mathlib.Core.Logic.{inl, inr, ⊎-elim}
 use denote.Ref.{now}
 use Rattle.rules.proofs.Writing.{put-only, said-stopped}

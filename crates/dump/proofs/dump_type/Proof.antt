@@ -1,6 +1,4 @@
-use mathlib.Core.Path.{_∙_}
 use Rattle.dump.proofs.Requests as requests
-use borrow.Author.Needs.{needs}
 use Rattle.dump.proofs.dump_type.Statement.{statement}
 use Rattle.dump.proofs.dump_type.Tie as tie
 use Rattle.dump.proofs.dump_type.Reads as reads

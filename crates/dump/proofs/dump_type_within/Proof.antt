@@ -1,6 +1,5 @@
 use mathlib.Core.Path.{_∙_}
 use Rattle.dump.proofs.Requests as requests
-use borrow.Author.Needs.{needs}
 use Rattle.dump.proofs.dump_type_within.Statement.{statement}
 use Rattle.dump.proofs.dump_type_within.Tie as tie
 use Rattle.dump.proofs.dump_type_within.Reads as reads

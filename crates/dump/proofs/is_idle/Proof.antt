@@ -2,7 +2,6 @@ use mathlib.Core.Logic.{inl, inr}
 use Rattle.lines.proofs.Laws as laws
 use native.Mathlib.Omega.{arith}
 use Rattle.dump.proofs.Requests as requests
-use borrow.Author.Needs.{needs}
 use Rattle.dump.proofs.is_idle.Statement.{statement}
 use Rattle.dump.proofs.is_idle.Tie as tie
 use Rattle.dump.proofs.is_idle.Reads as reads

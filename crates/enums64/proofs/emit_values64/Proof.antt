@@ -4,9 +4,8 @@ use Rattle.btf.specs.Table.{btfOf, value64Of}
 use Rattle.btf.specs.Records.{vlenOf, flagOf}
 use Rattle.btf.specs.declared.types.Entries.{Entries}
 use Rattle.rules.specs.Decl.{enum64Value}
-use denote.Ref.{now}
 use lib.ListN.{length}
-use mathlib.Core.Path.{_≡_, refl, ap, sym, _∙_}
+use mathlib.Core.Path.{_≡_, refl, ap, _∙_}
 use Prim.Native.Nat.{_≤_, _-_, _<_}
 use borrow.Author.Needs.{needs}
 use native.Mathlib.Omega.{arith}

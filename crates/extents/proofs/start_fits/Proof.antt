@@ -1,5 +1,4 @@
 use Rattle.extents.proofs.Laws.{start-struct, start-union}
-use borrow.Author.Needs.{needs}
 use Rattle.extents.proofs.start_fits.Statement.{statement}
 use Rattle.extents.proofs.start_fits.Tie as tie
 use Rattle.extents.proofs.start_fits.Reads as reads

@@ -1,6 +1,6 @@
 use Rattle.forwards.proofs.Forwards.{keyword-same, fwd-builtin, fwd-named}
 use Rattle.text.proofs.TextLaws.{put-same}
-use mathlib.Core.Path.{_∙_, sym, ap}
+use mathlib.Core.Path.{_∙_, sym}
 use mathlib.Core.List.{[]}
 use borrow.Author.Needs.{needs}
 use Rattle.forwards.proofs.emit_composite_fwd.Statement.{statement}

@@ -1,5 +1,5 @@
 use borrow.Author.Tests.{not-true, not-false}
-use Prim.Native.Nat.{_≤_, _<_, _-_, _*_, _+_}
+use Prim.Native.Nat.{_<_, _-_, _*_, _+_}
 use Rattle.grammar.proofs.ParseLaws as laws
 use borrow.Author.Needs.{needs}
 use native.Mathlib.Omega.{arith}

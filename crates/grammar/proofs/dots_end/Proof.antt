@@ -1,7 +1,5 @@
-use borrow.Author.Tests.{not-true, not-false}
-use Prim.Native.Nat.{_≤_, _<_, _-_, _*_, _+_}
+use Prim.Native.Nat.{_-_}
 use Rattle.grammar.proofs.ParseLaws as laws
-use native.Mathlib.Omega.{arith}
 use borrow.Author.Needs.{needs}
 use Rattle.grammar.proofs.dots_end.Statement.{statement}
 use Rattle.grammar.proofs.dots_end.Tie as tie

@@ -2,7 +2,6 @@ use Prim.Native.Nat.{ℕ}
 use mathlib.Core.Path.{sym}
 use lib.ListN.{length-replicate}
 use Rattle.loops.proofs.Walks.{first}
-use borrow.Author.Needs.{needs}
 use Rattle.loops.proofs.has_loop.Statement.{statement}
 use Rattle.loops.proofs.has_loop.Tie as tie
 use Rattle.loops.proofs.has_loop.Reads as reads

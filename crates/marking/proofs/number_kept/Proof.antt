@@ -3,7 +3,6 @@ use lib.ListN.{length-replicate}
 use Rattle.marking.proofs.Laws.{ids-are}
 use Rattle.marking.specs.Marks.{allZero}
 use mathlib.Core.Path.{sym, _∙_}
-use borrow.Author.Needs.{needs}
 use Rattle.marking.proofs.number_kept.Statement.{statement}
 use Rattle.marking.proofs.number_kept.Tie as tie
 use Rattle.marking.proofs.number_kept.Reads as reads

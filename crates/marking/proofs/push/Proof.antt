@@ -1,5 +1,4 @@
 use Rattle.marking.proofs.Laws.{push-void, push-past, push-full, push-marked, push-new}
-use native.Mathlib.Omega.{arith}
 use borrow.Author.Needs.{needs}
 use Rattle.marking.proofs.push.Statement.{statement}
 use Rattle.marking.proofs.push.Tie as tie

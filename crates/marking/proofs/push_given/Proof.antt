@@ -4,7 +4,7 @@ use Rattle.lent.specs.Words.{getWord}
 use native.Mathlib.Omega.{arith}
 use lib.ListN.{length}
 use Prim.Native.Nat.{_-_, _≤_}
-use mathlib.Core.Path.{_≡_, refl, _∙_, ap}
+use mathlib.Core.Path.{_≡_, refl, _∙_}
 use borrow.Author.Needs.{needs}
 use Rattle.marking.proofs.push_given.Statement.{statement}
 use Rattle.marking.proofs.push_given.Tie as tie

@@ -1,7 +1,6 @@
 use Rattle.chain.proofs.Paths.{skip-end, skip-stop, skip-turn}
 use Rattle.chain.specs.Chains.{chainAt}
 use Rattle.rules.specs.Decl.{noMods}
-use native.Mathlib.Nat.{le-refl}
 use mathlib.Core.Path.{_≡_, refl}
 use Prim.Native.Nat.{_≤_, _-_}
 use borrow.Author.Needs.{needs}

@@ -1,7 +1,7 @@
 use Rattle.reader.proofs.ReadLaws as laws
 use borrow.Author.Tests.{not-true, not-false}
-use mathlib.Core.Path.{_≡_, refl, _∙_}
-use Prim.Native.Nat.{_≤_, _<_, _-_, _*_, _+_}
+use mathlib.Core.Path.{refl, _∙_}
+use Prim.Native.Nat.{_≤_, _-_}
 use native.Mathlib.Omega.{arith}
 use borrow.Author.Needs.{needs}
 use Rattle.reader.proofs.read_declaration.Statement.{statement}

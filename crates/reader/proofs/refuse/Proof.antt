@@ -2,7 +2,7 @@ use Rattle.bases.specs.Items.{placed}
 use Rattle.lent.proofs.Laws.{cleared, cleared-none, cleared-more, cleared-all}
 use lib.ListN.{length, length-set}
 use mathlib.Core.Path.{_≡_, refl, ap}
-use Prim.Native.Nat.{_≤_, _<_, _-_, _*_, _+_}
+use Prim.Native.Nat.{_≤_, _-_}
 use borrow.Author.Needs.{needs}
 use native.Mathlib.Omega.{arith}
 use Rattle.reader.proofs.refuse.Statement.{statement}

@@ -1,10 +1,10 @@
 use Rattle.recalled.proofs.Cycle.{after-align, after-members, once-deep, once-taken, once-own, once-through, once-members, idsRest, ids-start, ids-more, ids-refused, ids-end, turned, own-height}
-use Rattle.remembered.specs.Words.{idsWith, onceWith}
+use Rattle.remembered.specs.Words.{idsWith}
 use Rattle.btf.specs.Nodes.{memberIds}
 use Rattle.btf.specs.Table.{btfOf}
 use Rattle.alignments.specs.Once.{alone}
 use lib.ListN.{length}
-use mathlib.Core.Path.{_≡_, _∙_, sym, refl, ap}
+use mathlib.Core.Path.{_≡_, _∙_, refl}
 use borrow.Author.Needs.{needs}
 use native.Mathlib.Omega.{arith}
 use Prim.Native.Nat.{ℕ, _<_, _≤_, _+_, _-_}

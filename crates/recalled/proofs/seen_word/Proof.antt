@@ -1,4 +1,3 @@
-use native.Mathlib.Omega.{arith}
 use Rattle.remembered.proofs.Laws.{seen-in, seen-past}
 use borrow.Author.Needs.{needs}
 use Rattle.recalled.proofs.seen_word.Statement.{statement}

@@ -1,4 +1,3 @@
-use native.Mathlib.Omega.{arith}
 use Rattle.remembered.proofs.Laws.{taken-fits, taken-over}
 use Rattle.recalled.proofs.taken.Statement.{statement}
 use Rattle.recalled.proofs.taken.Tie as tie

@@ -1,6 +1,5 @@
 use native.Mathlib.Omega.{arith}
 use Rattle.remembered.proofs.Laws.{coded-fits, coded-high, coded-wide}
-use borrow.Author.Needs.{needs}
 use Rattle.remembered.proofs.coded.Statement.{statement}
 use Rattle.remembered.proofs.coded.Tie as tie
 use Rattle.remembered.proofs.coded.Reads as reads

@@ -1,4 +1,3 @@
-use native.Mathlib.Omega.{arith}
 use Rattle.remembered.proofs.Laws.{count-fits, count-over}
 use borrow.Author.Needs.{needs}
 use Rattle.remembered.proofs.count_visits.Statement.{statement}

@@ -1,4 +1,3 @@
-use native.Mathlib.Omega.{arith}
 use Rattle.remembered.proofs.Laws.{remember-here, remember-none, remember-past}
 use borrow.Author.Needs.{needs}
 use Rattle.remembered.proofs.remember.Statement.{statement}

@@ -1,12 +1,11 @@
 use Rattle.several.specs.Several.{listCausesCall}
 use Rattle.causes.specs.Causes.{entriesIn}
 use Rattle.calls.specs.Lists.{idsIn}
-use borrow.Rule.Slice.PartMut.{same-len-mid}
 use native.Mathlib.Omega.{arith}
 use lib.ListN.{length}
 use mathlib.Core.Path.{_≡_, refl, _∙_}
 use Rattle.several.proofs.Laws as laws
-use Prim.Native.Nat.{ℕ, zero-le, _*_, _-_, _<_, _≤_}
+use Prim.Native.Nat.{zero-le, _*_, _-_, _<_, _≤_}
 use Rattle.several.proofs.dump_list_causes.Statement.{statement}
 use Rattle.several.proofs.dump_list_causes.Tie as tie
 use Rattle.several.proofs.dump_list_causes.Reads as reads

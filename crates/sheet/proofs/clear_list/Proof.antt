@@ -3,7 +3,6 @@ use mathlib.Core.Path.{_≡_, refl, _∙_}
 use lib.ListN.{length}
 use Prim.Native.Nat.{zero-le, _≤_, _-_}
 use native.Mathlib.Omega.{arith}
-use borrow.Author.Needs.{needs}
 use Rattle.sheet.proofs.Emptied as laws
 use Rattle.sheet.proofs.clear_list.Statement.{statement}
 use Rattle.sheet.proofs.clear_list.Tie as tie

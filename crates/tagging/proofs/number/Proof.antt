@@ -4,7 +4,6 @@ use native.Mathlib.Omega.{arith}
 use lib.ListN.{length}
 use Prim.Native.Nat.{_-_, _≤_}
 use mathlib.Core.Path.{_≡_, refl, _∙_}
-use borrow.Author.Needs.{needs}
 use Rattle.tagging.proofs.number.Statement.{statement}
 use Rattle.tagging.proofs.number.Tie as tie
 use Rattle.tagging.proofs.number.Reads as reads

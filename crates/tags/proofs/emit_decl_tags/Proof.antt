@@ -1,5 +1,4 @@
 use Rattle.tags.proofs.Tags.{TagsLeft, tags-start, tags-turn, tags-past, tags-end}
-use denote.Ref.{now}
 use lib.ListN.{length}
 use mathlib.Core.Path.{_≡_, refl, _∙_}
 use Prim.Native.Nat.{_<_, _-_}

@@ -2,9 +2,9 @@ use denote.Ref.{now}
 use borrow.Author.Tests.{not-true, not-false}
 use Rattle.tokens.specs.Tokens as defs
 use Rattle.tokens.specs.Tokens.{isWordByte, allOf}
-use lib.ListN.{length, drop, getD}
-use mathlib.Core.Path.{_≡_, refl}
-use Prim.Native.Nat.{_≤_, _-_, _*_, _+_}
+use lib.ListN.{length, drop}
+use mathlib.Core.Path.{_≡_}
+use Prim.Native.Nat.{_≤_, _-_}
 use borrow.Author.Needs.{needs}
 use native.Mathlib.Omega.{arith}
 use Rattle.tokens.proofs.Bytes as bytes

@@ -1,7 +1,4 @@
-use denote.Ref.{now}
-use lib.ListN.{length}
-use mathlib.Core.Path.{_≡_, refl}
-use Prim.Native.Nat.{_≤_, _<_, _-_}
+use Prim.Native.Nat.{_≤_, _-_}
 use Rattle.tokens.proofs.Places as places
 use native.Mathlib.Omega.{arith}
 use Rattle.tokens.proofs.Bytes as bytes

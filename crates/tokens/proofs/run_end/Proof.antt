@@ -1,7 +1,6 @@
 use borrow.Author.Tests.{not-true, not-false}
 use denote.Ref.{now}
 use lib.ListN.{length}
-use mathlib.Core.Path.{_≡_, refl}
 use Prim.Native.Nat.{_≤_, _<_, _-_}
 use Rattle.tokens.proofs.Places as places
 use borrow.Author.Needs.{needs}

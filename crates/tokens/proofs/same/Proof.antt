@@ -1,9 +1,8 @@
 use denote.Ref.{now}
 use Rattle.rules.specs.Names.{sameBytes}
-use lib.ListN.{length, drop, getD}
+use lib.ListN.{length, drop}
 use mathlib.Core.Path.{_≡_, refl}
-use Prim.Native.Nat.{_≤_, _-_, _*_, _+_}
-use borrow.Author.Needs.{needs}
+use Prim.Native.Nat.{_≤_, _-_}
 use native.Mathlib.Omega.{arith}
 use Rattle.tokens.proofs.Bytes as bytes
 use Rattle.tokens.proofs.same.Statement.{statement}

@@ -1,10 +1,8 @@
 use Rattle.tokens.specs.Looking.{tokensAt}
-use denote.Ref.{now}
 use lib.ListN.{length}
 use mathlib.Core.Path.{_≡_, refl}
-use Prim.Native.Nat.{_≤_, _<_, _-_}
+use Prim.Native.Nat.{_≤_, _-_}
 use Rattle.tokens.proofs.Places as places
-use borrow.Author.Needs.{needs}
 use native.Mathlib.Omega.{arith}
 use Rattle.tokens.proofs.Bytes as bytes
 use Rattle.tokens.proofs.skip.Statement.{statement}

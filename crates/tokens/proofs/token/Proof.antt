@@ -1,8 +1,8 @@
 use borrow.Author.Tests.{not-true, not-false}
 use denote.Ref.{now}
 use lib.ListN.{length}
-use mathlib.Core.Path.{_≡_, refl, sym, _∙_}
-use Prim.Native.Nat.{_≤_, _<_, _-_}
+use mathlib.Core.Path.{sym, _∙_}
+use Prim.Native.Nat.{_<_, _-_}
 use Rattle.tokens.proofs.Places as places
 use native.Mathlib.Omega.{arith}
 use borrow.Author.Needs.{needs}

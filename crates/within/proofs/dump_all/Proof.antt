@@ -2,7 +2,7 @@ use borrow.Author.Needs.{needs}
 use Rattle.metering.specs.Within.{requestedFromWithin}
 use lib.ListN.{length}
 use Prim.Native.Nat.{zero-le, _+_, _-_, _<_, _≤_}
-use mathlib.Core.Path.{_≡_, refl, sym, _∙_}
+use mathlib.Core.Path.{_≡_, refl, _∙_}
 use native.Mathlib.Omega.{arith}
 use Rattle.metering.proofs.Laws as laws
 use Rattle.within.proofs.dump_all.Statement.{statement}

@@ -1,5 +1,4 @@
 use Prim.Native.Nat.{zero-le}
-use native.Mathlib.Omega.{arith}
 use Rattle.turns.proofs.Laws as ends
 use Rattle.metering.proofs.Laws as laws
 use borrow.Author.Needs.{needs}

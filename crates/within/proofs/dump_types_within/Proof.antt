@@ -1,4 +1,3 @@
-use native.Mathlib.Omega.{arith}
 use Rattle.turns.proofs.Laws as ends
 use Rattle.metering.proofs.Laws as laws
 use borrow.Author.Needs.{needs}

@@ -1,5 +1,4 @@
 use Rattle.bodies.proofs.WordLaws as laws
-use Rattle.rules.specs.Decl.{attribute}
 use borrow.Author.Needs.{needs}
 use Rattle.bodies.proofs.words.put_type_tag.Statement.{statement}
 use Rattle.bodies.proofs.words.put_type_tag.Tie as tie

@@ -1,7 +1,7 @@
 use Rattle.cutting.proofs.Laws.{first-base, next-base, no-bases, more-bases, all-bases, record-up}
 use Rattle.mentioned.specs.Names.{baseOf, basesTo}
 use native.Mathlib.Omega.{arith}
-use mathlib.Core.Path.{_≡_, refl, _∙_}
+use mathlib.Core.Path.{_≡_, refl}
 use lib.ListN.{length}
 use lib.ListN.{length-set}
 use Prim.Native.Nat.{_-_, _+_, _*_, _≤_}

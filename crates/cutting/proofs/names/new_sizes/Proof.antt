@@ -1,9 +1,8 @@
 use Rattle.cutting.proofs.Laws.{none-new, more-new, all-new, size-up}
 use Rattle.mentioned.specs.Names.{newSizes}
 use native.Mathlib.Omega.{arith}
-use mathlib.Core.Path.{_≡_, refl, _∙_}
+use mathlib.Core.Path.{_≡_}
 use Prim.Native.Nat.{_-_, _*_, _≤_}
-use borrow.Author.Needs.{needs}
 use Rattle.cutting.proofs.names.new_sizes.Statement.{statement}
 use Rattle.cutting.proofs.names.new_sizes.Tie as tie
 use Rattle.cutting.proofs.names.new_sizes.Reads as reads

@@ -1,7 +1,7 @@
 use Rattle.cutting.proofs.Laws.{from-start, from-here, from-on, from-none}
 use Rattle.mentioned.specs.Names.{placeFrom}
 use native.Mathlib.Omega.{arith}
-use mathlib.Core.Path.{_≡_, refl, _∙_}
+use mathlib.Core.Path.{_≡_}
 use Prim.Native.Nat.{_-_, _≤_}
 use borrow.Author.Needs.{needs}
 use Rattle.cutting.proofs.names.place_from.Statement.{statement}

@@ -1,7 +1,7 @@
 use Rattle.cutting.proofs.Laws.{no-size, more-size, all-size, tsize-up}
 use Rattle.cutting.specs.Bytes.{typesSize}
 use native.Mathlib.Omega.{arith}
-use mathlib.Core.Path.{_≡_, refl, _∙_}
+use mathlib.Core.Path.{_≡_}
 use Prim.Native.Nat.{_-_, _*_, _≤_}
 use borrow.Author.Needs.{needs}
 use Rattle.cutting.proofs.write.types_size.Statement.{statement}

@@ -1,7 +1,7 @@
 use Rattle.mentioned.proofs.Laws.{none-mentioned, more-mentioned, all-mentioned}
 use Rattle.mentioned.specs.Names.{mentionedTo}
 use native.Mathlib.Omega.{arith}
-use mathlib.Core.Path.{_≡_, refl, _∙_}
+use mathlib.Core.Path.{_≡_}
 use Prim.Native.Nat.{_-_, _≤_}
 use borrow.Author.Needs.{needs}
 use Rattle.mentioned.proofs.names.mentioned_to.Statement.{statement}

@@ -1,6 +1,6 @@
 use Rattle.mentioned.proofs.Laws.{bytes-short, bytes-differ, bytes-on, bytes-long, bytes-all}
 use native.Mathlib.Omega.{arith}
-use mathlib.Core.Path.{_≡_, refl, _∙_}
+use mathlib.Core.Path.{_≡_, refl}
 use lib.ListN.{length, drop}
 use Prim.Native.Nat.{_-_}
 use Rattle.rules.specs.Names.{sameBytes}

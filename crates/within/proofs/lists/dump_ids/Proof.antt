@@ -4,7 +4,7 @@ use Rattle.calls.proofs.Lists.{idsFrom}
 use Rattle.calls.specs.Lists.{idsIn, tailed}
 use Rattle.turns.specs.Turns.{withText, tableFor}
 use lib.ListN.{length}
-use Prim.Native.Nat.{zero-le, _+_, _-_, _<_, _≤_}
+use Prim.Native.Nat.{zero-le, _-_, _<_, _≤_}
 use mathlib.Core.Bool.{true}
 use mathlib.Core.Path.{_≡_, refl, sym, _∙_}
 use native.Mathlib.Omega.{arith}
