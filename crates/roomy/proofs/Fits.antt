@@ -1,5 +1,5 @@
 -- A list of ids with one list of entries, without its entries: `listCall`, unless the list is too short. Of all inputs; assumes nothing.
-use Prim.Native.Nat.{ℕ, zero, suc, _+_, _-_, _*_, _/_, _<_, _≤_}
+use Prim.Native.Nat.{ℕ, zero, suc, _+_, _-_, _*_, _<_, _≤_}
 use mathlib.Core.Path.{_≡_, refl, ap, _∙_, sym, subst}
 use mathlib.Core.Bool.{Bool, true, false, true≢false}
 use mathlib.Core.List.{List, [], _∷_, _++_, append-nil}
@@ -16,8 +16,9 @@ use Rattle.causes.specs.Causes.{Entry, entriesIn}
 use Rattle.causes.specs.Claims.{Listed}
 use Rattle.causes.specs.Bytes.{CauseCall, typeCauses, CauseFits}
 use Rattle.causes.proofs.Bytes.{type-fits}
+use Rattle.causes.proofs.Listed.{listed-fits, listed-both}
 use Rattle.several.specs.Several.{front, goOn, listFromCauses, listCausesCall}
-use Rattle.roomy.proofs.Entries.{listed-fits, listed-both, quiet}
+use Rattle.roomy.proofs.Entries.{quiet}
 
 -- the claim, and that a call that leaves the list alone has no entries
 record Fits (plainly : Call) (F : List ℕ → CauseCall) : Type 0 where
