@@ -45,7 +45,7 @@ module _ {M : Type 0} (X : Machine M) (T : Table) (shows : ℕ → Bool) where
       (λ r m′. wrote (record { mach = X .start 0 (m′ .mach); entries = m′ .entries })) (λ m′. wrote (X .start 0 m′)) (λ m′. lined-wrote ⊥ (record { mach = X .start 0 (m′ .mach); entries = m′ .entries }))
   listed-lined x es (refused c) = lined-refused (length es) c
 
-  dumped-lined : (m : M) (es : List Entry) (x : ℕ) → Lined ⊥ (length es) (λ r. dumpedNoted X T r shows m es x) (dumped X T m x)
+  pub dumped-lined : (m : M) (es : List Entry) (x : ℕ) → Lined ⊥ (length es) (λ r. dumpedNoted X T r shows m es x) (dumped X T m x)
   unfolding dumpedNoted dumped
   dumped-lined m es x =
       subst (λ (o : Res M). Lined ⊥ (length es) (λ r. listedNoted X T r shows x es (orderLed (X .store) x 512 T [] (record { state = m; led = [] }) x false)) (listedOut X T o))

@@ -10,16 +10,15 @@ use Rattle.rules.specs.Order.{plain, new, busy}
 use Rattle.rules.specs.Machine.{Req, one, all, Sess, Answer, single, every, serve, run}
 use Rattle.rules.specs.Names.{Names, Naming}
 use Rattle.rules.specs.Types.{Btf, tableOf}
-use Rattle.opened.specs.Causes.{openingNumber}
 use Rattle.turns.specs.Turns.{Call}
 use Rattle.calls.specs.Calls.{typeCall, typesCall}
 use Rattle.demand.specs.Lists.{Piece, Ls, afresh}
 use Rattle.demand.specs.Session.{Known, machineBy, openedBy, noNames, textOf}
 use Rattle.claims.specs.Table.{openedTable, namesIn}
-use Rattle.claims.specs.Session.{After, after-open, after-one, after-all, after-list, Tells}
+use Rattle.claims.specs.Session.{After, Tells}
 use Rattle.claims.specs.Demands.{Lent, typesIn, ruled, Demand2}
 use Rattle.claims.proofs.Claims.{opening-gives}
-use Rattle.claims.proofs.Demands.{open-number, delivered}
+use Rattle.claims.proofs.Demands.{after-sound, delivered}
 use Rattle.causes.specs.Causes.{Entry, showsIn, always, Told, untold, singleNoted, everyNoted}
 use Rattle.causes.specs.Claims.{Fits}
 use Rattle.causes.specs.Lines.{Pairs, none, more, blank, Grown, Explains, Reason}
@@ -60,13 +59,6 @@ module _ (N : Naming Names) (B : Btf) (void : tableOf B .node 0 ≡ plain) where
   opened-idle : Idle (openedBy N B (noNames B) .mach)
   unfolding afresh
   opened-idle y e = let z : new ≡ busy = sym (idle-fresh (B .type-cnt) y) ∙ e in let q : _≡_ {A = ℕ} 0 1 = cc in omega arith
-
--- the opening that a list starts at was accepted
-after-sound : (p modes : ℕ) (s : List ℕ) (n : ℕ) {c : Call} {rs : List Req} → After p modes s n c rs → openingNumber p s n ≡ 0
-after-sound p modes s n (after-open S work text z q) = ap (openingNumber p s) (sym z) ∙ sym (open-number S s work text p modes) ∙ q
-after-sound p modes s n (after-one c rs a text f same id) = after-sound p modes s n a
-after-sound p modes s n (after-all c rs a text f same) = after-sound p modes s n a
-after-sound p modes s n (after-list c rs a text f same ids) = after-sound p modes s n a
 
 module _ (p modes : ℕ) (s : List ℕ) (n : ℕ) (c : Call) (rs : List Req) (a : After p modes s n c rs) where
   abbrev B : Btf

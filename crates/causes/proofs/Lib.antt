@@ -1,5 +1,6 @@
 pub mod Ordering
 pub mod Emission
+pub mod Listed
 pub mod Requests
 pub mod Keeps
 pub mod Back

@@ -15,6 +15,7 @@ use Rattle.causes.specs.Causes.{Entry, Led, orderLed, listedEntry, Noted
 use Rattle.causes.specs.Claims.{forget, Numbered, Lined, Fits, listPlain, Listed, Lent}
 use Rattle.causes.proofs.Ordering.{forgetLed, order-forgets}
 use Rattle.causes.proofs.Emission.{emit-lined, each-lined}
+use Rattle.causes.proofs.Listed.{bytes-length}
 
 module _ {M : Type 0} (X : Machine M) (T : Table) (shows : ℕ → Bool) (nz : Numbered X) where
   -- an answer that is the same for every list
@@ -162,11 +163,6 @@ module _ {M : Type 0} (X : Machine M) (T : Table) (shows : ℕ → Bool) (nz : N
   every-fits room S true = from-fits room (T .count - 1) 1 (record { answer = record { sess = S; number = 0 }; entries = []; zeroed = true }) refl
 
 -- ---- the lent list
-bytes-length : (es : List Entry) → length (bytesOf es) ≡ 12 * length es
-unfolding bytesOf
-bytes-length [] = refl
-bytes-length (e ∷ es) = let h : length (bytesOf es) ≡ 12 * length es = bytes-length es in omega arith
-
 pub filled-listed : (n : ℕ) (es : List Entry) → 12 * length es ≤ n → Listed n es (filled n es)
 unfolding filled
 filled-listed n es l =

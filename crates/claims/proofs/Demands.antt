@@ -62,7 +62,7 @@ module _ (p modes : ℕ) (s : List ℕ) (n : ℕ) (ok : openingNumber p s n ≡ 
   }
 
 -- the opening that a list starts at was accepted
-after-sound : (p modes : ℕ) (s : List ℕ) (n : ℕ) {c : Call} {rs : List Req} → After p modes s n c rs → openingNumber p s n ≡ 0
+pub after-sound : (p modes : ℕ) (s : List ℕ) (n : ℕ) {c : Call} {rs : List Req} → After p modes s n c rs → openingNumber p s n ≡ 0
 after-sound p modes s n (after-open S work text z q) = ap (openingNumber p s) (sym z) ∙ sym (open-number S s work text p modes) ∙ q
 after-sound p modes s n (after-one c rs a text f same id) = after-sound p modes s n a
 after-sound p modes s n (after-all c rs a text f same) = after-sound p modes s n a

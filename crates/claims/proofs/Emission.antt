@@ -112,7 +112,7 @@ module _ {M₁ M : Type 0} (X₁ : Machine M₁) (X : Machine M) (T : Table) (be
       allowed-alike true = both-stuck 14
       allowed-alike false = begin-alike (isZero cont) (T .node x) refl
 
-      look-alike : (m : Mark) → BothOut Q (look X₁ T rec₁ s x cont m) (look X T rec t x cont m)
+      pub look-alike : (m : Mark) → BothOut Q (look X₁ T rec₁ s x cont m) (look X T rec t x cont m)
       unfolding look
       look-alike new = allowed-alike (isZero cont && not (T .named x))
       look-alike busy = again-alike cont s t q (T .node x)

@@ -111,7 +111,7 @@ module _ (b : Btf) (e : ℕ) (s w : List ℕ) (I : Indexed b e s w) (Z : Sane b 
   to-out len m (lines-stop c) = both-stuck c
 
   -- ---- ordering
-  alike-store : AlikeStore (X₁ .store) (X .store) (T .count) Fit Related
+  pub alike-store : AlikeStore (X₁ .store) (X .store) (T .count) Fit Related
   unfolding workMachine sheetStore workStore
   alike-store = record {
     a-good = λ m t q. record { marks-n = q .bears .marks-n ∙ sym counted; emits-n = q .bears .emits-n ∙ sym counted };
@@ -131,7 +131,7 @@ module _ (b : Btf) (e : ℕ) (s w : List ℕ) (I : Indexed b e s w) (Z : Sane b 
   }
 
   -- ---- emission
-  alike-steps : AlikeSteps X₁ X (T .count) Related
+  pub alike-steps : AlikeSteps X₁ X (T .count) Related
   unfolding workMachine lineIn
   alike-steps = record {
     a-eget = λ m t q x l. q .bears .emits x (below x l);
@@ -164,12 +164,12 @@ module _ (b : Btf) (e : ℕ) (s w : List ℕ) (I : Indexed b e s w) (Z : Sane b 
   abbrev Goes : State → Sheet → State → Bool → Type 0
   Goes t₀ m t c = Went (X₁ .store) (X .store) T Fit (lawful .law) (Kept X Fit) (lawful .framed) (wf .below) Related alike-store t₀ m t c
 
-  list-same : (m : Sheet) (t : State) → Related m t → X₁ .store .list m ≡ X .store .list t
+  pub list-same : (m : Sheet) (t : State) → Related m t → X₁ .store .list m ≡ X .store .list t
   unfolding workMachine sheetStore workStore
   list-same m t q = q .bears .list
 
   module _ (S : Sess State) (x : ℕ) where
-    emitted-alike : {r₁ : Out Sheet} {r : Out State} → BothOut Related r₁ r → BothRequest b e s w front room S x (obind r₁ (λ m. wrote (X₁ .start 0 m))) (emitted X T S x r)
+    pub emitted-alike : {r₁ : Out Sheet} {r : Out State} → BothOut Related r₁ r → BothRequest b e s w front room S x (obind r₁ (λ m. wrote (X₁ .start 0 m))) (emitted X T S x r)
     unfolding obind emitted shut workMachine
     emitted-alike (both-wrote m t q) =
         both-served (record { work = emptied (m .len) (m .work); text = m .text; at = m .at; len = 0 }) t

@@ -159,7 +159,7 @@ module _ (p modes : ℕ) (s : List ℕ) (n : ℕ) (ok : openingNumber p s n ≡ 
     abbrev sheet : Sheet
     sheet = record { work = v; text = lentTo len t; at = 0; len = 0 }
 
-    begins : Shows b e s w (take len t) (lentTo len t) 0 (X .start room (L .mach))
+    pub begins : Shows b e s w (take len t) (lentTo len t) 0 (X .start room (L .mach))
     begins = record {
       room = omega (arith, front-long, slice-long);
       place = omega (arith, front-long, g .its-length);
@@ -199,7 +199,7 @@ module _ (p modes : ℕ) (s : List ℕ) (n : ℕ) (ok : openingNumber p s n ≡ 
       small = g .small;
     }
 
-    came : (u : ℕ) {o : Out Sheet} {a : Answer State} → BothRequest b e s w (take len t) room L x o a → ((c : ℕ) → o ≡ stuck c → 0 < c) → BothReach room (cameTo len u t o) a
+    pub came : (u : ℕ) {o : Out Sheet} {a : Answer State} → BothRequest b e s w (take len t) room L x o a → ((c : ℕ) → o ≡ stuck c → 0 < c) → BothReach room (cameTo len u t o) a
     unfolding cameTo
     came d (both-served m u be sh r) k = both-reached (len + m .at) (m .work) (place t len (m .text)) _ (served m u be sh r)
     came d (both-refused zero) k = absurd (let q : 0 < 0 = k 0 refl in omega arith)
@@ -209,7 +209,7 @@ module _ (p modes : ℕ) (s : List ℕ) (n : ℕ) (ok : openingNumber p s n ≡ 
     unfolding single gate
     single-is l = ap (λ (f : Bool). gate X T room L x f (ltb x (T .count))) (g .running) ∙ ap (gate X T room L x true) (lt-ltb x (T .count) l)
 
-    positive : (c : ℕ) → dumped (workMachine b B) T sheet x ≡ stuck c → 0 < c
+    pub positive : (c : ℕ) → dumped (workMachine b B) T sheet x ≡ stuck c → 0 < c
     positive c q =
         let z : (12 ≤ c) × (c ≤ 18) = stuck-listed (length (lentTo len t)) (dumped (workMachine b B) T sheet x) (fair-request b B (length (lentTo len t)) sheet x (omega arith, refl)) c q in
         omega (arith, z .0)
@@ -257,7 +257,7 @@ module _ (p modes : ℕ) (s : List ℕ) (n : ℕ) (ok : openingNumber p s n ≡ 
   }
 
   module _ (S : Session) (work text₀ : List ℕ) (L₀ : Sess State) (h : Holds p modes s n S work text₀ L₀) (full : length work ≡ length w) (room : ℕ) where
-    settle : {r : Reach} {a : Answer State} → BothReach room r a → Keeps room (settled S (length work) room r) a
+    pub settle : {r : Reach} {a : Answer State} → BothReach room r a → Keeps room (settled S (length work) room r) a
     unfolding settled
     settle (both-reached len v t L g) = record {
       holds = record {
@@ -299,7 +299,7 @@ module _ (p modes : ℕ) (s : List ℕ) (n : ℕ) (ok : openingNumber p s n ≡ 
   -- ---- a call after another, lent a text that begins with the text so far
   module _ (S : Session) (work text₀ : List ℕ) (L : Sess State) (h : Holds p modes s n S work text₀ L) (text : List ℕ) (f : S .«text_len» ≤ length text)
       (same : take (S .«text_len») text ≡ take (S .«text_len») text₀) where
-    table-is : tableFor S s ≡ b
+    pub table-is : tableFor S s ≡ b
     unfolding settingsOf
     table-is =
         ap (λ (k : ℕ). settingsOf s k (S .modes) (S .types)) (h .pointer-size)

@@ -16,8 +16,9 @@ use Rattle.causes.specs.Causes.{Entry, entriesIn}
 use Rattle.causes.specs.Claims.{Listed}
 use Rattle.causes.specs.Bytes.{CauseCall, typeCauses, CauseFits}
 use Rattle.causes.proofs.Bytes.{type-fits}
+use Rattle.causes.proofs.Listed.{listed-fits, listed-both}
 use Rattle.several.specs.Several.{front, goOn, listFromCauses, listCausesCall}
-use Rattle.roomy.proofs.Entries.{listed-fits, listed-both, quiet}
+use Rattle.roomy.proofs.Entries.{quiet}
 
 -- the claim, and that a call that leaves the list alone has no entries
 record Fits (plainly : Call) (F : List ℕ → CauseCall) : Type 0 where

@@ -1,0 +1,77 @@
+-- THE THEOREM: number, count and list of a call that is lent a list are those of the rules with entries. Assumes nothing.
+use Prim.Native.Nat.{ℕ}
+use mathlib.Core.Path.{_≡_, refl}
+use mathlib.Core.List.{List}
+use native.Mathlib.Omega.{arith}
+use lib.ListN.{length}
+use Rattle.rules.specs.Machine.{Req, Sess}
+use Rattle.rules.specs.Names.{Names}
+use Rattle.opened.specs.Causes.{openingNumber}
+use Rattle.turns.specs.Turns.{Call}
+use Rattle.demand.specs.Lists.{Ls}
+use Rattle.demand.specs.Session.{Known}
+use Rattle.claims.specs.Table.{openedTable, machineIn}
+use Rattle.claims.specs.Session.{After, Holds, Tells}
+use Rattle.claims.specs.Demands.{Lent, typesIn, ruled}
+use Rattle.claims.proofs.Demands.{after-sound}
+use Rattle.claims.proofs.Session.{after-holds}
+use Rattle.causes.specs.Causes.{upTo, showsIn, entriesIn, untold, singleNoted, listNoted, everyNoted, causesOf, oneCauses, listCauses, allCauses}
+use Rattle.causes.specs.Bytes.{typeCauses, typesCauses}
+use Rattle.several.specs.Several.{listFromCauses, listCausesCall}
+use Rattle.reasoned.specs.Claims.{Agrees, oneRuled, allRuled, listRuled, Reasoned}
+use Rattle.reasoned.proofs.Calls.{Stepped, agrees, type-stepped, types-stepped}
+use Rattle.reasoned.proofs.Lists.{Went, list-went}
+
+module _ (p modes : ℕ) (s : List ℕ) (n : ℕ) (c : Call) (rs : List Req) (a : After p modes s n c rs) (text : List ℕ) (lent : Lent c text) (l : List ℕ) where
+  ok : openingNumber p s n ≡ 0
+  ok = after-sound p modes s n a
+
+  abbrev L : Sess (Ls (Known Names))
+  L = ruled p modes s n rs
+
+  holds : Holds p modes s n (c .session) (c .work) (c .text) L
+  holds = after-holds p modes s n ok a
+
+  one : (id : ℕ) → Stepped p modes s n ok (length text) (untold L) l (typeCauses (c .session) s (c .work) text id l) (singleNoted (machineIn p modes s n) (typesIn p modes s n) (upTo (entriesIn l)) (showsIn (openedTable p modes s n)) (length text) id (untold L))
+  one id = type-stepped p modes s n ok (c .session) (c .work) (c .text) (untold L) holds text (lent .long) (lent .begins) id l (entriesIn l) (omega arith)
+
+  one-agrees : (id : ℕ) → Agrees (typeCauses (c .session) s (c .work) text id l) (oneRuled p modes s n l (length text) rs id)
+  unfolding oneCauses
+  one-agrees id =
+      agrees p modes s n ok l (typeCauses (c .session) s (c .work) text id l) (singleNoted (machineIn p modes s n) (typesIn p modes s n) (upTo (entriesIn l)) (showsIn (openedTable p modes s n)) (length text) id (untold L))
+      (one id .fresh) (one id .keeps .holds) (one id .keeps .tells .number) (one id .its-entries) (one id .its-count) (one id .listing)
+
+  one-tells : (id : ℕ) → Tells (length text) (typeCauses (c .session) s (c .work) text id l .call) (oneRuled p modes s n l (length text) rs id .answer)
+  unfolding oneCauses causesOf
+  one-tells id = one id .keeps .tells
+
+  every : Stepped p modes s n ok (length text) (untold L) l (typesCauses (c .session) s (c .work) text l) (everyNoted (machineIn p modes s n) (typesIn p modes s n) (upTo (entriesIn l)) (showsIn (openedTable p modes s n)) (length text) L (L .isOpen))
+  every = types-stepped p modes s n ok (c .session) (c .work) (c .text) (untold L) holds text (lent .long) (lent .begins) l
+
+  all-agree : Agrees (typesCauses (c .session) s (c .work) text l) (allRuled p modes s n l (length text) rs)
+  unfolding allCauses
+  all-agree =
+      agrees p modes s n ok l (typesCauses (c .session) s (c .work) text l) (everyNoted (machineIn p modes s n) (typesIn p modes s n) (upTo (entriesIn l)) (showsIn (openedTable p modes s n)) (length text) L (L .isOpen))
+      (every .fresh) (every .keeps .holds) (every .keeps .tells .number) (every .its-entries) (every .its-count) (every .listing)
+
+  all-tell : Tells (length text) (typesCauses (c .session) s (c .work) text l .call) (allRuled p modes s n l (length text) rs .answer)
+  unfolding allCauses causesOf
+  all-tell = every .keeps .tells
+
+  some : (ids : List ℕ) → Went p modes s n ok (untold L) l (listFromCauses 0 (c .session) s (c .work) text l ids) (listNoted (machineIn p modes s n) (typesIn p modes s n) (upTo (entriesIn l)) (showsIn (openedTable p modes s n)) (length text) ids (untold L))
+  some ids = list-went p modes s n ok ids 0 (c .session) (c .work) (c .text) (untold L) holds refl text (lent .long) (lent .begins) l (entriesIn l) (omega arith)
+
+  list-agrees : (ids : List ℕ) → Agrees (listCausesCall (c .session) s (c .work) text ids l) (listRuled p modes s n l (length text) rs ids)
+  unfolding listCausesCall listCauses
+  list-agrees ids =
+      agrees p modes s n ok l (listFromCauses 0 (c .session) s (c .work) text l ids) (listNoted (machineIn p modes s n) (typesIn p modes s n) (upTo (entriesIn l)) (showsIn (openedTable p modes s n)) (length text) ids (untold L))
+      (some ids .fresh) (some ids .holds) (some ids .its-number) (some ids .its-entries) (some ids .its-count) (some ids .listing)
+
+pub calls-reasoned : (p modes : ℕ) (s : List ℕ) (n : ℕ) → Reasoned p modes s n
+calls-reasoned p modes s n = record {
+  type = λ c rs a text lent id l. one-agrees p modes s n c rs a text lent l id;
+  type-text = λ c rs a text lent id l. one-tells p modes s n c rs a text lent l id;
+  types = λ c rs a text lent l. all-agree p modes s n c rs a text lent l;
+  types-text = λ c rs a text lent l. all-tell p modes s n c rs a text lent l;
+  list = λ c rs a text lent ids l. list-agrees p modes s n c rs a text lent l ids;
+}

@@ -1,0 +1,178 @@
+-- The call for a list of ids that is lent a list of entries, against the rules with entries. Assumes nothing but that opening accepts the section.
+use Prim.Native.Nat.{ℕ, zero, suc, _+_, _-_, _*_, _≤_}
+use mathlib.Core.Path.{_≡_, refl, ap, _∙_, sym, subst}
+use mathlib.Core.List.{List, [], _∷_, _++_, append-assoc, append-nil}
+use mathlib.Core.Logic.{⊎-elim}
+use native.Mathlib.Omega.{arith}
+use lib.ListN.{length, take, drop, length-append, length-drop}
+use Rattle.lent.proofs.Laws.{le-or-lt}
+use Rattle.rules.specs.Order.{Table}
+use Rattle.rules.specs.Machine.{Machine}
+use Rattle.rules.specs.Types.{Btf as Rules, tableOf}
+use Rattle.rules.specs.Names.{Names}
+use Rattle.opened.specs.Causes.{openingNumber}
+use Rattle.turns.specs.declared.Session.{Session}
+use Rattle.turns.specs.Answers.{numberOf, answerOf}
+use Rattle.turns.specs.Turns.{Call, callOf}
+use Rattle.calls.specs.Calls.{typeCall}
+use Rattle.calls.proofs.Claims.{number-is}
+use Rattle.calls.proofs.Lists.{type-single}
+use Rattle.demand.specs.Lists.{Ls}
+use Rattle.demand.specs.Session.{Known}
+use Rattle.claims.specs.Table.{openedTable, machineIn}
+use Rattle.claims.specs.Session.{Holds}
+use Rattle.causes.specs.Causes.{Entry, upTo, showsIn, entriesIn, Told, singleNoted, onwardNoted, listNoted}
+use Rattle.causes.specs.Bytes.{CauseCall, typeCauses, CauseFits}
+use Rattle.causes.proofs.Bytes.{type-fits}
+use Rattle.several.specs.Several.{front, goOn, listFromCauses}
+use Rattle.reasoned.proofs.Listing.{Listing, leaves, listing-size, listing-then}
+use Rattle.reasoned.proofs.Calls.{Stepped, type-stepped}
+
+-- an accepted request keeps the length of the text slice
+text-long : (S : Session) (s work text : List ℕ) (x : ℕ) (l : List ℕ) → numberOf (typeCauses S s work text x l .call .answer) ≡ 0 → length (typeCauses S s work text x l .call .text) ≡ length text
+text-long S s work text x l e =
+    let fit : CauseFits (typeCall S s work text x) (λ k. typeCauses S s work text x k) = type-fits S s work text x in
+    ⊎-elim (λ r. ap (λ (d : Call). length (d .text)) (fit .same l r) ∙ type-single S s work text x .long) (λ r. absurd (let z : 17 ≡ 0 = sym (fit .short l r) ∙ e in omega arith)) (le-or-lt (fit .need) (entriesIn l))
+
+-- after k accepted ids: an id that is accepted, and one that is not
+module _ (k : ℕ) (d : CauseCall) (next : CauseCall → CauseCall) where
+  goes : (c : ℕ) → d .count ≡ c → numberOf (d .call .answer) ≡ 0 → goOn k d next ≡ front c (take (c * 12) (d .list)) (next d)
+  unfolding goOn
+  goes c q e =
+      ap (λ (x : ℕ). elim x as (λ (y : ℕ). CauseCall) [ zero ↦ front (d .count) (take (d .count * 12) (d .list)) (next d) | suc m ↦ record { call = callOf (d .call .session) (answerOf (suc m) k) (d .call .work) (d .call .text); count = d .count; list = d .list } ]) e
+      ∙ ap (λ (x : ℕ). front x (take (x * 12) (d .list)) (next d)) q
+
+  stops : (m : ℕ) → numberOf (d .call .answer) ≡ suc m → goOn k d next ≡ record { call = callOf (d .call .session) (answerOf (suc m) k) (d .call .work) (d .call .text); count = d .count; list = d .list }
+  unfolding goOn
+  stops m e =
+      ap (λ (x : ℕ). elim x as (λ (y : ℕ). CauseCall) [ zero ↦ front (d .count) (take (d .count * 12) (d .list)) (next d) | suc m ↦ record { call = callOf (d .call .session) (answerOf (suc m) k) (d .call .work) (d .call .text); count = d .count; list = d .list } ]) e
+
+module _ (p modes : ℕ) (s : List ℕ) (n : ℕ) (ok : openingNumber p s n ≡ 0) where
+  abbrev B : Rules
+  B = openedTable p modes s n
+
+  abbrev T : Table
+  T = tableOf B
+
+  abbrev State : Type 0
+  State = Ls (Known Names)
+
+  abbrev X : Machine State
+  X = machineIn p modes s n
+
+  -- a call d for some ids, lent the list l after the requests `told`, and what the rules come to
+  pub record Went (told : Told State) (l : List ℕ) (d : CauseCall) (t : Told State) : Type 0 where
+    pub holds : Holds p modes s n (d .call .session) (d .call .work) (d .call .text) (t .answer .sess)
+    pub its-number : numberOf (d .call .answer) ≡ t .answer .number
+    pub fresh : List Entry
+    pub its-entries : t .entries ≡ told .entries ++ fresh
+    pub its-count : d .count ≡ length fresh
+    pub listing : Listing l (told .zeroed) fresh (d .list) (t .zeroed)
+
+  -- no ids
+  no-ids : (k : ℕ) (S : Session) (work text₀ : List ℕ) (told : Told State) → Holds p modes s n S work text₀ (told .answer .sess) → told .answer .number ≡ 0 → (text : List ℕ) → S .«text_len» ≤ length text
+      → take (S .«text_len») text ≡ take (S .«text_len») text₀ → (l : List ℕ) → Went told l (record { call = callOf S (answerOf 0 k) work text; count = 0; list = l }) told
+  unfolding callOf
+  no-ids k S work text₀ told h z text f same l = record {
+    holds = record {
+      is-open = h .is-open;
+      section = h .section;
+      its-work = h .its-work;
+      types = h .types;
+      pointer-size = h .pointer-size;
+      mode = h .mode;
+      its-length = h .its-length;
+      its-text = same ∙ h .its-text;
+      fits = f;
+      small = h .small;
+      bears = h .bears;
+    };
+    its-number = number-is 0 k ∙ sym z;
+    fresh = [];
+    its-entries = sym (append-nil (told .entries));
+    its-count = refl;
+    listing = leaves;
+  }
+
+  -- one id, and what follows it
+  module _ (room k : ℕ) (told t : Told State) (l : List ℕ) (d : CauseCall) (h : Stepped p modes s n ok room told l d t) (next : CauseCall → CauseCall) (rest : Told State → Told State) (c : ℕ) where
+    abbrev after : List ℕ
+    after = drop (length (h .fresh) * 12) (d .list)
+
+    refused-went : (m : ℕ) → numberOf (d .call .answer) ≡ suc m → Went told l (goOn k d next) (onwardNoted X T (upTo c) (showsIn B) rest t)
+    unfolding onwardNoted callOf
+    refused-went m e =
+        let z : t .answer .number ≡ suc m = sym (h .keeps .tells .number) ∙ e in
+        subst (λ (y : CauseCall). Went told l y (onwardNoted X T (upTo c) (showsIn B) rest t)) (sym (stops k d next m e))
+        (subst (λ (x : ℕ). Went told l (record { call = callOf (d .call .session) (answerOf (suc m) k) (d .call .work) (d .call .text); count = d .count; list = d .list }) (elim x as (λ (y : ℕ). Told State) [ zero ↦ rest t | suc j ↦ t ])) (sym z)
+        (record { holds = h .keeps .holds; its-number = number-is (suc m) k ∙ sym z; fresh = h .fresh; its-entries = h .its-entries; its-count = h .its-count; listing = h .listing }))
+
+    accepted-went : numberOf (d .call .answer) ≡ 0 → Went t after (next d) (rest t) → Went told l (goOn k d next) (onwardNoted X T (upTo c) (showsIn B) rest t)
+    unfolding onwardNoted
+    accepted-went e i =
+        let z : t .answer .number ≡ 0 = sym (h .keeps .tells .number) ∙ e in
+        subst (λ (y : CauseCall). Went told l y (onwardNoted X T (upTo c) (showsIn B) rest t)) (sym (goes k d next (length (h .fresh)) (h .its-count) e))
+        (subst (λ (x : ℕ). Went told l (front (length (h .fresh)) (take (length (h .fresh) * 12) (d .list)) (next d)) (elim x as (λ (y : ℕ). Told State) [ zero ↦ rest t | suc j ↦ t ])) (sym z)
+        (record {
+          holds = i .holds;
+          its-number = i .its-number;
+          fresh = h .fresh ++ i .fresh;
+          its-entries = i .its-entries ∙ ap (λ (k : List Entry). k ++ i .fresh) (h .its-entries) ∙ append-assoc (told .entries) (h .fresh) (i .fresh);
+          its-count = ap (λ (k : ℕ). length (h .fresh) + k) (i .its-count) ∙ sym (length-append (h .fresh) (i .fresh));
+          listing = listing-then l (told .zeroed) (h .listing) (i .listing);
+        }))
+
+  -- the room that is left after one id
+  room-after : (room : ℕ) (told t : Told State) (l : List ℕ) (d : CauseCall) (h : Stepped p modes s n ok room told l d t) (c : ℕ) → c ≡ length (told .entries) + entriesIn l → c ≡ length (t .entries) + entriesIn (drop (length (h .fresh) * 12) (d .list))
+  room-after room told t l d h c q =
+      let a : (length (d .list) ≡ length l) × (12 * length (h .fresh) ≤ length l) = listing-size (h .listing) in
+      let u : length (d .list) ≡ length l = a .0 in
+      let y : 12 * length (h .fresh) ≤ length l = a .1 in
+      let v : length (drop (length (h .fresh) * 12) (d .list)) ≡ length (d .list) - length (h .fresh) * 12 = length-drop (length (h .fresh) * 12) (d .list) in
+      let i : length (t .entries) ≡ length (told .entries) + length (h .fresh) = ap length (h .its-entries) ∙ length-append (told .entries) (h .fresh) in
+      omega arith
+
+  -- the id x of a list, before others
+  module _ (x : ℕ) (ids : List ℕ) (k : ℕ) (S : Session) (work text₀ : List ℕ) (told : Told State) (h : Holds p modes s n S work text₀ (told .answer .sess)) (text : List ℕ) (f : S .«text_len» ≤ length text)
+      (same : take (S .«text_len») text ≡ take (S .«text_len») text₀) (l : List ℕ) (c : ℕ) (r : c ≡ length (told .entries) + entriesIn l) where
+    abbrev d₁ : CauseCall
+    d₁ = typeCauses S s work text x l
+
+    abbrev t₁ : Told State
+    t₁ = singleNoted X T (upTo c) (showsIn B) (length text) x told
+
+    abbrev others : ℕ → Told State → Told State
+    others room t = listNoted X T (upTo c) (showsIn B) room ids t
+
+    abbrev further : CauseCall → CauseCall
+    further d = listFromCauses (suc k) (d .call .session) s (d .call .work) (d .call .text) (drop (d .count * 12) (d .list)) ids
+
+    one : Stepped p modes s n ok (length text) told l d₁ t₁
+    one = type-stepped p modes s n ok S work text₀ told h text f same x l c r
+
+    abbrev left : List ℕ
+    left = drop (length (one .fresh) * 12) (d₁ .list)
+
+    one-more : (numberOf (d₁ .call .answer) ≡ 0 → Went t₁ left (listFromCauses (suc k) (d₁ .call .session) s (d₁ .call .work) (d₁ .call .text) left ids) (others (length (d₁ .call .text)) t₁))
+        → Went told l (goOn k d₁ further) (onwardNoted X T (upTo c) (showsIn B) (others (length text)) t₁)
+    one-more i = by (numberOf (d₁ .call .answer)) refl
+      where
+        by : (m : ℕ) → numberOf (d₁ .call .answer) ≡ m → Went told l (goOn k d₁ further) (onwardNoted X T (upTo c) (showsIn B) (others (length text)) t₁)
+        by (suc m) e = refused-went (length text) k told t₁ l d₁ one further (others (length text)) c m e
+        by zero e =
+            accepted-went (length text) k told t₁ l d₁ one further (others (length text)) c e
+            (subst (λ (j : ℕ). Went t₁ left (listFromCauses (suc k) (d₁ .call .session) s (d₁ .call .work) (d₁ .call .text) (drop (j * 12) (d₁ .list)) ids) (others (length text) t₁)) (sym (one .its-count))
+            (subst (λ (j : ℕ). Went t₁ left (listFromCauses (suc k) (d₁ .call .session) s (d₁ .call .work) (d₁ .call .text) left ids) (others j t₁)) (text-long S s work text x l e) (i e)))
+
+  pub list-went : (ids : List ℕ) (k : ℕ) (S : Session) (work text₀ : List ℕ) (told : Told State) → Holds p modes s n S work text₀ (told .answer .sess) → told .answer .number ≡ 0
+      → (text : List ℕ) → S .«text_len» ≤ length text → take (S .«text_len») text ≡ take (S .«text_len») text₀ → (l : List ℕ) (c : ℕ) → c ≡ length (told .entries) + entriesIn l
+      → Went told l (listFromCauses k S s work text l ids) (listNoted X T (upTo c) (showsIn B) (length text) ids told)
+  unfolding listFromCauses listNoted
+  list-went [] k S work text₀ told h z text f same l c r = no-ids k S work text₀ told h z text f same l
+  list-went (x ∷ ids) k S work text₀ told h z text f same l c r =
+      let d : CauseCall = typeCauses S s work text x l in
+      let t : Told State = singleNoted X T (upTo c) (showsIn B) (length text) x told in
+      let o : Stepped p modes s n ok (length text) told l d t = one x ids k S work text₀ told h text f same l c r in
+      one-more x ids k S work text₀ told h text f same l c r
+      (λ e. list-went ids (suc k) (d .call .session) (d .call .work) (d .call .text) t (o .keeps .holds) (sym (o .keeps .tells .number) ∙ e) (d .call .text) (o .keeps .holds .fits) refl (drop (length (o .fresh) * 12) (d .list)) c
+      (room-after (length text) told t l d o c r))
