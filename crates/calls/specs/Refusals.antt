@@ -1,4 +1,4 @@
--- Document 01's table of refusals: the number and the value of each row.
+-- Document 01's table of refusals: the number and the value of each row. specs/Table.antt says that the calls and the rules refuse by these.
 use Prim.Native.Nat.{ℕ}
 use Rattle.turns.specs.declared.Answer.{Answer}
 use Rattle.turns.specs.Answers.{answerOf}
