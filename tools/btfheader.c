@@ -51,7 +51,7 @@ static const char *words_for(uint32_t number)
 	case BTFDUMP_ALIGN_ZERO: return "a struct has a member that has no alignment";
 	case BTFDUMP_OVERFLOW: return "a size or an offset does not fit in 32 bits";
 	case BTFDUMP_TEXT_FULL: return "the text is longer than 1,073,741,824 bytes";
-	case BTFDUMP_MISPLACED: return "a struct or union has members that no compiler places so";
+	case BTFDUMP_MISPLACED: return "the printed lines of a struct or union would not lie where the table says";
 	case BTFDUMP_CEILING: return "ordering the types takes more calls than --ceiling allows";
 	default: return "unexpected answer";
 	}

@@ -196,7 +196,8 @@ followSize (each s) vlen = vlen * sizeOf s
 ---------------------------------------------------------------------------------------------------------------------------------------
 -- Described types: the numbers that sections 2.2 and 2.2.1 to 2.2.19 give to a type of each kind
 
--- struct btf_member: name_off, type, bit offset, bitfield size (0 where kind_flag is not set)
+-- struct btf_member: name_off, type, bit offset, bitfield size. Where kind_flag is not set it is 0: that is the scope's; the page has the size in the INT
+-- that is the base type then (docs/DIFFERENCES.md)
 pub data Member : Type 0 where
   member : ℕ → ℕ → ℕ → ℕ → Member
 
