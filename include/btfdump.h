@@ -62,10 +62,14 @@ extern "C" {
 #define BTFDUMP_STRONG_ARRAYS 2u
 /*
  * Placing mode: each pad is the widest unit that starts on a multiple of its
- * width and fits the gap, and a tail pad fills a struct to its size. So on
- * x86-64, with pointer size 8 and unions under their own word, a compiler puts
- * every member at its offset in the table, and the whole has its size. What
- * cannot be laid out so is refused by BTFDUMP_MISPLACED.
+ * width and fits the gap, and a tail pad fills a struct to its size. Laid out
+ * by the x86-64 System V rules, with pointer size 8, unions under their own word
+ * and the sizes and alignments that the table gives the members' types, every
+ * member is at its offset in the table, and the whole has its size. What cannot
+ * be laid out so is refused by BTFDUMP_MISPLACED. A compiler may give a type
+ * another size or alignment than the table: four bytes to an enum of one byte,
+ * alignment 1 to a struct that is printed packed, no space to a member without a
+ * name that is not printed inline.
  */
 #define BTFDUMP_PLACING 4u
 /*
@@ -95,12 +99,16 @@ enum btfdump_number {
 	BTFDUMP_FUNCTION_VALUE = 7,  /* a member or an array element is a function prototype */
 	BTFDUMP_LOOP = 8,            /* pointers, arrays, qualifiers, typedefs, prototypes form a loop */
 	BTFDUMP_WORK_TOO_SHORT = 9,  /* the work memory is too short */
-	/* requests; value: the text length before the request. 10 and 11 change nothing */
+	/*
+	 * requests; value: the text length before the request, or, of a list, how many
+	 * ids were accepted. 10 and 11 change nothing, but in a list 10 leaves what the
+	 * ids before it brought
+	 */
 	BTFDUMP_NO_SUCH_ID = 10,     /* the id is not below the count of types */
 	BTFDUMP_NOT_OPEN = 11,       /* no open session, or other lengths than at opening, or the text is cut short */
 	/* after these the session is closed, the work zero, the text as long as before and zero after that */
 	BTFDUMP_TOO_DEEP = 12,       /* more than 512 nested calls, or entries of a declarator */
-	BTFDUMP_CYCLE = 13,          /* a struct or union contains itself (or, with strong arrays, a pointer to an array of itself) */
+	BTFDUMP_CYCLE = 13,          /* a struct or union needs itself complete: it holds itself, or leads back to itself through a nameless one, also behind a pointer (with strong arrays: an array behind a pointer) */
 	BTFDUMP_NAMELESS = 14,       /* a typedef with no name is to be defined */
 	BTFDUMP_ALIGN_ZERO = 15,     /* the packed test meets a type with alignment 0 */
 	BTFDUMP_OVERFLOW = 16,       /* a size or an offset does not fit 32 bits */
@@ -169,8 +177,9 @@ btfdump_answer btfdump_dump_list(uint8_t *record, size_t record_len,
  * calls of one rule, and on a table made for it their number doubles at each
  * level. `ceiling` is how many calls this request may make, all its ids together;
  * one more is refused by 22, which closes the session as 12 does. How many were
- * made is stored in *made, after a refusal too: the ceiling after 22, and 0 after
- * 10 and 11. Where 22 does not come, everything else is as after the plain call,
+ * made is stored in *made, after a refusal too: the ceiling after 22, 0 after
+ * 11, and after 10 those of the ids before it in a list, else 0. Where 22 does
+ * not come, everything else is as after the plain call,
  * and so it is, with the same count, under every larger ceiling. An id that is
  * ordered already makes one call.
  */
@@ -203,9 +212,11 @@ btfdump_answer btfdump_dump_list_within(uint8_t *record, size_t record_len,
  * the composite or typedef being printed around it led there. *count gets the
  * number of entries; what follows them is zero. The entries of a refused request
  * are dropped; those of the ids before it stay. 10 and 11 leave the list as it
- * was, with *count 0. A list too short for one more entry is 17; one with an
- * entry for every three bytes of text is never too short. Everything else is as
- * after the plain call. A list of ids is the single requests in their order, each
+ * was, with *count 0, but in a list of ids 10 leaves the entries of the ids before
+ * it; no ids at all leave the list too. A list too short for one more entry is
+ * 17; one with an entry for every three bytes of text is long enough for every
+ * call that the plain one accepts. Everything else is as after the plain call.
+ * These calls take no ceiling. A list of ids is the single requests in their order, each
  * lent what follows the entries so far. These requests keep 2 MiB more on the
  * stack and clear them for each id, or, for all ids, for each that has something
  * to do.
@@ -316,7 +327,7 @@ btfdump_answer btfdump_cut(const uint8_t *record, size_t record_len,
  *   2 0 0             a pointer to what follows
  *   3 count 0         an array of what follows
  *   4 any 0           a prototype; any is 1 where parameters follow, each a chain that ends in its base, and then what it returns
- *   5 which 0         a qualifier of what follows: 1 const, 2 volatile, 3 restrict
+ *   5 which 0         a qualifier of what follows: 1 const, 2 volatile, 3 restrict; two on one spot stand as in the text
  *   6 start length    the base of a parameter behind which another one follows
  *
  * A parameter `...` is a base of start 0 and length 0. `(void)` and `()` have no parameters. Words behind the last entry stay as they

@@ -46,7 +46,7 @@ static const char *words_for(uint32_t number)
 	case BTFDUMP_LOOP: return "pointers, arrays, qualifiers, typedefs or prototypes lead in a circle";
 	case BTFDUMP_NO_SUCH_ID: return "the table has no type with this id";
 	case BTFDUMP_TOO_DEEP: return "types are nested more than 512 deep";
-	case BTFDUMP_CYCLE: return "a struct or union contains itself";
+	case BTFDUMP_CYCLE: return "a struct or union needs itself to be complete";
 	case BTFDUMP_NAMELESS: return "a typedef without a name would have to be defined";
 	case BTFDUMP_ALIGN_ZERO: return "a struct has a member that has no alignment";
 	case BTFDUMP_OVERFLOW: return "a size or an offset does not fit in 32 bits";
