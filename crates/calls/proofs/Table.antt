@@ -1,6 +1,6 @@
 -- The calls and the rules refuse by the rows of specs/Refusals. Assumes nothing.
 use Prim.Native.Nat.{ℕ, zero, suc, _+_, _-_, _≤_}
-use mathlib.Core.Path.{_≡_, refl, ap, _∙_, sym, subst}
+use mathlib.Core.Path.{_≡_, refl, ap, _∙_, sym}
 use mathlib.Core.Bool.{Bool, true, false}
 use mathlib.Core.List.{List, [], _∷_, List·Memᴰ, List·Memᴰ·head, List·Memᴰ·tail}
 use mathlib.Core.Logic.{_⊎_, inl, inr}
@@ -11,9 +11,9 @@ use Rattle.text.specs.Text.{putText}
 use Rattle.rules.specs.Order.{meet, order}
 use Rattle.rules.specs.Machine.{mention, allowed, emit}
 use Rattle.ceiling.specs.Ceiling.{orderWithin}
-use Rattle.opened.specs.Causes.{cause1, cause2, cause3, cause4, cause5, cause6, cause7, cause8, cause9, firstOf, causes, openingNumber}
+use Rattle.opened.specs.Causes.{firstOf, causes, openingNumber}
 use Rattle.opened.specs.Table.{typesOf}
-use Rattle.opened.specs.Opened.{Outcome, openingOf}
+use Rattle.opened.specs.Opened.{Outcome}
 use Rattle.turns.specs.declared.Answer.{Answer}
 use Rattle.turns.specs.declared.Answer.the-variants.{Accepted, Refused}
 use Rattle.turns.specs.declared.Session.{Session}

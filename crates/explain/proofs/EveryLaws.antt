@@ -102,7 +102,7 @@ module _ (b : Btf) (s w t l : List ℕ) (len v k id : ℕ) (h : k ≤ entriesIn 
   tail-length : length (midOf (k * 12) (length l - k * 12) l) ≡ length l - k * 12
   tail-length = mid-len (k * 12) (length l) l (omega arith)
 
-  at-count : k + r .count ≤ entriesIn l
+  pub at-count : k + r .count ≤ entriesIn l
   at-count = omega (arith, tail-length)
 
   at-told : cameOf (record { reached = r .reached; count = k + r .count }) w′ t′ (putMid (k * 12) (length l - k * 12) l u) ≡ requestedNoted (upTo (entriesIn l)) b s id (entriesOf k l) len v w t
@@ -114,8 +114,9 @@ module _ (b : Btf) (s w t l : List ℕ) (len v k id : ℕ) (h : k ≤ entriesIn 
       ∙ ap (behind (entriesOf k l)) (e ∙ ap (λ (n : ℕ). requestedNoted (upTo n) b s id [] len v w t) m)
       ∙ sym (requested-shift (entriesIn l) b s id (entriesOf k l) len v w t)
 
-  pub at-all : r .reached .len ≤ length t′ → (cameOf (record { reached = r .reached; count = k + r .count }) w′ t′ (putMid (k * 12) (length l - k * 12) l u) ≡ requestedNoted (upTo (entriesIn l)) b s id (entriesOf k l) len v w t) × (k + r .count ≤ entriesIn l) × (r .reached .len ≤ length t′)
-  at-all q = (at-told, at-count, q)
+  pub at-all : (Old : Type 0) → r .reached .len ≤ length t′ → (r .reached .number ≡ 0 → Old)
+      → (cameOf (record { reached = r .reached; count = k + r .count }) w′ t′ (putMid (k * 12) (length l - k * 12) l u) ≡ requestedNoted (upTo (entriesIn l)) b s id (entriesOf k l) len v w t) × (k + r .count ≤ entriesIn l) × (r .reached .len ≤ length t′) × (r .reached .number ≡ 0 → Old)
+  at-all Old q old = (at-told, at-count, q, old)
 
 -- ---- dump_next
 -- the visits as the code reads them

@@ -12,13 +12,12 @@ use borrow.Author.Tests.{ltb-true, eq-eqb, ne-eqb, le-ltb, lt-ltb, not-true, not
 use borrow.Rule.Slice.PartMut.{midOf, postOf, putMid, mid-len, same-len-mid}
 use Rattle.lent.proofs.Laws.{le-or-lt}
 use Rattle.text.proofs.TextLaws.{out-stopped}
-use Rattle.rules.specs.Order.{Table, Res, ok, refused}
-use Rattle.rules.specs.Machine.{Out, wrote, stuck, Machine, pick, obind, eeach, emit}
+use Rattle.rules.specs.Machine.{Out, wrote, stuck, pick, obind}
 use Rattle.rules.specs.Types.{Btf as Rules, tableOf}
 use Rattle.btf.specs.declared.types.Btf.{Btf}
 use Rattle.btf.specs.Table.{btfOf}
 use Rattle.header.specs.Header.{btfOf as settingsOf}
-use Rattle.sheet.specs.Sheet.{Sheet, emitOut, workMachine, listedOut, dumped}
+use Rattle.sheet.specs.Sheet.{Sheet, emitOut, workMachine, dumped}
 use Rattle.sheet.proofs.Laws.{sheet}
 use Rattle.sheet.proofs.Laws as plainly
 use Rattle.turns.specs.declared.Session.{Session}
@@ -30,39 +29,18 @@ use Rattle.turns.proofs.Laws.{reach-accepted, reach-refused, cleared, none-foll
 use Rattle.calls.specs.Refusals.{number, value, notCurrent, idNotBelow, refusal}
 use Rattle.calls.specs.Calls.{limitOf, arrivedAt, cameTo, requested}
 use Rattle.calls.proofs.Laws.{arrived-in, arrived-past, asked, one-bound, one-reach}
-use Rattle.causes.specs.Causes.{Entry, Led, orderLed, listedEntry, Noted, withEntries, upTo, emitNoted, eachListed, showsIn, filled, entriesIn}
-use Rattle.causes.specs.Claims.{forget, Numbered, Lined}
-use Rattle.causes.specs.Bytes.{listedNoted, dumpedNoted, Reached as Came, entriesAfter, cameToNoted, requestedNoted, CauseCall, settledNoted, leftAlone, typeCauses}
-use Rattle.causes.proofs.Ordering.{forgetLed, order-forgets}
-use Rattle.causes.proofs.Emission.{lined-wrote, lined-bind, each-lined, emit-lined}
+use Rattle.causes.specs.Causes.{Noted, withEntries, upTo, showsIn, filled, entriesIn}
+use Rattle.causes.specs.Claims.{forget, Lined}
+use Rattle.causes.specs.Bytes.{dumpedNoted, Reached as Came, entriesAfter, cameToNoted, requestedNoted, CauseCall, settledNoted, leftAlone, typeCauses}
+use Rattle.causes.proofs.Bytes.{dumped-lined}
 use Rattle.noted.specs.declared.Pen.{Pen}
 use Rattle.noted.specs.Noted.{entriesOf, notedOut}
 use Rattle.noted.proofs.Laws.{paper, goes, halts, entries-length}
-use Rattle.led.specs.Kept.{dumpedKept}
-use Rattle.led.proofs.Requests.{dumped-kept, few-types}
+use Rattle.led.specs.Kept.{noLeads, Before, withLeads, dumpedKept}
+use Rattle.led.proofs.Requests.{forgetLeads, forget-with, dumped-kept, kept-before, few-types}
 use Rattle.explain.specs.declared.Told.{Told}
 use Rattle.explain.specs.Explained.{cameOf, explainedOf}
 use Rattle.explain.proofs.Bytes.{filled-is}
-
--- ---- one request without its entries: the plain one, or 17 (as in causes/proofs/Bytes)
-module _ {M : Type 0} (X : Machine M) (T : Table) (shows : ℕ → Bool) where
-  listed-lined : (x : ℕ) (es : List Entry) (o : Res (Led M)) → Lined ⊥ (length es) (λ r. listedNoted X T r shows x es o) (listedOut X T (forgetLed o))
-  unfolding listedNoted listedOut forgetLed forget
-  listed-lined x es (ok s b) =
-      let m : Noted M = record { mach = s .state; entries = es } in
-      lined-bind ⊥ (length es) (λ r. eachListed X T r shows (listedEntry x (s .led)) (X .store .list (s .state)) m) (eeach (λ m′ y. emit X T 512 m′ y 0) (X .store .list (s .state)) (s .state))
-      (each-lined ⊥ (λ r m′ y. emitNoted X r shows (listedEntry x (s .led)) T 512 m′ y 0) (λ m′ y. emit X T 512 m′ y 0) (λ m′ y. no-number (emit-lined X shows (listedEntry x (s .led)) T 512 m′ y 0)) (X .store .list (s .state)) m)
-      (λ r m′. wrote (record { mach = X .start 0 (m′ .mach); entries = m′ .entries })) (λ m′. wrote (X .start 0 m′)) (λ m′. lined-wrote ⊥ (record { mach = X .start 0 (m′ .mach); entries = m′ .entries }))
-    where
-      no-number : {k : ℕ} {F : (ℕ → Bool) → Out (Noted M)} {P : Out M} → Lined (Numbered X) k F P → Lined ⊥ k F P
-      no-number h = record { same = h .same; need = h .need; from = h .from; fits = h .fits; short = h .short; counts = h .counts; numbered = λ z q. z }
-  listed-lined x es (refused c) = record { same = refl; need = length es; from = omega arith; fits = λ r h. refl; short = λ r h q. absurd (omega arith); counts = λ s′ q. absurd (let z : _≡_ {A = ℕ} 0 1 = cc in omega arith); numbered = λ z q. z }
-
-  dumped-lined : (m : M) (es : List Entry) (x : ℕ) → Lined ⊥ (length es) (λ r. dumpedNoted X T r shows m es x) (dumped X T m x)
-  unfolding dumpedNoted dumped
-  dumped-lined m es x =
-      subst (λ (o : Res M). Lined ⊥ (length es) (λ r. listedNoted X T r shows x es (orderLed (X .store) x 512 T [] (record { state = m; led = [] }) x false)) (listedOut X T o))
-      (order-forgets (X .store) x 512 T [] (record { state = m; led = [] }) x false) (listed-lined x es (orderLed (X .store) x 512 T [] (record { state = m; led = [] }) x false))
 
 -- ---- dump_one
 forgets : (n : ℕ) (p : Pen) (t w l : List ℕ) → forget (notedOut n p t w l) ≡ emitOut n (p .at) t w
@@ -80,7 +58,8 @@ wrote-same : (m m′ : Noted Sheet) → wrote m ≡ wrote m′ → m ≡ m′
 wrote-same m m′ q = cc
 
 module _ (b : Btf) (few : b .types ≤ 262145) (s w t l : List ℕ) (len id to : ℕ) (small : id < 4294967296) (below : len ≤ to) (ends : to ≤ length t) (d : Pen) (u w′ l′ : List ℕ) (same : length u ≡ length (midOf len (to - len) t))
-    (e : notedOut 0 d u w′ l′ ≡ obind (notedOut 0 (record { at = 0; count = 0 }) (midOf len (to - len) t) w l) (λ m. dumpedKept b (btfOf b s w) (entriesIn l) m id)) where
+    (turn : ℕ) (k k′ : List ℕ) (size : length k ≡ 262145) (old : Before turn k)
+    (e : withLeads k′ (notedOut 0 d u w′ l′) ≡ obind (withLeads k (notedOut 0 (record { at = 0; count = 0 }) (midOf len (to - len) t) w l)) (λ m. dumpedKept b (btfOf b s w) (entriesIn l) m id turn)) where
   abbrev X : Rules
   X = btfOf b s w
 
@@ -90,9 +69,17 @@ module _ (b : Btf) (few : b .types ≤ 262145) (s w t l : List ℕ) (len id to :
   abbrev F : (ℕ → Bool) → Out (Noted Sheet)
   F r = dumpedNoted (workMachine b X) (tableOf X) r (showsIn X) (sheet 0 0 mid w) [] id
 
+  came-led : withLeads k′ (notedOut 0 d u w′ l′) ≡ dumpedKept b X (entriesIn l) (record { noted = record { mach = sheet 0 0 mid w; entries = [] }; leads = k }) id turn
+  unfolding obind withLeads entriesOf
+  came-led = e ∙ ap (λ (o : Out (Noted Sheet)). obind (withLeads k o) (λ m. dumpedKept b X (entriesIn l) m id turn)) (goes 0 (record { at = 0; count = 0 }) mid w l zero-le)
+
   came : notedOut 0 d u w′ l′ ≡ F (upTo (entriesIn l))
-  unfolding obind entriesOf
-  came = e ∙ ap (λ (o : Out (Noted Sheet)). obind o (λ m. dumpedKept b X (entriesIn l) m id)) (goes 0 (record { at = 0; count = 0 }) mid w l zero-le) ∙ dumped-kept b X (few-types b s w few) (entriesIn l) (sheet 0 0 mid w) [] id small
+  came = sym (forget-with k′ (notedOut 0 d u w′ l′)) ∙ ap forgetLeads came-led ∙ dumped-kept b X (few-types b s w few) (entriesIn l) (sheet 0 0 mid w) [] id small turn k size old
+
+  -- what was noted by now, if the request is accepted
+  noted-before : d .at ≤ length u → Before (turn + 1) k′
+  unfolding withLeads
+  noted-before h = kept-before b X (few-types b s w few) (entriesIn l) (sheet 0 0 mid w) [] id small turn k size old (record { noted = paper 0 d u w′ l′; leads = k′ }) (sym came-led ∙ ap (withLeads k′) (goes 0 d u w′ l′ h))
 
   lined : Lined ⊥ 0 F (dumped (workMachine b X) (tableOf X) (sheet 0 0 mid w) id)
   lined = dumped-lined (workMachine b X) (tableOf X) (showsIn X) (sheet 0 0 mid w) [] id
@@ -193,9 +180,12 @@ module _ (b : Btf) (few : b .types ≤ 262145) (s w t l : List ℕ) (len id to :
     len-fits = ⊎-elim (λ h. one-reach b s w t len id to below ends (d .at) u w′ same (plain-out h) el r v er .1)
         (λ h. let k : r .len ≡ len = ap (λ (x : Reached). x .len) (er ∙ sym (arrived-past len v (to - len) (d .at) (omega (arith, place-17 h)))) in omega (arith, same-len-mid len (to - len) t u same)) (le-or-lt (lined .need) (entriesIn l))
 
-    pub one-told : (cameOf (record { reached = r; count = count }) w′ text′ l′ ≡ requestedNoted (upTo (entriesIn l)) b s id [] len v w t) × (count ≤ entriesIn l) × (r .len ≤ length text′)
+    one-before : r .number ≡ 0 → Before (turn + 1) k′
+    one-before z = ⊎-elim (λ h. noted-before (omega (arith, long))) (λ h. absurd (refusal-some h z)) (le-or-lt (d .at) (to - len))
+
+    pub one-told : (cameOf (record { reached = r; count = count }) w′ text′ l′ ≡ requestedNoted (upTo (entriesIn l)) b s id [] len v w t) × (count ≤ entriesIn l) × (r .len ≤ length text′) × (r .number ≡ 0 → Before (turn + 1) k′)
     unfolding cameOf cameToNoted
-    one-told = ((λ i. record { reach = reach-is i; entries = entries-is i }) ∙ request-is, count-fits, len-fits)
+    one-told = ((λ i. record { reach = reach-is i; entries = entries-is i }) ∙ request-is, count-fits, len-fits, one-before)
 
 pub count-yes : (n c : ℕ) → n ≡ 0 → c ≡ pick (eqb n 0) c 0
 count-yes n c e = ap (λ (x : Bool). pick x c 0) (sym (eq-eqb n 0 e))
@@ -212,6 +202,11 @@ pub causes-cleared : (l : List ℕ) → ((i : ℕ) → getD l i 0 < 256) → (k 
 causes-cleared l bytes k h q ys e = cleared l (k * 12) ys q e ∙ filled-is l bytes k h
 
 -- ---- the calls
+-- the array, as the code makes it
+pub made : replicate 262145 0 ≡ noLeads
+unfolding noLeads
+made = refl
+
 pub few-settings : (section : List ℕ) (pointer modes types : ℕ) (b : Btf) → b ≡ settingsOf section pointer modes types → b .types ≤ 262145
 unfolding settingsOf
 few-settings section pointer modes types b e = subst (λ (n : ℕ). n ≤ 262145) (sym (ap (λ (x : Btf). x .types) e)) (go (ltb types 262145) refl)

@@ -12,7 +12,7 @@ use turns::is_current;
 use turns::settle;
 use turns::turn_of;
 use turns::visits_in;
-ghost use Prim.Native.Nat.{_-_, _≤_};
+ghost use Prim.Native.Nat.{_+_, _-_, _≤_};
 ghost use mathlib.Core.Path.{_≡_};
 ghost use mathlib.Core.List.{[]};
 ghost use lib.ListN.{length};
@@ -20,25 +20,38 @@ ghost use Rattle.turns.specs.Turns.{visitsIn};
 ghost use Rattle.causes.specs.Causes.{upTo, entriesIn};
 ghost use Rattle.causes.specs.Bytes.{requestedNoted, requestedFromNoted, typesCauses};
 ghost use Rattle.noted.specs.Noted.{entriesOf};
+ghost use Rattle.led.specs.Kept.{Before};
 ghost use Rattle.explain.specs.Explained.{cameOf, explainedOf};
 
-// One id, after a text of len bytes, so many visits and so many entries.
+// One id, after a text of len bytes, so many visits and so many entries. Its turn is the id itself.
 fn dump_at(
     b: Btf,
     section: &[u8],
     work: &mut [u8],
     text: &mut [u8],
     list: &mut [u8],
+    leads: &mut [u64],
     len: u32,
     visits: u32,
     count: usize,
     id: u32,
 ) -> Told
-    requires { ⌜ (len ≤ length (now text)) × (b .types ≤ 262145) × (count ≤ entriesIn (now list)) ⌝ }
-    ensures { λ r. ⌜ (cameOf r (now (work .exit)) (now (text .exit)) (now (list .exit)) ≡ requestedNoted (upTo (entriesIn (now (list .entry)))) b (now (section .entry)) id (entriesOf count (now (list .entry))) len visits (now (work .entry)) (now (text .entry))) × (r .count ≤ entriesIn (now (list .entry))) × (r .reached .len ≤ length (now (text .exit))) ⌝ }
+    requires { ⌜ (len ≤ length (now text)) × (b .types ≤ 262145) × (count ≤ entriesIn (now list)) × (length (now leads) ≡ 262145) × Before id (now leads) ⌝ }
+    ensures { λ r. ⌜ (cameOf r (now (work .exit)) (now (text .exit)) (now (list .exit)) ≡ requestedNoted (upTo (entriesIn (now (list .entry)))) b (now (section .entry)) id (entriesOf count (now (list .entry))) len visits (now (work .entry)) (now (text .entry))) × (r .count ≤ entriesIn (now (list .entry))) × (r .reached .len ≤ length (now (text .exit))) × (r .reached .number ≡ 0 → Before (id + 1) (now (leads .exit))) ⌝ }
 {
     let from = count * 12;
-    let r = dump_one(b, section, work, text, &mut list[from..], len, visits, id);
+    let r = dump_one(
+        b,
+        section,
+        work,
+        text,
+        &mut list[from..],
+        leads,
+        len,
+        visits,
+        id,
+        id,
+    );
     let reached = r.reached;
     Told {
         reached: reached,
@@ -53,16 +66,17 @@ fn dump_next(
     work: &mut [u8],
     text: &mut [u8],
     list: &mut [u8],
+    leads: &mut [u64],
     len: u32,
     count: usize,
     id: u32,
 ) -> Told
-    requires { ⌜ (len ≤ length (now text)) × (b .types ≤ 262145) × (count ≤ entriesIn (now list)) ⌝ }
-    ensures { λ r. ⌜ (cameOf r (now (work .exit)) (now (text .exit)) (now (list .exit)) ≡ requestedNoted (upTo (entriesIn (now (list .entry)))) b (now (section .entry)) id (entriesOf count (now (list .entry))) len (visitsIn (now (work .entry))) (now (work .entry)) (now (text .entry))) × (r .count ≤ entriesIn (now (list .entry))) × (r .reached .len ≤ length (now (text .exit))) ⌝ }
+    requires { ⌜ (len ≤ length (now text)) × (b .types ≤ 262145) × (count ≤ entriesIn (now list)) × (length (now leads) ≡ 262145) × Before id (now leads) ⌝ }
+    ensures { λ r. ⌜ (cameOf r (now (work .exit)) (now (text .exit)) (now (list .exit)) ≡ requestedNoted (upTo (entriesIn (now (list .entry)))) b (now (section .entry)) id (entriesOf count (now (list .entry))) len (visitsIn (now (work .entry))) (now (work .entry)) (now (text .entry))) × (r .count ≤ entriesIn (now (list .entry))) × (r .reached .len ≤ length (now (text .exit))) × (r .reached .number ≡ 0 → Before (id + 1) (now (leads .exit))) ⌝ }
 {
     if !is_idle(b, section, work, id) {
         let visits = visits_in(work);
-        return dump_at(b, section, work, text, list, len, visits, count, id);
+        return dump_at(b, section, work, text, list, leads, len, visits, count, id);
     }
     Told {
         reached: Reached {
@@ -81,9 +95,10 @@ fn dump_all(
     work: &mut [u8],
     text: &mut [u8],
     list: &mut [u8],
+    leads: &mut [u64],
     len: u32,
 ) -> Told
-    requires { ⌜ (len ≤ length (now text)) × (b .types ≤ 262145) ⌝ }
+    requires { ⌜ (len ≤ length (now text)) × (b .types ≤ 262145) × (length (now leads) ≡ 262145) × Before 1 (now leads) ⌝ }
     ensures { λ r. ⌜ (cameOf r (now (work .exit)) (now (text .exit)) (now (list .exit)) ≡ requestedFromNoted (upTo (entriesIn (now (list .entry)))) b (now (section .entry)) (b .types - 1) 1 [] len (now (work .entry)) (now (text .entry))) × (r .count ≤ entriesIn (now (list .entry))) ⌝ }
 {
     let n = b.types;
@@ -97,7 +112,8 @@ fn dump_all(
     };
     let mut id: u32 = 1;
     while id < n {
-        r = dump_next(b, section, work, text, list, r.reached.len, r.count, id);
+        let at = r.reached.len;
+        r = dump_next(b, section, work, text, list, leads, at, r.count, id);
         if r.reached.number != 0 {
             return r;
         }
@@ -122,7 +138,8 @@ pub fn dump_types_causes(
         };
     }
     let b = btf_of(section, s.pointer_size, s.modes, s.types);
-    let r = dump_all(b, section, work, text, list, s.text_len);
+    let mut leads = [0u64; 262145];
+    let r = dump_all(b, section, work, text, list, &mut leads, s.text_len);
     let turn = settle(s, work, text, r.reached);
     clear_causes(list, r.count);
     Explained {

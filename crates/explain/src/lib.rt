@@ -6,6 +6,7 @@ use arrival::limit;
 use btf::Btf;
 pub use every::dump_types_causes;
 use header::btf_of;
+use noted::Asked;
 use noted::Pen;
 use reasons::dump_noted;
 use turns::Reached;
@@ -24,6 +25,7 @@ ghost use Rattle.rules.specs.Machine.{pick};
 ghost use Rattle.causes.specs.Causes.{upTo, entriesIn, filled};
 ghost use Rattle.causes.specs.Bytes.{requestedNoted, typeCauses};
 ghost use Rattle.noted.specs.Noted.{entriesOf};
+ghost use Rattle.led.specs.Kept.{Before};
 ghost use Rattle.explain.specs.Explained.{cameOf, explainedOf};
 
 // What a call comes to, and how many entries the list has.
@@ -45,8 +47,39 @@ fn count_after(number: u32, count: usize) -> usize
     if number == 0 { count } else { 0 }
 }
 
-// One id, after a text of len bytes and so many visits.
+// One id, after a text of len bytes and so many visits. `leads` holds nothing of this turn yet.
 fn dump_one(
+    b: Btf,
+    section: &[u8],
+    work: &mut [u8],
+    text: &mut [u8],
+    list: &mut [u8],
+    leads: &mut [u64],
+    len: u32,
+    visits: u32,
+    id: u32,
+    turn: u32,
+) -> Told
+    requires { ⌜ (len ≤ length (now text)) × (b .types ≤ 262145) × (length (now leads) ≡ 262145) × Before turn (now leads) ⌝ }
+    ensures { λ r. ⌜ (cameOf r (now (work .exit)) (now (text .exit)) (now (list .exit)) ≡ requestedNoted (upTo (entriesIn (now (list .entry)))) b (now (section .entry)) id [] len visits (now (work .entry)) (now (text .entry))) × (r .count ≤ entriesIn (now (list .entry))) × (r .reached .len ≤ length (now (text .exit))) × (r .reached .number ≡ 0 → Before (turn + 1) (now (leads .exit))) ⌝ }
+{
+    let from = len as usize;
+    let to = limit(text.len(), from);
+    let p = Pen { at: 0, count: 0 };
+    let q = Asked {
+        req: id,
+        turn: turn,
+    };
+    let d = dump_noted(b, section, work, &mut text[from..to], list, leads, p, q);
+    let r = arrived(len, visits, to - from, d.at);
+    Told {
+        reached: r,
+        count: count_after(r.number, d.count),
+    }
+}
+
+// The same for the only request of a call, with words of its own for the leaders.
+fn dump_alone(
     b: Btf,
     section: &[u8],
     work: &mut [u8],
@@ -57,17 +90,10 @@ fn dump_one(
     id: u32,
 ) -> Told
     requires { ⌜ (len ≤ length (now text)) × (b .types ≤ 262145) ⌝ }
-    ensures { λ r. ⌜ (cameOf r (now (work .exit)) (now (text .exit)) (now (list .exit)) ≡ requestedNoted (upTo (entriesIn (now (list .entry)))) b (now (section .entry)) id [] len visits (now (work .entry)) (now (text .entry))) × (r .count ≤ entriesIn (now (list .entry))) × (r .reached .len ≤ length (now (text .exit))) ⌝ }
+    ensures { λ r. ⌜ (cameOf r (now (work .exit)) (now (text .exit)) (now (list .exit)) ≡ requestedNoted (upTo (entriesIn (now (list .entry)))) b (now (section .entry)) id [] len visits (now (work .entry)) (now (text .entry))) × (r .count ≤ entriesIn (now (list .entry))) ⌝ }
 {
-    let from = len as usize;
-    let to = limit(text.len(), from);
-    let p = Pen { at: 0, count: 0 };
-    let d = dump_noted(b, section, work, &mut text[from..to], list, p, id);
-    let r = arrived(len, visits, to - from, d.at);
-    Told {
-        reached: r,
-        count: count_after(r.number, d.count),
-    }
+    let mut leads = [0u64; 262145];
+    dump_one(b, section, work, text, list, &mut leads, len, visits, id, 1)
 }
 
 // Zeroes what follows the entries.
@@ -105,7 +131,7 @@ pub fn dump_type_causes(
         };
     }
     let b = btf_of(section, s.pointer_size, s.modes, s.types);
-    let r = dump_one(b, section, work, text, list, s.text_len, s.visits, id);
+    let r = dump_alone(b, section, work, text, list, s.text_len, s.visits, id);
     let turn = settle(s, work, text, r.reached);
     clear_causes(list, r.count);
     Explained {

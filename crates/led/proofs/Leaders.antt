@@ -17,6 +17,7 @@ use Rattle.causes.proofs.Ordering.{two-numbers}
 use Rattle.leads.specs.declared.Way.{Way}
 use Rattle.leads.specs.Leads.{ledTwo, wayFor, wordAt, isNoted, noteIn, leaderIn, entryIn, Kept, keptStore, orderKept}
 use Rattle.leads.proofs.Maps.{map-visit}
+use Rattle.led.specs.Kept.{Before}
 
 -- ---- the words after some notes
 unfoldable pub noteOf : ℕ → List ℕ → ℕ × ℕ → List ℕ
@@ -174,6 +175,33 @@ module _ (req turn : ℕ) where
             let v = word-noted (noteOf turn l p) x (p .1) (f .leader-fits) u in
             found ps (noteOf turn l p) (note-length l p ∙ en) (λ z i. h z (List·Memᴰ·tail i)) x (v .0) ∙ v .1
         by false q later = let k : wordAt (noteOf turn l p) x ≡ wordAt l x = note-other l p x (λ z. eqb-false (p .0) x q (sym z)) in later (by-word l (noteOf turn l p) x k ∙ e)
+
+-- ---- turns
+pub before-none : (turn : ℕ) (l : List ℕ) → Before turn l → (x : ℕ) → isNoted turn l x ≡ false
+unfolding Before isNoted
+before-none turn l h x = ne-eqb (wordAt l x / 4294967296) turn (λ e. let z : wordAt l x / 4294967296 < turn = h x in omega arith)
+
+pub before-more : (turn : ℕ) (l : List ℕ) → Before turn l → Before (turn + 1) l
+unfolding Before
+before-more turn l h x = let z : wordAt l x / 4294967296 < turn = h x in omega arith
+
+note-before : (turn : ℕ) (l : List ℕ) (p : ℕ × ℕ) → Fits (length l) p → Before (turn + 1) l → Before (turn + 1) (noteOf turn l p)
+unfolding Before
+note-before turn l p f h x = by (eqb x (p .0)) (isNoted turn l (p .0)) refl refl
+  where
+    by : (c d : Bool) → eqb x (p .0) ≡ c → isNoted turn l (p .0) ≡ d → wordAt (noteOf turn l p) x / 4294967296 < turn + 1
+    by false d e q = subst (λ (k : ℕ). k / 4294967296 < turn + 1) (sym (note-other 0 turn l p x (eqb-false x (p .0) e))) (h x)
+    by true true e q = subst (λ (k : List ℕ). wordAt k x / 4294967296 < turn + 1) (sym (note-again 0 turn l p q)) (h x)
+    by true false e q =
+        let z : wordAt (noteOf turn l p) x ≡ turn * 4294967296 + p .1 = ap (wordAt (noteOf turn l p)) (eqb-true x (p .0) e) ∙ note-first 0 turn l p f q in
+        let i : p .1 < 4294967296 = f .leader-fits in
+        subst (λ (k : ℕ). k / 4294967296 < turn + 1) (sym z) (omega arith)
+
+pub tabled-before : (turn n : ℕ) (ps : List (ℕ × ℕ)) (l : List ℕ) → length l ≡ n → ((p : ℕ × ℕ) → List·Memᴰ p ps → Fits n p) → Before (turn + 1) l → Before (turn + 1) (tabled turn l ps)
+unfolding tabled
+tabled-before turn n [] l en f h = h
+tabled-before turn n (p ∷ ps) l en f h =
+    tabled-before turn n ps (noteOf turn l p) (note-length 0 turn l p ∙ en) (λ q i. f q (List·Memᴰ·tail i)) (note-before turn l p (subst (λ (k : ℕ). Fits k p) (sym en) (f p (List·Memᴰ·head refl))) h)
 
 -- the entry of a listed id
 pub entry-is : (req turn : ℕ) (l : List ℕ) (ps : List (ℕ × ℕ)) → ((x : ℕ) → leaderIn req turn l x ≡ leaderOf req ps x) → entryIn req turn l ≡ listedEntry req ps

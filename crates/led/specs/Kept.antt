@@ -1,6 +1,6 @@
 -- One request with its entries, as the code has it: ordering with words for the leaders of 262145 ids, which are all that a table has, and then the
--- listed ids, each at the top. That it is `dumpedNoted` of crate causes: crate led.
-use Prim.Native.Nat.{ℕ}
+-- listed ids, each at the top. The words serve the requests of a call one after another: each has its turn. That it is `dumpedNoted` of crate causes: crate led.
+use Prim.Native.Nat.{ℕ, _/_, _<_}
 use mathlib.Core.Bool.{false}
 use mathlib.Core.List.{List}
 use lib.ListN.{replicate}
@@ -11,30 +11,45 @@ use Rattle.btf.specs.declared.types.Btf.{Btf}
 use Rattle.sheet.specs.Sheet.{Sheet, marksIn, withMarks, sheetStore, workMachine}
 use Rattle.causes.specs.Causes.{Noted}
 use Rattle.leads.specs.declared.Way.{Way}
-use Rattle.leads.specs.Leads.{Kept, orderKept, entryIn}
+use Rattle.leads.specs.Leads.{wordAt, Kept, orderKept, entryIn}
 use Rattle.noted.specs.Noted.{emitN}
 
+-- before the first request of a call
 unfoldable pub noLeads : List ℕ
 noLeads = replicate 262145 0
 
--- nothing is being ordered around the requested id
-abbrev pub wayTo : ℕ → Way
-wayTo id = record { inner = id; lead = id; turn = 1 }
+-- all that is noted was noted before this turn
+unfoldable pub Before : ℕ → List ℕ → Type 0
+Before turn l = (x : ℕ) → wordAt l x / 4294967296 < turn
 
-unfoldable pub orderedKept : Rules → Sheet → ℕ → Res Kept
-orderedKept B m id = orderKept (wayTo id) 512 (tableOf B) (record { marks = marksIn m; leads = noLeads }) id false
+-- nothing is being ordered around the requested id
+abbrev pub wayTo : ℕ → ℕ → Way
+wayTo id turn = record { inner = id; lead = id; turn = turn }
+
+-- a sheet with the entries so far, and the leaders
+pub record Beside : Type 0 where
+  pub noted : Noted Sheet
+  pub leads : List ℕ
+
+-- after a refusal nothing is said of them
+unfoldable pub withLeads : List ℕ → Out (Noted Sheet) → Out Beside
+withLeads l (wrote m) = wrote (record { noted = m; leads = l })
+withLeads l (stuck c) = stuck c
+
+unfoldable pub orderedKept : Rules → Sheet → List ℕ → ℕ → ℕ → Res Kept
+orderedKept B m l id turn = orderKept (wayTo id turn) 512 (tableOf B) (record { marks = marksIn m; leads = l }) id false
 
 module _ (b : Btf) (B : Rules) (room : ℕ) where
   -- the sheet that ordering left, with the entries so far
   abbrev pub besideKept : Noted Sheet → Kept → Noted Sheet
   besideKept m s = record { mach = withMarks (m .mach) (s .marks); entries = m .entries }
 
-  unfoldable pub eachKept : ℕ → Noted Sheet → Kept → Out (Noted Sheet)
-  eachKept id m s = eeach (emitN b B room (entryIn id 1 (s .leads)) 512 0) (sheetStore .list (withMarks (m .mach) (s .marks))) (besideKept m s)
+  unfoldable pub eachKept : ℕ → ℕ → Noted Sheet → Kept → Out (Noted Sheet)
+  eachKept id turn m s = eeach (emitN b B room (entryIn id turn (s .leads)) 512 0) (sheetStore .list (withMarks (m .mach) (s .marks))) (besideKept m s)
 
-  unfoldable pub listedKept : ℕ → Noted Sheet → Res Kept → Out (Noted Sheet)
-  listedKept id m (ok s strong) = obind (eachKept id m s) (λ k. wrote (record { mach = workMachine b B .start 0 (k .mach); entries = k .entries }))
-  listedKept id m (refused c) = stuck c
+  unfoldable pub listedKept : ℕ → ℕ → Noted Sheet → Res Kept → Out Beside
+  listedKept id turn m (ok s strong) = withLeads (s .leads) (obind (eachKept id turn m s) (λ k. wrote (record { mach = workMachine b B .start 0 (k .mach); entries = k .entries })))
+  listedKept id turn m (refused c) = stuck c
 
-  unfoldable pub dumpedKept : Noted Sheet → ℕ → Out (Noted Sheet)
-  dumpedKept m id = listedKept id m (orderedKept B (m .mach) id)
+  unfoldable pub dumpedKept : Beside → ℕ → ℕ → Out Beside
+  dumpedKept m id turn = listedKept id turn (m .noted) (orderedKept B (m .noted .mach) (m .leads) id turn)

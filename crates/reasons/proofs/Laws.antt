@@ -4,7 +4,7 @@ use mathlib.Core.Path.{_≡_, refl, ap, _∙_, sym, subst}
 use mathlib.Core.List.{List, []}
 use mathlib.Core.Bool.{Bool, false}
 use native.Mathlib.Omega.{arith}
-use lib.ListN.{length, replicate}
+use lib.ListN.{length}
 use Rattle.text.specs.Text.{cut, bytes, stopped, putOut, written, putText}
 use Rattle.text.proofs.TextLaws.{put-fits, stays}
 use Rattle.rules.specs.Order.{Res, ok, refused, bind}
@@ -27,7 +27,7 @@ use Rattle.noted.specs.Noted.{notedOut, emitN}
 use Rattle.noted.proofs.Frame.{Stays, on, off, stays-then, places-emit}
 use Rattle.noted.proofs.Laws.{paper, goes, halts, obind-then, at-sheet, entry-stays}
 use Rattle.noted.proofs.Walk.{Rest, rest-start, rest-turn, rest-end}
-use Rattle.led.specs.Kept.{noLeads, wayTo, orderedKept, eachKept, listedKept, dumpedKept}
+use Rattle.led.specs.Kept.{wayTo, Beside, withLeads, orderedKept, eachKept, listedKept, dumpedKept}
 
 -- ---- the listed ids: the walk, and that the list is as it was
 pub record Listing (b : Btf) (s : List ℕ) (room : ℕ) (why : ℕ → Entry) (w₀ : List ℕ) (n : ℕ) (p₀ : Pen) (tx₀ l₀ : List ℕ) (p : Pen) (tx w li : List ℕ) (k : ℕ) : Type 0 where
@@ -66,49 +66,51 @@ module _ (b : Btf) (s : List ℕ) (room : ℕ) (why : ℕ → Entry) (w₀ : Lis
         ∙ at-sheet n p₀ tx₀ w₀ l₀ (λ m. eeach (emitN b (btfOf b s w₀) room why 512 0) (from (places w₀) 0 n) m) (λ m. eeach (emitN b (btfOf b s w₀) room why 512 0) (sheetStore .list (m .mach)) m) (λ _. refl)
 
 -- ---- dump_noted
--- the array, as the code makes it
-pub made : replicate 262145 0 ≡ noLeads
-unfolding noLeads
-made = refl
-
 abbrev begin : Order
 begin = record { spare = 0; len = 0; stop = 0; «is_strong» = false }
 
-module _ (b : Btf) (s : List ℕ) (room : ℕ) (p : Pen) (tx w li : List ℕ) (id : ℕ) (o : Order) (w₁ l₁ : List ℕ) (l₀ : List ℕ) (z₀ : l₀ ≡ noLeads)
-    (e : keptOut o w₁ l₁ ≡ bind (keptOut begin w l₀) (λ m _. orderKept (wayTo id) 512 (tableIn b s w) m id false)) where
+module _ (b : Btf) (s : List ℕ) (room : ℕ) (p : Pen) (tx w li : List ℕ) (id turn : ℕ) (o : Order) (w₁ l₁ l₀ : List ℕ)
+    (e : keptOut o w₁ l₁ ≡ bind (keptOut begin w l₀) (λ m _. orderKept (wayTo id turn) 512 (tableIn b s w) m id false)) where
   abbrev X : Rules
   X = btfOf b s w
 
-  order-is : keptOut o w₁ l₁ ≡ orderedKept X (sheet 0 (p .at) tx w) id
+  order-is : keptOut o w₁ l₁ ≡ orderedKept X (sheet 0 (p .at) tx w) l₀ id turn
   unfolding orderedKept
-  order-is = e ∙ ap (λ (l : List ℕ). bind (keptOut begin w l) (λ m _. orderKept (wayTo id) 512 (tableIn b s w) m id false)) z₀ ∙ kept.run begin w noLeads (λ m _. orderKept (wayTo id) 512 (tableIn b s w) m id false) refl
+  order-is = e ∙ kept.run begin w l₀ (λ m _. orderKept (wayTo id turn) 512 (tableIn b s w) m id false) refl
 
-  abbrev dumps : Noted Sheet → Out (Noted Sheet)
-  dumps m = dumpedKept b X room m id
+  abbrev dumps : Beside → Out Beside
+  dumps m = dumpedKept b X room m id turn
 
-  dumped-is : dumps (paper 0 p tx w li) ≡ listedKept b X room id (paper 0 p tx w li) (keptOut o w₁ l₁)
+  abbrev start : Beside
+  start = record { noted = paper 0 p tx w li; leads = l₀ }
+
+  dumped-is : dumps start ≡ listedKept b X room id turn (paper 0 p tx w li) (keptOut o w₁ l₁)
   unfolding dumpedKept
-  dumped-is = ap (listedKept b X room id (paper 0 p tx w li)) (sym order-is)
+  dumped-is = ap (listedKept b X room id turn (paper 0 p tx w li)) (sym order-is)
 
-  run : (k : Noted Sheet → Out (Noted Sheet)) → p .at ≤ length tx → obind (notedOut 0 p tx w li) k ≡ k (paper 0 p tx w li)
-  unfolding obind
-  run k h = ap (λ (q : Out (Noted Sheet)). obind q k) (goes 0 p tx w li h)
+  run : (k : Beside → Out Beside) → p .at ≤ length tx → obind (withLeads l₀ (notedOut 0 p tx w li)) k ≡ k start
+  unfolding obind withLeads
+  run k h = ap (λ (q : Out (Noted Sheet)). obind (withLeads l₀ q) k) (goes 0 p tx w li h)
 
-  halt : (k : Noted Sheet → Out (Noted Sheet)) (c : ℕ) → putOut (p .at) tx ≡ stopped c → obind (notedOut 0 p tx w li) k ≡ stuck c
-  unfolding obind
-  halt k c q = ap (λ (u : Out (Noted Sheet)). obind u k) (halts 0 p tx w li c q)
+  halt : (k : Beside → Out Beside) (c : ℕ) → putOut (p .at) tx ≡ stopped c → obind (withLeads l₀ (notedOut 0 p tx w li)) k ≡ stuck c
+  unfolding obind withLeads
+  halt k c q = ap (λ (u : Out (Noted Sheet)). obind (withLeads l₀ u) k) (halts 0 p tx w li c q)
 
-  pub dump-refused : (o .stop ≡ 0 → ⊥) → (r : Pen) → putOut (r .at) tx ≡ putText tx (p .at) (cut [] (o .stop)) → notedOut 0 r tx w₁ li ≡ obind (notedOut 0 p tx w li) dumps
+  stuck-with : (l : List ℕ) (c : ℕ) (u : Out (Noted Sheet)) → u ≡ stuck c → withLeads l u ≡ stuck c
+  unfolding withLeads
+  stuck-with l c u q = ap (withLeads l) q
+
+  pub dump-refused : (o .stop ≡ 0 → ⊥) → (r : Pen) → putOut (r .at) tx ≡ putText tx (p .at) (cut [] (o .stop)) → withLeads l₁ (notedOut 0 r tx w₁ li) ≡ obind (withLeads l₀ (notedOut 0 p tx w li)) dumps
   unfolding written bytes listedKept
   dump-refused n r er = by-out _ (p .at) tx
-      (λ h. halts 0 r tx w₁ li (o .stop) (er ∙ put-fits tx (p .at) (cut [] (o .stop)) (omega arith)) ∙ sym (run dumps h ∙ dumped-is ∙ ap (listedKept b X room id (paper 0 p tx w li)) (kept.stops o w₁ l₁ n)))
-      (λ c q. halts 0 r tx w₁ li c (er ∙ stays tx (p .at) c (cut [] (o .stop)) q) ∙ sym (halt dumps c q))
+      (λ h. stuck-with l₁ (o .stop) (notedOut 0 r tx w₁ li) (halts 0 r tx w₁ li (o .stop) (er ∙ put-fits tx (p .at) (cut [] (o .stop)) (omega arith))) ∙ sym (run dumps h ∙ dumped-is ∙ ap (listedKept b X room id turn (paper 0 p tx w li)) (kept.stops o w₁ l₁ n)))
+      (λ c q. stuck-with l₁ c (notedOut 0 r tx w₁ li) (halts 0 r tx w₁ li c (er ∙ stays tx (p .at) c (cut [] (o .stop)) q)) ∙ sym (halt dumps c q))
 
   module _ (z : o .stop ≡ 0) where
     -- ordering left the table
     table-is : btfOf b s w₁ ≡ X
     unfolding orderedKept
-    table-is = go (keptOut o w₁ l₁) (subst (kept.Stays (btfOf b s) w) (sym order-is) (table-kept b s (wayTo id) 512 (tableIn b s w) (keptOf begin w noLeads) id false)) (kept.going o w₁ l₁ z)
+    table-is = go (keptOut o w₁ l₁) (subst (kept.Stays (btfOf b s) w) (sym order-is) (table-kept b s (wayTo id turn) 512 (tableIn b s w) (keptOf begin w l₀) id false)) (kept.going o w₁ l₁ z)
       where
         same-ok : (m m′ : Kept) (f f′ : Bool) → ok m f ≡ ok m′ f′ → m ≡ m′
         same-ok m m′ f f′ q = cc
@@ -130,19 +132,19 @@ module _ (b : Btf) (s : List ℕ) (room : ℕ) (p : Pen) (tx w li : List ℕ) (i
         (λ h. goes 0 r t₂ w₃ l₂ h ∙ ap (λ (u : List ℕ). wrote (paper 0 r t₂ u l₂)) ew ∙ sym (ap (λ (q : Out (Noted Sheet)). obind q last) (goes n r t₂ w₂ l₂ h)))
         (λ c q. halts 0 r t₂ w₃ l₂ c q ∙ sym (ap (λ (u : Out (Noted Sheet)). obind u last) (halts n r t₂ w₂ l₂ c q)))
 
-    pub dump-listed : (r : Pen) (t₂ w₂ l₂ : List ℕ) → notedOut (o .len) r t₂ w₂ l₂ ≡ obind (notedOut (o .len) p tx w₁ li) (λ m. eeach (emitN b (btfOf b s w₁) room (entryIn id 1 l₁) 512 0) (sheetStore .list (m .mach)) m)
-        → (w₃ : List ℕ) → w₃ ≡ emptied (o .len) w₂ → notedOut 0 r t₂ w₃ l₂ ≡ obind (notedOut 0 p tx w li) dumps
+    pub dump-listed : (r : Pen) (t₂ w₂ l₂ : List ℕ) → notedOut (o .len) r t₂ w₂ l₂ ≡ obind (notedOut (o .len) p tx w₁ li) (λ m. eeach (emitN b (btfOf b s w₁) room (entryIn id turn l₁) 512 0) (sheetStore .list (m .mach)) m)
+        → (w₃ : List ℕ) → w₃ ≡ emptied (o .len) w₂ → withLeads l₁ (notedOut 0 r t₂ w₃ l₂) ≡ obind (withLeads l₀ (notedOut 0 p tx w li)) dumps
     unfolding obind listedKept eachKept last
     dump-listed r t₂ w₂ l₂ e₂ w₃ e₃ =
-        cleared-sheet (o .len) r t₂ w₂ l₂ w₃ e₃
-        ∙ ap (λ (q : Out (Noted Sheet)). obind q last) (e₂ ∙ ap (λ (Q : Rules). obind (notedOut (o .len) p tx w₁ li) (λ m. eeach (emitN b Q room (entryIn id 1 l₁) 512 0) (sheetStore .list (m .mach)) m)) table-is)
-        ∙ obind-then (notedOut (o .len) p tx w₁ li) each last
+        ap (withLeads l₁) (cleared-sheet (o .len) r t₂ w₂ l₂ w₃ e₃
+        ∙ ap (λ (q : Out (Noted Sheet)). obind q last) (e₂ ∙ ap (λ (Q : Rules). obind (notedOut (o .len) p tx w₁ li) (λ m. eeach (emitN b Q room (entryIn id turn l₁) 512 0) (sheetStore .list (m .mach)) m)) table-is)
+        ∙ obind-then (notedOut (o .len) p tx w₁ li) each last)
         ∙ by-out _ (p .at) tx
-        (λ h. ap (λ (q : Out (Noted Sheet)). obind q all) (goes (o .len) p tx w₁ li h) ∙ sym (run dumps h ∙ dumped-is ∙ ap (listedKept b X room id (paper 0 p tx w li)) (kept.going o w₁ l₁ z)))
-        (λ c q. ap (λ (u : Out (Noted Sheet)). obind u all) (halts (o .len) p tx w₁ li c q) ∙ sym (halt dumps c q))
+        (λ h. ap (λ (q : Out (Noted Sheet)). withLeads l₁ (obind q all)) (goes (o .len) p tx w₁ li h) ∙ sym (run dumps h ∙ dumped-is ∙ ap (listedKept b X room id turn (paper 0 p tx w li)) (kept.going o w₁ l₁ z)))
+        (λ c q. stuck-with l₁ c (obind (notedOut (o .len) p tx w₁ li) all) (ap (λ (u : Out (Noted Sheet)). obind u all) (halts (o .len) p tx w₁ li c q)) ∙ sym (halt dumps c q))
       where
         each : Noted Sheet → Out (Noted Sheet)
-        each m = eeach (emitN b X room (entryIn id 1 l₁) 512 0) (sheetStore .list (m .mach)) m
+        each m = eeach (emitN b X room (entryIn id turn l₁) 512 0) (sheetStore .list (m .mach)) m
 
         all : Noted Sheet → Out (Noted Sheet)
         all m = obind (each m) last

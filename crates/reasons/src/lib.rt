@@ -16,7 +16,7 @@ ghost use Rattle.sheet.specs.Sheet.{sheetStore};
 ghost use Rattle.causes.specs.Causes.{entriesIn};
 ghost use Rattle.leads.specs.Leads.{entryIn};
 ghost use Rattle.noted.specs.Noted.{notedOut, emitN};
-ghost use Rattle.led.specs.Kept.{dumpedKept};
+ghost use Rattle.led.specs.Kept.{withLeads, dumpedKept};
 
 // Emits the first n ids of the order list.
 fn emit_listed(
@@ -43,19 +43,19 @@ fn emit_listed(
 }
 
 // The place after the text of the request and the count of entries after it; or a place past the end that says which
-// refusal stopped it.
+// refusal stopped it. `leads` serves the requests of a call one after another: what other turns noted there is not read.
 pub fn dump_noted(
     b: Btf,
     section: &[u8],
     work: &mut [u8],
     text: &mut [u8],
     list: &mut [u8],
+    leads: &mut [u64],
     p: Pen,
-    id: u32,
+    q: Asked,
 ) -> Pen
-    ensures { λ r. ⌜ notedOut 0 r (now (text .exit)) (now (work .exit)) (now (list .exit)) ≡ obind (notedOut 0 p (now (text .entry)) (now (work .entry)) (now (list .entry))) (λ m. dumpedKept b (btfOf b (now (section .entry)) (now (work .entry))) (entriesIn (now (list .entry))) m id) ⌝ }
+    ensures { λ r. ⌜ withLeads (now (leads .exit)) (notedOut 0 r (now (text .exit)) (now (work .exit)) (now (list .exit))) ≡ obind (withLeads (now (leads .entry)) (notedOut 0 p (now (text .entry)) (now (work .entry)) (now (list .entry)))) (λ m. dumpedKept b (btfOf b (now (section .entry)) (now (work .entry))) (entriesIn (now (list .entry))) m (q .req) (q .turn)) ⌝ }
 {
-    let mut leads = [0u64; 262145];
     let start = Order {
         spare: 0,
         len: 0,
@@ -63,16 +63,15 @@ pub fn dump_noted(
         is_strong: false,
     };
     let v = Way {
-        inner: id,
-        lead: id,
-        turn: 1,
+        inner: q.req,
+        lead: q.req,
+        turn: q.turn,
     };
-    let o = order_led(b, section, work, &mut leads, start, id, false, 512, v);
+    let o = order_led(b, section, work, leads, start, q.req, false, 512, v);
     if o.stop != 0 {
         return stop_at(text, p, o.stop);
     }
-    let q = Asked { req: id, turn: 1 };
-    let r = emit_listed(b, section, work, text, list, &leads, q, p, o.len);
+    let r = emit_listed(b, section, work, text, list, leads, q, p, o.len);
     clear_list(work, o.len);
     r
 }

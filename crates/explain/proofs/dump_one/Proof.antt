@@ -17,19 +17,19 @@ limit-requires : tie.Need-limit-requires
 limit-requires c κs = tt
 
 sub-dump-noted : tie.Need-sub-dump-noted
-sub-dump-noted c = from-to _ _ _ (c .before .limit .ensures) (c .before .before .before .before .before .before .pre .0)
+sub-dump-noted c = from-to _ _ _ (c .before .limit .ensures) (c .before .before .before .before .before .before .before .pre .0)
 
 part-dump-noted-start : tie.Need-part-dump-noted-start
-part-dump-noted-start c = from-to _ _ _ (c .before .limit .ensures) (c .before .before .before .before .before .before .pre .0)
+part-dump-noted-start c = from-to _ _ _ (c .before .limit .ensures) (c .before .before .before .before .before .before .before .pre .0)
 
 part-dump-noted-end : tie.Need-part-dump-noted-end
-part-dump-noted-end c = to-end _ _ _ (c .before .limit .ensures) (c .before .before .before .before .before .before .pre .0)
+part-dump-noted-end c = to-end _ _ _ (c .before .limit .ensures) (c .before .before .before .before .before .before .before .pre .0)
 
 dump-noted-requires : tie.Need-dump-noted-requires
 dump-noted-requires c κs = tt
 
 sub-arrived : tie.Need-sub-arrived
-sub-arrived c = from-to _ _ _ (c .before .before .before .before .before .before .before .before .before .before .limit .ensures) (c .before .before .before .before .before .before .before .before .before .before .before .before .before .before .before .pre .0)
+sub-arrived c = from-to _ _ _ (c .before .before .before .before .before .before .before .before .before .before .before .before .before .limit .ensures) (c .before .before .before .before .before .before .before .before .before .before .before .before .before .before .before .before .before .before .before .pre .0)
 
 arrived-requires : tie.Need-arrived-requires
 arrived-requires c κs = tt
@@ -38,16 +38,19 @@ count-after-requires : tie.Need-count-after-requires
 count-after-requires c κs = tt
 
 same-length : tie.Need-same-length
-same-length c = c .before .before .before .before .before .before .before .before .dump-noted .kept .1 .1 .0
+same-length c = c .before .before .before .before .before .before .before .before .before .before .dump-noted .kept .1 .1 .0
 
 same-length-2 : tie.Need-same-length-2
 same-length-2 c = search needs
 
 same-length-3 : tie.Need-same-length-3
-same-length-3 c = c .before .before .before .before .before .before .before .before .dump-noted .kept .1 .1 .1 .1 .0
+same-length-3 c = c .before .before .before .before .before .before .before .before .before .before .dump-noted .kept .1 .1 .1 .1 .0
+
+same-length-4 : tie.Need-same-length-4
+same-length-4 c = c .before .before .before .before .before .before .before .before .before .before .dump-noted .kept .1 .1 .1 .1 .1 .0
 
 returns : tie.Need-returns
-returns c = let i : c .before .before .before .before .before .before .before .before .before .before .before .before .before .before .before .before .before .args .id < 4294967296 = omega arith in laws.one-told _ (c .before .before .before .before .before .before .before .before .before .before .before .before .before .before .before .before .before .pre .1) _ _ _ _ _ _ _ i (from-to _ _ _ (c .before .before .before .before .before .before .before .before .before .before .before .before .limit .ensures) (c .before .before .before .before .before .before .before .before .before .before .before .before .before .before .before .before .before .pre .0)) (to-end _ _ _ (c .before .before .before .before .before .before .before .before .before .before .before .before .limit .ensures) (c .before .before .before .before .before .before .before .before .before .before .before .before .before .before .before .before .before .pre .0)) _ _ _ _ (c .before .before .before .before .before .before .before .before .dump-noted .kept .1 .1 .1 .0) (c .before .before .before .before .before .before .before .before .dump-noted .ensures) (c .before .before .before .before .before .before .before .before .before .before .before .before .limit .ensures) _ _ (c .before .arrived .ensures ∙ arrived-is _ _ _ _ (omega (arith, room-fits _ _ _ (c .before .before .before .before .before .before .before .before .before .before .before .before .limit .ensures) (c .before .before .before .before .before .before .before .before .before .before .before .before .before .before .before .before .before .pre .0))) (omega (arith, laws.bound _ (c .before .before .before .before .before .before .before .before .before .before .before .before .before .before .before .before .before .pre .1) _ _ _ _ _ _ _ i (from-to _ _ _ (c .before .before .before .before .before .before .before .before .before .before .before .before .limit .ensures) (c .before .before .before .before .before .before .before .before .before .before .before .before .before .before .before .before .before .pre .0)) (to-end _ _ _ (c .before .before .before .before .before .before .before .before .before .before .before .before .limit .ensures) (c .before .before .before .before .before .before .before .before .before .before .before .before .before .before .before .before .before .pre .0)) _ _ _ _ (c .before .before .before .before .before .before .before .before .dump-noted .kept .1 .1 .1 .0) (c .before .before .before .before .before .before .before .before .dump-noted .ensures)))) _ (c .count-after .ensures)
+returns c = let i : c .before .before .before .before .before .before .before .before .before .before .before .before .before .before .before .before .before .before .before .before .before .args .id < 4294967296 = omega arith in laws.one-told _ (c .before .before .before .before .before .before .before .before .before .before .before .before .before .before .before .before .before .before .before .before .before .pre .1) _ _ _ _ _ _ _ i (from-to _ _ _ (c .before .before .before .before .before .before .before .before .before .before .before .before .before .before .before .limit .ensures) (c .before .before .before .before .before .before .before .before .before .before .before .before .before .before .before .before .before .before .before .before .before .pre .0)) (to-end _ _ _ (c .before .before .before .before .before .before .before .before .before .before .before .before .before .before .before .limit .ensures) (c .before .before .before .before .before .before .before .before .before .before .before .before .before .before .before .before .before .before .before .before .before .pre .0)) _ _ _ _ (c .before .before .before .before .before .before .before .before .before .before .dump-noted .kept .1 .1 .1 .0) _ _ _ (c .before .before .before .before .before .before .before .before .before .before .before .before .before .before .before .before .before .before .before .before .before .pre .2) (c .before .before .before .before .before .before .before .before .before .before .before .before .before .before .before .before .before .before .before .before .before .pre .3) (c .before .before .before .before .before .before .before .before .before .before .dump-noted .ensures) (c .before .before .before .before .before .before .before .before .before .before .before .before .before .before .before .limit .ensures) _ _ (c .before .arrived .ensures ∙ arrived-is _ _ _ _ (omega (arith, room-fits _ _ _ (c .before .before .before .before .before .before .before .before .before .before .before .before .before .before .before .limit .ensures) (c .before .before .before .before .before .before .before .before .before .before .before .before .before .before .before .before .before .before .before .before .before .pre .0))) (omega (arith, laws.bound _ (c .before .before .before .before .before .before .before .before .before .before .before .before .before .before .before .before .before .before .before .before .before .pre .1) _ _ _ _ _ _ _ i (from-to _ _ _ (c .before .before .before .before .before .before .before .before .before .before .before .before .before .before .before .limit .ensures) (c .before .before .before .before .before .before .before .before .before .before .before .before .before .before .before .before .before .before .before .before .before .pre .0)) (to-end _ _ _ (c .before .before .before .before .before .before .before .before .before .before .before .before .before .before .before .limit .ensures) (c .before .before .before .before .before .before .before .before .before .before .before .before .before .before .before .before .before .before .before .before .before .pre .0)) _ _ _ _ (c .before .before .before .before .before .before .before .before .before .before .dump-noted .kept .1 .1 .1 .0) _ _ _ (c .before .before .before .before .before .before .before .before .before .before .before .before .before .before .before .before .before .before .before .before .before .pre .2) (c .before .before .before .before .before .before .before .before .before .before .before .before .before .before .before .before .before .before .before .before .before .pre .3) (c .before .before .before .before .before .before .before .before .before .before .dump-noted .ensures)))) _ (c .count-after .ensures)
 
 pub dump-one-spec : {M : Type 1} → statement M
 dump-one-spec =
@@ -64,4 +67,5 @@ dump-one-spec =
     same-length
     same-length-2
     same-length-3
+    same-length-4
     returns)

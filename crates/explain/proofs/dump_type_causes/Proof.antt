@@ -2,13 +2,13 @@ use mathlib.Core.Path.{_∙_}
 use Prim.Native.Nat.{zero-le}
 use Rattle.turns.proofs.Laws as ends
 use Rattle.explain.proofs.Laws as laws
-use borrow.Author.Needs.{needs}
+use native.Mathlib.Omega.{arith}
 use Rattle.explain.proofs.dump_type_causes.Statement.{statement}
 use Rattle.explain.proofs.dump_type_causes.Tie as tie
 use Rattle.explain.proofs.dump_type_causes.Reads as reads
 use Rattle.explain.proofs.dump_type_causes.Lts as lts
 use Rattle.explain.proofs.clear_causes.Reads as clear-causes-reads
-use Rattle.explain.proofs.dump_one.Reads as dump-one-reads
+use Rattle.explain.proofs.dump_alone.Reads as dump-alone-reads
 use Rattle.header.proofs.btf_of.Reads as btf-of-reads
 use Rattle.turns.proofs.is_current.Reads as is-current-reads
 use Rattle.turns.proofs.settle.Reads as settle-reads
@@ -32,26 +32,26 @@ returns-2 c = (laws.type-10 _ _ _ _ _ _ (c .before .before .before .before .is-c
 btf-of-requires : tie.Need-btf-of-requires
 btf-of-requires c κs = tt
 
-dump-one-requires : tie.Need-dump-one-requires
-dump-one-requires c κs = (ends.current-fits _ _ _ _ _ (c .before .before .before .before .before .before .before .is-current .ensures) (c .before .before .before .before .before .before .if1 .left), laws.few-settings _ _ _ _ _ (c .before .before .before .btf-of .ensures))
+dump-alone-requires : tie.Need-dump-alone-requires
+dump-alone-requires c κs = (ends.current-fits _ _ _ _ _ (c .before .before .before .before .before .before .before .is-current .ensures) (c .before .before .before .before .before .before .if1 .left), laws.few-settings _ _ _ _ _ (c .before .before .before .btf-of .ensures))
 
 settle-requires : tie.Need-settle-requires
 settle-requires c κs = tt
 
 clear-causes-requires : tie.Need-clear-causes-requires
-clear-causes-requires c κs = search needs
+clear-causes-requires c κs = omega (arith, c .before .before .before .before .before .before .before .before .before .before .before .before .before .before .dump-alone .kept .1 .1 .1 .1 .0, c .before .before .before .before .before .before .before .before .before .before .before .before .before .before .dump-alone .ensures .1)
 
 same-length : tie.Need-same-length
-same-length c = c .before .before .before .before .before .before .before .before .settle .kept .1 .0 ∙ c .before .before .before .before .before .before .before .before .before .before .before .before .before .before .before .before .before .dump-one .kept .1 .1 .0
+same-length c = c .before .before .before .before .before .before .before .before .settle .kept .1 .0 ∙ c .before .before .before .before .before .before .before .before .before .before .before .before .before .before .before .before .before .dump-alone .kept .1 .1 .0
 
 same-length-2 : tie.Need-same-length-2
-same-length-2 c = c .before .before .before .before .before .before .before .before .settle .kept .1 .1 .0 ∙ c .before .before .before .before .before .before .before .before .before .before .before .before .before .before .before .before .before .dump-one .kept .1 .1 .1 .0
+same-length-2 c = c .before .before .before .before .before .before .before .before .settle .kept .1 .1 .0 ∙ c .before .before .before .before .before .before .before .before .before .before .before .before .before .before .before .before .before .dump-alone .kept .1 .1 .1 .0
 
 same-length-3 : tie.Need-same-length-3
-same-length-3 c = c .before .before .clear-causes .kept .0 ∙ c .before .before .before .before .before .before .before .before .before .before .before .before .before .before .before .before .before .dump-one .kept .1 .1 .1 .1 .0
+same-length-3 c = c .before .before .clear-causes .kept .0 ∙ c .before .before .before .before .before .before .before .before .before .before .before .before .before .before .before .before .before .dump-alone .kept .1 .1 .1 .1 .0
 
 returns-3 : tie.Need-returns-3
-returns-3 c = (laws.type-done _ _ _ _ _ _ (c .before .before .before .before .before .before .before .before .before .before .before .before .before .before .before .before .before .before .before .before .before .before .before .before .before .is-current .ensures) (c .before .before .before .before .before .before .before .before .before .before .before .before .before .before .before .before .before .before .before .before .before .before .before .before .if1 .left) _ (c .before .before .before .before .before .before .before .before .before .before .before .before .before .before .before .before .before .before .before .before .before .btf-of .ensures) _ _ _ _ (c .before .before .before .before .before .before .before .before .before .before .before .before .before .before .before .before .before .dump-one .kept .1 .1 .0) (c .before .before .before .before .before .before .before .before .before .before .before .before .before .before .before .before .before .dump-one .kept .1 .1 .1 .0) (c .before .before .before .before .before .before .before .before .before .before .before .before .before .before .before .before .before .dump-one .kept .1 .1 .1 .1 .0) _ _ _ _ (c .before .before .before .before .before .before .before .before .settle .ensures) (c .before .before .clear-causes .ensures) _ (c .before .before .before .before .before .before .before .before .before .before .before .before .before .before .before .before .before .before .before .before .before .before .if2 .left) (c .before .before .before .before .before .before .before .before .before .before .before .before .before .before .before .before .before .dump-one .ensures .0), c .before .before .before .before .before .before .before .before .before .before .before .before .before .before .before .before .before .dump-one .ensures .1)
+returns-3 c = (laws.type-done _ _ _ _ _ _ (c .before .before .before .before .before .before .before .before .before .before .before .before .before .before .before .before .before .before .before .before .before .before .before .before .before .is-current .ensures) (c .before .before .before .before .before .before .before .before .before .before .before .before .before .before .before .before .before .before .before .before .before .before .before .before .if1 .left) _ (c .before .before .before .before .before .before .before .before .before .before .before .before .before .before .before .before .before .before .before .before .before .btf-of .ensures) _ _ _ _ (c .before .before .before .before .before .before .before .before .before .before .before .before .before .before .before .before .before .dump-alone .kept .1 .1 .0) (c .before .before .before .before .before .before .before .before .before .before .before .before .before .before .before .before .before .dump-alone .kept .1 .1 .1 .0) (c .before .before .before .before .before .before .before .before .before .before .before .before .before .before .before .before .before .dump-alone .kept .1 .1 .1 .1 .0) _ _ _ _ (c .before .before .before .before .before .before .before .before .settle .ensures) (c .before .before .clear-causes .ensures) _ (c .before .before .before .before .before .before .before .before .before .before .before .before .before .before .before .before .before .before .before .before .before .before .if2 .left) (c .before .before .before .before .before .before .before .before .before .before .before .before .before .before .before .before .before .dump-alone .ensures .0), c .before .before .before .before .before .before .before .before .before .before .before .before .before .before .before .before .before .dump-alone .ensures .1)
 
 pub dump-type-causes-spec : {M : Type 1} → statement M
 dump-type-causes-spec =
@@ -63,7 +63,7 @@ dump-type-causes-spec =
     turn-of-requires-2
     returns-2
     btf-of-requires
-    dump-one-requires
+    dump-alone-requires
     settle-requires
     clear-causes-requires
     same-length

@@ -1,3 +1,4 @@
+use native.Mathlib.Omega.{arith}
 use Rattle.explain.proofs.EveryLaws as laws
 use borrow.Author.Needs.{needs}
 use Rattle.explain.proofs.every.dump_at.Statement.{statement}
@@ -19,22 +20,25 @@ part-dump-one-end : tie.Need-part-dump-one-end
 part-dump-one-end c = search needs
 
 dump-one-requires : tie.Need-dump-one-requires
-dump-one-requires c κs = search needs
+dump-one-requires c κs = (c .before .before .before .before .before .before .before .before .before .pre .0, c .before .before .before .before .before .before .before .before .before .pre .1, c .before .before .before .before .before .before .before .before .before .pre .3, c .before .before .before .before .before .before .before .before .before .pre .4)
 
-add-t18 : tie.Need-add-t18
-add-t18 c = search needs
+add-t19 : tie.Need-add-t19
+add-t19 c = omega (arith, laws.at-count _ _ _ _ (c .before .before .before .before .before .before .before .before .before .before .before .before .before .before .before .before .before .before .before .before .args .list .now) _ _ _ (c .before .before .before .before .before .before .before .before .before .before .before .before .before .before .before .before .before .before .before .before .args .id) (c .before .before .before .before .before .before .before .before .before .before .before .before .before .before .before .before .before .before .before .before .pre .2) _ _ _ _ (c .before .before .before .before .before .before .before .before .before .before .dump-one .kept .1 .1 .1 .1 .0) (c .before .before .before .before .before .before .before .before .before .before .dump-one .ensures .0) (c .before .before .before .before .before .before .before .before .before .before .dump-one .ensures .1), c .before .before .before .before .before .before .before .before .before .before .before .before .before .before .before .before .before .before .before .before .good .1 .1 .1 .1 .0)
 
 same-length : tie.Need-same-length
-same-length c = c .before .before .before .before .before .before .before .before .dump-one .kept .1 .1 .0
+same-length c = c .before .before .before .before .before .before .before .before .before .before .dump-one .kept .1 .1 .0
 
 same-length-2 : tie.Need-same-length-2
-same-length-2 c = c .before .before .before .before .before .before .before .before .dump-one .kept .1 .1 .1 .0
+same-length-2 c = c .before .before .before .before .before .before .before .before .before .before .dump-one .kept .1 .1 .1 .0
 
 same-length-3 : tie.Need-same-length-3
 same-length-3 c = search needs
 
+same-length-4 : tie.Need-same-length-4
+same-length-4 c = c .before .before .before .before .before .before .before .before .before .before .dump-one .kept .1 .1 .1 .1 .1 .0
+
 returns : tie.Need-returns
-returns c = laws.at-all _ _ _ _ _ _ _ _ _ (c .before .before .before .before .before .before .before .before .before .before .before .before .before .before .before .before .pre .2) _ _ _ _ (c .before .before .before .before .before .before .before .before .dump-one .kept .1 .1 .1 .1 .0) (c .before .before .before .before .before .before .before .before .dump-one .ensures .0) (c .before .before .before .before .before .before .before .before .dump-one .ensures .1) (c .before .before .before .before .before .before .before .before .dump-one .ensures .2)
+returns c = laws.at-all _ _ _ _ _ _ _ _ _ (c .before .before .before .before .before .before .before .before .before .before .before .before .before .before .before .before .before .before .before .before .pre .2) _ _ _ _ (c .before .before .before .before .before .before .before .before .before .before .dump-one .kept .1 .1 .1 .1 .0) (c .before .before .before .before .before .before .before .before .before .before .dump-one .ensures .0) (c .before .before .before .before .before .before .before .before .before .before .dump-one .ensures .1) _ (c .before .before .before .before .before .before .before .before .before .before .dump-one .ensures .2) (c .before .before .before .before .before .before .before .before .before .before .dump-one .ensures .3)
 
 pub dump-at-spec : {M : Type 1} → statement M
 dump-at-spec =
@@ -45,8 +49,9 @@ dump-at-spec =
     part-dump-one-start
     part-dump-one-end
     dump-one-requires
-    add-t18
+    add-t19
     same-length
     same-length-2
     same-length-3
+    same-length-4
     returns)

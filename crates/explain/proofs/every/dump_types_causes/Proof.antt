@@ -1,8 +1,11 @@
-use mathlib.Core.Path.{_∙_}
+use mathlib.Core.Path.{_∙_, sym}
+use Prim.Native.Nat.{ℕ}
+use lib.ListN.{length-replicate}
+use Rattle.led.proofs.Requests.{none-before}
 use Rattle.turns.proofs.Laws as ends
 use Rattle.explain.proofs.Laws as one
 use Rattle.explain.proofs.EveryLaws as laws
-use borrow.Author.Needs.{needs}
+use native.Mathlib.Omega.{arith}
 use Rattle.explain.proofs.every.dump_types_causes.Statement.{statement}
 use Rattle.explain.proofs.every.dump_types_causes.Tie as tie
 use Rattle.explain.proofs.every.dump_types_causes.Reads as reads
@@ -26,26 +29,29 @@ returns c = laws.types-11 _ _ _ _ _ _ (c .before .before .is-current .ensures) (
 btf-of-requires : tie.Need-btf-of-requires
 btf-of-requires c κs = tt
 
+slice-aggregate-dump-all : tie.Need-slice-aggregate-dump-all
+slice-aggregate-dump-all c = sym (length-replicate {A = ℕ} 262145 0)
+
 dump-all-requires : tie.Need-dump-all-requires
-dump-all-requires c κs = (ends.current-fits _ _ _ _ _ (c .before .before .before .before .before .is-current .ensures) (c .before .before .before .before .if1 .left), one.few-settings _ _ _ _ _ (c .before .before .before .btf-of .ensures))
+dump-all-requires c κs = (ends.current-fits _ _ _ _ _ (c .before .before .before .before .before .before .is-current .ensures) (c .before .before .before .before .before .if1 .left), one.few-settings _ _ _ _ _ (c .before .before .before .before .btf-of .ensures), length-replicate {A = ℕ} 262145 0, none-before _ one.made)
 
 settle-requires : tie.Need-settle-requires
 settle-requires c κs = tt
 
 clear-causes-requires : tie.Need-clear-causes-requires
-clear-causes-requires c κs = search needs
+clear-causes-requires c κs = omega (arith, c .before .before .before .before .before .before .before .before .before .before .before .before .before .before .before .dump-all .kept .1 .1 .1 .1 .0, c .before .before .before .before .before .before .before .before .before .before .before .before .before .before .before .dump-all .ensures .1)
 
 same-length : tie.Need-same-length
-same-length c = c .before .before .before .before .before .before .before .before .settle .kept .1 .0 ∙ c .before .before .before .before .before .before .before .before .before .before .before .before .before .before .before .before .before .dump-all .kept .1 .1 .0
+same-length c = c .before .before .before .before .before .before .before .before .settle .kept .1 .0 ∙ c .before .before .before .before .before .before .before .before .before .before .before .before .before .before .before .before .before .before .dump-all .kept .1 .1 .0
 
 same-length-2 : tie.Need-same-length-2
-same-length-2 c = c .before .before .before .before .before .before .before .before .settle .kept .1 .1 .0 ∙ c .before .before .before .before .before .before .before .before .before .before .before .before .before .before .before .before .before .dump-all .kept .1 .1 .1 .0
+same-length-2 c = c .before .before .before .before .before .before .before .before .settle .kept .1 .1 .0 ∙ c .before .before .before .before .before .before .before .before .before .before .before .before .before .before .before .before .before .before .dump-all .kept .1 .1 .1 .0
 
 same-length-3 : tie.Need-same-length-3
-same-length-3 c = c .before .before .clear-causes .kept .0 ∙ c .before .before .before .before .before .before .before .before .before .before .before .before .before .before .before .before .before .dump-all .kept .1 .1 .1 .1 .0
+same-length-3 c = c .before .before .clear-causes .kept .0 ∙ c .before .before .before .before .before .before .before .before .before .before .before .before .before .before .before .before .before .before .dump-all .kept .1 .1 .1 .1 .0
 
 returns-2 : tie.Need-returns-2
-returns-2 c = laws.types-done _ _ _ _ _ _ (c .before .before .before .before .before .before .before .before .before .before .before .before .before .before .before .before .before .before .before .before .before .before .before .is-current .ensures) (c .before .before .before .before .before .before .before .before .before .before .before .before .before .before .before .before .before .before .before .before .before .before .if1 .left) _ (c .before .before .before .before .before .before .before .before .before .before .before .before .before .before .before .before .before .before .before .before .before .btf-of .ensures) _ _ _ _ (c .before .before .before .before .before .before .before .before .before .before .before .before .before .before .before .before .before .dump-all .kept .1 .1 .0) (c .before .before .before .before .before .before .before .before .before .before .before .before .before .before .before .before .before .dump-all .kept .1 .1 .1 .0) (c .before .before .before .before .before .before .before .before .before .before .before .before .before .before .before .before .before .dump-all .kept .1 .1 .1 .1 .0) _ _ _ _ (c .before .before .before .before .before .before .before .before .settle .ensures) (c .before .before .clear-causes .ensures) (c .before .before .before .before .before .before .before .before .before .before .before .before .before .before .before .before .before .dump-all .ensures .0)
+returns-2 c = laws.types-done _ _ _ _ _ _ (c .before .before .before .before .before .before .before .before .before .before .before .before .before .before .before .before .before .before .before .before .before .before .before .before .before .is-current .ensures) (c .before .before .before .before .before .before .before .before .before .before .before .before .before .before .before .before .before .before .before .before .before .before .before .before .if1 .left) _ (c .before .before .before .before .before .before .before .before .before .before .before .before .before .before .before .before .before .before .before .before .before .before .before .btf-of .ensures) _ _ _ _ (c .before .before .before .before .before .before .before .before .before .before .before .before .before .before .before .before .before .before .dump-all .kept .1 .1 .0) (c .before .before .before .before .before .before .before .before .before .before .before .before .before .before .before .before .before .before .dump-all .kept .1 .1 .1 .0) (c .before .before .before .before .before .before .before .before .before .before .before .before .before .before .before .before .before .before .dump-all .kept .1 .1 .1 .1 .0) _ _ _ _ (c .before .before .before .before .before .before .before .before .settle .ensures) (c .before .before .clear-causes .ensures) (c .before .before .before .before .before .before .before .before .before .before .before .before .before .before .before .before .before .before .dump-all .ensures .0)
 
 pub dump-types-causes-spec : {M : Type 1} → statement M
 dump-types-causes-spec =
@@ -55,6 +61,7 @@ dump-types-causes-spec =
     turn-of-requires
     returns
     btf-of-requires
+    slice-aggregate-dump-all
     dump-all-requires
     settle-requires
     clear-causes-requires
