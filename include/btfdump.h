@@ -218,8 +218,7 @@ btfdump_answer btfdump_dump_list_within(uint8_t *record, size_t record_len,
  * call that the plain one accepts. Everything else is as after the plain call.
  * These calls take no ceiling. A list of ids is the single requests in their order, each
  * lent what follows the entries so far. These requests keep 2 MiB more on the
- * stack and clear them for each id, or, for all ids, for each that has something
- * to do.
+ * stack and clear them for each id, or once for all ids.
  */
 btfdump_answer btfdump_dump_type_causes(uint8_t *record, size_t record_len,
 					const uint8_t *section, size_t section_len,

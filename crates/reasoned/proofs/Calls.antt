@@ -1,5 +1,5 @@
 -- The calls for one id and for all ids that are lent a list, against the rules with entries. Assumes nothing but that opening accepts the section.
-use Prim.Native.Nat.{ℕ, _+_, _-_, _*_, _<_, _≤_}
+use Prim.Native.Nat.{ℕ, suc, _+_, _-_, _*_, _<_, _≤_}
 use mathlib.Core.Path.{_≡_, refl, ap, _∙_, sym, subst}
 use mathlib.Core.Bool.{Bool, true, false}
 use mathlib.Core.List.{List, [], _++_, append-nil}
@@ -11,7 +11,7 @@ use lib.Dec.{ltb}
 use borrow.Author.Tests.{lt-ltb, le-ltb}
 use Rattle.lent.proofs.Laws.{le-or-lt}
 use Rattle.rules.specs.Order.{Table}
-use Rattle.rules.specs.Machine.{Machine, Sess, gate, single, every}
+use Rattle.rules.specs.Machine.{Machine, Sess, Answer, gate, single, every}
 use Rattle.rules.specs.Types.{Btf as Rules, tableOf}
 use Rattle.rules.specs.Names.{Names}
 use Rattle.btf.specs.declared.types.Btf.{Btf}
@@ -19,7 +19,7 @@ use Rattle.btf.specs.Table.{btfOf}
 use Rattle.opened.specs.Causes.{openingNumber}
 use Rattle.turns.specs.declared.Session.{Session}
 use Rattle.turns.specs.Answers.{numberOf}
-use Rattle.turns.specs.Turns.{Call, isCurrent, unchanged, tableFor}
+use Rattle.turns.specs.Turns.{Call, isCurrent, unchanged, tableFor, Reach}
 use Rattle.calls.specs.Refusals.{notCurrent, idNotBelow, refusal}
 use Rattle.calls.specs.Calls.{typeCall, typesCall}
 use Rattle.calls.proofs.Claims.{closed-stays}
@@ -28,7 +28,7 @@ use Rattle.demand.specs.Session.{Known}
 use Rattle.claims.specs.Table.{headerOf, openedTable, machineIn}
 use Rattle.claims.specs.Session.{Holds}
 use Rattle.claims.proofs.Described.{count-described}
-use Rattle.claims.proofs.Session.{Keeps, settle, table-is, types-is, going, current, type-keeps, types-keeps}
+use Rattle.claims.proofs.Session.{BothReach, both-reached, both-ended, Keeps, settle, table-is, types-is, going, current, type-keeps, types-keeps}
 use Rattle.causes.specs.Causes.{Entry, upTo, showsIn, filled, entriesIn, Told, untold, gateNoted, singleNoted, everyNoted, causesOf}
 use Rattle.causes.specs.Bytes.{CauseCall, Reached, requestedNoted, requestedFromNoted, settledNoted, leftAlone, typeCauses, typesCauses}
 use Rattle.causes.proofs.Requests.{filled-listed}
@@ -56,10 +56,15 @@ module _ (p modes : ℕ) (s : List ℕ) (n : ℕ) (ok : openingNumber p s n ≡ 
   -- a call d that is lent the list l after the requests `told`, on a text slice of `room` bytes, and what the rules come to
   pub record Stepped (room : ℕ) (told : Told State) (l : List ℕ) (d : CauseCall) (t : Told State) : Type 0 where
     pub keeps : Keeps p modes s n ok room (d .call) (t .answer)
+    pub goes-on : t .answer .number ≡ 0 → t .answer .sess .isOpen ≡ true
     pub fresh : List Entry
     pub its-entries : t .entries ≡ told .entries ++ fresh
     pub its-count : d .count ≡ length fresh
     pub listing : Listing l (told .zeroed) fresh (d .list) (t .zeroed)
+
+  reach-open : {room : ℕ} {r : Reach} {a : Answer State} → BothReach p modes s n ok room r a → a .number ≡ 0 → a .sess .isOpen ≡ true
+  reach-open (both-reached len v t L g) e = g .running
+  reach-open (both-ended c len u t L g) e = absurd (let z : suc c ≡ 0 = e in omega arith)
 
   -- what is claimed, with no request before
   pub agrees : (l : List ℕ) (d : CauseCall) (t : Told State) (fs : List Entry) → Holds p modes s n (d .call .session) (d .call .work) (d .call .text) (t .answer .sess) → numberOf (d .call .answer) ≡ t .answer .number
@@ -91,9 +96,10 @@ module _ (p modes : ℕ) (s : List ℕ) (n : ℕ) (ok : openingNumber p s n ≡ 
       cameTo = requestedNoted (upTo (entriesIn l)) b s x [] (S .«text_len») (S .visits) work text
 
       -- 10 and 11
-      left-step : (k : ℕ) (d : Call) → typeCall S s work text x ≡ d → single X T (length text) L x ≡ record { sess = L; number = k } → Stepped (length text) told l (leftAlone d l) (record { answer = record { sess = L; number = k }; entries = es; zeroed = told .zeroed })
-      left-step k d e q = record {
+      left-step : (k : ℕ) → (k ≡ 0 → ⊥) → (d : Call) → typeCall S s work text x ≡ d → single X T (length text) L x ≡ record { sess = L; number = k } → Stepped (length text) told l (leftAlone d l) (record { answer = record { sess = L; number = k }; entries = es; zeroed = told .zeroed })
+      left-step k i d e q = record {
         keeps = subst (λ (y : Call). Keeps p modes s n ok (length text) y (record { sess = L; number = k })) e (subst (Keeps p modes s n ok (length text) (typeCall S s work text x)) q (type-keeps p modes s n ok S work text₀ L h text f same x));
+        goes-on = λ z. absurd (i z);
         fresh = [];
         its-entries = sym (append-nil es);
         its-count = refl;
@@ -111,7 +117,7 @@ module _ (p modes : ℕ) (s : List ℕ) (n : ℕ) (ok : openingNumber p s n ≡ 
       step-closed o =
           let u : isCurrent S (length s) (length work) (length text) ≡ false = closed-stays S s work text (h .is-open ∙ o) in
           along (rw (u, typeCauses)) (ap (λ (z : Bool). gateNoted X T (upTo c) (showsIn B) (length text) told x z (ltb x (T .count))) o)
-          (left-step 11 (unchanged S (refusal notCurrent (S .«text_len»)) work text) (rw (u, typeCall)) (ap (λ (z : Bool). gate X T (length text) L x z (ltb x (T .count))) o))
+          (left-step 11 (λ z. omega arith) (unchanged S (refusal notCurrent (S .«text_len»)) work text) (rw (u, typeCall)) (ap (λ (z : Bool). gate X T (length text) L x z (ltb x (T .count))) o))
 
       step-past : L .isOpen ≡ true → T .count ≤ x → At (typeCauses S s work text x l) single′
       unfolding typeCauses typeCall single gate singleNoted gateNoted
@@ -120,13 +126,14 @@ module _ (p modes : ℕ) (s : List ℕ) (n : ℕ) (ok : openingNumber p s n ≡ 
           let y : S .types ≤ x = subst (λ (k : ℕ). k ≤ x) (sym (types-is p modes s n ok S work text₀ L h text f same)) j in
           along (rw (u, typeCauses, le-ltb x (S .types) y))
           (ap (λ (z : Bool). gateNoted X T (upTo c) (showsIn B) (length text) told x z (ltb x (T .count))) o ∙ ap (gateNoted X T (upTo c) (showsIn B) (length text) told x true) (le-ltb x (T .count) j))
-          (left-step 10 (unchanged S (refusal idNotBelow (S .«text_len»)) work text) (rw (u, typeCall, le-ltb x (S .types) y))
+          (left-step 10 (λ z. omega arith) (unchanged S (refusal idNotBelow (S .«text_len»)) work text) (rw (u, typeCall, le-ltb x (S .types) y))
           (ap (λ (z : Bool). gate X T (length text) L x z (ltb x (T .count))) o ∙ ap (gate X T (length text) L x true) (le-ltb x (T .count) j)))
 
       settled-step : BothCame p modes s n ok c (length text) (behind es cameTo) single′ → L .isOpen ≡ true → At (settledNoted S (length work) (length text) l cameTo) single′
       unfolding settledNoted
       settled-step k o = record {
         keeps = settle p modes s n ok S work text₀ L h (h .bears o .names .kept .long) (length text) (k .reaches);
+        goes-on = reach-open (k .reaches);
         fresh = cameTo .entries;
         its-entries = sym (k .same-entries);
         its-count = refl;
@@ -178,6 +185,7 @@ module _ (p modes : ℕ) (s : List ℕ) (n : ℕ) (ok : openingNumber p s n ≡ 
           ends-along (rw (u, typesCauses)) (ap (λ (z : Bool). everyNoted X T (upTo (entriesIn l)) (showsIn B) (length text) L z) o) (record {
             keeps = subst (λ (y : Call). Keeps p modes s n ok (length text) y (record { sess = L; number = 11 })) q
                 (subst (Keeps p modes s n ok (length text) (typesCall S s work text)) (ap (λ (z : Bool). every X T (length text) L z) o) (types-keeps p modes s n ok S work text₀ L h text f same));
+            goes-on = λ z. absurd (let q : _≡_ {A = ℕ} 11 0 = z in omega arith);
             fresh = [];
             its-entries = refl;
             its-count = refl;
@@ -191,6 +199,7 @@ module _ (p modes : ℕ) (s : List ℕ) (n : ℕ) (ok : openingNumber p s n ≡ 
       unfolding settledNoted
       settled-all t k o = record {
         keeps = settle p modes s n ok S work text₀ L h (h .bears o .names .kept .long) (length text) (k .reaches);
+        goes-on = reach-open (k .reaches);
         fresh = cameAll .entries;
         its-entries = sym (k .same-entries);
         its-count = refl;

@@ -1,5 +1,5 @@
 -- THE THEOREM: number, count and list of a call that is lent a list are those of the rules with entries. Assumes nothing.
-use Prim.Native.Nat.{ℕ}
+use Prim.Native.Nat.{ℕ, _+_}
 use mathlib.Core.Path.{_≡_, refl}
 use mathlib.Core.List.{List}
 use native.Mathlib.Omega.{arith}
@@ -7,6 +7,7 @@ use lib.ListN.{length}
 use Rattle.rules.specs.Machine.{Req, Sess}
 use Rattle.rules.specs.Names.{Names}
 use Rattle.opened.specs.Causes.{openingNumber}
+use Rattle.turns.specs.Answers.{valueOf}
 use Rattle.turns.specs.Turns.{Call}
 use Rattle.demand.specs.Lists.{Ls}
 use Rattle.demand.specs.Session.{Known}
@@ -58,7 +59,7 @@ module _ (p modes : ℕ) (s : List ℕ) (n : ℕ) (c : Call) (rs : List Req) (a 
   unfolding allCauses causesOf
   all-tell = every .keeps .tells
 
-  some : (ids : List ℕ) → Went p modes s n ok (untold L) l (listFromCauses 0 (c .session) s (c .work) text l ids) (listNoted (machineIn p modes s n) (typesIn p modes s n) (upTo (entriesIn l)) (showsIn (openedTable p modes s n)) (length text) ids (untold L))
+  some : (ids : List ℕ) → Went p modes s n ok 0 (untold L) l (listFromCauses 0 (c .session) s (c .work) text l ids) (listNoted (machineIn p modes s n) (typesIn p modes s n) (upTo (entriesIn l)) (showsIn (openedTable p modes s n)) (length text) ids (untold L))
   some ids = list-went p modes s n ok ids 0 (c .session) (c .work) (c .text) (untold L) holds refl text (lent .long) (lent .begins) l (entriesIn l) (omega arith)
 
   list-agrees : (ids : List ℕ) → Agrees (listCausesCall (c .session) s (c .work) text ids l) (listRuled p modes s n l (length text) rs ids)
@@ -67,6 +68,10 @@ module _ (p modes : ℕ) (s : List ℕ) (n : ℕ) (c : Call) (rs : List Req) (a 
       agrees p modes s n ok l (listFromCauses 0 (c .session) s (c .work) text l ids) (listNoted (machineIn p modes s n) (typesIn p modes s n) (upTo (entriesIn l)) (showsIn (openedTable p modes s n)) (length text) ids (untold L))
       (some ids .fresh) (some ids .holds) (some ids .its-number) (some ids .its-entries) (some ids .its-count) (some ids .listing)
 
+  list-counts : (ids : List ℕ) → length (L .asked) + valueOf (listCausesCall (c .session) s (c .work) text ids l .call .answer) ≡ length (listRuled p modes s n l (length text) rs ids .answer .sess .asked)
+  unfolding listCausesCall listCauses causesOf
+  list-counts ids = omega (arith, some ids .its-value)
+
 pub calls-reasoned : (p modes : ℕ) (s : List ℕ) (n : ℕ) → Reasoned p modes s n
 calls-reasoned p modes s n = record {
   type = λ c rs a text lent id l. one-agrees p modes s n c rs a text lent l id;
@@ -74,4 +79,5 @@ calls-reasoned p modes s n = record {
   types = λ c rs a text lent l. all-agree p modes s n c rs a text lent l;
   types-text = λ c rs a text lent l. all-tell p modes s n c rs a text lent l;
   list = λ c rs a text lent ids l. list-agrees p modes s n c rs a text lent l ids;
+  list-value = λ c rs a text lent ids l. list-counts p modes s n c rs a text lent l ids;
 }

@@ -1,27 +1,29 @@
 -- The call for a list of ids that is lent a list of entries, against the rules with entries. Assumes nothing but that opening accepts the section.
 use Prim.Native.Nat.{ℕ, zero, suc, _+_, _-_, _*_, _≤_}
 use mathlib.Core.Path.{_≡_, refl, ap, _∙_, sym, subst}
+use mathlib.Core.Bool.{Bool, true, false, true≢false}
 use mathlib.Core.List.{List, [], _∷_, _++_, append-assoc, append-nil}
 use mathlib.Core.Logic.{⊎-elim}
 use native.Mathlib.Omega.{arith}
 use lib.ListN.{length, take, drop, length-append, length-drop}
+use lib.Dec.{ltb}
 use Rattle.lent.proofs.Laws.{le-or-lt}
-use Rattle.rules.specs.Order.{Table}
-use Rattle.rules.specs.Machine.{Machine}
+use Rattle.rules.specs.Order.{Table, Res, ok, refused}
+use Rattle.rules.specs.Machine.{Out, wrote, stuck, Machine, shut}
 use Rattle.rules.specs.Types.{Btf as Rules, tableOf}
 use Rattle.rules.specs.Names.{Names}
 use Rattle.opened.specs.Causes.{openingNumber}
 use Rattle.turns.specs.declared.Session.{Session}
-use Rattle.turns.specs.Answers.{numberOf, answerOf}
+use Rattle.turns.specs.Answers.{numberOf, valueOf, answerOf}
 use Rattle.turns.specs.Turns.{Call, callOf}
 use Rattle.calls.specs.Calls.{typeCall}
-use Rattle.calls.proofs.Claims.{number-is}
+use Rattle.calls.proofs.Claims.{number-is, value-is}
 use Rattle.calls.proofs.Lists.{type-single}
 use Rattle.demand.specs.Lists.{Ls}
 use Rattle.demand.specs.Session.{Known}
 use Rattle.claims.specs.Table.{openedTable, machineIn}
 use Rattle.claims.specs.Session.{Holds}
-use Rattle.causes.specs.Causes.{Entry, upTo, showsIn, entriesIn, Told, singleNoted, onwardNoted, listNoted}
+use Rattle.causes.specs.Causes.{Entry, Led, orderLed, listedEntry, Noted, eachListed, upTo, showsIn, entriesIn, Told, dropped, emittedNoted, orderedNoted, gateNoted, singleNoted, onwardNoted, listNoted}
 use Rattle.causes.specs.Bytes.{CauseCall, typeCauses, CauseFits}
 use Rattle.causes.proofs.Bytes.{type-fits}
 use Rattle.several.specs.Several.{front, goOn, listFromCauses}
@@ -33,6 +35,36 @@ text-long : (S : Session) (s work text : List ℕ) (x : ℕ) (l : List ℕ) → 
 text-long S s work text x l e =
     let fit : CauseFits (typeCall S s work text x) (λ k. typeCauses S s work text x k) = type-fits S s work text x in
     ⊎-elim (λ r. ap (λ (d : Call). length (d .text)) (fit .same l r) ∙ type-single S s work text x .long) (λ r. absurd (let z : 17 ≡ 0 = sym (fit .short l r) ∙ e in omega arith)) (le-or-lt (fit .need) (entriesIn l))
+
+-- what a request for x comes to: if it is accepted, x is among those asked for; a refused one is not
+record Asks {M : Type 0} (told : Told M) (x : ℕ) (t : Told M) : Type 0 where
+  accepted : t .answer .sess .isOpen ≡ true → t .answer .number ≡ 0 → t .answer .sess .asked ≡ told .answer .sess .asked ++ (x ∷ [])
+  not-so : (t .answer .number ≡ 0 → ⊥) → t .answer .sess .asked ≡ told .answer .sess .asked
+
+module _ {M : Type 0} (X : Machine M) (T : Table) (more shows : ℕ → Bool) (told : Told M) (x : ℕ) where
+  dropped-asks : (e : ℕ) → Asks told x (dropped X T more shows told e)
+  unfolding dropped shut
+  dropped-asks e = record { accepted = λ o q. absurd (true≢false (sym o)); not-so = λ q. refl }
+
+  emitted-asks : (o : Out (Noted M)) → Asks told x (emittedNoted X T more shows told x o)
+  unfolding emittedNoted
+  emitted-asks (wrote m) = record { accepted = λ o q. refl; not-so = λ q. absurd (q refl) }
+  emitted-asks (stuck e) = dropped-asks e
+
+  ordered-asks : (r : Res (Led M)) → Asks told x (orderedNoted X T more shows told x r)
+  unfolding orderedNoted
+  ordered-asks (ok s b) = emitted-asks (eachListed X T more shows (listedEntry x (s .led)) (X .store .list (s .state)) (record { mach = s .state; entries = told .entries }))
+  ordered-asks (refused e) = dropped-asks e
+
+  gate-asks : (room : ℕ) (o b : Bool) → Asks told x (gateNoted X T more shows room told x o b)
+  unfolding gateNoted
+  gate-asks room false b = record { accepted = λ o q. absurd (let z : _≡_ {A = ℕ} 11 0 = q in omega arith); not-so = λ q. refl }
+  gate-asks room true false = record { accepted = λ o q. absurd (let z : _≡_ {A = ℕ} 10 0 = q in omega arith); not-so = λ q. refl }
+  gate-asks room true true = ordered-asks (orderLed (X .store) x 512 T [] (record { state = X .start room (told .answer .sess .mach); led = [] }) x false)
+
+  single-asks : (room : ℕ) → Asks told x (singleNoted X T more shows room x told)
+  unfolding singleNoted
+  single-asks room = gate-asks room (told .answer .sess .isOpen) (ltb x (T .count))
 
 -- after k accepted ids: an id that is accepted, and one that is not
 module _ (k : ℕ) (d : CauseCall) (next : CauseCall → CauseCall) where
@@ -60,10 +92,11 @@ module _ (p modes : ℕ) (s : List ℕ) (n : ℕ) (ok : openingNumber p s n ≡ 
   abbrev X : Machine State
   X = machineIn p modes s n
 
-  -- a call d for some ids, lent the list l after the requests `told`, and what the rules come to
-  pub record Went (told : Told State) (l : List ℕ) (d : CauseCall) (t : Told State) : Type 0 where
+  -- a call d for some ids after k accepted ones, lent the list l after the requests `told`, and what the rules come to
+  pub record Went (k : ℕ) (told : Told State) (l : List ℕ) (d : CauseCall) (t : Told State) : Type 0 where
     pub holds : Holds p modes s n (d .call .session) (d .call .work) (d .call .text) (t .answer .sess)
     pub its-number : numberOf (d .call .answer) ≡ t .answer .number
+    pub its-value : length (told .answer .sess .asked) + valueOf (d .call .answer) ≡ k + length (t .answer .sess .asked)
     pub fresh : List Entry
     pub its-entries : t .entries ≡ told .entries ++ fresh
     pub its-count : d .count ≡ length fresh
@@ -71,7 +104,7 @@ module _ (p modes : ℕ) (s : List ℕ) (n : ℕ) (ok : openingNumber p s n ≡ 
 
   -- no ids
   no-ids : (k : ℕ) (S : Session) (work text₀ : List ℕ) (told : Told State) → Holds p modes s n S work text₀ (told .answer .sess) → told .answer .number ≡ 0 → (text : List ℕ) → S .«text_len» ≤ length text
-      → take (S .«text_len») text ≡ take (S .«text_len») text₀ → (l : List ℕ) → Went told l (record { call = callOf S (answerOf 0 k) work text; count = 0; list = l }) told
+      → take (S .«text_len») text ≡ take (S .«text_len») text₀ → (l : List ℕ) → Went k told l (record { call = callOf S (answerOf 0 k) work text; count = 0; list = l }) told
   unfolding callOf
   no-ids k S work text₀ told h z text f same l = record {
     holds = record {
@@ -88,6 +121,7 @@ module _ (p modes : ℕ) (s : List ℕ) (n : ℕ) (ok : openingNumber p s n ≡ 
       bears = h .bears;
     };
     its-number = number-is 0 k ∙ sym z;
+    its-value = omega (arith, value-is 0 k);
     fresh = [];
     its-entries = sym (append-nil (told .entries));
     its-count = refl;
@@ -95,27 +129,30 @@ module _ (p modes : ℕ) (s : List ℕ) (n : ℕ) (ok : openingNumber p s n ≡ 
   }
 
   -- one id, and what follows it
-  module _ (room k : ℕ) (told t : Told State) (l : List ℕ) (d : CauseCall) (h : Stepped p modes s n ok room told l d t) (next : CauseCall → CauseCall) (rest : Told State → Told State) (c : ℕ) where
+  module _ (room k x : ℕ) (told t : Told State) (l : List ℕ) (d : CauseCall) (h : Stepped p modes s n ok room told l d t) (asks : Asks told x t) (next : CauseCall → CauseCall) (rest : Told State → Told State) (c : ℕ) where
     abbrev after : List ℕ
     after = drop (length (h .fresh) * 12) (d .list)
 
-    refused-went : (m : ℕ) → numberOf (d .call .answer) ≡ suc m → Went told l (goOn k d next) (onwardNoted X T (upTo c) (showsIn B) rest t)
+    refused-went : (m : ℕ) → numberOf (d .call .answer) ≡ suc m → Went k told l (goOn k d next) (onwardNoted X T (upTo c) (showsIn B) rest t)
     unfolding onwardNoted callOf
     refused-went m e =
         let z : t .answer .number ≡ suc m = sym (h .keeps .tells .number) ∙ e in
-        subst (λ (y : CauseCall). Went told l y (onwardNoted X T (upTo c) (showsIn B) rest t)) (sym (stops k d next m e))
-        (subst (λ (x : ℕ). Went told l (record { call = callOf (d .call .session) (answerOf (suc m) k) (d .call .work) (d .call .text); count = d .count; list = d .list }) (elim x as (λ (y : ℕ). Told State) [ zero ↦ rest t | suc j ↦ t ])) (sym z)
-        (record { holds = h .keeps .holds; its-number = number-is (suc m) k ∙ sym z; fresh = h .fresh; its-entries = h .its-entries; its-count = h .its-count; listing = h .listing }))
+        let a : length (t .answer .sess .asked) ≡ length (told .answer .sess .asked) = ap length (asks .not-so (λ y. absurd (let q : suc m ≡ 0 = sym z ∙ y in omega arith))) in
+        subst (λ (y : CauseCall). Went k told l y (onwardNoted X T (upTo c) (showsIn B) rest t)) (sym (stops k d next m e))
+        (subst (λ (y : ℕ). Went k told l (record { call = callOf (d .call .session) (answerOf (suc m) k) (d .call .work) (d .call .text); count = d .count; list = d .list }) (elim y as (λ (i : ℕ). Told State) [ zero ↦ rest t | suc j ↦ t ])) (sym z)
+        (record { holds = h .keeps .holds; its-number = number-is (suc m) k ∙ sym z; its-value = omega (arith, a, value-is (suc m) k); fresh = h .fresh; its-entries = h .its-entries; its-count = h .its-count; listing = h .listing }))
 
-    accepted-went : numberOf (d .call .answer) ≡ 0 → Went t after (next d) (rest t) → Went told l (goOn k d next) (onwardNoted X T (upTo c) (showsIn B) rest t)
+    accepted-went : numberOf (d .call .answer) ≡ 0 → Went (suc k) t after (next d) (rest t) → Went k told l (goOn k d next) (onwardNoted X T (upTo c) (showsIn B) rest t)
     unfolding onwardNoted
     accepted-went e i =
         let z : t .answer .number ≡ 0 = sym (h .keeps .tells .number) ∙ e in
-        subst (λ (y : CauseCall). Went told l y (onwardNoted X T (upTo c) (showsIn B) rest t)) (sym (goes k d next (length (h .fresh)) (h .its-count) e))
-        (subst (λ (x : ℕ). Went told l (front (length (h .fresh)) (take (length (h .fresh) * 12) (d .list)) (next d)) (elim x as (λ (y : ℕ). Told State) [ zero ↦ rest t | suc j ↦ t ])) (sym z)
+        let a : length (t .answer .sess .asked) ≡ length (told .answer .sess .asked) + 1 = ap length (asks .accepted (h .goes-on z) z) ∙ length-append (told .answer .sess .asked) (x ∷ []) in
+        subst (λ (y : CauseCall). Went k told l y (onwardNoted X T (upTo c) (showsIn B) rest t)) (sym (goes k d next (length (h .fresh)) (h .its-count) e))
+        (subst (λ (y : ℕ). Went k told l (front (length (h .fresh)) (take (length (h .fresh) * 12) (d .list)) (next d)) (elim y as (λ (i : ℕ). Told State) [ zero ↦ rest t | suc j ↦ t ])) (sym z)
         (record {
           holds = i .holds;
           its-number = i .its-number;
+          its-value = omega (arith, a, i .its-value);
           fresh = h .fresh ++ i .fresh;
           its-entries = i .its-entries ∙ ap (λ (k : List Entry). k ++ i .fresh) (h .its-entries) ∙ append-assoc (told .entries) (h .fresh) (i .fresh);
           its-count = ap (λ (k : ℕ). length (h .fresh) + k) (i .its-count) ∙ sym (length-append (h .fresh) (i .fresh));
@@ -153,20 +190,23 @@ module _ (p modes : ℕ) (s : List ℕ) (n : ℕ) (ok : openingNumber p s n ≡ 
     abbrev left : List ℕ
     left = drop (length (one .fresh) * 12) (d₁ .list)
 
-    one-more : (numberOf (d₁ .call .answer) ≡ 0 → Went t₁ left (listFromCauses (suc k) (d₁ .call .session) s (d₁ .call .work) (d₁ .call .text) left ids) (others (length (d₁ .call .text)) t₁))
-        → Went told l (goOn k d₁ further) (onwardNoted X T (upTo c) (showsIn B) (others (length text)) t₁)
+    abbrev asking : Asks told x t₁
+    asking = single-asks X T (upTo c) (showsIn B) told x (length text)
+
+    one-more : (numberOf (d₁ .call .answer) ≡ 0 → Went (suc k) t₁ left (listFromCauses (suc k) (d₁ .call .session) s (d₁ .call .work) (d₁ .call .text) left ids) (others (length (d₁ .call .text)) t₁))
+        → Went k told l (goOn k d₁ further) (onwardNoted X T (upTo c) (showsIn B) (others (length text)) t₁)
     one-more i = by (numberOf (d₁ .call .answer)) refl
       where
-        by : (m : ℕ) → numberOf (d₁ .call .answer) ≡ m → Went told l (goOn k d₁ further) (onwardNoted X T (upTo c) (showsIn B) (others (length text)) t₁)
-        by (suc m) e = refused-went (length text) k told t₁ l d₁ one further (others (length text)) c m e
+        by : (m : ℕ) → numberOf (d₁ .call .answer) ≡ m → Went k told l (goOn k d₁ further) (onwardNoted X T (upTo c) (showsIn B) (others (length text)) t₁)
+        by (suc m) e = refused-went (length text) k x told t₁ l d₁ one asking further (others (length text)) c m e
         by zero e =
-            accepted-went (length text) k told t₁ l d₁ one further (others (length text)) c e
-            (subst (λ (j : ℕ). Went t₁ left (listFromCauses (suc k) (d₁ .call .session) s (d₁ .call .work) (d₁ .call .text) (drop (j * 12) (d₁ .list)) ids) (others (length text) t₁)) (sym (one .its-count))
-            (subst (λ (j : ℕ). Went t₁ left (listFromCauses (suc k) (d₁ .call .session) s (d₁ .call .work) (d₁ .call .text) left ids) (others j t₁)) (text-long S s work text x l e) (i e)))
+            accepted-went (length text) k x told t₁ l d₁ one asking further (others (length text)) c e
+            (subst (λ (j : ℕ). Went (suc k) t₁ left (listFromCauses (suc k) (d₁ .call .session) s (d₁ .call .work) (d₁ .call .text) (drop (j * 12) (d₁ .list)) ids) (others (length text) t₁)) (sym (one .its-count))
+            (subst (λ (j : ℕ). Went (suc k) t₁ left (listFromCauses (suc k) (d₁ .call .session) s (d₁ .call .work) (d₁ .call .text) left ids) (others j t₁)) (text-long S s work text x l e) (i e)))
 
   pub list-went : (ids : List ℕ) (k : ℕ) (S : Session) (work text₀ : List ℕ) (told : Told State) → Holds p modes s n S work text₀ (told .answer .sess) → told .answer .number ≡ 0
       → (text : List ℕ) → S .«text_len» ≤ length text → take (S .«text_len») text ≡ take (S .«text_len») text₀ → (l : List ℕ) (c : ℕ) → c ≡ length (told .entries) + entriesIn l
-      → Went told l (listFromCauses k S s work text l ids) (listNoted X T (upTo c) (showsIn B) (length text) ids told)
+      → Went k told l (listFromCauses k S s work text l ids) (listNoted X T (upTo c) (showsIn B) (length text) ids told)
   unfolding listFromCauses listNoted
   list-went [] k S work text₀ told h z text f same l c r = no-ids k S work text₀ told h z text f same l
   list-went (x ∷ ids) k S work text₀ told h z text f same l c r =

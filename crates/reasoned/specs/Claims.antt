@@ -1,13 +1,13 @@
 -- "The causes must be exactly those of the ordering and emission rules": what a call that is lent a list leaves in it, and what the rules with
 -- entries come to. Statement only. proofs/Claims.antt has the proof, of every section that opening accepts, every list of requests after it, every
 -- text slice that a call is lent, and every list of entries. It assumes nothing.
-use Prim.Native.Nat.{ℕ}
+use Prim.Native.Nat.{ℕ, _+_}
 use mathlib.Core.Path.{_≡_}
 use mathlib.Core.List.{List}
 use lib.ListN.{length, take}
 use Rattle.rules.specs.Machine.{Req}
 use Rattle.rules.specs.Names.{Names}
-use Rattle.turns.specs.Answers.{numberOf}
+use Rattle.turns.specs.Answers.{numberOf, valueOf}
 use Rattle.turns.specs.Turns.{Call}
 use Rattle.demand.specs.Lists.{Ls}
 use Rattle.demand.specs.Session.{Known, textOf}
@@ -53,3 +53,6 @@ module _ (pointer modes : ℕ) (s : List ℕ) (n : ℕ) where
     -- a list of ids, with one list of entries for them all
     pub list : (c : Call) (rs : List Req) → After pointer modes s n c rs → (text : List ℕ) → Lent c text → (ids l : List ℕ)
         → Agrees (listCausesCall (c .session) s (c .work) text ids l) (listRuled l (length text) rs ids)
+    -- the value of its answer is the count of the accepted ids
+    pub list-value : (c : Call) (rs : List Req) → After pointer modes s n c rs → (text : List ℕ) → Lent c text → (ids l : List ℕ)
+        → length (ruled pointer modes s n rs .asked) + valueOf (listCausesCall (c .session) s (c .work) text ids l .call .answer) ≡ length (listRuled l (length text) rs ids .answer .sess .asked)

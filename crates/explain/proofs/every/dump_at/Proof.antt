@@ -1,6 +1,7 @@
-use native.Mathlib.Omega.{arith}
 use Rattle.explain.proofs.EveryLaws as laws
 use borrow.Author.Needs.{needs}
+use native.Mathlib.Omega.{arith}
+use native.Mathlib.Nat.{le-refl}
 use Rattle.explain.proofs.every.dump_at.Statement.{statement}
 use Rattle.explain.proofs.every.dump_at.Tie as tie
 use Rattle.explain.proofs.every.dump_at.Reads as reads
@@ -8,16 +9,16 @@ use Rattle.explain.proofs.every.dump_at.Lts as lts
 use Rattle.explain.proofs.dump_one.Reads as dump-one-reads
 
 mul-from : tie.Need-mul-from
-mul-from c = search needs
+mul-from c = omega (arith, c .before .before .before .before .before .pre .2, c .before .before .before .before .before .good .1 .1 .1 .1 .0)
 
 sub-dump-one : tie.Need-sub-dump-one
-sub-dump-one c = search needs
+sub-dump-one c = omega (arith, c .before .before .before .before .before .before .before .pre .2)
 
 part-dump-one-start : tie.Need-part-dump-one-start
-part-dump-one-start c = search needs
+part-dump-one-start c = omega (arith, c .before .before .before .before .before .before .before .pre .2)
 
 part-dump-one-end : tie.Need-part-dump-one-end
-part-dump-one-end c = search needs
+part-dump-one-end c = le-refl _
 
 dump-one-requires : tie.Need-dump-one-requires
 dump-one-requires c κs = (c .before .before .before .before .before .before .before .before .before .pre .0, c .before .before .before .before .before .before .before .before .before .pre .1, c .before .before .before .before .before .before .before .before .before .pre .3, c .before .before .before .before .before .before .before .before .before .pre .4)
