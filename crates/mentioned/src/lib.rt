@@ -6,4 +6,5 @@ pub use names::first_name;
 pub use names::is_new;
 pub use names::mentions;
 pub use names::peek;
+pub use names::same_name;
 pub use write::put_strings;
