@@ -1,18 +1,18 @@
 use Rattle.text.proofs.TextLaws.{put-seq}
 use Rattle.mentioned.specs.Strings.{stringsBytes}
 use borrow.Author.Needs.{needs}
-use Rattle.mentioned.proofs.write.put_strings.Statement.{statement}
-use Rattle.mentioned.proofs.write.put_strings.Tie as tie
-use Rattle.mentioned.proofs.write.put_strings.Reads as reads
-use Rattle.mentioned.proofs.write.put_strings.Lts as lts
-use Rattle.mentioned.proofs.write.put_news.Reads as put-news-reads
+use Rattle.cutting.proofs.area.put_strings.Statement.{statement}
+use Rattle.cutting.proofs.area.put_strings.Tie as tie
+use Rattle.cutting.proofs.area.put_strings.Reads as reads
+use Rattle.cutting.proofs.area.put_strings.Lts as lts
+use Rattle.cutting.proofs.area.put_news.Reads as put-news-reads
 use Rattle.put.proofs.put_byte.Reads as put-byte-reads
 
 put-byte-requires : tie.Need-put-byte-requires
-put-byte-requires c κs = search needs
+put-byte-requires c κs = tt
 
 put-news-requires : tie.Need-put-news-requires
-put-news-requires c κs = search needs
+put-news-requires c κs = c .before .before .before .before .before .before .before .before .before .before .before .pre
 
 same-length : tie.Need-same-length
 same-length c = search needs
