@@ -297,8 +297,9 @@ btfdump_answer btfdump_field(const uint8_t *record, size_t record_len,
  *
  * The value is the length written; the rest of the output slice stays. Record
  * and section are only read, and neither work nor text is lent. The output
- * slice must not overlap the others. Every name is compared with those before
- * it, so the time grows with the square of their number.
+ * slice must not overlap the others. The time is about proportional to the
+ * section's length, up to some 200,000 distinct names; a name that the table on
+ * the stack has no room for is compared with all those before it.
  *
  * Refused with value 0, nothing written, and the session still open: 11 (here:
  * no open session, another length of the section than at opening, or a section

@@ -5,8 +5,10 @@ use native.Mathlib.Numerals.{add-one}
 use mathlib.Core.Path.{_≡_, refl, sym, _∙_, ap}
 use mathlib.Core.Bool.{Bool, true, false, not}
 use mathlib.Core.List.{List, [], _∷_, _++_}
-use lib.ListN.{length, getD, set, drop, length-append}
+use lib.ListN.{length, getD, drop, length-append}
 use lib.Dec.{eqb}
+use mir.Syntax.{w32}
+use mir.Val.{Fits}
 use borrow.Author.Tests.{eq-eqb, ne-eqb, lt-ltb, le-ltb}
 use Rattle.text.specs.Text.{whole, bytes, putOut, written, putText}
 use Rattle.text.proofs.TextLaws.{put-fits, went, put-seq, put-empty}
@@ -16,12 +18,21 @@ use Rattle.btf.specs.Names.{strAt}
 use Rattle.followed.specs.Followed.{countOf, entryAt}
 use Rattle.roles.specs.Words.{role, wordsIn, wordOf}
 use Rattle.roles.proofs.Laws.{words-few}
-use Rattle.mentioned.specs.Names.{firstFrom, mentions, isNew, newSize, newSizes, recordSize, baseOf, basesTo, placeAt, placeFrom, placeOf, zeroBases}
+use Rattle.mentioned.specs.Names.{firstFrom, mentions, isNew, newSize, newSizes, baseOf, placeAt, placeFrom, placeOf, zeroBases}
 use Rattle.mentioned.specs.Strings.{stringsBytes}
 use Rattle.mentioned.proofs.Laws.{flip-true, flip-false, name-short}
 use Rattle.mentioned.proofs.Sizes.{strings-length}
+use Rattle.interning.specs.Slots.{found}
+use Rattle.interning.specs.Filled.{zeroTable, filledOf, fillingOf, filling}
+use Rattle.interning.specs.Right.{allBases, Right}
+use Rattle.interning.proofs.Right.{table-over, table-length, table-bases}
+use Rattle.interning.proofs.Found.{found-place}
 use Rattle.cutting.specs.Bytes.{wordBytes, magicBytes, headBytes, typeSize, typesSize, newWord, recordBytes, typeBytes, typesBytes, allBytes, Wrote, wroteOf, fittingWritten, keptWritten}
 use Rattle.cutting.proofs.Sizes.{head-length, types-length}
+
+-- a length fits a word
+pub few-fits : (n : ℕ) → n ≤ 16777216 → Fits w32 n
+few-fits n l = omega (arith, l)
 
 module _ (b : Btf) (s : List ℕ) where
   module _ (start ids : List ℕ) where
@@ -63,47 +74,6 @@ module _ (b : Btf) (s : List ℕ) where
 
     pub sizes-up : length s ≤ 16777216 → (x e n r : ℕ) → r ≡ newSizes b s start ids x e n → r ≤ n * 16777217
     sizes-up l x e n r h = omega (arith, h, sizes-few l x e n)
-
-    module _ (x v : ℕ) (k : v ≡ getD ids x 0) where
-      pub record-none : v ≡ 0 → 0 ≡ recordSize b s start ids x
-      unfolding recordSize
-      record-none z = rw (eq-eqb (getD ids x 0) 0 (sym k ∙ z), recordSize)
-
-      pub record-is : (v ≡ 0 → ⊥) → (e : ℕ) → e ≡ entryAt b start x → (n : ℕ) → n ≡ wordsIn b s e → (r : ℕ) → r ≡ newSizes b s start ids x e n → r ≡ recordSize b s start ids x
-      unfolding recordSize
-      record-is z e f n g r h =
-          h ∙ ap (newSizes b s start ids x e) g ∙ ap (λ (u : ℕ). newSizes b s start ids x u (wordsIn b s u)) f ∙ rw (ne-eqb (getD ids x 0) 0 (λ w. z (k ∙ w)), recordSize)
-
-    record-few : length s ≤ 16777216 → (x : ℕ) → recordSize b s start ids x ≤ 9895605239808
-    unfolding recordSize
-    record-few l x = go (eqb (getD ids x 0) 0)
-      where
-        go : (q : Bool) → (elim q as (λ z. ℕ) [ true ↦ 0 | false ↦ newSizes b s start ids x (entryAt b start x) (wordsIn b s (entryAt b start x)) ]) ≤ 9895605239808
-        go true = omega arith
-        go false = omega (arith, sizes-few l x (entryAt b start x) (wordsIn b s (entryAt b start x)), words-few b s (entryAt b start x))
-
-    pub record-up : length s ≤ 16777216 → (x r : ℕ) → r ≡ recordSize b s start ids x → r ≤ 9895605239808
-    record-up l x r h = omega (arith, h, record-few l x)
-
-    pub first-base : 1 ≡ baseOf b s start ids 0
-    unfolding baseOf
-    first-base = refl
-
-    pub next-base : (x len r : ℕ) → len ≡ baseOf b s start ids x → r ≡ recordSize b s start ids x → len + r ≡ baseOf b s start ids (x + 1)
-    unfolding baseOf
-    next-base x len r h g = rw add-one (λ i. h i + g i)
-
-    pub no-bases : (l : List ℕ) → l ≡ basesTo b s start ids l 0
-    unfolding basesTo
-    no-bases l = refl
-
-    pub more-bases : (l₀ l : List ℕ) (x len : ℕ) → l ≡ basesTo b s start ids l₀ x → len ≡ baseOf b s start ids x → set l x (len % 4294967296) ≡ basesTo b s start ids l₀ (x + 1)
-    unfolding basesTo
-    more-bases l₀ l x len h g = rw add-one (λ i. set (h i) x (g i % 4294967296))
-
-    pub all-bases : (l₀ l : List ℕ) (n x len : ℕ) → n ≡ countOf b → x ≤ n → n ≤ x → len ≡ baseOf b s start ids x → l ≡ basesTo b s start ids l₀ x
-        → (len ≡ baseOf b s start ids (countOf b)) × (l ≡ basesTo b s start ids l₀ (countOf b))
-    all-bases l₀ l n x len c p q h g = let z : x ≡ n = omega (arith, p, q) in (h ∙ ap (baseOf b s start ids) (z ∙ c), g ∙ ap (basesTo b s start ids l₀) (z ∙ c))
 
     module _ (bases : List ℕ) where
       module _ (off x : ℕ) (q : Bool) (k : q ≡ mentions b s start ids off x) where
@@ -150,6 +120,9 @@ module _ (b : Btf) (s : List ℕ) where
         pub place-first : m ≡ true → 0 ≡ placeOf b s start ids bases off
         unfolding placeOf
         place-first z = rw (sym g ∙ z, placeOf)
+
+        pub place-table : (t : List ℕ) → Right b s start ids t → bases ≡ allBases b s start ids → (v : ℕ) → v ≡ found b s t off → (v ≡ 0 → ⊥) → v / 4294967296 ≡ placeOf b s start ids bases off
+        place-table t right e v h n = found-place b s start ids t right off v h n ∙ ap (λ (l : List ℕ). placeOf b s start ids l off) (sym e)
 
         pub place-found : m ≡ false → (r : ℕ) → r ≡ placeFrom b s start ids bases off 0 (countOf b) → r % 4294967296 ≡ placeOf b s start ids bases off
         unfolding placeOf
@@ -308,18 +281,21 @@ module _ (b : Btf) (s start ids : List ℕ) where
     unfolding keptWritten
     kept-long h = rw (lt-ltb 16777216 (length s) h, keptWritten)
 
-    module _ (l : length s ≤ 16777216) (strings : ℕ) (e : strings ≡ baseOf b s start ids (countOf b)) where
+    module _ (l : length s ≤ 16777216) (strings : ℕ) (t bases : List ℕ) (h : fillingOf (filledOf strings t) bases ≡ filling b s start ids zeroTable zeroBases) where
       pub kept-strings : 16777216 < strings → wroteOf 0 out ≡ keptWritten b s start ids out
       unfolding keptWritten
-      kept-strings h = rw (le-ltb 16777216 (length s) l, keptWritten, lt-ltb 16777216 (baseOf b s start ids (countOf b)) (omega (arith, h, e)))
+      kept-strings a = rw (le-ltb 16777216 (length s) l, keptWritten, lt-ltb 16777216 (baseOf b s start ids (countOf b)) (table-over b s start ids l strings t bases h a))
 
       module _ (k : strings ≤ 16777216) (types : ℕ) (f : types ≡ typesSize b s start ids (countOf b)) where
+        few : baseOf b s start ids (countOf b) ≤ 16777216
+        few = omega (arith, k, table-length b s start ids l strings t bases h k)
+
         pub kept-types : 16777216 < types → wroteOf 0 out ≡ keptWritten b s start ids out
         unfolding keptWritten
-        kept-types h = rw (le-ltb 16777216 (length s) l, keptWritten, le-ltb 16777216 (baseOf b s start ids (countOf b)) (omega (arith, k, e)), lt-ltb 16777216 (typesSize b s start ids (countOf b)) (omega (arith, h, f)))
+        kept-types a = rw (le-ltb 16777216 (length s) l, keptWritten, le-ltb 16777216 (baseOf b s start ids (countOf b)) few, lt-ltb 16777216 (typesSize b s start ids (countOf b)) (omega (arith, a, f)))
 
-        pub kept-is : types ≤ 16777216 → (bases : List ℕ) → bases ≡ basesTo b s start ids zeroBases (countOf b) → (w : Wrote) → w ≡ fittingWritten b s start ids bases types strings out → w ≡ keptWritten b s start ids out
+        pub kept-is : types ≤ 16777216 → (w : Wrote) → w ≡ fittingWritten b s start ids bases types strings out → w ≡ keptWritten b s start ids out
         unfolding keptWritten
-        kept-is h bases g w p =
-            p ∙ (λ i. fittingWritten b s start ids (g i) (f i) (e i) out)
-            ∙ rw (le-ltb 16777216 (length s) l, keptWritten, le-ltb 16777216 (baseOf b s start ids (countOf b)) (omega (arith, k, e)), le-ltb 16777216 (typesSize b s start ids (countOf b)) (omega (arith, h, f)))
+        kept-is a w p =
+            p ∙ (λ i. fittingWritten b s start ids (table-bases b s start ids l strings t bases h k i) (f i) (table-length b s start ids l strings t bases h k i) out)
+            ∙ rw (le-ltb 16777216 (length s) l, keptWritten, le-ltb 16777216 (baseOf b s start ids (countOf b)) few, le-ltb 16777216 (typesSize b s start ids (countOf b)) (omega (arith, a, f)))

@@ -5,6 +5,7 @@ use mathlib.Core.List.{List, [], _∷_, _++_}
 use lib.ListN.{length, getD, drop}
 use lib.Dec.{ltb, eqb}
 use Rattle.btf.specs.declared.types.Btf.{Btf}
+use Rattle.btf.specs.Names.{strAt}
 use Rattle.followed.specs.Followed.{countOf, entryAt}
 use Rattle.roles.specs.Words.{role, wordsIn, wordOf}
 use Rattle.mentioned.specs.Names.{placeOf, baseOf, basesTo, zeroBases}
@@ -56,6 +57,10 @@ module _ (b : Btf) (s start ids : List ℕ) where
   -- the whole section; types and strings: the lengths of the two
   unfoldable pub allBytes : List ℕ → ℕ → ℕ → List ℕ
   allBytes bases types strings = (headBytes (b .«big_endian») (getD s 3 0) types strings ++ typesBytes bases (countOf b)) ++ stringsBytes b s start ids (countOf b)
+
+-- the name of word j of the record with entry e, and its 0, if it is written
+unfoldable pub nameIf : Btf → List ℕ → ℕ → ℕ → Bool → List ℕ
+nameIf b s e j new = elim new [ true ↦ strAt b s (wordOf b s e j) ++ (0 ∷ []) | false ↦ [] ]
 
 -- the length written, and the output slice
 pub data Wrote : Type 0 where

@@ -1,4 +1,5 @@
 // A section cut down to what is used.
+mod area;
 mod names;
 mod write;
 

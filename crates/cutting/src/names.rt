@@ -1,7 +1,8 @@
-// Where the new names stand.
+// Where the new names stand. The table has nearly all of them; the plain way is for those that it does not take.
 use btf::Btf;
 use followed::count;
 use followed::entry;
+use interning::find;
 use mentioned::first_name;
 use mentioned::is_new;
 use mentioned::mentions;
@@ -14,7 +15,8 @@ ghost use mathlib.Core.Path.{_≡_};
 ghost use Prim.Native.Nat.{_≤_};
 ghost use lib.ListN.{length};
 ghost use Rattle.followed.specs.Followed.{countOf};
-ghost use Rattle.mentioned.specs.Names.{newSize, newSizes, recordSize, baseOf, basesTo, placeAt, placeFrom, placeOf};
+ghost use Rattle.mentioned.specs.Names.{newSize, newSizes, placeAt, placeFrom, placeOf};
+ghost use Rattle.interning.specs.Right.{allBases, Right};
 
 // The bytes that a new name takes.
 fn new_size(b: Btf, section: &[u8], start: &[u32], ids: &[u32], x: u32, e: u32, j: u32) -> u64
@@ -36,40 +38,6 @@ fn new_sizes(b: Btf, section: &[u8], start: &[u32], ids: &[u32], x: u32, e: u32,
     while j < n {
         len += new_size(b, section, start, ids, x, e, j);
         j += 1;
-    }
-    len
-}
-
-// The bytes of the new names of type x.
-fn record_size(b: Btf, section: &[u8], start: &[u32], ids: &[u32], x: u32) -> u64
-    requires { ⌜ length (now section) ≤ 16777216 ⌝ }
-    ensures { λ r. ⌜ r ≡ recordSize b (now (section .entry)) (now (start .entry)) (now (ids .entry)) x ⌝ }
-{
-    if peek(ids, x as usize) == 0 {
-        return 0;
-    }
-    let e = entry(b, start, x);
-    new_sizes(b, section, start, ids, x, e, words_in(b, section, e))
-}
-
-// The length of the strings; the length before each type stands in `bases`.
-pub(crate) fn fill_bases(
-    b: Btf,
-    section: &[u8],
-    start: &[u32],
-    ids: &[u32],
-    bases: &mut [u32],
-) -> u64
-    requires { ⌜ (length (now section) ≤ 16777216) × (length (now bases) ≡ 262145) ⌝ }
-    ensures { λ r. ⌜ (r ≡ baseOf b (now (section .entry)) (now (start .entry)) (now (ids .entry)) (countOf b)) × (now (bases .exit) ≡ basesTo b (now (section .entry)) (now (start .entry)) (now (ids .entry)) (now (bases .entry)) (countOf b)) ⌝ }
-{
-    let n = count(b);
-    let mut len: u64 = 1;
-    let mut x: u32 = 0;
-    while x < n {
-        bases[x as usize] = (len % 4294967296) as u32;
-        len += record_size(b, section, start, ids, x);
-        x += 1;
     }
     len
 }
@@ -118,13 +86,18 @@ pub(crate) fn place_of(
     start: &[u32],
     ids: &[u32],
     bases: &[u32],
+    table: &[u64],
     off: u32,
 ) -> u32
-    requires { ⌜ length (now section) ≤ 16777216 ⌝ }
+    requires { ⌜ Right b (now section) (now start) (now ids) (now table) × (now bases ≡ allBases b (now section) (now start) (now ids)) ⌝ }
     ensures { λ r. ⌜ r ≡ placeOf b (now (section .entry)) (now (start .entry)) (now (ids .entry)) (now (bases .entry)) off ⌝ }
 {
     if is_empty(b, section, off) {
         return 0;
+    }
+    let v = find(b, section, table, off);
+    if v != 0 {
+        return (v / 4294967296) as u32;
     }
     (place_from(b, section, start, ids, bases, off) % 4294967296) as u32
 }

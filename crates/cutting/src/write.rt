@@ -1,22 +1,23 @@
 // Writing the new section.
-use crate::names::fill_bases;
+use crate::area::put_strings;
 use crate::names::place_of;
 use btf::Btf;
 use followed::count;
 use followed::entry;
+use interning::fill_table;
 use mentioned::peek;
-use mentioned::put_strings;
 use put::put_two;
 use roles::role;
 use roles::word_of;
 use roles::words_in;
 ghost use mathlib.Core.Path.{_≡_};
 ghost use Prim.Native.Nat.{_≤_};
-ghost use lib.ListN.{length, getD};
+ghost use lib.ListN.{getD};
 ghost use Rattle.text.specs.Text.{whole, putOut, putText};
 ghost use Rattle.followed.specs.Followed.{countOf};
 ghost use Rattle.roles.specs.Words.{wordsIn};
 ghost use Rattle.mentioned.specs.Names.{baseOf};
+ghost use Rattle.interning.specs.Right.{allBases, Right};
 ghost use Rattle.cutting.specs.Bytes.{wordBytes, magicBytes, headBytes, typeSize, typesSize, newWord, recordBytes, typeBytes, typesBytes, allBytes, wroteOf, fittingWritten, keptWritten};
 
 // A word, the most significant byte first where `big`.
@@ -89,16 +90,17 @@ fn new_word(
     start: &[u32],
     ids: &[u32],
     bases: &[u32],
+    table: &[u64],
     e: u32,
     j: u32,
 ) -> u32
-    requires { ⌜ length (now section) ≤ 16777216 ⌝ }
+    requires { ⌜ Right b (now section) (now start) (now ids) (now table) × (now bases ≡ allBases b (now section) (now start) (now ids)) ⌝ }
     ensures { λ r. ⌜ r ≡ newWord b (now (section .entry)) (now (start .entry)) (now (ids .entry)) (now (bases .entry)) e j ⌝ }
 {
     let r = role(e % 32, j);
     let v = word_of(b, section, e, j);
     if r == 1 {
-        return place_of(b, section, start, ids, bases, v);
+        return place_of(b, section, start, ids, bases, table, v);
     }
     if r == 2 {
         return peek(ids, v as usize);
@@ -112,18 +114,19 @@ fn put_record(
     start: &[u32],
     ids: &[u32],
     bases: &[u32],
+    table: &[u64],
     e: u32,
     out: &mut [u8],
     at: usize,
 ) -> usize
-    requires { ⌜ length (now section) ≤ 16777216 ⌝ }
+    requires { ⌜ Right b (now section) (now start) (now ids) (now table) × (now bases ≡ allBases b (now section) (now start) (now ids)) ⌝ }
     ensures { λ r. ⌜ putOut r (now (out .exit)) ≡ putText (now (out .entry)) at (whole (recordBytes b (now (section .entry)) (now (start .entry)) (now (ids .entry)) (now (bases .entry)) e (wordsIn b (now (section .entry)) e))) ⌝ }
 {
     let n = words_in(b, section, e);
     let mut p = at;
     let mut j: u32 = 0;
     while j < n {
-        let v = new_word(b, section, start, ids, bases, e, j);
+        let v = new_word(b, section, start, ids, bases, table, e, j);
         p = put_word(out, p, b.big_endian, v);
         j += 1;
     }
@@ -136,17 +139,28 @@ fn put_type(
     start: &[u32],
     ids: &[u32],
     bases: &[u32],
+    table: &[u64],
     x: u32,
     out: &mut [u8],
     at: usize,
 ) -> usize
-    requires { ⌜ length (now section) ≤ 16777216 ⌝ }
+    requires { ⌜ Right b (now section) (now start) (now ids) (now table) × (now bases ≡ allBases b (now section) (now start) (now ids)) ⌝ }
     ensures { λ r. ⌜ putOut r (now (out .exit)) ≡ putText (now (out .entry)) at (whole (typeBytes b (now (section .entry)) (now (start .entry)) (now (ids .entry)) (now (bases .entry)) x)) ⌝ }
 {
     if peek(ids, x as usize) == 0 {
         return at;
     }
-    put_record(b, section, start, ids, bases, entry(b, start, x), out, at)
+    put_record(
+        b,
+        section,
+        start,
+        ids,
+        bases,
+        table,
+        entry(b, start, x),
+        out,
+        at,
+    )
 }
 
 // The types that are kept.
@@ -156,17 +170,18 @@ fn put_types(
     start: &[u32],
     ids: &[u32],
     bases: &[u32],
+    table: &[u64],
     out: &mut [u8],
     at: usize,
 ) -> usize
-    requires { ⌜ length (now section) ≤ 16777216 ⌝ }
+    requires { ⌜ Right b (now section) (now start) (now ids) (now table) × (now bases ≡ allBases b (now section) (now start) (now ids)) ⌝ }
     ensures { λ r. ⌜ putOut r (now (out .exit)) ≡ putText (now (out .entry)) at (whole (typesBytes b (now (section .entry)) (now (start .entry)) (now (ids .entry)) (now (bases .entry)) (countOf b))) ⌝ }
 {
     let n = count(b);
     let mut p = at;
     let mut x: u32 = 0;
     while x < n {
-        p = put_type(b, section, start, ids, bases, x, out, p);
+        p = put_type(b, section, start, ids, bases, table, x, out, p);
         x += 1;
     }
     p
@@ -179,17 +194,18 @@ fn put_all(
     start: &[u32],
     ids: &[u32],
     bases: &[u32],
+    table: &[u64],
     types: u32,
     strings: u32,
     out: &mut [u8],
 ) -> usize
-    requires { ⌜ length (now section) ≤ 16777216 ⌝ }
+    requires { ⌜ Right b (now section) (now start) (now ids) (now table) × (now bases ≡ allBases b (now section) (now start) (now ids)) ⌝ }
     ensures { λ r. ⌜ putOut r (now (out .exit)) ≡ putText (now (out .entry)) 0 (whole (allBytes b (now (section .entry)) (now (start .entry)) (now (ids .entry)) (now (bases .entry)) types strings)) ⌝ }
 {
     let flags = byte_at(section, 3);
     let p = put_head(out, b.big_endian, flags, types, strings);
-    let q = put_types(b, section, start, ids, bases, out, p);
-    put_strings(b, section, start, ids, out, q)
+    let q = put_types(b, section, start, ids, bases, table, out, p);
+    put_strings(b, section, start, ids, bases, table, out, q)
 }
 
 fn byte_at(l: &[u8], i: usize) -> u8
@@ -210,7 +226,8 @@ pub fn write_kept(b: Btf, section: &[u8], start: &[u32], ids: &[u32], out: &mut 
         return 0;
     }
     let mut bases = [0u32; 262145];
-    let strings = fill_bases(b, section, start, ids, &mut bases);
+    let mut table = [0u64; 262144];
+    let strings = fill_table(b, section, start, ids, &mut table, &mut bases);
     let types = types_size(b, section, start, ids);
     if 16777216 < strings {
         return 0;
@@ -224,8 +241,9 @@ pub fn write_kept(b: Btf, section: &[u8], start: &[u32], ids: &[u32], out: &mut 
         start,
         ids,
         &bases,
+        &table,
         types as u32,
-        strings as u32,
+        strings,
         out,
     )
 }
@@ -236,11 +254,12 @@ fn write_fitting(
     start: &[u32],
     ids: &[u32],
     bases: &[u32],
+    table: &[u64],
     types: u32,
     strings: u32,
     out: &mut [u8],
 ) -> u64
-    requires { ⌜ (length (now section) ≤ 16777216) × (types ≤ 16777216) × (strings ≤ 16777216) × (types ≡ typesSize b (now section) (now start) (now ids) (countOf b)) × (strings ≡ baseOf b (now section) (now start) (now ids) (countOf b)) ⌝ }
+    requires { ⌜ Right b (now section) (now start) (now ids) (now table) × (now bases ≡ allBases b (now section) (now start) (now ids)) × (types ≤ 16777216) × (strings ≤ 16777216) × (types ≡ typesSize b (now section) (now start) (now ids) (countOf b)) × (strings ≡ baseOf b (now section) (now start) (now ids) (countOf b)) ⌝ }
     ensures { λ r. ⌜ wroteOf r (now (out .exit)) ≡ fittingWritten b (now (section .entry)) (now (start .entry)) (now (ids .entry)) (now (bases .entry)) types strings (now (out .entry)) ⌝ }
 {
     let len = 24 + types + strings;
@@ -250,6 +269,6 @@ fn write_fitting(
     if out.len() < (len as usize) {
         return 0;
     }
-    put_all(b, section, start, ids, bases, types, strings, out);
+    put_all(b, section, start, ids, bases, table, types, strings, out);
     len as u64
 }

@@ -8,17 +8,14 @@ use mathlib.Core.List.{List, [], _∷_}
 use lib.ListN.{length, getD, drop, length-drop}
 use lib.Seq.{drop-cons}
 use borrow.Author.Tests.{eq-eqb, ne-eqb}
-use Rattle.text.specs.Text.{whole, putOut, putText}
-use Rattle.text.proofs.TextLaws.{put-seq, put-empty}
 use Rattle.rules.specs.Types.{isEmpty}
 use Rattle.rules.specs.Names.{sameBytes}
 use Rattle.btf.specs.declared.types.Btf.{Btf}
 use Rattle.btf.specs.Names.{upToZero, nameAt, strAt}
-use Rattle.followed.specs.Followed.{countOf, entryAt}
+use Rattle.followed.specs.Followed.{entryAt}
 use Rattle.roles.specs.Words.{role, wordsIn, wordOf}
 use Rattle.roles.proofs.Laws.{get-past}
 use Rattle.mentioned.specs.Names.{isName, orName, namedTo, firstFrom, mentions, orMentions, mentionedTo, isNew}
-use Rattle.mentioned.specs.Strings.{nameBytes, namesBytes, ownBytes, newsBytes}
 
 pub peek-past : (l : List ℕ) (i : ℕ) → length l ≤ i → 0 ≡ getD l i 0
 peek-past l i h = sym (get-past l i 0 h)
@@ -195,50 +192,3 @@ module _ (b : Btf) (s : List ℕ) where
           pub new-is : q ≡ false → (r : Bool) → r ≡ namedTo b s e off j → not r ≡ isNew b s start ids x e j
           unfolding isNew
           new-is y r p = ap not (p ∙ ap (λ (u : ℕ). namedTo b s e u j) f) ∙ rw (eq-eqb (role (e % 32) j) 1 (sym k ∙ z), isNew, sym empty-is ∙ h, sym mentioned-is ∙ y)
-
-    -- sizes of new names
-    -- ---- new names as they are written
-    module _ (t : List ℕ) (at x e j : ℕ) (q : Bool) (g : q ≡ isNew b s start ids x e j) where
-      pub name-none : not q ≡ true → putOut at t ≡ putText t at (whole (nameBytes b s start ids x e j))
-      unfolding nameBytes
-      name-none z = rw (sym g ∙ flip-true q z, nameBytes) (put-empty t at)
-
-      pub name-put : not q ≡ false → (off : ℕ) → off ≡ wordOf b s e j → (p : ℕ) (u : List ℕ) (r : ℕ) (u′ : List ℕ) → putOut p u ≡ putText t at (whole (strAt b s off)) → putOut r u′ ≡ putText u p (whole (0 ∷ []))
-          → putOut r u′ ≡ putText t at (whole (nameBytes b s start ids x e j))
-      unfolding nameBytes
-      name-put z off f p u r u′ h k =
-          rw (sym g ∙ flip-false q z, nameBytes)
-          (put-seq t at (strAt b s (wordOf b s e j)) (0 ∷ []) p u r u′ (h ∙ ap (λ (o : ℕ). putText t at (whole (strAt b s o))) f) k)
-
-    pub no-new : (t : List ℕ) (at x e : ℕ) → putOut at t ≡ putText t at (whole (namesBytes b s start ids x e 0))
-    unfolding namesBytes
-    no-new t at x e = put-empty t at
-
-    pub more-news : (t : List ℕ) (at x e j p : ℕ) (u : List ℕ) (r : ℕ) (u′ : List ℕ) → putOut p u ≡ putText t at (whole (namesBytes b s start ids x e j)) → putOut r u′ ≡ putText u p (whole (nameBytes b s start ids x e j))
-        → putOut r u′ ≡ putText t at (whole (namesBytes b s start ids x e (j + 1)))
-    unfolding namesBytes
-    more-news t at x e j p u r u′ h g = rw add-one (put-seq t at (namesBytes b s start ids x e j) (nameBytes b s start ids x e j) p u r u′ h g)
-
-    pub all-news : (t : List ℕ) (at x e n j p : ℕ) (u : List ℕ) → n ≡ wordsIn b s e → j ≤ n → n ≤ j → putOut p u ≡ putText t at (whole (namesBytes b s start ids x e j)) → putOut p u ≡ putText t at (whole (namesBytes b s start ids x e (wordsIn b s e)))
-    all-news t at x e n j p u c l g h = let z : j ≡ n = omega (arith, l, g) in h ∙ ap (λ (k : ℕ). putText t at (whole (namesBytes b s start ids x e k))) (z ∙ c)
-
-    module _ (t : List ℕ) (at x v : ℕ) (k : v ≡ getD ids x 0) where
-      pub own-none : v ≡ 0 → putOut at t ≡ putText t at (whole (ownBytes b s start ids x))
-      unfolding ownBytes
-      own-none z = rw (eq-eqb (getD ids x 0) 0 (sym k ∙ z), ownBytes) (put-empty t at)
-
-      pub own-is : (v ≡ 0 → ⊥) → (e : ℕ) → e ≡ entryAt b start x → (r : ℕ) (u : List ℕ) → putOut r u ≡ putText t at (whole (namesBytes b s start ids x e (wordsIn b s e))) → putOut r u ≡ putText t at (whole (ownBytes b s start ids x))
-      unfolding ownBytes
-      own-is z e f r u h = rw (ne-eqb (getD ids x 0) 0 (λ w. z (k ∙ w)), ownBytes) (h ∙ ap (λ (q : ℕ). putText t at (whole (namesBytes b s start ids x q (wordsIn b s q)))) f)
-
-    pub no-news : (t : List ℕ) (at : ℕ) → putOut at t ≡ putText t at (whole (newsBytes b s start ids 0))
-    unfolding newsBytes
-    no-news t at = put-empty t at
-
-    pub more-strings : (t : List ℕ) (at x p : ℕ) (u : List ℕ) (r : ℕ) (u′ : List ℕ) → putOut p u ≡ putText t at (whole (newsBytes b s start ids x)) → putOut r u′ ≡ putText u p (whole (ownBytes b s start ids x))
-        → putOut r u′ ≡ putText t at (whole (newsBytes b s start ids (x + 1)))
-    unfolding newsBytes
-    more-strings t at x p u r u′ h g = rw add-one (put-seq t at (newsBytes b s start ids x) (ownBytes b s start ids x) p u r u′ h g)
-
-    pub all-strings : (t : List ℕ) (at n x p : ℕ) (u : List ℕ) → n ≡ countOf b → x ≤ n → n ≤ x → putOut p u ≡ putText t at (whole (newsBytes b s start ids x)) → putOut p u ≡ putText t at (whole (newsBytes b s start ids (countOf b)))
-    all-strings t at n x p u c l g h = let z : x ≡ n = omega (arith, l, g) in h ∙ ap (λ (k : ℕ). putText t at (whole (newsBytes b s start ids k))) (z ∙ c)

@@ -17,7 +17,7 @@ pub longer : (a c : List ℕ) (k n : ℕ) → length a ≡ k → length c ≡ n 
 longer a c k n e f = length-append a c ∙ (λ i. e i + f i)
 
 module _ (b : Btf) (s start ids : List ℕ) where
-  name-length : (x e j : ℕ) → length (nameBytes b s start ids x e j) ≡ newSize b s start ids x e j
+  pub name-length : (x e j : ℕ) → length (nameBytes b s start ids x e j) ≡ newSize b s start ids x e j
   unfolding nameBytes newSize
   name-length x e j = go (isNew b s start ids x e j)
     where

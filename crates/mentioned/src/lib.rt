@@ -1,9 +1,8 @@
-// The names that a section cut down mentions: where for the first time, and written in that order.
+// The names that a section cut down mentions, and where for the first time.
 mod names;
-mod write;
 
 pub use names::first_name;
 pub use names::is_new;
 pub use names::mentions;
 pub use names::peek;
-pub use write::put_strings;
+pub use names::same_name;

@@ -42,7 +42,7 @@ fn same_bytes(a: &[u8], c: &[u8]) -> bool
 }
 
 // Whether the names at two offsets are the same.
-fn same_name(b: Btf, section: &[u8], p: u32, q: u32) -> bool
+pub fn same_name(b: Btf, section: &[u8], p: u32, q: u32) -> bool
     ensures { λ r. ⌜ r ≡ sameBytes (strAt b (now (section .entry)) p) (strAt b (now (section .entry)) q) ⌝ }
 {
     if p == q {

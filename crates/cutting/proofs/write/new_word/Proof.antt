@@ -16,7 +16,7 @@ word-of-requires : tie.Need-word-of-requires
 word-of-requires c κs = search needs
 
 place-of-requires : tie.Need-place-of-requires
-place-of-requires c κs = search needs
+place-of-requires c κs = c .before .before .before .before .before .before .before .before .pre
 
 returns : tie.Need-returns
 returns c = word-name _ _ _ _ _ _ _ _ _ (c .before .before .before .role .ensures) (c .before .before .word-of .ensures) (c .before .if1 .taken) _ (c .place-of .ensures)

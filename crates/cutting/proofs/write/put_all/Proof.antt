@@ -6,7 +6,7 @@ use Rattle.cutting.proofs.write.put_all.Reads as reads
 use Rattle.cutting.proofs.write.put_all.Lts as lts
 use Rattle.cutting.proofs.write.byte_at.Reads as byte-at-reads
 use Rattle.cutting.proofs.write.put_head.Reads as put-head-reads
-use Rattle.mentioned.proofs.put_strings.Reads as put-strings-reads
+use Rattle.cutting.proofs.area.put_strings.Reads as put-strings-reads
 use Rattle.cutting.proofs.write.put_types.Reads as put-types-reads
 
 byte-at-requires : tie.Need-byte-at-requires
@@ -16,10 +16,10 @@ put-head-requires : tie.Need-put-head-requires
 put-head-requires c κs = search needs
 
 put-types-requires : tie.Need-put-types-requires
-put-types-requires c κs = search needs
+put-types-requires c κs = c .before .before .before .before .before .before .before .before .before .before .before .before .pre
 
 put-strings-requires : tie.Need-put-strings-requires
-put-strings-requires c κs = search needs
+put-strings-requires c κs = c .before .before .before .before .before .before .before .before .before .before .before .before .before .before .before .before .pre
 
 same-length : tie.Need-same-length
 same-length c = search needs

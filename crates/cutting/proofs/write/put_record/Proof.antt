@@ -15,10 +15,10 @@ use Rattle.cutting.proofs.write.new_word.Reads as new-word-reads
 use Rattle.cutting.proofs.write.put_word.Reads as put-word-reads
 
 abbrev Inv-loop : tie.InvT-loop
-Inv-loop b section start ids bases e out₀ at n p₀ j₀ out p j = (putOut p out ≡ putText out₀ at (whole (recordBytes b section start ids bases e j))) × (j ≤ n) × (length out ≡ length out₀)
+Inv-loop b section start ids bases table e out₀ at n p₀ j₀ out p j = (putOut p out ≡ putText out₀ at (whole (recordBytes b section start ids bases e j))) × (j ≤ n) × (length out ≡ length out₀)
 
 abbrev μ-loop : tie.MeasureT-loop
-μ-loop b section start ids bases e out₀ at n p₀ j₀ out p j = n - j
+μ-loop b section start ids bases table e out₀ at n p₀ j₀ out p j = n - j
 
 words-in-requires : tie.Need-words-in-requires Inv-loop μ-loop
 words-in-requires c κs = search needs
@@ -27,7 +27,7 @@ loop-holds : tie.Need-loop-holds Inv-loop μ-loop
 loop-holds c = (no-words _ _ _ _ _ _ _ _, omega arith, refl)
 
 new-word-requires : tie.Need-new-word-requires Inv-loop μ-loop
-new-word-requires c κs = c .before .before .before .before .before .before .before .before .pre
+new-word-requires c κs = c .before .before .before .before .before .before .before .before .before .pre
 
 put-word-requires : tie.Need-put-word-requires Inv-loop μ-loop
 put-word-requires c κs = search needs

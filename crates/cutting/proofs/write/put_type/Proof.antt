@@ -18,7 +18,7 @@ entry-requires : tie.Need-entry-requires
 entry-requires c κs = search needs
 
 put-record-requires : tie.Need-put-record-requires
-put-record-requires c κs = search needs
+put-record-requires c κs = c .before .before .before .before .before .before .before .before .before .before .pre
 
 same-length : tie.Need-same-length
 same-length c = search needs

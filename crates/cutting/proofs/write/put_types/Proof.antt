@@ -14,10 +14,10 @@ use Rattle.cutting.proofs.write.put_type.Reads as put-type-reads
 use Rattle.followed.proofs.count.Reads as count-reads
 
 abbrev Inv-loop : tie.InvT-loop
-Inv-loop b section start ids bases out₀ at n p₀ x₀ out p x = (putOut p out ≡ putText out₀ at (whole (typesBytes b section start ids bases x))) × (x ≤ n) × (length out ≡ length out₀)
+Inv-loop b section start ids bases table out₀ at n p₀ x₀ out p x = (putOut p out ≡ putText out₀ at (whole (typesBytes b section start ids bases x))) × (x ≤ n) × (length out ≡ length out₀)
 
 abbrev μ-loop : tie.MeasureT-loop
-μ-loop b section start ids bases out₀ at n p₀ x₀ out p x = n - x
+μ-loop b section start ids bases table out₀ at n p₀ x₀ out p x = n - x
 
 count-requires : tie.Need-count-requires Inv-loop μ-loop
 count-requires c κs = search needs
@@ -26,7 +26,7 @@ loop-holds : tie.Need-loop-holds Inv-loop μ-loop
 loop-holds c = (no-types _ _ _ _ _ _ _, omega arith, refl)
 
 put-type-requires : tie.Need-put-type-requires Inv-loop μ-loop
-put-type-requires c κs = c .before .before .before .before .before .before .before .before .before .pre
+put-type-requires c κs = c .before .before .before .before .before .before .before .before .before .before .pre
 
 add-x : tie.Need-add-x Inv-loop μ-loop
 add-x c = omega arith
@@ -35,7 +35,7 @@ loop-less : tie.Need-loop-less Inv-loop μ-loop
 loop-less c = omega arith
 
 loop-again : tie.Need-loop-again Inv-loop μ-loop
-loop-again c = (more-types _ _ _ _ _ _ _ _ _ _ _ _ (c .before .before .before .before .before .loop .inv .0) (c .before .before .put-type .ensures), omega arith, c .before .before .put-type .kept .1 .1 .1 .1 .1 .1 .0 ∙ c .before .before .before .before .before .loop .inv .2)
+loop-again c = (more-types _ _ _ _ _ _ _ _ _ _ _ _ (c .before .before .before .before .before .loop .inv .0) (c .before .before .put-type .ensures), omega arith, c .before .before .put-type .kept .1 .1 .1 .1 .1 .1 .1 .0 ∙ c .before .before .before .before .before .loop .inv .2)
 
 same-length : tie.Need-same-length Inv-loop μ-loop
 same-length c = c .before .loop .inv .2
