@@ -16,7 +16,8 @@
 // 13 emit state: 0, 1 in progress, 2 emitted
 // 14 number that its name takes, on a list      6
 //
-// 7, 8, 3 and 4 are used for hashing while opening. Without the mode of names that cannot collide, 7, 8, 14, 3, 4 and 6 are 0.
+// While opening, 7, 8, 11 and 13 of a type and 3, 4, 5 and 7 of an enumerator are used for hashing. Without the mode of names
+// that cannot collide, 7, 8, 14, 3, 4 and 6 are 0.
 use words::get_word;
 use words::put_word;
 ghost use mathlib.Core.Path.{_≡_};

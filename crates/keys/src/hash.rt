@@ -41,7 +41,7 @@ pub fn same_name(section: &[u8], a: usize, b: usize) -> bool
 }
 
 // One byte more into a hash.
-fn step(acc: u32, x: u8) -> u32
+pub fn hash_step(acc: u32, x: u8) -> u32
     ensures { λ r. ⌜ r ≡ stepOf acc x ⌝ }
 {
     (((acc as u64) * 16777619 + (x as u64)) % 4294967296) as u32
@@ -58,7 +58,7 @@ pub fn hash_name(section: &[u8], off: usize, start: u32) -> u32
         if x == 0 {
             return acc;
         }
-        acc = step(acc, x);
+        acc = hash_step(acc, x);
         k += 1;
     }
     acc

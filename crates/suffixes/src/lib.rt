@@ -5,3 +5,4 @@ mod suffix;
 pub use bases::base_of;
 pub use bases::is_suffixed;
 pub use bases::key_suffix;
+pub use suffix::hash_before;

@@ -1,8 +1,10 @@
 // Names that end in three underscores and a number.
 use keys::byte_at;
+use keys::hash_step;
 ghost use mathlib.Core.Path.{_≡_};
 ghost use Rattle.btf.specs.Names.{nameAt};
 ghost use Rattle.filled.specs.Takers.{digitAfter, numeral, suffixIn, suffixOn, anySuffix};
+ghost use Rattle.suffixes.specs.Before.{hashBefore};
 
 // The number so far with one more digit, or 0.
 fn digit_after(acc: u32, x: u8) -> u32
@@ -72,6 +74,26 @@ pub fn has_suffix(section: &[u8], at: usize) -> bool
         k += 1;
     }
     false
+}
+
+// The hash of what stands before the suffix of the name at a place, after `start`; of the whole name where it has none.
+pub fn hash_before(section: &[u8], off: usize, start: u32) -> u32
+    ensures { λ r. ⌜ r ≡ hashBefore start (nameAt (now (section .entry)) off) ⌝ }
+{
+    let mut acc = start;
+    let mut k = off;
+    while k < section.len() {
+        let x = section[k];
+        if x == 0 {
+            return acc;
+        }
+        if 2 <= suffix_at(section, k) {
+            return acc;
+        }
+        acc = hash_step(acc, x);
+        k += 1;
+    }
+    acc
 }
 
 // The number with which the name at b is the name at a, three underscores and a number; or 0.

@@ -1,15 +1,19 @@
 // Each name that is another one of its space with a suffix is put on that one's list.
+use crate::bases::base;
 use btf::Btf;
 use cells::holder_word;
+use hashed::clear_table;
+use hashed::make_table;
 use keys::load_key;
-use suffixes::base_of;
 use suffixes::is_suffixed;
 use suffixes::key_suffix;
 use words::get_word;
 use words::put_word;
 ghost use mathlib.Core.Path.{_≡_};
+ghost use Prim.Native.Nat.{_<_};
 ghost use Rattle.classed.specs.Classes.{keyIn};
 ghost use Rattle.filled.specs.Takers.{suffixOn, listedOn, takerPut, withTakers, takersIn};
+ghost use Rattle.hashed.specs.Hashed.{TableIf};
 
 // Puts h in front of the list of c, with the number that its name takes.
 fn put_on(b: Btf, section: &[u8], work: &mut [u8], c: u32, h: u32)
@@ -25,7 +29,8 @@ fn put_on(b: Btf, section: &[u8], work: &mut [u8], c: u32, h: u32)
 }
 
 // Puts h on a list, if it is the first of its name and there is a name that it is with a suffix.
-fn put_taker(b: Btf, section: &[u8], work: &mut [u8], n: u32, h: u32)
+fn put_taker(b: Btf, section: &[u8], work: &mut [u8], n: u32, h: u32, has_table: bool)
+    requires { ⌜ (h < n) × TableIf «has_table» b (now section) (now work) n ⌝ }
     ensures { λ _. ⌜ now (work .exit) ≡ takerPut b (now (section .entry)) n h (now (work .entry)) ⌝ }
 {
     if get_word(work, holder_word(b.types, 5, 1, h)) != h {
@@ -34,14 +39,14 @@ fn put_taker(b: Btf, section: &[u8], work: &mut [u8], n: u32, h: u32)
     if !is_suffixed(section, load_key(b, section, work, h)) {
         return;
     }
-    let c = base_of(b, section, work, n, h);
+    let c = base(b, section, work, n, h, has_table);
     if c == 0 {
         return;
     }
     put_on(b, section, work, c, h)
 }
 
-// All holders, from the last to the first, so that those on a list stand in rising order.
+// All holders, from the last to the first, so that those on a list stand in rising order. The work that opening has filled has room for the table.
 fn put_takers(b: Btf, section: &[u8], enumerators: u32, work: &mut [u8])
     ensures { λ _. ⌜ now (work .exit) ≡ withTakers b enumerators (now (section .entry)) (now (work .entry)) ⌝ }
 {
@@ -50,11 +55,16 @@ fn put_takers(b: Btf, section: &[u8], enumerators: u32, work: &mut [u8])
         return;
     }
     let n = types + enumerators;
+    let has_table = make_table(b, section, enumerators, work);
     let mut h = n;
     while 1 < h {
         h -= 1;
-        put_taker(b, section, work, n, h);
+        put_taker(b, section, work, n, h, has_table);
     }
+    if !has_table {
+        return;
+    }
+    clear_table(work, types, n)
 }
 
 // Bit 3 of the modes: names that cannot collide. Without it there are no lists.

@@ -10,7 +10,7 @@ use Rattle.keys.proofs.hash.hash_name.Statement.{statement}
 use Rattle.keys.proofs.hash.hash_name.Tie as tie
 use Rattle.keys.proofs.hash.hash_name.Reads as reads
 use Rattle.keys.proofs.hash.hash_name.Lts as lts
-use Rattle.keys.proofs.hash.step.Reads as step-reads
+use Rattle.keys.proofs.hash.hash_step.Reads as hash-step-reads
 
 abbrev Inv-loop : tie.InvT-loop
 Inv-loop section off start acc₀ k₀ acc k = hashFrom start (nameAt section off) ≡ hashFrom acc (nameAt section k)
@@ -27,8 +27,8 @@ shared-slice-read-x c = omega arith
 returns : tie.Need-returns Inv-loop μ-loop
 returns c = laws.hash-zero _ _ _ _ (c .before .before .before .loop .inv) (c .if1 .taken)
 
-step-requires : tie.Need-step-requires Inv-loop μ-loop
-step-requires c κs = search needs
+hash-step-requires : tie.Need-hash-step-requires Inv-loop μ-loop
+hash-step-requires c κs = search needs
 
 add-k : tie.Need-add-k Inv-loop μ-loop
 add-k c = omega arith
@@ -37,7 +37,7 @@ loop-less : tie.Need-loop-less Inv-loop μ-loop
 loop-less c = omega arith
 
 loop-again : tie.Need-loop-again Inv-loop μ-loop
-loop-again c = laws.hash-more _ _ _ _ (c .before .before .before .before .loop .inv) _ (c .before .if1 .left) (c .step .ensures)
+loop-again c = laws.hash-more _ _ _ _ (c .before .before .before .before .loop .inv) _ (c .before .if1 .left) (c .hash-step .ensures)
 
 returns-2 : tie.Need-returns-2 Inv-loop μ-loop
 returns-2 c = laws.hash-end _ _ _ _ (c .before .loop .inv) (omega arith)
@@ -51,7 +51,7 @@ hash-name-spec =
     loop-holds
     shared-slice-read-x
     returns
-    step-requires
+    hash-step-requires
     add-k
     loop-less
     loop-again

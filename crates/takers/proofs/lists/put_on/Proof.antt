@@ -3,7 +3,6 @@ use Rattle.filled.specs.Takers.{suffixOn, listedOn}
 use mathlib.Core.Path.{ap, ap₂, _∙_}
 use Prim.Native.Nat.{ℕ}
 use denote.Ref.{now}
-use borrow.Author.Needs.{needs}
 use Rattle.takers.proofs.lists.put_on.Statement.{statement}
 use Rattle.takers.proofs.lists.put_on.Tie as tie
 use Rattle.takers.proofs.lists.put_on.Reads as reads
@@ -15,37 +14,37 @@ use Rattle.words.proofs.put_word.Reads as put-word-reads
 use Rattle.suffixes.proofs.key_suffix.Reads as key-suffix-reads
 
 load-key-requires : tie.Need-load-key-requires
-load-key-requires c κs = search needs
+load-key-requires c κs = tt
 
 load-key-requires-2 : tie.Need-load-key-requires-2
-load-key-requires-2 c κs = search needs
+load-key-requires-2 c κs = tt
 
 key-suffix-requires : tie.Need-key-suffix-requires
-key-suffix-requires c κs = search needs
+key-suffix-requires c κs = tt
 
 holder-word-requires : tie.Need-holder-word-requires
-holder-word-requires c κs = search needs
+holder-word-requires c κs = tt
 
 get-word-requires : tie.Need-get-word-requires
-get-word-requires c κs = search needs
+get-word-requires c κs = tt
 
 holder-word-requires-2 : tie.Need-holder-word-requires-2
-holder-word-requires-2 c κs = search needs
+holder-word-requires-2 c κs = tt
 
 put-word-requires : tie.Need-put-word-requires
-put-word-requires c κs = search needs
+put-word-requires c κs = tt
 
 holder-word-requires-3 : tie.Need-holder-word-requires-3
-holder-word-requires-3 c κs = search needs
+holder-word-requires-3 c κs = tt
 
 put-word-requires-2 : tie.Need-put-word-requires-2
-put-word-requires-2 c κs = search needs
+put-word-requires-2 c κs = tt
 
 put-word-requires-3 : tie.Need-put-word-requires-3
-put-word-requires-3 c κs = search needs
+put-word-requires-3 c κs = tt
 
 same-length : tie.Need-same-length
-same-length c = search needs
+same-length c = c .before .before .put-word3 .kept .0 ∙ c .before .before .before .before .before .before .put-word2 .kept .0 ∙ c .before .before .before .before .before .before .before .before .before .before .before .put-word .kept .0
 
 returns : tie.Need-returns
 returns c = put-on _ _ _ _ _ _ _ _ _ _ _ _ (c .before .before .before .before .before .before .before .before .before .before .before .before .before .before .before .before .holder-word .ensures) (c .before .before .before .before .before .before .before .before .before .before .before .before .before .before .get-word .ensures) (c .before .before .before .before .before .before .before .before .before .before .before .before .holder-word2 .ensures) (c .before .before .before .before .before .before .before .before .before .before .before .put-word .ensures) (c .before .before .before .before .before .before .before .holder-word3 .ensures) (c .before .before .before .before .before .before .put-word2 .ensures) (c .before .before .put-word3 .ensures) ∙ ap (λ (m : ℕ). listedOn (c .before .before .before .before .before .before .before .before .before .before .before .before .before .before .before .before .before .before .before .before .before .before .before .before .args .b .types) (c .before .before .before .before .before .before .before .before .before .before .before .before .before .before .before .before .before .before .before .before .before .before .before .before .args .c) (c .before .before .before .before .before .before .before .before .before .before .before .before .before .before .before .before .before .before .before .before .before .before .before .before .args .h) m (now (c .before .before .before .before .before .before .before .before .before .before .before .before .before .before .before .before .before .before .before .before .before .before .before .before .args .work))) (c .before .before .before .before .before .before .before .before .before .before .before .before .before .before .before .before .before .key-suffix .ensures ∙ ap₂ suffixOn (c .before .before .before .before .before .before .before .before .before .before .before .before .before .before .before .before .before .before .load-key2 .ensures) (c .before .before .before .before .before .before .before .before .before .before .before .before .before .before .before .before .before .before .before .before .load-key .ensures))

@@ -1,5 +1,4 @@
 use Rattle.filled.proofs.Holders.{mode-off, mode-on}
-use borrow.Author.Needs.{needs}
 use Rattle.takers.proofs.lists.takers.Statement.{statement}
 use Rattle.takers.proofs.lists.takers.Tie as tie
 use Rattle.takers.proofs.lists.takers.Reads as reads
@@ -10,10 +9,10 @@ returns : tie.Need-returns
 returns c = mode-off _ _ _ _ _ (c .if1 .taken)
 
 put-takers-requires : tie.Need-put-takers-requires
-put-takers-requires c κs = search needs
+put-takers-requires c κs = tt
 
 same-length : tie.Need-same-length
-same-length c = search needs
+same-length c = c .before .before .put-takers .kept .1 .1 .1 .0
 
 returns-2 : tie.Need-returns-2
 returns-2 c = mode-on _ _ _ _ _ _ (c .before .before .before .before .if1 .left) (c .before .before .put-takers .ensures)
