@@ -6,7 +6,7 @@ use mathlib.Core.Bool.{Bool, true, false}
 use mathlib.Core.Logic.{⊎-elim, _≢_}
 use native.Mathlib.Omega.{arith}
 use native.Mathlib.Nat.{mod-lt}
-use lib.ListN.{length, getD}
+use lib.ListN.{length}
 use lib.Dec.{ltb, eqb}
 use borrow.Author.Tests.{eq-eqb, ne-eqb, eqb-true, eqb-false, lt-ltb, le-ltb}
 use Rattle.lent.specs.Words.{getWord, putWord}
@@ -17,7 +17,7 @@ use Rattle.classed.specs.Classes.{fill, noughts, keyOf, keyIn}
 use Rattle.classed.specs.Table.{hashFrom, hashKey, bucketOf}
 use Rattle.classed.proofs.Fill.{fill-length, get-else, get-fill, put-else, put-fill, fill-same, fill-both}
 use Rattle.hashed.specs.Hashed.{firstP, laterP, spaceIn, falls, firstFrom, firstOf, laterOf, over, tableFrom, putFirst, allZero, hasRoom, tableIn, Table}
-use Rattle.hashed.proofs.Places.{first-one, later-one, first-in, later-in, first-later, later-first, over-zero, keys-over}
+use Rattle.hashed.proofs.Places.{first-one, later-one, first-in, later-in, later-first, over-zero, keys-over}
 
 -- ---- who stands in a bucket
 module _ (key : ℕ → List ℕ) (n : ℕ) where

@@ -1,5 +1,5 @@
 -- The words of the table stand apart from each other and from those that the lists and the keys use. Assumes nothing.
-use Prim.Native.Nat.{ℕ, zero, suc, _+_, _*_, _/_, _<_, _≤_}
+use Prim.Native.Nat.{ℕ, zero, suc, _+_, _*_, _/_, _<_}
 use mathlib.Core.Path.{_≡_, refl, ap, _∙_, sym, fun-ext}
 use mathlib.Core.List.{List, [], _∷_}
 use mathlib.Core.Logic.{⊎-elim, _≢_}
@@ -8,7 +8,6 @@ use lib.ListN.{length, getD, set}
 use Rattle.lent.specs.Words.{getWord, putWord}
 use Rattle.lent.proofs.Laws.{le-or-lt, get-in, put-in, put-out}
 use Rattle.btf.specs.declared.types.Btf.{Btf}
-use Rattle.btf.specs.Cells.{placeOf}
 use Rattle.classed.specs.Classes.{fill, noughts, recordP, spaceAt, nameOf, keyOf, keyIn}
 use Rattle.classed.proofs.Fill.{fill-length, get-else, put-else, fill-over, fill-swap}
 use Rattle.classed.proofs.Keys.{place-one, place-in, place-apart}

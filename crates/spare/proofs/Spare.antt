@@ -6,7 +6,6 @@ use mathlib.Core.List.{List}
 use mathlib.Core.Logic.{⊎-elim, _≢_}
 use native.Mathlib.Omega.{arith}
 use lib.ListN.{length, replicate}
-use lib.Dec.{eqb}
 use borrow.Author.Tests.{eq-eqb}
 use Rattle.lent.specs.Words.{getWord}
 use Rattle.lent.proofs.Laws.{le-or-lt}

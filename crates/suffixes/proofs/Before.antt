@@ -7,7 +7,7 @@ use mathlib.Core.Logic.{⊎-elim}
 use native.Mathlib.Omega.{arith}
 use lib.ListN.{length, getD}
 use lib.Dec.{leb, eqb}
-use borrow.Author.Tests.{le-leb, lt-leb, eq-eqb, eqb-true}
+use borrow.Author.Tests.{le-leb, lt-leb, eqb-true}
 use Rattle.lent.proofs.Laws.{le-or-lt}
 use Rattle.btf.specs.Names.{nameAt}
 use Rattle.classed.specs.Table.{stepOf, hashFrom}

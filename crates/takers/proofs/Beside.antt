@@ -1,5 +1,5 @@
 -- The lists are the same with the table beside them, and leave it alone. Assumes nothing.
-use Prim.Native.Nat.{ℕ, zero, suc, _+_, _-_, _<_}
+use Prim.Native.Nat.{ℕ, zero, suc, _+_, _-_}
 use mathlib.Core.Path.{_≡_, refl, ap, ap₂, _∙_, sym}
 use mathlib.Core.List.{List}
 use mathlib.Core.Bool.{Bool, true, false}
@@ -9,12 +9,12 @@ use lib.Dec.{eqb}
 use Rattle.lent.specs.Words.{getWord, putWord}
 use Rattle.lent.proofs.Laws.{get-put-other}
 use Rattle.btf.specs.declared.types.Btf.{Btf}
-use Rattle.btf.specs.Cells.{placeOf, classP}
+use Rattle.btf.specs.Cells.{classP}
 use Rattle.btf.specs.Numbers.{headP, nextP, takenP}
 use Rattle.classed.specs.Classes.{noughts, recordP, keyIn}
 use Rattle.classed.proofs.Keys.{place-apart}
 use Rattle.filled.specs.Takers.{suffixOn, anySuffix, nameIn, baseFrom, listedOn, onBase, takerPut, takersPut}
-use Rattle.hashed.specs.Hashed.{firstP, laterP, firstOf, laterOf, over, hasRoom, tableIn, Table, TableIf}
+use Rattle.hashed.specs.Hashed.{firstP, laterP, firstOf, laterOf, over, hasRoom, tableIn, TableIf}
 use Rattle.hashed.proofs.Places.{get-over, put-over, over-over, keys-stay, keys-over}
 use Rattle.hashed.proofs.Laws.{table-none, table-is, table-clear}
 

@@ -7,8 +7,8 @@ use mathlib.Core.Logic.{⊎-elim, _≢_}
 use native.Mathlib.Omega.{arith}
 use native.Mathlib.Nat.{mod-lt}
 use native.Mathlib.Numerals.{add-one}
-use lib.Dec.{leb, eqb}
-use borrow.Author.Tests.{ne-eqb, eq-eqb, lt-leb}
+use lib.Dec.{eqb}
+use borrow.Author.Tests.{ne-eqb, lt-leb}
 use Rattle.lent.specs.Words.{getWord, pick}
 use Rattle.lent.proofs.Laws.{le-or-lt}
 use Rattle.btf.specs.declared.types.Btf.{Btf}
@@ -19,7 +19,7 @@ use Rattle.filled.specs.Takers.{suffixOn, baseFrom}
 use Rattle.filled.proofs.Holders.{keys-apart, keys-none, keys-some, base-found, base-turn}
 use Rattle.suffixes.specs.Before.{hashBefore}
 use Rattle.suffixes.proofs.Before.{before-is}
-use Rattle.hashed.specs.Hashed.{firstP, laterP, spaceIn, falls, firstFrom, firstOf, laterOf, Table}
+use Rattle.hashed.specs.Hashed.{firstP, laterP, spaceIn, falls, firstFrom, firstOf, Table}
 use Rattle.hashed.proofs.Laws.{falls-in, falls-out, later-is}
 
 no : _≡_ {A = Bool} true false → ⊥

@@ -1,4 +1,4 @@
-use Rattle.hashed.specs.Hashed.{tableFrom, hasRoom}
+use Rattle.hashed.specs.Hashed.{tableFrom}
 use Rattle.hashed.proofs.Laws.{table-none, table-start, table-turn, table-end, room-fits}
 use borrow.Author.Tests.{not-true, not-false}
 use lib.ListN.{length}
