@@ -95,18 +95,18 @@ enum btfdump_number {
 	BTFDUMP_HEADER = 3,          /* header short or wrong, or an area past the end */
 	BTFDUMP_STRINGS = 4,         /* string area empty, not starting or ending in 0, or not ASCII */
 	BTFDUMP_RECORD = 5,          /* a record malformed or past its area, a name outside, too many records */
-	BTFDUMP_REFERENCE = 6,       /* a type refers past the table, or to a function, variable, section or tag */
+	BTFDUMP_REFERENCE = 6,       /* an id that is followed is past the table, or a function, variable, section or declaration tag */
 	BTFDUMP_FUNCTION_VALUE = 7,  /* a member or an array element is a function prototype */
-	BTFDUMP_LOOP = 8,            /* pointers, arrays, qualifiers, typedefs, prototypes form a loop */
+	BTFDUMP_LOOP = 8,            /* pointers, arrays, qualifiers, type tags, typedefs, prototypes form a loop */
 	BTFDUMP_WORK_TOO_SHORT = 9,  /* the work memory is too short */
 	/*
-	 * requests; value: the text length before the request, or, of a list, how many
-	 * ids were accepted. 10 and 11 change nothing, but in a list 10 leaves what the
-	 * ids before it brought
+	 * requests; value: the text length before the id that was refused, or, of a
+	 * list, how many ids were accepted. 10 and 11 change nothing, but in a list 10
+	 * leaves what the ids before it brought
 	 */
 	BTFDUMP_NO_SUCH_ID = 10,     /* the id is not below the count of types */
 	BTFDUMP_NOT_OPEN = 11,       /* no open session, or other lengths than at opening, or the text is cut short */
-	/* after these the session is closed, the work zero, the text as long as before and zero after that */
+	/* after these the session is closed, the work zero, the text as long as before the id that was refused and zero after that */
 	BTFDUMP_TOO_DEEP = 12,       /* more than 512 nested calls, or entries of a declarator */
 	BTFDUMP_CYCLE = 13,          /* a struct or union needs itself complete: it holds itself, or leads back to itself through a nameless one, also behind a pointer (with strong arrays: an array behind a pointer) */
 	BTFDUMP_NAMELESS = 14,       /* a typedef with no name is to be defined */

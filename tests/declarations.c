@@ -30,12 +30,13 @@ static const struct sample samples[] = {
 	{"int f(int, ...)", 4, {PROTO(1), MORE(6, 3), BASE(0, 0), BASE(0, 3)}},
 	{" const  struct s * const volatile*x ", 6, {POINTER, QUAL(1), QUAL(2), POINTER, QUAL(1), BASE(8, 8)}},
 	{"int f(int (*)(void), const int *[2])", 9, {PROTO(1), POINTER, PROTO(0), MORE(6, 3), ARRAY(2), POINTER, QUAL(1), BASE(27, 3), BASE(0, 3)}},
+	{"int f(int x)", 3, {PROTO(1), BASE(6, 5), BASE(0, 3)}},
 	{"unsigned long m[2][4294967295]", 3, {ARRAY(2), ARRAY(4294967295u), BASE(0, 13)}},
 };
 
 static const char *const refused[] = {
 	"int a[4294967296]", "int a[03]", "int a[]", "int (a)", "int", "", "struct s", "struct *p", "const const int x",
-	"int const x", "int f(...)", "int f(int, void)", "int x;", "int x,", "int\tx",
+	"int const x", "int f(...)", "int f(int, void)", "int f(int *x)", "int f(struct s x)", "int x;", "int x,", "int\tx",
 };
 
 static uint64_t chain[BTFDUMP_CHAIN_WORDS + 3];

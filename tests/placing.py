@@ -142,7 +142,7 @@ def main():
         (made.table.struct if is_struct else made.table.union)("s", size, *members)
         open(f"{folder}/refused.btf", "wb").write(made.table.section())
         answer = header(btfheader, f"{folder}/refused.btf")
-        if answer.returncode != 1 or "no compiler" not in answer.stderr or answer.stdout:
+        if answer.returncode != 1 or "(18)" not in answer.stderr or answer.stdout:
             sys.exit(f"placing.py: {what}: not refused by 18")
     print(f"placing mode: {bodies} bodies of {tables} tables as gcc lays them out, {len(REFUSED)} refused")
 

@@ -41,9 +41,9 @@ static const char *words_for(uint32_t number)
 	case BTFDUMP_HEADER: return "this is no .BTF section of version 1, or it is cut short";
 	case BTFDUMP_STRINGS: return "the string area is empty, does not start and end in 0, or is not ASCII";
 	case BTFDUMP_RECORD: return "a type record is malformed, or there are more than 262,144";
-	case BTFDUMP_REFERENCE: return "a type refers past the table, or to a function, variable, section or tag";
+	case BTFDUMP_REFERENCE: return "a type that is followed is past the table, or a function, variable, section or declaration tag";
 	case BTFDUMP_FUNCTION_VALUE: return "a member or an array element is a function prototype";
-	case BTFDUMP_LOOP: return "pointers, arrays, qualifiers, typedefs or prototypes lead in a circle";
+	case BTFDUMP_LOOP: return "pointers, arrays, qualifiers, type tags, typedefs or prototypes lead in a circle";
 	case BTFDUMP_NO_SUCH_ID: return "the table has no type with this id";
 	case BTFDUMP_TOO_DEEP: return "types are nested more than 512 deep";
 	case BTFDUMP_CYCLE: return "a struct or union needs itself to be complete";

@@ -1,5 +1,5 @@
 -- The loops of the rules (Decl, and alignments/specs/Writers) turn by turn: what one entry of a chain, one parameter, one member prints, and what stands
--- after it. That a loop is its first turn and then the rest is proved (proofs/Turns.antt); only private functions promise
+-- after it. That a loop is its first turn and then the rest is proved (decl/proofs/Turns.antt); only private functions promise
 -- what is defined here.
 use Prim.Native.Nat.{ℕ}
 use mathlib.Core.Bool.{Bool, true, false, not, _&&_}

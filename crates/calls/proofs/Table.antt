@@ -10,6 +10,10 @@ use lib.Dec.{eqb}
 use Rattle.text.specs.Text.{putText}
 use Rattle.rules.specs.Order.{meet, order}
 use Rattle.rules.specs.Machine.{mention, allowed, emit}
+use Rattle.rules.specs.Writer.{askThen, checked}
+use Rattle.rules.specs.Layout.{getSizeOf, getAlignOf, offAlign}
+use Rattle.rules.specs.Placing.{measured}
+use Rattle.rules.specs.Decl.{chainOf, emitTypeDecl, emitTypeChain, emitCompositeDef}
 use Rattle.ceiling.specs.Ceiling.{orderWithin}
 use Rattle.opened.specs.Causes.{firstOf, causes, openingNumber}
 use Rattle.opened.specs.Table.{typesOf}
@@ -92,17 +96,22 @@ calls-by-table = record {
 }
 
 pub rules-by-table : RulesByTable
-unfolding order emit meet mention allowed putText orderWithin number
+unfolding order emit meet mention allowed getSizeOf getAlignOf emitTypeDecl emitTypeChain emitCompositeDef chainOf offAlign checked measured askThen putText orderWithin number
 rules-by-table = record {
   deep-order = λ St K T s x weak. refl;
   deep-emit = λ M X T s x cont. refl;
-  deep-line = refl;
+  deep-size = λ B id. refl;
+  deep-align = λ B id. refl;
+  deep-decl = λ U N B id fname lvl. refl;
+  deep-chain = λ U N B c fname lvl. refl;
+  deep-body = λ U N B id is-struct name sz ms lvl. refl;
+  long-chain = λ B id c. refl;
   cycle-order = λ St s. refl;
   cycle-emit = λ M X T x s. refl;
   no-name = λ M X T rec s x cont. refl;
-  align-zero = refl;
-  overflows = refl;
-  not-placed = refl;
+  align-zero = λ bit-offset rest. refl;
+  overflows = λ n h. rw (h, checked) refl;
   full = λ t at x h g. rw (h, g, putText) refl;
+  not-placed = λ B is-struct sz ms a packed x bits p q r t h. rw (measured, p, askThen, q, askThen, r, askThen, t, askThen, h) refl;
   ceiling = λ St K c n T s x weak k h. rw (h, orderWithin) refl;
 }

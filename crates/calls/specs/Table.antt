@@ -1,7 +1,7 @@
 -- Document 01's table of refusals is what the calls and the rules refuse by: statements only. proofs/Table.antt has the proofs; they assume nothing.
-use Prim.Native.Nat.{ℕ, zero, suc, _+_, _<_}
+use Prim.Native.Nat.{ℕ, zero, suc, _+_, _*_, _<_}
 use mathlib.Core.Path.{_≡_}
-use mathlib.Core.Bool.{Bool, true, false}
+use mathlib.Core.Bool.{Bool, true, false, _&&_}
 use mathlib.Core.List.{List, [], _∷_, List·Memᴰ}
 use mathlib.Core.Logic.{_⊎_}
 use lib.ListN.{length}
@@ -9,7 +9,12 @@ use lib.Dec.{ltb, leb}
 use Rattle.text.specs.Text.{Text, bytes, stopped, putText}
 use Rattle.rules.specs.Order.{Table, Store, refused, meet, order}
 use Rattle.rules.specs.Machine.{Machine, Out, stuck, mention, allowed, emit}
-use Rattle.rules.specs.Writer.{tooDeep as tooDeepLine, alignZero as alignZeroLine, overflow as overflowLine, misplaced as misplacedLine}
+use Rattle.rules.specs.Writer.{Ask, got, no, checked, stop}
+use Rattle.rules.specs.Types.{Name, Member, Btf}
+use Rattle.rules.specs.Names.{Naming}
+use Rattle.rules.specs.Layout.{getSizeOf, getAlignOf, offAlign, isStructPacked}
+use Rattle.rules.specs.Placing.{Extent, extentOf, noExtent, unionAlign, sizeFits, measured}
+use Rattle.rules.specs.Decl.{Entry, chainOf, emitTypeDecl, emitTypeChain, emitCompositeDef}
 use Rattle.ceiling.specs.Ceiling.{halted, orderWithin}
 use Rattle.opened.specs.Causes.{causes}
 use Rattle.opened.specs.Table.{typesOf}
@@ -46,22 +51,33 @@ pub record CallsByTable : Type 0 where
   pub type : (s : Session) (section work text : List ℕ) (id : ℕ) → isCurrent s (length section) (length work) (length text) ≡ true → id < s .types → InTable closingRows (typeCall s section work text id)
   pub types : (s : Session) (section work text : List ℕ) → isCurrent s (length section) (length work) (length text) ≡ true → InTable closingRows (typesCall s section work text)
 
--- the rules: where each row is met
+-- the rules: the clause that meets each row
 pub record RulesByTable : Type 1 where
-  -- 12: one call more than may be open, of ordering, of emission, of the functions of a line
+  -- 12: where none is left of the calls that may be open: of ordering, of emission, of get_size_of, of get_align_of, and of the three of a line together;
+  -- or of the entries of a chain
   pub deep-order : (St : Type 0) (K : Store St) (T : Table) (s : St) (x : ℕ) (weak : Bool) → order K zero T s x weak ≡ refused (number tooDeep)
   pub deep-emit : (M : Type 0) (X : Machine M) (T : Table) (s : M) (x cont : ℕ) → emit X T zero s x cont ≡ stuck (number tooDeep)
-  pub deep-line : tooDeepLine ≡ number tooDeep
+  pub deep-size : (B : Btf) (id : ℕ) → getSizeOf zero B id ≡ no (number tooDeep)
+  pub deep-align : (B : Btf) (id : ℕ) → getAlignOf zero B id ≡ no (number tooDeep)
+  pub deep-decl : (U : Type 0) (N : Naming U) (B : Btf) (id : ℕ) (fname : Name) (lvl : ℕ) → emitTypeDecl N B zero id fname lvl ≡ stop (number tooDeep)
+  pub deep-chain : (U : Type 0) (N : Naming U) (B : Btf) (c : List Entry) (fname : Name) (lvl : ℕ) → emitTypeChain N B zero c fname lvl ≡ stop (number tooDeep)
+  pub deep-body : (U : Type 0) (N : Naming U) (B : Btf) (id : ℕ) (is-struct : Bool) (name : Name) (sz : ℕ) (ms : List Member) (lvl : ℕ)
+      → emitCompositeDef N B zero id is-struct name sz ms lvl ≡ stop (number tooDeep)
+  pub long-chain : (B : Btf) (id : ℕ) (c : List Entry) → chainOf zero B id c ≡ no (number tooDeep)
   -- 13: what is in progress is met again
   pub cycle-order : (St : Type 0) (s : St) → meet false s ≡ refused (number cycle)
   pub cycle-emit : (M : Type 0) (X : Machine M) (T : Table) (x : ℕ) (s : M) → mention X T false false x s ≡ stuck (number cycle)
   -- 14: a type without a name at the top
   pub no-name : (M : Type 0) (X : Machine M) (T : Table) (rec : M → ℕ → ℕ → Out M) (s : M) (x cont : ℕ) → allowed X T rec s x cont true ≡ stuck (number nameless)
-  -- 15, 16 and 18, of a line
-  pub align-zero : alignZeroLine ≡ number alignZero
-  pub overflows : overflowLine ≡ number overflow
-  pub not-placed : misplacedLine ≡ number misplaced
+  -- 15: the packed test, of a member
+  pub align-zero : (bit-offset : ℕ) (rest : Ask Bool) → offAlign zero bit-offset rest ≡ no (number alignZero)
+  -- 16: a number over 32 bits
+  pub overflows : (n : ℕ) → ltb n 4294967296 ≡ false → checked n ≡ no (number overflow)
   -- 17: a text that does not fit behind a place inside the slice
   pub full : (t : List ℕ) (at : ℕ) (x : Text) → leb at (length t) ≡ true → leb (at + length (bytes x)) (length t) ≡ false → putText t at x ≡ stopped (number textFull)
+  -- 18: placing mode, after all that is asked for was got
+  pub not-placed : (B : Btf) (is-struct : Bool) (sz : ℕ) (ms : List Member) (a : ℕ) (packed : Bool) (x : Extent) (bits : ℕ)
+      → unionAlign B is-struct ms ≡ got a → isStructPacked B is-struct sz ms ≡ got packed → extentOf B is-struct packed noExtent ms ≡ got x → checked (8 * sz) ≡ got bits
+      → (x .fits && sizeFits is-struct a (x .last) bits) ≡ false → measured B is-struct sz ms ≡ no (number misplaced)
   -- 22: one more call would pass the ceiling
   pub ceiling : (St : Type 0) (K : Store St) (c n : ℕ) (T : Table) (s : St) (x : ℕ) (weak : Bool) (k : ℕ) → ltb k c ≡ false → orderWithin K c (suc n) T s x weak k ≡ halted (number ceilingPassed) k

@@ -56,6 +56,9 @@ samples =
     ∷ sample "int f(int, void)" refused
     ∷ sample "int f(void, int)" refused
     ∷ sample "int f(void *)" (of [] int (proto (param [] (ascii "void" ∷ []) (pointer [] named) closed) named))
+    ∷ sample "int f(int x)" (of [] int (proto (param [] (ascii "int" ∷ ascii "x" ∷ []) named closed) named))
+    ∷ sample "int f(int *x)" refused
+    ∷ sample "int f(struct s x)" refused
     ∷ sample "int f(int,)" refused
     ∷ sample "int x;" refused
     ∷ sample "int 3x" refused

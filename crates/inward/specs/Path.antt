@@ -49,7 +49,7 @@ passed on (through t) = on t
 passed on (array t) = array t
 passed on (composite ms) = composite ms
 
--- what stands behind typedefs, qualifiers and type tags: get_size_of passes them too, so 512 calls are enough (proofs/Sound)
+-- what stands behind typedefs, qualifiers and type tags: get_size_of passes them too, so 512 calls are enough (field/proofs/Sound)
 unfoldable pub behind : ℕ → Btf → ℕ → Shape
 behind zero B id = plain
 behind (suc left) B id = passed (behind left B) (shapeOf (B .type-by-id id))

@@ -1,16 +1,17 @@
 -- What the definitions say, for a reader: the nine causes in document 01's terms, the number, and what success leaves. Every statement is about
 -- specs/ alone; the proofs are cited. Assumes nothing.
-use Prim.Native.Nat.{ℕ, suc, _+_, _*_, _<_, _≤_}
+use Prim.Native.Nat.{ℕ, zero, suc, _+_, _*_, _<_, _≤_}
 use mathlib.Core.Path.{_≡_, refl, ap, _∙_, sym}
-use mathlib.Core.Bool.{Bool, true, false, true≢false, not, _&&_}
-use mathlib.Core.List.{List}
-use mathlib.Core.Logic.{_↔_}
-use lib.ListN.{length, replicate}
-use lib.Dec.{eqb}
-use borrow.Author.Tests.{lt-ltb, ltb-true, ne-eqb, eqb-true, eqb-false, not-false}
+use mathlib.Core.Bool.{Bool, true, false, true≢false, not, _&&_, _||_}
+use mathlib.Core.List.{List, [], _∷_}
+use mathlib.Core.Logic.{_↔_, _⊎_, inl, inr}
+use native.Mathlib.Omega.{arith}
+use lib.ListN.{length, getD, replicate}
+use lib.Dec.{eqb, leb}
+use borrow.Author.Tests.{lt-ltb, ltb-true, ne-eqb, eqb-true, eqb-false, eq-eqb, le-leb, leb-true, not-false}
 use Rattle.records.specs.Documentation.{Every, Allowed, Described, encodeAll}
 use Rattle.records.specs.Reading.{Bytes}
-use Rattle.records.specs.Section.{bigEndian, typeArea, strLen, typesSound}
+use Rattle.records.specs.Section.{bigEndian, littleEndian, hdrLen, typesAt, typeLen, stringsAt, strLen, typeArea, stringArea, headerSound, allAscii, lastOf, stringsSound, typesSound}
 use Rattle.records.proofs.Claims.{sound-iff}
 use Rattle.followed.specs.References.{BadReference}
 use Rattle.prototypes.specs.Prototypes.{ProtoInside}
@@ -19,7 +20,7 @@ use Rattle.followed.proofs.BadIds.{bad-reference}
 use Rattle.prototypes.proofs.Held.{any-leads}
 use Rattle.loops.proofs.TypeLoops.{type-loop}
 use Rattle.opened.specs.Table.{typesOf, enumeratorsOf, indexOf}
-use Rattle.opened.specs.Causes.{cause1, cause2, cause5, cause6, cause7, cause8, cause9, tableOf, causes, openingNumber}
+use Rattle.opened.specs.Causes.{cause1, cause2, cause3, cause4, cause5, cause6, cause7, cause8, cause9, tableOf, causes, openingNumber}
 use Rattle.opened.specs.declared.Opening.{Opening}
 use Rattle.opened.specs.declared.Opening.the-variants.{Refused, Sound}
 use Rattle.opened.specs.Opened.{Outcome, refused, opened, openOut, workOf, openingOf}
@@ -46,6 +47,87 @@ cause-1 pointer = (go (eqb pointer 4) refl (eqb pointer 8) refl, λ h. rw (ne-eq
 pub cause-2 : (s : List ℕ) → (cause2 s ≡ true) ↔ (16777216 < length s)
 unfolding cause2
 cause-2 s = (ltb-true 16777216 (length s), lt-ltb 16777216 (length s))
+
+-- 3
+pub record HeaderIs (s : List ℕ) : Type 0 where
+  pub long : 24 ≤ length s
+  pub magic : (bigEndian s ≡ true) ⊎ (littleEndian s ≡ true)
+  pub version : getD s 2 0 ≡ 1
+  pub header-long : 24 ≤ hdrLen s
+  pub header-inside : hdrLen s ≤ length s
+  pub types-inside : typesAt s + typeLen s ≤ length s
+  pub strings-inside : stringsAt s + strLen s ≤ length s
+
+both : (a b : Bool) → (a && b) ≡ true → (a ≡ true) × (b ≡ true)
+both true b h = (refl, h)
+both false b h = absurd (true≢false (sym h))
+
+either : (a b : Bool) → (a || b) ≡ true → (a ≡ true) ⊎ (b ≡ true)
+either true b h = inl refl
+either false b h = inr h
+
+one-of : (a b : Bool) → (a ≡ true) ⊎ (b ≡ true) → (a || b) ≡ true
+one-of true b h = refl
+one-of false b (inl e) = absurd (true≢false (sym e))
+one-of false b (inr e) = e
+
+pub cause-3 : (s : List ℕ) → (cause3 s ≡ false) ↔ HeaderIs s
+unfolding cause3 headerSound
+cause-3 s = (λ h. reads (not-false (headerSound s) h), λ h. ap not (writes h))
+  where
+    reads : headerSound s ≡ true → HeaderIs s
+    reads h =
+        let a = both (leb 24 (length s)) _ h in
+        let b = both (bigEndian s || littleEndian s) _ (a .1) in
+        let c = both (eqb (getD s 2 0) 1) _ (b .1) in
+        let d = both (leb 24 (hdrLen s)) _ (c .1) in
+        let e = both (leb (hdrLen s) (length s)) _ (d .1) in
+        let f = both (leb (typesAt s + typeLen s) (length s)) _ (e .1) in
+        record {
+          long = leb-true 24 (length s) (a .0);
+          magic = either (bigEndian s) (littleEndian s) (b .0);
+          version = eqb-true (getD s 2 0) 1 (c .0);
+          header-long = leb-true 24 (hdrLen s) (d .0);
+          header-inside = leb-true (hdrLen s) (length s) (e .0);
+          types-inside = leb-true (typesAt s + typeLen s) (length s) (f .0);
+          strings-inside = leb-true (stringsAt s + strLen s) (length s) (f .1);
+        }
+
+    writes : HeaderIs s → headerSound s ≡ true
+    writes h =
+        rw
+        (le-leb 24 (length s) (h .long), one-of (bigEndian s) (littleEndian s) (h .magic), eq-eqb (getD s 2 0) 1 (h .version), le-leb 24 (hdrLen s) (h .header-long), le-leb (hdrLen s) (length s) (h .header-inside), le-leb (typesAt s + typeLen s) (length s) (h .types-inside), le-leb (stringsAt s + strLen s) (length s) (h .strings-inside))
+        refl
+
+-- 4
+pub record StringsAre (a : List ℕ) : Type 0 where
+  pub some : 1 ≤ length a
+  pub first : getD a 0 1 ≡ 0
+  pub last : lastOf 1 a ≡ 0
+  pub ascii : (i : ℕ) → getD a i 0 ≤ 127
+
+ascii-each : (a : List ℕ) → allAscii a ≡ true → (i : ℕ) → getD a i 0 ≤ 127
+ascii-each [] h i = omega arith
+ascii-each (x ∷ a) h zero = leb-true x 127 (both (leb x 127) (allAscii a) h .0)
+ascii-each (x ∷ a) h (suc i) = ascii-each a (both (leb x 127) (allAscii a) h .1) i
+
+each-ascii : (a : List ℕ) → ((i : ℕ) → getD a i 0 ≤ 127) → allAscii a ≡ true
+each-ascii [] h = refl
+each-ascii (x ∷ a) h = rw (le-leb x 127 (h zero), each-ascii a (λ i. h (suc i))) refl
+
+pub cause-4 : (s : List ℕ) → (cause4 s ≡ false) ↔ StringsAre (stringArea s)
+unfolding cause4 stringsSound
+cause-4 s = (λ h. reads (stringArea s) (not-false (stringsSound (stringArea s)) h), λ h. ap not (writes (stringArea s) h))
+  where
+    reads : (a : List ℕ) → stringsSound a ≡ true → StringsAre a
+    reads a h =
+        let b = both (leb 1 (length a)) _ h in
+        let c = both (eqb (getD a 0 1) 0) _ (b .1) in
+        let d = both (eqb (lastOf 1 a) 0) _ (c .1) in
+        record { some = leb-true 1 (length a) (b .0); first = eqb-true (getD a 0 1) 0 (c .0); last = eqb-true (lastOf 1 a) 0 (d .0); ascii = ascii-each a (d .1) }
+
+    writes : (a : List ℕ) → StringsAre a → stringsSound a ≡ true
+    writes a h = rw (le-leb 1 (length a) (h .some), eq-eqb (getD a 0 1) 0 (h .first), eq-eqb (lastOf 1 a) 0 (h .last), each-ascii a (h .ascii)) refl
 
 -- 5: the type area is not the layout of at most 262,144 types whose numbers fit and whose names lie in the string area
 pub cause-5 : (s : List ℕ) → Bytes (typeArea s)

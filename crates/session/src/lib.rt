@@ -1,4 +1,5 @@
-// The calls of a session whose record is lent by `&mut`: thin entry points over the calls by value of `requests`.
+// The calls of a session whose record is lent by `&mut`: thin entry points over the calls by value of `opens` and
+// `requests`.
 use opens::open_core;
 use requests::dump_list_core;
 use requests::dump_type_core;
