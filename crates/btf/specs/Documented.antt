@@ -1,4 +1,4 @@
--- A type as the Linux documentation describes it, and the same type as the Rust's `load_types` keeps it: which fields are kept under which
+-- A type as the Linux documentation describes it, and the same type as the Rust's `load_type` keeps it: which fields are kept under which
 -- names. Offsets of names are replaced by the names.
 use Prim.Native.Nat.{ℕ, zero, suc, _+_, _*_}
 use mathlib.Core.Bool.{Bool, true, false}

@@ -60,7 +60,7 @@ module _ (b : Btf) (s : List ℕ) where
     abbrev pub nelemsWord : ℕ
     nelemsWord = sectionWord b s (t .at + 20)
 
-    -- load_types of the Rust: the type of a record, by its kind 0 to 19
+    -- load_type of the Rust: the type of a record, by its kind 0 to 19
     unfoldable pub typeOf : BtfType
     typeOf = getD
         (Void

@@ -19,6 +19,9 @@ use Rattle.calls.specs.Calls.{openedCall, openCall}
 use Rattle.calls.proofs.Laws.{opens-sound, opens-refused}
 use Rattle.calls.proofs.Claims.{number-is}
 use Rattle.demand.specs.Needs.{MeetsTwice}
+use Rattle.demand.specs.Session.{noNames}
+use Rattle.demand.proofs.Bodies.{pieces-are}
+use Rattle.claims.specs.Table.{openedTable, namesIn}
 use Rattle.claims.specs.Session.{Holds, After, after-open, after-one, after-all, after-list}
 use Rattle.claims.specs.Demands.{typesIn, ruled, Demand2, Demand3Calls, Twice, Delivered}
 use Rattle.claims.proofs.Claims.{opening-gives}
@@ -56,6 +59,7 @@ module _ (p modes : ℕ) (s : List ℕ) (n : ℕ) (ok : openingNumber p s n ≡ 
   after-demand3 = record {
     text = holds .its-text;
     pieces = opening-gives p modes s n ok .demand3 rs;
+    bodies = pieces-are (namesIn p modes s n) (openedTable p modes s n) (noNames (openedTable p modes s n)) rs;
     cycles = λ o text l id below named deep.
         subst (λ (k : ℕ). (k ≡ 13) ↔ MeetsTwice (typesIn p modes s n) id) (sym (after-demand2 .next-type text l id .number))
         (opening-gives p modes s n ok .demand3 rs .cycles (sym (holds .is-open) ∙ o) (length text) id below named deep);

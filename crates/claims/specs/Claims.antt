@@ -19,7 +19,7 @@ use Rattle.ledger.specs.Alike.{Fresh}
 use Rattle.claims.specs.Table.{headerOf, openedTable, namesIn, machineIn, openedIn, tagIds}
 
 module _ (pointer modes : ℕ) (s : List ℕ) (n : ℕ) where
-  -- the table is the documented one: void, then each described type as the Rust's `load_types` keeps it
+  -- the table is the documented one: void, then each described type as the Rust's `load_type` keeps it
   pub record Documents : Type 0 where
     pub count : openedTable pointer modes s n .type-cnt ≡ suc (length (describedIn s))
     pub zero-void : openedTable pointer modes s n .type-by-id 0 ≡ Void

@@ -18,7 +18,8 @@ use Rattle.demand.specs.Needs.{NamedComp, MeetsTwice}
 use Rattle.demand.specs.Demand.{Demand3}
 use Rattle.demand.specs.Lists.{Ls}
 use Rattle.demand.specs.Session.{Known, textOf}
-use Rattle.claims.specs.Table.{openedTable, machineIn, openedIn}
+use Rattle.demand.specs.Bodies.{PiecesAre}
+use Rattle.claims.specs.Table.{openedTable, namesIn, machineIn, openedIn}
 use Rattle.claims.specs.Session.{After, Tells}
 
 -- "a text slice of any length that begins with the text so far"
@@ -59,6 +60,8 @@ module _ (pointer modes : ℕ) (s : List ℕ) (n : ℕ) where
   pub record Demand3Calls (c : Call) (rs : List Req) : Type 0 where
     pub text : take (c .session .«text_len») (c .text) ≡ textOf (ruled rs .mach .pieces)
     pub pieces : Demand3 (machineIn pointer modes s n) typesIn (ruled rs)
+    -- "the piece with a named composite's body carries that composite's id and defines it; forward lines, mentions and inline nameless bodies define nothing"
+    pub bodies : PiecesAre (namesIn pointer modes s n) (openedTable pointer modes s n) (ruled rs .mach .pieces)
     pub cycles : c .session .«open» ≡ true → (text : List ℕ) → Lent c text → (id : ℕ) → id < typesIn .count → NamedComp typesIn id
         → (ordering (machineIn pointer modes s n) typesIn (length text) (ruled rs) id ≡ refused 12 → ⊥)
         → (numberOf (typeCall (c .session) s (c .work) text id .answer) ≡ 13) ↔ MeetsTwice typesIn id

@@ -11,5 +11,7 @@ pub mod Placing
 pub mod Alike
 pub mod AnyNames
 pub mod Fit
+pub mod Keeping
+pub mod Bodies
 pub mod Again
 pub mod Arrays

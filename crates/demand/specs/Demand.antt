@@ -16,8 +16,9 @@ pub record Once (c : ℕ) (l : List ℕ) : Type 0 where
   pub not-before : List·Memᴰ c before → ⊥
   pub not-after : List·Memᴰ c rest → ⊥
 
--- DEMAND 3. S: the session after the list of requests; tags: the ids of the pieces that define, in the text's order. The piece of a composite whose name
--- contains `__builtin_va_list` is among them, though it is only `;`: "a name that contains it is not defined". Of a table without such names each has a body.
+-- DEMAND 3. S: the session after the list of requests; tags: the ids of the pieces that define, in the text's order. What such a piece prints is said in
+-- specs/Bodies. The piece of a composite whose name contains `__builtin_va_list` is among them, though it is only `;`: "a name that contains it is not
+-- defined".
 pub record Demand3 {M : Type 0} (X : Machine M) (T : Table) (S : Sess M) : Type 0 where
   -- each named composite that an accepted request asked for is defined exactly once
   pub asked-once : (c : ℕ) → List·Memᴰ c (S .asked) → NamedComp T c → Once c (X .tags (S .mach))

@@ -5,3 +5,4 @@ pub mod Lists
 pub mod Session
 pub mod Samples
 pub mod Fit
+pub mod Bodies

@@ -7,9 +7,9 @@ use lib.ListN.{getD, set}
 use Rattle.text.specs.Text.{Text, whole, cut, ascii, bytes}
 use Rattle.text.specs.Decimal.{decimal}
 use Rattle.rules.specs.Order.{Mark, new, Store, Res, ok, refused, order}
-use Rattle.rules.specs.Writer.{saidText, Writer, _⨾_}
+use Rattle.rules.specs.Writer.{Ask, got, no, saidText, Writer, _⨾_}
 use Rattle.rules.specs.Types.{Member, BtfType, Void, Int, Ptr, Array, Composite, Typedef, FuncProto, Btf, tableOf}
-use Rattle.rules.specs.Layout.{gapPads, placedPads}
+use Rattle.rules.specs.Layout.{Pad, placedPads, bitPadding}
 use Rattle.rules.specs.Names.{Names, naming}
 use Rattle.rules.specs.Decl.{enumValue, enum64Value, pads, emitTypeDecl}
 use Rattle.rules.specs.Emit.{definition, forward}
@@ -22,9 +22,14 @@ unnamed = record { versions = 0 ∷ 0 ∷ 0 ∷ 0 ∷ 0 ∷ 0 ∷ 0 ∷ 0 ∷ []
 abbrev pub text : Writer Names → List ℕ
 text w = bytes (saidText (w unnamed))
 
--- the pads of a gap before a bit field (true) or before a plain member of 4 bytes
+abbrev pub padding : Ask (List Pad) → List ℕ
+padding (got ps) = pads 0 ps
+padding (no c) = decimal c
+
+-- emit_bit_padding from bit 0 to an int at bit n, as a bit field (true) or as a plain member of 4 bytes
 abbrev pub gap : ℕ → Bool → ℕ → List ℕ
-gap ptr-sz bit-field n = pads 0 (gapPads ptr-sz (elim bit-field [ true ↦ 1 | false ↦ 0 ]) n 4)
+gap ptr-sz bit-field n =
+    padding (bitPadding (listed ptr-sz false (Void ∷ Int (ascii "int") 32 ∷ [])) 0 (record { name = []; type-id = 1; bit-offset = n; bit-size = elim bit-field [ true ↦ 1 | false ↦ 0 ] }) false)
 
 abbrev pub table : List BtfType → Btf
 table types = listed 8 false types
