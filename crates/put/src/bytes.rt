@@ -23,7 +23,7 @@ pub fn stop(text: &[u8], at: usize, c: u32) -> usize
     text.len() + 1 + (c as usize)
 }
 
-// Writes the bytes of src from `at` on: all of them, or none and refusal 17.
+// Writes the bytes of src from `at` on; refusal 17 where there is no room for all of them.
 pub fn put_bytes(text: &mut [u8], at: usize, src: &[u8]) -> usize
     ensures { λ r. ⌜ putOut r (now (text .exit)) ≡ putText (now (text .entry)) at (whole (now (src .entry))) ⌝ }
 {
