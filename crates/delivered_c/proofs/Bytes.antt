@@ -1,6 +1,6 @@
 -- What the exports leave as bytes tells the calls on the session that the bytes said, as long as text length and visits fit in 32 bits, which
 -- `Holds` and proofs/Visits give. Assumes nothing but that opening accepts the section.
-use Prim.Native.Nat.{ℕ, zero, suc, _+_, _*_, _/_, _%_, _<_, _≤_}
+use Prim.Native.Nat.{ℕ, zero, suc, _+_, _-_, _*_, _/_, _%_, _<_, _≤_}
 use mathlib.Core.Path.{_≡_, refl, ap, _∙_, sym, subst}
 use mathlib.Core.Bool.{Bool, true, false}
 use mathlib.Core.List.{List, [], _∷_}
@@ -8,6 +8,7 @@ use native.Mathlib.Omega.{arith}
 use lib.ListN.{length, take}
 use lib.Dec.{ltb}
 use borrow.Author.Tests.{le-ltb}
+use Rattle.lent.specs.Words.{getWord}
 use Rattle.rules.specs.Names.{Names}
 use Rattle.rules.specs.Machine.{Sess, single}
 use Rattle.opened.specs.Causes.{openingNumber}
@@ -17,9 +18,9 @@ use Rattle.turns.specs.declared.Session.{Session}
 use Rattle.turns.specs.Answers.{numberOf, valueOf, answerOf}
 use Rattle.turns.specs.Turns.{Call, callOf}
 use Rattle.calls.specs.Calls.{typeCall, typesCall}
-use Rattle.calls.specs.Lists.{counted, listFrom}
+use Rattle.calls.specs.Lists.{idsIn, counted, listFrom, countIn}
 use Rattle.calls.proofs.Claims.{number-is, type-not-current, types-not-current, closed-stays}
-use Rattle.calls.proofs.Lists.{counted-goes, counted-stops}
+use Rattle.calls.proofs.Lists.{idsFrom, ids-some, counted-goes, counted-stops}
 use Rattle.demand.specs.Lists.{Ls}
 use Rattle.demand.specs.Session.{Known}
 use Rattle.claims.specs.Table.{machineIn}
@@ -28,7 +29,7 @@ use Rattle.claims.specs.Demands.{typesIn}
 use Rattle.claims.proofs.Session.{type-keeps, types-keeps}
 use Rattle.c_words.specs.Words.{putLong, putLongs, decoded, wordsOf, encoded, packed}
 use Rattle.c_record.specs.Record.{recordRefused, recordAfter}
-use Rattle.exports.specs.Exports.{Export, exportOf, answeredBy, typeExport, typesExport, countedExport, listExportFrom}
+use Rattle.exports.specs.Exports.{Export, exportOf, answeredBy, typeExport, typesExport, countedExport, listExportFrom, listExport}
 use Rattle.exports.proofs.Claims.{long-length, reached-length, type-says, types-say}
 use Rattle.delivered_c.specs.Claims.{numberIn, valueIn, told}
 use Rattle.delivered_c.proofs.Visits.{Fit, type-fit, types-fit}
@@ -113,6 +114,14 @@ module _ (r section w t : List ℕ) (h : 128 ≤ length r) where
     pub types-later : typesExport r section w t ≡ exportOf (11 * 4294967296 + decoded r .«text_len») r w t
     unfolding answeredBy packed recordAfter recordRefused numberOf valueOf
     types-later = types-exported ∙ ap (answeredBy r) (types-not-current (decoded r) section w t (closed-stays (decoded r) section w t o))
+
+    pub list-later : (ids : List ℕ) → 4 ≤ length ids → decoded r .«text_len» < 4294967296 → listExport r section w t (idsIn ids) ≡ exportOf (11 * 4294967296) r w t
+    unfolding listExport listExportFrom countedExport exportOf
+    list-later ids l small =
+        let eleven : (11 * 4294967296 + decoded r .«text_len») / 4294967296 ≡ 11 = omega arith in
+        ap (listExportFrom 0 r section w t) (ids-some ids l)
+        ∙ ap (λ (e : Export). countedExport 0 e (λ d. listExportFrom 1 (d .bytes) section (d .work) (d .text) (idsFrom ids 1 (countIn ids - 1)))) (type-later (getWord ids 0))
+        ∙ rw (eleven, countedExport)
 
 module _ (p modes : ℕ) (s : List ℕ) (n : ℕ) (ok : openingNumber p s n ≡ 0) where
   abbrev State : Type 0

@@ -30,8 +30,8 @@ use Rattle.claims.proofs.Demands.{after-sound, delivered}
 use Rattle.c_words.specs.Words.{decoded}
 use Rattle.exports.specs.Exports.{Export, openExport, typeExport, typesExport, listExport}
 use Rattle.delivered_c.specs.Claims.{numberIn, valueIn, openIn, told, LentC, madeIn, AfterC, opened-c, one-c, all-c, list-c, TellsC, AddsNothingC, SameCalls, Demand2C, Demand3C, TwiceC, DeliveredC}
-use Rattle.delivered_c.proofs.Bytes.{Sound, Tells, type-told, types-told, list-told, type-later, types-later}
-use Rattle.delivered_c.proofs.Opened.{accepted, open-told}
+use Rattle.delivered_c.proofs.Bytes.{Sound, Tells, type-told, types-told, list-told, type-later, types-later, list-later}
+use Rattle.delivered_c.proofs.Opened.{accepted, open-told, opens-c}
 
 -- ---- no list of ids has more than 4,294,967,295
 from-length : (b : List ℕ) (k n : ℕ) → length (idsFrom b k n) ≡ n
@@ -146,6 +146,7 @@ module _ (p modes : ℕ) (s : List ℕ) (n : ℕ) where
           (subst (λ (c : Call). spec.Tells (length text) c a) (sym (all-told e rs h text l .is)) (demand2 .next-types text (lent e text l)));
       later-type = λ o text id. type-later (e .bytes) s (e .work) text (h .sound .long) o id;
       later-types = λ o text. types-later (e .bytes) s (e .work) text (h .sound .long) o;
+      later-list = λ o text ids m. list-later (e .bytes) s (e .work) text (h .sound .long) o ids m (omega (arith, after-holds p modes s n (after-sound p modes s n (h .told-after)) (h .told-after) .small));
     }
 
     demand3-c : Demand3C p modes s n e rs
@@ -191,6 +192,7 @@ module _ (p modes : ℕ) (s : List ℕ) (n : ℕ) where
 
 pub delivered-c : (p modes : ℕ) (s : List ℕ) (n : ℕ) → DeliveredC p modes s n
 delivered-c p modes s n = record {
+  opens = λ r work text h. opens-c r s work text p modes h;
   same-calls = λ e rs a. same-calls p modes s n e rs (carry p modes s n a);
   demand2 = λ e rs a. demand2-c p modes s n e rs (carry p modes s n a);
   demand3 = λ e rs a. demand3-c p modes s n e rs (carry p modes s n a);

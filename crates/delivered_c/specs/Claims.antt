@@ -12,6 +12,8 @@ use Rattle.lent.specs.Words.{pick}
 use Rattle.rules.specs.Names.{Names}
 use Rattle.rules.specs.Order.{refused}
 use Rattle.rules.specs.Machine.{Answer, Req, one, all, ordering, single, every}
+use Rattle.opened.specs.Table.{typesOf}
+use Rattle.opened.specs.Causes.{openingNumber}
 use Rattle.turns.specs.Answers.{answerOf}
 use Rattle.turns.specs.Turns.{Call, thenZeros}
 use Rattle.calls.specs.Calls.{typeCall, typesCall}
@@ -85,6 +87,15 @@ pub record AddsNothingC (before : Export) (text : List ℕ) (e : Export) : Type 
   pub text-len : lenIn e ≡ lenIn before
   pub same-text : e .text ≡ thenZeros (length text) (lenIn before) text
 
+-- Opening for C, lent a record of 128 bytes or more
+pub record OpensC (pointer modes : ℕ) (s r work text : List ℕ) : Type 0 where
+  -- "A number comes for its own cause and in no other circumstance": that of the first cause that holds, and 0 where none does
+  pub number : numberIn (openExport r s pointer modes work text) ≡ openingNumber pointer s (length work)
+  -- "number, 0 types"; "Left as it was: all slices and the record"
+  pub refused : (openingNumber pointer s (length work) ≡ 0 → ⊥) → openExport r s pointer modes work text ≡ exportOf (openingNumber pointer s (length work) * 4294967296) r work text
+  -- "opening returns the count of types, void counted, and clears the text slice"
+  pub accepted : openingNumber pointer s (length work) ≡ 0 → (valueIn (openExport r s pointer modes work text) ≡ typesOf s) × (openExport r s pointer modes work text .text ≡ replicate (length text) 0)
+
 module _ (pointer modes : ℕ) (s : List ℕ) (n : ℕ) where
   -- The calls for C are the calls on the session that the record's bytes say. e: the last call, after the requests rs.
   pub record SameCalls (e : Export) (rs : List Req) : Type 0 where
@@ -114,6 +125,8 @@ module _ (pointer modes : ℕ) (s : List ℕ) (n : ℕ) where
     -- "After 12 to 17 the list may go on, and every later request gives 11": "old text length", and "everything" is left, whatever text is lent
     pub later-type : openIn e ≡ false → (text : List ℕ) (id : ℕ) → typeExport (e .bytes) s (e .work) text id ≡ exportOf (11 * 4294967296 + lenIn e) (e .bytes) (e .work) text
     pub later-types : openIn e ≡ false → (text : List ℕ) → typesExport (e .bytes) s (e .work) text ≡ exportOf (11 * 4294967296 + lenIn e) (e .bytes) (e .work) text
+    -- a list of one id or more: none is accepted
+    pub later-list : openIn e ≡ false → (text ids : List ℕ) → 4 ≤ length ids → listExport (e .bytes) s (e .work) text (idsIn ids) ≡ exportOf (11 * 4294967296) (e .bytes) (e .work) text
 
   -- DEMAND 3
   pub record Demand3C (e : Export) (rs : List Req) : Type 0 where
@@ -138,6 +151,7 @@ module _ (pointer modes : ℕ) (s : List ℕ) (n : ℕ) where
 
   -- THE CLAIM, of all pointer sizes, modes, sections and lengths of the work, and every list of calls for C
   pub record DeliveredC : Type 0 where
+    pub opens : (r work text : List ℕ) → 128 ≤ length r → OpensC pointer modes s r work text
     pub same-calls : (e : Export) (rs : List Req) → AfterC pointer modes s n e rs → SameCalls e rs
     pub demand2 : (e : Export) (rs : List Req) → AfterC pointer modes s n e rs → Demand2C e rs
     pub demand3 : (e : Export) (rs : List Req) → AfterC pointer modes s n e rs → Demand3C e rs
