@@ -10,7 +10,7 @@ use lib.ListN.{length, take}
 use Rattle.lent.specs.Words.{pick}
 use Rattle.lent.proofs.Laws.{le-or-lt}
 use Rattle.rules.specs.Names.{Names}
-use Rattle.rules.specs.Machine.{Answer, Req, one, all, single, every}
+use Rattle.rules.specs.Machine.{Answer, Req, one, all}
 use Rattle.opened.specs.Causes.{openingNumber}
 use Rattle.turns.specs.Answers.{numberOf, valueOf}
 use Rattle.turns.specs.Turns.{Call}
@@ -21,15 +21,15 @@ use Rattle.calls.proofs.Lists.{idsFrom, count-few, count-many, ids-all}
 use Rattle.demand.specs.Needs.{MeetsTwice}
 use Rattle.demand.specs.Lists.{Ls}
 use Rattle.demand.specs.Session.{Known}
-use Rattle.claims.specs.Table.{machineIn}
 use Rattle.claims.specs.Session as spec
 use Rattle.claims.specs.Session.{singlesFor, made, After, after-open, after-one, after-all, after-list}
 use Rattle.claims.specs.Demands.{Lent, AddsNothing, typesIn, ruled, Demand2, Demand3Calls, Twice}
 use Rattle.claims.proofs.Session.{after-holds}
 use Rattle.claims.proofs.Demands.{after-sound, delivered}
 use Rattle.c_words.specs.Words.{decoded}
-use Rattle.exports.specs.Exports.{Export, openExport, typeExport, typesExport, listExport}
-use Rattle.delivered_c.specs.Claims.{numberIn, valueIn, openIn, told, LentC, madeIn, AfterC, opened-c, one-c, all-c, list-c, TellsC, AddsNothingC, SameCalls, Demand2C, Demand3C, TwiceC, DeliveredC}
+use Rattle.exports.specs.Exports.{Export, openExport, listExport}
+use Rattle.delivered_c.specs.Claims.{numberIn, valueIn, openIn, told, LentC, nextOne, nextAll, nextList, madeIn, AfterC, opened-c, one-c, all-c, list-c, TellsC, AddsNothingC, oneByRules, allByRules, SameCalls, Demand2C, Demand3C, TwiceC, DeliveredC}
+use Rattle.delivered_c.proofs.Visits.{type-fit, types-fit}
 use Rattle.delivered_c.proofs.Bytes.{Sound, Tells, type-told, types-told, list-told, type-later, types-later, list-later}
 use Rattle.delivered_c.proofs.Opened.{accepted, open-told, opens-c}
 
@@ -58,10 +58,12 @@ made-told e =
     let z : valueOf (told e .answer) - 0 ≡ valueIn e = omega (arith, value-told e) in
     λ i. z i + pick (eqb (number-told e i) 0 || eqb (number-told e i) 11) 0 1
 
-tells-c : (room : ℕ) (e : Export) (a : Answer (Ls (Known Names))) → spec.Tells room (told e) a → TellsC room e a
-tells-c room e a h = record {
+-- e tells a call whose answer is its text length
+tells-c : (room : ℕ) (e : Export) (a : Answer (Ls (Known Names))) (c : Call) → told e ≡ c → valueOf (c .answer) ≡ c .session .«text_len» → spec.Tells room c a → TellsC room e a
+tells-c room e a c is v t = let h : spec.Tells room (told e) a = subst (λ (d : Call). spec.Tells room d a) (sym is) t in record {
   number = sym (number-told e) ∙ h .number;
   value = sym (value-told e) ∙ h .value;
+  len = sym (subst (λ (d : Call). valueOf (d .answer) ≡ d .session .«text_len») (sym is) v) ∙ value-told e;
   begins = ap (λ (k : ℕ). take k (e .text)) (sym (value-told e)) ∙ h .begins;
   text = h .text;
 }
@@ -83,13 +85,13 @@ module _ (p modes : ℕ) (s : List ℕ) (n : ℕ) where
     ok : openingNumber p s n ≡ 0
     ok = after-sound p modes s n (h .told-after)
 
-    one-told : (id : ℕ) → Tells (typeExport (e .bytes) s (e .work) text id) (typeCall (decoded (e .bytes)) s (e .work) text id)
+    one-told : (id : ℕ) → Tells (nextOne s e text id) (typeCall (decoded (e .bytes)) s (e .work) text id)
     one-told id = type-told p modes s n ok (e .bytes) (e .work) (e .text) (ruled p modes s n rs) (after-holds p modes s n ok (h .told-after)) (h .sound) text (l .long) (l .begins) id
 
-    all-told : Tells (typesExport (e .bytes) s (e .work) text) (typesCall (decoded (e .bytes)) s (e .work) text)
+    all-told : Tells (nextAll s e text) (typesCall (decoded (e .bytes)) s (e .work) text)
     all-told = types-told p modes s n ok (e .bytes) (e .work) (e .text) (ruled p modes s n rs) (after-holds p modes s n ok (h .told-after)) (h .sound) text (l .long) (l .begins)
 
-    ids-told : (ids : List ℕ) → Tells (listExport (e .bytes) s (e .work) text (idsIn ids)) (listCall (decoded (e .bytes)) s (e .work) text (idsIn ids))
+    ids-told : (ids : List ℕ) → Tells (nextList s e text ids) (listCall (decoded (e .bytes)) s (e .work) text (idsIn ids))
     unfolding listExport listCall
     ids-told ids =
         list-told p modes s n ok (idsIn ids) 0 (ids-few ids) (e .bytes) (e .work) (e .text) (ruled p modes s n rs) (after-holds p modes s n ok (h .told-after)) (h .sound) text (l .long) (l .begins)
@@ -101,12 +103,12 @@ module _ (p modes : ℕ) (s : List ℕ) (n : ℕ) where
   carry (opened-c r work text z q) =
       carried (openExport r s p modes work text) _ [] (open-told r s work text p modes q) (after-open (decoded r) work text z (accepted r s work text p modes q))
   carry (one-c e rs a text l id) =
-      carried (typeExport (e .bytes) s (e .work) text id) _ (rs ++ (one (length text) id ∷ [])) (one-told e rs (carry a) text l id)
+      carried (nextOne s e text id) _ (rs ++ (one (length text) id ∷ [])) (one-told e rs (carry a) text l id)
       (after-one (told e) rs (carry a .told-after) text (l .long) (l .begins) id)
   carry (all-c e rs a text l) =
-      carried (typesExport (e .bytes) s (e .work) text) _ (rs ++ (all (length text) ∷ [])) (all-told e rs (carry a) text l) (after-all (told e) rs (carry a .told-after) text (l .long) (l .begins))
+      carried (nextAll s e text) _ (rs ++ (all (length text) ∷ [])) (all-told e rs (carry a) text l) (after-all (told e) rs (carry a .told-after) text (l .long) (l .begins))
   carry (list-c e rs a text l ids) =
-      let d : Export = listExport (e .bytes) s (e .work) text (idsIn ids) in
+      let d : Export = nextList s e text ids in
       let t : Tells d (listCall (decoded (e .bytes)) s (e .work) text (idsIn ids)) = ids-told e rs (carry a) text l ids in
       carried d _ (rs ++ singlesFor (length text) (madeIn d) (idsIn ids)) t
       (subst (λ (k : ℕ). After p modes s n (listCall (decoded (e .bytes)) s (e .work) text (idsIn ids)) (rs ++ singlesFor (length text) k (idsIn ids))) (ap (made 0) (sym (t .is)) ∙ made-told d)
@@ -126,8 +128,8 @@ module _ (p modes : ℕ) (s : List ℕ) (n : ℕ) where
     same-calls : SameCalls p modes s n e rs
     same-calls = record {
       told-after = h .told-after;
-      next-type = λ text l id. one-told e rs h text l id .is;
-      next-types = λ text l. all-told e rs h text l .is;
+      next-one = λ text l id. one-told e rs h text l id .is;
+      next-all = λ text l. all-told e rs h text l .is;
       next-list = λ text l ids. ids-told e rs h text l ids .is;
     }
 
@@ -136,16 +138,14 @@ module _ (p modes : ℕ) (s : List ℕ) (n : ℕ) where
       text = demand2 .text;
       text-len = demand2 .text-len;
       is-open = demand2 .is-open;
-      next-type = λ text l id.
-          let a : Answer (Ls (Known Names)) = single (machineIn p modes s n) (typesIn p modes s n) (length text) (ruled p modes s n rs) id in
-          tells-c (length text) (typeExport (e .bytes) s (e .work) text id) a
-          (subst (λ (c : Call). spec.Tells (length text) c a) (sym (one-told e rs h text l id .is)) (demand2 .next-type text (lent e text l) id));
-      next-types = λ text l.
-          let a : Answer (Ls (Known Names)) = every (machineIn p modes s n) (typesIn p modes s n) (length text) (ruled p modes s n rs) (ruled p modes s n rs .isOpen) in
-          tells-c (length text) (typesExport (e .bytes) s (e .work) text) a
-          (subst (λ (c : Call). spec.Tells (length text) c a) (sym (all-told e rs h text l .is)) (demand2 .next-types text (lent e text l)));
-      later-type = λ o text id. type-later (e .bytes) s (e .work) text (h .sound .long) o id;
-      later-types = λ o text. types-later (e .bytes) s (e .work) text (h .sound .long) o;
+      next-one = λ text l id.
+          tells-c (length text) (nextOne s e text id) (oneByRules p modes s n (length text) rs id) _ (one-told e rs h text l id .is)
+          (type-fit (decoded (e .bytes)) s (e .work) text (h .sound .few) id .value-same) (demand2 .next-type text (lent e text l) id);
+      next-all = λ text l.
+          tells-c (length text) (nextAll s e text) (allByRules p modes s n (length text) rs) _ (all-told e rs h text l .is)
+          (types-fit (decoded (e .bytes)) s (e .work) text (h .sound .few) .value-same) (demand2 .next-types text (lent e text l));
+      later-one = λ o text id. type-later (e .bytes) s (e .work) text (h .sound .long) o id;
+      later-all = λ o text. types-later (e .bytes) s (e .work) text (h .sound .long) o;
       later-list = λ o text ids m. list-later (e .bytes) s (e .work) text (h .sound .long) o ids m (omega (arith, after-holds p modes s n (after-sound p modes s n (h .told-after)) (h .told-after) .small));
     }
 
@@ -155,17 +155,17 @@ module _ (p modes : ℕ) (s : List ℕ) (n : ℕ) where
       pieces = demand3 .pieces;
       cycles = λ o text l id below named deep.
           subst (λ (k : ℕ). (k ≡ 13) ↔ MeetsTwice (typesIn p modes s n) id)
-          (ap (λ (c : Call). numberOf (c .answer)) (sym (one-told e rs h text l id .is)) ∙ number-told (typeExport (e .bytes) s (e .work) text id))
+          (ap (λ (c : Call). numberOf (c .answer)) (sym (one-told e rs h text l id .is)) ∙ number-told (nextOne s e text id))
           (demand3 .cycles o text (lent e text l) id below named deep);
     }
 
     -- ---- an id given twice
     module _ (o : openIn e ≡ true) (text : List ℕ) (l : LentC e text) where
-      again : (x : ℕ) → AddsNothing (told e) text (typeCall (decoded (e .bytes)) s (e .work) text x) → AddsNothingC e text (typeExport (e .bytes) s (e .work) text x)
-      again x q = adds-c e text (typeExport (e .bytes) s (e .work) text x) (subst (AddsNothing (told e) text) (sym (one-told e rs h text l x .is)) q)
+      again : (x : ℕ) → AddsNothing (told e) text (typeCall (decoded (e .bytes)) s (e .work) text x) → AddsNothingC e text (nextOne s e text x)
+      again x q = adds-c e text (nextOne s e text x) (subst (AddsNothing (told e) text) (sym (one-told e rs h text l x .is)) q)
 
       abbrev listed : List ℕ → Export
-      listed ids = listExport (e .bytes) s (e .work) text (idsIn ids)
+      listed = nextList s e text
 
       abbrev calls : List ℕ → Call
       calls ids = listCall (decoded (e .bytes)) s (e .work) text ids
