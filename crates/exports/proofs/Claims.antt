@@ -1,4 +1,5 @@
--- The record's bytes after a call say the session after it, and so the calls for C are the calls of crate session. Assumes nothing.
+-- The record's bytes after a call say the session after it, where text length and visits, and after opening every number of 32 bits, are below
+-- 4,294,967,296. That they are, and what follows for the calls one after another, is in crate delivered_c. Assumes nothing.
 use Prim.Native.Nat.{ℕ, zero, suc, _+_, _-_, _*_, _/_, _%_, _<_, _≤_}
 use mathlib.Core.Path.{_≡_, refl, ap, _∙_, sym, subst}
 use mathlib.Core.Bool.{Bool, true, false, _&&_}
@@ -109,7 +110,7 @@ module _ (r : List ℕ) (h : 128 ≤ length r) where
     visits = low-other r 0 0 8 (λ e. absurd (omega arith)) i;
   }
 
--- what the bytes say after a request
+-- what the bytes say after a request, where text length and visits have 32 bits
 abbrev pub Says : List ℕ → Call → Type 0
 Says r c = c .session .«text_len» < 4294967296 → c .session .visits < 4294967296 → decoded (recordAfter (c .answer) (c .session .visits) r) ≡ c .session
 

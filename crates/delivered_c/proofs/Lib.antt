@@ -1,0 +1,4 @@
+pub mod Visits
+pub mod Bytes
+pub mod Opened
+pub mod Claims
