@@ -153,6 +153,7 @@ module _ (p modes : ℕ) (s : List ℕ) (n : ℕ) where
     demand3-c = record {
       text = demand3 .text;
       pieces = demand3 .pieces;
+      bodies = demand3 .bodies;
       cycles = λ o text l id below named deep.
           subst (λ (k : ℕ). (k ≡ 13) ↔ MeetsTwice (typesIn p modes s n) id)
           (ap (λ (c : Call). numberOf (c .answer)) (sym (one-told e rs h text l id .is)) ∙ number-told (nextOne s e text id))

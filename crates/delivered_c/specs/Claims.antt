@@ -22,7 +22,8 @@ use Rattle.demand.specs.Needs.{NamedComp, MeetsTwice}
 use Rattle.demand.specs.Demand.{Demand3}
 use Rattle.demand.specs.Lists.{Ls}
 use Rattle.demand.specs.Session.{Known, textOf}
-use Rattle.claims.specs.Table.{machineIn}
+use Rattle.demand.specs.Bodies.{PiecesAre}
+use Rattle.claims.specs.Table.{openedTable, namesIn, machineIn}
 use Rattle.claims.specs.Session.{singlesFor, After}
 use Rattle.claims.specs.Demands.{typesIn, ruled}
 use Rattle.c_words.specs.Words.{decoded}
@@ -168,6 +169,8 @@ module _ (pointer modes : ℕ) (s : List ℕ) (n : ℕ) where
     pub text : take (lenIn e) (e .text) ≡ textByRules rs
     -- they define each named composite that was asked for and accepted once, none twice, and each after all that it needs
     pub pieces : Demand3 (machineIn pointer modes s n) (typesIn pointer modes s n) (ruled pointer modes s n rs)
+    -- "the piece with a named composite's body carries that composite's id and defines it"
+    pub bodies : PiecesAre (namesIn pointer modes s n) (openedTable pointer modes s n) (ruled pointer modes s n rs .mach .pieces)
     -- "the next request of the refusal clause": while the record is open, one for a named composite, unless too deep, is refused by 13 exactly
     -- when a chain of needs from it meets some composite twice
     pub cycles : openIn e ≡ true → (text : List ℕ) → LentC e text → (id : ℕ) → id < typesIn pointer modes s n .count → NamedComp (typesIn pointer modes s n) id
