@@ -4,26 +4,40 @@ use mathlib.Core.Path.{_≡_}
 use mathlib.Core.Bool.{Bool, true, false}
 use mathlib.Core.List.{List, [], _∷_}
 use mathlib.Core.Logic.{_⊎_}
+use Rattle.rules.specs.Order.{Mark}
 use Rattle.rules.specs.Machine.{Sess, Req}
 use Rattle.rules.specs.Types.{Btf, tableOf}
 use Rattle.rules.specs.Names.{Names, naming}
 use Rattle.demand.specs.Needs.{WF}
-use Rattle.demand.specs.Lists.{Ls, tagsOf}
+use Rattle.demand.specs.Lists.{Piece, Ls}
 use Rattle.demand.specs.Session.{Known, textOf, answerOf, opened}
+use Rattle.shared.specs.Lines.{SameLines}
 use Rattle.shared.specs.Shared.{Shelf}
 use Rattle.shared.specs.Calls.{Side, kernel, module′, Call, opens, asks, World, partOf, ledgerShort, openNumber, called}
 
 -- ---- what is seen of a session after each of its requests
 
--- the number, the ids asked for and accepted, those listed by the last ordering, those defined in the text
+-- the number, the ids asked for and accepted, those listed by the last ordering, for each id how far its definition is and whether its forward line or
+-- typedef is printed, and all lines of the header
 pub record Seen : Type 0 where
   pub number : ℕ
   pub asked : List ℕ
   pub listed : List ℕ
-  pub defined : List ℕ
+  pub defined : List Mark
+  pub forwarded : List Bool
+  pub lines : List Piece
 
 abbrev pub seen : {U : Type 0} → ℕ → Sess (Ls (Known U)) → Seen
-seen n S = record { number = n; asked = S .asked; listed = S .mach .olist; defined = tagsOf (S .mach .pieces) }
+seen n S = record { number = n; asked = S .asked; listed = S .mach .olist; defined = S .mach .emits; forwarded = S .mach .fwds; lines = S .mach .pieces }
+
+-- "its order, layout and cycle refusals": the same, and the same header but for the numbers of names
+pub record Likewise (a b : Seen) : Type 0 where
+  pub same-number : a .number ≡ b .number
+  pub same-asked : a .asked ≡ b .asked
+  pub same-listed : a .listed ≡ b .listed
+  pub same-defined : a .defined ≡ b .defined
+  pub same-forwarded : a .forwarded ≡ b .forwarded
+  pub same-lines : SameLines (a .lines) (b .lines)
 
 -- the number, the text's length and the text
 pub record Printed : Type 0 where
@@ -56,12 +70,12 @@ module _ {A : Type 0} where
   alone view B S [] = []
   alone view B S (r ∷ rs) = view (answerOf naming B S r .number) (answerOf naming B S r .sess) ∷ alone view B (answerOf naming B S r .sess) rs
 
-  -- equal, one after the other, until one that ends the comparison
-  pub data Agree (Ends₁ Ends₂ : A → Type 0) : List A → List A → Type 0 where
-    none : Agree Ends₁ Ends₂ [] []
-    same : (a b : A) (l m : List A) → a ≡ b → Agree Ends₁ Ends₂ l m → Agree Ends₁ Ends₂ (a ∷ l) (b ∷ m)
-    left-ends : (a : A) (l m : List A) → Ends₁ a → Agree Ends₁ Ends₂ (a ∷ l) m
-    right-ends : (b : A) (l m : List A) → Ends₂ b → Agree Ends₁ Ends₂ l (b ∷ m)
+  -- alike, one after the other, until one that ends the comparison
+  pub data Agree (Same : A → A → Type 0) (Ends₁ Ends₂ : A → Type 0) : List A → List A → Type 0 where
+    none : Agree Same Ends₁ Ends₂ [] []
+    same : (a b : A) (l m : List A) → Same a b → Agree Same Ends₁ Ends₂ l m → Agree Same Ends₁ Ends₂ (a ∷ l) (b ∷ m)
+    left-ends : (a : A) (l m : List A) → Ends₁ a → Agree Same Ends₁ Ends₂ (a ∷ l) m
+    right-ends : (b : A) (l m : List A) → Ends₂ b → Agree Same Ends₁ Ends₂ l (b ∷ m)
 
 unfoldable pub requestsOf : Side → List Call → List Req
 requestsOf d [] = []
@@ -77,6 +91,9 @@ pub data Silent (d : Side) (words : ℕ) : List Call → Type 0 where
 abbrev pub EndsOrder : Seen → Type 0
 EndsOrder a = (a .number ≡ 11) ⊎ (a .number ≡ 17) ⊎ (a .number ≡ 20)
 
+abbrev pub Equal : Printed → Printed → Type 0
+Equal a b = a ≡ b
+
 abbrev pub Ends20 : Printed → Type 0
 Ends20 a = a .number ≡ 20
 
@@ -91,14 +108,14 @@ Closing n S = (n ≡ 0) ⊎ (n ≡ 10) ⊎ (n ≡ 11) ⊎ (S .isOpen ≡ false)
 pub record Shared (B : Side → Btf) (d : Side) : Type 0 where
   -- "Until an 11, 17 or 20 in either run, its order, layout and cycle refusals are those it would have alone."
   pub order-as-alone : (W : World) (reserve : ℕ) → ledgerShort (W .ledger) reserve ≡ false → (cs : List Call)
-      → Agree EndsOrder EndsOrder (together seen B d (called B W (opens d reserve) .world) cs) (alone seen (B d) (opened (B d)) (requestsOf d cs))
+      → Agree Likewise EndsOrder EndsOrder (together seen B d (called B W (opens d reserve) .world) cs) (alone seen (B d) (opened (B d)) (requestsOf d cs))
   -- the same against a session over a ledger of its own, which may meet 20 too: "in either run"
   pub order-as-over-its-own : (W Z : World) (reserve reserve′ : ℕ) → ledgerShort (W .ledger) reserve ≡ false → ledgerShort (Z .ledger) reserve′ ≡ false → Z .ledger .entries ≡ []
       → (cs ds : List Call) → Silent d (Z .ledger .words) ds → requestsOf d cs ≡ requestsOf d ds
-      → Agree EndsOrder EndsOrder (together seen B d (called B W (opens d reserve) .world) cs) (together seen B d (called B Z (opens d reserve′) .world) ds)
+      → Agree Likewise EndsOrder EndsOrder (together seen B d (called B W (opens d reserve) .world) cs) (together seen B d (called B Z (opens d reserve′) .world) ds)
   -- "Short of 20, equality is claimed for a session whose partner made no request."
   pub equal-short-of-20 : (W : World) (reserve : ℕ) → ledgerShort (W .ledger) reserve ≡ false → W .ledger .entries ≡ [] → (cs : List Call) → Silent d (W .ledger .words) cs
-      → Agree Ends20 Nothing (together printed B d (called B W (opens d reserve) .world) cs) (alone printed (B d) (opened (B d)) (requestsOf d cs))
+      → Agree Equal Ends20 Nothing (together printed B d (called B W (opens d reserve) .world) cs) (alone printed (B d) (opened (B d)) (requestsOf d cs))
   -- "it closes that session only": a call of one side, however it ends, leaves the other side's session
   pub other-kept : (W : World) (e : Side) (words : ℕ) (r : Req) → sameSide d e ≡ false → partOf (called B W (asks e words r) .world) d ≡ partOf W d
   -- 20 closes "otherwise as 12 to 17 do"

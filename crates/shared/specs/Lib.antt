@@ -1,4 +1,5 @@
 pub mod Steps
+pub mod Lines
 pub mod Shared
 pub mod Requests
 pub mod Calls
