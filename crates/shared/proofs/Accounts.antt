@@ -13,7 +13,7 @@ use Rattle.rules.specs.Types.{Name, Btf}
 use Rattle.rules.specs.Machine.{Req}
 use Rattle.rules.specs.Names.{Space, tagSpace, identSpace, Holder, sameSpace, sameBytes, holds, holders, counted}
 use Rattle.shared.specs.Shared.{Account, Ledger, noAccount, account, known, made, taking, passing, numberOf}
-use Rattle.shared.specs.Calls.{capacity, reserved, ledgerShort, joined, begun, Part, Side, kernel, module′, Call, opens, asks, World, partOf, withPart, lent, answered, opening, asking, called, calls, newWorld}
+use Rattle.shared.specs.Calls.{capacity, reserved, ledgerShort, openNumber, joined, begun, Part, Side, kernel, module′, Call, opens, asks, World, partOf, withPart, lent, answered, opening, asking, called, calls, newWorld}
 use Rattle.shared.specs.Accounts.{usedAll, AllHeld, Sound, Reached, here, takes, opened, Claim}
 use Rattle.shared.proofs.Keeps.{answer-keeps}
 
@@ -225,13 +225,23 @@ ledger-own : (W : World) (d : Side) (L : Ledger) (p : Part) → L ≡ withPart W
 ledger-own W kernel L p = refl
 ledger-own W module′ L p = refl
 
+-- an opening that is accepted found the ledger long enough
+opens-long : (other : ℕ) (L : Ledger) (reserve : ℕ) → openNumber other L reserve ≡ 0 → ledgerShort L reserve ≡ false
+unfolding openNumber
+opens-long zero L reserve = λ e. go (ledgerShort L reserve) e
+  where
+    go : (b : Bool) → _≡_ {A = ℕ} (elim b as (λ x. ℕ) [ true ↦ 9 | false ↦ 0 ]) 0 → b ≡ false
+    go true e = absurd (omega (arith, e))
+    go false e = refl
+opens-long (suc n) L reserve = λ e. absurd (omega (arith, e))
+
 -- what every name taken and every opening keeps, all calls keep
 module _ (B : Side → Btf) (I : Ledger → Type 0) (step : (k : ℕ) (space : Space) (name : Name) (L : Ledger) → passing k L space name ≡ false → I L → I (taking k L space name))
     (joins : (L : Ledger) (reserve : ℕ) → ledgerShort L reserve ≡ false → I L → I (joined L reserve)) where
-  opening-keeps : (W : World) (d : Side) (reserve : ℕ) → I (W .ledger) → (b : Bool) → ledgerShort (W .ledger) reserve ≡ b → I (opening B W d reserve b .world .ledger)
+  opening-keeps : (W : World) (d : Side) (reserve : ℕ) → I (W .ledger) → (n : ℕ) → (n ≡ 0 → ledgerShort (W .ledger) reserve ≡ false) → I (opening B W d reserve n .world .ledger)
   unfolding opening
-  opening-keeps W d reserve i true e = i
-  opening-keeps W d reserve i false e = subst I (ledger-own W d (joined (W .ledger) reserve) (begun (B d) (W .ledger) reserve)) (joins (W .ledger) reserve e i)
+  opening-keeps W d reserve i zero e = subst I (ledger-own W d (joined (W .ledger) reserve) (begun (B d) (W .ledger) reserve)) (joins (W .ledger) reserve (e refl) i)
+  opening-keeps W d reserve i (suc n) e = i
 
   asking-keeps : (W : World) (d : Side) (r : Req) → I (W .ledger) → (b : Bool) → I (asking B W d r b .world .ledger)
   unfolding asking
@@ -243,7 +253,7 @@ module _ (B : Side → Btf) (I : Ledger → Type 0) (step : (k : ℕ) (space : S
 
   call-keeps : (W : World) (c : Call) → I (W .ledger) → I (called B W c .world .ledger)
   unfolding called
-  call-keeps W (opens d reserve) i = opening-keeps W d reserve i (ledgerShort (W .ledger) reserve) refl
+  call-keeps W (opens d other reserve) i = opening-keeps W d reserve i (openNumber other (W .ledger) reserve) (opens-long other (W .ledger) reserve)
   call-keeps W (asks d words r) i = asking-keeps W d r i (eqb words (partOf W d .words))
 
   calls-keep : (cs : List Call) (W : World) → I (W .ledger) → I (calls B W cs .ledger)

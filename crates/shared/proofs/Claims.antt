@@ -1,5 +1,5 @@
 -- THE CLAIM of specs/Claims, of every two tables, every list of calls of two sessions in any order. Assumes nothing.
-use Prim.Native.Nat.{ℕ}
+use Prim.Native.Nat.{ℕ, zero, suc}
 use native.Mathlib.Omega.{arith}
 use mathlib.Core.Path.{_≡_, refl, sym, _∙_, ap, subst}
 use mathlib.Core.Bool.{Bool, true, false, true≢false}
@@ -53,13 +53,13 @@ ledger-own W module′ L p = refl
 
 -- what the partner calls leaves the session
 module _ (B : Side → Btf) (W : World) (d e : Side) (q : sameSide d e ≡ false) where
-  opens-kept : (reserve : ℕ) → partOf (called B W (opens e reserve) .world) d ≡ partOf W d
+  opens-kept : (other reserve : ℕ) → partOf (called B W (opens e other reserve) .world) d ≡ partOf W d
   unfolding called opening
-  opens-kept reserve = go (ledgerShort (W .ledger) reserve)
+  opens-kept other reserve = go (openNumber other (W .ledger) reserve)
     where
-      go : (b : Bool) → partOf (opening B W e reserve b .world) d ≡ partOf W d
-      go true = refl
-      go false = part-kept W d e (joined (W .ledger) reserve) (begun (B e) (W .ledger) reserve) q
+      go : (n : ℕ) → partOf (opening B W e reserve n .world) d ≡ partOf W d
+      go zero = part-kept W d e (joined (W .ledger) reserve) (begun (B e) (W .ledger) reserve) q
+      go (suc n) = refl
 
   asks-kept : (words : ℕ) (r : Req) → partOf (called B W (asks e words r) .world) d ≡ partOf W d
   unfolding called asking
@@ -147,16 +147,16 @@ module _ (B : Side → Btf) (d : Side) (wf : WF (tableOf (B d))) where
         (own-call words r)
     asks-by e words r false q = on (called B W (asks e words r) .world) S (subst (λ (x : Part). Sh (x .sess) S) (sym (asks-kept B W d e q words r)) h)
 
-    opens-by : (e : Side) (reserve : ℕ) (b : Bool) → sameSide d e ≡ b
-        → Agree Likewise EndsOrder EndsOrder (elim b as (λ x. List Seen) [ true ↦ [] | false ↦ together seen B d (called B W (opens e reserve) .world) cs ]) (alone seen (B d) S (elim b as (λ x. List Req) [ true ↦ [] | false ↦ requestsOf d cs ]))
+    opens-by : (e : Side) (other reserve : ℕ) (b : Bool) → sameSide d e ≡ b
+        → Agree Likewise EndsOrder EndsOrder (elim b as (λ x. List Seen) [ true ↦ [] | false ↦ together seen B d (called B W (opens e other reserve) .world) cs ]) (alone seen (B d) S (elim b as (λ x. List Req) [ true ↦ [] | false ↦ requestsOf d cs ]))
     unfolding alone
-    opens-by e reserve true q = none
-    opens-by e reserve false q = on (called B W (opens e reserve) .world) S (subst (λ (x : Part). Sh (x .sess) S) (sym (opens-kept B W d e q reserve)) h)
+    opens-by e other reserve true q = none
+    opens-by e other reserve false q = on (called B W (opens e other reserve) .world) S (subst (λ (x : Part). Sh (x .sess) S) (sym (opens-kept B W d e q other reserve)) h)
 
   agrees : (cs : List Call) (W : World) (S : Sess (Ls (Known Names))) → Sh (partOf W d .sess) S → Agrees W S cs
   unfolding together requestsOf alone
   agrees [] W S h = none
-  agrees (opens e reserve ∷ cs) W S h = opens-by W S h cs (λ W′ S′ h′. agrees cs W′ S′ h′) e reserve (sameSide d e) refl
+  agrees (opens e other reserve ∷ cs) W S h = opens-by W S h cs (λ W′ S′ h′. agrees cs W′ S′ h′) e other reserve (sameSide d e) refl
   agrees (asks e words r ∷ cs) W S h = asks-by W S h cs (λ W′ S′ h′. agrees cs W′ S′ h′) e words r (sameSide d e) refl
 
   -- opening leaves the session afresh
@@ -166,11 +166,11 @@ module _ (B : Side → Btf) (d : Side) (wf : WF (tableOf (B d))) where
       let q : Shape (B d .type-cnt) (begun (B d) L reserve .sess .mach) (opened (B d) .mach) = record { rest = refl; lines = no-line; names = tt; sized = record { marks-n = length-replicate (B d .type-cnt) new; emits-n = length-replicate (B d .type-cnt) new } } in
       record { same-open = refl; same-asked = refl; shape = q; live = λ o. q }
 
-  opened-part : (W : World) (reserve : ℕ) → ledgerShort (W .ledger) reserve ≡ false → called B W (opens d reserve) .world ≡ withPart W d (joined (W .ledger) reserve) (begun (B d) (W .ledger) reserve)
-  unfolding called opening
-  opened-part W reserve e = ap (λ (b : Bool). opening B W d reserve b .world) e
+  opened-part : (W : World) (reserve : ℕ) → ledgerShort (W .ledger) reserve ≡ false → called B W (opens d 0 reserve) .world ≡ withPart W d (joined (W .ledger) reserve) (begun (B d) (W .ledger) reserve)
+  unfolding called opening openNumber
+  opened-part W reserve e = ap (λ (b : Bool). opening B W d reserve (elim b as (λ x. ℕ) [ true ↦ 9 | false ↦ 0 ]) .world) e
 
-  pub order-alone : (W : World) (reserve : ℕ) → ledgerShort (W .ledger) reserve ≡ false → (cs : List Call) → Agrees (called B W (opens d reserve) .world) (opened (B d)) cs
+  pub order-alone : (W : World) (reserve : ℕ) → ledgerShort (W .ledger) reserve ≡ false → (cs : List Call) → Agrees (called B W (opens d 0 reserve) .world) (opened (B d)) cs
   order-alone W reserve e cs =
       subst (λ (X : World). Agrees X (opened (B d)) cs) (sym (opened-part W reserve e))
       (agrees cs (withPart W d (joined (W .ledger) reserve) (begun (B d) (W .ledger) reserve)) (opened (B d))
@@ -179,13 +179,13 @@ module _ (B : Side → Btf) (d : Side) (wf : WF (tableOf (B d))) where
 -- ---- a partner that made no request
 
 -- opening of either side leaves the entries
-opens-entries : (B : Side → Btf) (W : World) (e : Side) (reserve : ℕ) → called B W (opens e reserve) .world .ledger .entries ≡ W .ledger .entries
+opens-entries : (B : Side → Btf) (W : World) (e : Side) (other reserve : ℕ) → called B W (opens e other reserve) .world .ledger .entries ≡ W .ledger .entries
 unfolding called opening
-opens-entries B W e reserve = go (ledgerShort (W .ledger) reserve)
+opens-entries B W e other reserve = go (openNumber other (W .ledger) reserve)
   where
-    go : (b : Bool) → opening B W e reserve b .world .ledger .entries ≡ W .ledger .entries
-    go true = refl
-    go false = ap (λ (L : Ledger). L .entries) (ledger-own W e (joined (W .ledger) reserve) (begun (B e) (W .ledger) reserve))
+    go : (n : ℕ) → opening B W e reserve n .world .ledger .entries ≡ W .ledger .entries
+    go zero = ap (λ (L : Ledger). L .entries) (ledger-own W e (joined (W .ledger) reserve) (begun (B e) (W .ledger) reserve))
+    go (suc n) = refl
 
 module _ (B : Side → Btf) (d : Side) (wf : WF (tableOf (B d))) where
   -- the same text, whatever the names
@@ -272,26 +272,26 @@ module _ (B : Side → Btf) (d : Side) (wf : WF (tableOf (B d))) where
       own-side r true q = request r
       own-side r false q = absurd (true≢false (sym (is-same d) ∙ q))
 
-      ready-joined : (e : Side) (reserve : ℕ) → sameSide d e ≡ false → Ready words (called B W (opens e reserve) .world) S
-      ready-joined e reserve q = record {
-        length-kept = ap (λ (x : Part). x .words) (opens-kept B W d e q reserve) ∙ h .length-kept;
-        with-ledger = subst (λ (x : Part). Wh (lent (called B W (opens e reserve) .world .ledger) (x .sess)) S) (sym (opens-kept B W d e q reserve))
-            (lent-whole (called B W (opens e reserve) .world .ledger) (lent (W .ledger) (partOf W d .sess)) S (sym (opens-entries B W e reserve)) (h .with-ledger));
+      ready-joined : (e : Side) (other reserve : ℕ) → sameSide d e ≡ false → Ready words (called B W (opens e other reserve) .world) S
+      ready-joined e other reserve q = record {
+        length-kept = ap (λ (x : Part). x .words) (opens-kept B W d e q other reserve) ∙ h .length-kept;
+        with-ledger = subst (λ (x : Part). Wh (lent (called B W (opens e other reserve) .world .ledger) (x .sess)) S) (sym (opens-kept B W d e q other reserve))
+            (lent-whole (called B W (opens e other reserve) .world .ledger) (lent (W .ledger) (partOf W d .sess)) S (sym (opens-entries B W e other reserve)) (h .with-ledger));
       }
 
-      other-side : (e : Side) (reserve : ℕ) (b : Bool) → sameSide d e ≡ false → sameSide d e ≡ b
-          → Agree (λ a b. a ≡ b) E₁ E₂ (elim b as (λ x. List A) [ true ↦ [] | false ↦ together view₁ B d (called B W (opens e reserve) .world) cs ]) (alone view₂ (B d) S (elim b as (λ x. List Req) [ true ↦ [] | false ↦ requestsOf d cs ]))
-      other-side e reserve true q q′ = absurd (true≢false (sym q′ ∙ q))
-      other-side e reserve false q q′ = on (called B W (opens e reserve) .world) S (ready-joined e reserve q)
+      other-side : (e : Side) (other reserve : ℕ) (b : Bool) → sameSide d e ≡ false → sameSide d e ≡ b
+          → Agree (λ a b. a ≡ b) E₁ E₂ (elim b as (λ x. List A) [ true ↦ [] | false ↦ together view₁ B d (called B W (opens e other reserve) .world) cs ]) (alone view₂ (B d) S (elim b as (λ x. List Req) [ true ↦ [] | false ↦ requestsOf d cs ]))
+      other-side e other reserve true q q′ = absurd (true≢false (sym q′ ∙ q))
+      other-side e other reserve false q q′ = on (called B W (opens e other reserve) .world) S (ready-joined e other reserve q)
 
     equals : (words : ℕ) (cs : List Call) → Silent d words cs → (W : World) (S : Sess (Ls (Known Names))) → Ready words W S → Equals W S cs
     unfolding together requestsOf alone
     equals words _ no-call W S h = none
     equals words _ (own r cs q) W S h = own-side words W S h cs (λ W′ S′ h′. equals words cs q W′ S′ h′) r (sameSide d d) refl
-    equals words _ (joins e reserve cs n q) W S h = other-side words W S h cs (λ W′ S′ h′. equals words cs q W′ S′ h′) e reserve (sameSide d e) n refl
+    equals words _ (joins e other reserve cs n q) W S h = other-side words W S h cs (λ W′ S′ h′. equals words cs q W′ S′ h′) e other reserve (sameSide d e) n refl
 
     pub equal-alone : (W : World) (reserve : ℕ) → ledgerShort (W .ledger) reserve ≡ false → W .ledger .entries ≡ [] → (cs : List Call) → Silent d (W .ledger .words) cs
-        → Equals (called B W (opens d reserve) .world) (opened (B d)) cs
+        → Equals (called B W (opens d 0 reserve) .world) (opened (B d)) cs
     unfolding afresh
     equal-alone W reserve e n cs q =
         let L = joined (W .ledger) reserve in
@@ -320,19 +320,35 @@ module _ (B : Side → Btf) (d : Side) (wf : WF (tableOf (B d))) where
   seen-whole n m S₁ S e h i = record { number = e i; asked = h .same-asked i; listed = h .shape .rest i .olist; defined = h .shape .rest i .emits; forwarded = h .shape .rest i .fwds; lines = h .shape .rest i .pieces }
 
   own-ledger : (W Z : World) (reserve reserve′ : ℕ) → ledgerShort (W .ledger) reserve ≡ false → ledgerShort (Z .ledger) reserve′ ≡ false → Z .ledger .entries ≡ [] → (cs ds : List Call) → Silent d (Z .ledger .words) ds
-      → requestsOf d cs ≡ requestsOf d ds → Agree Likewise EndsOrder EndsOrder (together seen B d (called B W (opens d reserve) .world) cs) (together seen B d (called B Z (opens d reserve′) .world) ds)
+      → requestsOf d cs ≡ requestsOf d ds → Agree Likewise EndsOrder EndsOrder (together seen B d (called B W (opens d 0 reserve) .world) cs) (together seen B d (called B Z (opens d 0 reserve′) .world) ds)
   own-ledger W Z reserve reserve′ e e′ n cs ds q same-requests =
       agree-join Likewise EndsOrder EndsOrder (λ a w. w) _ (alone seen (B d) (opened (B d)) (requestsOf d ds)) _
-      (subst (λ (rs : List Req). Agree Likewise EndsOrder EndsOrder (together seen B d (called B W (opens d reserve) .world) cs) (alone seen (B d) (opened (B d)) rs)) same-requests (order-alone B d wf W reserve e cs))
+      (subst (λ (rs : List Req). Agree Likewise EndsOrder EndsOrder (together seen B d (called B W (opens d 0 reserve) .world) cs) (alone seen (B d) (opened (B d)) rs)) same-requests (order-alone B d wf W reserve e cs))
       (equal-alone B d wf seen seen EndsOrder (λ a. ⊥) seen-whole (λ m S₁ w. inr (inr w)) Z reserve′ e′ n ds q)
 
-opens-number : (B : Side → Btf) (d : Side) (W : World) (reserve : ℕ) → called B W (opens d reserve) .number ≡ openNumber 0 (W .ledger) reserve
-unfolding called opening openNumber
-opens-number B d W reserve = go (ledgerShort (W .ledger) reserve)
-  where
-    go : (b : Bool) → opening B W d reserve b .number ≡ (elim b as (λ x. ℕ) [ true ↦ 9 | false ↦ 0 ])
-    go true = refl
-    go false = refl
+-- ---- opening
+
+module _ (B : Side → Btf) (d : Side) (W : World) where
+  opens-others : (n reserve : ℕ) → (n ≡ 0 → ⊥) → called B W (opens d n reserve) .number ≡ n
+  unfolding called opening openNumber
+  opens-others zero reserve h = absurd (h refl)
+  opens-others (suc n) reserve h = refl
+
+  opens-by-ledger : (reserve : ℕ) (b : Bool) → ledgerShort (W .ledger) reserve ≡ b → called B W (opens d 0 reserve) .number ≡ (elim b [ true ↦ 9 | false ↦ 0 ])
+  unfolding called opening openNumber
+  opens-by-ledger reserve b e = subst (λ (c : Bool). opening B W d reserve (elim c as (λ x. ℕ) [ true ↦ 9 | false ↦ 0 ]) .number ≡ (elim b [ true ↦ 9 | false ↦ 0 ])) (sym e) (go b)
+    where
+      go : (c : Bool) → opening B W d reserve (elim c as (λ x. ℕ) [ true ↦ 9 | false ↦ 0 ]) .number ≡ (elim c [ true ↦ 9 | false ↦ 0 ])
+      go true = refl
+      go false = refl
+
+  opens-leaves : (n reserve : ℕ) → (called B W (opens d n reserve) .number ≡ 0 → ⊥) → called B W (opens d n reserve) .world ≡ W
+  unfolding called opening
+  opens-leaves n reserve = go (openNumber n (W .ledger) reserve)
+    where
+      go : (m : ℕ) → (opening B W d reserve m .number ≡ 0 → ⊥) → opening B W d reserve m .world ≡ W
+      go zero h = absurd (h refl)
+      go (suc m) h = refl
 
 -- THE CLAIM
 pub two-headers : Claim
@@ -342,5 +358,8 @@ two-headers B d wf = record {
   equal-short-of-20 = equal-alone B d wf printed printed Ends20 Nothing (printed-same B d wf) (λ n S₁ w. w);
   other-kept = λ W e words r q. asks-kept B W d e q words r;
   closes = λ W words r. request-closes B W d words r;
-  opening-number = opens-number B d;
+  opening-others = λ W n reserve h. opens-others B d W n reserve h;
+  opening-short = λ W reserve e. opens-by-ledger B d W reserve true e;
+  opening-accepts = λ W reserve e. opens-by-ledger B d W reserve false e;
+  opening-leaves = λ W n reserve h. opens-leaves B d W n reserve h;
 }

@@ -13,7 +13,7 @@ use Rattle.demand.specs.Lists.{Piece, Ls}
 use Rattle.demand.specs.Session.{Known, textOf, answerOf, opened}
 use Rattle.shared.specs.Lines.{SameLines}
 use Rattle.shared.specs.Shared.{Shelf}
-use Rattle.shared.specs.Calls.{Side, kernel, module′, Call, opens, asks, World, partOf, ledgerShort, openNumber, called}
+use Rattle.shared.specs.Calls.{Side, kernel, module′, Call, opens, asks, World, partOf, ledgerShort, called}
 
 -- ---- what is seen of a session after each of its requests
 
@@ -58,7 +58,7 @@ module _ {A : Type 0} where
   -- side d's requests among the calls of both, up to its next opening
   unfoldable pub together : (ℕ → Sess Shelf → A) → (Side → Btf) → Side → World → List Call → List A
   together view B d W [] = []
-  together view B d W (opens e reserve ∷ cs) = elim (sameSide d e) [ true ↦ [] | false ↦ together view B d (called B W (opens e reserve) .world) cs ]
+  together view B d W (opens e other reserve ∷ cs) = elim (sameSide d e) [ true ↦ [] | false ↦ together view B d (called B W (opens e other reserve) .world) cs ]
   together view B d W (asks e words r ∷ cs) =
       elim (sameSide d e) [
         | true ↦ view (called B W (asks e words r) .number) (partOf (called B W (asks e words r) .world) d .sess) ∷ together view B d (called B W (asks e words r) .world) cs
@@ -79,14 +79,14 @@ module _ {A : Type 0} where
 
 unfoldable pub requestsOf : Side → List Call → List Req
 requestsOf d [] = []
-requestsOf d (opens e reserve ∷ cs) = elim (sameSide d e) [ true ↦ [] | false ↦ requestsOf d cs ]
+requestsOf d (opens e other reserve ∷ cs) = elim (sameSide d e) [ true ↦ [] | false ↦ requestsOf d cs ]
 requestsOf d (asks e words r ∷ cs) = elim (sameSide d e) [ true ↦ r ∷ requestsOf d cs | false ↦ requestsOf d cs ]
 
 -- calls of side d alone, lent a ledger of the same length; the partner may open, but "made no request"
 pub data Silent (d : Side) (words : ℕ) : List Call → Type 0 where
   no-call : Silent d words []
   own : (r : Req) (cs : List Call) → Silent d words cs → Silent d words (asks d words r ∷ cs)
-  joins : (e : Side) (reserve : ℕ) (cs : List Call) → sameSide d e ≡ false → Silent d words cs → Silent d words (opens e reserve ∷ cs)
+  joins : (e : Side) (other reserve : ℕ) (cs : List Call) → sameSide d e ≡ false → Silent d words cs → Silent d words (opens e other reserve ∷ cs)
 
 abbrev pub EndsOrder : Seen → Type 0
 EndsOrder a = (a .number ≡ 11) ⊎ (a .number ≡ 17) ⊎ (a .number ≡ 20)
@@ -108,20 +108,24 @@ Closing n S = (n ≡ 0) ⊎ (n ≡ 10) ⊎ (n ≡ 11) ⊎ (S .isOpen ≡ false)
 pub record Shared (B : Side → Btf) (d : Side) : Type 0 where
   -- "Until an 11, 17 or 20 in either run, its order, layout and cycle refusals are those it would have alone."
   pub order-as-alone : (W : World) (reserve : ℕ) → ledgerShort (W .ledger) reserve ≡ false → (cs : List Call)
-      → Agree Likewise EndsOrder EndsOrder (together seen B d (called B W (opens d reserve) .world) cs) (alone seen (B d) (opened (B d)) (requestsOf d cs))
+      → Agree Likewise EndsOrder EndsOrder (together seen B d (called B W (opens d 0 reserve) .world) cs) (alone seen (B d) (opened (B d)) (requestsOf d cs))
   -- the same against a session over a ledger of its own, which may meet 20 too: "in either run"
   pub order-as-over-its-own : (W Z : World) (reserve reserve′ : ℕ) → ledgerShort (W .ledger) reserve ≡ false → ledgerShort (Z .ledger) reserve′ ≡ false → Z .ledger .entries ≡ []
       → (cs ds : List Call) → Silent d (Z .ledger .words) ds → requestsOf d cs ≡ requestsOf d ds
-      → Agree Likewise EndsOrder EndsOrder (together seen B d (called B W (opens d reserve) .world) cs) (together seen B d (called B Z (opens d reserve′) .world) ds)
+      → Agree Likewise EndsOrder EndsOrder (together seen B d (called B W (opens d 0 reserve) .world) cs) (together seen B d (called B Z (opens d 0 reserve′) .world) ds)
   -- "Short of 20, equality is claimed for a session whose partner made no request."
   pub equal-short-of-20 : (W : World) (reserve : ℕ) → ledgerShort (W .ledger) reserve ≡ false → W .ledger .entries ≡ [] → (cs : List Call) → Silent d (W .ledger .words) cs
-      → Agree Equal Ends20 Nothing (together printed B d (called B W (opens d reserve) .world) cs) (alone printed (B d) (opened (B d)) (requestsOf d cs))
+      → Agree Equal Ends20 Nothing (together printed B d (called B W (opens d 0 reserve) .world) cs) (alone printed (B d) (opened (B d)) (requestsOf d cs))
   -- "it closes that session only": a call of one side, however it ends, leaves the other side's session
   pub other-kept : (W : World) (e : Side) (words : ℕ) (r : Req) → sameSide d e ≡ false → partOf (called B W (asks e words r) .world) d ≡ partOf W d
   -- 20 closes "otherwise as 12 to 17 do"
   pub closes : (W : World) (words : ℕ) (r : Req) → Closing (called B W (asks d words r) .number) (partOf (called B W (asks d words r) .world) d .sess)
-  -- opening answers as its causes say: 9 for the ledger comes last
-  pub opening-number : (W : World) (reserve : ℕ) → called B W (opens d reserve) .number ≡ openNumber 0 (W .ledger) reserve
+  -- "9 also when ..": an opening that another cause refuses by a number answers that, and 9 for the ledger comes last
+  pub opening-others : (W : World) (n reserve : ℕ) → (n ≡ 0 → ⊥) → called B W (opens d n reserve) .number ≡ n
+  pub opening-short : (W : World) (reserve : ℕ) → ledgerShort (W .ledger) reserve ≡ true → called B W (opens d 0 reserve) .number ≡ 9
+  pub opening-accepts : (W : World) (reserve : ℕ) → ledgerShort (W .ledger) reserve ≡ false → called B W (opens d 0 reserve) .number ≡ 0
+  -- an opening that is refused leaves both sessions and the ledger
+  pub opening-leaves : (W : World) (n reserve : ℕ) → (called B W (opens d n reserve) .number ≡ 0 → ⊥) → called B W (opens d n reserve) .world ≡ W
 
 abbrev pub Claim : Type 0
 Claim = (B : Side → Btf) (d : Side) → WF (tableOf (B d)) → Shared B d
