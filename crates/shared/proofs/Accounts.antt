@@ -15,11 +15,11 @@ use Rattle.rules.specs.Names.{Space, tagSpace, identSpace, Holder, sameSpace, s
 use Rattle.shared.specs.Shared.{Account, Ledger, noAccount, account, known, made, taking, passing, numberOf}
 use Rattle.shared.specs.Calls.{capacity, reserved, ledgerShort, openNumber, joined, begun, Part, Side, kernel, module′, Call, opens, asks, World, partOf, withPart, lent, answered, opening, asking, called, calls, newWorld}
 use Rattle.shared.specs.Accounts.{usedAll, AllHeld, Sound, Reached, here, takes, opened, Claim}
-use Rattle.shared.proofs.Keeps.{answer-keeps}
+use Rattle.shared.proofs.Keeps.{ledger-keeps}
 
 -- ---- one more holder
 
-more-least : (n : ℕ) → n ≤ oneMore n
+pub more-least : (n : ℕ) → n ≤ oneMore n
 unfolding oneMore
 more-least n = go (ltb n 4294967295)
   where
@@ -27,7 +27,7 @@ more-least n = go (ltb n 4294967295)
     go true = omega arith
     go false = omega arith
 
-more-some : (n : ℕ) → 1 ≤ oneMore n
+pub more-some : (n : ℕ) → 1 ≤ oneMore n
 unfolding oneMore
 more-some n = go (ltb n 4294967295) refl
   where
@@ -35,7 +35,7 @@ more-some n = go (ltb n 4294967295) refl
     go true q = omega arith
     go false q = omega (arith, ltb-false n 4294967295 q)
 
-more-is : (n : ℕ) → n < 4294967295 → oneMore n ≡ n + 1
+pub more-is : (n : ℕ) → n < 4294967295 → oneMore n ≡ n + 1
 unfolding oneMore
 more-is n l = go (ltb n 4294967295) refl
   where
@@ -60,7 +60,7 @@ module _ (space : Space) (name : Name) where
   abbrev more-of : Holder → Holder
   more-of h = record { space = h .space; name = h .name; count = oneMore (h .count) }
 
-  count-here : (l : List Holder) → holders (counted l space name) space name ≡ oneMore (holders l space name)
+  pub count-here : (l : List Holder) → holders (counted l space name) space name ≡ oneMore (holders l space name)
   unfolding holders counted holds oneMore
   count-here [] = ap (λ (t : Bool). elim t as (λ z. ℕ) [ true ↦ 1 | false ↦ 0 ]) (holds-self 1)
   count-here (h ∷ l) = go (holds h space name) refl (count-here l)
@@ -71,7 +71,7 @@ module _ (space : Space) (name : Name) where
       go false e i = ap (λ (t : Bool). elim t as (λ z. ℕ) [ true ↦ h .count | false ↦ holders (counted l space name) space name ]) e ∙ i
 
   -- no count falls
-  grows : (space′ : Space) (name′ : Name) (l : List Holder) → holders l space′ name′ ≤ holders (counted l space name) space′ name′
+  pub grows : (space′ : Space) (name′ : Name) (l : List Holder) → holders l space′ name′ ≤ holders (counted l space name) space′ name′
   unfolding holders counted holds
   grows space′ name′ [] = zero-le
   grows space′ name′ (h ∷ l) = go (holds h space name) (grows space′ name′ l)
@@ -249,7 +249,7 @@ module _ (B : Side → Btf) (I : Ledger → Type 0) (step : (k : ℕ) (space : S
   asking-keeps W d r i true =
       let a = answered (B d) (partOf W d) (W .ledger) r in
       subst I (ledger-own W d (a .sess .mach .known .names .ledger) (record { number = partOf W d .number; words = partOf W d .words; sess = a .sess }))
-      (answer-keeps I (partOf W d .number) (step (partOf W d .number)) (B d) (lent (W .ledger) (partOf W d .sess)) r i)
+      (ledger-keeps I (partOf W d .number) (step (partOf W d .number)) (B d) (lent (W .ledger) (partOf W d .sess)) r i)
 
   call-keeps : (W : World) (c : Call) → I (W .ledger) → I (called B W c .world .ledger)
   unfolding called
@@ -267,7 +267,7 @@ new-sound words = sound-of (newWorld words .ledger) (λ k. zero-le) refl zero-le
 
 -- ---- numbers
 
-taking-entries : (k : ℕ) (L : Ledger) (space : Space) (name : Name) → taking k L space name .entries ≡ counted (L .entries) space name
+pub taking-entries : (k : ℕ) (L : Ledger) (space : Space) (name : Name) → taking k L space name .entries ≡ counted (L .entries) space name
 unfolding taking
 taking-entries k L space name = go (eqb (holders (L .entries) space name) 0)
   where

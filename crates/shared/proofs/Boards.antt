@@ -23,7 +23,7 @@ use Rattle.demand.specs.Session.{Known, fitting, lineOf}
 use Rattle.demand.proofs.Lists.{Sized}
 use Rattle.demand.proofs.Alike.{AlikeStore}
 use Rattle.shared.specs.Steps.{Steps, told, definitionSteps, forwardSteps}
-use Rattle.shared.specs.Shared.{Ledger, Held, taking, typeShared, valueShared, sharing, numberOf, Played, played, broken, play, playLine, Shelf, holding, playedOn, lineOn}
+use Rattle.shared.specs.Shared.{Ledger, ofType, Held, giving, taking, typeShared, valueShared, sharing, numberOf, Played, played, broken, play, playLine, Shelf, holding, playedOn, lineOn}
 use Rattle.shared.specs.Lines.{ButNumbers, SameLine, same-body, same-other, SameLines, no-line, next-line}
 use Rattle.shared.proofs.Told.{definition-told, forward-told, SameEnd, both-whole, both-cut, definition-ends, forward-ends}
 use Rattle.shared.proofs.Play.{PlaysAs, over, fits, cuts, full, plays-as}
@@ -158,7 +158,7 @@ type-at k space id name h = go (eqb (getD (h .versions) id 0) 0)
     go : (b : Bool) → RelResolved SameNames
         (elim b as (λ x. Resolved Held) [
           | false ↦ record { version = getD (h .versions) id 0; names = h }
-          | true ↦ record { version = numberOf (h .ledger) space name; names = record { versions = set (h .versions) id (numberOf (h .ledger) space name); ledger = taking k (h .ledger) space name } }
+          | true ↦ record { version = numberOf (h .ledger) space name; names = record { versions = set (h .versions) id (numberOf (h .ledger) space name); given = giving space (ofType id) name h; ledger = taking k (h .ledger) space name } }
         ])
         (elim b as (λ x. Resolved Names) [
           | false ↦ record { version = getD (h .versions) id 0; names = namesOf h }
@@ -167,9 +167,9 @@ type-at k space id name h = go (eqb (getD (h .versions) id 0) 0)
     go true = (refl, (refl, taking-entries k (h .ledger) space name))
     go false = (refl, (refl, refl))
 
-value-at : (k : ℕ) (name : Name) (h : Held) → RelResolved SameNames (valueShared k name h) (valueVersion name (namesOf h))
+value-at : (k id i : ℕ) (name : Name) (h : Held) → RelResolved SameNames (valueShared k id i name h) (valueVersion name (namesOf h))
 unfolding valueShared valueVersion
-value-at k name h = (refl, (refl, taking-entries k (h .ledger) identSpace name))
+value-at k id i name h = (refl, (refl, taking-entries k (h .ledger) identSpace name))
 
 abbrev AnyType : Space → ℕ → Name → Type 0
 AnyType space id name = Unit {0}
@@ -204,7 +204,7 @@ module _ (k : ℕ) where
   same-naming : RelNaming SameNames AnyType AnyValue (sharing k) naming
   same-naming = record {
     rel-type = λ space id name f e h u q. subst (λ (x : Names). RelResolved SameNames (typeShared k space id name h) (typeVersion space id name x)) (is-names h u q) (type-at k space id name h);
-    rel-value = λ id i name f h u q. subst (λ (x : Names). RelResolved SameNames (valueShared k name h) (valueVersion name x)) (is-names h u q) (value-at k name h);
+    rel-value = λ id i name f h u q. subst (λ (x : Names). RelResolved SameNames (valueShared k id i name h) (valueVersion name x)) (is-names h u q) (value-at k id i name h);
   }
 
   module _ (n : ℕ) (mk : List ℕ → Piece) (s : Shelf) (t : Ls (Known Names)) (q : Whole n s t) where

@@ -16,7 +16,7 @@ use Rattle.demand.specs.Needs.{WF}
 use Rattle.demand.specs.Lists.{Ls, afresh}
 use Rattle.demand.specs.Session.{Known, textOf, answerOf, opened}
 use Rattle.demand.proofs.Lists.{Sized}
-use Rattle.shared.specs.Shared.{Ledger, Held, Shelf, holding}
+use Rattle.shared.specs.Shared.{Ledger, Held, over, Shelf, holding}
 use Rattle.shared.specs.Requests.{answerOn}
 use Rattle.shared.specs.Calls.{Side, kernel, module′, Call, opens, asks, World, Part, partOf, withPart, lent, ledgerShort, openNumber, joined, begun, opening, asking, called, answered}
 use Rattle.shared.specs.Lines.{no-line}
@@ -82,8 +82,8 @@ module _ (B : Side → Btf) (d : Side) (wf : WF (tableOf (B d))) where
   lent-shape L S₁ S h = record {
     same-open = h .same-open;
     same-asked = h .same-asked;
-    shape = any-names (S₁ .mach) (S .mach) (record { versions = S₁ .mach .known .names .versions; ledger = L }) (h .shape);
-    live = λ o. any-names (S₁ .mach) (S .mach) (record { versions = S₁ .mach .known .names .versions; ledger = L }) (h .live o);
+    shape = any-names (S₁ .mach) (S .mach) (over L (S₁ .mach .known .names)) (h .shape);
+    live = λ o. any-names (S₁ .mach) (S .mach) (over L (S₁ .mach .known .names)) (h .live o);
   }
 
   seen-same : (n m : ℕ) (S₁ : Sess Shelf) (S : Sess (Ls (Known Names))) → n ≡ m → Sh S₁ S → Likewise (seen n S₁) (seen m S)
@@ -203,7 +203,7 @@ module _ (B : Side → Btf) (d : Side) (wf : WF (tableOf (B d))) where
   lent-whole L S₁ S e h = record {
     same-open = h .same-open;
     same-asked = h .same-asked;
-    shape = other-names (S₁ .mach) (S .mach) (record { versions = S₁ .mach .known .names .versions; ledger = L }) (h .shape);
+    shape = other-names (S₁ .mach) (S .mach) (over L (S₁ .mach .known .names)) (h .shape);
     live = λ o. record { rest = h .live o .rest; lines = tt; names = (h .live o .names .0, sym e ∙ h .live o .names .1); sized = h .live o .sized };
   }
 

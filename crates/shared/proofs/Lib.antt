@@ -9,3 +9,4 @@ pub mod Claims
 pub mod Keeps
 pub mod Accounts
 pub mod Closes
+pub mod Spellings

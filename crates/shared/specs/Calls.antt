@@ -8,7 +8,7 @@ use Rattle.rules.specs.Types.{Btf}
 use Rattle.rules.specs.Machine.{Sess, Answer, Req}
 use Rattle.demand.specs.Lists.{afresh}
 use Rattle.demand.specs.Session.{textOf}
-use Rattle.shared.specs.Shared.{Account, Ledger, newLedger, Shelf, holding}
+use Rattle.shared.specs.Shared.{Account, Ledger, newLedger, over, Shelf, holding}
 use Rattle.shared.specs.Requests.{answerOn}
 
 -- ---- opening
@@ -41,14 +41,14 @@ pub record Part : Type 0 where
   pub sess : Sess Shelf
 
 abbrev pub unopened : Part
-unopened = record { number = 0; words = 0; sess = record { isOpen = false; mach = afresh 0 (record { names = record { versions = []; ledger = newLedger 0 }; text-len = 0 }); asked = [] } }
+unopened = record { number = 0; words = 0; sess = record { isOpen = false; mach = afresh 0 (record { names = record { versions = []; given = []; ledger = newLedger 0 }; text-len = 0 }); asked = [] } }
 
--- no type of the session has a version; the ledger may have names already
+-- no type of the session has a version, it gave no number; the ledger may have names already
 abbrev pub begun : Btf → Ledger → ℕ → Part
 begun B L reserve = record {
   number = length (L .accounts);
   words = L .words;
-  sess = record { isOpen = true; mach = afresh (B .type-cnt) (record { names = record { versions = replicate (B .type-cnt) 0; ledger = joined L reserve }; text-len = 0 }); asked = [] };
+  sess = record { isOpen = true; mach = afresh (B .type-cnt) (record { names = record { versions = replicate (B .type-cnt) 0; given = []; ledger = joined L reserve }; text-len = 0 }); asked = [] };
 }
 
 -- ---- calls
@@ -78,7 +78,7 @@ withPart W module′ L p = record { ledger = L; first = W .first; second = p }
 
 -- the ledger as it is lent
 abbrev pub lent : Ledger → Sess Shelf → Sess Shelf
-lent L S = record { isOpen = S .isOpen; mach = holding (record { versions = S .mach .known .names .versions; ledger = L }) (S .mach); asked = S .asked }
+lent L S = record { isOpen = S .isOpen; mach = holding (over L (S .mach .known .names)) (S .mach); asked = S .asked }
 
 -- the number, the text's length, and the world after a call
 pub record Called : Type 0 where

@@ -6,3 +6,4 @@ pub mod Calls
 pub mod Samples
 pub mod Claims
 pub mod Accounts
+pub mod Spellings

@@ -23,6 +23,15 @@ numbersFrom B W (c ∷ cs) = called (λ e. B) W c .number ∷ numbersFrom B (cal
 abbrev pub answers : List Call → List ℕ → Sample
 answers cs ns = record { is = numbersFrom tags (newWorld 48) cs; wanted = ns }
 
+-- struct x twice, and one whose own name is x___2
+abbrev pub trio : Btf
+trio = table (Void ∷ Composite true (ascii "x") 0 [] ∷ Composite true (ascii "x") 0 [] ∷ Composite true (ascii "x___2") 0 [] ∷ [])
+
+-- the kernel asks for the first two, the module for the third
+abbrev pub trioHeader : Side → List ℕ
+trioHeader d =
+    headerOf (calls (λ e. trio) (newWorld 48) (opens kernel 0 2 ∷ opens module′ 0 1 ∷ asks kernel 48 (one 100 1) ∷ asks kernel 48 (one 100 2) ∷ asks module′ 48 (one 100 3) ∷ [])) d
+
 -- typedef t, enum e with the value a, a struct s with a pointer to itself
 abbrev pub others : Btf
 others = table (
@@ -71,6 +80,9 @@ sharedSamples =
     ∷ first 1 100 4 0
     -- the names that a refused request took stay
     ∷ gives (header module′ (opens kernel 0 1 ∷ opens module′ 0 3 ∷ asks kernel 48 (one 0 1) ∷ asks module′ 48 (all 100) ∷ [])) "struct x___2 {};\n\nstruct y {};\n\n"
+    -- different names may be spelled alike, in two headers as in one: a suffix yields the other's own name
+    ∷ gives (trioHeader kernel) "struct x {};\n\nstruct x___2 {};\n\n"
+    ∷ gives (trioHeader module′) "struct x___2 {};\n\n"
     -- another cause of opening comes before 9 for the ledger, and leaves all as it was
     ∷ answers (opens kernel 7 5 ∷ opens kernel 0 5 ∷ opens kernel 0 4 ∷ []) (7 ∷ 9 ∷ 0 ∷ [])
     -- a third session; too few entries left; another length
