@@ -13,10 +13,9 @@ use Rattle.text.specs.Text.{Text, whole, cut, bytes}
 use Rattle.rules.specs.Order.{new}
 use Rattle.rules.specs.Writer.{Said, said}
 use Rattle.rules.specs.Layout.{smaller}
-use Rattle.rules.specs.Types.{Name, Enumerator, BtfType, Void, Int, Ptr, Array, Composite, Enum, Enum64, Fwd, Typedef, Mod, Func, Var, Datasec, FuncProto, Float, DeclTag, TypeTag, Btf}
+use Rattle.rules.specs.Types.{Name, Btf}
 use Rattle.rules.specs.Names.{Space, identSpace, Resolved, Naming, Names, naming, holders, counted, typeVersion, valueVersion}
 use Rattle.rules.specs.Emit.{definition, forward}
-use Rattle.rules.proofs.Closed.{ValuesFit, TypeFits}
 use Rattle.rules.proofs.Related.{RelSaid, same, RelResolved, RelNaming, rel-definition, rel-forward}
 use Rattle.demand.specs.Lists.{Piece, defines, other, Line, cannot, Ls, putLine, listStore}
 use Rattle.demand.specs.Session.{Known, fitting, lineOf}
@@ -25,7 +24,8 @@ use Rattle.demand.proofs.Alike.{AlikeStore}
 use Rattle.shared.specs.Steps.{Steps, told, definitionSteps, forwardSteps}
 use Rattle.shared.specs.Shared.{Ledger, ofType, Held, giving, taking, typeShared, valueShared, sharing, numberOf, Played, played, broken, play, playLine, Shelf, holding, playedOn, lineOn}
 use Rattle.shared.specs.Lines.{ButNumbers, SameLine, same-body, same-other, SameLines, no-line, next-line}
-use Rattle.shared.proofs.Told.{definition-told, forward-told, SameEnd, both-whole, both-cut, definition-ends, forward-ends}
+use Rattle.shared.proofs.Steps.{AnyValue}
+use Rattle.shared.proofs.Told.{AnyType, type-fits, any-table, definition-told, forward-told, SameEnd, both-whole, both-cut, definition-ends, forward-ends}
 use Rattle.shared.proofs.Play.{PlaysAs, over, fits, cuts, full, plays-as}
 use Rattle.shared.proofs.Emission.{BothEnd, both-went, both-halted, left-free, right-free, AlikeBoard}
 
@@ -171,35 +171,6 @@ value-at : (k id i : ℕ) (name : Name) (h : Held) → RelResolved SameNames (va
 unfolding valueShared valueVersion
 value-at k id i name h = (refl, (refl, taking-entries k (h .ledger) identSpace name))
 
-abbrev AnyType : Space → ℕ → Name → Type 0
-AnyType space id name = Unit {0}
-
-abbrev AnyValue : ℕ → ℕ → Name → Type 0
-AnyValue id i name = Unit {0}
-
-values-fit : (id i : ℕ) (vs : List Enumerator) → ValuesFit AnyType AnyValue id i vs
-values-fit id i [] = tt
-values-fit id i (x ∷ vs) = (tt, values-fit id (i + 1) vs)
-
-type-fits : (id : ℕ) (t : BtfType) → TypeFits AnyType AnyValue id t
-type-fits id Void = tt
-type-fits id (Int n b) = tt
-type-fits id (Ptr t) = tt
-type-fits id (Array t k) = tt
-type-fits id (Composite s n z ms) = tt
-type-fits id (Enum s n z vs) = (tt, values-fit id 0 vs)
-type-fits id (Enum64 s n z vs) = (tt, values-fit id 0 vs)
-type-fits id (Fwd u n) = tt
-type-fits id (Typedef n t) = tt
-type-fits id (Mod q t) = tt
-type-fits id (Func n) = tt
-type-fits id (Var n) = tt
-type-fits id (Datasec n) = tt
-type-fits id (FuncProto r ps) = tt
-type-fits id (Float n z) = tt
-type-fits id (DeclTag a n t k) = tt
-type-fits id (TypeTag a n t) = tt
-
 module _ (k : ℕ) where
   same-naming : RelNaming SameNames AnyType AnyValue (sharing k) naming
   same-naming = record {
@@ -261,10 +232,10 @@ module _ (k : ℕ) where
   whole-board B = board (λ x. x) (λ l. l) (λ l m. Unit {0}) SameNames naming k B Is20 Never
       (λ mk e s t h x. line-whole (B .type-cnt) mk s t h (forwardSteps B x (B .type-by-id x)) (forward naming B x (B .type-by-id x) (t .known .names))
       (subst (λ (w : Said Held). RelSaid SameNames w (forward naming B x (B .type-by-id x) (t .known .names))) (forward-told (sharing k) B x (B .type-by-id x) (s .known .names))
-      (rel-forward SameNames AnyType AnyValue (sharing k) naming same-naming B (λ id. type-fits id (B .type-by-id id)) x (B .type-by-id x) (type-fits x (B .type-by-id x)) (s .known .names) (t .known .names) (h .names))))
+      (rel-forward SameNames AnyType AnyValue (sharing k) naming same-naming B (any-table B) x (B .type-by-id x) (type-fits x (B .type-by-id x)) (s .known .names) (t .known .names) (h .names))))
       (λ mk e s t h x. line-whole (B .type-cnt) mk s t h (definitionSteps B x (B .type-by-id x)) (definition naming B x (B .type-by-id x) (t .known .names))
       (subst (λ (w : Said Held). RelSaid SameNames w (definition naming B x (B .type-by-id x) (t .known .names))) (definition-told (sharing k) B x (B .type-by-id x) (s .known .names))
-      (rel-definition SameNames AnyType AnyValue (sharing k) naming same-naming B (λ id. type-fits id (B .type-by-id id)) x (B .type-by-id x) (type-fits x (B .type-by-id x)) (s .known .names) (t .known .names) (h .names))))
+      (rel-definition SameNames AnyType AnyValue (sharing k) naming same-naming B (any-table B) x (B .type-by-id x) (type-fits x (B .type-by-id x)) (s .known .names) (t .known .names) (h .names))))
 
 -- ---- any names: marks, lists, and the lines but for their numbers, until 17 or 20
 

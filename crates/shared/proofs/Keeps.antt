@@ -12,9 +12,13 @@ use Rattle.rules.specs.Types.{Name, Btf, tableOf}
 use Rattle.rules.specs.Names.{Space, identSpace, Resolved}
 use Rattle.demand.specs.Lists.{Piece, defines, other, listStore}
 use Rattle.demand.specs.Session.{machineBy}
+use Rattle.rules.proofs.Closed.{TypeFits}
 use Rattle.shared.specs.Steps.{Steps, end, prints, refuses, takesType, takesValue, definitionSteps, forwardSteps}
 use Rattle.shared.specs.Shared.{Ledger, ofType, Held, over, giving, numberOf, taking, sharing, passing, typeShared, valueShared, typePasses, unless, Played, played, broken, onTop, from20, play, playLine, End, went, halted, Shelf, playedOn, lineOn}
 use Rattle.shared.specs.Requests.{ebind, eachOn, onceOn, mentionOn, againOn, closeOn, leafEnd, withinOn, beginOn, allowedOn, lookOn, emitOn, shutOn, emittedOn, orderedOn, gateOn, singleOn, onwardOn, fromOn, everyOn, answerOn}
+use Rattle.shared.proofs.Steps.{AnyValue}
+use Rattle.shared.proofs.Told.{AnyType, any-table}
+use Rattle.shared.proofs.Asks.{Asks, asks-definition, asks-forward}
 
 -- what is asked to be kept
 module _ (I : Held → Type 0) where
@@ -91,7 +95,7 @@ module _ (I : Held → Type 0) where
 
   -- ---- lines
 
-  module _ (k : ℕ) (type-kept : (space : Space) (id : ℕ) (name : Name) (h : Held) → I h → typePasses k space id name h ≡ false → I (typeShared k space id name h .names))
+  module _ (Fits : Space → ℕ → Name → Type 0) (k : ℕ) (type-kept : (space : Space) (id : ℕ) (name : Name) (h : Held) → Fits space id name → I h → typePasses k space id name h ≡ false → I (typeShared k space id name h .names))
       (value-kept : (id i : ℕ) (name : Name) (h : Held) → I h → passing k (h .ledger) identSpace name ≡ false → I (valueShared k id i name h .names)) where
     kp-top : (a : List ℕ) {p : Played} → KeptPlay p → KeptPlay (onTop a p)
     unfolding onTop
@@ -107,27 +111,27 @@ module _ (I : Held → Type 0) where
     kp-if true p q h g = h
     kp-if false p q h g = g
 
-    kp-play : (limit : ℕ) (p : Steps) (len : ℕ) (h : Held) → I h → KeptPlay (play k limit len p h)
+    kp-play : (limit : ℕ) (p : Steps) → Asks Fits p → (len : ℕ) (h : Held) → I h → KeptPlay (play k limit len p h)
     unfolding play
-    kp-play limit end len h i = k-played h [] i
-    kp-play limit (prints a p) len h i =
-        kp-if (leb (len + length a) limit) (onTop a (play k limit (len + length a) p h)) (broken h 17) (kp-top a (kp-play limit p (len + length a) h i)) (k-broken h 17 i)
-    kp-play limit (refuses c) len h i = k-broken h c i
-    kp-play limit (takesType space id name f) len h i =
-        kp-named h (typeShared k space id name h) (λ v h′. play k limit len (f v) h′) i (typePasses k space id name h) (type-kept space id name h i) (λ v h′ i′. kp-play limit (f v) len h′ i′)
-    kp-play limit (takesValue id j name f) len h i =
-        kp-named h (valueShared k id j name h) (λ v h′. play k limit len (f v) h′) i (passing k (h .ledger) identSpace name) (value-kept id j name h i) (λ v h′ i′. kp-play limit (f v) len h′ i′)
+    kp-play limit end f len h i = k-played h [] i
+    kp-play limit (prints a p) f len h i =
+        kp-if (leb (len + length a) limit) (onTop a (play k limit (len + length a) p h)) (broken h 17) (kp-top a (kp-play limit p f (len + length a) h i)) (k-broken h 17 i)
+    kp-play limit (refuses c) f len h i = k-broken h c i
+    kp-play limit (takesType space id name g) f len h i =
+        kp-named h (typeShared k space id name h) (λ v h′. play k limit len (g v) h′) i (typePasses k space id name h) (type-kept space id name h (f .0) i) (λ v h′ i′. kp-play limit (g v) (f .1 v) len h′ i′)
+    kp-play limit (takesValue id j name g) f len h i =
+        kp-named h (valueShared k id j name h) (λ v h′. play k limit len (g v) h′) i (passing k (h .ledger) identSpace name) (value-kept id j name h i) (λ v h′ i′. kp-play limit (g v) (f v) len h′ i′)
 
     kp-on : (mk : List ℕ → Piece) (s : Shelf) {p : Played} → KeptPlay p → KeptEnd (playedOn mk s p)
     unfolding playedOn
     kp-on mk s (k-played h a i) = k-went _ i
     kp-on mk s (k-broken h e i) = k-halted _ e i
 
-    ke-line : (mk : List ℕ → Piece) (s : Shelf) (p : Steps) → I (s .known .names) → KeptEnd (lineOn k mk s p)
+    ke-line : (mk : List ℕ → Piece) (s : Shelf) (p : Steps) → Asks Fits p → I (s .known .names) → KeptEnd (lineOn k mk s p)
     unfolding lineOn playLine
-    ke-line mk s p i =
+    ke-line mk s p f i =
         kp-on _ s (kp-if (leb (s .known .text-len) (smaller (s .room) 1073741824)) (play k (smaller (s .room) 1073741824) (s .known .text-len) p (s .known .names)) (broken (s .known .names) 17)
-        (kp-play (smaller (s .room) 1073741824) p (s .known .text-len) (s .known .names) i) (k-broken (s .known .names) 17 i))
+        (kp-play (smaller (s .room) 1073741824) p f (s .known .text-len) (s .known .names) i) (k-broken (s .known .names) 17 i))
 
     -- ---- emission
 
@@ -141,12 +145,12 @@ module _ (I : Held → Type 0) where
     ke-each f hf [] s i = k-went s i
     ke-each f hf (y ∷ ys) s i = ke-bind (eachOn f ys) (hf s y i) (λ s′ i′. ke-each f hf ys s′ i′)
 
-    module _ (B : Btf) where
+    module _ (B : Btf) (fits : (id : ℕ) → TypeFits Fits AnyValue id (B .type-by-id id)) where
       module _ (x : ℕ) where
         ke-once : (b : Bool) (s : Shelf) → I (s .known .names) → KeptEnd (onceOn k B x b s)
         unfolding onceOn
         ke-once true s i = k-went s i
-        ke-once false s i = ke-bind (λ s′. went (machineBy (sharing k) B .forwarded x s′)) (ke-line other s (forwardSteps B x (B .type-by-id x)) i) (λ s′ i′. k-went _ i′)
+        ke-once false s i = ke-bind (λ s′. went (machineBy (sharing k) B .forwarded x s′)) (ke-line other s (forwardSteps B x (B .type-by-id x)) (asks-forward Fits B fits x) i) (λ s′ i′. k-went _ i′)
 
         ke-mention : (b nm : Bool) (s : Shelf) → I (s .known .names) → KeptEnd (mentionOn k B b nm x s)
         unfolding mentionOn
@@ -167,12 +171,12 @@ module _ (I : Held → Type 0) where
 
         ke-close : (top : Bool) (s : Shelf) → I (s .known .names) → KeptEnd (closeOn k B top x s)
         unfolding closeOn
-        ke-close true s i = ke-bind (λ s′. went (machineBy (sharing k) B .emark done x s′)) (ke-line (defines x) s (definitionSteps B x (B .type-by-id x)) i) (λ s′ i′. k-went _ i′)
+        ke-close true s i = ke-bind (λ s′. went (machineBy (sharing k) B .emark done x s′)) (ke-line (defines x) s (definitionSteps B x (B .type-by-id x)) (asks-definition Fits B fits x) i) (λ s′ i′. k-went _ i′)
         ke-close false s i = k-went _ i
 
         ke-leaf : (b : Bool) (s : Shelf) → I (s .known .names) → KeptEnd (leafEnd k B b x s)
         unfolding leafEnd
-        ke-leaf true s i = ke-bind (λ s′. went (machineBy (sharing k) B .emark done x s′)) (ke-line other s (definitionSteps B x (B .type-by-id x)) i) (λ s′ i′. k-went _ i′)
+        ke-leaf true s i = ke-bind (λ s′. went (machineBy (sharing k) B .emark done x s′)) (ke-line other s (definitionSteps B x (B .type-by-id x)) (asks-definition Fits B fits x) i) (λ s′ i′. k-went _ i′)
         ke-leaf false s i = k-went _ i
 
         module _ (rec : Shelf → ℕ → ℕ → End Shelf) (keeps : (s : Shelf) (y c : ℕ) → I (s .known .names) → KeptEnd (rec s y c)) (s : Shelf) (cont : ℕ) (i : I (s .known .names)) where
@@ -230,20 +234,20 @@ module _ (I : Held → Type 0) (k : ℕ) (lost : (space : Space) (name : Name) (
 
 -- ---- requests: what is kept, and what a refusal keeps, which leaves the names that were taken
 
-module _ (I : Held → Type 0) (k : ℕ) (type-kept : (space : Space) (id : ℕ) (name : Name) (h : Held) → I h → typePasses k space id name h ≡ false → I (typeShared k space id name h .names))
+module _ (I : Held → Type 0) (Fits : Space → ℕ → Name → Type 0) (k : ℕ) (type-kept : (space : Space) (id : ℕ) (name : Name) (h : Held) → Fits space id name → I h → typePasses k space id name h ≡ false → I (typeShared k space id name h .names))
     (value-kept : (id i : ℕ) (name : Name) (h : Held) → I h → passing k (h .ledger) identSpace name ≡ false → I (valueShared k id i name h .names))
     (lost : (space : Space) (name : Name) (h : Held) → I h → passing k (h .ledger) space name ≡ false → I (over (taking k (h .ledger) space name) h)) where
   -- of what is held, and of what was held at first, over the ledger as it is
   abbrev Two : Held → Held → Type 0
   Two g h = I h × I (over (h .ledger) g)
 
-  two-type : (g : Held) (space : Space) (id : ℕ) (name : Name) (h : Held) → Two g h → typePasses k space id name h ≡ false → Two g (typeShared k space id name h .names)
-  two-type g space id name h i e = (type-kept space id name h (i .0) e, type-lost I k lost g space id name h (i .1) e)
+  two-type : (g : Held) (space : Space) (id : ℕ) (name : Name) (h : Held) → Fits space id name → Two g h → typePasses k space id name h ≡ false → Two g (typeShared k space id name h .names)
+  two-type g space id name h f i e = (type-kept space id name h f (i .0) e, type-lost I k lost g space id name h (i .1) e)
 
   two-value : (g : Held) (id j : ℕ) (name : Name) (h : Held) → Two g h → passing k (h .ledger) identSpace name ≡ false → Two g (valueShared k id j name h .names)
   two-value g id j name h i e = (value-kept id j name h (i .0) e, value-lost I k lost g id j name h (i .1) e)
 
-  module _ (B : Btf) where
+  module _ (B : Btf) (fits : (id : ℕ) → TypeFits Fits AnyValue id (B .type-by-id id)) where
     abbrev Ia : Answer Shelf → Type 0
     Ia a = I (a .sess .mach .known .names)
 
@@ -256,7 +260,7 @@ module _ (I : Held → Type 0) (k : ℕ) (type-kept : (space : Space) (id : ℕ)
     unfolding orderedOn shutOn
     ka-ordered S x i (k-ok s b j) =
         let g = S .mach .known .names in
-        ka-emitted S x (ke-each (Two g) k (two-type g) (two-value g) (λ m y. emitOn k B 512 m y 0) (λ s′ y i′. ke-emit (Two g) k (two-type g) (two-value g) B 512 s′ y 0 i′) (s .olist) s j)
+        ka-emitted S x (ke-each (Two g) Fits k (two-type g) (two-value g) (λ m y. emitOn k B 512 m y 0) (λ s′ y i′. ke-emit (Two g) Fits k (two-type g) (two-value g) B fits 512 s′ y 0 i′) (s .olist) s j)
     ka-ordered S x i (k-refused e) = i .1
 
     ka-gate : (room : ℕ) (S : Sess Shelf) (x : ℕ) → I (S .mach .known .names) → (o b : Bool) → Ia (gateOn k B room S x o b)
@@ -294,8 +298,8 @@ module _ (I : Held → Type 0) (k : ℕ) (type-kept : (space : Space) (id : ℕ)
 module _ (I : Ledger → Type 0) (k : ℕ) (step : (space : Space) (name : Name) (L : Ledger) → passing k L space name ≡ false → I L → I (taking k L space name)) where
   pub ledger-keeps : (B : Btf) (S : Sess Shelf) (r : Req) → I (S .mach .known .names .ledger) → I (answerOn k B S r .sess .mach .known .names .ledger)
   ledger-keeps B S r i =
-      answer-keeps (λ h. I (h .ledger)) k (λ space id name h j e. type-lost (λ h′. I (h′ .ledger)) k (λ space′ name′ h′ j′ e′. step space′ name′ (h′ .ledger) e′ j′) h space id name h j e) (λ id x name h j e. valued id x name h j e)
-      (λ space name h j e. step space name (h .ledger) e j) B S r i
+      answer-keeps (λ h. I (h .ledger)) AnyType k (λ space id name h f j e. type-lost (λ h′. I (h′ .ledger)) k (λ space′ name′ h′ j′ e′. step space′ name′ (h′ .ledger) e′ j′) h space id name h j e) (λ id x name h j e. valued id x name h j e)
+      (λ space name h j e. step space name (h .ledger) e j) B (any-table B) S r i
     where
       valued : (id x : ℕ) (name : Name) (h : Held) → I (h .ledger) → passing k (h .ledger) identSpace name ≡ false → I (valueShared k id x name h .names .ledger)
       valued id x name h j e = value-lost (λ h′. I (h′ .ledger)) k (λ space′ name′ h′ j′ e′. step space′ name′ (h′ .ledger) e′ j′) h id x name h j e

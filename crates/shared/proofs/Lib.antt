@@ -1,6 +1,7 @@
 pub mod Samples
 pub mod Steps
 pub mod Told
+pub mod Asks
 pub mod Play
 pub mod Emission
 pub mod Requests

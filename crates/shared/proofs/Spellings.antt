@@ -14,12 +14,13 @@ use Rattle.text.specs.Text.{ascii}
 use Rattle.text.specs.Decimal.{decimal}
 use Rattle.text.proofs.Digits.{horner, decimal-is}
 use Rattle.rules.specs.Machine.{Req}
-use Rattle.rules.specs.Types.{Name, Btf}
+use Rattle.rules.specs.Types.{Name, Btf, nameOf}
 use Rattle.rules.specs.Names.{Space, identSpace, Resolved, Holder, spelled, holders, counted}
 use Rattle.demand.specs.Lists.{afresh}
 use Rattle.shared.specs.Shared.{Ledger, Who, ofType, ofValue, Given, Held, over, giving, numberOf, taking, passing, typeShared, valueShared, typePasses}
 use Rattle.shared.specs.Calls.{Side, kernel, module′, Call, opens, asks, World, partOf, lent, openNumber, opening, asking, called, calls, newWorld}
-use Rattle.shared.specs.Spellings.{givenIn, spelling, SameName, Otherwise, AllOtherwise, Got, Few, Unlike, Claim}
+use Rattle.shared.specs.Spellings.{givenIn, spelling, SameName, Otherwise, AllOtherwise, Got, Few, spaceOf, versionIn, Unlike, Claim}
+use Rattle.shared.proofs.Asks.{Own, table-own}
 use Rattle.shared.proofs.Keeps.{answer-keeps}
 use Rattle.shared.proofs.Accounts.{more-least, more-some, more-is, count-here, grows, taking-entries}
 
@@ -64,11 +65,11 @@ AllClash [] = Unit {0}
 AllClash (a ∷ l) = ((b : Given) → List·Memᴰ b l → Clash a b) × AllClash l
 
 -- one session's versions and numbers, the other's, and the entries
-record Pair (vs : List ℕ) (l : List Given) (ws : List ℕ) (m : List Given) (E : List Holder) : Type 0 where
+record Pair (C D : Btf) (vs : List ℕ) (l : List Given) (ws : List ℕ) (m : List Given) (E : List Holder) : Type 0 where
   own₁ : AllClash l
   own₂ : AllClash m
-  types₁ : (id : ℕ) → (getD vs id 0 ≡ 0 → ⊥) → Got id (getD vs id 0) l
-  types₂ : (id : ℕ) → (getD ws id 0 ≡ 0 → ⊥) → Got id (getD ws id 0) m
+  types₁ : (id : ℕ) → (getD vs id 0 ≡ 0 → ⊥) → Got C id (getD vs id 0) l
+  types₂ : (id : ℕ) → (getD ws id 0 ≡ 0 → ⊥) → Got D id (getD ws id 0) m
   bound₁ : (a : Given) → List·Memᴰ a l → Bound E a
   bound₂ : (a : Given) → List·Memᴰ a m → Bound E a
   cross : (a : Given) → List·Memᴰ a l → (b : Given) → List·Memᴰ b m → Clash a b
@@ -76,8 +77,8 @@ record Pair (vs : List ℕ) (l : List Given) (ws : List ℕ) (m : List Given) (E
 same-flip : (a b : Given) → SameName a b → SameName b a
 same-flip a b q = record { same-space = sym (q .same-space); same-name = sym (q .same-name) }
 
-swap : (vs : List ℕ) (l : List Given) (ws : List ℕ) (m : List Given) (E : List Holder) → Pair vs l ws m E → Pair ws m vs l E
-swap vs l ws m E p = record {
+swap : (C D : Btf) (vs : List ℕ) (l : List Given) (ws : List ℕ) (m : List Given) (E : List Holder) → Pair C D vs l ws m E → Pair D C ws m vs l E
+swap C D vs l ws m E p = record {
   own₁ = p .own₂;
   own₂ = p .own₁;
   types₁ = p .types₂;
@@ -97,7 +98,7 @@ stuck n h = ⊎-elim (λ a. at-least a (more-least n)) (λ a. absurd (less (more
     less : oneMore n ≡ n + 1 → ⊥
     less e = omega (arith, e, h)
 
-module _ (vs : List ℕ) (l : List Given) (ws : List ℕ) (m : List Given) (E : List Holder) (p : Pair vs l ws m E) (space : Space) (name : Name) where
+module _ (C D : Btf) (vs : List ℕ) (l : List Given) (ws : List ℕ) (m : List Given) (E : List Holder) (p : Pair C D vs l ws m E) (space : Space) (name : Name) where
   more-bound : (a : Given) → Bound E a → Bound (counted E space name) a
   more-bound a b = (b .0, up (b .1) (grows space name (a .space) (a .name) E))
     where
@@ -105,7 +106,7 @@ module _ (vs : List ℕ) (l : List Given) (ws : List ℕ) (m : List Given) (E : 
       up f g = omega (arith, f, g)
 
   -- a name that a refused request took
-  kept : Pair vs l ws m (counted E space name)
+  kept : Pair C D vs l ws m (counted E space name)
   kept = record {
     own₁ = p .own₁;
     own₂ = p .own₂;
@@ -132,7 +133,7 @@ module _ (vs : List ℕ) (l : List Given) (ws : List ℕ) (m : List Given) (E : 
         below : {x y z w : ℕ} → x ≤ y → z ≡ x → w ≡ y → z ≤ w
         below f g h = omega (arith, f, g, h)
 
-    gave : (us : List ℕ) → ((id : ℕ) → (getD us id 0 ≡ 0 → ⊥) → Got id (getD us id 0) (new-one ∷ l)) → Pair us (new-one ∷ l) ws m (counted E space name)
+    gave : (us : List ℕ) → ((id : ℕ) → (getD us id 0 ≡ 0 → ⊥) → Got C id (getD us id 0) (new-one ∷ l)) → Pair C D us (new-one ∷ l) ws m (counted E space name)
     gave us ts = record {
       own₁ = (λ b i. new-clash b (p .bound₁ b i), p .own₁);
       own₂ = p .own₂;
@@ -144,8 +145,8 @@ module _ (vs : List ℕ) (l : List Given) (ws : List ℕ) (m : List Given) (E : 
     }
 
     -- what was got before
-    got-still : (id v : ℕ) → Got id v l → Got id v (new-one ∷ l)
-    got-still id v g = record { what = g .what; isGiven = List·Memᴰ·tail (g .isGiven); its-id = g .its-id; its-number = g .its-number }
+    got-still : (id v : ℕ) → Got C id v l → Got C id v (new-one ∷ l)
+    got-still id v g = record { what = g .what; isGiven = List·Memᴰ·tail (g .isGiven); its-id = g .its-id; its-space = g .its-space; its-name = g .its-name; its-number = g .its-number }
 
 set-cases : (l : List ℕ) (i v j : ℕ) → ((j ≡ i) × (getD (set l i v) j 0 ≡ v)) ⊎ (getD (set l i v) j 0 ≡ getD l j 0)
 set-cases [] i v j = inr refl
@@ -156,67 +157,74 @@ set-cases (x ∷ l) (suc i) v (suc j) = ⊎-elim (λ q. inl (ap suc (q .0), q .1
 
 -- ---- one session's names, beside the other's
 
-module _ (ws : List ℕ) (m : List Given) where
+module _ (C D : Btf) (ws : List ℕ) (m : List Given) where
   abbrev Beside : Held → Type 0
-  Beside h = Pair (h .versions) (h .given) ws m (h .ledger .entries)
+  Beside h = Pair C D (h .versions) (h .given) ws m (h .ledger .entries)
 
-  on-entries : (k : ℕ) (L : Ledger) (space : Space) (name : Name) (vs : List ℕ) (l : List Given) → Pair vs l ws m (counted (L .entries) space name) → Pair vs l ws m (taking k L space name .entries)
-  on-entries k L space name vs l p = subst (λ (E : List Holder). Pair vs l ws m E) (sym (taking-entries k L space name)) p
+  on-entries : (k : ℕ) (L : Ledger) (space : Space) (name : Name) (vs : List ℕ) (l : List Given) → Pair C D vs l ws m (counted (L .entries) space name) → Pair C D vs l ws m (taking k L space name .entries)
+  on-entries k L space name vs l p = subst (λ (E : List Holder). Pair C D vs l ws m E) (sym (taking-entries k L space name)) p
 
   lost : (k : ℕ) (space : Space) (name : Name) (h : Held) → Beside h → Beside (over (taking k (h .ledger) space name) h)
-  lost k space name h p = on-entries k (h .ledger) space name (h .versions) (h .given) (kept (h .versions) (h .given) ws m (h .ledger .entries) p space name)
+  lost k space name h p = on-entries k (h .ledger) space name (h .versions) (h .given) (kept C D (h .versions) (h .given) ws m (h .ledger .entries) p space name)
 
-  type-new : (k : ℕ) (space : Space) (id : ℕ) (name : Name) (h : Held) → Beside h
+  type-new : (k : ℕ) (space : Space) (id : ℕ) (name : Name) (h : Held) → Own C space id name → Beside h
       → Beside (record { versions = set (h .versions) id (numberOf (h .ledger) space name); given = giving space (ofType id) name h; ledger = taking k (h .ledger) space name })
-  type-new k space id name h p =
-      on-entries k (h .ledger) space name _ _ (gave (h .versions) (h .given) ws m (h .ledger .entries) p space name (ofType id) (set (h .versions) id (numberOf (h .ledger) space name)) ts)
+  type-new k space id name h f p =
+      on-entries k (h .ledger) space name _ _ (gave C D (h .versions) (h .given) ws m (h .ledger .entries) p space name (ofType id) (set (h .versions) id (numberOf (h .ledger) space name)) ts)
     where
-      ts : (j : ℕ) → (getD (set (h .versions) id (numberOf (h .ledger) space name)) j 0 ≡ 0 → ⊥) → Got j (getD (set (h .versions) id (numberOf (h .ledger) space name)) j 0) (giving space (ofType id) name h)
-      ts j n = ⊎-elim (λ q. record { what = record { space = space; who = ofType id; name = name; number = numberOf (h .ledger) space name }; isGiven = List·Memᴰ·head refl; its-id = ap ofType (sym (q .0)); its-number = sym (q .1) })
-          (λ q. subst (λ (x : ℕ). Got j x (giving space (ofType id) name h)) (sym q)
-          (got-still (h .versions) (h .given) ws m (h .ledger .entries) p space name (ofType id) j (getD (h .versions) j 0) (p .types₁ j (λ e. n (q ∙ e))))) (set-cases (h .versions) id (numberOf (h .ledger) space name) j)
+      ts : (j : ℕ) → (getD (set (h .versions) id (numberOf (h .ledger) space name)) j 0 ≡ 0 → ⊥) → Got C j (getD (set (h .versions) id (numberOf (h .ledger) space name)) j 0) (giving space (ofType id) name h)
+      ts j n = ⊎-elim (λ q. record {
+        what = record { space = space; who = ofType id; name = name; number = numberOf (h .ledger) space name };
+        isGiven = List·Memᴰ·head refl;
+        its-id = ap ofType (sym (q .0));
+        its-space = f .0 ∙ ap (λ (x : ℕ). spaceOf (C .type-by-id x)) (sym (q .0));
+        its-name = f .1 ∙ ap (λ (x : ℕ). nameOf (C .type-by-id x)) (sym (q .0));
+        its-number = sym (q .1);
+      })
+          (λ q. subst (λ (x : ℕ). Got C j x (giving space (ofType id) name h)) (sym q)
+          (got-still C D (h .versions) (h .given) ws m (h .ledger .entries) p space name (ofType id) j (getD (h .versions) j 0) (p .types₁ j (λ e. n (q ∙ e))))) (set-cases (h .versions) id (numberOf (h .ledger) space name) j)
 
-  type-kept : (k : ℕ) (space : Space) (id : ℕ) (name : Name) (h : Held) → Beside h → typePasses k space id name h ≡ false → Beside (typeShared k space id name h .names)
+  type-kept : (k : ℕ) (space : Space) (id : ℕ) (name : Name) (h : Held) → Own C space id name → Beside h → typePasses k space id name h ≡ false → Beside (typeShared k space id name h .names)
   unfolding typeShared
-  type-kept k space id name h p e = go (eqb (getD (h .versions) id 0) 0)
+  type-kept k space id name h f p e = go (eqb (getD (h .versions) id 0) 0)
     where
       go : (b : Bool) → Beside ((elim b as (λ x. Resolved Held) [
         | false ↦ record { version = getD (h .versions) id 0; names = h }
         | true ↦ record { version = numberOf (h .ledger) space name; names = record { versions = set (h .versions) id (numberOf (h .ledger) space name); given = giving space (ofType id) name h; ledger = taking k (h .ledger) space name } }
       ]) .names)
-      go true = type-new k space id name h p
+      go true = type-new k space id name h f p
       go false = p
 
   value-kept : (k id i : ℕ) (name : Name) (h : Held) → Beside h → passing k (h .ledger) identSpace name ≡ false → Beside (valueShared k id i name h .names)
   unfolding valueShared
   value-kept k id i name h p e =
-      on-entries k (h .ledger) identSpace name _ _ (gave (h .versions) (h .given) ws m (h .ledger .entries) p identSpace name (ofValue id i) (h .versions)
-      (λ j n. got-still (h .versions) (h .given) ws m (h .ledger .entries) p identSpace name (ofValue id i) j (getD (h .versions) j 0) (p .types₁ j n)))
+      on-entries k (h .ledger) identSpace name _ _ (gave C D (h .versions) (h .given) ws m (h .ledger .entries) p identSpace name (ofValue id i) (h .versions)
+      (λ j n. got-still C D (h .versions) (h .given) ws m (h .ledger .entries) p identSpace name (ofValue id i) j (getD (h .versions) j 0) (p .types₁ j n)))
 
 -- ---- both sessions
 
 abbrev namesIn : World → Side → Held
 namesIn W d = partOf W d .sess .mach .known .names
 
-abbrev Good : World → Type 0
-Good W = Pair (namesIn W kernel .versions) (namesIn W kernel .given) (namesIn W module′ .versions) (namesIn W module′ .given) (W .ledger .entries)
+abbrev Good : (Side → Btf) → World → Type 0
+Good B W = Pair (B kernel) (B module′) (namesIn W kernel .versions) (namesIn W kernel .given) (namesIn W module′ .versions) (namesIn W module′ .given) (W .ledger .entries)
 
-abbrev Turned : World → Type 0
-Turned W = Pair (namesIn W module′ .versions) (namesIn W module′ .given) (namesIn W kernel .versions) (namesIn W kernel .given) (W .ledger .entries)
+abbrev Turned : (Side → Btf) → World → Type 0
+Turned B W = Pair (B module′) (B kernel) (namesIn W module′ .versions) (namesIn W module′ .given) (namesIn W kernel .versions) (namesIn W kernel .given) (W .ledger .entries)
 
-turn : (W : World) → Good W → Turned W
-turn W g = swap (namesIn W kernel .versions) (namesIn W kernel .given) (namesIn W module′ .versions) (namesIn W module′ .given) (W .ledger .entries) g
+turn : (B : Side → Btf) (W : World) → Good B W → Turned B W
+turn B W g = swap (B kernel) (B module′) (namesIn W kernel .versions) (namesIn W kernel .given) (namesIn W module′ .versions) (namesIn W module′ .given) (W .ledger .entries) g
 
-turn-back : (W : World) → Turned W → Good W
-turn-back W g = swap (namesIn W module′ .versions) (namesIn W module′ .given) (namesIn W kernel .versions) (namesIn W kernel .given) (W .ledger .entries) g
+turn-back : (B : Side → Btf) (W : World) → Turned B W → Good B W
+turn-back B W g = swap (B module′) (B kernel) (namesIn W module′ .versions) (namesIn W module′ .given) (namesIn W kernel .versions) (namesIn W kernel .given) (W .ledger .entries) g
 
 no-version : (n id : ℕ) → getD {A = ℕ} (replicate n 0) id 0 ≡ 0
 no-version zero id = refl
 no-version (suc n) zero = refl
 no-version (suc n) (suc id) = no-version n id
 
-afresh-beside : (n : ℕ) (vs : List ℕ) (l : List Given) (ws : List ℕ) (m : List Given) (E : List Holder) → Pair vs l ws m E → Pair (replicate n 0) [] ws m E
-afresh-beside n vs l ws m E p = record {
+afresh-beside : (C D : Btf) (n : ℕ) (vs : List ℕ) (l : List Given) (ws : List ℕ) (m : List Given) (E : List Holder) → Pair C D vs l ws m E → Pair C D (replicate n 0) [] ws m E
+afresh-beside C D n vs l ws m E p = record {
   own₁ = tt;
   own₂ = p .own₂;
   types₁ = λ id h. absurd (h (no-version n id));
@@ -227,41 +235,41 @@ afresh-beside n vs l ws m E p = record {
 }
 
 module _ (B : Side → Btf) where
-  opening-good : (W : World) (d : Side) (reserve n : ℕ) → Good W → Good (opening B W d reserve n .world)
+  opening-good : (W : World) (d : Side) (reserve n : ℕ) → Good B W → Good B (opening B W d reserve n .world)
   unfolding opening afresh
   opening-good W d reserve (suc n) g = g
-  opening-good W kernel reserve zero g = afresh-beside (B kernel .type-cnt) _ _ (namesIn W module′ .versions) (namesIn W module′ .given) (W .ledger .entries) g
+  opening-good W kernel reserve zero g = afresh-beside (B kernel) (B module′) (B kernel .type-cnt) _ _ (namesIn W module′ .versions) (namesIn W module′ .given) (W .ledger .entries) g
   opening-good W module′ reserve zero g =
-      turn-back (opening B W module′ reserve zero .world) (afresh-beside (B module′ .type-cnt) _ _ (namesIn W kernel .versions) (namesIn W kernel .given) (W .ledger .entries) (turn W g))
+      turn-back B (opening B W module′ reserve zero .world) (afresh-beside (B module′) (B kernel) (B module′ .type-cnt) _ _ (namesIn W kernel .versions) (namesIn W kernel .given) (W .ledger .entries) (turn B W g))
 
-  asking-good : (W : World) (d : Side) (r : Req) (b : Bool) → Good W → Good (asking B W d r b .world)
+  asking-good : (W : World) (d : Side) (r : Req) (b : Bool) → Good B W → Good B (asking B W d r b .world)
   unfolding asking
   asking-good W d r false g = g
   asking-good W kernel r true g =
       let k = W .first .number in
       let ws = namesIn W module′ .versions in
       let m = namesIn W module′ .given in
-      answer-keeps (Beside ws m) k (type-kept ws m k) (value-kept ws m k) (λ space name h p e. lost ws m k space name h p) (B kernel) (lent (W .ledger) (W .first .sess)) r g
+      answer-keeps (Beside (B kernel) (B module′) ws m) (Own (B kernel)) k (type-kept (B kernel) (B module′) ws m k) (value-kept (B kernel) (B module′) ws m k) (λ space name h p e. lost (B kernel) (B module′) ws m k space name h p) (B kernel) (table-own (B kernel)) (lent (W .ledger) (W .first .sess)) r g
   asking-good W module′ r true g =
       let k = W .second .number in
       let ws = namesIn W kernel .versions in
       let m = namesIn W kernel .given in
-      turn-back (asking B W module′ r true .world)
-      (answer-keeps (Beside ws m) k (type-kept ws m k) (value-kept ws m k) (λ space name h p e. lost ws m k space name h p) (B module′) (lent (W .ledger) (W .second .sess)) r (turn W g))
+      turn-back B (asking B W module′ r true .world)
+      (answer-keeps (Beside (B module′) (B kernel) ws m) (Own (B module′)) k (type-kept (B module′) (B kernel) ws m k) (value-kept (B module′) (B kernel) ws m k) (λ space name h p e. lost (B module′) (B kernel) ws m k space name h p) (B module′) (table-own (B module′)) (lent (W .ledger) (W .second .sess)) r (turn B W g))
 
-  called-good : (W : World) (c : Call) → Good W → Good (called B W c .world)
+  called-good : (W : World) (c : Call) → Good B W → Good B (called B W c .world)
   unfolding called
   called-good W (opens d other reserve) g = opening-good W d reserve (openNumber other (W .ledger) reserve) g
   called-good W (asks d words r) g = asking-good W d r (eqb words (partOf W d .words)) g
 
-  calls-good : (cs : List Call) (W : World) → Good W → Good (calls B W cs)
+  calls-good : (cs : List Call) (W : World) → Good B W → Good B (calls B W cs)
   unfolding calls
   calls-good [] W g = g
   calls-good (c ∷ cs) W g = calls-good cs (called B W c .world) (called-good W c g)
 
-new-good : (words : ℕ) → Good (newWorld words)
+new-good : (B : Side → Btf) (words : ℕ) → Good B (newWorld words)
 unfolding afresh
-new-good words = record {
+new-good B words = record {
   own₁ = tt;
   own₂ = tt;
   types₁ = λ id h. absurd (h refl);
@@ -289,21 +297,53 @@ module _ (L : Ledger) (few : Few L) where
   all-apart (a ∷ l) f c =
       (λ b i. apart a b (f a (List·Memᴰ·head refl)) (f b (List·Memᴰ·tail i)) (c .0 b i), all-apart l (λ b i. f b (List·Memᴰ·tail i)) (c .1))
 
-own-of : (W : World) → Few (W .ledger) → Good W → (d : Side) → AllOtherwise (givenIn W d)
-own-of W few g kernel = all-apart (W .ledger) few (givenIn W kernel) (g .bound₁) (g .own₁)
-own-of W few g module′ = all-apart (W .ledger) few (givenIn W module′) (g .bound₂) (g .own₂)
+same-id : (i j : ℕ) → ofType i ≡ ofType j → i ≡ j
+same-id i j e = ap idOf e
+  where
+    idOf : Who → ℕ
+    idOf (ofType x) = x
+    idOf (ofValue x y) = x
 
-types-of : (W : World) → Good W → (d : Side) (id : ℕ) → (getD (namesIn W d .versions) id 0 ≡ 0 → ⊥) → Got id (getD (namesIn W d .versions) id 0) (givenIn W d)
-types-of W g kernel = g .types₁
-types-of W g module′ = g .types₂
+-- two of a list that are not one and the same
+two-in : (l : List Given) → AllOtherwise l → (a b : Given) → List·Memᴰ a l → List·Memᴰ b l → (a ≡ b → ⊥) → SameName a b → spelling a ≡ spelling b → ⊥
+two-in [] h a b i j n s t = List·Memᴰ·not-nil i
+two-in (x ∷ l) h a b i j n s t = ⊎-elim
+    (λ p. ⊎-elim (λ q. n (p ∙ sym q)) (λ q. subst (λ (z : Given). Otherwise z l) (sym p) (h .0) b q s t) (List·Memᴰ·cases-cons j))
+    (λ p. ⊎-elim (λ q. subst (λ (z : Given). Otherwise z l) (sym q) (h .0) a p (same-flip a b s) (sym t)) (λ q. two-in l (h .1) a b p q n s t) (List·Memᴰ·cases-cons j)) (List·Memᴰ·cases-cons i)
 
-unlike : (W : World) → Few (W .ledger) → Good W → Unlike W
-unlike W few g = record {
-  own = own-of W few g;
-  each-other = λ a i b j. apart (W .ledger) few a b (g .bound₁ a i) (g .bound₂ b j) (g .cross a i b j);
-  types = types-of W g;
-}
+module _ (B : Side → Btf) (W : World) (few : Few (W .ledger)) (g : Good B W) where
+  own-of : (d : Side) → AllOtherwise (givenIn W d)
+  own-of kernel = all-apart (W .ledger) few (givenIn W kernel) (g .bound₁) (g .own₁)
+  own-of module′ = all-apart (W .ledger) few (givenIn W module′) (g .bound₂) (g .own₂)
+
+  across : (a : Given) → List·Memᴰ a (givenIn W kernel) → Otherwise a (givenIn W module′)
+  across a i b j = apart (W .ledger) few a b (g .bound₁ a i) (g .bound₂ b j) (g .cross a i b j)
+
+  types-of : (d : Side) (id : ℕ) → (versionIn W d id ≡ 0 → ⊥) → Got (B d) id (versionIn W d id) (givenIn W d)
+  types-of kernel = g .types₁
+  types-of module′ = g .types₂
+
+  -- of two types, in one header or in both
+  sides-apart : (d e : Side) (i j : ℕ) (a b : Given) → ((d ≡ e) × (i ≡ j) → ⊥) → List·Memᴰ a (givenIn W d) → List·Memᴰ b (givenIn W e) → a .who ≡ ofType i → b .who ≡ ofType j
+      → SameName a b → spelling a ≡ spelling b → ⊥
+  sides-apart kernel kernel i j a b n x y p q s t = two-in (givenIn W kernel) (own-of kernel) a b x y (λ e. n (refl, same-id i j (sym p ∙ ap (λ (z : Given). z .who) e ∙ q))) s t
+  sides-apart module′ module′ i j a b n x y p q s t = two-in (givenIn W module′) (own-of module′) a b x y (λ e. n (refl, same-id i j (sym p ∙ ap (λ (z : Given). z .who) e ∙ q))) s t
+  sides-apart kernel module′ i j a b n x y p q s t = across a x b y s t
+  sides-apart module′ kernel i j a b n x y p q s t = across b y a x (same-flip a b s) (sym t)
+
+  types-apart : (d e : Side) (i j : ℕ) → ((d ≡ e) × (i ≡ j) → ⊥) → (versionIn W d i ≡ 0 → ⊥) → (versionIn W e j ≡ 0 → ⊥)
+      → spaceOf (B d .type-by-id i) ≡ spaceOf (B e .type-by-id j) → nameOf (B d .type-by-id i) ≡ nameOf (B e .type-by-id j)
+      → spelled (nameOf (B d .type-by-id i)) (versionIn W d i) ≡ spelled (nameOf (B e .type-by-id j)) (versionIn W e j) → ⊥
+  types-apart d e i j n u v s t q =
+      let x = types-of d i u in
+      let y = types-of e j v in
+      sides-apart d e i j (x .what) (y .what) n (x .isGiven) (y .isGiven) (x .its-id) (y .its-id)
+      (record { same-space = x .its-space ∙ s ∙ sym (y .its-space); same-name = x .its-name ∙ t ∙ sym (y .its-name) })
+      ((λ k. spelled (x .its-name k) (x .its-number k)) ∙ q ∙ sym (λ k. spelled (y .its-name k) (y .its-number k)))
+
+  unlike : Unlike B W
+  unlike = record { own = own-of; each-other = across; types = types-of; two-types = types-apart }
 
 -- THE CLAIM
 pub spellings : Claim
-spellings B words cs few = unlike (calls B (newWorld words) cs) few (calls-good B cs (newWorld words) (new-good words))
+spellings B words cs few = unlike B (calls B (newWorld words) cs) few (calls-good B cs (newWorld words) (new-good B words))

@@ -6,13 +6,45 @@ use mathlib.Core.Bool.{Bool, true, false}
 use mathlib.Core.List.{List, [], _∷_, _++_, append-nil, append-assoc}
 use Rattle.text.specs.Text.{ascii, whole, cut, join}
 use Rattle.rules.specs.Writer.{Said, said, Writer, after, next, _⨾_, put, stop}
-use Rattle.rules.specs.Types.{Name, isEmpty, BtfType, Btf}
-use Rattle.rules.specs.Names.{Naming, resolving, spelled}
+use Rattle.rules.specs.Types.{Name, isEmpty, Enumerator, BtfType, Void, Int, Ptr, Array, Composite, Enum, Enum64, Fwd, Typedef, Mod, Func, Var, Datasec, FuncProto, Float, DeclTag, TypeTag, Btf}
+use Rattle.rules.specs.Names.{Space, Naming, resolving, spelled}
 use Rattle.rules.specs.Decl.{sepName}
+use Rattle.rules.proofs.Closed.{ValuesFit, TypeFits}
 use Rattle.rules.specs.Emit.{definition, forward}
 use Rattle.shared.specs.Steps.{Steps, end, prints, refuses, takesType, takesValue, _⨟_, told, print, refuse, definitionSteps, forwardSteps}
 use Rattle.shared.specs.Lines.{ButNumbers, at-end, same-byte, numbered}
-use Rattle.shared.proofs.Steps.{Closed, r-definition, r-forward}
+use Rattle.shared.proofs.Steps.{AnyValue, Closed, r-definition, r-forward}
+
+-- ---- any names fit
+
+abbrev pub AnyType : Space → ℕ → Name → Type 0
+AnyType space id name = Unit {0}
+
+values-fit : (id i : ℕ) (vs : List Enumerator) → ValuesFit AnyType AnyValue id i vs
+values-fit id i [] = tt
+values-fit id i (x ∷ vs) = (tt, values-fit id (i + 1) vs)
+
+pub type-fits : (id : ℕ) (t : BtfType) → TypeFits AnyType AnyValue id t
+type-fits id Void = tt
+type-fits id (Int n b) = tt
+type-fits id (Ptr t) = tt
+type-fits id (Array t k) = tt
+type-fits id (Composite s n z ms) = tt
+type-fits id (Enum s n z vs) = (tt, values-fit id 0 vs)
+type-fits id (Enum64 s n z vs) = (tt, values-fit id 0 vs)
+type-fits id (Fwd u n) = tt
+type-fits id (Typedef n t) = tt
+type-fits id (Mod q t) = tt
+type-fits id (Func n) = tt
+type-fits id (Var n) = tt
+type-fits id (Datasec n) = tt
+type-fits id (FuncProto r ps) = tt
+type-fits id (Float n z) = tt
+type-fits id (DeclTag a n t k) = tt
+type-fits id (TypeTag a n t) = tt
+
+pub any-table : (B : Btf) (id : ℕ) → TypeFits AnyType AnyValue id (B .type-by-id id)
+any-table B id = type-fits id (B .type-by-id id)
 
 module _ {U : Type 0} where
   after-nil : (s : Said U) → s ≡ after [] s
@@ -57,7 +89,7 @@ module _ {U : Type 0} where
     abbrev Same : Writer U → Steps → Type 0
     Same w p = (u : U) → w u ≡ told N p u
 
-    same-closed : Closed N (λ n m. n ≡ m) Same
+    same-closed : Closed N AnyType (λ n m. n ≡ m) Same
     unfolding put stop _⨾_ resolving told
     same-closed = record {
       c-refl = λ n. refl;
@@ -66,15 +98,15 @@ module _ {U : Type 0} where
       c-sep = λ n m e q u. ap {B = Said U} (λ l. said u (whole (sepName l))) e ∙ told-print (sepName m) u;
       c-stop = λ c u. told-refuse c u;
       c-then = λ v w p q hv hw u. ap (λ (s : Said U). next s w) (hv u) ∙ next-same (told N p u) w (told N q) hw ∙ sym (told-then p q u);
-      c-type = λ space id name k₁ k₂ h u. h (N .typeVersion space id name u .version) (N .typeVersion space id name u .version) refl (N .typeVersion space id name u .names);
+      c-type = λ space id name fit k₁ k₂ h u. h (N .typeVersion space id name u .version) (N .typeVersion space id name u .version) refl (N .typeVersion space id name u .names);
       c-value = λ id i name k₁ k₂ h u. h (N .valueVersion id i name u .version) (N .valueVersion id i name u .version) refl (N .valueVersion id i name u .names);
     }
 
     pub definition-told : (B : Btf) (id : ℕ) (t : BtfType) (u : U) → definition N B id t u ≡ told N (definitionSteps B id t) u
-    definition-told B id t = r-definition N (λ n m. n ≡ m) Same same-closed B id t
+    definition-told B id t = r-definition N AnyType (λ n m. n ≡ m) Same same-closed B (any-table B) id t (type-fits id t)
 
     pub forward-told : (B : Btf) (id : ℕ) (t : BtfType) (u : U) → forward N B id t u ≡ told N (forwardSteps B id t) u
-    forward-told B id t = r-forward N (λ n m. n ≡ m) Same same-closed B id t
+    forward-told B id t = r-forward N AnyType (λ n m. n ≡ m) Same same-closed B (any-table B) id t (type-fits id t)
 
 -- ---- the same but for the numbers
 
@@ -131,7 +163,7 @@ module _ {U W : Type 0} where
     unfolding put
     alike-print a b q u x = subst (SameEnd (said u (whole a))) (told-print N₂ b x) (both-whole u x a b q)
 
-    alike-closed : Closed N Numbered Alike
+    alike-closed : Closed N AnyType Numbered Alike
     unfolding stop _⨾_ resolving told
     alike-closed = record {
       c-refl = λ n. numbers-self n;
@@ -140,7 +172,7 @@ module _ {U W : Type 0} where
       c-sep = λ n m q e. alike-print (sepName n) (sepName m) (numbers-sep n m q e);
       c-stop = λ c u x. subst (SameEnd (said u (cut [] c))) (told-refuse N₂ c x) (both-cut u x [] [] c);
       c-then = λ v w p q hv hw u x. subst (SameEnd (next (v u) w)) (sym (told-then N₂ p q x)) (same-next w (told N₂ q) (hv u x) hw);
-      c-type = λ space id name k₁ k₂ h u x.
+      c-type = λ space id name fit k₁ k₂ h u x.
           h (N .typeVersion space id name u .version) (N₂ .typeVersion space id name x .version) (numbers-name name (N₂ .typeVersion space id name x .version) (N .typeVersion space id name u .version))
           (N .typeVersion space id name u .names) (N₂ .typeVersion space id name x .names);
       c-value = λ id i name k₁ k₂ h u x.
@@ -149,7 +181,7 @@ module _ {U W : Type 0} where
     }
 
     pub definition-ends : (B : Btf) (id : ℕ) (t : BtfType) (u : U) (x : W) → SameEnd (definition N B id t u) (told N₂ (definitionSteps B id t) x)
-    definition-ends B id t = r-definition N Numbered Alike alike-closed B id t
+    definition-ends B id t = r-definition N AnyType Numbered Alike alike-closed B (any-table B) id t (type-fits id t)
 
     pub forward-ends : (B : Btf) (id : ℕ) (t : BtfType) (u : U) (x : W) → SameEnd (forward N B id t u) (told N₂ (forwardSteps B id t) x)
-    forward-ends B id t = r-forward N Numbered Alike alike-closed B id t
+    forward-ends B id t = r-forward N AnyType Numbered Alike alike-closed B (any-table B) id t (type-fits id t)
