@@ -1,5 +1,6 @@
 pub mod Samples
 pub mod Steps
+pub mod Lines
 pub mod Told
 pub mod Asks
 pub mod Play
