@@ -1,5 +1,5 @@
 -- THE CLAIM of specs/Accounts. Assumes nothing.
-use Prim.Native.Nat.{ℕ, zero, suc, zero-le, _+_, _-_, _≤_, _<_}
+use Prim.Native.Nat.{ℕ, zero, suc, zero-le, _+_, _≤_, _<_}
 use native.Mathlib.Omega.{arith}
 use native.Mathlib.Nat.{le-refl}
 use mathlib.Core.Path.{_≡_, refl, sym, _∙_, ap, subst}

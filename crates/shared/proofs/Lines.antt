@@ -8,7 +8,7 @@ use Rattle.text.specs.Text.{ascii}
 use Rattle.text.specs.Decimal.{decimal}
 use Rattle.rules.specs.Types.{Name}
 use Rattle.rules.specs.Names.{spelled, startsWith, contains}
-use Rattle.shared.specs.Lines.{ButNumbers, at-end, same-byte, numbered, Exact}
+use Rattle.shared.specs.Lines.{at-end, same-byte, numbered, Exact}
 
 abbrev Free : List ℕ → Type 0
 Free s = contains (ascii "___") s ≡ false

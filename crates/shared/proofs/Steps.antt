@@ -18,11 +18,11 @@ use Rattle.rules.specs.Emit.{definition, shown, forward}
 use Rattle.rules.proofs.Closed.{TypeFits}
 use Rattle.shared.specs.Steps.{Steps, end, takesType, takesValue, _⨟_, print, refuse, asking, typeName, valueName, compositeFwdSteps, fwdDefSteps, enumWordSteps, valuesSteps, enumBodySteps, enumDefSteps, nameSteps, parensSteps, paramSteps, paramsSteps, baseWordSteps, arraySteps, protoSteps, paramListSteps, chainLoopSteps, membersSteps, compositeHeadSteps, compositeEndSteps, compositeBodySteps, compositeDefSteps, typeDeclSteps, typeChainSteps, wholeCompositeSteps, typedefDefSteps, definitionSteps, shownSteps, forwardSteps}
 
--- a relation between writers and steps that texts, refusals, one after another, and names keep; Named: which spellings may stand for one another
--- Fits: what is known of the types' names
 abbrev pub AnyValue : ℕ → ℕ → Name → Type 0
 AnyValue id i name = Unit {0}
 
+-- a relation between writers and steps that texts, refusals, one after another, and names keep; Fits: what is known of a type's name; Named: which
+-- spellings may stand for one another
 pub record Closed {U : Type 0} (N : Naming U) (Fits : Space → ℕ → Name → Type 0) (Named : Name → Name → Type 0) (S : Writer U → Steps → Type 0) : Type 0 where
   pub c-refl : (n : Name) → Named n n
   pub c-put : (a : List ℕ) → S (put a) (print a)

@@ -1,6 +1,6 @@
 -- "Two sessions may now share one ledger, each with a reserved number of entries given at opening." The ledger, names over it, lines, and refusals that
 -- leave the names taken.
-use Prim.Native.Nat.{ℕ, _+_, _-_}
+use Prim.Native.Nat.{ℕ, _+_}
 use mathlib.Core.Bool.{Bool, true, false}
 use mathlib.Core.List.{List, [], _∷_, _++_}
 use lib.ListN.{length, getD, set}
@@ -76,7 +76,8 @@ pub record Given : Type 0 where
   pub name : Name
   pub number : ℕ
 
--- the versions of a session's own types, all numbers that it gave for its header, the last one first, and the ledger as it is lent
+-- the versions of a session's own types; the numbers given for its header, the last one first, which stand in no word and tell what was printed; and the
+-- ledger as it is lent
 pub record Held : Type 0 where
   pub versions : List ℕ
   pub given : List Given
@@ -90,6 +91,7 @@ over L h = record { versions = h .versions; given = h .given; ledger = L }
 abbrev pub numberOf : Ledger → Space → Name → ℕ
 numberOf L space name = oneMore (holders (L .entries) space name)
 
+-- one more number given
 abbrev pub giving : Space → Who → Name → Held → List Given
 giving space who name h = record { space = space; who = who; name = name; number = numberOf (h .ledger) space name } ∷ h .given
 

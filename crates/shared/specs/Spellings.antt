@@ -5,7 +5,7 @@ use mathlib.Core.List.{List, [], _∷_, List·Memᴰ}
 use lib.ListN.{getD}
 use Rattle.rules.specs.Types.{Name, BtfType, Void, Int, Ptr, Array, Composite, Enum, Enum64, Fwd, Typedef, Mod, Func, Var, Datasec, FuncProto, Float, DeclTag, TypeTag, Btf, nameOf}
 use Rattle.rules.specs.Names.{Space, tagSpace, identSpace, spelled, holders}
-use Rattle.shared.specs.Shared.{Ledger, Who, ofType, Given}
+use Rattle.shared.specs.Shared.{Ledger, ofType, Given}
 use Rattle.shared.specs.Calls.{Side, kernel, module′, Call, World, partOf, calls, newWorld}
 
 -- the numbers given for a side's header: to a type when it is first printed, to an enumerator each time
