@@ -1,5 +1,5 @@
 -- THE CLAIM of specs/Accounts. Assumes nothing.
-use Prim.Native.Nat.{ℕ, zero, suc, zero-le, _+_, _-_, _≤_, _<_}
+use Prim.Native.Nat.{ℕ, zero, suc, zero-le, _+_, _≤_, _<_}
 use native.Mathlib.Omega.{arith}
 use native.Mathlib.Nat.{le-refl}
 use mathlib.Core.Path.{_≡_, refl, sym, _∙_, ap, subst}
@@ -13,13 +13,13 @@ use Rattle.rules.specs.Types.{Name, Btf}
 use Rattle.rules.specs.Machine.{Req}
 use Rattle.rules.specs.Names.{Space, tagSpace, identSpace, Holder, sameSpace, sameBytes, holds, holders, counted}
 use Rattle.shared.specs.Shared.{Account, Ledger, noAccount, account, known, made, taking, passing, numberOf}
-use Rattle.shared.specs.Calls.{capacity, reserved, ledgerShort, joined, begun, Part, Side, kernel, module′, Call, opens, asks, World, partOf, withPart, lent, answered, opening, asking, called, calls, newWorld}
+use Rattle.shared.specs.Calls.{capacity, reserved, ledgerShort, openNumber, joined, begun, Part, Side, kernel, module′, Call, opens, asks, World, partOf, withPart, lent, answered, opening, asking, called, calls, newWorld}
 use Rattle.shared.specs.Accounts.{usedAll, AllHeld, Sound, Reached, here, takes, opened, Claim}
-use Rattle.shared.proofs.Keeps.{answer-keeps}
+use Rattle.shared.proofs.Keeps.{ledger-keeps}
 
 -- ---- one more holder
 
-more-least : (n : ℕ) → n ≤ oneMore n
+pub more-least : (n : ℕ) → n ≤ oneMore n
 unfolding oneMore
 more-least n = go (ltb n 4294967295)
   where
@@ -27,7 +27,7 @@ more-least n = go (ltb n 4294967295)
     go true = omega arith
     go false = omega arith
 
-more-some : (n : ℕ) → 1 ≤ oneMore n
+pub more-some : (n : ℕ) → 1 ≤ oneMore n
 unfolding oneMore
 more-some n = go (ltb n 4294967295) refl
   where
@@ -35,7 +35,7 @@ more-some n = go (ltb n 4294967295) refl
     go true q = omega arith
     go false q = omega (arith, ltb-false n 4294967295 q)
 
-more-is : (n : ℕ) → n < 4294967295 → oneMore n ≡ n + 1
+pub more-is : (n : ℕ) → n < 4294967295 → oneMore n ≡ n + 1
 unfolding oneMore
 more-is n l = go (ltb n 4294967295) refl
   where
@@ -60,7 +60,7 @@ module _ (space : Space) (name : Name) where
   abbrev more-of : Holder → Holder
   more-of h = record { space = h .space; name = h .name; count = oneMore (h .count) }
 
-  count-here : (l : List Holder) → holders (counted l space name) space name ≡ oneMore (holders l space name)
+  pub count-here : (l : List Holder) → holders (counted l space name) space name ≡ oneMore (holders l space name)
   unfolding holders counted holds oneMore
   count-here [] = ap (λ (t : Bool). elim t as (λ z. ℕ) [ true ↦ 1 | false ↦ 0 ]) (holds-self 1)
   count-here (h ∷ l) = go (holds h space name) refl (count-here l)
@@ -71,7 +71,7 @@ module _ (space : Space) (name : Name) where
       go false e i = ap (λ (t : Bool). elim t as (λ z. ℕ) [ true ↦ h .count | false ↦ holders (counted l space name) space name ]) e ∙ i
 
   -- no count falls
-  grows : (space′ : Space) (name′ : Name) (l : List Holder) → holders l space′ name′ ≤ holders (counted l space name) space′ name′
+  pub grows : (space′ : Space) (name′ : Name) (l : List Holder) → holders l space′ name′ ≤ holders (counted l space name) space′ name′
   unfolding holders counted holds
   grows space′ name′ [] = zero-le
   grows space′ name′ (h ∷ l) = go (holds h space name) (grows space′ name′ l)
@@ -225,13 +225,23 @@ ledger-own : (W : World) (d : Side) (L : Ledger) (p : Part) → L ≡ withPart W
 ledger-own W kernel L p = refl
 ledger-own W module′ L p = refl
 
+-- an opening that is accepted found the ledger long enough
+opens-long : (other : ℕ) (L : Ledger) (reserve : ℕ) → openNumber other L reserve ≡ 0 → ledgerShort L reserve ≡ false
+unfolding openNumber
+opens-long zero L reserve = λ e. go (ledgerShort L reserve) e
+  where
+    go : (b : Bool) → _≡_ {A = ℕ} (elim b as (λ x. ℕ) [ true ↦ 9 | false ↦ 0 ]) 0 → b ≡ false
+    go true e = absurd (omega (arith, e))
+    go false e = refl
+opens-long (suc n) L reserve = λ e. absurd (omega (arith, e))
+
 -- what every name taken and every opening keeps, all calls keep
 module _ (B : Side → Btf) (I : Ledger → Type 0) (step : (k : ℕ) (space : Space) (name : Name) (L : Ledger) → passing k L space name ≡ false → I L → I (taking k L space name))
     (joins : (L : Ledger) (reserve : ℕ) → ledgerShort L reserve ≡ false → I L → I (joined L reserve)) where
-  opening-keeps : (W : World) (d : Side) (reserve : ℕ) → I (W .ledger) → (b : Bool) → ledgerShort (W .ledger) reserve ≡ b → I (opening B W d reserve b .world .ledger)
+  opening-keeps : (W : World) (d : Side) (reserve : ℕ) → I (W .ledger) → (n : ℕ) → (n ≡ 0 → ledgerShort (W .ledger) reserve ≡ false) → I (opening B W d reserve n .world .ledger)
   unfolding opening
-  opening-keeps W d reserve i true e = i
-  opening-keeps W d reserve i false e = subst I (ledger-own W d (joined (W .ledger) reserve) (begun (B d) (W .ledger) reserve)) (joins (W .ledger) reserve e i)
+  opening-keeps W d reserve i zero e = subst I (ledger-own W d (joined (W .ledger) reserve) (begun (B d) (W .ledger) reserve)) (joins (W .ledger) reserve (e refl) i)
+  opening-keeps W d reserve i (suc n) e = i
 
   asking-keeps : (W : World) (d : Side) (r : Req) → I (W .ledger) → (b : Bool) → I (asking B W d r b .world .ledger)
   unfolding asking
@@ -239,11 +249,11 @@ module _ (B : Side → Btf) (I : Ledger → Type 0) (step : (k : ℕ) (space : S
   asking-keeps W d r i true =
       let a = answered (B d) (partOf W d) (W .ledger) r in
       subst I (ledger-own W d (a .sess .mach .known .names .ledger) (record { number = partOf W d .number; words = partOf W d .words; sess = a .sess }))
-      (answer-keeps I (partOf W d .number) (step (partOf W d .number)) (B d) (lent (W .ledger) (partOf W d .sess)) r i)
+      (ledger-keeps I (partOf W d .number) (step (partOf W d .number)) (B d) (lent (W .ledger) (partOf W d .sess)) r i)
 
   call-keeps : (W : World) (c : Call) → I (W .ledger) → I (called B W c .world .ledger)
   unfolding called
-  call-keeps W (opens d reserve) i = opening-keeps W d reserve i (ledgerShort (W .ledger) reserve) refl
+  call-keeps W (opens d other reserve) i = opening-keeps W d reserve i (openNumber other (W .ledger) reserve) (opens-long other (W .ledger) reserve)
   call-keeps W (asks d words r) i = asking-keeps W d r i (eqb words (partOf W d .words))
 
   calls-keep : (cs : List Call) (W : World) → I (W .ledger) → I (calls B W cs .ledger)
@@ -257,7 +267,7 @@ new-sound words = sound-of (newWorld words .ledger) (λ k. zero-le) refl zero-le
 
 -- ---- numbers
 
-taking-entries : (k : ℕ) (L : Ledger) (space : Space) (name : Name) → taking k L space name .entries ≡ counted (L .entries) space name
+pub taking-entries : (k : ℕ) (L : Ledger) (space : Space) (name : Name) → taking k L space name .entries ≡ counted (L .entries) space name
 unfolding taking
 taking-entries k L space name = go (eqb (holders (L .entries) space name) 0)
   where

@@ -1,5 +1,5 @@
 -- Two ways in which a session over the shared ledger and one of the rules go alike. With the same names and the same ledger: all of it, short of 20. With
--- any names: the marks, the lists, and what is defined, until 17 or 20. Assumes nothing.
+-- any names: the marks, the lists, and the lines but for the numbers of names, until 17 or 20. Assumes nothing.
 use Prim.Native.Nat.{ℕ, _+_, _<_}
 use native.Mathlib.Omega.{arith}
 use mathlib.Core.Path.{_≡_, refl, sym, _∙_, ap, subst}
@@ -13,18 +13,19 @@ use Rattle.text.specs.Text.{Text, whole, cut, bytes}
 use Rattle.rules.specs.Order.{new}
 use Rattle.rules.specs.Writer.{Said, said}
 use Rattle.rules.specs.Layout.{smaller}
-use Rattle.rules.specs.Types.{Name, Enumerator, BtfType, Void, Int, Ptr, Array, Composite, Enum, Enum64, Fwd, Typedef, Mod, Func, Var, Datasec, FuncProto, Float, DeclTag, TypeTag, Btf}
+use Rattle.rules.specs.Types.{Name, Btf}
 use Rattle.rules.specs.Names.{Space, identSpace, Resolved, Naming, Names, naming, holders, counted, typeVersion, valueVersion}
 use Rattle.rules.specs.Emit.{definition, forward}
-use Rattle.rules.proofs.Closed.{ValuesFit, TypeFits}
 use Rattle.rules.proofs.Related.{RelSaid, same, RelResolved, RelNaming, rel-definition, rel-forward}
 use Rattle.demand.specs.Lists.{Piece, defines, other, Line, cannot, Ls, putLine, listStore}
 use Rattle.demand.specs.Session.{Known, fitting, lineOf}
 use Rattle.demand.proofs.Lists.{Sized}
 use Rattle.demand.proofs.Alike.{AlikeStore}
 use Rattle.shared.specs.Steps.{Steps, told, definitionSteps, forwardSteps}
-use Rattle.shared.specs.Shared.{Ledger, Held, taking, typeShared, valueShared, sharing, numberOf, Played, played, broken, play, playLine, Shelf, holding, playedOn, lineOn}
-use Rattle.shared.proofs.Told.{definition-told, forward-told, SameEnd, both-whole, both-cut, definition-ends, forward-ends}
+use Rattle.shared.specs.Shared.{Ledger, ofType, Held, giving, taking, typeShared, valueShared, sharing, numberOf, Played, played, broken, play, playLine, Shelf, holding, playedOn, lineOn}
+use Rattle.shared.specs.Lines.{ButNumbers, SameLine, same-body, same-other, SameLines, no-line, next-line}
+use Rattle.shared.proofs.Steps.{AnyValue}
+use Rattle.shared.proofs.Told.{AnyType, type-fits, any-table, definition-told, forward-told, SameEnd, both-whole, both-cut, definition-ends, forward-ends}
 use Rattle.shared.proofs.Play.{PlaysAs, over, fits, cuts, full, plays-as}
 use Rattle.shared.proofs.Emission.{BothEnd, both-went, both-halted, left-free, right-free, AlikeBoard}
 
@@ -44,12 +45,13 @@ plays-line k room len p h = go (leb len (smaller room 1073741824)) refl
 
 -- ---- alike in marks, lists and flags, and in what of room, length and pieces is looked at
 
-module _ {W : Type 0} (g : ℕ → ℕ) (v : List Piece → List Piece) (R : Held → W → Type 0) (n : ℕ) where
+module _ {W : Type 0} (g : ℕ → ℕ) (v : List Piece → List Piece) (P : List Piece → List Piece → Type 0) (R : Held → W → Type 0) (n : ℕ) where
   abbrev pub strip : {U : Type 0} → Ls (Known U) → Ls ℕ
   strip s = record { marks = s .marks; olist = s .olist; emits = s .emits; fwds = s .fwds; room = g (s .room); known = g (s .known .text-len); pieces = v (s .pieces) }
 
   pub record Like (s : Shelf) (t : Ls (Known W)) : Type 0 where
     pub rest : strip s ≡ strip t
+    pub lines : P (s .pieces) (t .pieces)
     pub names : R (s .known .names) (t .known .names)
     pub sized : Sized n t
 
@@ -59,62 +61,62 @@ module _ {W : Type 0} (g : ℕ → ℕ) (v : List Piece → List Piece) (R : Hel
     a-get = λ s t h x l. ap (λ (q : Ls ℕ). getD (q .marks) x new) (h .rest);
     a-mark = λ m x s t h l. record {
       rest = ap {B = Ls ℕ} (λ (q : Ls ℕ). record { marks = set (q .marks) x m; olist = q .olist; emits = q .emits; fwds = q .fwds; room = q .room; known = q .known; pieces = q .pieces }) (h .rest);
+      lines = h .lines;
       names = h .names;
       sized = record { marks-n = length-set (t .marks) x m ∙ h .sized .marks-n; emits-n = h .sized .emits-n };
     };
     a-push = λ x s t h l r. record {
       rest = ap {B = Ls ℕ} (λ (q : Ls ℕ). record { marks = q .marks; olist = q .olist ++ (x ∷ []); emits = q .emits; fwds = q .fwds; room = q .room; known = q .known; pieces = q .pieces }) (h .rest);
+      lines = h .lines;
       names = h .names;
       sized = record { marks-n = h .sized .marks-n; emits-n = h .sized .emits-n };
     };
   }
 
--- a piece without its bytes
-abbrev pub blank : Piece → Piece
-blank (defines x t) = defines x []
-blank (other t) = other []
-
--- a way of making pieces that differ in their bytes only
-abbrev Blanked : (List ℕ → Piece) → Type 0
-Blanked mk = (a b : List ℕ) → blank (mk a) ≡ blank (mk b)
+-- a way of making pieces that takes texts that are the same but for numbers to such lines
+abbrev Makes : (List ℕ → Piece) → Type 0
+Makes mk = (a b : List ℕ) → ButNumbers a b → SameLine (mk a) (mk b)
 
 -- all of a board but its lines
-module _ {W : Type 0} (g : ℕ → ℕ) (v : List Piece → List Piece) (R : Held → W → Type 0) (N : Naming W) (k : ℕ) (B : Btf) (Free₁ Free₂ : ℕ → Type 0) where
+module _ {W : Type 0} (g : ℕ → ℕ) (v : List Piece → List Piece) (P : List Piece → List Piece → Type 0) (R : Held → W → Type 0) (N : Naming W) (k : ℕ) (B : Btf) (Free₁ Free₂ : ℕ → Type 0) where
   abbrev L : Shelf → Ls (Known W) → Type 0
-  L s t = Like g v R (B .type-cnt) s t
+  L s t = Like g v P R (B .type-cnt) s t
 
   abbrev Fwds : Type 0
-  Fwds = (mk : List ℕ → Piece) → Blanked mk → (s : Shelf) (t : Ls (Known W)) → L s t → (x : ℕ)
+  Fwds = (mk : List ℕ → Piece) → Makes mk → (s : Shelf) (t : Ls (Known W)) → L s t → (x : ℕ)
       → BothEnd L Free₁ Free₂ (lineOn k mk s (forwardSteps B x (B .type-by-id x))) (putLine mk t (lineOf (t .room) (t .known .text-len) (forward N B x (B .type-by-id x) (t .known .names))))
 
   abbrev Defs : Type 0
-  Defs = (mk : List ℕ → Piece) → Blanked mk → (s : Shelf) (t : Ls (Known W)) → L s t → (x : ℕ)
+  Defs = (mk : List ℕ → Piece) → Makes mk → (s : Shelf) (t : Ls (Known W)) → L s t → (x : ℕ)
       → BothEnd L Free₁ Free₂ (lineOn k mk s (definitionSteps B x (B .type-by-id x))) (putLine mk t (lineOf (t .room) (t .known .text-len) (definition N B x (B .type-by-id x) (t .known .names))))
 
   board : Fwds → Defs → AlikeBoard N k B L Free₁ Free₂
   board fs ds = record {
-    a-store = store-like g v R (B .type-cnt);
+    a-store = store-like g v P R (B .type-cnt);
     a-list = λ s t h. ap (λ (q : Ls ℕ). q .olist) (h .rest);
     a-start = λ r s t h. record {
       rest = ap {B = Ls ℕ} (λ (q : Ls ℕ). record { marks = q .marks; olist = []; emits = q .emits; fwds = q .fwds; room = g r; known = q .known; pieces = q .pieces }) (h .rest);
+      lines = h .lines;
       names = h .names;
       sized = record { marks-n = h .sized .marks-n; emits-n = h .sized .emits-n };
     };
     a-eget = λ s t h x. ap (λ (q : Ls ℕ). getD (q .emits) x new) (h .rest);
     a-emark = λ m x s t h. record {
       rest = ap {B = Ls ℕ} (λ (q : Ls ℕ). record { marks = q .marks; olist = q .olist; emits = set (q .emits) x m; fwds = q .fwds; room = q .room; known = q .known; pieces = q .pieces }) (h .rest);
+      lines = h .lines;
       names = h .names;
       sized = record { marks-n = h .sized .marks-n; emits-n = length-set (t .emits) x m ∙ h .sized .emits-n };
     };
     a-has = λ s t h x. ap (λ (q : Ls ℕ). getD (q .fwds) x false) (h .rest);
     a-forwarded = λ x s t h. record {
       rest = ap {B = Ls ℕ} (λ (q : Ls ℕ). record { marks = q .marks; olist = q .olist; emits = q .emits; fwds = set (q .fwds) x true; room = q .room; known = q .known; pieces = q .pieces }) (h .rest);
+      lines = h .lines;
       names = h .names;
       sized = record { marks-n = h .sized .marks-n; emits-n = h .sized .emits-n };
     };
-    a-fwd = λ s t h x. fs other (λ a b. refl) s t h x;
-    a-leaf = λ s t h x. ds other (λ a b. refl) s t h x;
-    a-body = λ s t h x. ds (defines x) (λ a b. refl) s t h x;
+    a-fwd = λ s t h x. fs other same-other s t h x;
+    a-leaf = λ s t h x. ds other same-other s t h x;
+    a-body = λ s t h x. ds (defines x) (same-body x) s t h x;
   }
 
 -- ---- the same names: all alike, short of 20
@@ -130,7 +132,7 @@ abbrev pub Never : ℕ → Type 0
 Never e = ⊥
 
 abbrev pub Whole : ℕ → Shelf → Ls (Known Names) → Type 0
-Whole n s t = Like (λ x. x) (λ l. l) SameNames n s t
+Whole n s t = Like (λ x. x) (λ l. l) (λ l m. Unit {0}) SameNames n s t
 
 taking-entries : (k : ℕ) (L : Ledger) (space : Space) (name : Name) → taking k L space name .entries ≡ counted (L .entries) space name
 unfolding taking
@@ -156,7 +158,7 @@ type-at k space id name h = go (eqb (getD (h .versions) id 0) 0)
     go : (b : Bool) → RelResolved SameNames
         (elim b as (λ x. Resolved Held) [
           | false ↦ record { version = getD (h .versions) id 0; names = h }
-          | true ↦ record { version = numberOf (h .ledger) space name; names = record { versions = set (h .versions) id (numberOf (h .ledger) space name); ledger = taking k (h .ledger) space name } }
+          | true ↦ record { version = numberOf (h .ledger) space name; names = record { versions = set (h .versions) id (numberOf (h .ledger) space name); given = giving space (ofType id) name h; ledger = taking k (h .ledger) space name } }
         ])
         (elim b as (λ x. Resolved Names) [
           | false ↦ record { version = getD (h .versions) id 0; names = namesOf h }
@@ -165,44 +167,15 @@ type-at k space id name h = go (eqb (getD (h .versions) id 0) 0)
     go true = (refl, (refl, taking-entries k (h .ledger) space name))
     go false = (refl, (refl, refl))
 
-value-at : (k : ℕ) (name : Name) (h : Held) → RelResolved SameNames (valueShared k name h) (valueVersion name (namesOf h))
+value-at : (k id i : ℕ) (name : Name) (h : Held) → RelResolved SameNames (valueShared k id i name h) (valueVersion name (namesOf h))
 unfolding valueShared valueVersion
-value-at k name h = (refl, (refl, taking-entries k (h .ledger) identSpace name))
-
-abbrev AnyType : Space → ℕ → Name → Type 0
-AnyType space id name = Unit {0}
-
-abbrev AnyValue : ℕ → ℕ → Name → Type 0
-AnyValue id i name = Unit {0}
-
-values-fit : (id i : ℕ) (vs : List Enumerator) → ValuesFit AnyType AnyValue id i vs
-values-fit id i [] = tt
-values-fit id i (x ∷ vs) = (tt, values-fit id (i + 1) vs)
-
-type-fits : (id : ℕ) (t : BtfType) → TypeFits AnyType AnyValue id t
-type-fits id Void = tt
-type-fits id (Int n b) = tt
-type-fits id (Ptr t) = tt
-type-fits id (Array t k) = tt
-type-fits id (Composite s n z ms) = tt
-type-fits id (Enum s n z vs) = (tt, values-fit id 0 vs)
-type-fits id (Enum64 s n z vs) = (tt, values-fit id 0 vs)
-type-fits id (Fwd u n) = tt
-type-fits id (Typedef n t) = tt
-type-fits id (Mod q t) = tt
-type-fits id (Func n) = tt
-type-fits id (Var n) = tt
-type-fits id (Datasec n) = tt
-type-fits id (FuncProto r ps) = tt
-type-fits id (Float n z) = tt
-type-fits id (DeclTag a n t k) = tt
-type-fits id (TypeTag a n t) = tt
+value-at k id i name h = (refl, (refl, taking-entries k (h .ledger) identSpace name))
 
 module _ (k : ℕ) where
   same-naming : RelNaming SameNames AnyType AnyValue (sharing k) naming
   same-naming = record {
     rel-type = λ space id name f e h u q. subst (λ (x : Names). RelResolved SameNames (typeShared k space id name h) (typeVersion space id name x)) (is-names h u q) (type-at k space id name h);
-    rel-value = λ id i name f h u q. subst (λ (x : Names). RelResolved SameNames (valueShared k name h) (valueVersion name x)) (is-names h u q) (value-at k name h);
+    rel-value = λ id i name f h u q. subst (λ (x : Names). RelResolved SameNames (valueShared k id i name h) (valueVersion name x)) (is-names h u q) (value-at k id i name h);
   }
 
   module _ (n : ℕ) (mk : List ℕ → Piece) (s : Shelf) (t : Ls (Known Names)) (q : Whole n s t) where
@@ -220,6 +193,7 @@ module _ (k : ℕ) where
     unfolding playedOn fitting
     wrote-like h u a r = both-went _ _ (record {
       rest = ap {B = Ls ℕ} (λ (l : Ls ℕ). record { marks = l .marks; olist = l .olist; emits = l .emits; fwds = l .fwds; room = l .room; known = l .known + length a; pieces = l .pieces ++ (mk a ∷ []) }) (q .rest);
+      lines = tt;
       names = r;
       sized = record { marks-n = q .sized .marks-n; emits-n = q .sized .emits-n };
     })
@@ -255,19 +229,15 @@ module _ (k : ℕ) where
         (line-like (playLine k (t .room) Len p (s .known .names)) (told (sharing k) p (s .known .names)) s₂ (plays-line k (t .room) Len p (s .known .names)) r)
 
   pub whole-board : (B : Btf) → AlikeBoard naming k B (Whole (B .type-cnt)) Is20 Never
-  whole-board B = board (λ x. x) (λ l. l) SameNames naming k B Is20 Never
+  whole-board B = board (λ x. x) (λ l. l) (λ l m. Unit {0}) SameNames naming k B Is20 Never
       (λ mk e s t h x. line-whole (B .type-cnt) mk s t h (forwardSteps B x (B .type-by-id x)) (forward naming B x (B .type-by-id x) (t .known .names))
       (subst (λ (w : Said Held). RelSaid SameNames w (forward naming B x (B .type-by-id x) (t .known .names))) (forward-told (sharing k) B x (B .type-by-id x) (s .known .names))
-      (rel-forward SameNames AnyType AnyValue (sharing k) naming same-naming B (λ id. type-fits id (B .type-by-id id)) x (B .type-by-id x) (type-fits x (B .type-by-id x)) (s .known .names) (t .known .names) (h .names))))
+      (rel-forward SameNames AnyType AnyValue (sharing k) naming same-naming B (any-table B) x (B .type-by-id x) (type-fits x (B .type-by-id x)) (s .known .names) (t .known .names) (h .names))))
       (λ mk e s t h x. line-whole (B .type-cnt) mk s t h (definitionSteps B x (B .type-by-id x)) (definition naming B x (B .type-by-id x) (t .known .names))
       (subst (λ (w : Said Held). RelSaid SameNames w (definition naming B x (B .type-by-id x) (t .known .names))) (definition-told (sharing k) B x (B .type-by-id x) (s .known .names))
-      (rel-definition SameNames AnyType AnyValue (sharing k) naming same-naming B (λ id. type-fits id (B .type-by-id id)) x (B .type-by-id x) (type-fits x (B .type-by-id x)) (s .known .names) (t .known .names) (h .names))))
+      (rel-definition SameNames AnyType AnyValue (sharing k) naming same-naming B (any-table B) x (B .type-by-id x) (type-fits x (B .type-by-id x)) (s .known .names) (t .known .names) (h .names))))
 
--- ---- any names: marks, lists, and which ids are defined, until 17 or 20
-
-unfoldable pub blanks : List Piece → List Piece
-blanks [] = []
-blanks (p ∷ ps) = blank p ∷ blanks ps
+-- ---- any names: marks, lists, and the lines but for their numbers, until 17 or 20
 
 abbrev pub AnyNames : {W : Type 0} → Held → W → Type 0
 AnyNames h u = Unit {0}
@@ -279,29 +249,22 @@ abbrev pub Is17 : ℕ → Type 0
 Is17 e = e ≡ 17
 
 abbrev pub Shape : {W : Type 0} → ℕ → Shelf → Ls (Known W) → Type 0
-Shape n s t = Like (λ x. 0) blanks AnyNames n s t
+Shape n s t = Like (λ x. 0) (λ l. []) SameLines AnyNames n s t
 
-blanks-more : (l : List Piece) (p : Piece) → blanks (l ++ (p ∷ [])) ≡ blanks l ++ (blank p ∷ [])
-unfolding blanks
-blanks-more [] p = refl
-blanks-more (x ∷ l) p = ap {B = List Piece} (λ r. blank x ∷ r) (blanks-more l p)
+lines-more : (l m : List Piece) (p q : Piece) → SameLines l m → SameLine p q → SameLines (l ++ (p ∷ [])) (m ++ (q ∷ []))
+lines-more _ _ p q no-line e = next-line p q [] [] e no-line
+lines-more _ _ p q (next-line a b l m f h) e = next-line a b (l ++ (p ∷ [])) (m ++ (q ∷ [])) f (lines-more l m p q h e)
 
 module _ {W : Type 0} (N : Naming W) (k : ℕ) where
-  module _ (n : ℕ) (mk : List ℕ → Piece) (bl : Blanked mk) (s : Shelf) (t : Ls (Known W)) (q : Shape n s t) where
+  module _ (n : ℕ) (mk : List ℕ → Piece) (makes : Makes mk) (s : Shelf) (t : Ls (Known W)) (q : Shape n s t) where
     abbrev Goes : Played → Line (Known W) → Type 0
     Goes p l = BothEnd (Shape n) Is17or20 Is17 (playedOn mk s p) (putLine mk t l)
 
-    -- of the pieces, with the rest as it is
-    abbrev withPieces : List Piece → Ls ℕ
-    withPieces l = record { marks = t .marks; olist = t .olist; emits = t .emits; fwds = t .fwds; room = 0; known = 0; pieces = l }
-
-    wrote-shape : (h : Held) (u : W) (len : ℕ) (a b : List ℕ) → Goes (played h a) (fitting len u (whole b))
+    wrote-shape : (h : Held) (u : W) (len : ℕ) (a b : List ℕ) → ButNumbers a b → Goes (played h a) (fitting len u (whole b))
     unfolding playedOn fitting
-    wrote-shape h u len a b = both-went _ _ (record {
-      rest = ap {B = Ls ℕ} (λ (l : List Piece). record { marks = s .marks; olist = s .olist; emits = s .emits; fwds = s .fwds; room = 0; known = 0; pieces = l }) (blanks-more (s .pieces) (mk a))
-          ∙ ap {B = Ls ℕ} (λ (l : Ls ℕ). record { marks = l .marks; olist = l .olist; emits = l .emits; fwds = l .fwds; room = 0; known = 0; pieces = l .pieces ++ (blank (mk a) ∷ []) }) (q .rest)
-          ∙ ap {B = Ls ℕ} (λ (x : Piece). withPieces (blanks (t .pieces) ++ (x ∷ []))) (bl a b)
-          ∙ ap withPieces (sym (blanks-more (t .pieces) (mk b)));
+    wrote-shape h u len a b e = both-went _ _ (record {
+      rest = q .rest;
+      lines = lines-more (s .pieces) (t .pieces) (mk a) (mk b) (q .lines) (makes a b e);
       names = tt;
       sized = record { marks-n = q .sized .marks-n; emits-n = q .sized .emits-n };
     })
@@ -323,7 +286,7 @@ module _ {W : Type 0} (N : Naming W) (k : ℕ) where
     unfolding lineOf
     line-shape limit len room len₂ _ _ s₂ (over h _) w = excused h 20 (inr refl) (lineOf room len₂ s₂)
     line-shape limit len room len₂ _ _ s₂ (full g h x l) w = excused g 17 (inl refl) (lineOf room len₂ s₂)
-    line-shape limit len room len₂ _ _ _ (fits h a l) (both-whole u _ b _) = by-room (played h a) (fitting len₂ u (whole b)) (wrote-shape h u len₂ a b) (leb (len₂ + length (bytes (whole b))) (smaller room 1073741824))
+    line-shape limit len room len₂ _ _ _ (fits h a l) (both-whole u _ b _ e) = by-room (played h a) (fitting len₂ u (whole b)) (wrote-shape h u len₂ a b e) (leb (len₂ + length (bytes (whole b))) (smaller room 1073741824))
     line-shape limit len room len₂ _ _ _ (cuts h a c l) (both-cut u _ b _ _) = by-room (broken h c) (fitting len₂ u (cut b c)) (cut-shape h u len₂ b c) (leb (len₂ + length (bytes (cut b c))) (smaller room 1073741824))
 
     pub line-on : (p : Steps) (s₂ : Said W) → SameEnd s₂ (told (sharing k) p (s .known .names))
@@ -334,6 +297,6 @@ module _ {W : Type 0} (N : Naming W) (k : ℕ) where
         (plays-line k (s .room) (s .known .text-len) p (s .known .names)) w
 
   pub shape-board : (B : Btf) → AlikeBoard N k B (Shape (B .type-cnt)) Is17or20 Is17
-  shape-board B = board (λ x. 0) blanks AnyNames N k B Is17or20 Is17
+  shape-board B = board (λ x. 0) (λ l. []) SameLines AnyNames N k B Is17or20 Is17
       (λ mk e s t h x. line-on (B .type-cnt) mk e s t h (forwardSteps B x (B .type-by-id x)) (forward N B x (B .type-by-id x) (t .known .names)) (forward-ends N (sharing k) B x (B .type-by-id x) (t .known .names) (s .known .names)))
       (λ mk e s t h x. line-on (B .type-cnt) mk e s t h (definitionSteps B x (B .type-by-id x)) (definition N B x (B .type-by-id x) (t .known .names)) (definition-ends N (sharing k) B x (B .type-by-id x) (t .known .names) (s .known .names)))

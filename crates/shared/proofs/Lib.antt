@@ -1,6 +1,8 @@
 pub mod Samples
 pub mod Steps
+pub mod Lines
 pub mod Told
+pub mod Asks
 pub mod Play
 pub mod Emission
 pub mod Requests
@@ -9,3 +11,4 @@ pub mod Claims
 pub mod Keeps
 pub mod Accounts
 pub mod Closes
+pub mod Spellings

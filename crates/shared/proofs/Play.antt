@@ -58,4 +58,4 @@ module _ (k limit : ℕ) where
   plays-as (takesType space id name f) len l h =
       named limit len h (typeShared k space id name h) (λ v. told (sharing k) (f v)) (λ v h′. play k limit len (f v) h′) (typePasses k space id name h) (λ v h′. plays-as (f v) len l h′)
   plays-as (takesValue id i name f) len l h =
-      named limit len h (valueShared k name h) (λ v. told (sharing k) (f v)) (λ v h′. play k limit len (f v) h′) (passing k (h .ledger) identSpace name) (λ v h′. plays-as (f v) len l h′)
+      named limit len h (valueShared k id i name h) (λ v. told (sharing k) (f v)) (λ v h′. play k limit len (f v) h′) (passing k (h .ledger) identSpace name) (λ v h′. plays-as (f v) len l h′)

@@ -15,7 +15,7 @@ use Rattle.demand.specs.Session.{Known, machineBy, answerOf}
 use Rattle.demand.proofs.Lists.{Sized}
 use Rattle.demand.proofs.Session.{machine-lawful}
 use Rattle.demand.proofs.Alike.{Both, both, neither, Live, Went, order-alike}
-use Rattle.shared.specs.Shared.{Ledger, Held, sharing, End, Shelf, holding}
+use Rattle.shared.specs.Shared.{Ledger, Held, over, sharing, End, Shelf, holding}
 use Rattle.shared.specs.Requests.{eachOn, emitOn, shutOn, emittedOn, orderedOn, gateOn, singleOn, onwardOn, fromOn, everyOn, answerOn}
 use Rattle.shared.proofs.Emission.{BothEnd, both-went, both-halted, left-free, right-free, AlikeBoard, each-both, emit-both}
 
@@ -61,7 +61,7 @@ module _ {W : Type 0} (N : Naming W) (k : ℕ) (B : Btf) (below : (x y : ℕ) �
     shut-both L e = alike refl (record {
       same-open = refl;
       same-asked = h .same-asked;
-      shape = any-names (S₁ .mach) (S .mach) (record { versions = S₁ .mach .known .names .versions; ledger = L }) (h .shape);
+      shape = any-names (S₁ .mach) (S .mach) (over L (S₁ .mach .known .names)) (h .shape);
       live = λ q. absurd (true≢false (sym q));
     })
 

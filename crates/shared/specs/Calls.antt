@@ -8,7 +8,7 @@ use Rattle.rules.specs.Types.{Btf}
 use Rattle.rules.specs.Machine.{Sess, Answer, Req}
 use Rattle.demand.specs.Lists.{afresh}
 use Rattle.demand.specs.Session.{textOf}
-use Rattle.shared.specs.Shared.{Account, Ledger, newLedger, Shelf, holding}
+use Rattle.shared.specs.Shared.{Account, Ledger, newLedger, over, Shelf, holding}
 use Rattle.shared.specs.Requests.{answerOn}
 
 -- ---- opening
@@ -25,7 +25,7 @@ reserved (a ∷ l) = a .reserve + reserved l
 unfoldable pub ledgerShort : Ledger → ℕ → Bool
 ledgerShort L reserve = ltb (L .words) 16 || (leb 2 (length (L .accounts)) || ltb (capacity L) (reserved (L .accounts) + reserve))
 
--- 9 is opening's last cause: n is what it answers but for the ledger
+-- 9 for the ledger is opening's last cause: n is what it answers by the others, 0 if none holds
 unfoldable pub openNumber : ℕ → Ledger → ℕ → ℕ
 openNumber zero L reserve = elim (ledgerShort L reserve) [ true ↦ 9 | false ↦ 0 ]
 openNumber (suc n) L reserve = suc n
@@ -41,14 +41,14 @@ pub record Part : Type 0 where
   pub sess : Sess Shelf
 
 abbrev pub unopened : Part
-unopened = record { number = 0; words = 0; sess = record { isOpen = false; mach = afresh 0 (record { names = record { versions = []; ledger = newLedger 0 }; text-len = 0 }); asked = [] } }
+unopened = record { number = 0; words = 0; sess = record { isOpen = false; mach = afresh 0 (record { names = record { versions = []; given = []; ledger = newLedger 0 }; text-len = 0 }); asked = [] } }
 
--- no type of the session has a version; the ledger may have names already
+-- no type of the session has a version, it gave no number; the ledger may have names already
 abbrev pub begun : Btf → Ledger → ℕ → Part
 begun B L reserve = record {
   number = length (L .accounts);
   words = L .words;
-  sess = record { isOpen = true; mach = afresh (B .type-cnt) (record { names = record { versions = replicate (B .type-cnt) 0; ledger = joined L reserve }; text-len = 0 }); asked = [] };
+  sess = record { isOpen = true; mach = afresh (B .type-cnt) (record { names = record { versions = replicate (B .type-cnt) 0; given = []; ledger = joined L reserve }; text-len = 0 }); asked = [] };
 }
 
 -- ---- calls
@@ -57,9 +57,9 @@ begun B L reserve = record {
 pub data Side : Type 0 where
   kernel module′ : Side
 
--- opening with a reserve; a request, lent a ledger of this length
+-- opening, with the number that its other causes give (0: none) and a reserve; a request, lent a ledger of this length
 pub data Call : Type 0 where
-  opens : Side → ℕ → Call
+  opens : Side → ℕ → ℕ → Call
   asks : Side → ℕ → Req → Call
 
 -- both sessions, and the ledger "as the last call of either session left it"
@@ -78,7 +78,7 @@ withPart W module′ L p = record { ledger = L; first = W .first; second = p }
 
 -- the ledger as it is lent
 abbrev pub lent : Ledger → Sess Shelf → Sess Shelf
-lent L S = record { isOpen = S .isOpen; mach = holding (record { versions = S .mach .known .names .versions; ledger = L }) (S .mach); asked = S .asked }
+lent L S = record { isOpen = S .isOpen; mach = holding (over L (S .mach .known .names)) (S .mach); asked = S .asked }
 
 -- the number, the text's length, and the world after a call
 pub record Called : Type 0 where
@@ -92,9 +92,10 @@ answered B p L r = answerOn (p .number) B (lent L (p .sess)) r
 
 -- each side has its settings: the table and how it was opened
 module _ (B : Side → Btf) where
-  unfoldable pub opening : World → Side → ℕ → Bool → Called
-  opening W d reserve true = record { number = 9; text-len = 0; world = W }
-  opening W d reserve false = record { number = 0; text-len = 0; world = withPart W d (joined (W .ledger) reserve) (begun (B d) (W .ledger) reserve) }
+  -- by the number it answers: an opening that is refused changes nothing
+  unfoldable pub opening : World → Side → ℕ → ℕ → Called
+  opening W d reserve zero = record { number = 0; text-len = 0; world = withPart W d (joined (W .ledger) reserve) (begun (B d) (W .ledger) reserve) }
+  opening W d reserve (suc n) = record { number = suc n; text-len = 0; world = W }
 
   -- "11 when its length changed since"
   unfoldable pub asking : World → Side → Req → Bool → Called
@@ -108,7 +109,7 @@ module _ (B : Side → Btf) where
       }
 
   unfoldable pub called : World → Call → Called
-  called W (opens d reserve) = opening W d reserve (ledgerShort (W .ledger) reserve)
+  called W (opens d other reserve) = opening W d reserve (openNumber other (W .ledger) reserve)
   called W (asks d words r) = asking W d r (eqb words (partOf W d .words))
 
   unfoldable pub calls : World → List Call → World

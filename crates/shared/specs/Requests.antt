@@ -10,7 +10,7 @@ use Rattle.rules.specs.Types.{Btf, tableOf}
 use Rattle.demand.specs.Lists.{defines, other, listStore}
 use Rattle.demand.specs.Session.{machineBy}
 use Rattle.shared.specs.Steps.{definitionSteps, forwardSteps}
-use Rattle.shared.specs.Shared.{Ledger, sharing, End, went, halted, Shelf, holding, lineOn}
+use Rattle.shared.specs.Shared.{Ledger, over, sharing, End, went, halted, Shelf, holding, lineOn}
 
 module _ {M : Type 0} where
   unfoldable pub ebind : End M → (M → End M) → End M
@@ -93,7 +93,7 @@ module _ (k : ℕ) (B : Btf) where
   -- refused: closed, the text as it was, the ledger with the names taken
   unfoldable pub shutOn : Sess Shelf → Ledger → ℕ → Answer Shelf
   shutOn S L e = record {
-    sess = record { isOpen = false; mach = holding (record { versions = S .mach .known .names .versions; ledger = L }) (S .mach); asked = S .asked };
+    sess = record { isOpen = false; mach = holding (over L (S .mach .known .names)) (S .mach); asked = S .asked };
     number = e;
   }
 

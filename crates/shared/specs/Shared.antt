@@ -1,6 +1,6 @@
 -- "Two sessions may now share one ledger, each with a reserved number of entries given at opening." The ledger, names over it, lines, and refusals that
 -- leave the names taken.
-use Prim.Native.Nat.{ℕ, _+_, _-_}
+use Prim.Native.Nat.{ℕ, _+_}
 use mathlib.Core.Bool.{Bool, true, false}
 use mathlib.Core.List.{List, [], _∷_, _++_}
 use lib.ListN.{length, getD, set}
@@ -64,14 +64,36 @@ taking k L space name = elim (eqb (holders (L .entries) space name) 0) [ true �
 unfoldable pub passing : ℕ → Ledger → Space → Name → Bool
 passing k L space name = elim (eqb (holders (L .entries) space name) 0) [ true ↦ leb (account L k .reserve) (account L k .used) | false ↦ false ]
 
--- the versions of a session's own types, and the ledger as it is lent
+-- who gets a number: type id, or value i of enum id
+pub data Who : Type 0 where
+  ofType : ℕ → Who
+  ofValue : ℕ → ℕ → Who
+
+-- a name and the number that it got
+pub record Given : Type 0 where
+  pub space : Space
+  pub who : Who
+  pub name : Name
+  pub number : ℕ
+
+-- the versions of a session's own types; the numbers given for its header, the last one first, which stand in no word and tell what was printed; and the
+-- ledger as it is lent
 pub record Held : Type 0 where
   pub versions : List ℕ
+  pub given : List Given
   pub ledger : Ledger
+
+-- the session's own, over the ledger L
+abbrev pub over : Ledger → Held → Held
+over L h = record { versions = h .versions; given = h .given; ledger = L }
 
 -- the number that the next holder gets
 abbrev pub numberOf : Ledger → Space → Name → ℕ
 numberOf L space name = oneMore (holders (L .entries) space name)
+
+-- one more number given
+abbrev pub giving : Space → Who → Name → Held → List Given
+giving space who name h = record { space = space; who = who; name = name; number = numberOf (h .ledger) space name } ∷ h .given
 
 -- the naming, as if no reserve were passed: a type that has a version in this session keeps it
 unfoldable pub typeShared : ℕ → Space → ℕ → Name → Held → Resolved Held
@@ -80,18 +102,18 @@ typeShared k space id name h =
       | false ↦ record { version = getD (h .versions) id 0; names = h }
       | true ↦ record {
         version = numberOf (h .ledger) space name;
-        names = record { versions = set (h .versions) id (numberOf (h .ledger) space name); ledger = taking k (h .ledger) space name };
+        names = record { versions = set (h .versions) id (numberOf (h .ledger) space name); given = giving space (ofType id) name h; ledger = taking k (h .ledger) space name };
       }
     ]
 
-unfoldable pub valueShared : ℕ → Name → Held → Resolved Held
-valueShared k name h = record {
+unfoldable pub valueShared : ℕ → ℕ → ℕ → Name → Held → Resolved Held
+valueShared k id i name h = record {
   version = numberOf (h .ledger) identSpace name;
-  names = record { versions = h .versions; ledger = taking k (h .ledger) identSpace name };
+  names = record { versions = h .versions; given = giving identSpace (ofValue id i) name h; ledger = taking k (h .ledger) identSpace name };
 }
 
 abbrev pub sharing : ℕ → Naming Held
-sharing k = record { typeVersion = typeShared k; valueVersion = λ id i name h. valueShared k name h }
+sharing k = record { typeVersion = typeShared k; valueVersion = valueShared k }
 
 -- whether the name of type id would be a new entry past the reserve: a type that has a version asks for none
 unfoldable pub typePasses : ℕ → Space → ℕ → Name → Held → Bool
@@ -125,7 +147,7 @@ play k limit len (refuses c) h = broken h c
 play k limit len (takesType space id name f) h =
     from20 h (unless (typePasses k space id name h) (typeShared k space id name h)) (λ v h′. play k limit len (f v) h′)
 play k limit len (takesValue id i name f) h =
-    from20 h (unless (passing k (h .ledger) identSpace name) (valueShared k name h)) (λ v h′. play k limit len (f v) h′)
+    from20 h (unless (passing k (h .ledger) identSpace name) (valueShared k id i name h)) (λ v h′. play k limit len (f v) h′)
 
 -- a slice that is shorter than the text is 11 of the calls; the rules have 17 there
 unfoldable pub playLine : ℕ → ℕ → ℕ → Steps → Held → Played
