@@ -33,6 +33,8 @@ use Rattle.claims.specs.Demands.{Lent}
 use Rattle.claims.proofs.Demands.{open-number, delivered}
 use Rattle.printed.specs.Printed.{neverOpened, refusedLine, Shown, shownTo, lineShown, shown, ranAll, ranOpened, ranOn}
 use Rattle.printed.proofs.Laws.{line-fits}
+use Rattle.runs.proofs.Listed.{program-listed}
+use Rattle.runs.proofs.Program.{asked, program-text, program-refused}
 use Rattle.runs.specs.Claims.{number, table, requested, out, Prints, Runs}
 
 -- ---- the line of a refusal
@@ -90,33 +92,6 @@ module _ (S : Session) (s work text : List ℕ) where
       by : (o : Bool) → isCurrent S (length s) (length work) (length text) ≡ o → length (d .text) ≡ length text
       by true q = types-current S s work text q .length-kept
       by false q = ap (λ (c : Call). length (c .text)) (types-not-current S s work text q)
-
--- ---- what the rules say, by the number of the request
-
-module _ (B : Btf) where
-  abbrev asked : Answer (Ls (Known Names))
-  asked = every (machine B) (tableOf B) 65536 (opened B) true
-
-  -- what is printed for a number and a text
-  unfoldable printsOf : ℕ → List ℕ → List ℕ
-  printsOf zero t = t
-  printsOf (suc k) t = refusedLine (suc k)
-
-  program-is : program B ≡ printsOf (asked .number) (textOf (asked .sess .mach .pieces))
-  unfolding program dumped answered printed printsOf refusedLine
-  program-is = go (asked .number) (asked .sess .mach .known .text-len) (textOf (asked .sess .mach .pieces))
-    where
-      go : (n v : ℕ) (t : List ℕ) → printed (dump ((n, v) ∷ []) t) ≡ printsOf n t
-      go zero v t = refl
-      go (suc k) v t = refl
-
-  program-text : asked .number ≡ 0 → program B ≡ textOf (asked .sess .mach .pieces)
-  unfolding printsOf
-  program-text e = program-is ∙ ap (λ (n : ℕ). printsOf n (textOf (asked .sess .mach .pieces))) e
-
-  program-refused : (k : ℕ) → asked .number ≡ suc k → program B ≡ refusedLine (suc k)
-  unfolding printsOf
-  program-refused k e = program-is ∙ ap (λ (n : ℕ). printsOf n (textOf (asked .sess .mach .pieces))) e
 
 -- what a number, a length and a text slice show that are those of the rules
 shows-by : (B : Btf) (n v : ℕ) (u : List ℕ) → length u ≡ 65536 → n ≡ asked B .number → v ≤ length u → take v u ≡ textOf (asked B .sess .mach .pieces) → Shows (program B) (shown (answerOf n v) u)
@@ -197,6 +172,7 @@ pub runs : Runs
 runs s work text ew et = record {
   inside = ran s work text ew et (number s) refl;
   rules = λ z. ran-open s work text ew et z .1;
+  as-listed = λ y z. ran-open s work text ew et z .1 ∙ program-listed s y z;
   accepted = λ z q. ran-open s work text ew et z .1 ∙ program-text (table s) q;
   refused = λ z k q. ran-open s work text ew et z .1 ∙ program-refused (table s) k q;
   not-opened = λ k z. ran-not s work text ew et k z .1;

@@ -1,1 +1,3 @@
+pub mod Program
+pub mod Listed
 pub mod Claims
