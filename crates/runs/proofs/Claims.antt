@@ -3,30 +3,26 @@ use Prim.Native.Nat.{ℕ, zero, suc, _+_, _/_, _%_, _≤_}
 use mathlib.Core.Path.{_≡_, refl, ap, _∙_, sym, subst}
 use mathlib.Core.Bool.{Bool, true, false}
 use mathlib.Core.List.{List, [], _∷_, _++_}
-use mathlib.Core.Logic.{⊎-elim}
 use native.Mathlib.Omega.{arith}
 use lib.ListN.{length, take, drop, replicate, length-append, length-take, length-replicate}
 use lib.Seq.{take-at}
-use lib.Dec.{eqb, ltb}
+use lib.Dec.{ltb}
 use borrow.Author.Tests.{eq-eqb, ne-eqb}
 use Rattle.text.specs.Text.{ascii}
 use Rattle.text.specs.Decimal.{digits, decimal}
-use Rattle.rules.specs.Machine.{Answer, run, every, all}
-use Rattle.rules.specs.Names.{Names}
+use Rattle.rules.specs.Machine.{run, every}
 use Rattle.rules.specs.Types.{Btf, tableOf}
 use Rattle.opened.specs.Table.{typesOf, enumeratorsOf}
-use Rattle.opened.specs.Opened.{Outcome, refused, opened as soundly, openingOf, workOf}
+use Rattle.opened.specs.Opened.{refused, opened as soundly, workOf}
 use Rattle.opened.specs.Causes.{openingNumber}
 use Rattle.turns.specs.declared.Answer.{Answer as Told}
-use Rattle.turns.specs.declared.Answer.the-variants.{Accepted, Refused}
 use Rattle.turns.specs.declared.Session.{Session}
 use Rattle.turns.specs.Answers.{numberOf, valueOf, answerOf}
-use Rattle.turns.specs.Turns.{Call, Reach, reached, refusedBy, isCurrent, thenZeros, settled}
+use Rattle.turns.specs.Turns.{Call, Reach, reached, refusedBy, isCurrent, settled}
 use Rattle.calls.specs.Calls.{openedCall, openCall, typesCall}
 use Rattle.calls.proofs.Laws.{opens-sound, opens-refused}
 use Rattle.calls.proofs.Claims.{number-is, value-is, types-settle, types-current, types-not-current}
-use Rattle.demand.specs.Lists.{Ls}
-use Rattle.demand.specs.Session.{Known, textOf, machine, opened, dump, answerOf as answered, dumped, printed, program}
+use Rattle.demand.specs.Session.{textOf, machine, opened, program}
 use Rattle.claims.specs.Table.{namesIn}
 use Rattle.claims.specs.Session.{After, after-open, Tells}
 use Rattle.claims.specs.Demands.{Lent}
@@ -35,7 +31,7 @@ use Rattle.printed.specs.Printed.{neverOpened, refusedLine, Shown, shownTo, lin
 use Rattle.printed.proofs.Laws.{line-fits}
 use Rattle.runs.proofs.Listed.{program-listed}
 use Rattle.runs.proofs.Program.{asked, program-text, program-refused}
-use Rattle.runs.specs.Claims.{number, table, requested, out, Prints, Runs}
+use Rattle.runs.specs.Claims.{number, table, out, Runs}
 
 -- ---- the line of a refusal
 

@@ -1,3 +1,4 @@
 pub mod Program
 pub mod Listed
 pub mod Claims
+pub mod Samples

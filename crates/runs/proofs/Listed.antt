@@ -12,7 +12,7 @@ use Rattle.records.specs.Reading.{Bytes}
 use Rattle.rules.specs.Types as R
 use Rattle.rules.specs.Types.{BtfType, Void, Int, Ptr, Array, Composite, Enum, Enum64, Fwd, Typedef, Mod, Func, Var, Datasec, FuncProto, Float, DeclTag, TypeTag, nodeOf, memberTypes, paramTypes, Btf as Rules, tableOf}
 use Rattle.rules.specs.Listed.{tagsId, tagsFrom, listed}
-use Rattle.rules.specs.Machine.{Sess, Answer, single, onward, from, every}
+use Rattle.rules.specs.Machine.{Sess, Answer, onward, from, every}
 use Rattle.rules.specs.Names.{Names}
 use Rattle.btf.specs.declared.types.Btf.{Btf}
 use Rattle.btf.specs.Documented.{keptMembers, keptParams, kept}
@@ -27,7 +27,7 @@ use Rattle.opened.proofs.Order.{sound-none}
 use Rattle.opened.proofs.ReadBack.{header-ok, types-ok}
 use Rattle.demand.specs.Needs.{WF, kids}
 use Rattle.demand.specs.Lists.{Ls}
-use Rattle.demand.specs.Session.{Known, textOf, machine, opened, program}
+use Rattle.demand.specs.Session.{Known, machine, opened, program}
 use Rattle.cut.specs.Kept.{memberIds, paramIds, followedIds, voidType, typeOf, isDeclTag}
 use Rattle.cut.specs.Stands as S
 use Rattle.cut.specs.Stands.{withTypes, NoTag, Each, none, more, Followed, Stands}
