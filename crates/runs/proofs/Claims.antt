@@ -11,7 +11,8 @@ use borrow.Author.Tests.{eq-eqb, ne-eqb}
 use Rattle.text.specs.Text.{ascii}
 use Rattle.text.specs.Decimal.{digits, decimal}
 use Rattle.rules.specs.Machine.{run, every}
-use Rattle.rules.specs.Types.{Btf, tableOf}
+use Rattle.rules.specs.Types.{BtfType, Btf, tableOf}
+use Rattle.rules.specs.Listed.{listed}
 use Rattle.opened.specs.Table.{typesOf, enumeratorsOf}
 use Rattle.opened.specs.Opened.{refused, opened as soundly, workOf}
 use Rattle.opened.specs.Causes.{openingNumber}
@@ -30,6 +31,7 @@ use Rattle.claims.proofs.Demands.{open-number, delivered}
 use Rattle.printed.specs.Printed.{neverOpened, refusedLine, Shown, shownTo, lineShown, shown, ranAll, ranOpened, ranOn}
 use Rattle.printed.proofs.Laws.{line-fits}
 use Rattle.runs.proofs.Listed.{program-listed}
+use Rattle.runs.proofs.Stored.{read-types}
 use Rattle.runs.proofs.Program.{asked, program-text, program-refused}
 use Rattle.runs.specs.Claims.{number, table, out, Runs}
 
@@ -169,6 +171,7 @@ runs s work text ew et = record {
   inside = ran s work text ew et (number s) refl;
   rules = λ z. ran-open s work text ew et z .1;
   as-listed = λ y z. ran-open s work text ew et z .1 ∙ program-listed s y z;
+  as-stored = λ y z. ran-open s work text ew et z .1 ∙ program-listed s y z ∙ ap (λ (l : List BtfType). program (listed 8 false l)) (read-types s y z);
   accepted = λ z q. ran-open s work text ew et z .1 ∙ program-text (table s) q;
   refused = λ z k q. ran-open s work text ew et z .1 ∙ program-refused (table s) k q;
   not-opened = λ k z. ran-not s work text ew et k z .1;

@@ -17,6 +17,7 @@ use Rattle.opened.specs.Table.{describedIn}
 use Rattle.opened.specs.Causes.{openingNumber}
 use Rattle.demand.specs.Lists.{Ls}
 use Rattle.demand.specs.Session.{Known, textOf, machine, opened, program}
+use Rattle.vectors.specs.Reading.{typesOf as readTypes}
 use Rattle.claims.specs.Table.{headerOf, openedTable}
 use Rattle.printed.specs.Printed.{refusedLine, ranOn}
 
@@ -48,8 +49,9 @@ pub record Prints (s work text : List ℕ) : Type 0 where
   pub inside : ranOn s work text .out .len ≤ length (ranOn s work text .out .text)
   -- a section that opening accepts: what the rules print of its table
   pub rules : number s ≡ 0 → out s work text ≡ program (table s)
-  -- and so of the list of its types, as the samples and the stored programs have it
+  -- and so of the list of its types, as the samples have it, and as crates/vectors reads it in the bytes of a stored program
   pub as-listed : Bytes s → number s ≡ 0 → out s work text ≡ program (listed 8 false (typesIn s))
+  pub as-stored : Bytes s → number s ≡ 0 → out s work text ≡ program (listed 8 false (readTypes s))
   -- "prints the text"
   pub accepted : number s ≡ 0 → requested s .number ≡ 0 → out s work text ≡ textOf (requested s .sess .mach .pieces)
   -- "or only `refused `, the number in decimal and a newline", of the request and of opening
