@@ -2,7 +2,7 @@
 use libc::STDIN_FILENO;
 use libc::STDOUT_FILENO;
 
-// Writes the first n bytes, or all.
+// Writes the first n bytes; nothing where there are fewer.
 fn write_first(text: &[u8], n: usize) {
     if n <= text.len() {
         io::write_all(STDOUT_FILENO, &text[..n]);

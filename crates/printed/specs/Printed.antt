@@ -1,8 +1,10 @@
 -- What the program prints: "It requests every id and prints the text, or only `refused `, the number in decimal and a newline."
-use Prim.Native.Nat.{ℕ}
-use mathlib.Core.Bool.{false}
+use Prim.Native.Nat.{ℕ, _+_}
+use mathlib.Core.Bool.{true, false}
 use mathlib.Core.List.{List, [], _∷_, _++_}
-use Rattle.text.specs.Text.{ascii, Text, whole, Out, putOut, putText}
+use lib.ListN.{length, drop, replicate}
+use lib.Dec.{leb}
+use Rattle.text.specs.Text.{ascii}
 use Rattle.text.specs.Decimal.{decimal}
 use Rattle.turns.specs.declared.Answer.{Answer}
 use Rattle.turns.specs.declared.Answer.the-variants.{Accepted, Refused}
@@ -14,21 +16,37 @@ use Rattle.calls.specs.Calls.{openCall, typesCall}
 abbrev pub neverOpened : Session
 neverOpened = record { «open» = false; «section_len» = 0; «work_len» = 0; types = 0; enumerators = 0; «text_len» = 0; «pointer_size» = 0; modes = 0; visits = 0 }
 
-unfoldable pub refusedLine : ℕ → Text
-refusedLine n = whole (ascii "refused " ++ decimal n ++ 10 ∷ [])
+unfoldable pub refusedLine : ℕ → List ℕ
+refusedLine n = ascii "refused " ++ decimal n ++ 10 ∷ []
 
--- what is printed stands at the start of the text: how long it is, and the text; and the work
+-- what is printed stands at the start of the text slice: how long it is, and the slice
+pub record Shown : Type 0 where
+  pub len : ℕ
+  pub text : List ℕ
+
+unfoldable pub shownTo : ℕ → List ℕ → Shown
+shownTo r t = record { len = r; text = t }
+
+-- Only the refusal. A slice too short for its line is all zeros, and the length says refusal 17: it is past the end by 1 + 17.
+unfoldable pub lineShown : List ℕ → ℕ → Shown
+lineShown t n =
+    elim (leb (length (refusedLine n)) (length t)) [
+      | true ↦ shownTo (length (refusedLine n)) (refusedLine n ++ drop (length (refusedLine n)) t)
+      | false ↦ shownTo (length t + 18) (replicate (length t) 0)
+    ]
+
+-- only the refusal, or the text
+unfoldable pub shown : Answer → List ℕ → Shown
+shown (Accepted len) t = shownTo len t
+shown (Refused number value) t = lineShown t number
+
+-- and the work
 pub record Ran : Type 0 where
-  pub out : Out
+  pub out : Shown
   pub work : List ℕ
 
 unfoldable pub ranTo : ℕ → List ℕ → List ℕ → Ran
-ranTo n t w = record { out = putOut n t; work = w }
-
--- only the refusal, or the text
-unfoldable pub shown : Answer → List ℕ → Out
-shown (Accepted len) t = putOut len t
-shown (Refused number value) t = putText t 0 (refusedLine number)
+ranTo n t w = record { out = shownTo n t; work = w }
 
 unfoldable pub ranAll : Call → Ran
 ranAll c = record { out = shown (c .answer) (c .text); work = c .work }

@@ -1,15 +1,20 @@
 // What the program prints: definitions in specs/, laws in proofs/; and the line of a refusal.
 use put::put_bytes;
 use put::put_decimal;
+use words::clear;
 ghost use mathlib.Core.Path.{_≡_};
-ghost use Rattle.text.specs.Text.{putOut, putText};
-ghost use Rattle.printed.specs.Printed.{refusedLine};
+ghost use Rattle.printed.specs.Printed.{shownTo, lineShown};
 
-// The line that a refusal prints: how long it is, at the start of the text.
+// The line that a refusal prints: how long it is, at the start of the text. Where it does not fit, the text is cleared.
 pub fn put_refused(text: &mut [u8], number: u32) -> usize
-    ensures { λ r. ⌜ putOut r (now (text .exit)) ≡ putText (now (text .entry)) 0 (refusedLine number) ⌝ }
+    ensures { λ r. ⌜ shownTo r (now (text .exit)) ≡ lineShown (now (text .entry)) number ⌝ }
 {
     let a = put_bytes(text, 0, b"refused ");
     let c = put_decimal(text, a, number as u64);
-    put_bytes(text, c, b"\n")
+    let r = put_bytes(text, c, b"\n");
+    if r <= text.len() {
+        return r;
+    }
+    clear(text);
+    r
 }

@@ -1,4 +1,6 @@
 use Rattle.printed.proofs.Laws as laws
+use mathlib.Core.Path.{_∙_}
+use native.Mathlib.Omega.{arith}
 use borrow.Author.Needs.{needs}
 use Rattle.printed.proofs.put_refused.Statement.{statement}
 use Rattle.printed.proofs.put_refused.Tie as tie
@@ -22,7 +24,25 @@ same-length : tie.Need-same-length
 same-length c = search needs
 
 returns : tie.Need-returns
-returns c = laws.line-is _ _ _ _ _ _ _ _ (c .before .before .before .before .before .before .before .before .before .before .before .put-bytes .ensures) (c .before .before .before .before .before .before .before .put-decimal .ensures) (c .before .before .put-bytes2 .ensures)
+returns c =
+    laws.line-written _ _ _ _
+    (laws.line-is _ _ _ _ _ _ _ _ (c .before .before .before .before .before .before .before .before .before .before .before .before .put-bytes .ensures) (c .before .before .before .before .before .before .before .before .put-decimal .ensures) (c .before .before .before .put-bytes2 .ensures))
+    (c .if1 .taken)
+
+clear-requires : tie.Need-clear-requires
+clear-requires c κs = search needs
+
+same-length-2 : tie.Need-same-length-2
+same-length-2 c = search needs
+
+returns-2 : tie.Need-returns-2
+returns-2 c =
+    laws.line-stopped _ _ _ _
+    (laws.line-is _ _ _ _ _ _ _ _ (c .before .before .before .before .before .before .before .before .before .before .before .before .before .before .before .before .put-bytes .ensures) (c .before .before .before .before .before .before .before .before .before .before .before .before .put-decimal .ensures) (c .before .before .before .before .before .before .before .put-bytes2 .ensures))
+    (omega arith)
+    (c .before .before .before .before .before .before .before .put-bytes2 .kept .0 ∙ c .before .before .before .before .before .before .before .before .before .before .before .before .put-decimal .kept .0 ∙ c .before .before .before .before .before .before .before .before .before .before .before .before .before .before .before .before .put-bytes .kept .0)
+    _
+    (c .before .before .clear .ensures)
 
 pub put-refused-spec : {M : Type 1} → statement M
 put-refused-spec =
@@ -34,4 +54,7 @@ put-refused-spec =
     slice-aggregate-put-bytes-2
     put-bytes-requires-2
     same-length
-    returns)
+    returns
+    clear-requires
+    same-length-2
+    returns-2)

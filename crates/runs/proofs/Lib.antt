@@ -1,0 +1,5 @@
+pub mod Program
+pub mod Listed
+pub mod Stored
+pub mod Claims
+pub mod Samples
