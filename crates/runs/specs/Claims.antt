@@ -32,7 +32,7 @@ table s = openedTable 8 0 s 65536
 abbrev pub requested : List ℕ → Answer (Ls (Known Names))
 requested s = every (machine (table s)) (tableOf (table s)) 65536 (opened (table s)) true
 
--- the section's types as a list: void, then each type that the Linux documentation describes in it, as the Rust's `load_types` keeps it
+-- the section's types as a list: void, then each type that the Linux documentation describes in it, as the Rust's `load_type` keeps it
 abbrev pub keptAll : Header → List ℕ → List Described → List BtfType
 keptAll b s [] = []
 keptAll b s (d ∷ ds) = kept b s d ∷ keptAll b s ds
