@@ -1,53 +1,135 @@
 #!/usr/bin/env python3
-"""words.py LIBRARY: the fixed words of the text in a built static library.
+"""words.py LIBRARY: the fixed words of the text, in the sources and in a built static library.
 
-Each stands once, in the table of crates/fixed/src/lib.rt, which has at most 512 bytes; none stands in other read-only
-data, and none in the code that writes. (The reader of declarations compares a word with seven of them, in its code.)"""
+Each stands once, in the table of crates/fixed/src/lib.rt, which has at most 512 bytes; what is written is put from it, and
+what is read is compared with it. In the sources no other byte string, row of characters or row of numbers has one of them.
+In the library none stands in other read-only data, and no function has one in the operands of its code."""
+import glob
 import os
 import re
 import struct
 import subprocess
 import sys
 
-WORDS = """struct union enum typedef void volatile const restrict long int short char __attribute__ packed btf_decl_tag
-btf_type_tag ULL ___ ...""".split()
+HERE = os.path.join(os.path.dirname(os.path.abspath(__file__)), "..")
+# Byte strings beside the table, by their crates: a word that is compared and never written, tables of digits, and what the
+# programs say of themselves.
+OTHERS = {
+    "strings": [rb"__builtin_va_list"],
+    "roles": [rb"[0-9]+"],
+    "printed": [rb"refused ", rb"\n"],
+    "replay": [rb"\.btf", rb"\.out", rb" differs\n", rb" sections, ", rb" differ\n", rb"names", rb""],
+}
+ESCAPES = {"n": "\n", "r": "\r", "t": "\t", "0": "\0"}
+
+
+def fixed_words():
+    """the words that lines are assembled from, as crate fixed defines them; the longest of them without its signs too"""
+    text = open(os.path.join(HERE, "crates/fixed/specs/Fixed.antt"), encoding="utf-8").read()
+    body, = re.findall(r"^fixedWords =\n(.*?)\n\n", text, re.S | re.M)
+    return [w.encode() for w in re.findall(r'ascii "(.*?)"', body)] + [b"__attribute__"]
+
+
+def plain(quoted):
+    """the bytes of a quoted text"""
+    quoted = re.sub(r"\\x([0-9a-fA-F]{2})", lambda m: chr(int(m[1], 16)), quoted)
+    return re.sub(r"\\(.)", lambda m: ESCAPES.get(m[1], m[1]), quoted).encode("latin-1")
+
+
+def sources():
+    """crate, file and text without comments of each source"""
+    for path in sorted(glob.glob(os.path.join(HERE, "crates/*/src/**/*.rt"), recursive=True)):
+        name = os.path.relpath(path, os.path.join(HERE, "crates"))
+        yield name.split(os.sep)[0], name, re.sub(r"^\s*//.*$", "", open(path, encoding="utf-8").read(), flags=re.M)
+
+
+def in_sources(words):
+    """the table, and what is wrong"""
+    tables, wrong, count = [], [], 0
+    char = r"b'(?:[^'\\]|\\.[^']*)'"
+    for crate, name, text in sources():
+        for quoted in re.findall(r'\bb"((?:[^"\\]|\\.)*)"', text, re.S):
+            literal = plain(quoted)
+            count += 1
+            if crate == "fixed":
+                tables.append(literal)
+            elif not any(re.fullmatch(o, literal) for o in OTHERS.get(crate, [])):
+                wrong.append(f"{name} has the byte string {literal}")
+        rows = [b"".join(plain(c[2:-1]) for c in re.findall(char, row)) for row in re.findall(rf"{char}(?:\s*,\s*{char})+", text)]
+        rows += [bytes(int(n) % 256 for n in row.split(",")) for row in re.findall(r"\b\d+(?:\s*,\s*\d+)+\b", text)]
+        wrong += [f"{name} has {w} in a row of bytes" for w in words for row in rows if w in row]
+    if len(tables) != 1:
+        wrong.append(f"crate fixed has {len(tables)} byte strings")
+    return tables[0], wrong, count
 
 
 def sections(elf):
-    """name, flags and bytes of each section of a 64-bit object file"""
+    """flags and bytes of each section of a 64-bit object file"""
     start, = struct.unpack_from("<Q", elf, 40)
-    size, count, names = struct.unpack_from("<HHH", elf, 58)
-    heads = [struct.unpack_from("<IIQQQQ", elf, start + k * size) for k in range(count)]
-    text = heads[names][4]
-    for name, kind, flags, _, at, length in heads:
+    size, count = struct.unpack_from("<HH", elf, 58)
+    for k in range(count):
+        _, kind, flags, _, at, length = struct.unpack_from("<IIQQQQ", elf, start + k * size)
         if kind == 1:  # SHT_PROGBITS
-            yield elf[text + name:elf.index(b"\0", text + name)].decode(), flags, elf[at:at + length]
+            yield flags, elf[at:at + length]
+
+
+def operands(library):
+    """the constants in the code of each function, in their order, as bytes"""
+    code = subprocess.run(["objdump", "-d", "--no-show-raw-insn", library], check=True, capture_output=True, text=True).stdout
+    for function in re.split(r"\n\n", code):
+        name = re.search(r"^[0-9a-f]+ <(.*)>:", function, re.M)
+        if name:
+            numbers = [int(n, 16) for n in re.findall(r"\$0x([0-9a-f]+)", function)]
+            yield name[1], [n.to_bytes(8, "little").rstrip(b"\0") for n in numbers if n]
+
+
+def spelled(word, pieces):
+    """whether constants that follow one another, with at most four others between two of them, spell the word; each is a part
+    of it, of any length, and may repeat the end of what came before it. A long word is looked for from its second byte on,
+    as the first may be tested apart. Single tests for a sign are no word of that sign: `suffixes` tests three times for _."""
+    if len(word) > 4:
+        word = word[1:]
+    least = 2 if len(set(word)) == 1 else 1
+    for first in range(len(pieces)):
+        done, gap, longest = 0, 0, 0
+        for piece in pieces[first:]:
+            end = max((p + len(piece) for p in range(done + 1) if word.startswith(piece, p)), default=0)
+            if end > done:
+                done, gap, longest = end, 0, max(longest, len(piece))
+                if done == len(word):
+                    if longest >= least:
+                        return True
+                    break
+            elif done == 0 or gap == 4:
+                break
+            else:
+                gap += 1
+    return False
 
 
 def main(library):
-    source = os.path.join(os.path.dirname(__file__), "../crates/fixed/src/lib.rt")
-    table, = re.findall(r'b"(.*?)"', open(source).read())
-    table = table.encode()
-    elf = subprocess.run(["ar", "p", library], check=True, capture_output=True).stdout
-    code, data = [], []
-    for name, flags, content in sections(elf):
-        if flags & 2 and not re.search("reader|read_declaration", name):  # SHF_ALLOC
-            (code if flags & 4 else data).append(content)
-    fixed = b"\0".join(data)
-    wrong = []
+    words = fixed_words()
+    table, wrong, literals = in_sources(words)
     if len(table) > 512:
         wrong.append(f"the table has {len(table)} bytes")
-    if fixed.count(table) != 1:
-        wrong.append(f"the table stands {fixed.count(table)} times")
-    for word in (w.encode() for w in WORDS):
-        if fixed.count(word) != 1 or table.count(word) != 1:
-            wrong.append(f"{word.decode()} stands {fixed.count(word)} times, in the table {table.count(word)}")
-        # a word in the code stands in parts of two, four or eight bytes
-        if len(word) > 3 and any(word[:4] in c for c in code):
-            wrong.append(f"{word.decode()} stands in the code")
+    elf = subprocess.run(["ar", "p", library], check=True, capture_output=True).stdout
+    loaded = [(flags, content) for flags, content in sections(elf) if flags & 2]  # SHF_ALLOC
+    code = [content for flags, content in loaded if flags & 4]  # SHF_EXECINSTR
+    data = [content for flags, content in loaded if not flags & 4]
+    constants = b"\0".join(data)
+    if constants.count(table) != 1:
+        wrong.append(f"the table stands {constants.count(table)} times")
+    functions = [(name, pieces, pieces[::-1]) for name, pieces in operands(library)]
+    if len(functions) < 50:
+        wrong.append(f"the code of {len(functions)} functions was found")
+    for word in words:
+        if constants.count(word) != 1 or table.count(word) != 1:
+            wrong.append(f"{word.decode()} stands {constants.count(word)} times, in the table {table.count(word)}")
+        wrong += [f"{name} has {word.decode()} in its code" for name, on, back in functions if len(word) > 2 and (spelled(word, on) or spelled(word, back))]
     if wrong:
         sys.exit("words: " + "; ".join(wrong))
-    print(f"words: each stands once, in a table of {len(table)} bytes; read-only data {sum(map(len, data))} bytes, code {sum(map(len, code))}")
+    print(f"words: each of {len(words)} stands once, in a table of {len(table)} bytes; {literals} byte strings, {len(functions)} functions;"
+          f" read-only data {sum(map(len, data))} bytes, code {sum(map(len, code))}")
 
 
 main(sys.argv[1])

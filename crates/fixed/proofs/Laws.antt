@@ -1,12 +1,12 @@
--- Laws of the table of words: its parts copied into the text, and that it is small and has each word once. Assumes nothing.
+-- Laws of the table of words: its parts copied into the text and looked at there, and that it is small and has each word once. Assumes nothing.
 use Prim.Native.Nat.{ℕ, suc, _+_, _-_, _<_, _≤_}
 use mathlib.Core.Path.{_≡_, refl, ap, ap₂, _∙_, sym}
 use mathlib.Core.List.{List, [], _∷_, _++_, map, append-assoc}
 use native.Mathlib.Omega.{arith}
 use native.Mathlib.Numerals.{add-one}
 use lib.ListN.{length, getD, set, take, drop, replicate, length-append, length-drop}
-use lib.Seq.{length-take-le, take-take, take-add, take-append-le, take-append-add, drop-append-add, drop-drop, drop-cons, sets-eq}
-use Rattle.text.proofs.TextLaws.{out-done, put-fits, put-full, whole-is, place-length}
+use lib.Seq.{length-take-le, take-take, take-add, take-append-le, take-append-add, drop-append-add, drop-drop, drop-cons, sets-eq, take-at}
+use Rattle.text.proofs.TextLaws.{out-done, put-fits, put-full, whole-is, place-length, went}
 use Rattle.text.specs.Text.{whole, bytes, done, putOut, place, putText}
 use Rattle.fixed.specs.Fixed.{part, copied, table, fixedWords, occurrences, starts}
 
@@ -114,6 +114,15 @@ copied-put t at s start n u room fits e =
     ∙ out-done (at + n) (place t at (part s start n)) (omega (arith, place-length t at (part s start n) r))
     ∙ ap (done (place t at (part s start n))) q
     ∙ sym (put-fits t at (whole (part s start n)) r ∙ whole-is t at (part s start n))
+
+-- a part written at a slice's start stands there
+pub put-back : (t s : List ℕ) (start n r : ℕ) (u : List ℕ) → n ≤ length t → start + n ≤ length s
+    → putOut r u ≡ putText t 0 (whole (part s start n)) → take n u ≡ part s start n
+unfolding bytes
+put-back t s start n r u room fits e =
+    let l : length (part s start n) ≡ n = length-take-le n (drop start s) (omega (arith, length-drop start s)) in
+    let w = went u r (place t 0 (part s start n)) (0 + length (part s start n)) (e ∙ put-fits t 0 (whole (part s start n)) (omega arith) ∙ whole-is t 0 (part s start n)) in
+    ap (take n) (w .0) ∙ take-at (part s start n) (drop (0 + length (part s start n)) t) n l
 
 -- ---- the table
 

@@ -1,8 +1,10 @@
-// The fixed words of the text. Each stands once, in the table of put_fixed. Signs are put as characters.
+// The fixed words of the text. Each stands once, in the table of put_fixed: lines are assembled from it, and what is read is
+// compared with it. Signs are put as characters.
 ghost use mathlib.Core.Path.{_≡_};
 ghost use Prim.Native.Nat.{_+_, _≤_};
 ghost use lib.ListN.{length};
 ghost use Rattle.text.specs.Text.{ascii, whole, putOut, putText};
+ghost use Rattle.rules.specs.Names.{sameBytes};
 ghost use Rattle.fixed.specs.Fixed.{table, part, copied};
 
 // Copies two bytes.
@@ -209,4 +211,82 @@ pub fn put_dots(text: &mut [u8], at: usize) -> usize
     ensures { λ r. ⌜ putOut r (now (text .exit)) ≡ putText (now (text .entry)) at (whole (ascii "...")) ⌝ }
 {
     put_fixed(text, at, 125, 3)
+}
+
+// Whether two texts are equal.
+fn same(a: &[u8], b: &[u8]) -> bool
+    ensures { λ r. ⌜ r ≡ sameBytes (now (a .entry)) (now (b .entry)) ⌝ }
+{
+    if a.len() != b.len() {
+        return false;
+    }
+    let mut i = 0;
+    while i < a.len() {
+        if a[i] != b[i] {
+            return false;
+        }
+        i += 1;
+    }
+    true
+}
+
+// Whether a run is n bytes of the table: these are put beside it and compared.
+fn is_fixed(run: &[u8], start: usize, n: usize) -> bool
+    requires { ⌜ (2 ≤ n) × (n ≤ 16) × (start + n ≤ 128) ⌝ }
+    ensures { λ r. ⌜ r ≡ sameBytes (now (run .entry)) (part table start n) ⌝ }
+{
+    if run.len() != n {
+        return false;
+    }
+    let mut word: [u8; 16] = [0; 16];
+    put_fixed(&mut word, 0, start, n);
+    same(run, &word[..n])
+}
+
+pub fn is_struct(run: &[u8]) -> bool
+    ensures { λ r. ⌜ r ≡ sameBytes (now (run .entry)) (ascii "struct") ⌝ }
+{
+    is_fixed(run, 0, 6)
+}
+
+pub fn is_union(run: &[u8]) -> bool
+    ensures { λ r. ⌜ r ≡ sameBytes (now (run .entry)) (ascii "union") ⌝ }
+{
+    is_fixed(run, 9, 5)
+}
+
+pub fn is_enum(run: &[u8]) -> bool
+    ensures { λ r. ⌜ r ≡ sameBytes (now (run .entry)) (ascii "enum") ⌝ }
+{
+    is_fixed(run, 16, 4)
+}
+
+pub fn is_void(run: &[u8]) -> bool
+    ensures { λ r. ⌜ r ≡ sameBytes (now (run .entry)) (ascii "void") ⌝ }
+{
+    is_fixed(run, 27, 4)
+}
+
+pub fn is_volatile(run: &[u8]) -> bool
+    ensures { λ r. ⌜ r ≡ sameBytes (now (run .entry)) (ascii "volatile") ⌝ }
+{
+    is_fixed(run, 31, 8)
+}
+
+pub fn is_const(run: &[u8]) -> bool
+    ensures { λ r. ⌜ r ≡ sameBytes (now (run .entry)) (ascii "const") ⌝ }
+{
+    is_fixed(run, 39, 5)
+}
+
+pub fn is_restrict(run: &[u8]) -> bool
+    ensures { λ r. ⌜ r ≡ sameBytes (now (run .entry)) (ascii "restrict") ⌝ }
+{
+    is_fixed(run, 44, 8)
+}
+
+pub fn is_dots(run: &[u8]) -> bool
+    ensures { λ r. ⌜ r ≡ sameBytes (now (run .entry)) (ascii "...") ⌝ }
+{
+    is_fixed(run, 125, 3)
 }

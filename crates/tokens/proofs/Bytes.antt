@@ -5,7 +5,7 @@ use mathlib.Core.Bool.{Bool, true, false, not, _&&_, _||_}
 use mathlib.Core.List.{List, [], _∷_}
 use native.Mathlib.Omega.{arith}
 use native.Mathlib.Numerals.{add-one}
-use borrow.Author.Tests.{lt-ltb, le-ltb, le-leb, lt-leb, leb-true, leb-false, eq-eqb, ne-eqb}
+use borrow.Author.Tests.{lt-ltb, le-ltb, le-leb, lt-leb, leb-true, leb-false, ne-eqb}
 use mathlib.Core.Logic.{_⊎_, inl, inr, ⊎-elim}
 use lib.ListN.{length, getD, drop}
 use lib.Seq.{drop-cons}
@@ -70,47 +70,11 @@ module _ (b : ℕ) where
   unfolding inRun
   run-dot r e t = rw (sym e ∙ t)
 
--- two texts
-same-lengths : (a b : List ℕ) → (length a ≡ length b → ⊥) → sameBytes a b ≡ false
-unfolding sameBytes
-same-lengths [] [] n = absurd (n refl)
-same-lengths [] (y ∷ b) n = refl
-same-lengths (x ∷ a) [] n = refl
-same-lengths (x ∷ a) (y ∷ b) n = go (eqb x y) (same-lengths a b (λ e. n (ap suc e)))
-  where
-    go : (t : Bool) → sameBytes a b ≡ false → elim t [ true ↦ sameBytes a b | false ↦ false ] ≡ false
-    go true e = e
-    go false e = refl
-
-module _ (a b : List ℕ) where
-  pub same-other : (length a ≡ length b → ⊥) → false ≡ sameBytes a b
-  same-other n = sym (same-lengths a b n)
-
-  pub same-turn : (i : ℕ) → length a ≡ length b → i < length a → getD a i 0 ≡ getD b i 0 → sameBytes (drop i a) (drop i b) ≡ sameBytes a b → sameBytes (drop (i + 1) a) (drop (i + 1) b) ≡ sameBytes a b
-  unfolding sameBytes
-  same-turn i l h e s =
-      let k : i < length b = omega arith in
-      let t : sameBytes (drop i a) (drop i b) ≡ sameBytes (drop (suc i) a) (drop (suc i) b) =
-      rw (drop-cons a i 0 h, drop-cons b i 0 k) (passed (eqb (getD a i 0) (getD b i 0)) (sameBytes (drop (suc i) a) (drop (suc i) b)) false (eq-eqb (getD a i 0) (getD b i 0) e)) in
-      rw add-one (sym t ∙ s)
-
-  pub same-differ : (i : ℕ) → length a ≡ length b → i < length a → (getD a i 0 ≡ getD b i 0 → ⊥) → sameBytes (drop i a) (drop i b) ≡ sameBytes a b → false ≡ sameBytes a b
-  unfolding sameBytes
-  same-differ i l h n s =
-      let k : i < length b = omega arith in
-      let t : sameBytes (drop i a) (drop i b) ≡ false =
-      rw (drop-cons a i 0 h, drop-cons b i 0 k) (failed (eqb (getD a i 0) (getD b i 0)) (sameBytes (drop (suc i) a) (drop (suc i) b)) false (ne-eqb (getD a i 0) (getD b i 0) n)) in
-      sym t ∙ s
-
 pub drop-end : (a : List ℕ) (i : ℕ) → length a ≤ i → drop i a ≡ []
 drop-end [] zero h = refl
 drop-end [] (suc i) h = refl
 drop-end (x ∷ a) zero h = absurd (omega arith)
 drop-end (x ∷ a) (suc i) h = drop-end a i (omega arith)
-
-pub same-end : (a b : List ℕ) (i : ℕ) → length a ≡ length b → length a ≤ i → sameBytes (drop i a) (drop i b) ≡ sameBytes a b → true ≡ sameBytes a b
-unfolding sameBytes
-same-end a b i l h s = rw (drop-end a i h, drop-end b i (omega arith)) at s
 
 -- identifiers
 pub word-empty : (s : List ℕ) → length s ≡ 0 → false ≡ identifier s

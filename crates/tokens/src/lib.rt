@@ -1,11 +1,18 @@
 // The tokens of a text, looked at from a place on. A token is told by its sign: 1 to 3 const, volatile and restrict; 4 struct,
 // union or enum; 5 void; 6 any other word; 7 a count; 16 more than the byte of a mark, 46 for `...` and 0 for what is no token;
 // and 0 where the text ends.
+use fixed::is_const;
+use fixed::is_dots;
+use fixed::is_enum;
+use fixed::is_restrict;
+use fixed::is_struct;
+use fixed::is_union;
+use fixed::is_void;
+use fixed::is_volatile;
 ghost use mathlib.Core.Path.{_≡_};
 ghost use mathlib.Core.Bool.{true};
 ghost use Prim.Native.Nat.{_+_, _-_, _<_};
 ghost use lib.ListN.{length, getD};
-ghost use Rattle.rules.specs.Names.{sameBytes};
 ghost use Rattle.tokens.specs.Tokens.{isDigit, isLetter, isWordByte, inRun};
 ghost use Rattle.tokens.specs.Tokens as defs;
 ghost use Rattle.tokens.specs.Looking.{countValue, kindSign, wordSign, runSign, runCount, Skipped, Ran, Looked};
@@ -62,23 +69,6 @@ fn in_run(b: u8) -> bool
     b == 46
 }
 
-// Whether two texts are equal.
-fn same(a: &[u8], b: &[u8]) -> bool
-    ensures { λ r. ⌜ r ≡ sameBytes (now (a .entry)) (now (b .entry)) ⌝ }
-{
-    if a.len() != b.len() {
-        return false;
-    }
-    let mut i = 0;
-    while i < a.len() {
-        if a[i] != b[i] {
-            return false;
-        }
-        i += 1;
-    }
-    true
-}
-
 fn identifier(run: &[u8]) -> bool
     ensures { λ r. ⌜ r ≡ defs.identifier (now (run .entry)) ⌝ }
 {
@@ -131,16 +121,16 @@ fn count_value(run: &[u8]) -> u64
 fn base_sign(run: &[u8]) -> u32
     ensures { λ r. ⌜ r ≡ kindSign (now (run .entry)) ⌝ }
 {
-    if same(run, b"struct") {
+    if is_struct(run) {
         return 4;
     }
-    if same(run, b"union") {
+    if is_union(run) {
         return 4;
     }
-    if same(run, b"enum") {
+    if is_enum(run) {
         return 4;
     }
-    if same(run, b"void") {
+    if is_void(run) {
         return 5;
     }
     6
@@ -149,13 +139,13 @@ fn base_sign(run: &[u8]) -> u32
 fn word_sign(run: &[u8]) -> u32
     ensures { λ r. ⌜ r ≡ wordSign (now (run .entry)) ⌝ }
 {
-    if same(run, b"const") {
+    if is_const(run) {
         return 1;
     }
-    if same(run, b"volatile") {
+    if is_volatile(run) {
         return 2;
     }
-    if same(run, b"restrict") {
+    if is_restrict(run) {
         return 3;
     }
     base_sign(run)
@@ -170,7 +160,7 @@ fn run_sign(run: &[u8]) -> u32
     if count_value(run) < 4294967296 {
         return 7;
     }
-    if same(run, b"...") {
+    if is_dots(run) {
         return 62;
     }
     16

@@ -4,61 +4,48 @@ use Rattle.tokens.proofs.base_sign.Statement.{statement}
 use Rattle.tokens.proofs.base_sign.Tie as tie
 use Rattle.tokens.proofs.base_sign.Reads as reads
 use Rattle.tokens.proofs.base_sign.Lts as lts
-use Rattle.tokens.proofs.same.Reads as same-reads
+use Rattle.fixed.proofs.is_enum.Reads as is-enum-reads
+use Rattle.fixed.proofs.is_struct.Reads as is-struct-reads
+use Rattle.fixed.proofs.is_union.Reads as is-union-reads
+use Rattle.fixed.proofs.is_void.Reads as is-void-reads
 
-slice-aggregate-same : tie.Need-slice-aggregate-same
-slice-aggregate-same c = search needs
-
-same-requires : tie.Need-same-requires
-same-requires c κs = search needs
+is-struct-requires : tie.Need-is-struct-requires
+is-struct-requires c κs = search needs
 
 returns : tie.Need-returns
-returns c = bytes.kind-struct _ _ (c .before .same .ensures) (c .if1 .taken)
+returns c = bytes.kind-struct _ _ (c .before .is-struct .ensures) (c .if1 .taken)
 
-slice-aggregate-same-2 : tie.Need-slice-aggregate-same-2
-slice-aggregate-same-2 c = search needs
-
-same-requires-2 : tie.Need-same-requires-2
-same-requires-2 c κs = search needs
+is-union-requires : tie.Need-is-union-requires
+is-union-requires c κs = search needs
 
 returns-2 : tie.Need-returns-2
-returns-2 c = bytes.kind-union _ _ (c .before .before .before .before .same .ensures) (c .before .before .before .if1 .left) _ (c .before .same2 .ensures) (c .if2 .taken)
+returns-2 c = bytes.kind-union _ _ (c .before .before .before .is-struct .ensures) (c .before .before .if1 .left) _ (c .before .is-union .ensures) (c .if2 .taken)
 
-slice-aggregate-same-3 : tie.Need-slice-aggregate-same-3
-slice-aggregate-same-3 c = search needs
-
-same-requires-3 : tie.Need-same-requires-3
-same-requires-3 c κs = search needs
+is-enum-requires : tie.Need-is-enum-requires
+is-enum-requires c κs = search needs
 
 returns-3 : tie.Need-returns-3
-returns-3 c = bytes.kind-enum _ _ (c .before .before .before .before .before .before .before .same .ensures) (c .before .before .before .before .before .before .if1 .left) _ (c .before .before .before .before .same2 .ensures) (c .before .before .before .if2 .left) _ (c .before .same3 .ensures) (c .if3 .taken)
+returns-3 c = bytes.kind-enum _ _ (c .before .before .before .before .before .is-struct .ensures) (c .before .before .before .before .if1 .left) _ (c .before .before .before .is-union .ensures) (c .before .before .if2 .left) _ (c .before .is-enum .ensures) (c .if3 .taken)
 
-slice-aggregate-same-4 : tie.Need-slice-aggregate-same-4
-slice-aggregate-same-4 c = search needs
-
-same-requires-4 : tie.Need-same-requires-4
-same-requires-4 c κs = search needs
+is-void-requires : tie.Need-is-void-requires
+is-void-requires c κs = search needs
 
 returns-4 : tie.Need-returns-4
-returns-4 c = bytes.kind-void _ _ (c .before .before .before .before .before .before .before .before .before .before .same .ensures) (c .before .before .before .before .before .before .before .before .before .if1 .left) _ (c .before .before .before .before .before .before .before .same2 .ensures) (c .before .before .before .before .before .before .if2 .left) _ (c .before .before .before .before .same3 .ensures) (c .before .before .before .if3 .left) _ (c .before .same4 .ensures) (c .if4 .taken)
+returns-4 c = bytes.kind-void _ _ (c .before .before .before .before .before .before .before .is-struct .ensures) (c .before .before .before .before .before .before .if1 .left) _ (c .before .before .before .before .before .is-union .ensures) (c .before .before .before .before .if2 .left) _ (c .before .before .before .is-enum .ensures) (c .before .before .if3 .left) _ (c .before .is-void .ensures) (c .if4 .taken)
 
 returns-5 : tie.Need-returns-5
-returns-5 c = bytes.kind-other _ _ (c .before .before .before .before .before .before .before .before .before .before .same .ensures) (c .before .before .before .before .before .before .before .before .before .if1 .left) _ (c .before .before .before .before .before .before .before .same2 .ensures) (c .before .before .before .before .before .before .if2 .left) _ (c .before .before .before .before .same3 .ensures) (c .before .before .before .if3 .left) _ (c .before .same4 .ensures) (c .if4 .left)
+returns-5 c = bytes.kind-other _ _ (c .before .before .before .before .before .before .before .is-struct .ensures) (c .before .before .before .before .before .before .if1 .left) _ (c .before .before .before .before .before .is-union .ensures) (c .before .before .before .before .if2 .left) _ (c .before .before .before .is-enum .ensures) (c .before .before .if3 .left) _ (c .before .is-void .ensures) (c .if4 .left)
 
 pub base-sign-spec : {M : Type 1} → statement M
 base-sign-spec =
     tie.close
     (tie.spec
-    slice-aggregate-same
-    same-requires
+    is-struct-requires
     returns
-    slice-aggregate-same-2
-    same-requires-2
+    is-union-requires
     returns-2
-    slice-aggregate-same-3
-    same-requires-3
+    is-enum-requires
     returns-3
-    slice-aggregate-same-4
-    same-requires-4
+    is-void-requires
     returns-4
     returns-5)

@@ -6,9 +6,9 @@ use Rattle.tokens.proofs.run_sign.Statement.{statement}
 use Rattle.tokens.proofs.run_sign.Tie as tie
 use Rattle.tokens.proofs.run_sign.Reads as reads
 use Rattle.tokens.proofs.run_sign.Lts as lts
+use Rattle.fixed.proofs.is_dots.Reads as is-dots-reads
 use Rattle.tokens.proofs.count_value.Reads as count-value-reads
 use Rattle.tokens.proofs.identifier.Reads as identifier-reads
-use Rattle.tokens.proofs.same.Reads as same-reads
 use Rattle.tokens.proofs.word_sign.Reads as word-sign-reads
 
 identifier-requires : tie.Need-identifier-requires
@@ -26,17 +26,14 @@ count-value-requires c κs = search needs
 returns-2 : tie.Need-returns-2
 returns-2 c = bytes.run-count _ _ (c .before .before .before .identifier .ensures) (c .before .before .if1 .left) _ (c .before .count-value .ensures) (c .if2 .taken)
 
-slice-aggregate-same : tie.Need-slice-aggregate-same
-slice-aggregate-same c = search needs
-
-same-requires : tie.Need-same-requires
-same-requires c κs = search needs
+is-dots-requires : tie.Need-is-dots-requires
+is-dots-requires c κs = search needs
 
 returns-3 : tie.Need-returns-3
-returns-3 c = let h : 4294967296 ≤ c .before .before .before .before .count-value .result = omega arith in bytes.run-dots _ _ (c .before .before .before .before .before .before .identifier .ensures) (c .before .before .before .before .before .if1 .left) _ (c .before .before .before .before .count-value .ensures) h _ (c .before .same .ensures) (c .if3 .taken)
+returns-3 c = let h : 4294967296 ≤ c .before .before .before .count-value .result = omega arith in bytes.run-dots _ _ (c .before .before .before .before .before .identifier .ensures) (c .before .before .before .before .if1 .left) _ (c .before .before .before .count-value .ensures) h _ (c .before .is-dots .ensures) (c .if3 .taken)
 
 returns-4 : tie.Need-returns-4
-returns-4 c = let h : 4294967296 ≤ c .before .before .before .before .count-value .result = omega arith in bytes.run-none _ _ (c .before .before .before .before .before .before .identifier .ensures) (c .before .before .before .before .before .if1 .left) _ (c .before .before .before .before .count-value .ensures) h _ (c .before .same .ensures) (c .if3 .left)
+returns-4 c = let h : 4294967296 ≤ c .before .before .before .count-value .result = omega arith in bytes.run-none _ _ (c .before .before .before .before .before .identifier .ensures) (c .before .before .before .before .if1 .left) _ (c .before .before .before .count-value .ensures) h _ (c .before .is-dots .ensures) (c .if3 .left)
 
 pub run-sign-spec : {M : Type 1} → statement M
 run-sign-spec =
@@ -47,7 +44,6 @@ run-sign-spec =
     returns
     count-value-requires
     returns-2
-    slice-aggregate-same
-    same-requires
+    is-dots-requires
     returns-3
     returns-4)
