@@ -1,3 +1,4 @@
 pub mod Questions
 pub mod Emitters
 pub mod Lines
+pub mod Request

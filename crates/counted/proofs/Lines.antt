@@ -106,7 +106,7 @@ module _ (b : Btf) (e : ℕ) (s w : List ℕ) (Z : Sane b (btfOf b s w)) (room :
       lengths : (u : List ℕ) (y f c : ℕ) → length (putField u y f c) ≡ length u
       lengths u y f c = put-length u (y * 16 + f) c
 
-  recall-moved : (v v′ : List ℕ) → ((j : ℕ) → getField v′ j 15 ≡ getField v j 15) → (id : ℕ) → K .recall v′ id ≡ K .recall v id
+  pub recall-moved : (v v′ : List ℕ) → ((j : ℕ) → getField v′ j 15 ≡ getField v j 15) → (id : ℕ) → K .recall v′ id ≡ K .recall v id
   unfolding workKeep seenWord
   recall-moved v v′ h id = ap (λ (x : ℕ). decoded (elim (ltb id n) as (λ (t : Bool). ℕ) [ true ↦ x | false ↦ 0 ])) (h id)
 
