@@ -2,3 +2,4 @@ pub mod Questions
 pub mod Emitters
 pub mod Lines
 pub mod Request
+pub mod Session
