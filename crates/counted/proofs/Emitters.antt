@@ -13,7 +13,7 @@ use Rattle.rules.specs.Placing.{tailPads}
 use Rattle.rules.specs.Names.{Space, tagSpace, identSpace, Naming, resolving, spelled, resolveTypeName, builtin}
 use Rattle.rules.specs.Decl.{deeper, Entry, chainOf, enumValue, enum64Value}
 use Rattle.rules.specs.Emit.{shown}
-use Rattle.rules.proofs.Closed.{TypeFits, Closed, asks-end, asks-chain, r-put, r-then, r-if, r-given, r-emit-composite-fwd, r-emit-fwd-def, r-emit-enum-def, r-composite-head, r-composite-end, r-chain-loop}
+use Rattle.rules.proofs.Closed.{TypeFits, Closed, asks-end, asks-chain, r-put, r-if, r-given, r-emit-composite-fwd, r-emit-fwd-def, r-emit-enum-def, r-composite-head, r-composite-end, r-chain-loop}
 use Rattle.alignments.specs.Writers.{Asks, givenOnce, emitMembersOnce, compositeBodyOnce, compositeDefOnce, emitTypeDeclOnce, emitTypeChainOnce, emitCompositeDefOnce, emitTypedefDefOnce, definitionOnce, forwardOnce}
 
 module _ {U W : Type 0} (Q₁ : Asks U) (Q₂ : Asks W) (N₁ : Naming U) (N₂ : Naming W) (Fits : Space → ℕ → Name → Type 0) (FitsValue : ℕ → ℕ → Name → Type 0) (S : Writer U → Writer W → Type 0)

@@ -1,6 +1,6 @@
 -- A line over the work, and the same line of the definition, with a memory that is a function: where both recall the same of every type before it, they do
 -- after it. Assumes nothing.
-use Prim.Native.Nat.{ℕ, _+_, _*_, _/_, _%_, _≤_}
+use Prim.Native.Nat.{ℕ, _+_, _*_, _/_, _≤_}
 use native.Mathlib.Omega.{arith}
 use mathlib.Core.Path.{_≡_, refl, ap, _∙_, sym, subst}
 use mathlib.Core.Bool.{Bool, true, false, _&&_}
@@ -29,8 +29,8 @@ use Rattle.alignments.specs.Steps.{paddingOnce, bodyOnce}
 use Rattle.alignments.specs.Writers.{answered, givenOnce, definitionOnce, forwardOnce, Minded, minded, carried, mindedAsks}
 use Rattle.alignments.proofs.Right.{same-or}
 use Rattle.alignments.proofs.Tables.{table-lawful}
-use Rattle.remembered.specs.Words.{seenWord, decoded, coded, workKeep}
-use Rattle.remembered.proofs.Lawful.{Roomy, FitsWord, remembered-length, work-lawful, tells-fits}
+use Rattle.remembered.specs.Words.{seenWord, decoded, workKeep}
+use Rattle.remembered.proofs.Lawful.{Roomy, FitsWord, work-lawful, tells-fits}
 use Rattle.asked.specs.Asked.{workAsks}
 use Rattle.refusals.proofs.InWork.{remember-keeps}
 use Rattle.minds.specs.Work.{Agree, Sane}

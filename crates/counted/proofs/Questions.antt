@@ -1,7 +1,7 @@
 -- One question put to two memories that recall the same: the same answer or the same refusal, and memories that recall the same. Assumes nothing.
 use Prim.Native.Nat.{ℕ, zero, suc, _-_, _*_, _%_, _≤_}
 use native.Mathlib.Omega.{arith}
-use mathlib.Core.Path.{_≡_, refl, sym, subst}
+use mathlib.Core.Path.{_≡_, subst}
 use mathlib.Core.Bool.{Bool, true, false}
 use mathlib.Core.List.{List, [], _∷_}
 use lib.Dec.{leb, eqb}

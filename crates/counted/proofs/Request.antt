@@ -4,7 +4,7 @@ use Prim.Native.Nat.{ℕ, zero, suc, _+_, _*_, _<_}
 use native.Mathlib.Omega.{arith}
 use mathlib.Core.Path.{_≡_, refl, ap, _∙_, sym, subst}
 use mathlib.Core.Bool.{Bool, true, false}
-use mathlib.Core.List.{List, [], List·Memᴰ·not-nil}
+use mathlib.Core.List.{List, List·Memᴰ·not-nil}
 use lib.ListN.{length}
 use lib.Dec.{leb}
 use Rattle.lent.proofs.Laws.{get-put-other}
@@ -15,7 +15,7 @@ use Rattle.rules.specs.Types.{Btf as Rules, tableOf}
 use Rattle.rules.specs.Layout.{smaller}
 use Rattle.rules.specs.Names.{Names, Naming}
 use Rattle.rules.specs.Place.{withNames, putSaid}
-use Rattle.rules.specs.Writer.{Said, said}
+use Rattle.rules.specs.Writer.{Said}
 use Rattle.rules.proofs.Related.{RelSaid, same, RelNaming}
 use Rattle.btf.specs.declared.types.Btf.{Btf}
 use Rattle.btf.specs.Cells.{getField, putField}
@@ -32,12 +32,11 @@ use Rattle.demand.proofs.Session.{machine-lawful}
 use Rattle.ledger.specs.Indexed.{Indexed, Fits, FitsValue}
 use Rattle.ledger.specs.Alike.{Alike}
 use Rattle.alignments.specs.Once.{Keep, Table, tableKeep}
-use Rattle.alignments.specs.Writers.{Minded, minded, mindedAsks, machineOnce, definitionOnce, forwardOnce}
+use Rattle.alignments.specs.Writers.{Minded, minded, mindedAsks, machineOnce}
 use Rattle.alignments.proofs.Tables.{Any, Each, table-lawful}
 use Rattle.alignments.proofs.Session.{Beside, minded-sound, machines-alike}
 use Rattle.remembered.specs.Words.{workKeep}
 use Rattle.remembered.proofs.Lawful.{Roomy}
-use Rattle.asked.specs.Asked.{workAsks}
 use Rattle.minds.specs.Work.{Sane}
 use Rattle.claims.specs.Sheet.{Bears, Shows}
 use Rattle.claims.proofs.Start.{start-step}

@@ -1,6 +1,6 @@
 -- The calls of a session and the session of the definition: the same visits, and the same remembered types. Assumes nothing but that opening accepts the
 -- section.
-use Prim.Native.Nat.{ℕ, zero, suc, _+_, _-_, _*_, _/_, _%_, _<_, _≤_}
+use Prim.Native.Nat.{ℕ, zero, suc, _+_, _-_, _%_, _<_, _≤_}
 use native.Mathlib.Omega.{arith}
 use mathlib.Core.Path.{_≡_, refl, ap, _∙_, sym, subst}
 use mathlib.Core.Bool.{Bool, true, false, true≢false}
@@ -28,7 +28,7 @@ use Rattle.calls.specs.Lists.{counted as countedCall, listFrom, listCall}
 use Rattle.calls.proofs.Lists.{counted-goes, counted-stops, type-single, list-counts}
 use Rattle.calls.proofs.Laws.{opens-sound}
 use Rattle.calls.proofs.Claims.{type-settles, types-settle, type-not-below, type-not-current, types-not-current, closed-stays}
-use Rattle.demand.specs.Lists.{Ls}
+use Rattle.demand.specs.Lists.{Ls, afresh}
 use Rattle.demand.specs.Session.{Known, noNames, openedBy, opened}
 use Rattle.demand.proofs.Alike.{BothSess, BothAnswer, single-alike, every-alike}
 use Rattle.demand.proofs.Lists.{Sized}
@@ -199,8 +199,8 @@ module _ (p modes : ℕ) (s : List ℕ) (n : ℕ) (ok : openingNumber p s n ≡ 
     type-open : (x : ℕ) → L .isOpen ≡ true → x < T .count → KeptCall (typeCall S s work text x) (single X T room L x .sess) (single X₂ T room A x .sess)
     type-open x o l =
         let q : typeCall S s work text x ≡ settled S (length work) room (requested b s x (S .«text_len») (S .visits) work text) =
-            type-settles S s work text x (current p modes s n ok S work text₀ L h text f same o) (subst (λ (k : ℕ). x < k) (sym (types-is p modes s n ok S work text₀ L h text f same)) l)
-            ∙ ap (λ (K : Btf). settled S (length work) room (requested K s x (S .«text_len») (S .visits) work text)) (table-is p modes s n ok S work text₀ L h text f same) in
+        type-settles S s work text x (current p modes s n ok S work text₀ L h text f same o) (subst (λ (k : ℕ). x < k) (sym (types-is p modes s n ok S work text₀ L h text f same)) l)
+        ∙ ap (λ (K : Btf). settled S (length work) room (requested K s x (S .«text_len») (S .visits) work text)) (table-is p modes s n ok S work text₀ L h text f same) in
         subst (λ (d : Call). KeptCall d (single X T room L x .sess) (single X₂ T room A x .sess)) (sym q)
         (settled-kept S (length work) room (single X T room L x .sess)
         (request-visits (S .«text_len») work text room L (going p modes s n ok S work text₀ L h text f same o) A near (sam o) x (S .visits) vis l)
@@ -219,3 +219,135 @@ module _ (p modes : ℕ) (s : List ℕ) (n : ℕ) (ok : openingNumber p s n ≡ 
             (λ l. type-open x o l)
             (le-or-lt (T .count) x)
         by false o = left-kept _ _ _ 11 (type-not-current S s work text x (closed-stays S s work text (h .is-open ∙ o))) (single-shut X T room L x o) (single-shut X₂ T room A x (near .same-open ∙ o))
+
+    every-near : BothAnswer NearTo (every X₂ T room A (A .isOpen)) (every X T room L (L .isOpen))
+    every-near = every-alike X₂ X T (Sized (B .type-cnt)) (machine-lawful N B (B .type-cnt)) (opened-wf p modes s n ok .below) NearTo (near-alike b e s w (opened-indexed p modes s n ok) Z room-for N (opened-names p modes s n ok) (opened-wf p modes s n ok)) room A L near
+
+    types-are : T .count ≡ b .types
+    unfolding btfOf
+    types-are = refl
+
+    types-open : L .isOpen ≡ true → HoldsCall (typesCall S s work text) (from X T room (T .count - 1) 1 L .sess) → Beside₂ (from X₂ T room (T .count - 1) 1 A .sess) (from X T room (T .count - 1) 1 L .sess)
+        → KeptCall (typesCall S s work text) (from X T room (T .count - 1) 1 L .sess) (from X₂ T room (T .count - 1) 1 A .sess)
+    types-open o holds beside =
+        let q : typesCall S s work text ≡ settled S (length work) room (requestedFrom b s (T .count - 1) 1 (S .«text_len») work text) =
+        types-settle S s work text (current p modes s n ok S work text₀ L h text f same o)
+        ∙ ap (λ (K : Btf). settled S (length work) room (requestedFrom K s (K .types - 1) 1 (S .«text_len») work text)) (table-is p modes s n ok S work text₀ L h text f same)
+        ∙ ap (λ (k : ℕ). settled S (length work) room (requestedFrom b s (k - 1) 1 (S .«text_len») work text)) (sym types-are) in
+        subst (λ (d : Call). KeptCall d (from X T room (T .count - 1) 1 L .sess) (from X₂ T room (T .count - 1) 1 A .sess)) (sym q)
+        (settled-kept S (length work) room (from X T room (T .count - 1) 1 L .sess)
+        (from-visits room (T .count - 1) 1 (omega (arith, count-described p modes s n ok)) (S .«text_len») work text L A (going p modes s n ok S work text₀ L h text f same o) near (sam o))
+        (subst (λ (d : Call). HoldsCall d (from X T room (T .count - 1) 1 L .sess)) q holds) beside)
+
+    types-kept : KeptCall (typesCall S s work text) (every X T room L (L .isOpen) .sess) (every X₂ T room A (A .isOpen) .sess)
+    unfolding every answerOf
+    types-kept =
+        subst (λ (o : Bool). KeptCall (typesCall S s work text) (every X T room L (L .isOpen) .sess) (every X₂ T room A o .sess)) (sym (near .same-open))
+        (by (L .isOpen) refl (types-keeps p modes s n ok S work text₀ L h text f same .holds) (subst (λ (o : Bool). Beside₂ (every X₂ T room A o .sess) (every X T room L (L .isOpen) .sess)) (near .same-open) (every-near .sessions)))
+      where
+        by : (o : Bool) → L .isOpen ≡ o → HoldsCall (typesCall S s work text) (every X T room L o .sess) → Beside₂ (every X₂ T room A o .sess) (every X T room L o .sess)
+            → KeptCall (typesCall S s work text) (every X T room L o .sess) (every X₂ T room A o .sess)
+        by true o holds beside = types-open o holds beside
+        by false o holds beside = left-kept (typesCall S s work text) (record { sess = L; number = 11 }) (record { sess = A; number = 11 }) 11 (types-not-current S s work text (closed-stays S s work text (h .is-open ∙ o))) refl refl
+
+    -- ---- the first id of a list, after k accepted ones
+    module _ (k x : ℕ) (ids : List ℕ) where
+      abbrev c₁ : Call
+      c₁ = typeCall S s work text x
+
+      abbrev rest : Call → Call
+      rest c = listFrom (suc k) (c .session) s (c .work) (c .text) ids
+
+      abbrev KeptRun : Call → List Req → Type 0
+      KeptRun c qs = KeptCall c (run X T qs L) (run X₂ T qs A)
+
+      list-stops : (m : ℕ) → numberOf (c₁ .answer) ≡ suc m → KeptRun (countedCall k c₁ rest) (singlesFor room (made k (countedCall k c₁ rest)) (x ∷ ids))
+      unfolding run serve singlesFor callOf numberOf answerOf
+      list-stops m q = subst (λ (c : Call). KeptRun c (singlesFor room (made k c) (x ∷ ids))) (sym stops) (by (L .isOpen) refl)
+        where
+          stops : countedCall k c₁ rest ≡ callOf (c₁ .session) (answerOf (suc m) k) (c₁ .work) (c₁ .text)
+          stops = counted-stops k (suc m) c₁ rest q (λ z. absurd (omega arith))
+
+          as-kept : (qs : List Req) → KeptRun c₁ qs → KeptRun (callOf (c₁ .session) (answerOf (suc m) k) (c₁ .work) (c₁ .text)) qs
+          as-kept qs y = record { near = y .near; visits = y .visits; same = y .same }
+
+          shut-kept : L .isOpen ≡ false → KeptCall c₁ L A
+          shut-kept o = left-kept c₁ (record { sess = L; number = 11 }) (record { sess = A; number = 11 }) 11 (type-not-current S s work text x (closed-stays S s work text (h .is-open ∙ o))) refl refl
+
+          by : (o : Bool) → L .isOpen ≡ o → KeptRun (callOf (c₁ .session) (answerOf (suc m) k) (c₁ .work) (c₁ .text)) (singlesFor room (made k (callOf (c₁ .session) (answerOf (suc m) k) (c₁ .work) (c₁ .text))) (x ∷ ids))
+          by true o =
+              let d : suc m ≡ 11 → ⊥ = (λ z. not-11 p modes s n ok k S work text₀ L h text f same x ids o (q ∙ z)) in
+              subst (λ (j : ℕ). KeptRun (callOf (c₁ .session) (answerOf (suc m) k) (c₁ .work) (c₁ .text)) (singlesFor room j (x ∷ ids))) (sym (made-one p modes s n ok k (c₁ .session) (c₁ .work) (c₁ .text) (suc m) (λ z. absurd (omega arith)) d))
+              (as-kept (one room x ∷ []) (type-kept x))
+          by false o =
+              let z : suc m ≡ 11 = sym q ∙ ap (λ (c : Call). numberOf (c .answer)) (type-not-current S s work text x (closed-stays S s work text (h .is-open ∙ o))) in
+              subst (λ (j : ℕ). KeptRun (callOf (c₁ .session) (answerOf (suc m) k) (c₁ .work) (c₁ .text)) (singlesFor room j (x ∷ ids))) (sym (made-none p modes s n ok k (c₁ .session) (c₁ .work) (c₁ .text) (suc m) (inr z)))
+              (as-kept [] (shut-kept o))
+
+      abbrev KeptRest : ℕ → Type 0
+      KeptRest size = KeptCall (rest c₁) (run X T (singlesFor size (made (suc k) (rest c₁)) ids) (single X T room L x .sess)) (run X₂ T (singlesFor size (made (suc k) (rest c₁)) ids) (single X₂ T room A x .sess))
+
+      list-goes : numberOf (c₁ .answer) ≡ 0 → KeptRest room → KeptRun (countedCall k c₁ rest) (singlesFor room (made k (countedCall k c₁ rest)) (x ∷ ids))
+      unfolding run serve singlesFor
+      list-goes q i =
+          subst (λ (c : Call). KeptRun c (singlesFor room (made k c) (x ∷ ids))) (sym (counted-goes k c₁ rest q))
+          (subst (λ (j : ℕ). KeptRun (rest c₁) (singlesFor room j (x ∷ ids))) (sym (made-more p modes s n ok k (rest c₁) (list-counts s (suc k) (c₁ .session) (c₁ .work) (c₁ .text) ids .at-least))) i)
+
+      list-next : KeptRest (length (c₁ .text)) → KeptRun (countedCall k c₁ rest) (singlesFor room (made k (countedCall k c₁ rest)) (x ∷ ids))
+      list-next i = by (numberOf (c₁ .answer)) refl
+        where
+          by : (m : ℕ) → numberOf (c₁ .answer) ≡ m → KeptRun (countedCall k c₁ rest) (singlesFor room (made k (countedCall k c₁ rest)) (x ∷ ids))
+          by zero q = list-goes q (subst KeptRest (type-single S s work text x .long) i)
+          by (suc m) q = list-stops m q
+
+  list-kept : (ids : List ℕ) (k : ℕ) (S : Session) (work text₀ : List ℕ) (L : Sess Plain) (h : Holds p modes s n S work text₀ L) (A : Sess State) → Beside₂ A L → S .visits ≡ A .mach .known .names .visits → (L .isOpen ≡ true → Same work (A .mach))
+      → (text : List ℕ) → S .«text_len» ≤ length text → take (S .«text_len») text ≡ take (S .«text_len») text₀
+      → KeptCall (listFrom k S s work text ids) (run X T (singlesFor (length text) (made k (listFrom k S s work text ids)) ids) L) (run X₂ T (singlesFor (length text) (made k (listFrom k S s work text ids)) ids) A)
+  unfolding listFrom run callOf
+  list-kept [] k S work text₀ L h A near vis sam text f same =
+      subst (λ (qs : List Req). KeptCall (callOf S (answerOf 0 k) work text) (run X T qs L) (run X₂ T qs A)) (sym (no-ids p modes s n ok (length text) (made k (listFrom k S s work text [])))) (record { near = near; visits = vis; same = sam })
+  list-kept (x ∷ ids) k S work text₀ L h A near vis sam text f same =
+      let c : Call = typeCall S s work text x in
+      let q : KeptCall c (single X T (length text) L x .sess) (single X₂ T (length text) A x .sess) = type-kept S work text₀ L h A near vis sam text f same x in
+      let g : HoldsCall c (single X T (length text) L x .sess) = type-keeps p modes s n ok S work text₀ L h text f same x .holds in
+      list-next S work text₀ L h A near vis sam text f same k x ids
+      (list-kept ids (suc k) (c .session) (c .work) (c .text) (single X T (length text) L x .sess) g (single X₂ T (length text) A x .sess) (q .near) (q .visits) (q .same) (c .text) (g .fits) refl)
+
+  -- ---- from opening on
+  -- nothing is remembered, and no visit counted
+  abbrev pub begun₂ : Sess State
+  begun₂ = openedBy (minded N) B (noVisits (noNames B) blank)
+
+  begins-near : Beside₂ begun₂ (opened B)
+  begins-near =
+      starts (mindedAsks (tableKeep (B .type-cnt)) B) (minded N) N B (opened-wf p modes s n ok) (Z .ends) (Beside (tableKeep (B .type-cnt)) N B Any Each (table-lawful (B .type-cnt)) (λ id t q l. tt) (opened-wf p modes s n ok) (Z .ends))
+      (minded-sound (tableKeep (B .type-cnt)) N B Any Each (table-lawful (B .type-cnt)) (λ id t q l. tt) (opened-wf p modes s n ok) (Z .ends)) (noVisits (noNames B) blank) (noNames B)
+      (begun (tableKeep (B .type-cnt)) N B Any Each (table-lawful (B .type-cnt)) (λ id t q l. tt) (opened-wf p modes s n ok) (Z .ends) (noNames B) blank tt (λ id. refl))
+
+  open-kept : (S : Session) (work text : List ℕ) → length work ≡ n → KeptCall (openCall S s work text p modes) (opened B) begun₂
+  unfolding openCall openedCall btfOf afresh
+  open-kept S work text z =
+      let q : eqb (openingNumber p s (length work)) 0 ≡ true = eq-eqb (openingNumber p s (length work)) 0 (ap (openingNumber p s) z ∙ ok) in
+      subst (λ (o : Outcome). KeptCall (openedCall S (length s) (length work) p modes o) (opened B) begun₂) (sym (opens-sound p modes s work text q))
+      (record { near = begins-near; visits = refl; same = λ o. subst (λ (k : ℕ). Same (workOf p modes s k) (begun₂ .mach)) (sym z) (none p modes s n ok) })
+
+  -- any list of requests
+  pub after-kept : {c : Call} {rs : List Req} → After p modes s n c rs → KeptCall c (run X T rs (opened B)) (run X₂ T rs begun₂)
+  unfolding run serve listCall
+  after-kept (after-open S work text z q) = open-kept S work text z
+  after-kept (after-one c rs a text f same id) =
+      let k = after-kept a in
+      subst (λ (L : Sess Plain). KeptCall (typeCall (c .session) s (c .work) text id) L (run X₂ T (rs ++ (one (length text) id ∷ [])) begun₂)) (sym (run-then X T rs (one (length text) id ∷ []) (opened B)))
+      (subst (λ (A : Sess State). KeptCall (typeCall (c .session) s (c .work) text id) (single X T (length text) (run X T rs (opened B)) id .sess) A) (sym (run-then X₂ T rs (one (length text) id ∷ []) begun₂))
+      (type-kept (c .session) (c .work) (c .text) (run X T rs (opened B)) (after-holds p modes s n ok a) (run X₂ T rs begun₂) (k .near) (k .visits) (k .same) text f same id))
+  after-kept (after-all c rs a text f same) =
+      let k = after-kept a in
+      subst (λ (L : Sess Plain). KeptCall (typesCall (c .session) s (c .work) text) L (run X₂ T (rs ++ (all (length text) ∷ [])) begun₂)) (sym (run-then X T rs (all (length text) ∷ []) (opened B)))
+      (subst (λ (A : Sess State). KeptCall (typesCall (c .session) s (c .work) text) (every X T (length text) (run X T rs (opened B)) (run X T rs (opened B) .isOpen) .sess) A) (sym (run-then X₂ T rs (all (length text) ∷ []) begun₂))
+      (types-kept (c .session) (c .work) (c .text) (run X T rs (opened B)) (after-holds p modes s n ok a) (run X₂ T rs begun₂) (k .near) (k .visits) (k .same) text f same))
+  after-kept (after-list c rs a text f same ids) =
+      let k = after-kept a in
+      let qs : List Req = singlesFor (length text) (made 0 (listCall (c .session) s (c .work) text ids)) ids in
+      subst (λ (L : Sess Plain). KeptCall (listCall (c .session) s (c .work) text ids) L (run X₂ T (rs ++ qs) begun₂)) (sym (run-then X T rs qs (opened B)))
+      (subst (λ (A : Sess State). KeptCall (listCall (c .session) s (c .work) text ids) (run X T qs (run X T rs (opened B))) A) (sym (run-then X₂ T rs qs begun₂))
+      (list-kept ids 0 (c .session) (c .work) (c .text) (run X T rs (opened B)) (after-holds p modes s n ok a) (run X₂ T rs begun₂) (k .near) (k .visits) (k .same) text f same))

@@ -32,7 +32,7 @@ both-said R s₁ s₂ r e =
 
 -- what writes other words than the memory's keeps it
 module _ (B : Rules) (w w₂ : List ℕ) (h : Memory w₂ w) where
-  pub recall-same : (id : ℕ) → workKeep (B .type-cnt) B .recall w₂ id ≡ workKeep (B .type-cnt) B .recall w id
+  recall-same : (id : ℕ) → workKeep (B .type-cnt) B .recall w₂ id ≡ workKeep (B .type-cnt) B .recall w id
   unfolding workKeep seenWord
   recall-same id = ap (λ (x : ℕ). decoded (elim (ltb id (B .type-cnt)) as (λ (b : Bool). ℕ) [ true ↦ x | false ↦ 0 ])) (h .aligned id)
 
@@ -47,7 +47,7 @@ module _ (b : Btf) (B : Rules) (Z : Sane b B) where
   abbrev Rel : List ℕ → List ℕ → Type 0
   Rel w u = InWork b (Z .some) B (Z .small) (Z .wf) (Z .ends) (Z .few) w u
 
-  pub itself : (w : List ℕ) → Minds B w → Rel w w
+  itself : (w : List ℕ) → Minds B w → Rel w w
   itself w m = (record { long = refl; words = λ i n k. refl }, m .right, (m .roomy, m .count))
 
   -- the text, all words but the memory's, and the memory after it
