@@ -33,8 +33,8 @@ use Rattle.demand.specs.Session.{Known, noNames, openedBy, opened}
 use Rattle.demand.proofs.Alike.{BothSess, BothAnswer, single-alike, every-alike}
 use Rattle.demand.proofs.Lists.{Sized}
 use Rattle.demand.proofs.Session.{machine-lawful}
-use Rattle.alignments.specs.Once.{Table, tableKeep, blank, membersTo, paidTo}
-use Rattle.alignments.specs.Writers.{Minded, minded, mindedAsks, machineOnce, noVisits}
+use Rattle.alignments.specs.Once.{Table, tableKeep, membersTo, paidTo}
+use Rattle.alignments.specs.Writers.{Minded, minded, mindedAsks, machineOnce}
 use Rattle.alignments.proofs.Counted.{paid-most}
 use Rattle.alignments.proofs.Tables.{Any, Each, table-lawful}
 use Rattle.alignments.proofs.Session.{Beside, minded-sound, starts, begins as begun}
@@ -49,6 +49,7 @@ use Rattle.claims.proofs.Few.{few}
 use Rattle.claims.proofs.Minded.{opened-sane, opened-minds, none}
 use Rattle.claims.proofs.Named.{opened-indexed, opened-names}
 use Rattle.claims.proofs.Session.{Going, begins, positive, table-now, request-reach, BothReach, both-reached, both-ended, table-is, types-is, going, current, type-keeps, types-keeps, made-more, made-none, made-one, not-11, no-ids, after-holds}
+use Rattle.counted.specs.Counted.{definedFirst}
 use Rattle.counted.proofs.Request.{Near, near-alike, Recalls, Came, came-served, came-refused, request-came}
 
 -- ---- a request of any machine, by whether the session is open and the id below the count
@@ -314,15 +315,14 @@ module _ (p modes : ℕ) (s : List ℕ) (n : ℕ) (ok : openingNumber p s n ≡ 
       (list-kept ids (suc k) (c .session) (c .work) (c .text) (single X T (length text) L x .sess) g (single X₂ T (length text) A x .sess) (q .near) (q .visits) (q .same) (c .text) (g .fits) refl)
 
   -- ---- from opening on
-  -- nothing is remembered, and no visit counted
   abbrev pub begun₂ : Sess State
-  begun₂ = openedBy (minded N) B (noVisits (noNames B) blank)
+  begun₂ = openedBy (minded N) B (definedFirst p modes s n)
 
   begins-near : Beside₂ begun₂ (opened B)
   begins-near =
       starts (mindedAsks (tableKeep (B .type-cnt)) B) (minded N) N B (opened-wf p modes s n ok) (Z .ends) (Beside (tableKeep (B .type-cnt)) N B Any Each (table-lawful (B .type-cnt)) (λ id t q l. tt) (opened-wf p modes s n ok) (Z .ends))
-      (minded-sound (tableKeep (B .type-cnt)) N B Any Each (table-lawful (B .type-cnt)) (λ id t q l. tt) (opened-wf p modes s n ok) (Z .ends)) (noVisits (noNames B) blank) (noNames B)
-      (begun (tableKeep (B .type-cnt)) N B Any Each (table-lawful (B .type-cnt)) (λ id t q l. tt) (opened-wf p modes s n ok) (Z .ends) (noNames B) blank tt (λ id. refl))
+      (minded-sound (tableKeep (B .type-cnt)) N B Any Each (table-lawful (B .type-cnt)) (λ id t q l. tt) (opened-wf p modes s n ok) (Z .ends)) (definedFirst p modes s n) (noNames B)
+      (begun (tableKeep (B .type-cnt)) N B Any Each (table-lawful (B .type-cnt)) (λ id t q l. tt) (opened-wf p modes s n ok) (Z .ends) (noNames B) (definedFirst p modes s n .memory) tt (λ id. refl))
 
   open-kept : (S : Session) (work text : List ℕ) → length work ≡ n → KeptCall (openCall S s work text p modes) (opened B) begun₂
   unfolding openCall openedCall btfOf afresh

@@ -24,10 +24,13 @@ module _ (pointer modes : ℕ) (s : List ℕ) (n : ℕ) where
   abbrev N : Naming Names
   N = namesIn pointer modes s n
 
-  -- The definition of the remembering way (alignments/specs): its names, its memory and its visits after the requests, in a session that begins with nothing
-  -- remembered and no visit.
+  -- Names, memory and visits before the first request: no name is given, nothing is remembered, no visit is counted.
+  abbrev pub definedFirst : Minded Names Table
+  definedFirst = noVisits (noNames B) blank
+
+  -- and after the requests, in a session of the definition of the remembering way (alignments/specs)
   abbrev pub definedAfter : List Req → Minded Names Table
-  definedAfter rs = afterOnce (mindedAsks (tableKeep (B .type-cnt)) B) (minded N) B rs (openedBy (minded N) B (noVisits (noNames B) blank)) .mach .known .names
+  definedAfter rs = afterOnce (mindedAsks (tableKeep (B .type-cnt)) B) (minded N) B rs (openedBy (minded N) B definedFirst) .mach .known .names
 
   -- c: the last call, after the requests rs. The record's visits, of an open session and of one that a refusal closed; and while it is open the work remembers
   -- what the definition does of each type.
