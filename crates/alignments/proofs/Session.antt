@@ -129,7 +129,7 @@ module _ {St U : Type 0} (Q : Asks St) (N′ : Naming St) (N : Naming U) (B : Bt
     def-alike mk s t h x =
         line-by mk s t h (definitionOnce Q N′ B x (B .type-by-id x) (s .known .names)) (definition N B x (B .type-by-id x) (t .known .names)) (same-definition x (s .known .names) (t .known .names) (h .names))
 
-    machines-alike : AlikeMachine (machineOnce Q N′ B) (machineBy N B) cnt (Sized cnt) Near
+    pub machines-alike : AlikeMachine (machineOnce Q N′ B) (machineBy N B) cnt (Sized cnt) Near
     machines-alike = record {
       a-store = record {
         a-good = λ s t h. h .sized;
@@ -187,7 +187,7 @@ module _ {St U : Type 0} (Q : Asks St) (N′ : Naming St) (N : Naming U) (B : Bt
     after-pair [] S₁ S h = (S .mach .known .names, h .alike .names)
     after-pair (r ∷ rs) S₁ S h = after-pair rs (answerOnce Q N′ B S₁ r .sess) (answerOf N B S r .sess) (answer-alike S₁ S h r .sessions)
 
-    starts : (v : St) (u : U) → Pair v u → BothSess Near (openedBy N′ B v) (openedBy N B u)
+    pub starts : (v : St) (u : U) → Pair v u → BothSess Near (openedBy N′ B v) (openedBy N B u)
     unfolding afresh
     starts v u r = record {
       same-open = refl;
@@ -218,7 +218,7 @@ module _ {U M : Type 0} (K : Keep M) (N : Naming U) (B : Btf) (Good : M → Type
   carried-fair v u h x (found a m k) f = (f .0, (h .0, f .1))
   carried-fair v u h x (refused c m k) f = f
 
-  minded-sound : Sound (mindedAsks K B) (minded N) N B wf ends Beside
+  pub minded-sound : Sound (mindedAsks K B) (minded N) N B wf ends Beside
   minded-sound = record {
     named = record {
       rel-type = λ space id name fit e v u r. (ap (λ (w : U). N .typeVersion space id name w .version) (r .0), (ap (λ (w : U). N .typeVersion space id name w .names) (r .0), r .1));
@@ -230,7 +230,7 @@ module _ {U M : Type 0} (K : Keep M) (N : Naming U) (B : Btf) (Good : M → Type
 
   -- from opening on, with nothing remembered
   module _ (u : U) (m : M) (g : Good m) (none : (id : ℕ) → K .recall m id ≡ unknown) where
-    begins : Beside (noVisits u m) u
+    pub begins : Beside (noVisits u m) u
     begins = (refl, record { right = λ id s e. absurd (known-unknown s (sym (none id) ∙ e)); good = g; visits = sym (paid-none B (K .recall m) none (B .type-cnt)); also = tt })
 
     -- the same numbers, lengths and text

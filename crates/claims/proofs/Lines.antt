@@ -200,7 +200,7 @@ module _ (b : Btf) (e : ℕ) (s w : List ℕ) (I : Indexed b e s w) (mk : List �
       go x false q = lines-stop 17
 
 -- ---- the names read no word of the memory
-alike-agree : (b : Btf) (e : ℕ) (s w : List ℕ) → 1 ≤ b .types → (v u : List ℕ) (n : Names) → Agree v u → Alike b e s w u n → Alike b e s w v n
+pub alike-agree : (b : Btf) (e : ℕ) (s w : List ℕ) → 1 ≤ b .types → (v u : List ℕ) (n : Names) → Agree v u → Alike b e s w u n → Alike b e s w v n
 alike-agree b e s w some v u n a k = record {
   kept = record {
     long = a .long ∙ k .kept .long;

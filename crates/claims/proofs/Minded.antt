@@ -76,7 +76,7 @@ module _ (p modes : ℕ) (s : List ℕ) (n : ℕ) (ok : openingNumber p s n ≡ 
   unfolding btfOf
   types-are = refl
 
-  none : (id : ℕ) → workKeep (B .type-cnt) B .recall w id ≡ unknown
+  pub none : (id : ℕ) → workKeep (B .type-cnt) B .recall w id ≡ unknown
   unfolding workKeep seenWord decoded
   none id = by (ltb id (B .type-cnt)) refl
     where

@@ -214,7 +214,7 @@ module _ (p modes : ℕ) (s : List ℕ) (n : ℕ) (ok : openingNumber p s n ≡ 
         let z : (12 ≤ c) × (c ≤ 18) = stuck-listed (length (lentTo len t)) (dumped (workMachine b B) T sheet x) (fair-request b B (length (lentTo len t)) sheet x (omega arith, refl)) c q in
         omega (arith, z .0)
 
-    table-now : (u : ℕ) → requested b s x len u v t ≡ cameTo len u t (dumped (workMachine b B) T sheet x)
+    pub table-now : (u : ℕ) → requested b s x len u v t ≡ cameTo len u t (dumped (workMachine b B) T sheet x)
     unfolding requested
     table-now u = ap (λ (K : Rules). cameTo len u t (dumped (workMachine b K) (tableOf K) sheet x)) (g .bears .table)
 
@@ -400,12 +400,12 @@ module _ (p modes : ℕ) (s : List ℕ) (n : ℕ) (ok : openingNumber p s n ≡ 
   unfolding made
   made-more k c l = omega arith
 
-  made-none : (k : ℕ) (S : Session) (v t : List ℕ) (m : ℕ) → (m ≡ 0) ⊎ (m ≡ 11) → made k (callOf S (answerOf m k) v t) ≡ 0
+  pub made-none : (k : ℕ) (S : Session) (v t : List ℕ) (m : ℕ) → (m ≡ 0) ⊎ (m ≡ 11) → made k (callOf S (answerOf m k) v t) ≡ 0
   unfolding made callOf
   made-none k S v t m (inl e) = rw (number-is m k, value-is m k, eq-eqb m 0 e) (omega arith)
   made-none k S v t m (inr e) = let d : m ≡ 0 → ⊥ = (λ z. absurd (omega arith)) in rw (number-is m k, value-is m k, ne-eqb m 0 d, eq-eqb m 11 e) (omega arith)
 
-  made-one : (k : ℕ) (S : Session) (v t : List ℕ) (m : ℕ) → (m ≡ 0 → ⊥) → (m ≡ 11 → ⊥) → made k (callOf S (answerOf m k) v t) ≡ 1
+  pub made-one : (k : ℕ) (S : Session) (v t : List ℕ) (m : ℕ) → (m ≡ 0 → ⊥) → (m ≡ 11 → ⊥) → made k (callOf S (answerOf m k) v t) ≡ 1
   unfolding made callOf
   made-one k S v t m d e = rw (number-is m k, value-is m k, ne-eqb m 0 d, ne-eqb m 11 e) (omega arith)
 
@@ -421,7 +421,7 @@ module _ (p modes : ℕ) (s : List ℕ) (n : ℕ) (ok : openingNumber p s n ≡ 
     abbrev rest : Call → Call
     rest c = listFrom (suc k) (c .session) s (c .work) (c .text) ids
 
-    not-11 : L .isOpen ≡ true → numberOf (c₁ .answer) ≡ 11 → ⊥
+    pub not-11 : L .isOpen ≡ true → numberOf (c₁ .answer) ≡ 11 → ⊥
     unfolding numberOf
     not-11 o e = ⊎-elim past below (le-or-lt (S .types) x)
       where
@@ -463,7 +463,7 @@ module _ (p modes : ℕ) (s : List ℕ) (n : ℕ) (ok : openingNumber p s n ≡ 
         by zero e = list-goes e (subst (λ (room : ℕ). HoldsAfter (rest c₁) (run X T (singlesFor room (made (suc k) (rest c₁)) ids) L₁)) (type-single S s work text x .long) i)
         by (suc m) e = list-stops m e
 
-  no-ids : (room j : ℕ) → singlesFor room j [] ≡ []
+  pub no-ids : (room j : ℕ) → singlesFor room j [] ≡ []
   unfolding singlesFor
   no-ids room zero = refl
   no-ids room (suc j) = refl

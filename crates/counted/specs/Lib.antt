@@ -1,0 +1,2 @@
+-- Counted: the count in the definition, and the record's.
+pub mod Counted
