@@ -12,9 +12,9 @@ use Rattle.cutting.proofs.area.put_names.Tie as tie
 use Rattle.cutting.proofs.area.put_names.Reads as reads
 use Rattle.cutting.proofs.area.put_names.Lts as lts
 use Rattle.roles.proofs.words_in.Reads as words-in-reads
-use Rattle.cutting.proofs.area.is_first.Reads as is-first-reads
+use Rattle.cutting.proofs.names.is_first.Reads as is-first-reads
 use Rattle.cutting.proofs.area.put_name.Reads as put-name-reads
-use Rattle.cutting.proofs.area.longer.Reads as longer-reads
+use Rattle.cutting.proofs.names.longer.Reads as longer-reads
 
 abbrev Inv-loop : tie.InvT-loop
 Inv-loop b section start ids table x e base out₀ at n p₀ len₀ j₀ out p len j = (putOut p out ≡ putText out₀ at (whole (namesBytes b section start ids x e j))) × (j ≤ n) × (length out ≡ length out₀) × (len ≡ baseOf b section start ids x + newSizes b section start ids x e j)

@@ -24,7 +24,7 @@ returns-2 : tie.Need-returns-2
 returns-2 c = place-table _ _ _ _ _ _ _ (c .before .before .before .is-empty .ensures) _ (c .before .before .before .before .before .before .before .before .before .pre .0) (c .before .before .before .before .before .before .before .before .before .pre .1) _ (c .before .find .ensures) (c .if2 .taken)
 
 place-from-requires : tie.Need-place-from-requires
-place-from-requires c κs = c .before .before .before .before .before .before .before .before .before .pre .0 .short
+place-from-requires c κs = c .before .before .before .before .before .before .before .before .before .pre
 
 cast-result-2 : tie.Need-cast-result-2
 cast-result-2 c = search needs

@@ -1,10 +1,10 @@
 use mathlib.Core.Path.{sym, _∙_}
 use Rattle.mentioned.proofs.Laws.{new-other, new-empty}
 use Rattle.interning.proofs.Found.{first-is}
-use Rattle.cutting.proofs.area.is_first.Statement.{statement}
-use Rattle.cutting.proofs.area.is_first.Tie as tie
-use Rattle.cutting.proofs.area.is_first.Reads as reads
-use Rattle.cutting.proofs.area.is_first.Lts as lts
+use Rattle.cutting.proofs.names.is_first.Statement.{statement}
+use Rattle.cutting.proofs.names.is_first.Tie as tie
+use Rattle.cutting.proofs.names.is_first.Reads as reads
+use Rattle.cutting.proofs.names.is_first.Lts as lts
 use Rattle.roles.proofs.role.Reads as role-reads
 use Rattle.roles.proofs.word_of.Reads as word-of-reads
 use Rattle.strings.proofs.is_empty.Reads as is-empty-reads
