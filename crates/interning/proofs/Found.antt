@@ -24,10 +24,10 @@ use Rattle.interning.proofs.Places.{below, above, compare, seen, is-sam
 module _ (b : Btf) (s start ids t : List ℕ) (right : Right b s start ids t) where
   pub found-place : (off v : ℕ) → v ≡ found b s t off → (v ≡ 0 → ⊥) → v / 4294967296 ≡ placeOf b s start ids (allBases b s start ids) off
   unfolding found slotOf
-  found-place off v e n = ap (λ (u : ℕ). u / 4294967296) e ∙ sym (right .places i m off (sym (same-bytes (strAt b s (getD t i 0 % 4294967296)) (strAt b s off) (ends-same b s t (strAt b s off) (hashFrom 0 (strAt b s off) % 262144) 512 in-table m))))
+  found-place off v e n = ap (λ (u : ℕ). u / 4294967296) e ∙ sym (right .places i m off (sym (same-bytes (strAt b s (getD t i 0 % 4294967296)) (strAt b s off) (ends-same b s t (strAt b s off) (hashFrom 0 (strAt b s off) % 262144) 262144 in-table m))))
     where
       i : ℕ
-      i = probe b s t (strAt b s off) (hashFrom 0 (strAt b s off) % 262144) 512
+      i = probe b s t (strAt b s off) (hashFrom 0 (strAt b s off) % 262144) 262144
 
       m : getD t i 0 ≡ 0 → ⊥
       m z = n (e ∙ z)
