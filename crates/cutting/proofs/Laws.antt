@@ -2,6 +2,7 @@
 use Prim.Native.Nat.{ℕ, zero, suc, _+_, _-_, _*_, _/_, _%_, _<_, _≤_}
 use native.Mathlib.Omega.{arith}
 use native.Mathlib.Numerals.{add-one}
+use native.Mathlib.Decide.{ℕ-discrete}
 use mathlib.Core.Path.{_≡_, refl, sym, _∙_, ap}
 use mathlib.Core.Bool.{Bool, true, false, not, true≢false}
 use mathlib.Core.List.{List, [], _∷_, _++_}
@@ -18,16 +19,16 @@ use Rattle.btf.specs.Names.{strAt}
 use Rattle.followed.specs.Followed.{countOf, entryAt}
 use Rattle.roles.specs.Words.{role, wordsIn, wordOf}
 use Rattle.roles.proofs.Laws.{words-few}
-use Rattle.mentioned.specs.Names.{isName, firstFrom, mentions, newSizes, baseOf, placeAt, placeFrom, placeOf, zeroBases}
+use Rattle.mentioned.specs.Names.{isName, firstFrom, mentions, isNew, newSizes, baseOf, placeAt, placeFrom, placeOf, zeroBases}
 use Rattle.mentioned.specs.Strings.{stringsBytes}
-use Rattle.mentioned.proofs.Laws.{flip-true, flip-false, name-short}
+use Rattle.mentioned.proofs.Laws.{flip-true, flip-false}
 use Rattle.mentioned.proofs.Sizes.{strings-length}
 use Rattle.interning.specs.Slots.{found}
 use Rattle.interning.specs.Filled.{zeroTable, filledOf, fillingOf, filling}
 use Rattle.interning.specs.Right.{allBases, Right, Kept}
 use Rattle.interning.proofs.Right.{table-over, table-length, table-bases}
-use Rattle.interning.proofs.Found.{found-place}
-use Rattle.cutting.specs.Bytes.{wordBytes, magicBytes, headBytes, typeSize, typesSize, newWord, recordBytes, typeBytes, typesBytes, allBytes, Wrote, wroteOf, fittingWritten, keptWritten}
+use Rattle.interning.proofs.Found.{found-place, first-is, new-place}
+use Rattle.cutting.specs.Bytes.{wordBytes, magicBytes, headBytes, typeSize, typesSize, newWord, recordBytes, typeBytes, typesBytes, allBytes, sought, Wrote, wroteOf, fittingWritten, keptWritten}
 use Rattle.cutting.proofs.Sizes.{head-length, types-length}
 
 -- a length fits a word
@@ -46,6 +47,45 @@ module _ (b : Btf) (s : List ℕ) where
 
   pub first-few : (e off n j : ℕ) → n ≡ wordsIn b s e → j ≡ firstFrom b s e off 0 n → j ≤ wordsIn b s e
   first-few e off n j g h = omega (arith, g, h, first-up e off 0 n)
+
+  -- ---- what the table has for a word
+  module _ (t : List ℕ) (e j r : ℕ) (k : r ≡ role (e % 32) j) where
+    pub seek-other : (r ≡ 1 → ⊥) → 0 ≡ sought b s t e j
+    unfolding sought
+    seek-other n = rw (ne-eqb (role (e % 32) j) 1 (λ z. n (k ∙ z)), sought)
+
+    module _ (z : r ≡ 1) (off : ℕ) (f : off ≡ wordOf b s e j) (m : Bool) (g : m ≡ isEmpty (strAt b s off)) where
+      empty-is : m ≡ isEmpty (strAt b s (wordOf b s e j))
+      empty-is = g ∙ ap (λ (u : ℕ). isEmpty (strAt b s u)) f
+
+      pub seek-empty : m ≡ true → 0 ≡ sought b s t e j
+      unfolding sought
+      seek-empty h = rw (eq-eqb (role (e % 32) j) 1 (sym k ∙ z), sought, sym empty-is ∙ h)
+
+      pub seek-is : m ≡ false → (v : ℕ) → v ≡ found b s t off → v ≡ sought b s t e j
+      unfolding sought
+      seek-is h v p = p ∙ ap (found b s t) f ∙ rw (eq-eqb (role (e % 32) j) 1 (sym k ∙ z), sought, sym empty-is ∙ h)
+
+  -- where it has something, the word mentions a name
+  sought-some : (t : List ℕ) (e j v : ℕ) → v ≡ sought b s t e j → (v ≡ 0 → ⊥) → (role (e % 32) j ≡ 1) × (isEmpty (strAt b s (wordOf b s e j)) ≡ false) × (v ≡ found b s t (wordOf b s e j))
+  sought-some t e j v h n = elim (ℕ-discrete (role (e % 32) j) 1) [ yes a ↦ go a (isEmpty (strAt b s (wordOf b s e j))) refl | no a ↦ absurd (n (h ∙ sym (seek-other t e j (role (e % 32) j) refl a))) ]
+    where
+      go : role (e % 32) j ≡ 1 → (m : Bool) → isEmpty (strAt b s (wordOf b s e j)) ≡ m → (role (e % 32) j ≡ 1) × (isEmpty (strAt b s (wordOf b s e j)) ≡ false) × (v ≡ found b s t (wordOf b s e j))
+      go a true y = absurd (n (h ∙ sym (seek-empty t e j (role (e % 32) j) refl a (wordOf b s e j) refl true (sym y) refl)))
+      go a false y = (a, y, h ∙ sym (seek-is t e j (role (e % 32) j) refl a (wordOf b s e j) refl false (sym y) refl (found b s t (wordOf b s e j)) refl))
+
+  module _ (start ids t : List ℕ) (right : Right b s start ids t) where
+    pub first-sought : (x e : ℕ) → Kept b start ids x e → (j v : ℕ) → v ≡ sought b s t e j → (len : ℕ) → j < wordsIn b s e → len ≡ baseOf b s start ids x + newSizes b s start ids x e j
+        → (v ≡ 0 → ⊥) → eqb (v / 4294967296) len ≡ isNew b s start ids x e j
+    first-sought x e k j v h len l is n = let f = sought-some t e j v h n in first-is b s start ids t right x e k j len l is (f .0) (wordOf b s e j) refl (f .1) v (f .2) n
+
+    module _ (bases : List ℕ) (a : bases ≡ allBases b s start ids) where
+      pub sought-place : (e j v : ℕ) → v ≡ sought b s t e j → (v ≡ 0 → ⊥) → v / 4294967296 ≡ placeOf b s start ids bases (wordOf b s e j)
+      sought-place e j v h n = found-place b s start ids t right (wordOf b s e j) v (sought-some t e j v h n .2) n ∙ ap (λ (l : List ℕ). placeOf b s start ids l (wordOf b s e j)) (sym a)
+
+      pub new-at : (x e : ℕ) → Kept b start ids x e → (j len : ℕ) → j < wordsIn b s e → len ≡ baseOf b s start ids x + newSizes b s start ids x e j → (new : Bool) → new ≡ isNew b s start ids x e j
+          → new ≡ true → len ≡ placeOf b s start ids bases (wordOf b s e j)
+      new-at x e k j len l is new g z = new-place b s start ids t right x e k j len l is (sym g ∙ z) ∙ ap (λ (u : List ℕ). placeOf b s start ids u (wordOf b s e j)) (sym a)
 
   module _ (start ids : List ℕ) where
     pub place-kept : (off x : ℕ) (q : Bool) → q ≡ mentions b s start ids off x → not q ≡ false → x < countOf b → (e : ℕ) → e ≡ entryAt b start x → Kept b start ids x e
@@ -102,14 +142,14 @@ module _ (b : Btf) (s : List ℕ) where
         unfolding placeOf
         place-first z = rw (sym g ∙ z, placeOf)
 
-        pub place-table : (t : List ℕ) → Right b s start ids t → bases ≡ allBases b s start ids → (v : ℕ) → v ≡ found b s t off → (v ≡ 0 → ⊥) → v / 4294967296 ≡ placeOf b s start ids bases off
-        place-table t right e v h n = found-place b s start ids t right off v h n ∙ ap (λ (l : List ℕ). placeOf b s start ids l off) (sym e)
-
         pub place-found : m ≡ false → (r : ℕ) → r ≡ placeFrom b s start ids bases off 0 (countOf b) → r % 4294967296 ≡ placeOf b s start ids bases off
         unfolding placeOf
         place-found z r h = ap (λ (v : ℕ). v % 4294967296) h ∙ rw (sym g ∙ z, placeOf)
 
       -- ---- words as they are written
+      pub at-word : (off w : ℕ) → off ≡ w → (P : Type 0) (r : ℕ) → (P → r ≡ placeOf b s start ids bases w) → P → r ≡ placeOf b s start ids bases off
+      at-word off w f P r h p = h p ∙ ap (placeOf b s start ids bases) (sym f)
+
       module _ (e j v w : ℕ) (k : v ≡ role (e % 32) j) (f : w ≡ wordOf b s e j) where
         pub word-name : v ≡ 1 → (r : ℕ) → r ≡ placeOf b s start ids bases w → r ≡ newWord b s start ids bases e j
         unfolding newWord

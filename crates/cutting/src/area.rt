@@ -1,6 +1,7 @@
 // The string area of the new section.
 use crate::names::is_first;
 use crate::names::longer;
+use crate::names::seek;
 use btf::Btf;
 use followed::count;
 use followed::entry;
@@ -50,7 +51,8 @@ fn put_names(
     let mut len = base;
     let mut j: u32 = 0;
     while j < n {
-        let new = is_first(b, section, start, ids, table, x, e, j, len);
+        let v = seek(b, section, table, e, j);
+        let new = is_first(b, section, start, ids, x, e, j, v, len);
         p = put_name(b, section, e, j, new, out, p);
         len = longer(b, section, e, j, new, len);
         j += 1;

@@ -14,37 +14,45 @@ use roles::words_in;
 use strings::get_btf_str;
 use strings::is_empty;
 ghost use mathlib.Core.Path.{_≡_};
-ghost use Prim.Native.Nat.{_+_, _<_, _≤_};
+ghost use Prim.Native.Nat.{_+_, _/_, _<_, _≤_};
+ghost use mathlib.Core.Bool.{true};
+ghost use lib.Dec.{eqb};
 ghost use lib.ListN.{length};
 ghost use Rattle.followed.specs.Followed.{countOf};
 ghost use Rattle.roles.specs.Words.{wordsIn};
 ghost use Rattle.mentioned.specs.Names.{isNew, newSizes, baseOf, placeAt, placeFrom, placeOf};
 ghost use Rattle.interning.specs.Right.{allBases, Right, Kept};
-ghost use Rattle.cutting.specs.Bytes.{nameIf};
+ghost use Rattle.cutting.specs.Bytes.{nameIf, sought};
 
-// Whether word j of type x mentions a name for the first time; `len`: the length of the strings before it.
+// What the table has for the name of word j; 0 for another word and for the empty name.
+pub(crate) fn seek(b: Btf, section: &[u8], table: &[u64], e: u32, j: u32) -> u64
+    ensures { λ r. ⌜ r ≡ sought b (now (section .entry)) (now (table .entry)) e j ⌝ }
+{
+    if role(e % 32, j) != 1 {
+        return 0;
+    }
+    let off = word_of(b, section, e, j);
+    if is_empty(b, section, off) {
+        return 0;
+    }
+    find(b, section, table, off)
+}
+
+// Whether word j of type x mentions a name for the first time. `v`: what the table has for it; `len`: the length of the strings before it.
 pub(crate) fn is_first(
     b: Btf,
     section: &[u8],
     start: &[u32],
     ids: &[u32],
-    table: &[u64],
     x: u32,
     e: u32,
     j: u32,
+    v: u64,
     len: u32,
 ) -> bool
-    requires { ⌜ Right b (now section) (now start) (now ids) (now table) × Kept b (now start) (now ids) x e × (j < wordsIn b (now section) e) × (len ≡ baseOf b (now section) (now start) (now ids) x + newSizes b (now section) (now start) (now ids) x e j) ⌝ }
+    requires { ⌜ ((v ≡ 0 → ⊥) → eqb (v / 4294967296) len ≡ isNew b (now section) (now start) (now ids) x e j) ⌝ }
     ensures { λ r. ⌜ r ≡ isNew b (now (section .entry)) (now (start .entry)) (now (ids .entry)) x e j ⌝ }
 {
-    if role(e % 32, j) != 1 {
-        return false;
-    }
-    let off = word_of(b, section, e, j);
-    if is_empty(b, section, off) {
-        return false;
-    }
-    let v = find(b, section, table, off);
     if v == 0 {
         return is_new(b, section, start, ids, x, e, j);
     }
@@ -80,7 +88,8 @@ fn length_to(
     let mut len = base;
     let mut j: u32 = 0;
     while j < n {
-        let new = is_first(b, section, start, ids, table, x, e, j, len);
+        let v = seek(b, section, table, e, j);
+        let new = is_first(b, section, start, ids, x, e, j, v, len);
         len = longer(b, section, e, j, new, len);
         j += 1;
     }
@@ -134,7 +143,7 @@ fn place_from(
     0
 }
 
-// Where a name stands in the new strings.
+// Where a name stands in the new strings. `v`: what the table has for it; `new`: it is mentioned for the first time, and its place is `len`.
 pub(crate) fn place_of(
     b: Btf,
     section: &[u8],
@@ -143,16 +152,21 @@ pub(crate) fn place_of(
     bases: &[u32],
     table: &[u64],
     off: u32,
+    v: u64,
+    new: bool,
+    len: u32,
 ) -> u32
-    requires { ⌜ Right b (now section) (now start) (now ids) (now table) × (now bases ≡ allBases b (now section) (now start) (now ids)) ⌝ }
+    requires { ⌜ Right b (now section) (now start) (now ids) (now table) × (now bases ≡ allBases b (now section) (now start) (now ids)) × ((v ≡ 0 → ⊥) → v / 4294967296 ≡ placeOf b (now section) (now start) (now ids) (now bases) off) × (new ≡ true → len ≡ placeOf b (now section) (now start) (now ids) (now bases) off) ⌝ }
     ensures { λ r. ⌜ r ≡ placeOf b (now (section .entry)) (now (start .entry)) (now (ids .entry)) (now (bases .entry)) off ⌝ }
 {
-    if is_empty(b, section, off) {
-        return 0;
-    }
-    let v = find(b, section, table, off);
     if v != 0 {
         return (v / 4294967296) as u32;
+    }
+    if new {
+        return len;
+    }
+    if is_empty(b, section, off) {
+        return 0;
     }
     (place_from(b, section, start, ids, bases, table, off) % 4294967296) as u32
 }
