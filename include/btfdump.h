@@ -292,14 +292,16 @@ btfdump_answer btfdump_field(const uint8_t *record, size_t record_len,
  * followed, and whose type is left out, becomes 0. Order of bytes, version and
  * flags are the old. The list is bytes, four an id, least significant first;
  * the rest of it is ignored. Opened afresh with the same settings (without
- * BTFDUMP_NAMES_APART) and as much work, the new section gives for the new
- * numbers the text and the refusals that the old one gives for the old.
+ * BTFDUMP_NAMES_APART) and work long enough for it, the new section gives for
+ * the new numbers the text and the refusals that the old one gives for the old.
+ * The old section's work is always long enough.
  *
  * The value is the length written; the rest of the output slice stays. Record
  * and section are only read, and neither work nor text is lent. The output
  * slice must not overlap the others. The time is about proportional to the
- * section's length, up to some 200,000 distinct names; a name that the table on
- * the stack has no room for is compared with all those before it.
+ * section's length and to the lengths of all names mentioned, up to 262,144
+ * distinct names; beyond, each mention of a further name is a search through
+ * all of them. Names made to collide take time with the square of their number.
  *
  * Refused with value 0, nothing written, and the session still open: 11 (here:
  * no open session, another length of the section than at opening, or a section

@@ -1,5 +1,5 @@
 -- THE THEOREMS about the call for a section cut down. Assume nothing.
-use Prim.Native.Nat.{ℕ, zero, suc, _+_, _*_, _≤_}
+use Prim.Native.Nat.{ℕ, zero, suc, _≤_}
 use native.Mathlib.Omega.{arith}
 use mathlib.Core.Path.{_≡_, refl, sym, _∙_, ap}
 use mathlib.Core.Bool.{Bool, true, false, _&&_, _||_}
@@ -9,7 +9,7 @@ use lib.Dec.{ltb}
 use borrow.Author.Tests.{eq-eqb, ltb-false}
 use Rattle.lent.specs.Words.{words}
 use Rattle.records.specs.Reading.{Bytes}
-use Rattle.opened.specs.Table.{describedIn, typesOf, enumeratorsOf}
+use Rattle.opened.specs.Table.{describedIn, typesOf}
 use Rattle.opened.specs.Causes.{cause2, cause3, cause4, cause5, cause6, firstOf, openingNumber}
 use Rattle.opened.proofs.Order.{none-first, sound-none}
 use Rattle.turns.specs.declared.Session.{Session}
@@ -18,12 +18,12 @@ use Rattle.calls.specs.Calls.{openCall}
 use Rattle.cut.specs.Section.{anyPast, cutNumber}
 use Rattle.cut.specs.Test.{isKept}
 use Rattle.cut.proofs.Test.{kept-tells}
-use Rattle.reopened.specs.Reopened.{OldNames, Reopens}
+use Rattle.reopened.specs.Reopened.{Reopens}
 use Rattle.reopened.proofs.Reopened.{cut-reopens}
 use Rattle.reopened.proofs.Work.{work-enough}
 use Rattle.cutcall.specs.Calls.{Cut, cutOf, passes, isOpenOn, sectionFor, cutBy, cutCall}
 use Rattle.cutclaims.proofs.Lists.{lists-alike}
-use Rattle.cutclaims.specs.Claims.{Untouched, Written, Carried}
+use Rattle.cutclaims.specs.Claims.{workFor, Untouched, Written, Carries}
 
 take-all : (a c : List ℕ) → take (length a) (a ++ c) ≡ a
 take-all [] c = refl
@@ -113,23 +113,24 @@ module _ (S : Session) (s given out : List ℕ) where
           rest = ap (drop (length section)) slice-is ∙ drop-all section (drop (length section) out);
         }
 
-    -- THE THEOREM, of a section that opening accepted: what the call wrote, opened afresh with work of the old length or more, answers alike
-    pub carried : (pointer modes : ℕ) → OldNames modes → (n n′ : ℕ) → openingNumber pointer s n ≡ 0 → n ≤ n′ → Bytes s → Carried S s given out pointer modes n n′
-    carried pointer modes old n n′ opened more y = record {
-      written = written;
-      opens = λ S′ work text e. ap (λ (w : List ℕ). numberOf (openCall S′ w work text pointer modes .answer)) (written .whole) ∙ alike .opens S′ work text e;
-      alike = alike;
-      lists = lists-alike pointer modes s n (isKept (describedIn s) (words given)) n′ alike;
-    }
-      where
-        m : ℕ → Bool
-        m = isKept (describedIn s) (words given)
+    -- as much work as the old section had is long enough
+    pub old-enough : (pointer n : ℕ) → openingNumber pointer s n ≡ 0 → Bytes s → workFor section ≤ n
+    old-enough pointer n opened y = work-enough pointer s n opened y (words given) (isKept (describedIn s) (words given)) (kept-tells (describedIn s) (words given)) (written .short)
 
-        enough : 4 * (16 * typesOf section + 8 * enumeratorsOf section + 4096) ≤ n′
-        enough = omega (arith, more, work-enough pointer s n opened y (words given) m (kept-tells (describedIn s) (words given)) (written .short))
+  -- THE THEOREM
+  pub carried : Carries S s given out
+  carried pointer modes n n′ a = record {
+    written = w;
+    opens = λ S′ work text e. ap (λ (l : List ℕ). numberOf (openCall S′ l work text pointer modes .answer)) (w .whole) ∙ alike .opens S′ work text e;
+    alike = alike;
+    lists = lists-alike pointer modes s n (isKept (describedIn s) (words given)) n′ alike;
+  }
+    where
+      w : Written S s given out
+      w = written (a .accepted)
 
-        alike : Reopens pointer modes s n (isKept (describedIn s) (words given)) n′
-        alike = cut-reopens pointer modes old s n opened y (words given) (written .short) n′ enough
+      alike : Reopens pointer modes s n (isKept (describedIn s) (words given)) n′
+      alike = cut-reopens pointer modes (a .old-names) s n (a .opened) (a .bytes) (words given) (w .short) n′ (a .long-enough)
 
 -- and a session that is open on such a section is not refused by 11
 pub not-closed : (S : Session) (s : List ℕ) (n : ℕ) → openingNumber (S .«pointer_size») s n ≡ 0 → S .«open» ≡ true → S .«section_len» ≡ length s → isOpenOn S s ≡ true

@@ -2,8 +2,9 @@
 use Prim.Native.Nat.{ℕ, zero, suc, _+_, _-_, _*_, _/_, _%_, _<_, _≤_}
 use native.Mathlib.Omega.{arith}
 use native.Mathlib.Numerals.{add-one}
+use native.Mathlib.Decide.{ℕ-discrete}
 use mathlib.Core.Path.{_≡_, refl, sym, _∙_, ap}
-use mathlib.Core.Bool.{Bool, true, false, not}
+use mathlib.Core.Bool.{Bool, true, false, not, true≢false}
 use mathlib.Core.List.{List, [], _∷_, _++_}
 use lib.ListN.{length, getD, drop, length-append}
 use lib.Dec.{eqb}
@@ -18,16 +19,16 @@ use Rattle.btf.specs.Names.{strAt}
 use Rattle.followed.specs.Followed.{countOf, entryAt}
 use Rattle.roles.specs.Words.{role, wordsIn, wordOf}
 use Rattle.roles.proofs.Laws.{words-few}
-use Rattle.mentioned.specs.Names.{firstFrom, mentions, isNew, newSize, newSizes, baseOf, placeAt, placeFrom, placeOf, zeroBases}
+use Rattle.mentioned.specs.Names.{isName, firstFrom, mentions, isNew, newSizes, baseOf, placeAt, placeFrom, placeOf, zeroBases}
 use Rattle.mentioned.specs.Strings.{stringsBytes}
-use Rattle.mentioned.proofs.Laws.{flip-true, flip-false, name-short}
+use Rattle.mentioned.proofs.Laws.{flip-true, flip-false}
 use Rattle.mentioned.proofs.Sizes.{strings-length}
 use Rattle.interning.specs.Slots.{found}
 use Rattle.interning.specs.Filled.{zeroTable, filledOf, fillingOf, filling}
-use Rattle.interning.specs.Right.{allBases, Right}
+use Rattle.interning.specs.Right.{allBases, Right, Kept}
 use Rattle.interning.proofs.Right.{table-over, table-length, table-bases}
-use Rattle.interning.proofs.Found.{found-place}
-use Rattle.cutting.specs.Bytes.{wordBytes, magicBytes, headBytes, typeSize, typesSize, newWord, recordBytes, typeBytes, typesBytes, allBytes, Wrote, wroteOf, fittingWritten, keptWritten}
+use Rattle.interning.proofs.Found.{found-place, first-is, new-place}
+use Rattle.cutting.specs.Bytes.{wordBytes, magicBytes, headBytes, typeSize, typesSize, newWord, recordBytes, typeBytes, typesBytes, allBytes, sought, Wrote, wroteOf, fittingWritten, keptWritten}
 use Rattle.cutting.proofs.Sizes.{head-length, types-length}
 
 -- a length fits a word
@@ -35,45 +36,61 @@ pub few-fits : (n : ℕ) → n ≤ 16777216 → Fits w32 n
 few-fits n l = omega (arith, l)
 
 module _ (b : Btf) (s : List ℕ) where
+  first-up : (e off j k : ℕ) → firstFrom b s e off j k ≤ j + k
+  unfolding firstFrom
+  first-up e off j zero = omega arith
+  first-up e off j (suc k) = go (isName b s e off j) (first-up e off (suc j) k)
+    where
+      go : (q : Bool) → firstFrom b s e off (suc j) k ≤ suc j + k → (elim q as (λ z. ℕ) [ true ↦ j | false ↦ firstFrom b s e off (suc j) k ]) ≤ j + suc k
+      go true h = omega arith
+      go false h = omega (arith, h)
+
+  pub first-few : (e off n j : ℕ) → n ≡ wordsIn b s e → j ≡ firstFrom b s e off 0 n → j ≤ wordsIn b s e
+  first-few e off n j g h = omega (arith, g, h, first-up e off 0 n)
+
+  -- ---- what the table has for a word
+  module _ (t : List ℕ) (e j r : ℕ) (k : r ≡ role (e % 32) j) where
+    pub seek-other : (r ≡ 1 → ⊥) → 0 ≡ sought b s t e j
+    unfolding sought
+    seek-other n = rw (ne-eqb (role (e % 32) j) 1 (λ z. n (k ∙ z)), sought)
+
+    module _ (z : r ≡ 1) (off : ℕ) (f : off ≡ wordOf b s e j) (m : Bool) (g : m ≡ isEmpty (strAt b s off)) where
+      empty-is : m ≡ isEmpty (strAt b s (wordOf b s e j))
+      empty-is = g ∙ ap (λ (u : ℕ). isEmpty (strAt b s u)) f
+
+      pub seek-empty : m ≡ true → 0 ≡ sought b s t e j
+      unfolding sought
+      seek-empty h = rw (eq-eqb (role (e % 32) j) 1 (sym k ∙ z), sought, sym empty-is ∙ h)
+
+      pub seek-is : m ≡ false → (v : ℕ) → v ≡ found b s t off → v ≡ sought b s t e j
+      unfolding sought
+      seek-is h v p = p ∙ ap (found b s t) f ∙ rw (eq-eqb (role (e % 32) j) 1 (sym k ∙ z), sought, sym empty-is ∙ h)
+
+  -- where it has something, the word mentions a name
+  sought-some : (t : List ℕ) (e j v : ℕ) → v ≡ sought b s t e j → (v ≡ 0 → ⊥) → (role (e % 32) j ≡ 1) × (isEmpty (strAt b s (wordOf b s e j)) ≡ false) × (v ≡ found b s t (wordOf b s e j))
+  sought-some t e j v h n = elim (ℕ-discrete (role (e % 32) j) 1) [ yes a ↦ go a (isEmpty (strAt b s (wordOf b s e j))) refl | no a ↦ absurd (n (h ∙ sym (seek-other t e j (role (e % 32) j) refl a))) ]
+    where
+      go : role (e % 32) j ≡ 1 → (m : Bool) → isEmpty (strAt b s (wordOf b s e j)) ≡ m → (role (e % 32) j ≡ 1) × (isEmpty (strAt b s (wordOf b s e j)) ≡ false) × (v ≡ found b s t (wordOf b s e j))
+      go a true y = absurd (n (h ∙ sym (seek-empty t e j (role (e % 32) j) refl a (wordOf b s e j) refl true (sym y) refl)))
+      go a false y = (a, y, h ∙ sym (seek-is t e j (role (e % 32) j) refl a (wordOf b s e j) refl false (sym y) refl (found b s t (wordOf b s e j)) refl))
+
+  module _ (start ids t : List ℕ) (right : Right b s start ids t) where
+    pub first-sought : (x e : ℕ) → Kept b start ids x e → (j v : ℕ) → v ≡ sought b s t e j → (len : ℕ) → j < wordsIn b s e → len ≡ baseOf b s start ids x + newSizes b s start ids x e j
+        → (v ≡ 0 → ⊥) → eqb (v / 4294967296) len ≡ isNew b s start ids x e j
+    first-sought x e k j v h len l is n = let f = sought-some t e j v h n in first-is b s start ids t right x e k j len l is (f .0) (wordOf b s e j) refl (f .1) v (f .2) n
+
+    module _ (bases : List ℕ) (a : bases ≡ allBases b s start ids) where
+      pub sought-place : (e j v : ℕ) → v ≡ sought b s t e j → (v ≡ 0 → ⊥) → v / 4294967296 ≡ placeOf b s start ids bases (wordOf b s e j)
+      sought-place e j v h n = found-place b s start ids t right (wordOf b s e j) v (sought-some t e j v h n .2) n ∙ ap (λ (l : List ℕ). placeOf b s start ids l (wordOf b s e j)) (sym a)
+
+      pub new-at : (x e : ℕ) → Kept b start ids x e → (j len : ℕ) → j < wordsIn b s e → len ≡ baseOf b s start ids x + newSizes b s start ids x e j → (new : Bool) → new ≡ isNew b s start ids x e j
+          → new ≡ true → len ≡ placeOf b s start ids bases (wordOf b s e j)
+      new-at x e k j len l is new g z = new-place b s start ids t right x e k j len l is (sym g ∙ z) ∙ ap (λ (u : List ℕ). placeOf b s start ids u (wordOf b s e j)) (sym a)
+
   module _ (start ids : List ℕ) where
-    module _ (x e j : ℕ) (q : Bool) (g : q ≡ isNew b s start ids x e j) where
-      pub size-none : not q ≡ true → 0 ≡ newSize b s start ids x e j
-      unfolding newSize
-      size-none h = rw (sym g ∙ flip-true q h, newSize)
-
-      pub size-is : not q ≡ false → (off : ℕ) → off ≡ wordOf b s e j → (a : List ℕ) → a ≡ strAt b s off → length a + 1 ≡ newSize b s start ids x e j
-      unfolding newSize
-      size-is h off f a p = ap (λ (l : List ℕ). length l + 1) (p ∙ ap (strAt b s) f) ∙ rw (sym g ∙ flip-false q h, newSize)
-
-    size-few : length s ≤ 16777216 → (x e j : ℕ) → newSize b s start ids x e j ≤ 16777217
-    unfolding newSize
-    size-few l x e j = go (isNew b s start ids x e j)
-      where
-        go : (q : Bool) → (elim q as (λ z. ℕ) [ true ↦ length (strAt b s (wordOf b s e j)) + 1 | false ↦ 0 ]) ≤ 16777217
-        go true = omega (arith, l, name-short b s (wordOf b s e j))
-        go false = omega arith
-
-    pub size-up : length s ≤ 16777216 → (x e j r : ℕ) → r ≡ newSize b s start ids x e j → r ≤ 16777217
-    size-up l x e j r h = omega (arith, h, size-few l x e j)
-
-    pub none-new : (x e : ℕ) → 0 ≡ newSizes b s start ids x e 0
-    unfolding newSizes
-    none-new x e = refl
-
-    pub more-new : (x e j len r : ℕ) → len ≡ newSizes b s start ids x e j → r ≡ newSize b s start ids x e j → len + r ≡ newSizes b s start ids x e (j + 1)
-    unfolding newSizes
-    more-new x e j len r h g = rw add-one (λ i. h i + g i)
-
-    pub all-new : (x e n j len : ℕ) → j ≤ n → n ≤ j → len ≡ newSizes b s start ids x e j → len ≡ newSizes b s start ids x e n
-    all-new x e n j len l g h = let z : j ≡ n = omega (arith, l, g) in h ∙ ap (newSizes b s start ids x e) z
-
-    sizes-few : length s ≤ 16777216 → (x e n : ℕ) → newSizes b s start ids x e n ≤ n * 16777217
-    unfolding newSizes
-    sizes-few l x e zero = omega arith
-    sizes-few l x e (suc n) = omega (arith, sizes-few l x e n, size-few l x e n)
-
-    pub sizes-up : length s ≤ 16777216 → (x e n r : ℕ) → r ≡ newSizes b s start ids x e n → r ≤ n * 16777217
-    sizes-up l x e n r h = omega (arith, h, sizes-few l x e n)
+    pub place-kept : (off x : ℕ) (q : Bool) → q ≡ mentions b s start ids off x → not q ≡ false → x < countOf b → (e : ℕ) → e ≡ entryAt b start x → Kept b start ids x e
+    unfolding mentions
+    place-kept off x q k z l e h = record { below = l; kept = λ w. true≢false (sym (flip-false q z) ∙ k ∙ rw (eq-eqb (getD ids x 0) 0 w, mentions)); entry = h }
 
     module _ (bases : List ℕ) where
       module _ (off x : ℕ) (q : Bool) (k : q ≡ mentions b s start ids off x) where
@@ -81,12 +98,16 @@ module _ (b : Btf) (s : List ℕ) where
         unfolding placeAt
         place-none z = rw (sym k ∙ flip-true q z, placeAt)
 
-        pub place-is : not q ≡ false → (e : ℕ) → e ≡ entryAt b start x → (n : ℕ) → n ≡ wordsIn b s e → (j : ℕ) → j ≡ firstFrom b s e off 0 n → (v : ℕ) → v ≡ getD bases x 0 → (r : ℕ) → r ≡ newSizes b s start ids x e j
+        place-is : not q ≡ false → (e : ℕ) → e ≡ entryAt b start x → (n : ℕ) → n ≡ wordsIn b s e → (j : ℕ) → j ≡ firstFrom b s e off 0 n → (v : ℕ) → v ≡ getD bases x 0 → (r : ℕ) → r ≡ newSizes b s start ids x e j
             → v + r ≡ placeAt b s start ids bases off x
         unfolding placeAt
         place-is z e f n g j h v w r p =
             (λ i. w i + (p ∙ ap (newSizes b s start ids x e) (h ∙ ap (firstFrom b s e off 0) g) ∙ ap (λ (u : ℕ). newSizes b s start ids x u (firstFrom b s u off 0 (wordsIn b s u))) f) i)
             ∙ rw (sym k ∙ flip-false q z, placeAt)
+
+        pub place-long : not q ≡ false → (e : ℕ) → e ≡ entryAt b start x → (n : ℕ) → n ≡ wordsIn b s e → (j : ℕ) → j ≡ firstFrom b s e off 0 n → (v : ℕ) → v ≡ getD bases x 0 → v ≡ baseOf b s start ids x
+            → (r : ℕ) → r ≡ baseOf b s start ids x + newSizes b s start ids x e j → r ≡ placeAt b s start ids bases off x
+        place-long z e f n g j h v w u r p = p ∙ ap (λ (c : ℕ). c + newSizes b s start ids x e j) (sym u) ∙ place-is z e f n g j h v w (newSizes b s start ids x e j) refl
 
       from-suc : (off x n : ℕ) → x < n → placeFrom b s start ids bases off x (n - x) ≡ elim (placeAt b s start ids bases off x) as (λ z. ℕ) [ zero ↦ placeFrom b s start ids bases off (x + 1) (n - (x + 1)) | suc p ↦ suc p ]
       unfolding placeFrom
@@ -121,14 +142,14 @@ module _ (b : Btf) (s : List ℕ) where
         unfolding placeOf
         place-first z = rw (sym g ∙ z, placeOf)
 
-        pub place-table : (t : List ℕ) → Right b s start ids t → bases ≡ allBases b s start ids → (v : ℕ) → v ≡ found b s t off → (v ≡ 0 → ⊥) → v / 4294967296 ≡ placeOf b s start ids bases off
-        place-table t right e v h n = found-place b s start ids t right off v h n ∙ ap (λ (l : List ℕ). placeOf b s start ids l off) (sym e)
-
         pub place-found : m ≡ false → (r : ℕ) → r ≡ placeFrom b s start ids bases off 0 (countOf b) → r % 4294967296 ≡ placeOf b s start ids bases off
         unfolding placeOf
         place-found z r h = ap (λ (v : ℕ). v % 4294967296) h ∙ rw (sym g ∙ z, placeOf)
 
       -- ---- words as they are written
+      pub at-word : (off w : ℕ) → off ≡ w → (P : Type 0) (r : ℕ) → (P → r ≡ placeOf b s start ids bases w) → P → r ≡ placeOf b s start ids bases off
+      at-word off w f P r h p = h p ∙ ap (placeOf b s start ids bases) (sym f)
+
       module _ (e j v w : ℕ) (k : v ≡ role (e % 32) j) (f : w ≡ wordOf b s e j) where
         pub word-name : v ≡ 1 → (r : ℕ) → r ≡ placeOf b s start ids bases w → r ≡ newWord b s start ids bases e j
         unfolding newWord

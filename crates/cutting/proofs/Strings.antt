@@ -60,6 +60,9 @@ module _ (b : Btf) (s start ids : List ℕ) where
     unfolding newSizes
     more-length j len r new h g k = rw add-one (omega (arith, h, k, ap length (name-if x e j new g), name-length b s start ids x e j))
 
+    pub all-length : (n j len : ℕ) → j ≤ n → n ≤ j → len ≡ baseOf b s start ids x + newSizes b s start ids x e j → len ≡ baseOf b s start ids x + newSizes b s start ids x e n
+    all-length n j len l g h = let z : j ≡ n = omega (arith, l, g) in h ∙ ap (λ (k : ℕ). baseOf b s start ids x + newSizes b s start ids x e k) z
+
     module _ (t : List ℕ) (at : ℕ) where
       pub no-new : putOut at t ≡ putText t at (whole (namesBytes b s start ids x e 0))
       unfolding namesBytes

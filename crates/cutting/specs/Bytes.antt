@@ -4,12 +4,14 @@ use mathlib.Core.Bool.{Bool, true, false}
 use mathlib.Core.List.{List, [], _∷_, _++_}
 use lib.ListN.{length, getD, drop}
 use lib.Dec.{ltb, eqb}
+use Rattle.rules.specs.Types.{isEmpty}
 use Rattle.btf.specs.declared.types.Btf.{Btf}
 use Rattle.btf.specs.Names.{strAt}
 use Rattle.followed.specs.Followed.{countOf, entryAt}
 use Rattle.roles.specs.Words.{role, wordsIn, wordOf}
 use Rattle.mentioned.specs.Names.{placeOf, baseOf, basesTo, zeroBases}
 use Rattle.mentioned.specs.Strings.{stringsBytes}
+use Rattle.interning.specs.Slots.{found}
 
 -- a word in four bytes, the most significant first where `big`
 unfoldable pub wordBytes : Bool → ℕ → List ℕ
@@ -61,6 +63,10 @@ module _ (b : Btf) (s start ids : List ℕ) where
 -- the name of word j of the record with entry e, and its 0, if it is written
 unfoldable pub nameIf : Btf → List ℕ → ℕ → ℕ → Bool → List ℕ
 nameIf b s e j new = elim new [ true ↦ strAt b s (wordOf b s e j) ++ (0 ∷ []) | false ↦ [] ]
+
+-- what the table t has for the name of word j, or 0
+unfoldable pub sought : Btf → List ℕ → List ℕ → ℕ → ℕ → ℕ
+sought b s t e j = elim (eqb (role (e % 32) j) 1) [ false ↦ 0 | true ↦ elim (isEmpty (strAt b s (wordOf b s e j))) [ true ↦ 0 | false ↦ found b s t (wordOf b s e j) ] ]
 
 -- the length written, and the output slice
 pub data Wrote : Type 0 where

@@ -1,56 +1,24 @@
-// The string area of the new section. A name is new where its place in the table is the length so far.
+// The string area of the new section.
+use crate::names::is_first;
+use crate::names::longer;
+use crate::names::seek;
 use btf::Btf;
 use followed::count;
 use followed::entry;
-use interning::find;
-use mentioned::is_new;
 use mentioned::peek;
 use put::put_byte;
-use roles::role;
 use roles::word_of;
 use roles::words_in;
-use strings::get_btf_str;
-use strings::is_empty;
 use strings::put_str;
 ghost use mathlib.Core.Path.{_≡_};
-ghost use Prim.Native.Nat.{_+_, _<_, _≤_};
-ghost use lib.ListN.{length};
+ghost use Prim.Native.Nat.{_<_};
 ghost use Rattle.text.specs.Text.{whole, putOut, putText};
 ghost use Rattle.followed.specs.Followed.{countOf};
 ghost use Rattle.roles.specs.Words.{wordsIn};
-ghost use Rattle.mentioned.specs.Names.{isNew, newSizes, baseOf};
+ghost use Rattle.mentioned.specs.Names.{baseOf};
 ghost use Rattle.mentioned.specs.Strings.{namesBytes, ownBytes, newsBytes, stringsBytes};
 ghost use Rattle.interning.specs.Right.{allBases, Right, Kept};
 ghost use Rattle.cutting.specs.Bytes.{nameIf};
-
-// Whether word j of type x mentions a name for the first time; `len`: the length of the strings before it.
-fn is_first(
-    b: Btf,
-    section: &[u8],
-    start: &[u32],
-    ids: &[u32],
-    table: &[u64],
-    x: u32,
-    e: u32,
-    j: u32,
-    len: u32,
-) -> bool
-    requires { ⌜ Right b (now section) (now start) (now ids) (now table) × Kept b (now start) (now ids) x e × (j < wordsIn b (now section) e) × (len ≡ baseOf b (now section) (now start) (now ids) x + newSizes b (now section) (now start) (now ids) x e j) ⌝ }
-    ensures { λ r. ⌜ r ≡ isNew b (now (section .entry)) (now (start .entry)) (now (ids .entry)) x e j ⌝ }
-{
-    if role(e % 32, j) != 1 {
-        return false;
-    }
-    let off = word_of(b, section, e, j);
-    if is_empty(b, section, off) {
-        return false;
-    }
-    let v = find(b, section, table, off);
-    if v == 0 {
-        return is_new(b, section, start, ids, x, e, j);
-    }
-    v / 4294967296 == (len as u64)
-}
 
 // The name of word j and its 0, if it is new.
 fn put_name(b: Btf, section: &[u8], e: u32, j: u32, new: bool, out: &mut [u8], at: usize) -> usize
@@ -61,17 +29,6 @@ fn put_name(b: Btf, section: &[u8], e: u32, j: u32, new: bool, out: &mut [u8], a
     }
     let p = put_str(b, section, out, at, word_of(b, section, e, j));
     put_byte(out, p, 0)
-}
-
-// The length of the strings with it.
-fn longer(b: Btf, section: &[u8], e: u32, j: u32, new: bool, len: u32) -> u32
-    requires { ⌜ (length (now section) ≤ 16777216) × (len ≤ 16777216) ⌝ }
-    ensures { λ r. ⌜ r ≡ len + length (nameIf b (now (section .entry)) e j new) ⌝ }
-{
-    if !new {
-        return len;
-    }
-    len + (get_btf_str(b, section, word_of(b, section, e, j)).len() as u32) + 1
 }
 
 fn put_names(
@@ -94,7 +51,8 @@ fn put_names(
     let mut len = base;
     let mut j: u32 = 0;
     while j < n {
-        let new = is_first(b, section, start, ids, table, x, e, j, len);
+        let v = seek(b, section, table, e, j);
+        let new = is_first(b, section, start, ids, x, e, j, v, len);
         p = put_name(b, section, e, j, new, out, p);
         len = longer(b, section, e, j, new, len);
         j += 1;

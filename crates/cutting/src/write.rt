@@ -1,6 +1,9 @@
 // Writing the new section.
 use crate::area::put_strings;
+use crate::names::is_first;
+use crate::names::longer;
 use crate::names::place_of;
+use crate::names::seek;
 use btf::Btf;
 use followed::count;
 use followed::entry;
@@ -11,13 +14,14 @@ use roles::role;
 use roles::word_of;
 use roles::words_in;
 ghost use mathlib.Core.Path.{_≡_};
-ghost use Prim.Native.Nat.{_≤_};
+ghost use mathlib.Core.Bool.{true};
+ghost use Prim.Native.Nat.{_/_, _<_, _≤_};
 ghost use lib.ListN.{getD};
 ghost use Rattle.text.specs.Text.{whole, putOut, putText};
 ghost use Rattle.followed.specs.Followed.{countOf};
-ghost use Rattle.roles.specs.Words.{wordsIn};
-ghost use Rattle.mentioned.specs.Names.{baseOf};
-ghost use Rattle.interning.specs.Right.{allBases, Right};
+ghost use Rattle.roles.specs.Words.{wordsIn, wordOf};
+ghost use Rattle.mentioned.specs.Names.{baseOf, placeOf};
+ghost use Rattle.interning.specs.Right.{allBases, Right, Kept};
 ghost use Rattle.cutting.specs.Bytes.{wordBytes, magicBytes, headBytes, typeSize, typesSize, newWord, recordBytes, typeBytes, typesBytes, allBytes, wroteOf, fittingWritten, keptWritten};
 
 // A word, the most significant byte first where `big`.
@@ -83,7 +87,7 @@ fn type_size(b: Btf, section: &[u8], start: &[u32], ids: &[u32], x: u32, len: u6
     len + (words_in(b, section, entry(b, start, x)) as u64) * 4
 }
 
-// Word j of the record with entry e, as it is written.
+// Word j of the record with entry e, as it is written; v, new and len: of the name that it mentions, as `place_of` takes them.
 fn new_word(
     b: Btf,
     section: &[u8],
@@ -93,21 +97,25 @@ fn new_word(
     table: &[u64],
     e: u32,
     j: u32,
+    v: u64,
+    new: bool,
+    len: u32,
 ) -> u32
-    requires { ⌜ Right b (now section) (now start) (now ids) (now table) × (now bases ≡ allBases b (now section) (now start) (now ids)) ⌝ }
+    requires { ⌜ Right b (now section) (now start) (now ids) (now table) × (now bases ≡ allBases b (now section) (now start) (now ids)) × ((v ≡ 0 → ⊥) → v / 4294967296 ≡ placeOf b (now section) (now start) (now ids) (now bases) (wordOf b (now section) e j)) × (new ≡ true → len ≡ placeOf b (now section) (now start) (now ids) (now bases) (wordOf b (now section) e j)) ⌝ }
     ensures { λ r. ⌜ r ≡ newWord b (now (section .entry)) (now (start .entry)) (now (ids .entry)) (now (bases .entry)) e j ⌝ }
 {
     let r = role(e % 32, j);
-    let v = word_of(b, section, e, j);
+    let w = word_of(b, section, e, j);
     if r == 1 {
-        return place_of(b, section, start, ids, bases, table, v);
+        return place_of(b, section, start, ids, bases, table, w, v, new, len);
     }
     if r == 2 {
-        return peek(ids, v as usize);
+        return peek(ids, w as usize);
     }
-    v
+    w
 }
 
+// The record of type x; `base`: the length of the strings before it.
 fn put_record(
     b: Btf,
     section: &[u8],
@@ -115,19 +123,25 @@ fn put_record(
     ids: &[u32],
     bases: &[u32],
     table: &[u64],
+    x: u32,
     e: u32,
+    base: u32,
     out: &mut [u8],
     at: usize,
 ) -> usize
-    requires { ⌜ Right b (now section) (now start) (now ids) (now table) × (now bases ≡ allBases b (now section) (now start) (now ids)) ⌝ }
+    requires { ⌜ Right b (now section) (now start) (now ids) (now table) × (now bases ≡ allBases b (now section) (now start) (now ids)) × Kept b (now start) (now ids) x e × (base ≡ baseOf b (now section) (now start) (now ids) x) ⌝ }
     ensures { λ r. ⌜ putOut r (now (out .exit)) ≡ putText (now (out .entry)) at (whole (recordBytes b (now (section .entry)) (now (start .entry)) (now (ids .entry)) (now (bases .entry)) e (wordsIn b (now (section .entry)) e))) ⌝ }
 {
     let n = words_in(b, section, e);
     let mut p = at;
+    let mut len = base;
     let mut j: u32 = 0;
     while j < n {
-        let v = new_word(b, section, start, ids, bases, table, e, j);
-        p = put_word(out, p, b.big_endian, v);
+        let v = seek(b, section, table, e, j);
+        let new = is_first(b, section, start, ids, x, e, j, v, len);
+        let w = new_word(b, section, start, ids, bases, table, e, j, v, new, len);
+        p = put_word(out, p, b.big_endian, w);
+        len = longer(b, section, e, j, new, len);
         j += 1;
     }
     p
@@ -144,23 +158,15 @@ fn put_type(
     out: &mut [u8],
     at: usize,
 ) -> usize
-    requires { ⌜ Right b (now section) (now start) (now ids) (now table) × (now bases ≡ allBases b (now section) (now start) (now ids)) ⌝ }
+    requires { ⌜ Right b (now section) (now start) (now ids) (now table) × (now bases ≡ allBases b (now section) (now start) (now ids)) × (x < countOf b) ⌝ }
     ensures { λ r. ⌜ putOut r (now (out .exit)) ≡ putText (now (out .entry)) at (whole (typeBytes b (now (section .entry)) (now (start .entry)) (now (ids .entry)) (now (bases .entry)) x)) ⌝ }
 {
     if peek(ids, x as usize) == 0 {
         return at;
     }
-    put_record(
-        b,
-        section,
-        start,
-        ids,
-        bases,
-        table,
-        entry(b, start, x),
-        out,
-        at,
-    )
+    let e = entry(b, start, x);
+    let base = peek(bases, x as usize);
+    put_record(b, section, start, ids, bases, table, x, e, base, out, at)
 }
 
 // The types that are kept.

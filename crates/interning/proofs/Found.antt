@@ -2,7 +2,7 @@
 use Prim.Native.Nat.{ℕ, _+_, _-_, _/_, _%_, _<_, _≤_}
 use native.Mathlib.Omega.{arith}
 use mathlib.Core.Path.{_≡_, refl, sym, _∙_, ap, subst}
-use mathlib.Core.Bool.{Bool, true, false}
+use mathlib.Core.Bool.{Bool, true, false, true≢false}
 use mathlib.Core.List.{List}
 use lib.ListN.{getD}
 use lib.Dec.{eqb}
@@ -19,15 +19,15 @@ use Rattle.mentioned.specs.Names.{isNew, newSizes, baseOf, placeOf}
 use Rattle.interning.specs.Slots.{probe, slotOf, found}
 use Rattle.interning.specs.Right.{allBases, Right, Kept}
 use Rattle.interning.proofs.Probes.{ends-same}
-use Rattle.interning.proofs.Places.{below, above, compare, seen, is-same, new-first, new-later, place-new, place-old, base-is, base-up, length-small}
+use Rattle.interning.proofs.Places.{below, above, compare, seen, is-same, new-other, new-empty, new-first, new-later, place-new, place-old, base-is, base-up, length-small}
 
 module _ (b : Btf) (s start ids t : List ℕ) (right : Right b s start ids t) where
   pub found-place : (off v : ℕ) → v ≡ found b s t off → (v ≡ 0 → ⊥) → v / 4294967296 ≡ placeOf b s start ids (allBases b s start ids) off
   unfolding found slotOf
-  found-place off v e n = ap (λ (u : ℕ). u / 4294967296) e ∙ sym (right .places i m off (sym (same-bytes (strAt b s (getD t i 0 % 4294967296)) (strAt b s off) (ends-same b s t (strAt b s off) (hashFrom 0 (strAt b s off) % 262144) 512 in-table m))))
+  found-place off v e n = ap (λ (u : ℕ). u / 4294967296) e ∙ sym (right .places i m off (sym (same-bytes (strAt b s (getD t i 0 % 4294967296)) (strAt b s off) (ends-same b s t (strAt b s off) (hashFrom 0 (strAt b s off) % 262144) 262144 in-table m))))
     where
       i : ℕ
-      i = probe b s t (strAt b s off) (hashFrom 0 (strAt b s off) % 262144) 512
+      i = probe b s t (strAt b s off) (hashFrom 0 (strAt b s off) % 262144) 262144
 
       m : getD t i 0 ≡ 0 → ⊥
       m z = n (e ∙ z)
@@ -73,7 +73,30 @@ module _ (b : Btf) (s start ids t : List ℕ) (right : Right b s start ids t) wh
             let p = place-new b s start ids x l kept w some′ j k y (is-same b s e w j r′ refl) few in
             eq-eqb (v / 4294967296) len (at ∙ p ∙ sym is) ∙ sym (new-first b s start ids x e j r′ some′ y)
 
+    new-entry : j < wordsIn b s (entryAt b start x) → len ≡ baseOf b s start ids x + newSizes b s start ids x (entryAt b start x) j → isNew b s start ids x (entryAt b start x) j ≡ true
+        → len ≡ placeOf b s start ids (allBases b s start ids) (wordOf b s (entryAt b start x) j)
+    new-entry k is h = go (eqb (role (e % 32) j) 1) refl (isEmpty (strAt b s w)) refl (seen b s start ids w x e j) refl
+      where
+        e : ℕ
+        e = entryAt b start x
+
+        w : ℕ
+        w = wordOf b s e j
+
+        go : (r : Bool) → eqb (role (e % 32) j) 1 ≡ r → (m : Bool) → isEmpty (strAt b s w) ≡ m → (q : Bool) → seen b s start ids w x e j ≡ q → len ≡ placeOf b s start ids (allBases b s start ids) w
+        go false r m some q y = absurd (true≢false (sym h ∙ new-other b s start ids x e j r))
+        go true r true some q y = absurd (true≢false (sym h ∙ new-empty b s start ids x e j r some))
+        go true r false some true y = absurd (true≢false (sym h ∙ new-later b s start ids x e j r some y))
+        go true r false some false y = is ∙ sym (place-new b s start ids x l kept w some j k y (is-same b s e w j r refl) (length-small b s start ids (right .small) x l kept j (omega (arith, k))))
+
   module _ (x e : ℕ) (k : Kept b start ids x e) (j len : ℕ) where
+    -- THE PLACE OF A NEW NAME is the length so far
+    pub new-place : j < wordsIn b s e → len ≡ baseOf b s start ids x + newSizes b s start ids x e j → isNew b s start ids x e j ≡ true → len ≡ placeOf b s start ids (allBases b s start ids) (wordOf b s e j)
+    new-place =
+        subst
+        (λ (u : ℕ). j < wordsIn b s u → len ≡ baseOf b s start ids x + newSizes b s start ids x u j → isNew b s start ids x u j ≡ true → len ≡ placeOf b s start ids (allBases b s start ids) (wordOf b s u j))
+        (sym (k .entry)) (new-entry x (k .below) (k .kept) j len)
+
     pub length-few : j ≤ wordsIn b s e → len ≡ baseOf b s start ids x + newSizes b s start ids x e j → len ≤ 16777216
     length-few =
         subst (λ (u : ℕ). j ≤ wordsIn b s u → len ≡ baseOf b s start ids x + newSizes b s start ids x u j → len ≤ 16777216) (sym (k .entry))

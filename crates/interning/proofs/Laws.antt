@@ -30,9 +30,9 @@ module _ (b : Btf) (s t : List ℕ) where
     unfolding stops
     stops-name z r h = h ∙ ap (λ (u : ℕ). sameBytes (strAt b s (u % 4294967296)) name) k ∙ rw (ne-eqb (getD t i 0) 0 (λ u. z (k ∙ u)), stops)
 
-  pub probe-start : (off i : ℕ) → i ≡ hashFrom 0 (strAt b s off) → slotOf b s t off ≡ probe b s t (strAt b s off) (i % 262144) 512
+  pub probe-start : (off i : ℕ) → i ≡ hashFrom 0 (strAt b s off) → slotOf b s t off ≡ probe b s t (strAt b s off) (i % 262144) 262144
   unfolding slotOf
-  probe-start off i e = ap (λ (h : ℕ). probe b s t (strAt b s off) (h % 262144) 512) (sym e)
+  probe-start off i e = ap (λ (h : ℕ). probe b s t (strAt b s off) (h % 262144) 262144) (sym e)
 
   probe-suc : (name : List ℕ) (i k : ℕ) → 0 < k → probe b s t name i k ≡ elim (stops b s t name i) as (λ z. ℕ) [ true ↦ i | false ↦ probe b s t name ((i + 1) % 262144) (k - 1) ]
   unfolding probe

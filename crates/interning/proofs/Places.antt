@@ -127,14 +127,20 @@ module _ (b : Btf) (s : List ℕ) where
       unfolding newSize
       new-size q h = ap Size h
 
-      pub size-other : eqb (role (e % 32) j) 1 ≡ false → newSize b s start ids x e j ≡ 0
+      pub new-other : eqb (role (e % 32) j) 1 ≡ false → isNew b s start ids x e j ≡ false
       unfolding isNew
-      size-other r = new-size false (ap (λ (q : Bool). New q (isEmpty (strAt b s (wordOf b s e j))) (mentionedTo b s start ids (wordOf b s e j) x) (namedTo b s e (wordOf b s e j) j)) r)
+      new-other r = ap (λ (q : Bool). New q (isEmpty (strAt b s (wordOf b s e j))) (mentionedTo b s start ids (wordOf b s e j) x) (namedTo b s e (wordOf b s e j) j)) r
+
+      pub size-other : eqb (role (e % 32) j) 1 ≡ false → newSize b s start ids x e j ≡ 0
+      size-other r = new-size false (new-other r)
 
       module _ (r : eqb (role (e % 32) j) 1 ≡ true) where
-        pub size-empty : isEmpty (strAt b s (wordOf b s e j)) ≡ true → newSize b s start ids x e j ≡ 0
+        pub new-empty : isEmpty (strAt b s (wordOf b s e j)) ≡ true → isNew b s start ids x e j ≡ false
         unfolding isNew
-        size-empty h = new-size false (λ i. New (r i) (h i) (mentionedTo b s start ids (wordOf b s e j) x) (namedTo b s e (wordOf b s e j) j))
+        new-empty h = λ i. New (r i) (h i) (mentionedTo b s start ids (wordOf b s e j) x) (namedTo b s e (wordOf b s e j) j)
+
+        pub size-empty : isEmpty (strAt b s (wordOf b s e j)) ≡ true → newSize b s start ids x e j ≡ 0
+        size-empty h = new-size false (new-empty h)
 
         module _ (some : isEmpty (strAt b s (wordOf b s e j)) ≡ false) where
           pub new-first : seen (wordOf b s e j) x e j ≡ false → isNew b s start ids x e j ≡ true

@@ -53,10 +53,10 @@ lengthsPart (fillingOf f l) = l
 module _ (b : Btf) (s start ids : List ℕ) (short : length s ≤ 16777216) where
   -- the way of a name, and whether it ends at a free slot
   abbrev wayOf : List ℕ → List ℕ → ℕ
-  wayOf t name = probe b s t name (hashFrom 0 name % 262144) 512
+  wayOf t name = probe b s t name (hashFrom 0 name % 262144) 262144
 
   abbrev isFree : List ℕ → List ℕ → Bool
-  isFree t name = free b s t name (hashFrom 0 name % 262144) 512
+  isFree t name = free b s t name (hashFrom 0 name % 262144) 262144
 
   slot-is : (t : List ℕ) (off : ℕ) → slotOf b s t off ≡ wayOf t (strAt b s off)
   unfolding slotOf
@@ -152,18 +152,18 @@ module _ (b : Btf) (s start ids : List ℕ) (short : length s ≤ 16777216) wher
 
       -- it has no slot
       no-slot : 262144 ≤ q → Good x e (suc j) (len + newSize b s start ids x e j) t
-      no-slot h = stay (not-free (λ y. absurd (omega (arith, h, free-ends b s t (strAt b s w) (hashFrom 0 (strAt b s w) % 262144) 512 (omega arith) y .0))))
+      no-slot h = stay (not-free (λ y. absurd (omega (arith, h, free-ends b s t (strAt b s w) (hashFrom 0 (strAt b s w) % 262144) 262144 (omega arith) y .0))))
 
       module _ (m : q < 262144) where
         -- it is there: mentioned before
         old-name : (getD t q 0 ≡ 0 → ⊥) → Good x e (suc j) len t
-        old-name n = same-stay (go (seen b s start ids w x e j) refl) (not-free (λ y. n (free-ends b s t (strAt b s w) (hashFrom 0 (strAt b s w) % 262144) 512 (omega arith) y .1)))
+        old-name n = same-stay (go (seen b s start ids w x e j) refl) (not-free (λ y. n (free-ends b s t (strAt b s w) (hashFrom 0 (strAt b s w) % 262144) 262144 (omega arith) y .1)))
           where
             says : Says len (getD t q 0)
             says = g .says q n
 
             at : placeOf b s start ids (allBases b s start ids) w ≡ getD t q 0 / 4294967296
-            at = says .1 w (sym (same-bytes (strAt b s (getD t q 0 % 4294967296)) (strAt b s w) (ends-same b s t (strAt b s w) (hashFrom 0 (strAt b s w) % 262144) 512 m n)))
+            at = says .1 w (sym (same-bytes (strAt b s (getD t q 0 % 4294967296)) (strAt b s w) (ends-same b s t (strAt b s w) (hashFrom 0 (strAt b s w) % 262144) 262144 m n)))
 
             go : (c : Bool) → seen b s start ids w x e j ≡ c → newSize b s start ids x e j ≡ 0
             go true y = size-old b s start ids x e j r some y
@@ -186,7 +186,7 @@ module _ (b : Btf) (s start ids : List ℕ) (short : length s ≤ 16777216) wher
           v-high = omega (arith, w-small)
 
           way-free : isFree t (strAt b s w) ≡ true
-          way-free = ends-free b s t (strAt b s w) (hashFrom 0 (strAt b s w) % 262144) 512 m z
+          way-free = ends-free b s t (strAt b s w) (hashFrom 0 (strAt b s w) % 262144) 262144 m z
 
           unseen : (off : ℕ) → isEmpty (strAt b s off) ≡ false → isFree t (strAt b s off) ≡ true → seen b s start ids off x e j ≡ false
           unseen off n f = go (seen b s start ids off x e j) refl
@@ -211,7 +211,7 @@ module _ (b : Btf) (s start ids : List ℕ) (short : length s ≤ 16777216) wher
               let y = name-if b s e off j h .1 in
               enters b s t (strAt b s off) q v z (omega (arith, m, g .long)) m (λ a. absurd (omega (arith, a, g .is, base-some b s start ids x)))
               (ap (λ (u : ℕ). sameBytes (strAt b s u) (strAt b s off)) v-low ∙ ap (λ (c : List ℕ). sameBytes c (strAt b s off)) y ∙ bytes-same (strAt b s off))
-              (hashFrom 0 (strAt b s off) % 262144) 512 (same-way off h .0)
+              (hashFrom 0 (strAt b s off) % 262144) 262144 (same-way off h .0)
 
           new-name : Good x e (suc j) (len + (length (strAt b s w) + 1)) (set t q v)
           new-name = record {
@@ -231,7 +231,7 @@ module _ (b : Btf) (s start ids : List ℕ) (short : length s ≤ 16777216) wher
                   ]
 
               go : (off : ℕ) → isEmpty (strAt b s off) ≡ false → (c : Bool) → seen b s start ids off x e j ≡ c → orElse c (isName b s e off j) ≡ true → isFree (set t q v) (strAt b s off) ≡ false
-              go off n true y a = keeps b s t (strAt b s off) q v z (hashFrom 0 (strAt b s off) % 262144) 512 (g .whole off n y)
+              go off n true y a = keeps b s t (strAt b s off) q v z (hashFrom 0 (strAt b s off) % 262144) 262144 (g .whole off n y)
               go off n false y a = enters-new off a
 
     module _ (small : len ≤ 16777216) (r : role (e % 32) j ≡ 1) (some : isEmpty (strAt b s w) ≡ false) where

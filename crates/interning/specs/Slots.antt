@@ -19,9 +19,9 @@ module _ (b : Btf) (s t : List ℕ) where
   probe name i zero = 262144
   probe name i (suc k) = elim (stops name i) [ true ↦ i | false ↦ probe name ((i + 1) % 262144) k ]
 
-  -- the slot of the name at an offset; 512 are looked at
+  -- the slot of the name at an offset; 262144 are looked at
   unfoldable pub slotOf : ℕ → ℕ
-  slotOf off = probe (strAt b s off) (hashFrom 0 (strAt b s off) % 262144) 512
+  slotOf off = probe (strAt b s off) (hashFrom 0 (strAt b s off) % 262144) 262144
 
   -- what the table has for it, or 0
   unfoldable pub found : ℕ → ℕ

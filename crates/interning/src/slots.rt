@@ -33,7 +33,7 @@ pub(crate) fn slot_of(b: Btf, section: &[u8], table: &[u64], off: u32) -> u32
     ensures { λ r. ⌜ r ≡ slotOf b (now (section .entry)) (now (table .entry)) off ⌝ }
 {
     let mut i = hash_name(section, (b.strs as usize) + (off as usize), 0) % 262144;
-    let mut k: u32 = 512;
+    let mut k: u32 = 262144;
     while 0 < k {
         if stops(b, section, table, off, i) {
             return i;

@@ -1,5 +1,5 @@
-use Rattle.cutting.proofs.Laws.{place-none, place-is, sizes-up}
-use native.Mathlib.Omega.{arith}
+use Rattle.cutting.proofs.Laws.{place-none, place-kept, place-long, first-few}
+use Rattle.interning.proofs.Found.{base-kept}
 use borrow.Author.Needs.{needs}
 use Rattle.cutting.proofs.names.place_at.Statement.{statement}
 use Rattle.cutting.proofs.names.place_at.Tie as tie
@@ -7,40 +7,42 @@ use Rattle.cutting.proofs.names.place_at.Reads as reads
 use Rattle.cutting.proofs.names.place_at.Lts as lts
 use Rattle.mentioned.proofs.first_name.Reads as first-name-reads
 use Rattle.mentioned.proofs.mentions.Reads as mentions-reads
-use Rattle.cutting.proofs.names.new_sizes.Reads as new-sizes-reads
+use Rattle.cutting.proofs.names.length_to.Reads as length-to-reads
 use Rattle.mentioned.proofs.peek.Reads as peek-reads
 use Rattle.roles.proofs.words_in.Reads as words-in-reads
 use Rattle.followed.proofs.entry.Reads as entry-reads
 
 mentions-requires : tie.Need-mentions-requires
-mentions-requires c κs = search needs
+mentions-requires c κs = tt
 
 returns : tie.Need-returns
 returns c = place-none _ _ _ _ _ _ _ _ (c .before .mentions .ensures) (c .if1 .taken)
 
 entry-requires : tie.Need-entry-requires
-entry-requires c κs = search needs
+entry-requires c κs = tt
 
 words-in-requires : tie.Need-words-in-requires
-words-in-requires c κs = search needs
+words-in-requires c κs = tt
 
 first-name-requires : tie.Need-first-name-requires
-first-name-requires c κs = search needs
+first-name-requires c κs = tt
 
 peek-requires : tie.Need-peek-requires
-peek-requires c κs = search needs
+peek-requires c κs = tt
+
+length-to-requires : tie.Need-length-to-requires
+length-to-requires c κs = (
+  c .before .before .before .before .before .before .before .before .before .before .before .pre .0,
+  place-kept _ _ _ _ _ _ _ (c .before .before .before .before .before .mentions .ensures) (c .before .before .before .before .if1 .left) (c .before .before .before .before .before .before .before .before .before .before .before .pre .2) _ (c .before .before .before .entry .ensures),
+  first-few _ _ _ _ _ _ (c .before .before .words-in .ensures) (c .before .first-name .ensures),
+  base-kept _ _ _ _ _ (c .before .before .before .before .before .before .before .before .before .before .before .pre .0) _ _ _ (c .before .before .before .before .before .before .before .before .before .before .before .pre .2) (c .before .before .before .before .before .before .before .before .before .before .before .pre .1) (c .peek .ensures),
+)
 
 cast-result : tie.Need-cast-result
 cast-result c = search needs
 
-new-sizes-requires : tie.Need-new-sizes-requires
-new-sizes-requires c κs = search needs
-
-add-result : tie.Need-add-result
-add-result c = omega (arith, sizes-up _ _ _ _ (c .before .before .before .before .before .before .before .before .before .before .before .pre) _ _ _ _ (c .new-sizes .ensures))
-
 returns-2 : tie.Need-returns-2
-returns-2 c = place-is _ _ _ _ _ _ _ _ (c .before .before .before .before .before .before .mentions .ensures) (c .before .before .before .before .before .if1 .left) _ (c .before .before .before .before .entry .ensures) _ (c .before .before .before .words-in .ensures) _ (c .before .before .first-name .ensures) _ (c .before .peek .ensures) _ (c .new-sizes .ensures)
+returns-2 c = place-long _ _ _ _ _ _ _ _ (c .before .before .before .before .before .before .mentions .ensures) (c .before .before .before .before .before .if1 .left) _ (c .before .before .before .before .entry .ensures) _ (c .before .before .before .words-in .ensures) _ (c .before .before .first-name .ensures) _ (c .before .peek .ensures) (base-kept _ _ _ _ _ (c .before .before .before .before .before .before .before .before .before .before .before .before .pre .0) _ _ _ (c .before .before .before .before .before .before .before .before .before .before .before .before .pre .2) (c .before .before .before .before .before .before .before .before .before .before .before .before .pre .1) (c .before .peek .ensures)) _ (c .length-to .ensures)
 
 pub place-at-spec : {M : Type 1} → statement M
 place-at-spec =
@@ -52,7 +54,6 @@ place-at-spec =
     words-in-requires
     first-name-requires
     peek-requires
+    length-to-requires
     cast-result
-    new-sizes-requires
-    add-result
     returns-2)

@@ -12,10 +12,10 @@ use Rattle.cutting.proofs.names.place_at.Reads as place-at-reads
 use Rattle.followed.proofs.count.Reads as count-reads
 
 abbrev Inv-loop : tie.InvT-loop
-Inv-loop b section start ids bases off n x₀ x = (placeFrom b section start ids bases off 0 n ≡ placeFrom b section start ids bases off x (n - x)) × (x ≤ n)
+Inv-loop b section start ids bases table off n x₀ x = (placeFrom b section start ids bases off 0 n ≡ placeFrom b section start ids bases off x (n - x)) × (x ≤ n)
 
 abbrev μ-loop : tie.MeasureT-loop
-μ-loop b section start ids bases off n x₀ x = n - x
+μ-loop b section start ids bases table off n x₀ x = n - x
 
 count-requires : tie.Need-count-requires Inv-loop μ-loop
 count-requires c κs = search needs
@@ -24,7 +24,7 @@ loop-holds : tie.Need-loop-holds Inv-loop μ-loop
 loop-holds c = (from-start _ _ _ _ _ _ _, omega arith)
 
 place-at-requires : tie.Need-place-at-requires Inv-loop μ-loop
-place-at-requires c κs = c .before .before .before .before .before .before .before .pre
+place-at-requires c κs = (c .before .before .before .before .before .before .before .before .pre .0, c .before .before .before .before .before .before .before .before .pre .1, omega (arith, c .before .before .count .ensures))
 
 returns : tie.Need-returns Inv-loop μ-loop
 returns c = from-here _ _ _ _ _ _ _ _ (c .before .before .loop-test .taken) (c .before .before .before .loop .inv .0) _ (c .before .place-at .ensures) (c .if1 .taken) (c .before .before .before .before .count .ensures)

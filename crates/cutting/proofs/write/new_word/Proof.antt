@@ -1,4 +1,4 @@
-use Rattle.cutting.proofs.Laws.{word-name, word-id, word-plain}
+use Rattle.cutting.proofs.Laws.{at-word, word-name, word-id, word-plain}
 use borrow.Author.Needs.{needs}
 use Rattle.cutting.proofs.write.new_word.Statement.{statement}
 use Rattle.cutting.proofs.write.new_word.Tie as tie
@@ -16,7 +16,7 @@ word-of-requires : tie.Need-word-of-requires
 word-of-requires c κs = search needs
 
 place-of-requires : tie.Need-place-of-requires
-place-of-requires c κs = c .before .before .before .before .before .before .before .before .pre
+place-of-requires c κs = (c .before .before .before .before .before .before .before .before .pre .0, c .before .before .before .before .before .before .before .before .pre .1, at-word _ _ _ _ _ _ _ (c .before .word-of .ensures) _ _ (c .before .before .before .before .before .before .before .before .pre .2), at-word _ _ _ _ _ _ _ (c .before .word-of .ensures) _ _ (c .before .before .before .before .before .before .before .before .pre .3))
 
 returns : tie.Need-returns
 returns c = word-name _ _ _ _ _ _ _ _ _ (c .before .before .before .role .ensures) (c .before .before .word-of .ensures) (c .before .if1 .taken) _ (c .place-of .ensures)

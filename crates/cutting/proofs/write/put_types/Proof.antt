@@ -26,7 +26,7 @@ loop-holds : tie.Need-loop-holds Inv-loop μ-loop
 loop-holds c = (no-types _ _ _ _ _ _ _, omega arith, refl)
 
 put-type-requires : tie.Need-put-type-requires Inv-loop μ-loop
-put-type-requires c κs = c .before .before .before .before .before .before .before .before .before .before .pre
+put-type-requires c κs = (c .before .before .before .before .before .before .before .before .before .before .pre .0, c .before .before .before .before .before .before .before .before .before .before .pre .1, omega (arith, c .before .before .before .count .ensures))
 
 add-x : tie.Need-add-x Inv-loop μ-loop
 add-x c = omega arith

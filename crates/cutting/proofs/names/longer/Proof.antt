@@ -4,10 +4,10 @@ use native.Mathlib.Omega.{arith}
 use mathlib.Core.Path.{ap}
 use lib.ListN.{length}
 use denote.Ref.{now}
-use Rattle.cutting.proofs.area.longer.Statement.{statement}
-use Rattle.cutting.proofs.area.longer.Tie as tie
-use Rattle.cutting.proofs.area.longer.Reads as reads
-use Rattle.cutting.proofs.area.longer.Lts as lts
+use Rattle.cutting.proofs.names.longer.Statement.{statement}
+use Rattle.cutting.proofs.names.longer.Tie as tie
+use Rattle.cutting.proofs.names.longer.Reads as reads
+use Rattle.cutting.proofs.names.longer.Lts as lts
 use Rattle.strings.proofs.get_btf_str.Reads as get-btf-str-reads
 use Rattle.roles.proofs.word_of.Reads as word-of-reads
 
