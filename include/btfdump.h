@@ -299,9 +299,10 @@ btfdump_answer btfdump_field(const uint8_t *record, size_t record_len,
  * The value is the length written; the rest of the output slice stays. Record
  * and section are only read, and neither work nor text is lent. The output
  * slice must not overlap the others. The time is about proportional to the
- * section's length and to the lengths of all names mentioned, up to 262,144
- * distinct names; beyond, each mention of a further name is a search through
- * all of them. Names made to collide take time with the square of their number.
+ * section's length and to the lengths of all names mentioned, up to some 250,000
+ * distinct names. Past 262,144 of them, each mention of a further name takes a
+ * search through all the others. Names made to collide take time with the
+ * square of their number.
  *
  * Refused with value 0, nothing written, and the session still open: 11 (here:
  * no open session, another length of the section than at opening, or a section
