@@ -7,7 +7,7 @@ use mathlib.Core.Logic.{_≢_}
 use lib.Dec.{eqb}
 use Rattle.text.specs.Text.{ascii, whole}
 use Rattle.rules.specs.Order.{Node, ignored, plain, listed, through, ptr, tdef, proto, comp, Table, isComp, Res, ok, refused}
-use Rattle.rules.specs.Machine.{Machine, Sess, Answer, single}
+use Rattle.rules.specs.Machine.{Sess, Answer, single}
 use Rattle.rules.specs.Writer.{said, Writer}
 use Rattle.rules.specs.Types.{Btf, nodeOf, tableOf}
 use Rattle.rules.specs.Names.{Naming}
