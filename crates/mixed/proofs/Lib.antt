@@ -1,0 +1,5 @@
+pub mod Plain
+pub mod Accepted
+pub mod Short
+pub mod Closed
+pub mod Claims
