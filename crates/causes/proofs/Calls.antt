@@ -62,10 +62,10 @@ module _ (p modes : ℕ) (s : List ℕ) (n : ℕ) (c : Call) (rs : List Req) (a 
   abbrev before : Demand2 p modes s n c rs
   before = delivered p modes s n .demand2 c rs a
 
-  void : typesIn p modes s n .node 0 ≡ plain
+  pub void : typesIn p modes s n .node 0 ≡ plain
   void = opening-gives p modes s n (after-sound p modes s n a) .well-formed .void
 
-  still : Idle (S .mach)
+  pub still : Idle (S .mach)
   still = run-idle N B void rs (openedBy N B (noNames B)) (opened-idle N B void)
 
   is-beside : (room : ℕ) (ids : List ℕ) (d : Call) (F : (ℕ → Bool) → Told (Ls (Known Names))) (P : Answer (Ls (Known Names))) → Tells room d P → Fits 0 F P → Told-grown N B void room ids (untold S) (F always)

@@ -29,6 +29,7 @@ use Rattle.reasoned.proofs.Claims.{calls-reasoned}
 use Rattle.mixed.specs.Mixed.{Aid, none, ceiling, list, typeWith, typesWith, listWith, Stops, acceptedWith, With, Ended, ended-one, ended-all, ended-list, later-one, later-all, later-list}
 use Rattle.mixed.specs.Claims.{Delivers, Stands, Mixed}
 use Rattle.mixed.proofs.Plain.{type-plain, types-plain, with-plain}
+use Rattle.mixed.proofs.Lines.{type-lines, types-lines, list-lines}
 use Rattle.mixed.proofs.Short.{one-short, all-short, list-short}
 use Rattle.mixed.proofs.Closed.{type-shut, types-shut, list-shut}
 
@@ -52,6 +53,9 @@ module _ (p modes : ℕ) (s : List ℕ) (n : ℕ) where
         type-entries = λ text l id es. e .type c rs y text l id es;
         types-entries = λ text l es. e .types c rs y text l es;
         list-entries = λ text l ids es. e .list c rs y text l ids es;
+        type-lines = λ text l id es q. type-lines p modes s n c rs y text l es id q;
+        types-lines = λ text l es q. types-lines p modes s n c rs y text l es q;
+        list-lines = λ text l ids es q. list-lines p modes s n c rs y text l es ids q;
       }
 
   -- ---- one was ended

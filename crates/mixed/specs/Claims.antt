@@ -1,9 +1,9 @@
 -- Demands 2 and 3, and the entries of the next call, after lists of calls that carry what they like: statements only. proofs/Claims.antt has the proofs, of every
 -- section that opening accepts, every list of calls after it, each plain, under a ceiling or lent a list of entries, and every text slice. They assume nothing.
-use Prim.Native.Nat.{ℕ, _<_}
+use Prim.Native.Nat.{ℕ, _-_, _<_}
 use mathlib.Core.Path.{_≡_}
 use mathlib.Core.Bool.{true, false}
-use mathlib.Core.List.{List}
+use mathlib.Core.List.{List, [], _∷_, _++_}
 use mathlib.Core.Logic.{_↔_}
 use lib.ListN.{length, take}
 use Rattle.rules.specs.Order.{refused}
@@ -13,11 +13,15 @@ use Rattle.turns.specs.Answers.{numberOf}
 use Rattle.turns.specs.Turns.{Call, unchanged}
 use Rattle.demand.specs.Needs.{NamedComp, MeetsTwice}
 use Rattle.demand.specs.Demand.{Demand3}
+use Rattle.demand.specs.Lists.{Piece}
 use Rattle.demand.specs.Session.{textOf}
-use Rattle.claims.specs.Table.{machineIn}
+use Rattle.claims.specs.Table.{openedTable, namesIn, machineIn}
 use Rattle.claims.specs.Session.{After, Tells}
 use Rattle.claims.specs.Demands.{Lent, typesIn, ruled, Demand2, Demand3Calls, Twice}
-use Rattle.causes.specs.Bytes.{typeCauses, typesCauses}
+use Rattle.causes.specs.Causes.{Entry, filled}
+use Rattle.causes.specs.Lines.{Turns}
+use Rattle.causes.specs.Calls.{idsFrom}
+use Rattle.causes.specs.Bytes.{CauseCall, typeCauses, typesCauses}
 use Rattle.several.specs.Several.{listCausesCall}
 use Rattle.ceilings.specs.Claims.{elevenOf}
 use Rattle.reasoned.specs.Claims.{Agrees, oneRuled, allRuled, listRuled}
@@ -25,8 +29,18 @@ use Rattle.mixed.specs.Mixed.{Aid, typeWith, typesWith, listWith, Goes, 
 
 -- pointer size, mode, section and length of the work, as at opening
 module _ (pointer modes : ℕ) (s : List ℕ) (n : ℕ) where
+  -- An accepted call d for the ids, after c and the requests rs, that was lent the list l: "three words from the list's start" for each entry, and zeros after them; "The answer
+  -- counts them"; "one entry a line, in the text's order": what the call adds to the text is their lines, in the turns of the ids. No ids leave the list as it was.
+  pub record Explains (room : ℕ) (ids : List ℕ) (c : Call) (rs : List Req) (l : List ℕ) (d : CauseCall) : Type 0 where
+    pub entries : List Entry
+    pub count : d .count ≡ length entries
+    pub list : (ids ≡ [] → ⊥) → d .list ≡ filled (length l) entries
+    pub added : List Piece
+    pub text : take (d .call .session .«text_len») (d .call .text) ≡ take (c .session .«text_len») (c .text) ++ textOf added
+    pub turns : Turns (namesIn pointer modes s n) (openedTable pointer modes s n) room (ruled pointer modes s n rs) ids entries added
+
   -- c: the last call, after the requests rs; none was ended by what it carried. Each left record, work and text as the plain call does, so demands 2 and 3 hold;
-  -- they hold of the next request, whatever it carries, unless that ends it; and the entries of the next call are those of the rules.
+  -- they hold of the next request, whatever it carries, unless that ends it; and the entries of the next call are those of the rules, and explain its text.
   pub record Delivers (c : Call) (rs : List Req) : Type 0 where
     pub plain : After pointer modes s n c rs
     pub demand2 : Demand2 pointer modes s n c rs
@@ -43,6 +57,12 @@ module _ (pointer modes : ℕ) (s : List ℕ) (n : ℕ) where
     pub type-entries : (text : List ℕ) → Lent c text → (id : ℕ) (l : List ℕ) → Agrees (typeCauses (c .session) s (c .work) text id l) (oneRuled pointer modes s n l (length text) rs id)
     pub types-entries : (text : List ℕ) → Lent c text → (l : List ℕ) → Agrees (typesCauses (c .session) s (c .work) text l) (allRuled pointer modes s n l (length text) rs)
     pub list-entries : (text : List ℕ) → Lent c text → (ids l : List ℕ) → Agrees (listCausesCall (c .session) s (c .work) text ids l) (listRuled pointer modes s n l (length text) rs ids)
+    pub type-lines : (text : List ℕ) → Lent c text → (id : ℕ) (l : List ℕ) → numberOf (typeCauses (c .session) s (c .work) text id l .call .answer) ≡ 0
+        → Explains (length text) (id ∷ []) c rs l (typeCauses (c .session) s (c .work) text id l)
+    pub types-lines : (text : List ℕ) → Lent c text → (l : List ℕ) → numberOf (typesCauses (c .session) s (c .work) text l .call .answer) ≡ 0
+        → Explains (length text) (idsFrom (typesIn pointer modes s n .count - 1) 1) c rs l (typesCauses (c .session) s (c .work) text l)
+    pub list-lines : (text : List ℕ) → Lent c text → (ids l : List ℕ) → numberOf (listCausesCall (c .session) s (c .work) text ids l .call .answer) ≡ 0
+        → Explains (length text) ids c rs l (listCausesCall (c .session) s (c .work) text ids l)
 
   -- c: a call that was ended by what it carried, or a later one; rs: the requests accepted before it. Their text stands, and what demand 3 says of its
   -- pieces; the session is closed, and every later request gives 11 and leaves everything as it was. An empty list is accepted, as ever.
