@@ -1,9 +1,8 @@
 -- THE THEOREM: what a call adds to the text is the lines of the entries that the rules note for it. Assumes nothing.
-use Prim.Native.Nat.{ℕ, zero, suc}
+use Prim.Native.Nat.{ℕ, zero, suc, _-_}
 use mathlib.Core.Path.{_≡_, refl, ap, _∙_, sym, subst}
 use mathlib.Core.Bool.{Bool}
-use mathlib.Core.List.{List, [], _∷_, _++_, List·Memᴰ, List·Memᴰ·not-nil, List·Memᴰ·cases-cons}
-use mathlib.Core.Logic.{_⊎_, inl, inr}
+use mathlib.Core.List.{List, [], _∷_, _++_}
 use native.Mathlib.Omega.{arith}
 use lib.ListN.{length, getD, replicate}
 use Rattle.rules.specs.Order.{plain, new, busy}
@@ -12,7 +11,7 @@ use Rattle.rules.specs.Names.{Names, Naming}
 use Rattle.rules.specs.Types.{Btf, tableOf}
 use Rattle.turns.specs.Turns.{Call}
 use Rattle.calls.specs.Calls.{typeCall, typesCall}
-use Rattle.demand.specs.Lists.{Piece, Ls, afresh}
+use Rattle.demand.specs.Lists.{Ls, afresh}
 use Rattle.demand.specs.Session.{Known, machineBy, openedBy, noNames, textOf}
 use Rattle.claims.specs.Table.{openedTable, namesIn}
 use Rattle.claims.specs.Session.{After, Tells}
@@ -21,21 +20,11 @@ use Rattle.claims.proofs.Claims.{opening-gives}
 use Rattle.claims.proofs.Demands.{after-sound, delivered}
 use Rattle.causes.specs.Causes.{Entry, showsIn, always, Told, untold, singleNoted, everyNoted}
 use Rattle.causes.specs.Claims.{Fits}
-use Rattle.causes.specs.Lines.{Pairs, none, more, blank, Grown, Explains, Reason}
-use Rattle.causes.specs.Calls.{Beside, Explained}
+use Rattle.causes.specs.Lines.{Turns}
+use Rattle.causes.specs.Calls.{idsFrom, Beside, Explained}
 use Rattle.causes.proofs.Requests.{single-fits, every-fits}
 use Rattle.causes.proofs.Numbered.{machine-numbered}
-use Rattle.causes.proofs.Lines.{Idle, single-grown, every-grown, text-grown}
-
--- what holds of each entry
-pairs-all : (N : Naming Names) (B : Btf) (Why : Entry → Type 0) {es : List Entry} {ps : List Piece} → Pairs N B Why es ps → (e : Entry) → List·Memᴰ e es → Why e
-pairs-all N B Why none e m = absurd (List·Memᴰ·not-nil m)
-pairs-all N B Why (more d t es ps w s p) e m = by (List·Memᴰ·cases-cons m) (λ q. pairs-all N B Why p e q)
-  where
-    by : (e ≡ d) ⊎ List·Memᴰ e es → (List·Memᴰ e es → Why e) → Why e
-    by (inl q) f = subst Why (sym q) w
-    by (inr q) f = f q
-pairs-all N B Why (blank es ps p) e m = pairs-all N B Why p e m
+use Rattle.causes.proofs.Lines.{Idle, Told-grown, single-grown, every-grown, text-append}
 
 -- ---- nothing is in progress between requests
 idle-fresh : (n y : ℕ) → getD (replicate n new) y new ≡ new
@@ -47,9 +36,9 @@ module _ (N : Naming Names) (B : Btf) (void : tableOf B .node 0 ≡ plain) where
   serve-idle : (r : Req) (S : Sess (Ls (Known Names))) → Idle (S .mach) → Idle (serve (machineBy N B) (tableOf B) S r .mach)
   unfolding serve
   serve-idle (one room x) S i =
-      subst (λ (a : Answer (Ls (Known Names))). Idle (a .sess .mach)) (single-fits (machineBy N B) (tableOf B) (showsIn B) (machine-numbered N B) room x (untold S) .same) (single-grown N B void always room x (untold S) i .idle)
+      subst (λ (a : Answer (Ls (Known Names))). Idle (a .sess .mach)) (single-fits (machineBy N B) (tableOf B) (showsIn B) (machine-numbered N B) room x (untold S) .same) (single-grown N B void room x (untold S) i .idle)
   serve-idle (all room) S i =
-      subst (λ (a : Answer (Ls (Known Names))). Idle (a .sess .mach)) (every-fits (machineBy N B) (tableOf B) (showsIn B) (machine-numbered N B) room S (S .isOpen) .same) (every-grown N B void always room S i (S .isOpen) .idle)
+      subst (λ (a : Answer (Ls (Known Names))). Idle (a .sess .mach)) (every-fits (machineBy N B) (tableOf B) (showsIn B) (machine-numbered N B) room S (S .isOpen) .same) (every-grown N B void room S i (S .isOpen) .idle)
 
   run-idle : (rs : List Req) (S : Sess (Ls (Known Names))) → Idle (S .mach) → Idle (run (machineBy N B) (tableOf B) rs S .mach)
   unfolding run
@@ -73,33 +62,38 @@ module _ (p modes : ℕ) (s : List ℕ) (n : ℕ) (c : Call) (rs : List Req) (a 
   abbrev before : Demand2 p modes s n c rs
   before = delivered p modes s n .demand2 c rs a
 
-  void : typesIn p modes s n .node 0 ≡ plain
+  pub void : typesIn p modes s n .node 0 ≡ plain
   void = opening-gives p modes s n (after-sound p modes s n a) .well-formed .void
 
-  still : Idle (S .mach)
+  pub still : Idle (S .mach)
   still = run-idle N B void rs (openedBy N B (noNames B)) (opened-idle N B void)
 
-  is-beside : (room : ℕ) (d : Call) (F : (ℕ → Bool) → Told (Ls (Known Names))) (P : Answer (Ls (Known Names))) → Tells room d P → Fits 0 F P
-      → Grown N B (Reason (typesIn p modes s n)) [] (F always .entries) (S .mach .pieces) (F always .answer .sess .mach .pieces) → Beside p modes s n c d (F always)
-  is-beside room d F P t h g =
-      let w = text-grown N B (Reason (typesIn p modes s n)) [] (F always .entries) (S .mach .pieces) (F always .answer .sess .mach .pieces) g in
-      record {
-        number = t .number ∙ ap (λ (q : Answer (Ls (Known Names))). q .number) (sym (h .same));
-        added = w .1;
-        text = t .begins ∙ ap (λ (q : Answer (Ls (Known Names))). textOf (q .sess .mach .pieces)) (sym (h .same)) ∙ w .3 ∙ ap (λ (l : List ℕ). l ++ w .1) (sym (before .text));
-        explains = subst (λ (es : List Entry). Explains N B es (w .1)) (sym (w .2)) (w .4);
-        reasons = λ e m. pairs-all N B (Reason (typesIn p modes s n)) (g .pairs) e (subst (List·Memᴰ e) (g .entries-are) m);
-      }
+  is-beside : (room : ℕ) (ids : List ℕ) (d : Call) (F : (ℕ → Bool) → Told (Ls (Known Names))) (P : Answer (Ls (Known Names))) → Tells room d P → Fits 0 F P → Told-grown N B void room ids (untold S) (F always)
+      → Beside p modes s n room ids rs c d (F always)
+  is-beside room ids d F P t h g = record {
+    number = t .number ∙ ap (λ (q : Answer (Ls (Known Names))). q .number) (sym (h .same));
+    accepted = g .accepted;
+    rest = g .rest;
+    ids-are = g .ids-are;
+    whole = g .whole;
+    accepted-are = g .accepted-are;
+    added = g .pieces;
+    text = t .begins ∙ ap (λ (q : Answer (Ls (Known Names))). textOf (q .sess .mach .pieces)) (sym (h .same)) ∙ ap textOf (g .pieces-are) ∙ text-append (S .mach .pieces) (g .pieces) ∙ ap (λ (l : List ℕ). l ++ textOf (g .pieces)) (sym (before .text));
+    turns = subst (λ (es : List Entry). Turns N B room S (g .accepted) es (g .pieces)) (sym (g .entries-are)) (g .turns);
+  }
 
-  type-beside : (text : List ℕ) → Lent c text → (id : ℕ) → Beside p modes s n c (typeCall (c .session) s (c .work) text id) (singleNoted (machineBy N B) (typesIn p modes s n) always (showsIn B) (length text) id (untold S))
+  type-beside : (text : List ℕ) → Lent c text → (id : ℕ)
+      → Beside p modes s n (length text) (id ∷ []) rs c (typeCall (c .session) s (c .work) text id) (singleNoted (machineBy N B) (typesIn p modes s n) always (showsIn B) (length text) id (untold S))
   type-beside text l id =
-      is-beside (length text) (typeCall (c .session) s (c .work) text id) (λ r. singleNoted (machineBy N B) (typesIn p modes s n) r (showsIn B) (length text) id (untold S)) (single (machineBy N B) (typesIn p modes s n) (length text) S id)
-      (before .next-type text l id) (single-fits (machineBy N B) (typesIn p modes s n) (showsIn B) (machine-numbered N B) (length text) id (untold S)) (single-grown N B void always (length text) id (untold S) still .grown)
+      is-beside (length text) (id ∷ []) (typeCall (c .session) s (c .work) text id) (λ r. singleNoted (machineBy N B) (typesIn p modes s n) r (showsIn B) (length text) id (untold S)) (single (machineBy N B) (typesIn p modes s n) (length text) S id)
+      (before .next-type text l id) (single-fits (machineBy N B) (typesIn p modes s n) (showsIn B) (machine-numbered N B) (length text) id (untold S)) (single-grown N B void (length text) id (untold S) still)
 
-  types-beside : (text : List ℕ) → Lent c text → Beside p modes s n c (typesCall (c .session) s (c .work) text) (everyNoted (machineBy N B) (typesIn p modes s n) always (showsIn B) (length text) S (S .isOpen))
+  types-beside : (text : List ℕ) → Lent c text
+      → Beside p modes s n (length text) (idsFrom (B .type-cnt - 1) 1) rs c (typesCall (c .session) s (c .work) text) (everyNoted (machineBy N B) (typesIn p modes s n) always (showsIn B) (length text) S (S .isOpen))
   types-beside text l =
-      is-beside (length text) (typesCall (c .session) s (c .work) text) (λ r. everyNoted (machineBy N B) (typesIn p modes s n) r (showsIn B) (length text) S (S .isOpen)) (every (machineBy N B) (typesIn p modes s n) (length text) S (S .isOpen))
-      (before .next-types text l) (every-fits (machineBy N B) (typesIn p modes s n) (showsIn B) (machine-numbered N B) (length text) S (S .isOpen)) (every-grown N B void always (length text) S still (S .isOpen) .grown)
+      is-beside (length text) (idsFrom (B .type-cnt - 1) 1) (typesCall (c .session) s (c .work) text) (λ r. everyNoted (machineBy N B) (typesIn p modes s n) r (showsIn B) (length text) S (S .isOpen))
+      (every (machineBy N B) (typesIn p modes s n) (length text) S (S .isOpen))
+      (before .next-types text l) (every-fits (machineBy N B) (typesIn p modes s n) (showsIn B) (machine-numbered N B) (length text) S (S .isOpen)) (every-grown N B void (length text) S still (S .isOpen))
 
 pub calls-explained : (p modes : ℕ) (s : List ℕ) (n : ℕ) → Explained p modes s n
 calls-explained p modes s n = record {

@@ -12,7 +12,7 @@ use Rattle.rules.specs.Machine.{Out, wrote, stuck, Machine, isZero, obind, eeac
 use Rattle.demand.specs.Needs.{kids}
 use Rattle.causes.specs.Causes.{Entry, Noted, noting, emitNoted}
 use Rattle.causes.specs.Claims.{first, next, isListed}
-use Rattle.causes.specs.Lines.{isTypedef, isContainer, Inside}
+use Rattle.causes.specs.Lines.{isTypedef, isContainer, Container, outer, inner, Inside}
 
 -- what a line, or a call, comes to, if it is no refusal
 pub data Comes {M : Type 0} (Q : M → Type 0) : Out M → Type 0 where
@@ -52,9 +52,9 @@ module _ {M : Type 0} (X : Machine M) (room : ℕ → Bool) (shows : ℕ → Boo
     pub r-then : (a b c : Noted M) → R a b → R b c → R a c
     pub r-mark : (m : Mark) (x : ℕ) (s : Noted M) → R s (record { mach = X .emark m x (s .mach); entries = s .entries })
     pub r-flag : (x : ℕ) (s : Noted M) → R s (record { mach = X .forwarded x (s .mach); entries = s .entries })
-    pub r-fwd : (cont x : ℕ) (s : Noted M) → isComp (T .node x) ≡ true → Inside T cont x → Comes (R s) (N cont .fwdLine s x)
-    pub r-alias : (cont x : ℕ) (s : Noted M) → isTypedef (T .node x) ≡ true → Inside T cont x → Comes (R s) (N cont .aliasLine s x)
-    pub r-leaf : (cont x : ℕ) (s : Noted M) → isLeaf (T .node x) ≡ true → Inside T cont x → Comes (R s) (N cont .leafLine s x)
+    pub r-fwd : (cont x : ℕ) (s : Noted M) → isComp (T .node x) ≡ true → Inside T Top cont x → Comes (R s) (N cont .fwdLine s x)
+    pub r-alias : (cont x : ℕ) (s : Noted M) → isTypedef (T .node x) ≡ true → Inside T Top cont x → Comes (R s) (N cont .aliasLine s x)
+    pub r-leaf : (cont x : ℕ) (s : Noted M) → isLeaf (T .node x) ≡ true → Inside T Top cont x → Comes (R s) (N cont .leafLine s x)
     pub top-alias : (x : ℕ) (s : Noted M) → isTypedef (T .node x) ≡ true → Top x → Comes (R s) (N 0 .aliasLine s x)
     pub top-leaf : (x : ℕ) (s : Noted M) → isLeaf (T .node x) ≡ true → Top x → Comes (R s) (N 0 .leafLine s x)
     pub top-body : (x : ℕ) (s : Noted M) → isComp (T .node x) ≡ true → Top x → Comes (R s) (N 0 .body s x)
@@ -79,11 +79,11 @@ module _ {M : Type 0} (X : Machine M) (room : ℕ → Bool) (shows : ℕ → Boo
     abbrev member : (x y : ℕ) (nd : Node) → T .node x ≡ nd → List·Memᴰ y (kids nd) → List·Memᴰ y (kids (T .node x))
     member x y nd e m = subst (λ (n : Node). List·Memᴰ y (kids n)) (sym e) m
 
-    tdef-inside : (x t : ℕ) → T .node x ≡ tdef t → Inside T x t
-    tdef-inside x t e = record { some = not-void x (tdef t) e (λ (q : plain ≡ tdef t). let z : _≡_ {A = ℕ} 0 1 = cc in omega arith); contained = ap (λ (n : Node). isContainer n (T .named x)) e; leads = first t (member x t (tdef t) e (List·Memᴰ·head refl)) }
+    tdef-inside : (x t : ℕ) → T .node x ≡ tdef t → Container T Top x → Inside T Top x t
+    tdef-inside x t e q = record { some = not-void x (tdef t) e (λ (q : plain ≡ tdef t). let z : _≡_ {A = ℕ} 0 1 = cc in omega arith); contained = ap (λ (n : Node). isContainer n (T .named x)) e; within = q; leads = first t (member x t (tdef t) e (List·Memᴰ·head refl)) }
 
-    comp-inside : (x y : ℕ) (ms : List ℕ) → T .node x ≡ comp ms → T .named x ≡ true → List·Memᴰ y ms → Inside T x y
-    comp-inside x y ms e q m = record { some = not-void x (comp ms) e (λ (q : plain ≡ comp ms). let z : _≡_ {A = ℕ} 0 1 = cc in omega arith); contained = ap (λ (n : Node). isContainer n (T .named x)) e ∙ q; leads = first y (member x y (comp ms) e m) }
+    comp-inside : (x y : ℕ) (ms : List ℕ) → T .node x ≡ comp ms → T .named x ≡ true → Top x → List·Memᴰ y ms → Inside T Top x y
+    comp-inside x y ms e q tp m = record { some = not-void x (comp ms) e (λ (q : plain ≡ comp ms). let z : _≡_ {A = ℕ} 0 1 = cc in omega arith); contained = ap (λ (n : Node). isContainer n (T .named x)) e ∙ q; within = outer x tp; leads = first y (member x y (comp ms) e m) }
 
     once-keeps : (cont x : ℕ) (w : Noted M → ℕ → Out (Noted M)) → ((s : Noted M) → Comes (R s) (w s x)) → (b : Bool) (s : Noted M) → Comes (R s) (once (N cont) T w x b s)
     unfolding once
@@ -103,7 +103,7 @@ module _ {M : Type 0} (X : Machine M) (room : ℕ → Bool) (shows : ℕ → Boo
         (λ s″ q′. marks-after x done s s″ q′))
 
     -- ---- inside a container
-    module _ (cont x : ℕ) (c : Inside T cont x) where
+    module _ (cont x : ℕ) (c : Inside T Top cont x) where
       mention-keeps : isComp (T .node x) ≡ true → (b nm : Bool) (s : Noted M) → Comes (R s) (mention (N cont) T b nm x s)
       unfolding mention
       mention-keeps i true nm s = comes (k .r-same s)
@@ -127,10 +127,10 @@ module _ {M : Type 0} (X : Machine M) (room : ℕ → Bool) (shows : ℕ → Boo
       leaf-keeps i false s = comes (k .r-mark done x s)
 
       -- what is followed from x, in the same container
-      down : (nd : Node) → T .node x ≡ nd → (y : ℕ) → isContainer nd (T .named x) ≡ false → List·Memᴰ y (kids nd) → Inside T cont y
-      down nd e y q m = record { some = c .some; contained = c .contained; leads = next x y (c .leads) (ap (λ (n : Node). isContainer n (T .named x)) e ∙ q) (member x y nd e m) }
+      down : (nd : Node) → T .node x ≡ nd → (y : ℕ) → isContainer nd (T .named x) ≡ false → List·Memᴰ y (kids nd) → Inside T Top cont y
+      down nd e y q m = record { some = c .some; contained = c .contained; within = c .within; leads = next x y (c .leads) (ap (λ (n : Node). isContainer n (T .named x)) e ∙ q) (member x y nd e m) }
 
-      module _ (rec : Noted M → ℕ → ℕ → Out (Noted M)) (h : (s : Noted M) (y d : ℕ) → Inside T d y → Comes (R s) (rec s y d)) (s : Noted M) where
+      module _ (rec : Noted M → ℕ → ℕ → Out (Noted M)) (h : (s : Noted M) (y d : ℕ) → Inside T Top d y → Comes (R s) (rec s y d)) (s : Noted M) where
         -- a nameless composite has its members in the same container, a named one is mentioned
         within-keeps : (nm : Bool) (ms : List ℕ) → T .named x ≡ nm → T .node x ≡ comp ms → Comes (R s) (within (N cont) T rec s x cont (not nm) nm ms)
         unfolding within
@@ -147,7 +147,7 @@ module _ {M : Type 0} (X : Machine M) (room : ℕ → Bool) (shows : ℕ → Boo
         begin-keeps (listed f) e = leaf-keeps (ap isLeaf e) (f || false) s
         begin-keeps (through a t) e = h s t cont (down (through a t) e t refl (List·Memᴰ·head refl))
         begin-keeps (ptr t) e = h s t cont (down (ptr t) e t refl (List·Memᴰ·head refl))
-        begin-keeps (tdef t) e = tdef-keeps cont x t s (rec (marked x busy s) t x) (h (marked x busy s) t x (tdef-inside x t e)) (λ u. k .r-alias cont x u (ap isTypedef e) c)
+        begin-keeps (tdef t) e = tdef-keeps cont x t s (rec (marked x busy s) t x) (h (marked x busy s) t x (tdef-inside x t e (inner cont x (c .within) (ap isTypedef e) (c .leads)))) (λ u. k .r-alias cont x u (ap isTypedef e) c)
         begin-keeps (proto ts) e = each-keeps (λ s′ y. rec s′ y cont) ts (λ s′ y m. h s′ y cont (down (proto ts) e y refl m)) s
         begin-keeps (comp ms) e = comes-bind (close (N cont) T false x) (within-keeps (T .named x) ms refl e) (λ s′ q. marks-after x new s s′ q)
 
@@ -162,13 +162,13 @@ module _ {M : Type 0} (X : Machine M) (room : ℕ → Bool) (shows : ℕ → Boo
         look-keeps busy = again-keeps s (T .node x) refl
         look-keeps done = comes (k .r-same s)
 
-    pub emit-keeps : (n : ℕ) (s : Noted M) (x cont : ℕ) → Inside T cont x → Comes (R s) (emitNoted X room shows why T n s x cont)
+    pub emit-keeps : (n : ℕ) (s : Noted M) (x cont : ℕ) → Inside T Top cont x → Comes (R s) (emitNoted X room shows why T n s x cont)
     unfolding emitNoted
     emit-keeps zero s x cont c = halts
     emit-keeps (suc n) s x cont c = look-keeps cont x c (λ s′ y d. emitNoted X room shows why T n s′ y d) (λ s′ y d q. emit-keeps n s′ y d q) s (X .eget (s .mach) x)
 
     -- ---- at the top
-    module _ (x : ℕ) (tp : Top x) (rec : Noted M → ℕ → ℕ → Out (Noted M)) (h : (s : Noted M) (y d : ℕ) → Inside T d y → Comes (R s) (rec s y d)) (s : Noted M) where
+    module _ (x : ℕ) (tp : Top x) (rec : Noted M → ℕ → ℕ → Out (Noted M)) (h : (s : Noted M) (y d : ℕ) → Inside T Top d y → Comes (R s) (rec s y d)) (s : Noted M) where
       leaf-top : isLeaf (T .node x) ≡ true → (b : Bool) → Comes (R s) (leaf (N 0) T b x s)
       unfolding leaf
       leaf-top i true = comes-bind (λ s′. wrote (marked x done s′)) (k .top-leaf x s i tp) (λ s′ q. marks-after x done s s′ q)
@@ -178,7 +178,7 @@ module _ {M : Type 0} (X : Machine M) (room : ℕ → Bool) (shows : ℕ → Boo
       unfolding within
       members-top false ms q z e = absurd (true≢false (sym z))
       members-top true ms q z e =
-          step-on s (marked x busy s) (eeach (λ s′ y. rec s′ y x) ms (marked x busy s)) (k .r-mark busy x s) (each-keeps (λ s′ y. rec s′ y x) ms (λ s′ y m. h s′ y x (comp-inside x y ms e q m)) (marked x busy s))
+          step-on s (marked x busy s) (eeach (λ s′ y. rec s′ y x) ms (marked x busy s)) (k .r-mark busy x s) (each-keeps (λ s′ y. rec s′ y x) ms (λ s′ y m. h s′ y x (comp-inside x y ms e q tp m)) (marked x busy s))
 
       close-top : isComp (T .node x) ≡ true → (s′ : Noted M) → R s s′ → Comes (R s) (close (N 0) T true x s′)
       unfolding close
@@ -191,7 +191,7 @@ module _ {M : Type 0} (X : Machine M) (room : ℕ → Bool) (shows : ℕ → Boo
       begin-top (listed f) e l nm = leaf-top (ap isLeaf e) (f || true)
       begin-top (through a t) e l nm = absurd (true≢false (sym l))
       begin-top (ptr t) e l nm = absurd (true≢false (sym l))
-      begin-top (tdef t) e l nm = tdef-keeps 0 x t s (rec (marked x busy s) t x) (h (marked x busy s) t x (tdef-inside x t e)) (λ u. k .top-alias x u (ap isTypedef e) tp)
+      begin-top (tdef t) e l nm = tdef-keeps 0 x t s (rec (marked x busy s) t x) (h (marked x busy s) t x (tdef-inside x t e (outer x tp))) (λ u. k .top-alias x u (ap isTypedef e) tp)
       begin-top (proto ts) e l nm = absurd (true≢false (sym l))
       begin-top (comp ms) e l nm = comes-bind (close (N 0) T true x) (members-top (T .named x) ms refl nm e) (λ s′ q. close-top (ap isComp e) s′ q)
 

@@ -4,12 +4,14 @@ use mathlib.Core.Path.{_≡_, refl, ap, _∙_, sym, subst}
 use mathlib.Core.Bool.{Bool, true, false, not, _&&_, _||_, true≢false}
 use mathlib.Core.List.{List, [], _∷_, _++_, List·Memᴰ, List·Memᴰ·head, List·Memᴰ·tail, List·Memᴰ·not-nil, List·Memᴰ·cases-cons, List·Memᴰ·append-cases, List·Memᴰ·eq-of-singleton}
 use mathlib.Core.Logic.{_⊎_, inl, inr}
+use native.Mathlib.Omega.{arith}
 use lib.Dec.{eqb}
 use borrow.Author.Tests.{eqb-true, eqb-false}
 use Rattle.rules.specs.Order.{Node, ignored, plain, listed, through, ptr, tdef, proto, comp, Table, isComp, Mark, new, busy, done, isDone, Store, Res, ok, refused, bind, each, meet, pushIf, finish, enter, alias, fresh, visit, order}
 use Rattle.demand.specs.Needs.{kids}
 use Rattle.causes.specs.Causes.{ledBy, isAround, inside, Led, ledStore, orderLed, leaderOf}
 use Rattle.causes.specs.Claims.{Leads, itself, first, next, ordersAround, isListed, LedTo}
+use Rattle.causes.specs.Lines.{notedIds, First, here, later}
 
 -- ---- the plain rule
 unfoldable pub forgetLed : {St : Type 0} → Res (Led St) → Res St
@@ -190,11 +192,6 @@ led-to T req (a ∷ around) x i (under _ _ _ q l c) = by (eqb a x) refl (λ c′
 abbrev pub AllLed : {St : Type 0} → Table → ℕ → Led St → Type 0
 AllLed T req s = (p : ℕ × ℕ) → List·Memᴰ p (s .led) → LedTo T req (p .0) (p .1)
 
--- the ids that were noted
-abbrev pub notedIds : List (ℕ × ℕ) → List ℕ
-notedIds [] = []
-notedIds (p ∷ ps) = p .0 ∷ notedIds ps
-
 pub ids-append : (ps qs : List (ℕ × ℕ)) → notedIds (ps ++ qs) ≡ notedIds ps ++ notedIds qs
 ids-append [] qs = refl
 ids-append (p ∷ ps) qs = ap (λ (l : List ℕ). p .0 ∷ l) (ids-append ps qs)
@@ -234,6 +231,75 @@ first-led T req (p ∷ led) h x m = by (eqb (p .0) x) refl (λ n. first-led T re
     by : (b : Bool) → eqb (p .0) x ≡ b → (List·Memᴰ x (notedIds led) → LedTo T req x (leaderOf req led x)) → LedTo T req x (elim b [ true ↦ p .1 | false ↦ leaderOf req led x ])
     by true e f = subst (λ (y : ℕ). LedTo T req y (p .1)) (eqb-true (p .0) x e) (h p (List·Memᴰ·head refl))
     by false e f = f (later (eqb-false (p .0) x e) (List·Memᴰ·cases-cons m))
+
+pub first-noted : (req : ℕ) (led : List (ℕ × ℕ)) (x : ℕ) → List·Memᴰ x (notedIds led) → First x (leaderOf req led x) led
+unfolding leaderOf
+first-noted req [] x m = absurd (List·Memᴰ·not-nil m)
+first-noted req (p ∷ led) x m = by (eqb (p .0) x) refl (λ n. first-noted req led x n)
+  where
+    others : (p .0 ≡ x → ⊥) → (x ≡ p .0) ⊎ List·Memᴰ x (notedIds led) → List·Memᴰ x (notedIds led)
+    others d (inl q) = absurd (d (sym q))
+    others d (inr q) = q
+
+    by : (b : Bool) → eqb (p .0) x ≡ b → (List·Memᴰ x (notedIds led) → First x (leaderOf req led x) led) → First x (elim b [ true ↦ p .1 | false ↦ leaderOf req led x ]) (p ∷ led)
+    by true e f = subst (λ (y : ℕ). First x (p .1) ((y, p .1) ∷ led)) (sym (eqb-true (p .0) x e)) (here led)
+    by false e f = let d : p .0 ≡ x → ⊥ = eqb-false (p .0) x e in later p led d (f (others d (List·Memᴰ·cases-cons m)))
+
+-- ---- ordering is not refused by 0: only by 12 and 13
+pub data NotNone {St : Type 0} : Res St → Type 0 where
+  accepted : {s : St} {b : Bool} → NotNone (ok s b)
+  stopped : {e : ℕ} → (e ≡ 0 → ⊥) → NotNone (refused e)
+
+module _ {St : Type 0} (K : Store St) (T : Table) where
+  bind-not : {r : Res St} (k : St → Bool → Res St) → NotNone r → ((s : St) (b : Bool) → NotNone (k s b)) → NotNone (bind r k)
+  unfolding bind
+  bind-not k accepted f = f _ _
+  bind-not k (stopped e) f = stopped e
+
+  each-not : (f : St → ℕ → Res St) → ((s : St) (y : ℕ) → NotNone (f s y)) → (ys : List ℕ) (s : St) (b : Bool) → NotNone (each f ys s b)
+  unfolding each
+  each-not f h [] s b = accepted
+  each-not f h (y ∷ ys) s b = bind-not (λ s′ b′. each f ys s′ (b || b′)) (h s y) (λ s′ b′. each-not f h ys s′ (b || b′))
+
+  meet-not : (p : Bool) (s : St) → NotNone (meet p s)
+  unfolding meet
+  meet-not true s = accepted
+  meet-not false s = stopped (λ (e : _≡_ {A = ℕ} 13 0). omega arith)
+
+  alias-not : (p was : Bool) (s : St) (x : ℕ) → NotNone (alias K p was s x)
+  unfolding alias
+  alias-not true was s x = accepted
+  alias-not false was s x = accepted
+
+  module _ (rec : St → ℕ → Bool → Res St) (h : (s : St) (y : ℕ) (w : Bool) → NotNone (rec s y w)) (s : St) (x : ℕ) (weak : Bool) where
+    enter-not : (p nm : Bool) (ms : List ℕ) → NotNone (enter K p (λ s′ y. rec s′ y false) s x nm ms)
+    unfolding enter
+    enter-not true nm ms = accepted
+    enter-not false nm ms = bind-not (λ s′ b. ok (finish K nm x s′) true) (each-not (λ s′ y. rec s′ y false) (λ s′ y. h s′ y false) ms (K .mark busy x s) false) (λ s′ b. accepted)
+
+    fresh-not : (nd : Node) → NotNone (fresh K T rec s x weak nd)
+    unfolding fresh
+    fresh-not ignored = accepted
+    fresh-not plain = accepted
+    fresh-not (listed f) = accepted
+    fresh-not (through a t) = h s t (not (a && T .strong-arrays) && weak)
+    fresh-not (ptr t) = bind-not (λ s′ b. ok (finish K false x s′) b) (h s t true) (λ s′ b. accepted)
+    fresh-not (tdef t) = bind-not (λ s′ b. alias K (not weak || b) (isDone (K .get s′ x)) s′ x) (h s t weak) (λ s′ b. alias-not (not weak || b) (isDone (K .get s′ x)) s′ x)
+    fresh-not (proto ts) = each-not (λ s′ y. rec s′ y weak) (λ s′ y. h s′ y weak) ts s false
+    fresh-not (comp ms) = enter-not (weak && T .named x) (T .named x) ms
+
+    visit-not : (m : Mark) → NotNone (visit K T rec s x weak m)
+    unfolding visit
+    visit-not new = fresh-not (T .node x)
+    visit-not busy = meet-not (isComp (T .node x) && (weak && T .named x)) s
+    visit-not done = accepted
+
+pub order-not : {St : Type 0} (K : Store St) (req : ℕ) (n : ℕ) (T : Table) (around : List ℕ) (s : Led St) (x : ℕ) (weak : Bool) → NotNone (orderLed K req n T around s x weak)
+unfolding orderLed
+order-not K req zero T around s x weak = stopped (λ (e : _≡_ {A = ℕ} 12 0). omega arith)
+order-not K req (suc n) T around s x weak =
+    visit-not (ledStore K req around) T (λ s′ y w. orderLed K req n T (inside (isAround (T .node x)) x around) s′ y w)
+    (λ s′ y w. order-not K req n T (inside (isAround (T .node x)) x around) s′ y w) s x weak (K .get (s .state) x)
 
 -- Two numbers do for what is being ordered: the innermost id, and the leader of that one. Inside x they are x and the leader of x.
 pub two-numbers : (req : ℕ) (around : List ℕ) (x z : ℕ) → ledBy req (x ∷ around) z ≡ elim (eqb x z) [ true ↦ ledBy req around x | false ↦ x ]

@@ -44,7 +44,7 @@ after-sound p modes s n (after-list c rs a text f same ids) = after-sound p mode
 
 -- ---- a closed session gives 11, whatever the ceiling
 module _ (s : List ℕ) (S : Session) (w : List ℕ) (off : S .«open» ≡ false) where
-  type-shut : (text : List ℕ) (l : Ceiling) (id : ℕ) → typeUnder l S s w text id ≡ unchanged S (Refused 11 (S .«text_len»)) w text
+  pub type-shut : (text : List ℕ) (l : Ceiling) (id : ℕ) → typeUnder l S s w text id ≡ unchanged S (Refused 11 (S .«text_len»)) w text
   unfolding typeCallWithin typeCall
   type-shut text none id = type-not-current S s w text id (closed-stays S s w text off)
   type-shut text (upTo k) id =
@@ -52,7 +52,7 @@ module _ (s : List ℕ) (S : Session) (w : List ℕ) (off : S .«open» ≡ fals
       let r : typeCallWithin k S s w text id 0 .call ≡ typeCall S s w text id = rw (e, typeCallWithin, typeCall) refl in
       r ∙ type-not-current S s w text id e
 
-  types-shut : (text : List ℕ) (l : Ceiling) → typesUnder l S s w text ≡ unchanged S (Refused 11 (S .«text_len»)) w text
+  pub types-shut : (text : List ℕ) (l : Ceiling) → typesUnder l S s w text ≡ unchanged S (Refused 11 (S .«text_len»)) w text
   unfolding typesCallWithin typesCall
   types-shut text none = types-not-current S s w text (closed-stays S s w text off)
   types-shut text (upTo k) =
@@ -60,7 +60,7 @@ module _ (s : List ℕ) (S : Session) (w : List ℕ) (off : S .«open» ≡ fals
       let r : typesCallWithin k S s w text .call ≡ typesCall S s w text = rw (e, typesCallWithin, typesCall) refl in
       r ∙ types-not-current S s w text e
 
-  list-shut : (text : List ℕ) (l : Ceiling) (ids : List ℕ) → listUnder l S s w text ids ≡ unchanged S (elevenOf ids) w text
+  pub list-shut : (text : List ℕ) (l : Ceiling) (ids : List ℕ) → listUnder l S s w text ids ≡ unchanged S (elevenOf ids) w text
   unfolding listCall listFrom listCallWithin listFromWithin callOf numberOf answerOf
   list-shut text none [] = refl
   list-shut text none (x ∷ ids) =

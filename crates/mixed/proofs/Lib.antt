@@ -1,0 +1,6 @@
+pub mod Plain
+pub mod Accepted
+pub mod Short
+pub mod Closed
+pub mod Lines
+pub mod Claims
