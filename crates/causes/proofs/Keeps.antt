@@ -10,6 +10,7 @@ use lib.Dec.{eqb}
 use Rattle.rules.specs.Order.{Node, ignored, plain, listed, through, ptr, tdef, proto, comp, Table, isComp, Mark, new, busy, done}
 use Rattle.rules.specs.Machine.{Out, wrote, stuck, Machine, isZero, obind, eeach, once, mention, again, close, leaf, within, begin, allowed, look}
 use Rattle.demand.specs.Needs.{kids}
+use Rattle.demand.specs.Bodies.{isLeaf}
 use Rattle.causes.specs.Causes.{Entry, Noted, noting, emitNoted}
 use Rattle.causes.specs.Claims.{first, next, isListed}
 use Rattle.causes.specs.Lines.{isTypedef, isContainer, Container, outer, inner, Inside}
@@ -27,16 +28,6 @@ comes-bind k halts f = halts
 pub comes-map : {M : Type 0} {Q Q′ : M → Type 0} {r : Out M} → ((s : M) → Q s → Q′ s) → Comes Q r → Comes Q′ r
 comes-map f (comes h) = comes (f _ h)
 comes-map f halts = halts
-
-abbrev pub isLeaf : Node → Bool
-isLeaf ignored = false
-isLeaf plain = false
-isLeaf (listed f) = true
-isLeaf (through a t) = false
-isLeaf (ptr t) = false
-isLeaf (tdef t) = false
-isLeaf (proto ts) = false
-isLeaf (comp ts) = false
 
 zero-no : (n : ℕ) → n ≢ 0 → isZero n ≡ false
 zero-no zero h = absurd (h refl)

@@ -27,7 +27,8 @@ use Rattle.causes.proofs.Ordering.{Holds, holds, none as nothing-held, 
 use Rattle.causes.proofs.Emission.{emit-lined, each-lined}
 use Rattle.causes.proofs.Requests.{single-fits}
 use Rattle.causes.proofs.Numbered.{machine-numbered}
-use Rattle.causes.proofs.Keeps.{Comes, comes, halts, comes-bind, comes-map, isLeaf, Kept, emit-top}
+use Rattle.causes.proofs.Keeps.{Comes, comes, halts, comes-bind, comes-map, Kept, emit-top}
+use Rattle.demand.specs.Bodies.{isLeaf}
 use Rattle.causes.proofs.Back.{Back, emit-back, list-turns}
 
 -- nothing is in progress in emission
