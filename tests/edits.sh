@@ -1,6 +1,6 @@
 #!/bin/bash
 # More edits that the prover must refuse, beside those of crates/*/must-fail that the gate tries: edits.sh [CRATE ..]
-# Each alters a contract that another edit alters too, or costs a long check. Needs the crates proved (rt check); works in a copy.
+# Each alters a contract that another edit alters too. Needs the crates proved (rt check); works in a copy.
 set -euo pipefail
 cd "$(dirname "$0")/.."
 copy=$(mktemp -d)
