@@ -14,6 +14,6 @@ fn main() {
     let n = io::read_full(STDIN_FILENO, &mut section);
     let mut work = io::large_buffer();
     let mut text = io::large_buffer();
-    let len = program::run(&section[..n], &mut work, &mut text);
+    let len = btfdump_run::program::run(&section[..n], &mut work, &mut text);
     write_first(&text, len);
 }

@@ -1,0 +1,3 @@
+// base_bytes
+pub mod put;
+pub mod word;

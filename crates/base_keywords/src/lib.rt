@@ -1,0 +1,3 @@
+// base_keywords
+pub mod signed_decimal;
+pub mod table;

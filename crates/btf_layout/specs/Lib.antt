@@ -1,0 +1,3 @@
+pub mod asked
+pub mod remembered
+pub mod size

@@ -1,0 +1,137 @@
+// get_align_of with the alignments that are remembered in the work.
+use crate::remembered::Once;
+use crate::remembered::Seen;
+use crate::remembered::Step;
+use crate::remembered::coded;
+use crate::remembered::remember;
+use btf_type_table::cell::get_field;
+use btf_type_table::kind::entries_of;
+use btf_type_table::kind::kind_of;
+use btf_type_table::kind::member_place;
+use btf_type_table::node::type_by_id;
+use btf_type_table::record::array_type;
+use btf_type_table::record::int_bits;
+use btf_type_table::record::word;
+use spec_c_dumper::rules::larger;
+use spec_c_dumper::rules::smaller;
+use spec_type_table::Btf;
+use spec_type_table::BtfType;
+use spec_type_table::Entries;
+ghost use mathlib.Core.Path.{_≡_};
+ghost use Prim.Native.Nat.{_<_};
+ghost use Rattle.spec_type_table.specs.Table.{btfOf};
+ghost use Rattle.spec_type_table.specs.Nodes.{memberIds};
+ghost use Rattle.spec_c_dumper.specs.alignment_once.Once.{alone};
+ghost use Rattle.btf_layout.specs.remembered.Words.{seenWord, takenBy, stepAt, onceOf, onceWith, idsWith, heightOf, keptWith};
+
+fn seen_word(b: Btf, work: &[u8], id: u32) -> u32
+    ensures { λ r. ⌜ r ≡ seenWord (b .types) (now (work .entry)) id ⌝ }
+{
+    if id < b.types {
+        return get_field(work, id, 15);
+    }
+    0
+}
+
+// A remembered alignment; 12 where the plain way would have more calls open than are left.
+fn taken(v: u32, left: u32) -> Once
+    ensures { λ r. ⌜ r ≡ takenBy v left ⌝ }
+{
+    if left < v / 16 {
+        return Once::No(12);
+    }
+    Once::Found(Seen {
+        align: v % 16,
+        height: v / 16,
+    })
+}
+
+fn step_of(b: Btf, section: &[u8], t: BtfType) -> Step
+    ensures { λ r. ⌜ r ≡ stepAt b (now (section .entry)) t ⌝ }
+{
+    match kind_of(t.info) {
+        1 => Step::Own(smaller(b.ptr_sz, (int_bits(b, section, t) + 7) / 8)),
+        2 => Step::Own(b.ptr_sz),
+        3 => Step::Through(array_type(b, section, t)),
+        4 | 5 => Step::Members(entries_of(t)),
+        6 | 16 | 19 => Step::Own(smaller(b.ptr_sz, t.type_id)),
+        8..=11 | 18 => Step::Through(t.type_id),
+        _ => Step::Own(0),
+    }
+}
+
+// What was found of a type is remembered; of a refused one nothing is.
+fn keep_once(b: Btf, work: &mut [u8], id: u32, r: Once, members: u32) -> Once
+    requires { ⌜ heightOf r < 4294967295 ⌝ }
+    ensures { λ q. ⌜ onceOf q (now (work .exit)) ≡ keptWith (b .types) id members r (now (work .entry)) ⌝ }
+{
+    match r {
+        Once::Found(s) => {
+            let up = Seen {
+                align: s.align,
+                height: s.height + 1,
+            };
+            remember(b, work, id, coded(up), members);
+            Once::Found(up)
+        }
+        Once::No(c) => Once::No(c),
+    }
+}
+
+// get_align_of with a memory.
+pub fn align_once(b: Btf, section: &[u8], work: &mut [u8], id: u32, left: u32) -> Once
+    ensures { λ r. ⌜ onceOf r (now (work .exit)) ≡ onceWith (b .types) (btfOf b (now (section .entry)) (now (work .entry))) left id (now (work .entry)) ⌝ }
+{
+    if left == 0 {
+        return Once::No(12);
+    }
+    let v = seen_word(b, work, id);
+    if v != 0 {
+        return taken(v, left);
+    }
+    let t = type_by_id(b, section, work, id);
+    match step_of(b, section, t) {
+        Step::Own(a) => {
+            let r = Once::Found(Seen {
+                align: a,
+                height: 0,
+            });
+            keep_once(b, work, id, r, 0)
+        }
+        Step::Through(x) => {
+            let r = align_once(b, section, work, x, left - 1);
+            keep_once(b, work, id, r, 0)
+        }
+        Step::Members(e) => {
+            let r = members_once(b, section, work, e, left - 1);
+            keep_once(b, work, id, r, e.vlen)
+        }
+    }
+}
+
+// The largest of the members' alignments, at least 1, and the largest of their heights.
+fn members_once(b: Btf, section: &[u8], work: &mut [u8], members: Entries, left: u32) -> Once
+    ensures { λ r. ⌜ onceOf r (now (work .exit)) ≡ idsWith (b .types) (btfOf b (now (section .entry)) (now (work .entry))) left (alone 1) (memberIds b (now (section .entry)) members) (now (work .entry)) ⌝ }
+{
+    let vlen = members.vlen;
+    let mut align: u32 = 1;
+    let mut height: u32 = 0;
+    let mut k: u32 = 0;
+    while k < vlen {
+        let x = word(b, section, member_place(members, k) + 4);
+        match align_once(b, section, work, x, left) {
+            Once::Found(s) => {
+                align = larger(align, s.align);
+                height = larger(height, s.height);
+            }
+            Once::No(c) => {
+                return Once::No(c);
+            }
+        }
+        k += 1;
+    }
+    Once::Found(Seen {
+        align: align,
+        height: height,
+    })
+}

@@ -1,0 +1,6 @@
+// btf_layout
+pub mod align_of;
+pub mod asked;
+pub mod member_end;
+pub mod remembered;
+pub mod size;

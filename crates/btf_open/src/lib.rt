@@ -1,0 +1,3 @@
+// btf_open
+pub mod causes;
+pub mod opening;

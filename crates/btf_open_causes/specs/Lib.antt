@@ -1,0 +1,5 @@
+pub mod header
+pub mod loops
+pub mod prototypes
+pub mod records
+pub mod references

@@ -1,0 +1,33 @@
+-- Cause 6: "a followed id not below the count, or of kind 12, 14, 15, 17".
+use Prim.Native.Nat.{ℕ, _≤_, _<_}
+use mathlib.Core.Path.{_≡_}
+use mathlib.Core.Bool.{Bool, true, false}
+use mathlib.Core.List.{List, [], _∷_}
+use mathlib.Core.Logic.{_⊎_}
+use lib.Dec.{ltb}
+use Rattle.spec_type_table.specs.declared.types.Btf.{Btf}
+use Rattle.btf_open_causes.specs.references.Any.{anyBelow}
+use Rattle.btf_open_causes.specs.references.Followed.{among, countOf, kindAt, followedCount, followedId}
+
+-- FUNC, VAR, DATASEC, DECL_TAG
+abbrev pub refused : List ℕ
+refused = 12 ∷ 14 ∷ 15 ∷ 17 ∷ []
+
+unfoldable pub isBad : Btf → List ℕ → ℕ → Bool
+isBad b start y = elim (ltb y (countOf b)) [ true ↦ among refused (kindAt b start y) | false ↦ true ]
+
+module _ (b : Btf) (s start : List ℕ) where
+  unfoldable pub isSomeBad : ℕ → Bool
+  isSomeBad x = anyBelow (followedCount b s start x) (λ k. isBad b start (followedId b s start x k))
+
+  -- the definition
+  unfoldable pub hasBadReference : Bool
+  hasBadReference = anyBelow (countOf b) isSomeBad
+
+  -- what it says: type x follows an id, its k-th, which is bad
+  pub record BadReference : Type 0 where
+    pub x : ℕ
+    pub k : ℕ
+    pub type : x < countOf b
+    pub followed : k < followedCount b s start x
+    pub bad : (countOf b ≤ followedId b s start x k) ⊎ (among refused (kindAt b start (followedId b s start x k)) ≡ true)

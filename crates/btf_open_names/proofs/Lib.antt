@@ -1,0 +1,2 @@
+pub mod filled_work
+pub mod name_classes

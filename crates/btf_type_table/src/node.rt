@@ -1,0 +1,55 @@
+// The type of an id, and what ordering and emission see of it.
+use crate::cell::get_field;
+use crate::kind::entries_of;
+use crate::kind::kind_of;
+use crate::record::array_type;
+use crate::record::load_type;
+use spec_type_table::Btf;
+use spec_type_table::BtfType;
+use spec_type_table::Node;
+ghost use mathlib.Core.Path.{_≡_};
+ghost use Rattle.spec_type_table.specs.Records.{voidRecord, recordById};
+ghost use Rattle.spec_type_table.specs.Table.{typeOf};
+ghost use Rattle.spec_c_dumper.specs.rules.Types.{nodeOf};
+ghost use Rattle.spec_type_table.specs.Nodes.{nodeIs};
+
+fn void() -> BtfType
+    ensures { λ r. ⌜ r ≡ voidRecord ⌝ }
+{
+    BtfType {
+        at: 0,
+        name_off: 0,
+        info: 0,
+        type_id: 0,
+    }
+}
+
+// The type of an id: void is 0, and so is what lies past the table.
+pub fn type_by_id(b: Btf, section: &[u8], work: &[u8], id: u32) -> BtfType
+    ensures { λ r. ⌜ r ≡ recordById b (now (section .entry)) (now (work .entry)) id ⌝ }
+{
+    if id == 0 {
+        return void();
+    }
+    if b.types <= id {
+        return void();
+    }
+    load_type(b, section, get_field(work, id, 0))
+}
+
+pub fn node_of(b: Btf, section: &[u8], t: BtfType) -> Node
+    ensures { λ r. ⌜ nodeIs b (now (section .entry)) r ≡ nodeOf (typeOf b (now (section .entry)) t) ⌝ }
+{
+    match kind_of(t.info) {
+        2 => Node::Ptr(t.type_id),
+        3 => Node::Through(true, array_type(b, section, t)),
+        4 | 5 => Node::Composite(entries_of(t)),
+        6 | 19 => Node::Listed(false),
+        7 => Node::Listed(true),
+        8 => Node::Typedef(t.type_id),
+        9 | 10 | 11 | 18 => Node::Through(false, t.type_id),
+        12 | 14 | 15 | 17 => Node::Ignored,
+        13 => Node::Proto(t.type_id, entries_of(t)),
+        _ => Node::Plain,
+    }
+}

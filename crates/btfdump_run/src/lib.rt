@@ -1,0 +1,3 @@
+// btfdump_run
+pub mod printed;
+pub mod program;

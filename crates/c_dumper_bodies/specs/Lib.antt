@@ -1,0 +1,3 @@
+pub mod bodies
+pub mod chain
+pub mod enumerators

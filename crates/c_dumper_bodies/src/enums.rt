@@ -1,0 +1,90 @@
+// Enums of 32 bits.
+use crate::enumerators::deeper;
+use crate::enumerators::emit_enum_end;
+use crate::enumerators::emit_enum_head;
+use crate::enumerators::emit_enumerator;
+use crate::enumerators::nth;
+use base_bytes::put::put_byte;
+use base_bytes::put::put_decimal;
+use base_bytes::put::put_two;
+use base_keywords::signed_decimal::as_i32;
+use base_keywords::signed_decimal::put_i32;
+use btf_type_table::cell::get_field;
+use btf_type_table::entry::load_enum_value;
+use btf_type_table::kind::entries_of;
+use btf_type_table::kind::kind_flag_of;
+use btf_type_table::kind::param_place;
+use btf_type_table::name::is_builtin;
+use btf_type_table::record::word;
+use spec_type_table::Btf;
+use spec_type_table::BtfType;
+ghost use mathlib.Core.Path.{_≡_};
+ghost use Rattle.spec_bytes.specs.text.Text.{whole, putOut, putText};
+ghost use Rattle.spec_c_dumper.specs.rules.Place.{outOf, putSaid};
+ghost use Rattle.spec_c_dumper.specs.rules.Decl.{enumValue, emitValues, emitEnumDef};
+ghost use Rattle.spec_type_table.specs.Names.{strAt};
+ghost use Rattle.spec_type_table.specs.Records.{flagOf};
+ghost use Rattle.spec_type_table.specs.Table.{btfOf, workNaming, valuesOf};
+
+// value_str of an ENUM.
+fn put_value(text: &mut [u8], at: usize, signed: bool, v: u32) -> usize
+    ensures { λ r. ⌜ putOut r (now (text .exit)) ≡ putText (now (text .entry)) at (whole (enumValue signed v)) ⌝ }
+{
+    if signed {
+        return put_i32(text, at, as_i32(v));
+    }
+    put_decimal(text, at, v as u64)
+}
+
+fn emit_values(
+    b: Btf,
+    section: &[u8],
+    work: &mut [u8],
+    text: &mut [u8],
+    at: usize,
+    id: u32,
+    t: BtfType,
+    lvl: u32,
+) -> usize
+    ensures { λ r. ⌜ outOf r (now (text .exit)) (now (work .exit)) ≡ putSaid (now (text .entry)) at (emitValues (workNaming b) (btfOf b (now (section .entry)) (now (work .entry))) (enumValue (flagOf (t .info))) id lvl 0 (valuesOf b (now (section .entry)) t) (now (work .entry))) ⌝ }
+{
+    let values = entries_of(t);
+    let vlen = values.vlen;
+    let first = get_field(work, id, 12);
+    let mut p = at;
+    let mut k: u32 = 0;
+    while k < vlen {
+        let name_off = word(b, section, param_place(values, k));
+        let a = emit_enumerator(b, section, work, text, p, nth(first, k), name_off, lvl);
+        let v = load_enum_value(b, section, values, k);
+        let c = put_value(text, a, kind_flag_of(t.info), v);
+        p = put_byte(text, c, b',');
+        k += 1;
+    }
+    p
+}
+
+pub fn emit_enum_def(
+    b: Btf,
+    section: &[u8],
+    work: &mut [u8],
+    text: &mut [u8],
+    at: usize,
+    id: u32,
+    t: BtfType,
+    lvl: u32,
+) -> usize
+    ensures { λ r. ⌜ outOf r (now (text .exit)) (now (work .exit)) ≡ putSaid (now (text .entry)) at (emitEnumDef (workNaming b) (btfOf b (now (section .entry)) (now (work .entry))) (enumValue (flagOf (t .info))) id (strAt b (now (section .entry)) (t .«name_off»)) (valuesOf b (now (section .entry)) t) lvl (now (work .entry))) ⌝ }
+{
+    if is_builtin(b, section, t.name_off) {
+        return at;
+    }
+    let a = emit_enum_head(b, section, work, text, at, id, t.name_off);
+    let values = entries_of(t);
+    if values.vlen == 0 {
+        return a;
+    }
+    let c = put_two(text, a, b' ', b'{');
+    let d = emit_values(b, section, work, text, c, id, t, deeper(lvl));
+    emit_enum_end(text, d, lvl)
+}

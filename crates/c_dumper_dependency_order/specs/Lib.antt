@@ -1,0 +1,3 @@
+pub mod begin
+pub mod order_state
+pub mod ways

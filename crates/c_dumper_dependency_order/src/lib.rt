@@ -1,0 +1,5 @@
+// c_dumper_dependency_order
+pub mod begin;
+pub mod order_state;
+pub mod order_type;
+pub mod ways;

@@ -1,0 +1,124 @@
+// One request: ordering, then the lines of the listed ids, from the list's first to its last.
+use crate::emit_type::emit_type;
+use base_bytes::put::stop;
+use btf_type_table::kind::kind_of;
+use btf_type_table::node::type_by_id;
+use c_dumper_dependency_order::order_state::Order;
+use c_dumper_dependency_order::order_state::get_listed;
+use c_dumper_dependency_order::order_state::get_order_state;
+use c_dumper_dependency_order::order_type::order_type;
+use spec_session::emission::clear_list;
+use spec_type_table::Btf;
+ghost use mathlib.Core.Path.{_≡_};
+ghost use Prim.Native.Nat.{_-_};
+ghost use Rattle.spec_c_dumper.specs.rules.Machine.{obind, eeach};
+ghost use Rattle.spec_c_dumper.specs.rules.Types.{tableOf};
+ghost use Rattle.spec_type_table.specs.Cells.{getField};
+ghost use Rattle.spec_type_table.specs.Table.{btfOf};
+ghost use Rattle.c_dumper_dependency_order.specs.order_state.Work.{markOf, tableIn};
+ghost use Rattle.spec_c_dumper.specs.ceiling.Ceiling.{countOf};
+ghost use Rattle.c_dumper_emit.specs.dump_type.Metered.{orderedIn, dumpedMetered, callsIn, dumpedWithin};
+ghost use Rattle.spec_session.specs.emission.Sheet.{sheetStore, emitOut, workMachine, emitIn, dumped, isIdle};
+
+// Emits the first n ids of the order list.
+fn emit_listed(b: Btf, section: &[u8], work: &mut [u8], text: &mut [u8], at: usize, n: u32) -> usize
+    ensures { λ r. ⌜ emitOut n r (now (text .exit)) (now (work .exit)) ≡ obind (emitOut n at (now (text .entry)) (now (work .entry))) (λ m. eeach (emitIn b (btfOf b (now (section .entry)) (now (work .entry))) 512 0) (sheetStore .list m) m) ⌝ }
+{
+    let mut p = at;
+    let mut k: u32 = 0;
+    while k < n {
+        let id = get_listed(work, k);
+        p = emit_type(b, section, work, text, p, id, 0, 512);
+        k += 1;
+    }
+    p
+}
+
+// A request for an id that is ordered, or is a function, a variable, a section or a tag, does nothing.
+pub fn is_idle(b: Btf, section: &[u8], work: &[u8], id: u32) -> bool
+    ensures { λ r. ⌜ r ≡ isIdle (markOf (getField (now (work .entry)) id 1)) (tableIn b (now (section .entry)) (now (work .entry)) .node id) ⌝ }
+{
+    let state = get_order_state(work, id);
+    if state == 2 {
+        return true;
+    }
+    if state == 1 {
+        return false;
+    }
+    let t = type_by_id(b, section, work, id);
+    match kind_of(t.info) {
+        12 | 14 | 15 | 17 => true,
+        _ => false,
+    }
+}
+
+// Where a request came to: the place after its text, or one past the end that says which refusal stopped it, and the calls
+// of ordering that are left.
+pub struct Dumped {
+    pub at: usize,
+    pub spare: u64,
+}
+
+// One request, with so many calls of ordering left. Each costs 1 under a ceiling, and 0 without one.
+fn dump_metered(
+    b: Btf,
+    section: &[u8],
+    work: &mut [u8],
+    text: &mut [u8],
+    at: usize,
+    id: u32,
+    spare: u64,
+    cost: u64,
+) -> Dumped
+    ensures { λ r. ⌜ (emitOut 0 (r .at) (now (text .exit)) (now (work .exit)) ≡ obind (emitOut 0 at (now (text .entry)) (now (work .entry))) (λ m. dumpedMetered b (btfOf b (now (section .entry)) (now (work .entry))) cost m id spare)) × (r .spare ≡ countOf (orderedIn (btfOf b (now (section .entry)) (now (work .entry))) cost (record { work = now (work .entry); len = 0 }) id spare)) ⌝ }
+{
+    let start = Order {
+        spare: spare,
+        len: 0,
+        stop: 0,
+        is_strong: false,
+    };
+    let o = order_type(b, section, work, start, id, false, 512, cost);
+    if o.stop != 0 {
+        return Dumped {
+            at: stop(text, at, o.stop),
+            spare: o.spare,
+        };
+    }
+    let r = emit_listed(b, section, work, text, at, o.len);
+    clear_list(work, o.len);
+    Dumped {
+        at: r,
+        spare: o.spare,
+    }
+}
+
+// One request: the place after its text, or one past the end that says which refusal stopped it.
+pub fn dump_type(
+    b: Btf,
+    section: &[u8],
+    work: &mut [u8],
+    text: &mut [u8],
+    at: usize,
+    id: u32,
+) -> usize
+    ensures { λ r. ⌜ emitOut 0 r (now (text .exit)) (now (work .exit)) ≡ obind (emitOut 0 at (now (text .entry)) (now (work .entry))) (λ m. dumped (workMachine b (btfOf b (now (section .entry)) (now (work .entry)))) (tableOf (btfOf b (now (section .entry)) (now (work .entry)))) m id) ⌝ }
+{
+    let d = dump_metered(b, section, work, text, at, id, 0, 0);
+    d.at
+}
+
+// The same under a ceiling: `spare` calls of ordering are left, and 22 comes when one more would be opened.
+pub fn dump_type_within(
+    b: Btf,
+    section: &[u8],
+    work: &mut [u8],
+    text: &mut [u8],
+    at: usize,
+    id: u32,
+    spare: u64,
+) -> Dumped
+    ensures { λ r. ⌜ (emitOut 0 (r .at) (now (text .exit)) (now (work .exit)) ≡ obind (emitOut 0 at (now (text .entry)) (now (work .entry))) (λ m. dumpedWithin b (btfOf b (now (section .entry)) (now (work .entry))) (callsIn b (now (section .entry)) (now (work .entry)) id) spare m id)) × (r .spare ≡ spare - callsIn b (now (section .entry)) (now (work .entry)) id) ⌝ }
+{
+    dump_metered(b, section, work, text, at, id, spare, 1)
+}

@@ -1,0 +1,4 @@
+// c_dumper_emit
+pub mod dump_type;
+pub mod emit_type;
+pub mod steps;

@@ -1,0 +1,4 @@
+// c_dumper_name_versions
+pub mod forwards;
+pub mod names;
+pub mod tags;

@@ -1,0 +1,5 @@
+pub mod extents
+pub mod padding
+pub mod pads
+pub mod placing
+pub mod units

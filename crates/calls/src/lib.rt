@@ -1,8 +1,0 @@
-// What each call of a session comes to: definitions in specs/, laws about them in proofs/. No code but this stands here.
-ghost use mathlib.Core.Path.{_≡_};
-
-pub fn same(x: u32) -> u32
-    ensures { λ r. ⌜ r ≡ x ⌝ }
-{
-    x
-}

@@ -1,9 +1,0 @@
-// What reading a declaration back comes to: the written text reads back, and the bound on open calls loses nothing. Definitions in specs/,
-// theorems in proofs/. No code but this stands here.
-ghost use mathlib.Core.Path.{_≡_};
-
-pub fn same(x: u32) -> u32
-    ensures { λ r. ⌜ r ≡ x ⌝ }
-{
-    x
-}

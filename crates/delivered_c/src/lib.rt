@@ -1,9 +1,0 @@
-// Demands 2 and 3 of the calls for C, in which the record crosses as bytes: statement in specs/, theorems in proofs/. No code but this
-// stands here.
-ghost use mathlib.Core.Path.{_≡_};
-
-pub fn same(x: u32) -> u32
-    ensures { λ r. ⌜ r ≡ x ⌝ }
-{
-    x
-}

@@ -1,0 +1,1 @@
+// Two headers over one ledger: definitions in specs/, theorems in proofs/. No code but this stands here.

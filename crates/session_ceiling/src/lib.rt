@@ -1,0 +1,3 @@
+// session_ceiling
+pub mod metered;
+pub mod within;

@@ -1,0 +1,4 @@
+pub mod items
+pub mod numbering
+pub mod stored
+pub mod written

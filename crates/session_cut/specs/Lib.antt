@@ -1,0 +1,5 @@
+pub mod call
+pub mod items
+pub mod numbering
+pub mod stored
+pub mod writer

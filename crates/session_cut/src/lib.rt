@@ -1,0 +1,3 @@
+// session_cut
+pub mod call;
+pub mod writer;

@@ -1,0 +1,280 @@
+// Writing the new section.
+use crate::writer::area::put_strings;
+use crate::writer::names::is_first;
+use crate::writer::names::longer;
+use crate::writer::names::place_of;
+use crate::writer::names::seek;
+use base_bytes::put::put_two;
+use btf_open_causes::references::count;
+use btf_open_causes::references::entry;
+use session_cut_marks::interned::fill_table;
+use session_cut_marks::mentioned::peek;
+use session_cut_marks::roles::role;
+use session_cut_marks::roles::word_of;
+use session_cut_marks::roles::words_in;
+use spec_type_table::Btf;
+ghost use mathlib.Core.Path.{_≡_};
+ghost use mathlib.Core.Bool.{true};
+ghost use Prim.Native.Nat.{_/_, _<_, _≤_};
+ghost use lib.ListN.{getD};
+ghost use Rattle.spec_bytes.specs.text.Text.{whole, putOut, putText};
+ghost use Rattle.btf_open_causes.specs.references.Followed.{countOf};
+ghost use Rattle.session_cut_marks.specs.roles.Words.{wordsIn, wordOf};
+ghost use Rattle.session_cut_marks.specs.mentioned.Names.{baseOf, placeOf};
+ghost use Rattle.session_cut_marks.specs.interned.Right.{allBases, Right, Kept};
+ghost use Rattle.session_cut.specs.writer.Bytes.{wordBytes, magicBytes, headBytes, typeSize, typesSize, newWord, recordBytes, typeBytes, typesBytes, allBytes, wroteOf, fittingWritten, keptWritten};
+
+// A word, the most significant byte first where `big`.
+fn put_word(out: &mut [u8], at: usize, big: bool, v: u32) -> usize
+    ensures { λ r. ⌜ putOut r (now (out .exit)) ≡ putText (now (out .entry)) at (whole (wordBytes big v)) ⌝ }
+{
+    let a = (v % 256) as u8;
+    let c = (v / 256 % 256) as u8;
+    let d = (v / 65536 % 256) as u8;
+    let f = (v / 16777216) as u8;
+    if big {
+        let p = put_two(out, at, f, d);
+        return put_two(out, p, c, a);
+    }
+    let p = put_two(out, at, a, c);
+    put_two(out, p, d, f)
+}
+
+fn put_magic(out: &mut [u8], at: usize, big: bool, flags: u8) -> usize
+    ensures { λ r. ⌜ putOut r (now (out .exit)) ≡ putText (now (out .entry)) at (whole (magicBytes big flags)) ⌝ }
+{
+    if big {
+        let p = put_two(out, at, 235, 159);
+        return put_two(out, p, 1, flags);
+    }
+    let p = put_two(out, at, 159, 235);
+    put_two(out, p, 1, flags)
+}
+
+// The header of 24 bytes: types follow, then strings.
+pub fn put_head(out: &mut [u8], big: bool, flags: u8, types: u32, strings: u32) -> usize
+    ensures { λ r. ⌜ putOut r (now (out .exit)) ≡ putText (now (out .entry)) 0 (whole (headBytes big flags types strings)) ⌝ }
+{
+    let p0 = put_magic(out, 0, big, flags);
+    let p1 = put_word(out, p0, big, 24);
+    let p2 = put_word(out, p1, big, 0);
+    let p3 = put_word(out, p2, big, types);
+    let p4 = put_word(out, p3, big, types);
+    put_word(out, p4, big, strings)
+}
+
+// The length of the types.
+pub fn types_size(b: Btf, section: &[u8], start: &[u32], ids: &[u32]) -> u64
+    ensures { λ r. ⌜ r ≡ typesSize b (now (section .entry)) (now (start .entry)) (now (ids .entry)) (countOf b) ⌝ }
+{
+    let n = count(b);
+    let mut len: u64 = 0;
+    let mut x: u32 = 0;
+    while x < n {
+        len = type_size(b, section, start, ids, x, len);
+        x += 1;
+    }
+    len
+}
+
+fn type_size(b: Btf, section: &[u8], start: &[u32], ids: &[u32], x: u32, len: u64) -> u64
+    requires { ⌜ len ≤ 4611686018427387904 ⌝ }
+    ensures { λ r. ⌜ r ≡ typeSize b (now (section .entry)) (now (start .entry)) (now (ids .entry)) x len ⌝ }
+{
+    if peek(ids, x as usize) == 0 {
+        return len;
+    }
+    len + (words_in(b, section, entry(b, start, x)) as u64) * 4
+}
+
+// Word j of the record with entry e, as it is written; v, new and len: of the name that it mentions, as `place_of` takes them.
+fn new_word(
+    b: Btf,
+    section: &[u8],
+    start: &[u32],
+    ids: &[u32],
+    bases: &[u32],
+    table: &[u64],
+    e: u32,
+    j: u32,
+    v: u64,
+    new: bool,
+    len: u32,
+) -> u32
+    requires { ⌜ Right b (now section) (now start) (now ids) (now table) × (now bases ≡ allBases b (now section) (now start) (now ids)) × ((v ≡ 0 → ⊥) → v / 4294967296 ≡ placeOf b (now section) (now start) (now ids) (now bases) (wordOf b (now section) e j)) × (new ≡ true → len ≡ placeOf b (now section) (now start) (now ids) (now bases) (wordOf b (now section) e j)) ⌝ }
+    ensures { λ r. ⌜ r ≡ newWord b (now (section .entry)) (now (start .entry)) (now (ids .entry)) (now (bases .entry)) e j ⌝ }
+{
+    let r = role(e % 32, j);
+    let w = word_of(b, section, e, j);
+    if r == 1 {
+        return place_of(b, section, start, ids, bases, table, w, v, new, len);
+    }
+    if r == 2 {
+        return peek(ids, w as usize);
+    }
+    w
+}
+
+// The record of type x; `base`: the length of the strings before it.
+fn put_record(
+    b: Btf,
+    section: &[u8],
+    start: &[u32],
+    ids: &[u32],
+    bases: &[u32],
+    table: &[u64],
+    x: u32,
+    e: u32,
+    base: u32,
+    out: &mut [u8],
+    at: usize,
+) -> usize
+    requires { ⌜ Right b (now section) (now start) (now ids) (now table) × (now bases ≡ allBases b (now section) (now start) (now ids)) × Kept b (now start) (now ids) x e × (base ≡ baseOf b (now section) (now start) (now ids) x) ⌝ }
+    ensures { λ r. ⌜ putOut r (now (out .exit)) ≡ putText (now (out .entry)) at (whole (recordBytes b (now (section .entry)) (now (start .entry)) (now (ids .entry)) (now (bases .entry)) e (wordsIn b (now (section .entry)) e))) ⌝ }
+{
+    let n = words_in(b, section, e);
+    let mut p = at;
+    let mut len = base;
+    let mut j: u32 = 0;
+    while j < n {
+        let v = seek(b, section, table, e, j);
+        let new = is_first(b, section, start, ids, x, e, j, v, len);
+        let w = new_word(b, section, start, ids, bases, table, e, j, v, new, len);
+        p = put_word(out, p, b.big_endian, w);
+        len = longer(b, section, e, j, new, len);
+        j += 1;
+    }
+    p
+}
+
+fn put_type(
+    b: Btf,
+    section: &[u8],
+    start: &[u32],
+    ids: &[u32],
+    bases: &[u32],
+    table: &[u64],
+    x: u32,
+    out: &mut [u8],
+    at: usize,
+) -> usize
+    requires { ⌜ Right b (now section) (now start) (now ids) (now table) × (now bases ≡ allBases b (now section) (now start) (now ids)) × (x < countOf b) ⌝ }
+    ensures { λ r. ⌜ putOut r (now (out .exit)) ≡ putText (now (out .entry)) at (whole (typeBytes b (now (section .entry)) (now (start .entry)) (now (ids .entry)) (now (bases .entry)) x)) ⌝ }
+{
+    if peek(ids, x as usize) == 0 {
+        return at;
+    }
+    let e = entry(b, start, x);
+    let base = peek(bases, x as usize);
+    put_record(b, section, start, ids, bases, table, x, e, base, out, at)
+}
+
+// The types that are kept.
+fn put_types(
+    b: Btf,
+    section: &[u8],
+    start: &[u32],
+    ids: &[u32],
+    bases: &[u32],
+    table: &[u64],
+    out: &mut [u8],
+    at: usize,
+) -> usize
+    requires { ⌜ Right b (now section) (now start) (now ids) (now table) × (now bases ≡ allBases b (now section) (now start) (now ids)) ⌝ }
+    ensures { λ r. ⌜ putOut r (now (out .exit)) ≡ putText (now (out .entry)) at (whole (typesBytes b (now (section .entry)) (now (start .entry)) (now (ids .entry)) (now (bases .entry)) (countOf b))) ⌝ }
+{
+    let n = count(b);
+    let mut p = at;
+    let mut x: u32 = 0;
+    while x < n {
+        p = put_type(b, section, start, ids, bases, table, x, out, p);
+        x += 1;
+    }
+    p
+}
+
+// Header, types and strings.
+fn put_all(
+    b: Btf,
+    section: &[u8],
+    start: &[u32],
+    ids: &[u32],
+    bases: &[u32],
+    table: &[u64],
+    types: u32,
+    strings: u32,
+    out: &mut [u8],
+) -> usize
+    requires { ⌜ Right b (now section) (now start) (now ids) (now table) × (now bases ≡ allBases b (now section) (now start) (now ids)) ⌝ }
+    ensures { λ r. ⌜ putOut r (now (out .exit)) ≡ putText (now (out .entry)) 0 (whole (allBytes b (now (section .entry)) (now (start .entry)) (now (ids .entry)) (now (bases .entry)) types strings)) ⌝ }
+{
+    let flags = byte_at(section, 3);
+    let p = put_head(out, b.big_endian, flags, types, strings);
+    let q = put_types(b, section, start, ids, bases, table, out, p);
+    put_strings(b, section, start, ids, bases, table, out, q)
+}
+
+fn byte_at(l: &[u8], i: usize) -> u8
+    ensures { λ r. ⌜ r ≡ getD (now (l .entry)) i 0 ⌝ }
+{
+    if i < l.len() {
+        return l[i];
+    }
+    0
+}
+
+// Measures first: 0 and nothing written, where the output slice is short or the section would pass 16,777,216 bytes; else
+// the length written. The rest of the slice stays.
+pub fn write_kept(b: Btf, section: &[u8], start: &[u32], ids: &[u32], out: &mut [u8]) -> u64
+    ensures { λ r. ⌜ wroteOf r (now (out .exit)) ≡ keptWritten b (now (section .entry)) (now (start .entry)) (now (ids .entry)) (now (out .entry)) ⌝ }
+{
+    if 16777216 < section.len() {
+        return 0;
+    }
+    let mut bases = [0u32; 262145];
+    let mut table = [0u64; 262144];
+    let strings = fill_table(b, section, start, ids, &mut table, &mut bases);
+    let types = types_size(b, section, start, ids);
+    if 16777216 < strings {
+        return 0;
+    }
+    if 16777216 < types {
+        return 0;
+    }
+    write_fitting(
+        b,
+        section,
+        start,
+        ids,
+        &bases,
+        &table,
+        types as u32,
+        strings,
+        out,
+    )
+}
+
+fn write_fitting(
+    b: Btf,
+    section: &[u8],
+    start: &[u32],
+    ids: &[u32],
+    bases: &[u32],
+    table: &[u64],
+    types: u32,
+    strings: u32,
+    out: &mut [u8],
+) -> u64
+    requires { ⌜ Right b (now section) (now start) (now ids) (now table) × (now bases ≡ allBases b (now section) (now start) (now ids)) × (types ≤ 16777216) × (strings ≤ 16777216) × (types ≡ typesSize b (now section) (now start) (now ids) (countOf b)) × (strings ≡ baseOf b (now section) (now start) (now ids) (countOf b)) ⌝ }
+    ensures { λ r. ⌜ wroteOf r (now (out .exit)) ≡ fittingWritten b (now (section .entry)) (now (start .entry)) (now (ids .entry)) (now (bases .entry)) types strings (now (out .entry)) ⌝ }
+{
+    let len = 24 + types + strings;
+    if 16777216 < len {
+        return 0;
+    }
+    if out.len() < (len as usize) {
+        return 0;
+    }
+    put_all(b, section, start, ids, bases, table, types, strings, out);
+    len as u64
+}

@@ -1,0 +1,5 @@
+pub mod interned
+pub mod marks
+pub mod mentioned
+pub mod roles
+pub mod tags

@@ -1,0 +1,6 @@
+// session_cut_marks
+pub mod interned;
+pub mod marks;
+pub mod mentioned;
+pub mod roles;
+pub mod tags;

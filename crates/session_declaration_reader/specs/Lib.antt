@@ -1,0 +1,4 @@
+pub mod bases
+pub mod grammar
+pub mod reader
+pub mod tokens

@@ -1,0 +1,5 @@
+// session_declaration_reader
+pub mod bases;
+pub mod grammar;
+pub mod reader;
+pub mod tokens;

@@ -1,0 +1,14 @@
+-- What the structs of the calls with a list say, with the slices at that moment. What the calls come to: causes/specs/Bytes.
+use Prim.Native.Nat.{ℕ}
+use mathlib.Core.List.{List}
+use Rattle.spec_session.specs.session.Turns.{callOf, reachOf}
+use Rattle.spec_line_origins.specs.origins.Bytes.{Reached as Came, CauseCall}
+use Rattle.session_origins_walk.specs.entries.Noted.{entriesOf}
+use Rattle.session_origins.specs.declared.requests.Told.{Told}
+use Rattle.session_origins.specs.declared.requests.Explained.{Explained}
+
+unfoldable pub cameOf : Told → List ℕ → List ℕ → List ℕ → Came
+cameOf r w t l = record { reach = reachOf (r .reached) w t; entries = entriesOf (r .count) l }
+
+unfoldable pub explainedOf : Explained → List ℕ → List ℕ → List ℕ → CauseCall
+explainedOf r w t l = record { call = callOf (r .turn .session) (r .turn .answer) w t; count = r .count; list = l }

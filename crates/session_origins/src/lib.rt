@@ -1,0 +1,3 @@
+// session_origins
+pub mod lists;
+pub mod requests;

@@ -1,0 +1,150 @@
+-- Laws of a request with its entries: the listed ids, and the emptied list. Assumes nothing.
+use Prim.Native.Nat.{ℕ, _+_, _-_, _<_, _≤_}
+use mathlib.Core.Path.{_≡_, refl, ap, _∙_, sym, subst}
+use mathlib.Core.List.{List, []}
+use mathlib.Core.Bool.{Bool, false}
+use native.Mathlib.Omega.{arith}
+use lib.ListN.{length}
+use Rattle.spec_bytes.specs.text.Text.{cut, bytes, stopped, putOut, written, putText}
+use Rattle.spec_bytes.proofs.text.TextLaws.{put-fits, stays}
+use Rattle.spec_c_dumper.specs.rules.Order.{Res, ok, refused, bind}
+use Rattle.spec_c_dumper.specs.rules.Machine.{Out, wrote, stuck, obind, eeach}
+use Rattle.spec_c_dumper.specs.rules.Types.{Btf as Rules}
+use Rattle.spec_type_table.specs.declared.types.Btf.{Btf}
+use Rattle.spec_type_table.specs.Cells.{getField}
+use Rattle.spec_type_table.specs.Table.{from, btfOf}
+use Rattle.c_dumper_dependency_order.specs.declared.order_state.Order.{Order}
+use Rattle.c_dumper_dependency_order.specs.order_state.Work.{workStore, tableIn}
+use Rattle.spec_session.specs.emission.Sheet.{Sheet, sheetStore, emptied, workMachine}
+use Rattle.spec_session.proofs.emission.Frame.{places}
+use Rattle.spec_session.proofs.emission.Laws.{sheet, by-out}
+use Rattle.spec_line_origins.specs.origins.Causes.{Entry, Noted}
+use Rattle.session_origins_walk.specs.leaders.Leads.{Kept, orderKept, keptOut, entryIn}
+use Rattle.session_origins_walk.proofs.leaders.Laws.{keptOf, table-kept}
+use Rattle.session_origins_walk.proofs.leaders.Laws as kept
+use Rattle.session_origins_walk.specs.declared.entries.Pen.{Pen}
+use Rattle.session_origins_walk.specs.entries.Noted.{notedOut, emitN}
+use Rattle.session_origins_walk.proofs.entries.Frame.{Stays, on, off, stays-then, places-emit}
+use Rattle.session_origins_walk.proofs.entries.Laws.{paper, goes, halts, obind-then, at-sheet, entry-stays}
+use Rattle.session_origins_walk.proofs.entries.Walk.{Rest, rest-start, rest-turn, rest-end}
+use Rattle.session_origins_walk.specs.request.Kept.{wayTo, Beside, withLeads, orderedKept, eachKept, listedKept, dumpedKept}
+
+-- ---- the listed ids: the walk, and that the list is as it was
+pub record Listing (b : Btf) (s : List ℕ) (room : ℕ) (why : ℕ → Entry) (w₀ : List ℕ) (n : ℕ) (p₀ : Pen) (tx₀ l₀ : List ℕ) (p : Pen) (tx w li : List ℕ) (k : ℕ) : Type 0 where
+  pub rest : Rest b s room why w₀ 512 0 (places w₀) n p₀ tx₀ l₀ n p tx w li k
+  pub list : Stays places w₀ (notedOut n p tx w li)
+
+module _ (b : Btf) (s : List ℕ) (room : ℕ) (why : ℕ → Entry) (w₀ : List ℕ) (n : ℕ) (p₀ : Pen) (tx₀ l₀ : List ℕ) where
+  pub listing-start : Listing b s room why w₀ n p₀ tx₀ l₀ p₀ tx₀ w₀ l₀ 0
+  listing-start = record { rest = rest-start b s room why w₀ 512 0 (places w₀) n p₀ tx₀ l₀ n; list = entry-stays b s places n p₀ tx₀ w₀ l₀ }
+
+  module _ (p : Pen) (tx w li : List ℕ) (k : ℕ) (inv : Listing b s room why w₀ n p₀ tx₀ l₀ p tx w li k) where
+    same-list : p .at ≤ length tx → places w ≡ places w₀
+    same-list h = go (notedOut n p tx w li) (inv .list) (goes n p tx w li h)
+      where
+        same-wrote : (m m′ : Noted Sheet) → wrote m ≡ wrote m′ → m ≡ m′
+        same-wrote m m′ e = cc
+
+        no : (c : ℕ) (m : Noted Sheet) → stuck c ≡ wrote m → ⊥
+        no c m e = let z : _≡_ {A = ℕ} 0 1 = cc in omega arith
+
+        go : (o : Out (Noted Sheet)) → Stays places w₀ o → o ≡ wrote (paper n p tx w li) → places w ≡ places w₀
+        go (wrote m) (on e) q = ap (λ (y : Noted Sheet). places (y .mach .work)) (sym (same-wrote m (paper n p tx w li) q)) ∙ e
+        go (stuck c) off q = absurd (no c (paper n p tx w li) q)
+
+    pub listing-turn : k < n → (y : ℕ) → y ≡ getField w k 11 → (room₁ : ℕ) → room₁ ≡ room → (q : Pen) (tx₁ w₁ l₁ : List ℕ) → notedOut n q tx₁ w₁ l₁ ≡ obind (notedOut n p tx w li) (λ m. emitN b (btfOf b s w) room₁ why 512 0 m y)
+        → Listing b s room why w₀ n p₀ tx₀ l₀ q tx₁ w₁ l₁ (k + 1)
+    unfolding emitN
+    listing-turn h y ey room₁ er q tx₁ w₁ l₁ e = record {
+      rest = rest-turn b s room why w₀ 512 0 (places w₀) n p₀ tx₀ l₀ n p tx w li k (inv .rest) y (λ i. ey ∙ ap (λ (f : ℕ → ℕ). f k) (same-list i)) room₁ er q tx₁ w₁ l₁ e h;
+      list = subst (Stays places w₀) (sym e) (stays-then places w₀ (notedOut n p tx w li) (λ m. emitN b (btfOf b s w) room₁ why 512 0 m y) (inv .list) (λ m. places-emit b (btfOf b s w) room₁ why 512 m y 0));
+    }
+
+    pub listing-end : n ≤ k → notedOut n p tx w li ≡ obind (notedOut n p₀ tx₀ w₀ l₀) (λ m. eeach (emitN b (btfOf b s w₀) room why 512 0) (sheetStore .list (m .mach)) m)
+    unfolding sheetStore workStore
+    listing-end h = rest-end b s room why w₀ 512 0 (places w₀) n p₀ tx₀ l₀ n p tx w li k (inv .rest) h
+        ∙ at-sheet n p₀ tx₀ w₀ l₀ (λ m. eeach (emitN b (btfOf b s w₀) room why 512 0) (from (places w₀) 0 n) m) (λ m. eeach (emitN b (btfOf b s w₀) room why 512 0) (sheetStore .list (m .mach)) m) (λ _. refl)
+
+-- ---- dump_noted
+abbrev begin : Order
+begin = record { spare = 0; len = 0; stop = 0; «is_strong» = false }
+
+module _ (b : Btf) (s : List ℕ) (room : ℕ) (p : Pen) (tx w li : List ℕ) (id turn : ℕ) (o : Order) (w₁ l₁ l₀ : List ℕ)
+    (e : keptOut o w₁ l₁ ≡ bind (keptOut begin w l₀) (λ m _. orderKept (wayTo id turn) 512 (tableIn b s w) m id false)) where
+  abbrev X : Rules
+  X = btfOf b s w
+
+  order-is : keptOut o w₁ l₁ ≡ orderedKept X (sheet 0 (p .at) tx w) l₀ id turn
+  unfolding orderedKept
+  order-is = e ∙ kept.run begin w l₀ (λ m _. orderKept (wayTo id turn) 512 (tableIn b s w) m id false) refl
+
+  abbrev dumps : Beside → Out Beside
+  dumps m = dumpedKept b X room m id turn
+
+  abbrev start : Beside
+  start = record { noted = paper 0 p tx w li; leads = l₀ }
+
+  dumped-is : dumps start ≡ listedKept b X room id turn (paper 0 p tx w li) (keptOut o w₁ l₁)
+  unfolding dumpedKept
+  dumped-is = ap (listedKept b X room id turn (paper 0 p tx w li)) (sym order-is)
+
+  run : (k : Beside → Out Beside) → p .at ≤ length tx → obind (withLeads l₀ (notedOut 0 p tx w li)) k ≡ k start
+  unfolding obind withLeads
+  run k h = ap (λ (q : Out (Noted Sheet)). obind (withLeads l₀ q) k) (goes 0 p tx w li h)
+
+  halt : (k : Beside → Out Beside) (c : ℕ) → putOut (p .at) tx ≡ stopped c → obind (withLeads l₀ (notedOut 0 p tx w li)) k ≡ stuck c
+  unfolding obind withLeads
+  halt k c q = ap (λ (u : Out (Noted Sheet)). obind (withLeads l₀ u) k) (halts 0 p tx w li c q)
+
+  stuck-with : (l : List ℕ) (c : ℕ) (u : Out (Noted Sheet)) → u ≡ stuck c → withLeads l u ≡ stuck c
+  unfolding withLeads
+  stuck-with l c u q = ap (withLeads l) q
+
+  pub dump-refused : (o .stop ≡ 0 → ⊥) → (r : Pen) → putOut (r .at) tx ≡ putText tx (p .at) (cut [] (o .stop)) → withLeads l₁ (notedOut 0 r tx w₁ li) ≡ obind (withLeads l₀ (notedOut 0 p tx w li)) dumps
+  unfolding written bytes listedKept
+  dump-refused n r er = by-out _ (p .at) tx
+      (λ h. stuck-with l₁ (o .stop) (notedOut 0 r tx w₁ li) (halts 0 r tx w₁ li (o .stop) (er ∙ put-fits tx (p .at) (cut [] (o .stop)) (omega arith))) ∙ sym (run dumps h ∙ dumped-is ∙ ap (listedKept b X room id turn (paper 0 p tx w li)) (kept.stops o w₁ l₁ n)))
+      (λ c q. stuck-with l₁ c (notedOut 0 r tx w₁ li) (halts 0 r tx w₁ li c (er ∙ stays tx (p .at) c (cut [] (o .stop)) q)) ∙ sym (halt dumps c q))
+
+  module _ (z : o .stop ≡ 0) where
+    -- ordering left the table
+    table-is : btfOf b s w₁ ≡ X
+    unfolding orderedKept
+    table-is = go (keptOut o w₁ l₁) (subst (kept.Stays (btfOf b s) w) (sym order-is) (table-kept b s (wayTo id turn) 512 (tableIn b s w) (keptOf begin w l₀) id false)) (kept.going o w₁ l₁ z)
+      where
+        same-ok : (m m′ : Kept) (f f′ : Bool) → ok m f ≡ ok m′ f′ → m ≡ m′
+        same-ok m m′ f f′ q = cc
+
+        no : (c : ℕ) (m : Kept) (f : Bool) → refused c ≡ ok m f → ⊥
+        no c m f q = let k : _≡_ {A = ℕ} 0 1 = cc in omega arith
+
+        go : (x : Res Kept) → kept.Stays (btfOf b s) w x → x ≡ ok (keptOf o w₁ l₁) (o .«is_strong») → btfOf b s w₁ ≡ X
+        go (ok m f) (kept.on q) u = ap (λ (y : Kept). btfOf b s (y .marks .work)) (sym (same-ok m (keptOf o w₁ l₁) f (o .«is_strong») u)) ∙ q
+        go (refused c) kept.off u = absurd (no c (keptOf o w₁ l₁) (o .«is_strong») u)
+
+    last : Noted Sheet → Out (Noted Sheet)
+    last m = wrote (record { mach = workMachine b X .start 0 (m .mach); entries = m .entries })
+
+    -- the list is empty again
+    cleared-sheet : (n : ℕ) (r : Pen) (t₂ w₂ l₂ w₃ : List ℕ) → w₃ ≡ emptied n w₂ → notedOut 0 r t₂ w₃ l₂ ≡ obind (notedOut n r t₂ w₂ l₂) last
+    unfolding obind workMachine last
+    cleared-sheet n r t₂ w₂ l₂ w₃ ew = by-out _ (r .at) t₂
+        (λ h. goes 0 r t₂ w₃ l₂ h ∙ ap (λ (u : List ℕ). wrote (paper 0 r t₂ u l₂)) ew ∙ sym (ap (λ (q : Out (Noted Sheet)). obind q last) (goes n r t₂ w₂ l₂ h)))
+        (λ c q. halts 0 r t₂ w₃ l₂ c q ∙ sym (ap (λ (u : Out (Noted Sheet)). obind u last) (halts n r t₂ w₂ l₂ c q)))
+
+    pub dump-listed : (r : Pen) (t₂ w₂ l₂ : List ℕ) → notedOut (o .len) r t₂ w₂ l₂ ≡ obind (notedOut (o .len) p tx w₁ li) (λ m. eeach (emitN b (btfOf b s w₁) room (entryIn id turn l₁) 512 0) (sheetStore .list (m .mach)) m)
+        → (w₃ : List ℕ) → w₃ ≡ emptied (o .len) w₂ → withLeads l₁ (notedOut 0 r t₂ w₃ l₂) ≡ obind (withLeads l₀ (notedOut 0 p tx w li)) dumps
+    unfolding obind listedKept eachKept last
+    dump-listed r t₂ w₂ l₂ e₂ w₃ e₃ =
+        ap (withLeads l₁) (cleared-sheet (o .len) r t₂ w₂ l₂ w₃ e₃
+        ∙ ap (λ (q : Out (Noted Sheet)). obind q last) (e₂ ∙ ap (λ (Q : Rules). obind (notedOut (o .len) p tx w₁ li) (λ m. eeach (emitN b Q room (entryIn id turn l₁) 512 0) (sheetStore .list (m .mach)) m)) table-is)
+        ∙ obind-then (notedOut (o .len) p tx w₁ li) each last)
+        ∙ by-out _ (p .at) tx
+        (λ h. ap (λ (q : Out (Noted Sheet)). withLeads l₁ (obind q all)) (goes (o .len) p tx w₁ li h) ∙ sym (run dumps h ∙ dumped-is ∙ ap (listedKept b X room id turn (paper 0 p tx w li)) (kept.going o w₁ l₁ z)))
+        (λ c q. stuck-with l₁ c (obind (notedOut (o .len) p tx w₁ li) all) (ap (λ (u : Out (Noted Sheet)). obind u all) (halts (o .len) p tx w₁ li c q)) ∙ sym (halt dumps c q))
+      where
+        each : Noted Sheet → Out (Noted Sheet)
+        each m = eeach (emitN b X room (entryIn id turn l₁) 512 0) (sheetStore .list (m .mach)) m
+
+        all : Noted Sheet → Out (Noted Sheet)
+        all m = obind (each m) last

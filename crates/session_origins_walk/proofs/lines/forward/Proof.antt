@@ -1,0 +1,42 @@
+use Rattle.session_origins_walk.proofs.entries.Laws as laws
+use borrow.Author.Needs.{needs}
+use Rattle.session_origins_walk.proofs.lines.forward.Statement.{statement}
+use Rattle.session_origins_walk.proofs.lines.forward.Tie as tie
+use Rattle.session_origins_walk.proofs.lines.forward.Reads as reads
+use Rattle.session_origins_walk.proofs.lines.forward.Lts as lts
+use Rattle.c_dumper_declarator.proofs.lines.emit_forward.Reads as emit-forward-reads
+use Rattle.session_origins_walk.proofs.entries.is_shown.Reads as is-shown-reads
+use Rattle.session_origins_walk.proofs.entries.note_if.Reads as note-if-reads
+
+is-shown-requires : tie.Need-is-shown-requires
+is-shown-requires c κs = search needs
+
+note-if-requires : tie.Need-note-if-requires
+note-if-requires c κs = search needs
+
+emit-forward-requires : tie.Need-emit-forward-requires
+emit-forward-requires c κs = search needs
+
+same-length : tie.Need-same-length
+same-length c = search needs
+
+same-length-2 : tie.Need-same-length-2
+same-length-2 c = search needs
+
+same-length-3 : tie.Need-same-length-3
+same-length-3 c = search needs
+
+returns : tie.Need-returns
+returns c = λ n. laws.line-shown n _ _ _ _ _ _ _ _ _ _ _ _ _ _ (c .before .before .before .before .before .before .before .before .before .before .before .before .is-shown .ensures) (c .before .before .before .before .before .before .before .before .before .note-if .ensures n _) (c .before .before .before .before .emit-forward .ensures)
+
+pub forward-spec : {M : Type 1} → statement M
+forward-spec =
+    tie.close
+    (tie.spec
+    is-shown-requires
+    note-if-requires
+    emit-forward-requires
+    same-length
+    same-length-2
+    same-length-3
+    returns)

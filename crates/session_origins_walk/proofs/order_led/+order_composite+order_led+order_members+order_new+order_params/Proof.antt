@@ -1,0 +1,685 @@
+use Rattle.c_dumper_dependency_order.proofs.order_state.Laws as marks
+use Rattle.session_origins_walk.proofs.leaders.Laws as laws
+use lib.ListN.{length}
+use mathlib.Core.Path.{_≡_, refl, _∙_}
+use mathlib.Core.Bool.{false}
+use Rattle.spec_type_table.specs.Records.{sectionWord, memberAt, paramAt}
+use borrow.Author.Needs.{needs}
+use native.Mathlib.Omega.{arith}
+use Prim.Native.Nat.{ℕ, zero-le, _<_, _≤_, _+_, _-_, _*_}
+use borrow.Fn.Kinds.{In}
+use borrow.Fn.PlainCycle.{Measures, is, falls, and}
+use Rattle.session_origins_walk.proofs.order_led.order_composite.Reads as order-composite
+use Rattle.session_origins_walk.proofs.order_led.order_composite.Kinds as order-composite-kinds
+use Rattle.session_origins_walk.proofs.order_led.+order_composite+order_led+order_members+order_new+order_params.Lts-order_composite as order-composite-lts
+use Rattle.session_origins_walk.proofs.order_led.order_led.Reads as order-led
+use Rattle.session_origins_walk.proofs.order_led.order_led.Kinds as order-led-kinds
+use Rattle.session_origins_walk.proofs.order_led.+order_composite+order_led+order_members+order_new+order_params.Lts-order_led as order-led-lts
+use Rattle.session_origins_walk.proofs.order_led.order_members.Reads as order-members
+use Rattle.session_origins_walk.proofs.order_led.order_members.Kinds as order-members-kinds
+use Rattle.session_origins_walk.proofs.order_led.+order_composite+order_led+order_members+order_new+order_params.Lts-order_members as order-members-lts
+use Rattle.session_origins_walk.proofs.order_led.order_new.Reads as order-new
+use Rattle.session_origins_walk.proofs.order_led.order_new.Kinds as order-new-kinds
+use Rattle.session_origins_walk.proofs.order_led.+order_composite+order_led+order_members+order_new+order_params.Lts-order_new as order-new-lts
+use Rattle.session_origins_walk.proofs.order_led.order_params.Reads as order-params
+use Rattle.session_origins_walk.proofs.order_led.order_params.Kinds as order-params-kinds
+use Rattle.session_origins_walk.proofs.order_led.+order_composite+order_led+order_members+order_new+order_params.Lts-order_params as order-params-lts
+use Rattle.btf_type_table.proofs.node.node_of.Reads as node-of-reads
+use Rattle.btf_type_table.proofs.kind.member_place.Reads as member-place-reads
+use Rattle.btf_type_table.proofs.kind.param_place.Reads as param-place-reads
+use Rattle.btf_type_table.proofs.node.type_by_id.Reads as type-by-id-reads
+use Rattle.btf_type_table.proofs.record.word.Reads as word-reads
+use Rattle.c_dumper_dependency_order.proofs.begin.meet.Reads as meet-reads
+use Rattle.session_origins_walk.proofs.leaders.finish_led.Reads as finish-led-reads
+use Rattle.session_origins_walk.proofs.leaders.finish_typedef_led.Reads as finish-typedef-led-reads
+use Rattle.session_origins_walk.proofs.leaders.inside.Reads as inside-reads
+use Rattle.c_dumper_dependency_order.proofs.order_state.get_order_state.Reads as get-order-state-reads
+use Rattle.c_dumper_dependency_order.proofs.order_state.refused.Reads as refused-reads
+use Rattle.c_dumper_dependency_order.proofs.order_state.set_order_state.Reads as set-order-state-reads
+use Rattle.c_dumper_dependency_order.proofs.order_state.strong.Reads as strong-reads
+use Rattle.btf_type_table.proofs.name.is_named.Reads as is-named-reads
+use Rattle.session_origins_walk.proofs.order_led.+order_composite+order_led+order_members+order_new+order_params.{
+  statement,
+}
+use Rattle.session_origins_walk.proofs.order_led.+order_composite+order_led+order_members+order_new+order_params.Tie.{
+  close,
+}
+
+abbrev μ-order-composite : Measures 3 order-composite-kinds.ps ℕ
+μ-order-composite κs a = 4 * (a .1 .1 .1 .1 .1 .1 .1 .1 .1 .0) + 2
+
+abbrev μ-order-led : Measures 3 order-led-kinds.ps ℕ
+μ-order-led κs a = 4 * (a .1 .1 .1 .1 .1 .1 .1 .0)
+
+abbrev μ-order-members : Measures 3 order-members-kinds.ps ℕ
+μ-order-members κs a = 4 * (a .1 .1 .1 .1 .1 .1 .0) + 1
+
+abbrev μ-order-new : Measures 3 order-new-kinds.ps ℕ
+μ-order-new κs a = 4 * (a .1 .1 .1 .1 .1 .1 .1 .0) + 3
+
+abbrev μ-order-params : Measures 3 order-params-kinds.ps ℕ
+μ-order-params κs a = 4 * (a .1 .1 .1 .1 .1 .1 .1 .0) + 1
+
+abbrev order-composite-at : ℕ → In 3 order-composite-kinds.ps
+order-composite-at t =
+    and
+    3
+    order-composite-kinds.ps
+    (is 3 order-composite-kinds.ps μ-order-composite t)
+    order-composite.Pre
+
+abbrev order-composite-below : ℕ → In 3 order-composite-kinds.ps
+order-composite-below t =
+    and
+    3
+    order-composite-kinds.ps
+    (falls 3 order-composite-kinds.ps _<_ μ-order-composite t)
+    order-composite.Pre
+
+abbrev order-led-at : ℕ → In 3 order-led-kinds.ps
+order-led-at t = and 3 order-led-kinds.ps (is 3 order-led-kinds.ps μ-order-led t) order-led.Pre
+
+abbrev order-led-below : ℕ → In 3 order-led-kinds.ps
+order-led-below t =
+    and 3 order-led-kinds.ps (falls 3 order-led-kinds.ps _<_ μ-order-led t) order-led.Pre
+
+abbrev order-members-at : ℕ → In 3 order-members-kinds.ps
+order-members-at t =
+    and 3 order-members-kinds.ps (is 3 order-members-kinds.ps μ-order-members t) order-members.Pre
+
+abbrev order-members-below : ℕ → In 3 order-members-kinds.ps
+order-members-below t =
+    and
+    3
+    order-members-kinds.ps
+    (falls 3 order-members-kinds.ps _<_ μ-order-members t)
+    order-members.Pre
+
+abbrev order-new-at : ℕ → In 3 order-new-kinds.ps
+order-new-at t = and 3 order-new-kinds.ps (is 3 order-new-kinds.ps μ-order-new t) order-new.Pre
+
+abbrev order-new-below : ℕ → In 3 order-new-kinds.ps
+order-new-below t =
+    and 3 order-new-kinds.ps (falls 3 order-new-kinds.ps _<_ μ-order-new t) order-new.Pre
+
+abbrev order-params-at : ℕ → In 3 order-params-kinds.ps
+order-params-at t =
+    and 3 order-params-kinds.ps (is 3 order-params-kinds.ps μ-order-params t) order-params.Pre
+
+abbrev order-params-below : ℕ → In 3 order-params-kinds.ps
+order-params-below t =
+    and
+    3
+    order-params-kinds.ps
+    (falls 3 order-params-kinds.ps _<_ μ-order-params t)
+    order-params.Pre
+
+abbrev order-composite-claims : ℕ → order-composite-lts.Claims
+order-composite-claims t = (
+  strong-reads.Asked,
+  strong-reads.Learnt,
+  set-order-state-reads.Asked,
+  set-order-state-reads.Learnt,
+  inside-reads.Asked,
+  inside-reads.Learnt,
+  order-members-below t,
+  order-members.Post,
+  finish-led-reads.Asked,
+  finish-led-reads.Learnt,
+)
+
+abbrev order-led-claims : ℕ → order-led-lts.Claims
+order-led-claims t = (
+  refused-reads.Asked,
+  refused-reads.Learnt,
+  get-order-state-reads.Asked,
+  get-order-state-reads.Learnt,
+  strong-reads.Asked,
+  strong-reads.Learnt,
+  meet-reads.Asked,
+  meet-reads.Learnt,
+  order-new-below t,
+  order-new.Post,
+)
+
+abbrev order-members-claims : ℕ → order-members-lts.Claims
+order-members-claims t = (
+  member-place-reads.Asked,
+  member-place-reads.Learnt,
+  word-reads.Asked,
+  word-reads.Learnt,
+  order-led-below t,
+  order-led.Post,
+  strong-reads.Asked,
+  strong-reads.Learnt,
+)
+
+abbrev order-new-claims : ℕ → order-new-lts.Claims
+order-new-claims t = (
+  type-by-id-reads.Asked,
+  type-by-id-reads.Learnt,
+  node-of-reads.Asked,
+  node-of-reads.Learnt,
+  strong-reads.Asked,
+  strong-reads.Learnt,
+  finish-led-reads.Asked,
+  finish-led-reads.Learnt,
+  is-named-reads.Asked,
+  is-named-reads.Learnt,
+  order-led-below t,
+  order-led.Post,
+  inside-reads.Asked,
+  inside-reads.Learnt,
+  finish-typedef-led-reads.Asked,
+  finish-typedef-led-reads.Learnt,
+  order-params-below t,
+  order-params.Post,
+  order-composite-below t,
+  order-composite.Post,
+)
+
+abbrev order-params-claims : ℕ → order-params-lts.Claims
+order-params-claims t = (
+  param-place-reads.Asked,
+  param-place-reads.Learnt,
+  word-reads.Asked,
+  word-reads.Learnt,
+  order-led-below t,
+  order-led.Post,
+  strong-reads.Asked,
+  strong-reads.Learnt,
+)
+
+order-composite-strong-requires : (t : ℕ) → order-composite-lts.Need-strong-requires (order-composite-claims t) (order-composite-at t) order-composite.Post
+order-composite-strong-requires t c κs = tt
+
+order-composite-returns : (t : ℕ) → order-composite-lts.Need-returns (order-composite-claims t) (order-composite-at t) order-composite.Post
+order-composite-returns t c = laws.composite-passed _ _ _ _ _ _ _ _ _ _ _ _ (c .before .if1 .taken) (c .strong .ensures)
+
+order-composite-set-order-state-requires :
+    (t : ℕ) → order-composite-lts.Need-set-order-state-requires (
+      strong-reads.Asked,
+      strong-reads.Learnt,
+      set-order-state-reads.Asked,
+      set-order-state-reads.Learnt,
+      inside-reads.Asked,
+      inside-reads.Learnt,
+      order-members-below t,
+      order-members.Post,
+      finish-led-reads.Asked,
+      finish-led-reads.Learnt,
+    ) (order-composite-at t) order-composite.Post
+order-composite-set-order-state-requires t c κs = tt
+
+order-composite-inside-requires : (t : ℕ) → order-composite-lts.Need-inside-requires (order-composite-claims t) (order-composite-at t) order-composite.Post
+order-composite-inside-requires t c κs = tt
+
+order-composite-order-members-requires : (t : ℕ) → order-composite-lts.Need-order-members-requires (order-composite-claims t) (order-composite-at t) order-composite.Post
+order-composite-order-members-requires t c κs = (omega arith, tt)
+
+order-composite-finish-led-requires : (t : ℕ) → order-composite-lts.Need-finish-led-requires (order-composite-claims t) (order-composite-at t) order-composite.Post
+order-composite-finish-led-requires t c κs = tt
+
+order-composite-same-length : (t : ℕ) → order-composite-lts.Need-same-length (order-composite-claims t) (order-composite-at t) order-composite.Post
+order-composite-same-length t c = c .before .before .before .before .finish-led .kept .0 ∙ c .before .before .before .before .before .before .before .before .before .before .before .order-members .kept .1 .1 .0 ∙ c .before .before .before .before .before .before .before .before .before .before .before .before .before .before .before .before .before .set-order-state .kept .0
+
+order-composite-same-length-2 : (t : ℕ) → order-composite-lts.Need-same-length-2 (order-composite-claims t) (order-composite-at t) order-composite.Post
+order-composite-same-length-2 t c = c .before .before .before .before .finish-led .kept .1 .0 ∙ c .before .before .before .before .before .before .before .before .before .before .before .order-members .kept .1 .1 .1 .0
+
+order-composite-returns-2 : (t : ℕ) → order-composite-lts.Need-returns-2 (order-composite-claims t) (order-composite-at t) order-composite.Post
+order-composite-returns-2 t c = laws.composite-entered _ _ _ _ _ _ _ _ _ _ _ _ _ _ _ _ _ (c .before .before .before .before .before .before .before .before .before .before .before .before .before .before .before .before .before .before .before .if1 .left) (c .before .before .before .before .before .before .before .before .before .before .before .before .before .before .before .before .before .set-order-state .ensures) (c .before .before .before .before .before .before .before .before .before .before .before .before .inside .ensures) (c .before .before .before .before .before .before .before .before .before .before .before .order-members .ensures) (c .before .before .before .before .finish-led .ensures)
+
+order-led-returns : (t : ℕ) → order-led-lts.Need-returns (order-led-claims t) (order-led-at t) order-led.Post
+order-led-returns t c = laws.stopped _ _ _ _ (c .if1 .taken)
+
+order-led-refused-requires : (t : ℕ) → order-led-lts.Need-refused-requires (order-led-claims t) (order-led-at t) order-led.Post
+order-led-refused-requires t c κs = tt
+
+order-led-returns-2 : (t : ℕ) → order-led-lts.Need-returns-2 (order-led-claims t) (order-led-at t) order-led.Post
+order-led-returns-2 t c = laws.too-deep _ _ _ _ (c .before .before .if1 .left) _ _ _ _ _ (c .before .if2 .taken) (c .refused .ensures)
+
+order-led-get-order-state-requires : (t : ℕ) → order-led-lts.Need-get-order-state-requires (order-led-claims t) (order-led-at t) order-led.Post
+order-led-get-order-state-requires t c κs = tt
+
+order-led-strong-requires : (t : ℕ) → order-led-lts.Need-strong-requires (order-led-claims t) (order-led-at t) order-led.Post
+order-led-strong-requires t c κs = tt
+
+order-led-same-length : (t : ℕ) → order-led-lts.Need-same-length (order-led-claims t) (order-led-at t) order-led.Post
+order-led-same-length t c = search needs
+
+order-led-returns-3 : (t : ℕ) → order-led-lts.Need-returns-3 (order-led-claims t) (order-led-at t) order-led.Post
+order-led-returns-3 t c = laws.order-done _ _ _ _ (c .before .before .before .before .before .if1 .left) _ _ _ _ (c .before .before .before .before .if2 .left) _ (c .before .before .get-order-state .ensures) _ (c .before .if3 .taken) (c .strong .ensures)
+
+order-led-meet-requires : (t : ℕ) → order-led-lts.Need-meet-requires (order-led-claims t) (order-led-at t) order-led.Post
+order-led-meet-requires t c κs = tt
+
+order-led-same-length-2 : (t : ℕ) → order-led-lts.Need-same-length-2 (order-led-claims t) (order-led-at t) order-led.Post
+order-led-same-length-2 t c = search needs
+
+order-led-returns-4 : (t : ℕ) → order-led-lts.Need-returns-4 (order-led-claims t) (order-led-at t) order-led.Post
+order-led-returns-4 t c = laws.order-busy _ _ _ _ (c .before .before .before .before .before .before .before .if1 .left) _ _ _ _ (c .before .before .before .before .before .before .if2 .left) _ (c .before .before .before .before .get-order-state .ensures) _ (c .before .before .if4 .taken) (c .meet .ensures)
+
+order-led-sub-order-new : (t : ℕ) → order-led-lts.Need-sub-order-new (order-led-claims t) (order-led-at t) order-led.Post
+order-led-sub-order-new t c = omega arith
+
+order-led-order-new-requires : (t : ℕ) → order-led-lts.Need-order-new-requires (order-led-claims t) (order-led-at t) order-led.Post
+order-led-order-new-requires t c κs = (omega arith, tt)
+
+order-led-same-length-3 : (t : ℕ) → order-led-lts.Need-same-length-3 (order-led-claims t) (order-led-at t) order-led.Post
+order-led-same-length-3 t c = c .before .before .before .before .order-new .kept .1 .1 .0
+
+order-led-same-length-4 : (t : ℕ) → order-led-lts.Need-same-length-4 (order-led-claims t) (order-led-at t) order-led.Post
+order-led-same-length-4 t c = c .before .before .before .before .order-new .kept .1 .1 .1 .0
+
+order-led-returns-5 : (t : ℕ) → order-led-lts.Need-returns-5 (order-led-claims t) (order-led-at t) order-led.Post
+order-led-returns-5 t c = laws.order-fresh _ _ _ _ (c .before .before .before .before .before .before .before .before .before .before .before .before .if1 .left) _ _ _ _ (c .before .before .before .before .before .before .before .before .before .before .before .if2 .left) _ (c .before .before .before .before .before .before .before .before .before .get-order-state .ensures) _ (c .before .before .before .before .before .before .before .before .if3 .left) (c .before .before .before .before .before .before .before .if4 .left) (c .before .before .before .before .order-new .ensures)
+
+abbrev order-members-Inv-loop : order-members-lts.InvT-loop
+order-members-Inv-loop b section work₀ leads₀ members left v vlen r₀ k₀ work leads r k = (k ≤ vlen) × (length work ≡ length work₀) × (length leads ≡ length leads₀) × (vlen < 4294967296) × (vlen ≡ members .vlen) × laws.Rest b section work₀ leads₀ left false v (λ i. sectionWord b section (memberAt (members .at) i + 4)) r₀ (members .vlen) r work leads k
+
+abbrev order-members-μ-loop : order-members-lts.MeasureT-loop
+order-members-μ-loop b section work₀ leads₀ members left v vlen r₀ k₀ work leads r k = vlen - k
+
+order-members-loop-holds : (t : ℕ) → order-members-lts.Need-loop-holds (order-members-claims t) (order-members-at t) order-members.Post order-members-Inv-loop order-members-μ-loop
+order-members-loop-holds t c = (zero-le, refl, refl, omega arith, refl, laws.rest-start _ _ _ _ _ _ _ _ _ _)
+
+order-members-member-place-requires : (t : ℕ) → order-members-lts.Need-member-place-requires (order-members-claims t) (order-members-at t) order-members.Post order-members-Inv-loop order-members-μ-loop
+order-members-member-place-requires t c κs = tt
+
+order-members-add-word : (t : ℕ) → order-members-lts.Need-add-word (order-members-claims t) (order-members-at t) order-members.Post order-members-Inv-loop order-members-μ-loop
+order-members-add-word t c = omega arith
+
+order-members-word-requires : (t : ℕ) → order-members-lts.Need-word-requires (order-members-claims t) (order-members-at t) order-members.Post order-members-Inv-loop order-members-μ-loop
+order-members-word-requires t c κs = tt
+
+order-members-order-led-requires : (t : ℕ) → order-members-lts.Need-order-led-requires (order-members-claims t) (order-members-at t) order-members.Post order-members-Inv-loop order-members-μ-loop
+order-members-order-led-requires t c κs = (omega arith, tt)
+
+order-members-strong-requires : (t : ℕ) → order-members-lts.Need-strong-requires (order-members-claims t) (order-members-at t) order-members.Post order-members-Inv-loop order-members-μ-loop
+order-members-strong-requires t c κs = tt
+
+order-members-add-k : (t : ℕ) → order-members-lts.Need-add-k (order-members-claims t) (order-members-at t) order-members.Post order-members-Inv-loop order-members-μ-loop
+order-members-add-k t c = omega arith
+
+order-members-loop-less : (t : ℕ) → order-members-lts.Need-loop-less (order-members-claims t) (order-members-at t) order-members.Post order-members-Inv-loop order-members-μ-loop
+order-members-loop-less t c = omega arith
+
+order-members-loop-again : (t : ℕ) → order-members-lts.Need-loop-again (order-members-claims t) (order-members-at t) order-members.Post order-members-Inv-loop order-members-μ-loop
+order-members-loop-again t c = (omega arith, c .before .before .before .before .before .before .order-led .kept .1 .1 .0 ∙ c .before .before .before .before .before .before .before .before .before .before .before .before .loop .inv .1, c .before .before .before .before .before .before .order-led .kept .1 .1 .1 .0 ∙ c .before .before .before .before .before .before .before .before .before .before .before .before .loop .inv .2, c .before .before .before .before .before .before .before .before .before .before .before .before .loop .inv .3, c .before .before .before .before .before .before .before .before .before .before .before .before .loop .inv .4, laws.rest-turn _ _ _ _ _ _ _ _ _ _ _ _ _ _ (c .before .before .before .before .before .before .before .before .before .before .before .before .loop .inv .5) (omega arith) _ (marks.entry-word _ _ _ _ _ (c .before .before .before .before .before .before .before .before .before .word .ensures) (c .before .before .before .before .before .before .before .before .before .before .member-place .ensures)) _ _ _ (c .before .before .before .before .before .before .order-led .ensures) _ (c .strong .ensures))
+
+order-members-same-length : (t : ℕ) → order-members-lts.Need-same-length (order-members-claims t) (order-members-at t) order-members.Post order-members-Inv-loop order-members-μ-loop
+order-members-same-length t c = search needs
+
+order-members-same-length-2 : (t : ℕ) → order-members-lts.Need-same-length-2 (order-members-claims t) (order-members-at t) order-members.Post order-members-Inv-loop order-members-μ-loop
+order-members-same-length-2 t c = search needs
+
+order-members-returns : (t : ℕ) → order-members-lts.Need-returns (order-members-claims t) (order-members-at t) order-members.Post order-members-Inv-loop order-members-μ-loop
+order-members-returns t c = laws.members-end _ _ _ _ _ _ _ _ _ _ _ _ _ (c .before .loop .inv .5) (omega arith)
+
+order-new-type-by-id-requires : (t : ℕ) → order-new-lts.Need-type-by-id-requires (order-new-claims t) (order-new-at t) order-new.Post
+order-new-type-by-id-requires t c κs = tt
+
+order-new-node-of-requires : (t : ℕ) → order-new-lts.Need-node-of-requires (order-new-claims t) (order-new-at t) order-new.Post
+order-new-node-of-requires t c κs = tt
+
+order-new-enum-told : (t : ℕ) → order-new-lts.Need-enum-told (order-new-claims t) (order-new-at t) order-new.Post
+order-new-enum-told t c = search needs
+
+order-new-strong-requires : (t : ℕ) → order-new-lts.Need-strong-requires (order-new-claims t) (order-new-at t) order-new.Post
+order-new-strong-requires t c κs = tt
+
+order-new-enum-told-2 : (t : ℕ) → order-new-lts.Need-enum-told-2 (order-new-claims t) (order-new-at t) order-new.Post
+order-new-enum-told-2 t c = search needs
+
+order-new-finish-led-requires : (t : ℕ) → order-new-lts.Need-finish-led-requires (order-new-claims t) (order-new-at t) order-new.Post
+order-new-finish-led-requires t c κs = tt
+
+order-new-enum-told-3 : (t : ℕ) → order-new-lts.Need-enum-told-3 (order-new-claims t) (order-new-at t) order-new.Post
+order-new-enum-told-3 t c = search needs
+
+order-new-is-named-requires : (t : ℕ) → order-new-lts.Need-is-named-requires (order-new-claims t) (order-new-at t) order-new.Post
+order-new-is-named-requires t c κs = tt
+
+order-new-finish-led-requires-2 : (t : ℕ) → order-new-lts.Need-finish-led-requires-2 (order-new-claims t) (order-new-at t) order-new.Post
+order-new-finish-led-requires-2 t c κs = tt
+
+order-new-enum-known-is-array : (t : ℕ) → order-new-lts.Need-enum-known-is-array (order-new-claims t) (order-new-at t) order-new.Post
+order-new-enum-known-is-array t c = search needs
+
+order-new-order-led-requires : (t : ℕ) → order-new-lts.Need-order-led-requires (order-new-claims t) (order-new-at t) order-new.Post
+order-new-order-led-requires t c κs = (omega arith, tt)
+
+order-new-enum-known-t : (t : ℕ) → order-new-lts.Need-enum-known-t (order-new-claims t) (order-new-at t) order-new.Post
+order-new-enum-known-t t c = search needs
+
+order-new-order-led-requires-2 : (t : ℕ) → order-new-lts.Need-order-led-requires-2 (order-new-claims t) (order-new-at t) order-new.Post
+order-new-order-led-requires-2 t c κs = (omega arith, tt)
+
+order-new-finish-led-requires-3 : (t : ℕ) → order-new-lts.Need-finish-led-requires-3 (order-new-claims t) (order-new-at t) order-new.Post
+order-new-finish-led-requires-3 t c κs = tt
+
+order-new-enum-known-t-2 : (t : ℕ) → order-new-lts.Need-enum-known-t-2 (order-new-claims t) (order-new-at t) order-new.Post
+order-new-enum-known-t-2 t c = search needs
+
+order-new-inside-requires : (t : ℕ) → order-new-lts.Need-inside-requires (order-new-claims t) (order-new-at t) order-new.Post
+order-new-inside-requires t c κs = tt
+
+order-new-order-led-requires-3 : (t : ℕ) → order-new-lts.Need-order-led-requires-3 (order-new-claims t) (order-new-at t) order-new.Post
+order-new-order-led-requires-3 t c κs = (omega arith, tt)
+
+order-new-finish-typedef-led-requires : (t : ℕ) → order-new-lts.Need-finish-typedef-led-requires (order-new-claims t) (order-new-at t) order-new.Post
+order-new-finish-typedef-led-requires t c κs = tt
+
+order-new-enum-known-res : (t : ℕ) → order-new-lts.Need-enum-known-res (order-new-claims t) (order-new-at t) order-new.Post
+order-new-enum-known-res t c = search needs
+
+order-new-order-led-requires-4 : (t : ℕ) → order-new-lts.Need-order-led-requires-4 (order-new-claims t) (order-new-at t) order-new.Post
+order-new-order-led-requires-4 t c κs = (omega arith, tt)
+
+order-new-order-params-requires : (t : ℕ) → order-new-lts.Need-order-params-requires (order-new-claims t) (order-new-at t) order-new.Post
+order-new-order-params-requires t c κs = (omega arith, tt)
+
+order-new-enum-known-members : (t : ℕ) → order-new-lts.Need-enum-known-members (order-new-claims t) (order-new-at t) order-new.Post
+order-new-enum-known-members t c = search needs
+
+order-new-is-named-requires-2 : (t : ℕ) → order-new-lts.Need-is-named-requires-2 (order-new-claims t) (order-new-at t) order-new.Post
+order-new-is-named-requires-2 t c κs = tt
+
+order-new-order-composite-requires : (t : ℕ) → order-new-lts.Need-order-composite-requires (order-new-claims t) (order-new-at t) order-new.Post
+order-new-order-composite-requires t c κs = (omega arith, tt)
+
+order-new-same-length : (t : ℕ) → order-new-lts.Need-same-length (order-new-claims t) (order-new-at t) order-new.Post
+order-new-same-length t c = search needs
+
+order-new-returns : (t : ℕ) → order-new-lts.Need-returns (order-new-claims t) (order-new-at t) order-new.Post
+order-new-returns t c = laws.new-ignored _ _ _ _ _ _ _ _ _ _ (c .before .before .before .before .type-by-id .ensures) _ (c .before .before .before .node-of .ensures) _ (c .before .enum-told .given .1) _ refl (c .strong .ensures)
+
+order-new-same-length-2 : (t : ℕ) → order-new-lts.Need-same-length-2 (order-new-claims t) (order-new-at t) order-new.Post
+order-new-same-length-2 t c = c .before .before .before .before .finish-led .kept .0
+
+order-new-same-length-3 : (t : ℕ) → order-new-lts.Need-same-length-3 (order-new-claims t) (order-new-at t) order-new.Post
+order-new-same-length-3 t c = c .before .before .before .before .finish-led .kept .1 .0
+
+order-new-returns-2 : (t : ℕ) → order-new-lts.Need-returns-2 (order-new-claims t) (order-new-at t) order-new.Post
+order-new-returns-2 t c = laws.new-plain _ _ _ _ _ _ _ _ _ _ (c .before .before .before .before .before .before .before .before .before .before .type-by-id .ensures) _ (c .before .before .before .before .before .before .before .before .before .node-of .ensures) _ (c .before .before .before .before .before .before .before .enum-told2 .given .1) (c .before .before .before .before .finish-led .ensures)
+
+order-new-same-length-4 : (t : ℕ) → order-new-lts.Need-same-length-4 (order-new-claims t) (order-new-at t) order-new.Post
+order-new-same-length-4 t c = c .before .before .before .before .finish-led2 .kept .0
+
+order-new-same-length-5 : (t : ℕ) → order-new-lts.Need-same-length-5 (order-new-claims t) (order-new-at t) order-new.Post
+order-new-same-length-5 t c = c .before .before .before .before .finish-led2 .kept .1 .0
+
+order-new-returns-3 : (t : ℕ) → order-new-lts.Need-returns-3 (order-new-claims t) (order-new-at t) order-new.Post
+order-new-returns-3 t c = laws.new-listed _ _ _ _ _ _ _ _ _ _ (c .before .before .before .before .before .before .before .before .before .before .before .type-by-id .ensures) _ (c .before .before .before .before .before .before .before .before .before .before .node-of .ensures) _ _ (c .before .before .before .before .before .before .before .before .enum-told3 .given .1) _ (c .before .before .before .before .before .before .before .is-named .ensures) (c .before .before .before .before .finish-led2 .ensures)
+
+order-new-same-length-6 : (t : ℕ) → order-new-lts.Need-same-length-6 (order-new-claims t) (order-new-at t) order-new.Post
+order-new-same-length-6 t c = c .before .before .before .before .order-led .kept .1 .1 .0
+
+order-new-same-length-7 : (t : ℕ) → order-new-lts.Need-same-length-7 (order-new-claims t) (order-new-at t) order-new.Post
+order-new-same-length-7 t c = c .before .before .before .before .order-led .kept .1 .1 .1 .0
+
+order-new-returns-4 : (t : ℕ) → order-new-lts.Need-returns-4 (order-new-claims t) (order-new-at t) order-new.Post
+order-new-returns-4 t c = laws.new-through _ _ _ _ _ _ _ _ _ _ (c .before .before .before .before .before .before .before .before .before .before .before .before .type-by-id .ensures) _ (c .before .before .before .before .before .before .before .before .before .before .before .node-of .ensures) _ _ _ (c .before .before .before .before .before .before .before .before .before .is-array .given .1) (c .before .before .before .before .order-led .ensures)
+
+order-new-same-length-8 : (t : ℕ) → order-new-lts.Need-same-length-8 (order-new-claims t) (order-new-at t) order-new.Post
+order-new-same-length-8 t c = c .before .before .before .before .finish-led3 .kept .0 ∙ c .before .before .before .before .before .before .before .before .before .before .before .order-led2 .kept .1 .1 .0
+
+order-new-same-length-9 : (t : ℕ) → order-new-lts.Need-same-length-9 (order-new-claims t) (order-new-at t) order-new.Post
+order-new-same-length-9 t c = c .before .before .before .before .finish-led3 .kept .1 .0 ∙ c .before .before .before .before .before .before .before .before .before .before .before .order-led2 .kept .1 .1 .1 .0
+
+order-new-returns-5 : (t : ℕ) → order-new-lts.Need-returns-5 (order-new-claims t) (order-new-at t) order-new.Post
+order-new-returns-5 t c = laws.new-ptr _ _ _ _ _ _ _ _ _ _ (c .before .before .before .before .before .before .before .before .before .before .before .before .before .before .before .before .before .before .type-by-id .ensures) _ (c .before .before .before .before .before .before .before .before .before .before .before .before .before .before .before .before .before .node-of .ensures) _ _ (c .before .before .before .before .before .before .before .before .before .before .before .before .before .before .before .t .given .1) _ _ _ (c .before .before .before .before .before .before .before .before .before .before .before .order-led2 .ensures) (c .before .before .before .before .finish-led3 .ensures)
+
+order-new-same-length-10 : (t : ℕ) → order-new-lts.Need-same-length-10 (order-new-claims t) (order-new-at t) order-new.Post
+order-new-same-length-10 t c = c .before .before .before .before .finish-typedef-led .kept .0 ∙ c .before .before .before .before .before .before .before .before .before .before .before .order-led3 .kept .1 .1 .0
+
+order-new-same-length-11 : (t : ℕ) → order-new-lts.Need-same-length-11 (order-new-claims t) (order-new-at t) order-new.Post
+order-new-same-length-11 t c = c .before .before .before .before .finish-typedef-led .kept .1 .0 ∙ c .before .before .before .before .before .before .before .before .before .before .before .order-led3 .kept .1 .1 .1 .0
+
+order-new-returns-6 : (t : ℕ) → order-new-lts.Need-returns-6 (order-new-claims t) (order-new-at t) order-new.Post
+order-new-returns-6 t c = laws.new-typedef _ _ _ _ _ _ _ _ _ _ (c .before .before .before .before .before .before .before .before .before .before .before .before .before .before .before .before .before .before .before .type-by-id .ensures) _ (c .before .before .before .before .before .before .before .before .before .before .before .before .before .before .before .before .before .before .node-of .ensures) _ _ (c .before .before .before .before .before .before .before .before .before .before .before .before .before .before .before .before .t2 .given .1) _ (c .before .before .before .before .before .before .before .before .before .before .before .before .inside .ensures) _ _ _ (c .before .before .before .before .before .before .before .before .before .before .before .order-led3 .ensures) (c .before .before .before .before .finish-typedef-led .ensures)
+
+order-new-same-length-12 : (t : ℕ) → order-new-lts.Need-same-length-12 (order-new-claims t) (order-new-at t) order-new.Post
+order-new-same-length-12 t c = c .before .before .before .before .order-params .kept .1 .1 .0 ∙ c .before .before .before .before .before .before .before .before .before .before .before .order-led4 .kept .1 .1 .0
+
+order-new-same-length-13 : (t : ℕ) → order-new-lts.Need-same-length-13 (order-new-claims t) (order-new-at t) order-new.Post
+order-new-same-length-13 t c = c .before .before .before .before .order-params .kept .1 .1 .1 .0 ∙ c .before .before .before .before .before .before .before .before .before .before .before .order-led4 .kept .1 .1 .1 .0
+
+order-new-returns-7 : (t : ℕ) → order-new-lts.Need-returns-7 (order-new-claims t) (order-new-at t) order-new.Post
+order-new-returns-7 t c = laws.new-proto _ _ _ _ _ _ _ _ _ _ (c .before .before .before .before .before .before .before .before .before .before .before .before .before .before .before .before .before .before .type-by-id .ensures) _ (c .before .before .before .before .before .before .before .before .before .before .before .before .before .before .before .before .before .node-of .ensures) _ _ _ (c .before .before .before .before .before .before .before .before .before .before .before .before .before .before .before .res .given .1) _ _ _ (c .before .before .before .before .before .before .before .before .before .before .before .order-led4 .ensures) (c .before .before .before .before .order-params .ensures)
+
+order-new-same-length-14 : (t : ℕ) → order-new-lts.Need-same-length-14 (order-new-claims t) (order-new-at t) order-new.Post
+order-new-same-length-14 t c = c .before .before .before .before .order-composite .kept .1 .1 .0
+
+order-new-same-length-15 : (t : ℕ) → order-new-lts.Need-same-length-15 (order-new-claims t) (order-new-at t) order-new.Post
+order-new-same-length-15 t c = c .before .before .before .before .order-composite .kept .1 .1 .1 .0
+
+order-new-returns-8 : (t : ℕ) → order-new-lts.Need-returns-8 (order-new-claims t) (order-new-at t) order-new.Post
+order-new-returns-8 t c = laws.new-composite _ _ _ _ _ _ _ _ _ _ (c .before .before .before .before .before .before .before .before .before .before .before .before .type-by-id .ensures) _ (c .before .before .before .before .before .before .before .before .before .before .before .node-of .ensures) _ _ (c .before .before .before .before .before .before .before .before .before .members .given .1) _ (c .before .before .before .before .before .before .before .is-named2 .ensures) (c .before .before .before .before .order-composite .ensures)
+
+abbrev order-params-Inv-loop : order-params-lts.InvT-loop
+order-params-Inv-loop b section work₀ leads₀ params has-ptr left v vlen r₀ k₀ work leads r k = (k ≤ vlen) × (length work ≡ length work₀) × (length leads ≡ length leads₀) × (vlen < 4294967296) × (vlen ≡ params .vlen) × laws.Rest b section work₀ leads₀ left has-ptr v (λ i. sectionWord b section (paramAt (params .at) i + 4)) r₀ (params .vlen) r work leads k
+
+abbrev order-params-μ-loop : order-params-lts.MeasureT-loop
+order-params-μ-loop b section work₀ leads₀ params has-ptr left v vlen r₀ k₀ work leads r k = vlen - k
+
+order-params-loop-holds : (t : ℕ) → order-params-lts.Need-loop-holds (order-params-claims t) (order-params-at t) order-params.Post order-params-Inv-loop order-params-μ-loop
+order-params-loop-holds t c = (zero-le, refl, refl, omega arith, refl, laws.rest-start _ _ _ _ _ _ _ _ _ _)
+
+order-params-param-place-requires : (t : ℕ) → order-params-lts.Need-param-place-requires (order-params-claims t) (order-params-at t) order-params.Post order-params-Inv-loop order-params-μ-loop
+order-params-param-place-requires t c κs = tt
+
+order-params-add-word : (t : ℕ) → order-params-lts.Need-add-word (order-params-claims t) (order-params-at t) order-params.Post order-params-Inv-loop order-params-μ-loop
+order-params-add-word t c = omega arith
+
+order-params-word-requires : (t : ℕ) → order-params-lts.Need-word-requires (order-params-claims t) (order-params-at t) order-params.Post order-params-Inv-loop order-params-μ-loop
+order-params-word-requires t c κs = tt
+
+order-params-order-led-requires : (t : ℕ) → order-params-lts.Need-order-led-requires (order-params-claims t) (order-params-at t) order-params.Post order-params-Inv-loop order-params-μ-loop
+order-params-order-led-requires t c κs = (omega arith, tt)
+
+order-params-strong-requires : (t : ℕ) → order-params-lts.Need-strong-requires (order-params-claims t) (order-params-at t) order-params.Post order-params-Inv-loop order-params-μ-loop
+order-params-strong-requires t c κs = tt
+
+order-params-add-k : (t : ℕ) → order-params-lts.Need-add-k (order-params-claims t) (order-params-at t) order-params.Post order-params-Inv-loop order-params-μ-loop
+order-params-add-k t c = omega arith
+
+order-params-loop-less : (t : ℕ) → order-params-lts.Need-loop-less (order-params-claims t) (order-params-at t) order-params.Post order-params-Inv-loop order-params-μ-loop
+order-params-loop-less t c = omega arith
+
+order-params-loop-again : (t : ℕ) → order-params-lts.Need-loop-again (order-params-claims t) (order-params-at t) order-params.Post order-params-Inv-loop order-params-μ-loop
+order-params-loop-again t c = (omega arith, c .before .before .before .before .before .before .order-led .kept .1 .1 .0 ∙ c .before .before .before .before .before .before .before .before .before .before .before .before .loop .inv .1, c .before .before .before .before .before .before .order-led .kept .1 .1 .1 .0 ∙ c .before .before .before .before .before .before .before .before .before .before .before .before .loop .inv .2, c .before .before .before .before .before .before .before .before .before .before .before .before .loop .inv .3, c .before .before .before .before .before .before .before .before .before .before .before .before .loop .inv .4, laws.rest-turn _ _ _ _ _ _ _ _ _ _ _ _ _ _ (c .before .before .before .before .before .before .before .before .before .before .before .before .loop .inv .5) (omega arith) _ (marks.entry-word _ _ _ _ _ (c .before .before .before .before .before .before .before .before .before .word .ensures) (c .before .before .before .before .before .before .before .before .before .before .param-place .ensures)) _ _ _ (c .before .before .before .before .before .before .order-led .ensures) _ (c .strong .ensures))
+
+order-params-same-length : (t : ℕ) → order-params-lts.Need-same-length (order-params-claims t) (order-params-at t) order-params.Post order-params-Inv-loop order-params-μ-loop
+order-params-same-length t c = search needs
+
+order-params-same-length-2 : (t : ℕ) → order-params-lts.Need-same-length-2 (order-params-claims t) (order-params-at t) order-params.Post order-params-Inv-loop order-params-μ-loop
+order-params-same-length-2 t c = search needs
+
+order-params-returns : (t : ℕ) → order-params-lts.Need-returns (order-params-claims t) (order-params-at t) order-params.Post order-params-Inv-loop order-params-μ-loop
+order-params-returns t c = laws.params-end _ _ _ _ _ _ _ _ _ _ _ _ _ (c .before .loop .inv .5) (omega arith)
+
+pub +order-composite+order-led+order-members+order-new+order-params-spec :
+    {M : Type 1} → statement M
++order-composite+order-led+order-members+order-new+order-params-spec =
+    close
+    μ-order-composite
+    μ-order-led
+    μ-order-members
+    μ-order-new
+    μ-order-params
+    (λ t. order-composite-lts.spec (
+      strong-reads.Asked,
+      strong-reads.Learnt,
+      set-order-state-reads.Asked,
+      set-order-state-reads.Learnt,
+      inside-reads.Asked,
+      inside-reads.Learnt,
+      order-members-below t,
+      order-members.Post,
+      finish-led-reads.Asked,
+      finish-led-reads.Learnt,
+    )
+    (order-composite-at t)
+    order-composite.Post
+    (order-composite-strong-requires t)
+    (order-composite-returns t)
+    (order-composite-set-order-state-requires t)
+    (order-composite-inside-requires t)
+    (order-composite-order-members-requires t)
+    (order-composite-finish-led-requires t)
+    (order-composite-same-length t)
+    (order-composite-same-length-2 t)
+    (order-composite-returns-2 t))
+    (λ t. order-led-lts.spec (
+      refused-reads.Asked,
+      refused-reads.Learnt,
+      get-order-state-reads.Asked,
+      get-order-state-reads.Learnt,
+      strong-reads.Asked,
+      strong-reads.Learnt,
+      meet-reads.Asked,
+      meet-reads.Learnt,
+      order-new-below t,
+      order-new.Post,
+    )
+    (order-led-at t)
+    order-led.Post
+    (order-led-returns t)
+    (order-led-refused-requires t)
+    (order-led-returns-2 t)
+    (order-led-get-order-state-requires t)
+    (order-led-strong-requires t)
+    (order-led-same-length t)
+    (order-led-returns-3 t)
+    (order-led-meet-requires t)
+    (order-led-same-length-2 t)
+    (order-led-returns-4 t)
+    (order-led-sub-order-new t)
+    (order-led-order-new-requires t)
+    (order-led-same-length-3 t)
+    (order-led-same-length-4 t)
+    (order-led-returns-5 t))
+    (λ t. order-members-lts.spec (
+      member-place-reads.Asked,
+      member-place-reads.Learnt,
+      word-reads.Asked,
+      word-reads.Learnt,
+      order-led-below t,
+      order-led.Post,
+      strong-reads.Asked,
+      strong-reads.Learnt,
+    )
+    (order-members-at t)
+    order-members.Post
+    order-members-Inv-loop
+    order-members-μ-loop
+    (order-members-loop-holds t)
+    (order-members-member-place-requires t)
+    (order-members-add-word t)
+    (order-members-word-requires t)
+    (order-members-order-led-requires t)
+    (order-members-strong-requires t)
+    (order-members-add-k t)
+    (order-members-loop-less t)
+    (order-members-loop-again t)
+    (order-members-same-length t)
+    (order-members-same-length-2 t)
+    (order-members-returns t))
+    (λ t. order-new-lts.spec (
+      type-by-id-reads.Asked,
+      type-by-id-reads.Learnt,
+      node-of-reads.Asked,
+      node-of-reads.Learnt,
+      strong-reads.Asked,
+      strong-reads.Learnt,
+      finish-led-reads.Asked,
+      finish-led-reads.Learnt,
+      is-named-reads.Asked,
+      is-named-reads.Learnt,
+      order-led-below t,
+      order-led.Post,
+      inside-reads.Asked,
+      inside-reads.Learnt,
+      finish-typedef-led-reads.Asked,
+      finish-typedef-led-reads.Learnt,
+      order-params-below t,
+      order-params.Post,
+      order-composite-below t,
+      order-composite.Post,
+    )
+    (order-new-at t)
+    order-new.Post
+    (order-new-type-by-id-requires t)
+    (order-new-node-of-requires t)
+    (order-new-enum-told t)
+    (order-new-strong-requires t)
+    (order-new-enum-told-2 t)
+    (order-new-finish-led-requires t)
+    (order-new-enum-told-3 t)
+    (order-new-is-named-requires t)
+    (order-new-finish-led-requires-2 t)
+    (order-new-enum-known-is-array t)
+    (order-new-order-led-requires t)
+    (order-new-enum-known-t t)
+    (order-new-order-led-requires-2 t)
+    (order-new-finish-led-requires-3 t)
+    (order-new-enum-known-t-2 t)
+    (order-new-inside-requires t)
+    (order-new-order-led-requires-3 t)
+    (order-new-finish-typedef-led-requires t)
+    (order-new-enum-known-res t)
+    (order-new-order-led-requires-4 t)
+    (order-new-order-params-requires t)
+    (order-new-enum-known-members t)
+    (order-new-is-named-requires-2 t)
+    (order-new-order-composite-requires t)
+    (order-new-same-length t)
+    (order-new-returns t)
+    (order-new-same-length-2 t)
+    (order-new-same-length-3 t)
+    (order-new-returns-2 t)
+    (order-new-same-length-4 t)
+    (order-new-same-length-5 t)
+    (order-new-returns-3 t)
+    (order-new-same-length-6 t)
+    (order-new-same-length-7 t)
+    (order-new-returns-4 t)
+    (order-new-same-length-8 t)
+    (order-new-same-length-9 t)
+    (order-new-returns-5 t)
+    (order-new-same-length-10 t)
+    (order-new-same-length-11 t)
+    (order-new-returns-6 t)
+    (order-new-same-length-12 t)
+    (order-new-same-length-13 t)
+    (order-new-returns-7 t)
+    (order-new-same-length-14 t)
+    (order-new-same-length-15 t)
+    (order-new-returns-8 t))
+    λ t. order-params-lts.spec (
+      param-place-reads.Asked,
+      param-place-reads.Learnt,
+      word-reads.Asked,
+      word-reads.Learnt,
+      order-led-below t,
+      order-led.Post,
+      strong-reads.Asked,
+      strong-reads.Learnt,
+    )
+    (order-params-at t)
+    order-params.Post
+    order-params-Inv-loop
+    order-params-μ-loop
+    (order-params-loop-holds t)
+    (order-params-param-place-requires t)
+    (order-params-add-word t)
+    (order-params-word-requires t)
+    (order-params-order-led-requires t)
+    (order-params-strong-requires t)
+    (order-params-add-k t)
+    (order-params-loop-less t)
+    (order-params-loop-again t)
+    (order-params-same-length t)
+    (order-params-same-length-2 t)
+    (order-params-returns t)

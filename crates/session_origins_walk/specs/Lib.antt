@@ -1,0 +1,4 @@
+pub mod entries
+pub mod leaders
+pub mod request
+pub mod steps

@@ -1,0 +1,55 @@
+-- One request with its entries, as the code has it: ordering with words for the leaders of 262145 ids, which are all that a table has, and then the
+-- listed ids, each at the top. The words serve the requests of a call one after another: each has its turn. That it is `dumpedNoted` of crate causes: crate led.
+use Prim.Native.Nat.{ℕ, _/_, _<_}
+use mathlib.Core.Bool.{false}
+use mathlib.Core.List.{List}
+use lib.ListN.{replicate}
+use Rattle.spec_c_dumper.specs.rules.Order.{Res, ok, refused}
+use Rattle.spec_c_dumper.specs.rules.Machine.{Out, wrote, stuck, obind, eeach}
+use Rattle.spec_c_dumper.specs.rules.Types.{Btf as Rules, tableOf}
+use Rattle.spec_type_table.specs.declared.types.Btf.{Btf}
+use Rattle.spec_session.specs.emission.Sheet.{Sheet, marksIn, withMarks, sheetStore, workMachine}
+use Rattle.spec_line_origins.specs.origins.Causes.{Noted}
+use Rattle.session_origins_walk.specs.declared.leaders.Way.{Way}
+use Rattle.session_origins_walk.specs.leaders.Leads.{wordAt, Kept, orderKept, entryIn}
+use Rattle.session_origins_walk.specs.entries.Noted.{emitN}
+
+-- before the first request of a call
+unfoldable pub noLeads : List ℕ
+noLeads = replicate 262145 0
+
+-- all that is noted was noted before this turn
+unfoldable pub Before : ℕ → List ℕ → Type 0
+Before turn l = (x : ℕ) → wordAt l x / 4294967296 < turn
+
+-- nothing is being ordered around the requested id
+abbrev pub wayTo : ℕ → ℕ → Way
+wayTo id turn = record { inner = id; lead = id; turn = turn }
+
+-- a sheet with the entries so far, and the leaders
+pub record Beside : Type 0 where
+  pub noted : Noted Sheet
+  pub leads : List ℕ
+
+-- after a refusal nothing is said of them
+unfoldable pub withLeads : List ℕ → Out (Noted Sheet) → Out Beside
+withLeads l (wrote m) = wrote (record { noted = m; leads = l })
+withLeads l (stuck c) = stuck c
+
+unfoldable pub orderedKept : Rules → Sheet → List ℕ → ℕ → ℕ → Res Kept
+orderedKept B m l id turn = orderKept (wayTo id turn) 512 (tableOf B) (record { marks = marksIn m; leads = l }) id false
+
+module _ (b : Btf) (B : Rules) (room : ℕ) where
+  -- the sheet that ordering left, with the entries so far
+  abbrev pub besideKept : Noted Sheet → Kept → Noted Sheet
+  besideKept m s = record { mach = withMarks (m .mach) (s .marks); entries = m .entries }
+
+  unfoldable pub eachKept : ℕ → ℕ → Noted Sheet → Kept → Out (Noted Sheet)
+  eachKept id turn m s = eeach (emitN b B room (entryIn id turn (s .leads)) 512 0) (sheetStore .list (withMarks (m .mach) (s .marks))) (besideKept m s)
+
+  unfoldable pub listedKept : ℕ → ℕ → Noted Sheet → Res Kept → Out Beside
+  listedKept id turn m (ok s strong) = withLeads (s .leads) (obind (eachKept id turn m s) (λ k. wrote (record { mach = workMachine b B .start 0 (k .mach); entries = k .entries })))
+  listedKept id turn m (refused c) = stuck c
+
+  unfoldable pub dumpedKept : Beside → ℕ → ℕ → Out Beside
+  dumpedKept m id turn = listedKept id turn (m .noted) (orderedKept B (m .noted .mach) (m .leads) id turn)

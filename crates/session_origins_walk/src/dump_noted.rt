@@ -1,0 +1,77 @@
+// One request with an entry for each line: ordering, then the lines of the listed ids, from the list's first to its last.
+use crate::emit_noted::emit_noted;
+use crate::entries::Asked;
+use crate::entries::Pen;
+use crate::leaders::Way;
+use crate::order_led::order_led;
+use crate::steps::stop_at;
+use c_dumper_dependency_order::order_state::Order;
+use c_dumper_dependency_order::order_state::get_listed;
+use spec_session::emission::clear_list;
+use spec_type_table::Btf;
+ghost use mathlib.Core.Path.{_≡_};
+ghost use Rattle.spec_c_dumper.specs.rules.Machine.{obind, eeach};
+ghost use Rattle.spec_type_table.specs.Table.{btfOf};
+ghost use Rattle.spec_session.specs.emission.Sheet.{sheetStore};
+ghost use Rattle.spec_line_origins.specs.origins.Causes.{entriesIn};
+ghost use Rattle.session_origins_walk.specs.leaders.Leads.{entryIn};
+ghost use Rattle.session_origins_walk.specs.entries.Noted.{notedOut, emitN};
+ghost use Rattle.session_origins_walk.specs.request.Kept.{withLeads, dumpedKept};
+
+// Emits the first n ids of the order list.
+fn emit_listed(
+    b: Btf,
+    section: &[u8],
+    work: &mut [u8],
+    text: &mut [u8],
+    list: &mut [u8],
+    leads: &[u64],
+    q: Asked,
+    p: Pen,
+    n: u32,
+) -> Pen
+    ensures { λ r. ⌜ notedOut n r (now (text .exit)) (now (work .exit)) (now (list .exit)) ≡ obind (notedOut n p (now (text .entry)) (now (work .entry)) (now (list .entry))) (λ m. eeach (emitN b (btfOf b (now (section .entry)) (now (work .entry))) (entriesIn (now (list .entry))) (entryIn (q .req) (q .turn) (now (leads .entry))) 512 0) (sheetStore .list (m .mach)) m) ⌝ }
+{
+    let mut a = p;
+    let mut k: u32 = 0;
+    while k < n {
+        let id = get_listed(work, k);
+        a = emit_noted(b, section, work, text, list, leads, q, a, id, 0, 512);
+        k += 1;
+    }
+    a
+}
+
+// The place after the text of the request and the count of entries after it; or a place past the end that says which
+// refusal stopped it. `leads` serves the requests of a call one after another: what other turns noted there is not read.
+pub fn dump_noted(
+    b: Btf,
+    section: &[u8],
+    work: &mut [u8],
+    text: &mut [u8],
+    list: &mut [u8],
+    leads: &mut [u64],
+    p: Pen,
+    q: Asked,
+) -> Pen
+    ensures { λ r. ⌜ withLeads (now (leads .exit)) (notedOut 0 r (now (text .exit)) (now (work .exit)) (now (list .exit))) ≡ obind (withLeads (now (leads .entry)) (notedOut 0 p (now (text .entry)) (now (work .entry)) (now (list .entry)))) (λ m. dumpedKept b (btfOf b (now (section .entry)) (now (work .entry))) (entriesIn (now (list .entry))) m (q .req) (q .turn)) ⌝ }
+{
+    let start = Order {
+        spare: 0,
+        len: 0,
+        stop: 0,
+        is_strong: false,
+    };
+    let v = Way {
+        inner: q.req,
+        lead: q.req,
+        turn: q.turn,
+    };
+    let o = order_led(b, section, work, leads, start, q.req, false, 512, v);
+    if o.stop != 0 {
+        return stop_at(text, p, o.stop);
+    }
+    let r = emit_listed(b, section, work, text, list, leads, q, p, o.len);
+    clear_list(work, o.len);
+    r
+}

@@ -1,0 +1,8 @@
+// session_origins_walk
+pub mod dump_noted;
+pub mod emit_noted;
+pub mod entries;
+pub mod leaders;
+pub mod lines;
+pub mod order_led;
+pub mod steps;

@@ -1,0 +1,3 @@
+pub mod arrival
+pub mod record
+pub mod record_words

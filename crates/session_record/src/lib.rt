@@ -1,0 +1,5 @@
+// session_record
+pub mod arrival;
+pub mod record;
+pub mod record_words;
+pub mod settle;

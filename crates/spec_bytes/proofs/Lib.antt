@@ -1,0 +1,2 @@
+pub mod signed
+pub mod text

@@ -1,0 +1,3 @@
+pub mod signed
+pub mod text
+pub mod words

@@ -1,0 +1,2 @@
+// spec_bytes
+pub mod words;

@@ -1,0 +1,2 @@
+// spec_c_dumper
+pub mod rules;

@@ -1,0 +1,2 @@
+pub mod origins
+pub mod origins_after

@@ -1,0 +1,1 @@
+// spec_line_origins

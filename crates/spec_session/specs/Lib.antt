@@ -1,0 +1,3 @@
+pub mod calls
+pub mod emission
+pub mod session

@@ -1,0 +1,3 @@
+// spec_session
+pub mod emission;
+pub mod session;

@@ -1,8 +1,0 @@
-// The names that are stored, and where: definitions and theorems in specs/ and proofs/. No code but this stands here.
-ghost use mathlib.Core.Path.{_≡_};
-
-pub fn same(x: u32) -> u32
-    ensures { λ r. ⌜ r ≡ x ⌝ }
-{
-    x
-}

@@ -1,5 +1,0 @@
-// The lists of taken numbers, for names that cannot collide: what opening adds to the work in that mode.
-mod bases;
-mod lists;
-
-pub use lists::takers;

@@ -1,9 +1,0 @@
-use mathlib.Core.Path.{refl}
-use Rattle.ways.proofs.is_weak_past.Statement.{statement}
-use Rattle.ways.proofs.is_weak_past.Tie as tie
-
-returns : tie.Need-returns
-returns c = refl
-
-pub is-weak-past-spec : {M : Type 1} → statement M
-is-weak-past-spec = tie.close (tie.spec returns)
