@@ -14,9 +14,9 @@ use btf_type_table::record::int_bits;
 use btf_type_table::record::word;
 use spec_c_dumper::rules::larger;
 use spec_c_dumper::rules::smaller;
-use spec_type_table::Btf;
 use spec_type_table::BtfType;
 use spec_type_table::Entries;
+use spec_type_table::TypeTable;
 ghost use mathlib.Core.Path.{_≡_};
 ghost use Prim.Native.Nat.{_<_};
 ghost use Rattle.spec_type_table.specs.Table.{btfOf};
@@ -24,7 +24,7 @@ ghost use Rattle.spec_type_table.specs.Nodes.{memberIds};
 ghost use Rattle.spec_c_dumper.specs.alignment_once.Once.{alone};
 ghost use Rattle.btf_layout.specs.remembered.Words.{seenWord, takenBy, stepAt, onceOf, onceWith, idsWith, heightOf, keptWith};
 
-fn seen_word(b: Btf, work: &[u8], id: u32) -> u32
+fn seen_word(b: TypeTable, work: &[u8], id: u32) -> u32
     ensures { λ r. ⌜ r ≡ seenWord (b .types) (now (work .entry)) id ⌝ }
 {
     if id < b.types {
@@ -46,7 +46,7 @@ fn taken(v: u32, left: u32) -> Once
     })
 }
 
-fn step_of(b: Btf, section: &[u8], t: BtfType) -> Step
+fn step_of(b: TypeTable, section: &[u8], t: BtfType) -> Step
     ensures { λ r. ⌜ r ≡ stepAt b (now (section .entry)) t ⌝ }
 {
     match kind_of(t.info) {
@@ -61,7 +61,7 @@ fn step_of(b: Btf, section: &[u8], t: BtfType) -> Step
 }
 
 // What was found of a type is remembered; of a refused one nothing is.
-fn keep_once(b: Btf, work: &mut [u8], id: u32, r: Once, members: u32) -> Once
+fn keep_once(b: TypeTable, work: &mut [u8], id: u32, r: Once, members: u32) -> Once
     requires { ⌜ heightOf r < 4294967295 ⌝ }
     ensures { λ q. ⌜ onceOf q (now (work .exit)) ≡ keptWith (b .types) id members r (now (work .entry)) ⌝ }
 {
@@ -79,7 +79,7 @@ fn keep_once(b: Btf, work: &mut [u8], id: u32, r: Once, members: u32) -> Once
 }
 
 // get_align_of with a memory.
-pub fn align_once(b: Btf, section: &[u8], work: &mut [u8], id: u32, left: u32) -> Once
+pub fn align_once(b: TypeTable, section: &[u8], work: &mut [u8], id: u32, left: u32) -> Once
     ensures { λ r. ⌜ onceOf r (now (work .exit)) ≡ onceWith (b .types) (btfOf b (now (section .entry)) (now (work .entry))) left id (now (work .entry)) ⌝ }
 {
     if left == 0 {
@@ -110,7 +110,7 @@ pub fn align_once(b: Btf, section: &[u8], work: &mut [u8], id: u32, left: u32) -
 }
 
 // The largest of the members' alignments, at least 1, and the largest of their heights.
-fn members_once(b: Btf, section: &[u8], work: &mut [u8], members: Entries, left: u32) -> Once
+fn members_once(b: TypeTable, section: &[u8], work: &mut [u8], members: Entries, left: u32) -> Once
     ensures { λ r. ⌜ onceOf r (now (work .exit)) ≡ idsWith (b .types) (btfOf b (now (section .entry)) (now (work .entry))) left (alone 1) (memberIds b (now (section .entry)) members) (now (work .entry)) ⌝ }
 {
     let vlen = members.vlen;

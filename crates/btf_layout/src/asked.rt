@@ -6,9 +6,9 @@ use crate::size::Packed;
 use btf_type_table::entry::load_member;
 use btf_type_table::kind::is_struct;
 use btf_type_table::kind::vlen_of;
-use spec_type_table::Btf;
 use spec_type_table::BtfMember;
 use spec_type_table::BtfType;
+use spec_type_table::TypeTable;
 ghost use mathlib.Core.Path.{_≡_};
 ghost use Prim.Native.Nat.{_%_};
 ghost use lib.Dec.{eqb};
@@ -17,7 +17,7 @@ ghost use Rattle.spec_type_table.specs.Table.{btfOf, membersOf, ruleMember};
 ghost use Rattle.btf_layout.specs.size.Answers.{packedOf};
 ghost use Rattle.btf_layout.specs.asked.Asked.{askIn, packedIn, offBy, alignIn, gapIn, unionIn, offIn, membersIn, packedAt};
 
-fn alignment(b: Btf, section: &[u8], work: &mut [u8], id: u32) -> Ask
+fn alignment(b: TypeTable, section: &[u8], work: &mut [u8], id: u32) -> Ask
     ensures { λ r. ⌜ askIn r (now (work .exit)) ≡ alignIn (b .types) (btfOf b (now (section .entry)) (now (work .entry))) id (now (work .entry)) ⌝ }
 {
     match align_once(b, section, work, id, 512) {
@@ -27,7 +27,7 @@ fn alignment(b: Btf, section: &[u8], work: &mut [u8], id: u32) -> Ask
 }
 
 // The alignment that decides whether a gap is natural.
-pub fn gap_align(b: Btf, section: &[u8], work: &mut [u8], id: u32, packed: bool) -> Ask
+pub fn gap_align(b: TypeTable, section: &[u8], work: &mut [u8], id: u32, packed: bool) -> Ask
     ensures { λ r. ⌜ askIn r (now (work .exit)) ≡ gapIn (b .types) (btfOf b (now (section .entry)) (now (work .entry))) packed id (now (work .entry)) ⌝ }
 {
     if packed {
@@ -37,7 +37,7 @@ pub fn gap_align(b: Btf, section: &[u8], work: &mut [u8], id: u32, packed: bool)
 }
 
 // A union's alignment; a struct's is asked by the packed test.
-pub fn union_align(b: Btf, section: &[u8], work: &mut [u8], id: u32, t: BtfType) -> Ask
+pub fn union_align(b: TypeTable, section: &[u8], work: &mut [u8], id: u32, t: BtfType) -> Ask
     ensures { λ r. ⌜ askIn r (now (work .exit)) ≡ unionIn (b .types) (btfOf b (now (section .entry)) (now (work .entry))) (eqb (kindOf (t .info)) 4) id (now (work .entry)) ⌝ }
 {
     if is_struct(t) {
@@ -58,7 +58,7 @@ fn off_by(a: u32, bit_offset: u32) -> Packed
 }
 
 // A bit field has no alignment of its own.
-fn member_off(b: Btf, section: &[u8], work: &mut [u8], m: BtfMember) -> Packed
+fn member_off(b: TypeTable, section: &[u8], work: &mut [u8], m: BtfMember) -> Packed
     ensures { λ r. ⌜ packedIn r (now (work .exit)) ≡ offIn (b .types) (btfOf b (now (section .entry)) (now (work .entry))) (ruleMember b (now (section .entry)) m) (now (work .entry)) ⌝ }
 {
     if m.bit_size != 0 {
@@ -71,7 +71,7 @@ fn member_off(b: Btf, section: &[u8], work: &mut [u8], m: BtfMember) -> Packed
 }
 
 // The members in order, up to the first that is off.
-fn members_packed(b: Btf, section: &[u8], work: &mut [u8], t: BtfType) -> Packed
+fn members_packed(b: TypeTable, section: &[u8], work: &mut [u8], t: BtfType) -> Packed
     ensures { λ r. ⌜ packedIn r (now (work .exit)) ≡ membersIn (b .types) (btfOf b (now (section .entry)) (now (work .entry))) (membersOf b (now (section .entry)) t) (now (work .entry)) ⌝ }
 {
     let vlen = vlen_of(t.info);
@@ -104,7 +104,7 @@ fn is_multiple(n: u32, a: u32) -> bool
 }
 
 // The packed test: the struct's own alignment comes first, and its members' are remembered by then.
-pub fn is_packed(b: Btf, section: &[u8], work: &mut [u8], id: u32, t: BtfType) -> Packed
+pub fn is_packed(b: TypeTable, section: &[u8], work: &mut [u8], id: u32, t: BtfType) -> Packed
     ensures { λ r. ⌜ packedIn r (now (work .exit)) ≡ packedAt (b .types) (btfOf b (now (section .entry)) (now (work .entry))) (eqb (kindOf (t .info)) 4) id (t .«type_id») (membersOf b (now (section .entry)) t) (now (work .entry)) ⌝ }
 {
     if !is_struct(t) {

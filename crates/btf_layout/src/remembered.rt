@@ -2,8 +2,8 @@
 // alignment; word 2 of void counts the visits.
 use btf_type_table::cell::get_field;
 use btf_type_table::cell::put_field;
-use spec_type_table::Btf;
 use spec_type_table::Entries;
+use spec_type_table::TypeTable;
 ghost use mathlib.Core.Path.{_≡_};
 ghost use Rattle.btf_layout.specs.remembered.Words.{seenIs, coded, counted, remembered};
 
@@ -53,7 +53,7 @@ fn count_visits(work: &mut [u8], members: u32)
 }
 
 // A type is remembered, with the visits of it and of its members; the word 0 is not.
-pub fn remember(b: Btf, work: &mut [u8], id: u32, v: u32, members: u32)
+pub fn remember(b: TypeTable, work: &mut [u8], id: u32, v: u32, members: u32)
     ensures { λ _. ⌜ now (work .exit) ≡ remembered (b .types) id v members (now (work .entry)) ⌝ }
 {
     if v == 0 {

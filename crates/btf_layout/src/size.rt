@@ -4,7 +4,7 @@ use btf_type_table::node::type_by_id;
 use btf_type_table::record::array_nelems;
 use btf_type_table::record::array_type;
 use btf_type_table::record::int_bits;
-use spec_type_table::Btf;
+use spec_type_table::TypeTable;
 ghost use mathlib.Core.Path.{_≡_};
 ghost use Prim.Native.Nat.{_*_};
 ghost use Rattle.spec_c_dumper.specs.rules.Writer.{checked, askThen};
@@ -55,7 +55,7 @@ fn octets(bits: u32) -> u32
     }
 }
 
-pub fn get_size_of(b: Btf, section: &[u8], work: &[u8], id: u32, left: u32) -> Ask
+pub fn get_size_of(b: TypeTable, section: &[u8], work: &[u8], id: u32, left: u32) -> Ask
     ensures { λ r. ⌜ askOf r ≡ getSizeOf left (btfOf b (now (section .entry)) (now (work .entry))) id ⌝ }
 {
     let mut at = id;

@@ -4,13 +4,13 @@ use btf_open_causes::prototypes::leads_to_proto;
 use btf_open_causes::references::has_bad_reference;
 use btf_open_causes::strings::has_bad_header;
 use btf_open_causes::strings::has_bad_strings;
-use spec_type_table::Btf;
+use spec_type_table::TypeTable;
 ghost use mathlib.Core.Path.{_≡_};
 ghost use mathlib.Core.Bool.{not};
 ghost use Rattle.spec_opening.specs.Causes.{cause1, firstOf, early, late, fromSix};
 
 // Causes 6, 7 and 8, or 0.
-pub fn reference_cause(b: Btf, section: &[u8], start: &[u32]) -> u32
+pub fn reference_cause(b: TypeTable, section: &[u8], start: &[u32]) -> u32
     ensures { λ r. ⌜ r ≡ fromSix (firstOf (late b (now (section .entry)) (now (start .entry)))) ⌝ }
 {
     if has_bad_reference(b, section, start) {

@@ -1,6 +1,6 @@
 // The header, and what the types of a table need of header and settings.
 use base_bytes::word::word_in;
-use spec_type_table::Btf;
+use spec_type_table::TypeTable;
 ghost use mathlib.Core.Path.{_≡_};
 ghost use Prim.Native.Nat.{_+_};
 ghost use lib.Dec.{ltb, eqb};
@@ -75,11 +75,11 @@ fn strings_at(h: Header) -> u32
 }
 
 // What the types of a table need of its header and settings.
-pub fn btf_of(section: &[u8], pointer_size: u32, modes: u32, types: u32) -> Btf
+pub fn btf_of(section: &[u8], pointer_size: u32, modes: u32, types: u32) -> TypeTable
     ensures { λ r. ⌜ r ≡ btfOf (now (section .entry)) «pointer_size» modes types ⌝ }
 {
     let h = btf_header(section);
-    Btf {
+    TypeTable {
         ptr_sz: size_of_pointer(pointer_size),
         union_as_struct: modes % 2 == 1,
         big_endian: is_big_endian(section),

@@ -5,7 +5,7 @@ use crate::references::count;
 use crate::references::count_at;
 use crate::references::entry;
 use crate::references::id_at;
-use spec_type_table::Btf;
+use spec_type_table::TypeTable;
 ghost use mathlib.Core.Path.{_≡_};
 ghost use Prim.Native.Nat.{_<_, _≤_};
 ghost use Rattle.btf_open_causes.specs.references.Followed.{idAt};
@@ -14,7 +14,7 @@ ghost use Rattle.btf_open_causes.specs.loops.Loops.{degAt, graphOf};
 ghost use Rattle.btf_open_causes.specs.loops.Walk.{Known, Opened, Passes, Inv, Turned, Walked};
 
 // How many successors the record of a kind at a place has.
-fn degree(b: Btf, section: &[u8], kind: u32, at: u32) -> u32
+fn degree(b: TypeTable, section: &[u8], kind: u32, at: u32) -> u32
     ensures { λ r. ⌜ r ≡ degAt b (now (section .entry)) kind at ⌝ }
 {
     match kind {
@@ -24,7 +24,7 @@ fn degree(b: Btf, section: &[u8], kind: u32, at: u32) -> u32
 }
 
 // Whether it is not known that no loop follows y: y is in the table, is not done, and has successors if it is new.
-fn is_open(b: Btf, section: &[u8], start: &[u32], st: &[u32], y: u32) -> bool
+fn is_open(b: TypeTable, section: &[u8], start: &[u32], st: &[u32], y: u32) -> bool
     requires { ⌜ Known (graphOf b (now section) (now start)) (now st) ⌝ }
     ensures { λ r. ⌜ Opened (graphOf b (now (section .entry)) (now (start .entry))) (now (st .entry)) y r ⌝ }
 {
@@ -48,7 +48,7 @@ fn is_open(b: Btf, section: &[u8], start: &[u32], st: &[u32], y: u32) -> bool
 
 // The first m, from the given one on, whose successor m - 1 is open; n + 1 where none is.
 fn pass(
-    b: Btf,
+    b: TypeTable,
     section: &[u8],
     start: &[u32],
     st: &[u32],
@@ -72,7 +72,14 @@ fn pass(
 }
 
 // One step of the walk: one type more on it, or one less; 262146 says that there is a loop.
-fn turn(b: Btf, section: &[u8], start: &[u32], st: &mut [u32], stack: &mut [u32], d: usize) -> usize
+fn turn(
+    b: TypeTable,
+    section: &[u8],
+    start: &[u32],
+    st: &mut [u32],
+    stack: &mut [u32],
+    d: usize,
+) -> usize
     requires { ⌜ Inv (graphOf b (now section) (now start)) (now st) (now stack) d × (0 < d) ⌝ }
     ensures { λ r. ⌜ Turned (graphOf b (now (section .entry)) (now (start .entry))) (now (st .entry)) d (now (st .exit)) (now (stack .exit)) r ⌝ }
 {
@@ -100,7 +107,14 @@ fn turn(b: Btf, section: &[u8], start: &[u32], st: &mut [u32], stack: &mut [u32]
 }
 
 // Whether a walk from x meets a loop.
-fn walk(b: Btf, section: &[u8], start: &[u32], st: &mut [u32], stack: &mut [u32], x: u32) -> bool
+fn walk(
+    b: TypeTable,
+    section: &[u8],
+    start: &[u32],
+    st: &mut [u32],
+    stack: &mut [u32],
+    x: u32,
+) -> bool
     requires { ⌜ Inv (graphOf b (now section) (now start)) (now st) (now stack) 0 × (x < 262145) ⌝ }
     ensures { λ r. ⌜ Walked (graphOf b (now (section .entry)) (now (start .entry))) x (now (st .exit)) (now (stack .exit)) r ⌝ }
 {
@@ -126,7 +140,7 @@ fn walk(b: Btf, section: &[u8], start: &[u32], st: &mut [u32], stack: &mut [u32]
     false
 }
 
-fn scan(b: Btf, section: &[u8], start: &[u32], st: &mut [u32], stack: &mut [u32]) -> bool
+fn scan(b: TypeTable, section: &[u8], start: &[u32], st: &mut [u32], stack: &mut [u32]) -> bool
     requires { ⌜ Inv (graphOf b (now section) (now start)) (now st) (now stack) 0 ⌝ }
     ensures { λ r. ⌜ r ≡ hasLoop (graphOf b (now (section .entry)) (now (start .entry))) ⌝ }
 {
@@ -141,7 +155,7 @@ fn scan(b: Btf, section: &[u8], start: &[u32], st: &mut [u32], stack: &mut [u32]
     false
 }
 
-pub fn has_loop(b: Btf, section: &[u8], start: &[u32]) -> bool
+pub fn has_loop(b: TypeTable, section: &[u8], start: &[u32]) -> bool
     ensures { λ r. ⌜ r ≡ hasLoop (graphOf b (now (section .entry)) (now (start .entry))) ⌝ }
 {
     let mut st = [0u32; 262145];

@@ -6,13 +6,13 @@ use crate::references::entry;
 use crate::references::followed;
 use crate::references::id_at;
 use crate::references::kind_at;
-use spec_type_table::Btf;
+use spec_type_table::TypeTable;
 ghost use mathlib.Core.Path.{_≡_};
 ghost use Rattle.btf_open_causes.specs.prototypes.Prototypes.{whatOf, nextOf, trackOf, asksAt, anyLeads};
 ghost use Rattle.btf_open_causes.specs.prototypes.Cells.{Fairs, Rest, Looked, Settle, Answer, Part};
 
 // 1: passes on to its target; 2: a prototype; 0: neither.
-fn what(b: Btf, start: &[u32], x: u32) -> u32
+fn what(b: TypeTable, start: &[u32], x: u32) -> u32
     ensures { λ r. ⌜ r ≡ whatOf b (now (start .entry)) x ⌝ }
 {
     match kind_at(b, start, x) {
@@ -22,14 +22,14 @@ fn what(b: Btf, start: &[u32], x: u32) -> u32
     }
 }
 
-fn next(b: Btf, section: &[u8], start: &[u32], x: u32) -> u32
+fn next(b: TypeTable, section: &[u8], start: &[u32], x: u32) -> u32
     ensures { λ r. ⌜ r ≡ nextOf b (now (section .entry)) (now (start .entry)) x ⌝ }
 {
     followed(b, section, start, x, 0)
 }
 
 // How many of the ids that the record of a kind at a place follows are members or elements.
-fn asks(b: Btf, section: &[u8], kind: u32, at: u32) -> u32
+fn asks(b: TypeTable, section: &[u8], kind: u32, at: u32) -> u32
     ensures { λ r. ⌜ r ≡ asksAt b (now (section .entry)) kind at ⌝ }
 {
     match kind {
@@ -39,7 +39,7 @@ fn asks(b: Btf, section: &[u8], kind: u32, at: u32) -> u32
 }
 
 // What stands at z: 0 the walk goes on, 1 no, 2 yes, 3 the walk was here.
-fn look(b: Btf, section: &[u8], start: &[u32], cell: &[u32], z: u32) -> u32
+fn look(b: TypeTable, section: &[u8], start: &[u32], cell: &[u32], z: u32) -> u32
     requires { ⌜ Fairs (trackOf b (now section) (now start)) (now cell) ⌝ }
     ensures { λ r. ⌜ Looked (trackOf b (now (section .entry)) (now (start .entry))) (now (cell .entry)) z r ⌝ }
 {
@@ -59,7 +59,7 @@ fn look(b: Btf, section: &[u8], start: &[u32], cell: &[u32], z: u32) -> u32
 }
 
 // Gives the m types of the walk from y the answer w.
-fn settle(b: Btf, section: &[u8], start: &[u32], cell: &mut [u32], y: u32, m: u32, w: u32)
+fn settle(b: TypeTable, section: &[u8], start: &[u32], cell: &mut [u32], y: u32, m: u32, w: u32)
     requires { ⌜ Settle (trackOf b (now section) (now start)) y m w (now cell) y 0 ⌝ }
     ensures { λ _. ⌜ Rest (trackOf b (now (section .entry)) (now (start .entry))) (now (cell .exit)) ⌝ }
 {
@@ -74,7 +74,7 @@ fn settle(b: Btf, section: &[u8], start: &[u32], cell: &mut [u32], y: u32, m: u3
 }
 
 // Does y, of which that is not known, lead to a prototype?
-fn walk(b: Btf, section: &[u8], start: &[u32], cell: &mut [u32], y: u32) -> bool
+fn walk(b: TypeTable, section: &[u8], start: &[u32], cell: &mut [u32], y: u32) -> bool
     requires { ⌜ Rest (trackOf b (now section) (now start)) (now cell) ⌝ }
     ensures { λ r. ⌜ Answer (trackOf b (now (section .entry)) (now (start .entry))) y (now (cell .exit)) r ⌝ }
 {
@@ -97,7 +97,7 @@ fn walk(b: Btf, section: &[u8], start: &[u32], cell: &mut [u32], y: u32) -> bool
 }
 
 // Does y lead to a prototype? For most types that is known at once.
-fn ask(b: Btf, section: &[u8], start: &[u32], cell: &mut [u32], y: u32) -> bool
+fn ask(b: TypeTable, section: &[u8], start: &[u32], cell: &mut [u32], y: u32) -> bool
     requires { ⌜ Rest (trackOf b (now section) (now start)) (now cell) ⌝ }
     ensures { λ r. ⌜ Answer (trackOf b (now (section .entry)) (now (start .entry))) y (now (cell .exit)) r ⌝ }
 {
@@ -111,7 +111,7 @@ fn ask(b: Btf, section: &[u8], start: &[u32], cell: &mut [u32], y: u32) -> bool
     false
 }
 
-fn asks_of(b: Btf, section: &[u8], start: &[u32], cell: &mut [u32], x: u32) -> bool
+fn asks_of(b: TypeTable, section: &[u8], start: &[u32], cell: &mut [u32], x: u32) -> bool
     requires { ⌜ Rest (trackOf b (now section) (now start)) (now cell) ⌝ }
     ensures { λ r. ⌜ Part b (now (section .entry)) (now (start .entry)) x (now (cell .exit)) r ⌝ }
 {
@@ -130,7 +130,7 @@ fn asks_of(b: Btf, section: &[u8], start: &[u32], cell: &mut [u32], x: u32) -> b
     false
 }
 
-fn all(b: Btf, section: &[u8], start: &[u32], cell: &mut [u32]) -> bool
+fn all(b: TypeTable, section: &[u8], start: &[u32], cell: &mut [u32]) -> bool
     requires { ⌜ Rest (trackOf b (now section) (now start)) (now cell) ⌝ }
     ensures { λ r. ⌜ r ≡ anyLeads b (now (section .entry)) (now (start .entry)) ⌝ }
 {
@@ -145,7 +145,7 @@ fn all(b: Btf, section: &[u8], start: &[u32], cell: &mut [u32]) -> bool
     false
 }
 
-pub fn leads_to_proto(b: Btf, section: &[u8], start: &[u32]) -> bool
+pub fn leads_to_proto(b: TypeTable, section: &[u8], start: &[u32]) -> bool
     ensures { λ r. ⌜ r ≡ anyLeads b (now (section .entry)) (now (start .entry)) ⌝ }
 {
     let mut cell = [0u32; 262145];

@@ -4,8 +4,8 @@ use btf_type_table::kind::extra_of;
 use btf_type_table::kind::kind_of;
 use btf_type_table::kind::vlen_of;
 use btf_type_table::record::word;
-use spec_type_table::Btf;
 use spec_type_table::Extra;
+use spec_type_table::TypeTable;
 ghost use mathlib.Core.Path.{_≡_};
 ghost use Prim.Native.Nat.{_+_, _*_, _%_, _≤_};
 ghost use lib.ListN.{set};
@@ -22,7 +22,7 @@ pub struct Records {
 }
 
 // Whether the name offsets of the n entries of the record at a place, each `width` bytes long, lie inside the string area.
-fn are_names_inside(b: Btf, section: &[u8], at: u32, n: u32, width: u32, str_len: u32) -> bool
+fn are_names_inside(b: TypeTable, section: &[u8], at: u32, n: u32, width: u32, str_len: u32) -> bool
     ensures { λ r. ⌜ r ≡ allNamedP «str_len» width (sectionWord b (now (section .entry))) (at + 12) n ⌝ }
 {
     let mut q = (at as usize) + 12;
@@ -49,7 +49,7 @@ fn named_entry(kind: u32) -> u32
 }
 
 // Whether the names of the record at a place lie inside the string area.
-fn are_record_names_inside(b: Btf, section: &[u8], at: u32, info: u32, str_len: u32) -> bool
+fn are_record_names_inside(b: TypeTable, section: &[u8], at: u32, info: u32, str_len: u32) -> bool
     ensures { λ r. ⌜ r ≡ namedBy «str_len» (sectionWord b (now (section .entry))) info at ⌝ }
 {
     if str_len <= word(b, section, at as usize) {
@@ -63,7 +63,7 @@ fn are_record_names_inside(b: Btf, section: &[u8], at: u32, info: u32, str_len: 
 }
 
 // The place after the record at a place, whose info word is known, or 0 where it is malformed or reaches past the end of the area.
-fn next_record(b: Btf, section: &[u8], at: u32, info: u32, end: u32, str_len: u32) -> u32
+fn next_record(b: TypeTable, section: &[u8], at: u32, info: u32, end: u32, str_len: u32) -> u32
     requires { ⌜ info ≡ sectionWord b (now section) (at + 4) ⌝ }
     ensures { λ r. ⌜ r ≡ nextP (sectionWord b (now (section .entry))) «str_len» end at ⌝ }
 {
@@ -125,7 +125,7 @@ fn unsound() -> Records
 
 // The type area from a place to its end.
 fn scan_area(
-    b: Btf,
+    b: TypeTable,
     section: &[u8],
     from: u32,
     end: u32,
@@ -160,7 +160,7 @@ fn scan_area(
 }
 
 // The records of a section whose areas lie inside it.
-pub fn scan(b: Btf, section: &[u8], start: &mut [u32]) -> Records
+pub fn scan(b: TypeTable, section: &[u8], start: &mut [u32]) -> Records
     ensures { λ r. ⌜ scanOut r (now (start .exit)) ≡ scanSection b (now (section .entry)) (now (start .entry)) ⌝ }
 {
     let h = btf_header(section);

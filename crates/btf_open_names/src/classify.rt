@@ -8,7 +8,7 @@ use crate::keys::same_key;
 use base_bytes::word::get_word;
 use base_bytes::word::put_word;
 use btf_type_table::cell::holder_word;
-use spec_type_table::Btf;
+use spec_type_table::TypeTable;
 ghost use mathlib.Core.Path.{_≡_};
 ghost use Rattle.spec_bytes.specs.words.Words.{pick};
 ghost use Rattle.spec_type_table.specs.Cells.{placeOf};
@@ -22,7 +22,7 @@ fn choose(t: bool, x: u32, y: u32) -> u32
 }
 
 // The class of h, which has a space, by the table of the holders before it.
-fn find(b: Btf, section: &[u8], work: &[u8], h: u32, bucket: u32, key: Key) -> u32
+fn find(b: TypeTable, section: &[u8], work: &[u8], h: u32, bucket: u32, key: Key) -> u32
     requires { ⌜ HolderFinds b (now section) (now work) h bucket × (keyOf (now section) (key .space) (key .name) ≡ keyIn b (now section) (now work) h) ⌝ }
     ensures { λ r. ⌜ r ≡ classOf (keyIn b (now (section .entry)) (now (work .entry))) h ⌝ }
 {
@@ -38,7 +38,7 @@ fn find(b: Btf, section: &[u8], work: &[u8], h: u32, bucket: u32, key: Key) -> u
 }
 
 // Finds the class of k, and puts k into the table if it is the first of its class. Without a space its class is void's, 0.
-fn put_holder(b: Btf, section: &[u8], work: &mut [u8], n: u32, k: u32)
+fn put_holder(b: TypeTable, section: &[u8], work: &mut [u8], n: u32, k: u32)
     requires { ⌜ HoldersReady b (now section) (now work) n k ⌝ }
     ensures { λ _. ⌜ now (work .exit) ≡ holderPlaced b (now (section .entry)) (now (work .entry)) n k ⌝ }
 {
@@ -82,7 +82,7 @@ fn clear_scratch(work: &mut [u8], types: u32, n: u32)
 
 // Sets the class of each type and each enumerator. Work that is too short stays as it is, and so it does where the holders
 // are too many to be numbered.
-pub fn classes(b: Btf, section: &[u8], enumerators: u32, work: &mut [u8])
+pub fn classes(b: TypeTable, section: &[u8], enumerators: u32, work: &mut [u8])
     ensures { λ _. ⌜ now (work .exit) ≡ tableClassed b enumerators (now (section .entry)) (now (work .entry)) ⌝ }
 {
     let types = b.types;

@@ -7,8 +7,8 @@ use btf_type_table::kind::member_place;
 use btf_type_table::kind::param_place;
 use btf_type_table::kind::vlen_of;
 use btf_type_table::record::word;
-use spec_type_table::Btf;
 use spec_type_table::Entries;
+use spec_type_table::TypeTable;
 ghost use mathlib.Core.Path.{_≡_};
 ghost use Prim.Native.Nat.{_+_, _-_, _/_, _%_, _<_};
 ghost use lib.ListN.{getD};
@@ -26,7 +26,7 @@ fn entry_of(start: &[u32], x: u32) -> u32
 }
 
 // The place of record x, for each type but void.
-fn fill_places(b: Btf, start: &[u32], work: &mut [u8])
+fn fill_places(b: TypeTable, start: &[u32], work: &mut [u8])
     ensures { λ _. ⌜ now (work .exit) ≡ placesPut (now (start .entry)) (now (work .entry)) (b .types - 1) ⌝ }
 {
     let n = b.types;
@@ -57,7 +57,7 @@ fn enumerator_word(types: u32, e: u64) -> usize
 }
 
 // The places of an enum's values, which are the enumerators from `first` on.
-fn fill_values(b: Btf, kind: u32, e: Entries, first: u64, work: &mut [u8])
+fn fill_values(b: TypeTable, kind: u32, e: Entries, first: u64, work: &mut [u8])
     requires { ⌜ (e .at < 134217728) × (e .vlen < 65536) × (first < 281474976710656) ⌝ }
     ensures { λ _. ⌜ now (work .exit) ≡ valuesPut (b .types) kind (e .at) first (now (work .entry)) (e .vlen) ⌝ }
 {
@@ -74,7 +74,7 @@ fn fill_values(b: Btf, kind: u32, e: Entries, first: u64, work: &mut [u8])
 }
 
 // How many values the type with an entry of the index has.
-fn values_at(b: Btf, section: &[u8], entry: u32) -> u32
+fn values_at(b: TypeTable, section: &[u8], entry: u32) -> u32
     ensures { λ r. ⌜ r ≡ valuesAt b (now (section .entry)) entry ⌝ }
 {
     match entry % 32 {
@@ -84,7 +84,7 @@ fn values_at(b: Btf, section: &[u8], entry: u32) -> u32
 }
 
 // The enum x, if it is one: its first enumerator, and its values.
-fn fill_enum(b: Btf, entry: u32, n: u32, x: u32, first: u64, work: &mut [u8])
+fn fill_enum(b: TypeTable, entry: u32, n: u32, x: u32, first: u64, work: &mut [u8])
     requires { ⌜ (n < 65536) × (first < 281474976710656) ⌝ }
     ensures { λ _. ⌜ now (work .exit) ≡ enumWith (b .types) entry n x first (now (work .entry)) ⌝ }
 {
@@ -102,7 +102,7 @@ fn fill_enum(b: Btf, entry: u32, n: u32, x: u32, first: u64, work: &mut [u8])
 }
 
 // All enums.
-fn fill_enums(b: Btf, section: &[u8], start: &[u32], work: &mut [u8])
+fn fill_enums(b: TypeTable, section: &[u8], start: &[u32], work: &mut [u8])
     ensures { λ _. ⌜ now (work .exit) ≡ enumsPut b (now (section .entry)) (now (start .entry)) (now (work .entry)) (b .types - 1) ⌝ }
 {
     let types = b.types;
@@ -118,7 +118,7 @@ fn fill_enums(b: Btf, section: &[u8], start: &[u32], work: &mut [u8])
 }
 
 // The tag x, if it is one and on a type of the table, goes in front of the tags of that type.
-fn fill_tag(b: Btf, section: &[u8], entry: u32, x: u32, work: &mut [u8])
+fn fill_tag(b: TypeTable, section: &[u8], entry: u32, x: u32, work: &mut [u8])
     ensures { λ _. ⌜ now (work .exit) ≡ tagPut b (now (section .entry)) entry x (now (work .entry)) ⌝ }
 {
     if entry % 32 != 17 {
@@ -134,7 +134,7 @@ fn fill_tag(b: Btf, section: &[u8], entry: u32, x: u32, work: &mut [u8])
 }
 
 // From the last to the first, so that the tags of a type stand in rising order.
-fn fill_tags(b: Btf, section: &[u8], start: &[u32], work: &mut [u8])
+fn fill_tags(b: TypeTable, section: &[u8], start: &[u32], work: &mut [u8])
     ensures { λ _. ⌜ now (work .exit) ≡ tagsPut b (now (section .entry)) (now (start .entry)) (b .types - 1) (now (work .entry)) ⌝ }
 {
     let mut x = b.types;
@@ -145,7 +145,7 @@ fn fill_tags(b: Btf, section: &[u8], start: &[u32], work: &mut [u8])
 }
 
 // The work is zero before.
-pub fn fill(b: Btf, section: &[u8], enumerators: u32, start: &[u32], work: &mut [u8])
+pub fn fill(b: TypeTable, section: &[u8], enumerators: u32, start: &[u32], work: &mut [u8])
     ensures { λ _. ⌜ now (work .exit) ≡ filled b (now (section .entry)) (now (start .entry)) enumerators (now (work .entry)) ⌝ }
 {
     fill_places(b, start, work);

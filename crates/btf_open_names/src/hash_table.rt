@@ -5,7 +5,7 @@ use crate::keys::load_key;
 use base_bytes::word::get_word;
 use base_bytes::word::put_word;
 use btf_type_table::cell::holder_word;
-use spec_type_table::Btf;
+use spec_type_table::TypeTable;
 ghost use mathlib.Core.Path.{_≡_};
 ghost use Prim.Native.Nat.{_<_};
 ghost use Rattle.spec_type_table.specs.Cells.{placeOf};
@@ -13,7 +13,7 @@ ghost use Rattle.btf_open_names.specs.name_classes.Classes.{noughts};
 ghost use Rattle.btf_open_names.specs.hash_table.Hashed.{over, putFirst, allZero, hasRoom, tableIn};
 
 // Puts holder c in front of its bucket, if it has a space.
-fn put_first(b: Btf, section: &[u8], work: &mut [u8], n: u32, c: u32)
+fn put_first(b: TypeTable, section: &[u8], work: &mut [u8], n: u32, c: u32)
     requires { ⌜ c < n ⌝ }
     ensures { λ _. ⌜ now (work .exit) ≡ putFirst b (now (section .entry)) n c (now (work .entry)) ⌝ }
 {
@@ -60,7 +60,7 @@ fn has_room(work: &[u8], types: u32, enumerators: u32) -> bool
 
 // Makes the table, from the last holder to the first, so that those of a bucket stand in rising order. Without room for it the work stays as it
 // is; the answer says which.
-pub fn make_table(b: Btf, section: &[u8], enumerators: u32, work: &mut [u8]) -> bool
+pub fn make_table(b: TypeTable, section: &[u8], enumerators: u32, work: &mut [u8]) -> bool
     ensures { λ r. ⌜ (r ≡ hasRoom (b .types) enumerators (now (work .entry))) × (now (work .exit) ≡ tableIn b enumerators (now (section .entry)) (now (work .entry))) ⌝ }
 {
     if !has_room(work, b.types, enumerators) {

@@ -5,16 +5,16 @@ use crate::kind::member_place;
 use crate::kind::param_place;
 use crate::record::three;
 use crate::record::word;
-use spec_type_table::Btf;
 use spec_type_table::BtfMember;
 use spec_type_table::BtfType;
 use spec_type_table::Entries;
+use spec_type_table::TypeTable;
 ghost use mathlib.Core.Path.{_≡_};
 ghost use Prim.Native.Nat.{_+_, _*_};
 ghost use Rattle.spec_type_table.specs.Records.{sectionWord, memberAt, paramAt, memberOf};
 
 // btf_member: with kind_flag the last word is 24 bits of offset and 8 bits of size.
-pub fn load_member(b: Btf, section: &[u8], t: BtfType, k: u32) -> BtfMember
+pub fn load_member(b: TypeTable, section: &[u8], t: BtfType, k: u32) -> BtfMember
     ensures { λ r. ⌜ r ≡ memberOf b (now (section .entry)) t k ⌝ }
 {
     let w = three(b, section, member_place(entries_of(t), k));
@@ -35,14 +35,14 @@ pub fn load_member(b: Btf, section: &[u8], t: BtfType, k: u32) -> BtfMember
 }
 
 // btf_enum.val of value k, its bits.
-pub fn load_enum_value(b: Btf, section: &[u8], e: Entries, k: u32) -> u32
+pub fn load_enum_value(b: TypeTable, section: &[u8], e: Entries, k: u32) -> u32
     ensures { λ r. ⌜ r ≡ sectionWord b (now (section .entry)) (paramAt (e .at) k + 4) ⌝ }
 {
     word(b, section, param_place(e, k) + 4)
 }
 
 // btf_enum64: the low half, then the high half, of value k.
-pub fn load_enum64_value(b: Btf, section: &[u8], e: Entries, k: u32) -> u64
+pub fn load_enum64_value(b: TypeTable, section: &[u8], e: Entries, k: u32) -> u64
     ensures { λ r. ⌜ r ≡ sectionWord b (now (section .entry)) (memberAt (e .at) k + 8) * 4294967296 + sectionWord b (now (section .entry)) (memberAt (e .at) k + 4) ⌝ }
 {
     let w = three(b, section, member_place(e, k));

@@ -1,7 +1,7 @@
 // Names in the string area: the bytes from a place up to the first 0.
 use crate::kind::kind_of;
-use spec_type_table::Btf;
 use spec_type_table::BtfType;
+use spec_type_table::TypeTable;
 ghost use mathlib.Core.Path.{_≡_};
 ghost use Prim.Native.Nat.{_≤_, _-_};
 ghost use lib.ListN.{length, take, drop};
@@ -13,7 +13,7 @@ ghost use Rattle.spec_type_table.specs.Names.{nameAt, namePlace, strAt};
 ghost use Rattle.spec_type_table.specs.Table.{typeOf};
 
 // The place of the name at an offset of the string area.
-fn name_place(b: Btf, off: u32) -> usize
+fn name_place(b: TypeTable, off: u32) -> usize
     ensures { λ r. ⌜ r ≡ namePlace b off ⌝ }
 {
     (b.strs as usize) + (off as usize)
@@ -35,7 +35,7 @@ fn name_end(section: &[u8], at: usize) -> usize
 }
 
 // The name at an offset.
-pub fn get_btf_str(b: Btf, section: &[u8], off: u32) -> &[u8]
+pub fn get_btf_str(b: TypeTable, section: &[u8], off: u32) -> &[u8]
     ensures { λ r. ⌜ now r ≡ strAt b (now (section .entry)) off ⌝ }
 {
     let at = name_place(b, off);
@@ -47,7 +47,7 @@ pub fn get_btf_str(b: Btf, section: &[u8], off: u32) -> &[u8]
 }
 
 // Writes the name at an offset, in one pass.
-pub fn put_str(b: Btf, section: &[u8], text: &mut [u8], at: usize, off: u32) -> usize
+pub fn put_str(b: TypeTable, section: &[u8], text: &mut [u8], at: usize, off: u32) -> usize
     ensures { λ r. ⌜ putOut r (now (text .exit)) ≡ putText (now (text .entry)) at (whole (strAt b (now (section .entry)) off)) ⌝ }
 {
     if text.len() < at {
@@ -70,7 +70,7 @@ pub fn put_str(b: Btf, section: &[u8], text: &mut [u8], at: usize, off: u32) -> 
     p
 }
 
-pub fn is_empty(b: Btf, section: &[u8], off: u32) -> bool
+pub fn is_empty(b: TypeTable, section: &[u8], off: u32) -> bool
     ensures { λ r. ⌜ r ≡ isEmpty (strAt b (now (section .entry)) off) ⌝ }
 {
     let at = name_place(b, off);
@@ -116,14 +116,14 @@ fn contains(s: &[u8], w: &[u8]) -> bool
 }
 
 // NAMES_BLACKLIST: whether the name contains the name of the compiler's own type.
-pub fn is_builtin(b: Btf, section: &[u8], off: u32) -> bool
+pub fn is_builtin(b: TypeTable, section: &[u8], off: u32) -> bool
     ensures { λ r. ⌜ r ≡ builtin (strAt b (now (section .entry)) off) ⌝ }
 {
     contains(get_btf_str(b, section, off), b"__builtin_va_list")
 }
 
 // Whether BtfType::name() is not empty: some kinds have none.
-pub fn is_named(b: Btf, section: &[u8], t: BtfType) -> bool
+pub fn is_named(b: TypeTable, section: &[u8], t: BtfType) -> bool
     ensures { λ r. ⌜ r ≡ isNamed (typeOf b (now (section .entry)) t) ⌝ }
 {
     match kind_of(t.info) {

@@ -4,9 +4,9 @@ use crate::kind::entries_of;
 use crate::kind::kind_of;
 use crate::record::array_type;
 use crate::record::load_type;
-use spec_type_table::Btf;
 use spec_type_table::BtfType;
 use spec_type_table::Node;
+use spec_type_table::TypeTable;
 ghost use mathlib.Core.Path.{_≡_};
 ghost use Rattle.spec_type_table.specs.Records.{voidRecord, recordById};
 ghost use Rattle.spec_type_table.specs.Table.{typeOf};
@@ -25,7 +25,7 @@ fn void() -> BtfType
 }
 
 // The type of an id: void is 0, and so is what lies past the table.
-pub fn type_by_id(b: Btf, section: &[u8], work: &[u8], id: u32) -> BtfType
+pub fn type_by_id(b: TypeTable, section: &[u8], work: &[u8], id: u32) -> BtfType
     ensures { λ r. ⌜ r ≡ recordById b (now (section .entry)) (now (work .entry)) id ⌝ }
 {
     if id == 0 {
@@ -37,7 +37,7 @@ pub fn type_by_id(b: Btf, section: &[u8], work: &[u8], id: u32) -> BtfType
     load_type(b, section, get_field(work, id, 0))
 }
 
-pub fn node_of(b: Btf, section: &[u8], t: BtfType) -> Node
+pub fn node_of(b: TypeTable, section: &[u8], t: BtfType) -> Node
     ensures { λ r. ⌜ nodeIs b (now (section .entry)) r ≡ nodeOf (typeOf b (now (section .entry)) t) ⌝ }
 {
     match kind_of(t.info) {

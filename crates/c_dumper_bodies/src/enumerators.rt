@@ -7,7 +7,7 @@ use c_dumper_name_versions::names::put_name;
 use c_dumper_name_versions::names::put_sep_name;
 use c_dumper_name_versions::names::resolve_name;
 use c_dumper_name_versions::names::resolve_type_name;
-use spec_type_table::Btf;
+use spec_type_table::TypeTable;
 ghost use mathlib.Core.Path.{_≡_};
 ghost use Rattle.spec_bytes.specs.text.Text.{whole, putOut, putText};
 ghost use Rattle.spec_c_dumper.specs.rules.Place.{outOf, putSaid};
@@ -20,7 +20,7 @@ ghost use Rattle.c_dumper_bodies.specs.enumerators.Heads.{enumHead, valu
 
 // A new line, the enumerator's name and an equals sign.
 pub fn emit_enumerator(
-    b: Btf,
+    b: TypeTable,
     section: &[u8],
     work: &mut [u8],
     text: &mut [u8],
@@ -51,7 +51,7 @@ pub fn nth(first: u32, k: u32) -> u32
 
 // `enum` and the name.
 pub fn emit_enum_head(
-    b: Btf,
+    b: TypeTable,
     section: &[u8],
     work: &mut [u8],
     text: &mut [u8],
@@ -84,7 +84,7 @@ pub fn deeper(lvl: u32) -> u32
 
 // The mention of a named enum.
 pub fn put_enum_name(
-    b: Btf,
+    b: TypeTable,
     section: &[u8],
     work: &mut [u8],
     text: &mut [u8],

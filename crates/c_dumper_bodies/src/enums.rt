@@ -16,8 +16,8 @@ use btf_type_table::kind::kind_flag_of;
 use btf_type_table::kind::param_place;
 use btf_type_table::name::is_builtin;
 use btf_type_table::record::word;
-use spec_type_table::Btf;
 use spec_type_table::BtfType;
+use spec_type_table::TypeTable;
 ghost use mathlib.Core.Path.{_≡_};
 ghost use Rattle.spec_bytes.specs.text.Text.{whole, putOut, putText};
 ghost use Rattle.spec_c_dumper.specs.rules.Place.{outOf, putSaid};
@@ -37,7 +37,7 @@ fn put_value(text: &mut [u8], at: usize, signed: bool, v: u32) -> usize
 }
 
 fn emit_values(
-    b: Btf,
+    b: TypeTable,
     section: &[u8],
     work: &mut [u8],
     text: &mut [u8],
@@ -65,7 +65,7 @@ fn emit_values(
 }
 
 pub fn emit_enum_def(
-    b: Btf,
+    b: TypeTable,
     section: &[u8],
     work: &mut [u8],
     text: &mut [u8],

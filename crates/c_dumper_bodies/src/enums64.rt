@@ -17,8 +17,8 @@ use btf_type_table::kind::kind_flag_of;
 use btf_type_table::kind::member_place;
 use btf_type_table::name::is_builtin;
 use btf_type_table::record::word;
-use spec_type_table::Btf;
 use spec_type_table::BtfType;
+use spec_type_table::TypeTable;
 ghost use mathlib.Core.Path.{_≡_};
 ghost use Rattle.spec_bytes.specs.text.Text.{whole, putOut, putText};
 ghost use Rattle.spec_c_dumper.specs.rules.Place.{outOf, putSaid};
@@ -39,7 +39,7 @@ fn put_value64(text: &mut [u8], at: usize, is_signed: bool, v: u64) -> usize
 }
 
 fn emit_values64(
-    b: Btf,
+    b: TypeTable,
     section: &[u8],
     work: &mut [u8],
     text: &mut [u8],
@@ -67,7 +67,7 @@ fn emit_values64(
 }
 
 pub fn emit_enum64_def(
-    b: Btf,
+    b: TypeTable,
     section: &[u8],
     work: &mut [u8],
     text: &mut [u8],

@@ -5,7 +5,7 @@ use base_bytes::put::put_byte;
 use base_keywords::table::put_const;
 use base_keywords::table::put_restrict;
 use base_keywords::table::put_volatile;
-use spec_type_table::Btf;
+use spec_type_table::TypeTable;
 ghost use mathlib.Core.Path.{_≡_};
 ghost use Prim.Native.Nat.{_≤_};
 ghost use Rattle.spec_bytes.specs.text.Text.{whole, putOut, putText};
@@ -23,7 +23,7 @@ pub fn put_qualifier(text: &mut [u8], at: usize, kind: u32) -> usize
 }
 
 // How many of n entries stay when the qualifiers on top are popped.
-pub fn skip_mods(b: Btf, section: &[u8], work: &[u8], start: u32, n: u32) -> u32
+pub fn skip_mods(b: TypeTable, section: &[u8], work: &[u8], start: u32, n: u32) -> u32
     ensures { λ r. ⌜ (r ≡ skipped b (now (section .entry)) (now (work .entry)) start n) × (r ≤ n) ⌝ }
 {
     let mut k = n;
@@ -38,7 +38,7 @@ pub fn skip_mods(b: Btf, section: &[u8], work: &[u8], start: u32, n: u32) -> u32
 
 // Prints the qualifiers on top of n entries, each with a space after it, down to the first m.
 pub fn emit_mods(
-    b: Btf,
+    b: TypeTable,
     section: &[u8],
     work: &[u8],
     text: &mut [u8],

@@ -53,9 +53,9 @@ use c_dumper_name_versions::names::emit_name;
 use c_dumper_padding::padding::emit_bit_padding;
 use c_dumper_padding::padding::emit_tail_padding;
 use c_dumper_padding::placing::body_packed;
-use spec_type_table::Btf;
 use spec_type_table::BtfType;
 use spec_type_table::Entries;
+use spec_type_table::TypeTable;
 ghost use mathlib.Core.Path.{_≡_};
 ghost use mathlib.Core.Bool.{true, false};
 ghost use Prim.Native.Nat.{_≤_, _<_, _-_, _+_};
@@ -90,7 +90,7 @@ struct Chain {
 }
 
 pub fn emit_type_decl(
-    b: Btf,
+    b: TypeTable,
     section: &[u8],
     work: &mut [u8],
     text: &mut [u8],
@@ -113,7 +113,7 @@ pub fn emit_type_decl(
 }
 
 fn emit_type_chain(
-    b: Btf,
+    b: TypeTable,
     section: &[u8],
     work: &mut [u8],
     text: &mut [u8],
@@ -173,7 +173,7 @@ fn named(at: usize) -> Chain
 
 // Pops and prints the entry on top.
 fn emit_entry(
-    b: Btf,
+    b: TypeTable,
     section: &[u8],
     work: &mut [u8],
     text: &mut [u8],
@@ -219,7 +219,7 @@ fn emit_entry(
 
 // A prototype: its qualifiers, the rest of the chain, and its parameters.
 fn emit_function(
-    b: Btf,
+    b: TypeTable,
     section: &[u8],
     work: &mut [u8],
     text: &mut [u8],
@@ -240,7 +240,7 @@ fn emit_function(
 
 // The base's own words. What cannot be declared prints nothing, and a kind that there is not is void: opening refuses both.
 fn emit_base(
-    b: Btf,
+    b: TypeTable,
     section: &[u8],
     work: &mut [u8],
     text: &mut [u8],
@@ -275,7 +275,7 @@ fn emit_base(
 
 // A nameless composite is printed inline.
 fn emit_composite_word(
-    b: Btf,
+    b: TypeTable,
     section: &[u8],
     work: &mut [u8],
     text: &mut [u8],
@@ -295,7 +295,7 @@ fn emit_composite_word(
 
 // What stands before the brackets of an array: the name, or the chain that is left.
 fn emit_array(
-    b: Btf,
+    b: TypeTable,
     section: &[u8],
     work: &mut [u8],
     text: &mut [u8],
@@ -322,7 +322,7 @@ fn emit_array(
 
 // What stands before the parameters of a prototype.
 fn emit_proto(
-    b: Btf,
+    b: TypeTable,
     section: &[u8],
     work: &mut [u8],
     text: &mut [u8],
@@ -345,7 +345,7 @@ fn emit_proto(
 
 // The parameters in parentheses.
 fn emit_params(
-    b: Btf,
+    b: TypeTable,
     section: &[u8],
     work: &mut [u8],
     text: &mut [u8],
@@ -371,7 +371,7 @@ fn emit_params(
 
 // One parameter; the last, if void, stands for any more.
 fn emit_param(
-    b: Btf,
+    b: TypeTable,
     section: &[u8],
     work: &mut [u8],
     text: &mut [u8],
@@ -398,7 +398,7 @@ fn emit_param(
 }
 
 pub fn emit_composite_def(
-    b: Btf,
+    b: TypeTable,
     section: &[u8],
     work: &mut [u8],
     text: &mut [u8],
@@ -441,7 +441,7 @@ pub fn emit_composite_def(
 }
 
 fn emit_members(
-    b: Btf,
+    b: TypeTable,
     section: &[u8],
     work: &mut [u8],
     text: &mut [u8],
@@ -468,7 +468,7 @@ fn emit_members(
 }
 
 fn emit_member(
-    b: Btf,
+    b: TypeTable,
     section: &[u8],
     work: &mut [u8],
     text: &mut [u8],

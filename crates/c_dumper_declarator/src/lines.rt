@@ -10,8 +10,8 @@ use c_dumper_bodies::enums::emit_enum_def;
 use c_dumper_bodies::enums64::emit_enum64_def;
 use c_dumper_name_versions::forwards::emit_composite_fwd;
 use c_dumper_name_versions::forwards::emit_fwd_def;
-use spec_type_table::Btf;
 use spec_type_table::BtfType;
+use spec_type_table::TypeTable;
 ghost use mathlib.Core.Path.{_≡_};
 ghost use Rattle.spec_bytes.specs.text.Text.{ascii, whole, putOut, putText};
 ghost use Rattle.spec_c_dumper.specs.rules.Place.{outOf, putSaid};
@@ -27,7 +27,7 @@ fn put_line_end(text: &mut [u8], at: usize) -> usize
 
 // The definition of a composite, an enum or a forward, as a line.
 pub fn emit_definition(
-    b: Btf,
+    b: TypeTable,
     section: &[u8],
     work: &mut [u8],
     text: &mut [u8],
@@ -61,7 +61,7 @@ pub fn emit_definition(
 
 // The lines that come once for each id: a composite's forward line, a typedef. The compiler's own type has none.
 pub fn emit_forward(
-    b: Btf,
+    b: TypeTable,
     section: &[u8],
     work: &mut [u8],
     text: &mut [u8],

@@ -5,7 +5,7 @@ use base_bytes::put::put_byte;
 use base_keywords::table::put_typedef;
 use c_dumper_name_versions::names::resolve_type_name;
 use c_dumper_name_versions::tags::emit_decl_tags;
-use spec_type_table::Btf;
+use spec_type_table::TypeTable;
 ghost use mathlib.Core.Path.{_≡_};
 ghost use Rattle.spec_c_dumper.specs.alignment_once.Writers.{emitTypedefDefOnce};
 ghost use Rattle.btf_layout.specs.asked.Asked.{workAsks};
@@ -15,7 +15,7 @@ ghost use Rattle.spec_type_table.specs.Table.{btfOf, workNaming};
 
 // A typedef's line, without its end. The compiler's own type has none: see the caller.
 pub fn emit_typedef_def(
-    b: Btf,
+    b: TypeTable,
     section: &[u8],
     work: &mut [u8],
     text: &mut [u8],

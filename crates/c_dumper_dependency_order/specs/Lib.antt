@@ -1,3 +1,4 @@
 pub mod begin
+pub mod leaders
 pub mod order_state
 pub mod ways

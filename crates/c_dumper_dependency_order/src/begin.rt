@@ -6,7 +6,7 @@ use crate::order_state::strong;
 use btf_type_table::kind::kind_of;
 use btf_type_table::name::is_named;
 use btf_type_table::node::type_by_id;
-use spec_type_table::Btf;
+use spec_type_table::TypeTable;
 ghost use mathlib.Core.Path.{_≡_};
 ghost use Prim.Native.Nat.{_≤_};
 ghost use Rattle.spec_c_dumper.specs.ceiling.Ceiling.{thenBind, orderMetered};
@@ -33,7 +33,7 @@ fn paid(o: Order, cost: u64) -> Order
 }
 
 // An id in progress: a named composite behind a pointer is passed over, anything else is a cycle.
-pub fn meet(b: Btf, section: &[u8], work: &[u8], o: Order, id: u32, has_ptr: bool) -> Order
+pub fn meet(b: TypeTable, section: &[u8], work: &[u8], o: Order, id: u32, has_ptr: bool) -> Order
     ensures { λ r. ⌜ orderOut r (now (work .entry)) ≡ thenBind (orderOut o (now (work .entry))) (λ m _ k. meetIn (tableIn b (now (section .entry)) (now (work .entry))) m id «has_ptr» k) ⌝ }
 {
     if o.stop != 0 {
@@ -54,7 +54,7 @@ pub fn meet(b: Btf, section: &[u8], work: &[u8], o: Order, id: u32, has_ptr: boo
 
 // A call costs 1 under a ceiling, and 0 where there is none: then it is never refused by 22, which comes after 12.
 pub fn begin(
-    b: Btf,
+    b: TypeTable,
     section: &[u8],
     work: &[u8],
     o: Order,

@@ -14,9 +14,9 @@ use btf_type_table::name::is_named;
 use btf_type_table::node::node_of;
 use btf_type_table::node::type_by_id;
 use btf_type_table::record::word;
-use spec_type_table::Btf;
 use spec_type_table::Entries;
 use spec_type_table::Node;
+use spec_type_table::TypeTable;
 ghost use mathlib.Core.Path.{_≡_};
 ghost use mathlib.Core.Bool.{false};
 ghost use Rattle.spec_c_dumper.specs.ceiling.Ceiling.{thenBind, eachWithin, orderMetered};
@@ -25,7 +25,7 @@ ghost use Rattle.c_dumper_dependency_order.specs.order_state.Work.{workS
 
 // A call costs 1 under a ceiling, and 0 where there is none.
 pub fn order_type(
-    b: Btf,
+    b: TypeTable,
     section: &[u8],
     work: &mut [u8],
     o: Order,
@@ -44,7 +44,7 @@ pub fn order_type(
 
 // An id that is not ordered yet.
 fn order_new(
-    b: Btf,
+    b: TypeTable,
     section: &[u8],
     work: &mut [u8],
     o: Order,
@@ -88,7 +88,7 @@ fn order_new(
 
 // A composite: passed over if it is named and behind a pointer, else its members, each a strong way, and then itself.
 fn order_composite(
-    b: Btf,
+    b: TypeTable,
     section: &[u8],
     work: &mut [u8],
     o: Order,
@@ -111,7 +111,7 @@ fn order_composite(
 
 // The parameters of a prototype; the way is strong if one of them was, or what came before.
 fn order_params(
-    b: Btf,
+    b: TypeTable,
     section: &[u8],
     work: &mut [u8],
     o: Order,
@@ -137,7 +137,7 @@ fn order_params(
 
 // The members of a composite, each a strong way.
 fn order_members(
-    b: Btf,
+    b: TypeTable,
     section: &[u8],
     work: &mut [u8],
     o: Order,

@@ -1,12 +1,12 @@
 // Small decisions of ordering, with no call of it: which ways are weak, which composites are passed over, and what a request
 // opens that has nothing to do.
-use spec_type_table::Btf;
+use spec_type_table::TypeTable;
 ghost use mathlib.Core.Path.{_≡_};
 ghost use mathlib.Core.Bool.{not, _&&_};
 ghost use Rattle.c_dumper_dependency_order.specs.ways.Idle.{idleIn};
 
 // The way past an array or a qualifier is weak if the way to it was; with strong arrays, passing an array forgets that.
-pub fn is_weak_past(b: Btf, is_array: bool, has_ptr: bool) -> bool
+pub fn is_weak_past(b: TypeTable, is_array: bool, has_ptr: bool) -> bool
     ensures { λ r. ⌜ r ≡ (not («is_array» && b .«strong_arrays») && «has_ptr») ⌝ }
 {
     !(is_array & b.strong_arrays) & has_ptr

@@ -1,1 +1,2 @@
 pub mod dump_type
+pub mod entries

@@ -8,7 +8,7 @@ use c_dumper_dependency_order::order_state::get_listed;
 use c_dumper_dependency_order::order_state::get_order_state;
 use c_dumper_dependency_order::order_type::order_type;
 use spec_session::emission::clear_list;
-use spec_type_table::Btf;
+use spec_type_table::TypeTable;
 ghost use mathlib.Core.Path.{_≡_};
 ghost use Prim.Native.Nat.{_-_};
 ghost use Rattle.spec_c_dumper.specs.rules.Machine.{obind, eeach};
@@ -18,10 +18,18 @@ ghost use Rattle.spec_type_table.specs.Table.{btfOf};
 ghost use Rattle.c_dumper_dependency_order.specs.order_state.Work.{markOf, tableIn};
 ghost use Rattle.spec_c_dumper.specs.ceiling.Ceiling.{countOf};
 ghost use Rattle.c_dumper_emit.specs.dump_type.Metered.{orderedIn, dumpedMetered, callsIn, dumpedWithin};
-ghost use Rattle.spec_session.specs.emission.Sheet.{sheetStore, emitOut, workMachine, emitIn, dumped, isIdle};
+ghost use Rattle.spec_session.specs.emission.Sheet.{sheetStore, emitOut, workMachine, emitIn, isIdle};
+ghost use Rattle.spec_c_dumper.specs.rules.Request.{dumped};
 
 // Emits the first n ids of the order list.
-fn emit_listed(b: Btf, section: &[u8], work: &mut [u8], text: &mut [u8], at: usize, n: u32) -> usize
+fn emit_listed(
+    b: TypeTable,
+    section: &[u8],
+    work: &mut [u8],
+    text: &mut [u8],
+    at: usize,
+    n: u32,
+) -> usize
     ensures { λ r. ⌜ emitOut n r (now (text .exit)) (now (work .exit)) ≡ obind (emitOut n at (now (text .entry)) (now (work .entry))) (λ m. eeach (emitIn b (btfOf b (now (section .entry)) (now (work .entry))) 512 0) (sheetStore .list m) m) ⌝ }
 {
     let mut p = at;
@@ -35,7 +43,7 @@ fn emit_listed(b: Btf, section: &[u8], work: &mut [u8], text: &mut [u8], at: usi
 }
 
 // A request for an id that is ordered, or is a function, a variable, a section or a tag, does nothing.
-pub fn is_idle(b: Btf, section: &[u8], work: &[u8], id: u32) -> bool
+pub fn is_idle(b: TypeTable, section: &[u8], work: &[u8], id: u32) -> bool
     ensures { λ r. ⌜ r ≡ isIdle (markOf (getField (now (work .entry)) id 1)) (tableIn b (now (section .entry)) (now (work .entry)) .node id) ⌝ }
 {
     let state = get_order_state(work, id);
@@ -61,7 +69,7 @@ pub struct Dumped {
 
 // One request, with so many calls of ordering left. Each costs 1 under a ceiling, and 0 without one.
 fn dump_metered(
-    b: Btf,
+    b: TypeTable,
     section: &[u8],
     work: &mut [u8],
     text: &mut [u8],
@@ -95,7 +103,7 @@ fn dump_metered(
 
 // One request: the place after its text, or one past the end that says which refusal stopped it.
 pub fn dump_type(
-    b: Btf,
+    b: TypeTable,
     section: &[u8],
     work: &mut [u8],
     text: &mut [u8],
@@ -110,7 +118,7 @@ pub fn dump_type(
 
 // The same under a ceiling: `spare` calls of ordering are left, and 22 comes when one more would be opened.
 pub fn dump_type_within(
-    b: Btf,
+    b: TypeTable,
     section: &[u8],
     work: &mut [u8],
     text: &mut [u8],

@@ -15,10 +15,10 @@ use btf_type_table::name::is_named;
 use btf_type_table::node::node_of;
 use btf_type_table::node::type_by_id;
 use btf_type_table::record::word;
-use spec_type_table::Btf;
 use spec_type_table::BtfType;
 use spec_type_table::Entries;
 use spec_type_table::Node;
+use spec_type_table::TypeTable;
 ghost use mathlib.Core.Path.{_≡_};
 ghost use Prim.Native.Nat.{ℕ};
 ghost use Rattle.spec_c_dumper.specs.rules.Machine.{obind, eeach};
@@ -29,7 +29,7 @@ ghost use Rattle.spec_session.specs.emission.Sheet.{emitOut, emitIn, newIn, com
 
 // cont_id is the composite or typedef that is being emitted around id, or 0 at the top.
 pub fn emit_type(
-    b: Btf,
+    b: TypeTable,
     section: &[u8],
     work: &mut [u8],
     text: &mut [u8],
@@ -62,7 +62,7 @@ pub fn emit_type(
 
 // An id that is not emitted yet.
 fn emit_new(
-    b: Btf,
+    b: TypeTable,
     section: &[u8],
     work: &mut [u8],
     text: &mut [u8],
@@ -98,7 +98,7 @@ fn emit_new(
 
 // A composite: at the top, or nameless, all that its members need first; else a forward line. At the top its definition.
 fn emit_composite(
-    b: Btf,
+    b: TypeTable,
     section: &[u8],
     work: &mut [u8],
     text: &mut [u8],
@@ -123,7 +123,7 @@ fn emit_composite(
 }
 
 fn emit_members(
-    b: Btf,
+    b: TypeTable,
     section: &[u8],
     work: &mut [u8],
     text: &mut [u8],
@@ -146,7 +146,7 @@ fn emit_members(
 }
 
 fn emit_params(
-    b: Btf,
+    b: TypeTable,
     section: &[u8],
     work: &mut [u8],
     text: &mut [u8],

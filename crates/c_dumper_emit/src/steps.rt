@@ -8,8 +8,8 @@ use btf_type_table::name::is_named;
 use btf_type_table::node::type_by_id;
 use c_dumper_declarator::lines::emit_definition;
 use c_dumper_declarator::lines::emit_forward;
-use spec_type_table::Btf;
 use spec_type_table::BtfType;
+use spec_type_table::TypeTable;
 ghost use mathlib.Core.Path.{_≡_};
 ghost use mathlib.Core.Bool.{not, _||_};
 ghost use lib.Dec.{eqb};
@@ -44,7 +44,7 @@ fn set_fwd_emitted(work: &mut [u8], id: u32)
 }
 
 fn emit_once(
-    b: Btf,
+    b: TypeTable,
     section: &[u8],
     work: &mut [u8],
     text: &mut [u8],
@@ -64,7 +64,7 @@ fn emit_once(
 
 // An id that is met while it is being emitted. A nameless composite never is, since ordering refuses its cycle.
 pub fn emit_again(
-    b: Btf,
+    b: TypeTable,
     section: &[u8],
     work: &mut [u8],
     text: &mut [u8],
@@ -95,7 +95,7 @@ pub fn emit_again(
 
 // An enum is defined at the top only; a forward is printed wherever it is met.
 pub fn emit_leaf(
-    b: Btf,
+    b: TypeTable,
     section: &[u8],
     work: &mut [u8],
     text: &mut [u8],
@@ -125,7 +125,7 @@ pub fn inner(named: bool, id: u32, cont_id: u32) -> u32
 
 // A named composite within another: a forward line, unless it is that other.
 fn emit_mention(
-    b: Btf,
+    b: TypeTable,
     section: &[u8],
     work: &mut [u8],
     text: &mut [u8],
@@ -144,7 +144,7 @@ fn emit_mention(
 
 // The same with the emit state around it: the composite is begun, and new again after that.
 pub fn mention_composite(
-    b: Btf,
+    b: TypeTable,
     section: &[u8],
     work: &mut [u8],
     text: &mut [u8],
@@ -163,7 +163,7 @@ pub fn mention_composite(
 
 // What ends a typedef: its line, unless it had one.
 pub fn end_typedef(
-    b: Btf,
+    b: TypeTable,
     section: &[u8],
     work: &mut [u8],
     text: &mut [u8],
@@ -180,7 +180,7 @@ pub fn end_typedef(
 
 // What ends a composite, after its members: its definition at the top; within another it is new again.
 pub fn end_composite(
-    b: Btf,
+    b: TypeTable,
     section: &[u8],
     work: &mut [u8],
     text: &mut [u8],

@@ -6,7 +6,7 @@ use base_keywords::table::put_struct;
 use base_keywords::table::put_struct_union;
 use base_keywords::table::put_union;
 use btf_type_table::name::is_builtin;
-use spec_type_table::Btf;
+use spec_type_table::TypeTable;
 ghost use mathlib.Core.Path.{_≡_};
 ghost use mathlib.Core.List.{[]};
 ghost use Rattle.spec_bytes.specs.text.Text.{whole, putOut, putText};
@@ -16,7 +16,7 @@ ghost use Rattle.spec_type_table.specs.Names.{strAt};
 ghost use Rattle.spec_type_table.specs.Table.{btfOf, workNaming};
 
 // It is a matter of the settings alone, so any section and any work will do for the table.
-pub fn put_keyword(b: Btf, text: &mut [u8], at: usize, is_struct: bool) -> usize
+pub fn put_keyword(b: TypeTable, text: &mut [u8], at: usize, is_struct: bool) -> usize
     ensures { λ r. ⌜ putOut r (now (text .exit)) ≡ putText (now (text .entry)) at (whole (keyword (btfOf b [] []) «is_struct»)) ⌝ }
 {
     if is_struct {
@@ -30,7 +30,7 @@ pub fn put_keyword(b: Btf, text: &mut [u8], at: usize, is_struct: bool) -> usize
 
 // The keyword and the name; nothing for the compiler's own type.
 pub fn emit_composite_fwd(
-    b: Btf,
+    b: TypeTable,
     section: &[u8],
     work: &mut [u8],
     text: &mut [u8],
@@ -51,7 +51,7 @@ pub fn emit_composite_fwd(
 }
 
 pub fn emit_fwd_def(
-    b: Btf,
+    b: TypeTable,
     section: &[u8],
     work: &mut [u8],
     text: &mut [u8],

@@ -11,7 +11,7 @@ use btf_type_table::kind::kind_of;
 use btf_type_table::name::get_btf_str;
 use btf_type_table::node::type_by_id;
 use btf_type_table::record::comp_idx_of;
-use spec_type_table::Btf;
+use spec_type_table::TypeTable;
 ghost use mathlib.Core.Path.{_≡_};
 ghost use Rattle.spec_bytes.specs.text.Text.{whole, putOut, putText};
 ghost use Rattle.base_keywords.specs.table.Fixed.{tagName};
@@ -30,7 +30,7 @@ fn put_tag_name(text: &mut [u8], at: usize, is_decl: bool) -> usize
 
 // What a tag prints: its name as an attribute of its own, or in the attribute of its kind.
 pub fn put_attribute(
-    b: Btf,
+    b: TypeTable,
     section: &[u8],
     text: &mut [u8],
     at: usize,
@@ -55,7 +55,7 @@ pub fn put_attribute(
 
 // The DECL_TAG id, if its component is the one asked for.
 fn emit_decl_tag(
-    b: Btf,
+    b: TypeTable,
     section: &[u8],
     work: &[u8],
     text: &mut [u8],
@@ -78,7 +78,7 @@ fn emit_decl_tag(
 // The tags of a type, those of the whole (4294967295, which is -1) or of one member, in the order of their ids. The list
 // of a type's tags rises; what does not rise, or is no id of a type, was not left by opening, and ends it.
 pub fn emit_decl_tags(
-    b: Btf,
+    b: TypeTable,
     section: &[u8],
     work: &[u8],
     text: &mut [u8],

@@ -7,9 +7,9 @@ use btf_type_table::entry::load_member;
 use btf_type_table::kind::is_struct;
 use btf_type_table::kind::vlen_of;
 use spec_c_dumper::rules::larger;
-use spec_type_table::Btf;
 use spec_type_table::BtfMember;
 use spec_type_table::BtfType;
+use spec_type_table::TypeTable;
 ghost use mathlib.Core.Path.{_≡_};
 ghost use Prim.Native.Nat.{_*_};
 ghost use lib.Dec.{eqb};
@@ -90,7 +90,7 @@ fn member_fits(in_struct: bool, packed: bool, last: u32, size: u32, m: BtfMember
 }
 
 // The size of a bit field's type; a plain member's is asked with its end.
-fn field_size(b: Btf, section: &[u8], work: &[u8], m: BtfMember) -> Ask
+fn field_size(b: TypeTable, section: &[u8], work: &[u8], m: BtfMember) -> Ask
     ensures { λ r. ⌜ askOf r ≡ fieldSize (btfOf b (now (section .entry)) (now (work .entry))) (ruleMember b (now (section .entry)) m) ⌝ }
 {
     if m.bit_size == 0 {
@@ -133,7 +133,7 @@ fn with_member(
 
 // One member more: the size of a bit field's type is asked before its end.
 fn next_member(
-    b: Btf,
+    b: TypeTable,
     section: &[u8],
     work: &[u8],
     in_struct: bool,
@@ -152,7 +152,7 @@ fn next_member(
     }
 }
 
-pub fn extent_of(b: Btf, section: &[u8], work: &[u8], t: BtfType, packed: bool) -> Extents
+pub fn extent_of(b: TypeTable, section: &[u8], work: &[u8], t: BtfType, packed: bool) -> Extents
     ensures { λ r. ⌜ extentsOf r ≡ extentOf (btfOf b (now (section .entry)) (now (work .entry))) (eqb (kindOf (t .info)) 4) packed noExtent (membersOf b (now (section .entry)) t) ⌝ }
 {
     let vlen = vlen_of(t.info);

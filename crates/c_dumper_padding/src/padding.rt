@@ -6,9 +6,9 @@ use base_bytes::put::stop;
 use btf_layout::asked::gap_align;
 use btf_layout::size::Ask;
 use btf_type_table::kind::is_struct;
-use spec_type_table::Btf;
 use spec_type_table::BtfMember;
 use spec_type_table::BtfType;
+use spec_type_table::TypeTable;
 ghost use mathlib.Core.Path.{_≡_};
 ghost use Prim.Native.Nat.{_*_, _-_};
 ghost use lib.Dec.{eqb};
@@ -70,7 +70,7 @@ fn put_placed_gap(
 
 // The mode chooses.
 fn put_pads_before(
-    b: Btf,
+    b: TypeTable,
     text: &mut [u8],
     at: usize,
     start: u32,
@@ -88,7 +88,7 @@ fn put_pads_before(
 }
 
 pub fn emit_bit_padding(
-    b: Btf,
+    b: TypeTable,
     section: &[u8],
     work: &mut [u8],
     text: &mut [u8],
@@ -122,7 +122,7 @@ fn put_own_line(text: &mut [u8], at: usize, members: u32) -> usize
 
 // What stands after the last of a body's members, which ends at an offset: in placing mode the pads that fill a struct to its size.
 pub fn emit_tail_padding(
-    b: Btf,
+    b: TypeTable,
     text: &mut [u8],
     at: usize,
     t: BtfType,

@@ -6,8 +6,8 @@ use btf_layout::asked::is_packed;
 use btf_layout::asked::union_align;
 use btf_layout::size::Ask;
 use btf_layout::size::Packed;
-use spec_type_table::Btf;
 use spec_type_table::BtfType;
+use spec_type_table::TypeTable;
 ghost use mathlib.Core.Path.{_≡_};
 ghost use lib.Dec.{eqb};
 ghost use Rattle.spec_type_table.specs.Records.{kindOf};
@@ -16,7 +16,7 @@ ghost use Rattle.btf_layout.specs.asked.Asked.{packedIn};
 ghost use Rattle.c_dumper_padding.specs.placing.Steps.{byIn, measuredIn, bodyIn};
 
 // The packed test, then the members, then the whole.
-fn measured_by(b: Btf, section: &[u8], work: &mut [u8], id: u32, t: BtfType, a: u32) -> Packed
+fn measured_by(b: TypeTable, section: &[u8], work: &mut [u8], id: u32, t: BtfType, a: u32) -> Packed
     ensures { λ r. ⌜ packedIn r (now (work .exit)) ≡ byIn (b .types) (btfOf b (now (section .entry)) (now (work .entry))) (eqb (kindOf (t .info)) 4) id (t .«type_id») (membersOf b (now (section .entry)) t) a (now (work .entry)) ⌝ }
 {
     match is_packed(b, section, work, id, t) {
@@ -28,7 +28,7 @@ fn measured_by(b: Btf, section: &[u8], work: &mut [u8], id: u32, t: BtfType, a: 
     }
 }
 
-fn measured(b: Btf, section: &[u8], work: &mut [u8], id: u32, t: BtfType) -> Packed
+fn measured(b: TypeTable, section: &[u8], work: &mut [u8], id: u32, t: BtfType) -> Packed
     ensures { λ r. ⌜ packedIn r (now (work .exit)) ≡ measuredIn (b .types) (btfOf b (now (section .entry)) (now (work .entry))) (eqb (kindOf (t .info)) 4) id (t .«type_id») (membersOf b (now (section .entry)) t) (now (work .entry)) ⌝ }
 {
     match union_align(b, section, work, id, t) {
@@ -38,7 +38,7 @@ fn measured(b: Btf, section: &[u8], work: &mut [u8], id: u32, t: BtfType) -> Pac
 }
 
 // What is known of a body before its first name or byte: whether it is packed, or the refusal. The mode chooses.
-pub fn body_packed(b: Btf, section: &[u8], work: &mut [u8], id: u32, t: BtfType) -> Packed
+pub fn body_packed(b: TypeTable, section: &[u8], work: &mut [u8], id: u32, t: BtfType) -> Packed
     ensures { λ r. ⌜ packedIn r (now (work .exit)) ≡ bodyIn (b .types) (btfOf b (now (section .entry)) (now (work .entry))) (eqb (kindOf (t .info)) 4) id (t .«type_id») (membersOf b (now (section .entry)) t) (now (work .entry)) ⌝ }
 {
     if b.placing {

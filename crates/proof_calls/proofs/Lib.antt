@@ -4,4 +4,5 @@ pub mod cut
 pub mod line_origins
 pub mod list_fits
 pub mod mixed
+pub mod origins
 pub mod program

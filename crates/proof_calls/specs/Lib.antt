@@ -3,4 +3,5 @@ pub mod ceilings
 pub mod cut
 pub mod line_origins
 pub mod mixed
+pub mod origins
 pub mod program

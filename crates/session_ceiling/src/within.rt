@@ -14,7 +14,7 @@ use session_record::settle::turn_of;
 use session_record::settle::visits_in;
 use spec_session::session::Reached;
 use spec_session::session::Session;
-use spec_type_table::Btf;
+use spec_type_table::TypeTable;
 ghost use Prim.Native.Nat.{_+_, _-_, _<_, _≤_};
 ghost use mathlib.Core.Path.{_≡_};
 ghost use lib.ListN.{length};
@@ -22,7 +22,7 @@ ghost use Rattle.session_ceiling.specs.metered.Within.{withinOf, counted
 
 // One id, after a text of len bytes, so many visits and so many calls.
 fn dump_one(
-    b: Btf,
+    b: TypeTable,
     section: &[u8],
     work: &mut [u8],
     text: &mut [u8],
@@ -54,7 +54,7 @@ fn dump_one(
 
 // The same; most ids of a table have nothing to write, and open one call.
 fn dump_next(
-    b: Btf,
+    b: TypeTable,
     section: &[u8],
     work: &mut [u8],
     text: &mut [u8],
@@ -83,7 +83,7 @@ fn dump_next(
 
 // Every id from 1 upward, to the first that is refused.
 fn dump_all(
-    b: Btf,
+    b: TypeTable,
     section: &[u8],
     work: &mut [u8],
     text: &mut [u8],

@@ -8,7 +8,7 @@ use btf_open_causes::strings::has_bad_strings;
 use session_cut_marks::marks::number_kept;
 use spec_session::session::Answer;
 use spec_session::session::Session;
-use spec_type_table::Btf;
+use spec_type_table::TypeTable;
 ghost use mathlib.Core.Path.{_≡_};
 ghost use mathlib.Core.Bool.{_&&_};
 ghost use mathlib.Core.List.{[], _∷_};
@@ -79,7 +79,7 @@ fn is_past(given: &[u8], count: u32) -> bool
 }
 
 // The new section, of a table and its index.
-fn write_cut(b: Btf, section: &[u8], start: &[u32], given: &[u8], out: &mut [u8]) -> Answer
+fn write_cut(b: TypeTable, section: &[u8], start: &[u32], given: &[u8], out: &mut [u8]) -> Answer
     ensures { λ r. ⌜ cutOf r (now (out .exit)) ≡ answered (keptWritten b (now (section .entry)) (now (start .entry)) (idsOf b (now (section .entry)) (now (start .entry)) (now (given .entry)) allZero) (now (out .entry))) ⌝ }
 {
     let mut ids = [0u32; 262145];

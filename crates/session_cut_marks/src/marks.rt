@@ -7,7 +7,7 @@ use base_bytes::word::get_word;
 use btf_open_causes::references::count_at;
 use btf_open_causes::references::entry;
 use btf_open_causes::references::id_at;
-use spec_type_table::Btf;
+use spec_type_table::TypeTable;
 ghost use mathlib.Core.Path.{_≡_};
 ghost use Prim.Native.Nat.{_/_};
 ghost use lib.ListN.{length};
@@ -39,7 +39,7 @@ fn push(marks: &mut [u32], stack: &mut [u32], d: usize, y: u32) -> usize
 
 // What type x follows.
 fn push_followed(
-    b: Btf,
+    b: TypeTable,
     section: &[u8],
     start: &[u32],
     marks: &mut [u32],
@@ -63,7 +63,14 @@ fn push_followed(
 }
 
 // Until the stack is empty: the last id is taken from it, and what it follows is marked.
-fn close(b: Btf, section: &[u8], start: &[u32], marks: &mut [u32], stack: &mut [u32], d: usize)
+fn close(
+    b: TypeTable,
+    section: &[u8],
+    start: &[u32],
+    marks: &mut [u32],
+    stack: &mut [u32],
+    d: usize,
+)
     ensures { λ _. ⌜ heap (now (marks .exit)) (now (stack .exit)) 0 ≡ closed b (now (section .entry)) (now (start .entry)) (weight (heap (now (marks .entry)) (now (stack .entry)) d)) (heap (now (marks .entry)) (now (stack .entry)) d) ⌝ }
 {
     let mut top = d;
@@ -88,7 +95,7 @@ fn push_given(given: &[u8], marks: &mut [u32], stack: &mut [u32]) -> usize
 }
 
 // For each id its new number, and 0 for what is not kept. The ids lent are zeros, 262145 of them; other words count as marks.
-pub fn number_kept(b: Btf, section: &[u8], start: &[u32], given: &[u8], ids: &mut [u32])
+pub fn number_kept(b: TypeTable, section: &[u8], start: &[u32], given: &[u8], ids: &mut [u32])
     ensures { λ _. ⌜ now (ids .exit) ≡ idsOf b (now (section .entry)) (now (start .entry)) (now (given .entry)) (now (ids .entry)) ⌝ }
 {
     let mut stack = [0u32; 262145];

@@ -1,7 +1,7 @@
 // The words of a record. The tables are texts of digits, one for each kind 0 to 19.
 use btf_type_table::kind::vlen_of;
 use btf_type_table::record::word;
-use spec_type_table::Btf;
+use spec_type_table::TypeTable;
 ghost use mathlib.Core.Path.{_≡_};
 ghost use Rattle.session_cut_marks.specs.roles.Words.{digitAt, fixedWords, entryWords, column, role, wordsIn, wordOf};
 
@@ -57,7 +57,7 @@ pub fn role(kind: u32, j: u32) -> u8
 }
 
 // How many words the record with entry e has: place * 32 + kind.
-pub fn words_in(b: Btf, section: &[u8], e: u32) -> u32
+pub fn words_in(b: TypeTable, section: &[u8], e: u32) -> u32
     ensures { λ r. ⌜ r ≡ wordsIn b (now (section .entry)) e ⌝ }
 {
     let v = vlen_of(word(b, section, ((e / 32) as usize) + 4));
@@ -65,7 +65,7 @@ pub fn words_in(b: Btf, section: &[u8], e: u32) -> u32
 }
 
 // Word j of it.
-pub fn word_of(b: Btf, section: &[u8], e: u32, j: u32) -> u32
+pub fn word_of(b: TypeTable, section: &[u8], e: u32, j: u32) -> u32
     ensures { λ r. ⌜ r ≡ wordOf b (now (section .entry)) e j ⌝ }
 {
     word(b, section, ((e / 32) as usize) + (j as usize) * 4)

@@ -3,7 +3,7 @@ use btf_open_causes::references::count;
 use btf_open_causes::references::entry;
 use btf_open_causes::references::kind_at;
 use btf_type_table::record::word;
-use spec_type_table::Btf;
+use spec_type_table::TypeTable;
 ghost use mathlib.Core.Path.{_≡_};
 ghost use Prim.Native.Nat.{_<_};
 ghost use lib.ListN.{getD};
@@ -21,7 +21,7 @@ pub fn peek(l: &[u32], i: usize) -> u32
 }
 
 // What the DECL_TAG x is on, where that is no DECL_TAG; else 0.
-fn tag_on(b: Btf, section: &[u8], start: &[u32], x: u32) -> u32
+fn tag_on(b: TypeTable, section: &[u8], start: &[u32], x: u32) -> u32
     ensures { λ r. ⌜ r ≡ tagOn b (now (section .entry)) (now (start .entry)) x ⌝ }
 {
     let e = entry(b, start, x);
@@ -36,7 +36,7 @@ fn tag_on(b: Btf, section: &[u8], start: &[u32], x: u32) -> u32
 }
 
 // Marks x, if it is a tag on what is marked.
-fn mark_tag(b: Btf, section: &[u8], start: &[u32], marks: &mut [u32], x: u32)
+fn mark_tag(b: TypeTable, section: &[u8], start: &[u32], marks: &mut [u32], x: u32)
     ensures { λ _. ⌜ now (marks .exit) ≡ taggedAt b (now (section .entry)) (now (start .entry)) (now (marks .entry)) x ⌝ }
 {
     let t = tag_on(b, section, start, x);
@@ -52,7 +52,7 @@ fn mark_tag(b: Btf, section: &[u8], start: &[u32], marks: &mut [u32], x: u32)
     }
 }
 
-pub fn mark_tags(b: Btf, section: &[u8], start: &[u32], marks: &mut [u32])
+pub fn mark_tags(b: TypeTable, section: &[u8], start: &[u32], marks: &mut [u32])
     ensures { λ _. ⌜ now (marks .exit) ≡ taggedTo b (now (section .entry)) (now (start .entry)) (now (marks .entry)) (countOf b) ⌝ }
 {
     let n = count(b);

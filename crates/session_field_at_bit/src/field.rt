@@ -12,8 +12,8 @@ use btf_type_table::record::array_type;
 use session_record::settle::is_current;
 use spec_session::session::Answer;
 use spec_session::session::Session;
-use spec_type_table::Btf;
 use spec_type_table::BtfType;
+use spec_type_table::TypeTable;
 ghost use mathlib.Core.Path.{_≡_};
 ghost use Prim.Native.Nat.{_-_, _≤_};
 ghost use Rattle.spec_type_table.specs.Table.{btfOf, typeOf};
@@ -23,7 +23,7 @@ ghost use Rattle.session_field_at_bit.specs.field.Calls.{foundOf, lentPa
 ghost use Rattle.session_field_at_bit.specs.step.Code.{shapeIs, ledTo};
 ghost use Rattle.session_field_at_bit.specs.field.Code.{written, answerTo};
 
-fn shape_of(b: Btf, section: &[u8], t: BtfType) -> Shape
+fn shape_of(b: TypeTable, section: &[u8], t: BtfType) -> Shape
     ensures { λ r. ⌜ shapeIs b (now (section .entry)) r ≡ shapeOf (typeOf b (now (section .entry)) t) ⌝ }
 {
     match kind_of(t.info) {
@@ -34,7 +34,7 @@ fn shape_of(b: Btf, section: &[u8], t: BtfType) -> Shape
     }
 }
 
-fn is_composite(b: Btf, section: &[u8], t: BtfType) -> bool
+fn is_composite(b: TypeTable, section: &[u8], t: BtfType) -> bool
     ensures { λ r. ⌜ r ≡ isComposite (shapeOf (typeOf b (now (section .entry)) t)) ⌝ }
 {
     match shape_of(b, section, t) {
@@ -46,7 +46,7 @@ fn is_composite(b: Btf, section: &[u8], t: BtfType) -> bool
 }
 
 // What stands behind typedefs, qualifiers and type tags.
-fn behind(b: Btf, section: &[u8], work: &[u8], id: u32, left: u32) -> Shape
+fn behind(b: TypeTable, section: &[u8], work: &[u8], id: u32, left: u32) -> Shape
     ensures { λ r. ⌜ shapeIs b (now (section .entry)) r ≡ behind left (btfOf b (now (section .entry)) (now (work .entry))) id ⌝ }
 {
     if left == 0 {
@@ -62,7 +62,15 @@ fn behind(b: Btf, section: &[u8], work: &[u8], id: u32, left: u32) -> Shape
 
 // The path inside a type after n entries: its whole length. Entries are written on the way back, when the length is known, so
 // that a refusal leaves the lent path as it was.
-fn walk(b: Btf, section: &[u8], work: &[u8], path: &mut [u8], id: u32, bit: u32, n: u32) -> Ask
+fn walk(
+    b: TypeTable,
+    section: &[u8],
+    work: &[u8],
+    path: &mut [u8],
+    id: u32,
+    bit: u32,
+    n: u32,
+) -> Ask
     requires { ⌜ n ≤ 512 ⌝ }
     ensures { λ r. ⌜ ledTo (askOf r) (now (path .exit)) ≡ written (now (path .entry)) n (pathFrom (512 - n) (btfOf b (now (section .entry)) (now (work .entry))) id bit) ⌝ }
 {
@@ -100,7 +108,14 @@ fn answer_to(room: usize, len: u32) -> Answer
 }
 
 // The path of a bit of a type, which is to be a composite.
-fn find_field(b: Btf, section: &[u8], work: &[u8], path: &mut [u8], id: u32, bit: u32) -> Answer
+fn find_field(
+    b: TypeTable,
+    section: &[u8],
+    work: &[u8],
+    path: &mut [u8],
+    id: u32,
+    bit: u32,
+) -> Answer
     ensures { λ r. ⌜ foundOf r (now (path .exit)) ≡ lentPath (now (path .entry)) (fieldPath (btfOf b (now (section .entry)) (now (work .entry))) id bit) ⌝ }
 {
     if !is_composite(b, section, type_by_id(b, section, work, id)) {

@@ -5,9 +5,9 @@ use btf_layout::size::Ask;
 use btf_layout::size::get_size_of;
 use btf_type_table::entry::load_member;
 use btf_type_table::kind::vlen_of;
-use spec_type_table::Btf;
 use spec_type_table::BtfMember;
 use spec_type_table::BtfType;
+use spec_type_table::TypeTable;
 ghost use mathlib.Core.Path.{_≡_};
 ghost use Rattle.spec_c_dumper.specs.rules.Writer.{got, askThen};
 ghost use Rattle.spec_c_dumper.specs.rules.Layout.{getSizeOf, endOf};
@@ -50,7 +50,7 @@ fn member_step(m: BtfMember, k: u32, end: u32, bit: u32) -> Step
 }
 
 // The same; its size is asked first.
-fn try_member(b: Btf, section: &[u8], work: &[u8], m: BtfMember, k: u32, bit: u32) -> Step
+fn try_member(b: TypeTable, section: &[u8], work: &[u8], m: BtfMember, k: u32, bit: u32) -> Step
     ensures { λ r. ⌜ stepIs r ≡ askThen (endOf (btfOf b (now (section .entry)) (now (work .entry))) (ruleMember b (now (section .entry)) m)) (λ end. got (memberStep m k end bit)) ⌝ }
 {
     match member_end(b, section, work, m) {
@@ -71,7 +71,7 @@ fn is_stay(s: Step) -> bool
 }
 
 // The first member that covers the bit.
-fn find_member(b: Btf, section: &[u8], work: &[u8], t: BtfType, bit: u32) -> Step
+fn find_member(b: TypeTable, section: &[u8], work: &[u8], t: BtfType, bit: u32) -> Step
     ensures { λ r. ⌜ stepIs r ≡ tried (btfOf b (now (section .entry)) (now (work .entry))) bit 0 (membersOf b (now (section .entry)) t) ⌝ }
 {
     let vlen = vlen_of(t.info);
@@ -99,7 +99,7 @@ fn place_of(t: u32, size: u32, bit: u32) -> Step
     Step::Enter((at / unit) as u32, t, (at % unit) as u32)
 }
 
-fn find_place(b: Btf, section: &[u8], work: &[u8], t: u32, bit: u32) -> Step
+fn find_place(b: TypeTable, section: &[u8], work: &[u8], t: u32, bit: u32) -> Step
     ensures { λ r. ⌜ stepIs r ≡ askThen (getSizeOf 512 (btfOf b (now (section .entry)) (now (work .entry))) t) (λ size. got (placed t size bit)) ⌝ }
 {
     match get_size_of(b, section, work, t, 512) {
@@ -108,7 +108,7 @@ fn find_place(b: Btf, section: &[u8], work: &[u8], t: u32, bit: u32) -> Step
     }
 }
 
-pub fn next_step(b: Btf, section: &[u8], work: &[u8], shape: Shape, bit: u32) -> Step
+pub fn next_step(b: TypeTable, section: &[u8], work: &[u8], shape: Shape, bit: u32) -> Step
     ensures { λ r. ⌜ stepIs r ≡ stepIn (btfOf b (now (section .entry)) (now (work .entry))) bit (shapeIs b (now (section .entry)) shape) ⌝ }
 {
     match shape {

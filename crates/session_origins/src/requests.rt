@@ -4,9 +4,9 @@ mod every;
 pub use crate::requests::every::dump_types_causes;
 use base_bytes::word::clear;
 use btf_open_causes::header::btf_of;
+use c_dumper_emit::entries::Asked;
+use c_dumper_emit::entries::Pen;
 use session_origins_walk::dump_noted::dump_noted;
-use session_origins_walk::entries::Asked;
-use session_origins_walk::entries::Pen;
 use session_record::arrival::arrived;
 use session_record::arrival::limit;
 use session_record::settle::is_current;
@@ -15,16 +15,16 @@ use session_record::settle::turn_of;
 use spec_session::session::Reached;
 use spec_session::session::Session;
 use spec_session::session::Turn;
-use spec_type_table::Btf;
+use spec_type_table::TypeTable;
 ghost use Prim.Native.Nat.{_+_, _*_, _-_, _<_, _≤_};
 ghost use mathlib.Core.Path.{_≡_};
 ghost use mathlib.Core.List.{[]};
 ghost use lib.ListN.{length};
 ghost use lib.Dec.{eqb};
 ghost use Rattle.spec_c_dumper.specs.rules.Machine.{pick};
-ghost use Rattle.spec_line_origins.specs.origins.Causes.{upTo, entriesIn, filled};
-ghost use Rattle.spec_line_origins.specs.origins.Bytes.{requestedNoted, typeCauses};
-ghost use Rattle.session_origins_walk.specs.entries.Noted.{entriesOf};
+ghost use Rattle.spec_c_dumper.specs.origins.Causes.{upTo, entriesIn, filled};
+ghost use Rattle.spec_session.specs.origin_calls.Bytes.{requestedNoted, typeCauses};
+ghost use Rattle.c_dumper_emit.specs.entries.Noted.{entriesOf};
 ghost use Rattle.session_origins_walk.specs.request.Kept.{Before};
 ghost use Rattle.session_origins.specs.requests.Explained.{cameOf, explainedOf};
 
@@ -49,7 +49,7 @@ fn count_after(number: u32, count: usize) -> usize
 
 // One id, after a text of len bytes and so many visits. `leads` holds nothing of this turn yet.
 fn dump_one(
-    b: Btf,
+    b: TypeTable,
     section: &[u8],
     work: &mut [u8],
     text: &mut [u8],
@@ -80,7 +80,7 @@ fn dump_one(
 
 // The same for the only request of a call, with words of its own for the leaders.
 fn dump_alone(
-    b: Btf,
+    b: TypeTable,
     section: &[u8],
     work: &mut [u8],
     text: &mut [u8],

@@ -1,4 +1,2 @@
-pub mod entries
-pub mod leaders
 pub mod request
 pub mod steps

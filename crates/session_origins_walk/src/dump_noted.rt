@@ -1,26 +1,26 @@
 // One request with an entry for each line: ordering, then the lines of the listed ids, from the list's first to its last.
 use crate::emit_noted::emit_noted;
-use crate::entries::Asked;
-use crate::entries::Pen;
-use crate::leaders::Way;
 use crate::order_led::order_led;
 use crate::steps::stop_at;
+use c_dumper_dependency_order::leaders::Way;
 use c_dumper_dependency_order::order_state::Order;
 use c_dumper_dependency_order::order_state::get_listed;
+use c_dumper_emit::entries::Asked;
+use c_dumper_emit::entries::Pen;
 use spec_session::emission::clear_list;
-use spec_type_table::Btf;
+use spec_type_table::TypeTable;
 ghost use mathlib.Core.Path.{_≡_};
 ghost use Rattle.spec_c_dumper.specs.rules.Machine.{obind, eeach};
 ghost use Rattle.spec_type_table.specs.Table.{btfOf};
 ghost use Rattle.spec_session.specs.emission.Sheet.{sheetStore};
-ghost use Rattle.spec_line_origins.specs.origins.Causes.{entriesIn};
-ghost use Rattle.session_origins_walk.specs.leaders.Leads.{entryIn};
-ghost use Rattle.session_origins_walk.specs.entries.Noted.{notedOut, emitN};
+ghost use Rattle.spec_c_dumper.specs.origins.Causes.{entriesIn};
+ghost use Rattle.c_dumper_dependency_order.specs.leaders.Leads.{entryIn};
+ghost use Rattle.c_dumper_emit.specs.entries.Noted.{notedOut, emitN};
 ghost use Rattle.session_origins_walk.specs.request.Kept.{withLeads, dumpedKept};
 
 // Emits the first n ids of the order list.
 fn emit_listed(
-    b: Btf,
+    b: TypeTable,
     section: &[u8],
     work: &mut [u8],
     text: &mut [u8],
@@ -45,7 +45,7 @@ fn emit_listed(
 // The place after the text of the request and the count of entries after it; or a place past the end that says which
 // refusal stopped it. `leads` serves the requests of a call one after another: what other turns noted there is not read.
 pub fn dump_noted(
-    b: Btf,
+    b: TypeTable,
     section: &[u8],
     work: &mut [u8],
     text: &mut [u8],

@@ -1,7 +1,4 @@
 // Emission with an entry for each line: the walk of crate emit, with the lent list beside the text.
-use crate::entries::Asked;
-use crate::entries::Pen;
-use crate::entries::cause_at;
 use crate::lines::define;
 use crate::steps::emit_again;
 use crate::steps::end_composite;
@@ -18,23 +15,26 @@ use btf_type_table::name::is_named;
 use btf_type_table::node::node_of;
 use btf_type_table::node::type_by_id;
 use btf_type_table::record::word;
-use spec_type_table::Btf;
+use c_dumper_emit::entries::Asked;
+use c_dumper_emit::entries::Pen;
+use c_dumper_emit::entries::cause_at;
 use spec_type_table::BtfType;
 use spec_type_table::Entries;
 use spec_type_table::Node;
+use spec_type_table::TypeTable;
 ghost use mathlib.Core.Path.{_≡_};
 ghost use Prim.Native.Nat.{ℕ};
 ghost use Rattle.spec_c_dumper.specs.rules.Machine.{obind, eeach};
 ghost use Rattle.spec_type_table.specs.Records.{recordById};
 ghost use Rattle.spec_type_table.specs.Table.{btfOf};
 ghost use Rattle.spec_type_table.specs.Nodes.{memberIds, paramIds};
-ghost use Rattle.spec_line_origins.specs.origins.Causes.{entriesIn};
-ghost use Rattle.session_origins_walk.specs.leaders.Leads.{entryIn};
-ghost use Rattle.session_origins_walk.specs.entries.Noted.{notedOut, emitN, newN, compositeN, leafN};
+ghost use Rattle.spec_c_dumper.specs.origins.Causes.{entriesIn};
+ghost use Rattle.c_dumper_dependency_order.specs.leaders.Leads.{entryIn};
+ghost use Rattle.c_dumper_emit.specs.entries.Noted.{notedOut, emitN, newN, compositeN, leafN};
 
 // cont_id is the composite or typedef that is being emitted around id, or 0 at the top.
 pub fn emit_noted(
-    b: Btf,
+    b: TypeTable,
     section: &[u8],
     work: &mut [u8],
     text: &mut [u8],
@@ -83,7 +83,7 @@ pub fn emit_noted(
 
 // An id that is not emitted yet.
 fn emit_new(
-    b: Btf,
+    b: TypeTable,
     section: &[u8],
     work: &mut [u8],
     text: &mut [u8],
@@ -203,7 +203,7 @@ fn emit_new(
 
 // A composite: at the top, or nameless, all that its members need first; else a forward line. At the top its definition.
 fn emit_composite(
-    b: Btf,
+    b: TypeTable,
     section: &[u8],
     work: &mut [u8],
     text: &mut [u8],
@@ -243,7 +243,7 @@ fn emit_composite(
 }
 
 fn emit_members(
-    b: Btf,
+    b: TypeTable,
     section: &[u8],
     work: &mut [u8],
     text: &mut [u8],
@@ -269,7 +269,7 @@ fn emit_members(
 }
 
 fn emit_params(
-    b: Btf,
+    b: TypeTable,
     section: &[u8],
     work: &mut [u8],
     text: &mut [u8],
@@ -296,7 +296,7 @@ fn emit_params(
 
 // An enum is defined at the top only; a forward is printed wherever it is met.
 fn emit_leaf(
-    b: Btf,
+    b: TypeTable,
     section: &[u8],
     work: &mut [u8],
     text: &mut [u8],

@@ -1,8 +1,6 @@
 // session_origins_walk
 pub mod dump_noted;
 pub mod emit_noted;
-pub mod entries;
-pub mod leaders;
 pub mod lines;
 pub mod order_led;
 pub mod steps;

@@ -1,13 +1,13 @@
 // The lines of the text, each with its entry.
-use crate::entries::Cause;
-use crate::entries::Pen;
-use crate::entries::is_shown;
-use crate::entries::note;
-use crate::entries::note_if;
 use c_dumper_declarator::lines::emit_definition;
 use c_dumper_declarator::lines::emit_forward;
-use spec_type_table::Btf;
+use c_dumper_emit::entries::Cause;
+use c_dumper_emit::entries::Pen;
+use c_dumper_emit::entries::is_shown;
+use c_dumper_emit::entries::note;
+use c_dumper_emit::entries::note_if;
 use spec_type_table::BtfType;
+use spec_type_table::TypeTable;
 ghost use mathlib.Core.Path.{_≡_};
 ghost use mathlib.Core.Bool.{true};
 ghost use Prim.Native.Nat.{ℕ};
@@ -15,12 +15,12 @@ ghost use Rattle.spec_c_dumper.specs.rules.Machine.{obind};
 ghost use Rattle.spec_c_dumper.specs.alignment_once.Writers.{definitionOnce, forwardOnce};
 ghost use Rattle.btf_layout.specs.asked.Asked.{workAsks};
 ghost use Rattle.spec_type_table.specs.Table.{typeOf, btfOf, workNaming};
-ghost use Rattle.spec_line_origins.specs.origins.Causes.{entriesIn};
-ghost use Rattle.session_origins_walk.specs.entries.Noted.{entryOf, notedOut, lineN, shownOf};
+ghost use Rattle.spec_c_dumper.specs.origins.Causes.{entriesIn};
+ghost use Rattle.c_dumper_emit.specs.entries.Noted.{entryOf, notedOut, lineN, shownOf};
 
 // The definition of a composite, an enum or a forward, with its entry.
 pub fn define(
-    b: Btf,
+    b: TypeTable,
     section: &[u8],
     work: &mut [u8],
     text: &mut [u8],
@@ -42,7 +42,7 @@ pub fn define(
 
 // A composite's forward line or a typedef, with its entry if it prints anything.
 pub fn forward(
-    b: Btf,
+    b: TypeTable,
     section: &[u8],
     work: &mut [u8],
     text: &mut [u8],

@@ -1,8 +1,4 @@
 // The order of definitions, with a leader for each listed id: the walk of crate order, with the leaders beside the work.
-use crate::leaders::Way;
-use crate::leaders::finish_led;
-use crate::leaders::finish_typedef_led;
-use crate::leaders::inside;
 use btf_type_table::kind::member_place;
 use btf_type_table::kind::param_place;
 use btf_type_table::name::is_named;
@@ -10,24 +6,28 @@ use btf_type_table::node::node_of;
 use btf_type_table::node::type_by_id;
 use btf_type_table::record::word;
 use c_dumper_dependency_order::begin::meet;
+use c_dumper_dependency_order::leaders::Way;
+use c_dumper_dependency_order::leaders::finish_led;
+use c_dumper_dependency_order::leaders::finish_typedef_led;
+use c_dumper_dependency_order::leaders::inside;
 use c_dumper_dependency_order::order_state::Order;
 use c_dumper_dependency_order::order_state::get_order_state;
 use c_dumper_dependency_order::order_state::refused;
 use c_dumper_dependency_order::order_state::set_order_state;
 use c_dumper_dependency_order::order_state::strong;
-use spec_type_table::Btf;
 use spec_type_table::Entries;
 use spec_type_table::Node;
+use spec_type_table::TypeTable;
 ghost use mathlib.Core.Path.{_≡_};
 ghost use mathlib.Core.Bool.{false};
 ghost use Rattle.spec_c_dumper.specs.rules.Order.{bind, each};
 ghost use Rattle.spec_type_table.specs.Nodes.{memberIds, paramIds};
 ghost use Rattle.c_dumper_dependency_order.specs.order_state.Work.{tableIn};
-ghost use Rattle.session_origins_walk.specs.leaders.Leads.{orderKept, keptOut, wayKept, freshKept, enterKept};
+ghost use Rattle.c_dumper_dependency_order.specs.leaders.Leads.{orderKept, keptOut, wayKept, freshKept, enterKept};
 
 // v: what is being ordered around the call.
 pub fn order_led(
-    b: Btf,
+    b: TypeTable,
     section: &[u8],
     work: &mut [u8],
     leads: &mut [u64],
@@ -57,7 +57,7 @@ pub fn order_led(
 
 // An id that is not ordered yet.
 fn order_new(
-    b: Btf,
+    b: TypeTable,
     section: &[u8],
     work: &mut [u8],
     leads: &mut [u64],
@@ -114,7 +114,7 @@ fn order_new(
 
 // A composite: passed over if it is named and behind a pointer, else its members, each a strong way, and then itself.
 fn order_composite(
-    b: Btf,
+    b: TypeTable,
     section: &[u8],
     work: &mut [u8],
     leads: &mut [u64],
@@ -138,7 +138,7 @@ fn order_composite(
 
 // The parameters of a prototype; the way is strong if one of them was, or what came before.
 fn order_params(
-    b: Btf,
+    b: TypeTable,
     section: &[u8],
     work: &mut [u8],
     leads: &mut [u64],
@@ -165,7 +165,7 @@ fn order_params(
 
 // The members of a composite, each a strong way.
 fn order_members(
-    b: Btf,
+    b: TypeTable,
     section: &[u8],
     work: &mut [u8],
     leads: &mut [u64],

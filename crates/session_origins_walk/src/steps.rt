@@ -1,10 +1,5 @@
 // Emission with entries, the steps that go on to no other id: a line that comes once, an id that is met again, a leaf, a
 // composite within another, and the ends of a typedef and a composite.
-use crate::entries::Asked;
-use crate::entries::Cause;
-use crate::entries::Pen;
-use crate::entries::cause_at;
-use crate::entries::listed_cause;
 use crate::lines::define;
 use crate::lines::forward;
 use base_bytes::put::stop;
@@ -13,8 +8,13 @@ use btf_type_table::cell::put_field;
 use btf_type_table::kind::kind_of;
 use btf_type_table::name::is_named;
 use btf_type_table::node::type_by_id;
-use spec_type_table::Btf;
+use c_dumper_emit::entries::Asked;
+use c_dumper_emit::entries::Cause;
+use c_dumper_emit::entries::Pen;
+use c_dumper_emit::entries::cause_at;
+use c_dumper_emit::entries::listed_cause;
 use spec_type_table::BtfType;
+use spec_type_table::TypeTable;
 ghost use mathlib.Core.Path.{_≡_};
 ghost use mathlib.Core.Bool.{not};
 ghost use lib.Dec.{eqb};
@@ -24,9 +24,9 @@ ghost use Rattle.spec_bytes.specs.text.Text.{cut, putOut, putText};
 ghost use Rattle.spec_c_dumper.specs.rules.Machine.{pick, obind};
 ghost use Rattle.spec_type_table.specs.Cells.{getField, putField};
 ghost use Rattle.spec_type_table.specs.Table.{typeOf, btfOf};
-ghost use Rattle.spec_line_origins.specs.origins.Causes.{causeAt, entriesIn};
-ghost use Rattle.session_origins_walk.specs.leaders.Leads.{entryIn};
-ghost use Rattle.session_origins_walk.specs.entries.Noted.{entryOf, notedOut, hasN, onceN, mentionN, againN};
+ghost use Rattle.spec_c_dumper.specs.origins.Causes.{causeAt, entriesIn};
+ghost use Rattle.c_dumper_dependency_order.specs.leaders.Leads.{entryIn};
+ghost use Rattle.c_dumper_emit.specs.entries.Noted.{entryOf, notedOut, hasN, onceN, mentionN, againN};
 ghost use Rattle.session_origins_walk.specs.steps.Alone.{typedefN, mentionedN, endedN};
 
 pub fn get_emit_state(work: &[u8], id: u32) -> u32
@@ -54,7 +54,7 @@ fn set_fwd_emitted(work: &mut [u8], id: u32)
 }
 
 fn emit_once(
-    b: Btf,
+    b: TypeTable,
     section: &[u8],
     work: &mut [u8],
     text: &mut [u8],
@@ -86,7 +86,7 @@ pub fn stop_at(text: &[u8], p: Pen, c: u32) -> Pen
 
 // An id that is met while it is being emitted. A nameless composite never is, since ordering refuses its cycle.
 pub fn emit_again(
-    b: Btf,
+    b: TypeTable,
     section: &[u8],
     work: &mut [u8],
     text: &mut [u8],
@@ -135,7 +135,7 @@ pub fn inner(named: bool, id: u32, cont_id: u32) -> u32
 
 // A named composite within another: a forward line, unless it is that other.
 fn emit_mention(
-    b: Btf,
+    b: TypeTable,
     section: &[u8],
     work: &mut [u8],
     text: &mut [u8],
@@ -160,7 +160,7 @@ fn emit_mention(
 
 // The same with the emit state around it: the composite is begun, and new again after that.
 pub fn mention_composite(
-    b: Btf,
+    b: TypeTable,
     section: &[u8],
     work: &mut [u8],
     text: &mut [u8],
@@ -180,7 +180,7 @@ pub fn mention_composite(
 
 // What ends a typedef: its line, unless it had one.
 pub fn end_typedef(
-    b: Btf,
+    b: TypeTable,
     section: &[u8],
     work: &mut [u8],
     text: &mut [u8],
@@ -202,7 +202,7 @@ pub fn end_typedef(
 
 // What ends a composite, after its members: its definition at the top; within another it is new again.
 pub fn end_composite(
-    b: Btf,
+    b: TypeTable,
     section: &[u8],
     work: &mut [u8],
     text: &mut [u8],

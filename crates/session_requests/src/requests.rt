@@ -14,7 +14,7 @@ use spec_session::session::Reached;
 use spec_session::session::Session;
 use spec_session::session::Tally;
 use spec_session::session::Turn;
-use spec_type_table::Btf;
+use spec_type_table::TypeTable;
 ghost use Prim.Native.Nat.{_-_, _≤_};
 ghost use mathlib.Core.Bool.{true};
 ghost use mathlib.Core.Path.{_≡_};
@@ -25,7 +25,7 @@ ghost use Rattle.spec_session.specs.calls.Lists.{idsIn, listCall, listEnd};
 
 // One id, after a text of len bytes and so many visits: it is lent only what follows that text.
 fn dump_one(
-    b: Btf,
+    b: TypeTable,
     section: &[u8],
     work: &mut [u8],
     text: &mut [u8],
@@ -43,7 +43,14 @@ fn dump_one(
 }
 
 // The same for the request for all ids, of which most have nothing to write.
-fn dump_next(b: Btf, section: &[u8], work: &mut [u8], text: &mut [u8], len: u32, id: u32) -> Reached
+fn dump_next(
+    b: TypeTable,
+    section: &[u8],
+    work: &mut [u8],
+    text: &mut [u8],
+    len: u32,
+    id: u32,
+) -> Reached
     requires { ⌜ len ≤ length (now text) ⌝ }
     ensures { λ r. ⌜ (reachOf r (now (work .exit)) (now (text .exit)) ≡ requested b (now (section .entry)) id len (visitsIn (now (work .entry))) (now (work .entry)) (now (text .entry))) × (r .len ≤ length (now (text .exit))) ⌝ }
 {
@@ -59,7 +66,7 @@ fn dump_next(b: Btf, section: &[u8], work: &mut [u8], text: &mut [u8], len: u32,
 }
 
 // Every id from 1 upward, to the first that is refused.
-fn dump_all(b: Btf, section: &[u8], work: &mut [u8], text: &mut [u8], len: u32) -> Reached
+fn dump_all(b: TypeTable, section: &[u8], work: &mut [u8], text: &mut [u8], len: u32) -> Reached
     requires { ⌜ len ≤ length (now text) ⌝ }
     ensures { λ r. ⌜ (reachOf r (now (work .exit)) (now (text .exit)) ≡ requestedFrom b (now (section .entry)) (b .types - 1) 1 len (now (work .entry)) (now (text .entry))) × (r .len ≤ length (now (text .exit))) ⌝ }
 {

@@ -2,3 +2,4 @@ pub mod alignment_once
 pub mod ceiling
 pub mod listed_twice
 pub mod needs
+pub mod origins

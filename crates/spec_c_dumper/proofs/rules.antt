@@ -10,3 +10,4 @@ pub mod Deeper
 pub mod Placed
 pub mod Refusals
 pub mod Arrays
+pub mod Maps

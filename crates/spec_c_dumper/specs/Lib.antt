@@ -2,4 +2,5 @@ pub mod alignment_once
 pub mod ceiling
 pub mod listed_twice
 pub mod needs
+pub mod origins
 pub mod rules

@@ -12,3 +12,4 @@ pub mod Emit
 pub mod Chain
 pub mod Listed
 pub mod Samples
+pub mod Request

@@ -7,7 +7,7 @@ use native.Mathlib.Omega.{arith}
 use lib.ListN.{length, replicate}
 use lib.Dec.{leb, eqb}
 use borrow.Author.Tests.{lt-ltb, le-ltb, ne-eqb, ltb-false, not-false, leb-true}
-use Rattle.spec_type_table.specs.declared.types.Btf.{Btf}
+use Rattle.spec_type_table.specs.declared.types.TypeTable.{TypeTable}
 use Rattle.spec_type_table.specs.Records.{sectionWord}
 use Rattle.spec_linux_btf.specs.Places.{passesP}
 use Rattle.spec_linux_btf.specs.Section.{bigEndian, wordOf, hdrLen, typeOff, typeLen, strLen, headerSound, typesSound}
@@ -31,7 +31,7 @@ use Rattle.spec_opening.proofs.Sections.{pass-decides, pass-count, pass
 use Rattle.spec_opening.proofs.Order.{NoneHolds, first-none, first-stays}
 
 -- ---- reference_cause
-module _ (b : Btf) (s start : List ℕ) (r : Bool) (e : r ≡ hasBadReference b s start) where
+module _ (b : TypeTable) (s start : List ℕ) (r : Bool) (e : r ≡ hasBadReference b s start) where
   pub late-6 : r ≡ true → 6 ≡ fromSix (firstOf (late b s start))
   unfolding firstOf
   late-6 f = rw (sym e ∙ f)
@@ -68,7 +68,7 @@ module _ (w : ℕ → ℕ) (sl from end : ℕ) (start : List ℕ) where
   unfolding scanP
   scan-no e = rw (e, scanP)
 
-module _ (b : Btf) (s : List ℕ) (o : b .«big_endian» ≡ bigEndian s) (h : headerSound s ≡ true) (l : length s ≤ 16777216) where
+module _ (b : TypeTable) (s : List ℕ) (o : b .«big_endian» ≡ bigEndian s) (h : headerSound s ≡ true) (l : length s ≤ 16777216) where
   long : 24 ≤ length s
   unfolding headerSound
   long = leb-true 24 (length s) (and-left (leb 24 (length s)) _ h)
@@ -194,7 +194,7 @@ module _ (p : ℕ) (s : List ℕ) (wl : ℕ) where
           unfolding openingNumber firstOf
           number-0 e = rw (falses .0, falses .1 .0, falses .1 .1 .0, falses .1 .1 .1 .0, e5, last .0, last .1 .0, last .1 .1 .0, e)
 
-      module _ (b : Btf) (eb0 : b ≡ btfOf s p 0 0) (r : Records) (start start′ : List ℕ) (e0 : start ≡ emptyIndex) (es : scanOut r start′ ≡ scanSection b s start) where
+      module _ (b : TypeTable) (eb0 : b ≡ btfOf s p 0 0) (r : Records) (start start′ : List ℕ) (e0 : start ≡ emptyIndex) (es : scanOut r start′ ≡ scanSection b s start) where
         out-is : scanOut r start′ ≡ passed s
         out-is = es ∙ ap (scanSection b s) e0 ∙ section-is b s (ap (λ x. x .«big_endian») eb0 ∙ order-is s p 0 0) sound-header short
 
@@ -233,7 +233,7 @@ module _ (p : ℕ) (s : List ℕ) (wl : ℕ) where
           unfolding cause5
           e5 = rw types-sound
 
-          module _ (b1 : Btf) (eb : b1 ≡ btfOf s p 0 (r .types)) (d : ℕ) (ed : d ≡ fromSix (firstOf (late b1 s start′))) where
+          module _ (b1 : TypeTable) (eb : b1 ≡ btfOf s p 0 (r .types)) (d : ℕ) (ed : d ≡ fromSix (firstOf (late b1 s start′))) where
             late-is : d ≡ fromSix (firstOf (cause6 p s ∷ cause7 p s ∷ cause8 p s ∷ []))
             unfolding cause6 cause7 cause8 tableOf
             late-is =
@@ -326,7 +326,7 @@ module _ (p modes : ℕ) (s w t : List ℕ) where
         go true f = absurd (true≢false (ap isRefused (is ∙ is-sound f)))
         go false f = ap (λ (n : ℕ). refused n w t) (ap numberIn (is ∙ is-refused f)) ∙ sym (opens-refused f)
 
-    pub open-sound : (n m : ℕ) → r ≡ Sound n m → (t′ : List ℕ) → t′ ≡ replicate (length t) 0 → (w′ : List ℕ) → w′ ≡ replicate (length w) 0 → (b : Btf) → b ≡ btfOf s p modes n
+    pub open-sound : (n m : ℕ) → r ≡ Sound n m → (t′ : List ℕ) → t′ ≡ replicate (length t) 0 → (w′ : List ℕ) → w′ ≡ replicate (length w) 0 → (b : TypeTable) → b ≡ btfOf s p modes n
         → (w″ : List ℕ) → w″ ≡ filled b s start m w′ → (w‴ : List ℕ) → w‴ ≡ takersIn modes b m s w″ → openOut (Sound n m) w‴ t′ ≡ openingOf p modes s w t
     unfolding openOut examineOut workOf
     open-sound n m e t′ et w′ ew b eb w″ ef w‴ el = go (eqb num 0) refl

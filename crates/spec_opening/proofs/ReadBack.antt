@@ -9,7 +9,7 @@ use lib.ListN.{length, getD, replicate, length-replicate}
 use borrow.Author.Tests.{ltb-false, not-false, ne-eqb, le-leb, lt-leb}
 use Rattle.spec_bytes.specs.words.Words.{getWord}
 use Rattle.spec_bytes.proofs.words.Laws.{le-or-lt}
-use Rattle.spec_type_table.specs.declared.types.Btf.{Btf}
+use Rattle.spec_type_table.specs.declared.types.TypeTable.{TypeTable}
 use Rattle.spec_type_table.specs.declared.types.BtfType.{BtfType}
 use Rattle.spec_type_table.specs.Cells.{getField, classP, countP}
 use Rattle.spec_type_table.specs.Records.{kindOf, recordAt, recordById}
@@ -74,7 +74,7 @@ module _ (p modes : ℕ) (s : List ℕ) (n : ℕ) (ok : openingNumber p s n ≡ 
   few : typesOf s ≤ 262145
   few = types-few s header-ok types-ok
 
-  abbrev b : Btf
+  abbrev b : TypeTable
   b = btfOf s p modes (typesOf s)
 
   pub order-ok : b .«big_endian» ≡ bigEndian s

@@ -12,7 +12,7 @@ use lib.Dec.{ltb, leb, eqb}
 use borrow.Author.Tests.{lt-ltb, le-ltb, ne-eqb, leb-true}
 use Rattle.spec_bytes.specs.words.Words.{pick}
 use Rattle.spec_bytes.proofs.words.Laws.{le-or-lt}
-use Rattle.spec_type_table.specs.declared.types.Btf.{Btf}
+use Rattle.spec_type_table.specs.declared.types.TypeTable.{TypeTable}
 use Rattle.spec_type_table.specs.Records.{sectionWord}
 use Rattle.spec_type_table.proofs.Documented.{words-same}
 use Rattle.spec_linux_btf.specs.Reading.{word, Kind, kind, extra, sizeAt, getBody, getEach, getEnumerator, getEnumerator64, decode, typeAt, places, decodeAll}
@@ -172,7 +172,7 @@ module _ (w u : ℕ → ℕ) (len : ℕ) (same : (q : ℕ) → q + 4 ≤ len →
       (le-or-lt len p)
 
 -- ---- THE THEOREMS: what the code reads in the section, by places, is what the documentation reads
-module _ (b : Btf) (s : List ℕ) (o : b .«big_endian» ≡ bigEndian s) where
+module _ (b : TypeTable) (s : List ℕ) (o : b .«big_endian» ≡ bigEndian s) where
   reads-is : sectionWord b s ≡ wordOf s
   reads-is = words-same b s o
 

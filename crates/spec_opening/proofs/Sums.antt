@@ -9,7 +9,7 @@ use lib.ListN.{length, getD}
 use lib.Dec.{eqb}
 use Rattle.spec_bytes.specs.words.Words.{pick}
 use Rattle.spec_bytes.proofs.words.Laws.{le-or-lt}
-use Rattle.spec_type_table.specs.declared.types.Btf.{Btf}
+use Rattle.spec_type_table.specs.declared.types.TypeTable.{TypeTable}
 use Rattle.spec_type_table.specs.Records.{sectionWord, vlenOf, kindOf}
 use Rattle.spec_linux_btf.specs.Reading.{kind, extra}
 use Rattle.spec_linux_btf.specs.Places.{kindP, vlenP, sizeP, soundP, namedP, passesP, placeFrom}
@@ -86,7 +86,7 @@ values-same k v = go (eqb k 6) (eqb k 19)
     go false true = refl
     go false false = refl
 
-by-place : (b : Btf) (s : List ℕ) → b .«big_endian» ≡ bigEndian s → (entry i : ℕ) → entry / 32 ≡ recordPlace s i → entry % 32 ≡ recordKind s i
+by-place : (b : TypeTable) (s : List ℕ) → b .«big_endian» ≡ bigEndian s → (entry i : ℕ) → entry / 32 ≡ recordPlace s i → entry % 32 ≡ recordKind s i
     → valuesAt b s entry ≡ enumsOf (sectionWord b s (placeFrom (sectionWord b s) (typesAt s) i + 4))
 unfolding valuesAt enumsOf kindP
 by-place b s o entry i p k =
@@ -99,7 +99,7 @@ by-place b s o entry i p k =
     kindly : entry % 32 ≡ kindP (sectionWord b s) (placeFrom (sectionWord b s) (typesAt s) i)
     kindly = k ∙ sym (kind-is b s o i) ∙ ap (kindP (sectionWord b s)) (sym (place-is b s o i))
 
-module _ (b : Btf) (s : List ℕ) (o : b .«big_endian» ≡ bigEndian s) (h : headerSound s ≡ true) (t : typesSound s ≡ true) where
+module _ (b : TypeTable) (s : List ℕ) (o : b .«big_endian» ≡ bigEndian s) (h : headerSound s ≡ true) (t : typesSound s ≡ true) where
   abbrev reads : ℕ → ℕ
   reads = sectionWord b s
 

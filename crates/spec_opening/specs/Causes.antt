@@ -5,7 +5,7 @@ use mathlib.Core.List.{List, [], _∷_}
 use lib.ListN.{length}
 use lib.Dec.{ltb, eqb}
 use Rattle.spec_linux_btf.specs.Section.{stringArea, headerSound, stringsSound, typesSound}
-use Rattle.spec_type_table.specs.declared.types.Btf.{Btf}
+use Rattle.spec_type_table.specs.declared.types.TypeTable.{TypeTable}
 use Rattle.btf_open_causes.specs.references.References.{hasBadReference}
 use Rattle.btf_open_causes.specs.prototypes.Prototypes.{anyLeads}
 use Rattle.btf_open_causes.specs.loops.Graph.{hasLoop}
@@ -34,7 +34,7 @@ unfoldable pub cause5 : List ℕ → Bool
 cause5 s = not (typesSound s)
 
 -- the table that causes 6, 7 and 8 speak of: the count is the section's
-unfoldable pub tableOf : ℕ → List ℕ → Btf
+unfoldable pub tableOf : ℕ → List ℕ → TypeTable
 tableOf pointer s = btfOf s pointer 0 (typesOf s)
 
 -- "a followed id not below the count, or of kind 12, 14, 15, 17"
@@ -77,7 +77,7 @@ unfoldable pub openingNumber : ℕ → List ℕ → ℕ → ℕ
 openingNumber pointer s work = firstOf (causes pointer s work)
 
 -- causes 6, 7 and 8 over any index, and their number
-abbrev pub late : Btf → List ℕ → List ℕ → List Bool
+abbrev pub late : TypeTable → List ℕ → List ℕ → List Bool
 late b s start = hasBadReference b s start ∷ anyLeads b s start ∷ hasLoop (graphOf b s start) ∷ []
 
 abbrev pub fromSix : ℕ → ℕ

@@ -1,1 +1,3 @@
 pub mod calls
+pub mod origin_calls
+pub mod origins_after

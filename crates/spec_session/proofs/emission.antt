@@ -1,5 +1,4 @@
 pub mod Frame
 pub mod Laws
 pub mod Lawful
-pub mod Maps
 pub mod Emptied

@@ -1,3 +1,4 @@
 pub mod calls
 pub mod emission
+pub mod origin_calls
 pub mod session

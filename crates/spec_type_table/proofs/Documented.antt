@@ -20,7 +20,7 @@ use Rattle.spec_linux_btf.proofs.Fields as F
 use Rattle.spec_linux_btf.proofs.Claims as Claims
 use Rattle.spec_c_dumper.specs.rules.Types as R
 use Rattle.spec_c_dumper.specs.rules.Types.{Array, Composite, Enum, Enum64, Fwd, FuncProto, DeclTag, TypeTag}
-use Rattle.spec_type_table.specs.declared.types.Btf.{Btf}
+use Rattle.spec_type_table.specs.declared.types.TypeTable.{TypeTable}
 use Rattle.spec_type_table.specs.declared.types.BtfType.{BtfType as Record}
 use Rattle.spec_type_table.specs.Names.{strAt}
 use Rattle.spec_type_table.specs.Records.{sectionWord, recordAt, memberOf, kindOf, flagOf}
@@ -40,7 +40,7 @@ flag-is info = ⊎-elim set clear (le-or-lt 2147483648 info)
     clear : info < 2147483648 → flagOf info ≡ isSet (info / 2147483648)
     clear l = let e : info / 2147483648 ≡ 0 = omega arith in lt-leb 2147483648 info l ∙ ap isSet (sym e)
 
-module _ (b : Btf) (s : List ℕ) (p : ℕ) where
+module _ (b : TypeTable) (s : List ℕ) (p : ℕ) where
   abbrev w : ℕ → ℕ
   w = sectionWord b s
 
@@ -142,7 +142,7 @@ known-range =
     (λ k m h. absurd (false-true (sym (ap (λ (n : Kind). known (shape n)) (List·getD-eq-default kindTable none m)) ∙ h)))
 
 -- every word of a section is read by `sectionWord`; where the table has the section's order, in that
-pub words-same : (b : Btf) (s : List ℕ) → b .«big_endian» ≡ bigEndian s → sectionWord b s ≡ wordOf s
+pub words-same : (b : TypeTable) (s : List ℕ) → b .«big_endian» ≡ bigEndian s → sectionWord b s ≡ wordOf s
 unfolding sectionWord wordOf
 words-same b s e = ap (λ (big : Bool). wordIn big s) e
 
@@ -152,7 +152,7 @@ sound-known w len p h = and-left _ _ (and-right (leb (p + 12) len) _ h)
 
 -- Linux documentation, 2.2: for a section that passes causes 3 and 5, what the code reads at the place of record i is type i of the one list of
 -- described types whose layout is the section's type area (Claims of crate records), field by field, as the Rust keeps it.
-pub section-documented : (b : Btf) (s : List ℕ) → b .«big_endian» ≡ bigEndian s → Bytes s → headerSound s ≡ true → typesSound s ≡ true → (i : ℕ) (d : Described)
+pub section-documented : (b : TypeTable) (s : List ℕ) → b .«big_endian» ≡ bigEndian s → Bytes s → headerSound s ≡ true → typesSound s ≡ true → (i : ℕ) (d : Described)
     → i < length (decodeAll (bigEndian s) (typeArea s))
     → typeOf b s (recordAt b s (placeFrom (wordOf s) (typesAt s) i)) ≡ kept b s (getD (decodeAll (bigEndian s) (typeArea s)) i d)
 section-documented b s o hb hh ht i d l =

@@ -11,7 +11,7 @@ use borrow.Author.Tests.{ltb-true}
 use Rattle.spec_bytes.specs.words.Words.{getWord, putWord}
 use Rattle.spec_bytes.proofs.words.Laws.{get-put-other, le-or-lt}
 use Rattle.spec_c_dumper.specs.rules.Names.{Resolved}
-use Rattle.spec_type_table.specs.declared.types.Btf.{Btf}
+use Rattle.spec_type_table.specs.declared.types.TypeTable.{TypeTable}
 use Rattle.spec_type_table.specs.declared.types.BtfType.{BtfType as Record}
 use Rattle.spec_type_table.specs.Cells.{getField, putField, classP, countP, counted, withMore}
 use Rattle.spec_type_table.specs.Numbers.{numberAt}
@@ -65,7 +65,7 @@ module _ (u w : List ℕ) where
           ap (λ (l : List ℕ). x ∷ l)
           (f (getField u x 10) ∙ ap (tagsFrom n types w x) (h x (ltb-true x types e)))
 
-  module _ (b : Btf) (s : List ℕ) (h0 : (j : ℕ) → getField u j 0 ≡ getField w j 0) where
+  module _ (b : TypeTable) (s : List ℕ) (h0 : (j : ℕ) → getField u j 0 ≡ getField w j 0) where
     pub record-same : (id : ℕ) → recordById b s u id ≡ recordById b s w id
     unfolding recordById
     record-same id =
@@ -98,7 +98,7 @@ module _ (u w : List ℕ) where
 
 -- ---- a word of a type
 module _ (w : List ℕ) (id f v : ℕ) (below : f < 16) where
-  pub table-field : (b : Btf) (s : List ℕ) → f ≢ 0 → f ≢ 9 → f ≢ 10 → btfOf b s (putField w id f v) ≡ btfOf b s w
+  pub table-field : (b : TypeTable) (s : List ℕ) → f ≢ 0 → f ≢ 9 → f ≢ 10 → btfOf b s (putField w id f v) ≡ btfOf b s w
   table-field b s n0 n9 n10 =
       table-same (putField w id f v) w b s
       (λ j. field-other w id f v j 0 below (omega arith) n0)
@@ -127,7 +127,7 @@ module _ (types : ℕ) (w : List ℕ) (h : ℕ) where
   pub enumerator-counted : (x k : ℕ) → enumeratorOf (counted (classP types) (countP types) w h) x k ≡ enumeratorOf w x k
   enumerator-counted x k = enumerator-same _ w x k (counted-other (x * 16 + 12) (λ c. count-12 types c x))
 
-module _ (b : Btf) (s w : List ℕ) where
+module _ (b : TypeTable) (s w : List ℕ) where
   pub table-counted : (h : ℕ) → btfOf b s (counted (classP (b .types)) (countP (b .types)) w h) ≡ btfOf b s w
   table-counted h =
       table-same _ w b s

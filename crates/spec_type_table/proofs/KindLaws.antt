@@ -7,7 +7,7 @@ use mathlib.Core.Logic.{_⊎_, inl, inr}
 use native.Mathlib.Omega.{arith}
 use Rattle.spec_c_dumper.specs.rules.Types.{Void, Int, Ptr, Array, Composite, Enum, Enum64, Fwd, Typedef, Mod, Func, Var, Datasec, FuncProto, Float, DeclTag, TypeTag, volatile, const, restrict, isEmpty, isNamed, nodeOf, memberTypes, paramTypes}
 use Rattle.spec_c_dumper.specs.rules.Order.{through, proto, comp}
-use Rattle.spec_type_table.specs.declared.types.Btf.{Btf}
+use Rattle.spec_type_table.specs.declared.types.TypeTable.{TypeTable}
 use Rattle.spec_type_table.specs.declared.types.BtfType.{BtfType as Record}
 use Rattle.spec_type_table.specs.declared.types.Entries.{Entries}
 use Rattle.spec_type_table.specs.declared.types.Extra.the-variants.{Bytes, Refused}
@@ -164,7 +164,7 @@ extra-refused k v =
     k
 
 -- ---- the type of a record, by its kind
-module _ (b : Btf) (s : List ℕ) (t : Record) where
+module _ (b : TypeTable) (s : List ℕ) (t : Record) where
   pub type-0 : kindOf (t .info) ≡ 0 → typeOf b s t ≡ Void
   unfolding typeOf
   type-0 e = rw e

@@ -7,7 +7,7 @@ use borrow.Author.Tests.{lt-ltb, le-ltb, le-leb, lt-leb, ne-eqb}
 use Rattle.spec_bytes.specs.words.Words.{getWord, putWord, oneMore}
 use Rattle.spec_bytes.specs.words.Three.{threeIn}
 use Rattle.spec_bytes.specs.declared.words.Three.{Three}
-use Rattle.spec_type_table.specs.declared.types.Btf.{Btf}
+use Rattle.spec_type_table.specs.declared.types.TypeTable.{TypeTable}
 use Rattle.spec_type_table.specs.declared.types.BtfType.{BtfType as Record}
 use Rattle.spec_type_table.specs.declared.types.Entries.{Entries}
 use Rattle.spec_type_table.specs.Cells.{placeOf, classP, countP, countOf, counted, withMore, getField}
@@ -54,7 +54,7 @@ module _ (types : ℕ) (w : List ℕ) (h p class at : ℕ) (ep : p ≡ placeOf t
   counted-at r u m = (m .0 ∙ ap (λ (x : ℕ). oneMore (getWord w x)) where-is, m .1 ∙ ap (withMore w) where-is)
 
 -- ---- records
-module _ (b : Btf) (s : List ℕ) where
+module _ (b : TypeTable) (s : List ℕ) where
   pub three-is : (at : ℕ) → threeIn (b .«big_endian») s at ≡ sectionThree b s at
   unfolding threeIn sectionThree sectionWord
   three-is at = refl

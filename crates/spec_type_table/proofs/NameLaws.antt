@@ -16,7 +16,7 @@ use Rattle.spec_bytes.proofs.words.Laws.{le-or-lt}
 use Rattle.spec_bytes.proofs.text.TextLaws.{put-seq, put-same, put-empty, put-full, put-set}
 use Rattle.spec_c_dumper.specs.rules.Types.{isEmpty}
 use Rattle.spec_c_dumper.specs.rules.Names.{startsWith, contains, escapedByte, escaped}
-use Rattle.spec_type_table.specs.declared.types.Btf.{Btf}
+use Rattle.spec_type_table.specs.declared.types.TypeTable.{TypeTable}
 use Rattle.spec_type_table.specs.Names.{upToZero, nameAt, namePlace, strAt}
 
 up-zero : (x : ℕ) (l : List ℕ) → x ≡ 0 → upToZero (x ∷ l) ≡ []
@@ -56,7 +56,7 @@ module _ (s : List ℕ) (i : ℕ) where
       more-at : (getD s i 0 ≡ 0 → ⊥) → eqb (getD s i 0) 0 ≡ isEmpty (nameAt s i)
       more-at n = ne-eqb (getD s i 0) 0 n ∙ sym (ap isEmpty (name-more n))
 
-module _ (b : Btf) (s : List ℕ) (off p : ℕ) (ep : p ≡ namePlace b off) where
+module _ (b : TypeTable) (s : List ℕ) (off p : ℕ) (ep : p ≡ namePlace b off) where
   pub empty-in : eqb (getD s p 0) 0 ≡ isEmpty (strAt b s off)
   empty-in = empty-at s p ∙ ap (λ (i : ℕ). isEmpty (nameAt s i)) ep
 
@@ -117,7 +117,7 @@ module _ (s : List ℕ) (at : ℕ) where
           rw (passed-more e a l)
           (put-seq t to (passed s at e) (getD s e 0 ∷ []) p u (p + 1) (set u p (getD s e 0)) out (put-set u p (getD s e 0) m))
 
-      module _ (b : Btf) (off : ℕ) (ep : at ≡ namePlace b off) (inv : nameAt s at ≡ passed s at e ++ nameAt s e) where
+      module _ (b : TypeTable) (off : ℕ) (ep : at ≡ namePlace b off) (inv : nameAt s at ≡ passed s at e ++ nameAt s e) where
         write-all : (name : List ℕ) → name ≡ nameAt s at → putOut p u ≡ putText t to (whole name) → putOut p u ≡ putText t to (whole (strAt b s off))
         write-all name z o = rw (z, ep) at o
 
@@ -133,7 +133,7 @@ module _ (s : List ℕ) (at : ℕ) where
             (sym inv ∙ ap (nameAt s) ep)
             (put-seq t to (passed s at e) (nameAt s e) p u (length u + 18) u out (put-full u p (nameAt s e) l (rw (name-more s e n) (omega arith))))
 
-module _ (b : Btf) (s : List ℕ) (off p : ℕ) (ep : p ≡ namePlace b off) where
+module _ (b : TypeTable) (s : List ℕ) (off p : ℕ) (ep : p ≡ namePlace b off) where
   pub str-none : length s < p → take 0 s ≡ strAt b s off
   str-none l = sym (name-end s p (omega arith)) ∙ ap (nameAt s) ep
 

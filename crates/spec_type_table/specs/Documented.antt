@@ -6,7 +6,7 @@ use mathlib.Core.List.{List, [], _∷_}
 use Rattle.spec_linux_btf.specs.Documentation.{Member, member, Enumerator, enumerator, Param, param, Enumerator64, enumerator64, int, ptr, array, struct, union, enum, fwd, typedef, volatile, const, restrict, func, func-proto, var, datasec, float, decl-tag, type-tag, enum64, Described, described}
 use Rattle.spec_c_dumper.specs.rules.Types as R
 use Rattle.spec_c_dumper.specs.rules.Types.{BtfType, Int, Ptr, Array, Composite, Enum, Enum64, Fwd, Typedef, Mod, Func, Var, Datasec, FuncProto, Float, DeclTag, TypeTag}
-use Rattle.spec_type_table.specs.declared.types.Btf.{Btf}
+use Rattle.spec_type_table.specs.declared.types.TypeTable.{TypeTable}
 use Rattle.spec_type_table.specs.Names.{strAt}
 
 -- kind_flag
@@ -14,7 +14,7 @@ abbrev pub isSet : ℕ → Bool
 isSet zero = false
 isSet (suc f) = true
 
-module _ (b : Btf) (s : List ℕ) where
+module _ (b : TypeTable) (s : List ℕ) where
   abbrev pub keptMembers : List Member → List R.Member
   keptMembers [] = []
   keptMembers (member n t offset size ∷ ms) = record { name = strAt b s n; type-id = t; bit-offset = offset; bit-size = size } ∷ keptMembers ms

@@ -2,7 +2,7 @@
 use Prim.Native.Nat.{ℕ, zero, suc, _+_}
 use mathlib.Core.List.{List, [], _∷_}
 use lib.ListN.{drop}
-use Rattle.spec_type_table.specs.declared.types.Btf.{Btf}
+use Rattle.spec_type_table.specs.declared.types.TypeTable.{TypeTable}
 
 -- the elements before the first 0
 unfoldable pub upToZero : List ℕ → List ℕ
@@ -15,9 +15,9 @@ unfoldable pub nameAt : List ℕ → ℕ → List ℕ
 nameAt s at = upToZero (drop at s)
 
 -- where the name at an offset of the string area starts
-abbrev pub namePlace : Btf → ℕ → ℕ
+abbrev pub namePlace : TypeTable → ℕ → ℕ
 namePlace b off = b .strs + off
 
 -- get_btf_str
-abbrev pub strAt : Btf → List ℕ → ℕ → List ℕ
+abbrev pub strAt : TypeTable → List ℕ → ℕ → List ℕ
 strAt b s off = nameAt s (namePlace b off)

@@ -2,14 +2,14 @@
 use Prim.Native.Nat.{ℕ, _+_}
 use mathlib.Core.List.{List, _∷_}
 use Rattle.spec_c_dumper.specs.rules.Order.{Node, ignored, plain, listed, through, ptr, tdef, proto, comp}
-use Rattle.spec_type_table.specs.declared.types.Btf.{Btf}
+use Rattle.spec_type_table.specs.declared.types.TypeTable.{TypeTable}
 use Rattle.spec_type_table.specs.declared.types.Entries.{Entries}
 use Rattle.spec_type_table.specs.declared.node.Node.{Node as Code}
 use Rattle.spec_type_table.specs.declared.node.Node.the-variants.{Ignored, Plain, Listed, Through, Ptr, Typedef, Proto, Composite}
 use Rattle.spec_type_table.specs.Records.{sectionWord, memberAt, paramAt}
 use Rattle.spec_type_table.specs.Table.{from}
 
-module _ (b : Btf) (s : List ℕ) where
+module _ (b : TypeTable) (s : List ℕ) where
   -- btf_member.type of each member, btf_param.type of each parameter
   unfoldable pub memberIds : Entries → List ℕ
   memberIds e = from (λ k. sectionWord b s (memberAt (e .at) k + 4)) 0 (e .vlen)

@@ -6,7 +6,7 @@ use lib.Dec.{leb, eqb}
 use lib.ListN.{getD}
 use Rattle.spec_bytes.specs.words.Words.{wordIn}
 use Rattle.spec_bytes.specs.declared.words.Three.{Three}
-use Rattle.spec_type_table.specs.declared.types.Btf.{Btf}
+use Rattle.spec_type_table.specs.declared.types.TypeTable.{TypeTable}
 use Rattle.spec_type_table.specs.declared.types.BtfType.{BtfType}
 use Rattle.spec_type_table.specs.declared.types.BtfMember.{BtfMember}
 use Rattle.spec_type_table.specs.declared.types.Entries.{Entries}
@@ -15,11 +15,11 @@ use Rattle.spec_type_table.specs.declared.types.Extra.the-variants.{Byte
 use Rattle.spec_type_table.specs.Cells.{getField}
 
 -- __u32 at a place of the section, the most significant byte first where the section has that order
-unfoldable pub sectionWord : Btf → List ℕ → ℕ → ℕ
+unfoldable pub sectionWord : TypeTable → List ℕ → ℕ → ℕ
 sectionWord b s at = wordIn (b .«big_endian») s at
 
 -- three of them in a row
-unfoldable pub sectionThree : Btf → List ℕ → ℕ → Three
+unfoldable pub sectionThree : TypeTable → List ℕ → ℕ → Three
 sectionThree b s at = record { first = sectionWord b s at; second = sectionWord b s (at + 4); third = sectionWord b s (at + 8) }
 
 -- struct btf_type, "info" bits arrangement: bits 0-15 vlen, bits 24-28 kind, bit 31 kind_flag
@@ -40,7 +40,7 @@ abbrev pub paramAt : ℕ → ℕ → ℕ
 paramAt at k = at + 12 + k * 8
 
 -- struct btf_type at a place: name_off, info, size or type
-unfoldable pub recordAt : Btf → List ℕ → ℕ → BtfType
+unfoldable pub recordAt : TypeTable → List ℕ → ℕ → BtfType
 recordAt b s at = record {
   at = at;
   «name_off» = sectionWord b s at;
@@ -53,7 +53,7 @@ unfoldable pub voidRecord : BtfType
 voidRecord = record { at = 0; «name_off» = 0; info = 0; «type_id» = 0 }
 
 -- the record of an id, whose place stands in the work
-unfoldable pub recordById : Btf → List ℕ → List ℕ → ℕ → BtfType
+unfoldable pub recordById : TypeTable → List ℕ → List ℕ → ℕ → BtfType
 recordById b s w id =
     elim (eqb id 0) [
       | true ↦ voidRecord
@@ -64,7 +64,7 @@ abbrev pub entriesOf : BtfType → Entries
 entriesOf t = record { at = t .at; vlen = vlenOf (t .info) }
 
 -- struct btf_member: with kind_flag bits 0-23 of the offset are the offset and bits 24-31 the size of a bit field
-unfoldable pub memberOf : Btf → List ℕ → BtfType → ℕ → BtfMember
+unfoldable pub memberOf : TypeTable → List ℕ → BtfType → ℕ → BtfMember
 memberOf b s t k =
     elim (flagOf (t .info)) [
       | true ↦ record {

@@ -6,7 +6,7 @@ use lib.ListN.{getD}
 use lib.Dec.{ltb, leb, eqb}
 use Rattle.spec_c_dumper.specs.rules.Types.{Name, Member, Param, Enumerator, volatile, const, restrict, BtfType, Void, Int, Ptr, Array, Composite, Enum, Enum64, Fwd, Typedef, Mod, Func, Var, Datasec, FuncProto, Float, DeclTag, TypeTag, Btf as Rules}
 use Rattle.spec_c_dumper.specs.rules.Names.{Resolved, Naming}
-use Rattle.spec_type_table.specs.declared.types.Btf.{Btf}
+use Rattle.spec_type_table.specs.declared.types.TypeTable.{TypeTable}
 use Rattle.spec_type_table.specs.declared.types.BtfType.{BtfType as Record}
 use Rattle.spec_type_table.specs.declared.types.BtfMember.{BtfMember}
 use Rattle.spec_type_table.specs.Cells.{getField, putField, classP, countP, counted}
@@ -19,7 +19,7 @@ unfoldable pub from : {E : Type 0} → (ℕ → E) → ℕ → ℕ → List E
 from f k zero = []
 from f k (suc n) = f k ∷ from f (k + 1) n
 
-module _ (b : Btf) (s : List ℕ) where
+module _ (b : TypeTable) (s : List ℕ) where
   -- a member, a parameter, an enumerator as the rules have them
   abbrev pub ruleMember : BtfMember → Member
   ruleMember m = record { name = strAt b s (m .«name_off»); type-id = m .«type_id»; bit-offset = m .«bit_offset»; bit-size = m .«bit_size» }
@@ -98,7 +98,7 @@ unfoldable pub tagsOf : ℕ → List ℕ → ℕ → List ℕ
 tagsOf types w id = tagsFrom 4294967296 types w 0 (getField w id 9)
 
 -- the table of a section and the work that opening left
-unfoldable pub btfOf : Btf → List ℕ → List ℕ → Rules
+unfoldable pub btfOf : TypeTable → List ℕ → List ℕ → Rules
 btfOf b s w = record {
   ptr-sz = b .«ptr_sz»;
   union-as-struct = b .«union_as_struct»;
@@ -136,7 +136,7 @@ valueVersionIn types e w =
       | false ↦ record { version = 0; names = w }
     ]
 
-unfoldable pub workNaming : Btf → Naming (List ℕ)
+unfoldable pub workNaming : TypeTable → Naming (List ℕ)
 workNaming b = record {
   typeVersion = λ space id name w. typeVersionIn (b .types) id w;
   valueVersion = λ id k name w. valueVersionIn (b .types) (enumeratorOf w id k) w;

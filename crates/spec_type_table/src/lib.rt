@@ -4,8 +4,8 @@ mod node;
 mod types;
 
 pub use node::Node;
-pub use types::Btf;
 pub use types::BtfMember;
 pub use types::BtfType;
 pub use types::Entries;
 pub use types::Extra;
+pub use types::TypeTable;

@@ -2,7 +2,7 @@
 
 // A section that was opened: the settings chosen then, the order of its bytes, the count of types, and where its string area
 // starts. (Sixteen bytes, since it is handed on with every call.)
-pub struct Btf {
+pub struct TypeTable {
     pub ptr_sz: u32,
     pub union_as_struct: bool,
     pub big_endian: bool,

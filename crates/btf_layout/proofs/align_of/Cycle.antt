@@ -9,7 +9,7 @@ use borrow.Author.Tests.{ne-eqb}
 use Rattle.spec_bytes.proofs.words.Laws.{le-or-lt}
 use Rattle.spec_c_dumper.specs.rules.Layout.{larger}
 use Rattle.spec_c_dumper.specs.rules.Types.{Member, memberTypes, BtfType, Btf as Rules}
-use Rattle.spec_type_table.specs.declared.types.Btf.{Btf}
+use Rattle.spec_type_table.specs.declared.types.TypeTable.{TypeTable}
 use Rattle.spec_type_table.specs.declared.types.BtfType.{BtfType as Record}
 use Rattle.spec_type_table.specs.declared.types.Entries.{Entries}
 use Rattle.spec_type_table.specs.Records.{sectionWord, kindOf, vlenOf, memberAt, memberOf, recordById, entriesOf}
@@ -29,7 +29,7 @@ use Rattle.btf_layout.proofs.remembered.Keeps.{table-keeps}
 use Rattle.btf_layout.proofs.remembered.Turns.{members-ids, next, then-next, forget-ids, forget-align, Held, held-forget, ids-held, align-held}
 
 -- ---- the table and the heights after a call
-module _ (b : Btf) (s : List ℕ) where
+module _ (b : TypeTable) (s : List ℕ) where
   held-answer : (left : ℕ) (w : List ℕ) (r : Answer) (u : List ℕ) → Held (btfOf b s) left w (onceOf r u) → (heightOf r ≤ left) × (btfOf b s u ≡ btfOf b s w)
   unfolding onceOf heightOf
   held-answer left w (Found x) u h = h
@@ -101,7 +101,7 @@ entriesIn d (Own a) = d
 entriesIn d (Through x) = d
 entriesIn d (Members e) = e
 
-module _ (b : Btf) (s w : List ℕ) (t : Record) (ask : ℕ → Asking (List ℕ) Seen) (m : List ℕ) (k : ℕ) where
+module _ (b : TypeTable) (s w : List ℕ) (t : Record) (ask : ℕ → Asking (List ℕ) Seen) (m : List ℕ) (k : ℕ) where
   abbrev Like : BtfType → Step → Type 0
   Like T S = (typeOnce (btfOf b s w) ask T m k ≡ stepOnce ask (membersOf b s t) S m k) × (memberCount T ≡ stepCount (membersOf b s t) S) × (entriesIn (entriesOf t) S ≡ entriesOf t)
 
@@ -153,7 +153,7 @@ module _ (types id n : ℕ) where
   then-keep B e (found x m k) = ap (λ (c : ℕ). found (above x) (remembered types id (coded (above x)) c m) 0) e
   then-keep B e (refused c m k) = refl
 
-module _ (b : Btf) (s w : List ℕ) (left id v : ℕ) (deep : left ≡ 0 → ⊥) (ev : v ≡ seenWord (b .types) w id) (z : v ≡ 0) (t : Record) (et : t ≡ recordById b s w id) (S : Step) (es : S ≡ stepAt b s t) where
+module _ (b : TypeTable) (s w : List ℕ) (left id v : ℕ) (deep : left ≡ 0 → ⊥) (ev : v ≡ seenWord (b .types) w id) (z : v ≡ 0) (t : Record) (et : t ≡ recordById b s w id) (S : Step) (es : S ≡ stepAt b s t) where
   abbrev B : Rules
   B = btfOf b s w
 
@@ -203,7 +203,7 @@ module _ (b : Btf) (s w : List ℕ) (left id v : ℕ) (deep : left ≡ 0 → ⊥
       own = ap (entriesIn (entriesOf t)) (sym m ∙ es) ∙ step-like b s w t ask w 1 .2
 
 -- ---- the loop of members_once
-module _ (types : ℕ) (B : Rules) (left : ℕ) (b : Btf) (s : List ℕ) (e : Entries) where
+module _ (types : ℕ) (B : Rules) (left : ℕ) (b : TypeTable) (s : List ℕ) (e : Entries) where
   -- what the members from k on make of what is seen so far
   pub idsRest : ℕ → ℕ → ℕ → List ℕ → Once (List ℕ) Seen
   idsRest a h k w = idsWith types B left (record { align = a; height = h }) (from (λ i. sectionWord b s (memberAt (e .at) i + 4)) k (e .vlen - k)) w

@@ -9,7 +9,7 @@ use lib.Dec.{eqb}
 use borrow.Author.Tests.{ne-eqb}
 use Rattle.spec_c_dumper.specs.rules.Writer.{Ask}
 use Rattle.spec_c_dumper.specs.rules.Types.{Member, Btf as Rules}
-use Rattle.spec_type_table.specs.declared.types.Btf.{Btf}
+use Rattle.spec_type_table.specs.declared.types.TypeTable.{TypeTable}
 use Rattle.spec_type_table.specs.declared.types.BtfType.{BtfType as Record}
 use Rattle.spec_type_table.specs.declared.types.BtfMember.{BtfMember}
 use Rattle.spec_type_table.specs.Records.{vlenOf, memberOf}
@@ -161,7 +161,7 @@ pub multiple-none : (n a : ℕ) → a ≡ 0 → eqb n 0 ≡ eqb (n % a) 0
 multiple-none n a e = ap (λ (x : ℕ). eqb x 0) (sym (ap (λ (z : ℕ). n % z) e ∙ mod-zero n))
 
 -- ---- the table stays
-module _ (b : Btf) (s : List ℕ) where
+module _ (b : TypeTable) (s : List ℕ) where
   told-ask : (w : List ℕ) (r : Code) (u : List ℕ) → Stays (btfOf b s) w (askIn r u) → btfOf b s u ≡ btfOf b s w
   unfolding askIn
   told-ask w (ask.Got a) u h = h
@@ -192,7 +192,7 @@ module _ (b : Btf) (s : List ℕ) where
   table-packed is id sz ms w r u e = told-packed w r u (subst (Stays (btfOf b s) w) (sym e) (stays-forget (btfOf b s) w _ (stays-packed (btfOf b s) (Kept w) (btfOf b s w) (table-keeps b s (b .types) (btfOf b s w)) is id sz ms w 0)))
 
 -- ---- the loop of members_packed
-module _ (types : ℕ) (B : Rules) (b : Btf) (s : List ℕ) (t : Record) where
+module _ (types : ℕ) (B : Rules) (b : TypeTable) (s : List ℕ) (t : Record) where
   -- what the members from k on say
   pub membersRest : ℕ → List ℕ → Once (List ℕ) Bool
   membersRest k w = membersIn types B (from (λ i. ruleMember b s (memberOf b s t i)) k (vlenOf (t .info) - k)) w

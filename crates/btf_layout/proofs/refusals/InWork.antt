@@ -9,7 +9,7 @@ use Rattle.spec_c_dumper.specs.rules.Types.{Name, Member, BtfType, Btf as Rules
 use Rattle.spec_c_dumper.specs.rules.Names.{Space}
 use Rattle.spec_c_dumper.proofs.rules.Keeps.{Keeps}
 use Rattle.spec_c_dumper.proofs.rules.Refusals.{Tells}
-use Rattle.spec_type_table.specs.declared.types.Btf.{Btf}
+use Rattle.spec_type_table.specs.declared.types.TypeTable.{TypeTable}
 use Rattle.spec_type_table.specs.Cells.{getField, putField}
 use Rattle.spec_type_table.specs.Table.{workNaming}
 use Rattle.spec_c_dumper.specs.alignment_once.Once.{Seen, Once, found, refused, memoryAfter, memberCount}
@@ -21,7 +21,7 @@ use Rattle.btf_layout.proofs.asked.Stays.{Stays, stays-padding, stays-b
 use Rattle.btf_layout.proofs.refusals.Questions.{coded-padding, coded-body}
 use Rattle.btf_layout.proofs.refusals.Emitters.{tells-definition, tells-forward}
 
-module _ {Z : Type 0} (P : List ℕ → Z) (count : (w : List ℕ) (v : ℕ) → P (putField w 0 2 v) ≡ P w) (aligns : (w : List ℕ) (x v : ℕ) → P (putField w x 15 v) ≡ P w) (b : Btf) (B : Rules) where
+module _ {Z : Type 0} (P : List ℕ → Z) (count : (w : List ℕ) (v : ℕ) → P (putField w 0 2 v) ≡ P w) (aligns : (w : List ℕ) (x v : ℕ) → P (putField w x 15 v) ≡ P w) (b : TypeTable) (B : Rules) where
   pub remember-keeps : (id : ℕ) (s : Seen) (w : List ℕ) → P (workKeep (b .types) B .remember id s w) ≡ P w
   unfolding workKeep remembered counted
   remember-keeps id s w = go (eqb (coded s) 0) (leb (b .types) id)
@@ -53,7 +53,7 @@ module _ {Z : Type 0} (P : List ℕ → Z) (count : (w : List ℕ) (v : ℕ) →
     pub forward-keeps : Keeps P (forwardOnce (workAsks (b .types) B) (workNaming b) B id t)
     forward-keeps = keeps-forward (workAsks (b .types) B) (workNaming b) P types values padding-keeps body-keeps B id t
 
-module _ (b : Btf) (B : Rules) (id : ℕ) (t : BtfType) where
+module _ (b : TypeTable) (B : Rules) (id : ℕ) (t : BtfType) where
   pub definition-tells : Tells (definitionOnce (workAsks (b .types) B) (workNaming b) B id t)
   definition-tells =
       tells-definition (workAsks (b .types) B) (workNaming b) (λ offset x packed w. coded-padding (workKeep (b .types) B) B offset x packed w (getField w 0 2)) (λ is-struct x sz ms w. coded-body (workKeep (b .types) B) B is-struct x sz ms w (getField w 0 2)) B id t

@@ -6,14 +6,14 @@ use mathlib.Core.Bool.{Bool, true, false}
 use mathlib.Core.List.{List}
 use lib.Dec.{leb, eqb}
 use Rattle.spec_c_dumper.specs.rules.Types.{Btf as Rules}
-use Rattle.spec_type_table.specs.declared.types.Btf.{Btf}
+use Rattle.spec_type_table.specs.declared.types.TypeTable.{TypeTable}
 use Rattle.spec_type_table.specs.Cells.{putField}
 use Rattle.spec_type_table.specs.Table.{btfOf}
 use Rattle.spec_type_table.proofs.Frame.{table-field}
 use Rattle.spec_c_dumper.specs.alignment_once.Once.{Seen, memberCount}
 use Rattle.btf_layout.specs.remembered.Words.{coded, counted, remembered, workKeep}
 
-module _ (b : Btf) (s : List ℕ) where
+module _ (b : TypeTable) (s : List ℕ) where
   table-counted : (n : ℕ) (w : List ℕ) → btfOf b s (counted n w) ≡ btfOf b s w
   unfolding counted
   table-counted n w = table-field w 0 2 _ (omega arith) b s (λ e. omega arith) (λ e. omega arith) (λ e. omega arith)

@@ -9,7 +9,7 @@ use lib.Dec.{leb}
 use borrow.Author.Tests.{lt-ltb, le-ltb, le-leb, lt-leb, ne-eqb}
 use Rattle.spec_bytes.proofs.words.Laws.{le-or-lt}
 use Rattle.spec_c_dumper.specs.rules.Layout.{smaller, octets}
-use Rattle.spec_type_table.specs.declared.types.Btf.{Btf}
+use Rattle.spec_type_table.specs.declared.types.TypeTable.{TypeTable}
 use Rattle.spec_type_table.specs.declared.types.BtfType.{BtfType as Record}
 use Rattle.spec_type_table.specs.declared.types.Entries.{Entries}
 use Rattle.spec_type_table.specs.Cells.{getField, putField}
@@ -108,7 +108,7 @@ module _ (types id n : ℕ) (r : Answer) (w : List ℕ) where
 near : {P : Type 0} → (n k : ℕ) → n ≤ k → (k ≡ n → P) → (suc n ≤ k → P) → P
 near n k h p q = ⊎-elim q (λ l. p (omega arith)) (le-or-lt (suc n) k)
 
-module _ (b : Btf) (s : List ℕ) (t : Record) (k : ℕ) (ek : k ≡ kindOf (t .info)) where
+module _ (b : TypeTable) (s : List ℕ) (t : Record) (k : ℕ) (ek : k ≡ kindOf (t .info)) where
   pub step-int : (x y : ℕ) → k ≡ 1 → x ≡ extraWord b s t % 256 → y ≡ smaller (b .«ptr_sz») ((x + 7) / 8) → Own y ≡ stepAt b s t
   unfolding stepAt octets
   step-int x y e ex ey = rw (sym ek ∙ e) (ap Own (ey ∙ ap (λ (z : ℕ). smaller (b .«ptr_sz») ((z + 7) / 8)) ex))

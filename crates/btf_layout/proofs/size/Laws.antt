@@ -9,7 +9,7 @@ use Rattle.spec_bytes.proofs.words.Laws.{le-or-lt}
 use Rattle.spec_c_dumper.specs.rules.Writer.{Ask, got, no, askThen, checked}
 use Rattle.spec_c_dumper.specs.rules.Types.{BtfType}
 use Rattle.spec_c_dumper.specs.rules.Layout.{octets, sizeOf, getSizeOf, endOf}
-use Rattle.spec_type_table.specs.declared.types.Btf.{Btf}
+use Rattle.spec_type_table.specs.declared.types.TypeTable.{TypeTable}
 use Rattle.spec_type_table.specs.declared.types.BtfType.{BtfType as Record}
 use Rattle.spec_type_table.specs.declared.types.BtfMember.{BtfMember}
 use Rattle.spec_type_table.specs.Records.{kindOf, recordById}
@@ -56,7 +56,7 @@ then-twice (got n) g h = refl
 then-twice (no c) g h = refl
 
 -- ---- get_size_of
-module _ (b : Btf) (s w : List ℕ) (left id : ℕ) where
+module _ (b : TypeTable) (s w : List ℕ) (left id : ℕ) where
   pub size-deep : left ≡ 0 → askOf (No 12) ≡ getSizeOf left (btfOf b s w) id
   unfolding askOf getSizeOf
   size-deep e = rw e
@@ -148,7 +148,7 @@ module _ (b : Btf) (s w : List ℕ) (left id : ℕ) where
       -- ---- get_align_of
 
 -- ---- member_end
-module _ (b : Btf) (s w : List ℕ) (m : BtfMember) where
+module _ (b : TypeTable) (s w : List ℕ) (m : BtfMember) where
   pub end-bits : (r : Code) → (m .«bit_size» ≡ 0 → ⊥) → askOf r ≡ checked (m .«bit_offset» + m .«bit_size») → askOf r ≡ endOf (btfOf b s w) (ruleMember b s m)
   unfolding endOf
   end-bits r n er = rw (ne-eqb (m .«bit_size») 0 n, endOf) er

@@ -7,7 +7,7 @@ use lib.ListN.{getD}
 use lib.Dec.{ltb, leb, eqb}
 use Rattle.spec_c_dumper.specs.rules.Types.{Btf as Rules}
 use Rattle.spec_c_dumper.specs.rules.Layout.{smaller, octets}
-use Rattle.spec_type_table.specs.declared.types.Btf.{Btf}
+use Rattle.spec_type_table.specs.declared.types.TypeTable.{TypeTable}
 use Rattle.spec_type_table.specs.declared.types.BtfType.{BtfType as Record}
 use Rattle.spec_type_table.specs.Cells.{getField, putField}
 use Rattle.spec_type_table.specs.Records.{kindOf, entriesOf}
@@ -82,7 +82,7 @@ keptWith types id members (Found s) w = found (above (seenIs s)) (remembered typ
 keptWith types id members (No c) w = refused c w 0
 
 -- what get_align_of asks of a record, by its kind
-unfoldable pub stepAt : Btf → List ℕ → Record → Step
+unfoldable pub stepAt : TypeTable → List ℕ → Record → Step
 stepAt b s t = getD
     (Own 0
     ∷ Own (smaller (b .«ptr_sz») (octets (extraWord b s t % 256)))

@@ -9,7 +9,7 @@ use lib.ListN.{length, replicate}
 use borrow.Author.Tests.{eq-eqb}
 use Rattle.spec_bytes.specs.words.Words.{getWord}
 use Rattle.spec_bytes.proofs.words.Laws.{le-or-lt}
-use Rattle.spec_type_table.specs.declared.types.Btf.{Btf}
+use Rattle.spec_type_table.specs.declared.types.TypeTable.{TypeTable}
 use Rattle.spec_type_table.specs.Cells.{placeOf}
 use Rattle.spec_type_table.proofs.Laws.{place-type, place-enum}
 use Rattle.btf_open_names.specs.name_classes.Claims.{Else}
@@ -41,7 +41,7 @@ other-place t f g h a c n0 n9 n10 n12 m =
     (le-or-lt t h)
 
 module _ (p modes : ℕ) (s : List ℕ) (n : ℕ) (ok : openingNumber p s n ≡ 0) where
-  abbrev b : Btf
+  abbrev b : TypeTable
   b = btfOf s p modes (typesOf s)
 
   abbrev e : ℕ

@@ -7,7 +7,7 @@ use lib.Dec.{ltb, eqb}
 use borrow.Author.Tests.{lt-ltb, le-ltb, ne-eqb}
 use Rattle.spec_linux_btf.specs.Section.{bigEndian}
 use Rattle.spec_bytes.specs.words.Words.{pick}
-use Rattle.spec_type_table.specs.declared.types.Btf.{Btf}
+use Rattle.spec_type_table.specs.declared.types.TypeTable.{TypeTable}
 use Rattle.btf_open_causes.specs.declared.header.Header.{Header}
 use Rattle.btf_open_causes.specs.header.Header.{headerOf, stringsAt, btfOf}
 
@@ -33,6 +33,6 @@ abbrev fromHeader : Header → ℕ
 fromHeader h = pick (ltb (h .«hdr_len» + h .«str_off») 4294967296) (h .«hdr_len» + h .«str_off») 4294967295
 
 pub btf-is : (s : List ℕ) (p m t : ℕ) (h : Header) → h ≡ headerOf s → (a b c : ℕ) → a ≡ pick (eqb p 4) 4 8 → b ≡ pick (ltb t 262145) t 262145
-    → c ≡ fromHeader h → (o : Bool) → o ≡ bigEndian s → _≡_ {A = Btf} (record { «ptr_sz» = a; «union_as_struct» = eqb (m % 2) 1; «big_endian» = o; «strong_arrays» = eqb (m / 2 % 2) 1; placing = eqb (m / 4 % 2) 1; types = b; strs = c }) (btfOf s p m t)
+    → c ≡ fromHeader h → (o : Bool) → o ≡ bigEndian s → _≡_ {A = TypeTable} (record { «ptr_sz» = a; «union_as_struct» = eqb (m % 2) 1; «big_endian» = o; «strong_arrays» = eqb (m / 2 % 2) 1; placing = eqb (m / 4 % 2) 1; types = b; strs = c }) (btfOf s p m t)
 unfolding btfOf headerOf stringsAt
 btf-is s p m t h e a b c f g k o q = λ i. record { «ptr_sz» = f i; «union_as_struct» = eqb (m % 2) 1; «big_endian» = q i; «strong_arrays» = eqb (m / 2 % 2) 1; placing = eqb (m / 4 % 2) 1; types = g i; strs = (k ∙ ap fromHeader e) i }

@@ -9,7 +9,7 @@ use lib.Dec.{eqb}
 use borrow.Author.Tests.{eqb-true}
 use Rattle.spec_bytes.specs.words.Words.{pick}
 use Rattle.spec_bytes.proofs.words.Laws.{le-or-lt}
-use Rattle.spec_type_table.specs.declared.types.Btf.{Btf}
+use Rattle.spec_type_table.specs.declared.types.TypeTable.{TypeTable}
 use Rattle.spec_type_table.specs.Records.{sectionWord, vlenOf}
 use Rattle.btf_open_causes.specs.references.Followed.{among, composites, targets, entryAt, placeOf, kindAt, countFor, countAt, idAt, followedCount, followedId}
 use Rattle.btf_open_causes.specs.loops.Graph.{Loop, hasLoop}
@@ -19,7 +19,7 @@ use Rattle.btf_open_causes.specs.loops.Walk.{Safe, Passed}
 use Rattle.btf_open_causes.proofs.loops.Graphs.{has-loop-yes, has-loop-no}
 
 -- the successors of the record of a kind at a place
-module _ (b : Btf) (s : List ℕ) (k at : ℕ) where
+module _ (b : TypeTable) (s : List ℕ) (k at : ℕ) where
   pub deg-composite : 4 ≤ k → k < 6 → 0 ≡ degAt b s k at
   unfolding degAt among
   deg-composite h l = rw (degAt, steady (among composites) true 4 2 k (refl, (refl, tt)) h l)
@@ -28,7 +28,7 @@ module _ (b : Btf) (s : List ℕ) (k at : ℕ) where
   unfolding degAt
   deg-other o n f = rw (degAt, no-composite k o) f
 
-module _ (b : Btf) (s start : List ℕ) where
+module _ (b : TypeTable) (s start : List ℕ) where
   pub deg-by : (x i : ℕ) → i ≡ entryAt b start x → (n : ℕ) → n ≡ degAt b s (i % 32) (i / 32) → n ≡ degOf b s start x
   unfolding degOf
   deg-by x i e n f = rw (← kind-is b start x i e, ← place-is b start x i e) f

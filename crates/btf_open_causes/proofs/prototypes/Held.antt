@@ -8,7 +8,7 @@ use native.Mathlib.Omega.{arith}
 use lib.Dec.{eqb}
 use borrow.Author.Tests.{eqb-true, ne-eqb}
 use Rattle.spec_bytes.specs.words.Words.{pick}
-use Rattle.spec_type_table.specs.declared.types.Btf.{Btf}
+use Rattle.spec_type_table.specs.declared.types.TypeTable.{TypeTable}
 use Rattle.btf_open_causes.specs.references.Any.{anyBelow}
 use Rattle.btf_open_causes.specs.references.Followed.{among, countOf, entryAt, kindAt, countAt, followedCount, followedId}
 use Rattle.btf_open_causes.specs.prototypes.Track.{Leads, here, on, leadsTo}
@@ -18,7 +18,7 @@ use Rattle.btf_open_causes.proofs.references.Any.{any-find, any-yes, on
 use Rattle.btf_open_causes.proofs.references.Accessors.{steady, apart, kind-is, place-is}
 use Rattle.btf_open_causes.proofs.prototypes.Tracks.{leads-to}
 
-module _ (b : Btf) (start : List ℕ) where
+module _ (b : TypeTable) (start : List ℕ) where
   module _ (x k : ℕ) (e : k ≡ kindAt b start x) where
     what-passes : among through k ≡ true → 1 ≡ whatOf b start x
     unfolding whatOf
@@ -45,7 +45,7 @@ module _ (b : Btf) (start : List ℕ) where
         off (inr h) = apart through k ((λ f. m (inl f)), (omega arith, (omega arith, (omega arith, (omega arith, ((λ f. m (inr f)), tt))))))
 
 -- members and elements of the record of a kind at a place
-module _ (b : Btf) (s : List ℕ) (k at : ℕ) where
+module _ (b : TypeTable) (s : List ℕ) (k at : ℕ) where
   pub asks-inside : 3 ≤ k → k < 6 → (n : ℕ) → n ≡ countAt b s k at → n ≡ asksAt b s k at
   unfolding asksAt among
   asks-inside h l n f = rw (asksAt, steady (among holders) true 3 3 k (refl, (refl, (refl, tt))) h l) f
@@ -58,7 +58,7 @@ module _ (b : Btf) (s : List ℕ) (k at : ℕ) where
       off (inl h) = apart holders k (omega arith, (omega arith, (omega arith, tt)))
       off (inr h) = apart holders k (omega arith, (omega arith, (omega arith, tt)))
 
-module _ (b : Btf) (s start : List ℕ) where
+module _ (b : TypeTable) (s start : List ℕ) where
   pub asks-is : (x i : ℕ) → i ≡ entryAt b start x → (n : ℕ) → n ≡ asksAt b s (i % 32) (i / 32) → n ≡ asksOf b s start x
   unfolding asksOf
   asks-is x i e n f = rw (← kind-is b start x i e, ← place-is b start x i e) f

@@ -12,7 +12,7 @@ use lib.Dec.{ltb, leb, eqb}
 use borrow.Author.Tests.{lt-ltb, le-ltb, le-leb, lt-leb, ne-eqb, leb-true}
 use Rattle.spec_bytes.specs.words.Words.{pick}
 use Rattle.spec_bytes.proofs.words.Laws.{le-or-lt}
-use Rattle.spec_type_table.specs.declared.types.Btf.{Btf}
+use Rattle.spec_type_table.specs.declared.types.TypeTable.{TypeTable}
 use Rattle.spec_type_table.specs.declared.types.Extra.{Extra}
 use Rattle.spec_type_table.specs.declared.types.Extra.the-variants.{Bytes, Refused}
 use Rattle.spec_type_table.specs.Records.{sectionWord, vlenOf, kindOf, extraOf}
@@ -521,7 +521,7 @@ pub out-found : (x e : ℕ) (start : List ℕ) → scanOut (record { «is_sound�
 unfolding scanOut
 out-found x e start = refl
 
-module _ (b : Btf) (s start : List ℕ) (h : Header) (e : h ≡ headerOf s) where
+module _ (b : TypeTable) (s start : List ℕ) (h : Header) (e : h ≡ headerOf s) where
   at4 : h .«hdr_len» ≡ wordOf s 4
   unfolding headerOf
   at4 = ap (λ x. x .«hdr_len») e

@@ -10,7 +10,7 @@ use lib.ListN.{length, getD, List·getD-eq-default}
 use lib.Dec.{eqb}
 use borrow.Author.Tests.{lt-ltb, le-ltb, eqb-true, ne-eqb}
 use Rattle.spec_bytes.proofs.words.Laws.{le-or-lt}
-use Rattle.spec_type_table.specs.declared.types.Btf.{Btf}
+use Rattle.spec_type_table.specs.declared.types.TypeTable.{TypeTable}
 use Rattle.spec_type_table.specs.Records.{sectionWord, vlenOf, memberAt, paramAt}
 use Rattle.btf_open_causes.specs.references.Followed.{among, countOf, entryAt, placeOf, kindAt, composites, targets, countFor, idPlace, countAt, idAt, followedCount, followedId}
 
@@ -51,16 +51,16 @@ pub no-composite : (k : ℕ) → (k < 4) ⊎ (6 ≤ k) → among composites k �
 no-composite k (inl h) = apart composites k (omega arith, (omega arith, tt))
 no-composite k (inr h) = apart composites k (omega arith, (omega arith, tt))
 
-pub count-in : (b : Btf) (n : ℕ) → n ≡ b .types → n < 262145 → n ≡ countOf b
+pub count-in : (b : TypeTable) (n : ℕ) → n ≡ b .types → n < 262145 → n ≡ countOf b
 unfolding countOf
 count-in b n e h = rw (← e, lt-ltb n 262145 h)
 
-pub count-out : (b : Btf) (n : ℕ) → n ≡ b .types → 262145 ≤ n → 262145 ≡ countOf b
+pub count-out : (b : TypeTable) (n : ℕ) → n ≡ b .types → 262145 ≤ n → 262145 ≡ countOf b
 unfolding countOf
 count-out b n e h = rw (← e, le-ltb n 262145 h)
 
 -- a table that passed cause 5 has all its types counted
-pub count-all : (b : Btf) → b .types ≤ 262145 → countOf b ≡ b .types
+pub count-all : (b : TypeTable) → b .types ≤ 262145 → countOf b ≡ b .types
 count-all b h = ⊎-elim (λ l. sym (count-out b (b .types) refl l) ∙ exact l) (λ l. sym (count-in b (b .types) refl l)) (le-or-lt 262145 (b .types))
   where
     exact : 262145 ≤ b .types → 262145 ≡ b .types
@@ -126,7 +126,7 @@ module _ (kind at k : ℕ) where
   unfolding idPlace
   id-target m e n = rw (idPlace, ne-eqb kind 3 m, e, ne-eqb kind 13 n)
 
-module _ (b : Btf) (start : List ℕ) (x : ℕ) (m : x ≡ 0 → ⊥) (n : ℕ) (e : n ≡ countOf b) (h : x < n) where
+module _ (b : TypeTable) (start : List ℕ) (x : ℕ) (m : x ≡ 0 → ⊥) (n : ℕ) (e : n ≡ countOf b) (h : x < n) where
   pub entry-in : getD start x 0 ≡ entryAt b start x
   unfolding entryAt
   entry-in = rw (entryAt, ne-eqb x 0 m, ← e, lt-ltb x n h)
@@ -134,23 +134,23 @@ module _ (b : Btf) (start : List ℕ) (x : ℕ) (m : x ≡ 0 → ⊥) (n : ℕ) 
   pub entry-past : length start ≤ x → 0 ≡ entryAt b start x
   entry-past l = sym (List·getD-eq-default start 0 l) ∙ entry-in
 
-module _ (b : Btf) (s : List ℕ) (kind at v r : ℕ) (e : v ≡ vlenOf (sectionWord b s (at + 4))) where
+module _ (b : TypeTable) (s : List ℕ) (kind at v r : ℕ) (e : v ≡ vlenOf (sectionWord b s (at + 4))) where
   -- the count of a record, by the vlen that was read
   pub count-by : r ≡ countFor kind v → r ≡ countAt b s kind at
   unfolding countAt
   count-by f = rw (← e) f
 
 -- and where vlen is not read
-pub count-any : (b : Btf) (s : List ℕ) (kind at r : ℕ) → r ≡ countFor kind (vlenOf (sectionWord b s (at + 4))) → r ≡ countAt b s kind at
+pub count-any : (b : TypeTable) (s : List ℕ) (kind at r : ℕ) → r ≡ countFor kind (vlenOf (sectionWord b s (at + 4))) → r ≡ countAt b s kind at
 unfolding countAt
 count-any b s kind at r f = f
 
-pub id-is : (b : Btf) (s : List ℕ) (kind at k q r : ℕ) → q ≡ idPlace kind at k → r ≡ sectionWord b s q → r ≡ idAt b s kind at k
+pub id-is : (b : TypeTable) (s : List ℕ) (kind at k q r : ℕ) → q ≡ idPlace kind at k → r ≡ sectionWord b s q → r ≡ idAt b s kind at k
 unfolding idAt
 id-is b s kind at k q r f g = rw (← f) g
 
 -- a type by its entry
-module _ (b : Btf) (start : List ℕ) (x i : ℕ) (e : i ≡ entryAt b start x) where
+module _ (b : TypeTable) (start : List ℕ) (x i : ℕ) (e : i ≡ entryAt b start x) where
   pub kind-is : i % 32 ≡ kindAt b start x
   unfolding kindAt
   kind-is = ap (λ (n : ℕ). n % 32) e

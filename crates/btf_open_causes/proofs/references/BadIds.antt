@@ -7,14 +7,14 @@ use mathlib.Core.Logic.{⊎-elim, _⊎_, inl, inr, _↔_}
 use native.Mathlib.Omega.{arith}
 use lib.Dec.{ltb}
 use borrow.Author.Tests.{lt-ltb, le-ltb, ltb-false}
-use Rattle.spec_type_table.specs.declared.types.Btf.{Btf}
+use Rattle.spec_type_table.specs.declared.types.TypeTable.{TypeTable}
 use Rattle.btf_open_causes.specs.references.Any.{anyBelow}
 use Rattle.btf_open_causes.specs.references.Followed.{among, countOf, kindAt, followedCount, followedId}
 use Rattle.btf_open_causes.specs.references.References.{refused, isBad, isSomeBad, hasBadReference, BadReference}
 use Rattle.btf_open_causes.proofs.references.Any.{any-find, any-yes, one-more, found-below, none-found}
 use Rattle.btf_open_causes.proofs.references.Accessors.{steady, apart}
 
-module _ (b : Btf) (start : List ℕ) where
+module _ (b : TypeTable) (start : List ℕ) where
   module _ (y n : ℕ) (e : n ≡ countOf b) where
     pub bad-out : n ≤ y → true ≡ isBad b start y
     unfolding isBad
@@ -37,7 +37,7 @@ module _ (b : Btf) (start : List ℕ) where
       bad-none m (inl h) = inside false (apart refused k ((λ g. m (inl g)), (omega arith, (omega arith, ((λ g. m (inr g)), tt)))))
       bad-none m (inr h) = inside false (apart refused k ((λ g. m (inl g)), (omega arith, (omega arith, ((λ g. m (inr g)), tt)))))
 
-module _ (b : Btf) (s start : List ℕ) where
+module _ (b : TypeTable) (s start : List ℕ) where
   module _ (x : ℕ) where
     pub each-more : (k y : ℕ) (r : Bool) → ((v : ℕ) → v < k → isBad b start (followedId b s start x v) ≡ false) → y ≡ followedId b s start x k
         → r ≡ isBad b start y → r ≡ false → (v : ℕ) → v < k + 1 → isBad b start (followedId b s start x v) ≡ false

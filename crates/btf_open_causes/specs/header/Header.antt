@@ -7,7 +7,7 @@ use lib.ListN.{length, getD, take, drop}
 use lib.Dec.{ltb, leb, eqb}
 use Rattle.spec_bytes.specs.words.Words.{pick}
 use Rattle.spec_linux_btf.specs.Section.{bigEndian, littleEndian, wordOf, stringsSound}
-use Rattle.spec_type_table.specs.declared.types.Btf.{Btf}
+use Rattle.spec_type_table.specs.declared.types.TypeTable.{TypeTable}
 use Rattle.btf_open_causes.specs.declared.header.Header.{Header}
 
 -- struct btf_header from hdr_len on, in the section's order
@@ -21,7 +21,7 @@ stringsAt s = pick (ltb (wordOf s 4 + wordOf s 16) 4294967296) (wordOf s 4 + wor
 -- what a table's types need of its header and settings: "pointer size 4 or 8"; "union_as_struct, chosen at opening" (bit 0); "a setting
 -- under which passing an array forgets pointers passed before it" (bit 1); "a placing mode beside the old one" (bit 2);
 -- "A section whose first bytes are EB 9F is read with every word most significant byte first"
-unfoldable pub btfOf : List ℕ → ℕ → ℕ → ℕ → Btf
+unfoldable pub btfOf : List ℕ → ℕ → ℕ → ℕ → TypeTable
 btfOf s pointer modes types = record {
   «ptr_sz» = pick (eqb pointer 4) 4 8;
   «union_as_struct» = eqb (modes % 2) 1;

@@ -5,7 +5,7 @@ use mathlib.Core.Path.{_≡_, refl}
 use mathlib.Core.Bool.{Bool, true, false}
 use mathlib.Core.List.{List, [], _∷_}
 use Rattle.spec_bytes.specs.words.Words.{pick}
-use Rattle.spec_type_table.specs.declared.types.Btf.{Btf}
+use Rattle.spec_type_table.specs.declared.types.TypeTable.{TypeTable}
 use Rattle.btf_open_causes.specs.references.Followed.{among, composites, countOf, placeOf, kindAt, countAt, followedCount, followedId}
 use Rattle.btf_open_causes.specs.references.Bounds.{count-fits, followed-few, followed-none}
 use Rattle.btf_open_causes.specs.loops.Graph.{Graph}
@@ -15,10 +15,10 @@ abbrev pub passing : List ℕ
 passing = 2 ∷ 3 ∷ 8 ∷ 9 ∷ 10 ∷ 11 ∷ 13 ∷ 18 ∷ []
 
 -- every type is a node; a composite has no successors, so that no loop passes it, and what follows no id has none either
-unfoldable pub degAt : Btf → List ℕ → ℕ → ℕ → ℕ
+unfoldable pub degAt : TypeTable → List ℕ → ℕ → ℕ → ℕ
 degAt b s kind at = pick (among composites kind) 0 (countAt b s kind at)
 
-module _ (b : Btf) (s start : List ℕ) where
+module _ (b : TypeTable) (s start : List ℕ) where
   unfoldable pub degOf : ℕ → ℕ
   degOf x = degAt b s (kindAt b start x) (placeOf b start x)
 

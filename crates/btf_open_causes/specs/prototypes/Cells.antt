@@ -4,7 +4,7 @@ use mathlib.Core.Path.{_≡_}
 use mathlib.Core.Bool.{Bool}
 use mathlib.Core.List.{List}
 use lib.ListN.{length, getD}
-use Rattle.spec_type_table.specs.declared.types.Btf.{Btf}
+use Rattle.spec_type_table.specs.declared.types.TypeTable.{TypeTable}
 use Rattle.btf_open_causes.specs.references.Zeros.{zeros}
 use Rattle.btf_open_causes.specs.prototypes.Track.{Track, Leads, leadsTo}
 use Rattle.btf_open_causes.specs.prototypes.Prototypes.{trackOf, asker}
@@ -53,6 +53,6 @@ pub record Answer (T : Track) (y : ℕ) (cell : List ℕ) (r : Bool) : Type 0 wh
   pub rest : Rest T cell
   pub is : r ≡ leadsTo T y
 
-pub record Part (b : Btf) (s start : List ℕ) (x : ℕ) (cell : List ℕ) (r : Bool) : Type 0 where
+pub record Part (b : TypeTable) (s start : List ℕ) (x : ℕ) (cell : List ℕ) (r : Bool) : Type 0 where
   pub rest : Rest (trackOf b s start) cell
   pub is : r ≡ asker b s start x

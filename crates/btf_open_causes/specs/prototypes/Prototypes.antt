@@ -5,7 +5,7 @@ use mathlib.Core.Bool.{Bool, true}
 use mathlib.Core.List.{List, [], _∷_}
 use lib.Dec.{eqb}
 use Rattle.spec_bytes.specs.words.Words.{pick}
-use Rattle.spec_type_table.specs.declared.types.Btf.{Btf}
+use Rattle.spec_type_table.specs.declared.types.TypeTable.{TypeTable}
 use Rattle.btf_open_causes.specs.references.Any.{anyBelow}
 use Rattle.btf_open_causes.specs.references.Followed.{among, countOf, placeOf, kindAt, countAt, followedCount, followedId}
 use Rattle.btf_open_causes.specs.references.Bounds.{count-fits, kind-out}
@@ -19,7 +19,7 @@ through = 3 ∷ 8 ∷ 9 ∷ 10 ∷ 11 ∷ 18 ∷ []
 abbrev pub holders : List ℕ
 holders = 3 ∷ 4 ∷ 5 ∷ []
 
-module _ (b : Btf) (start : List ℕ) where
+module _ (b : TypeTable) (start : List ℕ) where
   -- 1: passes on to its target; 2: a prototype; 0: neither
   unfoldable pub whatOf : ℕ → ℕ
   whatOf x = pick (among through (kindAt b start x)) 1 (pick (eqb (kindAt b start x) 13) 2 0)
@@ -29,10 +29,10 @@ module _ (b : Btf) (start : List ℕ) where
   what-out x h = rw (kind-out b start x h)
 
 -- how many members or elements the record of a kind at a place has
-unfoldable pub asksAt : Btf → List ℕ → ℕ → ℕ → ℕ
+unfoldable pub asksAt : TypeTable → List ℕ → ℕ → ℕ → ℕ
 asksAt b s kind at = pick (among holders kind) (countAt b s kind at) 0
 
-module _ (b : Btf) (s start : List ℕ) where
+module _ (b : TypeTable) (s start : List ℕ) where
   unfoldable pub nextOf : ℕ → ℕ
   nextOf x = followedId b s start x 0
 
@@ -51,12 +51,12 @@ module _ (b : Btf) (s start : List ℕ) where
   anyLeads = anyBelow (countOf b) asker
 
 -- the walk from y passes on, to its target each time, and ends at a FUNC_PROTO
-pub data ToProto (b : Btf) (s start : List ℕ) : ℕ → Type 0 where
+pub data ToProto (b : TypeTable) (s start : List ℕ) : ℕ → Type 0 where
   ends : {y : ℕ} → kindAt b start y ≡ 13 → ToProto b s start y
   passes : {y : ℕ} → among through (kindAt b start y) ≡ true → ToProto b s start (followedId b s start y 0) → ToProto b s start y
 
 -- what the definition says: type x is an ARRAY, a STRUCT or a UNION, and its element or k-th member leads to a prototype
-pub record ProtoInside (b : Btf) (s start : List ℕ) : Type 0 where
+pub record ProtoInside (b : TypeTable) (s start : List ℕ) : Type 0 where
   pub x : ℕ
   pub k : ℕ
   pub type : x < countOf b

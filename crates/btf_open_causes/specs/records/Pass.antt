@@ -6,7 +6,7 @@ use mathlib.Core.List.{List}
 use lib.ListN.{set}
 use lib.Dec.{ltb, eqb}
 use Rattle.spec_bytes.specs.words.Words.{pick}
-use Rattle.spec_type_table.specs.declared.types.Btf.{Btf}
+use Rattle.spec_type_table.specs.declared.types.TypeTable.{TypeTable}
 use Rattle.spec_type_table.specs.Records.{sectionWord, vlenOf, kindOf}
 use Rattle.spec_linux_btf.specs.Reading.{Kind, none, INT, PTR, ARRAY, STRUCT, UNION, ENUM, FWD, TYPEDEF, VOLATILE, CONST, RESTRICT, FUNC, FUNC-PROTO, VAR, DATASEC, FLOAT, DECL-TAG, TYPE-TAG, ENUM64, kind}
 use Rattle.spec_linux_btf.specs.Places.{sizeP, kindP, entriesNamedP, soundP, namedP, passesP, placeFrom}
@@ -85,7 +85,7 @@ scanP w sl from end start =
     ]
 
 -- the pass over the type area as the header has it; an area that ends past the largest section is none
-unfoldable pub scanSection : Btf → List ℕ → List ℕ → Scan
+unfoldable pub scanSection : TypeTable → List ℕ → List ℕ → Scan
 scanSection b s start =
     elim (ltb 16777216 (wordOf s 4 + wordOf s 8 + wordOf s 12)) [
       | true ↦ unsound

@@ -8,11 +8,11 @@ use native.Mathlib.Decide.{ℕ-discrete}
 use lib.Dec.{ltb, eqb}
 use borrow.Author.Tests.{le-ltb, ltb-true, ne-eqb}
 use Rattle.spec_bytes.specs.words.Words.{pick}
-use Rattle.spec_type_table.specs.declared.types.Btf.{Btf}
+use Rattle.spec_type_table.specs.declared.types.TypeTable.{TypeTable}
 use Rattle.spec_type_table.specs.Records.{sectionWord, vlenOf}
 use Rattle.btf_open_causes.specs.references.Followed.{among, countOf, entryAt, placeOf, kindAt, composites, targets, countFor, countAt, followedCount}
 
-pub count-fits : (b : Btf) → countOf b ≤ 262145
+pub count-fits : (b : TypeTable) → countOf b ≤ 262145
 unfolding countOf
 count-fits b = go (ltb (b .types) 262145) refl
   where
@@ -20,7 +20,7 @@ count-fits b = go (ltb (b .types) 262145) refl
     go true e = omega (arith, ltb-true (b .types) 262145 e)
     go false e = omega arith
 
-module _ (b : Btf) (start : List ℕ) (x : ℕ) where
+module _ (b : TypeTable) (start : List ℕ) (x : ℕ) where
   pub entry-void : x ≡ 0 → 0 ≡ entryAt b start x
   unfolding entryAt
   entry-void e = rw e
@@ -34,7 +34,7 @@ module _ (b : Btf) (start : List ℕ) (x : ℕ) where
   unfolding kindAt
   kind-out h = elim (ℕ-discrete x 0) [ yes e ↦ rw (← entry-void e) | no n ↦ rw (← entry-out n (countOf b) refl h) ]
 
-module _ (b : Btf) (s : List ℕ) where
+module _ (b : TypeTable) (s : List ℕ) where
   count-few : (kind at : ℕ) → countAt b s kind at ≤ 65536
   unfolding countAt countFor
   count-few kind at = go (among targets kind) (among composites kind) (eqb kind 13)

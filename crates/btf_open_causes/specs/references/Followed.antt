@@ -6,7 +6,7 @@ use mathlib.Core.List.{List, [], _∷_}
 use lib.ListN.{getD}
 use lib.Dec.{ltb, eqb}
 use Rattle.spec_bytes.specs.words.Words.{pick}
-use Rattle.spec_type_table.specs.declared.types.Btf.{Btf}
+use Rattle.spec_type_table.specs.declared.types.TypeTable.{TypeTable}
 use Rattle.spec_type_table.specs.Records.{sectionWord, vlenOf, memberAt, paramAt}
 
 -- k is one of a list of kinds
@@ -15,18 +15,18 @@ among [] k = false
 among (a ∷ l) k = elim (eqb k a) [ true ↦ true | false ↦ among l k ]
 
 -- the count of types, void counted. Cause 5 refuses "more than 262,144 records", so it is the count of every table that comes here
-unfoldable pub countOf : Btf → ℕ
+unfoldable pub countOf : TypeTable → ℕ
 countOf b = pick (ltb (b .types) 262145) (b .types) 262145
 
 -- the entry of type x in the index: "0 is void"; void, and what lies past the table, has 0
-unfoldable pub entryAt : Btf → List ℕ → ℕ → ℕ
+unfoldable pub entryAt : TypeTable → List ℕ → ℕ → ℕ
 entryAt b start x = pick (eqb x 0) 0 (pick (ltb x (countOf b)) (getD start x 0) 0)
 
 -- where the record of type x stands
-unfoldable pub placeOf : Btf → List ℕ → ℕ → ℕ
+unfoldable pub placeOf : TypeTable → List ℕ → ℕ → ℕ
 placeOf b start x = entryAt b start x / 32
 
-unfoldable pub kindAt : Btf → List ℕ → ℕ → ℕ
+unfoldable pub kindAt : TypeTable → List ℕ → ℕ → ℕ
 kindAt b start x = entryAt b start x % 32
 
 -- "STRUCT(4), UNION(5)"
@@ -49,7 +49,7 @@ idPlace kind at k =
     (pick (among composites kind) (memberAt at k + 4)
     (pick (eqb kind 13) (pick (eqb k 0) (at + 8) (paramAt at (k - 1) + 4)) (at + 8)))
 
-module _ (b : Btf) (s : List ℕ) where
+module _ (b : TypeTable) (s : List ℕ) where
   -- of the record of a kind at a place: how many ids it follows; only vlen is read
   unfoldable pub countAt : ℕ → ℕ → ℕ
   countAt kind at = countFor kind (vlenOf (sectionWord b s (at + 4)))

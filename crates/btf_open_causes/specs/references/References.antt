@@ -5,7 +5,7 @@ use mathlib.Core.Bool.{Bool, true, false}
 use mathlib.Core.List.{List, [], _∷_}
 use mathlib.Core.Logic.{_⊎_}
 use lib.Dec.{ltb}
-use Rattle.spec_type_table.specs.declared.types.Btf.{Btf}
+use Rattle.spec_type_table.specs.declared.types.TypeTable.{TypeTable}
 use Rattle.btf_open_causes.specs.references.Any.{anyBelow}
 use Rattle.btf_open_causes.specs.references.Followed.{among, countOf, kindAt, followedCount, followedId}
 
@@ -13,10 +13,10 @@ use Rattle.btf_open_causes.specs.references.Followed.{among, countOf, ki
 abbrev pub refused : List ℕ
 refused = 12 ∷ 14 ∷ 15 ∷ 17 ∷ []
 
-unfoldable pub isBad : Btf → List ℕ → ℕ → Bool
+unfoldable pub isBad : TypeTable → List ℕ → ℕ → Bool
 isBad b start y = elim (ltb y (countOf b)) [ true ↦ among refused (kindAt b start y) | false ↦ true ]
 
-module _ (b : Btf) (s start : List ℕ) where
+module _ (b : TypeTable) (s start : List ℕ) where
   unfoldable pub isSomeBad : ℕ → Bool
   isSomeBad x = anyBelow (followedCount b s start x) (λ k. isBad b start (followedId b s start x k))
 

@@ -3,15 +3,15 @@ use btf_type_table::kind::member_place;
 use btf_type_table::kind::param_place;
 use btf_type_table::kind::vlen_of;
 use btf_type_table::record::word;
-use spec_type_table::Btf;
 use spec_type_table::Entries;
+use spec_type_table::TypeTable;
 ghost use mathlib.Core.Path.{_≡_};
 ghost use Prim.Native.Nat.{_+_};
 ghost use Rattle.spec_type_table.specs.Records.{sectionWord, vlenOf};
 ghost use Rattle.btf_open_causes.specs.references.Followed.{countOf, entryAt, kindAt, countAt, idPlace, idAt, followedId};
 
 // How many types there are, void counted. No table that passed cause 5 has more than 262145.
-pub fn count(b: Btf) -> u32
+pub fn count(b: TypeTable) -> u32
     ensures { λ r. ⌜ r ≡ countOf b ⌝ }
 {
     let n = b.types;
@@ -19,7 +19,7 @@ pub fn count(b: Btf) -> u32
 }
 
 // The entry of type x in the index: its place * 32 + its kind. Void, and what lies past the table, has 0.
-pub fn entry(b: Btf, start: &[u32], x: u32) -> u32
+pub fn entry(b: TypeTable, start: &[u32], x: u32) -> u32
     ensures { λ r. ⌜ r ≡ entryAt b (now (start .entry)) x ⌝ }
 {
     if x == 0 {
@@ -36,20 +36,20 @@ pub fn entry(b: Btf, start: &[u32], x: u32) -> u32
     0
 }
 
-pub fn kind_at(b: Btf, start: &[u32], x: u32) -> u32
+pub fn kind_at(b: TypeTable, start: &[u32], x: u32) -> u32
     ensures { λ r. ⌜ r ≡ kindAt b (now (start .entry)) x ⌝ }
 {
     entry(b, start, x) % 32
 }
 
-fn vlen_at(b: Btf, section: &[u8], at: u32) -> u32
+fn vlen_at(b: TypeTable, section: &[u8], at: u32) -> u32
     ensures { λ r. ⌜ r ≡ vlenOf (sectionWord b (now (section .entry)) (at + 4)) ⌝ }
 {
     vlen_of(word(b, section, (at as usize) + 4))
 }
 
 // How many ids the record of a kind at a place follows: targets, elements, members, parameters and results.
-pub fn count_at(b: Btf, section: &[u8], kind: u32, at: u32) -> u32
+pub fn count_at(b: TypeTable, section: &[u8], kind: u32, at: u32) -> u32
     ensures { λ r. ⌜ r ≡ countAt b (now (section .entry)) kind at ⌝ }
 {
     match kind {
@@ -79,13 +79,13 @@ fn id_place(kind: u32, at: u32, k: u32) -> usize
 }
 
 // The k-th of them.
-pub fn id_at(b: Btf, section: &[u8], kind: u32, at: u32, k: u32) -> u32
+pub fn id_at(b: TypeTable, section: &[u8], kind: u32, at: u32, k: u32) -> u32
     ensures { λ r. ⌜ r ≡ idAt b (now (section .entry)) kind at k ⌝ }
 {
     word(b, section, id_place(kind, at, k))
 }
 
-pub fn followed(b: Btf, section: &[u8], start: &[u32], x: u32, k: u32) -> u32
+pub fn followed(b: TypeTable, section: &[u8], start: &[u32], x: u32, k: u32) -> u32
     ensures { λ r. ⌜ r ≡ followedId b (now (section .entry)) (now (start .entry)) x k ⌝ }
 {
     let e = entry(b, start, x);

@@ -4,11 +4,11 @@ use crate::references::index::count_at;
 use crate::references::index::entry;
 use crate::references::index::id_at;
 use crate::references::index::kind_at;
-use spec_type_table::Btf;
+use spec_type_table::TypeTable;
 ghost use mathlib.Core.Path.{_≡_};
 ghost use Rattle.btf_open_causes.specs.references.References.{isBad, isSomeBad, hasBadReference};
 
-fn is_bad(b: Btf, start: &[u32], y: u32) -> bool
+fn is_bad(b: TypeTable, start: &[u32], y: u32) -> bool
     ensures { λ r. ⌜ r ≡ isBad b (now (start .entry)) y ⌝ }
 {
     let n = count(b);
@@ -21,7 +21,7 @@ fn is_bad(b: Btf, start: &[u32], y: u32) -> bool
     }
 }
 
-fn is_some_bad(b: Btf, section: &[u8], start: &[u32], x: u32) -> bool
+fn is_some_bad(b: TypeTable, section: &[u8], start: &[u32], x: u32) -> bool
     ensures { λ r. ⌜ r ≡ isSomeBad b (now (section .entry)) (now (start .entry)) x ⌝ }
 {
     let e = entry(b, start, x);
@@ -38,7 +38,7 @@ fn is_some_bad(b: Btf, section: &[u8], start: &[u32], x: u32) -> bool
     false
 }
 
-pub fn has_bad_reference(b: Btf, section: &[u8], start: &[u32]) -> bool
+pub fn has_bad_reference(b: TypeTable, section: &[u8], start: &[u32]) -> bool
     ensures { λ r. ⌜ r ≡ hasBadReference b (now (section .entry)) (now (start .entry)) ⌝ }
 {
     let n = count(b);

@@ -11,7 +11,7 @@ use lib.Dec.{ltb, eqb}
 use borrow.Author.Tests.{ltb-true}
 use Rattle.spec_bytes.specs.words.Words.{getWord}
 use Rattle.spec_bytes.proofs.words.Laws.{le-or-lt, get-put-same, get-put-other, put-length}
-use Rattle.spec_type_table.specs.declared.types.Btf.{Btf}
+use Rattle.spec_type_table.specs.declared.types.TypeTable.{TypeTable}
 use Rattle.spec_type_table.specs.Cells.{getField, putField, placeOf}
 use Rattle.spec_type_table.specs.Records.{sectionWord, vlenOf}
 use Rattle.spec_type_table.proofs.Laws.{place-type, place-enum}
@@ -120,7 +120,7 @@ unfolding enumeratorWord
 word-past types e = omega arith
 
 -- ---- all of them
-module _ (b : Btf) (s start : List ℕ) where
+module _ (b : TypeTable) (s start : List ℕ) where
   some-enum : (entry k : ℕ) → k < valuesAt b s entry → isEnum (entry % 32) ≡ true
   unfolding valuesAt
   some-enum entry k l = go (isEnum (entry % 32)) refl l

@@ -9,7 +9,7 @@ use native.Mathlib.Numerals.{add-one}
 use lib.ListN.{length, getD, List·getD-eq-default}
 use borrow.Author.Tests.{lt-ltb, le-ltb, ne-eqb}
 use Rattle.spec_bytes.specs.words.Words.{putWord}
-use Rattle.spec_type_table.specs.declared.types.Btf.{Btf}
+use Rattle.spec_type_table.specs.declared.types.TypeTable.{TypeTable}
 use Rattle.spec_type_table.specs.Cells.{getField, putField}
 use Rattle.spec_type_table.specs.Records.{sectionWord, vlenOf, memberAt, paramAt}
 use Rattle.btf_open_names.specs.name_classes.Classes.{tableClassed}
@@ -71,7 +71,7 @@ pub enum-no : (k : ℕ) → ((k ≡ 6) ⊎ (k ≡ 19) → ⊥) → isEnum k ≡ 
 unfolding isEnum
 enum-no k m = rw (ne-eqb k 6 (λ e. m (inl e)), isEnum) (ne-eqb k 19 (λ e. m (inr e)))
 
-module _ (b : Btf) (s : List ℕ) (entry : ℕ) where
+module _ (b : TypeTable) (s : List ℕ) (entry : ℕ) where
   pub values-some : (entry % 32 ≡ 6) ⊎ (entry % 32 ≡ 19) → (i : ℕ) → i ≡ sectionWord b s (entry / 32 + 4) → (n : ℕ) → n ≡ vlenOf i → n ≡ valuesAt b s entry
   unfolding valuesAt
   values-some o i f n g = rw (enum-yes (entry % 32) o, valuesAt) (g ∙ ap vlenOf f)
@@ -101,7 +101,7 @@ module _ (types entry n x first : ℕ) (w : List ℕ) where
   unfolding enumWith
   enum-left o = rw (enum-no (entry % 32) o, enumWith)
 
-module _ (b : Btf) (s start w₀ : List ℕ) where
+module _ (b : TypeTable) (s start w₀ : List ℕ) where
   pub enums-none : w₀ ≡ enumsPut b s start w₀ 0
   unfolding enumsPut
   enums-none = refl
@@ -133,7 +133,7 @@ module _ (b : Btf) (s start w₀ : List ℕ) where
   enums-all w m n e f = e ∙ ap (enumsPut b s start w₀) f
 
 -- ---- tags
-module _ (b : Btf) (s : List ℕ) (entry x : ℕ) (w : List ℕ) where
+module _ (b : TypeTable) (s : List ℕ) (entry x : ℕ) (w : List ℕ) where
   pub tag-other : (entry % 32 ≡ 17 → ⊥) → w ≡ tagPut b s entry x w
   unfolding tagPut
   tag-other n = rw (ne-eqb (entry % 32) 17 n, tagPut)
@@ -151,7 +151,7 @@ module _ (b : Btf) (s : List ℕ) (entry x : ℕ) (w : List ℕ) where
         ∙ (λ i. putField ((k ∙ ap (putField w x 10) g) i) on 9 x)
         ∙ ap (λ (q : ℕ). putField (putField w x 10 (getField w q 9)) q 9 x) f)
 
-module _ (b : Btf) (s start w₀ : List ℕ) where
+module _ (b : TypeTable) (s start w₀ : List ℕ) where
   pub tags-more : (n : ℕ) (w : List ℕ) (x : ℕ) → tagsPut b s start n w₀ ≡ tagsPut b s start (x - 1) w → 1 < x → (v : ℕ) → v ≡ getD start (x - 1) 0 → (w′ : List ℕ)
       → w′ ≡ tagPut b s v (x - 1) w → tagsPut b s start n w₀ ≡ tagsPut b s start (x - 1 - 1) w′
   unfolding tagsPut
@@ -166,7 +166,7 @@ module _ (b : Btf) (s start w₀ : List ℕ) where
   tags-all n w m e f = sym (e ∙ ap (λ (q : ℕ). tagsPut b s start q w) f)
 
 -- ---- fill
-pub filled-is : (b : Btf) (s start : List ℕ) (e : ℕ) (w w1 w2 w3 w4 : List ℕ) → w1 ≡ placesPut start w (b .types - 1) → w2 ≡ enumsPut b s start w1 (b .types - 1)
+pub filled-is : (b : TypeTable) (s start : List ℕ) (e : ℕ) (w w1 w2 w3 w4 : List ℕ) → w1 ≡ placesPut start w (b .types - 1) → w2 ≡ enumsPut b s start w1 (b .types - 1)
     → w3 ≡ tagsPut b s start (b .types - 1) w2 → w4 ≡ tableClassed b e s w3 → w4 ≡ filled b s start e w
 unfolding filled
 filled-is b s start e w w1 w2 w3 w4 f g h k =

@@ -9,7 +9,7 @@ use lib.ListN.{length}
 use lib.Dec.{ltb, leb, eqb}
 use Rattle.spec_bytes.specs.words.Words.{getWord, putWord}
 use Rattle.spec_bytes.proofs.words.Laws.{le-or-lt, put-length, get-put-other}
-use Rattle.spec_type_table.specs.declared.types.Btf.{Btf}
+use Rattle.spec_type_table.specs.declared.types.TypeTable.{TypeTable}
 use Rattle.spec_type_table.specs.Cells.{placeOf, classP}
 use Rattle.spec_type_table.specs.Numbers.{headP, nextP, takenP}
 use Rattle.spec_type_table.proofs.Laws.{place-type, place-enum}
@@ -34,7 +34,7 @@ base-below key h (suc f) c = go (leb 2 (suffixOn (key c) (key h))) (base-below k
     go false (inr l) = inr (omega arith)
 
 -- what a step keeps, seen through P: the length, or a word that is none of a list
-module _ {A : Type 0} (P : List ℕ → A) (b : Btf) (s : List ℕ) (n : ℕ)
+module _ {A : Type 0} (P : List ℕ → A) (b : TypeTable) (s : List ℕ) (n : ℕ)
     (puts : (c h m : ℕ) (w : List ℕ) → c < n → h < n → P (listedOn (b .types) c h m w) ≡ P w) where
   on-keeps : (h c : ℕ) (w : List ℕ) → h < n → (c ≡ 0) ⊎ (c < n) → P (onBase b s n h w c) ≡ P w
   unfolding onBase
@@ -59,7 +59,7 @@ module _ {A : Type 0} (P : List ℕ → A) (b : Btf) (s : List ℕ) (n : ℕ)
   all-keep zero w l = refl
   all-keep (suc k) w l = all-keep k (takerPut b s n (suc k) w) (omega arith) ∙ one-keeps (suc k) w l
 
-module _ {A : Type 0} (P : List ℕ → A) (modes : ℕ) (b : Btf) (e : ℕ) (s : List ℕ) (some : 1 ≤ b .types)
+module _ {A : Type 0} (P : List ℕ → A) (modes : ℕ) (b : TypeTable) (e : ℕ) (s : List ℕ) (some : 1 ≤ b .types)
     (puts : (c h m : ℕ) (w : List ℕ) → c < b .types + e → h < b .types + e → P (listedOn (b .types) c h m w) ≡ P w) where
   in-keeps : (w : List ℕ) → P (takersIn modes b e s w) ≡ P w
   unfolding takersIn withTakers
@@ -84,7 +84,7 @@ put-word types n i z c h m w lc lh =
     ∙ get-put-other (putWord w (nextP types h) (getWord w (headP types c))) (takenP types h) i m (z .no-taken h lh)
     ∙ get-put-other w (nextP types h) i (getWord w (headP types c)) (z .no-next h lh)
 
-module _ (modes : ℕ) (b : Btf) (e : ℕ) (s w : List ℕ) (some : 1 ≤ b .types) where
+module _ (modes : ℕ) (b : TypeTable) (e : ℕ) (s w : List ℕ) (some : 1 ≤ b .types) where
   pub takers-long : length (takersIn modes b e s w) ≡ length w
   takers-long = in-keeps length modes b e s some (λ c h m u lc lh. put-long (b .types) c h m u) w
 

@@ -8,7 +8,7 @@ use native.Mathlib.Numerals.{add-one}
 use lib.Dec.{leb, eqb}
 use borrow.Author.Tests.{le-leb, lt-leb, eq-eqb, ne-eqb, lt-ltb, le-ltb}
 use Rattle.spec_bytes.specs.words.Words.{getWord, putWord}
-use Rattle.spec_type_table.specs.declared.types.Btf.{Btf}
+use Rattle.spec_type_table.specs.declared.types.TypeTable.{TypeTable}
 use Rattle.spec_type_table.specs.Cells.{classP}
 use Rattle.spec_type_table.specs.Names.{nameAt}
 use Rattle.spec_type_table.specs.Numbers.{headP, nextP, takenP}
@@ -99,7 +99,7 @@ put-on types c h m at next taken old w w₁ w₂ w₃ ea eo en e₁ et e₂ e₃
     ea
 
 -- ---- put_taker
-module _ (b : Btf) (s : List ℕ) (n h : ℕ) (w : List ℕ) where
+module _ (b : TypeTable) (s : List ℕ) (n h : ℕ) (w : List ℕ) where
   put-by : (p q : Bool) (c : ℕ) → eqb (getWord w (classP (b .types) h)) h ≡ p → anySuffix (nameIn (keyIn b s w h)) ≡ q → baseFrom (keyIn b s w) h (n - 1) 1 ≡ c
       → takerPut b s n h w ≡ elim p as (λ z. List ℕ) [ true ↦ elim q as (λ z. List ℕ) [ true ↦ onBase b s n h w c | false ↦ w ] | false ↦ w ]
   unfolding takerPut
@@ -136,7 +136,7 @@ module _ (b : Btf) (s : List ℕ) (n h : ℕ) (w : List ℕ) where
             go (suc c) q d e = e ∙ sym (put-by true true (suc c) e-class (e-suffix ∙ z) (sym q))
 
 -- ---- takers, turn by turn
-module _ (b : Btf) (s : List ℕ) (n : ℕ) where
+module _ (b : TypeTable) (s : List ℕ) (n : ℕ) where
   pub pass-end : (all w : List ℕ) (h : ℕ) → all ≡ takersPut b s n (h - 1) w → h ≤ 1 → w ≡ all
   unfolding takersPut
   pass-end all w h e l = let z : h - 1 ≡ 0 = omega arith in sym (e ∙ ap (λ (k : ℕ). takersPut b s n k w) z)
@@ -147,7 +147,7 @@ module _ (b : Btf) (s : List ℕ) (n : ℕ) where
       let z : h - 1 ≡ suc (h - 1 - 1) = omega arith in
       e ∙ ap (λ (k : ℕ). takersPut b s n k w) z ∙ ap (takersPut b s n (h - 1 - 1)) (ap (λ (k : ℕ). takerPut b s n k w) (sym z) ∙ sym q)
 
-module _ (b : Btf) (e : ℕ) (s w : List ℕ) where
+module _ (b : TypeTable) (e : ℕ) (s w : List ℕ) where
   pub takers-past : 4294967295 - b .types < e → w ≡ withTakers b e s w
   unfolding withTakers
   takers-past h = sym (ap (λ (t : Bool). elim t as (λ z. List ℕ) [ true ↦ w | false ↦ takersPut b s (b .types + e) (b .types + e - 1) w ]) (lt-ltb (4294967295 - b .types) e h))
@@ -156,7 +156,7 @@ module _ (b : Btf) (e : ℕ) (s w : List ℕ) where
   unfolding withTakers
   takers-all h u q = q ∙ sym (ap (λ (t : Bool). elim t as (λ z. List ℕ) [ true ↦ w | false ↦ takersPut b s (b .types + e) (b .types + e - 1) w ]) (le-ltb (4294967295 - b .types) e h))
 
-module _ (modes : ℕ) (b : Btf) (e : ℕ) (s w : List ℕ) where
+module _ (modes : ℕ) (b : TypeTable) (e : ℕ) (s w : List ℕ) where
   in-mode : (t : Bool) → eqb (modes / 8 % 2) 1 ≡ t → takersIn modes b e s w ≡ elim t as (λ z. List ℕ) [ true ↦ withTakers b e s w | false ↦ w ]
   unfolding takersIn
   in-mode t q = ap (λ (x : Bool). elim x as (λ z. List ℕ) [ true ↦ withTakers b e s w | false ↦ w ]) q

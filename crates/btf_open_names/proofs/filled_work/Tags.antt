@@ -9,7 +9,7 @@ use lib.ListN.{length, getD}
 use lib.Dec.{ltb, eqb}
 use borrow.Author.Tests.{lt-ltb, le-ltb, ne-eqb, ltb-true, ltb-false, eq-eqb}
 use Rattle.spec_bytes.proofs.words.Laws.{get-put-same, get-put-other, put-length}
-use Rattle.spec_type_table.specs.declared.types.Btf.{Btf}
+use Rattle.spec_type_table.specs.declared.types.TypeTable.{TypeTable}
 use Rattle.spec_type_table.specs.Cells.{getField, putField}
 use Rattle.spec_type_table.specs.Records.{sectionWord}
 use Rattle.spec_type_table.specs.Table.{tagsFrom}
@@ -30,7 +30,7 @@ lower : (types : ℕ) (a c : ℕ) (l : List ℕ) → a ≤ c → Rising types c 
 lower types a c [] h r = tt
 lower types a c (y ∷ l) h r = (omega (arith, r .0), r .1, r .2)
 
-module _ (b : Btf) (s start : List ℕ) (id : ℕ) where
+module _ (b : TypeTable) (s start : List ℕ) (id : ℕ) where
   on-yes : (x n : ℕ) → isTagOn b s id (getD start x 0) ≡ true → tagsOn b s start id x (suc n) ≡ x ∷ tagsOn b s start id (suc x) n
   unfolding tagsOn
   on-yes x n e = rw (e, tagsOn)
@@ -79,7 +79,7 @@ chain-read types w (y ∷ l) (suc n) last h a r c =
     (λ i. c .0 i ∷ (ap (λ (q : ℕ). tagsFrom n types w q (getField w q 10)) (c .0) ∙ chain-read types w l n y (getField w y 10) (omega arith) (r .2) (c .1)) i)
 
 -- ---- one tag
-module _ (b : Btf) (s : List ℕ) (entry : ℕ) where
+module _ (b : TypeTable) (s : List ℕ) (entry : ℕ) where
   tag-on : eqb (entry % 32) 17 ≡ true → isTagOn b s (sectionWord b s (entry / 32 + 8)) entry ≡ true
   unfolding isTagOn
   tag-on e = rw (e, isTagOn) (eq-eqb (sectionWord b s (entry / 32 + 8)) (sectionWord b s (entry / 32 + 8)) refl)
@@ -98,7 +98,7 @@ module _ (b : Btf) (s : List ℕ) (entry : ℕ) where
     unfolding tagPut
     tag-plain e = rw (e, tagPut)
 
-module _ (b : Btf) (s start : List ℕ) where
+module _ (b : TypeTable) (s start : List ℕ) where
   -- the tags from x on, n of them looked at, stand in their lists
   abbrev pub Chains : List ℕ → ℕ → ℕ → Type 0
   Chains w x n = (id : ℕ) → id < b .types → Chain w (getField w id 9) (tagsOn b s start id x n)

@@ -10,7 +10,7 @@ use lib.ListN.{length, getD}
 use lib.Dec.{ltb, eqb}
 use Rattle.spec_bytes.specs.words.Words.{getWord}
 use Rattle.spec_bytes.proofs.words.Laws.{le-or-lt, get-put-same, get-put-other, put-length}
-use Rattle.spec_type_table.specs.declared.types.Btf.{Btf}
+use Rattle.spec_type_table.specs.declared.types.TypeTable.{TypeTable}
 use Rattle.spec_type_table.specs.Cells.{getField, putField, placeOf}
 use Rattle.spec_type_table.specs.Records.{sectionWord}
 use Rattle.spec_type_table.proofs.Laws.{place-type, place-enum}
@@ -32,7 +32,7 @@ module _ (types id f : ℕ) (l : id < types) (f16 : f < 16) where
       same : id * 16 + f ≡ h * 16 + g → f ≡ g
       same q = omega arith
 
-  pub classes-keep : f ≢ 5 → f ≢ 7 → f ≢ 8 → (b : Btf) → b .types ≡ types → (e : ℕ) (s w : List ℕ) → getField (tableClassed b e s w) id f ≡ getField w id f
+  pub classes-keep : f ≢ 5 → f ≢ 7 → f ≢ 8 → (b : TypeTable) → b .types ≡ types → (e : ℕ) (s w : List ℕ) → getField (tableClassed b e s w) id f ≡ getField w id f
   classes-keep a c d b q e s w = the-words b e s w .else (id * 16 + f) (λ h m. (apart 5 1 h a five, apart 7 3 h c seven, apart 8 4 h d eight))
     where
       five : 5 < 16
@@ -47,7 +47,7 @@ module _ (types id f : ℕ) (l : id < types) (f16 : f < 16) where
       apart : (g k h : ℕ) → f ≢ g → g < 16 → id * 16 + f ≢ placeOf (b .types) g k h
       apart g k h n g16 r = place-other g k h g16 n (r ∙ ap (λ (t : ℕ). placeOf t g k h) q)
 
-module _ (b : Btf) (s : List ℕ) where
+module _ (b : TypeTable) (s : List ℕ) where
   tag-keeps : (entry x : ℕ) (w : List ℕ) (id f : ℕ) → f < 16 → f ≢ 9 → f ≢ 10 → getField (tagPut b s entry x w) id f ≡ getField w id f
   unfolding tagPut
   tag-keeps entry x w id f a n m = go (eqb (entry % 32) 17) (ltb (sectionWord b s (entry / 32 + 8)) (b .types))
@@ -90,7 +90,7 @@ enum-keeps types entry n x first w id f l a c = go (isEnum (entry % 32))
         ∙ field-other w x 12 (first % 4294967296) id f (omega arith) a (λ e. c (sym e))
     go false = refl
 
-module _ (b : Btf) (s start : List ℕ) where
+module _ (b : TypeTable) (s start : List ℕ) where
   pub enums-keep : (w : List ℕ) (n id f : ℕ) → id < b .types → f < 16 → f ≢ 12 → getField (enumsPut b s start w n) id f ≡ getField w id f
   unfolding enumsPut
   enums-keep w zero id f l a c = refl
@@ -132,7 +132,7 @@ places-at start w (suc n) x a c l =
     room : length (placesPut start w n) ≡ length w → suc n * 16 + 0 < length (placesPut start w n) / 4
     room e = rw e (omega arith)
 
-module _ (b : Btf) (s start : List ℕ) (e : ℕ) (w : List ℕ) (room : b .types * 16 ≤ length w / 4) where
+module _ (b : TypeTable) (s start : List ℕ) (e : ℕ) (w : List ℕ) (room : b .types * 16 ≤ length w / 4) where
   pub filled-place : (id : ℕ) → 1 ≤ id → id < b .types → getField (filled b s start e w) id 0 ≡ getD start id 0 / 32
   unfolding filled
   filled-place id a l =

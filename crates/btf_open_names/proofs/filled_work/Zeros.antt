@@ -10,7 +10,7 @@ use lib.Dec.{ltb, eqb}
 use borrow.Author.Tests.{ltb-true}
 use Rattle.spec_bytes.specs.words.Words.{getWord}
 use Rattle.spec_bytes.proofs.words.Laws.{le-or-lt, get-in, get-out, get-put-other}
-use Rattle.spec_type_table.specs.declared.types.Btf.{Btf}
+use Rattle.spec_type_table.specs.declared.types.TypeTable.{TypeTable}
 use Rattle.spec_type_table.specs.Cells.{getField, putField, countP}
 use Rattle.spec_type_table.specs.Records.{sectionWord}
 use Rattle.spec_type_table.proofs.Laws.{place-type, place-enum}
@@ -34,7 +34,7 @@ pub record Other (types i : ℕ) : Type 0 where
   pub next : (x : ℕ) → x < types → i ≢ x * 16 + 10
   pub value : (e : ℕ) → i ≢ enumeratorWord types e
 
-module _ (b : Btf) (s start : List ℕ) (i : ℕ) (o : Other (b .types) i) where
+module _ (b : TypeTable) (s start : List ℕ) (i : ℕ) (o : Other (b .types) i) where
   places-else : (w : List ℕ) (n : ℕ) → n < b .types → getWord (placesPut start w n) i ≡ getWord w i
   unfolding placesPut
   places-else w zero l = refl

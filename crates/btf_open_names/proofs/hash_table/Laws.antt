@@ -11,7 +11,7 @@ use lib.Dec.{ltb, eqb}
 use borrow.Author.Tests.{eq-eqb, ne-eqb, eqb-true, eqb-false, lt-ltb, le-ltb}
 use Rattle.spec_bytes.specs.words.Words.{getWord, putWord}
 use Rattle.spec_bytes.proofs.words.Laws.{le-or-lt}
-use Rattle.spec_type_table.specs.declared.types.Btf.{Btf}
+use Rattle.spec_type_table.specs.declared.types.TypeTable.{TypeTable}
 use Rattle.spec_type_table.specs.Names.{nameAt}
 use Rattle.btf_open_names.specs.name_classes.Classes.{fill, noughts, keyOf, keyIn}
 use Rattle.btf_open_names.specs.name_classes.Table.{hashFrom, hashKey, bucketOf}
@@ -123,7 +123,7 @@ module _ (key : ℕ → List ℕ) (t n : ℕ) (w₀ : List ℕ) where
         (λ j d. sym (first-at key n j k false l (falls-else key n j k (λ q. d (sym q)))))
 
 -- ---- put_first
-module _ (b : Btf) (s : List ℕ) (n c : ℕ) (w : List ℕ) where
+module _ (b : TypeTable) (s : List ℕ) (n c : ℕ) (w : List ℕ) where
   put-by : (t : Bool) → eqb (spaceIn (keyIn b s w c)) 2 ≡ t → putFirst b s n c w ≡ elim t as (λ z. List ℕ) [ true ↦ w | false ↦ putWord (putWord w (laterP (b .types) c) (getWord w (firstP (b .types) (bucketOf (keyIn b s w) n c)))) (firstP (b .types) (bucketOf (keyIn b s w) n c)) c ]
   unfolding putFirst
   put-by t e = ap (λ (x : Bool). elim x as (λ z. List ℕ) [ true ↦ w | false ↦ putWord (putWord w (laterP (b .types) c) (getWord w (firstP (b .types) (bucketOf (keyIn b s w) n c)))) (firstP (b .types) (bucketOf (keyIn b s w) n c)) c ]) e
@@ -241,7 +241,7 @@ over-none : (t n : ℕ) (f g : ℕ → ℕ) (w : List ℕ) → n ≡ 0 → over 
 unfolding over fill
 over-none t n f g w e = ap (λ (x : ℕ). over t x f g w) e
 
-module _ (b : Btf) (s : List ℕ) (e : ℕ) (w₀ : List ℕ) where
+module _ (b : TypeTable) (s : List ℕ) (e : ℕ) (w₀ : List ℕ) where
   in-by : (t : Bool) → hasRoom (b .types) e w₀ ≡ t → tableIn b e s w₀ ≡ elim t as (λ z. List ℕ) [ true ↦ tableFrom b s (b .types + e) 1 w₀ | false ↦ w₀ ]
   unfolding tableIn
   in-by t q = ap (λ (x : Bool). elim x as (λ z. List ℕ) [ true ↦ tableFrom b s (b .types + e) 1 w₀ | false ↦ w₀ ]) q

@@ -7,7 +7,7 @@ use native.Mathlib.Omega.{arith}
 use lib.ListN.{length, getD, set}
 use Rattle.spec_bytes.specs.words.Words.{getWord, putWord}
 use Rattle.spec_bytes.proofs.words.Laws.{le-or-lt, get-in, put-in, put-out}
-use Rattle.spec_type_table.specs.declared.types.Btf.{Btf}
+use Rattle.spec_type_table.specs.declared.types.TypeTable.{TypeTable}
 use Rattle.btf_open_names.specs.name_classes.Classes.{fill, noughts, recordP, spaceAt, nameOf, keyOf, keyIn}
 use Rattle.btf_open_names.proofs.name_classes.Fill.{fill-length, get-else, put-else, fill-over, fill-swap}
 use Rattle.btf_open_names.proofs.name_classes.Keys.{place-one, place-in, place-apart}
@@ -95,7 +95,7 @@ module _ (t : ℕ) where
     over-zero w zf zl = ap (λ (u : List ℕ). fill (firstP t) noughts u n) (fill-zero (laterP t) w n zl) ∙ fill-zero (firstP t) w n zf
 
 -- ---- keys
-module _ (b : Btf) (s : List ℕ) where
+module _ (b : TypeTable) (s : List ℕ) where
   pub keys-stay : (w v : List ℕ) → ((h : ℕ) → getWord w (recordP (b .types) h) ≡ getWord v (recordP (b .types) h)) → keyIn b s w ≡ keyIn b s v
   unfolding keyIn
   keys-stay w v e = fun-ext (λ h. ap (λ (at : ℕ). keyOf s (spaceAt b s at h) (nameOf b s at)) (e h))

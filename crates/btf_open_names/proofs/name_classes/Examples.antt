@@ -7,7 +7,7 @@ use mathlib.Core.List.{List, [], _∷_, map}
 use mathlib.Core.Bool.{false}
 use lib.ListN.{getD, replicate}
 use Rattle.spec_bytes.specs.words.Words.{getWord, putWord, wordAt, wordIn, table, oneMore}
-use Rattle.spec_type_table.specs.declared.types.Btf.{Btf}
+use Rattle.spec_type_table.specs.declared.types.TypeTable.{TypeTable}
 use Rattle.spec_type_table.specs.Cells.{placeOf, withMore, countOf, counted, classP, countP}
 use Rattle.spec_type_table.specs.Records.{sectionWord}
 use Rattle.spec_type_table.specs.Names.{upToZero, nameAt}
@@ -32,7 +32,7 @@ section =
     ∷ 1 ∷ 201326592 ∷ 1 ∷ [])
     (0 ∷ 97 ∷ 98 ∷ 0 ∷ 97 ∷ 98 ∷ 99 ∷ 0 ∷ 97 ∷ 98 ∷ 0 ∷ [])
 
-pub context : Btf
+pub context : TypeTable
 context = record { «ptr_sz» = 8; «union_as_struct» = false; «big_endian» = false; «strong_arrays» = false; placing = false; types = 7; strs = 112 }
 
 -- the work with the places of the records and entries, and every other byte x

@@ -9,7 +9,7 @@ use lib.ListN.{length, getD}
 use borrow.Author.Tests.{lt-ltb, le-ltb, ne-eqb}
 use Rattle.spec_bytes.specs.words.Words.{getWord}
 use Rattle.spec_bytes.proofs.words.Laws.{le-or-lt}
-use Rattle.spec_type_table.specs.declared.types.Btf.{Btf}
+use Rattle.spec_type_table.specs.declared.types.TypeTable.{TypeTable}
 use Rattle.spec_type_table.specs.Cells.{placeOf, classP, countP}
 use Rattle.spec_type_table.specs.Records.{sectionWord, kindOf}
 use Rattle.spec_type_table.proofs.Laws.{place-type, place-enum}
@@ -131,7 +131,7 @@ module _ (s : List ℕ) where
     pub keys-same : (r : Bool) → x ≡ y → (x ≡ 2 → ⊥) → r ≡ sameList (nameAt s p) (nameAt s q) → r ≡ sameList (keyOf s x p) (keyOf s y q)
     keys-same r e n t = t ∙ sym (ap₂ sameList (key-some x p n) (key-some y q (λ z. n (e ∙ z))) ∙ same-heads x y (nameAt s p) (nameAt s q) e)
 
-module _ (b : Btf) (s : List ℕ) where
+module _ (b : TypeTable) (s : List ℕ) where
   abbrev class : ℕ → ℕ
   class = classP (b .types)
 

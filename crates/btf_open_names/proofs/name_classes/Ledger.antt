@@ -7,7 +7,7 @@ use native.Mathlib.Omega.{arith}
 use lib.ListN.{length}
 use Rattle.spec_bytes.specs.words.Words.{getWord}
 use Rattle.spec_bytes.proofs.words.Laws.{le-or-lt}
-use Rattle.spec_type_table.specs.declared.types.Btf.{Btf}
+use Rattle.spec_type_table.specs.declared.types.TypeTable.{TypeTable}
 use Rattle.spec_type_table.specs.Cells.{placeOf, classP, countP}
 use Rattle.btf_open_names.specs.name_classes.Classes.{timesOf, bucketP, linkP, keyIn, withClasses, tableClassed}
 use Rattle.btf_open_names.specs.name_classes.Claims.{First, Room, Words, Ledger}
@@ -23,7 +23,7 @@ first =
       one = class-same;
     }
 
-module _ (b : Btf) (e : ℕ) (s w : List ℕ) where
+module _ (b : TypeTable) (e : ℕ) (s w : List ℕ) where
   abbrev n : ℕ
   n = b .types + e
 

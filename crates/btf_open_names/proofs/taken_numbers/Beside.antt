@@ -8,7 +8,7 @@ use native.Mathlib.Omega.{arith}
 use lib.Dec.{eqb}
 use Rattle.spec_bytes.specs.words.Words.{getWord, putWord}
 use Rattle.spec_bytes.proofs.words.Laws.{get-put-other}
-use Rattle.spec_type_table.specs.declared.types.Btf.{Btf}
+use Rattle.spec_type_table.specs.declared.types.TypeTable.{TypeTable}
 use Rattle.spec_type_table.specs.Cells.{classP}
 use Rattle.spec_type_table.specs.Numbers.{headP, nextP, takenP}
 use Rattle.btf_open_names.specs.name_classes.Classes.{noughts, recordP, keyIn}
@@ -19,7 +19,7 @@ use Rattle.btf_open_names.proofs.hash_table.Places.{get-over, put-over,
 use Rattle.btf_open_names.proofs.hash_table.Laws.{table-none, table-is, table-clear}
 
 -- ---- what a step keeps, seen through P
-module _ {A : Type 0} (P : List ℕ → A) (b : Btf) (s : List ℕ) (n : ℕ) (puts : (c h m : ℕ) (w : List ℕ) → P (listedOn (b .types) c h m w) ≡ P w) where
+module _ {A : Type 0} (P : List ℕ → A) (b : TypeTable) (s : List ℕ) (n : ℕ) (puts : (c h m : ℕ) (w : List ℕ) → P (listedOn (b .types) c h m w) ≡ P w) where
   on-keeps : (h c : ℕ) (w : List ℕ) → P (onBase b s n h w c) ≡ P w
   unfolding onBase
   on-keeps h zero w = refl
@@ -43,7 +43,7 @@ module _ (t i : ℕ) (oh : (h : ℕ) → i ≢ headP t h) (on : (h : ℕ) → i 
       ∙ get-put-other (putWord w (nextP t h) (getWord w (headP t c))) (takenP t h) i m (ot h)
       ∙ get-put-other w (nextP t h) i (getWord w (headP t c)) (on h)
 
-module _ (b : Btf) (s : List ℕ) (n h : ℕ) (w : List ℕ) where
+module _ (b : TypeTable) (s : List ℕ) (n h : ℕ) (w : List ℕ) where
   first-kept : (j : ℕ) → getWord (takerPut b s n h w) (firstP (b .types) j) ≡ getWord w (firstP (b .types) j)
   first-kept j =
       let t : ℕ = b .types in
@@ -72,7 +72,7 @@ module _ (b : Btf) (s : List ℕ) (n h : ℕ) (w : List ℕ) where
       }
 
 -- ---- the lists with words of a table over them
-module _ (b : Btf) (s : List ℕ) (n : ℕ) (m : ℕ) (first later : ℕ → ℕ) where
+module _ (b : TypeTable) (s : List ℕ) (n : ℕ) (m : ℕ) (first later : ℕ → ℕ) where
   abbrev t : ℕ
   t = b .types
 
@@ -124,7 +124,7 @@ module _ (b : Btf) (s : List ℕ) (n : ℕ) (m : ℕ) (first later : ℕ → ℕ
   all-over (suc k) w = ap (takersPut b s n k) (one-over (suc k) w) ∙ all-over k (takerPut b s n (suc k) w)
 
 -- ---- put_takers
-module _ (b : Btf) (s : List ℕ) (e : ℕ) (w₀ : List ℕ) (r : Bool) (q : r ≡ hasRoom (b .types) e w₀) (u₀ : List ℕ) (g : u₀ ≡ tableIn b e s w₀)
+module _ (b : TypeTable) (s : List ℕ) (e : ℕ) (w₀ : List ℕ) (r : Bool) (q : r ≡ hasRoom (b .types) e w₀) (u₀ : List ℕ) (g : u₀ ≡ tableIn b e s w₀)
     (w : List ℕ) (n : ℕ) (f : w ≡ takersPut b s n (n - 1) u₀) where
   pub without-table : r ≡ false → w ≡ takersPut b s n (n - 1) w₀
   without-table z = f ∙ ap (takersPut b s n (n - 1)) (g ∙ sym (table-none b s e w₀ r q z))

@@ -11,7 +11,7 @@ use lib.Dec.{eqb}
 use borrow.Author.Tests.{ne-eqb, lt-leb}
 use Rattle.spec_bytes.specs.words.Words.{getWord, pick}
 use Rattle.spec_bytes.proofs.words.Laws.{le-or-lt}
-use Rattle.spec_type_table.specs.declared.types.Btf.{Btf}
+use Rattle.spec_type_table.specs.declared.types.TypeTable.{TypeTable}
 use Rattle.spec_type_table.specs.Names.{nameAt}
 use Rattle.btf_open_names.specs.name_classes.Classes.{recordP, spaceAt, nameOf, keyOf, keyIn}
 use Rattle.btf_open_names.specs.name_classes.Table.{hashFrom, hashKey, bucketOf}
@@ -91,7 +91,7 @@ module _ (key : ℕ → List ℕ) (h n j : ℕ) where
             on (inv ∙ skip f k (⊎-elim (λ g. absurd (no (sym (fall k g) ∙ t))) (λ g. g) (le-or-lt 2 (suffixOn (key k) (key h))))) q
 
 -- ---- base_in, turn by turn
-module _ (b : Btf) (s w : List ℕ) (n h : ℕ) (T : Table b s w n) (y d : ℕ) (eh : keyOf s y d ≡ keyIn b s w h) (r : ℕ) (er : r ≡ hashBefore y (nameAt s d)) where
+module _ (b : TypeTable) (s w : List ℕ) (n h : ℕ) (T : Table b s w n) (y d : ℕ) (eh : keyOf s y d ≡ keyIn b s w h) (r : ℕ) (er : r ≡ hashBefore y (nameAt s d)) where
   abbrev key : ℕ → List ℕ
   key = keyIn b s w
 

@@ -5,7 +5,7 @@ use mathlib.Core.List.{List, [], _∷_}
 use lib.ListN.{getD}
 use lib.Dec.{ltb, eqb}
 use Rattle.spec_bytes.specs.words.Words.{putWord, pick}
-use Rattle.spec_type_table.specs.declared.types.Btf.{Btf}
+use Rattle.spec_type_table.specs.declared.types.TypeTable.{TypeTable}
 use Rattle.spec_type_table.specs.Cells.{getField, putField}
 use Rattle.spec_type_table.specs.Records.{sectionWord, vlenOf, memberAt, paramAt}
 use Rattle.btf_open_names.specs.name_classes.Classes.{tableClassed}
@@ -40,7 +40,7 @@ enumWith types entry n x first w =
       | false ↦ w
     ]
 
-module _ (b : Btf) (s : List ℕ) where
+module _ (b : TypeTable) (s : List ℕ) where
   -- how many values the type with an entry of the index has
   unfoldable pub valuesAt : ℕ → ℕ
   valuesAt entry = elim (isEnum (entry % 32)) [ true ↦ vlenOf (sectionWord b s (entry / 32 + 4)) | false ↦ 0 ]
@@ -80,11 +80,11 @@ module _ (b : Btf) (s : List ℕ) where
 
 -- ---- read back: the lists that the work spells
 -- the type with an entry of the index is a DECL_TAG on type id
-unfoldable pub isTagOn : Btf → List ℕ → ℕ → ℕ → Bool
+unfoldable pub isTagOn : TypeTable → List ℕ → ℕ → ℕ → Bool
 isTagOn b s id entry = elim (eqb (entry % 32) 17) [ true ↦ eqb (sectionWord b s (entry / 32 + 8)) id | false ↦ false ]
 
 -- the tags on type id among the n types from x on, in rising order
-unfoldable pub tagsOn : Btf → List ℕ → List ℕ → ℕ → ℕ → ℕ → List ℕ
+unfoldable pub tagsOn : TypeTable → List ℕ → List ℕ → ℕ → ℕ → ℕ → List ℕ
 tagsOn b s start id x zero = []
 tagsOn b s start id x (suc n) =
     elim (isTagOn b s id (getD start x 0)) [ true ↦ x ∷ tagsOn b s start id (suc x) n | false ↦ tagsOn b s start id (suc x) n ]

@@ -5,7 +5,7 @@ use mathlib.Core.Bool.{Bool, true, false, _&&_}
 use mathlib.Core.List.{List, [], _∷_}
 use lib.Dec.{ltb, leb, eqb}
 use Rattle.spec_bytes.specs.words.Words.{getWord, putWord, pick}
-use Rattle.spec_type_table.specs.declared.types.Btf.{Btf}
+use Rattle.spec_type_table.specs.declared.types.TypeTable.{TypeTable}
 use Rattle.spec_type_table.specs.Cells.{classP}
 use Rattle.spec_type_table.specs.Numbers.{headP, nextP, takenP}
 use Rattle.btf_open_names.specs.name_classes.Classes.{keyIn}
@@ -59,7 +59,7 @@ baseFrom key h (suc f) c = elim (leb 2 (suffixOn (key c) (key h))) [ true ↦ c 
 unfoldable pub listedOn : ℕ → ℕ → ℕ → ℕ → List ℕ → List ℕ
 listedOn types c h m w = putWord (putWord (putWord w (nextP types h) (getWord w (headP types c))) (takenP types h) m) (headP types c) h
 
-module _ (b : Btf) (s : List ℕ) (n : ℕ) where
+module _ (b : TypeTable) (s : List ℕ) (n : ℕ) where
   -- on the list of c, or of none where c is 0
   unfoldable pub onBase : ℕ → List ℕ → ℕ → List ℕ
   onBase h w zero = w
@@ -82,7 +82,7 @@ module _ (b : Btf) (s : List ℕ) (n : ℕ) where
   takersPut (suc k) w = takersPut k (takerPut (suc k) w)
 
 -- all of them, where they can be numbered
-unfoldable pub withTakers : Btf → ℕ → List ℕ → List ℕ → List ℕ
+unfoldable pub withTakers : TypeTable → ℕ → List ℕ → List ℕ → List ℕ
 withTakers b enumerators s w =
     elim (ltb (4294967295 - b .types) enumerators) [
       | true ↦ w
@@ -90,5 +90,5 @@ withTakers b enumerators s w =
     ]
 
 -- bit 3 of the modes at opening: names that cannot collide
-unfoldable pub takersIn : ℕ → Btf → ℕ → List ℕ → List ℕ → List ℕ
+unfoldable pub takersIn : ℕ → TypeTable → ℕ → List ℕ → List ℕ → List ℕ
 takersIn modes b enumerators s w = elim (eqb (modes / 8 % 2) 1) [ true ↦ withTakers b enumerators s w | false ↦ w ]

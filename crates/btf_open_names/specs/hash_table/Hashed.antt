@@ -7,7 +7,7 @@ use mathlib.Core.Bool.{Bool, true, false}
 use lib.ListN.{length, getD}
 use lib.Dec.{ltb, eqb}
 use Rattle.spec_bytes.specs.words.Words.{getWord, putWord}
-use Rattle.spec_type_table.specs.declared.types.Btf.{Btf}
+use Rattle.spec_type_table.specs.declared.types.TypeTable.{TypeTable}
 use Rattle.spec_type_table.specs.Cells.{placeOf}
 use Rattle.btf_open_names.specs.name_classes.Classes.{fill, keyIn}
 use Rattle.btf_open_names.specs.name_classes.Table.{bucketOf}
@@ -46,11 +46,11 @@ laterOf key n k c = elim (ltb c k) [ true ↦ 0 | false ↦ elim (eqb (spaceIn (
 unfoldable pub over : ℕ → ℕ → (first later : ℕ → ℕ) → List ℕ → List ℕ
 over types n first later w = fill (firstP types) first (fill (laterP types) later w n) n
 
-unfoldable pub tableFrom : Btf → List ℕ → ℕ → ℕ → List ℕ → List ℕ
+unfoldable pub tableFrom : TypeTable → List ℕ → ℕ → ℕ → List ℕ → List ℕ
 tableFrom b s n k w = over (b .types) n (firstOf (keyIn b s w) n k) (laterOf (keyIn b s w) n k) w
 
 -- holder c put in front of its bucket, if it has a space
-unfoldable pub putFirst : Btf → List ℕ → ℕ → ℕ → List ℕ → List ℕ
+unfoldable pub putFirst : TypeTable → List ℕ → ℕ → ℕ → List ℕ → List ℕ
 putFirst b s n c w =
     elim (eqb (spaceIn (keyIn b s w c)) 2) [
       | true ↦ w
@@ -77,14 +77,14 @@ hasRoom types e w =
     ]
 
 -- the table of all holders but void, where there is room
-unfoldable pub tableIn : Btf → ℕ → List ℕ → List ℕ → List ℕ
+unfoldable pub tableIn : TypeTable → ℕ → List ℕ → List ℕ → List ℕ
 tableIn b e s w = elim (hasRoom (b .types) e w) [ true ↦ tableFrom b s (b .types + e) 1 w | false ↦ w ]
 
 -- the table stands in w
-pub record Table (b : Btf) (s w : List ℕ) (n : ℕ) : Type 0 where
+pub record Table (b : TypeTable) (s w : List ℕ) (n : ℕ) : Type 0 where
   pub firsts : (j : ℕ) → j < n → getWord w (firstP (b .types) j) ≡ firstOf (keyIn b s w) n 1 j
   pub laters : (c : ℕ) → c < n → getWord w (laterP (b .types) c) ≡ laterOf (keyIn b s w) n 1 c
 
 -- it does if t is true
-abbrev pub TableIf : Bool → Btf → List ℕ → List ℕ → ℕ → Type 0
+abbrev pub TableIf : Bool → TypeTable → List ℕ → List ℕ → ℕ → Type 0
 TableIf t b s w n = t ≡ true → Table b s w n

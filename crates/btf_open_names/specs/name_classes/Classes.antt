@@ -5,7 +5,7 @@ use mathlib.Core.Bool.{Bool, true, false}
 use lib.ListN.{length}
 use lib.Dec.{ltb, eqb}
 use Rattle.spec_bytes.specs.words.Words.{getWord, putWord, pick}
-use Rattle.spec_type_table.specs.declared.types.Btf.{Btf}
+use Rattle.spec_type_table.specs.declared.types.TypeTable.{TypeTable}
 use Rattle.spec_type_table.specs.Cells.{placeOf, counted, classP}
 use Rattle.spec_type_table.specs.Records.{sectionWord, kindOf}
 use Rattle.spec_type_table.specs.Names.{nameAt, namePlace}
@@ -67,11 +67,11 @@ unfoldable pub spaceOf : ℕ → ℕ
 spaceOf kind = pick (among kind (4 ∷ 5 ∷ 6 ∷ 7 ∷ 19 ∷ [])) 0 (pick (eqb kind 8) 1 2)
 
 -- 01, Name ledger, "typedefs with enumerators": the space of holder h, whose record or entry stands at a place; void, holder 0, has none
-unfoldable pub spaceAt : Btf → List ℕ → ℕ → ℕ → ℕ
+unfoldable pub spaceAt : TypeTable → List ℕ → ℕ → ℕ → ℕ
 spaceAt b s at h = pick (eqb h 0) 2 (pick (ltb h (b .types)) (spaceOf (kindOf (sectionWord b s (at + 4)))) 1)
 
 -- 01, Section and type table, "offsets count from the header's end": where the name of the record or entry at a place starts
-unfoldable pub nameOf : Btf → List ℕ → ℕ → ℕ
+unfoldable pub nameOf : TypeTable → List ℕ → ℕ → ℕ
 nameOf b s at = namePlace b (sectionWord b s at)
 
 -- a space and the name that starts at a place; without a space there is no name, so that all such holders are alike
@@ -79,14 +79,14 @@ unfoldable pub keyOf : List ℕ → ℕ → ℕ → List ℕ
 keyOf s space name = space ∷ elim (eqb space 2) [ true ↦ [] | false ↦ nameAt s name ]
 
 -- the space and the name of holder h: the work says where its record or entry stands, the section what stands there
-unfoldable pub keyIn : Btf → List ℕ → List ℕ → ℕ → List ℕ
+unfoldable pub keyIn : TypeTable → List ℕ → List ℕ → ℕ → List ℕ
 keyIn b s w h = keyAt (getWord w (recordP (b .types) h))
   where
     keyAt : ℕ → List ℕ
     keyAt at = keyOf s (spaceAt b s at h) (nameOf b s at)
 
 -- the work with the class of each holder; as it was where the holders are too many to be numbered, or the work is too short
-unfoldable pub tableClassed : Btf → ℕ → List ℕ → List ℕ → List ℕ
+unfoldable pub tableClassed : TypeTable → ℕ → List ℕ → List ℕ → List ℕ
 tableClassed b enumerators s w =
     elim (ltb (4294967295 - b .types) enumerators) [
       | true ↦ w

@@ -6,7 +6,7 @@ use mathlib.Core.Bool.{Bool, true, false}
 use mathlib.Core.Logic.{_≢_}
 use lib.Dec.{eqb}
 use Rattle.spec_bytes.specs.words.Words.{getWord, putWord, pick}
-use Rattle.spec_type_table.specs.declared.types.Btf.{Btf}
+use Rattle.spec_type_table.specs.declared.types.TypeTable.{TypeTable}
 use Rattle.btf_open_names.specs.name_classes.Classes.{classOf, fill, bucketP, linkP, keyIn}
 use Rattle.spec_type_table.specs.Cells.{classP}
 
@@ -81,11 +81,11 @@ unfoldable pub stateOf : (ℕ → List ℕ) → (class bucket link : ℕ → ℕ
 stateOf key class bucket link n k w = fill class (classOf key) (fill link (nextOf key n) (fill bucket (λ j. lastOf key n j k) w n) k) k
 
 -- ---- the same of types and enumerators
-abbrev pub HoldersReady : Btf → List ℕ → List ℕ → ℕ → ℕ → Type 0
+abbrev pub HoldersReady : TypeTable → List ℕ → List ℕ → ℕ → ℕ → Type 0
 HoldersReady b s w n k = Ready (keyIn b s w) (bucketP (b .types)) (linkP (b .types)) n k w
 
-abbrev pub HolderFinds : Btf → List ℕ → List ℕ → ℕ → ℕ → Type 0
+abbrev pub HolderFinds : TypeTable → List ℕ → List ℕ → ℕ → ℕ → Type 0
 HolderFinds b s w k j = Finds (keyIn b s w) (bucketP (b .types)) (linkP (b .types)) k j w
 
-abbrev pub holderPlaced : Btf → List ℕ → List ℕ → ℕ → ℕ → List ℕ
+abbrev pub holderPlaced : TypeTable → List ℕ → List ℕ → ℕ → ℕ → List ℕ
 holderPlaced b s w n k = placed (keyIn b s w) (classP (b .types)) (bucketP (b .types)) (linkP (b .types)) n k w

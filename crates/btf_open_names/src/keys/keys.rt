@@ -5,7 +5,7 @@ use base_bytes::word::get_word;
 use btf_type_table::cell::holder_word;
 use btf_type_table::kind::kind_of;
 use btf_type_table::record::word;
-use spec_type_table::Btf;
+use spec_type_table::TypeTable;
 ghost use mathlib.Core.Path.{_≡_};
 ghost use Rattle.btf_open_names.specs.name_classes.Same.{sameList};
 ghost use Rattle.btf_open_names.specs.name_classes.Classes.{spaceOf, spaceAt, nameOf, keyOf, keyIn};
@@ -22,7 +22,7 @@ fn space_of(kind: u32) -> u32
 }
 
 // The space of the holder h whose record or entry stands at a place. Void has none.
-fn space_at(b: Btf, section: &[u8], at: u32, h: u32) -> u32
+fn space_at(b: TypeTable, section: &[u8], at: u32, h: u32) -> u32
     ensures { λ r. ⌜ r ≡ spaceAt b (now (section .entry)) at h ⌝ }
 {
     if h == 0 {
@@ -35,7 +35,7 @@ fn space_at(b: Btf, section: &[u8], at: u32, h: u32) -> u32
 }
 
 // Where the name of the record or entry at a place stands.
-fn name_of(b: Btf, section: &[u8], at: u32) -> usize
+fn name_of(b: TypeTable, section: &[u8], at: u32) -> usize
     ensures { λ r. ⌜ r ≡ nameOf b (now (section .entry)) at ⌝ }
 {
     (b.strs as usize) + (word(b, section, at as usize) as usize)
@@ -47,7 +47,7 @@ pub struct Key {
     pub name: usize,
 }
 
-pub fn load_key(b: Btf, section: &[u8], work: &[u8], h: u32) -> Key
+pub fn load_key(b: TypeTable, section: &[u8], work: &[u8], h: u32) -> Key
     ensures { λ r. ⌜ keyOf (now (section .entry)) (r .space) (r .name) ≡ keyIn b (now (section .entry)) (now (work .entry)) h ⌝ }
 {
     let at = get_word(work, holder_word(b.types, 0, 0, h));

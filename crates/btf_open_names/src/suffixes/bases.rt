@@ -3,7 +3,7 @@ use crate::keys::Key;
 use crate::keys::load_key;
 use crate::suffixes::suffix::has_suffix;
 use crate::suffixes::suffix::suffix_on;
-use spec_type_table::Btf;
+use spec_type_table::TypeTable;
 ghost use mathlib.Core.Path.{_≡_};
 ghost use Prim.Native.Nat.{_-_};
 ghost use Rattle.btf_open_names.specs.name_classes.Classes.{keyOf, keyIn};
@@ -33,7 +33,7 @@ pub fn is_suffixed(section: &[u8], x: Key) -> bool
 }
 
 // The first holder below n whose name, with a suffix, is that of h; or 0.
-pub fn base_of(b: Btf, section: &[u8], work: &[u8], n: u32, h: u32) -> u32
+pub fn base_of(b: TypeTable, section: &[u8], work: &[u8], n: u32, h: u32) -> u32
     ensures { λ r. ⌜ r ≡ baseFrom (keyIn b (now (section .entry)) (now (work .entry))) h (n - 1) 1 ⌝ }
 {
     let key = load_key(b, section, work, h);

@@ -5,7 +5,7 @@ use crate::suffixes::hash_before;
 use crate::suffixes::key_suffix;
 use base_bytes::word::get_word;
 use btf_type_table::cell::holder_word;
-use spec_type_table::Btf;
+use spec_type_table::TypeTable;
 ghost use mathlib.Core.Path.{_≡_};
 ghost use Prim.Native.Nat.{_-_, _<_};
 ghost use Rattle.btf_open_names.specs.name_classes.Classes.{keyIn};
@@ -13,7 +13,7 @@ ghost use Rattle.btf_open_names.specs.filled_work.Takers.{baseFrom};
 ghost use Rattle.btf_open_names.specs.hash_table.Hashed.{Table, TableIf};
 
 // The first holder below n whose name, with a suffix, is that of h; or 0. It stands in the bucket of what is before the suffix.
-fn base_in(b: Btf, section: &[u8], work: &[u8], n: u32, h: u32) -> u32
+fn base_in(b: TypeTable, section: &[u8], work: &[u8], n: u32, h: u32) -> u32
     requires { ⌜ (h < n) × Table b (now section) (now work) n ⌝ }
     ensures { λ r. ⌜ r ≡ baseFrom (keyIn b (now (section .entry)) (now (work .entry))) h (n - 1) 1 ⌝ }
 {
@@ -30,7 +30,14 @@ fn base_in(b: Btf, section: &[u8], work: &[u8], n: u32, h: u32) -> u32
 }
 
 // The same, by the table if there is one.
-pub(crate) fn base(b: Btf, section: &[u8], work: &[u8], n: u32, h: u32, has_table: bool) -> u32
+pub(crate) fn base(
+    b: TypeTable,
+    section: &[u8],
+    work: &[u8],
+    n: u32,
+    h: u32,
+    has_table: bool,
+) -> u32
     requires { ⌜ (h < n) × TableIf «has_table» b (now section) (now work) n ⌝ }
     ensures { λ r. ⌜ r ≡ baseFrom (keyIn b (now (section .entry)) (now (work .entry))) h (n - 1) 1 ⌝ }
 {

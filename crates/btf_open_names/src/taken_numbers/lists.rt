@@ -8,7 +8,7 @@ use crate::taken_numbers::bases::base;
 use base_bytes::word::get_word;
 use base_bytes::word::put_word;
 use btf_type_table::cell::holder_word;
-use spec_type_table::Btf;
+use spec_type_table::TypeTable;
 ghost use mathlib.Core.Path.{_≡_};
 ghost use Prim.Native.Nat.{_<_};
 ghost use Rattle.btf_open_names.specs.name_classes.Classes.{keyIn};
@@ -16,7 +16,7 @@ ghost use Rattle.btf_open_names.specs.filled_work.Takers.{suffixOn, list
 ghost use Rattle.btf_open_names.specs.hash_table.Hashed.{TableIf};
 
 // Puts h in front of the list of c, with the number that its name takes.
-fn put_on(b: Btf, section: &[u8], work: &mut [u8], c: u32, h: u32)
+fn put_on(b: TypeTable, section: &[u8], work: &mut [u8], c: u32, h: u32)
     ensures { λ _. ⌜ now (work .exit) ≡ listedOn (b .types) c h (suffixOn (keyIn b (now (section .entry)) (now (work .entry)) c) (keyIn b (now (section .entry)) (now (work .entry)) h)) (now (work .entry)) ⌝ }
 {
     let key = load_key(b, section, work, h);
@@ -29,7 +29,7 @@ fn put_on(b: Btf, section: &[u8], work: &mut [u8], c: u32, h: u32)
 }
 
 // Puts h on a list, if it is the first of its name and there is a name that it is with a suffix.
-fn put_taker(b: Btf, section: &[u8], work: &mut [u8], n: u32, h: u32, has_table: bool)
+fn put_taker(b: TypeTable, section: &[u8], work: &mut [u8], n: u32, h: u32, has_table: bool)
     requires { ⌜ (h < n) × TableIf «has_table» b (now section) (now work) n ⌝ }
     ensures { λ _. ⌜ now (work .exit) ≡ takerPut b (now (section .entry)) n h (now (work .entry)) ⌝ }
 {
@@ -47,7 +47,7 @@ fn put_taker(b: Btf, section: &[u8], work: &mut [u8], n: u32, h: u32, has_table:
 }
 
 // All holders, from the last to the first, so that those on a list stand in rising order. The work that opening has filled has room for the table.
-fn put_takers(b: Btf, section: &[u8], enumerators: u32, work: &mut [u8])
+fn put_takers(b: TypeTable, section: &[u8], enumerators: u32, work: &mut [u8])
     ensures { λ _. ⌜ now (work .exit) ≡ withTakers b enumerators (now (section .entry)) (now (work .entry)) ⌝ }
 {
     let types = b.types;
@@ -68,7 +68,7 @@ fn put_takers(b: Btf, section: &[u8], enumerators: u32, work: &mut [u8])
 }
 
 // Bit 3 of the modes: names that cannot collide. Without it there are no lists.
-pub fn takers(b: Btf, section: &[u8], modes: u32, enumerators: u32, work: &mut [u8])
+pub fn takers(b: TypeTable, section: &[u8], modes: u32, enumerators: u32, work: &mut [u8])
     ensures { λ _. ⌜ now (work .exit) ≡ takersIn modes b enumerators (now (section .entry)) (now (work .entry)) ⌝ }
 {
     if modes / 8 % 2 != 1 {

@@ -7,7 +7,7 @@ use lib.ListN.{length}
 use Rattle.spec_session.specs.session.Answers.{numberOf, valueOf}
 use Rattle.session_record.specs.record_words.Words.{packed, decoded}
 use Rattle.session_record.specs.record.Record.{recordListed}
-use Rattle.spec_line_origins.specs.origins.Bytes.{CauseCall, typeCauses, typesCauses}
+use Rattle.spec_session.specs.origin_calls.Bytes.{CauseCall, typeCauses, typesCauses}
 use Rattle.session_origins.specs.lists.Several.{listCausesCall}
 use Rattle.spec_c_calls.specs.Exports.{Export, exportOf, answeredBy}
 

@@ -12,7 +12,7 @@ use Rattle.spec_c_dumper.specs.rules.Layout.{endOf}
 use Rattle.spec_c_dumper.specs.rules.Decl.{keyword, sepName, declTags, emitDeclTags, lastNewline, emitEnumDef, enumWord, compositeHead, compositeEnd}
 use Rattle.spec_c_dumper.specs.rules.Place.{outOf, putSaid}
 use Rattle.spec_c_dumper.proofs.rules.Writing.{put-only, stop-only, put-then, put-given, put-refused}
-use Rattle.spec_type_table.specs.declared.types.Btf.{Btf}
+use Rattle.spec_type_table.specs.declared.types.TypeTable.{TypeTable}
 use Rattle.spec_type_table.specs.Table.{from, btfOf, workNaming}
 use Rattle.c_dumper_name_versions.proofs.names.Resolve.{put-type-name}
 use Rattle.c_dumper_name_versions.proofs.forwards.Forwards.{keyword-same}
@@ -29,7 +29,7 @@ module _ {U : Type 0} where
   also t at a w u n t′ r t″ u″ e₁ e₂ = put-then t at (put a) w u n t′ u r t″ u″ (put-only t at a u n t′ e₁) e₂
 
 -- ---- a typedef's own name
-pub typedef-name : (b : Btf) (id : ℕ) (name a : Name) (t : List ℕ) (at : ℕ) (w w′ : List ℕ) (r : ℕ) (t′ : List ℕ)
+pub typedef-name : (b : TypeTable) (id : ℕ) (name a : Name) (t : List ℕ) (at : ℕ) (w w′ : List ℕ) (r : ℕ) (t′ : List ℕ)
     → put a w′ ≡ resolveTypeName (workNaming b) tagSpace id name put w → putOut r t′ ≡ putText t at (whole a)
     → outOf r t′ w′ ≡ putSaid t at (resolveTypeName (workNaming b) identSpace id name put w)
 typedef-name b id name a t at w w′ r t′ e₁ e₂ = put-type-name b tagSpace identSpace id name a w w′ put t at r t′ w′ e₁ (put-only t at a w′ r t′ e₂)
@@ -45,7 +45,7 @@ module _ (N : Naming (List ℕ)) (B : Rules) (str : ℕ → List ℕ) (id : ℕ)
   enum-named h e = rw (h, enumText) e
 
 -- ---- a composite's head
-module _ (b : Btf) (s : List ℕ) (id : ℕ) (is-struct : Bool) (name a : Name) (t : List ℕ) (at : ℕ) (w w′ : List ℕ) where
+module _ (b : TypeTable) (s : List ℕ) (id : ℕ) (is-struct : Bool) (name a : Name) (t : List ℕ) (at : ℕ) (w w′ : List ℕ) where
   pub head-put : (x : Bool) (p : ℕ) (t₁ : List ℕ) (q : ℕ) (t₂ : List ℕ) (r : ℕ) (t₃ : List ℕ)
       → put a w′ ≡ resolveTypeName (workNaming b) tagSpace id name put w → x ≡ is-struct
       → putOut p t₁ ≡ putText t at (whole (keyword (btfOf b [] []) x)) → putOut q t₂ ≡ putText t₁ p (whole (sepName a)) → putOut r t₃ ≡ putText t₂ q (whole (ascii " {"))

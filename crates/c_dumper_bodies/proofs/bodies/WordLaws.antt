@@ -13,7 +13,7 @@ use Rattle.spec_bytes.proofs.words.Laws.{le-or-lt}
 use Rattle.spec_bytes.proofs.text.TextLaws.{put-seq}
 use Rattle.spec_c_dumper.specs.rules.Types.{Name, isEmpty, Member, Param}
 use Rattle.spec_c_dumper.specs.rules.Decl.{attribute, brackets, bitSize, shownParams}
-use Rattle.spec_type_table.specs.declared.types.Btf.{Btf}
+use Rattle.spec_type_table.specs.declared.types.TypeTable.{TypeTable}
 use Rattle.spec_type_table.specs.Records.{sectionWord, paramAt}
 use Rattle.spec_type_table.specs.Table.{from, paramOf}
 use Rattle.c_dumper_bodies.specs.bodies.Pieces.{gap, starText, comma, lineEnd, packedText, sizeText}
@@ -122,7 +122,7 @@ any-last n k x e h =
     (le-or-lt n (k + 1)))
 
 -- the words of a parameter, at its place
-pub type-at : (b : Btf) (s : List ℕ) (p at : ℕ) → p ≡ paramAt at 0 → sectionWord b s (p + 4) ≡ paramOf b s at 0 .type-id
+pub type-at : (b : TypeTable) (s : List ℕ) (p at : ℕ) → p ≡ paramAt at 0 → sectionWord b s (p + 4) ≡ paramOf b s at 0 .type-id
 unfolding paramOf
 type-at b s p at e = ap (λ (x : ℕ). sectionWord b s (x + 4)) e
 

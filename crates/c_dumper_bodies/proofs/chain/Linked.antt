@@ -12,7 +12,7 @@ use Rattle.spec_bytes.specs.text.Text.{ascii, whole, putOut, putText}
 use Rattle.spec_c_dumper.specs.rules.Types.{Name, Param, Qualifier, BtfType}
 use Rattle.spec_c_dumper.specs.rules.Decl.{Entry, base, star, qual, array, proto, tag, ends, leads, linkOf, qualifier, mods, noMods, isArray}
 use Rattle.spec_c_dumper.specs.rules.Chain.{entryBy}
-use Rattle.spec_type_table.specs.declared.types.Btf.{Btf}
+use Rattle.spec_type_table.specs.declared.types.TypeTable.{TypeTable}
 use Rattle.spec_type_table.specs.declared.types.BtfType.{BtfType as Record}
 use Rattle.spec_type_table.specs.Records.{kindOf, flagOf, recordById}
 use Rattle.spec_type_table.specs.Table.{typeOf, recordName, extraWord, nelemsWord, paramsOf}
@@ -196,7 +196,7 @@ module _ (t : List ℕ) (at r : ℕ) (u : List ℕ) (k : ℕ) where
   put-restrict h l e = rw (ne-eqb k 9 h, qualifierOf, ne-eqb k 10 l) e
 
 -- ---- next_of
-module _ (b : Btf) (s : List ℕ) (t : Record) where
+module _ (b : TypeTable) (s : List ℕ) (t : Record) where
   pub next-array : kindOf (t .info) ≡ 3 → nextOf b s t ≡ extraWord b s t
   unfolding nextOf
   next-array h = rw (h, nextOf)
@@ -269,7 +269,7 @@ module _ (b : Btf) (s : List ℕ) (t : Record) where
       (kindOf (t .info)) refl h
 
 -- ---- the entry of a type, by the kind of its record
-module _ (b : Btf) (s w : List ℕ) (id : ℕ) (t : Record) (et : t ≡ recordById b s w id) where
+module _ (b : TypeTable) (s w : List ℕ) (id : ℕ) (t : Record) (et : t ≡ recordById b s w id) where
   entry-is : (x : BtfType) → typeOf b s t ≡ x → entryOf b s w id ≡ entryBy id (linkOf x)
   unfolding entryOf
   entry-is x q = ap (λ (y : Record). entryBy id (linkOf (typeOf b s y))) (sym et) ∙ ap (λ (y : BtfType). entryBy id (linkOf y)) q

@@ -12,7 +12,7 @@ use Rattle.spec_bytes.proofs.text.TextLaws.{put-seq, put-same, put-empty, join-
 use Rattle.spec_c_dumper.specs.rules.Writer.{got}
 use Rattle.spec_c_dumper.specs.rules.Decl.{Entry, Link, ends, leads, linkOf, chainOn, chainOf, qualifier, mods, noMods}
 use Rattle.spec_c_dumper.specs.rules.Chain.{entryBy}
-use Rattle.spec_type_table.specs.declared.types.Btf.{Btf}
+use Rattle.spec_type_table.specs.declared.types.TypeTable.{TypeTable}
 use Rattle.spec_type_table.specs.declared.types.BtfType.{BtfType as Record}
 use Rattle.spec_type_table.specs.Records.{kindOf, recordById}
 use Rattle.spec_type_table.specs.Table.{typeOf, extraWord, btfOf}
@@ -29,14 +29,14 @@ not-false true e = refl
 not-false false e = absurd (false-true (sym e))
 
 -- ---- next_of's returns
-module _ (b : Btf) (s : List ℕ) (t : Record) (k : ℕ) (ek : k ≡ kindOf (t .info)) where
+module _ (b : TypeTable) (s : List ℕ) (t : Record) (k : ℕ) (ek : k ≡ kindOf (t .info)) where
   pub next-by-array : (x : ℕ) → k ≡ 3 → x ≡ extraWord b s t → x ≡ nextOf b s t
   next-by-array x e q = q ∙ sym (next-array b s t (sym ek ∙ e))
 
   pub next-by-type : (k ≡ 3 → ⊥) → t .«type_id» ≡ nextOf b s t
   next-by-type n = sym (next-other b s t (λ e. n (ek ∙ e)))
 
-module _ (b : Btf) (s w : List ℕ) (start : ℕ) where
+module _ (b : TypeTable) (s w : List ℕ) (start : ℕ) where
   -- ---- path_at
   pub path-none : start ≡ pathAt b s w start 0
   unfolding pathAt

@@ -10,13 +10,13 @@ use Rattle.spec_c_dumper.specs.rules.Place.{outOf, putSaid}
 use Rattle.spec_c_dumper.specs.rules.Names.{Naming, tagSpace, resolveTypeName, builtin}
 use Rattle.spec_c_dumper.specs.rules.Decl.{deeper, sepName, emitValues, enumBody, emitEnumDef, enumWord}
 use Rattle.spec_c_dumper.proofs.rules.Writing.{put-only, put-nothing, put-then}
-use Rattle.spec_type_table.specs.declared.types.Btf.{Btf}
+use Rattle.spec_type_table.specs.declared.types.TypeTable.{TypeTable}
 use Rattle.spec_type_table.specs.Table.{from, workNaming}
 use Rattle.c_dumper_name_versions.proofs.names.Resolve.{put-type-name}
 use Rattle.c_dumper_bodies.specs.enumerators.Heads.{enumHead, enumEnd}
 
 -- ---- emit_enum_head, put_enum_name: the name was resolved, and two texts written
-module _ (b : Btf) (id : ℕ) (name n w w′ : List ℕ) (t : List ℕ) (at p : ℕ) (t₁ : List ℕ) (r : ℕ) (t₂ : List ℕ)
+module _ (b : TypeTable) (id : ℕ) (name n w w′ : List ℕ) (t : List ℕ) (at p : ℕ) (t₁ : List ℕ) (r : ℕ) (t₂ : List ℕ)
     (e : put n w′ ≡ resolveTypeName (workNaming b) tagSpace id name put w) where
   two : (a c : List ℕ) → putOut p t₁ ≡ putText t at (whole a) → putOut r t₂ ≡ putText t₁ p (whole c) → outOf r t₂ w′ ≡ putSaid t at ((put a ⨾ put c) w′)
   two a c e₁ e₂ = put-then t at (put a) (put c) w′ p t₁ w′ r t₂ w′ (put-only t at a w′ p t₁ e₁) (put-only t₁ p c w′ r t₂ e₂)
@@ -45,7 +45,7 @@ values-any N B B′ str id lvl i [] = refl
 values-any N B B′ str id lvl i (v ∷ vs) = ap (_⨾_ _) (values-any N B B′ str id lvl (i + 1) vs)
 
 -- ---- emit_enum_def, emit_enum64_def
-module _ (b : Btf) (B : Rules) (str : ℕ → List ℕ) (id : ℕ) (name : Name) (lvl : ℕ) (w t : List ℕ) (at : ℕ) where
+module _ (b : TypeTable) (B : Rules) (str : ℕ → List ℕ) (id : ℕ) (name : Name) (lvl : ℕ) (w t : List ℕ) (at : ℕ) where
   pub def-builtin : (vs : List Enumerator) → builtin name ≡ true → outOf at t w ≡ putSaid t at (emitEnumDef (workNaming b) B str id name vs lvl w)
   unfolding emitEnumDef
   def-builtin vs h = rw (h, emitEnumDef) (put-nothing t at w)

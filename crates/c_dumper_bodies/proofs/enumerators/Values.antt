@@ -13,7 +13,7 @@ use Rattle.spec_c_dumper.specs.rules.Place.{outOf, putSaid}
 use Rattle.spec_c_dumper.specs.rules.Names.{spelled, resolveName}
 use Rattle.spec_c_dumper.specs.rules.Decl.{deeper, emitValues}
 use Rattle.spec_c_dumper.proofs.rules.Writing.{put-only, put-nothing, put-then}
-use Rattle.spec_type_table.specs.declared.types.Btf.{Btf}
+use Rattle.spec_type_table.specs.declared.types.TypeTable.{TypeTable}
 use Rattle.spec_type_table.specs.Cells.{getField}
 use Rattle.spec_type_table.specs.Names.{strAt}
 use Rattle.spec_type_table.specs.Table.{from, workNaming, valueVersionIn, enumeratorOf}
@@ -46,7 +46,7 @@ unfolding nthOf enumeratorOf
 nth-is w id first j e = ap (λ (x : ℕ). nthOf x j) e
 
 -- ---- emit_enumerator: the name's place and version are those of the rule
-pub head-is : (b : Btf) (s : List ℕ) (types e off lvl : ℕ) (n : Code) (w w′ : List ℕ) (t : List ℕ) (at r : ℕ) (u : List ℕ)
+pub head-is : (b : TypeTable) (s : List ℕ) (types e off lvl : ℕ) (n : Code) (w w′ : List ℕ) (t : List ℕ) (at r : ℕ) (u : List ℕ)
     → (n .off ≡ off) × (n .version ≡ valueVersionIn types e w .version) × (w′ ≡ valueVersionIn types e w .names)
     → putOut r u ≡ putText t at (whole (ascii "\n" ++ pfx lvl ++ nameText b s n ++ ascii " = "))
     → (putOut r u ≡ putText t at (whole (valueHead lvl (spelled (strAt b s off) (valueVersionIn types e w .version))))) × (w′ ≡ valueVersionIn types e w .names)
@@ -68,7 +68,7 @@ line-is lvl n val u =
     ∙ append-assoc (ascii "\n" ++ pfx lvl) n (ascii " = " ++ (val ++ ascii ","))
     ∙ append-assoc (ascii "\n") (pfx lvl) (n ++ (ascii " = " ++ (val ++ ascii ","))))
 
-module _ (b : Btf) (s : List ℕ) (id i e off lvl : ℕ) (val w w′ : List ℕ) (ee : e ≡ enumeratorOf w id i) (ew : w′ ≡ valueVersionIn (b .types) e w .names) where
+module _ (b : TypeTable) (s : List ℕ) (id i e off lvl : ℕ) (val w w′ : List ℕ) (ee : e ≡ enumeratorOf w id i) (ew : w′ ≡ valueVersionIn (b .types) e w .names) where
   line-put : (t : List ℕ) (at a : ℕ) (t₁ : List ℕ) (c : ℕ) (t₂ : List ℕ) (q : ℕ) (t₃ : List ℕ)
       → putOut a t₁ ≡ putText t at (whole (valueHead lvl (spelled (strAt b s off) (valueVersionIn (b .types) e w .version))))
       → putOut c t₂ ≡ putText t₁ a (whole val) → putOut q t₃ ≡ putText t₂ c (whole (ascii ","))
@@ -88,7 +88,7 @@ from-none : {E : Type 0} (f : ℕ → E) (k n : ℕ) → n ≤ k → from f k (n
 unfolding from
 from-none f k n h = let e : n - k ≡ 0 = omega arith in ap (from f k) e
 
-module _ (b : Btf) (B : Rules) (str : ℕ → List ℕ) (f : ℕ → Enumerator) (id lvl n first : ℕ) (t₀ : List ℕ) (at : ℕ) (w₀ : List ℕ) where
+module _ (b : TypeTable) (B : Rules) (str : ℕ → List ℕ) (f : ℕ → Enumerator) (id lvl n first : ℕ) (t₀ : List ℕ) (at : ℕ) (w₀ : List ℕ) where
   abbrev left : ℕ → Writer (List ℕ)
   left k = emitValues (workNaming b) B str id lvl k (from f k (n - k))
 

@@ -11,7 +11,7 @@ use Rattle.spec_bytes.specs.text.Text.{ascii, whole, putOut, putText}
 use Rattle.spec_bytes.specs.text.Decimal.{decimal}
 use Rattle.spec_bytes.specs.signed.Signed.{twos, signedLL}
 use Rattle.spec_c_dumper.specs.rules.Decl.{enum64Value}
-use Rattle.spec_type_table.specs.declared.types.Btf.{Btf}
+use Rattle.spec_type_table.specs.declared.types.TypeTable.{TypeTable}
 use Rattle.spec_type_table.specs.declared.types.BtfType.{BtfType as Record}
 use Rattle.spec_type_table.specs.declared.types.Entries.{Entries}
 use Rattle.spec_type_table.specs.Names.{strAt}
@@ -29,7 +29,7 @@ module _ (t : List ℕ) (at r : ℕ) (u : List ℕ) (f : Bool) (v : ℕ) where
   put-plain64 h o = rw h o
 
 -- ---- what is read of a value is what the table has
-module _ (b : Btf) (s : List ℕ) (t : Record) (k : ℕ) (es : Entries) (ee : es ≡ entriesOf t) (place off : ℕ) (eo : off ≡ sectionWord b s place) where
+module _ (b : TypeTable) (s : List ℕ) (t : Record) (k : ℕ) (es : Entries) (ee : es ≡ entriesOf t) (place off : ℕ) (eo : off ≡ sectionWord b s place) where
   module _ (ep : place ≡ memberAt (es .at) k) where
     pub value64-name : strAt b s off ≡ value64Of b s (t .at) k .name
     unfolding value64Of

@@ -9,7 +9,7 @@ use Rattle.spec_c_dumper.specs.rules.Writer.{Ask, got, no}
 use Rattle.spec_c_dumper.specs.rules.Types.{Qualifier, volatile, const, restrict}
 use Rattle.spec_c_dumper.specs.rules.Decl.{Entry, linkOf, qualifier, noMods}
 use Rattle.spec_c_dumper.specs.rules.Chain.{entryBy}
-use Rattle.spec_type_table.specs.declared.types.Btf.{Btf}
+use Rattle.spec_type_table.specs.declared.types.TypeTable.{TypeTable}
 use Rattle.spec_type_table.specs.declared.types.BtfType.{BtfType as Record}
 use Rattle.spec_type_table.specs.Records.{kindOf, recordById}
 use Rattle.spec_type_table.specs.Table.{typeOf, extraWord}
@@ -52,7 +52,7 @@ isQualifier kind = leb 9 kind && leb kind 11
 unfoldable pub qualifierOf : ℕ → Qualifier
 qualifierOf kind = elim (eqb kind 9) [ true ↦ volatile | false ↦ elim (eqb kind 10) [ true ↦ const | false ↦ restrict ] ]
 
-module _ (b : Btf) (s : List ℕ) where
+module _ (b : TypeTable) (s : List ℕ) where
   -- the id that a record leads to: btf_array.type, or the type of struct btf_type
   unfoldable pub nextOf : Record → ℕ
   nextOf t = elim (eqb (kindOf (t .info)) 3) [ true ↦ extraWord b s t | false ↦ t .«type_id» ]

@@ -19,9 +19,9 @@ use c_dumper_name_versions::names::put_name;
 use c_dumper_name_versions::names::put_sep_name;
 use c_dumper_name_versions::names::resolve_type_name;
 use c_dumper_name_versions::tags::emit_decl_tags;
-use spec_type_table::Btf;
 use spec_type_table::BtfMember;
 use spec_type_table::BtfType;
+use spec_type_table::TypeTable;
 ghost use mathlib.Core.Path.{_≡_};
 ghost use lib.Dec.{eqb};
 ghost use Rattle.spec_c_dumper.specs.rules.Writer.{put};
@@ -42,7 +42,7 @@ pub struct Spot {
 
 // A nameless enum is printed inline.
 pub fn emit_enum_word(
-    b: Btf,
+    b: TypeTable,
     section: &[u8],
     work: &mut [u8],
     text: &mut [u8],
@@ -60,7 +60,7 @@ pub fn emit_enum_word(
 }
 
 pub fn emit_enum64_word(
-    b: Btf,
+    b: TypeTable,
     section: &[u8],
     work: &mut [u8],
     text: &mut [u8],
@@ -78,7 +78,7 @@ pub fn emit_enum64_word(
 }
 
 pub fn put_typedef_name(
-    b: Btf,
+    b: TypeTable,
     section: &[u8],
     work: &mut [u8],
     text: &mut [u8],
@@ -93,7 +93,7 @@ pub fn put_typedef_name(
 }
 
 pub fn emit_composite_head(
-    b: Btf,
+    b: TypeTable,
     section: &[u8],
     work: &mut [u8],
     text: &mut [u8],
@@ -111,7 +111,7 @@ pub fn emit_composite_head(
 
 // The size of a bit field, the member's tags and the semicolon.
 pub fn emit_member_end(
-    b: Btf,
+    b: TypeTable,
     section: &[u8],
     work: &[u8],
     text: &mut [u8],
@@ -140,7 +140,7 @@ pub fn emit_member_end(
 
 // The closing bracket, on a line of its own after members, and what is said of the whole.
 pub fn emit_composite_end(
-    b: Btf,
+    b: TypeTable,
     section: &[u8],
     work: &[u8],
     text: &mut [u8],

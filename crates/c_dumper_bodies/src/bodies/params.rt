@@ -1,8 +1,8 @@
 // Which parameters of a prototype are printed, and how.
 use btf_type_table::kind::param_place;
 use btf_type_table::record::word;
-use spec_type_table::Btf;
 use spec_type_table::Entries;
+use spec_type_table::TypeTable;
 ghost use mathlib.Core.Path.{_≡_};
 ghost use mathlib.Core.Bool.{_&&_};
 ghost use Prim.Native.Nat.{_+_};
@@ -11,7 +11,7 @@ ghost use Rattle.spec_c_dumper.specs.rules.Decl.{shownParams};
 ghost use Rattle.spec_type_table.specs.Table.{from, paramOf};
 
 // The parameters that are printed: a single one of type void is none.
-pub fn shown_params(b: Btf, section: &[u8], params: Entries) -> Entries
+pub fn shown_params(b: TypeTable, section: &[u8], params: Entries) -> Entries
     ensures { λ r. ⌜ from (paramOf b (now (section .entry)) (r .at)) 0 (r .vlen) ≡ shownParams (from (paramOf b (now (section .entry)) (params .at)) 0 (params .vlen)) ⌝ }
 {
     if params.vlen != 1 {

@@ -8,8 +8,8 @@ use btf_type_table::kind::kind_flag_of;
 use c_dumper_name_versions::names::Name;
 use c_dumper_name_versions::names::is_blank;
 use c_dumper_name_versions::tags::put_attribute;
-use spec_type_table::Btf;
 use spec_type_table::BtfType;
+use spec_type_table::TypeTable;
 ghost use mathlib.Core.Path.{_≡_};
 ghost use lib.Dec.{eqb};
 ghost use Rattle.spec_bytes.specs.text.Text.{ascii, whole, putOut, putText};
@@ -19,7 +19,7 @@ ghost use Rattle.spec_type_table.specs.Table.{recordName};
 ghost use Rattle.c_dumper_name_versions.specs.names.Spelling.{nameText};
 ghost use Rattle.c_dumper_bodies.specs.bodies.Pieces.{gap, starText, comma, sizeText, lineEnd, packedText};
 
-pub fn put_type_tag(b: Btf, section: &[u8], text: &mut [u8], at: usize, t: BtfType) -> usize
+pub fn put_type_tag(b: TypeTable, section: &[u8], text: &mut [u8], at: usize, t: BtfType) -> usize
     ensures { λ r. ⌜ putOut r (now (text .exit)) ≡ putText (now (text .entry)) at (whole (attribute (flagOf (t .info)) (ascii "btf_type_tag") (recordName b (now (section .entry)) t))) ⌝ }
 {
     put_attribute(
@@ -52,7 +52,7 @@ pub fn put_count(text: &mut [u8], at: usize, nelems: u32) -> usize
 
 // A space before a name that follows no star.
 pub fn put_gap(
-    b: Btf,
+    b: TypeTable,
     section: &[u8],
     text: &mut [u8],
     at: usize,

@@ -4,8 +4,8 @@ use btf_layout::size::Ask;
 use btf_type_table::kind::kind_of;
 use btf_type_table::node::type_by_id;
 use btf_type_table::record::array_type;
-use spec_type_table::Btf;
 use spec_type_table::BtfType;
+use spec_type_table::TypeTable;
 ghost use mathlib.Core.Path.{_≡_};
 ghost use mathlib.Core.List.{[]};
 ghost use Rattle.spec_c_dumper.specs.rules.Decl.{chainOf};
@@ -24,7 +24,7 @@ fn is_link(kind: u32) -> bool
 }
 
 // The id that an entry leads to.
-fn next_of(b: Btf, section: &[u8], t: BtfType) -> u32
+fn next_of(b: TypeTable, section: &[u8], t: BtfType) -> u32
     ensures { λ r. ⌜ r ≡ nextOf b (now (section .entry)) t ⌝ }
 {
     if kind_of(t.info) == 3 {
@@ -34,7 +34,7 @@ fn next_of(b: Btf, section: &[u8], t: BtfType) -> u32
 }
 
 // How many entries the chain from an id has: 512 at most, or 12.
-pub fn chain_len(b: Btf, section: &[u8], work: &[u8], start: u32) -> Ask
+pub fn chain_len(b: TypeTable, section: &[u8], work: &[u8], start: u32) -> Ask
     ensures { λ r. ⌜ chainIs b (now (section .entry)) (now (work .entry)) start r ≡ chainOf 512 (btfOf b (now (section .entry)) (now (work .entry))) start [] ⌝ }
 {
     let mut id = start;
@@ -51,7 +51,7 @@ pub fn chain_len(b: Btf, section: &[u8], work: &[u8], start: u32) -> Ask
 }
 
 // The id of entry k.
-pub fn path_at(b: Btf, section: &[u8], work: &[u8], start: u32, k: u32) -> u32
+pub fn path_at(b: TypeTable, section: &[u8], work: &[u8], start: u32, k: u32) -> u32
     ensures { λ r. ⌜ r ≡ pathAt b (now (section .entry)) (now (work .entry)) start k ⌝ }
 {
     let mut id = start;
@@ -64,7 +64,7 @@ pub fn path_at(b: Btf, section: &[u8], work: &[u8], start: u32, k: u32) -> u32
 }
 
 // The kind of the entry on top of n, or 0 where there is none.
-pub fn kind_on_top(b: Btf, section: &[u8], work: &[u8], start: u32, n: u32) -> u32
+pub fn kind_on_top(b: TypeTable, section: &[u8], work: &[u8], start: u32, n: u32) -> u32
     ensures { λ r. ⌜ r ≡ kindOnTop b (now (section .entry)) (now (work .entry)) start n ⌝ }
 {
     if n == 0 {

@@ -12,7 +12,7 @@ use Rattle.spec_c_dumper.specs.rules.Decl.{Entry, base, star, qual, array, prot
 use Rattle.spec_c_dumper.specs.alignment_once.Writers.{emitTypeDeclOnce, emitTypeChainOnce}
 use Rattle.spec_c_dumper.specs.rules.Place.{outOf, putSaid}
 use Rattle.spec_c_dumper.proofs.rules.Writing.{stop-only, put-nothing, put-given, put-refused}
-use Rattle.spec_type_table.specs.declared.types.Btf.{Btf}
+use Rattle.spec_type_table.specs.declared.types.TypeTable.{TypeTable}
 use Rattle.btf_layout.specs.declared.size.Ask.{Ask as Code}
 use Rattle.btf_layout.specs.declared.size.Ask.the-variants.{Got, No}
 use Rattle.c_dumper_name_versions.specs.names.Spelling.{nameAfter}
@@ -25,7 +25,7 @@ use Rattle.c_dumper_declarator.proofs.declarations.Turns.{chain-turn, c
 use Rattle.c_dumper_declarator.proofs.declarations.Kept.{seen, Leads, leads-end, leads-turn}
 use Rattle.c_dumper_declarator.proofs.declarations.Keeping.{said-as, put-emit-name, N, Q, T, kept-entry}
 
-module _ (b : Btf) (s : List ℕ) where
+module _ (b : TypeTable) (s : List ℕ) where
   -- ---- emit_type_decl
   module _ (t : List ℕ) (at : ℕ) (u : List ℕ) (id : ℕ) (fname : Name) (lvl left r : ℕ) where
     pub decl-zero : left ≡ 0 → putOut r t ≡ putText t at (cut [] 12) → outOf r t u ≡ putSaid t at (emitTypeDeclOnce (Q b s (T b s u)) (N b s) (T b s u) left id fname lvl u)

@@ -15,7 +15,7 @@ use Rattle.spec_c_dumper.specs.rules.Decl.{Entry, base, star, qual, array, prot
 use Rattle.spec_c_dumper.specs.alignment_once.Writers.{emitTypeChainOnce, emitCompositeDefOnce}
 use Rattle.spec_c_dumper.specs.rules.Place.{outOf, putSaid}
 use Rattle.spec_c_dumper.proofs.rules.Writing.{put-only, put-nothing, put-then}
-use Rattle.spec_type_table.specs.declared.types.Btf.{Btf}
+use Rattle.spec_type_table.specs.declared.types.TypeTable.{TypeTable}
 use Rattle.spec_type_table.specs.declared.types.BtfType.{BtfType as Record}
 use Rattle.spec_type_table.specs.Records.{kindOf, flagOf, recordById, entriesOf}
 use Rattle.spec_type_table.specs.Table.{from, paramOf, paramsOf, recordName, nelemsWord, membersOf, typeOf, btfOf, valuesOf, values64Of}
@@ -64,7 +64,7 @@ no-link k n2 n3 n13 n18 (inl l) =
     k n2 n3 l
 no-link k n2 n3 n13 n18 (inr l) = sym (link-high k l (⊎-elim n13 n18))
 
-module _ (b : Btf) (s : List ℕ) where
+module _ (b : TypeTable) (s : List ℕ) where
   no-mods : (w : List ℕ) (id n m : ℕ) → m ≡ skipped b s w id n → chainAt b s w id m ≡ noMods (chainAt b s w id n)
   no-mods w id n m e = ap (chainAt b s w id) e ∙ sym (no-mods-skipped b s w id n)
 

@@ -15,7 +15,7 @@ use Rattle.spec_c_dumper.proofs.rules.Keeps.{Keeps, keeps-put, keeps-stop, keep
 use Rattle.spec_c_dumper.specs.alignment_once.Writers.{Asks, givenOnce, emitTypeDeclOnce, emitTypeChainOnce, emitCompositeDefOnce}
 use Rattle.spec_c_dumper.proofs.alignment_once.Keeps.{keeps-asked, keeps-decl, keeps-chain, keeps-composite}
 use Rattle.btf_layout.specs.asked.Asked.{workAsks}
-use Rattle.spec_type_table.specs.declared.types.Btf.{Btf}
+use Rattle.spec_type_table.specs.declared.types.TypeTable.{TypeTable}
 use Rattle.spec_type_table.specs.Table.{btfOf, workNaming}
 use Rattle.c_dumper_name_versions.specs.names.Spelling.{nameAfter}
 use Rattle.c_dumper_name_versions.proofs.names.Spellings.{emit-name-is}
@@ -30,7 +30,7 @@ said-as t at v w u r t′ u′ e o = o ∙ ap (λ x. putSaid t at (x u)) e
 pub put-emit-name : {U : Type 0} → (t : List ℕ) (at : ℕ) (fname : Name) (p : Bool) (u : U) (r : ℕ) (t′ : List ℕ) → putOut r t′ ≡ putText t at (whole (nameAfter fname p)) → outOf r t′ u ≡ putSaid t at (emitName fname p u)
 put-emit-name t at fname p u r t′ e = put-only t at (nameAfter fname p) u r t′ e ∙ ap (putSaid t at) (sym (emit-name-is fname p u))
 
-module _ (b : Btf) (s : List ℕ) where
+module _ (b : TypeTable) (s : List ℕ) where
   abbrev pub N : Naming (List ℕ)
   N = workNaming b
 

@@ -13,7 +13,7 @@ use Rattle.spec_c_dumper.specs.rules.Chain.{entryBy}
 use Rattle.spec_c_dumper.specs.rules.Place.{outOf, putSaid}
 use Rattle.spec_c_dumper.proofs.rules.Writing.{put-then-kept}
 use Rattle.spec_c_dumper.proofs.rules.Keeps.{Keeps}
-use Rattle.spec_type_table.specs.declared.types.Btf.{Btf}
+use Rattle.spec_type_table.specs.declared.types.TypeTable.{TypeTable}
 use Rattle.spec_type_table.specs.declared.types.BtfType.{BtfType as Record}
 use Rattle.spec_type_table.specs.Cells.{getField, putField, classP, countP, counted}
 use Rattle.spec_type_table.specs.Numbers.{numberAt}
@@ -30,7 +30,7 @@ use Rattle.c_dumper_padding.specs.placing.Steps.{bodyIn}
 use Rattle.btf_layout.specs.declared.size.Packed.{Packed}
 use Rattle.btf_layout.specs.declared.size.Packed.the-variants.{Is, No}
 
-module _ (b : Btf) (s : List ℕ) where
+module _ (b : TypeTable) (s : List ℕ) where
   module _ (u w : List ℕ) (h : (id : ℕ) → recordById b s u id ≡ recordById b s w id) where
     entry-same : (id : ℕ) → entryOf b s u id ≡ entryOf b s w id
     unfolding entryOf

@@ -24,7 +24,7 @@ use Rattle.c_dumper_padding.specs.padding.Asking.{padSaid}
 use Rattle.spec_c_dumper.specs.rules.Place.{outOf, putSaid}
 use Rattle.spec_c_dumper.proofs.rules.Writing.{put-only, stop-only, put-nothing, put-then-kept}
 use Rattle.spec_c_dumper.proofs.rules.Keeps.{keeps-put, keeps-then, keeps-composite-head}
-use Rattle.spec_type_table.specs.declared.types.Btf.{Btf}
+use Rattle.spec_type_table.specs.declared.types.TypeTable.{TypeTable}
 use Rattle.spec_type_table.specs.declared.types.BtfType.{BtfType as Record}
 use Rattle.spec_type_table.specs.Names.{strAt}
 use Rattle.spec_type_table.specs.Records.{sectionWord, paramAt, memberOf}
@@ -65,7 +65,7 @@ no-more f k n h =
     (λ l. let e : n - (k + 1) ≡ suc (n - (k + 2)) = omega arith in rw (e, lt-leb n (k + 1) l))
     (le-or-lt n (k + 1))
 
-module _ (b : Btf) (s : List ℕ) where
+module _ (b : TypeTable) (s : List ℕ) where
   -- ---- emit_param
   module _ (below lvl vlen pat k : ℕ) (txt : List ℕ) (at : ℕ) (w : List ℕ) (x : ℕ) (p : ℕ) (ep : p ≡ paramAt pat k) (ex : x ≡ sectionWord b s (p + 4)) (q : Bool) (eq : q ≡ (leb vlen (k + 1) && eqb x 0))
       (a : ℕ) (t₁ : List ℕ) (o₁ : putOut a t₁ ≡ putText txt at (whole (comma (eqb k 0)))) where

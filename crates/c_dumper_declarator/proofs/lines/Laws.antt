@@ -16,14 +16,14 @@ use Rattle.spec_c_dumper.specs.alignment_once.Writers.{emitCompositeDefOnce, em
 use Rattle.btf_layout.specs.asked.Asked.{workAsks}
 use Rattle.spec_c_dumper.specs.rules.Emit.{shown}
 use Rattle.spec_c_dumper.proofs.rules.Writing.{put-only, put-nothing, put-then}
-use Rattle.spec_type_table.specs.declared.types.Btf.{Btf}
+use Rattle.spec_type_table.specs.declared.types.TypeTable.{TypeTable}
 use Rattle.spec_type_table.specs.declared.types.BtfType.{BtfType as Record}
 use Rattle.spec_type_table.specs.Names.{strAt}
 use Rattle.spec_type_table.specs.Records.{kindOf, flagOf}
 use Rattle.spec_type_table.specs.Table.{recordName, membersOf, valuesOf, values64Of, typeOf, workNaming}
 use Rattle.spec_type_table.proofs.KindLaws.{by-kind, type-0, type-1, type-2, type-3, type-4, type-5, type-6, type-7, type-8, type-9, type-10, type-11, type-12, type-13, type-14, type-15, type-16, type-17, type-18, type-19, type-none}
 
-module _ (b : Btf) (s : List ℕ) (B : Rules) (at : ℕ) (tx w : List ℕ) (id : ℕ) (t : Record) where
+module _ (b : TypeTable) (s : List ℕ) (B : Rules) (at : ℕ) (tx w : List ℕ) (id : ℕ) (t : Record) where
   -- a writer, and the line's end after it
   ended : (v : Writer (List ℕ)) (a : ℕ) (t₁ w₁ : List ℕ) (r : ℕ) (t₂ : List ℕ) → outOf a t₁ w₁ ≡ putSaid tx at (v w) → putOut r t₂ ≡ putText t₁ a (whole (ascii ";\n\n"))
       → outOf r t₂ w₁ ≡ putSaid tx at ((v ⨾ put (ascii ";\n\n")) w)

@@ -6,14 +6,14 @@ use mathlib.Core.Bool.{Bool, true, false, not, _&&_, _||_}
 use native.Mathlib.Omega.{arith}
 use lib.Dec.{ltb}
 use Rattle.spec_c_dumper.specs.rules.Order.{Table, Node, ignored, plain, listed, through, ptr, tdef, proto, comp, Mark, new, busy, done, isComp, isDone, pushIf, finish}
-use Rattle.spec_type_table.specs.declared.types.Btf.{Btf}
+use Rattle.spec_type_table.specs.declared.types.TypeTable.{TypeTable}
 use Rattle.spec_type_table.specs.Cells.{putField}
 use Rattle.spec_type_table.specs.Table.{btfOf}
 use Rattle.spec_type_table.proofs.Frame.{table-field}
 use Rattle.spec_c_dumper.specs.ceiling.Ceiling.{Told, told, halted, thenBind, eachWithin, meetWithin, enterWithin, aliasWithin, freshWithin, visitWithin, orderMetered}
 use Rattle.c_dumper_dependency_order.specs.order_state.Work.{Marks, code, workStore}
 
-module _ (b : Btf) (s : List ℕ) (w : List ℕ) (x v : ℕ) where
+module _ (b : TypeTable) (s : List ℕ) (w : List ℕ) (x v : ℕ) where
   pub table-mark : btfOf b s (putField w x 1 v) ≡ btfOf b s w
   table-mark = table-field w x 1 v (omega arith) b s (λ e. omega arith) (λ e. omega arith) (λ e. omega arith)
 
@@ -107,5 +107,5 @@ module _ {X : Type 0} (P : List ℕ → X) where
         go false h = h
 
 -- the table, in particular
-pub table-order : (b : Btf) (s : List ℕ) (c n : ℕ) (T : Table) (m : Marks) (x : ℕ) (weak : Bool) (j : ℕ) → Stays (btfOf b s) (m .work) (orderMetered workStore c n T m x weak j)
+pub table-order : (b : TypeTable) (s : List ℕ) (c n : ℕ) (T : Table) (m : Marks) (x : ℕ) (weak : Bool) (j : ℕ) → Stays (btfOf b s) (m .work) (orderMetered workStore c n T m x weak j)
 table-order b s = stays-order (btfOf b s) (table-mark b s) (table-list b s)

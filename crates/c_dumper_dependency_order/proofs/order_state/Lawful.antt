@@ -9,7 +9,7 @@ use borrow.Author.Tests.{lt-ltb}
 use Rattle.spec_bytes.specs.words.Words.{getWord, oneMore}
 use Rattle.spec_bytes.proofs.words.Laws.{get-put-same, get-put-other, put-length}
 use Rattle.spec_c_dumper.specs.rules.Order.{Mark, new, busy, done, Lawful, Framed}
-use Rattle.spec_type_table.specs.declared.types.Btf.{Btf}
+use Rattle.spec_type_table.specs.declared.types.TypeTable.{TypeTable}
 use Rattle.spec_type_table.specs.Cells.{getField, putField}
 use Rattle.spec_type_table.specs.Table.{from, btfOf}
 use Rattle.c_dumper_dependency_order.specs.order_state.Work.{Marks, markOf, code, workStore}
@@ -116,7 +116,7 @@ module _ (n : ℕ) where
   }
 
   -- and so the type table
-  pub table-framed : (b : Btf) (s : List ℕ) → Framed workStore n (Long n) (λ m m′. btfOf b s (m′ .work) ≡ btfOf b s (m .work))
+  pub table-framed : (b : TypeTable) (s : List ℕ) → Framed workStore n (Long n) (λ m m′. btfOf b s (m′ .work) ≡ btfOf b s (m .work))
   unfolding workStore
   table-framed b s = record {
     fr-same = λ m. refl;

@@ -9,7 +9,7 @@ use lib.Dec.{eqb}
 use borrow.Author.Tests.{ne-eqb, lt-ltb, le-ltb}
 use Rattle.spec_c_dumper.specs.rules.Order.{Table, Mark, new, busy, done, isComp, isDone, pushIf, finish}
 use Rattle.spec_c_dumper.specs.rules.Types.{BtfType, nodeOf, isNamed, tableOf}
-use Rattle.spec_type_table.specs.declared.types.Btf.{Btf}
+use Rattle.spec_type_table.specs.declared.types.TypeTable.{TypeTable}
 use Rattle.spec_type_table.specs.declared.types.BtfType.{BtfType as Record}
 use Rattle.spec_type_table.specs.declared.types.Entries.{Entries}
 use Rattle.spec_type_table.specs.declared.node.Node.{Node as Code}
@@ -208,7 +208,7 @@ alias-on o w id st weak r w′ z e es er =
     ∙ sym (run o w (λ m b j. aliasIn m id weak b j) z)
 
 -- ---- an id in progress
-module _ (b : Btf) (s : List ℕ) (t : Record) where
+module _ (b : TypeTable) (s : List ℕ) (t : Record) where
   comp-is : (k : ℕ) → kindOf (t .info) ≡ k → isComp (nodeOf (typeOf b s t)) ≡ (eqb k 4 || eqb k 5)
   comp-is k =
       by-kind
@@ -246,7 +246,7 @@ module _ (b : Btf) (s : List ℕ) (t : Record) where
   pub comp-no : (k : ℕ) → k ≡ kindOf (t .info) → ((k ≡ 4) ⊎ (k ≡ 5) → ⊥) → isComp (nodeOf (typeOf b s t)) ≡ false
   comp-no k e n = comp-is k (sym e) ∙ rw (ne-eqb k 4 (λ f. n (inl f)), ne-eqb k 5 (λ f. n (inr f)))
 
-module _ (b : Btf) (s : List ℕ) (w : List ℕ) (id : ℕ) (t : Record) (et : t ≡ recordById b s w id) where
+module _ (b : TypeTable) (s : List ℕ) (w : List ℕ) (id : ℕ) (t : Record) (et : t ≡ recordById b s w id) where
   pub type-at : btfOf b s w .type-by-id id ≡ typeOf b s t
   unfolding btfOf
   type-at = ap (typeOf b s) (sym et)
@@ -257,7 +257,7 @@ module _ (b : Btf) (s : List ℕ) (w : List ℕ) (id : ℕ) (t : Record) (et : t
   pub named-at : tableIn b s w .named id ≡ isNamed (typeOf b s t)
   named-at = ap isNamed type-at
 
-module _ (b : Btf) (s : List ℕ) (w : List ℕ) (o : Order) (z : o .stop ≡ 0) (id : ℕ) (weak : Bool) where
+module _ (b : TypeTable) (s : List ℕ) (w : List ℕ) (o : Order) (z : o .stop ≡ 0) (id : ℕ) (weak : Bool) where
   abbrev passes : Bool
   passes = isComp (tableIn b s w .node id) && (weak && tableIn b s w .named id)
 
@@ -333,7 +333,7 @@ module _ (T : Table) (o : Order) (w : List ℕ) (z : o .stop ≡ 0) (id left cos
       order-fresh x n2 n1 ex = opened new (is-new st n2 n1) x (λ m _ j. freshIn T (left - 1) cost m id weak j) ex refl
 
 -- ---- the table after a call is the table before it
-stays-run : (b : Btf) (s : List ℕ) (r : Order) (w₁ w : List ℕ) → Stays (btfOf b s) w (orderOut r w₁) → r .stop ≡ 0 → btfOf b s w₁ ≡ btfOf b s w
+stays-run : (b : TypeTable) (s : List ℕ) (r : Order) (w₁ w : List ℕ) → Stays (btfOf b s) w (orderOut r w₁) → r .stop ≡ 0 → btfOf b s w₁ ≡ btfOf b s w
 stays-run b s r w₁ w h z = go (orderOut r w₁) h (going r w₁ z)
   where
     ok-work : (m m′ : Marks) (f f′ : Bool) (j j′ : ℕ) → told m f j ≡ told m′ f′ j′ → m ≡ m′
@@ -346,7 +346,7 @@ stays-run b s r w₁ w h z = go (orderOut r w₁) h (going r w₁ z)
     go (told m f j) (on e) q = ap (λ (y : Marks). btfOf b s (y .work)) (sym (ok-work m (marksOf r w₁) f (r .«is_strong») j (r .spare) q)) ∙ e
     go (halted c j) off q = absurd (ok-refused c j (marksOf r w₁) (r .«is_strong») (r .spare) q)
 
-pub same-table : (b : Btf) (s : List ℕ) (r : Order) (w₁ w : List ℕ) (k : Table → Marks → Bool → ℕ → Told Marks) → Stays (btfOf b s) w (orderOut r w₁)
+pub same-table : (b : TypeTable) (s : List ℕ) (r : Order) (w₁ w : List ℕ) (k : Table → Marks → Bool → ℕ → Told Marks) → Stays (btfOf b s) w (orderOut r w₁)
     → thenBind (orderOut r w₁) (k (tableIn b s w₁)) ≡ thenBind (orderOut r w₁) (k (tableIn b s w))
 unfolding thenBind
 same-table b s r w₁ w k h =
@@ -355,21 +355,21 @@ same-table b s r w₁ w k h =
     (λ n. ap (λ (q : Told Marks). thenBind q (k (tableIn b s w₁))) (stops r w₁ n) ∙ sym (ap (λ (q : Told Marks). thenBind q (k (tableIn b s w))) (stops r w₁ n)))
 
 -- what stands in the work at entry
-entry-stays : (b : Btf) (s : List ℕ) (o : Order) (w : List ℕ) → Stays (btfOf b s) w (orderOut o w)
+entry-stays : (b : TypeTable) (s : List ℕ) (o : Order) (w : List ℕ) → Stays (btfOf b s) w (orderOut o w)
 entry-stays b s o w = by-stop (λ q. Stays (btfOf b s) w (orderOut o w)) o (λ z. subst (Stays (btfOf b s) w) (sym (going o w z)) (on refl)) (λ n. subst (Stays (btfOf b s) w) (sym (stops o w n)) off)
 
-pub called-stays : (b : Btf) (s : List ℕ) (o : Order) (w : List ℕ) (r : Order) (w₁ : List ℕ) (y left cost : ℕ) (weak : Bool)
+pub called-stays : (b : TypeTable) (s : List ℕ) (o : Order) (w : List ℕ) (r : Order) (w₁ : List ℕ) (y left cost : ℕ) (weak : Bool)
     → orderOut r w₁ ≡ thenBind (orderOut o w) (λ m _ j. orderMetered workStore cost left (tableIn b s w) m y weak j) → Stays (btfOf b s) w (orderOut r w₁)
 called-stays b s o w r w₁ y left cost weak e =
     subst (Stays (btfOf b s) w) (sym e)
     (stays-bind (btfOf b s) w (orderOut o w) (λ m _ j. orderMetered workStore cost left (tableIn b s w) m y weak j) (entry-stays b s o w) (λ m _ j. table-order b s cost left (tableIn b s w) m y weak j))
 
 -- ---- order_new: what the code's node says of the rule's
-module _ (b : Btf) (s : List ℕ) (w : List ℕ) (id : ℕ) (t : Record) (et : t ≡ recordById b s w id) (nd : Code) (en : nodeIs b s nd ≡ nodeOf (typeOf b s t)) where
+module _ (b : TypeTable) (s : List ℕ) (w : List ℕ) (id : ℕ) (t : Record) (et : t ≡ recordById b s w id) (nd : Code) (en : nodeIs b s nd ≡ nodeOf (typeOf b s t)) where
   pub node-is : tableIn b s w .node id ≡ nodeIs b s nd
   node-is = node-at b s w id t et ∙ sym en
 
-module _ (b : Btf) (s : List ℕ) (w : List ℕ) (o : Order) (id left cost : ℕ) (weak : Bool) (t : Record) (et : t ≡ recordById b s w id) (nd : Code) (en : nodeIs b s nd ≡ nodeOf (typeOf b s t)) (x : Told Marks) where
+module _ (b : TypeTable) (s : List ℕ) (w : List ℕ) (o : Order) (id left cost : ℕ) (weak : Bool) (t : Record) (et : t ≡ recordById b s w id) (nd : Code) (en : nodeIs b s nd ≡ nodeOf (typeOf b s t)) (x : Told Marks) where
   abbrev T : Table
   T = tableIn b s w
 
@@ -439,7 +439,7 @@ each-flag f k (y ∷ ys) m p q j = go (f m y j) (λ s′ c i. each-flag f k ys s
     go (told s′ c i) h = h s′ c i
     go (halted c i) h = refl
 
-module _ (b : Btf) (s : List ℕ) (w : List ℕ) (o : Order) (id left cost : ℕ) (weak nm : Bool) (ms : List ℕ) where
+module _ (b : TypeTable) (s : List ℕ) (w : List ℕ) (o : Order) (id left cost : ℕ) (weak nm : Bool) (ms : List ℕ) where
   pub composite-passed : (r : Order) → weak && nm ≡ true → r ≡ strongOf o false → orderOut r w ≡ thenBind (orderOut o w) (λ m _ j. enterIn (tableIn b s w) left cost m id weak nm ms j)
   unfolding enterIn enterWithin
   composite-passed r e er = flagged o w false r er ∙ bind-same (orderOut o w) (λ m _ j. told m false j) (λ m _ j. enterIn (tableIn b s w) left cost m id weak nm ms j)
@@ -461,15 +461,15 @@ module _ (b : Btf) (s : List ℕ) (w : List ℕ) (o : Order) (id left cost : ℕ
       same = ap (btfOf b s) ew ∙ table-mark b s w id 1
 
 -- the word of an entry that names its type
-pub entry-word : (b : Btf) (s : List ℕ) (p q y : ℕ) → y ≡ sectionWord b s (p + 4) → p ≡ q → y ≡ sectionWord b s (q + 4)
+pub entry-word : (b : TypeTable) (s : List ℕ) (p q y : ℕ) → y ≡ sectionWord b s (p + 4) → p ≡ q → y ≡ sectionWord b s (q + 4)
 entry-word b s p q y e f = e ∙ ap (λ (n : ℕ). sectionWord b s (n + 4)) f
 
 -- ---- order_params, order_members: what is left is the whole
-pub record Rest (b : Btf) (s : List ℕ) (w₀ : List ℕ) (left cost : ℕ) (weak : Bool) (id : ℕ → ℕ) (o : Order) (vlen : ℕ) (r : Order) (w : List ℕ) (k : ℕ) : Type 0 where
+pub record Rest (b : TypeTable) (s : List ℕ) (w₀ : List ℕ) (left cost : ℕ) (weak : Bool) (id : ℕ → ℕ) (o : Order) (vlen : ℕ) (r : Order) (w : List ℕ) (k : ℕ) : Type 0 where
   pub whole : thenBind (orderOut o w₀) (λ m f j. eachWithin (wayIn (tableIn b s w₀) left cost weak) (from id 0 vlen) m f j) ≡ thenBind (orderOut r w) (λ m f j. eachWithin (wayIn (tableIn b s w₀) left cost weak) (from id k (vlen - k)) m f j)
   pub table : Stays (btfOf b s) w₀ (orderOut r w)
 
-module _ (b : Btf) (s : List ℕ) (w₀ : List ℕ) (left cost : ℕ) (weak : Bool) (id : ℕ → ℕ) (o : Order) (vlen : ℕ) where
+module _ (b : TypeTable) (s : List ℕ) (w₀ : List ℕ) (left cost : ℕ) (weak : Bool) (id : ℕ → ℕ) (o : Order) (vlen : ℕ) where
   pub rest-start : Rest b s w₀ left cost weak id o vlen o w₀ 0
   rest-start = record { whole = (let d : vlen ≡ vlen - 0 = omega arith in ap (λ (n : ℕ). thenBind (orderOut o w₀) (λ m f j. eachWithin (wayIn (tableIn b s w₀) left cost weak) (from id 0 n) m f j)) d); table = entry-stays b s o w₀ }
 
@@ -514,13 +514,13 @@ module _ (b : Btf) (s : List ℕ) (w₀ : List ℕ) (left cost : ℕ) (weak : Bo
     unfolding from eachWithin
     rest-end l = let d : vlen - k ≡ 0 = omega arith in sym (inv .whole ∙ ap (λ (n : ℕ). thenBind (orderOut r w) (λ m f j. eachWithin (wayIn (tableIn b s w₀) left cost weak) (from id k n) m f j)) d ∙ bind-ok (orderOut r w))
 
-pub params-end : (b : Btf) (s : List ℕ) (w₀ : List ℕ) (left cost : ℕ) (weak : Bool) (o : Order) (es : Entries) (r : Order) (w : List ℕ) (k : ℕ)
+pub params-end : (b : TypeTable) (s : List ℕ) (w₀ : List ℕ) (left cost : ℕ) (weak : Bool) (o : Order) (es : Entries) (r : Order) (w : List ℕ) (k : ℕ)
     → Rest b s w₀ left cost weak (λ i. sectionWord b s (paramAt (es .at) i + 4)) o (es .vlen) r w k → es .vlen ≤ k
     → orderOut r w ≡ thenBind (orderOut o w₀) (λ m f j. eachWithin (wayIn (tableIn b s w₀) left cost weak) (paramIds b s es) m f j)
 unfolding paramIds
 params-end b s w₀ left cost weak o es r w k inv l = rest-end b s w₀ left cost weak (λ i. sectionWord b s (paramAt (es .at) i + 4)) o (es .vlen) r w k inv l
 
-pub members-end : (b : Btf) (s : List ℕ) (w₀ : List ℕ) (left cost : ℕ) (weak : Bool) (o : Order) (es : Entries) (r : Order) (w : List ℕ) (k : ℕ)
+pub members-end : (b : TypeTable) (s : List ℕ) (w₀ : List ℕ) (left cost : ℕ) (weak : Bool) (o : Order) (es : Entries) (r : Order) (w : List ℕ) (k : ℕ)
     → Rest b s w₀ left cost weak (λ i. sectionWord b s (memberAt (es .at) i + 4)) o (es .vlen) r w k → es .vlen ≤ k
     → orderOut r w ≡ thenBind (orderOut o w₀) (λ m f j. eachWithin (wayIn (tableIn b s w₀) left cost weak) (memberIds b s es) m f j)
 unfolding memberIds

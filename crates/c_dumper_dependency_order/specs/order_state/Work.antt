@@ -5,7 +5,7 @@ use mathlib.Core.List.{List}
 use lib.Dec.{eqb}
 use Rattle.spec_c_dumper.specs.rules.Order.{Table, Mark, new, busy, done, Store, isComp, isDone}
 use Rattle.spec_c_dumper.specs.rules.Types.{tableOf}
-use Rattle.spec_type_table.specs.declared.types.Btf.{Btf}
+use Rattle.spec_type_table.specs.declared.types.TypeTable.{TypeTable}
 use Rattle.spec_type_table.specs.Cells.{getField, putField}
 use Rattle.spec_bytes.specs.words.Words.{oneMore}
 use Rattle.spec_type_table.specs.Table.{from, btfOf}
@@ -36,7 +36,7 @@ workStore = record {
 }
 
 -- the table that a section and the work spell, as ordering sees it
-abbrev pub tableIn : Btf → List ℕ → List ℕ → Table
+abbrev pub tableIn : TypeTable → List ℕ → List ℕ → Table
 tableIn b s w = tableOf (btfOf b s w)
 
 -- what the code's answer says, with the work at that moment: a stop is a refusal, after which nothing is said of the work; the calls that are left

@@ -14,7 +14,7 @@ use Rattle.spec_bytes.proofs.text.TextLaws.{put-fits, stays}
 use Rattle.spec_c_dumper.specs.rules.Order.{Table, Node, ignored, plain, listed, through, ptr, tdef, proto, comp, Mark, new, busy, done, Res, ok, refused, fresh, visit, order}
 use Rattle.spec_c_dumper.specs.rules.Machine.{Out, wrote, stuck, Machine, obind, eeach, emit, Sess, Answer, shut, emitted, ordered, ordering, gate, single}
 use Rattle.spec_c_dumper.specs.rules.Types.{BtfType, Btf as Rules, nodeOf, tableOf}
-use Rattle.spec_type_table.specs.declared.types.Btf.{Btf}
+use Rattle.spec_type_table.specs.declared.types.TypeTable.{TypeTable}
 use Rattle.spec_type_table.specs.declared.types.BtfType.{BtfType as Record}
 use Rattle.spec_type_table.specs.Cells.{getField}
 use Rattle.spec_type_table.specs.Records.{kindOf, recordById}
@@ -29,18 +29,19 @@ use Rattle.c_dumper_dependency_order.proofs.order_state.Frame.{table-order}
 use Rattle.c_dumper_dependency_order.proofs.order_state.Frame as ordFrame
 use Rattle.c_dumper_dependency_order.proofs.order_state.Laws.{going, stops, counted, run, is-done, is-busy, is-new, node-at}
 use Rattle.c_dumper_emit.specs.dump_type.Metered.{orderedIn, besideOf, dumpedMetered, callsIn, dumpedWithin}
-use Rattle.spec_session.specs.emission.Sheet.{Sheet, marksIn, withMarks, sheetStore, emptied, emitOut, workMachine, emitIn, listedOut, dumped, isIgnored, isIdle}
+use Rattle.spec_session.specs.emission.Sheet.{Sheet, marksIn, withMarks, sheetStore, emptied, emitOut, workMachine, emitIn, isIgnored, isIdle}
+use Rattle.spec_c_dumper.specs.rules.Request.{listedOut, dumped}
 use Rattle.spec_session.proofs.emission.Frame.{Stays, on, off, stays-then, places, places-emit}
-use Rattle.spec_session.proofs.emission.Maps.{rmap, StoreMap, map-order}
+use Rattle.spec_c_dumper.proofs.rules.Maps.{rmap, StoreMap, map-order}
 use Rattle.spec_session.proofs.emission.Laws.{sheet, goes, halts, by-out, obind-then, at-sheet, entry-stays, Rest, rest-start, rest-turn, rest-end}
 
 -- ---- the listed ids
 -- the walk, and that the list is as it was
-pub record Listing (b : Btf) (s : List ℕ) (w₀ : List ℕ) (n at : ℕ) (tx₀ : List ℕ) (p : ℕ) (tx w : List ℕ) (k : ℕ) : Type 0 where
+pub record Listing (b : TypeTable) (s : List ℕ) (w₀ : List ℕ) (n at : ℕ) (tx₀ : List ℕ) (p : ℕ) (tx w : List ℕ) (k : ℕ) : Type 0 where
   pub rest : Rest b s w₀ 512 0 (places w₀) n at tx₀ n p tx w k
   pub list : Stays places w₀ (emitOut n p tx w)
 
-module _ (b : Btf) (s : List ℕ) (w₀ : List ℕ) (n at : ℕ) (tx₀ : List ℕ) where
+module _ (b : TypeTable) (s : List ℕ) (w₀ : List ℕ) (n at : ℕ) (tx₀ : List ℕ) where
   pub listing-start : Listing b s w₀ n at tx₀ at tx₀ w₀ 0
   listing-start = record { rest = rest-start b s w₀ 512 0 (places w₀) n at tx₀ n; list = entry-stays b s places n at tx₀ w₀ }
 
@@ -86,12 +87,12 @@ module _ (t : List ℕ) (at : ℕ) where
   pub lift-order : (n : ℕ) (T : Table) (k : Marks) (x : ℕ) (weak : Bool) → order sheetStore n T (beside k) x weak ≡ lifted (order workStore n T k x weak)
   lift-order n T k x weak = map-order workStore sheetStore beside beside-map n T k x weak
 
-store-list : (b : Btf) (B : Rules) (m : Sheet) → sheetStore .list m ≡ workMachine b B .store .list m
+store-list : (b : TypeTable) (B : Rules) (m : Sheet) → sheetStore .list m ≡ workMachine b B .store .list m
 unfolding workMachine
 store-list b B m = refl
 
 -- ---- dump_metered
-module _ (b : Btf) (s w : List ℕ) (id cost spare : ℕ) (o : Order) (w₁ : List ℕ)
+module _ (b : TypeTable) (s w : List ℕ) (id cost spare : ℕ) (o : Order) (w₁ : List ℕ)
     (e : orderOut o w₁ ≡ thenBind (orderOut (record { spare = spare; len = 0; stop = 0; «is_strong» = false }) w) (λ m _ j. orderMetered workStore cost 512 (tableIn b s w) m id false j)) where
   ordered-is : orderOut o w₁ ≡ orderedIn (btfOf b s w) cost (record { work = w; len = 0 }) id spare
   ordered-is = e ∙ run (record { spare = spare; len = 0; stop = 0; «is_strong» = false }) w (λ m _ j. orderMetered workStore cost 512 (tableIn b s w) m id false j) refl
@@ -100,7 +101,7 @@ module _ (b : Btf) (s w : List ℕ) (id cost spare : ℕ) (o : Order) (w₁ : Li
   pub spare-is : o .spare ≡ countOf (orderedIn (btfOf b s w) cost (record { work = w; len = 0 }) id spare)
   spare-is = sym (counted o w₁) ∙ ap countOf ordered-is
 
-module _ (b : Btf) (s : List ℕ) (at : ℕ) (tx w : List ℕ) (id cost spare : ℕ) (o : Order) (w₁ : List ℕ)
+module _ (b : TypeTable) (s : List ℕ) (at : ℕ) (tx w : List ℕ) (id cost spare : ℕ) (o : Order) (w₁ : List ℕ)
     (e : orderOut o w₁ ≡ thenBind (orderOut (record { spare = spare; len = 0; stop = 0; «is_strong» = false }) w) (λ m _ j. orderMetered workStore cost 512 (tableIn b s w) m id false j)) where
   abbrev X : Rules
   X = btfOf b s w
@@ -169,17 +170,17 @@ unfolding besideOf tell
 beside-tell m (ok k f) left = refl
 beside-tell m (refused c) left = refl
 
-pub plain-is : (b : Btf) (B : Rules) (m : Sheet) (id left : ℕ) → dumpedMetered b B 0 m id left ≡ dumped (workMachine b B) (tableOf B) m id
+pub plain-is : (b : TypeTable) (B : Rules) (m : Sheet) (id left : ℕ) → dumpedMetered b B 0 m id left ≡ dumped (workMachine b B) (tableOf B) m id
 unfolding dumpedMetered dumped workMachine
 plain-is b B m id left =
     ap (listedOut (workMachine b B) (tableOf B))
     (ap (besideOf m) (metered-plain workStore 512 (tableOf B) (marksIn m) id false left) ∙ beside-tell m (order workStore 512 (tableOf B) (marksIn m) id false) left ∙ sym (lift-order (m .text) (m .at) 512 (tableOf B) (marksIn m) id false))
 
-pub dump-plain : (b : Btf) (B : Rules) (o : Out Sheet) (id left : ℕ) (x : Out Sheet) → x ≡ obind o (λ m. dumpedMetered b B 0 m id left) → x ≡ obind o (λ m. dumped (workMachine b B) (tableOf B) m id)
+pub dump-plain : (b : TypeTable) (B : Rules) (o : Out Sheet) (id left : ℕ) (x : Out Sheet) → x ≡ obind o (λ m. dumpedMetered b B 0 m id left) → x ≡ obind o (λ m. dumped (workMachine b B) (tableOf B) m id)
 dump-plain b B o id left x e = e ∙ ap (obind o) (λ i m. plain-is b B m id left i)
 
 -- ---- dump_type_within
-module _ (b : Btf) (s : List ℕ) (w : List ℕ) (id left : ℕ) where
+module _ (b : TypeTable) (s : List ℕ) (w : List ℕ) (id left : ℕ) where
   abbrev opens : ℕ
   opens = callsIn b s w id
 
@@ -231,7 +232,7 @@ none : (k : ℕ) → (k ≡ 12 → ⊥) → (k ≡ 14 → ⊥) → (k ≡ 15 →
 unfolding ignored-is
 none k p q r u = rw (ne-eqb k 12 p, ne-eqb k 14 q, ne-eqb k 15 r, ne-eqb k 17 u)
 
-ignored-kind : (b : Btf) (s : List ℕ) (t : Record) (k : ℕ) → kindOf (t .info) ≡ k → isIgnored (nodeOf (typeOf b s t)) ≡ ignored-is k
+ignored-kind : (b : TypeTable) (s : List ℕ) (t : Record) (k : ℕ) → kindOf (t .info) ≡ k → isIgnored (nodeOf (typeOf b s t)) ≡ ignored-is k
 unfolding isIgnored ignored-is
 ignored-kind b s t k =
     by-kind
@@ -259,7 +260,7 @@ ignored-kind b s t k =
     (λ j l e. ap (λ (y : BtfType). isIgnored (nodeOf y)) (type-none b s t (subst (λ (i : ℕ). 20 ≤ i) (sym e) l)) ∙ sym (none j (λ q. omega arith) (λ q. omega arith) (λ q. omega arith) (λ q. omega arith)))
     k
 
-module _ (b : Btf) (s : List ℕ) (w : List ℕ) (id st : ℕ) (es : st ≡ getField w id 1) where
+module _ (b : TypeTable) (s : List ℕ) (w : List ℕ) (id st : ℕ) (es : st ≡ getField w id 1) where
   mark-is : (d : Mark) → markOf st ≡ d → isIdle d (tableIn b s w .node id) ≡ isIdle (markOf (getField w id 1)) (tableIn b s w .node id)
   mark-is d e = ap (λ (x : Mark). isIdle x (tableIn b s w .node id)) (sym (ap markOf (sym es) ∙ e))
 
@@ -294,7 +295,7 @@ module _ (b : Btf) (s : List ℕ) (w : List ℕ) (id st : ℕ) (es : st ≡ getF
     idle-no p q r u = sym (none k p q r u) ∙ kind-is
 
 -- A request for an idle id leaves the text and the work as they were.
-module _ (b : Btf) (B : Rules) (at : ℕ) (tx w : List ℕ) (id : ℕ) where
+module _ (b : TypeTable) (B : Rules) (at : ℕ) (tx w : List ℕ) (id : ℕ) where
   quiet : (f : Bool) → listedOut (workMachine b B) (tableOf B) (ok (sheet 0 at tx w) f) ≡ wrote (sheet 0 at tx w)
   unfolding listedOut workMachine sheetStore workStore from eeach obind emptied
   quiet f = refl
@@ -328,7 +329,7 @@ module _ (b : Btf) (B : Rules) (at : ℕ) (tx w : List ℕ) (id : ℕ) where
   idle-request e = idle-order 511 e
 
 -- and opens one call
-module _ (b : Btf) (s : List ℕ) (w : List ℕ) (id : ℕ) where
+module _ (b : TypeTable) (s : List ℕ) (w : List ℕ) (id : ℕ) where
   idle-fresh : (rec : Marks → ℕ → Bool → Res Marks) (count : Marks → ℕ → Bool → ℕ) (m : Marks) (nd : Node) → isIgnored nd ≡ true → callsFresh workStore (tableIn b s w) rec count m id false nd ≡ 0
   unfolding isIgnored callsFresh
   idle-fresh rec count m ignored e = refl

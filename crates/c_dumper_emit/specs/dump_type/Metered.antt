@@ -7,11 +7,12 @@ use lib.Dec.{leb}
 use Rattle.spec_c_dumper.specs.rules.Order.{Res, ok, refused}
 use Rattle.spec_c_dumper.specs.rules.Machine.{Out, stuck}
 use Rattle.spec_c_dumper.specs.rules.Types.{Btf as Rules, tableOf}
-use Rattle.spec_type_table.specs.declared.types.Btf.{Btf}
+use Rattle.spec_type_table.specs.declared.types.TypeTable.{TypeTable}
 use Rattle.spec_type_table.specs.Table.{btfOf}
 use Rattle.spec_c_dumper.specs.ceiling.Ceiling.{Told, told, halted, orderMetered, calls}
 use Rattle.c_dumper_dependency_order.specs.order_state.Work.{Marks, workStore}
-use Rattle.spec_session.specs.emission.Sheet.{Sheet, marksIn, withMarks, workMachine, listedOut, dumped}
+use Rattle.spec_session.specs.emission.Sheet.{Sheet, marksIn, withMarks, workMachine}
+use Rattle.spec_c_dumper.specs.rules.Request.{listedOut, dumped}
 
 -- ordering as a request starts it, over a work whose order list is empty
 abbrev pub orderedIn : Rules → ℕ → Marks → ℕ → ℕ → Told Marks
@@ -22,16 +23,16 @@ unfoldable pub besideOf : Sheet → Told Marks → Res Sheet
 besideOf m (told k strong left) = ok (withMarks m k) strong
 besideOf m (halted c left) = refused c
 
-unfoldable pub dumpedMetered : Btf → Rules → ℕ → Sheet → ℕ → ℕ → Out Sheet
+unfoldable pub dumpedMetered : TypeTable → Rules → ℕ → Sheet → ℕ → ℕ → Out Sheet
 dumpedMetered b B cost m x left = listedOut (workMachine b B) (tableOf B) (besideOf m (orderedIn B cost (marksIn m) x left))
 
 -- ---- a request under a ceiling, by the calls that the rules open
 
 -- the calls of ordering that a request for an id opens
-unfoldable pub callsIn : Btf → List ℕ → List ℕ → ℕ → ℕ
+unfoldable pub callsIn : TypeTable → List ℕ → List ℕ → ℕ → ℕ
 callsIn b s w id = calls workStore 512 (tableOf (btfOf b s w)) (record { work = w; len = 0 }) id false
 
 -- with so many calls left: the plain request, or "22 when one more call would pass the ceiling". That this is so of the rules' steps, with the test
 -- of 22 after that of 12 at each call, is `order-is` (ceiling/proofs/Counted).
-unfoldable pub dumpedWithin : Btf → Rules → ℕ → ℕ → Sheet → ℕ → Out Sheet
+unfoldable pub dumpedWithin : TypeTable → Rules → ℕ → ℕ → Sheet → ℕ → Out Sheet
 dumpedWithin b B opens left m x = elim (leb opens left) [ true ↦ dumped (workMachine b B) (tableOf B) m x | false ↦ stuck 22 ]

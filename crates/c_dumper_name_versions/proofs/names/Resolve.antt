@@ -9,7 +9,7 @@ use Rattle.spec_c_dumper.specs.rules.Types.{isEmpty}
 use Rattle.spec_c_dumper.specs.rules.Writer.{Said, saidText, saidNames, Writer, put}
 use Rattle.spec_c_dumper.specs.rules.Place.{outOf, putSaid}
 use Rattle.spec_c_dumper.specs.rules.Names.{Space, Resolved, spelled, resolving, resolveTypeName, resolveName}
-use Rattle.spec_type_table.specs.declared.types.Btf.{Btf}
+use Rattle.spec_type_table.specs.declared.types.TypeTable.{TypeTable}
 use Rattle.spec_type_table.specs.Cells.{getField, putField, classP, countP, counted}
 use Rattle.spec_type_table.specs.Numbers.{numberAt}
 use Rattle.spec_type_table.specs.Names.{strAt}
@@ -25,7 +25,7 @@ put-work-of : (a a′ w w′ : List ℕ) → put a w ≡ put a′ w′ → w ≡
 unfolding put saidNames
 put-work-of a a′ w w′ e = ap (λ (x : Said (List ℕ)). saidNames x) e
 
-module _ (b : Btf) (space : Space) (id : ℕ) (name w : List ℕ) where
+module _ (b : TypeTable) (space : Space) (id : ℕ) (name w : List ℕ) where
   no-name : (k : List ℕ → Writer (List ℕ)) → isEmpty name ≡ true → resolveTypeName (workNaming b) space id name k w ≡ k name w
   unfolding resolveTypeName
   no-name k e = rw (e, resolveTypeName)
@@ -48,7 +48,7 @@ module _ (types id : ℕ) (w : List ℕ) where
       rw (z, typeVersionIn) (λ i. record { version = en i; names = (e₂ ∙ ap₂ (λ (x : List ℕ) (y : ℕ). putField x id 4 y) e₁ en) i })
 
 -- ---- resolve_type_name's own returns
-module _ (b : Btf) (space : Space) (id : ℕ) (name w : List ℕ) where
+module _ (b : TypeTable) (space : Space) (id : ℕ) (name w : List ℕ) where
   -- a name that is empty
   pub type-empty : (x : List ℕ) → isEmpty name ≡ true → x ≡ name → put x w ≡ resolveTypeName (workNaming b) space id name put w
   type-empty x h e = ap (λ (y : List ℕ). put y w) e ∙ sym (no-name b space id name w put h)
@@ -89,7 +89,7 @@ module _ (types e : ℕ) (w : List ℕ) where
 -- ---- the laws of use
 
 -- whatever is written with a resolved name: for both spaces of names, which the work does not tell apart
-pub resolved-type : (b : Btf) (space₀ space : Space) (id : ℕ) (name n w w′ : List ℕ) (k : List ℕ → Writer (List ℕ))
+pub resolved-type : (b : TypeTable) (space₀ space : Space) (id : ℕ) (name n w w′ : List ℕ) (k : List ℕ → Writer (List ℕ))
     → put n w′ ≡ resolveTypeName (workNaming b) space₀ id name put w → k n w′ ≡ resolveTypeName (workNaming b) space id name k w
 resolved-type b space₀ space id name n w w′ k e = go (isEmpty name) refl
   where
@@ -102,13 +102,13 @@ resolved-type b space₀ space id name n w w′ k e = go (isEmpty name) refl
         ap₂ (λ (x y : List ℕ). k x y) (put-name-of _ _ _ _ q) (put-work-of _ _ _ _ q) ∙ sym (some-name b space id name w k h)
 
 -- after resolve_type_name
-pub put-type-name : (b : Btf) (space₀ space : Space) (id : ℕ) (name n w w′ : List ℕ) (k : List ℕ → Writer (List ℕ)) (t : List ℕ) (at r : ℕ) (t″ w″ : List ℕ)
+pub put-type-name : (b : TypeTable) (space₀ space : Space) (id : ℕ) (name n w w′ : List ℕ) (k : List ℕ → Writer (List ℕ)) (t : List ℕ) (at r : ℕ) (t″ w″ : List ℕ)
     → put n w′ ≡ resolveTypeName (workNaming b) space₀ id name put w → outOf r t″ w″ ≡ putSaid t at (k n w′)
     → outOf r t″ w″ ≡ putSaid t at (resolveTypeName (workNaming b) space id name k w)
 put-type-name b space₀ space id name n w w′ k t at r t″ w″ e o = o ∙ ap (putSaid t at) (resolved-type b space₀ space id name n w w′ k e)
 
 -- after resolve_name, of enumerator e, which is value i of enum id
-pub resolved-value : (b : Btf) (s : List ℕ) (id i e off : ℕ) (n : Name) (w w′ : List ℕ) (k : List ℕ → Writer (List ℕ))
+pub resolved-value : (b : TypeTable) (s : List ℕ) (id i e off : ℕ) (n : Name) (w w′ : List ℕ) (k : List ℕ → Writer (List ℕ))
     → e ≡ enumeratorOf w id i
     → (n .off ≡ off) × (n .version ≡ valueVersionIn (b .types) e w .version) × (w′ ≡ valueVersionIn (b .types) e w .names)
     → k (nameText b s n) w′ ≡ resolveName (workNaming b) id i (strAt b s off) k w
@@ -118,7 +118,7 @@ resolved-value b s id i e off n w w′ k ee q =
     ∙ ap (λ (x : List ℕ). k (spelled (strAt b s off) (valueVersionIn (b .types) e w .version)) x) (q .2)
     ∙ ap (λ (x : ℕ). k (spelled (strAt b s off) (valueVersionIn (b .types) x w .version)) (valueVersionIn (b .types) x w .names)) ee
 
-pub put-value-name : (b : Btf) (s : List ℕ) (id i e off : ℕ) (n : Name) (w w′ : List ℕ) (k : List ℕ → Writer (List ℕ)) (t : List ℕ) (at r : ℕ) (t″ w″ : List ℕ)
+pub put-value-name : (b : TypeTable) (s : List ℕ) (id i e off : ℕ) (n : Name) (w w′ : List ℕ) (k : List ℕ → Writer (List ℕ)) (t : List ℕ) (at r : ℕ) (t″ w″ : List ℕ)
     → e ≡ enumeratorOf w id i
     → (n .off ≡ off) × (n .version ≡ valueVersionIn (b .types) e w .version) × (w′ ≡ valueVersionIn (b .types) e w .names)
     → outOf r t″ w″ ≡ putSaid t at (k (nameText b s n) w′)

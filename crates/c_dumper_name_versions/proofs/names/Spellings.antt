@@ -11,7 +11,7 @@ use Rattle.spec_c_dumper.specs.rules.Types.{isEmpty}
 use Rattle.spec_c_dumper.specs.rules.Writer.{put}
 use Rattle.spec_c_dumper.specs.rules.Names.{spelled}
 use Rattle.spec_c_dumper.specs.rules.Decl.{sepName, emitName}
-use Rattle.spec_type_table.specs.declared.types.Btf.{Btf}
+use Rattle.spec_type_table.specs.declared.types.TypeTable.{TypeTable}
 use Rattle.spec_type_table.specs.Names.{strAt}
 use Rattle.c_dumper_name_versions.specs.declared.names.versions.Name.{Name}
 use Rattle.c_dumper_name_versions.specs.names.Spelling.{nameText, nameAfter}
@@ -38,7 +38,7 @@ module _ (name : List ℕ) (v : ℕ) where
   blank-more h = never-empty name (95 ∷ 95 ∷ []) (decimal v) 95 ∙ sym (ap isEmpty (spelled-more name v h))
 
 -- a name with no version
-pub bare-text : (b : Btf) (s : List ℕ) (n : Name) (off : ℕ) → n ≡ record { off = off; version = 0 } → nameText b s n ≡ strAt b s off
+pub bare-text : (b : TypeTable) (s : List ℕ) (n : Name) (off : ℕ) → n ≡ record { off = off; version = 0 } → nameText b s n ≡ strAt b s off
 unfolding spelled
 bare-text b s n off e = ap (nameText b s) e
 

@@ -11,7 +11,7 @@ use Rattle.spec_bytes.proofs.text.TextLaws.{put-same, put-empty, join-on}
 use Rattle.spec_c_dumper.specs.rules.Types.{DeclTag, Btf as Rules}
 use Rattle.spec_c_dumper.specs.rules.Names.{escaped}
 use Rattle.spec_c_dumper.specs.rules.Decl.{attribute, declTag, declTags}
-use Rattle.spec_type_table.specs.declared.types.Btf.{Btf}
+use Rattle.spec_type_table.specs.declared.types.TypeTable.{TypeTable}
 use Rattle.spec_type_table.specs.declared.types.BtfType.{BtfType as Record}
 use Rattle.spec_type_table.specs.Cells.{getField}
 use Rattle.spec_type_table.specs.Names.{strAt}
@@ -38,7 +38,7 @@ module _ (t : List ℕ) (at r : ℕ) (u : List ℕ) (word name : List ℕ) where
   put-worded is-attr h e = rw h e
 
 -- ---- emit_decl_tag
-module _ (b : Btf) (s : List ℕ) (comp : ℕ) (t : Record) where
+module _ (b : TypeTable) (s : List ℕ) (comp : ℕ) (t : Record) where
   no-tag : (kindOf (t .info) ≡ 17 → ⊥) → declTag comp (typeOf b s t) ≡ []
   unfolding declTag
   no-tag n =
@@ -78,7 +78,7 @@ module _ (b : Btf) (s : List ℕ) (comp : ℕ) (t : Record) where
   unfolding declTag
   this-tag e n = tag-is e ∙ rw (eq-eqb (extraWord b s t) comp n, declTag)
 
-module _ (b : Btf) (s w : List ℕ) (id comp : ℕ) (x : Record) (ex : x ≡ recordById b s w id) (text : List ℕ) (at : ℕ) where
+module _ (b : TypeTable) (s w : List ℕ) (id comp : ℕ) (x : Record) (ex : x ≡ recordById b s w id) (text : List ℕ) (at : ℕ) where
   tag-of : (l : List ℕ) → declTag comp (typeOf b s x) ≡ l → l ≡ declTag comp (btfOf b s w .type-by-id id)
   unfolding btfOf
   tag-of l e = sym e ∙ ap (λ (y : Record). declTag comp (typeOf b s y)) ex
@@ -115,7 +115,7 @@ module _ (types : ℕ) (w : List ℕ) (last x : ℕ) where
   tags-more (suc f) h k l = let e : f ≡ suc f - 1 = omega arith in rw (lt-ltb last x h, lt-ltb x types k, tagsFrom) (ap (λ (g : ℕ). x ∷ tagsFrom g types w x (getField w x 10)) e)
 
 -- what is left to write, from the tag x on, is the whole; with as many turns as are enough
-pub TagsLeft : Btf → List ℕ → List ℕ → ℕ → ℕ → List ℕ → ℕ → List ℕ → ℕ → ℕ → ℕ → Type 0
+pub TagsLeft : TypeTable → List ℕ → List ℕ → ℕ → ℕ → List ℕ → ℕ → List ℕ → ℕ → ℕ → ℕ → Type 0
 TagsLeft b s w id comp text₀ at text p last x =
     (f : ℕ)
     × (4294967296 ≤ f + last)
@@ -126,7 +126,7 @@ tags-join : (B : Rules) (comp x : ℕ) (l : List ℕ) (t : List ℕ) (at n : ℕ
 unfolding declTags join
 tags-join B comp x l t at n t′ o = join-on t at (whole (declTag comp (B .type-by-id x))) (whole (declTags B comp l)) n t′ o
 
-module _ (b : Btf) (s w : List ℕ) (id comp : ℕ) (text₀ : List ℕ) (at : ℕ) where
+module _ (b : TypeTable) (s w : List ℕ) (id comp : ℕ) (text₀ : List ℕ) (at : ℕ) where
   pub tags-start : (x : ℕ) → x ≡ getField w id 9 → TagsLeft b s w id comp text₀ at text₀ at 0 x
   unfolding TagsLeft btfOf tagsOf
   tags-start x e = (4294967296, omega arith, ap (λ (y : ℕ). putText text₀ at (whole (declTags (btfOf b s w) comp (tagsFrom 4294967296 (b .types) w 0 y)))) e)

@@ -5,12 +5,12 @@ use mathlib.Core.List.{List}
 use Rattle.spec_c_dumper.specs.rules.Types.{Name}
 use Rattle.spec_c_dumper.specs.rules.Names.{spelled}
 use Rattle.spec_c_dumper.specs.rules.Decl.{sepName}
-use Rattle.spec_type_table.specs.declared.types.Btf.{Btf}
+use Rattle.spec_type_table.specs.declared.types.TypeTable.{TypeTable}
 use Rattle.spec_type_table.specs.Names.{strAt}
 use Rattle.c_dumper_name_versions.specs.declared.names.versions.Name.{Name as Code}
 
 -- what a name prints: that at its offset, with its version
-abbrev pub nameText : Btf → List ℕ → Code → Name
+abbrev pub nameText : TypeTable → List ℕ → Code → Name
 nameText b s n = spelled (strAt b s (n .off)) (n .version)
 
 -- the bytes of emit_name

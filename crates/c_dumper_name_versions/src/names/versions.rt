@@ -8,7 +8,7 @@ use btf_type_table::cell::get_field;
 use btf_type_table::cell::put_field;
 use btf_type_table::name::is_empty;
 use btf_type_table::name::put_str;
-use spec_type_table::Btf;
+use spec_type_table::TypeTable;
 ghost use mathlib.Core.Path.{_≡_};
 ghost use Rattle.spec_bytes.specs.text.Text.{whole, putOut, putText};
 ghost use Rattle.spec_c_dumper.specs.rules.Writer.{put};
@@ -36,7 +36,7 @@ pub fn bare(off: u32) -> Name
 }
 
 // The name of type id, which it keeps; it counts as a holder when it is first asked for.
-pub fn resolve_type_name(b: Btf, section: &[u8], work: &mut [u8], id: u32, off: u32) -> Name
+pub fn resolve_type_name(b: TypeTable, section: &[u8], work: &mut [u8], id: u32, off: u32) -> Name
     ensures { λ r. ⌜ (r .off ≡ off) × (put (nameText b (now (section .entry)) r) (now (work .exit)) ≡ resolveTypeName (workNaming b) tagSpace id (strAt b (now (section .entry)) off) put (now (work .entry))) ⌝ }
 {
     if is_empty(b, section, off) {
@@ -58,7 +58,7 @@ pub fn resolve_type_name(b: Btf, section: &[u8], work: &mut [u8], id: u32, off: 
 }
 
 // The name of enumerator e, counted over all enums: each time it is printed it is one more holder.
-pub fn resolve_name(b: Btf, work: &mut [u8], e: u32, off: u32) -> Name
+pub fn resolve_name(b: TypeTable, work: &mut [u8], e: u32, off: u32) -> Name
     ensures { λ r. ⌜ (r .off ≡ off) × (r .version ≡ valueVersionIn (b .types) e (now (work .entry)) .version) × (now (work .exit) ≡ valueVersionIn (b .types) e (now (work .entry)) .names) ⌝ }
 {
     let h = (b.types as u64) + (e as u64);
@@ -71,7 +71,7 @@ pub fn resolve_name(b: Btf, work: &mut [u8], e: u32, off: u32) -> Name
     bare(off)
 }
 
-pub fn put_name(b: Btf, section: &[u8], text: &mut [u8], at: usize, name: Name) -> usize
+pub fn put_name(b: TypeTable, section: &[u8], text: &mut [u8], at: usize, name: Name) -> usize
     ensures { λ r. ⌜ putOut r (now (text .exit)) ≡ putText (now (text .entry)) at (whole (nameText b (now (section .entry)) name)) ⌝ }
 {
     let a = put_str(b, section, text, at, name.off);
@@ -83,7 +83,7 @@ pub fn put_name(b: Btf, section: &[u8], text: &mut [u8], at: usize, name: Name) 
 }
 
 // Whether nothing is printed for a name.
-pub fn is_blank(b: Btf, section: &[u8], name: Name) -> bool
+pub fn is_blank(b: TypeTable, section: &[u8], name: Name) -> bool
     ensures { λ r. ⌜ r ≡ isEmpty (nameText b (now (section .entry)) name) ⌝ }
 {
     if name.version < 2 {
@@ -93,7 +93,7 @@ pub fn is_blank(b: Btf, section: &[u8], name: Name) -> bool
 }
 
 // sep and the name: a space before it, unless it is empty.
-pub fn put_sep_name(b: Btf, section: &[u8], text: &mut [u8], at: usize, name: Name) -> usize
+pub fn put_sep_name(b: TypeTable, section: &[u8], text: &mut [u8], at: usize, name: Name) -> usize
     ensures { λ r. ⌜ putOut r (now (text .exit)) ≡ putText (now (text .entry)) at (whole (sepName (nameText b (now (section .entry)) name))) ⌝ }
 {
     if is_blank(b, section, name) {
@@ -104,7 +104,7 @@ pub fn put_sep_name(b: Btf, section: &[u8], text: &mut [u8], at: usize, name: Na
 }
 
 pub fn emit_name(
-    b: Btf,
+    b: TypeTable,
     section: &[u8],
     text: &mut [u8],
     at: usize,

@@ -11,7 +11,7 @@ use Rattle.spec_c_dumper.specs.rules.Writer.{Ask, got, no, askThen, checked, mi
 use Rattle.spec_c_dumper.specs.rules.Types.{Member, Btf as Rules}
 use Rattle.spec_c_dumper.specs.rules.Layout.{larger, getSizeOf, endOf}
 use Rattle.spec_c_dumper.specs.rules.Placing.{roundUp, sameUnit, fieldSize, fieldFits, startFits, memberFits, Extent, reached, withMember, extentOf, noExtent, sizeFits}
-use Rattle.spec_type_table.specs.declared.types.Btf.{Btf}
+use Rattle.spec_type_table.specs.declared.types.TypeTable.{TypeTable}
 use Rattle.spec_type_table.specs.declared.types.BtfType.{BtfType as Record}
 use Rattle.spec_type_table.specs.declared.types.BtfMember.{BtfMember}
 use Rattle.spec_type_table.specs.Records.{vlenOf, memberOf}
@@ -97,7 +97,7 @@ module _ (s p : Bool) (last size off w : ℕ) (q : Bool) (eq : q ≡ startFits s
     member-field n r er = let e : startFits s last off ≡ true = sym eq ∙ t in er ∙ rw (e, ne-eqb w 0 n)
 
 -- ---- field_size
-module _ (b : Btf) (s w : List ℕ) (m : BtfMember) where
+module _ (b : TypeTable) (s w : List ℕ) (m : BtfMember) where
   pub size-plain : m .«bit_size» ≡ 0 → askOf (ask.Got 0) ≡ fieldSize (btfOf b s w) (ruleMember b s m)
   unfolding askOf fieldSize
   size-plain z = rw z
@@ -146,7 +146,7 @@ module _ (B : Rules) (s p : Bool) (x : Code) (m : Member) where
     next-got q end eq f y ey = ap got ey ∙ ap (λ (z : Ask ℕ). askThen z (λ end. got (withExtent s p x size end (m .bit-offset) (m .bit-size)))) (sym (ap askOf f) ∙ eq) ∙ sym sized
 
 -- ---- extent_of: what the members from k on make of x
-module _ (B : Rules) (b : Btf) (s : List ℕ) (t : Record) (is p : Bool) where
+module _ (B : Rules) (b : TypeTable) (s : List ℕ) (t : Record) (is p : Bool) where
   pub extentRest : Extent → ℕ → Ask Extent
   extentRest x k = extentOf B is p x (from (λ i. ruleMember b s (memberOf b s t i)) k (vlenOf (t .info) - k))
 

@@ -10,7 +10,7 @@ use Rattle.spec_bytes.specs.text.Decimal.{decimal}
 use Rattle.spec_bytes.proofs.text.TextLaws.{put-seq, put-same, put-empty, put-stopped}
 use Rattle.spec_c_dumper.specs.rules.Layout.{char, Pad, padOf, padsOf, gapPads}
 use Rattle.spec_c_dumper.specs.rules.Decl.{unitWord, pads}
-use Rattle.spec_type_table.specs.declared.types.Btf.{Btf}
+use Rattle.spec_type_table.specs.declared.types.TypeTable.{TypeTable}
 use Rattle.spec_type_table.specs.Table.{btfOf}
 use Rattle.c_dumper_padding.specs.declared.units.Pad.{Pad as Code}
 use Rattle.c_dumper_padding.specs.units.Units.{unitOf, padIs}
@@ -104,10 +104,10 @@ module _ (ptr-sz bit-size gap a : ℕ) where
   put-natural lvl t at e = put-empty t at ∙ ap (λ (ps : List Pad). putText t at (whole (pads lvl ps))) e
 
 -- ---- emit_bit_padding
-pub ptr-size : (b : Btf) (s w : List ℕ) → b .«ptr_sz» ≡ btfOf b s w .ptr-sz
+pub ptr-size : (b : TypeTable) (s w : List ℕ) → b .«ptr_sz» ≡ btfOf b s w .ptr-sz
 unfolding btfOf
 ptr-size b s w = refl
 
-pub mode-is : (b : Btf) (s w : List ℕ) → b .placing ≡ btfOf b s w .placing
+pub mode-is : (b : TypeTable) (s w : List ℕ) → b .placing ≡ btfOf b s w .placing
 unfolding btfOf
 mode-is b s w = refl

@@ -6,7 +6,7 @@ use mathlib.Core.List.{List}
 use Rattle.spec_c_dumper.specs.rules.Writer.{Ask, askThen}
 use Rattle.spec_c_dumper.specs.rules.Types.{Member, Btf as Rules}
 use Rattle.spec_c_dumper.specs.rules.Placing.{Extent, extentOf, noExtent}
-use Rattle.spec_type_table.specs.declared.types.Btf.{Btf}
+use Rattle.spec_type_table.specs.declared.types.TypeTable.{TypeTable}
 use Rattle.spec_type_table.specs.Table.{btfOf}
 use Rattle.btf_layout.specs.declared.size.Ask.{Ask as Answer}
 use Rattle.btf_layout.specs.declared.size.Ask.the-variants as ask
@@ -75,7 +75,7 @@ module _ (types : ℕ) (B : Rules) (is : Bool) (id sz : ℕ) (ms : List Member) 
     unfolding askIn next byIn
     measured-got a e C eC z u′ ez = ez ∙ ap (λ (D : Rules). byIn types D is id sz ms a u) eC ∙ sym (measured-is ∙ ap (λ (y : Answer). next rest (askIn y u)) e)
 
-module _ (b : Btf) (s w : List ℕ) (is : Bool) (id sz : ℕ) (ms : List Member) (z : Packed) (u : List ℕ) where
+module _ (b : TypeTable) (s w : List ℕ) (is : Bool) (id sz : ℕ) (ms : List Member) (z : Packed) (u : List ℕ) where
   pub body-placed : b .placing ≡ true → packedIn z u ≡ measuredIn (b .types) (btfOf b s w) is id sz ms w → packedIn z u ≡ bodyIn (b .types) (btfOf b s w) is id sz ms w
   unfolding bodyIn bodyOnce measuredIn btfOf
   body-placed e ez = ez ∙ rw e

@@ -5,7 +5,7 @@ use mathlib.Core.Bool.{Bool, true, false}
 use mathlib.Core.List.{List}
 use native.Mathlib.Omega.{arith}
 use lib.ListN.{length}
-use Rattle.spec_type_table.specs.declared.types.Btf.{Btf}
+use Rattle.spec_type_table.specs.declared.types.TypeTable.{TypeTable}
 use Rattle.spec_session.specs.declared.session.Session.{Session}
 use Rattle.spec_session.specs.session.Answers.{numberOf, valueOf, answerOf}
 use Rattle.spec_session.specs.session.Turns.{Call, isCurrent, Reach, reached, refusedBy, visitsIn, settled, tableFor}
@@ -28,7 +28,7 @@ unfolding onward
 onward-few _ k (gone-on len w t) h = h len w t
 onward-few _ k (ended-by c len v t l) h = ended-by c len v t l
 
-from-few : (b : Btf) (s : List ℕ) (count id len : ℕ) (w t : List ℕ) → Few (requestedFrom b s count id len w t)
+from-few : (b : TypeTable) (s : List ℕ) (count id len : ℕ) (w t : List ℕ) → Few (requestedFrom b s count id len w t)
 unfolding requestedFrom
 from-few b s zero id len w t = gone-on len w t
 from-few b s (suc count) id len w t =

@@ -13,7 +13,7 @@ use Rattle.spec_bytes.proofs.words.Laws.{le-or-lt}
 use Rattle.spec_c_dumper.specs.rules.Order.{Table}
 use Rattle.spec_c_dumper.specs.rules.Machine.{Machine, Sess, Answer, Req, single, serve, run}
 use Rattle.spec_c_dumper.specs.rules.Names.{Names}
-use Rattle.spec_type_table.specs.declared.types.Btf.{Btf}
+use Rattle.spec_type_table.specs.declared.types.TypeTable.{TypeTable}
 use Rattle.spec_type_table.specs.Table.{btfOf}
 use Rattle.c_dumper_emit.specs.dump_type.Metered.{callsIn}
 use Rattle.btf_open_causes.specs.header.Header.{btfOf as settingsOf}
@@ -77,7 +77,7 @@ placing-kept : (m : ℕ) → m % 16 / 4 % 2 ≡ m / 4 % 2
 placing-kept m = omega arith
 
 module _ (p modes : ℕ) (s : List ℕ) (n : ℕ) (ok : openingNumber p s n ≡ 0) where
-  abbrev b : Btf
+  abbrev b : TypeTable
   b = headerOf p modes s
 
   abbrev T : Table
@@ -172,7 +172,7 @@ module _ (p modes : ℕ) (s : List ℕ) (n : ℕ) (ok : openingNumber p s n ≡ 
         let z : e ≡ 22 = sym (number-is e len) ∙ o in
         settled-shut S (length work) (length text) e len u t L′ (k len u t (ap (λ (y : ℕ). refusedBy y len u t) z))
 
-    abbrev AllShut : Btf → Type 0
+    abbrev AllShut : TypeTable → Type 0
     AllShut B = (len u : ℕ) (t : List ℕ) → requestedFromWithin c B s (B .types - 1) 1 (S .«text_len») work text 0 .reach ≡ refusedBy 22 len u t
         → Stopped (length text) len t (run X T (onesFrom (length text) (acceptedFrom c B s (B .types - 1) 1 (S .«text_len») work text 0) 1) L)
 

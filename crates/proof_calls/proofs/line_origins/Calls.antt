@@ -14,7 +14,7 @@ use Rattle.spec_c_dumper.specs.rules.Order.{Table}
 use Rattle.spec_c_dumper.specs.rules.Machine.{Machine, Sess, Answer, gate, single, every}
 use Rattle.spec_c_dumper.specs.rules.Types.{Btf as Rules, tableOf}
 use Rattle.spec_c_dumper.specs.rules.Names.{Names}
-use Rattle.spec_type_table.specs.declared.types.Btf.{Btf}
+use Rattle.spec_type_table.specs.declared.types.TypeTable.{TypeTable}
 use Rattle.spec_type_table.specs.Table.{btfOf}
 use Rattle.spec_opening.specs.Causes.{openingNumber}
 use Rattle.spec_session.specs.declared.session.Session.{Session}
@@ -29,16 +29,16 @@ use Rattle.proof_demands.specs.demands.Table.{headerOf, openedTable, machineIn}
 use Rattle.proof_demands.specs.demands.Session.{Holds}
 use Rattle.proof_demands.proofs.demands.Described.{count-described}
 use Rattle.proof_demands.proofs.demands.Session.{BothReach, both-reached, both-ended, Keeps, settle, table-is, types-is, going, current, type-keeps, types-keeps}
-use Rattle.spec_line_origins.specs.origins.Causes.{Entry, upTo, showsIn, filled, entriesIn, Told, untold, gateNoted, singleNoted, everyNoted, causesOf}
-use Rattle.spec_line_origins.specs.origins.Bytes.{CauseCall, Reached, requestedNoted, requestedFromNoted, settledNoted, leftAlone, typeCauses, typesCauses}
-use Rattle.spec_line_origins.proofs.origins.Requests.{filled-listed}
-use Rattle.spec_line_origins.proofs.origins_after.Shift.{behind, requested-shift}
+use Rattle.spec_c_dumper.specs.origins.Causes.{Entry, upTo, showsIn, filled, entriesIn, Told, untold, gateNoted, singleNoted, everyNoted, causesOf}
+use Rattle.spec_session.specs.origin_calls.Bytes.{CauseCall, Reached, requestedNoted, requestedFromNoted, settledNoted, leftAlone, typeCauses, typesCauses}
+use Rattle.spec_c_dumper.proofs.origins.Requests.{filled-listed}
+use Rattle.spec_session.proofs.origins_after.Shift.{behind, requested-shift}
 use Rattle.proof_calls.specs.line_origins.Claims.{Agrees}
 use Rattle.proof_calls.proofs.line_origins.Listing.{Listing, fills, leaves, listing-is}
 use Rattle.proof_calls.proofs.line_origins.Reach.{BothCame, request-came, from-came}
 
 module _ (p modes : ℕ) (s : List ℕ) (n : ℕ) (ok : openingNumber p s n ≡ 0) where
-  abbrev b : Btf
+  abbrev b : TypeTable
   b = headerOf p modes s
 
   abbrev B : Rules
@@ -154,7 +154,7 @@ module _ (p modes : ℕ) (s : List ℕ) (n : ℕ) (ok : openingNumber p s n ≡ 
           let few : length es ≤ c = omega arith in
           let left : c - length es ≡ entriesIn l = omega arith in
           let open-is : typeCauses S s work text x l ≡ settledNoted S (length work) (length text) l (requestedNoted (upTo (entriesIn l)) (tableFor S s) s x [] (S .«text_len») (S .visits) work text) = rw (u, typeCauses, lt-ltb x (S .types) y) in
-          along (open-is ∙ ap (λ (K : Btf). settledNoted S (length work) (length text) l (requestedNoted (upTo (entriesIn l)) K s x [] (S .«text_len») (S .visits) work text)) (table-is p modes s n ok S work text₀ L h text f same)) refl
+          along (open-is ∙ ap (λ (K : TypeTable). settledNoted S (length work) (length text) l (requestedNoted (upTo (entriesIn l)) K s x [] (S .«text_len») (S .visits) work text)) (table-is p modes s n ok S work text₀ L h text f same)) refl
           (settled-step (subst (λ (r : Reached). BothCame p modes s n ok c (length text) r single′)
           (requested-shift c b s x es (S .«text_len») (S .visits) work text ∙ ap (λ (k : ℕ). behind es (requestedNoted (upTo k) b s x [] (S .«text_len») (S .visits) work text)) left)
           (request-came p modes s n ok c told few (S .«text_len») work text (length text) (going p modes s n ok S work text₀ L h text f same o) x j (S .visits))) o)
@@ -220,7 +220,7 @@ module _ (p modes : ℕ) (s : List ℕ) (n : ℕ) (ok : openingNumber p s n ≡ 
           let open-is : typesCauses S s work text l ≡ settledNoted S (length work) (length text) l (requestedFromNoted (upTo (entriesIn l)) (tableFor S s) s (tableFor S s .types - 1) 1 [] (S .«text_len») work text) = rw (u, typesCauses) in
           let begun : Told State = record { answer = record { sess = L; number = 0 }; entries = []; zeroed = true } in
           ends-along
-          (open-is ∙ ap (λ (K : Btf). settledNoted S (length work) (length text) l (requestedFromNoted (upTo (entriesIn l)) K s (K .types - 1) 1 [] (S .«text_len») work text)) (table-is p modes s n ok S work text₀ L h text f same)
+          (open-is ∙ ap (λ (K : TypeTable). settledNoted S (length work) (length text) l (requestedFromNoted (upTo (entriesIn l)) K s (K .types - 1) 1 [] (S .«text_len») work text)) (table-is p modes s n ok S work text₀ L h text f same)
           ∙ ap (λ (k : ℕ). settledNoted S (length work) (length text) l (requestedFromNoted (upTo (entriesIn l)) b s (k - 1) 1 [] (S .«text_len») work text)) counted)
           (ap (λ (z : Bool). everyNoted X T (upTo (entriesIn l)) (showsIn B) (length text) L z) o)
           (settled-all (everyNoted X T (upTo (entriesIn l)) (showsIn B) (length text) L true)

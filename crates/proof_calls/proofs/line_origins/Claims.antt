@@ -16,8 +16,8 @@ use Rattle.proof_demands.specs.demands.Session.{After, Holds, Tells}
 use Rattle.proof_demands.specs.demands.Demands.{Lent, typesIn, ruled}
 use Rattle.proof_demands.proofs.demands.Demands.{after-sound}
 use Rattle.proof_demands.proofs.demands.Session.{after-holds}
-use Rattle.spec_line_origins.specs.origins.Causes.{upTo, showsIn, entriesIn, untold, singleNoted, listNoted, everyNoted, causesOf, oneCauses, listCauses, allCauses}
-use Rattle.spec_line_origins.specs.origins.Bytes.{typeCauses, typesCauses}
+use Rattle.spec_c_dumper.specs.origins.Causes.{upTo, showsIn, entriesIn, untold, singleNoted, listNoted, everyNoted, causesOf, oneCauses, listCauses, allCauses}
+use Rattle.spec_session.specs.origin_calls.Bytes.{typeCauses, typesCauses}
 use Rattle.session_origins.specs.lists.Several.{listFromCauses, listCausesCall}
 use Rattle.proof_calls.specs.line_origins.Claims.{Agrees, oneRuled, allRuled, listRuled, Reasoned}
 use Rattle.proof_calls.proofs.line_origins.Calls.{Stepped, agrees, type-stepped, types-stepped}

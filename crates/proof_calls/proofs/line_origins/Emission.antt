@@ -9,7 +9,7 @@ use Rattle.spec_c_dumper.specs.rules.Machine.{Out, stuck, Machine, look}
 use Rattle.spec_c_dumper.specs.needs.Needs.{kids}
 use Rattle.spec_c_dumper.proofs.needs.Alike.{BothOut, both-wrote, both-stuck}
 use Rattle.proof_demands.proofs.demands.Emission.{AlikeSteps, eeach-alike, look-alike}
-use Rattle.spec_line_origins.specs.origins.Causes.{Entry, entry, Noted, withEntries, line, causeAt, noting, emitNoted, eachListed}
+use Rattle.spec_c_dumper.specs.origins.Causes.{Entry, entry, Noted, withEntries, line, causeAt, noting, emitNoted, eachListed}
 
 -- machines in Q, and the same entries
 pub record SameNoted {M₁ M : Type 0} (Q : M₁ → M → Type 0) (s : Noted M₁) (t : Noted M) : Type 0 where

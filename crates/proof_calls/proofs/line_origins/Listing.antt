@@ -5,9 +5,9 @@ use mathlib.Core.Bool.{Bool, true, false}
 use mathlib.Core.List.{List, [], _++_, append-nil}
 use native.Mathlib.Omega.{arith}
 use lib.ListN.{length, take, drop, length-drop, take-append-drop}
-use Rattle.spec_line_origins.specs.origins.Causes.{Entry, filled}
-use Rattle.spec_line_origins.specs.origins.Claims.{Listed}
-use Rattle.spec_line_origins.proofs.origins.Listed.{listed-fits, listed-both}
+use Rattle.spec_c_dumper.specs.origins.Causes.{Entry, filled}
+use Rattle.spec_c_dumper.specs.origins.Claims.{Listed}
+use Rattle.spec_c_dumper.proofs.origins.Listed.{listed-fits, listed-both}
 
 -- the list l after requests with these entries, which zeroed what follows them; or with none, and then z says whether one before them did
 pub data Listing (l : List ℕ) (z : Bool) : List Entry → List ℕ → Bool → Type 0 where

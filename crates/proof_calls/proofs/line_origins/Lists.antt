@@ -23,9 +23,9 @@ use Rattle.spec_c_dumper.specs.needs.Lists.{Ls}
 use Rattle.spec_c_dumper.specs.needs.Session.{Known}
 use Rattle.proof_demands.specs.demands.Table.{openedTable, machineIn}
 use Rattle.proof_demands.specs.demands.Session.{Holds}
-use Rattle.spec_line_origins.specs.origins.Causes.{Entry, Led, orderLed, listedEntry, Noted, eachListed, upTo, showsIn, entriesIn, Told, dropped, emittedNoted, orderedNoted, gateNoted, singleNoted, onwardNoted, listNoted}
-use Rattle.spec_line_origins.specs.origins.Bytes.{CauseCall, typeCauses, CauseFits}
-use Rattle.spec_line_origins.proofs.origins.Bytes.{type-fits}
+use Rattle.spec_c_dumper.specs.origins.Causes.{Entry, Led, orderLed, listedEntry, Noted, eachListed, upTo, showsIn, entriesIn, Told, dropped, emittedNoted, orderedNoted, gateNoted, singleNoted, onwardNoted, listNoted}
+use Rattle.spec_session.specs.origin_calls.Bytes.{CauseCall, typeCauses, CauseFits}
+use Rattle.spec_session.proofs.origin_calls.Bytes.{type-fits}
 use Rattle.session_origins.specs.lists.Several.{front, goOn, listFromCauses}
 use Rattle.proof_calls.proofs.line_origins.Listing.{Listing, leaves, listing-size, listing-then}
 use Rattle.proof_calls.proofs.line_origins.Calls.{Stepped, type-stepped}

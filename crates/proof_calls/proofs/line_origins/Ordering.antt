@@ -9,8 +9,8 @@ use Rattle.spec_c_dumper.specs.rules.Order.{Node, ignored, plain, listed, throu
 use Rattle.spec_c_dumper.specs.needs.Needs.{kids}
 use Rattle.spec_c_dumper.proofs.needs.Ways.{clash-new, tally-mono}
 use Rattle.spec_c_dumper.proofs.needs.Alike.{Both, both, neither, AlikeStore, Live, Went, order-alike}
-use Rattle.spec_line_origins.specs.origins.Causes.{ledBy, isAround, inside, Led, ledStore, orderLed}
-use Rattle.spec_line_origins.proofs.origins.Ordering.{forgetLed, order-forgets}
+use Rattle.spec_c_dumper.specs.origins.Causes.{ledBy, isAround, inside, Led, ledStore, orderLed}
+use Rattle.spec_c_dumper.proofs.origins.Ordering.{forgetLed, order-forgets}
 
 -- what two orderings with leaders come to: states in Q and the same leaders, or the same refusal
 pub data BothLed {S₁ S : Type 0} (Q : S₁ → S → Type 0) : Res (Led S₁) → Res (Led S) → Type 0 where

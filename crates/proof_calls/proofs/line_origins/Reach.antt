@@ -14,12 +14,13 @@ use Rattle.spec_c_dumper.specs.rules.Order.{Table}
 use Rattle.spec_c_dumper.specs.rules.Machine.{Out, wrote, stuck, Machine, Sess, Answer}
 use Rattle.spec_c_dumper.specs.rules.Types.{Btf as Rules, tableOf}
 use Rattle.spec_c_dumper.specs.rules.Names.{Names}
-use Rattle.spec_type_table.specs.declared.types.Btf.{Btf}
+use Rattle.spec_type_table.specs.declared.types.TypeTable.{TypeTable}
 use Rattle.spec_type_table.specs.Table.{btfOf}
 use Rattle.spec_opening.specs.Table.{enumeratorsOf}
 use Rattle.spec_opening.specs.Opened.{workOf}
 use Rattle.spec_opening.specs.Causes.{openingNumber}
-use Rattle.spec_session.specs.emission.Sheet.{Sheet, workMachine, dumped}
+use Rattle.spec_session.specs.emission.Sheet.{Sheet, workMachine}
+use Rattle.spec_c_dumper.specs.rules.Request.{dumped}
 use Rattle.spec_session.specs.session.Turns.{Reach, reached, refusedBy, visitsIn}
 use Rattle.spec_session.specs.calls.Calls.{lentTo}
 use Rattle.spec_c_dumper.specs.needs.Lists.{Ls}
@@ -29,10 +30,10 @@ use Rattle.proof_demands.proofs.demands.Sound.{opened-wf}
 use Rattle.proof_demands.proofs.demands.Minded.{opened-sane}
 use Rattle.proof_demands.proofs.demands.Named.{opened-indexed, opened-names}
 use Rattle.proof_demands.proofs.demands.Session.{Going, BothReach, both-reached, both-ended, begins, came, positive}
-use Rattle.spec_line_origins.specs.origins.Causes.{Entry, orderLed, Noted, upTo, showsIn, Told, orderedNoted, gateNoted, singleNoted, onwardNoted, fromNoted}
-use Rattle.spec_line_origins.specs.origins.Claims.{forget, Lined}
-use Rattle.spec_line_origins.specs.origins.Bytes.{dumpedNoted, Reached, entriesAfter, cameToNoted, requestedNoted, onwardNoted as goOn, requestedFromNoted}
-use Rattle.spec_line_origins.proofs.origins.Bytes.{dumped-lined}
+use Rattle.spec_c_dumper.specs.origins.Causes.{Entry, orderLed, Noted, upTo, showsIn, Told, orderedNoted, gateNoted, singleNoted, onwardNoted, fromNoted}
+use Rattle.spec_c_dumper.specs.origins.Claims.{forget, Lined}
+use Rattle.spec_session.specs.origin_calls.Bytes.{dumpedNoted, Reached, entriesAfter, cameToNoted, requestedNoted, onwardNoted as goOn, requestedFromNoted}
+use Rattle.spec_session.proofs.origin_calls.Bytes.{dumped-lined}
 use Rattle.proof_calls.proofs.line_origins.Request.{BothTold, request-noted}
 
 abbrev numberIn : Out Sheet → ℕ
@@ -60,7 +61,7 @@ module _ (c : ℕ) (es : List Entry) (l : length es ≤ c) (F : (ℕ → Bool) �
       go (stuck k) q = l
 
 module _ (p modes : ℕ) (s : List ℕ) (n : ℕ) (ok : openingNumber p s n ≡ 0) where
-  abbrev b : Btf
+  abbrev b : TypeTable
   b = headerOf p modes s
 
   abbrev e : ℕ

@@ -10,7 +10,7 @@ use Rattle.spec_c_dumper.specs.rules.Machine.{Out, wrote, Machine, MLawful, Kep
 use Rattle.spec_c_dumper.specs.rules.Types.{Btf as Rules, tableOf}
 use Rattle.spec_c_dumper.specs.rules.Names.{Names, Naming}
 use Rattle.spec_c_dumper.proofs.rules.Related.{RelNaming}
-use Rattle.spec_type_table.specs.declared.types.Btf.{Btf}
+use Rattle.spec_type_table.specs.declared.types.TypeTable.{TypeTable}
 use Rattle.spec_type_table.specs.Table.{btfOf, workNaming}
 use Rattle.spec_session.specs.emission.Sheet.{Sheet, workMachine}
 use Rattle.spec_c_dumper.specs.needs.Needs.{WF}
@@ -25,14 +25,14 @@ use Rattle.proof_demands.specs.alignment_memory.Work.{Sane}
 use Rattle.proof_demands.specs.demands.Sheet.{Bears, Shows, BothRequest, both-refused}
 use Rattle.proof_demands.proofs.demands.Start.{start-step}
 use Rattle.proof_demands.proofs.demands.Request.{Related, alike-store, alike-steps, list-same, emitted-alike}
-use Rattle.spec_line_origins.specs.origins.Causes.{Led, orderLed, listedEntry, Noted, eachListed, Told, dropped, emittedNoted, orderedNoted}
-use Rattle.spec_line_origins.specs.origins.Claims.{forget}
-use Rattle.spec_line_origins.specs.origins.Bytes.{listedNoted, dumpedNoted, entriesAfter}
+use Rattle.spec_c_dumper.specs.origins.Causes.{Led, orderLed, listedEntry, Noted, eachListed, Told, dropped, emittedNoted, orderedNoted}
+use Rattle.spec_c_dumper.specs.origins.Claims.{forget}
+use Rattle.spec_session.specs.origin_calls.Bytes.{listedNoted, dumpedNoted, entriesAfter}
 use Rattle.proof_calls.proofs.line_origins.Ordering.{BothLed, both-led, neither-led, order-led-alike}
 use Rattle.proof_calls.proofs.line_origins.Emission.{SameNoted, listed-alike}
 
 -- w is the work after opening; the text so far is `front`, and the room of the request is `room`
-module _ (b : Btf) (e : ℕ) (s w : List ℕ) (I : Indexed b e s w) (Z : Sane b (btfOf b s w)) (N : Naming Names) (R : RelNaming (Alike b e s w) (Fits b s w) (FitsValue b s w) (workNaming b) N)
+module _ (b : TypeTable) (e : ℕ) (s w : List ℕ) (I : Indexed b e s w) (Z : Sane b (btfOf b s w)) (N : Naming Names) (R : RelNaming (Alike b e s w) (Fits b s w) (FitsValue b s w) (workNaming b) N)
     (wf : WF (tableOf (btfOf b s w))) (front : List ℕ) (room : ℕ) where
   abbrev B : Rules
   B = btfOf b s w

@@ -12,10 +12,10 @@ use Rattle.spec_session.specs.session.Answers.{numberOf, answerOf}
 use Rattle.spec_session.specs.session.Turns.{Call, isCurrent, settled, unchanged, tableFor}
 use Rattle.spec_session.specs.calls.Refusals.{notCurrent, idNotBelow, number, refusal}
 use Rattle.spec_session.specs.calls.Calls.{requested, typeCall}
-use Rattle.spec_line_origins.specs.origins.Causes.{Entry, upTo, bytesOf, filled, entriesIn}
-use Rattle.spec_line_origins.specs.origins.Bytes.{CauseCall, requestedNoted, settledNoted, leftAlone, typeCauses, CauseFits}
-use Rattle.spec_line_origins.proofs.origins.Bytes.{type-fits}
-use Rattle.spec_line_origins.proofs.origins.Listed.{bytes-length}
+use Rattle.spec_c_dumper.specs.origins.Causes.{Entry, upTo, bytesOf, filled, entriesIn}
+use Rattle.spec_session.specs.origin_calls.Bytes.{CauseCall, requestedNoted, settledNoted, leftAlone, typeCauses, CauseFits}
+use Rattle.spec_session.proofs.origin_calls.Bytes.{type-fits}
+use Rattle.spec_c_dumper.proofs.origins.Listed.{bytes-length}
 
 -- ---- a request leaves the list alone, refused, or fills it
 data View (c : Call) (d : CauseCall) (l : List ℕ) : Type 0 where

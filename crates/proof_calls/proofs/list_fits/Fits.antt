@@ -12,11 +12,11 @@ use Rattle.spec_session.specs.session.Answers.{numberOf, answerOf}
 use Rattle.spec_session.specs.session.Turns.{Call, callOf}
 use Rattle.spec_session.specs.calls.Calls.{typeCall}
 use Rattle.spec_session.specs.calls.Lists.{counted, listFrom, listCall}
-use Rattle.spec_line_origins.specs.origins.Causes.{Entry, entriesIn}
-use Rattle.spec_line_origins.specs.origins.Claims.{Listed}
-use Rattle.spec_line_origins.specs.origins.Bytes.{CauseCall, typeCauses, CauseFits}
-use Rattle.spec_line_origins.proofs.origins.Bytes.{type-fits}
-use Rattle.spec_line_origins.proofs.origins.Listed.{listed-fits, listed-both}
+use Rattle.spec_c_dumper.specs.origins.Causes.{Entry, entriesIn}
+use Rattle.spec_c_dumper.specs.origins.Claims.{Listed}
+use Rattle.spec_session.specs.origin_calls.Bytes.{CauseCall, typeCauses, CauseFits}
+use Rattle.spec_session.proofs.origin_calls.Bytes.{type-fits}
+use Rattle.spec_c_dumper.proofs.origins.Listed.{listed-fits, listed-both}
 use Rattle.session_origins.specs.lists.Several.{front, goOn, listFromCauses, listCausesCall}
 use Rattle.proof_calls.proofs.list_fits.Entries.{quiet}
 

@@ -12,11 +12,11 @@ use Rattle.spec_bytes.proofs.words.Laws.{le-or-lt}
 use Rattle.spec_c_dumper.specs.rules.Order.{Table, Res, ok, refused}
 use Rattle.spec_c_dumper.specs.rules.Machine.{Out, wrote, stuck, Machine, emit, Sess, Answer, Req, one, shut, single, serve, run}
 use Rattle.proof_demands.specs.demands.Session.{singlesFor}
-use Rattle.spec_line_origins.specs.origins.Causes.{Led, orderLed, listedEntry, Noted, upTo, always, emitNoted, Told, dropped, emittedNoted, eachListed, orderedNoted, gateNoted, singleNoted, onwardNoted, listNoted, fromNoted}
-use Rattle.spec_line_origins.specs.origins.Claims.{Numbered, Fits}
-use Rattle.spec_line_origins.proofs.origins.Ordering.{NotNone, stopped, order-not}
-use Rattle.spec_line_origins.proofs.origins.Emission.{emit-lined, each-lined}
-use Rattle.spec_line_origins.proofs.origins.Requests.{single-fits}
+use Rattle.spec_c_dumper.specs.origins.Causes.{Led, orderLed, listedEntry, Noted, upTo, always, emitNoted, Told, dropped, emittedNoted, eachListed, orderedNoted, gateNoted, singleNoted, onwardNoted, listNoted, fromNoted}
+use Rattle.spec_c_dumper.specs.origins.Claims.{Numbered, Fits}
+use Rattle.spec_c_dumper.proofs.origins.Ordering.{NotNone, stopped, order-not}
+use Rattle.spec_c_dumper.proofs.origins.Emission.{emit-lined, each-lined}
+use Rattle.spec_c_dumper.proofs.origins.Requests.{single-fits}
 use Rattle.proof_calls.specs.ceilings.Ceilings.{onesFrom}
 
 module _ {M : Type 0} (X : Machine M) (T : Table) (shows : ℕ → Bool) (nz : Numbered X) (size c : ℕ) where

@@ -20,15 +20,15 @@ use Rattle.proof_demands.specs.demands.Table.{openedTable, namesIn, machineIn}
 use Rattle.proof_demands.specs.demands.Session.{After}
 use Rattle.proof_demands.specs.demands.Demands.{Lent, typesIn, ruled, Demand2}
 use Rattle.proof_demands.proofs.demands.Demands.{delivered}
-use Rattle.spec_line_origins.specs.origins.Causes.{Led, orderLed, listedEntry, Noted, eachListed, upTo, always, showsIn, filled, entriesIn, Told, untold, dropped, emittedNoted, orderedNoted, gateNoted, singleNoted, onwardNoted, listNoted, fromNoted, everyNoted, causesOf, oneCauses, listCauses, allCauses}
-use Rattle.spec_line_origins.specs.origins.Claims.{Fits, listPlain}
-use Rattle.spec_line_origins.specs.origins.Lines.{Turns}
-use Rattle.spec_line_origins.specs.origins.Calls.{idsFrom}
-use Rattle.spec_line_origins.specs.origins.Bytes.{CauseCall, typeCauses, typesCauses}
-use Rattle.spec_line_origins.proofs.origins.Requests.{single-fits, list-fits, every-fits}
-use Rattle.spec_line_origins.proofs.origins.Numbered.{machine-numbered}
-use Rattle.spec_line_origins.proofs.origins.Lines.{Told-grown, single-grown, list-grown, every-grown, text-append}
-use Rattle.spec_line_origins.proofs.origins.Calls.{void, still}
+use Rattle.spec_c_dumper.specs.origins.Causes.{Led, orderLed, listedEntry, Noted, eachListed, upTo, always, showsIn, filled, entriesIn, Told, untold, dropped, emittedNoted, orderedNoted, gateNoted, singleNoted, onwardNoted, listNoted, fromNoted, everyNoted, causesOf, oneCauses, listCauses, allCauses}
+use Rattle.spec_c_dumper.specs.origins.Claims.{Fits, listPlain}
+use Rattle.spec_c_dumper.specs.origins.Lines.{Turns}
+use Rattle.proof_calls.specs.origins.Calls.{idsFrom}
+use Rattle.spec_session.specs.origin_calls.Bytes.{CauseCall, typeCauses, typesCauses}
+use Rattle.spec_c_dumper.proofs.origins.Requests.{single-fits, list-fits, every-fits}
+use Rattle.spec_c_dumper.proofs.origins.Numbered.{machine-numbered}
+use Rattle.spec_c_dumper.proofs.origins.Lines.{Told-grown, single-grown, list-grown, every-grown, text-append}
+use Rattle.proof_calls.proofs.origins.Calls.{void, still}
 use Rattle.session_origins.specs.lists.Several.{listCausesCall}
 use Rattle.proof_calls.specs.line_origins.Claims.{Agrees, Reasoned}
 use Rattle.proof_calls.proofs.line_origins.Claims.{calls-reasoned}

@@ -12,9 +12,9 @@ use Rattle.spec_session.specs.session.Turns.{Call}
 use Rattle.spec_session.specs.calls.Calls.{typeCall, typesCall}
 use Rattle.spec_session.specs.calls.Lists.{listCall}
 use Rattle.proof_demands.specs.demands.Session.{singlesFor, made, After, after-open, after-one, after-all, after-list}
-use Rattle.spec_line_origins.specs.origins.Causes.{entriesIn}
-use Rattle.spec_line_origins.specs.origins.Bytes.{CauseCall, CauseFits}
-use Rattle.spec_line_origins.proofs.origins.Bytes.{type-fits, types-fits}
+use Rattle.spec_c_dumper.specs.origins.Causes.{entriesIn}
+use Rattle.spec_session.specs.origin_calls.Bytes.{CauseCall, CauseFits}
+use Rattle.spec_session.proofs.origin_calls.Bytes.{type-fits, types-fits}
 use Rattle.proof_calls.proofs.list_fits.Fits.{list-fits}
 use Rattle.proof_calls.specs.ceilings.Ceilings.{upTo}
 use Rattle.proof_calls.proofs.ceilings.Plain.{type-plain as type-under, types-plain as types-under, list-plain as list-under}

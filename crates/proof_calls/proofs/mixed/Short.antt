@@ -17,9 +17,9 @@ use Rattle.spec_c_dumper.specs.needs.Session.{Known, textOf}
 use Rattle.proof_demands.specs.demands.Table.{openedTable, namesIn, machineIn}
 use Rattle.proof_demands.specs.demands.Session.{Holds, singlesFor}
 use Rattle.proof_demands.specs.demands.Demands.{Lent, typesIn, ruled}
-use Rattle.spec_line_origins.specs.origins.Causes.{upTo, showsIn, entriesIn, Told, untold, singleNoted, listNoted, everyNoted, causesOf, allCauses}
-use Rattle.spec_line_origins.specs.origins.Bytes.{CauseCall, typeCauses, typesCauses}
-use Rattle.spec_line_origins.proofs.origins.Numbered.{machine-numbered}
+use Rattle.spec_c_dumper.specs.origins.Causes.{upTo, showsIn, entriesIn, Told, untold, singleNoted, listNoted, everyNoted, causesOf, allCauses}
+use Rattle.spec_session.specs.origin_calls.Bytes.{CauseCall, typeCauses, typesCauses}
+use Rattle.spec_c_dumper.proofs.origins.Numbered.{machine-numbered}
 use Rattle.session_origins.specs.lists.Several.{listFromCauses, listCausesCall}
 use Rattle.proof_calls.specs.ceilings.Ceilings.{onesFrom}
 use Rattle.proof_calls.proofs.ceilings.Shut.{Shut}

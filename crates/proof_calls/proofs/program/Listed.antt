@@ -14,7 +14,7 @@ use Rattle.spec_c_dumper.specs.rules.Types.{BtfType, Void, Int, Ptr, Array, Com
 use Rattle.spec_c_dumper.specs.rules.Listed.{tagsId, tagsFrom, listed}
 use Rattle.spec_c_dumper.specs.rules.Machine.{Sess, Answer, onward, from, every}
 use Rattle.spec_c_dumper.specs.rules.Names.{Names}
-use Rattle.spec_type_table.specs.declared.types.Btf.{Btf}
+use Rattle.spec_type_table.specs.declared.types.TypeTable.{TypeTable}
 use Rattle.spec_type_table.specs.Documented.{keptMembers, keptParams, kept}
 use Rattle.spec_type_table.specs.Table as btf
 use Rattle.btf_open_causes.specs.header.Header as header
@@ -94,15 +94,15 @@ tag-alike id (DeclTag a n t k) = refl
 tag-alike id (TypeTag a n t) = refl
 
 -- what a described type follows is what the rules see of it
-members-ids : (b : Btf) (s : List ℕ) (ms : List Member) → memberTypes (keptMembers b s ms) ≡ memberIds ms
+members-ids : (b : TypeTable) (s : List ℕ) (ms : List Member) → memberTypes (keptMembers b s ms) ≡ memberIds ms
 members-ids b s [] = refl
 members-ids b s (member n t offset size ∷ ms) = ap (λ (l : List ℕ). t ∷ l) (members-ids b s ms)
 
-params-ids : (b : Btf) (s : List ℕ) (ps : List Param) → paramTypes (keptParams b s ps) ≡ paramIds ps
+params-ids : (b : TypeTable) (s : List ℕ) (ps : List Param) → paramTypes (keptParams b s ps) ≡ paramIds ps
 params-ids b s [] = refl
 params-ids b s (param n t ∷ ps) = ap (λ (l : List ℕ). t ∷ l) (params-ids b s ps)
 
-kids-are : (b : Btf) (s : List ℕ) (d : Described) → kids (nodeOf (kept b s d)) ≡ followedIds d
+kids-are : (b : TypeTable) (s : List ℕ) (d : Described) → kids (nodeOf (kept b s d)) ≡ followedIds d
 unfolding kept
 kids-are b s (described n f z (int v a c d e g)) = refl
 kids-are b s (described n f z (ptr v)) = refl
@@ -124,7 +124,7 @@ kids-are b s (described n f z (decl-tag v c)) = refl
 kids-are b s (described n f z (type-tag v)) = refl
 kids-are b s (described n f z (enum64 es)) = refl
 
-no-tag : (b : Btf) (s : List ℕ) (d : Described) → isDeclTag d ≡ false → NoTag (kept b s d)
+no-tag : (b : TypeTable) (s : List ℕ) (d : Described) → isDeclTag d ≡ false → NoTag (kept b s d)
 unfolding kept
 no-tag b s (described n f z (int v a c d e g)) h = tt
 no-tag b s (described n f z (ptr v)) h = tt
@@ -148,11 +148,11 @@ no-tag b s (described n f z (enum64 es)) h = tt
 
 -- ---- a list of types
 
-kept-length : (b : Btf) (s : List ℕ) (ds : List Described) → length (keptAll b s ds) ≡ length ds
+kept-length : (b : TypeTable) (s : List ℕ) (ds : List Described) → length (keptAll b s ds) ≡ length ds
 kept-length b s [] = refl
 kept-length b s (d ∷ ds) = ap suc (kept-length b s ds)
 
-kept-at : (b : Btf) (s : List ℕ) (ds : List Described) (i : ℕ) → i < length ds → getD (keptAll b s ds) i Void ≡ kept b s (getD ds i voidType)
+kept-at : (b : TypeTable) (s : List ℕ) (ds : List Described) (i : ℕ) → i < length ds → getD (keptAll b s ds) i Void ≡ kept b s (getD ds i voidType)
 kept-at b s [] i l = absurd (omega (arith, l))
 kept-at b s (d ∷ ds) zero l = refl
 kept-at b s (d ∷ ds) (suc i) l = kept-at b s ds i (omega (arith, l))
@@ -180,7 +180,7 @@ module _ (s : List ℕ) (y : Bytes s) (ok : number s ≡ 0) where
   abbrev ts : List Described
   ts = describedIn s
 
-  abbrev b : Btf
+  abbrev b : TypeTable
   b = headerOf 8 0 s
 
   abbrev l : List BtfType

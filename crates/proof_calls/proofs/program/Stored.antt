@@ -17,7 +17,7 @@ use Rattle.spec_linux_btf.specs.Section.{bigEndian, littleEndian, wordOf, hdrLe
 use Rattle.spec_linux_btf.proofs.Claims.{section-ends, section-inside, section-sound-at}
 use Rattle.spec_c_dumper.specs.rules.Types as R
 use Rattle.spec_c_dumper.specs.rules.Types.{BtfType, Void, Int, Composite, Enum, Enum64, Fwd, Typedef, Func, Var, Datasec, FuncProto, Float, DeclTag, TypeTag}
-use Rattle.spec_type_table.specs.declared.types.Btf.{Btf}
+use Rattle.spec_type_table.specs.declared.types.TypeTable.{TypeTable}
 use Rattle.spec_type_table.specs.declared.types.Extra.{Extra}
 use Rattle.spec_type_table.specs.declared.types.Extra.the-variants.{Bytes, Refused}
 use Rattle.spec_type_table.specs.Names.{strAt, nameAt}
@@ -37,7 +37,7 @@ use Rattle.proof_calls.specs.program.Claims.{number, keptAll, typesIn}
 
 -- ---- a described type is kept alike where the strings stand at the same place
 
-module _ (b b′ : Btf) (s : List ℕ) (e : b .strs ≡ b′ .strs) where
+module _ (b b′ : TypeTable) (s : List ℕ) (e : b .strs ≡ b′ .strs) where
   name-by : (n : ℕ) → strAt b s n ≡ strAt b′ s n
   name-by n = ap (λ (k : ℕ). nameAt s (k + n)) e
 
@@ -119,7 +119,7 @@ extra-is v l =
 
 -- ---- the walk over the records
 
-module _ (b : Btf) (s : List ℕ) (end : ℕ) where
+module _ (b : TypeTable) (s : List ℕ) (end : ℕ) where
   -- what comes of a record at `at`, by the bytes that follow it
   abbrev goes : ℕ → ℕ → Extra → List BtfType
   goes n at x = elim x [ Bytes j ↦ typeOf b s (recordAt b s at) ∷ typesFrom b s end n (at + 12 + j) | Refused ↦ [] ]
@@ -184,11 +184,11 @@ module _ (s : List ℕ) (y : reading.Bytes s) (ok : number s ≡ 0) where
   enough = omega (arith, grows (length ts), section-ends s y hs (types-ok 8 0 s 65536 ok), inside)
 
   -- the reader of crates/vectors, with the strings at a place
-  abbrev at : ℕ → Btf
+  abbrev at : ℕ → TypeTable
   at k = record { «ptr_sz» = 8; «union_as_struct» = false; «big_endian» = bigEndian s; «strong_arrays» = false; placing = false; types = 0; strs = k }
 
   module _ (k : ℕ) where
-    abbrev b : Btf
+    abbrev b : TypeTable
     b = at k
 
     -- the bytes that follow record i

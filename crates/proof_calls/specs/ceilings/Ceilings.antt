@@ -5,7 +5,7 @@ use mathlib.Core.Path.{_≡_}
 use mathlib.Core.List.{List, [], _∷_, _++_}
 use lib.ListN.{length}
 use Rattle.spec_c_dumper.specs.rules.Machine.{Req, one, all}
-use Rattle.spec_type_table.specs.declared.types.Btf.{Btf}
+use Rattle.spec_type_table.specs.declared.types.TypeTable.{TypeTable}
 use Rattle.spec_session.specs.declared.session.Session.{Session}
 use Rattle.spec_session.specs.session.Answers.{numberOf, valueOf}
 use Rattle.spec_session.specs.session.Turns.{Call, tableFor, Reach, reached, refusedBy, visitsIn}
@@ -48,7 +48,7 @@ oneMoreIf (reached len w t) k f = suc (f len w t k)
 oneMoreIf (refusedBy e len v t) k f = 0
 
 -- of n ids from id on, with k calls of ordering made before
-unfoldable pub acceptedFrom : ℕ → Btf → List ℕ → ℕ → ℕ → ℕ → List ℕ → List ℕ → ℕ → ℕ
+unfoldable pub acceptedFrom : ℕ → TypeTable → List ℕ → ℕ → ℕ → ℕ → List ℕ → List ℕ → ℕ → ℕ
 acceptedFrom c b s zero id len w t k = 0
 acceptedFrom c b s (suc n) id len w t k = oneMoreIf (requestedWithin c b s id len (visitsIn w) w t k .reach) (requestedWithin c b s id len (visitsIn w) w t k .made) (acceptedFrom c b s n (suc id))
 

@@ -14,8 +14,8 @@ use Rattle.spec_c_dumper.specs.needs.Session.{Known, textOf}
 use Rattle.proof_demands.specs.demands.Table.{openedTable, machineIn}
 use Rattle.proof_demands.specs.demands.Session.{After, Tells}
 use Rattle.proof_demands.specs.demands.Demands.{Lent, typesIn, ruled}
-use Rattle.spec_line_origins.specs.origins.Causes.{showsIn, Causes, oneCauses, listCauses, allCauses}
-use Rattle.spec_line_origins.specs.origins.Bytes.{CauseCall, typeCauses, typesCauses}
+use Rattle.spec_c_dumper.specs.origins.Causes.{showsIn, Causes, oneCauses, listCauses, allCauses}
+use Rattle.spec_session.specs.origin_calls.Bytes.{CauseCall, typeCauses, typesCauses}
 use Rattle.session_origins.specs.lists.Several.{listCausesCall}
 
 -- a call over lent bytes, and the call over the rules

@@ -18,10 +18,10 @@ use Rattle.spec_c_dumper.specs.needs.Session.{textOf}
 use Rattle.proof_demands.specs.demands.Table.{openedTable, namesIn, machineIn}
 use Rattle.proof_demands.specs.demands.Session.{After, Tells}
 use Rattle.proof_demands.specs.demands.Demands.{Lent, typesIn, ruled, Demand2, Demand3Calls, Twice}
-use Rattle.spec_line_origins.specs.origins.Causes.{Entry, filled}
-use Rattle.spec_line_origins.specs.origins.Lines.{Turns}
-use Rattle.spec_line_origins.specs.origins.Calls.{idsFrom}
-use Rattle.spec_line_origins.specs.origins.Bytes.{CauseCall, typeCauses, typesCauses}
+use Rattle.spec_c_dumper.specs.origins.Causes.{Entry, filled}
+use Rattle.spec_c_dumper.specs.origins.Lines.{Turns}
+use Rattle.proof_calls.specs.origins.Calls.{idsFrom}
+use Rattle.spec_session.specs.origin_calls.Bytes.{CauseCall, typeCauses, typesCauses}
 use Rattle.session_origins.specs.lists.Several.{listCausesCall}
 use Rattle.proof_calls.specs.ceilings.Claims.{elevenOf}
 use Rattle.proof_calls.specs.line_origins.Claims.{Agrees, oneRuled, allRuled, listRuled}

@@ -14,7 +14,7 @@ use Rattle.session_ceiling.specs.metered.Within.{typeCallWithin, typesCallWithi
 use Rattle.session_ceiling.specs.metered.Lists.{listCallWithin}
 use Rattle.proof_demands.specs.demands.Session.{singlesFor, made}
 use Rattle.proof_demands.specs.demands.Demands.{Lent, ruled}
-use Rattle.spec_line_origins.specs.origins.Bytes.{typeCauses, typesCauses}
+use Rattle.spec_session.specs.origin_calls.Bytes.{typeCauses, typesCauses}
 use Rattle.session_origins.specs.lists.Several.{listCausesCall}
 use Rattle.proof_calls.specs.ceilings.Ceilings.{acceptedOf, onesFrom}
 use Rattle.proof_calls.specs.line_origins.Claims.{allRuled}

@@ -11,7 +11,7 @@ use Rattle.spec_c_dumper.specs.rules.Machine.{Answer, every}
 use Rattle.spec_c_dumper.specs.rules.Names.{Names}
 use Rattle.spec_c_dumper.specs.rules.Types.{BtfType, Void, Btf, tableOf}
 use Rattle.spec_c_dumper.specs.rules.Listed.{listed}
-use Rattle.spec_type_table.specs.declared.types.Btf.{Btf as Header}
+use Rattle.spec_type_table.specs.declared.types.TypeTable.{TypeTable as Header}
 use Rattle.spec_type_table.specs.Documented.{kept}
 use Rattle.spec_opening.specs.Table.{describedIn}
 use Rattle.spec_opening.specs.Causes.{openingNumber}

@@ -9,7 +9,7 @@ use Rattle.spec_c_dumper.specs.rules.Writer.{Said, said, saidText, saidNames}
 use Rattle.spec_c_dumper.specs.rules.Types.{Btf as Rules}
 use Rattle.spec_c_dumper.specs.rules.Emit.{definition, forward}
 use Rattle.spec_c_dumper.proofs.rules.Related.{RelSaid, same, rel-text, rel-names}
-use Rattle.spec_type_table.specs.declared.types.Btf.{Btf}
+use Rattle.spec_type_table.specs.declared.types.TypeTable.{TypeTable}
 use Rattle.spec_type_table.specs.Table.{workNaming}
 use Rattle.spec_c_dumper.specs.alignment_once.Once.{Known, paidTo}
 use Rattle.spec_c_dumper.specs.alignment_once.Writers.{definitionOnce, forwardOnce}
@@ -43,7 +43,7 @@ module _ (B : Rules) (w w₂ : List ℕ) (h : Memory w₂ w) where
     count = h .count ∙ m .count ∙ ap (λ (f : ℕ → Known). paidTo B f (B .type-cnt)) (λ i id. sym (recall-same id) i);
   }
 
-module _ (b : Btf) (B : Rules) (Z : Sane b B) where
+module _ (b : TypeTable) (B : Rules) (Z : Sane b B) where
   abbrev Rel : List ℕ → List ℕ → Type 0
   Rel w u = InWork b (Z .some) B (Z .small) (Z .wf) (Z .ends) (Z .few) w u
 

@@ -17,7 +17,7 @@ use Rattle.spec_c_dumper.specs.rules.Names.{Resolved}
 use Rattle.spec_c_dumper.proofs.rules.Keeps.{any-name, any-value}
 use Rattle.spec_c_dumper.proofs.rules.Related.{RelResolved, RelNaming}
 use Rattle.spec_c_dumper.specs.rules.Types.{Void, tableOf, Btf as Rules}
-use Rattle.spec_type_table.specs.declared.types.Btf.{Btf}
+use Rattle.spec_type_table.specs.declared.types.TypeTable.{TypeTable}
 use Rattle.spec_type_table.specs.Cells.{getField, putField, placeOf, classP, countP, countOf, counted, withMore}
 use Rattle.spec_type_table.specs.Numbers.{headP, nextP, takenP, takenAt, numberOver, numberAt}
 use Rattle.spec_type_table.specs.Table.{typeVersionIn, valueVersionIn, enumeratorOf, workNaming}
@@ -158,7 +158,7 @@ remembered-other types id v n w i off-align off-visits = by (eqb v 0) (leb types
     by false false = get-put-other (visited n w) (id * 16 + 15) i v (λ e. off-align (omega (arith, e))) ∙ get-put-other w (0 * 16 + 2) i _ (λ e. off-visits e)
 
 -- ---- names and memory in one work
-module _ (b : Btf) (some : 1 ≤ b .types) (B : Rules) (small : B .ptr-sz ≤ 15) (wf : WF (tableOf B)) (ends : (id : ℕ) → B .type-cnt ≤ id → B .type-by-id id ≡ Void) (few : B .type-cnt + membersTo B (B .type-cnt) < 4294967296) where
+module _ (b : TypeTable) (some : 1 ≤ b .types) (B : Rules) (small : B .ptr-sz ≤ 15) (wf : WF (tableOf B)) (ends : (id : ℕ) → B .type-cnt ≤ id → B .type-by-id id ≡ Void) (few : B .type-cnt + membersTo B (B .type-cnt) < 4294967296) where
   abbrev types : ℕ
   types = B .type-cnt
 

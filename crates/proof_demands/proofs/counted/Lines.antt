@@ -16,7 +16,7 @@ use Rattle.spec_c_dumper.specs.rules.Types.{Member, Btf as Rules}
 use Rattle.spec_c_dumper.specs.rules.Layout.{Pad}
 use Rattle.spec_c_dumper.specs.rules.Names.{Resolved, Names, Naming}
 use Rattle.spec_c_dumper.proofs.rules.Related.{RelSaid, RelW, RelNaming, rel-stop, rel-closed}
-use Rattle.spec_type_table.specs.declared.types.Btf.{Btf}
+use Rattle.spec_type_table.specs.declared.types.TypeTable.{TypeTable}
 use Rattle.spec_type_table.specs.Cells.{getField, putField, classP, countP, counted}
 use Rattle.spec_type_table.specs.Numbers.{numberAt}
 use Rattle.spec_type_table.specs.Table.{btfOf, workNaming, typeVersionIn, valueVersionIn, enumeratorOf}
@@ -80,7 +80,7 @@ module _ (n id : ℕ) (l : n ≤ id) where
       off false = refl
 
 -- w is the work after opening, N are names that are alike those in the work
-module _ (b : Btf) (e : ℕ) (s w : List ℕ) (Z : Sane b (btfOf b s w)) (room : Roomy (b .types) w) (N : Naming Names) (R : RelNaming (Alike b e s w) (Fits b s w) (FitsValue b s w) (workNaming b) N) where
+module _ (b : TypeTable) (e : ℕ) (s w : List ℕ) (Z : Sane b (btfOf b s w)) (room : Roomy (b .types) w) (N : Naming Names) (R : RelNaming (Alike b e s w) (Fits b s w) (FitsValue b s w) (workNaming b) N) where
   abbrev B : Rules
   B = btfOf b s w
 

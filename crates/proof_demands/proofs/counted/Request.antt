@@ -17,11 +17,12 @@ use Rattle.spec_c_dumper.specs.rules.Names.{Names, Naming}
 use Rattle.spec_c_dumper.specs.rules.Place.{withNames, putSaid}
 use Rattle.spec_c_dumper.specs.rules.Writer.{Said}
 use Rattle.spec_c_dumper.proofs.rules.Related.{RelSaid, same, RelNaming}
-use Rattle.spec_type_table.specs.declared.types.Btf.{Btf}
+use Rattle.spec_type_table.specs.declared.types.TypeTable.{TypeTable}
 use Rattle.spec_type_table.specs.Cells.{getField, putField}
 use Rattle.spec_type_table.specs.Table.{btfOf, workNaming}
 use Rattle.c_dumper_dependency_order.specs.order_state.Work.{code, workStore}
-use Rattle.spec_session.specs.emission.Sheet.{Sheet, sheetStore, emptied, sheetOf, lineIn, workMachine, listedOut, dumped}
+use Rattle.spec_session.specs.emission.Sheet.{Sheet, sheetStore, emptied, sheetOf, lineIn, workMachine}
+use Rattle.spec_c_dumper.specs.rules.Request.{listedOut, dumped}
 use Rattle.spec_c_dumper.specs.needs.Needs.{WF}
 use Rattle.spec_c_dumper.specs.needs.Lists.{Piece, defines, other, Ls, putLine, cannot}
 use Rattle.spec_c_dumper.specs.needs.Session.{Known, fitting, lineOf, machineBy}
@@ -51,7 +52,7 @@ emptied-aligned zero v j = refl
 emptied-aligned (suc k) v j = get-put-other (emptied k v) (k * 16 + 11) (j * 16 + 15) 0 (λ q. omega (arith, q)) ∙ emptied-aligned k v j
 
 -- w is the work after opening; the text so far is `front`, and the room of the request is `size`
-module _ (b : Btf) (e : ℕ) (s w : List ℕ) (I : Indexed b e s w) (Z : Sane b (btfOf b s w)) (room : Roomy (b .types) w) (N : Naming Names) (R : RelNaming (Alike b e s w) (Fits b s w) (FitsValue b s w) (workNaming b) N)
+module _ (b : TypeTable) (e : ℕ) (s w : List ℕ) (I : Indexed b e s w) (Z : Sane b (btfOf b s w)) (room : Roomy (b .types) w) (N : Naming Names) (R : RelNaming (Alike b e s w) (Fits b s w) (FitsValue b s w) (workNaming b) N)
     (wf : WF (tableOf (btfOf b s w))) where
   abbrev B : Rules
   B = btfOf b s w

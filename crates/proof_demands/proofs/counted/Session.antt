@@ -14,12 +14,13 @@ use Rattle.spec_c_dumper.specs.rules.Order.{Table as Types}
 use Rattle.spec_c_dumper.specs.rules.Machine.{Out, stuck, Machine, Sess, Answer, ordered, ordering, gate, single, onward, from, every, Req, one, all, serve, run}
 use Rattle.spec_c_dumper.specs.rules.Types.{Btf as Rules, tableOf}
 use Rattle.spec_c_dumper.specs.rules.Names.{Names, Naming}
-use Rattle.spec_type_table.specs.declared.types.Btf.{Btf}
+use Rattle.spec_type_table.specs.declared.types.TypeTable.{TypeTable}
 use Rattle.spec_type_table.specs.Table.{btfOf}
 use Rattle.spec_opening.specs.Table.{enumeratorsOf}
 use Rattle.spec_opening.specs.Opened.{Outcome, workOf}
 use Rattle.spec_opening.specs.Causes.{openingNumber}
-use Rattle.spec_session.specs.emission.Sheet.{Sheet, workMachine, dumped}
+use Rattle.spec_session.specs.emission.Sheet.{Sheet, workMachine}
+use Rattle.spec_c_dumper.specs.rules.Request.{dumped}
 use Rattle.spec_session.specs.declared.session.Session.{Session}
 use Rattle.spec_session.specs.session.Answers.{numberOf, answerOf}
 use Rattle.spec_session.specs.session.Turns.{Call, callOf, Reach, reached, refusedBy, settled, visitsIn}
@@ -72,7 +73,7 @@ run-then Y T [] qs S = refl
 run-then Y T (r ∷ rs) qs S = run-then Y T rs qs (serve Y T S r)
 
 module _ (p modes : ℕ) (s : List ℕ) (n : ℕ) (ok : openingNumber p s n ≡ 0) where
-  abbrev b : Btf
+  abbrev b : TypeTable
   b = headerOf p modes s
 
   abbrev e : ℕ
@@ -201,7 +202,7 @@ module _ (p modes : ℕ) (s : List ℕ) (n : ℕ) (ok : openingNumber p s n ≡ 
     type-open x o l =
         let q : typeCall S s work text x ≡ settled S (length work) room (requested b s x (S .«text_len») (S .visits) work text) =
         type-settles S s work text x (current p modes s n ok S work text₀ L h text f same o) (subst (λ (k : ℕ). x < k) (sym (types-is p modes s n ok S work text₀ L h text f same)) l)
-        ∙ ap (λ (K : Btf). settled S (length work) room (requested K s x (S .«text_len») (S .visits) work text)) (table-is p modes s n ok S work text₀ L h text f same) in
+        ∙ ap (λ (K : TypeTable). settled S (length work) room (requested K s x (S .«text_len») (S .visits) work text)) (table-is p modes s n ok S work text₀ L h text f same) in
         subst (λ (d : Call). KeptCall d (single X T room L x .sess) (single X₂ T room A x .sess)) (sym q)
         (settled-kept S (length work) room (single X T room L x .sess)
         (request-visits (S .«text_len») work text room L (going p modes s n ok S work text₀ L h text f same o) A near (sam o) x (S .visits) vis l)
@@ -233,7 +234,7 @@ module _ (p modes : ℕ) (s : List ℕ) (n : ℕ) (ok : openingNumber p s n ≡ 
     types-open o holds beside =
         let q : typesCall S s work text ≡ settled S (length work) room (requestedFrom b s (T .count - 1) 1 (S .«text_len») work text) =
         types-settle S s work text (current p modes s n ok S work text₀ L h text f same o)
-        ∙ ap (λ (K : Btf). settled S (length work) room (requestedFrom K s (K .types - 1) 1 (S .«text_len») work text)) (table-is p modes s n ok S work text₀ L h text f same)
+        ∙ ap (λ (K : TypeTable). settled S (length work) room (requestedFrom K s (K .types - 1) 1 (S .«text_len») work text)) (table-is p modes s n ok S work text₀ L h text f same)
         ∙ ap (λ (k : ℕ). settled S (length work) room (requestedFrom b s (k - 1) 1 (S .«text_len») work text)) (sym types-are) in
         subst (λ (d : Call). KeptCall d (from X T room (T .count - 1) 1 L .sess) (from X₂ T room (T .count - 1) 1 A .sess)) (sym q)
         (settled-kept S (length work) room (from X T room (T .count - 1) 1 L .sess)

@@ -8,7 +8,7 @@ use native.Mathlib.Omega.{arith}
 use lib.ListN.{length-replicate, getD-replicate}
 use lib.Dec.{eqb}
 use Rattle.spec_c_dumper.specs.rules.Order.{new}
-use Rattle.spec_type_table.specs.declared.types.Btf.{Btf}
+use Rattle.spec_type_table.specs.declared.types.TypeTable.{TypeTable}
 use Rattle.spec_type_table.specs.Cells.{getField}
 use Rattle.spec_type_table.specs.Table.{from, btfOf}
 use Rattle.spec_type_table.proofs.Laws.{place-type}
@@ -32,7 +32,7 @@ unfolding markOf
 zero-new = refl
 
 module _ (p modes : ℕ) (s : List ℕ) (n : ℕ) (ok : openingNumber p s n ≡ 0) where
-  abbrev b : Btf
+  abbrev b : TypeTable
   b = headerOf p modes s
 
   zero-word : (x f : ℕ) → x < b .types → f < 16 → f ≢ 0 → f ≢ 9 → f ≢ 10 → f ≢ 12 → f ≢ 5 → f ≢ 7 → f ≢ 8 → f ≢ 14 → getField (workOf p modes s n) x f ≡ 0

@@ -11,7 +11,7 @@ use Rattle.spec_linux_btf.specs.Documentation.{Described}
 use Rattle.spec_linux_btf.specs.Reading.{Bytes}
 use Rattle.spec_linux_btf.specs.Places.{kindP}
 use Rattle.spec_c_dumper.specs.rules.Types.{Void}
-use Rattle.spec_type_table.specs.declared.types.Btf.{Btf}
+use Rattle.spec_type_table.specs.declared.types.TypeTable.{TypeTable}
 use Rattle.spec_type_table.specs.declared.types.BtfType.{BtfType as Record}
 use Rattle.spec_type_table.specs.Records.{sectionWord, kindOf, recordAt, voidRecord}
 use Rattle.spec_type_table.specs.Table.{btfOf, typeOf}
@@ -28,12 +28,12 @@ use Rattle.spec_opening.proofs.ReadBack.{header-ok, types-ok, order-ok, types-a
 use Rattle.spec_opening.proofs.Sections.{kind-is}
 use Rattle.proof_demands.specs.demands.Table.{headerOf, openedTable, isTagFor, tagIds}
 
-pub void-type : (b : Btf) (s : List ℕ) → typeOf b s voidRecord ≡ Void
+pub void-type : (b : TypeTable) (s : List ℕ) → typeOf b s voidRecord ≡ Void
 unfolding voidRecord
 void-type b s = K.type-0 b s voidRecord refl
 
 -- a record is a DECL_TAG on type id: its kind is 17, and its third word is id
-module _ (b : Btf) (s : List ℕ) (t : Record) (id : ℕ) where
+module _ (b : TypeTable) (s : List ℕ) (t : Record) (id : ℕ) where
   abbrev Is : Bool → Bool
   Is v = elim v as (λ z. Bool) [ true ↦ eqb (t .«type_id») id | false ↦ false ]
 
@@ -69,7 +69,7 @@ module _ (b : Btf) (s : List ℕ) (t : Record) (id : ℕ) where
       far k l e = omega arith
 
 module _ (p modes : ℕ) (s : List ℕ) (n : ℕ) (ok : openingNumber p s n ≡ 0) where
-  abbrev b : Btf
+  abbrev b : TypeTable
   b = headerOf p modes s
 
   abbrev w : List ℕ

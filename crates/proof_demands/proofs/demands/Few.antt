@@ -9,7 +9,7 @@ use lib.ListN.{length}
 use borrow.Author.Tests.{lt-leb, ne-eqb}
 use Rattle.spec_bytes.proofs.words.Laws.{le-or-lt}
 use Rattle.spec_c_dumper.specs.rules.Types.{Btf as Rules}
-use Rattle.spec_type_table.specs.declared.types.Btf.{Btf}
+use Rattle.spec_type_table.specs.declared.types.TypeTable.{TypeTable}
 use Rattle.spec_type_table.specs.declared.types.BtfType.{BtfType as Record}
 use Rattle.spec_type_table.specs.Records.{sectionWord, kindOf, vlenOf, memberOf, recordAt, voidRecord, recordById}
 use Rattle.spec_type_table.specs.Cells.{getField}
@@ -37,7 +37,7 @@ unfolding from
 length-from f k zero = refl
 length-from f k (suc n) = ap suc (length-from f (k + 1) n)
 
-members-small : (b : Btf) (s : List ℕ) (t : Record) → memberCount (typeOf b s t) * 12 ≤ extra (kind (kindOf (t .info))) (vlenOf (t .info))
+members-small : (b : TypeTable) (s : List ℕ) (t : Record) → memberCount (typeOf b s t) * 12 ≤ extra (kind (kindOf (t .info))) (vlenOf (t .info))
 unfolding typeOf memberCount kind
 members-small b s t =
     by-kind (λ k. k ≡ kindOf (t .info) → memberCount (typeOf b s t) * 12 ≤ extra (kind (kindOf (t .info))) (vlenOf (t .info)))
@@ -79,7 +79,7 @@ place-end w sl (suc n) end p h l =
     (le-or-lt end p)
 
 module _ (p modes : ℕ) (s : List ℕ) (n : ℕ) (ok : openingNumber p s n ≡ 0) where
-  abbrev b : Btf
+  abbrev b : TypeTable
   b = headerOf p modes s
 
   abbrev B : Rules

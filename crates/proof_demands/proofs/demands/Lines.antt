@@ -17,7 +17,7 @@ use Rattle.spec_c_dumper.specs.rules.Names.{Names, Resolved, Naming}
 use Rattle.spec_c_dumper.specs.rules.Types.{BtfType, Btf as Rules}
 use Rattle.spec_c_dumper.specs.rules.Emit.{definition, forward}
 use Rattle.spec_c_dumper.proofs.rules.Related.{RelSaid, same, RelNaming, rel-text, rel-names, rel-definition, rel-forward}
-use Rattle.spec_type_table.specs.declared.types.Btf.{Btf}
+use Rattle.spec_type_table.specs.declared.types.TypeTable.{TypeTable}
 use Rattle.spec_type_table.specs.Cells.{getField, putField, placeOf, classP, countP, counted}
 use Rattle.spec_type_table.specs.Numbers.{headP, nextP, takenP, numberAt}
 use Rattle.btf_open_names.specs.name_classes.Classes.{recordP, keyIn, classOf}
@@ -46,7 +46,7 @@ pub record Free (types i : ℕ) : Type 0 where
   pub no-visits : i ≢ 2
   pub no-align : (id : ℕ) → i ≢ id * 16 + 15
 
-module _ (b : Btf) (i : ℕ) (z : Free (b .types) i) where
+module _ (b : TypeTable) (i : ℕ) (z : Free (b .types) i) where
   type-free : (id : ℕ) (v : List ℕ) → getWord (typeVersionIn (b .types) id v .names) i ≡ getWord v i
   unfolding typeVersionIn
   type-free id v = go (eqb (getField v id 4) 0)
@@ -86,7 +86,7 @@ module _ (b : Btf) (i : ℕ) (z : Free (b .types) i) where
       forward-keeps (λ (u : List ℕ). getWord u i) (λ u c. get-put-other u (0 * 16 + 2) i c (z .no-visits)) (λ u x c. get-put-other u (x * 16 + 15) i c (z .no-align x)) b B (λ space x name u. type-free x u) (λ x k name u. value-free (enumeratorOf u x k) u) id t v
 
 -- and the table stays
-module _ (b : Btf) (s : List ℕ) where
+module _ (b : TypeTable) (s : List ℕ) where
   pub definition-table : (B : Rules) (id : ℕ) (t : BtfType) (v : List ℕ) → btfOf b s (saidNames (definitionOnce (workAsks (b .types) B) (workNaming b) B id t v)) ≡ btfOf b s v
   unfolding workNaming
   definition-table B id t v = definition-keeps (btfOf b s) (λ u c. table-field u 0 2 c (omega arith) b s (λ q. omega arith) (λ q. omega arith) (λ q. omega arith)) (λ u x c. table-field u x 15 c (omega arith) b s (λ q. omega arith) (λ q. omega arith) (λ q. omega arith)) b B (λ space x name u. table-type-version b s u x) (λ x k name u. table-value-version b s u (enumeratorOf u x k)) id t v
@@ -140,7 +140,7 @@ pub text-other : (a : List ℕ) → textOf (other a ∷ []) ≡ a
 unfolding textOf
 text-other a = append-nil a
 
-module _ (b : Btf) (e : ℕ) (s w : List ℕ) (I : Indexed b e s w) (mk : List ℕ → Piece) (mk-text : (a : List ℕ) → textOf (mk a ∷ []) ≡ a)
+module _ (b : TypeTable) (e : ℕ) (s w : List ℕ) (I : Indexed b e s w) (mk : List ℕ → Piece) (mk-text : (a : List ℕ) → textOf (mk a ∷ []) ≡ a)
     (v : List ℕ) (len : ℕ) (t : Ls (Known Names)) (h : Bears b e s w v len t) (front text : List ℕ) (at : ℕ) (sh : Shows b e s w front text at t) where
   -- what writes names only keeps all but the names
   bears-names : (v′ : List ℕ) (u′ : Names) (n : ℕ) (ps : List Piece) → Alike b e s w v′ u′ → btfOf b s v′ ≡ btfOf b s v → ((i : ℕ) → Free (b .types) i → getWord v′ i ≡ getWord v i) → Minds (btfOf b s w) v′
@@ -200,7 +200,7 @@ module _ (b : Btf) (e : ℕ) (s w : List ℕ) (I : Indexed b e s w) (mk : List �
       go x false q = lines-stop 17
 
 -- ---- the names read no word of the memory
-pub alike-agree : (b : Btf) (e : ℕ) (s w : List ℕ) → 1 ≤ b .types → (v u : List ℕ) (n : Names) → Agree v u → Alike b e s w u n → Alike b e s w v n
+pub alike-agree : (b : TypeTable) (e : ℕ) (s w : List ℕ) → 1 ≤ b .types → (v u : List ℕ) (n : Names) → Agree v u → Alike b e s w u n → Alike b e s w v n
 alike-agree b e s w some v u n a k = record {
   kept = record {
     long = a .long ∙ k .kept .long;
@@ -224,7 +224,7 @@ alike-agree b e s w some v u n a k = record {
 
 -- ---- the lines of a session: B is the table that opening left
 -- N: names that are alike those in the work
-module _ (b : Btf) (e : ℕ) (s w : List ℕ) (I : Indexed b e s w) (Z : Sane b (btfOf b s w)) (N : Naming Names) (R : RelNaming (Alike b e s w) (Fits b s w) (FitsValue b s w) (workNaming b) N)
+module _ (b : TypeTable) (e : ℕ) (s w : List ℕ) (I : Indexed b e s w) (Z : Sane b (btfOf b s w)) (N : Naming Names) (R : RelNaming (Alike b e s w) (Fits b s w) (FitsValue b s w) (workNaming b) N)
     (v : List ℕ) (len : ℕ) (t : Ls (Known Names)) (h : Bears b e s w v len t) (front text : List ℕ) (at : ℕ) (sh : Shows b e s w front text at t) (x : ℕ) where
   abbrev B : Rules
   B = btfOf b s w

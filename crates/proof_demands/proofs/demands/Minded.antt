@@ -11,7 +11,7 @@ use lib.Dec.{ltb, eqb}
 use borrow.Author.Tests.{ltb-true}
 use Rattle.spec_bytes.specs.words.Words.{pick}
 use Rattle.spec_c_dumper.specs.rules.Types.{Void, Btf as Rules}
-use Rattle.spec_type_table.specs.declared.types.Btf.{Btf}
+use Rattle.spec_type_table.specs.declared.types.TypeTable.{TypeTable}
 use Rattle.spec_type_table.specs.Cells.{getField}
 use Rattle.spec_type_table.specs.Records.{voidRecord, recordById}
 use Rattle.spec_type_table.specs.Table.{btfOf, typeOf}
@@ -34,11 +34,11 @@ use Rattle.proof_demands.proofs.demands.Sound.{opened-wf}
 use Rattle.proof_demands.proofs.demands.Few.{few}
 
 -- past the count there is no type
-void-type : (b : Btf) (s : List ℕ) → typeOf b s voidRecord ≡ Void
+void-type : (b : TypeTable) (s : List ℕ) → typeOf b s voidRecord ≡ Void
 unfolding typeOf voidRecord
 void-type b s = refl
 
-pub ends : (b : Btf) (s w : List ℕ) (id : ℕ) → btfOf b s w .type-cnt ≤ id → btfOf b s w .type-by-id id ≡ Void
+pub ends : (b : TypeTable) (s w : List ℕ) (id : ℕ) → btfOf b s w .type-cnt ≤ id → btfOf b s w .type-by-id id ≡ Void
 unfolding btfOf
 ends b s w id l = ap (typeOf b s) (sym (past (ℕ-discrete id 0))) ∙ void-type b s
   where
@@ -47,7 +47,7 @@ ends b s w id l = ap (typeOf b s) (sym (past (ℕ-discrete id 0))) ∙ void-type
     past (no n) = void-past b s w id voidRecord n l refl
 
 module _ (p modes : ℕ) (s : List ℕ) (n : ℕ) (ok : openingNumber p s n ≡ 0) where
-  abbrev b : Btf
+  abbrev b : TypeTable
   b = headerOf p modes s
 
   abbrev B : Rules

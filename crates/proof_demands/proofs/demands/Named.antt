@@ -10,7 +10,7 @@ use lib.ListN.{getD, replicate}
 use lib.Dec.{eqb}
 use borrow.Author.Tests.{eqb-false}
 use Rattle.spec_bytes.specs.words.Words.{getWord}
-use Rattle.spec_type_table.specs.declared.types.Btf.{Btf}
+use Rattle.spec_type_table.specs.declared.types.TypeTable.{TypeTable}
 use Rattle.spec_type_table.specs.declared.types.BtfType.{BtfType as Record}
 use Rattle.spec_type_table.specs.Cells.{getField, placeOf}
 use Rattle.spec_type_table.specs.Records.{sectionWord, kindOf, vlenOf, recordAt, recordById, voidRecord}
@@ -54,7 +54,7 @@ unfolding left.valuePlace valuePlace
 same-place kind at k = refl
 
 module _ (p modes : ℕ) (s : List ℕ) (n : ℕ) (ok : openingNumber p s n ≡ 0) where
-  abbrev b : Btf
+  abbrev b : TypeTable
   b = headerOf p modes s
 
   abbrev w : List ℕ

@@ -21,7 +21,7 @@ use Rattle.spec_linux_btf.proofs.Section.{header-read, section-order, section-r
 use Rattle.spec_linux_btf.proofs.Written.{section-bytes}
 use Rattle.spec_c_dumper.specs.rules.Types as R
 use Rattle.spec_c_dumper.specs.rules.Types.{Int, Composite, Enum, Enum64, Fwd, Typedef, Func, Var, Datasec, FuncProto, Float, DeclTag, TypeTag}
-use Rattle.spec_type_table.specs.declared.types.Btf.{Btf}
+use Rattle.spec_type_table.specs.declared.types.TypeTable.{TypeTable}
 use Rattle.spec_type_table.specs.Names.{upToZero, nameAt, strAt}
 use Rattle.spec_type_table.specs.Records.{sectionWord}
 use Rattle.spec_type_table.specs.Documented.{isSet, keptMembers, keptParams, keptValues, keptValues64, kept}
@@ -71,7 +71,7 @@ other-magic s e f = rw (e, f) (none (leb 24 (length s)))
 ---------------------------------------------------------------------------------------------------------------------------------------
 -- A described type, as the Rust keeps it, depends on the section by its names alone
 
-module _ (b c : Btf) (s u : List ℕ) (same : (off : ℕ) → strAt b s off ≡ strAt c u off) where
+module _ (b c : TypeTable) (s u : List ℕ) (same : (off : ℕ) → strAt b s off ≡ strAt c u off) where
   members-same : (ms : List Member) → keptMembers b s ms ≡ keptMembers c u ms
   members-same [] = refl
   members-same (member n t o z ∷ ms) = λ i. record { name = same n i; type-id = t; bit-offset = o; bit-size = z } ∷ members-same ms i

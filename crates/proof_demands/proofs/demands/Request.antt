@@ -16,11 +16,12 @@ use Rattle.spec_c_dumper.specs.rules.Layout.{smaller}
 use Rattle.spec_c_dumper.specs.rules.Names.{Names, Naming}
 use Rattle.spec_c_dumper.proofs.rules.Related.{RelNaming}
 use Rattle.spec_c_dumper.specs.rules.Place.{Wrote}
-use Rattle.spec_type_table.specs.declared.types.Btf.{Btf}
+use Rattle.spec_type_table.specs.declared.types.TypeTable.{TypeTable}
 use Rattle.spec_type_table.specs.Table.{btfOf, workNaming}
 use Rattle.c_dumper_dependency_order.specs.order_state.Work.{workStore}
 use Rattle.c_dumper_dependency_order.proofs.order_state.Frame.{table-list}
-use Rattle.spec_session.specs.emission.Sheet.{Sheet, sheetStore, emptied, sheetOf, lineIn, workMachine, listedOut, dumped}
+use Rattle.spec_session.specs.emission.Sheet.{Sheet, sheetStore, emptied, sheetOf, lineIn, workMachine}
+use Rattle.spec_c_dumper.specs.rules.Request.{listedOut, dumped}
 use Rattle.spec_c_dumper.specs.needs.Needs.{WF}
 use Rattle.spec_c_dumper.specs.needs.Lists.{Ls, listStore}
 use Rattle.spec_c_dumper.specs.needs.Session.{Known, textOf, machineBy}
@@ -42,7 +43,7 @@ unfolding emptied
 emptied-long zero v = refl
 emptied-long (suc k) v = put-length (emptied k v) (k * 16 + 11) 0 ∙ emptied-long k v
 
-emptied-table : (b : Btf) (s : List ℕ) (k : ℕ) (v : List ℕ) → btfOf b s (emptied k v) ≡ btfOf b s v
+emptied-table : (b : TypeTable) (s : List ℕ) (k : ℕ) (v : List ℕ) → btfOf b s (emptied k v) ≡ btfOf b s v
 unfolding emptied
 emptied-table b s zero v = refl
 emptied-table b s (suc k) v = table-list b s (emptied k v) k 0 ∙ emptied-table b s k v
@@ -61,7 +62,7 @@ more-most n = go (ltb n 4294967295)
     go false = omega arith
 
 -- w is the work after opening; the text so far is `front`, and the room of the request is `room`
-module _ (b : Btf) (e : ℕ) (s w : List ℕ) (I : Indexed b e s w) (Z : Sane b (btfOf b s w)) (N : Naming Names) (R : RelNaming (Alike b e s w) (Fits b s w) (FitsValue b s w) (workNaming b) N)
+module _ (b : TypeTable) (e : ℕ) (s w : List ℕ) (I : Indexed b e s w) (Z : Sane b (btfOf b s w)) (N : Naming Names) (R : RelNaming (Alike b e s w) (Fits b s w) (FitsValue b s w) (workNaming b) N)
     (wf : WF (tableOf (btfOf b s w))) (front : List ℕ) (room : ℕ) where
   abbrev B : Rules
   B = btfOf b s w

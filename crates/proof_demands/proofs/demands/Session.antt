@@ -19,14 +19,15 @@ use Rattle.spec_c_dumper.specs.rules.Machine.{Out, stuck, Machine, Sess, Answer
 use Rattle.spec_c_dumper.specs.rules.Types.{Btf as Rules, tableOf}
 use Rattle.spec_c_dumper.specs.rules.Names.{Names}
 use Rattle.spec_c_dumper.specs.rules.Layout.{smaller}
-use Rattle.spec_type_table.specs.declared.types.Btf.{Btf}
+use Rattle.spec_type_table.specs.declared.types.TypeTable.{TypeTable}
 use Rattle.spec_type_table.specs.Table.{btfOf}
 use Rattle.btf_open_causes.specs.header.Header.{btfOf as settingsOf}
 use Rattle.spec_opening.specs.Table.{typesOf, enumeratorsOf}
 use Rattle.spec_opening.specs.Opened.{workOf, opened as soundly}
 use Rattle.spec_opening.specs.Causes.{openingNumber}
 use Rattle.spec_opening.proofs.ReadBack.{work-length}
-use Rattle.spec_session.specs.emission.Sheet.{Sheet, workMachine, dumped}
+use Rattle.spec_session.specs.emission.Sheet.{Sheet, workMachine}
+use Rattle.spec_c_dumper.specs.rules.Request.{dumped}
 use Rattle.spec_session.specs.declared.session.Session.{Session}
 use Rattle.spec_session.specs.session.Answers.{numberOf, valueOf, answerOf}
 use Rattle.spec_session.specs.session.Turns.{Call, isCurrent, Reach, reached, refusedBy, thenZeros, settled, withText, tableFor, callOf, visitsIn}
@@ -100,7 +101,7 @@ placing-kept : (m : ℕ) → m % 16 / 4 % 2 ≡ m / 4 % 2
 placing-kept m = omega arith
 
 module _ (p modes : ℕ) (s : List ℕ) (n : ℕ) (ok : openingNumber p s n ≡ 0) where
-  abbrev b : Btf
+  abbrev b : TypeTable
   b = headerOf p modes s
 
   abbrev e : ℕ
@@ -361,7 +362,7 @@ module _ (p modes : ℕ) (s : List ℕ) (n : ℕ) (ok : openingNumber p s n ≡ 
 
     type-open : (x : ℕ) → L .isOpen ≡ true → x < T .count → KeptBy (typeCall S s work text x) (single X T (length text) L x)
     type-open x o l =
-        along (type-settles S s work text x (current o) (subst (λ (k : ℕ). x < k) (sym types-is) l) ∙ ap (λ (K : Btf). settled S (length work) (length text) (requested K s x (S .«text_len») (S .visits) work text)) table-is) refl
+        along (type-settles S s work text x (current o) (subst (λ (k : ℕ). x < k) (sym types-is) l) ∙ ap (λ (K : TypeTable). settled S (length work) (length text) (requested K s x (S .«text_len») (S .visits) work text)) table-is) refl
         (settle S work text₀ L h (full-work o) (length text) (request-reach (S .«text_len») work text (length text) L (going o) x (S .visits) l))
 
     type-past : (x : ℕ) → L .isOpen ≡ true → T .count ≤ x → KeptBy (typeCall S s work text x) (single X T (length text) L x)
@@ -380,7 +381,7 @@ module _ (p modes : ℕ) (s : List ℕ) (n : ℕ) (ok : openingNumber p s n ≡ 
     types-open : L .isOpen ≡ true → KeptBy (typesCall S s work text) (from X T (length text) (T .count - 1) 1 L)
     types-open o =
         along (types-settle S s work text (current o)
-        ∙ ap (λ (K : Btf). settled S (length work) (length text) (requestedFrom K s (K .types - 1) 1 (S .«text_len») work text)) table-is
+        ∙ ap (λ (K : TypeTable). settled S (length work) (length text) (requestedFrom K s (K .types - 1) 1 (S .«text_len») work text)) table-is
         ∙ ap (λ (k : ℕ). settled S (length work) (length text) (requestedFrom b s (k - 1) 1 (S .«text_len») work text)) (sym counted)) refl
         (settle S work text₀ L h (full-work o) (length text) (from-reach (length text) (T .count - 1) 1 (omega (arith, count-described p modes s n ok)) (S .«text_len») work text L (going o)))
 

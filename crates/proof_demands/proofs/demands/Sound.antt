@@ -12,7 +12,7 @@ use Rattle.spec_bytes.proofs.words.Laws.{le-or-lt}
 use Rattle.spec_linux_btf.specs.Places.{kindP}
 use Rattle.spec_c_dumper.specs.rules.Types.{BtfType, nodeOf, memberTypes, paramTypes, tableOf}
 use Rattle.spec_c_dumper.specs.rules.Order.{Node, ignored, plain, listed, through, ptr, tdef, proto, comp, isComp, Table}
-use Rattle.spec_type_table.specs.declared.types.Btf.{Btf}
+use Rattle.spec_type_table.specs.declared.types.TypeTable.{TypeTable}
 use Rattle.spec_type_table.specs.declared.types.BtfType.{BtfType as Record}
 use Rattle.spec_type_table.specs.Records.{sectionWord, kindOf, vlenOf, memberAt, paramAt, recordAt}
 use Rattle.spec_type_table.specs.Table.{from, btfOf, typeOf, membersOf, paramsOf}
@@ -36,7 +36,7 @@ use Rattle.proof_demands.specs.demands.Table.{headerOf, openedTable}
 use Rattle.proof_demands.proofs.demands.Described.{count-is, type-zero, type-past}
 
 -- What cause 6 and cause 7 see of a record of kind k at a place, against what ordering sees of the type there. `c` is the table of opening.
-module _ (c : Btf) (s : List ℕ) (k at : ℕ) where
+module _ (c : TypeTable) (s : List ℕ) (k at : ℕ) where
   -- y is the j-th id that the record follows
   abbrev Follows : ℕ → Type 0
   Follows y = (j : ℕ) × (j < countAt c s k at) × (idAt c s k at j ≡ y)
@@ -100,9 +100,9 @@ from-mem f k (suc n) y (List·Memᴰ·tail h) =
 from-first : (f : ℕ → ℕ) (n y : ℕ) → List·Memᴰ y (from f 0 n) → (j : ℕ) × (j < n) × (f j ≡ y)
 from-first f n y h = let r = from-mem f 0 n y h in (r .0, r .1, ap f (sym (zero-add (r .0))) ∙ r .2)
 
-module _ (c : Btf) (size : ℕ) (union arrays placed : Bool) (count names : ℕ) (s : List ℕ) (at : ℕ) where
+module _ (c : TypeTable) (size : ℕ) (union arrays placed : Bool) (count names : ℕ) (s : List ℕ) (at : ℕ) where
   -- a table of the same order of bytes
-  abbrev b′ : Btf
+  abbrev b′ : TypeTable
   b′ = record { «ptr_sz» = size; «union_as_struct» = union; «big_endian» = c .«big_endian»; «strong_arrays» = arrays; placing = placed; types = count; strs = names }
 
   abbrev t : Record
@@ -169,10 +169,10 @@ module _ (c : Btf) (size : ℕ) (union arrays placed : Bool) (count names : ℕ)
 
 module _ (p modes : ℕ) (s : List ℕ) (n : ℕ) (ok : openingNumber p s n ≡ 0) where
   -- opening's own table, in which no mode matters
-  abbrev c : Btf
+  abbrev c : TypeTable
   c = causes.tableOf p s
 
-  abbrev b : Btf
+  abbrev b : TypeTable
   b = headerOf p modes s
 
   abbrev nodeAt : ℕ → Node

@@ -11,7 +11,7 @@ use Rattle.spec_bytes.specs.words.Words.{getWord}
 use Rattle.spec_bytes.proofs.words.Laws.{le-or-lt}
 use Rattle.spec_c_dumper.specs.rules.Names.{Names}
 use Rattle.spec_c_dumper.specs.rules.Types.{Btf as Rules}
-use Rattle.spec_type_table.specs.declared.types.Btf.{Btf}
+use Rattle.spec_type_table.specs.declared.types.TypeTable.{TypeTable}
 use Rattle.spec_type_table.specs.Cells.{classP, countP, placeOf}
 use Rattle.spec_type_table.specs.Numbers.{headP, nextP, takenP}
 use Rattle.spec_type_table.specs.Table.{from, btfOf}
@@ -31,7 +31,7 @@ no-list types f g h a n j m e = ⊎-elim
     (λ l. let q : h * 16 + f ≡ j * 16 + 11 = place-type types f g h l ∙ e in n (omega arith))
     (le-or-lt types h)
 
-module _ (b : Btf) (e : ℕ) (s w v v′ : List ℕ) (long : length v′ ≡ length v) (tab : btfOf b s v′ ≡ btfOf b s v)
+module _ (b : TypeTable) (e : ℕ) (s w v v′ : List ℕ) (long : length v′ ≡ length v) (tab : btfOf b s v′ ≡ btfOf b s v)
     (k : (i : ℕ) → ((j : ℕ) → j < b .types → i ≢ j * 16 + 11) → getWord v′ i ≡ getWord v i) where
   start-names : (u : Names) → Alike b e s w v u → Alike b e s w v′ u
   start-names u a = record {

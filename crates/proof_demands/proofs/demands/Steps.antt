@@ -14,7 +14,7 @@ use Rattle.spec_bytes.proofs.words.Laws.{get-put-same, get-put-other, put-lengt
 use Rattle.spec_c_dumper.specs.rules.Order.{Mark, new, busy, done}
 use Rattle.spec_c_dumper.specs.rules.Names.{Names}
 use Rattle.spec_c_dumper.specs.rules.Types.{Btf as Rules}
-use Rattle.spec_type_table.specs.declared.types.Btf.{Btf}
+use Rattle.spec_type_table.specs.declared.types.TypeTable.{TypeTable}
 use Rattle.spec_type_table.specs.Cells.{getField, putField, classP, countP, placeOf}
 use Rattle.spec_type_table.specs.Numbers.{headP, nextP, takenP}
 use Rattle.spec_type_table.specs.Table.{from, btfOf}
@@ -38,7 +38,7 @@ mark-code new = refl
 mark-code busy = refl
 mark-code done = refl
 
-module _ (b : Btf) (e : ℕ) (s w : List ℕ) (I : Indexed b e s w) where
+module _ (b : TypeTable) (e : ℕ) (s w : List ℕ) (I : Indexed b e s w) where
   -- a word of a type that names do not use
   module _ (f : ℕ) (lf : f < 16) (f0 : f ≢ 0) (f4 : f ≢ 4) (f5 : f ≢ 5) (f6 : f ≢ 6) (f7 : f ≢ 7) (f8 : f ≢ 8) (f12 : f ≢ 12) (f14 : f ≢ 14) (v : List ℕ) (u : Names) (x c : ℕ) (l : x < b .types) (a : Alike b e s w v u) where
     elsewhere : (i : ℕ) → placeOf (b .types) f 7 x ≢ i → getWord (putField v x f c) i ≡ getWord v i

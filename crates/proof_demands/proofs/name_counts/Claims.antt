@@ -20,7 +20,7 @@ use Rattle.spec_c_dumper.specs.rules.Names.{Space, tagSpace, identSpace, spelle
 use Rattle.spec_c_dumper.specs.rules.Emit.{definition, forward}
 use Rattle.spec_c_dumper.specs.rules.Machine.{Req}
 use Rattle.spec_c_dumper.proofs.rules.Related.{RelSaid, rel-text, rel-names, rel-definition, rel-forward}
-use Rattle.spec_type_table.specs.declared.types.Btf.{Btf}
+use Rattle.spec_type_table.specs.declared.types.TypeTable.{TypeTable}
 use Rattle.spec_type_table.specs.Numbers.{settled, numberOver, numberAt}
 use Rattle.spec_type_table.specs.Table.{btfOf, workNaming}
 use Rattle.btf_open_names.specs.name_classes.Classes.{keyIn, classOf}
@@ -38,7 +38,7 @@ use Rattle.proof_demands.proofs.name_counts.Table.{fits-table}
 use Rattle.proof_demands.proofs.name_counts.Now.{fits-now}
 
 -- ---- w is the work after opening
-module _ (b : Btf) (e : ℕ) (s w : List ℕ) (I : Indexed b e s w) {T : Lists} (L : Listed b e s w T) where
+module _ (b : TypeTable) (e : ℕ) (s w : List ℕ) (I : Indexed b e s w) {T : Lists} (L : Listed b e s w T) where
   -- the work v now; the names there and those of the Rust are alike
   module _ (v : List ℕ) (u : Names) (a : Alike b e s w v u) (id : ℕ) where
     definitions : RelSaid (Alike b e s w) (definition (workNaming b) (btfOf b s v) id (btfOf b s v .type-by-id id) v) (definition (passed T) (btfOf b s v) id (btfOf b s v .type-by-id id) u)

@@ -7,7 +7,7 @@ use native.Mathlib.Omega.{arith}
 use native.Mathlib.Decide.{ℕ-discrete}
 use Rattle.spec_bytes.specs.words.Words.{getWord}
 use Rattle.spec_bytes.proofs.words.Laws.{le-or-lt}
-use Rattle.spec_type_table.specs.declared.types.Btf.{Btf}
+use Rattle.spec_type_table.specs.declared.types.TypeTable.{TypeTable}
 use Rattle.spec_type_table.specs.declared.types.BtfType.{BtfType as Record}
 use Rattle.spec_type_table.specs.Cells.{getField, countP}
 use Rattle.spec_type_table.specs.Records.{vlenOf, kindOf, recordAt, voidRecord, recordById}
@@ -26,7 +26,7 @@ use Rattle.proof_demands.proofs.name_counts.Keys.{record-there}
 pub enumerator-place : (types k : ℕ) → recordP types (types + k) ≡ types * 16 + k * 8
 enumerator-place types k = let q : types * 16 + (types + k - types) * 8 + 0 ≡ types * 16 + k * 8 = omega arith in sym (place-enum types 0 0 (types + k) (omega arith)) ∙ q
 
-module _ (b : Btf) (e : ℕ) (s w : List ℕ) where
+module _ (b : TypeTable) (e : ℕ) (s w : List ℕ) where
   place-stays : (h : ℕ) → getWord (tableClassed b e s w) (recordP (b .types) h) ≡ getWord w (recordP (b .types) h)
   place-stays h = the-words b e s w .else (recordP (b .types) h)
       (λ k l. (place-apart (b .types) 0 0 5 1 (omega arith) h k, place-apart (b .types) 0 0 7 3 (omega arith) h k, place-apart (b .types) 0 0 8 4 (omega arith) h k))

@@ -8,7 +8,7 @@ use mathlib.Core.Logic.{_⊎_, inl, inr}
 use native.Mathlib.Omega.{arith}
 use lib.ListN.{getD, replicate}
 use Rattle.spec_bytes.specs.words.Words.{getWord, putWord, wordAt, wordIn}
-use Rattle.spec_type_table.specs.declared.types.Btf.{Btf}
+use Rattle.spec_type_table.specs.declared.types.TypeTable.{TypeTable}
 use Rattle.spec_type_table.specs.Cells.{placeOf, countP}
 use Rattle.spec_type_table.specs.Records.{sectionWord, recordAt, voidRecord, recordById}
 use Rattle.spec_type_table.specs.Table.{enumeratorOf}
@@ -35,7 +35,7 @@ section =
     ∷ 1 ∷ 201326592 ∷ 1 ∷ [])
     (0 ∷ 97 ∷ 98 ∷ 0 ∷ 97 ∷ 98 ∷ 99 ∷ 0 ∷ 97 ∷ 98 ∷ 0 ∷ [])
 
-pub context : Btf
+pub context : TypeTable
 context = record { «ptr_sz» = 8; «union_as_struct» = false; «big_endian» = false; «strong_arrays» = false; placing = false; types = 7; strs = 112 }
 
 -- the places of the records and entries, and else zeros

@@ -10,7 +10,7 @@ use Rattle.spec_bytes.specs.words.Words.{getWord}
 use Rattle.spec_bytes.proofs.words.Laws.{le-or-lt}
 use Rattle.spec_c_dumper.specs.rules.Types.{Name}
 use Rattle.spec_c_dumper.specs.rules.Names.{Space, tagSpace, identSpace}
-use Rattle.spec_type_table.specs.declared.types.Btf.{Btf}
+use Rattle.spec_type_table.specs.declared.types.TypeTable.{TypeTable}
 use Rattle.spec_type_table.specs.declared.types.BtfType.{BtfType as Record}
 use Rattle.spec_type_table.specs.Names.{nameAt, strAt}
 use Rattle.spec_type_table.specs.Records.{sectionWord, kindOf, recordAt, voidRecord, recordById}
@@ -49,7 +49,7 @@ tail-same : (x y : ℕ) (a c : List ℕ) → x ∷ a ≡ y ∷ c → a ≡ c
 unfolding tailOf
 tail-same x y a c e = ap tailOf e
 
-module _ (b : Btf) (e : ℕ) (s w : List ℕ) where
+module _ (b : TypeTable) (e : ℕ) (s w : List ℕ) where
   abbrev H : ℕ → Space → Name → Type 0
   H = Holds b e s w
 
@@ -76,7 +76,7 @@ module _ (b : Btf) (e : ℕ) (s w : List ℕ) where
     class-name e = tail-same _ _ _ _ (same-keys e)
 
 -- ---- types
-module _ (b : Btf) (s w : List ℕ) (id : ℕ) where
+module _ (b : TypeTable) (s w : List ℕ) (id : ℕ) where
   -- void, and what lies past the table, has kind 0
   void-kind : (r : Record) → voidRecord ≡ r → kindOf (r .info) ≡ 0
   unfolding voidRecord
@@ -99,7 +99,7 @@ some-kind : (k : ℕ) (space : Space) → spaceOf k ≡ number space → k ≢ 0
 unfolding spaceOf among
 some-kind k space e z = number-some space 2 (ap spaceOf (sym z) ∙ e) refl
 
-module _ (b : Btf) (e : ℕ) (s w : List ℕ) where
+module _ (b : TypeTable) (e : ℕ) (s w : List ℕ) where
   pub type-holds : (id : ℕ) (space : Space) (name : Name) → Fits b s w space id name → Holds b e s w id space name
   unfolding recordAt
   type-holds id space name f =

@@ -9,7 +9,7 @@ use borrow.Author.Tests.{ne-eqb}
 use Rattle.spec_bytes.specs.words.Words.{getWord, pick}
 use Rattle.spec_c_dumper.specs.rules.Types.{Name}
 use Rattle.spec_c_dumper.specs.rules.Names.{Space, tagSpace, identSpace}
-use Rattle.spec_type_table.specs.declared.types.Btf.{Btf}
+use Rattle.spec_type_table.specs.declared.types.TypeTable.{TypeTable}
 use Rattle.spec_type_table.specs.Names.{nameAt}
 use Rattle.spec_type_table.specs.Numbers.{headP, numbersFrom, takenAt}
 use Rattle.btf_open_names.specs.name_classes.Same.{sameList}
@@ -36,7 +36,7 @@ least-stays p h (suc d) e =
     let r : least p (h + d) ≡ least p h = least-stays p h d e in
     ap (least p) q ∙ ap (λ (t : Bool). pick t (least p (h + d)) (suc (h + d))) (ap p r ∙ e) ∙ r
 
-module _ (b : Btf) (e : ℕ) (s w : List ℕ) where
+module _ (b : TypeTable) (e : ℕ) (s w : List ℕ) where
   pub key-is : (h : ℕ) (space : Space) (name : Name) → Holds b e s w h space name → keyIn b s w h ≡ number space ∷ name
   unfolding keyIn
   key-is h space name q =

@@ -9,7 +9,7 @@ use Rattle.spec_bytes.specs.words.Words.{getWord}
 use Rattle.spec_bytes.proofs.words.Laws.{le-or-lt}
 use Rattle.spec_c_dumper.proofs.rules.Closed.{TypeFits}
 use Rattle.spec_c_dumper.specs.rules.Types.{BtfType}
-use Rattle.spec_type_table.specs.declared.types.Btf.{Btf}
+use Rattle.spec_type_table.specs.declared.types.TypeTable.{TypeTable}
 use Rattle.spec_type_table.specs.declared.types.BtfType.{BtfType as Record}
 use Rattle.spec_type_table.specs.Records.{vlenOf, kindOf, recordAt, voidRecord, recordById}
 use Rattle.spec_type_table.specs.Table.{enumeratorOf, typeOf, btfOf}
@@ -28,7 +28,7 @@ class-as f g h e =
     let q : classOf f h ≤ classOf g h = class-first f (classOf g h) h (class-le g h) (e (classOf g h) (class-le g h) ∙ class-key g h ∙ sym (e h (omega arith))) in
     omega arith
 
-module _ (b : Btf) (e : ℕ) (s w v : List ℕ) (K : Kept b e s w v) where
+module _ (b : TypeTable) (e : ℕ) (s w v : List ℕ) (K : Kept b e s w v) where
   pub record-now : (id : ℕ) → recordById b s v id ≡ recordById b s w id
   record-now id = go (ℕ-discrete id 0)
     where

@@ -8,7 +8,7 @@ use native.Mathlib.Omega.{arith}
 use Rattle.spec_bytes.specs.words.Words.{getWord}
 use Rattle.spec_bytes.proofs.words.Laws.{put-length, get-put-other}
 use Rattle.spec_c_dumper.specs.rules.Names.{Names}
-use Rattle.spec_type_table.specs.declared.types.Btf.{Btf}
+use Rattle.spec_type_table.specs.declared.types.TypeTable.{TypeTable}
 use Rattle.spec_type_table.specs.Cells.{putField, placeOf, classP, countP}
 use Rattle.spec_type_table.proofs.Laws.{place-type}
 use Rattle.spec_type_table.proofs.Frame.{field-other}
@@ -19,7 +19,7 @@ use Rattle.proof_demands.specs.name_counts.Indexed.{Indexed}
 use Rattle.proof_demands.specs.name_counts.Alike.{Alike}
 use Rattle.proof_demands.proofs.name_counts.Related.{alike-kept}
 
-module _ (b : Btf) (e : ℕ) (s w : List ℕ) (I : Indexed b e s w) (v : List ℕ) (u : Names) (a : Alike b e s w v u) where
+module _ (b : TypeTable) (e : ℕ) (s w : List ℕ) (I : Indexed b e s w) (v : List ℕ) (u : Names) (a : Alike b e s w v u) where
   -- word f of a type: not its place, its version, its class, its count, its first enumerator, none of a list
   module _ (id f x : ℕ) (l : id < b .types) (m : f < 16) (n0 : f ≢ 0) (n4 : f ≢ 4) (n5 : f ≢ 5) (n6 : f ≢ 6) (n7 : f ≢ 7) (n8 : f ≢ 8) (n12 : f ≢ 12) (n14 : f ≢ 14) where
     field-else : (i : ℕ) → i ≢ placeOf (b .types) f 7 id → getWord (putField v id f x) i ≡ getWord v i

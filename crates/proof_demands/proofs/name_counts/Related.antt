@@ -13,7 +13,7 @@ use Rattle.spec_bytes.specs.words.Words.{getWord, oneMore}
 use Rattle.spec_c_dumper.specs.rules.Types.{Name}
 use Rattle.spec_c_dumper.specs.rules.Names.{Space, identSpace, Resolved, Names, holders, counted as oneMoreHolds}
 use Rattle.spec_c_dumper.proofs.rules.Related.{RelResolved, RelNaming}
-use Rattle.spec_type_table.specs.declared.types.Btf.{Btf}
+use Rattle.spec_type_table.specs.declared.types.TypeTable.{TypeTable}
 use Rattle.spec_type_table.specs.Cells.{getField, putField, classP, countP, counted}
 use Rattle.spec_type_table.specs.Numbers.{numberOver, numberAt}
 use Rattle.spec_type_table.specs.Table.{enumeratorOf, typeVersionIn, valueVersionIn, workNaming}
@@ -26,7 +26,7 @@ use Rattle.proof_demands.proofs.name_counts.Holders.{count-here, count-
 use Rattle.proof_demands.proofs.name_counts.Keys.{one-class, class-space, class-name, type-holds, value-holds}
 use Rattle.proof_demands.proofs.name_counts.Stores.{class-below, number-is, count-is, count-grows, count-stays, count-version, count-kept, version-here, version-there, version-count, version-kept}
 
-module _ (b : Btf) (e : ℕ) (s w : List ℕ) (I : Indexed b e s w) where
+module _ (b : TypeTable) (e : ℕ) (s w : List ℕ) (I : Indexed b e s w) where
   module _ (v : List ℕ) (u : Names) (a : Alike b e s w v u) where
     -- ---- one more holder of a name
     module _ (h : ℕ) (space : Space) (name : Name) (q : Holds b e s w h space name) where

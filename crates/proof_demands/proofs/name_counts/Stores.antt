@@ -9,7 +9,7 @@ use lib.ListN.{length}
 use lib.Dec.{ltb}
 use Rattle.spec_bytes.specs.words.Words.{getWord, putWord, pick, oneMore}
 use Rattle.spec_bytes.proofs.words.Laws.{put-length, get-put-same, get-put-other}
-use Rattle.spec_type_table.specs.declared.types.Btf.{Btf}
+use Rattle.spec_type_table.specs.declared.types.TypeTable.{TypeTable}
 use Rattle.spec_type_table.specs.Cells.{getField, putField, placeOf, classP, countP, withMore, countOf, counted}
 use Rattle.spec_type_table.specs.Numbers.{headP, nextP, takenP, takenAt, numberOver, numberAt}
 use Rattle.btf_open_names.proofs.numbers.Lists.{taken-same}
@@ -47,7 +47,7 @@ module _ (w : List ℕ) (i : ℕ) where
       go false = refl
 
 -- ---- the work w after opening, the work v now
-module _ (b : Btf) (e : ℕ) (s w : List ℕ) (I : Indexed b e s w) (v : List ℕ) (K : Kept b e s w v) where
+module _ (b : TypeTable) (e : ℕ) (s w : List ℕ) (I : Indexed b e s w) (v : List ℕ) (K : Kept b e s w v) where
   -- every word of a holder is in the work
   inside : (f g : ℕ) → f < 16 → g < 8 → (h : ℕ) → h < b .types + e → placeOf (b .types) f g h < length v / 4
   inside f g p q h l = rw (K .long) (omega (arith, I .room .words, place-in (b .types) f g p q e h l))

@@ -7,7 +7,7 @@ use native.Mathlib.Omega.{arith}
 use Rattle.spec_c_dumper.specs.rules.Types.{Enumerator, BtfType}
 use Rattle.spec_c_dumper.specs.rules.Names.{Space, tagSpace, identSpace}
 use Rattle.spec_c_dumper.proofs.rules.Closed.{ValuesFit, TypeFits}
-use Rattle.spec_type_table.specs.declared.types.Btf.{Btf}
+use Rattle.spec_type_table.specs.declared.types.TypeTable.{TypeTable}
 use Rattle.spec_type_table.specs.declared.types.BtfType.{BtfType as Record}
 use Rattle.spec_type_table.specs.Names.{strAt}
 use Rattle.spec_type_table.specs.Records.{sectionWord, vlenOf, kindOf, recordById}
@@ -17,7 +17,7 @@ use Rattle.btf_open_names.specs.name_classes.Classes.{spaceOf, among}
 use Rattle.proof_demands.specs.name_counts.Indexed.{number, valuePlace, Fits, FitsValue}
 use Rattle.proof_demands.proofs.name_counts.Keys.{no-void}
 
-module _ (b : Btf) (s w : List ℕ) where
+module _ (b : TypeTable) (s w : List ℕ) where
   -- the values of a list, from the i-th on
   values-fit : (f : ℕ → Enumerator) (id i n : ℕ) → ((k : ℕ) → k < i + n → FitsValue b s w id k (f k .name)) → ValuesFit (Fits b s w) (FitsValue b s w) id i (from f i n)
   unfolding from

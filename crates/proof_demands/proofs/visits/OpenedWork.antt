@@ -7,7 +7,7 @@ use lib.Dec.{eqb}
 use Rattle.spec_c_dumper.specs.rules.Types.{Btf as Rules}
 use Rattle.spec_c_dumper.specs.rules.Machine.{Req}
 use Rattle.spec_c_dumper.specs.rules.Names.{Naming, Names, naming}
-use Rattle.spec_type_table.specs.declared.types.Btf.{Btf}
+use Rattle.spec_type_table.specs.declared.types.TypeTable.{TypeTable}
 use Rattle.spec_type_table.specs.Cells.{getField}
 use Rattle.spec_type_table.specs.Table.{workNaming}
 use Rattle.spec_opening.specs.Opened.{workOf}
@@ -26,7 +26,7 @@ use Rattle.proof_demands.specs.alignment_memory.Work.{Sane}
 use Rattle.proof_demands.proofs.alignment_memory.Work.{InWork, work-session, work-visits}
 
 module _ (p modes : ℕ) (s : List ℕ) (n : ℕ) (ok : openingNumber p s n ≡ 0) where
-  abbrev b : Btf
+  abbrev b : TypeTable
   b = headerOf p modes s
 
   abbrev B : Rules

@@ -5,7 +5,7 @@ use mathlib.Core.List.{List}
 use lib.ListN.{length}
 use Rattle.spec_bytes.specs.words.Words.{getWord}
 use Rattle.spec_c_dumper.specs.rules.Types.{Void, tableOf, Btf as Rules}
-use Rattle.spec_type_table.specs.declared.types.Btf.{Btf}
+use Rattle.spec_type_table.specs.declared.types.TypeTable.{TypeTable}
 use Rattle.spec_type_table.specs.Cells.{getField}
 use Rattle.spec_c_dumper.specs.needs.Needs.{WF}
 use Rattle.spec_c_dumper.specs.alignment_once.Once.{Right, membersTo, paidTo}
@@ -23,7 +23,7 @@ pub record Minds (B : Rules) (w : List ℕ) : Type 0 where
   pub count : getField w 0 2 ≡ paidTo B (workKeep (B .type-cnt) B .recall w) (B .type-cnt)
 
 -- what is asked of a table, and holds of each that opening accepts
-pub record Sane (b : Btf) (B : Rules) : Type 0 where
+pub record Sane (b : TypeTable) (B : Rules) : Type 0 where
   pub some : 1 ≤ b .types
   pub small : B .ptr-sz ≤ 15
   pub wf : WF (tableOf B)

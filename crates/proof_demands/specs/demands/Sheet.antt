@@ -11,7 +11,7 @@ use Rattle.spec_c_dumper.specs.rules.Machine.{Out, wrote, stuck, Sess, Answer}
 use Rattle.spec_c_dumper.specs.rules.Place.{Wrote, wrote as written, refused}
 use Rattle.spec_c_dumper.specs.rules.Names.{Names}
 use Rattle.spec_c_dumper.specs.rules.Layout.{smaller}
-use Rattle.spec_type_table.specs.declared.types.Btf.{Btf}
+use Rattle.spec_type_table.specs.declared.types.TypeTable.{TypeTable}
 use Rattle.spec_type_table.specs.Cells.{getField}
 use Rattle.spec_type_table.specs.Table.{from, btfOf}
 use Rattle.c_dumper_dependency_order.specs.order_state.Work.{markOf}
@@ -22,7 +22,7 @@ use Rattle.proof_demands.specs.name_counts.Alike.{Alike}
 use Rattle.proof_demands.specs.alignment_memory.Work.{Minds}
 
 -- w is the work after opening
-module _ (b : Btf) (e : ℕ) (s w : List ℕ) where
+module _ (b : TypeTable) (e : ℕ) (s w : List ℕ) where
   -- v is the work now. The table is as opening left it. Words of a type: 1 its mark in ordering, 13 in emission, 3 whether its forward line
   -- is written, 11 of the first types the order list.
   pub record Bears (v : List ℕ) (len : ℕ) (t : Ls (Known Names)) : Type 0 where

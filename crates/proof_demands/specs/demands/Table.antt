@@ -4,7 +4,7 @@ use mathlib.Core.Bool.{Bool, true, false}
 use mathlib.Core.List.{List, [], _∷_}
 use lib.Dec.{eqb}
 use Rattle.spec_c_dumper.specs.rules.Types.{BtfType, Void, Int, Ptr, Array, Composite, Enum, Enum64, Fwd, Typedef, Mod, Func, Var, Datasec, FuncProto, Float, DeclTag, TypeTag, Btf as Rules}
-use Rattle.spec_type_table.specs.declared.types.Btf.{Btf}
+use Rattle.spec_type_table.specs.declared.types.TypeTable.{TypeTable}
 use Rattle.spec_type_table.specs.Table as btf
 use Rattle.btf_open_causes.specs.header.Header as header
 use Rattle.spec_opening.specs.Table.{typesOf, enumeratorsOf}
@@ -17,7 +17,7 @@ use Rattle.proof_demands.specs.name_counts.Passed.{passed}
 use Rattle.proof_demands.specs.name_counts.Indexed.{listsIn}
 
 -- what the code knows of the section s after opening: pointer size, mode, order of bytes, the count of types, the place of the strings
-abbrev pub headerOf : ℕ → ℕ → List ℕ → Btf
+abbrev pub headerOf : ℕ → ℕ → List ℕ → TypeTable
 headerOf pointer modes s = header.btfOf s pointer modes (typesOf s)
 
 -- the table that the section and the work of n bytes spell after opening

@@ -6,13 +6,13 @@ use lib.ListN.{length, getD, replicate}
 use Rattle.spec_bytes.specs.words.Words.{getWord}
 use Rattle.spec_c_dumper.specs.rules.Types.{Name}
 use Rattle.spec_c_dumper.specs.rules.Names.{Space, Names, holders}
-use Rattle.spec_type_table.specs.declared.types.Btf.{Btf}
+use Rattle.spec_type_table.specs.declared.types.TypeTable.{TypeTable}
 use Rattle.spec_type_table.specs.Cells.{getField, countP}
 use Rattle.btf_open_names.specs.name_classes.Classes.{keyIn, classOf}
 use Rattle.proof_demands.specs.name_counts.Indexed.{Holds, Kept}
 
 -- w is the work after opening, v the work now
-module _ (b : Btf) (e : ℕ) (s w : List ℕ) where
+module _ (b : TypeTable) (e : ℕ) (s w : List ℕ) where
   -- The version of each type is in its word 4, and the count of a name's holders at the class of each holder of it.
   pub record Alike (v : List ℕ) (u : Names) : Type 0 where
     pub kept : Kept b e s w v
@@ -26,5 +26,5 @@ module _ (b : Btf) (e : ℕ) (s w : List ℕ) where
     pub no-version : (id : ℕ) → id < b .types → getField w id 4 ≡ 0
     pub no-count : (h : ℕ) → h < b .types + e → getWord w (countP (b .types) h) ≡ 0
 
-abbrev pub noNames : Btf → Names
+abbrev pub noNames : TypeTable → Names
 noNames b = record { versions = replicate (b .types) 0; ledger = [] }

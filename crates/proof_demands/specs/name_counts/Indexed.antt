@@ -8,7 +8,7 @@ use lib.Dec.{eqb}
 use Rattle.spec_bytes.specs.words.Words.{getWord, pick}
 use Rattle.spec_c_dumper.specs.rules.Types.{Name}
 use Rattle.spec_c_dumper.specs.rules.Names.{Space, tagSpace, identSpace}
-use Rattle.spec_type_table.specs.declared.types.Btf.{Btf}
+use Rattle.spec_type_table.specs.declared.types.TypeTable.{TypeTable}
 use Rattle.spec_type_table.specs.Cells.{getField, classP}
 use Rattle.spec_type_table.specs.Names.{nameAt, strAt}
 use Rattle.spec_type_table.specs.Numbers.{headP, nextP, takenP, takenAt}
@@ -32,7 +32,7 @@ IsEnum kind = (kind ≡ 6) ⊎ (kind ≡ 19)
 unfoldable pub valuePlace : ℕ → ℕ → ℕ → ℕ
 valuePlace kind at i = pick (eqb kind 19) (memberAt at i) (paramAt at i)
 
-module _ (b : Btf) (s w : List ℕ) where
+module _ (b : TypeTable) (s w : List ℕ) where
   -- there is a value i of enum id
   pub record Value (id i : ℕ) : Type 0 where
     pub below : id < b .types
@@ -54,7 +54,7 @@ module _ (b : Btf) (s w : List ℕ) where
     pub value : Value id i
     pub its-name : name ≡ strAt b s (sectionWord b s (placeOfValue id i))
 
-module _ (b : Btf) (e : ℕ) (s w : List ℕ) where
+module _ (b : TypeTable) (e : ℕ) (s w : List ℕ) where
   -- Holder h, of the types and e enumerators, has this name in this space. Word 0 of a holder says where its record or entry stands.
   pub record Holds (h : ℕ) (space : Space) (name : Name) : Type 0 where
     pub below : h < b .types + e

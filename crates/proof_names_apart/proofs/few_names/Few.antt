@@ -7,7 +7,7 @@ use native.Mathlib.Omega.{arith}
 use lib.ListN.{length, getD, length-append}
 use Rattle.spec_c_dumper.specs.rules.Types.{Enumerator, BtfType, Void, Int, Ptr, Array, Composite, Enum, Enum64, Fwd, Typedef, Mod, Func, Var, Datasec, FuncProto, Float, DeclTag, TypeTag, Btf as Rules}
 use Rattle.spec_c_dumper.specs.rules.Names.{tagSpace, identSpace}
-use Rattle.spec_type_table.specs.declared.types.Btf.{Btf}
+use Rattle.spec_type_table.specs.declared.types.TypeTable.{TypeTable}
 use Rattle.spec_type_table.specs.declared.types.BtfType.{BtfType as Record}
 use Rattle.spec_type_table.specs.Records.{sectionWord, kindOf, vlenOf, recordAt, recordById}
 use Rattle.spec_type_table.specs.Table.{from, valueOf, value64Of, typeOf, btfOf}
@@ -53,7 +53,7 @@ unfolding from
 names-from f k zero = refl
 names-from f k (suc n) = ap suc (names-from f (k + 1) n)
 
-module _ (b : Btf) (s : List ℕ) (t : Record) where
+module _ (b : TypeTable) (s : List ℕ) (t : Record) where
   is : (x : BtfType) (m : ℕ) → typeOf b s t ≡ x → length (identsIn x) ≤ m → length (identsIn (typeOf b s t)) ≤ m
   is x m e h = subst (λ (y : BtfType). length (identsIn y) ≤ m) (sym e) h
 
@@ -88,7 +88,7 @@ module _ (b : Btf) (s : List ℕ) (t : Record) where
 
 -- ---- the names of the table
 module _ (p modes : ℕ) (s : List ℕ) (n : ℕ) (ok : openingNumber p s n ≡ 0) where
-  abbrev b : Btf
+  abbrev b : TypeTable
   b = headerOf p modes s
 
   abbrev w : List ℕ

@@ -12,7 +12,7 @@ use Rattle.spec_bytes.specs.words.Words.{getWord, pick}
 use Rattle.spec_c_dumper.specs.rules.Types.{Name, Enumerator, BtfType, Void, Int, Ptr, Array, Composite, Enum, Enum64, Fwd, Typedef, Mod, Func, Var, Datasec, FuncProto, Float, DeclTag, TypeTag, Btf as Rules}
 use Rattle.spec_c_dumper.specs.rules.Names.{Space, tagSpace, identSpace}
 use Rattle.spec_c_dumper.proofs.rules.Closed.{ValuesFit, TypeFits}
-use Rattle.spec_type_table.specs.declared.types.Btf.{Btf}
+use Rattle.spec_type_table.specs.declared.types.TypeTable.{TypeTable}
 use Rattle.spec_type_table.specs.declared.types.BtfType.{BtfType as Record}
 use Rattle.spec_type_table.specs.Names.{strAt}
 use Rattle.spec_type_table.specs.Records.{sectionWord, vlenOf, kindOf, recordAt, recordById}
@@ -26,7 +26,7 @@ use Rattle.proof_demands.proofs.name_counts.Table.{fits-table}
 use Rattle.proof_names_apart.specs.names_apart.Apart.{valueNames, tagsIn, identsIn, namesIn, namesTo, tableNames}
 
 -- ---- a name of the table is that of a holder
-module _ (b : Btf) (e : ℕ) (s w : List ℕ) (I : Indexed b e s w) where
+module _ (b : TypeTable) (e : ℕ) (s w : List ℕ) (I : Indexed b e s w) where
   abbrev Held : Space → Name → Type 0
   Held space x = (h : ℕ) × Holds b e s w h space x
 
@@ -112,7 +112,7 @@ unfolding number
 number-no tagSpace e = omega (arith, e)
 number-no identSpace e = omega (arith, e)
 
-module _ (b : Btf) (s : List ℕ) (t : Record) (space : Space) where
+module _ (b : TypeTable) (s : List ℕ) (t : Record) (space : Space) where
   abbrev In : Type 0
   In = List·Memᴰ (recordName b s t) (namesIn space (typeOf b s t))
 
@@ -150,7 +150,7 @@ module _ (b : Btf) (s : List ℕ) (t : Record) (space : Space) where
       (kindOf (t .info)) refl q
 
 -- a type
-module _ (b : Btf) (e : ℕ) (s w : List ℕ) where
+module _ (b : TypeTable) (e : ℕ) (s w : List ℕ) where
   pub type-named : (h : ℕ) (space : Space) (name : Name) → h < b .types → Holds b e s w h space name → List·Memᴰ name (tableNames (btfOf b s w) space)
   unfolding btfOf spaceAt recordAt nameOf
   type-named h space name l q =
@@ -188,7 +188,7 @@ mem-in f k (suc n) (suc i) l =
 mem-from : (f : ℕ → Enumerator) (n i : ℕ) → i < n → List·Memᴰ (f i .name) (valueNames (from f 0 n))
 mem-from f n i l = let z : 0 + i ≡ i = omega arith in subst (λ (j : ℕ). List·Memᴰ (f j .name) (valueNames (from f 0 n))) z (mem-in f 0 n i l)
 
-module _ (b : Btf) (s w : List ℕ) (id i : ℕ) (name : Name) (q : FitsValue b s w id i name) where
+module _ (b : TypeTable) (s w : List ℕ) (id i : ℕ) (name : Name) (q : FitsValue b s w id i name) where
   abbrev t : Record
   t = recordById b s w id
 

@@ -15,7 +15,7 @@ use Rattle.spec_bytes.specs.text.Decimal.{decimal}
 use Rattle.spec_bytes.proofs.words.Laws.{le-or-lt}
 use Rattle.spec_c_dumper.specs.rules.Types.{Name}
 use Rattle.spec_c_dumper.specs.rules.Names.{spelled}
-use Rattle.spec_type_table.specs.declared.types.Btf.{Btf}
+use Rattle.spec_type_table.specs.declared.types.TypeTable.{TypeTable}
 use Rattle.spec_type_table.specs.Cells.{classP}
 use Rattle.btf_open_names.specs.name_classes.Classes.{keyIn, classOf}
 use Rattle.btf_open_names.proofs.name_classes.Laws.{class-first, class-same}
@@ -105,7 +105,7 @@ pub spelled-cons : (a : ℕ) (x : Name) (m : ℕ) → 2 ≤ m → spelled (a ∷
 spelled-cons a x m h = spelled-later (a ∷ x) m h ∙ ap {B = List ℕ} (λ l. a ∷ l) (sym (spelled-later x m h))
 
 -- ---- the lists of a work with classes
-module _ (b : Btf) (e : ℕ) (s w : List ℕ) (some : 1 ≤ b .types) (classed : (h : ℕ) → h < b .types + e → getWord w (classP (b .types) h) ≡ classOf (keyIn b s w) h) where
+module _ (b : TypeTable) (e : ℕ) (s w : List ℕ) (some : 1 ≤ b .types) (classed : (h : ℕ) → h < b .types + e → getWord w (classP (b .types) h) ≡ classOf (keyIn b s w) h) where
   abbrev n : ℕ
   n = b .types + e
 

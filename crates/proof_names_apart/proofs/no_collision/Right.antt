@@ -14,7 +14,7 @@ use Rattle.spec_bytes.specs.words.Words.{getWord}
 use Rattle.spec_bytes.proofs.words.Laws.{le-or-lt}
 use Rattle.spec_c_dumper.specs.rules.Types.{Name, Btf as Rules}
 use Rattle.spec_c_dumper.specs.rules.Names.{Space, tagSpace, identSpace, spelled}
-use Rattle.spec_type_table.specs.declared.types.Btf.{Btf}
+use Rattle.spec_type_table.specs.declared.types.TypeTable.{TypeTable}
 use Rattle.spec_type_table.specs.Cells.{classP}
 use Rattle.spec_type_table.specs.Names.{nameAt}
 use Rattle.spec_type_table.specs.Numbers.{takenAt}
@@ -79,11 +79,11 @@ key-tail : (s : List ℕ) (x at : ℕ) → x ≢ 2 → tailOf (keyOf s x at) ≡
 unfolding keyOf tailOf
 key-tail s x at n = ap (λ (t : Bool). elim t as (λ z. List ℕ) [ true ↦ [] | false ↦ nameAt s at ]) (ne-eqb x 2 n)
 
-key-void : (b : Btf) (s w : List ℕ) → headOf (keyIn b s w 0) ≡ 2
+key-void : (b : TypeTable) (s w : List ℕ) → headOf (keyIn b s w 0) ≡ 2
 unfolding keyIn keyOf spaceAt headOf
 key-void b s w = refl
 
-module _ (b : Btf) (e : ℕ) (s w : List ℕ) where
+module _ (b : TypeTable) (e : ℕ) (s w : List ℕ) where
   key-holds : (x : ℕ) (space : Space) (y : Name) → x < b .types + e → keyIn b s w x ≡ number space ∷ y → Holds b e s w x space y
   unfolding keyIn headOf tailOf
   key-holds x space y l k = record {
@@ -101,7 +101,7 @@ module _ (b : Btf) (e : ℕ) (s w : List ℕ) where
 
 -- ---- an opened section
 module _ (p modes : ℕ) (s : List ℕ) (n : ℕ) (ok : openingNumber p s n ≡ 0) where
-  abbrev b : Btf
+  abbrev b : TypeTable
   b = headerOf p modes s
 
   abbrev e : ℕ

@@ -9,7 +9,7 @@ use lib.ListN.{replicate}
 use lib.Dec.{eqb}
 use Rattle.spec_bytes.specs.words.Words.{getWord}
 use Rattle.spec_bytes.proofs.words.Laws.{le-or-lt}
-use Rattle.spec_type_table.specs.declared.types.Btf.{Btf}
+use Rattle.spec_type_table.specs.declared.types.TypeTable.{TypeTable}
 use Rattle.spec_type_table.specs.Cells.{getField}
 use Rattle.spec_type_table.specs.Table.{btfOf}
 use Rattle.spec_type_table.proofs.Frame.{table-same}
@@ -46,7 +46,7 @@ header-same p m k s e = λ i. record {
 }
 
 -- the table that the work spells with the lists and without
-module _ (modes : ℕ) (b : Btf) (e : ℕ) (s w : List ℕ) (some : 1 ≤ b .types) where
+module _ (modes : ℕ) (b : TypeTable) (e : ℕ) (s w : List ℕ) (some : 1 ≤ b .types) where
   word : (i : ℕ) → Unlisted (b .types) (b .types + e) i → getWord (takersIn modes b e s w) i ≡ getWord w i
   word i z = takers-word modes b e s w some i z
 
@@ -64,7 +64,7 @@ module _ (modes : ℕ) (b : Btf) (e : ℕ) (s w : List ℕ) (some : 1 ≤ b .typ
 
 module _ (p m k : ℕ) (s : List ℕ) (n : ℕ) (ok : openingNumber p s n ≡ 0) (e : m % 8 ≡ k % 8) where
   -- before the lists
-  abbrev plainly : Btf → List ℕ
+  abbrev plainly : TypeTable → List ℕ
   plainly b = filled b s (indexOf s) (enumeratorsOf s) (replicate n 0)
 
   some-types : (modes : ℕ) → 1 ≤ headerOf p modes s .types
@@ -76,4 +76,4 @@ module _ (p m k : ℕ) (s : List ℕ) (n : ℕ) (ok : openingNumber p s n ≡ 0)
   unlisted modes = unlisted-table modes (headerOf p modes s) (enumeratorsOf s) s (plainly (headerOf p modes s)) (some-types modes)
 
   pub tables-same : openedTable p m s n ≡ openedTable p k s n
-  tables-same = unlisted m ∙ ap (λ (b : Btf). btfOf b s (plainly b)) (header-same p m k s e) ∙ sym (unlisted k)
+  tables-same = unlisted m ∙ ap (λ (b : TypeTable). btfOf b s (plainly b)) (header-same p m k s e) ∙ sym (unlisted k)

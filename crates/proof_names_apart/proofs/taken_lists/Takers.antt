@@ -10,7 +10,7 @@ use lib.ListN.{length}
 use lib.Dec.{leb, eqb}
 use Rattle.spec_bytes.specs.words.Words.{getWord, putWord}
 use Rattle.spec_bytes.proofs.words.Laws.{get-put-other}
-use Rattle.spec_type_table.specs.declared.types.Btf.{Btf}
+use Rattle.spec_type_table.specs.declared.types.TypeTable.{TypeTable}
 use Rattle.spec_type_table.specs.Cells.{placeOf, classP}
 use Rattle.spec_type_table.specs.Numbers.{headP, nextP, takenP, takenAt}
 use Rattle.btf_open_names.specs.name_classes.Classes.{spaceAt, nameOf, keyOf, keyIn}
@@ -36,7 +36,7 @@ base-below key h (suc f) c l = go (leb 2 (suffixOn (key c) (key h))) (base-below
     go true r = omega arith
     go false r = omega arith
 
-module _ (b : Btf) (e : ℕ) (s w₀ : List ℕ) (some : 1 ≤ b .types) where
+module _ (b : TypeTable) (e : ℕ) (s w₀ : List ℕ) (some : 1 ≤ b .types) where
   abbrev n : ℕ
   n = b .types + e
 

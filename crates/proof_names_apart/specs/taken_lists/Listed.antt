@@ -4,7 +4,7 @@ use mathlib.Core.Bool.{true, false}
 use mathlib.Core.List.{List, [], _∷_}
 use lib.Dec.{eqb}
 use Rattle.spec_bytes.specs.words.Words.{getWord}
-use Rattle.spec_type_table.specs.declared.types.Btf.{Btf}
+use Rattle.spec_type_table.specs.declared.types.TypeTable.{TypeTable}
 use Rattle.spec_type_table.specs.Cells.{classP}
 use Rattle.btf_open_names.specs.name_classes.Classes.{keyIn}
 use Rattle.btf_open_names.specs.filled_work.Takers.{suffixOn, anySuffix, nameIn, baseFrom}
@@ -17,7 +17,7 @@ module _ (base num : ℕ → ℕ) where
   numbersOn c x (suc m) = elim (eqb (base x) c) [ true ↦ num x ∷ numbersOn c (suc x) m | false ↦ numbersOn c (suc x) m ]
 
 -- ---- those of a work with classes: the first holder of its name that is another one with a suffix
-module _ (b : Btf) (s w : List ℕ) (n : ℕ) where
+module _ (b : TypeTable) (s w : List ℕ) (n : ℕ) where
   unfoldable pub baseOf : ℕ → ℕ
   baseOf h =
       elim (eqb (getWord w (classP (b .types) h)) h) [

@@ -9,7 +9,7 @@ use native.Mathlib.Omega.{arith}
 use lib.ListN.{length, take}
 use lib.Dec.{ltb}
 use Rattle.spec_bytes.proofs.words.Laws.{le-or-lt}
-use Rattle.spec_type_table.specs.declared.types.Btf.{Btf}
+use Rattle.spec_type_table.specs.declared.types.TypeTable.{TypeTable}
 use Rattle.c_dumper_emit.specs.dump_type.Metered.{callsIn}
 use Rattle.spec_session.specs.declared.session.Session.{Session}
 use Rattle.spec_session.specs.session.Answers.{numberOf}
@@ -50,7 +50,7 @@ module _ (c c′ : ℕ) (l : c ≤ c′) where
   onward-fits F F′ G j i h (reached len w t) n = h len w t n
   onward-fits F F′ G j i h (refusedBy e len v t) n = record { same-reach = refl; few = i; same-within = refl }
 
-  module _ (b : Btf) (s : List ℕ) where
+  module _ (b : TypeTable) (s : List ℕ) where
     pub one-fits : (id len v : ℕ) (w t : List ℕ) (k : ℕ) → Fine (requestedWithin c b s id len v w t k .reach) → k + callsIn b s w id ≤ c
     one-fits id len v w t k n = ⊎-elim (λ i. i) (λ i. absurd (n len v (take len t) (ap (λ (a : Within). a .reach) (request-over c b s id len v w t k i)))) (le-or-lt (k + callsIn b s w id) c)
 

@@ -16,12 +16,13 @@ use Rattle.spec_bytes.proofs.text.TextLaws.{out-done, out-stopped}
 use Rattle.spec_c_dumper.specs.rules.Machine.{Out, wrote, stuck, obind}
 use Rattle.spec_c_dumper.specs.rules.Types.{tableOf}
 use Rattle.spec_c_dumper.specs.rules.Place.{outOf, withNames}
-use Rattle.spec_type_table.specs.declared.types.Btf.{Btf}
+use Rattle.spec_type_table.specs.declared.types.TypeTable.{TypeTable}
 use Rattle.spec_type_table.specs.Cells.{getField}
 use Rattle.spec_type_table.specs.Table.{btfOf}
 use Rattle.c_dumper_dependency_order.specs.order_state.Work.{markOf, tableIn}
 use Rattle.btf_open_causes.specs.header.Header.{btfOf as settingsOf}
-use Rattle.spec_session.specs.emission.Sheet.{Sheet, sheetOf, emitOut, workMachine, dumped, isIdle}
+use Rattle.spec_session.specs.emission.Sheet.{Sheet, sheetOf, emitOut, workMachine, isIdle}
+use Rattle.spec_c_dumper.specs.rules.Request.{dumped}
 use Rattle.c_dumper_emit.specs.dump_type.Metered.{callsIn, dumpedWithin}
 use Rattle.c_dumper_emit.proofs.dump_type.Requests.{idle-calls}
 use Rattle.spec_session.specs.declared.session.Session.{Session}
@@ -40,7 +41,7 @@ use Rattle.session_ceiling.specs.declared.metered.Metered.{Metered}
 use Rattle.session_ceiling.specs.metered.Within.{Within, withinOf, requestedWithin, onwardWithin, requestedFromWithin, countedOf, settledWithin, typeCallWithin, typesCallWithin}
 
 -- ---- one request, by whether its calls fit
-module _ (c : ℕ) (b : Btf) (s : List ℕ) (id len v : ℕ) (w t : List ℕ) (k : ℕ) where
+module _ (c : ℕ) (b : TypeTable) (s : List ℕ) (id len v : ℕ) (w t : List ℕ) (k : ℕ) where
   pub request-fits : k + callsIn b s w id ≤ c → requestedWithin c b s id len v w t k ≡ record { reach = requested b s id len v w t; made = k + callsIn b s w id }
   unfolding requestedWithin
   request-fits l = rw (le-leb (k + callsIn b s w id) c l, requestedWithin)
@@ -55,7 +56,7 @@ unfolding withinOf
 within-is r m w t q n er em = λ i. record { reach = er i; made = em i }
 
 -- ---- dump_one
-module _ (opens left : ℕ) (b : Btf) (s w u : List ℕ) (id : ℕ) where
+module _ (opens left : ℕ) (b : TypeTable) (s w u : List ℕ) (id : ℕ) where
   pub lent-fits : opens ≤ left → obind (emitOut 0 0 u w) (λ m. dumpedWithin b (btfOf b s w) opens left m id) ≡ obind (emitOut 0 0 u w) (λ m. dumped (workMachine b (btfOf b s w)) (tableOf (btfOf b s w)) m id)
   unfolding dumpedWithin
   lent-fits l = ap (λ (q : Bool). obind (emitOut 0 0 u w) (λ m. elim q as (λ (x : Bool). Out Sheet) [ true ↦ dumped (workMachine b (btfOf b s w)) (tableOf (btfOf b s w)) m id | false ↦ stuck 22 ])) (le-leb opens left l)
@@ -89,7 +90,7 @@ module _ (at : ℕ) (u w : List ℕ) (e : emitOut 0 at u w ≡ stuck 22) where
       same : {n m : ℕ} → _≡_ {A = Out Sheet} (stuck n) (stuck m) → n ≡ m
       same q = cc
 
-module _ (c : ℕ) (b : Btf) (s w t : List ℕ) (len id to k : ℕ) (below : len ≤ to) (ends : to ≤ length t) (small : k ≤ c) (at : ℕ) (u w′ : List ℕ) (same : length u ≡ length (midOf len (to - len) t))
+module _ (c : ℕ) (b : TypeTable) (s w t : List ℕ) (len id to k : ℕ) (below : len ≤ to) (ends : to ≤ length t) (small : k ≤ c) (at : ℕ) (u w′ : List ℕ) (same : length u ≡ length (midOf len (to - len) t))
     (e : emitOut 0 at u w′ ≡ obind (emitOut 0 0 (midOf len (to - len) t) w) (λ m. dumpedWithin b (btfOf b s w) (callsIn b s w id) (c - k) m id)) where
   abbrev opens : ℕ
   opens = callsIn b s w id
@@ -132,11 +133,11 @@ module _ (c : ℕ) (b : Btf) (s w t : List ℕ) (len id to k : ℕ) (below : len
     one-within = let q = ⊎-elim came-fits came-over (le-or-lt opens (c - k)) in (q .0, q .1, omega arith)
 
 -- the visits as the code reads them
-pub read-before : (c : ℕ) (b : Btf) (s w t : List ℕ) (len id v k : ℕ) (q : Within) → q ≡ requestedWithin c b s id len v w t k → v ≡ visitsIn w → q ≡ requestedWithin c b s id len (visitsIn w) w t k
+pub read-before : (c : ℕ) (b : TypeTable) (s w t : List ℕ) (len id v k : ℕ) (q : Within) → q ≡ requestedWithin c b s id len v w t k → v ≡ visitsIn w → q ≡ requestedWithin c b s id len (visitsIn w) w t k
 read-before c b s w t len id v k q e h = e ∙ ap (λ (u : ℕ). requestedWithin c b s id len u w t k) h
 
 -- ---- dump_next: an id with nothing to write opens one call
-module _ (c : ℕ) (b : Btf) (s w t : List ℕ) (len v id k : ℕ) (short : len ≤ length t) (small : k ≤ c) (q : Bool) (e : q ≡ isIdle (markOf (getField w id 1)) (tableIn b s w .node id)) (h : q ≡ true) where
+module _ (c : ℕ) (b : TypeTable) (s w t : List ℕ) (len v id k : ℕ) (short : len ≤ length t) (small : k ≤ c) (q : Bool) (e : q ≡ isIdle (markOf (getField w id 1)) (tableIn b s w .node id)) (h : q ≡ true) where
   one-call : callsIn b s w id ≡ 1
   one-call = idle-calls b s w id (sym e ∙ h)
 
@@ -163,7 +164,7 @@ module _ (c : ℕ) (b : Btf) (s w t : List ℕ) (len v id k : ℕ) (short : len 
   next-idle r er = ⊎-elim (λ l. subst Next (idle-none k c l ∙ sym er) (next-none l)) (λ l. subst Next (idle-one k c l ∙ sym er) (next-more l)) (le-or-lt c k)
 
 -- ---- dump_all
-module _ (c : ℕ) (b : Btf) (s : List ℕ) (whole : Within) where
+module _ (c : ℕ) (b : TypeTable) (s : List ℕ) (whole : Within) where
   unroll : (n id len : ℕ) (w t : List ℕ) (k : ℕ) → id < n
       → requestedFromWithin c b s (n - id) id len w t k ≡ onwardWithin (requestedWithin c b s id len (visitsIn w) w t k .reach) (requestedWithin c b s id len (visitsIn w) w t k .made) (requestedFromWithin c b s (n - (id + 1)) (id + 1))
   unfolding requestedFromWithin
@@ -220,7 +221,7 @@ module _ (c : ℕ) (s : Session) (section w t : List ℕ) (q : Bool) (eq : q ≡
         counted-is turn k w t (unchanged s (refusal idNotBelow (s .«text_len»)) w t) k (λ i. record { session = et i .session; answer = et i .answer; work = w; text = t }) refl
         ∙ sym (rw (sym eq ∙ not-false q h, typeCallWithin, le-ltb id (s .types) l))
 
-    module _ (b : Btf) (eb : b ≡ settingsOf section (s .«pointer_size») (s .modes) (s .types)) (r : Metered) (w′ t′ : List ℕ) (lw : length w′ ≡ length w) (lt : length t′ ≡ length t)
+    module _ (b : TypeTable) (eb : b ≡ settingsOf section (s .«pointer_size») (s .modes) (s .types)) (r : Metered) (w′ t′ : List ℕ) (lw : length w′ ≡ length w) (lt : length t′ ≡ length t)
         (turn : Turn) (w″ t″ : List ℕ) (et : callOf (turn .session) (turn .answer) w″ t″ ≡ settled s (length w′) (length t′) (reachOf (r .reached) w′ t′)) where
       settles : (a : Within) → withinOf r w′ t′ ≡ a → countedOf (record { turn = turn; made = r .made }) w″ t″ ≡ settledWithin s (length w) (length t) a
       unfolding settledWithin withinOf
@@ -229,11 +230,11 @@ module _ (c : ℕ) (s : Session) (section w t : List ℕ) (q : Bool) (eq : q ≡
       pub type-done : (id k : ℕ) → id < s .types → withinOf r w′ t′ ≡ requestedWithin c b section id (s .«text_len») (s .visits) w t k → countedOf (record { turn = turn; made = r .made }) w″ t″ ≡ typeCallWithin c s section w t id k
       unfolding typeCallWithin
       type-done id k l er =
-          settles _ (er ∙ ap (λ (a : Btf). requestedWithin c a section id (s .«text_len») (s .visits) w t k) eb)
+          settles _ (er ∙ ap (λ (a : TypeTable). requestedWithin c a section id (s .«text_len») (s .visits) w t k) eb)
           ∙ sym (rw (sym eq ∙ not-false q h, typeCallWithin, lt-ltb id (s .types) l))
 
       pub types-done : withinOf r w′ t′ ≡ requestedFromWithin c b section (b .types - 1) 1 (s .«text_len») w t 0 → countedOf (record { turn = turn; made = r .made }) w″ t″ ≡ typesCallWithin c s section w t
       unfolding typesCallWithin
       types-done er =
-          settles _ (er ∙ ap (λ (a : Btf). requestedFromWithin c a section (a .types - 1) 1 (s .«text_len») w t 0) eb)
+          settles _ (er ∙ ap (λ (a : TypeTable). requestedFromWithin c a section (a .types - 1) 1 (s .«text_len») w t 0) eb)
           ∙ sym (rw (sym eq ∙ not-false q h, typesCallWithin))

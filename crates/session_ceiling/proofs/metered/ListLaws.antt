@@ -12,7 +12,7 @@ use lib.ListN.{length, take, replicate}
 use borrow.Author.Tests.{lt-leb, lt-ltb, le-ltb, not-true}
 use Rattle.spec_bytes.specs.words.Words.{getWord}
 use Rattle.spec_bytes.proofs.words.Laws.{le-or-lt}
-use Rattle.spec_type_table.specs.declared.types.Btf.{Btf}
+use Rattle.spec_type_table.specs.declared.types.TypeTable.{TypeTable}
 use Rattle.c_dumper_emit.specs.dump_type.Metered.{callsIn}
 use Rattle.spec_session.specs.declared.session.Answer.the-variants.{Refused}
 use Rattle.spec_session.specs.declared.session.Session.{Session}
@@ -86,7 +86,7 @@ module _ (c : ℕ) (s : Session) (section : List ℕ) where
         (le-or-lt (m + callsIn (tableFor s section) section w id) c)
 
   -- where the loop stands: k accepted, m calls made, the text has len bytes; whole: what the call comes to
-  module _ (b : Btf) (eb : b ≡ tableFor s section) (ids : List ℕ) (n : ℕ) (whole : CallWithin) (es : s .«section_len» ≡ length section) (k len v m : ℕ) (w t : List ℕ) (ew : s .«work_len» ≡ length w) (h : len ≤ length t)
+  module _ (b : TypeTable) (eb : b ≡ tableFor s section) (ids : List ℕ) (n : ℕ) (whole : CallWithin) (es : s .«section_len» ≡ length section) (k len v m : ℕ) (w t : List ℕ) (ew : s .«work_len» ≡ length w) (h : len ≤ length t)
       (e : whole ≡ listFromWithin c k (withText s true len v) section w (tailed k len t) (idsFrom ids k (n - k)) m) where
     pub list-done : n ≤ k → endWithin s (record { tally = record { len = len; number = 0; accepted = k; visits = v }; made = m }) w t ≡ whole
     unfolding endWithin listEnd idsFrom listFromWithin
@@ -114,7 +114,7 @@ module _ (c : ℕ) (s : Session) (section : List ℕ) where
 
       module _ (p : id < s .types) (r : Metered) (w′ t′ : List ℕ) (er : withinOf r w′ t′ ≡ requestedWithin c b section id len v w t m) where
         came : requestedWithin c (tableFor s section) section id len v w t m ≡ withinOf r w′ t′
-        came = sym (er ∙ ap (λ (a : Btf). requestedWithin c a section id len v w t m) eb)
+        came = sym (er ∙ ap (λ (a : TypeTable). requestedWithin c a section id len v w t m) eb)
 
         onward : whole ≡ countedWithin k (settledWithin s (length w) (length t) (withinOf r w′ t′)) rest
         onward =

@@ -5,7 +5,7 @@ use mathlib.Core.Bool.{true, false}
 use mathlib.Core.List.{List}
 use lib.ListN.{length, take}
 use lib.Dec.{leb, ltb}
-use Rattle.spec_type_table.specs.declared.types.Btf.{Btf}
+use Rattle.spec_type_table.specs.declared.types.TypeTable.{TypeTable}
 use Rattle.c_dumper_emit.specs.dump_type.Metered.{callsIn}
 use Rattle.spec_session.specs.declared.session.Session.{Session}
 use Rattle.spec_session.specs.session.Turns.{Call, callOf, isCurrent, tableFor, Reach, reached, refusedBy, visitsIn, reachOf, settled, unchanged}
@@ -24,7 +24,7 @@ unfoldable pub withinOf : Metered → List ℕ → List ℕ → Within
 withinOf r w t = record { reach = reachOf (r .reached) w t; made = r .made }
 
 -- One request: the plain one, where the calls that it opens fit, and else "22 when one more call would pass the ceiling".
-unfoldable pub requestedWithin : ℕ → Btf → List ℕ → ℕ → ℕ → ℕ → List ℕ → List ℕ → ℕ → Within
+unfoldable pub requestedWithin : ℕ → TypeTable → List ℕ → ℕ → ℕ → ℕ → List ℕ → List ℕ → ℕ → Within
 requestedWithin c b s id len v w t k =
     elim (leb (k + callsIn b s w id) c) [
       | true ↦ record { reach = requested b s id len v w t; made = k + callsIn b s w id }
@@ -37,7 +37,7 @@ onwardWithin (reached len w t) k f = f len w t k
 onwardWithin (refusedBy n len v t) k f = record { reach = refusedBy n len v t; made = k }
 
 -- n ids from id on
-unfoldable pub requestedFromWithin : ℕ → Btf → List ℕ → ℕ → ℕ → ℕ → List ℕ → List ℕ → ℕ → Within
+unfoldable pub requestedFromWithin : ℕ → TypeTable → List ℕ → ℕ → ℕ → ℕ → List ℕ → List ℕ → ℕ → Within
 requestedFromWithin c b s zero id len w t k = record { reach = reached len w t; made = k }
 requestedFromWithin c b s (suc n) id len w t k = onwardWithin (requestedWithin c b s id len (visitsIn w) w t k .reach) (requestedWithin c b s id len (visitsIn w) w t k .made) (requestedFromWithin c b s n (suc id))
 

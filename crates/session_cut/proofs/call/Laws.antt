@@ -10,7 +10,7 @@ use borrow.Author.Tests.{lt-ltb, le-ltb, ltb-false, eqb-true, not-true, not-fals
 use Rattle.spec_bytes.specs.words.Words.{getWord, table, words}
 use Rattle.spec_linux_btf.specs.Reading.{Bytes}
 use Rattle.spec_linux_btf.specs.Section.{stringArea, headerSound, stringsSound, typesSound}
-use Rattle.spec_type_table.specs.declared.types.Btf.{Btf}
+use Rattle.spec_type_table.specs.declared.types.TypeTable.{TypeTable}
 use Rattle.btf_open_causes.specs.references.References.{hasBadReference}
 use Rattle.btf_open_causes.specs.header.Header.{btfOf, badStrings}
 use Rattle.btf_open_causes.proofs.header.Headers.{strings-decided, order-is}
@@ -214,7 +214,7 @@ module _ (p : ℕ) (s : List ℕ) where
       last-two : passes p s ≡ not (cause5 s || cause6 p s)
       last-two = five ∙ (λ i. not (none .0 i || (none .1 .0 i || (none .1 .1 .0 i || (cause5 s || cause6 p s)))))
 
-      module _ (b : Btf) (eb : b ≡ btfOf s p 0 0) (r : Records) (start start′ : List ℕ) (e0 : start ≡ emptyIndex) (es : scanOut r start′ ≡ scanSection b s start) where
+      module _ (b : TypeTable) (eb : b ≡ btfOf s p 0 0) (r : Records) (start start′ : List ℕ) (e0 : start ≡ emptyIndex) (es : scanOut r start′ ≡ scanSection b s start) where
         scan-is : (t : Bool) → typesSound s ≡ t → scanOut r start′ ≡ passedBy t s
         scan-is t e = es ∙ ap (scanSection b s) e0 ∙ section-is b s (ap (λ x. x .«big_endian») eb ∙ order-is s p 0 0) header short
             ∙ ap (λ (x : Bool). passedBy x s) e
@@ -259,7 +259,7 @@ module _ (p : ℕ) (s : List ℕ) where
           index-is : start′ ≡ indexOf s
           index-is = ap indexIn exact
 
-          module _ (b1 : Btf) (eb1 : b1 ≡ btfOf s p 0 (r .types)) (u : Bool) (eu : u ≡ hasBadReference b1 s start′) where
+          module _ (b1 : TypeTable) (eb1 : b1 ≡ btfOf s p 0 (r .types)) (u : Bool) (eu : u ≡ hasBadReference b1 s start′) where
             bad-is : u ≡ cause6 p s
             unfolding cause6 tableOf
             bad-is = let z : b1 ≡ btfOf s p 0 (typesOf s) = eb1 ∙ ap (btfOf s p 0) types-is in eu ∙ (λ i. hasBadReference (z i) s (index-is i))
@@ -280,7 +280,7 @@ module _ (p : ℕ) (s : List ℕ) where
 
 -- ---- write_cut
 
-module _ (b : Btf) (s start ids out : List ℕ) where
+module _ (b : TypeTable) (s start ids out : List ℕ) where
   abbrev S : ℕ
   S = baseOf b s start ids (countOf b)
 
@@ -315,7 +315,7 @@ module _ (b : Btf) (s start ids out : List ℕ) where
       go false false false false e true = omega arith
       go false false false false e false = omega (arith, ltb-false 16777216 (24 + T + S) e)
 
-module _ (b : Btf) (s start given ids ids′ out out′ : List ℕ) (n : ℕ) (z : ids ≡ allZero) (ei : ids′ ≡ idsOf b s start given ids) (ew : wroteOf n out′ ≡ keptWritten b s start ids′ out) where
+module _ (b : TypeTable) (s start given ids ids′ out out′ : List ℕ) (n : ℕ) (z : ids ≡ allZero) (ei : ids′ ≡ idsOf b s start given ids) (ew : wroteOf n out′ ≡ keptWritten b s start ids′ out) where
   is-written : wroteOf n out′ ≡ keptWritten b s start (idsOf b s start given allZero) out
   is-written = ew ∙ ap (λ (l : List ℕ). keptWritten b s start l out) (ei ∙ ap (idsOf b s start given) z)
 
@@ -388,7 +388,7 @@ module _ (S : Session) (s given out : List ℕ) where
           cut-past e = sym (refused-by 9) ∙ with-number 10 (open-number (is-open ∙ pass) true (ap (λ (k : ℕ). anyPast k (words given)) (sym count-is) ∙ sym er ∙ e))
 
           -- THE CALL: the theorem of crate written
-          pub cut-is : r ≡ false → Bytes s → (b : Btf) → b ≡ btfOf s (S .«pointer_size») 0 n → (a : Answer) (out′ : List ℕ)
+          pub cut-is : r ≡ false → Bytes s → (b : TypeTable) → b ≡ btfOf s (S .«pointer_size») 0 n → (a : Answer) (out′ : List ℕ)
               → cutOf a out′ ≡ answered (keptWritten b s start (idsOf b s start given allZero) out) → cutOf a out′ ≡ cutCall S s given out
           unfolding passes cause2 cause3 cause4 cause5 tableOf
           cut-is e y b eb a out′ ea =

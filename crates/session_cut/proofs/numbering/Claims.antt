@@ -12,7 +12,7 @@ use Rattle.spec_bytes.specs.words.Words.{getWord, table, words}
 use Rattle.spec_bytes.proofs.words.Laws.{le-or-lt}
 use Rattle.spec_linux_btf.specs.Documentation.{int, ptr, array, struct, union, enum, fwd, typedef, volatile, const, restrict, func, func-proto, var, datasec, float, decl-tag, type-tag, enum64, Described, described}
 use Rattle.spec_linux_btf.specs.Fields.{kindIn}
-use Rattle.spec_type_table.specs.declared.types.Btf.{Btf}
+use Rattle.spec_type_table.specs.declared.types.TypeTable.{TypeTable}
 use Rattle.btf_open_causes.specs.references.Followed.{countOf, kindAt}
 use Rattle.btf_open_causes.specs.references.Bounds.{kind-out}
 use Rattle.btf_open_causes.proofs.references.Zeros.{zeros-max}
@@ -83,7 +83,7 @@ module _ (M N : ℕ → Bool) where
 
 -- b, s, start: a table, its section and its index; ts: its types; given: the given ids in bytes. No id that is reached is past the largest table: so it
 -- is where the given ids are below the count, and no cause 6.
-module _ (b : Btf) (s start : List ℕ) (ts : List Described) (see : Seen b s start ts) (given : List ℕ) (low : (x : ℕ) → Reached ts (words given) x → x < 262145) where
+module _ (b : TypeTable) (s start : List ℕ) (ts : List Described) (see : Seen b s start ts) (given : List ℕ) (low : (x : ℕ) → Reached ts (words given) x → x < 262145) where
   abbrev gs : List ℕ
   gs = words given
 

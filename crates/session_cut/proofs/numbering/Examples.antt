@@ -10,7 +10,7 @@ use Rattle.spec_linux_btf.specs.Reading.{kind, word, decode, places, decodeAll}
 use Rattle.spec_linux_btf.specs.Section.{bigEndian, hdrLen, typeOff, typeLen, strOff, strLen, typeArea, stringArea}
 use Rattle.spec_c_dumper.specs.rules.Types.{isEmpty}
 use Rattle.spec_c_dumper.specs.rules.Names.{sameBytes}
-use Rattle.spec_type_table.specs.declared.types.Btf.{Btf}
+use Rattle.spec_type_table.specs.declared.types.TypeTable.{TypeTable}
 use Rattle.spec_type_table.specs.Records.{sectionWord}
 use Rattle.spec_type_table.specs.Names.{upToZero, nameAt}
 use Rattle.btf_open_causes.specs.references.Followed.{countOf, entryAt}
@@ -42,7 +42,7 @@ kept (suc (suc zero)) = true
 kept (suc (suc (suc zero))) = true
 kept (suc (suc (suc (suc x)))) = false
 
-abbrev table : Bool → Btf
+abbrev table : Bool → TypeTable
 table big = record { «ptr_sz» = 8; «union_as_struct» = false; «big_endian» = big; «strong_arrays» = false; placing = false; types = 5; strs = 104 }
 
 abbrev index : List ℕ
@@ -90,7 +90,7 @@ shared = 0 ∷ 97 ∷ 98 ∷ 120 ∷ 0 ∷ 120 ∷ 0 ∷ 98 ∷ 120 ∷ 0 ∷ []
 abbrev allBut : ℕ → Bool
 allBut x = not (eqb x 9)
 
-abbrev otherTable : Bool → Btf
+abbrev otherTable : Bool → TypeTable
 otherTable big = record { «ptr_sz» = 8; «union_as_struct» = false; «big_endian» = big; «strong_arrays» = false; placing = false; types = 11; strs = 240 }
 
 abbrev otherIndex : List ℕ

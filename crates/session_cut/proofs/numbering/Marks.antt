@@ -13,7 +13,7 @@ use borrow.Author.Tests.{eqb-true, eqb-false, ltb-true, ltb-false}
 use Rattle.spec_bytes.specs.words.Words.{table}
 use Rattle.spec_bytes.proofs.words.Laws.{le-or-lt}
 use Rattle.spec_linux_btf.specs.Documentation.{Described}
-use Rattle.spec_type_table.specs.declared.types.Btf.{Btf}
+use Rattle.spec_type_table.specs.declared.types.TypeTable.{TypeTable}
 use Rattle.btf_open_causes.specs.references.Followed.{countOf, followedCount, followedId}
 use Rattle.btf_open_causes.specs.references.Bounds.{count-fits, followed-none}
 use Rattle.btf_open_causes.specs.references.Zeros.{zeros}
@@ -222,7 +222,7 @@ module _ (ts : List Described) (gs : List ℕ) where
         next _ (pushes m′ st′ d′ g′ w p) = last m′ st′ d′ w p (pushed (heap m′ st′ d′) (f n)) (push-good m′ st′ d′ g′ (f n) (r n (omega arith)))
 
   -- ---- turns. f, n: the ids that were pushed first
-  module _ (b : Btf) (s start : List ℕ) (see : Seen b s start ts) (f : ℕ → ℕ) (n : ℕ) where
+  module _ (b : TypeTable) (s start : List ℕ) (see : Seen b s start ts) (f : ℕ → ℕ) (n : ℕ) where
     pub data Closes : Heap → Type 0 where
       closes : (m st : List ℕ) (d : ℕ) → Good ts gs m st d → Pending ts m st d → Marks-to f n m → Closes (heap m st d)
 

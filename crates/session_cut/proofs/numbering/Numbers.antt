@@ -11,7 +11,7 @@ use lib.Seq.{getD-set-same, getD-set-other}
 use lib.Dec.{ltb, eqb}
 use borrow.Author.Tests.{eq-eqb, ne-eqb, eqb-true, eqb-false, ltb-true, ltb-false}
 use Rattle.spec_bytes.specs.words.Words.{pick}
-use Rattle.spec_type_table.specs.declared.types.Btf.{Btf}
+use Rattle.spec_type_table.specs.declared.types.TypeTable.{TypeTable}
 use Rattle.spec_type_table.specs.Records.{sectionWord}
 use Rattle.btf_open_causes.specs.references.Followed.{kindAt, placeOf}
 use Rattle.spec_cut.specs.section.Renumbered.{keptTo, newId}
@@ -29,7 +29,7 @@ get-past (x ∷ l) zero h = absurd (omega (arith, h))
 get-past (x ∷ l) (suc i) h = get-past l i (omega (arith, h))
 
 -- ---- tags
-module _ (b : Btf) (s start : List ℕ) where
+module _ (b : TypeTable) (s start : List ℕ) where
   abbrev pub Target : ℕ → ℕ
   Target x = sectionWord b s (placeOf b start x + 8)
 

@@ -11,7 +11,7 @@ use lib.Dec.{eqb}
 use Rattle.spec_linux_btf.specs.Documentation.{encodeStrings}
 use Rattle.spec_c_dumper.specs.rules.Types.{Name, isEmpty}
 use Rattle.spec_c_dumper.specs.rules.Names.{sameBytes}
-use Rattle.spec_type_table.specs.declared.types.Btf.{Btf}
+use Rattle.spec_type_table.specs.declared.types.TypeTable.{TypeTable}
 use Rattle.spec_type_table.specs.Names.{strAt}
 use Rattle.btf_open_causes.specs.references.Followed.{countOf, entryAt}
 use Rattle.spec_cut.specs.section.Strings.{has, addName, firstNames, placeIn}
@@ -39,7 +39,7 @@ one : (l : List Name) (n : Name) → store l (n ∷ []) ≡ addName l n
 unfolding store
 one l n = refl
 
-module _ (b : Btf) (s : List ℕ) where
+module _ (b : TypeTable) (s : List ℕ) where
   -- the first word with the name: no word before it has it
   record First (e off n r : ℕ) : Type 0 where
     none : namedTo b s e off r ≡ false

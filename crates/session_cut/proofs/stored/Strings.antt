@@ -8,7 +8,7 @@ use lib.Dec.{eqb}
 use Rattle.spec_linux_btf.specs.Documentation.{encodeStrings}
 use Rattle.spec_c_dumper.specs.rules.Types.{Name, isEmpty}
 use Rattle.spec_c_dumper.specs.rules.Names.{sameBytes}
-use Rattle.spec_type_table.specs.declared.types.Btf.{Btf}
+use Rattle.spec_type_table.specs.declared.types.TypeTable.{TypeTable}
 use Rattle.spec_type_table.specs.Names.{strAt}
 use Rattle.btf_open_causes.specs.references.Followed.{entryAt}
 use Rattle.spec_cut.specs.section.Strings.{has, firstNames}
@@ -22,7 +22,7 @@ nothing-more : {A : Type 0} (l : List A) → l ++ [] ≡ l
 nothing-more [] = refl
 nothing-more (x ∷ l) = ap (λ t. x ∷ t) (nothing-more l)
 
-module _ (b : Btf) (s : List ℕ) where
+module _ (b : TypeTable) (s : List ℕ) where
   -- ---- a name among those of a record
 
   word-has : (e off j : ℕ) → isName b s e off j ≡ has (wordName b s e j) (strAt b s off)

@@ -14,7 +14,7 @@ use borrow.Author.Tests.{eq-eqb, ne-eqb, lt-ltb, le-ltb}
 use Rattle.spec_bytes.specs.text.Text.{whole, bytes, putOut, written, putText}
 use Rattle.spec_bytes.proofs.text.TextLaws.{put-fits, went, put-seq, put-empty}
 use Rattle.spec_c_dumper.specs.rules.Types.{isEmpty}
-use Rattle.spec_type_table.specs.declared.types.Btf.{Btf}
+use Rattle.spec_type_table.specs.declared.types.TypeTable.{TypeTable}
 use Rattle.spec_type_table.specs.Names.{strAt}
 use Rattle.btf_open_causes.specs.references.Followed.{countOf, entryAt}
 use Rattle.session_cut_marks.specs.roles.Words.{role, wordsIn, wordOf}
@@ -35,7 +35,7 @@ use Rattle.session_cut.proofs.writer.Sizes.{head-length, types-length}
 pub few-fits : (n : ℕ) → n ≤ 16777216 → Fits w32 n
 few-fits n l = omega (arith, l)
 
-module _ (b : Btf) (s : List ℕ) where
+module _ (b : TypeTable) (s : List ℕ) where
   first-up : (e off j k : ℕ) → firstFrom b s e off j k ≤ j + k
   unfolding firstFrom
   first-up e off j zero = omega arith
@@ -252,7 +252,7 @@ unfolding magicBytes
 magic-little t at big v p u r u′ e h g = put-seq t at _ _ p u r u′ h g ∙ ap (λ (q : Bool). putText t at (whole (magicBytes q v))) (sym e)
 
 -- ---- the whole
-module _ (b : Btf) (s start ids : List ℕ) where
+module _ (b : TypeTable) (s start ids : List ℕ) where
   pub all-put : (bases t : List ℕ) (types strings f : ℕ) (p : ℕ) (u : List ℕ) (q : ℕ) (v : List ℕ) (r : ℕ) (w : List ℕ) → f ≡ getD s 3 0 → putOut p u ≡ putText t 0 (whole (headBytes (b .«big_endian») f types strings))
       → putOut q v ≡ putText u p (whole (typesBytes b s start ids bases (countOf b))) → putOut r w ≡ putText v q (whole (stringsBytes b s start ids (countOf b)))
       → putOut r w ≡ putText t 0 (whole (allBytes b s start ids bases types strings))

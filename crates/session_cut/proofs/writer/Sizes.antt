@@ -6,7 +6,7 @@ use mathlib.Core.Bool.{Bool, true, false}
 use mathlib.Core.List.{List, []}
 use lib.ListN.{length, getD, length-append}
 use lib.Dec.{eqb}
-use Rattle.spec_type_table.specs.declared.types.Btf.{Btf}
+use Rattle.spec_type_table.specs.declared.types.TypeTable.{TypeTable}
 use Rattle.btf_open_causes.specs.references.Followed.{entryAt}
 use Rattle.session_cut_marks.specs.roles.Words.{wordsIn}
 use Rattle.session_cut_marks.proofs.mentioned.Sizes.{longer}
@@ -23,7 +23,7 @@ unfolding headBytes wordBytes magicBytes
 head-length true flags types strings = refl
 head-length false flags types strings = refl
 
-module _ (b : Btf) (s start ids : List ℕ) where
+module _ (b : TypeTable) (s start ids : List ℕ) where
   module _ (bases : List ℕ) where
     record-length : (e n : ℕ) → length (recordBytes b s start ids bases e n) ≡ n * 4
     unfolding recordBytes

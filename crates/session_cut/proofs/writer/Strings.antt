@@ -9,7 +9,7 @@ use lib.ListN.{length, getD, length-append}
 use borrow.Author.Tests.{eq-eqb, ne-eqb}
 use Rattle.spec_bytes.specs.text.Text.{whole, putOut, putText}
 use Rattle.spec_bytes.proofs.text.TextLaws.{put-seq, put-empty}
-use Rattle.spec_type_table.specs.declared.types.Btf.{Btf}
+use Rattle.spec_type_table.specs.declared.types.TypeTable.{TypeTable}
 use Rattle.spec_type_table.specs.Names.{strAt}
 use Rattle.btf_open_causes.specs.references.Followed.{countOf, entryAt}
 use Rattle.session_cut_marks.specs.roles.Words.{wordsIn, wordOf}
@@ -20,10 +20,10 @@ use Rattle.session_cut_marks.proofs.mentioned.Sizes.{name-length}
 use Rattle.session_cut_marks.specs.interned.Right.{Kept}
 use Rattle.session_cut.specs.writer.Bytes.{nameIf}
 
-pub kept-is : (b : Btf) (start ids : List ℕ) (x e v : ℕ) → x < countOf b → v ≡ getD ids x 0 → (v ≡ 0 → ⊥) → e ≡ entryAt b start x → Kept b start ids x e
+pub kept-is : (b : TypeTable) (start ids : List ℕ) (x e v : ℕ) → x < countOf b → v ≡ getD ids x 0 → (v ≡ 0 → ⊥) → e ≡ entryAt b start x → Kept b start ids x e
 kept-is b start ids x e v l k n h = record { below = l; kept = λ z. n (k ∙ z); entry = h }
 
-module _ (b : Btf) (s : List ℕ) (e j : ℕ) (new : Bool) where
+module _ (b : TypeTable) (s : List ℕ) (e j : ℕ) (new : Bool) where
   module _ (z : not new ≡ true) where
     pub name-none : (t : List ℕ) (at : ℕ) → putOut at t ≡ putText t at (whole (nameIf b s e j new))
     unfolding nameIf
@@ -45,7 +45,7 @@ module _ (b : Btf) (s : List ℕ) (e j : ℕ) (new : Bool) where
         let k : length (nameIf b s e j new) ≡ length (strAt b s (wordOf b s e j)) + 1 = rw (flip-false new z, nameIf) (length-append (strAt b s (wordOf b s e j)) (0 ∷ [])) in
         omega (arith, k, ap length (h ∙ ap (strAt b s) f))
 
-module _ (b : Btf) (s start ids : List ℕ) where
+module _ (b : TypeTable) (s start ids : List ℕ) where
   pub name-if : (x e j : ℕ) (new : Bool) → new ≡ isNew b s start ids x e j → nameIf b s e j new ≡ nameBytes b s start ids x e j
   unfolding nameIf nameBytes
   name-if x e j new h = ap (nameIf b s e j) h

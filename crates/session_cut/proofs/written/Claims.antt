@@ -13,7 +13,7 @@ use Rattle.spec_linux_btf.specs.Reading.{Bytes}
 use Rattle.spec_linux_btf.specs.Section.{bigEndian, strLen, stringArea, headerSound, stringsSound, typesSound}
 use Rattle.spec_linux_btf.proofs.Claims.{section-fields}
 use Rattle.spec_c_dumper.specs.rules.Types.{Name}
-use Rattle.spec_type_table.specs.declared.types.Btf.{Btf}
+use Rattle.spec_type_table.specs.declared.types.TypeTable.{TypeTable}
 use Rattle.spec_type_table.specs.Names.{nameAt, strAt}
 use Rattle.btf_open_causes.specs.references.Followed.{countOf}
 use Rattle.btf_open_causes.specs.references.Bounds.{count-fits}
@@ -72,7 +72,7 @@ head-long big flags types strings rest = plus (length rest)
 -- p: pointer size; given: the given ids in bytes
 module _ (p : ℕ) (s : List ℕ) (y : Bytes s) (short : length s ≤ 16777216) (h : headerSound s ≡ true) (st : stringsSound (stringArea s) ≡ true) (t : typesSound s ≡ true)
     (six : cause6 p s ≡ false) (given : List ℕ) (past : anyPast (opening.typesOf s) (words given) ≡ false) where
-  abbrev b : Btf
+  abbrev b : TypeTable
   b = tableOf p s
 
   abbrev ts : List Described

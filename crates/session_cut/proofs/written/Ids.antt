@@ -11,7 +11,7 @@ use borrow.Author.Tests.{ltb-true}
 use Rattle.spec_bytes.specs.words.Words.{words}
 use Rattle.spec_bytes.proofs.words.Laws.{le-or-lt}
 use Rattle.spec_linux_btf.specs.Documentation.{Described}
-use Rattle.spec_type_table.specs.declared.types.Btf.{Btf}
+use Rattle.spec_type_table.specs.declared.types.TypeTable.{TypeTable}
 use Rattle.btf_open_causes.specs.references.Followed.{countOf, followedCount, followedId}
 use Rattle.spec_cut.specs.section.Kept.{voidType, typeOf, Reached, asked, onward, isDeclTag, Kept, reached, its-tag}
 use Rattle.spec_cut.specs.section.Renumbered.{newId}
@@ -48,7 +48,7 @@ unfolding pushedTo
 pushed-all f h zero = refl
 pushed-all f h (suc n) = pushed-long (pushedTo f h n) (f n) ∙ pushed-all f h n
 
-module _ (b : Btf) (s start : List ℕ) where
+module _ (b : TypeTable) (s start : List ℕ) where
   turned-long : (m st : List ℕ) (d : ℕ) → length (marksIn (turned b s start (heap m st (suc d)))) ≡ length m
   unfolding turned
   turned-long m st d = pushed-all (followedId b s start (getD st d 0)) (heap m st d) (followedCount b s start (getD st d 0))
@@ -96,11 +96,11 @@ numbers-long : (l : List ℕ) → length (numbersOf l) ≡ length l
 unfolding numbersOf
 numbers-long l = numbered-long (numbered l 0) 262145
 
-marks-long : (b : Btf) (s start given : List ℕ) → length (reachedMarks b s start given allZero) ≡ 262145
+marks-long : (b : TypeTable) (s start given : List ℕ) → length (reachedMarks b s start given allZero) ≡ 262145
 unfolding reachedMarks first
 marks-long b s start given = closed-long b s start (weight (first b s start given allZero)) (first b s start given allZero) ∙ pushed-all _ (heap allZero allZero 0) (length given / 4) ∙ zero-long
 
-ids-long : (b : Btf) (s start given : List ℕ) → length (idsOf b s start given allZero) ≡ 262145
+ids-long : (b : TypeTable) (s start given : List ℕ) → length (idsOf b s start given allZero) ≡ 262145
 unfolding idsOf
 ids-long b s start given = numbers-long (taggedTo b s start (reachedMarks b s start given allZero) (countOf b)) ∙ tagged-long b s start (reachedMarks b s start given allZero) (countOf b) ∙ marks-long b s start given
 
@@ -143,7 +143,7 @@ module _ (ts : List Described) (few : length ts ≤ 262144) (good : GoodReferenc
       go false e = new-dropped (isKept ts gs) i e
 
 -- THE NUMBERS, of every id
-pub ids-all : (b : Btf) (s start : List ℕ) (ts : List Described) → Seen b s start ts → length ts ≤ 262144 → GoodReferences ts → (given : List ℕ) → anyPast (suc (length ts)) (words given) ≡ false
+pub ids-all : (b : TypeTable) (s start : List ℕ) (ts : List Described) → Seen b s start ts → length ts ≤ 262144 → GoodReferences ts → (given : List ℕ) → anyPast (suc (length ts)) (words given) ≡ false
     → (x : ℕ) → getD (idsOf b s start given allZero) x 0 ≡ newId (isKept ts (words given)) x
 ids-all b s start ts see few good given past x = go (le-or-lt 262145 x)
   where

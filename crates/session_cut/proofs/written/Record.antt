@@ -13,7 +13,7 @@ use Rattle.spec_linux_btf.specs.Section as section
 use Rattle.spec_linux_btf.specs.Section.{typesAt, typeLen, headerSound, typesSound}
 use Rattle.spec_linux_btf.proofs.Claims.{section-fields, section-sound-at, words-fit}
 use Rattle.spec_c_dumper.specs.rules.Types.{Name, isEmpty}
-use Rattle.spec_type_table.specs.declared.types.Btf.{Btf}
+use Rattle.spec_type_table.specs.declared.types.TypeTable.{TypeTable}
 use Rattle.spec_type_table.specs.Names.{strAt}
 use Rattle.spec_type_table.specs.Records.{sectionWord}
 use Rattle.spec_type_table.proofs.Documented.{words-same}
@@ -58,7 +58,7 @@ word-bytes false v h =
     let c : v / 16777216 ≡ v / 256 / 256 / 256 % 256 = omega (arith, h) in
     λ i. v % 256 ∷ v / 256 % 256 ∷ a i ∷ c i ∷ []
 
-module _ (b : Btf) (s : List ℕ) where
+module _ (b : TypeTable) (s : List ℕ) where
   -- word j of the record with entry e
   abbrev pub codeItem : ℕ → ℕ → Item
   codeItem e j = item (role (e % 32) j) (wordOf b s e j)
@@ -150,7 +150,7 @@ sound-known w len p h = and-left (known (shape (kind (kindP w p)))) _ (and-right
 -- ---- in a section
 
 module _ (p : ℕ) (s : List ℕ) (y : Bytes s) (h : headerSound s ≡ true) (t : typesSound s ≡ true) where
-  abbrev b : Btf
+  abbrev b : TypeTable
   b = tableOf p s
 
   abbrev ts : List Described

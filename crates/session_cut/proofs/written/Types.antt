@@ -11,7 +11,7 @@ use Rattle.spec_linux_btf.specs.Documentation.{Described, encode, encodeAll}
 use Rattle.spec_linux_btf.specs.Reading.{Bytes}
 use Rattle.spec_linux_btf.specs.Section.{headerSound, typesSound}
 use Rattle.spec_c_dumper.specs.rules.Types.{Name}
-use Rattle.spec_type_table.specs.declared.types.Btf.{Btf}
+use Rattle.spec_type_table.specs.declared.types.TypeTable.{TypeTable}
 use Rattle.spec_type_table.specs.Names.{strAt}
 use Rattle.btf_open_causes.specs.references.Followed.{entryAt, countOf}
 use Rattle.spec_opening.specs.Table.{describedIn, indexOf}
@@ -86,7 +86,7 @@ all-mentions f (t ∷ ts) = ap (λ l. map f (mentions t) ++ l) (all-mentions f t
 -- ---- of a section. ids: numbers that are those of the definition
 
 module _ (p : ℕ) (s : List ℕ) (y : Bytes s) (h : headerSound s ≡ true) (t : typesSound s ≡ true) (m : ℕ → Bool) (ids : List ℕ) (same : (x : ℕ) → getD ids x 0 ≡ newId m x) where
-  abbrev b : Btf
+  abbrev b : TypeTable
   b = tableOf p s
 
   abbrev start : List ℕ

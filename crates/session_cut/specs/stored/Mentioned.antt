@@ -6,7 +6,7 @@ use mathlib.Core.List.{List, [], _∷_, _++_}
 use lib.ListN.{getD}
 use lib.Dec.{eqb}
 use Rattle.spec_c_dumper.specs.rules.Types.{Name}
-use Rattle.spec_type_table.specs.declared.types.Btf.{Btf}
+use Rattle.spec_type_table.specs.declared.types.TypeTable.{TypeTable}
 use Rattle.spec_type_table.specs.Names.{strAt}
 use Rattle.btf_open_causes.specs.references.Followed.{entryAt}
 use Rattle.spec_cut.specs.section.Strings.{addName, firstNames}
@@ -24,7 +24,7 @@ stored ns = store firstNames ns
 abbrev pub orElse : Bool → Bool → Bool
 orElse p q = elim p [ true ↦ true | false ↦ q ]
 
-module _ (b : Btf) (s : List ℕ) where
+module _ (b : TypeTable) (s : List ℕ) where
   -- the name of word j of the record with entry e, if it is one
   unfoldable pub wordName : ℕ → ℕ → List Name
   wordName e j = elim (eqb (role (e % 32) j) 1) [ true ↦ strAt b s (wordOf b s e j) ∷ [] | false ↦ [] ]

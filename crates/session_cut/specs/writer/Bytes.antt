@@ -5,7 +5,7 @@ use mathlib.Core.List.{List, [], _∷_, _++_}
 use lib.ListN.{length, getD, drop}
 use lib.Dec.{ltb, eqb}
 use Rattle.spec_c_dumper.specs.rules.Types.{isEmpty}
-use Rattle.spec_type_table.specs.declared.types.Btf.{Btf}
+use Rattle.spec_type_table.specs.declared.types.TypeTable.{TypeTable}
 use Rattle.spec_type_table.specs.Names.{strAt}
 use Rattle.btf_open_causes.specs.references.Followed.{countOf, entryAt}
 use Rattle.session_cut_marks.specs.roles.Words.{role, wordsIn, wordOf}
@@ -27,7 +27,7 @@ unfoldable pub headBytes : Bool → ℕ → ℕ → ℕ → List ℕ
 headBytes big flags types strings =
     ((((magicBytes big flags ++ wordBytes big 24) ++ wordBytes big 0) ++ wordBytes big types) ++ wordBytes big types) ++ wordBytes big strings
 
-module _ (b : Btf) (s start ids : List ℕ) where
+module _ (b : TypeTable) (s start ids : List ℕ) where
   -- the length of the types before x
   unfoldable pub typeSize : ℕ → ℕ → ℕ
   typeSize x len = elim (eqb (getD ids x 0) 0) [ true ↦ len | false ↦ len + wordsIn b s (entryAt b start x) * 4 ]
@@ -61,18 +61,18 @@ module _ (b : Btf) (s start ids : List ℕ) where
   allBytes bases types strings = (headBytes (b .«big_endian») (getD s 3 0) types strings ++ typesBytes bases (countOf b)) ++ stringsBytes b s start ids (countOf b)
 
 -- the name of word j of the record with entry e, and its 0, if it is written
-unfoldable pub nameIf : Btf → List ℕ → ℕ → ℕ → Bool → List ℕ
+unfoldable pub nameIf : TypeTable → List ℕ → ℕ → ℕ → Bool → List ℕ
 nameIf b s e j new = elim new [ true ↦ strAt b s (wordOf b s e j) ++ (0 ∷ []) | false ↦ [] ]
 
 -- what the table t has for the name of word j, or 0
-unfoldable pub sought : Btf → List ℕ → List ℕ → ℕ → ℕ → ℕ
+unfoldable pub sought : TypeTable → List ℕ → List ℕ → ℕ → ℕ → ℕ
 sought b s t e j = elim (eqb (role (e % 32) j) 1) [ false ↦ 0 | true ↦ elim (isEmpty (strAt b s (wordOf b s e j))) [ true ↦ 0 | false ↦ found b s t (wordOf b s e j) ] ]
 
 -- the length written, and the output slice
 pub data Wrote : Type 0 where
   wroteOf : ℕ → List ℕ → Wrote
 
-module _ (b : Btf) (s start ids : List ℕ) where
+module _ (b : TypeTable) (s start ids : List ℕ) where
   -- "23 when the output slice is short or the new section would pass 16,777,216 bytes; nothing is written"; "0 when refused; the rest of the slice .. never altered"
   unfoldable pub fittingWritten : List ℕ → ℕ → ℕ → List ℕ → Wrote
   fittingWritten bases types strings out =

@@ -9,7 +9,7 @@ use btf_type_table::name::put_str;
 use session_cut_marks::mentioned::peek;
 use session_cut_marks::roles::word_of;
 use session_cut_marks::roles::words_in;
-use spec_type_table::Btf;
+use spec_type_table::TypeTable;
 ghost use mathlib.Core.Path.{_≡_};
 ghost use Prim.Native.Nat.{_<_};
 ghost use Rattle.spec_bytes.specs.text.Text.{whole, putOut, putText};
@@ -21,7 +21,15 @@ ghost use Rattle.session_cut_marks.specs.interned.Right.{allBases, Right, Kept}
 ghost use Rattle.session_cut.specs.writer.Bytes.{nameIf};
 
 // The name of word j and its 0, if it is new.
-fn put_name(b: Btf, section: &[u8], e: u32, j: u32, new: bool, out: &mut [u8], at: usize) -> usize
+fn put_name(
+    b: TypeTable,
+    section: &[u8],
+    e: u32,
+    j: u32,
+    new: bool,
+    out: &mut [u8],
+    at: usize,
+) -> usize
     ensures { λ r. ⌜ putOut r (now (out .exit)) ≡ putText (now (out .entry)) at (whole (nameIf b (now (section .entry)) e j new)) ⌝ }
 {
     if !new {
@@ -32,7 +40,7 @@ fn put_name(b: Btf, section: &[u8], e: u32, j: u32, new: bool, out: &mut [u8], a
 }
 
 fn put_names(
-    b: Btf,
+    b: TypeTable,
     section: &[u8],
     start: &[u32],
     ids: &[u32],
@@ -62,7 +70,7 @@ fn put_names(
 
 // The new names of type x.
 fn put_own(
-    b: Btf,
+    b: TypeTable,
     section: &[u8],
     start: &[u32],
     ids: &[u32],
@@ -84,7 +92,7 @@ fn put_own(
 }
 
 fn put_news(
-    b: Btf,
+    b: TypeTable,
     section: &[u8],
     start: &[u32],
     ids: &[u32],
@@ -108,7 +116,7 @@ fn put_news(
 
 // The leading 0, and the new names.
 pub(crate) fn put_strings(
-    b: Btf,
+    b: TypeTable,
     section: &[u8],
     start: &[u32],
     ids: &[u32],

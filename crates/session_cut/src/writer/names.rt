@@ -12,7 +12,7 @@ use session_cut_marks::mentioned::peek;
 use session_cut_marks::roles::role;
 use session_cut_marks::roles::word_of;
 use session_cut_marks::roles::words_in;
-use spec_type_table::Btf;
+use spec_type_table::TypeTable;
 ghost use mathlib.Core.Path.{_≡_};
 ghost use Prim.Native.Nat.{_+_, _/_, _<_, _≤_};
 ghost use mathlib.Core.Bool.{true};
@@ -25,7 +25,7 @@ ghost use Rattle.session_cut_marks.specs.interned.Right.{allBases, Right, Kept}
 ghost use Rattle.session_cut.specs.writer.Bytes.{nameIf, sought};
 
 // What the table has for the name of word j; 0 for another word and for the empty name.
-pub(crate) fn seek(b: Btf, section: &[u8], table: &[u64], e: u32, j: u32) -> u64
+pub(crate) fn seek(b: TypeTable, section: &[u8], table: &[u64], e: u32, j: u32) -> u64
     ensures { λ r. ⌜ r ≡ sought b (now (section .entry)) (now (table .entry)) e j ⌝ }
 {
     if role(e % 32, j) != 1 {
@@ -40,7 +40,7 @@ pub(crate) fn seek(b: Btf, section: &[u8], table: &[u64], e: u32, j: u32) -> u64
 
 // Whether word j of type x mentions a name for the first time. `v`: what the table has for it; `len`: the length of the strings before it.
 pub(crate) fn is_first(
-    b: Btf,
+    b: TypeTable,
     section: &[u8],
     start: &[u32],
     ids: &[u32],
@@ -60,7 +60,7 @@ pub(crate) fn is_first(
 }
 
 // The length of the strings with the name of word j, if it is new.
-pub(crate) fn longer(b: Btf, section: &[u8], e: u32, j: u32, new: bool, len: u32) -> u32
+pub(crate) fn longer(b: TypeTable, section: &[u8], e: u32, j: u32, new: bool, len: u32) -> u32
     requires { ⌜ (length (now section) ≤ 16777216) × (len ≤ 16777216) ⌝ }
     ensures { λ r. ⌜ r ≡ len + length (nameIf b (now (section .entry)) e j new) ⌝ }
 {
@@ -72,7 +72,7 @@ pub(crate) fn longer(b: Btf, section: &[u8], e: u32, j: u32, new: bool, len: u32
 
 // The length of the strings before word n of type x; `base`: that before the type.
 fn length_to(
-    b: Btf,
+    b: TypeTable,
     section: &[u8],
     start: &[u32],
     ids: &[u32],
@@ -98,7 +98,7 @@ fn length_to(
 
 // Where the name stands, if type x is kept and mentions it; else 0. For the first such type it is its place in the strings.
 fn place_at(
-    b: Btf,
+    b: TypeTable,
     section: &[u8],
     start: &[u32],
     ids: &[u32],
@@ -120,7 +120,7 @@ fn place_at(
 }
 
 fn place_from(
-    b: Btf,
+    b: TypeTable,
     section: &[u8],
     start: &[u32],
     ids: &[u32],
@@ -145,7 +145,7 @@ fn place_from(
 
 // Where a name stands in the new strings. `v`: what the table has for it; `new`: it is mentioned for the first time, and its place is `len`.
 pub(crate) fn place_of(
-    b: Btf,
+    b: TypeTable,
     section: &[u8],
     start: &[u32],
     ids: &[u32],

@@ -12,7 +12,7 @@ use session_cut_marks::mentioned::peek;
 use session_cut_marks::roles::role;
 use session_cut_marks::roles::word_of;
 use session_cut_marks::roles::words_in;
-use spec_type_table::Btf;
+use spec_type_table::TypeTable;
 ghost use mathlib.Core.Path.{_≡_};
 ghost use mathlib.Core.Bool.{true};
 ghost use Prim.Native.Nat.{_/_, _<_, _≤_};
@@ -64,7 +64,7 @@ pub fn put_head(out: &mut [u8], big: bool, flags: u8, types: u32, strings: u32) 
 }
 
 // The length of the types.
-pub fn types_size(b: Btf, section: &[u8], start: &[u32], ids: &[u32]) -> u64
+pub fn types_size(b: TypeTable, section: &[u8], start: &[u32], ids: &[u32]) -> u64
     ensures { λ r. ⌜ r ≡ typesSize b (now (section .entry)) (now (start .entry)) (now (ids .entry)) (countOf b) ⌝ }
 {
     let n = count(b);
@@ -77,7 +77,7 @@ pub fn types_size(b: Btf, section: &[u8], start: &[u32], ids: &[u32]) -> u64
     len
 }
 
-fn type_size(b: Btf, section: &[u8], start: &[u32], ids: &[u32], x: u32, len: u64) -> u64
+fn type_size(b: TypeTable, section: &[u8], start: &[u32], ids: &[u32], x: u32, len: u64) -> u64
     requires { ⌜ len ≤ 4611686018427387904 ⌝ }
     ensures { λ r. ⌜ r ≡ typeSize b (now (section .entry)) (now (start .entry)) (now (ids .entry)) x len ⌝ }
 {
@@ -89,7 +89,7 @@ fn type_size(b: Btf, section: &[u8], start: &[u32], ids: &[u32], x: u32, len: u6
 
 // Word j of the record with entry e, as it is written; v, new and len: of the name that it mentions, as `place_of` takes them.
 fn new_word(
-    b: Btf,
+    b: TypeTable,
     section: &[u8],
     start: &[u32],
     ids: &[u32],
@@ -117,7 +117,7 @@ fn new_word(
 
 // The record of type x; `base`: the length of the strings before it.
 fn put_record(
-    b: Btf,
+    b: TypeTable,
     section: &[u8],
     start: &[u32],
     ids: &[u32],
@@ -148,7 +148,7 @@ fn put_record(
 }
 
 fn put_type(
-    b: Btf,
+    b: TypeTable,
     section: &[u8],
     start: &[u32],
     ids: &[u32],
@@ -171,7 +171,7 @@ fn put_type(
 
 // The types that are kept.
 fn put_types(
-    b: Btf,
+    b: TypeTable,
     section: &[u8],
     start: &[u32],
     ids: &[u32],
@@ -195,7 +195,7 @@ fn put_types(
 
 // Header, types and strings.
 fn put_all(
-    b: Btf,
+    b: TypeTable,
     section: &[u8],
     start: &[u32],
     ids: &[u32],
@@ -225,7 +225,7 @@ fn byte_at(l: &[u8], i: usize) -> u8
 
 // Measures first: 0 and nothing written, where the output slice is short or the section would pass 16,777,216 bytes; else
 // the length written. The rest of the slice stays.
-pub fn write_kept(b: Btf, section: &[u8], start: &[u32], ids: &[u32], out: &mut [u8]) -> u64
+pub fn write_kept(b: TypeTable, section: &[u8], start: &[u32], ids: &[u32], out: &mut [u8]) -> u64
     ensures { λ r. ⌜ wroteOf r (now (out .exit)) ≡ keptWritten b (now (section .entry)) (now (start .entry)) (now (ids .entry)) (now (out .entry)) ⌝ }
 {
     if 16777216 < section.len() {
@@ -255,7 +255,7 @@ pub fn write_kept(b: Btf, section: &[u8], start: &[u32], ids: &[u32], out: &mut 
 }
 
 fn write_fitting(
-    b: Btf,
+    b: TypeTable,
     section: &[u8],
     start: &[u32],
     ids: &[u32],

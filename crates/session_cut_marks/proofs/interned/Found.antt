@@ -8,7 +8,7 @@ use lib.ListN.{getD}
 use lib.Dec.{eqb}
 use borrow.Author.Tests.{eq-eqb, ne-eqb}
 use Rattle.spec_c_dumper.specs.rules.Types.{isEmpty}
-use Rattle.spec_type_table.specs.declared.types.Btf.{Btf}
+use Rattle.spec_type_table.specs.declared.types.TypeTable.{TypeTable}
 use Rattle.spec_type_table.specs.Names.{strAt}
 use Rattle.btf_open_causes.specs.references.Followed.{countOf, entryAt}
 use Rattle.btf_open_names.specs.name_classes.Table.{hashFrom}
@@ -21,7 +21,7 @@ use Rattle.session_cut_marks.specs.interned.Right.{allBases, Right, Kept
 use Rattle.session_cut_marks.proofs.interned.Probes.{ends-same}
 use Rattle.session_cut_marks.proofs.interned.Places.{below, above, compare, seen, is-same, new-other, new-empty, new-first, new-later, place-new, place-old, base-is, base-up, length-small}
 
-module _ (b : Btf) (s start ids t : List ℕ) (right : Right b s start ids t) where
+module _ (b : TypeTable) (s start ids t : List ℕ) (right : Right b s start ids t) where
   pub found-place : (off v : ℕ) → v ≡ found b s t off → (v ≡ 0 → ⊥) → v / 4294967296 ≡ placeOf b s start ids (allBases b s start ids) off
   unfolding found slotOf
   found-place off v e n = ap (λ (u : ℕ). u / 4294967296) e ∙ sym (right .places i m off (sym (same-bytes (strAt b s (getD t i 0 % 4294967296)) (strAt b s off) (ends-same b s t (strAt b s off) (hashFrom 0 (strAt b s off) % 262144) 262144 in-table m))))

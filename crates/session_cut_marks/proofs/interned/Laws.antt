@@ -9,7 +9,7 @@ use lib.ListN.{length, getD, set}
 use borrow.Author.Tests.{eq-eqb, ne-eqb, lt-ltb, le-ltb}
 use Rattle.spec_c_dumper.specs.rules.Types.{isEmpty}
 use Rattle.spec_c_dumper.specs.rules.Names.{sameBytes}
-use Rattle.spec_type_table.specs.declared.types.Btf.{Btf}
+use Rattle.spec_type_table.specs.declared.types.TypeTable.{TypeTable}
 use Rattle.spec_type_table.specs.Names.{strAt}
 use Rattle.btf_open_causes.specs.references.Followed.{countOf, entryAt}
 use Rattle.btf_open_names.specs.name_classes.Table.{hashFrom}
@@ -19,7 +19,7 @@ use Rattle.session_cut_marks.proofs.mentioned.Laws.{flip-true, flip-fal
 use Rattle.session_cut_marks.specs.interned.Slots.{stops, probe, slotOf, found}
 use Rattle.session_cut_marks.specs.interned.Filled.{Filled, filledOf, lengthOf, after, settled, entered, enteredTo, enteredType, filledTo, lengthsTo, fillingOf, filling}
 
-module _ (b : Btf) (s t : List ℕ) where
+module _ (b : TypeTable) (s t : List ℕ) where
   -- ---- slots
   module _ (name : List ℕ) (i v : ℕ) (k : v ≡ getD t i 0) where
     pub stops-free : v ≡ 0 → true ≡ stops b s t name i
@@ -60,7 +60,7 @@ set-past [] i v h = refl
 set-past (x ∷ l) zero v h = absurd (omega (arith, h))
 set-past (x ∷ l) (suc i) v h = ap (λ (r : List ℕ). x ∷ r) (set-past l i v (omega (arith, h)))
 
-module _ (b : Btf) (s start ids : List ℕ) where
+module _ (b : TypeTable) (s start ids : List ℕ) where
   module _ (x e j : ℕ) where
     module _ (q : Bool) (g : q ≡ isNew b s start ids x e j) where
       pub size-none : not q ≡ true → 0 ≡ newSize b s start ids x e j

@@ -11,7 +11,7 @@ use lib.Dec.{eqb}
 use borrow.Author.Tests.{ne-eqb}
 use Rattle.spec_c_dumper.specs.rules.Types.{isEmpty}
 use Rattle.spec_c_dumper.specs.rules.Names.{sameBytes}
-use Rattle.spec_type_table.specs.declared.types.Btf.{Btf}
+use Rattle.spec_type_table.specs.declared.types.TypeTable.{TypeTable}
 use Rattle.spec_type_table.specs.Names.{strAt}
 use Rattle.btf_open_causes.specs.references.Followed.{countOf, entryAt}
 use Rattle.btf_open_causes.specs.references.Bounds.{count-fits}
@@ -44,7 +44,7 @@ or-true : (p q : Bool) → q ≡ true → orElse p q ≡ true
 or-true true q h = refl
 or-true false q h = h
 
-module _ (b : Btf) (s : List ℕ) where
+module _ (b : TypeTable) (s : List ℕ) where
   -- a word with the name
   pub name-if : (e off j : ℕ) → isName b s e off j ≡ true → (eqb (role (e % 32) j) 1 ≡ true) × (strAt b s (wordOf b s e j) ≡ strAt b s off)
   unfolding isName

@@ -11,7 +11,7 @@ use lib.Dec.{eqb}
 use borrow.Author.Tests.{eq-eqb, ne-eqb, le-ltb}
 use Rattle.spec_c_dumper.specs.rules.Types.{isEmpty}
 use Rattle.spec_c_dumper.specs.rules.Names.{sameBytes}
-use Rattle.spec_type_table.specs.declared.types.Btf.{Btf}
+use Rattle.spec_type_table.specs.declared.types.TypeTable.{TypeTable}
 use Rattle.spec_type_table.specs.Names.{upToZero, nameAt, strAt}
 use Rattle.btf_open_causes.specs.references.Followed.{countOf, entryAt}
 use Rattle.btf_open_names.specs.name_classes.Table.{hashFrom}
@@ -50,7 +50,7 @@ filledPart (fillingOf f l) = f
 unfoldable lengthsPart : Filling → List ℕ
 lengthsPart (fillingOf f l) = l
 
-module _ (b : Btf) (s start ids : List ℕ) (short : length s ≤ 16777216) where
+module _ (b : TypeTable) (s start ids : List ℕ) (short : length s ≤ 16777216) where
   -- the way of a name, and whether it ends at a free slot
   abbrev wayOf : List ℕ → List ℕ → ℕ
   wayOf t name = probe b s t name (hashFrom 0 name % 262144) 262144

@@ -9,7 +9,7 @@ use lib.ListN.{length, getD, set}
 use lib.Dec.{ltb, eqb}
 use borrow.Author.Tests.{eq-eqb, ne-eqb, eqb-true, lt-ltb, le-ltb, ltb-true}
 use Rattle.spec_bytes.specs.words.Words.{getWord}
-use Rattle.spec_type_table.specs.declared.types.Btf.{Btf}
+use Rattle.spec_type_table.specs.declared.types.TypeTable.{TypeTable}
 use Rattle.btf_open_causes.specs.references.Followed.{countOf, entryAt, kindAt, placeOf, countAt, idAt, followedCount, followedId}
 use Rattle.btf_open_causes.specs.references.Zeros.{zeros}
 use Rattle.btf_open_causes.proofs.references.Zeros.{zeros-less}
@@ -53,7 +53,7 @@ more-pushed f h k m st d m′ st′ r y e q p = rw add-one (p ∙ (λ i. pushed 
 pub all-pushed : (f : ℕ → ℕ) (h h′ : Heap) (n k : ℕ) → k ≤ n → n ≤ k → h′ ≡ pushedTo f h k → h′ ≡ pushedTo f h n
 all-pushed f h h′ n k l g e = let z : k ≡ n = omega (arith, l, g) in e ∙ ap (pushedTo f h) z
 
-pub all-followed : (b : Btf) (s start : List ℕ) (x e : ℕ) → e ≡ entryAt b start x → (n k : ℕ) → n ≡ countAt b s (e % 32) (e / 32) → k ≤ n → n ≤ k → (h h′ : Heap) → h′ ≡ pushedTo (idAt b s (e % 32) (e / 32)) h k
+pub all-followed : (b : TypeTable) (s start : List ℕ) (x e : ℕ) → e ≡ entryAt b start x → (n k : ℕ) → n ≡ countAt b s (e % 32) (e / 32) → k ≤ n → n ≤ k → (h h′ : Heap) → h′ ≡ pushedTo (idAt b s (e % 32) (e / 32)) h k
     → h′ ≡ pushedTo (followedId b s start x) h (followedCount b s start x)
 unfolding followedId followedCount kindAt placeOf
 all-followed b s start x e q n k c l g h h′ p =
@@ -94,7 +94,7 @@ one-less : (m st : List ℕ) (d : ℕ) → suc (weight (heap m st d)) ≡ weight
 unfolding weight
 one-less m st d = omega arith
 
-module _ (b : Btf) (s start : List ℕ) where
+module _ (b : TypeTable) (s start : List ℕ) where
   pub turn-light : (m st : List ℕ) (d : ℕ) → weight (turned b s start (heap m st (suc d))) < weight (heap m st (suc d))
   unfolding turned
   turn-light m st d =
@@ -154,7 +154,7 @@ module _ (b : Btf) (s start : List ℕ) where
       stay (suc n) = refl
 
 -- ---- all of it
-pub ids-are : (b : Btf) (s start given m m₁ st₁ : List ℕ) (d : ℕ) (m₂ st₂ m₃ m₄ : List ℕ) → heap m₁ st₁ d ≡ pushedTo (getWord given) (heap m allZero 0) (length given / 4)
+pub ids-are : (b : TypeTable) (s start given m m₁ st₁ : List ℕ) (d : ℕ) (m₂ st₂ m₃ m₄ : List ℕ) → heap m₁ st₁ d ≡ pushedTo (getWord given) (heap m allZero 0) (length given / 4)
     → heap m₂ st₂ 0 ≡ closed b s start (weight (heap m₁ st₁ d)) (heap m₁ st₁ d) → m₃ ≡ taggedTo b s start m₂ (countOf b) → m₄ ≡ numbersOf m₃ → m₄ ≡ idsOf b s start given m
 unfolding idsOf reachedMarks asked
 ids-are b s start given m m₁ st₁ d m₂ st₂ m₃ m₄ e f g h =

@@ -10,7 +10,7 @@ use lib.Seq.{drop-cons}
 use borrow.Author.Tests.{eq-eqb, ne-eqb}
 use Rattle.spec_c_dumper.specs.rules.Types.{isEmpty}
 use Rattle.spec_c_dumper.specs.rules.Names.{sameBytes}
-use Rattle.spec_type_table.specs.declared.types.Btf.{Btf}
+use Rattle.spec_type_table.specs.declared.types.TypeTable.{TypeTable}
 use Rattle.spec_type_table.specs.Names.{upToZero, nameAt, strAt}
 use Rattle.btf_open_causes.specs.references.Followed.{entryAt}
 use Rattle.session_cut_marks.specs.roles.Words.{role, wordsIn, wordOf}
@@ -76,7 +76,7 @@ up-to-short [] = omega arith
 up-to-short (zero ∷ l) = omega arith
 up-to-short (suc x ∷ l) = omega (arith, up-to-short l)
 
-module _ (b : Btf) (s : List ℕ) where
+module _ (b : TypeTable) (s : List ℕ) where
   pub name-short : (off : ℕ) → length (strAt b s off) ≤ length s
   unfolding nameAt
   name-short off = omega (arith, up-to-short (drop (b .strs + off) s), length-drop (b .strs + off) s)

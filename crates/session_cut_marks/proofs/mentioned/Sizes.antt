@@ -6,7 +6,7 @@ use mathlib.Core.Bool.{Bool, true, false}
 use mathlib.Core.List.{List, [], _∷_, _++_}
 use lib.ListN.{length, getD, length-append}
 use lib.Dec.{eqb}
-use Rattle.spec_type_table.specs.declared.types.Btf.{Btf}
+use Rattle.spec_type_table.specs.declared.types.TypeTable.{TypeTable}
 use Rattle.spec_type_table.specs.Names.{strAt}
 use Rattle.btf_open_causes.specs.references.Followed.{entryAt}
 use Rattle.session_cut_marks.specs.roles.Words.{wordsIn, wordOf}
@@ -16,7 +16,7 @@ use Rattle.session_cut_marks.specs.mentioned.Strings.{nameBytes, namesBy
 pub longer : (a c : List ℕ) (k n : ℕ) → length a ≡ k → length c ≡ n → length (a ++ c) ≡ k + n
 longer a c k n e f = length-append a c ∙ (λ i. e i + f i)
 
-module _ (b : Btf) (s start ids : List ℕ) where
+module _ (b : TypeTable) (s start ids : List ℕ) where
   pub name-length : (x e j : ℕ) → length (nameBytes b s start ids x e j) ≡ newSize b s start ids x e j
   unfolding nameBytes newSize
   name-length x e j = go (isNew b s start ids x e j)

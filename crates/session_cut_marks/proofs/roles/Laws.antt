@@ -7,7 +7,7 @@ use mathlib.Core.List.{List, [], _∷_}
 use lib.ListN.{length, getD}
 use borrow.Author.Tests.{eq-eqb, ne-eqb, lt-ltb, le-ltb}
 use Rattle.spec_bytes.specs.text.Text.{ascii}
-use Rattle.spec_type_table.specs.declared.types.Btf.{Btf}
+use Rattle.spec_type_table.specs.declared.types.TypeTable.{TypeTable}
 use Rattle.spec_type_table.specs.Records.{sectionWord, vlenOf}
 use Rattle.session_cut_marks.specs.roles.Words.{digitAt, fixedWords, entryWords, roles, column, role, wordsIn}
 
@@ -78,11 +78,11 @@ role-is kind j per col r e f g = g ∙ ap (λ (k : ℕ). digitAt roles (kind * 6
 pub product-few : (g v : ℕ) → g ≤ 255 → v ≤ 65535 → g * v ≤ 16711425
 product-few g v a c = let h : g * v ≤ 255 * v = mul-le-mul-right v a in omega (arith, h, c)
 
-pub words-are : (b : Btf) (s : List ℕ) (e f g i v : ℕ) → f ≡ fixedWords (e % 32) → g ≡ entryWords (e % 32) → i ≡ sectionWord b s (e / 32 + 4) → v ≡ vlenOf i → f + g * v ≡ wordsIn b s e
+pub words-are : (b : TypeTable) (s : List ℕ) (e f g i v : ℕ) → f ≡ fixedWords (e % 32) → g ≡ entryWords (e % 32) → i ≡ sectionWord b s (e / 32 + 4) → v ≡ vlenOf i → f + g * v ≡ wordsIn b s e
 unfolding wordsIn
 words-are b s e f g i v p q h k = λ j. p j + q j * (k ∙ ap vlenOf h) j
 
-pub words-few : (b : Btf) (s : List ℕ) (e : ℕ) → wordsIn b s e ≤ 589824
+pub words-few : (b : TypeTable) (s : List ℕ) (e : ℕ) → wordsIn b s e ≤ 589824
 unfolding wordsIn
 words-few b s e =
     let v : ℕ = vlenOf (sectionWord b s (e / 32 + 4)) in

@@ -8,7 +8,7 @@ use mathlib.Core.List.{List, [], _∷_}
 use lib.ListN.{length, getD, set}
 use lib.Dec.{ltb, eqb}
 use borrow.Author.Tests.{eq-eqb, ne-eqb, lt-ltb, le-ltb}
-use Rattle.spec_type_table.specs.declared.types.Btf.{Btf}
+use Rattle.spec_type_table.specs.declared.types.TypeTable.{TypeTable}
 use Rattle.spec_type_table.specs.Records.{sectionWord}
 use Rattle.btf_open_causes.specs.references.Followed.{countOf, entryAt, kindAt, placeOf}
 use Rattle.session_cut_marks.specs.tags.Tags.{tagOn, taggedAt, taggedTo, Numbered, numbered, numbersIn, numberedAt, numberedTo, numbersOf}
@@ -18,7 +18,7 @@ peek-past [] i h = refl
 peek-past (x ∷ l) zero h = absurd (omega (arith, h))
 peek-past (x ∷ l) (suc i) h = peek-past l i (omega (arith, h))
 
-module _ (b : Btf) (s start : List ℕ) where
+module _ (b : TypeTable) (s start : List ℕ) where
   -- ---- tags
   module _ (x e : ℕ) (q : e ≡ entryAt b start x) where
     kind-of : e % 32 ≡ kindAt b start x

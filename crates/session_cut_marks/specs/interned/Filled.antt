@@ -6,7 +6,7 @@ use mathlib.Core.List.{List}
 use lib.ListN.{length, getD, set, replicate}
 use lib.Dec.{ltb, eqb}
 use Rattle.spec_c_dumper.specs.rules.Types.{isEmpty}
-use Rattle.spec_type_table.specs.declared.types.Btf.{Btf}
+use Rattle.spec_type_table.specs.declared.types.TypeTable.{TypeTable}
 use Rattle.spec_type_table.specs.Names.{strAt}
 use Rattle.btf_open_causes.specs.references.Followed.{countOf, entryAt}
 use Rattle.session_cut_marks.specs.roles.Words.{role, wordsIn, wordOf}
@@ -27,7 +27,7 @@ lengthOf (filledOf len t) = len
 unfoldable pub after : Filled → (ℕ → List ℕ → Filled) → Filled
 after (filledOf len t) step = step len t
 
-module _ (b : Btf) (s start ids : List ℕ) where
+module _ (b : TypeTable) (s start ids : List ℕ) where
   module _ (x e j : ℕ) where
     -- the name of word j, whose slot is i: new where the slot is free; where it has no slot, the plain way says whether it is new
     unfoldable pub settled : ℕ → ℕ → ℕ → List ℕ → Filled
@@ -77,7 +77,7 @@ pub data Filling : Type 0 where
   fillingOf : Filled → List ℕ → Filling
 
 -- of all types; nothing of a section above 16,777,216 bytes
-unfoldable pub filling : Btf → List ℕ → List ℕ → List ℕ → List ℕ → List ℕ → Filling
+unfoldable pub filling : TypeTable → List ℕ → List ℕ → List ℕ → List ℕ → List ℕ → Filling
 filling b s start ids t l =
     elim (ltb 16777216 (length s)) [
       | true ↦ fillingOf (filledOf 0 t) l

@@ -5,11 +5,11 @@ use mathlib.Core.List.{List}
 use lib.ListN.{getD}
 use lib.Dec.{eqb}
 use Rattle.spec_c_dumper.specs.rules.Names.{sameBytes}
-use Rattle.spec_type_table.specs.declared.types.Btf.{Btf}
+use Rattle.spec_type_table.specs.declared.types.TypeTable.{TypeTable}
 use Rattle.spec_type_table.specs.Names.{strAt}
 use Rattle.btf_open_names.specs.name_classes.Table.{hashFrom}
 
-module _ (b : Btf) (s t : List ℕ) where
+module _ (b : TypeTable) (s t : List ℕ) where
   -- slot i is free, or has the name
   unfoldable pub stops : List ℕ → ℕ → Bool
   stops name i = elim (eqb (getD t i 0) 0) [ true ↦ true | false ↦ sameBytes (strAt b s (getD t i 0 % 4294967296)) name ]

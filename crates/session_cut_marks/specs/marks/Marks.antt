@@ -6,7 +6,7 @@ use mathlib.Core.List.{List}
 use lib.ListN.{length, getD, set, replicate}
 use lib.Dec.{ltb, eqb}
 use Rattle.spec_bytes.specs.words.Words.{getWord}
-use Rattle.spec_type_table.specs.declared.types.Btf.{Btf}
+use Rattle.spec_type_table.specs.declared.types.TypeTable.{TypeTable}
 use Rattle.btf_open_causes.specs.references.Followed.{countOf, followedCount, followedId}
 use Rattle.btf_open_causes.specs.references.Zeros.{zeros}
 use Rattle.session_cut_marks.specs.tags.Tags.{taggedTo, numbersOf}
@@ -41,7 +41,7 @@ pushedTo f h (suc n) = pushed (pushedTo f h n) (f n)
 unfoldable pub weight : Heap → ℕ
 weight (heap m st d) = zeros m + zeros m + d
 
-module _ (b : Btf) (s start : List ℕ) where
+module _ (b : TypeTable) (s start : List ℕ) where
   -- the last id is taken from the stack, and what it follows is put there
   unfoldable pub turned : Heap → Heap
   turned (heap m st zero) = heap m st zero
@@ -57,7 +57,7 @@ module _ (b : Btf) (s start : List ℕ) where
 unfoldable pub allZero : List ℕ
 allZero = replicate 262145 0
 
-module _ (b : Btf) (s start given : List ℕ) where
+module _ (b : TypeTable) (s start given : List ℕ) where
   -- the given ids, on an empty stack; m: the marks before
   unfoldable pub asked : List ℕ → Heap
   asked m = pushedTo (getWord given) (heap m allZero 0) (length given / 4)

@@ -4,13 +4,13 @@ use mathlib.Core.Bool.{true, false}
 use mathlib.Core.List.{List, [], _∷_, _++_}
 use lib.ListN.{getD}
 use lib.Dec.{eqb}
-use Rattle.spec_type_table.specs.declared.types.Btf.{Btf}
+use Rattle.spec_type_table.specs.declared.types.TypeTable.{TypeTable}
 use Rattle.spec_type_table.specs.Names.{strAt}
 use Rattle.btf_open_causes.specs.references.Followed.{entryAt}
 use Rattle.session_cut_marks.specs.roles.Words.{wordsIn, wordOf}
 use Rattle.session_cut_marks.specs.mentioned.Names.{isNew}
 
-module _ (b : Btf) (s start ids : List ℕ) where
+module _ (b : TypeTable) (s start ids : List ℕ) where
   -- a new name, and its 0
   unfoldable pub nameBytes : ℕ → ℕ → ℕ → List ℕ
   nameBytes x e j = elim (isNew b s start ids x e j) [ true ↦ strAt b s (wordOf b s e j) ++ (0 ∷ []) | false ↦ [] ]

@@ -5,7 +5,7 @@ use mathlib.Core.List.{List}
 use lib.ListN.{getD}
 use lib.Dec.{ltb, eqb}
 use Rattle.spec_bytes.specs.text.Text.{ascii}
-use Rattle.spec_type_table.specs.declared.types.Btf.{Btf}
+use Rattle.spec_type_table.specs.declared.types.TypeTable.{TypeTable}
 use Rattle.spec_type_table.specs.Records.{sectionWord, vlenOf}
 
 -- digit i of a text of digits, and 0 past its end
@@ -37,7 +37,7 @@ unfoldable pub role : ℕ → ℕ → ℕ
 role kind j = digitAt roles (kind * 6 + column (entryWords kind) j)
 
 -- e: place * 32 + kind
-module _ (b : Btf) (s : List ℕ) (e : ℕ) where
+module _ (b : TypeTable) (s : List ℕ) (e : ℕ) where
   unfoldable pub wordsIn : ℕ
   wordsIn = fixedWords (e % 32) + entryWords (e % 32) * vlenOf (sectionWord b s (e / 32 + 4))
 

@@ -5,11 +5,11 @@ use mathlib.Core.List.{List}
 use lib.ListN.{length, getD, set}
 use lib.Dec.{ltb, eqb}
 use Rattle.spec_bytes.specs.words.Words.{pick}
-use Rattle.spec_type_table.specs.declared.types.Btf.{Btf}
+use Rattle.spec_type_table.specs.declared.types.TypeTable.{TypeTable}
 use Rattle.spec_type_table.specs.Records.{sectionWord}
 use Rattle.btf_open_causes.specs.references.Followed.{kindAt, placeOf}
 
-module _ (b : Btf) (s start : List ℕ) where
+module _ (b : TypeTable) (s start : List ℕ) where
   -- "their declaration tags (no tags of tags or of void)": what the DECL_TAG x is on, where that is no DECL_TAG; else 0
   unfoldable pub tagOn : ℕ → ℕ
   tagOn x =

@@ -9,7 +9,7 @@ use btf_open_causes::references::count;
 use btf_open_causes::references::entry;
 use btf_type_table::name::get_btf_str;
 use btf_type_table::name::is_empty;
-use spec_type_table::Btf;
+use spec_type_table::TypeTable;
 ghost use mathlib.Core.Path.{_≡_};
 ghost use Prim.Native.Nat.{_≤_, _+_};
 ghost use lib.ListN.{length, set};
@@ -19,7 +19,7 @@ ghost use Rattle.session_cut_marks.specs.roles.Words.{wordsIn};
 ghost use Rattle.session_cut_marks.specs.interned.Filled.{filledOf, settled, entered, enteredTo, enteredType, fillingOf, filling};
 
 // The bytes that a name takes in the strings.
-fn size(b: Btf, section: &[u8], off: u32) -> u32
+fn size(b: TypeTable, section: &[u8], off: u32) -> u32
     requires { ⌜ length (now section) ≤ 16777216 ⌝ }
     ensures { λ r. ⌜ r ≡ length (strAt b (now (section .entry)) off) + 1 ⌝ }
 {
@@ -27,7 +27,7 @@ fn size(b: Btf, section: &[u8], off: u32) -> u32
 }
 
 // The bytes of a new name, by the plain way.
-fn new_size(b: Btf, section: &[u8], start: &[u32], ids: &[u32], x: u32, e: u32, j: u32) -> u32
+fn new_size(b: TypeTable, section: &[u8], start: &[u32], ids: &[u32], x: u32, e: u32, j: u32) -> u32
     requires { ⌜ length (now section) ≤ 16777216 ⌝ }
     ensures { λ r. ⌜ r ≡ newSize b (now (section .entry)) (now (start .entry)) (now (ids .entry)) x e j ⌝ }
 {
@@ -39,7 +39,7 @@ fn new_size(b: Btf, section: &[u8], start: &[u32], ids: &[u32], x: u32, e: u32, 
 
 // The name of word j, whose slot is i: entered where the slot is free.
 fn settle(
-    b: Btf,
+    b: TypeTable,
     section: &[u8],
     start: &[u32],
     ids: &[u32],
@@ -67,7 +67,7 @@ fn settle(
 
 // Word j of type x.
 fn enter(
-    b: Btf,
+    b: TypeTable,
     section: &[u8],
     start: &[u32],
     ids: &[u32],
@@ -96,7 +96,7 @@ fn enter(
 
 // The words of the record with entry e, that of type x.
 fn enter_words(
-    b: Btf,
+    b: TypeTable,
     section: &[u8],
     start: &[u32],
     ids: &[u32],
@@ -120,7 +120,7 @@ fn enter_words(
 
 // Type x, if it is kept.
 fn enter_type(
-    b: Btf,
+    b: TypeTable,
     section: &[u8],
     start: &[u32],
     ids: &[u32],
@@ -148,7 +148,7 @@ fn store(l: &mut [u32], i: usize, v: u32)
 // The table of all types, and in `lengths` the length of the strings before each. Returns the length of the strings; above 16,777,216 it
 // says no more than that.
 pub fn fill_table(
-    b: Btf,
+    b: TypeTable,
     section: &[u8],
     start: &[u32],
     ids: &[u32],

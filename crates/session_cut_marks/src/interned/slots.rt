@@ -1,7 +1,7 @@
 // Where a name stands in the table, and what the table has for it.
 use crate::mentioned::same_name;
 use btf_open_names::keys::hash_name;
-use spec_type_table::Btf;
+use spec_type_table::TypeTable;
 ghost use mathlib.Core.Path.{_≡_};
 ghost use lib.ListN.{getD};
 ghost use Rattle.spec_type_table.specs.Names.{strAt};
@@ -18,7 +18,7 @@ fn peek(t: &[u64], i: usize) -> u64
 }
 
 // Whether slot i is free or has the name.
-fn stops(b: Btf, section: &[u8], table: &[u64], off: u32, i: u32) -> bool
+fn stops(b: TypeTable, section: &[u8], table: &[u64], off: u32, i: u32) -> bool
     ensures { λ r. ⌜ r ≡ stops b (now (section .entry)) (now (table .entry)) (strAt b (now (section .entry)) off) i ⌝ }
 {
     let v = peek(table, i as usize);
@@ -29,7 +29,7 @@ fn stops(b: Btf, section: &[u8], table: &[u64], off: u32, i: u32) -> bool
 }
 
 // The slot of a name, or 262,144.
-pub(crate) fn slot_of(b: Btf, section: &[u8], table: &[u64], off: u32) -> u32
+pub(crate) fn slot_of(b: TypeTable, section: &[u8], table: &[u64], off: u32) -> u32
     ensures { λ r. ⌜ r ≡ slotOf b (now (section .entry)) (now (table .entry)) off ⌝ }
 {
     let mut i = hash_name(section, (b.strs as usize) + (off as usize), 0) % 262144;
@@ -45,7 +45,7 @@ pub(crate) fn slot_of(b: Btf, section: &[u8], table: &[u64], off: u32) -> u32
 }
 
 // What the table has for a name: its place times 2 ^ 32 and an offset of it, or 0.
-pub fn find(b: Btf, section: &[u8], table: &[u64], off: u32) -> u64
+pub fn find(b: TypeTable, section: &[u8], table: &[u64], off: u32) -> u64
     ensures { λ r. ⌜ r ≡ found b (now (section .entry)) (now (table .entry)) off ⌝ }
 {
     let i = slot_of(b, section, table, off);

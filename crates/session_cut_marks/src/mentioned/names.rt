@@ -5,7 +5,7 @@ use crate::roles::words_in;
 use btf_open_causes::references::entry;
 use btf_type_table::name::get_btf_str;
 use btf_type_table::name::is_empty;
-use spec_type_table::Btf;
+use spec_type_table::TypeTable;
 ghost use mathlib.Core.Path.{_≡_};
 ghost use lib.ListN.{getD};
 ghost use Rattle.spec_c_dumper.specs.rules.Names.{sameBytes};
@@ -42,7 +42,7 @@ fn same_bytes(a: &[u8], c: &[u8]) -> bool
 }
 
 // Whether the names at two offsets are the same.
-pub fn same_name(b: Btf, section: &[u8], p: u32, q: u32) -> bool
+pub fn same_name(b: TypeTable, section: &[u8], p: u32, q: u32) -> bool
     ensures { λ r. ⌜ r ≡ sameBytes (strAt b (now (section .entry)) p) (strAt b (now (section .entry)) q) ⌝ }
 {
     if p == q {
@@ -54,7 +54,7 @@ pub fn same_name(b: Btf, section: &[u8], p: u32, q: u32) -> bool
 }
 
 // Whether word j of the record with entry e is the offset of this name.
-fn is_name(b: Btf, section: &[u8], e: u32, off: u32, j: u32) -> bool
+fn is_name(b: TypeTable, section: &[u8], e: u32, off: u32, j: u32) -> bool
     ensures { λ r. ⌜ r ≡ isName b (now (section .entry)) e off j ⌝ }
 {
     if role(e % 32, j) != 1 {
@@ -64,7 +64,7 @@ fn is_name(b: Btf, section: &[u8], e: u32, off: u32, j: u32) -> bool
 }
 
 // Whether one of its first n words is.
-fn named_to(b: Btf, section: &[u8], e: u32, off: u32, n: u32) -> bool
+fn named_to(b: TypeTable, section: &[u8], e: u32, off: u32, n: u32) -> bool
     ensures { λ r. ⌜ r ≡ namedTo b (now (section .entry)) e off n ⌝ }
 {
     let mut found = false;
@@ -76,7 +76,7 @@ fn named_to(b: Btf, section: &[u8], e: u32, off: u32, n: u32) -> bool
     found
 }
 
-fn or_name(b: Btf, section: &[u8], e: u32, off: u32, j: u32, found: bool) -> bool
+fn or_name(b: TypeTable, section: &[u8], e: u32, off: u32, j: u32, found: bool) -> bool
     ensures { λ r. ⌜ r ≡ orName b (now (section .entry)) e off j found ⌝ }
 {
     if found {
@@ -86,7 +86,7 @@ fn or_name(b: Btf, section: &[u8], e: u32, off: u32, j: u32, found: bool) -> boo
 }
 
 // The first such word, or n.
-pub fn first_name(b: Btf, section: &[u8], e: u32, off: u32, n: u32) -> u32
+pub fn first_name(b: TypeTable, section: &[u8], e: u32, off: u32, n: u32) -> u32
     ensures { λ r. ⌜ r ≡ firstFrom b (now (section .entry)) e off 0 n ⌝ }
 {
     let mut j: u32 = 0;
@@ -100,7 +100,7 @@ pub fn first_name(b: Btf, section: &[u8], e: u32, off: u32, n: u32) -> u32
 }
 
 // Whether type y is kept and mentions the name.
-pub fn mentions(b: Btf, section: &[u8], start: &[u32], ids: &[u32], off: u32, y: u32) -> bool
+pub fn mentions(b: TypeTable, section: &[u8], start: &[u32], ids: &[u32], off: u32, y: u32) -> bool
     ensures { λ r. ⌜ r ≡ mentions b (now (section .entry)) (now (start .entry)) (now (ids .entry)) off y ⌝ }
 {
     if peek(ids, y as usize) == 0 {
@@ -111,7 +111,7 @@ pub fn mentions(b: Btf, section: &[u8], start: &[u32], ids: &[u32], off: u32, y:
 }
 
 fn or_mentions(
-    b: Btf,
+    b: TypeTable,
     section: &[u8],
     start: &[u32],
     ids: &[u32],
@@ -128,7 +128,7 @@ fn or_mentions(
 }
 
 // Whether one of the types before x does.
-fn mentioned_to(b: Btf, section: &[u8], start: &[u32], ids: &[u32], off: u32, x: u32) -> bool
+fn mentioned_to(b: TypeTable, section: &[u8], start: &[u32], ids: &[u32], off: u32, x: u32) -> bool
     ensures { λ r. ⌜ r ≡ mentionedTo b (now (section .entry)) (now (start .entry)) (now (ids .entry)) off x ⌝ }
 {
     let mut found = false;
@@ -141,7 +141,15 @@ fn mentioned_to(b: Btf, section: &[u8], start: &[u32], ids: &[u32], off: u32, x:
 }
 
 // Whether word j of type x mentions a name for the first time.
-pub fn is_new(b: Btf, section: &[u8], start: &[u32], ids: &[u32], x: u32, e: u32, j: u32) -> bool
+pub fn is_new(
+    b: TypeTable,
+    section: &[u8],
+    start: &[u32],
+    ids: &[u32],
+    x: u32,
+    e: u32,
+    j: u32,
+) -> bool
     ensures { λ r. ⌜ r ≡ isNew b (now (section .entry)) (now (start .entry)) (now (ids .entry)) x e j ⌝ }
 {
     if role(e % 32, j) != 1 {

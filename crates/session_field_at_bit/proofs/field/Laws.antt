@@ -12,7 +12,7 @@ use Rattle.spec_bytes.specs.words.Words.{putWord}
 use Rattle.spec_bytes.proofs.words.Laws.{le-or-lt}
 use Rattle.spec_c_dumper.specs.rules.Writer.{Ask, got, no, askThen}
 use Rattle.spec_c_dumper.specs.rules.Types.{BtfType}
-use Rattle.spec_type_table.specs.declared.types.Btf.{Btf}
+use Rattle.spec_type_table.specs.declared.types.TypeTable.{TypeTable}
 use Rattle.spec_type_table.specs.declared.types.BtfType.{BtfType as Record}
 use Rattle.spec_type_table.specs.Records.{kindOf, recordById}
 use Rattle.spec_type_table.specs.Table.{extraWord, typeOf, btfOf}
@@ -39,7 +39,7 @@ use Rattle.session_field_at_bit.specs.field.Code.{written, answerTo}
 near : {P : Type 0} → (n k : ℕ) → n ≤ k → (k ≡ n → P) → (suc n ≤ k → P) → P
 near n k h p q = ⊎-elim q (λ l. p (omega arith)) (le-or-lt (suc n) k)
 
-module _ (b : Btf) (s : List ℕ) (t : Record) (k : ℕ) (ek : k ≡ kindOf (t .info)) where
+module _ (b : TypeTable) (s : List ℕ) (t : Record) (k : ℕ) (ek : k ≡ kindOf (t .info)) where
   shape-is : (T : BtfType) (S : Shape) → typeOf b s t ≡ T → shapeOf T ≡ S → S ≡ shapeOf (typeOf b s t)
   shape-is T S q e = sym (ap shapeOf q ∙ e)
 
@@ -95,7 +95,7 @@ module _ (b : Btf) (s : List ℕ) (t : Record) (k : ℕ) (ek : k ≡ kindOf (t .
       let h : 20 ≤ kindOf (t .info) = omega arith in shape-is _ _ (type-none b s t h) refl))))))))
 
 -- ---- is_composite
-module _ (b : Btf) (s : List ℕ) (x : CodeShape) (X : Shape) (ex : shapeIs b s x ≡ X) where
+module _ (b : TypeTable) (s : List ℕ) (x : CodeShape) (X : Shape) (ex : shapeIs b s x ≡ X) where
   pub composite-plain : x ≡ shape.Plain → false ≡ isComposite X
   unfolding shapeIs isComposite
   composite-plain g = ap isComposite (sym (ap (shapeIs b s) g) ∙ ex)
@@ -113,7 +113,7 @@ module _ (b : Btf) (s : List ℕ) (x : CodeShape) (X : Shape) (ex : shapeIs b s 
   composite-is t g = ap isComposite (sym (ap (shapeIs b s) g) ∙ ex)
 
 -- ---- behind
-module _ (b : Btf) (s w : List ℕ) (left id : ℕ) where
+module _ (b : TypeTable) (s w : List ℕ) (left id : ℕ) where
   pub behind-none : left ≡ 0 → shapeIs b s shape.Plain ≡ behind left (btfOf b s w) id
   unfolding shapeIs behind
   behind-none e = rw e
@@ -177,7 +177,7 @@ module _ (path : List ℕ) (n k : ℕ) where
       ∙ ap (ledTo (got (n + 1 + length p))) (entry-then (leb (n + 1 + length p) (length path / 4)) p)
       ∙ ap (λ (m : ℕ). ledTo (got m) (elim (leb m (length path / 4)) [ true ↦ putWords path n (k ∷ p) | false ↦ path ])) z
 
-module _ (b : Btf) (s w : List ℕ) (path : List ℕ) (id bit n : ℕ) (x : CodeShape) (ex : shapeIs b s x ≡ behind 512 (btfOf b s w) id) (r : CodeStep) (er : stepIs r ≡ stepIn (btfOf b s w) bit (shapeIs b s x)) where
+module _ (b : TypeTable) (s w : List ℕ) (path : List ℕ) (id bit n : ℕ) (x : CodeShape) (ex : shapeIs b s x ≡ behind 512 (btfOf b s w) id) (r : CodeStep) (er : stepIs r ≡ stepIn (btfOf b s w) bit (shapeIs b s x)) where
   step-is : stepIs r ≡ stepIn (btfOf b s w) bit (behind 512 (btfOf b s w) id)
   step-is = er ∙ ap (stepIn (btfOf b s w) bit) ex
 
@@ -253,7 +253,7 @@ module _ (room : ℕ) where
   answer-whole (suc l) n h = sym (rw (le-leb (suc l) room h, answerTo))
 
 -- ---- find_field
-module _ (b : Btf) (s w path : List ℕ) (id bit : ℕ) (t : Record) (et : t ≡ recordById b s w id) (q : Bool) (eq : q ≡ isComposite (shapeOf (typeOf b s t))) where
+module _ (b : TypeTable) (s w path : List ℕ) (id bit : ℕ) (t : Record) (et : t ≡ recordById b s w id) (q : Bool) (eq : q ≡ isComposite (shapeOf (typeOf b s t))) where
   is-composite : isComposite (shapeOf (btfOf b s w .type-by-id id)) ≡ q
   unfolding btfOf
   is-composite = sym (eq ∙ ap (λ (z : Record). isComposite (shapeOf (typeOf b s z))) et)
@@ -310,7 +310,7 @@ module _ (s : Session) (section w path : List ℕ) (id bit : ℕ) (q : Bool) (eq
     unfolding fieldCall
     call-10 l = sym (rw (sym eq ∙ not-true q h, fieldCall, le-ltb id (s .types) l))
 
-    pub call-is : id < s .types → (b : Btf) (a : Answer) (path′ : List ℕ) → b ≡ tableFor s section → foundOf a path′ ≡ lentPath path (fieldPath (btfOf b section w) id bit) → foundOf a path′ ≡ fieldCall s section w path id bit
+    pub call-is : id < s .types → (b : TypeTable) (a : Answer) (path′ : List ℕ) → b ≡ tableFor s section → foundOf a path′ ≡ lentPath path (fieldPath (btfOf b section w) id bit) → foundOf a path′ ≡ fieldCall s section w path id bit
     unfolding fieldCall
     call-is l b a path′ eb ea =
-        ea ∙ ap (λ (z : Btf). lentPath path (fieldPath (btfOf z section w) id bit)) eb ∙ sym (rw (sym eq ∙ not-true q h, fieldCall, lt-ltb id (s .types) l))
+        ea ∙ ap (λ (z : TypeTable). lentPath path (fieldPath (btfOf z section w) id bit)) eb ∙ sym (rw (sym eq ∙ not-true q h, fieldCall, lt-ltb id (s .types) l))

@@ -10,7 +10,7 @@ use borrow.Author.Tests.{lt-ltb, le-ltb, le-leb, lt-leb, ne-eqb}
 use Rattle.spec_bytes.specs.words.Words.{putWord}
 use Rattle.spec_c_dumper.specs.rules.Writer.{Ask, got, no, askThen}
 use Rattle.spec_c_dumper.specs.rules.Layout.{getSizeOf, endOf}
-use Rattle.spec_type_table.specs.declared.types.Btf.{Btf}
+use Rattle.spec_type_table.specs.declared.types.TypeTable.{TypeTable}
 use Rattle.spec_type_table.specs.declared.types.BtfType.{BtfType as Record}
 use Rattle.spec_type_table.specs.declared.types.BtfMember.{BtfMember}
 use Rattle.spec_type_table.specs.Records.{vlenOf, memberOf}
@@ -85,7 +85,7 @@ not-true false e = sym e
 clash : {P : Type 0} → true ≡ false → P
 clash e = let z : _≡_ {A = ℕ} 0 1 = cc in absurd (omega arith)
 
-module _ (b : Btf) (s w : List ℕ) (t : Record) (bit : ℕ) where
+module _ (b : TypeTable) (s w : List ℕ) (t : Record) (bit : ℕ) where
   -- what the members from k on say
   pub triedRest : ℕ → Ask Step
   triedRest k = tried (btfOf b s w) bit k (from (λ i. ruleMember b s (memberOf b s t i)) k (vlenOf (t .info) - k))
@@ -161,7 +161,7 @@ module _ (t size bit : ℕ) where
   place-is n = sym (rw (ne-eqb size 0 n, placed))
 
 -- ---- next_step
-module _ (b : Btf) (s w : List ℕ) (bit : ℕ) (x : CodeShape) where
+module _ (b : TypeTable) (s w : List ℕ) (bit : ℕ) (x : CodeShape) where
   pub next-plain : x ≡ shape.Plain → stepIs step.Stay ≡ stepIn (btfOf b s w) bit (shapeIs b s x)
   unfolding stepIs stepIn shapeIs
   next-plain g = sym (ap (λ (z : CodeShape). stepIn (btfOf b s w) bit (shapeIs b s z)) g)

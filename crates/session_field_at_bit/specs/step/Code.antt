@@ -6,7 +6,7 @@ use lib.Dec.{leb, eqb}
 use lib.ListN.{length}
 use Rattle.spec_bytes.specs.words.Words.{putWord}
 use Rattle.spec_c_dumper.specs.rules.Writer.{Ask, got, no}
-use Rattle.spec_type_table.specs.declared.types.Btf.{Btf}
+use Rattle.spec_type_table.specs.declared.types.TypeTable.{TypeTable}
 use Rattle.spec_type_table.specs.declared.types.BtfMember.{BtfMember}
 use Rattle.spec_type_table.specs.Table.{membersOf}
 use Rattle.session_field_at_bit.specs.declared.step.Shape.{Shape as CodeShape}
@@ -16,7 +16,7 @@ use Rattle.session_field_at_bit.specs.declared.step.Step.the-variants.{S
 use Rattle.session_field_at_bit.specs.step.Path.{Shape, plain, through, array, composite, Step, stay, enter, field, covers}
 
 -- a composite is its record
-unfoldable pub shapeIs : Btf → List ℕ → CodeShape → Shape
+unfoldable pub shapeIs : TypeTable → List ℕ → CodeShape → Shape
 shapeIs b s Plain = plain
 shapeIs b s (Through t) = through t
 shapeIs b s (Array t) = array t

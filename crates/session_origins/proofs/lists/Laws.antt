@@ -16,7 +16,7 @@ use Rattle.spec_session.specs.session.Answers.{numberOf, answerOf}
 use Rattle.spec_session.specs.session.Turns.{callOf, turnOf}
 use Rattle.spec_session.specs.calls.Lists.{idsIn, countIn}
 use Rattle.spec_session.proofs.calls.Lists.{idsFrom, ids-all, ids-cons}
-use Rattle.spec_line_origins.specs.origins.Bytes.{CauseCall, typeCauses}
+use Rattle.spec_session.specs.origin_calls.Bytes.{CauseCall, typeCauses}
 use Rattle.session_origins.specs.declared.requests.Explained.{Explained}
 use Rattle.session_origins.specs.requests.Explained.{explainedOf}
 use Rattle.session_origins.specs.lists.Several.{front, goOn, listFromCauses, listCausesCall}

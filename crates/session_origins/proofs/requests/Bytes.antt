@@ -8,9 +8,9 @@ use lib.Seq.{take-suc}
 use Rattle.spec_bytes.specs.words.Words.{getWord}
 use Rattle.spec_bytes.proofs.words.Laws.{get-in}
 use Rattle.spec_session.specs.session.Turns.{thenZeros}
-use Rattle.spec_line_origins.specs.origins.Causes.{Entry, wordBytes, bytesOf, filled}
-use Rattle.session_origins_walk.specs.entries.Noted.{entryAt, entriesOf}
-use Rattle.session_origins_walk.proofs.entries.Laws.{entries-length}
+use Rattle.spec_c_dumper.specs.origins.Causes.{Entry, wordBytes, bytesOf, filled}
+use Rattle.c_dumper_emit.specs.entries.Noted.{entryAt, entriesOf}
+use Rattle.c_dumper_emit.proofs.entries.Laws.{entries-length}
 
 assoc : (a b c : List ℕ) → (a ++ b) ++ c ≡ a ++ (b ++ c)
 assoc [] b c = refl

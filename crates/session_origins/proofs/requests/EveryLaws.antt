@@ -11,7 +11,7 @@ use borrow.Author.Tests.{not-true, not-false}
 use borrow.Rule.Slice.PartMut.{midOf, postOf, putMid, mid-len, same-len-mid}
 use Rattle.spec_bytes.specs.words.Words.{getWord}
 use Rattle.spec_bytes.proofs.words.Laws.{get-in}
-use Rattle.spec_type_table.specs.declared.types.Btf.{Btf}
+use Rattle.spec_type_table.specs.declared.types.TypeTable.{TypeTable}
 use Rattle.spec_type_table.specs.Cells.{getField}
 use Rattle.spec_type_table.specs.Table.{btfOf}
 use Rattle.btf_open_causes.specs.header.Header.{btfOf as settingsOf}
@@ -26,12 +26,12 @@ use Rattle.spec_session.proofs.session.Laws.{reach-accepted, reach-refused}
 use Rattle.spec_session.specs.calls.Refusals.{notCurrent, refusal}
 use Rattle.spec_session.specs.calls.Calls.{cameTo, lentTo, requested}
 use Rattle.spec_session.proofs.calls.Laws.{idle-reach}
-use Rattle.spec_line_origins.specs.origins.Causes.{Entry, entry, upTo, filled, entriesIn}
-use Rattle.spec_line_origins.specs.origins.Claims.{forget}
-use Rattle.spec_line_origins.specs.origins.Bytes.{Reached as Came, entriesAfter, cameToNoted, requestedNoted, onwardNoted, requestedFromNoted, leftAlone, typesCauses}
-use Rattle.session_origins_walk.specs.entries.Noted.{entryAt, entriesOf}
-use Rattle.session_origins_walk.proofs.entries.Laws.{entries-length}
-use Rattle.spec_line_origins.proofs.origins_after.Shift.{behind, requested-shift, idle-noted}
+use Rattle.spec_c_dumper.specs.origins.Causes.{Entry, entry, upTo, filled, entriesIn}
+use Rattle.spec_c_dumper.specs.origins.Claims.{forget}
+use Rattle.spec_session.specs.origin_calls.Bytes.{Reached as Came, entriesAfter, cameToNoted, requestedNoted, onwardNoted, requestedFromNoted, leftAlone, typesCauses}
+use Rattle.c_dumper_emit.specs.entries.Noted.{entryAt, entriesOf}
+use Rattle.c_dumper_emit.proofs.entries.Laws.{entries-length}
+use Rattle.spec_session.proofs.origins_after.Shift.{behind, requested-shift, idle-noted}
 use Rattle.session_origins.specs.declared.requests.Told.{Told}
 use Rattle.session_origins.specs.requests.Explained.{cameOf, explainedOf}
 use Rattle.session_origins.proofs.requests.Laws.{explained-is, is-11, settles}
@@ -97,7 +97,7 @@ module _ (l u : List ℕ) (k : ℕ) (h : k * 12 ≤ length l) (same : length u �
       ∙ append-assoc (entriesOf k l) (entriesOf j u) (entryAt u j ∷ [])
 
 -- ---- dump_at
-module _ (b : Btf) (s w t l : List ℕ) (len v k id : ℕ) (h : k ≤ entriesIn l) (r : Told) (w′ t′ u : List ℕ) (same : length u ≡ length (midOf (k * 12) (length l - k * 12) l))
+module _ (b : TypeTable) (s w t l : List ℕ) (len v k id : ℕ) (h : k ≤ entriesIn l) (r : Told) (w′ t′ u : List ℕ) (same : length u ≡ length (midOf (k * 12) (length l - k * 12) l))
     (e : cameOf r w′ t′ u ≡ requestedNoted (upTo (entriesIn (midOf (k * 12) (length l - k * 12) l))) b s id [] len v w t) (small : r .count ≤ entriesIn (midOf (k * 12) (length l - k * 12) l)) where
   tail-length : length (midOf (k * 12) (length l - k * 12) l) ≡ length l - k * 12
   tail-length = mid-len (k * 12) (length l) l (omega arith)
@@ -120,10 +120,10 @@ module _ (b : Btf) (s w t l : List ℕ) (len v k id : ℕ) (h : k ≤ entriesIn 
 
 -- ---- dump_next
 -- the visits as the code reads them
-pub read-before : (room : ℕ) (b : Btf) (s w t : List ℕ) (es : List Entry) (len id v : ℕ) (q : Came) → q ≡ requestedNoted (upTo room) b s id es len v w t → v ≡ visitsIn w → q ≡ requestedNoted (upTo room) b s id es len (visitsIn w) w t
+pub read-before : (room : ℕ) (b : TypeTable) (s w t : List ℕ) (es : List Entry) (len id v : ℕ) (q : Came) → q ≡ requestedNoted (upTo room) b s id es len v w t → v ≡ visitsIn w → q ≡ requestedNoted (upTo room) b s id es len (visitsIn w) w t
 read-before room b s w t es len id v q e h = e ∙ ap (λ (u : ℕ). requestedNoted (upTo room) b s id es len u w t) h
 
-pub next-idle : (b : Btf) (s w t l : List ℕ) (room len u v k id : ℕ) → len ≤ length t → (q : Bool) → q ≡ isIdle (markOf (getField w id 1)) (tableIn b s w .node id) → q ≡ true
+pub next-idle : (b : TypeTable) (s w t l : List ℕ) (room len u v k id : ℕ) → len ≤ length t → (q : Bool) → q ≡ isIdle (markOf (getField w id 1)) (tableIn b s w .node id) → q ≡ true
     → cameOf (record { reached = record { len = len; number = 0; visits = u }; count = k }) w t l ≡ requestedNoted (upTo room) b s id (entriesOf k l) len v w t
 unfolding cameOf requestedNoted cameToNoted forget entriesAfter requested
 next-idle b s w t l room len u v k id h q e z =
@@ -132,11 +132,11 @@ next-idle b s w t l room len u v k id h q e z =
     ∙ sym (ap (cameToNoted len v t (entriesOf k l)) (idle-noted b s w (lentTo len t) id (upTo room) (entriesOf k l) idle))
 
 -- ---- dump_all
-pub all-start : (more : ℕ → Bool) (b : Btf) (s : List ℕ) (n id len : ℕ) (w t l : List ℕ) → requestedFromNoted more b s n id [] len w t ≡ requestedFromNoted more b s n id (entriesOf 0 l) len w t
+pub all-start : (more : ℕ → Bool) (b : TypeTable) (s : List ℕ) (n id len : ℕ) (w t l : List ℕ) → requestedFromNoted more b s n id [] len w t ≡ requestedFromNoted more b s n id (entriesOf 0 l) len w t
 unfolding entriesOf
 all-start more b s n id len w t l = refl
 
-module _ (room : ℕ) (b : Btf) (s : List ℕ) (whole : Came) where
+module _ (room : ℕ) (b : TypeTable) (s : List ℕ) (whole : Came) where
   abbrev more : ℕ → Bool
   more = upTo room
 
@@ -171,10 +171,10 @@ module _ (s : Session) (section w t l : List ℕ) (q : Bool) (eq : q ≡ isCurre
   unfolding typesCauses
   types-11 h turn et = explained-is s section w t l q eq turn 0 w t l (leftAlone (unchanged s (refusal notCurrent (s .«text_len»)) w t) l) (is-11 s section w t l q eq h turn et) refl refl ∙ sym (rw (sym eq ∙ not-true q h, typesCauses))
 
-  pub types-done : (h : not q ≡ false) (b : Btf) (eb : b ≡ settingsOf section (s .«pointer_size») (s .modes) (s .types)) (r : Told) (w′ t′ l′ : List ℕ) (lw : length w′ ≡ length w) (lt : length t′ ≡ length t) (ll : length l′ ≡ length l)
+  pub types-done : (h : not q ≡ false) (b : TypeTable) (eb : b ≡ settingsOf section (s .«pointer_size») (s .modes) (s .types)) (r : Told) (w′ t′ l′ : List ℕ) (lw : length w′ ≡ length w) (lt : length t′ ≡ length t) (ll : length l′ ≡ length l)
       (turn : Turn) (w″ t″ l″ : List ℕ) (et : callOf (turn .session) (turn .answer) w″ t″ ≡ settled s (length w′) (length t′) (reachOf (r .reached) w′ t′)) (es : l″ ≡ filled (length l′) (entriesOf (r .count) l′))
       → cameOf r w′ t′ l′ ≡ requestedFromNoted (upTo (entriesIn l)) b section (b .types - 1) 1 [] (s .«text_len») w t → explainedOf (record { turn = turn; count = r .count }) w″ t″ l″ ≡ typesCauses s section w t l
   unfolding typesCauses
   types-done h b eb r w′ t′ l′ lw lt ll turn w″ t″ l″ et es er =
-      settles s section w t l q eq h b eb r w′ t′ l′ lw lt ll turn w″ t″ l″ et es _ (er ∙ ap (λ (a : Btf). requestedFromNoted (upTo (entriesIn l)) a section (a .types - 1) 1 [] (s .«text_len») w t) eb)
+      settles s section w t l q eq h b eb r w′ t′ l′ lw lt ll turn w″ t″ l″ et es _ (er ∙ ap (λ (a : TypeTable). requestedFromNoted (upTo (entriesIn l)) a section (a .types - 1) 1 [] (s .«text_len») w t) eb)
       ∙ sym (rw (sym eq ∙ not-false q h, typesCauses))

@@ -14,10 +14,11 @@ use Rattle.spec_bytes.proofs.words.Laws.{le-or-lt}
 use Rattle.spec_bytes.proofs.text.TextLaws.{out-stopped}
 use Rattle.spec_c_dumper.specs.rules.Machine.{Out, wrote, stuck, pick, obind}
 use Rattle.spec_c_dumper.specs.rules.Types.{Btf as Rules, tableOf}
-use Rattle.spec_type_table.specs.declared.types.Btf.{Btf}
+use Rattle.spec_type_table.specs.declared.types.TypeTable.{TypeTable}
 use Rattle.spec_type_table.specs.Table.{btfOf}
 use Rattle.btf_open_causes.specs.header.Header.{btfOf as settingsOf}
-use Rattle.spec_session.specs.emission.Sheet.{Sheet, emitOut, workMachine, dumped}
+use Rattle.spec_session.specs.emission.Sheet.{Sheet, emitOut, workMachine}
+use Rattle.spec_c_dumper.specs.rules.Request.{dumped}
 use Rattle.spec_session.proofs.emission.Laws.{sheet}
 use Rattle.spec_session.proofs.emission.Laws as plainly
 use Rattle.spec_session.specs.declared.session.Session.{Session}
@@ -29,13 +30,13 @@ use Rattle.spec_session.proofs.session.Laws.{reach-accepted, reach-refused, cle
 use Rattle.spec_session.specs.calls.Refusals.{number, value, notCurrent, idNotBelow, refusal}
 use Rattle.spec_session.specs.calls.Calls.{limitOf, arrivedAt, cameTo, requested}
 use Rattle.spec_session.proofs.calls.Laws.{arrived-in, arrived-past, asked, one-bound, one-reach}
-use Rattle.spec_line_origins.specs.origins.Causes.{Noted, withEntries, upTo, showsIn, filled, entriesIn}
-use Rattle.spec_line_origins.specs.origins.Claims.{forget, Lined}
-use Rattle.spec_line_origins.specs.origins.Bytes.{dumpedNoted, Reached as Came, entriesAfter, cameToNoted, requestedNoted, CauseCall, settledNoted, leftAlone, typeCauses}
-use Rattle.spec_line_origins.proofs.origins.Bytes.{dumped-lined}
-use Rattle.session_origins_walk.specs.declared.entries.Pen.{Pen}
-use Rattle.session_origins_walk.specs.entries.Noted.{entriesOf, notedOut}
-use Rattle.session_origins_walk.proofs.entries.Laws.{paper, goes, halts, entries-length}
+use Rattle.spec_c_dumper.specs.origins.Causes.{Noted, withEntries, upTo, showsIn, filled, entriesIn}
+use Rattle.spec_c_dumper.specs.origins.Claims.{forget, Lined}
+use Rattle.spec_session.specs.origin_calls.Bytes.{dumpedNoted, Reached as Came, entriesAfter, cameToNoted, requestedNoted, CauseCall, settledNoted, leftAlone, typeCauses}
+use Rattle.spec_session.proofs.origin_calls.Bytes.{dumped-lined}
+use Rattle.c_dumper_emit.specs.declared.entries.Pen.{Pen}
+use Rattle.c_dumper_emit.specs.entries.Noted.{entriesOf, notedOut}
+use Rattle.c_dumper_emit.proofs.entries.Laws.{paper, goes, halts, entries-length}
 use Rattle.session_origins_walk.specs.request.Kept.{noLeads, Before, withLeads, dumpedKept}
 use Rattle.session_origins_walk.proofs.request.Requests.{forgetLeads, forget-with, dumped-kept, kept-before, few-types}
 use Rattle.session_origins.specs.declared.requests.Told.{Told}
@@ -57,7 +58,7 @@ no-wrote c m q = let z : _≡_ {A = ℕ} 0 1 = cc in omega arith
 wrote-same : (m m′ : Noted Sheet) → wrote m ≡ wrote m′ → m ≡ m′
 wrote-same m m′ q = cc
 
-module _ (b : Btf) (few : b .types ≤ 262145) (s w t l : List ℕ) (len id to : ℕ) (small : id < 4294967296) (below : len ≤ to) (ends : to ≤ length t) (d : Pen) (u w′ l′ : List ℕ) (same : length u ≡ length (midOf len (to - len) t))
+module _ (b : TypeTable) (few : b .types ≤ 262145) (s w t l : List ℕ) (len id to : ℕ) (small : id < 4294967296) (below : len ≤ to) (ends : to ≤ length t) (d : Pen) (u w′ l′ : List ℕ) (same : length u ≡ length (midOf len (to - len) t))
     (turn : ℕ) (k k′ : List ℕ) (size : length k ≡ 262145) (old : Before turn k)
     (e : withLeads k′ (notedOut 0 d u w′ l′) ≡ obind (withLeads k (notedOut 0 (record { at = 0; count = 0 }) (midOf len (to - len) t) w l)) (λ m. dumpedKept b (btfOf b s w) (entriesIn l) m id turn)) where
   abbrev X : Rules
@@ -207,9 +208,9 @@ pub made : replicate 262145 0 ≡ noLeads
 unfolding noLeads
 made = refl
 
-pub few-settings : (section : List ℕ) (pointer modes types : ℕ) (b : Btf) → b ≡ settingsOf section pointer modes types → b .types ≤ 262145
+pub few-settings : (section : List ℕ) (pointer modes types : ℕ) (b : TypeTable) → b ≡ settingsOf section pointer modes types → b .types ≤ 262145
 unfolding settingsOf
-few-settings section pointer modes types b e = subst (λ (n : ℕ). n ≤ 262145) (sym (ap (λ (x : Btf). x .types) e)) (go (ltb types 262145) refl)
+few-settings section pointer modes types b e = subst (λ (n : ℕ). n ≤ 262145) (sym (ap (λ (x : TypeTable). x .types) e)) (go (ltb types 262145) refl)
   where
     go : (c : Bool) → ltb types 262145 ≡ c → pick c types 262145 ≤ 262145
     go true q = let h : types < 262145 = ltb-true types 262145 q in omega arith
@@ -236,7 +237,7 @@ module _ (s : Session) (section w t l : List ℕ) (q : Bool) (eq : q ≡ isCurre
         explained-is turn 0 w t l (leftAlone (unchanged s (refusal idNotBelow (s .«text_len»)) w t) l) (λ j. record { session = et j .session; answer = et j .answer; work = w; text = t }) refl refl
         ∙ sym (rw (sym eq ∙ not-false q h, typeCauses, le-ltb id (s .types) i))
 
-    module _ (b : Btf) (eb : b ≡ settingsOf section (s .«pointer_size») (s .modes) (s .types)) (r : Told) (w′ t′ l′ : List ℕ) (lw : length w′ ≡ length w) (lt : length t′ ≡ length t) (ll : length l′ ≡ length l)
+    module _ (b : TypeTable) (eb : b ≡ settingsOf section (s .«pointer_size») (s .modes) (s .types)) (r : Told) (w′ t′ l′ : List ℕ) (lw : length w′ ≡ length w) (lt : length t′ ≡ length t) (ll : length l′ ≡ length l)
         (turn : Turn) (w″ t″ l″ : List ℕ) (et : callOf (turn .session) (turn .answer) w″ t″ ≡ settled s (length w′) (length t′) (reachOf (r .reached) w′ t′)) (es : l″ ≡ filled (length l′) (entriesOf (r .count) l′)) where
       pub settles : (a : Came) → cameOf r w′ t′ l′ ≡ a → explainedOf (record { turn = turn; count = r .count }) w″ t″ l″ ≡ settledNoted s (length w) (length t) l a
       unfolding settledNoted cameOf
@@ -247,5 +248,5 @@ module _ (s : Session) (section w t l : List ℕ) (q : Bool) (eq : q ≡ isCurre
       pub type-done : (id : ℕ) → id < s .types → cameOf r w′ t′ l′ ≡ requestedNoted (upTo (entriesIn l)) b section id [] (s .«text_len») (s .visits) w t → explainedOf (record { turn = turn; count = r .count }) w″ t″ l″ ≡ typeCauses s section w t id l
       unfolding typeCauses
       type-done id i er =
-          settles _ (er ∙ ap (λ (a : Btf). requestedNoted (upTo (entriesIn l)) a section id [] (s .«text_len») (s .visits) w t) eb)
+          settles _ (er ∙ ap (λ (a : TypeTable). requestedNoted (upTo (entriesIn l)) a section id [] (s .«text_len») (s .visits) w t) eb)
           ∙ sym (rw (sym eq ∙ not-false q h, typeCauses, lt-ltb id (s .types) i))

@@ -6,7 +6,7 @@ use lib.ListN.{take, drop}
 use Rattle.spec_session.specs.declared.session.Session.{Session}
 use Rattle.spec_session.specs.session.Answers.{numberOf, answerOf}
 use Rattle.spec_session.specs.session.Turns.{callOf}
-use Rattle.spec_line_origins.specs.origins.Bytes.{CauseCall, typeCauses}
+use Rattle.spec_session.specs.origin_calls.Bytes.{CauseCall, typeCauses}
 
 -- what comes after some entries, which stand in the first bytes of the list
 abbrev pub front : ℕ → List ℕ → CauseCall → CauseCall

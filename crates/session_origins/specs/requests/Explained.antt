@@ -2,8 +2,8 @@
 use Prim.Native.Nat.{ℕ}
 use mathlib.Core.List.{List}
 use Rattle.spec_session.specs.session.Turns.{callOf, reachOf}
-use Rattle.spec_line_origins.specs.origins.Bytes.{Reached as Came, CauseCall}
-use Rattle.session_origins_walk.specs.entries.Noted.{entriesOf}
+use Rattle.spec_session.specs.origin_calls.Bytes.{Reached as Came, CauseCall}
+use Rattle.c_dumper_emit.specs.entries.Noted.{entriesOf}
 use Rattle.session_origins.specs.declared.requests.Told.{Told}
 use Rattle.session_origins.specs.declared.requests.Explained.{Explained}
 

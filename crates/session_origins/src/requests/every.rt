@@ -11,21 +11,21 @@ use session_record::settle::turn_of;
 use session_record::settle::visits_in;
 use spec_session::session::Reached;
 use spec_session::session::Session;
-use spec_type_table::Btf;
+use spec_type_table::TypeTable;
 ghost use Prim.Native.Nat.{_+_, _-_, _≤_};
 ghost use mathlib.Core.Path.{_≡_};
 ghost use mathlib.Core.List.{[]};
 ghost use lib.ListN.{length};
 ghost use Rattle.spec_session.specs.session.Turns.{visitsIn};
-ghost use Rattle.spec_line_origins.specs.origins.Causes.{upTo, entriesIn};
-ghost use Rattle.spec_line_origins.specs.origins.Bytes.{requestedNoted, requestedFromNoted, typesCauses};
-ghost use Rattle.session_origins_walk.specs.entries.Noted.{entriesOf};
+ghost use Rattle.spec_c_dumper.specs.origins.Causes.{upTo, entriesIn};
+ghost use Rattle.spec_session.specs.origin_calls.Bytes.{requestedNoted, requestedFromNoted, typesCauses};
+ghost use Rattle.c_dumper_emit.specs.entries.Noted.{entriesOf};
 ghost use Rattle.session_origins_walk.specs.request.Kept.{Before};
 ghost use Rattle.session_origins.specs.requests.Explained.{cameOf, explainedOf};
 
 // One id, after a text of len bytes, so many visits and so many entries. Its turn is the id itself.
 fn dump_at(
-    b: Btf,
+    b: TypeTable,
     section: &[u8],
     work: &mut [u8],
     text: &mut [u8],
@@ -61,7 +61,7 @@ fn dump_at(
 
 // The same; most ids of a table have nothing to write.
 fn dump_next(
-    b: Btf,
+    b: TypeTable,
     section: &[u8],
     work: &mut [u8],
     text: &mut [u8],
@@ -90,7 +90,7 @@ fn dump_next(
 
 // Every id from 1 upward, to the first that is refused.
 fn dump_all(
-    b: Btf,
+    b: TypeTable,
     section: &[u8],
     work: &mut [u8],
     text: &mut [u8],

@@ -10,7 +10,7 @@ use Rattle.spec_bytes.proofs.text.TextLaws.{put-fits, stays}
 use Rattle.spec_c_dumper.specs.rules.Order.{Res, ok, refused, bind}
 use Rattle.spec_c_dumper.specs.rules.Machine.{Out, wrote, stuck, obind, eeach}
 use Rattle.spec_c_dumper.specs.rules.Types.{Btf as Rules}
-use Rattle.spec_type_table.specs.declared.types.Btf.{Btf}
+use Rattle.spec_type_table.specs.declared.types.TypeTable.{TypeTable}
 use Rattle.spec_type_table.specs.Cells.{getField}
 use Rattle.spec_type_table.specs.Table.{from, btfOf}
 use Rattle.c_dumper_dependency_order.specs.declared.order_state.Order.{Order}
@@ -18,23 +18,23 @@ use Rattle.c_dumper_dependency_order.specs.order_state.Work.{workStore, tableIn
 use Rattle.spec_session.specs.emission.Sheet.{Sheet, sheetStore, emptied, workMachine}
 use Rattle.spec_session.proofs.emission.Frame.{places}
 use Rattle.spec_session.proofs.emission.Laws.{sheet, by-out}
-use Rattle.spec_line_origins.specs.origins.Causes.{Entry, Noted}
-use Rattle.session_origins_walk.specs.leaders.Leads.{Kept, orderKept, keptOut, entryIn}
-use Rattle.session_origins_walk.proofs.leaders.Laws.{keptOf, table-kept}
-use Rattle.session_origins_walk.proofs.leaders.Laws as kept
-use Rattle.session_origins_walk.specs.declared.entries.Pen.{Pen}
-use Rattle.session_origins_walk.specs.entries.Noted.{notedOut, emitN}
-use Rattle.session_origins_walk.proofs.entries.Frame.{Stays, on, off, stays-then, places-emit}
-use Rattle.session_origins_walk.proofs.entries.Laws.{paper, goes, halts, obind-then, at-sheet, entry-stays}
-use Rattle.session_origins_walk.proofs.entries.Walk.{Rest, rest-start, rest-turn, rest-end}
+use Rattle.spec_c_dumper.specs.origins.Causes.{Entry, Noted}
+use Rattle.c_dumper_dependency_order.specs.leaders.Leads.{Kept, orderKept, keptOut, entryIn}
+use Rattle.c_dumper_dependency_order.proofs.leaders.Laws.{keptOf, table-kept}
+use Rattle.c_dumper_dependency_order.proofs.leaders.Laws as kept
+use Rattle.c_dumper_emit.specs.declared.entries.Pen.{Pen}
+use Rattle.c_dumper_emit.specs.entries.Noted.{notedOut, emitN}
+use Rattle.c_dumper_emit.proofs.entries.Frame.{Stays, on, off, stays-then, places-emit}
+use Rattle.c_dumper_emit.proofs.entries.Laws.{paper, goes, halts, obind-then, at-sheet, entry-stays}
+use Rattle.c_dumper_emit.proofs.entries.Walk.{Rest, rest-start, rest-turn, rest-end}
 use Rattle.session_origins_walk.specs.request.Kept.{wayTo, Beside, withLeads, orderedKept, eachKept, listedKept, dumpedKept}
 
 -- ---- the listed ids: the walk, and that the list is as it was
-pub record Listing (b : Btf) (s : List ℕ) (room : ℕ) (why : ℕ → Entry) (w₀ : List ℕ) (n : ℕ) (p₀ : Pen) (tx₀ l₀ : List ℕ) (p : Pen) (tx w li : List ℕ) (k : ℕ) : Type 0 where
+pub record Listing (b : TypeTable) (s : List ℕ) (room : ℕ) (why : ℕ → Entry) (w₀ : List ℕ) (n : ℕ) (p₀ : Pen) (tx₀ l₀ : List ℕ) (p : Pen) (tx w li : List ℕ) (k : ℕ) : Type 0 where
   pub rest : Rest b s room why w₀ 512 0 (places w₀) n p₀ tx₀ l₀ n p tx w li k
   pub list : Stays places w₀ (notedOut n p tx w li)
 
-module _ (b : Btf) (s : List ℕ) (room : ℕ) (why : ℕ → Entry) (w₀ : List ℕ) (n : ℕ) (p₀ : Pen) (tx₀ l₀ : List ℕ) where
+module _ (b : TypeTable) (s : List ℕ) (room : ℕ) (why : ℕ → Entry) (w₀ : List ℕ) (n : ℕ) (p₀ : Pen) (tx₀ l₀ : List ℕ) where
   pub listing-start : Listing b s room why w₀ n p₀ tx₀ l₀ p₀ tx₀ w₀ l₀ 0
   listing-start = record { rest = rest-start b s room why w₀ 512 0 (places w₀) n p₀ tx₀ l₀ n; list = entry-stays b s places n p₀ tx₀ w₀ l₀ }
 
@@ -69,7 +69,7 @@ module _ (b : Btf) (s : List ℕ) (room : ℕ) (why : ℕ → Entry) (w₀ : Lis
 abbrev begin : Order
 begin = record { spare = 0; len = 0; stop = 0; «is_strong» = false }
 
-module _ (b : Btf) (s : List ℕ) (room : ℕ) (p : Pen) (tx w li : List ℕ) (id turn : ℕ) (o : Order) (w₁ l₁ l₀ : List ℕ)
+module _ (b : TypeTable) (s : List ℕ) (room : ℕ) (p : Pen) (tx w li : List ℕ) (id turn : ℕ) (o : Order) (w₁ l₁ l₀ : List ℕ)
     (e : keptOut o w₁ l₁ ≡ bind (keptOut begin w l₀) (λ m _. orderKept (wayTo id turn) 512 (tableIn b s w) m id false)) where
   abbrev X : Rules
   X = btfOf b s w

@@ -7,7 +7,7 @@ use native.Mathlib.Omega.{arith}
 use lib.Dec.{eqb}
 use Rattle.spec_c_dumper.specs.rules.Machine.{Out, wrote, isZero, pick, obind, eeach, once, close, within, begin}
 use Rattle.spec_c_dumper.specs.rules.Types.{BtfType, Btf as Rules, nodeOf, isNamed, tableOf}
-use Rattle.spec_type_table.specs.declared.types.Btf.{Btf}
+use Rattle.spec_type_table.specs.declared.types.TypeTable.{TypeTable}
 use Rattle.spec_type_table.specs.declared.types.BtfType.{BtfType as Record}
 use Rattle.spec_type_table.specs.declared.types.Entries.{Entries}
 use Rattle.spec_type_table.specs.declared.node.Node.{Node as Code}
@@ -20,12 +20,12 @@ use Rattle.spec_type_table.proofs.Frame.{field-other}
 use Rattle.c_dumper_dependency_order.proofs.order_state.Laws.{type-at, named-at, node-is}
 use Rattle.spec_session.specs.emission.Sheet.{Sheet, workMachine}
 use Rattle.spec_session.proofs.emission.Frame.{table-emark}
-use Rattle.spec_line_origins.specs.origins.Causes.{Entry, Noted, upTo, causeAt, emitNoted, showsIn}
-use Rattle.session_origins_walk.specs.declared.entries.Pen.{Pen}
-use Rattle.session_origins_walk.specs.entries.Noted.{notedOut, lineN, machN, emitN, newN, leafN, compositeN, hasN, mentionN}
-use Rattle.session_origins_walk.proofs.entries.Frame.{Stays, stays-then, table-each}
-use Rattle.session_origins_walk.proofs.entries.Laws.{withN, obind-then, obind-wrote, obind-same, then, work-sheet, same-table, entry-stays, called-stays}
-use Rattle.session_origins_walk.proofs.entries.Walk.{once-fwd, once-alias, zero-is}
+use Rattle.spec_c_dumper.specs.origins.Causes.{Entry, Noted, upTo, causeAt, emitNoted, showsIn}
+use Rattle.c_dumper_emit.specs.declared.entries.Pen.{Pen}
+use Rattle.c_dumper_emit.specs.entries.Noted.{notedOut, lineN, machN, emitN, newN, leafN, compositeN, hasN, mentionN}
+use Rattle.c_dumper_emit.proofs.entries.Frame.{Stays, stays-then, table-each}
+use Rattle.c_dumper_emit.proofs.entries.Laws.{withN, obind-then, obind-wrote, obind-same, then, work-sheet, same-table, entry-stays, called-stays}
+use Rattle.c_dumper_emit.proofs.entries.Walk.{once-fwd, once-alias, zero-is}
 use Rattle.session_origins_walk.specs.steps.Alone.{typedefN, mentionedN, endedN}
 
 -- ---- the measures: a call's is below its caller's
@@ -48,7 +48,7 @@ pub to-noted-new : (l t : ℕ) → 4 * l ≡ t → (l ≡ 0 → ⊥) → 4 * (l 
 to-noted-new l t e z = omega arith
 
 -- ---- emit_new
-module _ (b : Btf) (s : List ℕ) (room : ℕ) (why : ℕ → Entry) (n : ℕ) (p : Pen) (tx w li : List ℕ) (id cont left : ℕ) (t : Record) (et : t ≡ recordById b s w id) (nd : Code) (en : nodeIs b s nd ≡ nodeOf (typeOf b s t)) (x : Out (Noted Sheet)) where
+module _ (b : TypeTable) (s : List ℕ) (room : ℕ) (why : ℕ → Entry) (n : ℕ) (p : Pen) (tx w li : List ℕ) (id cont left : ℕ) (t : Record) (et : t ≡ recordById b s w id) (nd : Code) (en : nodeIs b s nd ≡ nodeOf (typeOf b s t)) (x : Out (Noted Sheet)) where
   abbrev Bn : Rules
   Bn = btfOf b s w
 
@@ -124,7 +124,7 @@ module _ (b : Btf) (s : List ℕ) (room : ℕ) (why : ℕ → Entry) (n : ℕ) (
           ∙ ap (λ (Q : Rules). obind (notedOut n a t₂ w₂ l₂) (λ m. typedefN b Q room (typeOf b s t) (causeAt 3 (why id) id cont) m id)) same₁
 
 -- ---- emit_composite
-module _ (b : Btf) (s : List ℕ) (room : ℕ) (why : ℕ → Entry) (n : ℕ) (p : Pen) (tx w li : List ℕ) (id cont left : ℕ) (t : Record) (et : t ≡ recordById b s w id) (nm : Bool) (en : nm ≡ isNamed (typeOf b s t)) (ms : List ℕ) where
+module _ (b : TypeTable) (s : List ℕ) (room : ℕ) (why : ℕ → Entry) (n : ℕ) (p : Pen) (tx w li : List ℕ) (id cont left : ℕ) (t : Record) (et : t ≡ recordById b s w id) (nm : Bool) (en : nm ≡ isNamed (typeOf b s t)) (ms : List ℕ) where
   abbrev Bc : Rules
   Bc = btfOf b s w
 

@@ -11,12 +11,12 @@ use borrow.Author.Tests.{eqb-true, eqb-false, eq-eqb, ne-eqb}
 use Rattle.spec_c_dumper.specs.rules.Order.{Table}
 use Rattle.c_dumper_dependency_order.specs.order_state.Work.{Marks, workStore}
 use Rattle.spec_session.specs.emission.Sheet.{Sheet, withMarks, sheetStore}
-use Rattle.spec_session.proofs.emission.Maps.{rmap, StoreMap}
-use Rattle.spec_line_origins.specs.origins.Causes.{ledBy, isAround, inside, Led, ledStore, orderLed, leaderOf, listedEntry, entry}
-use Rattle.spec_line_origins.proofs.origins.Ordering.{two-numbers}
-use Rattle.session_origins_walk.specs.declared.leaders.Way.{Way}
-use Rattle.session_origins_walk.specs.leaders.Leads.{ledTwo, wayFor, wordAt, isNoted, noteIn, leaderIn, entryIn, Kept, keptStore, orderKept}
-use Rattle.session_origins_walk.proofs.leaders.Maps.{map-visit}
+use Rattle.spec_c_dumper.proofs.rules.Maps.{rmap, StoreMap}
+use Rattle.spec_c_dumper.specs.origins.Causes.{ledBy, isAround, inside, Led, ledStore, orderLed, leaderOf, listedEntry, entry}
+use Rattle.spec_c_dumper.proofs.origins.Ordering.{two-numbers}
+use Rattle.c_dumper_dependency_order.specs.declared.leaders.Way.{Way}
+use Rattle.c_dumper_dependency_order.specs.leaders.Leads.{ledTwo, wayFor, wordAt, isNoted, noteIn, leaderIn, entryIn, Kept, keptStore, orderKept}
+use Rattle.c_dumper_dependency_order.proofs.leaders.Maps.{map-visit}
 use Rattle.session_origins_walk.specs.request.Kept.{Before}
 
 -- ---- the words after some notes

@@ -12,7 +12,7 @@ use Rattle.spec_bytes.proofs.words.Laws.{le-or-lt}
 use Rattle.spec_c_dumper.specs.rules.Order.{Node, ignored, plain, listed, through, ptr, tdef, proto, comp, Table, Res, ok, refused}
 use Rattle.spec_c_dumper.specs.rules.Machine.{Out, wrote, stuck, obind, eeach}
 use Rattle.spec_c_dumper.specs.rules.Types.{Btf as Rules, nodeOf, tableOf}
-use Rattle.spec_type_table.specs.declared.types.Btf.{Btf}
+use Rattle.spec_type_table.specs.declared.types.TypeTable.{TypeTable}
 use Rattle.spec_type_table.specs.declared.types.BtfType.{BtfType as Record}
 use Rattle.spec_type_table.specs.Cells.{getField}
 use Rattle.spec_type_table.specs.Records.{recordAt, voidRecord, recordById}
@@ -20,13 +20,13 @@ use Rattle.spec_type_table.proofs.KindLaws.{type-0}
 use Rattle.spec_type_table.specs.Table.{typeOf, btfOf}
 use Rattle.c_dumper_dependency_order.specs.order_state.Work.{Marks, workStore}
 use Rattle.spec_session.specs.emission.Sheet.{Sheet, marksIn, withMarks, sheetStore, workMachine}
-use Rattle.spec_session.proofs.emission.Maps.{rmap}
-use Rattle.spec_line_origins.specs.origins.Causes.{Entry, ledBy, isAround, Led, orderLed, listedEntry, Noted, upTo, emitNoted, showsIn}
-use Rattle.spec_line_origins.specs.origins.Claims.{isListed, LedTo}
-use Rattle.spec_line_origins.specs.origins.Bytes.{listedNoted, dumpedNoted}
-use Rattle.spec_line_origins.proofs.origins.Ordering.{Holds, holds, none, AllLed, order-led}
-use Rattle.session_origins_walk.specs.leaders.Leads.{ledTwo, wordAt, entryIn}
-use Rattle.session_origins_walk.specs.entries.Noted.{emitN}
+use Rattle.spec_c_dumper.proofs.rules.Maps.{rmap}
+use Rattle.spec_c_dumper.specs.origins.Causes.{Entry, ledBy, isAround, Led, orderLed, listedEntry, Noted, upTo, emitNoted, showsIn}
+use Rattle.spec_c_dumper.specs.origins.Claims.{isListed, LedTo}
+use Rattle.spec_session.specs.origin_calls.Bytes.{listedNoted, dumpedNoted}
+use Rattle.spec_c_dumper.proofs.origins.Ordering.{Holds, holds, none, AllLed, order-led}
+use Rattle.c_dumper_dependency_order.specs.leaders.Leads.{ledTwo, wordAt, entryIn}
+use Rattle.c_dumper_emit.specs.entries.Noted.{emitN}
 use Rattle.session_origins_walk.specs.request.Kept.{noLeads, Before, wayTo, Beside, withLeads, orderedKept, eachKept, listedKept, dumpedKept}
 use Rattle.session_origins_walk.proofs.request.Leaders.{tabled, keptFrom, order-kept, besideLed, lift-led, Fits, leader-is, before-none, before-more, tabled-before, entry-is}
 
@@ -73,7 +73,7 @@ no-leads = refl
 pub none-before : (l : List ℕ) → l ≡ noLeads → Before 1 l
 none-before l e = zeros-before 262145 l (e ∙ no-leads)
 
-module _ (b : Btf) (B : Rules) (few : Few B) (room : ℕ) (m : Sheet) (es : List Entry) (id : ℕ) (small : id < 4294967296) (turn : ℕ) (l₀ : List ℕ) (size : length l₀ ≡ 262145) (old : Before turn l₀) where
+module _ (b : TypeTable) (B : Rules) (few : Few B) (room : ℕ) (m : Sheet) (es : List Entry) (id : ℕ) (small : id < 4294967296) (turn : ℕ) (l₀ : List ℕ) (size : length l₀ ≡ 262145) (old : Before turn l₀) where
   abbrev T : Table
   T = tableOf B
 
@@ -130,7 +130,7 @@ module _ (b : Btf) (B : Rules) (few : Few B) (room : ℕ) (m : Sheet) (es : List
   kept-before k e = later (orderLed workStore id 512 T [] began id false) (order-led workStore T id 512 (marksIn m) false) k (sym kept-is ∙ e)
 
 -- a table of a session has no more types than there are words
-past-record : (b : Btf) (s w : List ℕ) (x : ℕ) → b .types ≤ x → recordById b s w x ≡ voidRecord
+past-record : (b : TypeTable) (s w : List ℕ) (x : ℕ) → b .types ≤ x → recordById b s w x ≡ voidRecord
 unfolding recordById
 past-record b s w x h = go (eqb x 0) (leb (b .types) x) (le-leb (b .types) x h)
   where
@@ -139,13 +139,13 @@ past-record b s w x h = go (eqb x 0) (leb (b .types) x) (le-leb (b .types) x h)
     go false true e = refl
     go false false e = absurd (true≢false (sym e))
 
-void-plain : (b : Btf) (s : List ℕ) → nodeOf (typeOf b s voidRecord) ≡ plain
+void-plain : (b : TypeTable) (s : List ℕ) → nodeOf (typeOf b s voidRecord) ≡ plain
 unfolding voidRecord
 void-plain b s = ap nodeOf (type-0 b s voidRecord refl)
 
-past-plain : (b : Btf) (s w : List ℕ) (x : ℕ) → b .types ≤ x → nodeOf (typeOf b s (recordById b s w x)) ≡ plain
+past-plain : (b : TypeTable) (s w : List ℕ) (x : ℕ) → b .types ≤ x → nodeOf (typeOf b s (recordById b s w x)) ≡ plain
 past-plain b s w x h = ap (λ (r : Record). nodeOf (typeOf b s r)) (past-record b s w x h) ∙ void-plain b s
 
-pub few-types : (b : Btf) (s w : List ℕ) → b .types ≤ 262145 → Few (btfOf b s w)
+pub few-types : (b : TypeTable) (s w : List ℕ) → b .types ≤ 262145 → Few (btfOf b s w)
 unfolding btfOf
 few-types b s w h x e = ⊎-elim (λ l. absurd (true≢false (sym e ∙ ap isListed (past-plain b s w x l)))) (λ l. omega arith) (le-or-lt (b .types) x)

@@ -9,18 +9,18 @@ use Rattle.spec_c_dumper.specs.rules.Machine.{Out, wrote, obind}
 use Rattle.spec_c_dumper.specs.rules.Types.{BtfType, Btf as Rules}
 use Rattle.spec_c_dumper.specs.alignment_once.Writers.{definitionOnce}
 use Rattle.btf_layout.specs.asked.Asked.{workAsks}
-use Rattle.spec_type_table.specs.declared.types.Btf.{Btf}
+use Rattle.spec_type_table.specs.declared.types.TypeTable.{TypeTable}
 use Rattle.spec_type_table.specs.Cells.{putField}
 use Rattle.spec_type_table.specs.Table.{btfOf, workNaming}
 use Rattle.spec_session.specs.emission.Sheet.{Sheet}
 use Rattle.spec_session.proofs.emission.Frame.{table-emark}
-use Rattle.spec_line_origins.specs.origins.Causes.{Entry, Noted}
-use Rattle.session_origins_walk.specs.declared.entries.Pen.{Pen}
-use Rattle.session_origins_walk.specs.entries.Noted.{notedOut, lineN, hasN, onceN, mentionN}
-use Rattle.session_origins_walk.proofs.entries.Laws.{then, work-sheet, work-last}
+use Rattle.spec_c_dumper.specs.origins.Causes.{Entry, Noted}
+use Rattle.c_dumper_emit.specs.declared.entries.Pen.{Pen}
+use Rattle.c_dumper_emit.specs.entries.Noted.{notedOut, lineN, hasN, onceN, mentionN}
+use Rattle.c_dumper_emit.proofs.entries.Laws.{then, work-sheet, work-last}
 use Rattle.session_origins_walk.specs.steps.Alone.{stateN, typedefN, mentionedN, endedN}
 
-module _ (b : Btf) (B : Rules) (room : ℕ) (ty : BtfType) (n : ℕ) (p : Pen) (tx w li : List ℕ) (id : ℕ) where
+module _ (b : TypeTable) (B : Rules) (room : ℕ) (ty : BtfType) (n : ℕ) (p : Pen) (tx w li : List ℕ) (id : ℕ) where
   pub typedef-ends : (e f : Entry) → f ≡ e → (a : Pen) (t₁ w₁ l₁ : List ℕ) → notedOut n a t₁ w₁ l₁ ≡ obind (notedOut n p tx w li) (λ m. onceN b B room ty f (hasN b B room m id) m id)
       → (w₂ : List ℕ) → w₂ ≡ putField w₁ id 13 2 → notedOut n a t₁ w₂ l₁ ≡ obind (notedOut n p tx w li) (λ m. typedefN b B room ty e m id)
   unfolding typedefN
@@ -45,7 +45,7 @@ module _ (b : Btf) (B : Rules) (room : ℕ) (ty : BtfType) (n : ℕ) (p : Pen) (
         ∙ ap (λ (g : Entry). obind (notedOut n p tx w li) (λ m. endedN b B room true ty g m id)) ef
         ∙ ap (λ (f : Bool). obind (notedOut n p tx w li) (λ m. endedN b B room f ty e m id)) (sym (eq-eqb cont 0 z))
 
-module _ (b : Btf) (s : List ℕ) (room : ℕ) (ty : BtfType) (n : ℕ) (p : Pen) (tx w li : List ℕ) (id cont : ℕ) where
+module _ (b : TypeTable) (s : List ℕ) (room : ℕ) (ty : BtfType) (n : ℕ) (p : Pen) (tx w li : List ℕ) (id cont : ℕ) where
   pub mentioned : (w₁ : List ℕ) → w₁ ≡ putField w id 13 1 → (a : Pen) (t₂ w₂ l₂ : List ℕ) → notedOut n a t₂ w₂ l₂ ≡ obind (notedOut n p tx w₁ li) (λ m. mentionN b (btfOf b s w₁) room ty cont m id)
       → (w₃ : List ℕ) → w₃ ≡ putField w₂ id 13 0 → notedOut n a t₂ w₃ l₂ ≡ obind (notedOut n p tx w li) (λ m. mentionedN b (btfOf b s w) room ty cont m id)
   unfolding mentionedN

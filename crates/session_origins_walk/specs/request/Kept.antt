@@ -7,12 +7,12 @@ use lib.ListN.{replicate}
 use Rattle.spec_c_dumper.specs.rules.Order.{Res, ok, refused}
 use Rattle.spec_c_dumper.specs.rules.Machine.{Out, wrote, stuck, obind, eeach}
 use Rattle.spec_c_dumper.specs.rules.Types.{Btf as Rules, tableOf}
-use Rattle.spec_type_table.specs.declared.types.Btf.{Btf}
+use Rattle.spec_type_table.specs.declared.types.TypeTable.{TypeTable}
 use Rattle.spec_session.specs.emission.Sheet.{Sheet, marksIn, withMarks, sheetStore, workMachine}
-use Rattle.spec_line_origins.specs.origins.Causes.{Noted}
-use Rattle.session_origins_walk.specs.declared.leaders.Way.{Way}
-use Rattle.session_origins_walk.specs.leaders.Leads.{wordAt, Kept, orderKept, entryIn}
-use Rattle.session_origins_walk.specs.entries.Noted.{emitN}
+use Rattle.spec_c_dumper.specs.origins.Causes.{Noted}
+use Rattle.c_dumper_dependency_order.specs.declared.leaders.Way.{Way}
+use Rattle.c_dumper_dependency_order.specs.leaders.Leads.{wordAt, Kept, orderKept, entryIn}
+use Rattle.c_dumper_emit.specs.entries.Noted.{emitN}
 
 -- before the first request of a call
 unfoldable pub noLeads : List ℕ
@@ -39,7 +39,7 @@ withLeads l (stuck c) = stuck c
 unfoldable pub orderedKept : Rules → Sheet → List ℕ → ℕ → ℕ → Res Kept
 orderedKept B m l id turn = orderKept (wayTo id turn) 512 (tableOf B) (record { marks = marksIn m; leads = l }) id false
 
-module _ (b : Btf) (B : Rules) (room : ℕ) where
+module _ (b : TypeTable) (B : Rules) (room : ℕ) where
   -- the sheet that ordering left, with the entries so far
   abbrev pub besideKept : Noted Sheet → Kept → Noted Sheet
   besideKept m s = record { mach = withMarks (m .mach) (s .marks); entries = m .entries }

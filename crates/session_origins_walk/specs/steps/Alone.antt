@@ -5,18 +5,18 @@ use Rattle.spec_c_dumper.specs.rules.Machine.{Out, wrote, obind}
 use Rattle.spec_c_dumper.specs.rules.Types.{BtfType, Btf as Rules}
 use Rattle.spec_c_dumper.specs.alignment_once.Writers.{definitionOnce}
 use Rattle.btf_layout.specs.asked.Asked.{workAsks}
-use Rattle.spec_type_table.specs.declared.types.Btf.{Btf}
+use Rattle.spec_type_table.specs.declared.types.TypeTable.{TypeTable}
 use Rattle.spec_type_table.specs.Cells.{putField}
 use Rattle.spec_type_table.specs.Table.{workNaming}
 use Rattle.spec_session.specs.emission.Sheet.{Sheet, withWork}
-use Rattle.spec_line_origins.specs.origins.Causes.{Entry, Noted}
-use Rattle.session_origins_walk.specs.entries.Noted.{lineN, hasN, onceN, mentionN}
+use Rattle.spec_c_dumper.specs.origins.Causes.{Entry, Noted}
+use Rattle.c_dumper_emit.specs.entries.Noted.{lineN, hasN, onceN, mentionN}
 
 -- the emit state of an id set
 abbrev pub stateN : ℕ → ℕ → Noted Sheet → Noted Sheet
 stateN x k m = record { mach = withWork (m .mach) (putField (m .mach .work) x 13 k); entries = m .entries }
 
-module _ (b : Btf) (B : Rules) (room : ℕ) where
+module _ (b : TypeTable) (B : Rules) (room : ℕ) where
   -- a typedef's line, unless it had one; then it is done
   unfoldable pub typedefN : BtfType → Entry → Noted Sheet → ℕ → Out (Noted Sheet)
   typedefN ty e m x = obind (onceN b B room ty e (hasN b B room m x) m x) (λ k. wrote (stateN x 2 k))

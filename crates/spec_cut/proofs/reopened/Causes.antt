@@ -11,7 +11,7 @@ use Rattle.spec_bytes.specs.words.Words.{pick}
 use Rattle.spec_bytes.proofs.words.Laws.{le-or-lt}
 use Rattle.spec_linux_btf.specs.Documentation.{Described}
 use Rattle.spec_linux_btf.specs.Fields.{kindIn}
-use Rattle.spec_type_table.specs.declared.types.Btf.{Btf}
+use Rattle.spec_type_table.specs.declared.types.TypeTable.{TypeTable}
 use Rattle.spec_type_table.specs.Records.{sectionWord, vlenOf}
 use Rattle.btf_open_causes.specs.references.Followed.{among, targets, countOf, kindAt, placeOf, countFor, countAt, followedCount, followedId}
 use Rattle.btf_open_causes.specs.references.Bounds.{kind-out, followed-none}
@@ -27,7 +27,7 @@ use Rattle.spec_cut.specs.reopened.Seen.{Seen}
 use Rattle.spec_cut.proofs.reopened.Renamed.{nts, kind-same, tag-kind, map-from, oldTo, old-has, type-new, followed-new}
 
 -- no cause 6 is what the theorem on sections cut down asks of references
-module _ (c : Btf) (s start : List ℕ) (ts : List Described) (old : Seen c s start ts) (good : BadReference c s start → ⊥) where
+module _ (c : TypeTable) (s start : List ℕ) (ts : List Described) (old : Seen c s start ts) (good : BadReference c s start → ⊥) where
   below : (x y : ℕ) → List·Memᴰ y (followedIds (typeOf ts x)) → y < countOf c
   below x y h = go (le-or-lt (countOf c) y)
     where
@@ -70,7 +70,7 @@ module _ (c : Btf) (s start : List ℕ) (ts : List Described) (old : Seen c s st
   references = record { below = λ x y h. omega (arith, below x y h, old .count); no-tags = untagged }
 
 -- the old table and the new one
-module _ (m : ℕ → Bool) (o : ℕ → ℕ) (ts : List Described) (c c′ : Btf) (s s′ start start′ : List ℕ) (old : Seen c s start ts) (new : Seen c′ s′ start′ (nts m o ts))
+module _ (m : ℕ → Bool) (o : ℕ → ℕ) (ts : List Described) (c c′ : TypeTable) (s s′ start start′ : List ℕ) (old : Seen c s start ts) (new : Seen c′ s′ start′ (nts m o ts))
     (closed : (x : ℕ) → Stays m x → x ≤ length ts → (y : ℕ) → List·Memᴰ y (followedIds (typeOf ts x)) → Stays m y × (y ≤ length ts)) where
   new-count : countOf c′ ≡ suc (keptTo m (length ts))
   new-count = new .count ∙ ap suc (renamed-length (newId m) o (keptTypes m 1 ts) ∙ kept-length m ts)
@@ -145,7 +145,7 @@ module _ (m : ℕ → Bool) (o : ℕ → ℕ) (ts : List Described) (c c′ : Bt
           })
 
   -- a type through which a walk passes follows one id
-  one-id : (b : Btf) (t u : List ℕ) (x : ℕ) → among through (kindAt b u x) ≡ true → followedCount b t u x ≡ 1
+  one-id : (b : TypeTable) (t u : List ℕ) (x : ℕ) → among through (kindAt b u x) ≡ true → followedCount b t u x ≡ 1
   unfolding followedCount countAt countFor among
   one-id b t u x e =
       ap (λ (q : Bool). pick q 1 (pick (among (4 ∷ 5 ∷ []) (kindAt b u x)) (vlenOf (sectionWord b t (placeOf b u x + 4))) (pick (eqb (kindAt b u x) 13) (vlenOf (sectionWord b t (placeOf b u x + 4)) + 1) 0)))

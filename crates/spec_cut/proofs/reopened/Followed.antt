@@ -15,7 +15,7 @@ use Rattle.spec_linux_btf.specs.Fields.{kindIn, sizeOrType}
 use Rattle.spec_linux_btf.specs.Section.{wordOf, typesAt, typeLen, headerSound, typesSound}
 use Rattle.spec_linux_btf.proofs.Claims.{section-fields, section-sound-at}
 use Rattle.spec_linux_btf.proofs.Fields as F
-use Rattle.spec_type_table.specs.declared.types.Btf.{Btf}
+use Rattle.spec_type_table.specs.declared.types.TypeTable.{TypeTable}
 use Rattle.spec_type_table.specs.Records.{sectionWord, paramAt}
 use Rattle.spec_type_table.proofs.Documented.{words-same}
 use Rattle.spec_type_table.proofs.KindLaws.{by-kind}
@@ -55,7 +55,7 @@ tabulate-from f k (suc n) y (List·Memᴰ·tail h) =
 
 -- ---- the ids that the record at a place follows, by its kind
 
-module _ (c : Btf) (s : List ℕ) (at : ℕ) where
+module _ (c : TypeTable) (s : List ℕ) (at : ℕ) where
   abbrev w : ℕ → ℕ
   w = sectionWord c s
 
@@ -123,7 +123,7 @@ sound-known w len p h = and-one (known (shape (kind (kindP w p)))) _ (and-one (l
 -- ---- the section
 
 module _ (p : ℕ) (s : List ℕ) (y : Bytes s) (h : headerSound s ≡ true) (t : typesSound s ≡ true) where
-  abbrev c : Btf
+  abbrev c : TypeTable
   c = tableOf p s
 
   abbrev ts : List Described

@@ -15,7 +15,7 @@ use Rattle.spec_c_dumper.specs.rules.Types.{BtfType, Btf as Rules, tableOf}
 use Rattle.spec_c_dumper.specs.rules.Names.{Names, Naming, naming}
 use Rattle.spec_c_dumper.specs.rules.Order.{Table}
 use Rattle.spec_c_dumper.specs.rules.Machine.{Machine, Sess, Answer, Req, one, single, serve, run}
-use Rattle.spec_type_table.specs.declared.types.Btf.{Btf}
+use Rattle.spec_type_table.specs.declared.types.TypeTable.{TypeTable}
 use Rattle.spec_type_table.specs.Names.{nameAt, strAt}
 use Rattle.spec_type_table.specs.Table as btf
 use Rattle.spec_type_table.specs.Documented.{kept}
@@ -108,10 +108,10 @@ module _ (p modes : ℕ) (old : OldNames modes) (s : List ℕ) (n : ℕ) (ok : o
   abbrev B′ : Rules
   B′ = openedTable p modes s′ n′
 
-  abbrev b : Btf
+  abbrev b : TypeTable
   b = headerOf p modes s
 
-  abbrev b′ : Btf
+  abbrev b′ : TypeTable
   b′ = headerOf p modes s′
 
   was : Reads B b s (typesOf s)

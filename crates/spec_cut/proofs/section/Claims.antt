@@ -10,7 +10,7 @@ use Rattle.spec_linux_btf.specs.Section.{stringArea}
 use Rattle.spec_c_dumper.specs.rules.Types.{Btf as Rules, tableOf}
 use Rattle.spec_c_dumper.specs.rules.Names.{Names}
 use Rattle.spec_c_dumper.specs.rules.Machine.{Sess, Req, single}
-use Rattle.spec_type_table.specs.declared.types.Btf.{Btf}
+use Rattle.spec_type_table.specs.declared.types.TypeTable.{TypeTable}
 use Rattle.spec_type_table.specs.Names.{nameAt, strAt}
 use Rattle.spec_c_dumper.specs.needs.Lists.{Ls}
 use Rattle.spec_c_dumper.specs.needs.Session.{Known, machine, opened, dumpTypes}
@@ -80,7 +80,7 @@ module _ (ts : List Described) (given : List ℕ) (m : ℕ → Bool) (tells : Te
       go _ (is-kept j e) a q = by (suc j) q (tells (suc j) .0 e)
 
 -- The names that a kept type mentions are the same in the new strings. b, b′: headers; the last two say that names stand in the string areas.
-module _ (m : ℕ → Bool) (s s′ : List ℕ) (b b′ : Btf)
+module _ (m : ℕ → Bool) (s s′ : List ℕ) (b b′ : TypeTable)
     (in-area : (n : ℕ) → List·Memᴰ n (allMentions (oldTypes m s)) → strAt b s n ≡ nameAt (stringArea s) n)
     (in-new : (n : ℕ) → n < length (newStrings m s) → strAt b′ s′ n ≡ nameAt (newStrings m s) n) where
   pub same-names : (i : ℕ) → i < length (typesOf s) → m (suc i) ≡ true → (n : ℕ) → List·Memᴰ n (mentions (getD (typesOf s) i voidType)) → strAt b s n ≡ strAt b′ s′ (newOffset m s n)
@@ -93,7 +93,7 @@ module _ (m : ℕ → Bool) (s s′ : List ℕ) (b b′ : Btf)
 -- THE THEOREM. m tells which ids are kept of the section s for the given ids; B is its table and B′ that of the new types, under the same settings.
 -- "the new section gives for the renumbered requests the same text and refusals as the old": the numbers, the text's length after each request and the
 -- text are equal, for all lists of requests for kept ids, each lent the same room, with the names of the Rust ("the old naming mode", "a new ledger").
-module _ (given : List ℕ) (m : ℕ → Bool) (s s′ : List ℕ) (b b′ : Btf) (B B′ : Rules) (tells : Tells (typesOf s) given m) (good : GoodReferences (typesOf s))
+module _ (given : List ℕ) (m : ℕ → Bool) (s s′ : List ℕ) (b b′ : TypeTable) (B B′ : Rules) (tells : Tells (typesOf s) given m) (good : GoodReferences (typesOf s))
     (old : Reads B b s (typesOf s)) (cut : Reads B′ b′ s′ (newTypes m s))
     (in-area : (n : ℕ) → List·Memᴰ n (allMentions (oldTypes m s)) → strAt b s n ≡ nameAt (stringArea s) n)
     (in-new : (n : ℕ) → n < length (newStrings m s) → strAt b′ s′ n ≡ nameAt (newStrings m s) n)

@@ -9,7 +9,7 @@ use lib.Dec.{eqb}
 use borrow.Author.Tests.{eq-eqb, ne-eqb, eqb-true, eqb-false}
 use Rattle.spec_linux_btf.specs.Documentation.{int, ptr, array, struct, union, enum, fwd, typedef, volatile, const, restrict, func, func-proto, var, datasec, float, decl-tag, type-tag, enum64, Described, described}
 use Rattle.spec_c_dumper.specs.rules.Types.{BtfType, Void, Btf as Rules}
-use Rattle.spec_type_table.specs.declared.types.Btf.{Btf}
+use Rattle.spec_type_table.specs.declared.types.TypeTable.{TypeTable}
 use Rattle.spec_type_table.specs.Documented.{kept}
 use Rattle.spec_cut.specs.section.Kept.{followedIds, voidType, typeOf, isDeclTag, third}
 use Rattle.spec_cut.specs.section.Renumbered.{keptTo, newId, keptTypes, renamed, renamedAll}
@@ -20,7 +20,7 @@ use Rattle.spec_cut.specs.section.Stands.{Each, none, more, Followed, St
 use Rattle.spec_cut.proofs.section.Numbers.{kept-yes, kept-no, kept-up, new-zero, new-kept, new-dropped, Stays, is-void, is-kept, new-one, type-at, kept-length, new-below, renamed-at, renamed-length}
 use Rattle.spec_cut.proofs.section.Types.{SameNames, type-renamed}
 
-no-tag : (b : Btf) (s : List ℕ) (t : Described) → isDeclTag t ≡ false → NoTag (kept b s t)
+no-tag : (b : TypeTable) (s : List ℕ) (t : Described) → isDeclTag t ≡ false → NoTag (kept b s t)
 unfolding kept
 no-tag b s (described n f z (int v a c d e g)) h = tt
 no-tag b s (described n f z (ptr v)) h = tt
@@ -43,7 +43,7 @@ no-tag b s (described n f z (type-tag v)) h = tt
 no-tag b s (described n f z (enum64 es)) h = tt
 
 -- what prints its tags is no tag
-tagged-none : (b : Btf) (s : List ℕ) (t : Described) → Tagged (kept b s t) → isDeclTag t ≡ false
+tagged-none : (b : TypeTable) (s : List ℕ) (t : Described) → Tagged (kept b s t) → isDeclTag t ≡ false
 unfolding kept
 tagged-none b s (described n f z (int v a c d e g)) h = absurd h
 tagged-none b s (described n f z (ptr v)) h = absurd h
@@ -65,7 +65,7 @@ tagged-none b s (described n f z (decl-tag v c)) h = absurd h
 tagged-none b s (described n f z (type-tag v)) h = absurd h
 tagged-none b s (described n f z (enum64 es)) h = absurd h
 
-tag-is : (b : Btf) (s : List ℕ) (id : ℕ) (t : Described) → isTagFor id (kept b s t) ≡ (isDeclTag t && eqb (third t) id)
+tag-is : (b : TypeTable) (s : List ℕ) (id : ℕ) (t : Described) → isTagFor id (kept b s t) ≡ (isDeclTag t && eqb (third t) id)
 unfolding kept
 tag-is b s id (described n f z (int v a c d e g)) = refl
 tag-is b s id (described n f z (ptr v)) = refl
@@ -87,7 +87,7 @@ tag-is b s id (described n f z (decl-tag v c)) = refl
 tag-is b s id (described n f z (type-tag v)) = refl
 tag-is b s id (described n f z (enum64 es)) = refl
 
-new-tag-is : (b : Btf) (s : List ℕ) (i o : ℕ → ℕ) (id : ℕ) (t : Described) → isTagFor id (kept b s (renamed i o t)) ≡ (isDeclTag t && eqb (i (third t)) id)
+new-tag-is : (b : TypeTable) (s : List ℕ) (i o : ℕ → ℕ) (id : ℕ) (t : Described) → isTagFor id (kept b s (renamed i o t)) ≡ (isDeclTag t && eqb (i (third t)) id)
 unfolding kept renamed
 new-tag-is b s i o id (described n f z (int v a c d e g)) = refl
 new-tag-is b s i o id (described n f z (ptr v)) = refl
@@ -114,7 +114,7 @@ and-left true b h = (refl, h)
 and-left false b h = absurd (true≢false (sym h))
 
 -- ts: the old types; m tells which are kept; B, of the header b and the section s, has the old types, B′ those that are kept, renamed
-module _ (m : ℕ → Bool) (o : ℕ → ℕ) (ts : List Described) (B B′ : Rules) (b b′ : Btf) (s s′ : List ℕ)
+module _ (m : ℕ → Bool) (o : ℕ → ℕ) (ts : List Described) (B B′ : Rules) (b b′ : TypeTable) (s s′ : List ℕ)
     (old : Reads B b s ts) (cut : Reads B′ b′ s′ (renamedAll (newId m) o (keptTypes m 1 ts)))
     -- what a kept type follows is kept, inside the table, and no DECL_TAG (cause 6)
     (closed : (x : ℕ) → Stays m x → x ≤ length ts → (y : ℕ) → List·Memᴰ y (followedIds (typeOf ts x)) → Stays m y × (y ≤ length ts) × (isDeclTag (typeOf ts y) ≡ false))

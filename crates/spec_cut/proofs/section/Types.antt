@@ -6,7 +6,7 @@ use mathlib.Core.List.{List, [], _∷_, List·Memᴰ, List·Memᴰ·head, List·
 use Rattle.spec_linux_btf.specs.Documentation.{Member, member, Enumerator, enumerator, Param, param, Enumerator64, enumerator64, int, ptr, array, struct, union, enum, fwd, typedef, volatile, const, restrict, func, func-proto, var, datasec, float, decl-tag, type-tag, enum64, Described, described}
 use Rattle.spec_c_dumper.specs.rules.Types as R
 use Rattle.spec_c_dumper.specs.rules.Types.{Name, BtfType, Int, Composite, Enum, Enum64, Fwd, Typedef, Func, Var, Datasec, Float, DeclTag, TypeTag}
-use Rattle.spec_type_table.specs.declared.types.Btf.{Btf}
+use Rattle.spec_type_table.specs.declared.types.TypeTable.{TypeTable}
 use Rattle.spec_type_table.specs.Names.{strAt}
 use Rattle.spec_type_table.specs.Documented.{isSet, keptMembers, keptParams, keptValues, keptValues64, kept}
 use Rattle.spec_cut.specs.section.Kept.{memberIds, paramIds, followedIds}
@@ -14,7 +14,7 @@ use Rattle.spec_cut.specs.section.Renumbered.{newMembers, newParams, new
 use Rattle.spec_cut.specs.section.Strings.{memberNames, paramNames, valueNames, value64Names, mentions}
 use Rattle.spec_cut.specs.section.Stands as S
 
-module _ (b : Btf) (s : List ℕ) (b′ : Btf) (s′ : List ℕ) (i o : ℕ → ℕ) (J : ℕ → ℕ → Type 0) where
+module _ (b : TypeTable) (s : List ℕ) (b′ : TypeTable) (s′ : List ℕ) (i o : ℕ → ℕ) (J : ℕ → ℕ → Type 0) where
   -- the names at these offsets are the same
   abbrev pub SameNames : List ℕ → Type 0
   SameNames ns = (n : ℕ) → List·Memᴰ n ns → strAt b s n ≡ strAt b′ s′ (o n)

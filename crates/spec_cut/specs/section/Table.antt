@@ -7,7 +7,7 @@ use lib.ListN.{length, getD}
 use lib.Dec.{eqb}
 use Rattle.spec_linux_btf.specs.Documentation.{Described}
 use Rattle.spec_c_dumper.specs.rules.Types.{BtfType, Void, Int, Ptr, Array, Composite, Enum, Enum64, Fwd, Typedef, Mod, Func, Var, Datasec, FuncProto, Float, DeclTag, TypeTag, Btf as Rules}
-use Rattle.spec_type_table.specs.declared.types.Btf.{Btf}
+use Rattle.spec_type_table.specs.declared.types.TypeTable.{TypeTable}
 use Rattle.spec_type_table.specs.Documented.{kept}
 use Rattle.spec_cut.specs.section.Kept.{voidType}
 
@@ -37,7 +37,7 @@ tagIds type id x zero = []
 tagIds type id x (suc n) = elim (isTagFor id (type x)) [ true ↦ x ∷ tagIds type id (suc x) n | false ↦ tagIds type id (suc x) n ]
 
 -- B is the table of the types ts, whose names stand in the section s (b: what is known of its header)
-pub record Reads (B : Rules) (b : Btf) (s : List ℕ) (ts : List Described) : Type 0 where
+pub record Reads (B : Rules) (b : TypeTable) (s : List ℕ) (ts : List Described) : Type 0 where
   pub count : B .type-cnt ≡ suc (length ts)
   pub zero-void : B .type-by-id 0 ≡ Void
   pub type : (i : ℕ) → i < length ts → B .type-by-id (suc i) ≡ kept b s (getD ts i voidType)

@@ -14,7 +14,7 @@ use borrow.Author.Tests.{lt-ltb, le-ltb, eqb-false}
 use borrow.Rule.Slice.PartMut.{mid-len}
 use Rattle.spec_bytes.specs.text.Text.{place}
 use Rattle.spec_c_dumper.specs.rules.Machine.{Out}
-use Rattle.spec_type_table.specs.declared.types.Btf.{Btf}
+use Rattle.spec_type_table.specs.declared.types.TypeTable.{TypeTable}
 use Rattle.spec_opening.specs.Causes.{openingNumber}
 use Rattle.spec_opening.specs.Table.{typesOf}
 use Rattle.spec_opening.specs.Opened.{Outcome, openingOf}
@@ -104,7 +104,7 @@ module _ (l : ℕ) (p : List ℕ) (n : ℕ) where
     came-sane v k fits _ (stops c q) =
         off c len v (take len t) q low high (length-take-le len t (omega arith)) (take-take l len t low ∙ begins)
 
-    pub request-sane : (b : Btf) (s : List ℕ) (id v : ℕ) (w : List ℕ) → Sane l p n (requested b s id len v w t)
+    pub request-sane : (b : TypeTable) (s : List ℕ) (id v : ℕ) (w : List ℕ) → Sane l p n (requested b s id len v w t)
     unfolding requested
     request-sane b s id v w =
         let lim : (len ≤ limitOf (length t) len) × (limitOf (length t) len ≤ length t) = limit-between (length t) len (omega arith) in
@@ -116,7 +116,7 @@ module _ (l : ℕ) (p : List ℕ) (n : ℕ) where
   onward-sane _ k (on len w t a b c d) h = h len w t a b c d
   onward-sane _ k (off c len v t q a b e d) h = off c len v t q a b e d
 
-  pub from-sane : (b : Btf) (s : List ℕ) (count id len : ℕ) (w t : List ℕ) → l ≤ len → len ≤ n → length t ≡ n → take l t ≡ p → Sane l p n (requestedFrom b s count id len w t)
+  pub from-sane : (b : TypeTable) (s : List ℕ) (count id len : ℕ) (w t : List ℕ) → l ≤ len → len ≤ n → length t ≡ n → take l t ≡ p → Sane l p n (requestedFrom b s count id len w t)
   unfolding requestedFrom
   from-sane b s zero id len w t a b′ c d = on len w t a b′ c d
   from-sane b s (suc count) id len w t a b′ c d =
@@ -133,7 +133,7 @@ unfolding cameTo
 came-counts len v k t _ (goes m g) = went (len + m .at) (m .work) (place t len (m .text))
 came-counts len v k t _ (stops c q) = stayed c len (take len t) (omega (arith, q .0))
 
-pub request-counts : (b : Btf) (s : List ℕ) (id len v : ℕ) (w t : List ℕ) → Visited v (requested b s id len v w t)
+pub request-counts : (b : TypeTable) (s : List ℕ) (id len v : ℕ) (w t : List ℕ) → Visited v (requested b s id len v w t)
 unfolding requested
 request-counts b s id len v w t = came-counts len v (length (lentTo len t)) t _ (fair-asked b s w id (lentTo len t))
 

@@ -19,8 +19,9 @@ use Rattle.spec_c_dumper.specs.rules.Place.{withNames, putSaid}
 use Rattle.spec_c_dumper.proofs.rules.Closed.{Code}
 use Rattle.spec_c_dumper.proofs.rules.Refusals.{Told, told, cut-by, Tells}
 use Rattle.btf_layout.proofs.refusals.InWork.{definition-tells, forward-tells}
-use Rattle.spec_type_table.specs.declared.types.Btf.{Btf}
-use Rattle.spec_session.specs.emission.Sheet.{Sheet, sheetStore, sheetOf, lineIn, workMachine, listedOut, dumped}
+use Rattle.spec_type_table.specs.declared.types.TypeTable.{TypeTable}
+use Rattle.spec_session.specs.emission.Sheet.{Sheet, sheetStore, sheetOf, lineIn, workMachine}
+use Rattle.spec_c_dumper.specs.rules.Request.{listedOut, dumped}
 
 -- a refusal of a request, by its number in document 01
 abbrev pub Listed : ℕ → Type 0
@@ -238,7 +239,7 @@ fair-line k v h m g = go (v (m .work)) (h (m .work))
     go : (q : Said (List ℕ)) → Told (saidText q) → Fair (Inside k) (sheetOf (m .len) (putSaid (m .text) (m .at) q))
     go (said u x) q = fair-put (m .len) (m .text) (m .at) (g .0) k (g .1) u x q
 
-module _ (b : Btf) (B : Rules) where
+module _ (b : TypeTable) (B : Rules) where
   fairly : (k : ℕ) → Fairly (Inside k) (workMachine b B)
   unfolding workMachine sheetStore
   fairly k = record {

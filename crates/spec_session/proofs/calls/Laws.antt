@@ -18,7 +18,7 @@ use Rattle.spec_c_dumper.specs.rules.Order.{Node, ignored, plain, listed, throu
 use Rattle.spec_c_dumper.specs.rules.Machine.{Out, wrote, stuck, obind, eeach}
 use Rattle.spec_c_dumper.specs.rules.Types.{tableOf}
 use Rattle.spec_c_dumper.specs.rules.Place.{outOf, withNames}
-use Rattle.spec_type_table.specs.declared.types.Btf.{Btf}
+use Rattle.spec_type_table.specs.declared.types.TypeTable.{TypeTable}
 use Rattle.spec_type_table.specs.Cells.{getField}
 use Rattle.spec_type_table.specs.Table.{btfOf, from}
 use Rattle.c_dumper_dependency_order.specs.order_state.Work.{markOf, workStore, tableIn}
@@ -28,7 +28,8 @@ use Rattle.btf_open_causes.specs.header.Header.{btfOf as settingsOf}
 use Rattle.spec_opening.specs.Causes.{openingNumber}
 use Rattle.spec_opening.specs.Table.{typesOf, enumeratorsOf}
 use Rattle.spec_opening.specs.Opened.{refused, opened, openOut, openingOf, workOf}
-use Rattle.spec_session.specs.emission.Sheet.{Sheet, sheetStore, sheetOf, emptied, emitOut, workMachine, listedOut, dumped, isIgnored, isIdle}
+use Rattle.spec_session.specs.emission.Sheet.{Sheet, sheetStore, sheetOf, emptied, emitOut, workMachine, isIgnored, isIdle}
+use Rattle.spec_c_dumper.specs.rules.Request.{listedOut, dumped}
 use Rattle.spec_session.specs.declared.session.Answer.the-variants.{Accepted}
 use Rattle.spec_session.specs.declared.session.Session.{Session}
 use Rattle.spec_session.specs.declared.session.Turn.{Turn}
@@ -109,7 +110,7 @@ mid-place t u len k e =
     ap (λ (l : List ℕ). take len t ++ (u ++ l)) (drop-drop k len t ∙ ap (λ (z : ℕ). drop (len + z) t) (sym e))
     ∙ sym (append-assoc (take len t) u (drop (len + length u) t))
 
-module _ (b : Btf) (s w : List ℕ) (id : ℕ) where
+module _ (b : TypeTable) (s w : List ℕ) (id : ℕ) where
   -- the request on a slice
   abbrev pub asked : List ℕ → Out Sheet
   asked u = dumped (workMachine b (btfOf b s w)) (tableOf (btfOf b s w)) (record { work = w; text = u; at = 0; len = 0 }) id
@@ -129,7 +130,7 @@ sheet-past : (at : ℕ) (u w : List ℕ) → length u < at → emitOut 0 at u w 
 unfolding sheetOf outOf withNames
 sheet-past at u w h = ap (λ (o : TextOut). sheetOf 0 (withNames w o)) (out-stopped at u h)
 
-module _ (b : Btf) (s w t : List ℕ) (len id to : ℕ) (below : len ≤ to) (ends : to ≤ length t) (at : ℕ) (u w′ : List ℕ) (same : length u ≡ length (midOf len (to - len) t))
+module _ (b : TypeTable) (s w t : List ℕ) (len id to : ℕ) (below : len ≤ to) (ends : to ≤ length t) (at : ℕ) (u w′ : List ℕ) (same : length u ≡ length (midOf len (to - len) t))
     (e : emitOut 0 at u w′ ≡ obind (emitOut 0 0 (midOf len (to - len) t) w) (λ m. dumped (workMachine b (btfOf b s w)) (tableOf (btfOf b s w)) m id)) where
   long : length u ≡ to - len
   long = same ∙ mid-len len to t ends
@@ -189,7 +190,7 @@ module _ (b : Btf) (s w t : List ℕ) (len id to : ℕ) (below : len ≤ to) (en
     one-reach = ⊎-elim one-in one-past (le-or-lt at (to - len))
 
 -- ---- an id with nothing to write
-module _ (b : Btf) (s w u : List ℕ) (id : ℕ) where
+module _ (b : TypeTable) (s w u : List ℕ) (id : ℕ) where
   abbrev start : Sheet
   start = record { work = w; text = u; at = 0; len = 0 }
 
@@ -217,7 +218,7 @@ module _ (b : Btf) (s w u : List ℕ) (id : ℕ) where
   unfolding dumped order workMachine sheetStore workStore
   idle-dumped h = idle-visit (markOf (getField w id 1)) h
 
-pub idle-reach : (b : Btf) (s w t : List ℕ) (len u v id : ℕ) → len ≤ length t → (q : Bool) → q ≡ isIdle (markOf (getField w id 1)) (tableIn b s w .node id) → q ≡ true
+pub idle-reach : (b : TypeTable) (s w t : List ℕ) (len u v id : ℕ) → len ≤ length t → (q : Bool) → q ≡ isIdle (markOf (getField w id 1)) (tableIn b s w .node id) → q ≡ true
     → (reachOf (record { len = len; number = 0; visits = u }) w t ≡ requested b s id len v w t) × (len ≤ length t)
 unfolding requested cameTo
 idle-reach b s w t len u v id h q e z =
@@ -232,11 +233,11 @@ idle-reach b s w t len u v id h q e z =
     )
 
 -- the visits as the code reads them
-pub read-before : (b : Btf) (s w t : List ℕ) (len id v : ℕ) (q : Reach) → q ≡ requested b s id len v w t → v ≡ visitsIn w → q ≡ requested b s id len (visitsIn w) w t
+pub read-before : (b : TypeTable) (s w t : List ℕ) (len id v : ℕ) (q : Reach) → q ≡ requested b s id len v w t → v ≡ visitsIn w → q ≡ requested b s id len (visitsIn w) w t
 read-before b s w t len id v q e h = e ∙ ap (λ (u : ℕ). requested b s id len u w t) h
 
 -- ---- all ids
-module _ (b : Btf) (s : List ℕ) (whole : Reach) where
+module _ (b : TypeTable) (s : List ℕ) (whole : Reach) where
   unroll : (n id len : ℕ) (w t : List ℕ) → id < n → requestedFrom b s (n - id) id len w t ≡ onward (requested b s id len (visitsIn w) w t) (requestedFrom b s (n - (id + 1)) (id + 1))
   unfolding requestedFrom
   unroll n id len w t h =
@@ -288,18 +289,18 @@ module _ (s : Session) (section w t : List ℕ) (q : Bool) (eq : q ≡ isCurrent
         (λ i. record { session = et i .session; answer = et i .answer; work = w; text = t })
         ∙ sym (rw (sym eq ∙ not-false q h, typeCall, le-ltb id (s .types) l))
 
-    module _ (b : Btf) (eb : b ≡ settingsOf section (s .«pointer_size») (s .modes) (s .types)) (r : Reached) (w′ t′ : List ℕ) (lw : length w′ ≡ length w) (lt : length t′ ≡ length t)
+    module _ (b : TypeTable) (eb : b ≡ settingsOf section (s .«pointer_size») (s .modes) (s .types)) (r : Reached) (w′ t′ : List ℕ) (lw : length w′ ≡ length w) (lt : length t′ ≡ length t)
         (turn : Turn) (w″ t″ : List ℕ) (et : callOf (turn .session) (turn .answer) w″ t″ ≡ settled s (length w′) (length t′) (reachOf r w′ t′)) where
       pub type-done : (id : ℕ) → id < s .types → reachOf r w′ t′ ≡ requested b section id (s .«text_len») (s .visits) w t → callOf (turn .session) (turn .answer) w″ t″ ≡ typeCall s section w t id
       unfolding typeCall
       type-done id l er =
           et
-          ∙ (λ i. settled s (lw i) (lt i) ((er ∙ ap (λ (c : Btf). requested c section id (s .«text_len») (s .visits) w t) eb) i))
+          ∙ (λ i. settled s (lw i) (lt i) ((er ∙ ap (λ (c : TypeTable). requested c section id (s .«text_len») (s .visits) w t) eb) i))
           ∙ sym (rw (sym eq ∙ not-false q h, typeCall, lt-ltb id (s .types) l))
 
       pub types-done : reachOf r w′ t′ ≡ requestedFrom b section (b .types - 1) 1 (s .«text_len») w t → callOf (turn .session) (turn .answer) w″ t″ ≡ typesCall s section w t
       unfolding typesCall
       types-done er =
           et
-          ∙ (λ i. settled s (lw i) (lt i) ((er ∙ ap (λ (c : Btf). requestedFrom c section (c .types - 1) 1 (s .«text_len») w t) eb) i))
+          ∙ (λ i. settled s (lw i) (lt i) ((er ∙ ap (λ (c : TypeTable). requestedFrom c section (c .types - 1) 1 (s .«text_len») w t) eb) i))
           ∙ sym (rw (sym eq ∙ not-false q h, typesCall))

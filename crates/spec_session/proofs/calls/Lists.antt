@@ -13,7 +13,7 @@ use lib.Dec.{eqb, leb, ltb}
 use borrow.Author.Tests.{le-leb, lt-leb, eq-eqb, not-true, eqb-true, ltb-true, ltb-false}
 use Rattle.spec_bytes.specs.words.Words.{getWord, table, words}
 use Rattle.spec_bytes.proofs.words.Laws.{le-or-lt}
-use Rattle.spec_type_table.specs.declared.types.Btf.{Btf}
+use Rattle.spec_type_table.specs.declared.types.TypeTable.{TypeTable}
 use Rattle.spec_session.specs.declared.session.Answer.{Answer}
 use Rattle.spec_session.specs.declared.session.Answer.the-variants.{Accepted, Refused}
 use Rattle.spec_session.specs.declared.session.Session.{Session}
@@ -149,7 +149,7 @@ module _ (s : Session) (section : List ℕ) where
     past l = type-not-below (withText s true len v) section w t′ id current l
 
   -- where the loop stands: k accepted, the text has len bytes; whole: what the call comes to
-  module _ (b : Btf) (eb : b ≡ tableFor s section) (ids : List ℕ) (n : ℕ) (whole : Call) (es : s .«section_len» ≡ length section) (k len v : ℕ) (w t : List ℕ) (ew : s .«work_len» ≡ length w) (h : len ≤ length t)
+  module _ (b : TypeTable) (eb : b ≡ tableFor s section) (ids : List ℕ) (n : ℕ) (whole : Call) (es : s .«section_len» ≡ length section) (k len v : ℕ) (w t : List ℕ) (ew : s .«work_len» ≡ length w) (h : len ≤ length t)
       (e : whole ≡ listFrom k (withText s true len v) section w (tailed k len t) (idsFrom ids k (n - k))) where
     pub list-done : n ≤ k → listEnd s (record { len = len; number = 0; accepted = k; visits = v }) w t ≡ whole
     unfolding listEnd idsFrom listFrom
@@ -177,7 +177,7 @@ module _ (s : Session) (section : List ℕ) where
 
       module _ (p : id < s .types) (r : Reached) (w′ t′ : List ℕ) (er : reachOf r w′ t′ ≡ requested b section id len v w t) where
         came : requested (tableFor s section) section id len v w t ≡ reachOf r w′ t′
-        came = sym (er ∙ ap (λ (c : Btf). requested c section id len v w t) eb)
+        came = sym (er ∙ ap (λ (c : TypeTable). requested c section id len v w t) eb)
 
         onward : whole ≡ counted k (settled s (length w) (length t) (reachOf r w′ t′)) rest
         onward =

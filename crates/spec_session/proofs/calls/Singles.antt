@@ -23,12 +23,13 @@ use Rattle.btf_layout.specs.asked.Asked.{workAsks}
 use Rattle.btf_layout.proofs.refusals.InWork.{definition-keeps, forward-keeps, definition-tells, forward-tells}
 use Rattle.spec_c_dumper.proofs.rules.Keeps.{Keeps}
 use Rattle.spec_c_dumper.proofs.rules.Refusals.{Tells}
-use Rattle.spec_type_table.specs.declared.types.Btf.{Btf}
+use Rattle.spec_type_table.specs.declared.types.TypeTable.{TypeTable}
 use Rattle.spec_type_table.specs.Cells.{getField, classP, countP, withMore, counted}
 use Rattle.spec_type_table.specs.Numbers.{numberAt}
 use Rattle.spec_type_table.specs.Table.{btfOf, typeVersionIn, enumeratorOf, valueVersionIn, workNaming}
 use Rattle.c_dumper_dependency_order.specs.order_state.Work.{workStore}
-use Rattle.spec_session.specs.emission.Sheet.{Sheet, sheetStore, sheetOf, emptied, lineIn, workMachine, dumped}
+use Rattle.spec_session.specs.emission.Sheet.{Sheet, sheetStore, sheetOf, emptied, lineIn, workMachine}
+use Rattle.spec_c_dumper.specs.rules.Request.{dumped}
 use Rattle.btf_open_causes.specs.header.Header.{btfOf as settingsOf}
 use Rattle.spec_session.specs.declared.session.Session.{Session}
 use Rattle.spec_session.specs.session.Answers.{numberOf, answerOf}
@@ -92,7 +93,7 @@ sized-line k j v h keeps m g = go (v (m .work)) refl
         subst (λ (s : Said (List ℕ)). Fair (Sized k j) (sheetOf (m .len) (putSaid (m .text) (m .at) s))) (sym e)
         (sized-out k j (m .len) u same _ (subst (λ (s : Said (List ℕ)). Fair (Inside k) (sheetOf (m .len) (putSaid (m .text) (m .at) s))) e (fair-line k v h m (g .0, g .1))))
 
-module _ (b : Btf) (B : Rules) where
+module _ (b : TypeTable) (B : Rules) where
   keeps-def : (x : ℕ) → Keeps (λ (u : List ℕ). length u) (definitionOnce (workAsks (b .types) B) (workNaming b) B x (B .type-by-id x))
   unfolding workNaming
   keeps-def x = definition-keeps (λ (u : List ℕ). length u) (λ w v. put-length w (0 * 16 + 2) v) (λ w x v. put-length w (x * 16 + 15) v) b B (λ space id name w. type-length (b .types) id w) (λ id i name w. value-length (b .types) (enumeratorOf w id i) w) x (B .type-by-id x)
@@ -141,7 +142,7 @@ module _ (wn tn len : ℕ) (t t′ : List ℕ) (lt : length t ≡ tn) (lt′ : l
       (placed-take t u len at (omega arith) h ∙ (λ i. same i ++ eq i) ∙ sym (placed-take t′ u′ len at (omega arith) (omega arith)))
   came-pair v k fits _ _ (stop-both c) (stops _ l) = subst (λ (p : List ℕ). Pair wn tn (refusedBy c len v (take len t)) (refusedBy c len v p)) same (off-both c len v (take len t) l)
 
-  pub request-pair : (b : Btf) (s : List ℕ) (id v : ℕ) (w : List ℕ) → length w ≡ wn → Pair wn tn (requested b s id len v w t) (requested b s id len v w t′)
+  pub request-pair : (b : TypeTable) (s : List ℕ) (id v : ℕ) (w : List ℕ) → length w ≡ wn → Pair wn tn (requested b s id len v w t) (requested b s id len v w t′)
   unfolding requested
   request-pair b s id v w lw =
       let lim : (len ≤ limitOf (length t) len) × (limitOf (length t) len ≤ length t) = limit-between (length t) len (omega arith) in

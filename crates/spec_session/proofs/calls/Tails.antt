@@ -17,8 +17,9 @@ use Rattle.spec_c_dumper.specs.rules.Machine.{Out, wrote, stuck, Machine, isZer
 use Rattle.spec_c_dumper.specs.rules.Types.{Btf as Rules, tableOf}
 use Rattle.spec_c_dumper.specs.rules.Writer.{Said, said, Writer}
 use Rattle.spec_c_dumper.specs.rules.Place.{withNames, putSaid}
-use Rattle.spec_type_table.specs.declared.types.Btf.{Btf}
-use Rattle.spec_session.specs.emission.Sheet.{Sheet, sheetStore, sheetOf, lineIn, workMachine, listedOut, dumped}
+use Rattle.spec_type_table.specs.declared.types.TypeTable.{TypeTable}
+use Rattle.spec_session.specs.emission.Sheet.{Sheet, sheetStore, sheetOf, lineIn, workMachine}
+use Rattle.spec_c_dumper.specs.rules.Request.{listedOut, dumped}
 use Rattle.spec_session.proofs.calls.Fair.{placed}
 
 module _ {M : Type 0} (R : M → M → Type 0) where
@@ -254,7 +255,7 @@ both-line v _ _ (like w t t′ at len h long same) = go (v w)
     go : (q : Said (List ℕ)) → Both Like (sheetOf len (putSaid t at q)) (sheetOf len (putSaid t′ at q))
     go (said u x) = both-put len t t′ at h long same u x
 
-module _ (b : Btf) (B : Rules) where
+module _ (b : TypeTable) (B : Rules) where
   alike : Alike Like (workMachine b B)
   unfolding workMachine sheetStore
   alike = record {

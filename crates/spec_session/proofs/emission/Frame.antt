@@ -18,7 +18,7 @@ use Rattle.spec_c_dumper.specs.alignment_once.Writers.{definitionOnce, forwardO
 use Rattle.btf_layout.specs.asked.Asked.{workAsks}
 use Rattle.spec_c_dumper.proofs.rules.Keeps.{Keeps}
 use Rattle.btf_layout.proofs.refusals.InWork.{definition-keeps, forward-keeps}
-use Rattle.spec_type_table.specs.declared.types.Btf.{Btf}
+use Rattle.spec_type_table.specs.declared.types.TypeTable.{TypeTable}
 use Rattle.spec_type_table.specs.Cells.{getField, putField, classP, countP, counted}
 use Rattle.spec_type_table.specs.Numbers.{numberAt}
 use Rattle.spec_type_table.specs.Table.{btfOf, workNaming, typeVersionIn, valueVersionIn, enumeratorOf}
@@ -41,7 +41,7 @@ module _ {X : Type 0} (P : List ℕ → X) where
   stays-then w (wrote m) k (on e) h = stays-from w (m .work) (k m) e (h m)
   stays-then w (stuck c) k off h = off
 
-  module _ (b : Btf) (marks : (w : List ℕ) (x v : ℕ) → P (putField w x 13 v) ≡ P w) (flags : (w : List ℕ) (x v : ℕ) → P (putField w x 3 v) ≡ P w)
+  module _ (b : TypeTable) (marks : (w : List ℕ) (x v : ℕ) → P (putField w x 13 v) ≡ P w) (flags : (w : List ℕ) (x v : ℕ) → P (putField w x 3 v) ≡ P w)
       (count : (w : List ℕ) (v : ℕ) → P (putField w 0 2 v) ≡ P w) (aligns : (w : List ℕ) (x v : ℕ) → P (putField w x 15 v) ≡ P w)
       (types : (space : Space) (id : ℕ) (name : Name) (w : List ℕ) → P (workNaming b .typeVersion space id name w .names) ≡ P w)
       (values : (id i : ℕ) (name : Name) (w : List ℕ) → P (workNaming b .valueVersion id i name w .names) ≡ P w) (B : Rules) where
@@ -159,30 +159,30 @@ module _ {X : Type 0} (P : List ℕ → X) where
     stays-emit (suc n) m x cont = stays-look (λ m′ y c. emit (workMachine b B) (tableOf B) n m′ y c) (λ m′ y c. stays-emit n m′ y c) m x cont (workMachine b B .eget m x)
 
 -- the type table
-pub table-emark : (b : Btf) (s : List ℕ) (w : List ℕ) (x v : ℕ) → btfOf b s (putField w x 13 v) ≡ btfOf b s w
+pub table-emark : (b : TypeTable) (s : List ℕ) (w : List ℕ) (x v : ℕ) → btfOf b s (putField w x 13 v) ≡ btfOf b s w
 table-emark b s w x v = table-field w x 13 v (omega arith) b s (λ e. omega arith) (λ e. omega arith) (λ e. omega arith)
 
-table-flag : (b : Btf) (s : List ℕ) (w : List ℕ) (x v : ℕ) → btfOf b s (putField w x 3 v) ≡ btfOf b s w
+table-flag : (b : TypeTable) (s : List ℕ) (w : List ℕ) (x v : ℕ) → btfOf b s (putField w x 3 v) ≡ btfOf b s w
 table-flag b s w x v = table-field w x 3 v (omega arith) b s (λ e. omega arith) (λ e. omega arith) (λ e. omega arith)
 
-table-count : (b : Btf) (s : List ℕ) (w : List ℕ) (v : ℕ) → btfOf b s (putField w 0 2 v) ≡ btfOf b s w
+table-count : (b : TypeTable) (s : List ℕ) (w : List ℕ) (v : ℕ) → btfOf b s (putField w 0 2 v) ≡ btfOf b s w
 table-count b s w v = table-field w 0 2 v (omega arith) b s (λ e. omega arith) (λ e. omega arith) (λ e. omega arith)
 
-table-aligns : (b : Btf) (s : List ℕ) (w : List ℕ) (x v : ℕ) → btfOf b s (putField w x 15 v) ≡ btfOf b s w
+table-aligns : (b : TypeTable) (s : List ℕ) (w : List ℕ) (x v : ℕ) → btfOf b s (putField w x 15 v) ≡ btfOf b s w
 table-aligns b s w x v = table-field w x 15 v (omega arith) b s (λ e. omega arith) (λ e. omega arith) (λ e. omega arith)
 
-table-names : (b : Btf) (s : List ℕ) (space : Space) (id : ℕ) (name : Name) (w : List ℕ) → btfOf b s (workNaming b .typeVersion space id name w .names) ≡ btfOf b s w
+table-names : (b : TypeTable) (s : List ℕ) (space : Space) (id : ℕ) (name : Name) (w : List ℕ) → btfOf b s (workNaming b .typeVersion space id name w .names) ≡ btfOf b s w
 unfolding workNaming
 table-names b s space id name w = table-type-version b s w id
 
-table-values : (b : Btf) (s : List ℕ) (id i : ℕ) (name : Name) (w : List ℕ) → btfOf b s (workNaming b .valueVersion id i name w .names) ≡ btfOf b s w
+table-values : (b : TypeTable) (s : List ℕ) (id i : ℕ) (name : Name) (w : List ℕ) → btfOf b s (workNaming b .valueVersion id i name w .names) ≡ btfOf b s w
 unfolding workNaming
 table-values b s id i name w = table-value-version b s w (enumeratorOf w id i)
 
-pub table-emit : (b : Btf) (s : List ℕ) (B : Rules) (n : ℕ) (m : Sheet) (x cont : ℕ) → Stays (btfOf b s) (m .work) (emit (workMachine b B) (tableOf B) n m x cont)
+pub table-emit : (b : TypeTable) (s : List ℕ) (B : Rules) (n : ℕ) (m : Sheet) (x cont : ℕ) → Stays (btfOf b s) (m .work) (emit (workMachine b B) (tableOf B) n m x cont)
 table-emit b s = stays-emit (btfOf b s) b (table-emark b s) (table-flag b s) (table-count b s) (table-aligns b s) (table-names b s) (table-values b s)
 
-pub table-each : (b : Btf) (s : List ℕ) (B : Rules) (n cont : ℕ) (ys : List ℕ) (m : Sheet) → Stays (btfOf b s) (m .work) (eeach (λ m′ y. emit (workMachine b B) (tableOf B) n m′ y cont) ys m)
+pub table-each : (b : TypeTable) (s : List ℕ) (B : Rules) (n cont : ℕ) (ys : List ℕ) (m : Sheet) → Stays (btfOf b s) (m .work) (eeach (λ m′ y. emit (workMachine b B) (tableOf B) n m′ y cont) ys m)
 table-each b s B n cont ys m = stays-eeach (btfOf b s) b (table-emark b s) (table-flag b s) (table-count b s) (table-aligns b s) (table-names b s) (table-values b s) B (λ m′ y. emit (workMachine b B) (tableOf B) n m′ y cont) (λ m′ y. table-emit b s B n m′ y cont) ys m
 
 -- the places of the order list
@@ -202,7 +202,7 @@ places-counted types w h = λ i k. counted-other types w h (k * 16 + 11) (λ c. 
 places-field : (f : ℕ) → f < 16 → f ≢ 11 → (w : List ℕ) (x v : ℕ) → places (putField w x f v) ≡ places w
 places-field f l ne w x v = λ i k. field-other w x f v k 11 l (omega arith) ne i
 
-places-names : (b : Btf) (space : Space) (id : ℕ) (name : Name) (w : List ℕ) → places (workNaming b .typeVersion space id name w .names) ≡ places w
+places-names : (b : TypeTable) (space : Space) (id : ℕ) (name : Name) (w : List ℕ) → places (workNaming b .typeVersion space id name w .names) ≡ places w
 unfolding workNaming typeVersionIn
 places-names b space id name w = go (eqb (getField w id 4) 0)
   where
@@ -216,7 +216,7 @@ places-names b space id name w = go (eqb (getField w id 4) 0)
     go false = refl
     go true = places-field 4 (omega arith) (λ e. omega arith) u id n ∙ places-counted (b .types) w id
 
-places-values : (b : Btf) (id i : ℕ) (name : Name) (w : List ℕ) → places (workNaming b .valueVersion id i name w .names) ≡ places w
+places-values : (b : TypeTable) (id i : ℕ) (name : Name) (w : List ℕ) → places (workNaming b .valueVersion id i name w .names) ≡ places w
 unfolding workNaming valueVersionIn
 places-values b id i name w = go (ltb (b .types + enumeratorOf w id i) 4294967296)
   where
@@ -230,5 +230,5 @@ places-values b id i name w = go (ltb (b .types + enumeratorOf w id i) 429496729
     go false = refl
     go true = places-counted (b .types) w (b .types + enumeratorOf w id i)
 
-pub places-emit : (b : Btf) (B : Rules) (n : ℕ) (m : Sheet) (x cont : ℕ) → Stays places (m .work) (emit (workMachine b B) (tableOf B) n m x cont)
+pub places-emit : (b : TypeTable) (B : Rules) (n : ℕ) (m : Sheet) (x cont : ℕ) → Stays places (m .work) (emit (workMachine b B) (tableOf B) n m x cont)
 places-emit b = stays-emit places b (places-field 13 (omega arith) (λ e. omega arith)) (places-field 3 (omega arith) (λ e. omega arith)) (λ w v. places-field 2 (omega arith) (λ e. omega arith) w 0 v) (places-field 15 (omega arith) (λ e. omega arith)) (places-names b) (places-values b)

@@ -24,7 +24,7 @@ use Rattle.btf_layout.specs.asked.Asked.{workAsks}
 use Rattle.spec_c_dumper.proofs.rules.Keeps.{Keeps}
 use Rattle.btf_layout.proofs.refusals.InWork.{definition-keeps as def-keeps, forward-keeps as fwd-keeps, definition-tells, forward-tells}
 use Rattle.spec_c_dumper.proofs.rules.Refusals.{Told, told, cut-by, Tells}
-use Rattle.spec_type_table.specs.declared.types.Btf.{Btf}
+use Rattle.spec_type_table.specs.declared.types.TypeTable.{TypeTable}
 use Rattle.spec_type_table.specs.Cells.{getField, putField, classP, countP, counted, withMore}
 use Rattle.spec_type_table.specs.Numbers.{numberAt}
 use Rattle.spec_type_table.specs.Table.{from, workNaming, typeVersionIn, valueVersionIn, enumeratorOf}
@@ -32,9 +32,10 @@ use Rattle.spec_type_table.proofs.Laws.{place-type, place-enum}
 use Rattle.spec_type_table.proofs.Frame.{field-other, counted-other}
 use Rattle.c_dumper_dependency_order.specs.order_state.Work.{Marks, markOf, code, workStore}
 use Rattle.c_dumper_dependency_order.proofs.order_state.Lawful.{work-lawful}
-use Rattle.spec_session.specs.emission.Sheet.{Sheet, marksIn, sheetStore, emptied, sheetOf, lineIn, workMachine, dumped}
+use Rattle.spec_session.specs.emission.Sheet.{Sheet, marksIn, sheetStore, emptied, sheetOf, lineIn, workMachine}
+use Rattle.spec_c_dumper.specs.rules.Request.{dumped}
 use Rattle.spec_session.specs.emission.Tagged.{Tagged, tagged, taggedMachine}
-use Rattle.spec_session.proofs.emission.Maps.{omap, StoreMap, MachineMap, map-dumped}
+use Rattle.spec_c_dumper.proofs.rules.Maps.{omap, StoreMap, MachineMap, map-dumped}
 
 -- ---- what names leave alone: the length, and words 1 and 13 of the cells
 abbrev words : ℕ → List ℕ → ℕ → ℕ
@@ -50,7 +51,7 @@ more-length w i = go (ltb (getWord w i) 4294967295)
 
 module _ {Z : Type 0} (P : List ℕ → Z) (field4 : (w : List ℕ) (x v : ℕ) → P (putField w x 4 v) ≡ P w)
     (counts : (types : ℕ) (w : List ℕ) (h : ℕ) → P (counted (classP types) (countP types) w h) ≡ P w)
-    (memory : (w : List ℕ) (x f v : ℕ) → (f ≡ 2) ⊎ (f ≡ 15) → P (putField w x f v) ≡ P w) (b : Btf) where
+    (memory : (w : List ℕ) (x f v : ℕ) → (f ≡ 2) ⊎ (f ≡ 15) → P (putField w x f v) ≡ P w) (b : TypeTable) where
   names-keep : (space : Space) (id : ℕ) (name : Name) (w : List ℕ) → P (workNaming b .typeVersion space id name w .names) ≡ P w
   unfolding workNaming typeVersionIn
   names-keep space id name w = go (eqb (getField w id 4) 0)
@@ -164,7 +165,7 @@ line-holds v long one state tells m inside = go (v (m .work)) (long (m .work)) (
         → Line m (sheetOf (m .len) (putSaid (m .text) (m .at) s))
     go (said u x) a b c h = put-line m inside u a b c x h
 
-module _ (b : Btf) (B : Rules) (m : Sheet) (inside : m .at ≤ length (m .text)) (x : ℕ) where
+module _ (b : TypeTable) (B : Rules) (m : Sheet) (inside : m .at ≤ length (m .text)) (x : ℕ) where
   forward-line : Line m (lineIn (forwardOnce (workAsks (b .types) B) (workNaming b) B x (B .type-by-id x)) m)
   forward-line = line-holds (forwardOnce (workAsks (b .types) B) (workNaming b) B x (B .type-by-id x))
       (forward-keeps length (λ w i v. put-length w (i * 16 + 4) v) count-length (λ w x f v q. put-length w (x * 16 + f) v) b B x (B .type-by-id x))
@@ -207,7 +208,7 @@ module _ (n : ℕ) where
     pub long : 64 * n ≤ length (m .sheet .work)
     pub inside : m .sheet .at ≤ length (m .sheet .text)
 
-  module _ (small : n ≤ 4294967295) (b : Btf) (B : Rules) where
+  module _ (small : n ≤ 4294967295) (b : TypeTable) (B : Rules) where
     abbrev X : Machine Tagged
     X = taggedMachine b B
 
@@ -291,11 +292,11 @@ unfolding tagged
 sheet-out ts (wrote m) = refl
 sheet-out ts (stuck c) = refl
 
-store-map : (b : Btf) (B : Rules) → StoreMap (taggedMachine b B .store) (workMachine b B .store) (λ m. m .sheet)
+store-map : (b : TypeTable) (B : Rules) → StoreMap (taggedMachine b B .store) (workMachine b B .store) (λ m. m .sheet)
 unfolding taggedMachine workMachine
 store-map b B = record { gets = λ m x. refl; marks = λ k x m. refl; pushes = λ x m. refl; lists = λ m. refl }
 
-pub tagged-map : (b : Btf) (B : Rules) → MachineMap (taggedMachine b B) (workMachine b B) (λ m. m .sheet)
+pub tagged-map : (b : TypeTable) (B : Rules) → MachineMap (taggedMachine b B) (workMachine b B) (λ m. m .sheet)
 unfolding taggedMachine
 tagged-map b B = record {
   stores = store-map b B;
@@ -311,5 +312,5 @@ tagged-map b B = record {
 }
 
 -- so a request of the one, seen without the tags, is a request of the other
-pub tagged-dumped : (b : Btf) (B : Rules) (T : Table) (m : Tagged) (x : ℕ) → dumped (workMachine b B) T (m .sheet) x ≡ omap (λ (m′ : Tagged). m′ .sheet) (dumped (taggedMachine b B) T m x)
+pub tagged-dumped : (b : TypeTable) (B : Rules) (T : Table) (m : Tagged) (x : ℕ) → dumped (workMachine b B) T (m .sheet) x ≡ omap (λ (m′ : Tagged). m′ .sheet) (dumped (taggedMachine b B) T m x)
 tagged-dumped b B T m x = map-dumped (taggedMachine b B) (workMachine b B) (λ m′. m′ .sheet) (tagged-map b B) T m x

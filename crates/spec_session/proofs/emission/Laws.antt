@@ -19,7 +19,7 @@ use Rattle.spec_c_dumper.specs.rules.Place.{withNames, outOf, putSaid}
 use Rattle.spec_c_dumper.specs.alignment_once.Writers.{definitionOnce, forwardOnce}
 use Rattle.btf_layout.specs.asked.Asked.{workAsks}
 use Rattle.spec_c_dumper.proofs.rules.Writing.{said-stopped}
-use Rattle.spec_type_table.specs.declared.types.Btf.{Btf}
+use Rattle.spec_type_table.specs.declared.types.TypeTable.{TypeTable}
 use Rattle.spec_type_table.specs.declared.types.BtfType.{BtfType as Record}
 use Rattle.spec_type_table.specs.declared.types.Entries.{Entries}
 use Rattle.spec_type_table.specs.declared.node.Node.{Node as Code}
@@ -121,7 +121,7 @@ module _ (n at : ℕ) (t w : List ℕ) where
   work-last f w′ e = sym (obind-wrote (emitOut n at t w′)) ∙ work-sheet f w′ (λ m. wrote m) e
 
 -- ---- the table after a call is the table before it
-module _ (b : Btf) (s : List ℕ) where
+module _ (b : TypeTable) (s : List ℕ) where
   table-run : (n a : ℕ) (t₁ w₁ w : List ℕ) → Stays (btfOf b s) w (emitOut n a t₁ w₁) → a ≤ length t₁ → btfOf b s w₁ ≡ btfOf b s w
   table-run n a t₁ w₁ w h l = go (emitOut n a t₁ w₁) h (goes n a t₁ w₁ l)
     where
@@ -149,7 +149,7 @@ module _ (b : Btf) (s : List ℕ) where
       subst (Stays (btfOf b s) w) (sym e) (stays-then (btfOf b s) w (emitOut n at t w) (λ m. emitIn b B left cont m y) (entry-stays (btfOf b s) n at t w) (λ m. table-emit b s B left m y cont))
 
 -- ---- emit_once, emit_mention
-module _ (b : Btf) (B : Rules) (ty : BtfType) (n at : ℕ) (t w : List ℕ) (id : ℕ) where
+module _ (b : TypeTable) (B : Rules) (ty : BtfType) (n at : ℕ) (t w : List ℕ) (id : ℕ) where
   pub once-had : (had : Bool) → had ≡ not (eqb (getField w id 3) 0) → had ≡ true → emitOut n at t w ≡ obind (emitOut n at t w) (λ m. onceIn b B ty m id)
   unfolding onceIn once workMachine
   once-had had e h = same-sheet n at t w (λ m. onceIn b B ty m id) (ap (λ (x : Bool). once (workMachine b B) (tableOf B) (λ m′ y. lineIn (forwardOnce (workAsks (b .types) B) (workNaming b) B y ty) m′) id x (sheet n at t w)) (sym e ∙ h))
@@ -186,19 +186,19 @@ module _ (b : Btf) (B : Rules) (ty : BtfType) (n at : ℕ) (t w : List ℕ) (id 
 
 -- ---- emit_again
 -- the line of an id, by its type
-once-line : (b : Btf) (B : Rules) (ty : BtfType) (m : Sheet) (id : ℕ) (had : Bool) → ty ≡ B .type-by-id id
+once-line : (b : TypeTable) (B : Rules) (ty : BtfType) (m : Sheet) (id : ℕ) (had : Bool) → ty ≡ B .type-by-id id
     → once (workMachine b B) (tableOf B) (λ m′ y. lineIn (forwardOnce (workAsks (b .types) B) (workNaming b) B y ty) m′) id had m ≡ once (workMachine b B) (tableOf B) (workMachine b B .fwdLine) id had m
 unfolding once workMachine
 once-line b B ty m id true e = refl
 once-line b B ty m id false e = ap (λ (y : BtfType). obind (lineIn (forwardOnce (workAsks (b .types) B) (workNaming b) B id y) m) (λ m′. wrote (workMachine b B .forwarded id m′))) e
 
-once-alias : (b : Btf) (B : Rules) (m : Sheet) (id : ℕ) (had : Bool)
+once-alias : (b : TypeTable) (B : Rules) (m : Sheet) (id : ℕ) (had : Bool)
     → once (workMachine b B) (tableOf B) (workMachine b B .fwdLine) id had m ≡ once (workMachine b B) (tableOf B) (workMachine b B .aliasLine) id had m
 unfolding once workMachine
 once-alias b B m id true = refl
 once-alias b B m id false = refl
 
-again-kind : (b : Btf) (s : List ℕ) (B : Rules) (m : Sheet) (id cont : ℕ) (t : Record) (k : ℕ) → kindOf (t .info) ≡ k → (k ≡ 4 → ⊥) → (k ≡ 5 → ⊥) → (k ≡ 8 → ⊥) → again (workMachine b B) (tableOf B) m id cont (nodeOf (typeOf b s t)) ≡ wrote m
+again-kind : (b : TypeTable) (s : List ℕ) (B : Rules) (m : Sheet) (id cont : ℕ) (t : Record) (k : ℕ) → kindOf (t .info) ≡ k → (k ≡ 4 → ⊥) → (k ≡ 5 → ⊥) → (k ≡ 8 → ⊥) → again (workMachine b B) (tableOf B) m id cont (nodeOf (typeOf b s t)) ≡ wrote m
 unfolding again
 again-kind b s B m id cont t k =
     by-kind
@@ -226,7 +226,7 @@ again-kind b s B m id cont t k =
     (λ j l e p4 p5 p8. ap (λ (y : BtfType). again (workMachine b B) (tableOf B) m id cont (nodeOf y)) (type-none b s t (subst (λ (i : ℕ). 20 ≤ i) (sym e) l)))
     k
 
-module _ (b : Btf) (s : List ℕ) (n at : ℕ) (tx w : List ℕ) (id cont : ℕ) where
+module _ (b : TypeTable) (s : List ℕ) (n at : ℕ) (tx w : List ℕ) (id cont : ℕ) where
   abbrev B : Rules
   B = btfOf b s w
 
@@ -302,7 +302,7 @@ zero-is : (c : ℕ) → isZero c ≡ eqb c 0
 zero-is zero = refl
 zero-is (suc c) = sym (ne-eqb (suc c) 0 (λ e. omega arith))
 
-module _ (b : Btf) (s : List ℕ) (n at : ℕ) (tx w : List ℕ) (id cont left : ℕ) where
+module _ (b : TypeTable) (s : List ℕ) (n at : ℕ) (tx w : List ℕ) (id cont left : ℕ) where
   abbrev Bt : Rules
   Bt = btfOf b s w
 
@@ -346,7 +346,7 @@ module _ (b : Btf) (s : List ℕ) (n at : ℕ) (tx w : List ℕ) (id cont left :
       emit-fresh e x ex = ex ∙ at-sheet n at tx w (λ m. newIn b Bt (left - 1) cont m id) (λ m. emitIn b Bt left cont m id) (λ _. sym (gate-is false e))
 
 -- ---- emit_leaf, end_typedef, end_composite
-module _ (b : Btf) (B : Rules) (ty : BtfType) (n at : ℕ) (t w : List ℕ) (id : ℕ) where
+module _ (b : TypeTable) (B : Rules) (ty : BtfType) (n at : ℕ) (t w : List ℕ) (id : ℕ) where
   -- a definition, and the id is done
   defined : (a : ℕ) (t₁ w₁ : List ℕ) → outOf a t₁ w₁ ≡ putSaid t at (definitionOnce (workAsks (b .types) B) (workNaming b) B id ty w) → (w₂ : List ℕ) → w₂ ≡ putField w₁ id 13 2
       → emitOut n a t₁ w₂ ≡ obind (emitOut n at t w) (λ m. obind (lineIn (definitionOnce (workAsks (b .types) B) (workNaming b) B id ty) m) (λ k. wrote (withWork k (putField (k .work) id 13 2))))
@@ -378,7 +378,7 @@ module _ (b : Btf) (B : Rules) (ty : BtfType) (n at : ℕ) (t w : List ℕ) (id 
   ends-top cont z a t₁ w₁ el w₂ ew = defined a t₁ w₁ el w₂ ew ∙ ap (λ (f : Bool). obind (emitOut n at t w) (λ m. endedIn b B f ty m id)) (sym (eq-eqb cont 0 z))
 
 -- ---- mention_composite
-module _ (b : Btf) (s : List ℕ) (ty : BtfType) (n at : ℕ) (tx w : List ℕ) (id cont : ℕ) where
+module _ (b : TypeTable) (s : List ℕ) (ty : BtfType) (n at : ℕ) (tx w : List ℕ) (id cont : ℕ) where
   pub mentioned : (w₁ : List ℕ) → w₁ ≡ putField w id 13 1 → (a : ℕ) (t₂ w₂ : List ℕ) → emitOut n a t₂ w₂ ≡ obind (emitOut n at tx w₁) (λ m. mentionIn b (btfOf b s w₁) ty cont m id)
       → (w₃ : List ℕ) → w₃ ≡ putField w₂ id 13 0 → emitOut n a t₂ w₃ ≡ obind (emitOut n at tx w) (λ m. mentionedIn b (btfOf b s w) ty cont m id)
   unfolding mentionedIn
@@ -389,7 +389,7 @@ module _ (b : Btf) (s : List ℕ) (ty : BtfType) (n at : ℕ) (tx w : List ℕ) 
       (work-last n a t₂ w₂ (λ u. putField u id 13 0) w₃ e₃)
 
 -- ---- emit_new
-module _ (b : Btf) (s : List ℕ) (n at : ℕ) (tx w : List ℕ) (id cont left : ℕ) (t : Record) (et : t ≡ recordById b s w id) (nd : Code) (en : nodeIs b s nd ≡ nodeOf (typeOf b s t)) (x : Out Sheet) where
+module _ (b : TypeTable) (s : List ℕ) (n at : ℕ) (tx w : List ℕ) (id cont left : ℕ) (t : Record) (et : t ≡ recordById b s w id) (nd : Code) (en : nodeIs b s nd ≡ nodeOf (typeOf b s t)) (x : Out Sheet) where
   abbrev Bn : Rules
   Bn = btfOf b s w
 
@@ -469,7 +469,7 @@ module _ (b : Btf) (s : List ℕ) (n at : ℕ) (tx w : List ℕ) (id cont left :
           ∙ ap (λ (Q : Rules). obind (emitOut n a t₂ w₂) (λ m. typedefIn b Q (typeOf b s t) m id)) same₁
 
 -- ---- emit_composite
-module _ (b : Btf) (s : List ℕ) (n at : ℕ) (tx w : List ℕ) (id cont left : ℕ) (t : Record) (et : t ≡ recordById b s w id) (nm : Bool) (en : nm ≡ isNamed (typeOf b s t)) (ms : List ℕ) where
+module _ (b : TypeTable) (s : List ℕ) (n at : ℕ) (tx w : List ℕ) (id cont left : ℕ) (t : Record) (et : t ≡ recordById b s w id) (nm : Bool) (en : nm ≡ isNamed (typeOf b s t)) (ms : List ℕ) where
   abbrev Bc : Rules
   Bc = btfOf b s w
 
@@ -541,11 +541,11 @@ module _ (b : Btf) (s : List ℕ) (n at : ℕ) (tx w : List ℕ) (id cont left :
         (λ m. ap (λ (i : ℕ). thenEnds i (eqb cont 0) (typeOf b s t) m) ec ∙ ended-is (eqb cont 0) refl g m)
 
 -- ---- emit_members, emit_params, emit_listed: what is left is the whole
-pub record Rest (b : Btf) (s : List ℕ) (w₀ : List ℕ) (left cont : ℕ) (id : ℕ → ℕ) (n at : ℕ) (tx₀ : List ℕ) (vlen p : ℕ) (tx w : List ℕ) (k : ℕ) : Type 0 where
+pub record Rest (b : TypeTable) (s : List ℕ) (w₀ : List ℕ) (left cont : ℕ) (id : ℕ → ℕ) (n at : ℕ) (tx₀ : List ℕ) (vlen p : ℕ) (tx w : List ℕ) (k : ℕ) : Type 0 where
   pub whole : obind (emitOut n at tx₀ w₀) (λ m. eeach (emitIn b (btfOf b s w₀) left cont) (from id 0 vlen) m) ≡ obind (emitOut n p tx w) (λ m. eeach (emitIn b (btfOf b s w₀) left cont) (from id k (vlen - k)) m)
   pub table : Stays (btfOf b s) w₀ (emitOut n p tx w)
 
-module _ (b : Btf) (s : List ℕ) (w₀ : List ℕ) (left cont : ℕ) (id : ℕ → ℕ) (n at : ℕ) (tx₀ : List ℕ) (vlen : ℕ) where
+module _ (b : TypeTable) (s : List ℕ) (w₀ : List ℕ) (left cont : ℕ) (id : ℕ → ℕ) (n at : ℕ) (tx₀ : List ℕ) (vlen : ℕ) where
   pub rest-start : Rest b s w₀ left cont id n at tx₀ vlen at tx₀ w₀ 0
   rest-start = record { whole = (let d : vlen ≡ vlen - 0 = omega arith in ap (λ (i : ℕ). obind (emitOut n at tx₀ w₀) (λ m. eeach (emitIn b (btfOf b s w₀) left cont) (from id 0 i) m)) d); table = entry-stays b s (btfOf b s) n at tx₀ w₀ }
 
@@ -573,7 +573,7 @@ module _ (b : Btf) (s : List ℕ) (w₀ : List ℕ) (left cont : ℕ) (id : ℕ 
     unfolding from eeach
     rest-end l = let d : vlen - k ≡ 0 = omega arith in sym (inv .whole ∙ ap (λ (i : ℕ). obind (emitOut n p tx w) (λ m. eeach (emitIn b (btfOf b s w₀) left cont) (from id k i) m)) d ∙ obind-wrote (emitOut n p tx w))
 
-module _ (b : Btf) (s : List ℕ) (w₀ : List ℕ) (left cont : ℕ) (n at : ℕ) (tx₀ : List ℕ) (es : Entries) (p : ℕ) (tx w : List ℕ) (k : ℕ) where
+module _ (b : TypeTable) (s : List ℕ) (w₀ : List ℕ) (left cont : ℕ) (n at : ℕ) (tx₀ : List ℕ) (es : Entries) (p : ℕ) (tx w : List ℕ) (k : ℕ) where
   pub params-end : Rest b s w₀ left cont (λ i. sectionWord b s (paramAt (es .at) i + 4)) n at tx₀ (es .vlen) p tx w k → es .vlen ≤ k
       → emitOut n p tx w ≡ obind (emitOut n at tx₀ w₀) (λ m. eeach (emitIn b (btfOf b s w₀) left cont) (paramIds b s es) m)
   unfolding paramIds

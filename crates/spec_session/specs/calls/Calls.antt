@@ -7,10 +7,11 @@ use lib.Dec.{leb, ltb}
 use Rattle.spec_bytes.specs.text.Text.{place}
 use Rattle.spec_c_dumper.specs.rules.Machine.{Out, wrote, stuck}
 use Rattle.spec_c_dumper.specs.rules.Types.{tableOf}
-use Rattle.spec_type_table.specs.declared.types.Btf.{Btf}
+use Rattle.spec_type_table.specs.declared.types.TypeTable.{TypeTable}
 use Rattle.spec_type_table.specs.Table.{btfOf}
 use Rattle.spec_opening.specs.Opened.{Outcome, refused, opened, openingOf}
-use Rattle.spec_session.specs.emission.Sheet.{Sheet, workMachine, dumped}
+use Rattle.spec_session.specs.emission.Sheet.{Sheet, workMachine}
+use Rattle.spec_c_dumper.specs.rules.Request.{dumped}
 use Rattle.spec_session.specs.declared.session.Session.{Session}
 use Rattle.spec_session.specs.declared.session.Reached.{Reached}
 use Rattle.spec_session.specs.session.Answers.{answerOf}
@@ -63,7 +64,7 @@ abbrev pub lentTo : ℕ → List ℕ → List ℕ
 lentTo len t = take (limitOf (length t) len - len) (drop len t)
 
 -- One request for an id, after a text of len bytes and v visits: the rules over the work, on that slice from its start.
-unfoldable pub requested : Btf → List ℕ → ℕ → ℕ → ℕ → List ℕ → List ℕ → Reach
+unfoldable pub requested : TypeTable → List ℕ → ℕ → ℕ → ℕ → List ℕ → List ℕ → Reach
 requested b s id len v w t =
     cameTo len v t (dumped (workMachine b (btfOf b s w)) (tableOf (btfOf b s w)) (record { work = w; text = lentTo len t; at = 0; len = 0 }) id)
 
@@ -74,7 +75,7 @@ onward (refusedBy c len v t) k = refusedBy c len v t
 
 -- "then the single requests from 1 upward, so a refusal keeps the text of those before it and returns its length": n ids from id on. The
 -- visits before each are those that the work counts.
-unfoldable pub requestedFrom : Btf → List ℕ → ℕ → ℕ → ℕ → List ℕ → List ℕ → Reach
+unfoldable pub requestedFrom : TypeTable → List ℕ → ℕ → ℕ → ℕ → List ℕ → List ℕ → Reach
 requestedFrom b s zero id len w t = reached len w t
 requestedFrom b s (suc n) id len w t = onward (requested b s id len (visitsIn w) w t) (requestedFrom b s n (suc id))
 

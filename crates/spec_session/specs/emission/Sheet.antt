@@ -3,14 +3,14 @@ use Prim.Native.Nat.{ℕ, zero, suc}
 use mathlib.Core.Bool.{Bool, true, false, not, _||_}
 use mathlib.Core.List.{List, []}
 use lib.Dec.{eqb}
-use Rattle.spec_c_dumper.specs.rules.Order.{Node, ignored, plain, listed, through, ptr, tdef, proto, comp, Table, Mark, new, busy, done, Store, Res, ok, refused, order}
-use Rattle.spec_c_dumper.specs.rules.Machine.{Out, wrote, stuck, Machine, isZero, obind, eeach, once, again, begin, emit}
+use Rattle.spec_c_dumper.specs.rules.Order.{Node, ignored, plain, listed, through, ptr, tdef, proto, comp, Table, Mark, new, busy, done, Store}
+use Rattle.spec_c_dumper.specs.rules.Machine.{Out, wrote, stuck, Machine, isZero, obind, once, again, begin, emit}
 use Rattle.spec_c_dumper.specs.rules.Types.{BtfType, Btf as Rules, tableOf}
 use Rattle.spec_c_dumper.specs.rules.Writer.{Writer}
 use Rattle.spec_c_dumper.specs.rules.Place.{Wrote, wrote as written, refused as cutOff, outOf, putSaid}
 use Rattle.spec_c_dumper.specs.alignment_once.Writers.{definitionOnce, forwardOnce}
 use Rattle.btf_layout.specs.asked.Asked.{workAsks}
-use Rattle.spec_type_table.specs.declared.types.Btf.{Btf}
+use Rattle.spec_type_table.specs.declared.types.TypeTable.{TypeTable}
 use Rattle.spec_type_table.specs.Cells.{getField, putField}
 use Rattle.spec_type_table.specs.Table.{workNaming}
 use Rattle.c_dumper_dependency_order.specs.order_state.Work.{Marks, markOf, code, workStore}
@@ -58,7 +58,7 @@ emitOut n at t w = sheetOf n (outOf at t w)
 unfoldable pub lineIn : Writer (List ℕ) → Sheet → Out Sheet
 lineIn v m = sheetOf (m .len) (putSaid (m .text) (m .at) (v (m .work)))
 
-module _ (b : Btf) (B : Rules) where
+module _ (b : TypeTable) (B : Rules) where
   -- Lines by the remembering way: alignments are remembered in the work. Emission's marks stand in words 13, the flags of forward lines in words 3. The text is the lent slice, so `start` has no room to
   -- set. No list of tags is kept: whoever reasons about what is defined carries it beside the sheet.
   unfoldable pub workMachine : Machine Sheet
@@ -113,15 +113,6 @@ module _ (b : Btf) (B : Rules) where
   unfoldable pub endedIn : Bool → BtfType → Sheet → ℕ → Out Sheet
   endedIn true t m x = obind (lineIn (definitionOnce (workAsks (b .types) B) (workNaming b) B x t) m) (λ k. wrote (withWork k (putField (k .work) x 13 2)))
   endedIn false t m x = wrote (withWork m (putField (m .work) x 13 0))
-
--- One request: what ordering listed, each emitted at the top, and then the order list is empty again.
-module _ {M : Type 0} (X : Machine M) (T : Table) where
-  unfoldable pub listedOut : Res M → Out M
-  listedOut (ok s strong) = obind (eeach (λ m y. emit X T 512 m y 0) (X .store .list s) s) (λ m. wrote (X .start 0 m))
-  listedOut (refused c) = stuck c
-
-  unfoldable pub dumped : M → ℕ → Out M
-  dumped m x = listedOut (order (X .store) 512 T m x false)
 
 -- A request for an id that is ordered, or is a function, a variable, a section or a tag, has nothing to do.
 unfoldable pub isIgnored : Node → Bool

@@ -4,7 +4,7 @@ use Prim.Native.Nat.{ℕ}
 use mathlib.Core.List.{List, [], _∷_, _++_}
 use Rattle.spec_c_dumper.specs.rules.Machine.{Out, wrote, stuck, Machine}
 use Rattle.spec_c_dumper.specs.rules.Types.{Btf as Rules}
-use Rattle.spec_type_table.specs.declared.types.Btf.{Btf}
+use Rattle.spec_type_table.specs.declared.types.TypeTable.{TypeTable}
 use Rattle.spec_session.specs.emission.Sheet.{Sheet, sheetStore, workMachine}
 
 pub record Tagged : Type 0 where
@@ -15,7 +15,7 @@ unfoldable pub tagged : List ℕ → Out Sheet → Out Tagged
 tagged ts (wrote m) = wrote (record { sheet = m; tags = ts })
 tagged ts (stuck c) = stuck c
 
-unfoldable pub taggedMachine : Btf → Rules → Machine Tagged
+unfoldable pub taggedMachine : TypeTable → Rules → Machine Tagged
 taggedMachine b B = record {
   store = record {
     get = λ m x. sheetStore .get (m .sheet) x;

@@ -5,7 +5,7 @@ use mathlib.Core.List.{List, _++_}
 use lib.ListN.{take, replicate}
 use lib.Dec.{eqb, leb}
 use Rattle.spec_bytes.specs.words.Words.{getWord}
-use Rattle.spec_type_table.specs.declared.types.Btf.{Btf}
+use Rattle.spec_type_table.specs.declared.types.TypeTable.{TypeTable}
 use Rattle.btf_open_causes.specs.header.Header.{btfOf as settingsOf}
 use Rattle.spec_session.specs.declared.session.Answer.{Answer}
 use Rattle.spec_session.specs.declared.session.Session.{Session}
@@ -35,7 +35,7 @@ unfoldable pub isCurrent : Session → ℕ → ℕ → ℕ → Bool
 isCurrent s section work text = s .«open» && (eqb (s .«section_len») section && (eqb (s .«work_len») work && leb (s .«text_len») text))
 
 -- the table as the session has it
-abbrev pub tableFor : Session → List ℕ → Btf
+abbrev pub tableFor : Session → List ℕ → TypeTable
 tableFor s section = settingsOf section (s .«pointer_size») (s .modes) (s .types)
 
 -- ---- where requests come to

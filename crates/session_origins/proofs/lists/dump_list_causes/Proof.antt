@@ -1,5 +1,5 @@
 use Rattle.session_origins.specs.lists.Several.{listCausesCall}
-use Rattle.spec_line_origins.specs.origins.Causes.{entriesIn}
+use Rattle.spec_c_dumper.specs.origins.Causes.{entriesIn}
 use Rattle.spec_session.specs.calls.Lists.{idsIn}
 use native.Mathlib.Omega.{arith}
 use lib.ListN.{length}

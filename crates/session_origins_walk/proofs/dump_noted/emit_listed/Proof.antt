@@ -1,7 +1,7 @@
 use Prim.Native.Nat.{ℕ, zero-le, _≤_, _-_, _/_}
 use Rattle.session_origins_walk.proofs.dump_noted.Laws as laws
-use Rattle.session_origins_walk.specs.leaders.Leads.{entryIn}
-use Rattle.spec_line_origins.specs.origins.Causes.{entriesIn}
+use Rattle.c_dumper_dependency_order.specs.leaders.Leads.{entryIn}
+use Rattle.spec_c_dumper.specs.origins.Causes.{entriesIn}
 use native.Mathlib.Omega.{arith}
 use lib.ListN.{length}
 use mathlib.Core.Path.{_≡_, refl, ap, _∙_}

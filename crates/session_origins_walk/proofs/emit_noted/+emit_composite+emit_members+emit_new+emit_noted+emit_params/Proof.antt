@@ -1,12 +1,12 @@
 use Rattle.c_dumper_dependency_order.proofs.order_state.Laws.{entry-word}
-use Rattle.session_origins_walk.specs.leaders.Leads.{entryIn}
-use Rattle.spec_line_origins.specs.origins.Causes.{entriesIn}
+use Rattle.c_dumper_dependency_order.specs.leaders.Leads.{entryIn}
+use Rattle.spec_c_dumper.specs.origins.Causes.{entriesIn}
 use lib.ListN.{length}
 use mathlib.Core.Path.{_≡_, refl, sym, ap, _∙_}
 use Rattle.spec_type_table.specs.Records.{sectionWord, memberAt, paramAt}
 use Rattle.c_dumper_dependency_order.proofs.order_state.Laws as plainly
-use Rattle.session_origins_walk.proofs.entries.Laws as laws
-use Rattle.session_origins_walk.proofs.entries.Walk as walk
+use Rattle.c_dumper_emit.proofs.entries.Laws as laws
+use Rattle.c_dumper_emit.proofs.entries.Walk as walk
 use Rattle.session_origins_walk.proofs.emit_noted.Walk as new
 use borrow.Author.Needs.{needs}
 use native.Mathlib.Omega.{arith}

@@ -1,10 +1,10 @@
 use mathlib.Core.Path.{_∙_}
-use Rattle.session_origins_walk.proofs.entries.Walk as walk
+use Rattle.c_dumper_emit.proofs.entries.Walk as walk
 use Rattle.session_origins_walk.proofs.emit_noted.emit_leaf.Statement.{statement}
 use Rattle.session_origins_walk.proofs.emit_noted.emit_leaf.Tie as tie
 use Rattle.session_origins_walk.proofs.emit_noted.emit_leaf.Reads as reads
 use Rattle.session_origins_walk.proofs.emit_noted.emit_leaf.Lts as lts
-use Rattle.session_origins_walk.proofs.entries.cause_at.Reads as cause-at-reads
+use Rattle.c_dumper_emit.proofs.entries.cause_at.Reads as cause-at-reads
 use Rattle.session_origins_walk.proofs.lines.define.Reads as define-reads
 use Rattle.session_origins_walk.proofs.steps.set_emit_state.Reads as set-emit-state-reads
 

@@ -1,13 +1,13 @@
 use mathlib.Core.Path.{refl}
 use mathlib.Core.Bool.{true}
-use Rattle.session_origins_walk.proofs.entries.Laws as laws
+use Rattle.c_dumper_emit.proofs.entries.Laws as laws
 use borrow.Author.Needs.{needs}
 use Rattle.session_origins_walk.proofs.lines.define.Statement.{statement}
 use Rattle.session_origins_walk.proofs.lines.define.Tie as tie
 use Rattle.session_origins_walk.proofs.lines.define.Reads as reads
 use Rattle.session_origins_walk.proofs.lines.define.Lts as lts
 use Rattle.c_dumper_declarator.proofs.lines.emit_definition.Reads as emit-definition-reads
-use Rattle.session_origins_walk.proofs.entries.note.Reads as note-reads
+use Rattle.c_dumper_emit.proofs.entries.note.Reads as note-reads
 
 note-requires : tie.Need-note-requires
 note-requires c κs = search needs

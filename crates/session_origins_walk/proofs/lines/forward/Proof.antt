@@ -1,12 +1,12 @@
-use Rattle.session_origins_walk.proofs.entries.Laws as laws
+use Rattle.c_dumper_emit.proofs.entries.Laws as laws
 use borrow.Author.Needs.{needs}
 use Rattle.session_origins_walk.proofs.lines.forward.Statement.{statement}
 use Rattle.session_origins_walk.proofs.lines.forward.Tie as tie
 use Rattle.session_origins_walk.proofs.lines.forward.Reads as reads
 use Rattle.session_origins_walk.proofs.lines.forward.Lts as lts
 use Rattle.c_dumper_declarator.proofs.lines.emit_forward.Reads as emit-forward-reads
-use Rattle.session_origins_walk.proofs.entries.is_shown.Reads as is-shown-reads
-use Rattle.session_origins_walk.proofs.entries.note_if.Reads as note-if-reads
+use Rattle.c_dumper_emit.proofs.entries.is_shown.Reads as is-shown-reads
+use Rattle.c_dumper_emit.proofs.entries.note_if.Reads as note-if-reads
 
 is-shown-requires : tie.Need-is-shown-requires
 is-shown-requires c κs = search needs

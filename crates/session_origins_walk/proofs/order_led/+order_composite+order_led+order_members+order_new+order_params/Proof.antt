@@ -1,5 +1,5 @@
 use Rattle.c_dumper_dependency_order.proofs.order_state.Laws as marks
-use Rattle.session_origins_walk.proofs.leaders.Laws as laws
+use Rattle.c_dumper_dependency_order.proofs.leaders.Laws as laws
 use lib.ListN.{length}
 use mathlib.Core.Path.{_≡_, refl, _∙_}
 use mathlib.Core.Bool.{false}
@@ -30,9 +30,9 @@ use Rattle.btf_type_table.proofs.kind.param_place.Reads as param-place-reads
 use Rattle.btf_type_table.proofs.node.type_by_id.Reads as type-by-id-reads
 use Rattle.btf_type_table.proofs.record.word.Reads as word-reads
 use Rattle.c_dumper_dependency_order.proofs.begin.meet.Reads as meet-reads
-use Rattle.session_origins_walk.proofs.leaders.finish_led.Reads as finish-led-reads
-use Rattle.session_origins_walk.proofs.leaders.finish_typedef_led.Reads as finish-typedef-led-reads
-use Rattle.session_origins_walk.proofs.leaders.inside.Reads as inside-reads
+use Rattle.c_dumper_dependency_order.proofs.leaders.finish_led.Reads as finish-led-reads
+use Rattle.c_dumper_dependency_order.proofs.leaders.finish_typedef_led.Reads as finish-typedef-led-reads
+use Rattle.c_dumper_dependency_order.proofs.leaders.inside.Reads as inside-reads
 use Rattle.c_dumper_dependency_order.proofs.order_state.get_order_state.Reads as get-order-state-reads
 use Rattle.c_dumper_dependency_order.proofs.order_state.refused.Reads as refused-reads
 use Rattle.c_dumper_dependency_order.proofs.order_state.set_order_state.Reads as set-order-state-reads

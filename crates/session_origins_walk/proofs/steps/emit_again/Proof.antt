@@ -2,14 +2,14 @@ use mathlib.Core.Path.{refl}
 use Rattle.c_dumper_declarator.proofs.lines.Laws as lines
 use native.Mathlib.Omega.{arith}
 use Rattle.c_dumper_dependency_order.proofs.order_state.Laws as plainly
-use Rattle.session_origins_walk.proofs.entries.Walk as walk
+use Rattle.c_dumper_emit.proofs.entries.Walk as walk
 use Rattle.session_origins_walk.proofs.steps.emit_again.Statement.{statement}
 use Rattle.session_origins_walk.proofs.steps.emit_again.Tie as tie
 use Rattle.session_origins_walk.proofs.steps.emit_again.Reads as reads
 use Rattle.session_origins_walk.proofs.steps.emit_again.Lts as lts
 use Rattle.btf_type_table.proofs.kind.kind_of.Reads as kind-of-reads
 use Rattle.btf_type_table.proofs.node.type_by_id.Reads as type-by-id-reads
-use Rattle.session_origins_walk.proofs.entries.cause_at.Reads as cause-at-reads
+use Rattle.c_dumper_emit.proofs.entries.cause_at.Reads as cause-at-reads
 use Rattle.session_origins_walk.proofs.steps.emit_once.Reads as emit-once-reads
 use Rattle.session_origins_walk.proofs.steps.get_fwd_emitted.Reads as get-fwd-emitted-reads
 use Rattle.session_origins_walk.proofs.steps.stop_at.Reads as stop-at-reads

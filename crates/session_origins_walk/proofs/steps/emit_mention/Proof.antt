@@ -1,4 +1,4 @@
-use Rattle.session_origins_walk.proofs.entries.Walk as walk
+use Rattle.c_dumper_emit.proofs.entries.Walk as walk
 use Rattle.session_origins_walk.proofs.steps.emit_mention.Statement.{statement}
 use Rattle.session_origins_walk.proofs.steps.emit_mention.Tie as tie
 use Rattle.session_origins_walk.proofs.steps.emit_mention.Reads as reads

@@ -1,5 +1,5 @@
 use mathlib.Core.Path.{_∙_, refl}
-use Rattle.session_origins_walk.proofs.entries.Walk as walk
+use Rattle.c_dumper_emit.proofs.entries.Walk as walk
 use Rattle.session_origins_walk.proofs.steps.emit_once.Statement.{statement}
 use Rattle.session_origins_walk.proofs.steps.emit_once.Tie as tie
 use Rattle.session_origins_walk.proofs.steps.emit_once.Reads as reads

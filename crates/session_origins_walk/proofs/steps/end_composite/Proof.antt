@@ -6,7 +6,7 @@ use Rattle.session_origins_walk.proofs.steps.end_composite.Reads as rea
 use Rattle.session_origins_walk.proofs.steps.end_composite.Lts as lts
 use Rattle.session_origins_walk.proofs.steps.set_emit_state.Reads as set-emit-state-reads
 use Rattle.session_origins_walk.proofs.lines.define.Reads as define-reads
-use Rattle.session_origins_walk.proofs.entries.listed_cause.Reads as listed-cause-reads
+use Rattle.c_dumper_emit.proofs.entries.listed_cause.Reads as listed-cause-reads
 
 set-emit-state-requires : tie.Need-set-emit-state-requires
 set-emit-state-requires c κs = tt

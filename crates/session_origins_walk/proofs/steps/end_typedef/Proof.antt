@@ -6,7 +6,7 @@ use Rattle.session_origins_walk.proofs.steps.end_typedef.Reads as reads
 use Rattle.session_origins_walk.proofs.steps.end_typedef.Lts as lts
 use Rattle.session_origins_walk.proofs.steps.emit_once.Reads as emit-once-reads
 use Rattle.session_origins_walk.proofs.steps.set_emit_state.Reads as set-emit-state-reads
-use Rattle.session_origins_walk.proofs.entries.cause_at.Reads as cause-at-reads
+use Rattle.c_dumper_emit.proofs.entries.cause_at.Reads as cause-at-reads
 
 cause-at-requires : tie.Need-cause-at-requires
 cause-at-requires c κs = tt

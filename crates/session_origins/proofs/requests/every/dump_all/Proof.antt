@@ -1,7 +1,7 @@
 use Rattle.session_origins_walk.specs.request.Kept.{Before}
-use Rattle.session_origins_walk.specs.entries.Noted.{entriesOf}
-use Rattle.spec_line_origins.specs.origins.Bytes.{requestedFromNoted}
-use Rattle.spec_line_origins.specs.origins.Causes.{upTo, entriesIn}
+use Rattle.c_dumper_emit.specs.entries.Noted.{entriesOf}
+use Rattle.spec_session.specs.origin_calls.Bytes.{requestedFromNoted}
+use Rattle.spec_c_dumper.specs.origins.Causes.{upTo, entriesIn}
 use native.Mathlib.Omega.{arith}
 use lib.ListN.{length}
 use mathlib.Core.List.{[]}

@@ -1,0 +1,9 @@
+pub mod Ordering
+pub mod Emission
+pub mod Listed
+pub mod Requests
+pub mod Keeps
+pub mod Back
+pub mod Lines
+pub mod Numbered
+pub mod Samples

@@ -1,0 +1,4 @@
+pub mod Causes
+pub mod Claims
+pub mod Lines
+pub mod Samples

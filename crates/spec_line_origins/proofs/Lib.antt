@@ -1,2 +1,0 @@
-pub mod origins
-pub mod origins_after

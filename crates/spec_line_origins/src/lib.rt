@@ -1,1 +1,0 @@
-// spec_line_origins
