@@ -1,4 +1,6 @@
 // get_align_of with the alignments that are remembered in the work.
+use crate::bounds::larger;
+use crate::bounds::smaller;
 use crate::remembered::Once;
 use crate::remembered::Seen;
 use crate::remembered::Step;
@@ -12,8 +14,6 @@ use btf_type_table::node::type_by_id;
 use btf_type_table::record::array_type;
 use btf_type_table::record::int_bits;
 use btf_type_table::record::word;
-use spec_c_dumper::rules::larger;
-use spec_c_dumper::rules::smaller;
 use spec_type_table::BtfType;
 use spec_type_table::Entries;
 use spec_type_table::TypeTable;

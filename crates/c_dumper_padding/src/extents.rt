@@ -1,4 +1,5 @@
 // Placing mode: what the members of a body reach, and whether all of them fit.
+use btf_layout::bounds::larger;
 use btf_layout::member_end::member_end;
 use btf_layout::size::Ask;
 use btf_layout::size::Packed;
@@ -6,7 +7,6 @@ use btf_layout::size::get_size_of;
 use btf_type_table::entry::load_member;
 use btf_type_table::kind::is_struct;
 use btf_type_table::kind::vlen_of;
-use spec_c_dumper::rules::larger;
 use spec_type_table::BtfMember;
 use spec_type_table::BtfType;
 use spec_type_table::TypeTable;

@@ -3,3 +3,4 @@ pub mod ceiling
 pub mod listed_twice
 pub mod needs
 pub mod origins
+pub mod rules

@@ -1,2 +1,1 @@
 // spec_c_dumper
-pub mod rules;

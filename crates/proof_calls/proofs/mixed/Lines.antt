@@ -23,7 +23,7 @@ use Rattle.proof_demands.proofs.demands.Demands.{delivered}
 use Rattle.spec_c_dumper.specs.origins.Causes.{Led, orderLed, listedEntry, Noted, eachListed, upTo, always, showsIn, filled, entriesIn, Told, untold, dropped, emittedNoted, orderedNoted, gateNoted, singleNoted, onwardNoted, listNoted, fromNoted, everyNoted, causesOf, oneCauses, listCauses, allCauses}
 use Rattle.spec_c_dumper.specs.origins.Claims.{Fits, listPlain}
 use Rattle.spec_c_dumper.specs.origins.Lines.{Turns}
-use Rattle.proof_calls.specs.origins.Calls.{idsFrom}
+use Rattle.spec_c_dumper.specs.origins.Causes.{idsFrom}
 use Rattle.spec_session.specs.origin_calls.Bytes.{CauseCall, typeCauses, typesCauses}
 use Rattle.spec_c_dumper.proofs.origins.Requests.{single-fits, list-fits, every-fits}
 use Rattle.spec_c_dumper.proofs.origins.Numbered.{machine-numbered}

@@ -21,7 +21,8 @@ use Rattle.proof_demands.proofs.demands.Demands.{after-sound, delivered}
 use Rattle.spec_c_dumper.specs.origins.Causes.{Entry, showsIn, always, Told, untold, singleNoted, everyNoted}
 use Rattle.spec_c_dumper.specs.origins.Claims.{Fits}
 use Rattle.spec_c_dumper.specs.origins.Lines.{Turns}
-use Rattle.proof_calls.specs.origins.Calls.{idsFrom, Beside, Explained}
+use Rattle.spec_c_dumper.specs.origins.Causes.{idsFrom}
+use Rattle.proof_calls.specs.origins.Calls.{Beside, Explained}
 use Rattle.spec_c_dumper.proofs.origins.Requests.{single-fits, every-fits}
 use Rattle.spec_c_dumper.proofs.origins.Numbered.{machine-numbered}
 use Rattle.spec_c_dumper.proofs.origins.Lines.{Idle, Told-grown, single-grown, every-grown, text-append}

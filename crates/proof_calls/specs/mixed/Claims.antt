@@ -20,7 +20,7 @@ use Rattle.proof_demands.specs.demands.Session.{After, Tells}
 use Rattle.proof_demands.specs.demands.Demands.{Lent, typesIn, ruled, Demand2, Demand3Calls, Twice}
 use Rattle.spec_c_dumper.specs.origins.Causes.{Entry, filled}
 use Rattle.spec_c_dumper.specs.origins.Lines.{Turns}
-use Rattle.proof_calls.specs.origins.Calls.{idsFrom}
+use Rattle.spec_c_dumper.specs.origins.Causes.{idsFrom}
 use Rattle.spec_session.specs.origin_calls.Bytes.{CauseCall, typeCauses, typesCauses}
 use Rattle.session_origins.specs.lists.Several.{listCausesCall}
 use Rattle.proof_calls.specs.ceilings.Claims.{elevenOf}

@@ -14,13 +14,8 @@ use Rattle.spec_c_dumper.specs.needs.Session.{Known, textOf}
 use Rattle.proof_demands.specs.demands.Table.{openedTable, namesIn, machineIn}
 use Rattle.proof_demands.specs.demands.Session.{After}
 use Rattle.proof_demands.specs.demands.Demands.{Lent, typesIn, ruled}
-use Rattle.spec_c_dumper.specs.origins.Causes.{showsIn, always, Told, untold, singleNoted, everyNoted}
+use Rattle.spec_c_dumper.specs.origins.Causes.{idsFrom, showsIn, always, Told, untold, singleNoted, everyNoted}
 use Rattle.spec_c_dumper.specs.origins.Lines.{Turns}
-
--- n ids from x on
-unfoldable pub idsFrom : ℕ → ℕ → List ℕ
-idsFrom zero x = []
-idsFrom (suc n) x = x ∷ idsFrom n (suc x)
 
 -- pointer size, mode, section and length of the work, as at opening
 module _ (pointer modes : ℕ) (s : List ℕ) (n : ℕ) where

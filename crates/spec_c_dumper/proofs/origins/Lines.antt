@@ -22,7 +22,7 @@ use Rattle.spec_c_dumper.specs.needs.Session.{Known, fitting, lineOf, li
 use Rattle.spec_c_dumper.specs.origins.Causes.{Entry, entry, ledBy, Led, ledStore, orderLed, leaderOf, listedEntry, Noted, withEntries, line, causeAt, noting, emitNoted, showsIn, always, Told, untold, dropped, emittedNoted, eachListed, orderedNoted, gateNoted, singleNoted, onwardNoted, listNoted, fromNoted, everyNoted}
 use Rattle.spec_c_dumper.specs.origins.Claims.{itself, isListed, LedTo, Numbered}
 use Rattle.spec_c_dumper.specs.origins.Lines.{isTypedef, isForward, Ended, writerOf, pieceOf, Pairs, none, more, blank, Grown, notedIds, Inside, Caused, requested, needed, forwarded, early, notesOf, ledFor, Turns, no-turn, turn}
-use Rattle.spec_c_dumper.specs.origins.Calls.{idsFrom}
+use Rattle.spec_c_dumper.specs.origins.Causes.{idsFrom}
 use Rattle.spec_c_dumper.proofs.origins.Ordering.{Holds, holds, none as nothing-held, Around, outermost, AllLed, order-keeps, push-led, ids-append, first-led, first-noted, NotNone, stopped, order-not}
 use Rattle.spec_c_dumper.proofs.origins.Emission.{emit-lined, each-lined}
 use Rattle.spec_c_dumper.proofs.origins.Requests.{single-fits}

@@ -231,3 +231,8 @@ module _ {M : Type 0} (X : Machine M) (T : Table) (shows : ℕ → Bool) where
 
   unfoldable pub allCauses : List ℕ → ℕ → Sess M → Causes M
   allCauses l room S = causesOf l (everyNoted X T (upTo (entriesIn l)) shows room S (S .isOpen))
+
+-- n ids from x on
+unfoldable pub idsFrom : ℕ → ℕ → List ℕ
+idsFrom zero x = []
+idsFrom (suc n) x = x ∷ idsFrom n (suc x)

@@ -1,6 +1,6 @@
-// The rules of the Rust's CDumper stand in specs/, as definitions. The code that follows them is in the crates above.
+// The smaller and the larger of two numbers.
 ghost use mathlib.Core.Path.{_≡_};
 ghost use Rattle.spec_c_dumper.specs.rules.Layout.{smaller, larger};
 
 pub fn smaller(x: u32, y: u32) -> u32
     ensures { λ r. ⌜ r ≡ smaller x y ⌝ }
