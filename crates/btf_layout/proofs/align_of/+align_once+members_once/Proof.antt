@@ -23,7 +23,7 @@ use Rattle.btf_layout.proofs.align_of.keep_once.Reads as keep-once-read
 use Rattle.btf_layout.proofs.align_of.seen_word.Reads as seen-word-reads
 use Rattle.btf_layout.proofs.align_of.step_of.Reads as step-of-reads
 use Rattle.btf_layout.proofs.align_of.taken.Reads as taken-reads
-use Rattle.spec_c_dumper.proofs.rules.larger.Reads as larger-reads
+use Rattle.btf_layout.proofs.bounds.larger.Reads as larger-reads
 use Rattle.btf_layout.proofs.align_of.+align_once+members_once.{statement}
 use Rattle.btf_layout.proofs.align_of.+align_once+members_once.Tie.{close}
 

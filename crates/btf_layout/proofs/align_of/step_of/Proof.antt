@@ -9,7 +9,7 @@ use Rattle.btf_type_table.proofs.record.array_type.Reads as array-type-reads
 use Rattle.btf_type_table.proofs.kind.entries_of.Reads as entries-of-reads
 use Rattle.btf_type_table.proofs.record.int_bits.Reads as int-bits-reads
 use Rattle.btf_type_table.proofs.kind.kind_of.Reads as kind-of-reads
-use Rattle.spec_c_dumper.proofs.rules.smaller.Reads as smaller-reads
+use Rattle.btf_layout.proofs.bounds.smaller.Reads as smaller-reads
 
 -- src/lib.rt:107:11
 kind-of-requires : tie.Need-kind-of-requires

@@ -4,7 +4,7 @@ use Rattle.c_dumper_padding.proofs.extents.reached.Statement.{statement
 use Rattle.c_dumper_padding.proofs.extents.reached.Tie as tie
 use Rattle.c_dumper_padding.proofs.extents.reached.Reads as reads
 use Rattle.c_dumper_padding.proofs.extents.reached.Lts as lts
-use Rattle.spec_c_dumper.proofs.rules.larger.Reads as larger-reads
+use Rattle.btf_layout.proofs.bounds.larger.Reads as larger-reads
 
 -- src/lib.rt:108:9
 returns : tie.Need-returns
