@@ -1,9 +1,9 @@
 // Sizes; alignments are asked with a memory (crates remembered, asked). `left` is how many more calls may be open.
 use btf_type_table::kind::kind_of;
 use btf_type_table::node::type_by_id;
-use btf_type_table::record::array_nelems;
-use btf_type_table::record::array_type;
-use btf_type_table::record::int_bits;
+use btf_type_table::section_word::array_nelems;
+use btf_type_table::section_word::array_type;
+use btf_type_table::section_word::int_bits;
 use spec_type_table::TypeTable;
 ghost use mathlib.Core.Path.{_≡_};
 ghost use Prim.Native.Nat.{_*_};

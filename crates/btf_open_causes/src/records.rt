@@ -3,7 +3,7 @@ use crate::header::btf_header;
 use btf_type_table::kind::extra_of;
 use btf_type_table::kind::kind_of;
 use btf_type_table::kind::vlen_of;
-use btf_type_table::record::word;
+use btf_type_table::section_word::word;
 use spec_type_table::Extra;
 use spec_type_table::TypeTable;
 ghost use mathlib.Core.Path.{_≡_};

@@ -5,4 +5,4 @@ pub mod escape;
 pub mod kind;
 pub mod name;
 pub mod node;
-pub mod record;
+pub mod section_word;

@@ -2,8 +2,8 @@
 use crate::cell::get_field;
 use crate::kind::entries_of;
 use crate::kind::kind_of;
-use crate::record::array_type;
-use crate::record::load_type;
+use crate::section_word::array_type;
+use crate::section_word::load_type;
 use spec_type_table::BtfType;
 use spec_type_table::Node;
 use spec_type_table::TypeTable;

@@ -1,6 +1,6 @@
 // What the program does with a section: every id, pointer size 8, unions under their own word.
 use crate::printed::put_refused;
-use session_requests::open::open_core;
+use session_requests::open_call::open_core;
 use session_requests::requests::dump_types_core;
 use spec_session::session::Answer;
 use spec_session::session::Session;

@@ -13,7 +13,7 @@ use btf_type_table::kind::param_place;
 use btf_type_table::name::is_named;
 use btf_type_table::node::node_of;
 use btf_type_table::node::type_by_id;
-use btf_type_table::record::word;
+use btf_type_table::section_word::word;
 use spec_type_table::Entries;
 use spec_type_table::Node;
 use spec_type_table::TypeTable;

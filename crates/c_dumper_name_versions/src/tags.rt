@@ -10,7 +10,7 @@ use btf_type_table::kind::kind_flag_of;
 use btf_type_table::kind::kind_of;
 use btf_type_table::name::get_btf_str;
 use btf_type_table::node::type_by_id;
-use btf_type_table::record::comp_idx_of;
+use btf_type_table::section_word::comp_idx_of;
 use spec_type_table::TypeTable;
 ghost use mathlib.Core.Path.{_≡_};
 ghost use Rattle.spec_bytes.specs.text.Text.{whole, putOut, putText};

@@ -1,6 +1,6 @@
 // The words of a record. The tables are texts of digits, one for each kind 0 to 19.
 use btf_type_table::kind::vlen_of;
-use btf_type_table::record::word;
+use btf_type_table::section_word::word;
 use spec_type_table::TypeTable;
 ghost use mathlib.Core.Path.{_≡_};
 ghost use Rattle.session_cut_marks.specs.roles.Words.{digitAt, fixedWords, entryWords, column, role, wordsIn, wordOf};

@@ -2,7 +2,7 @@
 use btf_open_causes::references::count;
 use btf_open_causes::references::entry;
 use btf_open_causes::references::kind_at;
-use btf_type_table::record::word;
+use btf_type_table::section_word::word;
 use spec_type_table::TypeTable;
 ghost use mathlib.Core.Path.{_≡_};
 ghost use Prim.Native.Nat.{_<_};

@@ -8,7 +8,7 @@ use btf_layout::size::Ask;
 use btf_open_causes::header::btf_of;
 use btf_type_table::kind::kind_of;
 use btf_type_table::node::type_by_id;
-use btf_type_table::record::array_type;
+use btf_type_table::section_word::array_type;
 use session_record::settle::is_current;
 use spec_session::session::Answer;
 use spec_session::session::Session;

@@ -4,7 +4,7 @@ use btf_type_table::kind::param_place;
 use btf_type_table::name::is_named;
 use btf_type_table::node::node_of;
 use btf_type_table::node::type_by_id;
-use btf_type_table::record::word;
+use btf_type_table::section_word::word;
 use c_dumper_dependency_order::begin::meet;
 use c_dumper_dependency_order::leaders::Way;
 use c_dumper_dependency_order::leaders::finish_led;

@@ -1,3 +1,3 @@
 pub mod arrival
-pub mod record
+pub mod record_bytes
 pub mod record_words

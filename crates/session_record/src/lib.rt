@@ -1,5 +1,5 @@
 // session_record
 pub mod arrival;
-pub mod record;
+pub mod record_bytes;
 pub mod record_words;
 pub mod settle;

@@ -1,6 +1,6 @@
 // The calls of a session whose record is lent by `&mut`: thin entry points over the calls by value of `opens` and
 // `requests`.
-use crate::open::open_core;
+use crate::open_call::open_core;
 use crate::requests::dump_list_core;
 use crate::requests::dump_type_core;
 use crate::requests::dump_types_core;

@@ -1,4 +1,4 @@
 // session_requests
 pub mod entry_points;
-pub mod open;
+pub mod open_call;
 pub mod requests;

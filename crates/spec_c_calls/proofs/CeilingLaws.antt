@@ -7,7 +7,7 @@ use borrow.Author.Tests.{lt-ltb, le-ltb}
 use Rattle.spec_session.specs.declared.session.Session.{Session}
 use Rattle.spec_session.specs.session.Turns.{callOf}
 use Rattle.session_record.specs.record_words.Words.{packed, decoded}
-use Rattle.session_record.specs.record.Record.{recordAfter, recordListed}
+use Rattle.session_record.specs.record_bytes.Record.{recordAfter, recordListed}
 use Rattle.spec_session.specs.session.Answers.{numberOf, valueOf}
 use Rattle.spec_session.specs.calls.Lists.{idsIn}
 use Rattle.spec_session.proofs.calls.Lists.{ids-none, ids-some}

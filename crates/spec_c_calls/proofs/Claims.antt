@@ -20,7 +20,7 @@ use Rattle.spec_session.specs.calls.Calls.{requested, requestedFrom, typeCall, 
 use Rattle.spec_session.proofs.session.Laws.{current-fits}
 use Rattle.spec_session.proofs.calls.Claims.{Sane, on, off, request-sane, from-sane, type-settles, type-not-below, type-not-current, types-settle, types-not-current}
 use Rattle.session_record.specs.record_words.Words.{getLong, putLong, putLongs, decoded, wordsOf, encoded, putReached}
-use Rattle.session_record.specs.record.Record.{recordRefused, recordAfter}
+use Rattle.session_record.specs.record_bytes.Record.{recordRefused, recordAfter}
 
 -- ---- words of 64 bits
 pub long-length : (r : List ℕ) (i v : ℕ) → length (putLong r i v) ≡ length r

@@ -9,7 +9,7 @@ use Rattle.spec_session.specs.declared.session.Turn.{Turn}
 use Rattle.spec_session.specs.session.Turns.{callOf}
 use Rattle.spec_session.specs.calls.Calls.{openCall, typeCall, typesCall}
 use Rattle.session_record.specs.record_words.Words.{decoded, packed}
-use Rattle.session_record.specs.record.Record.{recordOpened, recordAfter}
+use Rattle.session_record.specs.record_bytes.Record.{recordOpened, recordAfter}
 use Rattle.spec_c_calls.specs.Exports.{exportOf, openedBy, answeredBy, openExport, typeExport, typesExport}
 
 -- ---- the exports

@@ -20,7 +20,7 @@ use Rattle.spec_session.specs.calls.Calls.{typeCall}
 use Rattle.spec_session.specs.calls.Lists.{idsIn, counted, listFrom, listCall, countIn}
 use Rattle.spec_session.proofs.calls.Lists.{idsFrom, ids-none, ids-some, counted-goes, counted-stops, Single, type-single, Counts, list-counts}
 use Rattle.session_record.specs.record_words.Words.{putLong, decoded, packed, putReached}
-use Rattle.session_record.specs.record.Record.{recordRefused, recordAfter, recordLonger, recordListed}
+use Rattle.session_record.specs.record_bytes.Record.{recordRefused, recordAfter, recordLonger, recordListed}
 use Rattle.spec_c_calls.specs.Exports.{Export, exportOf, answeredBy, typeExport, countedExport, listExportFrom, listExport}
 use Rattle.spec_c_calls.proofs.Laws.{type-short}
 use Rattle.spec_c_calls.proofs.Claims.{reached-length, type-says}

@@ -7,7 +7,7 @@ use lib.ListN.{length}
 use Rattle.spec_session.specs.session.Turns.{Call}
 use Rattle.spec_session.specs.calls.Calls.{openCall, typeCall, typesCall}
 use Rattle.session_record.specs.record_words.Words.{packed, decoded}
-use Rattle.session_record.specs.record.Record.{recordOpened, recordAfter}
+use Rattle.session_record.specs.record_bytes.Record.{recordOpened, recordAfter}
 
 pub record Export : Type 0 where
   pub result : ℕ

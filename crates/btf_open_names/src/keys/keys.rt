@@ -4,7 +4,7 @@ use crate::keys::hash::same_name;
 use base_bytes::word::get_word;
 use btf_type_table::cell::holder_word;
 use btf_type_table::kind::kind_of;
-use btf_type_table::record::word;
+use btf_type_table::section_word::word;
 use spec_type_table::TypeTable;
 ghost use mathlib.Core.Path.{_≡_};
 ghost use Rattle.btf_open_names.specs.name_classes.Same.{sameList};

@@ -10,7 +10,7 @@ use Rattle.spec_session.specs.session.Answers.{numberOf, valueOf}
 use Rattle.spec_session.specs.calls.Lists.{idsIn}
 use Rattle.spec_session.proofs.calls.Lists.{ids-none, ids-some}
 use Rattle.session_record.specs.record_words.Words.{packed, decoded}
-use Rattle.session_record.specs.record.Record.{recordAfter, recordListed}
+use Rattle.session_record.specs.record_bytes.Record.{recordAfter, recordListed}
 use Rattle.spec_session.specs.origin_calls.Bytes.{CauseCall, typeCauses, typesCauses}
 use Rattle.session_origins.specs.declared.requests.Explained.{Explained}
 use Rattle.session_origins.specs.requests.Explained.{explainedOf}

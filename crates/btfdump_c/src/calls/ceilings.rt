@@ -2,8 +2,8 @@
 use session_ceiling::within::dump_list_within;
 use session_ceiling::within::dump_type_within;
 use session_ceiling::within::dump_types_within;
-use session_record::record::answered;
-use session_record::record::listed;
+use session_record::record_bytes::answered;
+use session_record::record_bytes::listed;
 use session_record::record_words::decode;
 ghost use mathlib.Core.Path.{_≡_};
 ghost use Rattle.spec_c_calls.specs.Ceilings.{withinExportOf, typeWithinExport, typesWithinExport, listWithinExport};

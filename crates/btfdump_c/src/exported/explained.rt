@@ -2,8 +2,8 @@
 use session_origins::lists::dump_list_causes;
 use session_origins::requests::dump_type_causes;
 use session_origins::requests::dump_types_causes;
-use session_record::record::answered;
-use session_record::record::listed;
+use session_record::record_bytes::answered;
+use session_record::record_bytes::listed;
 use session_record::record_words::decode;
 ghost use mathlib.Core.Path.{_≡_};
 ghost use Rattle.btfdump_c.specs.exported.Causes.{causesExportOf, typeCausesExport, typesCausesExport, listCausesExport};

@@ -1,6 +1,6 @@
 // Which parameters of a prototype are printed, and how.
 use btf_type_table::kind::param_place;
-use btf_type_table::record::word;
+use btf_type_table::section_word::word;
 use spec_type_table::Entries;
 use spec_type_table::TypeTable;
 ghost use mathlib.Core.Path.{_≡_};

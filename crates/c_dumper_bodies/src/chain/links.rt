@@ -3,7 +3,7 @@
 use btf_layout::size::Ask;
 use btf_type_table::kind::kind_of;
 use btf_type_table::node::type_by_id;
-use btf_type_table::record::array_type;
+use btf_type_table::section_word::array_type;
 use spec_type_table::BtfType;
 use spec_type_table::TypeTable;
 ghost use mathlib.Core.Path.{_≡_};

@@ -28,7 +28,7 @@ use Rattle.proof_demands.specs.demands.Session.{Holds}
 use Rattle.proof_demands.specs.demands.Demands.{typesIn}
 use Rattle.proof_demands.proofs.demands.Session.{type-keeps, types-keeps}
 use Rattle.session_record.specs.record_words.Words.{putLong, putLongs, decoded, wordsOf, encoded, packed}
-use Rattle.session_record.specs.record.Record.{recordRefused, recordAfter}
+use Rattle.session_record.specs.record_bytes.Record.{recordRefused, recordAfter}
 use Rattle.spec_c_calls.specs.Exports.{Export, exportOf, answeredBy, typeExport, typesExport, countedExport, listExportFrom, listExport}
 use Rattle.spec_c_calls.proofs.Claims.{long-length, reached-length, type-says, types-say}
 use Rattle.proof_calls.specs.calls_for_c.Claims.{numberIn, valueIn, told}

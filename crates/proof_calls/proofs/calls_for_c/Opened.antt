@@ -26,7 +26,7 @@ use Rattle.spec_session.proofs.calls.Claims.{number-is, value-is, accepted-open
 use Rattle.proof_demands.specs.demands.Table.{headerOf}
 use Rattle.proof_demands.proofs.demands.Demands.{open-number}
 use Rattle.session_record.specs.record_words.Words.{decoded, encoded, packed}
-use Rattle.session_record.specs.record.Record.{recordOpened}
+use Rattle.session_record.specs.record_bytes.Record.{recordOpened}
 use Rattle.spec_c_calls.specs.Exports.{Export, exportOf, openedBy, openExport}
 use Rattle.spec_c_calls.proofs.Claims.{opened-says}
 use Rattle.proof_calls.specs.calls_for_c.Claims.{numberIn, valueIn, told, OpensC}

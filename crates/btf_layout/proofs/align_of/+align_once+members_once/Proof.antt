@@ -18,7 +18,7 @@ use Rattle.btf_layout.proofs.align_of.members_once.Kinds as members-onc
 use Rattle.btf_layout.proofs.align_of.+align_once+members_once.Lts-members_once as members-once-lts
 use Rattle.btf_type_table.proofs.kind.member_place.Reads as member-place-reads
 use Rattle.btf_type_table.proofs.node.type_by_id.Reads as type-by-id-reads
-use Rattle.btf_type_table.proofs.record.word.Reads as word-reads
+use Rattle.btf_type_table.proofs.section_word.word.Reads as word-reads
 use Rattle.btf_layout.proofs.align_of.keep_once.Reads as keep-once-reads
 use Rattle.btf_layout.proofs.align_of.seen_word.Reads as seen-word-reads
 use Rattle.btf_layout.proofs.align_of.step_of.Reads as step-of-reads

@@ -5,9 +5,9 @@ use Rattle.btf_layout.proofs.align_of.step_of.Statement.{statement}
 use Rattle.btf_layout.proofs.align_of.step_of.Tie as tie
 use Rattle.btf_layout.proofs.align_of.step_of.Reads as reads
 use Rattle.btf_layout.proofs.align_of.step_of.Lts as lts
-use Rattle.btf_type_table.proofs.record.array_type.Reads as array-type-reads
+use Rattle.btf_type_table.proofs.section_word.array_type.Reads as array-type-reads
 use Rattle.btf_type_table.proofs.kind.entries_of.Reads as entries-of-reads
-use Rattle.btf_type_table.proofs.record.int_bits.Reads as int-bits-reads
+use Rattle.btf_type_table.proofs.section_word.int_bits.Reads as int-bits-reads
 use Rattle.btf_type_table.proofs.kind.kind_of.Reads as kind-of-reads
 use Rattle.btf_layout.proofs.bounds.smaller.Reads as smaller-reads
 

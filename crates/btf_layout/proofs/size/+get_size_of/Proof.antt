@@ -10,9 +10,9 @@ use borrow.Fn.PlainCycle.{Measures, is, falls, and}
 use Rattle.btf_layout.proofs.size.get_size_of.Reads as get-size-of
 use Rattle.btf_layout.proofs.size.get_size_of.Kinds as get-size-of-kinds
 use Rattle.btf_layout.proofs.size.+get_size_of.Lts-get_size_of as get-size-of-lts
-use Rattle.btf_type_table.proofs.record.array_nelems.Reads as array-nelems-reads
-use Rattle.btf_type_table.proofs.record.array_type.Reads as array-type-reads
-use Rattle.btf_type_table.proofs.record.int_bits.Reads as int-bits-reads
+use Rattle.btf_type_table.proofs.section_word.array_nelems.Reads as array-nelems-reads
+use Rattle.btf_type_table.proofs.section_word.array_type.Reads as array-type-reads
+use Rattle.btf_type_table.proofs.section_word.int_bits.Reads as int-bits-reads
 use Rattle.btf_type_table.proofs.kind.kind_of.Reads as kind-of-reads
 use Rattle.btf_type_table.proofs.node.type_by_id.Reads as type-by-id-reads
 use Rattle.btf_layout.proofs.size.octets.Reads as octets-reads

@@ -9,7 +9,7 @@ use Rattle.btf_open_causes.proofs.records.are_names_inside.Statement.{s
 use Rattle.btf_open_causes.proofs.records.are_names_inside.Tie as tie
 use Rattle.btf_open_causes.proofs.records.are_names_inside.Reads as reads
 use Rattle.btf_open_causes.proofs.records.are_names_inside.Lts as lts
-use Rattle.btf_type_table.proofs.record.word.Reads as word-reads
+use Rattle.btf_type_table.proofs.section_word.word.Reads as word-reads
 
 abbrev Inv-loop : tie.InvT-loop
 Inv-loop b section at n width str-len q₀ left₀ q left = (allNamedP str-len width (sectionWord b section) (at + 12) n ≡ allNamedP str-len width (sectionWord b section) q left) × (left ≤ n) × (q ≤ at + 12 + 4294967295 * (n - left))

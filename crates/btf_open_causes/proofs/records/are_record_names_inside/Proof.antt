@@ -6,7 +6,7 @@ use Rattle.btf_open_causes.proofs.records.are_record_names_inside.Reads
 use Rattle.btf_open_causes.proofs.records.are_record_names_inside.Lts as lts
 use Rattle.btf_type_table.proofs.kind.kind_of.Reads as kind-of-reads
 use Rattle.btf_type_table.proofs.kind.vlen_of.Reads as vlen-of-reads
-use Rattle.btf_type_table.proofs.record.word.Reads as word-reads
+use Rattle.btf_type_table.proofs.section_word.word.Reads as word-reads
 use Rattle.btf_open_causes.proofs.records.are_names_inside.Reads as are-names-inside-reads
 use Rattle.btf_open_causes.proofs.records.named_entry.Reads as named-entry-reads
 

@@ -10,7 +10,7 @@ use Rattle.btf_open_causes.proofs.records.scan_area.Tie as tie
 use Rattle.btf_open_causes.proofs.records.scan_area.Reads as reads
 use Rattle.btf_open_causes.proofs.records.scan_area.Lts as lts
 use Rattle.btf_type_table.proofs.kind.kind_of.Reads as kind-of-reads
-use Rattle.btf_type_table.proofs.record.word.Reads as word-reads
+use Rattle.btf_type_table.proofs.section_word.word.Reads as word-reads
 use Rattle.btf_open_causes.proofs.records.enumerators_of.Reads as enumerators-of-reads
 use Rattle.btf_open_causes.proofs.records.next_record.Reads as next-record-reads
 use Rattle.btf_open_causes.proofs.records.put_start.Reads as put-start-reads

@@ -6,7 +6,7 @@ use Rattle.btf_open_names.proofs.fill.fill_tag.Reads as reads
 use Rattle.btf_open_names.proofs.fill.fill_tag.Lts as lts
 use Rattle.btf_type_table.proofs.cell.get_field.Reads as get-field-reads
 use Rattle.btf_type_table.proofs.cell.put_field.Reads as put-field-reads
-use Rattle.btf_type_table.proofs.record.word.Reads as word-reads
+use Rattle.btf_type_table.proofs.section_word.word.Reads as word-reads
 
 returns : tie.Need-returns
 returns c = tag-other _ _ _ _ _ (c .if1 .taken)

@@ -5,7 +5,7 @@ use Rattle.btf_open_names.proofs.fill.values_at.Tie as tie
 use Rattle.btf_open_names.proofs.fill.values_at.Reads as reads
 use Rattle.btf_open_names.proofs.fill.values_at.Lts as lts
 use Rattle.btf_type_table.proofs.kind.vlen_of.Reads as vlen-of-reads
-use Rattle.btf_type_table.proofs.record.word.Reads as word-reads
+use Rattle.btf_type_table.proofs.section_word.word.Reads as word-reads
 
 cast-word : tie.Need-cast-word
 cast-word c = search needs

@@ -5,7 +5,7 @@ use Rattle.btf_type_table.proofs.entry.load_enum64_value.Tie as tie
 use Rattle.btf_type_table.proofs.entry.load_enum64_value.Reads as reads
 use Rattle.btf_type_table.proofs.entry.load_enum64_value.Lts as lts
 use Rattle.btf_type_table.proofs.kind.member_place.Reads as member-place-reads
-use Rattle.btf_type_table.proofs.record.three.Reads as three-reads
+use Rattle.btf_type_table.proofs.section_word.three.Reads as three-reads
 
 member-place-requires : tie.Need-member-place-requires
 member-place-requires c κs = search needs

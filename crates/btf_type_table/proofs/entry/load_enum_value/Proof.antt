@@ -7,7 +7,7 @@ use Rattle.btf_type_table.proofs.entry.load_enum_value.Tie as tie
 use Rattle.btf_type_table.proofs.entry.load_enum_value.Reads as reads
 use Rattle.btf_type_table.proofs.entry.load_enum_value.Lts as lts
 use Rattle.btf_type_table.proofs.kind.param_place.Reads as param-place-reads
-use Rattle.btf_type_table.proofs.record.word.Reads as word-reads
+use Rattle.btf_type_table.proofs.section_word.word.Reads as word-reads
 
 param-place-requires : tie.Need-param-place-requires
 param-place-requires c κs = search needs

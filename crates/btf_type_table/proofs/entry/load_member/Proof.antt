@@ -8,7 +8,7 @@ use Rattle.btf_type_table.proofs.entry.load_member.Lts as lts
 use Rattle.btf_type_table.proofs.kind.entries_of.Reads as entries-of-reads
 use Rattle.btf_type_table.proofs.kind.kind_flag_of.Reads as kind-flag-of-reads
 use Rattle.btf_type_table.proofs.kind.member_place.Reads as member-place-reads
-use Rattle.btf_type_table.proofs.record.three.Reads as three-reads
+use Rattle.btf_type_table.proofs.section_word.three.Reads as three-reads
 
 entries-of-requires : tie.Need-entries-of-requires
 entries-of-requires c κs = search needs

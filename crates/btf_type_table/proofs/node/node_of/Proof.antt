@@ -4,7 +4,7 @@ use Rattle.btf_type_table.proofs.node.node_of.Statement.{statement}
 use Rattle.btf_type_table.proofs.node.node_of.Tie as tie
 use Rattle.btf_type_table.proofs.node.node_of.Reads as reads
 use Rattle.btf_type_table.proofs.node.node_of.Lts as lts
-use Rattle.btf_type_table.proofs.record.array_type.Reads as array-type-reads
+use Rattle.btf_type_table.proofs.section_word.array_type.Reads as array-type-reads
 use Rattle.btf_type_table.proofs.kind.entries_of.Reads as entries-of-reads
 use Rattle.btf_type_table.proofs.kind.kind_of.Reads as kind-of-reads
 

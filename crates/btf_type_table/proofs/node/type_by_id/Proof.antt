@@ -5,7 +5,7 @@ use Rattle.btf_type_table.proofs.node.type_by_id.Tie as tie
 use Rattle.btf_type_table.proofs.node.type_by_id.Reads as reads
 use Rattle.btf_type_table.proofs.node.type_by_id.Lts as lts
 use Rattle.btf_type_table.proofs.cell.get_field.Reads as get-field-reads
-use Rattle.btf_type_table.proofs.record.load_type.Reads as load-type-reads
+use Rattle.btf_type_table.proofs.section_word.load_type.Reads as load-type-reads
 use Rattle.btf_type_table.proofs.node.void.Reads as void-reads
 
 void-requires : tie.Need-void-requires

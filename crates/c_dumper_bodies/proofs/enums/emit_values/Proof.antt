@@ -18,7 +18,7 @@ use Rattle.btf_type_table.proofs.kind.entries_of.Reads as entries-of-reads
 use Rattle.btf_type_table.proofs.kind.kind_flag_of.Reads as kind-flag-of-reads
 use Rattle.btf_type_table.proofs.entry.load_enum_value.Reads as load-enum-value-reads
 use Rattle.btf_type_table.proofs.kind.param_place.Reads as param-place-reads
-use Rattle.btf_type_table.proofs.record.word.Reads as word-reads
+use Rattle.btf_type_table.proofs.section_word.word.Reads as word-reads
 use Rattle.c_dumper_bodies.proofs.enumerators.emit_enumerator.Reads as emit-enumerator-reads
 use Rattle.c_dumper_bodies.proofs.enumerators.nth.Reads as nth-reads
 use Rattle.c_dumper_bodies.proofs.enums.put_value.Reads as put-value-reads

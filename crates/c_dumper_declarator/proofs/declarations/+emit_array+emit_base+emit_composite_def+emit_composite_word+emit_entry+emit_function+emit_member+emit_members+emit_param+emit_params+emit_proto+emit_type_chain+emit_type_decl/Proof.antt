@@ -62,7 +62,7 @@ use Rattle.c_dumper_declarator.proofs.declarations.+emit_array+emit_bas
 use Rattle.btf_type_table.proofs.name.is_builtin.Reads as is-builtin-reads
 use Rattle.btf_type_table.proofs.name.is_empty.Reads as is-empty-reads
 use Rattle.btf_type_table.proofs.name.put_str.Reads as put-str-reads
-use Rattle.btf_type_table.proofs.record.array_nelems.Reads as array-nelems-reads
+use Rattle.btf_type_table.proofs.section_word.array_nelems.Reads as array-nelems-reads
 use Rattle.btf_type_table.proofs.kind.entries_of.Reads as entries-of-reads
 use Rattle.btf_type_table.proofs.kind.is_struct.Reads as is-struct-reads
 use Rattle.btf_type_table.proofs.kind.kind_flag_of.Reads as kind-flag-of-reads
@@ -71,7 +71,7 @@ use Rattle.btf_type_table.proofs.entry.load_member.Reads as load-member-reads
 use Rattle.btf_type_table.proofs.kind.param_place.Reads as param-place-reads
 use Rattle.btf_type_table.proofs.node.type_by_id.Reads as type-by-id-reads
 use Rattle.btf_type_table.proofs.kind.vlen_of.Reads as vlen-of-reads
-use Rattle.btf_type_table.proofs.record.word.Reads as word-reads
+use Rattle.btf_type_table.proofs.section_word.word.Reads as word-reads
 use Rattle.c_dumper_bodies.proofs.chain.chain_len.Reads as chain-len-reads
 use Rattle.c_dumper_bodies.proofs.chain.kind_on_top.Reads as kind-on-top-reads
 use Rattle.c_dumper_bodies.proofs.chain.path_at.Reads as path-at-reads

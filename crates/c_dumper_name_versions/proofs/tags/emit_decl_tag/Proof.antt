@@ -4,7 +4,7 @@ use Rattle.c_dumper_name_versions.proofs.tags.emit_decl_tag.Statement.{
 use Rattle.c_dumper_name_versions.proofs.tags.emit_decl_tag.Tie as tie
 use Rattle.c_dumper_name_versions.proofs.tags.emit_decl_tag.Reads as reads
 use Rattle.c_dumper_name_versions.proofs.tags.emit_decl_tag.Lts as lts
-use Rattle.btf_type_table.proofs.record.comp_idx_of.Reads as comp-idx-of-reads
+use Rattle.btf_type_table.proofs.section_word.comp_idx_of.Reads as comp-idx-of-reads
 use Rattle.btf_type_table.proofs.kind.kind_flag_of.Reads as kind-flag-of-reads
 use Rattle.btf_type_table.proofs.kind.kind_of.Reads as kind-of-reads
 use Rattle.btf_type_table.proofs.node.type_by_id.Reads as type-by-id-reads

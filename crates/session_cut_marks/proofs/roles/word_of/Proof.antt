@@ -4,7 +4,7 @@ use Rattle.session_cut_marks.proofs.roles.word_of.Statement.{statement}
 use Rattle.session_cut_marks.proofs.roles.word_of.Tie as tie
 use Rattle.session_cut_marks.proofs.roles.word_of.Reads as reads
 use Rattle.session_cut_marks.proofs.roles.word_of.Lts as lts
-use Rattle.btf_type_table.proofs.record.word.Reads as word-reads
+use Rattle.btf_type_table.proofs.section_word.word.Reads as word-reads
 
 cast-word : tie.Need-cast-word
 cast-word c = search needs

@@ -6,7 +6,7 @@ use Rattle.session_cut_marks.proofs.roles.words_in.Tie as tie
 use Rattle.session_cut_marks.proofs.roles.words_in.Reads as reads
 use Rattle.session_cut_marks.proofs.roles.words_in.Lts as lts
 use Rattle.btf_type_table.proofs.kind.vlen_of.Reads as vlen-of-reads
-use Rattle.btf_type_table.proofs.record.word.Reads as word-reads
+use Rattle.btf_type_table.proofs.section_word.word.Reads as word-reads
 use Rattle.session_cut_marks.proofs.roles.entry_words.Reads as entry-words-reads
 use Rattle.session_cut_marks.proofs.roles.fixed_words.Reads as fixed-words-reads
 

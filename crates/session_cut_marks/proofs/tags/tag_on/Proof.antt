@@ -4,7 +4,7 @@ use Rattle.session_cut_marks.proofs.tags.tag_on.Statement.{statement}
 use Rattle.session_cut_marks.proofs.tags.tag_on.Tie as tie
 use Rattle.session_cut_marks.proofs.tags.tag_on.Reads as reads
 use Rattle.session_cut_marks.proofs.tags.tag_on.Lts as lts
-use Rattle.btf_type_table.proofs.record.word.Reads as word-reads
+use Rattle.btf_type_table.proofs.section_word.word.Reads as word-reads
 use Rattle.btf_open_causes.proofs.references.entry.Reads as entry-reads
 use Rattle.btf_open_causes.proofs.references.kind_at.Reads as kind-at-reads
 

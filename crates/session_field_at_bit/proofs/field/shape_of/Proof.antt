@@ -4,7 +4,7 @@ use Rattle.session_field_at_bit.proofs.field.shape_of.Statement.{statem
 use Rattle.session_field_at_bit.proofs.field.shape_of.Tie as tie
 use Rattle.session_field_at_bit.proofs.field.shape_of.Reads as reads
 use Rattle.session_field_at_bit.proofs.field.shape_of.Lts as lts
-use Rattle.btf_type_table.proofs.record.array_type.Reads as array-type-reads
+use Rattle.btf_type_table.proofs.section_word.array_type.Reads as array-type-reads
 use Rattle.btf_type_table.proofs.kind.kind_of.Reads as kind-of-reads
 
 kind-of-requires : tie.Need-kind-of-requires

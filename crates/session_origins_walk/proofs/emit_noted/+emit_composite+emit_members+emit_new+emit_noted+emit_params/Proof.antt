@@ -32,7 +32,7 @@ use Rattle.btf_type_table.proofs.node.node_of.Reads as node-of-reads
 use Rattle.btf_type_table.proofs.kind.member_place.Reads as member-place-reads
 use Rattle.btf_type_table.proofs.kind.param_place.Reads as param-place-reads
 use Rattle.btf_type_table.proofs.node.type_by_id.Reads as type-by-id-reads
-use Rattle.btf_type_table.proofs.record.word.Reads as word-reads
+use Rattle.btf_type_table.proofs.section_word.word.Reads as word-reads
 use Rattle.session_origins_walk.proofs.steps.emit_again.Reads as emit-again-reads
 use Rattle.session_origins_walk.proofs.emit_noted.emit_leaf.Reads as emit-leaf-reads
 use Rattle.session_origins_walk.proofs.steps.get_emit_state.Reads as get-emit-state-reads

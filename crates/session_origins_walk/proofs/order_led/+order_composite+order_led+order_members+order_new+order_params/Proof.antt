@@ -28,7 +28,7 @@ use Rattle.btf_type_table.proofs.node.node_of.Reads as node-of-reads
 use Rattle.btf_type_table.proofs.kind.member_place.Reads as member-place-reads
 use Rattle.btf_type_table.proofs.kind.param_place.Reads as param-place-reads
 use Rattle.btf_type_table.proofs.node.type_by_id.Reads as type-by-id-reads
-use Rattle.btf_type_table.proofs.record.word.Reads as word-reads
+use Rattle.btf_type_table.proofs.section_word.word.Reads as word-reads
 use Rattle.c_dumper_dependency_order.proofs.begin.meet.Reads as meet-reads
 use Rattle.c_dumper_dependency_order.proofs.leaders.finish_led.Reads as finish-led-reads
 use Rattle.c_dumper_dependency_order.proofs.leaders.finish_typedef_led.Reads as finish-typedef-led-reads

@@ -9,10 +9,10 @@ use Rattle.session_requests.proofs.entry_points.Entry.{meets}
 use Rattle.session_requests.proofs.entry_points.Turning.{turning}
 use Rattle.spec_session.proofs.session.Session as S
 use Rattle.spec_session.proofs.session.Session.Laws as S′
-use Rattle.session_requests.proofs.open.open_core as core
-use Rattle.session_requests.proofs.open.open_core.Symbol as core-def
-use Rattle.session_requests.proofs.open.open_core.Symbol.{name as #core}
-use Rattle.session_requests.proofs.open.open_core.Met as core-thm
+use Rattle.session_requests.proofs.open_call.open_core as core
+use Rattle.session_requests.proofs.open_call.open_core.Symbol as core-def
+use Rattle.session_requests.proofs.open_call.open_core.Symbol.{name as #core}
+use Rattle.session_requests.proofs.open_call.open_core.Met as core-thm
 use Rattle.session_requests.proofs.entry_points.open.Key.{name as #self}
 use Rattle.session_requests.proofs.entry_points.open as f
 use Rattle.session_requests.proofs.entry_points.open.Statement as stated
@@ -28,4 +28,4 @@ open-spec 𝓤 H 𝓜 𝓖 𝓡 =
     (λ κs a. f.clauses 𝓤 H (𝓖 .A) (𝓜 .mem) (𝓡 .run) κs a .ensures tt)
     (λ κ κs s section work text ns r es. id⊢ 𝓤 _)
     (tablesOf 𝓤 H 𝓜 (tables 𝓤 H 𝓜 𝓡 code.env))
-    (cited 𝓤 H (tripleOf 𝓤 H (𝓖 .A) core.signature (core.spec 𝓤 H (𝓖 .A) (𝓜 .mem) (𝓡 .run))) 𝓜 𝓡 code.env #core core-def.routine code.calls-session-requests·open·open-core (core-thm.met 𝓤 H 𝓜 𝓖 𝓡)))
+    (cited 𝓤 H (tripleOf 𝓤 H (𝓖 .A) core.signature (core.spec 𝓤 H (𝓖 .A) (𝓜 .mem) (𝓡 .run))) 𝓜 𝓡 code.env #core core-def.routine code.calls-session-requests·open-call·open-core (core-thm.met 𝓤 H 𝓜 𝓖 𝓡)))

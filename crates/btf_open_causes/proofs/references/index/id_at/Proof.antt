@@ -4,7 +4,7 @@ use Rattle.btf_open_causes.proofs.references.index.id_at.Statement.{sta
 use Rattle.btf_open_causes.proofs.references.index.id_at.Tie as tie
 use Rattle.btf_open_causes.proofs.references.index.id_at.Reads as reads
 use Rattle.btf_open_causes.proofs.references.index.id_at.Lts as lts
-use Rattle.btf_type_table.proofs.record.word.Reads as word-reads
+use Rattle.btf_type_table.proofs.section_word.word.Reads as word-reads
 use Rattle.btf_open_causes.proofs.references.index.id_place.Reads as id-place-reads
 
 id-place-requires : tie.Need-id-place-requires

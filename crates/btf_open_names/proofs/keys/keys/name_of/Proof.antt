@@ -4,7 +4,7 @@ use Rattle.btf_open_names.proofs.keys.keys.name_of.Statement.{statement
 use Rattle.btf_open_names.proofs.keys.keys.name_of.Tie as tie
 use Rattle.btf_open_names.proofs.keys.keys.name_of.Reads as reads
 use Rattle.btf_open_names.proofs.keys.keys.name_of.Lts as lts
-use Rattle.btf_type_table.proofs.record.word.Reads as word-reads
+use Rattle.btf_type_table.proofs.section_word.word.Reads as word-reads
 
 cast-result : tie.Need-cast-result
 cast-result c = search needs

@@ -6,7 +6,7 @@ use Rattle.btf_open_names.proofs.keys.keys.space_at.Tie as tie
 use Rattle.btf_open_names.proofs.keys.keys.space_at.Reads as reads
 use Rattle.btf_open_names.proofs.keys.keys.space_at.Lts as lts
 use Rattle.btf_type_table.proofs.kind.kind_of.Reads as kind-of-reads
-use Rattle.btf_type_table.proofs.record.word.Reads as word-reads
+use Rattle.btf_type_table.proofs.section_word.word.Reads as word-reads
 use Rattle.btf_open_names.proofs.keys.keys.space_of.Reads as space-of-reads
 
 returns : tie.Need-returns

@@ -4,7 +4,7 @@ use Rattle.btfdump_c.proofs.calls.ceilings.c_dump_type_within.Statement
 use Rattle.btfdump_c.proofs.calls.ceilings.c_dump_type_within.Tie as tie
 use Rattle.btfdump_c.proofs.calls.ceilings.c_dump_type_within.Reads as reads
 use Rattle.btfdump_c.proofs.calls.ceilings.c_dump_type_within.Lts as lts
-use Rattle.session_record.proofs.record.answered.Reads as answered-reads
+use Rattle.session_record.proofs.record_bytes.answered.Reads as answered-reads
 use Rattle.session_record.proofs.record_words.decode.Reads as decode-reads
 use Rattle.session_ceiling.proofs.within.dump_type_within.Reads as dump-type-within-reads
 

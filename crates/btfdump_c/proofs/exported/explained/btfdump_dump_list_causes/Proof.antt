@@ -5,7 +5,7 @@ use Rattle.btfdump_c.proofs.exported.explained.btfdump_dump_list_causes
 use Rattle.btfdump_c.proofs.exported.explained.btfdump_dump_list_causes.Reads as reads
 use Rattle.btfdump_c.proofs.exported.explained.btfdump_dump_list_causes.Lts as lts
 use Rattle.session_record.proofs.record_words.decode.Reads as decode-reads
-use Rattle.session_record.proofs.record.listed.Reads as listed-reads
+use Rattle.session_record.proofs.record_bytes.listed.Reads as listed-reads
 use Rattle.session_origins.proofs.lists.dump_list_causes.Reads as dump-list-causes-reads
 
 returns : tie.Need-returns

@@ -4,7 +4,7 @@ use Rattle.btfdump_c.proofs.exported.explained.btfdump_dump_types_cause
 use Rattle.btfdump_c.proofs.exported.explained.btfdump_dump_types_causes.Tie as tie
 use Rattle.btfdump_c.proofs.exported.explained.btfdump_dump_types_causes.Reads as reads
 use Rattle.btfdump_c.proofs.exported.explained.btfdump_dump_types_causes.Lts as lts
-use Rattle.session_record.proofs.record.answered.Reads as answered-reads
+use Rattle.session_record.proofs.record_bytes.answered.Reads as answered-reads
 use Rattle.session_record.proofs.record_words.decode.Reads as decode-reads
 use Rattle.session_origins.proofs.requests.dump_types_causes.Reads as dump-types-causes-reads
 

@@ -8,7 +8,7 @@ use Rattle.c_dumper_bodies.proofs.bodies.params.shown_params.Tie as tie
 use Rattle.c_dumper_bodies.proofs.bodies.params.shown_params.Reads as reads
 use Rattle.c_dumper_bodies.proofs.bodies.params.shown_params.Lts as lts
 use Rattle.btf_type_table.proofs.kind.param_place.Reads as param-place-reads
-use Rattle.btf_type_table.proofs.record.word.Reads as word-reads
+use Rattle.btf_type_table.proofs.section_word.word.Reads as word-reads
 
 returns : tie.Need-returns
 returns c = laws.shown-many _ _ (c .if1 .taken)

@@ -4,7 +4,7 @@ use Rattle.c_dumper_bodies.proofs.chain.links.next_of.Statement.{statem
 use Rattle.c_dumper_bodies.proofs.chain.links.next_of.Tie as tie
 use Rattle.c_dumper_bodies.proofs.chain.links.next_of.Reads as reads
 use Rattle.c_dumper_bodies.proofs.chain.links.next_of.Lts as lts
-use Rattle.btf_type_table.proofs.record.array_type.Reads as array-type-reads
+use Rattle.btf_type_table.proofs.section_word.array_type.Reads as array-type-reads
 use Rattle.btf_type_table.proofs.kind.kind_of.Reads as kind-of-reads
 
 kind-of-requires : tie.Need-kind-of-requires
