@@ -1,7 +1,7 @@
 #!/usr/bin/env python3
 """words.py LIBRARY: the fixed words of the text, in the sources and in a built static library.
 
-Each stands once, in the table of crates/fixed/src/lib.rt, which has at most 512 bytes; what is written is put from it, and
+Each stands once, in the table of crates/base_keywords/src/table.rt, which has at most 512 bytes; what is written is put from it, and
 what is read is compared with it. In the sources no other byte string, row of characters or row of numbers has one of them.
 In the library none stands in other read-only data, and no function has one in the operands of its code."""
 import glob
@@ -12,20 +12,21 @@ import subprocess
 import sys
 
 HERE = os.path.join(os.path.dirname(os.path.abspath(__file__)), "..")
-# Byte strings beside the table, by their crates: a word that is compared and never written, tables of digits, and what the
+# Byte strings beside the table, by their files: a word that is compared and never written, tables of digits, and what the
 # programs say of themselves.
 OTHERS = {
-    "strings": [rb"__builtin_va_list"],
-    "roles": [rb"[0-9]+"],
-    "printed": [rb"refused ", rb"\n"],
-    "replay": [rb"\.btf", rb"\.out", rb" differs\n", rb" sections, ", rb" differ\n", rb"names", rb""],
+    "btf_type_table/src/name.rt": [rb"__builtin_va_list"],
+    "session_cut_marks/src/roles.rt": [rb"[0-9]+"],
+    "btfdump_run/src/printed.rt": [rb"refused ", rb"\n"],
+    "btfdump_replay/src/main.rt": [rb"\.btf", rb"\.out", rb" differs\n", rb" sections, ", rb" differ\n", rb"names", rb""],
 }
+TABLE = "base_keywords/src/table.rt"
 ESCAPES = {"n": "\n", "r": "\r", "t": "\t", "0": "\0"}
 
 
 def fixed_words():
-    """the words that lines are assembled from, as crate fixed defines them; the longest of them without its signs too"""
-    text = open(os.path.join(HERE, "crates/fixed/specs/Fixed.antt"), encoding="utf-8").read()
+    """the words that lines are assembled from, as base_keywords defines them; the longest of them without its signs too"""
+    text = open(os.path.join(HERE, "crates/base_keywords/specs/table/Fixed.antt"), encoding="utf-8").read()
     body, = re.findall(r"^fixedWords =\n(.*?)\n\n", text, re.S | re.M)
     return [w.encode() for w in re.findall(r'ascii "(.*?)"', body)] + [b"__attribute__"]
 
@@ -37,23 +38,23 @@ def plain(quoted):
 
 
 def sources():
-    """crate, file and text without comments of each source"""
+    """file and text without comments of each source"""
     for path in sorted(glob.glob(os.path.join(HERE, "crates/*/src/**/*.rt"), recursive=True)):
         name = os.path.relpath(path, os.path.join(HERE, "crates"))
-        yield name.split(os.sep)[0], name, re.sub(r"^\s*//.*$", "", open(path, encoding="utf-8").read(), flags=re.M)
+        yield name, re.sub(r"^\s*//.*$", "", open(path, encoding="utf-8").read(), flags=re.M)
 
 
 def in_sources(words):
     """the table, and what is wrong"""
     tables, wrong, count = [], [], 0
     char = r"b'(?:[^'\\]|\\.[^']*)'"
-    for crate, name, text in sources():
+    for name, text in sources():
         for quoted in re.findall(r'\bb"((?:[^"\\]|\\.)*)"', text, re.S):
             literal = plain(quoted)
             count += 1
-            if crate == "fixed":
+            if name == TABLE:
                 tables.append(literal)
-            elif not any(re.fullmatch(o, literal) for o in OTHERS.get(crate, [])):
+            elif not any(re.fullmatch(o, literal) for o in OTHERS.get(name, [])):
                 wrong.append(f"{name} has the byte string {literal}")
         rows = [b"".join(plain(c[2:-1]) for c in re.findall(char, row)) for row in re.findall(rf"{char}(?:\s*,\s*{char})+", text)]
         rows += [bytes(int(n) % 256 for n in row.split(",")) for row in re.findall(r"\b\d+(?:\s*,\s*\d+)+\b", text)]

@@ -1,12 +1,12 @@
 #!/usr/bin/env python3
-"""Writes the crates vectors (programs), answered (sessions) and deep (both, at the limits of depth): stored sections, on which the prover computes
-the rules and must find what the Rust gave.
+"""Writes the modules vectors (programs), answered (sessions) and deep (both, at the limits of depth) of crate proof_examples: stored sections, on which
+the prover computes the rules and must find what the Rust gave.
 
-  tools/vectors.py            writes specs and proofs of the crates, in the layout of rt fmt
+  tools/vectors.py            writes specs and proofs of the crate, in the layout of rt fmt
   tools/vectors.py --check    only says whether they hold what it would write
 
 What it reads:
-  crates/replay/data          NAME.btf, a section, and NAME.out, what the program prints of it
+  crates/btfdump_replay/data  NAME.btf, a section, and NAME.out, what the program prints of it
   oracle/answers.cases        sections, requests and the Rust's answers (tests/FORMAT.md)
 
 A section's types are read after the Linux documentation (Documentation/bpf/btf.rst), its fields kept under the Rust's names.
@@ -185,8 +185,8 @@ def plain(calls):
 
 
 def programs():
-    """Of crates/replay/data: the name, the numbers, the entry."""
-    for path in sorted(glob.glob(os.path.join(HERE, "crates/replay/data/*.btf"))):
+    """Of crates/btfdump_replay/data: the name, the numbers, the entry."""
+    for path in sorted(glob.glob(os.path.join(HERE, "crates/btfdump_replay/data/*.btf"))):
         name = os.path.basename(path)[:-4]
         text = contents(path[:-4] + ".out")
         refused = re.fullmatch(rb"refused (\d+)\n", text)
@@ -253,11 +253,11 @@ use Prim.Native.Nat.{ℕ}
 use Prim.Native.String.{String}
 use mathlib.Core.Bool.{Bool}
 use mathlib.Core.List.{List, [], _∷_}
-use Rattle.text.specs.Text.{ascii}
-use Rattle.rules.specs.Machine.{Req}
-use Rattle.rules.specs.Types.{Member, Param, Enumerator, BtfType}
-use Rattle.rules.specs.Listed.{listed}
-use Rattle.demand.specs.Session.{Dump, dump, dumpTypes}
+use Rattle.spec_bytes.specs.text.Text.{ascii}
+use Rattle.spec_c_dumper.specs.rules.Machine.{Req}
+use Rattle.spec_c_dumper.specs.rules.Types.{Member, Param, Enumerator, BtfType}
+use Rattle.spec_c_dumper.specs.rules.Listed.{listed}
+use Rattle.spec_c_dumper.specs.needs.Session.{Dump, dump, dumpTypes}
 
 abbrev pub member : String → ℕ → ℕ → ℕ → Member
 member name type-id bit-offset bit-size = record { name = ascii name; type-id = type-id; bit-offset = bit-offset; bit-size = bit-size }
@@ -295,9 +295,9 @@ SPECS = """-- Written by tools/vectors.py. {title}
 use Prim.Native.Nat.{{ℕ}}
 use mathlib.Core.Bool.{{Bool, true, false}}
 use mathlib.Core.List.{{List, [], _∷_}}
-use Rattle.text.specs.Text.{{ascii}}
+use Rattle.spec_bytes.specs.text.Text.{{ascii}}
 {uses}
-use Rattle.rules.specs.Types.{{volatile, const, restrict, Void, Int, Ptr, Array, Composite, Enum, Enum64, Fwd, Typedef, Mod, Func, Var, Datasec, FuncProto, Float, DeclTag, TypeTag}}
+use Rattle.spec_c_dumper.specs.rules.Types.{{volatile, const, restrict, Void, Int, Ptr, Array, Composite, Enum, Enum64, Fwd, Typedef, Mod, Func, Var, Datasec, FuncProto, Float, DeclTag, TypeTag}}
 
 abbrev pub {name} : List {kind}
 {name} =
@@ -314,24 +314,24 @@ unfolding {names}
 {name}-hold = refl
 """
 
-READING = """-- Written by tools/vectors.py. The types that the bytes of a section spell, record after record, each read as the table of crates/btf reads it.
+READING = """-- Written by tools/vectors.py. The types that the bytes of a section spell, record after record, each read as the table of spec_type_table reads it.
 use Prim.Native.Nat.{ℕ, zero, suc, _+_, _*_, _-_}
 use Prim.Native.String.{String}
 use mathlib.Core.Bool.{Bool, true, false}
 use mathlib.Core.List.{List, [], _∷_}
 use lib.ListN.{length}
 use lib.Dec.{ltb, leb}
-use Rattle.text.specs.Text.{ascii}
-use Rattle.records.specs.Section.{bigEndian, wordOf}
-use Rattle.rules.specs.Types.{BtfType, Void}
-use Rattle.rules.specs.Listed.{listed}
-use Rattle.demand.specs.Session.{program}
-use Rattle.btf.specs.declared.types.Btf.{Btf}
-use Rattle.btf.specs.declared.types.BtfType.{BtfType as Record}
-use Rattle.btf.specs.declared.types.Extra.{Extra}
-use Rattle.btf.specs.declared.types.Extra.the-variants.{Bytes, Refused}
-use Rattle.btf.specs.Records.{vlenOf, kindOf, extraOf, recordAt}
-use Rattle.btf.specs.Table.{typeOf}
+use Rattle.spec_bytes.specs.text.Text.{ascii}
+use Rattle.spec_linux_btf.specs.Section.{bigEndian, wordOf}
+use Rattle.spec_c_dumper.specs.rules.Types.{BtfType, Void}
+use Rattle.spec_c_dumper.specs.rules.Listed.{listed}
+use Rattle.spec_c_dumper.specs.needs.Session.{program}
+use Rattle.spec_type_table.specs.declared.types.TypeTable.{TypeTable}
+use Rattle.spec_type_table.specs.declared.types.BtfType.{BtfType as Record}
+use Rattle.spec_type_table.specs.declared.types.Extra.{Extra}
+use Rattle.spec_type_table.specs.declared.types.Extra.the-variants.{Bytes, Refused}
+use Rattle.spec_type_table.specs.Records.{vlenOf, kindOf, extraOf, recordAt}
+use Rattle.spec_type_table.specs.Table.{typeOf}
 
 -- 0 to 9, a to f
 abbrev pub digit : ℕ → ℕ
@@ -397,13 +397,13 @@ allWanted (p ∷ ps) = p .wanted ∷ allWanted ps
 
 READS = """-- Written by tools/vectors.py. By computation, the bytes of the sections of specs/{module} are read as their types.
 use mathlib.Core.Path.{{_≡_, refl}}
-use Rattle.lent.specs.Words.{{wordAt, wordAtBig, wordIn}}
-use Rattle.records.specs.Section.{{bigEndian, wordOf}}
-use Rattle.btf.specs.Names.{{upToZero, nameAt}}
-use Rattle.btf.specs.Records.{{sectionWord, recordAt, memberOf, extraOf}}
-use Rattle.btf.specs.Table.{{from, paramOf, valueOf, value64Of, typeOf}}
-use Rattle.vectors.specs.Reading.{{pairs, typesFrom, typesOf, allRead, allTypes}}
-use Rattle.vectors.specs.{module}.{{{name}}}
+use Rattle.spec_bytes.specs.words.Words.{{wordAt, wordAtBig, wordIn}}
+use Rattle.spec_linux_btf.specs.Section.{{bigEndian, wordOf}}
+use Rattle.spec_type_table.specs.Names.{{upToZero, nameAt}}
+use Rattle.spec_type_table.specs.Records.{{sectionWord, recordAt, memberOf, extraOf}}
+use Rattle.spec_type_table.specs.Table.{{from, paramOf, valueOf, value64Of, typeOf}}
+use Rattle.proof_examples.specs.vectors.Reading.{{pairs, typesFrom, typesOf, allRead, allTypes}}
+use Rattle.proof_examples.specs.vectors.{module}.{{{name}}}
 
 pub {name}-read : allRead {name} ≡ allTypes {name}
 unfolding bigEndian wordOf wordIn wordAtBig wordAt upToZero nameAt sectionWord recordAt memberOf extraOf from paramOf valueOf value64Of typeOf pairs typesFrom typesOf
@@ -413,33 +413,33 @@ unfolding bigEndian wordOf wordIn wordAtBig wordAt upToZero nameAt sectionWord r
 # the crate, what is taken, whether of LIMITS, the most lines of a file, the files' names, the kind of an entry, the title, where the lists of
 # both sides are, what an entry uses
 GROUPS = [
-    ("vectors", programs, False, 470, "Programs", "Printed", "Sections of crates/replay/data: bytes, types, and what the program prints.",
-     "Rattle.vectors.specs.Reading", [
-         "use Rattle.vectors.specs.Base.{member, param, value}",
-         "use Rattle.vectors.specs.Reading.{Printed, prints}"]),
-    ("deep", programs, True, 150, "DeepPrograms", "Sample", "Sections of crates/replay/data at the limits of depth, each beside what the program prints.",
-     "Rattle.rules.specs.Samples", [
-         "use Rattle.rules.specs.Listed.{listed}",
-         "use Rattle.rules.specs.Samples.{Sample, gives}",
-         "use Rattle.demand.specs.Session.{program}",
-         "use Rattle.vectors.specs.Base.{member}"]),
+    ("vectors", programs, False, 470, "Programs", "Printed", "Sections of crates/btfdump_replay/data: bytes, types, and what the program prints.",
+     "Rattle.proof_examples.specs.vectors.Reading", [
+         "use Rattle.proof_examples.specs.vectors.Base.{member, param, value}",
+         "use Rattle.proof_examples.specs.vectors.Reading.{Printed, prints}"]),
+    ("deep", programs, True, 150, "DeepPrograms", "Sample", "Sections of crates/btfdump_replay/data at the limits of depth, each beside what the program prints.",
+     "Rattle.spec_c_dumper.specs.rules.Samples", [
+         "use Rattle.spec_c_dumper.specs.rules.Listed.{listed}",
+         "use Rattle.spec_c_dumper.specs.rules.Samples.{Sample, gives}",
+         "use Rattle.spec_c_dumper.specs.needs.Session.{program}",
+         "use Rattle.proof_examples.specs.vectors.Base.{member}"]),
     ("answered", sessions, False, 470, "Sessions", "Vector", "Sections and requests of oracle/answers.cases, each beside the answers.",
-     "Rattle.vectors.specs.Base", [
-         "use Rattle.rules.specs.Machine.{one, all}",
-         "use Rattle.vectors.specs.Base.{member, param, value, Vector, session}"]),
+     "Rattle.proof_examples.specs.vectors.Base", [
+         "use Rattle.spec_c_dumper.specs.rules.Machine.{one, all}",
+         "use Rattle.proof_examples.specs.vectors.Base.{member, param, value, Vector, session}"]),
     ("deep", sessions, True, 150, "DeepSessions", "Vector", "Sections and requests of oracle/answers.cases at the limits of depth, each beside the answers.",
-     "Rattle.vectors.specs.Base", [
-         "use Rattle.rules.specs.Machine.{one, all}",
-         "use Rattle.vectors.specs.Base.{member, param, value, Vector, session}"]),
+     "Rattle.proof_examples.specs.vectors.Base", [
+         "use Rattle.spec_c_dumper.specs.rules.Machine.{one, all}",
+         "use Rattle.proof_examples.specs.vectors.Base.{member, param, value, Vector, session}"]),
 ]
 
 
 def unfolded():
-    """The `use` lines of all that is unfolded, and the names: those of crates/demand/proofs/Samples.antt, and what its samples need not."""
-    text = contents(os.path.join(HERE, "crates/demand/proofs/Samples.antt")).decode()
-    uses = [u.replace("Rattle.demand.specs", "Rattle.demand.specs") for u in text.split("\n") if re.match(r"use Rattle(?!.*\.Samples\.)", u)]
+    """The `use` lines of all that is unfolded, and the names: those of crates/spec_c_dumper/proofs/needs/Samples.antt, and what its samples need not."""
+    text = contents(os.path.join(HERE, "crates/spec_c_dumper/proofs/needs/Samples.antt")).decode()
+    uses = [u.replace("Rattle.spec_c_dumper.specs.", "Rattle.spec_c_dumper.specs.") for u in text.split("\n") if re.match(r"use Rattle(?!.*\.Samples\.)", u)]
     names = re.search(r"\nunfolding (.*?)\nprograms-hold", text, re.S)[1].split()
-    return uses + ["use Rattle.signed.specs.Signed.{twos, signed, signedLL}"], names + ["twos", "signed", "signedLL"]
+    return uses + ["use Rattle.spec_bytes.specs.signed.Signed.{twos, signed, signedLL}"], names + ["twos", "signed", "signedLL"]
 
 
 def chunks(entries, most):
@@ -453,9 +453,20 @@ def chunks(entries, most):
     return parts
 
 
+def only_used(text):
+    """The text with the names in its `use` lines that it uses."""
+    body = "\n".join(line for line in text.split("\n") if not line.startswith("use ")) + "\n"
+    words = set(re.findall(r"[^\s(){};,.]+", body))
+
+    def line(m):
+        names = [n for n in m[2].split(", ") if n.strip("_") in words or n in words]
+        return f"use {m[1]}.{{{', '.join(names)}}}\n" if names else ""
+    return re.sub(r"^use (\S+)\.\{([^}]*)\}\n", line, text, flags=re.M)
+
+
 def files():
-    """Each file that is written, by its path below crates/."""
-    out = {"vectors/specs/Base.antt": BASE, "vectors/specs/Reading.antt": READING}
+    """Each file that is written, by its path below crates/proof_examples/."""
+    out = {"specs/vectors/Base.antt": BASE, "specs/vectors/Reading.antt": READING}
     specs, proofs = {"vectors": ["Base", "Reading"], "answered": [], "deep": []}, {c: [] for c in CRATES}
     uses, names = unfolded()
     for crate, taken, limits, most, group, kind, title, lists, spec_uses in GROUPS:
@@ -463,16 +474,16 @@ def files():
             module, name = f"{group}{i}", f"{group[0].lower()}{group[1:]}{i}"
             specs[crate].append(module)
             proofs[crate].append(module)
-            out[f"{crate}/specs/{module}.antt"] = SPECS.format(title=title, module=module, name=name, kind=kind, uses="\n".join(spec_uses), entries="\n    ∷ ".join(part))
-            more = [f"use {lists}.{{allGiven, allWanted}}", f"use Rattle.{crate}.specs.{module}.{{{name}}}"]
-            out[f"{crate}/proofs/{module}.antt"] = PROOFS.format(module=module, name=name, uses="\n".join(uses + more), names=broken(names, "    "))
+            out[f"specs/{crate}/{module}.antt"] = SPECS.format(title=title, module=module, name=name, kind=kind, uses="\n".join(spec_uses), entries="\n    ∷ ".join(part))
+            more = [f"use {lists}.{{allGiven, allWanted}}", f"use Rattle.proof_examples.specs.{crate}.{module}.{{{name}}}"]
+            out[f"proofs/{crate}/{module}.antt"] = PROOFS.format(module=module, name=name, uses="\n".join(uses + more), names=broken(names, "    "))
             if kind == "Printed":
                 proofs[crate].insert(i, f"Read{i}")
-                out[f"{crate}/proofs/Read{i}.antt"] = READS.format(module=module, name=name)
+                out[f"proofs/{crate}/Read{i}.antt"] = READS.format(module=module, name=name)
     for crate in CRATES:
-        out[f"{crate}/specs/Lib.antt"] = "".join(f"pub mod {m}\n" for m in specs[crate])
-        out[f"{crate}/proofs/Lib.antt"] = "".join(f"pub mod {m}\n" for m in proofs[crate])
-    return out
+        out[f"specs/{crate}.antt"] = "".join(f"pub mod {m}\n" for m in specs[crate])
+        out[f"proofs/{crate}.antt"] = "".join(f"pub mod {m}\n" for m in proofs[crate])
+    return {p: only_used(text) for p, text in out.items()}
 
 
 def summary():
@@ -487,8 +498,8 @@ def summary():
 
 def main():
     made = files()
-    below = os.path.join(HERE, "crates")
-    stands = {os.path.relpath(p, below): contents(p).decode() for c in CRATES for d in ("specs", "proofs") for p in glob.glob(f"{below}/{c}/{d}/*.antt")}
+    below = os.path.join(HERE, "crates/proof_examples")
+    stands = {os.path.relpath(p, below): contents(p).decode() for c in CRATES for d in ("specs", "proofs") for p in glob.glob(f"{below}/{d}/{c}/*.antt") + [f"{below}/{d}/{c}.antt"]}
     if sys.argv[1:] == ["--check"]:
         differ = sorted(p for p in made.keys() | stands.keys() if made.get(p) != stands.get(p))
         if differ:

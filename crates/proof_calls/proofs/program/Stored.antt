@@ -32,7 +32,7 @@ use Rattle.spec_opening.specs.Table.{describedIn}
 use Rattle.spec_opening.proofs.ReadBack.{header-ok, types-ok, section-short}
 use Rattle.proof_demands.specs.demands.Table.{headerOf}
 use Rattle.spec_cut.specs.section.Kept.{voidType}
-use Rattle.examples.specs.vectors.Reading.{typesFrom, typesOf}
+use Rattle.proof_examples.specs.vectors.Reading.{typesFrom, typesOf}
 use Rattle.proof_calls.specs.program.Claims.{number, keptAll, typesIn}
 
 -- ---- a described type is kept alike where the strings stand at the same place

@@ -17,7 +17,7 @@ use Rattle.spec_opening.specs.Table.{describedIn}
 use Rattle.spec_opening.specs.Causes.{openingNumber}
 use Rattle.spec_c_dumper.specs.needs.Lists.{Ls}
 use Rattle.spec_c_dumper.specs.needs.Session.{Known, textOf, machine, opened, program}
-use Rattle.examples.specs.vectors.Reading.{typesOf as readTypes}
+use Rattle.proof_examples.specs.vectors.Reading.{typesOf as readTypes}
 use Rattle.proof_demands.specs.demands.Table.{headerOf, openedTable}
 use Rattle.btfdump_run.specs.printed.Printed.{refusedLine, ranOn}
 
