@@ -60,7 +60,7 @@ def in_sources(words):
         rows += [bytes(int(n) % 256 for n in row.split(",")) for row in re.findall(r"\b\d+(?:\s*,\s*\d+)+\b", text)]
         wrong += [f"{name} has {w} in a row of bytes" for w in words for row in rows if w in row]
     if len(tables) != 1:
-        wrong.append(f"crate fixed has {len(tables)} byte strings")
+        wrong.append(f"base_keywords has {len(tables)} byte strings")
     return tables[0], wrong, count
 
 
