@@ -162,7 +162,7 @@ def rows_of(crates, needs):
 
 
 def picture(needs):
-    out, place, y = [], {}, 56
+    out, place, y, count = [], {}, 56, 0
     for key, title in LAYERS:
         crates = [c for c in needs if layer_of(c) == key]
         if not crates:
@@ -173,6 +173,9 @@ def picture(needs):
         out.append(f'<text x="22" y="{y + 19}" class="title">{title}</text>')
         for i, row in enumerate(rows):
             left = (WIDTH - len(row) * BOX - (len(row) - 1) * GAP) / 2
+            if len(row) < 5:  # rows are moved against each other, so that few lines run behind a box
+                left += (count % 3 - 1) * 0.6 * BOX
+            count += 1
             for j, crate in enumerate(row):
                 place[crate] = (left + j * (BOX + GAP), y + HEAD + i * ROW)
         y += height + 26
