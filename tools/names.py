@@ -90,7 +90,7 @@ def check_names(doc, text, texts, words, bad):
     for quoted in re.findall(r"`([^`\n]+)`", text):
         if re.fullmatch(LAYER, quoted) and quoted not in crates and quoted not in words:
             bad.append(f"{doc}: no crate or name {quoted}")
-        elif re.fullmatch(r"[A-Za-z_][\w′-]*", quoted) and quoted not in words and quoted not in crates and not has_any_module(quoted):
+        elif re.fullmatch(r"[A-Za-z][\w′-]*(?<!_)", quoted) and quoted not in words and quoted not in crates and not has_any_module(quoted):
             bad.append(f"{doc}: no name {quoted}")
 
 
