@@ -79,7 +79,7 @@ def check_names(doc, text, texts, words, bad):
             bad.append(f"{doc}: no path {path}")
     for m in re.finditer(r"(?<![\w:])([a-z][a-z0-9_]*)::(\w+)(?:::(\w+))?", text):
         crate, module, item = m.groups()
-        if crate in ("std", "core"):
+        if crate in ("std", "core", "crate"):
             continue
         if crate not in crates:
             bad.append(f"{doc}: no crate {crate} ({m.group(0)})")
