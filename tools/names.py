@@ -48,6 +48,11 @@ def sources():
     return texts
 
 
+def file_names():
+    """The names of all files under crates/, without their endings: modules, and stored sections."""
+    return {name.split(".")[0] for _, _, names in os.walk(os.path.join(ROOT, "crates")) for name in names}
+
+
 def exists(path, folder):
     if path in FOREIGN or path.startswith(MADE):
         return True
@@ -85,17 +90,13 @@ def check_names(doc, text, texts, words, bad):
             bad.append(f"{doc}: no crate {crate} ({m.group(0)})")
         elif not has_module(crate, module) and not has_item(crate, None, module, texts):
             bad.append(f"{doc}: no module {m.group(0)}")
-        elif item and not has_item(crate, module, item, texts) and item not in words:
+        elif item and not has_item(crate, module, item, texts):
             bad.append(f"{doc}: no item {m.group(0)}")
     for quoted in re.findall(r"`([^`\n]+)`", text):
         if re.fullmatch(LAYER, quoted) and quoted not in crates and quoted not in words:
             bad.append(f"{doc}: no crate or name {quoted}")
-        elif re.fullmatch(r"[A-Za-z][\w′-]*(?<!_)", quoted) and quoted not in words and quoted not in crates and not has_any_module(quoted):
+        elif re.fullmatch(r"[A-Za-z][\w′-]*(?<!_)", quoted) and quoted not in words and quoted not in crates:
             bad.append(f"{doc}: no name {quoted}")
-
-
-def has_any_module(name):
-    return bool(glob.glob(os.path.join(ROOT, "crates/*/s*/", name + ".*")) or glob.glob(os.path.join(ROOT, "crates/*/*/*/", name + ".antt")))
 
 
 def check_claims(doc, text, texts, bad):
@@ -122,7 +123,7 @@ def check_lengths(doc, text, bad):
 
 def main():
     texts = sources()
-    words = set()
+    words = file_names()
     for text in texts.values():
         words.update(re.findall(r"[A-Za-z_][\w′-]*", text))
     bad = []
