@@ -1,7 +1,8 @@
 #!/usr/bin/env python3
 """Checks the documents: exits 1 where one names what is not there, or is longer than it may be.
 
-  tools/names.py
+  tools/names.py              checks the documents
+  tools/names.py --comments   checks the comments of the sources too
 
 Documents are README.md, docs/, and the README of bench/, oracle/ and tests/. What stands in a block of code is not looked at.
 
@@ -9,6 +10,7 @@ Documents are README.md, docs/, and the README of bench/, oracle/ and tests/. Wh
 - `crate::module` and `crate::module::item` exist; so does every crate that is named, and every name in `such quotes`.
 - In docs/CLAIMS.md a theorem is defined in a file of its row.
 - A note of docs/changes has at most 400 words, a cell of docs/DECISIONS.md at most 60.
+- In comments: a crate, a path below crates/ and `crate::module` exist.
 """
 import glob
 import os
@@ -22,6 +24,7 @@ MADE = ("target/", "build/")  # folders that the commands make
 # files of others: the Rust original, the Linux page, the system
 FOREIGN = {"include/uapi/linux/btf.h", "Documentation/bpf/btf.rst", "btf.h", "btf.rst", "c_dumper.rs", "types.rs", "lib.rs", "src/c_dumper.rs"}
 ENDINGS = r"\.(?:antt|rt|md|py|sh|c|h|cases|svg|txt|btf|sed|edit)"
+PLAIN = {"a", "above", "and", "below", "by", "folder", "for", "has", "in", "is", "of", "that", "with"}  # words after "crate" that are no crate
 LAYER = r"(?:base|btf|c_dumper|session|btfdump|spec|proof)_\w+"
 
 
@@ -121,6 +124,23 @@ def check_lengths(doc, text, bad):
                     bad.append(f"{doc}: a cell of {len(cell.split())} words, {CELL_WORDS} at most: {' '.join(cell.split()[:8])} ..")
 
 
+def check_comments(texts, bad):
+    crates = set(os.listdir(os.path.join(ROOT, "crates")))
+    for path, text in sorted(texts.items()):
+        if not re.match(r"(?:crates/\w+/(?:src|specs|proofs)|bench|oracle|tests|tools)/", path):
+            continue
+        for comment in re.findall(r"^\s*(?://+|--|#|\*) (.*)$", text, re.M):
+            for name in re.findall(r"(?<![\w/])crates/[\w/.]*\w", comment):
+                if not glob.glob(os.path.join(ROOT, name)) and not glob.glob(os.path.join(ROOT, name + ".*")):
+                    bad.append(f"{path}: no path {name}")
+            for crate in re.findall(r"\bcrate `?([a-z_0-9]+)`?", comment):
+                if crate not in crates and crate not in PLAIN:
+                    bad.append(f"{path}: no crate {crate}")
+            for crate, module in re.findall(r"`([a-z_0-9]+)::([a-z_0-9]+)`", comment):
+                if not has_module(crate, module):
+                    bad.append(f"{path}: no module {crate}::{module}")
+
+
 def main():
     texts = sources()
     words = file_names()
@@ -134,6 +154,8 @@ def main():
         check_names(doc, text, texts, words, bad)
         if doc == "docs/CLAIMS.md":
             check_claims(doc, text, texts, bad)
+    if "--comments" in sys.argv[1:]:
+        check_comments(texts, bad)
     for line in bad:
         print("names.py: " + line)
     print(f"names.py: {len(documents())} documents, {len(bad)} faults")
