@@ -10,4 +10,4 @@ use Rattle.spec_opening.specs.Samples.{Samples}
 
 pub samples : Samples
 unfolding kept typeArea bigEndian hdrLen typeOff typeLen strOff word kind decodeAll decode places nameAt upToZero wordIn wordAt tagsId tagsFrom
-samples = record { node-types = refl; pointer = refl; union = refl; tags = refl }
+samples = record { node-types = refl; members = refl; target = refl; pointer = refl; union = refl; tags = refl }
