@@ -344,7 +344,7 @@ pairs (a ∷ []) = []
 pairs (a ∷ b ∷ l) = (digit a * 16 + digit b) ∷ pairs l
 
 -- the records from a place on: n at most
-unfoldable pub typesFrom : Btf → List ℕ → ℕ → ℕ → ℕ → List BtfType
+unfoldable pub typesFrom : TypeTable → List ℕ → ℕ → ℕ → ℕ → List BtfType
 typesFrom b s end zero at = []
 typesFrom b s end (suc n) at =
     let r = recordAt b s at in

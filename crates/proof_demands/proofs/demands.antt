@@ -8,7 +8,6 @@ pub mod Minded
 pub mod Began
 pub mod Lines
 pub mod Start
-pub mod Emission
 pub mod Request
 pub mod Session
 pub mod Again

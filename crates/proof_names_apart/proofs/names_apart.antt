@@ -1,4 +1,3 @@
-pub mod Samples
 pub mod Laws
 pub mod Fair
 pub mod Session

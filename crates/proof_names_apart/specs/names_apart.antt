@@ -1,4 +1,2 @@
-pub mod Apart
 pub mod Alike
-pub mod Samples
 pub mod Claims

@@ -8,6 +8,7 @@ pub mod Lists
 pub mod Session
 pub mod Samples
 pub mod Placing
+pub mod Emission
 pub mod Alike
 pub mod AnyNames
 pub mod Fit

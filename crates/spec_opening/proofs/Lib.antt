@@ -9,3 +9,4 @@ pub mod Opens
 pub mod Index
 pub mod Sums
 mod Examples
+pub mod Samples

@@ -1,4 +1,5 @@
 pub mod Cells
+pub mod Strings
 pub mod Names
 pub mod Records
 pub mod Numbers

@@ -8,7 +8,7 @@ use Rattle.spec_c_dumper.specs.rules.Order.{Table, Mark}
 use Rattle.spec_c_dumper.specs.rules.Machine.{Out, stuck, Machine, look}
 use Rattle.spec_c_dumper.specs.needs.Needs.{kids}
 use Rattle.spec_c_dumper.proofs.needs.Alike.{BothOut, both-wrote, both-stuck}
-use Rattle.proof_demands.proofs.demands.Emission.{AlikeSteps, eeach-alike, look-alike}
+use Rattle.spec_c_dumper.proofs.needs.Emission.{AlikeSteps, eeach-alike, look-alike}
 use Rattle.spec_c_dumper.specs.origins.Causes.{Entry, entry, Noted, withEntries, line, causeAt, noting, emitNoted, eachListed}
 
 -- machines in Q, and the same entries

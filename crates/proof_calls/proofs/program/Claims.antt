@@ -10,9 +10,13 @@ use lib.Dec.{ltb}
 use borrow.Author.Tests.{eq-eqb, ne-eqb}
 use Rattle.spec_bytes.specs.text.Text.{ascii}
 use Rattle.spec_bytes.specs.text.Decimal.{digits, decimal}
-use Rattle.spec_c_dumper.specs.rules.Machine.{run, every}
+use Rattle.spec_c_dumper.specs.rules.Machine.{Machine, run, every}
+use Rattle.spec_c_dumper.specs.rules.Names.{Names, naming}
+use Rattle.spec_c_dumper.specs.rules.Order.{Table}
 use Rattle.spec_c_dumper.specs.rules.Types.{BtfType, Btf, tableOf}
 use Rattle.spec_c_dumper.specs.rules.Listed.{listed}
+use Rattle.spec_linux_btf.specs.Reading.{Bytes}
+use Rattle.spec_opening.specs.Described.{tableIn}
 use Rattle.spec_opening.specs.Table.{typesOf, enumeratorsOf}
 use Rattle.spec_opening.specs.Opened.{refused, opened as soundly, workOf}
 use Rattle.spec_opening.specs.Causes.{openingNumber}
@@ -23,16 +27,17 @@ use Rattle.spec_session.specs.session.Turns.{Call, Reach, reached, refusedBy, i
 use Rattle.spec_session.specs.calls.Calls.{openedCall, openCall, typesCall}
 use Rattle.spec_session.proofs.calls.Laws.{opens-sound, opens-refused}
 use Rattle.spec_session.proofs.calls.Claims.{number-is, value-is, types-settle, types-current, types-not-current}
-use Rattle.spec_c_dumper.specs.needs.Session.{textOf, machine, opened, program}
+use Rattle.spec_c_dumper.specs.needs.Lists.{Ls, afresh}
+use Rattle.spec_c_dumper.specs.needs.Session.{Known, textOf, machine, opened, program}
 use Rattle.proof_demands.specs.demands.Table.{namesIn}
 use Rattle.proof_demands.specs.demands.Session.{After, after-open, Tells}
 use Rattle.proof_demands.specs.demands.Demands.{Lent}
 use Rattle.proof_demands.proofs.demands.Demands.{open-number, delivered}
 use Rattle.btfdump_run.specs.printed.Printed.{neverOpened, refusedLine, Shown, shownTo, lineShown, shown, ranAll, ranOpened, ranOn}
 use Rattle.btfdump_run.proofs.printed.Laws.{line-fits}
-use Rattle.proof_calls.proofs.program.Listed.{program-listed}
+use Rattle.proof_calls.proofs.described.Table.{over-described}
 use Rattle.proof_calls.proofs.program.Stored.{read-types}
-use Rattle.proof_calls.proofs.program.Program.{asked, program-text, program-refused}
+use Rattle.proof_calls.proofs.program.Program.{printsOf, asked, program-is, program-text, program-refused}
 use Rattle.proof_calls.specs.program.Claims.{number, table, out, Runs}
 
 -- ---- the line of a refusal
@@ -49,6 +54,21 @@ digits-few (suc f) n = go (ltb n 10) (digits-few f (n / 10))
 line-short : (n : ℕ) → length (refusedLine n) ≤ 29
 unfolding refusedLine decimal
 line-short n = omega (arith, length-append (ascii "refused " ++ digits 20 n) (10 ∷ []), length-append (ascii "refused ") (digits 20 n), digits-few 20 n)
+
+-- ---- the table that opening gives and the described one print the same
+
+program-described : (s : List ℕ) → Bytes s → number s ≡ 0 → program (table s) ≡ program (tableIn 8 0 s)
+program-described s y ok =
+    program-is (table s)
+    ∙ over-described 8 0 s 65536 y ok naming
+    (λ X T m. printsOf (asked (table s) .number) (textOf (asked (table s) .sess .mach .pieces)) ≡ prints X T m)
+    refl
+    ∙ sym (program-is (tableIn 8 0 s))
+  where
+    prints : Machine (Ls (Known Names)) → Table → ℕ → List ℕ
+    prints X T m =
+        let a = every X T 65536 (record { isOpen = true; mach = afresh m (record { names = record { versions = replicate m 0; ledger = [] }; text-len = 0 }); asked = [] }) true in
+        printsOf (a .number) (textOf (a .sess .mach .pieces))
 
 -- what is shown lies in the slice, and is this text
 abbrev Shows : List ℕ → Shown → Type 0
@@ -170,8 +190,8 @@ pub runs : Runs
 runs s work text ew et = record {
   inside = ran s work text ew et (number s) refl;
   rules = λ z. ran-open s work text ew et z .1;
-  as-listed = λ y z. ran-open s work text ew et z .1 ∙ program-listed s y z;
-  as-stored = λ y z. ran-open s work text ew et z .1 ∙ program-listed s y z ∙ ap (λ (l : List BtfType). program (listed 8 false l)) (read-types s y z);
+  described = λ y z. ran-open s work text ew et z .1 ∙ program-described s y z;
+  as-stored = λ y z. ran-open s work text ew et z .1 ∙ program-described s y z ∙ ap (λ (l : List BtfType). program (listed 8 false l)) (read-types s y z);
   accepted = λ z q. ran-open s work text ew et z .1 ∙ program-text (table s) q;
   refused = λ z k q. ran-open s work text ew et z .1 ∙ program-refused (table s) k q;
   not-opened = λ k z. ran-not s work text ew et k z .1;

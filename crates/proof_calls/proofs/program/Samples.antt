@@ -12,7 +12,7 @@ use Rattle.spec_bytes.specs.text.Decimal.{digits, decimal}
 use Rattle.spec_c_dumper.specs.rules.Order.{bind, each, meet, pushIf, enter, alias, fresh, visit, order}
 use Rattle.spec_c_dumper.specs.rules.Machine.{obind, eeach, once, mention, again, close, leaf, within, begin, allowed, look, emit, shut, emitted, ordered, gate, single, onward, from, every}
 use Rattle.spec_c_dumper.specs.rules.Writer.{askThen, checked, saidText, saidNames, after, next, put, stop, given, _⨾_}
-use Rattle.spec_c_dumper.specs.rules.Types.{isEmpty, BtfType, Void, Int, Ptr, Composite}
+use Rattle.spec_c_dumper.specs.rules.Types.{isEmpty, BtfType, Void, Composite}
 use Rattle.spec_c_dumper.specs.rules.Layout.{larger, smaller, octets, sizeOf, getSizeOf, alignMembers, alignOf, getAlignOf, offAlign, membersPacked, isStructPacked, chipAwayBits, padOf, padsOf, gapPads, padsBefore, bitPadding, endOf}
 use Rattle.spec_c_dumper.specs.rules.Placing.{bodyPacked, tailPads}
 use Rattle.spec_c_dumper.specs.rules.Names.{spelled, resolving, resolveTypeName, resolveName, sameBytes, holds, holders, counted, typeVersion, valueVersion, startsWith, contains, builtin, escapedByte, escaped}
@@ -32,15 +32,18 @@ use Rattle.btf_open_causes.specs.loops.Graph.{long, hasLoop}
 use Rattle.btf_open_causes.specs.loops.Loops.{degOf, degAt}
 use Rattle.btf_open_causes.specs.prototypes.Track.{chase, leadsTo}
 use Rattle.btf_open_causes.specs.prototypes.Prototypes.{whatOf, nextOf, asksAt, asksOf, asker, anyLeads}
-use Rattle.btf_open_causes.specs.header.Header.{stringsAt, btfOf}
+use Rattle.btf_open_causes.specs.header.Header.{btfOf}
 use Rattle.spec_opening.specs.Table.{typesOf, enumeratorsOf, recordPlace, recordKind, emptyIndex, indexFor, indexOf}
+use Rattle.spec_opening.specs.Described.{typeList}
 use Rattle.spec_opening.specs.Causes.{cause1, cause2, cause3, cause4, cause5, cause6, cause7, cause8, cause9, tableOf, firstOf, openingNumber}
 use Rattle.spec_type_table.specs.Documented.{kept}
 use Rattle.spec_type_table.specs.Names.{upToZero, nameAt}
 use Rattle.spec_c_dumper.specs.rules.Samples as rules
 use Rattle.btfdump_run.specs.printed.Printed.{refusedLine}
-use Rattle.proof_calls.specs.program.Claims.{number, typesIn}
-use Rattle.proof_calls.specs.program.Samples.{node, itself, Samples}
+use Rattle.proof_calls.specs.program.Claims.{number}
+use Rattle.spec_opening.specs.Samples.{node}
+use Rattle.spec_opening.proofs.Samples.{samples as described-samples}
+use Rattle.proof_calls.specs.program.Samples.{itself, Samples}
 use Rattle.proof_calls.proofs.program.Claims.{runs}
 
 allBelow : List ℕ → Bool
@@ -79,12 +82,8 @@ unfolding openingNumber firstOf cause1 cause2 cause3 headerSound bigEndian littl
 nothing-opens = refl
 
 -- their types are those of the samples, and the rules print the text
-node-types : typesIn node ≡ Void ∷ Int (ascii "int") 32 ∷ Composite true (ascii "node") 16 (rules.member "next" 3 0 ∷ rules.member "v" 1 64 ∷ []) ∷ Ptr 2 ∷ []
-unfolding kept btfOf typeArea bigEndian hdrLen typeOff typeLen strOff strLen stringArea word kind decodeAll decode places typesOf nameAt upToZero stringsAt wordOf wordIn wordAt
-node-types = refl
-
-itself-types : typesIn itself ≡ Void ∷ Composite true (ascii "s") 4 (rules.member "a" 1 0 ∷ []) ∷ []
-unfolding kept btfOf typeArea bigEndian hdrLen typeOff typeLen strOff strLen stringArea word kind decodeAll decode places typesOf nameAt upToZero stringsAt wordOf wordIn wordAt
+itself-types : typeList itself ≡ Void ∷ Composite true (ascii "s") 4 (rules.member "a" 1 0 ∷ []) ∷ []
+unfolding kept typeArea bigEndian hdrLen typeOff typeLen strOff strLen stringArea word kind decodeAll decode places nameAt upToZero wordIn wordAt
 itself-types = refl
 
 node-text : program rules.node ≡ ascii "struct node {\n\tstruct node *next;\n\tint v;\n};\n\n"
@@ -117,7 +116,7 @@ line-3 = refl
 
 pub samples : Samples
 samples = record {
-  of-node = λ work text ew et. runs node work text ew et .as-listed node-bytes node-opens ∙ ap (λ (l : List BtfType). program (listed 8 false l)) node-types ∙ node-text;
-  of-itself = λ work text ew et. runs itself work text ew et .as-listed itself-bytes itself-opens ∙ ap (λ (l : List BtfType). program (listed 8 false l)) itself-types ∙ itself-text;
+  of-node = λ work text ew et. runs node work text ew et .described node-bytes node-opens ∙ ap (λ (l : List BtfType). program (listed 8 false l)) (described-samples .node-types) ∙ node-text;
+  of-itself = λ work text ew et. runs itself work text ew et .described itself-bytes itself-opens ∙ ap (λ (l : List BtfType). program (listed 8 false l)) itself-types ∙ itself-text;
   of-nothing = λ work text ew et. runs [] work text ew et .not-opened 2 nothing-opens ∙ line-3;
 }

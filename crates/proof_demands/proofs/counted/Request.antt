@@ -42,7 +42,7 @@ use Rattle.proof_demands.specs.alignment_memory.Work.{Sane}
 use Rattle.proof_demands.specs.demands.Sheet.{Bears, Shows}
 use Rattle.proof_demands.proofs.demands.Start.{start-step}
 use Rattle.proof_demands.proofs.demands.Request.{Related, alike-store, alike-steps, list-same}
-use Rattle.proof_demands.proofs.demands.Emission.{AlikeSteps, eeach-alike, emit-alike}
+use Rattle.spec_c_dumper.proofs.needs.Emission.{AlikeSteps, eeach-alike, emit-alike}
 use Rattle.proof_demands.proofs.counted.Lines.{Pair, recall-moved, definition-pair, forward-pair}
 
 -- the order list, emptied, has no word 15

@@ -88,7 +88,7 @@ module _ (p modes : ℕ) (s : List ℕ) (n : ℕ) (ok : openingNumber p s n ≡ 
   count-is = types-are p modes s n ok
 
   -- type id is what the documentation describes there, as the Rust's `load_type` keeps it
-  pub type-described : Bytes s → (id : ℕ) → 1 ≤ id → id < typesOf s → (d : Described) → openedTable p modes s n .type-by-id id ≡ kept b s (getD (describedIn s) (id - 1) d)
+  pub type-described : Bytes s → (id : ℕ) → 1 ≤ id → id < typesOf s → (d : Described) → openedTable p modes s n .type-by-id id ≡ kept (b .strs) s (getD (describedIn s) (id - 1) d)
   unfolding btfOf recordPlace typesOf
   type-described y id a l d =
       ap (typeOf b s) (record-back p modes s n ok id a l)

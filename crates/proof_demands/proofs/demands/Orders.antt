@@ -72,23 +72,23 @@ other-magic s e f = rw (e, f) (none (leb 24 (length s)))
 -- A described type, as the Rust keeps it, depends on the section by its names alone
 
 module _ (b c : TypeTable) (s u : List ℕ) (same : (off : ℕ) → strAt b s off ≡ strAt c u off) where
-  members-same : (ms : List Member) → keptMembers b s ms ≡ keptMembers c u ms
+  members-same : (ms : List Member) → keptMembers (b .strs) s ms ≡ keptMembers (c .strs) u ms
   members-same [] = refl
   members-same (member n t o z ∷ ms) = λ i. record { name = same n i; type-id = t; bit-offset = o; bit-size = z } ∷ members-same ms i
 
-  params-same : (ps : List Param) → keptParams b s ps ≡ keptParams c u ps
+  params-same : (ps : List Param) → keptParams (b .strs) s ps ≡ keptParams (c .strs) u ps
   params-same [] = refl
   params-same (param n t ∷ ps) = λ i. record { name = same n i; type-id = t } ∷ params-same ps i
 
-  values-same : (vs : List Enumerator) → keptValues b s vs ≡ keptValues c u vs
+  values-same : (vs : List Enumerator) → keptValues (b .strs) s vs ≡ keptValues (c .strs) u vs
   values-same [] = refl
   values-same (enumerator n v ∷ vs) = λ i. record { name = same n i; value = v } ∷ values-same vs i
 
-  values64-same : (vs : List Enumerator64) → keptValues64 b s vs ≡ keptValues64 c u vs
+  values64-same : (vs : List Enumerator64) → keptValues64 (b .strs) s vs ≡ keptValues64 (c .strs) u vs
   values64-same [] = refl
   values64-same (enumerator64 n lo hi ∷ vs) = λ i. record { name = same n i; value = hi * 4294967296 + lo } ∷ values64-same vs i
 
-  kept-same : (t : Described) → kept b s t ≡ kept c u t
+  kept-same : (t : Described) → kept (b .strs) s t ≡ kept (c .strs) u t
   unfolding kept
   kept-same (described n f z (int v bits x o e y)) = λ i. Int (same n i) bits
   kept-same (described n f z (ptr v)) = refl
@@ -240,7 +240,7 @@ module _ (pointer modes n flags : ℕ) (ts : List Described) (strings : List ℕ
       inside l =
           type-described pointer modes u n ok (section-bytes true flags ts strings y) (suc id) (omega arith) l d
           ∙ kept-same (headerOf pointer modes u) (headerOf pointer modes v) u v names-same (getD (describedIn u) (suc id - 1) d)
-          ∙ ap (λ (l : List Described). kept (headerOf pointer modes v) v (getD l (suc id - 1) d)) described-same
+          ∙ ap (λ (l : List Described). kept (headerOf pointer modes v .strs) v (getD l (suc id - 1) d)) described-same
           ∙ sym (type-described pointer modes v n ok′ (section-bytes false flags ts strings y) (suc id) (omega arith) (omega (arith, count-same)) d)
 
   pub tags-same : (id : ℕ) → id < typesOf u → openedTable pointer modes u n .decl-tags id ≡ openedTable pointer modes v n .decl-tags id

@@ -35,7 +35,7 @@ use Rattle.proof_demands.specs.demands.Sheet.{Bears, Shows, BothLine, li
 use Rattle.proof_demands.proofs.demands.Steps.{mark-step, emark-step, forwarded-step, listed-few, push-step}
 use Rattle.proof_demands.proofs.demands.Start.{start-step}
 use Rattle.proof_demands.proofs.demands.Lines.{body-line, leaf-line, forward-line, alias-line}
-use Rattle.proof_demands.proofs.demands.Emission.{AlikeSteps, eeach-alike, emit-alike}
+use Rattle.spec_c_dumper.proofs.needs.Emission.{AlikeSteps, eeach-alike, emit-alike}
 
 -- the order list, emptied
 emptied-long : (k : ℕ) (v : List ℕ) → length (emptied k v) ≡ length v

@@ -23,7 +23,7 @@ module _ (pointer modes : ℕ) (s : List ℕ) (n : ℕ) where
   pub record Documents : Type 0 where
     pub count : openedTable pointer modes s n .type-cnt ≡ suc (length (describedIn s))
     pub zero-void : openedTable pointer modes s n .type-by-id 0 ≡ Void
-    pub type : (id : ℕ) → 1 ≤ id → id < typesOf s → (d : Described) → openedTable pointer modes s n .type-by-id id ≡ kept (headerOf pointer modes s) s (getD (describedIn s) (id - 1) d)
+    pub type : (id : ℕ) → 1 ≤ id → id < typesOf s → (d : Described) → openedTable pointer modes s n .type-by-id id ≡ kept (headerOf pointer modes s .strs) s (getD (describedIn s) (id - 1) d)
     pub past-void : (id : ℕ) → typesOf s ≤ id → openedTable pointer modes s n .type-by-id id ≡ Void
     pub tags : (id : ℕ) → id < typesOf s → openedTable pointer modes s n .decl-tags id ≡ tagIds (openedTable pointer modes s n .type-by-id) id 1 (typesOf s - 1)
 

@@ -10,6 +10,7 @@ use Rattle.spec_linux_btf.specs.Section.{bigEndian, wordOf}
 use Rattle.spec_c_dumper.specs.rules.Types.{BtfType, Void}
 use Rattle.spec_c_dumper.specs.rules.Listed.{listed}
 use Rattle.spec_c_dumper.specs.needs.Session.{program}
+use Rattle.spec_type_table.specs.declared.types.TypeTable.{TypeTable}
 use Rattle.spec_type_table.specs.declared.types.Extra.the-variants.{Bytes, Refused}
 use Rattle.spec_type_table.specs.Records.{vlenOf, kindOf, extraOf, recordAt}
 use Rattle.spec_type_table.specs.Table.{typeOf}
@@ -25,7 +26,7 @@ pairs (a ∷ []) = []
 pairs (a ∷ b ∷ l) = (digit a * 16 + digit b) ∷ pairs l
 
 -- the records from a place on: n at most
-unfoldable pub typesFrom : Btf → List ℕ → ℕ → ℕ → ℕ → List BtfType
+unfoldable pub typesFrom : TypeTable → List ℕ → ℕ → ℕ → ℕ → List BtfType
 typesFrom b s end zero at = []
 typesFrom b s end (suc n) at =
     let r = recordAt b s at in

@@ -22,7 +22,7 @@ use Rattle.spec_opening.proofs.ReadBack.{header-ok, types-ok, section-short, or
 use Rattle.proof_demands.specs.demands.Table.{headerOf, openedTable}
 use Rattle.proof_demands.proofs.demands.Described.{type-zero}
 use Rattle.proof_demands.proofs.demands.Sound.{opened-wf}
-use Rattle.proof_names_apart.specs.names_apart.Apart.{valueNames, tagsIn, identsIn, namesTo, FewNames}
+use Rattle.spec_c_dumper.specs.names_apart.Apart.{valueNames, tagsIn, identsIn, namesTo, FewNames}
 use Rattle.proof_names_apart.proofs.names_apart.Claims.{names-cannot-collide}
 use Rattle.proof_names_apart.proofs.names_apart.Tables.{table-ends}
 use Rattle.proof_names_apart.specs.few_names.Claims.{Claim}

@@ -21,7 +21,7 @@ use Rattle.spec_c_dumper.specs.needs.Session.{Known, fitting, lineOf, linesBy, 
 use Rattle.spec_c_dumper.proofs.needs.Lists.{Sized}
 use Rattle.spec_c_dumper.proofs.needs.Session.{machine-lawful}
 use Rattle.spec_c_dumper.proofs.needs.Alike.{AlikeMachine, BothOut, both-wrote, both-stuck, BothSess, serve-alike}
-use Rattle.proof_names_apart.specs.names_apart.Apart.{Apart, apart, noneShown, afterAll, namesAfter, AllApart, Enough, Ends, FewNames}
+use Rattle.spec_c_dumper.specs.names_apart.Apart.{Apart, apart, noneShown, afterAll, namesAfter, AllApart, Enough, Ends, FewNames}
 use Rattle.proof_names_apart.proofs.names_apart.Lengths.{Spent, S, s-definition, s-forward}
 use Rattle.proof_names_apart.proofs.names_apart.Session.{names-stay-apart}
 

@@ -12,7 +12,7 @@ use Rattle.spec_bytes.specs.words.Words.{oneMore, pick}
 use Rattle.spec_c_dumper.specs.rules.Types.{Name, BtfType, Void, Int, Ptr, Array, Composite, Enum, Enum64, Fwd, Typedef, Mod, Func, Var, Datasec, FuncProto, Float, DeclTag, TypeTag, Btf, nameOf}
 use Rattle.spec_c_dumper.specs.rules.Names.{Space, tagSpace, identSpace, Names, Holder, spelled, sameSpace, sameBytes, holders, counted}
 use Rattle.proof_demands.proofs.name_counts.Holders.{count-here, count-there}
-use Rattle.proof_names_apart.specs.names_apart.Apart.{tableNames, Who, ofType, ofValue, Shown, Apart, spellingsIn, among, taken, passing, numberFor, OneType, Alone, AllApart, Enough}
+use Rattle.spec_c_dumper.specs.names_apart.Apart.{tableNames, Who, ofType, ofValue, Shown, Apart, spellingsIn, among, taken, passing, numberFor, OneType, Alone, AllApart, Enough}
 use Rattle.proof_names_apart.proofs.names_apart.Laws.{bytes-same, bytes-self, not-among, spelling-in, fewer, spelled-first, more-is, ends-free}
 
 -- ---- one more holder

@@ -15,7 +15,7 @@ use Rattle.spec_bytes.specs.text.Decimal.{decimal}
 use Rattle.spec_bytes.proofs.text.Digits.{horner, decimal-is}
 use Rattle.spec_c_dumper.specs.rules.Types.{Name}
 use Rattle.spec_c_dumper.specs.rules.Names.{Space, tagSpace, identSpace, sameSpace, sameBytes, spelled}
-use Rattle.proof_names_apart.specs.names_apart.Apart.{Shown, among, passing, spellingsIn}
+use Rattle.spec_c_dumper.specs.names_apart.Apart.{Shown, among, passing, spellingsIn}
 
 pub space-self : (x : Space) → sameSpace x x ≡ true
 space-self tagSpace = refl

@@ -15,7 +15,7 @@ use Rattle.spec_c_dumper.specs.rules.Placing.{bodyPacked, tailPads}
 use Rattle.spec_c_dumper.specs.rules.Names.{Space, tagSpace, identSpace, Resolved, resolving, spelled, resolveTypeName, resolveName, builtin, counted}
 use Rattle.spec_c_dumper.specs.rules.Decl.{deeper, enumValue, enum64Value, Entry, base, star, qual, array, proto, tag, chainOf, noMods, isArray, noParams, shownParams, emitCompositeFwd, emitFwdDef, enumWord, emitValues, enumBody, emitEnumDef, emitName, parens, emitParam, emitParams, baseWord, emitArray, emitProto, paramList, chainLoop, emitMembers, compositeHead, compositeEnd, compositeBody, compositeDef, emitTypeDecl, emitTypeChain, emitCompositeDef, emitTypedefDef}
 use Rattle.spec_c_dumper.specs.rules.Emit.{definition, shown, forward}
-use Rattle.proof_names_apart.specs.names_apart.Apart.{ofType, Apart, numberFor, shown as shownIn, typeApart, valueApart, apart}
+use Rattle.spec_c_dumper.specs.names_apart.Apart.{ofType, Apart, numberFor, shown as shownIn, typeApart, valueApart, apart}
 
 -- the names printed, and k bytes more, are no more than those printed before and the bytes of the text
 abbrev pub Spent : ℕ → Apart → Said Apart → Type 0

@@ -25,7 +25,7 @@ use Rattle.spec_c_dumper.proofs.needs.Lists.{Sized}
 use Rattle.spec_c_dumper.proofs.needs.Session.{machine-lawful, by-demand3}
 use Rattle.spec_c_dumper.proofs.needs.Alike.{BothSess, serve-alike}
 use Rattle.spec_c_dumper.proofs.needs.AnyNames.{Nearly, names-alike}
-use Rattle.proof_names_apart.specs.names_apart.Apart.{valueNames, namesIn, namesTo, tableNames, Who, ofType, ofValue, Shown, Apart, numberFor, shown, typeApart, valueApart, apart, noneShown, afterAll, namesAfter, OneType, Alone, AllApart, Earlier, Enough, Ends}
+use Rattle.spec_c_dumper.specs.names_apart.Apart.{valueNames, namesIn, namesTo, tableNames, Who, ofType, ofValue, Shown, Apart, numberFor, shown, typeApart, valueApart, apart, noneShown, afterAll, namesAfter, OneType, Alone, AllApart, Earlier, Enough, Ends}
 use Rattle.proof_names_apart.proofs.names_apart.Fair.{spaceOf, spaceIn, entry, own, Fair, picked, again-fair, new-fair}
 
 -- ---- the names of the records are names of the table

@@ -8,7 +8,7 @@ use Rattle.spec_type_table.specs.declared.types.TypeTable.{TypeTable}
 use Rattle.spec_type_table.specs.Records.{voidRecord, recordById}
 use Rattle.spec_type_table.specs.Table.{btfOf, typeOf}
 use Rattle.spec_type_table.proofs.Laws.{void-past, void-zero}
-use Rattle.proof_names_apart.specs.names_apart.Apart.{Ends}
+use Rattle.spec_c_dumper.specs.names_apart.Apart.{Ends}
 
 void-type : (b : TypeTable) (s : List ℕ) → typeOf b s voidRecord ≡ Void
 unfolding typeOf voidRecord

@@ -19,7 +19,7 @@ use Rattle.proof_demands.specs.demands.Table.{headerOf, openedTable, namesIn}
 use Rattle.proof_demands.specs.demands.Session.{After, after-open, after-one, after-all, after-list}
 use Rattle.proof_demands.proofs.demands.Sound.{opened-wf}
 use Rattle.proof_demands.proofs.demands.Demands.{open-number, delivered}
-use Rattle.proof_names_apart.specs.names_apart.Apart.{apart, noneShown}
+use Rattle.spec_c_dumper.specs.names_apart.Apart.{apart, noneShown}
 use Rattle.proof_names_apart.proofs.names_apart.Tables.{table-ends}
 use Rattle.proof_names_apart.proofs.passed_numbers.Passed.{lists-alike}
 use Rattle.proof_names_apart.proofs.few_names.Few.{opened}

@@ -23,7 +23,7 @@ use Rattle.btf_open_names.proofs.name_classes.Keys.{space-high}
 use Rattle.proof_demands.specs.name_counts.Indexed.{number, valuePlace, Fits, FitsValue, Holds, Indexed}
 use Rattle.proof_demands.proofs.name_counts.Keys.{record-there, type-holds, value-holds}
 use Rattle.proof_demands.proofs.name_counts.Table.{fits-table}
-use Rattle.proof_names_apart.specs.names_apart.Apart.{valueNames, tagsIn, identsIn, namesIn, namesTo, tableNames}
+use Rattle.spec_c_dumper.specs.names_apart.Apart.{valueNames, tagsIn, identsIn, namesIn, namesTo, tableNames}
 
 -- ---- a name of the table is that of a holder
 module _ (b : TypeTable) (e : ℕ) (s w : List ℕ) (I : Indexed b e s w) where

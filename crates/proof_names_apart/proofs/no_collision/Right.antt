@@ -40,7 +40,7 @@ use Rattle.proof_demands.proofs.name_counts.Classed.{keys-stay}
 use Rattle.proof_demands.proofs.name_counts.Lists.{lists-are}
 use Rattle.proof_demands.specs.demands.Table.{headerOf, openedTable}
 use Rattle.proof_demands.proofs.demands.Named.{opened-indexed}
-use Rattle.proof_names_apart.specs.names_apart.Apart.{tableNames}
+use Rattle.spec_c_dumper.specs.names_apart.Apart.{tableNames}
 use Rattle.proof_names_apart.proofs.few_names.Few.{values-are}
 use Rattle.proof_names_apart.specs.passed_numbers.Passed.{Right}
 use Rattle.btf_open_names.specs.numbers.Lists.{Distinct}

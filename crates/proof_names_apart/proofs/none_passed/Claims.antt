@@ -10,7 +10,7 @@ use Rattle.spec_c_dumper.specs.needs.Needs.{WF}
 use Rattle.spec_c_dumper.specs.needs.Lists.{Lines, Ls}
 use Rattle.spec_c_dumper.specs.needs.Session.{Known, linesBy, answerOf, dumped, noNames, dumpTypes}
 use Rattle.spec_c_dumper.proofs.needs.AnyNames.{dumps-alike}
-use Rattle.proof_names_apart.specs.names_apart.Apart.{Apart, apart, noneShown, dumpApart}
+use Rattle.spec_c_dumper.specs.names_apart.Apart.{Apart, apart, noneShown, dumpApart}
 use Rattle.proof_names_apart.specs.none_passed.Watched.{Watched, watched, linesWatched, answerWatched, dumpedWatched, NeverOver, noneWatched, openedWatched, dumpWatched, PassesNone}
 use Rattle.proof_names_apart.specs.none_passed.Claims.{Claim}
 use Rattle.proof_names_apart.proofs.none_passed.Stops.{AnswerUp, single-up, every-up}

@@ -10,7 +10,7 @@ use lib.Dec.{eqb}
 use Rattle.spec_bytes.specs.words.Words.{oneMore}
 use Rattle.spec_c_dumper.specs.rules.Types.{Name, Btf}
 use Rattle.spec_c_dumper.specs.rules.Names.{Space, spelled, holders}
-use Rattle.proof_names_apart.specs.names_apart.Apart.{Apart, among, taken, passing, numberFor}
+use Rattle.spec_c_dumper.specs.names_apart.Apart.{Apart, among, taken, passing, numberFor}
 use Rattle.proof_names_apart.proofs.names_apart.Laws.{more-is}
 use Rattle.proof_names_apart.proofs.names_apart.Fair.{more-least}
 use Rattle.proof_names_apart.specs.none_passed.Watched.{passesOver}

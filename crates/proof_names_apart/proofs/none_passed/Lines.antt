@@ -18,7 +18,7 @@ use Rattle.spec_c_dumper.proofs.rules.Closed.{ValuesFit, TypeFits, Closed, r-de
 use Rattle.spec_c_dumper.proofs.rules.Related.{RelResolved, RelNaming}
 use Rattle.spec_c_dumper.specs.needs.Lists.{Line, cannot}
 use Rattle.spec_c_dumper.specs.needs.Session.{Known, lineOf, linesBy}
-use Rattle.proof_names_apart.specs.names_apart.Apart.{ofType, ofValue, Apart, among, taken, numberFor, shown, typeApart, valueApart, apart}
+use Rattle.spec_c_dumper.specs.names_apart.Apart.{ofType, ofValue, Apart, among, taken, numberFor, shown, typeApart, valueApart, apart}
 use Rattle.proof_names_apart.proofs.names_apart.Alike.{not-passed, more-first}
 use Rattle.proof_names_apart.specs.none_passed.Watched.{passesOver, Watched, typeWatched, valueWatched, watched, passedOver, lineWatched, linesWatched}
 use Rattle.proof_names_apart.proofs.none_passed.Stops.{LineUp, LinesUp}

@@ -15,7 +15,7 @@ use Rattle.spec_c_dumper.specs.rules.Emit.{definition, shown, forward}
 use Rattle.spec_c_dumper.specs.rules.Listed.{tagsId, tagsFrom}
 use Rattle.spec_c_dumper.specs.needs.Lists.{tagsOf, afresh}
 use Rattle.spec_c_dumper.specs.needs.Session.{fitting, lineOf, textOf, answerOf, dumped, printed, program}
-use Rattle.proof_names_apart.specs.names_apart.Apart.{namesTo, spellingsIn, among, passing, numberFor, typeApart, valueApart}
+use Rattle.spec_c_dumper.specs.names_apart.Apart.{namesTo, spellingsIn, among, passing, numberFor, typeApart, valueApart}
 use Rattle.proof_names_apart.specs.none_passed.Watched.{passesOver, typeWatched, valueWatched, lineWatched, answerWatched, dumpedWatched}
 use Rattle.proof_names_apart.specs.none_passed.Samples.{seen, wanted}
 

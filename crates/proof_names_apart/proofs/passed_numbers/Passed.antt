@@ -19,7 +19,7 @@ use Rattle.spec_c_dumper.specs.needs.Needs.{WF}
 use Rattle.spec_c_dumper.specs.needs.Session.{noNames}
 use Rattle.spec_c_dumper.proofs.needs.AnyNames.{dumps-alike}
 use Rattle.proof_demands.proofs.name_counts.Holders.{count-here, count-there}
-use Rattle.proof_names_apart.specs.names_apart.Apart.{tableNames, Who, ofType, ofValue, Shown, Apart, spellingsIn, among, taken, passing, numberFor, shown, typeApart, valueApart, apart, noneShown, dumpApart, Ends}
+use Rattle.spec_c_dumper.specs.names_apart.Apart.{tableNames, Who, ofType, ofValue, Shown, Apart, spellingsIn, among, taken, passing, numberFor, shown, typeApart, valueApart, apart, noneShown, dumpApart, Ends}
 use Rattle.proof_names_apart.proofs.names_apart.Laws.{mem-among, spelling-in, spelled-first, more-is}
 use Rattle.proof_names_apart.proofs.names_apart.Splits.{splits-once}
 use Rattle.proof_names_apart.proofs.names_apart.Fair.{more-some, more-most, same-or-not, grows, spaceOf, entry, own}

@@ -11,7 +11,7 @@ use Rattle.spec_bytes.specs.words.Words.{oneMore}
 use Rattle.spec_bytes.proofs.words.Laws.{le-or-lt}
 use Rattle.spec_c_dumper.specs.rules.Types.{Name}
 use Rattle.spec_c_dumper.specs.rules.Names.{spelled}
-use Rattle.proof_names_apart.specs.names_apart.Apart.{among, passing}
+use Rattle.spec_c_dumper.specs.names_apart.Apart.{among, passing}
 use Rattle.proof_names_apart.proofs.names_apart.Laws.{bytes-other, cut-out, suffix-one, more-is}
 use Rattle.proof_names_apart.proofs.names_apart.Fair.{more-most, more-least}
 use Rattle.proof_names_apart.proofs.names_apart.Alike.{more-stuck}

@@ -24,7 +24,7 @@ use Rattle.proof_demands.specs.demands.Session.{After, after-open, after-one, a
 use Rattle.proof_demands.specs.demands.Demands.{Lent, typesIn, ruled, Demand2}
 use Rattle.proof_demands.proofs.demands.Sound.{opened-wf}
 use Rattle.proof_demands.proofs.demands.Demands.{open-number, delivered}
-use Rattle.proof_names_apart.specs.names_apart.Apart.{dumpApart}
+use Rattle.spec_c_dumper.specs.names_apart.Apart.{dumpApart}
 use Rattle.proof_names_apart.proofs.names_apart.Tables.{table-ends}
 use Rattle.proof_names_apart.proofs.passed_numbers.Passed.{lists-alike}
 use Rattle.proof_names_apart.proofs.no_collision.Right.{lists-right}
@@ -41,14 +41,14 @@ after-sound p modes s n (after-all c rs a text f same) = after-sound p modes s n
 after-sound p modes s n (after-list c rs a text f same ids) = after-sound p modes s n a
 
 -- ---- what a dump says: the text, and the number of the last request
-textIn : Dump → List ℕ
+pub textIn : Dump → List ℕ
 textIn (dump ns t) = t
 
 last : ℕ → List (ℕ × ℕ) → ℕ
 last m [] = m
 last m (n ∷ ns) = last (n .0) ns
 
-lastIn : Dump → ℕ
+pub lastIn : Dump → ℕ
 lastIn (dump ns t) = last 0 ns
 
 last-more : (m : ℕ) (ns : List (ℕ × ℕ)) (n : ℕ × ℕ) → last m (ns ++ (n ∷ [])) ≡ n .0
@@ -57,7 +57,7 @@ last-more m [] n = refl
 last-more m (k ∷ ns) n = last-more (k .0) ns n
 
 module _ {U : Type 0} (N : Naming U) (B : Btf) where
-  abbrev served : List Req → Sess (Ls (Known U)) → Sess (Ls (Known U))
+  abbrev pub served : List Req → Sess (Ls (Known U)) → Sess (Ls (Known U))
   served rs S = run (machineBy N B) (tableOf B) rs S
 
   answers : (S : Sess (Ls (Known U))) (r : Req) → answerOf N B S r .sess ≡ serve (machineBy N B) (tableOf B) S r
@@ -65,7 +65,7 @@ module _ {U : Type 0} (N : Naming U) (B : Btf) where
   answers S (one room x) = refl
   answers S (all room) = refl
 
-  dump-text : (rs : List Req) (ns : List (ℕ × ℕ)) (S : Sess (Ls (Known U))) → textIn (dumped N B ns rs S) ≡ textOf (served rs S .mach .pieces)
+  pub dump-text : (rs : List Req) (ns : List (ℕ × ℕ)) (S : Sess (Ls (Known U))) → textIn (dumped N B ns rs S) ≡ textOf (served rs S .mach .pieces)
   unfolding dumped run textIn
   dump-text [] ns S = refl
   dump-text (r ∷ rs) ns S =
@@ -73,14 +73,14 @@ module _ {U : Type 0} (N : Naming U) (B : Btf) where
       ∙ ap (λ (x : Sess (Ls (Known U))). textOf (served rs x .mach .pieces)) (answers S r)
 
   -- the last request
-  last-text : (r : Req) (rs : List Req) (ns : List (ℕ × ℕ)) (S : Sess (Ls (Known U))) → textIn (dumped N B ns (rs ++ (r ∷ [])) S) ≡ textOf (answerOf N B (served rs S) r .sess .mach .pieces)
+  pub last-text : (r : Req) (rs : List Req) (ns : List (ℕ × ℕ)) (S : Sess (Ls (Known U))) → textIn (dumped N B ns (rs ++ (r ∷ [])) S) ≡ textOf (answerOf N B (served rs S) r .sess .mach .pieces)
   unfolding dumped run textIn
   last-text r [] ns S = refl
   last-text r (q ∷ rs) ns S =
       last-text r rs (ns ++ ((answerOf N B S q .number, answerOf N B S q .sess .mach .known .text-len) ∷ [])) (answerOf N B S q .sess)
       ∙ ap (λ (x : Sess (Ls (Known U))). textOf (answerOf N B (served rs x) r .sess .mach .pieces)) (answers S q)
 
-  last-number : (r : Req) (rs : List Req) (ns : List (ℕ × ℕ)) (S : Sess (Ls (Known U))) → lastIn (dumped N B ns (rs ++ (r ∷ [])) S) ≡ answerOf N B (served rs S) r .number
+  pub last-number : (r : Req) (rs : List Req) (ns : List (ℕ × ℕ)) (S : Sess (Ls (Known U))) → lastIn (dumped N B ns (rs ++ (r ∷ [])) S) ≡ answerOf N B (served rs S) r .number
   unfolding dumped run lastIn
   last-number r [] ns S = last-more 0 ns (answerOf N B S r .number, answerOf N B S r .sess .mach .known .text-len)
   last-number r (q ∷ rs) ns S =

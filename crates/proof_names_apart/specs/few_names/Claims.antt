@@ -4,7 +4,7 @@ use mathlib.Core.Path.{_≡_}
 use mathlib.Core.List.{List}
 use Rattle.spec_opening.specs.Causes.{openingNumber}
 use Rattle.proof_demands.specs.demands.Table.{openedTable}
-use Rattle.proof_names_apart.specs.names_apart.Apart.{FewNames}
+use Rattle.spec_c_dumper.specs.names_apart.Apart.{FewNames}
 use Rattle.proof_names_apart.specs.names_apart.Claims.{NamesApart}
 
 -- p: pointer size; n: length of the work

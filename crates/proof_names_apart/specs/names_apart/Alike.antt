@@ -5,7 +5,7 @@ use Rattle.spec_bytes.specs.text.Text.{ascii}
 use Rattle.spec_bytes.specs.text.Decimal.{decimal}
 use Rattle.spec_c_dumper.specs.rules.Types.{Name, Btf}
 use Rattle.spec_c_dumper.specs.rules.Names.{Space}
-use Rattle.proof_names_apart.specs.names_apart.Apart.{tableNames}
+use Rattle.spec_c_dumper.specs.names_apart.Apart.{tableNames}
 
 -- no name of the table is another name of its space with three underscores and a number from 2 on
 abbrev pub Suffixless : Btf → Type 0

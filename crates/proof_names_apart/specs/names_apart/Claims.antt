@@ -9,7 +9,7 @@ use Rattle.spec_c_dumper.specs.rules.Names.{identSpace}
 use Rattle.spec_c_dumper.specs.needs.Needs.{WF}
 use Rattle.spec_c_dumper.specs.needs.Demand.{Demand3}
 use Rattle.spec_c_dumper.specs.needs.Session.{machineBy, dumpTypes}
-use Rattle.proof_names_apart.specs.names_apart.Apart.{ofType, ofValue, Shown, apart, dumpApart, afterAll, namesAfter, AllApart, Earlier, Ends, FewNames}
+use Rattle.spec_c_dumper.specs.names_apart.Apart.{ofType, ofValue, Shown, apart, dumpApart, afterAll, namesAfter, AllApart, Earlier, Ends, FewNames}
 use Rattle.proof_names_apart.specs.names_apart.Alike.{Suffixless}
 
 -- b and a: two names that were printed for the requests rs, b first. Nameless types print none; nameless enumerators are not excepted here.

@@ -10,7 +10,7 @@ use Rattle.spec_session.specs.session.Turns.{Call}
 use Rattle.spec_c_dumper.specs.needs.Session.{textOf, dumpTypes}
 use Rattle.proof_demands.specs.demands.Table.{openedTable}
 use Rattle.proof_demands.specs.demands.Session.{After}
-use Rattle.proof_names_apart.specs.names_apart.Apart.{Shown, dumpApart, afterAll, namesAfter, AllApart, Earlier}
+use Rattle.spec_c_dumper.specs.names_apart.Apart.{Shown, dumpApart, afterAll, namesAfter, AllApart, Earlier}
 use Rattle.proof_names_apart.specs.names_apart.Alike.{Suffixless}
 use Rattle.proof_names_apart.specs.names_apart.Claims.{NoShared}
 

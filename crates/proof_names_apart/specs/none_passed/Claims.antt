@@ -11,7 +11,7 @@ use Rattle.spec_c_dumper.specs.rules.Types.{Name, Btf, tableOf}
 use Rattle.spec_c_dumper.specs.rules.Names.{Space, holders}
 use Rattle.spec_c_dumper.specs.needs.Needs.{WF}
 use Rattle.spec_c_dumper.specs.needs.Session.{dumpTypes}
-use Rattle.proof_names_apart.specs.names_apart.Apart.{Apart, numberFor, dumpApart}
+use Rattle.spec_c_dumper.specs.names_apart.Apart.{Apart, numberFor, dumpApart}
 use Rattle.proof_names_apart.specs.none_passed.Watched.{passesOver, dumpWatched, PassesNone}
 
 -- a number is passed over exactly if the one that the new mode takes is not the one that the old mode takes, short of the end of 32 bits

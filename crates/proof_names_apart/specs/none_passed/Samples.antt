@@ -3,7 +3,7 @@ use Prim.Native.Nat.{ℕ}
 use mathlib.Core.List.{List, [], _∷_}
 use Rattle.spec_c_dumper.specs.rules.Machine.{Req, one, all}
 use Rattle.spec_c_dumper.specs.needs.Session.{Dump, dump}
-use Rattle.proof_names_apart.specs.names_apart.Samples.{twice}
+use Rattle.spec_c_dumper.specs.names_apart.Samples.{twice}
 use Rattle.proof_names_apart.specs.none_passed.Watched.{passedOver, dumpWatched}
 
 -- the numbers of a session

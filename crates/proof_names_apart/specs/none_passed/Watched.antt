@@ -15,7 +15,7 @@ use Rattle.spec_c_dumper.specs.rules.Names.{Space, identSpace, Resolved, Naming
 use Rattle.spec_c_dumper.specs.rules.Emit.{definition, forward}
 use Rattle.spec_c_dumper.specs.needs.Lists.{Line, cannot, Lines, Ls, listMachine}
 use Rattle.spec_c_dumper.specs.needs.Session.{Known, lineOf, textOf, Dump, dump, openedBy}
-use Rattle.proof_names_apart.specs.names_apart.Apart.{Apart, among, taken, typeApart, valueApart, noneShown}
+use Rattle.spec_c_dumper.specs.names_apart.Apart.{Apart, among, taken, typeApart, valueApart, noneShown}
 
 -- The first holder is bare and passes none over. A later one looks first at the number after the holders there are: if that one is free it is
 -- taken, and else it is passed over.

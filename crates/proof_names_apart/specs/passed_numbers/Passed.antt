@@ -8,7 +8,7 @@ use Rattle.spec_c_dumper.specs.rules.Machine.{Req}
 use Rattle.spec_c_dumper.specs.needs.Session.{Dump, openedBy, dumped, noNames}
 use Rattle.btf_open_names.specs.numbers.Lists.{Distinct, Suffixes}
 use Rattle.proof_demands.specs.name_counts.Passed.{Lists, passed}
-use Rattle.proof_names_apart.specs.names_apart.Apart.{tableNames}
+use Rattle.spec_c_dumper.specs.names_apart.Apart.{tableNames}
 
 abbrev pub dumpPassed : Lists → Btf → List Req → Dump
 dumpPassed T B rs = dumped (passed T) B [] rs (openedBy (passed T) B (noNames B))

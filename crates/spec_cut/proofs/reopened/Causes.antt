@@ -69,6 +69,13 @@ module _ (c : TypeTable) (s start : List ℕ) (ts : List Described) (old : Seen 
   pub references : GoodReferences ts
   references = record { below = λ x y h. omega (arith, below x y h, old .count); no-tags = untagged }
 
+-- a type through which a walk passes follows one id
+pub one-id : (b : TypeTable) (t u : List ℕ) (x : ℕ) → among through (kindAt b u x) ≡ true → followedCount b t u x ≡ 1
+unfolding followedCount countAt countFor among
+one-id b t u x e =
+    ap (λ (q : Bool). pick q 1 (pick (among (4 ∷ 5 ∷ []) (kindAt b u x)) (vlenOf (sectionWord b t (placeOf b u x + 4))) (pick (eqb (kindAt b u x) 13) (vlenOf (sectionWord b t (placeOf b u x + 4)) + 1) 0)))
+    (each (among targets) true through (kindAt b u x) (refl, (refl, (refl, (refl, (refl, (refl, tt)))))) e)
+
 -- the old table and the new one
 module _ (m : ℕ → Bool) (o : ℕ → ℕ) (ts : List Described) (c c′ : TypeTable) (s s′ start start′ : List ℕ) (old : Seen c s start ts) (new : Seen c′ s′ start′ (nts m o ts))
     (closed : (x : ℕ) → Stays m x → x ≤ length ts → (y : ℕ) → List·Memᴰ y (followedIds (typeOf ts x)) → Stays m y × (y ≤ length ts)) where
@@ -143,13 +150,6 @@ module _ (m : ℕ → Bool) (o : ℕ → ℕ) (ts : List Described) (c c′ : Ty
             followed = b .followed;
             bad = inr (ap (λ (z : ℕ). among refused (kindAt c start z)) (b .it) ∙ ap (among refused) (sym (kinds (b .y) (b .stays) (b .inside)) ∙ ap (kindAt c′ start′) (b .number)) ∙ q);
           })
-
-  -- a type through which a walk passes follows one id
-  one-id : (b : TypeTable) (t u : List ℕ) (x : ℕ) → among through (kindAt b u x) ≡ true → followedCount b t u x ≡ 1
-  unfolding followedCount countAt countFor among
-  one-id b t u x e =
-      ap (λ (q : Bool). pick q 1 (pick (among (4 ∷ 5 ∷ []) (kindAt b u x)) (vlenOf (sectionWord b t (placeOf b u x + 4))) (pick (eqb (kindAt b u x) 13) (vlenOf (sectionWord b t (placeOf b u x + 4)) + 1) 0)))
-      (each (among targets) true through (kindAt b u x) (refl, (refl, (refl, (refl, (refl, (refl, tt)))))) e)
 
   -- no cause 7
   to-old : (x : ℕ) → ToProto c′ s′ start′ x → x < countOf c′ → ToProto c s start (oldOf x)

@@ -3,7 +3,7 @@
 use Prim.Native.Nat.{ℕ, zero, suc, _+_, _-_, _*_, _<_, _≤_}
 use native.Mathlib.Omega.{arith}
 use mathlib.Core.Path.{_≡_, refl, sym, _∙_, ap, subst}
-use mathlib.Core.Bool.{Bool, true, false}
+use mathlib.Core.Bool.{Bool, true}
 use mathlib.Core.List.{List, [], _∷_, _++_, List·Memᴰ}
 use mathlib.Core.Logic.{_⊎_, inl, inr}
 use lib.ListN.{length, getD, replicate}
@@ -34,7 +34,6 @@ use Rattle.spec_cut.specs.section.Strings.{allMentions}
 use Rattle.spec_cut.specs.section.Test.{isKept}
 use Rattle.spec_cut.specs.section.Section.{typesOf, oldTypes, newTypes, newStrings, cutSection}
 use Rattle.spec_cut.specs.section.Stands.{Renumbered, no-requests, request}
-use Rattle.spec_cut.specs.section.Table as cut
 use Rattle.spec_cut.specs.section.Table.{Reads}
 use Rattle.spec_cut.proofs.section.Numbers.{Stays, is-void, is-kept}
 use Rattle.spec_cut.proofs.section.Written.{every-kept}
@@ -42,7 +41,7 @@ use Rattle.spec_cut.proofs.section.Steps.{BothAnswer}
 use Rattle.spec_cut.proofs.section.Sessions.{pieces-text}
 use Rattle.spec_cut.proofs.section.Test.{kept-tells}
 use Rattle.spec_cut.proofs.section.Claims as cut-claims
-use Rattle.proof_demands.specs.demands.Table as claims
+use Rattle.proof_demands.specs.demands.Table.{tagIds}
 use Rattle.proof_demands.specs.demands.Table.{headerOf, openedTable, namesIn}
 use Rattle.proof_demands.specs.demands.Claims.{Documents}
 use Rattle.proof_demands.specs.demands.Session as told
@@ -54,12 +53,6 @@ use Rattle.spec_cut.specs.reopened.Reopened.{OldNames, SameText, SameAns
 use Rattle.spec_cut.proofs.reopened.Accepts as accepts
 use Rattle.spec_cut.proofs.reopened.Strings.{all-below, area-length, name-in-area}
 
--- the tags of a table, in the words of crate cut and of crate claims
-tags-alike : (type : ℕ → BtfType) (id x n : ℕ) → claims.tagIds type id x n ≡ cut.tagIds type id x n
-unfolding claims.tagIds cut.tagIds
-tags-alike type id x zero = refl
-tags-alike type id x (suc n) = ap (λ (l : List ℕ). elim (cut.isTagFor id (type x)) as (λ z. List ℕ) [ true ↦ x ∷ l | false ↦ l ]) (tags-alike type id (suc x) n)
-
 -- the table of an accepted section is read from its types
 pub reads : (p modes : ℕ) (s : List ℕ) (n : ℕ) → openingNumber p s n ≡ 0 → Bytes s → Reads (openedTable p modes s n) (headerOf p modes s) s (typesOf s)
 unfolding opening.typesOf
@@ -69,14 +62,14 @@ reads p modes s n ok y = record {
   type = λ i l. let z : suc i - 1 ≡ i = omega arith in d .type (suc i) (omega arith) (omega (arith, l)) voidType ∙ ap (λ (k : ℕ). btf-type k) z;
   tags = λ id l.
       let z : suc (length (typesOf s)) - 1 ≡ length (typesOf s) = omega arith in
-      d .tags id l ∙ ap (claims.tagIds (openedTable p modes s n .type-by-id) id 1) z ∙ tags-alike (openedTable p modes s n .type-by-id) id 1 (length (typesOf s));
+      d .tags id l ∙ ap (tagIds (openedTable p modes s n .type-by-id) id 1) z;
 }
   where
     d : Documents p modes s n
     d = opened-documents p modes s n ok y
 
     btf-type : ℕ → BtfType
-    btf-type k = kept (headerOf p modes s) s (getD (typesOf s) k voidType)
+    btf-type k = kept (headerOf p modes s .strs) s (getD (typesOf s) k voidType)
 
 run-more : {M : Type 0} (X : Machine M) (T : Table) (rs : List Req) (r : Req) (L : Sess M) → run X T (rs ++ (r ∷ [])) L ≡ serve X T (run X T rs L) r
 unfolding run

@@ -1,5 +1,5 @@
 -- The table of the kept types, renamed, stands for the old table. Assumes nothing.
-use Prim.Native.Nat.{ℕ, zero, suc, _+_, _-_, _<_, _≤_}
+use Prim.Native.Nat.{ℕ, zero, suc, _+_, _<_, _≤_}
 use native.Mathlib.Omega.{arith}
 use mathlib.Core.Path.{_≡_, refl, sym, _∙_, ap, subst}
 use mathlib.Core.Bool.{Bool, true, false, _&&_, true≢false}
@@ -11,39 +11,41 @@ use Rattle.spec_linux_btf.specs.Documentation.{int, ptr, array, struct, union, 
 use Rattle.spec_c_dumper.specs.rules.Types.{BtfType, Void, Btf as Rules}
 use Rattle.spec_type_table.specs.declared.types.TypeTable.{TypeTable}
 use Rattle.spec_type_table.specs.Documented.{kept}
+use Rattle.proof_demands.specs.demands.Table.{isTagFor, tagIds}
 use Rattle.spec_cut.specs.section.Kept.{followedIds, voidType, typeOf, isDeclTag, third}
 use Rattle.spec_cut.specs.section.Renumbered.{keptTo, newId, keptTypes, renamed, renamedAll}
 use Rattle.spec_cut.specs.section.Strings.{mentions}
-use Rattle.spec_cut.specs.section.Table.{isTagFor, tagIds, Reads}
+use Rattle.spec_cut.specs.section.Table.{Reads}
 use Rattle.spec_cut.specs.section.Stands as S
 use Rattle.spec_cut.specs.section.Stands.{Each, none, more, Followed, Stands, NoTag, Tagged}
 use Rattle.spec_cut.proofs.section.Numbers.{kept-yes, kept-no, kept-up, new-zero, new-kept, new-dropped, Stays, is-void, is-kept, new-one, type-at, kept-length, new-below, renamed-at, renamed-length}
 use Rattle.spec_cut.proofs.section.Types.{SameNames, type-renamed}
 
-no-tag : (b : TypeTable) (s : List ℕ) (t : Described) → isDeclTag t ≡ false → NoTag (kept b s t)
+-- strings: the place of the names
+pub no-tag : (strings : ℕ) (s : List ℕ) (t : Described) → isDeclTag t ≡ false → NoTag (kept strings s t)
 unfolding kept
-no-tag b s (described n f z (int v a c d e g)) h = tt
-no-tag b s (described n f z (ptr v)) h = tt
-no-tag b s (described n f z (array v t i k)) h = tt
-no-tag b s (described n f z (struct ms)) h = tt
-no-tag b s (described n f z (union ms)) h = tt
-no-tag b s (described n f z (enum es)) h = tt
-no-tag b s (described n f z (fwd v)) h = tt
-no-tag b s (described n f z (typedef v)) h = tt
-no-tag b s (described n f z (volatile v)) h = tt
-no-tag b s (described n f z (const v)) h = tt
-no-tag b s (described n f z (restrict v)) h = tt
-no-tag b s (described n f z (func v)) h = tt
-no-tag b s (described n f z (func-proto ps)) h = tt
-no-tag b s (described n f z (var v l)) h = tt
-no-tag b s (described n f z (datasec ss)) h = tt
-no-tag b s (described n f z (float v)) h = tt
-no-tag b s (described n f z (decl-tag v c)) h = true≢false h
-no-tag b s (described n f z (type-tag v)) h = tt
-no-tag b s (described n f z (enum64 es)) h = tt
+no-tag strings s (described n f z (int v a c d e g)) h = tt
+no-tag strings s (described n f z (ptr v)) h = tt
+no-tag strings s (described n f z (array v t i k)) h = tt
+no-tag strings s (described n f z (struct ms)) h = tt
+no-tag strings s (described n f z (union ms)) h = tt
+no-tag strings s (described n f z (enum es)) h = tt
+no-tag strings s (described n f z (fwd v)) h = tt
+no-tag strings s (described n f z (typedef v)) h = tt
+no-tag strings s (described n f z (volatile v)) h = tt
+no-tag strings s (described n f z (const v)) h = tt
+no-tag strings s (described n f z (restrict v)) h = tt
+no-tag strings s (described n f z (func v)) h = tt
+no-tag strings s (described n f z (func-proto ps)) h = tt
+no-tag strings s (described n f z (var v l)) h = tt
+no-tag strings s (described n f z (datasec ss)) h = tt
+no-tag strings s (described n f z (float v)) h = tt
+no-tag strings s (described n f z (decl-tag v c)) h = true≢false h
+no-tag strings s (described n f z (type-tag v)) h = tt
+no-tag strings s (described n f z (enum64 es)) h = tt
 
 -- what prints its tags is no tag
-tagged-none : (b : TypeTable) (s : List ℕ) (t : Described) → Tagged (kept b s t) → isDeclTag t ≡ false
+tagged-none : (b : TypeTable) (s : List ℕ) (t : Described) → Tagged (kept (b .strs) s t) → isDeclTag t ≡ false
 unfolding kept
 tagged-none b s (described n f z (int v a c d e g)) h = absurd h
 tagged-none b s (described n f z (ptr v)) h = absurd h
@@ -65,7 +67,7 @@ tagged-none b s (described n f z (decl-tag v c)) h = absurd h
 tagged-none b s (described n f z (type-tag v)) h = absurd h
 tagged-none b s (described n f z (enum64 es)) h = absurd h
 
-tag-is : (b : TypeTable) (s : List ℕ) (id : ℕ) (t : Described) → isTagFor id (kept b s t) ≡ (isDeclTag t && eqb (third t) id)
+tag-is : (b : TypeTable) (s : List ℕ) (id : ℕ) (t : Described) → isTagFor id (kept (b .strs) s t) ≡ (isDeclTag t && eqb (third t) id)
 unfolding kept
 tag-is b s id (described n f z (int v a c d e g)) = refl
 tag-is b s id (described n f z (ptr v)) = refl
@@ -87,7 +89,7 @@ tag-is b s id (described n f z (decl-tag v c)) = refl
 tag-is b s id (described n f z (type-tag v)) = refl
 tag-is b s id (described n f z (enum64 es)) = refl
 
-new-tag-is : (b : TypeTable) (s : List ℕ) (i o : ℕ → ℕ) (id : ℕ) (t : Described) → isTagFor id (kept b s (renamed i o t)) ≡ (isDeclTag t && eqb (i (third t)) id)
+new-tag-is : (b : TypeTable) (s : List ℕ) (i o : ℕ → ℕ) (id : ℕ) (t : Described) → isTagFor id (kept (b .strs) s (renamed i o t)) ≡ (isDeclTag t && eqb (i (third t)) id)
 unfolding kept renamed
 new-tag-is b s i o id (described n f z (int v a c d e g)) = refl
 new-tag-is b s i o id (described n f z (ptr v)) = refl
@@ -142,17 +144,17 @@ module _ (m : ℕ → Bool) (o : ℕ → ℕ) (ts : List Described) (B B′ : Ru
   place i e l = omega (arith, new-below m ts (suc i) (is-kept i e) (omega (arith, l)), new-kept m i e)
 
   -- the new type with the number of suc i
-  new-type : (i : ℕ) → m (suc i) ≡ true → i < length ts → B′ .type-by-id (suc (keptTo m i)) ≡ kept b′ s′ (renamed (newId m) o (getD ts i voidType))
+  new-type : (i : ℕ) → m (suc i) ≡ true → i < length ts → B′ .type-by-id (suc (keptTo m i)) ≡ kept (b′ .strs) s′ (renamed (newId m) o (getD ts i voidType))
   new-type i e l =
       cut .type (keptTo m i) (omega (arith, place i e l, new-length))
-      ∙ ap (kept b′ s′) (renamed-at (newId m) o (keptTo m i) kts voidType voidType (place i e l) ∙ ap (renamed (newId m) o) (type-at m i ts voidType l e))
+      ∙ ap (kept (b′ .strs) s′) (renamed-at (newId m) o (keptTo m i) kts voidType voidType (place i e l) ∙ ap (renamed (newId m) o) (type-at m i ts voidType l e))
 
   followed-number : (x : ℕ) → Stays m x → x ≤ length ts → (y : ℕ) → List·Memᴰ y (followedIds (typeOf ts x)) → Followed B Number y (newId m y)
   followed-number x st l y k = let c = closed x st l y k in (record { stays = c .0; inside = c .1; number = refl }, go y (c .1) (c .2))
     where
       go : (z : ℕ) → z ≤ length ts → isDeclTag (typeOf ts z) ≡ false → NoTag (B .type-by-id z)
       go zero q e = subst NoTag (sym (old .zero-void)) tt
-      go (suc i) q e = subst NoTag (sym (old .type i (omega (arith, q)))) (no-tag b s (getD ts i voidType) e)
+      go (suc i) q e = subst NoTag (sym (old .type i (omega (arith, q)))) (no-tag (b .strs) s (getD ts i voidType) e)
 
   types-same : (x : ℕ) → Stays m x → x ≤ length ts → S.SameType (Followed B Number) (B .type-by-id x) (B′ .type-by-id (newId m x))
   types-same _ is-void l =
@@ -161,7 +163,7 @@ module _ (m : ℕ → Bool) (o : ℕ → ℕ) (ts : List Described) (B B′ : Ru
   types-same _ (is-kept i e) l =
       let k : i < length ts = omega (arith, l) in
       subst (λ (t : BtfType). S.SameType (Followed B Number) t (B′ .type-by-id (newId m (suc i)))) (sym (old .type i k))
-      (subst (λ (t : BtfType). S.SameType (Followed B Number) (kept b s (getD ts i voidType)) t) (sym (ap (B′ .type-by-id) (new-kept m i e) ∙ new-type i e k))
+      (subst (λ (t : BtfType). S.SameType (Followed B Number) (kept (b .strs) s (getD ts i voidType)) t) (sym (ap (B′ .type-by-id) (new-kept m i e) ∙ new-type i e k))
       (type-renamed b s b′ s′ (newId m) o (Followed B Number) (getD ts i voidType) (named i k e) (λ y q. followed-number (suc i) (is-kept i e) l y q)))
 
   -- a tag on x, in both tables

@@ -1,14 +1,18 @@
--- Two machines whose steps of emission go alike, whatever their `start` does: emission then goes alike. As in crate demand's Alike, without
--- asking anything of `start`, which sets the room of a list machine and leaves the lent slice as it is. Assumes nothing.
+-- Two machines whose steps of emission go alike, whatever their `start` does (it sets the room of a list machine and leaves a lent slice as it is): emission
+-- then goes alike. Assumes nothing.
 use Prim.Native.Nat.{ℕ, zero, suc, _<_}
 use mathlib.Core.Path.{_≡_, refl, sym, subst}
 use mathlib.Core.Bool.{Bool, true, false, not, _&&_, _||_}
 use mathlib.Core.List.{List, [], _∷_, List·Memᴰ, List·Memᴰ·head, List·Memᴰ·tail}
 use lib.Dec.{eqb}
 use Rattle.spec_c_dumper.specs.rules.Order.{Node, ignored, plain, listed, through, ptr, tdef, proto, comp, Table, Mark, new, busy, done}
-use Rattle.spec_c_dumper.specs.rules.Machine.{Out, wrote, Machine, isZero, pick, obind, eeach, once, mention, again, close, leaf, within, begin, allowed, look, emit}
+use Rattle.spec_c_dumper.specs.rules.Machine.{Out, wrote, stuck, Machine, isZero, pick, obind, eeach, once, mention, again, close, leaf, within, begin, allowed, look, emit}
 use Rattle.spec_c_dumper.specs.needs.Needs.{kids}
-use Rattle.spec_c_dumper.proofs.needs.Alike.{BothOut, both-wrote, both-stuck}
+
+-- what two lines, or two emissions, come to
+pub data BothOut {M₁ M : Type 0} (Q : M₁ → M → Type 0) : Out M₁ → Out M → Type 0 where
+  both-wrote : (s : M₁) (t : M) → Q s t → BothOut Q (wrote s) (wrote t)
+  both-stuck : (e : ℕ) → BothOut Q (stuck e) (stuck e)
 
 pub record AlikeSteps {M₁ M : Type 0} (X₁ : Machine M₁) (X : Machine M) (n : ℕ) (Q : M₁ → M → Type 0) : Type 0 where
   pub a-eget : (s : M₁) (t : M) → Q s t → (x : ℕ) → x < n → X₁ .eget s x ≡ X .eget t x

@@ -3,11 +3,11 @@ use Prim.Native.Nat.{ℕ}
 use mathlib.Core.Bool.{true, false}
 use mathlib.Core.List.{List, [], _∷_}
 use Rattle.spec_bytes.specs.text.Text.{ascii}
 use Rattle.spec_c_dumper.specs.rules.Machine.{all}
 use Rattle.spec_c_dumper.specs.rules.Types.{Void, Int, Composite, Enum, Typedef, Btf}
 use Rattle.spec_c_dumper.specs.rules.Samples.{Sample, gives, table, threeOfX}
 use Rattle.spec_c_dumper.specs.needs.Session.{printed, program}
-use Rattle.proof_names_apart.specs.names_apart.Apart.{dumpApart}
+use Rattle.spec_c_dumper.specs.names_apart.Apart.{dumpApart}
 
 -- "A table with x, x and x___2 prints the same name twice."
 abbrev pub twice : Btf

@@ -1,17 +1,16 @@
 -- "A naming mode in which a suffix that yields a name in the table's same space, or one printed before in it, is passed over and the next number
 -- taken." The writers of rules/specs are over any way of keeping names; this is one more, beside that of the Rust (rules/specs/Names: naming).
-use Prim.Native.Nat.{ℕ, zero, suc, _+_, _≤_}
-use mathlib.Core.Path.{_≡_}
+use Prim.Native.Nat.{ℕ, zero, suc, _+_}
 use mathlib.Core.Bool.{Bool, true, false}
-use mathlib.Core.List.{List, [], _∷_, _++_, List·Memᴰ}
+use mathlib.Core.List.{List, [], _∷_, _++_}
 use lib.ListN.{length, getD, set}
 use lib.Dec.{eqb}
 use Rattle.spec_bytes.specs.words.Words.{oneMore}
 use Rattle.spec_c_dumper.specs.rules.Machine.{Sess, Req, run}
 use Rattle.spec_c_dumper.specs.rules.Types.{Name, Enumerator, BtfType, Void, Int, Ptr, Array, Composite, Enum, Enum64, Fwd, Typedef, Mod, Func, Var, Datasec, FuncProto, Float, DeclTag, TypeTag, Btf, tableOf}
 use Rattle.spec_c_dumper.specs.rules.Names.{Space, tagSpace, identSpace, Resolved, Naming, Names, spelled, sameSpace, sameBytes, holders, counted}
 use Rattle.spec_c_dumper.specs.needs.Lists.{Ls}
 use Rattle.spec_c_dumper.specs.needs.Session.{Known, Dump, machineBy, openedBy, dumped, noNames}
 
 -- ---- the names of the table, by their space
 
@@ -165,40 +164,3 @@ afterAll B rs = run (machineBy (apart B) B) (tableOf B) rs (openedBy (apart B) B
 -- the names in its text: those of the accepted requests
 abbrev pub namesAfter : Btf → List Req → Apart
 namesAfter B rs = afterAll B rs .mach .known .names
-
--- ---- what is claimed of all that a session printed
-
--- both are the name of one and the same type
-pub record OneType (a b : Shown) : Type 0 where
-  pub id : ℕ
-  pub first : a .who ≡ ofType id
-  pub second : b .who ≡ ofType id
-
--- what was printed before in the same space and is spelled alike is the name of the same type
-abbrev pub Alone : Shown → List Shown → Type 0
-Alone a before = (b : Shown) → List·Memᴰ b before → b .space ≡ a .space → b .spelling ≡ a .spelling → OneType b a
-
--- "No two types of a space, no two printed enumerators and no typedef and enumerator then share a spelling": enumerators that were printed twice
--- count as two
-abbrev pub AllApart : List Shown → Type 0
-AllApart [] = Unit {0}
-AllApart (a ∷ l) = Alone a l × AllApart l
-
--- b was printed before a
-pub record Earlier (l : List Shown) (b a : Shown) : Type 0 where
-  pub later : List Shown
-  pub before : List Shown
-  pub place : l ≡ later ++ (a ∷ before)
-  pub isBefore : List·Memᴰ b before
-
--- numbers of 32 bits are enough for what the table has and what was printed
-abbrev pub Enough : Btf → Apart → Type 0
-Enough B u = (space : Space) → length (tableNames B space) + length (u .printed) + length (u .printed) ≤ 4294967290
-
--- the table has few enough names: 2^31 of a space and some more. A section of at most 16,777,216 bytes cannot have so many.
-abbrev pub FewNames : Btf → Type 0
-FewNames B = (space : Space) → length (tableNames B space) ≤ 2147483640
-
--- past the table there is nothing
-abbrev pub Ends : Btf → Type 0
-Ends B = (id : ℕ) → B .type-cnt ≤ id → B .type-by-id id ≡ Void

@@ -1,0 +1,80 @@
+-- THE THEOREM: all that is claimed holds. Assumes nothing.
+use mathlib.Core.Path.{_≡_, refl, ap, sym, _∙_}
+use mathlib.Core.Bool.{Bool, true, false, not, true≢false}
+use mathlib.Core.List.{List}
+use borrow.Author.Tests.{leb-true}
+use lib.ListN.{length}
+use Prim.Native.Nat.{ℕ}
+use Rattle.spec_bytes.specs.words.Words.{wordIn}
+use Rattle.spec_linux_btf.specs.Section.{bigEndian, littleEndian, wordOf, headerSound}
+use Rattle.base_keywords.specs.table.Fixed.{table}
+use Rattle.spec_c_dumper.proofs.rules.Placed.{laid-out}
+use Rattle.spec_c_dumper.proofs.needs.Arrays.{pointers-stay, arrays-forget, array-of-itself}
+use Rattle.spec_c_dumper.specs.rules.Order.{through}
+use Rattle.spec_opening.specs.Causes.{cause3}
+use Rattle.proof_demands.proofs.demands.Orders.{big-header, other-magic}
+use Rattle.proof_demands.proofs.counted.Claims.{counted}
+use Rattle.proof_declared_first.proofs.Claims.{declared-first}
+use Rattle.proof_names_apart.proofs.no_collision.Claims.{cannot-collide}
+use Rattle.proof_names_apart.proofs.same_text.Claims.{both-modes}
+use Rattle.proof_declaration_reader.proofs.Bound.{exactly}
+use Rattle.proof_declaration_reader.proofs.Decoding.{decodes, numbered, reads-back}
+use Rattle.proof_two_headers.proofs.Claims.{two-headers}
+use Rattle.session_field_at_bit.proofs.field.Sound.{sound}
+use Rattle.session_field_at_bit.proofs.field.Unique.{unique}
+use Rattle.session_field_at_bit.proofs.field.Claims.{refused-leaves}
+use Rattle.proof_calls.proofs.line_origins.Claims.{calls-reasoned}
+use Rattle.proof_calls.proofs.origins.Calls.{calls-explained}
+use Rattle.proof_calls.proofs.mixed.Claims.{calls-mixed}
+use Rattle.proof_calls.proofs.ceilings.Claims.{under-ceilings}
+use Rattle.proof_calls.proofs.cut.Claims.{untouched, carried}
+use Rattle.proof_calls.proofs.program.Claims.{runs}
+use Rattle.claims.specs.Claims.{Claims}
+use Rattle.claims.specs.Request02_big_endian.{Request02}
+use Rattle.claims.specs.Request04_fixed_words.{Request04}
+use Rattle.claims.proofs.Demands.{session-stated, session-opens, c-stated, c-opens}
+
+big-endian : Request02
+unfolding wordOf wordIn cause3
+big-endian = record {
+  big = λ s first second. big-header s first second;
+  little = λ s e at. ap (λ (big : Bool). wordIn big s at) e;
+  other = λ s e f. negated (headerSound s) (other-magic s e f);
+}
+  where
+    negated : (b : Bool) → not b ≡ true → b ≡ false
+    negated true e = absurd (true≢false (sym e))
+    negated false e = refl
+
+fixed-words : Request04
+fixed-words = leb-true (length table) 512 refl
+
+pub claims : Claims
+claims = record {
+  demand1 = session-opens;
+  demand1-c = c-opens;
+  demands = session-stated;
+  demands-c = c-stated;
+  request02 = big-endian;
+  request03 = λ B placing own. laid-out B placing own;
+  request04 = fixed-words;
+  request05 = declared-first;
+  request06 = λ T. record {
+    off = λ e t w. pointers-stay T e (through true t) w;
+    on = λ e t w. arrays-forget T e (through true t) w;
+    of-itself = λ e x m array is member to-array to-itself. array-of-itself T x m array e is member to-array to-itself;
+  };
+  request07 = counted;
+  request08 = record { apart = cannot-collide; alike = both-modes };
+  request09 = record { reads-back = reads-back; exactly = exactly; decodes = decodes; numbered = numbered };
+  request10 = two-headers;
+  request11 = record { leads = sound; unique = unique; refused = refused-leaves };
+  request12 = λ pointer modes s n. record {
+    by-rules = calls-reasoned pointer modes s n;
+    explained = calls-explained pointer modes s n;
+    mixed = calls-mixed pointer modes s n;
+  };
+  request13 = under-ceilings;
+  request14 = λ S s given out. record { carries = carried S s given out; refused = untouched S s given out };
+  program = runs;
+}

@@ -1,0 +1,47 @@
+-- READ THIS FIRST: all that is claimed, and where it is said. proofs/Claims.antt has the one theorem, `claims : Claims`; it assumes
+-- nothing. That the code does what the definitions say, for all inputs, is in the contracts of its functions; that the rules are the
+-- Rust's is read and compared (docs/DIFFERENCES.md).
+use Prim.Native.Nat.{ℕ}
+use mathlib.Core.List.{List}
+use Rattle.spec_c_dumper.specs.rules.Order.{Table}
+use Rattle.spec_session.specs.declared.session.Session.{Session}
+use Rattle.claims.specs.Ours.{onSession, forC}
+use Rattle.claims.specs.Demand1.{Demand1}
+use Rattle.claims.specs.Demands.{Stated}
+use Rattle.claims.specs.Request02_big_endian.{Request02}
+use Rattle.claims.specs.Request03_placing.{Request03}
+use Rattle.claims.specs.Request04_fixed_words.{Request04}
+use Rattle.claims.specs.Request05_declared_first.{Request05}
+use Rattle.claims.specs.Request06_strong_arrays.{Request06}
+use Rattle.claims.specs.Request07_alignment_once.{Request07}
+use Rattle.claims.specs.Request08_names_apart.{Request08}
+use Rattle.claims.specs.Request09_declaration_read_back.{Request09}
+use Rattle.claims.specs.Request10_two_headers.{Request10}
+use Rattle.claims.specs.Request11_field_at_bit.{Request11}
+use Rattle.claims.specs.Request12_line_origins.{Request12}
+use Rattle.claims.specs.Request13_ceiling.{Request13}
+use Rattle.claims.specs.Request14_cut.{Request14}
+use Rattle.claims.specs.Program.{Program}
+
+pub record Claims : Type 0 where
+  -- which openings succeed, and the number of a refusal: of the calls on a session, and of the calls for C
+  pub demand1 : Demand1 onSession
+  pub demand1-c : Demand1 forC
+  -- demands 2 and 3, and ask 1, after every list of requests, with the names of the Rust and with names apart
+  pub demands : (pointer modes : ℕ) (s : List ℕ) (n : ℕ) → Stated onSession pointer modes s n
+  pub demands-c : (pointer modes : ℕ) (s : List ℕ) (n : ℕ) → Stated forC pointer modes s n
+  -- the change requests
+  pub request02 : Request02
+  pub request03 : Request03
+  pub request04 : Request04
+  pub request05 : Request05
+  pub request06 : (T : Table) → Request06 T
+  pub request07 : Request07
+  pub request08 : Request08
+  pub request09 : Request09
+  pub request10 : Request10
+  pub request11 : Request11
+  pub request12 : (pointer modes : ℕ) (s : List ℕ) (n : ℕ) → Request12 pointer modes s n
+  pub request13 : Request13
+  pub request14 : (S : Session) (s given out : List ℕ) → Request14 S s given out
+  pub program : Program

@@ -1,0 +1,49 @@
+-- The calls that the demands are claimed of: those on a session, which the contracts of session_requests say of the code, and those for
+-- C, of which btfdump_c says it. Only the names of these functions matter here: what they do is what the theorems say.
+use Prim.Native.Nat.{ℕ, _/_, _%_}
+use mathlib.Core.Bool.{true}
+use mathlib.Core.List.{List}
+use lib.Dec.{leb}
+use lib.ListN.{length}
+use Rattle.spec_session.specs.declared.session.Session.{Session}
+use Rattle.spec_session.specs.session.Answers.{numberOf, valueOf}
+use Rattle.spec_session.specs.session.Turns.{Call}
+use Rattle.spec_session.specs.calls.Calls.{openCall, typeCall, typesCall}
+use Rattle.spec_session.specs.calls.Lists.{listCall}
+use Rattle.session_record.specs.record_words.Words.{decoded}
+use Rattle.spec_c_calls.specs.Exports.{Export, openExport, typeExport, typesExport, listExport}
+use Rattle.claims.specs.Calls.{Calls, idsIn}
+
+-- on a session
+abbrev pub onSession : Calls Session Call
+onSession = record {
+  fits = λ S. true;
+  opening = λ S s pointer modes work text. openCall S s work text pointer modes;
+  request = λ c s text id. typeCall (c .session) s (c .work) text id;
+  requestAll = λ c s text. typesCall (c .session) s (c .work) text;
+  requestList = λ c s text ids. listCall (c .session) s (c .work) text (idsIn ids);
+  number = λ c. numberOf (c .answer);
+  value = λ c. valueOf (c .answer);
+  leaves = λ c. c .session;
+  work = λ c. c .work;
+  text = λ c. c .text;
+  len = λ c. c .session .«text_len»;
+  isOpen = λ c. c .session .«open»;
+}
+
+-- for C: "there the record too crosses as bytes", 128 of them or more; number and value are the upper and the lower half of the result
+abbrev pub forC : Calls (List ℕ) Export
+forC = record {
+  fits = λ r. leb 128 (length r);
+  opening = λ r s pointer modes work text. openExport r s pointer modes work text;
+  request = λ e s text id. typeExport (e .bytes) s (e .work) text id;
+  requestAll = λ e s text. typesExport (e .bytes) s (e .work) text;
+  requestList = λ e s text ids. listExport (e .bytes) s (e .work) text (idsIn ids);
+  number = λ e. e .result / 4294967296;
+  value = λ e. e .result % 4294967296;
+  leaves = λ e. e .bytes;
+  work = λ e. e .work;
+  text = λ e. e .text;
+  len = λ e. decoded (e .bytes) .«text_len»;
+  isOpen = λ e. decoded (e .bytes) .«open»;
+}
