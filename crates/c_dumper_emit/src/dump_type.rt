@@ -1,10 +1,11 @@
 // One request: ordering, then the lines of the listed ids, from the list's first to its last.
-use crate::emit_type::emit_type;
+use crate::emit_type::emit_ordered;
+use crate::entries::Asked;
+use crate::entries::Pen;
 use base_bytes::put::stop;
 use btf_type_table::kind::kind_of;
 use btf_type_table::node::type_by_id;
 use c_dumper_dependency_order::order_state::Order;
-use c_dumper_dependency_order::order_state::get_listed;
 use c_dumper_dependency_order::order_state::get_order_state;
 use c_dumper_dependency_order::order_type::order_type;
 use spec_session::emission::clear_list;
@@ -21,7 +22,7 @@ ghost use Rattle.c_dumper_emit.specs.dump_type.Metered.{orderedIn, dumpe
 ghost use Rattle.spec_session.specs.emission.Sheet.{sheetStore, emitOut, workMachine, emitIn, isIdle};
 ghost use Rattle.spec_c_dumper.specs.rules.Request.{dumped};
 
-// Emits the first n ids of the order list.
+// Emits the first n ids of the order list. No list of entries is lent.
 fn emit_listed(
     b: TypeTable,
     section: &[u8],
@@ -30,16 +31,20 @@ fn emit_listed(
     at: usize,
     n: u32,
 ) -> usize
-    ensures { λ r. ⌜ emitOut n r (now (text .exit)) (now (work .exit)) ≡ obind (emitOut n at (now (text .entry)) (now (work .entry))) (λ m. eeach (emitIn b (btfOf b (now (section .entry)) (now (work .entry))) 512 0) (sheetStore .list m) m) ⌝ }
+    ensures { λ r. ⌜ emitOut n r (now (text .exit)) (now (work .exit))
+        ≡ obind (emitOut n at (now (text .entry)) (now (work .entry)))
+        (λ m. eeach (emitIn b (btfOf b (now (section .entry)) (now (work .entry))) 512 0) (sheetStore .list m) m) ⌝ }
 {
-    let mut p = at;
-    let mut k: u32 = 0;
-    while k < n {
-        let id = get_listed(work, k);
-        p = emit_type(b, section, work, text, p, id, 0, 512);
-        k += 1;
-    }
-    p
+    let mut list = [0u8; 0];
+    let leads = [0u64; 0];
+    let q = Asked {
+        req: 0,
+        turn: 0,
+        lists: false,
+    };
+    let p = Pen { at: at, count: 0 };
+    let r = emit_ordered(b, section, work, text, &mut list, &leads, q, p, n);
+    r.at
 }
 
 // A request for an id that is ordered, or is a function, a variable, a section or a tag, does nothing.

@@ -1,63 +1,88 @@
-// Emission: which lines a listed id brings, and their order. The steps that go on to no other id are in crate steps.
+// Emission: which lines a listed id brings, and their order; each with its entry where the call is lent a list. The steps that go on to
+// no other id are in steps.
+use crate::entries::Asked;
+use crate::entries::Pen;
+use crate::entries::origin_at;
+use crate::lines::define;
 use crate::steps::emit_again;
-use crate::steps::emit_leaf;
 use crate::steps::end_composite;
 use crate::steps::end_typedef;
 use crate::steps::get_emit_state;
 use crate::steps::inner;
 use crate::steps::mention_composite;
 use crate::steps::set_emit_state;
-use base_bytes::put::stop;
+use crate::steps::stop_at;
 use base_bytes::put::stopped;
+use btf_type_table::kind::entries_of;
 use btf_type_table::kind::member_place;
 use btf_type_table::kind::param_place;
 use btf_type_table::name::is_named;
 use btf_type_table::node::node_of;
 use btf_type_table::node::type_by_id;
 use btf_type_table::section_word::word;
+use c_dumper_dependency_order::order_state::get_listed;
 use spec_type_table::BtfType;
 use spec_type_table::Entries;
 use spec_type_table::Node;
 use spec_type_table::TypeTable;
 ghost use mathlib.Core.Path.{_≡_};
+ghost use mathlib.Core.Bool.{not, _&&_};
+ghost use lib.Dec.{eqb};
 ghost use Prim.Native.Nat.{ℕ};
 ghost use Rattle.spec_c_dumper.specs.rules.Machine.{obind, eeach};
-ghost use Rattle.spec_type_table.specs.Records.{recordById};
+ghost use Rattle.spec_type_table.specs.Cells.{getField};
+ghost use Rattle.spec_type_table.specs.Records.{recordById, entriesOf};
 ghost use Rattle.spec_type_table.specs.Table.{btfOf};
 ghost use Rattle.spec_type_table.specs.Nodes.{memberIds, paramIds};
-ghost use Rattle.spec_session.specs.emission.Sheet.{emitOut, emitIn, newIn, compositeIn};
+ghost use Rattle.c_dumper_dependency_order.specs.leaders.Leads.{entryIn};
+ghost use Rattle.spec_session.specs.emission.Sheet.{sheetStore};
+ghost use Rattle.c_dumper_emit.specs.entries.Noted.{notedOut, lentList, emitN, newN, compositeN, leafN};
 
-// cont_id is the composite or typedef that is being emitted around id, or 0 at the top.
+// Whether a call would find its id emitted, and print nothing.
+fn is_done(work: &[u8], id: u32, left: u32) -> bool
+    ensures { λ r. ⌜ r ≡ not (eqb left 0) && eqb (getField (now (work .entry)) id 13) 2 ⌝ }
+{
+    (left != 0) & (get_emit_state(work, id) == 2)
+}
+
+// cont is the composite or typedef that is being emitted around id, or 0 at the top.
 pub fn emit_type(
     b: TypeTable,
     section: &[u8],
     work: &mut [u8],
     text: &mut [u8],
-    at: usize,
+    list: &mut [u8],
+    leads: &[u64],
+    q: Asked,
+    p: Pen,
     id: u32,
-    cont_id: u32,
+    cont: u32,
     left: u32,
-) -> usize
-    ensures { λ r. ⌜ ((n : ℕ) → emitOut n r (now (text .exit)) (now (work .exit)) ≡ obind (emitOut n at (now (text .entry)) (now (work .entry))) (λ m. emitIn b (btfOf b (now (section .entry)) (now (work .entry))) left «cont_id» m id)) ⌝ }
+) -> Pen
+    ensures { λ r. ⌜ ((n : ℕ) → notedOut n r (now (text .exit)) (now (work .exit)) (now (list .exit))
+        ≡ obind (notedOut n p (now (text .entry)) (now (work .entry)) (now (list .entry)))
+        (λ m. emitN b (btfOf b (now (section .entry)) (now (work .entry))) (lentList (q .lists) (now (list .entry)))
+        (entryIn (q .req) (q .turn) (now (leads .entry))) left cont m id)) ⌝ }
 {
-    if stopped(text, at) {
-        return at;
+    if stopped(text, p.at) {
+        return p;
     }
     if left == 0 {
-        return stop(text, at, 12);
+        return stop_at(text, p, 12);
     }
     let state = get_emit_state(work, id);
     if state == 2 {
-        return at;
+        return p;
     }
     if state == 1 {
-        return emit_again(b, section, work, text, at, id, cont_id);
+        return emit_again(b, section, work, text, list, leads, q, p, id, cont);
     }
     let t = type_by_id(b, section, work, id);
-    if (cont_id == 0) & !is_named(b, section, t) {
-        return stop(text, at, 14);
+    if (cont == 0) & !is_named(b, section, t) {
+        return stop_at(text, p, 14);
     }
-    emit_new(b, section, work, text, at, id, t, cont_id, left - 1)
+    let rest = left - 1;
+    emit_new(b, section, work, text, list, leads, q, p, id, t, cont, rest)
 }
 
 // An id that is not emitted yet.
@@ -66,32 +91,38 @@ fn emit_new(
     section: &[u8],
     work: &mut [u8],
     text: &mut [u8],
-    at: usize,
+    list: &mut [u8],
+    leads: &[u64],
+    q: Asked,
+    p: Pen,
     id: u32,
     t: BtfType,
-    cont_id: u32,
+    cont: u32,
     left: u32,
-) -> usize
+) -> Pen
     requires { ⌜ t ≡ recordById b (now section) (now work) id ⌝ }
-    ensures { λ r. ⌜ ((n : ℕ) → emitOut n r (now (text .exit)) (now (work .exit)) ≡ obind (emitOut n at (now (text .entry)) (now (work .entry))) (λ m. newIn b (btfOf b (now (section .entry)) (now (work .entry))) left «cont_id» m id)) ⌝ }
+    ensures { λ r. ⌜ ((n : ℕ) → notedOut n r (now (text .exit)) (now (work .exit)) (now (list .exit))
+        ≡ obind (notedOut n p (now (text .entry)) (now (work .entry)) (now (list .entry)))
+        (λ m. newN b (btfOf b (now (section .entry)) (now (work .entry))) (lentList (q .lists) (now (list .entry)))
+        (entryIn (q .req) (q .turn) (now (leads .entry))) left cont m id)) ⌝ }
 {
     match node_of(b, section, t) {
-        Node::Ignored => at,
-        Node::Plain => at,
-        Node::Listed(is_fwd) => emit_leaf(b, section, work, text, at, id, t, cont_id, is_fwd),
-        Node::Through(_, next) => emit_type(b, section, work, text, at, next, cont_id, left),
-        Node::Ptr(next) => emit_type(b, section, work, text, at, next, cont_id, left),
-        Node::Typedef(next) => {
+        Node::Ignored => p,
+        Node::Plain => p,
+        Node::Listed(fwd) => emit_leaf(b, section, work, text, list, leads, q, p, id, t, cont, fwd),
+        Node::Through(_, y) => emit_type(b, section, work, text, list, leads, q, p, y, cont, left),
+        Node::Ptr(y) => emit_type(b, section, work, text, list, leads, q, p, y, cont, left),
+        Node::Typedef(y) => {
             set_emit_state(work, id, 1);
-            let a = emit_type(b, section, work, text, at, next, id, left);
-            end_typedef(b, section, work, text, a, id, t)
+            let a = emit_type(b, section, work, text, list, leads, q, p, y, id, left);
+            end_typedef(b, section, work, text, list, leads, q, a, id, t, cont)
         }
-        Node::Proto(res, params) => {
-            let a = emit_type(b, section, work, text, at, res, cont_id, left);
-            emit_params(b, section, work, text, a, params, cont_id, left)
+        Node::Proto(y, ps) => {
+            let a = emit_type(b, section, work, text, list, leads, q, p, y, cont, left);
+            emit_params(b, section, work, text, list, leads, q, a, ps, cont, left)
         }
-        Node::Composite(members) => {
-            emit_composite(b, section, work, text, at, id, t, cont_id, members, left)
+        Node::Composite(_) => {
+            emit_composite(b, section, work, text, list, leads, q, p, id, t, cont, left)
         }
     }
 }
@@ -102,24 +133,30 @@ fn emit_composite(
     section: &[u8],
     work: &mut [u8],
     text: &mut [u8],
-    at: usize,
+    list: &mut [u8],
+    leads: &[u64],
+    q: Asked,
+    p: Pen,
     id: u32,
     t: BtfType,
-    cont_id: u32,
-    members: Entries,
+    cont: u32,
     left: u32,
-) -> usize
+) -> Pen
     requires { ⌜ t ≡ recordById b (now section) (now work) id ⌝ }
-    ensures { λ r. ⌜ ((n : ℕ) → emitOut n r (now (text .exit)) (now (work .exit)) ≡ obind (emitOut n at (now (text .entry)) (now (work .entry))) (λ m. compositeIn b (btfOf b (now (section .entry)) (now (work .entry))) left «cont_id» (memberIds b (now (section .entry)) members) m id)) ⌝ }
+    ensures { λ r. ⌜ ((n : ℕ) → notedOut n r (now (text .exit)) (now (work .exit)) (now (list .exit))
+        ≡ obind (notedOut n p (now (text .entry)) (now (work .entry)) (now (list .entry)))
+        (λ m. compositeN b (btfOf b (now (section .entry)) (now (work .entry))) (lentList (q .lists) (now (list .entry)))
+        (entryIn (q .req) (q .turn) (now (leads .entry))) left cont (memberIds b (now (section .entry)) (entriesOf t)) m id)) ⌝ }
 {
     let named = is_named(b, section, t);
-    if named & (cont_id != 0) {
-        return mention_composite(b, section, work, text, at, id, t, cont_id);
+    if named & (cont != 0) {
+        return mention_composite(b, section, work, text, list, q.lists, p, id, t, cont);
     }
     set_emit_state(work, id, 1);
-    let cont = inner(named, id, cont_id);
-    let a = emit_members(b, section, work, text, at, members, cont, left);
-    end_composite(b, section, work, text, a, id, t, cont_id)
+    let within = inner(named, id, cont);
+    let ms = entries_of(t);
+    let a = emit_members(b, section, work, text, list, leads, q, p, ms, within, left);
+    end_composite(b, section, work, text, list, leads, q, a, id, t, cont)
 }
 
 fn emit_members(
@@ -127,22 +164,32 @@ fn emit_members(
     section: &[u8],
     work: &mut [u8],
     text: &mut [u8],
-    at: usize,
-    members: Entries,
-    cont_id: u32,
+    list: &mut [u8],
+    leads: &[u64],
+    q: Asked,
+    p: Pen,
+    ms: Entries,
+    cont: u32,
     left: u32,
-) -> usize
-    ensures { λ r. ⌜ ((n : ℕ) → emitOut n r (now (text .exit)) (now (work .exit)) ≡ obind (emitOut n at (now (text .entry)) (now (work .entry))) (λ m. eeach (emitIn b (btfOf b (now (section .entry)) (now (work .entry))) left «cont_id») (memberIds b (now (section .entry)) members) m)) ⌝ }
+) -> Pen
+    ensures { λ r. ⌜ ((n : ℕ) → notedOut n r (now (text .exit)) (now (work .exit)) (now (list .exit))
+        ≡ obind (notedOut n p (now (text .entry)) (now (work .entry)) (now (list .entry)))
+        (λ m. eeach
+        (emitN b (btfOf b (now (section .entry)) (now (work .entry))) (lentList (q .lists) (now (list .entry))) (entryIn (q .req)
+        (q .turn) (now (leads .entry))) left cont) (memberIds b (now (section .entry)) ms) m)) ⌝ }
 {
-    let vlen = members.vlen;
-    let mut p = at;
+    let vlen = ms.vlen;
+    let mut a = p;
     let mut k: u32 = 0;
     while k < vlen {
-        let t = word(b, section, member_place(members, k) + 4);
-        p = emit_type(b, section, work, text, p, t, cont_id, left);
+        let t = word(b, section, member_place(ms, k) + 4);
         k += 1;
+        if is_done(work, t, left) {
+            continue;
+        }
+        a = emit_type(b, section, work, text, list, leads, q, a, t, cont, left);
     }
-    p
+    a
 }
 
 fn emit_params(
@@ -150,20 +197,89 @@ fn emit_params(
     section: &[u8],
     work: &mut [u8],
     text: &mut [u8],
-    at: usize,
-    params: Entries,
-    cont_id: u32,
+    list: &mut [u8],
+    leads: &[u64],
+    q: Asked,
+    p: Pen,
+    ps: Entries,
+    cont: u32,
     left: u32,
-) -> usize
-    ensures { λ r. ⌜ ((n : ℕ) → emitOut n r (now (text .exit)) (now (work .exit)) ≡ obind (emitOut n at (now (text .entry)) (now (work .entry))) (λ m. eeach (emitIn b (btfOf b (now (section .entry)) (now (work .entry))) left «cont_id») (paramIds b (now (section .entry)) params) m)) ⌝ }
+) -> Pen
+    ensures { λ r. ⌜ ((n : ℕ) → notedOut n r (now (text .exit)) (now (work .exit)) (now (list .exit))
+        ≡ obind (notedOut n p (now (text .entry)) (now (work .entry)) (now (list .entry)))
+        (λ m. eeach
+        (emitN b (btfOf b (now (section .entry)) (now (work .entry))) (lentList (q .lists) (now (list .entry))) (entryIn (q .req)
+        (q .turn) (now (leads .entry))) left cont) (paramIds b (now (section .entry)) ps) m)) ⌝ }
 {
-    let vlen = params.vlen;
-    let mut p = at;
+    let vlen = ps.vlen;
+    let mut a = p;
     let mut k: u32 = 0;
     while k < vlen {
-        let t = word(b, section, param_place(params, k) + 4);
-        p = emit_type(b, section, work, text, p, t, cont_id, left);
+        let t = word(b, section, param_place(ps, k) + 4);
+        k += 1;
+        if is_done(work, t, left) {
+            continue;
+        }
+        a = emit_type(b, section, work, text, list, leads, q, a, t, cont, left);
+    }
+    a
+}
+
+// An enum is defined at the top only; a forward is printed wherever it is met.
+fn emit_leaf(
+    b: TypeTable,
+    section: &[u8],
+    work: &mut [u8],
+    text: &mut [u8],
+    list: &mut [u8],
+    leads: &[u64],
+    q: Asked,
+    p: Pen,
+    id: u32,
+    t: BtfType,
+    cont: u32,
+    fwd: bool,
+) -> Pen
+    requires { ⌜ t ≡ recordById b (now section) (now work) id ⌝ }
+    ensures { λ r. ⌜ ((n : ℕ) → notedOut n r (now (text .exit)) (now (work .exit)) (now (list .exit))
+        ≡ obind (notedOut n p (now (text .entry)) (now (work .entry)) (now (list .entry)))
+        (λ m. leafN b (btfOf b (now (section .entry)) (now (work .entry))) (lentList (q .lists) (now (list .entry)))
+        (entryIn (q .req) (q .turn) (now (leads .entry))) fwd cont m id)) ⌝ }
+{
+    if fwd | (cont == 0) {
+        let e = origin_at(leads, q, 2, id, cont);
+        let a = define(b, section, work, text, list, q.lists, p, id, t, e);
+        set_emit_state(work, id, 2);
+        return a;
+    }
+    set_emit_state(work, id, 2);
+    p
+}
+
+// Emits the first n ids of the order list, each at the top.
+pub fn emit_ordered(
+    b: TypeTable,
+    section: &[u8],
+    work: &mut [u8],
+    text: &mut [u8],
+    list: &mut [u8],
+    leads: &[u64],
+    q: Asked,
+    p: Pen,
+    n: u32,
+) -> Pen
+    ensures { λ r. ⌜ notedOut n r (now (text .exit)) (now (work .exit)) (now (list .exit))
+        ≡ obind (notedOut n p (now (text .entry)) (now (work .entry)) (now (list .entry)))
+        (λ m. eeach
+        (emitN b (btfOf b (now (section .entry)) (now (work .entry))) (lentList (q .lists) (now (list .entry))) (entryIn (q .req)
+        (q .turn) (now (leads .entry))) 512 0) (sheetStore .list (m .mach)) m) ⌝ }
+{
+    let mut a = p;
+    let mut k: u32 = 0;
+    while k < n {
+        let id = get_listed(work, k);
+        a = emit_type(b, section, work, text, list, leads, q, a, id, 0, 512);
         k += 1;
     }
-    p
+    a
 }

@@ -1,4 +1,4 @@
-// The entry of a line in the lent list: three words, before any other step of the line. The lines are in `lined`.
+// The entry of a line in the lent list: three words, before any other step of the line.
 use base_bytes::put::stop;
 use base_bytes::put::stopped;
 use base_bytes::word::put_word;
@@ -13,7 +13,7 @@ ghost use Prim.Native.Nat.{ℕ, _<_, _/_};
 ghost use lib.ListN.{length};
 ghost use Rattle.spec_c_dumper.specs.rules.Machine.{obind};
 ghost use Rattle.spec_type_table.specs.Table.{typeOf};
-ghost use Rattle.spec_c_dumper.specs.origins.Causes.{causeAt, entriesIn};
+ghost use Rattle.spec_c_dumper.specs.origins.Causes.{entry, causeAt, entriesIn};
 ghost use Rattle.c_dumper_dependency_order.specs.leaders.Leads.{entryIn};
 ghost use Rattle.c_dumper_emit.specs.entries.Noted.{entryOf, entryPut, notedOut, noteN, noteIfN, shownOf};
 
@@ -24,30 +24,32 @@ pub struct Pen {
 }
 
 // An entry: the id of a line, its cause, and the id that led there.
-pub struct Cause {
+pub struct Origin {
     pub id: u32,
     pub cause: u32,
     pub leader: u32,
 }
 
-// The requested id, and which request of the call it is.
+// The requested id, which request of the call it is, and whether the call is lent a list of entries. Without one the list and the
+// leaders are empty slices.
 pub struct Asked {
     pub req: u32,
     pub turn: u32,
+    pub lists: bool,
 }
 
 // The entry of a listed id.
-pub fn listed_cause(leads: &[u64], q: Asked, id: u32) -> Cause
+pub fn listed_origin(leads: &[u64], q: Asked, id: u32) -> Origin
     ensures { λ r. ⌜ entryOf r ≡ entryIn (q .req) (q .turn) (now (leads .entry)) id ⌝ }
 {
     if id == q.req {
-        return Cause {
+        return Origin {
             id: id,
             cause: 0,
             leader: id,
         };
     }
-    Cause {
+    Origin {
         id: id,
         cause: 1,
         leader: leader_of(leads, q.req, q.turn, id),
@@ -55,20 +57,31 @@ pub fn listed_cause(leads: &[u64], q: Asked, id: u32) -> Cause
 }
 
 // At the top a line is there because its id is listed, within a container because of that.
-pub fn cause_at(leads: &[u64], q: Asked, within: u32, id: u32, cont_id: u32) -> Cause
-    ensures { λ r. ⌜ entryOf r ≡ causeAt within (entryIn (q .req) (q .turn) (now (leads .entry)) id) id «cont_id» ⌝ }
+pub fn origin_at(leads: &[u64], q: Asked, within: u32, id: u32, cont: u32) -> Origin
+    ensures { λ r. ⌜ entryOf r ≡ causeAt within (entryIn (q .req) (q .turn) (now (leads .entry)) id) id cont ⌝ }
 {
-    if cont_id == 0 {
-        return listed_cause(leads, q, id);
+    if cont == 0 {
+        return listed_origin(leads, q, id);
     }
-    Cause {
+    Origin {
         id: id,
         cause: within,
-        leader: cont_id,
+        leader: cont,
     }
 }
 
-fn put_entry(list: &mut [u8], k: usize, e: Cause)
+// A forward line is there because of its container.
+pub fn forward_origin(id: u32, cont: u32) -> Origin
+    ensures { λ r. ⌜ entryOf r ≡ entry id 2 cont ⌝ }
+{
+    Origin {
+        id: id,
+        cause: 2,
+        leader: cont,
+    }
+}
+
+fn put_entry(list: &mut [u8], k: usize, e: Origin)
     requires { ⌜ k < length (now list) / 12 ⌝ }
     ensures { λ _. ⌜ now (list .exit) ≡ entryPut (now (list .entry)) k e ⌝ }
 {
@@ -78,8 +91,9 @@ fn put_entry(list: &mut [u8], k: usize, e: Cause)
 }
 
 // One more entry, or 17.
-pub fn note(text: &[u8], list: &mut [u8], p: Pen, e: Cause) -> Pen
-    ensures { λ r. ⌜ ((n : ℕ) (w : List ℕ) → notedOut n r (now (text .entry)) w (now (list .exit)) ≡ obind (notedOut n p (now (text .entry)) w (now (list .entry))) (λ m. noteN (entriesIn (now (list .entry))) (entryOf e) m)) ⌝ }
+fn note(text: &[u8], list: &mut [u8], p: Pen, e: Origin) -> Pen
+    ensures { λ r. ⌜ ((n : ℕ) (w : List ℕ) → notedOut n r (now (text .entry)) w (now (list .exit))
+        ≡ obind (notedOut n p (now (text .entry)) w (now (list .entry))) (λ m. noteN (entriesIn (now (list .entry))) (entryOf e) m)) ⌝ }
 {
     if stopped(text, p.at) {
         return p;
@@ -98,8 +112,10 @@ pub fn note(text: &[u8], list: &mut [u8], p: Pen, e: Cause) -> Pen
 }
 
 // Of a line that prints nothing there is no entry.
-pub fn note_if(text: &[u8], list: &mut [u8], p: Pen, e: Cause, shown: bool) -> Pen
-    ensures { λ r. ⌜ ((n : ℕ) (w : List ℕ) → notedOut n r (now (text .entry)) w (now (list .exit)) ≡ obind (notedOut n p (now (text .entry)) w (now (list .entry))) (λ m. noteIfN shown (entriesIn (now (list .entry))) (entryOf e) m)) ⌝ }
+pub fn note_if(text: &[u8], list: &mut [u8], p: Pen, e: Origin, shown: bool) -> Pen
+    ensures { λ r. ⌜ ((n : ℕ) (w : List ℕ) → notedOut n r (now (text .entry)) w (now (list .exit))
+        ≡ obind (notedOut n p (now (text .entry)) w (now (list .entry)))
+        (λ m. noteIfN shown (entriesIn (now (list .entry))) (entryOf e) m)) ⌝ }
 {
     if shown {
         return note(text, list, p, e);

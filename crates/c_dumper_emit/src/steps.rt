@@ -1,23 +1,34 @@
-// Emission, the steps that go on to no other id: a line that comes once, an id that is met again, a leaf, a composite within
-// another, and the ends of a typedef and a composite. Emit states and forward flags stand in the work words.
+// Emission, the steps that go on to no other id: a line that comes once, an id that is met again, a composite within another, and
+// the ends of a typedef and a composite. Emit states and forward flags stand in the work words.
+use crate::entries::Asked;
+use crate::entries::Origin;
+use crate::entries::Pen;
+use crate::entries::forward_origin;
+use crate::entries::listed_origin;
+use crate::entries::origin_at;
+use crate::lines::define;
+use crate::lines::forward;
 use base_bytes::put::stop;
 use btf_type_table::cell::get_field;
 use btf_type_table::cell::put_field;
 use btf_type_table::kind::kind_of;
 use btf_type_table::name::is_named;
 use btf_type_table::node::type_by_id;
-use c_dumper_declarator::lines::emit_definition;
-use c_dumper_declarator::lines::emit_forward;
 use spec_type_table::BtfType;
 use spec_type_table::TypeTable;
 ghost use mathlib.Core.Path.{_≡_};
-ghost use mathlib.Core.Bool.{not, _||_};
+ghost use mathlib.Core.Bool.{not};
 ghost use lib.Dec.{eqb};
 ghost use Prim.Native.Nat.{ℕ};
+ghost use mathlib.Core.List.{[]};
+ghost use Rattle.spec_bytes.specs.text.Text.{cut, putOut, putText};
 ghost use Rattle.spec_c_dumper.specs.rules.Machine.{pick, obind};
 ghost use Rattle.spec_type_table.specs.Cells.{getField, putField};
 ghost use Rattle.spec_type_table.specs.Table.{typeOf, btfOf};
-ghost use Rattle.spec_session.specs.emission.Sheet.{emitOut, againIn, onceIn, mentionIn, shownIn, typedefIn, mentionedIn, endedIn};
+ghost use Rattle.spec_c_dumper.specs.origins.Causes.{causeAt};
+ghost use Rattle.c_dumper_dependency_order.specs.leaders.Leads.{entryIn};
+ghost use Rattle.c_dumper_emit.specs.entries.Noted.{entryOf, notedOut, lentList, hasN, onceN, mentionN};
+ghost use Rattle.c_dumper_emit.specs.entries.Noted.{againN, typedefN, mentionedN, endedN};
 
 pub fn get_emit_state(work: &[u8], id: u32) -> u32
     ensures { λ r. ⌜ r ≡ getField (now (work .entry)) id 13 ⌝ }
@@ -48,18 +59,35 @@ fn emit_once(
     section: &[u8],
     work: &mut [u8],
     text: &mut [u8],
-    at: usize,
+    list: &mut [u8],
+    lists: bool,
+    p: Pen,
     id: u32,
     t: BtfType,
-) -> usize
-    ensures { λ r. ⌜ ((n : ℕ) → emitOut n r (now (text .exit)) (now (work .exit)) ≡ obind (emitOut n at (now (text .entry)) (now (work .entry))) (λ m. onceIn b (btfOf b (now (section .entry)) (now (work .entry))) (typeOf b (now (section .entry)) t) m id)) ⌝ }
+    e: Origin,
+) -> Pen
+    ensures { λ r. ⌜ ((n : ℕ) → notedOut n r (now (text .exit)) (now (work .exit)) (now (list .exit))
+        ≡ obind (notedOut n p (now (text .entry)) (now (work .entry)) (now (list .entry)))
+        (λ m. onceN b (btfOf b (now (section .entry)) (now (work .entry))) (lentList lists (now (list .entry)))
+        (typeOf b (now (section .entry)) t) (entryOf e)
+        (hasN b (btfOf b (now (section .entry)) (now (work .entry))) (lentList lists (now (list .entry))) m id) m id)) ⌝ }
 {
     if get_fwd_emitted(work, id) {
-        return at;
+        return p;
     }
-    let a = emit_forward(b, section, work, text, at, id, t);
+    let a = forward(b, section, work, text, list, lists, p, id, t, e);
     set_fwd_emitted(work, id);
     a
+}
+
+// Stopped by a refusal.
+pub fn stop_at(text: &[u8], p: Pen, c: u32) -> Pen
+    ensures { λ r. ⌜ putOut (r .at) (now (text .entry)) ≡ putText (now (text .entry)) (p .at) (cut [] c) ⌝ }
+{
+    Pen {
+        at: stop(text, p.at, c),
+        count: p.count,
+    }
 }
 
 // An id that is met while it is being emitted. A nameless composite never is, since ordering refuses its cycle.
@@ -68,59 +96,46 @@ pub fn emit_again(
     section: &[u8],
     work: &mut [u8],
     text: &mut [u8],
-    at: usize,
+    list: &mut [u8],
+    leads: &[u64],
+    q: Asked,
+    p: Pen,
     id: u32,
-    cont_id: u32,
-) -> usize
-    ensures { λ r. ⌜ ((n : ℕ) → emitOut n r (now (text .exit)) (now (work .exit)) ≡ obind (emitOut n at (now (text .entry)) (now (work .entry))) (λ m. againIn b (btfOf b (now (section .entry)) (now (work .entry))) «cont_id» m id)) ⌝ }
+    cont: u32,
+) -> Pen
+    ensures { λ r. ⌜ ((n : ℕ) → notedOut n r (now (text .exit)) (now (work .exit)) (now (list .exit))
+        ≡ obind (notedOut n p (now (text .entry)) (now (work .entry)) (now (list .entry)))
+        (λ m. againN b (btfOf b (now (section .entry)) (now (work .entry))) (lentList (q .lists) (now (list .entry)))
+        (entryIn (q .req) (q .turn) (now (leads .entry))) cont m id)) ⌝ }
 {
     if get_fwd_emitted(work, id) {
-        return at;
+        return p;
     }
     let t = type_by_id(b, section, work, id);
     match kind_of(t.info) {
         4 | 5 => {
-            if id == cont_id {
-                return at;
+            if id == cont {
+                return p;
             }
             if !is_named(b, section, t) {
-                return stop(text, at, 13);
+                return stop_at(text, p, 13);
             }
-            emit_once(b, section, work, text, at, id, t)
+            let e = forward_origin(id, cont);
+            emit_once(b, section, work, text, list, q.lists, p, id, t, e)
         }
-        8 => emit_once(b, section, work, text, at, id, t),
-        _ => at,
+        8 => {
+            let e = origin_at(leads, q, 3, id, cont);
+            emit_once(b, section, work, text, list, q.lists, p, id, t, e)
+        }
+        _ => p,
     }
-}
-
-// An enum is defined at the top only; a forward is printed wherever it is met.
-pub fn emit_leaf(
-    b: TypeTable,
-    section: &[u8],
-    work: &mut [u8],
-    text: &mut [u8],
-    at: usize,
-    id: u32,
-    t: BtfType,
-    cont_id: u32,
-    is_fwd: bool,
-) -> usize
-    ensures { λ r. ⌜ ((n : ℕ) → emitOut n r (now (text .exit)) (now (work .exit)) ≡ obind (emitOut n at (now (text .entry)) (now (work .entry))) (λ m. shownIn b (btfOf b (now (section .entry)) (now (work .entry))) («is_fwd» || eqb «cont_id» 0) (typeOf b (now (section .entry)) t) m id)) ⌝ }
-{
-    if is_fwd | (cont_id == 0) {
-        let a = emit_definition(b, section, work, text, at, id, t);
-        set_emit_state(work, id, 2);
-        return a;
-    }
-    set_emit_state(work, id, 2);
-    at
 }
 
 // What the members of a composite are emitted within.
-pub fn inner(named: bool, id: u32, cont_id: u32) -> u32
-    ensures { λ r. ⌜ r ≡ pick named id «cont_id» ⌝ }
+pub fn inner(named: bool, id: u32, cont: u32) -> u32
+    ensures { λ r. ⌜ r ≡ pick named id cont ⌝ }
 {
-    if named { id } else { cont_id }
+    if named { id } else { cont }
 }
 
 // A named composite within another: a forward line, unless it is that other.
@@ -129,17 +144,23 @@ fn emit_mention(
     section: &[u8],
     work: &mut [u8],
     text: &mut [u8],
-    at: usize,
+    list: &mut [u8],
+    lists: bool,
+    p: Pen,
     id: u32,
     t: BtfType,
-    cont_id: u32,
-) -> usize
-    ensures { λ r. ⌜ ((n : ℕ) → emitOut n r (now (text .exit)) (now (work .exit)) ≡ obind (emitOut n at (now (text .entry)) (now (work .entry))) (λ m. mentionIn b (btfOf b (now (section .entry)) (now (work .entry))) (typeOf b (now (section .entry)) t) «cont_id» m id)) ⌝ }
+    cont: u32,
+) -> Pen
+    ensures { λ r. ⌜ ((n : ℕ) → notedOut n r (now (text .exit)) (now (work .exit)) (now (list .exit))
+        ≡ obind (notedOut n p (now (text .entry)) (now (work .entry)) (now (list .entry)))
+        (λ m. mentionN b (btfOf b (now (section .entry)) (now (work .entry))) (lentList lists (now (list .entry)))
+        (typeOf b (now (section .entry)) t) cont m id)) ⌝ }
 {
-    if id == cont_id {
-        return at;
+    if id == cont {
+        return p;
     }
-    emit_once(b, section, work, text, at, id, t)
+    let e = forward_origin(id, cont);
+    emit_once(b, section, work, text, list, lists, p, id, t, e)
 }
 
 // The same with the emit state around it: the composite is begun, and new again after that.
@@ -148,15 +169,20 @@ pub fn mention_composite(
     section: &[u8],
     work: &mut [u8],
     text: &mut [u8],
-    at: usize,
+    list: &mut [u8],
+    lists: bool,
+    p: Pen,
     id: u32,
     t: BtfType,
-    cont_id: u32,
-) -> usize
-    ensures { λ r. ⌜ ((n : ℕ) → emitOut n r (now (text .exit)) (now (work .exit)) ≡ obind (emitOut n at (now (text .entry)) (now (work .entry))) (λ m. mentionedIn b (btfOf b (now (section .entry)) (now (work .entry))) (typeOf b (now (section .entry)) t) «cont_id» m id)) ⌝ }
+    cont: u32,
+) -> Pen
+    ensures { λ r. ⌜ ((n : ℕ) → notedOut n r (now (text .exit)) (now (work .exit)) (now (list .exit))
+        ≡ obind (notedOut n p (now (text .entry)) (now (work .entry)) (now (list .entry)))
+        (λ m. mentionedN b (btfOf b (now (section .entry)) (now (work .entry))) (lentList lists (now (list .entry)))
+        (typeOf b (now (section .entry)) t) cont m id)) ⌝ }
 {
     set_emit_state(work, id, 1);
-    let a = emit_mention(b, section, work, text, at, id, t, cont_id);
+    let a = emit_mention(b, section, work, text, list, lists, p, id, t, cont);
     set_emit_state(work, id, 0);
     a
 }
@@ -167,13 +193,21 @@ pub fn end_typedef(
     section: &[u8],
     work: &mut [u8],
     text: &mut [u8],
-    at: usize,
+    list: &mut [u8],
+    leads: &[u64],
+    q: Asked,
+    p: Pen,
     id: u32,
     t: BtfType,
-) -> usize
-    ensures { λ r. ⌜ ((n : ℕ) → emitOut n r (now (text .exit)) (now (work .exit)) ≡ obind (emitOut n at (now (text .entry)) (now (work .entry))) (λ m. typedefIn b (btfOf b (now (section .entry)) (now (work .entry))) (typeOf b (now (section .entry)) t) m id)) ⌝ }
+    cont: u32,
+) -> Pen
+    ensures { λ r. ⌜ ((n : ℕ) → notedOut n r (now (text .exit)) (now (work .exit)) (now (list .exit))
+        ≡ obind (notedOut n p (now (text .entry)) (now (work .entry)) (now (list .entry)))
+        (λ m. typedefN b (btfOf b (now (section .entry)) (now (work .entry))) (lentList (q .lists) (now (list .entry)))
+        (typeOf b (now (section .entry)) t) (causeAt 3 (entryIn (q .req) (q .turn) (now (leads .entry)) id) id cont) m id)) ⌝ }
 {
-    let a = emit_once(b, section, work, text, at, id, t);
+    let e = origin_at(leads, q, 3, id, cont);
+    let a = emit_once(b, section, work, text, list, q.lists, p, id, t, e);
     set_emit_state(work, id, 2);
     a
 }
@@ -184,18 +218,25 @@ pub fn end_composite(
     section: &[u8],
     work: &mut [u8],
     text: &mut [u8],
-    at: usize,
+    list: &mut [u8],
+    leads: &[u64],
+    q: Asked,
+    p: Pen,
     id: u32,
     t: BtfType,
-    cont_id: u32,
-) -> usize
-    ensures { λ r. ⌜ ((n : ℕ) → emitOut n r (now (text .exit)) (now (work .exit)) ≡ obind (emitOut n at (now (text .entry)) (now (work .entry))) (λ m. endedIn b (btfOf b (now (section .entry)) (now (work .entry))) (eqb «cont_id» 0) (typeOf b (now (section .entry)) t) m id)) ⌝ }
+    cont: u32,
+) -> Pen
+    ensures { λ r. ⌜ ((n : ℕ) → notedOut n r (now (text .exit)) (now (work .exit)) (now (list .exit))
+        ≡ obind (notedOut n p (now (text .entry)) (now (work .entry)) (now (list .entry)))
+        (λ m. endedN b (btfOf b (now (section .entry)) (now (work .entry))) (lentList (q .lists) (now (list .entry))) (eqb cont 0)
+        (typeOf b (now (section .entry)) t) (entryIn (q .req) (q .turn) (now (leads .entry)) id) m id)) ⌝ }
 {
-    if cont_id != 0 {
+    if cont != 0 {
         set_emit_state(work, id, 0);
-        return at;
+        return p;
     }
-    let a = emit_definition(b, section, work, text, at, id, t);
+    let e = listed_origin(leads, q, id);
+    let a = define(b, section, work, text, list, q.lists, p, id, t, e);
     set_emit_state(work, id, 2);
     a
 }

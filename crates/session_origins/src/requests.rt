@@ -69,6 +69,7 @@ fn dump_one(
     let q = Asked {
         req: id,
         turn: turn,
+        lists: true,
     };
     let d = dump_noted(b, section, work, &mut text[from..to], list, leads, p, q);
     let r = arrived(len, visits, to - from, d.at);

@@ -1,2 +1,1 @@
 pub mod request
-pub mod steps

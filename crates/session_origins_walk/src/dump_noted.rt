@@ -1,24 +1,24 @@
 // One request with an entry for each line: ordering, then the lines of the listed ids, from the list's first to its last.
-use crate::emit_noted::emit_noted;
 use crate::order_led::order_led;
-use crate::steps::stop_at;
 use c_dumper_dependency_order::leaders::Way;
 use c_dumper_dependency_order::order_state::Order;
-use c_dumper_dependency_order::order_state::get_listed;
+use c_dumper_emit::emit_type::emit_ordered;
 use c_dumper_emit::entries::Asked;
 use c_dumper_emit::entries::Pen;
+use c_dumper_emit::steps::stop_at;
 use spec_session::emission::clear_list;
 use spec_type_table::TypeTable;
 ghost use mathlib.Core.Path.{_≡_};
-ghost use Rattle.spec_c_dumper.specs.rules.Machine.{obind, eeach};
+ghost use Rattle.spec_c_dumper.specs.rules.Machine.{obind};
+ghost use Rattle.spec_c_dumper.specs.rules.Types.{tableOf};
 ghost use Rattle.spec_type_table.specs.Table.{btfOf};
-ghost use Rattle.spec_session.specs.emission.Sheet.{sheetStore};
-ghost use Rattle.spec_c_dumper.specs.origins.Causes.{entriesIn};
+ghost use Rattle.spec_session.specs.emission.Sheet.{sheetStore, workMachine};
+ghost use Rattle.spec_c_dumper.specs.origins.Causes.{entriesIn, upTo, showsIn, eachListed};
 ghost use Rattle.c_dumper_dependency_order.specs.leaders.Leads.{entryIn};
-ghost use Rattle.c_dumper_emit.specs.entries.Noted.{notedOut, emitN};
+ghost use Rattle.c_dumper_emit.specs.entries.Noted.{notedOut};
 ghost use Rattle.session_origins_walk.specs.request.Kept.{withLeads, dumpedKept};
 
-// Emits the first n ids of the order list.
+// Emits the first n ids of the order list, with an entry for each line.
 fn emit_listed(
     b: TypeTable,
     section: &[u8],
@@ -30,16 +30,19 @@ fn emit_listed(
     p: Pen,
     n: u32,
 ) -> Pen
-    ensures { λ r. ⌜ notedOut n r (now (text .exit)) (now (work .exit)) (now (list .exit)) ≡ obind (notedOut n p (now (text .entry)) (now (work .entry)) (now (list .entry))) (λ m. eeach (emitN b (btfOf b (now (section .entry)) (now (work .entry))) (entriesIn (now (list .entry))) (entryIn (q .req) (q .turn) (now (leads .entry))) 512 0) (sheetStore .list (m .mach)) m) ⌝ }
+    ensures { λ r. ⌜ notedOut n r (now (text .exit)) (now (work .exit)) (now (list .exit))
+        ≡ obind (notedOut n p (now (text .entry)) (now (work .entry)) (now (list .entry)))
+        (λ m. eachListed (workMachine b (btfOf b (now (section .entry)) (now (work .entry))))
+        (tableOf (btfOf b (now (section .entry)) (now (work .entry)))) (upTo (entriesIn (now (list .entry))))
+        (showsIn (btfOf b (now (section .entry)) (now (work .entry)))) (entryIn (q .req) (q .turn) (now (leads .entry)))
+        (sheetStore .list (m .mach)) m) ⌝ }
 {
-    let mut a = p;
-    let mut k: u32 = 0;
-    while k < n {
-        let id = get_listed(work, k);
-        a = emit_noted(b, section, work, text, list, leads, q, a, id, 0, 512);
-        k += 1;
-    }
-    a
+    let listed = Asked {
+        req: q.req,
+        turn: q.turn,
+        lists: true,
+    };
+    emit_ordered(b, section, work, text, list, leads, listed, p, n)
 }
 
 // The place after the text of the request and the count of entries after it; or a place past the end that says which

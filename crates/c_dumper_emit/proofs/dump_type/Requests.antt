@@ -1,4 +1,4 @@
--- Laws of a request: the listed ids, ordering beside a text, and requests that have nothing to do. Assumes nothing.
+-- Laws of a request: ordering beside a text, and requests that have nothing to do. Assumes nothing.
 use Prim.Native.Nat.{ℕ, zero, suc, _+_, _-_, _<_, _≤_}
 use mathlib.Core.Path.{_≡_, refl, ap, _∙_, sym, subst}
 use mathlib.Core.List.{List, []}
@@ -6,7 +6,6 @@ use mathlib.Core.Bool.{Bool, true, false, _||_, true≢false}
 use mathlib.Core.Logic.{_⊎_, inl, inr, ⊎-elim}
 use native.Mathlib.Omega.{arith}
 use lib.Dec.{eqb, ltb}
-use lib.ListN.{length}
 use borrow.Author.Tests.{ne-eqb, le-leb, lt-leb}
 use Rattle.spec_bytes.proofs.words.Laws.{le-or-lt}
 use Rattle.spec_bytes.specs.text.Text.{cut, bytes, putOut, written, putText}
@@ -31,46 +30,9 @@ use Rattle.c_dumper_dependency_order.proofs.order_state.Laws.{going, stops, cou
 use Rattle.c_dumper_emit.specs.dump_type.Metered.{orderedIn, besideOf, dumpedMetered, callsIn, dumpedWithin}
 use Rattle.spec_session.specs.emission.Sheet.{Sheet, marksIn, withMarks, sheetStore, emptied, emitOut, workMachine, emitIn, isIgnored, isIdle}
 use Rattle.spec_c_dumper.specs.rules.Request.{listedOut, dumped}
-use Rattle.spec_session.proofs.emission.Frame.{Stays, on, off, stays-then, places, places-emit}
+use Rattle.spec_session.proofs.emission.Frame.{Stays, on, off}
 use Rattle.spec_c_dumper.proofs.rules.Maps.{rmap, StoreMap, map-order}
-use Rattle.spec_session.proofs.emission.Laws.{sheet, goes, halts, by-out, obind-then, at-sheet, entry-stays, Rest, rest-start, rest-turn, rest-end}
-
--- ---- the listed ids
--- the walk, and that the list is as it was
-pub record Listing (b : TypeTable) (s : List ℕ) (w₀ : List ℕ) (n at : ℕ) (tx₀ : List ℕ) (p : ℕ) (tx w : List ℕ) (k : ℕ) : Type 0 where
-  pub rest : Rest b s w₀ 512 0 (places w₀) n at tx₀ n p tx w k
-  pub list : Stays places w₀ (emitOut n p tx w)
-
-module _ (b : TypeTable) (s : List ℕ) (w₀ : List ℕ) (n at : ℕ) (tx₀ : List ℕ) where
-  pub listing-start : Listing b s w₀ n at tx₀ at tx₀ w₀ 0
-  listing-start = record { rest = rest-start b s w₀ 512 0 (places w₀) n at tx₀ n; list = entry-stays b s places n at tx₀ w₀ }
-
-  module _ (p : ℕ) (tx w : List ℕ) (k : ℕ) (inv : Listing b s w₀ n at tx₀ p tx w k) where
-    same-list : p ≤ length tx → places w ≡ places w₀
-    same-list l = go (emitOut n p tx w) (inv .list) (goes n p tx w l)
-      where
-        same-wrote : (m m′ : Sheet) → wrote m ≡ wrote m′ → m ≡ m′
-        same-wrote m m′ e = cc
-
-        no : (c : ℕ) (m : Sheet) → stuck c ≡ wrote m → ⊥
-        no c m e = let z : _≡_ {A = ℕ} 0 1 = cc in omega arith
-
-        go : (o : Out Sheet) → Stays places w₀ o → o ≡ wrote (sheet n p tx w) → places w ≡ places w₀
-        go (wrote m) (on e) q = ap (λ (y : Sheet). places (y .work)) (sym (same-wrote m (sheet n p tx w) q)) ∙ e
-        go (stuck c) off q = absurd (no c (sheet n p tx w) q)
-
-    pub listing-turn : k < n → (y : ℕ) → y ≡ getField w k 11 → (q : ℕ) (tx₁ w₁ : List ℕ) → emitOut n q tx₁ w₁ ≡ obind (emitOut n p tx w) (λ m. emitIn b (btfOf b s w) 512 0 m y)
-        → Listing b s w₀ n at tx₀ q tx₁ w₁ (k + 1)
-    unfolding emitIn
-    listing-turn l y ey q tx₁ w₁ e = record {
-      rest = rest-turn b s w₀ 512 0 (places w₀) n at tx₀ n p tx w k (inv .rest) y (λ h. ey ∙ ap (λ (f : ℕ → ℕ). f k) (same-list h)) q tx₁ w₁ e l;
-      list = subst (Stays places w₀) (sym e) (stays-then places w₀ (emitOut n p tx w) (λ m. emitIn b (btfOf b s w) 512 0 m y) (inv .list) (λ m. places-emit b (btfOf b s w) 512 m y 0));
-    }
-
-    pub listing-end : n ≤ k → emitOut n p tx w ≡ obind (emitOut n at tx₀ w₀) (λ m. eeach (emitIn b (btfOf b s w₀) 512 0) (sheetStore .list m) m)
-    unfolding sheetStore workStore
-    listing-end l = rest-end b s w₀ 512 0 (places w₀) n at tx₀ n p tx w k (inv .rest) l
-        ∙ at-sheet n at tx₀ w₀ (λ m. eeach (emitIn b (btfOf b s w₀) 512 0) (from (places w₀) 0 n) m) (λ m. eeach (emitIn b (btfOf b s w₀) 512 0) (sheetStore .list m) m) (λ h. refl)
+use Rattle.spec_session.proofs.emission.Laws.{sheet, goes, halts, by-out, obind-then, at-sheet}
 
 -- ---- ordering beside a text: what the store in the work gives, and the text as it was
 module _ (t : List ℕ) (at : ℕ) where

@@ -27,9 +27,9 @@ use Rattle.spec_type_table.proofs.Laws.{place-type, place-enum}
 use Rattle.spec_type_table.proofs.Frame.{field-other, table-field, table-type-version, table-value-version, counted-other}
 use Rattle.c_dumper_dependency_order.specs.order_state.Work.{code}
 use Rattle.spec_session.specs.emission.Sheet.{Sheet, sheetOf, lineIn, workMachine}
-use Rattle.spec_c_dumper.specs.origins.Causes.{Entry, entry, Noted, withEntries, upTo, line, causeAt, emitNoted, showsIn}
+use Rattle.spec_c_dumper.specs.origins.Causes.{Entry, entry, Noted, withEntries, upTo, line, causeAt, showsIn}
 use Rattle.spec_session.proofs.emission.Frame.{table-emark, places}
-use Rattle.c_dumper_emit.specs.entries.Noted.{machN}
+use Rattle.c_dumper_emit.specs.entries.Noted.{Lent, machN, emitN}
 
 module _ {X : Type 0} (P : List ℕ → X) where
   pub data Stays (w : List ℕ) : Out (Noted Sheet) → Type 0 where
@@ -48,7 +48,7 @@ module _ {X : Type 0} (P : List ℕ → X) where
   module _ (b : TypeTable) (marks : (w : List ℕ) (x v : ℕ) → P (putField w x 13 v) ≡ P w) (flags : (w : List ℕ) (x v : ℕ) → P (putField w x 3 v) ≡ P w)
       (count : (w : List ℕ) (v : ℕ) → P (putField w 0 2 v) ≡ P w) (aligns : (w : List ℕ) (x v : ℕ) → P (putField w x 15 v) ≡ P w)
       (types : (space : Space) (id : ℕ) (name : Name) (w : List ℕ) → P (workNaming b .typeVersion space id name w .names) ≡ P w)
-      (values : (id i : ℕ) (name : Name) (w : List ℕ) → P (workNaming b .valueVersion id i name w .names) ≡ P w) (B : Rules) (room : ℕ) (why : ℕ → Entry) where
+      (values : (id i : ℕ) (name : Name) (w : List ℕ) → P (workNaming b .valueVersion id i name w .names) ≡ P w) (B : Rules) (lent : Lent) (why : ℕ → Entry) where
     stays-said : (v : Writer (List ℕ)) → Keeps P v → (es : List Entry) (m : Sheet) → Stays (m .work) (withEntries es (lineIn v m))
     unfolding lineIn sheetOf putSaid withNames saidNames withEntries
     stays-said v h es m = go (v (m .work)) (h (m .work))
@@ -60,17 +60,17 @@ module _ {X : Type 0} (P : List ℕ → X) where
         go : (s : Said (List ℕ)) → P (saidNames s) ≡ P (m .work) → Stays (m .work) (withEntries es (sheetOf (m .len) (putSaid (m .text) (m .at) s)))
         go (said u x) e = inner u e (putText (m .text) (m .at) x)
 
-    stays-line : (shown : Bool) (e : Entry) (v : Writer (List ℕ)) → Keeps P v → (m : Noted Sheet) → Stays (m .mach .work) (line (upTo room) shown e (λ k. lineIn v k) m)
+    stays-line : (shown : Bool) (e : Entry) (v : Writer (List ℕ)) → Keeps P v → (m : Noted Sheet) → Stays (m .mach .work) (line (upTo (lent .room)) shown e (λ k. lineIn v k) m)
     unfolding line
     stays-line false e v h m = stays-said v h (m .entries) (m .mach)
-    stays-line true e v h m = go (ltb (length (m .entries)) room)
+    stays-line true e v h m = go (ltb (length (m .entries)) (lent .room))
       where
         go : (t : Bool) → Stays (m .mach .work) (elim t as (λ z. Out (Noted Sheet)) [ true ↦ withEntries (m .entries ++ (e ∷ [])) (lineIn v (m .mach)) | false ↦ stuck 17 ])
         go true = stays-said v h (m .entries ++ (e ∷ [])) (m .mach)
         go false = off
 
     abbrev N : ℕ → Machine (Noted Sheet)
-    N cont = machN b B room why cont
+    N cont = machN b B lent why cont
 
     stays-emark : (cont : ℕ) (k : Mark) (x : ℕ) (m : Noted Sheet) → P (N cont .emark k x m .mach .work) ≡ P (m .mach .work)
     unfolding workMachine
@@ -82,19 +82,19 @@ module _ {X : Type 0} (P : List ℕ → X) where
 
     stays-fwd : (cont : ℕ) (m : Noted Sheet) (x : ℕ) → Stays (m .mach .work) (N cont .fwdLine m x)
     unfolding workMachine
-    stays-fwd cont m x = stays-line (showsIn B x) (entry x 2 cont) (forwardOnce (workAsks (b .types) B) (workNaming b) B x (B .type-by-id x)) (forward-keeps P count aligns b B types values x (B .type-by-id x)) m
+    stays-fwd cont m x = stays-line (lent .lists && showsIn B x) (entry x 2 cont) (forwardOnce (workAsks (b .types) B) (workNaming b) B x (B .type-by-id x)) (forward-keeps P count aligns b B types values x (B .type-by-id x)) m
 
     stays-alias : (cont : ℕ) (m : Noted Sheet) (x : ℕ) → Stays (m .mach .work) (N cont .aliasLine m x)
     unfolding workMachine
-    stays-alias cont m x = stays-line (showsIn B x) (causeAt 3 (why x) x cont) (forwardOnce (workAsks (b .types) B) (workNaming b) B x (B .type-by-id x)) (forward-keeps P count aligns b B types values x (B .type-by-id x)) m
+    stays-alias cont m x = stays-line (lent .lists && showsIn B x) (causeAt 3 (why x) x cont) (forwardOnce (workAsks (b .types) B) (workNaming b) B x (B .type-by-id x)) (forward-keeps P count aligns b B types values x (B .type-by-id x)) m
 
     stays-leaf-line : (cont : ℕ) (m : Noted Sheet) (x : ℕ) → Stays (m .mach .work) (N cont .leafLine m x)
     unfolding workMachine
-    stays-leaf-line cont m x = stays-line true (causeAt 2 (why x) x cont) (definitionOnce (workAsks (b .types) B) (workNaming b) B x (B .type-by-id x)) (definition-keeps P count aligns b B types values x (B .type-by-id x)) m
+    stays-leaf-line cont m x = stays-line (lent .lists && true) (causeAt 2 (why x) x cont) (definitionOnce (workAsks (b .types) B) (workNaming b) B x (B .type-by-id x)) (definition-keeps P count aligns b B types values x (B .type-by-id x)) m
 
     stays-body : (cont : ℕ) (m : Noted Sheet) (x : ℕ) → Stays (m .mach .work) (N cont .body m x)
     unfolding workMachine
-    stays-body cont m x = stays-line true (why x) (definitionOnce (workAsks (b .types) B) (workNaming b) B x (B .type-by-id x)) (definition-keeps P count aligns b B types values x (B .type-by-id x)) m
+    stays-body cont m x = stays-line (lent .lists && true) (why x) (definitionOnce (workAsks (b .types) B) (workNaming b) B x (B .type-by-id x)) (definition-keeps P count aligns b B types values x (B .type-by-id x)) m
 
     stays-eeach : (f : Noted Sheet → ℕ → Out (Noted Sheet)) → ((m : Noted Sheet) (y : ℕ) → Stays (m .mach .work) (f m y)) → (ys : List ℕ) (m : Noted Sheet) → Stays (m .mach .work) (eeach f ys m)
     unfolding eeach
@@ -169,10 +169,10 @@ module _ {X : Type 0} (P : List ℕ → X) where
       stays-look busy = stays-again m x cont (tableOf B .node x)
       stays-look done = on refl
 
-    pub stays-emit : (n : ℕ) (m : Noted Sheet) (x cont : ℕ) → Stays (m .mach .work) (emitNoted (workMachine b B) (upTo room) (showsIn B) why (tableOf B) n m x cont)
-    unfolding emitNoted
+    pub stays-emit : (n : ℕ) (m : Noted Sheet) (x cont : ℕ) → Stays (m .mach .work) (emitN b B lent why n cont m x)
+    unfolding emitN
     stays-emit zero m x cont = off
-    stays-emit (suc n) m x cont = stays-look (λ m′ y c. emitNoted (workMachine b B) (upTo room) (showsIn B) why (tableOf B) n m′ y c) (λ m′ y c. stays-emit n m′ y c) m x cont (workMachine b B .eget (m .mach) x)
+    stays-emit (suc n) m x cont = stays-look (λ m′ y c. emitN b B lent why n c m′ y) (λ m′ y c. stays-emit n m′ y c) m x cont (workMachine b B .eget (m .mach) x)
 
 -- the type table
 table-flag : (b : TypeTable) (s : List ℕ) (w : List ℕ) (x v : ℕ) → btfOf b s (putField w x 3 v) ≡ btfOf b s w
@@ -192,13 +192,13 @@ table-values : (b : TypeTable) (s : List ℕ) (id i : ℕ) (name : Name) (w : Li
 unfolding workNaming
 table-values b s id i name w = table-value-version b s w (enumeratorOf w id i)
 
-module _ (b : TypeTable) (s : List ℕ) (B : Rules) (room : ℕ) (why : ℕ → Entry) where
-  pub table-emit : (n : ℕ) (m : Noted Sheet) (x cont : ℕ) → Stays (btfOf b s) (m .mach .work) (emitNoted (workMachine b B) (upTo room) (showsIn B) why (tableOf B) n m x cont)
-  table-emit = stays-emit (btfOf b s) b (table-emark b s) (table-flag b s) (table-count b s) (table-aligns b s) (table-names b s) (table-values b s) B room why
+module _ (b : TypeTable) (s : List ℕ) (B : Rules) (lent : Lent) (why : ℕ → Entry) where
+  pub table-emit : (n : ℕ) (m : Noted Sheet) (x cont : ℕ) → Stays (btfOf b s) (m .mach .work) (emitN b B lent why n cont m x)
+  table-emit = stays-emit (btfOf b s) b (table-emark b s) (table-flag b s) (table-count b s) (table-aligns b s) (table-names b s) (table-values b s) B lent why
 
-  pub table-each : (n cont : ℕ) (ys : List ℕ) (m : Noted Sheet) → Stays (btfOf b s) (m .mach .work) (eeach (λ m′ y. emitNoted (workMachine b B) (upTo room) (showsIn B) why (tableOf B) n m′ y cont) ys m)
+  pub table-each : (n cont : ℕ) (ys : List ℕ) (m : Noted Sheet) → Stays (btfOf b s) (m .mach .work) (eeach (λ m′ y. emitN b B lent why n cont m′ y) ys m)
   table-each n cont ys m =
-      stays-eeach (btfOf b s) b (table-emark b s) (table-flag b s) (table-count b s) (table-aligns b s) (table-names b s) (table-values b s) B room why (λ m′ y. emitNoted (workMachine b B) (upTo room) (showsIn B) why (tableOf B) n m′ y cont) (λ m′ y. table-emit n m′ y cont) ys m
+      stays-eeach (btfOf b s) b (table-emark b s) (table-flag b s) (table-count b s) (table-aligns b s) (table-names b s) (table-values b s) B lent why (λ m′ y. emitN b B lent why n cont m′ y) (λ m′ y. table-emit n m′ y cont) ys m
 
 -- the places of the order list
 place-apart : (types c j : ℕ) → j * 16 + 11 ≢ countP types c
@@ -242,5 +242,5 @@ places-values b id i name w = go (ltb (b .types + enumeratorOf w id i) 429496729
     go false = refl
     go true = places-counted (b .types) w (b .types + enumeratorOf w id i)
 
-pub places-emit : (b : TypeTable) (B : Rules) (room : ℕ) (why : ℕ → Entry) (n : ℕ) (m : Noted Sheet) (x cont : ℕ) → Stays places (m .mach .work) (emitNoted (workMachine b B) (upTo room) (showsIn B) why (tableOf B) n m x cont)
+pub places-emit : (b : TypeTable) (B : Rules) (lent : Lent) (why : ℕ → Entry) (n : ℕ) (m : Noted Sheet) (x cont : ℕ) → Stays places (m .mach .work) (emitN b B lent why n cont m x)
 places-emit b = stays-emit places b (places-field 13 (omega arith) (λ e. omega arith)) (places-field 3 (omega arith) (λ e. omega arith)) (λ w v. places-field 2 (omega arith) (λ e. omega arith) w 0 v) (places-field 15 (omega arith) (λ e. omega arith)) (places-names b) (places-values b)

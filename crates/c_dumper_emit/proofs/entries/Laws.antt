@@ -2,7 +2,7 @@
 use Prim.Native.Nat.{ℕ, zero, suc, _+_, _*_, _-_, _/_, _<_, _≤_}
 use mathlib.Core.Path.{_≡_, refl, ap, _∙_, sym, subst}
 use mathlib.Core.List.{List, [], _∷_, _++_}
-use mathlib.Core.Bool.{Bool, true, false, not, true≢false}
+use mathlib.Core.Bool.{Bool, true, false, not, _&&_, true≢false}
 use native.Mathlib.Omega.{arith}
 use native.Mathlib.Numerals.{add-one}
 use lib.Dec.{ltb}
@@ -28,11 +28,11 @@ use Rattle.spec_type_table.proofs.KindLaws.{by-kind, type-0, type-1, type-2, ty
 use Rattle.spec_session.specs.emission.Sheet.{Sheet, sheetOf, withWork, lineIn}
 use Rattle.spec_session.proofs.emission.Laws.{sheet, by-out}
 use Rattle.spec_session.proofs.emission.Laws as plainly
-use Rattle.spec_c_dumper.specs.origins.Causes.{Entry, entry, Noted, withEntries, line, causeAt}
+use Rattle.spec_c_dumper.specs.origins.Causes.{Entry, entry, Noted, withEntries, upTo, line, causeAt}
 use Rattle.c_dumper_dependency_order.specs.leaders.Leads.{leaderIn, entryIn}
 use Rattle.c_dumper_emit.specs.declared.entries.Pen.{Pen}
-use Rattle.c_dumper_emit.specs.declared.entries.Cause.{Cause}
-use Rattle.c_dumper_emit.specs.entries.Noted.{entryAt, entriesOf, entryOf, entryPut, notedOut, noteN, noteIfN, lineN, shownOf, emitN}
+use Rattle.c_dumper_emit.specs.declared.entries.Origin.{Origin}
+use Rattle.c_dumper_emit.specs.entries.Noted.{Lent, entryAt, entriesOf, entryOf, entryPut, notedOut, noteN, noteIfN, lineN, shownOf, emitN}
 use Rattle.c_dumper_emit.proofs.entries.Frame.{Stays, on, off, stays-then, table-emit}
 
 abbrev pub paper : ℕ → Pen → List ℕ → List ℕ → List ℕ → Noted Sheet
@@ -55,7 +55,7 @@ entries-other (suc k) l l′ h =
     ap (λ (es : List Entry). es ++ (entryAt l′ k ∷ [])) (entries-other k l l′ (λ i q. h i (omega arith)))
     ∙ (λ i. entriesOf k l ++ (entry (h (k * 3) (omega arith) i) (h (k * 3 + 1) (omega arith) i) (h (k * 3 + 2) (omega arith) i) ∷ []))
 
-pub entries-more : (k : ℕ) (l : List ℕ) (e : Cause) → k < length l / 12 → entriesOf (k + 1) (entryPut l k e) ≡ entriesOf k l ++ (entryOf e ∷ [])
+pub entries-more : (k : ℕ) (l : List ℕ) (e : Origin) → k < length l / 12 → entriesOf (k + 1) (entryPut l k e) ≡ entriesOf k l ++ (entryOf e ∷ [])
 unfolding entriesOf entryPut entryAt
 entries-more k l e h =
     rw add-one
@@ -83,7 +83,7 @@ entries-more k l e h =
     third : getWord (putWord l₂ (k * 3 + 2) (e .leader)) (k * 3 + 2) ≡ e .leader
     third = get-put-same l₂ (k * 3 + 2) (e .leader) (omega (arith, len₂))
 
-pub put-is : (l : List ℕ) (k : ℕ) (e : Cause) (l₁ l₂ l₃ : List ℕ) → l₁ ≡ putWord l (k * 3) (e .id) → l₂ ≡ putWord l₁ (k * 3 + 1) (e .cause) → l₃ ≡ putWord l₂ (k * 3 + 2) (e .leader) → l₃ ≡ entryPut l k e
+pub put-is : (l : List ℕ) (k : ℕ) (e : Origin) (l₁ l₂ l₃ : List ℕ) → l₁ ≡ putWord l (k * 3) (e .id) → l₂ ≡ putWord l₁ (k * 3 + 1) (e .cause) → l₃ ≡ putWord l₂ (k * 3 + 2) (e .leader) → l₃ ≡ entryPut l k e
 unfolding entryPut
 put-is l k e l₁ l₂ l₃ e₁ e₂ e₃ = e₃ ∙ ap (λ (u : List ℕ). putWord u (k * 3 + 2) (e .leader)) (e₂ ∙ ap (λ (u : List ℕ). putWord u (k * 3 + 1) (e .cause)) e₁)
 
@@ -231,7 +231,7 @@ module _ (n : ℕ) (p : Pen) (t w l : List ℕ) where
   unfolding noteN
   note-full room e r h er = stop-sheet 17 (record { at = r; count = p .count }) (λ m. noteN room e m) er (λ _. rw (entries-length (p .count) l, le-ltb (p .count) room h, noteN))
 
-  pub note-more : (e : Cause) (l′ : List ℕ) → p .count < length l / 12 → l′ ≡ entryPut l (p .count) e → notedOut n (record { at = p .at; count = p .count + 1 }) t w l′ ≡ obind Here (λ m. noteN (length l / 12) (entryOf e) m)
+  pub note-more : (e : Origin) (l′ : List ℕ) → p .count < length l / 12 → l′ ≡ entryPut l (p .count) e → notedOut n (record { at = p .at; count = p .count + 1 }) t w l′ ≡ obind Here (λ m. noteN (length l / 12) (entryOf e) m)
   unfolding noteN
   note-more e l′ h el = by-out _ (p .at) t
       (λ i. goes n (record { at = p .at; count = p .count + 1 }) t w l′ i
@@ -248,8 +248,8 @@ module _ (n : ℕ) (p : Pen) (t w l : List ℕ) where
   noteif-no f room e h = same-sheet (λ m. noteIfN f room e m) (ap (λ (g : Bool). noteIfN g room e (paper n p t w l)) h)
 
 -- ---- a line: the note, and what is said
-line-is : (f : Bool) (room : ℕ) (e : Entry) (v : Writer (List ℕ)) (m : Noted Sheet) → obind (noteIfN f room e m) (λ k. withEntries (k .entries) (lineIn v (k .mach))) ≡ lineN room f e v m
-unfolding noteIfN noteN obind lineN line
+line-is : (f : Bool) (room : ℕ) (e : Entry) (v : Writer (List ℕ)) (m : Noted Sheet) → obind (noteIfN f room e m) (λ k. withEntries (k .entries) (lineIn v (k .mach))) ≡ line (upTo room) f e (λ k. lineIn v k) m
+unfolding noteIfN noteN obind line
 line-is false room e v m = refl
 line-is true room e v m = go (ltb (length (m .entries)) room)
   where
@@ -260,15 +260,30 @@ line-is true room e v m = go (ltb (length (m .entries)) room)
 
 module _ (n : ℕ) (p : Pen) (t w l : List ℕ) where
   -- a line: its entry, and what the writer says
-  pub line-noted : (f : Bool) (room : ℕ) (e : Entry) (v : Writer (List ℕ)) (q : Pen) (l′ : List ℕ) (a : ℕ) (t′ w′ : List ℕ) → notedOut n q t w l′ ≡ obind (notedOut n p t w l) (λ m. noteIfN f room e m)
-      → outOf a t′ w′ ≡ putSaid t (q .at) (v w) → notedOut n (record { at = a; count = q .count }) t′ w′ l′ ≡ obind (notedOut n p t w l) (λ m. lineN room f e v m)
+  line-noted : (f : Bool) (room : ℕ) (e : Entry) (v : Writer (List ℕ)) (q : Pen) (l′ : List ℕ) (a : ℕ) (t′ w′ : List ℕ) → notedOut n q t w l′ ≡ obind (notedOut n p t w l) (λ m. noteIfN f room e m)
+      → outOf a t′ w′ ≡ putSaid t (q .at) (v w) → notedOut n (record { at = a; count = q .count }) t′ w′ l′ ≡ obind (notedOut n p t w l) (λ m. line (upTo room) f e (λ k. lineIn v k) m)
   line-noted f room e v q l′ a t′ w′ eq el =
       then (notedOut n p t w l) (λ m. noteIfN f room e m) (λ m. withEntries (m .entries) (lineIn v (m .mach))) (notedOut n q t w l′) (notedOut n (record { at = a; count = q .count }) t′ w′ l′) eq (said-sheet n q t w l′ v a t′ w′ el)
-      ∙ obind-same (notedOut n p t w l) (λ m. obind (noteIfN f room e m) (λ k. withEntries (k .entries) (lineIn v (k .mach)))) (λ m. lineN room f e v m) (λ m. line-is f room e v m)
+      ∙ obind-same (notedOut n p t w l) (λ m. obind (noteIfN f room e m) (λ k. withEntries (k .entries) (lineIn v (k .mach)))) (λ m. line (upTo room) f e (λ k. lineIn v k) m) (λ m. line-is f room e v m)
 
-  pub line-shown : (f g : Bool) (room : ℕ) (e : Entry) (v : Writer (List ℕ)) (q : Pen) (l′ : List ℕ) (a : ℕ) (t′ w′ : List ℕ) → f ≡ g → notedOut n q t w l′ ≡ obind (notedOut n p t w l) (λ m. noteIfN f room e m)
-      → outOf a t′ w′ ≡ putSaid t (q .at) (v w) → notedOut n (record { at = a; count = q .count }) t′ w′ l′ ≡ obind (notedOut n p t w l) (λ m. lineN room g e v m)
-  line-shown f g room e v q l′ a t′ w′ fg eq el = line-noted f room e v q l′ a t′ w′ eq el ∙ ap (λ (x : Bool). obind (notedOut n p t w l) (λ m. lineN room x e v m)) fg
+  pub line-shown : (f g : Bool) (lent : Lent) (e : Entry) (v : Writer (List ℕ)) (q : Pen) (l′ : List ℕ) (a : ℕ) (t′ w′ : List ℕ) → f ≡ (lent .lists && g) → notedOut n q t w l′ ≡ obind (notedOut n p t w l) (λ m. noteIfN f (lent .room) e m)
+      → outOf a t′ w′ ≡ putSaid t (q .at) (v w) → notedOut n (record { at = a; count = q .count }) t′ w′ l′ ≡ obind (notedOut n p t w l) (λ m. lineN lent g e v m)
+  unfolding lineN
+  line-shown f g lent e v q l′ a t′ w′ fg eq el = line-noted f (lent .room) e v q l′ a t′ w′ eq el ∙ ap (λ (x : Bool). obind (notedOut n p t w l) (λ m. line (upTo (lent .room)) x e (λ k. lineIn v k) m)) fg
+
+-- a list of the same length has the same room
+abbrev pub lentLength : Bool → ℕ → Lent
+lentLength lists i = record { lists = lists; room = i / 12 }
+
+pub same-lent : (lists : Bool) (i j : ℕ) → i ≡ j → lentLength lists i ≡ lentLength lists j
+same-lent lists i j e = ap (lentLength lists) e
+
+pub and-on : (f g r : Bool) → f ≡ true → r ≡ g → r ≡ (f && g)
+and-on f g r e q = q ∙ ap (λ (x : Bool). x && g) (sym e)
+
+pub and-true : (f : Bool) → f ≡ (f && true)
+and-true true = refl
+and-true false = refl
 
 -- ---- the table after a call is the table before it
 module _ (b : TypeTable) (s : List ℕ) where
@@ -292,8 +307,7 @@ module _ (b : TypeTable) (s : List ℕ) where
   pub entry-stays : {X : Type 0} → (P : List ℕ → X) (n : ℕ) (p : Pen) (t w l : List ℕ) → Stays P w (notedOut n p t w l)
   entry-stays P n p t w l = by-out _ (p .at) t (λ i. subst (Stays P w) (sym (goes n p t w l i)) (on refl)) (λ c q. subst (Stays P w) (sym (halts n p t w l c q)) off)
 
-  pub called-stays : (n : ℕ) (p : Pen) (t w l : List ℕ) (a : Pen) (t₁ w₁ l₁ : List ℕ) (B : Rules) (room : ℕ) (why : ℕ → Entry) (y left cont : ℕ)
-      → notedOut n a t₁ w₁ l₁ ≡ obind (notedOut n p t w l) (λ m. emitN b B room why left cont m y) → Stays (btfOf b s) w (notedOut n a t₁ w₁ l₁)
-  unfolding emitN
-  called-stays n p t w l a t₁ w₁ l₁ B room why y left cont e =
-      subst (Stays (btfOf b s) w) (sym e) (stays-then (btfOf b s) w (notedOut n p t w l) (λ m. emitN b B room why left cont m y) (entry-stays (btfOf b s) n p t w l) (λ m. table-emit b s B room why left m y cont))
+  pub called-stays : (n : ℕ) (p : Pen) (t w l : List ℕ) (a : Pen) (t₁ w₁ l₁ : List ℕ) (B : Rules) (lent : Lent) (why : ℕ → Entry) (y left cont : ℕ)
+      → notedOut n a t₁ w₁ l₁ ≡ obind (notedOut n p t w l) (λ m. emitN b B lent why left cont m y) → Stays (btfOf b s) w (notedOut n a t₁ w₁ l₁)
+  called-stays n p t w l a t₁ w₁ l₁ B lent why y left cont e =
+      subst (Stays (btfOf b s) w) (sym e) (stays-then (btfOf b s) w (notedOut n p t w l) (λ m. emitN b B lent why left cont m y) (entry-stays (btfOf b s) n p t w l) (λ m. table-emit b s B lent why left m y cont))

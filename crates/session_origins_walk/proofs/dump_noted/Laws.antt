@@ -1,69 +1,37 @@
--- Laws of a request with its entries: the listed ids, and the emptied list. Assumes nothing.
-use Prim.Native.Nat.{ℕ, _+_, _-_, _<_, _≤_}
+-- Laws of a request with its entries: ordering, the listed ids, and the emptied list. Assumes nothing.
+use Prim.Native.Nat.{ℕ, _≤_}
 use mathlib.Core.Path.{_≡_, refl, ap, _∙_, sym, subst}
 use mathlib.Core.List.{List, []}
-use mathlib.Core.Bool.{Bool, false}
+use mathlib.Core.Bool.{Bool, true, false}
 use native.Mathlib.Omega.{arith}
 use lib.ListN.{length}
 use Rattle.spec_bytes.specs.text.Text.{cut, bytes, stopped, putOut, written, putText}
 use Rattle.spec_bytes.proofs.text.TextLaws.{put-fits, stays}
 use Rattle.spec_c_dumper.specs.rules.Order.{Res, ok, refused, bind}
 use Rattle.spec_c_dumper.specs.rules.Machine.{Out, wrote, stuck, obind, eeach}
-use Rattle.spec_c_dumper.specs.rules.Types.{Btf as Rules}
+use Rattle.spec_c_dumper.specs.rules.Types.{Btf as Rules, tableOf}
 use Rattle.spec_type_table.specs.declared.types.TypeTable.{TypeTable}
-use Rattle.spec_type_table.specs.Cells.{getField}
-use Rattle.spec_type_table.specs.Table.{from, btfOf}
+use Rattle.spec_type_table.specs.Table.{btfOf}
 use Rattle.c_dumper_dependency_order.specs.declared.order_state.Order.{Order}
-use Rattle.c_dumper_dependency_order.specs.order_state.Work.{workStore, tableIn}
+use Rattle.c_dumper_dependency_order.specs.order_state.Work.{tableIn}
 use Rattle.spec_session.specs.emission.Sheet.{Sheet, sheetStore, emptied, workMachine}
-use Rattle.spec_session.proofs.emission.Frame.{places}
 use Rattle.spec_session.proofs.emission.Laws.{sheet, by-out}
-use Rattle.spec_c_dumper.specs.origins.Causes.{Entry, Noted}
+use Rattle.spec_c_dumper.specs.origins.Causes.{Entry, Noted, upTo, showsIn, eachListed}
 use Rattle.c_dumper_dependency_order.specs.leaders.Leads.{Kept, orderKept, keptOut, entryIn}
 use Rattle.c_dumper_dependency_order.proofs.leaders.Laws.{keptOf, table-kept}
 use Rattle.c_dumper_dependency_order.proofs.leaders.Laws as kept
 use Rattle.c_dumper_emit.specs.declared.entries.Pen.{Pen}
 use Rattle.c_dumper_emit.specs.entries.Noted.{notedOut, emitN}
-use Rattle.c_dumper_emit.proofs.entries.Frame.{Stays, on, off, stays-then, places-emit}
-use Rattle.c_dumper_emit.proofs.entries.Laws.{paper, goes, halts, obind-then, at-sheet, entry-stays}
-use Rattle.c_dumper_emit.proofs.entries.Walk.{Rest, rest-start, rest-turn, rest-end}
+use Rattle.c_dumper_emit.proofs.entries.Laws.{paper, goes, halts, obind-then, obind-same}
+use Rattle.c_dumper_emit.proofs.entries.Lists.{each-lists}
 use Rattle.session_origins_walk.specs.request.Kept.{wayTo, Beside, withLeads, orderedKept, eachKept, listedKept, dumpedKept}
 
--- ---- the listed ids: the walk, and that the list is as it was
-pub record Listing (b : TypeTable) (s : List ℕ) (room : ℕ) (why : ℕ → Entry) (w₀ : List ℕ) (n : ℕ) (p₀ : Pen) (tx₀ l₀ : List ℕ) (p : Pen) (tx w li : List ℕ) (k : ℕ) : Type 0 where
-  pub rest : Rest b s room why w₀ 512 0 (places w₀) n p₀ tx₀ l₀ n p tx w li k
-  pub list : Stays places w₀ (notedOut n p tx w li)
-
-module _ (b : TypeTable) (s : List ℕ) (room : ℕ) (why : ℕ → Entry) (w₀ : List ℕ) (n : ℕ) (p₀ : Pen) (tx₀ l₀ : List ℕ) where
-  pub listing-start : Listing b s room why w₀ n p₀ tx₀ l₀ p₀ tx₀ w₀ l₀ 0
-  listing-start = record { rest = rest-start b s room why w₀ 512 0 (places w₀) n p₀ tx₀ l₀ n; list = entry-stays b s places n p₀ tx₀ w₀ l₀ }
-
-  module _ (p : Pen) (tx w li : List ℕ) (k : ℕ) (inv : Listing b s room why w₀ n p₀ tx₀ l₀ p tx w li k) where
-    same-list : p .at ≤ length tx → places w ≡ places w₀
-    same-list h = go (notedOut n p tx w li) (inv .list) (goes n p tx w li h)
-      where
-        same-wrote : (m m′ : Noted Sheet) → wrote m ≡ wrote m′ → m ≡ m′
-        same-wrote m m′ e = cc
-
-        no : (c : ℕ) (m : Noted Sheet) → stuck c ≡ wrote m → ⊥
-        no c m e = let z : _≡_ {A = ℕ} 0 1 = cc in omega arith
-
-        go : (o : Out (Noted Sheet)) → Stays places w₀ o → o ≡ wrote (paper n p tx w li) → places w ≡ places w₀
-        go (wrote m) (on e) q = ap (λ (y : Noted Sheet). places (y .mach .work)) (sym (same-wrote m (paper n p tx w li) q)) ∙ e
-        go (stuck c) off q = absurd (no c (paper n p tx w li) q)
-
-    pub listing-turn : k < n → (y : ℕ) → y ≡ getField w k 11 → (room₁ : ℕ) → room₁ ≡ room → (q : Pen) (tx₁ w₁ l₁ : List ℕ) → notedOut n q tx₁ w₁ l₁ ≡ obind (notedOut n p tx w li) (λ m. emitN b (btfOf b s w) room₁ why 512 0 m y)
-        → Listing b s room why w₀ n p₀ tx₀ l₀ q tx₁ w₁ l₁ (k + 1)
-    unfolding emitN
-    listing-turn h y ey room₁ er q tx₁ w₁ l₁ e = record {
-      rest = rest-turn b s room why w₀ 512 0 (places w₀) n p₀ tx₀ l₀ n p tx w li k (inv .rest) y (λ i. ey ∙ ap (λ (f : ℕ → ℕ). f k) (same-list i)) room₁ er q tx₁ w₁ l₁ e h;
-      list = subst (Stays places w₀) (sym e) (stays-then places w₀ (notedOut n p tx w li) (λ m. emitN b (btfOf b s w) room₁ why 512 0 m y) (inv .list) (λ m. places-emit b (btfOf b s w) room₁ why 512 m y 0));
-    }
-
-    pub listing-end : n ≤ k → notedOut n p tx w li ≡ obind (notedOut n p₀ tx₀ w₀ l₀) (λ m. eeach (emitN b (btfOf b s w₀) room why 512 0) (sheetStore .list (m .mach)) m)
-    unfolding sheetStore workStore
-    listing-end h = rest-end b s room why w₀ 512 0 (places w₀) n p₀ tx₀ l₀ n p tx w li k (inv .rest) h
-        ∙ at-sheet n p₀ tx₀ w₀ l₀ (λ m. eeach (emitN b (btfOf b s w₀) room why 512 0) (from (places w₀) 0 n) m) (λ m. eeach (emitN b (btfOf b s w₀) room why 512 0) (sheetStore .list (m .mach)) m) (λ _. refl)
+-- ---- emit_listed: with a list the walk is the rule of the line origins
+pub with-list : (b : TypeTable) (B : Rules) (room : ℕ) (why : ℕ → Entry) (o x : Out (Noted Sheet)) → x ≡ obind o (λ m. eeach (emitN b B (record { lists = true; room = room }) why 512 0) (sheetStore .list (m .mach)) m)
+    → x ≡ obind o (λ m. eachListed (workMachine b B) (tableOf B) (upTo room) (showsIn B) why (sheetStore .list (m .mach)) m)
+with-list b B room why o x e =
+    e ∙ obind-same o (λ m. eeach (emitN b B (record { lists = true; room = room }) why 512 0) (sheetStore .list (m .mach)) m) (λ m. eachListed (workMachine b B) (tableOf B) (upTo room) (showsIn B) why (sheetStore .list (m .mach)) m)
+    (λ m. each-lists b B room why (sheetStore .list (m .mach)) m)
 
 -- ---- dump_noted
 abbrev begin : Order
@@ -132,19 +100,19 @@ module _ (b : TypeTable) (s : List ℕ) (room : ℕ) (p : Pen) (tx w li : List �
         (λ h. goes 0 r t₂ w₃ l₂ h ∙ ap (λ (u : List ℕ). wrote (paper 0 r t₂ u l₂)) ew ∙ sym (ap (λ (q : Out (Noted Sheet)). obind q last) (goes n r t₂ w₂ l₂ h)))
         (λ c q. halts 0 r t₂ w₃ l₂ c q ∙ sym (ap (λ (u : Out (Noted Sheet)). obind u last) (halts n r t₂ w₂ l₂ c q)))
 
-    pub dump-listed : (r : Pen) (t₂ w₂ l₂ : List ℕ) → notedOut (o .len) r t₂ w₂ l₂ ≡ obind (notedOut (o .len) p tx w₁ li) (λ m. eeach (emitN b (btfOf b s w₁) room (entryIn id turn l₁) 512 0) (sheetStore .list (m .mach)) m)
+    pub dump-listed : (r : Pen) (t₂ w₂ l₂ : List ℕ) → notedOut (o .len) r t₂ w₂ l₂ ≡ obind (notedOut (o .len) p tx w₁ li) (λ m. eachListed (workMachine b (btfOf b s w₁)) (tableOf (btfOf b s w₁)) (upTo room) (showsIn (btfOf b s w₁)) (entryIn id turn l₁) (sheetStore .list (m .mach)) m)
         → (w₃ : List ℕ) → w₃ ≡ emptied (o .len) w₂ → withLeads l₁ (notedOut 0 r t₂ w₃ l₂) ≡ obind (withLeads l₀ (notedOut 0 p tx w li)) dumps
     unfolding obind listedKept eachKept last
     dump-listed r t₂ w₂ l₂ e₂ w₃ e₃ =
         ap (withLeads l₁) (cleared-sheet (o .len) r t₂ w₂ l₂ w₃ e₃
-        ∙ ap (λ (q : Out (Noted Sheet)). obind q last) (e₂ ∙ ap (λ (Q : Rules). obind (notedOut (o .len) p tx w₁ li) (λ m. eeach (emitN b Q room (entryIn id turn l₁) 512 0) (sheetStore .list (m .mach)) m)) table-is)
+        ∙ ap (λ (q : Out (Noted Sheet)). obind q last) (e₂ ∙ ap (λ (Q : Rules). obind (notedOut (o .len) p tx w₁ li) (λ m. eachListed (workMachine b Q) (tableOf Q) (upTo room) (showsIn Q) (entryIn id turn l₁) (sheetStore .list (m .mach)) m)) table-is)
         ∙ obind-then (notedOut (o .len) p tx w₁ li) each last)
         ∙ by-out _ (p .at) tx
         (λ h. ap (λ (q : Out (Noted Sheet)). withLeads l₁ (obind q all)) (goes (o .len) p tx w₁ li h) ∙ sym (run dumps h ∙ dumped-is ∙ ap (listedKept b X room id turn (paper 0 p tx w li)) (kept.going o w₁ l₁ z)))
         (λ c q. stuck-with l₁ c (obind (notedOut (o .len) p tx w₁ li) all) (ap (λ (u : Out (Noted Sheet)). obind u all) (halts (o .len) p tx w₁ li c q)) ∙ sym (halt dumps c q))
       where
         each : Noted Sheet → Out (Noted Sheet)
-        each m = eeach (emitN b X room (entryIn id turn l₁) 512 0) (sheetStore .list (m .mach)) m
+        each m = eachListed (workMachine b X) (tableOf X) (upTo room) (showsIn X) (entryIn id turn l₁) (sheetStore .list (m .mach)) m
 
         all : Noted Sheet → Out (Noted Sheet)
         all m = obind (each m) last

@@ -26,7 +26,6 @@ use Rattle.spec_c_dumper.specs.origins.Claims.{isListed, LedTo}
 use Rattle.spec_session.specs.origin_calls.Bytes.{listedNoted, dumpedNoted}
 use Rattle.spec_c_dumper.proofs.origins.Ordering.{Holds, holds, none, AllLed, order-led}
 use Rattle.c_dumper_dependency_order.specs.leaders.Leads.{ledTwo, wordAt, entryIn}
-use Rattle.c_dumper_emit.specs.entries.Noted.{emitN}
 use Rattle.session_origins_walk.specs.request.Kept.{noLeads, Before, wayTo, Beside, withLeads, orderedKept, eachKept, listedKept, dumpedKept}
 use Rattle.session_origins_walk.proofs.request.Leaders.{tabled, keptFrom, order-kept, besideLed, lift-led, Fits, leader-is, before-none, before-more, tabled-before, entry-is}
 
@@ -90,7 +89,7 @@ module _ (b : TypeTable) (B : Rules) (few : Few B) (room : ℕ) (m : Sheet) (es 
   whys led h = entry-is id turn (tabled turn l₀ led) led (λ x. leader-is id turn 262145 led l₀ size (λ p i. fits p (h p i)) x (before-none turn l₀ old x))
 
   same : (r : Res (Led Marks)) → Holds (AllLed T id) r → forgetLeads (listedKept b B room id turn start (rmap (keptFrom id turn l₀) r)) ≡ listedNoted (workMachine b B) T (upTo room) (showsIn B) id es (rmap (besideLed m id) r)
-  unfolding listedKept listedNoted eachKept emitN workMachine forgetLeads
+  unfolding listedKept listedNoted eachKept workMachine forgetLeads
   same (ok s f) (holds h) =
       forget-with (tabled turn l₀ (s .led)) (emitting (entryIn id turn (tabled turn l₀ (s .led)))) ∙ ap emitting (whys (s .led) h)
     where

@@ -5,14 +5,13 @@ use mathlib.Core.Bool.{false}
 use mathlib.Core.List.{List}
 use lib.ListN.{replicate}
 use Rattle.spec_c_dumper.specs.rules.Order.{Res, ok, refused}
-use Rattle.spec_c_dumper.specs.rules.Machine.{Out, wrote, stuck, obind, eeach}
+use Rattle.spec_c_dumper.specs.rules.Machine.{Out, wrote, stuck, obind}
 use Rattle.spec_c_dumper.specs.rules.Types.{Btf as Rules, tableOf}
 use Rattle.spec_type_table.specs.declared.types.TypeTable.{TypeTable}
 use Rattle.spec_session.specs.emission.Sheet.{Sheet, marksIn, withMarks, sheetStore, workMachine}
-use Rattle.spec_c_dumper.specs.origins.Causes.{Noted}
+use Rattle.spec_c_dumper.specs.origins.Causes.{Noted, upTo, showsIn, eachListed}
 use Rattle.c_dumper_dependency_order.specs.declared.leaders.Way.{Way}
 use Rattle.c_dumper_dependency_order.specs.leaders.Leads.{wordAt, Kept, orderKept, entryIn}
-use Rattle.c_dumper_emit.specs.entries.Noted.{emitN}
 
 -- before the first request of a call
 unfoldable pub noLeads : List ℕ
@@ -45,7 +44,8 @@ module _ (b : TypeTable) (B : Rules) (room : ℕ) where
   besideKept m s = record { mach = withMarks (m .mach) (s .marks); entries = m .entries }
 
   unfoldable pub eachKept : ℕ → ℕ → Noted Sheet → Kept → Out (Noted Sheet)
-  eachKept id turn m s = eeach (emitN b B room (entryIn id turn (s .leads)) 512 0) (sheetStore .list (withMarks (m .mach) (s .marks))) (besideKept m s)
+  eachKept id turn m s =
+      eachListed (workMachine b B) (tableOf B) (upTo room) (showsIn B) (entryIn id turn (s .leads)) (sheetStore .list (withMarks (m .mach) (s .marks))) (besideKept m s)
 
   unfoldable pub listedKept : ℕ → ℕ → Noted Sheet → Res Kept → Out Beside
   listedKept id turn m (ok s strong) = withLeads (s .leads) (obind (eachKept id turn m s) (λ k. wrote (record { mach = workMachine b B .start 0 (k .mach); entries = k .entries })))

@@ -1,7 +1,7 @@
-use Prim.Native.Nat.{ℕ}
-use lib.Dec.{eqb}
-use mathlib.Core.Bool.{not}
 use mathlib.Core.Path.{ap}
+use mathlib.Core.Bool.{not}
+use lib.Dec.{eqb}
+use Prim.Native.Nat.{ℕ}
 use Rattle.c_dumper_emit.proofs.steps.get_fwd_emitted.Statement.{statement}
 use Rattle.c_dumper_emit.proofs.steps.get_fwd_emitted.Tie as tie
 use Rattle.c_dumper_emit.proofs.steps.get_fwd_emitted.Reads as reads

@@ -7,7 +7,7 @@ use Rattle.session_origins_walk.proofs.dump_noted.dump_noted.Lts as lts
 use Rattle.session_origins_walk.proofs.order_led.order_led.Reads as order-led-reads
 use Rattle.spec_session.proofs.emission.clear_list.Reads as clear-list-reads
 use Rattle.session_origins_walk.proofs.dump_noted.emit_listed.Reads as emit-listed-reads
-use Rattle.session_origins_walk.proofs.steps.stop_at.Reads as stop-at-reads
+use Rattle.c_dumper_emit.proofs.steps.stop_at.Reads as stop-at-reads
 
 order-led-requires : tie.Need-order-led-requires
 order-led-requires c κs = tt

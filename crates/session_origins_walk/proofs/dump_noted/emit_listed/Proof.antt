@@ -1,66 +1,24 @@
-use Prim.Native.Nat.{ℕ, zero-le, _≤_, _-_, _/_}
 use Rattle.session_origins_walk.proofs.dump_noted.Laws as laws
-use Rattle.c_dumper_dependency_order.specs.leaders.Leads.{entryIn}
-use Rattle.spec_c_dumper.specs.origins.Causes.{entriesIn}
-use native.Mathlib.Omega.{arith}
-use lib.ListN.{length}
-use mathlib.Core.Path.{_≡_, refl, ap, _∙_}
 use Rattle.session_origins_walk.proofs.dump_noted.emit_listed.Statement.{statement}
 use Rattle.session_origins_walk.proofs.dump_noted.emit_listed.Tie as tie
 use Rattle.session_origins_walk.proofs.dump_noted.emit_listed.Reads as reads
 use Rattle.session_origins_walk.proofs.dump_noted.emit_listed.Lts as lts
-use Rattle.c_dumper_dependency_order.proofs.order_state.get_listed.Reads as get-listed-reads
-use Rattle.session_origins_walk.proofs.emit_noted.emit_noted.Reads as emit-noted-reads
+use Rattle.c_dumper_emit.proofs.emit_type.emit_ordered.Reads as emit-ordered-reads
 
-abbrev Inv-loop : tie.InvT-loop
-Inv-loop b section work₀ text₀ list₀ leads q n a₀ k₀ work text list a k = (k ≤ n) × (length work ≡ length work₀) × (length text ≡ length text₀) × (length list ≡ length list₀) × laws.Listing b section (entriesIn list₀) (entryIn (q .req) (q .turn) leads) work₀ n a₀ text₀ list₀ a text work list k
+emit-ordered-requires : tie.Need-emit-ordered-requires
+emit-ordered-requires c κs = tt
 
-abbrev μ-loop : tie.MeasureT-loop
-μ-loop b section work₀ text₀ list₀ leads q n a₀ k₀ work text list a k = n - k
+same-length : tie.Need-same-length
+same-length c = c .before .before .before .before .before .before .emit-ordered .kept .1 .1 .0
 
-loop-holds : tie.Need-loop-holds Inv-loop μ-loop
-loop-holds c = (zero-le, refl, refl, refl, laws.listing-start _ _ _ _ _ _ _ _ _)
+same-length-2 : tie.Need-same-length-2
+same-length-2 c = c .before .before .before .before .before .before .emit-ordered .kept .1 .1 .1 .0
 
-get-listed-requires : tie.Need-get-listed-requires Inv-loop μ-loop
-get-listed-requires c κs = tt
+same-length-3 : tie.Need-same-length-3
+same-length-3 c = c .before .before .before .before .before .before .emit-ordered .kept .1 .1 .1 .1 .0
 
-emit-noted-requires : tie.Need-emit-noted-requires Inv-loop μ-loop
-emit-noted-requires c κs = tt
-
-add-k : tie.Need-add-k Inv-loop μ-loop
-add-k c = omega arith
-
-loop-less : tie.Need-loop-less Inv-loop μ-loop
-loop-less c = omega arith
-
-loop-again : tie.Need-loop-again Inv-loop μ-loop
-loop-again c = (omega arith, c .before .before .before .before .before .before .emit-noted .kept .1 .1 .0 ∙ c .before .before .before .before .before .before .before .before .before .before .before .before .before .loop .inv .1, c .before .before .before .before .before .before .emit-noted .kept .1 .1 .1 .0 ∙ c .before .before .before .before .before .before .before .before .before .before .before .before .before .loop .inv .2, c .before .before .before .before .before .before .emit-noted .kept .1 .1 .1 .1 .0 ∙ c .before .before .before .before .before .before .before .before .before .before .before .before .before .loop .inv .3, laws.listing-turn _ _ _ _ _ _ _ _ _ _ _ _ _ _ (c .before .before .before .before .before .before .before .before .before .before .before .before .before .loop .inv .4) (c .before .before .before .before .before .before .before .before .before .before .before .before .loop-test .taken) _ (c .before .before .before .before .before .before .before .before .before .before .get-listed .ensures) _ (ap (λ (i : ℕ). i / 12) (c .before .before .before .before .before .before .before .before .before .before .before .before .before .loop .inv .3)) _ _ _ _ (c .before .before .before .before .before .before .emit-noted .ensures (c .before .before .before .before .before .before .before .before .before .before .before .before .before .before .before .before .before .before .before .args .n)))
-
-same-length : tie.Need-same-length Inv-loop μ-loop
-same-length c = c .before .loop .inv .1
-
-same-length-2 : tie.Need-same-length-2 Inv-loop μ-loop
-same-length-2 c = c .before .loop .inv .2
-
-same-length-3 : tie.Need-same-length-3 Inv-loop μ-loop
-same-length-3 c = c .before .loop .inv .3
-
-returns : tie.Need-returns Inv-loop μ-loop
-returns c = laws.listing-end _ _ _ _ _ _ _ _ _ _ _ _ _ _ (c .before .loop .inv .4) (c .loop-test .left)
+returns : tie.Need-returns
+returns c = laws.with-list _ _ _ _ _ _ (c .before .before .before .before .before .before .emit-ordered .ensures)
 
 pub emit-listed-spec : {M : Type 1} → statement M
-emit-listed-spec =
-    tie.close
-    (tie.spec
-    Inv-loop
-    μ-loop
-    loop-holds
-    get-listed-requires
-    emit-noted-requires
-    add-k
-    loop-less
-    loop-again
-    same-length
-    same-length-2
-    same-length-3
-    returns)
+emit-listed-spec = tie.close (tie.spec emit-ordered-requires same-length same-length-2 same-length-3 returns)
