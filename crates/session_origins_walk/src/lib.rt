@@ -2,5 +2,4 @@
 pub mod dump_noted;
 pub mod emit_noted;
 pub mod lines;
-pub mod order_led;
 pub mod steps;
