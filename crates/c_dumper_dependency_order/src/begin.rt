@@ -1,4 +1,4 @@
-// How a call of ordering starts: what it costs, and an id that is ordered or in progress.
+// How a call of ordering starts: what the ceiling says to it, and what comes of an id in progress.
 use crate::order_state::Order;
 use crate::order_state::get_order_state;
 use crate::order_state::refused;
@@ -8,37 +8,45 @@ use btf_type_table::name::is_named;
 use btf_type_table::node::type_by_id;
 use spec_type_table::TypeTable;
 ghost use mathlib.Core.Path.{_≡_};
-ghost use Prim.Native.Nat.{_≤_};
-ghost use Rattle.spec_c_dumper.specs.ceiling.Ceiling.{thenBind, orderMetered};
-ghost use Rattle.c_dumper_dependency_order.specs.order_state.Work.{workStore, tableIn, orderOut, paidOf, meetIn};
-ghost use Rattle.c_dumper_dependency_order.specs.begin.Start.{begunOut, opens};
+ghost use Rattle.c_dumper_dependency_order.specs.order_state.Work.{tableIn};
+ghost use Rattle.c_dumper_dependency_order.specs.begin.Start.{limitOf, openedBy, isKnown, isPassable, metBy};
 
-// What a call comes to where it does not go into its id; or what it goes into an id with that is not ordered yet.
-pub enum Begun {
-    Known(Order),
-    New(Order),
+// A ceiling on the calls of ordering, where it is set.
+pub struct Ceiling {
+    pub is_set: bool,
+    pub calls: u64,
 }
 
-// One call is opened, and takes its cost of those that are left.
-fn paid(o: Order, cost: u64) -> Order
-    requires { ⌜ cost ≤ o .spare ⌝ }
-    ensures { λ r. ⌜ r ≡ paidOf o cost ⌝ }
+// One more call: counted under a ceiling, and refused where it would pass it.
+pub fn count_call(c: Ceiling, o: Order) -> Order
+    ensures { λ r. ⌜ r ≡ openedBy (limitOf c) o ⌝ }
 {
+    if !c.is_set {
+        return o;
+    }
+    if c.calls <= o.made {
+        return refused(o, 22);
+    }
     Order {
-        spare: o.spare - cost,
+        made: o.made + 1,
         len: o.len,
         stop: o.stop,
         is_strong: o.is_strong,
     }
 }
 
+// Whether a call would find its id ordered: then it is only counted.
+pub fn is_known(work: &[u8], o: Order, id: u32, left: u32, c: Ceiling) -> bool
+    ensures { λ r. ⌜ r ≡ isKnown c left o (now (work .entry)) id ⌝ }
+{
+    let state = get_order_state(work, id);
+    (o.stop == 0) & (left != 0) & (!c.is_set | (o.made < c.calls)) & (state == 2)
+}
+
 // An id in progress: a named composite behind a pointer is passed over, anything else is a cycle.
 pub fn meet(b: TypeTable, section: &[u8], work: &[u8], o: Order, id: u32, has_ptr: bool) -> Order
-    ensures { λ r. ⌜ orderOut r (now (work .entry)) ≡ thenBind (orderOut o (now (work .entry))) (λ m _ k. meetIn (tableIn b (now (section .entry)) (now (work .entry))) m id «has_ptr» k) ⌝ }
+    ensures { λ r. ⌜ r ≡ metBy (isPassable (tableIn b (now (section .entry)) (now (work .entry))) id «has_ptr») o ⌝ }
 {
-    if o.stop != 0 {
-        return o;
-    }
     if !has_ptr {
         return refused(o, 13);
     }
@@ -50,37 +58,4 @@ pub fn meet(b: TypeTable, section: &[u8], work: &[u8], o: Order, id: u32, has_pt
         4 | 5 => strong(o, false),
         _ => refused(o, 13),
     }
-}
-
-// A call costs 1 under a ceiling, and 0 where there is none: then it is never refused by 22, which comes after 12.
-pub fn begin(
-    b: TypeTable,
-    section: &[u8],
-    work: &[u8],
-    o: Order,
-    id: u32,
-    has_ptr: bool,
-    left: u32,
-    cost: u64,
-) -> Begun
-    ensures { λ r. ⌜ (begunOut (tableIn b (now (section .entry)) (now (work .entry))) left cost id «has_ptr» r (now (work .entry)) ≡ thenBind (orderOut o (now (work .entry))) (λ m _ k. orderMetered workStore cost left (tableIn b (now (section .entry)) (now (work .entry))) m id «has_ptr» k)) × (opens r ≤ left) ⌝ }
-{
-    if o.stop != 0 {
-        return Begun::Known(o);
-    }
-    if left == 0 {
-        return Begun::Known(refused(o, 12));
-    }
-    if o.spare < cost {
-        return Begun::Known(refused(o, 22));
-    }
-    let p = paid(o, cost);
-    let state = get_order_state(work, id);
-    if state == 2 {
-        return Begun::Known(strong(p, true));
-    }
-    if state == 1 {
-        return Begun::Known(meet(b, section, work, p, id, has_ptr));
-    }
-    Begun::New(p)
 }

@@ -1,9 +1,15 @@
-// The order of definitions: the rules of order_type.
-use crate::begin::Begun;
-use crate::begin::begin;
+// The order of definitions: the rules of order_type, for plain requests, under a ceiling and with a leader for each listed id.
+use crate::begin::Ceiling;
+use crate::begin::count_call;
+use crate::begin::is_known;
+use crate::begin::meet;
+use crate::finish::finish;
+use crate::finish::finish_typedef;
+use crate::leaders::Way;
+use crate::leaders::inside;
 use crate::order_state::Order;
-use crate::order_state::finish;
-use crate::order_state::finish_typedef;
+use crate::order_state::get_order_state;
+use crate::order_state::refused;
 use crate::order_state::set_order_state;
 use crate::order_state::strong;
 use crate::ways::is_passed;
@@ -19,27 +25,47 @@ use spec_type_table::Node;
 use spec_type_table::TypeTable;
 ghost use mathlib.Core.Path.{_≡_};
 ghost use mathlib.Core.Bool.{false};
-ghost use Rattle.spec_c_dumper.specs.ceiling.Ceiling.{thenBind, eachWithin, orderMetered};
+ghost use Rattle.spec_c_dumper.specs.ceiling.Ceiling.{thenBind, eachWithin};
 ghost use Rattle.spec_type_table.specs.Nodes.{memberIds, paramIds};
-ghost use Rattle.c_dumper_dependency_order.specs.order_state.Work.{workStore, tableIn, orderOut, wayIn, enterIn, freshIn};
+ghost use Rattle.c_dumper_dependency_order.specs.order_state.Work.{tableIn};
+ghost use Rattle.c_dumper_dependency_order.specs.begin.Start.{limitOf};
+ghost use Rattle.c_dumper_dependency_order.specs.leaders.Leads.{orderKept, keptOut, wayKept, freshKept, enterKept};
 
-// A call costs 1 under a ceiling, and 0 where there is none.
+// v: what is being ordered around the call. A request without a list of line origins lends no leaders.
 pub fn order_type(
     b: TypeTable,
     section: &[u8],
     work: &mut [u8],
+    leads: &mut [u64],
     o: Order,
     id: u32,
     has_ptr: bool,
     left: u32,
-    cost: u64,
+    v: Way,
+    c: Ceiling,
 ) -> Order
-    ensures { λ r. ⌜ orderOut r (now (work .exit)) ≡ thenBind (orderOut o (now (work .entry))) (λ m _ k. orderMetered workStore cost left (tableIn b (now (section .entry)) (now (work .entry))) m id «has_ptr» k) ⌝ }
+    ensures { λ r. ⌜ keptOut r (now (work .exit)) (now (leads .exit)) ≡
+        thenBind (keptOut o (now (work .entry)) (now (leads .entry)))
+        (λ m _ k. orderKept (limitOf c) v left (tableIn b (now (section .entry)) (now (work .entry))) m id «has_ptr» k) ⌝ }
 {
-    match begin(b, section, work, o, id, has_ptr, left, cost) {
-        Begun::Known(r) => r,
-        Begun::New(p) => order_new(b, section, work, p, id, has_ptr, left - 1, cost),
+    if o.stop != 0 {
+        return o;
     }
+    if left == 0 {
+        return refused(o, 12);
+    }
+    let p = count_call(c, o);
+    if p.stop != 0 {
+        return p;
+    }
+    let state = get_order_state(work, id);
+    if state == 2 {
+        return strong(p, true);
+    }
+    if state == 1 {
+        return meet(b, section, work, p, id, has_ptr);
+    }
+    order_new(b, section, work, leads, p, id, has_ptr, left - 1, v, c)
 }
 
 // An id that is not ordered yet.
@@ -47,41 +73,69 @@ fn order_new(
     b: TypeTable,
     section: &[u8],
     work: &mut [u8],
+    leads: &mut [u64],
     o: Order,
     id: u32,
     has_ptr: bool,
     left: u32,
-    cost: u64,
+    v: Way,
+    c: Ceiling,
 ) -> Order
-    ensures { λ r. ⌜ orderOut r (now (work .exit)) ≡ thenBind (orderOut o (now (work .entry))) (λ m _ k. freshIn (tableIn b (now (section .entry)) (now (work .entry))) left cost m id «has_ptr» k) ⌝ }
+    ensures { λ r. ⌜ keptOut r (now (work .exit)) (now (leads .exit)) ≡
+        thenBind (keptOut o (now (work .entry)) (now (leads .entry)))
+        (λ m _ k. freshKept (limitOf c) v (tableIn b (now (section .entry)) (now (work .entry))) left m id «has_ptr» k) ⌝ }
 {
     let t = type_by_id(b, section, work, id);
     match node_of(b, section, t) {
         Node::Ignored => strong(o, false),
-        Node::Plain => finish(work, o, id, false, false),
+        Node::Plain => finish(work, leads, o, id, false, false, v),
         Node::Listed(_) => {
             let named = is_named(b, section, t);
-            finish(work, o, id, named, true)
+            finish(work, leads, o, id, named, true, v)
         }
         Node::Through(is_array, t) => {
             let weak = is_weak_past(b, is_array, has_ptr);
-            order_type(b, section, work, o, t, weak, left, cost)
+            order_type(b, section, work, leads, o, t, weak, left, v, c)
         }
         Node::Ptr(t) => {
-            let r = order_type(b, section, work, o, t, true, left, cost);
-            finish(work, r, id, false, r.is_strong)
+            let r = order_type(b, section, work, leads, o, t, true, left, v, c);
+            finish(work, leads, r, id, false, r.is_strong, v)
         }
         Node::Typedef(t) => {
-            let r = order_type(b, section, work, o, t, has_ptr, left, cost);
-            finish_typedef(work, r, id, has_ptr)
+            let r = order_type(
+                b,
+                section,
+                work,
+                leads,
+                o,
+                t,
+                has_ptr,
+                left,
+                inside(v, id),
+                c,
+            );
+            finish_typedef(work, leads, r, id, has_ptr, v)
         }
         Node::Proto(res, params) => {
-            let r = order_type(b, section, work, o, res, has_ptr, left, cost);
-            order_params(b, section, work, r, params, has_ptr, left, cost)
+            let r = order_type(b, section, work, leads, o, res, has_ptr, left, v, c);
+            order_params(b, section, work, leads, r, params, has_ptr, left, v, c)
         }
         Node::Composite(members) => {
             let named = is_named(b, section, t);
-            order_composite(b, section, work, o, id, named, has_ptr, members, left, cost)
+            order_composite(
+                b,
+                section,
+                work,
+                leads,
+                o,
+                id,
+                named,
+                has_ptr,
+                members,
+                left,
+                v,
+                c,
+            )
         }
     }
 }
@@ -91,22 +145,27 @@ fn order_composite(
     b: TypeTable,
     section: &[u8],
     work: &mut [u8],
+    leads: &mut [u64],
     o: Order,
     id: u32,
     named: bool,
     has_ptr: bool,
     members: Entries,
     left: u32,
-    cost: u64,
+    v: Way,
+    c: Ceiling,
 ) -> Order
-    ensures { λ r. ⌜ orderOut r (now (work .exit)) ≡ thenBind (orderOut o (now (work .entry))) (λ m _ k. enterIn (tableIn b (now (section .entry)) (now (work .entry))) left cost m id «has_ptr» named (memberIds b (now (section .entry)) members) k) ⌝ }
+    ensures { λ r. ⌜ keptOut r (now (work .exit)) (now (leads .exit)) ≡
+        thenBind (keptOut o (now (work .entry)) (now (leads .entry)))
+        (λ m _ k. enterKept (limitOf c) v (tableIn b (now (section .entry)) (now (work .entry))) left m id «has_ptr» named
+        (memberIds b (now (section .entry)) members) k) ⌝ }
 {
     if is_passed(named, has_ptr) {
         return strong(o, false);
     }
     set_order_state(work, id, 1);
-    let r = order_members(b, section, work, o, members, left, cost);
-    finish(work, r, id, named, true)
+    let r = order_members(b, section, work, leads, o, members, left, inside(v, id), c);
+    finish(work, leads, r, id, named, true, v)
 }
 
 // The parameters of a prototype; the way is strong if one of them was, or what came before.
@@ -114,21 +173,31 @@ fn order_params(
     b: TypeTable,
     section: &[u8],
     work: &mut [u8],
+    leads: &mut [u64],
     o: Order,
     params: Entries,
     has_ptr: bool,
     left: u32,
-    cost: u64,
+    v: Way,
+    c: Ceiling,
 ) -> Order
-    ensures { λ r. ⌜ orderOut r (now (work .exit)) ≡ thenBind (orderOut o (now (work .entry))) (λ m strong k. eachWithin (wayIn (tableIn b (now (section .entry)) (now (work .entry))) left cost «has_ptr») (paramIds b (now (section .entry)) params) m strong k) ⌝ }
+    ensures { λ r. ⌜ keptOut r (now (work .exit)) (now (leads .exit)) ≡
+        thenBind (keptOut o (now (work .entry)) (now (leads .entry)))
+        (λ m strong k. eachWithin (wayKept (limitOf c) v (tableIn b (now (section .entry)) (now (work .entry))) left «has_ptr»)
+        (paramIds b (now (section .entry)) params) m strong k) ⌝ }
 {
     let vlen = params.vlen;
     let mut r = o;
     let mut k: u32 = 0;
     while k < vlen {
-        let before = r.is_strong;
         let t = word(b, section, param_place(params, k) + 4);
-        let p = order_type(b, section, work, r, t, has_ptr, left, cost);
+        if is_known(work, r, t, left, c) {
+            r = strong(count_call(c, r), true);
+            k += 1;
+            continue;
+        }
+        let before = r.is_strong;
+        let p = order_type(b, section, work, leads, r, t, has_ptr, left, v, c);
         r = strong(p, before | p.is_strong);
         k += 1;
     }
@@ -140,20 +209,30 @@ fn order_members(
     b: TypeTable,
     section: &[u8],
     work: &mut [u8],
+    leads: &mut [u64],
     o: Order,
     members: Entries,
     left: u32,
-    cost: u64,
+    v: Way,
+    c: Ceiling,
 ) -> Order
-    ensures { λ r. ⌜ orderOut r (now (work .exit)) ≡ thenBind (orderOut o (now (work .entry))) (λ m strong k. eachWithin (wayIn (tableIn b (now (section .entry)) (now (work .entry))) left cost false) (memberIds b (now (section .entry)) members) m strong k) ⌝ }
+    ensures { λ r. ⌜ keptOut r (now (work .exit)) (now (leads .exit)) ≡
+        thenBind (keptOut o (now (work .entry)) (now (leads .entry)))
+        (λ m strong k. eachWithin (wayKept (limitOf c) v (tableIn b (now (section .entry)) (now (work .entry))) left false)
+        (memberIds b (now (section .entry)) members) m strong k) ⌝ }
 {
     let vlen = members.vlen;
     let mut r = o;
     let mut k: u32 = 0;
     while k < vlen {
-        let before = r.is_strong;
         let t = word(b, section, member_place(members, k) + 4);
-        let p = order_type(b, section, work, r, t, false, left, cost);
+        if is_known(work, r, t, left, c) {
+            r = strong(count_call(c, r), true);
+            k += 1;
+            continue;
+        }
+        let before = r.is_strong;
+        let p = order_type(b, section, work, leads, r, t, false, left, v, c);
         r = strong(p, before | p.is_strong);
         k += 1;
     }

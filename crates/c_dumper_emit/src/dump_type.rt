@@ -5,6 +5,8 @@ use crate::entries::Pen;
 use base_bytes::put::stop;
 use btf_type_table::kind::kind_of;
 use btf_type_table::node::type_by_id;
+use c_dumper_dependency_order::begin::Ceiling;
+use c_dumper_dependency_order::leaders::Way;
 use c_dumper_dependency_order::order_state::Order;
 use c_dumper_dependency_order::order_state::get_order_state;
 use c_dumper_dependency_order::order_type::order_type;
@@ -17,6 +19,7 @@ ghost use Rattle.spec_c_dumper.specs.rules.Types.{tableOf};
 ghost use Rattle.spec_type_table.specs.Cells.{getField};
 ghost use Rattle.spec_type_table.specs.Table.{btfOf};
 ghost use Rattle.c_dumper_dependency_order.specs.order_state.Work.{markOf, tableIn};
+ghost use Rattle.c_dumper_dependency_order.specs.begin.Start.{limitOf};
 ghost use Rattle.spec_c_dumper.specs.ceiling.Ceiling.{countOf};
 ghost use Rattle.c_dumper_emit.specs.dump_type.Metered.{orderedIn, dumpedMetered, callsIn, dumpedWithin};
 ghost use Rattle.spec_session.specs.emission.Sheet.{sheetStore, emitOut, workMachine, emitIn, isIdle};
@@ -66,13 +69,13 @@ pub fn is_idle(b: TypeTable, section: &[u8], work: &[u8], id: u32) -> bool
 }
 
 // Where a request came to: the place after its text, or one past the end that says which refusal stopped it, and the calls
-// of ordering that are left.
-pub struct Dumped {
-    pub at: usize,
-    pub spare: u64,
+// of ordering made by then.
+struct Counted {
+    at: usize,
+    made: u64,
 }
 
-// One request, with so many calls of ordering left. Each costs 1 under a ceiling, and 0 without one.
+// One request, after so many calls of ordering; it notes no leaders.
 fn dump_metered(
     b: TypeTable,
     section: &[u8],
@@ -80,29 +83,39 @@ fn dump_metered(
     text: &mut [u8],
     at: usize,
     id: u32,
-    spare: u64,
-    cost: u64,
-) -> Dumped
-    ensures { λ r. ⌜ (emitOut 0 (r .at) (now (text .exit)) (now (work .exit)) ≡ obind (emitOut 0 at (now (text .entry)) (now (work .entry))) (λ m. dumpedMetered b (btfOf b (now (section .entry)) (now (work .entry))) cost m id spare)) × (r .spare ≡ countOf (orderedIn (btfOf b (now (section .entry)) (now (work .entry))) cost (record { work = now (work .entry); len = 0 }) id spare)) ⌝ }
+    made: u64,
+    c: Ceiling,
+) -> Counted
+    ensures { λ r. ⌜ (emitOut 0 (r .at) (now (text .exit)) (now (work .exit)) ≡
+        obind (emitOut 0 at (now (text .entry)) (now (work .entry)))
+        (λ m. dumpedMetered b (btfOf b (now (section .entry)) (now (work .entry))) (limitOf c) m id made)) ×
+        (r .made ≡ countOf (orderedIn (btfOf b (now (section .entry)) (now (work .entry))) (limitOf c)
+        (record { work = now (work .entry); len = 0 }) id made)) ⌝ }
 {
     let start = Order {
-        spare: spare,
+        made: made,
         len: 0,
         stop: 0,
         is_strong: false,
     };
-    let o = order_type(b, section, work, start, id, false, 512, cost);
+    let v = Way {
+        inner: id,
+        lead: id,
+        turn: 0,
+    };
+    let mut leads = [0u64; 0];
+    let o = order_type(b, section, work, &mut leads, start, id, false, 512, v, c);
     if o.stop != 0 {
-        return Dumped {
+        return Counted {
             at: stop(text, at, o.stop),
-            spare: o.spare,
+            made: o.made,
         };
     }
     let r = emit_listed(b, section, work, text, at, o.len);
     clear_list(work, o.len);
-    Dumped {
+    Counted {
         at: r,
-        spare: o.spare,
+        made: o.made,
     }
 }
 
@@ -117,8 +130,18 @@ pub fn dump_type(
 ) -> usize
     ensures { λ r. ⌜ emitOut 0 r (now (text .exit)) (now (work .exit)) ≡ obind (emitOut 0 at (now (text .entry)) (now (work .entry))) (λ m. dumped (workMachine b (btfOf b (now (section .entry)) (now (work .entry)))) (tableOf (btfOf b (now (section .entry)) (now (work .entry)))) m id) ⌝ }
 {
-    let d = dump_metered(b, section, work, text, at, id, 0, 0);
+    let none = Ceiling {
+        is_set: false,
+        calls: 0,
+    };
+    let d = dump_metered(b, section, work, text, at, id, 0, none);
     d.at
+}
+
+// Where a request under a ceiling came to, and the calls of ordering that are left.
+pub struct Dumped {
+    pub at: usize,
+    pub spare: u64,
 }
 
 // The same under a ceiling: `spare` calls of ordering are left, and 22 comes when one more would be opened.
@@ -133,5 +156,13 @@ pub fn dump_type_within(
 ) -> Dumped
     ensures { λ r. ⌜ (emitOut 0 (r .at) (now (text .exit)) (now (work .exit)) ≡ obind (emitOut 0 at (now (text .entry)) (now (work .entry))) (λ m. dumpedWithin b (btfOf b (now (section .entry)) (now (work .entry))) (callsIn b (now (section .entry)) (now (work .entry)) id) spare m id)) × (r .spare ≡ spare - callsIn b (now (section .entry)) (now (work .entry)) id) ⌝ }
 {
-    dump_metered(b, section, work, text, at, id, spare, 1)
+    let c = Ceiling {
+        is_set: true,
+        calls: spare,
+    };
+    let d = dump_metered(b, section, work, text, at, id, 0, c);
+    Dumped {
+        at: d.at,
+        spare: spare - d.made,
+    }
 }

@@ -1,7 +1,8 @@
 // One request with an entry for each line: ordering, then the lines of the listed ids, from the list's first to its last.
-use crate::order_led::order_led;
+use c_dumper_dependency_order::begin::Ceiling;
 use c_dumper_dependency_order::leaders::Way;
 use c_dumper_dependency_order::order_state::Order;
+use c_dumper_dependency_order::order_type::order_type;
 use c_dumper_emit::emit_type::emit_ordered;
 use c_dumper_emit::entries::Asked;
 use c_dumper_emit::entries::Pen;
@@ -60,7 +61,7 @@ pub fn dump_noted(
     ensures { λ r. ⌜ withLeads (now (leads .exit)) (notedOut 0 r (now (text .exit)) (now (work .exit)) (now (list .exit))) ≡ obind (withLeads (now (leads .entry)) (notedOut 0 p (now (text .entry)) (now (work .entry)) (now (list .entry)))) (λ m. dumpedKept b (btfOf b (now (section .entry)) (now (work .entry))) (entriesIn (now (list .entry))) m (q .req) (q .turn)) ⌝ }
 {
     let start = Order {
-        spare: 0,
+        made: 0,
         len: 0,
         stop: 0,
         is_strong: false,
@@ -70,7 +71,11 @@ pub fn dump_noted(
         lead: q.req,
         turn: q.turn,
     };
-    let o = order_led(b, section, work, leads, start, q.req, false, 512, v);
+    let none = Ceiling {
+        is_set: false,
+        calls: 0,
+    };
+    let o = order_type(b, section, work, leads, start, q.req, false, 512, v, none);
     if o.stop != 0 {
         return stop_at(text, p, o.stop);
     }

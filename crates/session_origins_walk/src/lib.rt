@@ -1,3 +1,2 @@
 // session_origins_walk
 pub mod dump_noted;
-pub mod order_led;

@@ -1,19 +1,36 @@
--- How a call of ordering starts, against the rules.
-use Prim.Native.Nat.{ℕ, _-_}
-use mathlib.Core.Bool.{Bool}
+-- How a call of ordering starts: what the ceiling says to it, and what comes of an id in progress.
+use Prim.Native.Nat.{ℕ}
+use mathlib.Core.Bool.{Bool, true, false, not, _&&_, _||_}
 use mathlib.Core.List.{List}
-use Rattle.spec_c_dumper.specs.rules.Order.{Table}
-use Rattle.spec_c_dumper.specs.ceiling.Ceiling.{Told, thenBind}
-use Rattle.c_dumper_dependency_order.specs.order_state.Work.{Marks, orderOut, freshIn}
-use Rattle.c_dumper_dependency_order.specs.declared.begin.Begun.{Begun}
-use Rattle.c_dumper_dependency_order.specs.declared.begin.Begun.the-variants.{Known, New}
+use lib.Dec.{eqb, ltb}
+use Rattle.spec_c_dumper.specs.rules.Order.{Table, isComp}
+use Rattle.spec_c_dumper.specs.ceiling.Ceiling.{Limit, unbounded, most, allows, oneCall}
+use Rattle.spec_type_table.specs.Cells.{getField}
+use Rattle.c_dumper_dependency_order.specs.declared.order_state.Order.{Order}
+use Rattle.c_dumper_dependency_order.specs.declared.begin.Ceiling.{Ceiling}
+use Rattle.c_dumper_dependency_order.specs.order_state.Work.{strongOf, refusedBy}
 
--- what the call comes to: what is known already, or its id gone into, with one open call less
-unfoldable pub begunOut : Table → ℕ → ℕ → ℕ → Bool → Begun → List ℕ → Told Marks
-begunOut T left cost x weak (Known r) w = orderOut r w
-begunOut T left cost x weak (New o) w = thenBind (orderOut o w) (λ m _ k. freshIn T (left - 1) cost m x weak k)
+-- the ceiling of a request, or none
+unfoldable pub limitOf : Ceiling → Limit
+limitOf c = elim (c .«is_set») [ true ↦ most (c .calls) | false ↦ unbounded ]
 
--- how many open calls it needs
-unfoldable pub opens : Begun → ℕ
-opens (Known r) = 0
-opens (New o) = 1
+abbrev pub withMade : Order → ℕ → Order
+withMade o k = record { made = k; len = o .len; stop = o .stop; «is_strong» = o .«is_strong» }
+
+-- one more call, counted; or "22 when one more call would pass the ceiling"
+unfoldable pub openedBy : Limit → Order → Order
+openedBy c o = elim (allows c (o .made)) [ true ↦ withMade o (oneCall c (o .made)) | false ↦ refusedBy o 22 ]
+
+-- whether a call would find x ordered: ordering goes on, the call is neither too deep nor past the ceiling, and the state says so
+unfoldable pub isKnown : Ceiling → ℕ → Order → List ℕ → ℕ → Bool
+isKnown c left o w x =
+    ((eqb (o .stop) 0 && not (eqb left 0)) && (not (c .«is_set») || ltb (o .made) (c .calls))) && eqb (getField w x 1) 2
+
+-- an id in progress that may be passed over
+unfoldable pub isPassable : Table → ℕ → Bool → Bool
+isPassable T x weak = isComp (T .node x) && (weak && T .named x)
+
+-- what meeting one in progress comes to: "named and weak is passed over; otherwise a cycle"
+unfoldable pub metBy : Bool → Order → Order
+metBy true o = strongOf o false
+metBy false o = refusedBy o 13

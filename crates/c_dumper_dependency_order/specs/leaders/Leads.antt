@@ -1,11 +1,14 @@
--- Ordering that notes a leader for each listed id, beside the work: the rule `orderLed` of crate causes, with two numbers for what is being
--- ordered and words for the leaders. That it is that rule: crate led.
+-- Ordering in the lent work, which notes a leader for each listed id beside it: without the leaders it is `orderWithin` over the work
+-- (proofs/leaders/Maps); with them, and without a ceiling, it is `orderLed` of the definitions, with two numbers for what is being ordered
+-- and words for the leaders (session_origins_walk, proofs/request/Leaders).
 use Prim.Native.Nat.{ℕ, zero, suc, _+_, _*_, _/_, _%_}
 use mathlib.Core.Bool.{Bool, true, false, not, _&&_, _||_}
 use mathlib.Core.List.{List}
 use lib.ListN.{getD, set}
 use lib.Dec.{eqb}
-use Rattle.spec_c_dumper.specs.rules.Order.{Table, isComp, isDone, Store, Res, ok, refused, meet, enter, alias, fresh, visit}
+use Rattle.spec_c_dumper.specs.rules.Order.{Table, isDone, Store}
+use Rattle.spec_c_dumper.specs.ceiling.Ceiling.{Limit, allows, oneCall, Told, told, halted}
+use Rattle.spec_c_dumper.specs.ceiling.Ceiling.{aliasWithin, enterWithin, freshWithin, visitWithin}
 use Rattle.c_dumper_dependency_order.specs.declared.order_state.Order.{Order}
 use Rattle.c_dumper_dependency_order.specs.order_state.Work.{Marks, workStore}
 use Rattle.spec_c_dumper.specs.origins.Causes.{isAround, entry, Entry}
@@ -38,10 +41,6 @@ isNoted turn l x = eqb (wordAt l x / 4294967296) turn
 unfoldable pub noteIn : Way → List ℕ → ℕ → List ℕ
 noteIn v l x = elim (isNoted (v .turn) l x) [ true ↦ l | false ↦ set l x (v .turn * 4294967296 + ledTwo v x) ]
 
-unfoldable pub noteIf : Bool → Way → List ℕ → ℕ → List ℕ
-noteIf true v l x = noteIn v l x
-noteIf false v l x = l
-
 -- the leader of x in the request for req: what was noted, or req
 unfoldable pub leaderIn : ℕ → ℕ → List ℕ → ℕ → ℕ
 leaderIn req turn l x = elim (isNoted turn l x) [ true ↦ wordAt l x % 4294967296 | false ↦ req ]
@@ -65,29 +64,37 @@ keptStore v = record {
   list = λ s. workStore .list (s .marks);
 }
 
-unfoldable pub orderKept : Way → ℕ → Table → Kept → ℕ → Bool → Res Kept
-orderKept v zero T s x weak = refused 12
-orderKept v (suc n) T s x weak = visit (keptStore v) T (λ s′ y w. orderKept (wayFor (isAround (T .node x)) v x) n T s′ y w) s x weak (workStore .get (s .marks) x)
+-- the rule under a ceiling, of which k calls are made
+unfoldable pub orderKept : Limit → Way → ℕ → Table → Kept → ℕ → Bool → ℕ → Told Kept
+orderKept c v zero T s x weak k = halted 12 k
+orderKept c v (suc n) T s x weak k = elim (allows c k) [
+  | true ↦ visitWithin (keptStore v) T (λ s′ y w k′. orderKept c (wayFor (isAround (T .node x)) v x) n T s′ y w k′) s x weak
+      (workStore .get (s .marks) x) (oneCall c k)
+  | false ↦ halted 22 k
+]
 
--- what the code's answer says, with work and leaders at that moment: a stop is a refusal, after which nothing is said of them
-unfoldable pub keptOut : Order → List ℕ → List ℕ → Res Kept
-keptOut o w l = elim (eqb (o .stop) 0) [ true ↦ ok (record { marks = record { work = w; len = o .len }; leads = l }) (o .«is_strong») | false ↦ refused (o .stop) ]
+-- what the code's answer says, with work and leaders at that moment: a stop is a refusal, after which nothing is said of them; the calls
+-- made are told in either case
+unfoldable pub keptOut : Order → List ℕ → List ℕ → Told Kept
+keptOut o w l = elim (eqb (o .stop) 0) [
+  | true ↦ told (record { marks = record { work = w; len = o .len }; leads = l }) (o .«is_strong») (o .made)
+  | false ↦ halted (o .stop) (o .made)
+]
 
--- The clauses of the rules over this store: an id in progress, a typedef after its target, the way to an id, a composite, and an id that is not
+-- The clauses of the rules over this store, after k calls: a typedef after its target, the way to an id, a composite, and an id that is not
 -- ordered yet.
-unfoldable pub meetKept : Table → Kept → ℕ → Bool → Res Kept
-meetKept T m x weak = meet (isComp (T .node x) && (weak && T .named x)) m
+unfoldable pub aliasKept : Way → Kept → ℕ → Bool → Bool → ℕ → Told Kept
+aliasKept v m x weak strong k = aliasWithin (keptStore v) (not weak || strong) (isDone (workStore .get (m .marks) x)) m x k
 
-unfoldable pub aliasKept : Way → Kept → ℕ → Bool → Bool → Res Kept
-aliasKept v m x weak strong = alias (keptStore v) (not weak || strong) (isDone (workStore .get (m .marks) x)) m x
+module _ (c : Limit) (v : Way) (T : Table) (left : ℕ) where
+  unfoldable pub wayKept : Bool → Kept → ℕ → ℕ → Told Kept
+  wayKept weak m x k = orderKept c v left T m x weak k
 
-module _ (v : Way) (T : Table) (left : ℕ) where
-  unfoldable pub wayKept : Bool → Kept → ℕ → Res Kept
-  wayKept weak m x = orderKept v left T m x weak
-
-  unfoldable pub freshKept : Kept → ℕ → Bool → Res Kept
-  freshKept m x weak = fresh (keptStore v) T (λ m′ y w. orderKept (wayFor (isAround (T .node x)) v x) left T m′ y w) m x weak (T .node x)
+  unfoldable pub freshKept : Kept → ℕ → Bool → ℕ → Told Kept
+  freshKept m x weak k =
+      freshWithin (keptStore v) T (λ m′ y w k′. orderKept c (wayFor (isAround (T .node x)) v x) left T m′ y w k′) m x weak (T .node x) k
 
 -- v: around the composite x
-unfoldable pub enterKept : Way → Table → ℕ → Kept → ℕ → Bool → Bool → List ℕ → Res Kept
-enterKept v T left m x weak named members = enter (keptStore v) (weak && named) (wayKept (insideOf v x) T left false) m x named members
+unfoldable pub enterKept : Limit → Way → Table → ℕ → Kept → ℕ → Bool → Bool → List ℕ → ℕ → Told Kept
+enterKept c v T left m x weak named members k =
+    enterWithin (keptStore v) (weak && named) (wayKept c (insideOf v x) T left false) m x named members k

@@ -19,19 +19,22 @@ use Rattle.spec_type_table.specs.Cells.{getField}
 use Rattle.spec_type_table.specs.Records.{kindOf, recordById}
 use Rattle.spec_type_table.specs.Table.{from, typeOf, btfOf}
 use Rattle.spec_type_table.proofs.KindLaws.{by-kind, type-0, type-1, type-2, type-3, type-4, type-5, type-6, type-7, type-8, type-9, type-10, type-11, type-12, type-13, type-14, type-15, type-16, type-17, type-18, type-19, type-none}
-use Rattle.spec_c_dumper.specs.ceiling.Ceiling.{Told, told, halted, countOf, thenBind, orderMetered, callsFresh, callsVisit, calls}
-use Rattle.spec_c_dumper.proofs.ceiling.Counted.{tell}
-use Rattle.spec_c_dumper.proofs.ceiling.Metered.{metered-plain, metered-fits, metered-over}
+use Rattle.spec_c_dumper.specs.ceiling.Ceiling.{Limit, unbounded, most, Told, halted, countOf, thenBind, callsFresh, callsVisit, calls}
+use Rattle.spec_c_dumper.proofs.ceiling.Counted.{tell, within, passes}
+use Rattle.spec_c_dumper.proofs.ceiling.Plain.{unbounded-is}
 use Rattle.c_dumper_dependency_order.specs.declared.order_state.Order.{Order}
-use Rattle.c_dumper_dependency_order.specs.order_state.Work.{Marks, markOf, workStore, tableIn, orderOut}
-use Rattle.c_dumper_dependency_order.proofs.order_state.Frame.{table-order}
-use Rattle.c_dumper_dependency_order.proofs.order_state.Frame as ordFrame
-use Rattle.c_dumper_dependency_order.proofs.order_state.Laws.{going, stops, counted, run, is-done, is-busy, is-new, node-at}
+use Rattle.c_dumper_dependency_order.specs.order_state.Work.{Marks, markOf, workStore, tableIn}
+use Rattle.c_dumper_dependency_order.specs.begin.Start.{limitOf}
+use Rattle.c_dumper_dependency_order.specs.declared.leaders.Way.{Way}
+use Rattle.c_dumper_dependency_order.specs.leaders.Leads.{Kept, orderKept, keptOut}
+use Rattle.c_dumper_dependency_order.proofs.order_state.Laws.{is-done, is-busy, is-new, node-at}
+use Rattle.c_dumper_dependency_order.proofs.order_type.Laws.{keptOf, going, stops, by-stop, run, stays-run, called-stays}
+use Rattle.c_dumper_dependency_order.proofs.leaders.Maps.{forget-kept}
 use Rattle.c_dumper_emit.specs.dump_type.Metered.{orderedIn, besideOf, dumpedMetered, callsIn, dumpedWithin}
 use Rattle.spec_session.specs.emission.Sheet.{Sheet, marksIn, withMarks, sheetStore, emptied, emitOut, workMachine, emitIn, isIgnored, isIdle}
 use Rattle.spec_c_dumper.specs.rules.Request.{listedOut, dumped}
 use Rattle.spec_session.proofs.emission.Frame.{Stays, on, off}
-use Rattle.spec_c_dumper.proofs.rules.Maps.{rmap, StoreMap, map-order}
+use Rattle.spec_c_dumper.proofs.rules.Maps.{rmap, tmap, StoreMap, map-order}
 use Rattle.spec_session.proofs.emission.Laws.{sheet, goes, halts, by-out, obind-then, at-sheet}
 
 -- ---- ordering beside a text: what the store in the work gives, and the text as it was
@@ -54,48 +57,49 @@ unfolding workMachine
 store-list b B m = refl
 
 -- ---- dump_metered
-module _ (b : TypeTable) (s w : List ℕ) (id cost spare : ℕ) (o : Order) (w₁ : List ℕ)
-    (e : orderOut o w₁ ≡ thenBind (orderOut (record { spare = spare; len = 0; stop = 0; «is_strong» = false }) w) (λ m _ j. orderMetered workStore cost 512 (tableIn b s w) m id false j)) where
-  ordered-is : orderOut o w₁ ≡ orderedIn (btfOf b s w) cost (record { work = w; len = 0 }) id spare
-  ordered-is = e ∙ run (record { spare = spare; len = 0; stop = 0; «is_strong» = false }) w (λ m _ j. orderMetered workStore cost 512 (tableIn b s w) m id false j) refl
+abbrev start : ℕ → Order
+start made = record { made = made; len = 0; stop = 0; «is_strong» = false }
 
-  -- the calls that are left
-  pub spare-is : o .spare ≡ countOf (orderedIn (btfOf b s w) cost (record { work = w; len = 0 }) id spare)
-  spare-is = sym (counted o w₁) ∙ ap countOf ordered-is
+-- what ordering says of the work alone
+abbrev said : Order → List ℕ → List ℕ → Told Marks
+said o w l = tmap (λ (k : Kept). k .marks) (keptOut o w l)
 
-module _ (b : TypeTable) (s : List ℕ) (at : ℕ) (tx w : List ℕ) (id cost spare : ℕ) (o : Order) (w₁ : List ℕ)
-    (e : orderOut o w₁ ≡ thenBind (orderOut (record { spare = spare; len = 0; stop = 0; «is_strong» = false }) w) (λ m _ j. orderMetered workStore cost 512 (tableIn b s w) m id false j)) where
+module _ (b : TypeTable) (s w : List ℕ) (id made : ℕ) (lim : Limit) (v : Way) (o : Order) (w₁ l₀ l₁ : List ℕ)
+    (e : keptOut o w₁ l₁ ≡ thenBind (keptOut (start made) w l₀) (λ m _ j. orderKept lim v 512 (tableIn b s w) m id false j)) where
+  ordered-is : said o w₁ l₁ ≡ orderedIn (btfOf b s w) lim (record { work = w; len = 0 }) id made
+  ordered-is =
+      ap (tmap (λ (k : Kept). k .marks)) (e ∙ run (start made) w l₀ (λ m _ j. orderKept lim v 512 (tableIn b s w) m id false j) refl)
+      ∙ sym (forget-kept lim v 512 (tableIn b s w) (keptOf (start made) w l₀) id false made)
+
+  counted : countOf (said o w₁ l₁) ≡ o .made
+  unfolding countOf
+  counted = by-stop _ o (λ z. ap (λ (q : Told Kept). countOf (tmap (λ (k : Kept). k .marks) q)) (going o w₁ l₁ z)) (λ n. ap (λ (q : Told Kept). countOf (tmap (λ (k : Kept). k .marks) q)) (stops o w₁ l₁ n))
+
+  -- the calls made
+  pub made-is : o .made ≡ countOf (orderedIn (btfOf b s w) lim (record { work = w; len = 0 }) id made)
+  made-is = sym counted ∙ ap countOf ordered-is
+
+module _ (b : TypeTable) (s : List ℕ) (at : ℕ) (tx w : List ℕ) (id made : ℕ) (lim : Limit) (v : Way) (o : Order) (w₁ l₀ l₁ : List ℕ)
+    (e : keptOut o w₁ l₁ ≡ thenBind (keptOut (start made) w l₀) (λ m _ j. orderKept lim v 512 (tableIn b s w) m id false j)) where
   abbrev X : Rules
   X = btfOf b s w
 
-  order-is : orderOut o w₁ ≡ orderedIn X cost (record { work = w; len = 0 }) id spare
-  order-is = ordered-is b s w id cost spare o w₁ e
-
-  dumped-is : dumpedMetered b X cost (sheet 0 at tx w) id spare ≡ listedOut (workMachine b X) (tableOf X) (besideOf (sheet 0 at tx w) (orderOut o w₁))
+  dumped-is : dumpedMetered b X lim (sheet 0 at tx w) id made ≡ listedOut (workMachine b X) (tableOf X) (besideOf (sheet 0 at tx w) (said o w₁ l₁))
   unfolding dumpedMetered
-  dumped-is = ap (λ (t : Told Marks). listedOut (workMachine b X) (tableOf X) (besideOf (sheet 0 at tx w) t)) (sym order-is)
+  dumped-is = ap (λ (t : Told Marks). listedOut (workMachine b X) (tableOf X) (besideOf (sheet 0 at tx w) t)) (sym (ordered-is b s w id made lim v o w₁ l₀ l₁ e))
 
-  pub dump-refused : (o .stop ≡ 0 → ⊥) → (r : ℕ) → putOut r tx ≡ putText tx at (cut [] (o .stop)) → emitOut 0 r tx w₁ ≡ obind (emitOut 0 at tx w) (λ m. dumpedMetered b X cost m id spare)
+  pub dump-refused : (o .stop ≡ 0 → ⊥) → (r : ℕ) → putOut r tx ≡ putText tx at (cut [] (o .stop)) → emitOut 0 r tx w₁ ≡ obind (emitOut 0 at tx w) (λ m. dumpedMetered b X lim m id made)
   unfolding obind written bytes listedOut besideOf
   dump-refused n r er = by-out _ at tx
       (λ l. halts 0 r tx w₁ (o .stop) (er ∙ put-fits tx at (cut [] (o .stop)) (omega arith))
-      ∙ sym (ap (λ (q : Out Sheet). obind q (λ m. dumpedMetered b X cost m id spare)) (goes 0 at tx w l) ∙ dumped-is ∙ ap (λ (q : Told Marks). listedOut (workMachine b X) (tableOf X) (besideOf (sheet 0 at tx w) q)) (stops o w₁ n)))
-      (λ c q. halts 0 r tx w₁ c (er ∙ stays tx at c (cut [] (o .stop)) q) ∙ sym (ap (λ (q : Out Sheet). obind q (λ m. dumpedMetered b X cost m id spare)) (halts 0 at tx w c q)))
+      ∙ sym (ap (λ (q : Out Sheet). obind q (λ m. dumpedMetered b X lim m id made)) (goes 0 at tx w l) ∙ dumped-is
+      ∙ ap (λ (q : Told Kept). listedOut (workMachine b X) (tableOf X) (besideOf (sheet 0 at tx w) (tmap (λ (k : Kept). k .marks) q))) (stops o w₁ l₁ n)))
+      (λ c q. halts 0 r tx w₁ c (er ∙ stays tx at c (cut [] (o .stop)) q) ∙ sym (ap (λ (q : Out Sheet). obind q (λ m. dumpedMetered b X lim m id made)) (halts 0 at tx w c q)))
 
   module _ (z : o .stop ≡ 0) where
     -- ordering left the table
     table-is : btfOf b s w₁ ≡ X
-    table-is = go (orderOut o w₁) (subst (ordFrame.Stays (btfOf b s) w) (sym order-is) (table-order b s cost 512 (tableIn b s w) (record { work = w; len = 0 }) id false spare)) (going o w₁ z)
-      where
-        same-ok : (m m′ : Marks) (f f′ : Bool) (j j′ : ℕ) → told m f j ≡ told m′ f′ j′ → m ≡ m′
-        same-ok m m′ f f′ j j′ q = cc
-
-        no : (c i : ℕ) (m : Marks) (f : Bool) (j : ℕ) → halted c i ≡ told m f j → ⊥
-        no c i m f j q = let k : _≡_ {A = ℕ} 0 1 = cc in omega arith
-
-        go : (x : Told Marks) → ordFrame.Stays (btfOf b s) w x → x ≡ told (record { work = w₁; len = o .len }) (o .«is_strong») (o .spare) → btfOf b s w₁ ≡ X
-        go (told m f j) (ordFrame.on q) u = ap (λ (y : Marks). btfOf b s (y .work)) (sym (same-ok m (record { work = w₁; len = o .len }) f (o .«is_strong») j (o .spare) u)) ∙ q
-        go (halted c i) ordFrame.off u = absurd (no c i (record { work = w₁; len = o .len }) (o .«is_strong») (o .spare) u)
+    table-is = stays-run b s o w₁ l₁ w (called-stays lim b s (start made) w l₀ o w₁ l₁ id 512 false v e) z
 
     -- the list is empty again
     cleared-sheet : (n r : ℕ) (t₂ w₂ w₃ : List ℕ) → w₃ ≡ emptied n w₂ → emitOut 0 r t₂ w₃ ≡ obind (emitOut n r t₂ w₂) (λ m. wrote (workMachine b X .start 0 m))
@@ -105,7 +109,7 @@ module _ (b : TypeTable) (s : List ℕ) (at : ℕ) (tx w : List ℕ) (id cost sp
         (λ c q. halts 0 r t₂ w₃ c q ∙ sym (ap (λ (u : Out Sheet). obind u (λ m. wrote (workMachine b X .start 0 m))) (halts n r t₂ w₂ c q)))
 
     pub dump-listed : (r : ℕ) (t₂ w₂ : List ℕ) → emitOut (o .len) r t₂ w₂ ≡ obind (emitOut (o .len) at tx w₁) (λ m. eeach (emitIn b (btfOf b s w₁) 512 0) (sheetStore .list m) m)
-        → (w₃ : List ℕ) → w₃ ≡ emptied (o .len) w₂ → emitOut 0 r t₂ w₃ ≡ obind (emitOut 0 at tx w) (λ m. dumpedMetered b X cost m id spare)
+        → (w₃ : List ℕ) → w₃ ≡ emptied (o .len) w₂ → emitOut 0 r t₂ w₃ ≡ obind (emitOut 0 at tx w) (λ m. dumpedMetered b X lim m id made)
     unfolding obind listedOut emitIn besideOf
     dump-listed r t₂ w₂ e₂ w₃ e₃ =
         cleared-sheet (o .len) r t₂ w₂ w₃ e₃
@@ -114,8 +118,9 @@ module _ (b : TypeTable) (s : List ℕ) (at : ℕ) (tx w : List ℕ) (id cost sp
         ∙ by-out _ at tx
         (λ l. ap (λ (q : Out Sheet). obind q all) (goes (o .len) at tx w₁ l)
         ∙ listed-all
-        ∙ sym (ap (λ (q : Out Sheet). obind q (λ m. dumpedMetered b X cost m id spare)) (goes 0 at tx w l) ∙ dumped-is ∙ ap (λ (q : Told Marks). listedOut (workMachine b X) (tableOf X) (besideOf (sheet 0 at tx w) q)) (going o w₁ z)))
-        (λ c q. ap (λ (u : Out Sheet). obind u all) (halts (o .len) at tx w₁ c q) ∙ sym (ap (λ (u : Out Sheet). obind u (λ m. dumpedMetered b X cost m id spare)) (halts 0 at tx w c q)))
+        ∙ sym (ap (λ (q : Out Sheet). obind q (λ m. dumpedMetered b X lim m id made)) (goes 0 at tx w l) ∙ dumped-is
+        ∙ ap (λ (q : Told Kept). listedOut (workMachine b X) (tableOf X) (besideOf (sheet 0 at tx w) (tmap (λ (k : Kept). k .marks) q))) (going o w₁ l₁ z)))
+        (λ c q. ap (λ (u : Out Sheet). obind u all) (halts (o .len) at tx w₁ c q) ∙ sym (ap (λ (u : Out Sheet). obind u (λ m. dumpedMetered b X lim m id made)) (halts 0 at tx w c q)))
       where
         last : Sheet → Out Sheet
         last m = wrote (workMachine b X .start 0 m)
@@ -126,22 +131,33 @@ module _ (b : TypeTable) (s : List ℕ) (at : ℕ) (tx w : List ℕ) (id cost sp
         listed-all : all (sheet (o .len) at tx w₁) ≡ listedOut (workMachine b X) (tableOf X) (ok (sheet (o .len) at tx w₁) (o .«is_strong»))
         listed-all = ap (λ (l : List ℕ). obind (eeach (emitIn b X 512 0) l (sheet (o .len) at tx w₁)) last) (store-list b X (sheet (o .len) at tx w₁))
 
--- ---- dump_type: where a call costs nothing, a request is the plain one
-beside-tell : (m : Sheet) (r : Res Marks) (left : ℕ) → besideOf m (tell r left) ≡ rmap (withMarks m) r
+-- ---- dump_type: without a ceiling a request is the plain one
+beside-tell : (m : Sheet) (r : Res Marks) (j : ℕ) → besideOf m (tell r j) ≡ rmap (withMarks m) r
 unfolding besideOf tell
-beside-tell m (ok k f) left = refl
-beside-tell m (refused c) left = refl
+beside-tell m (ok k f) j = refl
+beside-tell m (refused c) j = refl
 
-pub plain-is : (b : TypeTable) (B : Rules) (m : Sheet) (id left : ℕ) → dumpedMetered b B 0 m id left ≡ dumped (workMachine b B) (tableOf B) m id
+pub plain-is : (b : TypeTable) (B : Rules) (m : Sheet) (id made : ℕ) → dumpedMetered b B unbounded m id made ≡ dumped (workMachine b B) (tableOf B) m id
 unfolding dumpedMetered dumped workMachine
-plain-is b B m id left =
+plain-is b B m id made =
     ap (listedOut (workMachine b B) (tableOf B))
-    (ap (besideOf m) (metered-plain workStore 512 (tableOf B) (marksIn m) id false left) ∙ beside-tell m (order workStore 512 (tableOf B) (marksIn m) id false) left ∙ sym (lift-order (m .text) (m .at) 512 (tableOf B) (marksIn m) id false))
+    (ap (besideOf m) (unbounded-is workStore 512 (tableOf B) (marksIn m) id false made) ∙ beside-tell m (order workStore 512 (tableOf B) (marksIn m) id false) made ∙ sym (lift-order (m .text) (m .at) 512 (tableOf B) (marksIn m) id false))
 
-pub dump-plain : (b : TypeTable) (B : Rules) (o : Out Sheet) (id left : ℕ) (x : Out Sheet) → x ≡ obind o (λ m. dumpedMetered b B 0 m id left) → x ≡ obind o (λ m. dumped (workMachine b B) (tableOf B) m id)
-dump-plain b B o id left x e = e ∙ ap (obind o) (λ i m. plain-is b B m id left i)
+none-is : (n : ℕ) → limitOf (record { «is_set» = false; calls = n }) ≡ unbounded
+unfolding limitOf
+none-is n = refl
+
+most-is : (n : ℕ) → limitOf (record { «is_set» = true; calls = n }) ≡ most n
+unfolding limitOf
+most-is n = refl
+
+pub dump-plain : (b : TypeTable) (B : Rules) (o : Out Sheet) (id made n : ℕ) (x : Out Sheet) → x ≡ obind o (λ m. dumpedMetered b B (limitOf (record { «is_set» = false; calls = n })) m id made) → x ≡ obind o (λ m. dumped (workMachine b B) (tableOf B) m id)
+dump-plain b B o id made n x e = e ∙ ap (λ (c : Limit). obind o (λ m. dumpedMetered b B c m id made)) (none-is n) ∙ ap (obind o) (λ i m. plain-is b B m id made i)
 
 -- ---- dump_type_within
+none-before : (m : ℕ) → 0 + m ≡ m
+none-before m = omega arith
+
 module _ (b : TypeTable) (s : List ℕ) (w : List ℕ) (id left : ℕ) where
   abbrev opens : ℕ
   opens = callsIn b s w id
@@ -152,39 +168,54 @@ module _ (b : TypeTable) (s : List ℕ) (w : List ℕ) (id left : ℕ) where
   plain-rule : Res Marks
   plain-rule = order workStore 512 (tableIn b s w) marks id false
 
-  rule-fits : opens ≤ left → orderedIn (btfOf b s w) 1 marks id left ≡ tell plain-rule (left - opens)
+  rule-fits : opens ≤ left → orderedIn (btfOf b s w) (most left) marks id 0 ≡ tell plain-rule opens
   unfolding callsIn plain-rule
-  rule-fits l = metered-fits workStore 512 (tableIn b s w) marks id false left l
+  rule-fits l =
+      within left workStore 512 (tableIn b s w) marks id false 0 (subst (λ (m : ℕ). m ≤ left) (sym (none-before opens)) l) ∙ ap (tell plain-rule) (none-before opens)
 
-  rule-over : left < opens → orderedIn (btfOf b s w) 1 marks id left ≡ halted 22 (left - opens)
+  rule-over : left < opens → orderedIn (btfOf b s w) (most left) marks id 0 ≡ halted 22 left
   unfolding callsIn
-  rule-over l = metered-over workStore 512 (tableIn b s w) marks id false left l
+  rule-over l = passes left workStore 512 (tableIn b s w) marks id false 0 (omega arith) (subst (λ (m : ℕ). left < m) (sym (none-before opens)) l)
 
   tell-count : (r : Res Marks) (j : ℕ) → countOf (tell r j) ≡ j
   unfolding countOf tell
   tell-count (ok m f) j = refl
   tell-count (refused c) j = refl
 
-  pub within-spare : countOf (orderedIn (btfOf b s w) 1 marks id left) ≡ left - opens
+  -- the calls made, by whether they fit
+  pub record Made (made : ℕ) : Type 0 where
+    pub at-most : made ≤ left
+    pub rest : left - made ≡ left - opens
+
+  made-under : Made (countOf (orderedIn (btfOf b s w) (most left) marks id 0))
   unfolding countOf
-  within-spare = ⊎-elim (λ l. ap countOf (rule-fits l) ∙ tell-count plain-rule (left - opens)) (λ l. ap countOf (rule-over l)) (le-or-lt opens left)
+  made-under =
+      ⊎-elim
+      (λ l. subst Made (sym (ap countOf (rule-fits l) ∙ tell-count plain-rule opens)) (record { at-most = l; rest = refl }))
+      (λ l. subst Made (sym (ap countOf (rule-over l))) (record { at-most = omega arith; rest = omega arith }))
+      (le-or-lt opens left)
+
+  pub within-made : (made : ℕ) → made ≡ countOf (orderedIn (btfOf b s w) (limitOf (record { «is_set» = true; calls = left })) marks id 0) → Made made
+  within-made made e = subst Made (sym (e ∙ ap (λ (c : Limit). countOf (orderedIn (btfOf b s w) c marks id 0)) (most-is left))) made-under
 
   module _ (at : ℕ) (tx : List ℕ) where
-    sheet-fits : opens ≤ left → dumpedMetered b (btfOf b s w) 1 (sheet 0 at tx w) id left ≡ dumpedWithin b (btfOf b s w) opens left (sheet 0 at tx w) id
+    sheet-fits : opens ≤ left → dumpedMetered b (btfOf b s w) (most left) (sheet 0 at tx w) id 0 ≡ dumpedWithin b (btfOf b s w) opens left (sheet 0 at tx w) id
     unfolding dumpedMetered dumpedWithin dumped workMachine plain-rule
     sheet-fits l =
         ap (λ (t : Told Marks). listedOut (workMachine b (btfOf b s w)) (tableIn b s w) (besideOf (sheet 0 at tx w) t)) (rule-fits l)
-        ∙ ap (listedOut (workMachine b (btfOf b s w)) (tableIn b s w)) (beside-tell (sheet 0 at tx w) plain-rule (left - opens) ∙ sym (lift-order tx at 512 (tableIn b s w) marks id false))
+        ∙ ap (listedOut (workMachine b (btfOf b s w)) (tableIn b s w)) (beside-tell (sheet 0 at tx w) plain-rule opens ∙ sym (lift-order tx at 512 (tableIn b s w) marks id false))
         ∙ sym (rw (le-leb opens left l, dumpedWithin))
 
-    sheet-over : left < opens → dumpedMetered b (btfOf b s w) 1 (sheet 0 at tx w) id left ≡ dumpedWithin b (btfOf b s w) opens left (sheet 0 at tx w) id
+    sheet-over : left < opens → dumpedMetered b (btfOf b s w) (most left) (sheet 0 at tx w) id 0 ≡ dumpedWithin b (btfOf b s w) opens left (sheet 0 at tx w) id
     unfolding dumpedMetered dumpedWithin besideOf listedOut
     sheet-over l =
         ap (λ (t : Told Marks). listedOut (workMachine b (btfOf b s w)) (tableIn b s w) (besideOf (sheet 0 at tx w) t)) (rule-over l)
         ∙ sym (rw (lt-leb opens left l, dumpedWithin))
 
-    pub dump-within : (x : Out Sheet) → x ≡ obind (emitOut 0 at tx w) (λ m. dumpedMetered b (btfOf b s w) 1 m id left) → x ≡ obind (emitOut 0 at tx w) (λ m. dumpedWithin b (btfOf b s w) opens left m id)
-    dump-within x e = e ∙ at-sheet 0 at tx w (λ m. dumpedMetered b (btfOf b s w) 1 m id left) (λ m. dumpedWithin b (btfOf b s w) opens left m id) (λ h. ⊎-elim sheet-fits sheet-over (le-or-lt opens left))
+    pub dump-within : (x : Out Sheet) → x ≡ obind (emitOut 0 at tx w) (λ m. dumpedMetered b (btfOf b s w) (limitOf (record { «is_set» = true; calls = left })) m id 0) → x ≡ obind (emitOut 0 at tx w) (λ m. dumpedWithin b (btfOf b s w) opens left m id)
+    dump-within x e =
+        e ∙ ap (λ (c : Limit). obind (emitOut 0 at tx w) (λ m. dumpedMetered b (btfOf b s w) c m id 0)) (most-is left)
+        ∙ at-sheet 0 at tx w (λ m. dumpedMetered b (btfOf b s w) (most left) m id 0) (λ m. dumpedWithin b (btfOf b s w) opens left m id) (λ h. ⊎-elim sheet-fits sheet-over (le-or-lt opens left))
 
 -- ---- is_idle
 ignored-is : ℕ → Bool

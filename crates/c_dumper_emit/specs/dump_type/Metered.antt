@@ -1,5 +1,5 @@
--- A request with the calls of ordering that are left, each of which costs 1 under a ceiling and 0 without one: ordering over the marks in the work, and
--- then emission of what it listed.
+-- A request, under a ceiling on the calls of ordering or without one: ordering over the marks in the work, and then emission of what it
+-- listed.
 use Prim.Native.Nat.{ℕ}
 use mathlib.Core.Bool.{true, false}
 use mathlib.Core.List.{List}
@@ -9,22 +9,22 @@ use Rattle.spec_c_dumper.specs.rules.Machine.{Out, stuck}
 use Rattle.spec_c_dumper.specs.rules.Types.{Btf as Rules, tableOf}
 use Rattle.spec_type_table.specs.declared.types.TypeTable.{TypeTable}
 use Rattle.spec_type_table.specs.Table.{btfOf}
-use Rattle.spec_c_dumper.specs.ceiling.Ceiling.{Told, told, halted, orderMetered, calls}
+use Rattle.spec_c_dumper.specs.ceiling.Ceiling.{Limit, Told, told, halted, orderWithin, calls}
 use Rattle.c_dumper_dependency_order.specs.order_state.Work.{Marks, workStore}
 use Rattle.spec_session.specs.emission.Sheet.{Sheet, marksIn, withMarks, workMachine}
 use Rattle.spec_c_dumper.specs.rules.Request.{listedOut, dumped}
 
 -- ordering as a request starts it, over a work whose order list is empty
-abbrev pub orderedIn : Rules → ℕ → Marks → ℕ → ℕ → Told Marks
-orderedIn B cost m x left = orderMetered workStore cost 512 (tableOf B) m x false left
+abbrev pub orderedIn : Rules → Limit → Marks → ℕ → ℕ → Told Marks
+orderedIn B c m x made = orderWithin workStore c 512 (tableOf B) m x false made
 
--- what ordering came to, with the text beside it; the calls that are left are told apart (`countOf`)
+-- what ordering came to, with the text beside it; the calls made are told apart (`countOf`)
 unfoldable pub besideOf : Sheet → Told Marks → Res Sheet
-besideOf m (told k strong left) = ok (withMarks m k) strong
-besideOf m (halted c left) = refused c
+besideOf m (told k strong made) = ok (withMarks m k) strong
+besideOf m (halted c made) = refused c
 
-unfoldable pub dumpedMetered : TypeTable → Rules → ℕ → Sheet → ℕ → ℕ → Out Sheet
-dumpedMetered b B cost m x left = listedOut (workMachine b B) (tableOf B) (besideOf m (orderedIn B cost (marksIn m) x left))
+unfoldable pub dumpedMetered : TypeTable → Rules → Limit → Sheet → ℕ → ℕ → Out Sheet
+dumpedMetered b B c m x made = listedOut (workMachine b B) (tableOf B) (besideOf m (orderedIn B c (marksIn m) x made))
 
 -- ---- a request under a ceiling, by the calls that the rules open
 

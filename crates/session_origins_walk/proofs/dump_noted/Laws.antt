@@ -1,5 +1,5 @@
 -- Laws of a request with its entries: ordering, the listed ids, and the emptied list. Assumes nothing.
-use Prim.Native.Nat.{ℕ, _≤_}
+use Prim.Native.Nat.{ℕ, _+_, _<_, _≤_}
 use mathlib.Core.Path.{_≡_, refl, ap, _∙_, sym, subst}
 use mathlib.Core.List.{List, []}
 use mathlib.Core.Bool.{Bool, true, false}
@@ -7,7 +7,7 @@ use native.Mathlib.Omega.{arith}
 use lib.ListN.{length}
 use Rattle.spec_bytes.specs.text.Text.{cut, bytes, stopped, putOut, written, putText}
 use Rattle.spec_bytes.proofs.text.TextLaws.{put-fits, stays}
-use Rattle.spec_c_dumper.specs.rules.Order.{Res, ok, refused, bind}
+use Rattle.spec_c_dumper.specs.ceiling.Ceiling.{thenBind}
 use Rattle.spec_c_dumper.specs.rules.Machine.{Out, wrote, stuck, obind, eeach}
 use Rattle.spec_c_dumper.specs.rules.Types.{Btf as Rules, tableOf}
 use Rattle.spec_type_table.specs.declared.types.TypeTable.{TypeTable}
@@ -17,9 +17,10 @@ use Rattle.c_dumper_dependency_order.specs.order_state.Work.{tableIn}
 use Rattle.spec_session.specs.emission.Sheet.{Sheet, sheetStore, emptied, workMachine}
 use Rattle.spec_session.proofs.emission.Laws.{sheet, by-out}
 use Rattle.spec_c_dumper.specs.origins.Causes.{Entry, Noted, upTo, showsIn, eachListed}
-use Rattle.c_dumper_dependency_order.specs.leaders.Leads.{Kept, orderKept, keptOut, entryIn}
-use Rattle.c_dumper_dependency_order.proofs.leaders.Laws.{keptOf, table-kept}
-use Rattle.c_dumper_dependency_order.proofs.leaders.Laws as kept
+use Rattle.c_dumper_dependency_order.specs.leaders.Leads.{orderKept, keptOut, entryIn}
+use Rattle.c_dumper_dependency_order.specs.declared.begin.Ceiling.{Ceiling}
+use Rattle.c_dumper_dependency_order.specs.begin.Start.{limitOf}
+use Rattle.c_dumper_dependency_order.proofs.order_type.Laws as kept
 use Rattle.c_dumper_emit.specs.declared.entries.Pen.{Pen}
 use Rattle.c_dumper_emit.specs.entries.Noted.{notedOut, emitN}
 use Rattle.c_dumper_emit.proofs.entries.Laws.{paper, goes, halts, obind-then, obind-same}
@@ -35,16 +36,19 @@ with-list b B room why o x e =
 
 -- ---- dump_noted
 abbrev begin : Order
-begin = record { spare = 0; len = 0; stop = 0; «is_strong» = false }
+begin = record { made = 0; len = 0; stop = 0; «is_strong» = false }
+
+abbrev none : Ceiling
+none = record { «is_set» = false; calls = 0 }
 
 module _ (b : TypeTable) (s : List ℕ) (room : ℕ) (p : Pen) (tx w li : List ℕ) (id turn : ℕ) (o : Order) (w₁ l₁ l₀ : List ℕ)
-    (e : keptOut o w₁ l₁ ≡ bind (keptOut begin w l₀) (λ m _. orderKept (wayTo id turn) 512 (tableIn b s w) m id false)) where
+    (e : keptOut o w₁ l₁ ≡ thenBind (keptOut begin w l₀) (λ m _ j. orderKept (limitOf none) (wayTo id turn) 512 (tableIn b s w) m id false j)) where
   abbrev X : Rules
   X = btfOf b s w
 
   order-is : keptOut o w₁ l₁ ≡ orderedKept X (sheet 0 (p .at) tx w) l₀ id turn
-  unfolding orderedKept
-  order-is = e ∙ kept.run begin w l₀ (λ m _. orderKept (wayTo id turn) 512 (tableIn b s w) m id false) refl
+  unfolding orderedKept limitOf
+  order-is = e ∙ kept.run begin w l₀ (λ m _ j. orderKept (limitOf none) (wayTo id turn) 512 (tableIn b s w) m id false j) refl
 
   abbrev dumps : Beside → Out Beside
   dumps m = dumpedKept b X room m id turn
@@ -77,18 +81,7 @@ module _ (b : TypeTable) (s : List ℕ) (room : ℕ) (p : Pen) (tx w li : List �
   module _ (z : o .stop ≡ 0) where
     -- ordering left the table
     table-is : btfOf b s w₁ ≡ X
-    unfolding orderedKept
-    table-is = go (keptOut o w₁ l₁) (subst (kept.Stays (btfOf b s) w) (sym order-is) (table-kept b s (wayTo id turn) 512 (tableIn b s w) (keptOf begin w l₀) id false)) (kept.going o w₁ l₁ z)
-      where
-        same-ok : (m m′ : Kept) (f f′ : Bool) → ok m f ≡ ok m′ f′ → m ≡ m′
-        same-ok m m′ f f′ q = cc
-
-        no : (c : ℕ) (m : Kept) (f : Bool) → refused c ≡ ok m f → ⊥
-        no c m f q = let k : _≡_ {A = ℕ} 0 1 = cc in omega arith
-
-        go : (x : Res Kept) → kept.Stays (btfOf b s) w x → x ≡ ok (keptOf o w₁ l₁) (o .«is_strong») → btfOf b s w₁ ≡ X
-        go (ok m f) (kept.on q) u = ap (λ (y : Kept). btfOf b s (y .marks .work)) (sym (same-ok m (keptOf o w₁ l₁) f (o .«is_strong») u)) ∙ q
-        go (refused c) kept.off u = absurd (no c (keptOf o w₁ l₁) (o .«is_strong») u)
+    table-is = kept.stays-run b s o w₁ l₁ w (kept.called-stays (limitOf none) b s begin w l₀ o w₁ l₁ id 512 false (wayTo id turn) e) z
 
     last : Noted Sheet → Out (Noted Sheet)
     last m = wrote (record { mach = workMachine b X .start 0 (m .mach); entries = m .entries })

@@ -1,4 +1,4 @@
--- Ordering with two numbers and words for the leaders is ordering with leaders (`orderLed` of crate causes). Assumes nothing.
+-- Ordering with two numbers and words for the leaders is, without a ceiling, ordering with leaders (`orderLed` of the definitions). Assumes nothing.
 use Prim.Native.Nat.{ℕ, zero, suc, _+_, _*_, _/_, _%_, _<_}
 use mathlib.Core.Path.{_≡_, refl, ap, _∙_, sym, subst}
 use mathlib.Core.Bool.{Bool, true, false}
@@ -11,12 +11,13 @@ use borrow.Author.Tests.{eqb-true, eqb-false, eq-eqb, ne-eqb}
 use Rattle.spec_c_dumper.specs.rules.Order.{Table}
 use Rattle.c_dumper_dependency_order.specs.order_state.Work.{Marks, workStore}
 use Rattle.spec_session.specs.emission.Sheet.{Sheet, withMarks, sheetStore}
-use Rattle.spec_c_dumper.proofs.rules.Maps.{rmap, StoreMap}
+use Rattle.spec_c_dumper.specs.ceiling.Ceiling.{unbounded, allows, oneCall}
+use Rattle.spec_c_dumper.proofs.ceiling.Counted.{tell}
+use Rattle.spec_c_dumper.proofs.rules.Maps.{rmap, StoreMap, map-visit-plain, map-visit}
 use Rattle.spec_c_dumper.specs.origins.Causes.{ledBy, isAround, inside, Led, ledStore, orderLed, leaderOf, listedEntry, entry}
 use Rattle.spec_c_dumper.proofs.origins.Ordering.{two-numbers}
 use Rattle.c_dumper_dependency_order.specs.declared.leaders.Way.{Way}
 use Rattle.c_dumper_dependency_order.specs.leaders.Leads.{ledTwo, wayFor, wordAt, isNoted, noteIn, leaderIn, entryIn, Kept, keptStore, orderKept}
-use Rattle.c_dumper_dependency_order.proofs.leaders.Maps.{map-visit}
 use Rattle.session_origins_walk.specs.request.Kept.{Before}
 
 -- ---- the words after some notes
@@ -58,13 +59,15 @@ module _ (req turn : ℕ) (l₀ : List ℕ) where
   turn-same false v x e = e
   turn-same true v x e = e
 
-  pub order-kept : (n : ℕ) (v : Way) (around : List ℕ) → v .turn ≡ turn → ((x : ℕ) → ledTwo v x ≡ ledBy req around x) → (T : Table) (s : Led Marks) (x : ℕ) (weak : Bool)
-      → orderKept v n T (keptFrom s) x weak ≡ rmap keptFrom (orderLed workStore req n T around s x weak)
-  unfolding orderKept orderLed
-  order-kept zero v around et h T s x weak = refl
-  order-kept (suc n) v around et h T s x weak =
-      map-visit (ledStore workStore req around) (keptStore v) keptFrom (kept-map v around et h) T (λ s′ y f. orderKept (wayFor (isAround (T .node x)) v x) n T s′ y f) (λ s′ y f. orderLed workStore req n T (inside (isAround (T .node x)) x around) s′ y f)
-      (λ s′ y f. order-kept n (wayFor (isAround (T .node x)) v x) (inside (isAround (T .node x)) x around) (turn-same (isAround (T .node x)) v x et) (inner (isAround (T .node x)) v around x h) T s′ y f) s x weak (workStore .get (s .state) x)
+  pub order-kept : (n : ℕ) (v : Way) (around : List ℕ) → v .turn ≡ turn → ((x : ℕ) → ledTwo v x ≡ ledBy req around x) → (T : Table) (s : Led Marks) (x : ℕ) (weak : Bool) (k : ℕ)
+      → orderKept unbounded v n T (keptFrom s) x weak k ≡ tell (rmap keptFrom (orderLed workStore req n T around s x weak)) k
+  unfolding orderKept orderLed allows oneCall tell
+  order-kept zero v around et h T s x weak k = refl
+  order-kept (suc n) v around et h T s x weak k =
+      map-visit-plain (ledStore workStore req around) (keptStore v) keptFrom (kept-map v around et h) T (λ s′ y f. orderLed workStore req n T (inside (isAround (T .node x)) x around) s′ y f) s x weak
+      (λ s′ y f j. orderKept unbounded (wayFor (isAround (T .node x)) v x) n T s′ y f j)
+      (λ s′ y f j. order-kept n (wayFor (isAround (T .node x)) v x) (inside (isAround (T .node x)) x around) (turn-same (isAround (T .node x)) v x et) (inner (isAround (T .node x)) v around x h) T s′ y f j)
+      (workStore .get (s .state) x) k
 
 -- beside a text
 module _ (m : Sheet) (req : ℕ) where
@@ -79,8 +82,8 @@ module _ (m : Sheet) (req : ℕ) where
   unfolding orderLed sheetStore
   lift-led zero T around s x weak = refl
   lift-led (suc n) T around s x weak =
-      map-visit (ledStore workStore req around) (ledStore sheetStore req around) besideLed (beside-map around) T (λ s′ y f. orderLed sheetStore req n T (inside (isAround (T .node x)) x around) s′ y f)
-      (λ s′ y f. orderLed workStore req n T (inside (isAround (T .node x)) x around) s′ y f) (λ s′ y f. lift-led n T (inside (isAround (T .node x)) x around) s′ y f) s x weak (workStore .get (s .state) x)
+      map-visit (ledStore workStore req around) (ledStore sheetStore req around) besideLed (beside-map around) T (λ s′ y f. orderLed workStore req n T (inside (isAround (T .node x)) x around) s′ y f) s x weak
+      (λ s′ y f. orderLed sheetStore req n T (inside (isAround (T .node x)) x around) s′ y f) (λ s′ y f. lift-led n T (inside (isAround (T .node x)) x around) s′ y f) (workStore .get (s .state) x)
 
 -- ---- what the words say
 get-same : (l : List ℕ) (i a : ℕ) → i < length l → getD (set l i a) i 0 ≡ a

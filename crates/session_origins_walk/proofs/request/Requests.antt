@@ -20,6 +20,7 @@ use Rattle.spec_type_table.proofs.KindLaws.{type-0}
 use Rattle.spec_type_table.specs.Table.{typeOf, btfOf}
 use Rattle.c_dumper_dependency_order.specs.order_state.Work.{Marks, workStore}
 use Rattle.spec_session.specs.emission.Sheet.{Sheet, marksIn, withMarks, sheetStore, workMachine}
+use Rattle.spec_c_dumper.proofs.ceiling.Counted.{tell}
 use Rattle.spec_c_dumper.proofs.rules.Maps.{rmap}
 use Rattle.spec_c_dumper.specs.origins.Causes.{Entry, ledBy, isAround, Led, orderLed, listedEntry, Noted, upTo, emitNoted, showsIn}
 use Rattle.spec_c_dumper.specs.origins.Claims.{isListed, LedTo}
@@ -88,8 +89,8 @@ module _ (b : TypeTable) (B : Rules) (few : Few B) (room : ℕ) (m : Sheet) (es 
   whys : (led : List (ℕ × ℕ)) → ((p : ℕ × ℕ) → List·Memᴰ p led → LedTo T id (p .0) (p .1)) → entryIn id turn (tabled turn l₀ led) ≡ listedEntry id led
   whys led h = entry-is id turn (tabled turn l₀ led) led (λ x. leader-is id turn 262145 led l₀ size (λ p i. fits p (h p i)) x (before-none turn l₀ old x))
 
-  same : (r : Res (Led Marks)) → Holds (AllLed T id) r → forgetLeads (listedKept b B room id turn start (rmap (keptFrom id turn l₀) r)) ≡ listedNoted (workMachine b B) T (upTo room) (showsIn B) id es (rmap (besideLed m id) r)
-  unfolding listedKept listedNoted eachKept workMachine forgetLeads
+  same : (r : Res (Led Marks)) → Holds (AllLed T id) r → forgetLeads (listedKept b B room id turn start (tell (rmap (keptFrom id turn l₀) r) 0)) ≡ listedNoted (workMachine b B) T (upTo room) (showsIn B) id es (rmap (besideLed m id) r)
+  unfolding listedKept listedNoted eachKept workMachine forgetLeads tell
   same (ok s f) (holds h) =
       forget-with (tabled turn l₀ (s .led)) (emitting (entryIn id turn (tabled turn l₀ (s .led)))) ∙ ap emitting (whys (s .led) h)
     where
@@ -97,8 +98,8 @@ module _ (b : TypeTable) (B : Rules) (few : Few B) (room : ℕ) (m : Sheet) (es 
       emitting why = obind (eeach (λ k y. emitNoted (workMachine b B) (upTo room) (showsIn B) why T 512 k y 0) (sheetStore .list (withMarks m (s .state))) (record { mach = withMarks m (s .state); entries = es })) (λ k. wrote (record { mach = workMachine b B .start 0 (k .mach); entries = k .entries }))
   same (refused c) none = refl
 
-  later : (r : Res (Led Marks)) → Holds (AllLed T id) r → (k : Beside) → listedKept b B room id turn start (rmap (keptFrom id turn l₀) r) ≡ wrote k → Before (turn + 1) (k .leads)
-  unfolding listedKept
+  later : (r : Res (Led Marks)) → Holds (AllLed T id) r → (k : Beside) → listedKept b B room id turn start (tell (rmap (keptFrom id turn l₀) r) 0) ≡ wrote k → Before (turn + 1) (k .leads)
+  unfolding listedKept tell
   later (ok s f) (holds h) k e = subst (Before (turn + 1)) (sym (with-is (tabled turn l₀ (s .led)) _ k e)) (tabled-before turn 262145 (s .led) l₀ size (λ p i. fits p (h p i)) (before-more turn l₀ old))
   later (refused c) none k e = absurd (let z : _≡_ {A = ℕ} 0 1 = cc in omega arith)
 
@@ -113,9 +114,9 @@ module _ (b : TypeTable) (B : Rules) (few : Few B) (room : ℕ) (m : Sheet) (es 
       go true = refl
       go false = refl
 
-  kept-is : dumpedKept b B room (record { noted = start; leads = l₀ }) id turn ≡ listedKept b B room id turn start (rmap (keptFrom id turn l₀) (orderLed workStore id 512 T [] began id false))
+  kept-is : dumpedKept b B room (record { noted = start; leads = l₀ }) id turn ≡ listedKept b B room id turn start (tell (rmap (keptFrom id turn l₀) (orderLed workStore id 512 T [] began id false)) 0)
   unfolding dumpedKept orderedKept tabled
-  kept-is = ap (listedKept b B room id turn start) (order-kept id turn l₀ 512 (wayTo id turn) [] refl two-start T began id false)
+  kept-is = ap (listedKept b B room id turn start) (order-kept id turn l₀ 512 (wayTo id turn) [] refl two-start T began id false 0)
 
   -- THE THEOREM: the entries are those of the definitions, and what is noted then was noted before the next turn
   pub dumped-kept : forgetLeads (dumpedKept b B room (record { noted = start; leads = l₀ }) id turn) ≡ dumpedNoted (workMachine b B) T (upTo room) (showsIn B) m es id

@@ -4,7 +4,7 @@ use Prim.Native.Nat.{ℕ, _/_, _<_}
 use mathlib.Core.Bool.{false}
 use mathlib.Core.List.{List}
 use lib.ListN.{replicate}
-use Rattle.spec_c_dumper.specs.rules.Order.{Res, ok, refused}
+use Rattle.spec_c_dumper.specs.ceiling.Ceiling.{unbounded, Told, told, halted}
 use Rattle.spec_c_dumper.specs.rules.Machine.{Out, wrote, stuck, obind}
 use Rattle.spec_c_dumper.specs.rules.Types.{Btf as Rules, tableOf}
 use Rattle.spec_type_table.specs.declared.types.TypeTable.{TypeTable}
@@ -35,8 +35,8 @@ unfoldable pub withLeads : List ℕ → Out (Noted Sheet) → Out Beside
 withLeads l (wrote m) = wrote (record { noted = m; leads = l })
 withLeads l (stuck c) = stuck c
 
-unfoldable pub orderedKept : Rules → Sheet → List ℕ → ℕ → ℕ → Res Kept
-orderedKept B m l id turn = orderKept (wayTo id turn) 512 (tableOf B) (record { marks = marksIn m; leads = l }) id false
+unfoldable pub orderedKept : Rules → Sheet → List ℕ → ℕ → ℕ → Told Kept
+orderedKept B m l id turn = orderKept unbounded (wayTo id turn) 512 (tableOf B) (record { marks = marksIn m; leads = l }) id false 0
 
 module _ (b : TypeTable) (B : Rules) (room : ℕ) where
   -- the sheet that ordering left, with the entries so far
@@ -47,9 +47,9 @@ module _ (b : TypeTable) (B : Rules) (room : ℕ) where
   eachKept id turn m s =
       eachListed (workMachine b B) (tableOf B) (upTo room) (showsIn B) (entryIn id turn (s .leads)) (sheetStore .list (withMarks (m .mach) (s .marks))) (besideKept m s)
 
-  unfoldable pub listedKept : ℕ → ℕ → Noted Sheet → Res Kept → Out Beside
-  listedKept id turn m (ok s strong) = withLeads (s .leads) (obind (eachKept id turn m s) (λ k. wrote (record { mach = workMachine b B .start 0 (k .mach); entries = k .entries })))
-  listedKept id turn m (refused c) = stuck c
+  unfoldable pub listedKept : ℕ → ℕ → Noted Sheet → Told Kept → Out Beside
+  listedKept id turn m (told s strong made) = withLeads (s .leads) (obind (eachKept id turn m s) (λ k. wrote (record { mach = workMachine b B .start 0 (k .mach); entries = k .entries })))
+  listedKept id turn m (halted c made) = stuck c
 
   unfoldable pub dumpedKept : Beside → ℕ → ℕ → Out Beside
   dumpedKept m id turn = listedKept id turn (m .noted) (orderedKept B (m .noted .mach) (m .leads) id turn)

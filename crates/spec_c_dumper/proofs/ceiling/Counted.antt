@@ -11,7 +11,7 @@ use borrow.Author.Tests.{lt-ltb, le-ltb, le-leb, lt-leb}
 use Rattle.spec_bytes.proofs.words.Laws.{le-or-lt}
 use Rattle.spec_c_dumper.specs.rules.Order.{Node, ignored, plain, listed, through, ptr, tdef, proto, comp, Table, isComp, Mark, new, busy, done, isDone, Store, Res, ok, refused, bind, each, meet, finish, enter, alias, fresh, visit, order}
 use Rattle.spec_c_dumper.specs.rules.Machine.{Machine, Sess, Answer, shut, ordered, gate, single, onward, from, every}
-use Rattle.spec_c_dumper.specs.ceiling.Ceiling.{Told, told, halted, thenBind, eachWithin, meetWithin, enterWithin, aliasWithin, freshWithin, visitWithin, orderWithin, onwards, callsEach, callsEnter, callsFresh, callsVisit, calls, Counted, orderedWithin, gateWithin, singleWithin, onwardWithin, listPlain, listWithin, fromWithin, everyWithin}
+use Rattle.spec_c_dumper.specs.ceiling.Ceiling.{Told, told, halted, thenBind, eachWithin, meetWithin, enterWithin, aliasWithin, freshWithin, visitWithin, Limit, most, allows, oneCall, orderWithin, onwards, callsEach, callsEnter, callsFresh, callsVisit, calls, Counted, orderedWithin, gateWithin, singleWithin, onwardWithin, listPlain, listWithin, fromWithin, everyWithin}
 
 -- ---- what the plain rule gives, with a count; and under the ceiling c
 unfoldable pub tell : {St : Type 0} → Res St → ℕ → Told St
@@ -117,39 +117,39 @@ module _ {St : Type 0} (c : ℕ) where
       visit-is done k l = one-told s true k l
 
     -- a call that is not refused by 12
-    module _ (n : ℕ) (T : Table) (ih : (s : St) (y : ℕ) (w : Bool) (j : ℕ) → j ≤ c → orderWithin K c n T s y w j ≡ atMost c (order K n T s y w) (j + calls K n T s y w)) (s : St) (x : ℕ) (weak : Bool) (k : ℕ) (l : k ≤ c) where
+    module _ (n : ℕ) (T : Table) (ih : (s : St) (y : ℕ) (w : Bool) (j : ℕ) → j ≤ c → orderWithin K (most c) n T s y w j ≡ atMost c (order K n T s y w) (j + calls K n T s y w)) (s : St) (x : ℕ) (weak : Bool) (k : ℕ) (l : k ≤ c) where
       abbrev inside : ℕ
       inside = callsVisit K T (λ s′ y w. order K n T s′ y w) (λ s′ y w. calls K n T s′ y w) s x weak (K .get s x)
 
-      stays : c ≤ k → orderWithin K c (suc n) T s x weak k ≡ atMost c (order K (suc n) T s x weak) (k + suc inside)
-      unfolding orderWithin
+      stays : c ≤ k → orderWithin K (most c) (suc n) T s x weak k ≡ atMost c (order K (suc n) T s x weak) (k + suc inside)
+      unfolding orderWithin allows
       stays q =
           let e : k ≡ c = omega arith in
-          rw (le-ltb k c q, orderWithin) (ap (halted 22) e ∙ sym (over (order K (suc n) T s x weak) (k + suc inside) (omega arith)))
+          rw (orderWithin, allows, le-ltb k c q) (ap (halted 22) e ∙ sym (over (order K (suc n) T s x weak) (k + suc inside) (omega arith)))
 
-      goes : k < c → orderWithin K c (suc n) T s x weak k ≡ atMost c (order K (suc n) T s x weak) (k + suc inside)
-      unfolding orderWithin order
+      goes : k < c → orderWithin K (most c) (suc n) T s x weak k ≡ atMost c (order K (suc n) T s x weak) (k + suc inside)
+      unfolding orderWithin allows oneCall order
       goes q =
           let e : suc k + inside ≡ k + suc inside = omega arith in
-          rw (lt-ltb k c q, orderWithin)
-          (visit-is T (λ s′ y w k′. orderWithin K c n T s′ y w k′) (λ s′ y w. order K n T s′ y w) (λ s′ y w. calls K n T s′ y w) ih s x weak (K .get s x) (suc k) q
+          rw (orderWithin, allows, lt-ltb k c q)
+          (visit-is T (λ s′ y w k′. orderWithin K (most c) n T s′ y w k′) (λ s′ y w. order K n T s′ y w) (λ s′ y w. calls K n T s′ y w) ih s x weak (K .get s x) (suc k) q
           ∙ ap (atMost c (visit K T (λ s′ y w. order K n T s′ y w) s x weak (K .get s x))) e)
 
-      call-is : orderWithin K c (suc n) T s x weak k ≡ atMost c (order K (suc n) T s x weak) (k + suc inside)
+      call-is : orderWithin K (most c) (suc n) T s x weak k ≡ atMost c (order K (suc n) T s x weak) (k + suc inside)
       call-is = ⊎-elim stays goes (le-or-lt c k)
 
     -- THE THEOREM: what ordering under the ceiling comes to
-    pub order-is : (n : ℕ) (T : Table) (s : St) (x : ℕ) (weak : Bool) (k : ℕ) → k ≤ c → orderWithin K c n T s x weak k ≡ atMost c (order K n T s x weak) (k + calls K n T s x weak)
+    pub order-is : (n : ℕ) (T : Table) (s : St) (x : ℕ) (weak : Bool) (k : ℕ) → k ≤ c → orderWithin K (most c) n T s x weak k ≡ atMost c (order K n T s x weak) (k + calls K n T s x weak)
     unfolding orderWithin order calls tell
     order-is zero T s x weak k l = let e : k ≡ k + 0 = omega arith in ap (halted 12) e ∙ sym (fits (refused 12) (k + 0) (omega arith))
     order-is (suc n) T s x weak k l = call-is n T (λ s′ y w j i. order-is n T s′ y w j i) s x weak k l
 
     -- with no 22: the plain rule's result, and the count of the calls that it opens
-    pub within : (n : ℕ) (T : Table) (s : St) (x : ℕ) (weak : Bool) (k : ℕ) → k + calls K n T s x weak ≤ c → orderWithin K c n T s x weak k ≡ tell (order K n T s x weak) (k + calls K n T s x weak)
+    pub within : (n : ℕ) (T : Table) (s : St) (x : ℕ) (weak : Bool) (k : ℕ) → k + calls K n T s x weak ≤ c → orderWithin K (most c) n T s x weak k ≡ tell (order K n T s x weak) (k + calls K n T s x weak)
     within n T s x weak k l = order-is n T s x weak k (omega arith) ∙ fits (order K n T s x weak) (k + calls K n T s x weak) l
 
     -- "22 when one more call would pass the ceiling": the count is the ceiling
-    pub passes : (n : ℕ) (T : Table) (s : St) (x : ℕ) (weak : Bool) (k : ℕ) → k ≤ c → c < k + calls K n T s x weak → orderWithin K c n T s x weak k ≡ halted 22 c
+    pub passes : (n : ℕ) (T : Table) (s : St) (x : ℕ) (weak : Bool) (k : ℕ) → k ≤ c → c < k + calls K n T s x weak → orderWithin K (most c) n T s x weak k ≡ halted 22 c
     passes n T s x weak k i l = order-is n T s x weak k i ∙ over (order K n T s x weak) (k + calls K n T s x weak) l
 
 -- ---- requests

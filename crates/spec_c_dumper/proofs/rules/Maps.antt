@@ -1,17 +1,24 @@
 -- A map between two machines that respects their operations carries the rules over: ordering, emission, a request. Assumes nothing.
 use Prim.Native.Nat.{ℕ, zero, suc}
-use mathlib.Core.Path.{_≡_, refl, ap, _∙_}
+use mathlib.Core.Path.{_≡_, refl, ap, _∙_, sym}
 use mathlib.Core.List.{List, [], _∷_}
 use mathlib.Core.Bool.{Bool, true, false, not, _&&_, _||_}
 use lib.Dec.{eqb}
-use Rattle.spec_c_dumper.specs.rules.Order.{Table, Node, ignored, plain, listed, through, ptr, tdef, proto, comp, Mark, new, busy, done, Store, Res, ok, refused, bind, isComp, isDone, each, meet, pushIf, finish, enter, alias, fresh, visit, order}
+use Rattle.spec_c_dumper.specs.rules.Order.{Table, Node, ignored, plain, listed, through, ptr, tdef, proto, comp, Mark, new, busy, done, Store, Res, ok, refused, isComp, isDone, pushIf, finish, visit, order}
+use Rattle.spec_c_dumper.specs.ceiling.Ceiling.{Told, told, halted, thenBind, eachWithin, meetWithin, enterWithin, aliasWithin, freshWithin, visitWithin}
 use Rattle.spec_c_dumper.specs.rules.Machine.{Out, wrote, stuck, Machine, isZero, pick, obind, eeach, once, mention, again, close, leaf, within, begin, allowed, look, emit}
 use Rattle.spec_c_dumper.specs.rules.Request.{listedOut, dumped}
+use Rattle.spec_c_dumper.proofs.ceiling.Counted.{tell}
+use Rattle.spec_c_dumper.proofs.ceiling.Plain.{tell-visit}
 
 module _ {A C : Type 0} (g : A → C) where
   abbrev pub rmap : Res A → Res C
   rmap (ok s f) = ok (g s) f
   rmap (refused c) = refused c
+
+  abbrev pub tmap : Told A → Told C
+  tmap (told s f j) = told (g s) f j
+  tmap (halted c j) = halted c j
 
   abbrev pub omap : Out A → Out C
   omap (wrote s) = wrote (g s)
@@ -23,68 +30,101 @@ pub record StoreMap {A C : Type 0} (K : Store A) (L : Store C) (g : A → C) : T
   pub pushes : (x : ℕ) (s : A) → L .push x (g s) ≡ g (K .push x s)
   pub lists : (s : A) → L .list (g s) ≡ K .list s
 
+module _ {A C : Type 0} (g : A → C) where
+  tell-map : (r : Res A) (j : ℕ) → tell (rmap g r) j ≡ tmap g (tell r j)
+  unfolding tell
+  tell-map (ok s f) j = refl
+  tell-map (refused c) j = refl
+
+unfoldable untell : {A : Type 0} → Told A → Res A
+untell (told s f j) = ok s f
+untell (halted c j) = refused c
+
+untell-tell : {A : Type 0} (r : Res A) (j : ℕ) → untell (tell r j) ≡ r
+unfolding untell tell
+untell-tell (ok s f) j = refl
+untell-tell (refused c) j = refl
+
+-- one call of the rule: the stores, and with them g, may change from call to call
 module _ {A C : Type 0} (K : Store A) (L : Store C) (g : A → C) (sm : StoreMap K L g) where
-  map-bind : (r : Res A) (k : A → Bool → Res A) (h : C → Bool → Res C) → ((s : A) (f : Bool) → h (g s) f ≡ rmap g (k s f)) → bind (rmap g r) h ≡ rmap g (bind r k)
-  unfolding bind
-  map-bind (ok s f) k h e = e s f
-  map-bind (refused c) k h e = refl
+  map-then : (r : Told A) (k : A → Bool → ℕ → Told A) (h : C → Bool → ℕ → Told C) → ((s : A) (f : Bool) (j : ℕ) → h (g s) f j ≡ tmap g (k s f j)) → thenBind (tmap g r) h ≡ tmap g (thenBind r k)
+  unfolding thenBind
+  map-then (told s f j) k h e = e s f j
+  map-then (halted c j) k h e = refl
 
   map-finish : (p : Bool) (x : ℕ) (s : A) → finish L p x (g s) ≡ g (finish K p x s)
   unfolding pushIf
   map-finish true x s = ap (L .mark done x) (sm .pushes x s) ∙ sm .marks done x (K .push x s)
   map-finish false x s = sm .marks done x s
 
-  map-each : (h : C → ℕ → Res C) (k : A → ℕ → Res A) → ((s : A) (y : ℕ) → h (g s) y ≡ rmap g (k s y)) → (ys : List ℕ) (s : A) (f : Bool) → each h ys (g s) f ≡ rmap g (each k ys s f)
-  unfolding each
-  map-each h k e [] s f = refl
-  map-each h k e (y ∷ ys) s f = ap (λ (r : Res C). bind r (λ s′ f′. each h ys s′ (f || f′))) (e s y) ∙ map-bind (k s y) (λ s′ f′. each k ys s′ (f || f′)) (λ s′ f′. each h ys s′ (f || f′)) (λ s′ f′. map-each h k e ys s′ (f || f′))
+  map-each : (h : C → ℕ → ℕ → Told C) (k : A → ℕ → ℕ → Told A) → ((s : A) (y j : ℕ) → h (g s) y j ≡ tmap g (k s y j)) → (ys : List ℕ) (s : A) (f : Bool) (j : ℕ) → eachWithin h ys (g s) f j ≡ tmap g (eachWithin k ys s f j)
+  unfolding eachWithin
+  map-each h k e [] s f j = refl
+  map-each h k e (y ∷ ys) s f j = ap (λ (r : Told C). thenBind r (λ s′ f′ j′. eachWithin h ys s′ (f || f′) j′)) (e s y j)
+      ∙ map-then (k s y j) (λ s′ f′ j′. eachWithin k ys s′ (f || f′) j′) (λ s′ f′ j′. eachWithin h ys s′ (f || f′) j′) (λ s′ f′ j′. map-each h k e ys s′ (f || f′) j′)
 
-  map-enter : (passed : Bool) (h : C → ℕ → Res C) (k : A → ℕ → Res A) → ((s : A) (y : ℕ) → h (g s) y ≡ rmap g (k s y)) → (s : A) (x : ℕ) (nm : Bool) (ms : List ℕ)
-      → enter L passed h (g s) x nm ms ≡ rmap g (enter K passed k s x nm ms)
-  unfolding enter
-  map-enter true h k e s x nm ms = refl
-  map-enter false h k e s x nm ms =
-      ap (λ (m : C). bind (each h ms m false) (λ s′ f. ok (finish L nm x s′) true)) (sm .marks busy x s)
-      ∙ ap (λ (r : Res C). bind r (λ s′ f. ok (finish L nm x s′) true)) (map-each h k e ms (K .mark busy x s) false)
-      ∙ map-bind (each k ms (K .mark busy x s) false) (λ s′ f. ok (finish K nm x s′) true) (λ s′ f. ok (finish L nm x s′) true) (λ s′ f. ap (λ (m : C). ok m true) (map-finish nm x s′))
+  map-enter : (passed : Bool) (h : C → ℕ → ℕ → Told C) (k : A → ℕ → ℕ → Told A) → ((s : A) (y j : ℕ) → h (g s) y j ≡ tmap g (k s y j)) → (s : A) (x : ℕ) (nm : Bool) (ms : List ℕ) (j : ℕ)
+      → enterWithin L passed h (g s) x nm ms j ≡ tmap g (enterWithin K passed k s x nm ms j)
+  unfolding enterWithin
+  map-enter true h k e s x nm ms j = refl
+  map-enter false h k e s x nm ms j =
+      ap (λ (m : C). thenBind (eachWithin h ms m false j) (λ s′ f j′. told (finish L nm x s′) true j′)) (sm .marks busy x s)
+      ∙ ap (λ (r : Told C). thenBind r (λ s′ f j′. told (finish L nm x s′) true j′)) (map-each h k e ms (K .mark busy x s) false j)
+      ∙ map-then (eachWithin k ms (K .mark busy x s) false j) (λ s′ f j′. told (finish K nm x s′) true j′) (λ s′ f j′. told (finish L nm x s′) true j′) (λ s′ f j′. ap (λ (m : C). told m true j′) (map-finish nm x s′))
 
-  map-alias : (lists was : Bool) (s : A) (x : ℕ) → alias L lists was (g s) x ≡ rmap g (alias K lists was s x)
-  unfolding alias
-  map-alias true was s x = ap (λ (m : C). ok m true) (map-finish (not was) x s)
-  map-alias false was s x = refl
+  map-alias : (lists was : Bool) (s : A) (x j : ℕ) → aliasWithin L lists was (g s) x j ≡ tmap g (aliasWithin K lists was s x j)
+  unfolding aliasWithin
+  map-alias true was s x j = ap (λ (m : C). told m true j) (map-finish (not was) x s)
+  map-alias false was s x j = refl
 
-  module _ (T : Table) (h : C → ℕ → Bool → Res C) (k : A → ℕ → Bool → Res A) (e : (s : A) (y : ℕ) (f : Bool) → h (g s) y f ≡ rmap g (k s y f)) (s : A) (x : ℕ) (weak : Bool) where
-    map-fresh : (nd : Node) → fresh L T h (g s) x weak nd ≡ rmap g (fresh K T k s x weak nd)
-    unfolding fresh
-    map-fresh ignored = refl
-    map-fresh plain = ap (λ (m : C). ok m false) (map-finish false x s)
-    map-fresh (listed f) = ap (λ (m : C). ok m true) (map-finish (T .named x) x s)
-    map-fresh (through a y) = e s y (not (a && T .strong-arrays) && weak)
-    map-fresh (ptr y) = ap (λ (r : Res C). bind r (λ s′ f. ok (finish L false x s′) f)) (e s y true)
-        ∙ map-bind (k s y true) (λ s′ f. ok (finish K false x s′) f) (λ s′ f. ok (finish L false x s′) f) (λ s′ f. ap (λ (m : C). ok m f) (map-finish false x s′))
-    map-fresh (tdef y) = ap (λ (r : Res C). bind r (λ s′ f. alias L (not weak || f) (isDone (L .get s′ x)) s′ x)) (e s y weak)
-        ∙ map-bind (k s y weak) (λ s′ f. alias K (not weak || f) (isDone (K .get s′ x)) s′ x) (λ s′ f. alias L (not weak || f) (isDone (L .get s′ x)) s′ x)
-        (λ s′ f. ap (λ (d : Mark). alias L (not weak || f) (isDone d) (g s′) x) (sm .gets s′ x) ∙ map-alias (not weak || f) (isDone (K .get s′ x)) s′ x)
-    map-fresh (proto ts) = map-each (λ s′ y. h s′ y weak) (λ s′ y. k s′ y weak) (λ s′ y. e s′ y weak) ts s false
-    map-fresh (comp ms) = map-enter (weak && T .named x) (λ s′ y. h s′ y false) (λ s′ y. k s′ y false) (λ s′ y. e s′ y false) s x (T .named x) ms
+  module _ (T : Table) (h : C → ℕ → Bool → ℕ → Told C) (k : A → ℕ → Bool → ℕ → Told A) (e : (s : A) (y : ℕ) (f : Bool) (j : ℕ) → h (g s) y f j ≡ tmap g (k s y f j)) (s : A) (x : ℕ) (weak : Bool) where
+    map-fresh : (nd : Node) (j : ℕ) → freshWithin L T h (g s) x weak nd j ≡ tmap g (freshWithin K T k s x weak nd j)
+    unfolding freshWithin
+    map-fresh ignored j = refl
+    map-fresh plain j = ap (λ (m : C). told m false j) (map-finish false x s)
+    map-fresh (listed f) j = ap (λ (m : C). told m true j) (map-finish (T .named x) x s)
+    map-fresh (through a y) j = e s y (not (a && T .strong-arrays) && weak) j
+    map-fresh (ptr y) j = ap (λ (r : Told C). thenBind r (λ s′ f j′. told (finish L false x s′) f j′)) (e s y true j)
+        ∙ map-then (k s y true j) (λ s′ f j′. told (finish K false x s′) f j′) (λ s′ f j′. told (finish L false x s′) f j′) (λ s′ f j′. ap (λ (m : C). told m f j′) (map-finish false x s′))
+    map-fresh (tdef y) j = ap (λ (r : Told C). thenBind r (λ s′ f j′. aliasWithin L (not weak || f) (isDone (L .get s′ x)) s′ x j′)) (e s y weak j)
+        ∙ map-then (k s y weak j) (λ s′ f j′. aliasWithin K (not weak || f) (isDone (K .get s′ x)) s′ x j′) (λ s′ f j′. aliasWithin L (not weak || f) (isDone (L .get s′ x)) s′ x j′)
+        (λ s′ f j′. ap (λ (d : Mark). aliasWithin L (not weak || f) (isDone d) (g s′) x j′) (sm .gets s′ x) ∙ map-alias (not weak || f) (isDone (K .get s′ x)) s′ x j′)
+    map-fresh (proto ts) j = map-each (λ s′ y j′. h s′ y weak j′) (λ s′ y j′. k s′ y weak j′) (λ s′ y j′. e s′ y weak j′) ts s false j
+    map-fresh (comp ms) j = map-enter (weak && T .named x) (λ s′ y j′. h s′ y false j′) (λ s′ y j′. k s′ y false j′) (λ s′ y j′. e s′ y false j′) s x (T .named x) ms j
 
-    map-meet : (passes : Bool) → meet passes (g s) ≡ rmap g (meet passes s)
-    unfolding meet
-    map-meet true = refl
-    map-meet false = refl
+    map-meet : (passes : Bool) (j : ℕ) → meetWithin passes (g s) j ≡ tmap g (meetWithin passes s j)
+    unfolding meetWithin
+    map-meet true j = refl
+    map-meet false j = refl
 
-    map-visit : (d : Mark) → visit L T h (g s) x weak d ≡ rmap g (visit K T k s x weak d)
-    unfolding visit
-    map-visit new = map-fresh (T .node x)
-    map-visit busy = map-meet (isComp (T .node x) && (weak && T .named x))
-    map-visit done = refl
+    pub map-visit-within : (d : Mark) (j : ℕ) → visitWithin L T h (g s) x weak d j ≡ tmap g (visitWithin K T k s x weak d j)
+    unfolding visitWithin
+    map-visit-within new j = map-fresh (T .node x) j
+    map-visit-within busy j = map-meet (isComp (T .node x) && (weak && T .named x)) j
+    map-visit-within done j = refl
+
+  -- the plain rule on the one side, or on both
+  module _ (T : Table) (k : A → ℕ → Bool → Res A) (s : A) (x : ℕ) (weak : Bool) where
+    pub map-visit-plain : (h : C → ℕ → Bool → ℕ → Told C) → ((s : A) (y : ℕ) (f : Bool) (j : ℕ) → h (g s) y f j ≡ tell (rmap g (k s y f)) j) → (d : Mark) (j : ℕ)
+        → visitWithin L T h (g s) x weak d j ≡ tell (rmap g (visit K T k s x weak d)) j
+    map-visit-plain h e d j =
+        map-visit-within T h (λ s′ y f i. tell (k s′ y f) i) (λ s′ y f i. e s′ y f i ∙ tell-map g (k s′ y f) i) s x weak d j
+        ∙ ap (tmap g) (tell-visit K T (λ s′ y f i. tell (k s′ y f) i) k j (λ s′ y f. refl) s x weak d)
+        ∙ sym (tell-map g (visit K T k s x weak d) j)
+
+    pub map-visit : (h : C → ℕ → Bool → Res C) → ((s : A) (y : ℕ) (f : Bool) → h (g s) y f ≡ rmap g (k s y f)) → (d : Mark) → visit L T h (g s) x weak d ≡ rmap g (visit K T k s x weak d)
+    map-visit h e d =
+        sym (untell-tell (visit L T h (g s) x weak d) 0)
+        ∙ ap untell (sym (tell-visit L T (λ s′ y f i. tell (h s′ y f) i) h 0 (λ s′ y f. refl) (g s) x weak d)
+        ∙ map-visit-plain (λ s′ y f i. tell (h s′ y f) i) (λ s′ y f i. ap (λ (r : Res C). tell r i) (e s′ y f)) d 0)
+        ∙ untell-tell (rmap g (visit K T k s x weak d)) 0
 
   pub map-order : (n : ℕ) (T : Table) (s : A) (x : ℕ) (weak : Bool) → order L n T (g s) x weak ≡ rmap g (order K n T s x weak)
   unfolding order
   map-order zero T s x weak = refl
   map-order (suc n) T s x weak =
       ap (visit L T (λ s′ y f. order L n T s′ y f) (g s) x weak) (sm .gets s x)
-      ∙ map-visit T (λ s′ y f. order L n T s′ y f) (λ s′ y f. order K n T s′ y f) (λ s′ y f. map-order n T s′ y f) s x weak (K .get s x)
+      ∙ map-visit T (λ s′ y f. order K n T s′ y f) s x weak (λ s′ y f. order L n T s′ y f) (λ s′ y f. map-order n T s′ y f) (K .get s x)
 
 pub record MachineMap {A C : Type 0} (X : Machine A) (Y : Machine C) (g : A → C) : Type 0 where
   pub stores : StoreMap (X .store) (Y .store) g

@@ -1,5 +1,6 @@
 -- A ceiling on the calls of the ordering rule: the clauses of Order.antt, with the calls counted. A call that is opened counts; one that is
--- refused by 12 or by 22 does not. k: the calls made before, which the single requests of one call share.
+-- refused by 12 or by 22 does not. k: the calls made before, which the single requests of one call share. Without a ceiling none is counted,
+-- and what is left is the rule of Order.antt (proofs/ceiling/Plain).
 use Prim.Native.Nat.{ℕ, zero, suc, _+_, _-_}
 use mathlib.Core.Bool.{Bool, true, false, not, _&&_, _||_}
 use mathlib.Core.List.{List, [], _∷_}
@@ -11,6 +12,21 @@ use Rattle.spec_c_dumper.specs.rules.Machine.{Machine, eeach, emit, Sess
 pub data Told (St : Type 0) : Type 0 where
   told : St → Bool → ℕ → Told St
   halted : ℕ → ℕ → Told St
+
+-- "A request may carry a 64-bit ceiling on calls of the ordering rule"
+pub data Limit : Type 0 where
+  unbounded : Limit
+  most : ℕ → Limit
+
+-- whether one more call is allowed after k
+unfoldable pub allows : Limit → ℕ → Bool
+allows unbounded k = true
+allows (most c) k = ltb k c
+
+-- the count after one more call
+unfoldable pub oneCall : Limit → ℕ → ℕ
+oneCall unbounded k = k
+oneCall (most c) k = suc k
 
 -- the count, of a refused request too
 unfoldable pub countOf : {St : Type 0} → Told St → ℕ
@@ -64,17 +80,10 @@ module _ {St : Type 0} (K : Store St) where
     visitWithin done k = told s true k
 
   -- "22 when one more call would pass the ceiling; it stands beside 12 in the sequence of steps, 12 first at one call"
-  unfoldable pub orderWithin : ℕ → ℕ → Table → St → ℕ → Bool → ℕ → Told St
+  unfoldable pub orderWithin : Limit → ℕ → Table → St → ℕ → Bool → ℕ → Told St
   orderWithin c zero T s x weak k = halted 12 k
   orderWithin c (suc n) T s x weak k =
-      elim (ltb k c) [ true ↦ visitWithin T (λ s′ y w k′. orderWithin c n T s′ y w k′) s x weak (K .get s x) (suc k) | false ↦ halted 22 k ]
-
-  -- The code's way, with the calls that are left: each call takes `cost` of them, 1 under a ceiling, and 0 without one, so that one ordering serves
-  -- both. At cost 0 it is the plain rule, at cost 1 it is `orderWithin` (proofs/Metered).
-  unfoldable pub orderMetered : ℕ → ℕ → Table → St → ℕ → Bool → ℕ → Told St
-  orderMetered cost zero T s x weak left = halted 12 left
-  orderMetered cost (suc n) T s x weak left =
-      elim (ltb left cost) [ true ↦ halted 22 left | false ↦ visitWithin T (λ s′ y w left′. orderMetered cost n T s′ y w left′) s x weak (K .get s x) (left - cost) ]
+      elim (allows c k) [ true ↦ visitWithin T (λ s′ y w k′. orderWithin c n T s′ y w k′) s x weak (K .get s x) (oneCall c k) | false ↦ halted 22 k ]
 
   -- ---- the calls that the plain rule opens
   unfoldable pub callsEnter : Bool → (St → ℕ → Res St) → (St → ℕ → ℕ) → St → ℕ → List ℕ → ℕ
@@ -115,7 +124,7 @@ module _ {M : Type 0} (X : Machine M) (T : Table) where
   unfoldable pub gateWithin : ℕ → ℕ → Sess M → ℕ → ℕ → Bool → Bool → Counted M
   gateWithin c room S x k false below = record { answer = record { sess = S; number = 11 }; made = k }
   gateWithin c room S x k true false = record { answer = record { sess = S; number = 10 }; made = k }
-  gateWithin c room S x k true true = orderedWithin S x (orderWithin (X .store) c 512 T (X .start room (S .mach)) x false k)
+  gateWithin c room S x k true true = orderedWithin S x (orderWithin (X .store) (most c) 512 T (X .start room (S .mach)) x false k)
 
   unfoldable pub singleWithin : ℕ → ℕ → Sess M → ℕ → ℕ → Counted M
   singleWithin c room S x k = gateWithin c room S x k (S .isOpen) (ltb x (T .count))

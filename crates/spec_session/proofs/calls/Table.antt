@@ -14,7 +14,7 @@ use Rattle.spec_c_dumper.specs.rules.Writer.{askThen, checked}
 use Rattle.spec_c_dumper.specs.rules.Layout.{getSizeOf, getAlignOf, offAlign}
 use Rattle.spec_c_dumper.specs.rules.Placing.{measured}
 use Rattle.spec_c_dumper.specs.rules.Decl.{chainOf, emitTypeDecl, emitTypeChain, emitCompositeDef}
-use Rattle.spec_c_dumper.specs.ceiling.Ceiling.{orderWithin}
+use Rattle.spec_c_dumper.specs.ceiling.Ceiling.{allows, orderWithin}
 use Rattle.spec_opening.specs.Causes.{firstOf, causes, openingNumber}
 use Rattle.spec_opening.specs.Table.{typesOf}
 use Rattle.spec_opening.specs.Opened.{Outcome}
@@ -96,7 +96,7 @@ calls-by-table = record {
 }
 
 pub rules-by-table : RulesByTable
-unfolding order emit meet mention allowed getSizeOf getAlignOf emitTypeDecl emitTypeChain emitCompositeDef chainOf offAlign checked measured askThen putText orderWithin number
+unfolding order emit meet mention allowed getSizeOf getAlignOf emitTypeDecl emitTypeChain emitCompositeDef chainOf offAlign checked measured askThen putText orderWithin allows number
 rules-by-table = record {
   deep-order = λ St K T s x weak. refl;
   deep-emit = λ M X T s x cont. refl;
@@ -113,5 +113,5 @@ rules-by-table = record {
   overflows = λ n h. rw (h, checked) refl;
   full = λ t at x h g. rw (h, g, putText) refl;
   not-placed = λ B is-struct sz ms a packed x bits p q r t h. rw (measured, p, askThen, q, askThen, r, askThen, t, askThen, h) refl;
-  ceiling = λ St K c n T s x weak k h. rw (h, orderWithin) refl;
+  ceiling = λ St K c n T s x weak k h. rw (orderWithin, allows, h) refl;
 }

@@ -15,7 +15,7 @@ use Rattle.spec_c_dumper.specs.rules.Names.{Naming}
 use Rattle.spec_c_dumper.specs.rules.Layout.{getSizeOf, getAlignOf, offAlign, isStructPacked}
 use Rattle.spec_c_dumper.specs.rules.Placing.{Extent, extentOf, noExtent, unionAlign, sizeFits, measured}
 use Rattle.spec_c_dumper.specs.rules.Decl.{Entry, chainOf, emitTypeDecl, emitTypeChain, emitCompositeDef}
-use Rattle.spec_c_dumper.specs.ceiling.Ceiling.{halted, orderWithin}
+use Rattle.spec_c_dumper.specs.ceiling.Ceiling.{halted, most, orderWithin}
 use Rattle.spec_opening.specs.Causes.{causes}
 use Rattle.spec_opening.specs.Table.{typesOf}
 use Rattle.spec_session.specs.declared.session.Answer.{Answer}
@@ -80,4 +80,4 @@ pub record RulesByTable : Type 1 where
       → unionAlign B is-struct ms ≡ got a → isStructPacked B is-struct sz ms ≡ got packed → extentOf B is-struct packed noExtent ms ≡ got x → checked (8 * sz) ≡ got bits
       → (x .fits && sizeFits is-struct a (x .last) bits) ≡ false → measured B is-struct sz ms ≡ no (number misplaced)
   -- 22: one more call would pass the ceiling
-  pub ceiling : (St : Type 0) (K : Store St) (c n : ℕ) (T : Table) (s : St) (x : ℕ) (weak : Bool) (k : ℕ) → ltb k c ≡ false → orderWithin K c (suc n) T s x weak k ≡ halted (number ceilingPassed) k
+  pub ceiling : (St : Type 0) (K : Store St) (c n : ℕ) (T : Table) (s : St) (x : ℕ) (weak : Bool) (k : ℕ) → ltb k c ≡ false → orderWithin K (most c) (suc n) T s x weak k ≡ halted (number ceilingPassed) k

@@ -10,6 +10,9 @@ use Rattle.c_dumper_emit.proofs.dump_type.emit_listed.Reads as emit-lis
 use Rattle.base_bytes.proofs.put.stop.Reads as stop-reads
 use Rattle.c_dumper_dependency_order.proofs.order_type.order_type.Reads as order-type-reads
 
+slice-aggregate-order-type : tie.Need-slice-aggregate-order-type
+slice-aggregate-order-type c = search needs
+
 order-type-requires : tie.Need-order-type-requires
 order-type-requires c κs = tt
 
@@ -17,13 +20,13 @@ stop-requires : tie.Need-stop-requires
 stop-requires c κs = tt
 
 same-length : tie.Need-same-length
-same-length c = c .before .before .before .before .before .before .order-type .kept .1 .1 .0
+same-length c = c .before .before .before .before .before .before .before .order-type .kept .1 .1 .0
 
 same-length-2 : tie.Need-same-length-2
 same-length-2 c = search needs
 
 returns : tie.Need-returns
-returns c = (requests.dump-refused _ _ _ _ _ _ _ _ _ _ (c .before .before .before .before .before .before .order-type .ensures) (c .before .before .if1 .taken) _ (c .stop .ensures), requests.spare-is _ _ _ _ _ _ _ _ (c .before .before .before .before .before .before .order-type .ensures))
+returns c = (requests.dump-refused _ _ _ _ _ _ _ _ _ _ _ _ _ (c .before .before .before .before .before .before .before .order-type .ensures) (c .before .before .if1 .taken) _ (c .stop .ensures), requests.made-is _ _ _ _ _ _ _ _ _ _ _ (c .before .before .before .before .before .before .before .order-type .ensures))
 
 emit-listed-requires : tie.Need-emit-listed-requires
 emit-listed-requires c κs = tt
@@ -32,18 +35,19 @@ clear-list-requires : tie.Need-clear-list-requires
 clear-list-requires c κs = tt
 
 same-length-3 : tie.Need-same-length-3
-same-length-3 c = c .before .before .clear-list .kept .0 ∙ c .before .before .before .before .before .before .before .before .emit-listed .kept .1 .1 .0 ∙ c .before .before .before .before .before .before .before .before .before .before .before .before .before .before .before .order-type .kept .1 .1 .0
+same-length-3 c = c .before .before .clear-list .kept .0 ∙ c .before .before .before .before .before .before .before .before .emit-listed .kept .1 .1 .0 ∙ c .before .before .before .before .before .before .before .before .before .before .before .before .before .before .before .before .order-type .kept .1 .1 .0
 
 same-length-4 : tie.Need-same-length-4
 same-length-4 c = c .before .before .before .before .before .before .before .before .emit-listed .kept .1 .1 .1 .0
 
 returns-2 : tie.Need-returns-2
-returns-2 c = (requests.dump-listed _ _ _ _ _ _ _ _ _ _ (c .before .before .before .before .before .before .before .before .before .before .before .before .before .before .before .order-type .ensures) (c .before .before .before .before .before .before .before .before .before .before .before .if1 .left) _ _ _ (c .before .before .before .before .before .before .before .before .emit-listed .ensures) _ (c .before .before .clear-list .ensures), requests.spare-is _ _ _ _ _ _ _ _ (c .before .before .before .before .before .before .before .before .before .before .before .before .before .before .before .order-type .ensures))
+returns-2 c = (requests.dump-listed _ _ _ _ _ _ _ _ _ _ _ _ _ (c .before .before .before .before .before .before .before .before .before .before .before .before .before .before .before .before .order-type .ensures) (c .before .before .before .before .before .before .before .before .before .before .before .if1 .left) _ _ _ (c .before .before .before .before .before .before .before .before .emit-listed .ensures) _ (c .before .before .clear-list .ensures), requests.made-is _ _ _ _ _ _ _ _ _ _ _ (c .before .before .before .before .before .before .before .before .before .before .before .before .before .before .before .before .order-type .ensures))
 
 pub dump-metered-spec : {M : Type 1} → statement M
 dump-metered-spec =
     tie.close
     (tie.spec
+    slice-aggregate-order-type
     order-type-requires
     stop-requires
     same-length

@@ -15,7 +15,7 @@ same-length-2 : tie.Need-same-length-2
 same-length-2 c = c .before .before .before .before .dump-metered .kept .1 .1 .1 .0
 
 returns : tie.Need-returns
-returns c = requests.dump-plain _ _ _ _ _ _ (c .before .before .before .before .dump-metered .ensures .0)
+returns c = requests.dump-plain _ _ _ _ _ _ _ (c .before .before .before .before .dump-metered .ensures .0)
 
 pub dump-type-spec : {M : Type 1} → statement M
 dump-type-spec = tie.close (tie.spec dump-metered-requires same-length same-length-2 returns)
