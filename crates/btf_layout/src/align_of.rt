@@ -79,7 +79,7 @@ fn keep_once(b: TypeTable, work: &mut [u8], id: u32, r: Once, members: u32) -> O
 }
 
 // get_align_of with a memory.
-pub fn align_once(b: TypeTable, section: &[u8], work: &mut [u8], id: u32, left: u32) -> Once
+fn align_once(b: TypeTable, section: &[u8], work: &mut [u8], id: u32, left: u32) -> Once
     ensures { λ r. ⌜ onceOf r (now (work .exit)) ≡ onceWith (b .types) (btfOf b (now (section .entry)) (now (work .entry))) left id (now (work .entry)) ⌝ }
 {
     if left == 0 {
@@ -109,6 +109,21 @@ pub fn align_once(b: TypeTable, section: &[u8], work: &mut [u8], id: u32, left: 
     }
 }
 
+// get_align_of with a memory, where most answers are remembered already: those are taken before any call.
+pub fn get_align_of(b: TypeTable, section: &[u8], work: &mut [u8], id: u32, left: u32) -> Once
+    ensures { λ r. ⌜ onceOf r (now (work .exit))
+        ≡ onceWith (b .types) (btfOf b (now (section .entry)) (now (work .entry))) left id (now (work .entry)) ⌝ }
+{
+    if left == 0 {
+        return Once::No(12);
+    }
+    let v = seen_word(b, work, id);
+    if v != 0 {
+        return taken(v, left);
+    }
+    align_once(b, section, work, id, left)
+}
+
 // The largest of the members' alignments, at least 1, and the largest of their heights.
 fn members_once(b: TypeTable, section: &[u8], work: &mut [u8], members: Entries, left: u32) -> Once
     ensures { λ r. ⌜ onceOf r (now (work .exit)) ≡ idsWith (b .types) (btfOf b (now (section .entry)) (now (work .entry))) left (alone 1) (memberIds b (now (section .entry)) members) (now (work .entry)) ⌝ }
@@ -119,7 +134,7 @@ fn members_once(b: TypeTable, section: &[u8], work: &mut [u8], members: Entries,
     let mut k: u32 = 0;
     while k < vlen {
         let x = word(b, section, member_place(members, k) + 4);
-        match align_once(b, section, work, x, left) {
+        match get_align_of(b, section, work, x, left) {
             Once::Found(s) => {
                 align = larger(align, s.align);
                 height = larger(height, s.height);

@@ -1,5 +1,5 @@
 // What a body asks of alignments, each of which is remembered in the work: the packed test, a gap's alignment, a union's.
-use crate::align_of::align_once;
+use crate::align_of::get_align_of;
 use crate::remembered::Once;
 use crate::size::Ask;
 use crate::size::Packed;
@@ -20,7 +20,7 @@ ghost use Rattle.btf_layout.specs.asked.Asked.{askIn, packedIn, offBy, a
 fn alignment(b: TypeTable, section: &[u8], work: &mut [u8], id: u32) -> Ask
     ensures { λ r. ⌜ askIn r (now (work .exit)) ≡ alignIn (b .types) (btfOf b (now (section .entry)) (now (work .entry))) id (now (work .entry)) ⌝ }
 {
-    match align_once(b, section, work, id, 512) {
+    match get_align_of(b, section, work, id, 512) {
         Once::Found(s) => Ask::Got(s.align),
         Once::No(c) => Ask::No(c),
     }
