@@ -15,11 +15,11 @@ COLUMNS, FUNCTION, FILE, CRATES, PARAMETERS = 140, 40, 500, 40, 8
 
 # What has a name is not written as a number, except where it gets its name.
 BARE = [
-    ("a refusal", r"\b(?:stop|refused|stopped_by)\((?:[^()]|\([^()]*\))*,\s*\d+\)"),
-    ("a refusal", r"\bturn_of\(\w+,\s*\d+"),
-    ("a refusal", r"::(?:No|Refused|Stop|Stopped)\(\d+\)"),
+    ("a refusal", r"\b(?:stop|stop_at|refused)\((?:[^()]|\([^()]*\))*,\s*[1-9]\d*\)"),
+    ("a refusal", r"\b(?:turn_of|tally_of)\(\w+,\s*[1-9]"),
+    ("a refusal", r"::(?:No|Refused)\([1-9]"),
     ("a word of a type", r"\b(?:get|put)_field\((?:[^(),]|\([^()]*\))*,(?:[^(),]|\([^()]*\))*,\s*\d+"),
-    ("a word of a holder", r"\bholder_word\([^,]*,\s*\d+"),
+    ("a word of a holder", r"\bholder_word\([^,]*,\s*[1-9]"),
     ("a kind", r"\bkind_of\([^()]*\)\s*[=!]=\s*\d+"),
     ("a kind", r"\bkind\s*[=!]=\s*[1-9]"),
     ("a limit", r"\b(?:262144|262145|1073741824|47244640256)\b"),
