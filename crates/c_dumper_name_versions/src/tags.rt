@@ -80,9 +80,9 @@ fn emit_decl_tag(
     put_attribute(b, section, text, at, kind_flag_of(t.info), true, t.name_off)
 }
 
-// The tags of a type, those of the whole (4294967295, which is -1) or of one member, in the order of their ids. The list
+// The tags of a type, those of the whole (WHOLE_TYPE) or of one member, in the order of their ids. The list
 // of a type's tags rises; what does not rise, or is no id of a type, was not left by opening, and ends it.
-pub fn emit_decl_tags(
+fn emit_tag_list(
     b: TypeTable,
     section: &[u8],
     work: &[u8],
@@ -105,4 +105,22 @@ pub fn emit_decl_tags(
         tag = get_field(work, tag, cell::NEXT_TAG);
     }
     p
+}
+
+// The same; most types have no tag.
+pub fn emit_decl_tags(
+    b: TypeTable,
+    section: &[u8],
+    work: &[u8],
+    text: &mut [u8],
+    at: usize,
+    id: u32,
+    comp_idx: u32,
+) -> usize
+    ensures { λ r. ⌜ putOut r (now (text .exit)) ≡ putText (now (text .entry)) at (whole (declTags (btfOf b (now (section .entry)) (now (work .entry))) «comp_idx» (btfOf b (now (section .entry)) (now (work .entry)) .decl-tags id))) ⌝ }
+{
+    if get_field(work, id, cell::FIRST_TAG) == 0 {
+        return at;
+    }
+    emit_tag_list(b, section, work, text, at, id, comp_idx)
 }
