@@ -1,5 +1,6 @@
 // The fixed words of the text. Each stands once, in the table of put_fixed: lines are assembled from it, and what is read is
 // compared with it. Signs are put as characters.
+use base_bytes::refusal;
 ghost use mathlib.Core.Path.{_≡_};
 ghost use Prim.Native.Nat.{_+_, _≤_};
 ghost use lib.ListN.{length};
@@ -60,7 +61,7 @@ fn put_part(text: &mut [u8], at: usize, src: &[u8], start: usize, n: usize) -> u
         return at;
     }
     if text.len() - at < n {
-        return text.len() + 18;
+        return text.len() + refusal::FULL_PLACE;
     }
     copy_word(text, at, src, start, n);
     at + n

@@ -6,7 +6,10 @@ use crate::remembered::Seen;
 use crate::remembered::Step;
 use crate::remembered::coded;
 use crate::remembered::remember;
+use base_bytes::refusal;
+use btf_type_table::cell;
 use btf_type_table::cell::get_field;
+use btf_type_table::kind;
 use btf_type_table::kind::entries_of;
 use btf_type_table::kind::kind_of;
 use btf_type_table::kind::member_place;
@@ -28,7 +31,7 @@ fn seen_word(b: TypeTable, work: &[u8], id: u32) -> u32
     ensures { λ r. ⌜ r ≡ seenWord (b .types) (now (work .entry)) id ⌝ }
 {
     if id < b.types {
-        return get_field(work, id, 15);
+        return get_field(work, id, cell::ALIGNMENT);
     }
     0
 }
@@ -38,7 +41,7 @@ fn taken(v: u32, left: u32) -> Once
     ensures { λ r. ⌜ r ≡ takenBy v left ⌝ }
 {
     if left < v / 16 {
-        return Once::No(12);
+        return Once::No(refusal::TOO_DEEP);
     }
     Once::Found(Seen {
         align: v % 16,
@@ -50,12 +53,12 @@ fn step_of(b: TypeTable, section: &[u8], t: BtfType) -> Step
     ensures { λ r. ⌜ r ≡ stepAt b (now (section .entry)) t ⌝ }
 {
     match kind_of(t.info) {
-        1 => Step::Own(smaller(b.ptr_sz, (int_bits(b, section, t) + 7) / 8)),
-        2 => Step::Own(b.ptr_sz),
-        3 => Step::Through(array_type(b, section, t)),
-        4 | 5 => Step::Members(entries_of(t)),
-        6 | 16 | 19 => Step::Own(smaller(b.ptr_sz, t.type_id)),
-        8..=11 | 18 => Step::Through(t.type_id),
+        kind::INT => Step::Own(smaller(b.ptr_sz, (int_bits(b, section, t) + 7) / 8)),
+        kind::PTR => Step::Own(b.ptr_sz),
+        kind::ARRAY => Step::Through(array_type(b, section, t)),
+        kind::STRUCT | kind::UNION => Step::Members(entries_of(t)),
+        kind::ENUM | kind::FLOAT | kind::ENUM64 => Step::Own(smaller(b.ptr_sz, t.type_id)),
+        kind::TYPEDEF..=kind::RESTRICT | kind::TYPE_TAG => Step::Through(t.type_id),
         _ => Step::Own(0),
     }
 }
@@ -79,11 +82,11 @@ fn keep_once(b: TypeTable, work: &mut [u8], id: u32, r: Once, members: u32) -> O
 }
 
 // get_align_of with a memory.
-pub fn align_once(b: TypeTable, section: &[u8], work: &mut [u8], id: u32, left: u32) -> Once
+fn align_once(b: TypeTable, section: &[u8], work: &mut [u8], id: u32, left: u32) -> Once
     ensures { λ r. ⌜ onceOf r (now (work .exit)) ≡ onceWith (b .types) (btfOf b (now (section .entry)) (now (work .entry))) left id (now (work .entry)) ⌝ }
 {
     if left == 0 {
-        return Once::No(12);
+        return Once::No(refusal::TOO_DEEP);
     }
     let v = seen_word(b, work, id);
     if v != 0 {
@@ -109,6 +112,21 @@ pub fn align_once(b: TypeTable, section: &[u8], work: &mut [u8], id: u32, left: 
     }
 }
 
+// get_align_of with a memory, where most answers are remembered already: those are taken before any call.
+pub fn get_align_of(b: TypeTable, section: &[u8], work: &mut [u8], id: u32, left: u32) -> Once
+    ensures { λ r. ⌜ onceOf r (now (work .exit))
+        ≡ onceWith (b .types) (btfOf b (now (section .entry)) (now (work .entry))) left id (now (work .entry)) ⌝ }
+{
+    if left == 0 {
+        return Once::No(refusal::TOO_DEEP);
+    }
+    let v = seen_word(b, work, id);
+    if v != 0 {
+        return taken(v, left);
+    }
+    align_once(b, section, work, id, left)
+}
+
 // The largest of the members' alignments, at least 1, and the largest of their heights.
 fn members_once(b: TypeTable, section: &[u8], work: &mut [u8], members: Entries, left: u32) -> Once
     ensures { λ r. ⌜ onceOf r (now (work .exit)) ≡ idsWith (b .types) (btfOf b (now (section .entry)) (now (work .entry))) left (alone 1) (memberIds b (now (section .entry)) members) (now (work .entry)) ⌝ }
@@ -119,7 +137,7 @@ fn members_once(b: TypeTable, section: &[u8], work: &mut [u8], members: Entries,
     let mut k: u32 = 0;
     while k < vlen {
         let x = word(b, section, member_place(members, k) + 4);
-        match align_once(b, section, work, x, left) {
+        match get_align_of(b, section, work, x, left) {
             Once::Found(s) => {
                 align = larger(align, s.align);
                 height = larger(height, s.height);

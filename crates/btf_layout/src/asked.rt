@@ -1,8 +1,10 @@
 // What a body asks of alignments, each of which is remembered in the work: the packed test, a gap's alignment, a union's.
-use crate::align_of::align_once;
+use crate::align_of::get_align_of;
 use crate::remembered::Once;
 use crate::size::Ask;
 use crate::size::Packed;
+use base_bytes::limit;
+use base_bytes::refusal;
 use btf_type_table::entry::load_member;
 use btf_type_table::kind::is_struct;
 use btf_type_table::kind::vlen_of;
@@ -20,7 +22,7 @@ ghost use Rattle.btf_layout.specs.asked.Asked.{askIn, packedIn, offBy, a
 fn alignment(b: TypeTable, section: &[u8], work: &mut [u8], id: u32) -> Ask
     ensures { λ r. ⌜ askIn r (now (work .exit)) ≡ alignIn (b .types) (btfOf b (now (section .entry)) (now (work .entry))) id (now (work .entry)) ⌝ }
 {
-    match align_once(b, section, work, id, 512) {
+    match get_align_of(b, section, work, id, limit::MOST_CALLS) {
         Once::Found(s) => Ask::Got(s.align),
         Once::No(c) => Ask::No(c),
     }
@@ -51,7 +53,7 @@ fn off_by(a: u32, bit_offset: u32) -> Packed
     ensures { λ r. ⌜ packedOf r ≡ offBy a «bit_offset» ⌝ }
 {
     if a == 0 {
-        return Packed::No(15);
+        return Packed::No(refusal::ALIGNMENT_ZERO);
     }
     let unit = (a as u64) * 8;
     Packed::Is((bit_offset as u64) % unit != 0)

@@ -3,6 +3,7 @@ use crate::size::Ask;
 use crate::size::checked;
 use crate::size::get_size_of;
 use crate::size::product;
+use base_bytes::limit;
 use spec_type_table::BtfMember;
 use spec_type_table::TypeTable;
 ghost use mathlib.Core.Path.{_≡_};
@@ -17,7 +18,10 @@ pub fn member_end(b: TypeTable, section: &[u8], work: &[u8], m: BtfMember) -> As
     if m.bit_size != 0 {
         return checked((m.bit_offset as u64) + (m.bit_size as u64));
     }
-    match product(8, get_size_of(b, section, work, m.type_id, 512)) {
+    match product(
+        8,
+        get_size_of(b, section, work, m.type_id, limit::MOST_CALLS),
+    ) {
         Ask::Got(bits) => checked((m.bit_offset as u64) + (bits as u64)),
         Ask::No(c) => Ask::No(c),
     }

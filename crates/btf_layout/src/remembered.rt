@@ -1,5 +1,7 @@
 // Alignments that are remembered in the work. Word 15 of a type is 0, or 16 times the height of the calls of get_align_of and the
 // alignment; word 2 of void counts the visits.
+use base_bytes::limit;
+use btf_type_table::cell;
 use btf_type_table::cell::get_field;
 use btf_type_table::cell::put_field;
 use spec_type_table::Entries;
@@ -44,11 +46,11 @@ pub fn coded(s: Seen) -> u32
 fn count_visits(work: &mut [u8], members: u32)
     ensures { λ _. ⌜ now (work .exit) ≡ counted members (now (work .entry)) ⌝ }
 {
-    let sum = (get_field(work, 0, 2) as u64) + (members as u64) + 1;
-    if sum < 4294967296 {
-        put_field(work, 0, 2, sum as u32);
+    let sum = (get_field(work, 0, cell::VISITS) as u64) + (members as u64) + 1;
+    if sum < limit::TWO_TO_32 {
+        put_field(work, 0, cell::VISITS, sum as u32);
     } else {
-        put_field(work, 0, 2, 4294967295);
+        put_field(work, 0, cell::VISITS, limit::LARGEST);
     }
 }
 
@@ -63,5 +65,5 @@ pub fn remember(b: TypeTable, work: &mut [u8], id: u32, v: u32, members: u32)
         return;
     }
     count_visits(work, members);
-    put_field(work, id, 15, v);
+    put_field(work, id, cell::ALIGNMENT, v);
 }

@@ -1,4 +1,7 @@
 // Sizes; alignments are asked with a memory (crates remembered, asked). `left` is how many more calls may be open.
+use base_bytes::limit;
+use base_bytes::refusal;
+use btf_type_table::kind;
 use btf_type_table::kind::kind_of;
 use btf_type_table::node::type_by_id;
 use btf_type_table::section_word::array_nelems;
@@ -28,10 +31,10 @@ pub enum Packed {
 pub fn checked(n: u64) -> Ask
     ensures { λ r. ⌜ askOf r ≡ checked n ⌝ }
 {
-    if n < 4294967296 {
+    if n < limit::TWO_TO_32 {
         Ask::Got(n as u32)
     } else {
-        Ask::No(16)
+        Ask::No(refusal::OVERFLOW)
     }
 }
 
@@ -64,20 +67,20 @@ pub fn get_size_of(b: TypeTable, section: &[u8], work: &[u8], id: u32, left: u32
         let t = type_by_id(b, section, work, at);
         more -= 1;
         match kind_of(t.info) {
-            1 => {
+            kind::INT => {
                 return Ask::Got(octets(int_bits(b, section, t)));
             }
-            2 => {
+            kind::PTR => {
                 return Ask::Got(b.ptr_sz);
             }
-            3 => {
+            kind::ARRAY => {
                 let element = get_size_of(b, section, work, array_type(b, section, t), more);
                 return product(array_nelems(b, section, t), element);
             }
-            4..=6 | 16 | 19 => {
+            kind::STRUCT..=kind::ENUM | kind::FLOAT | kind::ENUM64 => {
                 return Ask::Got(t.type_id);
             }
-            8..=11 | 17 | 18 => {
+            kind::TYPEDEF..=kind::RESTRICT | kind::DECL_TAG | kind::TYPE_TAG => {
                 at = t.type_id;
             }
             _ => {
@@ -85,5 +88,5 @@ pub fn get_size_of(b: TypeTable, section: &[u8], work: &[u8], id: u32, left: u32
             }
         }
     }
-    Ask::No(12)
+    Ask::No(refusal::TOO_DEEP)
 }

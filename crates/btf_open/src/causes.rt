@@ -1,4 +1,6 @@
 // The causes of a refused opening that need no memory: 1 to 4 of the header, 6 to 8 of the references.
+use base_bytes::limit;
+use base_bytes::refusal;
 use btf_open_causes::loops::has_loop;
 use btf_open_causes::prototypes::leads_to_proto;
 use btf_open_causes::references::has_bad_reference;
@@ -14,13 +16,13 @@ pub fn reference_cause(b: TypeTable, section: &[u8], start: &[u32]) -> u32
     ensures { λ r. ⌜ r ≡ fromSix (firstOf (late b (now (section .entry)) (now (start .entry)))) ⌝ }
 {
     if has_bad_reference(b, section, start) {
-        return 6;
+        return refusal::BAD_REFERENCE;
     }
     if leads_to_proto(b, section, start) {
-        return 7;
+        return refusal::PROTOTYPE_HELD;
     }
     if has_loop(b, section, start) {
-        return 8;
+        return refusal::LOOP;
     }
     0
 }
@@ -40,16 +42,16 @@ pub fn header_cause(section: &[u8], pointer_size: u32) -> u32
     ensures { λ r. ⌜ r ≡ firstOf (early «pointer_size» (now (section .entry))) ⌝ }
 {
     if !is_pointer_size(pointer_size) {
-        return 1;
+        return refusal::POINTER_SIZE;
     }
-    if 16777216 < section.len() {
-        return 2;
+    if limit::MOST_BYTES < section.len() {
+        return refusal::SECTION_TOO_LONG;
     }
     if has_bad_header(section) {
-        return 3;
+        return refusal::BAD_HEADER;
     }
     if has_bad_strings(section) {
-        return 4;
+        return refusal::BAD_STRINGS;
     }
     0
 }

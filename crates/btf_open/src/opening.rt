@@ -1,6 +1,8 @@
 // Opening a section: causes 1 to 9, and what success leaves.
 use crate::causes::header_cause;
 use crate::causes::reference_cause;
+use base_bytes::limit;
+use base_bytes::refusal;
 use base_bytes::word::clear;
 use btf_open_causes::header::btf_of;
 use spec_opening::Opening;
@@ -27,14 +29,14 @@ fn examine(section: &[u8], pointer_size: u32, work_len: usize, start: &mut [u32]
     }
     let r = btf_open_causes::records::scan(btf_of(section, pointer_size, 0, 0), section, start);
     if !r.is_sound {
-        return Opening::Refused(5);
+        return Opening::Refused(refusal::BAD_RECORD);
     }
     let d = reference_cause(btf_of(section, pointer_size, 0, r.types), section, start);
     if d != 0 {
         return Opening::Refused(d);
     }
     if (work_len as u64) < work_size(r.types, r.enumerators) {
-        return Opening::Refused(9);
+        return Opening::Refused(refusal::WORK_SHORT);
     }
     Opening::Sound(r.types, r.enumerators)
 }
@@ -49,7 +51,7 @@ pub fn open(
 ) -> Opening
     ensures { λ r. ⌜ openOut r (now (work .exit)) (now (text .exit)) ≡ openingOf «pointer_size» modes (now (section .entry)) (now (work .entry)) (now (text .entry)) ⌝ }
 {
-    let mut start = [0u32; 262145];
+    let mut start = [0u32; limit::TYPES_LEN];
     match examine(section, pointer_size, work.len(), &mut start) {
         Opening::Refused(c) => Opening::Refused(c),
         Opening::Sound(types, enumerators) => {

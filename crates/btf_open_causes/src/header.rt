@@ -1,4 +1,5 @@
 // The header, and what the types of a table need of header and settings.
+use base_bytes::limit;
 use base_bytes::word::word_in;
 use spec_type_table::TypeTable;
 ghost use mathlib.Core.Path.{_≡_};
@@ -57,10 +58,10 @@ fn size_of_pointer(pointer_size: u32) -> u32
 fn count_of_types(types: u32) -> u32
     ensures { λ r. ⌜ r ≡ pick (ltb types 262145) types 262145 ⌝ }
 {
-    if types < 262145 {
+    if types < limit::MOST_TYPES {
         return types;
     }
-    262145
+    limit::MOST_TYPES
 }
 
 // Where the string area starts; past 32 bits there is none.
@@ -68,10 +69,10 @@ fn strings_at(h: Header) -> u32
     ensures { λ r. ⌜ r ≡ pick (ltb (h .«hdr_len» + h .«str_off») 4294967296) (h .«hdr_len» + h .«str_off») 4294967295 ⌝ }
 {
     let at = (h.hdr_len as u64) + (h.str_off as u64);
-    if at < 4294967296 {
+    if at < limit::TWO_TO_32 {
         return at as u32;
     }
-    4294967295
+    limit::LARGEST
 }
 
 // What the types of a table need of its header and settings.

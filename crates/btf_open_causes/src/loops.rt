@@ -5,6 +5,8 @@ use crate::references::count;
 use crate::references::count_at;
 use crate::references::entry;
 use crate::references::id_at;
+use base_bytes::limit;
+use btf_type_table::kind;
 use spec_type_table::TypeTable;
 ghost use mathlib.Core.Path.{_≡_};
 ghost use Prim.Native.Nat.{_<_, _≤_};
@@ -18,7 +20,7 @@ fn degree(b: TypeTable, section: &[u8], kind: u32, at: u32) -> u32
     ensures { λ r. ⌜ r ≡ degAt b (now (section .entry)) kind at ⌝ }
 {
     match kind {
-        4 | 5 => 0,
+        kind::STRUCT | kind::UNION => 0,
         _ => count_at(b, section, kind, at),
     }
 }
@@ -158,7 +160,7 @@ fn scan(b: TypeTable, section: &[u8], start: &[u32], st: &mut [u32], stack: &mut
 pub fn has_loop(b: TypeTable, section: &[u8], start: &[u32]) -> bool
     ensures { λ r. ⌜ r ≡ hasLoop (graphOf b (now (section .entry)) (now (start .entry))) ⌝ }
 {
-    let mut st = [0u32; 262145];
-    let mut stack = [0u32; 262145];
+    let mut st = [0u32; limit::TYPES_LEN];
+    let mut stack = [0u32; limit::TYPES_LEN];
     scan(b, section, start, &mut st, &mut stack)
 }

@@ -6,6 +6,8 @@ use crate::references::entry;
 use crate::references::followed;
 use crate::references::id_at;
 use crate::references::kind_at;
+use base_bytes::limit;
+use btf_type_table::kind;
 use spec_type_table::TypeTable;
 ghost use mathlib.Core.Path.{_≡_};
 ghost use Rattle.btf_open_causes.specs.prototypes.Prototypes.{whatOf, nextOf, trackOf, asksAt, anyLeads};
@@ -16,8 +18,8 @@ fn what(b: TypeTable, start: &[u32], x: u32) -> u32
     ensures { λ r. ⌜ r ≡ whatOf b (now (start .entry)) x ⌝ }
 {
     match kind_at(b, start, x) {
-        3 | 8..=11 | 18 => 1,
-        13 => 2,
+        kind::ARRAY | kind::TYPEDEF..=kind::RESTRICT | kind::TYPE_TAG => 1,
+        kind::FUNC_PROTO => 2,
         _ => 0,
     }
 }
@@ -33,7 +35,7 @@ fn asks(b: TypeTable, section: &[u8], kind: u32, at: u32) -> u32
     ensures { λ r. ⌜ r ≡ asksAt b (now (section .entry)) kind at ⌝ }
 {
     match kind {
-        3..=5 => count_at(b, section, kind, at),
+        kind::ARRAY..=kind::UNION => count_at(b, section, kind, at),
         _ => 0,
     }
 }
@@ -148,6 +150,6 @@ fn all(b: TypeTable, section: &[u8], start: &[u32], cell: &mut [u32]) -> bool
 pub fn leads_to_proto(b: TypeTable, section: &[u8], start: &[u32]) -> bool
     ensures { λ r. ⌜ r ≡ anyLeads b (now (section .entry)) (now (start .entry)) ⌝ }
 {
-    let mut cell = [0u32; 262145];
+    let mut cell = [0u32; limit::TYPES_LEN];
     all(b, section, start, &mut cell)
 }

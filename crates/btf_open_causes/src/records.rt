@@ -1,5 +1,7 @@
 // Cause 5: the records, one after the other, and the index of where each starts.
 use crate::header::btf_header;
+use base_bytes::limit;
+use btf_type_table::kind;
 use btf_type_table::kind::extra_of;
 use btf_type_table::kind::kind_of;
 use btf_type_table::kind::vlen_of;
@@ -42,8 +44,8 @@ fn named_entry(kind: u32) -> u32
     ensures { λ r. ⌜ r ≡ entryWidth (kindNamed kind) ⌝ }
 {
     match kind {
-        4 | 5 | 19 => 12,
-        6 | 13 => 8,
+        kind::STRUCT | kind::UNION | kind::ENUM64 => 12,
+        kind::ENUM | kind::FUNC_PROTO => 8,
         _ => 0,
     }
 }
@@ -98,7 +100,7 @@ fn enumerators_of(info: u32) -> u32
     ensures { λ r. ⌜ r ≡ enumsOf info ⌝ }
 {
     match kind_of(info) {
-        6 | 19 => vlen_of(info),
+        kind::ENUM | kind::ENUM64 => vlen_of(info),
         _ => 0,
     }
 }
@@ -139,7 +141,7 @@ fn scan_area(
     let mut x: u32 = 1;
     let mut enumerators: u32 = 0;
     while at < end {
-        if 262144 < x {
+        if limit::MOST_RECORDS < x {
             return unsound();
         }
         let info = word(b, section, (at as usize) + 4);
@@ -166,7 +168,7 @@ pub fn scan(b: TypeTable, section: &[u8], start: &mut [u32]) -> Records
     let h = btf_header(section);
     let from = (h.hdr_len as u64) + (h.type_off as u64);
     let end = from + (h.type_len as u64);
-    if 16777216 < end {
+    if limit::MOST_BYTES_64 < end {
         return unsound();
     }
     scan_area(b, section, from as u32, end as u32, h.str_len, start)

@@ -5,8 +5,10 @@ use crate::keys::Key;
 use crate::keys::hash_name;
 use crate::keys::load_key;
 use crate::keys::same_key;
+use base_bytes::limit;
 use base_bytes::word::get_word;
 use base_bytes::word::put_word;
+use btf_type_table::cell;
 use btf_type_table::cell::holder_word;
 use spec_type_table::TypeTable;
 ghost use mathlib.Core.Path.{_≡_};
@@ -26,13 +28,24 @@ fn find(b: TypeTable, section: &[u8], work: &[u8], h: u32, bucket: u32, key: Key
     requires { ⌜ HolderFinds b (now section) (now work) h bucket × (keyOf (now section) (key .space) (key .name) ≡ keyIn b (now section) (now work) h) ⌝ }
     ensures { λ r. ⌜ r ≡ classOf (keyIn b (now (section .entry)) (now (work .entry))) h ⌝ }
 {
-    let mut l = get_word(work, holder_word(b.types, 7, 3, bucket));
+    let mut l = get_word(
+        work,
+        holder_word(
+            b.types,
+            cell::CLASS_BUCKET,
+            cell::VALUE_CLASS_BUCKET,
+            bucket,
+        ),
+    );
     while l != 0 {
         let c = l - 1;
         if same_key(section, load_key(b, section, work, c), key) {
             return c;
         }
-        l = get_word(work, holder_word(b.types, 8, 4, c));
+        l = get_word(
+            work,
+            holder_word(b.types, cell::CLASS_LINK, cell::VALUE_CLASS_LINK, c),
+        );
     }
     h
 }
@@ -44,17 +57,33 @@ fn put_holder(b: TypeTable, section: &[u8], work: &mut [u8], n: u32, k: u32)
 {
     let key = load_key(b, section, work, k);
     if key.space == 2 {
-        put_word(work, holder_word(b.types, 8, 4, k), 0);
-        put_word(work, holder_word(b.types, 5, 1, k), 0);
+        put_word(
+            work,
+            holder_word(b.types, cell::CLASS_LINK, cell::VALUE_CLASS_LINK, k),
+            0,
+        );
+        put_word(
+            work,
+            holder_word(b.types, cell::NAME_CLASS, cell::VALUE_CLASS, k),
+            0,
+        );
         return;
     }
     let i = hash_name(section, key.name, key.space) % n;
     let r = find(b, section, work, k, i, key);
-    let at = holder_word(b.types, 7, 3, i);
+    let at = holder_word(b.types, cell::CLASS_BUCKET, cell::VALUE_CLASS_BUCKET, i);
     let old = get_word(work, at);
-    put_word(work, holder_word(b.types, 8, 4, k), choose(r == k, old, 0));
+    put_word(
+        work,
+        holder_word(b.types, cell::CLASS_LINK, cell::VALUE_CLASS_LINK, k),
+        choose(r == k, old, 0),
+    );
     put_word(work, at, choose(r == k, k + 1, old));
-    put_word(work, holder_word(b.types, 5, 1, k), r);
+    put_word(
+        work,
+        holder_word(b.types, cell::NAME_CLASS, cell::VALUE_CLASS, k),
+        r,
+    );
 }
 
 // Sets word f of each type and g of each enumerator among the first n holders to 0.
@@ -74,8 +103,16 @@ fn clear_scratch(work: &mut [u8], types: u32, n: u32)
 {
     let mut k: u32 = 0;
     while k < n {
-        put_word(work, holder_word(types, 8, 4, k), 0);
-        put_word(work, holder_word(types, 7, 3, k), 0);
+        put_word(
+            work,
+            holder_word(types, cell::CLASS_LINK, cell::VALUE_CLASS_LINK, k),
+            0,
+        );
+        put_word(
+            work,
+            holder_word(types, cell::CLASS_BUCKET, cell::VALUE_CLASS_BUCKET, k),
+            0,
+        );
         k += 1;
     }
 }
@@ -86,14 +123,16 @@ pub fn classes(b: TypeTable, section: &[u8], enumerators: u32, work: &mut [u8])
     ensures { λ _. ⌜ now (work .exit) ≡ tableClassed b enumerators (now (section .entry)) (now (work .entry)) ⌝ }
 {
     let types = b.types;
-    if 4294967295 - types < enumerators {
+    if limit::LARGEST - types < enumerators {
         return;
     }
-    if work.len() / 4 < (types as usize) * 16 + (enumerators as usize) * 8 {
+    if work.len() / 4
+        < (types as usize) * cell::WORDS_OF_TYPE + (enumerators as usize) * cell::WORDS_OF_VALUE
+    {
         return;
     }
     let n = types + enumerators;
-    clear_words(work, types, n, 7, 3);
+    clear_words(work, types, n, cell::CLASS_BUCKET, cell::VALUE_CLASS_BUCKET);
     let mut k: u32 = 0;
     while k < n {
         put_holder(b, section, work, n, k);

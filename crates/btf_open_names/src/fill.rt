@@ -1,8 +1,11 @@
 // What success leaves in the work: the places of records and enumerators, the tags of each type, the name classes.
 use crate::classify::classes;
+use base_bytes::limit;
 use base_bytes::word::put_word;
+use btf_type_table::cell;
 use btf_type_table::cell::get_field;
 use btf_type_table::cell::put_field;
+use btf_type_table::kind;
 use btf_type_table::kind::member_place;
 use btf_type_table::kind::param_place;
 use btf_type_table::kind::vlen_of;
@@ -32,7 +35,7 @@ fn fill_places(b: TypeTable, start: &[u32], work: &mut [u8])
     let n = b.types;
     let mut x: u32 = 1;
     while x < n {
-        put_field(work, x, 0, entry_of(start, x) / 32);
+        put_field(work, x, cell::PLACE, entry_of(start, x) / 32);
         x += 1;
     }
 }
@@ -42,7 +45,7 @@ fn value_place(kind: u32, e: Entries, k: u32) -> u32
     requires { ⌜ (e .at < 134217728) × (k < 65536) ⌝ }
     ensures { λ r. ⌜ r ≡ valuePlace kind (e .at) k ⌝ }
 {
-    if kind == 19 {
+    if kind == kind::ENUM64 {
         return member_place(e, k) as u32;
     }
     param_place(e, k) as u32
@@ -53,7 +56,7 @@ fn enumerator_word(types: u32, e: u64) -> usize
     requires { ⌜ e < 562949953421312 ⌝ }
     ensures { λ r. ⌜ r ≡ enumeratorWord types e ⌝ }
 {
-    (types as usize) * 16 + (e as usize) * 8
+    (types as usize) * cell::WORDS_OF_TYPE + (e as usize) * cell::WORDS_OF_VALUE
 }
 
 // The places of an enum's values, which are the enumerators from `first` on.
@@ -78,7 +81,7 @@ fn values_at(b: TypeTable, section: &[u8], entry: u32) -> u32
     ensures { λ r. ⌜ r ≡ valuesAt b (now (section .entry)) entry ⌝ }
 {
     match entry % 32 {
-        6 | 19 => vlen_of(word(b, section, ((entry / 32) as usize) + 4)),
+        kind::ENUM | kind::ENUM64 => vlen_of(word(b, section, ((entry / 32) as usize) + 4)),
         _ => 0,
     }
 }
@@ -89,12 +92,17 @@ fn fill_enum(b: TypeTable, entry: u32, n: u32, x: u32, first: u64, work: &mut [u
     ensures { λ _. ⌜ now (work .exit) ≡ enumWith (b .types) entry n x first (now (work .entry)) ⌝ }
 {
     match entry % 32 {
-        6 | 19 => {
+        kind::ENUM | kind::ENUM64 => {
             let e = Entries {
                 at: entry / 32,
                 vlen: n,
             };
-            put_field(work, x, 12, (first % 4294967296) as u32);
+            put_field(
+                work,
+                x,
+                cell::FIRST_ENUMERATOR,
+                (first % limit::TWO_TO_32) as u32,
+            );
             fill_values(b, entry % 32, e, first, work);
         }
         _ => {}
@@ -121,16 +129,16 @@ fn fill_enums(b: TypeTable, section: &[u8], start: &[u32], work: &mut [u8])
 fn fill_tag(b: TypeTable, section: &[u8], entry: u32, x: u32, work: &mut [u8])
     ensures { λ _. ⌜ now (work .exit) ≡ tagPut b (now (section .entry)) entry x (now (work .entry)) ⌝ }
 {
-    if entry % 32 != 17 {
+    if entry % 32 != kind::DECL_TAG {
         return;
     }
     let on = word(b, section, ((entry / 32) as usize) + 8);
     if b.types <= on {
         return;
     }
-    let next = get_field(work, on, 9);
-    put_field(work, x, 10, next);
-    put_field(work, on, 9, x);
+    let next = get_field(work, on, cell::FIRST_TAG);
+    put_field(work, x, cell::NEXT_TAG, next);
+    put_field(work, on, cell::FIRST_TAG, x);
 }
 
 // From the last to the first, so that the tags of a type stand in rising order.

@@ -2,8 +2,10 @@
 // Holder h is type h below the number of types, and after those an enumerator.
 use crate::keys::hash_name;
 use crate::keys::load_key;
+use base_bytes::limit;
 use base_bytes::word::get_word;
 use base_bytes::word::put_word;
+use btf_type_table::cell;
 use btf_type_table::cell::holder_word;
 use spec_type_table::TypeTable;
 ghost use mathlib.Core.Path.{_≡_};
@@ -21,9 +23,18 @@ fn put_first(b: TypeTable, section: &[u8], work: &mut [u8], n: u32, c: u32)
     if key.space == 2 {
         return;
     }
-    let at = holder_word(b.types, 11, 5, hash_name(section, key.name, key.space) % n);
+    let at = holder_word(
+        b.types,
+        cell::TABLE_BUCKET,
+        cell::VALUE_TABLE_BUCKET,
+        hash_name(section, key.name, key.space) % n,
+    );
     let old = get_word(work, at);
-    put_word(work, holder_word(b.types, 13, 7, c), old);
+    put_word(
+        work,
+        holder_word(b.types, cell::TABLE_LINK, cell::VALUE_TABLE_LINK, c),
+        old,
+    );
     put_word(work, at, c);
 }
 
@@ -45,17 +56,19 @@ fn all_zero(work: &[u8], types: u32, n: u32, f: u32, g: u32) -> bool
 fn has_room(work: &[u8], types: u32, enumerators: u32) -> bool
     ensures { λ r. ⌜ r ≡ hasRoom types enumerators (now (work .entry)) ⌝ }
 {
-    if 4294967295 - types < enumerators {
+    if limit::LARGEST - types < enumerators {
         return false;
     }
-    if work.len() / 4 < (types as usize) * 16 + (enumerators as usize) * 8 {
+    if work.len() / 4
+        < (types as usize) * cell::WORDS_OF_TYPE + (enumerators as usize) * cell::WORDS_OF_VALUE
+    {
         return false;
     }
     let n = types + enumerators;
-    if !all_zero(work, types, n, 11, 5) {
+    if !all_zero(work, types, n, cell::TABLE_BUCKET, cell::VALUE_TABLE_BUCKET) {
         return false;
     }
-    all_zero(work, types, n, 13, 7)
+    all_zero(work, types, n, cell::TABLE_LINK, cell::VALUE_TABLE_LINK)
 }
 
 // Makes the table, from the last holder to the first, so that those of a bucket stand in rising order. Without room for it the work stays as it
@@ -81,8 +94,16 @@ pub fn clear_table(work: &mut [u8], types: u32, n: u32)
 {
     let mut k: u32 = 0;
     while k < n {
-        put_word(work, holder_word(types, 13, 7, k), 0);
-        put_word(work, holder_word(types, 11, 5, k), 0);
+        put_word(
+            work,
+            holder_word(types, cell::TABLE_LINK, cell::VALUE_TABLE_LINK, k),
+            0,
+        );
+        put_word(
+            work,
+            holder_word(types, cell::TABLE_BUCKET, cell::VALUE_TABLE_BUCKET, k),
+            0,
+        );
         k += 1;
     }
 }

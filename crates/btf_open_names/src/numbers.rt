@@ -1,6 +1,8 @@
 // The number that the next holder of a name gets: how many there are then, with the numbers passed over that are listed at the
 // class of its name.
+use base_bytes::limit;
 use base_bytes::word::get_word;
+use btf_type_table::cell;
 use btf_type_table::cell::get_count;
 use btf_type_table::cell::holder_word;
 ghost use mathlib.Core.Path.{_≡_};
@@ -16,7 +18,7 @@ fn add_if(c: u32, t: u32, n: u32) -> u32
     if n < t {
         return c;
     }
-    if c < 4294967295 {
+    if c < limit::LARGEST {
         return c + 1;
     }
     c
@@ -28,11 +30,24 @@ fn count_below(work: &[u8], types: u32, class: u32, n: u32) -> u32
 {
     let mut c: u32 = 0;
     let mut last: u32 = 0;
-    let mut x = get_word(work, holder_word(types, 7, 3, class));
+    let mut x = get_word(
+        work,
+        holder_word(types, cell::FIRST_TAKER, cell::VALUE_FIRST_TAKER, class),
+    );
     while last < x {
-        c = add_if(c, get_word(work, holder_word(types, 14, 6, x)), n);
+        c = add_if(
+            c,
+            get_word(
+                work,
+                holder_word(types, cell::TAKEN_NUMBER, cell::VALUE_TAKEN_NUMBER, x),
+            ),
+            n,
+        );
         last = x;
-        x = get_word(work, holder_word(types, 8, 4, x));
+        x = get_word(
+            work,
+            holder_word(types, cell::NEXT_TAKER, cell::VALUE_NEXT_TAKER, x),
+        );
     }
     c
 }
@@ -42,10 +57,10 @@ fn step(work: &[u8], types: u32, class: u32, k: u32, n: u32) -> u32
     ensures { λ r. ⌜ r ≡ capped (k + below (takenAt types (now (work .entry)) class) n) ⌝ }
 {
     let m = (k as u64) + (count_below(work, types, class, n) as u64);
-    if m < 4294967295 {
+    if m < limit::LARGEST_64 {
         return m as u32;
     }
-    4294967295
+    limit::LARGEST
 }
 
 // The number of the k-th holder. Each turn passes over at least one more number.
@@ -65,7 +80,10 @@ fn number_over(work: &[u8], types: u32, class: u32, k: u32) -> u32
 pub fn get_number(work: &mut [u8], types: u32, h: u32) -> u32
     ensures { λ r. ⌜ (r ≡ numberAt types (now (work .entry)) h) × (now (work .exit) ≡ counted (classP types) (countP types) (now (work .entry)) h) ⌝ }
 {
-    let class = get_word(work, holder_word(types, 5, 1, h));
+    let class = get_word(
+        work,
+        holder_word(types, cell::NAME_CLASS, cell::VALUE_CLASS, h),
+    );
     let k = get_count(work, types, h);
     number_over(work, types, class, k)
 }

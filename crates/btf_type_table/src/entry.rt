@@ -5,6 +5,7 @@ use crate::kind::member_place;
 use crate::kind::param_place;
 use crate::section_word::three;
 use crate::section_word::word;
+use base_bytes::limit;
 use spec_type_table::BtfMember;
 use spec_type_table::BtfType;
 use spec_type_table::Entries;
@@ -46,5 +47,5 @@ pub fn load_enum64_value(b: TypeTable, section: &[u8], e: Entries, k: u32) -> u6
     ensures { λ r. ⌜ r ≡ sectionWord b (now (section .entry)) (memberAt (e .at) k + 8) * 4294967296 + sectionWord b (now (section .entry)) (memberAt (e .at) k + 4) ⌝ }
 {
     let w = three(b, section, member_place(e, k));
-    (w.third as u64) * 4294967296 + (w.second as u64)
+    (w.third as u64) * limit::TWO_TO_32 + (w.second as u64)
 }

@@ -6,6 +6,45 @@ ghost use mathlib.Core.Path.{_≡_};
 ghost use lib.Dec.{eqb};
 ghost use Rattle.spec_type_table.specs.Records.{vlenOf, kindOf, flagOf, memberAt, paramAt, extraOf, entriesOf};
 
+// The kinds of a type; 0 is void.
+pub const INT: u32 = 1;
+
+pub const PTR: u32 = 2;
+
+pub const ARRAY: u32 = 3;
+
+pub const STRUCT: u32 = 4;
+
+pub const UNION: u32 = 5;
+
+pub const ENUM: u32 = 6;
+
+pub const FWD: u32 = 7;
+
+pub const TYPEDEF: u32 = 8;
+
+pub const VOLATILE: u32 = 9;
+
+pub const CONST: u32 = 10;
+
+pub const RESTRICT: u32 = 11;
+
+pub const FUNC: u32 = 12;
+
+pub const FUNC_PROTO: u32 = 13;
+
+pub const VAR: u32 = 14;
+
+pub const DATASEC: u32 = 15;
+
+pub const FLOAT: u32 = 16;
+
+pub const DECL_TAG: u32 = 17;
+
+pub const TYPE_TAG: u32 = 18;
+
+pub const ENUM64: u32 = 19;
+
 // btf_type.info: bits 0-15 vlen, 24-28 kind, 31 kind_flag.
 pub fn vlen_of(info: u32) -> u32
     ensures { λ r. ⌜ r ≡ vlenOf info ⌝ }
@@ -31,11 +70,13 @@ pub fn extra_of(kind: u32, vlen: u32) -> Extra
 {
     let n = vlen % 65536;
     match kind {
-        1 | 14 | 17 => Extra::Bytes(4),
-        3 => Extra::Bytes(12),
-        4 | 5 | 15 | 19 => Extra::Bytes(12 * n),
-        6 | 13 => Extra::Bytes(8 * n),
-        2 | 7 | 8 | 9 | 10 | 11 | 12 | 16 | 18 => Extra::Bytes(0),
+        INT | VAR | DECL_TAG => Extra::Bytes(4),
+        ARRAY => Extra::Bytes(12),
+        STRUCT | UNION | DATASEC | ENUM64 => Extra::Bytes(12 * n),
+        ENUM | FUNC_PROTO => Extra::Bytes(8 * n),
+        PTR | FWD | TYPEDEF | VOLATILE | CONST | RESTRICT | FUNC | FLOAT | TYPE_TAG => Extra::Bytes(
+            0,
+        ),
         _ => Extra::Refused,
     }
 }
@@ -43,7 +84,7 @@ pub fn extra_of(kind: u32, vlen: u32) -> Extra
 pub fn is_struct(t: BtfType) -> bool
     ensures { λ r. ⌜ r ≡ eqb (kindOf (t .info)) 4 ⌝ }
 {
-    kind_of(t.info) == 4
+    kind_of(t.info) == STRUCT
 }
 
 // The entries of a record.

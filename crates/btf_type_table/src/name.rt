@@ -1,5 +1,7 @@
 // Names in the string area: the bytes from a place up to the first 0.
+use crate::kind;
 use crate::kind::kind_of;
+use base_bytes::refusal;
 use spec_type_table::BtfType;
 use spec_type_table::TypeTable;
 ghost use mathlib.Core.Path.{_≡_};
@@ -61,7 +63,7 @@ pub fn put_str(b: TypeTable, section: &[u8], text: &mut [u8], at: usize, off: u3
             return p;
         }
         if text.len() <= p {
-            return text.len() + 18;
+            return text.len() + refusal::FULL_PLACE;
         }
         text[p] = c;
         p += 1;
@@ -127,11 +129,19 @@ pub fn is_named(b: TypeTable, section: &[u8], t: BtfType) -> bool
     ensures { λ r. ⌜ r ≡ isNamed (typeOf b (now (section .entry)) t) ⌝ }
 {
     match kind_of(t.info) {
-        1 | 4 | 5 | 6 | 7 | 8 | 12 | 14 | 15 | 16 | 17 | 18 | 19 => !is_empty(
-            b,
-            section,
-            t.name_off,
-        ),
+        kind::INT
+        | kind::STRUCT
+        | kind::UNION
+        | kind::ENUM
+        | kind::FWD
+        | kind::TYPEDEF
+        | kind::FUNC
+        | kind::VAR
+        | kind::DATASEC
+        | kind::FLOAT
+        | kind::DECL_TAG
+        | kind::TYPE_TAG
+        | kind::ENUM64 => !is_empty(b, section, t.name_off),
         _ => false,
     }
 }

@@ -1,5 +1,7 @@
 // The type of an id, and what ordering and emission see of it.
+use crate::cell;
 use crate::cell::get_field;
+use crate::kind;
 use crate::kind::entries_of;
 use crate::kind::kind_of;
 use crate::section_word::array_type;
@@ -34,22 +36,25 @@ pub fn type_by_id(b: TypeTable, section: &[u8], work: &[u8], id: u32) -> BtfType
     if b.types <= id {
         return void();
     }
-    load_type(b, section, get_field(work, id, 0))
+    load_type(b, section, get_field(work, id, cell::PLACE))
 }
 
 pub fn node_of(b: TypeTable, section: &[u8], t: BtfType) -> Node
     ensures { λ r. ⌜ nodeIs b (now (section .entry)) r ≡ nodeOf (typeOf b (now (section .entry)) t) ⌝ }
 {
     match kind_of(t.info) {
-        2 => Node::Ptr(t.type_id),
-        3 => Node::Through(true, array_type(b, section, t)),
-        4 | 5 => Node::Composite(entries_of(t)),
-        6 | 19 => Node::Listed(false),
-        7 => Node::Listed(true),
-        8 => Node::Typedef(t.type_id),
-        9 | 10 | 11 | 18 => Node::Through(false, t.type_id),
-        12 | 14 | 15 | 17 => Node::Ignored,
-        13 => Node::Proto(t.type_id, entries_of(t)),
+        kind::PTR => Node::Ptr(t.type_id),
+        kind::ARRAY => Node::Through(true, array_type(b, section, t)),
+        kind::STRUCT | kind::UNION => Node::Composite(entries_of(t)),
+        kind::ENUM | kind::ENUM64 => Node::Listed(false),
+        kind::FWD => Node::Listed(true),
+        kind::TYPEDEF => Node::Typedef(t.type_id),
+        kind::VOLATILE | kind::CONST | kind::RESTRICT | kind::TYPE_TAG => Node::Through(
+            false,
+            t.type_id,
+        ),
+        kind::FUNC | kind::VAR | kind::DATASEC | kind::DECL_TAG => Node::Ignored,
+        kind::FUNC_PROTO => Node::Proto(t.type_id, entries_of(t)),
         _ => Node::Plain,
     }
 }

@@ -1,4 +1,5 @@
 // What enums of both widths share: heads, ends, the lines of enumerators up to their value; the mention of an enum.
+use base_bytes::limit;
 use base_bytes::put::put_byte;
 use base_bytes::put::put_tabs;
 use base_bytes::put::put_three;
@@ -42,10 +43,10 @@ pub fn emit_enumerator(
 pub fn nth(first: u32, k: u32) -> u32
     ensures { λ r. ⌜ r ≡ nthOf first k ⌝ }
 {
-    if k <= 4294967295 - first {
+    if k <= limit::LARGEST - first {
         first + k
     } else {
-        4294967295
+        limit::LARGEST
     }
 }
 
@@ -79,7 +80,7 @@ pub fn emit_enum_end(text: &mut [u8], at: usize, lvl: u32) -> usize
 pub fn deeper(lvl: u32) -> u32
     ensures { λ r. ⌜ r ≡ rules.deeper lvl ⌝ }
 {
-    if lvl < 4294967295 { lvl + 1 } else { lvl }
+    if lvl < limit::LARGEST { lvl + 1 } else { lvl }
 }
 
 // The mention of a named enum.

@@ -9,6 +9,7 @@ use base_bytes::put::put_decimal;
 use base_bytes::put::put_two;
 use base_keywords::signed_decimal::as_i32;
 use base_keywords::signed_decimal::put_i32;
+use btf_type_table::cell;
 use btf_type_table::cell::get_field;
 use btf_type_table::entry::load_enum_value;
 use btf_type_table::kind::entries_of;
@@ -50,7 +51,7 @@ fn emit_values(
 {
     let values = entries_of(t);
     let vlen = values.vlen;
-    let first = get_field(work, id, 12);
+    let first = get_field(work, id, cell::FIRST_ENUMERATOR);
     let mut p = at;
     let mut k: u32 = 0;
     while k < vlen {

@@ -10,6 +10,7 @@ use base_bytes::put::put_two;
 use base_keywords::signed_decimal::as_i64;
 use base_keywords::signed_decimal::put_i64;
 use base_keywords::table::put_ull;
+use btf_type_table::cell;
 use btf_type_table::cell::get_field;
 use btf_type_table::entry::load_enum64_value;
 use btf_type_table::kind::entries_of;
@@ -52,7 +53,7 @@ fn emit_values64(
 {
     let values = entries_of(t);
     let vlen = values.vlen;
-    let first = get_field(work, id, 12);
+    let first = get_field(work, id, cell::FIRST_ENUMERATOR);
     let mut p = at;
     let mut k: u32 = 0;
     while k < vlen {

@@ -5,6 +5,7 @@ use base_bytes::put::put_byte;
 use base_keywords::table::put_const;
 use base_keywords::table::put_restrict;
 use base_keywords::table::put_volatile;
+use btf_type_table::kind;
 use spec_type_table::TypeTable;
 ghost use mathlib.Core.Path.{_≡_};
 ghost use Prim.Native.Nat.{_≤_};
@@ -16,8 +17,8 @@ pub fn put_qualifier(text: &mut [u8], at: usize, kind: u32) -> usize
     ensures { λ r. ⌜ putOut r (now (text .exit)) ≡ putText (now (text .entry)) at (whole (qualifier (qualifierOf kind))) ⌝ }
 {
     match kind {
-        9 => put_volatile(text, at),
-        10 => put_const(text, at),
+        kind::VOLATILE => put_volatile(text, at),
+        kind::CONST => put_const(text, at),
         _ => put_restrict(text, at),
     }
 }

@@ -5,11 +5,13 @@ use base_bytes::put::put_tabs;
 use base_bytes::put::put_two;
 use base_bytes::put::stop;
 use base_bytes::put::stopped;
+use base_bytes::refusal;
 use base_keywords::table::put_dots;
 use base_keywords::table::put_void;
 use btf_layout::size::Ask;
 use btf_layout::size::Packed;
 use btf_type_table::entry::load_member;
+use btf_type_table::kind;
 use btf_type_table::kind::entries_of;
 use btf_type_table::kind::is_struct;
 use btf_type_table::kind::kind_flag_of;
@@ -101,7 +103,7 @@ pub fn emit_type_decl(
     ensures { λ r. ⌜ outOf r (now (text .exit)) (now (work .exit)) ≡ putSaid (now (text .entry)) at (emitTypeDeclOnce (workAsks (b .types) (btfOf b (now (section .entry)) (now (work .entry)))) (workNaming b) (btfOf b (now (section .entry)) (now (work .entry))) left (d .id) (nameText b (now (section .entry)) (d .name)) (d .lvl) (now (work .entry))) ⌝ }
 {
     if left == 0 {
-        return stop(text, at, 12);
+        return stop(text, at, refusal::TOO_DEEP);
     }
     if stopped(text, at) {
         return at;
@@ -125,7 +127,7 @@ fn emit_type_chain(
     ensures { λ r. ⌜ outOf r (now (text .exit)) (now (work .exit)) ≡ putSaid (now (text .entry)) at (emitTypeChainOnce (workAsks (b .types) (btfOf b (now (section .entry)) (now (work .entry)))) (workNaming b) (btfOf b (now (section .entry)) (now (work .entry))) left (chainAt b (now (section .entry)) (now (work .entry)) (d .id) n) (nameText b (now (section .entry)) (d .name)) (d .lvl) (now (work .entry))) ⌝ }
 {
     if left == 0 {
-        return stop(text, at, 12);
+        return stop(text, at, refusal::TOO_DEEP);
     }
     if stopped(text, at) {
         return at;
@@ -188,19 +190,19 @@ fn emit_entry(
     let id = path_at(b, section, work, d.id, n);
     let t = type_by_id(b, section, work, id);
     match kind_of(t.info) {
-        2 => goes_on(put_star(text, c.at, c.last_was_ptr), n, true),
-        3 => {
+        kind::PTR => goes_on(put_star(text, c.at, c.last_was_ptr), n, true),
+        kind::ARRAY => {
             let nelems = array_nelems(b, section, t);
             let m = skip_mods(b, section, work, d.id, n);
             let a = emit_array(b, section, work, text, c.at, d, m, c.last_was_ptr, below);
             named(put_count(text, a, nelems))
         }
-        9..=11 => {
+        kind::VOLATILE..=kind::RESTRICT => {
             let a = put_byte(text, c.at, b' ');
             goes_on(put_qualifier(text, a, kind_of(t.info)), n, false)
         }
-        13 => named(emit_function(b, section, work, text, c, d, t, below)),
-        18 => {
+        kind::FUNC_PROTO => named(emit_function(b, section, work, text, c, d, t, below)),
+        kind::TYPE_TAG => {
             let m = skip_mods(b, section, work, d.id, n);
             let a = emit_mods(b, section, work, text, c.at, d.id, n, m);
             goes_on(put_type_tag(b, section, text, a, t), m, false)
@@ -253,10 +255,20 @@ fn emit_base(
     ensures { λ r. ⌜ outOf r (now (text .exit)) (now (work .exit)) ≡ putSaid (now (text .entry)) at (wordBelow (workAsks (b .types) (btfOf b (now (section .entry)) (now (work .entry)))) (workNaming b) (btfOf b (now (section .entry)) (now (work .entry))) below lvl id (typeOf b (now (section .entry)) t) (now (work .entry))) ⌝ }
 {
     match kind_of(t.info) {
-        1 | 16 => put_str(b, section, text, at, t.name_off),
-        4 | 5 => emit_composite_word(b, section, work, text, at, id, t, lvl, below),
-        6 => emit_enum_word(b, section, work, text, at, id, t, lvl),
-        7 => emit_fwd_def(
+        kind::INT | kind::FLOAT => put_str(b, section, text, at, t.name_off),
+        kind::STRUCT | kind::UNION => emit_composite_word(
+            b,
+            section,
+            work,
+            text,
+            at,
+            id,
+            t,
+            lvl,
+            below,
+        ),
+        kind::ENUM => emit_enum_word(b, section, work, text, at, id, t, lvl),
+        kind::FWD => emit_fwd_def(
             b,
             section,
             work,
@@ -266,9 +278,13 @@ fn emit_base(
             kind_flag_of(t.info),
             t.name_off,
         ),
-        8 => put_typedef_name(b, section, work, text, at, id, t.name_off),
-        19 => emit_enum64_word(b, section, work, text, at, id, t, lvl),
-        2 | 3 | 9..=15 | 17 | 18 => at,
+        kind::TYPEDEF => put_typedef_name(b, section, work, text, at, id, t.name_off),
+        kind::ENUM64 => emit_enum64_word(b, section, work, text, at, id, t, lvl),
+        kind::PTR
+        | kind::ARRAY
+        | kind::VOLATILE..=kind::DATASEC
+        | kind::DECL_TAG
+        | kind::TYPE_TAG => at,
         _ => put_void(text, at),
     }
 }
@@ -312,7 +328,7 @@ fn emit_array(
         return emit_name(b, section, text, at, name, last_was_ptr);
     }
     let a = put_gap(b, section, text, at, name, last_was_ptr);
-    if kind_on_top(b, section, work, d.id, n) == 3 {
+    if kind_on_top(b, section, work, d.id, n) == kind::ARRAY {
         return emit_type_chain(b, section, work, text, a, d, n, below);
     }
     let c = put_open(text, a);
@@ -411,7 +427,7 @@ pub fn emit_composite_def(
     ensures { λ r. ⌜ outOf r (now (text .exit)) (now (work .exit)) ≡ putSaid (now (text .entry)) at (emitCompositeDefOnce (workAsks (b .types) (btfOf b (now (section .entry)) (now (work .entry)))) (workNaming b) (btfOf b (now (section .entry)) (now (work .entry))) left id (eqb (kindOf (t .info)) 4) (recordName b (now (section .entry)) t) (t .«type_id») (membersOf b (now (section .entry)) t) lvl (now (work .entry))) ⌝ }
 {
     if left == 0 {
-        return stop(text, at, 12);
+        return stop(text, at, refusal::TOO_DEEP);
     }
     if stopped(text, at) {
         return at;

@@ -1,7 +1,9 @@
 // The lines of the text: definitions, forward lines and typedefs, each with its end.
 use crate::declarations::emit_composite_def;
 use crate::typedefs::emit_typedef_def;
+use base_bytes::limit;
 use base_bytes::put::put_three;
+use btf_type_table::kind;
 use btf_type_table::kind::is_struct;
 use btf_type_table::kind::kind_flag_of;
 use btf_type_table::kind::kind_of;
@@ -38,20 +40,20 @@ pub fn emit_definition(
     ensures { λ r. ⌜ outOf r (now (text .exit)) (now (work .exit)) ≡ putSaid (now (text .entry)) at (definitionOnce (workAsks (b .types) (btfOf b (now (section .entry)) (now (work .entry)))) (workNaming b) (btfOf b (now (section .entry)) (now (work .entry))) id (typeOf b (now (section .entry)) t) (now (work .entry))) ⌝ }
 {
     match kind_of(t.info) {
-        4 | 5 => {
-            let a = emit_composite_def(b, section, work, text, at, id, t, 0, 512);
+        kind::STRUCT | kind::UNION => {
+            let a = emit_composite_def(b, section, work, text, at, id, t, 0, limit::MOST_CALLS);
             put_line_end(text, a)
         }
-        6 => {
+        kind::ENUM => {
             let a = emit_enum_def(b, section, work, text, at, id, t, 0);
             put_line_end(text, a)
         }
-        7 => {
+        kind::FWD => {
             let is_union = kind_flag_of(t.info);
             let a = emit_fwd_def(b, section, work, text, at, id, is_union, t.name_off);
             put_line_end(text, a)
         }
-        19 => {
+        kind::ENUM64 => {
             let a = emit_enum64_def(b, section, work, text, at, id, t, 0);
             put_line_end(text, a)
         }
@@ -75,11 +77,11 @@ pub fn emit_forward(
         return at;
     }
     match kind_of(t.info) {
-        4 | 5 => {
+        kind::STRUCT | kind::UNION => {
             let a = emit_composite_fwd(b, section, work, text, at, id, is_struct(t), t.name_off);
             put_line_end(text, a)
         }
-        8 => {
+        kind::TYPEDEF => {
             let a = emit_typedef_def(b, section, work, text, at, id, t.name_off, t.type_id);
             put_line_end(text, a)
         }

@@ -1,9 +1,11 @@
 // A typedef's line.
 use crate::declarations::Declarator;
 use crate::declarations::emit_type_decl;
+use base_bytes::limit;
 use base_bytes::put::put_byte;
 use base_keywords::table::put_typedef;
 use c_dumper_name_versions::names::resolve_type_name;
+use c_dumper_name_versions::tags::WHOLE_TYPE;
 use c_dumper_name_versions::tags::emit_decl_tags;
 use spec_type_table::TypeTable;
 ghost use mathlib.Core.Path.{_≡_};
@@ -34,6 +36,6 @@ pub fn emit_typedef_def(
     };
     let a = put_typedef(text, at);
     let c = put_byte(text, a, b' ');
-    let e = emit_type_decl(b, section, work, text, c, d, 512);
-    emit_decl_tags(b, section, work, text, e, id, 4294967295)
+    let e = emit_type_decl(b, section, work, text, c, d, limit::MOST_CALLS);
+    emit_decl_tags(b, section, work, text, e, id, WHOLE_TYPE)
 }

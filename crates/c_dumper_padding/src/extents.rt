@@ -1,4 +1,6 @@
 // Placing mode: what the members of a body reach, and whether all of them fit.
+use base_bytes::limit;
+use base_bytes::refusal;
 use btf_layout::bounds::larger;
 use btf_layout::member_end::member_end;
 use btf_layout::size::Ask;
@@ -96,7 +98,7 @@ fn field_size(b: TypeTable, section: &[u8], work: &[u8], m: BtfMember) -> Ask
     if m.bit_size == 0 {
         return Ask::Got(0);
     }
-    get_size_of(b, section, work, m.type_id, 512)
+    get_size_of(b, section, work, m.type_id, limit::MOST_CALLS)
 }
 
 fn reached(in_struct: bool, last: u32, end: u32) -> u32
@@ -191,14 +193,14 @@ pub fn judged(t: BtfType, a: u32, x: Extent, packed: bool) -> Packed
     ensures { λ r. ⌜ packedOf r ≡ judged (eqb (kindOf (t .info)) 4) (t .«type_id») a packed (extentIs x) ⌝ }
 {
     let bits = (t.type_id as u64) * 8;
-    if 4294967296 <= bits {
-        return Packed::No(16);
+    if limit::TWO_TO_32 <= bits {
+        return Packed::No(refusal::OVERFLOW);
     }
     if !x.fits {
-        return Packed::No(18);
+        return Packed::No(refusal::MISPLACED);
     }
     if size_fits(is_struct(t), a, x.last, bits) {
         return Packed::Is(packed);
     }
-    Packed::No(18)
+    Packed::No(refusal::MISPLACED)
 }

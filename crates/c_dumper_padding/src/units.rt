@@ -1,4 +1,5 @@
 // The next pad of a gap, in both modes: its unit and its width.
+use base_bytes::limit;
 ghost use mathlib.Core.Path.{_≡_};
 ghost use Prim.Native.Nat.{_*_};
 ghost use Rattle.spec_c_dumper.specs.rules.Layout.{smaller, chipAwayBits, padOf, placedPad};
@@ -28,7 +29,7 @@ fn ptr_bits(ptr_sz: u32) -> u32
     if ptr_sz < 536870912 {
         ptr_sz * 8
     } else {
-        4294967295
+        limit::LARGEST
     }
 }
 

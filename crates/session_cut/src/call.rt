@@ -1,5 +1,7 @@
 // A section cut down to what is used: the call. It reads the session and the section, and writes the output slice alone.
 use crate::writer::write_kept;
+use base_bytes::limit;
+use base_bytes::refusal;
 use base_bytes::word::get_word;
 use btf_open_causes::header::btf_of;
 use btf_open_causes::references::has_bad_reference;
@@ -36,7 +38,7 @@ fn is_open(s: Session, len: usize) -> bool
 fn is_sound(section: &[u8]) -> bool
     ensures { λ r. ⌜ r ≡ eqb (firstOf (cause2 (now (section .entry)) ∷ cause3 (now (section .entry)) ∷ cause4 (now (section .entry)) ∷ [])) 0 ⌝ }
 {
-    if 16777216 < section.len() {
+    if limit::MOST_BYTES < section.len() {
         return false;
     }
     if has_bad_header(section) {
@@ -82,11 +84,11 @@ fn is_past(given: &[u8], count: u32) -> bool
 fn write_cut(b: TypeTable, section: &[u8], start: &[u32], given: &[u8], out: &mut [u8]) -> Answer
     ensures { λ r. ⌜ cutOf r (now (out .exit)) ≡ answered (keptWritten b (now (section .entry)) (now (start .entry)) (idsOf b (now (section .entry)) (now (start .entry)) (now (given .entry)) allZero) (now (out .entry))) ⌝ }
 {
-    let mut ids = [0u32; 262145];
+    let mut ids = [0u32; limit::TYPES_LEN];
     number_kept(b, section, start, given, &mut ids);
     let len = write_kept(b, section, start, &ids, out);
     if len == 0 {
-        return Answer::Refused(23, 0);
+        return Answer::Refused(refusal::OUTPUT_SHORT, 0);
     }
     Answer::Accepted(len as u32)
 }
@@ -96,15 +98,15 @@ pub fn cut(s: Session, section: &[u8], given: &[u8], out: &mut [u8]) -> Answer
     ensures { λ r. ⌜ cutOf r (now (out .exit)) ≡ cutCall s (now (section .entry)) (now (given .entry)) (now (out .entry)) ⌝ }
 {
     if !is_open(s, section.len()) {
-        return Answer::Refused(11, 0);
+        return Answer::Refused(refusal::SESSION_CLOSED, 0);
     }
-    let mut start = [0u32; 262145];
+    let mut start = [0u32; limit::TYPES_LEN];
     let n = check(section, s.pointer_size, &mut start);
     if n == 0 {
-        return Answer::Refused(11, 0);
+        return Answer::Refused(refusal::SESSION_CLOSED, 0);
     }
     if is_past(given, n) {
-        return Answer::Refused(10, 0);
+        return Answer::Refused(refusal::NO_SUCH_ID, 0);
     }
     let b = btf_of(section, s.pointer_size, 0, n);
     write_cut(b, section, &start, given, out)

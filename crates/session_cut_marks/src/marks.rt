@@ -3,6 +3,7 @@
 use crate::tags::mark_tags;
 use crate::tags::number;
 use crate::tags::peek;
+use base_bytes::limit;
 use base_bytes::word::get_word;
 use btf_open_causes::references::count_at;
 use btf_open_causes::references::entry;
@@ -98,7 +99,7 @@ fn push_given(given: &[u8], marks: &mut [u32], stack: &mut [u32]) -> usize
 pub fn number_kept(b: TypeTable, section: &[u8], start: &[u32], given: &[u8], ids: &mut [u32])
     ensures { λ _. ⌜ now (ids .exit) ≡ idsOf b (now (section .entry)) (now (start .entry)) (now (given .entry)) (now (ids .entry)) ⌝ }
 {
-    let mut stack = [0u32; 262145];
+    let mut stack = [0u32; limit::TYPES_LEN];
     let d = push_given(given, ids, &mut stack);
     close(b, section, start, ids, &mut stack, d);
     mark_tags(b, section, start, ids);

@@ -1,7 +1,9 @@
 // After the marks: the declaration tags of what is marked, then the numbers in old order.
+use base_bytes::limit;
 use btf_open_causes::references::count;
 use btf_open_causes::references::entry;
 use btf_open_causes::references::kind_at;
+use btf_type_table::kind;
 use btf_type_table::section_word::word;
 use spec_type_table::TypeTable;
 ghost use mathlib.Core.Path.{_≡_};
@@ -25,11 +27,11 @@ fn tag_on(b: TypeTable, section: &[u8], start: &[u32], x: u32) -> u32
     ensures { λ r. ⌜ r ≡ tagOn b (now (section .entry)) (now (start .entry)) x ⌝ }
 {
     let e = entry(b, start, x);
-    if e % 32 != 17 {
+    if e % 32 != kind::DECL_TAG {
         return 0;
     }
     let t = word(b, section, ((e / 32) as usize) + 8);
-    if kind_at(b, start, t) == 17 {
+    if kind_at(b, start, t) == kind::DECL_TAG {
         return 0;
     }
     t
@@ -84,7 +86,7 @@ pub fn number(ids: &mut [u32])
 {
     let mut c: u32 = 0;
     let mut x: usize = 0;
-    while x < 262145 {
+    while x < limit::TYPES_LEN {
         c = number_one(ids, x, c);
         x += 1;
     }

@@ -3,10 +3,14 @@ use crate::bases::base_at;
 use crate::bases::put_base;
 use crate::grammar::declarator;
 use crate::tokens::token;
+use base_bytes::limit;
 ghost use mathlib.Core.Path.{_≡_};
 ghost use lib.ListN.{length, replicate};
 ghost use Rattle.session_declaration_reader.specs.bases.Items.{placed};
 ghost use Rattle.session_declaration_reader.specs.reader.Encoding.{readInto};
+
+// Words of a chain: three for each of its entries.
+pub const CHAIN_WORDS: usize = 1536;
 
 // Sets every word to 0: an empty chain.
 fn refuse(chain: &mut [u64]) -> u32
@@ -38,7 +42,7 @@ pub fn read_declaration(text: &[u8], chain: &mut [u64]) -> u32
         return refuse(chain);
     }
     let n = put_base(chain, r.n, b, 1);
-    if 512 < n {
+    if limit::MOST_CALLS < n {
         return refuse(chain);
     }
     n

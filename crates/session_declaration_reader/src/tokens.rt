@@ -1,6 +1,7 @@
 // The tokens of a text, looked at from a place on. A token is told by its sign: 1 to 3 const, volatile and restrict; 4 struct,
 // union or enum; 5 void; 6 any other word; 7 a count; 16 more than the byte of a mark, 46 for `...` and 0 for what is no token;
 // and 0 where the text ends.
+use base_bytes::limit;
 use base_keywords::table::is_const;
 use base_keywords::table::is_dots;
 use base_keywords::table::is_enum;
@@ -93,11 +94,11 @@ fn count_value(run: &[u8]) -> u64
     ensures { λ r. ⌜ r ≡ countValue (now (run .entry)) ⌝ }
 {
     if run.len() == 0 {
-        return 4294967296;
+        return limit::TWO_TO_32;
     }
     if run[0] == 48 {
         if run.len() != 1 {
-            return 4294967296;
+            return limit::TWO_TO_32;
         }
         return 0;
     }
@@ -106,11 +107,11 @@ fn count_value(run: &[u8]) -> u64
     while i < run.len() {
         let b = run[i];
         if !is_digit(b) {
-            return 4294967296;
+            return limit::TWO_TO_32;
         }
         v = v * 10 + ((b - 48) as u64);
-        if 4294967295 < v {
-            return 4294967296;
+        if limit::LARGEST_64 < v {
+            return limit::TWO_TO_32;
         }
         i += 1;
     }
@@ -157,7 +158,7 @@ fn run_sign(run: &[u8]) -> u32
     if identifier(run) {
         return word_sign(run);
     }
-    if count_value(run) < 4294967296 {
+    if count_value(run) < limit::TWO_TO_32 {
         return 7;
     }
     if is_dots(run) {
@@ -174,7 +175,7 @@ fn run_count(run: &[u8]) -> u32
         return 0;
     }
     let v = count_value(run);
-    if v < 4294967296 {
+    if v < limit::TWO_TO_32 {
         return v as u32;
     }
     0

@@ -4,8 +4,11 @@ use crate::step::Shape;
 use crate::step::Step;
 use crate::step::entry_before;
 use crate::step::next_step;
+use base_bytes::limit;
+use base_bytes::refusal;
 use btf_layout::size::Ask;
 use btf_open_causes::header::btf_of;
+use btf_type_table::kind;
 use btf_type_table::kind::kind_of;
 use btf_type_table::node::type_by_id;
 use btf_type_table::section_word::array_type;
@@ -27,9 +30,10 @@ fn shape_of(b: TypeTable, section: &[u8], t: BtfType) -> Shape
     ensures { λ r. ⌜ shapeIs b (now (section .entry)) r ≡ shapeOf (typeOf b (now (section .entry)) t) ⌝ }
 {
     match kind_of(t.info) {
-        3 => Shape::Array(array_type(b, section, t)),
-        4 | 5 => Shape::Composite(t),
-        8 | 9 | 10 | 11 | 18 => Shape::Through(t.type_id),
+        kind::ARRAY => Shape::Array(array_type(b, section, t)),
+        kind::STRUCT | kind::UNION => Shape::Composite(t),
+        kind::TYPEDEF | kind::VOLATILE | kind::CONST | kind::RESTRICT | kind::TYPE_TAG =>
+            Shape::Through(t.type_id),
         _ => Shape::Plain,
     }
 }
@@ -74,19 +78,19 @@ fn walk(
     requires { ⌜ n ≤ 512 ⌝ }
     ensures { λ r. ⌜ ledTo (askOf r) (now (path .exit)) ≡ written (now (path .entry)) n (pathFrom (512 - n) (btfOf b (now (section .entry)) (now (work .entry))) id bit) ⌝ }
 {
-    let shape = behind(b, section, work, id, 512);
+    let shape = behind(b, section, work, id, limit::MOST_CALLS);
     match next_step(b, section, work, shape, bit) {
         Step::Stay => Ask::Got(n),
         Step::No(c) => Ask::No(c),
         Step::Field(k) => {
-            if n == 512 {
-                return Ask::No(12);
+            if n == limit::MOST_CALLS {
+                return Ask::No(refusal::TOO_DEEP);
             }
             entry_before(path, n, k, Ask::Got(n + 1))
         }
         Step::Enter(k, type_id, rest) => {
-            if n == 512 {
-                return Ask::No(12);
+            if n == limit::MOST_CALLS {
+                return Ask::No(refusal::TOO_DEEP);
             }
             let r = walk(b, section, work, path, type_id, rest, n + 1);
             entry_before(path, n, k, r)
@@ -99,10 +103,10 @@ fn answer_to(room: usize, len: u32) -> Answer
     ensures { λ r. ⌜ r ≡ answerTo room len ⌝ }
 {
     if len == 0 {
-        return Answer::Refused(21, 0);
+        return Answer::Refused(refusal::NO_FIELD, 0);
     }
     if room < (len as usize) {
-        return Answer::Refused(17, 0);
+        return Answer::Refused(refusal::TEXT_FULL, 0);
     }
     Answer::Accepted(len)
 }
@@ -119,7 +123,7 @@ fn find_field(
     ensures { λ r. ⌜ foundOf r (now (path .exit)) ≡ lentPath (now (path .entry)) (fieldPath (btfOf b (now (section .entry)) (now (work .entry))) id bit) ⌝ }
 {
     if !is_composite(b, section, type_by_id(b, section, work, id)) {
-        return Answer::Refused(21, 0);
+        return Answer::Refused(refusal::NO_FIELD, 0);
     }
     match walk(b, section, work, path, id, bit, 0) {
         Ask::Got(len) => answer_to(path.len() / 4, len),
@@ -140,10 +144,10 @@ pub fn which_field(
     ensures { λ r. ⌜ foundOf r (now (path .exit)) ≡ fieldCall s (now (section .entry)) (now (work .entry)) (now (path .entry)) id bit ⌝ }
 {
     if !is_current(s, section.len(), work.len(), s.text_len as usize) {
-        return Answer::Refused(11, 0);
+        return Answer::Refused(refusal::SESSION_CLOSED, 0);
     }
     if s.types <= id {
-        return Answer::Refused(10, 0);
+        return Answer::Refused(refusal::NO_SUCH_ID, 0);
     }
     let b = btf_of(section, s.pointer_size, s.modes, s.types);
     find_field(b, section, work, path, id, bit)

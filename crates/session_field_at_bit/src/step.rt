@@ -1,4 +1,5 @@
 // One step of the walk to the field that covers a bit: into a member, to a bit field or to a place of an array; and an entry of the path.
+use base_bytes::limit;
 use base_bytes::word::put_word;
 use btf_layout::member_end::member_end;
 use btf_layout::size::Ask;
@@ -102,7 +103,7 @@ fn place_of(t: u32, size: u32, bit: u32) -> Step
 fn find_place(b: TypeTable, section: &[u8], work: &[u8], t: u32, bit: u32) -> Step
     ensures { λ r. ⌜ stepIs r ≡ askThen (getSizeOf 512 (btfOf b (now (section .entry)) (now (work .entry))) t) (λ size. got (placed t size bit)) ⌝ }
 {
-    match get_size_of(b, section, work, t, 512) {
+    match get_size_of(b, section, work, t, limit::MOST_CALLS) {
         Ask::Got(size) => place_of(t, size, bit),
         Ask::No(c) => Step::No(c),
     }

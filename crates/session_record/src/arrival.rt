@@ -2,6 +2,8 @@
 use crate::settle::answer_of;
 use crate::settle::clear_from;
 use crate::settle::with_text;
+use base_bytes::limit;
+use base_bytes::refusal;
 use base_bytes::word::clear;
 use spec_session::session::Reached;
 use spec_session::session::Session;
@@ -18,20 +20,24 @@ ghost use Rattle.session_record.specs.arrival.Arrival.{clipped, arrivedI
 pub fn limit(text_len: usize, from: usize) -> usize
     ensures { λ r. ⌜ r ≡ limitOf «text_len» from ⌝ }
 {
-    if text_len <= 1073741824 {
+    if text_len <= limit::MOST_TEXT {
         return text_len;
     }
-    if from <= 1073741824 { 1073741824 } else { from }
+    if from <= limit::MOST_TEXT {
+        limit::MOST_TEXT
+    } else {
+        from
+    }
 }
 
 // A sum of 32 bits, or the largest such number.
 fn sum(a: u32, n: usize) -> u32
     ensures { λ r. ⌜ r ≡ clipped (a + n) ⌝ }
 {
-    if n <= ((4294967295 - a) as usize) {
+    if n <= ((limit::LARGEST - a) as usize) {
         a + (n as u32)
     } else {
-        4294967295
+        limit::LARGEST
     }
 }
 
@@ -58,10 +64,10 @@ pub fn count_of(ids: &[u8]) -> u32
     ensures { λ r. ⌜ r ≡ countIn (now (ids .entry)) ⌝ }
 {
     let n = ids.len() / 4;
-    if n <= 4294967295 {
+    if n <= limit::LARGEST_LEN {
         n as u32
     } else {
-        4294967295
+        limit::LARGEST
     }
 }
 
@@ -81,7 +87,7 @@ pub fn settle_list(s: Session, work: &mut [u8], text: &mut [u8], r: Tally) -> Tu
 {
     let len = r.len;
     let answer = answer_of(r.number, r.accepted);
-    if r.number <= 10 {
+    if r.number <= refusal::NO_SUCH_ID {
         clear_after(text, r.accepted, len);
         return Turn {
             session: with_text(s, true, len, r.visits),

@@ -3,6 +3,7 @@ use crate::record_words::encode;
 use crate::record_words::number_and_value;
 use crate::record_words::put_reached;
 use crate::record_words::shut;
+use base_bytes::refusal;
 use spec_session::session::Answer;
 use spec_session::session::Turn;
 ghost use mathlib.Core.Path.{_≡_};
@@ -39,7 +40,7 @@ fn store(record: &mut [u8], t: Turn)
 fn store_refused(record: &mut [u8], number: u32, len: u32, visits: u32)
     ensures { λ _. ⌜ now («record» .exit) ≡ recordRefused number len visits (now («record» .entry)) ⌝ }
 {
-    if number < 12 {
+    if number < refusal::TOO_DEEP {
         return;
     }
     shut(record);
@@ -67,7 +68,7 @@ fn store_longer(record: &mut [u8], accepted: u32, len: u32, visits: u32)
 fn store_stopped(record: &mut [u8], number: u32, accepted: u32, len: u32, visits: u32)
     ensures { λ _. ⌜ now («record» .exit) ≡ recordListed number accepted len visits (now («record» .entry)) ⌝ }
 {
-    if number > 11 {
+    if number > refusal::SESSION_CLOSED {
         store_refused(record, number, len, visits);
         return;
     }

@@ -1,6 +1,7 @@
 // The session record as it crosses to C: sixteen words of 64 bits, least significant byte first: open, section length, work
 // length, types, enumerators, text length, pointer size, modes, visits, and seven of zero. An answer is its number in the upper half
 // of 64 bits and its value in the lower.
+use base_bytes::limit;
 use base_bytes::word::get_word;
 use base_bytes::word::put_word;
 use spec_session::session::Answer;
@@ -9,12 +10,22 @@ ghost use mathlib.Core.Path.{_≡_};
 ghost use Prim.Native.Nat.{_<_};
 ghost use Rattle.session_record.specs.record_words.Words.{packed, getLong, putLong, putReached, decoded, encodedLast, encoded, unusedZero};
 
+// Bytes of the record.
+pub const RECORD_BYTES: usize = 128;
+
+// Answers of a refusal and the value 0: 11, 19, and 255 for a slice that is shorter than C promises.
+pub const ANSWER_CLOSED: u64 = 47244640256;
+
+pub const ANSWER_NO_DECLARATION: u64 = 81604378624;
+
+pub const ANSWER_SHORT_SLICE: u64 = 1095216660480;
+
 pub fn number_and_value(a: Answer) -> u64
     ensures { λ r. ⌜ r ≡ packed a ⌝ }
 {
     match a {
         Answer::Accepted(value) => value as u64,
-        Answer::Refused(number, value) => (number as u64) * 4294967296 + (value as u64),
+        Answer::Refused(number, value) => (number as u64) * limit::TWO_TO_32 + (value as u64),
     }
 }
 
@@ -25,15 +36,15 @@ fn get_long(record: &[u8], i: usize) -> u64
 {
     let low = get_word(record, i * 2);
     let high = get_word(record, i * 2 + 1);
-    (high as u64) * 4294967296 + (low as u64)
+    (high as u64) * limit::TWO_TO_32 + (low as u64)
 }
 
 fn put_long(record: &mut [u8], i: usize, v: u64)
     requires { ⌜ i < 16 ⌝ }
     ensures { λ _. ⌜ now («record» .exit) ≡ putLong (now («record» .entry)) i v ⌝ }
 {
-    put_word(record, i * 2, (v % 4294967296) as u32);
-    put_word(record, i * 2 + 1, (v / 4294967296) as u32);
+    put_word(record, i * 2, (v % limit::TWO_TO_32) as u32);
+    put_word(record, i * 2 + 1, (v / limit::TWO_TO_32) as u32);
 }
 
 // A record that is closed: its first word is 0.

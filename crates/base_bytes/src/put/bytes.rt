@@ -1,6 +1,7 @@
 // Text in a slice that the caller lends. A place past the end of the slice by 1 + c says that the writing was stopped by
 // refusal c. From such a place nothing is written, and it stays: so an emitter is straight code, and only whoever asked
 // for the text looks whether it was stopped.
+use crate::refusal;
 ghost use mathlib.Core.Path.{_≡_};
 ghost use Prim.Native.Nat.{min};
 ghost use mathlib.Core.List.{_∷_, []};
@@ -31,7 +32,7 @@ pub fn put_bytes(text: &mut [u8], at: usize, src: &[u8]) -> usize
         return at;
     }
     if text.len() - at < src.len() {
-        return text.len() + 18;
+        return text.len() + refusal::FULL_PLACE;
     }
     let mut j = 0;
     while j < src.len() {
@@ -49,7 +50,7 @@ pub fn put_byte(text: &mut [u8], at: usize, b: u8) -> usize
         return at;
     }
     if text.len() == at {
-        return text.len() + 18;
+        return text.len() + refusal::FULL_PLACE;
     }
     text[at] = b;
     at + 1
@@ -63,7 +64,7 @@ pub fn put_two(text: &mut [u8], at: usize, a: u8, b: u8) -> usize
         return at;
     }
     if text.len() - at < 2 {
-        return text.len() + 18;
+        return text.len() + refusal::FULL_PLACE;
     }
     text[at] = a;
     text[at + 1] = b;
@@ -78,7 +79,7 @@ pub fn put_three(text: &mut [u8], at: usize, a: u8, b: u8, c: u8) -> usize
         return at;
     }
     if text.len() - at < 3 {
-        return text.len() + 18;
+        return text.len() + refusal::FULL_PLACE;
     }
     text[at] = a;
     text[at + 1] = b;

@@ -1,4 +1,6 @@
 // Types by id, through the index, and the ids that they follow.
+use base_bytes::limit;
+use btf_type_table::kind;
 use btf_type_table::kind::member_place;
 use btf_type_table::kind::param_place;
 use btf_type_table::kind::vlen_of;
@@ -15,7 +17,11 @@ pub fn count(b: TypeTable) -> u32
     ensures { λ r. ⌜ r ≡ countOf b ⌝ }
 {
     let n = b.types;
-    if n < 262145 { n } else { 262145 }
+    if n < limit::MOST_TYPES {
+        n
+    } else {
+        limit::MOST_TYPES
+    }
 }
 
 // The entry of type x in the index: its place * 32 + its kind. Void, and what lies past the table, has 0.
@@ -53,9 +59,15 @@ pub fn count_at(b: TypeTable, section: &[u8], kind: u32, at: u32) -> u32
     ensures { λ r. ⌜ r ≡ countAt b (now (section .entry)) kind at ⌝ }
 {
     match kind {
-        2 | 3 | 8 | 9 | 10 | 11 | 18 => 1,
-        4 | 5 => vlen_at(b, section, at),
-        13 => vlen_at(b, section, at) + 1,
+        kind::PTR
+        | kind::ARRAY
+        | kind::TYPEDEF
+        | kind::VOLATILE
+        | kind::CONST
+        | kind::RESTRICT
+        | kind::TYPE_TAG => 1,
+        kind::STRUCT | kind::UNION => vlen_at(b, section, at),
+        kind::FUNC_PROTO => vlen_at(b, section, at) + 1,
         _ => 0,
     }
 }
@@ -66,9 +78,9 @@ fn id_place(kind: u32, at: u32, k: u32) -> usize
 {
     let e = Entries { at: at, vlen: 0 };
     match kind {
-        3 => (at as usize) + 12,
-        4 | 5 => member_place(e, k) + 4,
-        13 => {
+        kind::ARRAY => (at as usize) + 12,
+        kind::STRUCT | kind::UNION => member_place(e, k) + 4,
+        kind::FUNC_PROTO => {
             if k == 0 {
                 return (at as usize) + 8;
             }

@@ -4,6 +4,7 @@ use crate::references::index::count_at;
 use crate::references::index::entry;
 use crate::references::index::id_at;
 use crate::references::index::kind_at;
+use btf_type_table::kind;
 use spec_type_table::TypeTable;
 ghost use mathlib.Core.Path.{_≡_};
 ghost use Rattle.btf_open_causes.specs.references.References.{isBad, isSomeBad, hasBadReference};
@@ -16,7 +17,7 @@ fn is_bad(b: TypeTable, start: &[u32], y: u32) -> bool
         return true;
     }
     match kind_at(b, start, y) {
-        12 | 14 | 15 | 17 => true,
+        kind::FUNC | kind::VAR | kind::DATASEC | kind::DECL_TAG => true,
         _ => false,
     }
 }

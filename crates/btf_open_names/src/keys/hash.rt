@@ -1,4 +1,5 @@
 // Names by content: whether two are the same, and a hash.
+use base_bytes::limit;
 ghost use mathlib.Core.Path.{_≡_};
 ghost use Prim.Native.Nat.{_+_};
 ghost use lib.ListN.{getD};
@@ -44,7 +45,7 @@ pub fn same_name(section: &[u8], a: usize, b: usize) -> bool
 pub fn hash_step(acc: u32, x: u8) -> u32
     ensures { λ r. ⌜ r ≡ stepOf acc x ⌝ }
 {
-    (((acc as u64) * 16777619 + (x as u64)) % 4294967296) as u32
+    (((acc as u64) * 16777619 + (x as u64)) % limit::TWO_TO_32) as u32
 }
 
 // The hash of a name, after `start`.

@@ -3,6 +3,7 @@
 use crate::keys::hash::same_name;
 use base_bytes::word::get_word;
 use btf_type_table::cell::holder_word;
+use btf_type_table::kind;
 use btf_type_table::kind::kind_of;
 use btf_type_table::section_word::word;
 use spec_type_table::TypeTable;
@@ -15,8 +16,8 @@ fn space_of(kind: u32) -> u32
     ensures { λ r. ⌜ r ≡ spaceOf kind ⌝ }
 {
     match kind {
-        4..=7 | 19 => 0,
-        8 => 1,
+        kind::STRUCT..=kind::FWD | kind::ENUM64 => 0,
+        kind::TYPEDEF => 1,
         _ => 2,
     }
 }

@@ -1,6 +1,7 @@
 // Names that end in three underscores and a number.
 use crate::keys::byte_at;
 use crate::keys::hash_step;
+use base_bytes::limit;
 ghost use mathlib.Core.Path.{_≡_};
 ghost use Rattle.spec_type_table.specs.Names.{nameAt};
 ghost use Rattle.btf_open_names.specs.filled_work.Takers.{digitAfter, numeral, suffixIn, suffixOn, anySuffix};
@@ -17,7 +18,7 @@ fn digit_after(acc: u32, x: u8) -> u32
         return 0;
     }
     let v = (acc as u64) * 10 + ((x - 48) as u64);
-    if 4294967295 < v {
+    if limit::LARGEST_64 < v {
         return 0;
     }
     v as u32

@@ -4,6 +4,7 @@ use crate::suffixes::base_of;
 use crate::suffixes::hash_before;
 use crate::suffixes::key_suffix;
 use base_bytes::word::get_word;
+use btf_type_table::cell;
 use btf_type_table::cell::holder_word;
 use spec_type_table::TypeTable;
 ghost use mathlib.Core.Path.{_≡_};
@@ -19,12 +20,18 @@ fn base_in(b: TypeTable, section: &[u8], work: &[u8], n: u32, h: u32) -> u32
 {
     let key = load_key(b, section, work, h);
     let i = hash_before(section, key.name, key.space) % n;
-    let mut c = get_word(work, holder_word(b.types, 11, 5, i));
+    let mut c = get_word(
+        work,
+        holder_word(b.types, cell::TABLE_BUCKET, cell::VALUE_TABLE_BUCKET, i),
+    );
     while c != 0 {
         if 2 <= key_suffix(section, load_key(b, section, work, c), key) {
             return c;
         }
-        c = get_word(work, holder_word(b.types, 13, 7, c));
+        c = get_word(
+            work,
+            holder_word(b.types, cell::TABLE_LINK, cell::VALUE_TABLE_LINK, c),
+        );
     }
     0
 }

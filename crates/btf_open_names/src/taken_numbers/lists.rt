@@ -5,8 +5,10 @@ use crate::keys::load_key;
 use crate::suffixes::is_suffixed;
 use crate::suffixes::key_suffix;
 use crate::taken_numbers::bases::base;
+use base_bytes::limit;
 use base_bytes::word::get_word;
 use base_bytes::word::put_word;
+use btf_type_table::cell;
 use btf_type_table::cell::holder_word;
 use spec_type_table::TypeTable;
 ghost use mathlib.Core.Path.{_≡_};
@@ -21,10 +23,18 @@ fn put_on(b: TypeTable, section: &[u8], work: &mut [u8], c: u32, h: u32)
 {
     let key = load_key(b, section, work, h);
     let m = key_suffix(section, load_key(b, section, work, c), key);
-    let at = holder_word(b.types, 7, 3, c);
+    let at = holder_word(b.types, cell::FIRST_TAKER, cell::VALUE_FIRST_TAKER, c);
     let old = get_word(work, at);
-    put_word(work, holder_word(b.types, 8, 4, h), old);
-    put_word(work, holder_word(b.types, 14, 6, h), m);
+    put_word(
+        work,
+        holder_word(b.types, cell::NEXT_TAKER, cell::VALUE_NEXT_TAKER, h),
+        old,
+    );
+    put_word(
+        work,
+        holder_word(b.types, cell::TAKEN_NUMBER, cell::VALUE_TAKEN_NUMBER, h),
+        m,
+    );
     put_word(work, at, h);
 }
 
@@ -33,7 +43,12 @@ fn put_taker(b: TypeTable, section: &[u8], work: &mut [u8], n: u32, h: u32, has_
     requires { ⌜ (h < n) × TableIf «has_table» b (now section) (now work) n ⌝ }
     ensures { λ _. ⌜ now (work .exit) ≡ takerPut b (now (section .entry)) n h (now (work .entry)) ⌝ }
 {
-    if get_word(work, holder_word(b.types, 5, 1, h)) != h {
+    if get_word(
+        work,
+        holder_word(b.types, cell::NAME_CLASS, cell::VALUE_CLASS, h),
+    )
+        != h
+    {
         return;
     }
     if !is_suffixed(section, load_key(b, section, work, h)) {
@@ -51,7 +66,7 @@ fn put_takers(b: TypeTable, section: &[u8], enumerators: u32, work: &mut [u8])
     ensures { λ _. ⌜ now (work .exit) ≡ withTakers b enumerators (now (section .entry)) (now (work .entry)) ⌝ }
 {
     let types = b.types;
-    if 4294967295 - types < enumerators {
+    if limit::LARGEST - types < enumerators {
         return;
     }
     let n = types + enumerators;

@@ -18,6 +18,7 @@ use c_dumper_name_versions::forwards::put_keyword;
 use c_dumper_name_versions::names::put_name;
 use c_dumper_name_versions::names::put_sep_name;
 use c_dumper_name_versions::names::resolve_type_name;
+use c_dumper_name_versions::tags::WHOLE_TYPE;
 use c_dumper_name_versions::tags::emit_decl_tags;
 use spec_type_table::BtfMember;
 use spec_type_table::BtfType;
@@ -156,5 +157,5 @@ pub fn emit_composite_end(
     let c = put_tabs(text, a, lvl);
     let d = put_byte(text, c, b'}');
     let e = put_packed(text, d, packed);
-    emit_decl_tags(b, section, work, text, e, id, 4294967295)
+    emit_decl_tags(b, section, work, text, e, id, WHOLE_TYPE)
 }

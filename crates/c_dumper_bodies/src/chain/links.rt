@@ -1,6 +1,8 @@
 // The declarator chain: from a type through pointers, arrays, qualifiers, prototypes and type tags to its base. A chain is
 // only popped, so it is kept as the id that it starts from and how many entries it has: entry k is k steps from there.
+use base_bytes::refusal;
 use btf_layout::size::Ask;
+use btf_type_table::kind;
 use btf_type_table::kind::kind_of;
 use btf_type_table::node::type_by_id;
 use btf_type_table::section_word::array_type;
@@ -18,7 +20,11 @@ fn is_link(kind: u32) -> bool
     ensures { λ r. ⌜ r ≡ chains.isLink kind ⌝ }
 {
     match kind {
-        2 | 3 | 9..=11 | 13 | 18 => true,
+        kind::PTR
+        | kind::ARRAY
+        | kind::VOLATILE..=kind::RESTRICT
+        | kind::FUNC_PROTO
+        | kind::TYPE_TAG => true,
         _ => false,
     }
 }
@@ -27,7 +33,7 @@ fn is_link(kind: u32) -> bool
 fn next_of(b: TypeTable, section: &[u8], t: BtfType) -> u32
     ensures { λ r. ⌜ r ≡ nextOf b (now (section .entry)) t ⌝ }
 {
-    if kind_of(t.info) == 3 {
+    if kind_of(t.info) == kind::ARRAY {
         return array_type(b, section, t);
     }
     t.type_id
@@ -47,7 +53,7 @@ pub fn chain_len(b: TypeTable, section: &[u8], work: &[u8], start: u32) -> Ask
         id = next_of(b, section, t);
         n += 1;
     }
-    Ask::No(12)
+    Ask::No(refusal::TOO_DEEP)
 }
 
 // The id of entry k.
@@ -78,7 +84,7 @@ pub fn is_qualifier(kind: u32) -> bool
     ensures { λ r. ⌜ r ≡ chains.isQualifier kind ⌝ }
 {
     match kind {
-        9..=11 => true,
+        kind::VOLATILE..=kind::RESTRICT => true,
         _ => false,
     }
 }

@@ -168,3 +168,7 @@ module _ (b : TypeTable) (s w : List ℕ) (id comp : ℕ) (text₀ : List ℕ) (
 
         one-more : (g : ℕ) → y ≡ getField w x 10 → putText t′ n (whole (declTags (btfOf b s w) comp (tagsFrom g (b .types) w x y))) ≡ putText text p (whole (declTags (btfOf b s w) comp (x ∷ tagsFrom g (b .types) w x (getField w x 10))))
         one-more g e = join-one (tagsFrom g (b .types) w x y) ∙ ap (λ (z : ℕ). putText text p (whole (declTags (btfOf b s w) comp (x ∷ tagsFrom g (b .types) w x z)))) e
+
+  -- without a first tag there is none
+  pub tags-none : (x : ℕ) → x ≡ getField w id 9 → x ≡ 0 → putOut at text₀ ≡ putText text₀ at (whole (declTags (btfOf b s w) comp (btfOf b s w .decl-tags id)))
+  tags-none x e z = tags-end text₀ at 0 x (tags-start x e) (omega (arith, z))

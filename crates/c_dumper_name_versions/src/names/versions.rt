@@ -1,9 +1,11 @@
 // Names as they are printed. The first holder of a name prints it bare; the n-th, from 2 on, adds three underscores and n, or a
 // later number where opening listed numbers that are passed over.
+use base_bytes::limit;
 use base_bytes::put::put_byte;
 use base_bytes::put::put_decimal;
 use base_keywords::table::put_underscores;
 use btf_open_names::numbers::get_number;
+use btf_type_table::cell;
 use btf_type_table::cell::get_field;
 use btf_type_table::cell::put_field;
 use btf_type_table::name::is_empty;
@@ -42,7 +44,7 @@ pub fn resolve_type_name(b: TypeTable, section: &[u8], work: &mut [u8], id: u32,
     if is_empty(b, section, off) {
         return bare(off);
     }
-    let version = get_field(work, id, 4);
+    let version = get_field(work, id, cell::NAME_VERSION);
     if version != 0 {
         return Name {
             off: off,
@@ -50,7 +52,7 @@ pub fn resolve_type_name(b: TypeTable, section: &[u8], work: &mut [u8], id: u32,
         };
     }
     let n = get_number(work, b.types, id);
-    put_field(work, id, 4, n);
+    put_field(work, id, cell::NAME_VERSION, n);
     Name {
         off: off,
         version: n,
@@ -62,7 +64,7 @@ pub fn resolve_name(b: TypeTable, work: &mut [u8], e: u32, off: u32) -> Name
     ensures { λ r. ⌜ (r .off ≡ off) × (r .version ≡ valueVersionIn (b .types) e (now (work .entry)) .version) × (now (work .exit) ≡ valueVersionIn (b .types) e (now (work .entry)) .names) ⌝ }
 {
     let h = (b.types as u64) + (e as u64);
-    if h < 4294967296 {
+    if h < limit::TWO_TO_32 {
         return Name {
             off: off,
             version: get_number(work, b.types, h as u32),

@@ -1,5 +1,6 @@
 // Where the new names stand, and which words are the first to mention theirs: there the place is the length so far. The table has nearly all of them;
 // the plain way is for those that it does not take.
+use base_bytes::limit;
 use btf_open_causes::references::count;
 use btf_open_causes::references::entry;
 use btf_type_table::name::get_btf_str;
@@ -56,7 +57,7 @@ pub(crate) fn is_first(
     if v == 0 {
         return is_new(b, section, start, ids, x, e, j);
     }
-    v / 4294967296 == (len as u64)
+    v / limit::TWO_TO_32 == (len as u64)
 }
 
 // The length of the strings with the name of word j, if it is new.
@@ -160,7 +161,7 @@ pub(crate) fn place_of(
     ensures { λ r. ⌜ r ≡ placeOf b (now (section .entry)) (now (start .entry)) (now (ids .entry)) (now (bases .entry)) off ⌝ }
 {
     if v != 0 {
-        return (v / 4294967296) as u32;
+        return (v / limit::TWO_TO_32) as u32;
     }
     if new {
         return len;
@@ -168,5 +169,5 @@ pub(crate) fn place_of(
     if is_empty(b, section, off) {
         return 0;
     }
-    (place_from(b, section, start, ids, bases, table, off) % 4294967296) as u32
+    (place_from(b, section, start, ids, bases, table, off) % limit::TWO_TO_32) as u32
 }

@@ -4,9 +4,11 @@ use crate::writer::names::is_first;
 use crate::writer::names::longer;
 use crate::writer::names::place_of;
 use crate::writer::names::seek;
+use base_bytes::limit;
 use base_bytes::put::put_two;
 use btf_open_causes::references::count;
 use btf_open_causes::references::entry;
+use session_cut_marks::interned::SLOTS_LEN;
 use session_cut_marks::interned::fill_table;
 use session_cut_marks::mentioned::peek;
 use session_cut_marks::roles::role;
@@ -228,17 +230,17 @@ fn byte_at(l: &[u8], i: usize) -> u8
 pub fn write_kept(b: TypeTable, section: &[u8], start: &[u32], ids: &[u32], out: &mut [u8]) -> u64
     ensures { λ r. ⌜ wroteOf r (now (out .exit)) ≡ keptWritten b (now (section .entry)) (now (start .entry)) (now (ids .entry)) (now (out .entry)) ⌝ }
 {
-    if 16777216 < section.len() {
+    if limit::MOST_BYTES < section.len() {
         return 0;
     }
-    let mut bases = [0u32; 262145];
-    let mut table = [0u64; 262144];
+    let mut bases = [0u32; limit::TYPES_LEN];
+    let mut table = [0u64; SLOTS_LEN];
     let strings = fill_table(b, section, start, ids, &mut table, &mut bases);
     let types = types_size(b, section, start, ids);
-    if 16777216 < strings {
+    if limit::MOST_BYTES_32 < strings {
         return 0;
     }
-    if 16777216 < types {
+    if limit::MOST_BYTES_64 < types {
         return 0;
     }
     write_fitting(
@@ -269,7 +271,7 @@ fn write_fitting(
     ensures { λ r. ⌜ wroteOf r (now (out .exit)) ≡ fittingWritten b (now (section .entry)) (now (start .entry)) (now (ids .entry)) (now (bases .entry)) types strings (now (out .entry)) ⌝ }
 {
     let len = 24 + types + strings;
-    if 16777216 < len {
+    if limit::MOST_BYTES_32 < len {
         return 0;
     }
     if out.len() < (len as usize) {

@@ -5,6 +5,7 @@ use crate::mentioned::peek;
 use crate::roles::role;
 use crate::roles::word_of;
 use crate::roles::words_in;
+use base_bytes::limit;
 use btf_open_causes::references::count;
 use btf_open_causes::references::entry;
 use btf_type_table::name::get_btf_str;
@@ -61,7 +62,7 @@ fn settle(
     if table[at] != 0 {
         return len;
     }
-    table[at] = (off as u64) + (len as u64) * 4294967296;
+    table[at] = (off as u64) + (len as u64) * limit::TWO_TO_32;
     len + size(b, section, off)
 }
 
@@ -80,7 +81,7 @@ fn enter(
     requires { ⌜ length (now section) ≤ 16777216 ⌝ }
     ensures { λ r. ⌜ filledOf r (now (table .exit)) ≡ entered b (now (section .entry)) (now (start .entry)) (now (ids .entry)) x e j len (now (table .entry)) ⌝ }
 {
-    if 16777216 < len {
+    if limit::MOST_BYTES_32 < len {
         return len;
     }
     if role(e % 32, j) != 1 {
@@ -157,7 +158,7 @@ pub fn fill_table(
 ) -> u32
     ensures { λ r. ⌜ fillingOf (filledOf r (now (table .exit))) (now (lengths .exit)) ≡ filling b (now (section .entry)) (now (start .entry)) (now (ids .entry)) (now (table .entry)) (now (lengths .entry)) ⌝ }
 {
-    if 16777216 < section.len() {
+    if limit::MOST_BYTES < section.len() {
         return 0;
     }
     let n = count(b);

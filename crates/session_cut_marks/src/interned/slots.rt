@@ -1,5 +1,7 @@
 // Where a name stands in the table, and what the table has for it.
+use crate::interned::SLOTS;
 use crate::mentioned::same_name;
+use base_bytes::limit;
 use btf_open_names::keys::hash_name;
 use spec_type_table::TypeTable;
 ghost use mathlib.Core.Path.{_≡_};
@@ -25,23 +27,23 @@ fn stops(b: TypeTable, section: &[u8], table: &[u64], off: u32, i: u32) -> bool
     if v == 0 {
         return true;
     }
-    same_name(b, section, (v % 4294967296) as u32, off)
+    same_name(b, section, (v % limit::TWO_TO_32) as u32, off)
 }
 
 // The slot of a name, or 262,144.
 pub(crate) fn slot_of(b: TypeTable, section: &[u8], table: &[u64], off: u32) -> u32
     ensures { λ r. ⌜ r ≡ slotOf b (now (section .entry)) (now (table .entry)) off ⌝ }
 {
-    let mut i = hash_name(section, (b.strs as usize) + (off as usize), 0) % 262144;
-    let mut k: u32 = 262144;
+    let mut i = hash_name(section, (b.strs as usize) + (off as usize), 0) % SLOTS;
+    let mut k: u32 = SLOTS;
     while 0 < k {
         if stops(b, section, table, off, i) {
             return i;
         }
-        i = (i + 1) % 262144;
+        i = (i + 1) % SLOTS;
         k -= 1;
     }
-    262144
+    SLOTS
 }
 
 // What the table has for a name: its place times 2 ^ 32 and an offset of it, or 0.

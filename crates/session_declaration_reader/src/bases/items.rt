@@ -2,6 +2,7 @@
 use crate::bases::Base;
 use crate::bases::Quals;
 use crate::bases::is_qualifier;
+use base_bytes::limit;
 ghost use mathlib.Core.Path.{_≡_};
 ghost use mathlib.Core.List.{[], _∷_};
 ghost use Prim.Native.Nat.{_-_};
@@ -19,7 +20,7 @@ pub struct Spot {
 pub fn put_item(chain: &mut [u64], n: u32, kind: u64, x: u64, y: u64) -> u32
     ensures { λ r. ⌜ placed r (now (chain .exit)) ≡ placing (now (chain .entry)) n (item kind x y ∷ []) ⌝ }
 {
-    if 512 <= n {
+    if limit::MOST_CALLS <= n {
         return 513;
     }
     let i = (n as usize) * 3;

@@ -12,10 +12,13 @@ use borrow.Fn.Kinds.{In}
 use borrow.Fn.PlainCycle.{Measures, is, falls, and}
 use Rattle.btf_layout.proofs.align_of.align_once.Reads as align-once
 use Rattle.btf_layout.proofs.align_of.align_once.Kinds as align-once-kinds
-use Rattle.btf_layout.proofs.align_of.+align_once+members_once.Lts-align_once as align-once-lts
+use Rattle.btf_layout.proofs.align_of.+align_once+get_align_of+members_once.Lts-align_once as align-once-lts
+use Rattle.btf_layout.proofs.align_of.get_align_of.Reads as get-align-of
+use Rattle.btf_layout.proofs.align_of.get_align_of.Kinds as get-align-of-kinds
+use Rattle.btf_layout.proofs.align_of.+align_once+get_align_of+members_once.Lts-get_align_of as get-align-of-lts
 use Rattle.btf_layout.proofs.align_of.members_once.Reads as members-once
 use Rattle.btf_layout.proofs.align_of.members_once.Kinds as members-once-kinds
-use Rattle.btf_layout.proofs.align_of.+align_once+members_once.Lts-members_once as members-once-lts
+use Rattle.btf_layout.proofs.align_of.+align_once+get_align_of+members_once.Lts-members_once as members-once-lts
 use Rattle.btf_type_table.proofs.kind.member_place.Reads as member-place-reads
 use Rattle.btf_type_table.proofs.node.type_by_id.Reads as type-by-id-reads
 use Rattle.btf_type_table.proofs.section_word.word.Reads as word-reads
@@ -24,14 +27,17 @@ use Rattle.btf_layout.proofs.align_of.seen_word.Reads as seen-word-read
 use Rattle.btf_layout.proofs.align_of.step_of.Reads as step-of-reads
 use Rattle.btf_layout.proofs.align_of.taken.Reads as taken-reads
 use Rattle.btf_layout.proofs.bounds.larger.Reads as larger-reads
-use Rattle.btf_layout.proofs.align_of.+align_once+members_once.{statement}
-use Rattle.btf_layout.proofs.align_of.+align_once+members_once.Tie.{close}
+use Rattle.btf_layout.proofs.align_of.+align_once+get_align_of+members_once.{statement}
+use Rattle.btf_layout.proofs.align_of.+align_once+get_align_of+members_once.Tie.{close}
 
 abbrev μ-align-once : Measures 2 align-once-kinds.ps ℕ
-μ-align-once κs a = a .1 .1 .1 .1 .0 + a .1 .1 .1 .1 .0
+μ-align-once κs a = a .1 .1 .1 .1 .0 + a .1 .1 .1 .1 .0 + a .1 .1 .1 .1 .0
+
+abbrev μ-get-align-of : Measures 2 get-align-of-kinds.ps ℕ
+μ-get-align-of κs a = a .1 .1 .1 .1 .0 + a .1 .1 .1 .1 .0 + a .1 .1 .1 .1 .0 + 1
 
 abbrev μ-members-once : Measures 2 members-once-kinds.ps ℕ
-μ-members-once κs a = a .1 .1 .1 .1 .0 + a .1 .1 .1 .1 .0 + 1
+μ-members-once κs a = a .1 .1 .1 .1 .0 + a .1 .1 .1 .1 .0 + a .1 .1 .1 .1 .0 + 2
 
 abbrev align-once-at : ℕ → In 2 align-once-kinds.ps
 align-once-at t =
@@ -40,6 +46,14 @@ align-once-at t =
 abbrev align-once-below : ℕ → In 2 align-once-kinds.ps
 align-once-below t =
     and 2 align-once-kinds.ps (falls 2 align-once-kinds.ps _<_ μ-align-once t) align-once.Pre
+
+abbrev get-align-of-at : ℕ → In 2 get-align-of-kinds.ps
+get-align-of-at t =
+    and 2 get-align-of-kinds.ps (is 2 get-align-of-kinds.ps μ-get-align-of t) get-align-of.Pre
+
+abbrev get-align-of-below : ℕ → In 2 get-align-of-kinds.ps
+get-align-of-below t =
+    and 2 get-align-of-kinds.ps (falls 2 get-align-of-kinds.ps _<_ μ-get-align-of t) get-align-of.Pre
 
 abbrev members-once-at : ℕ → In 2 members-once-kinds.ps
 members-once-at t =
@@ -71,14 +85,24 @@ align-once-claims t = (
   members-once.Post,
 )
 
+abbrev get-align-of-claims : ℕ → get-align-of-lts.Claims
+get-align-of-claims t = (
+  seen-word-reads.Asked,
+  seen-word-reads.Learnt,
+  taken-reads.Asked,
+  taken-reads.Learnt,
+  align-once-below t,
+  align-once.Post,
+)
+
 abbrev members-once-claims : ℕ → members-once-lts.Claims
 members-once-claims t = (
   member-place-reads.Asked,
   member-place-reads.Learnt,
   word-reads.Asked,
   word-reads.Learnt,
-  align-once-below t,
-  align-once.Post,
+  get-align-of-below t,
+  get-align-of.Post,
   larger-reads.Asked,
   larger-reads.Learnt,
 )
@@ -152,6 +176,30 @@ align-once-same-length-4 t c = c .before .before .keep-once3 .kept .1 .0 ∙ c .
 align-once-returns-5 : (t : ℕ) → align-once-lts.Need-returns-5 (align-once-claims t) (align-once-at t) align-once.Post
 align-once-returns-5 t c = once-members _ _ _ _ _ _ (c .before .before .before .before .before .before .before .before .before .before .before .before .before .before .before .before .before .if1 .left) (c .before .before .before .before .before .before .before .before .before .before .before .before .before .before .before .seen-word .ensures) (c .before .before .before .before .before .before .before .before .before .before .before .before .before .before .if2 .left) _ (c .before .before .before .before .before .before .before .before .before .before .before .before .type-by-id .ensures) _ (c .before .before .before .before .before .before .before .before .before .before .before .step-of .ensures) _ (c .before .before .before .before .before .before .before .before .before .e .given .1) _ _ (c .before .before .before .before .before .before .members-once .ensures) _ _ (c .before .before .keep-once3 .ensures)
 
+get-align-of-returns : (t : ℕ) → get-align-of-lts.Need-returns (get-align-of-claims t) (get-align-of-at t) get-align-of.Post
+get-align-of-returns t c = once-deep _ _ _ _ _ (c .if1 .taken)
+
+get-align-of-seen-word-requires : (t : ℕ) → get-align-of-lts.Need-seen-word-requires (get-align-of-claims t) (get-align-of-at t) get-align-of.Post
+get-align-of-seen-word-requires t c κs = search needs
+
+get-align-of-taken-requires : (t : ℕ) → get-align-of-lts.Need-taken-requires (get-align-of-claims t) (get-align-of-at t) get-align-of.Post
+get-align-of-taken-requires t c κs = search needs
+
+get-align-of-same-length : (t : ℕ) → get-align-of-lts.Need-same-length (get-align-of-claims t) (get-align-of-at t) get-align-of.Post
+get-align-of-same-length t c = search needs
+
+get-align-of-returns-2 : (t : ℕ) → get-align-of-lts.Need-returns-2 (get-align-of-claims t) (get-align-of-at t) get-align-of.Post
+get-align-of-returns-2 t c = once-taken _ _ _ _ _ (c .before .before .before .before .if1 .left) _ (c .before .before .seen-word .ensures) (c .before .if2 .taken) _ (c .taken .ensures)
+
+get-align-of-align-once-requires : (t : ℕ) → get-align-of-lts.Need-align-once-requires (get-align-of-claims t) (get-align-of-at t) get-align-of.Post
+get-align-of-align-once-requires t c κs = (omega arith, tt)
+
+get-align-of-same-length-2 : (t : ℕ) → get-align-of-lts.Need-same-length-2 (get-align-of-claims t) (get-align-of-at t) get-align-of.Post
+get-align-of-same-length-2 t c = search needs
+
+get-align-of-returns-3 : (t : ℕ) → get-align-of-lts.Need-returns-3 (get-align-of-claims t) (get-align-of-at t) get-align-of.Post
+get-align-of-returns-3 t c = c .before .before .align-once .ensures
+
 abbrev members-once-Inv-loop : members-once-lts.InvT-loop
 members-once-Inv-loop b section work₀ members left vlen align₀ height₀ k₀ work align height k = (k ≤ members .vlen) × (members .vlen < 4294967296) × (length work ≡ length work₀) × (btfOf b section work ≡ btfOf b section work₀) × (idsWith (b .types) (btfOf b section work₀) left (alone 1) (memberIds b section members) work₀ ≡ idsRest (b .types) (btfOf b section work₀) left b section members align height k work)
 
@@ -170,8 +218,8 @@ members-once-add-word t c = omega arith
 members-once-word-requires : (t : ℕ) → members-once-lts.Need-word-requires (members-once-claims t) (members-once-at t) members-once.Post members-once-Inv-loop members-once-μ-loop
 members-once-word-requires t c κs = search needs
 
-members-once-align-once-requires : (t : ℕ) → members-once-lts.Need-align-once-requires (members-once-claims t) (members-once-at t) members-once.Post members-once-Inv-loop members-once-μ-loop
-members-once-align-once-requires t c κs = (omega arith, tt)
+members-once-get-align-of-requires : (t : ℕ) → members-once-lts.Need-get-align-of-requires (members-once-claims t) (members-once-at t) members-once.Post members-once-Inv-loop members-once-μ-loop
+members-once-get-align-of-requires t c κs = (omega arith, tt)
 
 members-once-enum-known-s : (t : ℕ) → members-once-lts.Need-enum-known-s (members-once-claims t) (members-once-at t) members-once.Post members-once-Inv-loop members-once-μ-loop
 members-once-enum-known-s t c = search needs
@@ -186,10 +234,10 @@ members-once-enum-known-c : (t : ℕ) → members-once-lts.Need-enum-known-c (me
 members-once-enum-known-c t c = search needs
 
 members-once-same-length : (t : ℕ) → members-once-lts.Need-same-length (members-once-claims t) (members-once-at t) members-once.Post members-once-Inv-loop members-once-μ-loop
-members-once-same-length t c = c .before .before .before .before .before .align-once .kept .1 .1 .0 ∙ c .before .before .before .before .before .before .before .before .before .before .loop .inv .2
+members-once-same-length t c = c .before .before .before .before .before .get-align-of .kept .1 .1 .0 ∙ c .before .before .before .before .before .before .before .before .before .before .loop .inv .2
 
 members-once-returns : (t : ℕ) → members-once-lts.Need-returns (members-once-claims t) (members-once-at t) members-once.Post members-once-Inv-loop members-once-μ-loop
-members-once-returns t c = ids-refused _ _ _ _ _ _ _ _ _ _ _ _ (c .before .before .before .before .before .before .before .before .before .loop-test .taken) (c .before .before .before .before .before .before .before .before .member-place .ensures) (c .before .before .before .before .before .before .before .word .ensures) _ _ (turned _ _ _ _ _ _ _ _ (c .before .before .before .before .before .align-once .ensures) (c .before .before .before .before .before .before .before .before .before .before .loop .inv .3)) _ _ (c .before .before .before .before .before .before .before .before .before .before .loop .inv .4) (c .before .c .given .1)
+members-once-returns t c = ids-refused _ _ _ _ _ _ _ _ _ _ _ _ (c .before .before .before .before .before .before .before .before .before .loop-test .taken) (c .before .before .before .before .before .before .before .before .member-place .ensures) (c .before .before .before .before .before .before .before .word .ensures) _ _ (turned _ _ _ _ _ _ _ _ (c .before .before .before .before .before .get-align-of .ensures) (c .before .before .before .before .before .before .before .before .before .before .loop .inv .3)) _ _ (c .before .before .before .before .before .before .before .before .before .before .loop .inv .4) (c .before .c .given .1)
 
 members-once-add-k : (t : ℕ) → members-once-lts.Need-add-k (members-once-claims t) (members-once-at t) members-once.Post members-once-Inv-loop members-once-μ-loop
 members-once-add-k t c = omega arith
@@ -198,7 +246,7 @@ members-once-loop-less : (t : ℕ) → members-once-lts.Need-loop-less (members-
 members-once-loop-less t c = omega arith
 
 members-once-loop-again : (t : ℕ) → members-once-lts.Need-loop-again (members-once-claims t) (members-once-at t) members-once.Post members-once-Inv-loop members-once-μ-loop
-members-once-loop-again t c = (omega arith, c .before .before .before .before .before .before .before .before .before .before .before .before .loop .inv .1, c .before .before .before .before .before .before .before .align-once .kept .1 .1 .0 ∙ c .before .before .before .before .before .before .before .before .before .before .before .before .loop .inv .2, after-align _ _ _ _ _ _ _ _ (c .before .before .before .before .before .before .before .align-once .ensures) .1 ∙ c .before .before .before .before .before .before .before .before .before .before .before .before .loop .inv .3, ids-more _ _ _ _ _ _ _ _ _ _ _ _ (c .before .before .before .before .before .before .before .before .before .before .before .loop-test .taken) (c .before .before .before .before .before .before .before .before .before .before .member-place .ensures) (c .before .before .before .before .before .before .before .before .before .word .ensures) _ _ (turned _ _ _ _ _ _ _ _ (c .before .before .before .before .before .before .before .align-once .ensures) (c .before .before .before .before .before .before .before .before .before .before .before .before .loop .inv .3)) _ _ _ _ (c .before .before .before .before .before .before .before .before .before .before .before .before .loop .inv .4) (c .before .before .before .s .given .1) (c .before .larger .ensures) (c .larger2 .ensures))
+members-once-loop-again t c = (omega arith, c .before .before .before .before .before .before .before .before .before .before .before .before .loop .inv .1, c .before .before .before .before .before .before .before .get-align-of .kept .1 .1 .0 ∙ c .before .before .before .before .before .before .before .before .before .before .before .before .loop .inv .2, after-align _ _ _ _ _ _ _ _ (c .before .before .before .before .before .before .before .get-align-of .ensures) .1 ∙ c .before .before .before .before .before .before .before .before .before .before .before .before .loop .inv .3, ids-more _ _ _ _ _ _ _ _ _ _ _ _ (c .before .before .before .before .before .before .before .before .before .before .before .loop-test .taken) (c .before .before .before .before .before .before .before .before .before .before .member-place .ensures) (c .before .before .before .before .before .before .before .before .before .word .ensures) _ _ (turned _ _ _ _ _ _ _ _ (c .before .before .before .before .before .before .before .get-align-of .ensures) (c .before .before .before .before .before .before .before .before .before .before .before .before .loop .inv .3)) _ _ _ _ (c .before .before .before .before .before .before .before .before .before .before .before .before .loop .inv .4) (c .before .before .before .s .given .1) (c .before .larger .ensures) (c .larger2 .ensures))
 
 members-once-same-length-2 : (t : ℕ) → members-once-lts.Need-same-length-2 (members-once-claims t) (members-once-at t) members-once.Post members-once-Inv-loop members-once-μ-loop
 members-once-same-length-2 t c = c .before .loop .inv .2
@@ -206,8 +254,8 @@ members-once-same-length-2 t c = c .before .loop .inv .2
 members-once-returns-2 : (t : ℕ) → members-once-lts.Need-returns-2 (members-once-claims t) (members-once-at t) members-once.Post members-once-Inv-loop members-once-μ-loop
 members-once-returns-2 t c = ids-end _ _ _ _ _ _ _ _ _ _ _ (c .before .loop .inv .4) (c .loop-test .left)
 
-pub +align-once+members-once-spec : {M : Type 1} → statement M
-+align-once+members-once-spec = close μ-align-once μ-members-once (λ t. align-once-lts.spec (align-once-claims t) (align-once-at t)
+pub +align-once+get-align-of+members-once-spec : {M : Type 1} → statement M
++align-once+get-align-of+members-once-spec = close μ-align-once μ-get-align-of μ-members-once (λ t. align-once-lts.spec (align-once-claims t) (align-once-at t)
     align-once.Post
     (align-once-returns t)
     (align-once-seen-word-requires t)
@@ -232,16 +280,18 @@ pub +align-once+members-once-spec : {M : Type 1} → statement M
     (align-once-returns-4 t)
     (align-once-same-length-4 t)
     (align-once-returns-5 t))
-    λ t. members-once-lts.spec (
-      member-place-reads.Asked,
-      member-place-reads.Learnt,
-      word-reads.Asked,
-      word-reads.Learnt,
-      align-once-below t,
-      align-once.Post,
-      larger-reads.Asked,
-      larger-reads.Learnt,
-    )
+    (λ t. get-align-of-lts.spec (get-align-of-claims t)
+    (get-align-of-at t)
+    get-align-of.Post
+    (get-align-of-returns t)
+    (get-align-of-seen-word-requires t)
+    (get-align-of-taken-requires t)
+    (get-align-of-same-length t)
+    (get-align-of-returns-2 t)
+    (get-align-of-align-once-requires t)
+    (get-align-of-same-length-2 t)
+    (get-align-of-returns-3 t))
+    λ t. members-once-lts.spec (members-once-claims t)
     (members-once-at t)
     members-once.Post
     members-once-Inv-loop
@@ -250,7 +300,7 @@ pub +align-once+members-once-spec : {M : Type 1} → statement M
     (members-once-member-place-requires t)
     (members-once-add-word t)
     (members-once-word-requires t)
-    (members-once-align-once-requires t)
+    (members-once-get-align-of-requires t)
     (members-once-enum-known-s t)
     (members-once-larger-requires t)
     (members-once-larger-requires-2 t)
