@@ -1,4 +1,4 @@
-// btf_layout
+// Sizes, ends of members, and alignments, each worked out once and remembered in the work.
 pub mod align_of;
 pub mod asked;
 pub mod bounds;

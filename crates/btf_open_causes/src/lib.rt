@@ -1,4 +1,4 @@
-// btf_open_causes
+// What opening tests of a section: header, strings, records, references, prototypes, loops.
 pub mod header;
 pub mod loops;
 pub mod prototypes;

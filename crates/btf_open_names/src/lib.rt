@@ -1,4 +1,4 @@
-// btf_open_names
+// What a successful opening leaves in the work: places, tags, name classes, numbers that are taken.
 pub mod classify;
 pub mod fill;
 pub mod hash_table;

@@ -1,4 +1,4 @@
-// btf_type_table
+// The type table, read from section and work: kinds, records, entries, names, nodes, words of the work.
 pub mod cell;
 pub mod entry;
 pub mod escape;

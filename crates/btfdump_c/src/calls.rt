@@ -1,4 +1,5 @@
-// The calls that C makes (`btfdump_c` has their names for C), on numbers and byte slices. The session record crosses as bytes (`c_record`), and
+// The calls that C makes (`btfdump_c` has their names for C), on numbers and byte slices. The session record crosses as bytes
+// (`session_record::record_bytes`), and
 // an answer as a number of 64 bits.
 
 mod ceilings;

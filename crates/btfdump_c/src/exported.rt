@@ -1,4 +1,4 @@
-// The calls for C, on numbers and byte slices: each is the call of `c_calls`, or stands in `explained`, under its name for C.
+// The calls for C, on numbers and byte slices: each is the call of `btfdump_c::calls`, or stands in `explained`, under its name for C.
 
 mod ceilings;
 mod cuts;

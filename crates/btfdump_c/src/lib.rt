@@ -1,3 +1,3 @@
-// btfdump_c
+// The calls for C.
 pub mod calls;
 pub mod exported;

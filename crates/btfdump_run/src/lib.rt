@@ -1,3 +1,3 @@
-// btfdump_run
+// The program: what it prints, as a function.
 pub mod printed;
 pub mod program;

@@ -1,4 +1,4 @@
-// c_dumper_bodies
+// The parts of declarations and bodies that call no declaration: chains, qualifiers, enums, heads and ends.
 pub mod bodies;
 pub mod chain;
 pub mod enumerators;

@@ -1,4 +1,4 @@
-// c_dumper_declarator
+// Declarations, chains and composite definitions, which call each other; the lines of the text.
 pub mod declarations;
 pub mod lines;
 pub mod typedefs;

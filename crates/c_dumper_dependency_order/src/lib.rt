@@ -1,4 +1,4 @@
-// c_dumper_dependency_order
+// The order of definitions: order_type, its state in the work, and what led to each listed id.
 pub mod begin;
 pub mod finish;
 pub mod leaders;

@@ -1,4 +1,4 @@
-// c_dumper_emit
+// Emission: which lines a listed id brings, with their entries; one request.
 pub mod dump_type;
 pub mod emit_type;
 pub mod entries;

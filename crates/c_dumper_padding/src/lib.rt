@@ -1,4 +1,4 @@
-// c_dumper_padding
+// Pads between members, in the old mode and in placing mode.
 pub mod extents;
 pub mod padding;
 pub mod pads;

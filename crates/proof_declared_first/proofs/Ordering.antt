@@ -27,7 +27,8 @@ gives-map : {St : Type 0} {Q Q′ : St → Bool → Type 0} {r : Res St} → ((s
 gives-map f (gives h) = gives (f _ _ h)
 gives-map f refuses = refuses
 
--- What is asked of a store of n ids: as Lawful of rules/specs/Order, with a list that has no end; and what its steps leave alone.
+-- What is asked of a store of n ids: as Lawful of crates/spec_c_dumper/specs/rules/Order, with a list that has no end; and what its steps
+-- leave alone.
 pub record Steady {St : Type 0} (K : Store St) (n : ℕ) (Good : St → Type 0) (Fr : St → St → Type 0) : Type 0 where
   pub mark-good : (m : Mark) (x : ℕ) (s : St) → Good s → x < n → Good (K .mark m x s)
   pub mark-same : (m : Mark) (x : ℕ) (s : St) → Good s → x < n → K .get (K .mark m x s) x ≡ m

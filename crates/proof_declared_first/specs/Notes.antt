@@ -1,4 +1,5 @@
--- What each piece of the text mentions. Not a second definition of the text: the rules' own writers (rules/specs/Emit), over a way of
+-- What each piece of the text mentions. Not a second definition of the text: the rules' own writers
+-- (crates/spec_c_dumper/specs/rules/Emit), over a way of
 -- keeping names that also notes every tag and every typedef name that a writer asks it for. That a writer has no such name from
 -- elsewhere is specs/Renamed.
 use Prim.Native.Nat.{ℕ}
@@ -62,7 +63,7 @@ noted mk x k (cannot e) = cannot e
 abbrev pub unasked : {U : Type 0} → Seen U → Asked U
 unasked k = record { names = k .known .names; mentions = [] }
 
--- with any way of keeping names: the lines, the machine and the opened session of demand/specs/Session, with notes
+-- with any way of keeping names: the lines, the machine and the opened session of crates/spec_c_dumper/specs/needs/Session, with notes
 module _ {U : Type 0} (N : Naming U) (B : Btf) where
   abbrev pub notedLines : Lines (Seen U)
   notedLines = record {

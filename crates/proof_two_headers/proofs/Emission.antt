@@ -1,5 +1,5 @@
 -- Emission and requests over the shared ledger go as those of the rules, up to refusals that are excused on the one side or the other. After
--- demand/proofs/Alike, with refusals that carry the machine on one side. Assumes nothing.
+-- crates/spec_c_dumper/proofs/needs/Alike, with refusals that carry the machine on one side. Assumes nothing.
 use Prim.Native.Nat.{ℕ, zero, suc}
 use mathlib.Core.Path.{_≡_, sym, subst}
 use mathlib.Core.Bool.{Bool, true, false, not, _&&_, _||_}

@@ -1,5 +1,6 @@
 -- The steps of specs/Steps write what the writers of the rules write, with any way of keeping names; and whether and by what number a line is refused
--- does not hang on the names. One theorem over all emitters, after rules/proofs/Closed, with steps on one side. Assumes nothing.
+-- does not hang on the names. One theorem over all emitters, after crates/spec_c_dumper/proofs/rules/Closed, with steps on one side.
+-- Assumes nothing.
 use Prim.Native.Nat.{ℕ, zero, suc, _+_}
 use mathlib.Core.Path.{_≡_, refl, sym, _∙_, subst}
 use mathlib.Core.Bool.{Bool, true, false, true≢false, not, _&&_}

@@ -1,4 +1,5 @@
--- The rules of `emit_type` and of requests (rules/specs/Machine), clause by clause, with refusals that carry the machine as they found it: "Closing
+-- The rules of `emit_type` and of requests (crates/spec_c_dumper/specs/rules/Machine), clause by clause, with refusals that carry the
+-- machine as they found it: "Closing
 -- leaves the ledger, with the names a refused request took." Ordering takes no names, so its rules are used as they are.
 use Prim.Native.Nat.{ℕ, zero, suc, _-_}
 use mathlib.Core.Bool.{Bool, true, false, not, _&&_, _||_}

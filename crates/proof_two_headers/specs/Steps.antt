@@ -1,4 +1,5 @@
--- The prints of rules/specs/Decl and Emit as steps, so that a name can be refused between two of them. "20 when a new name passes the session's own
+-- The prints of crates/spec_c_dumper/specs/rules/Decl and Emit as steps, so that a name can be refused between two of them. "20 when a new
+-- name passes the session's own
 -- reserve": a name is taken before the bytes of the print that uses it. The writers of the rules do not tell in what order the bytes and the names
 -- of a line come; steps do. The clauses are those of Decl and Emit, word for word; proofs/Steps has that they write the same with any names.
 use Prim.Native.Nat.{ℕ, zero, suc, _+_}

@@ -1,3 +1,3 @@
-// session_cut
+// A section cut down to what is used: its writer and the call.
 pub mod call;
 pub mod writer;

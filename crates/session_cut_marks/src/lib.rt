@@ -1,4 +1,4 @@
-// session_cut_marks
+// What a section cut down holds: marks, tags, new numbers, and the names that are mentioned.
 pub mod interned;
 pub mod marks;
 pub mod mentioned;

@@ -1,5 +1,5 @@
 // Which types are kept, and their new numbers. Marks are closed over followed ids: each id is marked once and put on a stack
-// once, so every reference is looked at once. The tags and the numbers are of crate tagging.
+// once, so every reference is looked at once. The tags and the numbers are of `session_cut_marks::tags`.
 use crate::tags::mark_tags;
 use crate::tags::number;
 use crate::tags::peek;

@@ -1,4 +1,4 @@
-// session_declaration_reader
+// One declaration read from its text into its chain.
 pub mod bases;
 pub mod grammar;
 pub mod reader;

@@ -1,3 +1,3 @@
-// session_field_at_bit
+// Which field covers a bit of a composite.
 pub mod field;
 pub mod step;

@@ -1,4 +1,4 @@
-// The calls of a session by value: one request, the request for all ids and a list of ids. Opening: crate opens.
+// The calls of a session by value: one request, the request for all ids and a list of ids. Opening: `session_requests::open_call`.
 use base_bytes::word::get_word;
 use btf_open_causes::header::btf_of;
 use session_record::arrival::arrived;

@@ -1,2 +1,2 @@
-// spec_bytes
+// Words in bytes, text, decimal and signed numbers: definitions and laws.
 pub mod words;

@@ -1,5 +1,5 @@
 -- The record's bytes after a call say the session after it, where text length and visits, and after opening every number of 32 bits, are below
--- 4,294,967,296. That they are, and what follows for the calls one after another, is in crate delivered_c. Assumes nothing.
+-- 4,294,967,296. That they are, and what follows for the calls one after another, is in `proof_calls::calls_for_c`. Assumes nothing.
 use Prim.Native.Nat.{ℕ, zero, suc, _+_, _-_, _*_, _/_, _%_, _<_, _≤_}
 use mathlib.Core.Path.{_≡_, refl, ap, _∙_, sym, subst}
 use mathlib.Core.Bool.{Bool, true, false, _&&_}

@@ -1,5 +1,5 @@
 -- The index is the section's: the entry of a type is the place and the kind of its record, as the documentation reads them. So causes 6,
--- 7 and 8, which crate followed states over an index, are about the section. Assumes nothing.
+-- 7 and 8, which `btf_open_causes::references` states over an index, are about the section. Assumes nothing.
 use Prim.Native.Nat.{ℕ, zero, suc, zero-le, _+_, _-_, _*_, _/_, _%_, _<_, _≤_}
 use mathlib.Core.Path.{_≡_, refl, ap, _∙_, sym}
 use mathlib.Core.Bool.{Bool, true, false}
@@ -101,7 +101,7 @@ module _ (s : List ℕ) where
       entry-is x a l =
           rw (ne-eqb x 0 (λ e. absurd (omega arith)), lt-ltb x (countOf (btfOf s pointer modes (typesOf s))) (omega (arith, table-count)))
 
-      -- THE THEOREMS: what crate followed reads of a type is its record's place and kind in the section
+      -- THE THEOREMS: what `btf_open_causes::references` reads of a type is its record's place and kind in the section
       pub followed-place : (x : ℕ) → 1 ≤ x → x < typesOf s → placeOf (btfOf s pointer modes (typesOf s)) (indexOf s) x ≡ recordPlace s (x - 1)
       unfolding placeOf
       followed-place x a l = ap (λ (q : ℕ). q / 32) (entry-is x a l) ∙ index-place x a l

@@ -269,7 +269,7 @@ module _ (p modes : ℕ) (s : List ℕ) (n : ℕ) (ok : openingNumber p s n ≡ 
       ∙ places-keep start zeros (b .types - 1) x 10 (omega arith) (λ q. absurd (omega arith))
       ∙ zeros-word n (x * 16 + 10)
 
-  -- the count of every name is 0: `ledger` of crate classes holds of this work
+  -- the count of every name is 0: `ledger` of `btf_open_names::classify` holds of this work
   pub counts-back : (h : ℕ) → getWord before (countP (b .types) h) ≡ 0
   counts-back h = before-else b s start (countP (b .types) h) (other-count (b .types) h) zeros (omega (arith, types-are, some-type s)) ∙ zeros-word n (countP (b .types) h)
 
@@ -301,7 +301,7 @@ module _ (p modes : ℕ) (s : List ℕ) (n : ℕ) (ok : openingNumber p s n ≡ 
   pub work-length : length (workOf p modes s n) ≡ n
   work-length = ap length work-is ∙ takers-long modes b (enumeratorsOf s) s classed (omega (arith, types-are, some-type s)) ∙ the-words b (enumeratorsOf s) s before .long ∙ before-long
 
-  -- the record of a type as crate btf finds it
+  -- the record of a type as `spec_type_table` finds it
   pub record-back : (id : ℕ) → 1 ≤ id → id < typesOf s → recordById b s (workOf p modes s n) id ≡ recordAt b s (recordPlace s (id - 1))
   unfolding recordById
   record-back id a l =
@@ -324,7 +324,7 @@ module _ (p modes : ℕ) (s : List ℕ) (n : ℕ) (ok : openingNumber p s n ≡ 
       rw (le-leb (getField (workOf p modes s n) id 12 + k) 4294967295 (omega (arith, enumerators-few b s order-ok header-ok types-ok, section-short)), enumeratorOf)
       (ap (λ (q : ℕ). q + k) f)
 
-  -- the table that crate btf reads from the work has the tags of the section, and they are below the count
+  -- the table that `spec_type_table` reads from the work has the tags of the section, and they are below the count
   pub tags-are : (id : ℕ) → id < typesOf s → btf.btfOf b s (workOf p modes s n) .decl-tags id ≡ tagsOn b s start id 1 (b .types - 1)
   unfolding btf.btfOf
   tags-are id l = tags-back id l

@@ -1,4 +1,4 @@
--- What the pass finds is the section's, as crate records reads it: its types, its enumerators, the index of its records, and cause 5.
+-- What the pass finds is the section's, as `spec_linux_btf` reads it: its types, its enumerators, the index of its records, and cause 5.
 -- Assumes nothing.
 use Prim.Native.Nat.{ℕ, zero, suc, zero-le, _+_, _*_, _/_, _%_, _<_, _≤_}
 use mathlib.Core.Path.{_≡_, refl, ap, _∙_, sym}

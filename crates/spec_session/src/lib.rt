@@ -1,3 +1,3 @@
-// spec_session
+// What each call on a session comes to: definitions and laws.
 pub mod emission;
 pub mod session;

@@ -151,7 +151,7 @@ unfolding soundP kindP
 sound-known w len p h = and-left _ _ (and-right (leb (p + 12) len) _ h)
 
 -- Linux documentation, 2.2: for a section that passes causes 3 and 5, what the code reads at the place of record i is type i of the one list of
--- described types whose layout is the section's type area (Claims of crate records), field by field, as the Rust keeps it.
+-- described types whose layout is the section's type area (Claims of `spec_linux_btf`), field by field, as the Rust keeps it.
 pub section-documented : (b : TypeTable) (s : List ℕ) → b .«big_endian» ≡ bigEndian s → Bytes s → headerSound s ≡ true → typesSound s ≡ true → (i : ℕ) (d : Described)
     → i < length (decodeAll (bigEndian s) (typeArea s))
     → typeOf b s (recordAt b s (placeFrom (wordOf s) (typesAt s) i)) ≡ kept (b .strs) s (getD (decodeAll (bigEndian s) (typeArea s)) i d)

@@ -1,4 +1,5 @@
--- What a body asks (alignments/specs/Steps) of the memory in the work. The visits stand in the work, so none are counted beside it.
+-- What a body asks (crates/spec_c_dumper/specs/alignment_once/Steps) of the memory in the work. The visits stand in the work, so none are
+-- counted beside it.
 use Prim.Native.Nat.{ℕ, _*_, _%_}
 use mathlib.Core.Bool.{Bool, true, false, not}
 use mathlib.Core.List.{List}

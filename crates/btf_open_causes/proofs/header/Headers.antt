@@ -1,4 +1,4 @@
--- Causes 3 and 4: a law for each return, and that the tests decide what crate records calls a sound header and sound strings.
+-- Causes 3 and 4: a law for each return, and that the tests decide what `spec_linux_btf` calls a sound header and sound strings.
 -- Assumes nothing.
 use Prim.Native.Nat.{ℕ, suc, _+_, _-_, _<_, _≤_}
 use mathlib.Core.Path.{_≡_, refl, ap, _∙_, sym}

@@ -446,7 +446,7 @@ module _ (w : ℕ → ℕ) (sl from end : ℕ) (start₀ : List ℕ) where
         let i : start ≡ indexP w from start₀ (countP w 262144 end from) = g .index ∙ ap (indexP w from start₀) k in
         rw (b, scanP) (λ j. found (sym n j) (sym m j) (i j))
 
--- ---- extra_of, against crate records
+-- ---- extra_of, against `spec_linux_btf`
 abbrev toExtra : Shape → ℕ → Extra
 toExtra bad v = Refused
 toExtra (fixed n) v = Bytes n

@@ -1,4 +1,4 @@
--- The header of a section as the code reads it, and the tests of causes 1 to 4. Crate records says what a sound header and a sound
+-- The header of a section as the code reads it, and the tests of causes 1 to 4. `spec_linux_btf` says what a sound header and a sound
 -- string area are; proofs/Headers.antt that these tests decide it.
 use Prim.Native.Nat.{ℕ, _+_, _/_, _%_}
 use mathlib.Core.Bool.{Bool, true, false, _&&_, _||_, not}

@@ -1,5 +1,5 @@
 -- A pass over the records of the type area, by their places in the section: w reads a word, the records begin at `from` and end at
--- `end`, the string area has sl bytes. Cause 5 is crate records' (soundP, namedP, passesP); here is what else the pass finds.
+-- `end`, the string area has sl bytes. Cause 5 is `spec_linux_btf`' (soundP, namedP, passesP); here is what else the pass finds.
 use Prim.Native.Nat.{ℕ, zero, suc, _+_, _*_}
 use mathlib.Core.Bool.{Bool, true, false, _&&_}
 use mathlib.Core.List.{List}

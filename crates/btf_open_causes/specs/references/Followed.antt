@@ -1,5 +1,5 @@
 -- The types of a table that is being opened, and the ids that they follow. b has the count, s is the section. The index `start`
--- holds place * 32 + kind for each id: opening makes it, and opened/proofs/Index says that they are the section's.
+-- holds place * 32 + kind for each id: opening makes it, and crates/spec_opening/proofs/Index says that they are the section's.
 use Prim.Native.Nat.{ℕ, _+_, _-_, _/_, _%_}
 use mathlib.Core.Bool.{Bool, true, false}
 use mathlib.Core.List.{List, [], _∷_}

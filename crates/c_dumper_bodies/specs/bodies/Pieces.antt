@@ -1,5 +1,7 @@
--- The loops of the rules (Decl, and alignments/specs/Writers) turn by turn: what one entry of a chain, one parameter, one member prints, and what stands
--- after it. That a loop is its first turn and then the rest is proved (decl/proofs/Turns.antt); only private functions promise
+-- The loops of the rules (Decl, and crates/spec_c_dumper/specs/alignment_once/Writers) turn by turn: what one entry of a chain, one
+-- parameter, one member prints, and what stands
+-- after it. That a loop is its first turn and then the rest is proved (crates/c_dumper_declarator/proofs/declarations/Turns.antt); only
+-- private functions promise
 -- what is defined here.
 use Prim.Native.Nat.{ℕ}
 use mathlib.Core.Bool.{Bool, true, false, not, _&&_}

@@ -114,7 +114,7 @@ module _ (s : List ℕ) (y : reading.Bytes s) (ok : number s ≡ 0) where
   enough : length ts ≤ length s
   enough = omega (arith, grows (length ts), section-ends s y hs (types-ok 8 0 s 65536 ok), header .types-inside)
 
-  -- the reader of crates/vectors, with the strings at a place
+  -- the reader of proof_examples::vectors, with the strings at a place
   abbrev at : ℕ → TypeTable
   at k = record { «ptr_sz» = 8; «union_as_struct» = false; «big_endian» = bigEndian s; «strong_arrays» = false; placing = false; types = 0; strs = k }
 

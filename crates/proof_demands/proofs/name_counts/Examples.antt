@@ -1,4 +1,5 @@
--- A section of six types, as in crate classes: STRUCT "ab", TYPEDEF "ab", UNION "abc", ENUM "b" with the enumerators "ab" and "abc",
+-- A section of six types, as in `btf_open_names::classify`: STRUCT "ab", TYPEDEF "ab", UNION "abc", ENUM "b" with the enumerators "ab" and
+-- "abc",
 -- FWD "ab", FUNC "ab". With its places in the work, finding the classes leaves work that is indexed, without a version and a count.
 use Prim.Native.Nat.{ℕ, zero, suc, _+_, _*_, _/_, _%_, _<_}
 use mathlib.Core.Path.{_≡_, refl}

@@ -1,4 +1,5 @@
--- With lists that are right the mode over lists writes what the mode of crate apart writes: the number of the k-th holder is the k-th that the table
+-- With lists that are right the mode over lists writes what the mode of `proof_names_apart::names_apart` writes: the number of the k-th
+-- holder is the k-th that the table
 -- leaves free, since the numbers of the holders before were printed. For every table and every list of requests. Assumes nothing.
 use Prim.Native.Nat.{ℕ, zero, suc, _≤_, _<_}
 use mathlib.Core.Path.{_≡_, refl, sym, _∙_, ap, ap₂, subst}

@@ -1,4 +1,5 @@
--- What the search of crate apart passes over, and where it ends, whatever the numbers are: a free number, or the largest. Assumes nothing.
+-- What the search of `proof_names_apart::names_apart` passes over, and where it ends, whatever the numbers are: a free number, or the
+-- largest. Assumes nothing.
 use Prim.Native.Nat.{ℕ, zero, suc, _+_, _≤_, _<_}
 use mathlib.Core.Path.{_≡_, refl, sym, _∙_, ap}
 use mathlib.Core.Bool.{Bool, true, false}

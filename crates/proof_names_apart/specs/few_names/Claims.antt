@@ -1,4 +1,5 @@
--- What crate apart says of every table, said of the tables that opening accepts: statement only. proofs/Few.antt has the proof.
+-- What `proof_names_apart::names_apart` says of every table, said of the tables that opening accepts: statement only. proofs/Few.antt has
+-- the proof.
 use Prim.Native.Nat.{ℕ}
 use mathlib.Core.Path.{_≡_}
 use mathlib.Core.List.{List}

@@ -1,4 +1,5 @@
--- "Where no suffix is passed over": the mode of crate apart, watched. A name passes a number over if the search for its number meets one that is taken; a
+-- "Where no suffix is passed over": the mode of `proof_names_apart::names_apart`, watched. A name passes a number over if the search for
+-- its number meets one that is taken; a
 -- session passes none over if no line that it writes, or begins to write, does.
 use Prim.Native.Nat.{ℕ}
 use mathlib.Core.Path.{_≡_}
@@ -57,7 +58,7 @@ passedOver = 24
 unfoldable pub lineWatched : ℕ → ℕ → Said Watched → Line (Known Watched)
 lineWatched room len (said w t) = elim (w .over) [ true ↦ cannot passedOver | false ↦ lineOf room len (said w t) ]
 
--- the lines of a session, as `linesBy` of demand/specs/Session
+-- the lines of a session, as `linesBy` of crates/spec_c_dumper/specs/needs/Session
 abbrev pub linesWatched : Naming Watched → Btf → Lines (Known Watched)
 linesWatched N B = record {
   fwd = λ room k id. lineWatched room (k .text-len) (forward N B id (B .type-by-id id) (k .names));
@@ -71,7 +72,7 @@ module _ (L : Lines (Known Watched)) (T : Table) where
   answerWatched S (one room x) = single (listMachine L) T room S x
   answerWatched S (all room) = every (listMachine L) T room S (S .isOpen)
 
-  -- numbers, lengths and text, as `dumped` of demand/specs/Session
+  -- numbers, lengths and text, as `dumped` of crates/spec_c_dumper/specs/needs/Session
   unfoldable pub dumpedWatched : List (ℕ × ℕ) → List Req → Sess (Ls (Known Watched)) → Dump
   dumpedWatched ns [] S = dump ns (textOf (S .mach .pieces))
   dumpedWatched ns (r ∷ rs) S = dumpedWatched (ns ++ ((answerWatched S r .number, answerWatched S r .sess .mach .known .text-len) ∷ [])) rs (answerWatched S r .sess)

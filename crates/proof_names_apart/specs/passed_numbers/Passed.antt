@@ -1,4 +1,5 @@
--- The mode of crate apart with a list of taken numbers for each name (ledger/specs/Passed) in place of the table's names and of all that was
+-- The mode of `proof_names_apart::names_apart` with a list of taken numbers for each name (crates/proof_demands/specs/name_counts/Passed)
+-- in place of the table's names and of all that was
 -- printed. proofs/Passed.antt: with lists that are right the two write the same.
 use Prim.Native.Nat.{ℕ, _≤_}
 use mathlib.Core.List.{List, [], List·Memᴰ}

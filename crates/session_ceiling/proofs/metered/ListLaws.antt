@@ -1,4 +1,5 @@
--- A list of ids under a ceiling: a law for each return of src/lists.rt. It does not matter when what follows the text is zeroed (calls/proofs/Lists), so
+-- A list of ids under a ceiling: a law for each return of src/lists.rt. It does not matter when what follows the text is zeroed
+-- (crates/spec_session/proofs/calls/Lists), so
 -- once is enough. Assumes nothing.
 use Prim.Native.Nat.{ℕ, zero, suc, _+_, _-_, _<_, _≤_}
 use mathlib.Core.Path.{_≡_, refl, ap, _∙_, sym}

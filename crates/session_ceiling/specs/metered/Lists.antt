@@ -1,5 +1,5 @@
 -- A list of ids under a ceiling: the single requests for them in their order, up to and including the first that is refused; "shared by the single
--- requests of one call". As `listFrom` (calls/specs/Lists), with the calls made before handed on from each to the next.
+-- requests of one call". As `listFrom` (crates/spec_session/specs/calls/Lists), with the calls made before handed on from each to the next.
 use Prim.Native.Nat.{ℕ, zero, suc}
 use mathlib.Core.List.{List, [], _∷_}
 use Rattle.spec_session.specs.declared.session.Session.{Session}

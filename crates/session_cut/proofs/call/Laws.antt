@@ -387,7 +387,7 @@ module _ (S : Session) (s given out : List ℕ) where
           pub cut-past : r ≡ true → cutOf (Refused 10 0) out ≡ cutCall S s given out
           cut-past e = sym (refused-by 9) ∙ with-number 10 (open-number (is-open ∙ pass) true (ap (λ (k : ℕ). anyPast k (words given)) (sym count-is) ∙ sym er ∙ e))
 
-          -- THE CALL: the theorem of crate written
+          -- THE CALL: the theorem of `session_cut::written`
           pub cut-is : r ≡ false → Bytes s → (b : TypeTable) → b ≡ btfOf s (S .«pointer_size») 0 n → (a : Answer) (out′ : List ℕ)
               → cutOf a out′ ≡ answered (keptWritten b s start (idsOf b s start given allZero) out) → cutOf a out′ ≡ cutCall S s given out
           unfolding passes cause2 cause3 cause4 cause5 tableOf

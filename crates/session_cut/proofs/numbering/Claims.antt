@@ -1,4 +1,4 @@
--- THE THEOREM: the numbers that the code of crate marking gives are the new numbers of crate cut. Assumes nothing.
+-- THE THEOREM: the numbers that the code of `session_cut_marks::marks` gives are the new numbers of `spec_cut::section`. Assumes nothing.
 use Prim.Native.Nat.{ℕ, zero, suc, _+_, _/_, _<_, _≤_}
 use native.Mathlib.Omega.{arith}
 use mathlib.Core.Path.{_≡_, refl, sym, _∙_, ap, subst}

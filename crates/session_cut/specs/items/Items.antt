@@ -8,7 +8,7 @@ use Rattle.spec_linux_btf.specs.Documentation.{pack, btf-info, btf-int, Member,
 pub data Item : Type 0 where
   nm tid raw : ℕ → Item
 
--- a word with a role of crate roles: 1 a name, 2 an id
+-- a word with a role of `session_cut_marks::roles`: 1 a name, 2 an id
 unfoldable pub item : ℕ → ℕ → Item
 item role v = elim (eqb role 1) [ true ↦ nm v | false ↦ elim (eqb role 2) [ true ↦ tid v | false ↦ raw v ] ]
 

@@ -1,4 +1,5 @@
--- The names that the code of crate mentioned meets, in the order of mention, and the list that they are stored in. b, s, start: the table, the section,
+-- The names that the code of `session_cut_marks::mentioned` meets, in the order of mention, and the list that they are stored in. b, s,
+-- start: the table, the section,
 -- its index; ids: the new numbers, 0 for what is not kept.
 use Prim.Native.Nat.{ℕ, zero, suc, _%_}
 use mathlib.Core.Bool.{Bool, true, false}

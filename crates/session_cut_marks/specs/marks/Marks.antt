@@ -1,5 +1,7 @@
--- Marks for the types that are kept, and the new numbers, as the code makes them. b has the count, s is the section, start its index (crate followed).
--- The proofs say that these are the numbers of crate cut: crate numbering, and crate reopened for a section that opening accepts.
+-- Marks for the types that are kept, and the new numbers, as the code makes them. b has the count, s is the section, start its index
+-- (`btf_open_causes::references`).
+-- The proofs say that these are the numbers of `spec_cut::section`: `session_cut::numbering`, and `spec_cut::reopened` for a section that
+-- opening accepts.
 use Prim.Native.Nat.{ℕ, zero, suc, _+_, _/_}
 use mathlib.Core.Bool.{true, false}
 use mathlib.Core.List.{List}

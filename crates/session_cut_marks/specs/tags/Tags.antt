@@ -1,4 +1,5 @@
--- The declaration tags of what is marked, and the new numbers, as the code makes them. b has the count, s is the section, start its index (crate followed).
+-- The declaration tags of what is marked, and the new numbers, as the code makes them. b has the count, s is the section, start its index
+-- (`btf_open_causes::references`).
 use Prim.Native.Nat.{ℕ, zero, suc, _+_}
 use mathlib.Core.Bool.{true, false}
 use mathlib.Core.List.{List}

@@ -13,7 +13,7 @@ pub data Read (W : Type 0) : Type 0 where
   chain : Chain W → Read W
   refused : Read W
 
--- a bound on open calls; no declaration of at most 512 entries needs more (crate declarations, specs/Enough)
+-- a bound on open calls; no declaration of at most 512 entries needs more (`proof_declaration_reader`, specs/Enough)
 abbrev pub most : ℕ
 most = 2056
 

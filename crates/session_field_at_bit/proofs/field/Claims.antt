@@ -1,4 +1,5 @@
--- What a reader wants of the definitions of inward/specs/Path.antt and specs/Calls.antt: which refusals there are and what 21 means; that a
+-- What a reader wants of the definitions of crates/session_field_at_bit/specs/step/Path.antt and specs/Calls.antt: which refusals there are
+-- and what 21 means; that a
 -- refused call leaves the path, and that an accepted one writes the entries and nothing else. Assumes nothing.
 use Prim.Native.Nat.{ℕ, zero, suc, _+_, _-_, _*_, _/_, _<_, _≤_}
 use mathlib.Core.Path.{_≡_, refl, ap, _∙_, sym, subst}

@@ -49,7 +49,8 @@ passed on (through t) = on t
 passed on (array t) = array t
 passed on (composite ms) = composite ms
 
--- what stands behind typedefs, qualifiers and type tags: get_size_of passes them too, so 512 calls are enough (field/proofs/Sound)
+-- what stands behind typedefs, qualifiers and type tags: get_size_of passes them too, so 512 calls are enough
+-- (crates/session_field_at_bit/proofs/field/Sound)
 unfoldable pub behind : ℕ → Btf → ℕ → Shape
 behind zero B id = plain
 behind (suc left) B id = passed (behind left B) (shapeOf (B .type-by-id id))

@@ -1,4 +1,5 @@
--- What the structs of the calls with a list say, with the slices at that moment. What the calls come to: causes/specs/Bytes.
+-- What the structs of the calls with a list say, with the slices at that moment. What the calls come to:
+-- crates/spec_session/specs/origin_calls/Bytes.
 use Prim.Native.Nat.{ℕ}
 use mathlib.Core.List.{List}
 use Rattle.spec_session.specs.session.Turns.{callOf, reachOf}

@@ -83,7 +83,7 @@ module _ {St U : Type 0} (Q : Asks St) (N′ : Naming St) (N : Naming U) (B : Bt
     pub same-forward : (id : ℕ) → RelW Pair (forwardOnce Q N′ B id (B .type-by-id id)) (forward N B id (B .type-by-id id))
     same-forward id = on-forward Q N′ N B cnt (wf .below) (λ w₁ w₂. RelW Pair w₁ w₂) (rel-closed Pair any-name any-value N′ N (sound .named)) rel-body rel-pads id (B .type-by-id id)
 
-    -- ---- the machine, step by step (as in demand/proofs/AnyNames, where both machines are of one kind)
+    -- ---- the machine, step by step (as in crates/spec_c_dumper/proofs/needs/AnyNames, where both machines are of one kind)
     abbrev Mine : Type 0
     Mine = Ls (Line-known St)
 

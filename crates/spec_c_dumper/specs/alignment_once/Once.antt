@@ -1,4 +1,5 @@
--- Alignments worked out once: the clauses of get_align_of (rules/specs/Layout) over a memory, with the visits counted. The plain way,
+-- Alignments worked out once: the clauses of get_align_of (crates/spec_c_dumper/specs/rules/Layout) over a memory, with the visits counted.
+-- The plain way,
 -- getAlignOf, "remains as the definition".
 use Prim.Native.Nat.{ℕ, zero, suc, _+_, _<_}
 use mathlib.Core.Path.{_≡_}

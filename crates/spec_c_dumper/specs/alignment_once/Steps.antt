@@ -1,5 +1,5 @@
 -- What a body asks, by the remembering way: the packed test, the padding, and placing mode's measuring. The clauses are those of
--- rules/specs/Layout and Placing, with alignments from the memory.
+-- crates/spec_c_dumper/specs/rules/Layout and Placing, with alignments from the memory.
 use Prim.Native.Nat.{ℕ, _-_, _*_, _%_}
 use mathlib.Core.Bool.{Bool, true, false, _&&_}
 use mathlib.Core.List.{List, [], _∷_}

@@ -1,4 +1,5 @@
--- The emitters by the remembering way: the clauses of rules/specs/Decl and Emit, where alignments are asked with a memory beside the names; and a session
+-- The emitters by the remembering way: the clauses of crates/spec_c_dumper/specs/rules/Decl and Emit, where alignments are asked with a
+-- memory beside the names; and a session
 -- of them.
 use Prim.Native.Nat.{ℕ, zero, suc, _+_}
 use mathlib.Core.Bool.{Bool, true, false}
@@ -110,7 +111,7 @@ module _ {St : Type 0} (Q : Asks St) (N : Naming St) (B : Btf) where
   forwardOnce id (DeclTag a n t k) = nothing
   forwardOnce id (TypeTag a n t) = nothing
 
-  -- ---- a session (demand/specs/Session), with the memory beside the names
+  -- ---- a session (crates/spec_c_dumper/specs/needs/Session), with the memory beside the names
   abbrev pub linesOnce : Lines (Known St)
   linesOnce = record {
     fwd = λ room k id. lineOf room (k .text-len) (forwardOnce id (B .type-by-id id) (k .names));

@@ -1,5 +1,6 @@
 -- The Rust's `order_type` as it stands: a typedef is pushed after its target even if it was listed on the way to it. All else is `order` of
--- rules/specs/Order and the sessions of rules/specs/Machine and demand/specs/Session: the clauses that differ are marked.
+-- crates/spec_c_dumper/specs/rules/Order and the sessions of crates/spec_c_dumper/specs/rules/Machine and
+-- crates/spec_c_dumper/specs/needs/Session: the clauses that differ are marked.
 use Prim.Native.Nat.{ℕ, zero, suc, _-_}
 use mathlib.Core.Bool.{Bool, true, false, not, _&&_, _||_}
 use mathlib.Core.List.{List, [], _∷_, _++_}

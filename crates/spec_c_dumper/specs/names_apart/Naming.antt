@@ -1,5 +1,6 @@
 -- "A naming mode in which a suffix that yields a name in the table's same space, or one printed before in it, is passed over and the next number
--- taken." The writers of rules/specs are over any way of keeping names; this is one more, beside that of the Rust (rules/specs/Names: naming).
+-- taken." The writers of rules/specs are over any way of keeping names; this is one more, beside that of the Rust
+-- (crates/spec_c_dumper/specs/rules/Names: naming).
 use Prim.Native.Nat.{ℕ, zero, suc, _+_}
 use mathlib.Core.Bool.{Bool, true, false}
 use mathlib.Core.List.{List, [], _∷_, _++_}

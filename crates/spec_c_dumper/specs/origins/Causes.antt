@@ -1,4 +1,5 @@
--- Why each line is there: the rules of ordering and emission as they stand in crate rules, over a store that notes what led to each listed id
+-- Why each line is there: the rules of ordering and emission as they stand in `spec_c_dumper::rules`, over a store that notes what led to
+-- each listed id
 -- and a machine that notes an entry for each line.
 use Prim.Native.Nat.{ℕ, zero, suc, _+_, _*_, _-_, _/_, _%_}
 use mathlib.Core.Bool.{Bool, true, false, not}

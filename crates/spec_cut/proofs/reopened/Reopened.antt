@@ -163,7 +163,7 @@ module _ (p modes : ℕ) (old : OldNames modes) (s : List ℕ) (n : ℕ) (ok : o
   renumbered no-requests = no-requests
   renumbered (request room x x′ i r) = request room x x′ (subst (NewNumber x) (sym (i .1)) (number x (i .0))) (renumbered r)
 
-  -- `same-answers` of crate cut, of the tables that the two openings leave
+  -- `same-answers` of `spec_cut::section`, of the tables that the two openings leave
   dumps : {rs rs′ : List Req} → Renumbered (HasNewNumber p modes s n m n′) rs rs′ → dumpTypes B rs ≡ dumpTypes B′ rs′
   dumps r = cut-claims.same-answers given m s s′ b b′ B B′ tells good was new in-area in-new same-pointer same-union same-strong same-placing (renumbered r)
 

@@ -10,7 +10,7 @@ use Rattle.spec_type_table.specs.Records.{sectionWord}
 use Rattle.btf_open_causes.specs.references.Followed.{countOf, kindAt, placeOf, followedCount, followedId}
 use Rattle.spec_cut.specs.section.Kept.{followedIds, voidType, typeOf, third}
 
--- c, s and start: the table, the section and the index of crate followed; ts: the types
+-- c, s and start: the table, the section and the index of `btf_open_causes::references`; ts: the types
 pub record Seen (c : TypeTable) (s start : List ℕ) (ts : List Described) : Type 0 where
   pub count : countOf c ≡ suc (length ts)
   pub zero-kind : kindAt c start 0 ≡ 0

@@ -1,4 +1,5 @@
--- One call of the emission rule over two machines, as in crate emit for the whole rule: here the machines change from call to call. Assumes nothing.
+-- One call of the emission rule over two machines, as in `c_dumper_emit::emit_type` for the whole rule: here the machines change from call
+-- to call. Assumes nothing.
 use Prim.Native.Nat.{ℕ}
 use mathlib.Core.Path.{_≡_, refl, ap, _∙_}
 use mathlib.Core.List.{List, [], _∷_}

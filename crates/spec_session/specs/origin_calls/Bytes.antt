@@ -1,5 +1,5 @@
 -- The calls that are lent a list, over lent bytes and for all inputs: what code that offers them is to promise. Without the entries they are
--- `typeCall` and `typesCall` of crate session, unless the list is too short (proofs/Bytes).
+-- `typeCall` and `typesCall` of `session_requests::entry_points`, unless the list is too short (proofs/Bytes).
 use Prim.Native.Nat.{ℕ, zero, suc, _-_, _≤_, _<_}
 use mathlib.Core.Path.{_≡_}
 use mathlib.Core.Bool.{Bool, true, false}
@@ -20,7 +20,8 @@ use Rattle.spec_session.specs.calls.Calls.{cameTo, lentTo}
 use Rattle.spec_c_dumper.specs.origins.Causes.{Entry, Led, orderLed, listedEntry, Noted, upTo, eachListed, showsIn, filled, entriesIn}
 use Rattle.spec_c_dumper.specs.origins.Claims.{forget, Listed}
 
--- One request, as `dumped` of crate emit: what ordering listed, each at the top, and then the order list is empty again. es: the entries before it.
+-- One request, as `dumped` of `c_dumper_emit::emit_type`: what ordering listed, each at the top, and then the order list is empty again.
+-- es: the entries before it.
 module _ {M : Type 0} (X : Machine M) (T : Table) (more : ℕ → Bool) (shows : ℕ → Bool) where
   unfoldable pub listedNoted : ℕ → List Entry → Res (Led M) → Out (Noted M)
   listedNoted x es (ok s strong) =

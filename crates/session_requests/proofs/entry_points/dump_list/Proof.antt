@@ -1,4 +1,5 @@
--- `session::dump_list` meets its contract, by the walk of `EntryList.antt`: its core's contract gives its own. Assumes nothing.
+-- `session_requests::entry_points::dump_list` meets its contract, by the walk of `EntryList.antt`: its core's contract gives its own.
+-- Assumes nothing.
 use base.Logic.{id⊢}
 use contract.Running.{givenOf, tables, tablesOf}
 use denote.Triple.Spec.{tripleOf}

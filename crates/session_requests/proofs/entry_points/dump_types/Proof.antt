@@ -1,4 +1,5 @@
--- `session::dump_types` meets its contract, by the one walk of `Entry.antt`: its core's contract gives its own. Assumes nothing.
+-- `session_requests::entry_points::dump_types` meets its contract, by the one walk of `Entry.antt`: its core's contract gives its own.
+-- Assumes nothing.
 use mathlib.Core.List.{[]}
 use base.Logic.{id⊢}
 use contract.Running.{givenOf, tables, tablesOf}
