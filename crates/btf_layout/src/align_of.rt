@@ -83,7 +83,8 @@ fn keep_once(b: TypeTable, work: &mut [u8], id: u32, r: Once, members: u32) -> O
 
 // get_align_of with a memory.
 fn align_once(b: TypeTable, section: &[u8], work: &mut [u8], id: u32, left: u32) -> Once
-    ensures { λ r. ⌜ onceOf r (now (work .exit)) ≡ onceWith (b .types) (btfOf b (now (section .entry)) (now (work .entry))) left id (now (work .entry)) ⌝ }
+    ensures { λ r. ⌜ onceOf r (now (work .exit))
+        ≡ onceWith (b .types) (btfOf b (now (section .entry)) (now (work .entry))) left id (now (work .entry)) ⌝ }
 {
     if left == 0 {
         return Once::No(refusal::TOO_DEEP);
@@ -129,7 +130,9 @@ pub fn get_align_of(b: TypeTable, section: &[u8], work: &mut [u8], id: u32, left
 
 // The largest of the members' alignments, at least 1, and the largest of their heights.
 fn members_once(b: TypeTable, section: &[u8], work: &mut [u8], members: Entries, left: u32) -> Once
-    ensures { λ r. ⌜ onceOf r (now (work .exit)) ≡ idsWith (b .types) (btfOf b (now (section .entry)) (now (work .entry))) left (alone 1) (memberIds b (now (section .entry)) members) (now (work .entry)) ⌝ }
+    ensures { λ r. ⌜ onceOf r (now (work .exit))
+        ≡ idsWith (b .types) (btfOf b (now (section .entry)) (now (work .entry))) left (alone 1)
+        (memberIds b (now (section .entry)) members) (now (work .entry)) ⌝ }
 {
     let vlen = members.vlen;
     let mut align: u32 = 1;

@@ -20,7 +20,8 @@ ghost use Rattle.btf_layout.specs.size.Answers.{packedOf};
 ghost use Rattle.btf_layout.specs.asked.Asked.{askIn, packedIn, offBy, alignIn, gapIn, unionIn, offIn, membersIn, packedAt};
 
 fn alignment(b: TypeTable, section: &[u8], work: &mut [u8], id: u32) -> Ask
-    ensures { λ r. ⌜ askIn r (now (work .exit)) ≡ alignIn (b .types) (btfOf b (now (section .entry)) (now (work .entry))) id (now (work .entry)) ⌝ }
+    ensures { λ r. ⌜ askIn r (now (work .exit))
+        ≡ alignIn (b .types) (btfOf b (now (section .entry)) (now (work .entry))) id (now (work .entry)) ⌝ }
 {
     match get_align_of(b, section, work, id, limit::MOST_CALLS) {
         Once::Found(s) => Ask::Got(s.align),
@@ -30,7 +31,8 @@ fn alignment(b: TypeTable, section: &[u8], work: &mut [u8], id: u32) -> Ask
 
 // The alignment that decides whether a gap is natural.
 pub fn gap_align(b: TypeTable, section: &[u8], work: &mut [u8], id: u32, packed: bool) -> Ask
-    ensures { λ r. ⌜ askIn r (now (work .exit)) ≡ gapIn (b .types) (btfOf b (now (section .entry)) (now (work .entry))) packed id (now (work .entry)) ⌝ }
+    ensures { λ r. ⌜ askIn r (now (work .exit))
+        ≡ gapIn (b .types) (btfOf b (now (section .entry)) (now (work .entry))) packed id (now (work .entry)) ⌝ }
 {
     if packed {
         return Ask::Got(1);
@@ -40,7 +42,8 @@ pub fn gap_align(b: TypeTable, section: &[u8], work: &mut [u8], id: u32, packed:
 
 // A union's alignment; a struct's is asked by the packed test.
 pub fn union_align(b: TypeTable, section: &[u8], work: &mut [u8], id: u32, t: BtfType) -> Ask
-    ensures { λ r. ⌜ askIn r (now (work .exit)) ≡ unionIn (b .types) (btfOf b (now (section .entry)) (now (work .entry))) (eqb (kindOf (t .info)) 4) id (now (work .entry)) ⌝ }
+    ensures { λ r. ⌜ askIn r (now (work .exit))
+        ≡ unionIn (b .types) (btfOf b (now (section .entry)) (now (work .entry))) (eqb (kindOf (t .info)) 4) id (now (work .entry)) ⌝ }
 {
     if is_struct(t) {
         return Ask::Got(1);
@@ -61,7 +64,9 @@ fn off_by(a: u32, bit_offset: u32) -> Packed
 
 // A bit field has no alignment of its own.
 fn member_off(b: TypeTable, section: &[u8], work: &mut [u8], m: BtfMember) -> Packed
-    ensures { λ r. ⌜ packedIn r (now (work .exit)) ≡ offIn (b .types) (btfOf b (now (section .entry)) (now (work .entry))) (ruleMember b (now (section .entry)) m) (now (work .entry)) ⌝ }
+    ensures { λ r. ⌜ packedIn r (now (work .exit))
+        ≡ offIn (b .types) (btfOf b (now (section .entry)) (now (work .entry))) (ruleMember b (now (section .entry)) m)
+        (now (work .entry)) ⌝ }
 {
     if m.bit_size != 0 {
         return Packed::Is(false);
@@ -74,7 +79,9 @@ fn member_off(b: TypeTable, section: &[u8], work: &mut [u8], m: BtfMember) -> Pa
 
 // The members in order, up to the first that is off.
 fn members_packed(b: TypeTable, section: &[u8], work: &mut [u8], t: BtfType) -> Packed
-    ensures { λ r. ⌜ packedIn r (now (work .exit)) ≡ membersIn (b .types) (btfOf b (now (section .entry)) (now (work .entry))) (membersOf b (now (section .entry)) t) (now (work .entry)) ⌝ }
+    ensures { λ r. ⌜ packedIn r (now (work .exit))
+        ≡ membersIn (b .types) (btfOf b (now (section .entry)) (now (work .entry))) (membersOf b (now (section .entry)) t)
+        (now (work .entry)) ⌝ }
 {
     let vlen = vlen_of(t.info);
     let mut k: u32 = 0;
@@ -107,7 +114,9 @@ fn is_multiple(n: u32, a: u32) -> bool
 
 // The packed test: the struct's own alignment comes first, and its members' are remembered by then.
 pub fn is_packed(b: TypeTable, section: &[u8], work: &mut [u8], id: u32, t: BtfType) -> Packed
-    ensures { λ r. ⌜ packedIn r (now (work .exit)) ≡ packedAt (b .types) (btfOf b (now (section .entry)) (now (work .entry))) (eqb (kindOf (t .info)) 4) id (t .«type_id») (membersOf b (now (section .entry)) t) (now (work .entry)) ⌝ }
+    ensures { λ r. ⌜ packedIn r (now (work .exit))
+        ≡ packedAt (b .types) (btfOf b (now (section .entry)) (now (work .entry))) (eqb (kindOf (t .info)) 4) id (t .«type_id»)
+        (membersOf b (now (section .entry)) t) (now (work .entry)) ⌝ }
 {
     if !is_struct(t) {
         return Packed::Is(false);

@@ -49,7 +49,8 @@ pub fn open(
     work: &mut [u8],
     text: &mut [u8],
 ) -> Opening
-    ensures { λ r. ⌜ openOut r (now (work .exit)) (now (text .exit)) ≡ openingOf «pointer_size» modes (now (section .entry)) (now (work .entry)) (now (text .entry)) ⌝ }
+    ensures { λ r. ⌜ openOut r (now (work .exit)) (now (text .exit))
+        ≡ openingOf «pointer_size» modes (now (section .entry)) (now (work .entry)) (now (text .entry)) ⌝ }
 {
     let mut start = [0u32; limit::TYPES_LEN];
     match examine(section, pointer_size, work.len(), &mut start) {

@@ -60,7 +60,8 @@ fn pass(
     from: u32,
 ) -> u32
     requires { ⌜ Known (graphOf b (now section) (now start)) (now st) × (0 < from) × (n ≤ 65536) ⌝ }
-    ensures { λ r. ⌜ Passes (graphOf b (now (section .entry)) (now (start .entry))) (now (st .entry)) (idAt b (now (section .entry)) kind at) n from r ⌝ }
+    ensures { λ r. ⌜ Passes (graphOf b (now (section .entry)) (now (start .entry))) (now (st .entry))
+        (idAt b (now (section .entry)) kind at) n from r ⌝ }
 {
     let mut m = from;
     while m <= n {
@@ -83,7 +84,8 @@ fn turn(
     d: usize,
 ) -> usize
     requires { ⌜ Inv (graphOf b (now section) (now start)) (now st) (now stack) d × (0 < d) ⌝ }
-    ensures { λ r. ⌜ Turned (graphOf b (now (section .entry)) (now (start .entry))) (now (st .entry)) d (now (st .exit)) (now (stack .exit)) r ⌝ }
+    ensures { λ r. ⌜ Turned (graphOf b (now (section .entry)) (now (start .entry))) (now (st .entry)) d (now (st .exit))
+        (now (stack .exit)) r ⌝ }
 {
     let x = stack[d - 1];
     let at = x as usize;

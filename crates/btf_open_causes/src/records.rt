@@ -135,7 +135,8 @@ fn scan_area(
     start: &mut [u32],
 ) -> Records
     requires { ⌜ (from ≤ end) × (end ≤ 16777216) ⌝ }
-    ensures { λ r. ⌜ scanOut r (now (start .exit)) ≡ scanP (sectionWord b (now (section .entry))) «str_len» from end (now (start .entry)) ⌝ }
+    ensures { λ r. ⌜ scanOut r (now (start .exit))
+        ≡ scanP (sectionWord b (now (section .entry))) «str_len» from end (now (start .entry)) ⌝ }
 {
     let mut at = from;
     let mut x: u32 = 1;

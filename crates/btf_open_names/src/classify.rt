@@ -25,7 +25,8 @@ fn choose(t: bool, x: u32, y: u32) -> u32
 
 // The class of h, which has a space, by the table of the holders before it.
 fn find(b: TypeTable, section: &[u8], work: &[u8], h: u32, bucket: u32, key: Key) -> u32
-    requires { ⌜ HolderFinds b (now section) (now work) h bucket × (keyOf (now section) (key .space) (key .name) ≡ keyIn b (now section) (now work) h) ⌝ }
+    requires { ⌜ HolderFinds b (now section) (now work) h bucket
+        × (keyOf (now section) (key .space) (key .name) ≡ keyIn b (now section) (now work) h) ⌝ }
     ensures { λ r. ⌜ r ≡ classOf (keyIn b (now (section .entry)) (now (work .entry))) h ⌝ }
 {
     let mut l = get_word(

@@ -15,7 +15,8 @@ use spec_type_table::TypeTable;
 ghost use mathlib.Core.Path.{_≡_};
 ghost use Prim.Native.Nat.{_+_, _-_, _/_, _%_, _<_};
 ghost use lib.ListN.{getD};
-ghost use Rattle.btf_open_names.specs.filled_work.Left.{placesPut, valuePlace, enumeratorWord, valuesPut, enumWith, valuesAt, tagPut, enumsPut, tagsPut, filled};
+ghost use Rattle.btf_open_names.specs.filled_work.Left.{placesPut, valuePlace, enumeratorWord, valuesPut, enumWith, valuesAt, tagPut};
+ghost use Rattle.btf_open_names.specs.filled_work.Left.{enumsPut, tagsPut, filled};
 
 // Entry x of the index: place * 32 + kind.
 fn entry_of(start: &[u32], x: u32) -> u32

@@ -71,10 +71,11 @@ fn has_room(work: &[u8], types: u32, enumerators: u32) -> bool
     all_zero(work, types, n, cell::TABLE_LINK, cell::VALUE_TABLE_LINK)
 }
 
-// Makes the table, from the last holder to the first, so that those of a bucket stand in rising order. Without room for it the work stays as it
-// is; the answer says which.
+// Makes the table, from the last holder to the first, so that those of a bucket stand in rising order. Without room for it the work stays
+// as it is; the answer says which.
 pub fn make_table(b: TypeTable, section: &[u8], enumerators: u32, work: &mut [u8]) -> bool
-    ensures { λ r. ⌜ (r ≡ hasRoom (b .types) enumerators (now (work .entry))) × (now (work .exit) ≡ tableIn b enumerators (now (section .entry)) (now (work .entry))) ⌝ }
+    ensures { λ r. ⌜ (r ≡ hasRoom (b .types) enumerators (now (work .entry)))
+        × (now (work .exit) ≡ tableIn b enumerators (now (section .entry)) (now (work .entry))) ⌝ }
 {
     if !has_room(work, b.types, enumerators) {
         return false;

@@ -78,7 +78,8 @@ fn number_over(work: &[u8], types: u32, class: u32, k: u32) -> u32
 
 // One more holder of h's name: the number that it gets.
 pub fn get_number(work: &mut [u8], types: u32, h: u32) -> u32
-    ensures { λ r. ⌜ (r ≡ numberAt types (now (work .entry)) h) × (now (work .exit) ≡ counted (classP types) (countP types) (now (work .entry)) h) ⌝ }
+    ensures { λ r. ⌜ (r ≡ numberAt types (now (work .entry)) h)
+        × (now (work .exit) ≡ counted (classP types) (countP types) (now (work .entry)) h) ⌝ }
 {
     let class = get_word(
         work,

@@ -119,7 +119,8 @@ fn count_at(work: &mut [u8], at: usize) -> u32
 
 // One more holder of h's name: how many there are now, at the class of the name.
 pub fn get_count(work: &mut [u8], types: u32, h: u32) -> u32
-    ensures { λ r. ⌜ (r ≡ countOf (classP types) (countP types) (now (work .entry)) h) × (now (work .exit) ≡ counted (classP types) (countP types) (now (work .entry)) h) ⌝ }
+    ensures { λ r. ⌜ (r ≡ countOf (classP types) (countP types) (now (work .entry)) h)
+        × (now (work .exit) ≡ counted (classP types) (countP types) (now (work .entry)) h) ⌝ }
 {
     let class = get_word(work, holder_word(types, NAME_CLASS, VALUE_CLASS, h));
     count_at(work, holder_word(types, NAME_HOLDERS, VALUE_HOLDERS, class))

@@ -44,7 +44,8 @@ pub fn load_enum_value(b: TypeTable, section: &[u8], e: Entries, k: u32) -> u32
 
 // btf_enum64: the low half, then the high half, of value k.
 pub fn load_enum64_value(b: TypeTable, section: &[u8], e: Entries, k: u32) -> u64
-    ensures { λ r. ⌜ r ≡ sectionWord b (now (section .entry)) (memberAt (e .at) k + 8) * 4294967296 + sectionWord b (now (section .entry)) (memberAt (e .at) k + 4) ⌝ }
+    ensures { λ r. ⌜ r ≡ sectionWord b (now (section .entry)) (memberAt (e .at) k + 8) * 4294967296
+        + sectionWord b (now (section .entry)) (memberAt (e .at) k + 4) ⌝ }
 {
     let w = three(b, section, member_place(e, k));
     (w.third as u64) * limit::TWO_TO_32 + (w.second as u64)

@@ -24,7 +24,8 @@ fn name_place(b: TypeTable, off: u32) -> usize
 // Where the name that starts at a place ends.
 fn name_end(section: &[u8], at: usize) -> usize
     requires { ⌜ at ≤ length (now section) ⌝ }
-    ensures { λ r. ⌜ (at ≤ r) × (r ≤ length (now (section .entry))) × (take (r - at) (drop at (now (section .entry))) ≡ nameAt (now (section .entry)) at) ⌝ }
+    ensures { λ r. ⌜ (at ≤ r) × (r ≤ length (now (section .entry)))
+        × (take (r - at) (drop at (now (section .entry))) ≡ nameAt (now (section .entry)) at) ⌝ }
 {
     let mut e = at;
     while e < section.len() {

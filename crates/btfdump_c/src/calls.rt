@@ -34,7 +34,8 @@ pub fn c_open(
     work: &mut [u8],
     text: &mut [u8],
 ) -> u64
-    ensures { λ r. ⌜ exportOf r (now («record» .exit)) (now (work .exit)) (now (text .exit)) ≡ openExport (now («record» .entry)) (now (section .entry)) «pointer_size» modes (now (work .entry)) (now (text .entry)) ⌝ }
+    ensures { λ r. ⌜ exportOf r (now («record» .exit)) (now (work .exit)) (now (text .exit))
+        ≡ openExport (now («record» .entry)) (now (section .entry)) «pointer_size» modes (now (work .entry)) (now (text .entry)) ⌝ }
 {
     if record.len() < 128 {
         return 1095216660480;
@@ -50,7 +51,8 @@ pub fn c_dump_type(
     text: &mut [u8],
     id: u32,
 ) -> u64
-    ensures { λ r. ⌜ exportOf r (now («record» .exit)) (now (work .exit)) (now (text .exit)) ≡ typeExport (now («record» .entry)) (now (section .entry)) (now (work .entry)) (now (text .entry)) id ⌝ }
+    ensures { λ r. ⌜ exportOf r (now («record» .exit)) (now (work .exit)) (now (text .exit))
+        ≡ typeExport (now («record» .entry)) (now (section .entry)) (now (work .entry)) (now (text .entry)) id ⌝ }
 {
     if record.len() < 128 {
         return 47244640256;
@@ -60,7 +62,8 @@ pub fn c_dump_type(
 }
 
 pub fn c_dump_types(record: &mut [u8], section: &[u8], work: &mut [u8], text: &mut [u8]) -> u64
-    ensures { λ r. ⌜ exportOf r (now («record» .exit)) (now (work .exit)) (now (text .exit)) ≡ typesExport (now («record» .entry)) (now (section .entry)) (now (work .entry)) (now (text .entry)) ⌝ }
+    ensures { λ r. ⌜ exportOf r (now («record» .exit)) (now (work .exit)) (now (text .exit))
+        ≡ typesExport (now («record» .entry)) (now (section .entry)) (now (work .entry)) (now (text .entry)) ⌝ }
 {
     if record.len() < 128 {
         return 47244640256;
@@ -76,7 +79,8 @@ pub fn c_dump_list(
     text: &mut [u8],
     ids: &[u8],
 ) -> u64
-    ensures { λ r. ⌜ exportOf r (now («record» .exit)) (now (work .exit)) (now (text .exit)) ≡ listExport (now («record» .entry)) (now (section .entry)) (now (work .entry)) (now (text .entry)) (idsIn (now (ids .entry))) ⌝ }
+    ensures { λ r. ⌜ exportOf r (now («record» .exit)) (now (work .exit)) (now (text .exit))
+        ≡ listExport (now («record» .entry)) (now (section .entry)) (now (work .entry)) (now (text .entry)) (idsIn (now (ids .entry))) ⌝ }
 {
     if ids.len() < 4 {
         return 0;
@@ -96,7 +100,8 @@ pub fn c_field(
     id: u32,
     bit: u32,
 ) -> u64
-    ensures { λ r. ⌜ pathExportOf r (now (path .exit)) ≡ fieldExport (now («record» .entry)) (now (section .entry)) (now (work .entry)) (now (path .entry)) id bit ⌝ }
+    ensures { λ r. ⌜ pathExportOf r (now (path .exit))
+        ≡ fieldExport (now («record» .entry)) (now (section .entry)) (now (work .entry)) (now (path .entry)) id bit ⌝ }
 {
     if record.len() < 128 {
         return 47244640256;

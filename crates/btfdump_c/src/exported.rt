@@ -24,7 +24,8 @@ pub extern "C" fn btfdump_open(
     work: &mut [u8],
     text: &mut [u8],
 ) -> u64
-    ensures { λ r. ⌜ exportOf r (now («record» .exit)) (now (work .exit)) (now (text .exit)) ≡ openExport (now («record» .entry)) (now (section .entry)) «pointer_size» modes (now (work .entry)) (now (text .entry)) ⌝ }
+    ensures { λ r. ⌜ exportOf r (now («record» .exit)) (now (work .exit)) (now (text .exit))
+        ≡ openExport (now («record» .entry)) (now (section .entry)) «pointer_size» modes (now (work .entry)) (now (text .entry)) ⌝ }
 {
     c_open(record, section, pointer_size, modes, work, text)
 }
@@ -37,7 +38,8 @@ pub extern "C" fn btfdump_dump_type(
     text: &mut [u8],
     id: u32,
 ) -> u64
-    ensures { λ r. ⌜ exportOf r (now («record» .exit)) (now (work .exit)) (now (text .exit)) ≡ typeExport (now («record» .entry)) (now (section .entry)) (now (work .entry)) (now (text .entry)) id ⌝ }
+    ensures { λ r. ⌜ exportOf r (now («record» .exit)) (now (work .exit)) (now (text .exit))
+        ≡ typeExport (now («record» .entry)) (now (section .entry)) (now (work .entry)) (now (text .entry)) id ⌝ }
 {
     c_dump_type(record, section, work, text, id)
 }
@@ -49,7 +51,8 @@ pub extern "C" fn btfdump_dump_types(
     work: &mut [u8],
     text: &mut [u8],
 ) -> u64
-    ensures { λ r. ⌜ exportOf r (now («record» .exit)) (now (work .exit)) (now (text .exit)) ≡ typesExport (now («record» .entry)) (now (section .entry)) (now (work .entry)) (now (text .entry)) ⌝ }
+    ensures { λ r. ⌜ exportOf r (now («record» .exit)) (now (work .exit)) (now (text .exit))
+        ≡ typesExport (now («record» .entry)) (now (section .entry)) (now (work .entry)) (now (text .entry)) ⌝ }
 {
     c_dump_types(record, section, work, text)
 }
@@ -62,7 +65,8 @@ pub extern "C" fn btfdump_dump_list(
     text: &mut [u8],
     ids: &[u8],
 ) -> u64
-    ensures { λ r. ⌜ exportOf r (now («record» .exit)) (now (work .exit)) (now (text .exit)) ≡ listExport (now («record» .entry)) (now (section .entry)) (now (work .entry)) (now (text .entry)) (idsIn (now (ids .entry))) ⌝ }
+    ensures { λ r. ⌜ exportOf r (now («record» .exit)) (now (work .exit)) (now (text .exit))
+        ≡ listExport (now («record» .entry)) (now (section .entry)) (now (work .entry)) (now (text .entry)) (idsIn (now (ids .entry))) ⌝ }
 {
     c_dump_list(record, section, work, text, ids)
 }
@@ -76,7 +80,8 @@ pub extern "C" fn btfdump_field(
     id: u32,
     bit: u32,
 ) -> u64
-    ensures { λ r. ⌜ pathExportOf r (now (path .exit)) ≡ fieldExport (now («record» .entry)) (now (section .entry)) (now (work .entry)) (now (path .entry)) id bit ⌝ }
+    ensures { λ r. ⌜ pathExportOf r (now (path .exit))
+        ≡ fieldExport (now («record» .entry)) (now (section .entry)) (now (work .entry)) (now (path .entry)) id bit ⌝ }
 {
     c_field(record, section, work, path, id, bit)
 }

@@ -26,7 +26,8 @@ fn closed() -> Session
 
 // Leaves what is printed at the start of the text: how long it is.
 pub fn run(section: &[u8], work: &mut [u8], text: &mut [u8]) -> usize
-    ensures { λ r. ⌜ ranTo r (now (text .exit)) (now (work .exit)) ≡ ranOn (now (section .entry)) (now (work .entry)) (now (text .entry)) ⌝ }
+    ensures { λ r. ⌜ ranTo r (now (text .exit)) (now (work .exit))
+        ≡ ranOn (now (section .entry)) (now (work .entry)) (now (text .entry)) ⌝ }
 {
     let opened = open_core(closed(), section, work, text, 8, 0);
     let answer = opened.answer;
@@ -37,7 +38,8 @@ pub fn run(section: &[u8], work: &mut [u8], text: &mut [u8]) -> usize
 }
 
 fn run_all(s: Session, section: &[u8], work: &mut [u8], text: &mut [u8]) -> usize
-    ensures { λ r. ⌜ ranTo r (now (text .exit)) (now (work .exit)) ≡ ranAll (typesCall s (now (section .entry)) (now (work .entry)) (now (text .entry))) ⌝ }
+    ensures { λ r. ⌜ ranTo r (now (text .exit)) (now (work .exit))
+        ≡ ranAll (typesCall s (now (section .entry)) (now (work .entry)) (now (text .entry))) ⌝ }
 {
     let turn = dump_types_core(s, section, work, text);
     let answer = turn.answer;

@@ -30,7 +30,10 @@ pub fn emit_enumerator(
     name_off: u32,
     lvl: u32,
 ) -> usize
-    ensures { λ r. ⌜ (putOut r (now (text .exit)) ≡ putText (now (text .entry)) at (whole (valueHead lvl (spelled (strAt b (now (section .entry)) «name_off») (valueVersionIn (b .types) e (now (work .entry)) .version))))) × (now (work .exit) ≡ valueVersionIn (b .types) e (now (work .entry)) .names) ⌝ }
+    ensures { λ r. ⌜ (putOut r (now (text .exit))
+        ≡ putText (now (text .entry)) at (whole
+        (valueHead lvl (spelled (strAt b (now (section .entry)) «name_off») (valueVersionIn (b .types) e (now (work .entry)) .version)))))
+        × (now (work .exit) ≡ valueVersionIn (b .types) e (now (work .entry)) .names) ⌝ }
 {
     let name = resolve_name(b, work, e, name_off);
     let a = put_byte(text, at, b'\n');
@@ -60,7 +63,8 @@ pub fn emit_enum_head(
     id: u32,
     name_off: u32,
 ) -> usize
-    ensures { λ r. ⌜ outOf r (now (text .exit)) (now (work .exit)) ≡ putSaid (now (text .entry)) at (enumHead (workNaming b) id (strAt b (now (section .entry)) «name_off») (now (work .entry))) ⌝ }
+    ensures { λ r. ⌜ outOf r (now (text .exit)) (now (work .exit))
+        ≡ putSaid (now (text .entry)) at (enumHead (workNaming b) id (strAt b (now (section .entry)) «name_off») (now (work .entry))) ⌝ }
 {
     let name = resolve_type_name(b, section, work, id, name_off);
     let a = put_enum(text, at);
@@ -93,7 +97,9 @@ pub fn put_enum_name(
     id: u32,
     name_off: u32,
 ) -> usize
-    ensures { λ r. ⌜ outOf r (now (text .exit)) (now (work .exit)) ≡ putSaid (now (text .entry)) at (enumWord (workNaming b) (btfOf b (now (section .entry)) (now (work .entry))) id (strAt b (now (section .entry)) «name_off») (now (work .entry))) ⌝ }
+    ensures { λ r. ⌜ outOf r (now (text .exit)) (now (work .exit))
+        ≡ putSaid (now (text .entry)) at (enumWord (workNaming b) (btfOf b (now (section .entry)) (now (work .entry))) id
+        (strAt b (now (section .entry)) «name_off») (now (work .entry))) ⌝ }
 {
     let name = resolve_type_name(b, section, work, id, name_off);
     let a = put_enum(text, at);

@@ -49,7 +49,9 @@ fn emit_values64(
     t: BtfType,
     lvl: u32,
 ) -> usize
-    ensures { λ r. ⌜ outOf r (now (text .exit)) (now (work .exit)) ≡ putSaid (now (text .entry)) at (emitValues (workNaming b) (btfOf b (now (section .entry)) (now (work .entry))) (enum64Value (flagOf (t .info))) id lvl 0 (values64Of b (now (section .entry)) t) (now (work .entry))) ⌝ }
+    ensures { λ r. ⌜ outOf r (now (text .exit)) (now (work .exit))
+        ≡ putSaid (now (text .entry)) at (emitValues (workNaming b) (btfOf b (now (section .entry)) (now (work .entry)))
+        (enum64Value (flagOf (t .info))) id lvl 0 (values64Of b (now (section .entry)) t) (now (work .entry))) ⌝ }
 {
     let values = entries_of(t);
     let vlen = values.vlen;
@@ -77,7 +79,10 @@ pub fn emit_enum64_def(
     t: BtfType,
     lvl: u32,
 ) -> usize
-    ensures { λ r. ⌜ outOf r (now (text .exit)) (now (work .exit)) ≡ putSaid (now (text .entry)) at (emitEnumDef (workNaming b) (btfOf b (now (section .entry)) (now (work .entry))) (enum64Value (flagOf (t .info))) id (strAt b (now (section .entry)) (t .«name_off»)) (values64Of b (now (section .entry)) t) lvl (now (work .entry))) ⌝ }
+    ensures { λ r. ⌜ outOf r (now (text .exit)) (now (work .exit))
+        ≡ putSaid (now (text .entry)) at (emitEnumDef (workNaming b) (btfOf b (now (section .entry)) (now (work .entry)))
+        (enum64Value (flagOf (t .info))) id (strAt b (now (section .entry)) (t .«name_off»)) (values64Of b (now (section .entry)) t) lvl
+        (now (work .entry))) ⌝ }
 {
     if is_builtin(b, section, t.name_off) {
         return at;

@@ -74,7 +74,8 @@ ghost use Rattle.spec_type_table.specs.Records.{kindOf, memberOf};
 ghost use Rattle.spec_type_table.specs.Table.{from, paramOf, paramsOf, membersOf, recordName, ruleMember, typeOf, btfOf, workNaming};
 ghost use Rattle.c_dumper_name_versions.specs.names.Spelling.{nameText};
 ghost use Rattle.c_dumper_bodies.specs.chain.Chains.{chainAt};
-ghost use Rattle.c_dumper_bodies.specs.bodies.Pieces.{entryLeft, entryStar, entryNamed, wordBelow, paramsBelow, arrayBelow, protoBelow, paramListBelow, entryText, paramText, memberText, membersBelow, endFrom};
+ghost use Rattle.c_dumper_bodies.specs.bodies.Pieces.{entryLeft, entryStar, entryNamed, wordBelow, paramsBelow, arrayBelow, protoBelow};
+ghost use Rattle.c_dumper_bodies.specs.bodies.Pieces.{paramListBelow, entryText, paramText, memberText, membersBelow, endFrom};
 
 // What is declared: the type that the chain starts from, the declared name, and the level of indentation.
 pub struct Declarator {
@@ -100,7 +101,10 @@ pub fn emit_type_decl(
     d: Declarator,
     left: u32,
 ) -> usize
-    ensures { λ r. ⌜ outOf r (now (text .exit)) (now (work .exit)) ≡ putSaid (now (text .entry)) at (emitTypeDeclOnce (workAsks (b .types) (btfOf b (now (section .entry)) (now (work .entry)))) (workNaming b) (btfOf b (now (section .entry)) (now (work .entry))) left (d .id) (nameText b (now (section .entry)) (d .name)) (d .lvl) (now (work .entry))) ⌝ }
+    ensures { λ r. ⌜ outOf r (now (text .exit)) (now (work .exit))
+        ≡ putSaid (now (text .entry)) at (emitTypeDeclOnce (workAsks (b .types) (btfOf b (now (section .entry)) (now (work .entry))))
+        (workNaming b) (btfOf b (now (section .entry)) (now (work .entry))) left (d .id) (nameText b (now (section .entry)) (d .name))
+        (d .lvl) (now (work .entry))) ⌝ }
 {
     if left == 0 {
         return stop(text, at, refusal::TOO_DEEP);
@@ -124,7 +128,11 @@ fn emit_type_chain(
     n: u32,
     left: u32,
 ) -> usize
-    ensures { λ r. ⌜ outOf r (now (text .exit)) (now (work .exit)) ≡ putSaid (now (text .entry)) at (emitTypeChainOnce (workAsks (b .types) (btfOf b (now (section .entry)) (now (work .entry)))) (workNaming b) (btfOf b (now (section .entry)) (now (work .entry))) left (chainAt b (now (section .entry)) (now (work .entry)) (d .id) n) (nameText b (now (section .entry)) (d .name)) (d .lvl) (now (work .entry))) ⌝ }
+    ensures { λ r. ⌜ outOf r (now (text .exit)) (now (work .exit))
+        ≡ putSaid (now (text .entry)) at (emitTypeChainOnce (workAsks (b .types) (btfOf b (now (section .entry)) (now (work .entry))))
+        (workNaming b) (btfOf b (now (section .entry)) (now (work .entry))) left
+        (chainAt b (now (section .entry)) (now (work .entry)) (d .id) n) (nameText b (now (section .entry)) (d .name)) (d .lvl)
+        (now (work .entry))) ⌝ }
 {
     if left == 0 {
         return stop(text, at, refusal::TOO_DEEP);
@@ -184,7 +192,15 @@ fn emit_entry(
     below: u32,
 ) -> Chain
     requires { ⌜ 0 < c .n ⌝ }
-    ensures { λ r. ⌜ (outOf (r .at) (now (text .exit)) (now (work .exit)) ≡ putSaid (now (text .entry)) (c .at) (entryText (workAsks (b .types) (btfOf b (now (section .entry)) (now (work .entry)))) (workNaming b) (btfOf b (now (section .entry)) (now (work .entry))) below (nameText b (now (section .entry)) (d .name)) (d .lvl) (c .«last_was_ptr») (chainAt b (now (section .entry)) (now (work .entry)) (d .id) (c .n)) (now (work .entry)))) × (chainAt b (now (section .entry)) (now (work .entry)) (d .id) (r .n) ≡ entryLeft (chainAt b (now (section .entry)) (now (work .entry)) (d .id) (c .n))) × (r .«last_was_ptr» ≡ entryStar (chainAt b (now (section .entry)) (now (work .entry)) (d .id) (c .n))) × (r .«is_named» ≡ entryNamed (chainAt b (now (section .entry)) (now (work .entry)) (d .id) (c .n))) × (r .n ≤ c .n - 1) ⌝ }
+    ensures { λ r. ⌜ (outOf (r .at) (now (text .exit)) (now (work .exit))
+        ≡ putSaid (now (text .entry)) (c .at)
+        (entryText (workAsks (b .types) (btfOf b (now (section .entry)) (now (work .entry)))) (workNaming b)
+        (btfOf b (now (section .entry)) (now (work .entry))) below (nameText b (now (section .entry)) (d .name)) (d .lvl)
+        (c .«last_was_ptr») (chainAt b (now (section .entry)) (now (work .entry)) (d .id) (c .n)) (now (work .entry))))
+        × (chainAt b (now (section .entry)) (now (work .entry)) (d .id) (r .n)
+        ≡ entryLeft (chainAt b (now (section .entry)) (now (work .entry)) (d .id) (c .n)))
+        × (r .«last_was_ptr» ≡ entryStar (chainAt b (now (section .entry)) (now (work .entry)) (d .id) (c .n)))
+        × (r .«is_named» ≡ entryNamed (chainAt b (now (section .entry)) (now (work .entry)) (d .id) (c .n))) × (r .n ≤ c .n - 1) ⌝ }
 {
     let n = c.n - 1;
     let id = path_at(b, section, work, d.id, n);
@@ -231,7 +247,15 @@ fn emit_function(
     below: u32,
 ) -> usize
     requires { ⌜ 0 < c .n ⌝ }
-    ensures { λ r. ⌜ outOf r (now (text .exit)) (now (work .exit)) ≡ putSaid (now (text .entry)) (c .at) ((put (mods (chainAt b (now (section .entry)) (now (work .entry)) (d .id) (c .n - 1))) ⨾ protoBelow (workAsks (b .types) (btfOf b (now (section .entry)) (now (work .entry)))) (workNaming b) (btfOf b (now (section .entry)) (now (work .entry))) below (nameText b (now (section .entry)) (d .name)) (d .lvl) (c .«last_was_ptr») (noMods (chainAt b (now (section .entry)) (now (work .entry)) (d .id) (c .n - 1))) ⨾ paramListBelow (workAsks (b .types) (btfOf b (now (section .entry)) (now (work .entry)))) (workNaming b) (btfOf b (now (section .entry)) (now (work .entry))) below (nameText b (now (section .entry)) (d .name)) (d .lvl) (paramsOf b (now (section .entry)) t)) (now (work .entry))) ⌝ }
+    ensures { λ r. ⌜ outOf r (now (text .exit)) (now (work .exit))
+        ≡ putSaid (now (text .entry)) (c .at)
+        ((put (mods (chainAt b (now (section .entry)) (now (work .entry)) (d .id) (c .n - 1)))
+        ⨾ protoBelow (workAsks (b .types) (btfOf b (now (section .entry)) (now (work .entry)))) (workNaming b)
+        (btfOf b (now (section .entry)) (now (work .entry))) below (nameText b (now (section .entry)) (d .name)) (d .lvl)
+        (c .«last_was_ptr») (noMods (chainAt b (now (section .entry)) (now (work .entry)) (d .id) (c .n - 1)))
+        ⨾ paramListBelow (workAsks (b .types) (btfOf b (now (section .entry)) (now (work .entry)))) (workNaming b)
+        (btfOf b (now (section .entry)) (now (work .entry))) below (nameText b (now (section .entry)) (d .name)) (d .lvl)
+        (paramsOf b (now (section .entry)) t)) (now (work .entry))) ⌝ }
 {
     let n = c.n - 1;
     let m = skip_mods(b, section, work, d.id, n);
@@ -252,7 +276,10 @@ fn emit_base(
     lvl: u32,
     below: u32,
 ) -> usize
-    ensures { λ r. ⌜ outOf r (now (text .exit)) (now (work .exit)) ≡ putSaid (now (text .entry)) at (wordBelow (workAsks (b .types) (btfOf b (now (section .entry)) (now (work .entry)))) (workNaming b) (btfOf b (now (section .entry)) (now (work .entry))) below lvl id (typeOf b (now (section .entry)) t) (now (work .entry))) ⌝ }
+    ensures { λ r. ⌜ outOf r (now (text .exit)) (now (work .exit))
+        ≡ putSaid (now (text .entry)) at (wordBelow (workAsks (b .types) (btfOf b (now (section .entry)) (now (work .entry))))
+        (workNaming b) (btfOf b (now (section .entry)) (now (work .entry))) below lvl id (typeOf b (now (section .entry)) t)
+        (now (work .entry))) ⌝ }
 {
     match kind_of(t.info) {
         kind::INT | kind::FLOAT => put_str(b, section, text, at, t.name_off),
@@ -301,7 +328,11 @@ fn emit_composite_word(
     lvl: u32,
     below: u32,
 ) -> usize
-    ensures { λ r. ⌜ outOf r (now (text .exit)) (now (work .exit)) ≡ putSaid (now (text .entry)) at (wordBelow (workAsks (b .types) (btfOf b (now (section .entry)) (now (work .entry)))) (workNaming b) (btfOf b (now (section .entry)) (now (work .entry))) below lvl id (Composite (eqb (kindOf (t .info)) 4) (recordName b (now (section .entry)) t) (t .«type_id») (membersOf b (now (section .entry)) t)) (now (work .entry))) ⌝ }
+    ensures { λ r. ⌜ outOf r (now (text .exit)) (now (work .exit))
+        ≡ putSaid (now (text .entry)) at (wordBelow (workAsks (b .types) (btfOf b (now (section .entry)) (now (work .entry))))
+        (workNaming b) (btfOf b (now (section .entry)) (now (work .entry))) below lvl id
+        (Composite (eqb (kindOf (t .info)) 4) (recordName b (now (section .entry)) t) (t .«type_id») (membersOf b (now (section .entry)) t))
+        (now (work .entry))) ⌝ }
 {
     if is_empty(b, section, t.name_off) {
         return emit_composite_def(b, section, work, text, at, id, t, lvl, below);
@@ -321,7 +352,10 @@ fn emit_array(
     last_was_ptr: bool,
     below: u32,
 ) -> usize
-    ensures { λ r. ⌜ outOf r (now (text .exit)) (now (work .exit)) ≡ putSaid (now (text .entry)) at (arrayBelow (workAsks (b .types) (btfOf b (now (section .entry)) (now (work .entry)))) (workNaming b) (btfOf b (now (section .entry)) (now (work .entry))) below (nameText b (now (section .entry)) (d .name)) (d .lvl) «last_was_ptr» (chainAt b (now (section .entry)) (now (work .entry)) (d .id) n) (now (work .entry))) ⌝ }
+    ensures { λ r. ⌜ outOf r (now (text .exit)) (now (work .exit))
+        ≡ putSaid (now (text .entry)) at (arrayBelow (workAsks (b .types) (btfOf b (now (section .entry)) (now (work .entry))))
+        (workNaming b) (btfOf b (now (section .entry)) (now (work .entry))) below (nameText b (now (section .entry)) (d .name)) (d .lvl)
+        «last_was_ptr» (chainAt b (now (section .entry)) (now (work .entry)) (d .id) n) (now (work .entry))) ⌝ }
 {
     let name = d.name;
     if n == 0 {
@@ -348,7 +382,10 @@ fn emit_proto(
     last_was_ptr: bool,
     below: u32,
 ) -> usize
-    ensures { λ r. ⌜ outOf r (now (text .exit)) (now (work .exit)) ≡ putSaid (now (text .entry)) at (protoBelow (workAsks (b .types) (btfOf b (now (section .entry)) (now (work .entry)))) (workNaming b) (btfOf b (now (section .entry)) (now (work .entry))) below (nameText b (now (section .entry)) (d .name)) (d .lvl) «last_was_ptr» (chainAt b (now (section .entry)) (now (work .entry)) (d .id) n) (now (work .entry))) ⌝ }
+    ensures { λ r. ⌜ outOf r (now (text .exit)) (now (work .exit))
+        ≡ putSaid (now (text .entry)) at (protoBelow (workAsks (b .types) (btfOf b (now (section .entry)) (now (work .entry))))
+        (workNaming b) (btfOf b (now (section .entry)) (now (work .entry))) below (nameText b (now (section .entry)) (d .name)) (d .lvl)
+        «last_was_ptr» (chainAt b (now (section .entry)) (now (work .entry)) (d .id) n) (now (work .entry))) ⌝ }
 {
     if n == 0 {
         let name = d.name;
@@ -370,7 +407,10 @@ fn emit_params(
     lvl: u32,
     below: u32,
 ) -> usize
-    ensures { λ r. ⌜ outOf r (now (text .exit)) (now (work .exit)) ≡ putSaid (now (text .entry)) at (paramsBelow (workAsks (b .types) (btfOf b (now (section .entry)) (now (work .entry)))) (workNaming b) (btfOf b (now (section .entry)) (now (work .entry))) below lvl (shownParams (from (paramOf b (now (section .entry)) (params .at)) 0 (params .vlen))) (now (work .entry))) ⌝ }
+    ensures { λ r. ⌜ outOf r (now (text .exit)) (now (work .exit))
+        ≡ putSaid (now (text .entry)) at (paramsBelow (workAsks (b .types) (btfOf b (now (section .entry)) (now (work .entry))))
+        (workNaming b) (btfOf b (now (section .entry)) (now (work .entry))) below lvl
+        (shownParams (from (paramOf b (now (section .entry)) (params .at)) 0 (params .vlen))) (now (work .entry))) ⌝ }
 {
     let shown = shown_params(b, section, params);
     let mut p = put_open(text, at);
@@ -397,7 +437,11 @@ fn emit_param(
     lvl: u32,
     below: u32,
 ) -> usize
-    ensures { λ r. ⌜ outOf r (now (text .exit)) (now (work .exit)) ≡ putSaid (now (text .entry)) at (paramText (λ id name. emitTypeDeclOnce (workAsks (b .types) (btfOf b (now (section .entry)) (now (work .entry)))) (workNaming b) (btfOf b (now (section .entry)) (now (work .entry))) below id name lvl) (eqb k 0) (paramOf b (now (section .entry)) (params .at) k) (leb (params .vlen) (k + 1)) (now (work .entry))) ⌝ }
+    ensures { λ r. ⌜ outOf r (now (text .exit)) (now (work .exit))
+        ≡ putSaid (now (text .entry)) at (paramText
+        (λ id name. emitTypeDeclOnce (workAsks (b .types) (btfOf b (now (section .entry)) (now (work .entry)))) (workNaming b)
+        (btfOf b (now (section .entry)) (now (work .entry))) below id name lvl) (eqb k 0) (paramOf b (now (section .entry)) (params .at) k)
+        (leb (params .vlen) (k + 1)) (now (work .entry))) ⌝ }
 {
     let p = param_place(params, k);
     let type_id = word(b, section, p + 4);
@@ -424,7 +468,10 @@ pub fn emit_composite_def(
     lvl: u32,
     left: u32,
 ) -> usize
-    ensures { λ r. ⌜ outOf r (now (text .exit)) (now (work .exit)) ≡ putSaid (now (text .entry)) at (emitCompositeDefOnce (workAsks (b .types) (btfOf b (now (section .entry)) (now (work .entry)))) (workNaming b) (btfOf b (now (section .entry)) (now (work .entry))) left id (eqb (kindOf (t .info)) 4) (recordName b (now (section .entry)) t) (t .«type_id») (membersOf b (now (section .entry)) t) lvl (now (work .entry))) ⌝ }
+    ensures { λ r. ⌜ outOf r (now (text .exit)) (now (work .exit))
+        ≡ putSaid (now (text .entry)) at (emitCompositeDefOnce (workAsks (b .types) (btfOf b (now (section .entry)) (now (work .entry))))
+        (workNaming b) (btfOf b (now (section .entry)) (now (work .entry))) left id (eqb (kindOf (t .info)) 4)
+        (recordName b (now (section .entry)) t) (t .«type_id») (membersOf b (now (section .entry)) t) lvl (now (work .entry))) ⌝ }
 {
     if left == 0 {
         return stop(text, at, refusal::TOO_DEEP);
@@ -468,7 +515,11 @@ fn emit_members(
     lvl: u32,
     below: u32,
 ) -> usize
-    ensures { λ r. ⌜ outOf r (now (text .exit)) (now (work .exit)) ≡ putSaid (now (text .entry)) at (membersBelow (workAsks (b .types) (btfOf b (now (section .entry)) (now (work .entry)))) (workNaming b) (btfOf b (now (section .entry)) (now (work .entry))) below id (tailPads (b .placing) (b .«ptr_sz») (eqb (kindOf (t .info)) 4) (t .«type_id»)) lvl packed 0 0 (membersOf b (now (section .entry)) t) (now (work .entry))) ⌝ }
+    ensures { λ r. ⌜ outOf r (now (text .exit)) (now (work .exit))
+        ≡ putSaid (now (text .entry)) at (membersBelow (workAsks (b .types) (btfOf b (now (section .entry)) (now (work .entry))))
+        (workNaming b) (btfOf b (now (section .entry)) (now (work .entry))) below id
+        (tailPads (b .placing) (b .«ptr_sz») (eqb (kindOf (t .info)) 4) (t .«type_id»)) lvl packed 0 0
+        (membersOf b (now (section .entry)) t) (now (work .entry))) ⌝ }
 {
     let vlen = vlen_of(t.info);
     let mut s = Spot { at: at, offset: 0 };
@@ -496,7 +547,13 @@ fn emit_member(
     lvl: u32,
     below: u32,
 ) -> Spot
-    ensures { λ r. ⌜ (outOf (r .at) (now (text .exit)) (now (work .exit)) ≡ putSaid (now (text .entry)) (s .at) (memberText (workAsks (b .types) (btfOf b (now (section .entry)) (now (work .entry)))) (workNaming b) (btfOf b (now (section .entry)) (now (work .entry))) below id lvl packed k (s .offset) (ruleMember b (now (section .entry)) (memberOf b (now (section .entry)) t k)) (now (work .entry)))) × (r .offset ≡ endFrom (endOf (btfOf b (now (section .entry)) (now (work .exit))) (ruleMember b (now (section .entry)) (memberOf b (now (section .entry)) t k)))) ⌝ }
+    ensures { λ r. ⌜ (outOf (r .at) (now (text .exit)) (now (work .exit))
+        ≡ putSaid (now (text .entry)) (s .at)
+        (memberText (workAsks (b .types) (btfOf b (now (section .entry)) (now (work .entry)))) (workNaming b)
+        (btfOf b (now (section .entry)) (now (work .entry))) below id lvl packed k (s .offset)
+        (ruleMember b (now (section .entry)) (memberOf b (now (section .entry)) t k)) (now (work .entry))))
+        × (r .offset ≡ endFrom (endOf (btfOf b (now (section .entry)) (now (work .exit)))
+        (ruleMember b (now (section .entry)) (memberOf b (now (section .entry)) t k)))) ⌝ }
 {
     let m = load_member(b, section, t, k);
     let d = Declarator {

@@ -37,7 +37,9 @@ pub fn emit_definition(
     id: u32,
     t: BtfType,
 ) -> usize
-    ensures { λ r. ⌜ outOf r (now (text .exit)) (now (work .exit)) ≡ putSaid (now (text .entry)) at (definitionOnce (workAsks (b .types) (btfOf b (now (section .entry)) (now (work .entry)))) (workNaming b) (btfOf b (now (section .entry)) (now (work .entry))) id (typeOf b (now (section .entry)) t) (now (work .entry))) ⌝ }
+    ensures { λ r. ⌜ outOf r (now (text .exit)) (now (work .exit))
+        ≡ putSaid (now (text .entry)) at (definitionOnce (workAsks (b .types) (btfOf b (now (section .entry)) (now (work .entry))))
+        (workNaming b) (btfOf b (now (section .entry)) (now (work .entry))) id (typeOf b (now (section .entry)) t) (now (work .entry))) ⌝ }
 {
     match kind_of(t.info) {
         kind::STRUCT | kind::UNION => {
@@ -71,7 +73,9 @@ pub fn emit_forward(
     id: u32,
     t: BtfType,
 ) -> usize
-    ensures { λ r. ⌜ outOf r (now (text .exit)) (now (work .exit)) ≡ putSaid (now (text .entry)) at (forwardOnce (workAsks (b .types) (btfOf b (now (section .entry)) (now (work .entry)))) (workNaming b) (btfOf b (now (section .entry)) (now (work .entry))) id (typeOf b (now (section .entry)) t) (now (work .entry))) ⌝ }
+    ensures { λ r. ⌜ outOf r (now (text .exit)) (now (work .exit))
+        ≡ putSaid (now (text .entry)) at (forwardOnce (workAsks (b .types) (btfOf b (now (section .entry)) (now (work .entry))))
+        (workNaming b) (btfOf b (now (section .entry)) (now (work .entry))) id (typeOf b (now (section .entry)) t) (now (work .entry))) ⌝ }
 {
     if is_builtin(b, section, t.name_off) {
         return at;

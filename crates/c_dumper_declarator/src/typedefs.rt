@@ -26,7 +26,10 @@ pub fn emit_typedef_def(
     name_off: u32,
     type_id: u32,
 ) -> usize
-    ensures { λ r. ⌜ outOf r (now (text .exit)) (now (work .exit)) ≡ putSaid (now (text .entry)) at (emitTypedefDefOnce (workAsks (b .types) (btfOf b (now (section .entry)) (now (work .entry)))) (workNaming b) (btfOf b (now (section .entry)) (now (work .entry))) id (strAt b (now (section .entry)) «name_off») «type_id» (now (work .entry))) ⌝ }
+    ensures { λ r. ⌜ outOf r (now (text .exit)) (now (work .exit))
+        ≡ putSaid (now (text .entry)) at (emitTypedefDefOnce (workAsks (b .types) (btfOf b (now (section .entry)) (now (work .entry))))
+        (workNaming b) (btfOf b (now (section .entry)) (now (work .entry))) id (strAt b (now (section .entry)) «name_off») «type_id»
+        (now (work .entry))) ⌝ }
 {
     let name = resolve_type_name(b, section, work, id, name_off);
     let d = Declarator {

@@ -52,7 +52,8 @@ fn emit_listed(
 
 // A request for an id that is ordered, or is a function, a variable, a section or a tag, does nothing.
 pub fn is_idle(b: TypeTable, section: &[u8], work: &[u8], id: u32) -> bool
-    ensures { λ r. ⌜ r ≡ isIdle (markOf (getField (now (work .entry)) id 1)) (tableIn b (now (section .entry)) (now (work .entry)) .node id) ⌝ }
+    ensures { λ r. ⌜ r ≡ isIdle (markOf (getField (now (work .entry)) id 1))
+        (tableIn b (now (section .entry)) (now (work .entry)) .node id) ⌝ }
 {
     let state = get_order_state(work, id);
     if state == 2 {
@@ -128,7 +129,10 @@ pub fn dump_type(
     at: usize,
     id: u32,
 ) -> usize
-    ensures { λ r. ⌜ emitOut 0 r (now (text .exit)) (now (work .exit)) ≡ obind (emitOut 0 at (now (text .entry)) (now (work .entry))) (λ m. dumped (workMachine b (btfOf b (now (section .entry)) (now (work .entry)))) (tableOf (btfOf b (now (section .entry)) (now (work .entry)))) m id) ⌝ }
+    ensures { λ r. ⌜ emitOut 0 r (now (text .exit)) (now (work .exit))
+        ≡ obind (emitOut 0 at (now (text .entry)) (now (work .entry)))
+        (λ m. dumped (workMachine b (btfOf b (now (section .entry)) (now (work .entry))))
+        (tableOf (btfOf b (now (section .entry)) (now (work .entry)))) m id) ⌝ }
 {
     let none = Ceiling {
         is_set: false,
@@ -154,7 +158,10 @@ pub fn dump_type_within(
     id: u32,
     spare: u64,
 ) -> Dumped
-    ensures { λ r. ⌜ (emitOut 0 (r .at) (now (text .exit)) (now (work .exit)) ≡ obind (emitOut 0 at (now (text .entry)) (now (work .entry))) (λ m. dumpedWithin b (btfOf b (now (section .entry)) (now (work .entry))) (callsIn b (now (section .entry)) (now (work .entry)) id) spare m id)) × (r .spare ≡ spare - callsIn b (now (section .entry)) (now (work .entry)) id) ⌝ }
+    ensures { λ r. ⌜ (emitOut 0 (r .at) (now (text .exit)) (now (work .exit))
+        ≡ obind (emitOut 0 at (now (text .entry)) (now (work .entry)))
+        (λ m. dumpedWithin b (btfOf b (now (section .entry)) (now (work .entry))) (callsIn b (now (section .entry)) (now (work .entry)) id)
+        spare m id)) × (r .spare ≡ spare - callsIn b (now (section .entry)) (now (work .entry)) id) ⌝ }
 {
     let c = Ceiling {
         is_set: true,

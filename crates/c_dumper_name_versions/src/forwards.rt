@@ -39,7 +39,9 @@ pub fn emit_composite_fwd(
     is_struct: bool,
     name_off: u32,
 ) -> usize
-    ensures { λ r. ⌜ outOf r (now (text .exit)) (now (work .exit)) ≡ putSaid (now (text .entry)) at (emitCompositeFwd (workNaming b) (btfOf b (now (section .entry)) (now (work .entry))) id «is_struct» (strAt b (now (section .entry)) «name_off») (now (work .entry))) ⌝ }
+    ensures { λ r. ⌜ outOf r (now (text .exit)) (now (work .exit))
+        ≡ putSaid (now (text .entry)) at (emitCompositeFwd (workNaming b) (btfOf b (now (section .entry)) (now (work .entry))) id
+        «is_struct» (strAt b (now (section .entry)) «name_off») (now (work .entry))) ⌝ }
 {
     if is_builtin(b, section, name_off) {
         return at;
@@ -60,7 +62,9 @@ pub fn emit_fwd_def(
     is_union: bool,
     name_off: u32,
 ) -> usize
-    ensures { λ r. ⌜ outOf r (now (text .exit)) (now (work .exit)) ≡ putSaid (now (text .entry)) at (emitFwdDef (workNaming b) (btfOf b (now (section .entry)) (now (work .entry))) id «is_union» (strAt b (now (section .entry)) «name_off») (now (work .entry))) ⌝ }
+    ensures { λ r. ⌜ outOf r (now (text .exit)) (now (work .exit))
+        ≡ putSaid (now (text .entry)) at (emitFwdDef (workNaming b) (btfOf b (now (section .entry)) (now (work .entry))) id «is_union»
+        (strAt b (now (section .entry)) «name_off») (now (work .entry))) ⌝ }
 {
     emit_composite_fwd(b, section, work, text, at, id, !is_union, name_off)
 }

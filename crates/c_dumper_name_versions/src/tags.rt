@@ -43,7 +43,8 @@ pub fn put_attribute(
     is_decl: bool,
     name_off: u32,
 ) -> usize
-    ensures { λ r. ⌜ putOut r (now (text .exit)) ≡ putText (now (text .entry)) at (whole (attribute «is_attr» (tagName «is_decl») (strAt b (now (section .entry)) «name_off»))) ⌝ }
+    ensures { λ r. ⌜ putOut r (now (text .exit))
+        ≡ putText (now (text .entry)) at (whole (attribute «is_attr» (tagName «is_decl») (strAt b (now (section .entry)) «name_off»))) ⌝ }
 {
     let a = put_attribute_start(text, at);
     let name = get_btf_str(b, section, name_off);
@@ -68,7 +69,9 @@ fn emit_decl_tag(
     id: u32,
     comp_idx: u32,
 ) -> usize
-    ensures { λ r. ⌜ putOut r (now (text .exit)) ≡ putText (now (text .entry)) at (whole (declTag «comp_idx» (btfOf b (now (section .entry)) (now (work .entry)) .type-by-id id))) ⌝ }
+    ensures { λ r. ⌜ putOut r (now (text .exit))
+        ≡ putText (now (text .entry)) at (whole
+        (declTag «comp_idx» (btfOf b (now (section .entry)) (now (work .entry)) .type-by-id id))) ⌝ }
 {
     let t = type_by_id(b, section, work, id);
     if kind_of(t.info) != kind::DECL_TAG {
@@ -91,7 +94,10 @@ fn emit_tag_list(
     id: u32,
     comp_idx: u32,
 ) -> usize
-    ensures { λ r. ⌜ putOut r (now (text .exit)) ≡ putText (now (text .entry)) at (whole (declTags (btfOf b (now (section .entry)) (now (work .entry))) «comp_idx» (btfOf b (now (section .entry)) (now (work .entry)) .decl-tags id))) ⌝ }
+    ensures { λ r. ⌜ putOut r (now (text .exit))
+        ≡ putText (now (text .entry)) at (whole
+        (declTags (btfOf b (now (section .entry)) (now (work .entry))) «comp_idx»
+        (btfOf b (now (section .entry)) (now (work .entry)) .decl-tags id))) ⌝ }
 {
     let mut p = at;
     let mut last: u32 = 0;
@@ -117,7 +123,10 @@ pub fn emit_decl_tags(
     id: u32,
     comp_idx: u32,
 ) -> usize
-    ensures { λ r. ⌜ putOut r (now (text .exit)) ≡ putText (now (text .entry)) at (whole (declTags (btfOf b (now (section .entry)) (now (work .entry))) «comp_idx» (btfOf b (now (section .entry)) (now (work .entry)) .decl-tags id))) ⌝ }
+    ensures { λ r. ⌜ putOut r (now (text .exit))
+        ≡ putText (now (text .entry)) at (whole
+        (declTags (btfOf b (now (section .entry)) (now (work .entry))) «comp_idx»
+        (btfOf b (now (section .entry)) (now (work .entry)) .decl-tags id))) ⌝ }
 {
     if get_field(work, id, cell::FIRST_TAG) == 0 {
         return at;

@@ -15,7 +15,8 @@ use spec_type_table::TypeTable;
 ghost use mathlib.Core.Path.{_≡_};
 ghost use Prim.Native.Nat.{_*_};
 ghost use lib.Dec.{eqb};
-ghost use Rattle.spec_c_dumper.specs.rules.Placing.{roundUp, sameUnit, fieldSize, fieldFits, startFits, memberFits, reached, sizeFits, extentOf, noExtent};
+ghost use Rattle.spec_c_dumper.specs.rules.Placing.{roundUp, sameUnit, fieldSize, fieldFits, startFits, memberFits, reached, sizeFits};
+ghost use Rattle.spec_c_dumper.specs.rules.Placing.{extentOf, noExtent};
 ghost use Rattle.spec_type_table.specs.Records.{kindOf};
 ghost use Rattle.spec_type_table.specs.Table.{btfOf, membersOf, ruleMember};
 ghost use Rattle.btf_layout.specs.size.Answers.{askOf, packedOf};
@@ -143,7 +144,8 @@ fn next_member(
     x: Extent,
     m: BtfMember,
 ) -> Extents
-    ensures { λ r. ⌜ extentsOf r ≡ oneMember (btfOf b (now (section .entry)) (now (work .entry))) «in_struct» packed x (ruleMember b (now (section .entry)) m) ⌝ }
+    ensures { λ r. ⌜ extentsOf r
+        ≡ oneMember (btfOf b (now (section .entry)) (now (work .entry))) «in_struct» packed x (ruleMember b (now (section .entry)) m) ⌝ }
 {
     match field_size(b, section, work, m) {
         Ask::Got(size) => match member_end(b, section, work, m) {
@@ -155,7 +157,9 @@ fn next_member(
 }
 
 pub fn extent_of(b: TypeTable, section: &[u8], work: &[u8], t: BtfType, packed: bool) -> Extents
-    ensures { λ r. ⌜ extentsOf r ≡ extentOf (btfOf b (now (section .entry)) (now (work .entry))) (eqb (kindOf (t .info)) 4) packed noExtent (membersOf b (now (section .entry)) t) ⌝ }
+    ensures { λ r. ⌜ extentsOf r
+        ≡ extentOf (btfOf b (now (section .entry)) (now (work .entry))) (eqb (kindOf (t .info)) 4) packed noExtent
+        (membersOf b (now (section .entry)) t) ⌝ }
 {
     let vlen = vlen_of(t.info);
     let in_struct = is_struct(t);

@@ -54,7 +54,8 @@ fn put_placed_gap(
     a: u32,
     lvl: u32,
 ) -> usize
-    ensures { λ r. ⌜ putOut r (now (text .exit)) ≡ putText (now (text .entry)) at (whole (pads lvl (placedGap «ptr_sz» start «bit_size» gap a))) ⌝ }
+    ensures { λ r. ⌜ putOut r (now (text .exit))
+        ≡ putText (now (text .entry)) at (whole (pads lvl (placedGap «ptr_sz» start «bit_size» gap a))) ⌝ }
 {
     let from = start as u64;
     let width = gap as u64;
@@ -79,7 +80,8 @@ fn put_pads_before(
     a: u32,
     lvl: u32,
 ) -> usize
-    ensures { λ r. ⌜ putOut r (now (text .exit)) ≡ putText (now (text .entry)) at (whole (pads lvl (padsBefore (b .placing) (b .«ptr_sz») start «bit_size» gap a))) ⌝ }
+    ensures { λ r. ⌜ putOut r (now (text .exit))
+        ≡ putText (now (text .entry)) at (whole (pads lvl (padsBefore (b .placing) (b .«ptr_sz») start «bit_size» gap a))) ⌝ }
 {
     if b.placing {
         return put_placed_gap(text, at, b.ptr_sz, start, bit_size, gap, a, lvl);
@@ -98,7 +100,9 @@ pub fn emit_bit_padding(
     packed: bool,
     lvl: u32,
 ) -> usize
-    ensures { λ r. ⌜ outOf r (now (text .exit)) (now (work .exit)) ≡ putSaid (now (text .entry)) at (padSaid (b .types) (btfOf b (now (section .entry)) (now (work .entry))) offset (ruleMember b (now (section .entry)) m) packed lvl (now (work .entry))) ⌝ }
+    ensures { λ r. ⌜ outOf r (now (text .exit)) (now (work .exit))
+        ≡ putSaid (now (text .entry)) at (padSaid (b .types) (btfOf b (now (section .entry)) (now (work .entry))) offset
+        (ruleMember b (now (section .entry)) m) packed lvl (now (work .entry))) ⌝ }
 {
     let end = m.bit_offset;
     if end <= offset {
@@ -130,7 +134,9 @@ pub fn emit_tail_padding(
     offset: u32,
     lvl: u32,
 ) -> usize
-    ensures { λ r. ⌜ putOut r (now (text .exit)) ≡ putText (now (text .entry)) at (whole (tailText lvl members (tailPads (b .placing) (b .«ptr_sz») (eqb (kindOf (t .info)) 4) (t .«type_id») offset))) ⌝ }
+    ensures { λ r. ⌜ putOut r (now (text .exit))
+        ≡ putText (now (text .entry)) at (whole
+        (tailText lvl members (tailPads (b .placing) (b .«ptr_sz») (eqb (kindOf (t .info)) 4) (t .«type_id») offset))) ⌝ }
 {
     if !b.placing {
         return at;

@@ -66,7 +66,8 @@ pub fn put_placed_pads(
     end: u64,
     lvl: u32,
 ) -> usize
-    ensures { λ r. ⌜ putOut r (now (text .exit)) ≡ putText (now (text .entry)) at (whole (pads lvl (placedPads (end - start) «ptr_sz» start (end - start)))) ⌝ }
+    ensures { λ r. ⌜ putOut r (now (text .exit))
+        ≡ putText (now (text .entry)) at (whole (pads lvl (placedPads (end - start) «ptr_sz» start (end - start)))) ⌝ }
 {
     let mut p = at;
     let mut s = start;

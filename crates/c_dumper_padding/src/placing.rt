@@ -17,7 +17,9 @@ ghost use Rattle.c_dumper_padding.specs.placing.Steps.{byIn, measuredIn,
 
 // The packed test, then the members, then the whole.
 fn measured_by(b: TypeTable, section: &[u8], work: &mut [u8], id: u32, t: BtfType, a: u32) -> Packed
-    ensures { λ r. ⌜ packedIn r (now (work .exit)) ≡ byIn (b .types) (btfOf b (now (section .entry)) (now (work .entry))) (eqb (kindOf (t .info)) 4) id (t .«type_id») (membersOf b (now (section .entry)) t) a (now (work .entry)) ⌝ }
+    ensures { λ r. ⌜ packedIn r (now (work .exit))
+        ≡ byIn (b .types) (btfOf b (now (section .entry)) (now (work .entry))) (eqb (kindOf (t .info)) 4) id (t .«type_id»)
+        (membersOf b (now (section .entry)) t) a (now (work .entry)) ⌝ }
 {
     match is_packed(b, section, work, id, t) {
         Packed::Is(packed) => match extent_of(b, section, work, t, packed) {
@@ -29,7 +31,9 @@ fn measured_by(b: TypeTable, section: &[u8], work: &mut [u8], id: u32, t: BtfTyp
 }
 
 fn measured(b: TypeTable, section: &[u8], work: &mut [u8], id: u32, t: BtfType) -> Packed
-    ensures { λ r. ⌜ packedIn r (now (work .exit)) ≡ measuredIn (b .types) (btfOf b (now (section .entry)) (now (work .entry))) (eqb (kindOf (t .info)) 4) id (t .«type_id») (membersOf b (now (section .entry)) t) (now (work .entry)) ⌝ }
+    ensures { λ r. ⌜ packedIn r (now (work .exit))
+        ≡ measuredIn (b .types) (btfOf b (now (section .entry)) (now (work .entry))) (eqb (kindOf (t .info)) 4) id (t .«type_id»)
+        (membersOf b (now (section .entry)) t) (now (work .entry)) ⌝ }
 {
     match union_align(b, section, work, id, t) {
         Ask::Got(a) => measured_by(b, section, work, id, t, a),
@@ -39,7 +43,9 @@ fn measured(b: TypeTable, section: &[u8], work: &mut [u8], id: u32, t: BtfType) 
 
 // What is known of a body before its first name or byte: whether it is packed, or the refusal. The mode chooses.
 pub fn body_packed(b: TypeTable, section: &[u8], work: &mut [u8], id: u32, t: BtfType) -> Packed
-    ensures { λ r. ⌜ packedIn r (now (work .exit)) ≡ bodyIn (b .types) (btfOf b (now (section .entry)) (now (work .entry))) (eqb (kindOf (t .info)) 4) id (t .«type_id») (membersOf b (now (section .entry)) t) (now (work .entry)) ⌝ }
+    ensures { λ r. ⌜ packedIn r (now (work .exit))
+        ≡ bodyIn (b .types) (btfOf b (now (section .entry)) (now (work .entry))) (eqb (kindOf (t .info)) 4) id (t .«type_id»)
+        (membersOf b (now (section .entry)) t) (now (work .entry)) ⌝ }
 {
     if b.placing {
         return measured(b, section, work, id, t);

@@ -6,7 +6,8 @@ use mathlib.Core.List.{List, [], _∷_, _++_}
 use lib.ListN.{length, getD, take, drop, replicate}
 use lib.Dec.{eqb}
 use Rattle.spec_c_dumper.specs.rules.Types.{Name, Qualifier, volatile, const, restrict}
-use Rattle.session_declaration_reader.specs.grammar.Chain.{Layers, named, pointer, array, proto, Params, closed, dots, param, Chain, entries}
+use Rattle.session_declaration_reader.specs.grammar.Chain.{Layers, named, pointer, array, proto, Params, closed, dots, param, Chain}
+use Rattle.session_declaration_reader.specs.grammar.Chain.{entries}
 use Rattle.session_declaration_reader.specs.reader.Reading.{Read, chain, refused, read}
 use Rattle.session_declaration_reader.specs.bases.Items.{Item, item, Placed, placed}
 use Rattle.session_declaration_reader.specs.reader.Encoding.{readInto}
@@ -46,7 +47,8 @@ abbrev pub over : List Item → Bool
 over [] = true
 over (i ∷ is) = false
 
--- At a base: it ends the chain, or a parameter. `go` takes the entries behind it; `...` is a base of no bytes; kind 6 has another parameter behind it.
+-- At a base: it ends the chain, or a parameter. `go` takes the entries behind it; `...` is a base of no bytes; kind 6 has another parameter
+-- behind it.
 unfoldable pub atBase : (Open → Lay → Read (List ℕ)) → Bool → Open → Chain (List ℕ) → ℕ → ℕ → Read (List ℕ)
 atBase go last none c kind n = elim last [ true ↦ chain c | false ↦ refused ]
 atBase go last (inside l before o) c kind n =
@@ -100,4 +102,6 @@ pub record Numbered (s t : List ℕ) : Type 0 where
 
 -- "For covered chains of at most 512 entries that C allows, the written text reads back to the same chain."
 abbrev pub ReadsBack : Type 0
-ReadsBack = (c : Chain (List ℕ)) (name : Name) → Covered c → Word name → (t : List ℕ) → 1536 ≤ length t → decoded (written c name) (readInto (written c name) t) ≡ chain c
+ReadsBack =
+    (c : Chain (List ℕ)) (name : Name) → Covered c → Word name → (t : List ℕ) → 1536 ≤ length t
+    → decoded (written c name) (readInto (written c name) t) ≡ chain c

@@ -22,7 +22,8 @@ module _ {U : Type 0} (N : Naming U) (B : Btf) where
   -- a base prints these words, whatever stands around it
   abbrev pub Prints : ℕ → List (List ℕ) → U → U → Type 0
   Prints b ws u v =
-      (decl : ℕ → Name → ℕ → Writer U) (chain : List Entry → Name → ℕ → Writer U) (def : ℕ → Bool → Name → ℕ → List Member → ℕ → Writer U) (fname : Name) (lvl : ℕ)
+      (decl : ℕ → Name → ℕ → Writer U) (chain : List Entry → Name → ℕ → Writer U) (def : ℕ → Bool → Name → ℕ → List Member → ℕ → Writer U)
+      (fname : Name) (lvl : ℕ)
       → baseWord N B decl chain def fname lvl b (B .type-by-id b) u ≡ said v (whole (spaced ws))
 
   abbrev mutual
@@ -31,7 +32,8 @@ module _ {U : Type 0} (N : Naming U) (B : Btf) where
     LayersAre named c u v = (c ≡ []) × (u ≡ v)
     LayersAre (pointer q l) c u v = (d : List Entry) × (c ≡ star ∷ qualEntries q d) × LayersAre l d u v
     LayersAre (array n l) c u v = (d : List Entry) × (c ≡ count n ∷ d) × LayersAre l d u v
-    LayersAre (proto ps l) c u v = (d : List Entry) × (xs : List Param) × (w : U) × (c ≡ list xs ∷ d) × LayersAre l d u w × ParamsAre ps (shownParams xs) w v
+    LayersAre (proto ps l) c u v =
+        (d : List Entry) × (xs : List Param) × (w : U) × (c ≡ list xs ∷ d) × LayersAre l d u w × ParamsAre ps (shownParams xs) w v
 
     -- parameters, which have no names; a last one of type void is `...`
     pub ParamsAre : Params (List ℕ) → List Param → U → U → Type 0

@@ -11,7 +11,8 @@ use Rattle.session_declaration_reader.specs.reader.Reading.{asBytes, chain, ref
 
 -- `readTokens` of the reader under another bound than `most`
 unfoldable pub readUnder : {W : Type 0} → ℕ → List (Token W) → Reads W (Chain W)
-readUnder f ts = readBase true ts (λ q ss us. andThen (declarator f true us) (λ l vs. reads (record { quals = q; words = wordsOf ss; layers = l }) vs))
+readUnder f ts =
+    readBase true ts (λ q ss us. andThen (declarator f true us) (λ l vs. reads (record { quals = q; words = wordsOf ss; layers = l }) vs))
 
 -- The text is a declaration with that chain: under some bound the grammar reads the whole of it.
 pub record Declares (s : List ℕ) (c : Chain (List ℕ)) : Type 0 where

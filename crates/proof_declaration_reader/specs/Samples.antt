@@ -26,12 +26,15 @@ samples =
     sample "int *a[3]" (of [] int (pointer [] (array 3 named)))
     ∷ sample "int (*p)[3]" (of [] int (array 3 (pointer [] named)))
     ∷ sample "void (*f)(int)" (of [] (ascii "void" ∷ []) (proto (param [] int named closed) (pointer [] named)))
-    ∷ sample "const struct s * const volatile*x" (of (const ∷ []) (ascii "struct" ∷ ascii "s" ∷ []) (pointer (const ∷ volatile ∷ []) (pointer [] named)))
+    ∷ sample "const struct s * const volatile*x"
+    (of (const ∷ []) (ascii "struct" ∷ ascii "s" ∷ []) (pointer (const ∷ volatile ∷ []) (pointer [] named)))
     ∷ sample " long  unsigned int m [ 2 ][0 ] " (of [] (ascii "long" ∷ ascii "unsigned" ∷ ascii "int" ∷ []) (array 0 (array 2 named)))
     ∷ sample "int f(void)" (of [] int (proto closed named))
     ∷ sample "int f()" (of [] int (proto closed named))
     ∷ sample "int f(int, ...)" (of [] int (proto (param [] int named dots) named))
-    ∷ sample "int f(int (*)(void), const int *[2])" (of [] int (proto (param [] int (proto closed (pointer [] named)) (param (const ∷ []) int (pointer [] (array 2 named)) closed)) named))
+    ∷ sample "int f(int (*)(void), const int *[2])"
+    (of [] int (proto (param [] int (proto closed (pointer [] named))
+    (param (const ∷ []) int (pointer [] (array 2 named)) closed)) named))
     ∷ sample "int f(const void)" (of [] int (proto (param (const ∷ []) (ascii "void" ∷ []) named closed) named))
     ∷ sample "int *(*(*x))" (of [] int (pointer [] (pointer [] (pointer [] named))))
     ∷ sample "int a[4294967295]" (of [] int (array 4294967295 named))

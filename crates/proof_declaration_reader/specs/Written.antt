@@ -7,7 +7,8 @@ use mathlib.Core.List.{List, [], _∷_, _++_}
 use Rattle.spec_bytes.specs.text.Text.{ascii}
 use Rattle.spec_c_dumper.specs.rules.Types.{Name, Qualifier, isEmpty}
 use Rattle.spec_c_dumper.specs.rules.Decl.{qualifier, sepName, brackets}
-use Rattle.session_declaration_reader.specs.grammar.Chain.{Layers, named, pointer, array, proto, Params, closed, dots, param, Chain, entries}
+use Rattle.session_declaration_reader.specs.grammar.Chain.{Layers, named, pointer, array, proto, Params, closed, dots, param, Chain}
+use Rattle.session_declaration_reader.specs.grammar.Chain.{entries}
 use Rattle.session_declaration_reader.specs.tokens.Tokens.{tagWord, voidWord, otherWord, identifier, isQualifier, kindOf}
 use Rattle.session_declaration_reader.specs.bases.Bases.{Spelt, spelt, distinct, single, isBase, noQuals}
 

@@ -5,7 +5,8 @@ use mathlib.Core.Path.{_≡_}
 use mathlib.Core.Bool.{true, false}
 use mathlib.Core.List.{List, [], _∷_, _++_, List·Memᴰ}
 use mathlib.Core.Logic.{_⊎_}
-use Rattle.spec_c_dumper.specs.rules.Types.{Name, isEmpty, BtfType, Void, Int, Ptr, Array, Composite, Enum, Enum64, Fwd, Typedef, Mod, Func, Var, Datasec, FuncProto, Float, DeclTag, TypeTag, Btf, nameOf}
+use Rattle.spec_c_dumper.specs.rules.Types.{Name, isEmpty, BtfType, Void, Int, Ptr, Array, Composite, Enum, Enum64, Fwd, Typedef, Mod, Func}
+use Rattle.spec_c_dumper.specs.rules.Types.{Var, Datasec, FuncProto, Float, DeclTag, TypeTag, Btf, nameOf}
 use Rattle.spec_c_dumper.specs.rules.Names.{Space, tagSpace, identSpace, builtin}
 use Rattle.spec_c_dumper.specs.needs.Lists.{Piece, defines, other}
 use Rattle.proof_declared_first.specs.Notes.{Mention, Note}
@@ -80,8 +81,8 @@ module _ (B : Btf) where
     pub isTag : m .space ≡ tagSpace
     pub declares : Declares p m
 
-  -- A piece after others: it mentions first its own name, if its type has one, and then what it uses; all these stand in its text. Each use is
-  -- declared above, or is the tag of the definition in which it appears.
+  -- A piece after others: it mentions first its own name, if its type has one, and then what it uses; all these stand in its text. Each use
+  -- is declared above, or is the tag of the definition in which it appears.
   pub record Fits (before : List Note) (p : Note) : Type 0 where
     pub own : List Mention
     pub uses : List Mention

@@ -31,7 +31,8 @@ noting N = record {
     version = N .typeVersion space id name (u .names) .version;
     names = record {
       names = N .typeVersion space id name (u .names) .names;
-      mentions = u .mentions ++ (record { space = space; id = id; name = spelled name (N .typeVersion space id name (u .names) .version) } ∷ []);
+      mentions =
+          u .mentions ++ (record { space = space; id = id; name = spelled name (N .typeVersion space id name (u .names) .version) } ∷ []);
     };
   };
   valueVersion = λ id i name u. record {
@@ -70,14 +71,16 @@ module _ {U : Type 0} (N : Naming U) (B : Btf) where
     fwd = λ room k id. noted other id k (lineOf room (k .known .text-len) (forward (noting N) B id (B .type-by-id id) (unasked k)));
     alias′ = λ room k id. noted other id k (lineOf room (k .known .text-len) (forward (noting N) B id (B .type-by-id id) (unasked k)));
     leaf′ = λ room k id. noted other id k (lineOf room (k .known .text-len) (definition (noting N) B id (B .type-by-id id) (unasked k)));
-    body′ = λ room k id. noted (defines id) id k (lineOf room (k .known .text-len) (definition (noting N) B id (B .type-by-id id) (unasked k)));
+    body′ =
+        λ room k id. noted (defines id) id k (lineOf room (k .known .text-len) (definition (noting N) B id (B .type-by-id id) (unasked k)));
   }
 
   abbrev pub notedMachine : Machine (Ls (Seen U))
   notedMachine = listMachine notedLines
 
   abbrev pub notedOpened : U → Sess (Ls (Seen U))
-  notedOpened u = record { isOpen = true; mach = afresh (B .type-cnt) (record { known = record { names = u; text-len = 0 }; notes = [] }); asked = [] }
+  notedOpened u =
+      record { isOpen = true; mach = afresh (B .type-cnt) (record { known = record { names = u; text-len = 0 }; notes = [] }); asked = [] }
 
   -- the notes of the accepted requests of a list
   abbrev pub notesBy : U → List Req → List Note

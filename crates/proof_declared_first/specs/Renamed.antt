@@ -4,7 +4,8 @@ use Prim.Native.Nat.{ℕ}
 use mathlib.Core.Path.{_≡_}
 use mathlib.Core.List.{List, List·Memᴰ}
 use Rattle.spec_c_dumper.specs.rules.Writer.{saidNames}
-use Rattle.spec_c_dumper.specs.rules.Types.{Name, isEmpty, BtfType, Void, Int, Ptr, Array, Composite, Enum, Enum64, Fwd, Typedef, Mod, Func, Var, Datasec, FuncProto, Float, DeclTag, TypeTag, Btf}
+use Rattle.spec_c_dumper.specs.rules.Types.{Name, isEmpty, BtfType, Void, Int, Ptr, Array, Composite, Enum, Enum64, Fwd, Typedef, Mod, Func}
+use Rattle.spec_c_dumper.specs.rules.Types.{Var, Datasec, FuncProto, Float, DeclTag, TypeTag, Btf}
 use Rattle.spec_c_dumper.specs.rules.Names.{Naming, builtin}
 use Rattle.spec_c_dumper.specs.rules.Emit.{definition, forward}
 use Rattle.proof_declared_first.specs.Notes.{Mention, Asked, noting}

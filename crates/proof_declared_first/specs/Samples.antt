@@ -19,7 +19,9 @@ told (p ∷ ps) = (p .id, idsOf (p .mentions)) ∷ told ps
 
 -- 1 int; 2 typedef of 3; 3 a prototype, result 1, parameter 6; 4 a struct with one member of type 5; 5 a pointer to 2; 6 a pointer to 4
 abbrev pub prototype : Btf
-prototype = table (Void ∷ Int (ascii "int") 32 ∷ Typedef (ascii "f") 3 ∷ FuncProto 1 (record { name = ascii "a"; type-id = 6 } ∷ []) ∷ Composite true (ascii "s") 8 (member "p" 5 0 ∷ []) ∷ Ptr 2 ∷ Ptr 4 ∷ [])
+prototype =
+    table (Void ∷ Int (ascii "int") 32 ∷ Typedef (ascii "f") 3 ∷ FuncProto 1 (record { name = ascii "a"; type-id = 6 } ∷ [])
+    ∷ Composite true (ascii "s") 8 (member "p" 5 0 ∷ []) ∷ Ptr 2 ∷ Ptr 4 ∷ [])
 
 -- a tag that would first appear inside a prototype has a forward line: 4 comes before 2 mentions it
 abbrev pub prototypeNotes : List Note
@@ -27,7 +29,8 @@ prototypeNotes = notesOf prototype (one 65536 2 ∷ one 65536 4 ∷ [])
 
 -- 1 int; 2 typedef of 1 with the builtin name; 3 a struct with one member of type 2
 abbrev pub withBuiltin : Btf
-withBuiltin = table (Void ∷ Int (ascii "int") 32 ∷ Typedef (ascii "__builtin_va_list") 1 ∷ Composite true (ascii "s") 4 (member "a" 2 0 ∷ []) ∷ [])
+withBuiltin =
+    table (Void ∷ Int (ascii "int") 32 ∷ Typedef (ascii "__builtin_va_list") 1 ∷ Composite true (ascii "s") 4 (member "a" 2 0 ∷ []) ∷ [])
 
 -- why the builtin name is left out: 2 is mentioned, and its own line is empty
 abbrev pub builtinNotes : List Note

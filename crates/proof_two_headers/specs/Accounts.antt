@@ -38,9 +38,10 @@ pub data Reached (L : Ledger) : Ledger → Type 0 where
 pub record Accounts (B : Side → Btf) : Type 0 where
   pub sound : (words : ℕ) (cs : List Call) → Sound (calls B (newWorld words) cs .ledger)
   pub reached : (W : World) (cs : List Call) → Reached (W .ledger) (calls B W cs .ledger)
-  -- two holders of one name, whichever session each is of, have two numbers: the second takes its name from a ledger that came of the first's. No text of
-  -- 2^30 bytes prints so many that the largest number is met.
-  pub numbers-differ : (k : ℕ) (L M : Ledger) (space : Space) (name : Name) → Reached (taking k L space name) M → holders (M .entries) space name < 4294967295
+  -- two holders of one name, whichever session each is of, have two numbers: the second takes its name from a ledger that came of the
+  -- first's. No text of 2^30 bytes prints so many that the largest number is met.
+  pub numbers-differ : (k : ℕ) (L M : Ledger) (space : Space) (name : Name) → Reached (taking k L space name) M
+      → holders (M .entries) space name < 4294967295
       → numberOf L space name ≡ numberOf M space name → ⊥
 
 abbrev pub Claim : Type 0

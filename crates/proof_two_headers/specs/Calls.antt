@@ -32,7 +32,8 @@ openNumber (suc n) L reserve = suc n
 
 -- one more session with nothing used
 abbrev pub joined : Ledger → ℕ → Ledger
-joined L reserve = record { words = L .words; entries = L .entries; accounts = L .accounts ++ (record { reserve = reserve; used = 0 } ∷ []) }
+joined L reserve =
+    record { words = L .words; entries = L .entries; accounts = L .accounts ++ (record { reserve = reserve; used = 0 } ∷ []) }
 
 -- a session: its number in the ledger, the ledger's length at opening, and what it had before
 pub record Part : Type 0 where
@@ -41,14 +42,30 @@ pub record Part : Type 0 where
   pub sess : Sess Shelf
 
 abbrev pub unopened : Part
-unopened = record { number = 0; words = 0; sess = record { isOpen = false; mach = afresh 0 (record { names = record { versions = []; given = []; ledger = newLedger 0 }; text-len = 0 }); asked = [] } }
+unopened = record {
+  number = 0;
+  words = 0;
+  sess = record {
+    isOpen = false;
+    mach = afresh 0 (record { names = record { versions = []; given = []; ledger = newLedger 0 }; text-len = 0 });
+    asked = [];
+  };
+}
 
 -- no type of the session has a version, it gave no number; the ledger may have names already
 abbrev pub begun : Btf → Ledger → ℕ → Part
 begun B L reserve = record {
   number = length (L .accounts);
   words = L .words;
-  sess = record { isOpen = true; mach = afresh (B .type-cnt) (record { names = record { versions = replicate (B .type-cnt) 0; given = []; ledger = joined L reserve }; text-len = 0 }); asked = [] };
+  sess = record {
+    isOpen = true;
+    mach =
+        afresh (B .type-cnt) (record {
+          names = record { versions = replicate (B .type-cnt) 0; given = []; ledger = joined L reserve };
+          text-len = 0;
+        });
+    asked = [];
+  };
 }
 
 -- ---- calls
@@ -94,7 +111,8 @@ answered B p L r = answerOn (p .number) B (lent L (p .sess)) r
 module _ (B : Side → Btf) where
   -- by the number it answers: an opening that is refused changes nothing
   unfoldable pub opening : World → Side → ℕ → ℕ → Called
-  opening W d reserve zero = record { number = 0; text-len = 0; world = withPart W d (joined (W .ledger) reserve) (begun (B d) (W .ledger) reserve) }
+  opening W d reserve zero =
+      record { number = 0; text-len = 0; world = withPart W d (joined (W .ledger) reserve) (begun (B d) (W .ledger) reserve) }
   opening W d reserve (suc n) = record { number = suc n; text-len = 0; world = W }
 
   -- "11 when its length changed since"
@@ -105,7 +123,12 @@ module _ (B : Side → Btf) where
       record {
         number = a .number;
         text-len = a .sess .mach .known .text-len;
-        world = withPart W d (a .sess .mach .known .names .ledger) (record { number = partOf W d .number; words = partOf W d .words; sess = a .sess });
+        world =
+            withPart W d (a .sess .mach .known .names .ledger) (record {
+              number = partOf W d .number;
+              words = partOf W d .words;
+              sess = a .sess;
+            });
       }
 
   unfoldable pub called : World → Call → Called

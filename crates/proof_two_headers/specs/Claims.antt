@@ -17,8 +17,8 @@ use Rattle.proof_two_headers.specs.Calls.{Side, kernel, module′, Call,
 
 -- ---- what is seen of a session after each of its requests
 
--- the number, the ids asked for and accepted, those listed by the last ordering, for each id how far its definition is and whether its forward line or
--- typedef is printed, and all lines of the header
+-- the number, the ids asked for and accepted, those listed by the last ordering, for each id how far its definition is and whether its
+-- forward line or typedef is printed, and all lines of the header
 pub record Seen : Type 0 where
   pub number : ℕ
   pub asked : List ℕ
@@ -28,7 +28,14 @@ pub record Seen : Type 0 where
   pub lines : List Piece
 
 abbrev pub seen : {U : Type 0} → ℕ → Sess (Ls (Known U)) → Seen
-seen n S = record { number = n; asked = S .asked; listed = S .mach .olist; defined = S .mach .emits; forwarded = S .mach .fwds; lines = S .mach .pieces }
+seen n S = record {
+  number = n;
+  asked = S .asked;
+  listed = S .mach .olist;
+  defined = S .mach .emits;
+  forwarded = S .mach .fwds;
+  lines = S .mach .pieces;
+}
 
 -- "its order, layout and cycle refusals": the same, and the same header but for the numbers of names
 pub record Likewise (a b : Seen) : Type 0 where
@@ -58,17 +65,20 @@ module _ {A : Type 0} where
   -- side d's requests among the calls of both, up to its next opening
   unfoldable pub together : (ℕ → Sess Shelf → A) → (Side → Btf) → Side → World → List Call → List A
   together view B d W [] = []
-  together view B d W (opens e other reserve ∷ cs) = elim (sameSide d e) [ true ↦ [] | false ↦ together view B d (called B W (opens e other reserve) .world) cs ]
+  together view B d W (opens e other reserve ∷ cs) =
+      elim (sameSide d e) [ true ↦ [] | false ↦ together view B d (called B W (opens e other reserve) .world) cs ]
   together view B d W (asks e words r ∷ cs) =
       elim (sameSide d e) [
-        | true ↦ view (called B W (asks e words r) .number) (partOf (called B W (asks e words r) .world) d .sess) ∷ together view B d (called B W (asks e words r) .world) cs
+        | true ↦ view (called B W (asks e words r) .number) (partOf (called B W (asks e words r) .world) d .sess)
+            ∷ together view B d (called B W (asks e words r) .world) cs
         | false ↦ together view B d (called B W (asks e words r) .world) cs
       ]
 
   -- the same requests of a session of the plain rules with the Rust's names
   unfoldable pub alone : (ℕ → Sess (Ls (Known Names)) → A) → Btf → Sess (Ls (Known Names)) → List Req → List A
   alone view B S [] = []
-  alone view B S (r ∷ rs) = view (answerOf naming B S r .number) (answerOf naming B S r .sess) ∷ alone view B (answerOf naming B S r .sess) rs
+  alone view B S (r ∷ rs) =
+      view (answerOf naming B S r .number) (answerOf naming B S r .sess) ∷ alone view B (answerOf naming B S r .sess) rs
 
   -- alike, one after the other, until one that ends the comparison
   pub data Agree (Same : A → A → Type 0) (Ends₁ Ends₂ : A → Type 0) : List A → List A → Type 0 where
@@ -86,7 +96,8 @@ requestsOf d (asks e words r ∷ cs) = elim (sameSide d e) [ true ↦ r ∷ requ
 pub data Silent (d : Side) (words : ℕ) : List Call → Type 0 where
   no-call : Silent d words []
   own : (r : Req) (cs : List Call) → Silent d words cs → Silent d words (asks d words r ∷ cs)
-  joins : (e : Side) (other reserve : ℕ) (cs : List Call) → sameSide d e ≡ false → Silent d words cs → Silent d words (opens e other reserve ∷ cs)
+  joins : (e : Side) (other reserve : ℕ) (cs : List Call) → sameSide d e ≡ false → Silent d words cs
+      → Silent d words (opens e other reserve ∷ cs)
 
 abbrev pub EndsOrder : Seen → Type 0
 EndsOrder a = (a .number ≡ 11) ⊎ (a .number ≡ 17) ⊎ (a .number ≡ 20)
@@ -108,24 +119,32 @@ Closing n S = (n ≡ 0) ⊎ (n ≡ 10) ⊎ (n ≡ 11) ⊎ (S .isOpen ≡ false)
 pub record Shared (B : Side → Btf) (d : Side) : Type 0 where
   -- "Until an 11, 17 or 20 in either run, its order, layout and cycle refusals are those it would have alone."
   pub order-as-alone : (W : World) (reserve : ℕ) → ledgerShort (W .ledger) reserve ≡ false → (cs : List Call)
-      → Agree Likewise EndsOrder EndsOrder (together seen B d (called B W (opens d 0 reserve) .world) cs) (alone seen (B d) (opened (B d)) (requestsOf d cs))
+      → Agree Likewise EndsOrder EndsOrder (together seen B d (called B W (opens d 0 reserve) .world) cs)
+      (alone seen (B d) (opened (B d)) (requestsOf d cs))
   -- the same against a session over a ledger of its own, which may meet 20 too: "in either run"
-  pub order-as-over-its-own : (W Z : World) (reserve reserve′ : ℕ) → ledgerShort (W .ledger) reserve ≡ false → ledgerShort (Z .ledger) reserve′ ≡ false → Z .ledger .entries ≡ []
+  pub order-as-over-its-own : (W Z : World) (reserve reserve′ : ℕ) → ledgerShort (W .ledger) reserve ≡ false
+      → ledgerShort (Z .ledger) reserve′ ≡ false → Z .ledger .entries ≡ []
       → (cs ds : List Call) → Silent d (Z .ledger .words) ds → requestsOf d cs ≡ requestsOf d ds
-      → Agree Likewise EndsOrder EndsOrder (together seen B d (called B W (opens d 0 reserve) .world) cs) (together seen B d (called B Z (opens d 0 reserve′) .world) ds)
+      → Agree Likewise EndsOrder EndsOrder (together seen B d (called B W (opens d 0 reserve) .world) cs)
+      (together seen B d (called B Z (opens d 0 reserve′) .world) ds)
   -- "Short of 20, equality is claimed for a session whose partner made no request."
-  pub equal-short-of-20 : (W : World) (reserve : ℕ) → ledgerShort (W .ledger) reserve ≡ false → W .ledger .entries ≡ [] → (cs : List Call) → Silent d (W .ledger .words) cs
-      → Agree Equal Ends20 Nothing (together printed B d (called B W (opens d 0 reserve) .world) cs) (alone printed (B d) (opened (B d)) (requestsOf d cs))
+  pub equal-short-of-20 : (W : World) (reserve : ℕ) → ledgerShort (W .ledger) reserve ≡ false → W .ledger .entries ≡ [] → (cs : List Call)
+      → Silent d (W .ledger .words) cs
+      → Agree Equal Ends20 Nothing (together printed B d (called B W (opens d 0 reserve) .world) cs)
+      (alone printed (B d) (opened (B d)) (requestsOf d cs))
   -- "it closes that session only": a call of one side, however it ends, leaves the other side's session
-  pub other-kept : (W : World) (e : Side) (words : ℕ) (r : Req) → sameSide d e ≡ false → partOf (called B W (asks e words r) .world) d ≡ partOf W d
+  pub other-kept : (W : World) (e : Side) (words : ℕ) (r : Req) → sameSide d e ≡ false
+      → partOf (called B W (asks e words r) .world) d ≡ partOf W d
   -- 20 closes "otherwise as 12 to 17 do"
-  pub closes : (W : World) (words : ℕ) (r : Req) → Closing (called B W (asks d words r) .number) (partOf (called B W (asks d words r) .world) d .sess)
+  pub closes : (W : World) (words : ℕ) (r : Req)
+      → Closing (called B W (asks d words r) .number) (partOf (called B W (asks d words r) .world) d .sess)
   -- "9 also when ..": an opening that another cause refuses by a number answers that, and 9 for the ledger comes last
   pub opening-others : (W : World) (n reserve : ℕ) → (n ≡ 0 → ⊥) → called B W (opens d n reserve) .number ≡ n
   pub opening-short : (W : World) (reserve : ℕ) → ledgerShort (W .ledger) reserve ≡ true → called B W (opens d 0 reserve) .number ≡ 9
   pub opening-accepts : (W : World) (reserve : ℕ) → ledgerShort (W .ledger) reserve ≡ false → called B W (opens d 0 reserve) .number ≡ 0
   -- an opening that is refused leaves both sessions and the ledger
-  pub opening-leaves : (W : World) (n reserve : ℕ) → (called B W (opens d n reserve) .number ≡ 0 → ⊥) → called B W (opens d n reserve) .world ≡ W
+  pub opening-leaves : (W : World) (n reserve : ℕ) → (called B W (opens d n reserve) .number ≡ 0 → ⊥)
+      → called B W (opens d n reserve) .world ≡ W
 
 abbrev pub Claim : Type 0
 Claim = (B : Side → Btf) (d : Side) → WF (tableOf (B d)) → Shared B d

@@ -5,7 +5,8 @@ use Prim.Native.Nat.{ℕ, zero, suc, _-_}
 use mathlib.Core.Bool.{Bool, true, false, not, _&&_, _||_}
 use mathlib.Core.List.{List, [], _∷_, _++_}
 use lib.Dec.{ltb, eqb}
-use Rattle.spec_c_dumper.specs.rules.Order.{Node, ignored, plain, listed, through, ptr, tdef, proto, comp, Mark, new, busy, done, Res, ok, refused, order}
+use Rattle.spec_c_dumper.specs.rules.Order.{Node, ignored, plain, listed, through, ptr, tdef, proto, comp, Mark, new, busy, done, Res, ok}
+use Rattle.spec_c_dumper.specs.rules.Order.{refused, order}
 use Rattle.spec_c_dumper.specs.rules.Machine.{isZero, pick, Sess, Answer, Req, one, all}
 use Rattle.spec_c_dumper.specs.rules.Types.{Btf, tableOf}
 use Rattle.spec_c_dumper.specs.needs.Lists.{defines, other, listStore}
@@ -72,7 +73,8 @@ module _ (k : ℕ) (B : Btf) where
     beginOn top (through a t) = rec s t cont
     beginOn top (ptr t) = rec s t cont
     beginOn top (tdef t) =
-        ebind (rec (machineBy (sharing k) B .emark busy x s) t x) (λ s′. ebind (onceOn x (machineBy (sharing k) B .hasFwd s′ x) s′) (λ s″. went (machineBy (sharing k) B .emark done x s″)))
+        ebind (rec (machineBy (sharing k) B .emark busy x s) t x)
+        (λ s′. ebind (onceOn x (machineBy (sharing k) B .hasFwd s′ x) s′) (λ s″. went (machineBy (sharing k) B .emark done x s″)))
     beginOn top (proto ts) = eachOn (λ s′ y. rec s′ y cont) ts s
     beginOn top (comp ms) = ebind (withinOn (top || not (tableOf B .named x)) (tableOf B .named x) ms) (closeOn top x)
 

@@ -30,7 +30,9 @@ trio = table (Void ∷ Composite true (ascii "x") 0 [] ∷ Composite true (ascii
 -- the kernel asks for the first two, the module for the third
 abbrev pub trioHeader : Side → List ℕ
 trioHeader d =
-    headerOf (calls (λ e. trio) (newWorld 48) (opens kernel 0 2 ∷ opens module′ 0 1 ∷ asks kernel 48 (one 100 1) ∷ asks kernel 48 (one 100 2) ∷ asks module′ 48 (one 100 3) ∷ [])) d
+    headerOf (calls (λ e. trio) (newWorld 48)
+    (opens kernel 0 2 ∷ opens module′ 0 1 ∷ asks kernel 48 (one 100 1) ∷ asks kernel 48 (one 100 2)
+    ∷ asks module′ 48 (one 100 3) ∷ [])) d
 
 -- typedef t, enum e with the value a, a struct s with a pointer to itself
 abbrev pub others : Btf
@@ -45,7 +47,8 @@ others = table (
 
 -- the number that the request for an id gets, with a reserve and a room
 abbrev pub first : ℕ → ℕ → ℕ → ℕ → Sample
-first reserve room id n = record { is = numbersFrom others (newWorld 48) (opens kernel 0 reserve ∷ asks kernel 48 (one room id) ∷ []); wanted = 0 ∷ n ∷ [] }
+first reserve room id n =
+    record { is = numbersFrom others (newWorld 48) (opens kernel 0 reserve ∷ asks kernel 48 (one room id) ∷ []); wanted = 0 ∷ n ∷ [] }
 
 -- both ask for everything, in turn
 abbrev pub inTurn : ℕ → ℕ → List Call
@@ -79,7 +82,8 @@ sharedSamples =
     -- a type takes its name once
     ∷ first 1 100 4 0
     -- the names that a refused request took stay
-    ∷ gives (header module′ (opens kernel 0 1 ∷ opens module′ 0 3 ∷ asks kernel 48 (one 0 1) ∷ asks module′ 48 (all 100) ∷ [])) "struct x___2 {};\n\nstruct y {};\n\n"
+    ∷ gives (header module′ (opens kernel 0 1 ∷ opens module′ 0 3 ∷ asks kernel 48 (one 0 1) ∷ asks module′ 48 (all 100) ∷ []))
+    "struct x___2 {};\n\nstruct y {};\n\n"
     -- different names may be spelled alike, in two headers as in one: a suffix yields the other's own name
     ∷ gives (trioHeader kernel) "struct x {};\n\nstruct x___2 {};\n\n"
     ∷ gives (trioHeader module′) "struct x___2 {};\n\n"

@@ -1,5 +1,5 @@
--- "Two sessions may now share one ledger, each with a reserved number of entries given at opening." The ledger, names over it, lines, and refusals that
--- leave the names taken.
+-- "Two sessions may now share one ledger, each with a reserved number of entries given at opening." The ledger, names over it, lines, and
+-- refusals that leave the names taken.
 use Prim.Native.Nat.{ℕ, _+_}
 use mathlib.Core.Bool.{Bool, true, false}
 use mathlib.Core.List.{List, [], _∷_, _++_}
@@ -20,8 +20,8 @@ pub record Account : Type 0 where
   pub reserve : ℕ
   pub used : ℕ
 
--- "an entry is one name of a space, charged to the session that made it": entries has every name of either session, and how many hold it in both;
--- accounts has the sessions that share it, open or closed, in the order of their opening
+-- "an entry is one name of a space, charged to the session that made it": entries has every name of either session, and how many hold it in
+-- both; accounts has the sessions that share it, open or closed, in the order of their opening
 pub record Ledger : Type 0 where
   pub words : ℕ
   pub entries : List Holder
@@ -62,7 +62,8 @@ taking k L space name = elim (eqb (holders (L .entries) space name) 0) [ true �
 
 -- "20 when a new name passes the session's own reserve"
 unfoldable pub passing : ℕ → Ledger → Space → Name → Bool
-passing k L space name = elim (eqb (holders (L .entries) space name) 0) [ true ↦ leb (account L k .reserve) (account L k .used) | false ↦ false ]
+passing k L space name =
+    elim (eqb (holders (L .entries) space name) 0) [ true ↦ leb (account L k .reserve) (account L k .used) | false ↦ false ]
 
 -- who gets a number: type id, or value i of enum id
 pub data Who : Type 0 where
@@ -76,8 +77,8 @@ pub record Given : Type 0 where
   pub name : Name
   pub number : ℕ
 
--- the versions of a session's own types; the numbers given for its header, the last one first, which stand in no word and tell what was printed; and the
--- ledger as it is lent
+-- the versions of a session's own types; the numbers given for its header, the last one first, which stand in no word and tell what was
+-- printed; and the ledger as it is lent
 pub record Held : Type 0 where
   pub versions : List ℕ
   pub given : List Given
@@ -102,7 +103,11 @@ typeShared k space id name h =
       | false ↦ record { version = getD (h .versions) id 0; names = h }
       | true ↦ record {
         version = numberOf (h .ledger) space name;
-        names = record { versions = set (h .versions) id (numberOf (h .ledger) space name); given = giving space (ofType id) name h; ledger = taking k (h .ledger) space name };
+        names = record {
+          versions = set (h .versions) id (numberOf (h .ledger) space name);
+          given = giving space (ofType id) name h;
+          ledger = taking k (h .ledger) space name;
+        };
       }
     ]
 
@@ -139,10 +144,12 @@ unfoldable pub from20 : Held → Taken Held → (ℕ → Held → Played) → Pl
 from20 h (gave v h′) f = f v h′
 from20 h passes f = broken h 20
 
--- limit: the bytes that the text may have; len: those it has. 17 at the first print that does not fit, 20 at the first name, whichever comes first.
+-- limit: the bytes that the text may have; len: those it has. 17 at the first print that does not fit, 20 at the first name, whichever
+-- comes first.
 unfoldable pub play : ℕ → ℕ → ℕ → Steps → Held → Played
 play k limit len end h = played h []
-play k limit len (prints a p) h = elim (leb (len + length a) limit) [ true ↦ onTop a (play k limit (len + length a) p h) | false ↦ broken h 17 ]
+play k limit len (prints a p) h =
+    elim (leb (len + length a) limit) [ true ↦ onTop a (play k limit (len + length a) p h) | false ↦ broken h 17 ]
 play k limit len (refuses c) h = broken h c
 play k limit len (takesType space id name f) h =
     from20 h (unless (typePasses k space id name h) (typeShared k space id name h)) (λ v h′. play k limit len (f v) h′)
@@ -164,7 +171,15 @@ Shelf = Ls (Known Held)
 
 -- s, with other names
 abbrev pub holding : Held → Shelf → Shelf
-holding h s = record { marks = s .marks; olist = s .olist; emits = s .emits; fwds = s .fwds; room = s .room; known = record { names = h; text-len = s .known .text-len }; pieces = s .pieces }
+holding h s = record {
+  marks = s .marks;
+  olist = s .olist;
+  emits = s .emits;
+  fwds = s .fwds;
+  room = s .room;
+  known = record { names = h; text-len = s .known .text-len };
+  pieces = s .pieces;
+}
 
 unfoldable pub playedOn : (List ℕ → Piece) → Shelf → Played → End Shelf
 playedOn mk s (played h a) = went (record {

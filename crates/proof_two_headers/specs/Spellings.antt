@@ -1,9 +1,11 @@
--- "must not reuse each other's names": what the two headers print of one name. Statements only; proofs/Spellings.antt has the proofs, which assume nothing.
+-- "must not reuse each other's names": what the two headers print of one name. Statements only; proofs/Spellings.antt has the proofs, which
+-- assume nothing.
 use Prim.Native.Nat.{ℕ, _<_}
 use mathlib.Core.Path.{_≡_}
 use mathlib.Core.List.{List, [], _∷_, List·Memᴰ}
 use lib.ListN.{getD}
-use Rattle.spec_c_dumper.specs.rules.Types.{Name, BtfType, Void, Int, Ptr, Array, Composite, Enum, Enum64, Fwd, Typedef, Mod, Func, Var, Datasec, FuncProto, Float, DeclTag, TypeTag, Btf, nameOf}
+use Rattle.spec_c_dumper.specs.rules.Types.{Name, BtfType, Void, Int, Ptr, Array, Composite, Enum, Enum64, Fwd, Typedef, Mod, Func, Var}
+use Rattle.spec_c_dumper.specs.rules.Types.{Datasec, FuncProto, Float, DeclTag, TypeTag, Btf, nameOf}
 use Rattle.spec_c_dumper.specs.rules.Names.{Space, tagSpace, identSpace, spelled, holders}
 use Rattle.proof_two_headers.specs.Shared.{Ledger, ofType, Given}
 use Rattle.proof_two_headers.specs.Calls.{Side, kernel, module′, Call, World, partOf, calls, newWorld}
@@ -72,7 +74,8 @@ pub record Unlike (B : Side → Btf) (W : World) : Type 0 where
   pub each-other : (a : Given) → List·Memᴰ a (givenIn W kernel) → Otherwise a (givenIn W module′)
   -- a type that was printed in a header has there the number that its name got
   pub types : (d : Side) (id : ℕ) → (versionIn W d id ≡ 0 → ⊥) → Got (B d) id (versionIn W d id) (givenIn W d)
-  -- so no two types of one space and one name, each printed in the one or the other header, are spelled alike; a type that is printed in both counts as two
+  -- so no two types of one space and one name, each printed in the one or the other header, are spelled alike; a type that is printed in
+  -- both counts as two
   pub two-types : (d e : Side) (i j : ℕ) → ((d ≡ e) × (i ≡ j) → ⊥) → (versionIn W d i ≡ 0 → ⊥) → (versionIn W e j ≡ 0 → ⊥)
       → spaceOf (B d .type-by-id i) ≡ spaceOf (B e .type-by-id j) → nameOf (B d .type-by-id i) ≡ nameOf (B e .type-by-id j)
       → spelled (nameOf (B d .type-by-id i)) (versionIn W d i) ≡ spelled (nameOf (B e .type-by-id j)) (versionIn W e j) → ⊥

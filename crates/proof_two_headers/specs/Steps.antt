@@ -1,7 +1,8 @@
 -- The prints of crates/spec_c_dumper/specs/rules/Decl and Emit as steps, so that a name can be refused between two of them. "20 when a new
 -- name passes the session's own
--- reserve": a name is taken before the bytes of the print that uses it. The writers of the rules do not tell in what order the bytes and the names
--- of a line come; steps do. The clauses are those of Decl and Emit, word for word; proofs/Steps has that they write the same with any names.
+-- reserve": a name is taken before the bytes of the print that uses it. The writers of the rules do not tell in what order the bytes and
+-- the names of a line come; steps do. The clauses are those of Decl and Emit, word for word; proofs/Steps has that they write the same with
+-- any names.
 use Prim.Native.Nat.{ℕ, zero, suc, _+_}
 use mathlib.Core.Bool.{Bool, true, false, not, _&&_}
 use mathlib.Core.List.{List, [], _∷_, _++_}
@@ -9,11 +10,14 @@ use lib.ListN.{length}
 use lib.Dec.{eqb}
 use Rattle.spec_bytes.specs.text.Text.{ascii, pfx}
 use Rattle.spec_c_dumper.specs.rules.Writer.{Ask, got, no, tooDeep, Writer, _⨾_, put, stop, nothing}
-use Rattle.spec_c_dumper.specs.rules.Types.{Name, isEmpty, Member, Param, Enumerator, BtfType, Void, Int, Ptr, Array, Composite, Enum, Enum64, Fwd, Typedef, Mod, Func, Var, Datasec, FuncProto, Float, DeclTag, TypeTag, Btf}
+use Rattle.spec_c_dumper.specs.rules.Types.{Name, isEmpty, Member, Param, Enumerator, BtfType, Void, Int, Ptr, Array, Composite, Enum}
+use Rattle.spec_c_dumper.specs.rules.Types.{Enum64, Fwd, Typedef, Mod, Func, Var, Datasec, FuncProto, Float, DeclTag, TypeTag, Btf}
 use Rattle.spec_c_dumper.specs.rules.Layout.{Pad, bitPadding, endOf}
 use Rattle.spec_c_dumper.specs.rules.Placing.{bodyPacked, tailPads}
 use Rattle.spec_c_dumper.specs.rules.Names.{Space, tagSpace, identSpace, Naming, resolving, spelled, builtin}
-use Rattle.spec_c_dumper.specs.rules.Decl.{deeper, sepName, keyword, attribute, declTags, qualifier, enumValue, enum64Value, Entry, base, star, qual, array, proto, tag, chainOf, mods, noMods, isArray, noParams, shownParams, pads, lastNewline, tailText, bitSize, brackets}
+use Rattle.spec_c_dumper.specs.rules.Decl.{deeper, sepName, keyword, attribute, declTags, qualifier, enumValue, enum64Value, Entry, base}
+use Rattle.spec_c_dumper.specs.rules.Decl.{star, qual, array, proto, tag, chainOf, mods, noMods, isArray, noParams, shownParams, pads}
+use Rattle.spec_c_dumper.specs.rules.Decl.{lastNewline, tailText, bitSize, brackets}
 
 -- what a line does, one thing after another; after a name is taken, by the number that it got
 pub data Steps : Type 0 where
@@ -81,7 +85,8 @@ module _ (B : Btf) where
   unfoldable pub valuesSteps : (ℕ → List ℕ) → ℕ → ℕ → ℕ → List Enumerator → Steps
   valuesSteps str id lvl i [] = none
   valuesSteps str id lvl i (v ∷ vs) =
-      valueName id i (v .name) (λ n. print (ascii "\n") ⨟ print (pfx lvl) ⨟ print n ⨟ print (ascii " = ") ⨟ print (str (v .value)) ⨟ print (ascii ","))
+      valueName id i (v .name) (λ n. print (ascii "\n") ⨟ print (pfx lvl) ⨟ print n ⨟ print (ascii " = ") ⨟ print (str (v .value)) ⨟
+      print (ascii ","))
       ⨟ valuesSteps str id lvl (i + 1) vs
 
   unfoldable pub enumBodySteps : (ℕ → List ℕ) → ℕ → ℕ → List Enumerator → Steps
@@ -115,7 +120,8 @@ paramsSteps decl first (p ∷ ps) =
 -- The group of three, each given the two or three that it calls. Depth is counted where they are tied together, below.
 
 -- emit_type_chain
-module _ (B : Btf) (decl : ℕ → Name → ℕ → Steps) (chain : List Entry → Name → ℕ → Steps) (def : ℕ → Bool → Name → ℕ → List Member → ℕ → Steps) (fname : Name) (lvl : ℕ) where
+module _ (B : Btf) (decl : ℕ → Name → ℕ → Steps) (chain : List Entry → Name → ℕ → Steps)
+    (def : ℕ → Bool → Name → ℕ → List Member → ℕ → Steps) (fname : Name) (lvl : ℕ) where
   -- the base's own words
   unfoldable pub baseWordSteps : ℕ → BtfType → Steps
   baseWordSteps id Void = print (ascii "void")
@@ -140,7 +146,8 @@ module _ (B : Btf) (decl : ℕ → Name → ℕ → Steps) (chain : List Entry �
   unfoldable pub arraySteps : Bool → List Entry → Steps
   arraySteps last-was-ptr [] = nameSteps fname last-was-ptr
   arraySteps last-was-ptr (e ∷ c) =
-      print (elim (not (isEmpty fname) && not last-was-ptr) [ true ↦ ascii " " | false ↦ [] ]) ⨟ parensSteps (not (isArray e)) (chain (e ∷ c) fname lvl)
+      print (elim (not (isEmpty fname) && not last-was-ptr) [ true ↦ ascii " " | false ↦ [] ]) ⨟ parensSteps (not (isArray e))
+      (chain (e ∷ c) fname lvl)
 
   -- a FUNC_PROTO, its qualifiers printed
   unfoldable pub protoSteps : Bool → List Entry → Steps
@@ -155,12 +162,15 @@ module _ (B : Btf) (decl : ℕ → Name → ℕ → Steps) (chain : List Entry �
   unfoldable pub chainLoopSteps : ℕ → Bool → List Entry → Steps
   chainLoopSteps zero last-was-ptr c = nameSteps fname last-was-ptr
   chainLoopSteps (suc n) last-was-ptr [] = nameSteps fname last-was-ptr
-  chainLoopSteps (suc n) last-was-ptr (base id ∷ c) = print (mods c) ⨟ baseWordSteps id (B .type-by-id id) ⨟ chainLoopSteps n false (noMods c)
-  chainLoopSteps (suc n) last-was-ptr (star ∷ c) = print (elim last-was-ptr [ true ↦ ascii "*" | false ↦ ascii " *" ]) ⨟ chainLoopSteps n true c
+  chainLoopSteps (suc n) last-was-ptr (base id ∷ c) =
+      print (mods c) ⨟ baseWordSteps id (B .type-by-id id) ⨟ chainLoopSteps n false (noMods c)
+  chainLoopSteps (suc n) last-was-ptr (star ∷ c) =
+      print (elim last-was-ptr [ true ↦ ascii "*" | false ↦ ascii " *" ]) ⨟ chainLoopSteps n true c
   chainLoopSteps (suc n) last-was-ptr (qual q ∷ c) = print (ascii " " ++ qualifier q) ⨟ chainLoopSteps n false c
   chainLoopSteps (suc n) last-was-ptr (array k ∷ c) = arraySteps last-was-ptr (noMods c) ⨟ print (brackets k)
   chainLoopSteps (suc n) last-was-ptr (proto ps ∷ c) = print (mods c) ⨟ protoSteps last-was-ptr (noMods c) ⨟ paramListSteps ps
-  chainLoopSteps (suc n) last-was-ptr (tag a name ∷ c) = print (mods c) ⨟ print (attribute a (ascii "btf_type_tag") name) ⨟ chainLoopSteps n false (noMods c)
+  chainLoopSteps (suc n) last-was-ptr (tag a name ∷ c) =
+      print (mods c) ⨟ print (attribute a (ascii "btf_type_tag") name) ⨟ chainLoopSteps n false (noMods c)
 
 -- emit_composite_def
 module _ (B : Btf) (decl : ℕ → Name → ℕ → Steps) (id : ℕ) where
@@ -185,7 +195,8 @@ module _ (B : Btf) (decl : ℕ → Name → ℕ → Steps) (id : ℕ) where
 
   unfoldable pub compositeBodySteps : Bool → Name → ℕ → List Member → ℕ → Bool → Steps
   compositeBodySteps is-struct name sz ms lvl packed =
-      compositeHeadSteps is-struct name ⨟ membersSteps (tailPads (B .placing) (B .ptr-sz) is-struct sz) (deeper lvl) packed 0 0 ms ⨟ compositeEndSteps lvl ms packed
+      compositeHeadSteps is-struct name ⨟ membersSteps (tailPads (B .placing) (B .ptr-sz) is-struct sz) (deeper lvl) packed 0 0 ms ⨟
+      compositeEndSteps lvl ms packed
 
   unfoldable pub compositeDefSteps : Bool → Name → ℕ → List Member → ℕ → Steps
   compositeDefSteps is-struct name sz ms lvl =
@@ -201,12 +212,14 @@ module _ (B : Btf) where
     pub typeChainSteps : ℕ → List Entry → Name → ℕ → Steps
     typeChainSteps zero c fname lvl = refuse tooDeep
     typeChainSteps (suc left) c fname lvl =
-        chainLoopSteps B (λ id n l. typeDeclSteps left id n l) (λ d n l. typeChainSteps left d n l) (λ id s n z ms l. wholeCompositeSteps left id s n z ms l)
+        chainLoopSteps B (λ id n l. typeDeclSteps left id n l) (λ d n l. typeChainSteps left d n l)
+        (λ id s n z ms l. wholeCompositeSteps left id s n z ms l)
         fname lvl (length c) true c
 
     pub wholeCompositeSteps : ℕ → ℕ → Bool → Name → ℕ → List Member → ℕ → Steps
     wholeCompositeSteps zero id is-struct name sz ms lvl = refuse tooDeep
-    wholeCompositeSteps (suc left) id is-struct name sz ms lvl = compositeDefSteps B (λ t n l. typeDeclSteps left t n l) id is-struct name sz ms lvl
+    wholeCompositeSteps (suc left) id is-struct name sz ms lvl =
+        compositeDefSteps B (λ t n l. typeDeclSteps left t n l) id is-struct name sz ms lvl
 
   -- emit_typedef_def
   unfoldable pub typedefDefSteps : ℕ → Name → ℕ → Steps

@@ -1,4 +1,5 @@
-// Requests under a ceiling of calls of ordering, and lists of such requests: definitions in specs/, laws in proofs/; the code is in `within`.
+// Requests under a ceiling of calls of ordering, and lists of such requests: definitions in specs/, laws in proofs/; the code is in
+// `within`.
 use spec_session::session::Reached;
 use spec_session::session::Tally;
 use spec_session::session::Turn;

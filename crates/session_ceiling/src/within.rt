@@ -18,7 +18,8 @@ use spec_type_table::TypeTable;
 ghost use Prim.Native.Nat.{_+_, _-_, _<_, _≤_};
 ghost use mathlib.Core.Path.{_≡_};
 ghost use lib.ListN.{length};
-ghost use Rattle.session_ceiling.specs.metered.Within.{withinOf, countedOf, requestedWithin, requestedFromWithin, typeCallWithin, typesCallWithin};
+ghost use Rattle.session_ceiling.specs.metered.Within.{withinOf, countedOf, requestedWithin, requestedFromWithin, typeCallWithin};
+ghost use Rattle.session_ceiling.specs.metered.Within.{typesCallWithin};
 
 // One id, after a text of len bytes, so many visits and so many calls.
 fn dump_one(
@@ -33,7 +34,9 @@ fn dump_one(
     ceiling: u64,
 ) -> Metered
     requires { ⌜ (len ≤ length (now text)) × (made ≤ ceiling) ⌝ }
-    ensures { λ r. ⌜ (withinOf r (now (work .exit)) (now (text .exit)) ≡ requestedWithin ceiling b (now (section .entry)) id len visits (now (work .entry)) (now (text .entry)) made) × (r .reached .len ≤ length (now (text .exit))) × (r .made ≤ ceiling) ⌝ }
+    ensures { λ r. ⌜ (withinOf r (now (work .exit)) (now (text .exit))
+        ≡ requestedWithin ceiling b (now (section .entry)) id len visits (now (work .entry)) (now (text .entry)) made)
+        × (r .reached .len ≤ length (now (text .exit))) × (r .made ≤ ceiling) ⌝ }
 {
     let from = len as usize;
     let to = limit(text.len(), from);
@@ -65,7 +68,9 @@ fn dump_next(
     ceiling: u64,
 ) -> Metered
     requires { ⌜ (len ≤ length (now text)) × (made ≤ ceiling) ⌝ }
-    ensures { λ r. ⌜ (withinOf r (now (work .exit)) (now (text .exit)) ≡ requestedWithin ceiling b (now (section .entry)) id len visits (now (work .entry)) (now (text .entry)) made) × (r .reached .len ≤ length (now (text .exit))) × (r .made ≤ ceiling) ⌝ }
+    ensures { λ r. ⌜ (withinOf r (now (work .exit)) (now (text .exit))
+        ≡ requestedWithin ceiling b (now (section .entry)) id len visits (now (work .entry)) (now (text .entry)) made)
+        × (r .reached .len ≤ length (now (text .exit))) × (r .made ≤ ceiling) ⌝ }
 {
     if !c_dumper_emit::dump_type::is_idle(b, section, work, id) {
         return dump_one(b, section, work, text, len, visits, id, made, ceiling);
@@ -91,7 +96,8 @@ fn dump_all(
     ceiling: u64,
 ) -> Metered
     requires { ⌜ len ≤ length (now text) ⌝ }
-    ensures { λ r. ⌜ withinOf r (now (work .exit)) (now (text .exit)) ≡ requestedFromWithin ceiling b (now (section .entry)) (b .types - 1) 1 len (now (work .entry)) (now (text .entry)) 0 ⌝ }
+    ensures { λ r. ⌜ withinOf r (now (work .exit)) (now (text .exit))
+        ≡ requestedFromWithin ceiling b (now (section .entry)) (b .types - 1) 1 len (now (work .entry)) (now (text .entry)) 0 ⌝ }
 {
     let n = b.types;
     let mut r = Metered {
@@ -123,7 +129,8 @@ pub fn dump_type_within(
     id: u32,
     ceiling: u64,
 ) -> Counted
-    ensures { λ r. ⌜ countedOf r (now (work .exit)) (now (text .exit)) ≡ typeCallWithin ceiling s (now (section .entry)) (now (work .entry)) (now (text .entry)) id 0 ⌝ }
+    ensures { λ r. ⌜ countedOf r (now (work .exit)) (now (text .exit))
+        ≡ typeCallWithin ceiling s (now (section .entry)) (now (work .entry)) (now (text .entry)) id 0 ⌝ }
 {
     if !is_current(s, section.len(), work.len(), text.len()) {
         return Counted {
@@ -152,7 +159,8 @@ pub fn dump_types_within(
     text: &mut [u8],
     ceiling: u64,
 ) -> Counted
-    ensures { λ r. ⌜ countedOf r (now (work .exit)) (now (text .exit)) ≡ typesCallWithin ceiling s (now (section .entry)) (now (work .entry)) (now (text .entry)) ⌝ }
+    ensures { λ r. ⌜ countedOf r (now (work .exit)) (now (text .exit))
+        ≡ typesCallWithin ceiling s (now (section .entry)) (now (work .entry)) (now (text .entry)) ⌝ }
 {
     if !is_current(s, section.len(), work.len(), text.len()) {
         return Counted {

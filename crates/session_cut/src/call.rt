@@ -36,7 +36,8 @@ fn is_open(s: Session, len: usize) -> bool
 
 // Causes 2 to 4 do not hold.
 fn is_sound(section: &[u8]) -> bool
-    ensures { λ r. ⌜ r ≡ eqb (firstOf (cause2 (now (section .entry)) ∷ cause3 (now (section .entry)) ∷ cause4 (now (section .entry)) ∷ [])) 0 ⌝ }
+    ensures { λ r. ⌜ r ≡ eqb (firstOf (cause2 (now (section .entry)) ∷ cause3 (now (section .entry))
+        ∷ cause4 (now (section .entry)) ∷ [])) 0 ⌝ }
 {
     if limit::MOST_BYTES < section.len() {
         return false;
@@ -82,7 +83,9 @@ fn is_past(given: &[u8], count: u32) -> bool
 
 // The new section, of a table and its index.
 fn write_cut(b: TypeTable, section: &[u8], start: &[u32], given: &[u8], out: &mut [u8]) -> Answer
-    ensures { λ r. ⌜ cutOf r (now (out .exit)) ≡ answered (keptWritten b (now (section .entry)) (now (start .entry)) (idsOf b (now (section .entry)) (now (start .entry)) (now (given .entry)) allZero) (now (out .entry))) ⌝ }
+    ensures { λ r. ⌜ cutOf r (now (out .exit))
+        ≡ answered (keptWritten b (now (section .entry)) (now (start .entry))
+        (idsOf b (now (section .entry)) (now (start .entry)) (now (given .entry)) allZero) (now (out .entry))) ⌝ }
 {
     let mut ids = [0u32; limit::TYPES_LEN];
     number_kept(b, section, start, given, &mut ids);

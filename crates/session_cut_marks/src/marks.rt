@@ -48,7 +48,9 @@ fn push_followed(
     d: usize,
     x: u32,
 ) -> usize
-    ensures { λ r. ⌜ heap (now (marks .exit)) (now (stack .exit)) r ≡ pushedTo (followedId b (now (section .entry)) (now (start .entry)) x) (heap (now (marks .entry)) (now (stack .entry)) d) (followedCount b (now (section .entry)) (now (start .entry)) x) ⌝ }
+    ensures { λ r. ⌜ heap (now (marks .exit)) (now (stack .exit)) r
+        ≡ pushedTo (followedId b (now (section .entry)) (now (start .entry)) x) (heap (now (marks .entry)) (now (stack .entry)) d)
+        (followedCount b (now (section .entry)) (now (start .entry)) x) ⌝ }
 {
     let e = entry(b, start, x);
     let kind = e % 32;
@@ -72,7 +74,9 @@ fn close(
     stack: &mut [u32],
     d: usize,
 )
-    ensures { λ _. ⌜ heap (now (marks .exit)) (now (stack .exit)) 0 ≡ closed b (now (section .entry)) (now (start .entry)) (weight (heap (now (marks .entry)) (now (stack .entry)) d)) (heap (now (marks .entry)) (now (stack .entry)) d) ⌝ }
+    ensures { λ _. ⌜ heap (now (marks .exit)) (now (stack .exit)) 0
+        ≡ closed b (now (section .entry)) (now (start .entry)) (weight (heap (now (marks .entry)) (now (stack .entry)) d))
+        (heap (now (marks .entry)) (now (stack .entry)) d) ⌝ }
 {
     let mut top = d;
     while top > 0 {
@@ -83,7 +87,8 @@ fn close(
 
 // The given ids, four bytes each, least significant first.
 fn push_given(given: &[u8], marks: &mut [u32], stack: &mut [u32]) -> usize
-    ensures { λ r. ⌜ heap (now (marks .exit)) (now (stack .exit)) r ≡ pushedTo (getWord (now (given .entry))) (heap (now (marks .entry)) (now (stack .entry)) 0) (length (now (given .entry)) / 4) ⌝ }
+    ensures { λ r. ⌜ heap (now (marks .exit)) (now (stack .exit)) r
+        ≡ pushedTo (getWord (now (given .entry))) (heap (now (marks .entry)) (now (stack .entry)) 0) (length (now (given .entry)) / 4) ⌝ }
 {
     let n = given.len() / 4;
     let mut top: usize = 0;

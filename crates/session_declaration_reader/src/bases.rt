@@ -10,7 +10,8 @@ ghost use mathlib.Core.Path.{_≡_};
 ghost use mathlib.Core.Bool.{true, false};
 ghost use Rattle.session_declaration_reader.specs.bases.Bases.{endsName, bracketed, noTags, isBase, wordRun};
 ghost use Rattle.session_declaration_reader.specs.tokens.Looking.{tokensAt};
-ghost use Rattle.session_declaration_reader.specs.bases.Looking.{qualSign, wordSigned, voidSigned, isBaseWord, Third, QualsAt, AfterWords, BaseAt};
+ghost use Rattle.session_declaration_reader.specs.bases.Looking.{qualSign, wordSigned, voidSigned, isBaseWord, Third, QualsAt};
+ghost use Rattle.session_declaration_reader.specs.bases.Looking.{AfterWords, BaseAt};
 
 // At most three qualifiers, by their signs, 0 where there is none; and where they end. Not ok where one stands twice.
 pub struct Quals {

@@ -33,7 +33,8 @@ fn failed() -> Spot
 
 // A star before a declarator; or one in parentheses, or the name, with what stands behind it.
 pub fn declarator(text: &[u8], at: usize, named: bool, left: u32, chain: &mut [u64], n: u32) -> Spot
-    ensures { λ r. ⌜ outcome (now (text .entry)) r (now (chain .exit)) ≡ emits layerItems (now (chain .entry)) n (grammar.declarator left named (tokensAt (now (text .entry)) at)) ⌝ }
+    ensures { λ r. ⌜ outcome (now (text .entry)) r (now (chain .exit))
+        ≡ emits layerItems (now (chain .entry)) n (grammar.declarator left named (tokensAt (now (text .entry)) at)) ⌝ }
 {
     if left == 0 {
         return failed();
@@ -56,7 +57,8 @@ pub fn declarator(text: &[u8], at: usize, named: bool, left: u32, chain: &mut [u
 
 // Behind a star.
 fn starred(text: &[u8], at: usize, named: bool, left: u32, chain: &mut [u64], n: u32) -> Spot
-    ensures { λ r. ⌜ outcome (now (text .entry)) r (now (chain .exit)) ≡ emits layerItems (now (chain .entry)) n (emission.starred left named (tokensAt (now (text .entry)) at)) ⌝ }
+    ensures { λ r. ⌜ outcome (now (text .entry)) r (now (chain .exit))
+        ≡ emits layerItems (now (chain .entry)) n (emission.starred left named (tokensAt (now (text .entry)) at)) ⌝ }
 {
     let q = quals_at(text, at);
     if !q.ok {
@@ -76,7 +78,8 @@ fn starred(text: &[u8], at: usize, named: bool, left: u32, chain: &mut [u64], n:
 
 // Behind the opening parenthesis of a declarator.
 fn in_brackets(text: &[u8], at: usize, named: bool, left: u32, chain: &mut [u64], n: u32) -> Spot
-    ensures { λ r. ⌜ outcome (now (text .entry)) r (now (chain .exit)) ≡ emits layerItems (now (chain .entry)) n (emission.inBrackets left named (tokensAt (now (text .entry)) at)) ⌝ }
+    ensures { λ r. ⌜ outcome (now (text .entry)) r (now (chain .exit))
+        ≡ emits layerItems (now (chain .entry)) n (emission.inBrackets left named (tokensAt (now (text .entry)) at)) ⌝ }
 {
     let r = declarator(text, at, named, left, chain, n);
     if !r.ok {
@@ -91,7 +94,8 @@ fn in_brackets(text: &[u8], at: usize, named: bool, left: u32, chain: &mut [u64]
 
 // The counts and parameter lists behind a declarator.
 fn suffixes(text: &[u8], at: usize, left: u32, chain: &mut [u64], n: u32) -> Spot
-    ensures { λ r. ⌜ outcome (now (text .entry)) r (now (chain .exit)) ≡ emits layerItems (now (chain .entry)) n (grammar.suffixes left chains.named (tokensAt (now (text .entry)) at)) ⌝ }
+    ensures { λ r. ⌜ outcome (now (text .entry)) r (now (chain .exit))
+        ≡ emits layerItems (now (chain .entry)) n (grammar.suffixes left chains.named (tokensAt (now (text .entry)) at)) ⌝ }
 {
     if left == 0 {
         return failed();
@@ -112,7 +116,8 @@ fn suffixes(text: &[u8], at: usize, left: u32, chain: &mut [u64], n: u32) -> Spo
 
 // Behind an opening bracket.
 fn counts(text: &[u8], at: usize, left: u32, chain: &mut [u64], n: u32) -> Spot
-    ensures { λ r. ⌜ outcome (now (text .entry)) r (now (chain .exit)) ≡ emits layerItems (now (chain .entry)) n (emission.counts left (tokensAt (now (text .entry)) at)) ⌝ }
+    ensures { λ r. ⌜ outcome (now (text .entry)) r (now (chain .exit))
+        ≡ emits layerItems (now (chain .entry)) n (emission.counts left (tokensAt (now (text .entry)) at)) ⌝ }
 {
     let t = token(text, at);
     if t.sign != 7 {
@@ -128,7 +133,8 @@ fn counts(text: &[u8], at: usize, left: u32, chain: &mut [u64], n: u32) -> Spot
 
 // Behind the opening parenthesis of a parameter list: the prototype, and what stands behind it.
 fn protos(text: &[u8], at: usize, left: u32, chain: &mut [u64], n: u32) -> Spot
-    ensures { λ r. ⌜ outcome (now (text .entry)) r (now (chain .exit)) ≡ emits layerItems (now (chain .entry)) n (emission.protos left (tokensAt (now (text .entry)) at)) ⌝ }
+    ensures { λ r. ⌜ outcome (now (text .entry)) r (now (chain .exit))
+        ≡ emits layerItems (now (chain .entry)) n (emission.protos left (tokensAt (now (text .entry)) at)) ⌝ }
 {
     let r = params(text, at, left, chain, n);
     if !r.ok {
@@ -139,7 +145,8 @@ fn protos(text: &[u8], at: usize, left: u32, chain: &mut [u64], n: u32) -> Spot
 
 // A prototype with its parameters; a lone void is none.
 fn params(text: &[u8], at: usize, left: u32, chain: &mut [u64], n: u32) -> Spot
-    ensures { λ r. ⌜ outcome (now (text .entry)) r (now (chain .exit)) ≡ emits protoItems (now (chain .entry)) n (grammar.params left (tokensAt (now (text .entry)) at)) ⌝ }
+    ensures { λ r. ⌜ outcome (now (text .entry)) r (now (chain .exit))
+        ≡ emits protoItems (now (chain .entry)) n (grammar.params left (tokensAt (now (text .entry)) at)) ⌝ }
 {
     if left == 0 {
         return failed();
@@ -166,7 +173,8 @@ fn params(text: &[u8], at: usize, left: u32, chain: &mut [u64], n: u32) -> Spot
 
 // One parameter or more.
 fn param_list(text: &[u8], at: usize, left: u32, chain: &mut [u64], n: u32) -> Spot
-    ensures { λ r. ⌜ outcome (now (text .entry)) r (now (chain .exit)) ≡ emits paramItems (now (chain .entry)) n (grammar.paramList left (tokensAt (now (text .entry)) at)) ⌝ }
+    ensures { λ r. ⌜ outcome (now (text .entry)) r (now (chain .exit))
+        ≡ emits paramItems (now (chain .entry)) n (grammar.paramList left (tokensAt (now (text .entry)) at)) ⌝ }
 {
     if left == 0 {
         return failed();
@@ -190,7 +198,8 @@ fn param_list(text: &[u8], at: usize, left: u32, chain: &mut [u64], n: u32) -> S
 
 // Behind a parameter's layers: its base, and the parameters after it.
 fn param_behind(text: &[u8], at: usize, left: u32, chain: &mut [u64], n: u32, b: Base) -> Spot
-    ensures { λ r. ⌜ outcome (now (text .entry)) r (now (chain .exit)) ≡ emits (behindItems b) (now (chain .entry)) n (grammar.paramEnd left (tokensAt (now (text .entry)) at)) ⌝ }
+    ensures { λ r. ⌜ outcome (now (text .entry)) r (now (chain .exit))
+        ≡ emits (behindItems b) (now (chain .entry)) n (grammar.paramEnd left (tokensAt (now (text .entry)) at)) ⌝ }
 {
     let t = token(text, at);
     if t.sign == 60 {
@@ -203,7 +212,8 @@ fn param_behind(text: &[u8], at: usize, left: u32, chain: &mut [u64], n: u32, b:
 
 // Behind a parameter.
 fn param_end(text: &[u8], at: usize, left: u32, chain: &mut [u64], n: u32) -> Spot
-    ensures { λ r. ⌜ outcome (now (text .entry)) r (now (chain .exit)) ≡ emits paramItems (now (chain .entry)) n (grammar.paramEnd left (tokensAt (now (text .entry)) at)) ⌝ }
+    ensures { λ r. ⌜ outcome (now (text .entry)) r (now (chain .exit))
+        ≡ emits paramItems (now (chain .entry)) n (grammar.paramEnd left (tokensAt (now (text .entry)) at)) ⌝ }
 {
     if left == 0 {
         return failed();
@@ -228,7 +238,8 @@ fn param_end(text: &[u8], at: usize, left: u32, chain: &mut [u64], n: u32) -> Sp
 
 // Behind `...`.
 fn dots_end(text: &[u8], at: usize, chain: &mut [u64], n: u32) -> Spot
-    ensures { λ r. ⌜ outcome (now (text .entry)) r (now (chain .exit)) ≡ emits paramItems (now (chain .entry)) n (emission.dotsEnd (tokensAt (now (text .entry)) at)) ⌝ }
+    ensures { λ r. ⌜ outcome (now (text .entry)) r (now (chain .exit))
+        ≡ emits paramItems (now (chain .entry)) n (emission.dotsEnd (tokensAt (now (text .entry)) at)) ⌝ }
 {
     let t = token(text, at);
     if t.sign != 57 {

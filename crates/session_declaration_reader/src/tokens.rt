@@ -16,7 +16,8 @@ ghost use Prim.Native.Nat.{_+_, _-_, _<_};
 ghost use lib.ListN.{length, getD};
 ghost use Rattle.session_declaration_reader.specs.tokens.Tokens.{isDigit, isLetter, isWordByte, inRun};
 ghost use Rattle.session_declaration_reader.specs.tokens.Tokens as defs;
-ghost use Rattle.session_declaration_reader.specs.tokens.Looking.{countValue, kindSign, wordSign, runSign, runCount, Skipped, Ran, Looked};
+ghost use Rattle.session_declaration_reader.specs.tokens.Looking.{countValue, kindSign, wordSign, runSign, runCount, Skipped, Ran};
+ghost use Rattle.session_declaration_reader.specs.tokens.Looking.{Looked};
 
 pub struct Tok {
     pub sign: u32,

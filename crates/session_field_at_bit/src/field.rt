@@ -76,7 +76,8 @@ fn walk(
     n: u32,
 ) -> Ask
     requires { ⌜ n ≤ 512 ⌝ }
-    ensures { λ r. ⌜ ledTo (askOf r) (now (path .exit)) ≡ written (now (path .entry)) n (pathFrom (512 - n) (btfOf b (now (section .entry)) (now (work .entry))) id bit) ⌝ }
+    ensures { λ r. ⌜ ledTo (askOf r) (now (path .exit))
+        ≡ written (now (path .entry)) n (pathFrom (512 - n) (btfOf b (now (section .entry)) (now (work .entry))) id bit) ⌝ }
 {
     let shape = behind(b, section, work, id, limit::MOST_CALLS);
     match next_step(b, section, work, shape, bit) {
@@ -120,7 +121,8 @@ fn find_field(
     id: u32,
     bit: u32,
 ) -> Answer
-    ensures { λ r. ⌜ foundOf r (now (path .exit)) ≡ lentPath (now (path .entry)) (fieldPath (btfOf b (now (section .entry)) (now (work .entry))) id bit) ⌝ }
+    ensures { λ r. ⌜ foundOf r (now (path .exit))
+        ≡ lentPath (now (path .entry)) (fieldPath (btfOf b (now (section .entry)) (now (work .entry))) id bit) ⌝ }
 {
     if !is_composite(b, section, type_by_id(b, section, work, id)) {
         return Answer::Refused(refusal::NO_FIELD, 0);

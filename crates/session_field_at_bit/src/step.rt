@@ -52,7 +52,9 @@ fn member_step(m: BtfMember, k: u32, end: u32, bit: u32) -> Step
 
 // The same; its size is asked first.
 fn try_member(b: TypeTable, section: &[u8], work: &[u8], m: BtfMember, k: u32, bit: u32) -> Step
-    ensures { λ r. ⌜ stepIs r ≡ askThen (endOf (btfOf b (now (section .entry)) (now (work .entry))) (ruleMember b (now (section .entry)) m)) (λ end. got (memberStep m k end bit)) ⌝ }
+    ensures { λ r. ⌜ stepIs r
+        ≡ askThen (endOf (btfOf b (now (section .entry)) (now (work .entry))) (ruleMember b (now (section .entry)) m))
+        (λ end. got (memberStep m k end bit)) ⌝ }
 {
     match member_end(b, section, work, m) {
         Ask::Got(end) => member_step(m, k, end, bit),
@@ -101,7 +103,8 @@ fn place_of(t: u32, size: u32, bit: u32) -> Step
 }
 
 fn find_place(b: TypeTable, section: &[u8], work: &[u8], t: u32, bit: u32) -> Step
-    ensures { λ r. ⌜ stepIs r ≡ askThen (getSizeOf 512 (btfOf b (now (section .entry)) (now (work .entry))) t) (λ size. got (placed t size bit)) ⌝ }
+    ensures { λ r. ⌜ stepIs r
+        ≡ askThen (getSizeOf 512 (btfOf b (now (section .entry)) (now (work .entry))) t) (λ size. got (placed t size bit)) ⌝ }
 {
     match get_size_of(b, section, work, t, limit::MOST_CALLS) {
         Ask::Got(size) => place_of(t, size, bit),

@@ -30,7 +30,8 @@ pub fn dump_list_causes(
     list: &mut [u8],
     ids: &[u8],
 ) -> Explained
-    ensures { λ r. ⌜ explainedOf r (now (work .exit)) (now (text .exit)) (now (list .exit)) ≡ listCausesCall s (now (section .entry)) (now (work .entry)) (now (text .entry)) (idsIn (now (ids .entry))) (now (list .entry)) ⌝ }
+    ensures { λ r. ⌜ explainedOf r (now (work .exit)) (now (text .exit)) (now (list .exit))
+        ≡ listCausesCall s (now (section .entry)) (now (work .entry)) (now (text .entry)) (idsIn (now (ids .entry))) (now (list .entry)) ⌝ }
 {
     let n = count_of(ids);
     let mut session = s;

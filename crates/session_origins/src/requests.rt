@@ -61,7 +61,10 @@ fn dump_one(
     turn: u32,
 ) -> Told
     requires { ⌜ (len ≤ length (now text)) × (b .types ≤ 262145) × (length (now leads) ≡ 262145) × Before turn (now leads) ⌝ }
-    ensures { λ r. ⌜ (cameOf r (now (work .exit)) (now (text .exit)) (now (list .exit)) ≡ requestedNoted (upTo (entriesIn (now (list .entry)))) b (now (section .entry)) id [] len visits (now (work .entry)) (now (text .entry))) × (r .count ≤ entriesIn (now (list .entry))) × (r .reached .len ≤ length (now (text .exit))) × (r .reached .number ≡ 0 → Before (turn + 1) (now (leads .exit))) ⌝ }
+    ensures { λ r. ⌜ (cameOf r (now (work .exit)) (now (text .exit)) (now (list .exit))
+        ≡ requestedNoted (upTo (entriesIn (now (list .entry)))) b (now (section .entry)) id [] len visits (now (work .entry))
+        (now (text .entry))) × (r .count ≤ entriesIn (now (list .entry))) × (r .reached .len ≤ length (now (text .exit)))
+        × (r .reached .number ≡ 0 → Before (turn + 1) (now (leads .exit))) ⌝ }
 {
     let from = len as usize;
     let to = limit(text.len(), from);
@@ -91,7 +94,9 @@ fn dump_alone(
     id: u32,
 ) -> Told
     requires { ⌜ (len ≤ length (now text)) × (b .types ≤ 262145) ⌝ }
-    ensures { λ r. ⌜ (cameOf r (now (work .exit)) (now (text .exit)) (now (list .exit)) ≡ requestedNoted (upTo (entriesIn (now (list .entry)))) b (now (section .entry)) id [] len visits (now (work .entry)) (now (text .entry))) × (r .count ≤ entriesIn (now (list .entry))) ⌝ }
+    ensures { λ r. ⌜ (cameOf r (now (work .exit)) (now (text .exit)) (now (list .exit))
+        ≡ requestedNoted (upTo (entriesIn (now (list .entry)))) b (now (section .entry)) id [] len visits (now (work .entry))
+        (now (text .entry))) × (r .count ≤ entriesIn (now (list .entry))) ⌝ }
 {
     let mut leads = [0u64; 262145];
     dump_one(b, section, work, text, list, &mut leads, len, visits, id, 1)
@@ -117,7 +122,9 @@ pub fn dump_type_causes(
     list: &mut [u8],
     id: u32,
 ) -> Explained
-    ensures { λ r. ⌜ (explainedOf r (now (work .exit)) (now (text .exit)) (now (list .exit)) ≡ typeCauses s (now (section .entry)) (now (work .entry)) (now (text .entry)) id (now (list .entry))) × (r .count ≤ entriesIn (now (list .entry))) ⌝ }
+    ensures { λ r. ⌜ (explainedOf r (now (work .exit)) (now (text .exit)) (now (list .exit))
+        ≡ typeCauses s (now (section .entry)) (now (work .entry)) (now (text .entry)) id (now (list .entry)))
+        × (r .count ≤ entriesIn (now (list .entry))) ⌝ }
 {
     if !is_current(s, section.len(), work.len(), text.len()) {
         return Explained {

@@ -58,7 +58,9 @@ pub fn dump_noted(
     p: Pen,
     q: Asked,
 ) -> Pen
-    ensures { λ r. ⌜ withLeads (now (leads .exit)) (notedOut 0 r (now (text .exit)) (now (work .exit)) (now (list .exit))) ≡ obind (withLeads (now (leads .entry)) (notedOut 0 p (now (text .entry)) (now (work .entry)) (now (list .entry)))) (λ m. dumpedKept b (btfOf b (now (section .entry)) (now (work .entry))) (entriesIn (now (list .entry))) m (q .req) (q .turn)) ⌝ }
+    ensures { λ r. ⌜ withLeads (now (leads .exit)) (notedOut 0 r (now (text .exit)) (now (work .exit)) (now (list .exit)))
+        ≡ obind (withLeads (now (leads .entry)) (notedOut 0 p (now (text .entry)) (now (work .entry)) (now (list .entry))))
+        (λ m. dumpedKept b (btfOf b (now (section .entry)) (now (work .entry))) (entriesIn (now (list .entry))) m (q .req) (q .turn)) ⌝ }
 {
     let start = Order {
         made: 0,

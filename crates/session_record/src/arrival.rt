@@ -83,7 +83,8 @@ fn clear_after(text: &mut [u8], accepted: u32, len: u32)
 
 // The end of a call with a list: 10 leaves what the accepted ids left, 12 to 17 close the session.
 pub fn settle_list(s: Session, work: &mut [u8], text: &mut [u8], r: Tally) -> Turn
-    ensures { λ t. ⌜ callOf (t .session) (t .answer) (now (work .exit)) (now (text .exit)) ≡ listEnd s r (now (work .entry)) (now (text .entry)) ⌝ }
+    ensures { λ t. ⌜ callOf (t .session) (t .answer) (now (work .exit)) (now (text .exit))
+        ≡ listEnd s r (now (work .entry)) (now (text .entry)) ⌝ }
 {
     let len = r.len;
     let answer = answer_of(r.number, r.accepted);

@@ -48,7 +48,8 @@ fn store_refused(record: &mut [u8], number: u32, len: u32, visits: u32)
 }
 
 pub fn answered(record: &mut [u8], t: Turn) -> u64
-    ensures { λ r. ⌜ (r ≡ packed (t .answer)) × (now («record» .exit) ≡ recordAfter (t .answer) (t .session .visits) (now («record» .entry))) ⌝ }
+    ensures { λ r. ⌜ (r ≡ packed (t .answer))
+        × (now («record» .exit) ≡ recordAfter (t .answer) (t .session .visits) (now («record» .entry))) ⌝ }
 {
     let a = t.answer;
     store(record, t);
@@ -76,7 +77,9 @@ fn store_stopped(record: &mut [u8], number: u32, accepted: u32, len: u32, visits
 }
 
 fn store_list(record: &mut [u8], t: Turn)
-    ensures { λ _. ⌜ now («record» .exit) ≡ recordListed (numberOf (t .answer)) (valueOf (t .answer)) (t .session .«text_len») (t .session .visits) (now («record» .entry)) ⌝ }
+    ensures { λ _. ⌜ now («record» .exit)
+        ≡ recordListed (numberOf (t .answer)) (valueOf (t .answer)) (t .session .«text_len») (t .session .visits)
+        (now («record» .entry)) ⌝ }
 {
     let a = t.answer;
     let s = t.session;
@@ -93,7 +96,9 @@ fn store_list(record: &mut [u8], t: Turn)
 }
 
 pub fn listed(record: &mut [u8], t: Turn) -> u64
-    ensures { λ r. ⌜ (r ≡ packed (t .answer)) × (now («record» .exit) ≡ recordListed (numberOf (t .answer)) (valueOf (t .answer)) (t .session .«text_len») (t .session .visits) (now («record» .entry))) ⌝ }
+    ensures { λ r. ⌜ (r ≡ packed (t .answer))
+        × (now («record» .exit) ≡ recordListed (numberOf (t .answer)) (valueOf (t .answer)) (t .session .«text_len») (t .session .visits)
+        (now («record» .entry))) ⌝ }
 {
     let a = t.answer;
     store_list(record, t);

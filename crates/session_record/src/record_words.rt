@@ -8,7 +8,8 @@ use spec_session::session::Answer;
 use spec_session::session::Session;
 ghost use mathlib.Core.Path.{_≡_};
 ghost use Prim.Native.Nat.{_<_};
-ghost use Rattle.session_record.specs.record_words.Words.{packed, getLong, putLong, putReached, decoded, encodedLast, encoded, unusedZero};
+ghost use Rattle.session_record.specs.record_words.Words.{packed, getLong, putLong, putReached, decoded, encodedLast, encoded};
+ghost use Rattle.session_record.specs.record_words.Words.{unusedZero};
 
 // Bytes of the record.
 pub const RECORD_BYTES: usize = 128;

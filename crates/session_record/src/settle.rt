@@ -83,7 +83,8 @@ pub fn visits_in(work: &[u8]) -> u32
 // The end of a call: what follows the text is zero; after a refusal so is the work, and the session is closed. The record gets the
 // visits that the work counts, or those that it counted before the refused request.
 pub fn settle(s: Session, work: &mut [u8], text: &mut [u8], r: Reached) -> Turn
-    ensures { λ t. ⌜ callOf (t .session) (t .answer) (now (work .exit)) (now (text .exit)) ≡ settled s (length (now (work .entry))) (length (now (text .entry))) (reachOf r (now (work .entry)) (now (text .entry))) ⌝ }
+    ensures { λ t. ⌜ callOf (t .session) (t .answer) (now (work .exit)) (now (text .exit))
+        ≡ settled s (length (now (work .entry))) (length (now (text .entry))) (reachOf r (now (work .entry)) (now (text .entry))) ⌝ }
 {
     clear_from(text, r.len);
     if r.number == 0 {

@@ -19,7 +19,8 @@ pub fn open(
     pointer_size: u32,
     modes: u32,
 ) -> Answer
-    ensures { λ r. ⌜ callOf (now (s .exit)) r (now (work .exit)) (now (text .exit)) ≡ openCall (now (s .entry)) (now (section .entry)) (now (work .entry)) (now (text .entry)) «pointer_size» modes ⌝ }
+    ensures { λ r. ⌜ callOf (now (s .exit)) r (now (work .exit)) (now (text .exit))
+        ≡ openCall (now (s .entry)) (now (section .entry)) (now (work .entry)) (now (text .entry)) «pointer_size» modes ⌝ }
 {
     let turn = open_core(*s, section, work, text, pointer_size, modes);
     *s = turn.session;
@@ -33,7 +34,8 @@ pub fn dump_type(
     text: &mut [u8],
     id: u32,
 ) -> Answer
-    ensures { λ r. ⌜ callOf (now (s .exit)) r (now (work .exit)) (now (text .exit)) ≡ typeCall (now (s .entry)) (now (section .entry)) (now (work .entry)) (now (text .entry)) id ⌝ }
+    ensures { λ r. ⌜ callOf (now (s .exit)) r (now (work .exit)) (now (text .exit)) ≡ typeCall (now (s .entry)) (now (section .entry))
+        (now (work .entry)) (now (text .entry)) id ⌝ }
 {
     let turn = dump_type_core(*s, section, work, text, id);
     *s = turn.session;
@@ -41,7 +43,8 @@ pub fn dump_type(
 }
 
 pub fn dump_types(s: &mut Session, section: &[u8], work: &mut [u8], text: &mut [u8]) -> Answer
-    ensures { λ r. ⌜ callOf (now (s .exit)) r (now (work .exit)) (now (text .exit)) ≡ typesCall (now (s .entry)) (now (section .entry)) (now (work .entry)) (now (text .entry)) ⌝ }
+    ensures { λ r. ⌜ callOf (now (s .exit)) r (now (work .exit)) (now (text .exit))
+        ≡ typesCall (now (s .entry)) (now (section .entry)) (now (work .entry)) (now (text .entry)) ⌝ }
 {
     let turn = dump_types_core(*s, section, work, text);
     *s = turn.session;
@@ -57,7 +60,8 @@ pub fn dump_list(
     text: &mut [u8],
     ids: &[u8],
 ) -> Answer
-    ensures { λ r. ⌜ callOf (now (s .exit)) r (now (work .exit)) (now (text .exit)) ≡ listCall (now (s .entry)) (now (section .entry)) (now (work .entry)) (now (text .entry)) (idsIn (now (ids .entry))) ⌝ }
+    ensures { λ r. ⌜ callOf (now (s .exit)) r (now (work .exit)) (now (text .exit))
+        ≡ listCall (now (s .entry)) (now (section .entry)) (now (work .entry)) (now (text .entry)) (idsIn (now (ids .entry))) ⌝ }
 {
     let turn = dump_list_core(*s, section, work, text, ids);
     *s = turn.session;

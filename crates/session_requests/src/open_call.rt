@@ -16,7 +16,8 @@ pub fn open_core(
     pointer_size: u32,
     modes: u32,
 ) -> Turn
-    ensures { λ r. ⌜ callOf (r .session) (r .answer) (now (work .exit)) (now (text .exit)) ≡ openCall s (now (section .entry)) (now (work .entry)) (now (text .entry)) «pointer_size» modes ⌝ }
+    ensures { λ r. ⌜ callOf (r .session) (r .answer) (now (work .exit)) (now (text .exit))
+        ≡ openCall s (now (section .entry)) (now (work .entry)) (now (text .entry)) «pointer_size» modes ⌝ }
 {
     let section_len = section.len() as u64;
     let work_len = work.len() as u64;

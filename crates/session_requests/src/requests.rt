@@ -34,7 +34,9 @@ fn dump_one(
     id: u32,
 ) -> Reached
     requires { ⌜ len ≤ length (now text) ⌝ }
-    ensures { λ r. ⌜ (reachOf r (now (work .exit)) (now (text .exit)) ≡ requested b (now (section .entry)) id len visits (now (work .entry)) (now (text .entry))) × (r .len ≤ length (now (text .exit))) ⌝ }
+    ensures { λ r. ⌜ (reachOf r (now (work .exit)) (now (text .exit))
+        ≡ requested b (now (section .entry)) id len visits (now (work .entry)) (now (text .entry)))
+        × (r .len ≤ length (now (text .exit))) ⌝ }
 {
     let from = len as usize;
     let to = limit(text.len(), from);
@@ -52,7 +54,9 @@ fn dump_next(
     id: u32,
 ) -> Reached
     requires { ⌜ len ≤ length (now text) ⌝ }
-    ensures { λ r. ⌜ (reachOf r (now (work .exit)) (now (text .exit)) ≡ requested b (now (section .entry)) id len (visitsIn (now (work .entry))) (now (work .entry)) (now (text .entry))) × (r .len ≤ length (now (text .exit))) ⌝ }
+    ensures { λ r. ⌜ (reachOf r (now (work .exit)) (now (text .exit))
+        ≡ requested b (now (section .entry)) id len (visitsIn (now (work .entry))) (now (work .entry)) (now (text .entry)))
+        × (r .len ≤ length (now (text .exit))) ⌝ }
 {
     if c_dumper_emit::dump_type::is_idle(b, section, work, id) {
         return Reached {
@@ -68,7 +72,9 @@ fn dump_next(
 // Every id from 1 upward, to the first that is refused.
 fn dump_all(b: TypeTable, section: &[u8], work: &mut [u8], text: &mut [u8], len: u32) -> Reached
     requires { ⌜ len ≤ length (now text) ⌝ }
-    ensures { λ r. ⌜ (reachOf r (now (work .exit)) (now (text .exit)) ≡ requestedFrom b (now (section .entry)) (b .types - 1) 1 len (now (work .entry)) (now (text .entry))) × (r .len ≤ length (now (text .exit))) ⌝ }
+    ensures { λ r. ⌜ (reachOf r (now (work .exit)) (now (text .exit))
+        ≡ requestedFrom b (now (section .entry)) (b .types - 1) 1 len (now (work .entry)) (now (text .entry)))
+        × (r .len ≤ length (now (text .exit))) ⌝ }
 {
     let n = b.types;
     let mut r = Reached {
@@ -88,7 +94,8 @@ fn dump_all(b: TypeTable, section: &[u8], work: &mut [u8], text: &mut [u8], len:
 }
 
 pub fn dump_type_core(s: Session, section: &[u8], work: &mut [u8], text: &mut [u8], id: u32) -> Turn
-    ensures { λ r. ⌜ callOf (r .session) (r .answer) (now (work .exit)) (now (text .exit)) ≡ typeCall s (now (section .entry)) (now (work .entry)) (now (text .entry)) id ⌝ }
+    ensures { λ r. ⌜ callOf (r .session) (r .answer) (now (work .exit)) (now (text .exit))
+        ≡ typeCall s (now (section .entry)) (now (work .entry)) (now (text .entry)) id ⌝ }
 {
     if !is_current(s, section.len(), work.len(), text.len()) {
         return turn_of(s, 11, s.text_len);
@@ -102,7 +109,8 @@ pub fn dump_type_core(s: Session, section: &[u8], work: &mut [u8], text: &mut [u
 }
 
 pub fn dump_types_core(s: Session, section: &[u8], work: &mut [u8], text: &mut [u8]) -> Turn
-    ensures { λ r. ⌜ callOf (r .session) (r .answer) (now (work .exit)) (now (text .exit)) ≡ typesCall s (now (section .entry)) (now (work .entry)) (now (text .entry)) ⌝ }
+    ensures { λ r. ⌜ callOf (r .session) (r .answer) (now (work .exit)) (now (text .exit))
+        ≡ typesCall s (now (section .entry)) (now (work .entry)) (now (text .entry)) ⌝ }
 {
     if !is_current(s, section.len(), work.len(), text.len()) {
         return turn_of(s, 11, s.text_len);
@@ -115,7 +123,9 @@ pub fn dump_types_core(s: Session, section: &[u8], work: &mut [u8], text: &mut [
 // The ids of a list in their order, to the first that is refused; what follows the text is not zeroed yet.
 fn dump_ids(s: Session, section: &[u8], work: &mut [u8], text: &mut [u8], ids: &[u8]) -> Tally
     requires { ⌜ isCurrent s (length (now section)) (length (now work)) (length (now text)) ≡ true ⌝ }
-    ensures { λ r. ⌜ (listEnd s r (now (work .exit)) (now (text .exit)) ≡ listCall s (now (section .entry)) (now (work .entry)) (now (text .entry)) (idsIn (now (ids .entry)))) × (r .len ≤ length (now (text .exit))) ⌝ }
+    ensures { λ r. ⌜ (listEnd s r (now (work .exit)) (now (text .exit))
+        ≡ listCall s (now (section .entry)) (now (work .entry)) (now (text .entry)) (idsIn (now (ids .entry))))
+        × (r .len ≤ length (now (text .exit))) ⌝ }
 {
     let b = btf_of(section, s.pointer_size, s.modes, s.types);
     let n = count_of(ids);
@@ -160,7 +170,8 @@ pub fn dump_list_core(
     text: &mut [u8],
     ids: &[u8],
 ) -> Turn
-    ensures { λ r. ⌜ callOf (r .session) (r .answer) (now (work .exit)) (now (text .exit)) ≡ listCall s (now (section .entry)) (now (work .entry)) (now (text .entry)) (idsIn (now (ids .entry))) ⌝ }
+    ensures { λ r. ⌜ callOf (r .session) (r .answer) (now (work .exit)) (now (text .exit))
+        ≡ listCall s (now (section .entry)) (now (work .entry)) (now (text .entry)) (idsIn (now (ids .entry))) ⌝ }
 {
     if ids.len() < 4 {
         return Turn {

@@ -44,11 +44,13 @@ typesExport r section w t =
 -- A list of ids: the calls for one id in that order, each lent record, work and text as the one before left them, up to and including the
 -- first that is refused. n were accepted before; the value is the count of the accepted.
 unfoldable pub countedExport : ℕ → Export → (Export → Export) → Export
-countedExport n e k = elim (e .result / 4294967296) [ zero ↦ k e | suc m ↦ exportOf (suc m * 4294967296 + n) (e .bytes) (e .work) (e .text) ]
+countedExport n e k =
+    elim (e .result / 4294967296) [ zero ↦ k e | suc m ↦ exportOf (suc m * 4294967296 + n) (e .bytes) (e .work) (e .text) ]
 
 unfoldable pub listExportFrom : ℕ → List ℕ → List ℕ → List ℕ → List ℕ → List ℕ → Export
 listExportFrom n r section w t [] = exportOf n r w t
-listExportFrom n r section w t (id ∷ ids) = countedExport n (typeExport r section w t id) (λ e. listExportFrom (suc n) (e .bytes) section (e .work) (e .text) ids)
+listExportFrom n r section w t (id ∷ ids) =
+    countedExport n (typeExport r section w t id) (λ e. listExportFrom (suc n) (e .bytes) section (e .work) (e .text) ids)
 
 unfoldable pub listExport : List ℕ → List ℕ → List ℕ → List ℕ → List ℕ → Export
 listExport r section w t ids = listExportFrom 0 r section w t ids

@@ -1,6 +1,8 @@
--- Documentation/bpf/btf.rst of Linux, section 2 with 2.1 and 2.2, as definitions: its structs as tables of fields, its "bits arrangement"s as
--- tables of ranges, what follows `struct btf_type` for each kind, and the bytes that a described type, a string table and a whole section have.
--- Written from the page alone, in its order and with its names; what it does not say is marked. It does not say how a section is read: `Reading`.
+-- Documentation/bpf/btf.rst of Linux, section 2 with 2.1 and 2.2, as definitions: its structs as tables of fields, its "bits arrangement"s
+-- as tables of ranges, what follows `struct btf_type` for each kind, and the bytes that a described type, a string table and a whole
+-- section have.
+-- Written from the page alone, in its order and with its names; what it does not say is marked. It does not say how a section is read:
+-- `Reading`.
 -- The page's C structs have their words in one of two orders ("different encoding for big and little endian systems"): `big` says which.
 use Prim.Native.Nat.{ℕ, zero, suc, _+_, _-_, _*_, _/_, _%_, _^_, _<_, _≤_}
 use Prim.Native.String.{String}
@@ -84,8 +86,8 @@ btf-header =
     ∷ field "str_len" 20 4
     ∷ []
 
--- "The magic is 0xeB9F, which has different encoding for big and little endian systems, and can be used to test whether BTF is generated for
--- big- or little-endian target"
+-- "The magic is 0xeB9F, which has different encoding for big and little endian systems, and can be used to test whether BTF is generated
+-- for big- or little-endian target"
 abbrev pub btf-magic : ℕ
 btf-magic = 0xeb9f
 
@@ -196,8 +198,8 @@ followSize (each s) vlen = vlen * sizeOf s
 ---------------------------------------------------------------------------------------------------------------------------------------
 -- Described types: the numbers that sections 2.2 and 2.2.1 to 2.2.19 give to a type of each kind
 
--- struct btf_member: name_off, type, bit offset, bitfield size. Where kind_flag is not set it is 0: that is the scope's; the page has the size in the INT
--- that is the base type then (docs/DIFFERENCES.md)
+-- struct btf_member: name_off, type, bit offset, bitfield size. Where kind_flag is not set it is 0: that is the scope's; the page has the
+-- size in the INT that is the base type then (docs/DIFFERENCES.md)
 pub data Member : Type 0 where
   member : ℕ → ℕ → ℕ → ℕ → Member
 
@@ -480,7 +482,9 @@ FitHeader (header version flags hdrLen typeOff typeLen strOff strLen) =
     FitFields btf-header (btf-magic ∷ version ∷ flags ∷ hdrLen ∷ typeOff ∷ typeLen ∷ strOff ∷ strLen ∷ [])
 
 -- 2. A section: header, types, strings. "All offsets are in bytes relative to the end of this header"; "hdr_len equal to
--- sizeof(struct btf_header) when a data blob is generated". (The page leaves the order of the two areas, and gaps, to type_off and str_off.)
+-- sizeof(struct btf_header) when a data blob is generated". (The page leaves the order of the two areas, and gaps, to type_off and
+-- str_off.)
 unfoldable pub encodeSection : Bool → ℕ → List Described → List ℕ → List ℕ
 encodeSection big flags ts strings =
-    encodeHeader big (header btf-version flags (sizeOf btf-header) 0 (length (encodeAll big ts)) (length (encodeAll big ts)) (length strings)) ++ (encodeAll big ts ++ strings)
+    encodeHeader big (header btf-version flags (sizeOf btf-header) 0 (length (encodeAll big ts)) (length (encodeAll big ts))
+    (length strings)) ++ (encodeAll big ts ++ strings)

@@ -1,9 +1,14 @@
--- The fields of a described type by the page's names, as code asks for them: those of struct btf_type, and those of each struct that follows it.
+-- The fields of a described type by the page's names, as code asks for them: those of struct btf_type, and those of each struct that
+-- follows it.
 -- Then where the page's tables say that they stand. Laws: `Claims`, (c).
 use Prim.Native.Nat.{ℕ, zero, suc, _+_, _*_}
 use mathlib.Core.List.{List, [], _∷_, map}
 use lib.ListN.{getD}
-use Rattle.spec_linux_btf.specs.Documentation.{Field, field, sizeOf, pack, unpack, btf-info, btf-int, member-offset, Follows, unknown, nothing, one, each, Member, member, Enumerator, enumerator, Param, param, Secinfo, secinfo, Enumerator64, enumerator64, Body, int, ptr, array, struct, union, enum, fwd, typedef, volatile, const, restrict, func, func-proto, var, datasec, float, decl-tag, type-tag, enum64, Described, described, kindOf, vlenOf, offsetWord}
+use Rattle.spec_linux_btf.specs.Documentation.{Field, field, sizeOf, pack, unpack, btf-info, btf-int, member-offset, Follows, unknown}
+use Rattle.spec_linux_btf.specs.Documentation.{nothing, one, each, Member, member, Enumerator, enumerator, Param, param, Secinfo}
+use Rattle.spec_linux_btf.specs.Documentation.{secinfo, Enumerator64, enumerator64, Body, int, ptr, array, struct, union, enum, fwd}
+use Rattle.spec_linux_btf.specs.Documentation.{typedef, volatile, const, restrict, func, func-proto, var, datasec, float, decl-tag}
+use Rattle.spec_linux_btf.specs.Documentation.{type-tag, enum64, Described, described, kindOf, vlenOf, offsetWord}
 use Rattle.spec_linux_btf.specs.Places.{tabulate}
 
 ---------------------------------------------------------------------------------------------------------------------------------------

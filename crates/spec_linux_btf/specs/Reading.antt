@@ -1,11 +1,14 @@
--- The reader of a type section: total functions on bytes. A record is read in the bytes r from its place on, r = drop p b, so that its word at k is the
--- word at p + k of b (law word-drop). Nothing here uses the tables of `Documentation`; `Claims` says that it reads by them.
+-- The reader of a type section: total functions on bytes. A record is read in the bytes r from its place on, r = drop p b, so that its word
+-- at k is the word at p + k of b (law word-drop). Nothing here uses the tables of `Documentation`; `Claims` says that it reads by them.
 use Prim.Native.Nat.{ℕ, zero, suc, _+_, _*_, _/_, _%_, _<_}
 use mathlib.Core.Bool.{Bool, true, false, _&&_}
 use mathlib.Core.List.{List, [], _∷_, map}
 use lib.ListN.{length, getD, drop}
 use lib.Dec.{ltb, leb, eqb}
-use Rattle.spec_linux_btf.specs.Documentation.{Member, member, Enumerator, enumerator, Param, param, Secinfo, secinfo, Enumerator64, enumerator64, Body, int, ptr, array, struct, union, enum, fwd, typedef, volatile, const, restrict, func, func-proto, var, datasec, float, decl-tag, type-tag, enum64, Described, described}
+use Rattle.spec_linux_btf.specs.Documentation.{Member, member, Enumerator, enumerator, Param, param, Secinfo, secinfo, Enumerator64}
+use Rattle.spec_linux_btf.specs.Documentation.{enumerator64, Body, int, ptr, array, struct, union, enum, fwd, typedef, volatile}
+use Rattle.spec_linux_btf.specs.Documentation.{const, restrict, func, func-proto, var, datasec, float, decl-tag, type-tag, enum64}
+use Rattle.spec_linux_btf.specs.Documentation.{Described, described}
 
 -- every element is a byte, as in a lent &[u8]
 abbrev pub Bytes : List ℕ → Type 0
@@ -16,7 +19,9 @@ pub data Kind : Type 0 where
   none INT PTR ARRAY STRUCT UNION ENUM FWD TYPEDEF VOLATILE CONST RESTRICT FUNC FUNC-PROTO VAR DATASEC FLOAT DECL-TAG TYPE-TAG ENUM64 : Kind
 
 abbrev pub kindTable : List Kind
-kindTable = none ∷ INT ∷ PTR ∷ ARRAY ∷ STRUCT ∷ UNION ∷ ENUM ∷ FWD ∷ TYPEDEF ∷ VOLATILE ∷ CONST ∷ RESTRICT ∷ FUNC ∷ FUNC-PROTO ∷ VAR ∷ DATASEC ∷ FLOAT ∷ DECL-TAG ∷ TYPE-TAG ∷ ENUM64 ∷ []
+kindTable =
+    none ∷ INT ∷ PTR ∷ ARRAY ∷ STRUCT ∷ UNION ∷ ENUM ∷ FWD ∷ TYPEDEF ∷ VOLATILE ∷ CONST ∷ RESTRICT ∷ FUNC ∷ FUNC-PROTO ∷ VAR ∷ DATASEC
+    ∷ FLOAT ∷ DECL-TAG ∷ TYPE-TAG ∷ ENUM64 ∷ []
 
 unfoldable pub kind : ℕ → Kind
 kind k = getD kindTable k none
@@ -108,10 +113,12 @@ module _ (big : Bool) where
   abbrev pub getEnumerator64 : List ℕ → Enumerator64
   getEnumerator64 e = enumerator64 (word e 0) (word e 4) (word e 8)
 
-  -- what follows struct btf_type, by kind, kind_flag and vlen. (An unknown kind is refused by `sound`, and what is read of it is of no matter.)
+  -- what follows struct btf_type, by kind, kind_flag and vlen. (An unknown kind is refused by `sound`, and what is read of it is of no
+  -- matter.)
   abbrev pub getBody : Kind → ℕ → ℕ → List ℕ → Body
   getBody none f v e = ptr v
-  getBody INT f v e = int v (word e 0 % 256) (word e 0 / 256 % 256) (word e 0 / 65536 % 256) (word e 0 / 16777216 % 16) (word e 0 / 268435456)
+  getBody INT f v e =
+      int v (word e 0 % 256) (word e 0 / 256 % 256) (word e 0 / 65536 % 256) (word e 0 / 16777216 % 16) (word e 0 / 268435456)
   getBody PTR f v e = ptr v
   getBody ARRAY f v e = array v (word e 0) (word e 4) (word e 8)
   getBody STRUCT f v e = struct (getEach (getMember f) 12 v e)
@@ -138,7 +145,8 @@ module _ (big : Bool) where
   unfoldable pub sound : List ℕ → Bool
   sound r =
       leb 12 (length r)
-      && (known (shape (kind (kindAt r))) && (eqb (word r 4 / 65536 % 256) 0 && (eqb (word r 4 / 536870912 % 4) 0 && leb (sizeAt r) (length r))))
+      && (known (shape (kind (kindAt r)))
+      && (eqb (word r 4 / 65536 % 256) 0 && (eqb (word r 4 / 536870912 % 4) 0 && leb (sizeAt r) (length r))))
 
   -- name_off, the first word of each of n entries, is below sl
   abbrev pub allNamed : ℕ → ℕ → ℕ → List ℕ → Bool

@@ -1,5 +1,5 @@
--- A section as it is read: the fields of its header, its two areas, and the tests of causes 3, 4 and 5 of opening. Law types-places: the test of
--- cause 5 by places in the section's own bytes is the one here.
+-- A section as it is read: the fields of its header, its two areas, and the tests of causes 3, 4 and 5 of opening. Law types-places: the
+-- test of cause 5 by places in the section's own bytes is the one here.
 use Prim.Native.Nat.{ℕ, _+_, _<_, _≤_}
 use mathlib.Core.Path.{_≡_}
 use mathlib.Core.Bool.{Bool, true, false, _&&_, _||_}
@@ -90,8 +90,8 @@ splitStrings (x ∷ xs) = elim (eqb x 0) [ true ↦ [] ∷ splitStrings xs | fal
 unfoldable pub typesSound : List ℕ → Bool
 typesSound s = layoutSound (bigEndian s) (strLen s) (typeArea s)
 
--- The section s holds the types ts: its type section is their layout in its order, and the type read by places in s, at the place that the records before it
--- lead to, is the one with that id, with every field of every entry
+-- The section s holds the types ts: its type section is their layout in its order, and the type read by places in s, at the place that the
+-- records before it lead to, is the one with that id, with every field of every entry
 pub record ReadAs (s : List ℕ) (ts : List Described) : Type 0 where
   pub laid : encodeAll (bigEndian s) ts ≡ typeArea s
   pub allowed : Every (Allowed (strLen s)) ts

@@ -2,7 +2,9 @@
 use Prim.Native.Nat.{ℕ, zero, suc}
 use mathlib.Core.List.{List, [], _∷_}
 use lib.ListN.{getD}
-use Rattle.spec_linux_btf.specs.Documentation.{Member, member, Param, param, int, ptr, array, struct, union, enum, fwd, typedef, volatile, const, restrict, func, func-proto, var, datasec, float, decl-tag, type-tag, enum64, Described, described}
+use Rattle.spec_linux_btf.specs.Documentation.{Member, member, Param, param, int, ptr, array, struct, union, enum, fwd, typedef, volatile}
+use Rattle.spec_linux_btf.specs.Documentation.{const, restrict, func, func-proto, var, datasec, float, decl-tag, type-tag, enum64}
+use Rattle.spec_linux_btf.specs.Documentation.{Described, described}
 
 abbrev pub memberIds : List Member → List ℕ
 memberIds [] = []
@@ -12,7 +14,8 @@ abbrev pub paramIds : List Param → List ℕ
 paramIds [] = []
 paramIds (param n t ∷ ps) = t ∷ paramIds ps
 
--- "Followed ids are targets of pointers, qualifiers, type tags, typedefs, elements, members, parameters, results"; "An array's index type is not followed"
+-- "Followed ids are targets of pointers, qualifiers, type tags, typedefs, elements, members, parameters, results"; "An array's index type
+-- is not followed"
 abbrev pub followedIds : Described → List ℕ
 followedIds (described n f z (int v a b c d e)) = []
 followedIds (described n f z (ptr v)) = z ∷ []

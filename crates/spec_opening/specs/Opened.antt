@@ -22,11 +22,12 @@ unfoldable pub openOut : Opening → List ℕ → List ℕ → Outcome
 openOut (Refused n) w t = refused n w t
 openOut (Sound types enumerators) w t = opened types enumerators w t
 
--- the work of n bytes that a successful opening leaves: places of records and of enumerators, tags, name classes, with bit 3 of the modes the lists of
--- taken numbers, and else zeros
+-- the work of n bytes that a successful opening leaves: places of records and of enumerators, tags, name classes, with bit 3 of the modes
+-- the lists of taken numbers, and else zeros
 unfoldable pub workOf : ℕ → ℕ → List ℕ → ℕ → List ℕ
 workOf pointer modes s n =
-    takersIn modes (btfOf s pointer modes (typesOf s)) (enumeratorsOf s) s (filled (btfOf s pointer modes (typesOf s)) s (indexOf s) (enumeratorsOf s) (replicate n 0))
+    takersIn modes (btfOf s pointer modes (typesOf s)) (enumeratorsOf s) s
+    (filled (btfOf s pointer modes (typesOf s)) s (indexOf s) (enumeratorsOf s) (replicate n 0))
 
 -- document 01: the first cause that holds refuses, and work and text are left as they were; where none holds, the text is zero
 unfoldable pub openingOf : ℕ → ℕ → List ℕ → List ℕ → List ℕ → Outcome
@@ -47,4 +48,7 @@ examineOut (Sound types enumerators) start = soundWith types enumerators start
 
 unfoldable pub examined : ℕ → List ℕ → ℕ → Examined
 examined pointer s work =
-    elim (eqb (openingNumber pointer s work) 0) [ true ↦ soundWith (typesOf s) (enumeratorsOf s) (indexOf s) | false ↦ refusedBy (openingNumber pointer s work) ]
+    elim (eqb (openingNumber pointer s work) 0) [
+      | true ↦ soundWith (typesOf s) (enumeratorsOf s) (indexOf s)
+      | false ↦ refusedBy (openingNumber pointer s work)
+    ]

@@ -2,7 +2,8 @@
 use Prim.Native.Nat.{ℕ, suc, _+_}
 use mathlib.Core.List.{List, [], _∷_}
 use lib.ListN.{length}
-use Rattle.spec_linux_btf.specs.Documentation.{Body, int, ptr, array, struct, union, enum, fwd, typedef, volatile, const, restrict, func, func-proto, var, datasec, float, decl-tag, type-tag, enum64, Described, described}
+use Rattle.spec_linux_btf.specs.Documentation.{Body, int, ptr, array, struct, union, enum, fwd, typedef, volatile, const, restrict, func}
+use Rattle.spec_linux_btf.specs.Documentation.{func-proto, var, datasec, float, decl-tag, type-tag, enum64, Described, described}
 use Rattle.spec_linux_btf.specs.Reading.{decodeAll}
 use Rattle.spec_linux_btf.specs.Section.{bigEndian, typeArea}
 

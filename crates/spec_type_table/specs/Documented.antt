@@ -3,9 +3,12 @@
 use Prim.Native.Nat.{ℕ, zero, suc, _+_, _*_}
 use mathlib.Core.Bool.{Bool, true, false}
 use mathlib.Core.List.{List, [], _∷_}
-use Rattle.spec_linux_btf.specs.Documentation.{Member, member, Enumerator, enumerator, Param, param, Enumerator64, enumerator64, int, ptr, array, struct, union, enum, fwd, typedef, volatile, const, restrict, func, func-proto, var, datasec, float, decl-tag, type-tag, enum64, Described, described}
+use Rattle.spec_linux_btf.specs.Documentation.{Member, member, Enumerator, enumerator, Param, param, Enumerator64, enumerator64, int, ptr}
+use Rattle.spec_linux_btf.specs.Documentation.{array, struct, union, enum, fwd, typedef, volatile, const, restrict, func, func-proto, var}
+use Rattle.spec_linux_btf.specs.Documentation.{datasec, float, decl-tag, type-tag, enum64, Described, described}
 use Rattle.spec_c_dumper.specs.rules.Types as R
-use Rattle.spec_c_dumper.specs.rules.Types.{BtfType, Int, Ptr, Array, Composite, Enum, Enum64, Fwd, Typedef, Mod, Func, Var, Datasec, FuncProto, Float, DeclTag, TypeTag}
+use Rattle.spec_c_dumper.specs.rules.Types.{BtfType, Int, Ptr, Array, Composite, Enum, Enum64, Fwd, Typedef, Mod, Func, Var, Datasec}
+use Rattle.spec_c_dumper.specs.rules.Types.{FuncProto, Float, DeclTag, TypeTag}
 use Rattle.spec_type_table.specs.Strings.{nameAt}
 
 -- kind_flag

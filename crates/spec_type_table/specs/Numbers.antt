@@ -1,5 +1,5 @@
--- The number that the k-th holder of a name gets, where some numbers are taken: the k-th of those from 1 on that are not. Opening lists the taken numbers
--- of a name at its class, in the mode of names that cannot collide; else there are none, and the number is the count.
+-- The number that the k-th holder of a name gets, where some numbers are taken: the k-th of those from 1 on that are not. Opening lists the
+-- taken numbers of a name at its class, in the mode of names that cannot collide; else there are none, and the number is the count.
 use Prim.Native.Nat.{ℕ, zero, suc, _+_}
 use mathlib.Core.Bool.{true, false}
 use mathlib.Core.List.{List, [], _∷_}
@@ -17,8 +17,8 @@ below (t ∷ ts) n = elim (leb t n) [ true ↦ suc (below ts n) | false ↦ belo
 unfoldable pub capped : ℕ → ℕ
 capped n = pick (ltb n 4294967295) n 4294967295
 
--- "passed over and the next number taken": k, and one more for each taken number up to there; until that adds none, which is after at most as
--- many turns as there are taken numbers
+-- "passed over and the next number taken": k, and one more for each taken number up to there; until that adds none, which is after at most
+-- as many turns as there are taken numbers
 unfoldable pub settled : List ℕ → ℕ → ℕ → ℕ → ℕ
 settled ts k zero n = n
 settled ts k (suc turns) n = settled ts k turns (capped (k + below ts n))
@@ -37,8 +37,8 @@ nextP types = placeOf types 8 4
 abbrev pub takenP : ℕ → ℕ → ℕ
 takenP types = placeOf types 14 6
 
--- The numbers from holder x on, after the holder `last`. What does not rise was not left by opening, and ends the list; so as many turns as there
--- are 32-bit numbers are enough.
+-- The numbers from holder x on, after the holder `last`. What does not rise was not left by opening, and ends the list; so as many turns as
+-- there are 32-bit numbers are enough.
 unfoldable pub numbersFrom : ℕ → ℕ → List ℕ → ℕ → ℕ → List ℕ
 numbersFrom zero types w last x = []
 numbersFrom (suc n) types w last x =

@@ -4,7 +4,9 @@ use mathlib.Core.Bool.{true, false, _&&_}
 use mathlib.Core.List.{List, [], _∷_}
 use lib.ListN.{getD}
 use lib.Dec.{ltb, leb, eqb}
-use Rattle.spec_c_dumper.specs.rules.Types.{Name, Member, Param, Enumerator, volatile, const, restrict, BtfType, Void, Int, Ptr, Array, Composite, Enum, Enum64, Fwd, Typedef, Mod, Func, Var, Datasec, FuncProto, Float, DeclTag, TypeTag, Btf as Rules}
+use Rattle.spec_c_dumper.specs.rules.Types.{Name, Member, Param, Enumerator, volatile, const, restrict, BtfType, Void, Int, Ptr, Array}
+use Rattle.spec_c_dumper.specs.rules.Types.{Composite, Enum, Enum64, Fwd, Typedef, Mod, Func, Var, Datasec, FuncProto, Float, DeclTag}
+use Rattle.spec_c_dumper.specs.rules.Types.{TypeTag, Btf as Rules}
 use Rattle.spec_c_dumper.specs.rules.Names.{Resolved, Naming}
 use Rattle.spec_type_table.specs.declared.types.TypeTable.{TypeTable}
 use Rattle.spec_type_table.specs.declared.types.BtfType.{BtfType as Record}
@@ -109,8 +111,8 @@ btfOf b s w = record {
   decl-tags = tagsOf (b .types) w;
 }
 
--- The names in the work. A type: word 4 has its version, 0 while it has none. Holders of a name are counted at its class; a new holder's version
--- is that count, with the numbers passed over that are listed there.
+-- The names in the work. A type: word 4 has its version, 0 while it has none. Holders of a name are counted at its class; a new holder's
+-- version is that count, with the numbers passed over that are listed there.
 unfoldable pub typeVersionIn : ℕ → ℕ → List ℕ → Resolved (List ℕ)
 typeVersionIn types id w =
     elim (eqb (getField w id 4) 0) [

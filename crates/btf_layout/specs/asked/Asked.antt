@@ -12,7 +12,8 @@ use Rattle.btf_layout.specs.declared.size.Packed.{Packed}
 use Rattle.btf_layout.specs.declared.size.Packed.the-variants.{Is, No as NoPacked}
 use Rattle.spec_c_dumper.specs.alignment_once.Once.{Keep, Once, found, refused, Asking, onceThen, alignmentOnce}
 use Rattle.spec_type_table.specs.Cells.{getField}
-use Rattle.spec_c_dumper.specs.alignment_once.Steps.{plainly, membersPackedOnce, packedOnce, gapAlignOnce, unionAlignOnce, paddingOnce, bodyOnce}
+use Rattle.spec_c_dumper.specs.alignment_once.Steps.{plainly, membersPackedOnce, packedOnce, gapAlignOnce, unionAlignOnce, paddingOnce}
+use Rattle.spec_c_dumper.specs.alignment_once.Steps.{bodyOnce}
 use Rattle.spec_c_dumper.specs.alignment_once.Writers.{Asks}
 use Rattle.btf_layout.specs.remembered.Words.{workKeep, forget}
 

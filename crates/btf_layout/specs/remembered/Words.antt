@@ -1,5 +1,5 @@
--- What is remembered of alignments, as words of the work: word 15 of a type is 0, or 16 times the height of the calls of get_align_of and the alignment;
--- word 2 of void counts the visits.
+-- What is remembered of alignments, as words of the work: word 15 of a type is 0, or 16 times the height of the calls of get_align_of and
+-- the alignment; word 2 of void counts the visits.
 use Prim.Native.Nat.{ℕ, suc, _+_, _*_, _/_, _%_}
 use mathlib.Core.Bool.{true, false}
 use mathlib.Core.List.{List, [], _∷_}
@@ -12,7 +12,8 @@ use Rattle.spec_type_table.specs.declared.types.BtfType.{BtfType as Record}
 use Rattle.spec_type_table.specs.Cells.{getField, putField}
 use Rattle.spec_type_table.specs.Records.{kindOf, entriesOf}
 use Rattle.spec_type_table.specs.Table.{extraWord}
-use Rattle.spec_c_dumper.specs.alignment_once.Once.{Seen, Known, unknown, known, Keep, Once, found, refused, Asking, onceThen, above, widest, alignOnce, memberCount}
+use Rattle.spec_c_dumper.specs.alignment_once.Once.{Seen, Known, unknown, known, Keep, Once, found, refused, Asking, onceThen, above}
+use Rattle.spec_c_dumper.specs.alignment_once.Once.{widest, alignOnce, memberCount}
 use Rattle.btf_layout.specs.declared.remembered.Seen.{Seen as Code}
 use Rattle.btf_layout.specs.declared.remembered.Once.{Once as Answer}
 use Rattle.btf_layout.specs.declared.remembered.Once.the-variants.{Found, No}
@@ -43,7 +44,10 @@ remembered types id v members w =
 
 -- a memory in the work, beside the names
 unfoldable pub workKeep : ℕ → Rules → Keep (List ℕ)
-workKeep types B = record { recall = λ w id. decoded (seenWord types w id); remember = λ id s w. remembered types id (coded s) (memberCount (B .type-by-id id)) w }
+workKeep types B = record {
+  recall = λ w id. decoded (seenWord types w id);
+  remember = λ id s w. remembered types id (coded s) (memberCount (B .type-by-id id)) w;
+}
 
 -- ---- what the code's answers say
 abbrev pub seenIs : Code → Seen

@@ -10,10 +10,11 @@ use Rattle.spec_opening.specs.Table.{typesOf, enumeratorsOf, indexOf}
 use Rattle.spec_opening.specs.Causes.{openingNumber}
 use Rattle.btf_open_names.specs.hash_table.Hashed.{hasRoom}
 
--- of every section that opening accepts, with work of n bytes: where the lists of taken numbers are made, both words of the table are 0, so that each base is
--- found by it and never by a walk over all holders
+-- of every section that opening accepts, with work of n bytes: where the lists of taken numbers are made, both words of the table are 0, so
+-- that each base is found by it and never by a walk over all holders
 abbrev pub AlwaysRoom : Type 0
 AlwaysRoom =
     (p modes : ℕ) (s : List ℕ) (n : ℕ)
     → openingNumber p s n ≡ 0
-    → hasRoom (btfOf s p modes (typesOf s) .types) (enumeratorsOf s) (filled (btfOf s p modes (typesOf s)) s (indexOf s) (enumeratorsOf s) (replicate n 0)) ≡ true
+    → hasRoom (btfOf s p modes (typesOf s) .types) (enumeratorsOf s)
+    (filled (btfOf s p modes (typesOf s)) s (indexOf s) (enumeratorsOf s) (replicate n 0)) ≡ true

@@ -12,7 +12,8 @@ use Rattle.btf_open_causes.specs.declared.header.Header.{Header}
 
 -- struct btf_header from hdr_len on, in the section's order
 unfoldable pub headerOf : List ℕ → Header
-headerOf s = record { «hdr_len» = wordOf s 4; «type_off» = wordOf s 8; «type_len» = wordOf s 12; «str_off» = wordOf s 16; «str_len» = wordOf s 20 }
+headerOf s =
+    record { «hdr_len» = wordOf s 4; «type_off» = wordOf s 8; «type_len» = wordOf s 12; «str_off» = wordOf s 16; «str_len» = wordOf s 20 }
 
 -- where the string area starts, "offsets count from the header's end"; a place that 32 bits cannot hold lies past every section
 unfoldable pub stringsAt : List ℕ → ℕ

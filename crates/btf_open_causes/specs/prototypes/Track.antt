@@ -18,7 +18,8 @@ pub data Leads (T : Track) : ℕ → Type 0 where
 
 unfoldable pub chase : Track → ℕ → ℕ → Bool
 chase T zero x = false
-chase T (suc k) x = elim (eqb (T .what x) 2) [ true ↦ true | false ↦ elim (eqb (T .what x) 1) [ true ↦ chase T k (T .next x) | false ↦ false ] ]
+chase T (suc k) x =
+    elim (eqb (T .what x) 2) [ true ↦ true | false ↦ elim (eqb (T .what x) 1) [ true ↦ chase T k (T .next x) | false ↦ false ] ]
 
 unfoldable pub leadsTo : Track → ℕ → Bool
 leadsTo T x = chase T (T .size) x

@@ -8,7 +8,8 @@ use lib.Dec.{ltb, eqb}
 use Rattle.spec_bytes.specs.words.Words.{pick}
 use Rattle.spec_type_table.specs.declared.types.TypeTable.{TypeTable}
 use Rattle.spec_type_table.specs.Records.{sectionWord, vlenOf, kindOf}
-use Rattle.spec_linux_btf.specs.Reading.{Kind, none, INT, PTR, ARRAY, STRUCT, UNION, ENUM, FWD, TYPEDEF, VOLATILE, CONST, RESTRICT, FUNC, FUNC-PROTO, VAR, DATASEC, FLOAT, DECL-TAG, TYPE-TAG, ENUM64, kind}
+use Rattle.spec_linux_btf.specs.Reading.{Kind, none, INT, PTR, ARRAY, STRUCT, UNION, ENUM, FWD, TYPEDEF, VOLATILE, CONST, RESTRICT, FUNC}
+use Rattle.spec_linux_btf.specs.Reading.{FUNC-PROTO, VAR, DATASEC, FLOAT, DECL-TAG, TYPE-TAG, ENUM64, kind}
 use Rattle.spec_linux_btf.specs.Places.{sizeP, kindP, entriesNamedP, soundP, namedP, passesP, placeFrom}
 use Rattle.spec_linux_btf.specs.Section.{wordOf}
 use Rattle.btf_open_causes.specs.declared.records.Records.{Records}

@@ -10,7 +10,8 @@ use borrow.Author.Tests.{le-ltb, ltb-true, ne-eqb}
 use Rattle.spec_bytes.specs.words.Words.{pick}
 use Rattle.spec_type_table.specs.declared.types.TypeTable.{TypeTable}
 use Rattle.spec_type_table.specs.Records.{sectionWord, vlenOf}
-use Rattle.btf_open_causes.specs.references.Followed.{among, countOf, entryAt, placeOf, kindAt, composites, targets, countFor, countAt, followedCount}
+use Rattle.btf_open_causes.specs.references.Followed.{among, countOf, entryAt, placeOf, kindAt, composites, targets, countFor}
+use Rattle.btf_open_causes.specs.references.Followed.{countAt, followedCount}
 
 pub count-fits : (b : TypeTable) → countOf b ≤ 262145
 unfolding countOf

@@ -26,7 +26,8 @@ enumeratorWord types e = types * 16 + e * 8
 -- the places of the first n values of an enum, which are the enumerators from `first` on
 unfoldable pub valuesPut : ℕ → ℕ → ℕ → ℕ → List ℕ → ℕ → List ℕ
 valuesPut types kind at first w zero = w
-valuesPut types kind at first w (suc n) = putWord (valuesPut types kind at first w n) (enumeratorWord types (first + n)) (valuePlace kind at n)
+valuesPut types kind at first w (suc n) =
+    putWord (valuesPut types kind at first w n) (enumeratorWord types (first + n)) (valuePlace kind at n)
 
 -- ENUM and ENUM64
 unfoldable pub isEnum : ℕ → Bool
@@ -76,7 +77,8 @@ module _ (b : TypeTable) (s : List ℕ) where
 
     -- all of it, and the name classes
     unfoldable pub filled : ℕ → List ℕ → List ℕ
-    filled enumerators w = tableClassed b enumerators s (tagsPut (b .types - 1) (enumsPut (placesPut start w (b .types - 1)) (b .types - 1)))
+    filled enumerators w =
+        tableClassed b enumerators s (tagsPut (b .types - 1) (enumsPut (placesPut start w (b .types - 1)) (b .types - 1)))
 
 -- ---- read back: the lists that the work spells
 -- the type with an entry of the index is a DECL_TAG on type id

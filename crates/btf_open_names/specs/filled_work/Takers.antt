@@ -1,5 +1,5 @@
--- The lists of taken numbers that opening makes in the mode of names that cannot collide: a name that is another one of its space with three underscores and a
--- number takes that number from it.
+-- The lists of taken numbers that opening makes in the mode of names that cannot collide: a name that is another one of its space with
+-- three underscores and a number takes that number from it.
 use Prim.Native.Nat.{ℕ, zero, suc, _+_, _-_, _*_, _/_, _%_}
 use mathlib.Core.Bool.{Bool, true, false, _&&_}
 use mathlib.Core.List.{List, [], _∷_}

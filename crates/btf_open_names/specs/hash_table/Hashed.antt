@@ -1,5 +1,5 @@
--- The holders by the hash of their names, in two words of each that are 0 before and afterwards: how the base of a name is found, and no part of
--- what is found.
+-- The holders by the hash of their names, in two words of each that are 0 before and afterwards: how the base of a name is found, and no
+-- part of what is found.
 use Prim.Native.Nat.{ℕ, zero, suc, _+_, _-_, _*_, _/_, _<_}
 use mathlib.Core.Path.{_≡_}
 use mathlib.Core.List.{List}
@@ -39,7 +39,8 @@ firstOf key n k j = firstFrom key n j (n - k) k
 
 -- and the next one in the bucket of c; 0 for a holder that is not in the table
 unfoldable pub laterOf : (ℕ → List ℕ) → ℕ → ℕ → ℕ → ℕ
-laterOf key n k c = elim (ltb c k) [ true ↦ 0 | false ↦ elim (eqb (spaceIn (key c)) 2) [ true ↦ 0 | false ↦ firstOf key n (suc c) (bucketOf key n c) ] ]
+laterOf key n k c =
+    elim (ltb c k) [ true ↦ 0 | false ↦ elim (eqb (spaceIn (key c)) 2) [ true ↦ 0 | false ↦ firstOf key n (suc c) (bucketOf key n c) ] ]
 
 -- ---- types and enumerators
 -- both words of the first n holders

@@ -6,7 +6,8 @@ use mathlib.Core.Logic.{_≢_}
 use lib.ListN.{length}
 use Rattle.spec_bytes.specs.words.Words.{getWord}
 use Rattle.spec_type_table.specs.declared.types.TypeTable.{TypeTable}
-use Rattle.btf_open_names.specs.name_classes.Classes.{recordP, bucketP, linkP, spaceAt, keyIn, classOf, tableClassed, countedAll, timesOf}
+use Rattle.btf_open_names.specs.name_classes.Classes.{recordP, bucketP, linkP, spaceAt, keyIn, classOf, tableClassed, countedAll}
+use Rattle.btf_open_names.specs.name_classes.Classes.{timesOf}
 use Rattle.spec_type_table.specs.Cells.{classP, countP, countOf}
 
 -- 01, Name ledger, "The first holder of a name": the class of h is the first holder, from 0 up, with the space and the name of h
@@ -27,7 +28,8 @@ Else types n i = (h : ℕ) → h < n → (i ≢ classP types h) × (i ≢ bucket
 -- what the work holds afterwards: classes, 0 for a holder without a space, scratch words 0, all else as it was
 pub record Words (b : TypeTable) (e : ℕ) (s w : List ℕ) : Type 0 where
   pub class : (h : ℕ) → Room b e w → h < b .types + e → getWord (tableClassed b e s w) (classP (b .types) h) ≡ classOf (keyIn b s w) h
-  pub none : (h : ℕ) → Room b e w → h < b .types + e → spaceAt b s (getWord w (recordP (b .types) h)) h ≡ 2 → getWord (tableClassed b e s w) (classP (b .types) h) ≡ 0
+  pub none : (h : ℕ) → Room b e w → h < b .types + e → spaceAt b s (getWord w (recordP (b .types) h)) h ≡ 2
+      → getWord (tableClassed b e s w) (classP (b .types) h) ≡ 0
   pub bucket : (h : ℕ) → Room b e w → h < b .types + e → getWord (tableClassed b e s w) (bucketP (b .types) h) ≡ 0
   pub link : (h : ℕ) → Room b e w → h < b .types + e → getWord (tableClassed b e s w) (linkP (b .types) h) ≡ 0
   pub else : (i : ℕ) → Else (b .types) (b .types + e) i → getWord (tableClassed b e s w) i ≡ getWord w i

@@ -67,7 +67,8 @@ pub fn load_key(b: TypeTable, section: &[u8], work: &[u8], h: u32) -> Key
 
 // Whether two keys have the same space and the same name.
 pub fn same_key(section: &[u8], x: Key, y: Key) -> bool
-    ensures { λ r. ⌜ r ≡ sameList (keyOf (now (section .entry)) (x .space) (x .name)) (keyOf (now (section .entry)) (y .space) (y .name)) ⌝ }
+    ensures { λ r. ⌜ r ≡ sameList (keyOf (now (section .entry)) (x .space) (x .name))
+        (keyOf (now (section .entry)) (y .space) (y .name)) ⌝ }
 {
     if x.space != y.space {
         return false;

@@ -11,7 +11,8 @@ ghost use Rattle.btf_open_names.specs.filled_work.Takers.{suffixOn, anyS
 
 // The number with which the key y is x with a suffix, or 0.
 pub fn key_suffix(section: &[u8], x: Key, y: Key) -> u32
-    ensures { λ r. ⌜ r ≡ suffixOn (keyOf (now (section .entry)) (x .space) (x .name)) (keyOf (now (section .entry)) (y .space) (y .name)) ⌝ }
+    ensures { λ r. ⌜ r ≡ suffixOn (keyOf (now (section .entry)) (x .space) (x .name))
+        (keyOf (now (section .entry)) (y .space) (y .name)) ⌝ }
 {
     if x.space != y.space {
         return 0;

@@ -19,7 +19,9 @@ ghost use Rattle.btf_open_names.specs.hash_table.Hashed.{TableIf};
 
 // Puts h in front of the list of c, with the number that its name takes.
 fn put_on(b: TypeTable, section: &[u8], work: &mut [u8], c: u32, h: u32)
-    ensures { λ _. ⌜ now (work .exit) ≡ listedOn (b .types) c h (suffixOn (keyIn b (now (section .entry)) (now (work .entry)) c) (keyIn b (now (section .entry)) (now (work .entry)) h)) (now (work .entry)) ⌝ }
+    ensures { λ _. ⌜ now (work .exit)
+        ≡ listedOn (b .types) c h (suffixOn (keyIn b (now (section .entry)) (now (work .entry)) c)
+        (keyIn b (now (section .entry)) (now (work .entry)) h)) (now (work .entry)) ⌝ }
 {
     let key = load_key(b, section, work, h);
     let m = key_suffix(section, load_key(b, section, work, c), key);
@@ -61,7 +63,8 @@ fn put_taker(b: TypeTable, section: &[u8], work: &mut [u8], n: u32, h: u32, has_
     put_on(b, section, work, c, h)
 }
 
-// All holders, from the last to the first, so that those on a list stand in rising order. The work that opening has filled has room for the table.
+// All holders, from the last to the first, so that those on a list stand in rising order. The work that opening has filled has room for the
+// table.
 fn put_takers(b: TypeTable, section: &[u8], enumerators: u32, work: &mut [u8])
     ensures { λ _. ⌜ now (work .exit) ≡ withTakers b enumerators (now (section .entry)) (now (work .entry)) ⌝ }
 {

@@ -25,15 +25,23 @@ answeredCauses r d = record { export = answeredBy r (d .call); count = d .count;
 -- a record of under 128 bytes: 11 with value 0, and no entry
 unfoldable pub typeCausesExport : List ℕ → List ℕ → List ℕ → List ℕ → ℕ → List ℕ → CausesExport
 typeCausesExport r section w t id l =
-    elim (ltb (length r) 128) [ true ↦ causesExportOf (11 * 4294967296) r w t 0 l | false ↦ answeredCauses r (typeCauses (decoded r) section w t id l) ]
+    elim (ltb (length r) 128) [
+      | true ↦ causesExportOf (11 * 4294967296) r w t 0 l
+      | false ↦ answeredCauses r (typeCauses (decoded r) section w t id l)
+    ]
 
 unfoldable pub typesCausesExport : List ℕ → List ℕ → List ℕ → List ℕ → List ℕ → CausesExport
-typesCausesExport r section w t l = elim (ltb (length r) 128) [ true ↦ causesExportOf (11 * 4294967296) r w t 0 l | false ↦ answeredCauses r (typesCauses (decoded r) section w t l) ]
+typesCausesExport r section w t l = elim (ltb (length r) 128) [
+  | true ↦ causesExportOf (11 * 4294967296) r w t 0 l
+  | false ↦ answeredCauses r (typesCauses (decoded r) section w t l)
+]
 
 -- a list of ids: the value is the count of the accepted; an empty list tests and changes nothing
 unfoldable pub listedCauses : List ℕ → CauseCall → CausesExport
 listedCauses r d = record {
-  export = exportOf (packed (d .call .answer)) (recordListed (numberOf (d .call .answer)) (valueOf (d .call .answer)) (d .call .session .«text_len») (d .call .session .visits) r) (d .call .work) (d .call .text);
+  export =
+      exportOf (packed (d .call .answer)) (recordListed (numberOf (d .call .answer)) (valueOf (d .call .answer))
+      (d .call .session .«text_len») (d .call .session .visits) r) (d .call .work) (d .call .text);
   count = d .count;
   list = d .list;
 }
@@ -41,4 +49,7 @@ listedCauses r d = record {
 unfoldable pub listCausesExport : List ℕ → List ℕ → List ℕ → List ℕ → List ℕ → List ℕ → CausesExport
 listCausesExport r section w t [] l = causesExportOf 0 r w t 0 l
 listCausesExport r section w t (id ∷ ids) l =
-    elim (ltb (length r) 128) [ true ↦ causesExportOf (11 * 4294967296) r w t 0 l | false ↦ listedCauses r (listCausesCall (decoded r) section w t (id ∷ ids) l) ]
+    elim (ltb (length r) 128) [
+      | true ↦ causesExportOf (11 * 4294967296) r w t 0 l
+      | false ↦ listedCauses r (listCausesCall (decoded r) section w t (id ∷ ids) l)
+    ]

@@ -18,7 +18,8 @@ pub fn c_dump_type_within(
     ceiling: u64,
     made: &mut u64,
 ) -> u64
-    ensures { λ r. ⌜ withinExportOf r (now («record» .exit)) (now (work .exit)) (now (text .exit)) (now (made .exit)) ≡ typeWithinExport ceiling (now («record» .entry)) (now (section .entry)) (now (work .entry)) (now (text .entry)) id ⌝ }
+    ensures { λ r. ⌜ withinExportOf r (now («record» .exit)) (now (work .exit)) (now (text .exit)) (now (made .exit))
+        ≡ typeWithinExport ceiling (now («record» .entry)) (now (section .entry)) (now (work .entry)) (now (text .entry)) id ⌝ }
 {
     if record.len() < 128 {
         *made = 0;
@@ -37,7 +38,8 @@ pub fn c_dump_types_within(
     ceiling: u64,
     made: &mut u64,
 ) -> u64
-    ensures { λ r. ⌜ withinExportOf r (now («record» .exit)) (now (work .exit)) (now (text .exit)) (now (made .exit)) ≡ typesWithinExport ceiling (now («record» .entry)) (now (section .entry)) (now (work .entry)) (now (text .entry)) ⌝ }
+    ensures { λ r. ⌜ withinExportOf r (now («record» .exit)) (now (work .exit)) (now (text .exit)) (now (made .exit))
+        ≡ typesWithinExport ceiling (now («record» .entry)) (now (section .entry)) (now (work .entry)) (now (text .entry)) ⌝ }
 {
     if record.len() < 128 {
         *made = 0;
@@ -57,7 +59,9 @@ pub fn c_dump_list_within(
     ceiling: u64,
     made: &mut u64,
 ) -> u64
-    ensures { λ r. ⌜ withinExportOf r (now («record» .exit)) (now (work .exit)) (now (text .exit)) (now (made .exit)) ≡ listWithinExport ceiling (now («record» .entry)) (now (section .entry)) (now (work .entry)) (now (text .entry)) (idsIn (now (ids .entry))) ⌝ }
+    ensures { λ r. ⌜ withinExportOf r (now («record» .exit)) (now (work .exit)) (now (text .exit)) (now (made .exit))
+        ≡ listWithinExport ceiling (now («record» .entry)) (now (section .entry)) (now (work .entry)) (now (text .entry))
+        (idsIn (now (ids .entry))) ⌝ }
 {
     if ids.len() < 4 {
         *made = 0;

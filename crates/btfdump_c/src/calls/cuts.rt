@@ -6,7 +6,8 @@ ghost use mathlib.Core.Path.{_≡_};
 ghost use Rattle.spec_c_calls.specs.Cuts.{cutExportOf, cutExport};
 
 pub fn c_cut(record: &[u8], section: &[u8], ids: &[u8], out: &mut [u8]) -> u64
-    ensures { λ r. ⌜ cutExportOf r (now (out .exit)) ≡ cutExport (now («record» .entry)) (now (section .entry)) (now (ids .entry)) (now (out .entry)) ⌝ }
+    ensures { λ r. ⌜ cutExportOf r (now (out .exit))
+        ≡ cutExport (now («record» .entry)) (now (section .entry)) (now (ids .entry)) (now (out .entry)) ⌝ }
 {
     if record.len() < 128 {
         return 47244640256;

@@ -16,7 +16,8 @@ pub extern "C" fn btfdump_dump_type_within(
     ceiling: u64,
     made: &mut u64,
 ) -> u64
-    ensures { λ r. ⌜ withinExportOf r (now («record» .exit)) (now (work .exit)) (now (text .exit)) (now (made .exit)) ≡ typeWithinExport ceiling (now («record» .entry)) (now (section .entry)) (now (work .entry)) (now (text .entry)) id ⌝ }
+    ensures { λ r. ⌜ withinExportOf r (now («record» .exit)) (now (work .exit)) (now (text .exit)) (now (made .exit))
+        ≡ typeWithinExport ceiling (now («record» .entry)) (now (section .entry)) (now (work .entry)) (now (text .entry)) id ⌝ }
 {
     c_dump_type_within(record, section, work, text, id, ceiling, made)
 }
@@ -30,7 +31,8 @@ pub extern "C" fn btfdump_dump_types_within(
     ceiling: u64,
     made: &mut u64,
 ) -> u64
-    ensures { λ r. ⌜ withinExportOf r (now («record» .exit)) (now (work .exit)) (now (text .exit)) (now (made .exit)) ≡ typesWithinExport ceiling (now («record» .entry)) (now (section .entry)) (now (work .entry)) (now (text .entry)) ⌝ }
+    ensures { λ r. ⌜ withinExportOf r (now («record» .exit)) (now (work .exit)) (now (text .exit)) (now (made .exit))
+        ≡ typesWithinExport ceiling (now («record» .entry)) (now (section .entry)) (now (work .entry)) (now (text .entry)) ⌝ }
 {
     c_dump_types_within(record, section, work, text, ceiling, made)
 }
@@ -45,7 +47,9 @@ pub extern "C" fn btfdump_dump_list_within(
     ceiling: u64,
     made: &mut u64,
 ) -> u64
-    ensures { λ r. ⌜ withinExportOf r (now («record» .exit)) (now (work .exit)) (now (text .exit)) (now (made .exit)) ≡ listWithinExport ceiling (now («record» .entry)) (now (section .entry)) (now (work .entry)) (now (text .entry)) (idsIn (now (ids .entry))) ⌝ }
+    ensures { λ r. ⌜ withinExportOf r (now («record» .exit)) (now (work .exit)) (now (text .exit)) (now (made .exit))
+        ≡ listWithinExport ceiling (now («record» .entry)) (now (section .entry)) (now (work .entry)) (now (text .entry))
+        (idsIn (now (ids .entry))) ⌝ }
 {
     c_dump_list_within(record, section, work, text, ids, ceiling, made)
 }

@@ -19,7 +19,8 @@ pub extern "C" fn btfdump_dump_type_causes(
     list: &mut [u8],
     count: &mut u64,
 ) -> u64
-    ensures { λ r. ⌜ causesExportOf r (now («record» .exit)) (now (work .exit)) (now (text .exit)) (now (count .exit)) (now (list .exit)) ≡ typeCausesExport (now («record» .entry)) (now (section .entry)) (now (work .entry)) (now (text .entry)) id (now (list .entry)) ⌝ }
+    ensures { λ r. ⌜ causesExportOf r (now («record» .exit)) (now (work .exit)) (now (text .exit)) (now (count .exit)) (now (list .exit))
+        ≡ typeCausesExport (now («record» .entry)) (now (section .entry)) (now (work .entry)) (now (text .entry)) id (now (list .entry)) ⌝ }
 {
     if record.len() < 128 {
         *count = 0;
@@ -39,7 +40,8 @@ pub extern "C" fn btfdump_dump_types_causes(
     list: &mut [u8],
     count: &mut u64,
 ) -> u64
-    ensures { λ r. ⌜ causesExportOf r (now («record» .exit)) (now (work .exit)) (now (text .exit)) (now (count .exit)) (now (list .exit)) ≡ typesCausesExport (now («record» .entry)) (now (section .entry)) (now (work .entry)) (now (text .entry)) (now (list .entry)) ⌝ }
+    ensures { λ r. ⌜ causesExportOf r (now («record» .exit)) (now (work .exit)) (now (text .exit)) (now (count .exit)) (now (list .exit))
+        ≡ typesCausesExport (now («record» .entry)) (now (section .entry)) (now (work .entry)) (now (text .entry)) (now (list .entry)) ⌝ }
 {
     if record.len() < 128 {
         *count = 0;
@@ -60,7 +62,9 @@ pub extern "C" fn btfdump_dump_list_causes(
     list: &mut [u8],
     count: &mut u64,
 ) -> u64
-    ensures { λ r. ⌜ causesExportOf r (now («record» .exit)) (now (work .exit)) (now (text .exit)) (now (count .exit)) (now (list .exit)) ≡ listCausesExport (now («record» .entry)) (now (section .entry)) (now (work .entry)) (now (text .entry)) (idsIn (now (ids .entry))) (now (list .entry)) ⌝ }
+    ensures { λ r. ⌜ causesExportOf r (now («record» .exit)) (now (work .exit)) (now (text .exit)) (now (count .exit)) (now (list .exit))
+        ≡ listCausesExport (now («record» .entry)) (now (section .entry)) (now (work .entry)) (now (text .entry)) (idsIn (now (ids .entry)))
+        (now (list .entry)) ⌝ }
 {
     if ids.len() < 4 {
         *count = 0;

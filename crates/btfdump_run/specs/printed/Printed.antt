@@ -14,7 +14,17 @@ use Rattle.spec_session.specs.calls.Calls.{openCall, typesCall}
 
 -- a session record that was never opened
 abbrev pub neverOpened : Session
-neverOpened = record { «open» = false; «section_len» = 0; «work_len» = 0; types = 0; enumerators = 0; «text_len» = 0; «pointer_size» = 0; modes = 0; visits = 0 }
+neverOpened = record {
+  «open» = false;
+  «section_len» = 0;
+  «work_len» = 0;
+  types = 0;
+  enumerators = 0;
+  «text_len» = 0;
+  «pointer_size» = 0;
+  modes = 0;
+  visits = 0;
+}
 
 unfoldable pub refusedLine : ℕ → List ℕ
 refusedLine n = ascii "refused " ++ decimal n ++ 10 ∷ []

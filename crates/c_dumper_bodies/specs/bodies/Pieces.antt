@@ -14,8 +14,11 @@ use Rattle.spec_c_dumper.specs.rules.Writer.{Ask, got, no, Writer, _⨾_, put, 
 use Rattle.spec_c_dumper.specs.rules.Types.{Name, isEmpty, Member, Param, Enumerator, BtfType, Btf}
 use Rattle.spec_c_dumper.specs.rules.Names.{Naming}
 use Rattle.spec_c_dumper.specs.rules.Layout.{Pad, endOf}
-use Rattle.spec_c_dumper.specs.rules.Decl.{Entry, base, star, qual, array, proto, tag, mods, noMods, qualifier, attribute, brackets, pads, bitSize, emitDeclTags, emitEnumDef, enumWord, emitParam, emitParams, baseWord, emitArray, emitProto, paramList, chainLoop}
-use Rattle.spec_c_dumper.specs.alignment_once.Writers.{Asks, givenOnce, emitMembersOnce, emitTypeDeclOnce, emitTypeChainOnce, emitCompositeDefOnce}
+use Rattle.spec_c_dumper.specs.rules.Decl.{Entry, base, star, qual, array, proto, tag, mods, noMods, qualifier, attribute, brackets, pads}
+use Rattle.spec_c_dumper.specs.rules.Decl.{bitSize, emitDeclTags, emitEnumDef, enumWord, emitParam, emitParams, baseWord, emitArray}
+use Rattle.spec_c_dumper.specs.rules.Decl.{emitProto, paramList, chainLoop}
+use Rattle.spec_c_dumper.specs.alignment_once.Writers.{Asks, givenOnce, emitMembersOnce, emitTypeDeclOnce, emitTypeChainOnce}
+use Rattle.spec_c_dumper.specs.alignment_once.Writers.{emitCompositeDefOnce}
 
 -- ---- the chain: the entry on top of it
 
@@ -79,7 +82,8 @@ sizeText bit-size = elim (eqb bit-size 0) [ true ↦ [] | false ↦ ascii ": " +
 module _ {U : Type 0} (Q : Asks U) (N : Naming U) (B : Btf) (below : ℕ) where
   -- the base's own words, which say nothing of the declared name
   abbrev pub wordBelow : ℕ → ℕ → BtfType → Writer U
-  wordBelow lvl id t = baseWord N B (emitTypeDeclOnce Q N B below) (emitTypeChainOnce Q N B below) (emitCompositeDefOnce Q N B below) [] lvl id t
+  wordBelow lvl id t =
+      baseWord N B (emitTypeDeclOnce Q N B below) (emitTypeChainOnce Q N B below) (emitCompositeDefOnce Q N B below) [] lvl id t
 
   -- the parameters in parentheses, those that are shown
   abbrev pub paramsBelow : ℕ → List Param → Writer U
@@ -87,21 +91,30 @@ module _ {U : Type 0} (Q : Asks U) (N : Naming U) (B : Btf) (below : ℕ) where
 
   module _ (fname : Name) (lvl : ℕ) where
     abbrev pub arrayBelow : Bool → List Entry → Writer U
-    arrayBelow last-was-ptr c = emitArray N B (emitTypeDeclOnce Q N B below) (emitTypeChainOnce Q N B below) (emitCompositeDefOnce Q N B below) fname lvl last-was-ptr c
+    arrayBelow last-was-ptr c =
+        emitArray N B (emitTypeDeclOnce Q N B below) (emitTypeChainOnce Q N B below) (emitCompositeDefOnce Q N B below) fname
+        lvl last-was-ptr c
 
     abbrev pub protoBelow : Bool → List Entry → Writer U
-    protoBelow last-was-ptr c = emitProto N B (emitTypeDeclOnce Q N B below) (emitTypeChainOnce Q N B below) (emitCompositeDefOnce Q N B below) fname lvl last-was-ptr c
+    protoBelow last-was-ptr c =
+        emitProto N B (emitTypeDeclOnce Q N B below) (emitTypeChainOnce Q N B below) (emitCompositeDefOnce Q N B below) fname
+        lvl last-was-ptr c
 
     abbrev pub paramListBelow : List Param → Writer U
-    paramListBelow ps = paramList N B (emitTypeDeclOnce Q N B below) (emitTypeChainOnce Q N B below) (emitCompositeDefOnce Q N B below) fname lvl ps
+    paramListBelow ps =
+        paramList N B (emitTypeDeclOnce Q N B below) (emitTypeChainOnce Q N B below) (emitCompositeDefOnce Q N B below) fname lvl ps
 
     abbrev pub loopBelow : ℕ → Bool → List Entry → Writer U
-    loopBelow n last-was-ptr c = chainLoop N B (emitTypeDeclOnce Q N B below) (emitTypeChainOnce Q N B below) (emitCompositeDefOnce Q N B below) fname lvl n last-was-ptr c
+    loopBelow n last-was-ptr c =
+        chainLoop N B (emitTypeDeclOnce Q N B below) (emitTypeChainOnce Q N B below) (emitCompositeDefOnce Q N B below) fname lvl
+        n last-was-ptr c
 
     -- what the entry on top prints: a turn of chainLoop
     unfoldable pub entryText : Bool → List Entry → Writer U
     entryText last-was-ptr [] = nothing
-    entryText last-was-ptr (base id ∷ c) = put (mods c) ⨾ baseWord N B (emitTypeDeclOnce Q N B below) (emitTypeChainOnce Q N B below) (emitCompositeDefOnce Q N B below) fname lvl id (B .type-by-id id)
+    entryText last-was-ptr (base id ∷ c) =
+        put (mods c) ⨾ baseWord N B (emitTypeDeclOnce Q N B below) (emitTypeChainOnce Q N B below) (emitCompositeDefOnce Q N B below) fname
+        lvl id (B .type-by-id id)
     entryText last-was-ptr (star ∷ c) = put (starText last-was-ptr)
     entryText last-was-ptr (qual q ∷ c) = put (ascii " " ++ qualifier q)
     entryText last-was-ptr (array k ∷ c) = arrayBelow last-was-ptr (noMods c) ⨾ put (brackets k)

@@ -52,7 +52,10 @@ pub fn emit_enum_word(
     t: BtfType,
     lvl: u32,
 ) -> usize
-    ensures { λ r. ⌜ outOf r (now (text .exit)) (now (work .exit)) ≡ putSaid (now (text .entry)) at (enumText (workNaming b) (btfOf b (now (section .entry)) (now (work .entry))) (enumValue (flagOf (t .info))) id (recordName b (now (section .entry)) t) (valuesOf b (now (section .entry)) t) lvl (now (work .entry))) ⌝ }
+    ensures { λ r. ⌜ outOf r (now (text .exit)) (now (work .exit))
+        ≡ putSaid (now (text .entry)) at (enumText (workNaming b) (btfOf b (now (section .entry)) (now (work .entry)))
+        (enumValue (flagOf (t .info))) id (recordName b (now (section .entry)) t) (valuesOf b (now (section .entry)) t) lvl
+        (now (work .entry))) ⌝ }
 {
     if is_empty(b, section, t.name_off) {
         return emit_enum_def(b, section, work, text, at, id, t, lvl);
@@ -70,7 +73,10 @@ pub fn emit_enum64_word(
     t: BtfType,
     lvl: u32,
 ) -> usize
-    ensures { λ r. ⌜ outOf r (now (text .exit)) (now (work .exit)) ≡ putSaid (now (text .entry)) at (enumText (workNaming b) (btfOf b (now (section .entry)) (now (work .entry))) (enum64Value (flagOf (t .info))) id (recordName b (now (section .entry)) t) (values64Of b (now (section .entry)) t) lvl (now (work .entry))) ⌝ }
+    ensures { λ r. ⌜ outOf r (now (text .exit)) (now (work .exit))
+        ≡ putSaid (now (text .entry)) at (enumText (workNaming b) (btfOf b (now (section .entry)) (now (work .entry)))
+        (enum64Value (flagOf (t .info))) id (recordName b (now (section .entry)) t) (values64Of b (now (section .entry)) t) lvl
+        (now (work .entry))) ⌝ }
 {
     if is_empty(b, section, t.name_off) {
         return emit_enum64_def(b, section, work, text, at, id, t, lvl);
@@ -87,7 +93,9 @@ pub fn put_typedef_name(
     id: u32,
     name_off: u32,
 ) -> usize
-    ensures { λ r. ⌜ outOf r (now (text .exit)) (now (work .exit)) ≡ putSaid (now (text .entry)) at (resolveTypeName (workNaming b) identSpace id (strAt b (now (section .entry)) «name_off») put (now (work .entry))) ⌝ }
+    ensures { λ r. ⌜ outOf r (now (text .exit)) (now (work .exit))
+        ≡ putSaid (now (text .entry)) at (resolveTypeName (workNaming b) identSpace id (strAt b (now (section .entry)) «name_off») put
+        (now (work .entry))) ⌝ }
 {
     let name = resolve_type_name(b, section, work, id, name_off);
     put_name(b, section, text, at, name)
@@ -102,7 +110,9 @@ pub fn emit_composite_head(
     id: u32,
     t: BtfType,
 ) -> usize
-    ensures { λ r. ⌜ outOf r (now (text .exit)) (now (work .exit)) ≡ putSaid (now (text .entry)) at (compositeHead (workNaming b) (btfOf b (now (section .entry)) (now (work .entry))) noDecl id (eqb (kindOf (t .info)) 4) (recordName b (now (section .entry)) t) (now (work .entry))) ⌝ }
+    ensures { λ r. ⌜ outOf r (now (text .exit)) (now (work .exit))
+        ≡ putSaid (now (text .entry)) at (compositeHead (workNaming b) (btfOf b (now (section .entry)) (now (work .entry))) noDecl id
+        (eqb (kindOf (t .info)) 4) (recordName b (now (section .entry)) t) (now (work .entry))) ⌝ }
 {
     let name = resolve_type_name(b, section, work, id, t.name_off);
     let a = put_keyword(b, text, at, is_struct(t));
@@ -121,7 +131,10 @@ pub fn emit_member_end(
     k: u32,
     m: BtfMember,
 ) -> Spot
-    ensures { λ r. ⌜ (outOf (r .at) (now (text .exit)) (now (work .entry)) ≡ putSaid (now (text .entry)) at (memberTail (btfOf b (now (section .entry)) (now (work .entry))) id k (ruleMember b (now (section .entry)) m) (now (work .entry)))) × (r .offset ≡ endFrom (endOf (btfOf b (now (section .entry)) (now (work .entry))) (ruleMember b (now (section .entry)) m))) ⌝ }
+    ensures { λ r. ⌜ (outOf (r .at) (now (text .exit)) (now (work .entry))
+        ≡ putSaid (now (text .entry)) at (memberTail (btfOf b (now (section .entry)) (now (work .entry))) id k
+        (ruleMember b (now (section .entry)) m) (now (work .entry))))
+        × (r .offset ≡ endFrom (endOf (btfOf b (now (section .entry)) (now (work .entry))) (ruleMember b (now (section .entry)) m))) ⌝ }
 {
     let a = put_bit_size(text, at, m.bit_size);
     match member_end(b, section, work, m) {
@@ -151,7 +164,9 @@ pub fn emit_composite_end(
     packed: bool,
     lvl: u32,
 ) -> usize
-    ensures { λ r. ⌜ outOf r (now (text .exit)) (now (work .entry)) ≡ putSaid (now (text .entry)) at (compositeEnd (workNaming b) (btfOf b (now (section .entry)) (now (work .entry))) noDecl id lvl (membersOf b (now (section .entry)) t) packed (now (work .entry))) ⌝ }
+    ensures { λ r. ⌜ outOf r (now (text .exit)) (now (work .entry))
+        ≡ putSaid (now (text .entry)) at (compositeEnd (workNaming b) (btfOf b (now (section .entry)) (now (work .entry))) noDecl id lvl
+        (membersOf b (now (section .entry)) t) packed (now (work .entry))) ⌝ }
 {
     let a = put_last_newline(text, at, vlen_of(t.info));
     let c = put_tabs(text, a, lvl);

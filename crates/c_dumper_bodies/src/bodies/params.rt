@@ -12,7 +12,8 @@ ghost use Rattle.spec_type_table.specs.Table.{from, paramOf};
 
 // The parameters that are printed: a single one of type void is none.
 pub fn shown_params(b: TypeTable, section: &[u8], params: Entries) -> Entries
-    ensures { λ r. ⌜ from (paramOf b (now (section .entry)) (r .at)) 0 (r .vlen) ≡ shownParams (from (paramOf b (now (section .entry)) (params .at)) 0 (params .vlen)) ⌝ }
+    ensures { λ r. ⌜ from (paramOf b (now (section .entry)) (r .at)) 0 (r .vlen)
+        ≡ shownParams (from (paramOf b (now (section .entry)) (params .at)) 0 (params .vlen)) ⌝ }
 {
     if params.vlen != 1 {
         return params;

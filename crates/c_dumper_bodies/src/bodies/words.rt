@@ -20,7 +20,9 @@ ghost use Rattle.c_dumper_name_versions.specs.names.Spelling.{nameText};
 ghost use Rattle.c_dumper_bodies.specs.bodies.Pieces.{gap, starText, comma, sizeText, lineEnd, packedText};
 
 pub fn put_type_tag(b: TypeTable, section: &[u8], text: &mut [u8], at: usize, t: BtfType) -> usize
-    ensures { λ r. ⌜ putOut r (now (text .exit)) ≡ putText (now (text .entry)) at (whole (attribute (flagOf (t .info)) (ascii "btf_type_tag") (recordName b (now (section .entry)) t))) ⌝ }
+    ensures { λ r. ⌜ putOut r (now (text .exit))
+        ≡ putText (now (text .entry)) at (whole
+        (attribute (flagOf (t .info)) (ascii "btf_type_tag") (recordName b (now (section .entry)) t))) ⌝ }
 {
     put_attribute(
         b,
@@ -59,7 +61,8 @@ pub fn put_gap(
     name: Name,
     last_was_ptr: bool,
 ) -> usize
-    ensures { λ r. ⌜ putOut r (now (text .exit)) ≡ putText (now (text .entry)) at (whole (gap (nameText b (now (section .entry)) name) «last_was_ptr»)) ⌝ }
+    ensures { λ r. ⌜ putOut r (now (text .exit))
+        ≡ putText (now (text .entry)) at (whole (gap (nameText b (now (section .entry)) name) «last_was_ptr»)) ⌝ }
 {
     if last_was_ptr {
         return at;

@@ -41,7 +41,8 @@ fn next_of(b: TypeTable, section: &[u8], t: BtfType) -> u32
 
 // How many entries the chain from an id has: 512 at most, or 12.
 pub fn chain_len(b: TypeTable, section: &[u8], work: &[u8], start: u32) -> Ask
-    ensures { λ r. ⌜ chainIs b (now (section .entry)) (now (work .entry)) start r ≡ chainOf 512 (btfOf b (now (section .entry)) (now (work .entry))) start [] ⌝ }
+    ensures { λ r. ⌜ chainIs b (now (section .entry)) (now (work .entry)) start r
+        ≡ chainOf 512 (btfOf b (now (section .entry)) (now (work .entry))) start [] ⌝ }
 {
     let mut id = start;
     let mut n: u32 = 1;

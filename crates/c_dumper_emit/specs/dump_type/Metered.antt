@@ -32,7 +32,7 @@ dumpedMetered b B c m x made = listedOut (workMachine b B) (tableOf B) (besideOf
 unfoldable pub callsIn : TypeTable → List ℕ → List ℕ → ℕ → ℕ
 callsIn b s w id = calls workStore 512 (tableOf (btfOf b s w)) (record { work = w; len = 0 }) id false
 
--- with so many calls left: the plain request, or "22 when one more call would pass the ceiling". That this is so of the rules' steps, with the test
--- of 22 after that of 12 at each call, is `order-is` (crates/spec_c_dumper/proofs/ceiling/Counted).
+-- with so many calls left: the plain request, or "22 when one more call would pass the ceiling". That this is so of the rules' steps, with
+-- the test of 22 after that of 12 at each call, is `order-is` (crates/spec_c_dumper/proofs/ceiling/Counted).
 unfoldable pub dumpedWithin : TypeTable → Rules → ℕ → ℕ → Sheet → ℕ → Out Sheet
 dumpedWithin b B opens left m x = elim (leb opens left) [ true ↦ dumped (workMachine b B) (tableOf B) m x | false ↦ stuck 22 ]

@@ -39,7 +39,9 @@ pub fn bare(off: u32) -> Name
 
 // The name of type id, which it keeps; it counts as a holder when it is first asked for.
 pub fn resolve_type_name(b: TypeTable, section: &[u8], work: &mut [u8], id: u32, off: u32) -> Name
-    ensures { λ r. ⌜ (r .off ≡ off) × (put (nameText b (now (section .entry)) r) (now (work .exit)) ≡ resolveTypeName (workNaming b) tagSpace id (strAt b (now (section .entry)) off) put (now (work .entry))) ⌝ }
+    ensures { λ r. ⌜ (r .off ≡ off)
+        × (put (nameText b (now (section .entry)) r) (now (work .exit))
+        ≡ resolveTypeName (workNaming b) tagSpace id (strAt b (now (section .entry)) off) put (now (work .entry))) ⌝ }
 {
     if is_empty(b, section, off) {
         return bare(off);
@@ -61,7 +63,8 @@ pub fn resolve_type_name(b: TypeTable, section: &[u8], work: &mut [u8], id: u32,
 
 // The name of enumerator e, counted over all enums: each time it is printed it is one more holder.
 pub fn resolve_name(b: TypeTable, work: &mut [u8], e: u32, off: u32) -> Name
-    ensures { λ r. ⌜ (r .off ≡ off) × (r .version ≡ valueVersionIn (b .types) e (now (work .entry)) .version) × (now (work .exit) ≡ valueVersionIn (b .types) e (now (work .entry)) .names) ⌝ }
+    ensures { λ r. ⌜ (r .off ≡ off) × (r .version ≡ valueVersionIn (b .types) e (now (work .entry)) .version)
+        × (now (work .exit) ≡ valueVersionIn (b .types) e (now (work .entry)) .names) ⌝ }
 {
     let h = (b.types as u64) + (e as u64);
     if h < limit::TWO_TO_32 {
@@ -96,7 +99,8 @@ pub fn is_blank(b: TypeTable, section: &[u8], name: Name) -> bool
 
 // sep and the name: a space before it, unless it is empty.
 pub fn put_sep_name(b: TypeTable, section: &[u8], text: &mut [u8], at: usize, name: Name) -> usize
-    ensures { λ r. ⌜ putOut r (now (text .exit)) ≡ putText (now (text .entry)) at (whole (sepName (nameText b (now (section .entry)) name))) ⌝ }
+    ensures { λ r. ⌜ putOut r (now (text .exit))
+        ≡ putText (now (text .entry)) at (whole (sepName (nameText b (now (section .entry)) name))) ⌝ }
 {
     if is_blank(b, section, name) {
         return at;
@@ -113,7 +117,8 @@ pub fn emit_name(
     name: Name,
     last_was_ptr: bool,
 ) -> usize
-    ensures { λ r. ⌜ putOut r (now (text .exit)) ≡ putText (now (text .entry)) at (whole (nameAfter (nameText b (now (section .entry)) name) «last_was_ptr»)) ⌝ }
+    ensures { λ r. ⌜ putOut r (now (text .exit))
+        ≡ putText (now (text .entry)) at (whole (nameAfter (nameText b (now (section .entry)) name) «last_was_ptr»)) ⌝ }
 {
     if last_was_ptr {
         return put_name(b, section, text, at, name);

@@ -22,7 +22,9 @@ withExtent is-struct packed x size end bit-offset bit-size = withMember is-struc
 
 -- one member more
 unfoldable pub oneMember : Btf → Bool → Bool → Code → Member → Ask Extent
-oneMember B is-struct packed x m = askThen (fieldSize B m) (λ size. askThen (endOf B m) (λ end. got (withExtent is-struct packed x size end (m .bit-offset) (m .bit-size))))
+oneMember B is-struct packed x m =
+    askThen (fieldSize B m) (λ size. askThen (endOf B m)
+    (λ end. got (withExtent is-struct packed x size end (m .bit-offset) (m .bit-size))))
 
 -- 16 for the size, then 18
 unfoldable pub judged : Bool → ℕ → ℕ → Bool → Extent → Ask Bool

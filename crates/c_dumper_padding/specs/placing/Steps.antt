@@ -9,7 +9,8 @@ use Rattle.btf_layout.specs.remembered.Words.{workKeep, forget}
 
 module _ (types : ℕ) (B : Btf) where
   unfoldable pub byIn : Bool → ℕ → ℕ → List Member → ℕ → List ℕ → Once (List ℕ) Bool
-  byIn is-struct id sz ms a w = forget (onceThen (packedOnce (workKeep types B) B is-struct id sz ms w 0) (λ packed. plainly (judgedBy B is-struct sz ms a packed)))
+  byIn is-struct id sz ms a w =
+      forget (onceThen (packedOnce (workKeep types B) B is-struct id sz ms w 0) (λ packed. plainly (judgedBy B is-struct sz ms a packed)))
 
   unfoldable pub measuredIn : Bool → ℕ → ℕ → List Member → List ℕ → Once (List ℕ) Bool
   measuredIn is-struct id sz ms w = forget (measuredOnce (workKeep types B) B is-struct id sz ms w 0)

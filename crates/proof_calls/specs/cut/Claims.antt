@@ -1,5 +1,5 @@
--- Statements about the call for a section cut down. proofs/Claims.antt has the proofs. S: the session; s: the section; given: the given ids in bytes;
--- out: the output slice.
+-- Statements about the call for a section cut down. proofs/Claims.antt has the proofs. S: the session; s: the section; given: the given ids
+-- in bytes; out: the output slice.
 use Prim.Native.Nat.{ℕ, _+_, _*_, _≤_}
 use mathlib.Core.Path.{_≡_}
 use mathlib.Core.List.{List}
@@ -40,7 +40,8 @@ module _ (S : Session) (s given out : List ℕ) where
 
   -- pointer size and modes; n and n′: the lengths of the works
   module _ (pointer modes n n′ : ℕ) where
-    -- an accepted call on a section, which opening accepts with a work of n bytes; "the old naming mode"; and for the new section "long enough work"
+    -- an accepted call on a section, which opening accepts with a work of n bytes; "the old naming mode"; and for the new section "long
+    -- enough work"
     pub record Asked : Type 0 where
       pub accepted : numberOf (cutCall S s given out .answer) ≡ 0
       pub bytes : Bytes s
@@ -51,11 +52,12 @@ module _ (S : Session) (s given out : List ℕ) where
     -- what was written is that section; opening accepts it; single requests and lists of ids, renumbered, give the same
     pub record Carried : Type 0 where
       pub written : Written
-      pub opens : (S′ : Session) (work text : List ℕ) → length work ≡ n′ → numberOf (openCall S′ writtenBy work text pointer modes .answer) ≡ 0
+      pub opens : (S′ : Session) (work text : List ℕ) → length work ≡ n′
+          → numberOf (openCall S′ writtenBy work text pointer modes .answer) ≡ 0
       pub alike : Reopens pointer modes s n (isKept (describedIn s) (words given)) n′
       pub lists : ListsAlike pointer modes s n (isKept (describedIn s) (words given)) n′
 
-  -- THE CLAIM. "Opened afresh with the same settings, [..] long enough work and text, and the old naming mode, the new section gives for the renumbered
-  -- requests the same text and refusals as the old so opened"
+  -- THE CLAIM. "Opened afresh with the same settings, [..] long enough work and text, and the old naming mode, the new section gives for
+  -- the renumbered requests the same text and refusals as the old so opened"
   abbrev pub Carries : Type 0
   Carries = (pointer modes n n′ : ℕ) → Asked pointer modes n n′ → Carried pointer modes n n′

@@ -1,6 +1,6 @@
--- "The causes must be exactly those of the ordering and emission rules": what a call that is lent a list leaves in it, and what the rules with
--- entries come to. Statement only. proofs/Claims.antt has the proof, of every section that opening accepts, every list of requests after it, every
--- text slice that a call is lent, and every list of entries. It assumes nothing.
+-- "The causes must be exactly those of the ordering and emission rules": what a call that is lent a list leaves in it, and what the rules
+-- with entries come to. Statement only. proofs/Claims.antt has the proof, of every section that opening accepts, every list of requests
+-- after it, every text slice that a call is lent, and every list of entries. It assumes nothing.
 use Prim.Native.Nat.{ℕ, _+_}
 use mathlib.Core.Path.{_≡_}
 use mathlib.Core.List.{List}
@@ -20,7 +20,8 @@ use Rattle.session_origins.specs.lists.Several.{listCausesCall}
 
 -- a call over lent bytes, and the call over the rules
 pub record Agrees (d : CauseCall) (t : Causes (Ls (Known Names))) : Type 0 where
-  pub number : numberOf (d .call .answer) ≡ t .answer .number  -- "A lent list too short for one more entry is 17", for the same line, and every other refusal
+  pub number : numberOf (d .call .answer)
+      ≡ t .answer .number  -- "A lent list too short for one more entry is 17", for the same line, and every other refusal
   pub count : d .count ≡ t .count  -- "The answer counts them"
   pub list : d .list ≡ t .list  -- "three words from the list's start", "a refused request's are dropped, and the rest is zeroed"
   pub is-open : d .call .session .«open» ≡ t .answer .sess .isOpen
@@ -30,13 +31,19 @@ pub record Agrees (d : CauseCall) (t : Causes (Ls (Known Names))) : Type 0 where
 -- pointer size, mode, section and length of the work, as at opening
 module _ (pointer modes : ℕ) (s : List ℕ) (n : ℕ) where
   abbrev pub oneRuled : List ℕ → ℕ → List Req → ℕ → Causes (Ls (Known Names))
-  oneRuled l room rs id = oneCauses (machineIn pointer modes s n) (typesIn pointer modes s n) (showsIn (openedTable pointer modes s n)) l room (ruled pointer modes s n rs) id
+  oneRuled l room rs id =
+      oneCauses (machineIn pointer modes s n) (typesIn pointer modes s n) (showsIn (openedTable pointer modes s n)) l room
+      (ruled pointer modes s n rs) id
 
   abbrev pub allRuled : List ℕ → ℕ → List Req → Causes (Ls (Known Names))
-  allRuled l room rs = allCauses (machineIn pointer modes s n) (typesIn pointer modes s n) (showsIn (openedTable pointer modes s n)) l room (ruled pointer modes s n rs)
+  allRuled l room rs =
+      allCauses (machineIn pointer modes s n) (typesIn pointer modes s n) (showsIn (openedTable pointer modes s n)) l room
+      (ruled pointer modes s n rs)
 
   abbrev pub listRuled : List ℕ → ℕ → List Req → List ℕ → Causes (Ls (Known Names))
-  listRuled l room rs ids = listCauses (machineIn pointer modes s n) (typesIn pointer modes s n) (showsIn (openedTable pointer modes s n)) l room (ruled pointer modes s n rs) ids
+  listRuled l room rs ids =
+      listCauses (machineIn pointer modes s n) (typesIn pointer modes s n) (showsIn (openedTable pointer modes s n))
+      l room (ruled pointer modes s n rs) ids
 
   -- THE CLAIM, of all pointer sizes, modes, sections and lengths of the work. c: the last call, after the requests rs; l: the lent list.
   pub record Reasoned : Type 0 where
@@ -55,4 +62,5 @@ module _ (pointer modes : ℕ) (s : List ℕ) (n : ℕ) where
         → Agrees (listCausesCall (c .session) s (c .work) text ids l) (listRuled l (length text) rs ids)
     -- the value of its answer is the count of the accepted ids
     pub list-value : (c : Call) (rs : List Req) → After pointer modes s n c rs → (text : List ℕ) → Lent c text → (ids l : List ℕ)
-        → length (ruled pointer modes s n rs .asked) + valueOf (listCausesCall (c .session) s (c .work) text ids l .call .answer) ≡ length (listRuled l (length text) rs ids .answer .sess .asked)
+        → length (ruled pointer modes s n rs .asked) + valueOf (listCausesCall (c .session) s (c .work) text ids l .call .answer)
+        ≡ length (listRuled l (length text) rs ids .answer .sess .asked)

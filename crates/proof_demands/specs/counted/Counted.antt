@@ -1,6 +1,7 @@
--- Visits, said of the calls of a session: "In a session the counted visits, one for each type or member looked at to find an alignment, are kept in the record,
--- equal the count in a definition of the remembering way, and are at most types plus members". Statements only: proofs/Claims.antt has the proof, of every
--- section that opening accepts, every list of requests after it, and every text slice that a request is lent.
+-- Visits, said of the calls of a session: "In a session the counted visits, one for each type or member looked at to find an alignment, are
+-- kept in the record, equal the count in a definition of the remembering way, and are at most types plus members". Statements only:
+-- proofs/Claims.antt has the proof, of every section that opening accepts, every list of requests after it, and every text slice that a
+-- request is lent.
 use Prim.Native.Nat.{ℕ, _+_, _≤_}
 use mathlib.Core.Path.{_≡_}
 use mathlib.Core.Bool.{true}
@@ -30,10 +31,11 @@ module _ (pointer modes : ℕ) (s : List ℕ) (n : ℕ) where
 
   -- and after the requests, in a session of the definition of the remembering way (alignments/specs)
   abbrev pub definedAfter : List Req → Minded Names Table
-  definedAfter rs = afterOnce (mindedAsks (tableKeep (B .type-cnt)) B) (minded N) B rs (openedBy (minded N) B definedFirst) .mach .known .names
+  definedAfter rs =
+      afterOnce (mindedAsks (tableKeep (B .type-cnt)) B) (minded N) B rs (openedBy (minded N) B definedFirst) .mach .known .names
 
-  -- c: the last call, after the requests rs. The record's visits, of an open session and of one that a refusal closed; and while it is open the work remembers
-  -- what the definition does of each type.
+  -- c: the last call, after the requests rs. The record's visits, of an open session and of one that a refusal closed; and while it is open
+  -- the work remembers what the definition does of each type.
   pub record CountedCalls (c : Call) (rs : List Req) : Type 0 where
     pub visits : c .session .visits ≡ definedAfter rs .visits
     pub at-most : c .session .visits ≤ B .type-cnt + membersTo B (B .type-cnt)

@@ -23,9 +23,11 @@ module _ (pointer modes : ℕ) (s : List ℕ) (n : ℕ) where
   pub record Documents : Type 0 where
     pub count : openedTable pointer modes s n .type-cnt ≡ suc (length (describedIn s))
     pub zero-void : openedTable pointer modes s n .type-by-id 0 ≡ Void
-    pub type : (id : ℕ) → 1 ≤ id → id < typesOf s → (d : Described) → openedTable pointer modes s n .type-by-id id ≡ kept (headerOf pointer modes s .strs) s (getD (describedIn s) (id - 1) d)
+    pub type : (id : ℕ) → 1 ≤ id → id < typesOf s → (d : Described)
+        → openedTable pointer modes s n .type-by-id id ≡ kept (headerOf pointer modes s .strs) s (getD (describedIn s) (id - 1) d)
     pub past-void : (id : ℕ) → typesOf s ≤ id → openedTable pointer modes s n .type-by-id id ≡ Void
-    pub tags : (id : ℕ) → id < typesOf s → openedTable pointer modes s n .decl-tags id ≡ tagIds (openedTable pointer modes s n .type-by-id) id 1 (typesOf s - 1)
+    pub tags : (id : ℕ) → id < typesOf s
+        → openedTable pointer modes s n .decl-tags id ≡ tagIds (openedTable pointer modes s n .type-by-id) id 1 (typesOf s - 1)
 
   -- and what the theorems about the rules ask of it holds, so they hold of it
   pub record Gives : Type 0 where
@@ -35,12 +37,16 @@ module _ (pointer modes : ℕ) (s : List ℕ) (n : ℕ) where
     pub fresh : Fresh (headerOf pointer modes s) (enumeratorsOf s) s (workOf pointer modes s n)
     -- demand 3, with the names of the session, and with the names in the work
     pub demand3 : (rs : List Req)
-        → Demand3 (machineIn pointer modes s n) (tableOf (openedTable pointer modes s n)) (run (machineIn pointer modes s n) (tableOf (openedTable pointer modes s n)) rs (openedIn pointer modes s n))
+        → Demand3 (machineIn pointer modes s n) (tableOf (openedTable pointer modes s n))
+        (run (machineIn pointer modes s n) (tableOf (openedTable pointer modes s n)) rs (openedIn pointer modes s n))
     pub work-demand3 : (rs : List Req)
-        → Demand3 (machineBy (workNaming (headerOf pointer modes s)) (openedTable pointer modes s n)) (tableOf (openedTable pointer modes s n))
-        (run (machineBy (workNaming (headerOf pointer modes s)) (openedTable pointer modes s n)) (tableOf (openedTable pointer modes s n)) rs
+        → Demand3 (machineBy (workNaming (headerOf pointer modes s)) (openedTable pointer modes s n))
+        (tableOf (openedTable pointer modes s n))
+        (run (machineBy (workNaming (headerOf pointer modes s)) (openedTable pointer modes s n))
+        (tableOf (openedTable pointer modes s n)) rs
         (openedBy (workNaming (headerOf pointer modes s)) (openedTable pointer modes s n) (workOf pointer modes s n)))
     -- the same numbers, lengths and text with the one and with the other
     pub same-text : (rs : List Req)
-        → dumped (workNaming (headerOf pointer modes s)) (openedTable pointer modes s n) [] rs (openedBy (workNaming (headerOf pointer modes s)) (openedTable pointer modes s n) (workOf pointer modes s n))
+        → dumped (workNaming (headerOf pointer modes s)) (openedTable pointer modes s n) [] rs
+        (openedBy (workNaming (headerOf pointer modes s)) (openedTable pointer modes s n) (workOf pointer modes s n))
         ≡ dumped (namesIn pointer modes s n) (openedTable pointer modes s n) [] rs (openedIn pointer modes s n)

@@ -46,18 +46,25 @@ module _ (pointer modes : ℕ) (s : List ℕ) (n : ℕ) where
     pub its-text : take (S .«text_len») text ≡ textOf (L .mach .pieces)
     pub fits : S .«text_len» ≤ length text
     pub small : S .«text_len» ≤ 1073741824
-    pub bears : L .isOpen ≡ true → Bears (headerOf pointer modes s) (enumeratorsOf s) s (workOf pointer modes s n) work 0 (machine (openedTable pointer modes s n) .start 0 (L .mach))
+    pub bears : L .isOpen ≡ true
+        → Bears (headerOf pointer modes s) (enumeratorsOf s) s (workOf pointer modes s n) work 0
+        (machine (openedTable pointer modes s n) .start 0 (L .mach))
 
-  -- A call after a successful opening, and the requests since, each with the length of the text slice that it was lent. A request is lent the section
-  -- of the opening, the work as the call before left it, and a text slice of any length that begins with the text so far.
+  -- A call after a successful opening, and the requests since, each with the length of the text slice that it was lent. A request is lent
+  -- the section of the opening, the work as the call before left it, and a text slice of any length that begins with the text so far.
   pub data After : Call → List Req → Type 0 where
-    after-open : (S : Session) (work text : List ℕ) → length work ≡ n → numberOf (openCall S s work text pointer modes .answer) ≡ 0 → After (openCall S s work text pointer modes) []
-    after-one : (c : Call) (rs : List Req) → After c rs → (text : List ℕ) → c .session .«text_len» ≤ length text → take (c .session .«text_len») text ≡ take (c .session .«text_len») (c .text)
+    after-open : (S : Session) (work text : List ℕ) → length work ≡ n → numberOf (openCall S s work text pointer modes .answer) ≡ 0
+        → After (openCall S s work text pointer modes) []
+    after-one : (c : Call) (rs : List Req) → After c rs → (text : List ℕ) → c .session .«text_len» ≤ length text
+        → take (c .session .«text_len») text ≡ take (c .session .«text_len») (c .text)
         → (id : ℕ) → After (typeCall (c .session) s (c .work) text id) (rs ++ (one (length text) id ∷ []))
-    after-all : (c : Call) (rs : List Req) → After c rs → (text : List ℕ) → c .session .«text_len» ≤ length text → take (c .session .«text_len») text ≡ take (c .session .«text_len») (c .text)
+    after-all : (c : Call) (rs : List Req) → After c rs → (text : List ℕ) → c .session .«text_len» ≤ length text
+        → take (c .session .«text_len») text ≡ take (c .session .«text_len») (c .text)
         → After (typesCall (c .session) s (c .work) text) (rs ++ (all (length text) ∷ []))
-    after-list : (c : Call) (rs : List Req) → After c rs → (text : List ℕ) → c .session .«text_len» ≤ length text → take (c .session .«text_len») text ≡ take (c .session .«text_len») (c .text)
-        → (ids : List ℕ) → After (listCall (c .session) s (c .work) text ids) (rs ++ singlesFor (length text) (made 0 (listCall (c .session) s (c .work) text ids)) ids)
+    after-list : (c : Call) (rs : List Req) → After c rs → (text : List ℕ) → c .session .«text_len» ≤ length text
+        → take (c .session .«text_len») text ≡ take (c .session .«text_len») (c .text)
+        → (ids : List ℕ) → After (listCall (c .session) s (c .work) text ids)
+        (rs ++ singlesFor (length text) (made 0 (listCall (c .session) s (c .work) text ids)) ids)
 
 -- A request's answer and text, in a slice of so many bytes, against its answer over lists: the same number; the value is the length of the
 -- pieces' text; the slice begins with that text, and unless 10 or 11 left it as it was, it is that text and then zeros.
@@ -65,4 +72,5 @@ pub record Tells (room : ℕ) (c : Call) (a : Answer (Ls (Known Names))) : Type 
   pub number : numberOf (c .answer) ≡ a .number
   pub value : valueOf (c .answer) ≡ length (textOf (a .sess .mach .pieces))
   pub begins : take (valueOf (c .answer)) (c .text) ≡ textOf (a .sess .mach .pieces)
-  pub text : (a .number ≡ 10 → ⊥) → (a .number ≡ 11 → ⊥) → c .text ≡ textOf (a .sess .mach .pieces) ++ replicate (room - length (textOf (a .sess .mach .pieces))) 0
+  pub text : (a .number ≡ 10 → ⊥) → (a .number ≡ 11 → ⊥)
+      → c .text ≡ textOf (a .sess .mach .pieces) ++ replicate (room - length (textOf (a .sess .mach .pieces))) 0

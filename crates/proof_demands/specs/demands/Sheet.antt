@@ -1,5 +1,5 @@
--- Emission in lent bytes against the machine of lists: when a work, a text, the next place in it and the length of the order list say what a
--- state of the machine of lists with the names of the Rust says. proofs/Request.antt: one request keeps it, and gives the same on both.
+-- Emission in lent bytes against the machine of lists: when a work, a text, the next place in it and the length of the order list say what
+-- a state of the machine of lists with the names of the Rust says. proofs/Request.antt: one request keeps it, and gives the same on both.
 use Prim.Native.Nat.{ℕ, _+_, _<_, _≤_}
 use mathlib.Core.Path.{_≡_}
 use mathlib.Core.Bool.{true, false, not}
@@ -48,12 +48,20 @@ module _ (b : TypeTable) (e : ℕ) (s w : List ℕ) where
 
   -- what a line comes to in the text and the work, and in the machine of lists
   pub data BothLine (front : List ℕ) (room len : ℕ) : Wrote (List ℕ) → Out (Ls (Known Names)) → Type 0 where
-    lines-on : (text : List ℕ) (at : ℕ) (v : List ℕ) (t : Ls (Known Names)) → Bears v len t → Shows front text at t → t .room ≡ room → BothLine front room len (written text at v) (wrote t)
+    lines-on : (text : List ℕ) (at : ℕ) (v : List ℕ) (t : Ls (Known Names)) → Bears v len t → Shows front text at t → t .room ≡ room
+        → BothLine front room len (written text at v) (wrote t)
     lines-stop : (c : ℕ) → BothLine front room len (refused c) (stuck c)
 
-  -- What a request for id x in the session S comes to, on a slice of the lent text after its front, and in the machine of lists: accepted by
-  -- both, and then the work bears the new state (with an empty order list) and front and slice show its text; or refused by the same number.
-  pub data BothRequest (front : List ℕ) (room : ℕ) (S : Sess (Ls (Known Names))) (x : ℕ) : Out Sheet → Answer (Ls (Known Names)) → Type 0 where
-    both-served : (m : Sheet) (t : Ls (Known Names)) → Bears (m .work) 0 (machine (btfOf b s w) .start 0 t) → Shows front (m .text) (m .at) t → t .room ≡ room
-        → BothRequest front room S x (wrote m) (record { sess = record { isOpen = true; mach = t; asked = S .asked ++ (x ∷ []) }; number = 0 })
-    both-refused : (c : ℕ) → BothRequest front room S x (stuck c) (record { sess = record { isOpen = false; mach = S .mach; asked = S .asked }; number = c })
+  -- What a request for id x in the session S comes to, on a slice of the lent text after its front, and in the machine of lists: accepted
+  -- by both, and then the work bears the new state (with an empty order list) and front and slice show its text; or refused by the same
+  -- number.
+  pub data BothRequest (front : List ℕ) (room : ℕ) (S : Sess (Ls (Known Names))) (x : ℕ) : Out Sheet → Answer (Ls (Known Names))
+      → Type 0 where
+    both-served : (m : Sheet) (t : Ls (Known Names)) → Bears (m .work) 0 (machine (btfOf b s w) .start 0 t)
+        → Shows front (m .text) (m .at) t → t .room ≡ room
+        → BothRequest front room S x (wrote m) (record {
+          sess = record { isOpen = true; mach = t; asked = S .asked ++ (x ∷ []) };
+          number = 0;
+        })
+    both-refused : (c : ℕ)
+        → BothRequest front room S x (stuck c) (record { sess = record { isOpen = false; mach = S .mach; asked = S .asked }; number = c })

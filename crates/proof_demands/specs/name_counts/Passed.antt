@@ -1,5 +1,5 @@
--- Names with a list of taken numbers for each name: a holder's number follows from its count and from that list. Without taken numbers they are the
--- names of the Rust; with those that `proof_names_apart::passed_numbers` says they are names that cannot collide.
+-- Names with a list of taken numbers for each name: a holder's number follows from its count and from that list. Without taken numbers they
+-- are the names of the Rust; with those that `proof_names_apart::passed_numbers` says they are names that cannot collide.
 use Prim.Native.Nat.{ℕ}
 use mathlib.Core.Bool.{true, false}
 use mathlib.Core.List.{List, []}

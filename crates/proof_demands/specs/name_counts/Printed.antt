@@ -13,4 +13,5 @@ ledgerOf (p ∷ l) = counted (ledgerOf l) (p .0) (p .1)
 -- how many of a list have this space and these bytes
 unfoldable pub times : Space → Name → List (Space × Name) → ℕ
 times space name [] = 0
-times space name (p ∷ l) = elim (sameSpace (p .0) space && sameBytes (p .1) name) [ true ↦ suc (times space name l) | false ↦ times space name l ]
+times space name (p ∷ l) =
+    elim (sameSpace (p .0) space && sameBytes (p .1) name) [ true ↦ suc (times space name l) | false ↦ times space name l ]

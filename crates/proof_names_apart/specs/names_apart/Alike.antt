@@ -10,4 +10,5 @@ use Rattle.spec_c_dumper.specs.names_apart.Apart.{tableNames}
 -- no name of the table is another name of its space with three underscores and a number from 2 on
 abbrev pub Suffixless : Btf → Type 0
 Suffixless B =
-    (space : Space) (x : Name) → List·Memᴰ x (tableNames B space) → (n : ℕ) → 2 ≤ n → n ≤ 4294967295 → List·Memᴰ (x ++ ascii "___" ++ decimal n) (tableNames B space) → ⊥
+    (space : Space) (x : Name) → List·Memᴰ x (tableNames B space) → (n : ℕ) → 2 ≤ n → n ≤ 4294967295
+    → List·Memᴰ (x ++ ascii "___" ++ decimal n) (tableNames B space) → ⊥

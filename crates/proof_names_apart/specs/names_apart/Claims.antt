@@ -1,5 +1,5 @@
--- What is claimed of a session with names that cannot collide: statements only. proofs/Claims.antt has the proofs, of every table and every list of
--- requests; they assume nothing.
+-- What is claimed of a session with names that cannot collide: statements only. proofs/Claims.antt has the proofs, of every table and every
+-- list of requests; they assume nothing.
 use Prim.Native.Nat.{ℕ}
 use mathlib.Core.Path.{_≡_}
 use mathlib.Core.List.{List}
@@ -9,7 +9,8 @@ use Rattle.spec_c_dumper.specs.rules.Names.{identSpace}
 use Rattle.spec_c_dumper.specs.needs.Needs.{WF}
 use Rattle.spec_c_dumper.specs.needs.Demand.{Demand3}
 use Rattle.spec_c_dumper.specs.needs.Session.{machineBy, dumpTypes}
-use Rattle.spec_c_dumper.specs.names_apart.Apart.{ofType, ofValue, Shown, apart, dumpApart, afterAll, namesAfter, AllApart, Earlier, Ends, FewNames}
+use Rattle.spec_c_dumper.specs.names_apart.Apart.{ofType, ofValue, Shown, apart, dumpApart, afterAll, namesAfter, AllApart, Earlier, Ends}
+use Rattle.spec_c_dumper.specs.names_apart.Apart.{FewNames}
 use Rattle.proof_names_apart.specs.names_apart.Alike.{Suffixless}
 
 -- b and a: two names that were printed for the requests rs, b first. Nameless types print none; nameless enumerators are not excepted here.

@@ -1,6 +1,6 @@
--- "In one session no two types of a space, no two printed enumerators and no typedef and enumerator then share a spelling", said of the calls: statement
--- only. proofs/Claims.antt has the proof, of every section that opening accepts, every list of requests after it, and every text slice that a
--- request is lent. It assumes nothing.
+-- "In one session no two types of a space, no two printed enumerators and no typedef and enumerator then share a spelling", said of the
+-- calls: statement only. proofs/Claims.antt has the proof, of every section that opening accepts, every list of requests after it, and
+-- every text slice that a request is lent. It assumes nothing.
 use Prim.Native.Nat.{ℕ, _/_, _%_}
 use mathlib.Core.Path.{_≡_}
 use mathlib.Core.List.{List}
@@ -22,9 +22,11 @@ module _ (pointer modes : ℕ) (s : List ℕ) (n : ℕ) where
     pub text : take (c .session .«text_len») (c .text) ≡ textOf (afterAll (openedTable pointer modes s n) rs .mach .pieces)
     -- and all names printed in it are apart
     pub all-apart : AllApart (namesAfter (openedTable pointer modes s n) rs .printed)
-    pub none-shared : (b a : Shown) → Earlier (namesAfter (openedTable pointer modes s n) rs .printed) b a → NoShared (openedTable pointer modes s n) rs b a
+    pub none-shared : (b a : Shown) → Earlier (namesAfter (openedTable pointer modes s n) rs .printed) b a
+        → NoShared (openedTable pointer modes s n) rs b a
     -- "where no suffix is passed over, both modes print alike"
-    pub alike : Suffixless (openedTable pointer modes s n) → dumpApart (openedTable pointer modes s n) rs ≡ dumpTypes (openedTable pointer modes s n) rs
+    pub alike : Suffixless (openedTable pointer modes s n)
+        → dumpApart (openedTable pointer modes s n) rs ≡ dumpTypes (openedTable pointer modes s n) rs
 
   -- THE CLAIM, of all pointer sizes, sections and lengths of the work, and all modes with bit 3
   abbrev pub CannotCollide : Type 0

@@ -1,5 +1,5 @@
--- "Where no suffix is passed over, both modes print alike": statement only. proofs/Claims.antt has the proof, of every table and every list of requests; it
--- assumes nothing.
+-- "Where no suffix is passed over, both modes print alike": statement only. proofs/Claims.antt has the proof, of every table and every list
+-- of requests; it assumes nothing.
 use Prim.Native.Nat.{_<_}
 use mathlib.Core.Path.{_≡_}
 use mathlib.Core.Bool.{true}

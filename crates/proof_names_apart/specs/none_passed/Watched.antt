@@ -18,11 +18,12 @@ use Rattle.spec_c_dumper.specs.needs.Lists.{Line, cannot, Lines, Ls, listMachin
 use Rattle.spec_c_dumper.specs.needs.Session.{Known, lineOf, textOf, Dump, dump, openedBy}
 use Rattle.spec_c_dumper.specs.names_apart.Apart.{Apart, among, taken, typeApart, valueApart, noneShown}
 
--- The first holder is bare and passes none over. A later one looks first at the number after the holders there are: if that one is free it is
--- taken, and else it is passed over.
+-- The first holder is bare and passes none over. A later one looks first at the number after the holders there are: if that one is free it
+-- is taken, and else it is passed over.
 unfoldable pub passesOver : Btf → Space → Name → Apart → Bool
 passesOver B space name u =
-    elim (eqb (holders (u .names .ledger) space name) 0) [ true ↦ false | false ↦ among (spelled name (oneMore (holders (u .names .ledger) space name))) (taken B space u) ]
+    elim (eqb (holders (u .names .ledger) space name)
+    0) [ true ↦ false | false ↦ among (spelled name (oneMore (holders (u .names .ledger) space name))) (taken B space u) ]
 
 -- the names of the mode, and whether a number was passed over on the way
 pub record Watched : Type 0 where
@@ -75,7 +76,8 @@ module _ (L : Lines (Known Watched)) (T : Table) where
   -- numbers, lengths and text, as `dumped` of crates/spec_c_dumper/specs/needs/Session
   unfoldable pub dumpedWatched : List (ℕ × ℕ) → List Req → Sess (Ls (Known Watched)) → Dump
   dumpedWatched ns [] S = dump ns (textOf (S .mach .pieces))
-  dumpedWatched ns (r ∷ rs) S = dumpedWatched (ns ++ ((answerWatched S r .number, answerWatched S r .sess .mach .known .text-len) ∷ [])) rs (answerWatched S r .sess)
+  dumpedWatched ns (r ∷ rs) S =
+      dumpedWatched (ns ++ ((answerWatched S r .number, answerWatched S r .sess .mach .known .text-len) ∷ [])) rs (answerWatched S r .sess)
 
   -- no request is refused for it
   abbrev pub NeverOver : List Req → Sess (Ls (Known Watched)) → Type 0

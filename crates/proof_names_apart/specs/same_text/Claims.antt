@@ -1,5 +1,6 @@
--- "Where no suffix is passed over, both modes print alike", said of the calls of two sessions over one section: statement only. proofs/Claims.antt has the
--- proof, of every section that opening accepts, every list of requests after it, and every text slice that a request is lent. It assumes nothing.
+-- "Where no suffix is passed over, both modes print alike", said of the calls of two sessions over one section: statement only.
+-- proofs/Claims.antt has the proof, of every section that opening accepts, every list of requests after it, and every text slice that a
+-- request is lent. It assumes nothing.
 use Prim.Native.Nat.{ℕ, _/_, _%_}
 use mathlib.Core.Path.{_≡_}
 use mathlib.Core.List.{List, [], _∷_, _++_}

@@ -1,5 +1,5 @@
--- Requests under a ceiling on the calls of the ordering rule. c is the ceiling, k the calls made before, which are "shared by the single requests of
--- one call"; "the answer reports the calls made, equal to the count in the definition" (`calls` of ceiling/specs).
+-- Requests under a ceiling on the calls of the ordering rule. c is the ceiling, k the calls made before, which are "shared by the single
+-- requests of one call"; "the answer reports the calls made, equal to the count in the definition" (`calls` of ceiling/specs).
 use Prim.Native.Nat.{ℕ, zero, suc, _+_, _-_}
 use mathlib.Core.Bool.{true, false}
 use mathlib.Core.List.{List}
@@ -8,7 +8,8 @@ use lib.Dec.{leb, ltb}
 use Rattle.spec_type_table.specs.declared.types.TypeTable.{TypeTable}
 use Rattle.c_dumper_emit.specs.dump_type.Metered.{callsIn}
 use Rattle.spec_session.specs.declared.session.Session.{Session}
-use Rattle.spec_session.specs.session.Turns.{Call, callOf, isCurrent, tableFor, Reach, reached, refusedBy, visitsIn, reachOf, settled, unchanged}
+use Rattle.spec_session.specs.session.Turns.{Call, callOf, isCurrent, tableFor, Reach, reached, refusedBy, visitsIn, reachOf, settled}
+use Rattle.spec_session.specs.session.Turns.{unchanged}
 use Rattle.spec_session.specs.calls.Refusals.{notCurrent, idNotBelow, refusal}
 use Rattle.spec_session.specs.calls.Calls.{requested}
 use Rattle.session_ceiling.specs.declared.metered.Counted.{Counted}
@@ -39,7 +40,9 @@ onwardWithin (refusedBy n len v t) k f = record { reach = refusedBy n len v t; m
 -- n ids from id on
 unfoldable pub requestedFromWithin : ℕ → TypeTable → List ℕ → ℕ → ℕ → ℕ → List ℕ → List ℕ → ℕ → Within
 requestedFromWithin c b s zero id len w t k = record { reach = reached len w t; made = k }
-requestedFromWithin c b s (suc n) id len w t k = onwardWithin (requestedWithin c b s id len (visitsIn w) w t k .reach) (requestedWithin c b s id len (visitsIn w) w t k .made) (requestedFromWithin c b s n (suc id))
+requestedFromWithin c b s (suc n) id len w t k =
+    onwardWithin (requestedWithin c b s id len (visitsIn w) w t k .reach) (requestedWithin c b s id len (visitsIn w) w t k .made)
+    (requestedFromWithin c b s n (suc id))
 
 -- what a call comes to, and the calls made; 11 and 10 make none
 pub record CallWithin : Type 0 where
@@ -59,7 +62,8 @@ typeCallWithin c s section work text id k =
       | false ↦ record { call = unchanged s (refusal notCurrent (s .«text_len»)) work text; made = k }
       | true ↦ elim (ltb id (s .types)) [
         | false ↦ record { call = unchanged s (refusal idNotBelow (s .«text_len»)) work text; made = k }
-        | true ↦ settledWithin s (length work) (length text) (requestedWithin c (tableFor s section) section id (s .«text_len») (s .visits) work text k)
+        | true ↦ settledWithin s (length work) (length text)
+            (requestedWithin c (tableFor s section) section id (s .«text_len») (s .visits) work text k)
       ]
     ]
 
@@ -67,5 +71,6 @@ unfoldable pub typesCallWithin : ℕ → Session → List ℕ → List ℕ → L
 typesCallWithin c s section work text =
     elim (isCurrent s (length section) (length work) (length text)) [
       | false ↦ record { call = unchanged s (refusal notCurrent (s .«text_len»)) work text; made = 0 }
-      | true ↦ settledWithin s (length work) (length text) (requestedFromWithin c (tableFor s section) section (tableFor s section .types - 1) 1 (s .«text_len») work text 0)
+      | true ↦ settledWithin s (length work) (length text)
+          (requestedFromWithin c (tableFor s section) section (tableFor s section .types - 1) 1 (s .«text_len») work text 0)
     ]

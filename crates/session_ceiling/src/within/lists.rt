@@ -43,7 +43,8 @@ fn dump_ids(
     ceiling: u64,
 ) -> Tallied
     requires { ⌜ isCurrent s (length (now section)) (length (now work)) (length (now text)) ≡ true ⌝ }
-    ensures { λ r. ⌜ endWithin s r (now (work .exit)) (now (text .exit)) ≡ listCallWithin ceiling s (now (section .entry)) (now (work .entry)) (now (text .entry)) (idsIn (now (ids .entry))) ⌝ }
+    ensures { λ r. ⌜ endWithin s r (now (work .exit)) (now (text .exit))
+        ≡ listCallWithin ceiling s (now (section .entry)) (now (work .entry)) (now (text .entry)) (idsIn (now (ids .entry))) ⌝ }
 {
     let b = btf_of(section, s.pointer_size, s.modes, s.types);
     let n = count_of(ids);
@@ -76,7 +77,8 @@ pub fn dump_list_within(
     ids: &[u8],
     ceiling: u64,
 ) -> Counted
-    ensures { λ r. ⌜ countedOf r (now (work .exit)) (now (text .exit)) ≡ listCallWithin ceiling s (now (section .entry)) (now (work .entry)) (now (text .entry)) (idsIn (now (ids .entry))) ⌝ }
+    ensures { λ r. ⌜ countedOf r (now (work .exit)) (now (text .exit))
+        ≡ listCallWithin ceiling s (now (section .entry)) (now (work .entry)) (now (text .entry)) (idsIn (now (ids .entry))) ⌝ }
 {
     if ids.len() < 4 {
         return Counted {

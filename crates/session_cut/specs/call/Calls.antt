@@ -1,5 +1,5 @@
--- What the call for a section cut down comes to, for all inputs: the answer, and the output slice after it. Session and section are only read; neither work
--- nor text is lent.
+-- What the call for a section cut down comes to, for all inputs: the answer, and the output slice after it. Session and section are only
+-- read; neither work nor text is lent.
 use Prim.Native.Nat.{ℕ}
 use mathlib.Core.Bool.{Bool, _&&_}
 use mathlib.Core.List.{List, [], _∷_}
@@ -38,4 +38,5 @@ unfoldable pub cutBy : ℕ → List ℕ → List ℕ → Cut
 cutBy number section out = cutOf (answerOf number (cutValue number (length section))) (cutOutput number section out)
 
 unfoldable pub cutCall : Session → List ℕ → List ℕ → List ℕ → Cut
-cutCall S s given out = cutBy (cutNumber (isOpenOn S s) (typesOf s) (words given) (length out) (length (sectionFor s given))) (sectionFor s given) out
+cutCall S s given out =
+    cutBy (cutNumber (isOpenOn S s) (typesOf s) (words given) (length out) (length (sectionFor s given))) (sectionFor s given) out

@@ -3,7 +3,10 @@ use Prim.Native.Nat.{ℕ}
 use mathlib.Core.Bool.{true, false}
 use mathlib.Core.List.{List, [], _∷_, _++_}
 use lib.Dec.{eqb}
-use Rattle.spec_linux_btf.specs.Documentation.{pack, btf-info, btf-int, Member, member, Enumerator, enumerator, Param, param, Secinfo, secinfo, Enumerator64, enumerator64, Body, int, ptr, array, struct, union, enum, fwd, typedef, volatile, const, restrict, func, func-proto, var, datasec, float, decl-tag, type-tag, enum64, Described, described, kindOf, vlenOf, offsetWord}
+use Rattle.spec_linux_btf.specs.Documentation.{pack, btf-info, btf-int, Member, member, Enumerator, enumerator, Param, param, Secinfo}
+use Rattle.spec_linux_btf.specs.Documentation.{secinfo, Enumerator64, enumerator64, Body, int, ptr, array, struct, union, enum, fwd}
+use Rattle.spec_linux_btf.specs.Documentation.{typedef, volatile, const, restrict, func, func-proto, var, datasec, float, decl-tag}
+use Rattle.spec_linux_btf.specs.Documentation.{type-tag, enum64, Described, described, kindOf, vlenOf, offsetWord}
 
 pub data Item : Type 0 where
   nm tid raw : ℕ → Item

@@ -25,7 +25,8 @@ magicBytes false flags = 159 ∷ 235 ∷ 1 ∷ flags ∷ []
 
 unfoldable pub headBytes : Bool → ℕ → ℕ → ℕ → List ℕ
 headBytes big flags types strings =
-    ((((magicBytes big flags ++ wordBytes big 24) ++ wordBytes big 0) ++ wordBytes big types) ++ wordBytes big types) ++ wordBytes big strings
+    ((((magicBytes big flags ++ wordBytes big 24) ++ wordBytes big 0) ++ wordBytes big types) ++ wordBytes big types)
+    ++ wordBytes big strings
 
 module _ (b : TypeTable) (s start ids : List ℕ) where
   -- the length of the types before x
@@ -58,7 +59,8 @@ module _ (b : TypeTable) (s start ids : List ℕ) where
 
   -- the whole section; types and strings: the lengths of the two
   unfoldable pub allBytes : List ℕ → ℕ → ℕ → List ℕ
-  allBytes bases types strings = (headBytes (b .«big_endian») (getD s 3 0) types strings ++ typesBytes bases (countOf b)) ++ stringsBytes b s start ids (countOf b)
+  allBytes bases types strings =
+      (headBytes (b .«big_endian») (getD s 3 0) types strings ++ typesBytes bases (countOf b)) ++ stringsBytes b s start ids (countOf b)
 
 -- the name of word j of the record with entry e, and its 0, if it is written
 unfoldable pub nameIf : TypeTable → List ℕ → ℕ → ℕ → Bool → List ℕ
@@ -66,14 +68,18 @@ nameIf b s e j new = elim new [ true ↦ strAt b s (wordOf b s e j) ++ (0 ∷ []
 
 -- what the table t has for the name of word j, or 0
 unfoldable pub sought : TypeTable → List ℕ → List ℕ → ℕ → ℕ → ℕ
-sought b s t e j = elim (eqb (role (e % 32) j) 1) [ false ↦ 0 | true ↦ elim (isEmpty (strAt b s (wordOf b s e j))) [ true ↦ 0 | false ↦ found b s t (wordOf b s e j) ] ]
+sought b s t e j = elim (eqb (role (e % 32) j) 1) [
+  | false ↦ 0
+  | true ↦ elim (isEmpty (strAt b s (wordOf b s e j))) [ true ↦ 0 | false ↦ found b s t (wordOf b s e j) ]
+]
 
 -- the length written, and the output slice
 pub data Wrote : Type 0 where
   wroteOf : ℕ → List ℕ → Wrote
 
 module _ (b : TypeTable) (s start ids : List ℕ) where
-  -- "23 when the output slice is short or the new section would pass 16,777,216 bytes; nothing is written"; "0 when refused; the rest of the slice .. never altered"
+  -- "23 when the output slice is short or the new section would pass 16,777,216 bytes; nothing is written"; "0 when refused; the rest of
+  -- the slice .. never altered"
   unfoldable pub fittingWritten : List ℕ → ℕ → ℕ → List ℕ → Wrote
   fittingWritten bases types strings out =
       elim (ltb 16777216 (24 + types + strings)) [
@@ -92,7 +98,8 @@ module _ (b : TypeTable) (s start ids : List ℕ) where
           | true ↦ wroteOf 0 out
           | false ↦ elim (ltb 16777216 (typesSize b s start ids (countOf b))) [
             | true ↦ wroteOf 0 out
-            | false ↦ fittingWritten (basesTo b s start ids zeroBases (countOf b)) (typesSize b s start ids (countOf b)) (baseOf b s start ids (countOf b)) out
+            | false ↦ fittingWritten (basesTo b s start ids zeroBases (countOf b)) (typesSize b s start ids (countOf b))
+                (baseOf b s start ids (countOf b)) out
           ]
         ]
       ]

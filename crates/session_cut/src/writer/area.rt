@@ -51,8 +51,11 @@ fn put_names(
     out: &mut [u8],
     at: usize,
 ) -> usize
-    requires { ⌜ Right b (now section) (now start) (now ids) (now table) × Kept b (now start) (now ids) x e × (base ≡ baseOf b (now section) (now start) (now ids) x) ⌝ }
-    ensures { λ r. ⌜ putOut r (now (out .exit)) ≡ putText (now (out .entry)) at (whole (namesBytes b (now (section .entry)) (now (start .entry)) (now (ids .entry)) x e (wordsIn b (now (section .entry)) e))) ⌝ }
+    requires { ⌜ Right b (now section) (now start) (now ids) (now table) × Kept b (now start) (now ids) x e
+        × (base ≡ baseOf b (now section) (now start) (now ids) x) ⌝ }
+    ensures { λ r. ⌜ putOut r (now (out .exit))
+        ≡ putText (now (out .entry)) at (whole
+        (namesBytes b (now (section .entry)) (now (start .entry)) (now (ids .entry)) x e (wordsIn b (now (section .entry)) e))) ⌝ }
 {
     let n = words_in(b, section, e);
     let mut p = at;
@@ -80,8 +83,10 @@ fn put_own(
     out: &mut [u8],
     at: usize,
 ) -> usize
-    requires { ⌜ Right b (now section) (now start) (now ids) (now table) × (now bases ≡ allBases b (now section) (now start) (now ids)) × (x < countOf b) ⌝ }
-    ensures { λ r. ⌜ putOut r (now (out .exit)) ≡ putText (now (out .entry)) at (whole (ownBytes b (now (section .entry)) (now (start .entry)) (now (ids .entry)) x)) ⌝ }
+    requires { ⌜ Right b (now section) (now start) (now ids) (now table) × (now bases ≡ allBases b (now section) (now start) (now ids))
+        × (x < countOf b) ⌝ }
+    ensures { λ r. ⌜ putOut r (now (out .exit))
+        ≡ putText (now (out .entry)) at (whole (ownBytes b (now (section .entry)) (now (start .entry)) (now (ids .entry)) x)) ⌝ }
 {
     if peek(ids, x as usize) == 0 {
         return at;
@@ -102,7 +107,8 @@ fn put_news(
     at: usize,
 ) -> usize
     requires { ⌜ Right b (now section) (now start) (now ids) (now table) × (now bases ≡ allBases b (now section) (now start) (now ids)) ⌝ }
-    ensures { λ r. ⌜ putOut r (now (out .exit)) ≡ putText (now (out .entry)) at (whole (newsBytes b (now (section .entry)) (now (start .entry)) (now (ids .entry)) (countOf b))) ⌝ }
+    ensures { λ r. ⌜ putOut r (now (out .exit))
+        ≡ putText (now (out .entry)) at (whole (newsBytes b (now (section .entry)) (now (start .entry)) (now (ids .entry)) (countOf b))) ⌝ }
 {
     let n = count(b);
     let mut p = at;
@@ -126,7 +132,9 @@ pub(crate) fn put_strings(
     at: usize,
 ) -> usize
     requires { ⌜ Right b (now section) (now start) (now ids) (now table) × (now bases ≡ allBases b (now section) (now start) (now ids)) ⌝ }
-    ensures { λ r. ⌜ putOut r (now (out .exit)) ≡ putText (now (out .entry)) at (whole (stringsBytes b (now (section .entry)) (now (start .entry)) (now (ids .entry)) (countOf b))) ⌝ }
+    ensures { λ r. ⌜ putOut r (now (out .exit))
+        ≡ putText (now (out .entry)) at (whole
+        (stringsBytes b (now (section .entry)) (now (start .entry)) (now (ids .entry)) (countOf b))) ⌝ }
 {
     let p = put_byte(out, at, 0);
     put_news(b, section, start, ids, bases, table, out, p)

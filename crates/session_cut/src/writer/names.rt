@@ -1,5 +1,5 @@
-// Where the new names stand, and which words are the first to mention theirs: there the place is the length so far. The table has nearly all of them;
-// the plain way is for those that it does not take.
+// Where the new names stand, and which words are the first to mention theirs: there the place is the length so far. The table has nearly
+// all of them; the plain way is for those that it does not take.
 use base_bytes::limit;
 use btf_open_causes::references::count;
 use btf_open_causes::references::entry;
@@ -83,8 +83,10 @@ fn length_to(
     base: u32,
     n: u32,
 ) -> u32
-    requires { ⌜ Right b (now section) (now start) (now ids) (now table) × Kept b (now start) (now ids) x e × (n ≤ wordsIn b (now section) e) × (base ≡ baseOf b (now section) (now start) (now ids) x) ⌝ }
-    ensures { λ r. ⌜ r ≡ baseOf b (now (section .entry)) (now (start .entry)) (now (ids .entry)) x + newSizes b (now (section .entry)) (now (start .entry)) (now (ids .entry)) x e n ⌝ }
+    requires { ⌜ Right b (now section) (now start) (now ids) (now table) × Kept b (now start) (now ids) x e
+        × (n ≤ wordsIn b (now section) e) × (base ≡ baseOf b (now section) (now start) (now ids) x) ⌝ }
+    ensures { λ r. ⌜ r ≡ baseOf b (now (section .entry)) (now (start .entry)) (now (ids .entry)) x
+        + newSizes b (now (section .entry)) (now (start .entry)) (now (ids .entry)) x e n ⌝ }
 {
     let mut len = base;
     let mut j: u32 = 0;
@@ -108,7 +110,8 @@ fn place_at(
     off: u32,
     x: u32,
 ) -> u64
-    requires { ⌜ Right b (now section) (now start) (now ids) (now table) × (now bases ≡ allBases b (now section) (now start) (now ids)) × (x < countOf b) ⌝ }
+    requires { ⌜ Right b (now section) (now start) (now ids) (now table) × (now bases ≡ allBases b (now section) (now start) (now ids))
+        × (x < countOf b) ⌝ }
     ensures { λ r. ⌜ r ≡ placeAt b (now (section .entry)) (now (start .entry)) (now (ids .entry)) (now (bases .entry)) off x ⌝ }
 {
     if !mentions(b, section, start, ids, off, x) {
@@ -130,7 +133,8 @@ fn place_from(
     off: u32,
 ) -> u64
     requires { ⌜ Right b (now section) (now start) (now ids) (now table) × (now bases ≡ allBases b (now section) (now start) (now ids)) ⌝ }
-    ensures { λ r. ⌜ r ≡ placeFrom b (now (section .entry)) (now (start .entry)) (now (ids .entry)) (now (bases .entry)) off 0 (countOf b) ⌝ }
+    ensures { λ r. ⌜ r ≡ placeFrom b (now (section .entry)) (now (start .entry)) (now (ids .entry)) (now (bases .entry)) off 0
+        (countOf b) ⌝ }
 {
     let n = count(b);
     let mut x: u32 = 0;
@@ -144,7 +148,8 @@ fn place_from(
     0
 }
 
-// Where a name stands in the new strings. `v`: what the table has for it; `new`: it is mentioned for the first time, and its place is `len`.
+// Where a name stands in the new strings. `v`: what the table has for it; `new`: it is mentioned for the first time, and its place is
+// `len`.
 pub(crate) fn place_of(
     b: TypeTable,
     section: &[u8],
@@ -157,7 +162,9 @@ pub(crate) fn place_of(
     new: bool,
     len: u32,
 ) -> u32
-    requires { ⌜ Right b (now section) (now start) (now ids) (now table) × (now bases ≡ allBases b (now section) (now start) (now ids)) × ((v ≡ 0 → ⊥) → v / 4294967296 ≡ placeOf b (now section) (now start) (now ids) (now bases) off) × (new ≡ true → len ≡ placeOf b (now section) (now start) (now ids) (now bases) off) ⌝ }
+    requires { ⌜ Right b (now section) (now start) (now ids) (now table) × (now bases ≡ allBases b (now section) (now start) (now ids))
+        × ((v ≡ 0 → ⊥) → v / 4294967296 ≡ placeOf b (now section) (now start) (now ids) (now bases) off)
+        × (new ≡ true → len ≡ placeOf b (now section) (now start) (now ids) (now bases) off) ⌝ }
     ensures { λ r. ⌜ r ≡ placeOf b (now (section .entry)) (now (start .entry)) (now (ids .entry)) (now (bases .entry)) off ⌝ }
 {
     if v != 0 {

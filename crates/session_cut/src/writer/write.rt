@@ -24,7 +24,8 @@ ghost use Rattle.btf_open_causes.specs.references.Followed.{countOf};
 ghost use Rattle.session_cut_marks.specs.roles.Words.{wordsIn, wordOf};
 ghost use Rattle.session_cut_marks.specs.mentioned.Names.{baseOf, placeOf};
 ghost use Rattle.session_cut_marks.specs.interned.Right.{allBases, Right, Kept};
-ghost use Rattle.session_cut.specs.writer.Bytes.{wordBytes, magicBytes, headBytes, typeSize, typesSize, newWord, recordBytes, typeBytes, typesBytes, allBytes, wroteOf, fittingWritten, keptWritten};
+ghost use Rattle.session_cut.specs.writer.Bytes.{wordBytes, magicBytes, headBytes, typeSize, typesSize, newWord, recordBytes};
+ghost use Rattle.session_cut.specs.writer.Bytes.{typeBytes, typesBytes, allBytes, wroteOf, fittingWritten, keptWritten};
 
 // A word, the most significant byte first where `big`.
 fn put_word(out: &mut [u8], at: usize, big: bool, v: u32) -> usize
@@ -103,7 +104,9 @@ fn new_word(
     new: bool,
     len: u32,
 ) -> u32
-    requires { ⌜ Right b (now section) (now start) (now ids) (now table) × (now bases ≡ allBases b (now section) (now start) (now ids)) × ((v ≡ 0 → ⊥) → v / 4294967296 ≡ placeOf b (now section) (now start) (now ids) (now bases) (wordOf b (now section) e j)) × (new ≡ true → len ≡ placeOf b (now section) (now start) (now ids) (now bases) (wordOf b (now section) e j)) ⌝ }
+    requires { ⌜ Right b (now section) (now start) (now ids) (now table) × (now bases ≡ allBases b (now section) (now start) (now ids))
+        × ((v ≡ 0 → ⊥) → v / 4294967296 ≡ placeOf b (now section) (now start) (now ids) (now bases) (wordOf b (now section) e j))
+        × (new ≡ true → len ≡ placeOf b (now section) (now start) (now ids) (now bases) (wordOf b (now section) e j)) ⌝ }
     ensures { λ r. ⌜ r ≡ newWord b (now (section .entry)) (now (start .entry)) (now (ids .entry)) (now (bases .entry)) e j ⌝ }
 {
     let r = role(e % 32, j);
@@ -131,8 +134,12 @@ fn put_record(
     out: &mut [u8],
     at: usize,
 ) -> usize
-    requires { ⌜ Right b (now section) (now start) (now ids) (now table) × (now bases ≡ allBases b (now section) (now start) (now ids)) × Kept b (now start) (now ids) x e × (base ≡ baseOf b (now section) (now start) (now ids) x) ⌝ }
-    ensures { λ r. ⌜ putOut r (now (out .exit)) ≡ putText (now (out .entry)) at (whole (recordBytes b (now (section .entry)) (now (start .entry)) (now (ids .entry)) (now (bases .entry)) e (wordsIn b (now (section .entry)) e))) ⌝ }
+    requires { ⌜ Right b (now section) (now start) (now ids) (now table) × (now bases ≡ allBases b (now section) (now start) (now ids))
+        × Kept b (now start) (now ids) x e × (base ≡ baseOf b (now section) (now start) (now ids) x) ⌝ }
+    ensures { λ r. ⌜ putOut r (now (out .exit))
+        ≡ putText (now (out .entry)) at (whole
+        (recordBytes b (now (section .entry)) (now (start .entry)) (now (ids .entry)) (now (bases .entry)) e
+        (wordsIn b (now (section .entry)) e))) ⌝ }
 {
     let n = words_in(b, section, e);
     let mut p = at;
@@ -160,8 +167,11 @@ fn put_type(
     out: &mut [u8],
     at: usize,
 ) -> usize
-    requires { ⌜ Right b (now section) (now start) (now ids) (now table) × (now bases ≡ allBases b (now section) (now start) (now ids)) × (x < countOf b) ⌝ }
-    ensures { λ r. ⌜ putOut r (now (out .exit)) ≡ putText (now (out .entry)) at (whole (typeBytes b (now (section .entry)) (now (start .entry)) (now (ids .entry)) (now (bases .entry)) x)) ⌝ }
+    requires { ⌜ Right b (now section) (now start) (now ids) (now table) × (now bases ≡ allBases b (now section) (now start) (now ids))
+        × (x < countOf b) ⌝ }
+    ensures { λ r. ⌜ putOut r (now (out .exit))
+        ≡ putText (now (out .entry)) at (whole
+        (typeBytes b (now (section .entry)) (now (start .entry)) (now (ids .entry)) (now (bases .entry)) x)) ⌝ }
 {
     if peek(ids, x as usize) == 0 {
         return at;
@@ -183,7 +193,9 @@ fn put_types(
     at: usize,
 ) -> usize
     requires { ⌜ Right b (now section) (now start) (now ids) (now table) × (now bases ≡ allBases b (now section) (now start) (now ids)) ⌝ }
-    ensures { λ r. ⌜ putOut r (now (out .exit)) ≡ putText (now (out .entry)) at (whole (typesBytes b (now (section .entry)) (now (start .entry)) (now (ids .entry)) (now (bases .entry)) (countOf b))) ⌝ }
+    ensures { λ r. ⌜ putOut r (now (out .exit))
+        ≡ putText (now (out .entry)) at (whole
+        (typesBytes b (now (section .entry)) (now (start .entry)) (now (ids .entry)) (now (bases .entry)) (countOf b))) ⌝ }
 {
     let n = count(b);
     let mut p = at;
@@ -208,7 +220,9 @@ fn put_all(
     out: &mut [u8],
 ) -> usize
     requires { ⌜ Right b (now section) (now start) (now ids) (now table) × (now bases ≡ allBases b (now section) (now start) (now ids)) ⌝ }
-    ensures { λ r. ⌜ putOut r (now (out .exit)) ≡ putText (now (out .entry)) 0 (whole (allBytes b (now (section .entry)) (now (start .entry)) (now (ids .entry)) (now (bases .entry)) types strings)) ⌝ }
+    ensures { λ r. ⌜ putOut r (now (out .exit))
+        ≡ putText (now (out .entry)) 0 (whole
+        (allBytes b (now (section .entry)) (now (start .entry)) (now (ids .entry)) (now (bases .entry)) types strings)) ⌝ }
 {
     let flags = byte_at(section, 3);
     let p = put_head(out, b.big_endian, flags, types, strings);
@@ -228,7 +242,8 @@ fn byte_at(l: &[u8], i: usize) -> u8
 // Measures first: 0 and nothing written, where the output slice is short or the section would pass 16,777,216 bytes; else
 // the length written. The rest of the slice stays.
 pub fn write_kept(b: TypeTable, section: &[u8], start: &[u32], ids: &[u32], out: &mut [u8]) -> u64
-    ensures { λ r. ⌜ wroteOf r (now (out .exit)) ≡ keptWritten b (now (section .entry)) (now (start .entry)) (now (ids .entry)) (now (out .entry)) ⌝ }
+    ensures { λ r. ⌜ wroteOf r (now (out .exit))
+        ≡ keptWritten b (now (section .entry)) (now (start .entry)) (now (ids .entry)) (now (out .entry)) ⌝ }
 {
     if limit::MOST_BYTES < section.len() {
         return 0;
@@ -267,8 +282,12 @@ fn write_fitting(
     strings: u32,
     out: &mut [u8],
 ) -> u64
-    requires { ⌜ Right b (now section) (now start) (now ids) (now table) × (now bases ≡ allBases b (now section) (now start) (now ids)) × (types ≤ 16777216) × (strings ≤ 16777216) × (types ≡ typesSize b (now section) (now start) (now ids) (countOf b)) × (strings ≡ baseOf b (now section) (now start) (now ids) (countOf b)) ⌝ }
-    ensures { λ r. ⌜ wroteOf r (now (out .exit)) ≡ fittingWritten b (now (section .entry)) (now (start .entry)) (now (ids .entry)) (now (bases .entry)) types strings (now (out .entry)) ⌝ }
+    requires { ⌜ Right b (now section) (now start) (now ids) (now table) × (now bases ≡ allBases b (now section) (now start) (now ids))
+        × (types ≤ 16777216) × (strings ≤ 16777216) × (types ≡ typesSize b (now section) (now start) (now ids) (countOf b))
+        × (strings ≡ baseOf b (now section) (now start) (now ids) (countOf b)) ⌝ }
+    ensures { λ r. ⌜ wroteOf r (now (out .exit))
+        ≡ fittingWritten b (now (section .entry)) (now (start .entry)) (now (ids .entry)) (now (bases .entry)) types strings
+        (now (out .entry)) ⌝ }
 {
     let len = 24 + types + strings;
     if limit::MOST_BYTES_32 < len {

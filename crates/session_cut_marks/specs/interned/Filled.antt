@@ -1,5 +1,5 @@
--- The table of names after the words of the kept types, and the length of the strings: each name is entered where it is mentioned for the first
--- time, its place is the length so far. A length above 16,777,216 stays as it is.
+-- The table of names after the words of the kept types, and the length of the strings: each name is entered where it is mentioned for the
+-- first time, its place is the length so far. A length above 16,777,216 stays as it is.
 use Prim.Native.Nat.{ℕ, zero, suc, _+_, _*_, _%_}
 use mathlib.Core.Bool.{true, false}
 use mathlib.Core.List.{List}
@@ -60,7 +60,10 @@ module _ (b : TypeTable) (s start ids : List ℕ) where
 
   -- after type x, if it is kept
   unfoldable pub enteredType : ℕ → ℕ → List ℕ → Filled
-  enteredType x len t = elim (eqb (getD ids x 0) 0) [ true ↦ filledOf len t | false ↦ enteredTo x (entryAt b start x) len t (wordsIn b s (entryAt b start x)) ]
+  enteredType x len t = elim (eqb (getD ids x 0) 0) [
+    | true ↦ filledOf len t
+    | false ↦ enteredTo x (entryAt b start x) len t (wordsIn b s (entryAt b start x))
+  ]
 
   -- after the types before x; the leading 0 is one byte
   unfoldable pub filledTo : List ℕ → ℕ → Filled

@@ -17,7 +17,8 @@ pub record Right (b : TypeTable) (s start ids t : List ℕ) : Type 0 where
   pub short : length s ≤ 16777216
   pub small : baseOf b s start ids (countOf b) ≤ 16777216
   pub long : length t ≡ 262144
-  pub places : (i : ℕ) → (getD t i 0 ≡ 0 → ⊥) → (off : ℕ) → strAt b s off ≡ strAt b s (getD t i 0 % 4294967296) → placeOf b s start ids (allBases b s start ids) off ≡ getD t i 0 / 4294967296
+  pub places : (i : ℕ) → (getD t i 0 ≡ 0 → ⊥) → (off : ℕ) → strAt b s off ≡ strAt b s (getD t i 0 % 4294967296)
+      → placeOf b s start ids (allBases b s start ids) off ≡ getD t i 0 / 4294967296
 
 -- a type that is kept, and its entry
 pub record Kept (b : TypeTable) (start ids : List ℕ) (x e : ℕ) : Type 0 where

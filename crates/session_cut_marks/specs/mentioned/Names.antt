@@ -1,5 +1,5 @@
--- The names that are stored: "each distinct name is stored once, in order of first mention". b, s, start: the table, the section, its index;
--- ids: the new numbers, 0 for what is not kept.
+-- The names that are stored: "each distinct name is stored once, in order of first mention". b, s, start: the table, the section, its
+-- index; ids: the new numbers, 0 for what is not kept.
 use Prim.Native.Nat.{ℕ, zero, suc, _+_, _%_}
 use mathlib.Core.Bool.{Bool, true, false, not}
 use mathlib.Core.List.{List}
@@ -33,7 +33,8 @@ module _ (b : TypeTable) (s : List ℕ) where
   module _ (start ids : List ℕ) where
     -- type y is kept and mentions the name
     unfoldable pub mentions : ℕ → ℕ → Bool
-    mentions off y = elim (eqb (getD ids y 0) 0) [ true ↦ false | false ↦ namedTo (entryAt b start y) off (wordsIn b s (entryAt b start y)) ]
+    mentions off y =
+        elim (eqb (getD ids y 0) 0) [ true ↦ false | false ↦ namedTo (entryAt b start y) off (wordsIn b s (entryAt b start y)) ]
 
     unfoldable pub orMentions : ℕ → ℕ → Bool → Bool
     orMentions off y found = elim found [ true ↦ true | false ↦ mentions off y ]

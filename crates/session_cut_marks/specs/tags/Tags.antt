@@ -38,7 +38,10 @@ numbersIn (numbered m c) = m
 
 unfoldable pub numberedAt : Numbered → ℕ → Numbered
 numberedAt (numbered m c) x =
-    elim (eqb (getD m x 0) 0) [ true ↦ numbered m c | false ↦ elim (ltb x (length m)) [ true ↦ numbered (set m x (suc c)) (suc c) | false ↦ numbered m c ] ]
+    elim (eqb (getD m x 0) 0) [
+      | true ↦ numbered m c
+      | false ↦ elim (ltb x (length m)) [ true ↦ numbered (set m x (suc c)) (suc c) | false ↦ numbered m c ]
+    ]
 
 unfoldable pub numberedTo : Numbered → ℕ → Numbered
 numberedTo h zero = h

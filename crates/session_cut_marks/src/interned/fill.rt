@@ -53,7 +53,8 @@ fn settle(
     table: &mut [u64],
 ) -> u32
     requires { ⌜ (length (now section) ≤ 16777216) × (len ≤ 16777216) ⌝ }
-    ensures { λ r. ⌜ filledOf r (now (table .exit)) ≡ settled b (now (section .entry)) (now (start .entry)) (now (ids .entry)) x e j off i len (now (table .entry)) ⌝ }
+    ensures { λ r. ⌜ filledOf r (now (table .exit))
+        ≡ settled b (now (section .entry)) (now (start .entry)) (now (ids .entry)) x e j off i len (now (table .entry)) ⌝ }
 {
     let at = i as usize;
     if table.len() <= at {
@@ -79,7 +80,8 @@ fn enter(
     table: &mut [u64],
 ) -> u32
     requires { ⌜ length (now section) ≤ 16777216 ⌝ }
-    ensures { λ r. ⌜ filledOf r (now (table .exit)) ≡ entered b (now (section .entry)) (now (start .entry)) (now (ids .entry)) x e j len (now (table .entry)) ⌝ }
+    ensures { λ r. ⌜ filledOf r (now (table .exit))
+        ≡ entered b (now (section .entry)) (now (start .entry)) (now (ids .entry)) x e j len (now (table .entry)) ⌝ }
 {
     if limit::MOST_BYTES_32 < len {
         return len;
@@ -107,7 +109,9 @@ fn enter_words(
     table: &mut [u64],
 ) -> u32
     requires { ⌜ length (now section) ≤ 16777216 ⌝ }
-    ensures { λ r. ⌜ filledOf r (now (table .exit)) ≡ enteredTo b (now (section .entry)) (now (start .entry)) (now (ids .entry)) x e len (now (table .entry)) (wordsIn b (now (section .entry)) e) ⌝ }
+    ensures { λ r. ⌜ filledOf r (now (table .exit))
+        ≡ enteredTo b (now (section .entry)) (now (start .entry)) (now (ids .entry)) x e len (now (table .entry))
+        (wordsIn b (now (section .entry)) e) ⌝ }
 {
     let n = words_in(b, section, e);
     let mut now_len = len;
@@ -130,7 +134,8 @@ fn enter_type(
     table: &mut [u64],
 ) -> u32
     requires { ⌜ length (now section) ≤ 16777216 ⌝ }
-    ensures { λ r. ⌜ filledOf r (now (table .exit)) ≡ enteredType b (now (section .entry)) (now (start .entry)) (now (ids .entry)) x len (now (table .entry)) ⌝ }
+    ensures { λ r. ⌜ filledOf r (now (table .exit))
+        ≡ enteredType b (now (section .entry)) (now (start .entry)) (now (ids .entry)) x len (now (table .entry)) ⌝ }
 {
     if peek(ids, x as usize) == 0 {
         return len;
@@ -156,7 +161,8 @@ pub fn fill_table(
     table: &mut [u64],
     lengths: &mut [u32],
 ) -> u32
-    ensures { λ r. ⌜ fillingOf (filledOf r (now (table .exit))) (now (lengths .exit)) ≡ filling b (now (section .entry)) (now (start .entry)) (now (ids .entry)) (now (table .entry)) (now (lengths .entry)) ⌝ }
+    ensures { λ r. ⌜ fillingOf (filledOf r (now (table .exit))) (now (lengths .exit))
+        ≡ filling b (now (section .entry)) (now (start .entry)) (now (ids .entry)) (now (table .entry)) (now (lengths .entry)) ⌝ }
 {
     if limit::MOST_BYTES < section.len() {
         return 0;

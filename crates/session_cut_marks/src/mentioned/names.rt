@@ -10,7 +10,8 @@ ghost use mathlib.Core.Path.{_≡_};
 ghost use lib.ListN.{getD};
 ghost use Rattle.spec_c_dumper.specs.rules.Names.{sameBytes};
 ghost use Rattle.spec_type_table.specs.Names.{strAt};
-ghost use Rattle.session_cut_marks.specs.mentioned.Names.{isName, orName, namedTo, firstFrom, mentions, orMentions, mentionedTo, isNew};
+ghost use Rattle.session_cut_marks.specs.mentioned.Names.{isName, orName, namedTo, firstFrom, mentions, orMentions, mentionedTo};
+ghost use Rattle.session_cut_marks.specs.mentioned.Names.{isNew};
 
 // Word i, and 0 past the end.
 pub fn peek(l: &[u32], i: usize) -> u32

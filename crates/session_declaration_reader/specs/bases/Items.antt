@@ -7,7 +7,8 @@ use lib.Dec.{ltb}
 use Rattle.spec_c_dumper.specs.rules.Types.{Qualifier, volatile, const, restrict}
 use Rattle.session_declaration_reader.specs.tokens.Looking.{Span}
 
--- an entry: its kind (1 base, 2 pointer, 3 array, 4 prototype, 5 qualifier, 6 base behind whose chain another parameter follows) and two numbers
+-- an entry: its kind (1 base, 2 pointer, 3 array, 4 prototype, 5 qualifier, 6 base behind whose chain another parameter follows) and two
+-- numbers
 pub data Item : Type 0 where
   item : ℕ → ℕ → ℕ → Item
 

@@ -7,7 +7,8 @@ use lib.Dec.{ltb, eqb}
 use Rattle.spec_c_dumper.specs.rules.Types.{Qualifier, volatile, const, restrict}
 use Rattle.session_declaration_reader.specs.tokens.Tokens.{Token, rest}
 use Rattle.session_declaration_reader.specs.tokens.Looking.{Span, tokensAt, signOf}
-use Rattle.session_declaration_reader.specs.bases.Bases.{beginsWord, endsName, distinct, qualRun, afterQuals, wordRun, afterWords, wordsOf, isBase}
+use Rattle.session_declaration_reader.specs.bases.Bases.{beginsWord, endsName, distinct, qualRun, afterQuals, wordRun, afterWords}
+use Rattle.session_declaration_reader.specs.bases.Bases.{wordsOf, isBase}
 use Rattle.session_declaration_reader.specs.bases.Items.{Item, item, qualItems, firstFrom, lastTo}
 use Rattle.session_declaration_reader.specs.declared.bases.Quals.{Quals}
 use Rattle.session_declaration_reader.specs.declared.bases.Base.{Base}

@@ -4,7 +4,8 @@ use mathlib.Core.Bool.{Bool, true, false}
 use mathlib.Core.List.{List, _∷_, _++_}
 use Rattle.session_declaration_reader.specs.grammar.Chain.{Layers, named, pointer, array, proto, Params, dots}
 use Rattle.session_declaration_reader.specs.tokens.Tokens.{Token}
-use Rattle.session_declaration_reader.specs.grammar.Grammar.{Reads, reads, fails, andThen, wanted, wantedCount, declarator, suffixes, params}
+use Rattle.session_declaration_reader.specs.grammar.Grammar.{Reads, reads, fails, andThen, wanted, wantedCount, declarator, suffixes}
+use Rattle.session_declaration_reader.specs.grammar.Grammar.{params}
 use Rattle.session_declaration_reader.specs.bases.Bases.{distinct, qualRun, afterQuals}
 use Rattle.session_declaration_reader.specs.tokens.Looking.{Span, tokensAt}
 use Rattle.session_declaration_reader.specs.bases.Items.{Item, item, Placed, placing}

@@ -4,7 +4,8 @@ use mathlib.Core.Bool.{Bool, true, false, _&&_, _||_}
 use mathlib.Core.List.{List, [], _∷_}
 use Rattle.spec_c_dumper.specs.rules.Types.{Qualifier}
 use Rattle.session_declaration_reader.specs.tokens.Tokens.{Token, qual, word, number, mark, rest}
-use Rattle.session_declaration_reader.specs.bases.Bases.{Spelt, distinct, begins, beginsWord, bracketed, qualRun, afterQuals, wordRun, afterWords, isBase, wordsOf, voidBefore}
+use Rattle.session_declaration_reader.specs.bases.Bases.{Spelt, distinct, begins, beginsWord, bracketed, qualRun, afterQuals, wordRun}
+use Rattle.session_declaration_reader.specs.bases.Bases.{afterWords, isBase, wordsOf, voidBefore}
 use Rattle.session_declaration_reader.specs.grammar.Chain.{Layers, named, pointer, array, proto, Params, closed, dots, param}
 
 -- what reading comes to: a value and the tokens behind it, or no such declaration
@@ -18,7 +19,8 @@ module _ {W : Type 0} where
   andThen fails k = fails
 
   -- a base with its qualifiers before it, and what is read of the tokens behind it
-  unfoldable pub readBase : {A : Type 0} → Bool → List (Token W) → (List Qualifier → List (Spelt W) → List (Token W) → Reads W A) → Reads W A
+  unfoldable pub readBase : {A : Type 0} → Bool → List (Token W) → (List Qualifier → List (Spelt W) → List (Token W) → Reads W A)
+      → Reads W A
   readBase n ts k =
       elim (distinct (qualRun ts) && isBase (wordRun n (afterQuals ts))) [
         | true ↦ k (qualRun ts) (wordRun n (afterQuals ts)) (afterWords n (afterQuals ts))
@@ -85,7 +87,8 @@ module _ {W : Type 0} where
     paramList (suc f) ts =
         elim (voidBefore 41 ts || voidBefore 44 ts) [
           | true ↦ fails
-          | false ↦ readBase false ts (λ q ss us. andThen (declarator f false us) (λ l vs. andThen (paramEnd f vs) (λ ps xs. reads (param q (wordsOf ss) l ps) xs)))
+          | false ↦ readBase false ts (λ q ss us. andThen (declarator f false us)
+              (λ l vs. andThen (paramEnd f vs) (λ ps xs. reads (param q (wordsOf ss) l ps) xs)))
         ]
 
     -- behind a parameter

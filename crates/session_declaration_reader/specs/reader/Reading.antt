@@ -20,7 +20,8 @@ most = 2056
 module _ {W : Type 0} where
   unfoldable pub readTokens : List (Token W) → Reads W (Chain W)
   readTokens ts =
-      readBase true ts (λ q ss us. andThen (declarator most true us) (λ l vs. reads (record { quals = q; words = wordsOf ss; layers = l }) vs))
+      readBase true ts (λ q ss us. andThen (declarator most true us)
+      (λ l vs. reads (record { quals = q; words = wordsOf ss; layers = l }) vs))
 
   -- "would pass 512 entries"
   unfoldable pub counted : Chain W → Read W

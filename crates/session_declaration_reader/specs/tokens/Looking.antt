@@ -5,7 +5,8 @@ use mathlib.Core.List.{List, [], _∷_}
 use mathlib.Core.Bool.{true, false}
 use lib.ListN.{length, getD, take, drop}
 use Rattle.spec_c_dumper.specs.rules.Types.{volatile, const, restrict}
-use Rattle.session_declaration_reader.specs.tokens.Tokens.{tagWord, voidWord, otherWord, Token, qual, word, number, mark, rest, isCount, valueOf, kindOf, tokens, wordToken, runToken}
+use Rattle.session_declaration_reader.specs.tokens.Tokens.{tagWord, voidWord, otherWord, Token, qual, word, number, mark, rest}
+use Rattle.session_declaration_reader.specs.tokens.Tokens.{isCount, valueOf, kindOf, tokens, wordToken, runToken}
 use Rattle.session_declaration_reader.specs.declared.tokens.Tok.{Tok}
 
 -- where a word stands in the text

@@ -13,7 +13,8 @@ use Rattle.session_field_at_bit.specs.field.Calls.{putWords}
 -- the entries p after the first n
 unfoldable pub written : List ℕ → ℕ → Ask (List ℕ) → Led
 written path n (no c) = ledTo (no c) path
-written path n (got p) = ledTo (got (n + length p)) (elim (leb (n + length p) (length path / 4)) [ true ↦ putWords path n p | false ↦ path ])
+written path n (got p) =
+    ledTo (got (n + length p)) (elim (leb (n + length p) (length path / 4)) [ true ↦ putWords path n p | false ↦ path ])
 
 -- the answer to a path of this length in room for so many entries
 unfoldable pub answerTo : ℕ → ℕ → Answer

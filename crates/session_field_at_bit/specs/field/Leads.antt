@@ -9,7 +9,8 @@ use Rattle.session_field_at_bit.specs.step.Path.{plain, through, composi
 
 -- "A member covers the bits of its size or of its field"
 pub data Covers (B : Btf) (m : Member) (bit : ℕ) : Type 0 where
-  by-size : (size : ℕ) → m .bit-size ≡ 0 → getSizeOf 512 B (m .type-id) ≡ got size → m .bit-offset ≤ bit → bit < m .bit-offset + 8 * size → Covers B m bit
+  by-size : (size : ℕ) → m .bit-size ≡ 0 → getSizeOf 512 B (m .type-id) ≡ got size → m .bit-offset ≤ bit → bit < m .bit-offset + 8 * size
+      → Covers B m bit
   by-field : (m .bit-size ≡ 0 → ⊥) → m .bit-offset ≤ bit → bit < m .bit-offset + m .bit-size → Covers B m bit
 
 -- "members are tried in order [..] the first covering one is entered": member k, with none before it that covers the bit
@@ -28,8 +29,10 @@ pub data Leads (B : Btf) : ℕ → ℕ → List ℕ → Type 0 where
   passes : (id t bit : ℕ) (p : List ℕ) → shapeOf (B .type-by-id id) ≡ through t → Leads B t bit p → Leads B id bit p
   place : (id t count size k bit rest : ℕ) (p : List ℕ) → B .type-by-id id ≡ Array t count → getSizeOf 512 B t ≡ got size → k < count
       → bit ≡ k * (size * 8) + rest → rest < size * 8 → Leads B t rest p → Leads B id bit (k ∷ p)
-  member : (id k bit : ℕ) (ms : List Member) (m : Member) (p : List ℕ) → shapeOf (B .type-by-id id) ≡ composite ms → First B bit m ms k → m .bit-size ≡ 0
+  member : (id k bit : ℕ) (ms : List Member) (m : Member) (p : List ℕ) → shapeOf (B .type-by-id id) ≡ composite ms → First B bit m ms k
+      → m .bit-size ≡ 0
       → Leads B (m .type-id) (bit - m .bit-offset) p → Leads B id bit (k ∷ p)
-  bit-field : (id k bit : ℕ) (ms : List Member) (m : Member) → shapeOf (B .type-by-id id) ≡ composite ms → First B bit m ms k → (m .bit-size ≡ 0 → ⊥) → Leads B id bit (k ∷ [])
+  bit-field : (id k bit : ℕ) (ms : List Member) (m : Member) → shapeOf (B .type-by-id id) ≡ composite ms → First B bit m ms k
+      → (m .bit-size ≡ 0 → ⊥) → Leads B id bit (k ∷ [])
   ends : (id bit : ℕ) → shapeOf (B .type-by-id id) ≡ plain → Leads B id bit []
   gap : (id bit : ℕ) (ms : List Member) → shapeOf (B .type-by-id id) ≡ composite ms → Uncovered B bit ms → Leads B id bit []

@@ -5,7 +5,8 @@ use mathlib.Core.Bool.{Bool, true, false, _&&_}
 use mathlib.Core.List.{List, [], _∷_}
 use lib.Dec.{leb, ltb, eqb}
 use Rattle.spec_c_dumper.specs.rules.Writer.{Ask, got, no, askThen, tooDeep}
-use Rattle.spec_c_dumper.specs.rules.Types.{Member, BtfType, Void, Int, Ptr, Array, Composite, Enum, Enum64, Fwd, Typedef, Mod, Func, Var, Datasec, FuncProto, Float, DeclTag, TypeTag, Btf}
+use Rattle.spec_c_dumper.specs.rules.Types.{Member, BtfType, Void, Int, Ptr, Array, Composite, Enum, Enum64, Fwd, Typedef, Mod, Func, Var}
+use Rattle.spec_c_dumper.specs.rules.Types.{Datasec, FuncProto, Float, DeclTag, TypeTag, Btf}
 use Rattle.spec_c_dumper.specs.rules.Layout.{getSizeOf, endOf}
 
 -- "21 when no member covers that bit, or the id is no composite"
@@ -108,4 +109,5 @@ someEntry (k ∷ p) = got (k ∷ p)
 
 -- the path of a bit of a type that is to be a composite, or the refusal
 unfoldable pub fieldPath : Btf → ℕ → ℕ → Ask (List ℕ)
-fieldPath B id bit = elim (isComposite (shapeOf (B .type-by-id id))) [ true ↦ askThen (pathFrom 512 B id bit) someEntry | false ↦ no noMember ]
+fieldPath B id bit =
+    elim (isComposite (shapeOf (B .type-by-id id))) [ true ↦ askThen (pathFrom 512 B id bit) someEntry | false ↦ no noMember ]

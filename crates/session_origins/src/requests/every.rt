@@ -36,8 +36,12 @@ fn dump_at(
     count: usize,
     id: u32,
 ) -> Told
-    requires { ⌜ (len ≤ length (now text)) × (b .types ≤ 262145) × (count ≤ entriesIn (now list)) × (length (now leads) ≡ 262145) × Before id (now leads) ⌝ }
-    ensures { λ r. ⌜ (cameOf r (now (work .exit)) (now (text .exit)) (now (list .exit)) ≡ requestedNoted (upTo (entriesIn (now (list .entry)))) b (now (section .entry)) id (entriesOf count (now (list .entry))) len visits (now (work .entry)) (now (text .entry))) × (r .count ≤ entriesIn (now (list .entry))) × (r .reached .len ≤ length (now (text .exit))) × (r .reached .number ≡ 0 → Before (id + 1) (now (leads .exit))) ⌝ }
+    requires { ⌜ (len ≤ length (now text)) × (b .types ≤ 262145) × (count ≤ entriesIn (now list)) × (length (now leads) ≡ 262145)
+        × Before id (now leads) ⌝ }
+    ensures { λ r. ⌜ (cameOf r (now (work .exit)) (now (text .exit)) (now (list .exit))
+        ≡ requestedNoted (upTo (entriesIn (now (list .entry)))) b (now (section .entry)) id (entriesOf count (now (list .entry))) len visits
+        (now (work .entry)) (now (text .entry))) × (r .count ≤ entriesIn (now (list .entry)))
+        × (r .reached .len ≤ length (now (text .exit))) × (r .reached .number ≡ 0 → Before (id + 1) (now (leads .exit))) ⌝ }
 {
     let from = count * 12;
     let r = dump_one(
@@ -71,8 +75,12 @@ fn dump_next(
     count: usize,
     id: u32,
 ) -> Told
-    requires { ⌜ (len ≤ length (now text)) × (b .types ≤ 262145) × (count ≤ entriesIn (now list)) × (length (now leads) ≡ 262145) × Before id (now leads) ⌝ }
-    ensures { λ r. ⌜ (cameOf r (now (work .exit)) (now (text .exit)) (now (list .exit)) ≡ requestedNoted (upTo (entriesIn (now (list .entry)))) b (now (section .entry)) id (entriesOf count (now (list .entry))) len (visitsIn (now (work .entry))) (now (work .entry)) (now (text .entry))) × (r .count ≤ entriesIn (now (list .entry))) × (r .reached .len ≤ length (now (text .exit))) × (r .reached .number ≡ 0 → Before (id + 1) (now (leads .exit))) ⌝ }
+    requires { ⌜ (len ≤ length (now text)) × (b .types ≤ 262145) × (count ≤ entriesIn (now list)) × (length (now leads) ≡ 262145)
+        × Before id (now leads) ⌝ }
+    ensures { λ r. ⌜ (cameOf r (now (work .exit)) (now (text .exit)) (now (list .exit))
+        ≡ requestedNoted (upTo (entriesIn (now (list .entry)))) b (now (section .entry)) id (entriesOf count (now (list .entry))) len
+        (visitsIn (now (work .entry))) (now (work .entry)) (now (text .entry))) × (r .count ≤ entriesIn (now (list .entry)))
+        × (r .reached .len ≤ length (now (text .exit))) × (r .reached .number ≡ 0 → Before (id + 1) (now (leads .exit))) ⌝ }
 {
     if !is_idle(b, section, work, id) {
         let visits = visits_in(work);
@@ -99,7 +107,9 @@ fn dump_all(
     len: u32,
 ) -> Told
     requires { ⌜ (len ≤ length (now text)) × (b .types ≤ 262145) × (length (now leads) ≡ 262145) × Before 1 (now leads) ⌝ }
-    ensures { λ r. ⌜ (cameOf r (now (work .exit)) (now (text .exit)) (now (list .exit)) ≡ requestedFromNoted (upTo (entriesIn (now (list .entry)))) b (now (section .entry)) (b .types - 1) 1 [] len (now (work .entry)) (now (text .entry))) × (r .count ≤ entriesIn (now (list .entry))) ⌝ }
+    ensures { λ r. ⌜ (cameOf r (now (work .exit)) (now (text .exit)) (now (list .exit))
+        ≡ requestedFromNoted (upTo (entriesIn (now (list .entry)))) b (now (section .entry)) (b .types - 1) 1 [] len (now (work .entry))
+        (now (text .entry))) × (r .count ≤ entriesIn (now (list .entry))) ⌝ }
 {
     let n = b.types;
     let mut r = Told {
@@ -129,7 +139,8 @@ pub fn dump_types_causes(
     text: &mut [u8],
     list: &mut [u8],
 ) -> Explained
-    ensures { λ r. ⌜ explainedOf r (now (work .exit)) (now (text .exit)) (now (list .exit)) ≡ typesCauses s (now (section .entry)) (now (work .entry)) (now (text .entry)) (now (list .entry)) ⌝ }
+    ensures { λ r. ⌜ explainedOf r (now (work .exit)) (now (text .exit)) (now (list .exit))
+        ≡ typesCauses s (now (section .entry)) (now (work .entry)) (now (text .entry)) (now (list .entry)) ⌝ }
 {
     if !is_current(s, section.len(), work.len(), text.len()) {
         return Explained {

@@ -1,6 +1,6 @@
--- One request with its entries, as the code has it: ordering with words for the leaders of 262145 ids, which are all that a table has, and then the
--- listed ids, each at the top. The words serve the requests of a call one after another: each has its turn. That it is `dumpedNoted` of
--- `spec_c_dumper::origins`: `c_dumper_emit::request`.
+-- One request with its entries, as the code has it: ordering with words for the leaders of 262145 ids, which are all that a table has, and
+-- then the listed ids, each at the top. The words serve the requests of a call one after another: each has its turn. That it is
+-- `dumpedNoted` of `spec_c_dumper::origins`: `c_dumper_emit::request`.
 use Prim.Native.Nat.{ℕ, _/_, _<_}
 use mathlib.Core.Bool.{false}
 use mathlib.Core.List.{List}
@@ -46,10 +46,15 @@ module _ (b : TypeTable) (B : Rules) (room : ℕ) where
 
   unfoldable pub eachKept : ℕ → ℕ → Noted Sheet → Kept → Out (Noted Sheet)
   eachKept id turn m s =
-      eachListed (workMachine b B) (tableOf B) (upTo room) (showsIn B) (entryIn id turn (s .leads)) (sheetStore .list (withMarks (m .mach) (s .marks))) (besideKept m s)
+      eachListed (workMachine b B) (tableOf B) (upTo room) (showsIn B) (entryIn id turn (s .leads))
+      (sheetStore .list (withMarks (m .mach) (s .marks))) (besideKept m s)
 
   unfoldable pub listedKept : ℕ → ℕ → Noted Sheet → Told Kept → Out Beside
-  listedKept id turn m (told s strong made) = withLeads (s .leads) (obind (eachKept id turn m s) (λ k. wrote (record { mach = workMachine b B .start 0 (k .mach); entries = k .entries })))
+  listedKept id turn m (told s strong made) =
+      withLeads (s .leads) (obind (eachKept id turn m s) (λ k. wrote (record {
+        mach = workMachine b B .start 0 (k .mach);
+        entries = k .entries;
+      })))
   listedKept id turn m (halted c made) = stuck c
 
   unfoldable pub dumpedKept : Beside → ℕ → ℕ → Out Beside

@@ -30,4 +30,5 @@ recordLonger (suc n) len v r = putReached r len v
 -- the record after a list that was stopped by this number, 0 if by none, after so many accepted ids, where the text has len bytes and v
 -- visits are counted
 unfoldable pub recordListed : ℕ → ℕ → ℕ → ℕ → List ℕ → List ℕ
-recordListed number accepted len v r = elim (ltb number 12) [ true ↦ recordLonger accepted len v r | false ↦ putReached (putLong r 0 0) len v ]
+recordListed number accepted len v r =
+    elim (ltb number 12) [ true ↦ recordLonger accepted len v r | false ↦ putReached (putLong r 0 0) len v ]

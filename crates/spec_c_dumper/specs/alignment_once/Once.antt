@@ -9,7 +9,8 @@ use mathlib.Core.Logic.{_⊎_}
 use lib.ListN.{length}
 use lib.Dec.{ltb, leb, eqb}
 use Rattle.spec_c_dumper.specs.rules.Writer.{Ask, got, no, askThen, tooDeep}
-use Rattle.spec_c_dumper.specs.rules.Types.{Member, BtfType, Void, Int, Ptr, Array, Composite, Enum, Enum64, Fwd, Typedef, Mod, Func, Var, Datasec, FuncProto, Float, DeclTag, TypeTag, Btf}
+use Rattle.spec_c_dumper.specs.rules.Types.{Member, BtfType, Void, Int, Ptr, Array, Composite, Enum, Enum64, Fwd, Typedef, Mod, Func}
+use Rattle.spec_c_dumper.specs.rules.Types.{Var, Datasec, FuncProto, Float, DeclTag, TypeTag, Btf}
 use Rattle.spec_c_dumper.specs.rules.Layout.{larger, smaller, octets, getAlignOf}
 
 -- What is remembered of a type: its alignment, and how many calls of the plain way are open at once to find it. Without the height
@@ -29,7 +30,8 @@ pub record Keep (M : Type 0) : Type 0 where
 
 -- What is asked of it: an entry is kept, or all is as it was; and one that Fits is kept for each of n types, in a memory that is Good.
 pub record Lawful {M : Type 0} (K : Keep M) (n : ℕ) (Good : M → Type 0) (Fits : Seen → Type 0) : Type 0 where
-  pub kept : (id : ℕ) (s : Seen) (m : M) → (K .recall (K .remember id s m) id ≡ known s) ⊎ (K .recall (K .remember id s m) id ≡ K .recall m id)
+  pub kept : (id : ℕ) (s : Seen) (m : M)
+      → (K .recall (K .remember id s m) id ≡ known s) ⊎ (K .recall (K .remember id s m) id ≡ K .recall m id)
   pub other : (id : ℕ) (s : Seen) (m : M) (d : ℕ) → (d ≡ id → ⊥) → K .recall (K .remember id s m) d ≡ K .recall m d
   pub same : (id : ℕ) (s : Seen) (m : M) → Fits s → Good m → id < n → K .recall (K .remember id s m) id ≡ known s
   pub good : (id : ℕ) (s : Seen) (m : M) → Good m → Good (K .remember id s m)
@@ -119,7 +121,8 @@ module _ {M : Type 0} where
     -- alignments in a row, each with the calls that may be open for it, up to the first refusal
     unfoldable pub listOnce : Btf → List (ℕ × ℕ) → Asking M (List ℕ)
     listOnce B [] m k = found [] m k
-    listOnce B (a ∷ rest) m k = onceThen (alignmentOnce (a .0) B (a .1) m k) (λ x m′ k′. onceThen (listOnce B rest m′ k′) (λ l. found (x ∷ l)))
+    listOnce B (a ∷ rest) m k =
+        onceThen (alignmentOnce (a .0) B (a .1) m k) (λ x m′ k′. onceThen (listOnce B rest m′ k′) (λ l. found (x ∷ l)))
 
 -- the same questions, put to the plain way
 unfoldable pub listPlain : Btf → List (ℕ × ℕ) → Ask (List ℕ)

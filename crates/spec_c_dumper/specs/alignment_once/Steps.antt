@@ -35,7 +35,8 @@ module _ {M : Type 0} (K : Keep M) (B : Btf) where
   membersPackedOnce [] m k = found false m k
   membersPackedOnce (x ∷ xs) m k =
       elim (eqb (x .bit-size) 0) [
-        | true ↦ onceThen (alignmentOnce K 512 B (x .type-id) m k) (λ a. offAlignOnce a (x .bit-offset) (λ m′ k′. membersPackedOnce xs m′ k′))
+        | true ↦ onceThen (alignmentOnce K 512 B (x .type-id) m k)
+            (λ a. offAlignOnce a (x .bit-offset) (λ m′ k′. membersPackedOnce xs m′ k′))
         | false ↦ membersPackedOnce xs m k
       ]
 
@@ -44,7 +45,8 @@ module _ {M : Type 0} (K : Keep M) (B : Btf) where
   packedOnce is-struct id sz ms m k =
       elim is-struct [
         | false ↦ found false m k
-        | true ↦ onceThen (alignmentOnce K 512 B id m k) (λ a m′ k′. elim (eqb (sz % a) 0) [ true ↦ membersPackedOnce ms m′ k′ | false ↦ found true m′ k′ ])
+        | true ↦ onceThen (alignmentOnce K 512 B id m k)
+            (λ a m′ k′. elim (eqb (sz % a) 0) [ true ↦ membersPackedOnce ms m′ k′ | false ↦ found true m′ k′ ])
       ]
 
   unfoldable pub gapAlignOnce : Bool → ℕ → Asking M ℕ
@@ -54,7 +56,8 @@ module _ {M : Type 0} (K : Keep M) (B : Btf) where
   paddingOnce offset x packed m k =
       elim (leb (x .bit-offset) offset) [
         | true ↦ found [] m k
-        | false ↦ onceThen (gapAlignOnce packed (x .type-id) m k) (λ a. found (padsBefore (B .placing) (B .ptr-sz) offset (x .bit-size) (x .bit-offset - offset) a))
+        | false ↦ onceThen (gapAlignOnce packed (x .type-id) m k)
+            (λ a. found (padsBefore (B .placing) (B .ptr-sz) offset (x .bit-size) (x .bit-offset - offset) a))
       ]
 
   unfoldable pub unionAlignOnce : Bool → ℕ → Asking M ℕ
@@ -62,8 +65,10 @@ module _ {M : Type 0} (K : Keep M) (B : Btf) where
 
   unfoldable pub measuredOnce : Bool → ℕ → ℕ → List Member → Asking M Bool
   measuredOnce is-struct id sz ms m k =
-      onceThen (unionAlignOnce is-struct id m k) (λ a m₁ k₁. onceThen (packedOnce is-struct id sz ms m₁ k₁) (λ packed. plainly (judged B is-struct sz ms a packed)))
+      onceThen (unionAlignOnce is-struct id m k)
+      (λ a m₁ k₁. onceThen (packedOnce is-struct id sz ms m₁ k₁) (λ packed. plainly (judged B is-struct sz ms a packed)))
 
   -- what is known of a body before its first name or byte
   unfoldable pub bodyOnce : Bool → ℕ → ℕ → List Member → Asking M Bool
-  bodyOnce is-struct id sz ms m k = elim (B .placing) [ true ↦ measuredOnce is-struct id sz ms m k | false ↦ packedOnce is-struct id sz ms m k ]
+  bodyOnce is-struct id sz ms m k =
+      elim (B .placing) [ true ↦ measuredOnce is-struct id sz ms m k | false ↦ packedOnce is-struct id sz ms m k ]

@@ -7,11 +7,13 @@ use mathlib.Core.List.{List, [], _∷_, _++_}
 use lib.ListN.{length}
 use Rattle.spec_bytes.specs.text.Text.{ascii, pfx}
 use Rattle.spec_c_dumper.specs.rules.Writer.{Writer, _⨾_, put, stop, nothing, given, tooDeep}
-use Rattle.spec_c_dumper.specs.rules.Types.{Name, Member, BtfType, Void, Int, Ptr, Array, Composite, Enum, Enum64, Fwd, Typedef, Mod, Func, Var, Datasec, FuncProto, Float, DeclTag, TypeTag, Btf, tableOf}
+use Rattle.spec_c_dumper.specs.rules.Types.{Name, Member, BtfType, Void, Int, Ptr, Array, Composite, Enum, Enum64, Fwd, Typedef, Mod}
+use Rattle.spec_c_dumper.specs.rules.Types.{Func, Var, Datasec, FuncProto, Float, DeclTag, TypeTag, Btf, tableOf}
 use Rattle.spec_c_dumper.specs.rules.Layout.{Pad, endOf}
 use Rattle.spec_c_dumper.specs.rules.Placing.{tailPads}
 use Rattle.spec_c_dumper.specs.rules.Names.{identSpace, Resolved, Naming, resolveTypeName, builtin}
-use Rattle.spec_c_dumper.specs.rules.Decl.{Entry, deeper, emitDeclTags, chainOf, pads, tailText, bitSize, emitCompositeFwd, emitFwdDef, enumValue, enum64Value, emitEnumDef, chainLoop, compositeHead, compositeEnd}
+use Rattle.spec_c_dumper.specs.rules.Decl.{Entry, deeper, emitDeclTags, chainOf, pads, tailText, bitSize, emitCompositeFwd}
+use Rattle.spec_c_dumper.specs.rules.Decl.{emitFwdDef, enumValue, enum64Value, emitEnumDef, chainLoop, compositeHead, compositeEnd}
 use Rattle.spec_c_dumper.specs.rules.Emit.{lineEnd, shown}
 use Rattle.spec_c_dumper.specs.rules.Machine.{Machine, Sess, Answer, Req, one, all, single, every}
 use Rattle.spec_c_dumper.specs.needs.Lists.{Lines, Ls, listMachine}
@@ -47,7 +49,9 @@ module _ {St : Type 0} (Q : Asks St) (N : Naming St) (B : Btf) where
 
     unfoldable pub compositeBodyOnce : Bool → Name → ℕ → List Member → ℕ → Bool → Writer St
     compositeBodyOnce is-struct name sz ms lvl packed =
-        compositeHead N B decl id is-struct name ⨾ emitMembersOnce (tailPads (B .placing) (B .ptr-sz) is-struct sz) (deeper lvl) packed 0 0 ms ⨾ compositeEnd N B decl id lvl ms packed
+        compositeHead N B decl id is-struct name
+        ⨾ emitMembersOnce (tailPads (B .placing) (B .ptr-sz) is-struct sz) (deeper lvl) packed 0 0 ms
+        ⨾ compositeEnd N B decl id lvl ms packed
 
     unfoldable pub compositeDefOnce : Bool → Name → ℕ → List Member → ℕ → Writer St
     compositeDefOnce is-struct name sz ms lvl =
@@ -62,12 +66,14 @@ module _ {St : Type 0} (Q : Asks St) (N : Naming St) (B : Btf) where
     pub emitTypeChainOnce : ℕ → List Entry → Name → ℕ → Writer St
     emitTypeChainOnce zero c fname lvl = stop tooDeep
     emitTypeChainOnce (suc left) c fname lvl =
-        chainLoop N B (λ id n l. emitTypeDeclOnce left id n l) (λ d n l. emitTypeChainOnce left d n l) (λ id s n z ms l. emitCompositeDefOnce left id s n z ms l)
+        chainLoop N B (λ id n l. emitTypeDeclOnce left id n l) (λ d n l. emitTypeChainOnce left d n l)
+        (λ id s n z ms l. emitCompositeDefOnce left id s n z ms l)
         fname lvl (length c) true c
 
     pub emitCompositeDefOnce : ℕ → ℕ → Bool → Name → ℕ → List Member → ℕ → Writer St
     emitCompositeDefOnce zero id is-struct name sz ms lvl = stop tooDeep
-    emitCompositeDefOnce (suc left) id is-struct name sz ms lvl = compositeDefOnce (λ t n l. emitTypeDeclOnce left t n l) id is-struct name sz ms lvl
+    emitCompositeDefOnce (suc left) id is-struct name sz ms lvl =
+        compositeDefOnce (λ t n l. emitTypeDeclOnce left t n l) id is-struct name sz ms lvl
 
   unfoldable pub emitTypedefDefOnce : ℕ → Name → ℕ → Writer St
   emitTypedefDefOnce id name t =
@@ -134,7 +140,8 @@ module _ {St : Type 0} (Q : Asks St) (N : Naming St) (B : Btf) where
 
   unfoldable pub dumpedOnce : List (ℕ × ℕ) → List Req → Sess (Ls (Known St)) → Dump
   dumpedOnce ns [] S = dump ns (textOf (S .mach .pieces))
-  dumpedOnce ns (r ∷ rs) S = dumpedOnce (ns ++ ((answerOnce S r .number, answerOnce S r .sess .mach .known .text-len) ∷ [])) rs (answerOnce S r .sess)
+  dumpedOnce ns (r ∷ rs) S =
+      dumpedOnce (ns ++ ((answerOnce S r .number, answerOnce S r .sess .mach .known .text-len) ∷ [])) rs (answerOnce S r .sess)
 
 -- ---- names and memory side by side
 -- the names, what is remembered of alignments, and the visits that it took: "the counted visits .. are kept in the record"

@@ -1,11 +1,12 @@
 -- A ceiling on the calls of the ordering rule: the clauses of Order.antt, with the calls counted. A call that is opened counts; one that is
--- refused by 12 or by 22 does not. k: the calls made before, which the single requests of one call share. Without a ceiling none is counted,
--- and what is left is the rule of Order.antt (proofs/ceiling/Plain).
+-- refused by 12 or by 22 does not. k: the calls made before, which the single requests of one call share. Without a ceiling none is
+-- counted, and what is left is the rule of Order.antt (proofs/ceiling/Plain).
 use Prim.Native.Nat.{ℕ, zero, suc, _+_, _-_}
 use mathlib.Core.Bool.{Bool, true, false, not, _&&_, _||_}
 use mathlib.Core.List.{List, [], _∷_}
 use lib.Dec.{ltb}
-use Rattle.spec_c_dumper.specs.rules.Order.{Node, ignored, plain, listed, through, ptr, tdef, proto, comp, Table, isComp, Mark, new, busy, done, isDone, Store, Res, ok, refused, finish, order}
+use Rattle.spec_c_dumper.specs.rules.Order.{Node, ignored, plain, listed, through, ptr, tdef, proto, comp, Table, isComp, Mark, new}
+use Rattle.spec_c_dumper.specs.rules.Order.{busy, done, isDone, Store, Res, ok, refused, finish, order}
 use Rattle.spec_c_dumper.specs.rules.Machine.{Machine, eeach, emit, Sess, Answer, shut, emitted, single, onward}
 
 -- what ordering comes to, and the calls made by then; "the answer reports the calls made", that of a refused request too
@@ -83,7 +84,10 @@ module _ {St : Type 0} (K : Store St) where
   unfoldable pub orderWithin : Limit → ℕ → Table → St → ℕ → Bool → ℕ → Told St
   orderWithin c zero T s x weak k = halted 12 k
   orderWithin c (suc n) T s x weak k =
-      elim (allows c k) [ true ↦ visitWithin T (λ s′ y w k′. orderWithin c n T s′ y w k′) s x weak (K .get s x) (oneCall c k) | false ↦ halted 22 k ]
+      elim (allows c k) [
+        | true ↦ visitWithin T (λ s′ y w k′. orderWithin c n T s′ y w k′) s x weak (K .get s x) (oneCall c k)
+        | false ↦ halted 22 k
+      ]
 
   -- ---- the calls that the plain rule opens
   unfoldable pub callsEnter : Bool → (St → ℕ → Res St) → (St → ℕ → ℕ) → St → ℕ → List ℕ → ℕ

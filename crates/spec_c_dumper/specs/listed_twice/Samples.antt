@@ -13,7 +13,9 @@ use Rattle.spec_c_dumper.specs.listed_twice.Twice.{orderTwice, dumpTypes
 
 -- 1 int; 2 typedef of 3; 3 a prototype, result 1, parameter 4; 4 a struct with one member of type 5; 5 a pointer to 2
 abbrev pub typedefTwice : Btf
-typedefTwice = table (Void ∷ Int (ascii "int") 32 ∷ Typedef (ascii "f") 3 ∷ FuncProto 1 (record { name = ascii "a"; type-id = 4 } ∷ []) ∷ Composite true (ascii "s") 8 (member "p" 5 0 ∷ []) ∷ Ptr 2 ∷ [])
+typedefTwice =
+    table (Void ∷ Int (ascii "int") 32 ∷ Typedef (ascii "f") 3 ∷ FuncProto 1 (record { name = ascii "a"; type-id = 4 } ∷ [])
+    ∷ Composite true (ascii "s") 8 (member "p" 5 0 ∷ []) ∷ Ptr 2 ∷ [])
 
 abbrev pub listOf : Res Lists → List ℕ
 listOf (ok s b) = s .order-list
@@ -32,6 +34,7 @@ listedOnce = listOf (order lists 512 (tableOf typedefTwice) unmarked 2 false)
 -- and what is printed for it
 abbrev pub printedTwice : List Sample
 printedTwice =
-    gives (printed (dumpTypesTwice typedefTwice (one 65536 2 ∷ []))) "struct s;\n\ntypedef int f(struct s a);\n\nstruct s {\n\tf *p;\n};\n\n"
+    gives (printed (dumpTypesTwice typedefTwice (one 65536 2 ∷ [])))
+    "struct s;\n\ntypedef int f(struct s a);\n\nstruct s {\n\tf *p;\n};\n\n"
     ∷ gives (printed (dumpTypes typedefTwice (one 65536 2 ∷ []))) "struct s;\n\ntypedef int f(struct s a);\n\nstruct s {\n\tf *p;\n};\n\n"
     ∷ []

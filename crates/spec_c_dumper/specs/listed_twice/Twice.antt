@@ -5,7 +5,8 @@ use Prim.Native.Nat.{ℕ, zero, suc, _-_}
 use mathlib.Core.Bool.{Bool, true, false, not, _&&_, _||_}
 use mathlib.Core.List.{List, [], _∷_, _++_}
 use lib.Dec.{ltb}
-use Rattle.spec_c_dumper.specs.rules.Order.{Node, ignored, plain, listed, through, ptr, tdef, proto, comp, Table, isComp, Mark, new, busy, done, Store, Res, ok, refused, bind, each, meet, finish, enter}
+use Rattle.spec_c_dumper.specs.rules.Order.{Node, ignored, plain, listed, through, ptr, tdef, proto, comp, Table, isComp, Mark, new}
+use Rattle.spec_c_dumper.specs.rules.Order.{busy, done, Store, Res, ok, refused, bind, each, meet, finish, enter}
 use Rattle.spec_c_dumper.specs.rules.Machine.{Machine, Sess, Answer, Req, one, all, ordered, onward}
 use Rattle.spec_c_dumper.specs.rules.Types.{Btf, tableOf}
 use Rattle.spec_c_dumper.specs.rules.Names.{Naming, naming}
@@ -69,7 +70,8 @@ module _ {U : Type 0} (N : Naming U) (B : Btf) where
 
   unfoldable pub dumpedTwice : List (ℕ × ℕ) → List Req → Sess (Ls (Known U)) → Dump
   dumpedTwice ns [] S = dump ns (textOf (S .mach .pieces))
-  dumpedTwice ns (r ∷ rs) S = dumpedTwice (ns ++ ((answerTwice S r .number, answerTwice S r .sess .mach .known .text-len) ∷ [])) rs (answerTwice S r .sess)
+  dumpedTwice ns (r ∷ rs) S =
+      dumpedTwice (ns ++ ((answerTwice S r .number, answerTwice S r .sess .mach .known .text-len) ∷ [])) rs (answerTwice S r .sess)
 
 -- the number and the text's length of each request, and the text after the last
 abbrev pub dumpTypesTwice : Btf → List Req → Dump

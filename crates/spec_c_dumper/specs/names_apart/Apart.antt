@@ -5,7 +5,27 @@ use mathlib.Core.List.{List, [], _∷_, _++_, List·Memᴰ}
 use lib.ListN.{length}
 use Rattle.spec_c_dumper.specs.rules.Types.{Void, Btf}
 use Rattle.spec_c_dumper.specs.rules.Names.{Space}
-unfoldable pub use Rattle.spec_c_dumper.specs.names_apart.Naming.{tagsIn, valueNames, identsIn, namesIn, namesTo, tableNames, spellingsIn, among, taken, passing, numberFor, shown, typeApart, valueApart, apart, noneShown, dumpApart, afterAll, namesAfter}
+unfoldable pub use Rattle.spec_c_dumper.specs.names_apart.Naming.{
+  tagsIn,
+  valueNames,
+  identsIn,
+  namesIn,
+  namesTo,
+  tableNames,
+  spellingsIn,
+  among,
+  taken,
+  passing,
+  numberFor,
+  shown,
+  typeApart,
+  valueApart,
+  apart,
+  noneShown,
+  dumpApart,
+  afterAll,
+  namesAfter,
+}
 pub use Rattle.spec_c_dumper.specs.names_apart.Naming.{Who, ofType, ofValue, Shown, Apart}
 
 -- both are the name of one and the same type
@@ -18,8 +38,8 @@ pub record OneType (a b : Shown) : Type 0 where
 abbrev pub Alone : Shown → List Shown → Type 0
 Alone a before = (b : Shown) → List·Memᴰ b before → b .space ≡ a .space → b .spelling ≡ a .spelling → OneType b a
 
--- "No two types of a space, no two printed enumerators and no typedef and enumerator then share a spelling": enumerators that were printed twice
--- count as two
+-- "No two types of a space, no two printed enumerators and no typedef and enumerator then share a spelling": enumerators that were printed
+-- twice count as two
 abbrev pub AllApart : List Shown → Type 0
 AllApart [] = Unit {0}
 AllApart (a ∷ l) = Alone a l × AllApart l

@@ -1,5 +1,5 @@
--- "A naming mode in which a suffix that yields a name in the table's same space, or one printed before in it, is passed over and the next number
--- taken." The writers of rules/specs are over any way of keeping names; this is one more, beside that of the Rust
+-- "A naming mode in which a suffix that yields a name in the table's same space, or one printed before in it, is passed over and the next
+-- number taken." The writers of rules/specs are over any way of keeping names; this is one more, beside that of the Rust
 -- (crates/spec_c_dumper/specs/rules/Names: naming).
 use Prim.Native.Nat.{ℕ, zero, suc, _+_}
 use mathlib.Core.Bool.{Bool, true, false}
@@ -8,8 +8,10 @@ use lib.ListN.{length, getD, set}
 use lib.Dec.{eqb}
 use Rattle.spec_bytes.specs.words.Words.{oneMore}
 use Rattle.spec_c_dumper.specs.rules.Machine.{Sess, Req, run}
-use Rattle.spec_c_dumper.specs.rules.Types.{Name, Enumerator, BtfType, Void, Int, Ptr, Array, Composite, Enum, Enum64, Fwd, Typedef, Mod, Func, Var, Datasec, FuncProto, Float, DeclTag, TypeTag, Btf, tableOf}
-use Rattle.spec_c_dumper.specs.rules.Names.{Space, tagSpace, identSpace, Resolved, Naming, Names, spelled, sameSpace, sameBytes, holders, counted}
+use Rattle.spec_c_dumper.specs.rules.Types.{Name, Enumerator, BtfType, Void, Int, Ptr, Array, Composite, Enum, Enum64, Fwd, Typedef}
+use Rattle.spec_c_dumper.specs.rules.Types.{Mod, Func, Var, Datasec, FuncProto, Float, DeclTag, TypeTag, Btf, tableOf}
+use Rattle.spec_c_dumper.specs.rules.Names.{Space, tagSpace, identSpace, Resolved, Naming, Names, spelled, sameSpace, sameBytes}
+use Rattle.spec_c_dumper.specs.rules.Names.{holders, counted}
 use Rattle.spec_c_dumper.specs.needs.Lists.{Ls}
 use Rattle.spec_c_dumper.specs.needs.Session.{Known, Dump, machineBy, openedBy, dumped, noNames}
 
@@ -113,7 +115,8 @@ unfoldable pub numberFor : Btf → Space → Name → Apart → ℕ
 numberFor B space name u =
     elim (eqb (holders (u .names .ledger) space name) 0) [
       | true ↦ 1
-      | false ↦ passing (λ n. among (spelled name n) (taken B space u)) (length (taken B space u)) (oneMore (holders (u .names .ledger) space name))
+      | false ↦ passing (λ n. among (spelled name n) (taken B space u)) (length (taken B space u))
+          (oneMore (holders (u .names .ledger) space name))
     ]
 
 abbrev pub shown : Space → Who → Name → ℕ → Apart → List Shown
@@ -130,7 +133,8 @@ typeApart B space id name u =
       | true ↦ record {
         version = numberFor B space name u;
         names = record {
-          names = record { versions = set (u .names .versions) id (numberFor B space name u); ledger = counted (u .names .ledger) space name };
+          names =
+              record { versions = set (u .names .versions) id (numberFor B space name u); ledger = counted (u .names .ledger) space name };
           printed = shown space (ofType id) name (numberFor B space name u) u;
         };
       }

@@ -15,7 +15,9 @@ twice = table (Void ∷ Composite true (ascii "x") 0 [] ∷ Composite true (asci
 
 -- the same of typedefs, and one more x
 abbrev pub aliases : Btf
-aliases = table (Void ∷ Int (ascii "int") 32 ∷ Typedef (ascii "x") 1 ∷ Typedef (ascii "x") 1 ∷ Typedef (ascii "x___2") 1 ∷ Typedef (ascii "x") 1 ∷ [])
+aliases =
+    table (Void ∷ Int (ascii "int") 32 ∷ Typedef (ascii "x") 1 ∷ Typedef (ascii "x") 1 ∷ Typedef (ascii "x___2") 1
+    ∷ Typedef (ascii "x") 1 ∷ [])
 
 -- a typedef x and enumerators x, x___2, x; tags are apart from them
 abbrev pub values : Btf
@@ -23,7 +25,8 @@ values = table (
     Void
     ∷ Int (ascii "int") 32
     ∷ Typedef (ascii "x") 1
-    ∷ Enum false (ascii "x___2") 4 (record { name = ascii "x"; value = 0 } ∷ record { name = ascii "x___2"; value = 1 } ∷ record { name = ascii "x"; value = 2 } ∷ [])
+    ∷ Enum false (ascii "x___2") 4 (record { name = ascii "x"; value = 0 } ∷ record { name = ascii "x___2"; value = 1 }
+    ∷ record { name = ascii "x"; value = 2 } ∷ [])
     ∷ [])
 
 abbrev pub programApart : Btf → List ℕ

@@ -1,5 +1,5 @@
--- What the pieces of a session are: "the piece with a named composite's body carries that composite's id and defines it; forward lines, mentions and inline
--- nameless bodies define nothing."
+-- What the pieces of a session are: "the piece with a named composite's body carries that composite's id and defines it; forward lines,
+-- mentions and inline nameless bodies define nothing."
 use Prim.Native.Nat.{ℕ}
 use mathlib.Core.Path.{_≡_}
 use mathlib.Core.Bool.{Bool, true, false}
@@ -37,7 +37,8 @@ pub record Opens (word : List ℕ) (name : Name) (t : List ℕ) : Type 0 where
   pub is : t ≡ word ++ ascii " " ++ spelled name number ++ ascii " {" ++ rest
 
 module _ {U : Type 0} (N : Naming U) (B : Btf) where
-  -- x is a composite, and t is its definition at the top; it opens with its keyword and its name, if it has one, unless that is the builtin one
+  -- x is a composite, and t is its definition at the top; it opens with its keyword and its name, if it has one, unless that is the builtin
+  -- one
   pub record Body (x : ℕ) (t : List ℕ) : Type 0 where
     pub is-struct : Bool
     pub name : Name

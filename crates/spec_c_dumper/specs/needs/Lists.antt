@@ -39,25 +39,67 @@ pub record Ls (U : Type 0) : Type 0 where
 
 module _ {U : Type 0} where
   abbrev pub putLine : (List ℕ → Piece) → Ls U → Line U → Out (Ls U)
-  putLine mk s (says u t) = wrote (record { marks = s .marks; olist = s .olist; emits = s .emits; fwds = s .fwds; room = s .room; known = u; pieces = s .pieces ++ (mk t ∷ []) })
+  putLine mk s (says u t) =
+      wrote (record {
+        marks = s .marks;
+        olist = s .olist;
+        emits = s .emits;
+        fwds = s .fwds;
+        room = s .room;
+        known = u;
+        pieces = s .pieces ++ (mk t ∷ []);
+      })
   putLine mk s (cannot e) = stuck e
 
   abbrev pub listStore : Store (Ls U)
   listStore = record {
     get = λ s x. getD (s .marks) x new;
-    mark = λ m x s. record { marks = set (s .marks) x m; olist = s .olist; emits = s .emits; fwds = s .fwds; room = s .room; known = s .known; pieces = s .pieces };
-    push = λ x s. record { marks = s .marks; olist = s .olist ++ (x ∷ []); emits = s .emits; fwds = s .fwds; room = s .room; known = s .known; pieces = s .pieces };
+    mark = λ m x s. record {
+      marks = set (s .marks) x m;
+      olist = s .olist;
+      emits = s .emits;
+      fwds = s .fwds;
+      room = s .room;
+      known = s .known;
+      pieces = s .pieces;
+    };
+    push = λ x s. record {
+      marks = s .marks;
+      olist = s .olist ++ (x ∷ []);
+      emits = s .emits;
+      fwds = s .fwds;
+      room = s .room;
+      known = s .known;
+      pieces = s .pieces;
+    };
     list = λ s. s .olist;
   }
 
   abbrev pub listMachine : Lines U → Machine (Ls U)
   listMachine L = record {
     store = listStore;
-    start = λ r s. record { marks = s .marks; olist = []; emits = s .emits; fwds = s .fwds; room = r; known = s .known; pieces = s .pieces };
+    start =
+        λ r s. record { marks = s .marks; olist = []; emits = s .emits; fwds = s .fwds; room = r; known = s .known; pieces = s .pieces };
     eget = λ s x. getD (s .emits) x new;
-    emark = λ m x s. record { marks = s .marks; olist = s .olist; emits = set (s .emits) x m; fwds = s .fwds; room = s .room; known = s .known; pieces = s .pieces };
+    emark = λ m x s. record {
+      marks = s .marks;
+      olist = s .olist;
+      emits = set (s .emits) x m;
+      fwds = s .fwds;
+      room = s .room;
+      known = s .known;
+      pieces = s .pieces;
+    };
     hasFwd = λ s x. getD (s .fwds) x false;
-    forwarded = λ x s. record { marks = s .marks; olist = s .olist; emits = s .emits; fwds = set (s .fwds) x true; room = s .room; known = s .known; pieces = s .pieces };
+    forwarded = λ x s. record {
+      marks = s .marks;
+      olist = s .olist;
+      emits = s .emits;
+      fwds = set (s .fwds) x true;
+      room = s .room;
+      known = s .known;
+      pieces = s .pieces;
+    };
     fwdLine = λ s x. putLine other s (L .fwd (s .room) (s .known) x);
     aliasLine = λ s x. putLine other s (L .alias′ (s .room) (s .known) x);
     leafLine = λ s x. putLine other s (L .leaf′ (s .room) (s .known) x);
@@ -67,4 +109,5 @@ module _ {U : Type 0} where
 
   -- n types: nothing marked, nothing written
   unfoldable pub afresh : ℕ → U → Ls U
-  afresh n u = record { marks = replicate n new; olist = []; emits = replicate n new; fwds = replicate n false; room = 0; known = u; pieces = [] }
+  afresh n u =
+      record { marks = replicate n new; olist = []; emits = replicate n new; fwds = replicate n false; room = 0; known = u; pieces = [] }

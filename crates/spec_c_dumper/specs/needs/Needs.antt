@@ -51,10 +51,12 @@ isProto (tdef t) = false
 isProto (proto ts) = true
 isProto (comp ts) = false
 
--- A way from x, past all that is no composite, to the first composite d. It starts weak or not (w), and arrives so (v); f says what passing a type does.
+-- A way from x, past all that is no composite, to the first composite d. It starts weak or not (w), and arrives so (v); f says what passing
+-- a type does.
 pub data Way (f : Node → Bool → Bool) (T : Table) : ℕ → Bool → ℕ → Bool → Type 0 where
   here : {x d : ℕ} {w v : Bool} → isComp (T .node x) ≡ true → x ≡ d → w ≡ v → Way f T x w d v
-  past : {x y d : ℕ} {w v : Bool} → isComp (T .node x) ≡ false → List·Memᴰ y (kids (T .node x)) → Way f T y (f (T .node x) w) d v → Way f T x w d v
+  past : {x y d : ℕ} {w v : Bool} → isComp (T .node x) ≡ false → List·Memᴰ y (kids (T .node x)) → Way f T y (f (T .node x) w) d v
+      → Way f T x w d v
 
 -- c needs d: a member leads to d, which is nameless, or no pointer lies on the way (with strong arrays: none after the last array)
 pub record Needs (T : Table) (c d : ℕ) : Type 0 where
@@ -90,7 +92,8 @@ pub record MeetsTwice (T : Table) (c : ℕ) : Type 0 where
 -- x is a prototype, through typedefs, qualifiers, type tags, arrays
 pub data ProtoVia (T : Table) : ℕ → Type 0 where
   it : {x : ℕ} → isProto (T .node x) ≡ true → ProtoVia T x
-  on : {x y : ℕ} → isComp (T .node x) ≡ false → weaken T (T .node x) false ≡ false → List·Memᴰ y (kids (T .node x)) → ProtoVia T y → ProtoVia T x
+  on : {x y : ℕ} → isComp (T .node x) ≡ false → weaken T (T .node x) false ≡ false → List·Memᴰ y (kids (T .node x)) → ProtoVia T y
+      → ProtoVia T x
 
 pub record WF (T : Table) : Type 0 where
   pub void : T .node 0 ≡ plain

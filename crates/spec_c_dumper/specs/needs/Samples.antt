@@ -1,4 +1,5 @@
--- Samples of document 01 as whole programs: each section beside what the program prints of it. That they are equal is `programs-hold` of proofs/Samples.
+-- Samples of document 01 as whole programs: each section beside what the program prints of it. That they are equal is `programs-hold` of
+-- proofs/Samples.
 use mathlib.Core.List.{List, [], _∷_}
 use Rattle.spec_c_dumper.specs.rules.Samples.{Sample, gives, threeOfX, node, itself, behindArray}
 use Rattle.spec_c_dumper.specs.rules.Listed.{withStrongArrays}

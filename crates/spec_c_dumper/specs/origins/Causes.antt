@@ -6,7 +6,8 @@ use mathlib.Core.Bool.{Bool, true, false, not}
 use mathlib.Core.List.{List, [], _∷_, _++_}
 use lib.ListN.{length, replicate}
 use lib.Dec.{ltb, eqb}
-use Rattle.spec_c_dumper.specs.rules.Order.{Node, ignored, plain, listed, through, ptr, tdef, proto, comp, Table, Store, Res, ok, refused, visit}
+use Rattle.spec_c_dumper.specs.rules.Order.{Node, ignored, plain, listed, through, ptr, tdef, proto, comp, Table, Store, Res, ok}
+use Rattle.spec_c_dumper.specs.rules.Order.{refused, visit}
 use Rattle.spec_c_dumper.specs.rules.Machine.{Out, wrote, stuck, Machine, eeach, look, Sess, Answer, shut}
 use Rattle.spec_c_dumper.specs.rules.Types.{Btf, nameOf}
 use Rattle.spec_c_dumper.specs.rules.Names.{builtin}
@@ -60,7 +61,8 @@ module _ {St : Type 0} (K : Store St) (req : ℕ) where
   -- the rule `order`: each call with what is being ordered around it
   unfoldable pub orderLed : ℕ → Table → List ℕ → Led St → ℕ → Bool → Res (Led St)
   orderLed zero T around s x weak = refused 12
-  orderLed (suc n) T around s x weak = visit (ledStore around) T (λ s′ y w. orderLed n T (inside (isAround (T .node x)) x around) s′ y w) s x weak (K .get (s .state) x)
+  orderLed (suc n) T around s x weak =
+      visit (ledStore around) T (λ s′ y w. orderLed n T (inside (isAround (T .node x)) x around) s′ y w) s x weak (K .get (s .state) x)
 
 -- "led to by [..] at its first listing"
 unfoldable pub leaderOf : ℕ → List (ℕ × ℕ) → ℕ → ℕ
@@ -89,11 +91,12 @@ upTo c k = ltb k c
 abbrev pub always : ℕ → Bool
 always k = true
 
--- what a line comes to that is an entry, or prints nothing and is none. "A lent list too short for one more entry is 17, met before any other
--- step of that line."
+-- what a line comes to that is an entry, or prints nothing and is none. "A lent list too short for one more entry is 17, met before any
+-- other step of that line."
 unfoldable pub line : {M : Type 0} → (ℕ → Bool) → Bool → Entry → (M → Out M) → Noted M → Out (Noted M)
 line more false e step s = withEntries (s .entries) (step (s .mach))
-line more true e step s = elim (more (length (s .entries))) [ true ↦ withEntries (s .entries ++ (e ∷ [])) (step (s .mach)) | false ↦ stuck 17 ]
+line more true e step s =
+    elim (more (length (s .entries))) [ true ↦ withEntries (s .entries ++ (e ∷ [])) (step (s .mach)) | false ↦ stuck 17 ]
 
 -- At the top a line is there because its id is listed. Within a container, "led to by the container id at that step": a FWD is printed as a
 -- forward line (2), a typedef early (3).
@@ -101,7 +104,8 @@ unfoldable pub causeAt : ℕ → Entry → ℕ → ℕ → Entry
 causeAt within top x zero = top
 causeAt within top x (suc cont) = entry x within (suc cont)
 
--- more: whether there is room for one more entry; shows: whether the forward line or typedef line of an id prints anything; why: the entry of a listed id
+-- more: whether there is room for one more entry; shows: whether the forward line or typedef line of an id prints anything; why: the entry
+-- of a listed id
 module _ {M : Type 0} (X : Machine M) (more : ℕ → Bool) (shows : ℕ → Bool) (why : ℕ → Entry) where
   -- the machine's steps within a container, 0 at the top; "a definition is one" line, also where it is only `;`
   abbrev pub noting : ℕ → Machine (Noted M)
@@ -164,14 +168,18 @@ module _ {M : Type 0} (X : Machine M) (T : Table) (more : ℕ → Bool) (shows :
   eachListed why = eeach (λ m y. emitNoted X more shows why T 512 m y 0)
 
   unfoldable pub orderedNoted : Told M → ℕ → Res (Led M) → Told M
-  orderedNoted t x (ok s b) = emittedNoted t x (eachListed (listedEntry x (s .led)) (X .store .list (s .state)) (record { mach = s .state; entries = t .entries }))
+  orderedNoted t x (ok s b) =
+      emittedNoted t x (eachListed (listedEntry x (s .led)) (X .store .list (s .state)) (record { mach = s .state; entries = t .entries }))
   orderedNoted t x (refused e) = dropped t e
 
   -- as `gate`; 11 and 10 leave everything
   unfoldable pub gateNoted : ℕ → Told M → ℕ → Bool → Bool → Told M
-  gateNoted room t x false below = record { answer = record { sess = t .answer .sess; number = 11 }; entries = t .entries; zeroed = t .zeroed }
-  gateNoted room t x true false = record { answer = record { sess = t .answer .sess; number = 10 }; entries = t .entries; zeroed = t .zeroed }
-  gateNoted room t x true true = orderedNoted t x (orderLed (X .store) x 512 T [] (record { state = X .start room (t .answer .sess .mach); led = [] }) x false)
+  gateNoted room t x false below =
+      record { answer = record { sess = t .answer .sess; number = 11 }; entries = t .entries; zeroed = t .zeroed }
+  gateNoted room t x true false =
+      record { answer = record { sess = t .answer .sess; number = 10 }; entries = t .entries; zeroed = t .zeroed }
+  gateNoted room t x true true =
+      orderedNoted t x (orderLed (X .store) x 512 T [] (record { state = X .start room (t .answer .sess .mach); led = [] }) x false)
 
   -- a request for x; room: the text's, as in `single`
   unfoldable pub singleNoted : ℕ → ℕ → Told M → Told M
@@ -192,7 +200,8 @@ module _ {M : Type 0} (X : Machine M) (T : Table) (more : ℕ → Bool) (shows :
   -- a request for all ids zeroes what follows the text also over no types
   unfoldable pub everyNoted : ℕ → Sess M → Bool → Told M
   everyNoted room S false = record { answer = record { sess = S; number = 11 }; entries = []; zeroed = false }
-  everyNoted room S true = fromNoted room (T .count - 1) 1 (record { answer = record { sess = S; number = 0 }; entries = []; zeroed = true })
+  everyNoted room S true =
+      fromNoted room (T .count - 1) 1 (record { answer = record { sess = S; number = 0 }; entries = []; zeroed = true })
 
 -- ---- the lent list, as bytes
 
@@ -216,7 +225,11 @@ pub record Causes (M : Type 0) : Type 0 where
   pub list : List ℕ
 
 unfoldable pub causesOf : {M : Type 0} → List ℕ → Told M → Causes M
-causesOf l t = record { answer = t .answer; count = length (t .entries); list = elim (t .zeroed) [ true ↦ filled (length l) (t .entries) | false ↦ l ] }
+causesOf l t = record {
+  answer = t .answer;
+  count = length (t .entries);
+  list = elim (t .zeroed) [ true ↦ filled (length l) (t .entries) | false ↦ l ];
+}
 
 -- how many entries a lent list has room for
 abbrev pub entriesIn : List ℕ → ℕ

@@ -33,7 +33,8 @@ isListed (tdef t) = true
 isListed (proto ts) = false
 isListed (comp ts) = true
 
--- A listed id and what led to it, in a request for req: past neither a composite nor a typedef; the requested id, or another composite or typedef.
+-- A listed id and what led to it, in a request for req: past neither a composite nor a typedef; the requested id, or another composite or
+-- typedef.
 pub record LedTo (T : Table) (req id leader : ℕ) : Type 0 where
   pub is-listed : isListed (T .node id) ≡ true
   pub leads : Leads T (ordersAround T) leader id
@@ -52,8 +53,8 @@ pub record Numbered {M : Type 0} (X : Machine M) : Type 0 where
   pub leaf-no : (m : M) (x : ℕ) → X .leafLine m x ≡ stuck 0 → ⊥
   pub body-no : (m : M) (x : ℕ) → X .body m x ≡ stuck 0 → ⊥
 
--- What emission comes to, with k entries before it: with room for all, what the plain rule comes to. In a list of c entries it is the same if the
--- lines that are begun fit, and else 17. Z: that no line is refused by the number 0.
+-- What emission comes to, with k entries before it: with room for all, what the plain rule comes to. In a list of c entries it is the same
+-- if the lines that are begun fit, and else 17. Z: that no line is refused by the number 0.
 pub record Lined {M : Type 0} (Z : Type 0) (k : ℕ) (F : (ℕ → Bool) → Out (Noted M)) (plainly : Out M) : Type 0 where
   pub same : forget (F always) ≡ plainly
   pub need : ℕ
@@ -63,8 +64,8 @@ pub record Lined {M : Type 0} (Z : Type 0) (k : ℕ) (F : (ℕ → Bool) → Out
   pub counts : (s : Noted M) → F always ≡ wrote s → length (s .entries) ≡ need
   pub numbered : Z → F always ≡ stuck 0 → ⊥
 
--- The same of the requests of a call: without the entries its answer is that of the plain requests, unless the list is too short, which is 17.
--- need: the entries of the accepted requests, and of the lines that a refused one began.
+-- The same of the requests of a call: without the entries its answer is that of the plain requests, unless the list is too short, which is
+-- 17. need: the entries of the accepted requests, and of the lines that a refused one began.
 pub record Fits {M : Type 0} (k : ℕ) (F : (ℕ → Bool) → Told M) (plainly : Answer M) : Type 0 where
   pub same : F always .answer ≡ plainly
   pub need : ℕ
@@ -84,8 +85,8 @@ pub record Listed (n : ℕ) (es : List Entry) (list : List ℕ) : Type 0 where
   pub is : list ≡ bytesOf es ++ replicate (n - 12 * length es) 0
   pub size : length list ≡ n
 
--- A call that is lent a list l long enough. t: what it comes to with room for all entries, which does not depend on l: a longer list changes
--- nothing but its rest.
+-- A call that is lent a list l long enough. t: what it comes to with room for all entries, which does not depend on l: a longer list
+-- changes nothing but its rest.
 pub record Lent {M : Type 0} (l : List ℕ) (t : Told M) (plainly : Answer M) (c : Causes M) : Type 0 where
   pub answer : c .answer ≡ plainly
   pub count : c .count ≡ length (t .entries)

@@ -1,4 +1,5 @@
--- "One entry a line, in the text's order", "exactly those of the ordering and emission rules": statements only. The proofs are in proofs/Lines.
+-- "One entry a line, in the text's order", "exactly those of the ordering and emission rules": statements only. The proofs are in
+-- proofs/Lines.
 use Prim.Native.Nat.{ℕ}
 use mathlib.Core.Path.{_≡_}
 use mathlib.Core.Bool.{Bool, true, false, not, _&&_}
@@ -6,7 +7,8 @@ use mathlib.Core.List.{List, [], _∷_, _++_, List·Memᴰ}
 use mathlib.Core.Logic.{_≢_}
 use lib.Dec.{eqb}
 use Rattle.spec_bytes.specs.text.Text.{ascii, whole}
-use Rattle.spec_c_dumper.specs.rules.Order.{Node, ignored, plain, listed, through, ptr, tdef, proto, comp, Table, isComp, Res, ok, refused}
+use Rattle.spec_c_dumper.specs.rules.Order.{Node, ignored, plain, listed, through, ptr, tdef, proto, comp, Table, isComp, Res, ok}
+use Rattle.spec_c_dumper.specs.rules.Order.{refused}
 use Rattle.spec_c_dumper.specs.rules.Machine.{Sess, Answer, single}
 use Rattle.spec_c_dumper.specs.rules.Writer.{said, Writer}
 use Rattle.spec_c_dumper.specs.rules.Types.{Btf, nodeOf, tableOf}
@@ -46,7 +48,10 @@ isForward (comp ts) cause = eqb cause 2
 
 module _ {U : Type 0} (N : Naming U) (B : Btf) where
   abbrev pub writerOf : Entry → Writer U
-  writerOf e = elim (isForward (nodeOf (B .type-by-id (e .id))) (e .cause)) [ true ↦ forward N B (e .id) (B .type-by-id (e .id)) | false ↦ definition N B (e .id) (B .type-by-id (e .id)) ]
+  writerOf e = elim (isForward (nodeOf (B .type-by-id (e .id))) (e .cause)) [
+    | true ↦ forward N B (e .id) (B .type-by-id (e .id))
+    | false ↦ definition N B (e .id) (B .type-by-id (e .id))
+  ]
 
   -- t is what the line of the entry prints, with the names at that step, u; it ends as a line does. v: the names after it
   pub record Says (u : U) (e : Entry) (t : List ℕ) (v : U) : Type 0 where
@@ -57,10 +62,12 @@ module _ {U : Type 0} (N : Naming U) (B : Btf) where
   abbrev pub pieceOf : Entry → List ℕ → Piece
   pieceOf e t = elim (isComp (nodeOf (B .type-by-id (e .id))) && not (eqb (e .cause) 2)) [ true ↦ defines (e .id) t | false ↦ other t ]
 
-  -- Entries and pieces, one to one, in their order; a piece that prints nothing has no entry. Each line has the names that the one before it left.
+  -- Entries and pieces, one to one, in their order; a piece that prints nothing has no entry. Each line has the names that the one before
+  -- it left.
   pub data Pairs (Why : Entry → Type 0) : U → List Entry → List Piece → U → Type 0 where
     none : (u : U) → Pairs Why u [] [] u
-    more : (u v w : U) (e : Entry) (t : List ℕ) (es : List Entry) (ps : List Piece) → Why e → Says u e t v → Pairs Why v es ps w → Pairs Why u (e ∷ es) (pieceOf e t ∷ ps) w
+    more : (u v w : U) (e : Entry) (t : List ℕ) (es : List Entry) (ps : List Piece) → Why e → Says u e t v → Pairs Why v es ps w
+        → Pairs Why u (e ∷ es) (pieceOf e t ∷ ps) w
     blank : (u w : U) (es : List Entry) (ps : List Piece) → Pairs Why u es ps w → Pairs Why u es (other [] ∷ ps) w
 
   -- what a part of a request adds to the entries and to the pieces; u, v: the names before and after it
@@ -114,7 +121,8 @@ pub data Caused (T : Table) (req : ℕ) (led : List (ℕ × ℕ)) : Entry → Ty
   requested : List·Memᴰ req (notedIds led) → Caused T req led (entry req 0 req)
   needed : (x l : ℕ) → x ≢ req → First x l led → LedTo T req x l → Caused T req led (entry x 1 l)
   forwarded : (x cont : ℕ) → Inside T (λ y. List·Memᴰ y (notedIds led)) cont x → Caused T req led (entry x 2 cont)
-  early : (x cont : ℕ) → isTypedef (T .node x) ≡ true → Inside T (λ y. List·Memᴰ y (notedIds led)) cont x → Caused T req led (entry x 3 cont)
+  early : (x cont : ℕ) → isTypedef (T .node x) ≡ true → Inside T (λ y. List·Memᴰ y (notedIds led)) cont x
+      → Caused T req led (entry x 3 cont)
 
 -- ---- the requests of a call, in their turns
 
@@ -129,11 +137,15 @@ module _ {U : Type 0} (N : Naming U) (B : Btf) (room : ℕ) where
 
   -- what the ordering of a request for x in the session S notes
   unfoldable pub ledFor : Sess (Ls (Known U)) → ℕ → List (ℕ × ℕ)
-  ledFor S x = notesOf (orderLed (machineBy N B .store) x 512 (tableOf B) [] (record { state = machineBy N B .start room (S .mach); led = [] }) x false)
+  ledFor S x =
+      notesOf (orderLed (machineBy N B .store) x 512 (tableOf B) []
+      (record { state = machineBy N B .start room (S .mach); led = [] }) x false)
 
-  -- The accepted requests of a call, the first in the session S: the entries and the pieces of each, with the names as they are then, and for each entry
-  -- a cause that this request and its very ordering give.
+  -- The accepted requests of a call, the first in the session S: the entries and the pieces of each, with the names as they are then, and
+  -- for each entry a cause that this request and its very ordering give.
   pub data Turns : Sess (Ls (Known U)) → List ℕ → List Entry → List Piece → Type 0 where
     no-turn : (S : Sess (Ls (Known U))) → Turns S [] [] []
-    turn : (S : Sess (Ls (Known U))) (x : ℕ) (xs : List ℕ) (es fs : List Entry) (ps qs : List Piece) → answered S x .number ≡ 0 → answered S x .sess .mach .pieces ≡ S .mach .pieces ++ ps
-        → Pairs N B (Caused (tableOf B) x (ledFor S x)) (S .mach .known .names) es ps (answered S x .sess .mach .known .names) → Turns (answered S x .sess) xs fs qs → Turns S (x ∷ xs) (es ++ fs) (ps ++ qs)
+    turn : (S : Sess (Ls (Known U))) (x : ℕ) (xs : List ℕ) (es fs : List Entry) (ps qs : List Piece) → answered S x .number ≡ 0
+        → answered S x .sess .mach .pieces ≡ S .mach .pieces ++ ps
+        → Pairs N B (Caused (tableOf B) x (ledFor S x)) (S .mach .known .names) es ps (answered S x .sess .mach .known .names)
+        → Turns (answered S x .sess) xs fs qs → Turns S (x ∷ xs) (es ++ fs) (ps ++ qs)

@@ -8,7 +8,9 @@ use Rattle.spec_bytes.specs.text.Text.{ascii, pfx}
 use Rattle.spec_bytes.specs.text.Decimal.{decimal}
 use Rattle.spec_bytes.specs.signed.Signed.{twos, signed, signedLL}
 use Rattle.spec_c_dumper.specs.rules.Writer.{Ask, got, no, tooDeep, Writer, _⨾_, put, stop, nothing, given}
-use Rattle.spec_c_dumper.specs.rules.Types.{Name, isEmpty, Member, Param, Enumerator, Qualifier, volatile, const, restrict, BtfType, Void, Int, Ptr, Array, Composite, Enum, Enum64, Fwd, Typedef, Mod, Func, Var, Datasec, FuncProto, Float, DeclTag, TypeTag, Btf}
+use Rattle.spec_c_dumper.specs.rules.Types.{Name, isEmpty, Member, Param, Enumerator, Qualifier, volatile, const, restrict, BtfType}
+use Rattle.spec_c_dumper.specs.rules.Types.{Void, Int, Ptr, Array, Composite, Enum, Enum64, Fwd, Typedef, Mod, Func, Var, Datasec}
+use Rattle.spec_c_dumper.specs.rules.Types.{FuncProto, Float, DeclTag, TypeTag, Btf}
 use Rattle.spec_c_dumper.specs.rules.Layout.{PadUnit, long, int, short, char, Pad, bitPadding, endOf}
 use Rattle.spec_c_dumper.specs.rules.Placing.{bodyPacked, tailPads}
 use Rattle.spec_c_dumper.specs.rules.Names.{tagSpace, identSpace, Naming, resolveTypeName, resolveName, builtin, escaped}
@@ -200,7 +202,8 @@ module _ {U : Type 0} (N : Naming U) (B : Btf) where
   unfoldable pub emitValues : (ℕ → List ℕ) → ℕ → ℕ → ℕ → List Enumerator → Writer U
   emitValues str id lvl i [] = nothing
   emitValues str id lvl i (v ∷ vs) =
-      resolveName N id i (v .name) (λ n. put (ascii "\n") ⨾ put (pfx lvl) ⨾ put n ⨾ put (ascii " = ") ⨾ put (str (v .value)) ⨾ put (ascii ","))
+      resolveName N id i (v .name) (λ n. put (ascii "\n") ⨾ put (pfx lvl) ⨾ put n ⨾ put (ascii " = ") ⨾ put (str (v .value))
+      ⨾ put (ascii ","))
       ⨾ emitValues str id lvl (i + 1) vs
 
   unfoldable pub enumBody : (ℕ → List ℕ) → ℕ → ℕ → List Enumerator → Writer U
@@ -238,7 +241,8 @@ emitParams decl first (p ∷ ps) =
 -- The group of three, each given the two or three that it calls. Depth is counted where they are tied together, below.
 
 -- emit_type_chain
-module _ {U : Type 0} (N : Naming U) (B : Btf) (decl : ℕ → Name → ℕ → Writer U) (chain : List Entry → Name → ℕ → Writer U) (def : ℕ → Bool → Name → ℕ → List Member → ℕ → Writer U) (fname : Name) (lvl : ℕ) where
+module _ {U : Type 0} (N : Naming U) (B : Btf) (decl : ℕ → Name → ℕ → Writer U) (chain : List Entry → Name → ℕ → Writer U)
+    (def : ℕ → Bool → Name → ℕ → List Member → ℕ → Writer U) (fname : Name) (lvl : ℕ) where
   -- the base's own words
   unfoldable pub baseWord : ℕ → BtfType → Writer U
   baseWord id Void = put (ascii "void")
@@ -263,7 +267,8 @@ module _ {U : Type 0} (N : Naming U) (B : Btf) (decl : ℕ → Name → ℕ → 
   unfoldable pub emitArray : Bool → List Entry → Writer U
   emitArray last-was-ptr [] = emitName fname last-was-ptr
   emitArray last-was-ptr (e ∷ c) =
-      put (elim (not (isEmpty fname) && not last-was-ptr) [ true ↦ ascii " " | false ↦ [] ]) ⨾ parens (not (isArray e)) (chain (e ∷ c) fname lvl)
+      put (elim (not (isEmpty fname) && not last-was-ptr) [ true ↦ ascii " " | false ↦ [] ])
+      ⨾ parens (not (isArray e)) (chain (e ∷ c) fname lvl)
 
   -- a FUNC_PROTO, its qualifiers printed
   unfoldable pub emitProto : Bool → List Entry → Writer U
@@ -283,7 +288,8 @@ module _ {U : Type 0} (N : Naming U) (B : Btf) (decl : ℕ → Name → ℕ → 
   chainLoop (suc n) last-was-ptr (qual q ∷ c) = put (ascii " " ++ qualifier q) ⨾ chainLoop n false c
   chainLoop (suc n) last-was-ptr (array k ∷ c) = emitArray last-was-ptr (noMods c) ⨾ put (brackets k)
   chainLoop (suc n) last-was-ptr (proto ps ∷ c) = put (mods c) ⨾ emitProto last-was-ptr (noMods c) ⨾ paramList ps
-  chainLoop (suc n) last-was-ptr (tag a name ∷ c) = put (mods c) ⨾ put (attribute a (ascii "btf_type_tag") name) ⨾ chainLoop n false (noMods c)
+  chainLoop (suc n) last-was-ptr (tag a name ∷ c) =
+      put (mods c) ⨾ put (attribute a (ascii "btf_type_tag") name) ⨾ chainLoop n false (noMods c)
 
 -- emit_composite_def
 module _ {U : Type 0} (N : Naming U) (B : Btf) (decl : ℕ → Name → ℕ → Writer U) (id : ℕ) where
@@ -308,7 +314,8 @@ module _ {U : Type 0} (N : Naming U) (B : Btf) (decl : ℕ → Name → ℕ → 
 
   unfoldable pub compositeBody : Bool → Name → ℕ → List Member → ℕ → Bool → Writer U
   compositeBody is-struct name sz ms lvl packed =
-      compositeHead is-struct name ⨾ emitMembers (tailPads (B .placing) (B .ptr-sz) is-struct sz) (deeper lvl) packed 0 0 ms ⨾ compositeEnd lvl ms packed
+      compositeHead is-struct name ⨾ emitMembers (tailPads (B .placing) (B .ptr-sz) is-struct sz) (deeper lvl) packed 0 0 ms
+      ⨾ compositeEnd lvl ms packed
 
   unfoldable pub compositeDef : Bool → Name → ℕ → List Member → ℕ → Writer U
   compositeDef is-struct name sz ms lvl =
@@ -324,12 +331,14 @@ module _ {U : Type 0} (N : Naming U) (B : Btf) where
     pub emitTypeChain : ℕ → List Entry → Name → ℕ → Writer U
     emitTypeChain zero c fname lvl = stop tooDeep
     emitTypeChain (suc left) c fname lvl =
-        chainLoop N B (λ id n l. emitTypeDecl left id n l) (λ d n l. emitTypeChain left d n l) (λ id s n z ms l. emitCompositeDef left id s n z ms l)
+        chainLoop N B (λ id n l. emitTypeDecl left id n l) (λ d n l. emitTypeChain left d n l)
+        (λ id s n z ms l. emitCompositeDef left id s n z ms l)
         fname lvl (length c) true c
 
     pub emitCompositeDef : ℕ → ℕ → Bool → Name → ℕ → List Member → ℕ → Writer U
     emitCompositeDef zero id is-struct name sz ms lvl = stop tooDeep
-    emitCompositeDef (suc left) id is-struct name sz ms lvl = compositeDef N B (λ t n l. emitTypeDecl left t n l) id is-struct name sz ms lvl
+    emitCompositeDef (suc left) id is-struct name sz ms lvl =
+        compositeDef N B (λ t n l. emitTypeDecl left t n l) id is-struct name sz ms lvl
 
   -- emit_typedef_def
   unfoldable pub emitTypedefDef : ℕ → Name → ℕ → Writer U

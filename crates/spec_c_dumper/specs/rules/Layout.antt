@@ -4,7 +4,8 @@ use mathlib.Core.Bool.{Bool, true, false, _&&_}
 use mathlib.Core.List.{List, [], _∷_}
 use lib.Dec.{ltb, leb, eqb}
 use Rattle.spec_c_dumper.specs.rules.Writer.{Ask, got, no, askThen, checked, tooDeep, alignZero}
-use Rattle.spec_c_dumper.specs.rules.Types.{Member, BtfType, Void, Int, Ptr, Array, Composite, Enum, Enum64, Fwd, Typedef, Mod, Func, Var, Datasec, FuncProto, Float, DeclTag, TypeTag, Btf}
+use Rattle.spec_c_dumper.specs.rules.Types.{Member, BtfType, Void, Int, Ptr, Array, Composite, Enum, Enum64, Fwd, Typedef, Mod, Func}
+use Rattle.spec_c_dumper.specs.rules.Types.{Var, Datasec, FuncProto, Float, DeclTag, TypeTag, Btf}
 
 unfoldable pub larger : ℕ → ℕ → ℕ
 larger a b = elim (leb a b) [ true ↦ b | false ↦ a ]
@@ -160,7 +161,8 @@ placedPads zero ptr-sz start gap = []
 placedPads (suc most) ptr-sz start gap =
     elim (eqb gap 0) [
       | true ↦ []
-      | false ↦ placedPad ptr-sz start gap ∷ placedPads most ptr-sz (start + placedPad ptr-sz start gap .width) (gap - placedPad ptr-sz start gap .width)
+      | false ↦ placedPad ptr-sz start gap
+          ∷ placedPads most ptr-sz (start + placedPad ptr-sz start gap .width) (gap - placedPad ptr-sz start gap .width)
     ]
 
 -- "Which gaps before members are padded is as in the old mode."
@@ -168,13 +170,15 @@ unfoldable pub placedGap : ℕ → ℕ → ℕ → ℕ → ℕ → List Pad
 placedGap ptr-sz start bit-size gap a = elim (eqb bit-size 0 && ltb gap (a * 8)) [ true ↦ [] | false ↦ placedPads gap ptr-sz start gap ]
 
 unfoldable pub padsBefore : Bool → ℕ → ℕ → ℕ → ℕ → ℕ → List Pad
-padsBefore placing ptr-sz start bit-size gap a = elim placing [ true ↦ placedGap ptr-sz start bit-size gap a | false ↦ gapPads ptr-sz bit-size gap a ]
+padsBefore placing ptr-sz start bit-size gap a =
+    elim placing [ true ↦ placedGap ptr-sz start bit-size gap a | false ↦ gapPads ptr-sz bit-size gap a ]
 
 unfoldable pub bitPadding : Btf → ℕ → Member → Bool → Ask (List Pad)
 bitPadding B offset m packed =
     elim (leb (m .bit-offset) offset) [
       | true ↦ got []
-      | false ↦ askThen (elim packed [ true ↦ got 1 | false ↦ getAlignOf 512 B (m .type-id) ]) (λ a. got (padsBefore (B .placing) (B .ptr-sz) offset (m .bit-size) (m .bit-offset - offset) a))
+      | false ↦ askThen (elim packed [ true ↦ got 1 | false ↦ getAlignOf 512 B (m .type-id) ])
+          (λ a. got (padsBefore (B .placing) (B .ptr-sz) offset (m .bit-size) (m .bit-offset - offset) a))
     ]
 
 -- where the next member may begin

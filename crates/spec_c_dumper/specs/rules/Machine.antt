@@ -6,7 +6,8 @@ use mathlib.Core.Bool.{Bool, true, false, not, _&&_, _||_}
 use mathlib.Core.List.{List, [], _∷_, _++_}
 use mathlib.Core.Logic.{_≢_}
 use lib.Dec.{ltb, eqb}
-use Rattle.spec_c_dumper.specs.rules.Order.{Node, ignored, plain, listed, through, ptr, tdef, proto, comp, Table, Mark, new, busy, done, Store, Lawful, Framed, Res, ok, refused, order}
+use Rattle.spec_c_dumper.specs.rules.Order.{Node, ignored, plain, listed, through, ptr, tdef, proto, comp, Table, Mark, new, busy}
+use Rattle.spec_c_dumper.specs.rules.Order.{done, Store, Lawful, Framed, Res, ok, refused, order}
 
 -- what a line, or a call, comes to
 pub data Out (M : Type 0) : Type 0 where
@@ -129,7 +130,8 @@ module _ {M : Type 0} (X : Machine M) (T : Table) where
     begin top (listed f) = leaf (f || top) x s
     begin top (through a t) = rec s t cont
     begin top (ptr t) = rec s t cont
-    begin top (tdef t) = obind (rec (X .emark busy x s) t x) (λ s′. obind (once (X .aliasLine) x (X .hasFwd s′ x) s′) (λ s″. wrote (X .emark done x s″)))
+    begin top (tdef t) =
+        obind (rec (X .emark busy x s) t x) (λ s′. obind (once (X .aliasLine) x (X .hasFwd s′ x) s′) (λ s″. wrote (X .emark done x s″)))
     begin top (proto ts) = eeach (λ s′ y. rec s′ y cont) ts s
     begin top (comp ms) = obind (within (top || not (T .named x)) (T .named x) ms) (close top x)
 

@@ -90,7 +90,8 @@ typeVersion space id name u =
       | false ↦ record { version = getD (u .versions) id 0; names = u }
       | true ↦ record {
         version = oneMore (holders (u .ledger) space name);
-        names = record { versions = set (u .versions) id (oneMore (holders (u .ledger) space name)); ledger = counted (u .ledger) space name };
+        names =
+            record { versions = set (u .versions) id (oneMore (holders (u .ledger) space name)); ledger = counted (u .ledger) space name };
       }
     ]
 

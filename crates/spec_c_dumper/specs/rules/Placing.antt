@@ -21,7 +21,8 @@ fieldSize B m = elim (eqb (m .bit-size) 0) [ true ↦ got 0 | false ↦ getSizeO
 
 -- a bit field of a type of so many bytes: no wider than it, and in a struct not packed inside one unit of it
 unfoldable pub fieldFits : Bool → ℕ → ℕ → ℕ → Bool
-fieldFits packed size bit-offset bit-size = leb bit-size (8 * size) && (elim packed [ true ↦ true | false ↦ sameUnit (8 * size) bit-offset bit-size ])
+fieldFits packed size bit-offset bit-size =
+    leb bit-size (8 * size) && (elim packed [ true ↦ true | false ↦ sameUnit (8 * size) bit-offset bit-size ])
 
 -- where a member may start: in a struct not before the end of the one before it, in a union at bit 0
 unfoldable pub startFits : Bool → ℕ → ℕ → Bool
@@ -30,7 +31,10 @@ startFits is-struct last start = elim is-struct [ true ↦ leb last start | fals
 -- a member of a struct after one that ends at `last`, or of a union; a plain one is on a byte
 unfoldable pub memberFits : Bool → Bool → ℕ → ℕ → ℕ → ℕ → Bool
 memberFits is-struct packed last size bit-offset bit-size =
-    startFits is-struct last bit-offset && (elim (eqb bit-size 0) [ true ↦ eqb (bit-offset % 8) 0 | false ↦ fieldFits packed size bit-offset bit-size ])
+    startFits is-struct last bit-offset && (elim (eqb bit-size 0) [
+      | true ↦ eqb (bit-offset % 8) 0
+      | false ↦ fieldFits packed size bit-offset bit-size
+    ])
 
 -- what the members reach, a struct's last end or a union's largest member, and whether all of them fit
 pub record Extent : Type 0 where
@@ -50,7 +54,8 @@ module _ (B : Btf) (is-struct packed : Bool) where
   unfoldable pub extentOf : Extent → List Member → Ask Extent
   extentOf x [] = got x
   extentOf x (m ∷ ms) =
-      askThen (fieldSize B m) (λ size. askThen (endOf B m) (λ end. extentOf (withMember is-struct packed x size end (m .bit-offset) (m .bit-size)) ms))
+      askThen (fieldSize B m) (λ size. askThen (endOf B m)
+      (λ end. extentOf (withMember is-struct packed x size end (m .bit-offset) (m .bit-size)) ms))
 
 -- no member seen yet
 abbrev pub noExtent : Extent
@@ -80,4 +85,5 @@ bodyPacked B is-struct sz ms = elim (B .placing) [ true ↦ measured B is-struct
 
 -- "a tail pad fills the struct to its size": from the last end on
 unfoldable pub tailPads : Bool → ℕ → Bool → ℕ → ℕ → List Pad
-tailPads placing ptr-sz is-struct sz last = elim (placing && is-struct) [ true ↦ placedPads (8 * sz - last) ptr-sz last (8 * sz - last) | false ↦ [] ]
+tailPads placing ptr-sz is-struct sz last =
+    elim (placing && is-struct) [ true ↦ placedPads (8 * sz - last) ptr-sz last (8 * sz - last) | false ↦ [] ]

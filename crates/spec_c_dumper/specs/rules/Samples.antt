@@ -29,14 +29,21 @@ padding (no c) = decimal c
 -- emit_bit_padding from bit 0 to an int at bit n, as a bit field (true) or as a plain member of 4 bytes
 abbrev pub gap : ℕ → Bool → ℕ → List ℕ
 gap ptr-sz bit-field n =
-    padding (bitPadding (listed ptr-sz false (Void ∷ Int (ascii "int") 32 ∷ [])) 0 (record { name = []; type-id = 1; bit-offset = n; bit-size = elim bit-field [ true ↦ 1 | false ↦ 0 ] }) false)
+    padding (bitPadding (listed ptr-sz false (Void ∷ Int (ascii "int") 32 ∷ [])) 0 (record {
+      name = [];
+      type-id = 1;
+      bit-offset = n;
+      bit-size = elim bit-field [ true ↦ 1 | false ↦ 0 ];
+    }) false)
 
 abbrev pub table : List BtfType → Btf
 table types = listed 8 false types
 
 -- 2 and 3: an array of pointers; 4 and 5: a pointer to an array; 6 and 7: a pointer to a prototype
 abbrev pub declarators : Btf
-declarators = table (Void ∷ Int (ascii "int") 32 ∷ Ptr 1 ∷ Array 2 3 ∷ Array 1 3 ∷ Ptr 4 ∷ FuncProto 0 (record { name = []; type-id = 1 } ∷ []) ∷ Ptr 6 ∷ [])
+declarators =
+    table (Void ∷ Int (ascii "int") 32 ∷ Ptr 1 ∷ Array 2 3 ∷ Array 1 3 ∷ Ptr 4
+    ∷ FuncProto 0 (record { name = []; type-id = 1 } ∷ []) ∷ Ptr 6 ∷ [])
 
 abbrev pub declared : ℕ → String → List ℕ
 declared id name = text (emitTypeDecl naming declarators 512 id (ascii name) 0)
@@ -131,7 +138,8 @@ bitField name type-id bit-offset bit-size = record { name = ascii name; type-id 
 
 -- 1 int, 2 char, 3 an array of three chars, 4 a struct s of the size and with the members given
 abbrev pub bodyOf : ℕ → List Member → Btf
-bodyOf sz ms = listedIn 8 false true (Void ∷ Int (ascii "int") 32 ∷ Int (ascii "char") 8 ∷ Array 2 3 ∷ Composite true (ascii "s") sz ms ∷ [])
+bodyOf sz ms =
+    listedIn 8 false true (Void ∷ Int (ascii "int") 32 ∷ Int (ascii "char") 8 ∷ Array 2 3 ∷ Composite true (ascii "s") sz ms ∷ [])
 
 -- its text, or only the refusal
 abbrev pub outcome : Text → List ℕ

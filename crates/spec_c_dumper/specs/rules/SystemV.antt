@@ -8,7 +8,8 @@ use lib.Dec.{eqb}
 use Rattle.spec_bytes.specs.text.Text.{ascii, pfx}
 use Rattle.spec_c_dumper.specs.rules.Writer.{Ask, got, no, askThen, Writer, _⨾_, put, nothing}
 use Rattle.spec_c_dumper.specs.rules.Types.{Name, isEmpty, Member, Btf}
-use Rattle.spec_c_dumper.specs.rules.Layout.{larger, getSizeOf, alignMembers, getAlignOf, PadUnit, long, int, short, char, Pad, bitPadding, endOf}
+use Rattle.spec_c_dumper.specs.rules.Layout.{larger, getSizeOf, alignMembers, getAlignOf, PadUnit, long, int, short, char, Pad}
+use Rattle.spec_c_dumper.specs.rules.Layout.{bitPadding, endOf}
 use Rattle.spec_c_dumper.specs.rules.Placing.{roundUp, sameUnit, tailPads}
 use Rattle.spec_c_dumper.specs.rules.Decl.{pads, bitSize, emitDeclTags}
 
@@ -28,7 +29,8 @@ module _ (B : Btf) (tail : ℕ → List Pad) (packed : Bool) where
   unfoldable pub bodyLines : ℕ → List Member → Ask (List Line)
   bodyLines offset [] = got (padLines (tail offset) [])
   bodyLines offset (m ∷ ms) =
-      askThen (bitPadding B offset m packed) (λ ps. askThen (endOf B m) (λ end. askThen (bodyLines end ms) (λ ls. got (padLines ps (field m ∷ ls)))))
+      askThen (bitPadding B offset m packed)
+      (λ ps. askThen (endOf B m) (λ end. askThen (bodyLines end ms) (λ ls. got (padLines ps (field m ∷ ls)))))
 
 -- their text; member i is the next
 module _ {U : Type 0} (B : Btf) (decl : ℕ → Name → ℕ → Writer U) (id lvl : ℕ) where
@@ -36,7 +38,8 @@ module _ {U : Type 0} (B : Btf) (decl : ℕ → Name → ℕ → Writer U) (id l
   writeLines i [] = nothing
   writeLines i (pad p ∷ ls) = put (pads lvl (p ∷ [])) ⨾ writeLines i ls
   writeLines i (field m ∷ ls) =
-      put (ascii "\n") ⨾ put (pfx lvl) ⨾ decl (m .type-id) (m .name) lvl ⨾ put (bitSize m) ⨾ emitDeclTags B id i ⨾ put (ascii ";") ⨾ writeLines (suc i) ls
+      put (ascii "\n") ⨾ put (pfx lvl) ⨾ decl (m .type-id) (m .name) lvl ⨾ put (bitSize m) ⨾ emitDeclTags B id i ⨾ put (ascii ";")
+      ⨾ writeLines (suc i) ls
 
 -- ---- the layout, with the sizes and alignments of types in bytes
 
@@ -132,12 +135,18 @@ asUnion B is-struct = elim is-struct [ true ↦ false | false ↦ not (B .union-
 module _ (B : Btf) (is-struct packed : Bool) (ms : List Member) (ls : List Line) where
   -- where the members of the printed lines sit, and how many bits the whole has
   unfoldable pub placesOf : List ℕ
-  placesOf = elim (asUnion B is-struct) [ true ↦ unionPlaces (tableSize B) (tableAlign B) packed ls | false ↦ structPlaces (tableSize B) (tableAlign B) packed 0 ls ]
+  placesOf = elim (asUnion B is-struct) [
+    | true ↦ unionPlaces (tableSize B) (tableAlign B) packed ls
+    | false ↦ structPlaces (tableSize B) (tableAlign B) packed 0 ls
+  ]
 
   unfoldable pub bitsOf : ℕ
   bitsOf =
       wholeBits
-      (elim (asUnion B is-struct) [ true ↦ unionEnd (tableSize B) (tableAlign B) packed 0 ls | false ↦ structEnd (tableSize B) (tableAlign B) packed 0 ls ])
+      (elim (asUnion B is-struct) [
+        | true ↦ unionEnd (tableSize B) (tableAlign B) packed 0 ls
+        | false ↦ structEnd (tableSize B) (tableAlign B) packed 0 ls
+      ])
       (bodyAlign B packed ms)
 
 -- A body whose printed lines are laid out as the table says: "every member then sits at its table offset and the whole has its table size".

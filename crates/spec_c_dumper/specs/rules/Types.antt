@@ -114,4 +114,9 @@ isNamed t = not (isEmpty (nameOf t))
 
 -- the table that ordering and emission walk
 abbrev pub tableOf : Btf → Table
-tableOf B = record { count = B .type-cnt; node = λ x. nodeOf (B .type-by-id x); named = λ x. isNamed (B .type-by-id x); strong-arrays = B .strong-arrays }
+tableOf B = record {
+  count = B .type-cnt;
+  node = λ x. nodeOf (B .type-by-id x);
+  named = λ x. isNamed (B .type-by-id x);
+  strong-arrays = B .strong-arrays;
+}

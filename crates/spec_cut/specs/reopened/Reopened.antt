@@ -46,18 +46,24 @@ module _ (pointer modes : ℕ) (s : List ℕ) (n : ℕ) (m : ℕ → Bool) (n′
   abbrev pub HasNewNumber : ℕ → ℕ → Type 0
   HasNewNumber x x′ = HasNumber x × (x′ ≡ newId m x)
 
-  -- a call over the old section and one over the new: both openings, "with the same settings"; and requests after such calls, the second for the new
-  -- number, each lent its work as the call before left it and a text slice that begins with the text so far, both slices of one length
+  -- a call over the old section and one over the new: both openings, "with the same settings"; and requests after such calls, the second
+  -- for the new number, each lent its work as the call before left it and a text slice that begins with the text so far, both slices of one
+  -- length
   pub data Beside : Call → Call → Type 0 where
-    both-open : (S S′ : Session) (work work′ text text′ : List ℕ) → length work ≡ n → length work′ ≡ n′ → Beside (openCall S s work text pointer modes) (openCall S′ (cutSection m s) work′ text′ pointer modes)
-    both-ask : (c c′ : Call) → Beside c c′ → (text text′ : List ℕ) → length text ≡ length text′ → Lent c text → Lent c′ text′ → (x : ℕ) → HasNumber x
+    both-open : (S S′ : Session) (work work′ text text′ : List ℕ) → length work ≡ n → length work′ ≡ n′
+        → Beside (openCall S s work text pointer modes) (openCall S′ (cutSection m s) work′ text′ pointer modes)
+    both-ask : (c c′ : Call) → Beside c c′ → (text text′ : List ℕ) → length text ≡ length text′ → Lent c text → Lent c′ text′ → (x : ℕ)
+        → HasNumber x
         → Beside (typeCall (c .session) s (c .work) text x) (typeCall (c′ .session) (cutSection m s) (c′ .work) text′ (newId m x))
 
   -- THE CLAIM: opening accepts the new section, and from there on each renumbered request gives the same as the old
   pub record Reopens : Type 0 where
-    pub opens : (S : Session) (work text : List ℕ) → length work ≡ n′ → numberOf (openCall S (cutSection m s) work text pointer modes .answer) ≡ 0
+    pub opens : (S : Session) (work text : List ℕ) → length work ≡ n′
+        → numberOf (openCall S (cutSection m s) work text pointer modes .answer) ≡ 0
     pub same-text : (c c′ : Call) → Beside c c′ → SameText c c′
-    pub same-answer : (c c′ : Call) → Beside c c′ → (text text′ : List ℕ) → length text ≡ length text′ → Lent c text → Lent c′ text′ → (x : ℕ) → HasNumber x
+    pub same-answer : (c c′ : Call) → Beside c c′ → (text text′ : List ℕ) → length text ≡ length text′ → Lent c text → Lent c′ text′
+        → (x : ℕ) → HasNumber x
         → SameAnswer (typeCall (c .session) s (c .work) text x) (typeCall (c′ .session) (cutSection m s) (c′ .work) text′ (newId m x))
     -- and so by the rules, of the tables that the openings leave: numbers, lengths and text of all lists of requests
-    pub by-rules : (rs rs′ : List Req) → Renumbered HasNewNumber rs rs′ → dumpTypes (openedTable pointer modes s n) rs ≡ dumpTypes (openedTable pointer modes (cutSection m s) n′) rs′
+    pub by-rules : (rs rs′ : List Req) → Renumbered HasNewNumber rs rs′
+        → dumpTypes (openedTable pointer modes s n) rs ≡ dumpTypes (openedTable pointer modes (cutSection m s) n′) rs′

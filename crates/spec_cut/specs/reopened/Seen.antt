@@ -19,4 +19,5 @@ pub record Seen (c : TypeTable) (s start : List ℕ) (ts : List Described) : Typ
   pub third-word : (i : ℕ) → i < length ts → sectionWord c s (placeOf c start (suc i) + 8) ≡ third (getD ts i voidType)
   -- the ids that type x follows are the followed ids of its record
   pub to : (x k : ℕ) → k < followedCount c s start x → List·Memᴰ (followedId c s start x k) (followedIds (typeOf ts x))
-  pub from : (x y : ℕ) → List·Memᴰ y (followedIds (typeOf ts x)) → (k : ℕ) × (k < followedCount c s start x) × (followedId c s start x k ≡ y)
+  pub from : (x y : ℕ) → List·Memᴰ y (followedIds (typeOf ts x))
+      → (k : ℕ) × (k < followedCount c s start x) × (followedId c s start x k ≡ y)

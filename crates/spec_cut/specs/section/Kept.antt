@@ -1,10 +1,12 @@
--- Which types of a table are kept. ts: the types of the section, from id 1 on, as the Linux documentation describes them; given: the given ids.
+-- Which types of a table are kept. ts: the types of the section, from id 1 on, as the Linux documentation describes them; given: the given
+-- ids.
 use Prim.Native.Nat.{ℕ}
 use mathlib.Core.Path.{_≡_}
 use mathlib.Core.Bool.{Bool, true, false}
 use mathlib.Core.List.{List, List·Memᴰ}
 use mathlib.Core.Logic.{_↔_}
-use Rattle.spec_linux_btf.specs.Documentation.{int, ptr, array, struct, union, enum, fwd, typedef, volatile, const, restrict, func, func-proto, var, datasec, float, decl-tag, type-tag, enum64, Described, described}
+use Rattle.spec_linux_btf.specs.Documentation.{int, ptr, array, struct, union, enum, fwd, typedef, volatile, const, restrict, func}
+use Rattle.spec_linux_btf.specs.Documentation.{func-proto, var, datasec, float, decl-tag, type-tag, enum64, Described, described}
 pub use Rattle.spec_opening.specs.Followed.{memberIds, paramIds, followedIds, voidType, typeOf}
 
 -- "reachable from given ids through any followed reference"
@@ -40,7 +42,8 @@ third (described n f z body) = z
 -- "holds only the types reachable .., their declaration tags (no tags of tags or of void)"
 pub data Kept (ts : List Described) (given : List ℕ) : ℕ → Type 0 where
   reached : {x : ℕ} → Reached ts given x → Kept ts given x
-  its-tag : {x : ℕ} → isDeclTag (typeOf ts x) ≡ true → Reached ts given (third (typeOf ts x)) → (third (typeOf ts x) ≡ 0 → ⊥) → isDeclTag (typeOf ts (third (typeOf ts x))) ≡ false → Kept ts given x
+  its-tag : {x : ℕ} → isDeclTag (typeOf ts x) ≡ true → Reached ts given (third (typeOf ts x)) → (third (typeOf ts x) ≡ 0 → ⊥)
+      → isDeclTag (typeOf ts (third (typeOf ts x))) ≡ false → Kept ts given x
 
 -- m tells which ids are kept
 abbrev pub Tells : List Described → List ℕ → (ℕ → Bool) → Type 0

@@ -2,7 +2,9 @@
 use Prim.Native.Nat.{ℕ, zero, suc}
 use mathlib.Core.Bool.{Bool, true, false}
 use mathlib.Core.List.{List, [], _∷_}
-use Rattle.spec_linux_btf.specs.Documentation.{Member, member, Enumerator, enumerator, Param, param, Secinfo, secinfo, Enumerator64, enumerator64, int, ptr, array, struct, union, enum, fwd, typedef, volatile, const, restrict, func, func-proto, var, datasec, float, decl-tag, type-tag, enum64, Described, described}
+use Rattle.spec_linux_btf.specs.Documentation.{Member, member, Enumerator, enumerator, Param, param, Secinfo, secinfo, Enumerator64}
+use Rattle.spec_linux_btf.specs.Documentation.{enumerator64, int, ptr, array, struct, union, enum, fwd, typedef, volatile, const, restrict}
+use Rattle.spec_linux_btf.specs.Documentation.{func, func-proto, var, datasec, float, decl-tag, type-tag, enum64, Described, described}
 
 -- how many of the ids 1 to i are kept
 unfoldable pub keptTo : (ℕ → Bool) → ℕ → ℕ
@@ -41,8 +43,8 @@ module _ (i o : ℕ → ℕ) where
   newSecinfos [] = []
   newSecinfos (secinfo t offset size ∷ ss) = secinfo (i t) offset size ∷ newSecinfos ss
 
-  -- stored ids: the third word where it is `type` (PTR, TYPEDEF, the qualifiers, FUNC, FUNC_PROTO, VAR, DECL_TAG, TYPE_TAG), an ARRAY's `type` and
-  -- `index_type`, and the `type` of members, parameters and variables. All else but names is as it was.
+  -- stored ids: the third word where it is `type` (PTR, TYPEDEF, the qualifiers, FUNC, FUNC_PROTO, VAR, DECL_TAG, TYPE_TAG), an ARRAY's
+  -- `type` and `index_type`, and the `type` of members, parameters and variables. All else but names is as it was.
   unfoldable pub renamed : Described → Described
   renamed (described n f z (int v a b c d e)) = described (o n) f z (int v a b c d e)
   renamed (described n f z (ptr v)) = described (o n) f (i z) (ptr v)

@@ -44,8 +44,8 @@ unfoldable pub anyPast : ℕ → List ℕ → Bool
 anyPast count [] = false
 anyPast count (x ∷ xs) = not (ltb x count) || anyPast count xs
 
--- The number: 11 where the session is not open; "A given id not below the count is 10"; "23 when the output slice is short or the new section would pass
--- 16,777,216 bytes". out: the length of the output slice; len: that of the new section
+-- The number: 11 where the session is not open; "A given id not below the count is 10"; "23 when the output slice is short or the new
+-- section would pass 16,777,216 bytes". out: the length of the output slice; len: that of the new section
 unfoldable pub cutNumber : Bool → ℕ → List ℕ → ℕ → ℕ → ℕ
 cutNumber is-open count given out len =
     elim is-open [

@@ -1,10 +1,12 @@
--- Two tables under one setting, and which id of the second stands for which of the first: the same types, with each followed id replaced by the one
--- that stands for it. What an order-preserving renumbering of the types that are kept gives; proofs/Claims.antt says that requests then go alike.
+-- Two tables under one setting, and which id of the second stands for which of the first: the same types, with each followed id replaced by
+-- the one that stands for it. What an order-preserving renumbering of the types that are kept gives; proofs/Claims.antt says that requests
+-- then go alike.
 use Prim.Native.Nat.{ℕ, _<_}
 use mathlib.Core.Path.{_≡_}
 use mathlib.Core.Bool.{Bool}
 use mathlib.Core.List.{List, [], _∷_}
-use Rattle.spec_c_dumper.specs.rules.Types.{Name, Member, Param, Enumerator, Qualifier, BtfType, Void, Int, Ptr, Array, Composite, Enum, Enum64, Fwd, Typedef, Mod, Func, Var, Datasec, FuncProto, Float, DeclTag, TypeTag, Btf}
+use Rattle.spec_c_dumper.specs.rules.Types.{Name, Member, Param, Enumerator, Qualifier, BtfType, Void, Int, Ptr, Array, Composite, Enum}
+use Rattle.spec_c_dumper.specs.rules.Types.{Enum64, Fwd, Typedef, Mod, Func, Var, Datasec, FuncProto, Float, DeclTag, TypeTag, Btf}
 use Rattle.spec_c_dumper.specs.rules.Machine.{Req, one}
 
 -- "with the same settings": another table under the settings of B
@@ -49,11 +51,13 @@ module _ (J : ℕ → ℕ → Type 0) where
   pub data SameMembers : List Member → List Member → Type 0 where
     no-members : SameMembers [] []
     member : (n : Name) (t t′ offset size : ℕ) {ms ms′ : List Member} → J t t′ → SameMembers ms ms′
-        → SameMembers (record { name = n; type-id = t; bit-offset = offset; bit-size = size } ∷ ms) (record { name = n; type-id = t′; bit-offset = offset; bit-size = size } ∷ ms′)
+        → SameMembers (record { name = n; type-id = t; bit-offset = offset; bit-size = size } ∷ ms)
+        (record { name = n; type-id = t′; bit-offset = offset; bit-size = size } ∷ ms′)
 
   pub data SameParams : List Param → List Param → Type 0 where
     no-params : SameParams [] []
-    param : (n : Name) (t t′ : ℕ) {ps ps′ : List Param} → J t t′ → SameParams ps ps′ → SameParams (record { name = n; type-id = t } ∷ ps) (record { name = n; type-id = t′ } ∷ ps′)
+    param : (n : Name) (t t′ : ℕ) {ps ps′ : List Param} → J t t′ → SameParams ps ps′
+        → SameParams (record { name = n; type-id = t } ∷ ps) (record { name = n; type-id = t′ } ∷ ps′)
 
   -- The same type. A DECL_TAG's target is not followed.
   pub data SameType : BtfType → BtfType → Type 0 where
@@ -61,7 +65,8 @@ module _ (J : ℕ → ℕ → Type 0) where
     int : (n : Name) (b : ℕ) → SameType (Int n b) (Int n b)
     ptr : (t t′ : ℕ) → J t t′ → SameType (Ptr t) (Ptr t′)
     array : (t t′ k : ℕ) → J t t′ → SameType (Array t k) (Array t′ k)
-    composite : (s : Bool) (n : Name) (z : ℕ) (ms ms′ : List Member) → SameMembers ms ms′ → SameType (Composite s n z ms) (Composite s n z ms′)
+    composite : (s : Bool) (n : Name) (z : ℕ) (ms ms′ : List Member) → SameMembers ms ms′
+        → SameType (Composite s n z ms) (Composite s n z ms′)
     enum : (s : Bool) (n : Name) (z : ℕ) (vs : List Enumerator) → SameType (Enum s n z vs) (Enum s n z vs)
     enum64 : (s : Bool) (n : Name) (z : ℕ) (vs : List Enumerator) → SameType (Enum64 s n z vs) (Enum64 s n z vs)
     fwd : (u : Bool) (n : Name) → SameType (Fwd u n) (Fwd u n)

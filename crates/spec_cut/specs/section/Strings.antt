@@ -3,7 +3,9 @@ use Prim.Native.Nat.{ℕ, suc, _+_}
 use mathlib.Core.Bool.{Bool, true, false}
 use mathlib.Core.List.{List, [], _∷_, _++_}
 use lib.ListN.{length}
-use Rattle.spec_linux_btf.specs.Documentation.{Member, member, Enumerator, enumerator, Param, param, Enumerator64, enumerator64, int, ptr, array, struct, union, enum, fwd, typedef, volatile, const, restrict, func, func-proto, var, datasec, float, decl-tag, type-tag, enum64, Described, described}
+use Rattle.spec_linux_btf.specs.Documentation.{Member, member, Enumerator, enumerator, Param, param, Enumerator64, enumerator64, int, ptr}
+use Rattle.spec_linux_btf.specs.Documentation.{array, struct, union, enum, fwd, typedef, volatile, const, restrict, func, func-proto, var}
+use Rattle.spec_linux_btf.specs.Documentation.{datasec, float, decl-tag, type-tag, enum64, Described, described}
 use Rattle.spec_c_dumper.specs.rules.Types.{Name}
 use Rattle.spec_c_dumper.specs.rules.Names.{sameBytes}
 use Rattle.spec_type_table.specs.Names.{nameAt}

@@ -12,7 +12,8 @@ unfoldable pub isIn : ℕ → List ℕ → Bool
 isIn y [] = false
 isIn y (x ∷ xs) = eqb x y || isIn y xs
 
--- some references, each from a type to one that it follows, lead from x to y, and the types between have ids 1 to k (Warshall's way). E x y: x follows y.
+-- some references, each from a type to one that it follows, lead from x to y, and the types between have ids 1 to k (Warshall's way). E x
+-- y: x follows y.
 unfoldable pub leads : (ℕ → ℕ → Bool) → ℕ → ℕ → ℕ → Bool
 leads E zero x y = E x y
 leads E (suc k) x y = leads E k x y || (leads E k x (suc k) && leads E k (suc k) y)
@@ -33,7 +34,9 @@ module _ (ts : List Described) (given : List ℕ) where
 
   -- "their declaration tags (no tags of tags or of void)"
   unfoldable pub isItsTag : ℕ → Bool
-  isItsTag x = isDeclTag (typeOf ts x) && (isReached (third (typeOf ts x)) && (not (eqb (third (typeOf ts x)) 0) && not (isDeclTag (typeOf ts (third (typeOf ts x))))))
+  isItsTag x =
+      isDeclTag (typeOf ts x) && (isReached (third (typeOf ts x))
+      && (not (eqb (third (typeOf ts x)) 0) && not (isDeclTag (typeOf ts (third (typeOf ts x))))))
 
   unfoldable pub isKept : ℕ → Bool
   isKept x = isReached x || isItsTag x

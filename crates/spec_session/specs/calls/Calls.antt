@@ -42,7 +42,8 @@ openedCall s section work pointer modes (opened types enumerators w t) = record 
 }
 
 unfoldable pub openCall : Session → List ℕ → List ℕ → List ℕ → ℕ → ℕ → Call
-openCall s section work text pointer modes = openedCall s (length section) (length work) pointer modes (openingOf pointer modes section work text)
+openCall s section work text pointer modes =
+    openedCall s (length section) (length work) pointer modes (openingOf pointer modes section work text)
 
 -- ---- requests
 
@@ -52,7 +53,10 @@ limitOf n len = elim (leb n 1073741824) [ true ↦ n | false ↦ elim (leb len 1
 
 -- what a place in a slice of so many bytes says, after a text of len bytes and v visits
 unfoldable pub arrivedAt : ℕ → ℕ → ℕ → ℕ → Reached
-arrivedAt len v room at = elim (leb at room) [ true ↦ record { len = len + at; number = 0; visits = v } | false ↦ record { len = len; number = at - (room + 1); visits = v } ]
+arrivedAt len v room at = elim (leb at room) [
+  | true ↦ record { len = len + at; number = 0; visits = v }
+  | false ↦ record { len = len; number = at - (room + 1); visits = v }
+]
 
 -- what a dump in the slice after the first len bytes of t leaves there, where v visits were counted before it
 unfoldable pub cameTo : ℕ → ℕ → List ℕ → Out Sheet → Reach
@@ -66,7 +70,8 @@ lentTo len t = take (limitOf (length t) len - len) (drop len t)
 -- One request for an id, after a text of len bytes and v visits: the rules over the work, on that slice from its start.
 unfoldable pub requested : TypeTable → List ℕ → ℕ → ℕ → ℕ → List ℕ → List ℕ → Reach
 requested b s id len v w t =
-    cameTo len v t (dumped (workMachine b (btfOf b s w)) (tableOf (btfOf b s w)) (record { work = w; text = lentTo len t; at = 0; len = 0 }) id)
+    cameTo len v t (dumped (workMachine b (btfOf b s w)) (tableOf (btfOf b s w))
+    (record { work = w; text = lentTo len t; at = 0; len = 0 }) id)
 
 -- after a refusal comes nothing
 unfoldable pub onward : Reach → (ℕ → List ℕ → List ℕ → Reach) → Reach
@@ -94,5 +99,6 @@ unfoldable pub typesCall : Session → List ℕ → List ℕ → List ℕ → Ca
 typesCall s section work text =
     elim (isCurrent s (length section) (length work) (length text)) [
       | false ↦ unchanged s (refusal notCurrent (s .«text_len»)) work text
-      | true ↦ settled s (length work) (length text) (requestedFrom (tableFor s section) section (tableFor s section .types - 1) 1 (s .«text_len») work text)
+      | true ↦ settled s (length work) (length text)
+          (requestedFrom (tableFor s section) section (tableFor s section .types - 1) 1 (s .«text_len») work text)
     ]

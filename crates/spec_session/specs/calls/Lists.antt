@@ -16,7 +16,8 @@ use Rattle.spec_session.specs.calls.Calls.{typeCall}
 unfoldable pub idsIn : List ℕ → List ℕ
 idsIn b = take 4294967295 (words b)
 
--- after n accepted ids, the call for the next: the list goes on from it, or is stopped by its number; the value is the count of the accepted
+-- after n accepted ids, the call for the next: the list goes on from it, or is stopped by its number; the value is the count of the
+-- accepted
 unfoldable pub counted : ℕ → Call → (Call → Call) → Call
 counted n c k = elim (numberOf (c .answer)) [ zero ↦ k c | suc m ↦ callOf (c .session) (answerOf (suc m) n) (c .work) (c .text) ]
 
@@ -24,7 +25,8 @@ counted n c k = elim (numberOf (c .answer)) [ zero ↦ k c | suc m ↦ callOf (c
 -- session, work and text as the one before left them. n were accepted before; "an empty list tests and changes nothing".
 unfoldable pub listFrom : ℕ → Session → List ℕ → List ℕ → List ℕ → List ℕ → Call
 listFrom n s section work text [] = callOf s (answerOf 0 n) work text
-listFrom n s section work text (id ∷ ids) = counted n (typeCall s section work text id) (λ c. listFrom (suc n) (c .session) section (c .work) (c .text) ids)
+listFrom n s section work text (id ∷ ids) =
+    counted n (typeCall s section work text id) (λ c. listFrom (suc n) (c .session) section (c .work) (c .text) ids)
 
 unfoldable pub listCall : Session → List ℕ → List ℕ → List ℕ → List ℕ → Call
 listCall s section work text ids = listFrom 0 s section work text ids
@@ -45,5 +47,6 @@ unfoldable pub listEnd : Session → Tally → List ℕ → List ℕ → Call
 listEnd s r w t =
     elim (leb (r .number) 10) [
       | true ↦ callOf (withText s true (r .len) (r .visits)) (answerOf (r .number) (r .accepted)) w (tailed (r .accepted) (r .len) t)
-      | false ↦ callOf (withText s false (r .len) (r .visits)) (answerOf (r .number) (r .accepted)) (replicate (length w) 0) (thenZeros (length t) (r .len) t)
+      | false ↦ callOf (withText s false (r .len) (r .visits)) (answerOf (r .number) (r .accepted)) (replicate (length w) 0)
+          (thenZeros (length t) (r .len) t)
     ]

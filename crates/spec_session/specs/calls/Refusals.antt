@@ -1,4 +1,5 @@
--- Document 01's table of refusals: the number and the value of each row. specs/Table.antt says that the calls and the rules refuse by these.
+-- Document 01's table of refusals: the number and the value of each row. specs/Table.antt says that the calls and the rules refuse by
+-- these.
 use Prim.Native.Nat.{ℕ}
 use Rattle.spec_session.specs.declared.session.Answer.{Answer}
 use Rattle.spec_session.specs.session.Answers.{answerOf}

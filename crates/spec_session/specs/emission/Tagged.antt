@@ -1,5 +1,5 @@
--- The machine of emission with the ids of the definitions that it wrote, in their order. No code keeps that list: it stands beside the sheet, for
--- theorems about what is defined. What the machine does to the sheet is what `workMachine` does (proofs/Lawful).
+-- The machine of emission with the ids of the definitions that it wrote, in their order. No code keeps that list: it stands beside the
+-- sheet, for theorems about what is defined. What the machine does to the sheet is what `workMachine` does (proofs/Lawful).
 use Prim.Native.Nat.{ℕ}
 use mathlib.Core.List.{List, [], _∷_, _++_}
 use Rattle.spec_c_dumper.specs.rules.Machine.{Out, wrote, stuck, Machine}

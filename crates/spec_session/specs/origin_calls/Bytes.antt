@@ -1,5 +1,5 @@
--- The calls that are lent a list, over lent bytes and for all inputs: what code that offers them is to promise. Without the entries they are
--- `typeCall` and `typesCall` of `session_requests::entry_points`, unless the list is too short (proofs/Bytes).
+-- The calls that are lent a list, over lent bytes and for all inputs: what code that offers them is to promise. Without the entries they
+-- are `typeCall` and `typesCall` of `session_requests::entry_points`, unless the list is too short (proofs/Bytes).
 use Prim.Native.Nat.{ℕ, zero, suc, _-_, _≤_, _<_}
 use mathlib.Core.Path.{_≡_}
 use mathlib.Core.Bool.{Bool, true, false}
@@ -25,7 +25,8 @@ use Rattle.spec_c_dumper.specs.origins.Claims.{forget, Listed}
 module _ {M : Type 0} (X : Machine M) (T : Table) (more : ℕ → Bool) (shows : ℕ → Bool) where
   unfoldable pub listedNoted : ℕ → List Entry → Res (Led M) → Out (Noted M)
   listedNoted x es (ok s strong) =
-      obind (eachListed X T more shows (listedEntry x (s .led)) (X .store .list (s .state)) (record { mach = s .state; entries = es })) (λ m. wrote (record { mach = X .start 0 (m .mach); entries = m .entries }))
+      obind (eachListed X T more shows (listedEntry x (s .led)) (X .store .list (s .state)) (record { mach = s .state; entries = es }))
+      (λ m. wrote (record { mach = X .start 0 (m .mach); entries = m .entries }))
   listedNoted x es (refused c) = stuck c
 
   unfoldable pub dumpedNoted : M → List Entry → ℕ → Out (Noted M)
@@ -48,7 +49,8 @@ module _ (more : ℕ → Bool) (b : TypeTable) (s : List ℕ) where
   -- as `requested`: one request for an id, after a text of len bytes and v visits
   unfoldable pub requestedNoted : ℕ → List Entry → ℕ → ℕ → List ℕ → List ℕ → Reached
   requestedNoted id es len v w t =
-      cameToNoted len v t es (dumpedNoted (workMachine b (btfOf b s w)) (tableOf (btfOf b s w)) more (showsIn (btfOf b s w)) (record { work = w; text = lentTo len t; at = 0; len = 0 }) es id)
+      cameToNoted len v t es (dumpedNoted (workMachine b (btfOf b s w)) (tableOf (btfOf b s w)) more (showsIn (btfOf b s w))
+      (record { work = w; text = lentTo len t; at = 0; len = 0 }) es id)
 
   unfoldable pub onwardNoted : Reached → (List Entry → ℕ → List ℕ → List ℕ → Reached) → Reached
   onwardNoted r k = elim (r .reach) [ reached len w t ↦ k (r .entries) len w t | refusedBy c len v t ↦ r ]
@@ -65,7 +67,8 @@ pub record CauseCall : Type 0 where
   pub list : List ℕ
 
 unfoldable pub settledNoted : Session → ℕ → ℕ → List ℕ → Reached → CauseCall
-settledNoted s work text list r = record { call = settled s work text (r .reach); count = length (r .entries); list = filled (length list) (r .entries) }
+settledNoted s work text list r =
+    record { call = settled s work text (r .reach); count = length (r .entries); list = filled (length list) (r .entries) }
 
 -- 11 and 10: "Left as it was: everything"
 abbrev pub leftAlone : Call → List ℕ → CauseCall
@@ -77,7 +80,8 @@ typeCauses s section work text id list =
       | false ↦ leftAlone (unchanged s (refusal notCurrent (s .«text_len»)) work text) list
       | true ↦ elim (ltb id (s .types)) [
         | false ↦ leftAlone (unchanged s (refusal idNotBelow (s .«text_len»)) work text) list
-        | true ↦ settledNoted s (length work) (length text) list (requestedNoted (upTo (entriesIn list)) (tableFor s section) section id [] (s .«text_len») (s .visits) work text)
+        | true ↦ settledNoted s (length work) (length text) list
+            (requestedNoted (upTo (entriesIn list)) (tableFor s section) section id [] (s .«text_len») (s .visits) work text)
       ]
     ]
 
@@ -85,11 +89,13 @@ unfoldable pub typesCauses : Session → List ℕ → List ℕ → List ℕ → 
 typesCauses s section work text list =
     elim (isCurrent s (length section) (length work) (length text)) [
       | false ↦ leftAlone (unchanged s (refusal notCurrent (s .«text_len»)) work text) list
-      | true ↦ settledNoted s (length work) (length text) list (requestedFromNoted (upTo (entriesIn list)) (tableFor s section) section (tableFor s section .types - 1) 1 [] (s .«text_len») work text)
+      | true ↦ settledNoted s (length work) (length text) list
+          (requestedFromNoted (upTo (entriesIn list)) (tableFor s section) section (tableFor s section .types - 1) 1 []
+          (s .«text_len») work text)
     ]
 
--- What is claimed of both: with a list that has room for what the call needs it is the plain call, with the same entries for every such list; with
--- a shorter one it is 17.
+-- What is claimed of both: with a list that has room for what the call needs it is the plain call, with the same entries for every such
+-- list; with a shorter one it is 17.
 pub record CauseFits (plainly : Call) (F : List ℕ → CauseCall) : Type 0 where
   pub need : ℕ
   pub entries : List Entry

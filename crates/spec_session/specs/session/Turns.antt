@@ -1,4 +1,5 @@
--- What every call of a session shares: what it comes to, cause 11, and how it ends. Document 01, "Session (made by opening, read by requests)".
+-- What every call of a session shares: what it comes to, cause 11, and how it ends. Document 01, "Session (made by opening, read by
+-- requests)".
 use Prim.Native.Nat.{ℕ, _-_, _%_}
 use mathlib.Core.Bool.{Bool, true, false, _&&_}
 use mathlib.Core.List.{List, _++_}
@@ -53,7 +54,8 @@ pub data Reach : Type 0 where
 
 -- what the code's Reached says, with the slices at that moment
 unfoldable pub reachOf : Reached → List ℕ → List ℕ → Reach
-reachOf r w t = elim (eqb (r .number) 0) [ true ↦ reached (r .len) w t | false ↦ refusedBy (r .number) (r .len) (r .visits) (take (r .len) t) ]
+reachOf r w t =
+    elim (eqb (r .number) 0) [ true ↦ reached (r .len) w t | false ↦ refusedBy (r .number) (r .len) (r .visits) (take (r .len) t) ]
 
 -- ---- the end of a call
 
@@ -79,8 +81,10 @@ thenZeros n len t = take len t ++ replicate (n - len) 0
 -- are zero"; "a request returns the new text length"; "12 to 17 [..] zero the work words and close the session";
 -- "18 closes the session as 12 to 17 do". "In a session the counted visits [..] are kept in the record": those of the accepted requests.
 unfoldable pub settled : Session → ℕ → ℕ → Reach → Call
-settled s work text (reached len w t) = record { session = withText s true len (visitsIn w); answer = answerOf 0 len; work = w; text = thenZeros text len t }
-settled s work text (refusedBy c len v t) = record { session = withText s false len v; answer = answerOf c len; work = replicate work 0; text = thenZeros text len t }
+settled s work text (reached len w t) =
+    record { session = withText s true len (visitsIn w); answer = answerOf 0 len; work = w; text = thenZeros text len t }
+settled s work text (refusedBy c len v t) =
+    record { session = withText s false len v; answer = answerOf c len; work = replicate work 0; text = thenZeros text len t }
 
 -- 11 and 10: "Left as it was: everything", and "old text length"
 abbrev pub unchanged : Session → Answer → List ℕ → List ℕ → Call
