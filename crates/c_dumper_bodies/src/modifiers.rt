@@ -38,7 +38,7 @@ pub fn skip_mods(b: TypeTable, section: &[u8], work: &[u8], start: u32, n: u32) 
 }
 
 // Prints the qualifiers on top of n entries, each with a space after it, down to the first m.
-pub fn emit_mods(
+fn put_mods(
     b: TypeTable,
     section: &[u8],
     work: &[u8],
@@ -59,4 +59,23 @@ pub fn emit_mods(
         k -= 1;
     }
     p
+}
+
+// The same; most chains have no qualifier there.
+pub fn emit_mods(
+    b: TypeTable,
+    section: &[u8],
+    work: &[u8],
+    text: &mut [u8],
+    at: usize,
+    start: u32,
+    n: u32,
+    m: u32,
+) -> usize
+    ensures { λ r. ⌜ putOut r (now (text .exit)) ≡ putText (now (text .entry)) at (whole (modsDown b (now (section .entry)) (now (work .entry)) start m n)) ⌝ }
+{
+    if n <= m {
+        return at;
+    }
+    put_mods(b, section, work, text, at, start, n, m)
 }
