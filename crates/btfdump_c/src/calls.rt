@@ -15,6 +15,9 @@ use session_field_at_bit::field::which_field;
 use session_record::record_bytes::answered;
 use session_record::record_bytes::listed;
 use session_record::record_bytes::opened;
+use session_record::record_words::ANSWER_CLOSED;
+use session_record::record_words::ANSWER_SHORT_SLICE;
+use session_record::record_words::RECORD_BYTES;
 use session_record::record_words::decode;
 use session_record::record_words::number_and_value;
 use session_requests::open_call::open_core;
@@ -37,8 +40,8 @@ pub fn c_open(
     ensures { λ r. ⌜ exportOf r (now («record» .exit)) (now (work .exit)) (now (text .exit))
         ≡ openExport (now («record» .entry)) (now (section .entry)) «pointer_size» modes (now (work .entry)) (now (text .entry)) ⌝ }
 {
-    if record.len() < 128 {
-        return 1095216660480;
+    if record.len() < RECORD_BYTES {
+        return ANSWER_SHORT_SLICE;
     }
     let t = open_core(decode(record), section, work, text, pointer_size, modes);
     opened(record, t)
@@ -54,8 +57,8 @@ pub fn c_dump_type(
     ensures { λ r. ⌜ exportOf r (now («record» .exit)) (now (work .exit)) (now (text .exit))
         ≡ typeExport (now («record» .entry)) (now (section .entry)) (now (work .entry)) (now (text .entry)) id ⌝ }
 {
-    if record.len() < 128 {
-        return 47244640256;
+    if record.len() < RECORD_BYTES {
+        return ANSWER_CLOSED;
     }
     let t = dump_type_core(decode(record), section, work, text, id);
     answered(record, t)
@@ -65,8 +68,8 @@ pub fn c_dump_types(record: &mut [u8], section: &[u8], work: &mut [u8], text: &m
     ensures { λ r. ⌜ exportOf r (now («record» .exit)) (now (work .exit)) (now (text .exit))
         ≡ typesExport (now («record» .entry)) (now (section .entry)) (now (work .entry)) (now (text .entry)) ⌝ }
 {
-    if record.len() < 128 {
-        return 47244640256;
+    if record.len() < RECORD_BYTES {
+        return ANSWER_CLOSED;
     }
     let t = dump_types_core(decode(record), section, work, text);
     answered(record, t)
@@ -85,8 +88,8 @@ pub fn c_dump_list(
     if ids.len() < 4 {
         return 0;
     }
-    if record.len() < 128 {
-        return 47244640256;
+    if record.len() < RECORD_BYTES {
+        return ANSWER_CLOSED;
     }
     let t = dump_list_core(decode(record), section, work, text, ids);
     listed(record, t)
@@ -103,8 +106,8 @@ pub fn c_field(
     ensures { λ r. ⌜ pathExportOf r (now (path .exit))
         ≡ fieldExport (now («record» .entry)) (now (section .entry)) (now (work .entry)) (now (path .entry)) id bit ⌝ }
 {
-    if record.len() < 128 {
-        return 47244640256;
+    if record.len() < RECORD_BYTES {
+        return ANSWER_CLOSED;
     }
     let a = which_field(decode(record), section, work, path, id, bit);
     number_and_value(a)

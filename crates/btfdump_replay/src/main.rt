@@ -1,5 +1,6 @@
 // Runs the program's work on each stored section that the file `names` lists, and compares what it would print with the
 // stored text: NAME.btf with NAME.out.
+use base_bytes::limit;
 use base_bytes::put::put_bytes;
 use base_bytes::put::put_decimal;
 use libc::STDOUT_FILENO;
@@ -96,10 +97,10 @@ fn try_all(names: &[u8]) {
 
 // The sum, or the largest number.
 fn more(x: u32, y: u32) -> u32 {
-    if y <= 4294967295 - x {
+    if y <= limit::LARGEST - x {
         x + y
     } else {
-        4294967295
+        limit::LARGEST
     }
 }
 

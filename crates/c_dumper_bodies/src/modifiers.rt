@@ -72,7 +72,8 @@ pub fn emit_mods(
     n: u32,
     m: u32,
 ) -> usize
-    ensures { λ r. ⌜ putOut r (now (text .exit)) ≡ putText (now (text .entry)) at (whole (modsDown b (now (section .entry)) (now (work .entry)) start m n)) ⌝ }
+    ensures { λ r. ⌜ putOut r (now (text .exit))
+        ≡ putText (now (text .entry)) at (whole (modsDown b (now (section .entry)) (now (work .entry)) start m n)) ⌝ }
 {
     if n <= m {
         return at;

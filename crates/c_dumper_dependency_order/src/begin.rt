@@ -3,6 +3,8 @@ use crate::order_state::Order;
 use crate::order_state::get_order_state;
 use crate::order_state::refused;
 use crate::order_state::strong;
+use base_bytes::refusal;
+use btf_type_table::kind;
 use btf_type_table::kind::kind_of;
 use btf_type_table::name::is_named;
 use btf_type_table::node::type_by_id;
@@ -25,7 +27,7 @@ pub fn count_call(c: Ceiling, o: Order) -> Order
         return o;
     }
     if c.calls <= o.made {
-        return refused(o, 22);
+        return refused(o, refusal::CEILING_PASSED);
     }
     Order {
         made: o.made + 1,
@@ -48,14 +50,14 @@ pub fn meet(b: TypeTable, section: &[u8], work: &[u8], o: Order, id: u32, has_pt
     ensures { λ r. ⌜ r ≡ metBy (isPassable (tableIn b (now (section .entry)) (now (work .entry))) id «has_ptr») o ⌝ }
 {
     if !has_ptr {
-        return refused(o, 13);
+        return refused(o, refusal::CYCLE);
     }
     let t = type_by_id(b, section, work, id);
     if !is_named(b, section, t) {
-        return refused(o, 13);
+        return refused(o, refusal::CYCLE);
     }
     match kind_of(t.info) {
-        4 | 5 => strong(o, false),
-        _ => refused(o, 13),
+        kind::STRUCT | kind::UNION => strong(o, false),
+        _ => refused(o, refusal::CYCLE),
     }
 }

@@ -6,6 +6,7 @@ use crate::order_state::get_order_state;
 use crate::order_state::set_listed;
 use crate::order_state::set_order_state;
 use crate::order_state::strong;
+use base_bytes::limit;
 ghost use mathlib.Core.Path.{_≡_};
 ghost use Rattle.spec_c_dumper.specs.rules.Order.{finish as finishOf};
 ghost use Rattle.spec_c_dumper.specs.ceiling.Ceiling.{told, thenBind};
@@ -16,7 +17,7 @@ ghost use Rattle.c_dumper_dependency_order.specs.leaders.Leads.{keptStor
 fn more(n: u32) -> u32
     ensures { λ r. ⌜ r ≡ oneMore n ⌝ }
 {
-    if n < 4294967295 { n + 1 } else { n }
+    if n < limit::LARGEST { n + 1 } else { n }
 }
 
 // Puts an id at the end of the order list, and notes its leader.

@@ -1,4 +1,5 @@
 // The leaders of the ids that ordering lists: a word for each id, beside the work.
+use base_bytes::limit;
 ghost use mathlib.Core.Path.{_≡_};
 ghost use Rattle.c_dumper_dependency_order.specs.leaders.Leads.{ledTwo, insideOf, wordAt, isNoted, noteIn, leaderIn};
 
@@ -38,7 +39,7 @@ fn word_at(leads: &[u64], i: usize) -> u64
 fn is_noted(leads: &[u64], turn: u32, id: u32) -> bool
     ensures { λ r. ⌜ r ≡ isNoted turn (now (leads .entry)) id ⌝ }
 {
-    word_at(leads, id as usize) / 4294967296 == (turn as u64)
+    word_at(leads, id as usize) / limit::TWO_TO_32 == (turn as u64)
 }
 
 // Notes the leader of an id, unless this request has noted one.
@@ -53,7 +54,7 @@ pub fn note(leads: &mut [u64], v: Way, id: u32)
     if leads.len() <= i {
         return;
     }
-    leads[i] = (v.turn as u64) * 4294967296 + (lead as u64);
+    leads[i] = (v.turn as u64) * limit::TWO_TO_32 + (lead as u64);
 }
 
 // The leader of an id in the request for `req`.
@@ -61,7 +62,7 @@ pub fn leader_of(leads: &[u64], req: u32, turn: u32, id: u32) -> u32
     ensures { λ r. ⌜ r ≡ leaderIn req turn (now (leads .entry)) id ⌝ }
 {
     if is_noted(leads, turn, id) {
-        return (word_at(leads, id as usize) % 4294967296) as u32;
+        return (word_at(leads, id as usize) % limit::TWO_TO_32) as u32;
     }
     req
 }

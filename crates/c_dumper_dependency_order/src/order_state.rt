@@ -1,4 +1,5 @@
 // What ordering keeps: the order states of the types and the order list, both in the work words, and what it has come to.
+use btf_type_table::cell;
 use btf_type_table::cell::get_field;
 use btf_type_table::cell::put_field;
 ghost use mathlib.Core.Path.{_≡_};
@@ -17,33 +18,33 @@ pub struct Order {
 pub fn get_order_state(work: &[u8], id: u32) -> u32
     ensures { λ r. ⌜ r ≡ getField (now (work .entry)) id 1 ⌝ }
 {
-    get_field(work, id, 1)
+    get_field(work, id, cell::ORDER_STATE)
 }
 
 pub fn set_order_state(work: &mut [u8], id: u32, state: u32)
     ensures { λ _. ⌜ now (work .exit) ≡ putField (now (work .entry)) id 1 state ⌝ }
 {
-    put_field(work, id, 1, state)
+    put_field(work, id, cell::ORDER_STATE, state)
 }
 
 // The id at a place of the order list.
 pub fn get_listed(work: &[u8], k: u32) -> u32
     ensures { λ r. ⌜ r ≡ getField (now (work .entry)) k 11 ⌝ }
 {
-    get_field(work, k, 11)
+    get_field(work, k, cell::ORDER_SLOT)
 }
 
 pub fn set_listed(work: &mut [u8], k: u32, id: u32)
     ensures { λ _. ⌜ now (work .exit) ≡ putField (now (work .entry)) k 11 id ⌝ }
 {
-    put_field(work, k, 11, id)
+    put_field(work, k, cell::ORDER_SLOT, id)
 }
 
 // Empties a place of the order list.
 pub fn clear_listed(work: &mut [u8], k: u32)
     ensures { λ _. ⌜ now (work .exit) ≡ putField (now (work .entry)) k 11 0 ⌝ }
 {
-    put_field(work, k, 11, 0)
+    put_field(work, k, cell::ORDER_SLOT, 0)
 }
 
 pub fn strong(o: Order, is_strong: bool) -> Order

@@ -14,6 +14,7 @@ use crate::order_state::set_order_state;
 use crate::order_state::strong;
 use crate::ways::is_passed;
 use crate::ways::is_weak_past;
+use base_bytes::refusal;
 use btf_type_table::kind::member_place;
 use btf_type_table::kind::param_place;
 use btf_type_table::name::is_named;
@@ -52,7 +53,7 @@ pub fn order_type(
         return o;
     }
     if left == 0 {
-        return refused(o, 12);
+        return refused(o, refusal::TOO_DEEP);
     }
     let p = count_call(c, o);
     if p.stop != 0 {

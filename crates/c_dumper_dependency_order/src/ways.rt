@@ -1,5 +1,6 @@
 // Small decisions of ordering, with no call of it: which ways are weak, which composites are passed over, and what a request
 // opens that has nothing to do.
+use base_bytes::refusal;
 use spec_type_table::TypeTable;
 ghost use mathlib.Core.Path.{_≡_};
 ghost use mathlib.Core.Bool.{not, _&&_};
@@ -31,7 +32,7 @@ pub fn count_idle(made: u64, ceiling: u64) -> Idle
 {
     if ceiling <= made {
         return Idle {
-            number: 22,
+            number: refusal::CEILING_PASSED,
             made: made,
         };
     }

@@ -3,6 +3,7 @@ use crate::emit_type::emit_ordered;
 use crate::entries::Asked;
 use crate::entries::Pen;
 use base_bytes::put::stop;
+use btf_type_table::kind;
 use btf_type_table::kind::kind_of;
 use btf_type_table::node::type_by_id;
 use c_dumper_dependency_order::begin::Ceiling;
@@ -64,7 +65,7 @@ pub fn is_idle(b: TypeTable, section: &[u8], work: &[u8], id: u32) -> bool
     }
     let t = type_by_id(b, section, work, id);
     match kind_of(t.info) {
-        12 | 14 | 15 | 17 => true,
+        kind::FUNC | kind::VAR | kind::DATASEC | kind::DECL_TAG => true,
         _ => false,
     }
 }

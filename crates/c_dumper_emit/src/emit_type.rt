@@ -12,7 +12,9 @@ use crate::steps::inner;
 use crate::steps::mention_composite;
 use crate::steps::set_emit_state;
 use crate::steps::stop_at;
+use base_bytes::limit;
 use base_bytes::put::stopped;
+use base_bytes::refusal;
 use btf_type_table::kind::entries_of;
 use btf_type_table::kind::member_place;
 use btf_type_table::kind::param_place;
@@ -68,7 +70,7 @@ pub fn emit_type(
         return p;
     }
     if left == 0 {
-        return stop_at(text, p, 12);
+        return stop_at(text, p, refusal::TOO_DEEP);
     }
     let state = get_emit_state(work, id);
     if state == 2 {
@@ -79,7 +81,7 @@ pub fn emit_type(
     }
     let t = type_by_id(b, section, work, id);
     if (cont == 0) & !is_named(b, section, t) {
-        return stop_at(text, p, 14);
+        return stop_at(text, p, refusal::NAMELESS_TYPEDEF);
     }
     let rest = left - 1;
     emit_new(b, section, work, text, list, leads, q, p, id, t, cont, rest)
@@ -278,7 +280,19 @@ pub fn emit_ordered(
     let mut k: u32 = 0;
     while k < n {
         let id = get_listed(work, k);
-        a = emit_type(b, section, work, text, list, leads, q, a, id, 0, 512);
+        a = emit_type(
+            b,
+            section,
+            work,
+            text,
+            list,
+            leads,
+            q,
+            a,
+            id,
+            0,
+            limit::MOST_CALLS,
+        );
         k += 1;
     }
     a

@@ -1,6 +1,7 @@
 // The entry of a line in the lent list: three words, before any other step of the line.
 use base_bytes::put::stop;
 use base_bytes::put::stopped;
+use base_bytes::refusal;
 use base_bytes::word::put_word;
 use btf_type_table::name::is_builtin;
 use btf_type_table::name::is_named;
@@ -100,7 +101,7 @@ fn note(text: &[u8], list: &mut [u8], p: Pen, e: Origin) -> Pen
     }
     if list.len() / 12 <= p.count {
         return Pen {
-            at: stop(text, p.at, 17),
+            at: stop(text, p.at, refusal::TEXT_FULL),
             count: p.count,
         };
     }

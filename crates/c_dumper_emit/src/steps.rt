@@ -9,8 +9,11 @@ use crate::entries::origin_at;
 use crate::lines::define;
 use crate::lines::forward;
 use base_bytes::put::stop;
+use base_bytes::refusal;
+use btf_type_table::cell;
 use btf_type_table::cell::get_field;
 use btf_type_table::cell::put_field;
+use btf_type_table::kind;
 use btf_type_table::kind::kind_of;
 use btf_type_table::name::is_named;
 use btf_type_table::node::type_by_id;
@@ -33,25 +36,25 @@ ghost use Rattle.c_dumper_emit.specs.entries.Noted.{againN, typedefN, me
 pub fn get_emit_state(work: &[u8], id: u32) -> u32
     ensures { λ r. ⌜ r ≡ getField (now (work .entry)) id 13 ⌝ }
 {
-    get_field(work, id, 13)
+    get_field(work, id, cell::EMIT_STATE)
 }
 
 pub fn set_emit_state(work: &mut [u8], id: u32, state: u32)
     ensures { λ _. ⌜ now (work .exit) ≡ putField (now (work .entry)) id 13 state ⌝ }
 {
-    put_field(work, id, 13, state)
+    put_field(work, id, cell::EMIT_STATE, state)
 }
 
 fn get_fwd_emitted(work: &[u8], id: u32) -> bool
     ensures { λ r. ⌜ r ≡ not (eqb (getField (now (work .entry)) id 3) 0) ⌝ }
 {
-    get_field(work, id, 3) != 0
+    get_field(work, id, cell::FORWARD_EMITTED) != 0
 }
 
 fn set_fwd_emitted(work: &mut [u8], id: u32)
     ensures { λ _. ⌜ now (work .exit) ≡ putField (now (work .entry)) id 3 1 ⌝ }
 {
-    put_field(work, id, 3, 1)
+    put_field(work, id, cell::FORWARD_EMITTED, 1)
 }
 
 fn emit_once(
@@ -113,17 +116,17 @@ pub fn emit_again(
     }
     let t = type_by_id(b, section, work, id);
     match kind_of(t.info) {
-        4 | 5 => {
+        kind::STRUCT | kind::UNION => {
             if id == cont {
                 return p;
             }
             if !is_named(b, section, t) {
-                return stop_at(text, p, 13);
+                return stop_at(text, p, refusal::CYCLE);
             }
             let e = forward_origin(id, cont);
             emit_once(b, section, work, text, list, q.lists, p, id, t, e)
         }
-        8 => {
+        kind::TYPEDEF => {
             let e = origin_at(leads, q, 3, id, cont);
             emit_once(b, section, work, text, list, q.lists, p, id, t, e)
         }

@@ -4,6 +4,7 @@ mod lists;
 use crate::metered::Counted;
 use crate::metered::Metered;
 pub use crate::within::lists::dump_list_within;
+use base_bytes::refusal;
 use btf_open_causes::header::btf_of;
 use c_dumper_dependency_order::ways::count_idle;
 use session_record::arrival::arrived;
@@ -134,13 +135,13 @@ pub fn dump_type_within(
 {
     if !is_current(s, section.len(), work.len(), text.len()) {
         return Counted {
-            turn: turn_of(s, 11, s.text_len),
+            turn: turn_of(s, refusal::SESSION_CLOSED, s.text_len),
             made: 0,
         };
     }
     if s.types <= id {
         return Counted {
-            turn: turn_of(s, 10, s.text_len),
+            turn: turn_of(s, refusal::NO_SUCH_ID, s.text_len),
             made: 0,
         };
     }
@@ -164,7 +165,7 @@ pub fn dump_types_within(
 {
     if !is_current(s, section.len(), work.len(), text.len()) {
         return Counted {
-            turn: turn_of(s, 11, s.text_len),
+            turn: turn_of(s, refusal::SESSION_CLOSED, s.text_len),
             made: 0,
         };
     }

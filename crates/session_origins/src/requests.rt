@@ -2,6 +2,8 @@
 mod every;
 
 pub use crate::requests::every::dump_types_causes;
+use base_bytes::limit;
+use base_bytes::refusal;
 use base_bytes::word::clear;
 use btf_open_causes::header::btf_of;
 use c_dumper_emit::entries::Asked;
@@ -98,7 +100,7 @@ fn dump_alone(
         ≡ requestedNoted (upTo (entriesIn (now (list .entry)))) b (now (section .entry)) id [] len visits (now (work .entry))
         (now (text .entry))) × (r .count ≤ entriesIn (now (list .entry))) ⌝ }
 {
-    let mut leads = [0u64; 262145];
+    let mut leads = [0u64; limit::TYPES_LEN];
     dump_one(b, section, work, text, list, &mut leads, len, visits, id, 1)
 }
 
@@ -128,13 +130,13 @@ pub fn dump_type_causes(
 {
     if !is_current(s, section.len(), work.len(), text.len()) {
         return Explained {
-            turn: turn_of(s, 11, s.text_len),
+            turn: turn_of(s, refusal::SESSION_CLOSED, s.text_len),
             count: 0,
         };
     }
     if s.types <= id {
         return Explained {
-            turn: turn_of(s, 10, s.text_len),
+            turn: turn_of(s, refusal::NO_SUCH_ID, s.text_len),
             count: 0,
         };
     }

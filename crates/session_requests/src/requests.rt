@@ -1,4 +1,5 @@
 // The calls of a session by value: one request, the request for all ids and a list of ids. Opening: `session_requests::open_call`.
+use base_bytes::refusal;
 use base_bytes::word::get_word;
 use btf_open_causes::header::btf_of;
 use session_record::arrival::arrived;
@@ -98,10 +99,10 @@ pub fn dump_type_core(s: Session, section: &[u8], work: &mut [u8], text: &mut [u
         ≡ typeCall s (now (section .entry)) (now (work .entry)) (now (text .entry)) id ⌝ }
 {
     if !is_current(s, section.len(), work.len(), text.len()) {
-        return turn_of(s, 11, s.text_len);
+        return turn_of(s, refusal::SESSION_CLOSED, s.text_len);
     }
     if s.types <= id {
-        return turn_of(s, 10, s.text_len);
+        return turn_of(s, refusal::NO_SUCH_ID, s.text_len);
     }
     let b = btf_of(section, s.pointer_size, s.modes, s.types);
     let r = dump_one(b, section, work, text, s.text_len, s.visits, id);
@@ -113,7 +114,7 @@ pub fn dump_types_core(s: Session, section: &[u8], work: &mut [u8], text: &mut [
         ≡ typesCall s (now (section .entry)) (now (work .entry)) (now (text .entry)) ⌝ }
 {
     if !is_current(s, section.len(), work.len(), text.len()) {
-        return turn_of(s, 11, s.text_len);
+        return turn_of(s, refusal::SESSION_CLOSED, s.text_len);
     }
     let b = btf_of(section, s.pointer_size, s.modes, s.types);
     let r = dump_all(b, section, work, text, s.text_len);
@@ -137,7 +138,7 @@ fn dump_ids(s: Session, section: &[u8], work: &mut [u8], text: &mut [u8], ids: &
         if s.types <= id {
             return Tally {
                 len: len,
-                number: 10,
+                number: refusal::NO_SUCH_ID,
                 accepted: k,
                 visits: visits,
             };
@@ -180,7 +181,7 @@ pub fn dump_list_core(
         };
     }
     if !is_current(s, section.len(), work.len(), text.len()) {
-        return turn_of(s, 11, 0);
+        return turn_of(s, refusal::SESSION_CLOSED, 0);
     }
     let r = dump_ids(s, section, work, text, ids);
     settle_list(s, work, text, r)

@@ -4,6 +4,8 @@ use session_ceiling::within::dump_type_within;
 use session_ceiling::within::dump_types_within;
 use session_record::record_bytes::answered;
 use session_record::record_bytes::listed;
+use session_record::record_words::ANSWER_CLOSED;
+use session_record::record_words::RECORD_BYTES;
 use session_record::record_words::decode;
 ghost use mathlib.Core.Path.{_≡_};
 ghost use Rattle.spec_c_calls.specs.Ceilings.{withinExportOf, typeWithinExport, typesWithinExport, listWithinExport};
@@ -21,9 +23,9 @@ pub fn c_dump_type_within(
     ensures { λ r. ⌜ withinExportOf r (now («record» .exit)) (now (work .exit)) (now (text .exit)) (now (made .exit))
         ≡ typeWithinExport ceiling (now («record» .entry)) (now (section .entry)) (now (work .entry)) (now (text .entry)) id ⌝ }
 {
-    if record.len() < 128 {
+    if record.len() < RECORD_BYTES {
         *made = 0;
-        return 47244640256;
+        return ANSWER_CLOSED;
     }
     let d = dump_type_within(decode(record), section, work, text, id, ceiling);
     *made = d.made;
@@ -41,9 +43,9 @@ pub fn c_dump_types_within(
     ensures { λ r. ⌜ withinExportOf r (now («record» .exit)) (now (work .exit)) (now (text .exit)) (now (made .exit))
         ≡ typesWithinExport ceiling (now («record» .entry)) (now (section .entry)) (now (work .entry)) (now (text .entry)) ⌝ }
 {
-    if record.len() < 128 {
+    if record.len() < RECORD_BYTES {
         *made = 0;
-        return 47244640256;
+        return ANSWER_CLOSED;
     }
     let d = dump_types_within(decode(record), section, work, text, ceiling);
     *made = d.made;
@@ -67,9 +69,9 @@ pub fn c_dump_list_within(
         *made = 0;
         return 0;
     }
-    if record.len() < 128 {
+    if record.len() < RECORD_BYTES {
         *made = 0;
-        return 47244640256;
+        return ANSWER_CLOSED;
     }
     let d = dump_list_within(decode(record), section, work, text, ids, ceiling);
     *made = d.made;

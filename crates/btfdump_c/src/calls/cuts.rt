@@ -1,5 +1,7 @@
 // A section cut down to what is used, for C.
 use session_cut::call::cut;
+use session_record::record_words::ANSWER_CLOSED;
+use session_record::record_words::RECORD_BYTES;
 use session_record::record_words::decode;
 use session_record::record_words::number_and_value;
 ghost use mathlib.Core.Path.{_≡_};
@@ -9,8 +11,8 @@ pub fn c_cut(record: &[u8], section: &[u8], ids: &[u8], out: &mut [u8]) -> u64
     ensures { λ r. ⌜ cutExportOf r (now (out .exit))
         ≡ cutExport (now («record» .entry)) (now (section .entry)) (now (ids .entry)) (now (out .entry)) ⌝ }
 {
-    if record.len() < 128 {
-        return 47244640256;
+    if record.len() < RECORD_BYTES {
+        return ANSWER_CLOSED;
     }
     let a = cut(decode(record), section, ids, out);
     number_and_value(a)

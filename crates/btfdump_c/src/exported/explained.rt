@@ -4,6 +4,8 @@ use session_origins::requests::dump_type_causes;
 use session_origins::requests::dump_types_causes;
 use session_record::record_bytes::answered;
 use session_record::record_bytes::listed;
+use session_record::record_words::ANSWER_CLOSED;
+use session_record::record_words::RECORD_BYTES;
 use session_record::record_words::decode;
 ghost use mathlib.Core.Path.{_≡_};
 ghost use Rattle.btfdump_c.specs.exported.Causes.{causesExportOf, typeCausesExport, typesCausesExport, listCausesExport};
@@ -22,9 +24,9 @@ pub extern "C" fn btfdump_dump_type_causes(
     ensures { λ r. ⌜ causesExportOf r (now («record» .exit)) (now (work .exit)) (now (text .exit)) (now (count .exit)) (now (list .exit))
         ≡ typeCausesExport (now («record» .entry)) (now (section .entry)) (now (work .entry)) (now (text .entry)) id (now (list .entry)) ⌝ }
 {
-    if record.len() < 128 {
+    if record.len() < RECORD_BYTES {
         *count = 0;
-        return 47244640256;
+        return ANSWER_CLOSED;
     }
     let d = dump_type_causes(decode(record), section, work, text, list, id);
     *count = d.count as u64;
@@ -43,9 +45,9 @@ pub extern "C" fn btfdump_dump_types_causes(
     ensures { λ r. ⌜ causesExportOf r (now («record» .exit)) (now (work .exit)) (now (text .exit)) (now (count .exit)) (now (list .exit))
         ≡ typesCausesExport (now («record» .entry)) (now (section .entry)) (now (work .entry)) (now (text .entry)) (now (list .entry)) ⌝ }
 {
-    if record.len() < 128 {
+    if record.len() < RECORD_BYTES {
         *count = 0;
-        return 47244640256;
+        return ANSWER_CLOSED;
     }
     let d = dump_types_causes(decode(record), section, work, text, list);
     *count = d.count as u64;
@@ -70,9 +72,9 @@ pub extern "C" fn btfdump_dump_list_causes(
         *count = 0;
         return 0;
     }
-    if record.len() < 128 {
+    if record.len() < RECORD_BYTES {
         *count = 0;
-        return 47244640256;
+        return ANSWER_CLOSED;
     }
     let d = dump_list_causes(decode(record), section, work, text, list, ids);
     *count = d.count as u64;

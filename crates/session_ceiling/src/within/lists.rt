@@ -2,6 +2,7 @@
 use crate::metered::Counted;
 use crate::metered::Tallied;
 use crate::within::dump_next;
+use base_bytes::refusal;
 use base_bytes::word::get_word;
 use btf_open_causes::header::btf_of;
 use session_record::arrival::count_of;
@@ -55,7 +56,7 @@ fn dump_ids(
     while k < n {
         let id = get_word(ids, k as usize);
         if s.types <= id {
-            return tally_of(len, 10, k, visits, made);
+            return tally_of(len, refusal::NO_SUCH_ID, k, visits, made);
         }
         let r = dump_next(b, section, work, text, len, visits, id, made, ceiling);
         if r.reached.number != 0 {
@@ -88,7 +89,7 @@ pub fn dump_list_within(
     }
     if !is_current(s, section.len(), work.len(), text.len()) {
         return Counted {
-            turn: turn_of(s, 11, 0),
+            turn: turn_of(s, refusal::SESSION_CLOSED, 0),
             made: 0,
         };
     }

@@ -3,6 +3,8 @@ use crate::requests::Explained;
 use crate::requests::Told;
 use crate::requests::clear_causes;
 use crate::requests::dump_one;
+use base_bytes::limit;
+use base_bytes::refusal;
 use btf_open_causes::header::btf_of;
 use c_dumper_emit::dump_type::is_idle;
 use session_record::settle::is_current;
@@ -144,12 +146,12 @@ pub fn dump_types_causes(
 {
     if !is_current(s, section.len(), work.len(), text.len()) {
         return Explained {
-            turn: turn_of(s, 11, s.text_len),
+            turn: turn_of(s, refusal::SESSION_CLOSED, s.text_len),
             count: 0,
         };
     }
     let b = btf_of(section, s.pointer_size, s.modes, s.types);
-    let mut leads = [0u64; 262145];
+    let mut leads = [0u64; limit::TYPES_LEN];
     let r = dump_all(b, section, work, text, list, &mut leads, s.text_len);
     let turn = settle(s, work, text, r.reached);
     clear_causes(list, r.count);
