@@ -1,2 +1,2 @@
-pub mod dump_type
 pub mod entries
+pub mod origin_request

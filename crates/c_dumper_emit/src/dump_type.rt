@@ -2,6 +2,7 @@
 use crate::emit_type::emit_ordered;
 use crate::entries::Asked;
 use crate::entries::Pen;
+use crate::order_list::clear_list;
 use base_bytes::put::stop;
 use btf_type_table::kind;
 use btf_type_table::kind::kind_of;
@@ -11,7 +12,6 @@ use c_dumper_dependency_order::leaders::Way;
 use c_dumper_dependency_order::order_state::Order;
 use c_dumper_dependency_order::order_state::get_order_state;
 use c_dumper_dependency_order::order_type::order_type;
-use spec_session::emission::clear_list;
 use spec_type_table::TypeTable;
 ghost use mathlib.Core.Path.{_≡_};
 ghost use Prim.Native.Nat.{_-_};
@@ -22,7 +22,7 @@ ghost use Rattle.spec_type_table.specs.Table.{btfOf};
 ghost use Rattle.c_dumper_dependency_order.specs.order_state.Work.{markOf, tableIn};
 ghost use Rattle.c_dumper_dependency_order.specs.begin.Start.{limitOf};
 ghost use Rattle.spec_c_dumper.specs.ceiling.Ceiling.{countOf};
-ghost use Rattle.c_dumper_emit.specs.dump_type.Metered.{orderedIn, dumpedMetered, callsIn, dumpedWithin};
+ghost use Rattle.spec_session.specs.metered.Metered.{orderedIn, dumpedMetered, callsIn, dumpedWithin};
 ghost use Rattle.spec_session.specs.emission.Sheet.{sheetStore, emitOut, workMachine, emitIn, isIdle};
 ghost use Rattle.spec_c_dumper.specs.rules.Request.{dumped};
 

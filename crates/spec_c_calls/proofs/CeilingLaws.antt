@@ -11,9 +11,9 @@ use Rattle.session_record.specs.record_bytes.Record.{recordAfter, recordListed}
 use Rattle.spec_session.specs.session.Answers.{numberOf, valueOf}
 use Rattle.spec_session.specs.calls.Lists.{idsIn}
 use Rattle.spec_session.proofs.calls.Lists.{ids-none, ids-some}
-use Rattle.session_ceiling.specs.metered.Lists.{listCallWithin}
-use Rattle.session_ceiling.specs.declared.metered.Counted.{Counted}
-use Rattle.session_ceiling.specs.metered.Within.{CallWithin, countedOf, typeCallWithin, typesCallWithin}
+use Rattle.spec_session.specs.metered.Lists.{listCallWithin}
+use Rattle.spec_session.specs.declared.metered.Counted.{Counted}
+use Rattle.spec_session.specs.metered.Within.{CallWithin, countedOf, typeCallWithin, typesCallWithin}
 use Rattle.spec_c_calls.specs.Exports.{answeredBy}
 use Rattle.spec_c_calls.specs.Ceilings.{withinExportOf, answeredWithin, typeWithinExport, typesWithinExport, listedWithin, listWithinExport}
 

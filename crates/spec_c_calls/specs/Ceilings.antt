@@ -7,8 +7,8 @@ use lib.ListN.{length}
 use Rattle.spec_session.specs.session.Answers.{numberOf, valueOf}
 use Rattle.session_record.specs.record_words.Words.{packed, decoded}
 use Rattle.session_record.specs.record_bytes.Record.{recordListed}
-use Rattle.session_ceiling.specs.metered.Within.{CallWithin, typeCallWithin, typesCallWithin}
-use Rattle.session_ceiling.specs.metered.Lists.{listCallWithin}
+use Rattle.spec_session.specs.metered.Within.{CallWithin, typeCallWithin, typesCallWithin}
+use Rattle.spec_session.specs.metered.Lists.{listCallWithin}
 use Rattle.spec_c_calls.specs.Exports.{Export, exportOf, answeredBy}
 
 pub record WithinExport : Type 0 where

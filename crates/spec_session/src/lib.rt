@@ -1,3 +1,3 @@
 // What each call on a session comes to: definitions and laws.
-pub mod emission;
+pub mod metered;
 pub mod session;

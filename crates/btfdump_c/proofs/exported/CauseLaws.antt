@@ -12,9 +12,9 @@ use Rattle.spec_session.proofs.calls.Lists.{ids-none, ids-some}
 use Rattle.session_record.specs.record_words.Words.{packed, decoded}
 use Rattle.session_record.specs.record_bytes.Record.{recordAfter, recordListed}
 use Rattle.spec_session.specs.origin_calls.Bytes.{CauseCall, typeCauses, typesCauses}
-use Rattle.session_origins.specs.declared.requests.Explained.{Explained}
-use Rattle.session_origins.specs.requests.Explained.{explainedOf}
-use Rattle.session_origins.specs.lists.Several.{listCausesCall}
+use Rattle.session_requests.specs.declared.origin_requests.Explained.{Explained}
+use Rattle.session_requests.specs.origin_requests.Explained.{explainedOf}
+use Rattle.session_requests.specs.origin_lists.Several.{listCausesCall}
 use Rattle.spec_c_calls.specs.Exports.{answeredBy}
 use Rattle.btfdump_c.specs.exported.Causes.{causesExportOf, answeredCauses, typeCausesExport, typesCausesExport, listedCauses, listCausesExport}
 

@@ -8,7 +8,7 @@ use Rattle.spec_session.specs.session.Answers.{numberOf, valueOf}
 use Rattle.session_record.specs.record_words.Words.{packed, decoded}
 use Rattle.session_record.specs.record_bytes.Record.{recordListed}
 use Rattle.spec_session.specs.origin_calls.Bytes.{CauseCall, typeCauses, typesCauses}
-use Rattle.session_origins.specs.lists.Several.{listCausesCall}
+use Rattle.session_requests.specs.origin_lists.Several.{listCausesCall}
 use Rattle.spec_c_calls.specs.Exports.{Export, exportOf, answeredBy}
 
 pub record CausesExport : Type 0 where

@@ -1,12 +1,12 @@
 // Requests under a ceiling on the calls of the ordering rule, for C. How many were made is stored in `made`.
-use session_ceiling::within::dump_list_within;
-use session_ceiling::within::dump_type_within;
-use session_ceiling::within::dump_types_within;
 use session_record::record_bytes::answered;
 use session_record::record_bytes::listed;
 use session_record::record_words::ANSWER_CLOSED;
 use session_record::record_words::RECORD_BYTES;
 use session_record::record_words::decode;
+use session_requests::within::dump_list_within;
+use session_requests::within::dump_type_within;
+use session_requests::within::dump_types_within;
 ghost use mathlib.Core.Path.{_≡_};
 ghost use Rattle.spec_c_calls.specs.Ceilings.{withinExportOf, typeWithinExport, typesWithinExport, listWithinExport};
 ghost use Rattle.spec_session.specs.calls.Lists.{idsIn};

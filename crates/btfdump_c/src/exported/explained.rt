@@ -1,12 +1,12 @@
 // Requests that are lent a list and leave an entry in it for each line, for C. How many entries there are is stored in `count`.
-use session_origins::lists::dump_list_causes;
-use session_origins::requests::dump_type_causes;
-use session_origins::requests::dump_types_causes;
 use session_record::record_bytes::answered;
 use session_record::record_bytes::listed;
 use session_record::record_words::ANSWER_CLOSED;
 use session_record::record_words::RECORD_BYTES;
 use session_record::record_words::decode;
+use session_requests::origin_lists::dump_list_causes;
+use session_requests::origin_requests::dump_type_causes;
+use session_requests::origin_requests::dump_types_causes;
 ghost use mathlib.Core.Path.{_≡_};
 ghost use Rattle.btfdump_c.specs.exported.Causes.{causesExportOf, typeCausesExport, typesCausesExport, listCausesExport};
 ghost use Rattle.spec_session.specs.calls.Lists.{idsIn};

@@ -19,7 +19,7 @@ use Rattle.spec_type_table.specs.Cells.{getField}
 use Rattle.spec_type_table.specs.Records.{kindOf, recordById}
 use Rattle.spec_type_table.specs.Table.{from, typeOf, btfOf}
 use Rattle.spec_type_table.proofs.KindLaws.{by-kind, type-0, type-1, type-2, type-3, type-4, type-5, type-6, type-7, type-8, type-9, type-10, type-11, type-12, type-13, type-14, type-15, type-16, type-17, type-18, type-19, type-none}
-use Rattle.spec_c_dumper.specs.ceiling.Ceiling.{Limit, unbounded, most, Told, halted, countOf, thenBind, callsFresh, callsVisit, calls}
+use Rattle.spec_c_dumper.specs.ceiling.Ceiling.{Limit, unbounded, most, Told, halted, countOf, thenBind}
 use Rattle.spec_c_dumper.proofs.ceiling.Counted.{tell, within, passes}
 use Rattle.spec_c_dumper.proofs.ceiling.Plain.{unbounded-is}
 use Rattle.c_dumper_dependency_order.specs.declared.order_state.Order.{Order}
@@ -30,7 +30,7 @@ use Rattle.c_dumper_dependency_order.specs.leaders.Leads.{Kept, orderKept, kept
 use Rattle.c_dumper_dependency_order.proofs.order_state.Laws.{is-done, is-busy, is-new, node-at}
 use Rattle.c_dumper_dependency_order.proofs.order_type.Laws.{keptOf, going, stops, by-stop, run, stays-run, called-stays}
 use Rattle.c_dumper_dependency_order.proofs.leaders.Maps.{forget-kept}
-use Rattle.c_dumper_emit.specs.dump_type.Metered.{orderedIn, besideOf, dumpedMetered, callsIn, dumpedWithin}
+use Rattle.spec_session.specs.metered.Metered.{orderedIn, besideOf, dumpedMetered, callsIn, dumpedWithin}
 use Rattle.spec_session.specs.emission.Sheet.{Sheet, marksIn, withMarks, sheetStore, emptied, emitOut, workMachine, emitIn, isIgnored, isIdle}
 use Rattle.spec_c_dumper.specs.rules.Request.{listedOut, dumped}
 use Rattle.spec_session.proofs.emission.Frame.{Stays, on, off}
@@ -320,29 +320,6 @@ module _ (b : TypeTable) (B : Rules) (at : ℕ) (tx w : List ℕ) (id : ℕ) whe
   pub idle-request : isIdle (markOf (getField w id 1)) (tableOf B .node id) ≡ true → dumped (workMachine b B) (tableOf B) (sheet 0 at tx w) id ≡ wrote (sheet 0 at tx w)
   unfolding dumped workMachine
   idle-request e = idle-order 511 e
-
--- and opens one call
-module _ (b : TypeTable) (s : List ℕ) (w : List ℕ) (id : ℕ) where
-  idle-fresh : (rec : Marks → ℕ → Bool → Res Marks) (count : Marks → ℕ → Bool → ℕ) (m : Marks) (nd : Node) → isIgnored nd ≡ true → callsFresh workStore (tableIn b s w) rec count m id false nd ≡ 0
-  unfolding isIgnored callsFresh
-  idle-fresh rec count m ignored e = refl
-  idle-fresh rec count m plain e = refl
-  idle-fresh rec count m (listed f) e = refl
-  idle-fresh rec count m (through a t) e = absurd (true≢false (sym e))
-  idle-fresh rec count m (ptr t) e = absurd (true≢false (sym e))
-  idle-fresh rec count m (tdef t) e = absurd (true≢false (sym e))
-  idle-fresh rec count m (proto ts) e = absurd (true≢false (sym e))
-  idle-fresh rec count m (comp ms) e = absurd (true≢false (sym e))
-
-  idle-opens : (rec : Marks → ℕ → Bool → Res Marks) (count : Marks → ℕ → Bool → ℕ) (m : Marks) (d : Mark) → isIdle d (tableIn b s w .node id) ≡ true → callsVisit workStore (tableIn b s w) rec count m id false d ≡ 0
-  unfolding isIdle callsVisit
-  idle-opens rec count m new e = idle-fresh rec count m (tableIn b s w .node id) e
-  idle-opens rec count m busy e = refl
-  idle-opens rec count m done e = refl
-
-  pub idle-calls : isIdle (markOf (getField w id 1)) (tableIn b s w .node id) ≡ true → callsIn b s w id ≡ 1
-  unfolding callsIn calls workStore
-  idle-calls e = ap suc (idle-opens (λ s′ y f. order workStore 511 (tableIn b s w) s′ y f) (λ s′ y f. calls workStore 511 (tableIn b s w) s′ y f) (record { work = w; len = 0 }) (markOf (getField w id 1)) e)
 
 -- ---- a request of the theory's session (`single` of the rules): its machine, with the list emptied, is what `dumped` leaves, or its number
 -- is the refusal

@@ -18,9 +18,9 @@ use Rattle.spec_session.specs.calls.Calls.{typeCall, typesCall}
 use Rattle.spec_session.specs.calls.Lists.{counted, listFrom, listCall}
 use Rattle.spec_session.proofs.calls.Claims.{type-not-current, types-not-current, closed-stays}
 use Rattle.spec_session.proofs.calls.Lists.{counted-stops}
-use Rattle.session_ceiling.specs.metered.Within.{CallWithin, typeCallWithin, typesCallWithin}
-use Rattle.session_ceiling.specs.metered.Lists.{listFromWithin, listCallWithin}
-use Rattle.session_ceiling.proofs.metered.ListLaws.{counted-stops as within-stops}
+use Rattle.spec_session.specs.metered.Within.{CallWithin, typeCallWithin, typesCallWithin}
+use Rattle.spec_session.specs.metered.Lists.{listFromWithin, listCallWithin}
+use Rattle.spec_session.proofs.metered.ListLaws.{counted-stops as within-stops}
 use Rattle.spec_c_dumper.specs.needs.Needs.{MeetsTwice}
 use Rattle.spec_c_dumper.specs.needs.Lists.{Ls}
 use Rattle.spec_c_dumper.specs.needs.Session.{Known}

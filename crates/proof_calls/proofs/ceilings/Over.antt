@@ -9,15 +9,15 @@ use lib.ListN.{length, take}
 use lib.Dec.{ltb}
 use borrow.Author.Tests.{ltb-true, ltb-false}
 use Rattle.spec_bytes.proofs.words.Laws.{le-or-lt}
-use Rattle.c_dumper_emit.specs.dump_type.Metered.{callsIn}
+use Rattle.spec_session.specs.metered.Metered.{callsIn}
 use Rattle.spec_session.specs.declared.session.Session.{Session}
 use Rattle.spec_session.specs.session.Answers.{numberOf}
 use Rattle.spec_session.specs.session.Turns.{Call, isCurrent, Reach, refusedBy, settled, tableFor}
 use Rattle.spec_session.specs.calls.Calls.{typeCall, typesCall}
 use Rattle.spec_session.proofs.calls.Claims.{type-settles, type-current, type-not-below, type-not-current, types-not-current}
-use Rattle.session_ceiling.specs.metered.Within.{CallWithin, requestedWithin, requestedFromWithin, settledWithin, typeCallWithin, typesCallWithin}
-use Rattle.session_ceiling.proofs.metered.Laws.{request-fits}
-use Rattle.session_ceiling.proofs.metered.Claims.{type-22}
+use Rattle.spec_session.specs.metered.Within.{CallWithin, requestedWithin, requestedFromWithin, settledWithin, typeCallWithin, typesCallWithin}
+use Rattle.spec_session.proofs.metered.Laws.{request-fits}
+use Rattle.spec_session.proofs.metered.Claims.{type-22}
 use Rattle.proof_calls.specs.ceilings.Ceilings.{Over}
 
 module _ (S : Session) (section w t : List ℕ) where

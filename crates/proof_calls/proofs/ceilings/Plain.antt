@@ -8,8 +8,8 @@ use Rattle.spec_session.specs.declared.session.Session.{Session}
 use Rattle.spec_session.specs.session.Turns.{Call}
 use Rattle.spec_session.specs.calls.Calls.{typeCall, typesCall}
 use Rattle.spec_session.specs.calls.Lists.{listCall}
-use Rattle.session_ceiling.proofs.metered.Claims.{type-fits, types-fits}
-use Rattle.session_ceiling.proofs.metered.ListClaims.{list-fits}
+use Rattle.spec_session.proofs.metered.Claims.{type-fits, types-fits}
+use Rattle.spec_session.proofs.metered.ListClaims.{list-fits}
 use Rattle.proof_demands.specs.demands.Session.{singlesFor, made, After, after-open, after-one, after-all, after-list}
 use Rattle.proof_calls.specs.ceilings.Ceilings.{Ceiling, none, upTo, typeUnder, typesUnder, listUnder, NotOver, Under, under-open, under-one, under-all, under-list}
 

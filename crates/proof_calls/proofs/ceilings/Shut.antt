@@ -15,7 +15,7 @@ use Rattle.spec_c_dumper.specs.rules.Machine.{Machine, Sess, Answer, Req, singl
 use Rattle.spec_c_dumper.specs.rules.Names.{Names}
 use Rattle.spec_type_table.specs.declared.types.TypeTable.{TypeTable}
 use Rattle.spec_type_table.specs.Table.{btfOf}
-use Rattle.c_dumper_emit.specs.dump_type.Metered.{callsIn}
+use Rattle.spec_session.specs.metered.Metered.{callsIn}
 use Rattle.btf_open_causes.specs.header.Header.{btfOf as settingsOf}
 use Rattle.spec_opening.specs.Causes.{openingNumber}
 use Rattle.spec_session.specs.declared.session.Session.{Session}
@@ -25,11 +25,11 @@ use Rattle.spec_session.specs.calls.Calls.{requested, typeCall}
 use Rattle.spec_session.proofs.calls.Fair.{Listed}
 use Rattle.spec_session.proofs.calls.Claims.{number-is, value-is, zeros-length, zeros-head, request-sane}
 use Rattle.spec_session.proofs.calls.Lists.{open-now, sane-listed, type-single}
-use Rattle.session_ceiling.specs.metered.Within.{Within, CallWithin, requestedWithin, onwardWithin, requestedFromWithin, typeCallWithin, typesCallWithin}
-use Rattle.session_ceiling.specs.metered.Lists.{countedWithin, listFromWithin}
-use Rattle.session_ceiling.proofs.metered.Laws.{request-fits, request-over}
-use Rattle.session_ceiling.proofs.metered.Claims.{Fits, type-fits}
-use Rattle.session_ceiling.proofs.metered.ListLaws.{counted-goes, counted-stops}
+use Rattle.spec_session.specs.metered.Within.{Within, CallWithin, requestedWithin, onwardWithin, requestedFromWithin, typeCallWithin, typesCallWithin}
+use Rattle.spec_session.specs.metered.Lists.{countedWithin, listFromWithin}
+use Rattle.spec_session.proofs.metered.Laws.{request-fits, request-over}
+use Rattle.spec_session.proofs.metered.Claims.{Fits, type-fits}
+use Rattle.spec_session.proofs.metered.ListLaws.{counted-goes, counted-stops}
 use Rattle.spec_c_dumper.specs.needs.Lists.{Ls}
 use Rattle.spec_c_dumper.specs.needs.Session.{Known, textOf}
 use Rattle.proof_demands.specs.demands.Table.{headerOf, machineIn}

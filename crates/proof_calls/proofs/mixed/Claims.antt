@@ -12,7 +12,7 @@ use Rattle.spec_opening.specs.Causes.{openingNumber}
 use Rattle.spec_session.specs.declared.session.Session.{Session}
 use Rattle.spec_session.specs.session.Answers.{numberOf, valueOf}
 use Rattle.spec_session.specs.session.Turns.{Call}
-use Rattle.session_ceiling.specs.metered.Lists.{listCallWithin}
+use Rattle.spec_session.specs.metered.Lists.{listCallWithin}
 use Rattle.spec_c_dumper.specs.needs.Needs.{MeetsTwice}
 use Rattle.spec_c_dumper.specs.needs.Lists.{Ls}
 use Rattle.spec_c_dumper.specs.needs.Session.{Known}

@@ -11,8 +11,8 @@ use Rattle.spec_session.specs.session.Answers.{numberOf, valueOf}
 use Rattle.spec_session.specs.session.Turns.{Call, tableFor, Reach, reached, refusedBy, visitsIn}
 use Rattle.spec_session.specs.calls.Calls.{openCall, typeCall, typesCall}
 use Rattle.spec_session.specs.calls.Lists.{listCall}
-use Rattle.session_ceiling.specs.metered.Within.{requestedWithin, typeCallWithin, typesCallWithin}
-use Rattle.session_ceiling.specs.metered.Lists.{listCallWithin}
+use Rattle.spec_session.specs.metered.Within.{requestedWithin, typeCallWithin, typesCallWithin}
+use Rattle.spec_session.specs.metered.Lists.{listCallWithin}
 use Rattle.proof_demands.specs.demands.Session.{singlesFor, made}
 use Rattle.proof_demands.specs.demands.Demands.{Lent}
 

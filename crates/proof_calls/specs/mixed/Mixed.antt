@@ -10,12 +10,12 @@ use Rattle.spec_session.specs.session.Answers.{numberOf, valueOf}
 use Rattle.spec_session.specs.session.Turns.{Call}
 use Rattle.spec_session.specs.calls.Calls.{openCall, typeCall, typesCall}
 use Rattle.spec_session.specs.calls.Lists.{listCall}
-use Rattle.session_ceiling.specs.metered.Within.{typeCallWithin, typesCallWithin}
-use Rattle.session_ceiling.specs.metered.Lists.{listCallWithin}
+use Rattle.spec_session.specs.metered.Within.{typeCallWithin, typesCallWithin}
+use Rattle.spec_session.specs.metered.Lists.{listCallWithin}
 use Rattle.proof_demands.specs.demands.Session.{singlesFor, made}
 use Rattle.proof_demands.specs.demands.Demands.{Lent, ruled}
 use Rattle.spec_session.specs.origin_calls.Bytes.{typeCauses, typesCauses}
-use Rattle.session_origins.specs.lists.Several.{listCausesCall}
+use Rattle.session_requests.specs.origin_lists.Several.{listCausesCall}
 use Rattle.proof_calls.specs.ceilings.Ceilings.{acceptedOf, onesFrom}
 use Rattle.proof_calls.specs.line_origins.Claims.{allRuled}
 

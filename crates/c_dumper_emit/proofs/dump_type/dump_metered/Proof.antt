@@ -5,7 +5,7 @@ use Rattle.c_dumper_emit.proofs.dump_type.dump_metered.Statement.{state
 use Rattle.c_dumper_emit.proofs.dump_type.dump_metered.Tie as tie
 use Rattle.c_dumper_emit.proofs.dump_type.dump_metered.Reads as reads
 use Rattle.c_dumper_emit.proofs.dump_type.dump_metered.Lts as lts
-use Rattle.spec_session.proofs.emission.clear_list.Reads as clear-list-reads
+use Rattle.c_dumper_emit.proofs.order_list.clear_list.Reads as clear-list-reads
 use Rattle.c_dumper_emit.proofs.dump_type.emit_listed.Reads as emit-listed-reads
 use Rattle.base_bytes.proofs.put.stop.Reads as stop-reads
 use Rattle.c_dumper_dependency_order.proofs.order_type.order_type.Reads as order-type-reads

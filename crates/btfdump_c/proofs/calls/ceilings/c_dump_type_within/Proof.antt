@@ -6,7 +6,7 @@ use Rattle.btfdump_c.proofs.calls.ceilings.c_dump_type_within.Reads as 
 use Rattle.btfdump_c.proofs.calls.ceilings.c_dump_type_within.Lts as lts
 use Rattle.session_record.proofs.record_bytes.answered.Reads as answered-reads
 use Rattle.session_record.proofs.record_words.decode.Reads as decode-reads
-use Rattle.session_ceiling.proofs.within.dump_type_within.Reads as dump-type-within-reads
+use Rattle.session_requests.proofs.within.dump_type_within.Reads as dump-type-within-reads
 
 returns : tie.Need-returns
 returns c = laws.type-short _ _ _ _ _ (c .if1 .taken) _

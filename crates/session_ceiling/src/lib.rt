@@ -1,3 +1,0 @@
-// session_ceiling
-pub mod metered;
-pub mod within;

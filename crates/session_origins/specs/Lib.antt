@@ -1,2 +1,0 @@
-pub mod lists
-pub mod requests

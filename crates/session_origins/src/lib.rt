@@ -1,3 +1,0 @@
-// session_origins
-pub mod lists;
-pub mod requests;

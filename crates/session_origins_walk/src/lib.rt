@@ -1,2 +1,0 @@
-// session_origins_walk
-pub mod dump_noted;

@@ -1,0 +1,58 @@
+use Rattle.session_requests.proofs.origin_requests.EveryLaws as laws
+use borrow.Author.Needs.{needs}
+use native.Mathlib.Omega.{arith}
+use native.Mathlib.Nat.{le-refl}
+use Rattle.session_requests.proofs.origin_requests.every.dump_at.Statement.{statement}
+use Rattle.session_requests.proofs.origin_requests.every.dump_at.Tie as tie
+use Rattle.session_requests.proofs.origin_requests.every.dump_at.Reads as reads
+use Rattle.session_requests.proofs.origin_requests.every.dump_at.Lts as lts
+use Rattle.session_requests.proofs.origin_requests.dump_one.Reads as dump-one-reads
+
+mul-from : tie.Need-mul-from
+mul-from c = omega (arith, c .before .before .before .before .before .pre .2, c .before .before .before .before .before .good .1 .1 .1 .1 .0)
+
+sub-dump-one : tie.Need-sub-dump-one
+sub-dump-one c = omega (arith, c .before .before .before .before .before .before .before .pre .2)
+
+part-dump-one-start : tie.Need-part-dump-one-start
+part-dump-one-start c = omega (arith, c .before .before .before .before .before .before .before .pre .2)
+
+part-dump-one-end : tie.Need-part-dump-one-end
+part-dump-one-end c = le-refl _
+
+dump-one-requires : tie.Need-dump-one-requires
+dump-one-requires c κs = (c .before .before .before .before .before .before .before .before .before .pre .0, c .before .before .before .before .before .before .before .before .before .pre .1, c .before .before .before .before .before .before .before .before .before .pre .3, c .before .before .before .before .before .before .before .before .before .pre .4)
+
+add-t19 : tie.Need-add-t19
+add-t19 c = omega (arith, laws.at-count _ _ _ _ (c .before .before .before .before .before .before .before .before .before .before .before .before .before .before .before .before .before .before .before .before .args .list .now) _ _ _ (c .before .before .before .before .before .before .before .before .before .before .before .before .before .before .before .before .before .before .before .before .args .id) (c .before .before .before .before .before .before .before .before .before .before .before .before .before .before .before .before .before .before .before .before .pre .2) _ _ _ _ (c .before .before .before .before .before .before .before .before .before .before .dump-one .kept .1 .1 .1 .1 .0) (c .before .before .before .before .before .before .before .before .before .before .dump-one .ensures .0) (c .before .before .before .before .before .before .before .before .before .before .dump-one .ensures .1), c .before .before .before .before .before .before .before .before .before .before .before .before .before .before .before .before .before .before .before .before .good .1 .1 .1 .1 .0)
+
+same-length : tie.Need-same-length
+same-length c = c .before .before .before .before .before .before .before .before .before .before .dump-one .kept .1 .1 .0
+
+same-length-2 : tie.Need-same-length-2
+same-length-2 c = c .before .before .before .before .before .before .before .before .before .before .dump-one .kept .1 .1 .1 .0
+
+same-length-3 : tie.Need-same-length-3
+same-length-3 c = search needs
+
+same-length-4 : tie.Need-same-length-4
+same-length-4 c = c .before .before .before .before .before .before .before .before .before .before .dump-one .kept .1 .1 .1 .1 .1 .0
+
+returns : tie.Need-returns
+returns c = laws.at-all _ _ _ _ _ _ _ _ _ (c .before .before .before .before .before .before .before .before .before .before .before .before .before .before .before .before .before .before .before .before .pre .2) _ _ _ _ (c .before .before .before .before .before .before .before .before .before .before .dump-one .kept .1 .1 .1 .1 .0) (c .before .before .before .before .before .before .before .before .before .before .dump-one .ensures .0) (c .before .before .before .before .before .before .before .before .before .before .dump-one .ensures .1) _ (c .before .before .before .before .before .before .before .before .before .before .dump-one .ensures .2) (c .before .before .before .before .before .before .before .before .before .before .dump-one .ensures .3)
+
+pub dump-at-spec : {M : Type 1} → statement M
+dump-at-spec =
+    tie.close
+    (tie.spec
+    mul-from
+    sub-dump-one
+    part-dump-one-start
+    part-dump-one-end
+    dump-one-requires
+    add-t19
+    same-length
+    same-length-2
+    same-length-3
+    same-length-4
+    returns)

@@ -1,0 +1,2 @@
+pub mod origin_requests
+pub mod origin_lists

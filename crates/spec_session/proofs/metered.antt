@@ -1,0 +1,5 @@
+pub mod Claims
+pub mod Laws
+pub mod ListClaims
+pub mod ListLaws
+pub mod Idle
