@@ -33,7 +33,6 @@ use Rattle.c_dumper_dependency_order.proofs.leaders.Maps.{forget-kept}
 use Rattle.spec_session.specs.metered.Metered.{orderedIn, besideOf, dumpedMetered, callsIn, dumpedWithin}
 use Rattle.spec_session.specs.emission.Sheet.{Sheet, marksIn, withMarks, sheetStore, emptied, emitOut, workMachine, emitIn, isIgnored, isIdle}
 use Rattle.spec_c_dumper.specs.rules.Request.{listedOut, dumped}
-use Rattle.spec_session.proofs.emission.Frame.{Stays, on, off}
 use Rattle.spec_c_dumper.proofs.rules.Maps.{rmap, tmap, StoreMap, map-order}
 use Rattle.spec_session.proofs.emission.Laws.{sheet, goes, halts, by-out, obind-then, at-sheet}
 

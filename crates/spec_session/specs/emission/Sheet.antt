@@ -3,10 +3,9 @@ use Prim.Native.Nat.{ℕ, zero, suc}
 use mathlib.Core.Bool.{Bool, true, false, not, _||_}
 use mathlib.Core.List.{List, []}
 use lib.Dec.{eqb}
-use Rattle.spec_c_dumper.specs.rules.Order.{Node, ignored, plain, listed, through, ptr, tdef, proto, comp, Table, Mark, new, busy, done}
-use Rattle.spec_c_dumper.specs.rules.Order.{Store}
-use Rattle.spec_c_dumper.specs.rules.Machine.{Out, wrote, stuck, Machine, isZero, obind, once, again, begin, emit}
-use Rattle.spec_c_dumper.specs.rules.Types.{BtfType, Btf as Rules, tableOf}
+use Rattle.spec_c_dumper.specs.rules.Order.{Node, ignored, plain, listed, through, ptr, tdef, proto, comp, Mark, new, busy, done, Store}
+use Rattle.spec_c_dumper.specs.rules.Machine.{Out, wrote, stuck, Machine, emit}
+use Rattle.spec_c_dumper.specs.rules.Types.{Btf as Rules, tableOf}
 use Rattle.spec_c_dumper.specs.rules.Writer.{Writer}
 use Rattle.spec_c_dumper.specs.rules.Place.{Wrote, wrote as written, refused as cutOff, outOf, putSaid}
 use Rattle.spec_c_dumper.specs.alignment_once.Writers.{definitionOnce, forwardOnce}
@@ -78,52 +77,9 @@ module _ (b : TypeTable) (B : Rules) where
     tags = λ m. [];
   }
 
-  -- The clauses of the rules over it: emit_type, an id that is not emitted yet, one that is being emitted, a composite with its
-  -- members' types, and the lines that come once for each id, of the type t.
+  -- the rule `emit` over it
   unfoldable pub emitIn : ℕ → ℕ → Sheet → ℕ → Out Sheet
   emitIn left cont m x = emit workMachine (tableOf B) left m x cont
-
-  unfoldable pub newIn : ℕ → ℕ → Sheet → ℕ → Out Sheet
-  newIn left cont m x =
-      begin workMachine (tableOf B) (λ m′ y c. emit workMachine (tableOf B) left m′ y c) m x cont (isZero cont) (tableOf B .node x)
-
-  unfoldable pub againIn : ℕ → Sheet → ℕ → Out Sheet
-  againIn cont m x = again workMachine (tableOf B) m x cont (tableOf B .node x)
-
-  unfoldable pub compositeIn : ℕ → ℕ → List ℕ → Sheet → ℕ → Out Sheet
-  compositeIn left cont members m x =
-      begin workMachine (tableOf B) (λ m′ y c. emit workMachine (tableOf B) left m′ y c) m x cont (isZero cont) (comp members)
-
-  unfoldable pub onceIn : BtfType → Sheet → ℕ → Out Sheet
-  onceIn t m x =
-      once workMachine (tableOf B) (λ m′ y. lineIn (forwardOnce (workAsks (b .types) B) (workNaming b) B y t) m′) x
-      (workMachine .hasFwd m x) m
-
-  unfoldable pub mentionIn : BtfType → ℕ → Sheet → ℕ → Out Sheet
-  mentionIn t cont m x =
-      once workMachine (tableOf B) (λ m′ y. lineIn (forwardOnce (workAsks (b .types) B) (workNaming b) B y t) m′) x
-      (workMachine .hasFwd m x || eqb x cont) m
-
-  -- Lines with the emit state around them. An enum or a forward: its definition where it is shown; then it is done.
-  unfoldable pub shownIn : Bool → BtfType → Sheet → ℕ → Out Sheet
-  shownIn true t m x =
-      obind (lineIn (definitionOnce (workAsks (b .types) B) (workNaming b) B x t) m) (λ k. wrote (withWork k (putField (k .work) x 13 2)))
-  shownIn false t m x = wrote (withWork m (putField (m .work) x 13 2))
-
-  -- a typedef's line, unless it had one; then it is done
-  unfoldable pub typedefIn : BtfType → Sheet → ℕ → Out Sheet
-  typedefIn t m x = obind (onceIn t m x) (λ k. wrote (withWork k (putField (k .work) x 13 2)))
-
-  -- a named composite within cont: the forward line, while it is begun
-  unfoldable pub mentionedIn : BtfType → ℕ → Sheet → ℕ → Out Sheet
-  mentionedIn t cont m x =
-      obind (mentionIn t cont (withWork m (putField (m .work) x 13 1)) x) (λ k. wrote (withWork k (putField (k .work) x 13 0)))
-
-  -- a composite after its members: at the top the definition, and it is done; else it is new again
-  unfoldable pub endedIn : Bool → BtfType → Sheet → ℕ → Out Sheet
-  endedIn true t m x =
-      obind (lineIn (definitionOnce (workAsks (b .types) B) (workNaming b) B x t) m) (λ k. wrote (withWork k (putField (k .work) x 13 2)))
-  endedIn false t m x = wrote (withWork m (putField (m .work) x 13 0))
 
 -- A request for an id that is ordered, or is a function, a variable, a section or a tag, has nothing to do.
 unfoldable pub isIgnored : Node → Bool
