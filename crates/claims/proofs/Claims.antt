@@ -3,8 +3,9 @@ use mathlib.Core.Path.{_≡_, refl, ap, sym, _∙_}
 use mathlib.Core.Bool.{Bool, true, false, not, true≢false}
 use mathlib.Core.List.{List}
 use borrow.Author.Tests.{leb-true}
-use lib.ListN.{length}
-use Prim.Native.Nat.{ℕ}
+use lib.ListN.{length, take}
+use lib.Dec.{ltb}
+use Prim.Native.Nat.{ℕ, zero-le, _<_, _+_}
 use Rattle.spec_bytes.specs.words.Words.{wordIn}
 use Rattle.spec_linux_btf.specs.Section.{bigEndian, littleEndian, wordOf, headerSound}
 use Rattle.base_keywords.specs.table.Fixed.{table}
@@ -12,6 +13,13 @@ use Rattle.spec_c_dumper.proofs.rules.Placed.{laid-out}
 use Rattle.spec_c_dumper.proofs.needs.Arrays.{pointers-stay, arrays-forget, array-of-itself}
 use Rattle.spec_c_dumper.specs.rules.Order.{through}
 use Rattle.spec_opening.specs.Causes.{cause3}
+use Rattle.spec_session.specs.declared.session.Session.{Session}
+use Rattle.spec_session.specs.session.Answers.{numberOf}
+use Rattle.spec_session.specs.session.Turns.{isCurrent, tableFor}
+use Rattle.spec_session.specs.metered.Metered.{callsIn}
+use Rattle.spec_session.specs.metered.Within.{CallWithin, typeCallWithin}
+use Rattle.spec_session.proofs.metered.Claims.{settled-22, type-fits, types-fits, type-22}
+use Rattle.spec_session.proofs.metered.ListClaims.{list-fits}
 use Rattle.proof_demands.proofs.demands.Orders.{big-header, other-magic}
 use Rattle.proof_demands.proofs.counted.Claims.{counted}
 use Rattle.proof_declared_first.proofs.Claims.{declared-first}
@@ -49,6 +57,13 @@ big-endian = record {
 fixed-words : Request04
 fixed-words = leb-true (length table) 512 refl
 
+over : (s : Session) (section w t : List ℕ) (c id : ℕ) → isCurrent s (length section) (length w) (length t) ≡ true
+    → ltb id (s .types) ≡ true → c < 0 + callsIn (tableFor s section) section w id
+    → numberOf (typeCallWithin c s section w t id 0 .call .answer) ≡ 22
+over s section w t c id e f l =
+    ap (λ (d : CallWithin). numberOf (d .call .answer)) (type-22 s section w t c id 0 e f l)
+    ∙ settled-22 s (length w) (length t) (s .«text_len») (s .visits) (take (s .«text_len») t)
+
 pub claims : Claims
 claims = record {
   demand1 = session-opens;
@@ -74,7 +89,13 @@ claims = record {
     explained = calls-explained pointer modes s n;
     mixed = calls-mixed pointer modes s n;
   };
-  request13 = under-ceilings;
+  request13 = record {
+    one = λ s section w t c id n. type-fits s section w t c id 0 zero-le n;
+    all = λ s section w t c n. types-fits s section w t c n;
+    list = λ s section w t ids c n. list-fits c s section w t ids n;
+    over = λ s section w t c id e f l. over s section w t c id e f l;
+    lists = under-ceilings;
+  };
   request14 = λ S s given out. record { carries = carried S s given out; refused = untouched S s given out };
   program = runs;
 }

@@ -28,7 +28,8 @@ use Rattle.spec_session.proofs.calls.Lists.{open-now, sane-listed, type-single}
 use Rattle.spec_session.specs.metered.Within.{Within, CallWithin, requestedWithin, onwardWithin, requestedFromWithin, typeCallWithin, typesCallWithin}
 use Rattle.spec_session.specs.metered.Lists.{countedWithin, listFromWithin}
 use Rattle.spec_session.proofs.metered.Laws.{request-fits, request-over}
-use Rattle.spec_session.proofs.metered.Claims.{Fits, type-fits}
+use Rattle.spec_session.proofs.metered.Claims.{type-fits}
+use Rattle.spec_session.specs.metered.Fits.{Fits}
 use Rattle.spec_session.proofs.metered.ListLaws.{counted-goes, counted-stops}
 use Rattle.spec_c_dumper.specs.needs.Lists.{Ls}
 use Rattle.spec_c_dumper.specs.needs.Session.{Known, textOf}

@@ -17,19 +17,14 @@ use Rattle.spec_session.specs.session.Turns.{Call, isCurrent, Reach, rea
 use Rattle.spec_session.specs.calls.Calls.{requested, onward, requestedFrom, typeCall, typesCall}
 use Rattle.spec_session.proofs.calls.Claims.{number-is}
 use Rattle.spec_session.specs.metered.Within.{Within, requestedWithin, onwardWithin, requestedFromWithin, CallWithin, settledWithin, typeCallWithin, typesCallWithin}
+use Rattle.spec_session.specs.metered.Fits.{Fits}
 use Rattle.spec_session.proofs.metered.Laws.{request-fits, request-over}
-
--- a call that fits under c
-pub record Fits (c : ℕ) (plainly : Call) (under : ℕ → CallWithin) : Type 0 where
-  pub same-call : under c .call ≡ plainly
-  pub at-most : under c .made ≤ c
-  pub larger : (c′ : ℕ) → c ≤ c′ → under c′ ≡ under c
 
 -- requests that were not refused by 22
 abbrev Fine : Reach → Type 0
 Fine q = (len v : ℕ) (t : List ℕ) → q ≡ refusedBy 22 len v t → ⊥
 
-settled-22 : (s : Session) (wn tn len v : ℕ) (t : List ℕ) → numberOf (settled s wn tn (refusedBy 22 len v t) .answer) ≡ 22
+pub settled-22 : (s : Session) (wn tn len v : ℕ) (t : List ℕ) → numberOf (settled s wn tn (refusedBy 22 len v t) .answer) ≡ 22
 unfolding settled
 settled-22 s wn tn len v t = number-is 22 len
 

@@ -13,7 +13,8 @@ use Rattle.spec_session.proofs.calls.Claims.{number-is}
 use Rattle.spec_session.proofs.calls.Lists.{counted-goes as plain-goes, counted-stops as plain-stops}
 use Rattle.spec_session.specs.metered.Within.{CallWithin, typeCallWithin}
 use Rattle.spec_session.specs.metered.Lists.{countedWithin, listFromWithin, listCallWithin}
-use Rattle.spec_session.proofs.metered.Claims.{Fits, type-fits}
+use Rattle.spec_session.proofs.metered.Claims.{type-fits}
+use Rattle.spec_session.specs.metered.Fits.{Fits}
 use Rattle.spec_session.proofs.metered.ListLaws.{counted-goes, counted-stops}
 
 not-zero : (m : ℕ) → suc m ≡ 0 → ⊥
