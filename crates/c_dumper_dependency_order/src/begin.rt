@@ -11,22 +11,22 @@ use btf_type_table::node::type_by_id;
 use spec_type_table::TypeTable;
 ghost use mathlib.Core.Path.{_≡_};
 ghost use Rattle.c_dumper_dependency_order.specs.order_state.Work.{tableIn};
-ghost use Rattle.c_dumper_dependency_order.specs.begin.Start.{limitOf, openedBy, isKnown, isPassable, metBy};
+ghost use Rattle.c_dumper_dependency_order.specs.begin.Start.{limitBy, openedBy, isKnown, isPassable, metBy};
 
-// A ceiling on the calls of ordering, where it is set.
+// A ceiling on the calls of ordering, where it is set. The walk takes it apart: two numbers stay in registers, a struct does not.
 pub struct Ceiling {
     pub is_set: bool,
     pub calls: u64,
 }
 
 // One more call: counted under a ceiling, and refused where it would pass it.
-pub fn count_call(c: Ceiling, o: Order) -> Order
-    ensures { λ r. ⌜ r ≡ openedBy (limitOf c) o ⌝ }
+pub fn count_call(is_set: bool, calls: u64, o: Order) -> Order
+    ensures { λ r. ⌜ r ≡ openedBy (limitBy «is_set» calls) o ⌝ }
 {
-    if !c.is_set {
+    if !is_set {
         return o;
     }
-    if c.calls <= o.made {
+    if calls <= o.made {
         return refused(o, refusal::CEILING_PASSED);
     }
     Order {
@@ -38,11 +38,11 @@ pub fn count_call(c: Ceiling, o: Order) -> Order
 }
 
 // Whether a call would find its id ordered: then it is only counted.
-pub fn is_known(work: &[u8], o: Order, id: u32, left: u32, c: Ceiling) -> bool
-    ensures { λ r. ⌜ r ≡ isKnown c left o (now (work .entry)) id ⌝ }
+pub fn is_known(work: &[u8], o: Order, id: u32, left: u32, is_set: bool, calls: u64) -> bool
+    ensures { λ r. ⌜ r ≡ isKnown «is_set» calls left o (now (work .entry)) id ⌝ }
 {
     let state = get_order_state(work, id);
-    (o.stop == 0) & (left != 0) & (!c.is_set | (o.made < c.calls)) & (state == 2)
+    (o.stop == 0) & (left != 0) & (!is_set | (o.made < calls)) & (state == 2)
 }
 
 // An id in progress: a named composite behind a pointer is passed over, anything else is a cycle.

@@ -1,5 +1,4 @@
 // The order of definitions: the rules of order_type, for plain requests, under a ceiling and with a leader for each listed id.
-use crate::begin::Ceiling;
 use crate::begin::count_call;
 use crate::begin::is_known;
 use crate::begin::meet;
@@ -29,7 +28,7 @@ ghost use mathlib.Core.Bool.{false};
 ghost use Rattle.spec_c_dumper.specs.ceiling.Ceiling.{thenBind, eachWithin};
 ghost use Rattle.spec_type_table.specs.Nodes.{memberIds, paramIds};
 ghost use Rattle.c_dumper_dependency_order.specs.order_state.Work.{tableIn};
-ghost use Rattle.c_dumper_dependency_order.specs.begin.Start.{limitOf};
+ghost use Rattle.c_dumper_dependency_order.specs.begin.Start.{limitBy};
 ghost use Rattle.c_dumper_dependency_order.specs.leaders.Leads.{orderKept, keptOut, wayKept, freshKept, enterKept};
 
 // v: what is being ordered around the call. A request without a list of line origins lends no leaders.
@@ -43,11 +42,12 @@ pub fn order_type(
     has_ptr: bool,
     left: u32,
     v: Way,
-    c: Ceiling,
+    is_set: bool,
+    calls: u64,
 ) -> Order
     ensures { λ r. ⌜ keptOut r (now (work .exit)) (now (leads .exit)) ≡
         thenBind (keptOut o (now (work .entry)) (now (leads .entry)))
-        (λ m _ k. orderKept (limitOf c) v left (tableIn b (now (section .entry)) (now (work .entry))) m id «has_ptr» k) ⌝ }
+        (λ m _ k. orderKept (limitBy «is_set» calls) v left (tableIn b (now (section .entry)) (now (work .entry))) m id «has_ptr» k) ⌝ }
 {
     if o.stop != 0 {
         return o;
@@ -55,7 +55,7 @@ pub fn order_type(
     if left == 0 {
         return refused(o, refusal::TOO_DEEP);
     }
-    let p = count_call(c, o);
+    let p = count_call(is_set, calls, o);
     if p.stop != 0 {
         return p;
     }
@@ -66,77 +66,74 @@ pub fn order_type(
     if state == 1 {
         return meet(b, section, work, p, id, has_ptr);
     }
-    order_new(b, section, work, leads, p, id, has_ptr, left - 1, v, c)
+    order_new(
+        b,
+        section,
+        work,
+        leads,
+        p,
+        id,
+        has_ptr,
+        left - 1,
+        v,
+        is_set,
+        calls,
+    )
 }
 
-// An id that is not ordered yet.
+// An id that is not ordered yet. Most of what a pointer or a qualifier leads to is known: that is counted without the call.
+// s: the section; set and max: the ceiling.
 fn order_new(
     b: TypeTable,
-    section: &[u8],
+    s: &[u8],
     work: &mut [u8],
     leads: &mut [u64],
     o: Order,
     id: u32,
-    has_ptr: bool,
+    weak: bool,
     left: u32,
     v: Way,
-    c: Ceiling,
+    set: bool,
+    max: u64,
 ) -> Order
     ensures { λ r. ⌜ keptOut r (now (work .exit)) (now (leads .exit)) ≡
         thenBind (keptOut o (now (work .entry)) (now (leads .entry)))
-        (λ m _ k. freshKept (limitOf c) v (tableIn b (now (section .entry)) (now (work .entry))) left m id «has_ptr» k) ⌝ }
+        (λ m _ k. freshKept (limitBy set max) v (tableIn b (now (s .entry)) (now (work .entry))) left m id weak k) ⌝ }
 {
-    let t = type_by_id(b, section, work, id);
-    match node_of(b, section, t) {
+    let t = type_by_id(b, s, work, id);
+    match node_of(b, s, t) {
         Node::Ignored => strong(o, false),
         Node::Plain => finish(work, leads, o, id, false, false, v),
         Node::Listed(_) => {
-            let named = is_named(b, section, t);
+            let named = is_named(b, s, t);
             finish(work, leads, o, id, named, true, v)
         }
         Node::Through(is_array, t) => {
-            let weak = is_weak_past(b, is_array, has_ptr);
-            order_type(b, section, work, leads, o, t, weak, left, v, c)
+            if is_known(work, o, t, left, set, max) {
+                return strong(count_call(set, max, o), true);
+            }
+            let past = is_weak_past(b, is_array, weak);
+            order_type(b, s, work, leads, o, t, past, left, v, set, max)
         }
         Node::Ptr(t) => {
-            let r = order_type(b, section, work, leads, o, t, true, left, v, c);
+            if is_known(work, o, t, left, set, max) {
+                return finish(work, leads, count_call(set, max, o), id, false, true, v);
+            }
+            let r = order_type(b, s, work, leads, o, t, true, left, v, set, max);
             finish(work, leads, r, id, false, r.is_strong, v)
         }
         Node::Typedef(t) => {
-            let r = order_type(
-                b,
-                section,
-                work,
-                leads,
-                o,
-                t,
-                has_ptr,
-                left,
-                inside(v, id),
-                c,
-            );
-            finish_typedef(work, leads, r, id, has_ptr, v)
+            let u = inside(v, id);
+            let r = order_type(b, s, work, leads, o, t, weak, left, u, set, max);
+            finish_typedef(work, leads, r, id, weak, v)
         }
         Node::Proto(res, params) => {
-            let r = order_type(b, section, work, leads, o, res, has_ptr, left, v, c);
-            order_params(b, section, work, leads, r, params, has_ptr, left, v, c)
+            let r = order_type(b, s, work, leads, o, res, weak, left, v, set, max);
+            order_params(b, s, work, leads, r, params, weak, left, v, set, max)
         }
-        Node::Composite(members) => {
-            let named = is_named(b, section, t);
-            order_composite(
-                b,
-                section,
-                work,
-                leads,
-                o,
-                id,
-                named,
-                has_ptr,
-                members,
-                left,
-                v,
-                c,
-            )
+        Node::Composite(es) => {
+            let named = is_named(b, s, t);
+            order_composite(b, s, work, leads, o, id, named, weak, es, left, v, set, max)
         }
     }
 }
@@ -154,18 +151,20 @@ fn order_composite(
     members: Entries,
     left: u32,
     v: Way,
-    c: Ceiling,
+    is_set: bool,
+    calls: u64,
 ) -> Order
     ensures { λ r. ⌜ keptOut r (now (work .exit)) (now (leads .exit)) ≡
         thenBind (keptOut o (now (work .entry)) (now (leads .entry)))
-        (λ m _ k. enterKept (limitOf c) v (tableIn b (now (section .entry)) (now (work .entry))) left m id «has_ptr» named
+        (λ m _ k. enterKept (limitBy «is_set» calls) v (tableIn b (now (section .entry)) (now (work .entry))) left m id «has_ptr» named
         (memberIds b (now (section .entry)) members) k) ⌝ }
 {
     if is_passed(named, has_ptr) {
         return strong(o, false);
     }
     set_order_state(work, id, 1);
-    let r = order_members(b, section, work, leads, o, members, left, inside(v, id), c);
+    let u = inside(v, id);
+    let r = order_members(b, section, work, leads, o, members, left, u, is_set, calls);
     finish(work, leads, r, id, named, true, v)
 }
 
@@ -180,11 +179,12 @@ fn order_params(
     has_ptr: bool,
     left: u32,
     v: Way,
-    c: Ceiling,
+    is_set: bool,
+    calls: u64,
 ) -> Order
     ensures { λ r. ⌜ keptOut r (now (work .exit)) (now (leads .exit)) ≡
         thenBind (keptOut o (now (work .entry)) (now (leads .entry)))
-        (λ m strong k. eachWithin (wayKept (limitOf c) v (tableIn b (now (section .entry)) (now (work .entry))) left «has_ptr»)
+        (λ m strong k. eachWithin (wayKept (limitBy «is_set» calls) v (tableIn b (now (section .entry)) (now (work .entry))) left «has_ptr»)
         (paramIds b (now (section .entry)) params) m strong k) ⌝ }
 {
     let vlen = params.vlen;
@@ -192,13 +192,25 @@ fn order_params(
     let mut k: u32 = 0;
     while k < vlen {
         let t = word(b, section, param_place(params, k) + 4);
-        if is_known(work, r, t, left, c) {
-            r = strong(count_call(c, r), true);
+        if is_known(work, r, t, left, is_set, calls) {
+            r = strong(count_call(is_set, calls, r), true);
             k += 1;
             continue;
         }
         let before = r.is_strong;
-        let p = order_type(b, section, work, leads, r, t, has_ptr, left, v, c);
+        let p = order_type(
+            b,
+            section,
+            work,
+            leads,
+            r,
+            t,
+            has_ptr,
+            left,
+            v,
+            is_set,
+            calls,
+        );
         r = strong(p, before | p.is_strong);
         k += 1;
     }
@@ -215,11 +227,12 @@ fn order_members(
     members: Entries,
     left: u32,
     v: Way,
-    c: Ceiling,
+    is_set: bool,
+    calls: u64,
 ) -> Order
     ensures { λ r. ⌜ keptOut r (now (work .exit)) (now (leads .exit)) ≡
         thenBind (keptOut o (now (work .entry)) (now (leads .entry)))
-        (λ m strong k. eachWithin (wayKept (limitOf c) v (tableIn b (now (section .entry)) (now (work .entry))) left false)
+        (λ m strong k. eachWithin (wayKept (limitBy «is_set» calls) v (tableIn b (now (section .entry)) (now (work .entry))) left false)
         (memberIds b (now (section .entry)) members) m strong k) ⌝ }
 {
     let vlen = members.vlen;
@@ -227,13 +240,13 @@ fn order_members(
     let mut k: u32 = 0;
     while k < vlen {
         let t = word(b, section, member_place(members, k) + 4);
-        if is_known(work, r, t, left, c) {
-            r = strong(count_call(c, r), true);
+        if is_known(work, r, t, left, is_set, calls) {
+            r = strong(count_call(is_set, calls, r), true);
             k += 1;
             continue;
         }
         let before = r.is_strong;
-        let p = order_type(b, section, work, leads, r, t, false, left, v, c);
+        let p = order_type(b, section, work, leads, r, t, false, left, v, is_set, calls);
         r = strong(p, before | p.is_strong);
         k += 1;
     }

@@ -77,7 +77,19 @@ pub fn dump_noted(
         is_set: false,
         calls: 0,
     };
-    let o = order_type(b, section, work, leads, start, q.req, false, 512, v, none);
+    let o = order_type(
+        b,
+        section,
+        work,
+        leads,
+        start,
+        q.req,
+        false,
+        512,
+        v,
+        none.is_set,
+        none.calls,
+    );
     if o.stop != 0 {
         return stop_at(text, p, o.stop);
     }

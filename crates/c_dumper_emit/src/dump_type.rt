@@ -106,7 +106,19 @@ fn dump_metered(
         turn: 0,
     };
     let mut leads = [0u64; 0];
-    let o = order_type(b, section, work, &mut leads, start, id, false, 512, v, c);
+    let o = order_type(
+        b,
+        section,
+        work,
+        &mut leads,
+        start,
+        id,
+        false,
+        512,
+        v,
+        c.is_set,
+        c.calls,
+    );
     if o.stop != 0 {
         return Counted {
             at: stop(text, at, o.stop),

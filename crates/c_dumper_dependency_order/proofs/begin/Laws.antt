@@ -16,45 +16,44 @@ use Rattle.spec_type_table.specs.Cells.{getField}
 use Rattle.spec_type_table.specs.Records.{kindOf, recordById}
 use Rattle.spec_type_table.specs.Table.{typeOf}
 use Rattle.c_dumper_dependency_order.specs.declared.order_state.Order.{Order}
-use Rattle.c_dumper_dependency_order.specs.declared.begin.Ceiling.{Ceiling}
 use Rattle.c_dumper_dependency_order.specs.order_state.Work.{tableIn, strongOf, refusedBy}
-use Rattle.c_dumper_dependency_order.specs.begin.Start.{limitOf, withMade, openedBy, isKnown, isPassable, metBy}
+use Rattle.c_dumper_dependency_order.specs.begin.Start.{limitBy, withMade, openedBy, isKnown, isPassable, metBy}
 use Rattle.c_dumper_dependency_order.proofs.order_state.Laws.{node-at, named-at, comp-yes, comp-no, not-true}
 
-module _ (c : Ceiling) (o : Order) where
-  free : c .«is_set» ≡ false → limitOf c ≡ unbounded
-  unfolding limitOf
-  free e = ap (λ (q : Bool). elim q as (λ y. Limit) [ true ↦ most (c .calls) | false ↦ unbounded ]) e
+module _ (isSet : Bool) (calls : ℕ) (o : Order) where
+  free : isSet ≡ false → limitBy isSet calls ≡ unbounded
+  unfolding limitBy
+  free e = ap (λ (q : Bool). elim q as (λ y. Limit) [ true ↦ most calls | false ↦ unbounded ]) e
 
-  bound : c .«is_set» ≡ true → limitOf c ≡ most (c .calls)
-  unfolding limitOf
-  bound e = ap (λ (q : Bool). elim q as (λ y. Limit) [ true ↦ most (c .calls) | false ↦ unbounded ]) e
+  bound : isSet ≡ true → limitBy isSet calls ≡ most calls
+  unfolding limitBy
+  bound e = ap (λ (q : Bool). elim q as (λ y. Limit) [ true ↦ most calls | false ↦ unbounded ]) e
 
-  most-over : c .calls ≤ o .made → refusedBy o 22 ≡ openedBy (most (c .calls)) o
+  most-over : calls ≤ o .made → refusedBy o 22 ≡ openedBy (most calls) o
   unfolding openedBy allows
-  most-over l = sym (ap (λ (q : Bool). elim q as (λ y. Order) [ true ↦ withMade o (oneCall (most (c .calls)) (o .made)) | false ↦ refusedBy o 22 ]) (le-ltb (o .made) (c .calls) l))
+  most-over l = sym (ap (λ (q : Bool). elim q as (λ y. Order) [ true ↦ withMade o (oneCall (most calls) (o .made)) | false ↦ refusedBy o 22 ]) (le-ltb (o .made) calls l))
 
-  most-one : o .made < c .calls → withMade o (suc (o .made)) ≡ openedBy (most (c .calls)) o
+  most-one : o .made < calls → withMade o (suc (o .made)) ≡ openedBy (most calls) o
   unfolding openedBy allows oneCall
-  most-one l = sym (ap (λ (q : Bool). elim q as (λ y. Order) [ true ↦ withMade o (suc (o .made)) | false ↦ refusedBy o 22 ]) (lt-ltb (o .made) (c .calls) l))
+  most-one l = sym (ap (λ (q : Bool). elim q as (λ y. Order) [ true ↦ withMade o (suc (o .made)) | false ↦ refusedBy o 22 ]) (lt-ltb (o .made) calls l))
 
-  pub open-free : c .«is_set» ≡ false → o ≡ openedBy (limitOf c) o
+  pub open-free : isSet ≡ false → o ≡ openedBy (limitBy isSet calls) o
   unfolding openedBy allows oneCall
   open-free e = sym (ap (λ (q : Limit). openedBy q o) (free e))
 
-  pub open-over : c .«is_set» ≡ true → c .calls ≤ o .made → (r : Order) → r ≡ refusedBy o 22 → r ≡ openedBy (limitOf c) o
+  pub open-over : isSet ≡ true → calls ≤ o .made → (r : Order) → r ≡ refusedBy o 22 → r ≡ openedBy (limitBy isSet calls) o
   open-over e l r er = er ∙ most-over l ∙ sym (ap (λ (q : Limit). openedBy q o) (bound e))
 
-  pub open-one : c .«is_set» ≡ true → o .made < c .calls → withMade o (o .made + 1) ≡ openedBy (limitOf c) o
+  pub open-one : isSet ≡ true → o .made < calls → withMade o (o .made + 1) ≡ openedBy (limitBy isSet calls) o
   open-one e l =
       let q : o .made + 1 ≡ suc (o .made) = omega arith in
       ap (withMade o) q ∙ most-one l ∙ sym (ap (λ (u : Limit). openedBy u o) (bound e))
 
 -- ---- an id that is ordered
-pub known-is : (c : Ceiling) (left : ℕ) (o : Order) (w : List ℕ) (x st : ℕ) → st ≡ getField w x 1
-    → (((eqb (o .stop) 0 && not (eqb left 0)) && (not (c .«is_set») || ltb (o .made) (c .calls))) && eqb st 2) ≡ isKnown c left o w x
+pub known-is : (isSet : Bool) (calls : ℕ) (left : ℕ) (o : Order) (w : List ℕ) (x st : ℕ) → st ≡ getField w x 1
+    → (((eqb (o .stop) 0 && not (eqb left 0)) && (not isSet || ltb (o .made) calls)) && eqb st 2) ≡ isKnown isSet calls left o w x
 unfolding isKnown
-known-is c left o w x st e = ap (λ (n : ℕ). ((eqb (o .stop) 0 && not (eqb left 0)) && (not (c .«is_set») || ltb (o .made) (c .calls))) && eqb n 2) e
+known-is isSet calls left o w x st e = ap (λ (n : ℕ). ((eqb (o .stop) 0 && not (eqb left 0)) && (not isSet || ltb (o .made) calls)) && eqb n 2) e
 
 and-left : (x y : Bool) → (x && y) ≡ true → x ≡ true
 and-left true y e = refl
@@ -64,26 +63,26 @@ and-right : (x y : Bool) → (x && y) ≡ true → y ≡ true
 and-right true y e = e
 and-right false y e = absurd (true≢false (sym e))
 
-allows-is : (c : Ceiling) (k : ℕ) → allows (limitOf c) k ≡ (not (c .«is_set») || ltb k (c .calls))
-unfolding limitOf allows
-allows-is c k = go (c .«is_set»)
+allows-is : (isSet : Bool) (calls : ℕ) (k : ℕ) → allows (limitBy isSet calls) k ≡ (not isSet || ltb k calls)
+unfolding limitBy allows
+allows-is isSet calls k = go isSet
   where
-    go : (q : Bool) → allows (elim q as (λ y. Limit) [ true ↦ most (c .calls) | false ↦ unbounded ]) k ≡ (not q || ltb k (c .calls))
+    go : (q : Bool) → allows (elim q as (λ y. Limit) [ true ↦ most calls | false ↦ unbounded ]) k ≡ (not q || ltb k calls)
     go true = refl
     go false = refl
 
-pub record Known (c : Ceiling) (left : ℕ) (o : Order) (w : List ℕ) (x : ℕ) : Type 0 where
+pub record Known (isSet : Bool) (calls : ℕ) (left : ℕ) (o : Order) (w : List ℕ) (x : ℕ) : Type 0 where
   pub goes : o .stop ≡ 0
   pub deep : left ≡ 0 → ⊥
-  pub allowed : allows (limitOf c) (o .made) ≡ true
+  pub allowed : allows (limitBy isSet calls) (o .made) ≡ true
   pub state : getField w x 1 ≡ 2
 
-pub known-yes : (c : Ceiling) (left : ℕ) (o : Order) (w : List ℕ) (x : ℕ) → isKnown c left o w x ≡ true → Known c left o w x
+pub known-yes : (isSet : Bool) (calls : ℕ) (left : ℕ) (o : Order) (w : List ℕ) (x : ℕ) → isKnown isSet calls left o w x ≡ true → Known isSet calls left o w x
 unfolding isKnown
-known-yes c left o w x e = record {
+known-yes isSet calls left o w x e = record {
   goes = eqb-true (o .stop) 0 (and-left p q first);
   deep = eqb-false left 0 (not-true (eqb left 0) (and-right p q first));
-  allowed = allows-is c (o .made) ∙ and-right (p && q) r (and-left ((p && q) && r) t e);
+  allowed = allows-is isSet calls (o .made) ∙ and-right (p && q) r (and-left ((p && q) && r) t e);
   state = eqb-true (getField w x 1) 2 (and-right ((p && q) && r) t e);
 }
   where
@@ -94,7 +93,7 @@ known-yes c left o w x e = record {
     q = not (eqb left 0)
 
     r : Bool
-    r = not (c .«is_set») || ltb (o .made) (c .calls)
+    r = not isSet || ltb (o .made) calls
 
     t : Bool
     t = eqb (getField w x 1) 2

@@ -21,10 +21,9 @@ use Rattle.spec_type_table.specs.Records.{sectionWord, memberAt, paramAt, recor
 use Rattle.spec_type_table.specs.Table.{from, typeOf, btfOf}
 use Rattle.spec_type_table.specs.Nodes.{nodeIs, memberIds, paramIds}
 use Rattle.c_dumper_dependency_order.specs.declared.order_state.Order.{Order}
-use Rattle.c_dumper_dependency_order.specs.declared.begin.Ceiling.{Ceiling}
 use Rattle.c_dumper_dependency_order.specs.declared.leaders.Way.{Way}
 use Rattle.c_dumper_dependency_order.specs.order_state.Work.{markOf, code as codeOf, workStore, tableIn, strongOf, refusedBy}
-use Rattle.c_dumper_dependency_order.specs.begin.Start.{limitOf, withMade, openedBy, isKnown, isPassable, metBy}
+use Rattle.c_dumper_dependency_order.specs.begin.Start.{limitBy, withMade, openedBy, isKnown, isPassable, metBy}
 use Rattle.c_dumper_dependency_order.specs.leaders.Leads.{insideOf, wayFor, noteIn, Kept, keptStore, orderKept, keptOut, aliasKept, wayKept, freshKept, enterKept}
 use Rattle.c_dumper_dependency_order.proofs.order_state.Frame.{Stays, on, off, stays-bind, table-mark, table-kept}
 use Rattle.c_dumper_dependency_order.proofs.begin.Laws.{Known, known-yes}
@@ -218,13 +217,17 @@ module _ (lim : Limit) (T : Table) (o : Order) (w l : List ℕ) (z : o .stop ≡
       order-fresh x n2 n1 ex = opened new (is-new st n2 n1) x (λ m _ j. freshKept lim v T (left - 1) m id weak j) ex refl
 
 -- an id that is known to be ordered
-pub order-known : (c : Ceiling) (T : Table) (o : Order) (w l : List ℕ) (id left : ℕ) (weak : Bool) (v : Way) → Known c left o w id → (p : Order) → p ≡ openedBy (limitOf c) o → (r : Order) → r ≡ strongOf p true
-    → keptOut r w l ≡ thenBind (keptOut o w l) (λ m _ j. orderKept (limitOf c) v left T m id weak j)
+pub order-known : (isSet : Bool) (calls : ℕ) (T : Table) (o : Order) (w l : List ℕ) (id left : ℕ) (weak : Bool) (v : Way) → (a : Bool) → a ≡ isKnown isSet calls left o w id → a ≡ true
+    → (p : Order) → p ≡ openedBy (limitBy isSet calls) o → (r : Order) → r ≡ strongOf p true
+    → keptOut r w l ≡ thenBind (keptOut o w l) (λ m _ j. orderKept (limitBy isSet calls) v left T m id weak j)
 unfolding openedBy
-order-known c T o w l id left weak v k p ep r er =
-    order-done (limitOf c) T o w l (k .goes) id left weak v (k .deep) p ep (ap (λ (u : Order). u .stop) (ep ∙ yes (allows (limitOf c) (o .made)) (k .allowed)) ∙ k .goes) (getField w id 1) refl r (k .state) er
+order-known isSet calls T o w l id left weak v a ea t p ep r er =
+    order-done (limitBy isSet calls) T o w l (k .goes) id left weak v (k .deep) p ep (ap (λ (u : Order). u .stop) (ep ∙ yes (allows (limitBy isSet calls) (o .made)) (k .allowed)) ∙ k .goes) (getField w id 1) refl r (k .state) er
   where
-    yes : (a : Bool) → a ≡ true → (elim a as (λ y. Order) [ true ↦ withMade o (oneCall (limitOf c) (o .made)) | false ↦ refusedBy o 22 ]) ≡ withMade o (oneCall (limitOf c) (o .made))
+    k : Known isSet calls left o w id
+    k = known-yes isSet calls left o w id (sym ea ∙ t)
+
+    yes : (q : Bool) → q ≡ true → (elim q as (λ y. Order) [ true ↦ withMade o (oneCall (limitBy isSet calls) (o .made)) | false ↦ refusedBy o 22 ]) ≡ withMade o (oneCall (limitBy isSet calls) (o .made))
     yes true e = refl
     yes false e = absurd (true≢false (sym e))
 
@@ -318,6 +321,19 @@ module _ (lim : Limit) (b : TypeTable) (s : List ℕ) (w l : List ℕ) (o : Orde
   new-proto y es e r w₁ l₁ er ex = by-node (code.Proto y es) e (λ m _ j. thenBind (orderKept lim v left T m y weak j) (λ m′ f j. eachWithin (wayKept lim v T left weak) (paramIds b s es) m′ f j))
       (then (keptOut o w l) (λ m _ j. orderKept lim v left T m y weak j) (λ m′ f j. eachWithin (wayKept lim v T left weak) (paramIds b s es) m′ f j) (keptOut r w₁ l₁) x er
       (ex ∙ same-table b s r w₁ l₁ w (λ Q m f j. eachWithin (wayKept lim v Q left weak) (paramIds b s es) m f j) (called-stays lim b s o w l r w₁ l₁ y left weak v er))) (λ m f j. refl)
+
+-- a pointer to an id that is known to be ordered
+pub new-ptr-known : (isSet : Bool) (calls : ℕ) (b : TypeTable) (s : List ℕ) (w l : List ℕ) (o : Order) (id left : ℕ) (weak : Bool) (v : Way) (t : Record) → t ≡ recordById b s w id
+    → (nd : Code) → nodeIs b s nd ≡ nodeOf (typeOf b s t) → (x : Told Kept) (y : ℕ) → nd ≡ code.Ptr y → (a : Bool) → a ≡ isKnown isSet calls left o w y → a ≡ true
+    → (p : Order) → p ≡ openedBy (limitBy isSet calls) o → x ≡ thenBind (keptOut p w l) (λ m _ j. told (finish (keptStore v) false id m) true j)
+    → x ≡ thenBind (keptOut o w l) (λ m _ j. freshKept (limitBy isSet calls) v (tableIn b s w) left m id weak j)
+unfolding thenBind
+new-ptr-known isSet calls b s w l o id left weak v t et nd en x y e a ea h p ep ex =
+    new-ptr (limitBy isSet calls) b s w l o id left weak v t et nd en x y e (strongOf p true) w l (order-known isSet calls (tableIn b s w) o w l y left true v a ea h p ep (strongOf p true) refl)
+    (ex ∙ sym (bind-then (keptOut p w l) (λ m _ j. told m true j) last) ∙ ap (λ (u : Told Kept). thenBind u last) (sym (flagged p w l true (strongOf p true) refl)))
+  where
+    last : Kept → Bool → ℕ → Told Kept
+    last m _ j = told (finish (keptStore v) false id m) true j
 
 -- ---- order_composite
 each-flag : (f : Kept → ℕ → ℕ → Told Kept) (k : Kept → ℕ → Told Kept) (ys : List ℕ) (m : Kept) (p q : Bool) (j : ℕ) → thenBind (eachWithin f ys m p j) (λ s′ _ i. k s′ i) ≡ thenBind (eachWithin f ys m q j) (λ s′ _ i. k s′ i)
@@ -418,11 +434,11 @@ or-true true = refl
 or-true false = refl
 
 -- a turn whose id is known to be ordered
-pub rest-known : (c : Ceiling) (b : TypeTable) (s : List ℕ) (w₀ l₀ : List ℕ) (left : ℕ) (weak : Bool) (v : Way) (id : ℕ → ℕ) (o : Order) (vlen : ℕ) (r : Order) (w l : List ℕ) (k : ℕ)
-    → Rest (limitOf c) b s w₀ l₀ left weak v id o vlen r w l k → k < vlen → (y : ℕ) → y ≡ id k → (a : Bool) → a ≡ isKnown c left r w y → a ≡ true
-    → (p : Order) → p ≡ openedBy (limitOf c) r → (q : Order) → q ≡ strongOf p true → Rest (limitOf c) b s w₀ l₀ left weak v id o vlen q w l (k + 1)
-rest-known c b s w₀ l₀ left weak v id o vlen r w l k inv h y ey a ea t p ep q eq =
-    rest-turn (limitOf c) b s w₀ l₀ left weak v id o vlen r w l k inv h y ey q w l (order-known c (tableIn b s w) r w l y left weak v (known-yes c left r w y (sym ea ∙ t)) p ep q eq) q
+pub rest-known : (isSet : Bool) (calls : ℕ) (b : TypeTable) (s : List ℕ) (w₀ l₀ : List ℕ) (left : ℕ) (weak : Bool) (v : Way) (id : ℕ → ℕ) (o : Order) (vlen : ℕ) (r : Order) (w l : List ℕ) (k : ℕ)
+    → Rest (limitBy isSet calls) b s w₀ l₀ left weak v id o vlen r w l k → k < vlen → (y : ℕ) → y ≡ id k → (a : Bool) → a ≡ isKnown isSet calls left r w y → a ≡ true
+    → (p : Order) → p ≡ openedBy (limitBy isSet calls) r → (q : Order) → q ≡ strongOf p true → Rest (limitBy isSet calls) b s w₀ l₀ left weak v id o vlen q w l (k + 1)
+rest-known isSet calls b s w₀ l₀ left weak v id o vlen r w l k inv h y ey a ea t p ep q eq =
+    rest-turn (limitBy isSet calls) b s w₀ l₀ left weak v id o vlen r w l k inv h y ey q w l (order-known isSet calls (tableIn b s w) r w l y left weak v a ea t p ep q eq) q
     (eq ∙ ap (strongOf p) (sym (or-true (r .«is_strong»))) ∙ ap (λ (u : Order). strongOf u (r .«is_strong» || u .«is_strong»)) (sym eq))
 
 pub params-end : (lim : Limit) (b : TypeTable) (s : List ℕ) (w₀ l₀ : List ℕ) (left : ℕ) (weak : Bool) (v : Way) (o : Order) (es : Entries) (r : Order) (w l : List ℕ) (k : ℕ)

@@ -11,8 +11,11 @@ use Rattle.c_dumper_dependency_order.specs.declared.begin.Ceiling.{Ceili
 use Rattle.c_dumper_dependency_order.specs.order_state.Work.{strongOf, refusedBy}
 
 -- the ceiling of a request, or none
-unfoldable pub limitOf : Ceiling → Limit
-limitOf c = elim (c .«is_set») [ true ↦ most (c .calls) | false ↦ unbounded ]
+unfoldable pub limitBy : Bool → ℕ → Limit
+limitBy isSet calls = elim isSet [ true ↦ most calls | false ↦ unbounded ]
+
+abbrev pub limitOf : Ceiling → Limit
+limitOf c = limitBy (c .«is_set») (c .calls)
 
 abbrev pub withMade : Order → ℕ → Order
 withMade o k = record { made = k; len = o .len; stop = o .stop; «is_strong» = o .«is_strong» }
@@ -22,9 +25,9 @@ unfoldable pub openedBy : Limit → Order → Order
 openedBy c o = elim (allows c (o .made)) [ true ↦ withMade o (oneCall c (o .made)) | false ↦ refusedBy o 22 ]
 
 -- whether a call would find x ordered: ordering goes on, the call is neither too deep nor past the ceiling, and the state says so
-unfoldable pub isKnown : Ceiling → ℕ → Order → List ℕ → ℕ → Bool
-isKnown c left o w x =
-    ((eqb (o .stop) 0 && not (eqb left 0)) && (not (c .«is_set») || ltb (o .made) (c .calls))) && eqb (getField w x 1) 2
+unfoldable pub isKnown : Bool → ℕ → ℕ → Order → List ℕ → ℕ → Bool
+isKnown isSet calls left o w x =
+    ((eqb (o .stop) 0 && not (eqb left 0)) && (not isSet || ltb (o .made) calls)) && eqb (getField w x 1) 2
 
 -- an id in progress that may be passed over
 unfoldable pub isPassable : Table → ℕ → Bool → Bool

@@ -19,7 +19,7 @@ use Rattle.spec_session.proofs.emission.Laws.{sheet, by-out}
 use Rattle.spec_c_dumper.specs.origins.Causes.{Entry, Noted, upTo, showsIn, eachListed}
 use Rattle.c_dumper_dependency_order.specs.leaders.Leads.{orderKept, keptOut, entryIn}
 use Rattle.c_dumper_dependency_order.specs.declared.begin.Ceiling.{Ceiling}
-use Rattle.c_dumper_dependency_order.specs.begin.Start.{limitOf}
+use Rattle.c_dumper_dependency_order.specs.begin.Start.{limitOf, limitBy}
 use Rattle.c_dumper_dependency_order.proofs.order_type.Laws as kept
 use Rattle.c_dumper_emit.specs.declared.entries.Pen.{Pen}
 use Rattle.c_dumper_emit.specs.entries.Noted.{notedOut, emitN}
@@ -47,7 +47,7 @@ module _ (b : TypeTable) (s : List ℕ) (room : ℕ) (p : Pen) (tx w li : List �
   X = btfOf b s w
 
   order-is : keptOut o w₁ l₁ ≡ orderedKept X (sheet 0 (p .at) tx w) l₀ id turn
-  unfolding orderedKept limitOf
+  unfolding orderedKept limitBy
   order-is = e ∙ kept.run begin w l₀ (λ m _ j. orderKept (limitOf none) (wayTo id turn) 512 (tableIn b s w) m id false j) refl
 
   abbrev dumps : Beside → Out Beside

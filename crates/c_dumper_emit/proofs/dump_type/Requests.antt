@@ -24,7 +24,7 @@ use Rattle.spec_c_dumper.proofs.ceiling.Counted.{tell, within, passes}
 use Rattle.spec_c_dumper.proofs.ceiling.Plain.{unbounded-is}
 use Rattle.c_dumper_dependency_order.specs.declared.order_state.Order.{Order}
 use Rattle.c_dumper_dependency_order.specs.order_state.Work.{Marks, markOf, workStore, tableIn}
-use Rattle.c_dumper_dependency_order.specs.begin.Start.{limitOf}
+use Rattle.c_dumper_dependency_order.specs.begin.Start.{limitOf, limitBy}
 use Rattle.c_dumper_dependency_order.specs.declared.leaders.Way.{Way}
 use Rattle.c_dumper_dependency_order.specs.leaders.Leads.{Kept, orderKept, keptOut}
 use Rattle.c_dumper_dependency_order.proofs.order_state.Laws.{is-done, is-busy, is-new, node-at}
@@ -143,11 +143,11 @@ plain-is b B m id made =
     (ap (besideOf m) (unbounded-is workStore 512 (tableOf B) (marksIn m) id false made) ∙ beside-tell m (order workStore 512 (tableOf B) (marksIn m) id false) made ∙ sym (lift-order (m .text) (m .at) 512 (tableOf B) (marksIn m) id false))
 
 none-is : (n : ℕ) → limitOf (record { «is_set» = false; calls = n }) ≡ unbounded
-unfolding limitOf
+unfolding limitBy
 none-is n = refl
 
 most-is : (n : ℕ) → limitOf (record { «is_set» = true; calls = n }) ≡ most n
-unfolding limitOf
+unfolding limitBy
 most-is n = refl
 
 pub dump-plain : (b : TypeTable) (B : Rules) (o : Out Sheet) (id made n : ℕ) (x : Out Sheet) → x ≡ obind o (λ m. dumpedMetered b B (limitOf (record { «is_set» = false; calls = n })) m id made) → x ≡ obind o (λ m. dumped (workMachine b B) (tableOf B) m id)

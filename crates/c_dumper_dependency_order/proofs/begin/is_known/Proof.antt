@@ -10,7 +10,7 @@ get-order-state-requires : tie.Need-get-order-state-requires
 get-order-state-requires c κs = search needs
 
 returns : tie.Need-returns
-returns c = laws.known-is _ _ _ _ _ _ (c .before .before .before .before .get-order-state .ensures)
+returns c = laws.known-is _ _ _ _ _ _ _ (c .before .before .get-order-state .ensures)
 
 pub is-known-spec : {M : Type 1} → statement M
 is-known-spec = tie.close (tie.spec get-order-state-requires returns)

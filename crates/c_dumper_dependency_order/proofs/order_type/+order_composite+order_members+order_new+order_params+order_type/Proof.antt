@@ -4,7 +4,7 @@ use lib.ListN.{length}
 use mathlib.Core.Path.{_≡_, refl, _∙_, sym}
 use mathlib.Core.Bool.{false}
 use Rattle.spec_type_table.specs.Records.{sectionWord, memberAt, paramAt}
-use Rattle.c_dumper_dependency_order.specs.begin.Start.{limitOf}
+use Rattle.c_dumper_dependency_order.specs.begin.Start.{limitBy}
 use borrow.Author.Needs.{needs}
 use native.Mathlib.Omega.{arith}
 use Prim.Native.Nat.{ℕ, zero-le, _<_, _≤_, _+_, _-_, _*_}
@@ -179,6 +179,10 @@ order-new-claims t = (
   finish-reads.Learnt,
   is-named-reads.Asked,
   is-named-reads.Learnt,
+  is-known-reads.Asked,
+  is-known-reads.Learnt,
+  count-call-reads.Asked,
+  count-call-reads.Learnt,
   is-weak-past-reads.Asked,
   is-weak-past-reads.Learnt,
   order-type-below t,
@@ -237,7 +241,7 @@ order-composite-same-length-2 : (t : ℕ) → order-composite-lts.Need-same-leng
 order-composite-same-length-2 t c = c .before .before .before .before .finish .kept .1 .0 ∙ c .before .before .before .before .before .before .before .before .before .before .before .order-members .kept .1 .1 .1 .0
 
 order-composite-returns-2 : (t : ℕ) → order-composite-lts.Need-returns-2 (order-composite-claims t) (order-composite-at t) order-composite.Post
-order-composite-returns-2 t c = laws.composite-entered _ _ _ _ _ _ _ _ _ _ _ _ _ _ _ _ _ _ (sym (c .before .before .before .before .before .before .before .before .before .before .before .before .before .before .before .before .before .before .before .before .is-passed .ensures) ∙ c .before .before .before .before .before .before .before .before .before .before .before .before .before .before .before .before .before .before .before .if1 .left) (c .before .before .before .before .before .before .before .before .before .before .before .before .before .before .before .before .before .set-order-state .ensures) (c .before .before .before .before .before .before .before .before .before .before .before .before .inside .ensures) (c .before .before .before .before .before .before .before .before .before .before .before .order-members .ensures) (c .before .before .before .before .finish .ensures)
+order-composite-returns-2 t c = laws.composite-entered _ _ _ _ _ _ _ _ _ _ _ _ _ _ _ _ _ _ (sym (c .before .before .before .before .before .before .before .before .before .before .before .before .before .before .before .before .before .before .before .before .is-passed .ensures) ∙ c .before .before .before .before .before .before .before .before .before .before .before .before .before .before .before .before .before .before .before .if1 .left) (c .before .before .before .before .before .before .before .before .before .before .before .before .before .before .before .before .before .set-order-state .ensures) (c .before .before .before .before .before .before .before .before .before .before .before .before .before .before .inside .ensures) (c .before .before .before .before .before .before .before .before .before .before .before .order-members .ensures) (c .before .before .before .before .finish .ensures)
 
 order-type-returns : (t : ℕ) → order-type-lts.Need-returns (order-type-claims t) (order-type-at t) order-type.Post
 order-type-returns t c = laws.stopped _ _ _ _ (c .if1 .taken)
@@ -291,10 +295,10 @@ order-type-returns-6 : (t : ℕ) → order-type-lts.Need-returns-6 (order-type-c
 order-type-returns-6 t c = laws.order-fresh _ _ _ _ _ (c .before .before .before .before .before .before .before .before .before .before .before .before .before .before .before .if1 .left) _ _ _ _ (c .before .before .before .before .before .before .before .before .before .before .before .before .before .before .if2 .left) _ (c .before .before .before .before .before .before .before .before .before .before .before .before .before .count-call .ensures) (c .before .before .before .before .before .before .before .before .before .before .before .if3 .left) _ (c .before .before .before .before .before .before .before .before .before .get-order-state .ensures) _ (c .before .before .before .before .before .before .before .before .if4 .left) (c .before .before .before .before .before .before .before .if5 .left) (c .before .before .before .before .order-new .ensures)
 
 abbrev order-members-Inv-loop : order-members-lts.InvT-loop
-order-members-Inv-loop b section work₀ leads₀ members left v c vlen r₀ k₀ work leads r k = (k ≤ vlen) × (length work ≡ length work₀) × (length leads ≡ length leads₀) × (vlen < 4294967296) × (vlen ≡ members .vlen) × laws.Rest (limitOf c) b section work₀ leads₀ left false v (λ i. sectionWord b section (memberAt (members .at) i + 4)) r₀ (members .vlen) r work leads k
+order-members-Inv-loop b section work₀ leads₀ members left v is-set calls vlen r₀ k₀ work leads r k = (k ≤ vlen) × (length work ≡ length work₀) × (length leads ≡ length leads₀) × (vlen < 4294967296) × (vlen ≡ members .vlen) × laws.Rest (limitBy is-set calls) b section work₀ leads₀ left false v (λ i. sectionWord b section (memberAt (members .at) i + 4)) r₀ (members .vlen) r work leads k
 
 abbrev order-members-μ-loop : order-members-lts.MeasureT-loop
-order-members-μ-loop b section work₀ leads₀ members left v c vlen r₀ k₀ work leads r k = vlen - k
+order-members-μ-loop b section work₀ leads₀ members left v is-set calls vlen r₀ k₀ work leads r k = vlen - k
 
 order-members-loop-holds : (t : ℕ) → order-members-lts.Need-loop-holds (order-members-claims t) (order-members-at t) order-members.Post order-members-Inv-loop order-members-μ-loop
 order-members-loop-holds t c = (zero-le, refl, refl, omega arith, refl, laws.rest-start _ _ _ _ _ _ _ _ _ _ _)
@@ -324,7 +328,7 @@ order-members-loop-less : (t : ℕ) → order-members-lts.Need-loop-less (order-
 order-members-loop-less t c = omega arith
 
 order-members-loop-again : (t : ℕ) → order-members-lts.Need-loop-again (order-members-claims t) (order-members-at t) order-members.Post order-members-Inv-loop order-members-μ-loop
-order-members-loop-again t c = (omega arith, c .before .before .before .before .before .before .before .before .loop .inv .1, c .before .before .before .before .before .before .before .before .loop .inv .2, c .before .before .before .before .before .before .before .before .loop .inv .3, c .before .before .before .before .before .before .before .before .loop .inv .4, laws.rest-known _ _ _ _ _ _ _ _ _ _ _ _ _ _ _ (c .before .before .before .before .before .before .before .before .loop .inv .5) (omega arith) _ (marks.entry-word _ _ _ _ _ (c .before .before .before .before .before .word .ensures) (c .before .before .before .before .before .before .member-place .ensures)) _ (c .before .before .before .is-known .ensures) (c .before .before .if1 .taken) _ (c .before .count-call .ensures) _ (c .strong .ensures))
+order-members-loop-again t c = (omega arith, c .before .before .before .before .before .before .before .before .loop .inv .1, c .before .before .before .before .before .before .before .before .loop .inv .2, c .before .before .before .before .before .before .before .before .loop .inv .3, c .before .before .before .before .before .before .before .before .loop .inv .4, laws.rest-known _ _ _ _ _ _ _ _ _ _ _ _ _ _ _ _ (c .before .before .before .before .before .before .before .before .loop .inv .5) (omega arith) _ (marks.entry-word _ _ _ _ _ (c .before .before .before .before .before .word .ensures) (c .before .before .before .before .before .before .member-place .ensures)) _ (c .before .before .before .is-known .ensures) (c .before .before .if1 .taken) _ (c .before .count-call .ensures) _ (c .strong .ensures))
 
 order-members-order-type-requires : (t : ℕ) → order-members-lts.Need-order-type-requires (order-members-claims t) (order-members-at t) order-members.Post order-members-Inv-loop order-members-μ-loop
 order-members-order-type-requires t c κs = (omega arith, tt)
@@ -380,6 +384,21 @@ order-new-finish-requires-2 t c κs = tt
 order-new-enum-known-is-array : (t : ℕ) → order-new-lts.Need-enum-known-is-array (order-new-claims t) (order-new-at t) order-new.Post
 order-new-enum-known-is-array t c = search needs
 
+order-new-is-known-requires : (t : ℕ) → order-new-lts.Need-is-known-requires (order-new-claims t) (order-new-at t) order-new.Post
+order-new-is-known-requires t c κs = tt
+
+order-new-count-call-requires : (t : ℕ) → order-new-lts.Need-count-call-requires (order-new-claims t) (order-new-at t) order-new.Post
+order-new-count-call-requires t c κs = tt
+
+order-new-strong-requires-2 : (t : ℕ) → order-new-lts.Need-strong-requires-2 (order-new-claims t) (order-new-at t) order-new.Post
+order-new-strong-requires-2 t c κs = tt
+
+order-new-same-length : (t : ℕ) → order-new-lts.Need-same-length (order-new-claims t) (order-new-at t) order-new.Post
+order-new-same-length t c = search needs
+
+order-new-returns : (t : ℕ) → order-new-lts.Need-returns (order-new-claims t) (order-new-at t) order-new.Post
+order-new-returns t c = laws.new-through _ _ _ _ _ _ _ _ _ _ _ (c .before .before .before .before .before .before .before .before .before .type-by-id .ensures) _ (c .before .before .before .before .before .before .before .before .node-of .ensures) _ _ _ (c .before .before .before .before .before .before .is-array .given .1) (laws.order-known _ _ _ _ _ _ _ _ _ _ _ (c .before .before .before .is-known .ensures) (c .before .before .if1 .taken) _ (c .before .count-call .ensures) _ (c .strong2 .ensures))
+
 order-new-is-weak-past-requires : (t : ℕ) → order-new-lts.Need-is-weak-past-requires (order-new-claims t) (order-new-at t) order-new.Post
 order-new-is-weak-past-requires t c κs = tt
 
@@ -389,11 +408,29 @@ order-new-order-type-requires t c κs = (omega arith, tt)
 order-new-enum-known-t : (t : ℕ) → order-new-lts.Need-enum-known-t (order-new-claims t) (order-new-at t) order-new.Post
 order-new-enum-known-t t c = search needs
 
-order-new-order-type-requires-2 : (t : ℕ) → order-new-lts.Need-order-type-requires-2 (order-new-claims t) (order-new-at t) order-new.Post
-order-new-order-type-requires-2 t c κs = (omega arith, tt)
+order-new-is-known-requires-2 : (t : ℕ) → order-new-lts.Need-is-known-requires-2 (order-new-claims t) (order-new-at t) order-new.Post
+order-new-is-known-requires-2 t c κs = tt
+
+order-new-count-call-requires-2 : (t : ℕ) → order-new-lts.Need-count-call-requires-2 (order-new-claims t) (order-new-at t) order-new.Post
+order-new-count-call-requires-2 t c κs = tt
 
 order-new-finish-requires-3 : (t : ℕ) → order-new-lts.Need-finish-requires-3 (order-new-claims t) (order-new-at t) order-new.Post
 order-new-finish-requires-3 t c κs = tt
+
+order-new-same-length-2 : (t : ℕ) → order-new-lts.Need-same-length-2 (order-new-claims t) (order-new-at t) order-new.Post
+order-new-same-length-2 t c = c .before .before .before .before .finish3 .kept .0
+
+order-new-same-length-3 : (t : ℕ) → order-new-lts.Need-same-length-3 (order-new-claims t) (order-new-at t) order-new.Post
+order-new-same-length-3 t c = c .before .before .before .before .finish3 .kept .1 .0
+
+order-new-returns-2 : (t : ℕ) → order-new-lts.Need-returns-2 (order-new-claims t) (order-new-at t) order-new.Post
+order-new-returns-2 t c = laws.new-ptr-known _ _ _ _ _ _ _ _ _ _ _ _ (c .before .before .before .before .before .before .before .before .before .before .before .before .before .before .before .type-by-id .ensures) _ (c .before .before .before .before .before .before .before .before .before .before .before .before .before .before .node-of .ensures) _ _ (c .before .before .before .before .before .before .before .before .before .before .before .before .t .given .1) _ (c .before .before .before .before .before .before .before .before .before .is-known2 .ensures) (c .before .before .before .before .before .before .before .before .if2 .taken) _ (c .before .before .before .before .before .count-call2 .ensures) (c .before .before .before .before .finish3 .ensures)
+
+order-new-order-type-requires-2 : (t : ℕ) → order-new-lts.Need-order-type-requires-2 (order-new-claims t) (order-new-at t) order-new.Post
+order-new-order-type-requires-2 t c κs = (omega arith, tt)
+
+order-new-finish-requires-4 : (t : ℕ) → order-new-lts.Need-finish-requires-4 (order-new-claims t) (order-new-at t) order-new.Post
+order-new-finish-requires-4 t c κs = tt
 
 order-new-enum-known-t-2 : (t : ℕ) → order-new-lts.Need-enum-known-t-2 (order-new-claims t) (order-new-at t) order-new.Post
 order-new-enum-known-t-2 t c = search needs
@@ -416,8 +453,8 @@ order-new-order-type-requires-4 t c κs = (omega arith, tt)
 order-new-order-params-requires : (t : ℕ) → order-new-lts.Need-order-params-requires (order-new-claims t) (order-new-at t) order-new.Post
 order-new-order-params-requires t c κs = (omega arith, tt)
 
-order-new-enum-known-members : (t : ℕ) → order-new-lts.Need-enum-known-members (order-new-claims t) (order-new-at t) order-new.Post
-order-new-enum-known-members t c = search needs
+order-new-enum-known-es : (t : ℕ) → order-new-lts.Need-enum-known-es (order-new-claims t) (order-new-at t) order-new.Post
+order-new-enum-known-es t c = search needs
 
 order-new-is-named-requires-2 : (t : ℕ) → order-new-lts.Need-is-named-requires-2 (order-new-claims t) (order-new-at t) order-new.Post
 order-new-is-named-requires-2 t c κs = tt
@@ -425,80 +462,80 @@ order-new-is-named-requires-2 t c κs = tt
 order-new-order-composite-requires : (t : ℕ) → order-new-lts.Need-order-composite-requires (order-new-claims t) (order-new-at t) order-new.Post
 order-new-order-composite-requires t c κs = (omega arith, tt)
 
-order-new-same-length : (t : ℕ) → order-new-lts.Need-same-length (order-new-claims t) (order-new-at t) order-new.Post
-order-new-same-length t c = search needs
-
-order-new-returns : (t : ℕ) → order-new-lts.Need-returns (order-new-claims t) (order-new-at t) order-new.Post
-order-new-returns t c = laws.new-ignored _ _ _ _ _ _ _ _ _ _ _ (c .before .before .before .before .type-by-id .ensures) _ (c .before .before .before .node-of .ensures) _ (c .before .enum-told .given .1) _ refl (c .strong .ensures)
-
-order-new-same-length-2 : (t : ℕ) → order-new-lts.Need-same-length-2 (order-new-claims t) (order-new-at t) order-new.Post
-order-new-same-length-2 t c = c .before .before .before .before .finish .kept .0
-
-order-new-same-length-3 : (t : ℕ) → order-new-lts.Need-same-length-3 (order-new-claims t) (order-new-at t) order-new.Post
-order-new-same-length-3 t c = c .before .before .before .before .finish .kept .1 .0
-
-order-new-returns-2 : (t : ℕ) → order-new-lts.Need-returns-2 (order-new-claims t) (order-new-at t) order-new.Post
-order-new-returns-2 t c = laws.new-plain _ _ _ _ _ _ _ _ _ _ _ (c .before .before .before .before .before .before .before .before .before .before .type-by-id .ensures) _ (c .before .before .before .before .before .before .before .before .before .node-of .ensures) _ (c .before .before .before .before .before .before .before .enum-told2 .given .1) (c .before .before .before .before .finish .ensures)
-
 order-new-same-length-4 : (t : ℕ) → order-new-lts.Need-same-length-4 (order-new-claims t) (order-new-at t) order-new.Post
-order-new-same-length-4 t c = c .before .before .before .before .finish2 .kept .0
-
-order-new-same-length-5 : (t : ℕ) → order-new-lts.Need-same-length-5 (order-new-claims t) (order-new-at t) order-new.Post
-order-new-same-length-5 t c = c .before .before .before .before .finish2 .kept .1 .0
+order-new-same-length-4 t c = search needs
 
 order-new-returns-3 : (t : ℕ) → order-new-lts.Need-returns-3 (order-new-claims t) (order-new-at t) order-new.Post
-order-new-returns-3 t c = laws.new-listed _ _ _ _ _ _ _ _ _ _ _ (c .before .before .before .before .before .before .before .before .before .before .before .type-by-id .ensures) _ (c .before .before .before .before .before .before .before .before .before .before .node-of .ensures) _ _ (c .before .before .before .before .before .before .before .before .enum-told3 .given .1) _ (c .before .before .before .before .before .before .before .is-named .ensures) (c .before .before .before .before .finish2 .ensures)
+order-new-returns-3 t c = laws.new-ignored _ _ _ _ _ _ _ _ _ _ _ (c .before .before .before .before .type-by-id .ensures) _ (c .before .before .before .node-of .ensures) _ (c .before .enum-told .given .1) _ refl (c .strong .ensures)
+
+order-new-same-length-5 : (t : ℕ) → order-new-lts.Need-same-length-5 (order-new-claims t) (order-new-at t) order-new.Post
+order-new-same-length-5 t c = c .before .before .before .before .finish .kept .0
 
 order-new-same-length-6 : (t : ℕ) → order-new-lts.Need-same-length-6 (order-new-claims t) (order-new-at t) order-new.Post
-order-new-same-length-6 t c = c .before .before .before .before .order-type .kept .1 .1 .0
-
-order-new-same-length-7 : (t : ℕ) → order-new-lts.Need-same-length-7 (order-new-claims t) (order-new-at t) order-new.Post
-order-new-same-length-7 t c = c .before .before .before .before .order-type .kept .1 .1 .1 .0
+order-new-same-length-6 t c = c .before .before .before .before .finish .kept .1 .0
 
 order-new-returns-4 : (t : ℕ) → order-new-lts.Need-returns-4 (order-new-claims t) (order-new-at t) order-new.Post
-order-new-returns-4 t c = laws.new-through _ _ _ _ _ _ _ _ _ _ _ (c .before .before .before .before .before .before .before .before .before .before .before .before .type-by-id .ensures) _ (c .before .before .before .before .before .before .before .before .before .before .before .node-of .ensures) _ _ _ (c .before .before .before .before .before .before .before .before .before .is-array .given .1) (laws.by-weak _ _ _ _ _ _ _ _ _ (c .before .before .before .before .before .before .before .is-weak-past .ensures) (c .before .before .before .before .order-type .ensures))
+order-new-returns-4 t c = laws.new-plain _ _ _ _ _ _ _ _ _ _ _ (c .before .before .before .before .before .before .before .before .before .before .type-by-id .ensures) _ (c .before .before .before .before .before .before .before .before .before .node-of .ensures) _ (c .before .before .before .before .before .before .before .enum-told2 .given .1) (c .before .before .before .before .finish .ensures)
+
+order-new-same-length-7 : (t : ℕ) → order-new-lts.Need-same-length-7 (order-new-claims t) (order-new-at t) order-new.Post
+order-new-same-length-7 t c = c .before .before .before .before .finish2 .kept .0
 
 order-new-same-length-8 : (t : ℕ) → order-new-lts.Need-same-length-8 (order-new-claims t) (order-new-at t) order-new.Post
-order-new-same-length-8 t c = c .before .before .before .before .finish3 .kept .0 ∙ c .before .before .before .before .before .before .before .before .before .before .before .order-type2 .kept .1 .1 .0
-
-order-new-same-length-9 : (t : ℕ) → order-new-lts.Need-same-length-9 (order-new-claims t) (order-new-at t) order-new.Post
-order-new-same-length-9 t c = c .before .before .before .before .finish3 .kept .1 .0 ∙ c .before .before .before .before .before .before .before .before .before .before .before .order-type2 .kept .1 .1 .1 .0
+order-new-same-length-8 t c = c .before .before .before .before .finish2 .kept .1 .0
 
 order-new-returns-5 : (t : ℕ) → order-new-lts.Need-returns-5 (order-new-claims t) (order-new-at t) order-new.Post
-order-new-returns-5 t c = laws.new-ptr _ _ _ _ _ _ _ _ _ _ _ (c .before .before .before .before .before .before .before .before .before .before .before .before .before .before .before .before .before .before .type-by-id .ensures) _ (c .before .before .before .before .before .before .before .before .before .before .before .before .before .before .before .before .before .node-of .ensures) _ _ (c .before .before .before .before .before .before .before .before .before .before .before .before .before .before .before .t .given .1) _ _ _ (c .before .before .before .before .before .before .before .before .before .before .before .order-type2 .ensures) (c .before .before .before .before .finish3 .ensures)
+order-new-returns-5 t c = laws.new-listed _ _ _ _ _ _ _ _ _ _ _ (c .before .before .before .before .before .before .before .before .before .before .before .type-by-id .ensures) _ (c .before .before .before .before .before .before .before .before .before .before .node-of .ensures) _ _ (c .before .before .before .before .before .before .before .before .enum-told3 .given .1) _ (c .before .before .before .before .before .before .before .is-named .ensures) (c .before .before .before .before .finish2 .ensures)
+
+order-new-same-length-9 : (t : ℕ) → order-new-lts.Need-same-length-9 (order-new-claims t) (order-new-at t) order-new.Post
+order-new-same-length-9 t c = c .before .before .before .before .order-type .kept .1 .1 .0
 
 order-new-same-length-10 : (t : ℕ) → order-new-lts.Need-same-length-10 (order-new-claims t) (order-new-at t) order-new.Post
-order-new-same-length-10 t c = c .before .before .before .before .finish-typedef .kept .0 ∙ c .before .before .before .before .before .before .before .before .before .before .before .order-type3 .kept .1 .1 .0
-
-order-new-same-length-11 : (t : ℕ) → order-new-lts.Need-same-length-11 (order-new-claims t) (order-new-at t) order-new.Post
-order-new-same-length-11 t c = c .before .before .before .before .finish-typedef .kept .1 .0 ∙ c .before .before .before .before .before .before .before .before .before .before .before .order-type3 .kept .1 .1 .1 .0
+order-new-same-length-10 t c = c .before .before .before .before .order-type .kept .1 .1 .1 .0
 
 order-new-returns-6 : (t : ℕ) → order-new-lts.Need-returns-6 (order-new-claims t) (order-new-at t) order-new.Post
-order-new-returns-6 t c = laws.new-typedef _ _ _ _ _ _ _ _ _ _ _ (c .before .before .before .before .before .before .before .before .before .before .before .before .before .before .before .before .before .before .before .type-by-id .ensures) _ (c .before .before .before .before .before .before .before .before .before .before .before .before .before .before .before .before .before .before .node-of .ensures) _ _ (c .before .before .before .before .before .before .before .before .before .before .before .before .before .before .before .before .t2 .given .1) _ (c .before .before .before .before .before .before .before .before .before .before .before .before .inside .ensures) _ _ _ (c .before .before .before .before .before .before .before .before .before .before .before .order-type3 .ensures) (c .before .before .before .before .finish-typedef .ensures)
+order-new-returns-6 t c = laws.new-through _ _ _ _ _ _ _ _ _ _ _ (c .before .before .before .before .before .before .before .before .before .before .before .before .before .before .before .type-by-id .ensures) _ (c .before .before .before .before .before .before .before .before .before .before .before .before .before .before .node-of .ensures) _ _ _ (c .before .before .before .before .before .before .before .before .before .before .before .before .is-array .given .1) (laws.by-weak _ _ _ _ _ _ _ _ _ (c .before .before .before .before .before .before .before .is-weak-past .ensures) (c .before .before .before .before .order-type .ensures))
+
+order-new-same-length-11 : (t : ℕ) → order-new-lts.Need-same-length-11 (order-new-claims t) (order-new-at t) order-new.Post
+order-new-same-length-11 t c = c .before .before .before .before .finish4 .kept .0 ∙ c .before .before .before .before .before .before .before .before .before .before .before .order-type2 .kept .1 .1 .0
 
 order-new-same-length-12 : (t : ℕ) → order-new-lts.Need-same-length-12 (order-new-claims t) (order-new-at t) order-new.Post
-order-new-same-length-12 t c = c .before .before .before .before .order-params .kept .1 .1 .0 ∙ c .before .before .before .before .before .before .before .before .before .before .before .order-type4 .kept .1 .1 .0
-
-order-new-same-length-13 : (t : ℕ) → order-new-lts.Need-same-length-13 (order-new-claims t) (order-new-at t) order-new.Post
-order-new-same-length-13 t c = c .before .before .before .before .order-params .kept .1 .1 .1 .0 ∙ c .before .before .before .before .before .before .before .before .before .before .before .order-type4 .kept .1 .1 .1 .0
+order-new-same-length-12 t c = c .before .before .before .before .finish4 .kept .1 .0 ∙ c .before .before .before .before .before .before .before .before .before .before .before .order-type2 .kept .1 .1 .1 .0
 
 order-new-returns-7 : (t : ℕ) → order-new-lts.Need-returns-7 (order-new-claims t) (order-new-at t) order-new.Post
-order-new-returns-7 t c = laws.new-proto _ _ _ _ _ _ _ _ _ _ _ (c .before .before .before .before .before .before .before .before .before .before .before .before .before .before .before .before .before .before .type-by-id .ensures) _ (c .before .before .before .before .before .before .before .before .before .before .before .before .before .before .before .before .before .node-of .ensures) _ _ _ (c .before .before .before .before .before .before .before .before .before .before .before .before .before .before .before .res .given .1) _ _ _ (c .before .before .before .before .before .before .before .before .before .before .before .order-type4 .ensures) (c .before .before .before .before .order-params .ensures)
+order-new-returns-7 t c = laws.new-ptr _ _ _ _ _ _ _ _ _ _ _ (c .before .before .before .before .before .before .before .before .before .before .before .before .before .before .before .before .before .before .before .before .before .type-by-id .ensures) _ (c .before .before .before .before .before .before .before .before .before .before .before .before .before .before .before .before .before .before .before .before .node-of .ensures) _ _ (c .before .before .before .before .before .before .before .before .before .before .before .before .before .before .before .before .before .before .t .given .1) _ _ _ (c .before .before .before .before .before .before .before .before .before .before .before .order-type2 .ensures) (c .before .before .before .before .finish4 .ensures)
+
+order-new-same-length-13 : (t : ℕ) → order-new-lts.Need-same-length-13 (order-new-claims t) (order-new-at t) order-new.Post
+order-new-same-length-13 t c = c .before .before .before .before .finish-typedef .kept .0 ∙ c .before .before .before .before .before .before .before .before .before .before .before .order-type3 .kept .1 .1 .0
 
 order-new-same-length-14 : (t : ℕ) → order-new-lts.Need-same-length-14 (order-new-claims t) (order-new-at t) order-new.Post
-order-new-same-length-14 t c = c .before .before .before .before .order-composite .kept .1 .1 .0
-
-order-new-same-length-15 : (t : ℕ) → order-new-lts.Need-same-length-15 (order-new-claims t) (order-new-at t) order-new.Post
-order-new-same-length-15 t c = c .before .before .before .before .order-composite .kept .1 .1 .1 .0
+order-new-same-length-14 t c = c .before .before .before .before .finish-typedef .kept .1 .0 ∙ c .before .before .before .before .before .before .before .before .before .before .before .order-type3 .kept .1 .1 .1 .0
 
 order-new-returns-8 : (t : ℕ) → order-new-lts.Need-returns-8 (order-new-claims t) (order-new-at t) order-new.Post
-order-new-returns-8 t c = laws.new-composite _ _ _ _ _ _ _ _ _ _ _ (c .before .before .before .before .before .before .before .before .before .before .before .before .type-by-id .ensures) _ (c .before .before .before .before .before .before .before .before .before .before .before .node-of .ensures) _ _ (c .before .before .before .before .before .before .before .before .before .members .given .1) _ (c .before .before .before .before .before .before .before .is-named2 .ensures) (c .before .before .before .before .order-composite .ensures)
+order-new-returns-8 t c = laws.new-typedef _ _ _ _ _ _ _ _ _ _ _ (c .before .before .before .before .before .before .before .before .before .before .before .before .before .before .before .before .before .before .before .type-by-id .ensures) _ (c .before .before .before .before .before .before .before .before .before .before .before .before .before .before .before .before .before .before .node-of .ensures) _ _ (c .before .before .before .before .before .before .before .before .before .before .before .before .before .before .before .before .t2 .given .1) _ (c .before .before .before .before .before .before .before .before .before .before .before .before .before .before .inside .ensures) _ _ _ (c .before .before .before .before .before .before .before .before .before .before .before .order-type3 .ensures) (c .before .before .before .before .finish-typedef .ensures)
+
+order-new-same-length-15 : (t : ℕ) → order-new-lts.Need-same-length-15 (order-new-claims t) (order-new-at t) order-new.Post
+order-new-same-length-15 t c = c .before .before .before .before .order-params .kept .1 .1 .0 ∙ c .before .before .before .before .before .before .before .before .before .before .before .order-type4 .kept .1 .1 .0
+
+order-new-same-length-16 : (t : ℕ) → order-new-lts.Need-same-length-16 (order-new-claims t) (order-new-at t) order-new.Post
+order-new-same-length-16 t c = c .before .before .before .before .order-params .kept .1 .1 .1 .0 ∙ c .before .before .before .before .before .before .before .before .before .before .before .order-type4 .kept .1 .1 .1 .0
+
+order-new-returns-9 : (t : ℕ) → order-new-lts.Need-returns-9 (order-new-claims t) (order-new-at t) order-new.Post
+order-new-returns-9 t c = laws.new-proto _ _ _ _ _ _ _ _ _ _ _ (c .before .before .before .before .before .before .before .before .before .before .before .before .before .before .before .before .before .before .type-by-id .ensures) _ (c .before .before .before .before .before .before .before .before .before .before .before .before .before .before .before .before .before .node-of .ensures) _ _ _ (c .before .before .before .before .before .before .before .before .before .before .before .before .before .before .before .res .given .1) _ _ _ (c .before .before .before .before .before .before .before .before .before .before .before .order-type4 .ensures) (c .before .before .before .before .order-params .ensures)
+
+order-new-same-length-17 : (t : ℕ) → order-new-lts.Need-same-length-17 (order-new-claims t) (order-new-at t) order-new.Post
+order-new-same-length-17 t c = c .before .before .before .before .order-composite .kept .1 .1 .0
+
+order-new-same-length-18 : (t : ℕ) → order-new-lts.Need-same-length-18 (order-new-claims t) (order-new-at t) order-new.Post
+order-new-same-length-18 t c = c .before .before .before .before .order-composite .kept .1 .1 .1 .0
+
+order-new-returns-10 : (t : ℕ) → order-new-lts.Need-returns-10 (order-new-claims t) (order-new-at t) order-new.Post
+order-new-returns-10 t c = laws.new-composite _ _ _ _ _ _ _ _ _ _ _ (c .before .before .before .before .before .before .before .before .before .before .before .before .type-by-id .ensures) _ (c .before .before .before .before .before .before .before .before .before .before .before .node-of .ensures) _ _ (c .before .before .before .before .before .before .before .before .before .es .given .1) _ (c .before .before .before .before .before .before .before .is-named2 .ensures) (c .before .before .before .before .order-composite .ensures)
 
 abbrev order-params-Inv-loop : order-params-lts.InvT-loop
-order-params-Inv-loop b section work₀ leads₀ params has-ptr left v c vlen r₀ k₀ work leads r k = (k ≤ vlen) × (length work ≡ length work₀) × (length leads ≡ length leads₀) × (vlen < 4294967296) × (vlen ≡ params .vlen) × laws.Rest (limitOf c) b section work₀ leads₀ left has-ptr v (λ i. sectionWord b section (paramAt (params .at) i + 4)) r₀ (params .vlen) r work leads k
+order-params-Inv-loop b section work₀ leads₀ params has-ptr left v is-set calls vlen r₀ k₀ work leads r k = (k ≤ vlen) × (length work ≡ length work₀) × (length leads ≡ length leads₀) × (vlen < 4294967296) × (vlen ≡ params .vlen) × laws.Rest (limitBy is-set calls) b section work₀ leads₀ left has-ptr v (λ i. sectionWord b section (paramAt (params .at) i + 4)) r₀ (params .vlen) r work leads k
 
 abbrev order-params-μ-loop : order-params-lts.MeasureT-loop
-order-params-μ-loop b section work₀ leads₀ params has-ptr left v c vlen r₀ k₀ work leads r k = vlen - k
+order-params-μ-loop b section work₀ leads₀ params has-ptr left v is-set calls vlen r₀ k₀ work leads r k = vlen - k
 
 order-params-loop-holds : (t : ℕ) → order-params-lts.Need-loop-holds (order-params-claims t) (order-params-at t) order-params.Post order-params-Inv-loop order-params-μ-loop
 order-params-loop-holds t c = (zero-le, refl, refl, omega arith, refl, laws.rest-start _ _ _ _ _ _ _ _ _ _ _)
@@ -528,7 +565,7 @@ order-params-loop-less : (t : ℕ) → order-params-lts.Need-loop-less (order-pa
 order-params-loop-less t c = omega arith
 
 order-params-loop-again : (t : ℕ) → order-params-lts.Need-loop-again (order-params-claims t) (order-params-at t) order-params.Post order-params-Inv-loop order-params-μ-loop
-order-params-loop-again t c = (omega arith, c .before .before .before .before .before .before .before .before .loop .inv .1, c .before .before .before .before .before .before .before .before .loop .inv .2, c .before .before .before .before .before .before .before .before .loop .inv .3, c .before .before .before .before .before .before .before .before .loop .inv .4, laws.rest-known _ _ _ _ _ _ _ _ _ _ _ _ _ _ _ (c .before .before .before .before .before .before .before .before .loop .inv .5) (omega arith) _ (marks.entry-word _ _ _ _ _ (c .before .before .before .before .before .word .ensures) (c .before .before .before .before .before .before .param-place .ensures)) _ (c .before .before .before .is-known .ensures) (c .before .before .if1 .taken) _ (c .before .count-call .ensures) _ (c .strong .ensures))
+order-params-loop-again t c = (omega arith, c .before .before .before .before .before .before .before .before .loop .inv .1, c .before .before .before .before .before .before .before .before .loop .inv .2, c .before .before .before .before .before .before .before .before .loop .inv .3, c .before .before .before .before .before .before .before .before .loop .inv .4, laws.rest-known _ _ _ _ _ _ _ _ _ _ _ _ _ _ _ _ (c .before .before .before .before .before .before .before .before .loop .inv .5) (omega arith) _ (marks.entry-word _ _ _ _ _ (c .before .before .before .before .before .word .ensures) (c .before .before .before .before .before .before .param-place .ensures)) _ (c .before .before .before .is-known .ensures) (c .before .before .if1 .taken) _ (c .before .count-call .ensures) _ (c .strong .ensures))
 
 order-params-order-type-requires : (t : ℕ) → order-params-lts.Need-order-type-requires (order-params-claims t) (order-params-at t) order-params.Post order-params-Inv-loop order-params-μ-loop
 order-params-order-type-requires t c κs = (omega arith, tt)
@@ -612,11 +649,22 @@ pub +order-composite+order-members+order-new+order-params+order-type-spec :
     (order-new-is-named-requires t)
     (order-new-finish-requires-2 t)
     (order-new-enum-known-is-array t)
+    (order-new-is-known-requires t)
+    (order-new-count-call-requires t)
+    (order-new-strong-requires-2 t)
+    (order-new-same-length t)
+    (order-new-returns t)
     (order-new-is-weak-past-requires t)
     (order-new-order-type-requires t)
     (order-new-enum-known-t t)
-    (order-new-order-type-requires-2 t)
+    (order-new-is-known-requires-2 t)
+    (order-new-count-call-requires-2 t)
     (order-new-finish-requires-3 t)
+    (order-new-same-length-2 t)
+    (order-new-same-length-3 t)
+    (order-new-returns-2 t)
+    (order-new-order-type-requires-2 t)
+    (order-new-finish-requires-4 t)
     (order-new-enum-known-t-2 t)
     (order-new-inside-requires t)
     (order-new-order-type-requires-3 t)
@@ -624,32 +672,32 @@ pub +order-composite+order-members+order-new+order-params+order-type-spec :
     (order-new-enum-known-res t)
     (order-new-order-type-requires-4 t)
     (order-new-order-params-requires t)
-    (order-new-enum-known-members t)
+    (order-new-enum-known-es t)
     (order-new-is-named-requires-2 t)
     (order-new-order-composite-requires t)
-    (order-new-same-length t)
-    (order-new-returns t)
-    (order-new-same-length-2 t)
-    (order-new-same-length-3 t)
-    (order-new-returns-2 t)
     (order-new-same-length-4 t)
-    (order-new-same-length-5 t)
     (order-new-returns-3 t)
+    (order-new-same-length-5 t)
     (order-new-same-length-6 t)
-    (order-new-same-length-7 t)
     (order-new-returns-4 t)
+    (order-new-same-length-7 t)
     (order-new-same-length-8 t)
-    (order-new-same-length-9 t)
     (order-new-returns-5 t)
+    (order-new-same-length-9 t)
     (order-new-same-length-10 t)
-    (order-new-same-length-11 t)
     (order-new-returns-6 t)
+    (order-new-same-length-11 t)
     (order-new-same-length-12 t)
-    (order-new-same-length-13 t)
     (order-new-returns-7 t)
+    (order-new-same-length-13 t)
     (order-new-same-length-14 t)
+    (order-new-returns-8 t)
     (order-new-same-length-15 t)
-    (order-new-returns-8 t))
+    (order-new-same-length-16 t)
+    (order-new-returns-9 t)
+    (order-new-same-length-17 t)
+    (order-new-same-length-18 t)
+    (order-new-returns-10 t))
     (λ t. order-params-lts.spec (order-params-claims t)
     (order-params-at t)
     order-params.Post
