@@ -7,7 +7,7 @@ use Rattle.c_dumper_declarator.proofs.lines.emit_definition.Reads as re
 use Rattle.c_dumper_declarator.proofs.lines.emit_definition.Lts as lts
 use Rattle.btf_type_table.proofs.kind.kind_flag_of.Reads as kind-flag-of-reads
 use Rattle.btf_type_table.proofs.kind.kind_of.Reads as kind-of-reads
-use Rattle.c_dumper_declarator.proofs.declarations.emit_composite_def.Reads as emit-composite-def-reads
+use Rattle.c_dumper_declarator.proofs.declarations.members.emit_composite_def.Reads as emit-composite-def-reads
 use Rattle.c_dumper_declarator.proofs.lines.put_line_end.Reads as put-line-end-reads
 use Rattle.c_dumper_bodies.proofs.enums64.emit_enum64_def.Reads as emit-enum64-def-reads
 use Rattle.c_dumper_bodies.proofs.enums.emit_enum_def.Reads as emit-enum-def-reads

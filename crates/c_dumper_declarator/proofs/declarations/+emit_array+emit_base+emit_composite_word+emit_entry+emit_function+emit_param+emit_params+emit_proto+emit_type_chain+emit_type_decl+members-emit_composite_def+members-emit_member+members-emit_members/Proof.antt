@@ -22,43 +22,43 @@ use borrow.Fn.Kinds.{In}
 use borrow.Fn.PlainCycle.{Measures, is, falls, and}
 use Rattle.c_dumper_declarator.proofs.declarations.emit_array.Reads as emit-array
 use Rattle.c_dumper_declarator.proofs.declarations.emit_array.Kinds as emit-array-kinds
-use Rattle.c_dumper_declarator.proofs.declarations.+emit_array+emit_base+emit_composite_def+emit_composite_word+emit_entry+emit_function+emit_member+emit_members+emit_param+emit_params+emit_proto+emit_type_chain+emit_type_decl.Lts-emit_array as emit-array-lts
+use Rattle.c_dumper_declarator.proofs.declarations.+emit_array+emit_base+emit_composite_word+emit_entry+emit_function+emit_param+emit_params+emit_proto+emit_type_chain+emit_type_decl+members-emit_composite_def+members-emit_member+members-emit_members.Lts-emit_array as emit-array-lts
 use Rattle.c_dumper_declarator.proofs.declarations.emit_base.Reads as emit-base
 use Rattle.c_dumper_declarator.proofs.declarations.emit_base.Kinds as emit-base-kinds
-use Rattle.c_dumper_declarator.proofs.declarations.+emit_array+emit_base+emit_composite_def+emit_composite_word+emit_entry+emit_function+emit_member+emit_members+emit_param+emit_params+emit_proto+emit_type_chain+emit_type_decl.Lts-emit_base as emit-base-lts
-use Rattle.c_dumper_declarator.proofs.declarations.emit_composite_def.Reads as emit-composite-def
-use Rattle.c_dumper_declarator.proofs.declarations.emit_composite_def.Kinds as emit-composite-def-kinds
-use Rattle.c_dumper_declarator.proofs.declarations.+emit_array+emit_base+emit_composite_def+emit_composite_word+emit_entry+emit_function+emit_member+emit_members+emit_param+emit_params+emit_proto+emit_type_chain+emit_type_decl.Lts-emit_composite_def as emit-composite-def-lts
+use Rattle.c_dumper_declarator.proofs.declarations.+emit_array+emit_base+emit_composite_word+emit_entry+emit_function+emit_param+emit_params+emit_proto+emit_type_chain+emit_type_decl+members-emit_composite_def+members-emit_member+members-emit_members.Lts-emit_base as emit-base-lts
+use Rattle.c_dumper_declarator.proofs.declarations.members.emit_composite_def.Reads as emit-composite-def
+use Rattle.c_dumper_declarator.proofs.declarations.members.emit_composite_def.Kinds as emit-composite-def-kinds
+use Rattle.c_dumper_declarator.proofs.declarations.+emit_array+emit_base+emit_composite_word+emit_entry+emit_function+emit_param+emit_params+emit_proto+emit_type_chain+emit_type_decl+members-emit_composite_def+members-emit_member+members-emit_members.Lts-members-emit_composite_def as emit-composite-def-lts
 use Rattle.c_dumper_declarator.proofs.declarations.emit_composite_word.Reads as emit-composite-word
 use Rattle.c_dumper_declarator.proofs.declarations.emit_composite_word.Kinds as emit-composite-word-kinds
-use Rattle.c_dumper_declarator.proofs.declarations.+emit_array+emit_base+emit_composite_def+emit_composite_word+emit_entry+emit_function+emit_member+emit_members+emit_param+emit_params+emit_proto+emit_type_chain+emit_type_decl.Lts-emit_composite_word as emit-composite-word-lts
+use Rattle.c_dumper_declarator.proofs.declarations.+emit_array+emit_base+emit_composite_word+emit_entry+emit_function+emit_param+emit_params+emit_proto+emit_type_chain+emit_type_decl+members-emit_composite_def+members-emit_member+members-emit_members.Lts-emit_composite_word as emit-composite-word-lts
 use Rattle.c_dumper_declarator.proofs.declarations.emit_entry.Reads as emit-entry
 use Rattle.c_dumper_declarator.proofs.declarations.emit_entry.Kinds as emit-entry-kinds
-use Rattle.c_dumper_declarator.proofs.declarations.+emit_array+emit_base+emit_composite_def+emit_composite_word+emit_entry+emit_function+emit_member+emit_members+emit_param+emit_params+emit_proto+emit_type_chain+emit_type_decl.Lts-emit_entry as emit-entry-lts
+use Rattle.c_dumper_declarator.proofs.declarations.+emit_array+emit_base+emit_composite_word+emit_entry+emit_function+emit_param+emit_params+emit_proto+emit_type_chain+emit_type_decl+members-emit_composite_def+members-emit_member+members-emit_members.Lts-emit_entry as emit-entry-lts
 use Rattle.c_dumper_declarator.proofs.declarations.emit_function.Reads as emit-function
 use Rattle.c_dumper_declarator.proofs.declarations.emit_function.Kinds as emit-function-kinds
-use Rattle.c_dumper_declarator.proofs.declarations.+emit_array+emit_base+emit_composite_def+emit_composite_word+emit_entry+emit_function+emit_member+emit_members+emit_param+emit_params+emit_proto+emit_type_chain+emit_type_decl.Lts-emit_function as emit-function-lts
-use Rattle.c_dumper_declarator.proofs.declarations.emit_member.Reads as emit-member
-use Rattle.c_dumper_declarator.proofs.declarations.emit_member.Kinds as emit-member-kinds
-use Rattle.c_dumper_declarator.proofs.declarations.+emit_array+emit_base+emit_composite_def+emit_composite_word+emit_entry+emit_function+emit_member+emit_members+emit_param+emit_params+emit_proto+emit_type_chain+emit_type_decl.Lts-emit_member as emit-member-lts
-use Rattle.c_dumper_declarator.proofs.declarations.emit_members.Reads as emit-members
-use Rattle.c_dumper_declarator.proofs.declarations.emit_members.Kinds as emit-members-kinds
-use Rattle.c_dumper_declarator.proofs.declarations.+emit_array+emit_base+emit_composite_def+emit_composite_word+emit_entry+emit_function+emit_member+emit_members+emit_param+emit_params+emit_proto+emit_type_chain+emit_type_decl.Lts-emit_members as emit-members-lts
+use Rattle.c_dumper_declarator.proofs.declarations.+emit_array+emit_base+emit_composite_word+emit_entry+emit_function+emit_param+emit_params+emit_proto+emit_type_chain+emit_type_decl+members-emit_composite_def+members-emit_member+members-emit_members.Lts-emit_function as emit-function-lts
+use Rattle.c_dumper_declarator.proofs.declarations.members.emit_member.Reads as emit-member
+use Rattle.c_dumper_declarator.proofs.declarations.members.emit_member.Kinds as emit-member-kinds
+use Rattle.c_dumper_declarator.proofs.declarations.+emit_array+emit_base+emit_composite_word+emit_entry+emit_function+emit_param+emit_params+emit_proto+emit_type_chain+emit_type_decl+members-emit_composite_def+members-emit_member+members-emit_members.Lts-members-emit_member as emit-member-lts
+use Rattle.c_dumper_declarator.proofs.declarations.members.emit_members.Reads as emit-members
+use Rattle.c_dumper_declarator.proofs.declarations.members.emit_members.Kinds as emit-members-kinds
+use Rattle.c_dumper_declarator.proofs.declarations.+emit_array+emit_base+emit_composite_word+emit_entry+emit_function+emit_param+emit_params+emit_proto+emit_type_chain+emit_type_decl+members-emit_composite_def+members-emit_member+members-emit_members.Lts-members-emit_members as emit-members-lts
 use Rattle.c_dumper_declarator.proofs.declarations.emit_param.Reads as emit-param
 use Rattle.c_dumper_declarator.proofs.declarations.emit_param.Kinds as emit-param-kinds
-use Rattle.c_dumper_declarator.proofs.declarations.+emit_array+emit_base+emit_composite_def+emit_composite_word+emit_entry+emit_function+emit_member+emit_members+emit_param+emit_params+emit_proto+emit_type_chain+emit_type_decl.Lts-emit_param as emit-param-lts
+use Rattle.c_dumper_declarator.proofs.declarations.+emit_array+emit_base+emit_composite_word+emit_entry+emit_function+emit_param+emit_params+emit_proto+emit_type_chain+emit_type_decl+members-emit_composite_def+members-emit_member+members-emit_members.Lts-emit_param as emit-param-lts
 use Rattle.c_dumper_declarator.proofs.declarations.emit_params.Reads as emit-params
 use Rattle.c_dumper_declarator.proofs.declarations.emit_params.Kinds as emit-params-kinds
-use Rattle.c_dumper_declarator.proofs.declarations.+emit_array+emit_base+emit_composite_def+emit_composite_word+emit_entry+emit_function+emit_member+emit_members+emit_param+emit_params+emit_proto+emit_type_chain+emit_type_decl.Lts-emit_params as emit-params-lts
+use Rattle.c_dumper_declarator.proofs.declarations.+emit_array+emit_base+emit_composite_word+emit_entry+emit_function+emit_param+emit_params+emit_proto+emit_type_chain+emit_type_decl+members-emit_composite_def+members-emit_member+members-emit_members.Lts-emit_params as emit-params-lts
 use Rattle.c_dumper_declarator.proofs.declarations.emit_proto.Reads as emit-proto
 use Rattle.c_dumper_declarator.proofs.declarations.emit_proto.Kinds as emit-proto-kinds
-use Rattle.c_dumper_declarator.proofs.declarations.+emit_array+emit_base+emit_composite_def+emit_composite_word+emit_entry+emit_function+emit_member+emit_members+emit_param+emit_params+emit_proto+emit_type_chain+emit_type_decl.Lts-emit_proto as emit-proto-lts
+use Rattle.c_dumper_declarator.proofs.declarations.+emit_array+emit_base+emit_composite_word+emit_entry+emit_function+emit_param+emit_params+emit_proto+emit_type_chain+emit_type_decl+members-emit_composite_def+members-emit_member+members-emit_members.Lts-emit_proto as emit-proto-lts
 use Rattle.c_dumper_declarator.proofs.declarations.emit_type_chain.Reads as emit-type-chain
 use Rattle.c_dumper_declarator.proofs.declarations.emit_type_chain.Kinds as emit-type-chain-kinds
-use Rattle.c_dumper_declarator.proofs.declarations.+emit_array+emit_base+emit_composite_def+emit_composite_word+emit_entry+emit_function+emit_member+emit_members+emit_param+emit_params+emit_proto+emit_type_chain+emit_type_decl.Lts-emit_type_chain as emit-type-chain-lts
+use Rattle.c_dumper_declarator.proofs.declarations.+emit_array+emit_base+emit_composite_word+emit_entry+emit_function+emit_param+emit_params+emit_proto+emit_type_chain+emit_type_decl+members-emit_composite_def+members-emit_member+members-emit_members.Lts-emit_type_chain as emit-type-chain-lts
 use Rattle.c_dumper_declarator.proofs.declarations.emit_type_decl.Reads as emit-type-decl
 use Rattle.c_dumper_declarator.proofs.declarations.emit_type_decl.Kinds as emit-type-decl-kinds
-use Rattle.c_dumper_declarator.proofs.declarations.+emit_array+emit_base+emit_composite_def+emit_composite_word+emit_entry+emit_function+emit_member+emit_members+emit_param+emit_params+emit_proto+emit_type_chain+emit_type_decl.Lts-emit_type_decl as emit-type-decl-lts
+use Rattle.c_dumper_declarator.proofs.declarations.+emit_array+emit_base+emit_composite_word+emit_entry+emit_function+emit_param+emit_params+emit_proto+emit_type_chain+emit_type_decl+members-emit_composite_def+members-emit_member+members-emit_members.Lts-emit_type_decl as emit-type-decl-lts
 use Rattle.btf_type_table.proofs.name.is_builtin.Reads as is-builtin-reads
 use Rattle.btf_type_table.proofs.name.is_empty.Reads as is-empty-reads
 use Rattle.btf_type_table.proofs.name.put_str.Reads as put-str-reads
@@ -110,10 +110,10 @@ use Rattle.c_dumper_name_versions.proofs.names.bare.Reads as bare-reads
 use Rattle.c_dumper_name_versions.proofs.names.emit_name.Reads as emit-name-reads
 use Rattle.c_dumper_padding.proofs.padding.emit_bit_padding.Reads as emit-bit-padding-reads
 use Rattle.c_dumper_padding.proofs.padding.emit_tail_padding.Reads as emit-tail-padding-reads
-use Rattle.c_dumper_declarator.proofs.declarations.+emit_array+emit_base+emit_composite_def+emit_composite_word+emit_entry+emit_function+emit_member+emit_members+emit_param+emit_params+emit_proto+emit_type_chain+emit_type_decl.{
+use Rattle.c_dumper_declarator.proofs.declarations.+emit_array+emit_base+emit_composite_word+emit_entry+emit_function+emit_param+emit_params+emit_proto+emit_type_chain+emit_type_decl+members-emit_composite_def+members-emit_member+members-emit_members.{
   statement,
 }
-use Rattle.c_dumper_declarator.proofs.declarations.+emit_array+emit_base+emit_composite_def+emit_composite_word+emit_entry+emit_function+emit_member+emit_members+emit_param+emit_params+emit_proto+emit_type_chain+emit_type_decl.Tie.{
+use Rattle.c_dumper_declarator.proofs.declarations.+emit_array+emit_base+emit_composite_word+emit_entry+emit_function+emit_param+emit_params+emit_proto+emit_type_chain+emit_type_decl+members-emit_composite_def+members-emit_member+members-emit_members.Tie.{
   close,
 }
 
@@ -1324,23 +1324,23 @@ emit-type-decl-same-length-6 t c = search needs
 emit-type-decl-returns-4 : (t : ℕ) → emit-type-decl-lts.Need-returns-4 (emit-type-decl-claims t) (emit-type-decl-at t) emit-type-decl.Post
 emit-type-decl-returns-4 t c = chains.decl-no _ _ _ _ _ _ _ _ _ _ (c .before .before .before .before .before .before .before .before .before .before .if1 .left) _ (c .before .before .before .before .before .chain-len .ensures) _ (c .before .before .before .c .given .1) (c .stop2 .ensures)
 
-pub +emit-array+emit-base+emit-composite-def+emit-composite-word+emit-entry+emit-function+emit-member+emit-members+emit-param+emit-params+emit-proto+emit-type-chain+emit-type-decl-spec :
+pub +emit-array+emit-base+emit-composite-word+emit-entry+emit-function+emit-param+emit-params+emit-proto+emit-type-chain+emit-type-decl+members·emit-composite-def+members·emit-member+members·emit-members-spec :
     {M : Type 1} → statement M
-+emit-array+emit-base+emit-composite-def+emit-composite-word+emit-entry+emit-function+emit-member+emit-members+emit-param+emit-params+emit-proto+emit-type-chain+emit-type-decl-spec =
++emit-array+emit-base+emit-composite-word+emit-entry+emit-function+emit-param+emit-params+emit-proto+emit-type-chain+emit-type-decl+members·emit-composite-def+members·emit-member+members·emit-members-spec =
     close
     μ-emit-array
     μ-emit-base
-    μ-emit-composite-def
     μ-emit-composite-word
     μ-emit-entry
     μ-emit-function
-    μ-emit-member
-    μ-emit-members
     μ-emit-param
     μ-emit-params
     μ-emit-proto
     μ-emit-type-chain
     μ-emit-type-decl
+    μ-emit-composite-def
+    μ-emit-member
+    μ-emit-members
     (λ t. emit-array-lts.spec (
       emit-name-reads.Asked,
       emit-name-reads.Learnt,
@@ -1424,50 +1424,6 @@ pub +emit-array+emit-base+emit-composite-def+emit-composite-word+emit-entry+emit
     (emit-base-returns-8 t)
     (emit-base-same-length-12 t)
     (emit-base-returns-9 t))
-    (λ t. emit-composite-def-lts.spec (
-      stop-reads.Asked,
-      stop-reads.Learnt,
-      stopped-reads.Asked,
-      stopped-reads.Learnt,
-      is-builtin-reads.Asked,
-      is-builtin-reads.Learnt,
-      body-packed-reads.Asked,
-      body-packed-reads.Learnt,
-      emit-composite-head-reads.Asked,
-      emit-composite-head-reads.Learnt,
-      deeper-reads.Asked,
-      deeper-reads.Learnt,
-      emit-members-below t,
-      emit-members.Post,
-      emit-composite-end-reads.Asked,
-      emit-composite-end-reads.Learnt,
-    )
-    (emit-composite-def-at t)
-    emit-composite-def.Post
-    (emit-composite-def-stop-requires t)
-    (emit-composite-def-same-length t)
-    (emit-composite-def-returns t)
-    (emit-composite-def-stopped-requires t)
-    (emit-composite-def-same-length-2 t)
-    (emit-composite-def-returns-2 t)
-    (emit-composite-def-is-builtin-requires t)
-    (emit-composite-def-same-length-3 t)
-    (emit-composite-def-returns-3 t)
-    (emit-composite-def-body-packed-requires t)
-    (emit-composite-def-enum-known-packed t)
-    (emit-composite-def-emit-composite-head-requires t)
-    (emit-composite-def-deeper-requires t)
-    (emit-composite-def-sub-emit-members t)
-    (emit-composite-def-emit-members-requires t)
-    (emit-composite-def-emit-composite-end-requires t)
-    (emit-composite-def-enum-known-c t)
-    (emit-composite-def-stop-requires-2 t)
-    (emit-composite-def-same-length-4 t)
-    (emit-composite-def-same-length-5 t)
-    (emit-composite-def-returns-4 t)
-    (emit-composite-def-same-length-6 t)
-    (emit-composite-def-same-length-7 t)
-    (emit-composite-def-returns-5 t))
     (λ t. emit-composite-word-lts.spec (
       is-empty-reads.Asked,
       is-empty-reads.Learnt,
@@ -1592,62 +1548,6 @@ pub +emit-array+emit-base+emit-composite-def+emit-composite-word+emit-entry+emit
     (emit-function-same-length t)
     (emit-function-same-length-2 t)
     (emit-function-returns t))
-    (λ t. emit-member-lts.spec (
-      load-member-reads.Asked,
-      load-member-reads.Learnt,
-      bare-reads.Asked,
-      bare-reads.Learnt,
-      emit-bit-padding-reads.Asked,
-      emit-bit-padding-reads.Learnt,
-      put-byte-reads.Asked,
-      put-byte-reads.Learnt,
-      put-tabs-reads.Asked,
-      put-tabs-reads.Learnt,
-      emit-type-decl-below t,
-      emit-type-decl.Post,
-      emit-member-end-reads.Asked,
-      emit-member-end-reads.Learnt,
-    )
-    (emit-member-at t)
-    emit-member.Post
-    (emit-member-load-member-requires t)
-    (emit-member-bare-requires t)
-    (emit-member-emit-bit-padding-requires t)
-    (emit-member-put-byte-requires t)
-    (emit-member-put-tabs-requires t)
-    (emit-member-emit-type-decl-requires t)
-    (emit-member-emit-member-end-requires t)
-    (emit-member-same-length t)
-    (emit-member-same-length-2 t)
-    (emit-member-returns t))
-    (λ t. emit-members-lts.spec (
-      vlen-of-reads.Asked,
-      vlen-of-reads.Learnt,
-      stopped-reads.Asked,
-      stopped-reads.Learnt,
-      emit-member-below t,
-      emit-member.Post,
-      emit-tail-padding-reads.Asked,
-      emit-tail-padding-reads.Learnt,
-    )
-    (emit-members-at t)
-    emit-members.Post
-    emit-members-Inv-loop
-    emit-members-μ-loop
-    (emit-members-vlen-of-requires t)
-    (emit-members-loop-holds t)
-    (emit-members-stopped-requires t)
-    (emit-members-same-length t)
-    (emit-members-same-length-2 t)
-    (emit-members-returns t)
-    (emit-members-emit-member-requires t)
-    (emit-members-add-k t)
-    (emit-members-loop-less t)
-    (emit-members-loop-again t)
-    (emit-members-emit-tail-padding-requires t)
-    (emit-members-same-length-3 t)
-    (emit-members-same-length-4 t)
-    (emit-members-returns-2 t))
     (λ t. emit-param-lts.spec (
       param-place-reads.Asked,
       param-place-reads.Learnt,
@@ -1764,7 +1664,7 @@ pub +emit-array+emit-base+emit-composite-def+emit-composite-word+emit-entry+emit
     (emit-type-chain-same-length-5 t)
     (emit-type-chain-same-length-6 t)
     (emit-type-chain-returns-4 t))
-    λ t. emit-type-decl-lts.spec (
+    (λ t. emit-type-decl-lts.spec (
       stop-reads.Asked,
       stop-reads.Learnt,
       stopped-reads.Asked,
@@ -1793,4 +1693,104 @@ pub +emit-array+emit-base+emit-composite-def+emit-composite-word+emit-entry+emit
     (emit-type-decl-returns-3 t)
     (emit-type-decl-same-length-5 t)
     (emit-type-decl-same-length-6 t)
-    (emit-type-decl-returns-4 t)
+    (emit-type-decl-returns-4 t))
+    (λ t. emit-composite-def-lts.spec (
+      stop-reads.Asked,
+      stop-reads.Learnt,
+      stopped-reads.Asked,
+      stopped-reads.Learnt,
+      is-builtin-reads.Asked,
+      is-builtin-reads.Learnt,
+      body-packed-reads.Asked,
+      body-packed-reads.Learnt,
+      emit-composite-head-reads.Asked,
+      emit-composite-head-reads.Learnt,
+      deeper-reads.Asked,
+      deeper-reads.Learnt,
+      emit-members-below t,
+      emit-members.Post,
+      emit-composite-end-reads.Asked,
+      emit-composite-end-reads.Learnt,
+    )
+    (emit-composite-def-at t)
+    emit-composite-def.Post
+    (emit-composite-def-stop-requires t)
+    (emit-composite-def-same-length t)
+    (emit-composite-def-returns t)
+    (emit-composite-def-stopped-requires t)
+    (emit-composite-def-same-length-2 t)
+    (emit-composite-def-returns-2 t)
+    (emit-composite-def-is-builtin-requires t)
+    (emit-composite-def-same-length-3 t)
+    (emit-composite-def-returns-3 t)
+    (emit-composite-def-body-packed-requires t)
+    (emit-composite-def-enum-known-packed t)
+    (emit-composite-def-emit-composite-head-requires t)
+    (emit-composite-def-deeper-requires t)
+    (emit-composite-def-sub-emit-members t)
+    (emit-composite-def-emit-members-requires t)
+    (emit-composite-def-emit-composite-end-requires t)
+    (emit-composite-def-enum-known-c t)
+    (emit-composite-def-stop-requires-2 t)
+    (emit-composite-def-same-length-4 t)
+    (emit-composite-def-same-length-5 t)
+    (emit-composite-def-returns-4 t)
+    (emit-composite-def-same-length-6 t)
+    (emit-composite-def-same-length-7 t)
+    (emit-composite-def-returns-5 t))
+    (λ t. emit-member-lts.spec (
+      load-member-reads.Asked,
+      load-member-reads.Learnt,
+      bare-reads.Asked,
+      bare-reads.Learnt,
+      emit-bit-padding-reads.Asked,
+      emit-bit-padding-reads.Learnt,
+      put-byte-reads.Asked,
+      put-byte-reads.Learnt,
+      put-tabs-reads.Asked,
+      put-tabs-reads.Learnt,
+      emit-type-decl-below t,
+      emit-type-decl.Post,
+      emit-member-end-reads.Asked,
+      emit-member-end-reads.Learnt,
+    )
+    (emit-member-at t)
+    emit-member.Post
+    (emit-member-load-member-requires t)
+    (emit-member-bare-requires t)
+    (emit-member-emit-bit-padding-requires t)
+    (emit-member-put-byte-requires t)
+    (emit-member-put-tabs-requires t)
+    (emit-member-emit-type-decl-requires t)
+    (emit-member-emit-member-end-requires t)
+    (emit-member-same-length t)
+    (emit-member-same-length-2 t)
+    (emit-member-returns t))
+    λ t. emit-members-lts.spec (
+      vlen-of-reads.Asked,
+      vlen-of-reads.Learnt,
+      stopped-reads.Asked,
+      stopped-reads.Learnt,
+      emit-member-below t,
+      emit-member.Post,
+      emit-tail-padding-reads.Asked,
+      emit-tail-padding-reads.Learnt,
+    )
+    (emit-members-at t)
+    emit-members.Post
+    emit-members-Inv-loop
+    emit-members-μ-loop
+    (emit-members-vlen-of-requires t)
+    (emit-members-loop-holds t)
+    (emit-members-stopped-requires t)
+    (emit-members-same-length t)
+    (emit-members-same-length-2 t)
+    (emit-members-returns t)
+    (emit-members-emit-member-requires t)
+    (emit-members-add-k t)
+    (emit-members-loop-less t)
+    (emit-members-loop-again t)
+    (emit-members-emit-tail-padding-requires t)
+    (emit-members-same-length-3 t)
+    (emit-members-same-length-4 t)
+    (emit-members-returns-2 t)
