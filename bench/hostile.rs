@@ -73,7 +73,7 @@ pub fn distinct(n: u32) -> Vec<u8> {
     t.bytes()
 }
 
-/// One byte more into the hash of a name, as crates/classes/src/hash.rt has it.
+/// One byte more into the hash of a name, as crates/btf_open_names/src/keys/hash.rt has it.
 fn step(acc: u32, x: u8) -> u32 {
     acc.wrapping_mul(16777619).wrapping_add(x as u32)
 }

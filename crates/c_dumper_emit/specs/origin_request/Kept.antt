@@ -1,6 +1,6 @@
 -- One request with its entries, as the code has it: ordering with words for the leaders of 262145 ids, which are all that a table has, and
 -- then the listed ids, each at the top. The words serve the requests of a call one after another: each has its turn. That it is
--- `dumpedNoted` of `spec_c_dumper::origins`: `c_dumper_emit::request`.
+-- `dumpedNoted` of `spec_c_dumper::origins`: `c_dumper_emit::origin_request`.
 use Prim.Native.Nat.{ℕ, _/_, _<_}
 use mathlib.Core.Bool.{false}
 use mathlib.Core.List.{List}

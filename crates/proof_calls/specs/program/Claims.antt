@@ -40,7 +40,7 @@ pub record Prints (s work text : List ℕ) : Type 0 where
   pub inside : ranOn s work text .out .len ≤ length (ranOn s work text .out .text)
   -- a section that opening accepts: what the rules print of its table
   pub rules : number s ≡ 0 → out s work text ≡ program (table s)
-  -- and so of the types that it describes, and of those that crates/examples reads in the bytes of a stored program
+  -- and so of the types that it describes, and of those that crates/proof_examples reads in the bytes of a stored program
   pub described : Bytes s → number s ≡ 0 → out s work text ≡ program (tableIn 8 0 s)
   pub as-stored : Bytes s → number s ≡ 0 → out s work text ≡ program (listed 8 false (readTypes s))
   -- "prints the text"
