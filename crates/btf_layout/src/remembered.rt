@@ -7,7 +7,7 @@ use btf_type_table::cell::put_field;
 use spec_type_table::Entries;
 use spec_type_table::TypeTable;
 ghost use mathlib.Core.Path.{_≡_};
-ghost use Rattle.btf_layout.specs.remembered.Words.{seenIs, coded, counted, remembered};
+ghost use Rattle.btf_layout.specs.remembered.Words.{seenIs, coded, withVisits, remembered};
 
 // What is remembered of a type.
 pub struct Seen {
@@ -44,7 +44,7 @@ pub fn coded(s: Seen) -> u32
 
 // The visits of a type and of its members; the count stays at the largest number.
 fn count_visits(work: &mut [u8], members: u32)
-    ensures { λ _. ⌜ now (work .exit) ≡ counted members (now (work .entry)) ⌝ }
+    ensures { λ _. ⌜ now (work .exit) ≡ withVisits members (now (work .entry)) ⌝ }
 {
     let sum = (get_field(work, 0, cell::VISITS) as u64) + (members as u64) + 1;
     if sum < limit::TWO_TO_32 {

@@ -7,7 +7,7 @@ use btf_type_table::cell::get_count;
 use btf_type_table::cell::holder_word;
 ghost use mathlib.Core.Path.{_≡_};
 ghost use Prim.Native.Nat.{_+_};
-ghost use Rattle.spec_type_table.specs.Cells.{classP, countP, counted};
+ghost use Rattle.spec_type_table.specs.Cells.{classP, countP, countRaised};
 ghost use Rattle.spec_type_table.specs.Numbers.{below, capped, numberOver, takenAt, numberAt};
 ghost use Rattle.btf_open_names.specs.numbers.Lists.{oneIf};
 
@@ -79,7 +79,7 @@ fn number_over(work: &[u8], types: u32, class: u32, k: u32) -> u32
 // One more holder of h's name: the number that it gets.
 pub fn get_number(work: &mut [u8], types: u32, h: u32) -> u32
     ensures { λ r. ⌜ (r ≡ numberAt types (now (work .entry)) h)
-        × (now (work .exit) ≡ counted (classP types) (countP types) (now (work .entry)) h) ⌝ }
+        × (now (work .exit) ≡ countRaised (classP types) (countP types) (now (work .entry)) h) ⌝ }
 {
     let class = get_word(
         work,

@@ -4,7 +4,7 @@ use base_bytes::word::get_word;
 use base_bytes::word::put_word;
 ghost use mathlib.Core.Path.{_≡_};
 ghost use Rattle.spec_bytes.specs.words.Words.{getWord, oneMore};
-ghost use Rattle.spec_type_table.specs.Cells.{getField, putField, placeOf, classP, countP, countOf, counted, withMore};
+ghost use Rattle.spec_type_table.specs.Cells.{getField, putField, placeOf, classP, countP, countAfter, countRaised, withMore};
 
 pub const WORDS_OF_TYPE: usize = 16;
 
@@ -119,8 +119,8 @@ fn count_at(work: &mut [u8], at: usize) -> u32
 
 // One more holder of h's name: how many there are now, at the class of the name.
 pub fn get_count(work: &mut [u8], types: u32, h: u32) -> u32
-    ensures { λ r. ⌜ (r ≡ countOf (classP types) (countP types) (now (work .entry)) h)
-        × (now (work .exit) ≡ counted (classP types) (countP types) (now (work .entry)) h) ⌝ }
+    ensures { λ r. ⌜ (r ≡ countAfter (classP types) (countP types) (now (work .entry)) h)
+        × (now (work .exit) ≡ countRaised (classP types) (countP types) (now (work .entry)) h) ⌝ }
 {
     let class = get_word(work, holder_word(types, NAME_CLASS, VALUE_CLASS, h));
     count_at(work, holder_word(types, NAME_HOLDERS, VALUE_HOLDERS, class))

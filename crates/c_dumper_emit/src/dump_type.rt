@@ -21,7 +21,7 @@ ghost use Rattle.spec_type_table.specs.Cells.{getField};
 ghost use Rattle.spec_type_table.specs.Table.{btfOf};
 ghost use Rattle.c_dumper_dependency_order.specs.order_state.Work.{markOf, tableIn};
 ghost use Rattle.c_dumper_dependency_order.specs.begin.Start.{limitOf};
-ghost use Rattle.spec_c_dumper.specs.ceiling.Ceiling.{countOf};
+ghost use Rattle.spec_c_dumper.specs.ceiling.Ceiling.{callsMade};
 ghost use Rattle.spec_session.specs.metered.Metered.{orderedIn, dumpedMetered, callsIn, dumpedWithin};
 ghost use Rattle.spec_session.specs.emission.Sheet.{sheetStore, emitOut, workMachine, emitIn, isIdle};
 ghost use Rattle.spec_c_dumper.specs.rules.Request.{dumped};
@@ -91,7 +91,7 @@ fn dump_metered(
     ensures { λ r. ⌜ (emitOut 0 (r .at) (now (text .exit)) (now (work .exit)) ≡
         obind (emitOut 0 at (now (text .entry)) (now (work .entry)))
         (λ m. dumpedMetered b (btfOf b (now (section .entry)) (now (work .entry))) (limitOf c) m id made)) ×
-        (r .made ≡ countOf (orderedIn (btfOf b (now (section .entry)) (now (work .entry))) (limitOf c)
+        (r .made ≡ callsMade (orderedIn (btfOf b (now (section .entry)) (now (work .entry))) (limitOf c)
         (record { work = now (work .entry); len = 0 }) id made)) ⌝ }
 {
     let start = Order {

@@ -29,7 +29,7 @@ use Rattle.spec_session.proofs.calls.Lists.{idsFrom, ids-some, counted-stops}
 use Rattle.spec_session.specs.calls.Lists as calls
 use Rattle.spec_c_dumper.specs.needs.Needs.{MeetsTwice}
 use Rattle.spec_c_dumper.specs.needs.Lists.{Ls, afresh}
-use Rattle.spec_c_dumper.specs.needs.Session.{Known, textOf, linesBy, machineBy, answerOf, noNames}
+use Rattle.spec_c_dumper.specs.needs.Session.{Known, textOf, linesBy, machineBy, answerTo, noNames}
 use Rattle.spec_c_dumper.proofs.needs.Session.{by-demand3}
 use Rattle.spec_c_dumper.proofs.needs.Bodies.{pieces-are}
 use Rattle.spec_c_dumper.proofs.needs.Again.{asked-again}
@@ -141,7 +141,7 @@ module _ {R C : Type 0} (K : Calls R C) where
         lists = subst (λ (N : Naming Names). Demand2 K s (machineBy N D) (tableOf D) c (ruled K p modes s n N (noNames D) rs)) (passed-are p modes s n on) over
 
         by-names : Demand2 K s (machineBy (apart D) D) (tableOf D) c (ruled K p modes s n (apart D) (noneShown D) rs)
-        unfolding answerOf
+        unfolding answerTo
         by-names = record {
           text = lists .text ∙ same-text p modes s n y (k .accepted) on rs;
           text-len = lists .text-len ∙ ap length (same-text p modes s n y (k .accepted) on rs);
@@ -188,7 +188,7 @@ list-closed : (S : Session) (s w t ids : List ℕ) → 4 ≤ length ids → S .�
 unfolding calls.listCall calls.listFrom calls.idsIn idsIn callOf told numberOf
 list-closed S s w t ids l o =
     ap (calls.listFrom 0 S s w t) (ids-some ids l)
-    ∙ ap (λ (c : Call). calls.counted 0 c (λ d. calls.listFrom 1 (d .session) s (d .work) (d .text) (idsFrom ids 1 (calls.countIn ids - 1)))) (type-not-current S s w t (getWord ids 0) (closed-stays S s w t o))
+    ∙ ap (λ (c : Call). calls.thenNext 0 c (λ d. calls.listFrom 1 (d .session) s (d .work) (d .text) (idsFrom ids 1 (calls.countIn ids - 1)))) (type-not-current S s w t (getWord ids 0) (closed-stays S s w t o))
     ∙ counted-stops 0 11 (unchanged S (Refused 11 (S .«text_len»)) w t) (λ d. calls.listFrom 1 (d .session) s (d .work) (d .text) (idsFrom ids 1 (calls.countIn ids - 1))) refl (λ z. absurd (omega (arith, z)))
 
 made-same : (c : Call) → claims.made 0 c ≡ made onSession c

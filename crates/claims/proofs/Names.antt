@@ -15,7 +15,7 @@ use Rattle.spec_opening.specs.Table.{enumeratorsOf}
 use Rattle.spec_opening.specs.Opened.{workOf}
 use Rattle.spec_opening.specs.Causes.{openingNumber}
 use Rattle.spec_c_dumper.specs.needs.Lists.{Ls}
-use Rattle.spec_c_dumper.specs.needs.Session.{Known, textOf, machineBy, openedBy, answerOf, noNames}
+use Rattle.spec_c_dumper.specs.needs.Session.{Known, textOf, machineBy, openedBy, answerTo, noNames}
 use Rattle.proof_demands.specs.name_counts.Passed.{Lists, passed}
 use Rattle.proof_demands.specs.name_counts.Indexed.{listsIn}
 use Rattle.proof_demands.specs.demands.Table.{headerOf, openedTable, namesIn}
@@ -94,13 +94,13 @@ module _ (p modes : ℕ) (s : List ℕ) (n : ℕ) (y : Bytes s) (ok : openingNum
       ∙ ap textIn (both rs)
       ∙ dump-text (apart D) D rs [] (openedBy (apart D) D (noneShown D))
 
-  pub next-number : (rs : List Req) (r : Req) → answerOf (passed T) D (listed rs) r .number ≡ answerOf (apart D) D (shown rs) r .number
+  pub next-number : (rs : List Req) (r : Req) → answerTo (passed T) D (listed rs) r .number ≡ answerTo (apart D) D (shown rs) r .number
   next-number rs r =
       sym (last-number (passed T) D r rs [] (openedBy (passed T) D (noNames D)))
       ∙ ap lastIn (both (rs ++ (r ∷ [])))
       ∙ last-number (apart D) D r rs [] (openedBy (apart D) D (noneShown D))
 
-  pub next-text : (rs : List Req) (r : Req) → textOf (answerOf (passed T) D (listed rs) r .sess .mach .pieces) ≡ textOf (answerOf (apart D) D (shown rs) r .sess .mach .pieces)
+  pub next-text : (rs : List Req) (r : Req) → textOf (answerTo (passed T) D (listed rs) r .sess .mach .pieces) ≡ textOf (answerTo (apart D) D (shown rs) r .sess .mach .pieces)
   next-text rs r =
       sym (last-text (passed T) D r rs [] (openedBy (passed T) D (noNames D)))
       ∙ ap textIn (both (rs ++ (r ∷ [])))
@@ -108,7 +108,7 @@ module _ (p modes : ℕ) (s : List ℕ) (n : ℕ) (y : Bytes s) (ok : openingNum
 
   -- an id that is not below the count tells whether a session is open
   pub same-open : (rs : List Req) → listed rs .isOpen ≡ shown rs .isOpen
-  unfolding answerOf
+  unfolding answerTo
   same-open rs =
       told-once (listed rs .isOpen) (shown rs .isOpen)
       (sym (past-number (machineBy (passed T) D) (tableOf D) 0 (listed rs))

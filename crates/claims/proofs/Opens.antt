@@ -15,7 +15,7 @@ use Rattle.spec_linux_btf.specs.Reading.{Bytes}
 use Rattle.spec_linux_btf.specs.Fields.{kindIn}
 use Rattle.spec_linux_btf.specs.Section.{stringArea, headerSound, stringsSound, typesSound}
 use Rattle.spec_type_table.specs.declared.types.TypeTable.{TypeTable}
-use Rattle.btf_open_causes.specs.references.Followed.{among, countOf, kindAt, followedCount, followedId}
+use Rattle.btf_open_causes.specs.references.Followed.{isKindAmong, typeCount, kindAt, followedCount, followedId}
 use Rattle.btf_open_causes.specs.references.Bounds.{kind-out, followed-none}
 use Rattle.btf_open_causes.specs.references.References.{BadReference}
 use Rattle.btf_open_causes.specs.prototypes.Prototypes.{ToProto, ends, passes, ProtoInside}
@@ -25,29 +25,29 @@ use Rattle.spec_opening.specs.Followed.{voidType, typeOf}
 use Rattle.spec_opening.specs.Causes.{cause3, cause4, cause5, tableOf, causes, openingNumber}
 use Rattle.spec_opening.proofs.Order.{NoneHolds, FirstHolds}
 use Rattle.spec_opening.proofs.Claims.{sound-none, refused-first, cause-1, cause-2, cause-6, cause-7, cause-8, cause-9}
-use Rattle.spec_cut.specs.reopened.Seen.{Seen}
+use Rattle.spec_cut.specs.reopened.Seen.{SeenFrom}
 use Rattle.spec_cut.proofs.reopened.Followed.{seen}
 use Rattle.spec_cut.proofs.reopened.Causes.{one-id}
-use Rattle.claims.specs.Demand1.{kindNumber, Of, Follows, ToPrototype, prototype, through, Loop, Cause, pointer-size, long-section, header, strings, records, followed-past, followed-kind, holds-prototype, loop, short-work, Numbered}
+use Rattle.claims.specs.Demand1.{kindNumber, Of, Follows, ToPrototype, prototype, through, Loop, OpeningCause, pointer-size, long-section, header, strings, records, followed-past, followed-kind, holds-prototype, loop, short-work, Numbered}
 
 -- ---- one of a list of kinds
 
-is-among : (l : List ℕ) (k : ℕ) → among l k ≡ true → List·Memᴰ k l
-unfolding among
+is-among : (l : List ℕ) (k : ℕ) → isKindAmong l k ≡ true → List·Memᴰ k l
+unfolding isKindAmong
 is-among [] k e = absurd (true≢false (sym e))
 is-among (a ∷ l) k e = go (eqb k a) refl e (is-among l k)
   where
-    go : (b : Bool) → eqb k a ≡ b → (elim b as (λ _. Bool) [ true ↦ true | false ↦ among l k ]) ≡ true → (among l k ≡ true → List·Memᴰ k l) → List·Memᴰ k (a ∷ l)
+    go : (b : Bool) → eqb k a ≡ b → (elim b as (λ _. Bool) [ true ↦ true | false ↦ isKindAmong l k ]) ≡ true → (isKindAmong l k ≡ true → List·Memᴰ k l) → List·Memᴰ k (a ∷ l)
     go true q r f = List·Memᴰ·head (eqb-true k a q)
     go false q r f = List·Memᴰ·tail (f r)
 
-among-is : (l : List ℕ) (k : ℕ) → List·Memᴰ k l → among l k ≡ true
-unfolding among
+among-is : (l : List ℕ) (k : ℕ) → List·Memᴰ k l → isKindAmong l k ≡ true
+unfolding isKindAmong
 among-is [] k m = absurd (List·Memᴰ·not-nil m)
-among-is (a ∷ l) k (List·Memᴰ·head q) = ap (λ (b : Bool). elim b as (λ _. Bool) [ true ↦ true | false ↦ among l k ]) (eq-eqb k a q)
+among-is (a ∷ l) k (List·Memᴰ·head q) = ap (λ (b : Bool). elim b as (λ _. Bool) [ true ↦ true | false ↦ isKindAmong l k ]) (eq-eqb k a q)
 among-is (a ∷ l) k (List·Memᴰ·tail m) = go (eqb k a) (among-is l k m)
   where
-    go : (b : Bool) → among l k ≡ true → (elim b as (λ _. Bool) [ true ↦ true | false ↦ among l k ]) ≡ true
+    go : (b : Bool) → isKindAmong l k ≡ true → (elim b as (λ _. Bool) [ true ↦ true | false ↦ isKindAmong l k ]) ≡ true
     go true r = refl
     go false r = r
 
@@ -67,7 +67,7 @@ module _ (p : ℕ) (s : List ℕ) (y : Bytes s) (h : headerSound s ≡ true) (t 
   abbrev ts : List Described
   ts = describedIn s
 
-  known : Seen c s start ts
+  known : SeenFrom c s start ts
   known = seen p s y h t
 
   -- void, and what lies past the table, is of kind 0 for the code, and stands as a FWD among the described types
@@ -84,20 +84,20 @@ module _ (p : ℕ) (s : List ℕ) (y : Bytes s) (h : headerSound s ≡ true) (t 
       go (inr q) = same (known .kind i q ∙ kind-number (typeOf ts (suc i)))
 
   -- of kinds without 0 and 7
-  module _ (l : List ℕ) (no-0 : among l 0 ≡ false) (no-7 : among l 7 ≡ false) where
-    described-of : (x : ℕ) → among l (kindAt c start x) ≡ true → Of ts l x
+  module _ (l : List ℕ) (no-0 : isKindAmong l 0 ≡ false) (no-7 : isKindAmong l 7 ≡ false) where
+    described-of : (x : ℕ) → isKindAmong l (kindAt c start x) ≡ true → Of ts l x
     described-of x e = go (kind-of x)
       where
         go : Kind x → Of ts l x
-        go (neither a b) = absurd (true≢false (sym e ∙ ap (among l) a ∙ no-0))
-        go (same a) = is-among l (kindNumber (typeOf ts x)) (ap (among l) (sym a) ∙ e)
+        go (neither a b) = absurd (true≢false (sym e ∙ ap (isKindAmong l) a ∙ no-0))
+        go (same a) = is-among l (kindNumber (typeOf ts x)) (ap (isKindAmong l) (sym a) ∙ e)
 
-    coded-of : (x : ℕ) → Of ts l x → among l (kindAt c start x) ≡ true
+    coded-of : (x : ℕ) → Of ts l x → isKindAmong l (kindAt c start x) ≡ true
     coded-of x m = go (kind-of x)
       where
-        go : Kind x → among l (kindAt c start x) ≡ true
-        go (neither a b) = absurd (true≢false (sym (among-is l (kindNumber (typeOf ts x)) m) ∙ ap (among l) b ∙ no-7))
-        go (same a) = ap (among l) a ∙ among-is l (kindNumber (typeOf ts x)) m
+        go : Kind x → isKindAmong l (kindAt c start x) ≡ true
+        go (neither a b) = absurd (true≢false (sym (among-is l (kindNumber (typeOf ts x)) m) ∙ ap (isKindAmong l) b ∙ no-7))
+        go (same a) = ap (isKindAmong l) a ∙ among-is l (kindNumber (typeOf ts x)) m
 
   is-prototype : (x : ℕ) → kindAt c start x ≡ 13 → kindNumber (typeOf ts x) ≡ 13
   is-prototype x e = go (kind-of x)
@@ -113,30 +113,30 @@ module _ (p : ℕ) (s : List ℕ) (y : Bytes s) (h : headerSound s ≡ true) (t 
       go (neither a b) = absurd (omega (arith, b, e))
       go (same a) = a ∙ e
 
-  inside : (x k : ℕ) → k < followedCount c s start x → x < countOf c
-  inside x k l = go (le-or-lt (countOf c) x)
+  inside : (x k : ℕ) → k < followedCount c s start x → x < typeCount c
+  inside x k l = go (le-or-lt (typeCount c) x)
     where
-      go : (countOf c ≤ x) ⊎ (x < countOf c) → x < countOf c
+      go : (typeCount c ≤ x) ⊎ (x < typeCount c) → x < typeCount c
       go (inl q) = absurd (omega (arith, l, followed-none c s start x q))
       go (inr q) = q
 
-  all : typesOf s ≡ countOf c
+  all : typesOf s ≡ typeCount c
   unfolding typesOf
   all = sym (known .count)
 
   -- 6
-  six : BadReference c s start → (work : ℕ) → Cause p s work 6
-  unfolding among
+  six : BadReference c s start → (work : ℕ) → OpeningCause p s work 6
+  unfolding isKindAmong
   six r work = go (r .bad)
     where
       to : Follows ts (r .x) (followedId c s start (r .x) (r .k))
       to = known .to (r .x) (r .k) (r .followed)
 
-      go : (countOf c ≤ followedId c s start (r .x) (r .k)) ⊎ (among (12 ∷ 14 ∷ 15 ∷ 17 ∷ []) (kindAt c start (followedId c s start (r .x) (r .k))) ≡ true) → Cause p s work 6
+      go : (typeCount c ≤ followedId c s start (r .x) (r .k)) ⊎ (isKindAmong (12 ∷ 14 ∷ 15 ∷ 17 ∷ []) (kindAt c start (followedId c s start (r .x) (r .k))) ≡ true) → OpeningCause p s work 6
       go (inl q) = followed-past (r .x) (followedId c s start (r .x) (r .k)) to (omega (arith, q, all))
       go (inr q) = followed-kind (r .x) (followedId c s start (r .x) (r .k)) to (described-of (12 ∷ 14 ∷ 15 ∷ 17 ∷ []) refl refl _ q)
 
-  bad : (x v : ℕ) → Follows ts x v → (countOf c ≤ v) ⊎ (among (12 ∷ 14 ∷ 15 ∷ 17 ∷ []) (kindAt c start v) ≡ true) → BadReference c s start
+  bad : (x v : ℕ) → Follows ts x v → (typeCount c ≤ v) ⊎ (isKindAmong (12 ∷ 14 ∷ 15 ∷ 17 ∷ []) (kindAt c start v) ≡ true) → BadReference c s start
   bad x v m e =
       let r = known .from x v m in
       record {
@@ -144,30 +144,30 @@ module _ (p : ℕ) (s : List ℕ) (y : Bytes s) (h : headerSound s ≡ true) (t 
         k = r .0;
         type = inside x (r .0) (r .1);
         followed = r .1;
-        bad = subst (λ (z : ℕ). (countOf c ≤ z) ⊎ (among (12 ∷ 14 ∷ 15 ∷ 17 ∷ []) (kindAt c start z) ≡ true)) (sym (r .2)) e;
+        bad = subst (λ (z : ℕ). (typeCount c ≤ z) ⊎ (isKindAmong (12 ∷ 14 ∷ 15 ∷ 17 ∷ []) (kindAt c start z) ≡ true)) (sym (r .2)) e;
       }
 
   past-bad : (x v : ℕ) → Follows ts x v → typesOf s ≤ v → BadReference c s start
   past-bad x v m q = bad x v m (inl (omega (arith, q, all)))
 
   kind-bad : (x v : ℕ) → Follows ts x v → Of ts (12 ∷ 14 ∷ 15 ∷ 17 ∷ []) v → BadReference c s start
-  unfolding among
+  unfolding isKindAmong
   kind-bad x v m k = bad x v m (inr (coded-of (12 ∷ 14 ∷ 15 ∷ 17 ∷ []) refl refl v k))
 
   -- 7
   to-prototype : (x : ℕ) → ToProto c s start x → ToPrototype ts x
-  unfolding among
+  unfolding isKindAmong
   to-prototype _ (ends {y = x} e) = prototype (is-prototype x e)
   to-prototype _ (passes {y = x} e q) =
       let one : followedCount c s start x ≡ 1 = one-id c s start x e in
       through (described-of (3 ∷ 8 ∷ 9 ∷ 10 ∷ 11 ∷ 18 ∷ []) refl refl x e) (known .to x 0 (omega (arith, one))) (to-prototype (followedId c s start x 0) q)
 
   from-prototype : (x : ℕ) → ToPrototype ts x → ToProto c s start x
-  unfolding among
+  unfolding isKindAmong
   from-prototype _ (prototype {x = x} e) = ends (prototype-is x e)
   from-prototype _ (through {x = x} {y = v} k m q) = passes on (subst (ToProto c s start) (sym (r .2) ∙ ap (followedId c s start x) first) (from-prototype v q))
     where
-      on : among (3 ∷ 8 ∷ 9 ∷ 10 ∷ 11 ∷ 18 ∷ []) (kindAt c start x) ≡ true
+      on : isKindAmong (3 ∷ 8 ∷ 9 ∷ 10 ∷ 11 ∷ 18 ∷ []) (kindAt c start x) ≡ true
       on = coded-of (3 ∷ 8 ∷ 9 ∷ 10 ∷ 11 ∷ 18 ∷ []) refl refl x k
 
       r : (k : ℕ) × (k < followedCount c s start x) × (followedId c s start x k ≡ v)
@@ -176,13 +176,13 @@ module _ (p : ℕ) (s : List ℕ) (y : Bytes s) (h : headerSound s ≡ true) (t 
       first : r .0 ≡ 0
       first = omega (arith, r .1, one-id c s start x on)
 
-  seven : ProtoInside c s start → (work : ℕ) → Cause p s work 7
-  unfolding among
+  seven : ProtoInside c s start → (work : ℕ) → OpeningCause p s work 7
+  unfolding isKindAmong
   seven r work =
       holds-prototype (r .x) (followedId c s start (r .x) (r .k)) (described-of (3 ∷ 4 ∷ 5 ∷ []) refl refl (r .x) (r .holder)) (known .to (r .x) (r .k) (r .inside)) (to-prototype (followedId c s start (r .x) (r .k)) (r .leads))
 
   held : (x v : ℕ) → Of ts (3 ∷ 4 ∷ 5 ∷ []) x → Follows ts x v → ToPrototype ts v → ProtoInside c s start
-  unfolding among
+  unfolding isKindAmong
   held x v k m q =
       let r = known .from x v m in
       record {
@@ -196,7 +196,7 @@ module _ (p : ℕ) (s : List ℕ) (y : Bytes s) (h : headerSound s ≡ true) (t 
 
   -- 8
   eight : TypeLoop c s start → Loop ts
-  unfolding among
+  unfolding isKindAmong
   eight r = record {
     n = r .n;
     x = r .x;
@@ -207,7 +207,7 @@ module _ (p : ℕ) (s : List ℕ) (y : Bytes s) (h : headerSound s ≡ true) (t 
   }
 
   looped : Loop ts → TypeLoop c s start
-  unfolding among
+  unfolding isKindAmong
   looped r = record {
     n = r .n;
     x = r .x;
@@ -260,7 +260,7 @@ module _ (p : ℕ) (s : List ℕ) (work : ℕ) (y : Bytes s) where
   types-sound e = unnegated (typesSound s) e
 
   -- the first that holds is the cause
-  owned : (k : ℕ) → FirstHolds tests k → Cause p s work (suc k)
+  owned : (k : ℕ) → FirstHolds tests k → OpeningCause p s work (suc k)
   unfolding cause3 cause4 cause5
   owned zero h = let r = cause-1 p .0 h in pointer-size (r .0) (r .1)
   owned (suc zero) h = long-section (cause-2 s .0 (h .1))
@@ -274,7 +274,7 @@ module _ (p : ℕ) (s : List ℕ) (work : ℕ) (y : Bytes s) where
   owned (suc (suc (suc (suc (suc (suc (suc (suc (suc k))))))))) h = absurd (h .1 .1 .1 .1 .1 .1 .1 .1 .1)
 
   -- a cause before which, and at which, no test holds is none
-  refuted : (k : ℕ) → Cause p s work k → Before tests k → ⊥
+  refuted : (k : ℕ) → OpeningCause p s work k → Before tests k → ⊥
   unfolding cause3 cause4 cause5
   refuted _ (pointer-size a b) h = clash (cause-1 p .1 (a, b)) (h .0)
   refuted _ (long-section q) h = clash (cause-2 s .1 q) (h .1 .0)
@@ -293,7 +293,7 @@ module _ (p : ℕ) (s : List ℕ) (work : ℕ) (y : Bytes s) where
   pub numbered : Numbered p s work (openingNumber p s work)
   numbered = record { own = own (openingNumber p s work) refl; first = λ k q e. refuted k e (none (openingNumber p s work) refl k q) }
     where
-      own : (n : ℕ) → openingNumber p s work ≡ n → (n ≡ 0 → ⊥) → Cause p s work n
+      own : (n : ℕ) → openingNumber p s work ≡ n → (n ≡ 0 → ⊥) → OpeningCause p s work n
       own zero e z = absurd (z refl)
       own (suc k) e z = owned k (refused-first p s work k .0 e)
 

@@ -45,32 +45,32 @@ module _ (ts : List Described) where
 
 -- ---- "Cause, tested in this order at opening", by its number. work: the length of the work in bytes
 
-pub data Cause (pointer : ℕ) (s : List ℕ) (work : ℕ) : ℕ → Type 0 where
+pub data OpeningCause (pointer : ℕ) (s : List ℕ) (work : ℕ) : ℕ → Type 0 where
   -- "pointer size not 4 or 8"
-  pointer-size : (pointer ≡ 4 → ⊥) → (pointer ≡ 8 → ⊥) → Cause pointer s work 1
+  pointer-size : (pointer ≡ 4 → ⊥) → (pointer ≡ 8 → ⊥) → OpeningCause pointer s work 1
   -- "section over 16,777,216 bytes"
-  long-section : 16777216 < length s → Cause pointer s work 2
+  long-section : 16777216 < length s → OpeningCause pointer s work 2
   -- "under 24 bytes, magic, version, header length under 24 or past the end, an area past the end"
-  header : headerSound s ≡ false → Cause pointer s work 3
+  header : headerSound s ≡ false → OpeningCause pointer s work 3
   -- "string area empty, not starting or ending in 0, or a byte over 127"
-  strings : stringsSound (stringArea s) ≡ false → Cause pointer s work 4
+  strings : stringsSound (stringArea s) ≡ false → OpeningCause pointer s work 4
   -- "kind 0 or over 19, info bits 16-23, 29 or 30 set, record past its area, name offset outside, more than 262,144 records"
-  records : typesSound s ≡ false → Cause pointer s work 5
+  records : typesSound s ≡ false → OpeningCause pointer s work 5
   -- "a followed id not below the count, or of kind 12, 14, 15, 17"
-  followed-past : (x y : ℕ) → Follows (describedIn s) x y → typesOf s ≤ y → Cause pointer s work 6
-  followed-kind : (x y : ℕ) → Follows (describedIn s) x y → Of (describedIn s) (12 ∷ 14 ∷ 15 ∷ 17 ∷ []) y → Cause pointer s work 6
+  followed-past : (x y : ℕ) → Follows (describedIn s) x y → typesOf s ≤ y → OpeningCause pointer s work 6
+  followed-kind : (x y : ℕ) → Follows (describedIn s) x y → Of (describedIn s) (12 ∷ 14 ∷ 15 ∷ 17 ∷ []) y → OpeningCause pointer s work 6
   -- "a member or array element that is a prototype, through typedefs, qualifiers, type tags, arrays"
   holds-prototype : (x y : ℕ) → Of (describedIn s) (3 ∷ 4 ∷ 5 ∷ []) x → Follows (describedIn s) x y → ToPrototype (describedIn s) y
-      → Cause pointer s work 7
+      → OpeningCause pointer s work 7
   -- "a loop of pointers, arrays, qualifiers, type tags, typedefs, prototypes only"
-  loop : Loop (describedIn s) → Cause pointer s work 8
+  loop : Loop (describedIn s) → OpeningCause pointer s work 8
   -- "work words short": "16 a type, void counted, 8 an enumerator, and 4,096 more", "four lent bytes each"
-  short-work : work < 4 * (16 * typesOf s + 8 * enumeratorsOf s + 4096) → Cause pointer s work 9
+  short-work : work < 4 * (16 * typesOf s + 8 * enumeratorsOf s + 4096) → OpeningCause pointer s work 9
 
 -- "A number comes for its own cause and in no other circumstance"; "tested in this order"; "Success is number 0"
 pub record Numbered (pointer : ℕ) (s : List ℕ) (work number : ℕ) : Type 0 where
-  pub own : (number ≡ 0 → ⊥) → Cause pointer s work number
-  pub first : (k : ℕ) → (number ≡ 0) ⊎ (k < number) → Cause pointer s work k → ⊥
+  pub own : (number ≡ 0 → ⊥) → OpeningCause pointer s work number
+  pub first : (k : ℕ) → (number ≡ 0) ⊎ (k < number) → OpeningCause pointer s work k → ⊥
 
 -- ---- of any calls
 

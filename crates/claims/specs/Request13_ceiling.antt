@@ -13,18 +13,18 @@ use Rattle.spec_session.specs.calls.Lists.{listCall}
 use Rattle.spec_session.specs.metered.Metered.{callsIn}
 use Rattle.spec_session.specs.metered.Within.{typeCallWithin, typesCallWithin}
 use Rattle.spec_session.specs.metered.Lists.{listCallWithin}
-use Rattle.spec_session.specs.metered.Fits.{Fits}
+use Rattle.spec_session.specs.metered.Fits.{FitsCeiling}
 use Rattle.proof_calls.specs.ceilings.Claims.{UnderCeilings}
 
 pub record Request13 : Type 0 where
   -- "A request that fits under one ceiling gives the same text and count under every larger one": one that is not refused by 22 is the
   -- plain call, of one id, of all ids and of a list of ids
   pub one : (s : Session) (section w t : List ℕ) (c id : ℕ) → (numberOf (typeCallWithin c s section w t id 0 .call .answer) ≡ 22 → ⊥)
-      → Fits c (typeCall s section w t id) (λ c′. typeCallWithin c′ s section w t id 0)
+      → FitsCeiling c (typeCall s section w t id) (λ c′. typeCallWithin c′ s section w t id 0)
   pub all : (s : Session) (section w t : List ℕ) (c : ℕ) → (numberOf (typesCallWithin c s section w t .call .answer) ≡ 22 → ⊥)
-      → Fits c (typesCall s section w t) (λ c′. typesCallWithin c′ s section w t)
+      → FitsCeiling c (typesCall s section w t) (λ c′. typesCallWithin c′ s section w t)
   pub list : (s : Session) (section w t ids : List ℕ) (c : ℕ) → (numberOf (listCallWithin c s section w t ids .call .answer) ≡ 22 → ⊥)
-      → Fits c (listCall s section w t ids) (λ c′. listCallWithin c′ s section w t ids)
+      → FitsCeiling c (listCall s section w t ids) (λ c′. listCallWithin c′ s section w t ids)
   -- "22 when one more call would pass the ceiling": where the calls that the plain rule opens do not fit
   pub over : (s : Session) (section w t : List ℕ) (c id : ℕ) → isCurrent s (length section) (length w) (length t) ≡ true
       → ltb id (s .types) ≡ true → c < 0 + callsIn (tableFor s section) section w id

@@ -10,7 +10,7 @@ use lib.Dec.{leb}
 use Rattle.session_declaration_reader.specs.grammar.Chain.{Chain, entries}
 use Rattle.session_declaration_reader.specs.tokens.Tokens.{Token, tokens}
 use Rattle.session_declaration_reader.specs.grammar.Grammar.{Reads, reads, fails}
-use Rattle.session_declaration_reader.specs.reader.Reading.{asBytes, most, Read, chain, refused, readTokens, counted, whole, readWith, read}
+use Rattle.session_declaration_reader.specs.reader.Reading.{asBytes, most, Read, chain, refused, readTokens, withinMost, whole, readWith, read}
 use Rattle.session_declaration_reader.proofs.tokens.Cases.{passed}
 use Rattle.proof_declaration_reader.specs.Enough.{readUnder, Declares, Exactly}
 use Rattle.proof_declaration_reader.proofs.Parses as parses
@@ -31,8 +31,8 @@ same-bound ts = refl
 chain-refused : (c : Chain (List ℕ)) → _≡_ {A = Read (List ℕ)} refused (chain c) → ⊥
 chain-refused c e = let k : _≡_ {A = ℕ} 0 1 = cc in omega arith
 
-few : (c : Chain (List ℕ)) → entries c ≤ 512 → counted c ≡ chain c
-unfolding counted
+few : (c : Chain (List ℕ)) → entries c ≤ 512 → withinMost c ≡ chain c
+unfolding withinMost
 few c h = passed (leb (entries c) 512) (chain c) refused (le-leb (entries c) 512 h)
 
 le-or-lt : (a b : ℕ) → (a ≤ b) ⊎ (b < a)
@@ -63,7 +63,7 @@ module _ (s : List ℕ) where
   reads-all c d h = read-is ∙ ap whole (larger (d .bound) most ts c [] (d .reads-it) (omega arith)) ∙ few c h
 
   reads-only : (c : Chain (List ℕ)) → read s ≡ chain c → Declares s c × (entries c ≤ 512)
-  unfolding whole counted
+  unfolding whole withinMost
   reads-only c e = go (readUnder most ts) refl (sym read-is ∙ e)
     where
       counts : (d : Chain (List ℕ)) (b : Bool) → leb (entries d) 512 ≡ b → readUnder most ts ≡ reads d [] → elim b [ true ↦ chain d | false ↦ refused ] ≡ chain c → Declares s c × (entries c ≤ 512)

@@ -12,11 +12,11 @@ use Rattle.spec_c_dumper.specs.rules.Types.{Qualifier, volatile, const, restric
 use Rattle.session_declaration_reader.specs.grammar.Chain.{Layers, named, pointer, array, proto, Params, closed, dots, param, Chain, entries}
 use Rattle.session_declaration_reader.specs.tokens.Tokens.{Token, tokens}
 use Rattle.session_declaration_reader.specs.grammar.Grammar.{Reads, reads, fails}
-use Rattle.session_declaration_reader.specs.reader.Reading.{most, Read, chain, refused, readTokens, counted, whole, readWith}
+use Rattle.session_declaration_reader.specs.reader.Reading.{most, Read, chain, refused, readTokens, withinMost, whole, readWith}
 use Rattle.session_declaration_reader.specs.tokens.Looking.{Span, places}
 use Rattle.session_declaration_reader.specs.bases.Items.{Item, item, qualItems, firstFrom, lastTo, putItem, oneMore, Placed, placed, placing}
 use Rattle.session_declaration_reader.specs.grammar.Encoding.{baseItem, baseKind, anyParams, layerItems, paramItems}
-use Rattle.session_declaration_reader.specs.reader.Encoding.{chainItems, answerOf, readInto}
+use Rattle.session_declaration_reader.specs.reader.Encoding.{chainItems, placedChain, readInto}
 use Rattle.session_declaration_reader.proofs.tokens.Cases.{passed, failed}
 use Rattle.session_declaration_reader.proofs.reader.ReadLaws.{chain-size}
 use Rattle.proof_declaration_reader.specs.Places.{eachWord, eachLayer, eachParam, eachChain, eachRead, bytesAt}
@@ -225,7 +225,7 @@ decoded-is s (placed n t) = refl
 
 -- what is read whole, and has few entries
 whole-chain : (r : Reads Span (Chain Span)) (c : Chain Span) → whole r ≡ chain c → (r ≡ reads c []) × (entries c ≤ 512)
-unfolding whole counted
+unfolding whole withinMost
 whole-chain (reads d []) c e = go (leb (entries d) 512) refl e
   where
     go : (b : Bool) → leb (entries d) 512 ≡ b → elim b [ true ↦ chain d | false ↦ refused ] ≡ chain c → (_≡_ {A = Reads Span (Chain Span)} (reads d []) (reads c [])) × (entries c ≤ 512)
@@ -255,8 +255,8 @@ module _ (s t : List ℕ) (l : 1536 ≤ length t) where
       ∙ ap (chainFrom s none [] named) (items-back is t 0 b l)
       ∙ chain-back s c h a
 
-  answered : (r : Read Span) → readWith (places (length s)) s ≡ r → decoded s (answerOf t r) ≡ eachRead (bytesAt s) r
-  unfolding answerOf readWith decoded itemsFrom chainFrom
+  answered : (r : Read Span) → readWith (places (length s)) s ≡ r → decoded s (placedChain t r) ≡ eachRead (bytesAt s) r
+  unfolding placedChain readWith decoded itemsFrom chainFrom
   answered (chain c) e =
       let w = whole-chain (readTokens ts) c e in
       let h = neat-chain c (w .0) in
@@ -275,16 +275,16 @@ module _ (s t : List ℕ) where
   chain-refused : (c : Chain (List ℕ)) → _≡_ {A = Read (List ℕ)} refused (chain c) → ⊥
   chain-refused c e = let z : _≡_ {A = ℕ} 0 1 = cc in omega arith
 
-  counts : (r : Read Span) → readWith (places (length s)) s ≡ r → (c : Chain (List ℕ)) → eachRead (bytesAt s) r ≡ chain c → entriesLeft (answerOf t r) ≡ entries c
-  unfolding answerOf readWith
+  counts : (r : Read Span) → readWith (places (length s)) s ≡ r → (c : Chain (List ℕ)) → eachRead (bytesAt s) r ≡ chain c → entriesLeft (placedChain t r) ≡ entries c
+  unfolding placedChain readWith
   counts (chain d) e c q =
       let w = whole-chain (readTokens (tokens (places (length s)) [] s)) d e in
       let same : eachChain (bytesAt s) d ≡ c = cc in
       count-is (chainItems d) t 0 (omega (arith, chain-size d, w .1)) ∙ omega (arith, chain-size d, entries-each (bytesAt s) d) ∙ ap entries same
   counts refused e c q = absurd (chain-refused c q)
 
-  empties : (r : Read Span) → eachRead (bytesAt s) r ≡ refused → answerOf t r ≡ placed 0 (replicate (length t) 0)
-  unfolding answerOf
+  empties : (r : Read Span) → eachRead (bytesAt s) r ≡ refused → placedChain t r ≡ placed 0 (replicate (length t) 0)
+  unfolding placedChain
   empties (chain d) q = absurd (chain-refused (eachChain (bytesAt s) d) (sym q))
   empties refused q = refl
 

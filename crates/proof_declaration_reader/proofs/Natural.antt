@@ -10,7 +10,7 @@ use Rattle.session_declaration_reader.specs.grammar.Chain.{Layers, named, point
 use Rattle.session_declaration_reader.specs.tokens.Tokens.{Kind, tagWord, voidWord, otherWord, Token, qual, word, number, mark, rest}
 use Rattle.session_declaration_reader.specs.grammar.Grammar.{Reads, reads, fails, andThen, readBase, wanted, wantedName, wantedCount, declarator, suffixes, params, paramList, paramEnd}
 use Rattle.session_declaration_reader.specs.bases.Bases.{Spelt, spelt, distinct, begins, beginsWord, bracketed, qualRun, afterQuals, endsName, wordRun, afterWords, isTag, noTags, single, isBase, wordsOf, voidBefore}
-use Rattle.session_declaration_reader.specs.reader.Reading.{most, readTokens, counted, whole}
+use Rattle.session_declaration_reader.specs.reader.Reading.{most, readTokens, withinMost, whole}
 use Rattle.proof_declaration_reader.specs.Places.{eachWord, eachLayer, eachParam, eachChain, eachRead}
 
 -- a test on both sides
@@ -276,8 +276,8 @@ module _ {U W : Type 0} (f : U → W) where
   unfolding entries
   entries-each c = ap (λ (n : ℕ). 1 + length (c .quals) + n) (layer-entries (c .layers))
 
-  counted-each : (c : Chain U) → counted (eachChain f c) ≡ eachRead f (counted c)
-  unfolding counted entries
+  counted-each : (c : Chain U) → withinMost (eachChain f c) ≡ eachRead f (withinMost c)
+  unfolding withinMost entries
   counted-each c =
       chosen
       (eachRead f)

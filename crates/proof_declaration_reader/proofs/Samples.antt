@@ -11,16 +11,16 @@ use Rattle.proof_declaration_reader.specs.Written.{spaced, wordsBehind}
 use Rattle.proof_declaration_reader.specs.Drawn.{Draws}
 use Rattle.session_declaration_reader.specs.grammar.Chain.{named, pointer, array, layerEntries, paramEntries, entries}
 use Rattle.session_declaration_reader.specs.tokens.Tokens.{isDigit, isLetter, isWordByte, inRun, allOf, identifier, valueOf, isCount, kindOf, wordToken, runToken, lone, ended, tokens, rest}
-use Rattle.session_declaration_reader.specs.bases.Bases.{among, distinct, begins, beginsWord, bracketed, qualRun, afterQuals, endsName, wordRun, afterWords, noTags, single, isBase, wordsOf, voidBefore}
+use Rattle.session_declaration_reader.specs.bases.Bases.{isQualifierAmong, distinct, begins, beginsWord, bracketed, qualRun, afterQuals, endsName, wordRun, afterWords, noTags, single, isBase, wordsOf, voidBefore}
 use Rattle.session_declaration_reader.specs.grammar.Grammar.{andThen, readBase, wanted, wantedName, wantedCount, declarator, suffixes, params, paramList, paramEnd}
-use Rattle.session_declaration_reader.specs.reader.Reading.{readTokens, counted, whole, readWith, read}
+use Rattle.session_declaration_reader.specs.reader.Reading.{readTokens, withinMost, whole, readWith, read}
 use Rattle.proof_declaration_reader.specs.Samples.{samples, allGiven, allWanted}
 
 pub samples-hold : allGiven samples ≡ allWanted samples
 unfolding isEmpty sameBytes qualifier layerEntries paramEntries entries isDigit isLetter isWordByte inRun allOf identifier valueOf isCount kindOf wordToken
-    runToken lone ended tokens among distinct andThen begins beginsWord rest bracketed qualRun afterQuals endsName wordRun afterWords noTags
+    runToken lone ended tokens isQualifierAmong distinct andThen begins beginsWord rest bracketed qualRun afterQuals endsName wordRun afterWords noTags
     single isBase wordsOf readBase wanted wantedName wantedCount voidBefore declarator suffixes params paramList paramEnd
-    readTokens counted whole readWith read
+    readTokens withinMost whole readWith read
 samples-hold = refl
 
 -- Types of a table have chains: `int *a[3]` and `int (*p)[3]` of document 01's samples.

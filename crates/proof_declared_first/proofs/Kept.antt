@@ -12,7 +12,7 @@ use lib.Dec.{ltb, eqb}
 use borrow.Author.Tests.{ltb-false, ne-eqb}
 use Rattle.spec_bytes.specs.words.Words.{oneMore, pick}
 use Rattle.spec_c_dumper.specs.rules.Types.{Name}
-use Rattle.spec_c_dumper.specs.rules.Names.{Space, Resolved, Naming, Names, naming, holders, counted}
+use Rattle.spec_c_dumper.specs.rules.Names.{Space, Resolved, Naming, Names, naming, holders, withOne}
 use Rattle.spec_type_table.specs.Numbers.{below, capped, settled, numberOver}
 use Rattle.proof_demands.specs.name_counts.Passed.{Lists, nextNumber, typePassed, valuePassed, passed, none}
 use Rattle.proof_demands.proofs.name_counts.Claims.{none-is}
@@ -65,7 +65,7 @@ module _ (T : Lists) (n : ℕ) (space : Space) (id : ℕ) (name : Name) (u : Nam
     | false ↦ record { version = getD (u .versions) id 0; names = u }
     | true ↦ record {
       version = nextNumber T space name u;
-      names = record { versions = set (u .versions) id (nextNumber T space name u); ledger = counted (u .ledger) space name };
+      names = record { versions = set (u .versions) id (nextNumber T space name u); ledger = withOne (u .ledger) space name };
     }
   ]
 

@@ -19,7 +19,7 @@ use Rattle.spec_c_dumper.specs.needs.Needs.{kids}
 use Rattle.spec_c_dumper.specs.needs.Lists.{Piece, defines, other, Line, cannot, Ls, putLine}
 use Rattle.spec_c_dumper.specs.needs.Session.{Known, fitting, lineOf}
 use Rattle.proof_declared_first.specs.Notes.{Mention, Asked, noting, Note, Seen, noted, unasked, notedMachine}
-use Rattle.proof_declared_first.specs.Declared.{NoBuiltin, Key, keyOf, keysOf, ownName, Stands, bytesOf, Declares, Above, ItsTag, Fits, DeclaredAbove}
+use Rattle.proof_declared_first.specs.Declared.{NoBuiltin, Key, keyOf, keysOf, ownName, Stands, bytesOf, Declares, Above, ItsTag, FitsBefore, DeclaredAbove}
 use Rattle.proof_declared_first.proofs.Splits.{nil-not, snoc-split}
 use Rattle.proof_declared_first.proofs.Reach.{stops, Reach, at, on, isLeaf, HasName}
 use Rattle.proof_declared_first.proofs.Ordering.{Steady}
@@ -36,24 +36,24 @@ module _ (B : Btf) where
   -- each note fits after those before it
   pub data Orderly : List Note → Type 0 where
     none : Orderly []
-    snoc : {l : List Note} {p : Note} → Orderly l → Fits B l p → Orderly (l ++ (p ∷ []))
+    snoc : {l : List Note} {p : Note} → Orderly l → FitsBefore B l p → Orderly (l ++ (p ∷ []))
 
-  orderly-split : {L : List Note} → Orderly L → (l₁ l₂ : List Note) (p : Note) → L ≡ l₁ ++ (p ∷ l₂) → Fits B l₁ p
+  orderly-split : {L : List Note} → Orderly L → (l₁ l₂ : List Note) (p : Note) → L ≡ l₁ ++ (p ∷ l₂) → FitsBefore B l₁ p
   orderly-split none l₁ l₂ p e = absurd (nil-not l₁ l₂ p e)
   orderly-split (snoc {l = l} {p = q} h f) l₁ l₂ p e = go (λ k r. orderly-split h l₁ k p r) (snoc-split l l₁ l₂ q p e)
     where
-      go : ((k : List Note) → l ≡ l₁ ++ (p ∷ k) → Fits B l₁ p) → ((l ≡ l₁) × (q ≡ p)) ⊎ ((k : List Note) × (l ≡ l₁ ++ (p ∷ k))) → Fits B l₁ p
-      go r (inl u) = subst (λ (k : List Note). Fits B k p) (u .0) (subst (λ (k : Note). Fits B l k) (u .1) f)
+      go : ((k : List Note) → l ≡ l₁ ++ (p ∷ k) → FitsBefore B l₁ p) → ((l ≡ l₁) × (q ≡ p)) ⊎ ((k : List Note) × (l ≡ l₁ ++ (p ∷ k))) → FitsBefore B l₁ p
+      go r (inl u) = subst (λ (k : List Note). FitsBefore B k p) (u .0) (subst (λ (k : Note). FitsBefore B l k) (u .1) f)
       go r (inr u) = r (u .0) (u .1)
 
   -- each note fits after some of them
-  orderly-mem : {L : List Note} → Orderly L → (q : Note) → List·Memᴰ q L → (before : List Note) × Fits B before q
+  orderly-mem : {L : List Note} → Orderly L → (q : Note) → List·Memᴰ q L → (before : List Note) × FitsBefore B before q
   orderly-mem none q m = absurd (List·Memᴰ·not-nil m)
   orderly-mem (snoc {l = l} {p = p} h f) q m = go (λ k. orderly-mem h q k) (List·Memᴰ·append-cases l m)
     where
-      go : (List·Memᴰ q l → (before : List Note) × Fits B before q) → List·Memᴰ q l ⊎ List·Memᴰ q (p ∷ []) → (before : List Note) × Fits B before q
+      go : (List·Memᴰ q l → (before : List Note) × FitsBefore B before q) → List·Memᴰ q l ⊎ List·Memᴰ q (p ∷ []) → (before : List Note) × FitsBefore B before q
       go r (inl k) = r k
-      go r (inr k) = (l, subst (Fits B l) (sym (List·Memᴰ·eq-of-singleton k)) f)
+      go r (inr k) = (l, subst (FitsBefore B l) (sym (List·Memᴰ·eq-of-singleton k)) f)
 
   orderly-owned : (notes : List Note) → Orderly notes → Owned B notes
   orderly-owned notes o q i k e = (
@@ -65,7 +65,7 @@ module _ (B : Btf) where
     },
   )
     where
-      f : Fits B (orderly-mem o q i .0) q
+      f : FitsBefore B (orderly-mem o q i .0) q
       f = orderly-mem o q i .1
 
       r : (m : Mention) × (f .own ≡ m ∷ []) × (keyOf m ≡ k)
@@ -153,7 +153,7 @@ module _ {U : Type 0} (N : Naming U) (B : Btf) (nb : NoBuiltin B) (below : (x y 
       its-own : (m : Mention) → h .own ≡ m ∷ [] → Declares B p m
       its-own m e = record { rest = h .uses; begins = h .mentions ∙ ap (λ (k : List Mention). k ++ h .uses) e; isOwn = sym (h .isOwn) ∙ ap keysOf e }
 
-      fits-note : Fits B notes p
+      fits-note : FitsBefore B notes p
       fits-note = record { own = h .own; uses = h .uses; mentions = h .mentions; isOwn = h .isOwn; stand = λ m i. subst (Stands (m .name)) (sym (bytes-mk t)) (sh m i); each = λ m q. go m (h .each m q) }
         where
           go : (m : Mention) → Above B notes m ⊎ ((h .own ≡ m ∷ []) × Q) → Above B notes m ⊎ ItsTag B p m

@@ -83,7 +83,7 @@ module _ (B : Btf) where
 
   -- A piece after others: it mentions first its own name, if its type has one, and then what it uses; all these stand in its text. Each use
   -- is declared above, or is the tag of the definition in which it appears.
-  pub record Fits (before : List Note) (p : Note) : Type 0 where
+  pub record FitsBefore (before : List Note) (p : Note) : Type 0 where
     pub own : List Mention
     pub uses : List Mention
     pub mentions : p .mentions ≡ own ++ uses
@@ -93,4 +93,4 @@ module _ (B : Btf) where
 
   -- every piece of a text
   pub record DeclaredAbove (notes : List Note) : Type 0 where
-    pub fits : (before after : List Note) (p : Note) → notes ≡ before ++ (p ∷ after) → Fits before p
+    pub fits : (before after : List Note) (p : Note) → notes ≡ before ++ (p ∷ after) → FitsBefore before p

@@ -11,7 +11,7 @@ use borrow.Author.Tests.{leb-false, ltb-false, eqb-true, eqb-false, eq-eqb}
 use Rattle.spec_bytes.specs.words.Words.{oneMore, pick}
 use Rattle.spec_c_dumper.specs.rules.Types.{Name, Btf}
 use Rattle.spec_c_dumper.specs.rules.Machine.{Req}
-use Rattle.spec_c_dumper.specs.rules.Names.{Space, tagSpace, identSpace, Holder, sameSpace, sameBytes, holds, holders, counted}
+use Rattle.spec_c_dumper.specs.rules.Names.{Space, tagSpace, identSpace, Holder, sameSpace, sameBytes, holds, holders, withOne}
 use Rattle.proof_two_headers.specs.Shared.{Account, Ledger, noAccount, account, known, made, taking, passing, numberOf}
 use Rattle.proof_two_headers.specs.Calls.{capacity, reserved, ledgerShort, openNumber, joined, begun, Part, Side, kernel, module′, Call, opens, asks, World, partOf, withPart, lent, answered, opening, asking, called, calls, newWorld}
 use Rattle.proof_two_headers.specs.Accounts.{usedAll, AllHeld, Sound, Reached, here, takes, opened, Claim}
@@ -60,19 +60,19 @@ module _ (space : Space) (name : Name) where
   abbrev more-of : Holder → Holder
   more-of h = record { space = h .space; name = h .name; count = oneMore (h .count) }
 
-  pub count-here : (l : List Holder) → holders (counted l space name) space name ≡ oneMore (holders l space name)
-  unfolding holders counted holds oneMore
+  pub count-here : (l : List Holder) → holders (withOne l space name) space name ≡ oneMore (holders l space name)
+  unfolding holders withOne holds oneMore
   count-here [] = ap (λ (t : Bool). elim t as (λ z. ℕ) [ true ↦ 1 | false ↦ 0 ]) (holds-self 1)
   count-here (h ∷ l) = go (holds h space name) refl (count-here l)
     where
-      go : (b : Bool) → holds h space name ≡ b → holders (counted l space name) space name ≡ oneMore (holders l space name)
-          → holders (elim b as (λ z. List Holder) [ true ↦ more-of h ∷ l | false ↦ h ∷ counted l space name ]) space name ≡ oneMore (elim b as (λ z. ℕ) [ true ↦ h .count | false ↦ holders l space name ])
+      go : (b : Bool) → holds h space name ≡ b → holders (withOne l space name) space name ≡ oneMore (holders l space name)
+          → holders (elim b as (λ z. List Holder) [ true ↦ more-of h ∷ l | false ↦ h ∷ withOne l space name ]) space name ≡ oneMore (elim b as (λ z. ℕ) [ true ↦ h .count | false ↦ holders l space name ])
       go true e i = ap (λ (t : Bool). elim t as (λ z. ℕ) [ true ↦ oneMore (h .count) | false ↦ holders l space name ]) e
-      go false e i = ap (λ (t : Bool). elim t as (λ z. ℕ) [ true ↦ h .count | false ↦ holders (counted l space name) space name ]) e ∙ i
+      go false e i = ap (λ (t : Bool). elim t as (λ z. ℕ) [ true ↦ h .count | false ↦ holders (withOne l space name) space name ]) e ∙ i
 
   -- no count falls
-  pub grows : (space′ : Space) (name′ : Name) (l : List Holder) → holders l space′ name′ ≤ holders (counted l space name) space′ name′
-  unfolding holders counted holds
+  pub grows : (space′ : Space) (name′ : Name) (l : List Holder) → holders l space′ name′ ≤ holders (withOne l space name) space′ name′
+  unfolding holders withOne holds
   grows space′ name′ [] = zero-le
   grows space′ name′ (h ∷ l) = go (holds h space name) (grows space′ name′ l)
     where
@@ -80,37 +80,37 @@ module _ (space : Space) (name : Name) where
       by true a b x y p q = p
       by false a b x y p q = q
 
-      go : (b : Bool) → holders l space′ name′ ≤ holders (counted l space name) space′ name′
-          → holders (h ∷ l) space′ name′ ≤ holders (elim b as (λ z. List Holder) [ true ↦ more-of h ∷ l | false ↦ h ∷ counted l space name ]) space′ name′
+      go : (b : Bool) → holders l space′ name′ ≤ holders (withOne l space name) space′ name′
+          → holders (h ∷ l) space′ name′ ≤ holders (elim b as (λ z. List Holder) [ true ↦ more-of h ∷ l | false ↦ h ∷ withOne l space name ]) space′ name′
       go true i = by (holds h space′ name′) (h .count) (oneMore (h .count)) (holders l space′ name′) (holders l space′ name′) (more-least (h .count)) (le-refl _)
-      go false i = by (holds h space′ name′) (h .count) (h .count) (holders l space′ name′) (holders (counted l space name) space′ name′) (le-refl _) i
+      go false i = by (holds h space′ name′) (h .count) (h .count) (holders l space′ name′) (holders (withOne l space name) space′ name′) (le-refl _) i
 
-  new-length : (l : List Holder) → AllHeld l → holders l space name ≡ 0 → length (counted l space name) ≡ length l + 1
-  unfolding holders counted
+  new-length : (l : List Holder) → AllHeld l → holders l space name ≡ 0 → length (withOne l space name) ≡ length l + 1
+  unfolding holders withOne
   new-length [] a e = refl
   new-length (h ∷ l) a e = go (holds h space name) e (λ q. new-length l (a .1) q)
     where
-      go : (b : Bool) → _≡_ {A = ℕ} (elim b as (λ z. ℕ) [ true ↦ h .count | false ↦ holders l space name ]) 0 → (holders l space name ≡ 0 → length (counted l space name) ≡ length l + 1)
-          → length {A = Holder} (elim b as (λ z. List Holder) [ true ↦ more-of h ∷ l | false ↦ h ∷ counted l space name ]) ≡ length (h ∷ l) + 1
+      go : (b : Bool) → _≡_ {A = ℕ} (elim b as (λ z. ℕ) [ true ↦ h .count | false ↦ holders l space name ]) 0 → (holders l space name ≡ 0 → length (withOne l space name) ≡ length l + 1)
+          → length {A = Holder} (elim b as (λ z. List Holder) [ true ↦ more-of h ∷ l | false ↦ h ∷ withOne l space name ]) ≡ length (h ∷ l) + 1
       go true q f = absurd (omega (arith, q, a .0))
       go false q f = omega (arith, f q)
 
-  old-length : (l : List Holder) → (holders l space name ≡ 0 → ⊥) → length (counted l space name) ≡ length l
-  unfolding holders counted
+  old-length : (l : List Holder) → (holders l space name ≡ 0 → ⊥) → length (withOne l space name) ≡ length l
+  unfolding holders withOne
   old-length [] n = absurd (n refl)
   old-length (h ∷ l) n = go (holds h space name) n (λ q. old-length l q)
     where
-      go : (b : Bool) → (_≡_ {A = ℕ} (elim b as (λ z. ℕ) [ true ↦ h .count | false ↦ holders l space name ]) 0 → ⊥) → ((holders l space name ≡ 0 → ⊥) → length (counted l space name) ≡ length l)
-          → length {A = Holder} (elim b as (λ z. List Holder) [ true ↦ more-of h ∷ l | false ↦ h ∷ counted l space name ]) ≡ length (h ∷ l)
+      go : (b : Bool) → (_≡_ {A = ℕ} (elim b as (λ z. ℕ) [ true ↦ h .count | false ↦ holders l space name ]) 0 → ⊥) → ((holders l space name ≡ 0 → ⊥) → length (withOne l space name) ≡ length l)
+          → length {A = Holder} (elim b as (λ z. List Holder) [ true ↦ more-of h ∷ l | false ↦ h ∷ withOne l space name ]) ≡ length (h ∷ l)
       go true q f = refl
       go false q f = ap suc (f q)
 
-  held-more : (l : List Holder) → AllHeld l → AllHeld (counted l space name)
-  unfolding counted
+  held-more : (l : List Holder) → AllHeld l → AllHeld (withOne l space name)
+  unfolding withOne
   held-more [] a = (le-refl 1, tt)
   held-more (h ∷ l) a = go (holds h space name) (held-more l (a .1))
     where
-      go : (b : Bool) → AllHeld (counted l space name) → AllHeld (elim b as (λ z. List Holder) [ true ↦ more-of h ∷ l | false ↦ h ∷ counted l space name ])
+      go : (b : Bool) → AllHeld (withOne l space name) → AllHeld (elim b as (λ z. List Holder) [ true ↦ more-of h ∷ l | false ↦ h ∷ withOne l space name ])
       go true i = (more-some (h .count), a .1)
       go false i = (a .0, i)
 
@@ -267,11 +267,11 @@ new-sound words = sound-of (newWorld words .ledger) (λ k. zero-le) refl zero-le
 
 -- ---- numbers
 
-pub taking-entries : (k : ℕ) (L : Ledger) (space : Space) (name : Name) → taking k L space name .entries ≡ counted (L .entries) space name
+pub taking-entries : (k : ℕ) (L : Ledger) (space : Space) (name : Name) → taking k L space name .entries ≡ withOne (L .entries) space name
 unfolding taking
 taking-entries k L space name = go (eqb (holders (L .entries) space name) 0)
   where
-    go : (b : Bool) → (elim b as (λ x. Ledger) [ true ↦ made k L space name | false ↦ known L space name ]) .entries ≡ counted (L .entries) space name
+    go : (b : Bool) → (elim b as (λ x. Ledger) [ true ↦ made k L space name | false ↦ known L space name ]) .entries ≡ withOne (L .entries) space name
     go true = refl
     go false = refl
 

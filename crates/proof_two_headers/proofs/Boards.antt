@@ -14,7 +14,7 @@ use Rattle.spec_c_dumper.specs.rules.Order.{new}
 use Rattle.spec_c_dumper.specs.rules.Writer.{Said, said}
 use Rattle.spec_c_dumper.specs.rules.Layout.{smaller}
 use Rattle.spec_c_dumper.specs.rules.Types.{Name, Btf}
-use Rattle.spec_c_dumper.specs.rules.Names.{Space, identSpace, Resolved, Naming, Names, naming, holders, counted, typeVersion, valueVersion}
+use Rattle.spec_c_dumper.specs.rules.Names.{Space, identSpace, Resolved, Naming, Names, naming, holders, withOne, typeVersion, valueVersion}
 use Rattle.spec_c_dumper.specs.rules.Emit.{definition, forward}
 use Rattle.spec_c_dumper.proofs.rules.Related.{RelSaid, same, RelResolved, RelNaming, rel-definition, rel-forward}
 use Rattle.spec_c_dumper.specs.needs.Lists.{Piece, defines, other, Line, cannot, Ls, putLine, listStore}
@@ -134,14 +134,14 @@ Never e = ⊥
 abbrev pub Whole : ℕ → Shelf → Ls (Known Names) → Type 0
 Whole n s t = Like (λ x. x) (λ l. l) (λ l m. Unit {0}) SameNames n s t
 
-taking-entries : (k : ℕ) (L : Ledger) (space : Space) (name : Name) → taking k L space name .entries ≡ counted (L .entries) space name
+taking-entries : (k : ℕ) (L : Ledger) (space : Space) (name : Name) → taking k L space name .entries ≡ withOne (L .entries) space name
 unfolding taking
 taking-entries k L space name = go (eqb (holders (L .entries) space name) 0)
   where
     go : (b : Bool) → (elim b as (λ x. Ledger) [
-      | true ↦ record { words = L .words; entries = counted (L .entries) space name; accounts = set (L .accounts) k (record { reserve = getD (L .accounts) k (record { reserve = 0; used = 0 }) .reserve; used = getD (L .accounts) k (record { reserve = 0; used = 0 }) .used + 1 }) }
-      | false ↦ record { words = L .words; entries = counted (L .entries) space name; accounts = L .accounts }
-    ]) .entries ≡ counted (L .entries) space name
+      | true ↦ record { words = L .words; entries = withOne (L .entries) space name; accounts = set (L .accounts) k (record { reserve = getD (L .accounts) k (record { reserve = 0; used = 0 }) .reserve; used = getD (L .accounts) k (record { reserve = 0; used = 0 }) .used + 1 }) }
+      | false ↦ record { words = L .words; entries = withOne (L .entries) space name; accounts = L .accounts }
+    ]) .entries ≡ withOne (L .entries) space name
     go true = refl
     go false = refl
 
@@ -162,7 +162,7 @@ type-at k space id name h = go (eqb (getD (h .versions) id 0) 0)
         ])
         (elim b as (λ x. Resolved Names) [
           | false ↦ record { version = getD (h .versions) id 0; names = namesOf h }
-          | true ↦ record { version = numberOf (h .ledger) space name; names = record { versions = set (h .versions) id (numberOf (h .ledger) space name); ledger = counted (h .ledger .entries) space name } }
+          | true ↦ record { version = numberOf (h .ledger) space name; names = record { versions = set (h .versions) id (numberOf (h .ledger) space name); ledger = withOne (h .ledger .entries) space name } }
         ])
     go true = (refl, (refl, taking-entries k (h .ledger) space name))
     go false = (refl, (refl, refl))

@@ -14,7 +14,7 @@ use Rattle.spec_c_dumper.specs.rules.Types.{Btf, tableOf}
 use Rattle.spec_c_dumper.specs.rules.Names.{Names, naming}
 use Rattle.spec_c_dumper.specs.needs.Needs.{WF}
 use Rattle.spec_c_dumper.specs.needs.Lists.{Ls, afresh}
-use Rattle.spec_c_dumper.specs.needs.Session.{Known, textOf, answerOf, opened}
+use Rattle.spec_c_dumper.specs.needs.Session.{Known, textOf, answerTo, opened}
 use Rattle.spec_c_dumper.proofs.needs.Lists.{Sized}
 use Rattle.proof_two_headers.specs.Shared.{Ledger, Held, over, Shelf, holding}
 use Rattle.proof_two_headers.specs.Requests.{answerOn}
@@ -101,7 +101,7 @@ module _ (B : Side → Btf) (d : Side) (wf : WF (tableOf (B d))) where
   ends₁ n (inr e) = inr (inr e)
 
   answer-shape : (k : ℕ) (S₁ : Sess Shelf) (S : Sess (Ls (Known Names))) → Sh S₁ S → (r : Req)
-      → BothAnswer (Shape (B d .type-cnt)) (Shape (B d .type-cnt)) Is17or20 Is17 (answerOn k (B d) S₁ r) (answerOf naming (B d) S r)
+      → BothAnswer (Shape (B d .type-cnt)) (Shape (B d .type-cnt)) Is17or20 Is17 (answerOn k (B d) S₁ r) (answerTo naming (B d) S r)
   answer-shape k S₁ S h r =
       answer-both naming k (B d) (wf .below) (Shape (B d .type-cnt)) (Shape (B d .type-cnt)) Is17or20 Is17 (shape-board naming k (B d)) (λ s t q. q) any-names no-zero₁ (λ e. omega arith) S₁ S h r
     where
@@ -130,8 +130,8 @@ module _ (B : Side → Btf) (d : Side) (wf : WF (tableOf (B d))) where
         let p : Part = record { number = partOf W d .number; words = partOf W d .words; sess = a .sess } in
         let W′ = withPart W d (a .sess .mach .known .names .ledger) p in
         subst (λ (x : Part). Agree Likewise EndsOrder EndsOrder (seen (a .number) (x .sess) ∷ together seen B d W′ cs) (alone seen (B d) S (r ∷ requestsOf d cs))) (sym (part-own W d (a .sess .mach .known .names .ledger) p))
-        (after-one a (answerOf naming (B d) S r) (together seen B d W′ cs) (alone seen (B d) (answerOf naming (B d) S r .sess) (requestsOf d cs)) (answer-shape (partOf W d .number) (lent (W .ledger) (partOf W d .sess)) S (lent-shape (W .ledger) (partOf W d .sess) S h) r)
-        (λ g. on W′ (answerOf naming (B d) S r .sess) (subst (λ (x : Part). Sh (x .sess) (answerOf naming (B d) S r .sess)) (sym (part-own W d (a .sess .mach .known .names .ledger) p)) g)))
+        (after-one a (answerTo naming (B d) S r) (together seen B d W′ cs) (alone seen (B d) (answerTo naming (B d) S r .sess) (requestsOf d cs)) (answer-shape (partOf W d .number) (lent (W .ledger) (partOf W d .sess)) S (lent-shape (W .ledger) (partOf W d .sess) S h) r)
+        (λ g. on W′ (answerTo naming (B d) S r .sess) (subst (λ (x : Part). Sh (x .sess) (answerTo naming (B d) S r .sess)) (sym (part-own W d (a .sess .mach .known .names .ledger) p)) g)))
 
     own-call : (words : ℕ) (r : Req) → Agree Likewise EndsOrder EndsOrder (seen (called B W (asks d words r) .number) (partOf (called B W (asks d words r) .world) d .sess) ∷ together seen B d (called B W (asks d words r) .world) cs) (alone seen (B d) S (r ∷ requestsOf d cs))
     unfolding called
@@ -208,7 +208,7 @@ module _ (B : Side → Btf) (d : Side) (wf : WF (tableOf (B d))) where
   }
 
   answer-whole : (k : ℕ) (S₁ : Sess Shelf) (S : Sess (Ls (Known Names))) → Wh S₁ S → (r : Req)
-      → BothAnswer Text₂ (Whole (B d .type-cnt)) Is20 Never (answerOn k (B d) S₁ r) (answerOf naming (B d) S r)
+      → BothAnswer Text₂ (Whole (B d .type-cnt)) Is20 Never (answerOn k (B d) S₁ r) (answerTo naming (B d) S r)
   answer-whole k S₁ S h r =
       answer-both naming k (B d) (wf .below) Text₂ (Whole (B d .type-cnt)) Is20 Never (whole-board k (B d)) (λ s t q. record { rest = q .rest; lines = q .lines; names = tt; sized = q .sized }) other-names (λ e. omega arith) (λ e. e) S₁ S h r
 
@@ -257,8 +257,8 @@ module _ (B : Side → Btf) (d : Side) (wf : WF (tableOf (B d))) where
           let p : Part = record { number = partOf W d .number; words = partOf W d .words; sess = a .sess } in
           let W′ = withPart W d (a .sess .mach .known .names .ledger) p in
           subst (λ (x : Part). Agree (λ a b. a ≡ b) E₁ E₂ (view₁ (a .number) (x .sess) ∷ together view₁ B d W′ cs) (alone view₂ (B d) S (r ∷ requestsOf d cs))) (sym (part-own W d (a .sess .mach .known .names .ledger) p))
-          (then-one a (answerOf naming (B d) S r) (together view₁ B d W′ cs) (alone view₂ (B d) (answerOf naming (B d) S r .sess) (requestsOf d cs)) (answer-whole (partOf W d .number) (lent (W .ledger) (partOf W d .sess)) S (h .with-ledger) r)
-          (λ g. on W′ (answerOf naming (B d) S r .sess) (ready-own p (answerOf naming (B d) S r .sess) (h .length-kept) g)))
+          (then-one a (answerTo naming (B d) S r) (together view₁ B d W′ cs) (alone view₂ (B d) (answerTo naming (B d) S r .sess) (requestsOf d cs)) (answer-whole (partOf W d .number) (lent (W .ledger) (partOf W d .sess)) S (h .with-ledger) r)
+          (λ g. on W′ (answerTo naming (B d) S r .sess) (ready-own p (answerTo naming (B d) S r .sess) (h .length-kept) g)))
 
       request : (r : Req) → Agree (λ a b. a ≡ b) E₁ E₂ (view₁ (called B W (asks d words r) .number) (partOf (called B W (asks d words r) .world) d .sess) ∷ together view₁ B d (called B W (asks d words r) .world) cs) (alone view₂ (B d) S (r ∷ requestsOf d cs))
       unfolding called

@@ -6,12 +6,12 @@ use mathlib.Core.Bool.{Bool, true, false, true≢false}
 use mathlib.Core.List.{List, [], _∷_, _++_, List·Memᴰ, List·Memᴰ·not-nil}
 use lib.Dec.{T as True, ltb, ltb→lt}
 use Rattle.spec_c_dumper.specs.rules.Order.{Res}
-use Rattle.spec_c_dumper.specs.rules.Machine.{Out, Kept, eeach, emit, Sess, Answer, Req, one, all, shut, emitted, ordered, gate, single, onward, from, every}
+use Rattle.spec_c_dumper.specs.rules.Machine.{Out, OrderKeeps, eeach, emit, Sess, Answer, Req, one, all, shut, emitted, ordered, gate, single, onward, from, every}
 use Rattle.spec_c_dumper.specs.rules.Types.{Btf, tableOf}
 use Rattle.spec_c_dumper.specs.rules.Names.{Naming}
 use Rattle.spec_c_dumper.specs.needs.Needs.{kids}
 use Rattle.spec_c_dumper.specs.needs.Lists.{Ls, listStore}
-use Rattle.spec_c_dumper.specs.needs.Session.{Known, machineBy, answerOf}
+use Rattle.spec_c_dumper.specs.needs.Session.{Known, machineBy, answerTo}
 use Rattle.spec_c_dumper.proofs.needs.Lists.{Sized}
 use Rattle.spec_c_dumper.proofs.needs.Session.{machine-lawful}
 use Rattle.spec_c_dumper.proofs.needs.Alike.{Both, both, neither, Live, Went, order-alike}
@@ -46,11 +46,11 @@ module _ {W : Type 0} (N : Naming W) (k : ℕ) (B : Btf) (below : (x y : ℕ) �
 
   abbrev Lives : Shelf → Plain → Type 0
   Lives s t =
-      Live listStore (machineBy N B .store) (tableOf B) (Sized (B .type-cnt)) (machine-lawful N B (B .type-cnt) .law) (Kept (machineBy N B) (Sized (B .type-cnt))) (machine-lawful N B (B .type-cnt) .framed) below Q (al .a-store) s t
+      Live listStore (machineBy N B .store) (tableOf B) (Sized (B .type-cnt)) (machine-lawful N B (B .type-cnt) .law) (OrderKeeps (machineBy N B) (Sized (B .type-cnt))) (machine-lawful N B (B .type-cnt) .framed) below Q (al .a-store) s t
 
   abbrev Goes : Plain → Shelf → Plain → Bool → Type 0
   Goes t₀ s t b =
-      Went listStore (machineBy N B .store) (tableOf B) (Sized (B .type-cnt)) (machine-lawful N B (B .type-cnt) .law) (Kept (machineBy N B) (Sized (B .type-cnt))) (machine-lawful N B (B .type-cnt) .framed) below Q (al .a-store) t₀ s t b
+      Went listStore (machineBy N B .store) (tableOf B) (Sized (B .type-cnt)) (machine-lawful N B (B .type-cnt) .law) (OrderKeeps (machineBy N B) (Sized (B .type-cnt))) (machine-lawful N B (B .type-cnt) .framed) below Q (al .a-store) t₀ s t b
 
   start-live : (room : ℕ) (s : Shelf) (t : Plain) → Q s t → Lives (machineBy (sharing k) B .start room s) (machineBy N B .start room t)
   start-live room s t q = record { related = al .a-start room s t q; room = omega arith; ids = λ y m. absurd (List·Memᴰ·not-nil m) }
@@ -86,7 +86,7 @@ module _ {W : Type 0} (N : Naming W) (k : ℕ) (B : Btf) (below : (x y : ℕ) �
     gate-both room x true false o e = alike refl h
     gate-both room x true true o e =
         ordered-both x (machineBy N B .start room (S .mach))
-        (order-alike listStore (machineBy N B .store) (tableOf B) (Sized (B .type-cnt)) (machine-lawful N B (B .type-cnt) .law) (Kept (machineBy N B) (Sized (B .type-cnt))) (machine-lawful N B (B .type-cnt) .framed) below Q (al .a-store) 512
+        (order-alike listStore (machineBy N B .store) (tableOf B) (Sized (B .type-cnt)) (machine-lawful N B (B .type-cnt) .law) (OrderKeeps (machineBy N B) (Sized (B .type-cnt))) (machine-lawful N B (B .type-cnt) .framed) below Q (al .a-store) 512
         (machineBy (sharing k) B .start room (S₁ .mach)) (machineBy N B .start room (S .mach)) x false
         (start-live room (S₁ .mach) (S .mach) (h .live o)) (ltb→lt x (B .type-cnt) (subst True (sym e) tt)))
 
@@ -141,7 +141,7 @@ module _ {W : Type 0} (N : Naming W) (k : ℕ) (B : Btf) (below : (x y : ℕ) �
   every-both room S₁ S h false = alike refl h
   every-both room S₁ S h true = from-both room (B .type-cnt - 1) 1 S₁ S h
 
-  pub answer-both : (S₁ : Sess Shelf) (S : Sess Plain) → BS S₁ S → (r : Req) → BA (answerOn k B S₁ r) (answerOf N B S r)
-  unfolding answerOf answerOn
+  pub answer-both : (S₁ : Sess Shelf) (S : Sess Plain) → BS S₁ S → (r : Req) → BA (answerOn k B S₁ r) (answerTo N B S r)
+  unfolding answerTo answerOn
   answer-both S₁ S h (one room x) = single-both room S₁ S h x
   answer-both S₁ S h (all room) = subst (λ (b : Bool). BA (everyOn k B room S₁ b) (every (machineBy N B) (tableOf B) room S (S .isOpen))) (sym (h .same-open)) (every-both room S₁ S h (S .isOpen))

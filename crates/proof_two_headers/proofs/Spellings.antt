@@ -15,7 +15,7 @@ use Rattle.spec_bytes.specs.text.Decimal.{decimal}
 use Rattle.spec_bytes.proofs.text.Digits.{horner, decimal-is}
 use Rattle.spec_c_dumper.specs.rules.Machine.{Req}
 use Rattle.spec_c_dumper.specs.rules.Types.{Name, Btf, nameOf}
-use Rattle.spec_c_dumper.specs.rules.Names.{Space, identSpace, Resolved, Holder, spelled, holders, counted}
+use Rattle.spec_c_dumper.specs.rules.Names.{Space, identSpace, Resolved, Holder, spelled, holders, withOne}
 use Rattle.spec_c_dumper.specs.needs.Lists.{afresh}
 use Rattle.proof_two_headers.specs.Shared.{Ledger, Who, ofType, ofValue, Given, Held, over, giving, numberOf, taking, passing, typeShared, valueShared, typePasses}
 use Rattle.proof_two_headers.specs.Calls.{Side, kernel, module′, Call, opens, asks, World, partOf, lent, openNumber, opening, asking, called, calls, newWorld}
@@ -99,14 +99,14 @@ stuck n h = ⊎-elim (λ a. at-least a (more-least n)) (λ a. absurd (less (more
     less e = omega (arith, e, h)
 
 module _ (C D : Btf) (vs : List ℕ) (l : List Given) (ws : List ℕ) (m : List Given) (E : List Holder) (p : Pair C D vs l ws m E) (space : Space) (name : Name) where
-  more-bound : (a : Given) → Bound E a → Bound (counted E space name) a
+  more-bound : (a : Given) → Bound E a → Bound (withOne E space name) a
   more-bound a b = (b .0, up (b .1) (grows space name (a .space) (a .name) E))
     where
       up : {x y z : ℕ} → x ≤ y → y ≤ z → x ≤ z
       up f g = omega (arith, f, g)
 
   -- a name that a refused request took
-  kept : Pair C D vs l ws m (counted E space name)
+  kept : Pair C D vs l ws m (withOne E space name)
   kept = record {
     own₁ = p .own₁;
     own₂ = p .own₂;
@@ -121,7 +121,7 @@ module _ (C D : Btf) (vs : List ℕ) (l : List Given) (ws : List ℕ) (m : List 
     abbrev new-one : Given
     new-one = record { space = space; who = who; name = name; number = oneMore (holders E space name) }
 
-    new-bound : Bound (counted E space name) new-one
+    new-bound : Bound (withOne E space name) new-one
     new-bound = (more-some (holders E space name), is-least (count-here space name E))
       where
         is-least : {x y : ℕ} → x ≡ y → y ≤ x
@@ -133,13 +133,13 @@ module _ (C D : Btf) (vs : List ℕ) (l : List Given) (ws : List ℕ) (m : List 
         below : {x y z w : ℕ} → x ≤ y → z ≡ x → w ≡ y → z ≤ w
         below f g h = omega (arith, f, g, h)
 
-    gave : (us : List ℕ) → ((id : ℕ) → (getD us id 0 ≡ 0 → ⊥) → Got C id (getD us id 0) (new-one ∷ l)) → Pair C D us (new-one ∷ l) ws m (counted E space name)
+    gave : (us : List ℕ) → ((id : ℕ) → (getD us id 0 ≡ 0 → ⊥) → Got C id (getD us id 0) (new-one ∷ l)) → Pair C D us (new-one ∷ l) ws m (withOne E space name)
     gave us ts = record {
       own₁ = (λ b i. new-clash b (p .bound₁ b i), p .own₁);
       own₂ = p .own₂;
       types₁ = ts;
       types₂ = p .types₂;
-      bound₁ = λ a i. ⊎-elim (λ e. subst (Bound (counted E space name)) (sym e) new-bound) (λ j. more-bound a (p .bound₁ a j)) (List·Memᴰ·cases-cons i);
+      bound₁ = λ a i. ⊎-elim (λ e. subst (Bound (withOne E space name)) (sym e) new-bound) (λ j. more-bound a (p .bound₁ a j)) (List·Memᴰ·cases-cons i);
       bound₂ = λ a i. more-bound a (p .bound₂ a i);
       cross = λ a i b j. ⊎-elim (λ e. subst (λ (x : Given). Clash x b) (sym e) (new-clash b (p .bound₂ b j))) (λ k. p .cross a k b j) (List·Memᴰ·cases-cons i);
     }
@@ -161,7 +161,7 @@ module _ (C D : Btf) (ws : List ℕ) (m : List Given) where
   abbrev Beside : Held → Type 0
   Beside h = Pair C D (h .versions) (h .given) ws m (h .ledger .entries)
 
-  on-entries : (k : ℕ) (L : Ledger) (space : Space) (name : Name) (vs : List ℕ) (l : List Given) → Pair C D vs l ws m (counted (L .entries) space name) → Pair C D vs l ws m (taking k L space name .entries)
+  on-entries : (k : ℕ) (L : Ledger) (space : Space) (name : Name) (vs : List ℕ) (l : List Given) → Pair C D vs l ws m (withOne (L .entries) space name) → Pair C D vs l ws m (taking k L space name .entries)
   on-entries k L space name vs l p = subst (λ (E : List Holder). Pair C D vs l ws m E) (sym (taking-entries k L space name)) p
 
   lost : (k : ℕ) (space : Space) (name : Name) (h : Held) → Beside h → Beside (over (taking k (h .ledger) space name) h)

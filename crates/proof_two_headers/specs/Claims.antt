@@ -10,7 +10,7 @@ use Rattle.spec_c_dumper.specs.rules.Types.{Btf, tableOf}
 use Rattle.spec_c_dumper.specs.rules.Names.{Names, naming}
 use Rattle.spec_c_dumper.specs.needs.Needs.{WF}
 use Rattle.spec_c_dumper.specs.needs.Lists.{Piece, Ls}
-use Rattle.spec_c_dumper.specs.needs.Session.{Known, textOf, answerOf, opened}
+use Rattle.spec_c_dumper.specs.needs.Session.{Known, textOf, answerTo, opened}
 use Rattle.proof_two_headers.specs.Lines.{SameLines}
 use Rattle.proof_two_headers.specs.Shared.{Shelf}
 use Rattle.proof_two_headers.specs.Calls.{Side, kernel, module′, Call, opens, asks, World, partOf, ledgerShort, called}
@@ -78,7 +78,7 @@ module _ {A : Type 0} where
   unfoldable pub alone : (ℕ → Sess (Ls (Known Names)) → A) → Btf → Sess (Ls (Known Names)) → List Req → List A
   alone view B S [] = []
   alone view B S (r ∷ rs) =
-      view (answerOf naming B S r .number) (answerOf naming B S r .sess) ∷ alone view B (answerOf naming B S r .sess) rs
+      view (answerTo naming B S r .number) (answerTo naming B S r .sess) ∷ alone view B (answerTo naming B S r .sess) rs
 
   -- alike, one after the other, until one that ends the comparison
   pub data Agree (Same : A → A → Type 0) (Ends₁ Ends₂ : A → Type 0) : List A → List A → Type 0 where

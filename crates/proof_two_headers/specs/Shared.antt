@@ -8,7 +8,7 @@ use lib.Dec.{leb, eqb}
 use Rattle.spec_bytes.specs.words.Words.{oneMore}
 use Rattle.spec_c_dumper.specs.rules.Types.{Name}
 use Rattle.spec_c_dumper.specs.rules.Layout.{smaller}
-use Rattle.spec_c_dumper.specs.rules.Names.{Space, identSpace, Resolved, Naming, Holder, holders, counted}
+use Rattle.spec_c_dumper.specs.rules.Names.{Space, identSpace, Resolved, Naming, Holder, holders, withOne}
 use Rattle.spec_c_dumper.specs.needs.Lists.{Piece, Ls}
 use Rattle.spec_c_dumper.specs.needs.Session.{Known}
 use Rattle.proof_two_headers.specs.Steps.{Steps, end, prints, refuses, takesType, takesValue}
@@ -50,11 +50,11 @@ pub data Taken (A : Type 0) : Type 0 where
 
 -- one more holder of a name that has an entry; "a type printed by both is two holders"
 abbrev pub known : Ledger → Space → Name → Ledger
-known L space name = record { words = L .words; entries = counted (L .entries) space name; accounts = L .accounts }
+known L space name = record { words = L .words; entries = withOne (L .entries) space name; accounts = L .accounts }
 
 -- a new name: one more entry, charged to session k
 abbrev pub made : ℕ → Ledger → Space → Name → Ledger
-made k L space name = record { words = L .words; entries = counted (L .entries) space name; accounts = charged (L .accounts) k }
+made k L space name = record { words = L .words; entries = withOne (L .entries) space name; accounts = charged (L .accounts) k }
 
 -- one more holder, whether new or not
 unfoldable pub taking : ℕ → Ledger → Space → Name → Ledger

@@ -9,7 +9,7 @@ use spec_type_table::TypeTable;
 ghost use mathlib.Core.Path.{_≡_};
 ghost use Prim.Native.Nat.{_<_};
 ghost use lib.ListN.{getD};
-ghost use Rattle.btf_open_causes.specs.references.Followed.{countOf};
+ghost use Rattle.btf_open_causes.specs.references.Followed.{typeCount};
 ghost use Rattle.session_cut_marks.specs.tags.Tags.{tagOn, taggedAt, taggedTo, numbered, numberedAt, numbersOf};
 
 // Word i, and 0 past the end.
@@ -55,7 +55,7 @@ fn mark_tag(b: TypeTable, section: &[u8], start: &[u32], marks: &mut [u32], x: u
 }
 
 pub fn mark_tags(b: TypeTable, section: &[u8], start: &[u32], marks: &mut [u32])
-    ensures { λ _. ⌜ now (marks .exit) ≡ taggedTo b (now (section .entry)) (now (start .entry)) (now (marks .entry)) (countOf b) ⌝ }
+    ensures { λ _. ⌜ now (marks .exit) ≡ taggedTo b (now (section .entry)) (now (start .entry)) (now (marks .entry)) (typeCount b) ⌝ }
 {
     let n = count(b);
     let mut x: u32 = 0;

@@ -17,7 +17,7 @@ use Rattle.spec_session.specs.session.Answers.{numberOf, valueOf, answerOf}
 use Rattle.spec_session.specs.session.Turns.{Call, callOf}
 use Rattle.spec_session.proofs.session.Laws.{visits-fit}
 use Rattle.spec_session.specs.calls.Calls.{typeCall}
-use Rattle.spec_session.specs.calls.Lists.{idsIn, counted, listFrom, listCall, countIn}
+use Rattle.spec_session.specs.calls.Lists.{idsIn, thenNext, listFrom, listCall, countIn}
 use Rattle.spec_session.proofs.calls.Lists.{idsFrom, ids-none, ids-some, counted-goes, counted-stops, Single, type-single, Counts, list-counts}
 use Rattle.session_record.specs.record_words.Words.{putLong, decoded, packed, putReached}
 use Rattle.session_record.specs.record_bytes.Record.{recordRefused, recordAfter, recordLonger, recordListed}
@@ -124,7 +124,7 @@ module _ (section : List ℕ) where
     unfolding answeredBy exportOf
     top q = ap (λ (e : Export). e .result / 4294967296) exported ∙ upper (c₁ .answer) (subst (λ (k : ℕ). k < 4294967296) (sym (single .value-same)) (q .0))
 
-    accepted : numberOf (c₁ .answer) ≡ 0 → Small (rest c₁) → countedExport n (typeExport r section w t x) resting ≡ leaves n r (counted n c₁ rest)
+    accepted : numberOf (c₁ .answer) ≡ 0 → Small (rest c₁) → countedExport n (typeExport r section w t x) resting ≡ leaves n r (thenNext n c₁ rest)
     unfolding answeredBy exportOf recordAfter answerOf
     accepted z q =
         let counts : Counts section (suc n) (c₁ .session) (c₁ .text) (rest c₁) = list-counts section (suc n) (c₁ .session) (c₁ .work) (c₁ .text) ids in
@@ -152,7 +152,7 @@ module _ (section : List ℕ) where
         go true e = let z : n - n ≡ 0 = omega arith in rw (e, recordRefused, recordListed) (sym (ap (λ (j : ℕ). recordLonger j k v r) z))
         go false e = rw (e, recordRefused, recordListed)
 
-    refused : (m : ℕ) → numberOf (c₁ .answer) ≡ suc m → Small c₁ → countedExport n (typeExport r section w t x) resting ≡ leaves n r (counted n c₁ rest)
+    refused : (m : ℕ) → numberOf (c₁ .answer) ≡ suc m → Small c₁ → countedExport n (typeExport r section w t x) resting ≡ leaves n r (thenNext n c₁ rest)
     unfolding answeredBy exportOf recordAfter answerOf callOf packed numberOf valueOf
     refused m z q =
         let after : recordAfter (c₁ .answer) (c₁ .session .visits) r ≡ recordListed (suc m) (n - n) (c₁ .session .«text_len») (c₁ .session .visits) r = ap (λ (a : Answer). recordAfter a (c₁ .session .visits) r) (single .formed ∙ (λ i. answerOf (z i) (single .value-same i))) ∙ stopped-record m (c₁ .session .«text_len») (c₁ .session .visits) in
@@ -161,11 +161,11 @@ module _ (section : List ℕ) where
         ∙ ap (λ (l : List ℕ). exportOf (suc m * 4294967296 + n) l (c₁ .work) (c₁ .text)) after
         ∙ sym (ap (leaves n r) (counted-stops n (suc m) c₁ rest z (λ y. absurd (omega arith))))
 
-    each : Small (counted n c₁ rest) → countedExport n (typeExport r section w t x) resting ≡ leaves n r (counted n c₁ rest)
+    each : Small (thenNext n c₁ rest) → countedExport n (typeExport r section w t x) resting ≡ leaves n r (thenNext n c₁ rest)
     unfolding callOf
     each q = go (numberOf (c₁ .answer)) refl
       where
-        go : (m : ℕ) → numberOf (c₁ .answer) ≡ m → countedExport n (typeExport r section w t x) resting ≡ leaves n r (counted n c₁ rest)
+        go : (m : ℕ) → numberOf (c₁ .answer) ≡ m → countedExport n (typeExport r section w t x) resting ≡ leaves n r (thenNext n c₁ rest)
         go zero z = accepted z (subst Small (counted-goes n c₁ rest z) q)
         go (suc m) z = refused m z (subst Small (counted-stops n (suc m) c₁ rest z (λ y. absurd (omega arith))) q)
 

@@ -8,7 +8,7 @@ use Rattle.spec_linux_btf.specs.Reading.{word, kind, sound, named, passes, layo
 use Rattle.spec_linux_btf.specs.Places.{kindP, vlenP, sizeP, placeFrom}
 use Rattle.spec_linux_btf.specs.Section.{bigEndian, littleEndian, wordOf, hdrLen, typeOff, typeLen, strOff, strLen, typeArea, stringArea, headerSound, stringsSound, typesSound}
 use Rattle.btf_open_causes.specs.references.Any.{anyBelow}
-use Rattle.btf_open_causes.specs.references.Followed.{among, countOf, entryAt, placeOf, kindAt, countFor, idPlace, countAt, idAt, followedCount, followedId}
+use Rattle.btf_open_causes.specs.references.Followed.{isKindAmong, typeCount, entryAt, placeOf, kindAt, countFor, idPlace, countAt, idAt, followedCount, followedId}
 use Rattle.btf_open_causes.specs.references.References.{isBad, isSomeBad, hasBadReference}
 use Rattle.btf_open_causes.specs.loops.Graph.{long, hasLoop}
 use Rattle.btf_open_causes.specs.loops.Loops.{degOf, degAt}
@@ -91,11 +91,11 @@ loops =
     100 ∷ 101 ∷ 0 ∷ 110 ∷ 101 ∷ 120 ∷ 116 ∷ 0 ∷ 118 ∷ 0 ∷ []
 
 node-number : openingNumber 8 node 16640 ≡ 0
-unfolding openingNumber firstOf cause1 cause2 cause3 headerSound bigEndian littleEndian hdrLen typeOff typeLen strOff strLen word cause4 stringsSound stringArea cause5 typesSound typeArea layoutSound passes sound named kind cause6 cause7 cause8 cause9 tableOf btfOf typesOf enumeratorsOf decodeAll decode places indexOf indexFor emptyIndex recordPlace recordKind placeFrom kindP sizeP vlenP hasBadReference isSomeBad isBad anyLeads asker asksOf asksAt leadsTo chase whatOf nextOf hasLoop anyBelow long degOf degAt followedCount followedId countAt idAt countFor idPlace kindAt placeOf entryAt countOf among sectionWord wordOf wordIn wordAt
+unfolding openingNumber firstOf cause1 cause2 cause3 headerSound bigEndian littleEndian hdrLen typeOff typeLen strOff strLen word cause4 stringsSound stringArea cause5 typesSound typeArea layoutSound passes sound named kind cause6 cause7 cause8 cause9 tableOf btfOf typesOf enumeratorsOf decodeAll decode places indexOf indexFor emptyIndex recordPlace recordKind placeFrom kindP sizeP vlenP hasBadReference isSomeBad isBad anyLeads asker asksOf asksAt leadsTo chase whatOf nextOf hasLoop anyBelow long degOf degAt followedCount followedId countAt idAt countFor idPlace kindAt placeOf entryAt typeCount isKindAmong sectionWord wordOf wordIn wordAt
 node-number = refl
 
 node-big-number : openingNumber 8 node-big 16640 ≡ 0
-unfolding openingNumber firstOf cause1 cause2 cause3 headerSound bigEndian littleEndian hdrLen typeOff typeLen strOff strLen word cause4 stringsSound stringArea cause5 typesSound typeArea layoutSound passes sound named kind cause6 cause7 cause8 cause9 tableOf btfOf typesOf enumeratorsOf decodeAll decode places indexOf indexFor emptyIndex recordPlace recordKind placeFrom kindP sizeP vlenP hasBadReference isSomeBad isBad anyLeads asker asksOf asksAt leadsTo chase whatOf nextOf hasLoop anyBelow long degOf degAt followedCount followedId countAt idAt countFor idPlace kindAt placeOf entryAt countOf among sectionWord wordOf wordIn wordAtBig
+unfolding openingNumber firstOf cause1 cause2 cause3 headerSound bigEndian littleEndian hdrLen typeOff typeLen strOff strLen word cause4 stringsSound stringArea cause5 typesSound typeArea layoutSound passes sound named kind cause6 cause7 cause8 cause9 tableOf btfOf typesOf enumeratorsOf decodeAll decode places indexOf indexFor emptyIndex recordPlace recordKind placeFrom kindP sizeP vlenP hasBadReference isSomeBad isBad anyLeads asker asksOf asksAt leadsTo chase whatOf nextOf hasLoop anyBelow long degOf degAt followedCount followedId countAt idAt countFor idPlace kindAt placeOf entryAt typeCount isKindAmong sectionWord wordOf wordIn wordAtBig
 node-big-number = refl
 
 half-turned-number : openingNumber 8 half-turned 16640 ≡ 3
@@ -115,15 +115,15 @@ unfolding openingNumber firstOf cause1 cause2 cause3 headerSound bigEndian littl
 cut-short-number = refl
 
 past-count-number : openingNumber 8 past-count 16640 ≡ 6
-unfolding openingNumber firstOf cause1 cause2 cause3 headerSound bigEndian littleEndian hdrLen typeOff typeLen strOff strLen word cause4 stringsSound stringArea cause5 typesSound typeArea layoutSound passes sound named kind cause6 cause7 cause8 cause9 tableOf btfOf typesOf enumeratorsOf decodeAll decode places indexOf indexFor emptyIndex recordPlace recordKind placeFrom kindP sizeP vlenP hasBadReference isSomeBad isBad anyLeads asker asksOf asksAt leadsTo chase whatOf nextOf hasLoop anyBelow long degOf degAt followedCount followedId countAt idAt countFor idPlace kindAt placeOf entryAt countOf among sectionWord wordOf wordIn wordAt
+unfolding openingNumber firstOf cause1 cause2 cause3 headerSound bigEndian littleEndian hdrLen typeOff typeLen strOff strLen word cause4 stringsSound stringArea cause5 typesSound typeArea layoutSound passes sound named kind cause6 cause7 cause8 cause9 tableOf btfOf typesOf enumeratorsOf decodeAll decode places indexOf indexFor emptyIndex recordPlace recordKind placeFrom kindP sizeP vlenP hasBadReference isSomeBad isBad anyLeads asker asksOf asksAt leadsTo chase whatOf nextOf hasLoop anyBelow long degOf degAt followedCount followedId countAt idAt countFor idPlace kindAt placeOf entryAt typeCount isKindAmong sectionWord wordOf wordIn wordAt
 past-count-number = refl
 
 proto-member-number : openingNumber 8 proto-member 16640 ≡ 7
-unfolding openingNumber firstOf cause1 cause2 cause3 headerSound bigEndian littleEndian hdrLen typeOff typeLen strOff strLen word cause4 stringsSound stringArea cause5 typesSound typeArea layoutSound passes sound named kind cause6 cause7 cause8 cause9 tableOf btfOf typesOf enumeratorsOf decodeAll decode places indexOf indexFor emptyIndex recordPlace recordKind placeFrom kindP sizeP vlenP hasBadReference isSomeBad isBad anyLeads asker asksOf asksAt leadsTo chase whatOf nextOf hasLoop anyBelow long degOf degAt followedCount followedId countAt idAt countFor idPlace kindAt placeOf entryAt countOf among sectionWord wordOf wordIn wordAt
+unfolding openingNumber firstOf cause1 cause2 cause3 headerSound bigEndian littleEndian hdrLen typeOff typeLen strOff strLen word cause4 stringsSound stringArea cause5 typesSound typeArea layoutSound passes sound named kind cause6 cause7 cause8 cause9 tableOf btfOf typesOf enumeratorsOf decodeAll decode places indexOf indexFor emptyIndex recordPlace recordKind placeFrom kindP sizeP vlenP hasBadReference isSomeBad isBad anyLeads asker asksOf asksAt leadsTo chase whatOf nextOf hasLoop anyBelow long degOf degAt followedCount followedId countAt idAt countFor idPlace kindAt placeOf entryAt typeCount isKindAmong sectionWord wordOf wordIn wordAt
 proto-member-number = refl
 
 loops-number : openingNumber 8 loops 16640 ≡ 8
-unfolding openingNumber firstOf cause1 cause2 cause3 headerSound bigEndian littleEndian hdrLen typeOff typeLen strOff strLen word cause4 stringsSound stringArea cause5 typesSound typeArea layoutSound passes sound named kind cause6 cause7 cause8 cause9 tableOf btfOf typesOf enumeratorsOf decodeAll decode places indexOf indexFor emptyIndex recordPlace recordKind placeFrom kindP sizeP vlenP hasBadReference isSomeBad isBad anyLeads asker asksOf asksAt leadsTo chase whatOf nextOf hasLoop anyBelow long degOf degAt followedCount followedId countAt idAt countFor idPlace kindAt placeOf entryAt countOf among sectionWord wordOf wordIn wordAt
+unfolding openingNumber firstOf cause1 cause2 cause3 headerSound bigEndian littleEndian hdrLen typeOff typeLen strOff strLen word cause4 stringsSound stringArea cause5 typesSound typeArea layoutSound passes sound named kind cause6 cause7 cause8 cause9 tableOf btfOf typesOf enumeratorsOf decodeAll decode places indexOf indexFor emptyIndex recordPlace recordKind placeFrom kindP sizeP vlenP hasBadReference isSomeBad isBad anyLeads asker asksOf asksAt leadsTo chase whatOf nextOf hasLoop anyBelow long degOf degAt followedCount followedId countAt idAt countFor idPlace kindAt placeOf entryAt typeCount isKindAmong sectionWord wordOf wordIn wordAt
 loops-number = refl
 
 pointer-number : openingNumber 6 node 16640 ≡ 1
@@ -132,5 +132,5 @@ pointer-number = refl
 
 -- work that is one byte short
 short-number : openingNumber 8 node 16639 ≡ 9
-unfolding openingNumber firstOf cause1 cause2 cause3 headerSound bigEndian littleEndian hdrLen typeOff typeLen strOff strLen word cause4 stringsSound stringArea cause5 typesSound typeArea layoutSound passes sound named kind cause6 cause7 cause8 cause9 tableOf btfOf typesOf enumeratorsOf decodeAll decode places indexOf indexFor emptyIndex recordPlace recordKind placeFrom kindP sizeP vlenP hasBadReference isSomeBad isBad anyLeads asker asksOf asksAt leadsTo chase whatOf nextOf hasLoop anyBelow long degOf degAt followedCount followedId countAt idAt countFor idPlace kindAt placeOf entryAt countOf among sectionWord wordOf wordIn wordAt
+unfolding openingNumber firstOf cause1 cause2 cause3 headerSound bigEndian littleEndian hdrLen typeOff typeLen strOff strLen word cause4 stringsSound stringArea cause5 typesSound typeArea layoutSound passes sound named kind cause6 cause7 cause8 cause9 tableOf btfOf typesOf enumeratorsOf decodeAll decode places indexOf indexFor emptyIndex recordPlace recordKind placeFrom kindP sizeP vlenP hasBadReference isSomeBad isBad anyLeads asker asksOf asksAt leadsTo chase whatOf nextOf hasLoop anyBelow long degOf degAt followedCount followedId countAt idAt countFor idPlace kindAt placeOf entryAt typeCount isKindAmong sectionWord wordOf wordIn wordAt
 short-number = refl

@@ -15,7 +15,7 @@ use Rattle.spec_bytes.proofs.words.Laws.{le-or-lt}
 use Rattle.spec_type_table.specs.Records.{sectionWord}
 use Rattle.spec_linux_btf.specs.Places.{kindP, sizeP}
 use Rattle.spec_linux_btf.specs.Section.{typesAt, typeLen, headerSound, typesSound}
-use Rattle.btf_open_causes.specs.references.Followed.{countOf, entryAt, placeOf, kindAt}
+use Rattle.btf_open_causes.specs.references.Followed.{typeCount, entryAt, placeOf, kindAt}
 use Rattle.btf_open_causes.specs.header.Header.{btfOf}
 use Rattle.btf_open_causes.specs.records.Pass.{countP}
 use Rattle.spec_opening.specs.Table.{describedIn, typesOf, recordPlace, recordKind, emptyIndex, indexFor, indexOf}
@@ -88,8 +88,8 @@ module _ (s : List ℕ) where
       unfolding btfOf
       table-types = ⊎-elim (λ l. rw (le-ltb (typesOf s) 262145 l) (omega arith)) (λ l. rw (lt-ltb (typesOf s) 262145 l)) (le-or-lt 262145 (typesOf s))
 
-      pub table-count : countOf (btfOf s pointer modes (typesOf s)) ≡ typesOf s
-      unfolding countOf
+      pub table-count : typeCount (btfOf s pointer modes (typesOf s)) ≡ typesOf s
+      unfolding typeCount
       table-count =
           ⊎-elim
           (λ l. rw (le-ltb (btfOf s pointer modes (typesOf s) .types) 262145 (omega (arith, table-types))) (omega arith))
@@ -99,7 +99,7 @@ module _ (s : List ℕ) where
       entry-is : (x : ℕ) → 1 ≤ x → x < typesOf s → entryAt (btfOf s pointer modes (typesOf s)) (indexOf s) x ≡ getD (indexOf s) x 0
       unfolding entryAt
       entry-is x a l =
-          rw (ne-eqb x 0 (λ e. absurd (omega arith)), lt-ltb x (countOf (btfOf s pointer modes (typesOf s))) (omega (arith, table-count)))
+          rw (ne-eqb x 0 (λ e. absurd (omega arith)), lt-ltb x (typeCount (btfOf s pointer modes (typesOf s))) (omega (arith, table-count)))
 
       -- THE THEOREMS: what `btf_open_causes::references` reads of a type is its record's place and kind in the section
       pub followed-place : (x : ℕ) → 1 ≤ x → x < typesOf s → placeOf (btfOf s pointer modes (typesOf s)) (indexOf s) x ≡ recordPlace s (x - 1)

@@ -22,7 +22,7 @@ use Rattle.spec_linux_btf.specs.Reading.{Bytes}
 use Rattle.spec_linux_btf.specs.Places.{kindP, typeP}
 use Rattle.spec_linux_btf.proofs.Claims.{section-fields}
 use Rattle.spec_linux_btf.specs.Section.{bigEndian, wordOf, stringArea, headerSound, stringsSound, typesSound}
-use Rattle.btf_open_causes.specs.references.Followed.{countOf, followedCount, followedId}
+use Rattle.btf_open_causes.specs.references.Followed.{typeCount, followedCount, followedId}
 use Rattle.btf_open_causes.specs.references.References.{BadReference}
 use Rattle.btf_open_causes.proofs.references.BadIds.{bad-reference}
 use Rattle.btf_open_names.specs.name_classes.Classes.{bucketP, linkP, keyIn, classOf, tableClassed}
@@ -132,7 +132,7 @@ module _ (p modes : ℕ) (s : List ℕ) (n : ℕ) (ok : openingNumber p s n ≡ 
   room2 : b .types * 16 ≤ length w2 / 4
   room2 = omega (arith, w2-long, work-long, types-are)
 
-  counted-all : countOf (tableOf p s) ≡ typesOf s
+  counted-all : typeCount (tableOf p s) ≡ typesOf s
   unfolding tableOf
   counted-all = table-count s few p 0
 
@@ -143,9 +143,9 @@ module _ (p modes : ℕ) (s : List ℕ) (n : ℕ) (ok : openingNumber p s n ≡ 
       ⊎-elim
       (λ q. absurd (true≢false (sym (bad-reference (tableOf p s) s start .1 (is-bad q)) ∙ none .1 .1 .1 .1 .1 .0)))
       (λ q. omega (arith, counted-all))
-      (le-or-lt (countOf (tableOf p s)) (followedId (tableOf p s) s start x k))
+      (le-or-lt (typeCount (tableOf p s)) (followedId (tableOf p s) s start x k))
     where
-      is-bad : countOf (tableOf p s) ≤ followedId (tableOf p s) s start x k → BadReference (tableOf p s) s start
+      is-bad : typeCount (tableOf p s) ≤ followedId (tableOf p s) s start x k → BadReference (tableOf p s) s start
       is-bad q = record { x = x; k = k; type = omega (arith, counted-all); followed = m; bad = inl q }
 
   -- word 0 of a type: the place of its record

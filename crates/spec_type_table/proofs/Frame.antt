@@ -13,7 +13,7 @@ use Rattle.spec_bytes.proofs.words.Laws.{get-put-other, le-or-lt}
 use Rattle.spec_c_dumper.specs.rules.Names.{Resolved}
 use Rattle.spec_type_table.specs.declared.types.TypeTable.{TypeTable}
 use Rattle.spec_type_table.specs.declared.types.BtfType.{BtfType as Record}
-use Rattle.spec_type_table.specs.Cells.{getField, putField, classP, countP, counted, withMore}
+use Rattle.spec_type_table.specs.Cells.{getField, putField, classP, countP, countRaised, withMore}
 use Rattle.spec_type_table.specs.Numbers.{numberAt}
 use Rattle.spec_type_table.specs.Records.{recordAt, voidRecord, recordById}
 use Rattle.spec_type_table.specs.Table.{typeOf, tagsFrom, tagsOf, btfOf, typeVersionIn, valueVersionIn, enumeratorOf}
@@ -120,15 +120,15 @@ module _ (w : List ℕ) (i : ℕ) where
 
 module _ (types : ℕ) (w : List ℕ) (h : ℕ) where
   -- a word that is no count is as it was
-  pub counted-other : (k : ℕ) → ((c : ℕ) → k ≢ countP types c) → getWord (counted (classP types) (countP types) w h) k ≡ getWord w k
-  unfolding counted
+  pub counted-other : (k : ℕ) → ((c : ℕ) → k ≢ countP types c) → getWord (countRaised (classP types) (countP types) w h) k ≡ getWord w k
+  unfolding countRaised
   counted-other k n = more-other w (countP types (getWord w (classP types h))) k (n (getWord w (classP types h)))
 
-  pub enumerator-counted : (x k : ℕ) → enumeratorOf (counted (classP types) (countP types) w h) x k ≡ enumeratorOf w x k
+  pub enumerator-counted : (x k : ℕ) → enumeratorOf (countRaised (classP types) (countP types) w h) x k ≡ enumeratorOf w x k
   enumerator-counted x k = enumerator-same _ w x k (counted-other (x * 16 + 12) (λ c. count-12 types c x))
 
 module _ (b : TypeTable) (s w : List ℕ) where
-  pub table-counted : (h : ℕ) → btfOf b s (counted (classP (b .types)) (countP (b .types)) w h) ≡ btfOf b s w
+  pub table-counted : (h : ℕ) → btfOf b s (countRaised (classP (b .types)) (countP (b .types)) w h) ≡ btfOf b s w
   table-counted h =
       table-same _ w b s
       (λ j. counted-other (b .types) w h (j * 16 + 0) (λ c. count-0 (b .types) c j))
@@ -144,7 +144,7 @@ module _ (b : TypeTable) (s w : List ℕ) where
       n = numberAt (b .types) w id
 
       u : List ℕ
-      u = counted (classP (b .types)) (countP (b .types)) w id
+      u = countRaised (classP (b .types)) (countP (b .types)) w id
 
       go : (t : Bool) → btfOf b s ((elim t as (λ z. Resolved (List ℕ)) [ false ↦ record { version = getField w id 4; names = w } | true ↦ record { version = n; names = putField u id 4 n } ]) .names) ≡ btfOf b s w
       go false = refl
@@ -158,7 +158,7 @@ module _ (b : TypeTable) (s w : List ℕ) where
       n = numberAt (b .types) w (b .types + e)
 
       u : List ℕ
-      u = counted (classP (b .types)) (countP (b .types)) w (b .types + e)
+      u = countRaised (classP (b .types)) (countP (b .types)) w (b .types + e)
 
       go : (t : Bool) → btfOf b s ((elim t as (λ z. Resolved (List ℕ)) [ true ↦ record { version = n; names = u } | false ↦ record { version = 0; names = w } ]) .names) ≡ btfOf b s w
       go false = refl
@@ -173,7 +173,7 @@ module _ (types : ℕ) (w : List ℕ) (x k : ℕ) where
       n = numberAt types w id
 
       u : List ℕ
-      u = counted (classP types) (countP types) w id
+      u = countRaised (classP types) (countP types) w id
 
       go : (t : Bool) → enumeratorOf ((elim t as (λ z. Resolved (List ℕ)) [ false ↦ record { version = getField w id 4; names = w } | true ↦ record { version = n; names = putField u id 4 n } ]) .names) x k ≡ enumeratorOf w x k
       go false = refl
@@ -187,7 +187,7 @@ module _ (types : ℕ) (w : List ℕ) (x k : ℕ) where
       n = numberAt types w (types + e)
 
       u : List ℕ
-      u = counted (classP types) (countP types) w (types + e)
+      u = countRaised (classP types) (countP types) w (types + e)
 
       go : (t : Bool) → enumeratorOf ((elim t as (λ z. Resolved (List ℕ)) [ true ↦ record { version = n; names = u } | false ↦ record { version = 0; names = w } ]) .names) x k ≡ enumeratorOf w x k
       go false = refl

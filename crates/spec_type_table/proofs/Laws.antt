@@ -10,7 +10,7 @@ use Rattle.spec_bytes.specs.declared.words.Three.{Three}
 use Rattle.spec_type_table.specs.declared.types.TypeTable.{TypeTable}
 use Rattle.spec_type_table.specs.declared.types.BtfType.{BtfType as Record}
 use Rattle.spec_type_table.specs.declared.types.Entries.{Entries}
-use Rattle.spec_type_table.specs.Cells.{placeOf, classP, countP, countOf, counted, withMore, getField}
+use Rattle.spec_type_table.specs.Cells.{placeOf, classP, countP, countAfter, countRaised, withMore, getField}
 use Rattle.spec_type_table.specs.Records.{sectionWord, sectionThree, recordAt, voidRecord, recordById, entriesOf, memberAt, memberOf, flagOf}
 
 module _ (t f g : ℕ) where
@@ -49,8 +49,8 @@ module _ (types : ℕ) (w : List ℕ) (h p class at : ℕ) (ep : p ≡ placeOf t
   where-is : at ≡ countP types (getWord w (classP types h))
   where-is = ea ∙ ap (λ (x : ℕ). placeOf types 6 2 x) (ec ∙ ap (getWord w) ep)
 
-  pub counted-at : (r : ℕ) (u : List ℕ) → (r ≡ oneMore (getWord w at)) × (u ≡ withMore w at) → (r ≡ countOf (classP types) (countP types) w h) × (u ≡ counted (classP types) (countP types) w h)
-  unfolding countOf counted
+  pub counted-at : (r : ℕ) (u : List ℕ) → (r ≡ oneMore (getWord w at)) × (u ≡ withMore w at) → (r ≡ countAfter (classP types) (countP types) w h) × (u ≡ countRaised (classP types) (countP types) w h)
+  unfolding countAfter countRaised
   counted-at r u m = (m .0 ∙ ap (λ (x : ℕ). oneMore (getWord w x)) where-is, m .1 ∙ ap (withMore w) where-is)
 
 -- ---- records

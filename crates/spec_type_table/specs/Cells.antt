@@ -28,8 +28,8 @@ unfoldable pub withMore : List ℕ → ℕ → List ℕ
 withMore w i = elim (ltb (getWord w i) 4294967295) [ true ↦ putWord w i (getWord w i + 1) | false ↦ w ]
 
 -- the count that h gets next, at its class, and the work after that
-unfoldable pub countOf : (class count : ℕ → ℕ) → List ℕ → ℕ → ℕ
-countOf class count w h = oneMore (getWord w (count (getWord w (class h))))
+unfoldable pub countAfter : (class count : ℕ → ℕ) → List ℕ → ℕ → ℕ
+countAfter class count w h = oneMore (getWord w (count (getWord w (class h))))
 
-unfoldable pub counted : (class count : ℕ → ℕ) → List ℕ → ℕ → List ℕ
-counted class count w h = withMore w (count (getWord w (class h)))
+unfoldable pub countRaised : (class count : ℕ → ℕ) → List ℕ → ℕ → List ℕ
+countRaised class count w h = withMore w (count (getWord w (class h)))

@@ -6,7 +6,7 @@ use mathlib.Core.List.{List, [], _∷_}
 use lib.ListN.{length}
 use lib.Dec.{ltb, leb}
 use Rattle.spec_bytes.specs.words.Words.{getWord, pick}
-use Rattle.spec_type_table.specs.Cells.{placeOf, classP, countP, countOf}
+use Rattle.spec_type_table.specs.Cells.{placeOf, classP, countP, countAfter}
 
 -- how many of these numbers are at most n
 unfoldable pub below : List ℕ → ℕ → ℕ
@@ -50,4 +50,4 @@ takenAt types w c = numbersFrom 4294967296 types w 0 (getWord w (headP types c))
 
 -- the number that holder h gets next
 unfoldable pub numberAt : ℕ → List ℕ → ℕ → ℕ
-numberAt types w h = numberOver (takenAt types w (getWord w (classP types h))) (countOf (classP types) (countP types) w h)
+numberAt types w h = numberOver (takenAt types w (getWord w (classP types h))) (countAfter (classP types) (countP types) w h)

@@ -11,7 +11,7 @@ use Rattle.spec_c_dumper.specs.rules.Names.{Resolved, Naming}
 use Rattle.spec_type_table.specs.declared.types.TypeTable.{TypeTable}
 use Rattle.spec_type_table.specs.declared.types.BtfType.{BtfType as Record}
 use Rattle.spec_type_table.specs.declared.types.BtfMember.{BtfMember}
-use Rattle.spec_type_table.specs.Cells.{getField, putField, classP, countP, counted}
+use Rattle.spec_type_table.specs.Cells.{getField, putField, classP, countP, countRaised}
 use Rattle.spec_type_table.specs.Names.{strAt}
 use Rattle.spec_type_table.specs.Numbers.{numberAt}
 use Rattle.spec_type_table.specs.Records.{sectionWord, vlenOf, kindOf, flagOf, memberAt, paramAt, recordById, memberOf}
@@ -119,7 +119,7 @@ typeVersionIn types id w =
       | false ↦ record { version = getField w id 4; names = w }
       | true ↦ record {
         version = numberAt types w id;
-        names = putField (counted (classP types) (countP types) w id) id 4 (numberAt types w id);
+        names = putField (countRaised (classP types) (countP types) w id) id 4 (numberAt types w id);
       }
     ]
 
@@ -133,7 +133,7 @@ valueVersionIn types e w =
     elim (ltb (types + e) 4294967296) [
       | true ↦ record {
         version = numberAt types w (types + e);
-        names = counted (classP types) (countP types) w (types + e);
+        names = countRaised (classP types) (countP types) w (types + e);
       }
       | false ↦ record { version = 0; names = w }
     ]

@@ -16,7 +16,7 @@ use Rattle.spec_type_table.specs.Records.{sectionWord, kindOf, vlenOf, memberAt
 use Rattle.spec_type_table.specs.Table.{from, ruleMember, membersOf, typeOf, btfOf}
 use Rattle.spec_type_table.specs.Nodes.{memberIds}
 use Rattle.spec_type_table.proofs.KindLaws.{by-kind, member-types}
-use Rattle.spec_c_dumper.specs.alignment_once.Once.{Seen, Known, unknown, known, Keep, Once, found, refused, Asking, onceThen, above, alone, widest, membersOnce, taken, typeOnce, keepOnce, alignOnce, memberCount}
+use Rattle.spec_c_dumper.specs.alignment_once.Once.{Remembered, Known, unknown, known, Keep, Once, found, refused, Asking, onceThen, above, alone, widest, membersOnce, taken, typeOnce, keepOnce, alignOnce, memberCount}
 use Rattle.spec_c_dumper.proofs.alignment_once.Right.{taken-found, taken-refused}
 use Rattle.btf_layout.specs.declared.remembered.Seen.{Seen as Code}
 use Rattle.btf_layout.specs.declared.remembered.Once.{Once as Answer}
@@ -59,13 +59,13 @@ module _ (types : ℕ) (B : Rules) (left id : ℕ) (w : List ℕ) where
     K = workKeep types B
 
     unroll : (q : Known) → decoded (seenWord types w id) ≡ q
-        → onceWith types B left id w ≡ forget {M = List ℕ} {A = Seen} (elim q as (λ (q : Known). Once (List ℕ) Seen) [ known x ↦ taken left x w 0 | unknown ↦ onceThen (typeOnce B (λ t m k. alignOnce K (left - 1) B t m k) (B .type-by-id id) w 1) (keepOnce K id) ])
+        → onceWith types B left id w ≡ forget {M = List ℕ} {A = Remembered} (elim q as (λ (q : Known). Once (List ℕ) Remembered) [ known x ↦ taken left x w 0 | unknown ↦ onceThen (typeOnce B (λ t m k. alignOnce K (left - 1) B t m k) (B .type-by-id id) w 1) (keepOnce K id) ])
     unfolding onceWith alignOnce workKeep
     unroll q e =
         let z : left ≡ suc (left - 1) = omega arith in
         ap (λ (n : ℕ). forget (alignOnce K n B id w 0)) z
-        ∙ ap (λ (n : ℕ). forget {M = List ℕ} {A = Seen} (elim (decoded (seenWord types w id)) as (λ (q : Known). Once (List ℕ) Seen) [ known x ↦ taken n x w 0 | unknown ↦ onceThen (typeOnce B (λ t m k. alignOnce K (left - 1) B t m k) (B .type-by-id id) w 1) (keepOnce K id) ])) (sym z)
-        ∙ ap (λ (p : Known). forget {M = List ℕ} {A = Seen} (elim p as (λ (q : Known). Once (List ℕ) Seen) [ known x ↦ taken left x w 0 | unknown ↦ onceThen (typeOnce B (λ t m k. alignOnce K (left - 1) B t m k) (B .type-by-id id) w 1) (keepOnce K id) ])) e
+        ∙ ap (λ (n : ℕ). forget {M = List ℕ} {A = Remembered} (elim (decoded (seenWord types w id)) as (λ (q : Known). Once (List ℕ) Remembered) [ known x ↦ taken n x w 0 | unknown ↦ onceThen (typeOnce B (λ t m k. alignOnce K (left - 1) B t m k) (B .type-by-id id) w 1) (keepOnce K id) ])) (sym z)
+        ∙ ap (λ (p : Known). forget {M = List ℕ} {A = Remembered} (elim p as (λ (q : Known). Once (List ℕ) Remembered) [ known x ↦ taken left x w 0 | unknown ↦ onceThen (typeOnce B (λ t m k. alignOnce K (left - 1) B t m k) (B .type-by-id id) w 1) (keepOnce K id) ])) e
 
     module _ (v : ℕ) (ev : v ≡ seenWord types w id) where
       decoded-known : (v ≡ 0 → ⊥) → decoded (seenWord types w id) ≡ known (record { align = v % 16; height = v / 16 })
@@ -85,8 +85,8 @@ module _ (types : ℕ) (B : Rules) (left id : ℕ) (w : List ℕ) where
       fresh z = unroll unknown (ap decoded (sym ev ∙ z))
 
 -- ---- the record of a type, by its kind
-module _ {M : Type 0} (ask : ℕ → Asking M Seen) (ms : List Member) where
-  pub stepOnce : Step → Asking M Seen
+module _ {M : Type 0} (ask : ℕ → Asking M Remembered) (ms : List Member) where
+  pub stepOnce : Step → Asking M Remembered
   stepOnce (Own a) m k = found (alone a) m k
   stepOnce (Through x) m k = ask x m k
   stepOnce (Members e) m k = membersOnce ask (alone 1) ms m k
@@ -101,7 +101,7 @@ entriesIn d (Own a) = d
 entriesIn d (Through x) = d
 entriesIn d (Members e) = e
 
-module _ (b : TypeTable) (s w : List ℕ) (t : Record) (ask : ℕ → Asking (List ℕ) Seen) (m : List ℕ) (k : ℕ) where
+module _ (b : TypeTable) (s w : List ℕ) (t : Record) (ask : ℕ → Asking (List ℕ) Remembered) (m : List ℕ) (k : ℕ) where
   abbrev Like : BtfType → Step → Type 0
   Like T S = (typeOnce (btfOf b s w) ask T m k ≡ stepOnce ask (membersOf b s t) S m k) × (memberCount T ≡ stepCount (membersOf b s t) S) × (entriesIn (entriesOf t) S ≡ entriesOf t)
 
@@ -139,7 +139,7 @@ length-from f k (suc n) = ap suc (length-from f (k + 1) n)
 
 -- ---- what was found is remembered
 module _ (types id n : ℕ) where
-  keptOf : Once (List ℕ) Seen → Once (List ℕ) Seen
+  keptOf : Once (List ℕ) Remembered → Once (List ℕ) Remembered
   keptOf (found x m k) = found (above x) (remembered types id (coded (above x)) n m) 0
   keptOf (refused c m k) = refused c m 0
 
@@ -148,7 +148,7 @@ module _ (types id n : ℕ) where
   kept-is (Found x) u = refl
   kept-is (No c) u = refl
 
-  then-keep : (B : Rules) → memberCount (B .type-by-id id) ≡ n → (X : Once (List ℕ) Seen) → forget (onceThen X (keepOnce (workKeep types B) id)) ≡ keptOf (forget X)
+  then-keep : (B : Rules) → memberCount (B .type-by-id id) ≡ n → (X : Once (List ℕ) Remembered) → forget (onceThen X (keepOnce (workKeep types B) id)) ≡ keptOf (forget X)
   unfolding forget onceThen keepOnce workKeep keptOf
   then-keep B e (found x m k) = ap (λ (c : ℕ). found (above x) (remembered types id (coded (above x)) c m) 0) e
   then-keep B e (refused c m k) = refl
@@ -157,7 +157,7 @@ module _ (b : TypeTable) (s w : List ℕ) (left id v : ℕ) (deep : left ≡ 0 �
   abbrev B : Rules
   B = btfOf b s w
 
-  abbrev ask : ℕ → Asking (List ℕ) Seen
+  abbrev ask : ℕ → Asking (List ℕ) Remembered
   ask x m k = alignOnce (workKeep (b .types) B) (left - 1) B x m k
 
   type-is : B .type-by-id id ≡ typeOf b s t
@@ -205,7 +205,7 @@ module _ (b : TypeTable) (s w : List ℕ) (left id v : ℕ) (deep : left ≡ 0 �
 -- ---- the loop of members_once
 module _ (types : ℕ) (B : Rules) (left : ℕ) (b : TypeTable) (s : List ℕ) (e : Entries) where
   -- what the members from k on make of what is seen so far
-  pub idsRest : ℕ → ℕ → ℕ → List ℕ → Once (List ℕ) Seen
+  pub idsRest : ℕ → ℕ → ℕ → List ℕ → Once (List ℕ) Remembered
   idsRest a h k w = idsWith types B left (record { align = a; height = h }) (from (λ i. sectionWord b s (memberAt (e .at) i + 4)) k (e .vlen - k)) w
 
   pub ids-start : (w : List ℕ) → idsWith types B left (alone 1) (memberIds b s e) w ≡ idsRest 1 0 0 w
@@ -213,7 +213,7 @@ module _ (types : ℕ) (B : Rules) (left : ℕ) (b : TypeTable) (s : List ℕ) (
   ids-start w = let z : e .vlen ≡ e .vlen - 0 = omega arith in ap (λ (n : ℕ). idsWith types B left (alone 1) (from (λ i. sectionWord b s (memberAt (e .at) i + 4)) 0 n) w) z
 
   module _ (a h k p x : ℕ) (w : List ℕ) (l : k < e .vlen) (ep : p ≡ memberAt (e .at) k) (ex : x ≡ sectionWord b s (p + 4)) (r : Answer) (u : List ℕ) (er : onceOf r u ≡ onceWith types B left x w) where
-    abbrev more : Seen → Asking (List ℕ) Seen
+    abbrev more : Remembered → Asking (List ℕ) Remembered
     more t m j = idsOnce (λ y m′ k′. alignOnce (workKeep types B) left B y m′ k′) (widest (record { align = a; height = h }) t) (from (λ i. sectionWord b s (memberAt (e .at) i + 4)) (k + 1) (e .vlen - (k + 1))) m j
 
     ids-step : idsRest a h k w ≡ next more (onceOf r u)
@@ -225,15 +225,15 @@ module _ (types : ℕ) (B : Rules) (left : ℕ) (b : TypeTable) (s : List ℕ) (
         ∙ then-next more (λ t m j. forget-ids (λ y m′ k′. alignOnce (workKeep types B) left B y m′ k′) (forget-align (workKeep types B) B left) (from (λ i. sectionWord b s (memberAt (e .at) i + 4)) (k + 1) (e .vlen - (k + 1))) (widest (record { align = a; height = h }) t) m j) (alignOnce (workKeep types B) left B x w 1)
         ∙ ap (next more) (forget-align (workKeep types B) B left x w 1 ∙ sym er)
 
-    pub ids-more : (T : Once (List ℕ) Seen) (c : Code) (a′ h′ : ℕ) → T ≡ idsRest a h k w → r ≡ Found c → a′ ≡ larger a (c .align) → h′ ≡ larger h (c .height) → T ≡ idsRest a′ h′ (k + 1) u
+    pub ids-more : (T : Once (List ℕ) Remembered) (c : Code) (a′ h′ : ℕ) → T ≡ idsRest a h k w → r ≡ Found c → a′ ≡ larger a (c .align) → h′ ≡ larger h (c .height) → T ≡ idsRest a′ h′ (k + 1) u
     unfolding onceOf next idsRest idsWith
     ids-more T c a′ h′ i g ea eh = i ∙ ids-step ∙ ap (λ (y : Answer). next more (onceOf y u)) g ∙ (λ j. idsRest (sym ea j) (sym eh j) (k + 1) u)
 
-    pub ids-refused : (T : Once (List ℕ) Seen) (c : ℕ) → T ≡ idsRest a h k w → r ≡ No c → onceOf (No c) u ≡ T
+    pub ids-refused : (T : Once (List ℕ) Remembered) (c : ℕ) → T ≡ idsRest a h k w → r ≡ No c → onceOf (No c) u ≡ T
     unfolding onceOf next
     ids-refused T c i g = sym (i ∙ ids-step ∙ ap (λ (y : Answer). next more (onceOf y u)) g)
 
-  pub ids-end : (T : Once (List ℕ) Seen) (a h k : ℕ) (w : List ℕ) → T ≡ idsRest a h k w → e .vlen ≤ k → onceOf (Found (record { align = a; height = h })) w ≡ T
+  pub ids-end : (T : Once (List ℕ) Remembered) (a h k : ℕ) (w : List ℕ) → T ≡ idsRest a h k w → e .vlen ≤ k → onceOf (Found (record { align = a; height = h })) w ≡ T
   unfolding idsRest idsWith from idsOnce onceOf forget
   ids-end T a h k w i l =
       let z : e .vlen - k ≡ 0 = omega arith in

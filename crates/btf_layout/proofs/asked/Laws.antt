@@ -19,7 +19,7 @@ use Rattle.btf_layout.specs.declared.size.Ask.the-variants as ask
 use Rattle.btf_layout.specs.declared.size.Packed.{Packed}
 use Rattle.btf_layout.specs.declared.size.Packed.the-variants as packed
 use Rattle.btf_layout.specs.size.Answers.{packedOf}
-use Rattle.spec_c_dumper.specs.alignment_once.Once.{Seen, Keep, Once, found, Asking, onceThen, alignOnce, alignmentOnce}
+use Rattle.spec_c_dumper.specs.alignment_once.Once.{Remembered, Keep, Once, found, Asking, onceThen, alignOnce, alignmentOnce}
 use Rattle.spec_c_dumper.specs.alignment_once.Steps.{plainly, membersPackedOnce, packedOnce, gapAlignOnce, unionAlignOnce}
 use Rattle.btf_layout.specs.declared.remembered.Seen.{Seen as SeenCode}
 use Rattle.btf_layout.specs.declared.remembered.Once.{Once as Answer}
@@ -30,10 +30,10 @@ use Rattle.btf_layout.proofs.remembered.Keeps.{table-keeps}
 use Rattle.btf_layout.specs.asked.Asked.{askIn, packedIn, offBy, offOnce, alignIn, gapIn, unionIn, offIn, membersIn, packedAt}
 use Rattle.btf_layout.proofs.asked.Stays.{Steady, steady-plainly, steady-members, steady-tested, offThen, members-turn, Stays, stays-forget, stays-alignment, stays-union, stays-off, stays-packed}
 
-abbrev alignSeen : Seen → Asking (List ℕ) ℕ
+abbrev alignSeen : Remembered → Asking (List ℕ) ℕ
 alignSeen s m k = found (s .align) m k
 
-steady-align : (s : Seen) → Steady (alignSeen s)
+steady-align : (s : Remembered) → Steady (alignSeen s)
 unfolding forget
 steady-align s m k = refl
 

@@ -7,7 +7,7 @@ use lib.Dec.{leb, eqb}
 use Rattle.spec_c_dumper.specs.rules.Writer.{Ask, got, no, alignZero}
 use Rattle.spec_c_dumper.specs.rules.Types.{Member, Btf as Rules}
 use Rattle.spec_c_dumper.specs.rules.Layout.{padsBefore}
-use Rattle.spec_c_dumper.specs.alignment_once.Once.{Seen, Keep, Once, found, refused, Asking, onceThen, alignOnce, alignmentOnce}
+use Rattle.spec_c_dumper.specs.alignment_once.Once.{Remembered, Keep, Once, found, refused, Asking, onceThen, alignOnce, alignmentOnce}
 use Rattle.spec_c_dumper.specs.alignment_once.Steps.{plainly, offAlignOnce, membersPackedOnce, packedOnce, gapAlignOnce, paddingOnce, unionAlignOnce, judged, measuredOnce, bodyOnce}
 use Rattle.btf_layout.specs.remembered.Words.{forget}
 use Rattle.btf_layout.proofs.remembered.Turns.{next, then-next, forget-align, Held, align-held}
@@ -146,11 +146,11 @@ module _ {M X : Type 0} (P : M → X) where
   stays-if true m p q h g = h
   stays-if false m p q h g = g
 
-  stays-held : (left : ℕ) (m : M) (r : Once M Seen) → Held P left m r → Stays m r
+  stays-held : (left : ℕ) (m : M) (r : Once M Remembered) → Held P left m r → Stays m r
   stays-held left m (found s m′ k) h = h .1
   stays-held left m (refused c m′ k) h = h .1
 
-  module _ (K : Keep M) (B : Rules) (keeps : (id : ℕ) (s : Seen) (m : M) → P (K .remember id s m) ≡ P m) where
+  module _ (K : Keep M) (B : Rules) (keeps : (id : ℕ) (s : Remembered) (m : M) → P (K .remember id s m) ≡ P m) where
     pub stays-alignment : (left id : ℕ) (m : M) (k : ℕ) → Stays m (alignmentOnce K left B id m k)
     unfolding alignmentOnce
     stays-alignment left id m k = stays-then m (alignOnce K left B id m k) (λ s. found (s .align)) (stays-held left m (alignOnce K left B id m k) (align-held P K keeps B left id m k)) (λ s m′ k′. refl)

@@ -12,22 +12,22 @@ use Rattle.spec_c_dumper.proofs.rules.Refusals.{Tells}
 use Rattle.spec_type_table.specs.declared.types.TypeTable.{TypeTable}
 use Rattle.spec_type_table.specs.Cells.{getField, putField}
 use Rattle.spec_type_table.specs.Table.{workNaming}
-use Rattle.spec_c_dumper.specs.alignment_once.Once.{Seen, Once, found, refused, memoryAfter, memberCount}
+use Rattle.spec_c_dumper.specs.alignment_once.Once.{Remembered, Once, found, refused, memoryAfter, memberCount}
 use Rattle.spec_c_dumper.specs.alignment_once.Writers.{definitionOnce, forwardOnce}
 use Rattle.spec_c_dumper.proofs.alignment_once.Keeps.{keeps-definition, keeps-forward}
-use Rattle.btf_layout.specs.remembered.Words.{coded, counted, remembered, workKeep}
+use Rattle.btf_layout.specs.remembered.Words.{coded, withVisits, remembered, workKeep}
 use Rattle.btf_layout.specs.asked.Asked.{workAsks}
 use Rattle.btf_layout.proofs.asked.Stays.{Stays, stays-padding, stays-body}
 use Rattle.btf_layout.proofs.refusals.Questions.{coded-padding, coded-body}
 use Rattle.btf_layout.proofs.refusals.Emitters.{tells-definition, tells-forward}
 
 module _ {Z : Type 0} (P : List ℕ → Z) (count : (w : List ℕ) (v : ℕ) → P (putField w 0 2 v) ≡ P w) (aligns : (w : List ℕ) (x v : ℕ) → P (putField w x 15 v) ≡ P w) (b : TypeTable) (B : Rules) where
-  pub remember-keeps : (id : ℕ) (s : Seen) (w : List ℕ) → P (workKeep (b .types) B .remember id s w) ≡ P w
-  unfolding workKeep remembered counted
+  pub remember-keeps : (id : ℕ) (s : Remembered) (w : List ℕ) → P (workKeep (b .types) B .remember id s w) ≡ P w
+  unfolding workKeep remembered withVisits
   remember-keeps id s w = go (eqb (coded s) 0) (leb (b .types) id)
     where
       u : List ℕ
-      u = counted (memberCount (B .type-by-id id)) w
+      u = withVisits (memberCount (B .type-by-id id)) w
 
       go : (p q : Bool) → P (elim p as (λ (z : Bool). List ℕ) [ true ↦ w | false ↦ elim q as (λ (z : Bool). List ℕ) [ true ↦ w | false ↦ putField u id 15 (coded s) ] ]) ≡ P w
       go true q = refl

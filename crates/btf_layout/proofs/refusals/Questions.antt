@@ -10,7 +10,7 @@ use Rattle.spec_c_dumper.specs.rules.Types.{Member, BtfType, Void, Int, Ptr, Ar
 use Rattle.spec_c_dumper.specs.rules.Layout.{getSizeOf, endOf, padsBefore}
 use Rattle.spec_c_dumper.specs.rules.Placing.{fieldSize, Extent, withMember, extentOf, noExtent, sizeFits}
 use Rattle.spec_c_dumper.proofs.rules.Closed.{Code, Asks, gets, refuses, asks-size, asks-end}
-use Rattle.spec_c_dumper.specs.alignment_once.Once.{Seen, Known, unknown, known, Keep, Once, found, refused, Asking, onceThen, widest, alone, membersOnce, taken, typeOnce, keepOnce, alignOnce, alignmentOnce}
+use Rattle.spec_c_dumper.specs.alignment_once.Once.{Remembered, Known, unknown, known, Keep, Once, found, refused, Asking, onceThen, widest, alone, membersOnce, taken, typeOnce, keepOnce, alignOnce, alignmentOnce}
 use Rattle.spec_c_dumper.specs.alignment_once.Steps.{plainly, offAlignOnce, membersPackedOnce, packedOnce, gapAlignOnce, paddingOnce, unionAlignOnce, judged, measuredOnce, bodyOnce}
 
 module _ {M : Type 0} where
@@ -63,12 +63,12 @@ module _ (B : Btf) where
 
 -- ---- alignments
 module _ {M : Type 0} where
-  coded-members : (ask : ℕ → Asking M Seen) → ((x : ℕ) (m : M) (k : ℕ) → Coded (ask x m k)) → (xs : List Member) (s : Seen) (m : M) (k : ℕ) → Coded (membersOnce ask s xs m k)
+  coded-members : (ask : ℕ → Asking M Remembered) → ((x : ℕ) (m : M) (k : ℕ) → Coded (ask x m k)) → (xs : List Member) (s : Remembered) (m : M) (k : ℕ) → Coded (membersOnce ask s xs m k)
   unfolding membersOnce
   coded-members ask h [] s m k = tt
   coded-members ask h (x ∷ xs) s m k = coded-then (ask (x .type-id) m (suc k)) (λ t m′ k′. membersOnce ask (widest s t) xs m′ k′) (h (x .type-id) m (suc k)) (λ t m′ k′. coded-members ask h xs (widest s t) m′ k′)
 
-  coded-type : (B : Btf) (ask : ℕ → Asking M Seen) → ((x : ℕ) (m : M) (k : ℕ) → Coded (ask x m k)) → (t : BtfType) (m : M) (k : ℕ) → Coded (typeOnce B ask t m k)
+  coded-type : (B : Btf) (ask : ℕ → Asking M Remembered) → ((x : ℕ) (m : M) (k : ℕ) → Coded (ask x m k)) → (t : BtfType) (m : M) (k : ℕ) → Coded (typeOnce B ask t m k)
   unfolding typeOnce
   coded-type B ask h Void m k = tt
   coded-type B ask h (Int n b) m k = tt
@@ -88,7 +88,7 @@ module _ {M : Type 0} where
   coded-type B ask h (DeclTag a n t c) m k = tt
   coded-type B ask h (TypeTag a n t) m k = h t m k
 
-  coded-taken : (left : ℕ) (s : Seen) (m : M) (k : ℕ) → Coded (taken left s m k)
+  coded-taken : (left : ℕ) (s : Remembered) (m : M) (k : ℕ) → Coded (taken left s m k)
   unfolding taken
   coded-taken left s m k = coded-if (leb (s .height) left) (found s m k) (refused tooDeep m k) tt (inl refl)
 
@@ -99,7 +99,7 @@ module _ {M : Type 0} where
     coded-align (suc left) id m k = go (λ t m′ k′. coded-align left t m′ k′) (K .recall m id)
       where
         go : ((t : ℕ) (m′ : M) (k′ : ℕ) → Coded (alignOnce K left B t m′ k′)) → (q : Known)
-            → Coded {M = M} {A = Seen} (elim q as (λ (q : Known). Once M Seen) [ known s ↦ taken (suc left) s m k | unknown ↦ onceThen (typeOnce B (λ t m′ k′. alignOnce K left B t m′ k′) (B .type-by-id id) m (suc k)) (keepOnce K id) ])
+            → Coded {M = M} {A = Remembered} (elim q as (λ (q : Known). Once M Remembered) [ known s ↦ taken (suc left) s m k | unknown ↦ onceThen (typeOnce B (λ t m′ k′. alignOnce K left B t m′ k′) (B .type-by-id id) m (suc k)) (keepOnce K id) ])
         go on (known s) = coded-taken (suc left) s m k
         go on unknown = coded-then (typeOnce B (λ t m′ k′. alignOnce K left B t m′ k′) (B .type-by-id id) m (suc k)) (keepOnce K id) (coded-type B (λ t m′ k′. alignOnce K left B t m′ k′) on (B .type-by-id id) m (suc k)) (λ s m′ k′. tt)
 

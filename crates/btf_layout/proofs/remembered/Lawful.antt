@@ -14,9 +14,9 @@ use Rattle.spec_c_dumper.specs.rules.Types.{Member, BtfType, Void, Int, Ptr, Ar
 use Rattle.spec_c_dumper.specs.rules.Layout.{larger, smaller, octets, alignMembers, alignOf, getAlignOf}
 use Rattle.spec_type_table.specs.Cells.{getField, putField}
 use Rattle.spec_type_table.proofs.Frame.{field-other}
-use Rattle.spec_c_dumper.specs.alignment_once.Once.{Seen, known, Keep, Lawful, Tells, memberCount}
+use Rattle.spec_c_dumper.specs.alignment_once.Once.{Remembered, known, Keep, Lawful, Tells, memberCount}
 use Rattle.spec_c_dumper.proofs.alignment_once.Right.{no-got, both-below, within-got, same-or}
-use Rattle.btf_layout.specs.remembered.Words.{seenWord, decoded, coded, counted, remembered, workKeep}
+use Rattle.btf_layout.specs.remembered.Words.{seenWord, decoded, coded, withVisits, remembered, workKeep}
 use Rattle.btf_layout.proofs.remembered.Laws.{coded-fits, coded-wide, coded-high, remember-none, remember-past, remember-here}
 
 -- a word of each type
@@ -24,11 +24,11 @@ abbrev pub Roomy : ℕ → List ℕ → Type 0
 Roomy types w = types * 16 ≤ length w / 4
 
 -- what a word holds
-abbrev pub FitsWord : Seen → Type 0
+abbrev pub FitsWord : Remembered → Type 0
 FitsWord s = (s .align ≤ 15) × (1 ≤ s .height) × (s .height ≤ 268435454)
 
 -- ---- one word
-module _ (s : Seen) where
+module _ (s : Remembered) where
   pub coded-is : FitsWord s → coded s ≡ s .height * 16 + s .align
   coded-is f = sym (coded-fits s (f .0) (f .2))
 
@@ -48,22 +48,22 @@ module _ (s : Seen) where
       (le-or-lt (s .align) 15)
 
 module _ (n id : ℕ) (w : List ℕ) where
-  counted-field : getField (counted n w) id 15 ≡ getField w id 15
-  unfolding counted
+  counted-field : getField (withVisits n w) id 15 ≡ getField w id 15
+  unfolding withVisits
   counted-field = field-other w 0 2 _ id 15 (omega arith) (omega arith) (λ e. omega arith)
 
-  counted-length : length (counted n w) ≡ length w
-  unfolding counted
+  counted-length : length (withVisits n w) ≡ length w
+  unfolding withVisits
   counted-length = put-length w (0 * 16 + 2) _
 
 pub remembered-length : (types id v n : ℕ) (w : List ℕ) → length (remembered types id v n w) ≡ length w
 unfolding remembered
 remembered-length types id v n w = by (eqb v 0) (leb types id)
   where
-    by : (p q : Bool) → length {A = ℕ} (elim p as (λ (x : Bool). List ℕ) [ true ↦ w | false ↦ elim q as (λ (x : Bool). List ℕ) [ true ↦ w | false ↦ putField (counted n w) id 15 v ] ]) ≡ length w
+    by : (p q : Bool) → length {A = ℕ} (elim p as (λ (x : Bool). List ℕ) [ true ↦ w | false ↦ elim q as (λ (x : Bool). List ℕ) [ true ↦ w | false ↦ putField (withVisits n w) id 15 v ] ]) ≡ length w
     by true q = refl
     by false true = refl
-    by false false = put-length (counted n w) (id * 16 + 15) v ∙ counted-length n id w
+    by false false = put-length (withVisits n w) (id * 16 + 15) v ∙ counted-length n id w
 
 module _ (types : ℕ) (B : Rules) where
   abbrev K : Keep (List ℕ)
@@ -73,20 +73,20 @@ module _ (types : ℕ) (B : Rules) where
   unfolding seenWord
   seen-is w id l = rw (lt-ltb id types l, seenWord)
 
-  module _ (id : ℕ) (s : Seen) (w : List ℕ) where
+  module _ (id : ℕ) (s : Remembered) (w : List ℕ) where
     abbrev n : ℕ
     n = memberCount (B .type-by-id id)
 
     abbrev u : List ℕ
     u = remembered types id (coded s) n w
 
-    u-is : (coded s ≡ 0 → ⊥) → id < types → u ≡ putField (counted n w) id 15 (coded s)
-    u-is nz l = sym (remember-here types id (coded s) n w nz l (counted n w) (putField (counted n w) id 15 (coded s)) refl refl)
+    u-is : (coded s ≡ 0 → ⊥) → id < types → u ≡ putField (withVisits n w) id 15 (coded s)
+    u-is nz l = sym (remember-here types id (coded s) n w nz l (withVisits n w) (putField (withVisits n w) id 15 (coded s)) refl refl)
 
     in-room : (coded s ≡ 0 → ⊥) → id < types → id * 16 + 15 < length w / 4 → decoded (seenWord types u id) ≡ known s
     in-room nz l r =
-        let q : id * 16 + 15 < length (counted n w) / 4 = subst (λ (x : ℕ). id * 16 + 15 < x / 4) (sym (counted-length n id w)) r in
-        ap decoded (seen-is u id l ∙ ap (λ (x : List ℕ). getField x id 15) (u-is nz l) ∙ get-put-same (counted n w) (id * 16 + 15) (coded s) q) ∙ decoded-back s nz
+        let q : id * 16 + 15 < length (withVisits n w) / 4 = subst (λ (x : ℕ). id * 16 + 15 < x / 4) (sym (counted-length n id w)) r in
+        ap decoded (seen-is u id l ∙ ap (λ (x : List ℕ). getField x id 15) (u-is nz l) ∙ get-put-same (withVisits n w) (id * 16 + 15) (coded s) q) ∙ decoded-back s nz
 
     work-kept : (decoded (seenWord types u id) ≡ known s) ⊎ (decoded (seenWord types u id) ≡ decoded (seenWord types w id))
     work-kept =
@@ -96,8 +96,8 @@ module _ (types : ℕ) (B : Rules) where
         (λ l. inr (ap (λ (x : List ℕ). decoded (seenWord types x id)) (sym (remember-past types id (coded s) n w nz l))))
         (λ l. ⊎-elim
         (λ r. inr (
-        let q : length (counted n w) / 4 ≤ id * 16 + 15 = subst (λ (x : ℕ). x / 4 ≤ id * 16 + 15) (sym (counted-length n id w)) r in
-        ap decoded (seen-is u id l ∙ ap (λ (x : List ℕ). getField x id 15) (u-is nz l ∙ put-out (counted n w) (id * 16 + 15) (coded s) q) ∙ counted-field n id w ∙ sym (seen-is w id l))))
+        let q : length (withVisits n w) / 4 ≤ id * 16 + 15 = subst (λ (x : ℕ). x / 4 ≤ id * 16 + 15) (sym (counted-length n id w)) r in
+        ap decoded (seen-is u id l ∙ ap (λ (x : List ℕ). getField x id 15) (u-is nz l ∙ put-out (withVisits n w) (id * 16 + 15) (coded s) q) ∙ counted-field n id w ∙ sym (seen-is w id l))))
         (λ r. inl (in-room nz l r))
         (le-or-lt (length w / 4) (id * 16 + 15)))
         (le-or-lt types id))
@@ -106,10 +106,10 @@ module _ (types : ℕ) (B : Rules) where
     unfolding seenWord remembered
     work-other d ne = ap (λ (x : ℕ). elim (ltb d types) as (λ (b : Bool). ℕ) [ true ↦ x | false ↦ 0 ]) (by (eqb (coded s) 0) (leb types id))
       where
-        by : (p q : Bool) → getField (elim p as (λ (x : Bool). List ℕ) [ true ↦ w | false ↦ elim q as (λ (x : Bool). List ℕ) [ true ↦ w | false ↦ putField (counted n w) id 15 (coded s) ] ]) d 15 ≡ getField w d 15
+        by : (p q : Bool) → getField (elim p as (λ (x : Bool). List ℕ) [ true ↦ w | false ↦ elim q as (λ (x : Bool). List ℕ) [ true ↦ w | false ↦ putField (withVisits n w) id 15 (coded s) ] ]) d 15 ≡ getField w d 15
         by true q = refl
         by false true = refl
-        by false false = get-put-other (counted n w) (id * 16 + 15) (d * 16 + 15) (coded s) (λ e. ne (omega arith)) ∙ counted-field n d w
+        by false false = get-put-other (withVisits n w) (id * 16 + 15) (d * 16 + 15) (coded s) (λ e. ne (omega arith)) ∙ counted-field n d w
 
     work-same : FitsWord s → Roomy types w → id < types → decoded (seenWord types u id) ≡ known s
     work-same f g l = in-room (λ z. omega (arith, coded-is s f, f .1)) l (omega arith)
@@ -172,7 +172,7 @@ module _ (B : Rules) (small : B .ptr-sz ≤ 15) where
   unfolding getAlignOf
   no-calls id = refl
 
-  pub tells-fits : (id : ℕ) (s : Seen) → Tells B id s → s .height ≤ 512 → FitsWord s
+  pub tells-fits : (id : ℕ) (s : Remembered) → Tells B id s → s .height ≤ 512 → FitsWord s
   tells-fits id s t l = (
     subst Small (t (s .height) ∙ within-got s (s .height) (omega arith)) (align-small (s .height) id),
     ⊎-elim (λ h. h) (λ h. let z : s .height ≤ 0 = omega arith in absurd (no-got 12 (s .align) (sym (no-calls id) ∙ t 0 ∙ within-got s 0 z))) (le-or-lt 1 (s .height)),

@@ -19,8 +19,8 @@ use Rattle.btf_layout.specs.declared.remembered.Seen.{Seen as Code}
 use Rattle.btf_layout.specs.declared.remembered.Once.{Once as Answer}
 use Rattle.btf_layout.specs.declared.remembered.Once.the-variants.{Found, No}
 use Rattle.btf_layout.specs.declared.remembered.Step.the-variants.{Own, Through, Members}
-use Rattle.spec_c_dumper.specs.alignment_once.Once.{Seen, Once as Told}
-use Rattle.btf_layout.specs.remembered.Words.{seenWord, coded, counted, remembered, seenIs, onceOf, heightOf, takenBy, keptWith, stepAt}
+use Rattle.spec_c_dumper.specs.alignment_once.Once.{Remembered, Once as Told}
+use Rattle.btf_layout.specs.remembered.Words.{seenWord, coded, withVisits, remembered, seenIs, onceOf, heightOf, takenBy, keptWith, stepAt}
 
 -- ---- words
 module _ (types : ℕ) (w : List ℕ) (id : ℕ) where
@@ -32,7 +32,7 @@ module _ (types : ℕ) (w : List ℕ) (id : ℕ) where
   unfolding seenWord
   seen-past l = rw (le-ltb id types l, seenWord)
 
-module _ (s : Seen) where
+module _ (s : Remembered) where
   pub coded-wide : 15 < s .align → 0 ≡ coded s
   unfolding coded
   coded-wide l = rw (lt-ltb 15 (s .align) l, coded)
@@ -46,14 +46,14 @@ module _ (s : Seen) where
   coded-fits h l = rw (le-ltb 15 (s .align) h, coded, le-ltb 268435454 (s .height) l)
 
 module _ (w : List ℕ) (n g : ℕ) (e : g ≡ getField w 0 2) where
-  pub count-fits : (u : List ℕ) → g + n + 1 < 4294967296 → u ≡ putField w 0 2 (g + n + 1) → u ≡ counted n w
-  unfolding counted smaller
+  pub count-fits : (u : List ℕ) → g + n + 1 < 4294967296 → u ≡ putField w 0 2 (g + n + 1) → u ≡ withVisits n w
+  unfolding withVisits smaller
   count-fits u l q =
       let f : leb (getField w 0 2 + n + 1) 4294967295 ≡ true = le-leb (getField w 0 2 + n + 1) 4294967295 (subst (λ (x : ℕ). x + n + 1 ≤ 4294967295) e (omega arith)) in
       q ∙ ap (λ (x : ℕ). putField w 0 2 (x + n + 1)) e ∙ ap (putField w 0 2) (rw (f, smaller))
 
-  pub count-over : (u : List ℕ) → 4294967296 ≤ g + n + 1 → u ≡ putField w 0 2 4294967295 → u ≡ counted n w
-  unfolding counted smaller
+  pub count-over : (u : List ℕ) → 4294967296 ≤ g + n + 1 → u ≡ putField w 0 2 4294967295 → u ≡ withVisits n w
+  unfolding withVisits smaller
   count-over u l q =
       let f : leb (getField w 0 2 + n + 1) 4294967295 ≡ false = lt-leb (getField w 0 2 + n + 1) 4294967295 (subst (λ (x : ℕ). 4294967295 < x + n + 1) e (omega arith)) in
       q ∙ ap (putField w 0 2) (rw (f, smaller))
@@ -68,7 +68,7 @@ module _ (types id v n : ℕ) (w : List ℕ) where
     unfolding remembered
     remember-past l = rw (ne-eqb v 0 nv, remembered, le-leb types id l)
 
-    pub remember-here : id < types → (w₁ w₂ : List ℕ) → w₁ ≡ counted n w → w₂ ≡ putField w₁ id 15 v → w₂ ≡ remembered types id v n w
+    pub remember-here : id < types → (w₁ w₂ : List ℕ) → w₁ ≡ withVisits n w → w₂ ≡ putField w₁ id 15 v → w₂ ≡ remembered types id v n w
     unfolding remembered
     remember-here l w₁ w₂ e₁ e₂ = rw (ne-eqb v 0 nv, remembered, lt-leb types id l) (e₂ ∙ ap (λ (u : List ℕ). putField u id 15 v) e₁)
 
@@ -97,7 +97,7 @@ module _ (types id n : ℕ) (r : Answer) (w : List ℕ) where
       add-one′ : s .height + 1 ≡ suc (s .height)
       add-one′ = omega arith
 
-      keptBy : Seen → Told (List ℕ) Seen
+      keptBy : Remembered → Told (List ℕ) Remembered
       keptBy x = onceOf (Found (record { align = x .align; height = x .height })) (remembered types id (coded x) n w)
 
   pub keep-no : (c : ℕ) → r ≡ No c → onceOf (No c) w ≡ keptWith types id n r w

@@ -16,12 +16,12 @@ use Rattle.spec_c_dumper.specs.rules.Layout.{smaller, alignOf, getAlignOf}
 use Rattle.spec_type_table.specs.Cells.{getField, putField}
 use Rattle.spec_type_table.proofs.Frame.{field-other}
 use Rattle.spec_c_dumper.specs.needs.Needs.{kids}
-use Rattle.spec_c_dumper.specs.alignment_once.Once.{Seen, Known, unknown, known, Keep, Once, found, refused, Asking, onceThen, answerOf, memoryAfter, above, alone, widest, membersOnce, taken, typeOnce, keepOnce, alignOnce, Right, memberCount, membersTo, paidTo}
+use Rattle.spec_c_dumper.specs.alignment_once.Once.{Remembered, Known, unknown, known, Keep, Once, found, refused, Asking, onceThen, askOnce, memoryAfter, above, alone, widest, membersOnce, taken, typeOnce, keepOnce, alignOnce, Right, memberCount, membersTo, paidTo}
 use Rattle.spec_c_dumper.proofs.alignment_once.Right.{Told, align-of, above-tells, taken-found, taken-refused, type-told, not-inside, told, same-answer, stays-right}
 use Rattle.spec_c_dumper.proofs.alignment_once.Counted.{paid-more, paid-most}
 use Rattle.btf_layout.specs.declared.remembered.Once.{Once as Answer}
 use Rattle.btf_layout.specs.declared.remembered.Once.the-variants.{Found, No}
-use Rattle.btf_layout.specs.remembered.Words.{coded, counted, workKeep, onceOf, forget, onceWith}
+use Rattle.btf_layout.specs.remembered.Words.{coded, withVisits, workKeep, onceOf, forget, onceWith}
 use Rattle.btf_layout.proofs.remembered.Laws.{remember-here}
 use Rattle.btf_layout.proofs.remembered.Lawful.{Roomy, FitsWord, coded-is, work-lawful, tells-fits}
 
@@ -30,13 +30,13 @@ unfolding memoryAfter onceOf
 answer-memory (Found s) u = refl
 answer-memory (No c) u = refl
 
-forget-memory : (x : Once (List ℕ) Seen) → memoryAfter (forget x) ≡ memoryAfter x
+forget-memory : (x : Once (List ℕ) Remembered) → memoryAfter (forget x) ≡ memoryAfter x
 unfolding memoryAfter forget
 forget-memory (found s m k) = refl
 forget-memory (refused c m k) = refl
 
-forget-answer : (x : Once (List ℕ) Seen) → answerOf (forget x) ≡ answerOf x
-unfolding answerOf forget
+forget-answer : (x : Once (List ℕ) Remembered) → askOnce (forget x) ≡ askOnce x
+unfolding askOnce forget
 forget-answer (found s m k) = refl
 forget-answer (refused c m k) = refl
 
@@ -52,38 +52,38 @@ module _ (types : ℕ) (B : Rules) (small : B .ptr-sz ≤ 15) (below : (x y : �
   abbrev pub Counted : List ℕ → Type 0
   Counted w = Roomy types w × (getField w 0 2 ≡ paid w)
 
-  abbrev pub Holds : Once (List ℕ) Seen → Type 0
+  abbrev pub Holds : Once (List ℕ) Remembered → Type 0
   Holds (found s m k) = Counted m
   Holds (refused c m k) = Counted m
 
   -- one more entry
-  module _ (id : ℕ) (l : id < types) (s : Seen) (f : FitsWord s) (w : List ℕ) (h : Counted w) (u : K .recall w id ≡ unknown) where
+  module _ (id : ℕ) (l : id < types) (s : Remembered) (f : FitsWord s) (w : List ℕ) (h : Counted w) (u : K .recall w id ≡ unknown) where
     more-paid : paid (K .remember id s w) ≡ paid w + suc (memberCount (B .type-by-id id))
     more-paid = paid-more B (K .recall w) (K .recall (K .remember id s w)) id (work-lawful types B .other id s w) s u (work-lawful types B .same id s w f (h .0) l) types l
 
     more-counted : getField (K .remember id s w) 0 2 ≡ getField w 0 2 + memberCount (B .type-by-id id) + 1
-    unfolding workKeep counted smaller
+    unfolding workKeep withVisits smaller
     more-counted =
         let nz : coded s ≡ 0 → ⊥ = λ z. omega (arith, coded-is s f, f .1) in
         let b : getField w 0 2 + memberCount (B .type-by-id id) + 1 ≤ 4294967295 = omega (arith, h .1, more-paid, paid-most B (K .recall (K .remember id s w)) types, few) in
         let q : 0 * 16 + 2 < length w / 4 = omega (arith, h .0, l) in
-        ap (λ (x : List ℕ). getField x 0 2) (sym (remember-here types id (coded s) (memberCount (B .type-by-id id)) w nz l (counted (memberCount (B .type-by-id id)) w) (putField (counted (memberCount (B .type-by-id id)) w) id 15 (coded s)) refl refl))
-        ∙ field-other (counted (memberCount (B .type-by-id id)) w) id 15 (coded s) 0 2 (omega arith) (omega arith) (λ e. omega arith)
+        ap (λ (x : List ℕ). getField x 0 2) (sym (remember-here types id (coded s) (memberCount (B .type-by-id id)) w nz l (withVisits (memberCount (B .type-by-id id)) w) (putField (withVisits (memberCount (B .type-by-id id)) w) id 15 (coded s)) refl refl))
+        ∙ field-other (withVisits (memberCount (B .type-by-id id)) w) id 15 (coded s) 0 2 (omega arith) (omega arith) (λ e. omega arith)
         ∙ get-put-same w (0 * 16 + 2) _ q
         ∙ (let e : leb (getField w 0 2 + memberCount (B .type-by-id id) + 1) 4294967295 ≡ true = le-leb _ _ b in rw (e, smaller))
 
     more : Counted (K .remember id s w)
     more = (work-lawful types B .good id s w (h .0), omega (arith, more-counted, more-paid, h .1))
 
-  module _ (left : ℕ) (ask : ℕ → Asking (List ℕ) Seen) (t : (id : ℕ) (m : List ℕ) (k : ℕ) → Right K B m → Told K B (align-of K B id) left m (ask id m k))
+  module _ (left : ℕ) (ask : ℕ → Asking (List ℕ) Remembered) (t : (id : ℕ) (m : List ℕ) (k : ℕ) → Right K B m → Told K B (align-of K B id) left m (ask id m k))
       (c : (id : ℕ) (m : List ℕ) (k : ℕ) → id < types → Right K B m → Counted m → Holds (ask id m k)) where
-    members-hold : (xs : List Member) → ((y : ℕ) → List·Memᴰ y (memberTypes xs) → y < types) → (s : Seen) (m : List ℕ) (k : ℕ) → Right K B m → Counted m → Holds (membersOnce ask s xs m k)
+    members-hold : (xs : List Member) → ((y : ℕ) → List·Memᴰ y (memberTypes xs) → y < types) → (s : Remembered) (m : List ℕ) (k : ℕ) → Right K B m → Counted m → Holds (membersOnce ask s xs m k)
     unfolding membersOnce onceThen
     members-hold [] b s m k r g = g
     members-hold (x ∷ xs) b s m k r g =
         go (λ y m′ k′. members-hold xs (λ z i. b z (List·Memᴰ·tail i)) (widest s y) m′ k′) (ask (x .type-id) m (suc k)) (t (x .type-id) m (suc k) r) (c (x .type-id) m (suc k) (b (x .type-id) (List·Memᴰ·head refl)) r g)
       where
-        go : ((y : Seen) (m′ : List ℕ) (k′ : ℕ) → Right K B m′ → Counted m′ → Holds (membersOnce ask (widest s y) xs m′ k′)) → (q : Once (List ℕ) Seen) → Told K B (align-of K B (x .type-id)) left m q → Holds q → Holds (onceThen q (λ y m′ k′. membersOnce ask (widest s y) xs m′ k′))
+        go : ((y : Remembered) (m′ : List ℕ) (k′ : ℕ) → Right K B m′ → Counted m′ → Holds (membersOnce ask (widest s y) xs m′ k′)) → (q : Once (List ℕ) Remembered) → Told K B (align-of K B (x .type-id)) left m q → Holds q → Holds (onceThen q (λ y m′ k′. membersOnce ask (widest s y) xs m′ k′))
         go on (found y m′ k′) w d = on y m′ k′ (w .2) d
         go on (refused e m′ k′) w d = d
 
@@ -107,10 +107,10 @@ module _ (types : ℕ) (B : Rules) (small : B .ptr-sz ≤ 15) (below : (x y : �
     type-holds (DeclTag a i x j) b m k r g = g
     type-holds (TypeTag a i x) b m k r g = c x m k (b x (List·Memᴰ·head refl)) r g
 
-  taken-holds : (left : ℕ) (s : Seen) (m : List ℕ) (k : ℕ) → Counted m → Holds (taken left s m k)
+  taken-holds : (left : ℕ) (s : Remembered) (m : List ℕ) (k : ℕ) → Counted m → Holds (taken left s m k)
   taken-holds left s m k g = ⊎-elim (λ l. subst Holds (sym (taken-found left s m k l)) g) (λ l. subst Holds (sym (taken-refused left s m k l)) g) (le-or-lt (s .height) left)
 
-  keep-holds : (left id : ℕ) → left < 512 → (m : List ℕ) → id < types → K .recall m id ≡ unknown → (r : Once (List ℕ) Seen) → Told K B (λ i. alignOf B (getAlignOf i B) (B .type-by-id id)) left m r → Holds r → Holds (onceThen r (keepOnce K id))
+  keep-holds : (left id : ℕ) → left < 512 → (m : List ℕ) → id < types → K .recall m id ≡ unknown → (r : Once (List ℕ) Remembered) → Told K B (λ i. alignOf B (getAlignOf i B) (B .type-by-id id)) left m r → Holds r → Holds (onceThen r (keepOnce K id))
   unfolding onceThen keepOnce
   keep-holds left id b m l u (refused c m′ k′) t d = d
   keep-holds left id b m l u (found s m′ k′) t d = by (K .recall m′ id) refl
@@ -125,21 +125,21 @@ module _ (types : ℕ) (B : Rules) (small : B .ptr-sz ≤ 15) (below : (x y : �
   align-holds (suc left) id b m k l r g = go (λ t m′ k′. align-holds left t (omega arith) m′ k′) (K .recall m id) refl
     where
       go : ((t : ℕ) (m′ : List ℕ) (k′ : ℕ) → t < types → Right K B m′ → Counted m′ → Holds (alignOnce K left B t m′ k′)) → (q : Known) → K .recall m id ≡ q
-          → Holds (elim q as (λ (q : Known). Once (List ℕ) Seen) [ known s ↦ taken (suc left) s m k | unknown ↦ onceThen (typeOnce B (λ t m′ k′. alignOnce K left B t m′ k′) (B .type-by-id id) m (suc k)) (keepOnce K id) ])
+          → Holds (elim q as (λ (q : Known). Once (List ℕ) Remembered) [ known s ↦ taken (suc left) s m k | unknown ↦ onceThen (typeOnce B (λ t m′ k′. alignOnce K left B t m′ k′) (B .type-by-id id) m (suc k)) (keepOnce K id) ])
       go on (known s) e = taken-holds (suc left) s m k g
       go on unknown e =
           keep-holds left id b m l e (typeOnce B (λ t m′ k′. alignOnce K left B t m′ k′) (B .type-by-id id) m (suc k))
           (type-told K B left (λ t m′ k′. alignOnce K left B t m′ k′) (λ t m′ k′. told K B types (Roomy types) FitsWord (work-lawful types B) left t m′ k′) (B .type-by-id id) m (suc k) r)
           (type-holds left (λ t m′ k′. alignOnce K left B t m′ k′) (λ t m′ k′. told K B types (Roomy types) FitsWord (work-lawful types B) left t m′ k′) on (B .type-by-id id) (below id) m (suc k) r g)
 
-  holds-memory : (x : Once (List ℕ) Seen) → Holds x → Counted (memoryAfter x)
+  holds-memory : (x : Once (List ℕ) Remembered) → Holds x → Counted (memoryAfter x)
   unfolding memoryAfter
   holds-memory (found s m k) h = h
   holds-memory (refused c m k) h = h
 
   -- ---- what the code promises, of such a work
   module _ (left id : ℕ) (b : left ≤ 512) (l : id < types) (w : List ℕ) (right : Right K B w) (g : Counted w) (r : Answer) (u : List ℕ) (e : onceOf r u ≡ onceWith types B left id w) where
-    abbrev X : Once (List ℕ) Seen
+    abbrev X : Once (List ℕ) Remembered
     X = alignOnce K left B id w 0
 
     memory-is : u ≡ memoryAfter X
@@ -147,10 +147,10 @@ module _ (types : ℕ) (B : Rules) (small : B .ptr-sz ≤ 15) (below : (x y : �
     memory-is = sym (answer-memory r u) ∙ ap memoryAfter e ∙ forget-memory X
 
     -- "Answers and refusals .. must equal those of the plain way"
-    pub says-plain : askThen (answerOf (onceOf r u)) (λ s. got (s .align)) ≡ getAlignOf left B id
+    pub says-plain : askThen (askOnce (onceOf r u)) (λ s. got (s .align)) ≡ getAlignOf left B id
     unfolding onceWith
     says-plain =
-        ap (λ (x : Ask Seen). askThen x (λ s. got (s .align))) (ap answerOf e ∙ forget-answer X)
+        ap (λ (x : Ask Remembered). askThen x (λ s. got (s .align))) (ap askOnce e ∙ forget-answer X)
         ∙ same-answer K B types (Roomy types) FitsWord (work-lawful types B) left id w 0 right
 
     pub right-after : Right K B u

@@ -10,7 +10,7 @@ use borrow.Author.Tests.{eqb-true, ne-eqb}
 use Rattle.spec_bytes.specs.words.Words.{pick}
 use Rattle.spec_type_table.specs.declared.types.TypeTable.{TypeTable}
 use Rattle.btf_open_causes.specs.references.Any.{anyBelow}
-use Rattle.btf_open_causes.specs.references.Followed.{among, countOf, entryAt, kindAt, countAt, followedCount, followedId}
+use Rattle.btf_open_causes.specs.references.Followed.{isKindAmong, typeCount, entryAt, kindAt, countAt, followedCount, followedId}
 use Rattle.btf_open_causes.specs.prototypes.Track.{Leads, here, on, leadsTo}
 use Rattle.btf_open_causes.specs.prototypes.Prototypes.{through, holders, whatOf, nextOf, trackOf, asksAt, asksOf, asker, anyLeads, ToProto, ends, passes, ProtoInside}
 use Rattle.btf_open_causes.specs.prototypes.Cells.{Rest, Answer, Part}
@@ -20,41 +20,41 @@ use Rattle.btf_open_causes.proofs.prototypes.Tracks.{leads-to}
 
 module _ (b : TypeTable) (start : List ℕ) where
   module _ (x k : ℕ) (e : k ≡ kindAt b start x) where
-    what-passes : among through k ≡ true → 1 ≡ whatOf b start x
+    what-passes : isKindAmong through k ≡ true → 1 ≡ whatOf b start x
     unfolding whatOf
     what-passes f = rw (whatOf, ← e, f)
 
     pub what-proto : k ≡ 13 → 2 ≡ whatOf b start x
-    unfolding whatOf among
+    unfolding whatOf isKindAmong
     what-proto f = rw (whatOf, ← e, f)
 
     pub what-one : (k ≡ 3) ⊎ (k ≡ 18) → 1 ≡ whatOf b start x
-    unfolding among
+    unfolding isKindAmong
     what-one o = what-passes (⊎-elim (λ f. rw f) (λ f. rw f) o)
 
     pub what-through : 8 ≤ k → k < 12 → 1 ≡ whatOf b start x
-    unfolding among
-    what-through h l = what-passes (steady (among through) true 8 4 k (refl, (refl, (refl, (refl, tt)))) h l)
+    unfolding isKindAmong
+    what-through h l = what-passes (steady (isKindAmong through) true 8 4 k (refl, (refl, (refl, (refl, tt)))) h l)
 
     pub what-none : ((k ≡ 3) ⊎ (k ≡ 18) → ⊥) → (k ≡ 13 → ⊥) → (k < 8) ⊎ (12 ≤ k) → 0 ≡ whatOf b start x
     unfolding whatOf
     what-none m n o = rw (whatOf, ← e, off o, ne-eqb k 13 n)
       where
-        off : (k < 8) ⊎ (12 ≤ k) → among through k ≡ false
+        off : (k < 8) ⊎ (12 ≤ k) → isKindAmong through k ≡ false
         off (inl h) = apart through k ((λ f. m (inl f)), (omega arith, (omega arith, (omega arith, (omega arith, ((λ f. m (inr f)), tt))))))
         off (inr h) = apart through k ((λ f. m (inl f)), (omega arith, (omega arith, (omega arith, (omega arith, ((λ f. m (inr f)), tt))))))
 
 -- members and elements of the record of a kind at a place
 module _ (b : TypeTable) (s : List ℕ) (k at : ℕ) where
   pub asks-inside : 3 ≤ k → k < 6 → (n : ℕ) → n ≡ countAt b s k at → n ≡ asksAt b s k at
-  unfolding asksAt among
-  asks-inside h l n f = rw (asksAt, steady (among holders) true 3 3 k (refl, (refl, (refl, tt))) h l) f
+  unfolding asksAt isKindAmong
+  asks-inside h l n f = rw (asksAt, steady (isKindAmong holders) true 3 3 k (refl, (refl, (refl, tt))) h l) f
 
   pub asks-none : (k < 3) ⊎ (6 ≤ k) → 0 ≡ asksAt b s k at
   unfolding asksAt
   asks-none o = rw (asksAt, off o)
     where
-      off : (k < 3) ⊎ (6 ≤ k) → among holders k ≡ false
+      off : (k < 3) ⊎ (6 ≤ k) → isKindAmong holders k ≡ false
       off (inl h) = apart holders k (omega arith, (omega arith, (omega arith, tt)))
       off (inr h) = apart holders k (omega arith, (omega arith, (omega arith, tt)))
 
@@ -90,7 +90,7 @@ module _ (b : TypeTable) (s start : List ℕ) where
       → ((v : ℕ) → v < i → asker b s start v ≡ false) → (v : ℕ) → v < i + 1 → asker b s start v ≡ false
   all-more i cell r p t h = one-more (asker b s start) i h (sym (p .is) ∙ t)
 
-  module _ (n i : ℕ) (e : n ≡ countOf b) where
+  module _ (n i : ℕ) (e : n ≡ typeCount b) where
     pub all-yes : (cell : List ℕ) (r : Bool) → i < n → Part b s start i cell r → r ≡ true → true ≡ anyLeads b s start
     unfolding anyLeads
     all-yes cell r h p t = found-below (asker b s start) n _ i e r h (p .is) t
@@ -100,30 +100,30 @@ module _ (b : TypeTable) (s start : List ℕ) where
     all-no h a = none-found (asker b s start) n _ i e h a
 
   -- members and elements, and the walk, in the table's own terms
-  asks-kind : (x k : ℕ) → k < asksOf b s start x → (among holders (kindAt b start x) ≡ true) × (k < followedCount b s start x)
+  asks-kind : (x k : ℕ) → k < asksOf b s start x → (isKindAmong holders (kindAt b start x) ≡ true) × (k < followedCount b s start x)
   unfolding asksOf asksAt followedCount
-  asks-kind x k h = go (among holders (kindAt b start x)) refl h
+  asks-kind x k h = go (isKindAmong holders (kindAt b start x)) refl h
     where
-      go : (t : Bool) → among holders (kindAt b start x) ≡ t → k < pick t (followedCount b s start x) 0 → (among holders (kindAt b start x) ≡ true) × (k < followedCount b s start x)
+      go : (t : Bool) → isKindAmong holders (kindAt b start x) ≡ t → k < pick t (followedCount b s start x) 0 → (isKindAmong holders (kindAt b start x) ≡ true) × (k < followedCount b s start x)
       go true e l = (e, l)
       go false e l = absurd (omega arith)
 
-  asks-holder : (x k : ℕ) → among holders (kindAt b start x) ≡ true → k < followedCount b s start x → k < asksOf b s start x
+  asks-holder : (x k : ℕ) → isKindAmong holders (kindAt b start x) ≡ true → k < followedCount b s start x → k < asksOf b s start x
   unfolding asksOf asksAt followedCount
   asks-holder x k e h = rw (asksOf, asksAt, e) h
 
-  what-one-kind : (x : ℕ) → whatOf b start x ≡ 1 → among through (kindAt b start x) ≡ true
+  what-one-kind : (x : ℕ) → whatOf b start x ≡ 1 → isKindAmong through (kindAt b start x) ≡ true
   unfolding whatOf
-  what-one-kind x e = go (among through (kindAt b start x)) (eqb (kindAt b start x) 13) refl e
+  what-one-kind x e = go (isKindAmong through (kindAt b start x)) (eqb (kindAt b start x) 13) refl e
     where
-      go : (t p : Bool) → among through (kindAt b start x) ≡ t → pick t 1 (pick p 2 0) ≡ 1 → among through (kindAt b start x) ≡ true
+      go : (t p : Bool) → isKindAmong through (kindAt b start x) ≡ t → pick t 1 (pick p 2 0) ≡ 1 → isKindAmong through (kindAt b start x) ≡ true
       go true p f q = f
       go false true f q = absurd (omega arith)
       go false false f q = absurd (omega arith)
 
   what-two-kind : (x : ℕ) → whatOf b start x ≡ 2 → kindAt b start x ≡ 13
   unfolding whatOf
-  what-two-kind x e = go (among through (kindAt b start x)) (eqb (kindAt b start x) 13) refl e
+  what-two-kind x e = go (isKindAmong through (kindAt b start x)) (eqb (kindAt b start x) 13) refl e
     where
       go : (t p : Bool) → eqb (kindAt b start x) 13 ≡ p → pick t 1 (pick p 2 0) ≡ 2 → kindAt b start x ≡ 13
       go true p f q = absurd (omega arith)
@@ -145,9 +145,9 @@ module _ (b : TypeTable) (s start : List ℕ) where
   unfolding anyLeads asker
   any-leads = (find, show)
     where
-      find : anyBelow (countOf b) (asker b s start) ≡ true → ProtoInside b s start
+      find : anyBelow (typeCount b) (asker b s start) ≡ true → ProtoInside b s start
       find e =
-          let p = any-find (countOf b) (asker b s start) e in
+          let p = any-find (typeCount b) (asker b s start) e in
           let q = any-find (asksOf b s start (p .0)) (λ k. leadsTo (trackOf b s start) (followedId b s start (p .0) k)) (p .2) in
           let h = asks-kind (p .0) (q .0) (q .1) in
           record {
@@ -159,8 +159,8 @@ module _ (b : TypeTable) (s start : List ℕ) where
             leads = to-proto (leads-to (trackOf b s start) (followedId b s start (p .0) (q .0)) .0 (q .2));
           }
 
-      show : ProtoInside b s start → anyBelow (countOf b) (asker b s start) ≡ true
+      show : ProtoInside b s start → anyBelow (typeCount b) (asker b s start) ≡ true
       show r =
-          any-yes (countOf b) (asker b s start) (r .x) (r .type)
+          any-yes (typeCount b) (asker b s start) (r .x) (r .type)
           (any-yes (asksOf b s start (r .x)) (λ k. leadsTo (trackOf b s start) (followedId b s start (r .x) k)) (r .k) (asks-holder (r .x) (r .k) (r .holder) (r .inside))
           (leads-to (trackOf b s start) (followedId b s start (r .x) (r .k)) .1 (from-proto (r .leads))))

@@ -9,29 +9,29 @@ use lib.Dec.{ltb}
 use borrow.Author.Tests.{lt-ltb, le-ltb, ltb-false}
 use Rattle.spec_type_table.specs.declared.types.TypeTable.{TypeTable}
 use Rattle.btf_open_causes.specs.references.Any.{anyBelow}
-use Rattle.btf_open_causes.specs.references.Followed.{among, countOf, kindAt, followedCount, followedId}
+use Rattle.btf_open_causes.specs.references.Followed.{isKindAmong, typeCount, kindAt, followedCount, followedId}
 use Rattle.btf_open_causes.specs.references.References.{refused, isBad, isSomeBad, hasBadReference, BadReference}
 use Rattle.btf_open_causes.proofs.references.Any.{any-find, any-yes, one-more, found-below, none-found}
 use Rattle.btf_open_causes.proofs.references.Accessors.{steady, apart}
 
 module _ (b : TypeTable) (start : List ℕ) where
-  module _ (y n : ℕ) (e : n ≡ countOf b) where
+  module _ (y n : ℕ) (e : n ≡ typeCount b) where
     pub bad-out : n ≤ y → true ≡ isBad b start y
     unfolding isBad
     bad-out h = rw (isBad, ← e, le-ltb y n h)
 
     module _ (h : y < n) (k : ℕ) (f : k ≡ kindAt b start y) where
-      inside : (t : Bool) → among refused k ≡ t → t ≡ isBad b start y
+      inside : (t : Bool) → isKindAmong refused k ≡ t → t ≡ isBad b start y
       unfolding isBad
       inside t g = rw (isBad, ← e, lt-ltb y n h, ← f) (sym g)
 
       pub bad-one : (k ≡ 12) ⊎ (k ≡ 17) → true ≡ isBad b start y
-      unfolding among
+      unfolding isKindAmong
       bad-one o = inside true (⊎-elim (λ g. rw g) (λ g. rw g) o)
 
       pub bad-two : 14 ≤ k → k < 16 → true ≡ isBad b start y
-      unfolding among
-      bad-two a c = inside true (steady (among refused) true 14 2 k (refl, (refl, tt)) a c)
+      unfolding isKindAmong
+      bad-two a c = inside true (steady (isKindAmong refused) true 14 2 k (refl, (refl, tt)) a c)
 
       pub bad-none : ((k ≡ 12) ⊎ (k ≡ 17) → ⊥) → (k < 14) ⊎ (16 ≤ k) → false ≡ isBad b start y
       bad-none m (inl h) = inside false (apart refused k ((λ g. m (inl g)), (omega arith, (omega arith, ((λ g. m (inr g)), tt)))))
@@ -56,7 +56,7 @@ module _ (b : TypeTable) (s start : List ℕ) where
       → (v : ℕ) → v < x + 1 → isSomeBad b s start v ≡ false
   all-more x r h e t = one-more (isSomeBad b s start) x h (sym e ∙ t)
 
-  module _ (n x : ℕ) (e : n ≡ countOf b) where
+  module _ (n x : ℕ) (e : n ≡ typeCount b) where
     pub all-yes : (r : Bool) → x < n → r ≡ isSomeBad b s start x → r ≡ true → true ≡ hasBadReference b s start
     unfolding hasBadReference
     all-yes r h f t = found-below (isSomeBad b s start) n _ x e r h f t
@@ -65,33 +65,33 @@ module _ (b : TypeTable) (s start : List ℕ) where
     unfolding hasBadReference
     all-no h a = none-found (isSomeBad b s start) n _ x e h a
 
-  bad-cases : (y : ℕ) → (isBad b start y ≡ true) ↔ ((countOf b ≤ y) ⊎ (among refused (kindAt b start y) ≡ true))
+  bad-cases : (y : ℕ) → (isBad b start y ≡ true) ↔ ((typeCount b ≤ y) ⊎ (isKindAmong refused (kindAt b start y) ≡ true))
   unfolding isBad
-  bad-cases y = (go (ltb y (countOf b)) refl, back (ltb y (countOf b)) refl)
+  bad-cases y = (go (ltb y (typeCount b)) refl, back (ltb y (typeCount b)) refl)
     where
-      go : (t : Bool) → ltb y (countOf b) ≡ t → (elim t as (λ z. Bool) [ true ↦ among refused (kindAt b start y) | false ↦ true ]) ≡ true
-          → (countOf b ≤ y) ⊎ (among refused (kindAt b start y) ≡ true)
+      go : (t : Bool) → ltb y (typeCount b) ≡ t → (elim t as (λ z. Bool) [ true ↦ isKindAmong refused (kindAt b start y) | false ↦ true ]) ≡ true
+          → (typeCount b ≤ y) ⊎ (isKindAmong refused (kindAt b start y) ≡ true)
       go true p q = inr q
-      go false p q = inl (ltb-false y (countOf b) p)
+      go false p q = inl (ltb-false y (typeCount b) p)
 
-      back : (t : Bool) → ltb y (countOf b) ≡ t → (countOf b ≤ y) ⊎ (among refused (kindAt b start y) ≡ true)
-          → (elim t as (λ z. Bool) [ true ↦ among refused (kindAt b start y) | false ↦ true ]) ≡ true
+      back : (t : Bool) → ltb y (typeCount b) ≡ t → (typeCount b ≤ y) ⊎ (isKindAmong refused (kindAt b start y) ≡ true)
+          → (elim t as (λ z. Bool) [ true ↦ isKindAmong refused (kindAt b start y) | false ↦ true ]) ≡ true
       back false p o = refl
       back true p (inr q) = q
-      back true p (inl q) = absurd (true≢false (sym p ∙ le-ltb y (countOf b) q))
+      back true p (inl q) = absurd (true≢false (sym p ∙ le-ltb y (typeCount b) q))
 
   -- THE THEOREM
   pub bad-reference : (hasBadReference b s start ≡ true) ↔ BadReference b s start
   unfolding hasBadReference isSomeBad
   bad-reference = (find, show)
     where
-      find : anyBelow (countOf b) (isSomeBad b s start) ≡ true → BadReference b s start
+      find : anyBelow (typeCount b) (isSomeBad b s start) ≡ true → BadReference b s start
       find e =
-          let p = any-find (countOf b) (isSomeBad b s start) e in
+          let p = any-find (typeCount b) (isSomeBad b s start) e in
           let q = any-find (followedCount b s start (p .0)) (λ k. isBad b start (followedId b s start (p .0) k)) (p .2) in
           record { x = p .0; k = q .0; type = p .1; followed = q .1; bad = bad-cases (followedId b s start (p .0) (q .0)) .0 (q .2) }
 
-      show : BadReference b s start → anyBelow (countOf b) (isSomeBad b s start) ≡ true
+      show : BadReference b s start → anyBelow (typeCount b) (isSomeBad b s start) ≡ true
       show r =
-          any-yes (countOf b) (isSomeBad b s start) (r .x) (r .type)
+          any-yes (typeCount b) (isSomeBad b s start) (r .x) (r .type)
           (any-yes (followedCount b s start (r .x)) (λ k. isBad b start (followedId b s start (r .x) k)) (r .k) (r .followed) (bad-cases (followedId b s start (r .x) (r .k)) .1 (r .bad)))

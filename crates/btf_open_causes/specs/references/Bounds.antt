@@ -10,11 +10,11 @@ use borrow.Author.Tests.{le-ltb, ltb-true, ne-eqb}
 use Rattle.spec_bytes.specs.words.Words.{pick}
 use Rattle.spec_type_table.specs.declared.types.TypeTable.{TypeTable}
 use Rattle.spec_type_table.specs.Records.{sectionWord, vlenOf}
-use Rattle.btf_open_causes.specs.references.Followed.{among, countOf, entryAt, placeOf, kindAt, composites, targets, countFor}
+use Rattle.btf_open_causes.specs.references.Followed.{isKindAmong, typeCount, entryAt, placeOf, kindAt, composites, targets, countFor}
 use Rattle.btf_open_causes.specs.references.Followed.{countAt, followedCount}
 
-pub count-fits : (b : TypeTable) → countOf b ≤ 262145
-unfolding countOf
+pub count-fits : (b : TypeTable) → typeCount b ≤ 262145
+unfolding typeCount
 count-fits b = go (ltb (b .types) 262145) refl
   where
     go : (t : Bool) → ltb (b .types) 262145 ≡ t → pick t (b .types) 262145 ≤ 262145
@@ -26,19 +26,19 @@ module _ (b : TypeTable) (start : List ℕ) (x : ℕ) where
   unfolding entryAt
   entry-void e = rw e
 
-  pub entry-out : (x ≡ 0 → ⊥) → (n : ℕ) → n ≡ countOf b → n ≤ x → 0 ≡ entryAt b start x
+  pub entry-out : (x ≡ 0 → ⊥) → (n : ℕ) → n ≡ typeCount b → n ≤ x → 0 ≡ entryAt b start x
   unfolding entryAt
   entry-out m n e h = rw (entryAt, ne-eqb x 0 m, ← e, le-ltb x n h)
 
   -- void, and what lies past the table, is of kind 0
-  pub kind-out : countOf b ≤ x → kindAt b start x ≡ 0
+  pub kind-out : typeCount b ≤ x → kindAt b start x ≡ 0
   unfolding kindAt
-  kind-out h = elim (ℕ-discrete x 0) [ yes e ↦ rw (← entry-void e) | no n ↦ rw (← entry-out n (countOf b) refl h) ]
+  kind-out h = elim (ℕ-discrete x 0) [ yes e ↦ rw (← entry-void e) | no n ↦ rw (← entry-out n (typeCount b) refl h) ]
 
 module _ (b : TypeTable) (s : List ℕ) where
   count-few : (kind at : ℕ) → countAt b s kind at ≤ 65536
   unfolding countAt countFor
-  count-few kind at = go (among targets kind) (among composites kind) (eqb kind 13)
+  count-few kind at = go (isKindAmong targets kind) (isKindAmong composites kind) (eqb kind 13)
     where
       go : (t u w : Bool) → pick t 1 (pick u (vlenOf (sectionWord b s (at + 4))) (pick w (vlenOf (sectionWord b s (at + 4)) + 1) 0)) ≤ 65536
       go true u w = omega arith
@@ -51,6 +51,6 @@ module _ (b : TypeTable) (s : List ℕ) where
     unfolding followedCount
     followed-few = count-few (kindAt b start x) (placeOf b start x)
 
-    pub followed-none : countOf b ≤ x → followedCount b s start x ≡ 0
-    unfolding followedCount countAt countFor among
+    pub followed-none : typeCount b ≤ x → followedCount b s start x ≡ 0
+    unfolding followedCount countAt countFor isKindAmong
     followed-none h = rw (kind-out b start x h)

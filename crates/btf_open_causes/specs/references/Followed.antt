@@ -10,17 +10,17 @@ use Rattle.spec_type_table.specs.declared.types.TypeTable.{TypeTable}
 use Rattle.spec_type_table.specs.Records.{sectionWord, vlenOf, memberAt, paramAt}
 
 -- k is one of a list of kinds
-unfoldable pub among : List ℕ → ℕ → Bool
-among [] k = false
-among (a ∷ l) k = elim (eqb k a) [ true ↦ true | false ↦ among l k ]
+unfoldable pub isKindAmong : List ℕ → ℕ → Bool
+isKindAmong [] k = false
+isKindAmong (a ∷ l) k = elim (eqb k a) [ true ↦ true | false ↦ isKindAmong l k ]
 
 -- the count of types, void counted. Cause 5 refuses "more than 262,144 records", so it is the count of every table that comes here
-unfoldable pub countOf : TypeTable → ℕ
-countOf b = pick (ltb (b .types) 262145) (b .types) 262145
+unfoldable pub typeCount : TypeTable → ℕ
+typeCount b = pick (ltb (b .types) 262145) (b .types) 262145
 
 -- the entry of type x in the index: "0 is void"; void, and what lies past the table, has 0
 unfoldable pub entryAt : TypeTable → List ℕ → ℕ → ℕ
-entryAt b start x = pick (eqb x 0) 0 (pick (ltb x (countOf b)) (getD start x 0) 0)
+entryAt b start x = pick (eqb x 0) 0 (pick (ltb x (typeCount b)) (getD start x 0) 0)
 
 -- where the record of type x stands
 unfoldable pub placeOf : TypeTable → List ℕ → ℕ → ℕ
@@ -39,14 +39,14 @@ targets = 2 ∷ 3 ∷ 8 ∷ 9 ∷ 10 ∷ 11 ∷ 18 ∷ []
 
 -- how many ids a record follows: one target or element; "members"; a FUNC_PROTO's "parameters, results"
 unfoldable pub countFor : ℕ → ℕ → ℕ
-countFor kind vlen = pick (among targets kind) 1 (pick (among composites kind) vlen (pick (eqb kind 13) (vlen + 1) 0))
+countFor kind vlen = pick (isKindAmong targets kind) 1 (pick (isKindAmong composites kind) vlen (pick (eqb kind 13) (vlen + 1) 0))
 
 -- where the k-th of them stands in the record at a place: an ARRAY's element, a member's type, the type of parameter k - 1 of
 -- a FUNC_PROTO; and the record's own third word, a FUNC_PROTO's result too
 unfoldable pub idPlace : ℕ → ℕ → ℕ → ℕ
 idPlace kind at k =
     pick (eqb kind 3) (at + 12)
-    (pick (among composites kind) (memberAt at k + 4)
+    (pick (isKindAmong composites kind) (memberAt at k + 4)
     (pick (eqb kind 13) (pick (eqb k 0) (at + 8) (paramAt at (k - 1) + 4)) (at + 8)))
 
 module _ (b : TypeTable) (s : List ℕ) where

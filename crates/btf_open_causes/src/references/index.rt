@@ -10,11 +10,11 @@ use spec_type_table::TypeTable;
 ghost use mathlib.Core.Path.{_≡_};
 ghost use Prim.Native.Nat.{_+_};
 ghost use Rattle.spec_type_table.specs.Records.{sectionWord, vlenOf};
-ghost use Rattle.btf_open_causes.specs.references.Followed.{countOf, entryAt, kindAt, countAt, idPlace, idAt, followedId};
+ghost use Rattle.btf_open_causes.specs.references.Followed.{typeCount, entryAt, kindAt, countAt, idPlace, idAt, followedId};
 
 // How many types there are, void counted. No table that passed cause 5 has more than 262145.
 pub fn count(b: TypeTable) -> u32
-    ensures { λ r. ⌜ r ≡ countOf b ⌝ }
+    ensures { λ r. ⌜ r ≡ typeCount b ⌝ }
 {
     let n = b.types;
     if n < limit::MOST_TYPES {

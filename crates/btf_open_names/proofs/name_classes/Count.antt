@@ -14,7 +14,7 @@ use Rattle.spec_bytes.proofs.words.Laws.{put-length, get-put-same, get-put-othe
 use Rattle.btf_open_names.specs.name_classes.Same.{sameList}
 use Rattle.btf_open_names.proofs.name_classes.Names.{same-equal, same-from}
 use Rattle.btf_open_names.specs.name_classes.Classes.{classOf, timesOf, fill, noughts, withClasses, countedAll}
-use Rattle.spec_type_table.specs.Cells.{withMore, countOf, counted}
+use Rattle.spec_type_table.specs.Cells.{withMore, countAfter, countRaised}
 use Rattle.btf_open_names.specs.name_classes.Claims.{Below}
 use Rattle.btf_open_names.specs.name_classes.Table.{Places}
 use Rattle.btf_open_names.proofs.name_classes.Fill.{fill-length, get-else, get-fill}
@@ -85,14 +85,14 @@ module _ (class count : ℕ → ℕ) (w : List ℕ) (h i j c x : ℕ) (ei : i �
   place-is : j ≡ count (getWord w (class h))
   place-is = ej ∙ ap count (ec ∙ ap (getWord w) ei)
 
-  pub count-below : (u : List ℕ) → x < 4294967295 → u ≡ putWord w j (x + 1) → (x + 1 ≡ countOf class count w h) × (u ≡ counted class count w h)
-  unfolding countOf counted
+  pub count-below : (u : List ℕ) → x < 4294967295 → u ≡ putWord w j (x + 1) → (x + 1 ≡ countAfter class count w h) × (u ≡ countRaised class count w h)
+  unfolding countAfter countRaised
   count-below u l eu =
       let m : (x + 1 ≡ oneMore (getWord w j)) × (putWord w j (x + 1) ≡ withMore w j) = more-below w j x ex l in
       (m .0 ∙ ap (λ (p : ℕ). oneMore (getWord w p)) place-is, eu ∙ m .1 ∙ ap (withMore w) place-is)
 
-  pub count-full : 4294967295 ≤ x → (x ≡ countOf class count w h) × (w ≡ counted class count w h)
-  unfolding countOf counted
+  pub count-full : 4294967295 ≤ x → (x ≡ countAfter class count w h) × (w ≡ countRaised class count w h)
+  unfolding countAfter countRaised
   count-full l =
       let m : (x ≡ oneMore (getWord w j)) × (w ≡ withMore w j) = more-full w j x ex l in
       (m .0 ∙ ap (λ (p : ℕ). oneMore (getWord w p)) place-is, m .1 ∙ ap (withMore w) place-is)
@@ -118,27 +118,27 @@ module _ (key : ℕ → List ℕ) (class count : ℕ → ℕ) (one : (i j : ℕ)
     so-far : timesOf key (classOf key h) hs ≡ getWord u (count (classOf key h))
     so-far = sym (b .counts (classOf key h) (omega (arith, class-le key h)) (class-again key h))
 
-    next : (timesOf key (classOf key h) hs + 1 ≡ countOf class count u h) × (putWord u (count (classOf key h)) (timesOf key (classOf key h) hs + 1) ≡ counted class count u h)
+    next : (timesOf key (classOf key h) hs + 1 ≡ countAfter class count u h) × (putWord u (count (classOf key h)) (timesOf key (classOf key h) hs + 1) ≡ countRaised class count u h)
     next = count-below class count u h (class h) (count (classOf key h)) (classOf key h) (timesOf key (classOf key h) hs) refl (sym (b .classes h m)) refl so-far _ (omega (arith, times-le key (classOf key h) hs)) refl
 
-    pub next-count : countOf class count u h ≡ suc (timesOf key (classOf key h) hs)
+    pub next-count : countAfter class count u h ≡ suc (timesOf key (classOf key h) hs)
     next-count = sym (next .0) ∙ add-one _
 
-    here : (c : ℕ) → c ≡ classOf key h → getWord (counted class count u h) (count c) ≡ timesOf key c (h ∷ hs)
+    here : (c : ℕ) → c ≡ classOf key h → getWord (countRaised class count u h) (count c) ≡ timesOf key c (h ∷ hs)
     here c e =
         rw (e, ← next .1)
         (get-put-same u (count (classOf key h)) (timesOf key (classOf key h) hs + 1) (b .room (classOf key h) (omega (arith, class-le key h)))
         ∙ add-one _
         ∙ sym (times-yes key (classOf key h) h hs (sym (class-key key h))))
 
-    there : (c : ℕ) → c < n → classOf key c ≡ c → c ≢ classOf key h → getWord (counted class count u h) (count c) ≡ timesOf key c (h ∷ hs)
+    there : (c : ℕ) → c < n → classOf key c ≡ c → c ≢ classOf key h → getWord (countRaised class count u h) (count c) ≡ timesOf key c (h ∷ hs)
     there c q r o =
         rw (← next .1)
         (get-put-other u (count (classOf key h)) (count c) _ (λ e. o (one _ _ e))
         ∙ b .counts c q r
         ∙ sym (times-no key c h hs (λ e. o (sym r ∙ sym (class-same key h c e)))))
 
-    pub books-more : Books key class count n (h ∷ hs) (counted class count u h)
+    pub books-more : Books key class count n (h ∷ hs) (countRaised class count u h)
     books-more =
         record {
           room = λ k q. rw (← next .1, put-length) (b .room k q);
@@ -151,7 +151,7 @@ module _ (key : ℕ → List ℕ) (class count : ℕ → ℕ) (one : (i j : ℕ)
   books u [] b q m = b
   books u (h ∷ hs) b q m = books-more hs (countedAll class count u hs) (books u hs b (q .1) (omega arith)) h (q .0) (omega arith)
 
-  pub count-law : (u hs : List ℕ) (h : ℕ) → Books key class count n [] u → Below n hs → h < n → length hs < 4294967295 → countOf class count (countedAll class count u hs) h ≡ suc (timesOf key h hs)
+  pub count-law : (u hs : List ℕ) (h : ℕ) → Books key class count n [] u → Below n hs → h < n → length hs < 4294967295 → countAfter class count (countedAll class count u hs) h ≡ suc (timesOf key h hs)
   count-law u hs h b q m k =
       next-count hs (countedAll class count u hs) (books u hs b q k) h m k
       ∙ ap suc (times-key key (classOf key h) h hs (class-key key h))

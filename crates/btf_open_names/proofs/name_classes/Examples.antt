@@ -8,12 +8,12 @@ use mathlib.Core.Bool.{false}
 use lib.ListN.{getD, replicate}
 use Rattle.spec_bytes.specs.words.Words.{getWord, putWord, wordAt, wordIn, table, oneMore}
 use Rattle.spec_type_table.specs.declared.types.TypeTable.{TypeTable}
-use Rattle.spec_type_table.specs.Cells.{placeOf, withMore, countOf, counted, classP, countP}
+use Rattle.spec_type_table.specs.Cells.{placeOf, withMore, countAfter, countRaised, classP, countP}
 use Rattle.spec_type_table.specs.Records.{sectionWord}
 use Rattle.spec_type_table.specs.Names.{upToZero, nameAt}
 use Rattle.btf_open_names.specs.name_classes.Same.{sameList}
 use Rattle.btf_open_names.specs.name_classes.Claims.{afterCounts, nextCount}
-use Rattle.btf_open_names.specs.name_classes.Classes.{least, classOf, fill, withClasses, countedAll, recordP, bucketP, linkP, among, spaceOf, spaceAt, nameOf, keyOf, keyIn, tableClassed}
+use Rattle.btf_open_names.specs.name_classes.Classes.{least, classOf, fill, withClasses, countedAll, recordP, bucketP, linkP, isIdAmong, spaceOf, spaceAt, nameOf, keyOf, keyIn, tableClassed}
 
 -- words, lowest byte first, and bytes after them
 pub bytes : List ℕ → List ℕ → List ℕ
@@ -49,16 +49,16 @@ after x = map (nine (tableClassed context 2 section (work x))) (classP 7 ∷ buc
 
 -- kind by kind
 pub spaces : table spaceOf 0 21 ≡ 2 ∷ 2 ∷ 2 ∷ 2 ∷ 0 ∷ 0 ∷ 0 ∷ 0 ∷ 1 ∷ 2 ∷ 2 ∷ 2 ∷ 2 ∷ 2 ∷ 2 ∷ 2 ∷ 2 ∷ 2 ∷ 2 ∷ 0 ∷ 2 ∷ []
-unfolding spaceOf among
+unfolding spaceOf isIdAmong
 spaces = refl
 
 pub some-keys : (keyIn context section (work 1) 8 ≡ 1 ∷ 97 ∷ 98 ∷ 99 ∷ []) × (keyIn context section (work 1) 6 ≡ 2 ∷ []) × (keyIn context section (work 1) 0 ≡ 2 ∷ [])
-unfolding bytes section context work fill keyIn keyOf spaceAt spaceOf among nameOf nameAt upToZero sectionWord wordIn wordAt placeOf getWord putWord
+unfolding bytes section context work fill keyIn keyOf spaceAt spaceOf isIdAmong nameOf nameAt upToZero sectionWord wordIn wordAt placeOf getWord putWord
 some-keys = (refl, refl, refl)
 
 -- the FWD has the class of the STRUCT, the first enumerator that of the TYPEDEF, the FUNC that of void; the scratch words are 0; the counts stay
 pub found : after 1 ≡ (0 ∷ 1 ∷ 2 ∷ 3 ∷ 4 ∷ 1 ∷ 0 ∷ 2 ∷ 8 ∷ []) ∷ replicate 9 0 ∷ replicate 9 0 ∷ replicate 9 16843009 ∷ []
-unfolding after nine bytes section context work tableClassed withClasses fill classOf least sameList keyIn keyOf spaceAt spaceOf among nameOf nameAt upToZero sectionWord wordIn wordAt placeOf getWord putWord
+unfolding after nine bytes section context work tableClassed withClasses fill classOf least sameList keyIn keyOf spaceAt spaceOf isIdAmong nameOf nameAt upToZero sectionWord wordIn wordAt placeOf getWord putWord
 found = refl
 
 -- the count of h after those of the STRUCT, the TYPEDEF, the UNION and the FWD
@@ -67,5 +67,5 @@ next = nextCount context (afterCounts context (tableClassed context 2 section (w
 
 -- the tag "ab" is had for the third time, the identifier "ab" for the second, the identifier "abc" for the first
 pub counted-so : map next (1 ∷ 5 ∷ 7 ∷ 8 ∷ []) ≡ 3 ∷ 3 ∷ 2 ∷ 1 ∷ []
-unfolding next countedAll counted withMore countOf oneMore bytes section context work tableClassed withClasses fill classOf least sameList keyIn keyOf spaceAt spaceOf among nameOf nameAt upToZero sectionWord wordIn wordAt placeOf getWord putWord
+unfolding next countedAll countRaised withMore countAfter oneMore bytes section context work tableClassed withClasses fill classOf least sameList keyIn keyOf spaceAt spaceOf isIdAmong nameOf nameAt upToZero sectionWord wordIn wordAt placeOf getWord putWord
 counted-so = refl

@@ -15,7 +15,7 @@ use Rattle.spec_type_table.specs.Records.{sectionWord, kindOf}
 use Rattle.spec_type_table.proofs.Laws.{place-type, place-enum}
 use Rattle.spec_type_table.specs.Names.{nameAt}
 use Rattle.btf_open_names.specs.name_classes.Same.{sameList}
-use Rattle.btf_open_names.specs.name_classes.Classes.{classOf, fill, noughts, withClasses, recordP, bucketP, linkP, among, spaceOf, spaceAt, nameOf, keyOf, keyIn, tableClassed}
+use Rattle.btf_open_names.specs.name_classes.Classes.{classOf, fill, noughts, withClasses, recordP, bucketP, linkP, isIdAmong, spaceOf, spaceAt, nameOf, keyOf, keyIn, tableClassed}
 use Rattle.btf_open_names.specs.name_classes.Table.{hashFrom, bucketOf, Places, Ready, Finds, placed, stateOf}
 use Rattle.btf_open_names.proofs.name_classes.Names.{same-from, same-heads, other-heads}
 use Rattle.btf_open_names.proofs.name_classes.Fill.{get-else}
@@ -85,15 +85,15 @@ module _ (t : ℕ) where
 -- ---- spaces
 module _ (k : ℕ) where
   pub space-8 : k ≡ 8 → 1 ≡ spaceOf k
-  unfolding spaceOf among
+  unfolding spaceOf isIdAmong
   space-8 e = rw e
 
   pub space-19 : k ≡ 19 → 0 ≡ spaceOf k
-  unfolding spaceOf among
+  unfolding spaceOf isIdAmong
   space-19 e = rw e
 
   pub space-4-7 : 4 ≤ k → k < 8 → 0 ≡ spaceOf k
-  unfolding spaceOf among
+  unfolding spaceOf isIdAmong
   space-4-7 l m =
       ⊎-elim
       (λ a. ⊎-elim (λ b. let e : k ≡ 4 = omega arith in rw e) (λ b. let e : k ≡ 5 = omega arith in rw e) (le-or-lt k 4))
@@ -101,8 +101,8 @@ module _ (k : ℕ) where
       (le-or-lt k 5)
 
   space-else : (k ≡ 4 → ⊥) → (k ≡ 5 → ⊥) → (k ≡ 6 → ⊥) → (k ≡ 7 → ⊥) → (k ≡ 19 → ⊥) → (k ≡ 8 → ⊥) → 2 ≡ spaceOf k
-  unfolding spaceOf among
-  space-else a b c d e f = rw (ne-eqb k 4 a, among, ne-eqb k 5 b, ne-eqb k 6 c, ne-eqb k 7 d, ne-eqb k 19 e, ne-eqb k 8 f)
+  unfolding spaceOf isIdAmong
+  space-else a b c d e f = rw (ne-eqb k 4 a, isIdAmong, ne-eqb k 5 b, ne-eqb k 6 c, ne-eqb k 7 d, ne-eqb k 19 e, ne-eqb k 8 f)
 
   pub space-low : k < 4 → 2 ≡ spaceOf k
   space-low l = space-else (λ e. omega arith) (λ e. omega arith) (λ e. omega arith) (λ e. omega arith) (λ e. omega arith) (λ e. omega arith)

@@ -9,7 +9,7 @@ use lib.Dec.{ltb}
 use borrow.Author.Tests.{lt-ltb, le-ltb, lt-leb, le-leb}
 use Rattle.spec_bytes.specs.words.Words.{getWord, oneMore, pick}
 use Rattle.spec_bytes.proofs.words.Laws.{le-or-lt}
-use Rattle.spec_type_table.specs.Cells.{placeOf, classP, countP, countOf, counted}
+use Rattle.spec_type_table.specs.Cells.{placeOf, classP, countP, countAfter, countRaised}
 use Rattle.spec_type_table.specs.Numbers.{below, capped, numberOver, headP, nextP, takenP, numbersFrom, takenAt, numberAt}
 use Rattle.spec_type_table.proofs.Laws.{place-type, place-enum}
 use Rattle.spec_type_table.proofs.Frame.{counted-other}
@@ -135,7 +135,7 @@ module _ (types : ℕ) (u w : List ℕ) (en : (x : ℕ) → getWord u (nextP typ
   taken-same c eh = numbers-same 4294967296 0 (getWord u (headP types c)) ∙ ap (numbersFrom 4294967296 types w 0) eh
 
 module _ (types : ℕ) (w : List ℕ) (h : ℕ) where
-  pub taken-counted : (c : ℕ) → takenAt types (counted (classP types) (countP types) w h) c ≡ takenAt types w c
+  pub taken-counted : (c : ℕ) → takenAt types (countRaised (classP types) (countP types) w h) c ≡ takenAt types w c
   taken-counted c = taken-same types _ w
       (λ x. counted-other types w h (nextP types x) (λ j. apart types 8 4 6 2 (omega arith) x j))
       (λ x. counted-other types w h (takenP types x) (λ j. apart types 14 6 6 2 (omega arith) x j))
@@ -143,10 +143,10 @@ module _ (types : ℕ) (w : List ℕ) (h : ℕ) where
       (counted-other types w h (headP types c) (λ j. apart types 7 3 6 2 (omega arith) c j))
 
   -- ---- get_number
-  pub number-got : (at class k r : ℕ) (u : List ℕ) → at ≡ classP types h → class ≡ getWord w at → k ≡ countOf (classP types) (countP types) w h → u ≡ counted (classP types) (countP types) w h
+  pub number-got : (at class k r : ℕ) (u : List ℕ) → at ≡ classP types h → class ≡ getWord w at → k ≡ countAfter (classP types) (countP types) w h → u ≡ countRaised (classP types) (countP types) w h
       → r ≡ numberOver (takenAt types u class) k → r ≡ numberAt types w h
   unfolding numberAt
   number-got at class k r u ea ec ek eu e =
       e
       ∙ ap₂ (λ (x : List ℕ) (y : ℕ). numberOver (takenAt types x class) y) eu ek
-      ∙ ap (λ (x : List ℕ). numberOver x (countOf (classP types) (countP types) w h)) (taken-counted class ∙ ap (takenAt types w) (ec ∙ ap (getWord w) ea))
+      ∙ ap (λ (x : List ℕ). numberOver x (countAfter (classP types) (countP types) w h)) (taken-counted class ∙ ap (takenAt types w) (ec ∙ ap (getWord w) ea))

@@ -8,7 +8,7 @@ use Rattle.spec_bytes.specs.words.Words.{getWord}
 use Rattle.spec_type_table.specs.declared.types.TypeTable.{TypeTable}
 use Rattle.btf_open_names.specs.name_classes.Classes.{recordP, bucketP, linkP, spaceAt, keyIn, classOf, tableClassed, countedAll}
 use Rattle.btf_open_names.specs.name_classes.Classes.{timesOf}
-use Rattle.spec_type_table.specs.Cells.{classP, countP, countOf}
+use Rattle.spec_type_table.specs.Cells.{classP, countP, countAfter}
 
 -- 01, Name ledger, "The first holder of a name": the class of h is the first holder, from 0 up, with the space and the name of h
 pub record First : Type 0 where
@@ -45,7 +45,7 @@ abbrev pub afterCounts : TypeTable → List ℕ → List ℕ → List ℕ
 afterCounts b w hs = countedAll (classP (b .types)) (countP (b .types)) w hs
 
 abbrev pub nextCount : TypeTable → List ℕ → ℕ → ℕ
-nextCount b w h = countOf (classP (b .types)) (countP (b .types)) w h
+nextCount b w h = countAfter (classP (b .types)) (countP (b .types)) w h
 
 -- 01, Name ledger, "the n-th": with counts 0 at first, the count of h is one more than how many of hs have its space and its name
 abbrev pub Ledger : Type 0

@@ -6,7 +6,7 @@ use lib.ListN.{length}
 use lib.Dec.{ltb, eqb}
 use Rattle.spec_bytes.specs.words.Words.{getWord, putWord, pick}
 use Rattle.spec_type_table.specs.declared.types.TypeTable.{TypeTable}
-use Rattle.spec_type_table.specs.Cells.{placeOf, counted, classP}
+use Rattle.spec_type_table.specs.Cells.{placeOf, countRaised, classP}
 use Rattle.spec_type_table.specs.Records.{sectionWord, kindOf}
 use Rattle.spec_type_table.specs.Names.{nameAt, namePlace}
 use Rattle.btf_open_names.specs.name_classes.Same.{sameList}
@@ -44,7 +44,7 @@ withClasses key class bucket link n w = fill class (classOf key) (fill link noug
 -- the work after a count for each of hs, the last of hs first
 unfoldable pub countedAll : (class count : ℕ → ℕ) → List ℕ → List ℕ → List ℕ
 countedAll class count w [] = w
-countedAll class count w (h ∷ hs) = counted class count (countedAll class count w hs) h
+countedAll class count w (h ∷ hs) = countRaised class count (countedAll class count w hs) h
 
 -- ---- types and enumerators: holder h is type h below b's types, and after those an enumerator
 -- the words of holders: where the record or entry stands, class, count, and the two scratch words
@@ -58,13 +58,13 @@ abbrev pub linkP : ℕ → ℕ → ℕ
 linkP types = placeOf types 8 4
 
 -- whether x is one of l
-unfoldable pub among : ℕ → List ℕ → Bool
-among x [] = false
-among x (y ∷ l) = elim (eqb x y) [ true ↦ true | false ↦ among x l ]
+unfoldable pub isIdAmong : ℕ → List ℕ → Bool
+isIdAmong x [] = false
+isIdAmong x (y ∷ l) = elim (eqb x y) [ true ↦ true | false ↦ isIdAmong x l ]
 
 -- 01, Name ledger, "Two spaces: tags; typedefs": 0 for STRUCT, UNION, ENUM, FWD and ENUM64, 1 for TYPEDEF, 2 for neither
 unfoldable pub spaceOf : ℕ → ℕ
-spaceOf kind = pick (among kind (4 ∷ 5 ∷ 6 ∷ 7 ∷ 19 ∷ [])) 0 (pick (eqb kind 8) 1 2)
+spaceOf kind = pick (isIdAmong kind (4 ∷ 5 ∷ 6 ∷ 7 ∷ 19 ∷ [])) 0 (pick (eqb kind 8) 1 2)
 
 -- 01, Name ledger, "typedefs with enumerators": the space of holder h, whose record or entry stands at a place; void, holder 0, has none
 unfoldable pub spaceAt : TypeTable → List ℕ → ℕ → ℕ → ℕ

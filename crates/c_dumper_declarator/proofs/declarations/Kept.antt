@@ -15,14 +15,14 @@ use Rattle.spec_c_dumper.proofs.rules.Writing.{put-then-kept}
 use Rattle.spec_c_dumper.proofs.rules.Keeps.{Keeps}
 use Rattle.spec_type_table.specs.declared.types.TypeTable.{TypeTable}
 use Rattle.spec_type_table.specs.declared.types.BtfType.{BtfType as Record}
-use Rattle.spec_type_table.specs.Cells.{getField, putField, classP, countP, counted}
+use Rattle.spec_type_table.specs.Cells.{getField, putField, classP, countP, countRaised}
 use Rattle.spec_type_table.specs.Numbers.{numberAt}
 use Rattle.spec_type_table.specs.Records.{recordById}
 use Rattle.spec_type_table.specs.Table.{typeOf, btfOf, workNaming, typeVersionIn, valueVersionIn, enumeratorOf}
 use Rattle.spec_type_table.proofs.Frame.{field-other, count-0, record-same, counted-other, table-type-version, table-value-version}
 use Rattle.c_dumper_bodies.specs.chain.Chains.{nextOf, entryOf, pathAt, chainAt}
-use Rattle.spec_c_dumper.specs.alignment_once.Once.{Seen as Alignment, Once, found, refused, memoryAfter, memberCount}
-use Rattle.btf_layout.specs.remembered.Words.{coded, counted as visited, remembered, workKeep}
+use Rattle.spec_c_dumper.specs.alignment_once.Once.{Remembered as Alignment, Once, found, refused, memoryAfter, memberCount}
+use Rattle.btf_layout.specs.remembered.Words.{coded, withVisits as visited, remembered, workKeep}
 use Rattle.btf_layout.proofs.remembered.Keeps.{table-keeps}
 use Rattle.btf_layout.specs.asked.Asked.{packedIn, workAsks}
 use Rattle.btf_layout.proofs.asked.Stays.{Stays, stays-forget, stays-padding, stays-body}
@@ -66,7 +66,7 @@ module _ (b : TypeTable) (s : List ℕ) where
       n = numberAt (b .types) w id
 
       u : List ℕ
-      u = counted (classP (b .types)) (countP (b .types)) w id
+      u = countRaised (classP (b .types)) (countP (b .types)) w id
 
       go : (t : Bool) → getField ((elim t as (λ z. Resolved (List ℕ)) [ false ↦ record { version = getField w id 4; names = w } | true ↦ record { version = n; names = putField u id 4 n } ]) .names) j 0 ≡ getField w j 0
       go false = refl
@@ -80,7 +80,7 @@ module _ (b : TypeTable) (s : List ℕ) where
       n = numberAt (b .types) w (b .types + e)
 
       u : List ℕ
-      u = counted (classP (b .types)) (countP (b .types)) w (b .types + e)
+      u = countRaised (classP (b .types)) (countP (b .types)) w (b .types + e)
 
       go : (t : Bool) → getField ((elim t as (λ z. Resolved (List ℕ)) [ true ↦ record { version = n; names = u } | false ↦ record { version = 0; names = w } ]) .names) j 0 ≡ getField w j 0
       go false = refl

@@ -24,12 +24,12 @@ use Rattle.c_dumper_dependency_order.specs.declared.order_state.Order.{O
 use Rattle.c_dumper_dependency_order.specs.declared.leaders.Way.{Way}
 use Rattle.c_dumper_dependency_order.specs.order_state.Work.{markOf, code as codeOf, workStore, tableIn, strongOf, refusedBy}
 use Rattle.c_dumper_dependency_order.specs.begin.Start.{limitBy, withMade, openedBy, isKnown, isPassable, metBy}
-use Rattle.c_dumper_dependency_order.specs.leaders.Leads.{insideOf, wayFor, noteIn, Kept, keptStore, orderKept, keptOut, aliasKept, wayKept, freshKept, enterKept}
+use Rattle.c_dumper_dependency_order.specs.leaders.Leads.{insideOf, wayFor, noteIn, MarksAndLeaders, keptStore, orderKept, keptOut, aliasKept, wayKept, freshKept, enterKept}
 use Rattle.c_dumper_dependency_order.proofs.order_state.Frame.{Stays, on, off, stays-bind, table-mark, table-kept}
 use Rattle.c_dumper_dependency_order.proofs.begin.Laws.{Known, known-yes}
 use Rattle.c_dumper_dependency_order.proofs.order_state.Laws.{is-done, is-busy, is-new, done-is, get-at, node-is, named-at}
 
-abbrev pub keptOf : Order → List ℕ → List ℕ → Kept
+abbrev pub keptOf : Order → List ℕ → List ℕ → MarksAndLeaders
 keptOf o w l = record { marks = record { work = w; len = o .len }; leads = l }
 
 pub going : (o : Order) (w l : List ℕ) → o .stop ≡ 0 → keptOut o w l ≡ told (keptOf o w l) (o .«is_strong») (o .made)
@@ -49,33 +49,33 @@ by-stop P o on-going halting = go (o .stop) refl
     go (suc n) e = halting (λ z. omega arith)
 
 -- ---- one after another
-pub bind-then : (x : Told Kept) (k k′ : Kept → Bool → ℕ → Told Kept) → thenBind (thenBind x k) k′ ≡ thenBind x (λ m b j. thenBind (k m b j) k′)
+pub bind-then : (x : Told MarksAndLeaders) (k k′ : MarksAndLeaders → Bool → ℕ → Told MarksAndLeaders) → thenBind (thenBind x k) k′ ≡ thenBind x (λ m b j. thenBind (k m b j) k′)
 unfolding thenBind
 bind-then (told m b j) k k′ = refl
 bind-then (halted c j) k k′ = refl
 
-pub bind-same : (x : Told Kept) (k k′ : Kept → Bool → ℕ → Told Kept) → ((m : Kept) (b : Bool) (j : ℕ) → k m b j ≡ k′ m b j) → thenBind x k ≡ thenBind x k′
+pub bind-same : (x : Told MarksAndLeaders) (k k′ : MarksAndLeaders → Bool → ℕ → Told MarksAndLeaders) → ((m : MarksAndLeaders) (b : Bool) (j : ℕ) → k m b j ≡ k′ m b j) → thenBind x k ≡ thenBind x k′
 bind-same x k k′ e = ap (thenBind x) (λ i m b j. e m b j i)
 
-bind-ok : (x : Told Kept) → thenBind x (λ m b j. told m b j) ≡ x
+bind-ok : (x : Told MarksAndLeaders) → thenBind x (λ m b j. told m b j) ≡ x
 unfolding thenBind
 bind-ok (told m b j) = refl
 bind-ok (halted c j) = refl
 
 -- one call after another
-pub then : (x : Told Kept) (k k′ : Kept → Bool → ℕ → Told Kept) (y z : Told Kept) → y ≡ thenBind x k → z ≡ thenBind y k′ → z ≡ thenBind x (λ m b j. thenBind (k m b j) k′)
-then x k k′ y z e f = f ∙ ap (λ (r : Told Kept). thenBind r k′) e ∙ bind-then x k k′
+pub then : (x : Told MarksAndLeaders) (k k′ : MarksAndLeaders → Bool → ℕ → Told MarksAndLeaders) (y z : Told MarksAndLeaders) → y ≡ thenBind x k → z ≡ thenBind y k′ → z ≡ thenBind x (λ m b j. thenBind (k m b j) k′)
+then x k k′ y z e f = f ∙ ap (λ (r : Told MarksAndLeaders). thenBind r k′) e ∙ bind-then x k k′
 
-pub run : (o : Order) (w l : List ℕ) (k : Kept → Bool → ℕ → Told Kept) → o .stop ≡ 0 → thenBind (keptOut o w l) k ≡ k (keptOf o w l) (o .«is_strong») (o .made)
+pub run : (o : Order) (w l : List ℕ) (k : MarksAndLeaders → Bool → ℕ → Told MarksAndLeaders) → o .stop ≡ 0 → thenBind (keptOut o w l) k ≡ k (keptOf o w l) (o .«is_strong») (o .made)
 unfolding thenBind
-run o w l k e = ap (λ (r : Told Kept). thenBind r k) (going o w l e)
+run o w l k e = ap (λ (r : Told MarksAndLeaders). thenBind r k) (going o w l e)
 
-halt : (o : Order) (w l : List ℕ) (k : Kept → Bool → ℕ → Told Kept) → (o .stop ≡ 0 → ⊥) → thenBind (keptOut o w l) k ≡ halted (o .stop) (o .made)
+halt : (o : Order) (w l : List ℕ) (k : MarksAndLeaders → Bool → ℕ → Told MarksAndLeaders) → (o .stop ≡ 0 → ⊥) → thenBind (keptOut o w l) k ≡ halted (o .stop) (o .made)
 unfolding thenBind
-halt o w l k n = ap (λ (r : Told Kept). thenBind r k) (stops o w l n)
+halt o w l k n = ap (λ (r : Told MarksAndLeaders). thenBind r k) (stops o w l n)
 
 -- a stopped answer is given back
-pub stopped : (o : Order) (w l : List ℕ) (k : Kept → Bool → ℕ → Told Kept) → (o .stop ≡ 0 → ⊥) → keptOut o w l ≡ thenBind (keptOut o w l) k
+pub stopped : (o : Order) (w l : List ℕ) (k : MarksAndLeaders → Bool → ℕ → Told MarksAndLeaders) → (o .stop ≡ 0 → ⊥) → keptOut o w l ≡ thenBind (keptOut o w l) k
 stopped o w l k n = stops o w l n ∙ sym (halt o w l k n)
 
 pub flagged : (o : Order) (w l : List ℕ) (s : Bool) (r : Order) → r ≡ strongOf o s → keptOut r w l ≡ thenBind (keptOut o w l) (λ m b j. told m s j)
@@ -83,7 +83,7 @@ flagged o w l s r e =
     ap (λ (x : Order). keptOut x w l) e
     ∙ by-stop (keptOut (strongOf o s) w l ≡ thenBind (keptOut o w l) (λ m b j. told m s j)) o (λ z. going (strongOf o s) w l z ∙ sym (run o w l (λ m b j. told m s j) z)) (λ n. stops (strongOf o s) w l n ∙ sym (halt o w l (λ m b j. told m s j) n))
 
-refuses : (o : Order) (w l : List ℕ) (c : ℕ) (r : Order) (k : Kept → Bool → ℕ → Told Kept) → o .stop ≡ 0 → r ≡ refusedBy o (suc c) → k (keptOf o w l) (o .«is_strong») (o .made) ≡ halted (suc c) (o .made) → keptOut r w l ≡ thenBind (keptOut o w l) k
+refuses : (o : Order) (w l : List ℕ) (c : ℕ) (r : Order) (k : MarksAndLeaders → Bool → ℕ → Told MarksAndLeaders) → o .stop ≡ 0 → r ≡ refusedBy o (suc c) → k (keptOf o w l) (o .«is_strong») (o .made) ≡ halted (suc c) (o .made) → keptOut r w l ≡ thenBind (keptOut o w l) k
 refuses o w l c r k z e f = ap (λ (x : Order). keptOut x w l) e ∙ stops (refusedBy o (suc c)) w l (λ q. omega arith) ∙ sym (run o w l k z ∙ f)
 
 -- ---- the store
@@ -96,7 +96,7 @@ pushed o w l id v n w′ l′ el ew en =
     (λ q. stops _ w′ l′ q ∙ sym (halt o w l (λ m b j. told (keptStore v .push id m) b j) q))
 
 -- a mark set, whatever comes after
-set-mark : (o : Order) (w l : List ℕ) (v : Way) (d : Mark) (id : ℕ) (w′ : List ℕ) (k : Kept → Bool → ℕ → Told Kept) → w′ ≡ putField w id 1 (codeOf d)
+set-mark : (o : Order) (w l : List ℕ) (v : Way) (d : Mark) (id : ℕ) (w′ : List ℕ) (k : MarksAndLeaders → Bool → ℕ → Told MarksAndLeaders) → w′ ≡ putField w id 1 (codeOf d)
     → thenBind (keptOut o w′ l) k ≡ thenBind (keptOut o w l) (λ m b j. k (keptStore v .mark d id m) b j)
 unfolding keptStore workStore
 set-mark o w l v d id w′ k ew =
@@ -150,7 +150,7 @@ met-kept p w l y false = refuses p w l 12 (refusedBy p 13) (λ m _ j. halted 13 
 
 -- ---- order_type
 module _ (lim : Limit) (T : Table) (o : Order) (w l : List ℕ) (z : o .stop ≡ 0) (id left : ℕ) (weak : Bool) (v : Way) where
-  abbrev ordered : Kept → Bool → ℕ → Told Kept
+  abbrev ordered : MarksAndLeaders → Bool → ℕ → Told MarksAndLeaders
   ordered m _ j = orderKept lim v left T m id weak j
 
   pub too-deep : (r : Order) → left ≡ 0 → r ≡ refusedBy o 12 → keptOut r w l ≡ thenBind (keptOut o w l) (λ m _ j. orderKept lim v left T m id weak j)
@@ -187,7 +187,7 @@ module _ (lim : Limit) (T : Table) (o : Order) (w l : List ℕ) (z : o .stop ≡
           go true a = refl
           go false a = absurd (let q : p .stop ≡ 22 = ap (λ (u : Order). u .stop) (opened-no a) in omega arith)
 
-      abbrev rec : Kept → ℕ → Bool → ℕ → Told Kept
+      abbrev rec : MarksAndLeaders → ℕ → Bool → ℕ → Told MarksAndLeaders
       rec s′ x w′ j = orderKept lim (wayFor (isAround (T .node id)) v id) (left - 1) T s′ x w′ j
 
       unroll : (k : Mark) → markOf st ≡ k → orderKept lim v left T (keptOf o w l) id weak (o .made) ≡ visitWithin (keptStore v) T rec (keptOf o w l) id weak k (oneCall lim (o .made))
@@ -197,7 +197,7 @@ module _ (lim : Limit) (T : Table) (o : Order) (w l : List ℕ) (z : o .stop ≡
           (ap (λ (d : Mark). visitWithin (keptStore v) T rec (keptOf o w l) id weak d (oneCall lim (o .made))) (get-at (keptOf o w l .marks) id ∙ ap markOf (sym es) ∙ e))
 
       -- by the clause of the mark that was read
-      opened : (k : Mark) → markOf st ≡ k → (x : Told Kept) (f : Kept → Bool → ℕ → Told Kept) → x ≡ thenBind (keptOut p w l) f
+      opened : (k : Mark) → markOf st ≡ k → (x : Told MarksAndLeaders) (f : MarksAndLeaders → Bool → ℕ → Told MarksAndLeaders) → x ≡ thenBind (keptOut p w l) f
           → f (keptOf o w l) (o .«is_strong») (oneCall lim (o .made)) ≡ visitWithin (keptStore v) T rec (keptOf o w l) id weak k (oneCall lim (o .made))
           → x ≡ thenBind (keptOut o w l) (λ m _ j. orderKept lim v left T m id weak j)
       opened k e x f ex h =
@@ -212,7 +212,7 @@ module _ (lim : Limit) (T : Table) (o : Order) (w l : List ℕ) (z : o .stop ≡
       order-busy r e er =
           opened busy (is-busy st e) (keptOut r w l) (λ m _ j. meetWithin (isPassable T id weak) m j) (ap (λ (u : Order). keptOut u w l) er ∙ met-kept p w l y (isPassable T id weak)) refl
 
-      pub order-fresh : (x : Told Kept) → (st ≡ 2 → ⊥) → (st ≡ 1 → ⊥) → x ≡ thenBind (keptOut p w l) (λ m _ j. freshKept lim v T (left - 1) m id weak j) → x ≡ thenBind (keptOut o w l) (λ m _ j. orderKept lim v left T m id weak j)
+      pub order-fresh : (x : Told MarksAndLeaders) → (st ≡ 2 → ⊥) → (st ≡ 1 → ⊥) → x ≡ thenBind (keptOut p w l) (λ m _ j. freshKept lim v T (left - 1) m id weak j) → x ≡ thenBind (keptOut o w l) (λ m _ j. orderKept lim v left T m id weak j)
       unfolding visitWithin freshKept
       order-fresh x n2 n1 ex = opened new (is-new st n2 n1) x (λ m _ j. freshKept lim v T (left - 1) m id weak j) ex refl
 
@@ -235,17 +235,17 @@ order-known isSet calls T o w l id left weak v a ea t p ep r er =
 pub stays-run : (b : TypeTable) (s : List ℕ) (r : Order) (w₁ l₁ w : List ℕ) → Stays (btfOf b s) w (keptOut r w₁ l₁) → r .stop ≡ 0 → btfOf b s w₁ ≡ btfOf b s w
 stays-run b s r w₁ l₁ w h z = go (keptOut r w₁ l₁) h (going r w₁ l₁ z)
   where
-    ok-work : (m m′ : Kept) (f f′ : Bool) (j j′ : ℕ) → told m f j ≡ told m′ f′ j′ → m ≡ m′
+    ok-work : (m m′ : MarksAndLeaders) (f f′ : Bool) (j j′ : ℕ) → told m f j ≡ told m′ f′ j′ → m ≡ m′
     ok-work m m′ f f′ j j′ e = cc
 
-    ok-refused : (c i : ℕ) (m : Kept) (f : Bool) (j : ℕ) → halted c i ≡ told m f j → ⊥
+    ok-refused : (c i : ℕ) (m : MarksAndLeaders) (f : Bool) (j : ℕ) → halted c i ≡ told m f j → ⊥
     ok-refused c i m f j e = let k : _≡_ {A = ℕ} 0 1 = cc in omega arith
 
-    go : (x : Told Kept) → Stays (btfOf b s) w x → x ≡ told (keptOf r w₁ l₁) (r .«is_strong») (r .made) → btfOf b s w₁ ≡ btfOf b s w
-    go (told m f j) (on e) q = ap (λ (y : Kept). btfOf b s (y .marks .work)) (sym (ok-work m (keptOf r w₁ l₁) f (r .«is_strong») j (r .made) q)) ∙ e
+    go : (x : Told MarksAndLeaders) → Stays (btfOf b s) w x → x ≡ told (keptOf r w₁ l₁) (r .«is_strong») (r .made) → btfOf b s w₁ ≡ btfOf b s w
+    go (told m f j) (on e) q = ap (λ (y : MarksAndLeaders). btfOf b s (y .marks .work)) (sym (ok-work m (keptOf r w₁ l₁) f (r .«is_strong») j (r .made) q)) ∙ e
     go (halted c j) off q = absurd (ok-refused c j (keptOf r w₁ l₁) (r .«is_strong») (r .made) q)
 
-same-table : (b : TypeTable) (s : List ℕ) (r : Order) (w₁ l₁ w : List ℕ) (k : Table → Kept → Bool → ℕ → Told Kept) → Stays (btfOf b s) w (keptOut r w₁ l₁)
+same-table : (b : TypeTable) (s : List ℕ) (r : Order) (w₁ l₁ w : List ℕ) (k : Table → MarksAndLeaders → Bool → ℕ → Told MarksAndLeaders) → Stays (btfOf b s) w (keptOut r w₁ l₁)
     → thenBind (keptOut r w₁ l₁) (k (tableIn b s w₁)) ≡ thenBind (keptOut r w₁ l₁) (k (tableIn b s w))
 same-table b s r w₁ l₁ w k h =
     by-stop (thenBind (keptOut r w₁ l₁) (k (tableIn b s w₁)) ≡ thenBind (keptOut r w₁ l₁) (k (tableIn b s w))) r
@@ -263,7 +263,7 @@ called-stays lim b s o w l r w₁ l₁ y left weak v e =
     (stays-bind (btfOf b s) w (keptOut o w l) (λ m _ j. orderKept lim v left (tableIn b s w) m y weak j) (entry-stays b s o w l) (λ m _ j. table-kept b s lim v left (tableIn b s w) m y weak j))
 
 -- ---- order_new: what the code's node says of the rule's
-module _ (lim : Limit) (b : TypeTable) (s : List ℕ) (w l : List ℕ) (o : Order) (id left : ℕ) (weak : Bool) (v : Way) (t : Record) (et : t ≡ recordById b s w id) (nd : Code) (en : nodeIs b s nd ≡ nodeOf (typeOf b s t)) (x : Told Kept) where
+module _ (lim : Limit) (b : TypeTable) (s : List ℕ) (w l : List ℕ) (o : Order) (id left : ℕ) (weak : Bool) (v : Way) (t : Record) (et : t ≡ recordById b s w id) (nd : Code) (en : nodeIs b s nd ≡ nodeOf (typeOf b s t)) (x : Told MarksAndLeaders) where
   abbrev T : Table
   T = tableIn b s w
 
@@ -271,8 +271,8 @@ module _ (lim : Limit) (b : TypeTable) (s : List ℕ) (w l : List ℕ) (o : Orde
   Goal = x ≡ thenBind (keptOut o w l) (λ m _ j. freshKept lim v T left m id weak j)
 
   -- by the rule's clause for a node
-  by-node : (c : Code) → nd ≡ c → (k : Kept → Bool → ℕ → Told Kept) → x ≡ thenBind (keptOut o w l) k
-      → ((m : Kept) (f : Bool) (j : ℕ) → k m f j ≡ freshWithin (keptStore v) T (λ m′ y weak′ j′. orderKept lim (wayFor (isAround (nodeIs b s c)) v id) left T m′ y weak′ j′) m id weak (nodeIs b s c) j) → Goal
+  by-node : (c : Code) → nd ≡ c → (k : MarksAndLeaders → Bool → ℕ → Told MarksAndLeaders) → x ≡ thenBind (keptOut o w l) k
+      → ((m : MarksAndLeaders) (f : Bool) (j : ℕ) → k m f j ≡ freshWithin (keptStore v) T (λ m′ y weak′ j′. orderKept lim (wayFor (isAround (nodeIs b s c)) v id) left T m′ y weak′ j′) m id weak (nodeIs b s c) j) → Goal
   unfolding freshKept
   by-node c e k ex h = ex ∙ bind-same (keptOut o w l) k (λ m _ j. freshKept lim v T left m id weak j)
       (λ m f j. h m f j ∙ ap (λ n. freshWithin (keptStore v) T (λ m′ y weak′ j′. orderKept lim (wayFor (isAround n) v id) left T m′ y weak′ j′) m id weak n j) (ap (nodeIs b s) (sym e) ∙ sym (node-is b s w id t et nd en)))
@@ -324,24 +324,24 @@ module _ (lim : Limit) (b : TypeTable) (s : List ℕ) (w l : List ℕ) (o : Orde
 
 -- a pointer to an id that is known to be ordered
 pub new-ptr-known : (isSet : Bool) (calls : ℕ) (b : TypeTable) (s : List ℕ) (w l : List ℕ) (o : Order) (id left : ℕ) (weak : Bool) (v : Way) (t : Record) → t ≡ recordById b s w id
-    → (nd : Code) → nodeIs b s nd ≡ nodeOf (typeOf b s t) → (x : Told Kept) (y : ℕ) → nd ≡ code.Ptr y → (a : Bool) → a ≡ isKnown isSet calls left o w y → a ≡ true
+    → (nd : Code) → nodeIs b s nd ≡ nodeOf (typeOf b s t) → (x : Told MarksAndLeaders) (y : ℕ) → nd ≡ code.Ptr y → (a : Bool) → a ≡ isKnown isSet calls left o w y → a ≡ true
     → (p : Order) → p ≡ openedBy (limitBy isSet calls) o → x ≡ thenBind (keptOut p w l) (λ m _ j. told (finish (keptStore v) false id m) true j)
     → x ≡ thenBind (keptOut o w l) (λ m _ j. freshKept (limitBy isSet calls) v (tableIn b s w) left m id weak j)
 unfolding thenBind
 new-ptr-known isSet calls b s w l o id left weak v t et nd en x y e a ea h p ep ex =
     new-ptr (limitBy isSet calls) b s w l o id left weak v t et nd en x y e (strongOf p true) w l (order-known isSet calls (tableIn b s w) o w l y left true v a ea h p ep (strongOf p true) refl)
-    (ex ∙ sym (bind-then (keptOut p w l) (λ m _ j. told m true j) last) ∙ ap (λ (u : Told Kept). thenBind u last) (sym (flagged p w l true (strongOf p true) refl)))
+    (ex ∙ sym (bind-then (keptOut p w l) (λ m _ j. told m true j) last) ∙ ap (λ (u : Told MarksAndLeaders). thenBind u last) (sym (flagged p w l true (strongOf p true) refl)))
   where
-    last : Kept → Bool → ℕ → Told Kept
+    last : MarksAndLeaders → Bool → ℕ → Told MarksAndLeaders
     last m _ j = told (finish (keptStore v) false id m) true j
 
 -- ---- order_composite
-each-flag : (f : Kept → ℕ → ℕ → Told Kept) (k : Kept → ℕ → Told Kept) (ys : List ℕ) (m : Kept) (p q : Bool) (j : ℕ) → thenBind (eachWithin f ys m p j) (λ s′ _ i. k s′ i) ≡ thenBind (eachWithin f ys m q j) (λ s′ _ i. k s′ i)
+each-flag : (f : MarksAndLeaders → ℕ → ℕ → Told MarksAndLeaders) (k : MarksAndLeaders → ℕ → Told MarksAndLeaders) (ys : List ℕ) (m : MarksAndLeaders) (p q : Bool) (j : ℕ) → thenBind (eachWithin f ys m p j) (λ s′ _ i. k s′ i) ≡ thenBind (eachWithin f ys m q j) (λ s′ _ i. k s′ i)
 unfolding eachWithin thenBind
 each-flag f k [] m p q j = refl
 each-flag f k (y ∷ ys) m p q j = go (f m y j) (λ s′ c i. each-flag f k ys s′ (p || c) (q || c) i)
   where
-    go : (x : Told Kept) → ((s′ : Kept) (c : Bool) (i : ℕ) → thenBind (eachWithin f ys s′ (p || c) i) (λ s″ _ i′. k s″ i′) ≡ thenBind (eachWithin f ys s′ (q || c) i) (λ s″ _ i′. k s″ i′))
+    go : (x : Told MarksAndLeaders) → ((s′ : MarksAndLeaders) (c : Bool) (i : ℕ) → thenBind (eachWithin f ys s′ (p || c) i) (λ s″ _ i′. k s″ i′) ≡ thenBind (eachWithin f ys s′ (q || c) i) (λ s″ _ i′. k s″ i′))
         → thenBind (thenBind x (λ s′ c i. eachWithin f ys s′ (p || c) i)) (λ s′ _ i. k s′ i) ≡ thenBind (thenBind x (λ s′ c i. eachWithin f ys s′ (q || c) i)) (λ s′ _ i. k s′ i)
     go (told s′ c i) h = h s′ c i
     go (halted c i) h = refl
@@ -352,7 +352,7 @@ module _ (lim : Limit) (b : TypeTable) (s : List ℕ) (w l : List ℕ) (o : Orde
   composite-passed r e er = flagged o w l false r er ∙ bind-same (keptOut o w l) (λ m _ j. told m false j) (λ m _ j. enterKept lim v (tableIn b s w) left m id weak nm ms j)
       (λ m _ j. ap (λ (t : Bool). enterWithin (keptStore v) t (wayKept lim (insideOf v id) (tableIn b s w) left false) m id nm ms j) (sym e))
 
-  pub composite-entered : (w₁ : List ℕ) (u : Way) (r : Order) (w₂ l₂ : List ℕ) (x : Told Kept) → weak && nm ≡ false → w₁ ≡ putField w id 1 1 → u ≡ insideOf v id
+  pub composite-entered : (w₁ : List ℕ) (u : Way) (r : Order) (w₂ l₂ : List ℕ) (x : Told MarksAndLeaders) → weak && nm ≡ false → w₁ ≡ putField w id 1 1 → u ≡ insideOf v id
       → keptOut r w₂ l₂ ≡ thenBind (keptOut o w₁ l) (λ m f j. eachWithin (wayKept lim u (tableIn b s w₁) left false) ms m f j)
       → x ≡ thenBind (keptOut r w₂ l₂) (λ m _ j. told (finish (keptStore v) nm id m) true j)
       → x ≡ thenBind (keptOut o w l) (λ m _ j. enterKept lim v (tableIn b s w) left m id weak nm ms j)
@@ -365,10 +365,10 @@ module _ (lim : Limit) (b : TypeTable) (s : List ℕ) (w l : List ℕ) (o : Orde
       ∙ set-mark o w l v busy id w₁ (λ m _ j. whole m j) ew
       ∙ bind-same (keptOut o w l) (λ m _ j. whole (keptStore v .mark busy id m) j) (λ m _ j. enterKept lim v (tableIn b s w) left m id weak nm ms j) (λ m _ j. ap (λ (t : Bool). enterWithin (keptStore v) t (wayKept lim (insideOf v id) (tableIn b s w) left false) m id nm ms j) (sym e))
     where
-      last : Kept → Bool → ℕ → Told Kept
+      last : MarksAndLeaders → Bool → ℕ → Told MarksAndLeaders
       last m _ j = told (finish (keptStore v) nm id m) true j
 
-      whole : Kept → ℕ → Told Kept
+      whole : MarksAndLeaders → ℕ → Told MarksAndLeaders
       whole m j = thenBind (eachWithin (wayKept lim (insideOf v id) (tableIn b s w) left false) ms m false j) last
 
       same : btfOf b s w₁ ≡ btfOf b s w
@@ -389,13 +389,13 @@ module _ (lim : Limit) (b : TypeTable) (s : List ℕ) (w₀ l₀ : List ℕ) (le
     unfolding from eachWithin wayKept thenBind
     rest-turn h y ey p w₁ l₁ ep q eq = record { whole = inv .whole ∙ one ∙ sym flag; table = stays }
       where
-        f : Kept → ℕ → ℕ → Told Kept
+        f : MarksAndLeaders → ℕ → ℕ → Told MarksAndLeaders
         f = wayKept lim v (tableIn b s w₀) left weak
 
-        after : Kept → Bool → ℕ → Told Kept
+        after : MarksAndLeaders → Bool → ℕ → Told MarksAndLeaders
         after m g j = eachWithin f (from id (k + 1) (vlen - (k + 1))) m g j
 
-        joined : Kept → Bool → ℕ → Told Kept
+        joined : MarksAndLeaders → Bool → ℕ → Told MarksAndLeaders
         joined m g j = eachWithin f (from id (k + 1) (vlen - (k + 1))) m (r .«is_strong» || g) j
 
         -- the call, by the table at the start
@@ -410,11 +410,11 @@ module _ (lim : Limit) (b : TypeTable) (s : List ℕ) (w₀ l₀ : List ℕ) (le
 
         -- q says what p says, with its flag joined to r's
         flag : thenBind (keptOut q w₁ l₁) after ≡ thenBind (keptOut p w₁ l₁) joined
-        flag = ap (λ (x : Told Kept). thenBind x after) (flagged p w₁ l₁ (r .«is_strong» || p .«is_strong») q eq)
+        flag = ap (λ (x : Told MarksAndLeaders). thenBind x after) (flagged p w₁ l₁ (r .«is_strong» || p .«is_strong») q eq)
             ∙ bind-then (keptOut p w₁ l₁) (λ m _ j. told m (r .«is_strong» || p .«is_strong») j) after
             ∙ by-stop _ p (λ z. run p w₁ l₁ (λ m _ j. after m (r .«is_strong» || p .«is_strong») j) z ∙ sym (run p w₁ l₁ joined z)) (λ n. halt p w₁ l₁ (λ m _ j. after m (r .«is_strong» || p .«is_strong») j) n ∙ sym (halt p w₁ l₁ joined n))
 
-        first : Kept → Bool → ℕ → Told Kept
+        first : MarksAndLeaders → Bool → ℕ → Told MarksAndLeaders
         first m g j = thenBind (f m (id k) j) (λ m′ g′ i. eachWithin f (from id (k + 1) (vlen - (k + 1))) m′ (g || g′) i)
 
         one : thenBind (keptOut r w l) (λ m g j. eachWithin f (from id k (vlen - k)) m g j) ≡ thenBind (keptOut p w₁ l₁) joined
@@ -423,7 +423,7 @@ module _ (lim : Limit) (b : TypeTable) (s : List ℕ) (w₀ l₀ : List ℕ) (le
             ap (λ (n : ℕ). thenBind (keptOut r w l) (λ m g j. eachWithin f (from id k n) m g j)) d
             ∙ by-stop _ r (λ z. run r w l first z ∙ sym (run r w l (λ m _ j. thenBind (f m (id k) j) joined) z)) (λ n. halt r w l first n ∙ sym (halt r w l (λ m _ j. thenBind (f m (id k) j) joined) n))
             ∙ sym (bind-then (keptOut r w l) (λ m _ j. f m (id k) j) joined)
-            ∙ ap (λ (x : Told Kept). thenBind x joined) (sym ep₀)
+            ∙ ap (λ (x : Told MarksAndLeaders). thenBind x joined) (sym ep₀)
 
     pub rest-end : vlen ≤ k → keptOut r w l ≡ thenBind (keptOut o w₀ l₀) (λ m f j. eachWithin (wayKept lim v (tableIn b s w₀) left weak) (from id 0 vlen) m f j)
     unfolding from eachWithin
@@ -454,5 +454,5 @@ unfolding memberIds
 members-end lim b s w₀ l₀ left weak v o es r w l k inv h = rest-end lim b s w₀ l₀ left weak v (λ i. sectionWord b s (memberAt (es .at) i + 4)) o (es .vlen) r w l k inv h
 
 -- a way whose weakness the code worked out
-pub by-weak : (lim : Limit) (T : Table) (v : Way) (left y : ℕ) (o x : Told Kept) (f g : Bool) → f ≡ g → x ≡ thenBind o (λ m _ j. orderKept lim v left T m y f j) → x ≡ thenBind o (λ m _ j. orderKept lim v left T m y g j)
+pub by-weak : (lim : Limit) (T : Table) (v : Way) (left y : ℕ) (o x : Told MarksAndLeaders) (f g : Bool) → f ≡ g → x ≡ thenBind o (λ m _ j. orderKept lim v left T m y f j) → x ≡ thenBind o (λ m _ j. orderKept lim v left T m y g j)
 by-weak lim T v left y o x f g e h = h ∙ ap (λ (q : Bool). thenBind o (λ m _ j. orderKept lim v left T m y q j)) e

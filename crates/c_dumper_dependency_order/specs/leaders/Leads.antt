@@ -52,11 +52,11 @@ entryIn req turn l x = elim (eqb x req) [ true ↦ entry x 0 x | false ↦ entry
 -- ---- ordering
 
 -- the work with its order list, and the leaders
-pub record Kept : Type 0 where
+pub record MarksAndLeaders : Type 0 where
   pub marks : Marks
   pub leads : List ℕ
 
-unfoldable pub keptStore : Way → Store Kept
+unfoldable pub keptStore : Way → Store MarksAndLeaders
 keptStore v = record {
   get = λ s x. workStore .get (s .marks) x;
   mark = λ m x s. record { marks = workStore .mark m x (s .marks); leads = s .leads };
@@ -65,7 +65,7 @@ keptStore v = record {
 }
 
 -- the rule under a ceiling, of which k calls are made
-unfoldable pub orderKept : Limit → Way → ℕ → Table → Kept → ℕ → Bool → ℕ → Told Kept
+unfoldable pub orderKept : Limit → Way → ℕ → Table → MarksAndLeaders → ℕ → Bool → ℕ → Told MarksAndLeaders
 orderKept c v zero T s x weak k = halted 12 k
 orderKept c v (suc n) T s x weak k = elim (allows c k) [
   | true ↦ visitWithin (keptStore v) T (λ s′ y w k′. orderKept c (wayFor (isAround (T .node x)) v x) n T s′ y w k′) s x weak
@@ -75,7 +75,7 @@ orderKept c v (suc n) T s x weak k = elim (allows c k) [
 
 -- what the code's answer says, with work and leaders at that moment: a stop is a refusal, after which nothing is said of them; the calls
 -- made are told in either case
-unfoldable pub keptOut : Order → List ℕ → List ℕ → Told Kept
+unfoldable pub keptOut : Order → List ℕ → List ℕ → Told MarksAndLeaders
 keptOut o w l = elim (eqb (o .stop) 0) [
   | true ↦ told (record { marks = record { work = w; len = o .len }; leads = l }) (o .«is_strong») (o .made)
   | false ↦ halted (o .stop) (o .made)
@@ -83,18 +83,18 @@ keptOut o w l = elim (eqb (o .stop) 0) [
 
 -- The clauses of the rules over this store, after k calls: a typedef after its target, the way to an id, a composite, and an id that is not
 -- ordered yet.
-unfoldable pub aliasKept : Way → Kept → ℕ → Bool → Bool → ℕ → Told Kept
+unfoldable pub aliasKept : Way → MarksAndLeaders → ℕ → Bool → Bool → ℕ → Told MarksAndLeaders
 aliasKept v m x weak strong k = aliasWithin (keptStore v) (not weak || strong) (isDone (workStore .get (m .marks) x)) m x k
 
 module _ (c : Limit) (v : Way) (T : Table) (left : ℕ) where
-  unfoldable pub wayKept : Bool → Kept → ℕ → ℕ → Told Kept
+  unfoldable pub wayKept : Bool → MarksAndLeaders → ℕ → ℕ → Told MarksAndLeaders
   wayKept weak m x k = orderKept c v left T m x weak k
 
-  unfoldable pub freshKept : Kept → ℕ → Bool → ℕ → Told Kept
+  unfoldable pub freshKept : MarksAndLeaders → ℕ → Bool → ℕ → Told MarksAndLeaders
   freshKept m x weak k =
       freshWithin (keptStore v) T (λ m′ y w k′. orderKept c (wayFor (isAround (T .node x)) v x) left T m′ y w k′) m x weak (T .node x) k
 
 -- v: around the composite x
-unfoldable pub enterKept : Limit → Way → Table → ℕ → Kept → ℕ → Bool → Bool → List ℕ → ℕ → Told Kept
+unfoldable pub enterKept : Limit → Way → Table → ℕ → MarksAndLeaders → ℕ → Bool → Bool → List ℕ → ℕ → Told MarksAndLeaders
 enterKept c v T left m x weak named members k =
     enterWithin (keptStore v) (weak && named) (wayKept c (insideOf v x) T left false) m x named members k

@@ -19,14 +19,14 @@ use Rattle.spec_type_table.specs.Cells.{getField}
 use Rattle.spec_type_table.specs.Records.{kindOf, recordById}
 use Rattle.spec_type_table.specs.Table.{from, typeOf, btfOf}
 use Rattle.spec_type_table.proofs.KindLaws.{by-kind, type-0, type-1, type-2, type-3, type-4, type-5, type-6, type-7, type-8, type-9, type-10, type-11, type-12, type-13, type-14, type-15, type-16, type-17, type-18, type-19, type-none}
-use Rattle.spec_c_dumper.specs.ceiling.Ceiling.{Limit, unbounded, most, Told, halted, countOf, thenBind}
+use Rattle.spec_c_dumper.specs.ceiling.Ceiling.{Limit, unbounded, most, Told, halted, callsMade, thenBind}
 use Rattle.spec_c_dumper.proofs.ceiling.Counted.{tell, within, passes}
 use Rattle.spec_c_dumper.proofs.ceiling.Plain.{unbounded-is}
 use Rattle.c_dumper_dependency_order.specs.declared.order_state.Order.{Order}
 use Rattle.c_dumper_dependency_order.specs.order_state.Work.{Marks, markOf, workStore, tableIn}
 use Rattle.c_dumper_dependency_order.specs.begin.Start.{limitOf, limitBy}
 use Rattle.c_dumper_dependency_order.specs.declared.leaders.Way.{Way}
-use Rattle.c_dumper_dependency_order.specs.leaders.Leads.{Kept, orderKept, keptOut}
+use Rattle.c_dumper_dependency_order.specs.leaders.Leads.{MarksAndLeaders, orderKept, keptOut}
 use Rattle.c_dumper_dependency_order.proofs.order_state.Laws.{is-done, is-busy, is-new, node-at}
 use Rattle.c_dumper_dependency_order.proofs.order_type.Laws.{keptOf, going, stops, by-stop, run, stays-run, called-stays}
 use Rattle.c_dumper_dependency_order.proofs.leaders.Maps.{forget-kept}
@@ -61,22 +61,22 @@ start made = record { made = made; len = 0; stop = 0; «is_strong» = false }
 
 -- what ordering says of the work alone
 abbrev said : Order → List ℕ → List ℕ → Told Marks
-said o w l = tmap (λ (k : Kept). k .marks) (keptOut o w l)
+said o w l = tmap (λ (k : MarksAndLeaders). k .marks) (keptOut o w l)
 
 module _ (b : TypeTable) (s w : List ℕ) (id made : ℕ) (lim : Limit) (v : Way) (o : Order) (w₁ l₀ l₁ : List ℕ)
     (e : keptOut o w₁ l₁ ≡ thenBind (keptOut (start made) w l₀) (λ m _ j. orderKept lim v 512 (tableIn b s w) m id false j)) where
   ordered-is : said o w₁ l₁ ≡ orderedIn (btfOf b s w) lim (record { work = w; len = 0 }) id made
   ordered-is =
-      ap (tmap (λ (k : Kept). k .marks)) (e ∙ run (start made) w l₀ (λ m _ j. orderKept lim v 512 (tableIn b s w) m id false j) refl)
+      ap (tmap (λ (k : MarksAndLeaders). k .marks)) (e ∙ run (start made) w l₀ (λ m _ j. orderKept lim v 512 (tableIn b s w) m id false j) refl)
       ∙ sym (forget-kept lim v 512 (tableIn b s w) (keptOf (start made) w l₀) id false made)
 
-  counted : countOf (said o w₁ l₁) ≡ o .made
-  unfolding countOf
-  counted = by-stop _ o (λ z. ap (λ (q : Told Kept). countOf (tmap (λ (k : Kept). k .marks) q)) (going o w₁ l₁ z)) (λ n. ap (λ (q : Told Kept). countOf (tmap (λ (k : Kept). k .marks) q)) (stops o w₁ l₁ n))
+  counted : callsMade (said o w₁ l₁) ≡ o .made
+  unfolding callsMade
+  counted = by-stop _ o (λ z. ap (λ (q : Told MarksAndLeaders). callsMade (tmap (λ (k : MarksAndLeaders). k .marks) q)) (going o w₁ l₁ z)) (λ n. ap (λ (q : Told MarksAndLeaders). callsMade (tmap (λ (k : MarksAndLeaders). k .marks) q)) (stops o w₁ l₁ n))
 
   -- the calls made
-  pub made-is : o .made ≡ countOf (orderedIn (btfOf b s w) lim (record { work = w; len = 0 }) id made)
-  made-is = sym counted ∙ ap countOf ordered-is
+  pub made-is : o .made ≡ callsMade (orderedIn (btfOf b s w) lim (record { work = w; len = 0 }) id made)
+  made-is = sym counted ∙ ap callsMade ordered-is
 
 module _ (b : TypeTable) (s : List ℕ) (at : ℕ) (tx w : List ℕ) (id made : ℕ) (lim : Limit) (v : Way) (o : Order) (w₁ l₀ l₁ : List ℕ)
     (e : keptOut o w₁ l₁ ≡ thenBind (keptOut (start made) w l₀) (λ m _ j. orderKept lim v 512 (tableIn b s w) m id false j)) where
@@ -92,7 +92,7 @@ module _ (b : TypeTable) (s : List ℕ) (at : ℕ) (tx w : List ℕ) (id made : 
   dump-refused n r er = by-out _ at tx
       (λ l. halts 0 r tx w₁ (o .stop) (er ∙ put-fits tx at (cut [] (o .stop)) (omega arith))
       ∙ sym (ap (λ (q : Out Sheet). obind q (λ m. dumpedMetered b X lim m id made)) (goes 0 at tx w l) ∙ dumped-is
-      ∙ ap (λ (q : Told Kept). listedOut (workMachine b X) (tableOf X) (besideOf (sheet 0 at tx w) (tmap (λ (k : Kept). k .marks) q))) (stops o w₁ l₁ n)))
+      ∙ ap (λ (q : Told MarksAndLeaders). listedOut (workMachine b X) (tableOf X) (besideOf (sheet 0 at tx w) (tmap (λ (k : MarksAndLeaders). k .marks) q))) (stops o w₁ l₁ n)))
       (λ c q. halts 0 r tx w₁ c (er ∙ stays tx at c (cut [] (o .stop)) q) ∙ sym (ap (λ (q : Out Sheet). obind q (λ m. dumpedMetered b X lim m id made)) (halts 0 at tx w c q)))
 
   module _ (z : o .stop ≡ 0) where
@@ -118,7 +118,7 @@ module _ (b : TypeTable) (s : List ℕ) (at : ℕ) (tx w : List ℕ) (id made : 
         (λ l. ap (λ (q : Out Sheet). obind q all) (goes (o .len) at tx w₁ l)
         ∙ listed-all
         ∙ sym (ap (λ (q : Out Sheet). obind q (λ m. dumpedMetered b X lim m id made)) (goes 0 at tx w l) ∙ dumped-is
-        ∙ ap (λ (q : Told Kept). listedOut (workMachine b X) (tableOf X) (besideOf (sheet 0 at tx w) (tmap (λ (k : Kept). k .marks) q))) (going o w₁ l₁ z)))
+        ∙ ap (λ (q : Told MarksAndLeaders). listedOut (workMachine b X) (tableOf X) (besideOf (sheet 0 at tx w) (tmap (λ (k : MarksAndLeaders). k .marks) q))) (going o w₁ l₁ z)))
         (λ c q. ap (λ (u : Out Sheet). obind u all) (halts (o .len) at tx w₁ c q) ∙ sym (ap (λ (u : Out Sheet). obind u (λ m. dumpedMetered b X lim m id made)) (halts 0 at tx w c q)))
       where
         last : Sheet → Out Sheet
@@ -176,8 +176,8 @@ module _ (b : TypeTable) (s : List ℕ) (w : List ℕ) (id left : ℕ) where
   unfolding callsIn
   rule-over l = passes left workStore 512 (tableIn b s w) marks id false 0 (omega arith) (subst (λ (m : ℕ). left < m) (sym (none-before opens)) l)
 
-  tell-count : (r : Res Marks) (j : ℕ) → countOf (tell r j) ≡ j
-  unfolding countOf tell
+  tell-count : (r : Res Marks) (j : ℕ) → callsMade (tell r j) ≡ j
+  unfolding callsMade tell
   tell-count (ok m f) j = refl
   tell-count (refused c) j = refl
 
@@ -186,16 +186,16 @@ module _ (b : TypeTable) (s : List ℕ) (w : List ℕ) (id left : ℕ) where
     pub at-most : made ≤ left
     pub rest : left - made ≡ left - opens
 
-  made-under : Made (countOf (orderedIn (btfOf b s w) (most left) marks id 0))
-  unfolding countOf
+  made-under : Made (callsMade (orderedIn (btfOf b s w) (most left) marks id 0))
+  unfolding callsMade
   made-under =
       ⊎-elim
-      (λ l. subst Made (sym (ap countOf (rule-fits l) ∙ tell-count plain-rule opens)) (record { at-most = l; rest = refl }))
-      (λ l. subst Made (sym (ap countOf (rule-over l))) (record { at-most = omega arith; rest = omega arith }))
+      (λ l. subst Made (sym (ap callsMade (rule-fits l) ∙ tell-count plain-rule opens)) (record { at-most = l; rest = refl }))
+      (λ l. subst Made (sym (ap callsMade (rule-over l))) (record { at-most = omega arith; rest = omega arith }))
       (le-or-lt opens left)
 
-  pub within-made : (made : ℕ) → made ≡ countOf (orderedIn (btfOf b s w) (limitOf (record { «is_set» = true; calls = left })) marks id 0) → Made made
-  within-made made e = subst Made (sym (e ∙ ap (λ (c : Limit). countOf (orderedIn (btfOf b s w) c marks id 0)) (most-is left))) made-under
+  pub within-made : (made : ℕ) → made ≡ callsMade (orderedIn (btfOf b s w) (limitOf (record { «is_set» = true; calls = left })) marks id 0) → Made made
+  within-made made e = subst Made (sym (e ∙ ap (λ (c : Limit). callsMade (orderedIn (btfOf b s w) c marks id 0)) (most-is left))) made-under
 
   module _ (at : ℕ) (tx : List ℕ) where
     sheet-fits : opens ≤ left → dumpedMetered b (btfOf b s w) (most left) (sheet 0 at tx w) id 0 ≡ dumpedWithin b (btfOf b s w) opens left (sheet 0 at tx w) id

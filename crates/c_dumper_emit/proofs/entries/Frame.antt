@@ -20,7 +20,7 @@ use Rattle.btf_layout.specs.asked.Asked.{workAsks}
 use Rattle.spec_c_dumper.proofs.rules.Keeps.{Keeps}
 use Rattle.btf_layout.proofs.refusals.InWork.{definition-keeps, forward-keeps}
 use Rattle.spec_type_table.specs.declared.types.TypeTable.{TypeTable}
-use Rattle.spec_type_table.specs.Cells.{getField, putField, classP, countP, counted}
+use Rattle.spec_type_table.specs.Cells.{getField, putField, classP, countP, countRaised}
 use Rattle.spec_type_table.specs.Numbers.{numberAt}
 use Rattle.spec_type_table.specs.Table.{btfOf, workNaming, typeVersionIn, valueVersionIn, enumeratorOf}
 use Rattle.spec_type_table.proofs.Laws.{place-type, place-enum}
@@ -208,7 +208,7 @@ place-apart types c j e =
     (λ l. let q : j * 16 + 11 ≡ c * 16 + 6 = e ∙ sym (place-type types 6 2 c l) in omega arith)
     (le-or-lt types c)
 
-places-counted : (types : ℕ) (w : List ℕ) (h : ℕ) → places (counted (classP types) (countP types) w h) ≡ places w
+places-counted : (types : ℕ) (w : List ℕ) (h : ℕ) → places (countRaised (classP types) (countP types) w h) ≡ places w
 places-counted types w h = λ i k. counted-other types w h (k * 16 + 11) (λ c. place-apart types c k) i
 
 places-field : (f : ℕ) → f < 16 → f ≢ 11 → (w : List ℕ) (x v : ℕ) → places (putField w x f v) ≡ places w
@@ -222,7 +222,7 @@ places-names b space id name w = go (eqb (getField w id 4) 0)
     n = numberAt (b .types) w id
 
     u : List ℕ
-    u = counted (classP (b .types)) (countP (b .types)) w id
+    u = countRaised (classP (b .types)) (countP (b .types)) w id
 
     go : (t : Bool) → places ((elim t as (λ z. Resolved (List ℕ)) [ false ↦ record { version = getField w id 4; names = w } | true ↦ record { version = n; names = putField u id 4 n } ]) .names) ≡ places w
     go false = refl
@@ -236,7 +236,7 @@ places-values b id i name w = go (ltb (b .types + enumeratorOf w id i) 429496729
     n = numberAt (b .types) w (b .types + enumeratorOf w id i)
 
     u : List ℕ
-    u = counted (classP (b .types)) (countP (b .types)) w (b .types + enumeratorOf w id i)
+    u = countRaised (classP (b .types)) (countP (b .types)) w (b .types + enumeratorOf w id i)
 
     go : (t : Bool) → places ((elim t as (λ z. Resolved (List ℕ)) [ true ↦ record { version = n; names = u } | false ↦ record { version = 0; names = w } ]) .names) ≡ places w
     go false = refl

@@ -17,7 +17,7 @@ use Rattle.spec_c_dumper.proofs.rules.Maps.{rmap, StoreMap, map-visit-plain, ma
 use Rattle.spec_c_dumper.specs.origins.Causes.{ledBy, isAround, inside, Led, ledStore, orderLed, leaderOf, listedEntry, entry}
 use Rattle.spec_c_dumper.proofs.origins.Ordering.{two-numbers}
 use Rattle.c_dumper_dependency_order.specs.declared.leaders.Way.{Way}
-use Rattle.c_dumper_dependency_order.specs.leaders.Leads.{ledTwo, wayFor, wordAt, isNoted, noteIn, leaderIn, entryIn, Kept, keptStore, orderKept}
+use Rattle.c_dumper_dependency_order.specs.leaders.Leads.{ledTwo, wayFor, wordAt, isNoted, noteIn, leaderIn, entryIn, MarksAndLeaders, keptStore, orderKept}
 use Rattle.c_dumper_emit.specs.origin_request.Kept.{Before}
 
 -- ---- the words after some notes
@@ -35,7 +35,7 @@ tabled-more turn l (q ∷ ps) p = tabled-more turn (noteOf turn l q) ps p
 
 -- ---- ordering
 module _ (req turn : ℕ) (l₀ : List ℕ) where
-  abbrev pub keptFrom : Led Marks → Kept
+  abbrev pub keptFrom : Led Marks → MarksAndLeaders
   keptFrom s = record { marks = s .state; leads = tabled turn l₀ (s .led) }
 
   kept-map : (v : Way) (around : List ℕ) → v .turn ≡ turn → ((x : ℕ) → ledTwo v x ≡ ledBy req around x) → StoreMap (ledStore workStore req around) (keptStore v) keptFrom

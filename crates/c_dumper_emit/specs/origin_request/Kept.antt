@@ -12,7 +12,7 @@ use Rattle.spec_type_table.specs.declared.types.TypeTable.{TypeTable}
 use Rattle.spec_session.specs.emission.Sheet.{Sheet, marksIn, withMarks, sheetStore, workMachine}
 use Rattle.spec_c_dumper.specs.origins.Causes.{Noted, upTo, showsIn, eachListed}
 use Rattle.c_dumper_dependency_order.specs.declared.leaders.Way.{Way}
-use Rattle.c_dumper_dependency_order.specs.leaders.Leads.{wordAt, Kept, orderKept, entryIn}
+use Rattle.c_dumper_dependency_order.specs.leaders.Leads.{wordAt, MarksAndLeaders, orderKept, entryIn}
 
 -- before the first request of a call
 unfoldable pub noLeads : List ℕ
@@ -36,20 +36,20 @@ unfoldable pub withLeads : List ℕ → Out (Noted Sheet) → Out Beside
 withLeads l (wrote m) = wrote (record { noted = m; leads = l })
 withLeads l (stuck c) = stuck c
 
-unfoldable pub orderedKept : Rules → Sheet → List ℕ → ℕ → ℕ → Told Kept
+unfoldable pub orderedKept : Rules → Sheet → List ℕ → ℕ → ℕ → Told MarksAndLeaders
 orderedKept B m l id turn = orderKept unbounded (wayTo id turn) 512 (tableOf B) (record { marks = marksIn m; leads = l }) id false 0
 
 module _ (b : TypeTable) (B : Rules) (room : ℕ) where
   -- the sheet that ordering left, with the entries so far
-  abbrev pub besideKept : Noted Sheet → Kept → Noted Sheet
+  abbrev pub besideKept : Noted Sheet → MarksAndLeaders → Noted Sheet
   besideKept m s = record { mach = withMarks (m .mach) (s .marks); entries = m .entries }
 
-  unfoldable pub eachKept : ℕ → ℕ → Noted Sheet → Kept → Out (Noted Sheet)
+  unfoldable pub eachKept : ℕ → ℕ → Noted Sheet → MarksAndLeaders → Out (Noted Sheet)
   eachKept id turn m s =
       eachListed (workMachine b B) (tableOf B) (upTo room) (showsIn B) (entryIn id turn (s .leads))
       (sheetStore .list (withMarks (m .mach) (s .marks))) (besideKept m s)
 
-  unfoldable pub listedKept : ℕ → ℕ → Noted Sheet → Told Kept → Out Beside
+  unfoldable pub listedKept : ℕ → ℕ → Noted Sheet → Told MarksAndLeaders → Out Beside
   listedKept id turn m (told s strong made) =
       withLeads (s .leads) (obind (eachKept id turn m s) (λ k. wrote (record {
         mach = workMachine b B .start 0 (k .mach);

@@ -10,7 +10,7 @@ use Rattle.spec_c_dumper.specs.rules.Writer.{Said, saidText, saidNames, Writer,
 use Rattle.spec_c_dumper.specs.rules.Place.{outOf, putSaid}
 use Rattle.spec_c_dumper.specs.rules.Names.{Space, Resolved, spelled, resolving, resolveTypeName, resolveName}
 use Rattle.spec_type_table.specs.declared.types.TypeTable.{TypeTable}
-use Rattle.spec_type_table.specs.Cells.{getField, putField, classP, countP, counted}
+use Rattle.spec_type_table.specs.Cells.{getField, putField, classP, countP, countRaised}
 use Rattle.spec_type_table.specs.Numbers.{numberAt}
 use Rattle.spec_type_table.specs.Names.{strAt}
 use Rattle.spec_type_table.specs.Table.{workNaming, typeVersionIn, valueVersionIn, enumeratorOf}
@@ -41,7 +41,7 @@ module _ (types id : ℕ) (w : List ℕ) where
   version-held v n e = rw (ne-eqb (getField w id 4) 0 (λ z. n (e ∙ z)), typeVersionIn) (λ i. record { version = e i; names = w })
 
   version-more : (n : ℕ) (w₁ w₂ : List ℕ) → getField w id 4 ≡ 0
-      → n ≡ numberAt types w id → w₁ ≡ counted (classP types) (countP types) w id → w₂ ≡ putField w₁ id 4 n
+      → n ≡ numberAt types w id → w₁ ≡ countRaised (classP types) (countP types) w id → w₂ ≡ putField w₁ id 4 n
       → _≡_ {A = Resolved (List ℕ)} (record { version = n; names = w₂ }) (typeVersionIn types id w)
   unfolding typeVersionIn
   version-more n w₁ w₂ z en e₁ e₂ =
@@ -60,7 +60,7 @@ module _ (b : TypeTable) (space : Space) (id : ℕ) (name w : List ℕ) where
 
   -- one more holder
   pub type-counted : (v n : ℕ) (w₁ w₂ : List ℕ) → isEmpty name ≡ false → v ≡ 0 → v ≡ getField w id 4
-      → n ≡ numberAt (b .types) w id → w₁ ≡ counted (classP (b .types)) (countP (b .types)) w id → w₂ ≡ putField w₁ id 4 n
+      → n ≡ numberAt (b .types) w id → w₁ ≡ countRaised (classP (b .types)) (countP (b .types)) w id → w₂ ≡ putField w₁ id 4 n
       → put (spelled name n) w₂ ≡ resolveTypeName (workNaming b) space id name put w
   type-counted v n w₁ w₂ h z e en e₁ e₂ =
       ap (λ (y : Resolved (List ℕ)). put (spelled name (y .version)) (y .names)) (version-more (b .types) id w n w₁ w₂ (sym e ∙ z) en e₁ e₂)
@@ -69,7 +69,7 @@ module _ (b : TypeTable) (space : Space) (id : ℕ) (name w : List ℕ) where
 -- ---- resolve_name's
 module _ (types e : ℕ) (w : List ℕ) where
   pub value-counted : (n : ℕ) (w₁ : List ℕ) → types + e < 4294967296
-      → (n ≡ numberAt types w (types + e)) × (w₁ ≡ counted (classP types) (countP types) w (types + e))
+      → (n ≡ numberAt types w (types + e)) × (w₁ ≡ countRaised (classP types) (countP types) w (types + e))
       → (n ≡ valueVersionIn types e w .version) × (w₁ ≡ valueVersionIn types e w .names)
   unfolding valueVersionIn
   value-counted n w₁ h q = rw (lt-ltb (types + e) 4294967296 h, valueVersionIn) q

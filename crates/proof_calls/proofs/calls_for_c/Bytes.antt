@@ -18,7 +18,7 @@ use Rattle.spec_session.specs.declared.session.Session.{Session}
 use Rattle.spec_session.specs.session.Answers.{numberOf, valueOf, answerOf}
 use Rattle.spec_session.specs.session.Turns.{Call, callOf}
 use Rattle.spec_session.specs.calls.Calls.{typeCall, typesCall}
-use Rattle.spec_session.specs.calls.Lists.{idsIn, counted, listFrom, countIn}
+use Rattle.spec_session.specs.calls.Lists.{idsIn, thenNext, listFrom, countIn}
 use Rattle.spec_session.proofs.calls.Claims.{number-is, type-not-current, types-not-current, closed-stays}
 use Rattle.spec_session.proofs.calls.Lists.{idsFrom, ids-some, counted-goes, counted-stops}
 use Rattle.spec_c_dumper.specs.needs.Lists.{Ls}
@@ -152,22 +152,22 @@ module _ (p modes : ℕ) (s : List ℕ) (n : ℕ) (ok : openingNumber p s n ≡ 
       record { is = λ i. record { session = decoded r; answer = answerOf (a i) (b i); work = w; text = t }; sound = q }
 
   -- the first id of a list is refused
-  stop-told : (k m : ℕ) → k < 4294967296 → (e : Export) (c : Call) (rest : Export → Export) (rest′ : Call → Call) → Tells e c → numberIn e ≡ suc m → numberOf (c .answer) ≡ suc m → Tells (countedExport k e rest) (counted k c rest′)
+  stop-told : (k m : ℕ) → k < 4294967296 → (e : Export) (c : Call) (rest : Export → Export) (rest′ : Call → Call) → Tells e c → numberIn e ≡ suc m → numberOf (c .answer) ≡ suc m → Tells (countedExport k e rest) (thenNext k c rest′)
   unfolding countedExport exportOf callOf
   stop-told k m l e c rest rest′ q z z′ =
       let a : (suc m * 4294967296 + k) / 4294967296 ≡ suc m = omega arith in
       let b : (suc m * 4294967296 + k) % 4294967296 ≡ k = omega arith in
       let at : countedExport k e rest ≡ exportOf (suc m * 4294967296 + k) (e .bytes) (e .work) (e .text) = rw (z, countedExport) in
-      subst (λ (x : Export). Tells x (counted k c rest′)) (sym at) (record {
+      subst (λ (x : Export). Tells x (thenNext k c rest′)) (sym at) (record {
         is = (λ i. record { session = q .is i .session; answer = answerOf (a i) (b i); work = q .is i .work; text = q .is i .text }) ∙ sym (counted-stops k (suc m) c rest′ z′ (λ y. absurd (omega arith)));
         sound = q .sound;
       })
 
-  go-told : (k : ℕ) (e : Export) (c : Call) (rest : Export → Export) (rest′ : Call → Call) → numberIn e ≡ 0 → numberOf (c .answer) ≡ 0 → Tells (rest e) (rest′ c) → Tells (countedExport k e rest) (counted k c rest′)
+  go-told : (k : ℕ) (e : Export) (c : Call) (rest : Export → Export) (rest′ : Call → Call) → numberIn e ≡ 0 → numberOf (c .answer) ≡ 0 → Tells (rest e) (rest′ c) → Tells (countedExport k e rest) (thenNext k c rest′)
   unfolding countedExport
   go-told k e c rest rest′ z z′ i =
       let at : countedExport k e rest ≡ rest e = rw (z, countedExport) in
-      subst (λ (x : Export). Tells x (counted k c rest′)) (sym at) (subst (Tells (rest e)) (sym (counted-goes k c rest′ z′)) i)
+      subst (λ (x : Export). Tells x (thenNext k c rest′)) (sym at) (subst (Tells (rest e)) (sym (counted-goes k c rest′ z′)) i)
 
   abbrev Next : ℕ → List ℕ → Type 0
   Next k ids = (r w t₀ : List ℕ) (L : State) → Holds p modes s n (decoded r) w t₀ L → Sound r → (t : List ℕ) → decoded r .«text_len» ≤ length t → take (decoded r .«text_len») t ≡ take (decoded r .«text_len») t₀
@@ -203,10 +203,10 @@ module _ (p modes : ℕ) (s : List ℕ) (n : ℕ) (ok : openingNumber p s n ≡ 
         subst (λ (c : Call). Tells (resting e₁) (rest c)) (first .is)
         (ih (e₁ .bytes) (e₁ .work) (e₁ .text) (single (machineIn p modes s n) (typesIn p modes s n) (length t) L x .sess) held (first .sound) (e₁ .text) (held .fits) refl)
 
-    each : Tells (countedExport k e₁ resting) (counted k c₁ rest)
+    each : Tells (countedExport k e₁ resting) (thenNext k c₁ rest)
     each = go (numberOf (c₁ .answer)) refl
       where
-        go : (m : ℕ) → numberOf (c₁ .answer) ≡ m → Tells (countedExport k e₁ resting) (counted k c₁ rest)
+        go : (m : ℕ) → numberOf (c₁ .answer) ≡ m → Tells (countedExport k e₁ resting) (thenNext k c₁ rest)
         go zero z = go-told k e₁ c₁ resting rest (number-same ∙ z) z onward
         go (suc m) z = stop-told k m l e₁ c₁ resting rest first (number-same ∙ z) z
 

@@ -15,7 +15,7 @@ use Rattle.spec_session.specs.declared.session.Session.{Session}
 use Rattle.spec_session.specs.session.Answers.{numberOf, valueOf, answerOf}
 use Rattle.spec_session.specs.session.Turns.{Call, callOf, unchanged, isCurrent}
 use Rattle.spec_session.specs.calls.Calls.{typeCall, typesCall}
-use Rattle.spec_session.specs.calls.Lists.{counted, listFrom, listCall}
+use Rattle.spec_session.specs.calls.Lists.{thenNext, listFrom, listCall}
 use Rattle.spec_session.proofs.calls.Claims.{type-not-current, types-not-current, closed-stays}
 use Rattle.spec_session.proofs.calls.Lists.{counted-stops}
 use Rattle.spec_session.specs.metered.Within.{CallWithin, typeCallWithin, typesCallWithin}
@@ -65,7 +65,7 @@ module _ (s : List ℕ) (S : Session) (w : List ℕ) (off : S .«open» ≡ fals
   list-shut text none [] = refl
   list-shut text none (x ∷ ids) =
       let rest : Call → Call = λ c. listFrom 1 (c .session) s (c .work) (c .text) ids in
-      ap (λ (y : Call). counted 0 y rest) (type-shut text none x) ∙ counted-stops 0 11 (unchanged S (Refused 11 (S .«text_len»)) w text) rest refl (λ z. absurd (omega arith))
+      ap (λ (y : Call). thenNext 0 y rest) (type-shut text none x) ∙ counted-stops 0 11 (unchanged S (Refused 11 (S .«text_len»)) w text) rest refl (λ z. absurd (omega arith))
   list-shut text (upTo k) [] = refl
   list-shut text (upTo k) (x ∷ ids) =
       let d : CallWithin = typeCallWithin k S s w text x 0 in

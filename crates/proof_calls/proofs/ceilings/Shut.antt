@@ -29,7 +29,7 @@ use Rattle.spec_session.specs.metered.Within.{Within, CallWithin, requestedWith
 use Rattle.spec_session.specs.metered.Lists.{countedWithin, listFromWithin}
 use Rattle.spec_session.proofs.metered.Laws.{request-fits, request-over}
 use Rattle.spec_session.proofs.metered.Claims.{type-fits}
-use Rattle.spec_session.specs.metered.Fits.{Fits}
+use Rattle.spec_session.specs.metered.Fits.{FitsCeiling}
 use Rattle.spec_session.proofs.metered.ListLaws.{counted-goes, counted-stops}
 use Rattle.spec_c_dumper.specs.needs.Lists.{Ls}
 use Rattle.spec_c_dumper.specs.needs.Session.{Known, textOf}
@@ -229,7 +229,7 @@ module _ (p modes : ℕ) (s : List ℕ) (n : ℕ) (ok : openingNumber p s n ≡ 
       where
         by : (j : ℕ) → numberOf (d .call .answer) ≡ j → Ends (length text) k (countedWithin k d rest .call) (x ∷ ids) L
         by zero e =
-            let fits : Fits c (typeCall S s work text x) (λ y. typeCallWithin y S s work text x m) = type-fits S s work text c x m few (λ z. absurd (omega (arith, e, z))) in
+            let fits : FitsCeiling c (typeCall S s work text x) (λ y. typeCallWithin y S s work text x m) = type-fits S s work text c x m few (λ z. absurd (omega (arith, e, z))) in
             let long : length (d .call .text) ≡ length text = ap (λ (y : Call). length (y .text)) (fits .same-call) ∙ type-single S s work text x .long in
             let hold : Holds p modes s n (d .call .session) (d .call .work) (d .call .text) L₁ =
             subst (λ (y : Call). Holds p modes s n (y .session) (y .work) (y .text) L₁) (sym (fits .same-call)) (type-keeps p modes s n ok S work text₀ L h text f same x .holds) in

@@ -12,7 +12,7 @@ use Rattle.spec_session.specs.declared.session.Session.{Session}
 use Rattle.spec_session.specs.session.Answers.{numberOf, answerOf}
 use Rattle.spec_session.specs.session.Turns.{Call, callOf, isCurrent}
 use Rattle.spec_session.specs.calls.Calls.{typeCall}
-use Rattle.spec_session.specs.calls.Lists.{counted, listFrom, listCall}
+use Rattle.spec_session.specs.calls.Lists.{thenNext, listFrom, listCall}
 use Rattle.spec_session.proofs.calls.Claims.{type-current, type-not-below, type-not-current}
 use Rattle.spec_cut.specs.section.Renumbered.{newId}
 use Rattle.spec_cut.specs.section.Section.{cutSection}
@@ -37,7 +37,7 @@ module _ (pointer modes : ℕ) (s : List ℕ) (n : ℕ) (m : ℕ → Bool) (n′
   from : (k : ℕ) (c c′ : Call) → Beside pointer modes s n m n′ c c′ → (text text′ : List ℕ) → length text ≡ length text′ → Lent c text → Lent c′ text′
       → (ids : List ℕ) → Every (HasNumber pointer modes s n m n′) ids
       → SameList (listFrom k (c .session) s (c .work) text ids) (listFrom k (c′ .session) s′ (c′ .work) text′ (map (newId m) ids))
-  unfolding listFrom counted callOf
+  unfolding listFrom thenNext callOf
   from k c c′ b text text′ e l l′ [] h =
       let t = R .same-text c c′ b in
       record { number = refl; value = refl; text = record { is-open = t .is-open; text-len = t .text-len; text = l .begins ∙ t .text ∙ sym (l′ .begins) } }

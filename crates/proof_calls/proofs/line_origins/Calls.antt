@@ -29,7 +29,7 @@ use Rattle.proof_demands.specs.demands.Table.{headerOf, openedTable, machineIn}
 use Rattle.proof_demands.specs.demands.Session.{Holds}
 use Rattle.proof_demands.proofs.demands.Described.{count-described}
 use Rattle.proof_demands.proofs.demands.Session.{BothReach, both-reached, both-ended, Keeps, settle, table-is, types-is, going, current, type-keeps, types-keeps}
-use Rattle.spec_c_dumper.specs.origins.Causes.{Entry, upTo, showsIn, filled, entriesIn, Told, untold, gateNoted, singleNoted, everyNoted, causesOf}
+use Rattle.spec_c_dumper.specs.origins.Causes.{Entry, upTo, showsIn, filled, entriesIn, Explaining, untold, gateNoted, singleNoted, everyNoted, causesOf}
 use Rattle.spec_session.specs.origin_calls.Bytes.{CauseCall, Reached, requestedNoted, requestedFromNoted, settledNoted, leftAlone, typeCauses, typesCauses}
 use Rattle.spec_c_dumper.proofs.origins.Requests.{filled-listed}
 use Rattle.spec_session.proofs.origins_after.Shift.{behind, requested-shift}
@@ -54,7 +54,7 @@ module _ (p modes : ℕ) (s : List ℕ) (n : ℕ) (ok : openingNumber p s n ≡ 
   X = machineIn p modes s n
 
   -- a call d that is lent the list l after the requests `told`, on a text slice of `room` bytes, and what the rules come to
-  pub record Stepped (room : ℕ) (told : Told State) (l : List ℕ) (d : CauseCall) (t : Told State) : Type 0 where
+  pub record Stepped (room : ℕ) (told : Explaining State) (l : List ℕ) (d : CauseCall) (t : Explaining State) : Type 0 where
     pub keeps : Keeps p modes s n ok room (d .call) (t .answer)
     pub goes-on : t .answer .number ≡ 0 → t .answer .sess .isOpen ≡ true
     pub fresh : List Entry
@@ -67,7 +67,7 @@ module _ (p modes : ℕ) (s : List ℕ) (n : ℕ) (ok : openingNumber p s n ≡ 
   reach-open (both-ended c len u t L g) e = absurd (let z : suc c ≡ 0 = e in omega arith)
 
   -- what is claimed, with no request before
-  pub agrees : (l : List ℕ) (d : CauseCall) (t : Told State) (fs : List Entry) → Holds p modes s n (d .call .session) (d .call .work) (d .call .text) (t .answer .sess) → numberOf (d .call .answer) ≡ t .answer .number
+  pub agrees : (l : List ℕ) (d : CauseCall) (t : Explaining State) (fs : List Entry) → Holds p modes s n (d .call .session) (d .call .work) (d .call .text) (t .answer .sess) → numberOf (d .call .answer) ≡ t .answer .number
       → t .entries ≡ fs → d .count ≡ length fs → Listing l false fs (d .list) (t .zeroed) → Agrees d (causesOf l t)
   unfolding causesOf
   agrees l d t fs h q e k i = record {
@@ -79,7 +79,7 @@ module _ (p modes : ℕ) (s : List ℕ) (n : ℕ) (ok : openingNumber p s n ≡ 
     text = h .its-text;
   }
 
-  module _ (S : Session) (work text₀ : List ℕ) (told : Told State) (h : Holds p modes s n S work text₀ (told .answer .sess)) (text : List ℕ) (f : S .«text_len» ≤ length text)
+  module _ (S : Session) (work text₀ : List ℕ) (told : Explaining State) (h : Holds p modes s n S work text₀ (told .answer .sess)) (text : List ℕ) (f : S .«text_len» ≤ length text)
       (same : take (S .«text_len») text ≡ take (S .«text_len») text₀) where
     abbrev L : Sess State
     L = told .answer .sess
@@ -89,7 +89,7 @@ module _ (p modes : ℕ) (s : List ℕ) (n : ℕ) (ok : openingNumber p s n ≡ 
 
     -- ---- one id
     module _ (x : ℕ) (l : List ℕ) (c : ℕ) (room-is : c ≡ length es + entriesIn l) where
-      abbrev single′ : Told State
+      abbrev single′ : Explaining State
       single′ = singleNoted X T (upTo c) (showsIn B) (length text) x told
 
       abbrev cameTo : Reached
@@ -106,10 +106,10 @@ module _ (p modes : ℕ) (s : List ℕ) (n : ℕ) (ok : openingNumber p s n ≡ 
         listing = leaves;
       }
 
-      abbrev At : CauseCall → Told State → Type 0
+      abbrev At : CauseCall → Explaining State → Type 0
       At d t = Stepped (length text) told l d t
 
-      along : {d d′ : CauseCall} {t t′ : Told State} → d ≡ d′ → t ≡ t′ → At d′ t′ → At d t
+      along : {d d′ : CauseCall} {t t′ : Explaining State} → d ≡ d′ → t ≡ t′ → At d′ t′ → At d t
       along {d} {d′} {t} {t′} q r k = subst (λ (y : CauseCall). At y t) (sym q) (subst (At d′) (sym r) k)
 
       step-closed : L .isOpen ≡ false → At (typeCauses S s work text x l) single′
@@ -168,13 +168,13 @@ module _ (p modes : ℕ) (s : List ℕ) (n : ℕ) (ok : openingNumber p s n ≡ 
 
     -- ---- all ids
     module _ (l : List ℕ) where
-      abbrev every′ : Told State
+      abbrev every′ : Explaining State
       every′ = everyNoted X T (upTo (entriesIn l)) (showsIn B) (length text) L (L .isOpen)
 
-      abbrev Ends : CauseCall → Told State → Type 0
+      abbrev Ends : CauseCall → Explaining State → Type 0
       Ends d t = Stepped (length text) (untold L) l d t
 
-      ends-along : {d d′ : CauseCall} {t t′ : Told State} → d ≡ d′ → t ≡ t′ → Ends d′ t′ → Ends d t
+      ends-along : {d d′ : CauseCall} {t t′ : Explaining State} → d ≡ d′ → t ≡ t′ → Ends d′ t′ → Ends d t
       ends-along {d} {d′} {t} {t′} q r k = subst (λ (y : CauseCall). Ends y t) (sym q) (subst (Ends d′) (sym r) k)
 
       all-closed : L .isOpen ≡ false → Ends (typesCauses S s work text l) every′
@@ -195,7 +195,7 @@ module _ (p modes : ℕ) (s : List ℕ) (n : ℕ) (ok : openingNumber p s n ≡ 
       abbrev cameAll : Reached
       cameAll = requestedFromNoted (upTo (entriesIn l)) b s (T .count - 1) 1 [] (S .«text_len») work text
 
-      settled-all : (t : Told State) → BothCame p modes s n ok (entriesIn l) (length text) cameAll t → L .isOpen ≡ true → Ends (settledNoted S (length work) (length text) l cameAll) t
+      settled-all : (t : Explaining State) → BothCame p modes s n ok (entriesIn l) (length text) cameAll t → L .isOpen ≡ true → Ends (settledNoted S (length work) (length text) l cameAll) t
       unfolding settledNoted
       settled-all t k o = record {
         keeps = settle p modes s n ok S work text₀ L h (h .bears o .names .kept .long) (length text) (k .reaches);
@@ -218,7 +218,7 @@ module _ (p modes : ℕ) (s : List ℕ) (n : ℕ) (ok : openingNumber p s n ≡ 
       all-open o =
           let u : isCurrent S (length s) (length work) (length text) ≡ true = current p modes s n ok S work text₀ L h text f same o in
           let open-is : typesCauses S s work text l ≡ settledNoted S (length work) (length text) l (requestedFromNoted (upTo (entriesIn l)) (tableFor S s) s (tableFor S s .types - 1) 1 [] (S .«text_len») work text) = rw (u, typesCauses) in
-          let begun : Told State = record { answer = record { sess = L; number = 0 }; entries = []; zeroed = true } in
+          let begun : Explaining State = record { answer = record { sess = L; number = 0 }; entries = []; zeroed = true } in
           ends-along
           (open-is ∙ ap (λ (K : TypeTable). settledNoted S (length work) (length text) l (requestedFromNoted (upTo (entriesIn l)) K s (K .types - 1) 1 [] (S .«text_len») work text)) (table-is p modes s n ok S work text₀ L h text f same)
           ∙ ap (λ (k : ℕ). settledNoted S (length work) (length text) l (requestedFromNoted (upTo (entriesIn l)) b s (k - 1) 1 [] (S .«text_len») work text)) counted)

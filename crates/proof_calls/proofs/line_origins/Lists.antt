@@ -23,7 +23,7 @@ use Rattle.spec_c_dumper.specs.needs.Lists.{Ls}
 use Rattle.spec_c_dumper.specs.needs.Session.{Known}
 use Rattle.proof_demands.specs.demands.Table.{openedTable, machineIn}
 use Rattle.proof_demands.specs.demands.Session.{Holds}
-use Rattle.spec_c_dumper.specs.origins.Causes.{Entry, Led, orderLed, listedEntry, Noted, eachListed, upTo, showsIn, entriesIn, Told, dropped, emittedNoted, orderedNoted, gateNoted, singleNoted, onwardNoted, listNoted}
+use Rattle.spec_c_dumper.specs.origins.Causes.{Entry, Led, orderLed, listedEntry, Noted, eachListed, upTo, showsIn, entriesIn, Explaining, dropped, emittedNoted, orderedNoted, gateNoted, singleNoted, onwardNoted, listNoted}
 use Rattle.spec_session.specs.origin_calls.Bytes.{CauseCall, typeCauses, CauseFits}
 use Rattle.spec_session.proofs.origin_calls.Bytes.{type-fits}
 use Rattle.session_requests.specs.origin_lists.Several.{front, goOn, listFromCauses}
@@ -37,11 +37,11 @@ text-long S s work text x l e =
     ⊎-elim (λ r. ap (λ (d : Call). length (d .text)) (fit .same l r) ∙ type-single S s work text x .long) (λ r. absurd (let z : 17 ≡ 0 = sym (fit .short l r) ∙ e in omega arith)) (le-or-lt (fit .need) (entriesIn l))
 
 -- what a request for x comes to: if it is accepted, x is among those asked for; a refused one is not
-record Asks {M : Type 0} (told : Told M) (x : ℕ) (t : Told M) : Type 0 where
+record Asks {M : Type 0} (told : Explaining M) (x : ℕ) (t : Explaining M) : Type 0 where
   accepted : t .answer .sess .isOpen ≡ true → t .answer .number ≡ 0 → t .answer .sess .asked ≡ told .answer .sess .asked ++ (x ∷ [])
   not-so : (t .answer .number ≡ 0 → ⊥) → t .answer .sess .asked ≡ told .answer .sess .asked
 
-module _ {M : Type 0} (X : Machine M) (T : Table) (more shows : ℕ → Bool) (told : Told M) (x : ℕ) where
+module _ {M : Type 0} (X : Machine M) (T : Table) (more shows : ℕ → Bool) (told : Explaining M) (x : ℕ) where
   dropped-asks : (e : ℕ) → Asks told x (dropped X T more shows told e)
   unfolding dropped shut
   dropped-asks e = record { accepted = λ o q. absurd (true≢false (sym o)); not-so = λ q. refl }
@@ -93,7 +93,7 @@ module _ (p modes : ℕ) (s : List ℕ) (n : ℕ) (ok : openingNumber p s n ≡ 
   X = machineIn p modes s n
 
   -- a call d for some ids after k accepted ones, lent the list l after the requests `told`, and what the rules come to
-  pub record Went (k : ℕ) (told : Told State) (l : List ℕ) (d : CauseCall) (t : Told State) : Type 0 where
+  pub record Went (k : ℕ) (told : Explaining State) (l : List ℕ) (d : CauseCall) (t : Explaining State) : Type 0 where
     pub holds : Holds p modes s n (d .call .session) (d .call .work) (d .call .text) (t .answer .sess)
     pub its-number : numberOf (d .call .answer) ≡ t .answer .number
     pub its-value : length (told .answer .sess .asked) + valueOf (d .call .answer) ≡ k + length (t .answer .sess .asked)
@@ -103,7 +103,7 @@ module _ (p modes : ℕ) (s : List ℕ) (n : ℕ) (ok : openingNumber p s n ≡ 
     pub listing : Listing l (told .zeroed) fresh (d .list) (t .zeroed)
 
   -- no ids
-  no-ids : (k : ℕ) (S : Session) (work text₀ : List ℕ) (told : Told State) → Holds p modes s n S work text₀ (told .answer .sess) → told .answer .number ≡ 0 → (text : List ℕ) → S .«text_len» ≤ length text
+  no-ids : (k : ℕ) (S : Session) (work text₀ : List ℕ) (told : Explaining State) → Holds p modes s n S work text₀ (told .answer .sess) → told .answer .number ≡ 0 → (text : List ℕ) → S .«text_len» ≤ length text
       → take (S .«text_len») text ≡ take (S .«text_len») text₀ → (l : List ℕ) → Went k told l (record { call = callOf S (answerOf 0 k) work text; count = 0; list = l }) told
   unfolding callOf
   no-ids k S work text₀ told h z text f same l = record {
@@ -129,7 +129,7 @@ module _ (p modes : ℕ) (s : List ℕ) (n : ℕ) (ok : openingNumber p s n ≡ 
   }
 
   -- one id, and what follows it
-  module _ (room k x : ℕ) (told t : Told State) (l : List ℕ) (d : CauseCall) (h : Stepped p modes s n ok room told l d t) (asks : Asks told x t) (next : CauseCall → CauseCall) (rest : Told State → Told State) (c : ℕ) where
+  module _ (room k x : ℕ) (told t : Explaining State) (l : List ℕ) (d : CauseCall) (h : Stepped p modes s n ok room told l d t) (asks : Asks told x t) (next : CauseCall → CauseCall) (rest : Explaining State → Explaining State) (c : ℕ) where
     abbrev after : List ℕ
     after = drop (length (h .fresh) * 12) (d .list)
 
@@ -139,7 +139,7 @@ module _ (p modes : ℕ) (s : List ℕ) (n : ℕ) (ok : openingNumber p s n ≡ 
         let z : t .answer .number ≡ suc m = sym (h .keeps .tells .number) ∙ e in
         let a : length (t .answer .sess .asked) ≡ length (told .answer .sess .asked) = ap length (asks .not-so (λ y. absurd (let q : suc m ≡ 0 = sym z ∙ y in omega arith))) in
         subst (λ (y : CauseCall). Went k told l y (onwardNoted X T (upTo c) (showsIn B) rest t)) (sym (stops k d next m e))
-        (subst (λ (y : ℕ). Went k told l (record { call = callOf (d .call .session) (answerOf (suc m) k) (d .call .work) (d .call .text); count = d .count; list = d .list }) (elim y as (λ (i : ℕ). Told State) [ zero ↦ rest t | suc j ↦ t ])) (sym z)
+        (subst (λ (y : ℕ). Went k told l (record { call = callOf (d .call .session) (answerOf (suc m) k) (d .call .work) (d .call .text); count = d .count; list = d .list }) (elim y as (λ (i : ℕ). Explaining State) [ zero ↦ rest t | suc j ↦ t ])) (sym z)
         (record { holds = h .keeps .holds; its-number = number-is (suc m) k ∙ sym z; its-value = omega (arith, a, value-is (suc m) k); fresh = h .fresh; its-entries = h .its-entries; its-count = h .its-count; listing = h .listing }))
 
     accepted-went : numberOf (d .call .answer) ≡ 0 → Went (suc k) t after (next d) (rest t) → Went k told l (goOn k d next) (onwardNoted X T (upTo c) (showsIn B) rest t)
@@ -148,7 +148,7 @@ module _ (p modes : ℕ) (s : List ℕ) (n : ℕ) (ok : openingNumber p s n ≡ 
         let z : t .answer .number ≡ 0 = sym (h .keeps .tells .number) ∙ e in
         let a : length (t .answer .sess .asked) ≡ length (told .answer .sess .asked) + 1 = ap length (asks .accepted (h .goes-on z) z) ∙ length-append (told .answer .sess .asked) (x ∷ []) in
         subst (λ (y : CauseCall). Went k told l y (onwardNoted X T (upTo c) (showsIn B) rest t)) (sym (goes k d next (length (h .fresh)) (h .its-count) e))
-        (subst (λ (y : ℕ). Went k told l (front (length (h .fresh)) (take (length (h .fresh) * 12) (d .list)) (next d)) (elim y as (λ (i : ℕ). Told State) [ zero ↦ rest t | suc j ↦ t ])) (sym z)
+        (subst (λ (y : ℕ). Went k told l (front (length (h .fresh)) (take (length (h .fresh) * 12) (d .list)) (next d)) (elim y as (λ (i : ℕ). Explaining State) [ zero ↦ rest t | suc j ↦ t ])) (sym z)
         (record {
           holds = i .holds;
           its-number = i .its-number;
@@ -160,7 +160,7 @@ module _ (p modes : ℕ) (s : List ℕ) (n : ℕ) (ok : openingNumber p s n ≡ 
         }))
 
   -- the room that is left after one id
-  room-after : (room : ℕ) (told t : Told State) (l : List ℕ) (d : CauseCall) (h : Stepped p modes s n ok room told l d t) (c : ℕ) → c ≡ length (told .entries) + entriesIn l → c ≡ length (t .entries) + entriesIn (drop (length (h .fresh) * 12) (d .list))
+  room-after : (room : ℕ) (told t : Explaining State) (l : List ℕ) (d : CauseCall) (h : Stepped p modes s n ok room told l d t) (c : ℕ) → c ≡ length (told .entries) + entriesIn l → c ≡ length (t .entries) + entriesIn (drop (length (h .fresh) * 12) (d .list))
   room-after room told t l d h c q =
       let a : (length (d .list) ≡ length l) × (12 * length (h .fresh) ≤ length l) = listing-size (h .listing) in
       let u : length (d .list) ≡ length l = a .0 in
@@ -170,15 +170,15 @@ module _ (p modes : ℕ) (s : List ℕ) (n : ℕ) (ok : openingNumber p s n ≡ 
       omega arith
 
   -- the id x of a list, before others
-  module _ (x : ℕ) (ids : List ℕ) (k : ℕ) (S : Session) (work text₀ : List ℕ) (told : Told State) (h : Holds p modes s n S work text₀ (told .answer .sess)) (text : List ℕ) (f : S .«text_len» ≤ length text)
+  module _ (x : ℕ) (ids : List ℕ) (k : ℕ) (S : Session) (work text₀ : List ℕ) (told : Explaining State) (h : Holds p modes s n S work text₀ (told .answer .sess)) (text : List ℕ) (f : S .«text_len» ≤ length text)
       (same : take (S .«text_len») text ≡ take (S .«text_len») text₀) (l : List ℕ) (c : ℕ) (r : c ≡ length (told .entries) + entriesIn l) where
     abbrev d₁ : CauseCall
     d₁ = typeCauses S s work text x l
 
-    abbrev t₁ : Told State
+    abbrev t₁ : Explaining State
     t₁ = singleNoted X T (upTo c) (showsIn B) (length text) x told
 
-    abbrev others : ℕ → Told State → Told State
+    abbrev others : ℕ → Explaining State → Explaining State
     others room t = listNoted X T (upTo c) (showsIn B) room ids t
 
     abbrev further : CauseCall → CauseCall
@@ -204,14 +204,14 @@ module _ (p modes : ℕ) (s : List ℕ) (n : ℕ) (ok : openingNumber p s n ≡ 
             (subst (λ (j : ℕ). Went (suc k) t₁ left (listFromCauses (suc k) (d₁ .call .session) s (d₁ .call .work) (d₁ .call .text) (drop (j * 12) (d₁ .list)) ids) (others (length text) t₁)) (sym (one .its-count))
             (subst (λ (j : ℕ). Went (suc k) t₁ left (listFromCauses (suc k) (d₁ .call .session) s (d₁ .call .work) (d₁ .call .text) left ids) (others j t₁)) (text-long S s work text x l e) (i e)))
 
-  pub list-went : (ids : List ℕ) (k : ℕ) (S : Session) (work text₀ : List ℕ) (told : Told State) → Holds p modes s n S work text₀ (told .answer .sess) → told .answer .number ≡ 0
+  pub list-went : (ids : List ℕ) (k : ℕ) (S : Session) (work text₀ : List ℕ) (told : Explaining State) → Holds p modes s n S work text₀ (told .answer .sess) → told .answer .number ≡ 0
       → (text : List ℕ) → S .«text_len» ≤ length text → take (S .«text_len») text ≡ take (S .«text_len») text₀ → (l : List ℕ) (c : ℕ) → c ≡ length (told .entries) + entriesIn l
       → Went k told l (listFromCauses k S s work text l ids) (listNoted X T (upTo c) (showsIn B) (length text) ids told)
   unfolding listFromCauses listNoted
   list-went [] k S work text₀ told h z text f same l c r = no-ids k S work text₀ told h z text f same l
   list-went (x ∷ ids) k S work text₀ told h z text f same l c r =
       let d : CauseCall = typeCauses S s work text x l in
-      let t : Told State = singleNoted X T (upTo c) (showsIn B) (length text) x told in
+      let t : Explaining State = singleNoted X T (upTo c) (showsIn B) (length text) x told in
       let o : Stepped p modes s n ok (length text) told l d t = one x ids k S work text₀ told h text f same l c r in
       one-more x ids k S work text₀ told h text f same l c r
       (λ e. list-went ids (suc k) (d .call .session) (d .call .work) (d .call .text) t (o .keeps .holds) (sym (o .keeps .tells .number) ∙ e) (d .call .text) (o .keeps .holds .fits) refl (drop (length (o .fresh) * 12) (d .list)) c

@@ -30,7 +30,7 @@ use Rattle.proof_demands.proofs.demands.Sound.{opened-wf}
 use Rattle.proof_demands.proofs.demands.Minded.{opened-sane}
 use Rattle.proof_demands.proofs.demands.Named.{opened-indexed, opened-names}
 use Rattle.proof_demands.proofs.demands.Session.{Going, BothReach, both-reached, both-ended, begins, came, positive}
-use Rattle.spec_c_dumper.specs.origins.Causes.{Entry, orderLed, Noted, upTo, showsIn, Told, orderedNoted, gateNoted, singleNoted, onwardNoted, fromNoted}
+use Rattle.spec_c_dumper.specs.origins.Causes.{Entry, orderLed, Noted, upTo, showsIn, Explaining, orderedNoted, gateNoted, singleNoted, onwardNoted, fromNoted}
 use Rattle.spec_c_dumper.specs.origins.Claims.{forget, Lined}
 use Rattle.spec_session.specs.origin_calls.Bytes.{dumpedNoted, Reached, entriesAfter, cameToNoted, requestedNoted, onwardNoted as goOn, requestedFromNoted}
 use Rattle.spec_session.proofs.origin_calls.Bytes.{dumped-lined}
@@ -83,14 +83,14 @@ module _ (p modes : ℕ) (s : List ℕ) (n : ℕ) (ok : openingNumber p s n ≡ 
   X = machineIn p modes s n
 
   -- c: how many entries the lent list has room for
-  pub record BothCame (c room : ℕ) (r : Reached) (t : Told State) : Type 0 where
+  pub record BothCame (c room : ℕ) (r : Reached) (t : Explaining State) : Type 0 where
     pub reaches : BothReach p modes s n ok room (r .reach) (t .answer)
     pub same-entries : r .entries ≡ t .entries
     pub held : length (t .entries) ≤ c
     pub zeroed : t .zeroed ≡ true
 
   -- ---- one request
-  module _ (c : ℕ) (told : Told State) (few : length (told .entries) ≤ c) (len : ℕ) (v t : List ℕ) (room : ℕ) (g : Going p modes s n ok len v t room (told .answer .sess)) (x : ℕ) (l : x < T .count) where
+  module _ (c : ℕ) (told : Explaining State) (few : length (told .entries) ≤ c) (len : ℕ) (v t : List ℕ) (room : ℕ) (g : Going p modes s n ok len v t room (told .answer .sess)) (x : ℕ) (l : x < T .count) where
     abbrev L : Sess State
     L = told .answer .sess
 
@@ -103,7 +103,7 @@ module _ (p modes : ℕ) (s : List ℕ) (n : ℕ) (ok : openingNumber p s n ≡ 
     abbrev out : Out (Noted Sheet)
     out = dumpedNoted (workMachine b B) T (upTo c) (showsIn B) sheet es x
 
-    abbrev told′ : Told State
+    abbrev told′ : Explaining State
     told′ = orderedNoted X T (upTo c) (showsIn B) told x (orderLed (X .store) x 512 T [] (record { state = X .start room (L .mach); led = [] }) x false)
 
     single-is : singleNoted X T (upTo c) (showsIn B) room x told ≡ told′
@@ -138,12 +138,12 @@ module _ (p modes : ℕ) (s : List ℕ) (n : ℕ) (ok : openingNumber p s n ≡ 
     pub request-came : (u : ℕ) → BothCame c room (requestedNoted (upTo c) b s x es len u v t) (singleNoted X T (upTo c) (showsIn B) room x told)
     request-came u =
         subst (λ (r : Reached). BothCame c room r (singleNoted X T (upTo c) (showsIn B) room x told)) (sym (table-now u))
-        (subst (λ (q : Told State). BothCame c room (cameToNoted len u t es out) q) (sym single-is) (came-noted u))
+        (subst (λ (q : Explaining State). BothCame c room (cameToNoted len u t es out) q) (sym single-is) (came-noted u))
 
   -- ---- one after the other
-  module _ (c room : ℕ) (r : Reached) (t : Told State) (k₁ : List Entry → ℕ → List ℕ → List ℕ → Reached) (k : Told State → Told State) (h : BothCame c room r t) where
+  module _ (c room : ℕ) (r : Reached) (t : Explaining State) (k₁ : List Entry → ℕ → List ℕ → List ℕ → Reached) (k : Explaining State → Explaining State) (h : BothCame c room r t) where
     abbrev Next : Reach → ℕ → Type 0
-    Next q m = BothCame c room (elim q as (λ (y : Reach). Reached) [ reached len v u ↦ k₁ (r .entries) len v u | refusedBy d len v u ↦ r ]) (elim m as (λ (y : ℕ). Told State) [ zero ↦ k t | suc j ↦ t ])
+    Next q m = BothCame c room (elim q as (λ (y : Reach). Reached) [ reached len v u ↦ k₁ (r .entries) len v u | refusedBy d len v u ↦ r ]) (elim m as (λ (y : ℕ). Explaining State) [ zero ↦ k t | suc j ↦ t ])
 
     onward-came : ((len : ℕ) (v u : List ℕ) → Going p modes s n ok len v u room (t .answer .sess) → t .answer .number ≡ 0 → BothCame c room (k₁ (t .entries) len v u) (k t))
         → BothCame c room (goOn (upTo c) b s r k₁) (onwardNoted X T (upTo c) (showsIn B) k t)
@@ -158,7 +158,7 @@ module _ (p modes : ℕ) (s : List ℕ) (n : ℕ) (ok : openingNumber p s n ≡ 
         go (both-ended j len y u L g) d i =
             subst (λ (q : Reach). Next q (t .answer .number)) (sym d) (subst (Next (refusedBy (suc j) len y u)) (sym (ap (λ (a : Answer State). a .number) i)) h)
 
-  pub from-came : (c room k x : ℕ) → x + k ≤ T .count → (told : Told State) → length (told .entries) ≤ c → told .zeroed ≡ true → told .answer .number ≡ 0
+  pub from-came : (c room k x : ℕ) → x + k ≤ T .count → (told : Explaining State) → length (told .entries) ≤ c → told .zeroed ≡ true → told .answer .number ≡ 0
       → (len : ℕ) (v t : List ℕ) → Going p modes s n ok len v t room (told .answer .sess)
       → BothCame c room (requestedFromNoted (upTo c) b s k x (told .entries) len v t) (fromNoted X T (upTo c) (showsIn B) room k x told)
   unfolding requestedFromNoted fromNoted

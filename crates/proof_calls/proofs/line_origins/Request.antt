@@ -6,7 +6,7 @@ use mathlib.Core.Bool.{Bool, true, false}
 use mathlib.Core.List.{List, [], List·Memᴰ·not-nil}
 use native.Mathlib.Omega.{arith}
 use Rattle.spec_c_dumper.specs.rules.Order.{Table, Res}
-use Rattle.spec_c_dumper.specs.rules.Machine.{Out, wrote, Machine, MLawful, Kept, obind, Sess, emitted, shut}
+use Rattle.spec_c_dumper.specs.rules.Machine.{Out, wrote, Machine, MLawful, OrderKeeps, obind, Sess, emitted, shut}
 use Rattle.spec_c_dumper.specs.rules.Types.{Btf as Rules, tableOf}
 use Rattle.spec_c_dumper.specs.rules.Names.{Names, Naming}
 use Rattle.spec_c_dumper.proofs.rules.Related.{RelNaming}
@@ -19,20 +19,20 @@ use Rattle.spec_c_dumper.specs.needs.Session.{Known, machineBy}
 use Rattle.spec_c_dumper.proofs.needs.Alike.{Live, BothOut, both-wrote, both-stuck}
 use Rattle.spec_c_dumper.proofs.needs.Lists.{Sized}
 use Rattle.spec_c_dumper.proofs.needs.Session.{machine-lawful}
-use Rattle.proof_demands.specs.name_counts.Indexed.{Indexed, Fits, FitsValue}
+use Rattle.proof_demands.specs.name_counts.Indexed.{Indexed, NameFits, FitsValue}
 use Rattle.proof_demands.specs.name_counts.Alike.{Alike}
 use Rattle.proof_demands.specs.alignment_memory.Work.{Sane}
 use Rattle.proof_demands.specs.demands.Sheet.{Bears, Shows, BothRequest, both-refused}
 use Rattle.proof_demands.proofs.demands.Start.{start-step}
 use Rattle.proof_demands.proofs.demands.Request.{Related, alike-store, alike-steps, list-same, emitted-alike}
-use Rattle.spec_c_dumper.specs.origins.Causes.{Led, orderLed, listedEntry, Noted, eachListed, Told, dropped, emittedNoted, orderedNoted}
+use Rattle.spec_c_dumper.specs.origins.Causes.{Led, orderLed, listedEntry, Noted, eachListed, Explaining, dropped, emittedNoted, orderedNoted}
 use Rattle.spec_c_dumper.specs.origins.Claims.{forget}
 use Rattle.spec_session.specs.origin_calls.Bytes.{listedNoted, dumpedNoted, entriesAfter}
 use Rattle.proof_calls.proofs.line_origins.Ordering.{BothLed, both-led, neither-led, order-led-alike}
 use Rattle.proof_calls.proofs.line_origins.Emission.{SameNoted, listed-alike}
 
 -- w is the work after opening; the text so far is `front`, and the room of the request is `room`
-module _ (b : TypeTable) (e : ℕ) (s w : List ℕ) (I : Indexed b e s w) (Z : Sane b (btfOf b s w)) (N : Naming Names) (R : RelNaming (Alike b e s w) (Fits b s w) (FitsValue b s w) (workNaming b) N)
+module _ (b : TypeTable) (e : ℕ) (s w : List ℕ) (I : Indexed b e s w) (Z : Sane b (btfOf b s w)) (N : Naming Names) (R : RelNaming (Alike b e s w) (NameFits b s w) (FitsValue b s w) (workNaming b) N)
     (wf : WF (tableOf (btfOf b s w))) (front : List ℕ) (room : ℕ) where
   abbrev B : Rules
   B = btfOf b s w
@@ -56,18 +56,18 @@ module _ (b : TypeTable) (e : ℕ) (s w : List ℕ) (I : Indexed b e s w) (Z : S
   lawful = machine-lawful N B (T .count)
 
   abbrev Lives : Sheet → State → Type 0
-  Lives m t = Live (X₁ .store) (X .store) T (Sized (T .count)) (lawful .law) (Kept X (Sized (T .count))) (lawful .framed) (wf .below) Rel (alike-store b e s w I Z N R wf front room) m t
+  Lives m t = Live (X₁ .store) (X .store) T (Sized (T .count)) (lawful .law) (OrderKeeps X (Sized (T .count))) (lawful .framed) (wf .below) Rel (alike-store b e s w I Z N R wf front room) m t
 
   counted : T .count ≡ b .types
   unfolding btfOf
   counted = refl
 
   -- told: what the requests before it came to
-  module _ (more shows : ℕ → Bool) (told : Told State) (x : ℕ) where
+  module _ (more shows : ℕ → Bool) (told : Explaining State) (x : ℕ) where
     abbrev S : Sess State
     S = told .answer .sess
 
-    pub record BothTold (o : Out (Noted Sheet)) (t : Told State) : Type 0 where
+    pub record BothTold (o : Out (Noted Sheet)) (t : Explaining State) : Type 0 where
       pub answers : BothRequest b e s w front room S x (forget o) (t .answer)
       pub same-entries : entriesAfter (told .entries) o ≡ t .entries
       pub zeroed : t .zeroed ≡ true
@@ -97,7 +97,7 @@ module _ (b : TypeTable) (e : ℕ) (s w : List ℕ) (I : Indexed b e s w) (Z : S
     unfolding dumpedNoted
     request-noted m z h sh l =
         ordered-noted
-        (order-led-alike (X₁ .store) (X .store) T (Sized (T .count)) (lawful .law) (Kept X (Sized (T .count))) (lawful .framed) (wf .below) Rel (alike-store b e s w I Z N R wf front room) x
+        (order-led-alike (X₁ .store) (X .store) T (Sized (T .count)) (lawful .law) (OrderKeeps X (Sized (T .count))) (lawful .framed) (wf .below) Rel (alike-store b e s w I Z N R wf front room) x
         512 [] (record { state = m; led = [] }) (record { state = X .start room (S .mach); led = [] }) x false
         (record {
           related = record {

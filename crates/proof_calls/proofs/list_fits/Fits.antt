@@ -11,7 +11,7 @@ use Rattle.spec_session.specs.declared.session.Session.{Session}
 use Rattle.spec_session.specs.session.Answers.{numberOf, answerOf}
 use Rattle.spec_session.specs.session.Turns.{Call, callOf}
 use Rattle.spec_session.specs.calls.Calls.{typeCall}
-use Rattle.spec_session.specs.calls.Lists.{counted, listFrom, listCall}
+use Rattle.spec_session.specs.calls.Lists.{thenNext, listFrom, listCall}
 use Rattle.spec_c_dumper.specs.origins.Causes.{Entry, entriesIn}
 use Rattle.spec_c_dumper.specs.origins.Claims.{Listed}
 use Rattle.spec_session.specs.origin_calls.Bytes.{CauseCall, typeCauses, CauseFits}
@@ -44,12 +44,12 @@ module _ (n : ℕ) (c : Call) (G : List ℕ → CauseCall) (h : CauseFits c G) (
   unfolding goOn
   stops d m e = ap (λ (x : ℕ). elim x as (λ (y : ℕ). CauseCall) [ zero ↦ front (d .count) (take (d .count * 12) (d .list)) (next d) | suc m ↦ stoppedAt m d ]) e
 
-  plain-goes : numberOf (c .answer) ≡ 0 → counted n c P ≡ P c
-  unfolding counted
+  plain-goes : numberOf (c .answer) ≡ 0 → thenNext n c P ≡ P c
+  unfolding thenNext
   plain-goes e = ap (λ (x : ℕ). elim x as (λ (y : ℕ). Call) [ zero ↦ P c | suc m ↦ callOf (c .session) (answerOf (suc m) n) (c .work) (c .text) ]) e
 
-  plain-stops : (m : ℕ) → numberOf (c .answer) ≡ suc m → counted n c P ≡ callOf (c .session) (answerOf (suc m) n) (c .work) (c .text)
-  unfolding counted
+  plain-stops : (m : ℕ) → numberOf (c .answer) ≡ suc m → thenNext n c P ≡ callOf (c .session) (answerOf (suc m) n) (c .work) (c .text)
+  unfolding thenNext
   plain-stops m e = ap (λ (x : ℕ). elim x as (λ (y : ℕ). Call) [ zero ↦ P c | suc m ↦ callOf (c .session) (answerOf (suc m) n) (c .work) (c .text) ]) e
 
   number-is : (x : ℕ) → numberOf (c .answer) ≡ x → (l : List ℕ) → h .need ≤ entriesIn l → numberOf (G l .call .answer) ≡ x
@@ -60,7 +60,7 @@ module _ (n : ℕ) (c : Call) (G : List ℕ → CauseCall) (h : CauseFits c G) (
   unfolding numberOf answerOf callOf
   short-first l r = ap (λ (d : CauseCall). numberOf (d .call .answer)) (stops (G l) 16 (h .short l r))
 
-  refused-fits : (m : ℕ) → numberOf (c .answer) ≡ suc m → Fits (counted n c P) F
+  refused-fits : (m : ℕ) → numberOf (c .answer) ≡ suc m → Fits (thenNext n c P) F
   refused-fits m e = record {
     fits = record {
       need = h .need;
@@ -127,7 +127,7 @@ module _ (n : ℕ) (c : Call) (G : List ℕ → CauseCall) (h : CauseFits c G) (
           let k : entriesIn l < length es + q .fits .need = least (entriesIn l) f r in
           ap (λ (d : CauseCall). numberOf (d .call .answer)) (whole l f) ∙ q .fits .short (rest l) (subst (λ (x : ℕ). x < q .fits .need) (sym a) (omega arith))
 
-      accepted-by : Fits (counted n c P) F
+      accepted-by : Fits (thenNext n c P) F
       accepted-by = record {
         fits = record {
           need = N;
@@ -142,16 +142,16 @@ module _ (n : ℕ) (c : Call) (G : List ℕ → CauseCall) (h : CauseFits c G) (
         none = λ z. absurd (true≢false z);
       }
 
-    accepted-fits : Fits (counted n c P) F
+    accepted-fits : Fits (thenNext n c P) F
     accepted-fits = ⊎-elim
         (λ k. accepted-by (length es + q .fits .need) k (omega arith) (λ x a b. b))
         (λ k. accepted-by (h .need) (omega arith) (omega arith) (λ x a b. absurd (omega arith)))
         (le-or-lt (h .need) (length es + q .fits .need))
 
-  one-more : Fits (counted n c P) F
+  one-more : Fits (thenNext n c P) F
   one-more = go (numberOf (c .answer)) refl
     where
-      go : (x : ℕ) → numberOf (c .answer) ≡ x → Fits (counted n c P) F
+      go : (x : ℕ) → numberOf (c .answer) ≡ x → Fits (thenNext n c P) F
       go zero e = accepted-fits e
       go (suc m) e = refused-fits m e
 

@@ -12,8 +12,8 @@ use Rattle.spec_bytes.proofs.words.Laws.{le-or-lt}
 use Rattle.spec_c_dumper.specs.rules.Order.{Table, Res, ok, refused}
 use Rattle.spec_c_dumper.specs.rules.Machine.{Out, wrote, stuck, Machine, emit, Sess, Answer, Req, one, shut, single, serve, run}
 use Rattle.proof_demands.specs.demands.Session.{singlesFor}
-use Rattle.spec_c_dumper.specs.origins.Causes.{Led, orderLed, listedEntry, Noted, upTo, always, emitNoted, Told, dropped, emittedNoted, eachListed, orderedNoted, gateNoted, singleNoted, onwardNoted, listNoted, fromNoted}
-use Rattle.spec_c_dumper.specs.origins.Claims.{Numbered, Fits}
+use Rattle.spec_c_dumper.specs.origins.Causes.{Led, orderLed, listedEntry, Noted, upTo, always, emitNoted, Explaining, dropped, emittedNoted, eachListed, orderedNoted, gateNoted, singleNoted, onwardNoted, listNoted, fromNoted}
+use Rattle.spec_c_dumper.specs.origins.Claims.{Numbered, FitsList}
 use Rattle.spec_c_dumper.proofs.origins.Ordering.{NotNone, stopped, order-not}
 use Rattle.spec_c_dumper.proofs.origins.Emission.{emit-lined, each-lined}
 use Rattle.spec_c_dumper.proofs.origins.Requests.{single-fits}
@@ -21,12 +21,12 @@ use Rattle.proof_calls.specs.ceilings.Ceilings.{onesFrom}
 
 module _ {M : Type 0} (X : Machine M) (T : Table) (shows : ℕ → Bool) (nz : Numbered X) (size c : ℕ) where
   -- what a request comes to: one more is accepted; or none, and 17 closes an open session
-  pub data Came (x : ℕ) (t u : Told M) : Type 0 where
+  pub data Came (x : ℕ) (t u : Explaining M) : Type 0 where
     more : u .answer .number ≡ 0 → u .answer .sess .asked ≡ t .answer .sess .asked ++ (x ∷ []) → u .answer .sess .isOpen ≡ true → Came x t u
     none : (u .answer .number ≡ 0 → ⊥) → u .answer .sess .mach ≡ t .answer .sess .mach → u .answer .sess .asked ≡ t .answer .sess .asked
         → (u .answer .number ≡ 17 → (u .answer .sess .isOpen ≡ false) × (t .answer .sess .isOpen ≡ true)) → Came x t u
 
-  module _ (x : ℕ) (t : Told M) (few : length (t .entries) ≤ c) where
+  module _ (x : ℕ) (t : Explaining M) (few : length (t .entries) ≤ c) where
     abbrev begun : Led M → Noted M
     begun s = record { mach = s .state; entries = t .entries }
 
@@ -57,7 +57,7 @@ module _ {M : Type 0} (X : Machine M) (T : Table) (shows : ℕ → Bool) (nz : N
         let s : Led M = record { state = X .start size (t .answer .sess .mach); led = [] } in
         ordered-came q (orderLed (X .store) x 512 T [] s x false) (order-not (X .store) x 512 T [] s x false)
 
-    abbrev noted : Told M
+    abbrev noted : Explaining M
     noted = singleNoted X T (upTo c) shows size x t
 
     pub single-came : Came x t noted
@@ -67,20 +67,20 @@ module _ {M : Type 0} (X : Machine M) (T : Table) (shows : ℕ → Bool) (nz : N
     -- an accepted one is the plain one
     accepted-is : noted .answer .number ≡ 0 → (noted .answer ≡ single X T size (t .answer .sess) x) × (length (noted .entries) ≤ c)
     accepted-is z =
-        let h : Fits (length (t .entries)) (λ r. singleNoted X T r shows size x t) (single X T size (t .answer .sess) x) = single-fits X T shows nz size x t in
+        let h : FitsList (length (t .entries)) (λ r. singleNoted X T r shows size x t) (single X T size (t .answer .sess) x) = single-fits X T shows nz size x t in
         ⊎-elim
         (λ q. let held : length (singleNoted X T always shows size x t .entries) ≤ h .need = h .held in
-        (ap (λ (u : Told M). u .answer) (h .fits c q) ∙ h .same, subst (λ (u : Told M). length (u .entries) ≤ c) (sym (h .fits c q)) (omega arith)))
+        (ap (λ (u : Explaining M). u .answer) (h .fits c q) ∙ h .same, subst (λ (u : Explaining M). length (u .entries) ≤ c) (sym (h .fits c q)) (omega arith)))
         (λ q. absurd (let y : _≡_ {A = ℕ} 17 0 = sym (h .short c few q) ∙ z in omega arith)) (le-or-lt (h .need) c)
 
   -- the requests of a call: so many are accepted, and then 17 closes the session
-  pub record Accepted (reqs : ℕ → List Req) (t u : Told M) : Type 0 where
+  pub record Accepted (reqs : ℕ → List Req) (t u : Explaining M) : Type 0 where
     pub count : ℕ
     pub asked : length (u .answer .sess .asked) ≡ length (t .answer .sess .asked) + count
     pub mach : u .answer .sess .mach ≡ run X T (reqs count) (t .answer .sess) .mach
     pub ends : u .answer .number ≡ 17 → (u .answer .sess .isOpen ≡ false) × (run X T (reqs count) (t .answer .sess) .isOpen ≡ true)
 
-  no-more : (reqs : ℕ → List Req) → reqs 0 ≡ [] → (t u : Told M) → u .answer .sess .mach ≡ t .answer .sess .mach → u .answer .sess .asked ≡ t .answer .sess .asked
+  no-more : (reqs : ℕ → List Req) → reqs 0 ≡ [] → (t u : Explaining M) → u .answer .sess .mach ≡ t .answer .sess .mach → u .answer .sess .asked ≡ t .answer .sess .asked
       → (u .answer .number ≡ 17 → (u .answer .sess .isOpen ≡ false) × (t .answer .sess .isOpen ≡ true)) → Accepted reqs t u
   unfolding run
   no-more reqs e t u m a k =
@@ -93,9 +93,9 @@ module _ {M : Type 0} (X : Machine M) (T : Table) (shows : ℕ → Bool) (nz : N
       }
 
   -- one request, and the others if it is accepted
-  module _ (x : ℕ) (t : Told M) (few : length (t .entries) ≤ c) (reqs others : ℕ → List Req) (first : reqs 0 ≡ []) (next : (k : ℕ) → reqs (suc k) ≡ one size x ∷ others k) (K : Told M → Told M)
-      (h : (u : Told M) → u .answer .number ≡ 0 → length (u .entries) ≤ c → Accepted others u (K u)) where
-    abbrev u₁ : Told M
+  module _ (x : ℕ) (t : Explaining M) (few : length (t .entries) ≤ c) (reqs others : ℕ → List Req) (first : reqs 0 ≡ []) (next : (k : ℕ) → reqs (suc k) ≡ one size x ∷ others k) (K : Explaining M → Explaining M)
+      (h : (u : Explaining M) → u .answer .number ≡ 0 → length (u .entries) ≤ c → Accepted others u (K u)) where
+    abbrev u₁ : Explaining M
     u₁ = singleNoted X T (upTo c) shows size x t
 
     one-more : u₁ .answer .number ≡ 0 → u₁ .answer .sess .asked ≡ t .answer .sess .asked ++ (x ∷ []) → Accepted reqs t (K u₁)
@@ -117,24 +117,24 @@ module _ {M : Type 0} (X : Machine M) (T : Table) (shows : ℕ → Bool) (nz : N
     unfolding onwardNoted
     onward-accepted = by (single-came x t few)
       where
-        stop : (u₁ .answer .number ≡ 0 → ⊥) → Accepted reqs t u₁ → (m : ℕ) → u₁ .answer .number ≡ m → Accepted reqs t (elim m as (λ (y : ℕ). Told M) [ zero ↦ K u₁ | suc r ↦ u₁ ])
+        stop : (u₁ .answer .number ≡ 0 → ⊥) → Accepted reqs t u₁ → (m : ℕ) → u₁ .answer .number ≡ m → Accepted reqs t (elim m as (λ (y : ℕ). Explaining M) [ zero ↦ K u₁ | suc r ↦ u₁ ])
         stop z g zero e = absurd (z e)
         stop z g (suc m) e = g
 
-        by : Came x t u₁ → Accepted reqs t (elim (u₁ .answer .number) as (λ (y : ℕ). Told M) [ zero ↦ K u₁ | suc r ↦ u₁ ])
-        by (more z a o) = subst (λ (m : ℕ). Accepted reqs t (elim m as (λ (y : ℕ). Told M) [ zero ↦ K u₁ | suc r ↦ u₁ ])) (sym z) (one-more z a)
+        by : Came x t u₁ → Accepted reqs t (elim (u₁ .answer .number) as (λ (y : ℕ). Explaining M) [ zero ↦ K u₁ | suc r ↦ u₁ ])
+        by (more z a o) = subst (λ (m : ℕ). Accepted reqs t (elim m as (λ (y : ℕ). Explaining M) [ zero ↦ K u₁ | suc r ↦ u₁ ])) (sym z) (one-more z a)
         by (none z m a k) = stop z (no-more reqs first t u₁ m a k) (u₁ .answer .number) refl
 
-  not-17 : (t : Told M) → t .answer .number ≡ 0 → t .answer .number ≡ 17 → (t .answer .sess .isOpen ≡ false) × (t .answer .sess .isOpen ≡ true)
+  not-17 : (t : Explaining M) → t .answer .number ≡ 0 → t .answer .number ≡ 17 → (t .answer .sess .isOpen ≡ false) × (t .answer .sess .isOpen ≡ true)
   not-17 t z q = absurd (let y : _≡_ {A = ℕ} 0 17 = sym z ∙ q in omega arith)
 
-  pub from-accepted : (n x : ℕ) (t : Told M) → t .answer .number ≡ 0 → length (t .entries) ≤ c → Accepted (λ k. onesFrom size k x) t (fromNoted X T (upTo c) shows size n x t)
+  pub from-accepted : (n x : ℕ) (t : Explaining M) → t .answer .number ≡ 0 → length (t .entries) ≤ c → Accepted (λ k. onesFrom size k x) t (fromNoted X T (upTo c) shows size n x t)
   unfolding fromNoted onesFrom
   from-accepted zero x t z few = no-more (λ k. onesFrom size k x) refl t t refl refl (not-17 t z)
   from-accepted (suc n) x t z few =
       onward-accepted x t few (λ k. onesFrom size k x) (λ k. onesFrom size k (suc x)) refl (λ k. refl) (fromNoted X T (upTo c) shows size n (suc x)) (λ u y f. from-accepted n (suc x) u y f)
 
-  pub list-accepted : (xs : List ℕ) (t : Told M) → t .answer .number ≡ 0 → length (t .entries) ≤ c → Accepted (λ k. singlesFor size k xs) t (listNoted X T (upTo c) shows size xs t)
+  pub list-accepted : (xs : List ℕ) (t : Explaining M) → t .answer .number ≡ 0 → length (t .entries) ≤ c → Accepted (λ k. singlesFor size k xs) t (listNoted X T (upTo c) shows size xs t)
   unfolding listNoted singlesFor
   list-accepted [] t z few = no-more (λ k. singlesFor size k []) refl t t refl refl (not-17 t z)
   list-accepted (x ∷ xs) t z few =

@@ -20,8 +20,8 @@ use Rattle.proof_demands.specs.demands.Table.{openedTable, namesIn, machineIn}
 use Rattle.proof_demands.specs.demands.Session.{After}
 use Rattle.proof_demands.specs.demands.Demands.{Lent, typesIn, ruled, Demand2}
 use Rattle.proof_demands.proofs.demands.Demands.{delivered}
-use Rattle.spec_c_dumper.specs.origins.Causes.{Led, orderLed, listedEntry, Noted, eachListed, upTo, always, showsIn, filled, entriesIn, Told, untold, dropped, emittedNoted, orderedNoted, gateNoted, singleNoted, onwardNoted, listNoted, fromNoted, everyNoted, causesOf, oneCauses, listCauses, allCauses}
-use Rattle.spec_c_dumper.specs.origins.Claims.{Fits, listPlain}
+use Rattle.spec_c_dumper.specs.origins.Causes.{Led, orderLed, listedEntry, Noted, eachListed, upTo, always, showsIn, filled, entriesIn, Explaining, untold, dropped, emittedNoted, orderedNoted, gateNoted, singleNoted, onwardNoted, listNoted, fromNoted, everyNoted, causesOf, oneCauses, listCauses, allCauses}
+use Rattle.spec_c_dumper.specs.origins.Claims.{FitsList, listPlain}
 use Rattle.spec_c_dumper.specs.origins.Lines.{Turns}
 use Rattle.spec_c_dumper.specs.origins.Causes.{idsFrom}
 use Rattle.spec_session.specs.origin_calls.Bytes.{CauseCall, typeCauses, typesCauses}
@@ -36,17 +36,17 @@ use Rattle.proof_calls.specs.mixed.Claims.{Explains}
 
 -- ---- an accepted call has zeroed what follows its entries
 module _ {M : Type 0} (X : Machine M) (T : Table) (more shows : ℕ → Bool) (size : ℕ) where
-  emitted-zeroed : (t : Told M) (x : ℕ) (o : Out (Noted M)) → emittedNoted X T more shows t x o .zeroed ≡ true
+  emitted-zeroed : (t : Explaining M) (x : ℕ) (o : Out (Noted M)) → emittedNoted X T more shows t x o .zeroed ≡ true
   unfolding emittedNoted dropped
   emitted-zeroed t x (wrote m) = refl
   emitted-zeroed t x (stuck e) = refl
 
-  ordered-zeroed : (t : Told M) (x : ℕ) (r : Res (Led M)) → orderedNoted X T more shows t x r .zeroed ≡ true
+  ordered-zeroed : (t : Explaining M) (x : ℕ) (r : Res (Led M)) → orderedNoted X T more shows t x r .zeroed ≡ true
   unfolding orderedNoted dropped
   ordered-zeroed t x (ok s b) = emitted-zeroed t x (eachListed X T more shows (listedEntry x (s .led)) (X .store .list (s .state)) (record { mach = s .state; entries = t .entries }))
   ordered-zeroed t x (refused e) = refl
 
-  gate-zeroed : (t : Told M) (x : ℕ) (o b : Bool) → (t .zeroed ≡ true) ⊎ (gateNoted X T more shows size t x o b .answer .number ≡ 0) → gateNoted X T more shows size t x o b .zeroed ≡ true
+  gate-zeroed : (t : Explaining M) (x : ℕ) (o b : Bool) → (t .zeroed ≡ true) ⊎ (gateNoted X T more shows size t x o b .answer .number ≡ 0) → gateNoted X T more shows size t x o b .zeroed ≡ true
   unfolding gateNoted
   gate-zeroed t x false b (inl q) = q
   gate-zeroed t x false b (inr q) = absurd (let z : _≡_ {A = ℕ} 11 0 = q in omega arith)
@@ -54,38 +54,38 @@ module _ {M : Type 0} (X : Machine M) (T : Table) (more shows : ℕ → Bool) (s
   gate-zeroed t x true false (inr q) = absurd (let z : _≡_ {A = ℕ} 10 0 = q in omega arith)
   gate-zeroed t x true true q = ordered-zeroed t x (orderLed (X .store) x 512 T [] (record { state = X .start size (t .answer .sess .mach); led = [] }) x false)
 
-  single-zeroed : (x : ℕ) (t : Told M) → (t .zeroed ≡ true) ⊎ (singleNoted X T more shows size x t .answer .number ≡ 0) → singleNoted X T more shows size x t .zeroed ≡ true
+  single-zeroed : (x : ℕ) (t : Explaining M) → (t .zeroed ≡ true) ⊎ (singleNoted X T more shows size x t .answer .number ≡ 0) → singleNoted X T more shows size x t .zeroed ≡ true
   unfolding singleNoted
   single-zeroed x t q = gate-zeroed t x (t .answer .sess .isOpen) (ltb x (T .count)) q
 
-  onward-zeroed : (K : Told M → Told M) → ((u : Told M) → u .zeroed ≡ true → K u .zeroed ≡ true) → (u : Told M) → u .zeroed ≡ true → onwardNoted X T more shows K u .zeroed ≡ true
+  onward-zeroed : (K : Explaining M → Explaining M) → ((u : Explaining M) → u .zeroed ≡ true → K u .zeroed ≡ true) → (u : Explaining M) → u .zeroed ≡ true → onwardNoted X T more shows K u .zeroed ≡ true
   unfolding onwardNoted
   onward-zeroed K h u q = by (u .answer .number)
     where
-      by : (m : ℕ) → elim m as (λ (y : ℕ). Told M) [ zero ↦ K u | suc r ↦ u ] .zeroed ≡ true
+      by : (m : ℕ) → elim m as (λ (y : ℕ). Explaining M) [ zero ↦ K u | suc r ↦ u ] .zeroed ≡ true
       by zero = h u q
       by (suc m) = q
 
-  from-zeroed : (n x : ℕ) (t : Told M) → t .zeroed ≡ true → fromNoted X T more shows size n x t .zeroed ≡ true
+  from-zeroed : (n x : ℕ) (t : Explaining M) → t .zeroed ≡ true → fromNoted X T more shows size n x t .zeroed ≡ true
   unfolding fromNoted
   from-zeroed zero x t q = q
   from-zeroed (suc n) x t q = onward-zeroed (fromNoted X T more shows size n (suc x)) (λ u z. from-zeroed n (suc x) u z) (singleNoted X T more shows size x t) (single-zeroed x t (inl q))
 
-  list-zeroed : (xs : List ℕ) (t : Told M) → t .zeroed ≡ true → listNoted X T more shows size xs t .zeroed ≡ true
+  list-zeroed : (xs : List ℕ) (t : Explaining M) → t .zeroed ≡ true → listNoted X T more shows size xs t .zeroed ≡ true
   unfolding listNoted
   list-zeroed [] t q = q
   list-zeroed (x ∷ xs) t q = onward-zeroed (listNoted X T more shows size xs) (λ u z. list-zeroed xs u z) (singleNoted X T more shows size x t) (single-zeroed x t (inl q))
 
-  list-accepted : (xs : List ℕ) (t : Told M) → listNoted X T more shows size xs t .answer .number ≡ 0 → (xs ≡ [] → ⊥) → listNoted X T more shows size xs t .zeroed ≡ true
+  list-accepted : (xs : List ℕ) (t : Explaining M) → listNoted X T more shows size xs t .answer .number ≡ 0 → (xs ≡ [] → ⊥) → listNoted X T more shows size xs t .zeroed ≡ true
   unfolding listNoted onwardNoted
   list-accepted [] t e k = absurd (k refl)
   list-accepted (x ∷ xs) t e k = by (u .answer .number) refl e
     where
-      u : Told M
+      u : Explaining M
       u = singleNoted X T more shows size x t
 
-      by : (m : ℕ) → u .answer .number ≡ m → elim m as (λ (y : ℕ). Told M) [ zero ↦ listNoted X T more shows size xs u | suc r ↦ u ] .answer .number ≡ 0
-          → elim m as (λ (y : ℕ). Told M) [ zero ↦ listNoted X T more shows size xs u | suc r ↦ u ] .zeroed ≡ true
+      by : (m : ℕ) → u .answer .number ≡ m → elim m as (λ (y : ℕ). Explaining M) [ zero ↦ listNoted X T more shows size xs u | suc r ↦ u ] .answer .number ≡ 0
+          → elim m as (λ (y : ℕ). Explaining M) [ zero ↦ listNoted X T more shows size xs u | suc r ↦ u ] .zeroed ≡ true
       by zero z q = list-zeroed xs u (single-zeroed x t (inr z))
       by (suc m) z q = absurd (let y : suc m ≡ 0 = sym z ∙ q in omega arith)
 
@@ -119,13 +119,13 @@ module _ (p modes : ℕ) (s : List ℕ) (n : ℕ) (c : Call) (rs : List Req) (a 
   reasoned : Reasoned p modes s n
   reasoned = calls-reasoned p modes s n
 
-  lines : (ids : List ℕ) (d : CauseCall) (F : (ℕ → Bool) → Told State) (P : Answer State) → Fits 0 F P → Agrees d (causesOf l (F (upTo (entriesIn l)))) → Told-grown N B (void p modes s n c rs a) (length text) ids (untold L) (F always)
+  lines : (ids : List ℕ) (d : CauseCall) (F : (ℕ → Bool) → Explaining State) (P : Answer State) → FitsList 0 F P → Agrees d (causesOf l (F (upTo (entriesIn l)))) → Told-grown N B (void p modes s n c rs a) (length text) ids (untold L) (F always)
       → (F always .answer .number ≡ 0 → (ids ≡ [] → ⊥) → F always .zeroed ≡ true) → numberOf (d .call .answer) ≡ 0 → Explains p modes s n (length text) ids c rs l d
   unfolding causesOf
   lines ids d F P h g w z q =
       let r : F (upTo (entriesIn l)) .answer .number ≡ 0 = sym (g .number) ∙ q in
       let e : F (upTo (entriesIn l)) ≡ F always = ⊎-elim (λ k. h .fits (entriesIn l) k) (λ k. absurd (let y : _≡_ {A = ℕ} 17 0 = sym (h .short (entriesIn l) zero-le k) ∙ r in omega arith)) (le-or-lt (h .need) (entriesIn l)) in
-      let g′ : Agrees d (causesOf l (F always)) = subst (λ (u : Told State). Agrees d (causesOf l u)) e g in
+      let g′ : Agrees d (causesOf l (F always)) = subst (λ (u : Explaining State). Agrees d (causesOf l u)) e g in
       let none : F always .answer .number ≡ 0 = sym (g′ .number) ∙ q in
       let all : w .accepted ≡ ids = sym (append-nil (w .accepted)) ∙ ap (λ (k : List ℕ). w .accepted ++ k) (sym (w .whole none)) ∙ sym (w .ids-are) in
       record {

@@ -17,7 +17,7 @@ use Rattle.spec_c_dumper.specs.needs.Session.{Known, textOf}
 use Rattle.proof_demands.specs.demands.Table.{openedTable, namesIn, machineIn}
 use Rattle.proof_demands.specs.demands.Session.{Holds, singlesFor}
 use Rattle.proof_demands.specs.demands.Demands.{Lent, typesIn, ruled}
-use Rattle.spec_c_dumper.specs.origins.Causes.{upTo, showsIn, entriesIn, Told, untold, singleNoted, listNoted, everyNoted, causesOf, allCauses}
+use Rattle.spec_c_dumper.specs.origins.Causes.{upTo, showsIn, entriesIn, Explaining, untold, singleNoted, listNoted, everyNoted, causesOf, allCauses}
 use Rattle.spec_session.specs.origin_calls.Bytes.{CauseCall, typeCauses, typesCauses}
 use Rattle.spec_c_dumper.proofs.origins.Numbered.{machine-numbered}
 use Rattle.session_requests.specs.origin_lists.Several.{listFromCauses, listCausesCall}
@@ -53,7 +53,7 @@ module _ (p modes : ℕ) (s : List ℕ) (n : ℕ) (ok : openingNumber p s n ≡ 
     abbrev d : Call
     d = typeCauses (c .session) s (c .work) text id l .call
 
-    abbrev u : Told State
+    abbrev u : Explaining State
     u = singleNoted X T (upTo (entriesIn l)) (showsIn B) (length text) id (untold L)
 
     one-stepped : Stepped p modes s n ok (length text) (untold L) l (typeCauses (c .session) s (c .work) text id l) u
@@ -70,7 +70,7 @@ module _ (p modes : ℕ) (s : List ℕ) (n : ℕ) (ok : openingNumber p s n ≡ 
     one-short = one-came (single-came X T (showsIn B) (machine-numbered (namesIn p modes s n) B) (length text) (entriesIn l) id (untold L) zero-le)
 
   -- all ids
-  abbrev every′ : Bool → Told State
+  abbrev every′ : Bool → Explaining State
   every′ b = everyNoted X T (upTo (entriesIn l)) (showsIn B) (length text) L b
 
   every-accepted : (b : Bool) → every′ b .answer .number ≡ 17
@@ -91,7 +91,7 @@ module _ (p modes : ℕ) (s : List ℕ) (n : ℕ) (ok : openingNumber p s n ≡ 
   pub all-short : numberOf (typesCauses (c .session) s (c .work) text l .call .answer) ≡ 17
       → Shut (typesCauses (c .session) s (c .work) text l .call .session) (typesCauses (c .session) s (c .work) text l .call .text) (run X T (onesFrom (length text) count 1) L)
   all-short q =
-      let u : Told State = every′ (L .isOpen) in
+      let u : Explaining State = every′ (L .isOpen) in
       let st : Stepped p modes s n ok (length text) (untold L) l (typesCauses (c .session) s (c .work) text l) u = types-stepped p modes s n ok (c .session) (c .work) (c .text) (untold L) h text (lent .long) (lent .begins) l in
       let z : u .answer .number ≡ 17 = sym (st .keeps .tells .number) ∙ q in
       let g = every-accepted (L .isOpen) z in
@@ -108,7 +108,7 @@ module _ (p modes : ℕ) (s : List ℕ) (n : ℕ) (ok : openingNumber p s n ≡ 
   unfolding listCausesCall
   list-short ids q =
       let d : CauseCall = listFromCauses 0 (c .session) s (c .work) text l ids in
-      let u : Told State = listNoted X T (upTo (entriesIn l)) (showsIn B) (length text) ids (untold L) in
+      let u : Explaining State = listNoted X T (upTo (entriesIn l)) (showsIn B) (length text) ids (untold L) in
       let w : Went p modes s n ok 0 (untold L) l d u = list-went p modes s n ok ids 0 (c .session) (c .work) (c .text) (untold L) h refl text (lent .long) (lent .begins) l (entriesIn l) (omega arith) in
       let z : u .answer .number ≡ 17 = sym (w .its-number) ∙ q in
       let g = list-accepted X T (showsIn B) (machine-numbered (namesIn p modes s n) B) (length text) (entriesIn l) ids (untold L) refl zero-le in

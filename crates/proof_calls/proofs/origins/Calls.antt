@@ -18,8 +18,8 @@ use Rattle.proof_demands.specs.demands.Session.{After, Tells}
 use Rattle.proof_demands.specs.demands.Demands.{Lent, typesIn, ruled, Demand2}
 use Rattle.proof_demands.proofs.demands.Claims.{opening-gives}
 use Rattle.proof_demands.proofs.demands.Demands.{after-sound, delivered}
-use Rattle.spec_c_dumper.specs.origins.Causes.{Entry, showsIn, always, Told, untold, singleNoted, everyNoted}
-use Rattle.spec_c_dumper.specs.origins.Claims.{Fits}
+use Rattle.spec_c_dumper.specs.origins.Causes.{Entry, showsIn, always, Explaining, untold, singleNoted, everyNoted}
+use Rattle.spec_c_dumper.specs.origins.Claims.{FitsList}
 use Rattle.spec_c_dumper.specs.origins.Lines.{Turns}
 use Rattle.spec_c_dumper.specs.origins.Causes.{idsFrom}
 use Rattle.proof_calls.specs.origins.Calls.{Beside, Explained}
@@ -69,7 +69,7 @@ module _ (p modes : ℕ) (s : List ℕ) (n : ℕ) (c : Call) (rs : List Req) (a 
   pub still : Idle (S .mach)
   still = run-idle N B void rs (openedBy N B (noNames B)) (opened-idle N B void)
 
-  is-beside : (room : ℕ) (ids : List ℕ) (d : Call) (F : (ℕ → Bool) → Told (Ls (Known Names))) (P : Answer (Ls (Known Names))) → Tells room d P → Fits 0 F P → Told-grown N B void room ids (untold S) (F always)
+  is-beside : (room : ℕ) (ids : List ℕ) (d : Call) (F : (ℕ → Bool) → Explaining (Ls (Known Names))) (P : Answer (Ls (Known Names))) → Tells room d P → FitsList 0 F P → Told-grown N B void room ids (untold S) (F always)
       → Beside p modes s n room ids rs c d (F always)
   is-beside room ids d F P t h g = record {
     number = t .number ∙ ap (λ (q : Answer (Ls (Known Names))). q .number) (sym (h .same));

@@ -7,7 +7,7 @@ use Rattle.spec_c_dumper.specs.rules.Machine.{Answer, every}
 use Rattle.spec_c_dumper.specs.rules.Names.{Names}
 use Rattle.spec_c_dumper.specs.rules.Types.{Btf, tableOf}
 use Rattle.spec_c_dumper.specs.needs.Lists.{Ls}
-use Rattle.spec_c_dumper.specs.needs.Session.{Known, textOf, machine, opened, dump, answerOf as answered, dumped, printed, program}
+use Rattle.spec_c_dumper.specs.needs.Session.{Known, textOf, machine, opened, dump, answerTo as answered, dumped, printed, program}
 use Rattle.btfdump_run.specs.printed.Printed.{refusedLine}
 
 -- what is printed for a number and a text

@@ -15,18 +15,18 @@ use Rattle.spec_c_dumper.specs.rules.Writer.{askThen, checked, saidText, saidNa
 use Rattle.spec_c_dumper.specs.rules.Types.{isEmpty, BtfType, Void, Composite}
 use Rattle.spec_c_dumper.specs.rules.Layout.{larger, smaller, octets, sizeOf, getSizeOf, alignMembers, alignOf, getAlignOf, offAlign, membersPacked, isStructPacked, chipAwayBits, padOf, padsOf, gapPads, padsBefore, bitPadding, endOf}
 use Rattle.spec_c_dumper.specs.rules.Placing.{bodyPacked, tailPads}
-use Rattle.spec_c_dumper.specs.rules.Names.{spelled, resolving, resolveTypeName, resolveName, sameBytes, holds, holders, counted, typeVersion, valueVersion, startsWith, contains, builtin, escapedByte, escaped}
+use Rattle.spec_c_dumper.specs.rules.Names.{spelled, resolving, resolveTypeName, resolveName, sameBytes, holds, holders, withOne, typeVersion, valueVersion, startsWith, contains, builtin, escapedByte, escaped}
 use Rattle.spec_c_dumper.specs.rules.Decl.{deeper, sepName, keyword, attribute, declTag, declTags, qualifier, enumValue, enum64Value, chainOn, chainOf, mods, noMods, shownParams, unitWord, pads, lastNewline, ownLine, tailText, bitSize, emitCompositeFwd, emitFwdDef, enumWord, emitValues, enumBody, emitEnumDef, emitName, brackets, parens, emitParam, emitParams, baseWord, emitArray, emitProto, paramList, chainLoop, emitMembers, compositeHead, compositeEnd, compositeBody, compositeDef, emitTypedefDef, emitTypeDecl, emitTypeChain, emitCompositeDef}
 use Rattle.spec_c_dumper.specs.rules.Emit.{definition, shown, forward}
 use Rattle.spec_c_dumper.specs.rules.Listed.{tagsId, tagsFrom, listed}
 use Rattle.spec_c_dumper.specs.needs.Lists.{tagsOf, afresh}
-use Rattle.spec_c_dumper.specs.needs.Session.{fitting, lineOf, textOf, answerOf, dumped, printed, program}
+use Rattle.spec_c_dumper.specs.needs.Session.{fitting, lineOf, textOf, answerTo, dumped, printed, program}
 use Rattle.spec_type_table.specs.Records.{sectionWord}
 use Rattle.spec_linux_btf.specs.Reading.{Bytes, word, kind, sound, named, passes, layoutSound, decode, places, decodeAll}
 use Rattle.spec_linux_btf.specs.Places.{kindP, vlenP, sizeP, placeFrom}
 use Rattle.spec_linux_btf.specs.Section.{bigEndian, littleEndian, wordOf, hdrLen, typeOff, typeLen, strOff, strLen, typeArea, stringArea, headerSound, stringsSound, typesSound}
 use Rattle.btf_open_causes.specs.references.Any.{anyBelow}
-use Rattle.btf_open_causes.specs.references.Followed.{among, countOf, entryAt, placeOf, kindAt, countFor, idPlace, countAt, idAt, followedCount, followedId}
+use Rattle.btf_open_causes.specs.references.Followed.{isKindAmong, typeCount, entryAt, placeOf, kindAt, countFor, idPlace, countAt, idAt, followedCount, followedId}
 use Rattle.btf_open_causes.specs.references.References.{isBad, isSomeBad, hasBadReference}
 use Rattle.btf_open_causes.specs.loops.Graph.{long, hasLoop}
 use Rattle.btf_open_causes.specs.loops.Loops.{degOf, degAt}
@@ -70,15 +70,15 @@ itself-bytes = all-bytes itself refl
 
 -- opening accepts both, and not the empty section
 node-opens : number node ≡ 0
-unfolding openingNumber firstOf cause1 cause2 cause3 headerSound bigEndian littleEndian hdrLen typeOff typeLen strOff strLen word cause4 stringsSound stringArea cause5 typesSound typeArea layoutSound passes sound named kind cause6 cause7 cause8 cause9 tableOf btfOf typesOf enumeratorsOf decodeAll decode places indexOf indexFor emptyIndex recordPlace recordKind placeFrom kindP sizeP vlenP hasBadReference isSomeBad isBad anyLeads asker asksOf asksAt leadsTo chase whatOf nextOf hasLoop anyBelow long degOf degAt followedCount followedId countAt idAt countFor idPlace kindAt placeOf entryAt countOf among sectionWord wordOf wordIn wordAt
+unfolding openingNumber firstOf cause1 cause2 cause3 headerSound bigEndian littleEndian hdrLen typeOff typeLen strOff strLen word cause4 stringsSound stringArea cause5 typesSound typeArea layoutSound passes sound named kind cause6 cause7 cause8 cause9 tableOf btfOf typesOf enumeratorsOf decodeAll decode places indexOf indexFor emptyIndex recordPlace recordKind placeFrom kindP sizeP vlenP hasBadReference isSomeBad isBad anyLeads asker asksOf asksAt leadsTo chase whatOf nextOf hasLoop anyBelow long degOf degAt followedCount followedId countAt idAt countFor idPlace kindAt placeOf entryAt typeCount isKindAmong sectionWord wordOf wordIn wordAt
 node-opens = refl
 
 itself-opens : number itself ≡ 0
-unfolding openingNumber firstOf cause1 cause2 cause3 headerSound bigEndian littleEndian hdrLen typeOff typeLen strOff strLen word cause4 stringsSound stringArea cause5 typesSound typeArea layoutSound passes sound named kind cause6 cause7 cause8 cause9 tableOf btfOf typesOf enumeratorsOf decodeAll decode places indexOf indexFor emptyIndex recordPlace recordKind placeFrom kindP sizeP vlenP hasBadReference isSomeBad isBad anyLeads asker asksOf asksAt leadsTo chase whatOf nextOf hasLoop anyBelow long degOf degAt followedCount followedId countAt idAt countFor idPlace kindAt placeOf entryAt countOf among sectionWord wordOf wordIn wordAt
+unfolding openingNumber firstOf cause1 cause2 cause3 headerSound bigEndian littleEndian hdrLen typeOff typeLen strOff strLen word cause4 stringsSound stringArea cause5 typesSound typeArea layoutSound passes sound named kind cause6 cause7 cause8 cause9 tableOf btfOf typesOf enumeratorsOf decodeAll decode places indexOf indexFor emptyIndex recordPlace recordKind placeFrom kindP sizeP vlenP hasBadReference isSomeBad isBad anyLeads asker asksOf asksAt leadsTo chase whatOf nextOf hasLoop anyBelow long degOf degAt followedCount followedId countAt idAt countFor idPlace kindAt placeOf entryAt typeCount isKindAmong sectionWord wordOf wordIn wordAt
 itself-opens = refl
 
 nothing-opens : number [] ≡ 3
-unfolding openingNumber firstOf cause1 cause2 cause3 headerSound bigEndian littleEndian hdrLen typeOff typeLen strOff strLen word cause4 stringsSound stringArea cause5 typesSound typeArea layoutSound passes sound named kind cause6 cause7 cause8 cause9 tableOf btfOf typesOf enumeratorsOf decodeAll decode places indexOf indexFor emptyIndex recordPlace recordKind placeFrom kindP sizeP vlenP hasBadReference isSomeBad isBad anyLeads asker asksOf asksAt leadsTo chase whatOf nextOf hasLoop anyBelow long degOf degAt followedCount followedId countAt idAt countFor idPlace kindAt placeOf entryAt countOf among sectionWord wordOf wordIn wordAt
+unfolding openingNumber firstOf cause1 cause2 cause3 headerSound bigEndian littleEndian hdrLen typeOff typeLen strOff strLen word cause4 stringsSound stringArea cause5 typesSound typeArea layoutSound passes sound named kind cause6 cause7 cause8 cause9 tableOf btfOf typesOf enumeratorsOf decodeAll decode places indexOf indexFor emptyIndex recordPlace recordKind placeFrom kindP sizeP vlenP hasBadReference isSomeBad isBad anyLeads asker asksOf asksAt leadsTo chase whatOf nextOf hasLoop anyBelow long degOf degAt followedCount followedId countAt idAt countFor idPlace kindAt placeOf entryAt typeCount isKindAmong sectionWord wordOf wordIn wordAt
 nothing-opens = refl
 
 -- their types are those of the samples, and the rules print the text
@@ -90,24 +90,24 @@ node-text : program rules.node ≡ ascii "struct node {\n\tstruct node *next;\n\
 unfolding oneMore join bytes pfx digits decimal bind each meet pushIf enter alias fresh visit order obind eeach once mention again close leaf within begin
     allowed look emit shut emitted ordered gate single onward from every askThen checked saidText saidNames after next put stop given _⨾_ isEmpty
     larger smaller octets sizeOf getSizeOf alignMembers alignOf getAlignOf offAlign membersPacked isStructPacked chipAwayBits padOf padsOf
-    gapPads padsBefore bitPadding endOf spelled resolving resolveTypeName resolveName sameBytes holds holders counted typeVersion valueVersion startsWith
+    gapPads padsBefore bitPadding endOf spelled resolving resolveTypeName resolveName sameBytes holds holders withOne typeVersion valueVersion startsWith
     contains builtin escapedByte escaped deeper sepName keyword attribute declTag declTags qualifier enumValue enum64Value chainOn chainOf mods
     noMods shownParams unitWord pads lastNewline ownLine tailText bodyPacked tailPads bitSize emitCompositeFwd emitFwdDef enumWord emitValues enumBody emitEnumDef emitName brackets
     parens emitParam emitParams baseWord emitArray emitProto paramList chainLoop emitMembers compositeHead compositeEnd compositeBody
     compositeDef emitTypedefDef emitTypeDecl emitTypeChain emitCompositeDef definition shown forward tagsId tagsFrom tagsOf afresh fitting lineOf
-    textOf answerOf dumped printed program
+    textOf answerTo dumped printed program
 node-text = refl
 
 itself-text : program rules.itself ≡ ascii "refused 13\n"
 unfolding oneMore join bytes pfx digits decimal bind each meet pushIf enter alias fresh visit order obind eeach once mention again close leaf within begin
     allowed look emit shut emitted ordered gate single onward from every askThen checked saidText saidNames after next put stop given _⨾_ isEmpty
     larger smaller octets sizeOf getSizeOf alignMembers alignOf getAlignOf offAlign membersPacked isStructPacked chipAwayBits padOf padsOf
-    gapPads padsBefore bitPadding endOf spelled resolving resolveTypeName resolveName sameBytes holds holders counted typeVersion valueVersion startsWith
+    gapPads padsBefore bitPadding endOf spelled resolving resolveTypeName resolveName sameBytes holds holders withOne typeVersion valueVersion startsWith
     contains builtin escapedByte escaped deeper sepName keyword attribute declTag declTags qualifier enumValue enum64Value chainOn chainOf mods
     noMods shownParams unitWord pads lastNewline ownLine tailText bodyPacked tailPads bitSize emitCompositeFwd emitFwdDef enumWord emitValues enumBody emitEnumDef emitName brackets
     parens emitParam emitParams baseWord emitArray emitProto paramList chainLoop emitMembers compositeHead compositeEnd compositeBody
     compositeDef emitTypedefDef emitTypeDecl emitTypeChain emitCompositeDef definition shown forward tagsId tagsFrom tagsOf afresh fitting lineOf
-    textOf answerOf dumped printed program
+    textOf answerTo dumped printed program
 itself-text = refl
 
 line-3 : refusedLine 3 ≡ ascii "refused 3\n"

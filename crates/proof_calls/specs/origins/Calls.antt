@@ -14,7 +14,7 @@ use Rattle.spec_c_dumper.specs.needs.Session.{Known, textOf}
 use Rattle.proof_demands.specs.demands.Table.{openedTable, namesIn, machineIn}
 use Rattle.proof_demands.specs.demands.Session.{After}
 use Rattle.proof_demands.specs.demands.Demands.{Lent, typesIn, ruled}
-use Rattle.spec_c_dumper.specs.origins.Causes.{idsFrom, showsIn, always, Told, untold, singleNoted, everyNoted}
+use Rattle.spec_c_dumper.specs.origins.Causes.{idsFrom, showsIn, always, Explaining, untold, singleNoted, everyNoted}
 use Rattle.spec_c_dumper.specs.origins.Lines.{Turns}
 
 -- pointer size, mode, section and length of the work, as at opening
@@ -23,7 +23,7 @@ module _ (pointer modes : ℕ) (s : List ℕ) (n : ℕ) where
   -- room for all.
   -- The numbers are the same; the requests are accepted up to the first that is refused; what d adds to the text is the lines of the
   -- entries, one an entry, in their order; and each entry has a cause that its request gives.
-  pub record Beside (room : ℕ) (ids : List ℕ) (rs : List Req) (c d : Call) (t : Told (Ls (Known Names))) : Type 0 where
+  pub record Beside (room : ℕ) (ids : List ℕ) (rs : List Req) (c d : Call) (t : Explaining (Ls (Known Names))) : Type 0 where
     pub number : numberOf (d .answer) ≡ t .answer .number
     pub accepted : List ℕ
     pub rest : List ℕ

@@ -18,13 +18,13 @@ use Rattle.spec_c_dumper.proofs.rules.Keeps.{any-name, any-value}
 use Rattle.spec_c_dumper.proofs.rules.Related.{RelResolved, RelNaming}
 use Rattle.spec_c_dumper.specs.rules.Types.{Void, tableOf, Btf as Rules}
 use Rattle.spec_type_table.specs.declared.types.TypeTable.{TypeTable}
-use Rattle.spec_type_table.specs.Cells.{getField, putField, placeOf, classP, countP, countOf, counted, withMore}
+use Rattle.spec_type_table.specs.Cells.{getField, putField, placeOf, classP, countP, countAfter, countRaised, withMore}
 use Rattle.spec_type_table.specs.Numbers.{headP, nextP, takenP, takenAt, numberOver, numberAt}
 use Rattle.spec_type_table.specs.Table.{typeVersionIn, valueVersionIn, enumeratorOf, workNaming}
 use Rattle.spec_type_table.proofs.Laws.{place-type, place-enum}
 use Rattle.spec_type_table.proofs.Frame.{enumerator-same}
 use Rattle.btf_open_names.proofs.numbers.Lists.{taken-same}
-use Rattle.spec_c_dumper.specs.alignment_once.Once.{Seen, Known, known, Keep, Lawful, Once, found, refused, alignOnce, Right, memberCount, membersTo, paidTo}
+use Rattle.spec_c_dumper.specs.alignment_once.Once.{Remembered, Known, known, Keep, Lawful, Once, found, refused, alignOnce, Right, memberCount, membersTo, paidTo}
 use Rattle.spec_c_dumper.specs.alignment_once.Steps.{paddingOnce, bodyOnce}
 use Rattle.spec_c_dumper.specs.alignment_once.Writers.{dumpedOnce, afterOnce}
 use Rattle.spec_c_dumper.proofs.alignment_once.Right.{same-or}
@@ -33,7 +33,7 @@ use Rattle.spec_c_dumper.proofs.alignment_once.Fair.{After, Honest, Fair, fair-
 use Rattle.spec_c_dumper.proofs.alignment_once.Session.{Kept, Sound, same-session, session-pair}
 use Rattle.spec_c_dumper.specs.needs.Needs.{WF}
 use Rattle.spec_c_dumper.specs.needs.Session.{openedBy, dumped}
-use Rattle.btf_layout.specs.remembered.Words.{seenWord, decoded, coded, counted as visited, remembered, workKeep}
+use Rattle.btf_layout.specs.remembered.Words.{seenWord, decoded, coded, withVisits as visited, remembered, workKeep}
 use Rattle.btf_layout.proofs.remembered.Lawful.{Roomy, FitsWord, remembered-length, work-lawful, tells-fits}
 use Rattle.btf_layout.proofs.remembered.Visits.{Counted, Holds, align-holds}
 use Rattle.btf_layout.specs.asked.Asked.{workAsks}
@@ -116,16 +116,16 @@ memory-more w i n m = by (ltb (getWord w i) 4294967295)
     by false = memory-same w
 
 module _ (types : ℕ) (some : 1 ≤ types) (w : List ℕ) (h : ℕ) where
-  memory-counted : Memory (counted (classP types) (countP types) w h) w
-  unfolding counted
+  memory-counted : Memory (countRaised (classP types) (countP types) w h) w
+  unfolding countRaised
   memory-counted = let c = count-apart types some (getWord w (classP types h)) in memory-more w (countP types (getWord w (classP types h))) (c .0) (c .1)
 
   module _ (u : List ℕ) (a : Agree w u) where
     class-same : getWord w (classP types h) ≡ getWord u (classP types h)
     class-same = let c = class-apart types h in a .words (classP types h) (c .0) (c .1)
 
-    count-same : countOf (classP types) (countP types) w h ≡ countOf (classP types) (countP types) u h
-    unfolding countOf
+    count-same : countAfter (classP types) (countP types) w h ≡ countAfter (classP types) (countP types) u h
+    unfolding countAfter
     count-same =
         let c = count-apart types some (getWord u (classP types h)) in
         ap (λ (x : ℕ). oneMore (getWord w (countP types x))) class-same ∙ ap oneMore (a .words (countP types (getWord u (classP types h))) (c .0) (c .1))
@@ -142,8 +142,8 @@ module _ (types : ℕ) (some : 1 ≤ types) (w : List ℕ) (h : ℕ) where
         ∙ taken-same types w u (λ x. a .words (nextP types x) (n x .0) (n x .1)) (λ x. a .words (takenP types x) (t x .0) (t x .1)) (getWord u (classP types h)) (a .words (headP types (getWord u (classP types h))) (c .0) (c .1)))
         count-same
 
-    counted-agree : Agree (counted (classP types) (countP types) w h) (counted (classP types) (countP types) u h)
-    unfolding counted
+    counted-agree : Agree (countRaised (classP types) (countP types) w h) (countRaised (classP types) (countP types) u h)
+    unfolding countRaised
     counted-agree =
         let c = count-apart types some (getWord u (classP types h)) in
         subst (λ (x : ℕ). Agree (withMore w (countP types x)) (withMore u (countP types (getWord u (classP types h))))) (sym class-same) (agree-more w u a (countP types (getWord u (classP types h))) (c .0) (c .1))
@@ -191,7 +191,7 @@ module _ (b : TypeTable) (some : 1 ≤ b .types) (B : Rules) (small : B .ptr-sz 
     given h = numberAt (b .types) w h
 
     abbrev after : List ℕ → ℕ → List ℕ
-    after x h = counted (classP (b .types)) (countP (b .types)) x h
+    after x h = countRaised (classP (b .types)) (countP (b .types)) x h
 
     typed : (id : ℕ) → RelResolved InWork (typeVersionIn (b .types) id w) (typeVersionIn (b .types) id u)
     unfolding typeVersionIn
@@ -232,7 +232,7 @@ module _ (b : TypeTable) (some : 1 ≤ b .types) (B : Rules) (small : B .ptr-sz 
   work-named = record { rel-type = λ space id name fit e w u p. typed w u p id; rel-value = λ id k name fit w u p. enumerated w u p id k }
 
   -- ---- questions
-  agree-remember : (w u : List ℕ) → Agree w u → (id : ℕ) (s : Seen) → Agree (K .remember id s w) u
+  agree-remember : (w u : List ℕ) → Agree w u → (id : ℕ) (s : Remembered) → Agree (K .remember id s w) u
   unfolding workKeep
   agree-remember w u a id s = record { long = remembered-length types id (coded s) (memberCount (B .type-by-id id)) w ∙ a .long; words = λ i n m. other-word i n m ∙ a .words i n m }
     where
@@ -256,7 +256,7 @@ module _ (b : TypeTable) (some : 1 ≤ b .types) (B : Rules) (small : B .ptr-sz 
   keeps : (u : List ℕ) (left id : ℕ) → left ≤ 512 → (m : List ℕ) (k : ℕ) → id < types → Right K B m → Good u m → Also m → After Also (alignOnce K left B id m k)
   keeps u left id c m k l r g a = by (alignOnce K left B id m k) (align-holds types B small (wf .below) few left id c m k l r (g .0, a))
     where
-      by : (x : Once (List ℕ) Seen) → Holds types B small (wf .below) few x → After Also x
+      by : (x : Once (List ℕ) Remembered) → Holds types B small (wf .below) few x → After Also x
       by (found s m′ k′) h = h .1
       by (refused e m′ k′) h = tt
 

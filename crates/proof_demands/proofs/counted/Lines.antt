@@ -17,14 +17,14 @@ use Rattle.spec_c_dumper.specs.rules.Layout.{Pad}
 use Rattle.spec_c_dumper.specs.rules.Names.{Resolved, Names, Naming}
 use Rattle.spec_c_dumper.proofs.rules.Related.{RelSaid, RelW, RelNaming, rel-stop, rel-closed}
 use Rattle.spec_type_table.specs.declared.types.TypeTable.{TypeTable}
-use Rattle.spec_type_table.specs.Cells.{getField, putField, classP, countP, counted}
+use Rattle.spec_type_table.specs.Cells.{getField, putField, classP, countP, countRaised}
 use Rattle.spec_type_table.specs.Numbers.{numberAt}
 use Rattle.spec_type_table.specs.Table.{btfOf, workNaming, typeVersionIn, valueVersionIn, enumeratorOf}
 use Rattle.spec_type_table.proofs.Frame.{counted-other}
-use Rattle.proof_demands.specs.name_counts.Indexed.{Fits, FitsValue}
+use Rattle.proof_demands.specs.name_counts.Indexed.{NameFits, FitsValue}
 use Rattle.proof_demands.specs.name_counts.Alike.{Alike}
 use Rattle.proof_demands.proofs.name_counts.Table.{fits-table}
-use Rattle.spec_c_dumper.specs.alignment_once.Once.{Seen, Known, unknown, known, Keep, Once, Asking, Tells, Right, Table, tableKeep}
+use Rattle.spec_c_dumper.specs.alignment_once.Once.{Remembered, Known, unknown, known, Keep, Once, Asking, Tells, Right, Table, tableKeep}
 use Rattle.spec_c_dumper.specs.alignment_once.Steps.{paddingOnce, bodyOnce}
 use Rattle.spec_c_dumper.specs.alignment_once.Writers.{answered, givenOnce, definitionOnce, forwardOnce, Minded, minded, carried, mindedAsks}
 use Rattle.spec_c_dumper.proofs.alignment_once.Right.{same-or}
@@ -52,7 +52,7 @@ module _ (types : ℕ) (some : 1 ≤ types) where
       n = numberAt types v id
 
       u : List ℕ
-      u = counted (classP types) (countP types) v id
+      u = countRaised (classP types) (countP types) v id
 
       go : (t : Bool) → getField ((elim t as (λ z. Resolved (List ℕ)) [ false ↦ record { version = getField v id 4; names = v } | true ↦ record { version = n; names = putField u id 4 n } ]) .names) j 15 ≡ getField v j 15
       go false = refl
@@ -62,7 +62,7 @@ module _ (types : ℕ) (some : 1 ≤ types) where
   unfolding valueVersionIn
   value-aligned k v j = go (ltb (types + k) 4294967296)
     where
-      go : (t : Bool) → getField ((elim t as (λ z. Resolved (List ℕ)) [ true ↦ record { version = numberAt types v (types + k); names = counted (classP types) (countP types) v (types + k) } | false ↦ record { version = 0; names = v } ]) .names) j 15 ≡ getField v j 15
+      go : (t : Bool) → getField ((elim t as (λ z. Resolved (List ℕ)) [ true ↦ record { version = numberAt types v (types + k); names = countRaised (classP types) (countP types) v (types + k) } | false ↦ record { version = 0; names = v } ]) .names) j 15 ≡ getField v j 15
       go false = refl
       go true = counted-other types v (types + k) (j * 16 + 15) (not-count j)
 
@@ -72,7 +72,7 @@ module _ (n id : ℕ) (l : n ≤ id) where
   unfolding workKeep seenWord decoded
   work-past B v = ap (λ (t : Bool). decoded (elim t as (λ (x : Bool). ℕ) [ true ↦ getField v id 15 | false ↦ 0 ])) (le-ltb id n l)
 
-  table-past : (s : Seen) (f : Table) → tableKeep n .remember id s f id ≡ f id
+  table-past : (s : Remembered) (f : Table) → tableKeep n .remember id s f id ≡ f id
   table-past s f = ap (λ (t : Bool). elim (eqb id id && t) as (λ (x : Bool). Known) [ true ↦ known s | false ↦ f id ]) (le-ltb id n l) ∙ off (eqb id id)
     where
       off : (t : Bool) → (elim (t && false) as (λ (x : Bool). Known) [ true ↦ known s | false ↦ f id ]) ≡ f id
@@ -80,7 +80,7 @@ module _ (n id : ℕ) (l : n ≤ id) where
       off false = refl
 
 -- w is the work after opening, N are names that are alike those in the work
-module _ (b : TypeTable) (e : ℕ) (s w : List ℕ) (Z : Sane b (btfOf b s w)) (room : Roomy (b .types) w) (N : Naming Names) (R : RelNaming (Alike b e s w) (Fits b s w) (FitsValue b s w) (workNaming b) N) where
+module _ (b : TypeTable) (e : ℕ) (s w : List ℕ) (Z : Sane b (btfOf b s w)) (room : Roomy (b .types) w) (N : Naming Names) (R : RelNaming (Alike b e s w) (NameFits b s w) (FitsValue b s w) (workNaming b) N) where
   abbrev B : Rules
   B = btfOf b s w
 
@@ -97,7 +97,7 @@ module _ (b : TypeTable) (e : ℕ) (s w : List ℕ) (Z : Sane b (btfOf b s w)) (
   abbrev pub Pair : List ℕ → Minded Names Table → Type 0
   Pair v u = Linked (u .names) v (u .memory)
 
-  agree : (id : ℕ) (x : Seen) (v : List ℕ) → Agree (K .remember id x v) v
+  agree : (id : ℕ) (x : Remembered) (v : List ℕ) → Agree (K .remember id x v) v
   agree id x v = record {
     long = remember-keeps (λ (u : List ℕ). length u) (λ u c. lengths u 0 2 c) (λ u y c. lengths u y 15 c) b B id x v;
     words = λ i p q. remember-keeps (λ (u : List ℕ). getWord u i) (λ u c. get-put-other u (0 * 16 + 2) i c (λ z. q (omega (arith, z)))) (λ u y c. get-put-other u (y * 16 + 15) i c (λ z. p (omega (arith, z)))) b B id x v;
@@ -111,7 +111,7 @@ module _ (b : TypeTable) (e : ℕ) (s w : List ℕ) (Z : Sane b (btfOf b s w)) (
   recall-moved v v′ h id = ap (λ (x : ℕ). decoded (elim (ltb id n) as (λ (t : Bool). ℕ) [ true ↦ x | false ↦ 0 ])) (h id)
 
   -- ---- what is remembered
-  keeps : (u : Names) (id : ℕ) (x : Seen) (v : List ℕ) (f : Table) → Linked u v f → Tells B id x → x .height ≤ 512 → Right K B (K .remember id x v) → Linked u (K .remember id x v) (tableKeep n .remember id x f)
+  keeps : (u : Names) (id : ℕ) (x : Remembered) (v : List ℕ) (f : Table) → Linked u v f → Tells B id x → x .height ≤ 512 → Right K B (K .remember id x v) → Linked u (K .remember id x v) (tableKeep n .remember id x f)
   keeps u id x v f p t h r = (
     alike-agree b e s w (Z .some) (K .remember id x v) v u (agree id x v) (p .0),
     r,
@@ -132,7 +132,7 @@ module _ (b : TypeTable) (e : ℕ) (s w : List ℕ) (Z : Sane b (btfOf b s w)) (
   moved : (u : Minded Names Table) (v v′ : List ℕ) (u′ : Names) → Pair v u → ((j : ℕ) → getField v′ j 15 ≡ getField v j 15) → Alike b e s w v′ u′ → Linked u′ v′ (u .memory)
   moved u v v′ u′ p h a = (a, λ id x q. p .1 id x (sym (recall-moved v v′ h id) ∙ q), λ id. recall-moved v v′ h id ∙ p .2 id)
 
-  named : RelNaming Pair (Fits b s w) (FitsValue b s w) (workNaming b) (minded N)
+  named : RelNaming Pair (NameFits b s w) (FitsValue b s w) (workNaming b) (minded N)
   unfolding workNaming
   named = record {
     rel-type = λ space id name fit q v u p. let r = R .rel-type space id name fit q v (u .names) (p .0) in (r .0, moved u v _ _ p (type-aligned n (Z .some) id v) (r .1));
@@ -163,8 +163,8 @@ module _ (b : TypeTable) (e : ℕ) (s w : List ℕ) (Z : Sane b (btfOf b s w)) (
   -- ---- the lines
   pub definition-pair : (x : ℕ) → RelW Pair (definitionOnce (workAsks n B) (workNaming b) B x (B .type-by-id x)) (definitionOnce (mindedAsks (tableKeep n) B) (minded N) B x (B .type-by-id x))
   definition-pair x =
-      both-definition (workAsks n B) (mindedAsks (tableKeep n) B) (workNaming b) (minded N) (Fits b s w) (FitsValue b s w) (λ w₁ w₂. RelW Pair w₁ w₂) (rel-closed Pair (Fits b s w) (FitsValue b s w) (workNaming b) (minded N) named) B (fits-table b s w) on-body on-pads x (B .type-by-id x) (fits-table b s w x)
+      both-definition (workAsks n B) (mindedAsks (tableKeep n) B) (workNaming b) (minded N) (NameFits b s w) (FitsValue b s w) (λ w₁ w₂. RelW Pair w₁ w₂) (rel-closed Pair (NameFits b s w) (FitsValue b s w) (workNaming b) (minded N) named) B (fits-table b s w) on-body on-pads x (B .type-by-id x) (fits-table b s w x)
 
   pub forward-pair : (x : ℕ) → RelW Pair (forwardOnce (workAsks n B) (workNaming b) B x (B .type-by-id x)) (forwardOnce (mindedAsks (tableKeep n) B) (minded N) B x (B .type-by-id x))
   forward-pair x =
-      both-forward (workAsks n B) (mindedAsks (tableKeep n) B) (workNaming b) (minded N) (Fits b s w) (FitsValue b s w) (λ w₁ w₂. RelW Pair w₁ w₂) (rel-closed Pair (Fits b s w) (FitsValue b s w) (workNaming b) (minded N) named) B (fits-table b s w) on-body on-pads x (B .type-by-id x) (fits-table b s w x)
+      both-forward (workAsks n B) (mindedAsks (tableKeep n) B) (workNaming b) (minded N) (NameFits b s w) (FitsValue b s w) (λ w₁ w₂. RelW Pair w₁ w₂) (rel-closed Pair (NameFits b s w) (FitsValue b s w) (workNaming b) (minded N) named) B (fits-table b s w) on-body on-pads x (B .type-by-id x) (fits-table b s w x)

@@ -8,7 +8,7 @@ use lib.Dec.{leb, eqb}
 use Rattle.spec_c_dumper.specs.rules.Writer.{Ask, got, no, alignZero, tooDeep}
 use Rattle.spec_c_dumper.specs.rules.Types.{Member, BtfType, Void, Int, Ptr, Array, Composite, Enum, Enum64, Fwd, Typedef, Mod, Func, Var, Datasec, FuncProto, Float, DeclTag, TypeTag, Btf}
 use Rattle.spec_c_dumper.specs.rules.Layout.{smaller, octets, padsBefore}
-use Rattle.spec_c_dumper.specs.alignment_once.Once.{Seen, Known, unknown, known, Keep, Lawful, Once, found, refused, Asking, onceThen, above, widest, alone, membersOnce, taken, typeOnce, keepOnce, alignOnce, alignmentOnce, Tells, Right}
+use Rattle.spec_c_dumper.specs.alignment_once.Once.{Remembered, Known, unknown, known, Keep, Lawful, Once, found, refused, Asking, onceThen, above, widest, alone, membersOnce, taken, typeOnce, keepOnce, alignOnce, alignmentOnce, Tells, Right}
 use Rattle.spec_c_dumper.specs.alignment_once.Steps.{plainly, offAlignOnce, membersPackedOnce, packedOnce, gapAlignOnce, paddingOnce, unionAlignOnce, judged, measuredOnce, bodyOnce}
 use Rattle.spec_c_dumper.proofs.alignment_once.Right.{Told, align-of, told}
 
@@ -35,8 +35,8 @@ module _ {M₁ M₂ : Type 0} (P : M₁ → M₂ → Type 0) where
   same-plainly (got a) m₁ m₂ k₁ k₂ p = same-found a m₁ m₂ k₁ k₂ p
   same-plainly (no c) m₁ m₂ k₁ k₂ p = same-refused c m₁ m₂ k₁ k₂
 
-  module _ (ask₁ : ℕ → Asking M₁ Seen) (ask₂ : ℕ → Asking M₂ Seen) (h : (x : ℕ) → SameAsking (ask₁ x) (ask₂ x)) where
-    same-members : (xs : List Member) (s : Seen) → SameAsking (membersOnce ask₁ s xs) (membersOnce ask₂ s xs)
+  module _ (ask₁ : ℕ → Asking M₁ Remembered) (ask₂ : ℕ → Asking M₂ Remembered) (h : (x : ℕ) → SameAsking (ask₁ x) (ask₂ x)) where
+    same-members : (xs : List Member) (s : Remembered) → SameAsking (membersOnce ask₁ s xs) (membersOnce ask₂ s xs)
     unfolding membersOnce
     same-members [] s m₁ m₂ k₁ k₂ p = same-found s m₁ m₂ k₁ k₂ p
     same-members (x ∷ xs) s m₁ m₂ k₁ k₂ p =
@@ -62,24 +62,24 @@ module _ {M₁ M₂ : Type 0} (P : M₁ → M₂ → Type 0) where
     same-type B (DeclTag a n t c) m₁ m₂ k₁ k₂ p = same-found (alone 0) m₁ m₂ k₁ k₂ p
     same-type B (TypeTag a n t) m₁ m₂ k₁ k₂ p = h t m₁ m₂ k₁ k₂ p
 
-  same-taken : (left : ℕ) (s : Seen) → SameAsking (taken left s) (taken left s)
+  same-taken : (left : ℕ) (s : Remembered) → SameAsking (taken left s) (taken left s)
   unfolding taken
   same-taken left s m₁ m₂ k₁ k₂ p = same-if (leb (s .height) left) (found s m₁ k₁) (refused tooDeep m₁ k₁) (found s m₂ k₂) (refused tooDeep m₂ k₂) (same-found s m₁ m₂ k₁ k₂ p) (same-refused tooDeep m₁ m₂ k₁ k₂)
 
   -- two memories that recall the same, of which the first is right; what is remembered is what get_align_of says
-  module _ (K₁ : Keep M₁) (K₂ : Keep M₂) (B : Btf) (n : ℕ) (Good : M₁ → Type 0) (Fits : Seen → Type 0) (law : Lawful K₁ n Good Fits)
+  module _ (K₁ : Keep M₁) (K₂ : Keep M₂) (B : Btf) (n : ℕ) (Good : M₁ → Type 0) (Fits : Remembered → Type 0) (law : Lawful K₁ n Good Fits)
       (recalls : (m₁ : M₁) (m₂ : M₂) → P m₁ m₂ → (id : ℕ) → K₁ .recall m₁ id ≡ K₂ .recall m₂ id) (right : (m₁ : M₁) (m₂ : M₂) → P m₁ m₂ → Right K₁ B m₁)
-      (keeps : (id : ℕ) (s : Seen) (m₁ : M₁) (m₂ : M₂) → P m₁ m₂ → Tells B id s → s .height ≤ 512 → Right K₁ B (K₁ .remember id s m₁) → P (K₁ .remember id s m₁) (K₂ .remember id s m₂)) where
-    same-keep : (left id : ℕ) → suc left ≤ 512 → (m : M₁) {r₁ : Once M₁ Seen} {r₂ : Once M₂ Seen} → SameOnce r₁ r₂ → Told K₁ B (align-of K₁ B id) (suc left) m (onceThen r₁ (keepOnce K₁ id))
+      (keeps : (id : ℕ) (s : Remembered) (m₁ : M₁) (m₂ : M₂) → P m₁ m₂ → Tells B id s → s .height ≤ 512 → Right K₁ B (K₁ .remember id s m₁) → P (K₁ .remember id s m₁) (K₂ .remember id s m₂)) where
+    same-keep : (left id : ℕ) → suc left ≤ 512 → (m : M₁) {r₁ : Once M₁ Remembered} {r₂ : Once M₂ Remembered} → SameOnce r₁ r₂ → Told K₁ B (align-of K₁ B id) (suc left) m (onceThen r₁ (keepOnce K₁ id))
         → SameOnce (onceThen r₁ (keepOnce K₁ id)) (onceThen r₂ (keepOnce K₂ id))
     unfolding onceThen keepOnce
     same-keep left id b m (same-found s m₁ m₂ k₁ k₂ p) t = same-found (above s) (K₁ .remember id (above s) m₁) (K₂ .remember id (above s) m₂) k₁ k₂ (keeps id (above s) m₁ m₂ p (t .0) (omega (arith, t .1, b)) (t .2))
     same-keep left id b m (same-refused c m₁ m₂ k₁ k₂) t = same-refused c m₁ m₂ k₁ k₂
 
     -- get_align_of with a memory, as alignOnce goes on from what is recalled
-    abbrev going : {M : Type 0} → Keep M → ℕ → ℕ → M → ℕ → Known → Once M Seen
+    abbrev going : {M : Type 0} → Keep M → ℕ → ℕ → M → ℕ → Known → Once M Remembered
     going {M} K left id m k q =
-        elim q as (λ (q : Known). Once M Seen) [ known s ↦ taken (suc left) s m k | unknown ↦ onceThen (typeOnce B (λ t m′ k′. alignOnce K left B t m′ k′) (B .type-by-id id) m (suc k)) (keepOnce K id) ]
+        elim q as (λ (q : Known). Once M Remembered) [ known s ↦ taken (suc left) s m k | unknown ↦ onceThen (typeOnce B (λ t m′ k′. alignOnce K left B t m′ k′) (B .type-by-id id) m (suc k)) (keepOnce K id) ]
 
     same-align : (left id : ℕ) → left ≤ 512 → SameAsking (alignOnce K₁ left B id) (alignOnce K₂ left B id)
     unfolding alignOnce

@@ -10,7 +10,7 @@ use lib.Dec.{leb}
 use Rattle.spec_bytes.proofs.words.Laws.{get-put-other}
 use Rattle.spec_bytes.specs.text.Text.{Text, whole, cut, bytes, Out as Put, done, stopped, putText}
 use Rattle.spec_c_dumper.specs.rules.Order.{Table as Types, Res}
-use Rattle.spec_c_dumper.specs.rules.Machine.{Out, wrote, stuck, Machine, MLawful, Kept, obind, eeach, emit, Sess, Answer, emitted, ordered, ordering, shut}
+use Rattle.spec_c_dumper.specs.rules.Machine.{Out, wrote, stuck, Machine, MLawful, OrderKeeps, obind, eeach, emit, Sess, Answer, emitted, ordered, ordering, shut}
 use Rattle.spec_c_dumper.specs.rules.Types.{Btf as Rules, tableOf}
 use Rattle.spec_c_dumper.specs.rules.Layout.{smaller}
 use Rattle.spec_c_dumper.specs.rules.Names.{Names, Naming}
@@ -30,7 +30,7 @@ use Rattle.spec_c_dumper.proofs.needs.Alike.{Both, both, neither, AlikeStore, A
 use Rattle.spec_c_dumper.proofs.needs.AnyNames.{Nearly}
 use Rattle.spec_c_dumper.proofs.needs.Lists.{Sized}
 use Rattle.spec_c_dumper.proofs.needs.Session.{machine-lawful}
-use Rattle.proof_demands.specs.name_counts.Indexed.{Indexed, Fits, FitsValue}
+use Rattle.proof_demands.specs.name_counts.Indexed.{Indexed, NameFits, FitsValue}
 use Rattle.proof_demands.specs.name_counts.Alike.{Alike}
 use Rattle.spec_c_dumper.specs.alignment_once.Once.{Keep, Table, tableKeep}
 use Rattle.spec_c_dumper.specs.alignment_once.Writers.{Minded, minded, mindedAsks, machineOnce}
@@ -52,7 +52,7 @@ emptied-aligned zero v j = refl
 emptied-aligned (suc k) v j = get-put-other (emptied k v) (k * 16 + 11) (j * 16 + 15) 0 (λ q. omega (arith, q)) ∙ emptied-aligned k v j
 
 -- w is the work after opening; the text so far is `front`, and the room of the request is `size`
-module _ (b : TypeTable) (e : ℕ) (s w : List ℕ) (I : Indexed b e s w) (Z : Sane b (btfOf b s w)) (room : Roomy (b .types) w) (N : Naming Names) (R : RelNaming (Alike b e s w) (Fits b s w) (FitsValue b s w) (workNaming b) N)
+module _ (b : TypeTable) (e : ℕ) (s w : List ℕ) (I : Indexed b e s w) (Z : Sane b (btfOf b s w)) (room : Roomy (b .types) w) (N : Naming Names) (R : RelNaming (Alike b e s w) (NameFits b s w) (FitsValue b s w) (workNaming b) N)
     (wf : WF (tableOf (btfOf b s w))) where
   abbrev B : Rules
   B = btfOf b s w
@@ -217,7 +217,7 @@ module _ (b : TypeTable) (e : ℕ) (s w : List ℕ) (I : Indexed b e s w) (Z : S
     lawful = machine-lawful (minded {M = Table} N) B (T .count)
 
     abbrev Goes : State → Sheet → State → Bool → Type 0
-    Goes t₀ m t c = Went (X₁ .store) (X₂ .store) T (Sized (T .count)) (lawful .law) (Kept X₃ (Sized (T .count))) (lawful .framed) (wf .below) Linked linked-store t₀ m t c
+    Goes t₀ m t c = Went (X₁ .store) (X₂ .store) T (Sized (T .count)) (lawful .law) (OrderKeeps X₃ (Sized (T .count))) (lawful .framed) (wf .below) Linked linked-store t₀ m t c
 
     list-linked : (m : Sheet) (t : State) → Linked m t → X₁ .store .list m ≡ X₂ .store .list t
     list-linked m t q = list-same b e s w I Z N R wf front size m (q .plain) (q .related) ∙ sym (ap (λ (k : Ls ℕ). k .olist) (q .near .rest))
@@ -241,7 +241,7 @@ module _ (b : TypeTable) (e : ℕ) (s w : List ℕ) (I : Indexed b e s w) (Z : S
       unfolding dumped
       request-came m p z h sh near r l =
           ordered-came (X₂ .start size (S .mach))
-          (order-alike (X₁ .store) (X₂ .store) T (Sized (T .count)) (lawful .law) (Kept X₃ (Sized (T .count))) (lawful .framed) (wf .below) Linked linked-store 512 m (X₂ .start size (S .mach)) x false
+          (order-alike (X₁ .store) (X₂ .store) T (Sized (T .count)) (lawful .law) (OrderKeeps X₃ (Sized (T .count))) (lawful .framed) (wf .below) Linked linked-store 512 m (X₂ .start size (S .mach)) x false
           (record {
             related = record {
               plain = X .start size p;

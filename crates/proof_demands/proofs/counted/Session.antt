@@ -25,7 +25,7 @@ use Rattle.spec_session.specs.declared.session.Session.{Session}
 use Rattle.spec_session.specs.session.Answers.{numberOf, answerOf}
 use Rattle.spec_session.specs.session.Turns.{Call, callOf, Reach, reached, refusedBy, settled, visitsIn}
 use Rattle.spec_session.specs.calls.Calls.{openedCall, openCall, cameTo, lentTo, requested, onward as goOn, requestedFrom, typeCall, typesCall}
-use Rattle.spec_session.specs.calls.Lists.{counted as countedCall, listFrom, listCall}
+use Rattle.spec_session.specs.calls.Lists.{thenNext as countedCall, listFrom, listCall}
 use Rattle.spec_session.proofs.calls.Lists.{counted-goes, counted-stops, type-single, list-counts}
 use Rattle.spec_session.proofs.calls.Laws.{opens-sound}
 use Rattle.spec_session.proofs.calls.Claims.{type-settles, types-settle, type-not-below, type-not-current, types-not-current, closed-stays}

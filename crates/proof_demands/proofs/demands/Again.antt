@@ -17,7 +17,7 @@ use Rattle.spec_session.specs.declared.session.Session.{Session}
 use Rattle.spec_session.specs.session.Answers.{numberOf, valueOf, answerOf}
 use Rattle.spec_session.specs.session.Turns.{Call, callOf, Reach, thenZeros}
 use Rattle.spec_session.specs.calls.Calls.{typeCall}
-use Rattle.spec_session.specs.calls.Lists.{counted as countedCall, listFrom, listCall}
+use Rattle.spec_session.specs.calls.Lists.{thenNext as countedCall, listFrom, listCall}
 use Rattle.spec_session.proofs.calls.Claims.{number-is, value-is, type-not-below}
 use Rattle.spec_session.proofs.calls.Lists.{andThen, list-append, counted-goes, counted-stops, type-single, list-counts}
 use Rattle.spec_c_dumper.specs.needs.Lists.{Ls}

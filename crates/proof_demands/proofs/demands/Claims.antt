@@ -10,7 +10,7 @@ use Rattle.spec_opening.specs.Causes.{openingNumber}
 use Rattle.spec_c_dumper.specs.needs.Session.{noNames}
 use Rattle.spec_c_dumper.proofs.needs.Session.{by-demand3}
 use Rattle.spec_c_dumper.proofs.needs.AnyNames.{dumps-alike}
-use Rattle.proof_demands.specs.name_counts.Indexed.{Fits, FitsValue}
+use Rattle.proof_demands.specs.name_counts.Indexed.{NameFits, FitsValue}
 use Rattle.proof_demands.specs.name_counts.Alike.{Alike}
 use Rattle.proof_demands.proofs.name_counts.Related.{alike-first}
 use Rattle.proof_demands.proofs.name_counts.Table.{fits-table}
@@ -43,7 +43,7 @@ module _ (p modes : ℕ) (s : List ℕ) (n : ℕ) (ok : openingNumber p s n ≡ 
     fresh = opened-fresh p modes s n ok;
     demand3 = λ rs. by-demand3 (namesIn p modes s n) (openedTable p modes s n) (opened-wf p modes s n ok) (noNames (openedTable p modes s n)) rs;
     work-demand3 = λ rs. by-demand3 (workNaming (headerOf p modes s)) (openedTable p modes s n) (opened-wf p modes s n ok) (workOf p modes s n) rs;
-    same-text = λ rs. dumps-alike (Alike (headerOf p modes s) (enumeratorsOf s) s (workOf p modes s n)) (Fits (headerOf p modes s) s (workOf p modes s n)) (FitsValue (headerOf p modes s) s (workOf p modes s n))
+    same-text = λ rs. dumps-alike (Alike (headerOf p modes s) (enumeratorsOf s) s (workOf p modes s n)) (NameFits (headerOf p modes s) s (workOf p modes s n)) (FitsValue (headerOf p modes s) s (workOf p modes s n))
         (workNaming (headerOf p modes s)) (namesIn p modes s n) (opened-names p modes s n ok) (openedTable p modes s n) (fits-table (headerOf p modes s) s (workOf p modes s n)) (opened-wf p modes s n ok)
         (workOf p modes s n) (noNames (openedTable p modes s n)) (opened-alike p modes s n ok) rs;
   }

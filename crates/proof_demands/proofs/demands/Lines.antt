@@ -18,7 +18,7 @@ use Rattle.spec_c_dumper.specs.rules.Types.{BtfType, Btf as Rules}
 use Rattle.spec_c_dumper.specs.rules.Emit.{definition, forward}
 use Rattle.spec_c_dumper.proofs.rules.Related.{RelSaid, same, RelNaming, rel-text, rel-names, rel-definition, rel-forward}
 use Rattle.spec_type_table.specs.declared.types.TypeTable.{TypeTable}
-use Rattle.spec_type_table.specs.Cells.{getField, putField, placeOf, classP, countP, counted}
+use Rattle.spec_type_table.specs.Cells.{getField, putField, placeOf, classP, countP, countRaised}
 use Rattle.spec_type_table.specs.Numbers.{headP, nextP, takenP, numberAt}
 use Rattle.btf_open_names.specs.name_classes.Classes.{recordP, keyIn, classOf}
 use Rattle.spec_type_table.specs.Table.{from, btfOf, workNaming, typeVersionIn, valueVersionIn, enumeratorOf}
@@ -28,7 +28,7 @@ use Rattle.spec_bytes.proofs.words.Laws.{get-put-other, le-or-lt}
 use Rattle.c_dumper_dependency_order.specs.order_state.Work.{markOf}
 use Rattle.spec_c_dumper.specs.needs.Lists.{Piece, defines, other, Line, cannot, Ls, putLine}
 use Rattle.spec_c_dumper.specs.needs.Session.{Known, fitting, lineOf, textOf, machineBy}
-use Rattle.proof_demands.specs.name_counts.Indexed.{Indexed, Fits, FitsValue}
+use Rattle.proof_demands.specs.name_counts.Indexed.{Indexed, NameFits, FitsValue}
 use Rattle.proof_demands.specs.name_counts.Alike.{Alike}
 use Rattle.proof_demands.proofs.name_counts.Table.{fits-table}
 use Rattle.spec_c_dumper.specs.alignment_once.Writers.{definitionOnce, forwardOnce}
@@ -55,7 +55,7 @@ module _ (b : TypeTable) (i : ℕ) (z : Free (b .types) i) where
       n = numberAt (b .types) v id
 
       u : List ℕ
-      u = counted (classP (b .types)) (countP (b .types)) v id
+      u = countRaised (classP (b .types)) (countP (b .types)) v id
 
       go : (t : Bool) → getWord ((elim t as (λ z. Resolved (List ℕ)) [ false ↦ record { version = getField v id 4; names = v } | true ↦ record { version = n; names = putField u id 4 n } ]) .names) i ≡ getWord v i
       go false = refl
@@ -69,7 +69,7 @@ module _ (b : TypeTable) (i : ℕ) (z : Free (b .types) i) where
       n = numberAt (b .types) v (b .types + k)
 
       u : List ℕ
-      u = counted (classP (b .types)) (countP (b .types)) v (b .types + k)
+      u = countRaised (classP (b .types)) (countP (b .types)) v (b .types + k)
 
       go : (t : Bool) → getWord ((elim t as (λ z. Resolved (List ℕ)) [ true ↦ record { version = n; names = u } | false ↦ record { version = 0; names = v } ]) .names) i ≡ getWord v i
       go false = refl
@@ -224,7 +224,7 @@ alike-agree b e s w some v u n a k = record {
 
 -- ---- the lines of a session: B is the table that opening left
 -- N: names that are alike those in the work
-module _ (b : TypeTable) (e : ℕ) (s w : List ℕ) (I : Indexed b e s w) (Z : Sane b (btfOf b s w)) (N : Naming Names) (R : RelNaming (Alike b e s w) (Fits b s w) (FitsValue b s w) (workNaming b) N)
+module _ (b : TypeTable) (e : ℕ) (s w : List ℕ) (I : Indexed b e s w) (Z : Sane b (btfOf b s w)) (N : Naming Names) (R : RelNaming (Alike b e s w) (NameFits b s w) (FitsValue b s w) (workNaming b) N)
     (v : List ℕ) (len : ℕ) (t : Ls (Known Names)) (h : Bears b e s w v len t) (front text : List ℕ) (at : ℕ) (sh : Shows b e s w front text at t) (x : ℕ) where
   abbrev B : Rules
   B = btfOf b s w
@@ -257,7 +257,7 @@ module _ (b : TypeTable) (e : ℕ) (s w : List ℕ) (I : Indexed b e s w) (Z : S
       subst (λ (n : ℕ). BothLine b e s w front (t .room) len (putSaid text at defined) (putLine mk t (lineOf (t .room) n (definition N B x type (t .known .names))))) (sh .place)
       (one-line b e s w I mk q v len t h front text at sh defined (definition N B x type (t .known .names))
       (through defined (definition (workNaming b) B x type v) (definition N B x type (t .known .names)) defined-says
-      (rel-definition (Alike b e s w) (Fits b s w) (FitsValue b s w) (workNaming b) N R B (fits-table b s w) x type (fits-table b s w x) v (t .known .names) (h .names)))
+      (rel-definition (Alike b e s w) (NameFits b s w) (FitsValue b s w) (workNaming b) N R B (fits-table b s w) x type (fits-table b s w x) v (t .known .names) (h .names)))
       (definition-table b s B x type v) (λ i z. definition-free b i z B x type v) (defined-says .memory))
 
   -- a composite's definition, and an enum's or a forward's
@@ -273,7 +273,7 @@ module _ (b : TypeTable) (e : ℕ) (s w : List ℕ) (I : Indexed b e s w) (Z : S
       subst (λ (n : ℕ). BothLine b e s w front (t .room) len (putSaid text at forwarded) (putLine other t (lineOf (t .room) n (forward N B x type (t .known .names))))) (sh .place)
       (one-line b e s w I other text-other v len t h front text at sh forwarded (forward N B x type (t .known .names))
       (through forwarded (forward (workNaming b) B x type v) (forward N B x type (t .known .names)) forwarded-says
-      (rel-forward (Alike b e s w) (Fits b s w) (FitsValue b s w) (workNaming b) N R B (fits-table b s w) x type (fits-table b s w x) v (t .known .names) (h .names)))
+      (rel-forward (Alike b e s w) (NameFits b s w) (FitsValue b s w) (workNaming b) N R B (fits-table b s w) x type (fits-table b s w x) v (t .known .names) (h .names)))
       (forward-table b s B x type v) (λ i z. forward-free b i z B x type v) (forwarded-says .memory))
 
   pub alias-line : BothLine b e s w front (t .room) len (putSaid text at forwarded) (machineBy N B .aliasLine t x)

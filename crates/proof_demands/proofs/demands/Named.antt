@@ -31,7 +31,7 @@ use Rattle.btf_open_names.proofs.filled_work.Enumerators.{to-up}
 use Rattle.btf_open_names.proofs.filled_work.Zeros.{zeros-word, before-else, other-field}
 use Rattle.spec_opening.proofs.ReadBack.{header-ok, types-ok, order-ok, work-long, types-are, before, classed, else-listed, record-back, kind-back, value-back, enumerator-back, room-back, bucket-back, work-length, counts-back}
 use Rattle.btf_open_names.proofs.filled_work.Frame.{field-unlisted, place-unlisted}
-use Rattle.proof_demands.specs.name_counts.Indexed.{IsEnum, valuePlace, Value, placeOfValue, Fits, FitsValue, Indexed, listsIn}
+use Rattle.proof_demands.specs.name_counts.Indexed.{IsEnum, valuePlace, Value, placeOfValue, NameFits, FitsValue, Indexed, listsIn}
 use Rattle.proof_demands.specs.name_counts.Passed.{passed}
 use Rattle.proof_demands.specs.name_counts.Alike.{Alike, Fresh}
 use Rattle.proof_demands.proofs.name_counts.Related.{work-names}
@@ -169,12 +169,12 @@ module _ (p modes : ℕ) (s : List ℕ) (n : ℕ) (ok : openingNumber p s n ≡ 
   }
 
   -- the names of the session are alike those in the work: without bit 3 of the modes no list has a first holder
-  pub opened-names : RelNaming (Alike b (enumeratorsOf s) s w) (Fits b s w) (FitsValue b s w) (workNaming b) (namesIn p modes s n)
+  pub opened-names : RelNaming (Alike b (enumeratorsOf s) s w) (NameFits b s w) (FitsValue b s w) (workNaming b) (namesIn p modes s n)
   unfolding namesIn
   opened-names = go (eqb (modes / 8 % 2) 1) refl
     where
-      go : (t : Bool) → eqb (modes / 8 % 2) 1 ≡ t → RelNaming (Alike b (enumeratorsOf s) s w) (Fits b s w) (FitsValue b s w) (workNaming b) (elim t as (λ z. Naming Names) [ true ↦ passed (listsIn b (enumeratorsOf s) s w) | false ↦ naming ])
+      go : (t : Bool) → eqb (modes / 8 % 2) 1 ≡ t → RelNaming (Alike b (enumeratorsOf s) s w) (NameFits b s w) (FitsValue b s w) (workNaming b) (elim t as (λ z. Naming Names) [ true ↦ passed (listsIn b (enumeratorsOf s) s w) | false ↦ naming ])
       go true q = work-names b (enumeratorsOf s) s w opened-indexed (lists-are b (enumeratorsOf s) s w)
       go false q =
-          subst (λ (N : Naming Names). RelNaming (Alike b (enumeratorsOf s) s w) (Fits b s w) (FitsValue b s w) (workNaming b) N) none-is
+          subst (λ (N : Naming Names). RelNaming (Alike b (enumeratorsOf s) s w) (NameFits b s w) (FitsValue b s w) (workNaming b) N) none-is
           (work-names b (enumeratorsOf s) s w opened-indexed (lists-none b (enumeratorsOf s) s w (bucket-back p modes s n ok (eqb-false (modes / 8 % 2) 1 q))))

@@ -10,7 +10,7 @@ use lib.Dec.{ltb}
 use Rattle.spec_bytes.specs.words.Words.{getWord, oneMore, pick}
 use Rattle.spec_bytes.proofs.words.Laws.{get-put-other, put-length}
 use Rattle.spec_c_dumper.specs.rules.Order.{Table, Res}
-use Rattle.spec_c_dumper.specs.rules.Machine.{Out, wrote, Machine, MLawful, Kept, obind, eeach, emit, Sess, emitted, ordered, ordering, shut}
+use Rattle.spec_c_dumper.specs.rules.Machine.{Out, wrote, Machine, MLawful, OrderKeeps, obind, eeach, emit, Sess, emitted, ordered, ordering, shut}
 use Rattle.spec_c_dumper.specs.rules.Types.{Btf as Rules, tableOf}
 use Rattle.spec_c_dumper.specs.rules.Layout.{smaller}
 use Rattle.spec_c_dumper.specs.rules.Names.{Names, Naming}
@@ -28,7 +28,7 @@ use Rattle.spec_c_dumper.specs.needs.Session.{Known, textOf, machineBy}
 use Rattle.spec_c_dumper.proofs.needs.Alike.{Both, both, neither, AlikeStore, Went, order-alike, BothOut, both-wrote, both-stuck}
 use Rattle.spec_c_dumper.proofs.needs.Lists.{Sized}
 use Rattle.spec_c_dumper.proofs.needs.Session.{machine-lawful}
-use Rattle.proof_demands.specs.name_counts.Indexed.{Indexed, Fits, FitsValue}
+use Rattle.proof_demands.specs.name_counts.Indexed.{Indexed, NameFits, FitsValue}
 use Rattle.proof_demands.specs.name_counts.Alike.{Alike}
 use Rattle.proof_demands.specs.alignment_memory.Work.{Sane}
 use Rattle.proof_demands.specs.demands.Sheet.{Bears, Shows, BothLine, lines-on, lines-stop, BothRequest, both-served, both-refused}
@@ -62,7 +62,7 @@ more-most n = go (ltb n 4294967295)
     go false = omega arith
 
 -- w is the work after opening; the text so far is `front`, and the room of the request is `room`
-module _ (b : TypeTable) (e : ℕ) (s w : List ℕ) (I : Indexed b e s w) (Z : Sane b (btfOf b s w)) (N : Naming Names) (R : RelNaming (Alike b e s w) (Fits b s w) (FitsValue b s w) (workNaming b) N)
+module _ (b : TypeTable) (e : ℕ) (s w : List ℕ) (I : Indexed b e s w) (Z : Sane b (btfOf b s w)) (N : Naming Names) (R : RelNaming (Alike b e s w) (NameFits b s w) (FitsValue b s w) (workNaming b) N)
     (wf : WF (tableOf (btfOf b s w))) (front : List ℕ) (room : ℕ) where
   abbrev B : Rules
   B = btfOf b s w
@@ -163,7 +163,7 @@ module _ (b : TypeTable) (e : ℕ) (s w : List ℕ) (I : Indexed b e s w) (Z : S
   lawful = machine-lawful N B (T .count)
 
   abbrev Goes : State → Sheet → State → Bool → Type 0
-  Goes t₀ m t c = Went (X₁ .store) (X .store) T Fit (lawful .law) (Kept X Fit) (lawful .framed) (wf .below) Related alike-store t₀ m t c
+  Goes t₀ m t c = Went (X₁ .store) (X .store) T Fit (lawful .law) (OrderKeeps X Fit) (lawful .framed) (wf .below) Related alike-store t₀ m t c
 
   pub list-same : (m : Sheet) (t : State) → Related m t → X₁ .store .list m ≡ X .store .list t
   unfolding workMachine sheetStore workStore
@@ -191,7 +191,7 @@ module _ (b : TypeTable) (e : ℕ) (s w : List ℕ) (I : Indexed b e s w) (Z : S
     unfolding dumped
     request-alike m z h sh l =
         ordered-alike (X .start room (S .mach))
-        (order-alike (X₁ .store) (X .store) T Fit (lawful .law) (Kept X Fit) (lawful .framed) (wf .below) Related alike-store 512 m (X .start room (S .mach)) x false
+        (order-alike (X₁ .store) (X .store) T Fit (lawful .law) (OrderKeeps X Fit) (lawful .framed) (wf .below) Related alike-store 512 m (X .start room (S .mach)) x false
         (record {
           related = record {
             bears = subst (λ (n : ℕ). Bears b e s w (m .work) n (X .start room (S .mach))) (sym z) (start-step b e s w (m .work) (m .work) refl refl (λ i q. refl) B room 0 (X .start 0 (S .mach)) h);

@@ -32,7 +32,7 @@ use Rattle.spec_session.specs.declared.session.Session.{Session}
 use Rattle.spec_session.specs.session.Answers.{numberOf, valueOf, answerOf}
 use Rattle.spec_session.specs.session.Turns.{Call, isCurrent, Reach, reached, refusedBy, thenZeros, settled, withText, tableFor, callOf, visitsIn}
 use Rattle.spec_session.specs.calls.Calls.{openedCall, openCall, limitOf, cameTo, lentTo, requested, onward as goOn, requestedFrom, typeCall, typesCall}
-use Rattle.spec_session.specs.calls.Lists.{counted as countedCall, listFrom, listCall}
+use Rattle.spec_session.specs.calls.Lists.{thenNext as countedCall, listFrom, listCall}
 use Rattle.spec_session.proofs.calls.Lists.{counted-goes, counted-stops, type-single, list-counts}
 use Rattle.spec_session.proofs.calls.Fair.{placed, fair-request}
 use Rattle.spec_session.proofs.calls.Laws.{limit-short, limit-long, limit-between, stuck-listed, opens-sound}

@@ -18,7 +18,7 @@ use Rattle.spec_type_table.specs.Records.{sectionWord, kindOf, vlenOf, memberAt
 use Rattle.spec_type_table.specs.Table.{from, btfOf, typeOf, membersOf, paramsOf}
 use Rattle.spec_type_table.specs.Nodes.{memberIds, paramIds}
 use Rattle.spec_type_table.proofs.KindLaws as K
-use Rattle.btf_open_causes.specs.references.Followed.{among, placeOf, kindAt, countOf, countFor, idPlace, countAt, idAt, followedCount, followedId}
+use Rattle.btf_open_causes.specs.references.Followed.{isKindAmong, placeOf, kindAt, typeCount, countFor, idPlace, countAt, idAt, followedCount, followedId}
 use Rattle.btf_open_causes.specs.prototypes.Prototypes as walk
 use Rattle.btf_open_causes.specs.prototypes.Prototypes.{holders, anyLeads, ToProto, ends, passes}
 use Rattle.btf_open_causes.proofs.references.Accessors.{id-param}
@@ -43,9 +43,9 @@ module _ (c : TypeTable) (s : List ℕ) (k at : ℕ) where
 
   pub record Sees (nd : Node) : Type 0 where
     pub kid : (y : ℕ) → List·Memᴰ y (kids nd) → Follows y
-    pub holder : isHolder nd ≡ true → among holders k ≡ true
+    pub holder : isHolder nd ≡ true → isKindAmong holders k ≡ true
     pub ends-at : isProto nd ≡ true → k ≡ 13
-    pub passes-on : (T : Table) (y : ℕ) → isComp nd ≡ false → weaken T nd false ≡ false → List·Memᴰ y (kids nd) → (k ≡ 13) ⊎ ((among walk.through k ≡ true) × (idAt c s k at 0 ≡ y))
+    pub passes-on : (T : Table) (y : ℕ) → isComp nd ≡ false → weaken T nd false ≡ false → List·Memᴰ y (kids nd) → (k ≡ 13) ⊎ ((isKindAmong walk.through k ≡ true) × (idAt c s k at 0 ≡ y))
 
   off : {A : Type 0} → false ≡ true → A
   off e = absurd (true≢false (sym e))
@@ -70,8 +70,8 @@ module _ (c : TypeTable) (s : List ℕ) (k at : ℕ) where
     sees-ptr : Sees (ptr t)
     sees-ptr = record { kid = only; holder = λ e. off e; ends-at = λ e. off e; passes-on = λ T y e f h. absurd (true≢false f) }
 
-    module _ (p : among walk.through k ≡ true) where
-      sees-array : among holders k ≡ true → Sees (through true t)
+    module _ (p : isKindAmong walk.through k ≡ true) where
+      sees-array : isKindAmong holders k ≡ true → Sees (through true t)
       sees-array h = record { kid = only; holder = λ e. h; ends-at = λ e. off e; passes-on = λ T y e f m. inr (p, id ∙ sym (one y t m)) }
 
       sees-through : Sees (through false t)
@@ -83,7 +83,7 @@ module _ (c : TypeTable) (s : List ℕ) (k at : ℕ) where
   sees-proto : (ts : List ℕ) → k ≡ 13 → ((y : ℕ) → List·Memᴰ y ts → Follows y) → Sees (proto ts)
   sees-proto ts e h = record { kid = h; holder = λ q. off q; ends-at = λ q. e; passes-on = λ T y q f m. inl e }
 
-  sees-comp : (ts : List ℕ) → among holders k ≡ true → ((y : ℕ) → List·Memᴰ y ts → Follows y) → Sees (comp ts)
+  sees-comp : (ts : List ℕ) → isKindAmong holders k ≡ true → ((y : ℕ) → List·Memᴰ y ts → Follows y) → Sees (comp ts)
   sees-comp ts e h = record { kid = h; holder = λ q. e; ends-at = λ q. off q; passes-on = λ T y q f m. absurd (true≢false q) }
 
 -- an entry of a list that is made from a function
@@ -115,19 +115,19 @@ module _ (c : TypeTable) (size : ℕ) (union arrays placed : Bool) (count names 
   by k y e h = subst (λ (x : BtfType). Sees c s k at (nodeOf x)) (sym e) h
 
   members-4 : (y : ℕ) → List·Memᴰ y (memberTypes (membersOf b′ s t)) → Follows c s 4 at y
-  unfolding countAt countFor idAt idPlace among recordAt sectionWord memberIds
+  unfolding countAt countFor idAt idPlace isKindAmong recordAt sectionWord memberIds
   members-4 y h =
       let r = from-first (λ i. sectionWord b′ s (memberAt at i + 4)) (vlenOf (sectionWord b′ s (at + 4))) y (subst (λ (l : List ℕ). List·Memᴰ y l) (K.member-types b′ s t) h) in
       (r .0, r .1, r .2)
 
   members-5 : (y : ℕ) → List·Memᴰ y (memberTypes (membersOf b′ s t)) → Follows c s 5 at y
-  unfolding countAt countFor idAt idPlace among recordAt sectionWord memberIds
+  unfolding countAt countFor idAt idPlace isKindAmong recordAt sectionWord memberIds
   members-5 y h =
       let r = from-first (λ i. sectionWord b′ s (memberAt at i + 4)) (vlenOf (sectionWord b′ s (at + 4))) y (subst (λ (l : List ℕ). List·Memᴰ y l) (K.member-types b′ s t) h) in
       (r .0, r .1, r .2)
 
   params-13 : (y : ℕ) → List·Memᴰ y (t .«type_id» ∷ paramTypes (paramsOf b′ s t)) → Follows c s 13 at y
-  unfolding countAt countFor idAt idPlace among recordAt sectionWord paramIds
+  unfolding countAt countFor idAt idPlace isKindAmong recordAt sectionWord paramIds
   params-13 y (List·Memᴰ·head q) = (0, omega arith, sym q)
   params-13 y (List·Memᴰ·tail h) =
       let r = from-first (λ i. sectionWord b′ s (paramAt at i + 4)) (vlenOf (sectionWord b′ s (at + 4))) y (subst (λ (l : List ℕ). List·Memᴰ y l) (K.param-types b′ s t) h) in
@@ -139,7 +139,7 @@ module _ (c : TypeTable) (size : ℕ) (union arrays placed : Bool) (count names 
 
   -- for each of the kinds
   pub seen : (k : ℕ) → Seen k
-  unfolding countAt countFor idAt idPlace among recordAt sectionWord
+  unfolding countAt countFor idAt idPlace isKindAmong recordAt sectionWord
   seen =
       K.by-kind Seen
       (λ e. by 0 _ (K.type-0 b′ s t e) (sees-plain c s 0 at))
@@ -181,7 +181,7 @@ module _ (p modes : ℕ) (s : List ℕ) (n : ℕ) (ok : openingNumber p s n ≡ 
   few : typesOf s ≤ 262145
   few = types-few s (header-ok p modes s n ok) (types-ok p modes s n ok)
 
-  counted-all : countOf c ≡ typesOf s
+  counted-all : typeCount c ≡ typesOf s
   unfolding causes.tableOf
   counted-all = table-count s few p 0
 
@@ -221,7 +221,7 @@ module _ (p modes : ℕ) (s : List ℕ) (n : ℕ) (ok : openingNumber p s n ≡ 
   to-proto (it {x = x} e) = let r = proto-inside x e in ends (at-index x (r .0) (r .1) .ends-at e)
   to-proto (on {x = x} {y = y} i f h v) = step (at-index x (with-kid x y h .0) (with-kid x y h .1) .passes-on (tableOf (openedTable p modes s n)) y i f h) (to-proto v)
     where
-      step : (kindAt c (indexOf s) x ≡ 13) ⊎ ((among walk.through (kindAt c (indexOf s) x) ≡ true) × (followedId c s (indexOf s) x 0 ≡ y)) → ToProto c s (indexOf s) y → ToProto c s (indexOf s) x
+      step : (kindAt c (indexOf s) x ≡ 13) ⊎ ((isKindAmong walk.through (kindAt c (indexOf s) x) ≡ true) × (followedId c s (indexOf s) x 0 ≡ y)) → ToProto c s (indexOf s) y → ToProto c s (indexOf s) x
       step (inl e) q = ends e
       step (inr e) q = passes (e .0) (subst (λ (z : ℕ). ToProto c s (indexOf s) z) (sym (e .1)) q)
 

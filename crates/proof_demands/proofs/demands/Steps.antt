@@ -26,7 +26,7 @@ use Rattle.c_dumper_dependency_order.specs.order_state.Work.{markOf, code, work
 use Rattle.c_dumper_dependency_order.proofs.order_state.Lawful.{work-lawful}
 use Rattle.spec_c_dumper.specs.needs.Lists.{Ls, listStore}
 use Rattle.spec_c_dumper.specs.needs.Session.{Known, machine}
-use Rattle.proof_demands.specs.name_counts.Indexed.{Indexed, Kept}
+use Rattle.proof_demands.specs.name_counts.Indexed.{Indexed, CountsKept}
 use Rattle.proof_demands.specs.name_counts.Alike.{Alike}
 use Rattle.proof_demands.proofs.alignment_memory.Work.{memory-put}
 use Rattle.proof_demands.proofs.alignment_memory.Lines.{minds-same}
@@ -44,7 +44,7 @@ module _ (b : TypeTable) (e : ℕ) (s w : List ℕ) (I : Indexed b e s w) where
     elsewhere : (i : ℕ) → placeOf (b .types) f 7 x ≢ i → getWord (putField v x f c) i ≡ getWord v i
     elsewhere i m = get-put-other v (x * 16 + f) i c (λ q. m (sym (place-type (b .types) f 7 x l) ∙ sym q))
 
-    put-kept : Kept b e s w (putField v x f c)
+    put-kept : CountsKept b e s w (putField v x f c)
     put-kept = record {
       long = put-length v (x * 16 + f) c ∙ a .kept .long;
       class = λ h m. elsewhere (classP (b .types) h) (place-apart (b .types) f 7 5 1 (lf, omega arith, omega arith, omega arith, f5, λ q. omega arith) x h) ∙ a .kept .class h m;

@@ -16,7 +16,7 @@ use Rattle.spec_bytes.specs.text.Text.{ascii}
 use Rattle.spec_bytes.specs.text.Decimal.{decimal}
 use Rattle.spec_c_dumper.specs.rules.Writer.{saidText, saidNames}
 use Rattle.spec_c_dumper.specs.rules.Types.{Name, tableOf}
-use Rattle.spec_c_dumper.specs.rules.Names.{Space, tagSpace, identSpace, spelled, Resolved, Holder, Names, sameSpace, sameBytes, holds, holders, counted, typeVersion, valueVersion, naming}
+use Rattle.spec_c_dumper.specs.rules.Names.{Space, tagSpace, identSpace, spelled, Resolved, Holder, Names, sameSpace, sameBytes, holds, holders, withOne, typeVersion, valueVersion, naming}
 use Rattle.spec_c_dumper.specs.rules.Emit.{definition, forward}
 use Rattle.spec_c_dumper.specs.rules.Machine.{Req}
 use Rattle.spec_c_dumper.proofs.rules.Related.{RelSaid, rel-text, rel-names, rel-definition, rel-forward}
@@ -28,7 +28,7 @@ use Rattle.spec_c_dumper.specs.needs.Needs.{WF}
 use Rattle.spec_c_dumper.specs.needs.Session.{dumped, openedBy}
 use Rattle.spec_c_dumper.proofs.needs.AnyNames.{dumps-alike}
 use Rattle.proof_demands.specs.name_counts.Passed.{Lists, nextNumber, typePassed, valuePassed, passed, none}
-use Rattle.proof_demands.specs.name_counts.Indexed.{Fits, FitsValue, Holds, Indexed, Listed}
+use Rattle.proof_demands.specs.name_counts.Indexed.{NameFits, FitsValue, Holds, Indexed, Listed}
 use Rattle.proof_demands.specs.name_counts.Alike.{Alike, Fresh, noNames}
 use Rattle.proof_demands.specs.name_counts.Printed.{ledgerOf, times}
 use Rattle.proof_demands.proofs.name_counts.Holders.{holds-same, holds-equal, count-here, count-there}
@@ -43,12 +43,12 @@ module _ (b : TypeTable) (e : ℕ) (s w : List ℕ) (I : Indexed b e s w) {T : L
   module _ (v : List ℕ) (u : Names) (a : Alike b e s w v u) (id : ℕ) where
     definitions : RelSaid (Alike b e s w) (definition (workNaming b) (btfOf b s v) id (btfOf b s v .type-by-id id) v) (definition (passed T) (btfOf b s v) id (btfOf b s v .type-by-id id) u)
     definitions =
-        rel-definition (Alike b e s w) (Fits b s w) (FitsValue b s w) (workNaming b) (passed T) (work-names b e s w I L) (btfOf b s v) (fits-now b e s w v (a .kept))
+        rel-definition (Alike b e s w) (NameFits b s w) (FitsValue b s w) (workNaming b) (passed T) (work-names b e s w I L) (btfOf b s v) (fits-now b e s w v (a .kept))
         id (btfOf b s v .type-by-id id) (fits-now b e s w v (a .kept) id) v u a
 
     forwards : RelSaid (Alike b e s w) (forward (workNaming b) (btfOf b s v) id (btfOf b s v .type-by-id id) v) (forward (passed T) (btfOf b s v) id (btfOf b s v .type-by-id id) u)
     forwards =
-        rel-forward (Alike b e s w) (Fits b s w) (FitsValue b s w) (workNaming b) (passed T) (work-names b e s w I L) (btfOf b s v) (fits-now b e s w v (a .kept))
+        rel-forward (Alike b e s w) (NameFits b s w) (FitsValue b s w) (workNaming b) (passed T) (work-names b e s w I L) (btfOf b s v) (fits-now b e s w v (a .kept))
         id (btfOf b s v .type-by-id id) (fits-now b e s w v (a .kept) id) v u a
 
     -- a definition: the same text, and names that are alike after it
@@ -79,7 +79,7 @@ module _ (b : TypeTable) (e : ℕ) (s w : List ℕ) (I : Indexed b e s w) {T : L
   pub same-dumps : Fresh b e s w → WF (tableOf (btfOf b s w)) → (rs : List Req) → dumped (workNaming b) (btfOf b s w) [] rs (openedBy (workNaming b) (btfOf b s w) w) ≡ dumped (passed T) (btfOf b s w) [] rs (openedBy (passed T) (btfOf b s w) (noNames b))
   unfolding btfOf
   same-dumps z wf rs =
-      dumps-alike (Alike b e s w) (Fits b s w) (FitsValue b s w) (workNaming b) (passed T) (work-names b e s w I L) (btfOf b s w) (fits-table b s w) wf
+      dumps-alike (Alike b e s w) (NameFits b s w) (FitsValue b s w) (workNaming b) (passed T) (work-names b e s w I L) (btfOf b s w) (fits-table b s w) wf
       w (noNames b) (alike-first b e s w I z) rs
 
 -- without taken numbers the names are those of the Rust
@@ -89,7 +89,7 @@ none-is = refl
 
 -- ---- 01, Name ledger, sentence by sentence, of the names of the Rust
 -- "Two spaces: tags; typedefs with enumerators.": what one space holds changes nothing in the other
-pub two-spaces : (l : List Holder) (m n : Name) → (holders (counted l tagSpace m) identSpace n ≡ holders l identSpace n) × (holders (counted l identSpace m) tagSpace n ≡ holders l tagSpace n)
+pub two-spaces : (l : List Holder) (m n : Name) → (holders (withOne l tagSpace m) identSpace n ≡ holders l identSpace n) × (holders (withOne l identSpace m) tagSpace n ≡ holders l tagSpace n)
 two-spaces l m n =
     (count-there tagSpace m identSpace n (λ q r. other q) l, count-there identSpace m tagSpace n (λ q r. other (sym q)) l)
   where
@@ -142,10 +142,10 @@ module _ (space : Space) (name : Name) where
       H = record { space = p .0; name = p .1; count = 0 }
 
       step : (t : Bool) → (sameSpace (p .0) space && sameBytes (p .1) name) ≡ t → holders (ledgerOf l) space name ≡ times space name l
-          → holders (counted (ledgerOf l) (p .0) (p .1)) space name ≡ elim t as (λ z. ℕ) [ true ↦ suc (times space name l) | false ↦ times space name l ]
+          → holders (withOne (ledgerOf l) (p .0) (p .1)) space name ≡ elim t as (λ z. ℕ) [ true ↦ suc (times space name l) | false ↦ times space name l ]
       step true q f =
           let r : (p .0 ≡ space) × (p .1 ≡ name) = holds-same H space name (sym (both (p .0) (p .1)) ∙ q) in
-          ap₂ (λ (x : Space) (y : Name). holders (counted (ledgerOf l) x y) space name) (r .0) (r .1)
+          ap₂ (λ (x : Space) (y : Name). holders (withOne (ledgerOf l) x y) space name) (r .0) (r .1)
           ∙ count-here space name (ledgerOf l)
           ∙ ap oneMore f
           ∙ more (times space name l) (omega (arith, times-le l))
@@ -169,7 +169,7 @@ module _ (space : Space) (id : ℕ) (name : Name) (u : Names) where
   has-version : (x : Names) (n : ℕ) → getD (x .versions) id 0 ≡ n → n ≢ 0 → typeVersion space id name x ≡ record { version = n; names = x }
   unfolding typeVersion oneMore
   has-version x n q z =
-      ap (λ (t : Bool). elim t as (λ z. Resolved Names) [ false ↦ record { version = getD (x .versions) id 0; names = x } | true ↦ record { version = oneMore (holders (x .ledger) space name); names = record { versions = set (x .versions) id (oneMore (holders (x .ledger) space name)); ledger = counted (x .ledger) space name } } ]) (ap (λ (k : ℕ). eqb k 0) q ∙ ne-eqb n 0 z)
+      ap (λ (t : Bool). elim t as (λ z. Resolved Names) [ false ↦ record { version = getD (x .versions) id 0; names = x } | true ↦ record { version = oneMore (holders (x .ledger) space name); names = record { versions = set (x .versions) id (oneMore (holders (x .ledger) space name)); ledger = withOne (x .ledger) space name } } ]) (ap (λ (k : ℕ). eqb k 0) q ∙ ne-eqb n 0 z)
       ∙ (λ i. record { version = q i; names = x })
 
   pub kept-name : id < length (u .versions) → typeVersion space id name (typeVersion space id name u .names) ≡ typeVersion space id name u
@@ -180,9 +180,9 @@ module _ (space : Space) (id : ℕ) (name : Name) (u : Names) where
       m = oneMore (holders (u .ledger) space name)
 
       step : (t : Bool) → eqb (getD (u .versions) id 0) 0 ≡ t
-          → typeVersion space id name ((elim t as (λ z. Resolved Names) [ false ↦ record { version = getD (u .versions) id 0; names = u } | true ↦ record { version = m; names = record { versions = set (u .versions) id m; ledger = counted (u .ledger) space name } } ]) .names)
-          ≡ elim t as (λ z. Resolved Names) [ false ↦ record { version = getD (u .versions) id 0; names = u } | true ↦ record { version = m; names = record { versions = set (u .versions) id m; ledger = counted (u .ledger) space name } } ]
-      step true q = has-version (record { versions = set (u .versions) id m; ledger = counted (u .ledger) space name }) m (getD-set-same (u .versions) id m 0 l) (one-no-zero (holders (u .ledger) space name))
+          → typeVersion space id name ((elim t as (λ z. Resolved Names) [ false ↦ record { version = getD (u .versions) id 0; names = u } | true ↦ record { version = m; names = record { versions = set (u .versions) id m; ledger = withOne (u .ledger) space name } } ]) .names)
+          ≡ elim t as (λ z. Resolved Names) [ false ↦ record { version = getD (u .versions) id 0; names = u } | true ↦ record { version = m; names = record { versions = set (u .versions) id m; ledger = withOne (u .ledger) space name } } ]
+      step true q = has-version (record { versions = set (u .versions) id m; ledger = withOne (u .ledger) space name }) m (getD-set-same (u .versions) id m 0 l) (one-no-zero (holders (u .ledger) space name))
       step false q = has-version u (getD (u .versions) id 0) refl (λ z. true≢false (sym (ap (λ (n : ℕ). eqb n 0) z) ∙ q))
 
   -- and no other type's name changes it
@@ -193,7 +193,7 @@ module _ (space : Space) (id : ℕ) (name : Name) (u : Names) where
       m : ℕ
       m = oneMore (holders (u .ledger) space name)
 
-      step : (t : Bool) → getD ((elim t as (λ z. Resolved Names) [ false ↦ record { version = getD (u .versions) id 0; names = u } | true ↦ record { version = m; names = record { versions = set (u .versions) id m; ledger = counted (u .ledger) space name } } ]) .names .versions) j 0 ≡ getD (u .versions) j 0
+      step : (t : Bool) → getD ((elim t as (λ z. Resolved Names) [ false ↦ record { version = getD (u .versions) id 0; names = u } | true ↦ record { version = m; names = record { versions = set (u .versions) id m; ledger = withOne (u .ledger) space name } } ]) .names .versions) j 0 ≡ getD (u .versions) j 0
       step true = getD-set-other (u .versions) id j m 0 n
       step false = refl
 

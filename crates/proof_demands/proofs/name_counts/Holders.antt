@@ -7,7 +7,7 @@ use lib.Dec.{eqb}
 use borrow.Author.Tests.{eqb-true, eq-eqb}
 use Rattle.spec_bytes.specs.words.Words.{oneMore}
 use Rattle.spec_c_dumper.specs.rules.Types.{Name}
-use Rattle.spec_c_dumper.specs.rules.Names.{Space, tagSpace, identSpace, Holder, sameSpace, sameBytes, holds, holders, counted}
+use Rattle.spec_c_dumper.specs.rules.Names.{Space, tagSpace, identSpace, Holder, sameSpace, sameBytes, holds, holders, withOne}
 
 space-self : (x : Space) → sameSpace x x ≡ true
 space-self tagSpace = refl
@@ -56,16 +56,16 @@ module _ (space : Space) (name : Name) where
   holds-self n = holds-equal (record { space = space; name = name; count = n }) space name refl refl
 
   -- the name has one more holder
-  pub count-here : (l : List Holder) → holders (counted l space name) space name ≡ oneMore (holders l space name)
-  unfolding holders counted holds oneMore
+  pub count-here : (l : List Holder) → holders (withOne l space name) space name ≡ oneMore (holders l space name)
+  unfolding holders withOne holds oneMore
   count-here [] = ap (λ (t : Bool). elim t as (λ z. ℕ) [ true ↦ 1 | false ↦ 0 ]) (holds-self 1)
   count-here (h ∷ l) = step (holds h space name) refl (count-here l)
     where
-      step : (t : Bool) → holds h space name ≡ t → holders (counted l space name) space name ≡ oneMore (holders l space name)
-          → holders (elim t as (λ z. List Holder) [ true ↦ record { space = h .space; name = h .name; count = oneMore (h .count) } ∷ l | false ↦ h ∷ counted l space name ]) space name
+      step : (t : Bool) → holds h space name ≡ t → holders (withOne l space name) space name ≡ oneMore (holders l space name)
+          → holders (elim t as (λ z. List Holder) [ true ↦ record { space = h .space; name = h .name; count = oneMore (h .count) } ∷ l | false ↦ h ∷ withOne l space name ]) space name
           ≡ oneMore (elim t as (λ z. ℕ) [ true ↦ h .count | false ↦ holders l space name ])
       step true q f = ap (λ (t : Bool). elim t as (λ z. ℕ) [ true ↦ oneMore (h .count) | false ↦ holders l space name ]) q
-      step false q f = ap (λ (t : Bool). elim t as (λ z. ℕ) [ true ↦ h .count | false ↦ holders (counted l space name) space name ]) q ∙ f
+      step false q f = ap (λ (t : Bool). elim t as (λ z. ℕ) [ true ↦ h .count | false ↦ holders (withOne l space name) space name ]) q ∙ f
 
   -- no other name has
   module _ (space′ : Space) (name′ : Name) (other : space ≡ space′ → name ≡ name′ → ⊥) where
@@ -76,13 +76,13 @@ module _ (space : Space) (name : Name) where
         step true r = let m : (h .space ≡ space′) × (h .name ≡ name′) = holds-same h space′ name′ r in absurd (other (sym p ∙ m .0) (sym q ∙ m .1))
         step false r = refl
 
-    pub count-there : (l : List Holder) → holders (counted l space name) space′ name′ ≡ holders l space′ name′
-    unfolding holders counted
+    pub count-there : (l : List Holder) → holders (withOne l space name) space′ name′ ≡ holders l space′ name′
+    unfolding holders withOne
     count-there [] = ap (λ (t : Bool). elim t as (λ z. ℕ) [ true ↦ 1 | false ↦ 0 ]) (holds-not (record { space = space; name = name; count = 1 }) refl refl)
     count-there (h ∷ l) = step (holds h space name) refl (count-there l)
       where
-        step : (t : Bool) → holds h space name ≡ t → holders (counted l space name) space′ name′ ≡ holders l space′ name′
-            → holders (elim t as (λ z. List Holder) [ true ↦ record { space = h .space; name = h .name; count = oneMore (h .count) } ∷ l | false ↦ h ∷ counted l space name ]) space′ name′
+        step : (t : Bool) → holds h space name ≡ t → holders (withOne l space name) space′ name′ ≡ holders l space′ name′
+            → holders (elim t as (λ z. List Holder) [ true ↦ record { space = h .space; name = h .name; count = oneMore (h .count) } ∷ l | false ↦ h ∷ withOne l space name ]) space′ name′
             ≡ elim (holds h space′ name′) as (λ z. ℕ) [ true ↦ h .count | false ↦ holders l space′ name′ ]
         step true q f =
             let m : (h .space ≡ space) × (h .name ≡ name) = holds-same h space name q in

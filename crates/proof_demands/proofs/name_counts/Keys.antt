@@ -16,10 +16,10 @@ use Rattle.spec_type_table.specs.Names.{nameAt, strAt}
 use Rattle.spec_type_table.specs.Records.{sectionWord, kindOf, recordAt, voidRecord, recordById}
 use Rattle.spec_type_table.specs.Table.{enumeratorOf}
 use Rattle.spec_type_table.proofs.Laws.{place-type, by-id, void-zero, void-past}
-use Rattle.btf_open_names.specs.name_classes.Classes.{recordP, spaceOf, among, spaceAt, nameOf, keyOf, keyIn, classOf}
+use Rattle.btf_open_names.specs.name_classes.Classes.{recordP, spaceOf, isIdAmong, spaceAt, nameOf, keyOf, keyIn, classOf}
 use Rattle.btf_open_names.proofs.name_classes.Laws.{class-key, class-same}
 use Rattle.btf_open_names.proofs.name_classes.Keys.{space-type, space-enum, name-is}
-use Rattle.proof_demands.specs.name_counts.Indexed.{number, Fits, FitsValue, Holds, Indexed}
+use Rattle.proof_demands.specs.name_counts.Indexed.{number, NameFits, FitsValue, Holds, Indexed}
 
 pub number-one : (x y : Space) → number x ≡ number y → x ≡ y
 unfolding number
@@ -96,11 +96,11 @@ module _ (b : TypeTable) (s w : List ℕ) (id : ℕ) where
 
 -- a kind with a space is not 0
 some-kind : (k : ℕ) (space : Space) → spaceOf k ≡ number space → k ≢ 0
-unfolding spaceOf among
+unfolding spaceOf isIdAmong
 some-kind k space e z = number-some space 2 (ap spaceOf (sym z) ∙ e) refl
 
 module _ (b : TypeTable) (e : ℕ) (s w : List ℕ) where
-  pub type-holds : (id : ℕ) (space : Space) (name : Name) → Fits b s w space id name → Holds b e s w id space name
+  pub type-holds : (id : ℕ) (space : Space) (name : Name) → NameFits b s w space id name → Holds b e s w id space name
   unfolding recordAt
   type-holds id space name f =
       let n : (id ≢ 0) × (id < b .types) = no-void b s w id (some-kind _ space (f .its-space)) in

@@ -17,7 +17,7 @@ use Rattle.spec_type_table.proofs.Laws.{void-zero, void-past}
 use Rattle.spec_type_table.proofs.Frame.{enumerator-same}
 use Rattle.btf_open_names.specs.name_classes.Classes.{recordP, spaceAt, nameOf, keyOf, keyIn, classOf}
 use Rattle.btf_open_names.proofs.name_classes.Laws.{class-le, class-key, class-first}
-use Rattle.proof_demands.specs.name_counts.Indexed.{IsEnum, valuePlace, Value, Fits, FitsValue, Indexed, Kept}
+use Rattle.proof_demands.specs.name_counts.Indexed.{IsEnum, valuePlace, Value, NameFits, FitsValue, Indexed, CountsKept}
 use Rattle.proof_demands.proofs.name_counts.Keys.{record-there}
 use Rattle.proof_demands.proofs.name_counts.Table.{fits-table}
 
@@ -28,7 +28,7 @@ class-as f g h e =
     let q : classOf f h ≤ classOf g h = class-first f (classOf g h) h (class-le g h) (e (classOf g h) (class-le g h) ∙ class-key g h ∙ sym (e h (omega arith))) in
     omega arith
 
-module _ (b : TypeTable) (e : ℕ) (s w v : List ℕ) (K : Kept b e s w v) where
+module _ (b : TypeTable) (e : ℕ) (s w v : List ℕ) (K : CountsKept b e s w v) where
   pub record-now : (id : ℕ) → recordById b s v id ≡ recordById b s w id
   record-now id = go (ℕ-discrete id 0)
     where
@@ -44,8 +44,8 @@ module _ (b : TypeTable) (e : ℕ) (s w v : List ℕ) (K : Kept b e s w v) where
   type-now id = ap (typeOf b s) (record-now id)
 
   -- the types of the table now fit, too
-  pub fits-now : (id : ℕ) → TypeFits (Fits b s w) (FitsValue b s w) id (btfOf b s v .type-by-id id)
-  fits-now id = subst (λ (x : BtfType). TypeFits (Fits b s w) (FitsValue b s w) id x) (sym (type-now id)) (fits-table b s w id)
+  pub fits-now : (id : ℕ) → TypeFits (NameFits b s w) (FitsValue b s w) id (btfOf b s v .type-by-id id)
+  fits-now id = subst (λ (x : BtfType). TypeFits (NameFits b s w) (FitsValue b s w) id x) (sym (type-now id)) (fits-table b s w id)
 
   pub key-now : (h : ℕ) → h < b .types + e → keyIn b s v h ≡ keyIn b s w h
   unfolding keyIn

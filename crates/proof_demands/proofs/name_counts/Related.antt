@@ -11,16 +11,16 @@ use lib.Dec.{eqb}
 use borrow.Author.Tests.{lt-ltb}
 use Rattle.spec_bytes.specs.words.Words.{getWord, oneMore}
 use Rattle.spec_c_dumper.specs.rules.Types.{Name}
-use Rattle.spec_c_dumper.specs.rules.Names.{Space, identSpace, Resolved, Names, holders, counted as oneMoreHolds}
+use Rattle.spec_c_dumper.specs.rules.Names.{Space, identSpace, Resolved, Names, holders, withOne as oneMoreHolds}
 use Rattle.spec_c_dumper.proofs.rules.Related.{RelResolved, RelNaming}
 use Rattle.spec_type_table.specs.declared.types.TypeTable.{TypeTable}
-use Rattle.spec_type_table.specs.Cells.{getField, putField, classP, countP, counted}
+use Rattle.spec_type_table.specs.Cells.{getField, putField, classP, countP, countRaised}
 use Rattle.spec_type_table.specs.Numbers.{numberOver, numberAt}
 use Rattle.spec_type_table.specs.Table.{enumeratorOf, typeVersionIn, valueVersionIn, workNaming}
 use Rattle.spec_type_table.proofs.Frame.{enumerator-same}
 use Rattle.btf_open_names.specs.name_classes.Classes.{keyIn, classOf}
 use Rattle.proof_demands.specs.name_counts.Passed.{Lists, nextNumber, typePassed, valuePassed, passed}
-use Rattle.proof_demands.specs.name_counts.Indexed.{Fits, FitsValue, Holds, Indexed, Listed, Kept}
+use Rattle.proof_demands.specs.name_counts.Indexed.{NameFits, FitsValue, Holds, Indexed, Listed, CountsKept}
 use Rattle.proof_demands.specs.name_counts.Alike.{Alike, Fresh, noNames}
 use Rattle.proof_demands.proofs.name_counts.Holders.{count-here, count-there}
 use Rattle.proof_demands.proofs.name_counts.Keys.{one-class, class-space, class-name, type-holds, value-holds}
@@ -37,13 +37,13 @@ module _ (b : TypeTable) (e : ℕ) (s w : List ℕ) (I : Indexed b e s w) where
           ∙ ap₂ numberOver (L h space name q) (count-is b e s w I v (a .kept) h (q .below) ∙ ap oneMore (a .its-count h space name q))
 
       counts-alike : (k : ℕ) (space′ : Space) (name′ : Name) → Holds b e s w k space′ name′
-          → getWord (counted (classP (b .types)) (countP (b .types)) v h) (countP (b .types) (classOf (keyIn b s w) k)) ≡ holders (oneMoreHolds (u .ledger) space name) space′ name′
+          → getWord (countRaised (classP (b .types)) (countP (b .types)) v h) (countP (b .types) (classOf (keyIn b s w) k)) ≡ holders (oneMoreHolds (u .ledger) space name) space′ name′
       counts-alike k space′ name′ r = go (ℕ-discrete (classOf (keyIn b s w) k) (classOf (keyIn b s w) h))
         where
           go : Dec (classOf (keyIn b s w) k ≡ classOf (keyIn b s w) h)
-              → getWord (counted (classP (b .types)) (countP (b .types)) v h) (countP (b .types) (classOf (keyIn b s w) k)) ≡ holders (oneMoreHolds (u .ledger) space name) space′ name′
+              → getWord (countRaised (classP (b .types)) (countP (b .types)) v h) (countP (b .types) (classOf (keyIn b s w) k)) ≡ holders (oneMoreHolds (u .ledger) space name) space′ name′
           go (yes c) =
-              ap (λ (x : ℕ). getWord (counted (classP (b .types)) (countP (b .types)) v h) (countP (b .types) x)) c
+              ap (λ (x : ℕ). getWord (countRaised (classP (b .types)) (countP (b .types)) v h) (countP (b .types) x)) c
               ∙ count-grows b e s w I v (a .kept) h (q .below)
               ∙ ap oneMore (a .its-count h space name q)
               ∙ sym (count-here space name (u .ledger))
@@ -53,7 +53,7 @@ module _ (b : TypeTable) (e : ℕ) (s w : List ℕ) (I : Indexed b e s w) where
               ∙ a .its-count k space′ name′ r
               ∙ sym (count-there space name space′ name′ (λ ex en. c (sym (one-class b e s w h k space space′ name name′ q r ex en))) (u .ledger))
 
-      pub count-alike : Alike b e s w (counted (classP (b .types)) (countP (b .types)) v h) (record { versions = u .versions; ledger = oneMoreHolds (u .ledger) space name })
+      pub count-alike : Alike b e s w (countRaised (classP (b .types)) (countP (b .types)) v h) (record { versions = u .versions; ledger = oneMoreHolds (u .ledger) space name })
       count-alike = record {
         kept = count-kept b e s w I v (a .kept) h (q .below);
         sized = a .sized;
@@ -86,7 +86,7 @@ module _ (b : TypeTable) (e : ℕ) (s w : List ℕ) (I : Indexed b e s w) where
       }
 
     -- stores to other words leave the names as they are
-    pub alike-kept : (v′ : List ℕ) → Kept b e s w v′ → ((id : ℕ) → id < b .types → getField v′ id 4 ≡ getField v id 4)
+    pub alike-kept : (v′ : List ℕ) → CountsKept b e s w v′ → ((id : ℕ) → id < b .types → getField v′ id 4 ≡ getField v id 4)
         → ((h : ℕ) → h < b .types + e → getWord v′ (countP (b .types) h) ≡ getWord v (countP (b .types) h)) → Alike b e s w v′ u
     alike-kept v′ k ev ec = record {
       kept = k;
@@ -96,15 +96,15 @@ module _ (b : TypeTable) (e : ℕ) (s w : List ℕ) (I : Indexed b e s w) where
     }
 
   -- ---- a name of a type
-  module _ {T : Lists} (L : Listed b e s w T) (v : List ℕ) (u : Names) (a : Alike b e s w v u) (space : Space) (id : ℕ) (name : Name) (f : Fits b s w space id name) where
+  module _ {T : Lists} (L : Listed b e s w T) (v : List ℕ) (u : Names) (a : Alike b e s w v u) (space : Space) (id : ℕ) (name : Name) (f : NameFits b s w space id name) where
     q : Holds b e s w id space name
     q = type-holds b e s w id space name f
 
-    type-new : Alike b e s w (putField (counted (classP (b .types)) (countP (b .types)) v id) id 4 (numberAt (b .types) v id))
+    type-new : Alike b e s w (putField (countRaised (classP (b .types)) (countP (b .types)) v id) id 4 (numberAt (b .types) v id))
         (record { versions = set (u .versions) id (nextNumber T space name u); ledger = oneMoreHolds (u .ledger) space name })
     type-new =
         subst
-        (λ (n : ℕ). Alike b e s w (putField (counted (classP (b .types)) (countP (b .types)) v id) id 4 (numberAt (b .types) v id)) (record { versions = set (u .versions) id n; ledger = oneMoreHolds (u .ledger) space name }))
+        (λ (n : ℕ). Alike b e s w (putField (countRaised (classP (b .types)) (countP (b .types)) v id) id 4 (numberAt (b .types) v id)) (record { versions = set (u .versions) id n; ledger = oneMoreHolds (u .ledger) space name }))
         (next-alike v u a id space name q L)
         (version-alike _ _ (count-alike v u a id space name q) id (numberAt (b .types) v id) (f .below))
 
@@ -113,7 +113,7 @@ module _ (b : TypeTable) (e : ℕ) (s w : List ℕ) (I : Indexed b e s w) where
     type-alike =
         subst
         (λ (y : ℕ). RelResolved (Alike b e s w)
-        (elim (eqb (getField v id 4) 0) as (λ z. Resolved (List ℕ)) [ false ↦ record { version = getField v id 4; names = v } | true ↦ record { version = n; names = putField (counted (classP (b .types)) (countP (b .types)) v id) id 4 n } ])
+        (elim (eqb (getField v id 4) 0) as (λ z. Resolved (List ℕ)) [ false ↦ record { version = getField v id 4; names = v } | true ↦ record { version = n; names = putField (countRaised (classP (b .types)) (countP (b .types)) v id) id 4 n } ])
         (elim (eqb y 0) as (λ z. Resolved Names) [ false ↦ record { version = y; names = u } | true ↦ record { version = m; names = record { versions = set (u .versions) id m; ledger = oneMoreHolds (u .ledger) space name } } ]))
         (a .its-version id (f .below))
         (step (eqb (getField v id 4) 0))
@@ -126,7 +126,7 @@ module _ (b : TypeTable) (e : ℕ) (s w : List ℕ) (I : Indexed b e s w) where
 
         step : (t : Bool)
             → RelResolved (Alike b e s w)
-            (elim t as (λ z. Resolved (List ℕ)) [ false ↦ record { version = getField v id 4; names = v } | true ↦ record { version = n; names = putField (counted (classP (b .types)) (countP (b .types)) v id) id 4 n } ])
+            (elim t as (λ z. Resolved (List ℕ)) [ false ↦ record { version = getField v id 4; names = v } | true ↦ record { version = n; names = putField (countRaised (classP (b .types)) (countP (b .types)) v id) id 4 n } ])
             (elim t as (λ z. Resolved Names) [ false ↦ record { version = getField v id 4; names = u } | true ↦ record { version = m; names = record { versions = set (u .versions) id m; ledger = oneMoreHolds (u .ledger) space name } } ])
         step false = (refl, a)
         step true = (next-alike v u a id space name q L, type-new)
@@ -145,7 +145,7 @@ module _ (b : TypeTable) (e : ℕ) (s w : List ℕ) (I : Indexed b e s w) where
         let q : Holds b e s w (b .types + enumeratorOf w id i) identSpace name = value-holds b e s w I id i name f in
         subst
         (λ (t : Bool). RelResolved (Alike b e s w)
-        (elim t as (λ z. Resolved (List ℕ)) [ true ↦ record { version = numberAt (b .types) v (b .types + enumeratorOf w id i); names = counted (classP (b .types)) (countP (b .types)) v (b .types + enumeratorOf w id i) } | false ↦ record { version = 0; names = v } ])
+        (elim t as (λ z. Resolved (List ℕ)) [ true ↦ record { version = numberAt (b .types) v (b .types + enumeratorOf w id i); names = countRaised (classP (b .types)) (countP (b .types)) v (b .types + enumeratorOf w id i) } | false ↦ record { version = 0; names = v } ])
         (valuePassed T name u))
         (sym (lt-ltb (b .types + enumeratorOf w id i) 4294967296 m))
         (next-alike v u a (b .types + enumeratorOf w id i) identSpace name q L, count-alike v u a (b .types + enumeratorOf w id i) identSpace name q)
@@ -154,7 +154,7 @@ module _ (b : TypeTable) (e : ℕ) (s w : List ℕ) (I : Indexed b e s w) where
     value-alike = subst (λ (k : ℕ). RelResolved (Alike b e s w) (valueVersionIn (b .types) k v) (valuePassed T name u)) (sym same-enumerator) number-alike
 
   -- the names kept in the work are those over the lists: with none, the Rust's names
-  pub work-names : {T : Lists} → Listed b e s w T → RelNaming (Alike b e s w) (Fits b s w) (FitsValue b s w) (workNaming b) (passed T)
+  pub work-names : {T : Lists} → Listed b e s w T → RelNaming (Alike b e s w) (NameFits b s w) (FitsValue b s w) (workNaming b) (passed T)
   unfolding workNaming
   work-names L = record {
     rel-type = λ space id name f n v u a. type-alike L v u a space id name f;
@@ -162,7 +162,7 @@ module _ (b : TypeTable) (e : ℕ) (s w : List ℕ) (I : Indexed b e s w) where
   }
 
   -- ---- at first
-  pub kept-self : Kept b e s w w
+  pub kept-self : CountsKept b e s w w
   kept-self = record { long = refl; class = λ h l. refl; place = λ h l. refl; first = λ id l. refl; heads = λ h. refl; nexts = λ h. refl; takens = λ h. refl }
 
   pub alike-first : Fresh b e s w → Alike b e s w w (noNames b)

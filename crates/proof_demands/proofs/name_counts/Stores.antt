@@ -10,7 +10,7 @@ use lib.Dec.{ltb}
 use Rattle.spec_bytes.specs.words.Words.{getWord, putWord, pick, oneMore}
 use Rattle.spec_bytes.proofs.words.Laws.{put-length, get-put-same, get-put-other}
 use Rattle.spec_type_table.specs.declared.types.TypeTable.{TypeTable}
-use Rattle.spec_type_table.specs.Cells.{getField, putField, placeOf, classP, countP, withMore, countOf, counted}
+use Rattle.spec_type_table.specs.Cells.{getField, putField, placeOf, classP, countP, withMore, countAfter, countRaised}
 use Rattle.spec_type_table.specs.Numbers.{headP, nextP, takenP, takenAt, numberOver, numberAt}
 use Rattle.btf_open_names.proofs.numbers.Lists.{taken-same}
 use Rattle.spec_type_table.proofs.Laws.{place-type}
@@ -18,7 +18,7 @@ use Rattle.spec_type_table.proofs.Frame.{count-4, count-12, field-other}
 use Rattle.btf_open_names.specs.name_classes.Classes.{recordP, keyIn, classOf}
 use Rattle.btf_open_names.proofs.name_classes.Laws.{class-le}
 use Rattle.btf_open_names.proofs.name_classes.Keys.{place-in, place-apart, count-one, class-count}
-use Rattle.proof_demands.specs.name_counts.Indexed.{Indexed, Kept}
+use Rattle.proof_demands.specs.name_counts.Indexed.{Indexed, CountsKept}
 
 -- ---- one more at a word
 module _ (w : List ℕ) (i : ℕ) where
@@ -47,7 +47,7 @@ module _ (w : List ℕ) (i : ℕ) where
       go false = refl
 
 -- ---- the work w after opening, the work v now
-module _ (b : TypeTable) (e : ℕ) (s w : List ℕ) (I : Indexed b e s w) (v : List ℕ) (K : Kept b e s w v) where
+module _ (b : TypeTable) (e : ℕ) (s w : List ℕ) (I : Indexed b e s w) (v : List ℕ) (K : CountsKept b e s w v) where
   -- every word of a holder is in the work
   inside : (f g : ℕ) → f < 16 → g < 8 → (h : ℕ) → h < b .types + e → placeOf (b .types) f g h < length v / 4
   inside f g p q h l = rw (K .long) (omega (arith, I .room .words, place-in (b .types) f g p q e h l))
@@ -63,34 +63,34 @@ module _ (b : TypeTable) (e : ℕ) (s w : List ℕ) (I : Indexed b e s w) (v : L
     abbrev at : ℕ
     at = countP (b .types) (classOf (keyIn b s w) h)
 
-    counted-is : counted (classP (b .types)) (countP (b .types)) v h ≡ withMore v at
-    unfolding counted
+    counted-is : countRaised (classP (b .types)) (countP (b .types)) v h ≡ withMore v at
+    unfolding countRaised
     counted-is = ap (λ (c : ℕ). withMore v (countP (b .types) c)) (class-now h l)
 
-    pub count-is : countOf (classP (b .types)) (countP (b .types)) v h ≡ oneMore (getWord v (countP (b .types) (classOf (keyIn b s w) h)))
-    unfolding countOf
+    pub count-is : countAfter (classP (b .types)) (countP (b .types)) v h ≡ oneMore (getWord v (countP (b .types) (classOf (keyIn b s w) h)))
+    unfolding countAfter
     count-is = ap (λ (c : ℕ). oneMore (getWord v (countP (b .types) c))) (class-now h l)
 
     -- the taken numbers are as opening listed them
-    pub number-is : numberAt (b .types) v h ≡ numberOver (takenAt (b .types) w (classOf (keyIn b s w) h)) (countOf (classP (b .types)) (countP (b .types)) v h)
+    pub number-is : numberAt (b .types) v h ≡ numberOver (takenAt (b .types) w (classOf (keyIn b s w) h)) (countAfter (classP (b .types)) (countP (b .types)) v h)
     unfolding numberAt
     number-is =
-        ap (λ (l : List ℕ). numberOver l (countOf (classP (b .types)) (countP (b .types)) v h))
+        ap (λ (l : List ℕ). numberOver l (countAfter (classP (b .types)) (countP (b .types)) v h))
         (ap (takenAt (b .types) v) (class-now h l) ∙ taken-same (b .types) v w (K .nexts) (K .takens) (classOf (keyIn b s w) h) (K .heads (classOf (keyIn b s w) h)))
 
-    pub count-grows : getWord (counted (classP (b .types)) (countP (b .types)) v h) (countP (b .types) (classOf (keyIn b s w) h)) ≡ oneMore (getWord v (countP (b .types) (classOf (keyIn b s w) h)))
+    pub count-grows : getWord (countRaised (classP (b .types)) (countP (b .types)) v h) (countP (b .types) (classOf (keyIn b s w) h)) ≡ oneMore (getWord v (countP (b .types) (classOf (keyIn b s w) h)))
     count-grows = ap (λ (u : List ℕ). getWord u at) counted-is ∙ more-same v at (inside 6 2 (omega arith) (omega arith) (classOf (keyIn b s w) h) (class-below h l))
 
-    count-else : (i : ℕ) → i ≢ at → getWord (counted (classP (b .types)) (countP (b .types)) v h) i ≡ getWord v i
+    count-else : (i : ℕ) → i ≢ at → getWord (countRaised (classP (b .types)) (countP (b .types)) v h) i ≡ getWord v i
     count-else i n = ap (λ (u : List ℕ). getWord u i) counted-is ∙ more-other v at i n
 
-    pub count-stays : (c : ℕ) → c ≢ classOf (keyIn b s w) h → getWord (counted (classP (b .types)) (countP (b .types)) v h) (countP (b .types) c) ≡ getWord v (countP (b .types) c)
+    pub count-stays : (c : ℕ) → c ≢ classOf (keyIn b s w) h → getWord (countRaised (classP (b .types)) (countP (b .types)) v h) (countP (b .types) c) ≡ getWord v (countP (b .types) c)
     count-stays c n = count-else (countP (b .types) c) (λ q. n (count-one (b .types) _ _ q))
 
-    pub count-version : (id : ℕ) → getField (counted (classP (b .types)) (countP (b .types)) v h) id 4 ≡ getField v id 4
+    pub count-version : (id : ℕ) → getField (countRaised (classP (b .types)) (countP (b .types)) v h) id 4 ≡ getField v id 4
     count-version id = count-else (id * 16 + 4) (count-4 (b .types) _ id)
 
-    pub count-kept : Kept b e s w (counted (classP (b .types)) (countP (b .types)) v h)
+    pub count-kept : CountsKept b e s w (countRaised (classP (b .types)) (countP (b .types)) v h)
     count-kept = record {
       long = ap length counted-is ∙ more-length v at ∙ K .long;
       class = λ k q. count-else (classP (b .types) k) (class-count (b .types) k _) ∙ K .class k q;
@@ -116,7 +116,7 @@ module _ (b : TypeTable) (e : ℕ) (s w : List ℕ) (I : Indexed b e s w) (v : L
     pub version-count : (c : ℕ) → getWord (putField v id 4 n) (countP (b .types) c) ≡ getWord v (countP (b .types) c)
     version-count c = version-else (countP (b .types) c) (place-apart (b .types) 6 2 4 5 (omega arith) c id)
 
-    pub version-kept : Kept b e s w (putField v id 4 n)
+    pub version-kept : CountsKept b e s w (putField v id 4 n)
     version-kept = record {
       long = put-length v (id * 16 + 4) n ∙ K .long;
       class = λ k q. version-else (classP (b .types) k) (place-apart (b .types) 5 1 4 5 (omega arith) k id) ∙ K .class k q;

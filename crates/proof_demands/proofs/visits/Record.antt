@@ -14,7 +14,7 @@ use Rattle.spec_session.specs.declared.session.Session.{Session}
 use Rattle.spec_session.specs.session.Answers.{numberOf}
 use Rattle.spec_session.specs.session.Turns.{Call, callOf, isCurrent, Reach, reached, refusedBy, visitsIn, settled}
 use Rattle.spec_session.specs.calls.Calls.{openedCall, openCall, typeCall, typesCall}
-use Rattle.spec_session.specs.calls.Lists.{counted, listFrom, listCall}
+use Rattle.spec_session.specs.calls.Lists.{thenNext, listFrom, listCall}
 use Rattle.spec_session.proofs.calls.Laws.{opens-sound}
 use Rattle.spec_session.proofs.calls.Claims.{type-settles, type-not-below, type-not-current, types-settle, types-not-current}
 use Rattle.spec_session.proofs.calls.Lists.{counted-goes, counted-stops}
@@ -57,11 +57,11 @@ module _ (s : List ℕ) (S : Session) (w t : List ℕ) (h : Says S w) where
     abbrev rest : Call → Call
     rest d = listFrom (suc n) (d .session) s (d .work) (d .text) ids
 
-    first-says : SaysCall (counted n c rest)
+    first-says : SaysCall (thenNext n c rest)
     unfolding callOf
     first-says = by (numberOf (c .answer)) refl
       where
-        by : (m : ℕ) → numberOf (c .answer) ≡ m → SaysCall (counted n c rest)
+        by : (m : ℕ) → numberOf (c .answer) ≡ m → SaysCall (thenNext n c rest)
         by zero e = subst SaysCall (sym (counted-goes n c rest e)) (ih (c .session) (c .work) (c .text) (type-says x))
         by (suc m) e = subst SaysCall (sym (counted-stops n (suc m) c rest e (λ z. absurd (omega arith)))) (type-says x)
 

@@ -9,13 +9,13 @@ use Rattle.spec_c_dumper.specs.rules.Names.{Space, Names, holders}
 use Rattle.spec_type_table.specs.declared.types.TypeTable.{TypeTable}
 use Rattle.spec_type_table.specs.Cells.{getField, countP}
 use Rattle.btf_open_names.specs.name_classes.Classes.{keyIn, classOf}
-use Rattle.proof_demands.specs.name_counts.Indexed.{Holds, Kept}
+use Rattle.proof_demands.specs.name_counts.Indexed.{Holds, CountsKept}
 
 -- w is the work after opening, v the work now
 module _ (b : TypeTable) (e : ℕ) (s w : List ℕ) where
   -- The version of each type is in its word 4, and the count of a name's holders at the class of each holder of it.
   pub record Alike (v : List ℕ) (u : Names) : Type 0 where
-    pub kept : Kept b e s w v
+    pub kept : CountsKept b e s w v
     pub sized : length (u .versions) ≡ b .types
     pub its-version : (id : ℕ) → id < b .types → getField v id 4 ≡ getD (u .versions) id 0
     pub its-count : (h : ℕ) (space : Space) (name : Name) → Holds b e s w h space name

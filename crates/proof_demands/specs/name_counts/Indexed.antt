@@ -44,7 +44,7 @@ module _ (b : TypeTable) (s w : List ℕ) where
   placeOfValue id i = valuePlace (kindOf (recordById b s w id .info)) (recordById b s w id .at) i
 
   -- type id is printed with this name, in this space
-  pub record Fits (space : Space) (id : ℕ) (name : Name) : Type 0 where
+  pub record NameFits (space : Space) (id : ℕ) (name : Name) : Type 0 where
     pub below : id < b .types
     pub its-space : spaceOf (kindOf (recordById b s w id .info)) ≡ number space
     pub its-name : name ≡ recordName b s (recordById b s w id)
@@ -79,7 +79,7 @@ module _ (b : TypeTable) (e : ℕ) (s w : List ℕ) where
 
   -- what emission leaves as it was: the length, classes and places of holders, the lists of taken numbers, and the first enumerator of each
   -- type (word 12)
-  pub record Kept (v : List ℕ) : Type 0 where
+  pub record CountsKept (v : List ℕ) : Type 0 where
     pub long : length v ≡ length w
     pub class : (h : ℕ) → h < b .types + e → getWord v (classP (b .types) h) ≡ getWord w (classP (b .types) h)
     pub place : (h : ℕ) → h < b .types + e → getWord v (recordP (b .types) h) ≡ getWord w (recordP (b .types) h)

@@ -7,7 +7,7 @@ use lib.ListN.{getD, set}
 use lib.Dec.{eqb}
 use Rattle.spec_bytes.specs.words.Words.{oneMore}
 use Rattle.spec_c_dumper.specs.rules.Types.{Name}
-use Rattle.spec_c_dumper.specs.rules.Names.{Space, identSpace, Resolved, Naming, Names, holders, counted}
+use Rattle.spec_c_dumper.specs.rules.Names.{Space, identSpace, Resolved, Naming, Names, holders, withOne}
 use Rattle.spec_type_table.specs.Numbers.{numberOver}
 
 -- the taken numbers of each name of each space
@@ -25,7 +25,7 @@ typePassed T space id name u =
       | false ↦ record { version = getD (u .versions) id 0; names = u }
       | true ↦ record {
         version = nextNumber T space name u;
-        names = record { versions = set (u .versions) id (nextNumber T space name u); ledger = counted (u .ledger) space name };
+        names = record { versions = set (u .versions) id (nextNumber T space name u); ledger = withOne (u .ledger) space name };
       }
     ]
 
@@ -33,7 +33,7 @@ typePassed T space id name u =
 unfoldable pub valuePassed : Lists → Name → Names → Resolved Names
 valuePassed T name u = record {
   version = nextNumber T identSpace name u;
-  names = record { versions = u .versions; ledger = counted (u .ledger) identSpace name };
+  names = record { versions = u .versions; ledger = withOne (u .ledger) identSpace name };
 }
 
 abbrev pub passed : Lists → Naming Names

@@ -14,13 +14,13 @@ use Rattle.spec_bytes.specs.text.Decimal.{decimal}
 use Rattle.spec_bytes.proofs.words.Laws.{le-or-lt}
 use Rattle.spec_c_dumper.specs.rules.Machine.{Req}
 use Rattle.spec_c_dumper.specs.rules.Types.{Name, Btf, nameOf, tableOf}
-use Rattle.spec_c_dumper.specs.rules.Names.{Space, tagSpace, identSpace, Resolved, Names, Holder, naming, spelled, sameSpace, sameBytes, holders, counted, typeVersion, valueVersion}
+use Rattle.spec_c_dumper.specs.rules.Names.{Space, tagSpace, identSpace, Resolved, Names, Holder, naming, spelled, sameSpace, sameBytes, holders, withOne, typeVersion, valueVersion}
 use Rattle.spec_c_dumper.proofs.rules.Related.{RelResolved, RelNaming}
 use Rattle.spec_c_dumper.specs.needs.Needs.{WF}
 use Rattle.spec_c_dumper.specs.needs.Session.{dumpTypes, noNames}
 use Rattle.spec_c_dumper.proofs.needs.AnyNames.{dumps-alike}
 use Rattle.proof_demands.proofs.name_counts.Holders.{count-here, count-there}
-use Rattle.spec_c_dumper.specs.names_apart.Apart.{tableNames, Who, ofType, ofValue, Shown, Apart, spellingsIn, among, taken, passing, numberFor, shown, typeApart, valueApart, apart, noneShown, dumpApart, Ends}
+use Rattle.spec_c_dumper.specs.names_apart.Apart.{tableNames, Who, ofType, ofValue, Shown, Apart, spellingsIn, isNameAmong, taken, passing, numberFor, shown, typeApart, valueApart, apart, noneShown, dumpApart, Ends}
 use Rattle.proof_names_apart.specs.names_apart.Alike.{Suffixless}
 use Rattle.proof_names_apart.proofs.names_apart.Laws.{bytes-same, spelled-later, more-is}
 use Rattle.proof_names_apart.proofs.names_apart.Splits.{splits-once}
@@ -29,12 +29,12 @@ use Rattle.proof_names_apart.proofs.names_apart.Session.{Fits, FitsValu
 
 -- ---- what is among names stands there
 
-pub among-mem : (x : Name) (l : List Name) → among x l ≡ true → List·Memᴰ x l
-unfolding among
+pub among-mem : (x : Name) (l : List Name) → isNameAmong x l ≡ true → List·Memᴰ x l
+unfolding isNameAmong
 among-mem x [] e = absurd (true≢false (sym e))
 among-mem x (y ∷ l) e = go (sameBytes x y) refl e (among-mem x l)
   where
-    go : (t : Bool) → sameBytes x y ≡ t → elim t as (λ w. Bool) [ true ↦ true | false ↦ among x l ] ≡ true → (among x l ≡ true → List·Memᴰ x l) → List·Memᴰ x (y ∷ l)
+    go : (t : Bool) → sameBytes x y ≡ t → elim t as (λ w. Bool) [ true ↦ true | false ↦ isNameAmong x l ] ≡ true → (isNameAmong x l ≡ true → List·Memᴰ x l) → List·Memᴰ x (y ∷ l)
     go true q r f = List·Memᴰ·head (bytes-same x y q)
     go false q r f = List·Memᴰ·tail (f r)
 
@@ -83,7 +83,7 @@ unfolding oneMore
 more-first = refl
 
 -- the number of the Rust, where the suffix with it is not passed over
-pub not-passed : (B : Btf) (space : Space) (name : Name) (u : Apart) → among (spelled name (oneMore (holders (u .names .ledger) space name))) (taken B space u) ≡ false
+pub not-passed : (B : Btf) (space : Space) (name : Name) (u : Apart) → isNameAmong (spelled name (oneMore (holders (u .names .ledger) space name))) (taken B space u) ≡ false
     → numberFor B space name u ≡ oneMore (holders (u .names .ledger) space name)
 unfolding numberFor
 not-passed B space name u e = go (eqb h 0) refl
@@ -92,10 +92,10 @@ not-passed B space name u e = go (eqb h 0) refl
     h = holders (u .names .ledger) space name
 
     go : (t : Bool) → eqb (holders (u .names .ledger) space name) 0 ≡ t
-        → elim t as (λ w. ℕ) [ true ↦ 1 | false ↦ passing (λ n. among (spelled name n) (taken B space u)) (length (taken B space u)) (oneMore (holders (u .names .ledger) space name)) ]
+        → elim t as (λ w. ℕ) [ true ↦ 1 | false ↦ passing (λ n. isNameAmong (spelled name n) (taken B space u)) (length (taken B space u)) (oneMore (holders (u .names .ledger) space name)) ]
         ≡ oneMore (holders (u .names .ledger) space name)
     go true q = sym (ap oneMore (eqb-true (holders (u .names .ledger) space name) 0 q) ∙ more-first)
-    go false q = stays (λ n. among (spelled name n) (taken B space u)) (length (taken B space u)) (oneMore (holders (u .names .ledger) space name)) e
+    go false q = stays (λ n. isNameAmong (spelled name n) (taken B space u)) (length (taken B space u)) (oneMore (holders (u .names .ledger) space name)) e
 
 pub spelled-low : (name : Name) (n : ℕ) → n < 2 → spelled name n ≡ name
 unfolding spelled
@@ -115,7 +115,7 @@ module _ (B : Btf) (plain : Suffixless B) where
   entry-reached : (l : List Holder) (space : Space) (who : Who) (name : Name) (n : ℕ) → List·Memᴰ name (tableNames B space) → n ≤ 4294967295 → n ≤ holders l space name → Reached l (entry space who name n)
   entry-reached l space who name n m b h = ⊎-elim (λ k. inr (name, n, refl, k, b, h)) (λ k. inl (subst (λ (x : Name). List·Memᴰ x (tableNames B space)) (sym (spelled-low name n k)) m)) (le-or-lt 2 n)
 
-  reached-more : (l : List Holder) (space : Space) (name : Name) (a : Shown) → Reached l a → Reached (counted l space name) a
+  reached-more : (l : List Holder) (space : Space) (name : Name) (a : Shown) → Reached l a → Reached (withOne l space name) a
   reached-more l space name a (inl m) = inl m
   reached-more l space name a (inr r) = inr (r .0, r .1, r .2, r .3, r .4, omega (arith, r .5, grows l space name (a .space) (r .0)))
 
@@ -123,8 +123,8 @@ module _ (B : Btf) (plain : Suffixless B) where
     abbrev c : ℕ
     c = holders (u .names .ledger) space name
 
-    free : (c ≡ 0 → ⊥) → c < 4294967295 → among (spelled name (oneMore c)) (taken B space u) ≡ false
-    free n l = go (among (spelled name (oneMore c)) (taken B space u)) refl
+    free : (c ≡ 0 → ⊥) → c < 4294967295 → isNameAmong (spelled name (oneMore c)) (taken B space u) ≡ false
+    free n l = go (isNameAmong (spelled name (oneMore c)) (taken B space u)) refl
       where
         up : oneMore c ≡ c + 1
         up = more-is c l
@@ -139,7 +139,7 @@ module _ (B : Btf) (plain : Suffixless B) where
             let z : holders (u .names .ledger) (b .space) (r .0) ≡ c = ap₂ (holders (u .names .ledger)) e (sym (q .0)) in
             omega (arith, z, q .1, r .5, up)
 
-        go : (t : Bool) → among (spelled name (oneMore c)) (taken B space u) ≡ t → t ≡ false
+        go : (t : Bool) → isNameAmong (spelled name (oneMore c)) (taken B space u) ≡ t → t ≡ false
         go true q = absurd (⊎-elim no-table
             (λ m. let r = in-spellings space (u .printed) (spelled name (oneMore c)) m in no-number (r .0) (r .2) (r .3) (h .reached (r .0) (r .1)))
             (List·Memᴰ·append-cases (tableNames B space) (among-mem (spelled name (oneMore c)) (taken B space u) q)))
@@ -150,11 +150,11 @@ module _ (B : Btf) (plain : Suffixless B) where
     unfolding numberFor
     usual-number = go (eqb c 0) refl
       where
-        go : (t : Bool) → eqb c 0 ≡ t → elim t as (λ w. ℕ) [ true ↦ 1 | false ↦ passing (λ n. among (spelled name n) (taken B space u)) (length (taken B space u)) (oneMore c) ] ≡ oneMore c
+        go : (t : Bool) → eqb c 0 ≡ t → elim t as (λ w. ℕ) [ true ↦ 1 | false ↦ passing (λ n. isNameAmong (spelled name n) (taken B space u)) (length (taken B space u)) (oneMore c) ] ≡ oneMore c
         go true q = sym (ap oneMore (eqb-true c 0 q) ∙ more-first)
         go false q = ⊎-elim
-            (λ l. let e : oneMore c ≡ c = more-stuck c l in sticks (λ n. among (spelled name n) (taken B space u)) (length (taken B space u)) (oneMore c) (ap oneMore e))
-            (λ l. stays (λ n. among (spelled name n) (taken B space u)) (length (taken B space u)) (oneMore c) (free (eqb-false c 0 q) l))
+            (λ l. let e : oneMore c ≡ c = more-stuck c l in sticks (λ n. isNameAmong (spelled name n) (taken B space u)) (length (taken B space u)) (oneMore c) (ap oneMore e))
+            (λ l. stays (λ n. isNameAmong (spelled name n) (taken B space u)) (length (taken B space u)) (oneMore c) (free (eqb-false c 0 q) l))
             (le-or-lt 4294967295 c)
 
     -- and what is known stays so
@@ -163,19 +163,19 @@ module _ (B : Btf) (plain : Suffixless B) where
       most : oneMore c ≤ 4294967295
       most = ⊎-elim (λ l. omega (arith, more-stuck c l, h .limits space name)) (λ l. omega (arith, more-is c l)) (le-or-lt 4294967295 c)
 
-      pub usual-then : Usual (record { names = record { versions = versions; ledger = counted (u .names .ledger) space name }; printed = entry space who name n ∷ u .printed })
+      pub usual-then : Usual (record { names = record { versions = versions; ledger = withOne (u .names .ledger) space name }; printed = entry space who name n ∷ u .printed })
       usual-then = record {
         reached = λ a m. ⊎-elim
-            (λ e. subst (Reached (counted (u .names .ledger) space name)) (sym e) (entry-reached (counted (u .names .ledger) space name) space who name n isName (omega (arith, most, isMore)) (omega (arith, isMore, count-here space name (u .names .ledger)))))
+            (λ e. subst (Reached (withOne (u .names .ledger) space name)) (sym e) (entry-reached (withOne (u .names .ledger) space name) space who name n isName (omega (arith, most, isMore)) (omega (arith, isMore, count-here space name (u .names .ledger)))))
             (λ k. reached-more (u .names .ledger) space name a (h .reached a k))
             (List·Memᴰ·cases-cons m);
         limits = λ space′ name′. ⊎-elim
-            (λ e. subst (λ (x : Space). holders (counted (u .names .ledger) space name) x name′ ≤ 4294967295) (e .0) (subst (λ (x : Name). holders (counted (u .names .ledger) space name) space x ≤ 4294967295) (e .1) (omega (arith, most, count-here space name (u .names .ledger)))))
+            (λ e. subst (λ (x : Space). holders (withOne (u .names .ledger) space name) x name′ ≤ 4294967295) (e .0) (subst (λ (x : Name). holders (withOne (u .names .ledger) space name) space x ≤ 4294967295) (e .1) (omega (arith, most, count-here space name (u .names .ledger)))))
             (λ k. omega (arith, h .limits space′ name′, count-there space name space′ name′ k (u .names .ledger)))
             (same-or-not space space′ name name′);
         numbers = λ id. ⊎-elim
             (λ e. omega (arith, e, h .numbers id, grows (u .names .ledger) space name (spaceOf (B .type-by-id id)) (nameOf (B .type-by-id id))))
-            (λ e. let z : holders (counted (u .names .ledger) space name) (spaceOf (B .type-by-id id)) (nameOf (B .type-by-id id)) ≡ holders (counted (u .names .ledger) space name) space name = ap₂ (holders (counted (u .names .ledger) space name)) (e .0) (e .1) in
+            (λ e. let z : holders (withOne (u .names .ledger) space name) (spaceOf (B .type-by-id id)) (nameOf (B .type-by-id id)) ≡ holders (withOne (u .names .ledger) space name) space name = ap₂ (holders (withOne (u .names .ledger) space name)) (e .0) (e .1) in
             omega (arith, z, e .2, isMore, count-here space name (u .names .ledger)))
             (holds id);
       }
@@ -195,7 +195,7 @@ module _ (B : Btf) (plain : Suffixless B) where
       | true ↦ record {
         version = numberFor B space name u;
         names = record {
-          names = record { versions = set (u .names .versions) id (numberFor B space name u); ledger = counted (u .names .ledger) space name };
+          names = record { versions = set (u .names .versions) id (numberFor B space name u); ledger = withOne (u .names .ledger) space name };
           printed = shown space (ofType id) name (numberFor B space name u) u;
         };
       }
@@ -206,7 +206,7 @@ module _ (B : Btf) (plain : Suffixless B) where
       | false ↦ record { version = getD (u .names .versions) id 0; names = u .names }
       | true ↦ record {
         version = oneMore (holders (u .names .ledger) space name);
-        names = record { versions = set (u .names .versions) id (oneMore (holders (u .names .ledger) space name)); ledger = counted (u .names .ledger) space name };
+        names = record { versions = set (u .names .versions) id (oneMore (holders (u .names .ledger) space name)); ledger = withOne (u .names .ledger) space name };
       }
     ]
 
@@ -220,7 +220,7 @@ module _ (B : Btf) (plain : Suffixless B) where
     by-like true = (
       number-is,
       (
-        ap {B = Names} (λ (n : ℕ). record { versions = set (u .names .versions) id n; ledger = counted (u .names .ledger) space name }) number-is,
+        ap {B = Names} (λ (n : ℕ). record { versions = set (u .names .versions) id n; ledger = withOne (u .names .ledger) space name }) number-is,
         usual-then space name (f .2) u h (ofType id) (numberFor B space name u) number-is (set (u .names .versions) id (numberFor B space name u))
             (λ x. ⊎-elim (λ e. inl e) (λ e. inr (ap (λ (k : ℕ). spaceOf (B .type-by-id k)) (e .0) ∙ sym (f .0), ap (λ (k : ℕ). nameOf (B .type-by-id k)) (e .0) ∙ sym (f .1), e .1)) (set-one (u .names .versions) id (numberFor B space name u) x)),
       ),

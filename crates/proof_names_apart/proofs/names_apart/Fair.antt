@@ -10,9 +10,9 @@ use lib.Dec.{ltb, eqb}
 use borrow.Author.Tests.{eqb-true, eqb-false, ltb-false}
 use Rattle.spec_bytes.specs.words.Words.{oneMore, pick}
 use Rattle.spec_c_dumper.specs.rules.Types.{Name, BtfType, Void, Int, Ptr, Array, Composite, Enum, Enum64, Fwd, Typedef, Mod, Func, Var, Datasec, FuncProto, Float, DeclTag, TypeTag, Btf, nameOf}
-use Rattle.spec_c_dumper.specs.rules.Names.{Space, tagSpace, identSpace, Names, Holder, spelled, sameSpace, sameBytes, holders, counted}
+use Rattle.spec_c_dumper.specs.rules.Names.{Space, tagSpace, identSpace, Names, Holder, spelled, sameSpace, sameBytes, holders, withOne}
 use Rattle.proof_demands.proofs.name_counts.Holders.{count-here, count-there}
-use Rattle.spec_c_dumper.specs.names_apart.Apart.{tableNames, Who, ofType, ofValue, Shown, Apart, spellingsIn, among, taken, passing, numberFor, OneType, Alone, AllApart, Enough}
+use Rattle.spec_c_dumper.specs.names_apart.Apart.{tableNames, Who, ofType, ofValue, Shown, Apart, spellingsIn, isNameAmong, taken, passing, numberFor, OneType, Alone, AllApart, Enough}
 use Rattle.proof_names_apart.proofs.names_apart.Laws.{bytes-same, bytes-self, not-among, spelling-in, fewer, spelled-first, more-is, ends-free}
 
 -- ---- one more holder
@@ -57,23 +57,23 @@ same-or-not identSpace identSpace name name′ = go (sameBytes name name′) ref
     go false q = inr (λ e n. true≢false (sym (bytes-self name) ∙ ap (sameBytes name) n ∙ q))
 
 module _ (l : List Holder) (space : Space) (name : Name) where
-  pub grows : (space′ : Space) (name′ : Name) → holders l space′ name′ ≤ holders (counted l space name) space′ name′
+  pub grows : (space′ : Space) (name′ : Name) → holders l space′ name′ ≤ holders (withOne l space name) space′ name′
   grows space′ name′ = go (same-or-not space space′ name name′)
     where
-      go : ((space ≡ space′) × (name ≡ name′)) ⊎ (space ≡ space′ → name ≡ name′ → ⊥) → holders l space′ name′ ≤ holders (counted l space name) space′ name′
+      go : ((space ≡ space′) × (name ≡ name′)) ⊎ (space ≡ space′ → name ≡ name′ → ⊥) → holders l space′ name′ ≤ holders (withOne l space name) space′ name′
       go (inl e) =
-          subst (λ (x : Space). holders l x name′ ≤ holders (counted l space name) x name′) (e .0)
-          (subst (λ (x : Name). holders l space x ≤ holders (counted l space name) space x) (e .1)
+          subst (λ (x : Space). holders l x name′ ≤ holders (withOne l space name) x name′) (e .0)
+          (subst (λ (x : Name). holders l space x ≤ holders (withOne l space name) space x) (e .1)
           (omega (arith, more-least (holders l space name), count-here space name l)))
       go (inr n) = omega (arith, count-there space name space′ name′ n l)
 
-  pub grows-by-one : (space′ : Space) (name′ : Name) → holders (counted l space name) space′ name′ ≤ holders l space′ name′ + 1
+  pub grows-by-one : (space′ : Space) (name′ : Name) → holders (withOne l space name) space′ name′ ≤ holders l space′ name′ + 1
   grows-by-one space′ name′ = go (same-or-not space space′ name name′)
     where
-      go : ((space ≡ space′) × (name ≡ name′)) ⊎ (space ≡ space′ → name ≡ name′ → ⊥) → holders (counted l space name) space′ name′ ≤ holders l space′ name′ + 1
+      go : ((space ≡ space′) × (name ≡ name′)) ⊎ (space ≡ space′ → name ≡ name′ → ⊥) → holders (withOne l space name) space′ name′ ≤ holders l space′ name′ + 1
       go (inl e) =
-          subst (λ (x : Space). holders (counted l space name) x name′ ≤ holders l x name′ + 1) (e .0)
-          (subst (λ (x : Name). holders (counted l space name) space x ≤ holders l space x + 1) (e .1)
+          subst (λ (x : Space). holders (withOne l space name) x name′ ≤ holders l x name′ + 1) (e .0)
+          (subst (λ (x : Name). holders (withOne l space name) space x ≤ holders l space x + 1) (e .1)
           (omega (arith, more-most (holders l space name), count-here space name l)))
       go (inr n) = omega (arith, count-there space name space′ name′ n l)
 
@@ -142,12 +142,12 @@ module _ (B : Btf) where
         (fair .settled b m)
 
     abbrev later : ℕ
-    later = passing (λ n. among (spelled name n) (taken B space u)) (length (taken B space u)) (oneMore h)
+    later = passing (λ n. isNameAmong (spelled name n) (taken B space u)) (length (taken B space u)) (oneMore h)
 
     -- the number of steps is at most that of the names in the table and of those printed
-    pub not-taken : (h ≡ 0 → ⊥) → among (spelled name later) (taken B space u) ≡ false
+    pub not-taken : (h ≡ 0 → ⊥) → isNameAmong (spelled name later) (taken B space u) ≡ false
     not-taken n =
-        ends-free name (length (taken B space u)) (λ m. among (spelled name m) (taken B space u)) (taken B space u) (omega arith) (oneMore h)
+        ends-free name (length (taken B space u)) (λ m. isNameAmong (spelled name m) (taken B space u)) (taken B space u) (omega arith) (oneMore h)
         (omega (arith, up)) (omega (arith, up, few, room space, fair .counts space name)) (λ m lo hi. refl)
       where
         up : oneMore h ≡ h + 1
@@ -163,7 +163,7 @@ module _ (B : Btf) where
         go : (t : Bool) → eqb h 0 ≡ t → Picked space name u (elim t as (λ w. ℕ) [ true ↦ 1 | false ↦ later ])
         go true q = record { fresh = first-fresh (eqb-true h 0 q); bare = inl (spelled-first name) }
         go false q =
-            let f : among (spelled name later) (taken B space u) ≡ false = not-taken (eqb-false h 0 q) in
+            let f : isNameAmong (spelled name later) (taken B space u) ≡ false = not-taken (eqb-false h 0 q) in
             record {
               fresh = λ b m e s. not-among (spelled name later) (taken B space u) f (Memᴰ·append-right (tableNames B space) (subst (λ (x : Name). List·Memᴰ x (spellingsIn space (u .printed))) s (spelling-in space (u .printed) b m e)));
               bare = inr (λ m. not-among (spelled name later) (taken B space u) f (Memᴰ·append-left (spellingsIn space (u .printed)) m));
@@ -199,11 +199,11 @@ module _ (B : Btf) where
   module _ (u : Apart) (f : Fair u) (space : Space) (who : Who) (its : space ≡ spaceIn who) (name : Name) (n : ℕ) (p : Picked space name u n) (versions : List ℕ)
       (holds : (id : ℕ) → (getD versions id 0 ≡ 0 → ⊥) → (own id (getD versions id 0) ≡ entry space who name n) ⊎ ((getD versions id 0 ≡ getD (u .names .versions) id 0))) where
     abbrev then : Apart
-    then = record { names = record { versions = versions; ledger = counted (u .names .ledger) space name }; printed = entry space who name n ∷ u .printed }
+    then = record { names = record { versions = versions; ledger = withOne (u .names .ledger) space name }; printed = entry space who name n ∷ u .printed }
 
     new-settled : Settled (then .names) (entry space who name n)
     new-settled = ⊎-elim
-        (λ e. inl (subst (λ (x : Name). 1 ≤ holders (counted (u .names .ledger) space name) space x) (sym e) (omega (arith, count-here space name (u .names .ledger), more-some (holders (u .names .ledger) space name)))))
+        (λ e. inl (subst (λ (x : Name). 1 ≤ holders (withOne (u .names .ledger) space name) space x) (sym e) (omega (arith, count-here space name (u .names .ledger), more-some (holders (u .names .ledger) space name)))))
         (λ e. inr e)
         (p .bare)
 

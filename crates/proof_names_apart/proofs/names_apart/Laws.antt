@@ -15,7 +15,7 @@ use Rattle.spec_bytes.specs.text.Decimal.{decimal}
 use Rattle.spec_bytes.proofs.text.Digits.{horner, decimal-is}
 use Rattle.spec_c_dumper.specs.rules.Types.{Name}
 use Rattle.spec_c_dumper.specs.rules.Names.{Space, tagSpace, identSpace, sameSpace, sameBytes, spelled}
-use Rattle.spec_c_dumper.specs.names_apart.Apart.{Shown, among, passing, spellingsIn}
+use Rattle.spec_c_dumper.specs.names_apart.Apart.{Shown, isNameAmong, passing, spellingsIn}
 
 pub space-self : (x : Space) → sameSpace x x ≡ true
 space-self tagSpace = refl
@@ -46,32 +46,32 @@ bytes-other x y n = go (sameBytes x y) refl
 
 -- ---- among
 
-pub mem-among : (x : Name) (l : List Name) → List·Memᴰ x l → among x l ≡ true
-unfolding among
+pub mem-among : (x : Name) (l : List Name) → List·Memᴰ x l → isNameAmong x l ≡ true
+unfolding isNameAmong
 mem-among x [] m = absurd (List·Memᴰ·not-nil m)
 mem-among x (y ∷ l) m = go (sameBytes x y) refl (List·Memᴰ·cases-cons m) (mem-among x l)
   where
-    go : (t : Bool) → sameBytes x y ≡ t → (x ≡ y) ⊎ List·Memᴰ x l → (List·Memᴰ x l → among x l ≡ true) → elim t as (λ z. Bool) [ true ↦ true | false ↦ among x l ] ≡ true
+    go : (t : Bool) → sameBytes x y ≡ t → (x ≡ y) ⊎ List·Memᴰ x l → (List·Memᴰ x l → isNameAmong x l ≡ true) → elim t as (λ z. Bool) [ true ↦ true | false ↦ isNameAmong x l ] ≡ true
     go true q c f = refl
     go false q (inl e) f = absurd (true≢false (sym (bytes-self x) ∙ ap (sameBytes x) e ∙ q))
     go false q (inr k) f = f k
 
-pub not-among : (x : Name) (l : List Name) → among x l ≡ false → List·Memᴰ x l → ⊥
+pub not-among : (x : Name) (l : List Name) → isNameAmong x l ≡ false → List·Memᴰ x l → ⊥
 not-among x l e m = true≢false (sym (mem-among x l m) ∙ e)
 
 -- without one that is among them
-pub cut-out : (x : Name) (l : List Name) → among x l ≡ true → (k : List Name) × (suc (length k) ≡ length l) × ((y : Name) → sameBytes y x ≡ false → among y l ≡ among y k)
-unfolding among
+pub cut-out : (x : Name) (l : List Name) → isNameAmong x l ≡ true → (k : List Name) × (suc (length k) ≡ length l) × ((y : Name) → sameBytes y x ≡ false → isNameAmong y l ≡ isNameAmong y k)
+unfolding isNameAmong
 cut-out x [] e = absurd (true≢false (sym e))
 cut-out x (z ∷ l) e = go (sameBytes x z) refl e (cut-out x l)
   where
-    go : (t : Bool) → sameBytes x z ≡ t → elim t as (λ w. Bool) [ true ↦ true | false ↦ among x l ] ≡ true
-        → (among x l ≡ true → (k : List Name) × (suc (length k) ≡ length l) × ((y : Name) → sameBytes y x ≡ false → among y l ≡ among y k))
-        → (k : List Name) × (suc (length k) ≡ suc (length l)) × ((y : Name) → sameBytes y x ≡ false → elim (sameBytes y z) as (λ w. Bool) [ true ↦ true | false ↦ among y l ] ≡ among y k)
+    go : (t : Bool) → sameBytes x z ≡ t → elim t as (λ w. Bool) [ true ↦ true | false ↦ isNameAmong x l ] ≡ true
+        → (isNameAmong x l ≡ true → (k : List Name) × (suc (length k) ≡ length l) × ((y : Name) → sameBytes y x ≡ false → isNameAmong y l ≡ isNameAmong y k))
+        → (k : List Name) × (suc (length k) ≡ suc (length l)) × ((y : Name) → sameBytes y x ≡ false → elim (sameBytes y z) as (λ w. Bool) [ true ↦ true | false ↦ isNameAmong y l ] ≡ isNameAmong y k)
     go true q r f = (
       l,
       refl,
-      λ y n. ap (λ (t : Bool). elim t as (λ w. Bool) [ true ↦ true | false ↦ among y l ]) (sym (ap (sameBytes y) (bytes-same x z q)) ∙ n),
+      λ y n. ap (λ (t : Bool). elim t as (λ w. Bool) [ true ↦ true | false ↦ isNameAmong y l ]) (sym (ap (sameBytes y) (bytes-same x z q)) ∙ n),
     )
     go false q r f =
         let c = f r in
@@ -122,14 +122,14 @@ more-is n h = ap (λ (t : Bool). pick t (n + 1) n) (lt-ltb n 4294967295 h)
 
 -- The search ends at a number that is not taken, after at most as many steps as there are names taken: l, of which t tells.
 pub ends-free : (name : Name) (most : ℕ) (t : ℕ → Bool) (l : List Name) → length l ≤ most → (n : ℕ) → 2 ≤ n → n + most ≤ 4294967295
-    → ((m : ℕ) → n ≤ m → m ≤ n + most → t m ≡ among (spelled name m) l) → t (passing t most n) ≡ false
-unfolding passing among
+    → ((m : ℕ) → n ≤ m → m ≤ n + most → t m ≡ isNameAmong (spelled name m) l) → t (passing t most n) ≡ false
+unfolding passing isNameAmong
 ends-free name zero t [] h n k b f = f n (omega arith) (omega arith)
 ends-free name zero t (x ∷ l) h n k b f = absurd (omega arith)
 ends-free name (suc most) t l h n k b f = go (t n) refl (λ c e q g. ends-free name most t c e (n + 1) (omega arith) (omega arith) g)
   where
     next : t n ≡ true
-        → ((c : List Name) → length c ≤ most → (n + 1) + most ≤ 4294967295 → ((m : ℕ) → n + 1 ≤ m → m ≤ (n + 1) + most → t m ≡ among (spelled name m) c) → t (passing t most (n + 1)) ≡ false)
+        → ((c : List Name) → length c ≤ most → (n + 1) + most ≤ 4294967295 → ((m : ℕ) → n + 1 ≤ m → m ≤ (n + 1) + most → t m ≡ isNameAmong (spelled name m) c) → t (passing t most (n + 1)) ≡ false)
         → t (passing t most (oneMore n)) ≡ false
     next e r =
         let c = cut-out (spelled name n) l (sym (f n (omega arith) (omega arith)) ∙ e) in
@@ -138,7 +138,7 @@ ends-free name (suc most) t l h n k b f = go (t n) refl (λ c e q g. ends-free n
         (λ m lo hi. f m (omega arith) (omega arith) ∙ c .2 (spelled name m) (bytes-other (spelled name m) (spelled name n) (λ q. let z : m ≡ n = suffix-one name m n (omega arith) k (omega arith) (omega arith) q in omega arith)))
 
     go : (b′ : Bool) → t n ≡ b′
-        → ((c : List Name) → length c ≤ most → (n + 1) + most ≤ 4294967295 → ((m : ℕ) → n + 1 ≤ m → m ≤ (n + 1) + most → t m ≡ among (spelled name m) c) → t (passing t most (n + 1)) ≡ false)
+        → ((c : List Name) → length c ≤ most → (n + 1) + most ≤ 4294967295 → ((m : ℕ) → n + 1 ≤ m → m ≤ (n + 1) + most → t m ≡ isNameAmong (spelled name m) c) → t (passing t most (n + 1)) ≡ false)
         → t (elim b′ as (λ w. ℕ) [ true ↦ passing t most (oneMore n) | false ↦ n ]) ≡ false
     go true e r = next e r
     go false e r = e

@@ -12,7 +12,7 @@ use Rattle.spec_c_dumper.specs.rules.Writer.{Ask, got, no, Said, said, Writer, 
 use Rattle.spec_c_dumper.specs.rules.Types.{Name, isEmpty, Member, Param, Enumerator, BtfType, Void, Int, Ptr, Array, Composite, Enum, Enum64, Fwd, Typedef, Mod, Func, Var, Datasec, FuncProto, Float, DeclTag, TypeTag, Btf}
 use Rattle.spec_c_dumper.specs.rules.Layout.{Pad, bitPadding, endOf}
 use Rattle.spec_c_dumper.specs.rules.Placing.{bodyPacked, tailPads}
-use Rattle.spec_c_dumper.specs.rules.Names.{Space, tagSpace, identSpace, Resolved, resolving, spelled, resolveTypeName, resolveName, builtin, counted}
+use Rattle.spec_c_dumper.specs.rules.Names.{Space, tagSpace, identSpace, Resolved, resolving, spelled, resolveTypeName, resolveName, builtin, withOne}
 use Rattle.spec_c_dumper.specs.rules.Decl.{deeper, enumValue, enum64Value, Entry, base, star, qual, array, proto, tag, chainOf, noMods, isArray, noParams, shownParams, emitCompositeFwd, emitFwdDef, enumWord, emitValues, enumBody, emitEnumDef, emitName, parens, emitParam, emitParams, baseWord, emitArray, emitProto, paramList, chainLoop, emitMembers, compositeHead, compositeEnd, compositeBody, compositeDef, emitTypeDecl, emitTypeChain, emitCompositeDef, emitTypedefDef}
 use Rattle.spec_c_dumper.specs.rules.Emit.{definition, shown, forward}
 use Rattle.spec_c_dumper.specs.names_apart.Apart.{ofType, Apart, numberFor, shown as shownIn, typeApart, valueApart, apart}
@@ -88,7 +88,7 @@ module _ (B : Btf) where
       | true ↦ record {
         version = numberFor B space name u;
         names = record {
-          names = record { versions = set (u .names .versions) id (numberFor B space name u); ledger = counted (u .names .ledger) space name };
+          names = record { versions = set (u .names .versions) id (numberFor B space name u); ledger = withOne (u .names .ledger) space name };
           printed = shownIn space (ofType id) name (numberFor B space name u) u;
         };
       }

@@ -14,7 +14,7 @@ use Rattle.spec_bytes.proofs.words.Laws.{le-or-lt}
 use Rattle.spec_c_dumper.specs.rules.Order.{new}
 use Rattle.spec_c_dumper.specs.rules.Machine.{Sess, Req, run}
 use Rattle.spec_c_dumper.specs.rules.Types.{Name, Enumerator, BtfType, Void, Int, Ptr, Array, Composite, Enum, Enum64, Fwd, Typedef, Mod, Func, Var, Datasec, FuncProto, Float, DeclTag, TypeTag, Btf, nameOf, tableOf}
-use Rattle.spec_c_dumper.specs.rules.Names.{Space, tagSpace, identSpace, Resolved, Names, holders, counted}
+use Rattle.spec_c_dumper.specs.rules.Names.{Space, tagSpace, identSpace, Resolved, Names, holders, withOne}
 use Rattle.spec_c_dumper.proofs.rules.Closed.{ValuesFit, TypeFits}
 use Rattle.spec_c_dumper.proofs.rules.Related.{RelNaming}
 use Rattle.spec_c_dumper.specs.needs.Needs.{WF}
@@ -100,7 +100,7 @@ module _ (B : Btf) where
       | true ↦ record {
         version = numberFor B space name u;
         names = record {
-          names = record { versions = set (u .names .versions) id (numberFor B space name u); ledger = counted (u .names .ledger) space name };
+          names = record { versions = set (u .names .versions) id (numberFor B space name u); ledger = withOne (u .names .ledger) space name };
           printed = shown space (ofType id) name (numberFor B space name u) u;
         };
       }

@@ -12,7 +12,7 @@ use Rattle.spec_opening.specs.Opened.{workOf}
 use Rattle.spec_opening.specs.Causes.{openingNumber}
 use Rattle.spec_session.specs.session.Turns.{Call}
 use Rattle.spec_c_dumper.specs.needs.Lists.{Ls}
-use Rattle.spec_c_dumper.specs.needs.Session.{Known, Dump, dump, textOf, machineBy, openedBy, answerOf, dumped, noNames}
+use Rattle.spec_c_dumper.specs.needs.Session.{Known, Dump, dump, textOf, machineBy, openedBy, answerTo, dumped, noNames}
 use Rattle.proof_demands.specs.name_counts.Passed.{Lists, passed}
 use Rattle.proof_demands.specs.name_counts.Indexed.{listsIn}
 use Rattle.proof_demands.specs.demands.Table.{headerOf, openedTable, namesIn}
@@ -31,8 +31,8 @@ textIn : Dump → List ℕ
 textIn (dump ns t) = t
 
 module _ {U : Type 0} (N : Naming U) (B : Btf) where
-  answers : (S : Sess (Ls (Known U))) (r : Req) → answerOf N B S r .sess ≡ serve (machineBy N B) (tableOf B) S r
-  unfolding answerOf serve
+  answers : (S : Sess (Ls (Known U))) (r : Req) → answerTo N B S r .sess ≡ serve (machineBy N B) (tableOf B) S r
+  unfolding answerTo serve
   answers S (one room x) = refl
   answers S (all room) = refl
 
@@ -40,7 +40,7 @@ module _ {U : Type 0} (N : Naming U) (B : Btf) where
   unfolding dumped run textIn
   dump-text [] ns S = refl
   dump-text (r ∷ rs) ns S =
-      dump-text rs (ns ++ ((answerOf N B S r .number, answerOf N B S r .sess .mach .known .text-len) ∷ [])) (answerOf N B S r .sess)
+      dump-text rs (ns ++ ((answerTo N B S r .number, answerTo N B S r .sess .mach .known .text-len) ∷ [])) (answerTo N B S r .sess)
       ∙ ap (λ (x : Sess (Ls (Known U))). textOf (run (machineBy N B) (tableOf B) rs x .mach .pieces)) (answers S r)
 
 -- the opening that a list starts at was accepted

@@ -18,9 +18,9 @@ use Rattle.spec_type_table.specs.Names.{strAt}
 use Rattle.spec_type_table.specs.Records.{sectionWord, vlenOf, kindOf, recordAt, recordById}
 use Rattle.spec_type_table.specs.Table.{from, valueOf, value64Of, recordName, typeOf, btfOf, enumeratorOf}
 use Rattle.spec_type_table.proofs.KindLaws.{by-kind, type-4, type-5, type-6, type-7, type-8, type-19}
-use Rattle.btf_open_names.specs.name_classes.Classes.{recordP, among, spaceOf, spaceAt, nameOf}
+use Rattle.btf_open_names.specs.name_classes.Classes.{recordP, isIdAmong, spaceOf, spaceAt, nameOf}
 use Rattle.btf_open_names.proofs.name_classes.Keys.{space-high}
-use Rattle.proof_demands.specs.name_counts.Indexed.{number, valuePlace, Fits, FitsValue, Holds, Indexed}
+use Rattle.proof_demands.specs.name_counts.Indexed.{number, valuePlace, NameFits, FitsValue, Holds, Indexed}
 use Rattle.proof_demands.proofs.name_counts.Keys.{record-there, type-holds, value-holds}
 use Rattle.proof_demands.proofs.name_counts.Table.{fits-table}
 use Rattle.spec_c_dumper.specs.names_apart.Apart.{valueNames, tagsIn, identsIn, namesIn, namesTo, tableNames}
@@ -30,17 +30,17 @@ module _ (b : TypeTable) (e : ℕ) (s w : List ℕ) (I : Indexed b e s w) where
   abbrev Held : Space → Name → Type 0
   Held space x = (h : ℕ) × Holds b e s w h space x
 
-  values-held : (id i : ℕ) (vs : List Enumerator) → ValuesFit (Fits b s w) (FitsValue b s w) id i vs → (x : Name) → List·Memᴰ x (valueNames vs) → Held identSpace x
+  values-held : (id i : ℕ) (vs : List Enumerator) → ValuesFit (NameFits b s w) (FitsValue b s w) id i vs → (x : Name) → List·Memᴰ x (valueNames vs) → Held identSpace x
   values-held id i [] f x m = absurd (List·Memᴰ·not-nil m)
   values-held id i (v ∷ vs) f x m = ⊎-elim
       (λ q. (b .types + enumeratorOf w id i, subst (Holds b e s w (b .types + enumeratorOf w id i) identSpace) (sym q) (value-holds b e s w I id i (v .name) (f .0))))
       (λ q. values-held id (i + 1) vs (f .1) x q)
       (List·Memᴰ·cases-cons m)
 
-  own-held : (id : ℕ) (space : Space) (name x : Name) → Fits b s w space id name → List·Memᴰ x (name ∷ []) → Held space x
+  own-held : (id : ℕ) (space : Space) (name x : Name) → NameFits b s w space id name → List·Memᴰ x (name ∷ []) → Held space x
   own-held id space name x f m = ⊎-elim (λ q. (id, subst (Holds b e s w id space) (sym q) (type-holds b e s w id space name f))) (λ q. absurd (List·Memᴰ·not-nil q)) (List·Memᴰ·cases-cons m)
 
-  tags-held : (id : ℕ) (t : BtfType) → TypeFits (Fits b s w) (FitsValue b s w) id t → (x : Name) → List·Memᴰ x (tagsIn t) → Held tagSpace x
+  tags-held : (id : ℕ) (t : BtfType) → TypeFits (NameFits b s w) (FitsValue b s w) id t → (x : Name) → List·Memᴰ x (tagsIn t) → Held tagSpace x
   tags-held id Void f x m = absurd (List·Memᴰ·not-nil m)
   tags-held id (Int n c) f x m = absurd (List·Memᴰ·not-nil m)
   tags-held id (Ptr t) f x m = absurd (List·Memᴰ·not-nil m)
@@ -59,7 +59,7 @@ module _ (b : TypeTable) (e : ℕ) (s w : List ℕ) (I : Indexed b e s w) where
   tags-held id (DeclTag a n t k) f x m = absurd (List·Memᴰ·not-nil m)
   tags-held id (TypeTag a n t) f x m = absurd (List·Memᴰ·not-nil m)
 
-  idents-held : (id : ℕ) (t : BtfType) → TypeFits (Fits b s w) (FitsValue b s w) id t → (x : Name) → List·Memᴰ x (identsIn t) → Held identSpace x
+  idents-held : (id : ℕ) (t : BtfType) → TypeFits (NameFits b s w) (FitsValue b s w) id t → (x : Name) → List·Memᴰ x (identsIn t) → Held identSpace x
   idents-held id Void f x m = absurd (List·Memᴰ·not-nil m)
   idents-held id (Int n c) f x m = absurd (List·Memᴰ·not-nil m)
   idents-held id (Ptr t) f x m = absurd (List·Memᴰ·not-nil m)
@@ -123,7 +123,7 @@ module _ (b : TypeTable) (s : List ℕ) (t : Record) (space : Space) where
   ident x e q z = subst (λ (y : Space). List·Memᴰ (recordName b s t) (namesIn y (typeOf b s t))) (sym (number-ident space q)) (subst (λ (y : BtfType). List·Memᴰ (recordName b s t) (identsIn y)) (sym e) (subst (λ (l : List Name). List·Memᴰ (recordName b s t) l) (sym z) (List·Memᴰ·head refl)))
 
   own-name : spaceOf (kindOf (t .info)) ≡ number space → In
-  unfolding spaceOf among
+  unfolding spaceOf isIdAmong
   own-name q =
       by-kind (λ k. k ≡ kindOf (t .info) → spaceOf k ≡ number space → In)
       (λ e h. absurd (number-no space h))

@@ -8,7 +8,7 @@ use Rattle.spec_c_dumper.specs.rules.Types.{Btf, tableOf}
 use Rattle.spec_c_dumper.specs.rules.Names.{Naming, naming}
 use Rattle.spec_c_dumper.specs.needs.Needs.{WF}
 use Rattle.spec_c_dumper.specs.needs.Lists.{Lines, Ls}
-use Rattle.spec_c_dumper.specs.needs.Session.{Known, linesBy, answerOf, dumped, noNames, dumpTypes}
+use Rattle.spec_c_dumper.specs.needs.Session.{Known, linesBy, answerTo, dumped, noNames, dumpTypes}
 use Rattle.spec_c_dumper.proofs.needs.AnyNames.{dumps-alike}
 use Rattle.spec_c_dumper.specs.names_apart.Apart.{Apart, apart, noneShown, dumpApart}
 use Rattle.proof_names_apart.specs.none_passed.Watched.{Watched, watched, linesWatched, answerWatched, dumpedWatched, NeverOver, noneWatched, openedWatched, dumpWatched, PassesNone}
@@ -17,8 +17,8 @@ use Rattle.proof_names_apart.proofs.none_passed.Stops.{AnswerUp, single
 use Rattle.proof_names_apart.proofs.none_passed.Lines.{AnyName, AnyValue, any-fits, counting, lines-same, watched-names, Rel, counting-names, lines-up}
 
 module _ (N : Naming Watched) (B : Btf) where
-  answer-up : (S : Sess (Ls (Known Watched))) (r : Req) → AnswerUp (Known Watched) 23 (answerWatched (linesWatched N B) (tableOf B) S r) (answerOf N B S r)
-  unfolding answerWatched answerOf
+  answer-up : (S : Sess (Ls (Known Watched))) (r : Req) → AnswerUp (Known Watched) 23 (answerWatched (linesWatched N B) (tableOf B) S r) (answerTo N B S r)
+  unfolding answerWatched answerTo
   answer-up S (one room x) = single-up (Known Watched) 23 (linesWatched N B) (linesBy N B) (tableOf B) (lines-up N B) room S x
   answer-up S (all room) = every-up (Known Watched) 23 (linesWatched N B) (linesBy N B) (tableOf B) (lines-up N B) room S (S .isOpen)
 

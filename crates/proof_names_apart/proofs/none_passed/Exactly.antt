@@ -10,7 +10,7 @@ use lib.Dec.{eqb}
 use Rattle.spec_bytes.specs.words.Words.{oneMore}
 use Rattle.spec_c_dumper.specs.rules.Types.{Name, Btf}
 use Rattle.spec_c_dumper.specs.rules.Names.{Space, spelled, holders}
-use Rattle.spec_c_dumper.specs.names_apart.Apart.{Apart, among, taken, passing, numberFor}
+use Rattle.spec_c_dumper.specs.names_apart.Apart.{Apart, isNameAmong, taken, passing, numberFor}
 use Rattle.proof_names_apart.proofs.names_apart.Laws.{more-is}
 use Rattle.proof_names_apart.proofs.names_apart.Fair.{more-least}
 use Rattle.proof_names_apart.specs.none_passed.Watched.{passesOver}
@@ -32,8 +32,8 @@ unfolding passing
 moves t most n e l = subst (λ (b : Bool). n < elim b as (λ z. ℕ) [ true ↦ passing t most (oneMore n) | false ↦ n ]) (sym e) (omega (arith, rises t most (oneMore n), more-is n l))
 
 -- what is among a list is not among none
-some : (x : Name) (l : List Name) (t : ℕ → Bool) (n : ℕ) → among x l ≡ true → t n ≡ true → n < 4294967295 → n < passing t (length l) n
-unfolding among
+some : (x : Name) (l : List Name) (t : ℕ → Bool) (n : ℕ) → isNameAmong x l ≡ true → t n ≡ true → n < 4294967295 → n < passing t (length l) n
+unfolding isNameAmong
 some x [] t n e f l = absurd (true≢false (sym e))
 some x (y ∷ k) t n e f l = moves t (length k) n f l
 
@@ -42,7 +42,7 @@ module _ (B : Btf) (space : Space) (name : Name) (u : Apart) where
   h = holders (u .names .ledger) space name
 
   abbrev t : ℕ → Bool
-  t n = among (spelled name n) (taken B space u)
+  t n = isNameAmong (spelled name n) (taken B space u)
 
   passed-other : h < 4294967294 → passesOver B space name u ≡ true → numberFor B space name u ≡ oneMore h → ⊥
   unfolding passesOver numberFor

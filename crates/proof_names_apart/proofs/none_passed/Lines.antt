@@ -12,13 +12,13 @@ use Rattle.spec_bytes.specs.words.Words.{oneMore}
 use Rattle.spec_bytes.specs.text.Text.{Text, whole, cut, join}
 use Rattle.spec_c_dumper.specs.rules.Writer.{Said, said, saidNames, Writer, after, next, put, stop, _⨾_}
 use Rattle.spec_c_dumper.specs.rules.Types.{Name, Enumerator, BtfType, Void, Int, Ptr, Array, Composite, Enum, Enum64, Fwd, Typedef, Mod, Func, Var, Datasec, FuncProto, Float, DeclTag, TypeTag, Btf}
-use Rattle.spec_c_dumper.specs.rules.Names.{Space, identSpace, Resolved, Naming, Names, spelled, holders, counted, resolving, typeVersion, valueVersion, naming}
+use Rattle.spec_c_dumper.specs.rules.Names.{Space, identSpace, Resolved, Naming, Names, spelled, holders, withOne, resolving, typeVersion, valueVersion, naming}
 use Rattle.spec_c_dumper.specs.rules.Emit.{definition, forward}
 use Rattle.spec_c_dumper.proofs.rules.Closed.{ValuesFit, TypeFits, Closed, r-definition, r-forward}
 use Rattle.spec_c_dumper.proofs.rules.Related.{RelResolved, RelNaming}
 use Rattle.spec_c_dumper.specs.needs.Lists.{Line, cannot}
 use Rattle.spec_c_dumper.specs.needs.Session.{Known, lineOf, linesBy}
-use Rattle.spec_c_dumper.specs.names_apart.Apart.{ofType, ofValue, Apart, among, taken, numberFor, shown, typeApart, valueApart, apart}
+use Rattle.spec_c_dumper.specs.names_apart.Apart.{ofType, ofValue, Apart, isNameAmong, taken, numberFor, shown, typeApart, valueApart, apart}
 use Rattle.proof_names_apart.proofs.names_apart.Alike.{not-passed, more-first}
 use Rattle.proof_names_apart.specs.none_passed.Watched.{passesOver, Watched, typeWatched, valueWatched, watched, passedOver, lineWatched, linesWatched}
 use Rattle.proof_names_apart.proofs.none_passed.Stops.{LineUp, LinesUp}
@@ -134,7 +134,7 @@ unfolding passesOver numberFor
 passes-none B space name u = go (eqb (holders (u .names .ledger) space name) 0) refl
   where
     go : (t : Bool) → eqb (holders (u .names .ledger) space name) 0 ≡ t
-        → elim t as (λ z. Bool) [ true ↦ false | false ↦ among (spelled name (oneMore (holders (u .names .ledger) space name))) (taken B space u) ] ≡ false
+        → elim t as (λ z. Bool) [ true ↦ false | false ↦ isNameAmong (spelled name (oneMore (holders (u .names .ledger) space name))) (taken B space u) ] ≡ false
         → numberFor B space name u ≡ oneMore (holders (u .names .ledger) space name)
     go true q e = rw (q, numberFor) (sym (ap oneMore (eqb-true (holders (u .names .ledger) space name) 0 q) ∙ more-first))
     go false q e = not-passed B space name u e
@@ -151,7 +151,7 @@ module _ (B : Btf) where
   newType space id name w n = record {
     version = n;
     names = record {
-      names = record { names = record { versions = set (w .names .names .versions) id n; ledger = counted (w .names .names .ledger) space name }; printed = shown space (ofType id) name n (w .names) };
+      names = record { names = record { versions = set (w .names .names .versions) id n; ledger = withOne (w .names .names .ledger) space name }; printed = shown space (ofType id) name n (w .names) };
       over = passed space name w;
     };
   }
@@ -166,7 +166,7 @@ module _ (B : Btf) where
   newValue id i name w n = record {
     version = n;
     names = record {
-      names = record { names = record { versions = w .names .names .versions; ledger = counted (w .names .names .ledger) identSpace name }; printed = shown identSpace (ofValue id i) name n (w .names) };
+      names = record { names = record { versions = w .names .names .versions; ledger = withOne (w .names .names .ledger) identSpace name }; printed = shown identSpace (ofValue id i) name n (w .names) };
       over = passed identSpace name w;
     };
   }
@@ -280,7 +280,7 @@ module _ (B : Btf) where
     where
       go : (t : Bool) → RelResolved Rel (by space id name w t (c space name w)) (elim t as (λ z. Resolved Names) [
         | false ↦ record { version = getD (w .names .names .versions) id 0; names = w .names .names }
-        | true ↦ record { version = c space name w; names = record { versions = set (w .names .names .versions) id (c space name w); ledger = counted (w .names .names .ledger) space name } }
+        | true ↦ record { version = c space name w; names = record { versions = set (w .names .names .versions) id (c space name w); ledger = withOne (w .names .names .ledger) space name } }
       ])
       go true = (refl, refl)
       go false = (refl, refl)

@@ -14,13 +14,13 @@ use Rattle.spec_bytes.specs.words.Words.{oneMore}
 use Rattle.spec_bytes.proofs.words.Laws.{le-or-lt}
 use Rattle.spec_c_dumper.specs.rules.Machine.{Req}
 use Rattle.spec_c_dumper.specs.rules.Types.{Name, Btf, nameOf, tableOf}
-use Rattle.spec_c_dumper.specs.rules.Names.{Space, identSpace, Resolved, Names, Holder, spelled, holders, counted}
+use Rattle.spec_c_dumper.specs.rules.Names.{Space, identSpace, Resolved, Names, Holder, spelled, holders, withOne}
 use Rattle.spec_c_dumper.proofs.rules.Related.{RelResolved, RelNaming}
 use Rattle.spec_c_dumper.specs.needs.Needs.{WF}
 use Rattle.spec_c_dumper.specs.needs.Session.{noNames}
 use Rattle.spec_c_dumper.proofs.needs.AnyNames.{dumps-alike}
 use Rattle.proof_demands.proofs.name_counts.Holders.{count-here, count-there}
-use Rattle.spec_c_dumper.specs.names_apart.Apart.{tableNames, Who, ofType, ofValue, Shown, Apart, spellingsIn, among, taken, passing, numberFor, shown, typeApart, valueApart, apart, noneShown, dumpApart, Ends}
+use Rattle.spec_c_dumper.specs.names_apart.Apart.{tableNames, Who, ofType, ofValue, Shown, Apart, spellingsIn, isNameAmong, taken, passing, numberFor, shown, typeApart, valueApart, apart, noneShown, dumpApart, Ends}
 use Rattle.proof_names_apart.proofs.names_apart.Laws.{mem-among, spelling-in, spelled-first, more-is}
 use Rattle.proof_names_apart.proofs.names_apart.Splits.{splits-once}
 use Rattle.proof_names_apart.proofs.names_apart.Fair.{more-some, more-most, same-or-not, grows, spaceOf, entry, own}
@@ -63,7 +63,7 @@ module _ (B : Btf) (T : Lists) (right : Right B T) where
       first : j ≡ 1 → List·Memᴰ (nth space name j) (tableNames B space)
       first e = subst (λ (x : Name). List·Memᴰ x (tableNames B space)) (sym (ap (nth space name) e ∙ ap (spelled name) (first-is (T space name) (right .suffixes space name m)) ∙ spelled-first name)) m
 
-  reached-more : (l : List Holder) (space : Space) (name : Name) (a : Shown) → Reached l a → Reached (counted l space name) a
+  reached-more : (l : List Holder) (space : Space) (name : Name) (a : Shown) → Reached l a → Reached (withOne l space name) a
   reached-more l space name a (inl m) = inl m
   reached-more l space name a (inr r) = inr (r .0, r .1, r .2, r .3, r .4, omega (arith, r .5, grows l space name (a .space) (r .0)))
 
@@ -75,7 +75,7 @@ module _ (B : Btf) (T : Lists) (right : Right B T) where
     k = oneMore c
 
     abbrev t : ℕ → Bool
-    t n = among (spelled name n) (taken B space u)
+    t n = isNameAmong (spelled name n) (taken B space u)
 
     k-limit : oneMore c ≤ 4294967295
     k-limit = more-limit c (h .limits space name)
@@ -134,10 +134,10 @@ module _ (B : Btf) (T : Lists) (right : Right B T) where
       abbrev one : Shown
       one = entry space who name (numberOver (T space name) (oneMore c))
 
-      new-reached : (who′ : Who) → Reached (counted (u .names .ledger) space name) (entry space who′ name (numberOver (T space name) (oneMore c)))
-      new-reached who′ = entry-reached (counted (u .names .ledger) space name) space who′ name (oneMore c) isName (more-some c) k-limit (omega (arith, count-here space name (u .names .ledger)))
+      new-reached : (who′ : Who) → Reached (withOne (u .names .ledger) space name) (entry space who′ name (numberOver (T space name) (oneMore c)))
+      new-reached who′ = entry-reached (withOne (u .names .ledger) space name) space who′ name (oneMore c) isName (more-some c) k-limit (omega (arith, count-here space name (u .names .ledger)))
 
-      every-then : (space′ : Space) (name′ : Name) → List·Memᴰ name′ (tableNames B space′) → (j : ℕ) → 2 ≤ j → j ≤ holders (counted (u .names .ledger) space name) space′ name′
+      every-then : (space′ : Space) (name′ : Name) → List·Memᴰ name′ (tableNames B space′) → (j : ℕ) → 2 ≤ j → j ≤ holders (withOne (u .names .ledger) space name) space′ name′
           → List·Memᴰ (nth space′ name′ j) (spellingsIn space′ (one ∷ u .printed))
       every-then space′ name′ m j two l = go (same-or-not space space′ name name′)
         where
@@ -152,26 +152,26 @@ module _ (B : Btf) (T : Lists) (right : Right B T) where
 
           go : ((space ≡ space′) × (name ≡ name′)) ⊎ (space ≡ space′ → name ≡ name′ → ⊥) → List·Memᴰ (nth space′ name′ j) (spellingsIn space′ (one ∷ u .printed))
           go (inl e) =
-              let z : holders (counted (u .names .ledger) space name) space′ name′ ≡ oneMore c = ap₂ (holders (counted (u .names .ledger) space name)) (sym (e .0)) (sym (e .1)) ∙ count-here space name (u .names .ledger) in
+              let z : holders (withOne (u .names .ledger) space name) space′ name′ ≡ oneMore c = ap₂ (holders (withOne (u .names .ledger) space name)) (sym (e .0)) (sym (e .1)) ∙ count-here space name (u .names .ledger) in
               let y : holders (u .names .ledger) space′ name′ ≡ c = ap₂ (holders (u .names .ledger)) (sym (e .0)) (sym (e .1)) in
               ⊎-elim (λ x. old (omega (arith, y))) (λ x. new (e .0) (e .1) (omega (arith, z, more-most c))) (le-or-lt j c)
           go (inr n) = old (omega (arith, count-there space name space′ name′ n (u .names .ledger)))
 
-      pub usual-then : Usual (record { names = record { versions = versions; ledger = counted (u .names .ledger) space name }; printed = one ∷ u .printed })
+      pub usual-then : Usual (record { names = record { versions = versions; ledger = withOne (u .names .ledger) space name }; printed = one ∷ u .printed })
       usual-then = record {
         reached = λ a m. ⊎-elim
-            (λ e. subst (Reached (counted (u .names .ledger) space name)) (sym e) (new-reached who))
+            (λ e. subst (Reached (withOne (u .names .ledger) space name)) (sym e) (new-reached who))
             (λ x. reached-more (u .names .ledger) space name a (h .reached a x))
             (List·Memᴰ·cases-cons m);
         every = every-then;
         limits = λ space′ name′. ⊎-elim
-            (λ e. let z : holders (counted (u .names .ledger) space name) space′ name′ ≡ oneMore c = ap₂ (holders (counted (u .names .ledger) space name)) (sym (e .0)) (sym (e .1)) ∙ count-here space name (u .names .ledger) in omega (arith, z, k-limit))
+            (λ e. let z : holders (withOne (u .names .ledger) space name) space′ name′ ≡ oneMore c = ap₂ (holders (withOne (u .names .ledger) space name)) (sym (e .0)) (sym (e .1)) ∙ count-here space name (u .names .ledger) in omega (arith, z, k-limit))
             (λ x. omega (arith, h .limits space′ name′, count-there space name space′ name′ x (u .names .ledger)))
             (same-or-not space space′ name name′);
         kept = λ id n. ⊎-elim
-            (λ e. subst (λ (x : ℕ). Reached (counted (u .names .ledger) space name) (own B id x)) (sym e)
+            (λ e. subst (λ (x : ℕ). Reached (withOne (u .names .ledger) space name) (own B id x)) (sym e)
             (reached-more (u .names .ledger) space name (own B id (getD (u .names .versions) id 0)) (h .kept id (λ z. n (e ∙ z)))))
-            (λ e. subst (Reached (counted (u .names .ledger) space name))
+            (λ e. subst (Reached (withOne (u .names .ledger) space name))
             (sym (ap (own B id) (e .2) ∙ ap₂ (λ (x : Space) (y : Name). entry x (ofType id) y (numberOver (T space name) (oneMore c))) (e .0) (e .1)))
             (new-reached (ofType id)))
             (holds id);
@@ -192,7 +192,7 @@ module _ (B : Btf) (T : Lists) (right : Right B T) where
       | true ↦ record {
         version = numberFor B space name u;
         names = record {
-          names = record { versions = set (u .names .versions) id (numberFor B space name u); ledger = counted (u .names .ledger) space name };
+          names = record { versions = set (u .names .versions) id (numberFor B space name u); ledger = withOne (u .names .ledger) space name };
           printed = shown space (ofType id) name (numberFor B space name u) u;
         };
       }
@@ -203,7 +203,7 @@ module _ (B : Btf) (T : Lists) (right : Right B T) where
       | false ↦ record { version = getD (u .names .versions) id 0; names = u .names }
       | true ↦ record {
         version = nextNumber T space name (u .names);
-        names = record { versions = set (u .names .versions) id (nextNumber T space name (u .names)); ledger = counted (u .names .ledger) space name };
+        names = record { versions = set (u .names .versions) id (nextNumber T space name (u .names)); ledger = withOne (u .names .ledger) space name };
       }
     ]
 
@@ -212,7 +212,7 @@ module _ (B : Btf) (T : Lists) (right : Right B T) where
 
     abbrev then : ℕ → Apart
     then x = record {
-      names = record { versions = set (u .names .versions) id x; ledger = counted (u .names .ledger) space name };
+      names = record { versions = set (u .names .versions) id x; ledger = withOne (u .names .ledger) space name };
       printed = shown space (ofType id) name x u;
     }
 
@@ -223,7 +223,7 @@ module _ (B : Btf) (T : Lists) (right : Right B T) where
     by-like true q = (
       usual-number space name (f .2) u h,
       (
-        ap {B = Names} (λ (x : ℕ). record { versions = set (u .names .versions) id x; ledger = counted (u .names .ledger) space name }) (usual-number space name (f .2) u h),
+        ap {B = Names} (λ (x : ℕ). record { versions = set (u .names .versions) id x; ledger = withOne (u .names .ledger) space name }) (usual-number space name (f .2) u h),
         subst Usual (ap then (sym (usual-number space name (f .2) u h))) (usual-then space name (f .2) u h (ofType id) (set (u .names .versions) id n)
             (λ x. ⊎-elim (λ e. inl e) (λ e. inr (ap (λ (k : ℕ). spaceOf (B .type-by-id k)) (e .0) ∙ sym (f .0), ap (λ (k : ℕ). nameOf (B .type-by-id k)) (e .0) ∙ sym (f .1), e .1)) (set-one (u .names .versions) id n x))),
       ),
@@ -256,7 +256,7 @@ module _ (B : Btf) (T : Lists) (right : Right B T) where
     where
       then : ℕ → Apart
       then x = record {
-        names = record { versions = u .names .versions; ledger = counted (u .names .ledger) identSpace name };
+        names = record { versions = u .names .versions; ledger = withOne (u .names .ledger) identSpace name };
         printed = shown identSpace (ofValue id i) name x u;
       }
 

@@ -12,7 +12,7 @@ use Rattle.spec_bytes.specs.words.Words.{oneMore}
 use Rattle.spec_bytes.proofs.words.Laws.{le-or-lt}
 use Rattle.spec_c_dumper.specs.rules.Types.{Name}
 use Rattle.spec_c_dumper.specs.rules.Names.{spelled}
-use Rattle.spec_c_dumper.specs.names_apart.Apart.{among, passing}
+use Rattle.spec_c_dumper.specs.names_apart.Apart.{isNameAmong, passing}
 use Rattle.proof_names_apart.proofs.names_apart.Laws.{bytes-other, cut-out, suffix-one, more-is}
 use Rattle.proof_names_apart.proofs.names_apart.Fair.{more-most, more-least}
 use Rattle.proof_names_apart.proofs.names_apart.Alike.{more-stuck}
@@ -55,14 +55,14 @@ module _ (t : ℕ → Bool) where
 
 -- it ends after at most as many steps as there are names taken: l, of which t tells
 pub stops : (name : Name) (most : ℕ) (t : ℕ → Bool) (l : List Name) → length l ≤ most → (n : ℕ) → 2 ≤ n → n ≤ 4294967295
-    → ((m : ℕ) → n ≤ m → m ≤ 4294967295 → t m ≡ among (spelled name m) l) → (t (passing t most n) ≡ false) ⊎ (4294967295 ≤ passing t most n)
-unfolding passing among
+    → ((m : ℕ) → n ≤ m → m ≤ 4294967295 → t m ≡ isNameAmong (spelled name m) l) → (t (passing t most n) ≡ false) ⊎ (4294967295 ≤ passing t most n)
+unfolding passing isNameAmong
 stops name zero t [] h n k b f = inl (f n (omega arith) b)
 stops name zero t (x ∷ l) h n k b f = absurd (omega arith)
 stops name (suc most) t l h n k b f = ⊎-elim (λ q. inr (omega (arith, from t (suc most) n))) (λ q. go (t n) refl (λ c e g. stops name most t c e (n + 1) (omega arith) (omega arith) g) q) (le-or-lt 4294967295 n)
   where
     go : (b′ : Bool) → t n ≡ b′
-        → ((c : List Name) → length c ≤ most → ((m : ℕ) → n + 1 ≤ m → m ≤ 4294967295 → t m ≡ among (spelled name m) c) → (t (passing t most (n + 1)) ≡ false) ⊎ (4294967295 ≤ passing t most (n + 1)))
+        → ((c : List Name) → length c ≤ most → ((m : ℕ) → n + 1 ≤ m → m ≤ 4294967295 → t m ≡ isNameAmong (spelled name m) c) → (t (passing t most (n + 1)) ≡ false) ⊎ (4294967295 ≤ passing t most (n + 1)))
         → n < 4294967295
         → (t (elim b′ as (λ w. ℕ) [ true ↦ passing t most (oneMore n) | false ↦ n ]) ≡ false) ⊎ (4294967295 ≤ elim b′ as (λ w. ℕ) [ true ↦ passing t most (oneMore n) | false ↦ n ])
     go true e r q =

@@ -16,7 +16,7 @@ use Rattle.spec_opening.specs.Causes.{openingNumber}
 use Rattle.spec_session.specs.session.Turns.{Call}
 use Rattle.spec_session.specs.calls.Calls.{typeCall, typesCall}
 use Rattle.spec_c_dumper.specs.needs.Lists.{Ls}
-use Rattle.spec_c_dumper.specs.needs.Session.{Known, Dump, dump, textOf, machineBy, openedBy, answerOf, dumped, noNames, dumpTypes}
+use Rattle.spec_c_dumper.specs.needs.Session.{Known, Dump, dump, textOf, machineBy, openedBy, answerTo, dumped, noNames, dumpTypes}
 use Rattle.proof_demands.specs.name_counts.Passed.{Lists, passed}
 use Rattle.proof_demands.specs.name_counts.Indexed.{listsIn}
 use Rattle.proof_demands.specs.demands.Table.{headerOf, openedTable, namesIn, machineIn, openedIn}
@@ -60,8 +60,8 @@ module _ {U : Type 0} (N : Naming U) (B : Btf) where
   abbrev pub served : List Req → Sess (Ls (Known U)) → Sess (Ls (Known U))
   served rs S = run (machineBy N B) (tableOf B) rs S
 
-  answers : (S : Sess (Ls (Known U))) (r : Req) → answerOf N B S r .sess ≡ serve (machineBy N B) (tableOf B) S r
-  unfolding answerOf serve
+  answers : (S : Sess (Ls (Known U))) (r : Req) → answerTo N B S r .sess ≡ serve (machineBy N B) (tableOf B) S r
+  unfolding answerTo serve
   answers S (one room x) = refl
   answers S (all room) = refl
 
@@ -69,23 +69,23 @@ module _ {U : Type 0} (N : Naming U) (B : Btf) where
   unfolding dumped run textIn
   dump-text [] ns S = refl
   dump-text (r ∷ rs) ns S =
-      dump-text rs (ns ++ ((answerOf N B S r .number, answerOf N B S r .sess .mach .known .text-len) ∷ [])) (answerOf N B S r .sess)
+      dump-text rs (ns ++ ((answerTo N B S r .number, answerTo N B S r .sess .mach .known .text-len) ∷ [])) (answerTo N B S r .sess)
       ∙ ap (λ (x : Sess (Ls (Known U))). textOf (served rs x .mach .pieces)) (answers S r)
 
   -- the last request
-  pub last-text : (r : Req) (rs : List Req) (ns : List (ℕ × ℕ)) (S : Sess (Ls (Known U))) → textIn (dumped N B ns (rs ++ (r ∷ [])) S) ≡ textOf (answerOf N B (served rs S) r .sess .mach .pieces)
+  pub last-text : (r : Req) (rs : List Req) (ns : List (ℕ × ℕ)) (S : Sess (Ls (Known U))) → textIn (dumped N B ns (rs ++ (r ∷ [])) S) ≡ textOf (answerTo N B (served rs S) r .sess .mach .pieces)
   unfolding dumped run textIn
   last-text r [] ns S = refl
   last-text r (q ∷ rs) ns S =
-      last-text r rs (ns ++ ((answerOf N B S q .number, answerOf N B S q .sess .mach .known .text-len) ∷ [])) (answerOf N B S q .sess)
-      ∙ ap (λ (x : Sess (Ls (Known U))). textOf (answerOf N B (served rs x) r .sess .mach .pieces)) (answers S q)
+      last-text r rs (ns ++ ((answerTo N B S q .number, answerTo N B S q .sess .mach .known .text-len) ∷ [])) (answerTo N B S q .sess)
+      ∙ ap (λ (x : Sess (Ls (Known U))). textOf (answerTo N B (served rs x) r .sess .mach .pieces)) (answers S q)
 
-  pub last-number : (r : Req) (rs : List Req) (ns : List (ℕ × ℕ)) (S : Sess (Ls (Known U))) → lastIn (dumped N B ns (rs ++ (r ∷ [])) S) ≡ answerOf N B (served rs S) r .number
+  pub last-number : (r : Req) (rs : List Req) (ns : List (ℕ × ℕ)) (S : Sess (Ls (Known U))) → lastIn (dumped N B ns (rs ++ (r ∷ [])) S) ≡ answerTo N B (served rs S) r .number
   unfolding dumped run lastIn
-  last-number r [] ns S = last-more 0 ns (answerOf N B S r .number, answerOf N B S r .sess .mach .known .text-len)
+  last-number r [] ns S = last-more 0 ns (answerTo N B S r .number, answerTo N B S r .sess .mach .known .text-len)
   last-number r (q ∷ rs) ns S =
-      last-number r rs (ns ++ ((answerOf N B S q .number, answerOf N B S q .sess .mach .known .text-len) ∷ [])) (answerOf N B S q .sess)
-      ∙ ap (λ (x : Sess (Ls (Known U))). answerOf N B (served rs x) r .number) (answers S q)
+      last-number r rs (ns ++ ((answerTo N B S q .number, answerTo N B S q .sess .mach .known .text-len) ∷ [])) (answerTo N B S q .sess)
+      ∙ ap (λ (x : Sess (Ls (Known U))). answerTo N B (served rs x) r .number) (answers S q)
 
 -- what a session's requests come to, with its names
 abbrev dumpIn : ℕ → ℕ → List ℕ → ℕ → List Req → Dump
@@ -125,10 +125,10 @@ module _ (p modes old : ℕ) (s : List ℕ) (n : ℕ) (o : OnlyNames p modes old
   -- the last request of each, and what the calls say of it
   module _ (rs : List Req) (r : Req) (h : NonePassed p modes old s n (rs ++ (r ∷ []))) where
     abbrev new : Answer (Ls (Known Names))
-    new = answerOf (namesIn p modes s n) B (ruled p modes s n rs) r
+    new = answerTo (namesIn p modes s n) B (ruled p modes s n rs) r
 
     abbrev plain : Answer (Ls (Known Names))
-    plain = answerOf (namesIn p old s n) (openedTable p old s n) (ruled p old s n rs) r
+    plain = answerTo (namesIn p old s n) (openedTable p old s n) (ruled p old s n rs) r
 
     same-number : new .number ≡ plain .number
     same-number =
@@ -163,20 +163,20 @@ module _ (p modes old : ℕ) (s : List ℕ) (n : ℕ) (o : OnlyNames p modes old
         ∙ dump-text (namesIn p old s n) (openedTable p old s n) rs [] (openedIn p old s n)
 
     pub next-one : (t u : List ℕ) → Lent c t → Lent d u → length t ≡ length u → (id : ℕ) → NonePassed p modes old s n (rs ++ (one (length t) id ∷ [])) → SameAnswer (typeCall (c .session) s (c .work) t id) (typeCall (d .session) s (d .work) u id)
-    unfolding answerOf
+    unfolding answerTo
     next-one t u l m e id h =
         same-answer rs (one (length t) id) h (length t) (length u) _ _ (x .next-type t l id)
         (subst (λ (k : ℕ). Tells (length u) (typeCall (d .session) s (d .work) u id) (single (machineIn p old s n) (typesIn p old s n) k (ruled p old s n rs) id)) (sym e) (y .next-type u m id))
 
     pub next-all : (t u : List ℕ) → Lent c t → Lent d u → length t ≡ length u → NonePassed p modes old s n (rs ++ (all (length t) ∷ [])) → SameAnswer (typesCall (c .session) s (c .work) t) (typesCall (d .session) s (d .work) u)
-    unfolding answerOf
+    unfolding answerTo
     next-all t u l m e h =
         same-answer rs (all (length t)) h (length t) (length u) _ _ (x .next-types t l)
         (subst (λ (k : ℕ). Tells (length u) (typesCall (d .session) s (d .work) u) (every (machineIn p old s n) (typesIn p old s n) k (ruled p old s n rs) (ruled p old s n rs .isOpen))) (sym e) (y .next-types u m))
 
     -- an id that is not below the count tells it
     pub same-open : NonePassed p modes old s n rs → c .session .«open» ≡ d .session .«open»
-    unfolding answerOf
+    unfolding answerTo
     same-open h =
         let k : B .type-cnt ≡ openedTable p old s n .type-cnt = ap (λ (K : Btf). K .type-cnt) (tables-same p modes old s n ok (o .same-modes)) in
         x .is-open

@@ -15,7 +15,7 @@ use Rattle.spec_session.specs.declared.session.Answer.the-variants.{Refused}
 use Rattle.spec_session.specs.session.Answers.{numberOf, valueOf, answerOf}
 use Rattle.spec_session.specs.session.Turns.{Call, callOf, isCurrent, unchanged}
 use Rattle.spec_session.specs.calls.Calls.{typeCall}
-use Rattle.spec_session.specs.calls.Lists.{counted, listFrom}
+use Rattle.spec_session.specs.calls.Lists.{thenNext, listFrom}
 use Rattle.spec_session.proofs.calls.Claims.{number-is, value-is, type-current, type-not-below, type-not-current, closed-stays}
 use Rattle.spec_session.proofs.calls.Lists.{counted-goes, counted-stops, type-single, list-counts}
 use Rattle.proof_demands.specs.demands.Session.{singlesFor, made, After, after-one}
@@ -69,10 +69,10 @@ module _ (p modes old : ℕ) (s : List ℕ) (n : ℕ) (o : OnlyNames p modes old
     d-value : valueOf (d₁ .answer) ≡ d₁ .session .«text_len»
     d-value = type-single (d .session) s (d .work) u x .value-same
 
-    stops-both : (j : ℕ) → numberOf (c₁ .answer) ≡ suc j → SameAnswer c₁ d₁ → SameList (counted k c₁ rest) (counted k d₁ rest)
+    stops-both : (j : ℕ) → numberOf (c₁ .answer) ≡ suc j → SameAnswer c₁ d₁ → SameList (thenNext k c₁ rest) (thenNext k d₁ rest)
     unfolding callOf
     stops-both j q same =
-        subst (λ (y : Call). SameList y (counted k d₁ rest)) (sym (counted-stops k (suc j) c₁ rest q (λ z. absurd (omega arith))))
+        subst (λ (y : Call). SameList y (thenNext k d₁ rest)) (sym (counted-stops k (suc j) c₁ rest q (λ z. absurd (omega arith))))
         (subst (λ (y : Call). SameList (callOf (c₁ .session) (answerOf (suc j) k) (c₁ .work) (c₁ .text)) y) (sym (counted-stops k (suc j) d₁ rest (sym (same .number) ∙ q) (λ z. absurd (omega arith))))
         (record {
           number = refl;
@@ -82,7 +82,7 @@ module _ (p modes old : ℕ) (s : List ℕ) (n : ℕ) (o : OnlyNames p modes old
         }))
 
     -- both are closed
-    closed-both : None rs → c .session .«open» ≡ false → SameList (counted k c₁ rest) (counted k d₁ rest)
+    closed-both : None rs → c .session .«open» ≡ false → SameList (thenNext k c₁ rest) (thenNext k d₁ rest)
     unfolding numberOf valueOf
     closed-both h off =
         let ec : c₁ ≡ unchanged (c .session) (Refused 11 (c .session .«text_len»)) (c .work) t = type-not-current (c .session) s (c .work) t x (closed-stays (c .session) s (c .work) t off) in
@@ -109,31 +109,31 @@ module _ (p modes old : ℕ) (s : List ℕ) (n : ℕ) (o : OnlyNames p modes old
     abbrev Goes : Type 0
     Goes = None (asked ++ singlesFor (length (c₁ .text)) (made (suc k) (rest c₁)) ids) → SameList (rest c₁) (rest d₁)
 
-    open-both : c .session .«open» ≡ true → Goes → None (rs ++ singlesFor (length t) (made k (counted k c₁ rest)) (x ∷ ids)) → SameList (counted k c₁ rest) (counted k d₁ rest)
+    open-both : c .session .«open» ≡ true → Goes → None (rs ++ singlesFor (length t) (made k (thenNext k c₁ rest)) (x ∷ ids)) → SameList (thenNext k c₁ rest) (thenNext k d₁ rest)
     open-both on goes h = by (numberOf (c₁ .answer)) refl
       where
-        by : (j : ℕ) → numberOf (c₁ .answer) ≡ j → SameList (counted k c₁ rest) (counted k d₁ rest)
+        by : (j : ℕ) → numberOf (c₁ .answer) ≡ j → SameList (thenNext k c₁ rest) (thenNext k d₁ rest)
         by zero q =
-            let more : made k (counted k c₁ rest) ≡ suc (made (suc k) (rest c₁)) =
+            let more : made k (thenNext k c₁ rest) ≡ suc (made (suc k) (rest c₁)) =
             ap (made k) (counted-goes k c₁ rest q) ∙ made-more p modes s n ok k (rest c₁) (list-counts s (suc k) (c₁ .session) (c₁ .work) (c₁ .text) ids .at-least) in
             let h′ : None (rs ++ singlesFor (length t) (suc (made (suc k) (rest c₁))) (x ∷ ids)) = subst (λ (j : ℕ). None (rs ++ singlesFor (length t) j (x ∷ ids))) more h in
             let same = first-same (made (suc k) (rest c₁)) h′ in
             let on-c : None (asked ++ singlesFor (length (c₁ .text)) (made (suc k) (rest c₁)) ids) =
             subst (λ (room : ℕ). None (asked ++ singlesFor room (made (suc k) (rest c₁)) ids)) (sym (type-single (c .session) s (c .work) t x .long)) (one-more (made (suc k) (rest c₁)) h′) in
-            subst (λ (y : Call). SameList y (counted k d₁ rest)) (sym (counted-goes k c₁ rest q))
+            subst (λ (y : Call). SameList y (thenNext k d₁ rest)) (sym (counted-goes k c₁ rest q))
             (subst (SameList (rest c₁)) (sym (counted-goes k d₁ rest (sym (same .number) ∙ q))) (goes on-c))
         by (suc j) q =
-            let once : made k (counted k c₁ rest) ≡ 1 =
+            let once : made k (thenNext k c₁ rest) ≡ 1 =
             ap (made k) (counted-stops k (suc j) c₁ rest q (λ z. absurd (omega arith)))
             ∙ made-one k (c₁ .session) (c₁ .work) (c₁ .text) (suc j) (λ z. absurd (omega arith)) (λ z. not-11 p modes s n ok c rs a t l on x (q ∙ z)) in
             stops-both j q (first-same 0 (subst (λ (i : ℕ). None (rs ++ singlesFor (length t) i (x ∷ ids))) once h))
 
-    list-step : Goes → None (rs ++ singlesFor (length t) (made k (counted k c₁ rest)) (x ∷ ids)) → SameList (counted k c₁ rest) (counted k d₁ rest)
+    list-step : Goes → None (rs ++ singlesFor (length t) (made k (thenNext k c₁ rest)) (x ∷ ids)) → SameList (thenNext k c₁ rest) (thenNext k d₁ rest)
     list-step goes h = by (c .session .«open») refl
       where
-        by : (q : Bool) → c .session .«open» ≡ q → SameList (counted k c₁ rest) (counted k d₁ rest)
+        by : (q : Bool) → c .session .«open» ≡ q → SameList (thenNext k c₁ rest) (thenNext k d₁ rest)
         by true on = open-both on goes h
-        by false off = closed-both (passes-before _ rs (singlesFor (length t) (made k (counted k c₁ rest)) (x ∷ ids)) h) off
+        by false off = closed-both (passes-before _ rs (singlesFor (length t) (made k (thenNext k c₁ rest)) (x ∷ ids)) h) off
 
   pub list-alike : (ids : List ℕ) (k : ℕ) (c d : Call) (rs : List Req) → After p modes s n c rs → After p old s n d rs → (t u : List ℕ) → Lent c t → Lent d u → length t ≡ length u
       → None (rs ++ singlesFor (length t) (made k (listFrom k (c .session) s (c .work) t ids)) ids) → SameList (listFrom k (c .session) s (c .work) t ids) (listFrom k (d .session) s (d .work) u ids)

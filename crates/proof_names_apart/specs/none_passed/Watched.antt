@@ -16,14 +16,14 @@ use Rattle.spec_c_dumper.specs.rules.Names.{Space, identSpace, Resolved, Naming
 use Rattle.spec_c_dumper.specs.rules.Emit.{definition, forward}
 use Rattle.spec_c_dumper.specs.needs.Lists.{Line, cannot, Lines, Ls, listMachine}
 use Rattle.spec_c_dumper.specs.needs.Session.{Known, lineOf, textOf, Dump, dump, openedBy}
-use Rattle.spec_c_dumper.specs.names_apart.Apart.{Apart, among, taken, typeApart, valueApart, noneShown}
+use Rattle.spec_c_dumper.specs.names_apart.Apart.{Apart, isNameAmong, taken, typeApart, valueApart, noneShown}
 
 -- The first holder is bare and passes none over. A later one looks first at the number after the holders there are: if that one is free it
 -- is taken, and else it is passed over.
 unfoldable pub passesOver : Btf → Space → Name → Apart → Bool
 passesOver B space name u =
     elim (eqb (holders (u .names .ledger) space name)
-    0) [ true ↦ false | false ↦ among (spelled name (oneMore (holders (u .names .ledger) space name))) (taken B space u) ]
+    0) [ true ↦ false | false ↦ isNameAmong (spelled name (oneMore (holders (u .names .ledger) space name))) (taken B space u) ]
 
 -- the names of the mode, and whether a number was passed over on the way
 pub record Watched : Type 0 where

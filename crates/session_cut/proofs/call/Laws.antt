@@ -24,7 +24,7 @@ use Rattle.spec_session.specs.declared.session.Answer.{Answer}
 use Rattle.spec_session.specs.declared.session.Answer.the-variants.{Accepted, Refused}
 use Rattle.spec_session.specs.declared.session.Session.{Session}
 use Rattle.spec_session.specs.session.Answers.{answerOf}
-use Rattle.btf_open_causes.specs.references.Followed.{countOf}
+use Rattle.btf_open_causes.specs.references.Followed.{typeCount}
 use Rattle.session_cut_marks.specs.marks.Marks.{allZero, idsOf}
 use Rattle.session_cut_marks.specs.mentioned.Names.{zeroBases, baseOf, basesTo}
 use Rattle.session_cut.specs.writer.Bytes.{Wrote, wroteOf, typesSize, allBytes, fittingWritten, keptWritten}
@@ -282,10 +282,10 @@ module _ (p : ℕ) (s : List ℕ) where
 
 module _ (b : TypeTable) (s start ids out : List ℕ) where
   abbrev S : ℕ
-  S = baseOf b s start ids (countOf b)
+  S = baseOf b s start ids (typeCount b)
 
   abbrev T : ℕ
-  T = typesSize b s start ids (countOf b)
+  T = typesSize b s start ids (typeCount b)
 
   pub kept-small : (n : ℕ) (o : List ℕ) → wroteOf n o ≡ keptWritten b s start ids out → n ≤ 16777216
   unfolding keptWritten fittingWritten
@@ -302,7 +302,7 @@ module _ (b : TypeTable) (s start ids out : List ℕ) where
                   | true ↦ wroteOf 0 out
                   | false ↦ elim k as (λ z. Wrote) [
                     | true ↦ wroteOf 0 out
-                    | false ↦ wroteOf (24 + T + S) (allBytes b s start ids (basesTo b s start ids zeroBases (countOf b)) T S ++ drop (24 + T + S) out)
+                    | false ↦ wroteOf (24 + T + S) (allBytes b s start ids (basesTo b s start ids zeroBases (typeCount b)) T S ++ drop (24 + T + S) out)
                   ]
                 ]
               ]

@@ -13,14 +13,14 @@ use Rattle.spec_bytes.proofs.words.Laws.{le-or-lt}
 use Rattle.spec_linux_btf.specs.Documentation.{int, ptr, array, struct, union, enum, fwd, typedef, volatile, const, restrict, func, func-proto, var, datasec, float, decl-tag, type-tag, enum64, Described, described}
 use Rattle.spec_linux_btf.specs.Fields.{kindIn}
 use Rattle.spec_type_table.specs.declared.types.TypeTable.{TypeTable}
-use Rattle.btf_open_causes.specs.references.Followed.{countOf, kindAt}
+use Rattle.btf_open_causes.specs.references.Followed.{typeCount, kindAt}
 use Rattle.btf_open_causes.specs.references.Bounds.{kind-out}
 use Rattle.btf_open_causes.proofs.references.Zeros.{zeros-max}
 use Rattle.spec_cut.specs.section.Kept.{voidType, typeOf, Reached, asked, isDeclTag, third, Kept, reached, its-tag}
 use Rattle.spec_cut.specs.section.Renumbered.{keptTo, newId}
 use Rattle.spec_cut.specs.section.Test.{isKept}
 use Rattle.spec_cut.proofs.section.Test.{kept-tells}
-use Rattle.spec_cut.specs.reopened.Seen.{Seen}
+use Rattle.spec_cut.specs.reopened.Seen.{SeenFrom}
 use Rattle.spec_cut.proofs.reopened.Renamed.{tag-kind}
 use Rattle.session_cut_marks.specs.tags.Tags.{tagOn, taggedTo}
 use Rattle.session_cut_marks.specs.marks.Marks.{Heap, heap, marksIn, pushedTo, weight, closed, allZero, asked as first, reachedMarks, idsOf}
@@ -83,7 +83,7 @@ module _ (M N : ℕ → Bool) where
 
 -- b, s, start: a table, its section and its index; ts: its types; given: the given ids in bytes. No id that is reached is past the largest table: so it
 -- is where the given ids are below the count, and no cause 6.
-module _ (b : TypeTable) (s start : List ℕ) (ts : List Described) (see : Seen b s start ts) (given : List ℕ) (low : (x : ℕ) → Reached ts (words given) x → x < 262145) where
+module _ (b : TypeTable) (s start : List ℕ) (ts : List Described) (see : SeenFrom b s start ts) (given : List ℕ) (low : (x : ℕ) → Reached ts (words given) x → x < 262145) where
   abbrev gs : List ℕ
   gs = words given
 
@@ -143,17 +143,17 @@ module _ (b : TypeTable) (s start : List ℕ) (ts : List Described) (see : Seen 
   m = reachedMarks b s start given allZero
 
   abbrev l : List ℕ
-  l = taggedTo b s start m (countOf b)
+  l = taggedTo b s start m (typeCount b)
 
-  tags : Tags b s start m (countOf b) l
-  tags = tags-are b s start m (countOf b)
+  tags : Tags b s start m (typeCount b) l
+  tags = tags-are b s start m (typeCount b)
 
   -- kinds and DECL_TAGs of ids
-  tag-of : (x : ℕ) → kindAt b start x ≡ 17 → (isDeclTag (typeOf ts x) ≡ true) × (Target b s start x ≡ third (typeOf ts x)) × (x < countOf b)
+  tag-of : (x : ℕ) → kindAt b start x ≡ 17 → (isDeclTag (typeOf ts x) ≡ true) × (Target b s start x ≡ third (typeOf ts x)) × (x < typeCount b)
   tag-of zero e = absurd (omega (arith, e, see .zero-kind))
-  tag-of (suc i) e = go (le-or-lt (countOf b) (suc i))
+  tag-of (suc i) e = go (le-or-lt (typeCount b) (suc i))
     where
-      go : (countOf b ≤ suc i) ⊎ (suc i < countOf b) → (isDeclTag (getD ts i voidType) ≡ true) × (Target b s start (suc i) ≡ third (getD ts i voidType)) × (suc i < countOf b)
+      go : (typeCount b ≤ suc i) ⊎ (suc i < typeCount b) → (isDeclTag (getD ts i voidType) ≡ true) × (Target b s start (suc i) ≡ third (getD ts i voidType)) × (suc i < typeCount b)
       go (inl q) = absurd (omega (arith, e, kind-out b start (suc i) q))
       go (inr q) = let k : i < length ts = omega (arith, q, see .count) in (kind-tag (getD ts i voidType) (sym (see .kind i k) ∙ e), see .third-word i k, q)
 
@@ -176,7 +176,7 @@ module _ (b : TypeTable) (s start : List ℕ) (ts : List Described) (see : Seen 
   marked-kept : (x : ℕ) → Has l x → Kept ts gs x
   marked-kept x h = go (tags .to x h)
     where
-      go : Has m x ⊎ ((x < countOf b) × (x < length m) × (tagOn b s start x ≡ 0 → ⊥) × Has m (tagOn b s start x)) → Kept ts gs x
+      go : Has m x ⊎ ((x < typeCount b) × (x < length m) × (tagOn b s start x ≡ 0 → ⊥) × Has m (tagOn b s start x)) → Kept ts gs x
       go (inl e) = reached (final .sound x e)
       go (inr q) =
           let r = tag-is b s start x (q .2) in

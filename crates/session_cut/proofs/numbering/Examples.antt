@@ -13,7 +13,7 @@ use Rattle.spec_c_dumper.specs.rules.Names.{sameBytes}
 use Rattle.spec_type_table.specs.declared.types.TypeTable.{TypeTable}
 use Rattle.spec_type_table.specs.Records.{sectionWord}
 use Rattle.spec_type_table.specs.Names.{upToZero, nameAt}
-use Rattle.btf_open_causes.specs.references.Followed.{countOf, entryAt}
+use Rattle.btf_open_causes.specs.references.Followed.{typeCount, entryAt}
 use Rattle.spec_cut.specs.section.Renumbered.{keptTo, newId, keptTypes, renamed}
 use Rattle.spec_cut.specs.section.Strings.{mentions, allMentions, has, addName, addAll, placeIn}
 use Rattle.spec_cut.specs.section.Section.{cutSection}
@@ -59,11 +59,11 @@ abbrev section : Bool → List ℕ
 section big = encodeSection big 0 types strings
 
 little : allBytes (table false) (section false) index numbers bases 64 17 ≡ cutSection kept (section false)
-unfolding wordAt wordAtBig wordIn encode encodeAll encodeStrings encodeHeader encodeSection kind word decode places decodeAll bigEndian hdrLen typeOff typeLen strOff strLen typeArea stringArea isEmpty sameBytes sectionWord upToZero nameAt countOf entryAt keptTo newId keptTypes renamed mentions allMentions has addName addAll placeIn cutSection digitAt fixedWords entryWords roles column role wordsIn wordOf code.isName code.orName code.namedTo code.firstFrom code.mentions code.orMentions code.mentionedTo code.isNew code.newSize code.newSizes code.placeAt code.placeFrom code.placeOf wordBytes magicBytes headBytes newWord recordBytes typeBytes typesBytes nameBytes namesBytes ownBytes newsBytes stringsBytes allBytes
+unfolding wordAt wordAtBig wordIn encode encodeAll encodeStrings encodeHeader encodeSection kind word decode places decodeAll bigEndian hdrLen typeOff typeLen strOff strLen typeArea stringArea isEmpty sameBytes sectionWord upToZero nameAt typeCount entryAt keptTo newId keptTypes renamed mentions allMentions has addName addAll placeIn cutSection digitAt fixedWords entryWords roles column role wordsIn wordOf code.isName code.orName code.namedTo code.firstFrom code.mentions code.orMentions code.mentionedTo code.isNew code.newSize code.newSizes code.placeAt code.placeFrom code.placeOf wordBytes magicBytes headBytes newWord recordBytes typeBytes typesBytes nameBytes namesBytes ownBytes newsBytes stringsBytes allBytes
 little = refl
 
 big : allBytes (table true) (section true) index numbers bases 64 17 ≡ cutSection kept (section true)
-unfolding wordAt wordAtBig wordIn encode encodeAll encodeStrings encodeHeader encodeSection kind word decode places decodeAll bigEndian hdrLen typeOff typeLen strOff strLen typeArea stringArea isEmpty sameBytes sectionWord upToZero nameAt countOf entryAt keptTo newId keptTypes renamed mentions allMentions has addName addAll placeIn cutSection digitAt fixedWords entryWords roles column role wordsIn wordOf code.isName code.orName code.namedTo code.firstFrom code.mentions code.orMentions code.mentionedTo code.isNew code.newSize code.newSizes code.placeAt code.placeFrom code.placeOf wordBytes magicBytes headBytes newWord recordBytes typeBytes typesBytes nameBytes namesBytes ownBytes newsBytes stringsBytes allBytes
+unfolding wordAt wordAtBig wordIn encode encodeAll encodeStrings encodeHeader encodeSection kind word decode places decodeAll bigEndian hdrLen typeOff typeLen strOff strLen typeArea stringArea isEmpty sameBytes sectionWord upToZero nameAt typeCount entryAt keptTo newId keptTypes renamed mentions allMentions has addName addAll placeIn cutSection digitAt fixedWords entryWords roles column role wordsIn wordOf code.isName code.orName code.namedTo code.firstFrom code.mentions code.orMentions code.mentionedTo code.isNew code.newSize code.newSizes code.placeAt code.placeFrom code.placeOf wordBytes magicBytes headBytes newWord recordBytes typeBytes typesBytes nameBytes namesBytes ownBytes newsBytes stringsBytes allBytes
 big = refl
 
 -- Other kinds, an id that is not followed and not kept (an ARRAY's index type, an entry of a DATASEC), names that are stored twice or end in one another: 1 INT,
@@ -111,9 +111,9 @@ writtenOf big = allBytes (otherTable big) (otherSection big) otherIndex otherNum
     (typesSize (otherTable big) (otherSection big) otherIndex otherNumbers 11) (code.baseOf (otherTable big) (otherSection big) otherIndex otherNumbers 11)
 
 other-little : writtenOf false ≡ cutSection allBut (otherSection false)
-unfolding wordAt wordAtBig wordIn encode encodeAll encodeStrings encodeHeader encodeSection kind word decode places decodeAll bigEndian hdrLen typeOff typeLen strOff strLen typeArea stringArea isEmpty sameBytes sectionWord upToZero nameAt countOf entryAt keptTo newId keptTypes renamed mentions allMentions has addName addAll placeIn cutSection digitAt fixedWords entryWords roles column role wordsIn wordOf code.isName code.orName code.namedTo code.firstFrom code.mentions code.orMentions code.mentionedTo code.isNew code.newSize code.newSizes code.placeAt code.placeFrom code.placeOf wordBytes magicBytes headBytes newWord recordBytes typeBytes typesBytes nameBytes namesBytes ownBytes newsBytes stringsBytes allBytes typesSize typeSize code.recordSize code.baseOf code.basesTo
+unfolding wordAt wordAtBig wordIn encode encodeAll encodeStrings encodeHeader encodeSection kind word decode places decodeAll bigEndian hdrLen typeOff typeLen strOff strLen typeArea stringArea isEmpty sameBytes sectionWord upToZero nameAt typeCount entryAt keptTo newId keptTypes renamed mentions allMentions has addName addAll placeIn cutSection digitAt fixedWords entryWords roles column role wordsIn wordOf code.isName code.orName code.namedTo code.firstFrom code.mentions code.orMentions code.mentionedTo code.isNew code.newSize code.newSizes code.placeAt code.placeFrom code.placeOf wordBytes magicBytes headBytes newWord recordBytes typeBytes typesBytes nameBytes namesBytes ownBytes newsBytes stringsBytes allBytes typesSize typeSize code.recordSize code.baseOf code.basesTo
 other-little = refl
 
 other-big : writtenOf true ≡ cutSection allBut (otherSection true)
-unfolding wordAt wordAtBig wordIn encode encodeAll encodeStrings encodeHeader encodeSection kind word decode places decodeAll bigEndian hdrLen typeOff typeLen strOff strLen typeArea stringArea isEmpty sameBytes sectionWord upToZero nameAt countOf entryAt keptTo newId keptTypes renamed mentions allMentions has addName addAll placeIn cutSection digitAt fixedWords entryWords roles column role wordsIn wordOf code.isName code.orName code.namedTo code.firstFrom code.mentions code.orMentions code.mentionedTo code.isNew code.newSize code.newSizes code.placeAt code.placeFrom code.placeOf wordBytes magicBytes headBytes newWord recordBytes typeBytes typesBytes nameBytes namesBytes ownBytes newsBytes stringsBytes allBytes typesSize typeSize code.recordSize code.baseOf code.basesTo
+unfolding wordAt wordAtBig wordIn encode encodeAll encodeStrings encodeHeader encodeSection kind word decode places decodeAll bigEndian hdrLen typeOff typeLen strOff strLen typeArea stringArea isEmpty sameBytes sectionWord upToZero nameAt typeCount entryAt keptTo newId keptTypes renamed mentions allMentions has addName addAll placeIn cutSection digitAt fixedWords entryWords roles column role wordsIn wordOf code.isName code.orName code.namedTo code.firstFrom code.mentions code.orMentions code.mentionedTo code.isNew code.newSize code.newSizes code.placeAt code.placeFrom code.placeOf wordBytes magicBytes headBytes newWord recordBytes typeBytes typesBytes nameBytes namesBytes ownBytes newsBytes stringsBytes allBytes typesSize typeSize code.recordSize code.baseOf code.basesTo
 other-big = refl

@@ -14,12 +14,12 @@ use Rattle.spec_bytes.specs.words.Words.{table}
 use Rattle.spec_bytes.proofs.words.Laws.{le-or-lt}
 use Rattle.spec_linux_btf.specs.Documentation.{Described}
 use Rattle.spec_type_table.specs.declared.types.TypeTable.{TypeTable}
-use Rattle.btf_open_causes.specs.references.Followed.{countOf, followedCount, followedId}
+use Rattle.btf_open_causes.specs.references.Followed.{typeCount, followedCount, followedId}
 use Rattle.btf_open_causes.specs.references.Bounds.{count-fits, followed-none}
 use Rattle.btf_open_causes.specs.references.Zeros.{zeros}
 use Rattle.btf_open_causes.proofs.references.Zeros.{zeros-less}
 use Rattle.spec_cut.specs.section.Kept.{followedIds, typeOf, Reached, asked, onward}
-use Rattle.spec_cut.specs.reopened.Seen.{Seen}
+use Rattle.spec_cut.specs.reopened.Seen.{SeenFrom}
 use Rattle.session_cut_marks.specs.marks.Marks.{Heap, heap, pushed, pushedTo, weight, turned, closed}
 use Rattle.session_cut_marks.proofs.marks.Laws.{turn-light}
 use Rattle.session_cut.specs.numbering.Marked.{Has, Markable, OnStack, Good, Grows, Passed, Pending}
@@ -222,7 +222,7 @@ module _ (ts : List Described) (gs : List ℕ) where
         next _ (pushes m′ st′ d′ g′ w p) = last m′ st′ d′ w p (pushed (heap m′ st′ d′) (f n)) (push-good m′ st′ d′ g′ (f n) (r n (omega arith)))
 
   -- ---- turns. f, n: the ids that were pushed first
-  module _ (b : TypeTable) (s start : List ℕ) (see : Seen b s start ts) (f : ℕ → ℕ) (n : ℕ) where
+  module _ (b : TypeTable) (s start : List ℕ) (see : SeenFrom b s start ts) (f : ℕ → ℕ) (n : ℕ) where
     pub data Closes : Heap → Type 0 where
       closes : (m st : List ℕ) (d : ℕ) → Good ts gs m st d → Pending ts m st d → Marks-to f n m → Closes (heap m st d)
 
@@ -288,11 +288,11 @@ module _ (ts : List Described) (gs : List ℕ) where
 
         in-table : (x y : ℕ) → List·Memᴰ y (followedIds (typeOf ts x)) → Markable x
         in-table zero y k = absurd (List·Memᴰ·not-nil k)
-        in-table (suc i) y k = (omega arith, go (le-or-lt (countOf b) (suc i)))
+        in-table (suc i) y k = (omega arith, go (le-or-lt (typeCount b) (suc i)))
           where
             w : (j : ℕ) × (j < followedCount b s start (suc i)) × (followedId b s start (suc i) j ≡ y)
             w = see .from (suc i) y k
 
-            go : (countOf b ≤ suc i) ⊎ (suc i < countOf b) → suc i < 262145
+            go : (typeCount b ≤ suc i) ⊎ (suc i < typeCount b) → suc i < 262145
             go (inl q) = absurd (omega (arith, w .1, followed-none b s start (suc i) q))
             go (inr q) = omega (arith, q, count-fits b)

@@ -13,7 +13,7 @@ use Rattle.spec_c_dumper.specs.rules.Types.{Name, isEmpty}
 use Rattle.spec_c_dumper.specs.rules.Names.{sameBytes}
 use Rattle.spec_type_table.specs.declared.types.TypeTable.{TypeTable}
 use Rattle.spec_type_table.specs.Names.{strAt}
-use Rattle.btf_open_causes.specs.references.Followed.{countOf, entryAt}
+use Rattle.btf_open_causes.specs.references.Followed.{typeCount, entryAt}
 use Rattle.spec_cut.specs.section.Strings.{has, addName, firstNames, placeIn}
 use Rattle.spec_cut.proofs.section.Names.{same-bytes, place-below}
 use Rattle.session_cut_marks.specs.roles.Words.{role, wordsIn, wordOf}
@@ -284,33 +284,33 @@ module _ (b : TypeTable) (s : List ℕ) where
     none off = refl
 
     -- THE PLACES: of a name that is mentioned, where the strings have 16,777,216 bytes at most
-    pub place-is : baseOf b s start ids (countOf b) ≤ 16777216 → countOf b ≤ 262145 → (off : ℕ) → has (namesBefore b s start ids (countOf b)) (strAt b s off) ≡ true
-        → placeOf b s start ids (basesTo b s start ids zeroBases (countOf b)) off ≡ placeIn (stored (namesBefore b s start ids (countOf b))) (strAt b s off)
+    pub place-is : baseOf b s start ids (typeCount b) ≤ 16777216 → typeCount b ≤ 262145 → (off : ℕ) → has (namesBefore b s start ids (typeCount b)) (strAt b s off) ≡ true
+        → placeOf b s start ids (basesTo b s start ids zeroBases (typeCount b)) off ≡ placeIn (stored (namesBefore b s start ids (typeCount b))) (strAt b s off)
     unfolding placeOf
     place-is short few off h = go (isEmpty (strAt b s off)) refl
       where
         bases : List ℕ
-        bases = basesTo b s start ids zeroBases (countOf b)
+        bases = basesTo b s start ids zeroBases (typeCount b)
 
-        good : (x : ℕ) → x < countOf b → getD bases x 0 ≡ baseOf b s start ids x
+        good : (x : ℕ) → x < typeCount b → getD bases x 0 ≡ baseOf b s start ids x
         good x l =
-            let y : x + (countOf b - x) ≡ countOf b = omega (arith, l) in
-            let up : baseOf b s start ids x ≤ baseOf b s start ids (countOf b) = subst (λ (i : ℕ). baseOf b s start ids x ≤ baseOf b s start ids i) y (base-up x (countOf b - x)) in
+            let y : x + (typeCount b - x) ≡ typeCount b = omega (arith, l) in
+            let up : baseOf b s start ids x ≤ baseOf b s start ids (typeCount b) = subst (λ (i : ℕ). baseOf b s start ids x ≤ baseOf b s start ids i) y (base-up x (typeCount b - x)) in
             let small : baseOf b s start ids x % 4294967296 ≡ baseOf b s start ids x = omega (arith, up, short) in
-            bases-at zeroBases (countOf b) x l (omega (arith, few, zero-bases)) ∙ small
+            bases-at zeroBases (typeCount b) x l (omega (arith, few, zero-bases)) ∙ small
 
         at : ℕ
-        at = placeIn (stored (namesBefore b s start ids (countOf b))) (strAt b s off)
+        at = placeIn (stored (namesBefore b s start ids (typeCount b))) (strAt b s off)
 
-        stands : has (stored (namesBefore b s start ids (countOf b))) (strAt b s off) ≡ true
-        stands = has-stored (namesBefore b s start ids (countOf b)) (strAt b s off) ∙ ap (orElse (isEmpty (strAt b s off))) h ∙ or-true (isEmpty (strAt b s off))
+        stands : has (stored (namesBefore b s start ids (typeCount b))) (strAt b s off) ≡ true
+        stands = has-stored (namesBefore b s start ids (typeCount b)) (strAt b s off) ∙ ap (orElse (isEmpty (strAt b s off))) h ∙ or-true (isEmpty (strAt b s off))
 
         below : at < 4294967296
-        below = omega (arith, place-below (stored (namesBefore b s start ids (countOf b))) (strAt b s off) stands, ap length (strings-are b s start ids (countOf b)), strings-length b s start ids (countOf b), short)
+        below = omega (arith, place-below (stored (namesBefore b s start ids (typeCount b))) (strAt b s off) stands, ap length (strings-are b s start ids (typeCount b)), strings-length b s start ids (typeCount b), short)
 
-        go : (q : Bool) → isEmpty (strAt b s off) ≡ q → _≡_ {A = ℕ} (elim q [ true ↦ 0 | false ↦ placeFrom b s start ids bases off 0 (countOf b) % 4294967296 ]) at
-        go true e = sym (place-empty (namesBefore b s start ids (countOf b)) (strAt b s off) e)
+        go : (q : Bool) → isEmpty (strAt b s off) ≡ q → _≡_ {A = ℕ} (elim q [ true ↦ 0 | false ↦ placeFrom b s start ids bases off 0 (typeCount b) % 4294967296 ]) at
+        go true e = sym (place-empty (namesBefore b s start ids (typeCount b)) (strAt b s off) e)
         go false e =
-            let y : 0 + countOf b ≡ countOf b = omega arith in
-            let f = found-from bases (countOf b) good off 0 (countOf b) (omega arith) e (none off) (ap (mentionedTo b s start ids off) y ∙ mentioned-is b s start ids off (countOf b) ∙ h) in
+            let y : 0 + typeCount b ≡ typeCount b = omega arith in
+            let f = found-from bases (typeCount b) good off 0 (typeCount b) (omega arith) e (none off) (ap (mentionedTo b s start ids off) y ∙ mentioned-is b s start ids off (typeCount b) ∙ h) in
             ap (λ (p : ℕ). p % 4294967296) f ∙ word-small at below

@@ -16,7 +16,7 @@ use Rattle.spec_bytes.proofs.text.TextLaws.{put-fits, went, put-seq, put-empty}
 use Rattle.spec_c_dumper.specs.rules.Types.{isEmpty}
 use Rattle.spec_type_table.specs.declared.types.TypeTable.{TypeTable}
 use Rattle.spec_type_table.specs.Names.{strAt}
-use Rattle.btf_open_causes.specs.references.Followed.{countOf, entryAt}
+use Rattle.btf_open_causes.specs.references.Followed.{typeCount, entryAt}
 use Rattle.session_cut_marks.specs.roles.Words.{role, wordsIn, wordOf}
 use Rattle.session_cut_marks.proofs.roles.Laws.{words-few}
 use Rattle.session_cut_marks.specs.mentioned.Names.{isName, firstFrom, mentions, isNew, newSizes, baseOf, placeAt, placeFrom, placeOf, zeroBases}
@@ -25,7 +25,7 @@ use Rattle.session_cut_marks.proofs.mentioned.Laws.{flip-true, flip-false}
 use Rattle.session_cut_marks.proofs.mentioned.Sizes.{strings-length}
 use Rattle.session_cut_marks.specs.interned.Slots.{found}
 use Rattle.session_cut_marks.specs.interned.Filled.{zeroTable, filledOf, fillingOf, filling}
-use Rattle.session_cut_marks.specs.interned.Right.{allBases, Right, Kept}
+use Rattle.session_cut_marks.specs.interned.Right.{allBases, Right, StringKept}
 use Rattle.session_cut_marks.proofs.interned.Right.{table-over, table-length, table-bases}
 use Rattle.session_cut_marks.proofs.interned.Found.{found-place, first-is, new-place}
 use Rattle.session_cut.specs.writer.Bytes.{wordBytes, magicBytes, headBytes, typeSize, typesSize, newWord, recordBytes, typeBytes, typesBytes, allBytes, sought, Wrote, wroteOf, fittingWritten, keptWritten}
@@ -75,7 +75,7 @@ module _ (b : TypeTable) (s : List ℕ) where
       go a false y = (a, y, h ∙ sym (seek-is t e j (role (e % 32) j) refl a (wordOf b s e j) refl false (sym y) refl (found b s t (wordOf b s e j)) refl))
 
   module _ (start ids t : List ℕ) (right : Right b s start ids t) where
-    pub first-sought : (x e : ℕ) → Kept b start ids x e → (j v : ℕ) → v ≡ sought b s t e j → (len : ℕ) → j < wordsIn b s e → len ≡ baseOf b s start ids x + newSizes b s start ids x e j
+    pub first-sought : (x e : ℕ) → StringKept b start ids x e → (j v : ℕ) → v ≡ sought b s t e j → (len : ℕ) → j < wordsIn b s e → len ≡ baseOf b s start ids x + newSizes b s start ids x e j
         → (v ≡ 0 → ⊥) → eqb (v / 4294967296) len ≡ isNew b s start ids x e j
     first-sought x e k j v h len l is n = let f = sought-some t e j v h n in first-is b s start ids t right x e k j len l is (f .0) (wordOf b s e j) refl (f .1) v (f .2) n
 
@@ -83,12 +83,12 @@ module _ (b : TypeTable) (s : List ℕ) where
       pub sought-place : (e j v : ℕ) → v ≡ sought b s t e j → (v ≡ 0 → ⊥) → v / 4294967296 ≡ placeOf b s start ids bases (wordOf b s e j)
       sought-place e j v h n = found-place b s start ids t right (wordOf b s e j) v (sought-some t e j v h n .2) n ∙ ap (λ (l : List ℕ). placeOf b s start ids l (wordOf b s e j)) (sym a)
 
-      pub new-at : (x e : ℕ) → Kept b start ids x e → (j len : ℕ) → j < wordsIn b s e → len ≡ baseOf b s start ids x + newSizes b s start ids x e j → (new : Bool) → new ≡ isNew b s start ids x e j
+      pub new-at : (x e : ℕ) → StringKept b start ids x e → (j len : ℕ) → j < wordsIn b s e → len ≡ baseOf b s start ids x + newSizes b s start ids x e j → (new : Bool) → new ≡ isNew b s start ids x e j
           → new ≡ true → len ≡ placeOf b s start ids bases (wordOf b s e j)
       new-at x e k j len l is new g z = new-place b s start ids t right x e k j len l is (sym g ∙ z) ∙ ap (λ (u : List ℕ). placeOf b s start ids u (wordOf b s e j)) (sym a)
 
   module _ (start ids : List ℕ) where
-    pub place-kept : (off x : ℕ) (q : Bool) → q ≡ mentions b s start ids off x → not q ≡ false → x < countOf b → (e : ℕ) → e ≡ entryAt b start x → Kept b start ids x e
+    pub place-kept : (off x : ℕ) (q : Bool) → q ≡ mentions b s start ids off x → not q ≡ false → x < typeCount b → (e : ℕ) → e ≡ entryAt b start x → StringKept b start ids x e
     unfolding mentions
     place-kept off x q k z l e h = record { below = l; kept = λ w. true≢false (sym (flip-false q z) ∙ k ∙ rw (eq-eqb (getD ids x 0) 0 w, mentions)); entry = h }
 
@@ -127,13 +127,13 @@ module _ (b : TypeTable) (s : List ℕ) where
         or-some zero z = absurd (z refl)
         or-some (suc v) z = refl
 
-        pub from-here : (r ≡ 0 → ⊥) → n ≡ countOf b → r ≡ placeFrom b s start ids bases off 0 (countOf b)
+        pub from-here : (r ≡ 0 → ⊥) → n ≡ typeCount b → r ≡ placeFrom b s start ids bases off 0 (typeCount b)
         from-here z c = sym (ap (placeFrom b s start ids bases off 0) (sym c) ∙ h ∙ from-suc off x n l ∙ ap Or (sym g) ∙ or-some r z)
 
         pub from-on : r ≡ 0 → placeFrom b s start ids bases off 0 n ≡ placeFrom b s start ids bases off (x + 1) (n - (x + 1))
         from-on z = h ∙ from-suc off x n l ∙ ap Or (sym g ∙ z)
 
-      pub from-none : (off x n : ℕ) → n ≤ x → placeFrom b s start ids bases off 0 n ≡ placeFrom b s start ids bases off x (n - x) → n ≡ countOf b → 0 ≡ placeFrom b s start ids bases off 0 (countOf b)
+      pub from-none : (off x n : ℕ) → n ≤ x → placeFrom b s start ids bases off 0 n ≡ placeFrom b s start ids bases off x (n - x) → n ≡ typeCount b → 0 ≡ placeFrom b s start ids bases off 0 (typeCount b)
       unfolding placeFrom
       from-none off x n l h c = let z : n - x ≡ 0 = omega (arith, l) in sym (ap (placeFrom b s start ids bases off 0) (sym c) ∙ h ∙ ap (placeFrom b s start ids bases off x) z)
 
@@ -142,7 +142,7 @@ module _ (b : TypeTable) (s : List ℕ) where
         unfolding placeOf
         place-first z = rw (sym g ∙ z, placeOf)
 
-        pub place-found : m ≡ false → (r : ℕ) → r ≡ placeFrom b s start ids bases off 0 (countOf b) → r % 4294967296 ≡ placeOf b s start ids bases off
+        pub place-found : m ≡ false → (r : ℕ) → r ≡ placeFrom b s start ids bases off 0 (typeCount b) → r % 4294967296 ≡ placeOf b s start ids bases off
         unfolding placeOf
         place-found z r h = ap (λ (v : ℕ). v % 4294967296) h ∙ rw (sym g ∙ z, placeOf)
 
@@ -195,7 +195,7 @@ module _ (b : TypeTable) (s : List ℕ) where
       unfolding typesBytes
       more-types t at x p u r u′ h g = rw add-one (put-seq t at (typesBytes b s start ids bases x) (typeBytes b s start ids bases x) p u r u′ h g)
 
-      pub all-types : (t : List ℕ) (at n x p : ℕ) (u : List ℕ) → n ≡ countOf b → x ≤ n → n ≤ x → putOut p u ≡ putText t at (whole (typesBytes b s start ids bases x)) → putOut p u ≡ putText t at (whole (typesBytes b s start ids bases (countOf b)))
+      pub all-types : (t : List ℕ) (at n x p : ℕ) (u : List ℕ) → n ≡ typeCount b → x ≤ n → n ≤ x → putOut p u ≡ putText t at (whole (typesBytes b s start ids bases x)) → putOut p u ≡ putText t at (whole (typesBytes b s start ids bases (typeCount b)))
       all-types t at n x p u c l g h = let z : x ≡ n = omega (arith, l, g) in h ∙ ap (λ (k : ℕ). putText t at (whole (typesBytes b s start ids bases k))) (z ∙ c)
 
     -- ---- the length of the types
@@ -227,7 +227,7 @@ module _ (b : TypeTable) (s : List ℕ) where
     unfolding typesSize
     more-size x len r h g = rw add-one (g ∙ ap (typeSize b s start ids x) h)
 
-    pub all-size : (n x len : ℕ) → n ≡ countOf b → x ≤ n → n ≤ x → len ≡ typesSize b s start ids x → len ≡ typesSize b s start ids (countOf b)
+    pub all-size : (n x len : ℕ) → n ≡ typeCount b → x ≤ n → n ≤ x → len ≡ typesSize b s start ids x → len ≡ typesSize b s start ids (typeCount b)
     all-size n x len c l g h = let z : x ≡ n = omega (arith, l, g) in h ∙ ap (typesSize b s start ids) (z ∙ c)
 
 -- ---- a word and the header
@@ -254,22 +254,22 @@ magic-little t at big v p u r u′ e h g = put-seq t at _ _ p u r u′ h g ∙ a
 -- ---- the whole
 module _ (b : TypeTable) (s start ids : List ℕ) where
   pub all-put : (bases t : List ℕ) (types strings f : ℕ) (p : ℕ) (u : List ℕ) (q : ℕ) (v : List ℕ) (r : ℕ) (w : List ℕ) → f ≡ getD s 3 0 → putOut p u ≡ putText t 0 (whole (headBytes (b .«big_endian») f types strings))
-      → putOut q v ≡ putText u p (whole (typesBytes b s start ids bases (countOf b))) → putOut r w ≡ putText v q (whole (stringsBytes b s start ids (countOf b)))
+      → putOut q v ≡ putText u p (whole (typesBytes b s start ids bases (typeCount b))) → putOut r w ≡ putText v q (whole (stringsBytes b s start ids (typeCount b)))
       → putOut r w ≡ putText t 0 (whole (allBytes b s start ids bases types strings))
   unfolding allBytes
   all-put bases t types strings f p u q v r w e h g k =
-      put-seq t 0 (headBytes (b .«big_endian») (getD s 3 0) types strings ++ typesBytes b s start ids bases (countOf b)) (stringsBytes b s start ids (countOf b)) q v r w
-      (put-seq t 0 (headBytes (b .«big_endian») (getD s 3 0) types strings) (typesBytes b s start ids bases (countOf b)) p u q v (h ∙ ap (λ (z : ℕ). putText t 0 (whole (headBytes (b .«big_endian») z types strings))) e) g) k
+      put-seq t 0 (headBytes (b .«big_endian») (getD s 3 0) types strings ++ typesBytes b s start ids bases (typeCount b)) (stringsBytes b s start ids (typeCount b)) q v r w
+      (put-seq t 0 (headBytes (b .«big_endian») (getD s 3 0) types strings) (typesBytes b s start ids bases (typeCount b)) p u q v (h ∙ ap (λ (z : ℕ). putText t 0 (whole (headBytes (b .«big_endian») z types strings))) e) g) k
 
-  all-length : (bases : List ℕ) (types strings : ℕ) → types ≡ typesSize b s start ids (countOf b) → strings ≡ baseOf b s start ids (countOf b) → length (allBytes b s start ids bases types strings) ≡ 24 + types + strings
+  all-length : (bases : List ℕ) (types strings : ℕ) → types ≡ typesSize b s start ids (typeCount b) → strings ≡ baseOf b s start ids (typeCount b) → length (allBytes b s start ids bases types strings) ≡ 24 + types + strings
   unfolding allBytes
   all-length bases types strings e f =
       let big : Bool = b .«big_endian» in
       let x : List ℕ = headBytes big (getD s 3 0) types strings in
-      let y : List ℕ = typesBytes b s start ids bases (countOf b) in
-      let z : List ℕ = stringsBytes b s start ids (countOf b) in
+      let y : List ℕ = typesBytes b s start ids bases (typeCount b) in
+      let z : List ℕ = stringsBytes b s start ids (typeCount b) in
       length-append (x ++ y) z ∙ ap (λ (k : ℕ). k + length z) (length-append x y)
-      ∙ (λ i. head-length big (getD s 3 0) types strings i + (types-length b s start ids bases (countOf b) ∙ sym e) i + (strings-length b s start ids (countOf b) ∙ sym f) i)
+      ∙ (λ i. head-length big (getD s 3 0) types strings i + (types-length b s start ids bases (typeCount b) ∙ sym e) i + (strings-length b s start ids (typeCount b) ∙ sym f) i)
 
   -- what is written where there is room
   whole-put : (t a : List ℕ) (r : ℕ) (u : List ℕ) → length a ≤ length t → putOut r u ≡ putText t 0 (whole a) → u ≡ a ++ drop (length a) t
@@ -289,7 +289,7 @@ module _ (b : TypeTable) (s start ids : List ℕ) where
       unfolding fittingWritten
       fit-short h = rw (le-ltb 16777216 (24 + types + strings) l, fittingWritten, lt-ltb (length out) (24 + types + strings) h)
 
-      pub fit-is : 24 + types + strings ≤ length out → types ≡ typesSize b s start ids (countOf b) → strings ≡ baseOf b s start ids (countOf b) → (r : ℕ) (u : List ℕ)
+      pub fit-is : 24 + types + strings ≤ length out → types ≡ typesSize b s start ids (typeCount b) → strings ≡ baseOf b s start ids (typeCount b) → (r : ℕ) (u : List ℕ)
           → putOut r u ≡ putText out 0 (whole (allBytes b s start ids bases types strings)) → wroteOf (24 + types + strings) u ≡ fittingWritten b s start ids bases types strings out
       unfolding fittingWritten
       fit-is h e f r u p =
@@ -305,18 +305,18 @@ module _ (b : TypeTable) (s start ids : List ℕ) where
     module _ (l : length s ≤ 16777216) (strings : ℕ) (t bases : List ℕ) (h : fillingOf (filledOf strings t) bases ≡ filling b s start ids zeroTable zeroBases) where
       pub kept-strings : 16777216 < strings → wroteOf 0 out ≡ keptWritten b s start ids out
       unfolding keptWritten
-      kept-strings a = rw (le-ltb 16777216 (length s) l, keptWritten, lt-ltb 16777216 (baseOf b s start ids (countOf b)) (table-over b s start ids l strings t bases h a))
+      kept-strings a = rw (le-ltb 16777216 (length s) l, keptWritten, lt-ltb 16777216 (baseOf b s start ids (typeCount b)) (table-over b s start ids l strings t bases h a))
 
-      module _ (k : strings ≤ 16777216) (types : ℕ) (f : types ≡ typesSize b s start ids (countOf b)) where
-        few : baseOf b s start ids (countOf b) ≤ 16777216
+      module _ (k : strings ≤ 16777216) (types : ℕ) (f : types ≡ typesSize b s start ids (typeCount b)) where
+        few : baseOf b s start ids (typeCount b) ≤ 16777216
         few = omega (arith, k, table-length b s start ids l strings t bases h k)
 
         pub kept-types : 16777216 < types → wroteOf 0 out ≡ keptWritten b s start ids out
         unfolding keptWritten
-        kept-types a = rw (le-ltb 16777216 (length s) l, keptWritten, le-ltb 16777216 (baseOf b s start ids (countOf b)) few, lt-ltb 16777216 (typesSize b s start ids (countOf b)) (omega (arith, a, f)))
+        kept-types a = rw (le-ltb 16777216 (length s) l, keptWritten, le-ltb 16777216 (baseOf b s start ids (typeCount b)) few, lt-ltb 16777216 (typesSize b s start ids (typeCount b)) (omega (arith, a, f)))
 
         pub kept-is : types ≤ 16777216 → (w : Wrote) → w ≡ fittingWritten b s start ids bases types strings out → w ≡ keptWritten b s start ids out
         unfolding keptWritten
         kept-is a w p =
             p ∙ (λ i. fittingWritten b s start ids (table-bases b s start ids l strings t bases h k i) (f i) (table-length b s start ids l strings t bases h k i) out)
-            ∙ rw (le-ltb 16777216 (length s) l, keptWritten, le-ltb 16777216 (baseOf b s start ids (countOf b)) few, le-ltb 16777216 (typesSize b s start ids (countOf b)) (omega (arith, a, f)))
+            ∙ rw (le-ltb 16777216 (length s) l, keptWritten, le-ltb 16777216 (baseOf b s start ids (typeCount b)) few, le-ltb 16777216 (typesSize b s start ids (typeCount b)) (omega (arith, a, f)))

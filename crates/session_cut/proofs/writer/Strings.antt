@@ -11,16 +11,16 @@ use Rattle.spec_bytes.specs.text.Text.{whole, putOut, putText}
 use Rattle.spec_bytes.proofs.text.TextLaws.{put-seq, put-empty}
 use Rattle.spec_type_table.specs.declared.types.TypeTable.{TypeTable}
 use Rattle.spec_type_table.specs.Names.{strAt}
-use Rattle.btf_open_causes.specs.references.Followed.{countOf, entryAt}
+use Rattle.btf_open_causes.specs.references.Followed.{typeCount, entryAt}
 use Rattle.session_cut_marks.specs.roles.Words.{wordsIn, wordOf}
 use Rattle.session_cut_marks.specs.mentioned.Names.{isNew, newSizes, baseOf}
 use Rattle.session_cut_marks.specs.mentioned.Strings.{nameBytes, namesBytes, ownBytes, newsBytes}
 use Rattle.session_cut_marks.proofs.mentioned.Laws.{flip-true, flip-false}
 use Rattle.session_cut_marks.proofs.mentioned.Sizes.{name-length}
-use Rattle.session_cut_marks.specs.interned.Right.{Kept}
+use Rattle.session_cut_marks.specs.interned.Right.{StringKept}
 use Rattle.session_cut.specs.writer.Bytes.{nameIf}
 
-pub kept-is : (b : TypeTable) (start ids : List ℕ) (x e v : ℕ) → x < countOf b → v ≡ getD ids x 0 → (v ≡ 0 → ⊥) → e ≡ entryAt b start x → Kept b start ids x e
+pub kept-is : (b : TypeTable) (start ids : List ℕ) (x e v : ℕ) → x < typeCount b → v ≡ getD ids x 0 → (v ≡ 0 → ⊥) → e ≡ entryAt b start x → StringKept b start ids x e
 kept-is b start ids x e v l k n h = record { below = l; kept = λ z. n (k ∙ z); entry = h }
 
 module _ (b : TypeTable) (s : List ℕ) (e j : ℕ) (new : Bool) where
@@ -95,5 +95,5 @@ module _ (b : TypeTable) (s start ids : List ℕ) where
     unfolding newsBytes
     more-news x p u r u′ h g = rw add-one (put-seq t at (newsBytes b s start ids x) (ownBytes b s start ids x) p u r u′ h g)
 
-    pub all-news : (n x p : ℕ) (u : List ℕ) → n ≡ countOf b → x ≤ n → n ≤ x → putOut p u ≡ putText t at (whole (newsBytes b s start ids x)) → putOut p u ≡ putText t at (whole (newsBytes b s start ids (countOf b)))
+    pub all-news : (n x p : ℕ) (u : List ℕ) → n ≡ typeCount b → x ≤ n → n ≤ x → putOut p u ≡ putText t at (whole (newsBytes b s start ids x)) → putOut p u ≡ putText t at (whole (newsBytes b s start ids (typeCount b)))
     all-news n x p u c l g h = let z : x ≡ n = omega (arith, l, g) in h ∙ ap (λ (k : ℕ). putText t at (whole (newsBytes b s start ids k))) (z ∙ c)

@@ -15,7 +15,7 @@ use Rattle.spec_linux_btf.proofs.Claims.{section-fields}
 use Rattle.spec_c_dumper.specs.rules.Types.{Name}
 use Rattle.spec_type_table.specs.declared.types.TypeTable.{TypeTable}
 use Rattle.spec_type_table.specs.Names.{nameAt, strAt}
-use Rattle.btf_open_causes.specs.references.Followed.{countOf}
+use Rattle.btf_open_causes.specs.references.Followed.{typeCount}
 use Rattle.btf_open_causes.specs.references.Bounds.{count-fits}
 use Rattle.btf_open_causes.specs.references.References.{BadReference}
 use Rattle.btf_open_causes.proofs.references.BadIds.{bad-reference}
@@ -106,38 +106,38 @@ module _ (p : ℕ) (s : List ℕ) (y : Bytes s) (short : length s ≤ 16777216) 
       let kept : Every (Allowed (strLen s)) (oldTypes m s) = every-kept (Allowed (strLen s)) m 1 (typesOf s) (section-fields s y h t .allowed) in
       name-in-area s h short p 0 (opening.typesOf s) st n (omega (arith, all-below (strLen s) (oldTypes m s) kept n k, area-length s h))
 
-  names-met : namesBefore b s start ids (countOf b) ≡ map (strAt b s) (allMentions (oldTypes m s))
+  names-met : namesBefore b s start ids (typeCount b) ≡ map (strAt b s) (allMentions (oldTypes m s))
   names-met = names-all p s y h t m ids same
 
-  names-stored : stored (namesBefore b s start ids (countOf b)) ≡ newNames m s
+  names-stored : stored (namesBefore b s start ids (typeCount b)) ≡ newNames m s
   names-stored = ap stored names-met ∙ store-all (strAt b s) (stringArea s) firstNames (allMentions (oldTypes m s)) mentioned
 
-  strings-written : stringsBytes b s start ids (countOf b) ≡ newStrings m s
-  strings-written = sym (strings-are b s start ids (countOf b)) ∙ ap encodeStrings names-stored
+  strings-written : stringsBytes b s start ids (typeCount b) ≡ newStrings m s
+  strings-written = sym (strings-are b s start ids (typeCount b)) ∙ ap encodeStrings names-stored
 
   abbrev S : ℕ
-  S = baseOf b s start ids (countOf b)
+  S = baseOf b s start ids (typeCount b)
 
   strings-size : S ≡ length (newStrings m s)
-  strings-size = sym (strings-length b s start ids (countOf b)) ∙ ap length strings-written
+  strings-size = sym (strings-length b s start ids (typeCount b)) ∙ ap length strings-written
 
   -- ---- types
 
   abbrev bases : List ℕ
-  bases = basesTo b s start ids zeroBases (countOf b)
+  bases = basesTo b s start ids zeroBases (typeCount b)
 
   abbrev codeOffset : ℕ → ℕ
   codeOffset n = placeOf b s start ids bases n
 
   abbrev T : ℕ
-  T = typesSize b s start ids (countOf b)
+  T = typesSize b s start ids (typeCount b)
 
   big-is : b .«big_endian» ≡ bigEndian s
   big-is = order p s y h t
 
   types-size : T ≡ length (encodeAll (bigEndian s) (newTypes m s))
   types-size =
-      sym (types-length b s start ids bases (countOf b))
+      sym (types-length b s start ids bases (typeCount b))
       ∙ ap length (types-are p s y h t m ids same bases)
       ∙ types-long (b .«big_endian») (λ x. getD ids x 0) codeOffset (newId m) (newOffset m s) (oldTypes m s)
       ∙ ap (λ (big : Bool). length (encodeAll big (newTypes m s))) big-is
@@ -148,7 +148,7 @@ module _ (p : ℕ) (s : List ℕ) (y : Bytes s) (short : length s ≤ 16777216) 
       place-is b s start ids l (count-fits b) n (ap (λ (ns : List Name). has ns (strAt b s n)) names-met ∙ mem-has (strAt b s) (allMentions (oldTypes m s)) n k)
       ∙ ap₂ placeIn names-stored (mentioned n k)
 
-  types-written : S ≤ 16777216 → typesBytes b s start ids bases (countOf b) ≡ encodeAll (bigEndian s) (newTypes m s)
+  types-written : S ≤ 16777216 → typesBytes b s start ids bases (typeCount b) ≡ encodeAll (bigEndian s) (newTypes m s)
   types-written l =
       types-are p s y h t m ids same bases
       ∙ types-alike (b .«big_endian») (λ x. getD ids x 0) codeOffset (newId m) (newOffset m s) same (oldTypes m s) (placed l)

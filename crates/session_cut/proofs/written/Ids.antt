@@ -12,7 +12,7 @@ use Rattle.spec_bytes.specs.words.Words.{words}
 use Rattle.spec_bytes.proofs.words.Laws.{le-or-lt}
 use Rattle.spec_linux_btf.specs.Documentation.{Described}
 use Rattle.spec_type_table.specs.declared.types.TypeTable.{TypeTable}
-use Rattle.btf_open_causes.specs.references.Followed.{countOf, followedCount, followedId}
+use Rattle.btf_open_causes.specs.references.Followed.{typeCount, followedCount, followedId}
 use Rattle.spec_cut.specs.section.Kept.{voidType, typeOf, Reached, asked, onward, isDeclTag, Kept, reached, its-tag}
 use Rattle.spec_cut.specs.section.Renumbered.{newId}
 use Rattle.spec_cut.specs.section.Section.{anyPast}
@@ -20,7 +20,7 @@ use Rattle.spec_cut.specs.section.Test.{isKept}
 use Rattle.spec_cut.proofs.section.Numbers.{new-dropped}
 use Rattle.spec_cut.proofs.section.Test.{kept-tells}
 use Rattle.spec_cut.proofs.section.Claims.{GoodReferences}
-use Rattle.spec_cut.specs.reopened.Seen.{Seen}
+use Rattle.spec_cut.specs.reopened.Seen.{SeenFrom}
 use Rattle.session_cut_marks.specs.tags.Tags.{tagOn, taggedAt, taggedTo, Numbered, numbered, numbersIn, numberedAt, numberedTo, numbersOf}
 use Rattle.session_cut_marks.specs.marks.Marks.{Heap, heap, marksIn, pushed, pushedTo, weight, turned, closed, allZero, asked as first, reachedMarks, idsOf}
 use Rattle.session_cut.proofs.numbering.Claims.{ids-are}
@@ -102,7 +102,7 @@ marks-long b s start given = closed-long b s start (weight (first b s start give
 
 ids-long : (b : TypeTable) (s start given : List ℕ) → length (idsOf b s start given allZero) ≡ 262145
 unfolding idsOf
-ids-long b s start given = numbers-long (taggedTo b s start (reachedMarks b s start given allZero) (countOf b)) ∙ tagged-long b s start (reachedMarks b s start given allZero) (countOf b) ∙ marks-long b s start given
+ids-long b s start given = numbers-long (taggedTo b s start (reachedMarks b s start given allZero) (typeCount b)) ∙ tagged-long b s start (reachedMarks b s start given allZero) (typeCount b) ∙ marks-long b s start given
 
 -- ---- what is reached is in the table
 
@@ -143,7 +143,7 @@ module _ (ts : List Described) (few : length ts ≤ 262144) (good : GoodReferenc
       go false e = new-dropped (isKept ts gs) i e
 
 -- THE NUMBERS, of every id
-pub ids-all : (b : TypeTable) (s start : List ℕ) (ts : List Described) → Seen b s start ts → length ts ≤ 262144 → GoodReferences ts → (given : List ℕ) → anyPast (suc (length ts)) (words given) ≡ false
+pub ids-all : (b : TypeTable) (s start : List ℕ) (ts : List Described) → SeenFrom b s start ts → length ts ≤ 262144 → GoodReferences ts → (given : List ℕ) → anyPast (suc (length ts)) (words given) ≡ false
     → (x : ℕ) → getD (idsOf b s start given allZero) x 0 ≡ newId (isKept ts (words given)) x
 ids-all b s start ts see few good given past x = go (le-or-lt 262145 x)
   where

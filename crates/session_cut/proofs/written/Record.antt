@@ -17,7 +17,7 @@ use Rattle.spec_type_table.specs.declared.types.TypeTable.{TypeTable}
 use Rattle.spec_type_table.specs.Names.{strAt}
 use Rattle.spec_type_table.specs.Records.{sectionWord}
 use Rattle.spec_type_table.proofs.Documented.{words-same}
-use Rattle.btf_open_causes.specs.references.Followed.{entryAt, placeOf as placeAt, kindAt, countOf}
+use Rattle.btf_open_causes.specs.references.Followed.{entryAt, placeOf as placeAt, kindAt, typeCount}
 use Rattle.btf_open_causes.specs.header.Header.{btfOf}
 use Rattle.btf_open_causes.proofs.header.Headers.{order-is, and-left, and-right}
 use Rattle.spec_opening.specs.Table.{describedIn, typesOf, recordPlace, recordKind, indexOf}
@@ -119,7 +119,7 @@ module _ (b : TypeTable) (s : List ℕ) where
     unfolding placeOf
     offset-small n = go (isEmpty (strAt b s n))
       where
-        go : (q : Bool) → (elim q as (λ z. ℕ) [ true ↦ 0 | false ↦ placeFrom b s start ids bases n 0 (countOf b) % 4294967296 ]) < 4294967296
+        go : (q : Bool) → (elim q as (λ z. ℕ) [ true ↦ 0 | false ↦ placeFrom b s start ids bases n 0 (typeCount b) % 4294967296 ]) < 4294967296
         go true = omega arith
         go false = omega arith
 
@@ -167,7 +167,7 @@ module _ (p : ℕ) (s : List ℕ) (y : Bytes s) (h : headerSound s ≡ true) (t 
   unfolding tableOf
   order = order-is s p 0 (typesOf s)
 
-  pub count-is : countOf b ≡ suc (length ts)
+  pub count-is : typeCount b ≡ suc (length ts)
   unfolding tableOf typesOf
   count-is = table-count s few p 0
 

@@ -13,7 +13,7 @@ use Rattle.spec_linux_btf.specs.Section.{headerSound, typesSound}
 use Rattle.spec_c_dumper.specs.rules.Types.{Name}
 use Rattle.spec_type_table.specs.declared.types.TypeTable.{TypeTable}
 use Rattle.spec_type_table.specs.Names.{strAt}
-use Rattle.btf_open_causes.specs.references.Followed.{entryAt, countOf}
+use Rattle.btf_open_causes.specs.references.Followed.{entryAt, typeCount}
 use Rattle.spec_opening.specs.Table.{describedIn, indexOf}
 use Rattle.spec_opening.specs.Causes.{tableOf}
 use Rattle.spec_cut.specs.section.Kept.{voidType}
@@ -131,9 +131,9 @@ module _ (p : ℕ) (s : List ℕ) (y : Bytes s) (h : headerSound s ≡ true) (t 
     types-step x = refl
 
     -- THE TYPES: those that are kept, renamed
-    pub types-are : typesBytes b s start ids bases (countOf b) ≡ encodeAll (b .«big_endian») (renamedAll (λ x. getD ids x 0) (λ n. placeOf b s start ids bases n) (keptTypes m 1 ts))
+    pub types-are : typesBytes b s start ids bases (typeCount b) ≡ encodeAll (b .«big_endian») (renamedAll (λ x. getD ids x 0) (λ n. placeOf b s start ids bases n) (keptTypes m 1 ts))
     types-are =
-        let c : countOf b ≡ 1 + length ts = count-is p s y h t ∙ plus (length ts) in
+        let c : typeCount b ≡ 1 + length ts = count-is p s y h t ∙ plus (length ts) in
         ap (typesBytes b s start ids bases) c
         ∙ joined (typesBytes b s start ids bases) (typeBytes b s start ids bases) types-step 1 (length ts)
         ∙ ap (λ (l : List ℕ). l ++ fromTo (typeBytes b s start ids bases) 1 (length ts)) void-none
@@ -163,9 +163,9 @@ module _ (p : ℕ) (s : List ℕ) (y : Bytes s) (h : headerSound s ≡ true) (t 
   names-step x = refl
 
   -- THE NAMES: those that they mention, in order
-  pub names-all : namesBefore b s start ids (countOf b) ≡ map (strAt b s) (allMentions (keptTypes m 1 ts))
+  pub names-all : namesBefore b s start ids (typeCount b) ≡ map (strAt b s) (allMentions (keptTypes m 1 ts))
   names-all =
-      let c : countOf b ≡ 1 + length ts = count-is p s y h t ∙ plus (length ts) in
+      let c : typeCount b ≡ 1 + length ts = count-is p s y h t ∙ plus (length ts) in
       ap (namesBefore b s start ids) c
       ∙ joined (namesBefore b s start ids) (keptNames b s start ids) names-step 1 (length ts)
       ∙ ap (λ (l : List Name). l ++ fromTo (keptNames b s start ids) 1 (length ts)) void-unnamed

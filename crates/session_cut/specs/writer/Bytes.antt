@@ -7,7 +7,7 @@ use lib.Dec.{ltb, eqb}
 use Rattle.spec_c_dumper.specs.rules.Types.{isEmpty}
 use Rattle.spec_type_table.specs.declared.types.TypeTable.{TypeTable}
 use Rattle.spec_type_table.specs.Names.{strAt}
-use Rattle.btf_open_causes.specs.references.Followed.{countOf, entryAt}
+use Rattle.btf_open_causes.specs.references.Followed.{typeCount, entryAt}
 use Rattle.session_cut_marks.specs.roles.Words.{role, wordsIn, wordOf}
 use Rattle.session_cut_marks.specs.mentioned.Names.{placeOf, baseOf, basesTo, zeroBases}
 use Rattle.session_cut_marks.specs.mentioned.Strings.{stringsBytes}
@@ -60,7 +60,7 @@ module _ (b : TypeTable) (s start ids : List ℕ) where
   -- the whole section; types and strings: the lengths of the two
   unfoldable pub allBytes : List ℕ → ℕ → ℕ → List ℕ
   allBytes bases types strings =
-      (headBytes (b .«big_endian») (getD s 3 0) types strings ++ typesBytes bases (countOf b)) ++ stringsBytes b s start ids (countOf b)
+      (headBytes (b .«big_endian») (getD s 3 0) types strings ++ typesBytes bases (typeCount b)) ++ stringsBytes b s start ids (typeCount b)
 
 -- the name of word j of the record with entry e, and its 0, if it is written
 unfoldable pub nameIf : TypeTable → List ℕ → ℕ → ℕ → Bool → List ℕ
@@ -94,12 +94,12 @@ module _ (b : TypeTable) (s start ids : List ℕ) where
   keptWritten out =
       elim (ltb 16777216 (length s)) [
         | true ↦ wroteOf 0 out
-        | false ↦ elim (ltb 16777216 (baseOf b s start ids (countOf b))) [
+        | false ↦ elim (ltb 16777216 (baseOf b s start ids (typeCount b))) [
           | true ↦ wroteOf 0 out
-          | false ↦ elim (ltb 16777216 (typesSize b s start ids (countOf b))) [
+          | false ↦ elim (ltb 16777216 (typesSize b s start ids (typeCount b))) [
             | true ↦ wroteOf 0 out
-            | false ↦ fittingWritten (basesTo b s start ids zeroBases (countOf b)) (typesSize b s start ids (countOf b))
-                (baseOf b s start ids (countOf b)) out
+            | false ↦ fittingWritten (basesTo b s start ids zeroBases (typeCount b)) (typesSize b s start ids (typeCount b))
+                (baseOf b s start ids (typeCount b)) out
           ]
         ]
       ]

@@ -13,11 +13,11 @@ use spec_type_table::TypeTable;
 ghost use mathlib.Core.Path.{_≡_};
 ghost use Prim.Native.Nat.{_<_};
 ghost use Rattle.spec_bytes.specs.text.Text.{whole, putOut, putText};
-ghost use Rattle.btf_open_causes.specs.references.Followed.{countOf};
+ghost use Rattle.btf_open_causes.specs.references.Followed.{typeCount};
 ghost use Rattle.session_cut_marks.specs.roles.Words.{wordsIn};
 ghost use Rattle.session_cut_marks.specs.mentioned.Names.{baseOf};
 ghost use Rattle.session_cut_marks.specs.mentioned.Strings.{namesBytes, ownBytes, newsBytes, stringsBytes};
-ghost use Rattle.session_cut_marks.specs.interned.Right.{allBases, Right, Kept};
+ghost use Rattle.session_cut_marks.specs.interned.Right.{allBases, Right, StringKept};
 ghost use Rattle.session_cut.specs.writer.Bytes.{nameIf};
 
 // The name of word j and its 0, if it is new.
@@ -51,7 +51,7 @@ fn put_names(
     out: &mut [u8],
     at: usize,
 ) -> usize
-    requires { ⌜ Right b (now section) (now start) (now ids) (now table) × Kept b (now start) (now ids) x e
+    requires { ⌜ Right b (now section) (now start) (now ids) (now table) × StringKept b (now start) (now ids) x e
         × (base ≡ baseOf b (now section) (now start) (now ids) x) ⌝ }
     ensures { λ r. ⌜ putOut r (now (out .exit))
         ≡ putText (now (out .entry)) at (whole
@@ -84,7 +84,7 @@ fn put_own(
     at: usize,
 ) -> usize
     requires { ⌜ Right b (now section) (now start) (now ids) (now table) × (now bases ≡ allBases b (now section) (now start) (now ids))
-        × (x < countOf b) ⌝ }
+        × (x < typeCount b) ⌝ }
     ensures { λ r. ⌜ putOut r (now (out .exit))
         ≡ putText (now (out .entry)) at (whole (ownBytes b (now (section .entry)) (now (start .entry)) (now (ids .entry)) x)) ⌝ }
 {
@@ -108,7 +108,8 @@ fn put_news(
 ) -> usize
     requires { ⌜ Right b (now section) (now start) (now ids) (now table) × (now bases ≡ allBases b (now section) (now start) (now ids)) ⌝ }
     ensures { λ r. ⌜ putOut r (now (out .exit))
-        ≡ putText (now (out .entry)) at (whole (newsBytes b (now (section .entry)) (now (start .entry)) (now (ids .entry)) (countOf b))) ⌝ }
+        ≡ putText (now (out .entry)) at
+        (whole (newsBytes b (now (section .entry)) (now (start .entry)) (now (ids .entry)) (typeCount b))) ⌝ }
 {
     let n = count(b);
     let mut p = at;
@@ -134,7 +135,7 @@ pub(crate) fn put_strings(
     requires { ⌜ Right b (now section) (now start) (now ids) (now table) × (now bases ≡ allBases b (now section) (now start) (now ids)) ⌝ }
     ensures { λ r. ⌜ putOut r (now (out .exit))
         ≡ putText (now (out .entry)) at (whole
-        (stringsBytes b (now (section .entry)) (now (start .entry)) (now (ids .entry)) (countOf b))) ⌝ }
+        (stringsBytes b (now (section .entry)) (now (start .entry)) (now (ids .entry)) (typeCount b))) ⌝ }
 {
     let p = put_byte(out, at, 0);
     put_news(b, section, start, ids, bases, table, out, p)

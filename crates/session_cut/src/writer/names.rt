@@ -19,10 +19,10 @@ ghost use Prim.Native.Nat.{_+_, _/_, _<_, _≤_};
 ghost use mathlib.Core.Bool.{true};
 ghost use lib.Dec.{eqb};
 ghost use lib.ListN.{length};
-ghost use Rattle.btf_open_causes.specs.references.Followed.{countOf};
+ghost use Rattle.btf_open_causes.specs.references.Followed.{typeCount};
 ghost use Rattle.session_cut_marks.specs.roles.Words.{wordsIn};
 ghost use Rattle.session_cut_marks.specs.mentioned.Names.{isNew, newSizes, baseOf, placeAt, placeFrom, placeOf};
-ghost use Rattle.session_cut_marks.specs.interned.Right.{allBases, Right, Kept};
+ghost use Rattle.session_cut_marks.specs.interned.Right.{allBases, Right, StringKept};
 ghost use Rattle.session_cut.specs.writer.Bytes.{nameIf, sought};
 
 // What the table has for the name of word j; 0 for another word and for the empty name.
@@ -83,7 +83,7 @@ fn length_to(
     base: u32,
     n: u32,
 ) -> u32
-    requires { ⌜ Right b (now section) (now start) (now ids) (now table) × Kept b (now start) (now ids) x e
+    requires { ⌜ Right b (now section) (now start) (now ids) (now table) × StringKept b (now start) (now ids) x e
         × (n ≤ wordsIn b (now section) e) × (base ≡ baseOf b (now section) (now start) (now ids) x) ⌝ }
     ensures { λ r. ⌜ r ≡ baseOf b (now (section .entry)) (now (start .entry)) (now (ids .entry)) x
         + newSizes b (now (section .entry)) (now (start .entry)) (now (ids .entry)) x e n ⌝ }
@@ -111,7 +111,7 @@ fn place_at(
     x: u32,
 ) -> u64
     requires { ⌜ Right b (now section) (now start) (now ids) (now table) × (now bases ≡ allBases b (now section) (now start) (now ids))
-        × (x < countOf b) ⌝ }
+        × (x < typeCount b) ⌝ }
     ensures { λ r. ⌜ r ≡ placeAt b (now (section .entry)) (now (start .entry)) (now (ids .entry)) (now (bases .entry)) off x ⌝ }
 {
     if !mentions(b, section, start, ids, off, x) {
@@ -134,7 +134,7 @@ fn place_from(
 ) -> u64
     requires { ⌜ Right b (now section) (now start) (now ids) (now table) × (now bases ≡ allBases b (now section) (now start) (now ids)) ⌝ }
     ensures { λ r. ⌜ r ≡ placeFrom b (now (section .entry)) (now (start .entry)) (now (ids .entry)) (now (bases .entry)) off 0
-        (countOf b) ⌝ }
+        (typeCount b) ⌝ }
 {
     let n = count(b);
     let mut x: u32 = 0;

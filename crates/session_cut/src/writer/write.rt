@@ -20,10 +20,10 @@ ghost use mathlib.Core.Bool.{true};
 ghost use Prim.Native.Nat.{_/_, _<_, _≤_};
 ghost use lib.ListN.{getD};
 ghost use Rattle.spec_bytes.specs.text.Text.{whole, putOut, putText};
-ghost use Rattle.btf_open_causes.specs.references.Followed.{countOf};
+ghost use Rattle.btf_open_causes.specs.references.Followed.{typeCount};
 ghost use Rattle.session_cut_marks.specs.roles.Words.{wordsIn, wordOf};
 ghost use Rattle.session_cut_marks.specs.mentioned.Names.{baseOf, placeOf};
-ghost use Rattle.session_cut_marks.specs.interned.Right.{allBases, Right, Kept};
+ghost use Rattle.session_cut_marks.specs.interned.Right.{allBases, Right, StringKept};
 ghost use Rattle.session_cut.specs.writer.Bytes.{wordBytes, magicBytes, headBytes, typeSize, typesSize, newWord, recordBytes};
 ghost use Rattle.session_cut.specs.writer.Bytes.{typeBytes, typesBytes, allBytes, wroteOf, fittingWritten, keptWritten};
 
@@ -68,7 +68,7 @@ pub fn put_head(out: &mut [u8], big: bool, flags: u8, types: u32, strings: u32) 
 
 // The length of the types.
 pub fn types_size(b: TypeTable, section: &[u8], start: &[u32], ids: &[u32]) -> u64
-    ensures { λ r. ⌜ r ≡ typesSize b (now (section .entry)) (now (start .entry)) (now (ids .entry)) (countOf b) ⌝ }
+    ensures { λ r. ⌜ r ≡ typesSize b (now (section .entry)) (now (start .entry)) (now (ids .entry)) (typeCount b) ⌝ }
 {
     let n = count(b);
     let mut len: u64 = 0;
@@ -135,7 +135,7 @@ fn put_record(
     at: usize,
 ) -> usize
     requires { ⌜ Right b (now section) (now start) (now ids) (now table) × (now bases ≡ allBases b (now section) (now start) (now ids))
-        × Kept b (now start) (now ids) x e × (base ≡ baseOf b (now section) (now start) (now ids) x) ⌝ }
+        × StringKept b (now start) (now ids) x e × (base ≡ baseOf b (now section) (now start) (now ids) x) ⌝ }
     ensures { λ r. ⌜ putOut r (now (out .exit))
         ≡ putText (now (out .entry)) at (whole
         (recordBytes b (now (section .entry)) (now (start .entry)) (now (ids .entry)) (now (bases .entry)) e
@@ -168,7 +168,7 @@ fn put_type(
     at: usize,
 ) -> usize
     requires { ⌜ Right b (now section) (now start) (now ids) (now table) × (now bases ≡ allBases b (now section) (now start) (now ids))
-        × (x < countOf b) ⌝ }
+        × (x < typeCount b) ⌝ }
     ensures { λ r. ⌜ putOut r (now (out .exit))
         ≡ putText (now (out .entry)) at (whole
         (typeBytes b (now (section .entry)) (now (start .entry)) (now (ids .entry)) (now (bases .entry)) x)) ⌝ }
@@ -195,7 +195,7 @@ fn put_types(
     requires { ⌜ Right b (now section) (now start) (now ids) (now table) × (now bases ≡ allBases b (now section) (now start) (now ids)) ⌝ }
     ensures { λ r. ⌜ putOut r (now (out .exit))
         ≡ putText (now (out .entry)) at (whole
-        (typesBytes b (now (section .entry)) (now (start .entry)) (now (ids .entry)) (now (bases .entry)) (countOf b))) ⌝ }
+        (typesBytes b (now (section .entry)) (now (start .entry)) (now (ids .entry)) (now (bases .entry)) (typeCount b))) ⌝ }
 {
     let n = count(b);
     let mut p = at;
@@ -283,8 +283,8 @@ fn write_fitting(
     out: &mut [u8],
 ) -> u64
     requires { ⌜ Right b (now section) (now start) (now ids) (now table) × (now bases ≡ allBases b (now section) (now start) (now ids))
-        × (types ≤ 16777216) × (strings ≤ 16777216) × (types ≡ typesSize b (now section) (now start) (now ids) (countOf b))
-        × (strings ≡ baseOf b (now section) (now start) (now ids) (countOf b)) ⌝ }
+        × (types ≤ 16777216) × (strings ≤ 16777216) × (types ≡ typesSize b (now section) (now start) (now ids) (typeCount b))
+        × (strings ≡ baseOf b (now section) (now start) (now ids) (typeCount b)) ⌝ }
     ensures { λ r. ⌜ wroteOf r (now (out .exit))
         ≡ fittingWritten b (now (section .entry)) (now (start .entry)) (now (ids .entry)) (now (bases .entry)) types strings
         (now (out .entry)) ⌝ }

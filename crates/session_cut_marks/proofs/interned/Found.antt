@@ -10,14 +10,14 @@ use borrow.Author.Tests.{eq-eqb, ne-eqb}
 use Rattle.spec_c_dumper.specs.rules.Types.{isEmpty}
 use Rattle.spec_type_table.specs.declared.types.TypeTable.{TypeTable}
 use Rattle.spec_type_table.specs.Names.{strAt}
-use Rattle.btf_open_causes.specs.references.Followed.{countOf, entryAt}
+use Rattle.btf_open_causes.specs.references.Followed.{typeCount, entryAt}
 use Rattle.btf_open_names.specs.name_classes.Table.{hashFrom}
 use Rattle.spec_cut.proofs.section.Names.{same-bytes}
 use Rattle.session_cut_marks.specs.roles.Words.{role, wordsIn, wordOf}
 use Rattle.session_cut_marks.proofs.roles.Laws.{get-past}
 use Rattle.session_cut_marks.specs.mentioned.Names.{isNew, newSizes, baseOf, placeOf}
 use Rattle.session_cut_marks.specs.interned.Slots.{probe, slotOf, found}
-use Rattle.session_cut_marks.specs.interned.Right.{allBases, Right, Kept}
+use Rattle.session_cut_marks.specs.interned.Right.{allBases, Right, StringKept}
 use Rattle.session_cut_marks.proofs.interned.Probes.{ends-same}
 use Rattle.session_cut_marks.proofs.interned.Places.{below, above, compare, seen, is-same, new-other, new-empty, new-first, new-later, place-new, place-old, base-is, base-up, length-small}
 
@@ -36,12 +36,12 @@ module _ (b : TypeTable) (s start ids t : List ℕ) (right : Right b s start ids
       in-table = elim (compare 262144 i) [ below h ↦ absurd (m (get-past t i 0 (omega (arith, h, right .long)))) | above h ↦ h ]
 
   -- the length before a kept type
-  pub base-kept : (x len : ℕ) (bases : List ℕ) → x < countOf b → bases ≡ allBases b s start ids → len ≡ getD bases x 0 → len ≡ baseOf b s start ids x
+  pub base-kept : (x len : ℕ) (bases : List ℕ) → x < typeCount b → bases ≡ allBases b s start ids → len ≡ getD bases x 0 → len ≡ baseOf b s start ids x
   base-kept x len bases l e h =
-      let y : x + (countOf b - x) ≡ countOf b = omega (arith, l) in
-      h ∙ ap (λ (r : List ℕ). getD r x 0) e ∙ base-is b s start ids x l (omega (arith, base-up b s start ids x (countOf b - x), ap (baseOf b s start ids) y, right .small))
+      let y : x + (typeCount b - x) ≡ typeCount b = omega (arith, l) in
+      h ∙ ap (λ (r : List ℕ). getD r x 0) e ∙ base-is b s start ids x l (omega (arith, base-up b s start ids x (typeCount b - x), ap (baseOf b s start ids) y, right .small))
 
-  module _ (x : ℕ) (l : x < countOf b) (kept : getD ids x 0 ≡ 0 → ⊥) (j len : ℕ) where
+  module _ (x : ℕ) (l : x < typeCount b) (kept : getD ids x 0 ≡ 0 → ⊥) (j len : ℕ) where
     -- with the entry of type x
     first-entry : j < wordsIn b s (entryAt b start x) → len ≡ baseOf b s start ids x + newSizes b s start ids x (entryAt b start x) j → role (entryAt b start x % 32) j ≡ 1 → (off : ℕ) → off ≡ wordOf b s (entryAt b start x) j
         → isEmpty (strAt b s off) ≡ false → (v : ℕ) → v ≡ found b s t off → (v ≡ 0 → ⊥) → eqb (v / 4294967296) len ≡ isNew b s start ids x (entryAt b start x) j
@@ -89,7 +89,7 @@ module _ (b : TypeTable) (s start ids t : List ℕ) (right : Right b s start ids
         go true r false some true y = absurd (true≢false (sym h ∙ new-later b s start ids x e j r some y))
         go true r false some false y = is ∙ sym (place-new b s start ids x l kept w some j k y (is-same b s e w j r refl) (length-small b s start ids (right .small) x l kept j (omega (arith, k))))
 
-  module _ (x e : ℕ) (k : Kept b start ids x e) (j len : ℕ) where
+  module _ (x e : ℕ) (k : StringKept b start ids x e) (j len : ℕ) where
     -- THE PLACE OF A NEW NAME is the length so far
     pub new-place : j < wordsIn b s e → len ≡ baseOf b s start ids x + newSizes b s start ids x e j → isNew b s start ids x e j ≡ true → len ≡ placeOf b s start ids (allBases b s start ids) (wordOf b s e j)
     new-place =

@@ -11,7 +11,7 @@ use Rattle.spec_c_dumper.specs.rules.Types.{isEmpty}
 use Rattle.spec_c_dumper.specs.rules.Names.{sameBytes}
 use Rattle.spec_type_table.specs.declared.types.TypeTable.{TypeTable}
 use Rattle.spec_type_table.specs.Names.{strAt}
-use Rattle.btf_open_causes.specs.references.Followed.{countOf, entryAt}
+use Rattle.btf_open_causes.specs.references.Followed.{typeCount, entryAt}
 use Rattle.btf_open_names.specs.name_classes.Table.{hashFrom}
 use Rattle.session_cut_marks.specs.roles.Words.{role, wordsIn, wordOf}
 use Rattle.session_cut_marks.specs.mentioned.Names.{isNew, newSize}
@@ -161,7 +161,7 @@ module _ (b : TypeTable) (s start ids : List ℕ) where
     unfolding filling
     filling-long h = rw (lt-ltb 16777216 (length s) h, filling)
 
-    pub filling-is : length s ≤ 16777216 → (n x m : ℕ) (u p : List ℕ) → n ≡ countOf b → x ≤ n → n ≤ x → filledOf m u ≡ filledTo b s start ids t x → p ≡ lengthsTo b s start ids t l x
+    pub filling-is : length s ≤ 16777216 → (n x m : ℕ) (u p : List ℕ) → n ≡ typeCount b → x ≤ n → n ≤ x → filledOf m u ≡ filledTo b s start ids t x → p ≡ lengthsTo b s start ids t l x
         → fillingOf (filledOf m u) p ≡ filling b s start ids t l
     unfolding filling
     filling-is k n x m u p c a d h g =

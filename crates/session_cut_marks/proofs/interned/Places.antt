@@ -13,7 +13,7 @@ use Rattle.spec_c_dumper.specs.rules.Types.{isEmpty}
 use Rattle.spec_c_dumper.specs.rules.Names.{sameBytes}
 use Rattle.spec_type_table.specs.declared.types.TypeTable.{TypeTable}
 use Rattle.spec_type_table.specs.Names.{strAt}
-use Rattle.btf_open_causes.specs.references.Followed.{countOf, entryAt}
+use Rattle.btf_open_causes.specs.references.Followed.{typeCount, entryAt}
 use Rattle.btf_open_causes.specs.references.Bounds.{count-fits}
 use Rattle.spec_cut.proofs.section.Names.{same-bytes, bytes-same}
 use Rattle.session_cut_marks.specs.roles.Words.{role, wordsIn, wordOf}
@@ -223,10 +223,10 @@ module _ (b : TypeTable) (s : List ℕ) where
     abbrev bases : List ℕ
     bases = allBases b s start ids
 
-    pub base-is : (x : ℕ) → x < countOf b → baseOf b s start ids x ≤ 16777216 → getD bases x 0 ≡ baseOf b s start ids x
+    pub base-is : (x : ℕ) → x < typeCount b → baseOf b s start ids x ≤ 16777216 → getD bases x 0 ≡ baseOf b s start ids x
     base-is x l k =
         let small : baseOf b s start ids x % 4294967296 ≡ baseOf b s start ids x = omega (arith, k) in
-        bases-at zeroBases (countOf b) x l (omega (arith, count-fits b, zero-bases)) ∙ small
+        bases-at zeroBases (typeCount b) x l (omega (arith, count-fits b, zero-bases)) ∙ small
 
     -- ---- the type that mentions a name for the first time
     place-not : (off x : ℕ) → mentions b s start ids off x ≡ false → placeAt b s start ids bases off x ≡ 0
@@ -249,14 +249,14 @@ module _ (b : TypeTable) (s : List ℕ) where
         ap (λ (v : ℕ). elim v as (λ u. ℕ) [ zero ↦ placeFrom b s start ids bases off (suc x) k | suc w ↦ suc w ]) (place-not off x (mentioned-none off (x + suc d) x (omega arith) f))
         ∙ from-skip off p d (suc x) k (omega (arith, l)) (ap (mentionedTo b s start ids off) (sym z) ∙ f) (ap (placeAt b s start ids bases off) (sym z) ∙ h)
 
-    place-some : (off p : ℕ) → isEmpty (strAt b s off) ≡ false → placeFrom b s start ids bases off 0 (countOf b) ≡ p → p ≤ 16777216 → placeOf b s start ids bases off ≡ p
+    place-some : (off p : ℕ) → isEmpty (strAt b s off) ≡ false → placeFrom b s start ids bases off 0 (typeCount b) ≡ p → p ≤ 16777216 → placeOf b s start ids bases off ≡ p
     unfolding placeOf
     place-some off p n h l =
         let z : p % 4294967296 ≡ p = omega (arith, l) in
-        ap (λ (q : Bool). elim q as (λ u. ℕ) [ true ↦ 0 | false ↦ placeFrom b s start ids bases off 0 (countOf b) % 4294967296 ]) n ∙ ap (λ (v : ℕ). v % 4294967296) h ∙ z
+        ap (λ (q : Bool). elim q as (λ u. ℕ) [ true ↦ 0 | false ↦ placeFrom b s start ids bases off 0 (typeCount b) % 4294967296 ]) n ∙ ap (λ (v : ℕ). v % 4294967296) h ∙ z
 
     -- word j of type x, which is kept. off: a name that is not empty
-    module _ (x : ℕ) (l : x < countOf b) (kept : getD ids x 0 ≡ 0 → ⊥) (off : ℕ) (some : isEmpty (strAt b s off) ≡ false) where
+    module _ (x : ℕ) (l : x < typeCount b) (kept : getD ids x 0 ≡ 0 → ⊥) (off : ℕ) (some : isEmpty (strAt b s off) ≡ false) where
       -- FOR THE FIRST TIME: the place is the length so far
       pub place-new : (j : ℕ) → j < wordsIn b s (entryAt b start x) → seen off x (entryAt b start x) j ≡ false → isName b s (entryAt b start x) off j ≡ true
           → baseOf b s start ids x + newSizes b s start ids x (entryAt b start x) j ≤ 16777216
@@ -272,8 +272,8 @@ module _ (b : TypeTable) (s : List ℕ) where
           let at : placeAt b s start ids bases off x ≡ v =
           place-mentioned off x (kept-mentions off x kept ∙ named-some e off n j k h)
           ∙ (λ i. base-is x l (omega (arith, small)) i + newSizes b s start ids x e (first i)) in
-          let from : placeFrom b s start ids bases off 0 (countOf b) ≡ suc (v - 1) =
-          from-skip off (v - 1) x 0 (countOf b) l (ap (mentionedTo b s start ids off) (from-zero x) ∙ r .0) (ap (placeAt b s start ids bases off) (from-zero x) ∙ at ∙ sym z) in
+          let from : placeFrom b s start ids bases off 0 (typeCount b) ≡ suc (v - 1) =
+          from-skip off (v - 1) x 0 (typeCount b) l (ap (mentionedTo b s start ids off) (from-zero x) ∙ r .0) (ap (placeAt b s start ids bases off) (from-zero x) ∙ at ∙ sym z) in
           place-some off v some (from ∙ z) small
         where
           from-zero : (i : ℕ) → 0 + i ≡ i
@@ -306,7 +306,7 @@ module _ (b : TypeTable) (s : List ℕ) where
           go false g y more =
               omega (arith, new-some j f g y, place-new j (omega (arith, k)) (λ i. orElse (f i) (g i)) y (omega (arith, small)))
 
-    old-types : (off : ℕ) → isEmpty (strAt b s off) ≡ false → (x : ℕ) → x ≤ countOf b → mentionedTo b s start ids off x ≡ true → baseOf b s start ids x ≤ 16777216 → placeOf b s start ids bases off < baseOf b s start ids x
+    old-types : (off : ℕ) → isEmpty (strAt b s off) ≡ false → (x : ℕ) → x ≤ typeCount b → mentionedTo b s start ids off x ≡ true → baseOf b s start ids x ≤ 16777216 → placeOf b s start ids bases off < baseOf b s start ids x
     unfolding mentionedTo orMentions baseOf
     old-types off some zero l h small = absurd (true≢false (sym h))
     old-types off some (suc x) l h small = go (mentionedTo b s start ids off x) refl h (old-types off some x (omega (arith, l)))
@@ -321,7 +321,7 @@ module _ (b : TypeTable) (s : List ℕ) where
             omega (arith, size, old-here x (omega (arith, l)) kept off some (wordsIn b s (entryAt b start x)) (omega arith) g (sym (kept-mentions off x kept) ∙ y) (omega (arith, size, small)))
 
     -- MENTIONED BEFORE: the place is below the length so far
-    pub place-old : (x : ℕ) → x < countOf b → (getD ids x 0 ≡ 0 → ⊥) → (off : ℕ) → isEmpty (strAt b s off) ≡ false → (j : ℕ) → j ≤ wordsIn b s (entryAt b start x) → seen off x (entryAt b start x) j ≡ true
+    pub place-old : (x : ℕ) → x < typeCount b → (getD ids x 0 ≡ 0 → ⊥) → (off : ℕ) → isEmpty (strAt b s off) ≡ false → (j : ℕ) → j ≤ wordsIn b s (entryAt b start x) → seen off x (entryAt b start x) j ≡ true
         → baseOf b s start ids x + newSizes b s start ids x (entryAt b start x) j ≤ 16777216
         → placeOf b s start ids bases off < baseOf b s start ids x + newSizes b s start ids x (entryAt b start x) j
     unfolding seen
@@ -337,10 +337,10 @@ module _ (b : TypeTable) (s : List ℕ) where
     sizes-up x e j zero = let z : j + 0 ≡ j = omega arith in omega (arith, ap (newSizes b s start ids x e) z)
     sizes-up x e j (suc d) = let z : j + suc d ≡ suc (j + d) = omega arith in omega (arith, ap (newSizes b s start ids x e) z, sizes-up x e j d)
 
-    pub length-small : baseOf b s start ids (countOf b) ≤ 16777216 → (x : ℕ) → x < countOf b → (getD ids x 0 ≡ 0 → ⊥) → (j : ℕ) → j ≤ wordsIn b s (entryAt b start x)
+    pub length-small : baseOf b s start ids (typeCount b) ≤ 16777216 → (x : ℕ) → x < typeCount b → (getD ids x 0 ≡ 0 → ⊥) → (j : ℕ) → j ≤ wordsIn b s (entryAt b start x)
         → baseOf b s start ids x + newSizes b s start ids x (entryAt b start x) j ≤ 16777216
     length-small small x l kept j k =
         let n : ℕ = wordsIn b s (entryAt b start x) in
         let y : j + (n - j) ≡ n = omega (arith, k) in
-        let z : suc x + (countOf b - suc x) ≡ countOf b = omega (arith, l) in
-        omega (arith, sizes-up x (entryAt b start x) j (n - j), ap (newSizes b s start ids x (entryAt b start x)) y, kept-size x kept, base-next x, base-up (suc x) (countOf b - suc x), ap (baseOf b s start ids) z, small)
+        let z : suc x + (typeCount b - suc x) ≡ typeCount b = omega (arith, l) in
+        omega (arith, sizes-up x (entryAt b start x) j (n - j), ap (newSizes b s start ids x (entryAt b start x)) y, kept-size x kept, base-next x, base-up (suc x) (typeCount b - suc x), ap (baseOf b s start ids) z, small)

@@ -13,7 +13,7 @@ use Rattle.spec_c_dumper.specs.rules.Types.{isEmpty}
 use Rattle.spec_c_dumper.specs.rules.Names.{sameBytes}
 use Rattle.spec_type_table.specs.declared.types.TypeTable.{TypeTable}
 use Rattle.spec_type_table.specs.Names.{upToZero, nameAt, strAt}
-use Rattle.btf_open_causes.specs.references.Followed.{countOf, entryAt}
+use Rattle.btf_open_causes.specs.references.Followed.{typeCount, entryAt}
 use Rattle.btf_open_names.specs.name_classes.Table.{hashFrom}
 use Rattle.spec_cut.proofs.section.Names.{same-bytes, bytes-same}
 use Rattle.session_cut_marks.specs.roles.Words.{role, wordsIn, wordOf}
@@ -112,7 +112,7 @@ module _ (b : TypeTable) (s start ids : List ℕ) (short : length s ≤ 16777216
   sizes-next x e j = refl
 
   -- ---- word j of type x, which is kept
-  module _ (x : ℕ) (l : x < countOf b) (kept : getD ids x 0 ≡ 0 → ⊥) (j : ℕ) (k : j < wordsIn b s (entryAt b start x)) (len : ℕ) (t : List ℕ) (g : Good x (entryAt b start x) j len t) where
+  module _ (x : ℕ) (l : x < typeCount b) (kept : getD ids x 0 ≡ 0 → ⊥) (j : ℕ) (k : j < wordsIn b s (entryAt b start x)) (len : ℕ) (t : List ℕ) (g : Good x (entryAt b start x) j len t) where
     abbrev e : ℕ
     e = entryAt b start x
 
@@ -279,14 +279,14 @@ module _ (b : TypeTable) (s start ids : List ℕ) (short : length s ≤ 16777216
         go h r false y = word-name h r y
 
   -- ---- the words of a type, and the types
-  word-step : (x : ℕ) → x < countOf b → (getD ids x 0 ≡ 0 → ⊥) → (j : ℕ) → j < wordsIn b s (entryAt b start x) → (f : Filled) → Holds x (entryAt b start x) j f
+  word-step : (x : ℕ) → x < typeCount b → (getD ids x 0 ≡ 0 → ⊥) → (j : ℕ) → j < wordsIn b s (entryAt b start x) → (f : Filled) → Holds x (entryAt b start x) j f
       → Holds x (entryAt b start x) (suc j) (after f (entered b s start ids x (entryAt b start x) j))
   unfolding after
   word-step x l kept j k (filledOf len t) (good g) = word-good x l kept j k len t g
   word-step x l kept j k (filledOf len t) (over a c) =
       subst (Holds x (entryAt b start x) (suc j)) (entered-over b s start ids x (entryAt b start x) j len t a) (over a (omega (arith, c, sizes-next x (entryAt b start x) j)))
 
-  words-step : (x : ℕ) → x < countOf b → (getD ids x 0 ≡ 0 → ⊥) → (len : ℕ) (t : List ℕ) → Held x (entryAt b start x) 0 len t → (n : ℕ) → n ≤ wordsIn b s (entryAt b start x)
+  words-step : (x : ℕ) → x < typeCount b → (getD ids x 0 ≡ 0 → ⊥) → (len : ℕ) (t : List ℕ) → Held x (entryAt b start x) 0 len t → (n : ℕ) → n ≤ wordsIn b s (entryAt b start x)
       → Holds x (entryAt b start x) n (enteredTo b s start ids x (entryAt b start x) len t n)
   unfolding enteredTo
   words-step x l kept len t h zero k = h
@@ -315,7 +315,7 @@ module _ (b : TypeTable) (s start ids : List ℕ) (short : length s ≤ 16777216
   unfolding recordSize
   no-size x z = ap (λ (q : Bool). elim q as (λ u. ℕ) [ true ↦ 0 | false ↦ newSizes b s start ids x (entryAt b start x) (wordsIn b s (entryAt b start x)) ]) (eq-eqb (getD ids x 0) 0 z)
 
-  type-step : (x : ℕ) → x < countOf b → (f : Filled) → Holds x 0 0 f → Holds (suc x) 0 0 (after f (enteredType b s start ids x))
+  type-step : (x : ℕ) → x < typeCount b → (f : Filled) → Holds x 0 0 f → Holds (suc x) 0 0 (after f (enteredType b s start ids x))
   unfolding after
   type-step x l (filledOf len t) h =
       elim (ℕ-discrete (getD ids x 0) 0) [
@@ -339,59 +339,59 @@ module _ (b : TypeTable) (s start ids : List ℕ) (short : length s ≤ 16777216
     whole = λ off n h. absurd (true≢false (sym h ∙ seen-start off 0 0));
   }
 
-  types-step : (x : ℕ) → x ≤ countOf b → Holds x 0 0 (filledTo b s start ids zeroTable x)
+  types-step : (x : ℕ) → x ≤ typeCount b → Holds x 0 0 (filledTo b s start ids zeroTable x)
   unfolding filledTo
   types-step zero l = first
   types-step (suc x) l = type-step x (omega (arith, l)) (filledTo b s start ids zeroTable x) (types-step x (omega (arith, l)))
 
   -- ---- the lengths before the types
-  length-is : (x : ℕ) → x ≤ countOf b → baseOf b s start ids (countOf b) ≤ 16777216 → lengthOf (filledTo b s start ids zeroTable x) ≡ baseOf b s start ids x % 4294967296
+  length-is : (x : ℕ) → x ≤ typeCount b → baseOf b s start ids (typeCount b) ≤ 16777216 → lengthOf (filledTo b s start ids zeroTable x) ≡ baseOf b s start ids x % 4294967296
   unfolding lengthOf
   length-is x l small = go (filledTo b s start ids zeroTable x) (types-step x l)
     where
       up : baseOf b s start ids x ≤ 16777216
-      up = let y : x + (countOf b - x) ≡ countOf b = omega (arith, l) in omega (arith, base-up b s start ids x (countOf b - x), ap (baseOf b s start ids) y, small)
+      up = let y : x + (typeCount b - x) ≡ typeCount b = omega (arith, l) in omega (arith, base-up b s start ids x (typeCount b - x), ap (baseOf b s start ids) y, small)
 
       go : (f : Filled) → Holds x 0 0 f → lengthOf f ≡ baseOf b s start ids x % 4294967296
       go (filledOf len t) (good g) = omega (arith, g .is, sizes-start x 0, up)
       go (filledOf len t) (over a c) = absurd (omega (arith, c, sizes-start x 0, up))
 
-  lengths-are : baseOf b s start ids (countOf b) ≤ 16777216 → (l : List ℕ) (n : ℕ) → n ≤ countOf b → lengthsTo b s start ids zeroTable l n ≡ basesTo b s start ids l n
+  lengths-are : baseOf b s start ids (typeCount b) ≤ 16777216 → (l : List ℕ) (n : ℕ) → n ≤ typeCount b → lengthsTo b s start ids zeroTable l n ≡ basesTo b s start ids l n
   unfolding lengthsTo basesTo
   lengths-are small l zero k = refl
   lengths-are small l (suc n) k = λ i. set (lengths-are small l n (omega (arith, k)) i) n (length-is n (omega (arith, k)) small i)
 
   -- ---- THE TABLE OF ALL TYPES. len, t, l: what the code comes to
   module _ (len : ℕ) (t l : List ℕ) (h : fillingOf (filledOf len t) l ≡ filling b s start ids zeroTable zeroBases) where
-    filling-is : filling b s start ids zeroTable zeroBases ≡ fillingOf (filledTo b s start ids zeroTable (countOf b)) (lengthsTo b s start ids zeroTable zeroBases (countOf b))
+    filling-is : filling b s start ids zeroTable zeroBases ≡ fillingOf (filledTo b s start ids zeroTable (typeCount b)) (lengthsTo b s start ids zeroTable zeroBases (typeCount b))
     unfolding filling
-    filling-is = ap (λ (q : Bool). elim q as (λ z. Filling) [ true ↦ fillingOf (filledOf 0 zeroTable) zeroBases | false ↦ fillingOf (filledTo b s start ids zeroTable (countOf b)) (lengthsTo b s start ids zeroTable zeroBases (countOf b)) ]) (le-ltb 16777216 (length s) short)
+    filling-is = ap (λ (q : Bool). elim q as (λ z. Filling) [ true ↦ fillingOf (filledOf 0 zeroTable) zeroBases | false ↦ fillingOf (filledTo b s start ids zeroTable (typeCount b)) (lengthsTo b s start ids zeroTable zeroBases (typeCount b)) ]) (le-ltb 16777216 (length s) short)
 
-    held : Held (countOf b) 0 0 len t
+    held : Held (typeCount b) 0 0 len t
     unfolding filledPart
-    held = subst (Holds (countOf b) 0 0) (sym (ap filledPart (h ∙ filling-is))) (types-step (countOf b) (omega arith))
+    held = subst (Holds (typeCount b) 0 0) (sym (ap filledPart (h ∙ filling-is))) (types-step (typeCount b) (omega arith))
 
-    pub table-over : 16777216 < len → 16777216 < baseOf b s start ids (countOf b)
+    pub table-over : 16777216 < len → 16777216 < baseOf b s start ids (typeCount b)
     table-over a = go held
       where
-        go : Held (countOf b) 0 0 len t → 16777216 < baseOf b s start ids (countOf b)
-        go (good g) = omega (arith, a, g .is, sizes-start (countOf b) 0)
-        go (over c d) = omega (arith, d, sizes-start (countOf b) 0)
+        go : Held (typeCount b) 0 0 len t → 16777216 < baseOf b s start ids (typeCount b)
+        go (good g) = omega (arith, a, g .is, sizes-start (typeCount b) 0)
+        go (over c d) = omega (arith, d, sizes-start (typeCount b) 0)
 
     module _ (small : len ≤ 16777216) where
-      good-held : Good (countOf b) 0 0 len t
+      good-held : Good (typeCount b) 0 0 len t
       good-held = go held
         where
-          go : Held (countOf b) 0 0 len t → Good (countOf b) 0 0 len t
+          go : Held (typeCount b) 0 0 len t → Good (typeCount b) 0 0 len t
           go (good g) = g
           go (over c d) = absurd (omega (arith, c, small))
 
-      pub table-length : len ≡ baseOf b s start ids (countOf b)
-      table-length = omega (arith, good-held .is, sizes-start (countOf b) 0)
+      pub table-length : len ≡ baseOf b s start ids (typeCount b)
+      table-length = omega (arith, good-held .is, sizes-start (typeCount b) 0)
 
       pub table-bases : l ≡ allBases b s start ids
       unfolding lengthsPart
-      table-bases = ap lengthsPart (h ∙ filling-is) ∙ lengths-are (omega (arith, small, table-length)) zeroBases (countOf b) (omega arith)
+      table-bases = ap lengthsPart (h ∙ filling-is) ∙ lengths-are (omega (arith, small, table-length)) zeroBases (typeCount b) (omega arith)
 
       pub table-right : Right b s start ids t
       table-right = record { short = short; small = omega (arith, small, table-length); long = good-held .long; places = λ i n. good-held .says i n .1 }

@@ -10,7 +10,7 @@ use lib.Dec.{ltb, eqb}
 use borrow.Author.Tests.{eq-eqb, ne-eqb, eqb-true, lt-ltb, le-ltb, ltb-true}
 use Rattle.spec_bytes.specs.words.Words.{getWord}
 use Rattle.spec_type_table.specs.declared.types.TypeTable.{TypeTable}
-use Rattle.btf_open_causes.specs.references.Followed.{countOf, entryAt, kindAt, placeOf, countAt, idAt, followedCount, followedId}
+use Rattle.btf_open_causes.specs.references.Followed.{typeCount, entryAt, kindAt, placeOf, countAt, idAt, followedCount, followedId}
 use Rattle.btf_open_causes.specs.references.Zeros.{zeros}
 use Rattle.btf_open_causes.proofs.references.Zeros.{zeros-less}
 use Rattle.session_cut_marks.specs.tags.Tags.{taggedTo, numbersOf}
@@ -155,7 +155,7 @@ module _ (b : TypeTable) (s start : List ℕ) where
 
 -- ---- all of it
 pub ids-are : (b : TypeTable) (s start given m m₁ st₁ : List ℕ) (d : ℕ) (m₂ st₂ m₃ m₄ : List ℕ) → heap m₁ st₁ d ≡ pushedTo (getWord given) (heap m allZero 0) (length given / 4)
-    → heap m₂ st₂ 0 ≡ closed b s start (weight (heap m₁ st₁ d)) (heap m₁ st₁ d) → m₃ ≡ taggedTo b s start m₂ (countOf b) → m₄ ≡ numbersOf m₃ → m₄ ≡ idsOf b s start given m
+    → heap m₂ st₂ 0 ≡ closed b s start (weight (heap m₁ st₁ d)) (heap m₁ st₁ d) → m₃ ≡ taggedTo b s start m₂ (typeCount b) → m₄ ≡ numbersOf m₃ → m₄ ≡ idsOf b s start given m
 unfolding idsOf reachedMarks asked
 ids-are b s start given m m₁ st₁ d m₂ st₂ m₃ m₄ e f g h =
-    h ∙ ap numbersOf (g ∙ ap (λ (l : List ℕ). taggedTo b s start l (countOf b)) (ap marksIn f ∙ ap (λ (q : Heap). marksIn (closed b s start (weight q) q)) e))
+    h ∙ ap numbersOf (g ∙ ap (λ (l : List ℕ). taggedTo b s start l (typeCount b)) (ap marksIn f ∙ ap (λ (q : Heap). marksIn (closed b s start (weight q) q)) e))

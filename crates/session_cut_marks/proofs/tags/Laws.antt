@@ -10,7 +10,7 @@ use lib.Dec.{ltb, eqb}
 use borrow.Author.Tests.{eq-eqb, ne-eqb, lt-ltb, le-ltb}
 use Rattle.spec_type_table.specs.declared.types.TypeTable.{TypeTable}
 use Rattle.spec_type_table.specs.Records.{sectionWord}
-use Rattle.btf_open_causes.specs.references.Followed.{countOf, entryAt, kindAt, placeOf}
+use Rattle.btf_open_causes.specs.references.Followed.{typeCount, entryAt, kindAt, placeOf}
 use Rattle.session_cut_marks.specs.tags.Tags.{tagOn, taggedAt, taggedTo, Numbered, numbered, numbersIn, numberedAt, numberedTo, numbersOf}
 
 pub peek-past : (l : List ℕ) (i : ℕ) → length l ≤ i → 0 ≡ getD l i 0
@@ -74,7 +74,7 @@ module _ (b : TypeTable) (s start : List ℕ) where
   unfolding taggedTo
   more-tagged m₀ m m′ x e p = rw add-one (p ∙ ap (λ (l : List ℕ). taggedAt b s start l x) e)
 
-  pub all-tagged : (m₀ m : List ℕ) (n x : ℕ) → n ≡ countOf b → x ≤ n → n ≤ x → m ≡ taggedTo b s start m₀ x → m ≡ taggedTo b s start m₀ (countOf b)
+  pub all-tagged : (m₀ m : List ℕ) (n x : ℕ) → n ≡ typeCount b → x ≤ n → n ≤ x → m ≡ taggedTo b s start m₀ x → m ≡ taggedTo b s start m₀ (typeCount b)
   all-tagged m₀ m n x c l g e = let z : x ≡ n = omega (arith, l, g) in e ∙ ap (taggedTo b s start m₀) (z ∙ c)
 
 -- ---- numbers

@@ -8,7 +8,7 @@ use lib.Dec.{ltb, eqb}
 use Rattle.spec_c_dumper.specs.rules.Types.{isEmpty}
 use Rattle.spec_type_table.specs.declared.types.TypeTable.{TypeTable}
 use Rattle.spec_type_table.specs.Names.{strAt}
-use Rattle.btf_open_causes.specs.references.Followed.{countOf, entryAt}
+use Rattle.btf_open_causes.specs.references.Followed.{typeCount, entryAt}
 use Rattle.session_cut_marks.specs.roles.Words.{role, wordsIn, wordOf}
 use Rattle.session_cut_marks.specs.mentioned.Names.{newSize}
 use Rattle.session_cut_marks.specs.interned.Slots.{slotOf}
@@ -84,5 +84,5 @@ unfoldable pub filling : TypeTable → List ℕ → List ℕ → List ℕ → Li
 filling b s start ids t l =
     elim (ltb 16777216 (length s)) [
       | true ↦ fillingOf (filledOf 0 t) l
-      | false ↦ fillingOf (filledTo b s start ids t (countOf b)) (lengthsTo b s start ids t l (countOf b))
+      | false ↦ fillingOf (filledTo b s start ids t (typeCount b)) (lengthsTo b s start ids t l (typeCount b))
     ]

@@ -9,7 +9,7 @@ use lib.ListN.{length, getD, set, replicate}
 use lib.Dec.{ltb, eqb}
 use Rattle.spec_bytes.specs.words.Words.{getWord}
 use Rattle.spec_type_table.specs.declared.types.TypeTable.{TypeTable}
-use Rattle.btf_open_causes.specs.references.Followed.{countOf, followedCount, followedId}
+use Rattle.btf_open_causes.specs.references.Followed.{typeCount, followedCount, followedId}
 use Rattle.btf_open_causes.specs.references.Zeros.{zeros}
 use Rattle.session_cut_marks.specs.tags.Tags.{taggedTo, numbersOf}
 
@@ -68,4 +68,4 @@ module _ (b : TypeTable) (s start given : List ℕ) where
   reachedMarks m = marksIn (closed b s start (weight (asked m)) (asked m))
 
   unfoldable pub idsOf : List ℕ → List ℕ
-  idsOf m = numbersOf (taggedTo b s start (reachedMarks m) (countOf b))
+  idsOf m = numbersOf (taggedTo b s start (reachedMarks m) (typeCount b))

@@ -9,7 +9,7 @@ use Rattle.spec_c_dumper.specs.rules.Types.{isEmpty}
 use Rattle.spec_c_dumper.specs.rules.Names.{sameBytes}
 use Rattle.spec_type_table.specs.declared.types.TypeTable.{TypeTable}
 use Rattle.spec_type_table.specs.Names.{strAt}
-use Rattle.btf_open_causes.specs.references.Followed.{countOf, entryAt}
+use Rattle.btf_open_causes.specs.references.Followed.{typeCount, entryAt}
 use Rattle.session_cut_marks.specs.roles.Words.{role, wordsIn, wordOf}
 
 module _ (b : TypeTable) (s : List ℕ) where
@@ -93,7 +93,7 @@ module _ (b : TypeTable) (s : List ℕ) where
 
       -- where a name stands in the new strings
       unfoldable pub placeOf : ℕ → ℕ
-      placeOf off = elim (isEmpty (strAt b s off)) [ true ↦ 0 | false ↦ placeFrom off 0 (countOf b) % 4294967296 ]
+      placeOf off = elim (isEmpty (strAt b s off)) [ true ↦ 0 | false ↦ placeFrom off 0 (typeCount b) % 4294967296 ]
 
 -- bases at the start: void and as many types as there may be
 unfoldable pub zeroBases : List ℕ

@@ -9,7 +9,7 @@ use lib.ListN.{length}
 use lib.Dec.{ltb, eqb}
 use Rattle.spec_c_dumper.specs.rules.Types.{Qualifier, volatile, const, restrict}
 use Rattle.session_declaration_reader.specs.tokens.Tokens.{Kind, tagWord, voidWord, otherWord, Token, qual, word, number, mark, rest}
-use Rattle.session_declaration_reader.specs.bases.Bases.{Spelt, spelt, among, distinct, begins, beginsWord, bracketed, qualRun, afterQuals, endsName, wordRun, afterWords, isTag, noTags, single, isBase, wordsOf, sameQualifier}
+use Rattle.session_declaration_reader.specs.bases.Bases.{Spelt, spelt, isQualifierAmong, distinct, begins, beginsWord, bracketed, qualRun, afterQuals, endsName, wordRun, afterWords, isTag, noTags, single, isBase, wordsOf, sameQualifier}
 use Rattle.session_declaration_reader.specs.tokens.Looking.{Span, tokensAt, signOf, spanOf, Looked}
 use Rattle.session_declaration_reader.specs.bases.Items.{qualCode, firstFrom, lastTo}
 use Rattle.session_declaration_reader.specs.bases.Looking.{qualSign, wordSigned, voidSigned, qualOf, QualsAt, Third, isBaseWord, AfterWords, BaseAt}
@@ -349,7 +349,7 @@ same-code restrict volatile = refl
 same-code restrict restrict = refl
 
 first-two : (p q : Qualifier) (qs : List Qualifier) → sameQualifier p q ≡ true → distinct (p ∷ q ∷ qs) ≡ false
-unfolding distinct among
+unfolding distinct isQualifierAmong
 first-two p q qs e = rw e
 
 abbrev mk : Bool → ℕ → ℕ → ℕ → ℕ → Quals
@@ -371,36 +371,36 @@ ends-two false false = refl
 
 -- four qualifiers are never distinct
 four : (p q r x : Qualifier) (qs : List Qualifier) → sameQualifier p q ≡ false → sameQualifier p r ≡ false → sameQualifier q r ≡ false → distinct (p ∷ q ∷ r ∷ x ∷ qs) ≡ false
-unfolding distinct among
+unfolding distinct isQualifierAmong
 four volatile volatile r x qs e f g = absurd (false-true (sym e))
 four volatile const volatile x qs e f g = absurd (false-true (sym f))
 four volatile const const x qs e f g = absurd (false-true (sym g))
 four volatile const restrict volatile qs e f g = refl
-four volatile const restrict const qs e f g = ends-one (among volatile qs)
-four volatile const restrict restrict qs e f g = ends-two (among volatile qs) (among const qs)
+four volatile const restrict const qs e f g = ends-one (isQualifierAmong volatile qs)
+four volatile const restrict restrict qs e f g = ends-two (isQualifierAmong volatile qs) (isQualifierAmong const qs)
 four volatile restrict volatile x qs e f g = absurd (false-true (sym f))
 four volatile restrict const volatile qs e f g = refl
-four volatile restrict const const qs e f g = ends-two (among volatile qs) (among restrict qs)
-four volatile restrict const restrict qs e f g = ends-one (among volatile qs)
+four volatile restrict const const qs e f g = ends-two (isQualifierAmong volatile qs) (isQualifierAmong restrict qs)
+four volatile restrict const restrict qs e f g = ends-one (isQualifierAmong volatile qs)
 four volatile restrict restrict x qs e f g = absurd (false-true (sym g))
 four const volatile volatile x qs e f g = absurd (false-true (sym g))
 four const volatile const x qs e f g = absurd (false-true (sym f))
-four const volatile restrict volatile qs e f g = ends-one (among const qs)
+four const volatile restrict volatile qs e f g = ends-one (isQualifierAmong const qs)
 four const volatile restrict const qs e f g = refl
-four const volatile restrict restrict qs e f g = ends-two (among const qs) (among volatile qs)
+four const volatile restrict restrict qs e f g = ends-two (isQualifierAmong const qs) (isQualifierAmong volatile qs)
 four const const r x qs e f g = absurd (false-true (sym e))
-four const restrict volatile volatile qs e f g = ends-two (among const qs) (among restrict qs)
+four const restrict volatile volatile qs e f g = ends-two (isQualifierAmong const qs) (isQualifierAmong restrict qs)
 four const restrict volatile const qs e f g = refl
-four const restrict volatile restrict qs e f g = ends-one (among const qs)
+four const restrict volatile restrict qs e f g = ends-one (isQualifierAmong const qs)
 four const restrict const x qs e f g = absurd (false-true (sym f))
 four const restrict restrict x qs e f g = absurd (false-true (sym g))
 four restrict volatile volatile x qs e f g = absurd (false-true (sym g))
-four restrict volatile const volatile qs e f g = ends-one (among restrict qs)
-four restrict volatile const const qs e f g = ends-two (among restrict qs) (among volatile qs)
+four restrict volatile const volatile qs e f g = ends-one (isQualifierAmong restrict qs)
+four restrict volatile const const qs e f g = ends-two (isQualifierAmong restrict qs) (isQualifierAmong volatile qs)
 four restrict volatile const restrict qs e f g = refl
 four restrict volatile restrict x qs e f g = absurd (false-true (sym f))
-four restrict const volatile volatile qs e f g = ends-two (among restrict qs) (among const qs)
-four restrict const volatile const qs e f g = ends-one (among restrict qs)
+four restrict const volatile volatile qs e f g = ends-two (isQualifierAmong restrict qs) (isQualifierAmong const qs)
+four restrict const volatile const qs e f g = ends-one (isQualifierAmong restrict qs)
 four restrict const volatile restrict qs e f g = refl
 four restrict const const x qs e f g = absurd (false-true (sym g))
 four restrict const restrict x qs e f g = absurd (false-true (sym f))
@@ -408,9 +408,9 @@ four restrict restrict r x qs e f g = absurd (false-true (sym e))
 
 three-distinct : (p q r : Qualifier) (ts : Ts) → sameQualifier p q ≡ false → (a b : Bool) → sameQualifier p r ≡ a → sameQualifier q r ≡ b
     → distinct (p ∷ q ∷ r ∷ qualRun ts) ≡ (not a && not b && not (qualSign (signOf ts)))
-unfolding distinct among
+unfolding distinct isQualifierAmong
 three-distinct p q r ts e true b f g = rw (e, f)
-three-distinct p q r ts e false true f g = rw (e, f, g) (ends (among p (qualRun ts)))
+three-distinct p q r ts e false true f g = rw (e, f, g) (ends (isQualifierAmong p (qualRun ts)))
   where
     ends : (a : Bool) → (not a && false) ≡ false
     ends true = refl
@@ -446,7 +446,7 @@ module _ (s : List ℕ) (at : ℕ) (t : Tok) (l : Looked s at t) where
 
       module _ (u : Tok) (m : Looked s (t .end) u) (r₂ : Bool) (e₂ : r₂ ≡ qualSign (u .sign)) where
         pub quals-one : r₂ ≡ false → QualsAt s at (mk true (t .sign) 0 0 (t .end))
-        unfolding distinct among qualOf
+        unfolding distinct isQualifierAmong qualOf
         quals-one f =
             let o = qover (tokensAt s (t .end)) (sym (e₂ ∙ ap qualSign (m .sign-is)) ∙ f) in
             let run : qualRun (tokensAt s at) ≡ q₁ .is ∷ [] = run₁ ∙ ap (λ (x : List Qualifier). q₁ .is ∷ x) (o .0) in
@@ -483,7 +483,7 @@ module _ (s : List ℕ) (at : ℕ) (t : Tok) (l : Looked s at t) where
             apart₂ = same₂ ∙ ne-eqb (t .sign) (u .sign) ne
 
             pub quals-two : r₃ ≡ false → QualsAt s at (mk true (t .sign) (u .sign) 0 (u .end))
-            unfolding distinct among qualOf
+            unfolding distinct isQualifierAmong qualOf
             quals-two f =
                 let o = qover (tokensAt s (u .end)) (sym (e₃ ∙ ap qualSign (k .sign-is)) ∙ f) in
                 let run : qualRun (tokensAt s at) ≡ q₁ .is ∷ q₂ .is ∷ [] = run₂ ∙ ap (λ (x : List Qualifier). q₁ .is ∷ q₂ .is ∷ x) (o .0) in

@@ -10,7 +10,7 @@ use Rattle.session_declaration_reader.specs.grammar.Chain.{Layers, named
 use Rattle.session_declaration_reader.specs.tokens.Tokens.{tagWord, voidWord, otherWord, Token, qual, word, number, mark, rest}
 use Rattle.session_declaration_reader.specs.grammar.Grammar.{Reads, reads, fails, andThen, readBase, wanted, wantedName, wantedCount, declarator, suffixes, params, paramList, paramEnd}
 use Rattle.session_declaration_reader.specs.bases.Bases.{begins, beginsWord, bracketed, distinct, qualRun, afterQuals, wordRun, afterWords, wordsOf, isBase, voidBefore}
-use Rattle.session_declaration_reader.specs.tokens.Looking.{Span, tokensAt, signOf, countOf, Looked}
+use Rattle.session_declaration_reader.specs.tokens.Looking.{Span, tokensAt, signOf, firstCount, Looked}
 use Rattle.session_declaration_reader.specs.bases.Items.{Item, item, qualItems, firstFrom, lastTo, Placed, placed, placing}
 use Rattle.session_declaration_reader.specs.grammar.Encoding.{baseItem, baseKind, anyParams, layerItems, paramItems}
 use Rattle.session_declaration_reader.specs.bases.Looking.{wordSigned, voidSigned, qualsOf, QualsAt, BaseAt, baseItems}
@@ -183,8 +183,8 @@ count-not (word j w ∷ ts) k n = refl
 count-not (number m ∷ ts) k n = absurd (n refl)
 count-not (mark b ∷ ts) k n = refl
 
-count-some : {A : Type 0} → (ts : Ts) (k : ℕ → Ts → Reads Span A) → signOf ts ≡ 7 → wantedCount ts k ≡ wanted 93 (rest ts) (k (countOf ts))
-unfolding wantedCount signOf countOf rest
+count-some : {A : Type 0} → (ts : Ts) (k : ℕ → Ts → Reads Span A) → signOf ts ≡ 7 → wantedCount ts k ≡ wanted 93 (rest ts) (k (firstCount ts))
+unfolding wantedCount signOf firstCount rest
 count-some [] k e = absurd (omega arith)
 count-some (qual const ∷ ts) k e = absurd (omega arith)
 count-some (qual volatile ∷ ts) k e = absurd (omega arith)
@@ -418,7 +418,7 @@ module _ (s : List ℕ) (at : ℕ) (left : ℕ) (c : List ℕ) (k : ℕ) (t : To
     unfolding counts
     counted =
         count-some (tokensAt s at) (λ n us. suffixes left (array n named) us) (sym (l .sign-is) ∙ y)
-        ∙ ap (λ (x : Ts). wanted 93 x (suffixes left (array (countOf (tokensAt s at)) named))) (sym (l .rest-is))
+        ∙ ap (λ (x : Ts). wanted 93 x (suffixes left (array (firstCount (tokensAt s at)) named))) (sym (l .rest-is))
         ∙ ap (λ (x : ℕ). wanted 93 (tokensAt s (t .end)) (suffixes left (array x named))) (sym (l .count-is))
 
     pub counts-open : (u .sign ≡ 109 → ⊥) → (x : Spot) → x ≡ spot false 0 0 → (c′ : List ℕ) → outcome s x c′ ≡ emits layerItems c k C

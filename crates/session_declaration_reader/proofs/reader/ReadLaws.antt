@@ -13,11 +13,11 @@ use Rattle.session_declaration_reader.specs.grammar.Chain.{Layers, named
 use Rattle.session_declaration_reader.specs.tokens.Tokens.{Token, qual, word, number, mark, tagWord, voidWord, otherWord}
 use Rattle.session_declaration_reader.specs.grammar.Grammar.{Reads, reads, fails, andThen, readBase, declarator}
 use Rattle.session_declaration_reader.specs.bases.Bases.{distinct, qualRun, afterQuals, wordRun, afterWords, wordsOf, isBase}
-use Rattle.session_declaration_reader.specs.reader.Reading.{most, Read, chain, refused, readTokens, counted, whole, readWith}
+use Rattle.session_declaration_reader.specs.reader.Reading.{most, Read, chain, refused, readTokens, withinMost, whole, readWith}
 use Rattle.session_declaration_reader.specs.tokens.Looking.{Span, tokensAt, signOf, Looked}
 use Rattle.session_declaration_reader.specs.bases.Items.{Item, item, qualItems, oneMore, putItem, Placed, placed, placing}
 use Rattle.session_declaration_reader.specs.grammar.Encoding.{baseItem, baseKind, anyParams, layerItems, paramItems}
-use Rattle.session_declaration_reader.specs.reader.Encoding.{chainItems, answerOf, readInto}
+use Rattle.session_declaration_reader.specs.reader.Encoding.{chainItems, placedChain, readInto}
 use Rattle.session_declaration_reader.specs.bases.Looking.{BaseAt, baseItems}
 use Rattle.session_declaration_reader.specs.grammar.Emission.{outcome, emits}
 use Rattle.session_declaration_reader.specs.declared.tokens.Tok.{Tok}
@@ -108,16 +108,16 @@ module _ (t : List ℕ) (c : Chain Span) (n : ℕ) (t′ : List ℕ) (e : placed
   reached : n ≡ reach 0 (chainItems c)
   reached = ap count e ∙ reach-is t 0 (chainItems c)
 
-  few-entries : n ≤ 512 → counted c ≡ chain c
-  unfolding counted
+  few-entries : n ≤ 512 → withinMost c ≡ chain c
+  unfolding withinMost
   few-entries h =
       ⊎-elim
       (λ k. passed (leb (entries c) 512) (chain c) refused (le-leb (entries c) 512 k))
       (λ k. absurd (omega (arith, reached, reach-many (chainItems c) 0 (omega arith) (omega (arith, chain-size c)))))
       (le-or-lt (entries c) 512)
 
-  many-entries : 512 < n → counted c ≡ refused
-  unfolding counted
+  many-entries : 512 < n → withinMost c ≡ refused
+  unfolding withinMost
   many-entries h =
       ⊎-elim
       (λ k. absurd (omega (arith, reached, chain-size c, reach-few 0 (chainItems c) (omega (arith, chain-size c)))))
@@ -162,13 +162,13 @@ module _ (s : List ℕ) (c : List ℕ) (b : Base) (a : BaseAt s 0 true b) where
   based = refl
 
   -- an answer from what the tokens come to
-  answers : (m : Reads Span (Chain Span)) → readTokens ts ≡ m → readInto s c ≡ answerOf c (whole m)
+  answers : (m : Reads Span (Chain Span)) → readTokens ts ≡ m → readInto s c ≡ placedChain c (whole m)
   unfolding readInto readWith tokensAt
-  answers m e = ap (λ x. answerOf c (whole x)) e
+  answers m e = ap (λ x. placedChain c (whole x)) e
 
   refuses : (m : Reads Span (Chain Span)) → readTokens ts ≡ m → whole m ≡ refused → (r : ℕ) (k : ℕ) (c₂ : List ℕ) → k ≡ length c → placed r c₂ ≡ placed 0 (replicate k 0) → placed r c₂ ≡ readInto s c
-  unfolding answerOf
-  refuses m e f r k c₂ h p = p ∙ ap (λ (n : ℕ). placed 0 (replicate n 0)) h ∙ sym (answers m e ∙ ap (answerOf c) f)
+  unfolding placedChain
+  refuses m e f r k c₂ h p = p ∙ ap (λ (n : ℕ). placed 0 (replicate n 0)) h ∙ sym (answers m e ∙ ap (placedChain c) f)
 
   pub read-baseless : b .ok ≡ false → (r : ℕ) (k : ℕ) (c₂ : List ℕ) → k ≡ length c → placed r c₂ ≡ placed 0 (replicate k 0) → placed r c₂ ≡ readInto s c
   unfolding whole
@@ -215,5 +215,5 @@ module _ (s : List ℕ) (c : List ℕ) (b : Base) (a : BaseAt s 0 true b) where
         read-over f = refuses (reads (made (w .value)) []) ended (many-entries c (made (w .value)) n c₂ stored f)
 
         pub read-good : n ≤ 512 → placed n c₂ ≡ readInto s c
-        unfolding whole answerOf
-        read-good f = stored ∙ sym (answers (reads (made (w .value)) []) ended ∙ ap (answerOf c) (few-entries c (made (w .value)) n c₂ stored f))
+        unfolding whole placedChain
+        read-good f = stored ∙ sym (answers (reads (made (w .value)) []) ended ∙ ap (placedChain c) (few-entries c (made (w .value)) n c₂ stored f))

@@ -10,7 +10,7 @@ use lib.ListN.{length, getD, take, drop, length-drop, length-take}
 use lib.Seq.{drop-cons, take-suc, getD-drop}
 use lib.Dec.{eqb}
 use Rattle.session_declaration_reader.specs.tokens.Tokens.{Token, mark, inRun, isWordByte, isLetter, isDigit, runToken, lone, ended, tokens, rest}
-use Rattle.session_declaration_reader.specs.tokens.Looking.{Span, places, tokensAt, signOf, countOf, spanOf, Looked, Skipped, Ran, runSign, runCount}
+use Rattle.session_declaration_reader.specs.tokens.Looking.{Span, places, tokensAt, signOf, firstCount, spanOf, Looked, Skipped, Ran, runSign, runCount}
 use Rattle.session_declaration_reader.proofs.tokens.Cases.{passed, failed}
 use Rattle.session_declaration_reader.proofs.tokens.Bytes.{drop-end, sign-any, count-any, span-any}
 
@@ -115,12 +115,12 @@ module _ (s : List ℕ) (at e : ℕ) (h : at < e) (k : e ≤ length s) (inv : Ru
 -- what the code sees
 module _ (s : List ℕ) (at st : ℕ) (sk : Skipped s at st) where
   pub look-end : length s ≤ st → Looked s at (record { sign = 0; count = 0; start = st; end = st })
-  unfolding signOf countOf spanOf rest
+  unfolding signOf firstCount spanOf rest
   look-end h =
       let e : tokensAt s at ≡ [] = sym (sk .same-tokens) ∙ at-end s st h in
       record {
         sign-is = sym (ap signOf e);
-        count-is = sym (ap countOf e);
+        count-is = sym (ap firstCount e);
         span-is = ap (λ t. spanOf t (record { from = st; to = st })) e;
         rest-is = at-end s st h ∙ sym (ap rest e);
         forward = λ n. absurd (n refl);
@@ -128,12 +128,12 @@ module _ (s : List ℕ) (at st : ℕ) (sk : Skipped s at st) where
       }
 
   pub look-mark : st < length s → (r : Bool) → r ≡ inRun (getD s st 0) → r ≡ false → Looked s at (record { sign = 16 + getD s st 0; count = 0; start = st; end = st + 1 })
-  unfolding signOf countOf spanOf rest
+  unfolding signOf firstCount spanOf rest
   look-mark h r f t =
       let e : tokensAt s at ≡ mark (getD s st 0) ∷ tokensAt s (st + 1) = sym (sk .same-tokens) ∙ mark-here s st h (sym f ∙ t) (sk .no-space h) in
       record {
         sign-is = sym (ap signOf e);
-        count-is = sym (ap countOf e);
+        count-is = sym (ap firstCount e);
         span-is = ap (λ x. spanOf x (record { from = st; to = st + 1 })) e;
         rest-is = sym (ap rest e);
         forward = λ n. omega (arith, sk .forward);
@@ -141,13 +141,13 @@ module _ (s : List ℕ) (at st : ℕ) (sk : Skipped s at st) where
       }
 
   pub look-run : (en : ℕ) → Ran s st en → (g k : ℕ) → g ≡ runSign (runBytes s st en) → k ≡ runCount (runBytes s st en) → Looked s at (record { sign = g; count = k; start = st; end = en })
-  unfolding signOf countOf spanOf rest
+  unfolding signOf firstCount spanOf rest
   look-run en a g k p q =
       let w : Span = record { from = st; to = en } in
       let e : tokensAt s at ≡ runToken (runBytes s st en) w ∷ tokensAt s en = sym (sk .same-tokens) ∙ a .token-is in
       record {
         sign-is = p ∙ sign-any (runBytes s st en) w ∙ sym (ap signOf e);
-        count-is = q ∙ count-any (runBytes s st en) w ∙ sym (ap countOf e);
+        count-is = q ∙ count-any (runBytes s st en) w ∙ sym (ap firstCount e);
         span-is = ap (λ x. spanOf x w) e ∙ span-any (runBytes s st en) w;
         rest-is = sym (ap rest e);
         forward = λ n. omega (arith, sk .forward, a .some);

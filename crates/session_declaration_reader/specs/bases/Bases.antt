@@ -21,14 +21,14 @@ sameQualifier restrict volatile = false
 sameQualifier restrict const = false
 sameQualifier restrict restrict = true
 
-unfoldable pub among : Qualifier → List Qualifier → Bool
-among q [] = false
-among q (p ∷ qs) = sameQualifier q p || among q qs
+unfoldable pub isQualifierAmong : Qualifier → List Qualifier → Bool
+isQualifierAmong q [] = false
+isQualifierAmong q (p ∷ qs) = sameQualifier q p || isQualifierAmong q qs
 
 -- "no qualifier stands twice on one spot"
 unfoldable pub distinct : List Qualifier → Bool
 distinct [] = true
-distinct (q ∷ qs) = not (among q qs) && distinct qs
+distinct (q ∷ qs) = not (isQualifierAmong q qs) && distinct qs
 
 abbrev pub noQuals : List Qualifier → Bool
 noQuals [] = true

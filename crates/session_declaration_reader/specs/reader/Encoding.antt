@@ -13,10 +13,10 @@ chainItems c = layerItems (c .layers) ++ (qualItems (c .quals) ++ baseItem 1 (c 
 
 -- What the reader returns: how many entries, and the words; no entry and words of zero for 19. The words must be at least 1536, three for
 -- each of 512 entries.
-unfoldable pub answerOf : List ℕ → Read Span → Placed
-answerOf t (chain c) = placing t 0 (chainItems c)
-answerOf t refused = placed 0 (replicate (length t) 0)
+unfoldable pub placedChain : List ℕ → Read Span → Placed
+placedChain t (chain c) = placing t 0 (chainItems c)
+placedChain t refused = placed 0 (replicate (length t) 0)
 
 -- a declaration read into lent words
 unfoldable pub readInto : List ℕ → List ℕ → Placed
-readInto s t = answerOf t (readWith (places (length s)) s)
+readInto s t = placedChain t (readWith (places (length s)) s)

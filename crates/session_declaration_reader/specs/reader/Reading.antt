@@ -24,12 +24,12 @@ module _ {W : Type 0} where
       (λ l vs. reads (record { quals = q; words = wordsOf ss; layers = l }) vs))
 
   -- "would pass 512 entries"
-  unfoldable pub counted : Chain W → Read W
-  counted c = elim (leb (entries c) 512) [ true ↦ chain c | false ↦ refused ]
+  unfoldable pub withinMost : Chain W → Read W
+  withinMost c = elim (leb (entries c) 512) [ true ↦ chain c | false ↦ refused ]
 
   -- nothing may stand behind the declaration
   unfoldable pub whole : Reads W (Chain W) → Read W
-  whole (reads c []) = counted c
+  whole (reads c []) = withinMost c
   whole (reads c (t ∷ ts)) = refused
   whole fails = refused
 

@@ -44,9 +44,9 @@ tokenCount (word k w) = 0
 tokenCount (number n) = n
 tokenCount (mark b) = 0
 
-unfoldable pub countOf : {W : Type 0} → List (Token W) → ℕ
-countOf [] = 0
-countOf (t ∷ ts) = tokenCount t
+unfoldable pub firstCount : {W : Type 0} → List (Token W) → ℕ
+firstCount [] = 0
+firstCount (t ∷ ts) = tokenCount t
 
 -- the place of the next word, or another one
 abbrev pub tokenSpan : Token Span → Span → Span
@@ -62,7 +62,7 @@ spanOf (t ∷ ts) d = tokenSpan t d
 -- the next token at a place, and where it starts and ends
 pub record Looked (s : List ℕ) (at : ℕ) (t : Tok) : Type 0 where
   pub sign-is : t .sign ≡ signOf (tokensAt s at)
-  pub count-is : t .count ≡ countOf (tokensAt s at)
+  pub count-is : t .count ≡ firstCount (tokensAt s at)
   pub span-is : spanOf (tokensAt s at) (record { from = t .start; to = t .end }) ≡ record { from = t .start; to = t .end }
   pub rest-is : tokensAt s (t .end) ≡ rest (tokensAt s at)
   pub forward : (t .sign ≡ 0 → ⊥) → at < t .end

@@ -9,7 +9,7 @@ use Rattle.spec_bytes.proofs.words.Laws.{le-or-lt}
 use Rattle.spec_c_dumper.specs.rules.Types.{Member, BtfType, Void, Int, Ptr, Array, Composite, Enum, Enum64, Fwd, Typedef, Mod, Func, Var, Datasec, FuncProto, Float, DeclTag, TypeTag, Btf, nodeOf, memberTypes}
 use Rattle.spec_c_dumper.specs.rules.Layout.{alignOf, getAlignOf}
 use Rattle.spec_c_dumper.specs.needs.Needs.{kids}
-use Rattle.spec_c_dumper.specs.alignment_once.Once.{Seen, Known, unknown, known, Keep, Lawful, Once, found, refused, Asking, onceThen, above, alone, widest, membersOnce, taken, typeOnce, keepOnce, alignOnce, Tells, Right, memberCount, membersTo, cost, paidTo}
+use Rattle.spec_c_dumper.specs.alignment_once.Once.{Remembered, Known, unknown, known, Keep, Lawful, Once, found, refused, Asking, onceThen, above, alone, widest, membersOnce, taken, typeOnce, keepOnce, alignOnce, Tells, Right, memberCount, membersTo, cost, paidTo}
 use Rattle.spec_c_dumper.proofs.alignment_once.Right.{same-or, taken-found, taken-refused, above-tells, Told, align-of, type-told, not-inside, told}
 
 -- ---- what is remembered at one place more
@@ -22,7 +22,7 @@ module _ (B : Btf) (f f′ : ℕ → Known) (id : ℕ) (other : (d : ℕ) → (d
       let i : n ≤ id = omega arith in
       ap (λ (q : Known). paidTo B f′ n + cost q (B .type-by-id n)) (other n ne) ∙ ap (λ (x : ℕ). x + cost (f n) (B .type-by-id n)) (paid-before n i)
 
-  module _ (s : Seen) (u : f id ≡ unknown) (e : f′ id ≡ known s) where
+  module _ (s : Remembered) (u : f id ≡ unknown) (e : f′ id ≡ known s) where
     paid-here : paidTo B f′ (suc id) ≡ paidTo B f (suc id) + suc (memberCount (B .type-by-id id))
     unfolding paidTo cost
     paid-here =
@@ -62,30 +62,30 @@ unfolding paidTo cost
 paid-none B f h zero = refl
 paid-none B f h (suc n) = ap (λ (q : Known). paidTo B f n + cost q (B .type-by-id n)) (h n) ∙ omega (arith, paid-none B f h n)
 
-module _ {M : Type 0} (K : Keep M) (B : Btf) (n : ℕ) (Good : M → Type 0) (Fits : Seen → Type 0) (law : Lawful K n Good Fits)
-    (fits : (id : ℕ) (s : Seen) → Tells B id s → s .height ≤ 512 → Fits s) where
+module _ {M : Type 0} (K : Keep M) (B : Btf) (n : ℕ) (Good : M → Type 0) (Fits : Remembered → Type 0) (law : Lawful K n Good Fits)
+    (fits : (id : ℕ) (s : Remembered) → Tells B id s → s .height ≤ 512 → Fits s) where
   abbrev paid : M → ℕ
   paid m = paidTo B (K .recall m) n
 
   -- the visits of an answer pay for what is remembered since, and for `extra` members
-  abbrev pub Counts : ℕ → M → ℕ → Once M Seen → Type 0
+  abbrev pub Counts : ℕ → M → ℕ → Once M Remembered → Type 0
   Counts extra m k (found s m′ k′) = Good m′ × (k′ + paid m ≡ k + extra + paid m′)
   Counts extra m k (refused c m′ k′) = Unit {0}
 
-  module _ (left : ℕ) (ask : ℕ → Asking M Seen) (h : (id : ℕ) (m : M) (k : ℕ) → Right K B m → Told K B (align-of K B id) left m (ask id m k))
+  module _ (left : ℕ) (ask : ℕ → Asking M Remembered) (h : (id : ℕ) (m : M) (k : ℕ) → Right K B m → Told K B (align-of K B id) left m (ask id m k))
       (c : (id : ℕ) (m : M) (k : ℕ) → id < n → Right K B m → Good m → Counts 0 m k (ask id m k)) where
-    members-count : (xs : List Member) → ((y : ℕ) → List·Memᴰ y (memberTypes xs) → y < n) → (s : Seen) (m : M) (k : ℕ) → Right K B m → Good m → Counts (length xs) m k (membersOnce ask s xs m k)
+    members-count : (xs : List Member) → ((y : ℕ) → List·Memᴰ y (memberTypes xs) → y < n) → (s : Remembered) (m : M) (k : ℕ) → Right K B m → Good m → Counts (length xs) m k (membersOnce ask s xs m k)
     unfolding membersOnce onceThen
     members-count [] b s m k r g = (g, omega arith)
     members-count (x ∷ xs) b s m k r g =
         go (λ t m′ k′. members-count xs (λ y i. b y (List·Memᴰ·tail i)) (widest s t) m′ k′) (ask (x .type-id) m (suc k)) (h (x .type-id) m (suc k) r) (c (x .type-id) m (suc k) (b (x .type-id) (List·Memᴰ·head refl)) r g)
       where
-        on-found : (m′ : M) (k′ : ℕ) → k′ + paid m ≡ suc k + 0 + paid m′ → (q : Once M Seen) → Counts (length xs) m′ k′ q → Counts (length (x ∷ xs)) m k q
+        on-found : (m′ : M) (k′ : ℕ) → k′ + paid m ≡ suc k + 0 + paid m′ → (q : Once M Remembered) → Counts (length xs) m′ k′ q → Counts (length (x ∷ xs)) m k q
         on-found m′ k′ e (found s′ m″ k″) d = (d .0, omega (arith, e, d .1))
         on-found m′ k′ e (refused w m″ k″) d = tt
 
-        go : ((t : Seen) (m′ : M) (k′ : ℕ) → Right K B m′ → Good m′ → Counts (length xs) m′ k′ (membersOnce ask (widest s t) xs m′ k′))
-            → (q : Once M Seen) → Told K B (align-of K B (x .type-id)) left m q → Counts 0 m (suc k) q → Counts (length (x ∷ xs)) m k (onceThen q (λ t m′ k′. membersOnce ask (widest s t) xs m′ k′))
+        go : ((t : Remembered) (m′ : M) (k′ : ℕ) → Right K B m′ → Good m′ → Counts (length xs) m′ k′ (membersOnce ask (widest s t) xs m′ k′))
+            → (q : Once M Remembered) → Told K B (align-of K B (x .type-id)) left m q → Counts 0 m (suc k) q → Counts (length (x ∷ xs)) m k (onceThen q (λ t m′ k′. membersOnce ask (widest s t) xs m′ k′))
         go on (found t m′ k′) w d = on-found m′ k′ (d .1) (membersOnce ask (widest s t) xs m′ k′) (on t m′ k′ (w .2) (d .0))
         go on (refused e m′ k′) w d = tt
 
@@ -109,11 +109,11 @@ module _ {M : Type 0} (K : Keep M) (B : Btf) (n : ℕ) (Good : M → Type 0) (Fi
     type-count (DeclTag a i t j) b m k r g = (g, omega arith)
     type-count (TypeTag a i t) b m k r g = c t m k (b t (List·Memᴰ·head refl)) r g
 
-  taken-count : (left : ℕ) (s : Seen) (m : M) (k : ℕ) → Good m → Counts 0 m k (taken left s m k)
+  taken-count : (left : ℕ) (s : Remembered) (m : M) (k : ℕ) → Good m → Counts 0 m k (taken left s m k)
   taken-count left s m k g =
       ⊎-elim (λ l. subst (Counts 0 m k) (sym (taken-found left s m k l)) (g, omega arith)) (λ l. subst (Counts 0 m k) (sym (taken-refused left s m k l)) tt) (le-or-lt (s .height) left)
 
-  keep-count : (left id : ℕ) → left < 512 → (m : M) (k : ℕ) → id < n → K .recall m id ≡ unknown → (r : Once M Seen) → Told K B (λ i. alignOf B (getAlignOf i B) (B .type-by-id id)) left m r
+  keep-count : (left id : ℕ) → left < 512 → (m : M) (k : ℕ) → id < n → K .recall m id ≡ unknown → (r : Once M Remembered) → Told K B (λ i. alignOf B (getAlignOf i B) (B .type-by-id id)) left m r
       → Counts (memberCount (B .type-by-id id)) m (suc k) r → Counts 0 m k (onceThen r (keepOnce K id))
   unfolding onceThen keepOnce
   keep-count left id b m k l u (refused c m′ k′) t d = tt
@@ -131,7 +131,7 @@ module _ {M : Type 0} (K : Keep M) (B : Btf) (n : ℕ) (Good : M → Type 0) (Fi
     counts (suc left) id b m k l r g = go (λ t m′ k′. counts left t (omega arith) m′ k′) (K .recall m id) refl
       where
         go : ((t : ℕ) (m′ : M) (k′ : ℕ) → t < n → Right K B m′ → Good m′ → Counts 0 m′ k′ (alignOnce K left B t m′ k′)) → (q : Known) → K .recall m id ≡ q
-            → Counts 0 m k (elim q as (λ (q : Known). Once M Seen) [ known s ↦ taken (suc left) s m k | unknown ↦ onceThen (typeOnce B (λ t m′ k′. alignOnce K left B t m′ k′) (B .type-by-id id) m (suc k)) (keepOnce K id) ])
+            → Counts 0 m k (elim q as (λ (q : Known). Once M Remembered) [ known s ↦ taken (suc left) s m k | unknown ↦ onceThen (typeOnce B (λ t m′ k′. alignOnce K left B t m′ k′) (B .type-by-id id) m (suc k)) (keepOnce K id) ])
         go on (known s) e = taken-count (suc left) s m k g
         go on unknown e =
             keep-count left id b m k l e (typeOnce B (λ t m′ k′. alignOnce K left B t m′ k′) (B .type-by-id id) m (suc k))

@@ -11,7 +11,7 @@ use Rattle.spec_c_dumper.specs.rules.Types.{Member, BtfType, Composite, 
 use Rattle.spec_c_dumper.specs.rules.Layout.{alignMembers, alignOf, getAlignOf, offAlign, membersPacked, isStructPacked, padsBefore, bitPadding}
 use Rattle.spec_c_dumper.specs.rules.Placing.{unionAlign, measured, bodyPacked}
 use Rattle.spec_c_dumper.specs.needs.Needs.{kids}
-use Rattle.spec_c_dumper.specs.alignment_once.Once.{Seen, Keep, Lawful, Once, found, refused, Asking, onceThen, alignOnce, alignmentOnce, listOnce, listPlain, Tells, Right, membersTo, paidTo}
+use Rattle.spec_c_dumper.specs.alignment_once.Once.{Remembered, Keep, Lawful, Once, found, refused, Asking, onceThen, alignOnce, alignmentOnce, listOnce, listPlain, Tells, Right, membersTo, paidTo}
 use Rattle.spec_c_dumper.specs.alignment_once.Steps.{plainly, offAlignOnce, membersPackedOnce, packedOnce, gapAlignOnce, paddingOnce, unionAlignOnce, judged, measuredOnce, bodyOnce}
 use Rattle.spec_c_dumper.proofs.alignment_once.Right.{within-got, Told, align-of, told}
 use Rattle.spec_c_dumper.proofs.alignment_once.Counted.{paid-most, Counts, counts}
@@ -29,8 +29,8 @@ pub no-more : {M A : Type 0} (r : Once M A) → After Nothing r
 no-more (found a m k) = tt
 no-more (refused c m k) = tt
 
-module _ {M : Type 0} (K : Keep M) (B : Btf) (n : ℕ) (Good : M → Type 0) (Fits : Seen → Type 0) (law : Lawful K n Good Fits)
-    (fits : (id : ℕ) (s : Seen) → Tells B id s → s .height ≤ 512 → Fits s) (below : (x y : ℕ) → List·Memᴰ y (kids (nodeOf (B .type-by-id x))) → y < n)
+module _ {M : Type 0} (K : Keep M) (B : Btf) (n : ℕ) (Good : M → Type 0) (Fits : Remembered → Type 0) (law : Lawful K n Good Fits)
+    (fits : (id : ℕ) (s : Remembered) → Tells B id s → s .height ≤ 512 → Fits s) (below : (x y : ℕ) → List·Memᴰ y (kids (nodeOf (B .type-by-id x))) → y < n)
     (Also : M → Type 0) (keeps : (left id : ℕ) → left ≤ 512 → (m : M) (k : ℕ) → id < n → Right K B m → Good m → Also m → After Also (alignOnce K left B id m k)) where
   -- a right memory, and the visits that it took
   pub record Honest (m : M) (k : ℕ) : Type 0 where
@@ -66,7 +66,7 @@ module _ {M : Type 0} (K : Keep M) (B : Btf) (n : ℕ) (Good : M → Type 0) (Fi
   calls = omega arith
 
   module _ (left id : ℕ) (b : left ≤ 512) (l : id < n) (m : M) (k : ℕ) (h : Honest m k) where
-    from-told : (r : Once M Seen) → Told K B (align-of K B id) left m r → Counts K B n Good Fits law fits 0 m k r → After Also r → Fair (getAlignOf left B id) (onceThen r (λ s. found (s .align)))
+    from-told : (r : Once M Remembered) → Told K B (align-of K B id) left m r → Counts K B n Good Fits law fits 0 m k r → After Also r → Fair (getAlignOf left B id) (onceThen r (λ s. found (s .align)))
     unfolding onceThen
     from-told (found s m′ k′) t c a = (t .0 left ∙ within-got s left (t .1), record { right = t .2; good = c .0; visits = omega (arith, c .1, h .visits); also = a })
     from-told (refused c m′ k′) t d a = t .0

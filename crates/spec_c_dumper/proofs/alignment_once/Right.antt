@@ -12,19 +12,19 @@ use Rattle.spec_bytes.proofs.words.Laws.{le-or-lt}
 use Rattle.spec_c_dumper.specs.rules.Writer.{Ask, got, no, askThen, tooDeep}
 use Rattle.spec_c_dumper.specs.rules.Types.{Member, BtfType, Void, Int, Ptr, Array, Composite, Enum, Enum64, Fwd, Typedef, Mod, Func, Var, Datasec, FuncProto, Float, DeclTag, TypeTag, Btf}
 use Rattle.spec_c_dumper.specs.rules.Layout.{larger, smaller, octets, alignMembers, alignOf, getAlignOf}
-use Rattle.spec_c_dumper.specs.alignment_once.Once.{Seen, Known, unknown, known, Keep, Lawful, Once, found, refused, Asking, onceThen, answerOf, memoryAfter, above, alone, widest, membersOnce, taken, typeOnce, keepOnce, alignOnce, within, Tells, Right, Grows}
+use Rattle.spec_c_dumper.specs.alignment_once.Once.{Remembered, Known, unknown, known, Keep, Lawful, Once, found, refused, Asking, onceThen, askOnce, memoryAfter, above, alone, widest, membersOnce, taken, typeOnce, keepOnce, alignOnce, within, Tells, Right, Grows}
 
 pub no-got : {A : Type 0} → (c : ℕ) (a : A) → no c ≡ got a → ⊥
 no-got c a e = let z : _≡_ {A = ℕ} 0 1 = cc in omega arith
 
-pub known-unknown : (s : Seen) → unknown ≡ known s → ⊥
+pub known-unknown : (s : Remembered) → unknown ≡ known s → ⊥
 known-unknown s e = let z : _≡_ {A = ℕ} 0 1 = cc in omega arith
 
-seenIn : Seen → Known → Seen
+seenIn : Remembered → Known → Remembered
 seenIn d unknown = d
 seenIn d (known s) = s
 
-pub known-same : (s t : Seen) → known s ≡ known t → s ≡ t
+pub known-same : (s t : Remembered) → known s ≡ known t → s ≡ t
 unfolding seenIn
 known-same s t e = ap (seenIn s) e
 
@@ -49,7 +49,7 @@ unfolding larger
 both-below x y n h k = ⊎-elim (λ l. rw (le-leb x y l, larger) k) (λ l. rw (lt-leb x y l, larger) h) (le-or-lt x y)
 
 -- ---- with n calls left
-module _ (s : Seen) (n : ℕ) where
+module _ (s : Remembered) (n : ℕ) where
   pub within-got : s .height ≤ n → within s n ≡ got (s .align)
   unfolding within
   within-got l = rw (le-leb (s .height) n l, within)
@@ -76,7 +76,7 @@ then-got (got a) = refl
 then-got (no c) = refl
 
 -- two of them, one after the other
-module _ (s t : Seen) (n : ℕ) (g : ℕ → Ask ℕ) where
+module _ (s t : Remembered) (n : ℕ) (g : ℕ → Ask ℕ) where
   after-got : s .height ≤ n → askThen (within s n) g ≡ g (s .align)
   unfolding askThen
   after-got l = ap (λ (x : Ask ℕ). askThen x g) (within-got s n l)
@@ -85,7 +85,7 @@ module _ (s t : Seen) (n : ℕ) (g : ℕ → Ask ℕ) where
   unfolding askThen
   after-no l = ap (λ (x : Ask ℕ). askThen x g) (within-no s n l)
 
-both-within : (s t : Seen) (n : ℕ) (g : ℕ → Ask ℕ) → askThen (within s n) (λ a. askThen (within t n) (λ b. g (larger a b))) ≡ askThen (within (widest s t) n) g
+both-within : (s t : Remembered) (n : ℕ) (g : ℕ → Ask ℕ) → askThen (within s n) (λ a. askThen (within t n) (λ b. g (larger a b))) ≡ askThen (within (widest s t) n) g
 both-within s t n g =
     ⊎-elim
     (λ l. after-got s t n (λ a. askThen (within t n) (λ b. g (larger a b))) l ∙ ⊎-elim
@@ -96,14 +96,14 @@ both-within s t n g =
     (le-or-lt (s .height) n)
 
 -- what is asked first is no higher than the whole
-no-lower : (s s′ : Seen) (g : ℕ → ℕ → Ask ℕ) → ((n : ℕ) → askThen (within s n) (g n) ≡ within s′ n) → s .height ≤ s′ .height
+no-lower : (s s′ : Remembered) (g : ℕ → ℕ → Ask ℕ) → ((n : ℕ) → askThen (within s n) (g n) ≡ within s′ n) → s .height ≤ s′ .height
 no-lower s s′ g h =
     ⊎-elim (λ l. l)
     (λ l. absurd (no-got 12 (s′ .align) (sym (after-no s s (s′ .height) (g (s′ .height)) l) ∙ h (s′ .height) ∙ within-got s′ (s′ .height) (omega arith))))
     (le-or-lt (s .height) (s′ .height))
 
 -- "taking a remembered alignment counts none"
-module _ {M : Type 0} (left : ℕ) (s : Seen) (m : M) (k : ℕ) where
+module _ {M : Type 0} (left : ℕ) (s : Remembered) (m : M) (k : ℕ) where
   pub taken-found : s .height ≤ left → taken left s m k ≡ found s m k
   unfolding taken
   taken-found l = rw (le-leb (s .height) left l, taken)
@@ -115,10 +115,10 @@ module _ {M : Type 0} (left : ℕ) (s : Seen) (m : M) (k : ℕ) where
 module _ {M : Type 0} (K : Keep M) (B : Btf) where
   -- what was not remembered before is no higher than h
   abbrev pub New : ℕ → M → M → Type 0
-  New h m m′ = (id : ℕ) (s : Seen) → K .recall m′ id ≡ known s → (K .recall m id ≡ known s) ⊎ (s .height ≤ h)
+  New h m m′ = (id : ℕ) (s : Remembered) → K .recall m′ id ≡ known s → (K .recall m id ≡ known s) ⊎ (s .height ≤ h)
 
   -- P n is the plain way's answer with n calls left
-  abbrev pub Told : (ℕ → Ask ℕ) → ℕ → M → Once M Seen → Type 0
+  abbrev pub Told : (ℕ → Ask ℕ) → ℕ → M → Once M Remembered → Type 0
   Told P left m (found s m′ k) = ((n : ℕ) → P n ≡ within s n) × (s .height ≤ left) × Right K B m′ × Grows K m m′ × New (s .height) m m′
   Told P left m (refused c m′ k) = (P left ≡ no c) × Right K B m′ × Grows K m m′
 
@@ -126,8 +126,8 @@ module _ {M : Type 0} (K : Keep M) (B : Btf) where
   align-of id n = getAlignOf n B id
 
   -- after a question that was answered
-  module _ (P P′ : ℕ → Ask ℕ) (e : (n : ℕ) → P n ≡ P′ n) (left h : ℕ) (m m′ : M) (grows : Grows K m m′) (new : New h m m′) (up : (s : Seen) → ((n : ℕ) → P′ n ≡ within s n) → h ≤ s .height) where
-    told-after : (r : Once M Seen) → Told P′ left m′ r → Told P left m r
+  module _ (P P′ : ℕ → Ask ℕ) (e : (n : ℕ) → P n ≡ P′ n) (left h : ℕ) (m m′ : M) (grows : Grows K m m′) (new : New h m m′) (up : (s : Remembered) → ((n : ℕ) → P′ n ≡ within s n) → h ≤ s .height) where
+    told-after : (r : Once M Remembered) → Told P′ left m′ r → Told P left m r
     told-after (found s m″ k) t = (
       λ n. e n ∙ t .0 n,
       t .1,
@@ -137,26 +137,26 @@ module _ {M : Type 0} (K : Keep M) (B : Btf) where
     )
     told-after (refused c m″ k) t = (e left ∙ t .0, t .1, λ id s′ q. t .2 id s′ (grows id s′ q))
 
-  told-as : (P P′ : ℕ → Ask ℕ) → ((n : ℕ) → P n ≡ P′ n) → (left : ℕ) (m : M) (r : Once M Seen) → Told P′ left m r → Told P left m r
+  told-as : (P P′ : ℕ → Ask ℕ) → ((n : ℕ) → P n ≡ P′ n) → (left : ℕ) (m : M) (r : Once M Remembered) → Told P′ left m r → Told P left m r
   told-as P P′ e left m r t = told-after P P′ e left 0 m m (λ id s q. q) (λ id s q. inl q) (λ s q. omega arith) r t
 
-  module _ (left : ℕ) (ask : ℕ → Asking M Seen) (h : (id : ℕ) (m : M) (k : ℕ) → Right K B m → Told (align-of id) left m (ask id m k)) where
+  module _ (left : ℕ) (ask : ℕ → Asking M Remembered) (h : (id : ℕ) (m : M) (k : ℕ) → Right K B m → Told (align-of id) left m (ask id m k)) where
     -- the members, after what s says
-    abbrev rest-of : Seen → List Member → ℕ → Ask ℕ
+    abbrev rest-of : Remembered → List Member → ℕ → Ask ℕ
     rest-of s xs n = askThen (within s n) (λ a. alignMembers (getAlignOf n B) a xs)
 
-    members-told : (xs : List Member) (s : Seen) (m : M) (k : ℕ) → s .height ≤ left → Right K B m → Told (rest-of s xs) left m (membersOnce ask s xs m k)
+    members-told : (xs : List Member) (s : Remembered) (m : M) (k : ℕ) → s .height ≤ left → Right K B m → Told (rest-of s xs) left m (membersOnce ask s xs m k)
     unfolding membersOnce alignMembers onceThen askThen
     members-told [] s m k l r = (λ n. then-got (within s n), l, r, λ id s′ q. q, λ id s′ q. inl q)
     members-told (x ∷ xs) s m k l r = go (λ t m′ k′. members-told xs (widest s t) m′ k′) (ask (x .type-id) m (suc k)) (h (x .type-id) m (suc k) r)
       where
-        first : (t : Seen) → ((n : ℕ) → align-of (x .type-id) n ≡ within t n) → (n : ℕ) → rest-of s (x ∷ xs) n ≡ rest-of (widest s t) xs n
+        first : (t : Remembered) → ((n : ℕ) → align-of (x .type-id) n ≡ within t n) → (n : ℕ) → rest-of s (x ∷ xs) n ≡ rest-of (widest s t) xs n
         first t e n =
             ap (λ (y : Ask ℕ). askThen (within s n) (λ a. askThen y (λ b. alignMembers (getAlignOf n B) (larger a b) xs))) (e n)
             ∙ both-within s t n (λ a. alignMembers (getAlignOf n B) a xs)
 
-        go : ((t : Seen) (m′ : M) (k′ : ℕ) → widest s t .height ≤ left → Right K B m′ → Told (rest-of (widest s t) xs) left m′ (membersOnce ask (widest s t) xs m′ k′))
-            → (q : Once M Seen) → Told (align-of (x .type-id)) left m q → Told (rest-of s (x ∷ xs)) left m (onceThen q (λ t m′ k′. membersOnce ask (widest s t) xs m′ k′))
+        go : ((t : Remembered) (m′ : M) (k′ : ℕ) → widest s t .height ≤ left → Right K B m′ → Told (rest-of (widest s t) xs) left m′ (membersOnce ask (widest s t) xs m′ k′))
+            → (q : Once M Remembered) → Told (align-of (x .type-id)) left m q → Told (rest-of s (x ∷ xs)) left m (onceThen q (λ t m′ k′. membersOnce ask (widest s t) xs m′ k′))
         go on (found t m′ k′) q =
             told-after (rest-of s (x ∷ xs)) (rest-of (widest s t) xs) (first t (q .0)) left (t .height) m m′ (q .3) (q .4)
             (λ s′ e. let u = no-lower (widest s t) s′ (λ n a. alignMembers (getAlignOf n B) a xs) e in omega (arith, last-below (s .height) (t .height)))
@@ -195,8 +195,8 @@ module _ {M : Type 0} (K : Keep M) (B : Btf) where
     type-told (TypeTag a n t) m k r = h t m k r
 
   -- ---- one type
-  module _ (n : ℕ) (Good : M → Type 0) (Fits : Seen → Type 0) (law : Lawful K n Good Fits) where
-    taken-told : (left id : ℕ) (s : Seen) (m : M) (k : ℕ) → Right K B m → K .recall m id ≡ known s → Told (align-of id) left m (taken left s m k)
+  module _ (n : ℕ) (Good : M → Type 0) (Fits : Remembered → Type 0) (law : Lawful K n Good Fits) where
+    taken-told : (left id : ℕ) (s : Remembered) (m : M) (k : ℕ) → Right K B m → K .recall m id ≡ known s → Told (align-of id) left m (taken left s m k)
     taken-told left id s m k r e =
         ⊎-elim
         (λ l. subst (Told (align-of id) left m) (sym (taken-found left s m k l)) (r id s e, l, r, λ d s q. q, λ d s q. inl q))
@@ -204,20 +204,20 @@ module _ {M : Type 0} (K : Keep M) (B : Btf) where
         (le-or-lt (s .height) left)
 
     -- what the plain way says of id, from what its calls below come to
-    pub above-tells : (id : ℕ) (s : Seen) → ((i : ℕ) → alignOf B (getAlignOf i B) (B .type-by-id id) ≡ within s i) → Tells B id (above s)
+    pub above-tells : (id : ℕ) (s : Remembered) → ((i : ℕ) → alignOf B (getAlignOf i B) (B .type-by-id id) ≡ within s i) → Tells B id (above s)
     unfolding getAlignOf
     above-tells id s e zero = sym (within-no (above s) 0 (omega arith))
     above-tells id s e (suc i) = e i ∙ within-above s i
 
     -- it was not found on the way: its call tree would be inside itself
-    pub not-inside : (id : ℕ) (m m′ : M) (s : Seen) → K .recall m id ≡ unknown → ((i : ℕ) → alignOf B (getAlignOf i B) (B .type-by-id id) ≡ within s i) → Right K B m′ → New (s .height) m m′ → (t : Seen) → K .recall m′ id ≡ known t → ⊥
+    pub not-inside : (id : ℕ) (m m′ : M) (s : Remembered) → K .recall m id ≡ unknown → ((i : ℕ) → alignOf B (getAlignOf i B) (B .type-by-id id) ≡ within s i) → Right K B m′ → New (s .height) m m′ → (t : Remembered) → K .recall m′ id ≡ known t → ⊥
     not-inside id m m′ s u e r new t q =
         ⊎-elim
         (λ o. known-unknown t (sym u ∙ o))
         (λ l. no-got 12 (t .align) (sym (within-no (above s) (t .height) (omega arith)) ∙ sym (above-tells id s e (t .height)) ∙ r id t q (t .height) ∙ within-got t (t .height) (omega arith)))
         (new id t q)
 
-    keep-told : (left id : ℕ) (m : M) → K .recall m id ≡ unknown → (r : Once M Seen) → Told (λ i. alignOf B (getAlignOf i B) (B .type-by-id id)) left m r → Told (align-of id) (suc left) m (onceThen r (keepOnce K id))
+    keep-told : (left id : ℕ) (m : M) → K .recall m id ≡ unknown → (r : Once M Remembered) → Told (λ i. alignOf B (getAlignOf i B) (B .type-by-id id)) left m r → Told (align-of id) (suc left) m (onceThen r (keepOnce K id))
     unfolding onceThen keepOnce getAlignOf
     keep-told left id m u (refused c m′ k) t = t
     keep-told left id m u (found s m′ k) t = (above-tells id s (t .0), omega (arith, t .1), right, grows, new)
@@ -238,7 +238,7 @@ module _ {M : Type 0} (K : Keep M) (B : Btf) where
         new d x q =
             same-or d id
             (λ e. ⊎-elim
-            (λ o. let same : above s ≡ x = known-same (above s) x (sym o ∙ ap (K .recall (K .remember id (above s) m′)) (sym e) ∙ q) in inr (subst (λ (y : Seen). y .height ≤ suc (s .height)) same (omega arith)))
+            (λ o. let same : above s ≡ x = known-same (above s) x (sym o ∙ ap (K .recall (K .remember id (above s) m′)) (sym e) ∙ q) in inr (subst (λ (y : Remembered). y .height ≤ suc (s .height)) same (omega arith)))
             (λ o. ⊎-elim inl (λ l. inr (omega arith)) (t .4 d x (ap (K .recall m′) e ∙ sym o ∙ ap (K .recall (K .remember id (above s) m′)) (sym e) ∙ q)))
             (law .kept id (above s) m′))
             (λ ne. ⊎-elim inl (λ l. inr (omega arith)) (t .4 d x (sym (law .other id (above s) m′ d ne) ∙ q)))
@@ -250,23 +250,23 @@ module _ {M : Type 0} (K : Keep M) (B : Btf) where
     told (suc left) id m k r = go (λ t m′ k′. told left t m′ k′) (K .recall m id) refl
       where
         go : ((t : ℕ) (m′ : M) (k′ : ℕ) → Right K B m′ → Told (align-of t) left m′ (alignOnce K left B t m′ k′)) → (q : Known) → K .recall m id ≡ q
-            → Told (align-of id) (suc left) m (elim q as (λ (q : Known). Once M Seen) [ known s ↦ taken (suc left) s m k | unknown ↦ onceThen (typeOnce B (λ t m′ k′. alignOnce K left B t m′ k′) (B .type-by-id id) m (suc k)) (keepOnce K id) ])
+            → Told (align-of id) (suc left) m (elim q as (λ (q : Known). Once M Remembered) [ known s ↦ taken (suc left) s m k | unknown ↦ onceThen (typeOnce B (λ t m′ k′. alignOnce K left B t m′ k′) (B .type-by-id id) m (suc k)) (keepOnce K id) ])
         go on (known s) e = taken-told (suc left) id s m k r e
         go on unknown e = keep-told left id m e (typeOnce B (λ t m′ k′. alignOnce K left B t m′ k′) (B .type-by-id id) m (suc k)) (type-told left (λ t m′ k′. alignOnce K left B t m′ k′) on (B .type-by-id id) m (suc k) r)
 
     module _ (left id : ℕ) (m : M) (k : ℕ) (r : Right K B m) where
-      answer-of : (q : Once M Seen) → Told (align-of id) left m q → askThen (answerOf q) (λ s. got (s .align)) ≡ getAlignOf left B id
-      unfolding answerOf askThen
+      answer-of : (q : Once M Remembered) → Told (align-of id) left m q → askThen (askOnce q) (λ s. got (s .align)) ≡ getAlignOf left B id
+      unfolding askOnce askThen
       answer-of (found s m′ k′) t = sym (t .0 left ∙ within-got s left (t .1))
       answer-of (refused c m′ k′) t = sym (t .0)
 
-      memory-of : (q : Once M Seen) → Told (align-of id) left m q → Right K B (memoryAfter q) × Grows K m (memoryAfter q)
+      memory-of : (q : Once M Remembered) → Told (align-of id) left m q → Right K B (memoryAfter q) × Grows K m (memoryAfter q)
       unfolding memoryAfter
       memory-of (found s m′ k′) t = (t .2, t .3)
       memory-of (refused c m′ k′) t = (t .1, t .2)
 
       -- "Answers and refusals, 12 by the depth of the plain way included, must equal those of the plain way"
-      pub same-answer : askThen (answerOf (alignOnce K left B id m k)) (λ s. got (s .align)) ≡ getAlignOf left B id
+      pub same-answer : askThen (askOnce (alignOnce K left B id m k)) (λ s. got (s .align)) ≡ getAlignOf left B id
       same-answer = answer-of (alignOnce K left B id m k) (told left id m k r)
 
       -- the memory stays right, and only grows

@@ -22,12 +22,12 @@ use Rattle.spec_c_dumper.proofs.rules.Keeps.{any-name, any-value}
 use Rattle.spec_c_dumper.proofs.rules.Related.{RelSaid, same, RelW, rel-stop, RelNaming, rel-closed}
 use Rattle.spec_c_dumper.specs.needs.Needs.{WF}
 use Rattle.spec_c_dumper.specs.needs.Lists.{Piece, defines, other, cannot, Ls, putLine, afresh}
-use Rattle.spec_c_dumper.specs.needs.Session.{Known as Line-known, fitting, lineOf, machineBy, openedBy, textOf, dump, answerOf, dumped}
+use Rattle.spec_c_dumper.specs.needs.Session.{Known as Line-known, fitting, lineOf, machineBy, openedBy, textOf, dump, answerTo, dumped}
 use Rattle.spec_c_dumper.proofs.needs.Lists.{Sized}
 use Rattle.spec_c_dumper.proofs.needs.Session.{machine-lawful}
 use Rattle.spec_c_dumper.proofs.needs.Alike.{AlikeMachine, BothOut, both-wrote, both-stuck, BothSess, BothAnswer, single-alike, every-alike}
 use Rattle.spec_c_dumper.proofs.needs.AnyNames.{Nearly}
-use Rattle.spec_c_dumper.specs.alignment_once.Once.{Seen, unknown, known, Keep, Lawful, Once, found, refused, alignOnce, Tells, membersTo}
+use Rattle.spec_c_dumper.specs.alignment_once.Once.{Remembered, unknown, known, Keep, Lawful, Once, found, refused, alignOnce, Tells, membersTo}
 use Rattle.spec_c_dumper.specs.alignment_once.Steps.{paddingOnce, bodyOnce}
 use Rattle.spec_c_dumper.specs.alignment_once.Writers.{Asks, answered, givenOnce, definitionOnce, forwardOnce, machineOnce, answerOnce, afterOnce, dumpedOnce, Minded, minded, carried, mindedAsks, noVisits}
 use Rattle.spec_c_dumper.proofs.alignment_once.Right.{known-unknown}
@@ -169,8 +169,8 @@ module _ {St U : Type 0} (Q : Asks St) (N′ : Naming St) (N : Naming U) (B : Bt
       a-body = λ s t h x l. def-alike (defines x) s t h x;
     }
 
-    answer-alike : (S₁ : Sess Mine) (S : Sess Plain) → BothSess Near S₁ S → (r : Req) → BothAnswer Near (answerOnce Q N′ B S₁ r) (answerOf N B S r)
-    unfolding answerOnce answerOf
+    answer-alike : (S₁ : Sess Mine) (S : Sess Plain) → BothSess Near S₁ S → (r : Req) → BothAnswer Near (answerOnce Q N′ B S₁ r) (answerTo N B S r)
+    unfolding answerOnce answerTo
     answer-alike S₁ S h (one room x) = single-alike (machineOnce Q N′ B) (machineBy N B) (tableOf B) (Sized cnt) (machine-lawful N B cnt) (wf .below) Near machines-alike room S₁ S h x
     answer-alike S₁ S h (all room) = every-alike (machineOnce Q N′ B) (machineBy N B) (tableOf B) (Sized cnt) (machine-lawful N B cnt) (wf .below) Near machines-alike room S₁ S h
 
@@ -179,13 +179,13 @@ module _ {St U : Type 0} (Q : Asks St) (N′ : Naming St) (N : Naming U) (B : Bt
     dumped-alike [] ns S₁ S h = ap (λ (k : Ls ℕ). dump ns (textOf (k .pieces))) (h .alike .rest)
     dumped-alike (r ∷ rs) ns S₁ S h =
         let a = answer-alike S₁ S h r in
-        dumped-alike rs (ns ++ ((answerOnce Q N′ B S₁ r .number, answerOnce Q N′ B S₁ r .sess .mach .known .text-len) ∷ [])) (answerOnce Q N′ B S₁ r .sess) (answerOf N B S r .sess) (a .sessions)
-        ∙ ap (λ (p : ℕ × ℕ). dumped N B (ns ++ (p ∷ [])) rs (answerOf N B S r .sess)) (λ i. (a .same-number i, ap (λ (k : Ls ℕ). k .known) (a .sessions .alike .rest) i))
+        dumped-alike rs (ns ++ ((answerOnce Q N′ B S₁ r .number, answerOnce Q N′ B S₁ r .sess .mach .known .text-len) ∷ [])) (answerOnce Q N′ B S₁ r .sess) (answerTo N B S r .sess) (a .sessions)
+        ∙ ap (λ (p : ℕ × ℕ). dumped N B (ns ++ (p ∷ [])) rs (answerTo N B S r .sess)) (λ i. (a .same-number i, ap (λ (k : Ls ℕ). k .known) (a .sessions .alike .rest) i))
 
     after-pair : (rs : List Req) (S₁ : Sess Mine) (S : Sess Plain) → BothSess Near S₁ S → (u : U) × Pair (afterOnce Q N′ B rs S₁ .mach .known .names) u
     unfolding afterOnce
     after-pair [] S₁ S h = (S .mach .known .names, h .alike .names)
-    after-pair (r ∷ rs) S₁ S h = after-pair rs (answerOnce Q N′ B S₁ r .sess) (answerOf N B S r .sess) (answer-alike S₁ S h r .sessions)
+    after-pair (r ∷ rs) S₁ S h = after-pair rs (answerOnce Q N′ B S₁ r .sess) (answerTo N B S r .sess) (answer-alike S₁ S h r .sessions)
 
     pub starts : (v : St) (u : U) → Pair v u → BothSess Near (openedBy N′ B v) (openedBy N B u)
     unfolding afresh
@@ -204,8 +204,8 @@ module _ {St U : Type 0} (Q : Asks St) (N′ : Naming St) (N : Naming U) (B : Bt
     session-pair v u r rs = after-pair rs (openedBy N′ B v) (openedBy N B u) (starts v u r)
 
 -- ---- names and memory side by side
-module _ {U M : Type 0} (K : Keep M) (N : Naming U) (B : Btf) (Good : M → Type 0) (Fits : Seen → Type 0) (law : Lawful K (B .type-cnt) Good Fits)
-    (fits : (id : ℕ) (s : Seen) → Tells B id s → s .height ≤ 512 → Fits s) (wf : WF (tableOf B)) (ends : (id : ℕ) → B .type-cnt ≤ id → B .type-by-id id ≡ Void) where
+module _ {U M : Type 0} (K : Keep M) (N : Naming U) (B : Btf) (Good : M → Type 0) (Fits : Remembered → Type 0) (law : Lawful K (B .type-cnt) Good Fits)
+    (fits : (id : ℕ) (s : Remembered) → Tells B id s → s .height ≤ 512 → Fits s) (wf : WF (tableOf B)) (ends : (id : ℕ) → B .type-cnt ≤ id → B .type-by-id id ≡ Void) where
   abbrev Fine : M → ℕ → Type 0
   Fine m k = Honest K B (B .type-cnt) Good Fits law fits (wf .below) Nothing (λ left id b m k l r g a. no-more (alignOnce K left B id m k)) m k
 

@@ -8,7 +8,7 @@ use lib.Dec.{ltb, eqb}
 use borrow.Author.Tests.{lt-ltb, eq-eqb, ne-eqb}
 use Rattle.spec_c_dumper.specs.rules.Types.{Btf, nodeOf}
 use Rattle.spec_c_dumper.specs.needs.Needs.{kids}
-use Rattle.spec_c_dumper.specs.alignment_once.Once.{Seen, Known, known, Lawful, Once, found, refused, answerOf, alignOnce, listOnce, listPlain, Table, tableKeep, blank, membersTo, paidTo}
+use Rattle.spec_c_dumper.specs.alignment_once.Once.{Remembered, Known, known, Lawful, Once, found, refused, askOnce, alignOnce, listOnce, listPlain, Table, tableKeep, blank, membersTo, paidTo}
 use Rattle.spec_c_dumper.proofs.alignment_once.Right.{known-unknown}
 use Rattle.spec_c_dumper.proofs.alignment_once.Counted.{paid-none}
 use Rattle.spec_c_dumper.proofs.alignment_once.Fair.{Nothing, no-more, at-most, Fair, fair-list}
@@ -16,11 +16,11 @@ use Rattle.spec_c_dumper.proofs.alignment_once.Fair.{Nothing, no-more, 
 abbrev pub Any : Table → Type 0
 Any m = Unit {0}
 
-abbrev pub Each : Seen → Type 0
+abbrev pub Each : Remembered → Type 0
 Each s = Unit {0}
 
 -- what is recalled, by the test of `remember`
-abbrev chosen : Seen → Known → Bool → Known
+abbrev chosen : Remembered → Known → Bool → Known
 chosen s q b = elim b [ true ↦ known s | false ↦ q ]
 
 pub table-lawful : (n : ℕ) → Lawful (tableKeep n) n Any Each
@@ -37,7 +37,7 @@ table-lawful n = record {
     off : (d id : ℕ) (b : Bool) → (d ≡ id → ⊥) → (eqb d id && b) ≡ false
     off d id b ne = ap (λ (c : Bool). c && b) (ne-eqb d id ne)
 
-    here : (id : ℕ) (s : Seen) (m : Table) (b : Bool) → ltb id n ≡ b → (tableKeep n .recall (tableKeep n .remember id s m) id ≡ known s) ⊎ (tableKeep n .recall (tableKeep n .remember id s m) id ≡ m id)
+    here : (id : ℕ) (s : Remembered) (m : Table) (b : Bool) → ltb id n ≡ b → (tableKeep n .recall (tableKeep n .remember id s m) id ≡ known s) ⊎ (tableKeep n .recall (tableKeep n .remember id s m) id ≡ m id)
     here id s m true e = inl (ap (chosen s (m id)) (on id (ltb id n) ∙ e))
     here id s m false e = inr (ap (chosen s (m id)) (on id (ltb id n) ∙ e))
 
@@ -55,11 +55,11 @@ module _ (B : Btf) (below : (x y : ℕ) → List·Memᴰ y (kids (nodeOf (B .typ
     also = tt;
   })
 
-  pub same-answers : answerOf asked ≡ listPlain B asks
-  unfolding answerOf
+  pub same-answers : askOnce asked ≡ listPlain B asks
+  unfolding askOnce
   same-answers = by asked fair
     where
-      by : (r : Once Table (List ℕ)) → Fair (tableKeep (B .type-cnt)) B (B .type-cnt) Any Each (table-lawful (B .type-cnt)) (λ id s t l. tt) below Nothing (λ left id b m k l r g a. no-more (alignOnce (tableKeep (B .type-cnt)) left B id m k)) (listPlain B asks) r → answerOf r ≡ listPlain B asks
+      by : (r : Once Table (List ℕ)) → Fair (tableKeep (B .type-cnt)) B (B .type-cnt) Any Each (table-lawful (B .type-cnt)) (λ id s t l. tt) below Nothing (λ left id b m k l r g a. no-more (alignOnce (tableKeep (B .type-cnt)) left B id m k)) (listPlain B asks) r → askOnce r ≡ listPlain B asks
       by (found l m k) f = sym (f .0)
       by (refused c m k) f = sym f
 

@@ -12,7 +12,7 @@ use Rattle.spec_c_dumper.specs.rules.Machine.{Out, Machine, eeach, emit,
 use Rattle.spec_c_dumper.specs.rules.Types.{Btf, tableOf}
 use Rattle.spec_c_dumper.specs.rules.Names.{Naming, naming}
 use Rattle.spec_c_dumper.specs.needs.Lists.{Lines, Ls, listMachine, afresh}
-use Rattle.spec_c_dumper.specs.needs.Session.{Known, dump, textOf, linesBy, openedBy, noNames, answerOf, dumped, dumpTypes}
+use Rattle.spec_c_dumper.specs.needs.Session.{Known, dump, textOf, linesBy, openedBy, noNames, answerTo, dumped, dumpTypes}
 use Rattle.spec_c_dumper.specs.listed_twice.Twice.{orderingTwice, gateTwice, singleTwice, fromTwice, everyTwice, answerTwice, dumpedTwice, dumpTypesTwice}
 use Rattle.spec_c_dumper.proofs.listed_twice.Ordering.{bare, Rel, Both, both-ok, both-no, dnil, new-busy, order-sim}
 use Rattle.spec_c_dumper.proofs.listed_twice.Emission.{Alike, both-wrote, both-stuck, Fin, dup-emit}
@@ -104,8 +104,8 @@ all-idle (suc k) (suc y) e = all-idle k y e
 
 -- with any way of keeping names
 module _ {U : Type 0} (N : Naming U) (B : Btf) where
-  answer-same : (S₁ S : Sess (Ls (Known U))) → Twins (B .type-cnt) S₁ S → (r : Req) → TwinAnswers (B .type-cnt) (answerTwice N B S₁ r) (answerOf N B S r)
-  unfolding answerTwice answerOf
+  answer-same : (S₁ S : Sess (Ls (Known U))) → Twins (B .type-cnt) S₁ S → (r : Req) → TwinAnswers (B .type-cnt) (answerTwice N B S₁ r) (answerTo N B S r)
+  unfolding answerTwice answerTo
   answer-same S₁ S h (one room x) = single-same (linesBy N B) (tableOf B) S₁ S h room x
   answer-same S₁ S h (all room) = every-same (linesBy N B) (tableOf B) room S₁ S h
 
@@ -114,8 +114,8 @@ module _ {U : Type 0} (N : Naming U) (B : Btf) where
   dumped-same [] ns S₁ S h = ap (λ (k : Ls (Known U)). dump ns (textOf (k .pieces))) (h .same-mach)
   dumped-same (r ∷ rs) ns S₁ S h =
       let a = answer-same S₁ S h r in
-      dumped-same rs (ns ++ ((answerTwice N B S₁ r .number, answerTwice N B S₁ r .sess .mach .known .text-len) ∷ [])) (answerTwice N B S₁ r .sess) (answerOf N B S r .sess) (a .twins)
-      ∙ ap (λ (k : ℕ × ℕ). dumped N B (ns ++ (k ∷ [])) rs (answerOf N B S r .sess)) (λ i. (a .same-number i, a .twins .same-mach i .known .text-len))
+      dumped-same rs (ns ++ ((answerTwice N B S₁ r .number, answerTwice N B S₁ r .sess .mach .known .text-len) ∷ [])) (answerTwice N B S₁ r .sess) (answerTo N B S r .sess) (a .twins)
+      ∙ ap (λ (k : ℕ × ℕ). dumped N B (ns ++ (k ∷ [])) rs (answerTo N B S r .sess)) (λ i. (a .same-number i, a .twins .same-mach i .known .text-len))
 
   pub by-listings-agree : (u : U) (rs : List Req) → dumpedTwice N B [] rs (openedBy N B u) ≡ dumped N B [] rs (openedBy N B u)
   unfolding afresh

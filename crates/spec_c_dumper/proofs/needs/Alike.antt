@@ -9,7 +9,7 @@ use mathlib.Core.Logic.{_⊎_, inl, inr}
 use lib.ListN.{length}
 use lib.Dec.{T as True, ltb, ltb→lt}
 use Rattle.spec_c_dumper.specs.rules.Order.{Node, ignored, plain, listed, through, ptr, tdef, proto, comp, Table, isComp, Mark, new, busy, done, isDone, Store, Lawful, Framed, Res, ok, refused, bind, each, meet, pushIf, finish, enter, alias, fresh, visit, order}
-use Rattle.spec_c_dumper.specs.rules.Machine.{Out, Machine, MLawful, Kept, eeach, emit, Sess, Answer, Req, one, all, shut, emitted, ordered, gate, single, onward, from, every, serve, run}
+use Rattle.spec_c_dumper.specs.rules.Machine.{Out, Machine, MLawful, OrderKeeps, eeach, emit, Sess, Answer, Req, one, all, shut, emitted, ordered, gate, single, onward, from, every, serve, run}
 use Rattle.spec_c_dumper.specs.needs.Needs.{kids}
 use Rattle.spec_c_dumper.proofs.needs.Ways.{clash, clash-new, clash-busy, tally, tally-mono, tally-room}
 use Rattle.spec_c_dumper.proofs.needs.Sound.{Grew, Room, grew-refl, grew-trans, grew-busy, grew-busy′, grew-finish, grew-around, mem-finish-inv, room-finish}
@@ -231,10 +231,10 @@ module _ {M₁ M : Type 0} (X₁ : Machine M₁) (X : Machine M) (T : Table) (Go
   }
 
   abbrev Lives : M₁ → M → Type 0
-  Lives s t = Live (X₁ .store) (X .store) T Good (ml .law) (Kept X Good) (ml .framed) below Q (al .a-store) s t
+  Lives s t = Live (X₁ .store) (X .store) T Good (ml .law) (OrderKeeps X Good) (ml .framed) below Q (al .a-store) s t
 
   abbrev Goes : M → M₁ → M → Bool → Type 0
-  Goes t₀ s t b = Went (X₁ .store) (X .store) T Good (ml .law) (Kept X Good) (ml .framed) below Q (al .a-store) t₀ s t b
+  Goes t₀ s t b = Went (X₁ .store) (X .store) T Good (ml .law) (OrderKeeps X Good) (ml .framed) below Q (al .a-store) t₀ s t b
 
   start-live : (room : ℕ) (s : M₁) (t : M) → Q s t → Lives (X₁ .start room s) (X .start room t)
   start-live room s t q = record {
@@ -268,7 +268,7 @@ module _ {M₁ M : Type 0} (X₁ : Machine M₁) (X : Machine M) (T : Table) (Go
     gate-alike room x false b e = record { same-number = refl; sessions = h }
     gate-alike room x true false e = record { same-number = refl; sessions = h }
     gate-alike room x true true e =
-        ordered-alike x (X .start room (S .mach)) (order-alike (X₁ .store) (X .store) T Good (ml .law) (Kept X Good) (ml .framed) below Q (al .a-store) 512 (X₁ .start room (S₁ .mach)) (X .start room (S .mach)) x false
+        ordered-alike x (X .start room (S .mach)) (order-alike (X₁ .store) (X .store) T Good (ml .law) (OrderKeeps X Good) (ml .framed) below Q (al .a-store) 512 (X₁ .start room (S₁ .mach)) (X .start room (S .mach)) x false
         (start-live room (S₁ .mach) (S .mach) (h .alike)) (ltb→lt x (T .count) (subst True (sym e) tt)))
 
   pub single-alike : (room : ℕ) (S₁ : Sess M₁) (S : Sess M) → BothSess Q S₁ S → (x : ℕ) → BothAnswer Q (single X₁ T room S₁ x) (single X T room S x)

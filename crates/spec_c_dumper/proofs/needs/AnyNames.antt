@@ -17,7 +17,7 @@ use Rattle.spec_c_dumper.proofs.rules.Closed.{TypeFits}
 use Rattle.spec_c_dumper.proofs.rules.Related.{RelSaid, same, RelNaming, rel-definition, rel-forward}
 use Rattle.spec_c_dumper.specs.needs.Needs.{WF}
 use Rattle.spec_c_dumper.specs.needs.Lists.{Piece, defines, other, cannot, Ls, putLine, afresh}
-use Rattle.spec_c_dumper.specs.needs.Session.{Known, fitting, lineOf, linesBy, machineBy, openedBy, textOf, dump, answerOf, dumped}
+use Rattle.spec_c_dumper.specs.needs.Session.{Known, fitting, lineOf, linesBy, machineBy, openedBy, textOf, dump, answerTo, dumped}
 use Rattle.spec_c_dumper.proofs.needs.Lists.{Sized}
 use Rattle.spec_c_dumper.proofs.needs.Session.{machine-lawful}
 use Rattle.spec_c_dumper.proofs.needs.Alike.{AlikeMachine, BothOut, both-wrote, both-stuck, BothSess, BothAnswer, single-alike, every-alike}
@@ -117,8 +117,8 @@ module _ {U W : Type 0} (R : U → W → Type 0) (Fits : Space → ℕ → Name 
   }
 
   module _ (below : WF (tableOf B)) where
-    answer-alike : (S₁ : Sess (Ls (Known U))) (S : Sess (Ls (Known W))) → BothSess Near S₁ S → (r : Req) → BothAnswer Near (answerOf N₁ B S₁ r) (answerOf N₂ B S r)
-    unfolding answerOf
+    answer-alike : (S₁ : Sess (Ls (Known U))) (S : Sess (Ls (Known W))) → BothSess Near S₁ S → (r : Req) → BothAnswer Near (answerTo N₁ B S₁ r) (answerTo N₂ B S r)
+    unfolding answerTo
     answer-alike S₁ S h (one room x) = single-alike (machineBy N₁ B) (machineBy N₂ B) (tableOf B) (Sized (B .type-cnt)) (machine-lawful N₂ B (B .type-cnt)) (below .below) Near names-alike room S₁ S h x
     answer-alike S₁ S h (all room) = every-alike (machineBy N₁ B) (machineBy N₂ B) (tableOf B) (Sized (B .type-cnt)) (machine-lawful N₂ B (B .type-cnt)) (below .below) Near names-alike room S₁ S h
 
@@ -127,8 +127,8 @@ module _ {U W : Type 0} (R : U → W → Type 0) (Fits : Space → ℕ → Name 
     dumped-alike [] ns S₁ S h = ap (λ (k : Ls ℕ). dump ns (textOf (k .pieces))) (h .alike .rest)
     dumped-alike (r ∷ rs) ns S₁ S h =
         let a = answer-alike S₁ S h r in
-        dumped-alike rs (ns ++ ((answerOf N₁ B S₁ r .number, answerOf N₁ B S₁ r .sess .mach .known .text-len) ∷ [])) (answerOf N₁ B S₁ r .sess) (answerOf N₂ B S r .sess) (a .sessions)
-        ∙ ap (λ (p : ℕ × ℕ). dumped N₂ B (ns ++ (p ∷ [])) rs (answerOf N₂ B S r .sess)) (λ i. (a .same-number i, ap (λ (k : Ls ℕ). k .known) (a .sessions .alike .rest) i))
+        dumped-alike rs (ns ++ ((answerTo N₁ B S₁ r .number, answerTo N₁ B S₁ r .sess .mach .known .text-len) ∷ [])) (answerTo N₁ B S₁ r .sess) (answerTo N₂ B S r .sess) (a .sessions)
+        ∙ ap (λ (p : ℕ × ℕ). dumped N₂ B (ns ++ (p ∷ [])) rs (answerTo N₂ B S r .sess)) (λ i. (a .same-number i, ap (λ (k : Ls ℕ). k .known) (a .sessions .alike .rest) i))
 
     -- the same numbers, lengths and text
     pub dumps-alike : (u : U) (w : W) → R u w → (rs : List Req) → dumped N₁ B [] rs (openedBy N₁ B u) ≡ dumped N₂ B [] rs (openedBy N₂ B w)

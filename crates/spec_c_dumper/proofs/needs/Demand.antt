@@ -12,7 +12,7 @@ use Rattle.spec_c_dumper.specs.needs.Needs.{weaken, Way, here, past, Nam
 use Rattle.spec_c_dumper.proofs.needs.Placed.{Listable, keep, defs, Placed, Sorted, none, snoc}
 use Rattle.spec_c_dumper.proofs.needs.Ways.{Loops, Gee, agree, via-comp, loops-twice, acc-once, tally}
 use Rattle.spec_c_dumper.proofs.needs.Sound.{hit-lower, Ready, Ordered, Holds, good, bad, request-ok}
-use Rattle.spec_c_dumper.specs.rules.Machine.{Out, wrote, stuck, Machine, OHolds, ogood, obad, Same, Kept, MLawful, eeach, emit, Sess, Answer, Req, one, all, shut, emitted, ordered, ordering, gate, single, onward, from, every, serve, run}
+use Rattle.spec_c_dumper.specs.rules.Machine.{Out, wrote, stuck, Machine, OHolds, ogood, obad, Same, OrderKeeps, MLawful, eeach, emit, Sess, Answer, Req, one, all, shut, emitted, ordered, ordering, gate, single, onward, from, every, serve, run}
 use Rattle.spec_c_dumper.proofs.needs.Quiet.{oholds-bind, oholds-map, defs-append, defs-one, EBusy, TopPost, Sound-top, emit-top}
 use Rattle.spec_c_dumper.specs.needs.Demand.{Once, Demand3}
 
@@ -116,7 +116,7 @@ record Due (T : Table) (x : ℕ) : Type 0 where
 
 module _ {M : Type 0} (X : Machine M) (T : Table) (Good : M → Type 0) (ml : MLawful X Good (T .count)) (wf : WF T) where
   abbrev IsReady : List ℕ → M → Type 0
-  IsReady pre s = Ready (X .store) T Good (ml .law) (Kept X Good) (ml .framed) pre s
+  IsReady pre s = Ready (X .store) T Good (ml .law) (OrderKeeps X Good) (ml .framed) pre s
 
   abbrev IsBusy : M → ℕ → Type 0
   IsBusy s e = EBusy X T Good ml wf s e
@@ -177,7 +177,7 @@ module _ {M : Type 0} (X : Machine M) (T : Table) (Good : M → Type 0) (ml : ML
   due-of pre s r x m = record {
     able = f .1;
     below = f .2;
-    weakly-free = λ d v way due o. free d (hit-lower (X .store) T Good (ml .law) (Kept X Good) (ml .framed) s x true (r .inv .closed x (f .0)) d v (agree T wf way (inl refl)) due) o;
+    weakly-free = λ d v way due o. free d (hit-lower (X .store) T Good (ml .law) (OrderKeeps X Good) (ml .framed) s x true (r .inv .closed x (f .0)) d v (agree T wf way (inl refl)) due) o;
     comp-free = λ c o. free x (f .0) o;
   }
     where
@@ -242,7 +242,7 @@ module _ {M : Type 0} (X : Machine M) (T : Table) (Good : M → Type 0) (ml : ML
   shut-number S e = refl
 
   abbrev IsOrdered : M → List ℕ → ℕ → M → Bool → Type 0
-  IsOrdered s₀ pre x s b = Ordered (X .store) T Good (ml .law) (Kept X Good) (ml .framed) s₀ pre x s b
+  IsOrdered s₀ pre x s b = Ordered (X .store) T Good (ml .law) (OrderKeeps X Good) (ml .framed) s₀ pre x s b
 
   emitted-ok : (room : ℕ) (S : Sess M) (x : ℕ) (i : SInv S) (s : M) (b : Bool) → IsOrdered (X .start room (S .mach)) (i .whole) x s b → (r : Out M) → OHolds (Emitted (i .whole ++ X .store .list s) s) r → Served room S x (emitted X T S x r)
   unfolding emitted
@@ -285,7 +285,7 @@ module _ {M : Type 0} (X : Machine M) (T : Table) (Good : M → Type 0) (ml : ML
   unfolding gate
   gate-ok room S x i false b e f = record { inv = i; cycle = λ p l nc d. absurd (true≢false (sym p ∙ e)) }
   gate-ok room S x i true false e f = record { inv = i; cycle = λ p l nc d. absurd (ltb-not x (T .count) l f) }
-  gate-ok room S x i true true e f = ordered-ok room S x i (i .live e room .1) (ordering X T room S x) refl (request-ok (X .store) T Good (ml .law) (Kept X Good) (ml .framed) wf (i .whole) (X .start room (S .mach)) x 512 (i .live e room .0) (ltb-yes x (T .count) f))
+  gate-ok room S x i true true e f = ordered-ok room S x i (i .live e room .1) (ordering X T room S x) refl (request-ok (X .store) T Good (ml .law) (OrderKeeps X Good) (ml .framed) wf (i .whole) (X .start room (S .mach)) x 512 (i .live e room .0) (ltb-yes x (T .count) f))
 
   single-ok : (room : ℕ) (S : Sess M) (x : ℕ) → SInv S → Served room S x (single X T room S x)
   unfolding single

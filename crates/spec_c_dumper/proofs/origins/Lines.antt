@@ -19,7 +19,7 @@ use Rattle.spec_c_dumper.specs.rules.Decl.{emitCompositeFwd, emitFwdDef,
 use Rattle.spec_c_dumper.specs.rules.Emit.{lineEnd, definition, shown, forward}
 use Rattle.spec_c_dumper.specs.needs.Lists.{Piece, defines, other, cannot, Ls, putLine}
 use Rattle.spec_c_dumper.specs.needs.Session.{Known, fitting, lineOf, linesBy, machineBy, textOf}
-use Rattle.spec_c_dumper.specs.origins.Causes.{Entry, entry, ledBy, Led, ledStore, orderLed, leaderOf, listedEntry, Noted, withEntries, line, causeAt, noting, emitNoted, showsIn, always, Told, untold, dropped, emittedNoted, eachListed, orderedNoted, gateNoted, singleNoted, onwardNoted, listNoted, fromNoted, everyNoted}
+use Rattle.spec_c_dumper.specs.origins.Causes.{Entry, entry, ledBy, Led, ledStore, orderLed, leaderOf, listedEntry, Noted, withEntries, line, causeAt, noting, emitNoted, showsIn, always, Explaining, untold, dropped, emittedNoted, eachListed, orderedNoted, gateNoted, singleNoted, onwardNoted, listNoted, fromNoted, everyNoted}
 use Rattle.spec_c_dumper.specs.origins.Claims.{itself, isListed, LedTo, Numbered}
 use Rattle.spec_c_dumper.specs.origins.Lines.{isTypedef, isForward, Ended, writerOf, pieceOf, Pairs, none, more, blank, Grown, notedIds, Inside, Caused, requested, needed, forwarded, early, notesOf, ledFor, Turns, no-turn, turn}
 use Rattle.spec_c_dumper.specs.origins.Causes.{idsFrom}
@@ -404,16 +404,16 @@ module _ {U : Type 0} (N : Naming U) (B : Btf) (void : tableOf B .node 0 ≡ pla
   abbrev X : Machine (Ls (Known U))
   X = machineBy N B
 
-  abbrev machOf : Told (Ls (Known U)) → Ls (Known U)
+  abbrev machOf : Explaining (Ls (Known U)) → Ls (Known U)
   machOf t = t .answer .sess .mach
 
   -- what a request for x comes to after t: its lines, each with a cause that its ordering gives; or nothing
-  pub data Went (x : ℕ) (t u : Told (Ls (Known U))) : Type 0 where
+  pub data Went (x : ℕ) (t u : Explaining (Ls (Known U))) : Type 0 where
     went : (es : List Entry) (ps : List Piece) → u .answer .number ≡ 0 → u .answer .sess .asked ≡ t .answer .sess .asked ++ (x ∷ []) → u .entries ≡ t .entries ++ es → machOf u .pieces ≡ machOf t .pieces ++ ps
         → Pairs N B (Caused (tableOf B) x (ledFor N B size (t .answer .sess) x)) (machOf t .known .names) es ps (machOf u .known .names) → Idle (machOf u) → Went x t u
     left : (u .answer .number ≡ 0 → ⊥) → u .answer .sess .asked ≡ t .answer .sess .asked → u .entries ≡ t .entries → machOf u .pieces ≡ machOf t .pieces → Idle (machOf u) → Went x t u
 
-  module _ (t : Told (Ls (Known U))) (x : ℕ) (i : Idle (machOf t)) where
+  module _ (t : Explaining (Ls (Known U))) (x : ℕ) (i : Idle (machOf t)) where
     -- what ordering leaves
     pub record Before (s : Led (Ls (Known U))) : Type 0 where
       pub same-pieces : s .state .pieces ≡ machOf t .pieces
@@ -469,15 +469,15 @@ module _ {U : Type 0} (N : Naming U) (B : Btf) (void : tableOf B .node 0 ≡ pla
         (record { same-pieces = refl; same-emits = refl; same-names = refl; beside = refl; all-led = λ p m. absurd (List·Memᴰ·not-nil m) }))
         (order-not (X .store) x 512 (tableOf B) [] s x false)
 
-  abbrev singly : ℕ → Told (Ls (Known U)) → Told (Ls (Known U))
+  abbrev singly : ℕ → Explaining (Ls (Known U)) → Explaining (Ls (Known U))
   singly x t = singleNoted X (tableOf B) always (showsIn B) size x t
 
-  single-went : (x : ℕ) (t : Told (Ls (Known U))) → Idle (machOf t) → Went x t (singly x t)
+  single-went : (x : ℕ) (t : Explaining (Ls (Known U))) → Idle (machOf t) → Went x t (singly x t)
   unfolding singleNoted
   single-went x t i = gate-went t x i (t .answer .sess .isOpen) (ltb x (tableOf B .count))
 
   -- what the requests for some ids add: those that were accepted, in their turns; and nothing is in progress after them
-  pub record Told-grown (ids : List ℕ) (t t′ : Told (Ls (Known U))) : Type 0 where
+  pub record Told-grown (ids : List ℕ) (t t′ : Explaining (Ls (Known U))) : Type 0 where
     pub accepted : List ℕ
     pub rest : List ℕ
     pub ids-are : ids ≡ accepted ++ rest
@@ -491,7 +491,7 @@ module _ {U : Type 0} (N : Naming U) (B : Btf) (void : tableOf B .node 0 ≡ pla
     pub idle : Idle (machOf t′)
 
   -- nothing
-  told-none : (ids : List ℕ) (t t′ : Told (Ls (Known U))) → (t′ .answer .number ≡ 0 → ids ≡ []) → t′ .answer .sess .asked ≡ t .answer .sess .asked → t′ .entries ≡ t .entries → machOf t′ .pieces ≡ machOf t .pieces → Idle (machOf t′)
+  told-none : (ids : List ℕ) (t t′ : Explaining (Ls (Known U))) → (t′ .answer .number ≡ 0 → ids ≡ []) → t′ .answer .sess .asked ≡ t .answer .sess .asked → t′ .entries ≡ t .entries → machOf t′ .pieces ≡ machOf t .pieces → Idle (machOf t′)
       → Told-grown ids t t′
   told-none ids t t′ w a e q i = record {
     accepted = [];
@@ -507,12 +507,12 @@ module _ {U : Type 0} (N : Naming U) (B : Btf) (void : tableOf B .node 0 ≡ pla
     idle = i;
   }
 
-  told-same : (t : Told (Ls (Known U))) → Idle (machOf t) → Told-grown [] t t
+  told-same : (t : Explaining (Ls (Known U))) → Idle (machOf t) → Told-grown [] t t
   told-same t i = told-none [] t t (λ z. refl) refl refl refl i
 
   -- an accepted request, and what follows it
-  module _ (x : ℕ) (t : Told (Ls (Known U))) where
-    abbrev u : Told (Ls (Known U))
+  module _ (x : ℕ) (t : Explaining (Ls (Known U))) where
+    abbrev u : Explaining (Ls (Known U))
     u = singly x t
 
     abbrev a : Answer (Ls (Known U))
@@ -521,7 +521,7 @@ module _ {U : Type 0} (N : Naming U) (B : Btf) (void : tableOf B .node 0 ≡ pla
     plainly : u .answer ≡ a
     plainly = single-fits X (tableOf B) (showsIn B) (machine-numbered N B) size x t .same
 
-    went-then : (ids : List ℕ) (v : Told (Ls (Known U))) (es : List Entry) (ps : List Piece) → u .answer .number ≡ 0 → u .answer .sess .asked ≡ t .answer .sess .asked ++ (x ∷ []) → u .entries ≡ t .entries ++ es
+    went-then : (ids : List ℕ) (v : Explaining (Ls (Known U))) (es : List Entry) (ps : List Piece) → u .answer .number ≡ 0 → u .answer .sess .asked ≡ t .answer .sess .asked ++ (x ∷ []) → u .entries ≡ t .entries ++ es
         → machOf u .pieces ≡ machOf t .pieces ++ ps → Pairs N B (Caused (tableOf B) x (ledFor N B size (t .answer .sess) x)) (machOf t .known .names) es ps (machOf u .known .names) → Told-grown ids u v → Told-grown (x ∷ ids) t v
     went-then ids v es ps z k e q p g = record {
       accepted = x ∷ g .accepted;
@@ -541,14 +541,14 @@ module _ {U : Type 0} (N : Naming U) (B : Btf) (void : tableOf B .node 0 ≡ pla
     }
 
     -- a request, and the others if it is accepted
-    onward-grown : (ids : List ℕ) (k : Told (Ls (Known U)) → Told (Ls (Known U))) → ((t′ : Told (Ls (Known U))) → Idle (machOf t′) → Told-grown ids t′ (k t′)) → Went x t u
+    onward-grown : (ids : List ℕ) (k : Explaining (Ls (Known U)) → Explaining (Ls (Known U))) → ((t′ : Explaining (Ls (Known U))) → Idle (machOf t′) → Told-grown ids t′ (k t′)) → Went x t u
         → Told-grown (x ∷ ids) t (onwardNoted X (tableOf B) always (showsIn B) k u)
     unfolding onwardNoted
     onward-grown ids k h (went es ps z j e q p i) =
-        subst (λ (m : ℕ). Told-grown (x ∷ ids) t (elim m as (λ (y : ℕ). Told (Ls (Known U))) [ zero ↦ k u | suc r ↦ u ])) (sym z) (went-then ids (k u) es ps z j e q p (h u i))
+        subst (λ (m : ℕ). Told-grown (x ∷ ids) t (elim m as (λ (y : ℕ). Explaining (Ls (Known U))) [ zero ↦ k u | suc r ↦ u ])) (sym z) (went-then ids (k u) es ps z j e q p (h u i))
     onward-grown ids k h (left z j e q i) = by (u .answer .number) refl
       where
-        by : (m : ℕ) → u .answer .number ≡ m → Told-grown (x ∷ ids) t (elim m as (λ (y : ℕ). Told (Ls (Known U))) [ zero ↦ k u | suc r ↦ u ])
+        by : (m : ℕ) → u .answer .number ≡ m → Told-grown (x ∷ ids) t (elim m as (λ (y : ℕ). Explaining (Ls (Known U))) [ zero ↦ k u | suc r ↦ u ])
         by zero r = absurd (z r)
         by (suc m) r = told-none (x ∷ ids) t u (λ y. absurd (z y)) j e q i
 
@@ -557,16 +557,16 @@ module _ {U : Type 0} (N : Naming U) (B : Btf) (void : tableOf B .node 0 ≡ pla
     one-grown (left z j e q i) = told-none (x ∷ []) t u (λ y. absurd (z y)) j e q i
 
   -- ONE ENTRY A LINE: a single request
-  pub single-grown : (x : ℕ) (t : Told (Ls (Known U))) → Idle (machOf t) → Told-grown (x ∷ []) t (singly x t)
+  pub single-grown : (x : ℕ) (t : Explaining (Ls (Known U))) → Idle (machOf t) → Told-grown (x ∷ []) t (singly x t)
   single-grown x t i = one-grown x t (single-went x t i)
 
   -- a list of ids, n ids from x on, all ids
-  pub list-grown : (xs : List ℕ) (t : Told (Ls (Known U))) → Idle (machOf t) → Told-grown xs t (listNoted X (tableOf B) always (showsIn B) size xs t)
+  pub list-grown : (xs : List ℕ) (t : Explaining (Ls (Known U))) → Idle (machOf t) → Told-grown xs t (listNoted X (tableOf B) always (showsIn B) size xs t)
   unfolding listNoted
   list-grown [] t i = told-same t i
   list-grown (x ∷ xs) t i = onward-grown x t xs (listNoted X (tableOf B) always (showsIn B) size xs) (λ v j. list-grown xs v j) (single-went x t i)
 
-  pub from-grown : (n x : ℕ) (t : Told (Ls (Known U))) → Idle (machOf t) → Told-grown (idsFrom n x) t (fromNoted X (tableOf B) always (showsIn B) size n x t)
+  pub from-grown : (n x : ℕ) (t : Explaining (Ls (Known U))) → Idle (machOf t) → Told-grown (idsFrom n x) t (fromNoted X (tableOf B) always (showsIn B) size n x t)
   unfolding fromNoted idsFrom
   from-grown zero x t i = told-same t i
   from-grown (suc n) x t i = onward-grown x t (idsFrom n (suc x)) (fromNoted X (tableOf B) always (showsIn B) size n (suc x)) (λ v j. from-grown n (suc x) v j) (single-went x t i)

@@ -12,7 +12,7 @@ use Rattle.spec_c_dumper.specs.rules.Writer.{Ask, got, no, askThen, chec
 use Rattle.spec_c_dumper.specs.rules.Types.{Member, Btf}
 use Rattle.spec_c_dumper.specs.rules.Layout.{larger, getSizeOf, alignMembers, getAlignOf, offAlign, membersPacked, isStructPacked, PadUnit, long, int, short, char, Pad, padsOf, gapPads, suits, placedPad, placedPads, placedGap, padsBefore, bitPadding, endOf}
 use Rattle.spec_c_dumper.specs.rules.Placing.{roundUp, sameUnit, fieldSize, fieldFits, startFits, memberFits, Extent, reached, withMember, extentOf, noExtent, unionAlign, sizeFits, measured, bodyPacked, tailPads}
-use Rattle.spec_c_dumper.specs.rules.SystemV.{Line, pad, field, padLines, bodyLines, unitBits, bitFieldAt, lineAt, lineBits, structPlaces, structEnd, unionPlaces, unionEnd, wholeBits, raises, linesAlign, allRaise, answerOf, tableSize, tableAlign, bodyAlign, bitOffsets, asUnion, placesOf, bitsOf, LaidOut}
+use Rattle.spec_c_dumper.specs.rules.SystemV.{Line, pad, field, padLines, bodyLines, unitBits, bitFieldAt, lineAt, lineBits, structPlaces, structEnd, unionPlaces, unionEnd, wholeBits, raises, linesAlign, allRaise, foundOrZero, tableSize, tableAlign, bodyAlign, bitOffsets, asUnion, placesOf, bitsOf, LaidOut}
 use Rattle.spec_bytes.proofs.words.Laws.{le-or-lt}
 use Rattle.spec_c_dumper.proofs.rules.Deeper.{align-one-more}
 
@@ -147,15 +147,15 @@ module _ (B : Btf) (packed : Bool) where
   bits = lineBits (tableSize B) (tableAlign B) packed
 
   end-is : (m : Member) (end : ℕ) → endOf B m ≡ got end → m .bit-offset + bits (field m) ≡ end
-  unfolding endOf lineBits tableSize answerOf
+  unfolding endOf lineBits tableSize foundOrZero
   end-is m end = go (eqb (m .bit-size) 0)
     where
       go : (b : Bool) → (elim b as (λ _. Ask ℕ) [ true ↦ askThen (getSizeOf 512 B (m .type-id)) (λ s. askThen (checked (8 * s)) (λ bits. checked (m .bit-offset + bits))) | false ↦ checked (m .bit-offset + m .bit-size) ]) ≡ got end
-          → m .bit-offset + (elim b as (λ _. ℕ) [ true ↦ 8 * answerOf (getSizeOf 512 B (m .type-id)) | false ↦ m .bit-size ]) ≡ end
+          → m .bit-offset + (elim b as (λ _. ℕ) [ true ↦ 8 * foundOrZero (getSizeOf 512 B (m .type-id)) | false ↦ m .bit-size ]) ≡ end
       go true e =
           let p = then-got _ _ _ e in
           let q = then-got _ _ _ (p .rest) in
-          let s : answerOf (getSizeOf 512 B (m .type-id)) ≡ p .value = ap answerOf (p .first) in
+          let s : foundOrZero (getSizeOf 512 B (m .type-id)) ≡ p .value = ap foundOrZero (p .first) in
           let u : 8 * p .value ≡ q .value = checked-got _ _ (q .first) in
           let v : m .bit-offset + q .value ≡ end = checked-got _ _ (q .rest) in
           omega arith
@@ -171,14 +171,14 @@ module _ (B : Btf) (packed : Bool) where
   -- a member that fits sits at its own offset, from the end before it or from behind its pads
   own : (m : Member) (n last s : ℕ) (f : Eff m) → fieldSize B m ≡ got s → memberFits true packed last s (m .bit-offset) (m .bit-size) ≡ true → n ≤ m .bit-offset
       → (m .bit-size ≡ 0 → m .bit-offset < n + f .a * 8) → ((m .bit-size ≡ 0 → ⊥) → n ≡ m .bit-offset) → at n (field m) ≡ m .bit-offset
-  unfolding lineAt memberFits fieldFits fieldSize tableSize answerOf
+  unfolding lineAt memberFits fieldFits fieldSize tableSize foundOrZero
   own m n last s f es em l near same = go (eqb (m .bit-size) 0) refl es (and-right (startFits true last (m .bit-offset)) (elim (eqb (m .bit-size) 0) as (λ _. Bool) [ true ↦ eqb (m .bit-offset % 8) 0 | false ↦ leb (m .bit-size) (8 * s) && (elim packed as (λ _. Bool) [ true ↦ true | false ↦ sameUnit (8 * s) (m .bit-offset) (m .bit-size) ]) ]) em)
     where
       go : (b : Bool) → eqb (m .bit-size) 0 ≡ b → (elim b as (λ _. Ask ℕ) [ true ↦ got 0 | false ↦ getSizeOf 512 B (m .type-id) ]) ≡ got s
           → (elim b as (λ _. Bool) [ true ↦ eqb (m .bit-offset % 8) 0 | false ↦ leb (m .bit-size) (8 * s) && (elim packed as (λ _. Bool) [ true ↦ true | false ↦ sameUnit (8 * s) (m .bit-offset) (m .bit-size) ]) ]) ≡ true
           → (elim b as (λ _. ℕ) [
             | true ↦ roundUp n ((elim packed as (λ _. ℕ) [ true ↦ 1 | false ↦ tableAlign B (m .type-id) ]) * 8)
-            | false ↦ elim packed as (λ _. ℕ) [ true ↦ n | false ↦ bitFieldAt (8 * answerOf (getSizeOf 512 B (m .type-id))) (m .bit-size) n ]
+            | false ↦ elim packed as (λ _. ℕ) [ true ↦ n | false ↦ bitFieldAt (8 * foundOrZero (getSizeOf 512 B (m .type-id))) (m .bit-size) n ]
           ]) ≡ m .bit-offset
       go true z gs fs =
           let o = f .on (eqb-true (m .bit-size) 0 z) in
@@ -186,7 +186,7 @@ module _ (B : Btf) (packed : Bool) where
           let h : m .bit-offset < n + f .a * 8 = near (eqb-true (m .bit-size) 0 z) in
           ap (λ (x : ℕ). roundUp n (x * 8)) (f .is) ∙ round-to n (m .bit-offset) (f .a * 8) (omega arith) (o .1) l h
       go false z gs fs =
-          ap (λ (x : ℕ). elim packed as (λ _. ℕ) [ true ↦ n | false ↦ bitFieldAt (8 * x) (m .bit-size) n ]) (ap answerOf gs)
+          ap (λ (x : ℕ). elim packed as (λ _. ℕ) [ true ↦ n | false ↦ bitFieldAt (8 * x) (m .bit-size) n ]) (ap foundOrZero gs)
           ∙ own-field packed (8 * s) (m .bit-size) n (m .bit-offset) (and-right (leb (m .bit-size) (8 * s)) (elim packed as (λ _. Bool) [ true ↦ true | false ↦ sameUnit (8 * s) (m .bit-offset) (m .bit-size) ]) fs) (same (eqb-false (m .bit-size) 0 z))
 
   -- ---- the lines of a struct from a member on
@@ -359,7 +359,7 @@ module _ (B : Btf) where
 module _ (B : Btf) (placing : B .placing ≡ true) where
   -- the alignment of a gap, from the packed test or in a packed struct from the byte that a plain member is on
   eff : (packed : Bool) (last s : ℕ) (m : Member) (ms : List Member) → (packed ≡ false → Aligned B (m ∷ ms)) → memberFits true packed last s (m .bit-offset) (m .bit-size) ≡ true → Eff B packed m
-  unfolding memberFits tableAlign answerOf
+  unfolding memberFits tableAlign foundOrZero
   eff true last s m ms h em = record {
     a = 1;
     asked = refl;
@@ -373,7 +373,7 @@ module _ (B : Btf) (placing : B .placing ≡ true) where
   eff false last s m ms h em = go (h refl)
     where
       go : Aligned B (m ∷ ms) → Eff B false m
-      go (more _ _ a g on rest) = record { a = a; asked = g; is = ap answerOf g; on = on }
+      go (more _ _ a g on rest) = record { a = a; asked = g; is = ap foundOrZero g; on = on }
 
   later : (packed : Bool) (m : Member) (ms : List Member) → (packed ≡ false → Aligned B (m ∷ ms)) → packed ≡ false → Aligned B ms
   later packed m ms h z = go (h z)
@@ -467,11 +467,11 @@ measured-got B is-struct sz ms packed e =
 
 module _ (B : Btf) (placing : B .placing ≡ true) (sz : ℕ) (ms : List Member) where
   struct-whole : (packed : Bool) → Tested B sz ms packed → roundUp (8 * sz) (8 * bodyAlign B packed ms) ≡ 8 * sz
-  unfolding bodyAlign answerOf
+  unfolding bodyAlign foundOrZero
   struct-whole true t = whole-multiple sz 1 (omega arith) (omega arith)
   struct-whole false t =
       let p : 1 ≤ t .A = align-some (getAlignOf 511 B) 1 ms (t .A) (t .whole) in
-      ap (λ (y : Ask ℕ). roundUp (8 * sz) (8 * answerOf y)) (t .whole) ∙ whole-multiple sz (t .A) (omega arith) (t .divides refl)
+      ap (λ (y : Ask ℕ). roundUp (8 * sz) (8 * foundOrZero y)) (t .whole) ∙ whole-multiple sz (t .A) (omega arith) (t .divides refl)
 
   struct-laid : (packed : Bool) → Measured B true sz ms packed → LaidOut B true sz ms packed
   unfolding placesOf bitsOf asUnion wholeBits sizeFits
@@ -532,7 +532,7 @@ module _ (B : Btf) (placing : B .placing ≡ true) (sz : ℕ) (ms : List Member)
       }
 
   union-laid : (packed : Bool) → B .union-as-struct ≡ false → Measured B false sz ms packed → LaidOut B false sz ms packed
-  unfolding placesOf bitsOf asUnion wholeBits sizeFits isStructPacked unionAlign bodyAlign answerOf
+  unfolding placesOf bitsOf asUnion wholeBits sizeFits isStructPacked unionAlign bodyAlign foundOrZero
   union-laid packed own k = go packed (let q : false ≡ packed = cc in sym q) k
     where
       go : (packed : Bool) → packed ≡ false → Measured B false sz ms packed → LaidOut B false sz ms packed
@@ -545,8 +545,8 @@ module _ (B : Btf) (placing : B .placing ≡ true) (sz : ℕ) (ms : List Member)
             printed = l .written;
             offsets = ap (λ (b : Bool). elim (not b) as (λ _. List ℕ) [ true ↦ unionPlaces (tableSize B) (tableAlign B) false (l .lines) | false ↦ structPlaces (tableSize B) (tableAlign B) false 0 (l .lines) ]) own ∙ l .offsets;
             size =
-                ap (λ (b : Bool). roundUp (elim (not b) as (λ _. ℕ) [ true ↦ unionEnd (tableSize B) (tableAlign B) false 0 (l .lines) | false ↦ structEnd (tableSize B) (tableAlign B) false 0 (l .lines) ]) (8 * answerOf (alignMembers (getAlignOf 511 B) 1 ms))) own
-                ∙ ap₂ (λ (y : ℕ) (w : Ask ℕ). roundUp y (8 * answerOf w)) (l .ends) (k .aligned-by)
+                ap (λ (b : Bool). roundUp (elim (not b) as (λ _. ℕ) [ true ↦ unionEnd (tableSize B) (tableAlign B) false 0 (l .lines) | false ↦ structEnd (tableSize B) (tableAlign B) false 0 (l .lines) ]) (8 * foundOrZero (alignMembers (getAlignOf 511 B) 1 ms))) own
+                ∙ ap₂ (λ (y : ℕ) (w : Ask ℕ). roundUp y (8 * foundOrZero w)) (l .ends) (k .aligned-by)
                 ∙ sym z;
           }
 
@@ -572,7 +572,7 @@ pads-raise-none align a (p ∷ ps) ls = pads-raise-none align a ps ls
 module _ (B : Btf) (tail : ℕ → List Pad) (packed : Bool) where
   lines-align : (offset : ℕ) (ms : List Member) (x : ℕ) (ls : List Line) (A : ℕ) → bodyLines B tail packed offset ms ≡ got ls → alignMembers (getAlignOf 511 B) x ms ≡ got A → allRaise ms ≡ true
       → linesAlign (tableAlign B) x ls ≡ A
-  unfolding bodyLines alignMembers allRaise linesAlign tableAlign answerOf
+  unfolding bodyLines alignMembers allRaise linesAlign tableAlign foundOrZero
   lines-align offset [] x ls A e f h =
       let q : padLines (tail offset) [] ≡ ls = cc in
       let w : x ≡ A = cc in
@@ -583,7 +583,7 @@ module _ (B : Btf) (tail : ℕ → List Pad) (packed : Bool) where
       let r = then-got _ _ _ (q .rest) in
       let w : padLines (p .value) (field m ∷ r .value) ≡ ls = let k = r .rest in cc in
       let g = then-got _ _ _ f in
-      let y : tableAlign B (m .type-id) ≡ g .value = ap answerOf (align-one-more B 511 (m .type-id) (g .value) (g .first)) in
+      let y : tableAlign B (m .type-id) ≡ g .value = ap foundOrZero (align-one-more B 511 (m .type-id) (g .value) (g .first)) in
       ap (linesAlign (tableAlign B) x) (sym w)
       ∙ pads-raise-none (tableAlign B) x (p .value) (field m ∷ r .value)
       ∙ ap (λ (b : Bool). linesAlign (tableAlign B) (elim b as (λ _. ℕ) [ true ↦ larger x (tableAlign B (m .type-id)) | false ↦ x ]) (r .value)) (and-left (raises m) (allRaise ms) h)
@@ -593,8 +593,8 @@ module _ (B : Btf) (tail : ℕ → List Pad) (packed : Bool) where
 -- so the whole has its table size by the alignment of its lines too
 module _ (B : Btf) (is-struct : Bool) (sz : ℕ) (ms : List Member) (A : ℕ) (e : alignMembers (getAlignOf 511 B) 1 ms ≡ got A) (named : allRaise ms ≡ true) where
   pub own-alignment : (l : LaidOut B is-struct sz ms false) → linesAlign (tableAlign B) 1 (l .lines) ≡ bodyAlign B false ms
-  unfolding bodyAlign answerOf
-  own-alignment l = lines-align B (tailPads (B .placing) (B .ptr-sz) is-struct sz) false 0 ms 1 (l .lines) A (l .printed) e named ∙ sym (ap answerOf e)
+  unfolding bodyAlign foundOrZero
+  own-alignment l = lines-align B (tailPads (B .placing) (B .ptr-sz) is-struct sz) false 0 ms 1 (l .lines) A (l .printed) e named ∙ sym (ap foundOrZero e)
 
 -- ---- which gaps are padded
 

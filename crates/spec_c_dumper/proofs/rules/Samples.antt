@@ -9,7 +9,7 @@ use Rattle.spec_c_dumper.specs.rules.Writer.{askThen, checked, saidText,
 use Rattle.spec_c_dumper.specs.rules.Types.{isEmpty}
 use Rattle.spec_c_dumper.specs.rules.Layout.{larger, smaller, octets, sizeOf, getSizeOf, alignMembers, alignOf, getAlignOf, offAlign, membersPacked, isStructPacked, chipAwayBits, padOf, padsOf, gapPads, suits, placedPad, placedPads, placedGap, padsBefore, bitPadding, endOf}
 use Rattle.spec_c_dumper.specs.rules.Placing.{roundUp, sameUnit, fieldSize, fieldFits, startFits, memberFits, reached, withMember, extentOf, unionAlign, sizeFits, measured, bodyPacked, tailPads}
-use Rattle.spec_c_dumper.specs.rules.Names.{spelled, resolving, resolveTypeName, resolveName, sameBytes, holds, holders, counted, typeVersion, valueVersion, startsWith, contains, builtin, escapedByte, escaped}
+use Rattle.spec_c_dumper.specs.rules.Names.{spelled, resolving, resolveTypeName, resolveName, sameBytes, holds, holders, withOne, typeVersion, valueVersion, startsWith, contains, builtin, escapedByte, escaped}
 use Rattle.spec_c_dumper.specs.rules.Decl.{deeper, sepName, keyword, attribute, declTag, declTags, qualifier, enumValue, enum64Value, chainOn, chainOf, mods, noMods, shownParams, unitWord, pads, lastNewline, ownLine, tailText, bitSize, emitCompositeFwd, emitFwdDef, enumWord, emitValues, enumBody, emitEnumDef, emitName, brackets, parens, emitParam, emitParams, baseWord, emitArray, emitProto, paramList, chainLoop, emitMembers, compositeHead, compositeEnd, compositeBody, compositeDef, emitTypedefDef, emitTypeDecl, emitTypeChain, emitCompositeDef}
 use Rattle.spec_c_dumper.specs.rules.Emit.{definition, shown, forward}
 use Rattle.spec_c_dumper.specs.rules.Listed.{tagsId, tagsFrom}
@@ -19,7 +19,7 @@ pub samples-hold : allGiven samples ≡ allWanted samples
 unfolding oneMore join bytes pfx digits decimal twos signed signedLL bind each meet pushIf enter alias fresh visit order askThen checked saidText saidNames
     after next put stop given _⨾_ isEmpty larger smaller octets sizeOf getSizeOf alignMembers alignOf getAlignOf offAlign membersPacked
     isStructPacked chipAwayBits padOf padsOf gapPads padsBefore bitPadding endOf spelled resolving resolveTypeName resolveName sameBytes holds holders
-    counted typeVersion valueVersion startsWith contains builtin escapedByte escaped deeper sepName keyword attribute declTag declTags qualifier
+    withOne typeVersion valueVersion startsWith contains builtin escapedByte escaped deeper sepName keyword attribute declTag declTags qualifier
     enumValue enum64Value chainOn chainOf mods noMods shownParams unitWord pads lastNewline ownLine tailText bodyPacked tailPads bitSize emitCompositeFwd emitFwdDef enumWord
     emitValues enumBody emitEnumDef emitName brackets parens emitParam emitParams baseWord emitArray emitProto paramList chainLoop emitMembers
     compositeHead compositeEnd compositeBody compositeDef emitTypedefDef emitTypeDecl emitTypeChain emitCompositeDef definition shown forward
@@ -31,7 +31,7 @@ pub placed-samples-hold : allGiven placedSamples ≡ allWanted placedSamples
 unfolding oneMore join bytes pfx digits decimal twos signed signedLL bind each meet pushIf enter alias fresh visit order askThen checked saidText saidNames
     after next put stop given _⨾_ isEmpty larger smaller octets sizeOf getSizeOf alignMembers alignOf getAlignOf offAlign membersPacked
     isStructPacked chipAwayBits padOf padsOf gapPads padsBefore bitPadding endOf spelled resolving resolveTypeName resolveName sameBytes holds holders
-    counted typeVersion valueVersion startsWith contains builtin escapedByte escaped deeper sepName keyword attribute declTag declTags qualifier
+    withOne typeVersion valueVersion startsWith contains builtin escapedByte escaped deeper sepName keyword attribute declTag declTags qualifier
     enumValue enum64Value chainOn chainOf mods noMods shownParams unitWord pads lastNewline ownLine tailText bodyPacked tailPads bitSize emitCompositeFwd emitFwdDef enumWord
     emitValues enumBody emitEnumDef emitName brackets parens emitParam emitParams baseWord emitArray emitProto paramList chainLoop emitMembers
     compositeHead compositeEnd compositeBody compositeDef emitTypedefDef emitTypeDecl emitTypeChain emitCompositeDef definition shown forward

@@ -15,26 +15,26 @@ use Rattle.spec_c_dumper.specs.rules.Layout.{larger, smaller, octets, ge
 
 -- What is remembered of a type: its alignment, and how many calls of the plain way are open at once to find it. Without the height
 -- "12 by the depth of the plain way" is lost.
-pub record Seen : Type 0 where
+pub record Remembered : Type 0 where
   pub align : ℕ
   pub height : ℕ
 
 pub data Known : Type 0 where
   unknown : Known
-  known : Seen → Known
+  known : Remembered → Known
 
 -- "Remember it per type." What keeps it: words, or a function.
 pub record Keep (M : Type 0) : Type 0 where
   pub recall : M → ℕ → Known
-  pub remember : ℕ → Seen → M → M
+  pub remember : ℕ → Remembered → M → M
 
 -- What is asked of it: an entry is kept, or all is as it was; and one that Fits is kept for each of n types, in a memory that is Good.
-pub record Lawful {M : Type 0} (K : Keep M) (n : ℕ) (Good : M → Type 0) (Fits : Seen → Type 0) : Type 0 where
-  pub kept : (id : ℕ) (s : Seen) (m : M)
+pub record Lawful {M : Type 0} (K : Keep M) (n : ℕ) (Good : M → Type 0) (Fits : Remembered → Type 0) : Type 0 where
+  pub kept : (id : ℕ) (s : Remembered) (m : M)
       → (K .recall (K .remember id s m) id ≡ known s) ⊎ (K .recall (K .remember id s m) id ≡ K .recall m id)
-  pub other : (id : ℕ) (s : Seen) (m : M) (d : ℕ) → (d ≡ id → ⊥) → K .recall (K .remember id s m) d ≡ K .recall m d
-  pub same : (id : ℕ) (s : Seen) (m : M) → Fits s → Good m → id < n → K .recall (K .remember id s m) id ≡ known s
-  pub good : (id : ℕ) (s : Seen) (m : M) → Good m → Good (K .remember id s m)
+  pub other : (id : ℕ) (s : Remembered) (m : M) (d : ℕ) → (d ≡ id → ⊥) → K .recall (K .remember id s m) d ≡ K .recall m d
+  pub same : (id : ℕ) (s : Remembered) (m : M) → Fits s → Good m → id < n → K .recall (K .remember id s m) id ≡ known s
+  pub good : (id : ℕ) (s : Remembered) (m : M) → Good m → Good (K .remember id s m)
 
 -- a value or the refusal that asking for it meets, the memory after it, and the visits made by then
 pub data Once (M A : Type 0) : Type 0 where
@@ -50,38 +50,38 @@ onceThen (found a m k) f = f a m k
 onceThen (refused c m k) f = refused c m k
 
 -- the value or the refusal alone
-unfoldable pub answerOf : {M A : Type 0} → Once M A → Ask A
-answerOf (found a m k) = got a
-answerOf (refused c m k) = no c
+unfoldable pub askOnce : {M A : Type 0} → Once M A → Ask A
+askOnce (found a m k) = got a
+askOnce (refused c m k) = no c
 
 unfoldable pub memoryAfter : {M A : Type 0} → Once M A → M
 memoryAfter (found a m k) = m
 memoryAfter (refused c m k) = m
 
 -- the type that asks for another one, and for no type
-abbrev pub above : Seen → Seen
+abbrev pub above : Remembered → Remembered
 above s = record { align = s .align; height = suc (s .height) }
 
-abbrev pub alone : ℕ → Seen
+abbrev pub alone : ℕ → Remembered
 alone a = record { align = a; height = 0 }
 
 -- of two members
-abbrev pub widest : Seen → Seen → Seen
+abbrev pub widest : Remembered → Remembered → Remembered
 widest s t = record { align = larger (s .align) (t .align); height = larger (s .height) (t .height) }
 
 module _ {M : Type 0} where
   -- the members in order: a visit each, beside those of its type
-  unfoldable pub membersOnce : (ℕ → Asking M Seen) → Seen → List Member → Asking M Seen
+  unfoldable pub membersOnce : (ℕ → Asking M Remembered) → Remembered → List Member → Asking M Remembered
   membersOnce ask s [] m k = found s m k
   membersOnce ask s (x ∷ xs) m k = onceThen (ask (x .type-id) m (suc k)) (λ t m′ k′. membersOnce ask (widest s t) xs m′ k′)
 
   -- a remembered alignment: "taking a remembered alignment counts none"
-  unfoldable pub taken : ℕ → Seen → Asking M Seen
+  unfoldable pub taken : ℕ → Remembered → Asking M Remembered
   taken left s m k = elim (leb (s .height) left) [ true ↦ found s m k | false ↦ refused tooDeep m k ]
 
-  module _ (B : Btf) (ask : ℕ → Asking M Seen) where
+  module _ (B : Btf) (ask : ℕ → Asking M Remembered) where
     -- alignOf of the rules; the height is that of the calls below
-    unfoldable pub typeOnce : BtfType → Asking M Seen
+    unfoldable pub typeOnce : BtfType → Asking M Remembered
     typeOnce Void m k = found (alone 0) m k
     typeOnce (Int n bits) m k = found (alone (smaller (B .ptr-sz) (octets bits))) m k
     typeOnce (Ptr t) m k = found (alone (B .ptr-sz)) m k
@@ -102,12 +102,12 @@ module _ {M : Type 0} where
 
   module _ (K : Keep M) where
     -- what was found of a type is remembered; of a refused one nothing is
-    unfoldable pub keepOnce : ℕ → Seen → Asking M Seen
+    unfoldable pub keepOnce : ℕ → Remembered → Asking M Remembered
     keepOnce id s m k = found (above s) (K .remember id (above s) m) k
 
     -- get_align_of with a memory: "one for each type or member looked at to find an alignment"; 12 where more calls would be open in
     -- the plain way than `left` allows
-    unfoldable pub alignOnce : ℕ → Btf → ℕ → Asking M Seen
+    unfoldable pub alignOnce : ℕ → Btf → ℕ → Asking M Remembered
     alignOnce zero B id m k = refused tooDeep m k
     alignOnce (suc left) B id m k =
         elim (K .recall m id) [
@@ -131,20 +131,20 @@ listPlain B (a ∷ rest) = askThen (getAlignOf (a .0) B (a .1)) (λ x. askThen (
 
 -- ---- what is right
 -- the plain way's answer about a type that is seen, with n calls left
-unfoldable pub within : Seen → ℕ → Ask ℕ
+unfoldable pub within : Remembered → ℕ → Ask ℕ
 within s n = elim (leb (s .height) n) [ true ↦ got (s .align) | false ↦ no tooDeep ]
 
 -- s is what the plain way says of id, however many calls are left
-abbrev pub Tells : Btf → ℕ → Seen → Type 0
+abbrev pub Tells : Btf → ℕ → Remembered → Type 0
 Tells B id s = (n : ℕ) → getAlignOf n B id ≡ within s n
 
 module _ {M : Type 0} (K : Keep M) where
   abbrev pub Right : Btf → M → Type 0
-  Right B m = (id : ℕ) (s : Seen) → K .recall m id ≡ known s → Tells B id s
+  Right B m = (id : ℕ) (s : Remembered) → K .recall m id ≡ known s → Tells B id s
 
   -- what was remembered stays
   abbrev pub Grows : M → M → Type 0
-  Grows m m′ = (id : ℕ) (s : Seen) → K .recall m id ≡ known s → K .recall m′ id ≡ known s
+  Grows m m′ = (id : ℕ) (s : Remembered) → K .recall m id ≡ known s → K .recall m′ id ≡ known s
 
 -- ---- "at most types plus members"
 unfoldable pub memberCount : BtfType → ℕ

@@ -30,9 +30,9 @@ oneCall unbounded k = k
 oneCall (most c) k = suc k
 
 -- the count, of a refused request too
-unfoldable pub countOf : {St : Type 0} → Told St → ℕ
-countOf (told s b k) = k
-countOf (halted e k) = k
+unfoldable pub callsMade : {St : Type 0} → Told St → ℕ
+callsMade (told s b k) = k
+callsMade (halted e k) = k
 
 unfoldable pub thenBind : {St : Type 0} → Told St → (St → Bool → ℕ → Told St) → Told St
 thenBind (told s b k) f = f s b k

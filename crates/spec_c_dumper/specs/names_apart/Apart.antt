@@ -5,27 +5,10 @@ use mathlib.Core.List.{List, [], _∷_, _++_, List·Memᴰ}
 use lib.ListN.{length}
 use Rattle.spec_c_dumper.specs.rules.Types.{Void, Btf}
 use Rattle.spec_c_dumper.specs.rules.Names.{Space}
-unfoldable pub use Rattle.spec_c_dumper.specs.names_apart.Naming.{
-  tagsIn,
-  valueNames,
-  identsIn,
-  namesIn,
-  namesTo,
-  tableNames,
-  spellingsIn,
-  among,
-  taken,
-  passing,
-  numberFor,
-  shown,
-  typeApart,
-  valueApart,
-  apart,
-  noneShown,
-  dumpApart,
-  afterAll,
-  namesAfter,
-}
+unfoldable pub use Rattle.spec_c_dumper.specs.names_apart.Naming.{tagsIn, valueNames, identsIn, namesIn, namesTo}
+unfoldable pub use Rattle.spec_c_dumper.specs.names_apart.Naming.{tableNames, spellingsIn, isNameAmong, taken}
+unfoldable pub use Rattle.spec_c_dumper.specs.names_apart.Naming.{passing, numberFor, shown, typeApart, valueApart, apart}
+unfoldable pub use Rattle.spec_c_dumper.specs.names_apart.Naming.{noneShown, dumpApart, afterAll, namesAfter}
 pub use Rattle.spec_c_dumper.specs.names_apart.Naming.{Who, ofType, ofValue, Shown, Apart}
 
 -- both are the name of one and the same type

@@ -11,7 +11,7 @@ use Rattle.spec_c_dumper.specs.rules.Machine.{Sess, Req, run}
 use Rattle.spec_c_dumper.specs.rules.Types.{Name, Enumerator, BtfType, Void, Int, Ptr, Array, Composite, Enum, Enum64, Fwd, Typedef}
 use Rattle.spec_c_dumper.specs.rules.Types.{Mod, Func, Var, Datasec, FuncProto, Float, DeclTag, TypeTag, Btf, tableOf}
 use Rattle.spec_c_dumper.specs.rules.Names.{Space, tagSpace, identSpace, Resolved, Naming, Names, spelled, sameSpace, sameBytes}
-use Rattle.spec_c_dumper.specs.rules.Names.{holders, counted}
+use Rattle.spec_c_dumper.specs.rules.Names.{holders, withOne}
 use Rattle.spec_c_dumper.specs.needs.Lists.{Ls}
 use Rattle.spec_c_dumper.specs.needs.Session.{Known, Dump, machineBy, openedBy, dumped, noNames}
 
@@ -97,9 +97,9 @@ spellingsIn space (p ∷ ps) = elim (sameSpace (p .space) space) [ true ↦ p .s
 
 -- ---- the number that a name gets
 
-unfoldable pub among : Name → List Name → Bool
-among x [] = false
-among x (y ∷ l) = elim (sameBytes x y) [ true ↦ true | false ↦ among x l ]
+unfoldable pub isNameAmong : Name → List Name → Bool
+isNameAmong x [] = false
+isNameAmong x (y ∷ l) = elim (sameBytes x y) [ true ↦ true | false ↦ isNameAmong x l ]
 
 -- "a name in the table's same space, or one printed before in it"
 abbrev pub taken : Btf → Space → Apart → List Name
@@ -115,7 +115,7 @@ unfoldable pub numberFor : Btf → Space → Name → Apart → ℕ
 numberFor B space name u =
     elim (eqb (holders (u .names .ledger) space name) 0) [
       | true ↦ 1
-      | false ↦ passing (λ n. among (spelled name n) (taken B space u)) (length (taken B space u))
+      | false ↦ passing (λ n. isNameAmong (spelled name n) (taken B space u)) (length (taken B space u))
           (oneMore (holders (u .names .ledger) space name))
     ]
 
@@ -134,7 +134,7 @@ typeApart B space id name u =
         version = numberFor B space name u;
         names = record {
           names =
-              record { versions = set (u .names .versions) id (numberFor B space name u); ledger = counted (u .names .ledger) space name };
+              record { versions = set (u .names .versions) id (numberFor B space name u); ledger = withOne (u .names .ledger) space name };
           printed = shown space (ofType id) name (numberFor B space name u) u;
         };
       }
@@ -145,7 +145,7 @@ unfoldable pub valueApart : Btf → ℕ → ℕ → Name → Apart → Resolved 
 valueApart B id i name u = record {
   version = numberFor B identSpace name u;
   names = record {
-    names = record { versions = u .names .versions; ledger = counted (u .names .ledger) identSpace name };
+    names = record { versions = u .names .versions; ledger = withOne (u .names .ledger) identSpace name };
     printed = shown identSpace (ofValue id i) name (numberFor B identSpace name u) u;
   };
 }

@@ -55,14 +55,14 @@ module _ {U : Type 0} (N : Naming U) (B : Btf) where
   abbrev pub openedBy : U → Sess (Ls (Known U))
   openedBy u = record { isOpen = true; mach = afresh (B .type-cnt) (record { names = u; text-len = 0 }); asked = [] }
 
-  unfoldable pub answerOf : Sess (Ls (Known U)) → Req → Answer (Ls (Known U))
-  answerOf S (one room x) = single machineBy (tableOf B) room S x
-  answerOf S (all room) = every machineBy (tableOf B) room S (S .isOpen)
+  unfoldable pub answerTo : Sess (Ls (Known U)) → Req → Answer (Ls (Known U))
+  answerTo S (one room x) = single machineBy (tableOf B) room S x
+  answerTo S (all room) = every machineBy (tableOf B) room S (S .isOpen)
 
   -- the answer is computed once
   unfoldable pub dumped : List (ℕ × ℕ) → List Req → Sess (Ls (Known U)) → Dump
   dumped ns [] S = dump ns (textOf (S .mach .pieces))
-  dumped ns (r ∷ rs) S = let a = answerOf S r in dumped (ns ++ ((a .number, a .sess .mach .known .text-len) ∷ [])) rs (a .sess)
+  dumped ns (r ∷ rs) S = let a = answerTo S r in dumped (ns ++ ((a .number, a .sess .mach .known .text-len) ∷ [])) rs (a .sess)
 
 -- with the names of the Rust
 abbrev pub machine : Btf → Machine (Ls (Known Names))

@@ -141,21 +141,21 @@ showsIn B x = not (builtin (nameOf (B .type-by-id x)))
 
 -- what the requests of a call have come to: the last answer, the entries of the accepted ones, and whether one of them zeroed what follows
 -- the text
-pub record Told (M : Type 0) : Type 0 where
+pub record Explaining (M : Type 0) : Type 0 where
   pub answer : Answer M
   pub entries : List Entry
   pub zeroed : Bool
 
 -- before the first request
-abbrev pub untold : {M : Type 0} → Sess M → Told M
+abbrev pub untold : {M : Type 0} → Sess M → Explaining M
 untold S = record { answer = record { sess = S; number = 0 }; entries = []; zeroed = false }
 
 module _ {M : Type 0} (X : Machine M) (T : Table) (more : ℕ → Bool) (shows : ℕ → Bool) where
   -- "a refused request's are dropped"
-  unfoldable pub dropped : Told M → ℕ → Told M
+  unfoldable pub dropped : Explaining M → ℕ → Explaining M
   dropped t e = record { answer = shut X T (t .answer .sess) e; entries = t .entries; zeroed = true }
 
-  unfoldable pub emittedNoted : Told M → ℕ → Out (Noted M) → Told M
+  unfoldable pub emittedNoted : Explaining M → ℕ → Out (Noted M) → Explaining M
   emittedNoted t x (wrote m) = record {
     answer = record { sess = record { isOpen = true; mach = m .mach; asked = t .answer .sess .asked ++ (x ∷ []) }; number = 0 };
     entries = m .entries;
@@ -167,13 +167,13 @@ module _ {M : Type 0} (X : Machine M) (T : Table) (more : ℕ → Bool) (shows :
   abbrev pub eachListed : (ℕ → Entry) → List ℕ → Noted M → Out (Noted M)
   eachListed why = eeach (λ m y. emitNoted X more shows why T 512 m y 0)
 
-  unfoldable pub orderedNoted : Told M → ℕ → Res (Led M) → Told M
+  unfoldable pub orderedNoted : Explaining M → ℕ → Res (Led M) → Explaining M
   orderedNoted t x (ok s b) =
       emittedNoted t x (eachListed (listedEntry x (s .led)) (X .store .list (s .state)) (record { mach = s .state; entries = t .entries }))
   orderedNoted t x (refused e) = dropped t e
 
   -- as `gate`; 11 and 10 leave everything
-  unfoldable pub gateNoted : ℕ → Told M → ℕ → Bool → Bool → Told M
+  unfoldable pub gateNoted : ℕ → Explaining M → ℕ → Bool → Bool → Explaining M
   gateNoted room t x false below =
       record { answer = record { sess = t .answer .sess; number = 11 }; entries = t .entries; zeroed = t .zeroed }
   gateNoted room t x true false =
@@ -182,23 +182,23 @@ module _ {M : Type 0} (X : Machine M) (T : Table) (more : ℕ → Bool) (shows :
       orderedNoted t x (orderLed (X .store) x 512 T [] (record { state = X .start room (t .answer .sess .mach); led = [] }) x false)
 
   -- a request for x; room: the text's, as in `single`
-  unfoldable pub singleNoted : ℕ → ℕ → Told M → Told M
+  unfoldable pub singleNoted : ℕ → ℕ → Explaining M → Explaining M
   singleNoted room x t = gateNoted room t x (t .answer .sess .isOpen) (ltb x (T .count))
 
-  unfoldable pub onwardNoted : (Told M → Told M) → Told M → Told M
+  unfoldable pub onwardNoted : (Explaining M → Explaining M) → Explaining M → Explaining M
   onwardNoted k t = elim (t .answer .number) [ zero ↦ k t | suc n ↦ t ]
 
   -- a list of ids, and n ids from x on: one list of entries for the call
-  unfoldable pub listNoted : ℕ → List ℕ → Told M → Told M
+  unfoldable pub listNoted : ℕ → List ℕ → Explaining M → Explaining M
   listNoted room [] t = t
   listNoted room (x ∷ xs) t = onwardNoted (listNoted room xs) (singleNoted room x t)
 
-  unfoldable pub fromNoted : ℕ → ℕ → ℕ → Told M → Told M
+  unfoldable pub fromNoted : ℕ → ℕ → ℕ → Explaining M → Explaining M
   fromNoted room zero x t = t
   fromNoted room (suc n) x t = onwardNoted (fromNoted room n (suc x)) (singleNoted room x t)
 
   -- a request for all ids zeroes what follows the text also over no types
-  unfoldable pub everyNoted : ℕ → Sess M → Bool → Told M
+  unfoldable pub everyNoted : ℕ → Sess M → Bool → Explaining M
   everyNoted room S false = record { answer = record { sess = S; number = 11 }; entries = []; zeroed = false }
   everyNoted room S true =
       fromNoted room (T .count - 1) 1 (record { answer = record { sess = S; number = 0 }; entries = []; zeroed = true })
@@ -224,7 +224,7 @@ pub record Causes (M : Type 0) : Type 0 where
   pub count : ℕ
   pub list : List ℕ
 
-unfoldable pub causesOf : {M : Type 0} → List ℕ → Told M → Causes M
+unfoldable pub causesOf : {M : Type 0} → List ℕ → Explaining M → Causes M
 causesOf l t = record {
   answer = t .answer;
   count = length (t .entries);

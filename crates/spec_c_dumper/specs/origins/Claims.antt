@@ -8,7 +8,7 @@ use lib.ListN.{length, replicate}
 use Rattle.spec_c_dumper.specs.rules.Order.{Node, ignored, plain, listed, through, ptr, tdef, proto, comp, Table}
 use Rattle.spec_c_dumper.specs.rules.Machine.{Out, wrote, stuck, Machine, Sess, Answer, single, onward}
 use Rattle.spec_c_dumper.specs.needs.Needs.{kids}
-use Rattle.spec_c_dumper.specs.origins.Causes.{isAround, Entry, Noted, upTo, always, Told, bytesOf, Causes}
+use Rattle.spec_c_dumper.specs.origins.Causes.{isAround, Entry, Noted, upTo, always, Explaining, bytesOf, Causes}
 
 -- ---- leaders
 
@@ -66,7 +66,7 @@ pub record Lined {M : Type 0} (Z : Type 0) (k : ℕ) (F : (ℕ → Bool) → Out
 
 -- The same of the requests of a call: without the entries its answer is that of the plain requests, unless the list is too short, which is
 -- 17. need: the entries of the accepted requests, and of the lines that a refused one began.
-pub record Fits {M : Type 0} (k : ℕ) (F : (ℕ → Bool) → Told M) (plainly : Answer M) : Type 0 where
+pub record FitsList {M : Type 0} (k : ℕ) (F : (ℕ → Bool) → Explaining M) (plainly : Answer M) : Type 0 where
   pub same : F always .answer ≡ plainly
   pub need : ℕ
   pub from : k ≤ need
@@ -87,7 +87,7 @@ pub record Listed (n : ℕ) (es : List Entry) (list : List ℕ) : Type 0 where
 
 -- A call that is lent a list l long enough. t: what it comes to with room for all entries, which does not depend on l: a longer list
 -- changes nothing but its rest.
-pub record Lent {M : Type 0} (l : List ℕ) (t : Told M) (plainly : Answer M) (c : Causes M) : Type 0 where
+pub record Lent {M : Type 0} (l : List ℕ) (t : Explaining M) (plainly : Answer M) (c : Causes M) : Type 0 where
   pub answer : c .answer ≡ plainly
   pub count : c .count ≡ length (t .entries)
   pub listed : t .zeroed ≡ true → Listed (length l) (t .entries) (c .list)

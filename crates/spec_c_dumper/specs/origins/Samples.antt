@@ -9,24 +9,24 @@ use Rattle.spec_c_dumper.specs.rules.Names.{Names}
 use Rattle.spec_c_dumper.specs.rules.Samples.{table, member}
 use Rattle.spec_c_dumper.specs.needs.Lists.{Ls}
 use Rattle.spec_c_dumper.specs.needs.Session.{Known, textOf, machine, opened}
-use Rattle.spec_c_dumper.specs.origins.Causes.{Entry, showsIn, upTo, Told, untold, singleNoted, everyNoted, oneCauses}
+use Rattle.spec_c_dumper.specs.origins.Causes.{Entry, showsIn, upTo, Explaining, untold, singleNoted, everyNoted, oneCauses}
 
 abbrev pub words : List Entry → List ℕ
 words [] = []
 words (e ∷ es) = e .id ∷ e .cause ∷ e .leader ∷ words es
 
 -- the number, and the entries
-abbrev pub told : Told (Ls (Known Names)) → List ℕ
+abbrev pub told : Explaining (Ls (Known Names)) → List ℕ
 told t = t .answer .number ∷ words (t .entries)
 
 -- a request for x, and for all ids, with a list of c entries
-abbrev pub one : Btf → ℕ → ℕ → Told (Ls (Known Names))
+abbrev pub one : Btf → ℕ → ℕ → Explaining (Ls (Known Names))
 one B c x = singleNoted (machine B) (tableOf B) (upTo c) (showsIn B) 65536 x (untold (opened B))
 
-abbrev pub all : Btf → ℕ → Told (Ls (Known Names))
+abbrev pub all : Btf → ℕ → Explaining (Ls (Known Names))
 all B c = everyNoted (machine B) (tableOf B) (upTo c) (showsIn B) 65536 (opened B) true
 
-abbrev pub text : Told (Ls (Known Names)) → List ℕ
+abbrev pub text : Explaining (Ls (Known Names)) → List ℕ
 text t = textOf (t .answer .sess .mach .pieces)
 
 -- 1 int; 2 typedef T; 3 a pointer to it; 4 struct Q; 5 a pointer to it; 6 struct S with both pointers

@@ -44,7 +44,7 @@ module _ {M : Type 0} (X : Machine M) (Good : M → Type 0) where
     pub tagsSame : X .tags s′ ≡ X .tags s
 
   -- what ordering leaves alone
-  pub record Kept (s s′ : M) : Type 0 where
+  pub record OrderKeeps (s s′ : M) : Type 0 where
     pub egets : (d : ℕ) → X .eget s′ d ≡ X .eget s d
     pub tagsSame : X .tags s′ ≡ X .tags s
 
@@ -56,7 +56,7 @@ module _ {M : Type 0} (X : Machine M) (Good : M → Type 0) where
 
   pub record MLawful (n : ℕ) : Type 0 where
     pub law : Lawful (X .store) n Good
-    pub framed : Framed (X .store) n Good Kept
+    pub framed : Framed (X .store) n Good OrderKeeps
     pub start-same : (room : ℕ) (s : M) → Good s → Same s (X .start room s)
     pub start-list : (room : ℕ) (s : M) → Good s → X .store .list (X .start room s) ≡ []
     pub emark-good : (m : Mark) (x : ℕ) (s : M) → Good s → x < n → Good (X .emark m x s)

@@ -75,12 +75,12 @@ holders [] space name = 0
 holders (h ∷ hs) space name = elim (holds h space name) [ true ↦ h .count | false ↦ holders hs space name ]
 
 -- one more holds it: `*version += 1` of a u32, which would overflow at 4,294,967,296 holders; no text of 2^30 bytes prints so many
-unfoldable pub counted : List Holder → Space → Name → List Holder
-counted [] space name = record { space = space; name = name; count = 1 } ∷ []
-counted (h ∷ hs) space name =
+unfoldable pub withOne : List Holder → Space → Name → List Holder
+withOne [] space name = record { space = space; name = name; count = 1 } ∷ []
+withOne (h ∷ hs) space name =
     elim (holds h space name) [
       | true ↦ record { space = h .space; name = h .name; count = oneMore (h .count) } ∷ hs
-      | false ↦ h ∷ counted hs space name
+      | false ↦ h ∷ withOne hs space name
     ]
 
 -- a type that has a version keeps it; else it is one more holder of its name
@@ -91,7 +91,7 @@ typeVersion space id name u =
       | true ↦ record {
         version = oneMore (holders (u .ledger) space name);
         names =
-            record { versions = set (u .versions) id (oneMore (holders (u .ledger) space name)); ledger = counted (u .ledger) space name };
+            record { versions = set (u .versions) id (oneMore (holders (u .ledger) space name)); ledger = withOne (u .ledger) space name };
       }
     ]
 
@@ -99,7 +99,7 @@ typeVersion space id name u =
 unfoldable pub valueVersion : Name → Names → Resolved Names
 valueVersion name u = record {
   version = oneMore (holders (u .ledger) identSpace name);
-  names = record { versions = u .versions; ledger = counted (u .ledger) identSpace name };
+  names = record { versions = u .versions; ledger = withOne (u .ledger) identSpace name };
 }
 
 abbrev pub naming : Naming Names

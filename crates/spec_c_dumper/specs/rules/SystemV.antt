@@ -109,19 +109,19 @@ allRaise (m ∷ ms) = raises m && allRaise ms
 
 -- ---- "with the table's sizes and, in structs not packed, alignments"
 
-unfoldable pub answerOf : Ask ℕ → ℕ
-answerOf (got n) = n
-answerOf (no c) = 0
+unfoldable pub foundOrZero : Ask ℕ → ℕ
+foundOrZero (got n) = n
+foundOrZero (no c) = 0
 
 unfoldable pub tableSize : Btf → ℕ → ℕ
-tableSize B id = answerOf (getSizeOf 512 B id)
+tableSize B id = foundOrZero (getSizeOf 512 B id)
 
 unfoldable pub tableAlign : Btf → ℕ → ℕ
-tableAlign B id = answerOf (getAlignOf 512 B id)
+tableAlign B id = foundOrZero (getAlignOf 512 B id)
 
 -- get_align_of of the body's own id; 1 where it is packed
 unfoldable pub bodyAlign : Btf → Bool → List Member → ℕ
-bodyAlign B packed ms = elim packed [ true ↦ 1 | false ↦ answerOf (alignMembers (getAlignOf 511 B) 1 ms) ]
+bodyAlign B packed ms = elim packed [ true ↦ 1 | false ↦ foundOrZero (alignMembers (getAlignOf 511 B) 1 ms) ]
 
 -- where the table has the members
 unfoldable pub bitOffsets : List Member → List ℕ

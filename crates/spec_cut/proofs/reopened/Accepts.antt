@@ -29,7 +29,7 @@ use Rattle.spec_cut.proofs.section.Numbers.{Stays}
 use Rattle.spec_cut.proofs.section.Claims.{GoodReferences, kept-closed}
 use Rattle.spec_cut.proofs.section.Written as written
 use Rattle.spec_cut.proofs.section.Area.{sound-ascii, no-cause-4}
-use Rattle.spec_cut.specs.reopened.Seen.{Seen}
+use Rattle.spec_cut.specs.reopened.Seen.{SeenFrom}
 use Rattle.spec_cut.proofs.reopened.Followed.{seen}
 use Rattle.spec_cut.proofs.reopened.Causes.{references, no-bad, no-proto, no-loop}
 
@@ -102,11 +102,11 @@ module _ (p : ℕ) (s : List ℕ) (n : ℕ) (ok : openingNumber p s n ≡ 0) (y 
   unfolding cutSection
   new-bytes = section-bytes (bigEndian s) (getD s 3 0) (newTypes m s) (newStrings m s) (ascii-bytes (newStrings m s) (sound-ascii (newStrings m s) new-strings))
 
-  old-seen : Seen (tableOf p s) s (indexOf s) (typesOf s)
+  old-seen : SeenFrom (tableOf p s) s (indexOf s) (typesOf s)
   old-seen = seen p s y (header-ok p 0 s n ok) (types-ok p 0 s n ok)
 
-  new-seen : Seen (tableOf p s′) s′ (indexOf s′) (newTypes m s)
-  new-seen = subst (λ (ts : List Described). Seen (tableOf p s′) s′ (indexOf s′) ts) types-read (seen p s′ new-bytes new-header new-sound)
+  new-seen : SeenFrom (tableOf p s′) s′ (indexOf s′) (newTypes m s)
+  new-seen = subst (λ (ts : List Described). SeenFrom (tableOf p s′) s′ (indexOf s′) ts) types-read (seen p s′ new-bytes new-header new-sound)
 
   old-6 : BadReference (tableOf p s) s (indexOf s) → ⊥
   unfolding cause6

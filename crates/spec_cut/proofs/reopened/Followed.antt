@@ -19,7 +19,7 @@ use Rattle.spec_type_table.specs.declared.types.TypeTable.{TypeTable}
 use Rattle.spec_type_table.specs.Records.{sectionWord, paramAt}
 use Rattle.spec_type_table.proofs.Documented.{words-same}
 use Rattle.spec_type_table.proofs.KindLaws.{by-kind}
-use Rattle.btf_open_causes.specs.references.Followed.{among, countOf, placeOf, kindAt, countFor, idPlace, countAt, idAt, followedCount, followedId}
+use Rattle.btf_open_causes.specs.references.Followed.{isKindAmong, typeCount, placeOf, kindAt, countFor, idPlace, countAt, idAt, followedCount, followedId}
 use Rattle.btf_open_causes.specs.references.Bounds.{entry-void, followed-none}
 use Rattle.btf_open_causes.proofs.references.Accessors.{id-param}
 use Rattle.btf_open_causes.specs.header.Header.{btfOf}
@@ -28,7 +28,7 @@ use Rattle.spec_opening.specs.Table.{describedIn, typesOf, recordPlace, recordK
 use Rattle.spec_opening.specs.Causes.{tableOf}
 use Rattle.spec_opening.proofs.Index.{types-few, table-count, followed-place, followed-kind}
 use Rattle.spec_cut.specs.section.Kept.{memberIds, paramIds, followedIds, voidType, typeOf, third}
-use Rattle.spec_cut.specs.reopened.Seen.{Seen}
+use Rattle.spec_cut.specs.reopened.Seen.{SeenFrom}
 
 get-past : {A : Type 0} (l : List A) (i : ℕ) (d : A) → length l ≤ i → getD l i d ≡ d
 get-past [] i d h = refl
@@ -76,14 +76,14 @@ module _ (c : TypeTable) (s : List ℕ) (at : ℕ) where
   Ids k = w (at + 4) / 16777216 % 32 ≡ k → known (shape (kind k)) ≡ true → followedIds (typeP w at) ≡ tabulate (idAt c s k at) 0 (countAt c s k at)
 
   proto-ids : Ids 13
-  unfolding countAt countFor idAt idPlace among
+  unfolding countAt countFor idAt idPlace isKindAmong
   proto-ids e h =
       let v : ℕ = w (at + 4) % 65536 in
       let z : suc v ≡ v + 1 = omega arith in
       ap followedIds (F.type-FUNC-PROTO w at e) ∙ ap (λ (l : List ℕ). w (at + 8) ∷ l) (params-ids 0 v) ∙ ap (tabulate (idAt c s 13 at) 0) z
 
   ids-of : (k : ℕ) → Ids k
-  unfolding countAt countFor idAt idPlace among kind
+  unfolding countAt countFor idAt idPlace isKindAmong kind
   ids-of =
       by-kind Ids
       (λ e h. absurd (true≢false (sym h)))
@@ -132,7 +132,7 @@ module _ (p : ℕ) (s : List ℕ) (y : Bytes s) (h : headerSound s ≡ true) (t 
   few : typesOf s ≤ 262145
   few = types-few s h t
 
-  counted : countOf c ≡ suc (length ts)
+  counted : typeCount c ≡ suc (length ts)
   unfolding tableOf typesOf
   counted = table-count s few p 0
 
@@ -182,7 +182,7 @@ module _ (p : ℕ) (s : List ℕ) (y : Bytes s) (h : headerSound s ≡ true) (t 
   zero-at = ap (λ (e : ℕ). e % 32) (sym (entry-void c (indexOf s) 0 refl))
 
   zero-none : followedCount c s (indexOf s) 0 ≡ 0
-  unfolding followedCount countAt countFor among
+  unfolding followedCount countAt countFor isKindAmong
   zero-none = ap (λ (k : ℕ). countAt c s k (placeOf c (indexOf s) 0)) zero-at
 
   to-ids : (x k : ℕ) → k < followedCount c s (indexOf s) x → List·Memᴰ (followedId c s (indexOf s) x k) (followedIds (typeOf ts x))
@@ -209,5 +209,5 @@ module _ (p : ℕ) (s : List ℕ) (y : Bytes s) (h : headerSound s ≡ true) (t 
           (r .0, r .1, ap (followedId c s (indexOf s) (suc i)) z ∙ r .2)
 
   -- the table that opening tests is that of the described types
-  pub seen : Seen (tableOf p s) s (indexOf s) (describedIn s)
+  pub seen : SeenFrom (tableOf p s) s (indexOf s) (describedIn s)
   seen = record { count = counted; zero-kind = zero-at; kind = λ i l. kind-at i l ∙ kind-in i l; third-word = third-at; to = to-ids; from = from-ids }

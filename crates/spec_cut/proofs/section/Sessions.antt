@@ -13,12 +13,12 @@ use Rattle.spec_c_dumper.specs.rules.Types.{Name, BtfType, Btf, tableOf}
 use Rattle.spec_c_dumper.specs.rules.Order.{new}
 use Rattle.spec_c_dumper.specs.rules.Machine.{Sess, Req, single}
 use Rattle.spec_c_dumper.specs.rules.Layout.{smaller}
-use Rattle.spec_c_dumper.specs.rules.Names.{Space, identSpace, Resolved, Names, Holder, holders, counted, typeVersion, valueVersion, naming}
+use Rattle.spec_c_dumper.specs.rules.Names.{Space, identSpace, Resolved, Names, Holder, holders, withOne, typeVersion, valueVersion, naming}
 use Rattle.spec_c_dumper.specs.rules.Writer.{Said}
 use Rattle.spec_c_dumper.specs.rules.Emit.{definition, forward}
 use Rattle.spec_c_dumper.proofs.rules.Related.{RelSaid, same, RelResolved}
 use Rattle.spec_c_dumper.specs.needs.Lists.{Piece, defines, other, Line, says, cannot, Ls, putLine, afresh}
-use Rattle.spec_c_dumper.specs.needs.Session.{textOf, dump, Known, fitting, lineOf, machine, opened, answerOf, dumped, dumpTypes}
+use Rattle.spec_c_dumper.specs.needs.Session.{textOf, dump, Known, fitting, lineOf, machine, opened, answerTo, dumped, dumpTypes}
 use Rattle.spec_cut.specs.section.Stands.{withTypes, Each, none, Stands, Renumbered, no-requests, request}
 use Rattle.spec_cut.proofs.section.Lines.{SameNaming, definition-same, forward-same}
 use Rattle.spec_cut.proofs.section.Steps.{BothOut, both-wrote, both-stuck, SameSteps, BothSess, BothAnswer, each-append, single-same}
@@ -98,7 +98,7 @@ module _ (B : Btf) (n : ℕ) (types : ℕ → BtfType) (tags : ℕ → List ℕ)
             | false ↦ record { version = k; names = w }
             | true ↦ record {
               version = oneMore (holders (w .ledger) space name);
-              names = record { versions = set (w .versions) y (oneMore (holders (w .ledger) space name)); ledger = counted (w .ledger) space name };
+              names = record { versions = set (w .versions) y (oneMore (holders (w .ledger) space name)); ledger = withOne (w .ledger) space name };
             }
           ]
 
@@ -109,8 +109,8 @@ module _ (B : Btf) (n : ℕ) (types : ℕ → BtfType) (tags : ℕ → List ℕ)
       go k = pick (eqb k 0)
         where
           pick : (b : Bool) → RelResolved SameNames
-              (elim b [ false ↦ record { version = k; names = u } | true ↦ record { version = oneMore (holders (u .ledger) space name); names = record { versions = set (u .versions) id (oneMore (holders (u .ledger) space name)); ledger = counted (u .ledger) space name } } ])
-              (elim b [ false ↦ record { version = k; names = v } | true ↦ record { version = oneMore (holders (v .ledger) space name); names = record { versions = set (v .versions) id′ (oneMore (holders (v .ledger) space name)); ledger = counted (v .ledger) space name } } ])
+              (elim b [ false ↦ record { version = k; names = u } | true ↦ record { version = oneMore (holders (u .ledger) space name); names = record { versions = set (u .versions) id (oneMore (holders (u .ledger) space name)); ledger = withOne (u .ledger) space name } } ])
+              (elim b [ false ↦ record { version = k; names = v } | true ↦ record { version = oneMore (holders (v .ledger) space name); names = record { versions = set (v .versions) id′ (oneMore (holders (v .ledger) space name)); ledger = withOne (v .ledger) space name } } ])
           pick false = (refl, h)
           pick true = (
             same-new,
@@ -118,7 +118,7 @@ module _ (B : Btf) (n : ℕ) (types : ℕ → BtfType) (tags : ℕ → List ℕ)
               versions-same =
                   subst (λ (m : ℕ). SameList 0 I (set (u .versions) id (oneMore (holders (u .ledger) space name))) (set (v .versions) id′ m)) same-new
                   (set-same 0 (u .versions) (v .versions) (h .versions-same) id id′ i (oneMore (holders (u .ledger) space name)));
-              ledger-same = ap (λ (l : List Holder). counted l space name) (h .ledger-same);
+              ledger-same = ap (λ (l : List Holder). withOne l space name) (h .ledger-same);
             },
           )
 
@@ -128,7 +128,7 @@ module _ (B : Btf) (n : ℕ) (types : ℕ → BtfType) (tags : ℕ → List ℕ)
     ap (λ (l : List Holder). oneMore (holders l identSpace name)) (h .ledger-same),
     record {
       versions-same = h .versions-same;
-      ledger-same = ap (λ (l : List Holder). counted l identSpace name) (h .ledger-same);
+      ledger-same = ap (λ (l : List Holder). withOne l identSpace name) (h .ledger-same);
     },
   )
 
@@ -285,7 +285,7 @@ module _ (B : Btf) (n : ℕ) (types : ℕ → BtfType) (tags : ℕ → List ℕ)
   request-same S S′ h room x x′ i = single-same B n types tags I st (machine B) (machine B′) SameState machine-same S S′ h room x x′ i
 
   dumped-same : (ns ns′ : List (ℕ × ℕ)) → ns ≡ ns′ → {rs rs′ : List Req} → Renumbered I rs rs′ → (S S′ : Sess (Ls (Known Names))) → BothSessions S S′ → dumped naming B ns rs S ≡ dumped naming B′ ns′ rs′ S′
-  unfolding dumped answerOf
+  unfolding dumped answerTo
   dumped-same ns ns′ e no-requests S S′ h = ap₂ dump e (pieces-text (h .alike .pieces-same))
   dumped-same ns ns′ e (request room x x′ i r) S S′ h =
       let a = request-same S S′ h room x x′ i in

@@ -7,12 +7,12 @@ use Rattle.spec_linux_btf.specs.Documentation.{Described}
 use Rattle.spec_linux_btf.specs.Fields.{kindIn}
 use Rattle.spec_type_table.specs.declared.types.TypeTable.{TypeTable}
 use Rattle.spec_type_table.specs.Records.{sectionWord}
-use Rattle.btf_open_causes.specs.references.Followed.{countOf, kindAt, placeOf, followedCount, followedId}
+use Rattle.btf_open_causes.specs.references.Followed.{typeCount, kindAt, placeOf, followedCount, followedId}
 use Rattle.spec_cut.specs.section.Kept.{followedIds, voidType, typeOf, third}
 
 -- c, s and start: the table, the section and the index of `btf_open_causes::references`; ts: the types
-pub record Seen (c : TypeTable) (s start : List ℕ) (ts : List Described) : Type 0 where
-  pub count : countOf c ≡ suc (length ts)
+pub record SeenFrom (c : TypeTable) (s start : List ℕ) (ts : List Described) : Type 0 where
+  pub count : typeCount c ≡ suc (length ts)
   pub zero-kind : kindAt c start 0 ≡ 0
   pub kind : (i : ℕ) → i < length ts → kindAt c start (suc i) ≡ kindIn (getD ts i voidType)
   -- the third word, what a DECL_TAG is on

@@ -23,7 +23,7 @@ use Rattle.spec_session.specs.declared.session.Tally.{Tally}
 use Rattle.spec_session.specs.session.Answers.{numberOf, valueOf, answerOf}
 use Rattle.spec_session.specs.session.Turns.{Call, callOf, turnOf, isCurrent, Reach, reached, refusedBy, reachOf, withText, thenZeros, settled, unchanged, tableFor, visitsIn}
 use Rattle.spec_session.specs.calls.Calls.{requested, typeCall}
-use Rattle.spec_session.specs.calls.Lists.{idsIn, counted, listFrom, listCall, countIn, tailed, listEnd}
+use Rattle.spec_session.specs.calls.Lists.{idsIn, thenNext, listFrom, listCall, countIn, tailed, listEnd}
 use Rattle.spec_session.proofs.calls.Fair.{Listed}
 use Rattle.spec_session.proofs.session.Laws.{current-fits, reach-accepted, reach-refused, zeros-twice}
 use Rattle.spec_session.proofs.calls.Claims.{number-is, value-is, Sane, on, off, request-sane, zeros-length, zeros-head, Kept, type-settles, type-current, type-not-below, type-not-current, Visited, request-counts, accepted-counts, refused-counts}
@@ -118,14 +118,14 @@ pub sane-listed : (l : ℕ) (p : List ℕ) (n : ℕ) (q : Reach) → Sane l p n 
 sane-listed l p n _ (on len′ w u a b d e) c len v t q = let z : _≡_ {A = ℕ} 0 1 = cc in absurd (omega arith)
 sane-listed l p n _ (off c′ len′ v′ u k a b d e) c len v t q = let z : c′ ≡ c = cc in (omega (arith, k .0), omega (arith, k .1))
 
-pub counted-goes : (n : ℕ) (c : Call) (k : Call → Call) → numberOf (c .answer) ≡ 0 → counted n c k ≡ k c
-unfolding counted
-counted-goes n c k e = rw (e, counted)
+pub counted-goes : (n : ℕ) (c : Call) (k : Call → Call) → numberOf (c .answer) ≡ 0 → thenNext n c k ≡ k c
+unfolding thenNext
+counted-goes n c k e = rw (e, thenNext)
 
-pub counted-stops : (n m : ℕ) (c : Call) (k : Call → Call) → numberOf (c .answer) ≡ m → (m ≡ 0 → ⊥) → counted n c k ≡ callOf (c .session) (answerOf m n) (c .work) (c .text)
-unfolding counted
+pub counted-stops : (n m : ℕ) (c : Call) (k : Call → Call) → numberOf (c .answer) ≡ m → (m ≡ 0 → ⊥) → thenNext n c k ≡ callOf (c .session) (answerOf m n) (c .work) (c .text)
+unfolding thenNext
 counted-stops n zero c k e h = absurd (h refl)
-counted-stops n (suc m) c k e h = rw (e, counted)
+counted-stops n (suc m) c k e h = rw (e, thenNext)
 
 module _ (s : Session) (section : List ℕ) where
   pair-settled : (wn tn : ℕ) (q q′ : Reach) → Pair wn tn q q′ → settled s wn tn q′ ≡ settled s wn tn q
@@ -161,34 +161,34 @@ module _ (s : Session) (section : List ℕ) where
       abbrev rest : Call → Call
       rest c = listFrom (suc k) (c .session) section (c .work) (c .text) (idsFrom ids (k + 1) (n - (k + 1)))
 
-      next : whole ≡ counted k (typeCall (withText s true len v) section w (tailed k len t) id) rest
+      next : whole ≡ thenNext k (typeCall (withText s true len v) section w (tailed k len t) id) rest
       unfolding listFrom
       next =
           e
           ∙ ap (listFrom k (withText s true len v) section w (tailed k len t)) (ids-cons ids k n l)
-          ∙ ap (λ (j : ℕ). counted k (typeCall (withText s true len v) section w (tailed k len t) j) rest) (sym ei)
+          ∙ ap (λ (j : ℕ). thenNext k (typeCall (withText s true len v) section w (tailed k len t) j) rest) (sym ei)
 
       pub list-past : s .types ≤ id → listEnd s (record { len = len; number = 10; accepted = k; visits = v }) w t ≡ whole
       unfolding listEnd numberOf
       list-past p =
           sym (next
-          ∙ ap (λ (c : Call). counted k c rest) (past es len v w t (tailed k len t) ew (tail-length k len t h) h (tail-head k len t h) id p)
+          ∙ ap (λ (c : Call). thenNext k c rest) (past es len v w t (tailed k len t) ew (tail-length k len t h) h (tail-head k len t h) id p)
           ∙ counted-stops k 10 (unchanged (withText s true len v) (Refused 10 len) w (tailed k len t)) rest refl (λ z. absurd (omega arith)))
 
       module _ (p : id < s .types) (r : Reached) (w′ t′ : List ℕ) (er : reachOf r w′ t′ ≡ requested b section id len v w t) where
         came : requested (tableFor s section) section id len v w t ≡ reachOf r w′ t′
         came = sym (er ∙ ap (λ (c : TypeTable). requested c section id len v w t) eb)
 
-        onward : whole ≡ counted k (settled s (length w) (length t) (reachOf r w′ t′)) rest
+        onward : whole ≡ thenNext k (settled s (length w) (length t) (reachOf r w′ t′)) rest
         onward =
             next
-            ∙ ap (λ (c : Call). counted k c rest) (called es len v w t (tailed k len t) ew (tail-length k len t h) h (tail-head k len t h) id p ∙ ap (settled s (length w) (length t)) came)
+            ∙ ap (λ (c : Call). thenNext k c rest) (called es len v w t (tailed k len t) ew (tail-length k len t h) h (tail-head k len t h) id p ∙ ap (settled s (length w) (length t)) came)
 
         pub list-more : length t′ ≡ length t → r .number ≡ 0 → (u : ℕ) → u ≡ visitsIn w′ → whole ≡ listFrom (k + 1) (withText s true (r .len) u) section w′ (tailed (k + 1) (r .len) t′) (idsFrom ids (k + 1) (n - (k + 1)))
         unfolding settled tailed
         list-more lt z u eu =
             onward
-            ∙ ap (λ (q : Reach). counted k (settled s (length w) (length t) q) rest) (reach-accepted r w′ t′ z)
+            ∙ ap (λ (q : Reach). thenNext k (settled s (length w) (length t) q) rest) (reach-accepted r w′ t′ z)
             ∙ counted-goes k (settled s (length w) (length t) (reached (r .len) w′ t′)) rest (number-is 0 (r .len))
             ∙ ap (λ (j : ℕ). listFrom (suc k) (withText s true (r .len) (visitsIn w′)) section w′ (thenZeros j (r .len) t′) (idsFrom ids (k + 1) (n - (k + 1)))) (sym lt)
             ∙ ap (λ (j : ℕ). listFrom j (withText s true (r .len) (visitsIn w′)) section w′ (tailed j (r .len) t′) (idsFrom ids (k + 1) (n - (k + 1)))) (sym (add-one k))
@@ -206,7 +206,7 @@ module _ (s : Session) (section : List ℕ) where
             let o : 10 < r .number = omega (arith, listed z .0) in
             rw (lt-leb (r .number) 10 o, listEnd)
             (sym (onward
-            ∙ ap (λ (q : Reach). counted k (settled s (length w) (length t) q) rest) (reach-refused r w′ t′ z)
+            ∙ ap (λ (q : Reach). thenNext k (settled s (length w) (length t) q) rest) (reach-refused r w′ t′ z)
             ∙ counted-stops k (r .number) (settled s (length w) (length t) (refusedBy (r .number) (r .len) (r .visits) (take (r .len) t′))) rest (number-is (r .number) (r .len)) z
             ∙ sym (λ i. callOf (withText s false (r .len) (r .visits)) (answerOf (r .number) k) (replicate (lw i) 0) (thenZeros (lt i) (r .len) (take (r .len) t′)))
             ∙ ap (callOf (withText s false (r .len) (r .visits)) (answerOf (r .number) k) (replicate (length w′) 0)) (zeros-twice (length t′) (r .len) t′)))
@@ -252,7 +252,7 @@ module _ (s : Session) (section w t ids : List ℕ) where
     list-11 l h turn et =
         (λ i. callOf (et i .session) (et i .answer) w t)
         ∙ sym (ap (listFrom 0 s section w t) (ids-some ids l)
-        ∙ ap (λ (c : Call). counted 0 c (λ d. listFrom 1 (d .session) section (d .work) (d .text) (idsFrom ids 1 (countIn ids - 1)))) (type-not-current s section w t (getWord ids 0) (sym eq ∙ not-true q h))
+        ∙ ap (λ (c : Call). thenNext 0 c (λ d. listFrom 1 (d .session) section (d .work) (d .text) (idsFrom ids 1 (countIn ids - 1)))) (type-not-current s section w t (getWord ids 0) (sym eq ∙ not-true q h))
         ∙ counted-stops 0 11 (unchanged s (Refused 11 (s .«text_len»)) w t) (λ d. listFrom 1 (d .session) section (d .work) (d .text) (idsFrom ids 1 (countIn ids - 1))) refl (λ z. absurd (omega arith)))
 
 -- ---- what every single request keeps
@@ -305,13 +305,13 @@ module _ (s : Session) (section w t : List ℕ) where
 unfoldable pub andThen : Call → (Call → Call) → Call
 andThen c k = elim (numberOf (c .answer)) [ zero ↦ k c | suc m ↦ c ]
 
-counted-then : (n : ℕ) (c : Call) (k f : Call → Call) → andThen (counted n c k) f ≡ counted n c (λ d. andThen (k d) f)
-unfolding andThen counted callOf numberOf answerOf
+counted-then : (n : ℕ) (c : Call) (k f : Call → Call) → andThen (thenNext n c k) f ≡ thenNext n c (λ d. andThen (k d) f)
+unfolding andThen thenNext callOf numberOf answerOf
 counted-then n c k f = go (numberOf (c .answer)) refl
   where
-    go : (m : ℕ) → numberOf (c .answer) ≡ m → andThen (counted n c k) f ≡ counted n c (λ d. andThen (k d) f)
-    go zero e = rw (e, counted)
-    go (suc m) e = rw (e, counted)
+    go : (m : ℕ) → numberOf (c .answer) ≡ m → andThen (thenNext n c k) f ≡ thenNext n c (λ d. andThen (k d) f)
+    go zero e = rw (e, thenNext)
+    go (suc m) e = rw (e, thenNext)
 
 module _ (section : List ℕ) where
   -- a list is its first ids, and then the others, where the first are all accepted
@@ -320,7 +320,7 @@ module _ (section : List ℕ) where
   unfolding listFrom andThen callOf numberOf valueOf answerOf
   list-append n s w t [] ys = refl
   list-append n s w t (x ∷ xs) ys =
-      ap (counted n (typeCall s section w t x)) (λ i c. list-append (suc n) (c .session) (c .work) (c .text) xs ys i)
+      ap (thenNext n (typeCall s section w t x)) (λ i c. list-append (suc n) (c .session) (c .work) (c .text) xs ys i)
       ∙ sym (counted-then n (typeCall s section w t x) (λ c. listFrom (suc n) (c .session) section (c .work) (c .text) xs) (λ c. listFrom (valueOf (c .answer)) (c .session) section (c .work) (c .text) ys))
 
   -- how many were accepted, and what stays
@@ -330,11 +330,11 @@ module _ (section : List ℕ) where
     pub long : length (c .text) ≡ length t
     pub still : valueOf (c .answer) ≡ n → numberOf (c .answer) < 12 → c .session ≡ s
 
-  counted-counts : (n : ℕ) (s : Session) (t : List ℕ) (c : Call) (k : Call → Call) → Single s t c → Counts (suc n) (c .session) (c .text) (k c) → Counts n s t (counted n c k)
-  unfolding counted callOf
+  counted-counts : (n : ℕ) (s : Session) (t : List ℕ) (c : Call) (k : Call → Call) → Single s t c → Counts (suc n) (c .session) (c .text) (k c) → Counts n s t (thenNext n c k)
+  unfolding thenNext callOf
   counted-counts n s t c k h i = go (numberOf (c .answer)) refl
     where
-      go : (m : ℕ) → numberOf (c .answer) ≡ m → Counts n s t (counted n c k)
+      go : (m : ℕ) → numberOf (c .answer) ≡ m → Counts n s t (thenNext n c k)
       go zero e = subst (Counts n s t) (sym (counted-goes n c k e)) (record {
         at-least = omega (arith, i .at-least);
         grows = omega (arith, h .grows, i .grows);

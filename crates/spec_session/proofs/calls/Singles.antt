@@ -24,7 +24,7 @@ use Rattle.btf_layout.proofs.refusals.InWork.{definition-keeps, forward-keeps, 
 use Rattle.spec_c_dumper.proofs.rules.Keeps.{Keeps}
 use Rattle.spec_c_dumper.proofs.rules.Refusals.{Tells}
 use Rattle.spec_type_table.specs.declared.types.TypeTable.{TypeTable}
-use Rattle.spec_type_table.specs.Cells.{getField, classP, countP, withMore, counted}
+use Rattle.spec_type_table.specs.Cells.{getField, classP, countP, withMore, countRaised}
 use Rattle.spec_type_table.specs.Numbers.{numberAt}
 use Rattle.spec_type_table.specs.Table.{btfOf, typeVersionIn, enumeratorOf, valueVersionIn, workNaming}
 use Rattle.c_dumper_dependency_order.specs.order_state.Work.{workStore}
@@ -50,8 +50,8 @@ more-length w i = go (ltb (getWord w i) 4294967295) refl
     go true e = rw (e, withMore) (put-length w i (getWord w i + 1))
     go false e = rw (e, withMore)
 
-counted-length : (types h : ℕ) (w : List ℕ) → length (counted (classP types) (countP types) w h) ≡ length w
-unfolding counted
+counted-length : (types h : ℕ) (w : List ℕ) → length (countRaised (classP types) (countP types) w h) ≡ length w
+unfolding countRaised
 counted-length types h w = more-length w (countP types (getWord w (classP types h)))
 
 type-length : (types id : ℕ) (w : List ℕ) → length (typeVersionIn types id w .names) ≡ length w
@@ -59,7 +59,7 @@ unfolding typeVersionIn
 type-length types id w = go (eqb (getField w id 4) 0) refl
   where
     go : (q : Bool) → eqb (getField w id 4) 0 ≡ q → length (typeVersionIn types id w .names) ≡ length w
-    go true e = rw (e, typeVersionIn) (put-length (counted (classP types) (countP types) w id) (id * 16 + 4) (numberAt types w id) ∙ counted-length types id w)
+    go true e = rw (e, typeVersionIn) (put-length (countRaised (classP types) (countP types) w id) (id * 16 + 4) (numberAt types w id) ∙ counted-length types id w)
     go false e = rw (e, typeVersionIn)
 
 value-length : (types e : ℕ) (w : List ℕ) → length (valueVersionIn types e w .names) ≡ length w

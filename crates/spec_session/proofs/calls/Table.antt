@@ -23,7 +23,7 @@ use Rattle.spec_session.specs.declared.session.Answer.the-variants.{Acce
 use Rattle.spec_session.specs.declared.session.Session.{Session}
 use Rattle.spec_session.specs.session.Answers.{numberOf, valueOf, answerOf}
 use Rattle.spec_session.specs.session.Turns.{Call}
-use Rattle.spec_session.specs.calls.Refusals.{Cause, tooDeep, cycle, nameless, alignZero, overflow, textFull, misplaced, number, value, refusal}
+use Rattle.spec_session.specs.calls.Refusals.{RefusalRow, tooDeep, cycle, nameless, alignZero, overflow, textFull, misplaced, number, value, refusal}
 use Rattle.spec_session.specs.calls.Calls.{openedCall, openCall}
 use Rattle.spec_session.specs.calls.Table.{openingRows, closingRows, byRow, InTable, CallsByTable, RulesByTable}
 use Rattle.spec_session.proofs.calls.Fair.{Listed}
@@ -61,17 +61,17 @@ opening-answer s section w t pointer modes = go (eqb (firstOf (causes pointer se
 -- ---- requests
 
 -- an answer that is no success is the one with its number and its value
-answer-is : (a : Answer) (c : Cause) (len : ℕ) → numberOf a ≡ number c → (number c ≡ 0 → ⊥) → valueOf a ≡ value c len → a ≡ refusal c len
+answer-is : (a : Answer) (c : RefusalRow) (len : ℕ) → numberOf a ≡ number c → (number c ≡ 0 → ⊥) → valueOf a ≡ value c len → a ≡ refusal c len
 unfolding numberOf valueOf answerOf
 answer-is (Accepted v) c len en n ev = absurd (n (sym en))
 answer-is (Refused zero v) c len en n ev = absurd (n (sym en))
 answer-is (Refused (suc k) v) c len en n ev = rw (sym en, sym ev) refl
 
-row : (a : Answer) (len : ℕ) → Listed (numberOf a) → valueOf a ≡ len → (c : Cause) × List·Memᴰ c closingRows × (a ≡ refusal c len)
+row : (a : Answer) (len : ℕ) → Listed (numberOf a) → valueOf a ≡ len → (c : RefusalRow) × List·Memᴰ c closingRows × (a ≡ refusal c len)
 unfolding number value
 row a len l e = go (numberOf a - 12) (omega (arith, l .0, l .1)) (omega (arith, l .0))
   where
-    go : (d : ℕ) → d ≤ 6 → numberOf a ≡ d + 12 → (c : Cause) × List·Memᴰ c closingRows × (a ≡ refusal c len)
+    go : (d : ℕ) → d ≤ 6 → numberOf a ≡ d + 12 → (c : RefusalRow) × List·Memᴰ c closingRows × (a ≡ refusal c len)
     go zero h q = (tooDeep, List·Memᴰ·head refl, answer-is a tooDeep len q (omega arith) e)
     go (suc zero) h q = (cycle, List·Memᴰ·tail (List·Memᴰ·head refl), answer-is a cycle len q (omega arith) e)
     go (suc (suc zero)) h q = (nameless, List·Memᴰ·tail (List·Memᴰ·tail (List·Memᴰ·head refl)), answer-is a nameless len q (omega arith) e)

@@ -14,7 +14,7 @@ use Rattle.spec_bytes.specs.words.Words.{getWord, putWord}
 use Rattle.spec_bytes.proofs.words.Laws.{le-or-lt, get-put-same, get-put-other, put-length}
 use Rattle.spec_bytes.proofs.text.TextLaws.{put-fits, put-none}
 use Rattle.spec_c_dumper.specs.rules.Order.{Table, Mark, new, busy, done, Lawful, Framed}
-use Rattle.spec_c_dumper.specs.rules.Machine.{Out, wrote, stuck, Machine, Fine, OHolds, ogood, obad, Same, Kept, Defines, MLawful}
+use Rattle.spec_c_dumper.specs.rules.Machine.{Out, wrote, stuck, Machine, Fine, OHolds, ogood, obad, Same, OrderKeeps, Defines, MLawful}
 use Rattle.spec_c_dumper.specs.rules.Types.{Name, BtfType, Btf as Rules}
 use Rattle.spec_c_dumper.specs.rules.Names.{Space, Resolved}
 use Rattle.spec_c_dumper.specs.rules.Writer.{Said, said, saidText, saidNames, Writer}
@@ -25,7 +25,7 @@ use Rattle.spec_c_dumper.proofs.rules.Keeps.{Keeps}
 use Rattle.btf_layout.proofs.refusals.InWork.{definition-keeps as def-keeps, forward-keeps as fwd-keeps, definition-tells, forward-tells}
 use Rattle.spec_c_dumper.proofs.rules.Refusals.{Told, told, cut-by, Tells}
 use Rattle.spec_type_table.specs.declared.types.TypeTable.{TypeTable}
-use Rattle.spec_type_table.specs.Cells.{getField, putField, classP, countP, counted, withMore}
+use Rattle.spec_type_table.specs.Cells.{getField, putField, classP, countP, countRaised, withMore}
 use Rattle.spec_type_table.specs.Numbers.{numberAt}
 use Rattle.spec_type_table.specs.Table.{from, workNaming, typeVersionIn, valueVersionIn, enumeratorOf}
 use Rattle.spec_type_table.proofs.Laws.{place-type, place-enum}
@@ -50,7 +50,7 @@ more-length w i = go (ltb (getWord w i) 4294967295)
     go false = refl
 
 module _ {Z : Type 0} (P : List ℕ → Z) (field4 : (w : List ℕ) (x v : ℕ) → P (putField w x 4 v) ≡ P w)
-    (counts : (types : ℕ) (w : List ℕ) (h : ℕ) → P (counted (classP types) (countP types) w h) ≡ P w)
+    (counts : (types : ℕ) (w : List ℕ) (h : ℕ) → P (countRaised (classP types) (countP types) w h) ≡ P w)
     (memory : (w : List ℕ) (x f v : ℕ) → (f ≡ 2) ⊎ (f ≡ 15) → P (putField w x f v) ≡ P w) (b : TypeTable) where
   names-keep : (space : Space) (id : ℕ) (name : Name) (w : List ℕ) → P (workNaming b .typeVersion space id name w .names) ≡ P w
   unfolding workNaming typeVersionIn
@@ -60,7 +60,7 @@ module _ {Z : Type 0} (P : List ℕ → Z) (field4 : (w : List ℕ) (x v : ℕ) 
       n = numberAt (b .types) w id
 
       u : List ℕ
-      u = counted (classP (b .types)) (countP (b .types)) w id
+      u = countRaised (classP (b .types)) (countP (b .types)) w id
 
       go : (t : Bool) → P ((elim t as (λ z. Resolved (List ℕ)) [ false ↦ record { version = getField w id 4; names = w } | true ↦ record { version = n; names = putField u id 4 n } ]) .names) ≡ P w
       go false = refl
@@ -74,7 +74,7 @@ module _ {Z : Type 0} (P : List ℕ → Z) (field4 : (w : List ℕ) (x v : ℕ) 
       n = numberAt (b .types) w (b .types + enumeratorOf w id i)
 
       u : List ℕ
-      u = counted (classP (b .types)) (countP (b .types)) w (b .types + enumeratorOf w id i)
+      u = countRaised (classP (b .types)) (countP (b .types)) w (b .types + enumeratorOf w id i)
 
       go : (t : Bool) → P ((elim t as (λ z. Resolved (List ℕ)) [ true ↦ record { version = n; names = u } | false ↦ record { version = 0; names = w } ]) .names) ≡ P w
       go false = refl
@@ -87,15 +87,15 @@ module _ {Z : Type 0} (P : List ℕ → Z) (field4 : (w : List ℕ) (x v : ℕ) 
     definition-keeps : Keeps P (definitionOnce (workAsks (b .types) B) (workNaming b) B id t)
     definition-keeps = def-keeps P (λ w v. memory w 0 2 v (inl refl)) (λ w x v. memory w x 15 v (inr refl)) b B names-keep values-keep id t
 
-count-length : (types : ℕ) (w : List ℕ) (h : ℕ) → length (counted (classP types) (countP types) w h) ≡ length w
-unfolding counted
+count-length : (types : ℕ) (w : List ℕ) (h : ℕ) → length (countRaised (classP types) (countP types) w h) ≡ length w
+unfolding countRaised
 count-length types w h = more-length w (countP types (getWord w (classP types h)))
 
 module _ (f : ℕ) (below : f < 16) (n4 : 4 ≢ f) (types : (types c j : ℕ) → j * 16 + f ≢ countP types c) where
   words-field4 : (w : List ℕ) (x v : ℕ) → words f (putField w x 4 v) ≡ words f w
   words-field4 w x v = λ i k. field-other w x 4 v k f (omega arith) below n4 i
 
-  words-counts : (ts : ℕ) (w : List ℕ) (h : ℕ) → words f (counted (classP ts) (countP ts) w h) ≡ words f w
+  words-counts : (ts : ℕ) (w : List ℕ) (h : ℕ) → words f (countRaised (classP ts) (countP ts) w h) ≡ words f w
   words-counts ts w h = λ i k. counted-other ts w h (k * 16 + f) (λ c. types ts c k) i
 
 words-memory : (f : ℕ) → f < 16 → 2 ≢ f → 15 ≢ f → (w : List ℕ) (x g v : ℕ) → (g ≡ 2) ⊎ (g ≡ 15) → words f (putField w x g v) ≡ words f w
@@ -227,7 +227,7 @@ module _ (n : ℕ) where
       push-list = λ x m g l r. work-lawful n small .push-list x (marksOf m) (g .long) l r;
     }
 
-    store-framed : Framed (X .store) n Fit (Kept X Fit)
+    store-framed : Framed (X .store) n Fit (OrderKeeps X Fit)
     unfolding taggedMachine sheetStore workStore workMachine
     store-framed = record {
       fr-same = λ m. record { egets = λ d. refl; tagsSame = refl };

@@ -17,7 +17,7 @@ use Rattle.spec_session.specs.session.Turns.{Call, isCurrent, Reach, rea
 use Rattle.spec_session.specs.calls.Calls.{requested, onward, requestedFrom, typeCall, typesCall}
 use Rattle.spec_session.proofs.calls.Claims.{number-is}
 use Rattle.spec_session.specs.metered.Within.{Within, requestedWithin, onwardWithin, requestedFromWithin, CallWithin, settledWithin, typeCallWithin, typesCallWithin}
-use Rattle.spec_session.specs.metered.Fits.{Fits}
+use Rattle.spec_session.specs.metered.Fits.{FitsCeiling}
 use Rattle.spec_session.proofs.metered.Laws.{request-fits, request-over}
 
 -- requests that were not refused by 22
@@ -86,7 +86,7 @@ module _ (s : Session) (section w t : List ℕ) where
   plain-on id e f = rw (e, typeCall, f)
 
   type-by : (c id k : ℕ) → k ≤ c → (q u : Bool) → isCurrent s (length section) (length w) (length t) ≡ q → ltb id (s .types) ≡ u → (numberOf (typeCallWithin c s section w t id k .call .answer) ≡ 22 → ⊥)
-      → Fits c (typeCall s section w t id) (λ c′. typeCallWithin c′ s section w t id k)
+      → FitsCeiling c (typeCall s section w t id) (λ c′. typeCallWithin c′ s section w t id k)
   unfolding typeCallWithin typeCall settledWithin
   type-by c id k l false u e f n = record { same-call = rw (e, typeCallWithin, typeCall) refl; at-most = rw (e, typeCallWithin) l; larger = λ c′ i. rw (e, typeCallWithin) refl }
   type-by c id k l true false e f n = record { same-call = rw (e, typeCallWithin, typeCall, f) refl; at-most = rw (e, typeCallWithin, f) l; larger = λ c′ i. rw (e, typeCallWithin, f) refl }
@@ -102,7 +102,7 @@ module _ (s : Session) (section w t : List ℕ) where
         larger = λ c′ i. at c′ i ∙ sym (at c (omega arith));
       }
 
-  pub type-fits : (c id k : ℕ) → k ≤ c → (numberOf (typeCallWithin c s section w t id k .call .answer) ≡ 22 → ⊥) → Fits c (typeCall s section w t id) (λ c′. typeCallWithin c′ s section w t id k)
+  pub type-fits : (c id k : ℕ) → k ≤ c → (numberOf (typeCallWithin c s section w t id k .call .answer) ≡ 22 → ⊥) → FitsCeiling c (typeCall s section w t id) (λ c′. typeCallWithin c′ s section w t id k)
   type-fits c id k l n = type-by c id k l (isCurrent s (length section) (length w) (length t)) (ltb id (s .types)) refl refl n
 
   abbrev every : ℕ → Within
@@ -112,7 +112,7 @@ module _ (s : Session) (section w t : List ℕ) where
   unfolding typesCallWithin
   types-on e c = rw (e, typesCallWithin)
 
-  types-by : (c : ℕ) (q : Bool) → isCurrent s (length section) (length w) (length t) ≡ q → (numberOf (typesCallWithin c s section w t .call .answer) ≡ 22 → ⊥) → Fits c (typesCall s section w t) (λ c′. typesCallWithin c′ s section w t)
+  types-by : (c : ℕ) (q : Bool) → isCurrent s (length section) (length w) (length t) ≡ q → (numberOf (typesCallWithin c s section w t .call .answer) ≡ 22 → ⊥) → FitsCeiling c (typesCall s section w t) (λ c′. typesCallWithin c′ s section w t)
   unfolding typesCallWithin typesCall settledWithin
   types-by c false e n = record { same-call = rw (e, typesCallWithin, typesCall) refl; at-most = rw (e, typesCallWithin) zero-le; larger = λ c′ i. rw (e, typesCallWithin) refl }
   types-by c true e n =
@@ -126,7 +126,7 @@ module _ (s : Session) (section w t : List ℕ) where
         larger = λ c′ i. on c′ ∙ ap (settledWithin s (length w) (length t)) (fit c′ i .same-within) ∙ sym (on c);
       }
 
-  pub types-fits : (c : ℕ) → (numberOf (typesCallWithin c s section w t .call .answer) ≡ 22 → ⊥) → Fits c (typesCall s section w t) (λ c′. typesCallWithin c′ s section w t)
+  pub types-fits : (c : ℕ) → (numberOf (typesCallWithin c s section w t .call .answer) ≡ 22 → ⊥) → FitsCeiling c (typesCall s section w t) (λ c′. typesCallWithin c′ s section w t)
   types-fits c n = types-by c (isCurrent s (length section) (length w) (length t)) refl n
 
 -- "22 when one more call would pass the ceiling": the count is the ceiling, and the call ends as every refusal that closes the session

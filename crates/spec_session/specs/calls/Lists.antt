@@ -18,15 +18,15 @@ idsIn b = take 4294967295 (words b)
 
 -- after n accepted ids, the call for the next: the list goes on from it, or is stopped by its number; the value is the count of the
 -- accepted
-unfoldable pub counted : ℕ → Call → (Call → Call) → Call
-counted n c k = elim (numberOf (c .answer)) [ zero ↦ k c | suc m ↦ callOf (c .session) (answerOf (suc m) n) (c .work) (c .text) ]
+unfoldable pub thenNext : ℕ → Call → (Call → Call) → Call
+thenNext n c k = elim (numberOf (c .answer)) [ zero ↦ k c | suc m ↦ callOf (c .session) (answerOf (suc m) n) (c .work) (c .text) ]
 
 -- "Text, length, session and work must equal those of single requests in that order, up to and including the first refused": each is lent
 -- session, work and text as the one before left them. n were accepted before; "an empty list tests and changes nothing".
 unfoldable pub listFrom : ℕ → Session → List ℕ → List ℕ → List ℕ → List ℕ → Call
 listFrom n s section work text [] = callOf s (answerOf 0 n) work text
 listFrom n s section work text (id ∷ ids) =
-    counted n (typeCall s section work text id) (λ c. listFrom (suc n) (c .session) section (c .work) (c .text) ids)
+    thenNext n (typeCall s section work text id) (λ c. listFrom (suc n) (c .session) section (c .work) (c .text) ids)
 
 unfoldable pub listCall : Session → List ℕ → List ℕ → List ℕ → List ℕ → Call
 listCall s section work text ids = listFrom 0 s section work text ids

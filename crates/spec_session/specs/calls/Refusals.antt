@@ -5,15 +5,15 @@ use Rattle.spec_session.specs.declared.session.Answer.{Answer}
 use Rattle.spec_session.specs.session.Answers.{answerOf}
 
 -- the rows of the table
-pub data Cause : Type 0 where
+pub data RefusalRow : Type 0 where
   -- of opening
-  pointerSize sectionOver badHeader badStrings badRecord badReference prototype loop workShort : Cause
+  pointerSize sectionOver badHeader badStrings badRecord badReference prototype loop workShort : RefusalRow
   -- of requests
-  notCurrent idNotBelow tooDeep cycle nameless alignZero overflow textFull misplaced : Cause
+  notCurrent idNotBelow tooDeep cycle nameless alignZero overflow textFull misplaced : RefusalRow
   -- of requests under a ceiling
-  ceilingPassed : Cause
+  ceilingPassed : RefusalRow
 
-unfoldable pub number : Cause → ℕ
+unfoldable pub number : RefusalRow → ℕ
 number pointerSize = 1
 number sectionOver = 2
 number badHeader = 3
@@ -35,7 +35,7 @@ number misplaced = 18
 number ceilingPassed = 22
 
 -- "number, 0 types" at opening, and "number, old text length" of a request
-unfoldable pub value : Cause → ℕ → ℕ
+unfoldable pub value : RefusalRow → ℕ → ℕ
 value pointerSize len = 0
 value sectionOver len = 0
 value badHeader len = 0
@@ -57,5 +57,5 @@ value misplaced len = len
 value ceilingPassed len = len
 
 -- a refusal by a row of the table, where the text has this length
-abbrev pub refusal : Cause → ℕ → Answer
+abbrev pub refusal : RefusalRow → ℕ → Answer
 refusal c len = answerOf (number c) (value c len)

@@ -23,29 +23,29 @@ use Rattle.spec_session.specs.declared.session.Answer.{Answer}
 use Rattle.spec_session.specs.declared.session.Session.{Session}
 use Rattle.spec_session.specs.session.Answers.{numberOf, answerOf}
 use Rattle.spec_session.specs.session.Turns.{Call, isCurrent}
-use Rattle.spec_session.specs.calls.Refusals.{Cause, pointerSize, sectionOver, badHeader, badStrings, badRecord, badReference}
+use Rattle.spec_session.specs.calls.Refusals.{RefusalRow, pointerSize, sectionOver, badHeader, badStrings, badRecord, badReference}
 use Rattle.spec_session.specs.calls.Refusals.{prototype, loop, workShort, tooDeep, cycle, nameless, alignZero, overflow, textFull}
 use Rattle.spec_session.specs.calls.Refusals.{misplaced, ceilingPassed, number, refusal}
 use Rattle.spec_session.specs.calls.Calls.{openCall, typeCall, typesCall}
 
 -- "Cause, tested in this order at opening"
-abbrev pub openingRows : List Cause
+abbrev pub openingRows : List RefusalRow
 openingRows = pointerSize ∷ sectionOver ∷ badHeader ∷ badStrings ∷ badRecord ∷ badReference ∷ prototype ∷ loop ∷ workShort ∷ []
 
 -- the refusals that close the session
-abbrev pub closingRows : List Cause
+abbrev pub closingRows : List RefusalRow
 closingRows = tooDeep ∷ cycle ∷ nameless ∷ alignZero ∷ overflow ∷ textFull ∷ misplaced ∷ []
 
 -- the refusal of the row beside the first cause that holds; `none` where none does
-unfoldable pub byRow : ℕ → Answer → List Bool → List Cause → Answer
+unfoldable pub byRow : ℕ → Answer → List Bool → List RefusalRow → Answer
 byRow len none [] rows = none
 byRow len none (b ∷ l) [] = none
 byRow len none (true ∷ l) (c ∷ rows) = refusal c len
 byRow len none (false ∷ l) (c ∷ rows) = byRow len none l rows
 
 -- accepted, or refused by a row of these, with the text length that is left
-abbrev pub InTable : List Cause → Call → Type 0
-InTable rows d = (numberOf (d .answer) ≡ 0) ⊎ ((c : Cause) × List·Memᴰ c rows × (d .answer ≡ refusal c (d .session .«text_len»)))
+abbrev pub InTable : List RefusalRow → Call → Type 0
+InTable rows d = (numberOf (d .answer) ≡ 0) ⊎ ((c : RefusalRow) × List·Memᴰ c rows × (d .answer ≡ refusal c (d .session .«text_len»)))
 
 -- the calls, for all inputs; 11 and 10 stand in specs/Calls by their rows
 pub record CallsByTable : Type 0 where
