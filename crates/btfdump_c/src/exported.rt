@@ -1,15 +1,24 @@
-// The calls for C, on numbers and byte slices: each is the call of `btfdump_c::calls`, or stands in `explained`, under its name for C.
+// The calls for C, on numbers and byte slices. The session record crosses as bytes (`session_record::record_bytes`), and an answer as a
+// number of 64 bits.
 
 mod ceilings;
 mod cuts;
 mod declarations;
 mod explained;
 
-use crate::calls::c_dump_list;
-use crate::calls::c_dump_type;
-use crate::calls::c_dump_types;
-use crate::calls::c_field;
-use crate::calls::c_open;
+use session_field_at_bit::field::which_field;
+use session_record::record_bytes::answered;
+use session_record::record_bytes::listed;
+use session_record::record_bytes::opened;
+use session_record::record_words::ANSWER_CLOSED;
+use session_record::record_words::ANSWER_SHORT_SLICE;
+use session_record::record_words::RECORD_BYTES;
+use session_record::record_words::decode;
+use session_record::record_words::number_and_value;
+use session_requests::open_call::open_core;
+use session_requests::requests::dump_list_core;
+use session_requests::requests::dump_type_core;
+use session_requests::requests::dump_types_core;
 ghost use mathlib.Core.Path.{_≡_};
 ghost use Rattle.spec_c_calls.specs.Exports.{exportOf, openExport, typeExport, typesExport, listExport};
 ghost use Rattle.spec_session.specs.calls.Lists.{idsIn};
@@ -27,7 +36,11 @@ pub extern "C" fn btfdump_open(
     ensures { λ r. ⌜ exportOf r (now («record» .exit)) (now (work .exit)) (now (text .exit))
         ≡ openExport (now («record» .entry)) (now (section .entry)) «pointer_size» modes (now (work .entry)) (now (text .entry)) ⌝ }
 {
-    c_open(record, section, pointer_size, modes, work, text)
+    if record.len() < RECORD_BYTES {
+        return ANSWER_SHORT_SLICE;
+    }
+    let t = open_core(decode(record), section, work, text, pointer_size, modes);
+    opened(record, t)
 }
 
 #[no_mangle]
@@ -41,7 +54,11 @@ pub extern "C" fn btfdump_dump_type(
     ensures { λ r. ⌜ exportOf r (now («record» .exit)) (now (work .exit)) (now (text .exit))
         ≡ typeExport (now («record» .entry)) (now (section .entry)) (now (work .entry)) (now (text .entry)) id ⌝ }
 {
-    c_dump_type(record, section, work, text, id)
+    if record.len() < RECORD_BYTES {
+        return ANSWER_CLOSED;
+    }
+    let t = dump_type_core(decode(record), section, work, text, id);
+    answered(record, t)
 }
 
 #[no_mangle]
@@ -54,7 +71,11 @@ pub extern "C" fn btfdump_dump_types(
     ensures { λ r. ⌜ exportOf r (now («record» .exit)) (now (work .exit)) (now (text .exit))
         ≡ typesExport (now («record» .entry)) (now (section .entry)) (now (work .entry)) (now (text .entry)) ⌝ }
 {
-    c_dump_types(record, section, work, text)
+    if record.len() < RECORD_BYTES {
+        return ANSWER_CLOSED;
+    }
+    let t = dump_types_core(decode(record), section, work, text);
+    answered(record, t)
 }
 
 #[no_mangle]
@@ -68,7 +89,14 @@ pub extern "C" fn btfdump_dump_list(
     ensures { λ r. ⌜ exportOf r (now («record» .exit)) (now (work .exit)) (now (text .exit))
         ≡ listExport (now («record» .entry)) (now (section .entry)) (now (work .entry)) (now (text .entry)) (idsIn (now (ids .entry))) ⌝ }
 {
-    c_dump_list(record, section, work, text, ids)
+    if ids.len() < 4 {
+        return 0;
+    }
+    if record.len() < RECORD_BYTES {
+        return ANSWER_CLOSED;
+    }
+    let t = dump_list_core(decode(record), section, work, text, ids);
+    listed(record, t)
 }
 
 #[no_mangle]
@@ -83,5 +111,9 @@ pub extern "C" fn btfdump_field(
     ensures { λ r. ⌜ pathExportOf r (now (path .exit))
         ≡ fieldExport (now («record» .entry)) (now (section .entry)) (now (work .entry)) (now (path .entry)) id bit ⌝ }
 {
-    c_field(record, section, work, path, id, bit)
+    if record.len() < RECORD_BYTES {
+        return ANSWER_CLOSED;
+    }
+    let a = which_field(decode(record), section, work, path, id, bit);
+    number_and_value(a)
 }

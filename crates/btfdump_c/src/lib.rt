@@ -1,3 +1,2 @@
 // The calls for C.
-pub mod calls;
 pub mod exported;

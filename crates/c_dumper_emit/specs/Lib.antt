@@ -1,2 +1,2 @@
 pub mod entries
-pub mod origin_request
+pub mod dump_type

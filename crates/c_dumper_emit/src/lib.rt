@@ -1,5 +1,4 @@
 // Emission: which lines a listed id brings, with their entries; one request.
-pub mod dump_noted;
 pub mod dump_type;
 pub mod emit_type;
 pub mod entries;

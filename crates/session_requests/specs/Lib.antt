@@ -1,2 +1,1 @@
-pub mod origin_requests
-pub mod origin_lists
+pub mod options

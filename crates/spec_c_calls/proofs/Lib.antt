@@ -1,4 +1,3 @@
-pub mod CeilingLaws
 pub mod Laws
 pub mod Claims
 pub mod Lists

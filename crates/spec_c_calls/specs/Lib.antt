@@ -4,3 +4,4 @@ pub mod Field
 pub mod Ceilings
 pub mod Declarations
 pub mod Cuts
+pub mod Causes

@@ -1,5 +1,4 @@
 pub mod Claims
 pub mod Laws
 pub mod ListClaims
-pub mod ListLaws
 pub mod Idle

@@ -1,3 +1,2 @@
 // What each call on a session comes to: definitions and laws.
-pub mod metered;
 pub mod session;

@@ -1,4 +1,4 @@
--- A law for each return of src/explained.rt. Assumes nothing.
+-- A law for each return of src/exported/explained.rt. Assumes nothing.
 use Prim.Native.Nat.{ℕ, _<_, _≤_}
 use mathlib.Core.Path.{_≡_, ap, _∙_, sym}
 use mathlib.Core.List.{List}
@@ -12,11 +12,11 @@ use Rattle.spec_session.proofs.calls.Lists.{ids-none, ids-some}
 use Rattle.session_record.specs.record_words.Words.{packed, decoded}
 use Rattle.session_record.specs.record_bytes.Record.{recordAfter, recordListed}
 use Rattle.spec_session.specs.origin_calls.Bytes.{CauseCall, typeCauses, typesCauses}
-use Rattle.session_requests.specs.declared.origin_requests.Explained.{Explained}
-use Rattle.session_requests.specs.origin_requests.Explained.{explainedOf}
-use Rattle.session_requests.specs.origin_lists.Several.{listCausesCall}
+use Rattle.session_requests.specs.declared.options.Ended.{Ended}
+use Rattle.session_requests.specs.options.Requests.{explainedOf}
+use Rattle.spec_session.specs.origin_calls.Several.{listCausesCall}
 use Rattle.spec_c_calls.specs.Exports.{answeredBy}
-use Rattle.btfdump_c.specs.exported.Causes.{causesExportOf, answeredCauses, typeCausesExport, typesCausesExport, listedCauses, listCausesExport}
+use Rattle.spec_c_calls.specs.Causes.{causesExportOf, answeredCauses, typeCausesExport, typesCausesExport, listedCauses, listCausesExport}
 
 module _ (r section w t l : List ℕ) where
   module _ (h : length r < 128) where
@@ -28,7 +28,7 @@ module _ (r section w t l : List ℕ) where
     unfolding typesCausesExport
     types-short = sym (rw (lt-ltb (length r) 128 h, typesCausesExport))
 
-  module _ (h : 128 ≤ length r) (s : Session) (es : s ≡ decoded r) (d : Explained) (w′ t′ l′ : List ℕ) (u : ℕ) (r′ : List ℕ) where
+  module _ (h : 128 ≤ length r) (s : Session) (es : s ≡ decoded r) (d : Ended) (w′ t′ l′ : List ℕ) (u : ℕ) (r′ : List ℕ) where
     tells : (a : CauseCall) → explainedOf d w′ t′ l′ ≡ a → (u ≡ packed (d .turn .answer)) × (r′ ≡ recordAfter (d .turn .answer) (d .turn .session .visits) r) → causesExportOf u r′ w′ t′ (d .count) l′ ≡ answeredCauses r a
     unfolding causesExportOf answeredCauses answeredBy explainedOf callOf
     tells a e eu = (λ i. causesExportOf (eu .0 i) (eu .1 i) w′ t′ (d .count) l′) ∙ ap (answeredCauses r) e
@@ -52,7 +52,7 @@ module _ (r section w t ids l : List ℕ) where
     unfolding listCausesExport
     list-short h = sym (ap (λ (xs : List ℕ). listCausesExport r section w t xs l) (ids-some ids some) ∙ rw (lt-ltb (length r) 128 h, listCausesExport))
 
-    pub list-is : 128 ≤ length r → (s : Session) → s ≡ decoded r → (d : Explained) (w′ t′ l′ : List ℕ) (u : ℕ) (r′ : List ℕ) → explainedOf d w′ t′ l′ ≡ listCausesCall s section w t (idsIn ids) l
+    pub list-is : 128 ≤ length r → (s : Session) → s ≡ decoded r → (d : Ended) (w′ t′ l′ : List ℕ) (u : ℕ) (r′ : List ℕ) → explainedOf d w′ t′ l′ ≡ listCausesCall s section w t (idsIn ids) l
         → (u ≡ packed (d .turn .answer)) × (r′ ≡ recordListed (numberOf (d .turn .answer)) (valueOf (d .turn .answer)) (d .turn .session .«text_len») (d .turn .session .visits) r)
         → causesExportOf u r′ w′ t′ (d .count) l′ ≡ listCausesExport r section w t (idsIn ids) l
     unfolding causesExportOf listedCauses listCausesExport explainedOf callOf

@@ -1,7 +1,12 @@
 // Requests under a ceiling on the calls of the ordering rule, for C. How many were made is stored in `made`.
-use crate::calls::c_dump_list_within;
-use crate::calls::c_dump_type_within;
-use crate::calls::c_dump_types_within;
+use session_record::record_bytes::answered;
+use session_record::record_bytes::listed;
+use session_record::record_words::ANSWER_CLOSED;
+use session_record::record_words::RECORD_BYTES;
+use session_record::record_words::decode;
+use session_requests::requests::dump_list_within;
+use session_requests::requests::dump_type_within;
+use session_requests::requests::dump_types_within;
 ghost use mathlib.Core.Path.{_≡_};
 ghost use Rattle.spec_c_calls.specs.Ceilings.{withinExportOf, typeWithinExport, typesWithinExport, listWithinExport};
 ghost use Rattle.spec_session.specs.calls.Lists.{idsIn};
@@ -19,7 +24,13 @@ pub extern "C" fn btfdump_dump_type_within(
     ensures { λ r. ⌜ withinExportOf r (now («record» .exit)) (now (work .exit)) (now (text .exit)) (now (made .exit))
         ≡ typeWithinExport ceiling (now («record» .entry)) (now (section .entry)) (now (work .entry)) (now (text .entry)) id ⌝ }
 {
-    c_dump_type_within(record, section, work, text, id, ceiling, made)
+    if record.len() < RECORD_BYTES {
+        *made = 0;
+        return ANSWER_CLOSED;
+    }
+    let d = dump_type_within(decode(record), section, work, text, id, ceiling);
+    *made = d.made;
+    answered(record, d.turn)
 }
 
 #[no_mangle]
@@ -34,7 +45,13 @@ pub extern "C" fn btfdump_dump_types_within(
     ensures { λ r. ⌜ withinExportOf r (now («record» .exit)) (now (work .exit)) (now (text .exit)) (now (made .exit))
         ≡ typesWithinExport ceiling (now («record» .entry)) (now (section .entry)) (now (work .entry)) (now (text .entry)) ⌝ }
 {
-    c_dump_types_within(record, section, work, text, ceiling, made)
+    if record.len() < RECORD_BYTES {
+        *made = 0;
+        return ANSWER_CLOSED;
+    }
+    let d = dump_types_within(decode(record), section, work, text, ceiling);
+    *made = d.made;
+    answered(record, d.turn)
 }
 
 #[no_mangle]
@@ -51,5 +68,15 @@ pub extern "C" fn btfdump_dump_list_within(
         ≡ listWithinExport ceiling (now («record» .entry)) (now (section .entry)) (now (work .entry)) (now (text .entry))
         (idsIn (now (ids .entry))) ⌝ }
 {
-    c_dump_list_within(record, section, work, text, ids, ceiling, made)
+    if ids.len() < 4 {
+        *made = 0;
+        return 0;
+    }
+    if record.len() < RECORD_BYTES {
+        *made = 0;
+        return ANSWER_CLOSED;
+    }
+    let d = dump_list_within(decode(record), section, work, text, ids, ceiling);
+    *made = d.made;
+    listed(record, d.turn)
 }

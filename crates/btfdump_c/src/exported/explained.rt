@@ -4,11 +4,11 @@ use session_record::record_bytes::listed;
 use session_record::record_words::ANSWER_CLOSED;
 use session_record::record_words::RECORD_BYTES;
 use session_record::record_words::decode;
-use session_requests::origin_lists::dump_list_causes;
-use session_requests::origin_requests::dump_type_causes;
-use session_requests::origin_requests::dump_types_causes;
+use session_requests::requests::dump_list_causes;
+use session_requests::requests::dump_type_causes;
+use session_requests::requests::dump_types_causes;
 ghost use mathlib.Core.Path.{_≡_};
-ghost use Rattle.btfdump_c.specs.exported.Causes.{causesExportOf, typeCausesExport, typesCausesExport, listCausesExport};
+ghost use Rattle.spec_c_calls.specs.Causes.{causesExportOf, typeCausesExport, typesCausesExport, listCausesExport};
 ghost use Rattle.spec_session.specs.calls.Lists.{idsIn};
 
 #[no_mangle]

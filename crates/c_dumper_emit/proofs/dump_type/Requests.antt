@@ -1,14 +1,14 @@
--- Laws of a request: ordering beside a text, and requests that have nothing to do. Assumes nothing.
+-- Laws of a request: ordering, the listed ids, the emptied list; and requests that have nothing to do. Assumes nothing.
 use Prim.Native.Nat.{ℕ, zero, suc, _+_, _-_, _<_, _≤_}
 use mathlib.Core.Path.{_≡_, refl, ap, _∙_, sym, subst}
 use mathlib.Core.List.{List, []}
 use mathlib.Core.Bool.{Bool, true, false, _||_, true≢false}
 use mathlib.Core.Logic.{_⊎_, inl, inr, ⊎-elim}
 use native.Mathlib.Omega.{arith}
+use lib.ListN.{length}
 use lib.Dec.{eqb, ltb}
-use borrow.Author.Tests.{ne-eqb, le-leb, lt-leb}
-use Rattle.spec_bytes.proofs.words.Laws.{le-or-lt}
-use Rattle.spec_bytes.specs.text.Text.{cut, bytes, putOut, written, putText}
+use borrow.Author.Tests.{ne-eqb}
+use Rattle.spec_bytes.specs.text.Text.{cut, bytes, stopped, putOut, written, putText}
 use Rattle.spec_bytes.proofs.text.TextLaws.{put-fits, stays}
 use Rattle.spec_c_dumper.specs.rules.Order.{Table, Node, ignored, plain, listed, through, ptr, tdef, proto, comp, Mark, new, busy, done, Res, ok, refused, fresh, visit, order}
 use Rattle.spec_c_dumper.specs.rules.Machine.{Out, wrote, stuck, Machine, obind, eeach, emit, Sess, Answer, shut, emitted, ordered, ordering, gate, single}
@@ -19,22 +19,26 @@ use Rattle.spec_type_table.specs.Cells.{getField}
 use Rattle.spec_type_table.specs.Records.{kindOf, recordById}
 use Rattle.spec_type_table.specs.Table.{from, typeOf, btfOf}
 use Rattle.spec_type_table.proofs.KindLaws.{by-kind, type-0, type-1, type-2, type-3, type-4, type-5, type-6, type-7, type-8, type-9, type-10, type-11, type-12, type-13, type-14, type-15, type-16, type-17, type-18, type-19, type-none}
-use Rattle.spec_c_dumper.specs.ceiling.Ceiling.{Limit, unbounded, most, Told, halted, callsMade, thenBind}
+use Rattle.spec_c_dumper.specs.ceiling.Ceiling.{Limit, unbounded, most, Told, told, halted, callsMade, thenBind}
 use Rattle.spec_c_dumper.proofs.ceiling.Counted.{tell, within, passes}
 use Rattle.spec_c_dumper.proofs.ceiling.Plain.{unbounded-is}
 use Rattle.c_dumper_dependency_order.specs.declared.order_state.Order.{Order}
 use Rattle.c_dumper_dependency_order.specs.order_state.Work.{Marks, markOf, workStore, tableIn}
 use Rattle.c_dumper_dependency_order.specs.begin.Start.{limitOf, limitBy}
-use Rattle.c_dumper_dependency_order.specs.declared.leaders.Way.{Way}
-use Rattle.c_dumper_dependency_order.specs.leaders.Leads.{MarksAndLeaders, orderKept, keptOut}
+use Rattle.c_dumper_dependency_order.specs.leaders.Leads.{MarksAndLeaders, orderKept, keptOut, entryIn}
 use Rattle.c_dumper_dependency_order.proofs.order_state.Laws.{is-done, is-busy, is-new, node-at}
-use Rattle.c_dumper_dependency_order.proofs.order_type.Laws.{keptOf, going, stops, by-stop, run, stays-run, called-stays}
+use Rattle.c_dumper_dependency_order.proofs.order_type.Laws as kept
 use Rattle.c_dumper_dependency_order.proofs.leaders.Maps.{forget-kept}
-use Rattle.spec_session.specs.metered.Metered.{orderedIn, besideOf, dumpedMetered, callsIn, dumpedWithin}
-use Rattle.spec_session.specs.emission.Sheet.{Sheet, marksIn, withMarks, sheetStore, emptied, emitOut, workMachine, emitIn, isIgnored, isIdle}
+use Rattle.spec_session.specs.metered.Metered.{orderedIn, besideOf, dumpedMetered, callsIn}
+use Rattle.spec_session.specs.emission.Sheet.{Sheet, marksIn, withMarks, sheetStore, emptied, workMachine, isIgnored, isIdle}
 use Rattle.spec_c_dumper.specs.rules.Request.{listedOut, dumped}
+use Rattle.spec_c_dumper.specs.origins.Causes.{Noted}
 use Rattle.spec_c_dumper.proofs.rules.Maps.{rmap, tmap, StoreMap, map-order}
-use Rattle.spec_session.proofs.emission.Laws.{sheet, goes, halts, by-out, obind-then, at-sheet}
+use Rattle.spec_session.proofs.emission.Laws.{sheet, by-out}
+use Rattle.c_dumper_emit.specs.declared.entries.Pen.{Pen}
+use Rattle.c_dumper_emit.specs.entries.Noted.{Lent, notedOut, emitN}
+use Rattle.c_dumper_emit.proofs.entries.Laws.{paper, goes, halts, obind-then}
+use Rattle.c_dumper_emit.specs.dump_type.Kept.{wayTo, Beside, withLeads, orderedKept, eachKept, listedKept, dumpedKept}
 
 -- ---- ordering beside a text: what the store in the work gives, and the text as it was
 module _ (t : List ℕ) (at : ℕ) where
@@ -51,170 +55,163 @@ module _ (t : List ℕ) (at : ℕ) where
   pub lift-order : (n : ℕ) (T : Table) (k : Marks) (x : ℕ) (weak : Bool) → order sheetStore n T (beside k) x weak ≡ lifted (order workStore n T k x weak)
   lift-order n T k x weak = map-order workStore sheetStore beside beside-map n T k x weak
 
-store-list : (b : TypeTable) (B : Rules) (m : Sheet) → sheetStore .list m ≡ workMachine b B .store .list m
-unfolding workMachine
-store-list b B m = refl
-
--- ---- dump_metered
+-- ---- dump_type
 abbrev start : ℕ → Order
 start made = record { made = made; len = 0; stop = 0; «is_strong» = false }
 
--- what ordering says of the work alone
-abbrev said : Order → List ℕ → List ℕ → Told Marks
-said o w l = tmap (λ (k : MarksAndLeaders). k .marks) (keptOut o w l)
+module _ (b : TypeTable) (s : List ℕ) (lim : Limit) (w : List ℕ) (id turn made : ℕ) (o : Order) (w₁ l₁ l₀ : List ℕ)
+    (e : keptOut o w₁ l₁ ≡ thenBind (keptOut (start made) w l₀) (λ m _ j. orderKept lim (wayTo id turn) 512 (tableIn b s w) m id false j)) where
+  ran : keptOut o w₁ l₁ ≡ orderKept lim (wayTo id turn) 512 (tableIn b s w) (kept.keptOf (start made) w l₀) id false made
+  ran = e ∙ kept.run (start made) w l₀ (λ m _ j. orderKept lim (wayTo id turn) 512 (tableIn b s w) m id false j) refl
 
-module _ (b : TypeTable) (s w : List ℕ) (id made : ℕ) (lim : Limit) (v : Way) (o : Order) (w₁ l₀ l₁ : List ℕ)
-    (e : keptOut o w₁ l₁ ≡ thenBind (keptOut (start made) w l₀) (λ m _ j. orderKept lim v 512 (tableIn b s w) m id false j)) where
-  ordered-is : said o w₁ l₁ ≡ orderedIn (btfOf b s w) lim (record { work = w; len = 0 }) id made
-  ordered-is =
-      ap (tmap (λ (k : MarksAndLeaders). k .marks)) (e ∙ run (start made) w l₀ (λ m _ j. orderKept lim v 512 (tableIn b s w) m id false j) refl)
-      ∙ sym (forget-kept lim v 512 (tableIn b s w) (keptOf (start made) w l₀) id false made)
+  -- the calls made: what ordering says of the work alone
+  abbrev marks-of : MarksAndLeaders → Marks
+  marks-of k = k .marks
 
-  counted : callsMade (said o w₁ l₁) ≡ o .made
+  counted : callsMade (tmap marks-of (keptOut o w₁ l₁)) ≡ o .made
   unfolding callsMade
-  counted = by-stop _ o (λ z. ap (λ (q : Told MarksAndLeaders). callsMade (tmap (λ (k : MarksAndLeaders). k .marks) q)) (going o w₁ l₁ z)) (λ n. ap (λ (q : Told MarksAndLeaders). callsMade (tmap (λ (k : MarksAndLeaders). k .marks) q)) (stops o w₁ l₁ n))
+  counted = kept.by-stop _ o (λ z. ap (λ (q : Told MarksAndLeaders). callsMade (tmap marks-of q)) (kept.going o w₁ l₁ z)) (λ n. ap (λ (q : Told MarksAndLeaders). callsMade (tmap marks-of q)) (kept.stops o w₁ l₁ n))
 
-  -- the calls made
   pub made-is : o .made ≡ callsMade (orderedIn (btfOf b s w) lim (record { work = w; len = 0 }) id made)
-  made-is = sym counted ∙ ap callsMade ordered-is
+  made-is = sym counted ∙ ap callsMade (ap (tmap marks-of) ran ∙ sym (forget-kept lim (wayTo id turn) 512 (tableIn b s w) (kept.keptOf (start made) w l₀) id false made))
 
-module _ (b : TypeTable) (s : List ℕ) (at : ℕ) (tx w : List ℕ) (id made : ℕ) (lim : Limit) (v : Way) (o : Order) (w₁ l₀ l₁ : List ℕ)
-    (e : keptOut o w₁ l₁ ≡ thenBind (keptOut (start made) w l₀) (λ m _ j. orderKept lim v 512 (tableIn b s w) m id false j)) where
+module _ (b : TypeTable) (s : List ℕ) (lent : Lent) (lim : Limit) (p : Pen) (tx w li : List ℕ) (id turn made : ℕ) (o : Order) (w₁ l₁ l₀ : List ℕ)
+    (e : keptOut o w₁ l₁ ≡ thenBind (keptOut (start made) w l₀) (λ m _ j. orderKept lim (wayTo id turn) 512 (tableIn b s w) m id false j)) where
   abbrev X : Rules
   X = btfOf b s w
 
-  dumped-is : dumpedMetered b X lim (sheet 0 at tx w) id made ≡ listedOut (workMachine b X) (tableOf X) (besideOf (sheet 0 at tx w) (said o w₁ l₁))
-  unfolding dumpedMetered
-  dumped-is = ap (λ (t : Told Marks). listedOut (workMachine b X) (tableOf X) (besideOf (sheet 0 at tx w) t)) (sym (ordered-is b s w id made lim v o w₁ l₀ l₁ e))
+  order-is : keptOut o w₁ l₁ ≡ orderedKept X lim (sheet 0 (p .at) tx w) l₀ id turn made
+  unfolding orderedKept
+  order-is = ran b s lim w id turn made o w₁ l₁ l₀ e
 
-  pub dump-refused : (o .stop ≡ 0 → ⊥) → (r : ℕ) → putOut r tx ≡ putText tx at (cut [] (o .stop)) → emitOut 0 r tx w₁ ≡ obind (emitOut 0 at tx w) (λ m. dumpedMetered b X lim m id made)
-  unfolding obind written bytes listedOut besideOf
-  dump-refused n r er = by-out _ at tx
-      (λ l. halts 0 r tx w₁ (o .stop) (er ∙ put-fits tx at (cut [] (o .stop)) (omega arith))
-      ∙ sym (ap (λ (q : Out Sheet). obind q (λ m. dumpedMetered b X lim m id made)) (goes 0 at tx w l) ∙ dumped-is
-      ∙ ap (λ (q : Told MarksAndLeaders). listedOut (workMachine b X) (tableOf X) (besideOf (sheet 0 at tx w) (tmap (λ (k : MarksAndLeaders). k .marks) q))) (stops o w₁ l₁ n)))
-      (λ c q. halts 0 r tx w₁ c (er ∙ stays tx at c (cut [] (o .stop)) q) ∙ sym (ap (λ (q : Out Sheet). obind q (λ m. dumpedMetered b X lim m id made)) (halts 0 at tx w c q)))
+  abbrev dumps : Beside → Out Beside
+  dumps m = dumpedKept b X lent lim m id turn made
+
+  abbrev begun : Beside
+  begun = record { noted = paper 0 p tx w li; leads = l₀ }
+
+  dumped-is : dumps begun ≡ listedKept b X lent id turn (paper 0 p tx w li) (keptOut o w₁ l₁)
+  unfolding dumpedKept
+  dumped-is = ap (listedKept b X lent id turn (paper 0 p tx w li)) (sym order-is)
+
+  run : (k : Beside → Out Beside) → p .at ≤ length tx → obind (withLeads l₀ (notedOut 0 p tx w li)) k ≡ k begun
+  unfolding obind withLeads
+  run k h = ap (λ (q : Out (Noted Sheet)). obind (withLeads l₀ q) k) (goes 0 p tx w li h)
+
+  halt : (k : Beside → Out Beside) (c : ℕ) → putOut (p .at) tx ≡ stopped c → obind (withLeads l₀ (notedOut 0 p tx w li)) k ≡ stuck c
+  unfolding obind withLeads
+  halt k c q = ap (λ (u : Out (Noted Sheet)). obind (withLeads l₀ u) k) (halts 0 p tx w li c q)
+
+  stuck-with : (l : List ℕ) (c : ℕ) (u : Out (Noted Sheet)) → u ≡ stuck c → withLeads l u ≡ stuck c
+  unfolding withLeads
+  stuck-with l c u q = ap (withLeads l) q
+
+  pub dump-refused : (o .stop ≡ 0 → ⊥) → (r : Pen) → putOut (r .at) tx ≡ putText tx (p .at) (cut [] (o .stop)) → withLeads l₁ (notedOut 0 r tx w₁ li) ≡ obind (withLeads l₀ (notedOut 0 p tx w li)) dumps
+  unfolding written bytes listedKept
+  dump-refused n r er = by-out _ (p .at) tx
+      (λ h. stuck-with l₁ (o .stop) (notedOut 0 r tx w₁ li) (halts 0 r tx w₁ li (o .stop) (er ∙ put-fits tx (p .at) (cut [] (o .stop)) (omega arith))) ∙ sym (run dumps h ∙ dumped-is ∙ ap (listedKept b X lent id turn (paper 0 p tx w li)) (kept.stops o w₁ l₁ n)))
+      (λ c q. stuck-with l₁ c (notedOut 0 r tx w₁ li) (halts 0 r tx w₁ li c (er ∙ stays tx (p .at) c (cut [] (o .stop)) q)) ∙ sym (halt dumps c q))
 
   module _ (z : o .stop ≡ 0) where
     -- ordering left the table
     table-is : btfOf b s w₁ ≡ X
-    table-is = stays-run b s o w₁ l₁ w (called-stays lim b s (start made) w l₀ o w₁ l₁ id 512 false v e) z
+    table-is = kept.stays-run b s o w₁ l₁ w (kept.called-stays lim b s (start made) w l₀ o w₁ l₁ id 512 false (wayTo id turn) e) z
+
+    last : Noted Sheet → Out (Noted Sheet)
+    last m = wrote (record { mach = workMachine b X .start 0 (m .mach); entries = m .entries })
 
     -- the list is empty again
-    cleared-sheet : (n r : ℕ) (t₂ w₂ w₃ : List ℕ) → w₃ ≡ emptied n w₂ → emitOut 0 r t₂ w₃ ≡ obind (emitOut n r t₂ w₂) (λ m. wrote (workMachine b X .start 0 m))
-    unfolding obind workMachine
-    cleared-sheet n r t₂ w₂ w₃ ew = by-out _ r t₂
-        (λ l. goes 0 r t₂ w₃ l ∙ ap (λ (u : List ℕ). wrote (sheet 0 r t₂ u)) ew ∙ sym (ap (λ (q : Out Sheet). obind q (λ m. wrote (workMachine b X .start 0 m))) (goes n r t₂ w₂ l)))
-        (λ c q. halts 0 r t₂ w₃ c q ∙ sym (ap (λ (u : Out Sheet). obind u (λ m. wrote (workMachine b X .start 0 m))) (halts n r t₂ w₂ c q)))
+    cleared-sheet : (n : ℕ) (r : Pen) (t₂ w₂ l₂ w₃ : List ℕ) → w₃ ≡ emptied n w₂ → notedOut 0 r t₂ w₃ l₂ ≡ obind (notedOut n r t₂ w₂ l₂) last
+    unfolding obind workMachine last
+    cleared-sheet n r t₂ w₂ l₂ w₃ ew = by-out _ (r .at) t₂
+        (λ h. goes 0 r t₂ w₃ l₂ h ∙ ap (λ (u : List ℕ). wrote (paper 0 r t₂ u l₂)) ew ∙ sym (ap (λ (q : Out (Noted Sheet)). obind q last) (goes n r t₂ w₂ l₂ h)))
+        (λ c q. halts 0 r t₂ w₃ l₂ c q ∙ sym (ap (λ (u : Out (Noted Sheet)). obind u last) (halts n r t₂ w₂ l₂ c q)))
 
-    pub dump-listed : (r : ℕ) (t₂ w₂ : List ℕ) → emitOut (o .len) r t₂ w₂ ≡ obind (emitOut (o .len) at tx w₁) (λ m. eeach (emitIn b (btfOf b s w₁) 512 0) (sheetStore .list m) m)
-        → (w₃ : List ℕ) → w₃ ≡ emptied (o .len) w₂ → emitOut 0 r t₂ w₃ ≡ obind (emitOut 0 at tx w) (λ m. dumpedMetered b X lim m id made)
-    unfolding obind listedOut emitIn besideOf
-    dump-listed r t₂ w₂ e₂ w₃ e₃ =
-        cleared-sheet (o .len) r t₂ w₂ w₃ e₃
-        ∙ ap (λ (q : Out Sheet). obind q last) (e₂ ∙ ap (λ (Q : Rules). obind (emitOut (o .len) at tx w₁) (λ m. eeach (emitIn b Q 512 0) (sheetStore .list m) m)) table-is)
-        ∙ obind-then (emitOut (o .len) at tx w₁) (λ m. eeach (emitIn b X 512 0) (sheetStore .list m) m) last
-        ∙ by-out _ at tx
-        (λ l. ap (λ (q : Out Sheet). obind q all) (goes (o .len) at tx w₁ l)
-        ∙ listed-all
-        ∙ sym (ap (λ (q : Out Sheet). obind q (λ m. dumpedMetered b X lim m id made)) (goes 0 at tx w l) ∙ dumped-is
-        ∙ ap (λ (q : Told MarksAndLeaders). listedOut (workMachine b X) (tableOf X) (besideOf (sheet 0 at tx w) (tmap (λ (k : MarksAndLeaders). k .marks) q))) (going o w₁ l₁ z)))
-        (λ c q. ap (λ (u : Out Sheet). obind u all) (halts (o .len) at tx w₁ c q) ∙ sym (ap (λ (u : Out Sheet). obind u (λ m. dumpedMetered b X lim m id made)) (halts 0 at tx w c q)))
+    pub dump-listed : (r : Pen) (t₂ w₂ l₂ : List ℕ) → notedOut (o .len) r t₂ w₂ l₂ ≡ obind (notedOut (o .len) p tx w₁ li) (λ m. eeach (emitN b (btfOf b s w₁) lent (entryIn id turn l₁) 512 0) (sheetStore .list (m .mach)) m)
+        → (w₃ : List ℕ) → w₃ ≡ emptied (o .len) w₂ → withLeads l₁ (notedOut 0 r t₂ w₃ l₂) ≡ obind (withLeads l₀ (notedOut 0 p tx w li)) dumps
+    unfolding obind listedKept eachKept last
+    dump-listed r t₂ w₂ l₂ e₂ w₃ e₃ =
+        ap (withLeads l₁) (cleared-sheet (o .len) r t₂ w₂ l₂ w₃ e₃
+        ∙ ap (λ (q : Out (Noted Sheet)). obind q last) (e₂ ∙ ap (λ (Q : Rules). obind (notedOut (o .len) p tx w₁ li) (λ m. eeach (emitN b Q lent (entryIn id turn l₁) 512 0) (sheetStore .list (m .mach)) m)) table-is)
+        ∙ obind-then (notedOut (o .len) p tx w₁ li) each last)
+        ∙ by-out _ (p .at) tx
+        (λ h. ap (λ (q : Out (Noted Sheet)). withLeads l₁ (obind q all)) (goes (o .len) p tx w₁ li h) ∙ sym (run dumps h ∙ dumped-is ∙ ap (listedKept b X lent id turn (paper 0 p tx w li)) (kept.going o w₁ l₁ z)))
+        (λ c q. stuck-with l₁ c (obind (notedOut (o .len) p tx w₁ li) all) (ap (λ (u : Out (Noted Sheet)). obind u all) (halts (o .len) p tx w₁ li c q)) ∙ sym (halt dumps c q))
       where
-        last : Sheet → Out Sheet
-        last m = wrote (workMachine b X .start 0 m)
+        each : Noted Sheet → Out (Noted Sheet)
+        each m = eeach (emitN b X lent (entryIn id turn l₁) 512 0) (sheetStore .list (m .mach)) m
 
-        all : Sheet → Out Sheet
-        all m = obind (eeach (emitIn b X 512 0) (sheetStore .list m) m) last
+        all : Noted Sheet → Out (Noted Sheet)
+        all m = obind (each m) last
 
-        listed-all : all (sheet (o .len) at tx w₁) ≡ listedOut (workMachine b X) (tableOf X) (ok (sheet (o .len) at tx w₁) (o .«is_strong»))
-        listed-all = ap (λ (l : List ℕ). obind (eeach (emitIn b X 512 0) l (sheet (o .len) at tx w₁)) last) (store-list b X (sheet (o .len) at tx w₁))
-
--- ---- dump_type: without a ceiling a request is the plain one
+-- ---- without a list: the plain request, and under a ceiling the plain one or 22
 beside-tell : (m : Sheet) (r : Res Marks) (j : ℕ) → besideOf m (tell r j) ≡ rmap (withMarks m) r
 unfolding besideOf tell
 beside-tell m (ok k f) j = refl
 beside-tell m (refused c) j = refl
 
-pub plain-is : (b : TypeTable) (B : Rules) (m : Sheet) (id made : ℕ) → dumpedMetered b B unbounded m id made ≡ dumped (workMachine b B) (tableOf B) m id
-unfolding dumpedMetered dumped workMachine
-plain-is b B m id made =
-    ap (listedOut (workMachine b B) (tableOf B))
-    (ap (besideOf m) (unbounded-is workStore 512 (tableOf B) (marksIn m) id false made) ∙ beside-tell m (order workStore 512 (tableOf B) (marksIn m) id false) made ∙ sym (lift-order (m .text) (m .at) 512 (tableOf B) (marksIn m) id false))
+tell-count : (r : Res Marks) (j : ℕ) → callsMade (tell r j) ≡ j
+unfolding callsMade tell
+tell-count (ok m f) j = refl
+tell-count (refused c) j = refl
 
-none-is : (n : ℕ) → limitOf (record { «is_set» = false; calls = n }) ≡ unbounded
+module _ (b : TypeTable) (B : Rules) (m : Sheet) (id made : ℕ) where
+  abbrev plain-rule : Res Marks
+  plain-rule = order workStore 512 (tableOf B) (marksIn m) id false
+
+  tell-is : (t : Told Marks) (j : ℕ) → t ≡ tell plain-rule j → listedOut (workMachine b B) (tableOf B) (besideOf m t) ≡ dumped (workMachine b B) (tableOf B) m id
+  unfolding dumped workMachine
+  tell-is t j e = ap (listedOut (workMachine b B) (tableOf B)) (ap (besideOf m) e ∙ beside-tell m plain-rule j ∙ sym (lift-order (m .text) (m .at) 512 (tableOf B) (marksIn m) id false))
+
+  -- nothing is counted
+  pub plain-is : dumpedMetered b B unbounded m id made ≡ dumped (workMachine b B) (tableOf B) m id
+  unfolding dumpedMetered
+  plain-is = tell-is _ made (unbounded-is workStore 512 (tableOf B) (marksIn m) id false made)
+
+pub plain-made : (B : Rules) (k : Marks) (id made : ℕ) → callsMade (orderedIn B unbounded k id made) ≡ made
+plain-made B k id made = ap callsMade (unbounded-is workStore 512 (tableOf B) k id false made) ∙ tell-count (order workStore 512 (tableOf B) k id false) made
+
+pub none-is : (is-set : Bool) (n : ℕ) → is-set ≡ false → limitBy is-set n ≡ unbounded
 unfolding limitBy
-none-is n = refl
+none-is is-set n e = ap (λ (q : Bool). limitBy q n) e
 
-most-is : (n : ℕ) → limitOf (record { «is_set» = true; calls = n }) ≡ most n
+pub most-is : (is-set : Bool) (n : ℕ) → is-set ≡ true → limitBy is-set n ≡ most n
 unfolding limitBy
-most-is n = refl
+most-is is-set n e = ap (λ (q : Bool). limitBy q n) e
 
-pub dump-plain : (b : TypeTable) (B : Rules) (o : Out Sheet) (id made n : ℕ) (x : Out Sheet) → x ≡ obind o (λ m. dumpedMetered b B (limitOf (record { «is_set» = false; calls = n })) m id made) → x ≡ obind o (λ m. dumped (workMachine b B) (tableOf B) m id)
-dump-plain b B o id made n x e = e ∙ ap (λ (c : Limit). obind o (λ m. dumpedMetered b B c m id made)) (none-is n) ∙ ap (obind o) (λ i m. plain-is b B m id made i)
-
--- ---- dump_type_within
-none-before : (m : ℕ) → 0 + m ≡ m
-none-before m = omega arith
-
-module _ (b : TypeTable) (s : List ℕ) (w : List ℕ) (id left : ℕ) where
+module _ (b : TypeTable) (s : List ℕ) (m : Sheet) (z : m .len ≡ 0) (id c made : ℕ) where
   abbrev opens : ℕ
-  opens = callsIn b s w id
+  opens = callsIn b s (m .work) id
 
-  abbrev marks : Marks
-  marks = record { work = w; len = 0 }
+  abbrev first : Marks
+  first = record { work = m .work; len = 0 }
 
-  plain-rule : Res Marks
-  plain-rule = order workStore 512 (tableIn b s w) marks id false
+  begins : marksIn m ≡ first
+  begins = λ i. record { work = m .work; len = z i }
 
-  rule-fits : opens ≤ left → orderedIn (btfOf b s w) (most left) marks id 0 ≡ tell plain-rule opens
-  unfolding callsIn plain-rule
-  rule-fits l =
-      within left workStore 512 (tableIn b s w) marks id false 0 (subst (λ (m : ℕ). m ≤ left) (sym (none-before opens)) l) ∙ ap (tell plain-rule) (none-before opens)
-
-  rule-over : left < opens → orderedIn (btfOf b s w) (most left) marks id 0 ≡ halted 22 left
+  rule-fits : made + opens ≤ c → orderedIn (btfOf b s (m .work)) (most c) first id made ≡ tell (order workStore 512 (tableIn b s (m .work)) first id false) (made + opens)
   unfolding callsIn
-  rule-over l = passes left workStore 512 (tableIn b s w) marks id false 0 (omega arith) (subst (λ (m : ℕ). left < m) (sym (none-before opens)) l)
+  rule-fits l = within c workStore 512 (tableIn b s (m .work)) first id false made l
 
-  tell-count : (r : Res Marks) (j : ℕ) → callsMade (tell r j) ≡ j
-  unfolding callsMade tell
-  tell-count (ok m f) j = refl
-  tell-count (refused c) j = refl
+  rule-over : made ≤ c → c < made + opens → orderedIn (btfOf b s (m .work)) (most c) first id made ≡ halted 22 c
+  unfolding callsIn
+  rule-over k l = passes c workStore 512 (tableIn b s (m .work)) first id false made k l
 
-  -- the calls made, by whether they fit
-  pub record Made (made : ℕ) : Type 0 where
-    pub at-most : made ≤ left
-    pub rest : left - made ≡ left - opens
+  pub fits-made : made + opens ≤ c → callsMade (orderedIn (btfOf b s (m .work)) (most c) first id made) ≡ made + opens
+  fits-made l = ap callsMade (rule-fits l) ∙ tell-count (order workStore 512 (tableIn b s (m .work)) first id false) (made + opens)
 
-  made-under : Made (callsMade (orderedIn (btfOf b s w) (most left) marks id 0))
+  pub over-made : made ≤ c → c < made + opens → callsMade (orderedIn (btfOf b s (m .work)) (most c) first id made) ≡ c
   unfolding callsMade
-  made-under =
-      ⊎-elim
-      (λ l. subst Made (sym (ap callsMade (rule-fits l) ∙ tell-count plain-rule opens)) (record { at-most = l; rest = refl }))
-      (λ l. subst Made (sym (ap callsMade (rule-over l))) (record { at-most = omega arith; rest = omega arith }))
-      (le-or-lt opens left)
+  over-made k l = ap callsMade (rule-over k l)
 
-  pub within-made : (made : ℕ) → made ≡ callsMade (orderedIn (btfOf b s w) (limitOf (record { «is_set» = true; calls = left })) marks id 0) → Made made
-  within-made made e = subst Made (sym (e ∙ ap (λ (c : Limit). callsMade (orderedIn (btfOf b s w) c marks id 0)) (most-is left))) made-under
+  pub fits-is : made + opens ≤ c → dumpedMetered b (btfOf b s (m .work)) (most c) m id made ≡ dumped (workMachine b (btfOf b s (m .work))) (tableIn b s (m .work)) m id
+  unfolding dumpedMetered
+  fits-is l = tell-is b (btfOf b s (m .work)) m id made (orderedIn (btfOf b s (m .work)) (most c) (marksIn m) id made) (made + opens)
+      (subst (λ (k : Marks). orderedIn (btfOf b s (m .work)) (most c) k id made ≡ tell (order workStore 512 (tableIn b s (m .work)) k id false) (made + opens)) (sym begins) (rule-fits l))
 
-  module _ (at : ℕ) (tx : List ℕ) where
-    sheet-fits : opens ≤ left → dumpedMetered b (btfOf b s w) (most left) (sheet 0 at tx w) id 0 ≡ dumpedWithin b (btfOf b s w) opens left (sheet 0 at tx w) id
-    unfolding dumpedMetered dumpedWithin dumped workMachine plain-rule
-    sheet-fits l =
-        ap (λ (t : Told Marks). listedOut (workMachine b (btfOf b s w)) (tableIn b s w) (besideOf (sheet 0 at tx w) t)) (rule-fits l)
-        ∙ ap (listedOut (workMachine b (btfOf b s w)) (tableIn b s w)) (beside-tell (sheet 0 at tx w) plain-rule opens ∙ sym (lift-order tx at 512 (tableIn b s w) marks id false))
-        ∙ sym (rw (le-leb opens left l, dumpedWithin))
-
-    sheet-over : left < opens → dumpedMetered b (btfOf b s w) (most left) (sheet 0 at tx w) id 0 ≡ dumpedWithin b (btfOf b s w) opens left (sheet 0 at tx w) id
-    unfolding dumpedMetered dumpedWithin besideOf listedOut
-    sheet-over l =
-        ap (λ (t : Told Marks). listedOut (workMachine b (btfOf b s w)) (tableIn b s w) (besideOf (sheet 0 at tx w) t)) (rule-over l)
-        ∙ sym (rw (lt-leb opens left l, dumpedWithin))
-
-    pub dump-within : (x : Out Sheet) → x ≡ obind (emitOut 0 at tx w) (λ m. dumpedMetered b (btfOf b s w) (limitOf (record { «is_set» = true; calls = left })) m id 0) → x ≡ obind (emitOut 0 at tx w) (λ m. dumpedWithin b (btfOf b s w) opens left m id)
-    dump-within x e =
-        e ∙ ap (λ (c : Limit). obind (emitOut 0 at tx w) (λ m. dumpedMetered b (btfOf b s w) c m id 0)) (most-is left)
-        ∙ at-sheet 0 at tx w (λ m. dumpedMetered b (btfOf b s w) (most left) m id 0) (λ m. dumpedWithin b (btfOf b s w) opens left m id) (λ h. ⊎-elim sheet-fits sheet-over (le-or-lt opens left))
+  pub over-is : made ≤ c → c < made + opens → dumpedMetered b (btfOf b s (m .work)) (most c) m id made ≡ stuck 22
+  unfolding dumpedMetered besideOf listedOut
+  over-is k l = ap (λ (t : Told Marks). listedOut (workMachine b (btfOf b s (m .work))) (tableIn b s (m .work)) (besideOf m t)) (ap (λ (n : Marks). orderedIn (btfOf b s (m .work)) (most c) n id made) begins ∙ rule-over k l)
 
 -- ---- is_idle
 ignored-is : ℕ → Bool

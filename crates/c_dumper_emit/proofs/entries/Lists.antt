@@ -7,11 +7,9 @@ use Rattle.spec_c_dumper.specs.rules.Machine.{Out, wrote, stuck, Machine, obind
 use Rattle.spec_c_dumper.specs.rules.Types.{Btf as Rules, tableOf}
 use Rattle.spec_c_dumper.proofs.rules.Maps.{omap, MachineMap, map-emit}
 use Rattle.spec_c_dumper.specs.origins.Causes.{Entry, Noted, withEntries, upTo, line, noting, emitNoted, showsIn, eachListed}
-use Rattle.spec_c_dumper.specs.origins.Claims.{forget}
 use Rattle.spec_type_table.specs.declared.types.TypeTable.{TypeTable}
-use Rattle.spec_session.specs.emission.Sheet.{Sheet, sheetStore, emitOut, workMachine, emitIn}
-use Rattle.c_dumper_emit.specs.declared.entries.Pen.{Pen}
-use Rattle.c_dumper_emit.specs.entries.Noted.{Lent, entriesOf, notedOut, machN, emitN}
+use Rattle.spec_session.specs.emission.Sheet.{Sheet, workMachine, emitIn}
+use Rattle.c_dumper_emit.specs.entries.Noted.{Lent, machN, emitN}
 
 module _ (b : TypeTable) (B : Rules) (room : ℕ) (why : ℕ → Entry) where
   -- ---- with a list
@@ -71,28 +69,14 @@ module _ (b : TypeTable) (B : Rules) (room : ℕ) (why : ℕ → Entry) where
   emit-plain left cont m x = emit-one left cont m x ∙ map-emit (workMachine b B) plainly (beside (m .entries)) (plain-map (m .entries)) (tableOf B) left (m .mach) x cont
       ∙ sym (with-is (m .entries) (emit (workMachine b B) (tableOf B) left (m .mach) x cont))
 
-  then-plain : (es : List Entry) (o : Out Sheet) (f : Noted Sheet → Out (Noted Sheet)) (g : Sheet → Out Sheet) → ((k : Sheet) → f (beside es k) ≡ withEntries es (g k)) → obind (withEntries es o) f ≡ withEntries es (obind o g)
+  pub then-plain : (es : List Entry) (o : Out Sheet) (f : Noted Sheet → Out (Noted Sheet)) (g : Sheet → Out Sheet) → ((k : Sheet) → f (beside es k) ≡ withEntries es (g k)) → obind (withEntries es o) f ≡ withEntries es (obind o g)
   unfolding withEntries obind
   then-plain es (wrote k) f g h = h k
   then-plain es (stuck c) f g h = refl
 
-  each-plain : (es : List Entry) (ys : List ℕ) (k : Sheet) → eeach (emitN b B none why 512 0) ys (beside es k) ≡ withEntries es (eeach (emitIn b B 512 0) ys k)
+  pub each-plain : (es : List Entry) (ys : List ℕ) (k : Sheet) → eeach (emitN b B none why 512 0) ys (beside es k) ≡ withEntries es (eeach (emitIn b B 512 0) ys k)
   unfolding eeach withEntries
   each-plain es [] k = refl
   each-plain es (y ∷ ys) k =
       ap (λ (o : Out (Noted Sheet)). obind o (eeach (emitN b B none why 512 0) ys)) (emit-plain 512 0 (beside es k) y)
       ∙ then-plain es (emitIn b B 512 0 k y) (eeach (emitN b B none why 512 0) ys) (eeach (emitIn b B 512 0) ys) (λ k′. each-plain es ys k′)
-
-  forget-with : (es : List Entry) (o : Out Sheet) → forget (withEntries es o) ≡ o
-  unfolding withEntries forget
-  forget-with es (wrote m) = refl
-  forget-with es (stuck c) = refl
-
-  pub listed-plain : (n : ℕ) (p r : Pen) (t w l t₁ w₁ l₁ : List ℕ) → notedOut n r t₁ w₁ l₁ ≡ obind (notedOut n p t w l) (λ m. eeach (emitN b B none why 512 0) (sheetStore .list (m .mach)) m)
-      → emitOut n (r .at) t₁ w₁ ≡ obind (emitOut n (p .at) t w) (λ m. eeach (emitIn b B 512 0) (sheetStore .list m) m)
-  unfolding notedOut
-  listed-plain n p r t w l t₁ w₁ l₁ e =
-      sym (forget-with (entriesOf (r .count) l₁) (emitOut n (r .at) t₁ w₁))
-      ∙ ap forget (e ∙ then-plain (entriesOf (p .count) l) (emitOut n (p .at) t w) (λ m. eeach (emitN b B none why 512 0) (sheetStore .list (m .mach)) m) (λ m. eeach (emitIn b B 512 0) (sheetStore .list m) m)
-      (λ k. each-plain (entriesOf (p .count) l) (sheetStore .list k) k))
-      ∙ forget-with (entriesOf (p .count) l) (obind (emitOut n (p .at) t w) (λ m. eeach (emitIn b B 512 0) (sheetStore .list m) m))

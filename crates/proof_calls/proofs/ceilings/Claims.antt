@@ -20,7 +20,7 @@ use Rattle.spec_session.proofs.calls.Claims.{type-not-current, types-not-curren
 use Rattle.spec_session.proofs.calls.Lists.{counted-stops}
 use Rattle.spec_session.specs.metered.Within.{CallWithin, typeCallWithin, typesCallWithin}
 use Rattle.spec_session.specs.metered.Lists.{listFromWithin, listCallWithin}
-use Rattle.spec_session.proofs.metered.ListLaws.{counted-stops as within-stops}
+use Rattle.spec_session.proofs.metered.Laws.{counted-stops as within-stops}
 use Rattle.spec_c_dumper.specs.needs.Needs.{MeetsTwice}
 use Rattle.spec_c_dumper.specs.needs.Lists.{Ls}
 use Rattle.spec_c_dumper.specs.needs.Session.{Known}

@@ -30,7 +30,7 @@ use Rattle.spec_session.specs.metered.Lists.{countedWithin, listFromWithin}
 use Rattle.spec_session.proofs.metered.Laws.{request-fits, request-over}
 use Rattle.spec_session.proofs.metered.Claims.{type-fits}
 use Rattle.spec_session.specs.metered.Fits.{FitsCeiling}
-use Rattle.spec_session.proofs.metered.ListLaws.{counted-goes, counted-stops}
+use Rattle.spec_session.proofs.metered.Laws.{counted-goes, counted-stops}
 use Rattle.spec_c_dumper.specs.needs.Lists.{Ls}
 use Rattle.spec_c_dumper.specs.needs.Session.{Known, textOf}
 use Rattle.proof_demands.specs.demands.Table.{headerOf, machineIn}

@@ -18,7 +18,7 @@ use Rattle.proof_demands.proofs.demands.Demands.{after-sound}
 use Rattle.proof_demands.proofs.demands.Session.{after-holds}
 use Rattle.spec_c_dumper.specs.origins.Causes.{upTo, showsIn, entriesIn, untold, singleNoted, listNoted, everyNoted, causesOf, oneCauses, listCauses, allCauses}
 use Rattle.spec_session.specs.origin_calls.Bytes.{typeCauses, typesCauses}
-use Rattle.session_requests.specs.origin_lists.Several.{listFromCauses, listCausesCall}
+use Rattle.spec_session.specs.origin_calls.Several.{listFromCauses, listCausesCall}
 use Rattle.proof_calls.specs.line_origins.Claims.{Agrees, oneRuled, allRuled, listRuled, Reasoned}
 use Rattle.proof_calls.proofs.line_origins.Calls.{Stepped, agrees, type-stepped, types-stepped}
 use Rattle.proof_calls.proofs.line_origins.Lists.{Went, list-went}

@@ -26,7 +26,7 @@ use Rattle.proof_demands.specs.demands.Session.{Holds}
 use Rattle.spec_c_dumper.specs.origins.Causes.{Entry, Led, orderLed, listedEntry, Noted, eachListed, upTo, showsIn, entriesIn, Explaining, dropped, emittedNoted, orderedNoted, gateNoted, singleNoted, onwardNoted, listNoted}
 use Rattle.spec_session.specs.origin_calls.Bytes.{CauseCall, typeCauses, CauseFits}
 use Rattle.spec_session.proofs.origin_calls.Bytes.{type-fits}
-use Rattle.session_requests.specs.origin_lists.Several.{front, goOn, listFromCauses}
+use Rattle.spec_session.specs.origin_calls.Several.{front, goOn, listFromCauses}
 use Rattle.proof_calls.proofs.line_origins.Listing.{Listing, leaves, listing-size, listing-then}
 use Rattle.proof_calls.proofs.line_origins.Calls.{Stepped, type-stepped}
 

@@ -17,7 +17,7 @@ use Rattle.spec_c_dumper.specs.origins.Claims.{Listed}
 use Rattle.spec_session.specs.origin_calls.Bytes.{CauseCall, typeCauses, CauseFits}
 use Rattle.spec_session.proofs.origin_calls.Bytes.{type-fits}
 use Rattle.spec_c_dumper.proofs.origins.Listed.{listed-fits, listed-both}
-use Rattle.session_requests.specs.origin_lists.Several.{front, goOn, listFromCauses, listCausesCall}
+use Rattle.spec_session.specs.origin_calls.Several.{front, goOn, listFromCauses, listCausesCall}
 use Rattle.proof_calls.proofs.list_fits.Entries.{quiet}
 
 -- the claim, and that a call that leaves the list alone has no entries

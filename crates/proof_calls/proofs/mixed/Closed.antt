@@ -11,7 +11,7 @@ use Rattle.spec_session.specs.session.Turns.{Call, callOf, unchanged, isCurrent
 use Rattle.spec_session.specs.calls.Calls.{typeCall, typesCall}
 use Rattle.spec_session.proofs.calls.Claims.{type-not-current, types-not-current, closed-stays}
 use Rattle.spec_session.specs.origin_calls.Bytes.{CauseCall, typeCauses, typesCauses}
-use Rattle.session_requests.specs.origin_lists.Several.{front, goOn, listFromCauses, listCausesCall}
+use Rattle.spec_session.specs.origin_calls.Several.{front, goOn, listFromCauses, listCausesCall}
 use Rattle.proof_calls.specs.ceilings.Ceilings.{none as unlimited, upTo}
 use Rattle.proof_calls.specs.ceilings.Claims.{elevenOf}
 use Rattle.proof_calls.proofs.ceilings.Claims.{type-shut as type-under, types-shut as types-under, list-shut as list-under}

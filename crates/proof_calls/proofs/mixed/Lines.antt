@@ -29,7 +29,7 @@ use Rattle.spec_c_dumper.proofs.origins.Requests.{single-fits, list-fits, every
 use Rattle.spec_c_dumper.proofs.origins.Numbered.{machine-numbered}
 use Rattle.spec_c_dumper.proofs.origins.Lines.{Told-grown, single-grown, list-grown, every-grown, text-append}
 use Rattle.proof_calls.proofs.origins.Calls.{void, still}
-use Rattle.session_requests.specs.origin_lists.Several.{listCausesCall}
+use Rattle.spec_session.specs.origin_calls.Several.{listCausesCall}
 use Rattle.proof_calls.specs.line_origins.Claims.{Agrees, Reasoned}
 use Rattle.proof_calls.proofs.line_origins.Claims.{calls-reasoned}
 use Rattle.proof_calls.specs.mixed.Claims.{Explains}

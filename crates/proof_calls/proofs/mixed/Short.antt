@@ -20,7 +20,7 @@ use Rattle.proof_demands.specs.demands.Demands.{Lent, typesIn, ruled}
 use Rattle.spec_c_dumper.specs.origins.Causes.{upTo, showsIn, entriesIn, Explaining, untold, singleNoted, listNoted, everyNoted, causesOf, allCauses}
 use Rattle.spec_session.specs.origin_calls.Bytes.{CauseCall, typeCauses, typesCauses}
 use Rattle.spec_c_dumper.proofs.origins.Numbered.{machine-numbered}
-use Rattle.session_requests.specs.origin_lists.Several.{listFromCauses, listCausesCall}
+use Rattle.spec_session.specs.origin_calls.Several.{listFromCauses, listCausesCall}
 use Rattle.proof_calls.specs.ceilings.Ceilings.{onesFrom}
 use Rattle.proof_calls.proofs.ceilings.Shut.{Shut}
 use Rattle.proof_calls.specs.line_origins.Claims.{allRuled}

@@ -1,6 +1,6 @@
 -- Demands 2 and 3 of document 01, said of the calls for C, where "the record too crosses as bytes": statements only. proofs/Claims.antt has
 -- the proof, of every section that opening for C accepts, every list of calls for C after it, and every text slice that a call is lent. It
--- assumes nothing. That the code returns and leaves what these exports say is in the contracts of `btfdump_c::calls`.
+-- assumes nothing. That the code returns and leaves what these exports say is in the contracts of `btfdump_c::exported`.
 use Prim.Native.Nat.{ℕ, suc, _+_, _-_, _*_, _/_, _%_, _<_, _≤_}
 use mathlib.Core.Path.{_≡_}
 use mathlib.Core.Bool.{Bool, true, false, _||_}

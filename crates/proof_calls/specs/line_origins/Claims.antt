@@ -16,7 +16,7 @@ use Rattle.proof_demands.specs.demands.Session.{After, Tells}
 use Rattle.proof_demands.specs.demands.Demands.{Lent, typesIn, ruled}
 use Rattle.spec_c_dumper.specs.origins.Causes.{showsIn, Causes, oneCauses, listCauses, allCauses}
 use Rattle.spec_session.specs.origin_calls.Bytes.{CauseCall, typeCauses, typesCauses}
-use Rattle.session_requests.specs.origin_lists.Several.{listCausesCall}
+use Rattle.spec_session.specs.origin_calls.Several.{listCausesCall}
 
 -- a call over lent bytes, and the call over the rules
 pub record Agrees (d : CauseCall) (t : Causes (Ls (Known Names))) : Type 0 where

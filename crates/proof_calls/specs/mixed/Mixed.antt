@@ -15,7 +15,7 @@ use Rattle.spec_session.specs.metered.Lists.{listCallWithin}
 use Rattle.proof_demands.specs.demands.Session.{singlesFor, made}
 use Rattle.proof_demands.specs.demands.Demands.{Lent, ruled}
 use Rattle.spec_session.specs.origin_calls.Bytes.{typeCauses, typesCauses}
-use Rattle.session_requests.specs.origin_lists.Several.{listCausesCall}
+use Rattle.spec_session.specs.origin_calls.Several.{listCausesCall}
 use Rattle.proof_calls.specs.ceilings.Ceilings.{acceptedOf, onesFrom}
 use Rattle.proof_calls.specs.line_origins.Claims.{allRuled}
 

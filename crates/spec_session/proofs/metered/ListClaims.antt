@@ -15,7 +15,7 @@ use Rattle.spec_session.specs.metered.Within.{CallWithin, typeCallWithin
 use Rattle.spec_session.specs.metered.Lists.{countedWithin, listFromWithin, listCallWithin}
 use Rattle.spec_session.proofs.metered.Claims.{type-fits}
 use Rattle.spec_session.specs.metered.Fits.{FitsCeiling}
-use Rattle.spec_session.proofs.metered.ListLaws.{counted-goes, counted-stops}
+use Rattle.spec_session.proofs.metered.Laws.{counted-goes, counted-stops}
 
 not-zero : (m : ℕ) → suc m ≡ 0 → ⊥
 not-zero m e = absurd (omega arith)

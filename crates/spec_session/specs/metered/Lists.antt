@@ -6,8 +6,6 @@ use mathlib.Core.List.{List, [], _∷_}
 use Rattle.spec_session.specs.declared.session.Session.{Session}
 use Rattle.spec_session.specs.session.Answers.{numberOf, answerOf}
 use Rattle.spec_session.specs.session.Turns.{callOf}
-use Rattle.spec_session.specs.calls.Lists.{listEnd}
-use Rattle.spec_session.specs.declared.metered.Tallied.{Tallied}
 use Rattle.spec_session.specs.metered.Within.{CallWithin, typeCallWithin}
 
 -- after n accepted ids, the call for the next: the list goes on from it, or is stopped by its number
@@ -25,7 +23,3 @@ listFromWithin c n s section work text (id ∷ ids) k =
 
 unfoldable pub listCallWithin : ℕ → Session → List ℕ → List ℕ → List ℕ → List ℕ → CallWithin
 listCallWithin c s section work text ids = listFromWithin c 0 s section work text ids 0
-
--- the end of the code's way
-unfoldable pub endWithin : Session → Tallied → List ℕ → List ℕ → CallWithin
-endWithin s r w t = record { call = listEnd s (r .tally) w t; made = r .made }

@@ -8,21 +8,14 @@ use lib.Dec.{leb, ltb}
 use Rattle.spec_type_table.specs.declared.types.TypeTable.{TypeTable}
 use Rattle.spec_session.specs.metered.Metered.{callsIn}
 use Rattle.spec_session.specs.declared.session.Session.{Session}
-use Rattle.spec_session.specs.session.Turns.{Call, callOf, isCurrent, tableFor, Reach, reached, refusedBy, visitsIn, reachOf, settled}
-use Rattle.spec_session.specs.session.Turns.{unchanged}
+use Rattle.spec_session.specs.session.Turns.{Call, isCurrent, tableFor, Reach, reached, refusedBy, visitsIn, settled, unchanged}
 use Rattle.spec_session.specs.calls.Refusals.{notCurrent, idNotBelow, refusal}
 use Rattle.spec_session.specs.calls.Calls.{requested}
-use Rattle.spec_session.specs.declared.metered.Counted.{Counted}
-use Rattle.spec_session.specs.declared.metered.Metered.{Metered}
 
 -- where the requests of a call have come to, and the calls made
 pub record Within : Type 0 where
   pub reach : Reach
   pub made : ℕ
-
--- what the code's struct says, with the slices at that moment
-unfoldable pub withinOf : Metered → List ℕ → List ℕ → Within
-withinOf r w t = record { reach = reachOf (r .reached) w t; made = r .made }
 
 -- One request: the plain one, where the calls that it opens fit, and else "22 when one more call would pass the ceiling".
 unfoldable pub requestedWithin : ℕ → TypeTable → List ℕ → ℕ → ℕ → ℕ → List ℕ → List ℕ → ℕ → Within
@@ -48,9 +41,6 @@ requestedFromWithin c b s (suc n) id len w t k =
 pub record CallWithin : Type 0 where
   pub call : Call
   pub made : ℕ
-
-unfoldable pub countedOf : Counted → List ℕ → List ℕ → CallWithin
-countedOf r w t = record { call = callOf (r .turn .session) (r .turn .answer) w t; made = r .made }
 
 -- 22 "closes the session as 12 does"
 unfoldable pub settledWithin : Session → ℕ → ℕ → Within → CallWithin

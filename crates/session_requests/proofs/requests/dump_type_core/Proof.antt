@@ -1,54 +1,41 @@
-use mathlib.Core.Path.{_∙_}
-use Rattle.spec_session.proofs.session.Laws as ends
-use Rattle.spec_session.proofs.calls.Laws as laws
+use Rattle.session_requests.proofs.options.Cases as cases
+use borrow.Author.Needs.{needs}
 use Rattle.session_requests.proofs.requests.dump_type_core.Statement.{statement}
 use Rattle.session_requests.proofs.requests.dump_type_core.Tie as tie
+use Rattle.session_requests.proofs.requests.dump_type_core.Reads as reads
+use Rattle.session_requests.proofs.requests.dump_type_core.Lts as lts
+use Rattle.session_requests.proofs.requests.options_of.Reads as options-of-reads
+use Rattle.session_requests.proofs.requests.request_type.Reads as request-type-reads
 
-is-current-requires : tie.Need-is-current-requires
-is-current-requires c κs = tt
+options-of-requires : tie.Need-options-of-requires
+options-of-requires c κs = search needs
 
-turn-of-requires : tie.Need-turn-of-requires
-turn-of-requires c κs = tt
+slice-aggregate-request-type : tie.Need-slice-aggregate-request-type
+slice-aggregate-request-type c = search needs
 
-returns : tie.Need-returns
-returns c = laws.type-11 _ _ _ _ _ (c .before .before .is-current .ensures) (c .before .if1 .taken) _ (c .turn-of .ensures) _
+slice-aggregate-request-type-2 : tie.Need-slice-aggregate-request-type-2
+slice-aggregate-request-type-2 c = search needs
 
-turn-of-requires-2 : tie.Need-turn-of-requires-2
-turn-of-requires-2 c κs = tt
-
-returns-2 : tie.Need-returns-2
-returns-2 c = laws.type-10 _ _ _ _ _ (c .before .before .before .before .is-current .ensures) (c .before .before .before .if1 .left) _ (c .before .if2 .taken) _ (c .turn-of2 .ensures)
-
-btf-of-requires : tie.Need-btf-of-requires
-btf-of-requires c κs = tt
-
-dump-one-requires : tie.Need-dump-one-requires
-dump-one-requires c κs = ends.current-fits _ _ _ _ _ (c .before .before .before .before .before .before .is-current .ensures) (c .before .before .before .before .before .if1 .left)
-
-settle-requires : tie.Need-settle-requires
-settle-requires c κs = tt
+request-type-requires : tie.Need-request-type-requires
+request-type-requires c κs = cases.unlisted-asks _ _ _ (c .before .before .before .before .options-of .ensures)
 
 same-length : tie.Need-same-length
-same-length c = c .before .before .before .before .settle .kept .1 .0 ∙ c .before .before .before .before .before .before .before .before .before .before .before .dump-one .kept .1 .1 .0
+same-length c = search needs
 
 same-length-2 : tie.Need-same-length-2
-same-length-2 c = c .before .before .before .before .settle .kept .1 .1 .0 ∙ c .before .before .before .before .before .before .before .before .before .before .before .dump-one .kept .1 .1 .1 .0
+same-length-2 c = search needs
 
-returns-3 : tie.Need-returns-3
-returns-3 c = laws.type-done _ _ _ _ _ (c .before .before .before .before .before .before .before .before .before .before .before .before .before .before .before .before .before .before .is-current .ensures) (c .before .before .before .before .before .before .before .before .before .before .before .before .before .before .before .before .before .if1 .left) _ (c .before .before .before .before .before .before .before .before .before .before .before .before .before .before .btf-of .ensures) _ _ _ (c .before .before .before .before .before .before .before .before .before .before .before .dump-one .kept .1 .1 .0) (c .before .before .before .before .before .before .before .before .before .before .before .dump-one .kept .1 .1 .1 .0) _ _ _ (c .before .before .before .before .settle .ensures) _ (c .before .before .before .before .before .before .before .before .before .before .before .before .before .before .before .if2 .left) (c .before .before .before .before .before .before .before .before .before .before .before .dump-one .ensures .0)
+returns : tie.Need-returns
+returns c = cases.call-type _ _ _ _ _ _ _ _ _ (c .before .before .before .before .before .before .before .before .before .before .before .before .options-of .ensures) _ _ (c .before .before .before .before .before .before .before .request-type .ensures)
 
 pub dump-type-core-spec : {M : Type 1} → statement M
 dump-type-core-spec =
     tie.close
     (tie.spec
-    is-current-requires
-    turn-of-requires
-    returns
-    turn-of-requires-2
-    returns-2
-    btf-of-requires
-    dump-one-requires
-    settle-requires
+    options-of-requires
+    slice-aggregate-request-type
+    slice-aggregate-request-type-2
+    request-type-requires
     same-length
     same-length-2
-    returns-3)
+    returns)

@@ -1,46 +1,41 @@
-use mathlib.Core.Path.{_∙_}
-use Rattle.spec_session.proofs.session.Laws as ends
-use Rattle.spec_session.proofs.calls.Laws as laws
+use Rattle.session_requests.proofs.options.Cases as cases
+use borrow.Author.Needs.{needs}
 use Rattle.session_requests.proofs.requests.dump_types_core.Statement.{statement}
 use Rattle.session_requests.proofs.requests.dump_types_core.Tie as tie
+use Rattle.session_requests.proofs.requests.dump_types_core.Reads as reads
+use Rattle.session_requests.proofs.requests.dump_types_core.Lts as lts
+use Rattle.session_requests.proofs.requests.options_of.Reads as options-of-reads
+use Rattle.session_requests.proofs.requests.request_types.Reads as request-types-reads
 
-is-current-requires : tie.Need-is-current-requires
-is-current-requires c κs = tt
+options-of-requires : tie.Need-options-of-requires
+options-of-requires c κs = search needs
 
-turn-of-requires : tie.Need-turn-of-requires
-turn-of-requires c κs = tt
+slice-aggregate-request-types : tie.Need-slice-aggregate-request-types
+slice-aggregate-request-types c = search needs
 
-returns : tie.Need-returns
-returns c = laws.types-11 _ _ _ _ _ (c .before .before .is-current .ensures) (c .before .if1 .taken) _ (c .turn-of .ensures)
+slice-aggregate-request-types-2 : tie.Need-slice-aggregate-request-types-2
+slice-aggregate-request-types-2 c = search needs
 
-btf-of-requires : tie.Need-btf-of-requires
-btf-of-requires c κs = tt
-
-dump-all-requires : tie.Need-dump-all-requires
-dump-all-requires c κs = ends.current-fits _ _ _ _ _ (c .before .before .before .before .is-current .ensures) (c .before .before .before .if1 .left)
-
-settle-requires : tie.Need-settle-requires
-settle-requires c κs = tt
+request-types-requires : tie.Need-request-types-requires
+request-types-requires c κs = cases.unlisted-asks _ _ _ (c .before .before .before .before .options-of .ensures)
 
 same-length : tie.Need-same-length
-same-length c = c .before .before .before .before .settle .kept .1 .0 ∙ c .before .before .before .before .before .before .before .before .before .before .before .dump-all .kept .1 .1 .0
+same-length c = search needs
 
 same-length-2 : tie.Need-same-length-2
-same-length-2 c = c .before .before .before .before .settle .kept .1 .1 .0 ∙ c .before .before .before .before .before .before .before .before .before .before .before .dump-all .kept .1 .1 .1 .0
+same-length-2 c = search needs
 
-returns-2 : tie.Need-returns-2
-returns-2 c = laws.types-done _ _ _ _ _ (c .before .before .before .before .before .before .before .before .before .before .before .before .before .before .before .before .is-current .ensures) (c .before .before .before .before .before .before .before .before .before .before .before .before .before .before .before .if1 .left) _ (c .before .before .before .before .before .before .before .before .before .before .before .before .before .before .btf-of .ensures) _ _ _ (c .before .before .before .before .before .before .before .before .before .before .before .dump-all .kept .1 .1 .0) (c .before .before .before .before .before .before .before .before .before .before .before .dump-all .kept .1 .1 .1 .0) _ _ _ (c .before .before .before .before .settle .ensures) (c .before .before .before .before .before .before .before .before .before .before .before .dump-all .ensures .0)
+returns : tie.Need-returns
+returns c = cases.call-types _ _ _ _ _ _ _ _ _ (c .before .before .before .before .before .before .before .before .before .before .before .before .options-of .ensures) _ (c .before .before .before .before .before .before .before .request-types .ensures)
 
 pub dump-types-core-spec : {M : Type 1} → statement M
 dump-types-core-spec =
     tie.close
     (tie.spec
-    is-current-requires
-    turn-of-requires
-    returns
-    btf-of-requires
-    dump-all-requires
-    settle-requires
+    options-of-requires
+    slice-aggregate-request-types
+    slice-aggregate-request-types-2
+    request-types-requires
     same-length
     same-length-2
-    returns-2)
+    returns)

@@ -6,7 +6,7 @@ use Rattle.btfdump_c.proofs.exported.explained.btfdump_dump_list_causes
 use Rattle.btfdump_c.proofs.exported.explained.btfdump_dump_list_causes.Lts as lts
 use Rattle.session_record.proofs.record_words.decode.Reads as decode-reads
 use Rattle.session_record.proofs.record_bytes.listed.Reads as listed-reads
-use Rattle.session_requests.proofs.origin_lists.dump_list_causes.Reads as dump-list-causes-reads
+use Rattle.session_requests.proofs.requests.dump_list_causes.Reads as dump-list-causes-reads
 
 returns : tie.Need-returns
 returns c = laws.list-none _ _ _ _ _ _ (c .if1 .taken)

@@ -6,7 +6,7 @@ use Rattle.btfdump_c.proofs.exported.explained.btfdump_dump_types_cause
 use Rattle.btfdump_c.proofs.exported.explained.btfdump_dump_types_causes.Lts as lts
 use Rattle.session_record.proofs.record_bytes.answered.Reads as answered-reads
 use Rattle.session_record.proofs.record_words.decode.Reads as decode-reads
-use Rattle.session_requests.proofs.origin_requests.dump_types_causes.Reads as dump-types-causes-reads
+use Rattle.session_requests.proofs.requests.dump_types_causes.Reads as dump-types-causes-reads
 
 returns : tie.Need-returns
 returns c = laws.types-short _ _ _ _ _ (c .if1 .taken)

@@ -1,2 +1,0 @@
--- What each call for C that is lent a list comes to.
-pub mod Causes

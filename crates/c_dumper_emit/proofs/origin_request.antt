@@ -1,2 +1,0 @@
-pub mod Leaders
-pub mod Requests

@@ -1,0 +1,5 @@
+pub mod Bare
+pub mod Entries
+pub mod Laws
+pub mod Listed
+pub mod One

@@ -1,0 +1,41 @@
+use Rattle.session_requests.proofs.options.Cases as cases
+use borrow.Author.Needs.{needs}
+use Rattle.session_requests.proofs.requests.dump_type_within.Statement.{statement}
+use Rattle.session_requests.proofs.requests.dump_type_within.Tie as tie
+use Rattle.session_requests.proofs.requests.dump_type_within.Reads as reads
+use Rattle.session_requests.proofs.requests.dump_type_within.Lts as lts
+use Rattle.session_requests.proofs.requests.options_of.Reads as options-of-reads
+use Rattle.session_requests.proofs.requests.request_type.Reads as request-type-reads
+
+options-of-requires : tie.Need-options-of-requires
+options-of-requires c κs = search needs
+
+slice-aggregate-request-type : tie.Need-slice-aggregate-request-type
+slice-aggregate-request-type c = search needs
+
+slice-aggregate-request-type-2 : tie.Need-slice-aggregate-request-type-2
+slice-aggregate-request-type-2 c = search needs
+
+request-type-requires : tie.Need-request-type-requires
+request-type-requires c κs = cases.unlisted-asks _ _ _ (c .before .before .before .before .options-of .ensures)
+
+same-length : tie.Need-same-length
+same-length c = search needs
+
+same-length-2 : tie.Need-same-length-2
+same-length-2 c = search needs
+
+returns : tie.Need-returns
+returns c = cases.within-type _ _ _ _ _ _ _ _ _ _ (c .before .before .before .before .before .before .before .before .before .before .before .options-of .ensures) _ _ (c .before .before .before .before .before .before .request-type .ensures)
+
+pub dump-type-within-spec : {M : Type 1} → statement M
+dump-type-within-spec =
+    tie.close
+    (tie.spec
+    options-of-requires
+    slice-aggregate-request-type
+    slice-aggregate-request-type-2
+    request-type-requires
+    same-length
+    same-length-2
+    returns)

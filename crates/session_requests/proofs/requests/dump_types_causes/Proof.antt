@@ -1,0 +1,43 @@
+use Rattle.session_requests.specs.declared.options.Options.{Options}
+use mathlib.Core.Path.{ap}
+use Rattle.session_requests.proofs.options.Cases as cases
+use borrow.Author.Needs.{needs}
+use Rattle.session_requests.proofs.requests.dump_types_causes.Statement.{statement}
+use Rattle.session_requests.proofs.requests.dump_types_causes.Tie as tie
+use Rattle.session_requests.proofs.requests.dump_types_causes.Reads as reads
+use Rattle.session_requests.proofs.requests.dump_types_causes.Lts as lts
+use Rattle.session_requests.proofs.requests.options_of.Reads as options-of-reads
+use Rattle.session_requests.proofs.requests.request_types.Reads as request-types-reads
+
+options-of-requires : tie.Need-options-of-requires
+options-of-requires c κs = search needs
+
+slice-aggregate-request-types : tie.Need-slice-aggregate-request-types
+slice-aggregate-request-types c = search needs
+
+request-types-requires : tie.Need-request-types-requires
+request-types-requires c κs = cases.listing-asks _ (c .before .before .before .before .options-of .ensures)
+
+same-length : tie.Need-same-length
+same-length c = search needs
+
+same-length-2 : tie.Need-same-length-2
+same-length-2 c = search needs
+
+same-length-3 : tie.Need-same-length-3
+same-length-3 c = search needs
+
+returns : tie.Need-returns
+returns c = cases.causes-types _ _ _ _ _ _ _ _ _ (c .before .before .before .before .before .before .before .before .before .before .before .before .options-of .ensures) _ (c .before .before .before .before .before .before .before .request-types .ensures)
+
+pub dump-types-causes-spec : {M : Type 1} → statement M
+dump-types-causes-spec =
+    tie.close
+    (tie.spec
+    options-of-requires
+    slice-aggregate-request-types
+    request-types-requires
+    same-length
+    same-length-2
+    same-length-3
+    returns)
