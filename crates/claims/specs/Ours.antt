@@ -11,8 +11,15 @@ use Rattle.spec_session.specs.session.Turns.{Call}
 use Rattle.spec_session.specs.calls.Calls.{openCall, typeCall, typesCall}
 use Rattle.spec_session.specs.calls.Lists.{listCall}
 use Rattle.session_record.specs.record_words.Words.{decoded}
+use Rattle.spec_session.specs.metered.Within.{typeCallWithin, typesCallWithin}
+use Rattle.spec_session.specs.metered.Lists.{listCallWithin}
+use Rattle.spec_session.specs.origin_calls.Bytes.{typeCauses, typesCauses}
+use Rattle.session_requests.specs.origin_lists.Several.{listCausesCall}
 use Rattle.spec_c_calls.specs.Exports.{Export, openExport, typeExport, typesExport, listExport}
 use Rattle.claims.specs.Calls.{Calls, idsIn}
+use Rattle.session_cut.specs.call.Calls.{cutCall}
+use Rattle.claims.specs.Request14_cut.{Cutting}
+use Rattle.claims.specs.Carried.{Aid, ceiling, list, Carrying}
 
 -- on a session
 abbrev pub onSession : Calls Session Call
@@ -29,6 +36,30 @@ onSession = record {
   text = λ c. c .text;
   len = λ c. c .session .«text_len»;
   isOpen = λ c. c .session .«open»;
+}
+
+-- on a session, with a ceiling or a list
+abbrev pub oneCarrying : Aid → Call → List ℕ → List ℕ → ℕ → Call
+oneCarrying (ceiling k) c s text id = typeCallWithin k (c .session) s (c .work) text id 0 .call
+oneCarrying (list l) c s text id = typeCauses (c .session) s (c .work) text id l .call
+
+abbrev pub allCarrying : Aid → Call → List ℕ → List ℕ → Call
+allCarrying (ceiling k) c s text = typesCallWithin k (c .session) s (c .work) text .call
+allCarrying (list l) c s text = typesCauses (c .session) s (c .work) text l .call
+
+abbrev pub listCarrying : Aid → Call → List ℕ → List ℕ → List ℕ → Call
+listCarrying (ceiling k) c s text ids = listCallWithin k (c .session) s (c .work) text (idsIn ids) .call
+listCarrying (list l) c s text ids = listCausesCall (c .session) s (c .work) text (idsIn ids) l .call
+
+abbrev pub sessionCarrying : Carrying Call
+sessionCarrying = record { request = oneCarrying; requestAll = allCarrying; requestList = listCarrying }
+
+-- the call for a section cut down, on a session
+abbrev pub sessionCutting : Cutting Call
+sessionCutting = record {
+  number = λ c s given out. numberOf (cutCall (c .session) s given out .answer);
+  value = λ c s given out. valueOf (cutCall (c .session) s given out .answer);
+  out = λ c s given out. cutCall (c .session) s given out .out;
 }
 
 -- for C: "there the record too crosses as bytes", 128 of them or more; number and value are the upper and the lower half of the result

@@ -1,4 +1,4 @@
--- Ask 13, a ceiling on ordering work. Statement only; spec_session/proofs/metered and proof_calls/proofs/ceilings have the proofs.
+-- Ask 13, a ceiling on ordering work. Statement only; spec_session/proofs/metered and proofs/Carried.antt have the proofs.
 use Prim.Native.Nat.{ℕ, _<_, _+_}
 use mathlib.Core.Path.{_≡_}
 use mathlib.Core.Bool.{true}
@@ -14,7 +14,8 @@ use Rattle.spec_session.specs.metered.Metered.{callsIn}
 use Rattle.spec_session.specs.metered.Within.{typeCallWithin, typesCallWithin}
 use Rattle.spec_session.specs.metered.Lists.{listCallWithin}
 use Rattle.spec_session.specs.metered.Fits.{FitsCeiling}
-use Rattle.proof_calls.specs.ceilings.Claims.{UnderCeilings}
+use Rattle.claims.specs.Carried.{Carries}
+use Rattle.claims.specs.Ours.{onSession, sessionCarrying}
 
 pub record Request13 : Type 0 where
   -- "A request that fits under one ceiling gives the same text and count under every larger one": one that is not refused by 22 is the
@@ -29,6 +30,6 @@ pub record Request13 : Type 0 where
   pub over : (s : Session) (section w t : List ℕ) (c id : ℕ) → isCurrent s (length section) (length w) (length t) ≡ true
       → ltb id (s .types) ≡ true → c < 0 + callsIn (tableFor s section) section w id
       → numberOf (typeCallWithin c s section w t id 0 .call .answer) ≡ 22
-  -- "Demand 2 leaves it out as it does 12, the third demand's refusal clause as it does too deep": of lists of calls, each under a ceiling
-  -- or none
-  pub lists : (pointer modes : ℕ) (s : List ℕ) (n : ℕ) → UnderCeilings pointer modes s n
+  -- "closes the session as 12 does. Demand 2 leaves it out as it does 12, the third demand's refusal clause as it does too deep": after
+  -- every list of requests a call under a ceiling is the plain one, of which both demands hold, or 22 ends it
+  pub lists : (pointer modes : ℕ) (s : List ℕ) (n : ℕ) → Carries onSession sessionCarrying pointer modes s n

@@ -1,6 +1,5 @@
 pub mod calls_for_c
 pub mod ceilings
-pub mod cut
 pub mod described
 pub mod line_origins
 pub mod list_fits

@@ -1,4 +1,4 @@
 pub mod Plain
 pub mod Over
 pub mod Shut
-pub mod Claims
+pub mod Closed

@@ -215,10 +215,10 @@ module _ (p modes : ℕ) (s : List ℕ) (n : ℕ) (y : Bytes s) (ok : openingNum
   }
 
   -- the table with the tags of the list, which is the described one
-  abbrev C : Rules
+  abbrev pub C : Rules
   C = withTypes B (B .type-cnt) (B .type-by-id) tags
 
-  table-is : C ≡ tableIn p modes s
+  pub table-is : C ≡ tableIn p modes s
   unfolding btf.btfOf header.btfOf
   table-is i = record {
     ptr-sz = pointer-is p (sound-none p s n .0 ok .0) i;
@@ -244,7 +244,7 @@ module _ (p modes : ℕ) (s : List ℕ) (n : ℕ) (y : Bytes s) (ok : openingNum
     past : (id : ℕ) → B .type-cnt ≤ id → B .type-by-id id ≡ Void
     past id q = d .past-void id (omega (arith, q, all, d .count))
 
-    definitions : (id : ℕ) → definition N B id (B .type-by-id id) ≡ definition N C id (B .type-by-id id)
+    pub definitions : (id : ℕ) → definition N B id (B .type-by-id id) ≡ definition N C id (B .type-by-id id)
     unfolding definition
     definitions id = go (le-or-lt (B .type-cnt) id)
       where
@@ -252,7 +252,7 @@ module _ (p modes : ℕ) (s : List ℕ) (n : ℕ) (y : Bytes s) (ok : openingNum
         go (inl q) = subst (λ (t : BtfType). definition N B id t ≡ definition N C id t) (sym (past id q)) refl
         go (inr q) = fun-ext (λ u. said-same (definition-same B (B .type-cnt) (B .type-by-id) tags Same stands Eq N N naming-same id id (refl, q) u u refl))
 
-    forwards : (id : ℕ) → forward N B id (B .type-by-id id) ≡ forward N C id (B .type-by-id id)
+    pub forwards : (id : ℕ) → forward N B id (B .type-by-id id) ≡ forward N C id (B .type-by-id id)
     unfolding forward
     forwards id = go (le-or-lt (B .type-cnt) id)
       where

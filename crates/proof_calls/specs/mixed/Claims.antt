@@ -24,7 +24,7 @@ use Rattle.spec_c_dumper.specs.origins.Lines.{Turns}
 use Rattle.spec_c_dumper.specs.origins.Causes.{idsFrom}
 use Rattle.spec_session.specs.origin_calls.Bytes.{CauseCall, typeCauses, typesCauses}
 use Rattle.session_requests.specs.origin_lists.Several.{listCausesCall}
-use Rattle.proof_calls.specs.ceilings.Claims.{elevenOf}
+use Rattle.proof_calls.specs.ceilings.Ceilings.{elevenOf}
 use Rattle.proof_calls.specs.line_origins.Claims.{Agrees, oneRuled, allRuled, listRuled}
 use Rattle.proof_calls.specs.mixed.Mixed.{Aid, typeWith, typesWith, listWith, Goes, With, Ended}
 
