@@ -132,8 +132,8 @@ module _ (p modes : ℕ) (s : List ℕ) (n : ℕ) where
         lent text l = record { long = l .long; begins = l .begins }
 
         one-ends : (text : List ℕ) → Lent onSession c text → (a : Aid) (id : ℕ) → onSession .number (sessionCarrying .request a c s text id) ≡ ending a → Stands onSession sessionCarrying p modes s n N u (sessionCarrying .request a c s text id) rs
-        one-ends text l (ceiling k) id q = stands _ rs (calls-mixed p modes s n .stands _ _ (mixed.ended-one c rs (with-none a) text (lent text l) (mixed.ceiling k) id q))
-        one-ends text l (list es) id q = stands _ rs (calls-mixed p modes s n .stands _ _ (mixed.ended-one c rs (with-none a) text (lent text l) (mixed.list es) id q))
+        one-ends text l (ceiling k) id q = stands _ rs (calls-mixed p modes s n _ _ (mixed.ended-one c rs (with-none a) text (lent text l) (mixed.ceiling k) id q))
+        one-ends text l (list es) id q = stands _ rs (calls-mixed p modes s n _ _ (mixed.ended-one c rs (with-none a) text (lent text l) (mixed.list es) id q))
 
         some : (text : List ℕ) (d : Call) (k : ℕ) → Stood p modes s n d (rs ++ onesFrom (length text) k 1) → SomeStand onSession sessionCarrying p modes s n N u d rs (length text)
         some text d k h = record {
@@ -142,17 +142,17 @@ module _ (p modes : ℕ) (s : List ℕ) (n : ℕ) where
         }
 
         all-ends : (text : List ℕ) → Lent onSession c text → (a : Aid) → onSession .number (sessionCarrying .requestAll a c s text) ≡ ending a → SomeStand onSession sessionCarrying p modes s n N u (sessionCarrying .requestAll a c s text) rs (length text)
-        all-ends text l (ceiling k) q = some text _ _ (calls-mixed p modes s n .stands _ _ (mixed.ended-all c rs (with-none a) text (lent text l) (mixed.ceiling k) q))
-        all-ends text l (list es) q = some text _ _ (calls-mixed p modes s n .stands _ _ (mixed.ended-all c rs (with-none a) text (lent text l) (mixed.list es) q))
+        all-ends text l (ceiling k) q = some text _ _ (calls-mixed p modes s n _ _ (mixed.ended-all c rs (with-none a) text (lent text l) (mixed.ceiling k) q))
+        all-ends text l (list es) q = some text _ _ (calls-mixed p modes s n _ _ (mixed.ended-all c rs (with-none a) text (lent text l) (mixed.list es) q))
 
         list-ends : (text : List ℕ) → Lent onSession c text → (a : Aid) (ids : List ℕ) → onSession .number (sessionCarrying .requestList a c s text ids) ≡ ending a
             → Stands onSession sessionCarrying p modes s n N u (sessionCarrying .requestList a c s text ids) (rs ++ singles (length text) (onSession .value (sessionCarrying .requestList a c s text ids)) (idsIn ids))
         list-ends text l (ceiling k) ids q =
             subst (λ (qs : List Req). Stands onSession sessionCarrying p modes s n N u (sessionCarrying .requestList (ceiling k) c s text ids) (rs ++ qs)) (singles-same (length text) _ (idsIn ids))
-            (stands _ _ (calls-mixed p modes s n .stands _ _ (mixed.ended-list c rs (with-none a) text (lent text l) (mixed.ceiling k) (idsIn ids) q)))
+            (stands _ _ (calls-mixed p modes s n _ _ (mixed.ended-list c rs (with-none a) text (lent text l) (mixed.ceiling k) (idsIn ids) q)))
         list-ends text l (list es) ids q =
             subst (λ (qs : List Req). Stands onSession sessionCarrying p modes s n N u (sessionCarrying .requestList (list es) c s text ids) (rs ++ qs)) (singles-same (length text) _ (idsIn ids))
-            (stands _ _ (calls-mixed p modes s n .stands _ _ (mixed.ended-list c rs (with-none a) text (lent text l) (mixed.list es) (idsIn ids) q)))
+            (stands _ _ (calls-mixed p modes s n _ _ (mixed.ended-list c rs (with-none a) text (lent text l) (mixed.list es) (idsIn ids) q)))
 
   -- a closed session gives 11
   eleven : (c : Call) (text : List ℕ) (v : ℕ) (d : Call) → d ≡ unchanged (c .session) (Refused 11 v) (c .work) text → Eleven onSession c text v d

@@ -28,9 +28,6 @@ use Rattle.proof_two_headers.proofs.Claims.{two-headers}
 use Rattle.session_field_at_bit.proofs.field.Sound.{sound}
 use Rattle.session_field_at_bit.proofs.field.Unique.{unique}
 use Rattle.session_field_at_bit.proofs.field.Claims.{refused-leaves}
-use Rattle.proof_calls.proofs.line_origins.Claims.{calls-reasoned}
-use Rattle.proof_calls.proofs.origins.Calls.{calls-explained}
-use Rattle.proof_calls.proofs.mixed.Claims.{calls-mixed}
 use Rattle.proof_calls.proofs.program.Claims.{runs}
 use Rattle.claims.specs.Claims.{Claims}
 use Rattle.claims.specs.Request02_big_endian.{Request02}
@@ -38,6 +35,7 @@ use Rattle.claims.specs.Request04_fixed_words.{Request04}
 use Rattle.claims.proofs.Demands.{session-stated, session-sound, session-opens, c-stated, c-sound, c-opens}
 use Rattle.claims.proofs.Placing.{placing}
 use Rattle.claims.proofs.Declared.{declared-first}
+use Rattle.claims.proofs.Origins.{session-reasoned}
 use Rattle.claims.proofs.Cut.{session-cut}
 use Rattle.claims.proofs.Carried.{session-carries}
 use Rattle.claims.proofs.Apart.{session-apart-alike, c-apart-alike}
@@ -92,11 +90,7 @@ claims = record {
   request09 = record { reads-back = reads-back; exactly = exactly; decodes = decodes; numbered = numbered };
   request10 = two-headers;
   request11 = record { leads = sound; unique = unique; refused = refused-leaves };
-  request12 = λ pointer modes s n. record {
-    by-rules = calls-reasoned pointer modes s n;
-    explained = calls-explained pointer modes s n;
-    mixed = calls-mixed pointer modes s n;
-  };
+  request12 = session-reasoned;
   request13 = record {
     one = λ s section w t c id n. type-fits s section w t c id 0 zero-le n;
     all = λ s section w t c n. types-fits s section w t c n;

@@ -64,7 +64,7 @@ run-more X T (q ∷ rs) r S = run-more X T rs r (serve X T S q)
 
 module _ {R C : Type 0} (K : Calls R C) where
   -- what is the same on two machines tells the same
-  tells-by : {U W : Type 0} (room : ℕ) (c : C) (a : Answer (Ls (Known U))) (b : Answer (Ls (Known W))) → a .number ≡ b .number → textOf (a .sess .mach .pieces) ≡ textOf (b .sess .mach .pieces)
+  pub tells-by : {U W : Type 0} (room : ℕ) (c : C) (a : Answer (Ls (Known U))) (b : Answer (Ls (Known W))) → a .number ≡ b .number → textOf (a .sess .mach .pieces) ≡ textOf (b .sess .mach .pieces)
       → Tells K room c a → Tells K room c b
   tells-by room c a b e q t = record {
     number = t .number ∙ e;

@@ -69,7 +69,7 @@ module _ (p modes : ℕ) (s : List ℕ) (n : ℕ) (y : Bytes s) (ok : openingNum
     back : (space : Space) (name : Name) → List·Memᴰ name (tableNames D space) → List·Memᴰ name (tableNames B space)
     back space name m = subst (List·Memᴰ name) (sym (names-same space)) m
 
-    right : Right D T
+    pub right : Right D T
     right =
         let r = lists-right p modes s n ok on in
         record {

@@ -13,11 +13,12 @@ use Rattle.spec_session.specs.calls.Lists.{listCall}
 use Rattle.session_record.specs.record_words.Words.{decoded}
 use Rattle.spec_session.specs.metered.Within.{typeCallWithin, typesCallWithin}
 use Rattle.spec_session.specs.metered.Lists.{listCallWithin}
-use Rattle.spec_session.specs.origin_calls.Bytes.{typeCauses, typesCauses}
+use Rattle.spec_session.specs.origin_calls.Bytes.{CauseCall, typeCauses, typesCauses}
 use Rattle.session_requests.specs.origin_lists.Several.{listCausesCall}
 use Rattle.spec_c_calls.specs.Exports.{Export, openExport, typeExport, typesExport, listExport}
 use Rattle.claims.specs.Calls.{Calls, idsIn}
 use Rattle.session_cut.specs.call.Calls.{cutCall}
+use Rattle.claims.specs.Request12_line_origins.{Listing, Lending}
 use Rattle.claims.specs.Request14_cut.{Cutting}
 use Rattle.claims.specs.Carried.{Aid, ceiling, list, Carrying}
 
@@ -53,6 +54,17 @@ listCarrying (list l) c s text ids = listCausesCall (c .session) s (c .work) tex
 
 abbrev pub sessionCarrying : Carrying Call
 sessionCarrying = record { request = oneCarrying; requestAll = allCarrying; requestList = listCarrying }
+
+-- on a session, with a list and its entries afterwards
+abbrev pub listingOf : CauseCall → Listing Call
+listingOf d = record { call = d .call; count = d .count; list = d .list }
+
+abbrev pub sessionLending : Lending Call
+sessionLending = record {
+  request = λ c s text id l. listingOf (typeCauses (c .session) s (c .work) text id l);
+  requestAll = λ c s text l. listingOf (typesCauses (c .session) s (c .work) text l);
+  requestList = λ c s text ids l. listingOf (listCausesCall (c .session) s (c .work) text (idsIn ids) l);
+}
 
 -- the call for a section cut down, on a session
 abbrev pub sessionCutting : Cutting Call

@@ -4,5 +4,4 @@ pub mod described
 pub mod line_origins
 pub mod list_fits
 pub mod mixed
-pub mod origins
 pub mod program

@@ -2,5 +2,4 @@ pub mod calls_for_c
 pub mod ceilings
 pub mod line_origins
 pub mod mixed
-pub mod origins
 pub mod program

@@ -37,6 +37,7 @@ use Rattle.spec_opening.proofs.ReadBack.{header-ok, types-ok, section-short}
 use Rattle.spec_c_dumper.specs.needs.Needs.{WF, kids}
 use Rattle.spec_c_dumper.specs.needs.Lists.{Lines, Ls, listMachine}
 use Rattle.spec_c_dumper.specs.needs.Session.{Known, lineOf, linesBy, machineBy}
+use Rattle.spec_c_dumper.specs.origins.Causes.{showsIn}
 use Rattle.spec_cut.specs.section.Kept.{followedIds, voidType, typeOf, isDeclTag}
 use Rattle.spec_cut.specs.section.Stands as S
 use Rattle.spec_cut.specs.section.Stands.{withTypes, NoTag, Each, none, more, Followed, Stands}
@@ -273,6 +274,13 @@ module _ (p modes : ℕ) (s : List ℕ) (n : ℕ) (y : Bytes s) (ok : openingNum
     over-described P h =
         subst (λ (X : Rules). P (machineBy N X) (tableOf X) (X .type-cnt)) table-is
         (subst (λ (L : Lines (Known U)). P (listMachine L) (tableOf B) (B .type-cnt)) lines-same h)
+
+    -- and of which lines print anything
+    pub over-shown : (P : Machine (Ls (Known U)) → Table → ℕ → (ℕ → Bool) → Type 0) → P (machineBy N B) (tableOf B) (B .type-cnt) (showsIn B)
+        → P (machineBy N (tableIn p modes s)) (tableOf (tableIn p modes s)) (tableIn p modes s .type-cnt) (showsIn (tableIn p modes s))
+    over-shown P h =
+        subst (λ (X : Rules). P (machineBy N X) (tableOf X) (X .type-cnt) (showsIn X)) table-is
+        (subst (λ (L : Lines (Known U)). P (listMachine L) (tableOf B) (B .type-cnt) (showsIn B)) lines-same h)
 
   pub described-wf : WF (tableOf (tableIn p modes s))
   described-wf = subst (λ (X : Rules). WF (tableOf X)) table-is wf
