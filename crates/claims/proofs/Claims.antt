@@ -21,7 +21,6 @@ use Rattle.spec_session.specs.metered.Within.{CallWithin, typeCallWithin}
 use Rattle.spec_session.proofs.metered.Claims.{settled-22, type-fits, types-fits, type-22}
 use Rattle.spec_session.proofs.metered.ListClaims.{list-fits}
 use Rattle.proof_demands.proofs.demands.Orders.{big-header, other-magic}
-use Rattle.proof_demands.proofs.counted.Claims.{counted}
 use Rattle.proof_declaration_reader.proofs.Bound.{exactly}
 use Rattle.proof_declaration_reader.proofs.Decoding.{decodes, numbered, reads-back}
 use Rattle.proof_two_headers.proofs.Claims.{two-headers}
@@ -35,6 +34,7 @@ use Rattle.claims.specs.Request04_fixed_words.{Request04}
 use Rattle.claims.proofs.Demands.{session-stated, session-sound, session-opens, c-stated, c-sound, c-opens}
 use Rattle.claims.proofs.Placing.{placing}
 use Rattle.claims.proofs.Declared.{declared-first}
+use Rattle.claims.proofs.Once.{session-once, c-once}
 use Rattle.claims.proofs.Origins.{session-reasoned}
 use Rattle.claims.proofs.Cut.{session-cut}
 use Rattle.claims.proofs.Carried.{session-carries}
@@ -84,7 +84,8 @@ claims = record {
     on = λ e t w. arrays-forget T e (through true t) w;
     of-itself = λ e x m array is member to-array to-itself. array-of-itself T x m array e is member to-array to-itself;
   };
-  request07 = counted;
+  request07 = session-once;
+  request07-c = c-once;
   request08 = session-apart-alike;
   request08-c = c-apart-alike;
   request09 = record { reads-back = reads-back; exactly = exactly; decodes = decodes; numbered = numbered };

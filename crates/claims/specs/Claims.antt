@@ -4,7 +4,7 @@
 use Prim.Native.Nat.{ℕ}
 use mathlib.Core.List.{List}
 use Rattle.spec_c_dumper.specs.rules.Order.{Table}
-use Rattle.claims.specs.Ours.{onSession, sessionLending, sessionCutting, forC}
+use Rattle.claims.specs.Ours.{onSession, sessionVisits, sessionLending, sessionCutting, forC, visitsForC}
 use Rattle.claims.specs.Demand1.{Demand1}
 use Rattle.claims.specs.Demands.{Stated}
 use Rattle.claims.specs.Request02_big_endian.{Request02}
@@ -36,7 +36,8 @@ pub record Claims : Type 0 where
   pub request05 : (pointer modes : ℕ) (s : List ℕ) (n : ℕ) → Request05 onSession pointer modes s n
   pub request05-c : (pointer modes : ℕ) (s : List ℕ) (n : ℕ) → Request05 forC pointer modes s n
   pub request06 : (T : Table) → Request06 T
-  pub request07 : Request07
+  pub request07 : (pointer modes : ℕ) (s : List ℕ) (n : ℕ) → Request07 onSession sessionVisits pointer modes s n
+  pub request07-c : (pointer modes : ℕ) (s : List ℕ) (n : ℕ) → Request07 forC visitsForC pointer modes s n
   pub request08 : (pointer modes : ℕ) (s : List ℕ) (n : ℕ) → Request08 onSession pointer modes s n
   pub request08-c : (pointer modes : ℕ) (s : List ℕ) (n : ℕ) → Request08 forC pointer modes s n
   pub request09 : Request09

@@ -39,6 +39,10 @@ onSession = record {
   isOpen = λ c. c .session .«open»;
 }
 
+-- "the counted visits [..] are kept in the record"
+abbrev pub sessionVisits : Call → ℕ
+sessionVisits c = c .session .visits
+
 -- on a session, with a ceiling or a list
 abbrev pub oneCarrying : Aid → Call → List ℕ → List ℕ → ℕ → Call
 oneCarrying (ceiling k) c s text id = typeCallWithin k (c .session) s (c .work) text id 0 .call
@@ -90,3 +94,6 @@ forC = record {
   len = λ e. decoded (e .bytes) .«text_len»;
   isOpen = λ e. decoded (e .bytes) .«open»;
 }
+
+abbrev pub visitsForC : Export → ℕ
+visitsForC e = decoded (e .bytes) .visits

@@ -82,7 +82,7 @@ said-same : {U : Type 0} {a b : Said U} → RelSaid (λ (u v : U). u ≡ v) a b 
 said-same (same u v t r) = ap (λ (w : _). said w t) r
 
 -- "pointer size not 4 or 8" is refused
-pointer-is : (p : ℕ) → cause1 p ≡ false → pick (eqb p 4) 4 8 ≡ p
+pub pointer-is : (p : ℕ) → cause1 p ≡ false → pick (eqb p 4) 4 8 ≡ p
 unfolding cause1
 pointer-is p e = go (eqb p 4) (eqb p 8) refl refl e
   where
@@ -158,6 +158,9 @@ module _ (p modes : ℕ) (s : List ℕ) (n : ℕ) (y : Bytes s) (ok : openingNum
     where
       at : (k : ℕ) → B .type-by-id (1 + k) ≡ getD (map (kept (stringsAt s) s) ts) k Void
       at k = let z : 1 + k ≡ suc k = omega arith in ap (B .type-by-id) z ∙ type-list (suc k)
+
+  pub tags-same : (id : ℕ) → id < tableIn p modes s .type-cnt → B .decl-tags id ≡ tableIn p modes s .decl-tags id
+  tags-same id q = tag-list id (omega (arith, q, count-list)) ∙ tags-are id
 
   -- ---- each id stands for itself
 
