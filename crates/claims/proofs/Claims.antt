@@ -37,6 +37,7 @@ use Rattle.claims.proofs.Declared.{declared-first}
 use Rattle.claims.proofs.Once.{session-once, c-once}
 use Rattle.claims.proofs.Origins.{session-reasoned}
 use Rattle.claims.proofs.Cut.{session-cut}
+use Rattle.claims.proofs.CutForC.{c-cut}
 use Rattle.claims.proofs.Carried.{session-carries}
 use Rattle.claims.proofs.Apart.{session-apart-alike, c-apart-alike}
 use Rattle.claims.specs.Ours.{onSession, forC}
@@ -100,5 +101,6 @@ claims = record {
     lists = session-carries;
   };
   request14 = session-cut;
+  request14-c = c-cut;
   program = runs;
 }

@@ -31,6 +31,7 @@ use Rattle.spec_cut.proofs.section.Test.{kept-tells}
 use Rattle.spec_cut.proofs.reopened.Accepts as accepts
 use Rattle.spec_cut.proofs.reopened.Reopened.{cut-reopens}
 use Rattle.proof_demands.specs.demands.Table.{openedTable}
+use Rattle.proof_demands.specs.demands.Session as old
 use Rattle.proof_demands.proofs.demands.Session.{after-holds}
 use Rattle.proof_demands.proofs.demands.Demands.{open-number}
 use Rattle.proof_names_apart.proofs.same_text.Dumps.{textIn, lastIn, dump-text, last-text, last-number}
@@ -80,7 +81,7 @@ dump-described p modes s n y ok rs =
     fresh m = record { isOpen = true; mach = afresh m (record { names = record { versions = replicate m 0; ledger = [] }; text-len = 0 }); asked = [] }
 
 -- one request more
-renumbered-more : {I : ℕ → ℕ → Type 0} {rs rs′ : List Req} → Renumbered I rs rs′ → (room x x′ : ℕ) → I x x′ → Renumbered I (rs ++ (one room x ∷ [])) (rs′ ++ (one room x′ ∷ []))
+pub renumbered-more : {I : ℕ → ℕ → Type 0} {rs rs′ : List Req} → Renumbered I rs rs′ → (room x x′ : ℕ) → I x x′ → Renumbered I (rs ++ (one room x ∷ [])) (rs′ ++ (one room x′ ∷ []))
 renumbered-more no-requests room x x′ i = request room x x′ i no-requests
 renumbered-more (request r y y′ j h) room x x′ i = request r y y′ j (renumbered-more h room x x′ i)
 
@@ -102,10 +103,10 @@ module _ {R C : Type 0} (K : Calls R C) (stated : (p modes : ℕ) (s : List ℕ)
   D′ = tableIn p modes s′
 
   module _ (ok : openingNumber p s n ≡ 0) where
-    ok′ : openingNumber p s′ n′ ≡ 0
+    pub ok′ : openingNumber p s′ n′ ≡ 0
     ok′ = accepts.accepted p s n ok (h .bytes) (words given) m (kept-tells (describedIn s) (words given)) (h .short) n′ (h .long-enough)
 
-    bytes′ : Bytes s′
+    pub bytes′ : Bytes s′
     bytes′ = accepts.new-bytes p s n ok (h .bytes) (words given) m (kept-tells (describedIn s) (words given)) (h .short)
 
     -- the rules, over both described tables
@@ -122,14 +123,14 @@ module _ {R C : Type 0} (K : Calls R C) (stated : (p modes : ℕ) (s : List ℕ)
       abbrev S′ : Sess (Ls (Known Names))
       S′ = ruled K p modes s′ n′ naming (noNames D′) rs′
 
-      so-far : SameText K c c′
+      pub so-far : SameText K c c′
       so-far =
           let d = stated p modes s n .plain (h .bytes) (h .old-names) c rs a .demand2 in
           let d′ = stated p modes s′ n′ .plain bytes′ (h .old-names) c′ rs′ a′ .demand2 in
           let e : textOf (S .mach .pieces) ≡ textOf (S′ .mach .pieces) = sym (dump-text naming D rs [] (opened D)) ∙ ap textIn (by-rules rs rs′ r) ∙ dump-text naming D′ rs′ [] (opened D′) in
           record { text-len = d .text-len ∙ ap length e ∙ sym (d′ .text-len); text = d .text ∙ e ∙ sym (d′ .text) }
 
-      next : (text text′ : List ℕ) → length text ≡ length text′ → Lent K c text → Lent K c′ text′ → (x : ℕ) → HasNumber K p modes s n given n′ x → SameAnswer K (K .request c s text x) (K .request c′ s′ text′ (newId m x))
+      pub next : (text text′ : List ℕ) → length text ≡ length text′ → Lent K c text → Lent K c′ text′ → (x : ℕ) → HasNumber K p modes s n given n′ x → SameAnswer K (K .request c s text x) (K .request c′ s′ text′ (newId m x))
       unfolding answerTo
       next text text′ long l l′ x k =
           let d = stated p modes s n .plain (h .bytes) (h .old-names) c rs a .demand2 .next-one text l x in
@@ -161,7 +162,7 @@ module _ {R C : Type 0} (K : Calls R C) (stated : (p modes : ℕ) (s : List ℕ)
 -- ---- the calls on a session
 
 -- the call
-session-cuts : (c : Call) (s given out : List ℕ) → Cuts sessionCutting c s given out
+pub session-cuts : (c : Call) (s given out : List ℕ) → Cuts sessionCutting c s given out
 session-cuts c s given out = record {
   value = λ e. value-is (c .session) s given out e;
   written = λ e. slice-is (c .session) s given out e;
@@ -174,17 +175,17 @@ session-cuts c s given out = record {
     sizes e = none-holds (isOpenOn (c .session) s) (typesOf s) (words given) (length out) (length (sectionFor s given)) (sym (number-told (c .session) s given out) ∙ e)
 
 -- its number
-session-numbered : (p modes : ℕ) (s : List ℕ) (n : ℕ) (c : Call) (rs : List Req) → After onSession p modes s n c rs → (given out : List ℕ) → Numbered onSession sessionCutting s c given out
-session-numbered p modes s n c rs a given out = number-told (c .session) s given out ∙ ap (λ (b : Bool). cutNumber b (typesOf s) (words given) (length out) (length (sectionFor s given))) (go (c .session .«open») refl)
+pub numbered-by : (p modes : ℕ) (s : List ℕ) (n : ℕ) → openingNumber p s n ≡ 0 → (c : Call) (rs : List Req) → old.After p modes s n c rs → (given out : List ℕ) → Numbered onSession sessionCutting s c given out
+numbered-by p modes s n ok c rs a given out = number-told (c .session) s given out ∙ ap (λ (b : Bool). cutNumber b (typesOf s) (words given) (length out) (length (sectionFor s given))) (go (c .session .«open») refl)
   where
-    ok : openingNumber p s n ≡ 0
-    ok = session-sound p modes s n c rs a
-
     go : (b : Bool) → c .session .«open» ≡ b → isOpenOn (c .session) s ≡ c .session .«open»
     go true o =
-        let h = after-holds p modes s n ok (session-after p modes s n a) in
+        let h = after-holds p modes s n ok a in
         not-closed (c .session) s n (ap (λ (q : ℕ). openingNumber q s n) (h .pointer-size) ∙ ok) o (h .section) ∙ sym o
     go false o = closed-cut (c .session) s o ∙ sym o
+
+session-numbered : (p modes : ℕ) (s : List ℕ) (n : ℕ) (c : Call) (rs : List Req) → After onSession p modes s n c rs → (given out : List ℕ) → Numbered onSession sessionCutting s c given out
+session-numbered p modes s n c rs a = numbered-by p modes s n (session-sound p modes s n c rs a) c rs (session-after p modes s n a)
 
 module _ (p modes : ℕ) (s : List ℕ) (n : ℕ) (given : List ℕ) (n′ : ℕ) (h : Reopened onSession p modes s n given n′) where
   abbrev kept : ℕ → Bool

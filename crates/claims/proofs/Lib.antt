@@ -1,6 +1,6 @@
 -- Claims: the theorem. Opens: demand 1. Demands: demands 2 and 3. Names: names apart over the described table. Placing: ask 3.
 -- Declared: ask 5. Once: ask 7. Apart: ask 8. Carried: calls under a ceiling, or lent a list. Origins: ask 12.
--- CutCall, Cut: ask 14.
+-- CutCall, Cut, CutForC: ask 14.
 pub mod Opens
 pub mod Names
 pub mod Demands
@@ -12,4 +12,5 @@ pub mod Carried
 pub mod Origins
 pub mod CutCall
 pub mod Cut
+pub mod CutForC
 pub mod Claims

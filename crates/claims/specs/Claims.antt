@@ -4,7 +4,7 @@
 use Prim.Native.Nat.{ℕ}
 use mathlib.Core.List.{List}
 use Rattle.spec_c_dumper.specs.rules.Order.{Table}
-use Rattle.claims.specs.Ours.{onSession, sessionVisits, sessionLending, sessionCutting, forC, visitsForC}
+use Rattle.claims.specs.Ours.{onSession, sessionVisits, sessionLending, sessionCutting, forC, visitsForC, cuttingForC}
 use Rattle.claims.specs.Demand1.{Demand1}
 use Rattle.claims.specs.Demands.{Stated}
 use Rattle.claims.specs.Request02_big_endian.{Request02}
@@ -46,4 +46,5 @@ pub record Claims : Type 0 where
   pub request12 : (pointer modes : ℕ) (s : List ℕ) (n : ℕ) → Request12 onSession sessionLending pointer modes s n
   pub request13 : Request13
   pub request14 : Request14 onSession sessionCutting
+  pub request14-c : Request14 forC cuttingForC
   pub program : Program

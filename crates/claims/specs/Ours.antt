@@ -16,6 +16,7 @@ use Rattle.spec_session.specs.metered.Lists.{listCallWithin}
 use Rattle.spec_session.specs.origin_calls.Bytes.{CauseCall, typeCauses, typesCauses}
 use Rattle.session_requests.specs.origin_lists.Several.{listCausesCall}
 use Rattle.spec_c_calls.specs.Exports.{Export, openExport, typeExport, typesExport, listExport}
+use Rattle.spec_c_calls.specs.Cuts.{cutExport}
 use Rattle.claims.specs.Calls.{Calls, idsIn}
 use Rattle.session_cut.specs.call.Calls.{cutCall}
 use Rattle.claims.specs.Request12_line_origins.{Listing, Lending}
@@ -97,3 +98,10 @@ forC = record {
 
 abbrev pub visitsForC : Export → ℕ
 visitsForC e = decoded (e .bytes) .visits
+
+abbrev pub cuttingForC : Cutting Export
+cuttingForC = record {
+  number = λ e s given out. cutExport (e .bytes) s given out .result / 4294967296;
+  value = λ e s given out. cutExport (e .bytes) s given out .result % 4294967296;
+  out = λ e s given out. cutExport (e .bytes) s given out .out;
+}
