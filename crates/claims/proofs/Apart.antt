@@ -15,10 +15,10 @@ use Rattle.spec_c_dumper.specs.rules.Machine.{Req, one, all}
 use Rattle.spec_c_dumper.specs.needs.Needs.{WF}
 use Rattle.spec_c_dumper.specs.needs.Lists.{Lines}
 use Rattle.spec_c_dumper.specs.needs.Session.{Known, openedBy}
-use Rattle.spec_c_dumper.specs.names_apart.Apart.{ofType, ofValue, Shown, Apart, isNameAmong, taken, namesIn as namesOf, namesTo, tableNames, spellingsIn, passing, numberFor, shown, typeApart, valueApart, namesAfter, Earlier, FewNames}
+use Rattle.spec_c_dumper.specs.names_apart.Apart.{ofType, ofValue, Apart, isNameAmong, taken, namesIn as namesOf, namesTo, spellingsIn, passing, numberFor, shown, typeApart, valueApart, FewNames}
 use Rattle.spec_opening.specs.Causes.{openingNumber}
 use Rattle.spec_opening.specs.Described.{tableIn}
-use Rattle.spec_session.specs.session.Answers.{numberOf, valueOf, answerOf as told-answer}
+use Rattle.spec_session.specs.session.Answers.{numberOf, valueOf}
 use Rattle.spec_session.specs.session.Turns.{Call}
 use Rattle.spec_session.specs.calls.Calls.{typeCall, typesCall}
 use Rattle.spec_session.specs.calls.Lists as calls
@@ -39,7 +39,7 @@ use Rattle.proof_calls.proofs.calls_for_c.Claims.{delivered-c}
 use Rattle.proof_calls.proofs.described.Table.{C, table-is, definitions, forwards, described-wf}
 use Rattle.claims.specs.Calls.{Calls, idsIn, singles, Lent, made, After}
 use Rattle.claims.specs.Demands.{Stated}
-use Rattle.claims.specs.Request08_names_apart.{NoShared, NamesApart, SameAnswer, SameList, PrintAlike, OnlyNames, Request08}
+use Rattle.claims.specs.Request08_names_apart.{NamesApart, SameAnswer, SameList, PrintAlike, OnlyNames, Request08}
 use Rattle.claims.specs.Ours.{onSession, forC}
 use Rattle.claims.proofs.Names.{names-same, ends}
 use Rattle.claims.proofs.Demands.{singles-same, made-same, session-after, session-sound, session-stated, c-after, c-sound, c-stated}

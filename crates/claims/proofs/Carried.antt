@@ -2,11 +2,11 @@
 -- that the section is bytes.
 use Prim.Native.Nat.{ℕ, zero, suc, _/_, _%_}
 use mathlib.Core.Path.{_≡_, refl, ap, _∙_, sym, subst}
-use mathlib.Core.Bool.{Bool, true, false}
+use mathlib.Core.Bool.{true, false}
 use mathlib.Core.List.{List, [], _∷_, _++_}
-use lib.ListN.{length, take, replicate}
+use lib.ListN.{length, replicate}
 use Rattle.spec_linux_btf.specs.Reading.{Bytes}
-use Rattle.spec_c_dumper.specs.rules.Types.{Btf, tableOf}
+use Rattle.spec_c_dumper.specs.rules.Types.{Btf}
 use Rattle.spec_c_dumper.specs.rules.Names.{Naming, Names, naming}
 use Rattle.spec_c_dumper.specs.rules.Machine.{Req, one, Sess, run}
 use Rattle.spec_c_dumper.specs.needs.Lists.{Ls, afresh}

@@ -3,22 +3,16 @@ use mathlib.Core.Path.{_≡_, refl, ap, sym, _∙_}
 use mathlib.Core.Bool.{Bool, true, false, not, true≢false}
 use mathlib.Core.List.{List, [], _∷_, map, List·Memᴰ, List·Memᴰ·not-nil, List·Memᴰ·cases-cons}
 use mathlib.Core.Logic.{⊎-elim}
-use lib.ListN.{length, take, drop, getD, replicate}
-use lib.Dec.{ltb}
-use Prim.Native.Nat.{ℕ, zero-le, _<_, _+_}
+use lib.ListN.{length, drop, getD, replicate}
+use Prim.Native.Nat.{ℕ, zero-le}
 use Rattle.spec_bytes.specs.words.Words.{wordIn}
-use Rattle.spec_linux_btf.specs.Section.{bigEndian, littleEndian, wordOf, headerSound}
+use Rattle.spec_linux_btf.specs.Section.{wordOf, headerSound}
 use Rattle.base_keywords.specs.table.Fixed.{table, fixedWords, occurrences}
 use Rattle.base_keywords.proofs.table.Laws.{table-small, each-once}
 use Rattle.spec_c_dumper.proofs.needs.Arrays.{pointers-stay, arrays-forget, array-of-itself}
 use Rattle.spec_c_dumper.specs.rules.Order.{through}
 use Rattle.spec_opening.specs.Causes.{cause3}
-use Rattle.spec_session.specs.declared.session.Session.{Session}
-use Rattle.spec_session.specs.session.Answers.{numberOf}
-use Rattle.spec_session.specs.session.Turns.{isCurrent, tableFor}
-use Rattle.spec_session.specs.metered.Metered.{callsIn}
-use Rattle.spec_session.specs.metered.Within.{CallWithin, typeCallWithin}
-use Rattle.spec_session.proofs.metered.Claims.{settled-22, type-fits, types-fits, type-22}
+use Rattle.spec_session.proofs.metered.Claims.{type-fits, types-fits}
 use Rattle.spec_session.proofs.metered.ListClaims.{list-fits}
 use Rattle.proof_demands.proofs.demands.Orders.{big-header, other-magic}
 use Rattle.proof_declaration_reader.proofs.Bound.{exactly}
@@ -38,6 +32,7 @@ use Rattle.claims.proofs.Once.{session-once, c-once}
 use Rattle.claims.proofs.Origins.{session-reasoned}
 use Rattle.claims.proofs.Cut.{session-cut}
 use Rattle.claims.proofs.CutForC.{c-cut}
+use Rattle.claims.proofs.Ceiling.{session-counted}
 use Rattle.claims.proofs.Carried.{session-carries}
 use Rattle.claims.proofs.Apart.{session-apart-alike, c-apart-alike}
 use Rattle.claims.specs.Ours.{onSession, forC}
@@ -61,13 +56,6 @@ once-by (x ∷ l) e w m =
 
 fixed-words : Request04
 fixed-words = record { small = table-small; once = once-by fixedWords each-once }
-
-over : (s : Session) (section w t : List ℕ) (c id : ℕ) → isCurrent s (length section) (length w) (length t) ≡ true
-    → ltb id (s .types) ≡ true → c < 0 + callsIn (tableFor s section) section w id
-    → numberOf (typeCallWithin c s section w t id 0 .call .answer) ≡ 22
-over s section w t c id e f l =
-    ap (λ (d : CallWithin). numberOf (d .call .answer)) (type-22 s section w t c id 0 e f l)
-    ∙ settled-22 s (length w) (length t) (s .«text_len») (s .visits) (take (s .«text_len») t)
 
 pub claims : Claims
 claims = record {
@@ -97,7 +85,7 @@ claims = record {
     one = λ s section w t c id n. type-fits s section w t c id 0 zero-le n;
     all = λ s section w t c n. types-fits s section w t c n;
     list = λ s section w t ids c n. list-fits c s section w t ids n;
-    over = λ s section w t c id e f l. over s section w t c id e f l;
+    counted = session-counted;
     lists = session-carries;
   };
   request14 = session-cut;

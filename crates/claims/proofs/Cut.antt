@@ -1,32 +1,30 @@
 -- Ask 14 holds: what the call for a section cut down writes, and that the new section answers as the old one, over any calls of which demand 2 holds. Assumes
 -- nothing but that the section is bytes.
-use Prim.Native.Nat.{ℕ, zero, suc, _+_, _-_, _*_, _/_, _%_, _≤_, _<_}
+use Prim.Native.Nat.{ℕ, zero, suc, _+_, _-_, _≤_}
 use mathlib.Core.Path.{_≡_, refl, ap, _∙_, sym, subst}
 use mathlib.Core.Bool.{Bool, true, false}
 use mathlib.Core.List.{List, [], _∷_, _++_, map}
 use native.Mathlib.Omega.{arith}
-use lib.ListN.{length, take, drop, replicate}
+use lib.ListN.{length, replicate}
 use Rattle.spec_bytes.specs.words.Words.{words}
 use Rattle.spec_linux_btf.specs.Documentation.{Every}
 use Rattle.spec_linux_btf.specs.Reading.{Bytes}
 use Rattle.spec_c_dumper.specs.rules.Order.{Table}
 use Rattle.spec_c_dumper.specs.rules.Types.{Btf, tableOf}
 use Rattle.spec_c_dumper.specs.rules.Names.{Names, naming}
-use Rattle.spec_c_dumper.specs.rules.Machine.{Machine, Sess, Answer, Req, one, all, single, every, run}
+use Rattle.spec_c_dumper.specs.rules.Machine.{Machine, Sess, Answer, Req, one, all, single, every}
 use Rattle.spec_c_dumper.specs.needs.Lists.{Ls, afresh}
-use Rattle.spec_c_dumper.specs.needs.Session.{Known, Dump, dump, textOf, machineBy, openedBy, answerTo, dumped, noNames, opened, dumpTypes}
-use Rattle.spec_opening.specs.Types.{describedIn, typesOf, enumeratorsOf}
+use Rattle.spec_c_dumper.specs.needs.Session.{Known, Dump, dump, textOf, machineBy, answerTo, dumped, noNames, opened, dumpTypes}
+use Rattle.spec_opening.specs.Types.{describedIn, typesOf}
 use Rattle.spec_opening.specs.Causes.{openingNumber}
 use Rattle.spec_opening.specs.Described.{tableIn}
-use Rattle.spec_session.specs.session.Answers.{numberOf, valueOf, answerOf}
+use Rattle.spec_session.specs.session.Answers.{numberOf, answerOf}
 use Rattle.spec_session.specs.session.Turns.{Call, callOf}
-use Rattle.spec_session.specs.calls.Calls.{openCall, typeCall}
+use Rattle.spec_session.specs.calls.Calls.{typeCall}
 use Rattle.spec_session.specs.calls.Lists.{thenNext, listFrom, listCall}
-use Rattle.spec_cut.specs.section.Test.{isKept}
 use Rattle.spec_cut.specs.section.Renumbered.{newId}
 use Rattle.spec_cut.specs.section.Section.{cutNumber}
 use Rattle.spec_cut.specs.section.Stands.{Renumbered, no-requests, request}
-use Rattle.spec_cut.specs.reopened.Reopened as work
 use Rattle.spec_cut.proofs.section.Test.{kept-tells}
 use Rattle.spec_cut.proofs.reopened.Accepts as accepts
 use Rattle.spec_cut.proofs.reopened.Reopened.{cut-reopens}
@@ -40,7 +38,7 @@ use Rattle.proof_calls.proofs.described.Table.{over-described}
 use Rattle.claims.specs.Calls.{Calls, idsIn, Lent, After, then-one}
 use Rattle.claims.specs.Demand2.{Tells}
 use Rattle.claims.specs.Demands.{ruled, Stated}
-use Rattle.claims.specs.Request14_cut.{keptBy, sectionFor, Cuts, Numbered, SameText, SameAnswer, SameList, HasNumber, HasNewNumber, Reopened, Alike, Reopens, Request14}
+use Rattle.claims.specs.Request14_cut.{keptBy, sectionFor, Cuts, Numbered, SameText, SameAnswer, SameList, HasNumber, HasNewNumber, Reopened, Reopens, Request14}
 use Rattle.claims.specs.Ours.{onSession, sessionCutting}
 use Rattle.claims.proofs.Demands.{session-stated, session-sound, session-after}
 use Rattle.claims.proofs.CutCall.{none-holds, number-told, untouched, value-is, slice-is, not-closed, closed-cut, room}

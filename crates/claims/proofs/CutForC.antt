@@ -4,19 +4,16 @@ use mathlib.Core.Path.{_≡_, refl, ap, _∙_, sym, subst}
 use mathlib.Core.Bool.{Bool, true, false}
 use mathlib.Core.List.{List, [], _∷_, _++_, map}
 use native.Mathlib.Omega.{arith}
-use lib.ListN.{length, take, drop}
+use lib.ListN.{length}
 use lib.Dec.{ltb}
 use borrow.Author.Tests.{le-ltb, leb-true}
-use Rattle.spec_bytes.specs.words.Words.{words}
 use Rattle.spec_linux_btf.specs.Documentation.{Every}
 use Rattle.spec_c_dumper.specs.rules.Machine.{Req, one}
-use Rattle.spec_opening.specs.Types.{typesOf}
 use Rattle.spec_opening.specs.Causes.{openingNumber}
 use Rattle.spec_session.specs.session.Answers.{numberOf, valueOf}
 use Rattle.spec_cut.specs.section.Renumbered.{newId}
-use Rattle.spec_cut.specs.section.Section.{cutNumber}
 use Rattle.spec_cut.specs.section.Stands.{Renumbered}
-use Rattle.session_record.specs.record_words.Words.{decoded, packed}
+use Rattle.session_record.specs.record_words.Words.{decoded}
 use Rattle.session_cut.specs.call.Calls.{Cut, cutCall}
 use Rattle.spec_c_calls.specs.Exports.{Export, exportOf, typeExport, countedExport, listExportFrom, listExport}
 use Rattle.spec_c_calls.specs.Cuts.{CutExport, cutExportOf, cutFor, cutExport}
@@ -25,10 +22,10 @@ use Rattle.proof_calls.specs.calls_for_c.Claims as for-c
 use Rattle.proof_calls.proofs.calls_for_c.Bytes.{upper, lower}
 use Rattle.proof_calls.proofs.calls_for_c.Claims.{delivered-c, record-long}
 use Rattle.claims.specs.Calls.{idsIn, Lent, After, then-one}
-use Rattle.claims.specs.Request14_cut.{keptBy, sectionFor, Cuts, Numbered, SameText, SameAnswer, SameList, HasNumber, HasNewNumber, Reopened, Reopens, Request14}
-use Rattle.claims.specs.Ours.{onSession, sessionCutting, forC, cuttingForC}
+use Rattle.claims.specs.Request14_cut.{keptBy, sectionFor, Cuts, Numbered, SameAnswer, SameList, HasNumber, HasNewNumber, Reopened, Reopens, Request14}
+use Rattle.claims.specs.Ours.{sessionCutting, forC, cuttingForC}
 use Rattle.claims.proofs.Demands.{c-stated, c-sound, c-after}
-use Rattle.claims.proofs.Cut.{renumbered-more, session-cuts, numbered-by, ok′, bytes′, so-far, next}
+use Rattle.claims.proofs.Cut.{renumbered-more, session-cuts, numbered-by, ok′, so-far, next}
 
 -- ---- the call
 

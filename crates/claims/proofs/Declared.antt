@@ -2,11 +2,10 @@
 use Prim.Native.Nat.{ℕ}
 use mathlib.Core.Path.{_≡_, ap, _∙_, sym}
 use mathlib.Core.List.{List}
-use Rattle.spec_linux_btf.specs.Reading.{Bytes}
 use Rattle.spec_c_dumper.specs.rules.Types.{Btf, tableOf}
-use Rattle.spec_c_dumper.specs.rules.Names.{Naming, Names, naming}
+use Rattle.spec_c_dumper.specs.rules.Names.{Naming, naming}
 use Rattle.spec_c_dumper.specs.rules.Machine.{Req}
-use Rattle.spec_c_dumper.specs.names_apart.Naming.{Apart, apart, noneShown}
+use Rattle.spec_c_dumper.specs.names_apart.Naming.{apart, noneShown}
 use Rattle.spec_c_dumper.specs.needs.Needs.{WF}
 use Rattle.spec_c_dumper.specs.needs.Session.{textOf, noNames}
 use Rattle.spec_opening.specs.Causes.{openingNumber}

@@ -1,11 +1,11 @@
 -- Ask 7 holds of the calls on a session and of the calls for C. Assumes nothing but that opening accepts the section, and that the section is bytes.
-use Prim.Native.Nat.{ℕ, zero, suc, _+_, _/_, _%_, _<_, _≤_}
+use Prim.Native.Nat.{ℕ, zero, suc, _+_, _/_, _%_, _≤_}
 use mathlib.Core.Path.{_≡_, refl, ap, ap₂, _∙_, sym, subst, fun-ext}
 use mathlib.Core.List.{List, []}
 use lib.ListN.{replicate}
 use lib.Dec.{eqb}
 use Rattle.spec_linux_btf.specs.Reading.{Bytes}
-use Rattle.spec_c_dumper.specs.rules.Types.{Btf, tableOf}
+use Rattle.spec_c_dumper.specs.rules.Types.{Btf}
 use Rattle.spec_c_dumper.specs.rules.Names.{Naming, Names, naming}
 use Rattle.spec_c_dumper.specs.rules.Machine.{Req}
 use Rattle.spec_c_dumper.specs.needs.Session.{noNames}
@@ -19,17 +19,14 @@ use Rattle.spec_opening.specs.Causes.{openingNumber}
 use Rattle.spec_opening.specs.Described.{tableIn}
 use Rattle.spec_opening.proofs.Order.{sound-none}
 use Rattle.spec_session.specs.session.Turns.{Call}
-use Rattle.spec_c_calls.specs.Exports.{Export}
-use Rattle.proof_demands.specs.demands.Table.{openedTable, namesIn}
+use Rattle.proof_demands.specs.demands.Table.{openedTable}
 use Rattle.proof_demands.specs.demands.Session as old
-use Rattle.proof_demands.specs.counted.Counted.{definedAfter}
 use Rattle.proof_demands.proofs.counted.Claims.{counted}
 use Rattle.proof_calls.specs.calls_for_c.Claims as for-c
 use Rattle.proof_calls.proofs.calls_for_c.Claims.{delivered-c}
 use Rattle.proof_calls.proofs.described.Table.{type-list, count-list, pointer-is, tags-same, described-wf}
 use Rattle.claims.specs.Calls.{Calls, After}
-use Rattle.claims.specs.Demands.{InBothModes}
-use Rattle.claims.specs.Request07_alignment_once.{remembering, Spells, Counted, Answered, Request07}
+use Rattle.claims.specs.Request07_alignment_once.{remembering, Answered, Request07}
 use Rattle.claims.specs.Ours.{onSession, sessionVisits, forC, visitsForC}
 use Rattle.claims.proofs.Names.{plain-are, ends}
 use Rattle.claims.proofs.Demands.{session-after, session-sound, c-after, c-sound}

@@ -22,7 +22,7 @@ use Rattle.spec_c_dumper.proofs.needs.Session.{machine-lawful}
 use Rattle.spec_c_dumper.proofs.needs.Alike.{AlikeMachine, BothSess, BothAnswer, run-alike}
 use Rattle.spec_c_dumper.proofs.needs.AnyNames.{Nearly, names-alike}
 use Rattle.spec_c_dumper.specs.names_apart.Apart.{Apart, apart, noneShown}
-use Rattle.spec_c_dumper.specs.origins.Causes.{Entry, Noted, Led, orderLed, listedEntry, eachListed, idsFrom, showsIn, always, upTo, entriesIn, filled, Explaining, untold, dropped, emittedNoted, orderedNoted, gateNoted, singleNoted, onwardNoted, listNoted, fromNoted, everyNoted, Causes, causesOf, oneCauses, listCauses, allCauses}
+use Rattle.spec_c_dumper.specs.origins.Causes.{Noted, Led, orderLed, listedEntry, eachListed, idsFrom, showsIn, always, upTo, entriesIn, filled, Explaining, untold, dropped, emittedNoted, orderedNoted, gateNoted, singleNoted, onwardNoted, listNoted, fromNoted, everyNoted, Causes, causesOf, oneCauses, listCauses, allCauses}
 use Rattle.spec_c_dumper.specs.origins.Claims.{FitsList, listPlain}
 use Rattle.spec_c_dumper.specs.origins.Lines.{Turns}
 use Rattle.spec_c_dumper.proofs.origins.Requests.{single-fits, every-fits, list-fits}
@@ -42,8 +42,8 @@ use Rattle.proof_calls.proofs.line_origins.Claims.{calls-reasoned}
 use Rattle.proof_calls.proofs.line_origins.Alike.{BothCauses, one-causes, list-causes, all-causes}
 use Rattle.proof_calls.proofs.described.Table.{over-shown, described-wf}
 use Rattle.claims.specs.Calls.{idsIn, Lent, After}
-use Rattle.claims.specs.Demand2.{Tells, Demand2}
-use Rattle.claims.specs.Demands.{ruled, Stated}
+use Rattle.claims.specs.Demand2.{Tells}
+use Rattle.claims.specs.Demands.{ruled}
 use Rattle.claims.specs.Request12_line_origins.{Listing, Agrees, ByRules, Explains, Reasoned, Request12}
 use Rattle.claims.specs.Ours.{onSession, sessionLending}
 use Rattle.claims.proofs.Names.{plain-are, passed-are, taken, right, ends}
@@ -239,20 +239,20 @@ module _ (p modes : ℕ) (s : List ℕ) (n : ℕ) (c : Call) (rs : List Req) (a 
           subst (λ (N : Naming Names). ByRules onSession sessionLending s (machineBy N D′) (tableOf D′) (showsIn D′) c (ruled onSession p modes s n N (noNames D′) rs)) (passed-are p modes s n on) over
 
       -- the sessions with these lists and with the names of the mode differ in the names only
-      abbrev Near : Ls (Known Apart) → Ls (Known Names) → Type 0
+      abbrev pub Near : Ls (Known Apart) → Ls (Known Names) → Type 0
       Near = Nearly (Like D′ (taken p modes s n) (right p modes s n y sound on)) (D′ .type-cnt)
 
-      sessions : BothSess Near (ruled onSession p modes s n (apart D′) (noneShown D′) rs) (ruled onSession p modes s n L (noNames D′) rs)
+      pub names-near : AlikeMachine (machineBy (apart D′) D′) (machineBy L D′) (D′ .type-cnt) (Sized (D′ .type-cnt)) Near
+      names-near = names-alike (Like D′ (taken p modes s n) (right p modes s n y sound on)) (Fits D′) (FitsValue D′) (apart D′) L (like D′ (taken p modes s n) (right p modes s n y sound on)) D′ (fits D′ (ends p modes s n y sound))
+
+      pub sessions : BothSess Near (ruled onSession p modes s n (apart D′) (noneShown D′) rs) (ruled onSession p modes s n L (noNames D′) rs)
       unfolding afresh
-      sessions = run-alike (machineBy (apart D′) D′) (machineBy L D′) (tableOf D′) (Sized (D′ .type-cnt)) (machine-lawful L D′ (D′ .type-cnt)) (described-wf p modes s n y sound .below) Near al rs
+      sessions = run-alike (machineBy (apart D′) D′) (machineBy L D′) (tableOf D′) (Sized (D′ .type-cnt)) (machine-lawful L D′ (D′ .type-cnt)) (described-wf p modes s n y sound .below) Near names-near rs
           (openedBy (apart D′) D′ (noneShown D′)) (openedBy L D′ (noNames D′)) (record {
             same-open = refl;
             same-asked = refl;
             alike = record { rest = refl; names = (refl, none-usual D′ (taken p modes s n) (right p modes s n y sound on)); sized = record { marks-n = length-replicate (D′ .type-cnt) new; emits-n = length-replicate (D′ .type-cnt) new } };
           })
-        where
-          al : AlikeMachine (machineBy (apart D′) D′) (machineBy L D′) (D′ .type-cnt) (Sized (D′ .type-cnt)) Near
-          al = names-alike (Like D′ (taken p modes s n) (right p modes s n y sound on)) (Fits D′) (FitsValue D′) (apart D′) L (like D′ (taken p modes s n) (right p modes s n y sound on)) D′ (fits D′ (ends p modes s n y sound))
 
       text-same : (t₁ : Answer (Ls (Known Apart))) (t : Answer (Ls (Known Names))) → BothAnswer Near t₁ t → textOf (t .sess .mach .pieces) ≡ textOf (t₁ .sess .mach .pieces)
       text-same t₁ t h = sym (ap (λ (k : Ls ℕ). textOf (k .pieces)) (h .sessions .alike .rest))
@@ -286,20 +286,17 @@ module _ (p modes : ℕ) (s : List ℕ) (n : ℕ) (c : Call) (rs : List Req) (a 
             ∙ ap length (sym (both-list es (length text) (idsIn ids) .answers .sessions .same-asked));
       }
         where
-          al : AlikeMachine (machineBy (apart D′) D′) (machineBy L D′) (D′ .type-cnt) (Sized (D′ .type-cnt)) Near
-          al = names-alike (Like D′ (taken p modes s n) (right p modes s n y sound on)) (Fits D′) (FitsValue D′) (apart D′) L (like D′ (taken p modes s n) (right p modes s n y sound on)) D′ (fits D′ (ends p modes s n y sound))
-
           both-one : (es : List ℕ) (room x : ℕ) → BothCauses Near (oneCauses (machineBy (apart D′) D′) (tableOf D′) (showsIn D′) es room (ruled onSession p modes s n (apart D′) (noneShown D′) rs) x)
               (oneCauses (machineBy L D′) (tableOf D′) (showsIn D′) es room (ruled onSession p modes s n L (noNames D′) rs) x)
-          both-one es room x = one-causes (machineBy (apart D′) D′) (machineBy L D′) (tableOf D′) (Sized (D′ .type-cnt)) (machine-lawful L D′ (D′ .type-cnt)) (described-wf p modes s n y sound .below) Near al (showsIn D′) es room _ _ sessions x
+          both-one es room x = one-causes (machineBy (apart D′) D′) (machineBy L D′) (tableOf D′) (Sized (D′ .type-cnt)) (machine-lawful L D′ (D′ .type-cnt)) (described-wf p modes s n y sound .below) Near names-near (showsIn D′) es room _ _ sessions x
 
           both-all : (es : List ℕ) (room : ℕ) → BothCauses Near (allCauses (machineBy (apart D′) D′) (tableOf D′) (showsIn D′) es room (ruled onSession p modes s n (apart D′) (noneShown D′) rs))
               (allCauses (machineBy L D′) (tableOf D′) (showsIn D′) es room (ruled onSession p modes s n L (noNames D′) rs))
-          both-all es room = all-causes (machineBy (apart D′) D′) (machineBy L D′) (tableOf D′) (Sized (D′ .type-cnt)) (machine-lawful L D′ (D′ .type-cnt)) (described-wf p modes s n y sound .below) Near al (showsIn D′) es room _ _ sessions
+          both-all es room = all-causes (machineBy (apart D′) D′) (machineBy L D′) (tableOf D′) (Sized (D′ .type-cnt)) (machine-lawful L D′ (D′ .type-cnt)) (described-wf p modes s n y sound .below) Near names-near (showsIn D′) es room _ _ sessions
 
           both-list : (es : List ℕ) (room : ℕ) (xs : List ℕ) → BothCauses Near (listCauses (machineBy (apart D′) D′) (tableOf D′) (showsIn D′) es room (ruled onSession p modes s n (apart D′) (noneShown D′) rs) xs)
               (listCauses (machineBy L D′) (tableOf D′) (showsIn D′) es room (ruled onSession p modes s n L (noNames D′) rs) xs)
-          both-list es room xs = list-causes (machineBy (apart D′) D′) (machineBy L D′) (tableOf D′) (Sized (D′ .type-cnt)) (machine-lawful L D′ (D′ .type-cnt)) (described-wf p modes s n y sound .below) Near al (showsIn D′) es room _ _ sessions xs
+          both-list es room xs = list-causes (machineBy (apart D′) D′) (machineBy L D′) (tableOf D′) (Sized (D′ .type-cnt)) (machine-lawful L D′ (D′ .type-cnt)) (described-wf p modes s n y sound .below) Near names-near (showsIn D′) es room _ _ sessions xs
 
 -- ---- the claim
 

@@ -2,14 +2,13 @@
 use Prim.Native.Nat.{ℕ, _%_, _<_, _≤_}
 use mathlib.Core.Path.{_≡_, refl, sym, _∙_}
 use mathlib.Core.Bool.{Bool, true, false, _&&_, true≢false}
-use mathlib.Core.List.{List}
 use native.Mathlib.Omega.{arith}
 use lib.Dec.{eqb, leb}
 use borrow.Author.Tests.{eqb-true, eq-eqb, leb-true, le-leb}
 use Rattle.spec_c_dumper.specs.rules.Layout.{long, int, short, char, Pad, suits, placedPad}
 use Rattle.spec_c_dumper.proofs.rules.Placed.{laid-out, own-alignment, same-gaps}
 use Rattle.c_dumper_declarator.proofs.declarations.Lines.{lines-written}
-use Rattle.claims.specs.Request03_placing.{IsUnit, long-64, int-32, short-16, char-8, char-4, char-2, char-1, Suits, Widest, Request03}
+use Rattle.claims.specs.Request03_placing.{IsUnit, long-64, int-32, short-16, char-8, char-4, char-2, char-1, Widest, Request03}
 
 and-left : (a b : Bool) → (a && b) ≡ true → a ≡ true
 and-left true b e = refl

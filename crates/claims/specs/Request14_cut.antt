@@ -2,7 +2,7 @@
 -- spec_cut. Statement only; proofs/Cut.antt has the proof; it assumes nothing.
 use Prim.Native.Nat.{ℕ, _+_, _*_, _/_, _%_, _<_, _≤_}
 use mathlib.Core.Path.{_≡_}
-use mathlib.Core.Bool.{Bool, true, false}
+use mathlib.Core.Bool.{Bool, true}
 use mathlib.Core.List.{List, _++_, map}
 use mathlib.Core.Logic.{_⊎_}
 use lib.ListN.{length, take, drop}

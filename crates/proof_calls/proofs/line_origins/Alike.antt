@@ -1,18 +1,18 @@
 -- Two machines whose steps go alike note the same entries, in requests of one call. Assumes nothing.
 use Prim.Native.Nat.{ℕ, zero, suc, _-_, _<_, _≤_}
 use native.Mathlib.Omega.{arith}
-use mathlib.Core.Path.{_≡_, refl, ap, _∙_, sym, subst}
+use mathlib.Core.Path.{_≡_, refl, ap, sym, subst}
 use mathlib.Core.Bool.{Bool, true, false}
 use mathlib.Core.List.{List, [], _∷_, _++_, List·Memᴰ, List·Memᴰ·not-nil}
 use lib.ListN.{length}
 use lib.Dec.{T as True, ltb, ltb→lt}
 use Rattle.spec_c_dumper.specs.rules.Order.{Table, Res}
-use Rattle.spec_c_dumper.specs.rules.Machine.{Out, Machine, MLawful, OrderKeeps, Sess, Answer, shut}
+use Rattle.spec_c_dumper.specs.rules.Machine.{Out, Machine, MLawful, OrderKeeps, Sess, shut}
 use Rattle.spec_c_dumper.specs.needs.Needs.{kids}
 use Rattle.spec_c_dumper.proofs.needs.Ways.{tally}
 use Rattle.spec_c_dumper.proofs.needs.Emission.{AlikeSteps}
 use Rattle.spec_c_dumper.proofs.needs.Alike.{AlikeMachine, Live, BothOut, both-wrote, both-stuck, BothSess, BothAnswer}
-use Rattle.spec_c_dumper.specs.origins.Causes.{Led, orderLed, listedEntry, Noted, eachListed, Explaining, untold, dropped, emittedNoted, orderedNoted, gateNoted, singleNoted, onwardNoted, listNoted, fromNoted, everyNoted, upTo, entriesIn, filled, Causes, causesOf, oneCauses, listCauses, allCauses}
+use Rattle.spec_c_dumper.specs.origins.Causes.{Led, listedEntry, Noted, eachListed, Explaining, untold, dropped, emittedNoted, orderedNoted, gateNoted, singleNoted, onwardNoted, listNoted, fromNoted, everyNoted, upTo, entriesIn, filled, Causes, causesOf, oneCauses, listCauses, allCauses}
 use Rattle.proof_calls.proofs.line_origins.Ordering.{BothLed, both-led, neither-led, order-led-alike}
 use Rattle.proof_calls.proofs.line_origins.Emission.{SameNoted, listed-alike}
 
