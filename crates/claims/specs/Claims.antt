@@ -1,6 +1,6 @@
 -- READ THIS FIRST: all that is claimed, and where it is said. proofs/Claims.antt has the one theorem, `claims : Claims`; it assumes
 -- nothing. That the code does what the definitions say, for all inputs, is in the contracts of its functions; that the rules are the
--- Rust's is read and compared (docs/DIFFERENCES.md).
+-- Rust's is read and compared (docs/DIFFERENCES.md). The premise `Bytes s` holds of every section that the code is lent (`session_lent`).
 use Prim.Native.Nat.{ℕ}
 use mathlib.Core.List.{List}
 use Rattle.spec_c_dumper.specs.rules.Order.{Table}
