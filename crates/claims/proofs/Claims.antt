@@ -21,12 +21,12 @@ use Rattle.proof_two_headers.proofs.Claims.{two-headers}
 use Rattle.session_field_at_bit.proofs.field.Sound.{sound}
 use Rattle.session_field_at_bit.proofs.field.Unique.{unique}
 use Rattle.session_field_at_bit.proofs.field.Claims.{refused-leaves}
-use Rattle.proof_calls.proofs.program.Claims.{runs}
 use Rattle.claims.specs.Claims.{Claims}
 use Rattle.claims.specs.Request02_big_endian.{Request02}
 use Rattle.claims.specs.Request04_fixed_words.{Request04}
 use Rattle.claims.proofs.Demands.{session-stated, session-sound, session-opens, c-stated, c-sound, c-opens}
 use Rattle.claims.proofs.Placing.{placing}
+use Rattle.claims.proofs.Program.{printed}
 use Rattle.claims.proofs.Declared.{declared-first}
 use Rattle.claims.proofs.Once.{session-once, c-once}
 use Rattle.claims.proofs.Origins.{session-reasoned}
@@ -90,5 +90,5 @@ claims = record {
   };
   request14 = session-cut;
   request14-c = c-cut;
-  program = runs;
+  program = printed;
 }

@@ -1,7 +1,6 @@
 -- Demands 2 and 3 together, of any calls, over the types that the section describes and after every list of requests: statement only.
--- proofs/Demands.antt has the proofs. What has to be believed to read this: the records of the Linux page (spec_linux_btf) and what
--- `load_type` keeps of them (spec_type_table, Documented), the rules of the Rust (spec_c_dumper, rules; names that cannot collide:
--- names_apart), needs and chains (spec_c_dumper, needs), and specs/Calls.
+-- proofs/Demands.antt has the proofs. To be believed: the records of the Linux page (spec_linux_btf), what `load_type` keeps of them
+-- (spec_type_table, Documented), the rules of the Rust, names apart, needs and chains (spec_c_dumper), and specs/Calls.
 use Prim.Native.Nat.{ℕ, _/_, _%_}
 use mathlib.Core.Path.{_≡_}
 use mathlib.Core.List.{List}
