@@ -1,18 +1,21 @@
 -- Ask 14 holds: what the call for a section cut down writes, and that the new section answers as the old one, over any calls of which demand 2 holds. Assumes
 -- nothing but that the section is bytes.
-use Prim.Native.Nat.{ℕ, zero, suc, _+_, _-_, _≤_}
+use Prim.Native.Nat.{ℕ, zero, suc, _+_, _-_, _<_, _≤_}
 use mathlib.Core.Path.{_≡_, refl, ap, _∙_, sym, subst}
 use mathlib.Core.Bool.{Bool, true, false}
 use mathlib.Core.List.{List, [], _∷_, _++_, map}
+use mathlib.Core.Logic.{inl}
 use native.Mathlib.Omega.{arith}
 use lib.ListN.{length, replicate}
+use lib.Dec.{ltb}
+use borrow.Author.Tests.{lt-ltb}
 use Rattle.spec_bytes.specs.words.Words.{words}
 use Rattle.spec_linux_btf.specs.Documentation.{Every}
 use Rattle.spec_linux_btf.specs.Reading.{Bytes}
-use Rattle.spec_c_dumper.specs.rules.Order.{Table}
+use Rattle.spec_c_dumper.specs.rules.Order.{Node, plain, Table, Mark, new, busy, done, Res, meet, pushIf, fresh, visit, order}
 use Rattle.spec_c_dumper.specs.rules.Types.{Btf, tableOf}
-use Rattle.spec_c_dumper.specs.rules.Names.{Names, naming}
-use Rattle.spec_c_dumper.specs.rules.Machine.{Machine, Sess, Answer, Req, one, all, single, every}
+use Rattle.spec_c_dumper.specs.rules.Names.{Naming, Names, naming}
+use Rattle.spec_c_dumper.specs.rules.Machine.{Machine, Sess, Answer, Req, one, all, eeach, shut, emitted, ordered, gate, single, every}
 use Rattle.spec_c_dumper.specs.needs.Lists.{Ls, afresh}
 use Rattle.spec_c_dumper.specs.needs.Session.{Known, Dump, dump, textOf, machineBy, answerTo, dumped, noNames, opened, dumpTypes}
 use Rattle.spec_opening.specs.Types.{describedIn, typesOf}
@@ -34,7 +37,7 @@ use Rattle.proof_demands.proofs.demands.Session.{after-holds}
 use Rattle.proof_demands.proofs.demands.Demands.{open-number}
 use Rattle.proof_names_apart.proofs.same_text.Dumps.{textIn, lastIn, dump-text, last-text, last-number}
 use Rattle.session_cut.specs.call.Calls.{isOpenOn}
-use Rattle.proof_calls.proofs.described.Table.{over-described}
+use Rattle.proof_calls.proofs.described.Table.{over-described, described-wf}
 use Rattle.claims.specs.Calls.{Calls, idsIn, Lent, After, then-one}
 use Rattle.claims.specs.Demand2.{Tells}
 use Rattle.claims.specs.Demands.{ruled, Stated}
@@ -77,6 +80,43 @@ dump-described p modes s n y ok rs =
   where
     fresh : ℕ → Sess (Ls (Known Names))
     fresh m = record { isOpen = true; mach = afresh m (record { names = record { versions = replicate m 0; ledger = [] }; text-len = 0 }); asked = [] }
+
+-- a request for void in an open session is not refused by 11
+module _ (N : Naming Names) (B : Btf) (S : Sess (Ls (Known Names))) where
+  abbrev X : Machine (Ls (Known Names))
+  X = machineBy N B
+
+  abbrev Not11 : Res (Ls (Known Names)) → Type 0
+  Not11 r = ordered X (tableOf B) S 0 r .number ≡ 11 → ⊥
+
+  abbrev started : Ls (Known Names)
+  started = X .start 0 (S .mach)
+
+  abbrev deeper : Ls (Known Names) → ℕ → Bool → Res (Ls (Known Names))
+  deeper s y w = order (X .store) 511 (tableOf B) s y w
+
+  meets : (b : Bool) → Not11 (meet b started)
+  unfolding ordered emitted shut meet eeach
+  meets true e = absurd (let z : _≡_ {A = ℕ} 0 11 = e in omega arith)
+  meets false e = absurd (let z : _≡_ {A = ℕ} 13 11 = e in omega arith)
+
+  void-fresh : Not11 (fresh (X .store) (tableOf B) deeper started 0 false plain)
+  unfolding ordered emitted fresh pushIf eeach
+  void-fresh e = absurd (let z : _≡_ {A = ℕ} 0 11 = e in omega arith)
+
+  visits : tableOf B .node 0 ≡ plain → (m : Mark) → Not11 (visit (X .store) (tableOf B) deeper started 0 false m)
+  unfolding visit ordered emitted eeach
+  visits void new = subst (λ (nd : Node). Not11 (fresh (X .store) (tableOf B) deeper started 0 false nd)) (sym void) void-fresh
+  visits void busy = meets _
+  visits void done = λ e. absurd (let z : _≡_ {A = ℕ} 0 11 = e in omega arith)
+
+  open-void : tableOf B .node 0 ≡ plain → 0 < B .type-cnt → S .isOpen ≡ true → single X (tableOf B) 0 S 0 .number ≡ 11 → ⊥
+  unfolding single gate order
+  open-void void some o e = visits void (X .store .get started 0) (sym (λ i. gate X (tableOf B) 0 S 0 (o i) (lt-ltb 0 (B .type-cnt) some i) .number) ∙ e)
+
+  closed-void : S .isOpen ≡ false → single X (tableOf B) 0 S 0 .number ≡ 11
+  unfolding single gate
+  closed-void o = ap (λ (b : Bool). gate X (tableOf B) 0 S 0 b (ltb 0 (B .type-cnt)) .number) o
 
 -- one request more
 pub renumbered-more : {I : ℕ → ℕ → Type 0} {rs rs′ : List Req} → Renumbered I rs rs′ → (room x x′ : ℕ) → I x x′ → Renumbered I (rs ++ (one room x ∷ [])) (rs′ ++ (one room x′ ∷ []))
@@ -122,11 +162,31 @@ module _ {R C : Type 0} (K : Calls R C) (stated : (p modes : ℕ) (s : List ℕ)
       S′ = ruled K p modes s′ n′ naming (noNames D′) rs′
 
       pub so-far : SameText K c c′
+      unfolding answerTo newId typesOf
       so-far =
           let d = stated p modes s n .plain (h .bytes) (h .old-names) c rs a .demand2 in
           let d′ = stated p modes s′ n′ .plain bytes′ (h .old-names) c′ rs′ a′ .demand2 in
           let e : textOf (S .mach .pieces) ≡ textOf (S′ .mach .pieces) = sym (dump-text naming D rs [] (opened D)) ∙ ap textIn (by-rules rs rs′ r) ∙ dump-text naming D′ rs′ [] (opened D′) in
-          record { text-len = d .text-len ∙ ap length e ∙ sym (d′ .text-len); text = d .text ∙ e ∙ sym (d′ .text) }
+          record { is-open = d .is-open ∙ open-same ∙ sym (d′ .is-open); text-len = d .text-len ∙ ap length e ∙ sym (d′ .text-len); text = d .text ∙ e ∙ sym (d′ .text) }
+        where
+          some-types : 0 < typesOf s
+          some-types = omega arith
+
+          -- void tells it
+          void-same : single (machineBy naming D) (tableOf D) 0 S 0 .number ≡ single (machineBy naming D′) (tableOf D′) 0 S′ 0 .number
+          void-same =
+              sym (last-number naming D (one 0 0) rs [] (opened D))
+              ∙ ap lastIn (by-rules _ _ (renumbered-more r 0 0 0 ((some-types, inl refl), refl)))
+              ∙ last-number naming D′ (one 0 0) rs′ [] (opened D′)
+
+          open-same : S .isOpen ≡ S′ .isOpen
+          open-same = go (S .isOpen) (S′ .isOpen) refl refl
+            where
+              go : (b b′ : Bool) → S .isOpen ≡ b → S′ .isOpen ≡ b′ → b ≡ b′
+              go true true u v = refl
+              go false false u v = refl
+              go true false u v = absurd (open-void naming D S (described-wf p modes s n (h .bytes) ok .void) (omega arith) u (void-same ∙ closed-void naming D′ S′ v))
+              go false true u v = absurd (open-void naming D′ S′ (described-wf p modes s′ n′ bytes′ ok′ .void) (omega arith) v (sym void-same ∙ closed-void naming D S u))
 
       pub next : (text text′ : List ℕ) → length text ≡ length text′ → Lent K c text → Lent K c′ text′ → (x : ℕ) → HasNumber K p modes s n given n′ x → SameAnswer K (K .request c s text x) (K .request c′ s′ text′ (newId m x))
       unfolding answerTo
@@ -189,20 +249,20 @@ module _ (p modes : ℕ) (s : List ℕ) (n : ℕ) (given : List ℕ) (n′ : ℕ
   abbrev kept : ℕ → Bool
   kept = keptBy s given
 
-  abbrev new : List ℕ
-  new = sectionFor s given
+  abbrev small : List ℕ
+  small = sectionFor s given
 
   abbrev Numbers : List Req → List Req → Type 0
   Numbers = Renumbered (HasNewNumber onSession p modes s n given n′)
 
   -- a list, after k accepted ids
-  from : (k : ℕ) (c c′ : Call) (rs rs′ : List Req) → After onSession p modes s n c rs → After onSession p modes new n′ c′ rs′ → Numbers rs rs′ → (text text′ : List ℕ) → length text ≡ length text′
+  from : (k : ℕ) (c c′ : Call) (rs rs′ : List Req) → After onSession p modes s n c rs → After onSession p modes small n′ c′ rs′ → Numbers rs rs′ → (text text′ : List ℕ) → length text ≡ length text′
       → Lent onSession c text → Lent onSession c′ text′ → (ids : List ℕ) → Every (HasNumber onSession p modes s n given n′) ids
-      → SameList onSession (listFrom k (c .session) s (c .work) text ids) (listFrom k (c′ .session) new (c′ .work) text′ (map (newId kept) ids))
+      → SameList onSession (listFrom k (c .session) s (c .work) text ids) (listFrom k (c′ .session) small (c′ .work) text′ (map (newId kept) ids))
   unfolding listFrom thenNext callOf
   from k c c′ rs rs′ a a′ b text text′ e l l′ [] q =
       let t = so-far onSession session-stated session-sound p modes s n given n′ h (session-sound p modes s n c rs a) c c′ rs rs′ a a′ b in
-      record { number = refl; accepted = refl; text = record { text-len = t .text-len; text = l .begins ∙ t .text ∙ sym (l′ .begins) } }
+      record { number = refl; accepted = refl; text = record { is-open = t .is-open; text-len = t .text-len; text = l .begins ∙ t .text ∙ sym (l′ .begins) } }
   from k c c′ rs rs′ a a′ b text text′ e l l′ (x ∷ ids) q =
       subst (λ (z : ℕ). SameList onSession (ends (numberOf (d .answer))) (ends′ z)) (next onSession session-stated session-sound p modes s n given n′ h (session-sound p modes s n c rs a) c c′ rs rs′ a a′ b text text′ e l l′ x (q .0) .number)
       (by (numberOf (d .answer)) (from (suc k) d d′ _ _ after after′ numbers (d .text) (d′ .text) (r .0 ∙ e ∙ sym (r′ .0)) (record { long = omega (arith, r .0, r .1); begins = refl }) (record { long = omega (arith, r′ .0, r′ .1); begins = refl }) ids (q .1)))
@@ -211,13 +271,13 @@ module _ (p modes : ℕ) (s : List ℕ) (n : ℕ) (given : List ℕ) (n′ : ℕ
       d = typeCall (c .session) s (c .work) text x
 
       d′ : Call
-      d′ = typeCall (c′ .session) new (c′ .work) text′ (newId kept x)
+      d′ = typeCall (c′ .session) small (c′ .work) text′ (newId kept x)
 
       after : After onSession p modes s n d (rs ++ (one (length text) x ∷ []))
       after = then-one c rs a text l x
 
-      after′ : After onSession p modes new n′ d′ (rs′ ++ (one (length text) (newId kept x) ∷ []))
-      after′ = subst (λ (size : ℕ). After onSession p modes new n′ d′ (rs′ ++ (one size (newId kept x) ∷ []))) (sym e) (then-one c′ rs′ a′ text′ l′ (newId kept x))
+      after′ : After onSession p modes small n′ d′ (rs′ ++ (one (length text) (newId kept x) ∷ []))
+      after′ = subst (λ (size : ℕ). After onSession p modes small n′ d′ (rs′ ++ (one size (newId kept x) ∷ []))) (sym e) (then-one c′ rs′ a′ text′ l′ (newId kept x))
 
       numbers : Numbers (rs ++ (one (length text) x ∷ [])) (rs′ ++ (one (length text) (newId kept x) ∷ []))
       numbers = renumbered-more b (length text) x (newId kept x) (q .0, refl)
@@ -226,29 +286,29 @@ module _ (p modes : ℕ) (s : List ℕ) (n : ℕ) (given : List ℕ) (n′ : ℕ
       r = room (c .session) s (c .work) text x (l .long)
 
       r′ : (length (d′ .text) ≡ length text′) × (d′ .session .«text_len» ≤ length text′)
-      r′ = room (c′ .session) new (c′ .work) text′ (newId kept x) (l′ .long)
+      r′ = room (c′ .session) small (c′ .work) text′ (newId kept x) (l′ .long)
 
       ends : ℕ → Call
       ends z = elim z [ zero ↦ listFrom (suc k) (d .session) s (d .work) (d .text) ids | suc j ↦ callOf (d .session) (answerOf (suc j) k) (d .work) (d .text) ]
 
       ends′ : ℕ → Call
-      ends′ z = elim z [ zero ↦ listFrom (suc k) (d′ .session) new (d′ .work) (d′ .text) (map (newId kept) ids) | suc j ↦ callOf (d′ .session) (answerOf (suc j) k) (d′ .work) (d′ .text) ]
+      ends′ z = elim z [ zero ↦ listFrom (suc k) (d′ .session) small (d′ .work) (d′ .text) (map (newId kept) ids) | suc j ↦ callOf (d′ .session) (answerOf (suc j) k) (d′ .work) (d′ .text) ]
 
-      by : (z : ℕ) → SameList onSession (listFrom (suc k) (d .session) s (d .work) (d .text) ids) (listFrom (suc k) (d′ .session) new (d′ .work) (d′ .text) (map (newId kept) ids)) → SameList onSession (ends z) (ends′ z)
+      by : (z : ℕ) → SameList onSession (listFrom (suc k) (d .session) s (d .work) (d .text) ids) (listFrom (suc k) (d′ .session) small (d′ .work) (d′ .text) (map (newId kept) ids)) → SameList onSession (ends z) (ends′ z)
       by zero more = more
       by (suc j) more =
           let t = so-far onSession session-stated session-sound p modes s n given n′ h (session-sound p modes s n c rs a) d d′ _ _ after after′ numbers in
-          record { number = refl; accepted = refl; text = record { text-len = t .text-len; text = t .text } }
+          record { number = refl; accepted = refl; text = record { is-open = t .is-open; text-len = t .text-len; text = t .text } }
 
   session-reopens : Reopens onSession p modes s n given n′
   unfolding listCall
   session-reopens = record {
-    opens = λ c rs a S work text f e. open-number S new work text p modes ∙ ap (openingNumber p new) e ∙ ok′ onSession session-stated session-sound p modes s n given n′ h (session-sound p modes s n c rs a);
+    opens = λ c rs a S work text f e. open-number S small work text p modes ∙ ap (openingNumber p small) e ∙ ok′ onSession session-stated session-sound p modes s n given n′ h (session-sound p modes s n c rs a);
     alike = λ c c′ rs rs′ a a′ b. record {
       so-far = so-far onSession session-stated session-sound p modes s n given n′ h (session-sound p modes s n c rs a) c c′ rs rs′ a a′ b;
       next = next onSession session-stated session-sound p modes s n given n′ h (session-sound p modes s n c rs a) c c′ rs rs′ a a′ b;
       next-list = λ text text′ e l l′ ids ids′ q z.
-          subst (λ (xs : List ℕ). SameList onSession (onSession .requestList c s text ids) (listCall (c′ .session) new (c′ .work) text′ xs)) (sym z)
+          subst (λ (xs : List ℕ). SameList onSession (onSession .requestList c s text ids) (listCall (c′ .session) small (c′ .work) text′ xs)) (sym z)
           (from 0 c c′ rs rs′ a a′ b text text′ e l l′ (idsIn ids) q);
     };
   }

@@ -119,7 +119,7 @@ module _ (p modes : ℕ) (s : List ℕ) (n : ℕ) (given : List ℕ) (n′ : ℕ
   unfolding listExportFrom countedExport exportOf
   from k e e′ rs rs′ a a′ b text text′ z l l′ [] q =
       let t = so-far forC c-stated c-sound p modes s n given n′ h (c-sound p modes s n e rs a) e e′ rs rs′ a a′ b in
-      record { number = refl; accepted = refl; text = record { text-len = t .text-len; text = l .begins ∙ t .text ∙ sym (l′ .begins) } }
+      record { number = refl; accepted = refl; text = record { is-open = t .is-open; text-len = t .text-len; text = l .begins ∙ t .text ∙ sym (l′ .begins) } }
   from k e e′ rs rs′ a a′ b text text′ z l l′ (x ∷ ids) q =
       subst (λ (y : ℕ). SameList forC (ends (forC .number d)) (ends′ y)) (same .number)
       (by (forC .number d) refl (λ y.
@@ -154,7 +154,7 @@ module _ (p modes : ℕ) (s : List ℕ) (n : ℕ) (given : List ℕ) (n′ : ℕ
       by zero w more = more w
       by (suc j) w more =
           let t = so-far forC c-stated c-sound p modes s n given n′ h (c-sound p modes s n e rs a) d d′ _ _ after after′ numbers in
-          record { number = refl; accepted = refl; text = record { text-len = t .text-len; text = t .text } }
+          record { number = refl; accepted = refl; text = record { is-open = t .is-open; text-len = t .text-len; text = t .text } }
 
   c-reopens : Reopens forC p modes s n given n′
   unfolding listExport

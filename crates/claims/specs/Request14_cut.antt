@@ -48,8 +48,9 @@ module _ {C : Type 0} (X : Cutting C) (c : C) (s given out : List ℕ) where
 -- ---- the new section, opened afresh: of any calls
 
 module _ {R C : Type 0} (K : Calls R C) where
-  -- the same text so far
+  -- open or closed alike, with the same text so far
   pub record SameText (c c′ : C) : Type 0 where
+    pub is-open : K .isOpen c ≡ K .isOpen c′
     pub text-len : K .len c ≡ K .len c′
     pub text : take (K .len c) (K .text c) ≡ take (K .len c′) (K .text c′)
 
