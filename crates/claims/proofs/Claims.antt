@@ -1,46 +1,41 @@
 -- THE THEOREM: all that is claimed holds. Assumes nothing.
 use mathlib.Core.Path.{_≡_, refl, ap, sym, _∙_}
 use mathlib.Core.Bool.{Bool, true, false, not, true≢false}
-use mathlib.Core.List.{List}
-use borrow.Author.Tests.{leb-true}
-use lib.ListN.{length, take}
-use lib.Dec.{ltb}
-use Prim.Native.Nat.{ℕ, zero-le, _<_, _+_}
+use mathlib.Core.List.{List, [], _∷_, map, List·Memᴰ, List·Memᴰ·not-nil, List·Memᴰ·cases-cons}
+use mathlib.Core.Logic.{⊎-elim}
+use lib.ListN.{length, drop, getD, replicate}
+use Prim.Native.Nat.{ℕ, zero-le}
 use Rattle.spec_bytes.specs.words.Words.{wordIn}
-use Rattle.spec_linux_btf.specs.Section.{bigEndian, littleEndian, wordOf, headerSound}
-use Rattle.base_keywords.specs.table.Fixed.{table}
-use Rattle.spec_c_dumper.proofs.rules.Placed.{laid-out}
+use Rattle.spec_linux_btf.specs.Section.{wordOf, headerSound}
+use Rattle.base_keywords.specs.table.Fixed.{table, fixedWords, occurrences}
+use Rattle.base_keywords.proofs.table.Laws.{table-small, each-once}
 use Rattle.spec_c_dumper.proofs.needs.Arrays.{pointers-stay, arrays-forget, array-of-itself}
 use Rattle.spec_c_dumper.specs.rules.Order.{through}
 use Rattle.spec_opening.specs.Causes.{cause3}
-use Rattle.spec_session.specs.declared.session.Session.{Session}
-use Rattle.spec_session.specs.session.Answers.{numberOf}
-use Rattle.spec_session.specs.session.Turns.{isCurrent, tableFor}
-use Rattle.spec_session.specs.metered.Metered.{callsIn}
-use Rattle.spec_session.specs.metered.Within.{CallWithin, typeCallWithin}
-use Rattle.spec_session.proofs.metered.Claims.{settled-22, type-fits, types-fits, type-22}
+use Rattle.spec_session.proofs.metered.Claims.{type-fits, types-fits}
 use Rattle.spec_session.proofs.metered.ListClaims.{list-fits}
 use Rattle.proof_demands.proofs.demands.Orders.{big-header, other-magic}
-use Rattle.proof_demands.proofs.counted.Claims.{counted}
-use Rattle.proof_declared_first.proofs.Claims.{declared-first}
-use Rattle.proof_names_apart.proofs.no_collision.Claims.{cannot-collide}
-use Rattle.proof_names_apart.proofs.same_text.Claims.{both-modes}
 use Rattle.proof_declaration_reader.proofs.Bound.{exactly}
 use Rattle.proof_declaration_reader.proofs.Decoding.{decodes, numbered, reads-back}
 use Rattle.proof_two_headers.proofs.Claims.{two-headers}
 use Rattle.session_field_at_bit.proofs.field.Sound.{sound}
 use Rattle.session_field_at_bit.proofs.field.Unique.{unique}
 use Rattle.session_field_at_bit.proofs.field.Claims.{refused-leaves}
-use Rattle.proof_calls.proofs.line_origins.Claims.{calls-reasoned}
-use Rattle.proof_calls.proofs.origins.Calls.{calls-explained}
-use Rattle.proof_calls.proofs.mixed.Claims.{calls-mixed}
-use Rattle.proof_calls.proofs.ceilings.Claims.{under-ceilings}
-use Rattle.proof_calls.proofs.cut.Claims.{untouched, carried}
-use Rattle.proof_calls.proofs.program.Claims.{runs}
 use Rattle.claims.specs.Claims.{Claims}
 use Rattle.claims.specs.Request02_big_endian.{Request02}
 use Rattle.claims.specs.Request04_fixed_words.{Request04}
-use Rattle.claims.proofs.Demands.{session-stated, session-opens, c-stated, c-opens}
+use Rattle.claims.proofs.Demands.{session-stated, session-sound, session-opens, c-stated, c-sound, c-opens}
+use Rattle.claims.proofs.Placing.{placing}
+use Rattle.claims.proofs.Program.{printed}
+use Rattle.claims.proofs.Declared.{declared-first}
+use Rattle.claims.proofs.Once.{session-once, c-once}
+use Rattle.claims.proofs.Origins.{session-reasoned}
+use Rattle.claims.proofs.Cut.{session-cut}
+use Rattle.claims.proofs.CutForC.{c-cut}
+use Rattle.claims.proofs.Ceiling.{session-counted}
+use Rattle.claims.proofs.Carried.{session-carries}
+use Rattle.claims.proofs.Apart.{session-apart-alike, c-apart-alike}
+use Rattle.claims.specs.Ours.{onSession, forC}
 
 big-endian : Request02
 unfolding wordOf wordIn cause3
@@ -54,15 +49,13 @@ big-endian = record {
     negated true e = absurd (true≢false (sym e))
     negated false e = refl
 
-fixed-words : Request04
-fixed-words = leb-true (length table) 512 refl
+once-by : (l : List (List ℕ)) → map (λ (w : List ℕ). occurrences w table) l ≡ replicate (length l) 1 → (w : List ℕ) → List·Memᴰ w l → occurrences w table ≡ 1
+once-by [] e w m = absurd (List·Memᴰ·not-nil m)
+once-by (x ∷ l) e w m =
+    ⊎-elim (λ q. ap (λ (v : List ℕ). occurrences v table) q ∙ ap (λ (k : List ℕ). getD k 0 0) e) (λ r. once-by l (ap (drop 1) e) w r) (List·Memᴰ·cases-cons m)
 
-over : (s : Session) (section w t : List ℕ) (c id : ℕ) → isCurrent s (length section) (length w) (length t) ≡ true
-    → ltb id (s .types) ≡ true → c < 0 + callsIn (tableFor s section) section w id
-    → numberOf (typeCallWithin c s section w t id 0 .call .answer) ≡ 22
-over s section w t c id e f l =
-    ap (λ (d : CallWithin). numberOf (d .call .answer)) (type-22 s section w t c id 0 e f l)
-    ∙ settled-22 s (length w) (length t) (s .«text_len») (s .visits) (take (s .«text_len») t)
+fixed-words : Request04
+fixed-words = record { small = table-small; once = once-by fixedWords each-once }
 
 pub claims : Claims
 claims = record {
@@ -71,31 +64,31 @@ claims = record {
   demands = session-stated;
   demands-c = c-stated;
   request02 = big-endian;
-  request03 = λ B placing own. laid-out B placing own;
+  request03 = placing;
   request04 = fixed-words;
-  request05 = declared-first;
+  request05 = λ p modes s n. declared-first onSession p modes s n (session-stated p modes s n) (session-sound p modes s n);
+  request05-c = λ p modes s n. declared-first forC p modes s n (c-stated p modes s n) (c-sound p modes s n);
   request06 = λ T. record {
     off = λ e t w. pointers-stay T e (through true t) w;
     on = λ e t w. arrays-forget T e (through true t) w;
     of-itself = λ e x m array is member to-array to-itself. array-of-itself T x m array e is member to-array to-itself;
   };
-  request07 = counted;
-  request08 = record { apart = cannot-collide; alike = both-modes };
+  request07 = session-once;
+  request07-c = c-once;
+  request08 = session-apart-alike;
+  request08-c = c-apart-alike;
   request09 = record { reads-back = reads-back; exactly = exactly; decodes = decodes; numbered = numbered };
   request10 = two-headers;
   request11 = record { leads = sound; unique = unique; refused = refused-leaves };
-  request12 = λ pointer modes s n. record {
-    by-rules = calls-reasoned pointer modes s n;
-    explained = calls-explained pointer modes s n;
-    mixed = calls-mixed pointer modes s n;
-  };
+  request12 = session-reasoned;
   request13 = record {
     one = λ s section w t c id n. type-fits s section w t c id 0 zero-le n;
     all = λ s section w t c n. types-fits s section w t c n;
     list = λ s section w t ids c n. list-fits c s section w t ids n;
-    over = λ s section w t c id e f l. over s section w t c id e f l;
-    lists = under-ceilings;
+    counted = session-counted;
+    lists = session-carries;
   };
-  request14 = λ S s given out. record { carries = carried S s given out; refused = untouched S s given out };
-  program = runs;
+  request14 = session-cut;
+  request14-c = c-cut;
+  program = printed;
 }

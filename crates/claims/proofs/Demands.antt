@@ -64,7 +64,7 @@ run-more X T (q ∷ rs) r S = run-more X T rs r (serve X T S q)
 
 module _ {R C : Type 0} (K : Calls R C) where
   -- what is the same on two machines tells the same
-  tells-by : {U W : Type 0} (room : ℕ) (c : C) (a : Answer (Ls (Known U))) (b : Answer (Ls (Known W))) → a .number ≡ b .number → textOf (a .sess .mach .pieces) ≡ textOf (b .sess .mach .pieces)
+  pub tells-by : {U W : Type 0} (room : ℕ) (c : C) (a : Answer (Ls (Known U))) (b : Answer (Ls (Known W))) → a .number ≡ b .number → textOf (a .sess .mach .pieces) ≡ textOf (b .sess .mach .pieces)
       → Tells K room c a → Tells K room c b
   tells-by room c a b e q t = record {
     number = t .number ∙ e;
@@ -164,7 +164,7 @@ module _ {R C : Type 0} (K : Calls R C) where
     }
 
 -- ---- lists of ids as single requests, in the words of two crates
-singles-same : (room k : ℕ) (ids : List ℕ) → claims.singlesFor room k ids ≡ singles room k ids
+pub singles-same : (room k : ℕ) (ids : List ℕ) → claims.singlesFor room k ids ≡ singles room k ids
 unfolding claims.singlesFor singles
 singles-same room zero ids = refl
 singles-same room (suc k) [] = refl
@@ -191,14 +191,14 @@ list-closed S s w t ids l o =
     ∙ ap (λ (c : Call). calls.thenNext 0 c (λ d. calls.listFrom 1 (d .session) s (d .work) (d .text) (idsFrom ids 1 (calls.countIn ids - 1)))) (type-not-current S s w t (getWord ids 0) (closed-stays S s w t o))
     ∙ counted-stops 0 11 (unchanged S (Refused 11 (S .«text_len»)) w t) (λ d. calls.listFrom 1 (d .session) s (d .work) (d .text) (idsFrom ids 1 (calls.countIn ids - 1))) refl (λ z. absurd (omega (arith, z)))
 
-made-same : (c : Call) → claims.made 0 c ≡ made onSession c
+pub made-same : (c : Call) → claims.made 0 c ≡ made onSession c
 unfolding claims.made made
 made-same c =
     let z : onSession .value c - 0 ≡ onSession .value c = omega arith in
     λ i. z i + pick (eqb (onSession .number c) 0 || eqb (onSession .number c) 11) 0 1
 
 module _ (p modes : ℕ) (s : List ℕ) (n : ℕ) where
-  session-after : {c : Call} {rs : List Req} → After onSession p modes s n c rs → claims.After p modes s n c rs
+  pub session-after : {c : Call} {rs : List Req} → After onSession p modes s n c rs → claims.After p modes s n c rs
   session-after (opened S work text z q) = claims.after-open S work text z q
   session-after (then-one c rs a text l id) = claims.after-one c rs (session-after a) text (l .long) (l .begins) id
   session-after (then-all c rs a text l) = claims.after-all c rs (session-after a) text (l .long) (l .begins)
@@ -270,9 +270,13 @@ module _ (p modes : ℕ) (s : List ℕ) (n : ℕ) where
           untouched = record { same-record = ap (λ (x : Call). x .session) e; same-work = ap (λ (x : Call). x .work) e; same-text = ap (λ (x : Call). x .text) e };
         }
 
+  -- the opening that a list starts at was accepted
+  pub session-sound : (c : Call) (rs : List Req) → After onSession p modes s n c rs → openingNumber p s n ≡ 0
+  session-sound c rs a = after-sound p modes s n (session-after a)
+
   pub session-stated : Stated onSession p modes s n
   session-stated = stated-by onSession p modes s n (λ c rs a. record {
-    accepted = after-sound p modes s n (session-after a);
+    accepted = session-sound c rs a;
     demand2 = session-demand2 c rs (session-after a);
     closed = session-closed c rs (session-after a);
     list-again = session-again c rs (session-after a);
@@ -295,7 +299,7 @@ session-opens S s p modes work text f = record {
 
 -- ---- the calls for C
 
-export-is : (n : ℕ) (r w t : List ℕ) → exportOf n r w t ≡ record { result = n; bytes = r; work = w; text = t }
+pub export-is : (n : ℕ) (r w t : List ℕ) → exportOf n r w t ≡ record { result = n; bytes = r; work = w; text = t }
 unfolding exportOf
 export-is n r w t = refl
 
@@ -303,7 +307,7 @@ module _ (p modes : ℕ) (s : List ℕ) (n : ℕ) where
   abbrev lent-c : (e : Export) (text : List ℕ) → Lent forC e text → for-c.LentC e text
   lent-c e text l = record { long = l .long; begins = l .begins }
 
-  c-after : {e : Export} {rs : List Req} → After forC p modes s n e rs → for-c.AfterC p modes s n e rs
+  pub c-after : {e : Export} {rs : List Req} → After forC p modes s n e rs → for-c.AfterC p modes s n e rs
   unfolding calls.idsIn idsIn made for-c.madeIn
   c-after (opened r work text z q) = for-c.opened-c r work text z q
   c-after (then-one e rs a text l id) = for-c.one-c e rs (c-after a) text (lent-c e text l) id
@@ -363,9 +367,12 @@ module _ (p modes : ℕ) (s : List ℕ) (n : ℕ) where
         let h = delivered-c p modes s n .twice e rs a .list-again o text (lent-c e text l) ids more x m k z in
         (adds-c _ _ _ (h .0), h .1)
 
+  pub c-sound : (e : Export) (rs : List Req) → After forC p modes s n e rs → openingNumber p s n ≡ 0
+  c-sound e rs a = after-sound p modes s n (delivered-c p modes s n .same-calls e rs (c-after a) .told-after)
+
   pub c-stated : Stated forC p modes s n
   c-stated = stated-by forC p modes s n (λ e rs a. record {
-    accepted = after-sound p modes s n (delivered-c p modes s n .same-calls e rs (c-after a) .told-after);
+    accepted = c-sound e rs a;
     demand2 = c-demand2 e rs (c-after a);
     closed = c-closed e rs (c-after a);
     list-again = c-again e rs (c-after a);

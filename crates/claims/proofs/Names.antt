@@ -43,15 +43,12 @@ pub passed-are : (p modes : ℕ) (s : List ℕ) (n : ℕ) → modes / 8 % 2 ≡ 
 unfolding namesIn
 passed-are p modes s n on = ap (namesBy (passed (taken p modes s n))) (eq-eqb (modes / 8 % 2) 1 on)
 
-module _ (p modes : ℕ) (s : List ℕ) (n : ℕ) (y : Bytes s) (ok : openingNumber p s n ≡ 0) (on : modes / 8 % 2 ≡ 1) where
+module _ (p modes : ℕ) (s : List ℕ) (n : ℕ) (y : Bytes s) (ok : openingNumber p s n ≡ 0) where
   abbrev B : Btf
   B = openedTable p modes s n
 
   abbrev D : Btf
   D = tableIn p modes s
-
-  abbrev T : Lists
-  T = taken p modes s n
 
   -- both tables have the same names
   to-same : (space : Space) (k : ℕ) → namesTo B space k ≡ namesTo D space k
@@ -59,58 +56,62 @@ module _ (p modes : ℕ) (s : List ℕ) (n : ℕ) (y : Bytes s) (ok : openingNum
   to-same space zero = refl
   to-same space (suc k) = ap₂ (λ (a c : List Name). a ++ c) (ap (namesOf space) (type-list p modes s n y ok k)) (to-same space k)
 
-  names-same : (space : Space) → tableNames B space ≡ tableNames D space
+  pub names-same : (space : Space) → tableNames B space ≡ tableNames D space
   names-same space = to-same space (B .type-cnt) ∙ ap (namesTo D space) (count-list p modes s n y ok)
 
-  back : (space : Space) (name : Name) → List·Memᴰ name (tableNames D space) → List·Memᴰ name (tableNames B space)
-  back space name m = subst (List·Memᴰ name) (sym (names-same space)) m
-
-  right : Right D T
-  right =
-      let r = lists-right p modes s n ok on in
-      record {
-        distinct = λ space name m. r .distinct space name (back space name m);
-        suffixes = λ space name m. r .suffixes space name (back space name m);
-        listed = λ space name m k a b q. r .listed space name (back space name m) k a b (back space _ q);
-        only = λ space name m k q. subst (List·Memᴰ _) (names-same space) (r .only space name (back space name m) k q);
-      }
-
-  ends : Ends D
+  pub ends : Ends D
   ends id q = List·getD-eq-default (typeList s) Void q
 
-  both : (rs : List Req) → dumpPassed T D rs ≡ dumpApart D rs
-  both rs = sym (lists-alike D T right ends (described-wf p modes s n y ok) rs)
+  module _ (on : modes / 8 % 2 ≡ 1) where
+    abbrev T : Lists
+    T = taken p modes s n
 
-  -- the sessions after the requests
-  abbrev pub listed : List Req → Sess (Ls (Known Names))
-  listed rs = served (passed T) D rs (openedBy (passed T) D (noNames D))
+    back : (space : Space) (name : Name) → List·Memᴰ name (tableNames D space) → List·Memᴰ name (tableNames B space)
+    back space name m = subst (List·Memᴰ name) (sym (names-same space)) m
 
-  abbrev pub shown : List Req → Sess (Ls (Known Apart))
-  shown rs = served (apart D) D rs (openedBy (apart D) D (noneShown D))
+    pub right : Right D T
+    right =
+        let r = lists-right p modes s n ok on in
+        record {
+          distinct = λ space name m. r .distinct space name (back space name m);
+          suffixes = λ space name m. r .suffixes space name (back space name m);
+          listed = λ space name m k a b q. r .listed space name (back space name m) k a b (back space _ q);
+          only = λ space name m k q. subst (List·Memᴰ _) (names-same space) (r .only space name (back space name m) k q);
+        }
 
-  pub same-text : (rs : List Req) → textOf (listed rs .mach .pieces) ≡ textOf (shown rs .mach .pieces)
-  same-text rs =
-      sym (dump-text (passed T) D rs [] (openedBy (passed T) D (noNames D)))
-      ∙ ap textIn (both rs)
-      ∙ dump-text (apart D) D rs [] (openedBy (apart D) D (noneShown D))
+    both : (rs : List Req) → dumpPassed T D rs ≡ dumpApart D rs
+    both rs = sym (lists-alike D T right ends (described-wf p modes s n y ok) rs)
 
-  pub next-number : (rs : List Req) (r : Req) → answerTo (passed T) D (listed rs) r .number ≡ answerTo (apart D) D (shown rs) r .number
-  next-number rs r =
-      sym (last-number (passed T) D r rs [] (openedBy (passed T) D (noNames D)))
-      ∙ ap lastIn (both (rs ++ (r ∷ [])))
-      ∙ last-number (apart D) D r rs [] (openedBy (apart D) D (noneShown D))
+    -- the sessions after the requests
+    abbrev pub listed : List Req → Sess (Ls (Known Names))
+    listed rs = served (passed T) D rs (openedBy (passed T) D (noNames D))
 
-  pub next-text : (rs : List Req) (r : Req) → textOf (answerTo (passed T) D (listed rs) r .sess .mach .pieces) ≡ textOf (answerTo (apart D) D (shown rs) r .sess .mach .pieces)
-  next-text rs r =
-      sym (last-text (passed T) D r rs [] (openedBy (passed T) D (noNames D)))
-      ∙ ap textIn (both (rs ++ (r ∷ [])))
-      ∙ last-text (apart D) D r rs [] (openedBy (apart D) D (noneShown D))
+    abbrev pub shown : List Req → Sess (Ls (Known Apart))
+    shown rs = served (apart D) D rs (openedBy (apart D) D (noneShown D))
 
-  -- an id that is not below the count tells whether a session is open
-  pub same-open : (rs : List Req) → listed rs .isOpen ≡ shown rs .isOpen
-  unfolding answerTo
-  same-open rs =
-      told-once (listed rs .isOpen) (shown rs .isOpen)
-      (sym (past-number (machineBy (passed T) D) (tableOf D) 0 (listed rs))
-      ∙ next-number rs (one 0 (D .type-cnt))
-      ∙ past-number (machineBy (apart D) D) (tableOf D) 0 (shown rs))
+    pub same-text : (rs : List Req) → textOf (listed rs .mach .pieces) ≡ textOf (shown rs .mach .pieces)
+    same-text rs =
+        sym (dump-text (passed T) D rs [] (openedBy (passed T) D (noNames D)))
+        ∙ ap textIn (both rs)
+        ∙ dump-text (apart D) D rs [] (openedBy (apart D) D (noneShown D))
+
+    pub next-number : (rs : List Req) (r : Req) → answerTo (passed T) D (listed rs) r .number ≡ answerTo (apart D) D (shown rs) r .number
+    next-number rs r =
+        sym (last-number (passed T) D r rs [] (openedBy (passed T) D (noNames D)))
+        ∙ ap lastIn (both (rs ++ (r ∷ [])))
+        ∙ last-number (apart D) D r rs [] (openedBy (apart D) D (noneShown D))
+
+    pub next-text : (rs : List Req) (r : Req) → textOf (answerTo (passed T) D (listed rs) r .sess .mach .pieces) ≡ textOf (answerTo (apart D) D (shown rs) r .sess .mach .pieces)
+    next-text rs r =
+        sym (last-text (passed T) D r rs [] (openedBy (passed T) D (noNames D)))
+        ∙ ap textIn (both (rs ++ (r ∷ [])))
+        ∙ last-text (apart D) D r rs [] (openedBy (apart D) D (noneShown D))
+
+    -- an id that is not below the count tells whether a session is open
+    pub same-open : (rs : List Req) → listed rs .isOpen ≡ shown rs .isOpen
+    unfolding answerTo
+    same-open rs =
+        told-once (listed rs .isOpen) (shown rs .isOpen)
+        (sym (past-number (machineBy (passed T) D) (tableOf D) 0 (listed rs))
+        ∙ next-number rs (one 0 (D .type-cnt))
+        ∙ past-number (machineBy (apart D) D) (tableOf D) 0 (shown rs))

@@ -1,11 +1,10 @@
 -- READ THIS FIRST: all that is claimed, and where it is said. proofs/Claims.antt has the one theorem, `claims : Claims`; it assumes
 -- nothing. That the code does what the definitions say, for all inputs, is in the contracts of its functions; that the rules are the
--- Rust's is read and compared (docs/DIFFERENCES.md).
+-- Rust's is read and compared (docs/DIFFERENCES.md). The premise `Bytes s` holds of every section that the code is lent (`session_lent`).
 use Prim.Native.Nat.{ℕ}
 use mathlib.Core.List.{List}
 use Rattle.spec_c_dumper.specs.rules.Order.{Table}
-use Rattle.spec_session.specs.declared.session.Session.{Session}
-use Rattle.claims.specs.Ours.{onSession, forC}
+use Rattle.claims.specs.Ours.{onSession, sessionVisits, sessionLending, sessionCutting, forC, visitsForC, cuttingForC}
 use Rattle.claims.specs.Demand1.{Demand1}
 use Rattle.claims.specs.Demands.{Stated}
 use Rattle.claims.specs.Request02_big_endian.{Request02}
@@ -34,14 +33,18 @@ pub record Claims : Type 0 where
   pub request02 : Request02
   pub request03 : Request03
   pub request04 : Request04
-  pub request05 : Request05
+  pub request05 : (pointer modes : ℕ) (s : List ℕ) (n : ℕ) → Request05 onSession pointer modes s n
+  pub request05-c : (pointer modes : ℕ) (s : List ℕ) (n : ℕ) → Request05 forC pointer modes s n
   pub request06 : (T : Table) → Request06 T
-  pub request07 : Request07
-  pub request08 : Request08
+  pub request07 : (pointer modes : ℕ) (s : List ℕ) (n : ℕ) → Request07 onSession sessionVisits pointer modes s n
+  pub request07-c : (pointer modes : ℕ) (s : List ℕ) (n : ℕ) → Request07 forC visitsForC pointer modes s n
+  pub request08 : (pointer modes : ℕ) (s : List ℕ) (n : ℕ) → Request08 onSession pointer modes s n
+  pub request08-c : (pointer modes : ℕ) (s : List ℕ) (n : ℕ) → Request08 forC pointer modes s n
   pub request09 : Request09
   pub request10 : Request10
   pub request11 : Request11
-  pub request12 : (pointer modes : ℕ) (s : List ℕ) (n : ℕ) → Request12 pointer modes s n
+  pub request12 : (pointer modes : ℕ) (s : List ℕ) (n : ℕ) → Request12 onSession sessionLending pointer modes s n
   pub request13 : Request13
-  pub request14 : (S : Session) (s given out : List ℕ) → Request14 S s given out
+  pub request14 : Request14 onSession sessionCutting
+  pub request14-c : Request14 forC cuttingForC
   pub program : Program

@@ -1,17 +1,16 @@
 -- Demands 2 and 3 together, of any calls, over the types that the section describes and after every list of requests: statement only.
--- proofs/Demands.antt has the proofs. What has to be believed to read this: the records of the Linux page (spec_linux_btf) and what
--- `load_type` keeps of them (spec_type_table, Documented), the rules of the Rust (spec_c_dumper, rules; names that cannot collide:
--- names_apart), needs and chains (spec_c_dumper, needs), and specs/Calls.
+-- proofs/Demands.antt has the proofs. To be believed: the records of the Linux page (spec_linux_btf), what `load_type` keeps of them
+-- (spec_type_table, Documented), the rules of the Rust, names apart, needs and chains (spec_c_dumper), and specs/Calls.
 use Prim.Native.Nat.{ℕ, _/_, _%_}
 use mathlib.Core.Path.{_≡_}
 use mathlib.Core.List.{List}
 use Rattle.spec_linux_btf.specs.Reading.{Bytes}
 use Rattle.spec_c_dumper.specs.rules.Types.{Btf, tableOf}
-use Rattle.spec_c_dumper.specs.rules.Names.{Naming, naming}
+use Rattle.spec_c_dumper.specs.rules.Names.{Naming, Names, naming}
 use Rattle.spec_c_dumper.specs.rules.Machine.{Sess, Req, run}
 use Rattle.spec_c_dumper.specs.needs.Lists.{Ls}
 use Rattle.spec_c_dumper.specs.needs.Session.{Known, machineBy, openedBy, noNames}
-use Rattle.spec_c_dumper.specs.names_apart.Naming.{apart, noneShown}
+use Rattle.spec_c_dumper.specs.names_apart.Naming.{Apart, apart, noneShown}
 use Rattle.spec_opening.specs.Described.{tableIn}
 use Rattle.claims.specs.Calls.{Calls, After}
 use Rattle.claims.specs.Demand2.{Demand2, Closed}
@@ -35,12 +34,15 @@ module _ {R C : Type 0} (K : Calls R C) (pointer modes : ℕ) (s : List ℕ) (n 
       pub demand3 : Demand3 K s N B c (ruled rs)
       pub request01 : Request01 K s c (ruled rs .asked)
 
-  -- THE CLAIM, of all pointer sizes, modes, sections of bytes and lengths of the work
-  pub record Stated : Type 0 where
+  -- P of a session after every list of requests, over the types that the section describes, with each way of keeping names
+  pub record InBothModes (P : (U : Type 0) → Naming U → U → C → List Req → Type 0) : Type 0 where
     -- with the names of the Rust
-    pub plain : Bytes s → modes / 8 % 2 ≡ 0 → (c : C) (rs : List Req) → After K pointer modes s n c rs
-        → Demands naming (noNames B) c rs
+    pub plain : Bytes s → modes / 8 % 2 ≡ 0 → (c : C) (rs : List Req) → After K pointer modes s n c rs → P Names naming (noNames B) c rs
     -- with bit 3 of the modes: "a naming mode in which a suffix that yields a name in the table's same space, or one printed before in
     -- it, is passed over and the next number taken"
     pub names-apart : Bytes s → modes / 8 % 2 ≡ 1 → (c : C) (rs : List Req) → After K pointer modes s n c rs
-        → Demands (apart B) (noneShown B) c rs
+        → P Apart (apart B) (noneShown B) c rs
+
+  -- THE CLAIM, of all pointer sizes, modes, sections of bytes and lengths of the work
+  abbrev pub Stated : Type 0
+  Stated = InBothModes (λ U N u c rs. Demands N u c rs)

@@ -1,8 +1,10 @@
 -- Claims: all that is claimed; read it first. Demand1, Demand2, Demand3, Demands and the requests: a file for each. Calls: what a caller
--- has of a call, and lists of calls. Ours: the calls of this project.
+-- has of a call, and lists of calls. Ours: the calls of this project. Carried: calls under a ceiling, or
+-- lent a list.
 pub mod Claims
 pub mod Calls
 pub mod Ours
+pub mod Carried
 pub mod Demand1
 pub mod Demand2
 pub mod Demand3

@@ -11,8 +11,17 @@ use Rattle.spec_session.specs.session.Turns.{Call}
 use Rattle.spec_session.specs.calls.Calls.{openCall, typeCall, typesCall}
 use Rattle.spec_session.specs.calls.Lists.{listCall}
 use Rattle.session_record.specs.record_words.Words.{decoded}
+use Rattle.spec_session.specs.metered.Within.{typeCallWithin, typesCallWithin}
+use Rattle.spec_session.specs.metered.Lists.{listCallWithin}
+use Rattle.spec_session.specs.origin_calls.Bytes.{CauseCall, typeCauses, typesCauses}
+use Rattle.spec_session.specs.origin_calls.Several.{listCausesCall}
 use Rattle.spec_c_calls.specs.Exports.{Export, openExport, typeExport, typesExport, listExport}
+use Rattle.spec_c_calls.specs.Cuts.{cutExport}
 use Rattle.claims.specs.Calls.{Calls, idsIn}
+use Rattle.session_cut.specs.call.Calls.{cutCall}
+use Rattle.claims.specs.Request12_line_origins.{Listing, Lending}
+use Rattle.claims.specs.Request14_cut.{Cutting}
+use Rattle.claims.specs.Carried.{Aid, ceiling, list, Carrying}
 
 -- on a session
 abbrev pub onSession : Calls Session Call
@@ -31,6 +40,45 @@ onSession = record {
   isOpen = λ c. c .session .«open»;
 }
 
+-- "the counted visits [..] are kept in the record"
+abbrev pub sessionVisits : Call → ℕ
+sessionVisits c = c .session .visits
+
+-- on a session, with a ceiling or a list
+abbrev pub oneCarrying : Aid → Call → List ℕ → List ℕ → ℕ → Call
+oneCarrying (ceiling k) c s text id = typeCallWithin k (c .session) s (c .work) text id 0 .call
+oneCarrying (list l) c s text id = typeCauses (c .session) s (c .work) text id l .call
+
+abbrev pub allCarrying : Aid → Call → List ℕ → List ℕ → Call
+allCarrying (ceiling k) c s text = typesCallWithin k (c .session) s (c .work) text .call
+allCarrying (list l) c s text = typesCauses (c .session) s (c .work) text l .call
+
+abbrev pub listCarrying : Aid → Call → List ℕ → List ℕ → List ℕ → Call
+listCarrying (ceiling k) c s text ids = listCallWithin k (c .session) s (c .work) text (idsIn ids) .call
+listCarrying (list l) c s text ids = listCausesCall (c .session) s (c .work) text (idsIn ids) l .call
+
+abbrev pub sessionCarrying : Carrying Call
+sessionCarrying = record { request = oneCarrying; requestAll = allCarrying; requestList = listCarrying }
+
+-- on a session, with a list and its entries afterwards
+abbrev pub listingOf : CauseCall → Listing Call
+listingOf d = record { call = d .call; count = d .count; list = d .list }
+
+abbrev pub sessionLending : Lending Call
+sessionLending = record {
+  request = λ c s text id l. listingOf (typeCauses (c .session) s (c .work) text id l);
+  requestAll = λ c s text l. listingOf (typesCauses (c .session) s (c .work) text l);
+  requestList = λ c s text ids l. listingOf (listCausesCall (c .session) s (c .work) text (idsIn ids) l);
+}
+
+-- the call for a section cut down, on a session
+abbrev pub sessionCutting : Cutting Call
+sessionCutting = record {
+  number = λ c s given out. numberOf (cutCall (c .session) s given out .answer);
+  value = λ c s given out. valueOf (cutCall (c .session) s given out .answer);
+  out = λ c s given out. cutCall (c .session) s given out .out;
+}
+
 -- for C: "there the record too crosses as bytes", 128 of them or more; number and value are the upper and the lower half of the result
 abbrev pub forC : Calls (List ℕ) Export
 forC = record {
@@ -46,4 +94,14 @@ forC = record {
   text = λ e. e .text;
   len = λ e. decoded (e .bytes) .«text_len»;
   isOpen = λ e. decoded (e .bytes) .«open»;
+}
+
+abbrev pub visitsForC : Export → ℕ
+visitsForC e = decoded (e .bytes) .visits
+
+abbrev pub cuttingForC : Cutting Export
+cuttingForC = record {
+  number = λ e s given out. cutExport (e .bytes) s given out .result / 4294967296;
+  value = λ e s given out. cutExport (e .bytes) s given out .result % 4294967296;
+  out = λ e s given out. cutExport (e .bytes) s given out .out;
 }

@@ -3,7 +3,7 @@
 use Prim.Native.Nat.{ℕ}
 use mathlib.Core.Path.{_≡_}
 use mathlib.Core.Bool.{Bool, true, false}
-use mathlib.Core.List.{List, List·Memᴰ}
+use mathlib.Core.List.{List·Memᴰ}
 use Rattle.spec_c_dumper.specs.rules.Order.{Table, through, ptr, isComp}
 use Rattle.spec_c_dumper.specs.needs.Needs.{kids, weaken, MeetsTwice}
 

@@ -1,9 +1,7 @@
 pub mod calls_for_c
 pub mod ceilings
-pub mod cut
 pub mod described
 pub mod line_origins
 pub mod list_fits
 pub mod mixed
-pub mod origins
 pub mod program

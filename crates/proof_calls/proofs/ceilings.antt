@@ -1,4 +1,5 @@
 pub mod Plain
 pub mod Over
 pub mod Shut
-pub mod Claims
+pub mod Closed
+pub mod Count

@@ -6,3 +6,4 @@ pub mod Listing
 pub mod Calls
 pub mod Lists
 pub mod Claims
+pub mod Alike

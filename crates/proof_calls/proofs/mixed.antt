@@ -2,5 +2,4 @@ pub mod Plain
 pub mod Accepted
 pub mod Short
 pub mod Closed
-pub mod Lines
 pub mod Claims

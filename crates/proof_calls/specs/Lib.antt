@@ -1,7 +1,5 @@
 pub mod calls_for_c
 pub mod ceilings
-pub mod cut
 pub mod line_origins
 pub mod mixed
-pub mod origins
 pub mod program

@@ -1,2 +1,1 @@
 pub mod Ceilings
-pub mod Claims

@@ -1,4 +1,3 @@
 pub mod Keys
 pub mod Holders
 pub mod Right
-pub mod Claims

@@ -1,6 +1,4 @@
-pub mod few_names
 pub mod names_apart
-pub mod no_collision
 pub mod none_passed
 pub mod passed_numbers
 pub mod same_text

@@ -43,6 +43,21 @@ ghost use Rattle.session_requests.specs.options.Lists.{clearedIf, listAf
 
 // ---- the three forms, with their options
 
+// Before the first request of a call, after a text of len bytes and so many visits.
+fn none_yet(len: u32, visits: u32) -> Progress
+    ensures { λ r. ⌜ r ≡ record { reached = record { len = len; number = 0; visits = visits }; count = 0; made = 0 } ⌝ }
+{
+    Progress {
+        reached: Reached {
+            len: len,
+            number: 0,
+            visits: visits,
+        },
+        count: 0,
+        made: 0,
+    }
+}
+
 // Every id from 1 upward, to the first that is refused.
 fn dump_all(
     b: TypeTable,
@@ -60,15 +75,7 @@ fn dump_all(
         (now (work .entry)) (now (text .entry)) 0) × (r .count ≤ entriesIn (now (list .entry))) ⌝ }
 {
     let n = b.types;
-    let mut r = Progress {
-        reached: Reached {
-            len: len,
-            number: 0,
-            visits: visits_in(work),
-        },
-        count: 0,
-        made: 0,
-    };
+    let mut r = none_yet(len, visits_in(work));
     let mut id: u32 = 1;
     while id < n {
         r = dump_next(b, section, work, text, list, leads, r, id, o);
@@ -93,6 +100,17 @@ fn tally_of(r: Reached, accepted: u32, count: usize, made: u64) -> Tallied
         },
         count: count,
         made: made,
+    }
+}
+
+// An id that is not below the count of types.
+fn unknown(r: Reached) -> Reached
+    ensures { λ q. ⌜ q ≡ record { len = r .len; number = 10; visits = r .visits } ⌝ }
+{
+    Reached {
+        len: r.len,
+        number: refusal::NO_SUCH_ID,
+        visits: r.visits,
     }
 }
 
@@ -125,25 +143,12 @@ fn dump_ids(
 {
     let b = btf_of(section, s.pointer_size, s.modes, s.types);
     let n = count_of(ids);
-    let mut r = Progress {
-        reached: Reached {
-            len: s.text_len,
-            number: 0,
-            visits: s.visits,
-        },
-        count: 0,
-        made: 0,
-    };
+    let mut r = none_yet(s.text_len, s.visits);
     let mut k: u32 = 0;
     while k < n {
         let id = get_word(ids, k as usize);
         if s.types <= id {
-            let at = Reached {
-                len: r.reached.len,
-                number: refusal::NO_SUCH_ID,
-                visits: r.reached.visits,
-            };
-            return tally_of(at, k, r.count, r.made);
+            return tally_of(unknown(r.reached), k, r.count, r.made);
         }
         let count = r.count;
         let from = count * 12;

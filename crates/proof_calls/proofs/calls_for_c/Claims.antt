@@ -114,6 +114,10 @@ module _ (p modes : ℕ) (s : List ℕ) (n : ℕ) where
       (subst (λ (k : ℕ). After p modes s n (listCall (decoded (e .bytes)) s (e .work) text (idsIn ids)) (rs ++ singlesFor (length text) k (idsIn ids))) (ap (made 0) (sym (t .is)) ∙ made-told d)
       (after-list (told e) rs (carry a .told-after) text (l .long) (l .begins) (idsIn ids)))
 
+  -- the record is long enough for the next call
+  pub record-long : {e : Export} {rs : List Req} → AfterC p modes s n e rs → 128 ≤ length (e .bytes)
+  record-long a = carry a .sound .long
+
   -- ---- the demands
   module _ (e : Export) (rs : List Req) (h : Carried e rs) where
     demand2 : Demand2 p modes s n (told e) rs

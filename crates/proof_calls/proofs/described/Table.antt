@@ -37,6 +37,7 @@ use Rattle.spec_opening.proofs.ReadBack.{header-ok, types-ok, section-short}
 use Rattle.spec_c_dumper.specs.needs.Needs.{WF, kids}
 use Rattle.spec_c_dumper.specs.needs.Lists.{Lines, Ls, listMachine}
 use Rattle.spec_c_dumper.specs.needs.Session.{Known, lineOf, linesBy, machineBy}
+use Rattle.spec_c_dumper.specs.origins.Causes.{showsIn}
 use Rattle.spec_cut.specs.section.Kept.{followedIds, voidType, typeOf, isDeclTag}
 use Rattle.spec_cut.specs.section.Stands as S
 use Rattle.spec_cut.specs.section.Stands.{withTypes, NoTag, Each, none, more, Followed, Stands}
@@ -81,7 +82,7 @@ said-same : {U : Type 0} {a b : Said U} → RelSaid (λ (u v : U). u ≡ v) a b 
 said-same (same u v t r) = ap (λ (w : _). said w t) r
 
 -- "pointer size not 4 or 8" is refused
-pointer-is : (p : ℕ) → cause1 p ≡ false → pick (eqb p 4) 4 8 ≡ p
+pub pointer-is : (p : ℕ) → cause1 p ≡ false → pick (eqb p 4) 4 8 ≡ p
 unfolding cause1
 pointer-is p e = go (eqb p 4) (eqb p 8) refl refl e
   where
@@ -158,6 +159,9 @@ module _ (p modes : ℕ) (s : List ℕ) (n : ℕ) (y : Bytes s) (ok : openingNum
       at : (k : ℕ) → B .type-by-id (1 + k) ≡ getD (map (kept (stringsAt s) s) ts) k Void
       at k = let z : 1 + k ≡ suc k = omega arith in ap (B .type-by-id) z ∙ type-list (suc k)
 
+  pub tags-same : (id : ℕ) → id < tableIn p modes s .type-cnt → B .decl-tags id ≡ tableIn p modes s .decl-tags id
+  tags-same id q = tag-list id (omega (arith, q, count-list)) ∙ tags-are id
+
   -- ---- each id stands for itself
 
   abbrev Same : ℕ → ℕ → Type 0
@@ -215,10 +219,10 @@ module _ (p modes : ℕ) (s : List ℕ) (n : ℕ) (y : Bytes s) (ok : openingNum
   }
 
   -- the table with the tags of the list, which is the described one
-  abbrev C : Rules
+  abbrev pub C : Rules
   C = withTypes B (B .type-cnt) (B .type-by-id) tags
 
-  table-is : C ≡ tableIn p modes s
+  pub table-is : C ≡ tableIn p modes s
   unfolding btf.btfOf header.btfOf
   table-is i = record {
     ptr-sz = pointer-is p (sound-none p s n .0 ok .0) i;
@@ -244,7 +248,7 @@ module _ (p modes : ℕ) (s : List ℕ) (n : ℕ) (y : Bytes s) (ok : openingNum
     past : (id : ℕ) → B .type-cnt ≤ id → B .type-by-id id ≡ Void
     past id q = d .past-void id (omega (arith, q, all, d .count))
 
-    definitions : (id : ℕ) → definition N B id (B .type-by-id id) ≡ definition N C id (B .type-by-id id)
+    pub definitions : (id : ℕ) → definition N B id (B .type-by-id id) ≡ definition N C id (B .type-by-id id)
     unfolding definition
     definitions id = go (le-or-lt (B .type-cnt) id)
       where
@@ -252,7 +256,7 @@ module _ (p modes : ℕ) (s : List ℕ) (n : ℕ) (y : Bytes s) (ok : openingNum
         go (inl q) = subst (λ (t : BtfType). definition N B id t ≡ definition N C id t) (sym (past id q)) refl
         go (inr q) = fun-ext (λ u. said-same (definition-same B (B .type-cnt) (B .type-by-id) tags Same stands Eq N N naming-same id id (refl, q) u u refl))
 
-    forwards : (id : ℕ) → forward N B id (B .type-by-id id) ≡ forward N C id (B .type-by-id id)
+    pub forwards : (id : ℕ) → forward N B id (B .type-by-id id) ≡ forward N C id (B .type-by-id id)
     unfolding forward
     forwards id = go (le-or-lt (B .type-cnt) id)
       where
@@ -273,6 +277,13 @@ module _ (p modes : ℕ) (s : List ℕ) (n : ℕ) (y : Bytes s) (ok : openingNum
     over-described P h =
         subst (λ (X : Rules). P (machineBy N X) (tableOf X) (X .type-cnt)) table-is
         (subst (λ (L : Lines (Known U)). P (listMachine L) (tableOf B) (B .type-cnt)) lines-same h)
+
+    -- and of which lines print anything
+    pub over-shown : (P : Machine (Ls (Known U)) → Table → ℕ → (ℕ → Bool) → Type 0) → P (machineBy N B) (tableOf B) (B .type-cnt) (showsIn B)
+        → P (machineBy N (tableIn p modes s)) (tableOf (tableIn p modes s)) (tableIn p modes s .type-cnt) (showsIn (tableIn p modes s))
+    over-shown P h =
+        subst (λ (X : Rules). P (machineBy N X) (tableOf X) (X .type-cnt) (showsIn X)) table-is
+        (subst (λ (L : Lines (Known U)). P (listMachine L) (tableOf B) (B .type-cnt) (showsIn B)) lines-same h)
 
   pub described-wf : WF (tableOf (tableIn p modes s))
   described-wf = subst (λ (X : Rules). WF (tableOf X)) table-is wf

@@ -2,62 +2,30 @@
 use Prim.Native.Nat.{ℕ, zero-le, _-_}
 use mathlib.Core.Path.{_≡_, ap, _∙_, sym, subst}
 use mathlib.Core.List.{List}
-use mathlib.Core.Logic.{_↔_}
 use native.Mathlib.Omega.{arith}
 use lib.ListN.{length}
 use lib.Seq.{length-take-le}
-use Rattle.spec_c_dumper.specs.rules.Machine.{Sess, Req, single, every, run}
+use Rattle.spec_c_dumper.specs.rules.Machine.{Sess, Req, run}
 use Rattle.spec_c_dumper.specs.rules.Names.{Names}
 use Rattle.spec_opening.specs.Causes.{openingNumber}
-use Rattle.spec_session.specs.declared.session.Session.{Session}
-use Rattle.spec_session.specs.session.Answers.{numberOf, valueOf}
+use Rattle.spec_session.specs.session.Answers.{valueOf}
 use Rattle.spec_session.specs.session.Turns.{Call}
 use Rattle.spec_session.specs.metered.Lists.{listCallWithin}
-use Rattle.spec_c_dumper.specs.needs.Needs.{MeetsTwice}
 use Rattle.spec_c_dumper.specs.needs.Lists.{Ls}
 use Rattle.spec_c_dumper.specs.needs.Session.{Known}
 use Rattle.proof_demands.specs.demands.Table.{machineIn}
-use Rattle.proof_demands.specs.demands.Session.{After, Holds, Tells, singlesFor}
-use Rattle.proof_demands.specs.demands.Demands.{Lent, typesIn, ruled, Demand2, Demand3Calls}
-use Rattle.proof_demands.proofs.demands.Claims.{opening-gives}
+use Rattle.proof_demands.specs.demands.Session.{Holds, singlesFor}
+use Rattle.proof_demands.specs.demands.Demands.{Lent, typesIn, ruled}
 use Rattle.proof_demands.proofs.demands.Session.{after-holds, run-then}
-use Rattle.proof_demands.proofs.demands.Demands.{after-sound, delivered}
+use Rattle.proof_demands.proofs.demands.Demands.{after-sound}
 use Rattle.proof_calls.specs.ceilings.Ceilings.{onesFrom}
 use Rattle.proof_calls.proofs.ceilings.Shut.{Shut, one-shut, all-shut, list-over}
-use Rattle.proof_calls.specs.line_origins.Claims.{Reasoned}
-use Rattle.proof_calls.proofs.line_origins.Claims.{calls-reasoned}
-use Rattle.proof_calls.specs.mixed.Mixed.{Aid, none, ceiling, list, typeWith, typesWith, listWith, Stops, acceptedWith, With, Ended, ended-one, ended-all, ended-list, later-one, later-all, later-list}
-use Rattle.proof_calls.specs.mixed.Claims.{Delivers, Stands, Mixed}
-use Rattle.proof_calls.proofs.mixed.Plain.{type-plain, types-plain, with-plain}
-use Rattle.proof_calls.proofs.mixed.Lines.{type-lines, types-lines, list-lines}
+use Rattle.proof_calls.specs.mixed.Mixed.{Aid, none, ceiling, list, typeWith, typesWith, listWith, Stops, acceptedWith, With, Ended, ended-one, ended-all, ended-list}
+use Rattle.proof_calls.specs.mixed.Claims.{Stands, Mixed}
+use Rattle.proof_calls.proofs.mixed.Plain.{with-plain}
 use Rattle.proof_calls.proofs.mixed.Short.{one-short, all-short, list-short}
-use Rattle.proof_calls.proofs.mixed.Closed.{type-shut, types-shut, list-shut}
 
 module _ (p modes : ℕ) (s : List ℕ) (n : ℕ) where
-  -- ---- none was ended
-  delivers : (c : Call) (rs : List Req) → With p modes s n c rs → Delivers p modes s n c rs
-  delivers c rs u =
-      let y : After p modes s n c rs = with-plain p modes s n u in
-      let d2 : Demand2 p modes s n c rs = delivered p modes s n .demand2 c rs y in
-      let d3 : Demand3Calls p modes s n c rs = delivered p modes s n .demand3 c rs y in
-      let e : Reasoned p modes s n = calls-reasoned p modes s n in
-      record {
-        plain = y;
-        demand2 = d2;
-        demand3 = d3;
-        twice = delivered p modes s n .twice c rs y;
-        next-type = λ text l a id q. subst (λ (d : Call). Tells (length text) d (single (machineIn p modes s n) (typesIn p modes s n) (length text) (ruled p modes s n rs) id)) (sym (type-plain s (c .session) (c .work) text a id q)) (d2 .next-type text l id);
-        next-types = λ text l a q. subst (λ (d : Call). Tells (length text) d (every (machineIn p modes s n) (typesIn p modes s n) (length text) (ruled p modes s n rs) (ruled p modes s n rs .isOpen))) (sym (types-plain s (c .session) (c .work) text a q)) (d2 .next-types text l);
-        cycles = λ o text l a id below named deep q.
-            subst (λ (d : Call). (numberOf (d .answer) ≡ 13) ↔ MeetsTwice (typesIn p modes s n) id) (sym (type-plain s (c .session) (c .work) text a id q)) (d3 .cycles o text l id below named deep);
-        type-entries = λ text l id es. e .type c rs y text l id es;
-        types-entries = λ text l es. e .types c rs y text l es;
-        list-entries = λ text l ids es. e .list c rs y text l ids es;
-        type-lines = λ text l id es q. type-lines p modes s n c rs y text l es id q;
-        types-lines = λ text l es q. types-lines p modes s n c rs y text l es q;
-        list-lines = λ text l ids es q. list-lines p modes s n c rs y text l es ids q;
-      }
-
   -- ---- one was ended
   with-sound : {c : Call} {rs : List Req} → With p modes s n c rs → openingNumber p s n ≡ 0
   with-sound u = after-sound p modes s n (with-plain p modes s n u)
@@ -66,15 +34,6 @@ module _ (p modes : ℕ) (s : List ℕ) (n : ℕ) where
   ended-sound (ended-one c rs u text l a id o) = with-sound u
   ended-sound (ended-all c rs u text l a o) = with-sound u
   ended-sound (ended-list c rs u text l a ids o) = with-sound u
-  ended-sound (later-one c rs d text l a id) = ended-sound d
-  ended-sound (later-all c rs d text l a) = ended-sound d
-  ended-sound (later-list c rs d text l a ids) = ended-sound d
-
-  -- another text that begins with the text so far
-  relent : (c : Call) (L : Sess (Ls (Known Names))) → Shut (c .session) (c .text) L → (text : List ℕ) → Lent c text → (d : Call) → d .session ≡ c .session → d .text ≡ text → Shut (d .session) (d .text) L
-  relent c L h text l d es et =
-      subst (λ (y : Session). Shut y (d .text) L) (sym es) (subst (λ (y : List ℕ). Shut (c .session) y L) (sym et)
-      (record { closed = h .closed; running = h .running; its-text = l .begins ∙ h .its-text; fits = l .long }))
 
   module _ (ok : openingNumber p s n ≡ 0) where
     abbrev runs : List Req → Sess (Ls (Known Names)) → Sess (Ls (Known Names))
@@ -117,18 +76,6 @@ module _ (p modes : ℕ) (s : List ℕ) (n : ℕ) where
     ended-shut (ended-list c rs u text l a ids o) =
         let y : Call = listWith a (c .session) s (c .work) text ids in
         subst (λ (L : Sess (Ls (Known Names))). Shut (y .session) (y .text) L) (sym (run-then p modes s n ok rs (singlesFor (length text) (valueOf (y .answer)) ids) _)) (list-ends c rs (holds u) text l a ids o)
-    ended-shut (later-one c rs d text l a id) =
-        let h = ended-shut d in
-        let e = type-shut s (c .session) (c .work) (h .closed) text a id in
-        relent c (ruled p modes s n rs) h text l (typeWith a (c .session) s (c .work) text id) (ap (λ (y : Call). y .session) e) (ap (λ (y : Call). y .text) e)
-    ended-shut (later-all c rs d text l a) =
-        let h = ended-shut d in
-        let e = types-shut s (c .session) (c .work) (h .closed) text a in
-        relent c (ruled p modes s n rs) h text l (typesWith a (c .session) s (c .work) text) (ap (λ (y : Call). y .session) e) (ap (λ (y : Call). y .text) e)
-    ended-shut (later-list c rs d text l a ids) =
-        let h = ended-shut d in
-        let e = list-shut s (c .session) (c .work) (h .closed) text a ids in
-        relent c (ruled p modes s n rs) h text l (listWith a (c .session) s (c .work) text ids) (ap (λ (y : Call). y .session) e) (ap (λ (y : Call). y .text) e)
 
   stands : (c : Call) (rs : List Req) → Ended p modes s n c rs → Stands p modes s n c rs
   stands c rs d =
@@ -136,13 +83,9 @@ module _ (p modes : ℕ) (s : List ℕ) (n : ℕ) where
       record {
         text = h .its-text;
         text-len = sym (length-take-le (c .session .«text_len») (c .text) (h .fits)) ∙ ap length (h .its-text);
-        pieces = opening-gives p modes s n (ended-sound d) .demand3 rs;
         accepted = h .running;
         closed = h .closed;
-        later-type = type-shut s (c .session) (c .work) (h .closed);
-        later-types = types-shut s (c .session) (c .work) (h .closed);
-        later-list = list-shut s (c .session) (c .work) (h .closed);
       }
 
 pub calls-mixed : (p modes : ℕ) (s : List ℕ) (n : ℕ) → Mixed p modes s n
-calls-mixed p modes s n = record { delivers = delivers p modes s n; stands = stands p modes s n }
+calls-mixed p modes s n = stands p modes s n

@@ -13,8 +13,8 @@ use Rattle.spec_session.proofs.calls.Claims.{type-not-current, types-not-curren
 use Rattle.spec_session.specs.origin_calls.Bytes.{CauseCall, typeCauses, typesCauses}
 use Rattle.spec_session.specs.origin_calls.Several.{front, goOn, listFromCauses, listCausesCall}
 use Rattle.proof_calls.specs.ceilings.Ceilings.{none as unlimited, upTo}
-use Rattle.proof_calls.specs.ceilings.Claims.{elevenOf}
-use Rattle.proof_calls.proofs.ceilings.Claims.{type-shut as type-under, types-shut as types-under, list-shut as list-under}
+use Rattle.proof_calls.specs.ceilings.Ceilings.{elevenOf}
+use Rattle.proof_calls.proofs.ceilings.Closed.{type-shut as type-under, types-shut as types-under, list-shut as list-under}
 use Rattle.proof_calls.specs.mixed.Mixed.{Aid, none, ceiling, list, typeWith, typesWith, listWith}
 
 module _ (s : List ℕ) (S : Session) (w : List ℕ) (off : S .«open» ≡ false) where

@@ -75,8 +75,8 @@ module _ (pointer modes : ℕ) (s : List ℕ) (n : ℕ) where
         → With (listWith a (c .session) s (c .work) text ids)
         (rs ++ singlesFor (length text) (made 0 (listWith a (c .session) s (c .work) text ids)) ids)
 
-  -- A call that was ended by what it carried, or one after it: "after 12 to 17 the list may go on". The requests are those accepted before,
-  -- the single requests of the ended call that were accepted among them; the value of a list's answer is how many they are.
+  -- A call that was ended by what it carried. The requests are those accepted before, the single requests of the ended call that were
+  -- accepted among them; the value of a list's answer is how many they are.
   pub data Ended : Call → List Req → Type 0 where
     ended-one : (c : Call) (rs : List Req) → With c rs → (text : List ℕ) → Lent c text → (a : Aid) (id : ℕ)
         → Stops a (typeWith a (c .session) s (c .work) text id)
@@ -88,9 +88,3 @@ module _ (pointer modes : ℕ) (s : List ℕ) (n : ℕ) where
         → Stops a (listWith a (c .session) s (c .work) text ids)
         → Ended (listWith a (c .session) s (c .work) text ids)
         (rs ++ singlesFor (length text) (valueOf (listWith a (c .session) s (c .work) text ids .answer)) ids)
-    later-one : (c : Call) (rs : List Req) → Ended c rs → (text : List ℕ) → Lent c text → (a : Aid) (id : ℕ)
-        → Ended (typeWith a (c .session) s (c .work) text id) rs
-    later-all : (c : Call) (rs : List Req) → Ended c rs → (text : List ℕ) → Lent c text → (a : Aid)
-        → Ended (typesWith a (c .session) s (c .work) text) rs
-    later-list : (c : Call) (rs : List Req) → Ended c rs → (text : List ℕ) → Lent c text → (a : Aid) (ids : List ℕ)
-        → Ended (listWith a (c .session) s (c .work) text ids) rs

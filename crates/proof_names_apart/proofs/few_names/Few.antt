@@ -21,11 +21,7 @@ use Rattle.spec_opening.proofs.Sums.{enumerators-few, enumerators-all}
 use Rattle.spec_opening.proofs.ReadBack.{header-ok, types-ok, section-short, order-ok, types-are, record-back, kind-back}
 use Rattle.proof_demands.specs.demands.Table.{headerOf, openedTable}
 use Rattle.proof_demands.proofs.demands.Described.{type-zero}
-use Rattle.proof_demands.proofs.demands.Sound.{opened-wf}
 use Rattle.spec_c_dumper.specs.names_apart.Apart.{valueNames, tagsIn, identsIn, namesTo, FewNames}
-use Rattle.proof_names_apart.proofs.names_apart.Claims.{names-cannot-collide}
-use Rattle.proof_names_apart.proofs.names_apart.Tables.{table-ends}
-use Rattle.proof_names_apart.specs.few_names.Claims.{Claim}
 
 -- ---- the names of a type
 
@@ -142,9 +138,3 @@ module _ (p modes : ℕ) (s : List ℕ) (n : ℕ) (ok : openingNumber p s n ≡ 
   few-names identSpace =
       let e : length (namesTo B identSpace (b .types)) ≡ length (namesTo B identSpace (typesOf s)) = ap (λ (k : ℕ). length (namesTo B identSpace k)) (types-are p modes s n ok) in
       omega (arith, e, all-idents, small, enumerators-few b s (order-ok p modes s n ok) (header-ok p modes s n ok) (types-ok p modes s n ok), section-short p modes s n ok)
-
-pub opened : Claim
-opened p modes s n ok = record {
-  few = few-names p modes s n ok;
-  apart = names-cannot-collide (openedTable p modes s n) (table-ends (headerOf p modes s) s (workOf p modes s n)) (few-names p modes s n ok) (opened-wf p modes s n ok);
-}

@@ -260,13 +260,13 @@ module _ (B : Btf) (T : Lists) (right : Right B T) where
         printed = shown identSpace (ofValue id i) name x u;
       }
 
-  like : RelNaming Like (Fits B) (FitsValue B) (apart B) (passed T)
+  pub like : RelNaming Like (Fits B) (FitsValue B) (apart B) (passed T)
   like = record {
     rel-type = λ space id name f e u v r. subst (λ (w : Names). RelResolved Like (typeApart B space id name u) (typePassed T space id name w)) (r .0) (type-like space id name f u (r .1));
     rel-value = λ id i name f u v r. subst (λ (w : Names). RelResolved Like (valueApart B id i name u) (valuePassed T name w)) (r .0) (value-like id i name f u (r .1));
   }
 
-  none-usual : Usual (noneShown B)
+  pub none-usual : Usual (noneShown B)
   unfolding holders
   none-usual = record {
     reached = λ a m. absurd (List·Memᴰ·not-nil m);

@@ -1,33 +1,20 @@
 -- What is claimed of a session with names that cannot collide: statements only. proofs/Claims.antt has the proofs, of every table and every
 -- list of requests; they assume nothing.
-use Prim.Native.Nat.{ℕ}
 use mathlib.Core.Path.{_≡_}
 use mathlib.Core.List.{List}
 use Rattle.spec_c_dumper.specs.rules.Machine.{Req}
 use Rattle.spec_c_dumper.specs.rules.Types.{Btf, tableOf}
-use Rattle.spec_c_dumper.specs.rules.Names.{identSpace}
 use Rattle.spec_c_dumper.specs.needs.Needs.{WF}
 use Rattle.spec_c_dumper.specs.needs.Demand.{Demand3}
 use Rattle.spec_c_dumper.specs.needs.Session.{machineBy, dumpTypes}
-use Rattle.spec_c_dumper.specs.names_apart.Apart.{ofType, ofValue, Shown, apart, dumpApart, afterAll, namesAfter, AllApart, Earlier, Ends}
+use Rattle.spec_c_dumper.specs.names_apart.Apart.{apart, dumpApart, afterAll, namesAfter, AllApart, Ends}
 use Rattle.spec_c_dumper.specs.names_apart.Apart.{FewNames}
 use Rattle.proof_names_apart.specs.names_apart.Alike.{Suffixless}
-
--- b and a: two names that were printed for the requests rs, b first. Nameless types print none; nameless enumerators are not excepted here.
-pub record NoShared (B : Btf) (rs : List Req) (b a : Shown) : Type 0 where
-  -- "no two types of a space"
-  pub types : (i j : ℕ) → b .who ≡ ofType i → a .who ≡ ofType j → (i ≡ j → ⊥) → b .space ≡ a .space → b .spelling ≡ a .spelling → ⊥
-  -- "no two printed enumerators": the same one, printed twice, counts as two
-  pub values : (id i id′ i′ : ℕ) → b .who ≡ ofValue id i → a .who ≡ ofValue id′ i′ → b .spelling ≡ a .spelling → ⊥
-  -- "no typedef and enumerator", whichever comes first
-  pub typedef-first : (t id i : ℕ) → b .who ≡ ofType t → b .space ≡ identSpace → a .who ≡ ofValue id i → b .spelling ≡ a .spelling → ⊥
-  pub value-first : (t id i : ℕ) → b .who ≡ ofValue id i → a .who ≡ ofType t → a .space ≡ identSpace → b .spelling ≡ a .spelling → ⊥
 
 -- THE CLAIM, of a table that ends, with fewer than 2^31 names of a space, and what demand 3 needs of it
 pub record NamesApart (B : Btf) : Type 0 where
   -- "In one session ..": all that was printed is apart
   pub all-apart : (rs : List Req) → AllApart (namesAfter B rs .printed)
-  pub none-shared : (rs : List Req) (b a : Shown) → Earlier (namesAfter B rs .printed) b a → NoShared B rs b a
   -- "where no suffix is passed over, both modes print alike": the same numbers, lengths and text
   pub alike : Suffixless B → (rs : List Req) → dumpApart B rs ≡ dumpTypes B rs
   -- and demand 3 holds

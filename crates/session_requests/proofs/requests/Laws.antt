@@ -27,9 +27,10 @@ use Rattle.session_requests.specs.declared.options.Progress.{Progress}
 use Rattle.session_requests.specs.options.Requests.{Stage, stageOf, requestedWith, onwardWith, requestedFromWith, CallWith, endedOf, settledWith, asItWas, typeCallWith, typesCallWith}
 
 -- ---- dump_all
-pub all-start : (o : Options) (more : ℕ → Bool) (b : TypeTable) (s : List ℕ) (n id len : ℕ) (w t l : List ℕ) → requestedFromWith o more b s n id [] len w t 0 ≡ requestedFromWith o more b s n id (entriesOf 0 l) len w t 0
+pub all-start : (o : Options) (more : ℕ → Bool) (b : TypeTable) (s : List ℕ) (n id len v : ℕ) (w t l : List ℕ) (r : Progress) → r ≡ record { reached = record { len = len; number = 0; visits = v }; count = 0; made = 0 }
+    → requestedFromWith o more b s n id [] len w t 0 ≡ requestedFromWith o more b s n id (entriesOf (r .count) l) (r .reached .len) w t (r .made)
 unfolding entriesOf
-all-start o more b s n id len w t l = refl
+all-start o more b s n id len v w t l r e = sym (ap (λ (x : Progress). requestedFromWith o more b s n id (entriesOf (x .count) l) (x .reached .len) w t (x .made)) e)
 
 module _ (o : Options) (room : ℕ) (b : TypeTable) (s : List ℕ) (whole : Stage) where
   abbrev more : ℕ → Bool

@@ -384,7 +384,7 @@ module _ (o : Options) (s : Session) (section : List ℕ) (es : s .«section_len
                   ∙ ap (λ (y : List ℕ). y ++ drop ((c + d .count) * 12) (thenZeros (length l′) ((c + d .count) * 12) l′)) (sym (zeros-head ((c + d .count) * 12) (length l′) l′ both-room both-room ((c + d .count) * 12) (le-refl ((c + d .count) * 12))))
                   ∙ take-append-drop ((c + d .count) * 12) (thenZeros (length l′) ((c + d .count) * 12) l′)
 
-  pub list-start : (w t l : List ℕ) → isCurrent s (length section) (length w) (length t) ≡ true → (ids : List ℕ) (n : ℕ) → n ≡ countIn ids → (b : TypeTable) (eb : b ≡ tableFor s section)
+  list-start : (w t l : List ℕ) → isCurrent s (length section) (length w) (length t) ≡ true → (ids : List ℕ) (n : ℕ) → n ≡ countIn ids → (b : TypeTable) (eb : b ≡ tableFor s section)
       → Rest b eb ids n (listCallWith o s section w t (idsIn ids) l) 0 (s .«text_len») (s .visits) 0 0 w t l
   unfolding listCallWith tailed
   list-start w t l h ids n e b eb =
@@ -399,9 +399,20 @@ module _ (o : Options) (s : Session) (section : List ℕ) (es : s .«section_len
       zeroed : (m : ℕ) → m ≡ 0 + m
       zeroed m = omega arith
 
+  pub list-begin : (w t l : List ℕ) → isCurrent s (length section) (length w) (length t) ≡ true → (ids : List ℕ) (n : ℕ) → n ≡ countIn ids → (b : TypeTable) (eb : b ≡ tableFor s section)
+      → (r : Progress) → r ≡ record { reached = record { len = s .«text_len»; number = 0; visits = s .visits }; count = 0; made = 0 }
+      → Rest b eb ids n (listCallWith o s section w t (idsIn ids) l) 0 (r .reached .len) (r .reached .visits) (r .count) (r .made) w t l
+  list-begin w t l h ids n e b eb r er =
+      subst (λ (x : Progress). Rest b eb ids n (listCallWith o s section w t (idsIn ids) l) 0 (x .reached .len) (x .reached .visits) (x .count) (x .made) w t l) (sym er) (list-start w t l h ids n e b eb)
+
 pub tally-is : (r : Tallied) (q : Reached) (k c m : ℕ) → r ≡ record { tally = record { len = q .len; number = q .number; accepted = k; visits = q .visits }; count = c; made = m } → (s : Session) (w t l : List ℕ) (whole : CallWith)
     → endWith s (record { tally = record { len = q .len; number = q .number; accepted = k; visits = q .visits }; count = c; made = m }) w t l ≡ whole → endWith s r w t l ≡ whole
 tally-is r q k c m e s w t l whole f = ap (λ (x : Tallied). endWith s x w t l) e ∙ f
+
+pub tally-past : (r : Tallied) (p q : Reached) (k c m : ℕ) → r ≡ record { tally = record { len = q .len; number = q .number; accepted = k; visits = q .visits }; count = c; made = m } → q ≡ record { len = p .len; number = 10; visits = p .visits }
+    → (s : Session) (w t l : List ℕ) (whole : CallWith) → endWith s (record { tally = record { len = p .len; number = 10; accepted = k; visits = p .visits }; count = c; made = m }) w t l ≡ whole → endWith s r w t l ≡ whole
+tally-past r p q k c m e f s w t l whole g =
+    ap (λ (x : Tallied). endWith s x w t l) (e ∙ (λ i. record { tally = record { len = f i .len; number = f i .number; accepted = k; visits = f i .visits }; count = c; made = m })) ∙ g
 
 pub tally-done : (r : Tallied) (q : Reached) (k c m : ℕ) → r ≡ record { tally = record { len = q .len; number = q .number; accepted = k; visits = q .visits }; count = c; made = m } → q .number ≡ 0
     → (s : Session) (w t l : List ℕ) (whole : CallWith) → endWith s (record { tally = record { len = q .len; number = 0; accepted = k; visits = q .visits }; count = c; made = m }) w t l ≡ whole → endWith s r w t l ≡ whole

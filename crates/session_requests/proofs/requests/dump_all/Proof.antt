@@ -1,3 +1,4 @@
+use Rattle.session_requests.specs.declared.options.Progress.{Progress}
 use borrow.Author.Needs.{needs}
 use Prim.Native.Nat.{ℕ, zero-le, _+_, _-_, _/_, _<_, _≤_}
 use mathlib.Core.Path.{_≡_, refl, ap, _∙_}
@@ -25,11 +26,14 @@ abbrev μ-loop : tie.MeasureT-loop
 visits-in-requires : tie.Need-visits-in-requires Inv-loop μ-loop
 visits-in-requires c κs = search needs
 
+none-yet-requires : tie.Need-none-yet-requires Inv-loop μ-loop
+none-yet-requires c κs = search needs
+
 loop-holds : tie.Need-loop-holds Inv-loop μ-loop
-loop-holds c = (omega arith, omega arith, omega arith, refl, refl, refl, refl, c .before .before .before .before .before .before .before .pre .0, refl, zero-le, laws.all-start _ _ _ _ _ _ _ _ _ _, refl, c .before .before .before .before .before .before .before .pre .2, λ _. zero-le, c .visits-in .ensures)
+loop-holds c = (omega arith, omega arith, omega arith, refl, refl, refl, ap (λ (x : Progress). x .reached .number) (c .none-yet .ensures), omega (arith, c .before .before .before .before .before .before .before .before .pre .0, ap (λ (x : Progress). x .reached .len) (c .none-yet .ensures)), refl, omega (arith, ap (λ (x : Progress). x .count) (c .none-yet .ensures)), laws.all-start _ _ _ _ _ _ _ _ _ _ _ _ (c .none-yet .ensures), refl, c .before .before .before .before .before .before .before .before .pre .2, λ _. omega (arith, ap (λ (x : Progress). x .made) (c .none-yet .ensures)), ap (λ (x : Progress). x .reached .visits) (c .none-yet .ensures) ∙ c .before .visits-in .ensures)
 
 dump-next-requires : tie.Need-dump-next-requires Inv-loop μ-loop
-dump-next-requires c κs = (c .before .before .before .before .before .loop .inv .7, c .before .before .before .before .before .before .before .before .before .before .before .before .before .pre .1, c .before .before .before .before .before .loop .inv .9, c .before .before .before .before .before .loop .inv .13, c .before .before .before .before .before .loop .inv .12, c .before .before .before .before .before .before .before .before .before .before .before .before .before .pre .3, c .before .before .before .before .before .loop .inv .14)
+dump-next-requires c κs = (c .before .before .before .before .before .loop .inv .7, c .before .before .before .before .before .before .before .before .before .before .before .before .before .before .pre .1, c .before .before .before .before .before .loop .inv .9, c .before .before .before .before .before .loop .inv .13, c .before .before .before .before .before .loop .inv .12, c .before .before .before .before .before .before .before .before .before .before .before .before .before .before .pre .3, c .before .before .before .before .before .loop .inv .14)
 
 same-length : tie.Need-same-length Inv-loop μ-loop
 same-length c = c .before .before .before .before .before .before .before .before .before .before .dump-next .kept .1 .1 .0 ∙ c .before .before .before .before .before .before .before .before .before .before .before .before .before .before .before .before .loop .inv .3
@@ -77,6 +81,7 @@ dump-all-spec =
     Inv-loop
     μ-loop
     visits-in-requires
+    none-yet-requires
     loop-holds
     dump-next-requires
     same-length

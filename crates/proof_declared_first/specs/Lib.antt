@@ -1,5 +1,0 @@
-pub mod Notes
-pub mod Declared
-pub mod Renamed
-pub mod Calls
-pub mod Samples

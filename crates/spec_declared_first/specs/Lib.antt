@@ -1,0 +1,4 @@
+pub mod Notes
+pub mod Declared
+pub mod Renamed
+pub mod Samples
