@@ -1,5 +1,5 @@
 // Declarations, their chains and the bodies of composites, which call each other. `left` is how many more calls of
-// emit_type_decl, emit_type_chain and emit_composite_def may be open; `below` is that for the calls within one of them.
+// emit_type_decl, emit_based, emit_type_chain and emit_composite_def may be open; `below` is that for the calls within one of them.
 mod members;
 
 pub use crate::declarations::members::emit_composite_def;

@@ -15,7 +15,7 @@ use Rattle.spec_type_table.specs.Table.{btfOf}
 use Rattle.spec_type_table.proofs.KindLaws.{by-kind}
 use Rattle.c_dumper_bodies.specs.declared.chain.links.Base.{Base}
 use Rattle.c_dumper_bodies.specs.declared.chain.links.Walked.{Walked}
-use Rattle.c_dumper_bodies.specs.declared.chain.links.Walked.the-variants.{Got, No}
+use Rattle.c_dumper_bodies.specs.declared.chain.links.Walked.the-variants.{Got}
 use Rattle.c_dumper_bodies.specs.chain.Chains.{isLink, entryOf, chainAt, chainIs, onlyLinks}
 use Rattle.c_dumper_bodies.specs.bodies.Pieces.{entryLeft}
 use Rattle.c_dumper_bodies.proofs.chain.Linked.{false-true, link-past, entry-base}
@@ -55,32 +55,31 @@ below (got []) = true
 below (got (e ∷ c)) = onlyLinks c
 below (no n) = true
 
-module _ (B : Btf) where
-  links-on : (walk : ℕ → List Entry → Ask (List Entry)) → ((t : ℕ) (c : List Entry) → onlyLinks c ≡ true → below (walk t c) ≡ true)
-      → (id : ℕ) (c : List Entry) → onlyLinks c ≡ true → (t : BtfType) → below (chainOn walk id c (linkOf t)) ≡ true
-  unfolding below chainOn onlyLinks
-  links-on walk k id c h Void = h
-  links-on walk k id c h (Int n x) = h
-  links-on walk k id c h (Ptr t) = k t (star ∷ c) h
-  links-on walk k id c h (Array t n) = k t (array n ∷ c) h
-  links-on walk k id c h (Composite x n z ms) = h
-  links-on walk k id c h (Enum x n z vs) = h
-  links-on walk k id c h (Enum64 x n z vs) = h
-  links-on walk k id c h (Fwd u n) = h
-  links-on walk k id c h (Typedef n t) = h
-  links-on walk k id c h (Mod q t) = k t (qual q ∷ c) h
-  links-on walk k id c h (Func n) = h
-  links-on walk k id c h (Var n) = h
-  links-on walk k id c h (Datasec n) = h
-  links-on walk k id c h (FuncProto r ps) = k r (proto ps ∷ c) h
-  links-on walk k id c h (Float n z) = h
-  links-on walk k id c h (DeclTag a n t x) = h
-  links-on walk k id c h (TypeTag a n t) = k t (tag a n ∷ c) h
+links-on : (walk : ℕ → List Entry → Ask (List Entry)) → ((t : ℕ) (c : List Entry) → onlyLinks c ≡ true → below (walk t c) ≡ true)
+    → (id : ℕ) (c : List Entry) → onlyLinks c ≡ true → (t : BtfType) → below (chainOn walk id c (linkOf t)) ≡ true
+unfolding below chainOn onlyLinks
+links-on walk k id c h Void = h
+links-on walk k id c h (Int n x) = h
+links-on walk k id c h (Ptr t) = k t (star ∷ c) h
+links-on walk k id c h (Array t n) = k t (array n ∷ c) h
+links-on walk k id c h (Composite x n z ms) = h
+links-on walk k id c h (Enum x n z vs) = h
+links-on walk k id c h (Enum64 x n z vs) = h
+links-on walk k id c h (Fwd u n) = h
+links-on walk k id c h (Typedef n t) = h
+links-on walk k id c h (Mod q t) = k t (qual q ∷ c) h
+links-on walk k id c h (Func n) = h
+links-on walk k id c h (Var n) = h
+links-on walk k id c h (Datasec n) = h
+links-on walk k id c h (FuncProto r ps) = k r (proto ps ∷ c) h
+links-on walk k id c h (Float n z) = h
+links-on walk k id c h (DeclTag a n t x) = h
+links-on walk k id c h (TypeTag a n t) = k t (tag a n ∷ c) h
 
-  links-walked : (f id : ℕ) (c : List Entry) → onlyLinks c ≡ true → below (chainOf f B id c) ≡ true
-  unfolding below chainOf
-  links-walked zero id c h = refl
-  links-walked (suc f) id c h = links-on (chainOf f B) (links-walked f) id c h (B .type-by-id id)
+links-walked : (B : Btf) (f id : ℕ) (c : List Entry) → onlyLinks c ≡ true → below (chainOf f B id c) ≡ true
+unfolding below chainOf
+links-walked B zero id c h = refl
+links-walked B (suc f) id c h = links-on (chainOf f B) (links-walked B f) id c h (B .type-by-id id)
 
 outside : (k : ℕ) → (k < 9) ⊎ (12 ≤ k) → 9 ≤ k → k < 12 → ⊥
 outside k (inl l) g m = omega arith

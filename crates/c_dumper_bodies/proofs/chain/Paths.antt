@@ -11,7 +11,6 @@ use Rattle.spec_bytes.specs.text.Text.{ascii, whole, join, putOut, putText}
 use Rattle.spec_bytes.proofs.text.TextLaws.{put-seq, put-same, put-empty, join-on}
 use Rattle.spec_c_dumper.specs.rules.Writer.{got}
 use Rattle.spec_c_dumper.specs.rules.Decl.{Entry, base, ends, leads, linkOf, chainOn, chainOf, qualifier, mods, noMods}
-use Rattle.spec_c_dumper.specs.rules.Chain.{entryBy}
 use Rattle.spec_type_table.specs.declared.types.TypeTable.{TypeTable}
 use Rattle.spec_type_table.specs.declared.types.BtfType.{BtfType as Record}
 use Rattle.spec_type_table.specs.Records.{kindOf, recordById}
@@ -124,9 +123,11 @@ module _ (b : TypeTable) (s w : List ℕ) (start : ℕ) where
     unfolding ChainLeft chainIs RecordIs
     len-got (m, zero, en, ef, ei, ec) h hl = absurd (omega arith)
     len-got (m, suc f, en, ef, ei, ec) h hl = (
-        ap (λ (y : ℕ). got (base id ∷ chainAt b s w start y)) en
-        ∙ sym (chain-ends f id (chainAt b s w start m) (link-ends b s (recordById b s w id) (is-kind ∙ not-true l hl)))
-        ∙ ec, et)
+      ap (λ (y : ℕ). got (base id ∷ chainAt b s w start y)) en
+          ∙ sym (chain-ends f id (chainAt b s w start m) (link-ends b s (recordById b s w id) (is-kind ∙ not-true l hl)))
+          ∙ ec,
+      et,
+    )
 
   pub len-deep : (id n : ℕ) → ChainLeft id n → 512 ≤ n → (chainIs b s w start (No 12) ≡ chainOf 512 (btfOf b s w) start []) × RecordIs b s w (No 12)
   unfolding ChainLeft chainIs RecordIs chainOf

@@ -1,4 +1,4 @@
-use mathlib.Core.Bool.{true, false}
+use mathlib.Core.Bool.{true}
 use Rattle.c_dumper_bodies.specs.chain.Chains.{chainAt, onlyLinks}
 use Rattle.c_dumper_bodies.proofs.chain.Only.{links-chain}
 use mathlib.Core.Path.{_≡_, refl, _∙_, sym}
@@ -18,10 +18,8 @@ use Rattle.c_dumper_declarator.proofs.declarations.MemberLaws as member
 use Rattle.c_dumper_declarator.proofs.declarations.MemberLaws.{paramsLeft, membersLeft}
 use native.Mathlib.Omega.{arith}
 use borrow.Author.Needs.{needs}
-use mathlib.Core.Path.{_≡_}
 use lib.ListN.{length}
 use Prim.Native.Nat.{ℕ, _<_, _≤_, _+_, _-_, _*_}
-use Prim.Native.Nat.{ℕ, _<_}
 use borrow.Fn.Kinds.{In}
 use borrow.Fn.PlainCycle.{Measures, is, falls, and}
 use Rattle.c_dumper_declarator.proofs.declarations.emit_array.Reads as emit-array
