@@ -1,5 +1,5 @@
 // Declarations, their chains and the bodies of composites, which call each other. `left` is how many more calls of
-// emit_type_decl, emit_type_chain and emit_composite_def may be open; `below` is that for the calls within one of them.
+// emit_type_decl, emit_based, emit_type_chain and emit_composite_def may be open; `below` is that for the calls within one of them.
 mod members;
 
 pub use crate::declarations::members::emit_composite_def;
@@ -10,7 +10,6 @@ use base_bytes::put::stopped;
 use base_bytes::refusal;
 use base_keywords::table::put_dots;
 use base_keywords::table::put_void;
-use btf_layout::size::Ask;
 use btf_type_table::kind;
 use btf_type_table::kind::entries_of;
 use btf_type_table::kind::is_struct;
@@ -34,7 +33,9 @@ use c_dumper_bodies::bodies::put_star;
 use c_dumper_bodies::bodies::put_type_tag;
 use c_dumper_bodies::bodies::put_typedef_name;
 use c_dumper_bodies::bodies::shown_params;
-use c_dumper_bodies::chain::chain_len;
+use c_dumper_bodies::chain::Base;
+use c_dumper_bodies::chain::Walked;
+use c_dumper_bodies::chain::chain_base;
 use c_dumper_bodies::chain::kind_on_top;
 use c_dumper_bodies::chain::path_at;
 use c_dumper_bodies::modifiers::emit_mods;
@@ -54,16 +55,17 @@ ghost use Prim.Native.Nat.{_≤_, _<_, _-_, _+_};
 ghost use lib.Dec.{eqb, leb};
 ghost use Rattle.spec_c_dumper.specs.rules.Writer.{put, _⨾_};
 ghost use Rattle.spec_c_dumper.specs.rules.Types.{Composite};
-ghost use Rattle.spec_c_dumper.specs.rules.Decl.{mods, noMods, shownParams};
+ghost use mathlib.Core.List.{_∷_};
+ghost use Rattle.spec_c_dumper.specs.rules.Decl.{base, mods, noMods, shownParams};
 ghost use Rattle.spec_c_dumper.specs.alignment_once.Writers.{emitTypeDeclOnce, emitTypeChainOnce};
 ghost use Rattle.btf_layout.specs.asked.Asked.{workAsks};
 ghost use Rattle.spec_c_dumper.specs.rules.Place.{outOf, putSaid};
-ghost use Rattle.spec_type_table.specs.Records.{kindOf};
+ghost use Rattle.spec_type_table.specs.Records.{kindOf, recordById};
 ghost use Rattle.spec_type_table.specs.Table.{from, paramOf, paramsOf, membersOf, recordName, typeOf, btfOf, workNaming};
 ghost use Rattle.c_dumper_name_versions.specs.names.Spelling.{nameText};
-ghost use Rattle.c_dumper_bodies.specs.chain.Chains.{chainAt};
+ghost use Rattle.c_dumper_bodies.specs.chain.Chains.{chainAt, onlyLinks};
 ghost use Rattle.c_dumper_bodies.specs.bodies.Pieces.{entryLeft, entryStar, entryNamed, wordBelow, paramsBelow, arrayBelow, protoBelow};
-ghost use Rattle.c_dumper_bodies.specs.bodies.Pieces.{paramListBelow, entryText, paramText};
+ghost use Rattle.c_dumper_bodies.specs.bodies.Pieces.{paramListBelow, entryText, chainRest, paramText};
 
 // What is declared: the type that the chain starts from, the declared name, and the level of indentation.
 pub struct Declarator {
@@ -100,12 +102,49 @@ pub fn emit_type_decl(
     if stopped(text, at) {
         return at;
     }
-    match chain_len(b, section, work, d.id) {
-        Ask::Got(n) => emit_type_chain(b, section, work, text, at, d, n, left - 1),
-        Ask::No(c) => stop(text, at, c),
+    match chain_base(b, section, work, d.id) {
+        Walked::Got(x) => emit_based(b, section, work, text, at, d, x, left - 1),
+        Walked::No(c) => stop(text, at, c),
     }
 }
 
+// A chain with its base on top. Most have nothing else, and then the name follows.
+fn emit_based(
+    b: TypeTable,
+    section: &[u8],
+    work: &mut [u8],
+    text: &mut [u8],
+    at: usize,
+    d: Declarator,
+    x: Base,
+    left: u32,
+) -> usize
+    requires { ⌜ (x .t ≡ recordById b (now section) (now work) (x .id))
+        × (onlyLinks (chainAt b (now section) (now work) (d .id) (x .n)) ≡ true) ⌝ }
+    ensures { λ r. ⌜ outOf r (now (text .exit)) (now (work .exit))
+        ≡ putSaid (now (text .entry)) at (emitTypeChainOnce (workAsks (b .types) (btfOf b (now (section .entry)) (now (work .entry))))
+        (workNaming b) (btfOf b (now (section .entry)) (now (work .entry))) left
+        (base (x .id) ∷ chainAt b (now (section .entry)) (now (work .entry)) (d .id) (x .n)) (nameText b (now (section .entry)) (d .name))
+        (d .lvl) (now (work .entry))) ⌝ }
+{
+    if left == 0 {
+        return stop(text, at, refusal::TOO_DEEP);
+    }
+    let below = left - 1;
+    let m = skip_mods(b, section, work, d.id, x.n);
+    let a = emit_mods(b, section, work, text, at, d.id, x.n, m);
+    let e = emit_base(b, section, work, text, a, x.id, x.t, d.lvl, below);
+    if m == 0 {
+        let name = d.name;
+        return emit_name(b, section, text, e, name, false);
+    }
+    if stopped(text, e) {
+        return e;
+    }
+    emit_links(b, section, work, text, e, d, m, false, below)
+}
+
+// A chain of entries that all lead on.
 fn emit_type_chain(
     b: TypeTable,
     section: &[u8],
@@ -116,6 +155,7 @@ fn emit_type_chain(
     n: u32,
     left: u32,
 ) -> usize
+    requires { ⌜ onlyLinks (chainAt b (now section) (now work) (d .id) n) ≡ true ⌝ }
     ensures { λ r. ⌜ outOf r (now (text .exit)) (now (work .exit))
         ≡ putSaid (now (text .entry)) at (emitTypeChainOnce (workAsks (b .types) (btfOf b (now (section .entry)) (now (work .entry))))
         (workNaming b) (btfOf b (now (section .entry)) (now (work .entry))) left
@@ -128,15 +168,33 @@ fn emit_type_chain(
     if stopped(text, at) {
         return at;
     }
-    let below = left - 1;
-    let mut c = Chain {
-        at: at,
-        n: n,
-        last_was_ptr: true,
-        is_named: false,
-    };
+    emit_links(b, section, work, text, at, d, n, true, left - 1)
+}
+
+// What is left of it: entry by entry, and then the name.
+fn emit_links(
+    b: TypeTable,
+    section: &[u8],
+    work: &mut [u8],
+    text: &mut [u8],
+    at: usize,
+    d: Declarator,
+    n: u32,
+    last_was_ptr: bool,
+    below: u32,
+) -> usize
+    requires { ⌜ onlyLinks (chainAt b (now section) (now work) (d .id) n) ≡ true ⌝ }
+    ensures { λ r. ⌜ outOf r (now (text .exit)) (now (work .exit))
+        ≡ putSaid (now (text .entry)) at (chainRest (workAsks (b .types) (btfOf b (now (section .entry)) (now (work .entry))))
+        (workNaming b) (btfOf b (now (section .entry)) (now (work .entry))) below (nameText b (now (section .entry)) (d .name)) (d .lvl)
+        false «last_was_ptr» (chainAt b (now (section .entry)) (now (work .entry)) (d .id) n) (now (work .entry))) ⌝ }
+{
+    let mut c = goes_on(at, n, last_was_ptr);
     while 0 < c.n {
         c = emit_entry(b, section, work, text, c, d, below);
+        if stopped(text, c.at) {
+            return c.at;
+        }
     }
     if c.is_named {
         return c.at;
@@ -169,7 +227,7 @@ fn named(at: usize) -> Chain
     }
 }
 
-// Pops and prints the entry on top.
+// Pops and prints the entry on top; one of no other kind that leads on is a type tag.
 fn emit_entry(
     b: TypeTable,
     section: &[u8],
@@ -179,7 +237,7 @@ fn emit_entry(
     d: Declarator,
     below: u32,
 ) -> Chain
-    requires { ⌜ 0 < c .n ⌝ }
+    requires { ⌜ (0 < c .n) × (onlyLinks (chainAt b (now section) (now work) (d .id) (c .n)) ≡ true) ⌝ }
     ensures { λ r. ⌜ (outOf (r .at) (now (text .exit)) (now (work .exit))
         ≡ putSaid (now (text .entry)) (c .at)
         (entryText (workAsks (b .types) (btfOf b (now (section .entry)) (now (work .entry)))) (workNaming b)
@@ -191,8 +249,7 @@ fn emit_entry(
         × (r .«is_named» ≡ entryNamed (chainAt b (now (section .entry)) (now (work .entry)) (d .id) (c .n))) × (r .n ≤ c .n - 1) ⌝ }
 {
     let n = c.n - 1;
-    let id = path_at(b, section, work, d.id, n);
-    let t = type_by_id(b, section, work, id);
+    let t = type_by_id(b, section, work, path_at(b, section, work, d.id, n));
     match kind_of(t.info) {
         kind::PTR => goes_on(put_star(text, c.at, c.last_was_ptr), n, true),
         kind::ARRAY => {
@@ -206,19 +263,10 @@ fn emit_entry(
             goes_on(put_qualifier(text, a, kind_of(t.info)), n, false)
         }
         kind::FUNC_PROTO => named(emit_function(b, section, work, text, c, d, t, below)),
-        kind::TYPE_TAG => {
-            let m = skip_mods(b, section, work, d.id, n);
-            let a = emit_mods(b, section, work, text, c.at, d.id, n, m);
-            goes_on(put_type_tag(b, section, text, a, t), m, false)
-        }
         _ => {
             let m = skip_mods(b, section, work, d.id, n);
             let a = emit_mods(b, section, work, text, c.at, d.id, n, m);
-            goes_on(
-                emit_base(b, section, work, text, a, id, t, d.lvl, below),
-                m,
-                false,
-            )
+            goes_on(put_type_tag(b, section, text, a, t), m, false)
         }
     }
 }
@@ -234,7 +282,7 @@ fn emit_function(
     t: BtfType,
     below: u32,
 ) -> usize
-    requires { ⌜ 0 < c .n ⌝ }
+    requires { ⌜ (0 < c .n) × (onlyLinks (chainAt b (now section) (now work) (d .id) (c .n)) ≡ true) ⌝ }
     ensures { λ r. ⌜ outOf r (now (text .exit)) (now (work .exit))
         ≡ putSaid (now (text .entry)) (c .at)
         ((put (mods (chainAt b (now (section .entry)) (now (work .entry)) (d .id) (c .n - 1)))
@@ -340,6 +388,7 @@ fn emit_array(
     last_was_ptr: bool,
     below: u32,
 ) -> usize
+    requires { ⌜ onlyLinks (chainAt b (now section) (now work) (d .id) n) ≡ true ⌝ }
     ensures { λ r. ⌜ outOf r (now (text .exit)) (now (work .exit))
         ≡ putSaid (now (text .entry)) at (arrayBelow (workAsks (b .types) (btfOf b (now (section .entry)) (now (work .entry))))
         (workNaming b) (btfOf b (now (section .entry)) (now (work .entry))) below (nameText b (now (section .entry)) (d .name)) (d .lvl)
@@ -370,6 +419,7 @@ fn emit_proto(
     last_was_ptr: bool,
     below: u32,
 ) -> usize
+    requires { ⌜ onlyLinks (chainAt b (now section) (now work) (d .id) n) ≡ true ⌝ }
     ensures { λ r. ⌜ outOf r (now (text .exit)) (now (work .exit))
         ≡ putSaid (now (text .entry)) at (protoBelow (workAsks (b .types) (btfOf b (now (section .entry)) (now (work .entry))))
         (workNaming b) (btfOf b (now (section .entry)) (now (work .entry))) below (nameText b (now (section .entry)) (d .name)) (d .lvl)

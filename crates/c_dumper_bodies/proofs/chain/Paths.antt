@@ -10,14 +10,13 @@ use borrow.Author.Tests.{lt-ltb, le-ltb}
 use Rattle.spec_bytes.specs.text.Text.{ascii, whole, join, putOut, putText}
 use Rattle.spec_bytes.proofs.text.TextLaws.{put-seq, put-same, put-empty, join-on}
 use Rattle.spec_c_dumper.specs.rules.Writer.{got}
-use Rattle.spec_c_dumper.specs.rules.Decl.{Entry, Link, ends, leads, linkOf, chainOn, chainOf, qualifier, mods, noMods}
-use Rattle.spec_c_dumper.specs.rules.Chain.{entryBy}
+use Rattle.spec_c_dumper.specs.rules.Decl.{Entry, base, ends, leads, linkOf, chainOn, chainOf, qualifier, mods, noMods}
 use Rattle.spec_type_table.specs.declared.types.TypeTable.{TypeTable}
 use Rattle.spec_type_table.specs.declared.types.BtfType.{BtfType as Record}
 use Rattle.spec_type_table.specs.Records.{kindOf, recordById}
 use Rattle.spec_type_table.specs.Table.{typeOf, extraWord, btfOf}
-use Rattle.btf_layout.specs.declared.size.Ask.the-variants.{Got, No}
-use Rattle.c_dumper_bodies.specs.chain.Chains.{isLink, isQualifier, qualifierOf, nextOf, entryOf, pathAt, chainAt, chainIs, kindOnTop, skipped, modsDown}
+use Rattle.c_dumper_bodies.specs.declared.chain.links.Walked.the-variants.{Got, No}
+use Rattle.c_dumper_bodies.specs.chain.Chains.{isLink, isQualifier, qualifierOf, nextOf, entryOf, pathAt, chainAt, chainIs, RecordIs, kindOnTop, skipped, modsDown}
 use Rattle.c_dumper_bodies.proofs.chain.Linked.{false-true, link-leads, link-ends, next-array, next-other, stays-on, no-words, entry-qual}
 
 not-true : (x : Bool) → not x ≡ true → x ≡ false
@@ -63,17 +62,17 @@ module _ (b : TypeTable) (s w : List ℕ) (start : ℕ) where
       ∙ top-of (n - 1)
       ∙ ap (kindOnTop b s w start) q
 
-  -- ---- chain_len: m entries were walked, f more may come, and the chain from here is the whole
+  -- ---- chain_base: m entries were walked, f more may come, and the chain from here is the whole
   pub ChainLeft : ℕ → ℕ → Type 0
   ChainLeft id n =
       (m : ℕ)
       × (f : ℕ)
-      × (n ≡ suc m)
-      × (f + n ≡ 513)
+      × (n ≡ m)
+      × (f + n ≡ 512)
       × (id ≡ pathAt b s w start m)
       × (chainOf f (btfOf b s w) id (chainAt b s w start m) ≡ chainOf 512 (btfOf b s w) start [])
 
-  pub len-start : ChainLeft start 1
+  pub len-start : ChainLeft start 0
   unfolding ChainLeft pathAt chainAt
   len-start = (0, 512, refl, refl, refl, refl)
 
@@ -82,9 +81,9 @@ module _ (b : TypeTable) (s w : List ℕ) (start : ℕ) where
   unfolding chainOf chainOn btfOf
   chain-leads f id c e = ap (chainOn (chainOf f (btfOf b s w)) id c) e
 
-  chain-ends : (f id : ℕ) (c : List Entry) → linkOf (typeOf b s (recordById b s w id)) ≡ ends → chainOf (suc f) (btfOf b s w) id c ≡ got (entryOf b s w id ∷ c)
-  unfolding chainOf chainOn btfOf entryOf
-  chain-ends f id c e = ap (chainOn (chainOf f (btfOf b s w)) id c) e ∙ ap (λ (x : Link). got (entryBy id x ∷ c)) (sym e)
+  chain-ends : (f id : ℕ) (c : List Entry) → linkOf (typeOf b s (recordById b s w id)) ≡ ends → chainOf (suc f) (btfOf b s w) id c ≡ got (base id ∷ c)
+  unfolding chainOf chainOn btfOf
+  chain-ends f id c e = ap (chainOn (chainOf f (btfOf b s w)) id c) e
 
   leads-on : (id : ℕ) → isLink (kindOf (recordById b s w id .info)) ≡ true → linkOf (typeOf b s (recordById b s w id)) ≡ leads (entryOf b s w id) (nextOf b s (recordById b s w id))
   unfolding entryOf
@@ -102,13 +101,13 @@ module _ (b : TypeTable) (s w : List ℕ) (start : ℕ) where
     is-kind : isLink (kindOf (recordById b s w id .info)) ≡ l
     is-kind = sym (el ∙ ap isLink (ek ∙ ap (λ (x : Record). kindOf (x .info)) et))
 
-    pub len-turn : (x : ℕ) → ChainLeft id n → n < 513 → not l ≡ false → x ≡ nextOf b s t → ChainLeft x (n + 1)
+    pub len-turn : (x : ℕ) → ChainLeft id n → n < 512 → not l ≡ false → x ≡ nextOf b s t → ChainLeft x (n + 1)
     unfolding ChainLeft
     len-turn x (m, zero, en, ef, ei, ec) h hl ex = absurd (omega arith)
     len-turn x (m, suc f, en, ef, ei, ec) h hl ex =
         let q : x ≡ nextOf b s (recordById b s w id) = ex ∙ ap (nextOf b s) et in
-        let a : n + 1 ≡ suc (suc m) = omega arith in
-        let c : f + (n + 1) ≡ 513 = omega arith in (
+        let a : n + 1 ≡ suc m = omega arith in
+        let c : f + (n + 1) ≡ 512 = omega arith in (
           suc m,
           f,
           a,
@@ -119,18 +118,20 @@ module _ (b : TypeTable) (s w : List ℕ) (start : ℕ) where
               ∙ ec,
         )
 
-    pub len-got : ChainLeft id n → n < 513 → not l ≡ true → chainIs b s w start (Got n) ≡ chainOf 512 (btfOf b s w) start []
-    unfolding ChainLeft chainIs
+    pub len-got : ChainLeft id n → n < 512 → not l ≡ true
+        → (chainIs b s w start (Got (record { id = id; t = t; n = n })) ≡ chainOf 512 (btfOf b s w) start []) × RecordIs b s w (Got (record { id = id; t = t; n = n }))
+    unfolding ChainLeft chainIs RecordIs
     len-got (m, zero, en, ef, ei, ec) h hl = absurd (omega arith)
-    len-got (m, suc f, en, ef, ei, ec) h hl =
-        ap (λ (y : ℕ). got (chainAt b s w start y)) en
-        ∙ ap got (sym (chain-next m id ei))
-        ∙ sym (chain-ends f id (chainAt b s w start m) (link-ends b s (recordById b s w id) (is-kind ∙ not-true l hl)))
-        ∙ ec
+    len-got (m, suc f, en, ef, ei, ec) h hl = (
+      ap (λ (y : ℕ). got (base id ∷ chainAt b s w start y)) en
+          ∙ sym (chain-ends f id (chainAt b s w start m) (link-ends b s (recordById b s w id) (is-kind ∙ not-true l hl)))
+          ∙ ec,
+      et,
+    )
 
-  pub len-deep : (id n : ℕ) → ChainLeft id n → 513 ≤ n → chainIs b s w start (No 12) ≡ chainOf 512 (btfOf b s w) start []
-  unfolding ChainLeft chainIs chainOf
-  len-deep id n (m, zero, en, ef, ei, ec) h = ec
+  pub len-deep : (id n : ℕ) → ChainLeft id n → 512 ≤ n → (chainIs b s w start (No 12) ≡ chainOf 512 (btfOf b s w) start []) × RecordIs b s w (No 12)
+  unfolding ChainLeft chainIs RecordIs chainOf
+  len-deep id n (m, zero, en, ef, ei, ec) h = (ec, tt)
   len-deep id n (m, suc f, en, ef, ei, ec) h = absurd (omega arith)
 
   -- ---- the top of a chain

@@ -1,7 +1,6 @@
 // The declarator chain: from a type through pointers, arrays, qualifiers, prototypes and type tags to its base. A chain is
 // only popped, so it is kept as the id that it starts from and how many entries it has: entry k is k steps from there.
 use base_bytes::refusal;
-use btf_layout::size::Ask;
 use btf_type_table::kind;
 use btf_type_table::kind::kind_of;
 use btf_type_table::node::type_by_id;
@@ -13,7 +12,7 @@ ghost use mathlib.Core.List.{[]};
 ghost use Rattle.spec_c_dumper.specs.rules.Decl.{chainOf};
 ghost use Rattle.spec_type_table.specs.Table.{btfOf};
 ghost use Rattle.c_dumper_bodies.specs.chain.Chains as chains;
-ghost use Rattle.c_dumper_bodies.specs.chain.Chains.{nextOf, pathAt, chainIs, kindOnTop};
+ghost use Rattle.c_dumper_bodies.specs.chain.Chains.{nextOf, pathAt, chainIs, RecordIs, kindOnTop};
 
 // Whether a kind leads on in a chain; any other is a base.
 fn is_link(kind: u32) -> bool
@@ -39,22 +38,36 @@ fn next_of(b: TypeTable, section: &[u8], t: BtfType) -> u32
     t.type_id
 }
 
-// How many entries the chain from an id has: 512 at most, or 12.
-pub fn chain_len(b: TypeTable, section: &[u8], work: &[u8], start: u32) -> Ask
-    ensures { λ r. ⌜ chainIs b (now (section .entry)) (now (work .entry)) start r
-        ≡ chainOf 512 (btfOf b (now (section .entry)) (now (work .entry))) start [] ⌝ }
+// The base that a chain ends with, its record, and how many entries lead there.
+pub struct Base {
+    pub id: u32,
+    pub t: BtfType,
+    pub n: u32,
+}
+
+// What the walk of a chain comes to: its base, or why there is none.
+pub enum Walked {
+    Got(Base),
+    No(u32),
+}
+
+// The base of the chain from an id. A chain has 512 entries at most, its base with them, or it is refused by 12.
+pub fn chain_base(b: TypeTable, section: &[u8], work: &[u8], start: u32) -> Walked
+    ensures { λ r. ⌜ (chainIs b (now (section .entry)) (now (work .entry)) start r
+        ≡ chainOf 512 (btfOf b (now (section .entry)) (now (work .entry))) start [])
+        × RecordIs b (now (section .entry)) (now (work .entry)) r ⌝ }
 {
     let mut id = start;
-    let mut n: u32 = 1;
-    while n < 513 {
+    let mut n: u32 = 0;
+    while n < 512 {
         let t = type_by_id(b, section, work, id);
         if !is_link(kind_of(t.info)) {
-            return Ask::Got(n);
+            return Walked::Got(Base { id: id, t: t, n: n });
         }
         id = next_of(b, section, t);
         n += 1;
     }
-    Ask::No(refusal::TOO_DEEP)
+    Walked::No(refusal::TOO_DEEP)
 }
 
 // The id of entry k.

@@ -1,49 +1,56 @@
--- What each return of emit_type_decl and emit_type_chain comes to. Assumes nothing.
+-- What each return of emit_type_decl, emit_type_chain and emit_links comes to. Assumes nothing.
 use Prim.Native.Nat.{ℕ, zero, suc, _-_, _<_, _≤_}
-use mathlib.Core.Path.{_≡_, refl, ap, ap₂, _∙_, sym}
+use mathlib.Core.Path.{_≡_, refl, ap, ap₂, _∙_, sym, subst}
 use mathlib.Core.Bool.{Bool, true, false}
 use mathlib.Core.List.{List, [], _∷_}
 use native.Mathlib.Omega.{arith}
 use lib.ListN.{length}
-use Rattle.spec_bytes.specs.text.Text.{whole, cut, putOut, putText}
+use Rattle.spec_bytes.specs.text.Text.{whole, cut, isStopped, putOut, putText}
 use Rattle.spec_c_dumper.specs.rules.Writer.{Said, Writer, stop, nothing, _⨾_}
 use Rattle.spec_c_dumper.specs.rules.Types.{Name}
 use Rattle.spec_c_dumper.specs.rules.Decl.{Entry, base, star, qual, array, proto, tag, chainOf, emitName}
 use Rattle.spec_c_dumper.specs.alignment_once.Writers.{emitTypeDeclOnce, emitTypeChainOnce}
 use Rattle.spec_c_dumper.specs.rules.Place.{outOf, putSaid}
-use Rattle.spec_c_dumper.proofs.rules.Writing.{stop-only, put-nothing, put-given, put-refused}
+use Rattle.spec_c_dumper.proofs.rules.Writing.{stop-only, put-nothing, put-given, put-refused, said-stopped}
 use Rattle.spec_type_table.specs.declared.types.TypeTable.{TypeTable}
-use Rattle.btf_layout.specs.declared.size.Ask.{Ask as Code}
-use Rattle.btf_layout.specs.declared.size.Ask.the-variants.{Got, No}
+use Rattle.spec_type_table.specs.Records.{recordById}
+use Rattle.c_dumper_bodies.specs.declared.chain.links.Base.{Base}
+use Rattle.c_dumper_bodies.specs.declared.chain.links.Walked.{Walked}
+use Rattle.c_dumper_bodies.specs.declared.chain.links.Walked.the-variants.{Got, No}
 use Rattle.c_dumper_name_versions.specs.names.Spelling.{nameAfter}
-use Rattle.c_dumper_bodies.specs.chain.Chains.{chainAt, chainIs}
+use Rattle.c_dumper_bodies.specs.chain.Chains.{chainAt, chainIs, RecordIs, onlyLinks}
+use Rattle.c_dumper_bodies.proofs.chain.Only.{links-left}
 use Rattle.c_dumper_bodies.proofs.chain.Paths.{chain-top, chain-length}
 use Rattle.c_dumper_bodies.proofs.chain.Linked.{false-true}
 use Rattle.c_dumper_declarator.specs.declared.declarations.Chain.{Chain}
 use Rattle.c_dumper_bodies.specs.bodies.Pieces.{entryLeft, entryStar, entryNamed, entryText, chainRest}
 use Rattle.c_dumper_declarator.proofs.declarations.Turns.{chain-turn, chain-done, chain-named, decl-none, chain-none, decl-some, chain-some}
-use Rattle.c_dumper_declarator.proofs.declarations.Kept.{seen, Leads, leads-end, leads-turn}
+use Rattle.c_dumper_declarator.proofs.declarations.Kept.{seen, links-kept, Leads, leads-end, leads-turn}
 use Rattle.c_dumper_declarator.proofs.declarations.Keeping.{said-as, put-emit-name, N, Q, T, kept-entry}
 
 module _ (b : TypeTable) (s : List ℕ) where
   -- ---- emit_type_decl
+  pub decl-record : (u : List ℕ) (x : Walked) (y : Base) → RecordIs b s u x → x ≡ Got y → y .t ≡ recordById b s u (y .id)
+  unfolding RecordIs
+  decl-record u x y p e = subst (RecordIs b s u) e p
+
   module _ (t : List ℕ) (at : ℕ) (u : List ℕ) (id : ℕ) (fname : Name) (lvl left r : ℕ) where
     pub decl-zero : left ≡ 0 → putOut r t ≡ putText t at (cut [] 12) → outOf r t u ≡ putSaid t at (emitTypeDeclOnce (Q b s (T b s u)) (N b s) (T b s u) left id fname lvl u)
     decl-zero e o = said-as t at (stop 12) _ u r t u (sym (decl-none (Q b s (T b s u)) (N b s) (T b s u) left id fname lvl e)) (stop-only t at 12 u r t o)
 
-    module _ (h : left ≡ 0 → ⊥) (x : Code) (a : chainIs b s u id x ≡ chainOf 512 (T b s u) id []) where
-      pub decl-got : (n : ℕ) (t′ u′ : List ℕ) → x ≡ Got n
-          → outOf r t′ u′ ≡ putSaid t at (emitTypeChainOnce (Q b s (T b s u)) (N b s) (T b s u) (left - 1) (chainAt b s u id n) fname lvl u) → outOf r t′ u′ ≡ putSaid t at (emitTypeDeclOnce (Q b s (T b s u)) (N b s) (T b s u) left id fname lvl u)
+    module _ (h : left ≡ 0 → ⊥) (x : Walked) (a : (chainIs b s u id x ≡ chainOf 512 (T b s u) id []) × RecordIs b s u x) where
+      pub decl-got : (y : Base) (t′ u′ : List ℕ) → x ≡ Got y
+          → outOf r t′ u′ ≡ putSaid t at (emitTypeChainOnce (Q b s (T b s u)) (N b s) (T b s u) (left - 1) (base (y .id) ∷ chainAt b s u id (y .n)) fname lvl u) → outOf r t′ u′ ≡ putSaid t at (emitTypeDeclOnce (Q b s (T b s u)) (N b s) (T b s u) left id fname lvl u)
       unfolding chainIs
-      decl-got n t′ u′ e o =
+      decl-got y t′ u′ e o =
           said-as t at _ _ u r t′ u′ (sym (decl-some (Q b s (T b s u)) (N b s) (T b s u) left id fname lvl h))
-          (put-given t at (λ c. emitTypeChainOnce (Q b s (T b s u)) (N b s) (T b s u) (left - 1) c fname lvl) u (chainAt b s u id n) (chainOf 512 (T b s u) id []) r t′ u′ (sym a ∙ ap (chainIs b s u id) e) o)
+          (put-given t at (λ c. emitTypeChainOnce (Q b s (T b s u)) (N b s) (T b s u) (left - 1) c fname lvl) u (base (y .id) ∷ chainAt b s u id (y .n)) (chainOf 512 (T b s u) id []) r t′ u′ (sym (a .0) ∙ ap (chainIs b s u id) e) o)
 
       pub decl-no : (c : ℕ) → x ≡ No c → putOut r t ≡ putText t at (cut [] c) → outOf r t u ≡ putSaid t at (emitTypeDeclOnce (Q b s (T b s u)) (N b s) (T b s u) left id fname lvl u)
       unfolding chainIs
       decl-no c e o =
           said-as t at _ _ u r t u (sym (decl-some (Q b s (T b s u)) (N b s) (T b s u) left id fname lvl h))
-          (put-refused t at (λ c. emitTypeChainOnce (Q b s (T b s u)) (N b s) (T b s u) (left - 1) c fname lvl) u c (chainOf 512 (T b s u) id []) r t u (sym a ∙ ap (chainIs b s u id) e) (stop-only t at c u r t o))
+          (put-refused t at (λ c. emitTypeChainOnce (Q b s (T b s u)) (N b s) (T b s u) (left - 1) c fname lvl) u c (chainOf 512 (T b s u) id []) r t u (sym (a .0) ∙ ap (chainIs b s u id) e) (stop-only t at c u r t o))
 
   -- ---- emit_type_chain
   module _ (t : List ℕ) (at : ℕ) (u : List ℕ) (c : List Entry) (fname : Name) (lvl left r : ℕ) where
@@ -110,6 +117,17 @@ module _ (b : TypeTable) (s : List ℕ) where
         (kept-entry b s (T b s w) below fname lvl (c .«last_was_ptr») (chainAt b s w id (c .n)))
         (p .0)
 
+    -- a refusal stopped it
+    pub chain-stops : (t₀ : List ℕ) (at₀ : ℕ) (s₀ : Said (List ℕ)) (t : List ℕ)
+        → Leads b s t₀ at₀ s₀ t (c .at) (chainLeft below id fname lvl c w) → isStopped (putOut (c .at) t) ≡ true → outOf (c .at) t w ≡ putSaid t₀ at₀ s₀
+    chain-stops t₀ at₀ s₀ t l h = leads-end b s t₀ at₀ s₀ t (c .at) _ (c .at) t w l (said-stopped t (c .at) _ w h)
+
+    pub chain-links : (t : List ℕ) (r : Chain) (t′ w′ : List ℕ) → Printed t r t′ w′ → isStopped (putOut (r .at) t′) ≡ false
+        → onlyLinks (chainAt b s w id (c .n)) ≡ true → onlyLinks (chainAt b s w′ id (r .n)) ≡ true
+    chain-links t r t′ w′ p h l =
+        links-kept b s _ t (c .at) w (r .at) t′ w′ id (r .n) (kept-entry b s (T b s w) below fname lvl (c .«last_was_ptr») (chainAt b s w id (c .n))) (p .0) h
+        (ap onlyLinks (p .1) ∙ links-left (chainAt b s w id (c .n)) l)
+
     -- the name stands
     pub chain-stands : (t₀ : List ℕ) (at₀ : ℕ) (s₀ : Said (List ℕ)) (t : List ℕ)
         → Leads b s t₀ at₀ s₀ t (c .at) (chainLeft below id fname lvl c w) → c .«is_named» ≡ true → outOf (c .at) t w ≡ putSaid t₀ at₀ s₀
@@ -136,7 +154,20 @@ module _ (b : TypeTable) (s : List ℕ) where
 
   -- the whole chain
   pub chain-whole : (t : List ℕ) (at : ℕ) (u : List ℕ) (id n : ℕ) (fname : Name) (lvl left r : ℕ) (t′ u′ : List ℕ) → (left ≡ 0 → ⊥)
-      → outOf r t′ u′ ≡ putSaid t at (chainLeft (left - 1) id fname lvl (record { at = at; n = n; «last_was_ptr» = true; «is_named» = false }) u)
+      → outOf r t′ u′ ≡ putSaid t at (chainRest (Q b s (T b s u)) (N b s) (T b s u) (left - 1) fname lvl false true (chainAt b s u id n) u)
       → outOf r t′ u′ ≡ putSaid t at (emitTypeChainOnce (Q b s (T b s u)) (N b s) (T b s u) left (chainAt b s u id n) fname lvl u)
-  unfolding chainLeft
   chain-whole t at u id n fname lvl left r t′ u′ h o = said-as t at _ _ u r t′ u′ (sym (chain-some (Q b s (T b s u)) (N b s) (T b s u) left (chainAt b s u id n) fname lvl h)) o
+
+  -- what is left of it, from its start on
+  pub links-whole : (t : List ℕ) (at : ℕ) (u : List ℕ) (id n : ℕ) (p : Bool) (fname : Name) (lvl below r : ℕ) (t′ u′ : List ℕ) (c : Chain) → c ≡ record { at = at; n = n; «last_was_ptr» = p; «is_named» = false }
+      → outOf r t′ u′ ≡ putSaid t (c .at) (chainLeft below id fname lvl c u)
+      → outOf r t′ u′ ≡ putSaid t at (chainRest (Q b s (T b s u)) (N b s) (T b s u) below fname lvl false p (chainAt b s u id n) u)
+  unfolding chainLeft
+  links-whole t at u id n p fname lvl below r t′ u′ c e o = o ∙ ap (λ (x : Chain). putSaid t (x .at) (chainLeft below id fname lvl x u)) e
+
+  pub links-start : (u : List ℕ) (id at n : ℕ) (p : Bool) (c : Chain) → c ≡ record { at = at; n = n; «last_was_ptr» = p; «is_named» = false }
+      → onlyLinks (chainAt b s u id n) ≡ true → onlyLinks (chainAt b s u id (c .n)) ≡ true
+  links-start u id at n p c e l = ap (λ (x : Chain). onlyLinks (chainAt b s u id (x .n))) e ∙ l
+
+  pub clear-goes-on : (at n : ℕ) (p : Bool) (c : Chain) → c ≡ record { at = at; n = n; «last_was_ptr» = p; «is_named» = false } → Clear c
+  clear-goes-on at n p c e = clear-start c (ap (λ (x : Chain). x .«is_named») e)

@@ -1,4 +1,4 @@
--- What each return of emit_entry, emit_function and emit_base comes to. Assumes nothing.
+-- What each return of emit_based, emit_entry, emit_function and emit_base comes to. Assumes nothing.
 use Prim.Native.Nat.{ℕ, _-_, _<_, _≤_}
 use mathlib.Core.Path.{_≡_, refl, ap, _∙_, sym}
 use mathlib.Core.Bool.{Bool, true, false, not}
@@ -6,7 +6,7 @@ use mathlib.Core.List.{List, [], _∷_}
 use native.Mathlib.Omega.{arith}
 use lib.Dec.{eqb}
 use borrow.Author.Tests.{ne-eqb}
-use Rattle.spec_bytes.specs.text.Text.{ascii, whole, putOut, putText}
+use Rattle.spec_bytes.specs.text.Text.{ascii, whole, isStopped, putOut, putText}
 use Rattle.spec_bytes.proofs.text.TextLaws.{put-seq}
 use Rattle.spec_c_dumper.specs.rules.Writer.{Writer, put, nothing, _⨾_}
 use Rattle.spec_c_dumper.specs.rules.Types.{Name, isEmpty, Member, BtfType, Composite, Btf as Rules}
@@ -14,59 +14,98 @@ use Rattle.spec_c_dumper.specs.rules.Names.{identSpace, resolveTypeName}
 use Rattle.spec_c_dumper.specs.rules.Decl.{Entry, base, star, qual, array, proto, tag, isArray, mods, noMods, qualifier, attribute, brackets, shownParams, parens, emitName, emitCompositeFwd, baseWord, emitArray, emitProto, paramList, enumValue, enum64Value, emitFwdDef}
 use Rattle.spec_c_dumper.specs.alignment_once.Writers.{emitTypeChainOnce, emitCompositeDefOnce}
 use Rattle.spec_c_dumper.specs.rules.Place.{outOf, putSaid}
-use Rattle.spec_c_dumper.proofs.rules.Writing.{put-only, put-nothing, put-then}
+use Rattle.spec_c_dumper.proofs.rules.Writing.{put-only, put-nothing, put-then, said-stopped}
 use Rattle.spec_type_table.specs.declared.types.TypeTable.{TypeTable}
 use Rattle.spec_type_table.specs.declared.types.BtfType.{BtfType as Record}
 use Rattle.spec_type_table.specs.Records.{kindOf, flagOf, recordById, entriesOf}
 use Rattle.spec_type_table.specs.Table.{from, paramOf, paramsOf, recordName, nelemsWord, membersOf, typeOf, btfOf, valuesOf, values64Of}
 use Rattle.c_dumper_name_versions.specs.names.Spelling.{nameAfter}
-use Rattle.c_dumper_bodies.specs.chain.Chains.{isQualifier, qualifierOf, entryOf, pathAt, chainAt, kindOnTop, skipped, modsDown, isLink}
+use Rattle.c_dumper_bodies.specs.chain.Chains.{isQualifier, qualifierOf, entryOf, pathAt, chainAt, kindOnTop, skipped, modsDown, onlyLinks}
+use Rattle.c_dumper_bodies.proofs.chain.Only.{links-below, links-mods, links-tag}
 use Rattle.c_dumper_bodies.proofs.chain.Paths.{chain-top, no-mods-skipped, put-mods, top-some}
-use Rattle.c_dumper_bodies.proofs.chain.Linked.{array-is, entry-star, entry-array, entry-proto, entry-tag, entry-base, entry-qual, qual-in, link-high}
+use Rattle.c_dumper_bodies.proofs.chain.Linked.{array-is, entry-star, entry-array, entry-proto, entry-tag, entry-qual, qual-in}
 use Rattle.c_dumper_declarator.specs.declared.declarations.Chain.{Chain}
-use Rattle.c_dumper_bodies.specs.bodies.Pieces.{entryLeft, entryStar, entryNamed, gap, starText, wordBelow, paramsBelow, arrayBelow, protoBelow, paramListBelow, entryText, enumText}
-use Rattle.c_dumper_declarator.proofs.declarations.Turns.{word-any}
+use Rattle.c_dumper_bodies.specs.bodies.Pieces.{entryLeft, entryStar, entryNamed, gap, starText, wordBelow, paramsBelow, arrayBelow, protoBelow, paramListBelow, entryText, chainRest, enumText}
+use Rattle.c_dumper_declarator.proofs.declarations.Turns.{chain-turn, chain-done, chain-some, word-any}
 use Rattle.c_dumper_bodies.proofs.bodies.BodyLaws.{also}
-use Rattle.c_dumper_declarator.proofs.declarations.Kept.{seen, then-on}
-use Rattle.c_dumper_declarator.proofs.declarations.Keeping.{said-as, put-emit-name, N, Q, T, kept-proto}
+use Rattle.c_dumper_declarator.proofs.declarations.Kept.{seen, links-kept, then-on}
+use Rattle.c_dumper_declarator.proofs.declarations.Keeping.{said-as, put-emit-name, N, Q, T, kept-word, kept-entry, kept-proto}
 use mathlib.Core.Logic.{_⊎_, inl, inr, ⊎-elim}
 use Rattle.spec_type_table.specs.declared.types.Entries.{Entries}
 use Rattle.spec_type_table.proofs.KindLaws.{by-kind, type-0, type-1, type-2, type-3, type-4, type-5, type-6, type-7, type-8, type-9, type-10, type-11, type-12, type-13, type-14, type-15, type-16, type-17, type-18, type-19, type-none}
 use Rattle.c_dumper_declarator.proofs.declarations.DeclLaws.{Printed}
 
--- the kinds that are no link
-pub no-link : (k : ℕ) → (k ≡ 2 → ⊥) → (k ≡ 3 → ⊥) → (k ≡ 13 → ⊥) → (k ≡ 18 → ⊥) → (k < 9) ⊎ (12 ≤ k) → isLink k ≡ false
-unfolding isLink
-no-link k n2 n3 n13 n18 (inl l) =
-    by-kind
-    (λ j. (j ≡ 2 → ⊥) → (j ≡ 3 → ⊥) → j < 9 → isLink j ≡ false)
-    (λ n2 n3 l. refl)
-    (λ n2 n3 l. refl)
-    (λ n2 n3 l. absurd (n2 refl))
-    (λ n2 n3 l. absurd (n3 refl))
-    (λ n2 n3 l. refl)
-    (λ n2 n3 l. refl)
-    (λ n2 n3 l. refl)
-    (λ n2 n3 l. refl)
-    (λ n2 n3 l. refl)
-    (λ n2 n3 l. absurd (omega arith))
-    (λ n2 n3 l. absurd (omega arith))
-    (λ n2 n3 l. absurd (omega arith))
-    (λ n2 n3 l. absurd (omega arith))
-    (λ n2 n3 l. absurd (omega arith))
-    (λ n2 n3 l. absurd (omega arith))
-    (λ n2 n3 l. absurd (omega arith))
-    (λ n2 n3 l. absurd (omega arith))
-    (λ n2 n3 l. absurd (omega arith))
-    (λ n2 n3 l. absurd (omega arith))
-    (λ n2 n3 l. absurd (omega arith))
-    (λ j g n2 n3 l. absurd (omega arith))
-    k n2 n3 l
-no-link k n2 n3 n13 n18 (inr l) = sym (link-high k l (⊎-elim n13 n18))
-
 module _ (b : TypeTable) (s : List ℕ) where
   no-mods : (w : List ℕ) (id n m : ℕ) → m ≡ skipped b s w id n → chainAt b s w id m ≡ noMods (chainAt b s w id n)
   no-mods w id n m e = ap (chainAt b s w id) e ∙ sym (no-mods-skipped b s w id n)
+
+  -- what an array, and a prototype, leave of n entries
+  pub links-rest : (w : List ℕ) (id n m : ℕ) → 0 < n → m ≡ skipped b s w id (n - 1) → onlyLinks (chainAt b s w id n) ≡ true → onlyLinks (chainAt b s w id m) ≡ true
+  links-rest w id n m h em l =
+      ap onlyLinks (no-mods w id (n - 1) m em)
+      ∙ links-mods _ (links-below _ _ (ap onlyLinks (sym (chain-top b s w id n (λ z. omega arith))) ∙ l))
+
+  -- and a base, where no refusal stopped it
+  pub links-based : (below id lvl : ℕ) (w : List ℕ) (x : ℕ) (t : Record) (n m : ℕ) → m ≡ skipped b s w id n → (a : ℕ) (t₁ : List ℕ) (p : ℕ) (t₂ w₂ : List ℕ)
+      → outOf p t₂ w₂ ≡ putSaid t₁ a (wordBelow (Q b s (T b s w)) (N b s) (T b s w) below lvl x (typeOf b s t) w) → isStopped (putOut p t₂) ≡ false
+      → onlyLinks (chainAt b s w id n) ≡ true → onlyLinks (chainAt b s w₂ id m) ≡ true
+  links-based below id lvl w x t n m em a t₁ p t₂ w₂ o q l =
+      links-kept b s _ t₁ a w p t₂ w₂ id m (kept-word b s (T b s w) below [] lvl x (typeOf b s t)) o q (ap onlyLinks (no-mods w id n m em) ∙ links-mods _ l)
+
+  -- an entry of no other kind that leads on is a type tag
+  pub is-tag : (w : List ℕ) (id n x : ℕ) (t : Record) (k : ℕ) → 0 < n → x ≡ pathAt b s w id (n - 1) → t ≡ recordById b s w x → k ≡ kindOf (t .info) → onlyLinks (chainAt b s w id n) ≡ true
+      → (k ≡ 2 → ⊥) → (k ≡ 3 → ⊥) → (k ≡ 13 → ⊥) → (k < 9) ⊎ (12 ≤ k) → k ≡ 18
+  is-tag w id n x t k h ex et ek l n2 n3 n13 z =
+      links-tag b s w x t et (chainAt b s w id (n - 1))
+      (ap onlyLinks (sym (chain-top b s w id n (λ q. omega arith) ∙ ap (λ (y : ℕ). entryOf b s w y ∷ chainAt b s w id (n - 1)) (sym ex))) ∙ l)
+      k ek n2 n3 n13 z
+
+  -- ---- emit_based: x is the id of the base, t its record; n entries lead there, and m of them stay
+  module _ (left id : ℕ) (fname : Name) (lvl : ℕ) (w txt : List ℕ) (at : ℕ) (h : left ≡ 0 → ⊥) (x : ℕ) (t : Record) (et : t ≡ recordById b s w x) (n m : ℕ) (em : m ≡ skipped b s w id n)
+      (a : ℕ) (t₁ : List ℕ) (o₁ : putOut a t₁ ≡ putText txt at (whole (modsDown b s w id m n))) (p : ℕ) (t₂ w₂ : List ℕ)
+      (o₂ : outOf p t₂ w₂ ≡ putSaid t₁ a (wordBelow (Q b s (T b s w)) (N b s) (T b s w) (left - 1) lvl x (typeOf b s t) w)) where
+    base-here : T b s w .type-by-id x ≡ typeOf b s t
+    unfolding btfOf
+    base-here = ap (typeOf b s) (sym et)
+
+    base-put : outOf p t₂ w₂ ≡ putSaid txt at (entryText (Q b s (T b s w)) (N b s) (T b s w) (left - 1) fname lvl true (base x ∷ chainAt b s w id n) w)
+    unfolding entryText
+    base-put =
+        also txt at _ _ w a t₁ p t₂ w₂ (put-mods b s w id txt at a t₁ m n em o₁)
+        (said-as t₁ a _ _ w p t₂ w₂ (ap (wordBelow (Q b s (T b s w)) (N b s) (T b s w) (left - 1) lvl x) (sym base-here) ∙ sym (word-any (Q b s (T b s w)) (N b s) (T b s w) (left - 1) fname lvl x (T b s w .type-by-id x))) o₂)
+
+    based-is : emitTypeChainOnce (Q b s (T b s w)) (N b s) (T b s w) left (base x ∷ chainAt b s w id n) fname lvl
+        ≡ entryText (Q b s (T b s w)) (N b s) (T b s w) (left - 1) fname lvl true (base x ∷ chainAt b s w id n) ⨾ chainRest (Q b s (T b s w)) (N b s) (T b s w) (left - 1) fname lvl false false (chainAt b s w id m)
+    unfolding entryNamed entryStar entryLeft
+    based-is =
+        chain-some (Q b s (T b s w)) (N b s) (T b s w) left (base x ∷ chainAt b s w id n) fname lvl h
+        ∙ chain-turn (Q b s (T b s w)) (N b s) (T b s w) (left - 1) fname lvl true (base x) (chainAt b s w id n)
+        ∙ ap (λ (c : List Entry). entryText (Q b s (T b s w)) (N b s) (T b s w) (left - 1) fname lvl true (base x ∷ chainAt b s w id n) ⨾ chainRest (Q b s (T b s w)) (N b s) (T b s w) (left - 1) fname lvl false false c) (sym (no-mods w id n m em))
+
+    pub based-on : (r : ℕ) (t′ w′ : List ℕ)
+        → outOf r t′ w′ ≡ putSaid t₂ p (chainRest (Q b s (T b s w₂)) (N b s) (T b s w₂) (left - 1) fname lvl false false (chainAt b s w₂ id m) w₂)
+        → outOf r t′ w′ ≡ putSaid txt at (emitTypeChainOnce (Q b s (T b s w)) (N b s) (T b s w) left (base x ∷ chainAt b s w id n) fname lvl w)
+    unfolding seen
+    based-on r t′ w′ o =
+        said-as txt at _ _ w r t′ w′ (sym based-is)
+        (then-on b s (λ y. chainRest (Q b s (y .0)) (N b s) (y .0) (left - 1) fname lvl false false (y .1 id m)) txt at _ w p t₂ w₂ r t′ w′
+        (kept-entry b s (T b s w) (left - 1) fname lvl true (base x ∷ chainAt b s w id n)) base-put o)
+
+    no-entry : m ≡ 0 → chainAt b s w₂ id m ≡ []
+    unfolding chainAt
+    no-entry e = rw e
+
+    pub based-name : (r : ℕ) (t′ : List ℕ) → m ≡ 0 → putOut r t′ ≡ putText t₂ p (whole (nameAfter fname false))
+        → outOf r t′ w₂ ≡ putSaid txt at (emitTypeChainOnce (Q b s (T b s w)) (N b s) (T b s w) left (base x ∷ chainAt b s w id n) fname lvl w)
+    based-name r t′ e o =
+        based-on r t′ w₂
+        (said-as t₂ p (emitName fname false) _ w₂ r t′ w₂
+        (sym (ap (chainRest (Q b s (T b s w₂)) (N b s) (T b s w₂) (left - 1) fname lvl false false) (no-entry e) ∙ chain-done (Q b s (T b s w₂)) (N b s) (T b s w₂) (left - 1) fname lvl false))
+        (put-emit-name t₂ p fname false w₂ r t′ o))
+
+    pub based-stops : isStopped (putOut p t₂) ≡ true
+        → outOf p t₂ w₂ ≡ putSaid txt at (emitTypeChainOnce (Q b s (T b s w)) (N b s) (T b s w) left (base x ∷ chainAt b s w id n) fname lvl w)
+    based-stops q = based-on p t₂ w₂ (said-stopped t₂ p _ w₂ q)
 
   -- ---- emit_entry: c is the chain, x the id on top, t its record, k its kind
   module _ (below id : ℕ) (fname : Name) (lvl : ℕ) (c : Chain) (w : List ℕ) (txt : List ℕ) (h : 0 < c .n) (x : ℕ) (ex : x ≡ pathAt b s w id (c .n - 1)) (t : Record) (et : t ≡ recordById b s w x)
@@ -128,21 +167,6 @@ module _ (b : TypeTable) (s : List ℕ) where
     arm-tag r m a t₁ p t₂ e em g o₁ o₂ er =
         entry-done (tag (flagOf (t .info)) (recordName b s t)) r p m t₂ w (entry-tag b s w x t et (sym ek ∙ e)) er
         (also txt (c .at) _ _ w a t₁ p t₂ w (put-mods b s w id txt (c .at) a t₁ m (c .n - 1) em o₁) (put-only t₁ a _ w p t₂ o₂))
-        (no-mods w id (c .n - 1) m em)
-        g
-
-    word-here : T b s w .type-by-id x ≡ typeOf b s t
-    unfolding btfOf
-    word-here = ap (typeOf b s) (sym et)
-
-    pub arm-base : (r : Chain) (m a : ℕ) (t₁ : List ℕ) (p : ℕ) (t₂ w₂ : List ℕ) → isLink k ≡ false → m ≡ skipped b s w id (c .n - 1) → m ≤ c .n - 1
-        → putOut a t₁ ≡ putText txt (c .at) (whole (modsDown b s w id m (c .n - 1))) → outOf p t₂ w₂ ≡ putSaid t₁ a (wordBelow (Q b s (T b s w)) (N b s) (T b s w) below lvl x (typeOf b s t) w)
-        → r ≡ record { at = p; n = m; «last_was_ptr» = false; «is_named» = false } → Printed b s below id fname lvl c w txt r t₂ w₂
-    unfolding entryText entryStar entryNamed entryLeft
-    arm-base r m a t₁ p t₂ w₂ e em g o₁ o₂ er =
-        entry-done (base x) r p m t₂ w₂ (entry-base b s w x t et (ap isLink (sym ek) ∙ e)) er
-        (also txt (c .at) _ _ w a t₁ p t₂ w₂ (put-mods b s w id txt (c .at) a t₁ m (c .n - 1) em o₁)
-        (said-as t₁ a _ _ w p t₂ w₂ (ap (wordBelow (Q b s (T b s w)) (N b s) (T b s w) below lvl x) (sym word-here) ∙ sym (word-any (Q b s (T b s w)) (N b s) (T b s w) below fname lvl x (T b s w .type-by-id x))) o₂))
         (no-mods w id (c .n - 1) m em)
         g
 

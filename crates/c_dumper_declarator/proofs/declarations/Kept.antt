@@ -5,12 +5,13 @@ use mathlib.Core.Bool.{Bool, true, false}
 use mathlib.Core.List.{List, _∷_}
 use native.Mathlib.Omega.{arith}
 use lib.Dec.{ltb, leb, eqb}
-use Rattle.spec_c_dumper.specs.rules.Writer.{Said, Writer, _⨾_}
+use Rattle.spec_bytes.specs.text.Text.{Out, done, stopped, isStopped, putOut, putText}
+use Rattle.spec_c_dumper.specs.rules.Writer.{Said, said, saidNames, Writer, _⨾_}
 use Rattle.spec_c_dumper.specs.rules.Types.{Name, Member, Btf as Rules}
 use Rattle.spec_c_dumper.specs.rules.Names.{Space, Resolved}
 use Rattle.spec_c_dumper.specs.rules.Decl.{Entry, linkOf}
 use Rattle.spec_c_dumper.specs.rules.Chain.{entryBy}
-use Rattle.spec_c_dumper.specs.rules.Place.{outOf, putSaid}
+use Rattle.spec_c_dumper.specs.rules.Place.{Wrote, wrote, refused as refusedBy, withNames, outOf, putSaid}
 use Rattle.spec_c_dumper.proofs.rules.Writing.{put-then-kept}
 use Rattle.spec_c_dumper.proofs.rules.Keeps.{Keeps}
 use Rattle.spec_type_table.specs.declared.types.TypeTable.{TypeTable}
@@ -20,7 +21,8 @@ use Rattle.spec_type_table.specs.Numbers.{numberAt}
 use Rattle.spec_type_table.specs.Records.{recordById}
 use Rattle.spec_type_table.specs.Table.{typeOf, btfOf, workNaming, typeVersionIn, valueVersionIn, enumeratorOf}
 use Rattle.spec_type_table.proofs.Frame.{field-other, count-0, record-same, counted-other, table-type-version, table-value-version}
-use Rattle.c_dumper_bodies.specs.chain.Chains.{nextOf, entryOf, pathAt, chainAt}
+use Rattle.c_dumper_bodies.specs.chain.Chains.{nextOf, entryOf, pathAt, chainAt, onlyLinks}
+use Rattle.c_dumper_bodies.proofs.chain.Linked.{false-true}
 use Rattle.spec_c_dumper.specs.alignment_once.Once.{Remembered as Alignment, Once, found, refused, memoryAfter, memberCount}
 use Rattle.btf_layout.specs.remembered.Words.{coded, withVisits as visited, remembered, workKeep}
 use Rattle.btf_layout.proofs.remembered.Keeps.{table-keeps}
@@ -29,6 +31,26 @@ use Rattle.btf_layout.proofs.asked.Stays.{Stays, stays-forget, stays-padding, s
 use Rattle.c_dumper_padding.specs.placing.Steps.{bodyIn}
 use Rattle.btf_layout.specs.declared.size.Packed.{Packed}
 use Rattle.btf_layout.specs.declared.size.Packed.the-variants.{Is, No}
+
+-- ---- where no refusal stopped the writing, the names are those that the writer left
+module _ {U : Type 0} where
+  namesOf : U → Wrote U → U
+  namesOf d (wrote t at u) = u
+  namesOf d (refusedBy c) = d
+
+  isWrote : Wrote U → Bool
+  isWrote (wrote t at u) = true
+  isWrote (refusedBy c) = false
+
+  names-same : (u v : U) (o q : Out) → withNames u o ≡ withNames v q → isStopped o ≡ false → u ≡ v
+  unfolding withNames isStopped namesOf isWrote
+  names-same u v (stopped c) q e h = absurd (false-true (sym h))
+  names-same u v (done t n) (done t₁ k) e h = ap (namesOf u) e
+  names-same u v (done t n) (stopped c) e h = absurd (false-true (sym (ap isWrote e)))
+
+  names-left : (t : List ℕ) (at : ℕ) (s : Said U) (n : ℕ) (t′ : List ℕ) (u′ : U) → outOf n t′ u′ ≡ putSaid t at s → isStopped (putOut n t′) ≡ false → u′ ≡ saidNames s
+  unfolding outOf putSaid saidNames
+  names-left t at (said v x) n t′ u′ e h = names-same u′ v (putOut n t′) (putText t at x) e h
 
 module _ (b : TypeTable) (s : List ℕ) where
   module _ (u w : List ℕ) (h : (id : ℕ) → recordById b s u id ≡ recordById b s w id) where
@@ -136,6 +158,12 @@ module _ (b : TypeTable) (s : List ℕ) where
   pub then-on : (x : Seen → Writer (List ℕ)) (t : List ℕ) (at : ℕ) (v : Writer (List ℕ)) (u : List ℕ) (n : ℕ) (t′ u′ : List ℕ) (r : ℕ) (t″ u″ : List ℕ)
       → Keeps seen v → outOf n t′ u′ ≡ putSaid t at (v u) → outOf r t″ u″ ≡ putSaid t′ n (x (seen u′) u′) → outOf r t″ u″ ≡ putSaid t at ((v ⨾ x (seen u)) u)
   then-on x t at v u n t′ u′ r t″ u″ k e₁ e₂ = put-then-kept seen x t at v u n t′ u′ r t″ u″ (k u) e₁ e₂
+
+  -- so chains that are seen stay, where no refusal stopped v
+  pub links-kept : (v : Writer (List ℕ)) (t : List ℕ) (at : ℕ) (u : List ℕ) (n : ℕ) (t′ u′ : List ℕ) (id m : ℕ) → Keeps seen v → outOf n t′ u′ ≡ putSaid t at (v u) → isStopped (putOut n t′) ≡ false
+      → onlyLinks (chainAt b s u id m) ≡ true → onlyLinks (chainAt b s u′ id m) ≡ true
+  unfolding seen
+  links-kept v t at u n t′ u′ id m k o h l = ap (λ (x : Seen). onlyLinks (x .1 id m)) (ap seen (names-left t at (v u) n t′ u′ o h) ∙ k u) ∙ l
 
   -- ---- a loop: what is left is the whole
   pub Leads : List ℕ → ℕ → Said (List ℕ) → List ℕ → ℕ → Said (List ℕ) → Type 0

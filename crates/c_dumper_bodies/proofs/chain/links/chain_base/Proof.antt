@@ -2,20 +2,20 @@ use Rattle.c_dumper_bodies.proofs.chain.Paths.{ChainLeft, len-start, le
 use Prim.Native.Nat.{_≤_, _-_}
 use borrow.Author.Needs.{needs}
 use native.Mathlib.Omega.{arith}
-use Rattle.c_dumper_bodies.proofs.chain.links.chain_len.Statement.{statement}
-use Rattle.c_dumper_bodies.proofs.chain.links.chain_len.Tie as tie
-use Rattle.c_dumper_bodies.proofs.chain.links.chain_len.Reads as reads
-use Rattle.c_dumper_bodies.proofs.chain.links.chain_len.Lts as lts
+use Rattle.c_dumper_bodies.proofs.chain.links.chain_base.Statement.{statement}
+use Rattle.c_dumper_bodies.proofs.chain.links.chain_base.Tie as tie
+use Rattle.c_dumper_bodies.proofs.chain.links.chain_base.Reads as reads
+use Rattle.c_dumper_bodies.proofs.chain.links.chain_base.Lts as lts
 use Rattle.btf_type_table.proofs.kind.kind_of.Reads as kind-of-reads
 use Rattle.btf_type_table.proofs.node.type_by_id.Reads as type-by-id-reads
 use Rattle.c_dumper_bodies.proofs.chain.links.is_link.Reads as is-link-reads
 use Rattle.c_dumper_bodies.proofs.chain.links.next_of.Reads as next-of-reads
 
 abbrev Inv-loop : tie.InvT-loop
-Inv-loop b section work start id₀ n₀ id n = (n ≤ 513) × ChainLeft b section work start id n
+Inv-loop b section work start id₀ n₀ id n = (n ≤ 512) × ChainLeft b section work start id n
 
 abbrev μ-loop : tie.MeasureT-loop
-μ-loop b section work start id₀ n₀ id n = 513 - n
+μ-loop b section work start id₀ n₀ id n = 512 - n
 
 loop-holds : tie.Need-loop-holds Inv-loop μ-loop
 loop-holds c = (omega arith, len-start (c .before .before .args .b) _ _ _)
@@ -47,8 +47,8 @@ loop-again c = (omega arith, len-turn (c .before .before .before .before .before
 returns-2 : tie.Need-returns-2 Inv-loop μ-loop
 returns-2 c = len-deep (c .before .before .before .before .args .b) _ _ _ _ _ (c .before .loop .inv .1) (c .loop-test .left)
 
-pub chain-len-spec : {M : Type 1} → statement M
-chain-len-spec =
+pub chain-base-spec : {M : Type 1} → statement M
+chain-base-spec =
     tie.close
     (tie.spec
     Inv-loop
