@@ -23,7 +23,6 @@ use btf_type_table::node::type_by_id;
 use btf_type_table::section_word::array_nelems;
 use btf_type_table::section_word::word;
 use c_dumper_bodies::bodies::emit_enum_word;
-use c_dumper_bodies::bodies::emit_enum64_word;
 use c_dumper_bodies::bodies::is_any_more;
 use c_dumper_bodies::bodies::put_close;
 use c_dumper_bodies::bodies::put_comma;
@@ -282,7 +281,7 @@ fn emit_base(
             lvl,
             below,
         ),
-        kind::ENUM => emit_enum_word(b, section, work, text, at, id, t, lvl),
+        kind::ENUM | kind::ENUM64 => emit_enum_word(b, section, work, text, at, id, t, lvl),
         kind::FWD => emit_fwd_def(
             b,
             section,
@@ -294,7 +293,6 @@ fn emit_base(
             t.name_off,
         ),
         kind::TYPEDEF => put_typedef_name(b, section, work, text, at, id, t.name_off),
-        kind::ENUM64 => emit_enum64_word(b, section, work, text, at, id, t, lvl),
         kind::PTR
         | kind::ARRAY
         | kind::VOLATILE..=kind::DATASEC

@@ -11,22 +11,24 @@ use Rattle.spec_bytes.proofs.text.TextLaws.{put-seq}
 use Rattle.spec_c_dumper.specs.rules.Writer.{Writer, put, nothing, _⨾_}
 use Rattle.spec_c_dumper.specs.rules.Types.{Name, isEmpty, Member, BtfType, Composite, Btf as Rules}
 use Rattle.spec_c_dumper.specs.rules.Names.{identSpace, resolveTypeName}
-use Rattle.spec_c_dumper.specs.rules.Decl.{Entry, base, star, qual, array, proto, tag, isArray, mods, noMods, qualifier, attribute, brackets, shownParams, parens, emitName, emitCompositeFwd, baseWord, emitArray, emitProto, paramList, enumValue, enum64Value, emitFwdDef}
+use Rattle.spec_c_dumper.specs.rules.Decl.{Entry, base, star, qual, array, proto, tag, isArray, mods, noMods, qualifier, attribute, brackets, shownParams, parens, emitName, emitCompositeFwd, baseWord, emitArray, emitProto, paramList, emitFwdDef}
 use Rattle.spec_c_dumper.specs.alignment_once.Writers.{emitTypeChainOnce, emitCompositeDefOnce}
 use Rattle.spec_c_dumper.specs.rules.Place.{outOf, putSaid}
 use Rattle.spec_c_dumper.proofs.rules.Writing.{put-only, put-nothing, put-then}
 use Rattle.spec_type_table.specs.declared.types.TypeTable.{TypeTable}
 use Rattle.spec_type_table.specs.declared.types.BtfType.{BtfType as Record}
 use Rattle.spec_type_table.specs.Records.{kindOf, flagOf, recordById, entriesOf}
-use Rattle.spec_type_table.specs.Table.{from, paramOf, paramsOf, recordName, nelemsWord, membersOf, typeOf, btfOf, valuesOf, values64Of}
+use Rattle.spec_type_table.specs.Table.{from, paramOf, paramsOf, recordName, nelemsWord, membersOf, typeOf, btfOf}
 use Rattle.c_dumper_name_versions.specs.names.Spelling.{nameAfter}
 use Rattle.c_dumper_bodies.specs.chain.Chains.{isQualifier, qualifierOf, entryOf, pathAt, chainAt, kindOnTop, skipped, modsDown, isLink}
 use Rattle.c_dumper_bodies.proofs.chain.Paths.{chain-top, no-mods-skipped, put-mods, top-some}
 use Rattle.c_dumper_bodies.proofs.chain.Linked.{array-is, entry-star, entry-array, entry-proto, entry-tag, entry-base, entry-qual, qual-in, link-high}
 use Rattle.c_dumper_declarator.specs.declared.declarations.Chain.{Chain}
 use Rattle.c_dumper_bodies.specs.bodies.Pieces.{entryLeft, entryStar, entryNamed, gap, starText, wordBelow, paramsBelow, arrayBelow, protoBelow, paramListBelow, entryText, enumText}
+use Rattle.c_dumper_bodies.specs.enums.Widths.{isWide, valueText, enumValues}
 use Rattle.c_dumper_declarator.proofs.declarations.Turns.{word-any}
 use Rattle.c_dumper_bodies.proofs.bodies.BodyLaws.{also}
+use Rattle.c_dumper_bodies.proofs.enums.Numbers.{of-enum, of-enum64}
 use Rattle.c_dumper_declarator.proofs.declarations.Kept.{seen, then-on}
 use Rattle.c_dumper_declarator.proofs.declarations.Keeping.{said-as, put-emit-name, N, Q, T, kept-proto}
 use mathlib.Core.Logic.{_⊎_, inl, inr, ⊎-elim}
@@ -174,13 +176,10 @@ module _ (b : TypeTable) (s : List ℕ) where
     word-name (inl e) o = word-as _ (type-1 b s t (sym ek ∙ e)) o
     word-name (inr e) o = word-as _ (type-16 b s t (sym ek ∙ e)) o
 
-    pub word-enum : k ≡ 6 → outOf r t′ u′ ≡ putSaid txt at (enumText (N b s) B (enumValue (flagOf (t .info))) id (recordName b s t) (valuesOf b s t) lvl u) → Spoken
+    pub word-enum : (k ≡ 6) ⊎ (k ≡ 19) → outOf r t′ u′ ≡ putSaid txt at (enumText (N b s) B (valueText (isWide t) (flagOf (t .info))) id (recordName b s t) (enumValues b s t) lvl u) → Spoken
     unfolding baseWord enumText
-    word-enum e o = word-as _ (type-6 b s t (sym ek ∙ e)) o
-
-    pub word-enum64 : k ≡ 19 → outOf r t′ u′ ≡ putSaid txt at (enumText (N b s) B (enum64Value (flagOf (t .info))) id (recordName b s t) (values64Of b s t) lvl u) → Spoken
-    unfolding baseWord enumText
-    word-enum64 e o = word-as _ (type-19 b s t (sym ek ∙ e)) o
+    word-enum (inl e) o = word-as _ (type-6 b s t (sym ek ∙ e)) (o ∙ of-enum b s t (λ str vs. putSaid txt at (enumText (N b s) B str id (recordName b s t) vs lvl u)) (sym ek ∙ e))
+    word-enum (inr e) o = word-as _ (type-19 b s t (sym ek ∙ e)) (o ∙ of-enum64 b s t (λ str vs. putSaid txt at (enumText (N b s) B str id (recordName b s t) vs lvl u)) (sym ek ∙ e))
 
     pub word-fwd : (f : Bool) → k ≡ 7 → f ≡ flagOf (t .info) → outOf r t′ u′ ≡ putSaid txt at (emitFwdDef (N b s) B id f (recordName b s t) u) → Spoken
     unfolding baseWord

@@ -80,7 +80,6 @@ use Rattle.c_dumper_bodies.proofs.modifiers.emit_mods.Reads as emit-mods-reads
 use Rattle.c_dumper_bodies.proofs.modifiers.skip_mods.Reads as skip-mods-reads
 use Rattle.c_dumper_bodies.proofs.bodies.emit_composite_end.Reads as emit-composite-end-reads
 use Rattle.c_dumper_bodies.proofs.bodies.emit_composite_head.Reads as emit-composite-head-reads
-use Rattle.c_dumper_bodies.proofs.bodies.emit_enum64_word.Reads as emit-enum64-word-reads
 use Rattle.c_dumper_bodies.proofs.bodies.emit_enum_word.Reads as emit-enum-word-reads
 use Rattle.c_dumper_bodies.proofs.bodies.emit_member_end.Reads as emit-member-end-reads
 use Rattle.c_dumper_bodies.proofs.bodies.put_typedef_name.Reads as put-typedef-name-reads
@@ -329,8 +328,6 @@ emit-base-claims t = (
   emit-fwd-def-reads.Learnt,
   put-typedef-name-reads.Asked,
   put-typedef-name-reads.Learnt,
-  emit-enum64-word-reads.Asked,
-  emit-enum64-word-reads.Learnt,
   emit-composite-word-below t,
   emit-composite-word.Post,
   put-void-reads.Asked,
@@ -580,9 +577,6 @@ emit-base-emit-fwd-def-requires t c κs = tt
 emit-base-put-typedef-name-requires : (t : ℕ) → emit-base-lts.Need-put-typedef-name-requires (emit-base-claims t) (emit-base-at t) emit-base.Post
 emit-base-put-typedef-name-requires t c κs = tt
 
-emit-base-emit-enum64-word-requires : (t : ℕ) → emit-base-lts.Need-emit-enum64-word-requires (emit-base-claims t) (emit-base-at t) emit-base.Post
-emit-base-emit-enum64-word-requires t c κs = tt
-
 emit-base-emit-composite-word-requires : (t : ℕ) → emit-base-lts.Need-emit-composite-word-requires (emit-base-claims t) (emit-base-at t) emit-base.Post
 emit-base-emit-composite-word-requires t c κs = (omega arith, tt)
 
@@ -629,28 +623,19 @@ emit-base-same-length-9 : (t : ℕ) → emit-base-lts.Need-same-length-9 (emit-b
 emit-base-same-length-9 t c = search needs
 
 emit-base-returns-5 : (t : ℕ) → emit-base-lts.Need-returns-5 (emit-base-claims t) (emit-base-at t) emit-base.Post
-emit-base-returns-5 t c = entries.word-enum64 _ _ _ _ _ _ _ _ (c .before .before .before .before .before .before .before .before .kind-of .ensures) _ _ _ _ _ _ (c .before .before .before .before .before .before .before .match .keys5) (c .before .before .before .before .emit-enum64-word .ensures)
+emit-base-returns-5 t c = entries.word-composite _ _ _ _ _ _ _ _ (c .before .before .before .before .before .before .before .before .before .before .before .kind-of .ensures) _ _ _ _ _ _ (c .before .before .before .before .before .before .before .before .before .if1 .left) (c .before .before .before .before .before .before .before .before .if2 .left) (c .before .before .before .before .before .before .before .if3 .taken) (c .before .before .before .before .emit-composite-word .ensures)
+
+emit-base-returns-6 : (t : ℕ) → emit-base-lts.Need-returns-6 (emit-base-claims t) (emit-base-at t) emit-base.Post
+emit-base-returns-6 t c = entries.word-low _ _ _ _ _ _ _ _ (c .before .before .before .kind-of .ensures) _ _ _ (c .before .if1 .left) (c .if2 .taken) (c .before .before .match .rest .0 .0 .0 .1)
+
+emit-base-returns-7 : (t : ℕ) → emit-base-lts.Need-returns-7 (emit-base-claims t) (emit-base-at t) emit-base.Post
+emit-base-returns-7 t c = entries.word-mid _ _ _ _ _ _ _ _ (c .before .before .before .before .before .kind-of .ensures) _ _ _ (c .before .if3 .left) (c .if4 .taken) (c .before .before .before .before .match .rest .0 .0 .0 .1) (λ e. c .before .before .before .before .match .rest .0 .0 .1 (inl e)) (c .before .before .before .before .match .rest .0 .1) (c .before .before .before .before .match .rest .1)
 
 emit-base-same-length-10 : (t : ℕ) → emit-base-lts.Need-same-length-10 (emit-base-claims t) (emit-base-at t) emit-base.Post
 emit-base-same-length-10 t c = search needs
 
-emit-base-same-length-11 : (t : ℕ) → emit-base-lts.Need-same-length-11 (emit-base-claims t) (emit-base-at t) emit-base.Post
-emit-base-same-length-11 t c = search needs
-
-emit-base-returns-6 : (t : ℕ) → emit-base-lts.Need-returns-6 (emit-base-claims t) (emit-base-at t) emit-base.Post
-emit-base-returns-6 t c = entries.word-composite _ _ _ _ _ _ _ _ (c .before .before .before .before .before .before .before .before .before .before .before .kind-of .ensures) _ _ _ _ _ _ (c .before .before .before .before .before .before .before .before .before .if1 .left) (c .before .before .before .before .before .before .before .before .if2 .left) (c .before .before .before .before .before .before .before .if3 .taken) (c .before .before .before .before .emit-composite-word .ensures)
-
-emit-base-returns-7 : (t : ℕ) → emit-base-lts.Need-returns-7 (emit-base-claims t) (emit-base-at t) emit-base.Post
-emit-base-returns-7 t c = entries.word-low _ _ _ _ _ _ _ _ (c .before .before .before .kind-of .ensures) _ _ _ (c .before .if1 .left) (c .if2 .taken) (c .before .before .match .rest .0 .0 .0 .0 .1)
-
 emit-base-returns-8 : (t : ℕ) → emit-base-lts.Need-returns-8 (emit-base-claims t) (emit-base-at t) emit-base.Post
-emit-base-returns-8 t c = entries.word-mid _ _ _ _ _ _ _ _ (c .before .before .before .before .before .kind-of .ensures) _ _ _ (c .before .if3 .left) (c .if4 .taken) (c .before .before .before .before .match .rest .0 .0 .0 .0 .1) (c .before .before .before .before .match .rest .0 .0 .0 .1) (c .before .before .before .before .match .rest .0 .0 .1) (c .before .before .before .before .match .rest .0 .1)
-
-emit-base-same-length-12 : (t : ℕ) → emit-base-lts.Need-same-length-12 (emit-base-claims t) (emit-base-at t) emit-base.Post
-emit-base-same-length-12 t c = search needs
-
-emit-base-returns-9 : (t : ℕ) → emit-base-lts.Need-returns-9 (emit-base-claims t) (emit-base-at t) emit-base.Post
-emit-base-returns-9 t c = entries.word-void _ _ _ _ _ _ _ _ (c .before .before .before .before .before .before .kind-of .ensures) _ _ _ _ _ (c .before .before .before .before .before .match .rest .1) (⊎-elim (λ x. inl (x .taken)) (λ x. inr (x .3 .left)) (c .before .before .before .before .if1 .came)) (c .before .before .put-void .ensures)
+emit-base-returns-8 t c = entries.word-void _ _ _ _ _ _ _ _ (c .before .before .before .before .before .before .kind-of .ensures) _ _ _ _ _ (λ e. c .before .before .before .before .before .match .rest .0 .0 .1 (inr e)) (⊎-elim (λ x. inl (x .taken)) (λ x. inr (x .3 .left)) (c .before .before .before .before .if1 .came)) (c .before .before .put-void .ensures)
 
 emit-composite-def-stop-requires : (t : ℕ) → emit-composite-def-lts.Need-stop-requires (emit-composite-def-claims t) (emit-composite-def-at t) emit-composite-def.Post
 emit-composite-def-stop-requires t c κs = tt
@@ -1385,8 +1370,6 @@ pub +emit-array+emit-base+emit-composite-word+emit-entry+emit-function+emit-para
       emit-fwd-def-reads.Learnt,
       put-typedef-name-reads.Asked,
       put-typedef-name-reads.Learnt,
-      emit-enum64-word-reads.Asked,
-      emit-enum64-word-reads.Learnt,
       emit-composite-word-below t,
       emit-composite-word.Post,
       put-void-reads.Asked,
@@ -1400,7 +1383,6 @@ pub +emit-array+emit-base+emit-composite-word+emit-entry+emit-function+emit-para
     (emit-base-kind-flag-of-requires t)
     (emit-base-emit-fwd-def-requires t)
     (emit-base-put-typedef-name-requires t)
-    (emit-base-emit-enum64-word-requires t)
     (emit-base-emit-composite-word-requires t)
     (emit-base-put-void-requires t)
     (emit-base-same-length t)
@@ -1417,13 +1399,10 @@ pub +emit-array+emit-base+emit-composite-word+emit-entry+emit-function+emit-para
     (emit-base-same-length-8 t)
     (emit-base-same-length-9 t)
     (emit-base-returns-5 t)
-    (emit-base-same-length-10 t)
-    (emit-base-same-length-11 t)
     (emit-base-returns-6 t)
     (emit-base-returns-7 t)
-    (emit-base-returns-8 t)
-    (emit-base-same-length-12 t)
-    (emit-base-returns-9 t))
+    (emit-base-same-length-10 t)
+    (emit-base-returns-8 t))
     (λ t. emit-composite-word-lts.spec (
       is-empty-reads.Asked,
       is-empty-reads.Learnt,
