@@ -4,15 +4,18 @@ use base_bytes::refusal;
 use btf_open_causes::header::btf_of;
 use btf_open_causes::loops::has_loop;
 use btf_open_causes::prototypes::leads_to_proto;
+use btf_open_causes::records::Records;
 use btf_open_causes::records::scan;
 use btf_open_causes::references::has_bad_reference;
 use btf_open_causes::strings::has_bad_header;
 use btf_open_causes::strings::has_bad_strings;
 use spec_opening::Opening;
 ghost use mathlib.Core.Path.{_≡_};
-ghost use mathlib.Core.Bool.{not};
+ghost use mathlib.Core.Bool.{true, not};
 ghost use Prim.Native.Nat.{_+_, _*_};
-ghost use Rattle.spec_opening.specs.Causes.{cause1};
+ghost use Rattle.btf_open_causes.specs.header.Header.{btfOf};
+ghost use Rattle.btf_open_causes.specs.records.Pass.{scanOut, scanSection};
+ghost use Rattle.spec_opening.specs.Causes.{cause1, firstOf, early};
 ghost use Rattle.spec_opening.specs.Table.{emptyIndex};
 ghost use Rattle.spec_opening.specs.Opened.{examineOut, examined};
 
@@ -37,6 +40,22 @@ pub fn examine(section: &[u8], pointer_size: u32, work_len: usize, start: &mut [
     if !r.is_sound {
         return Opening::Refused(refusal::BAD_RECORD);
     }
+    examine_types(section, pointer_size, work_len, start, r)
+}
+
+// Causes 6 to 9, where none of the first five holds. Behind more tests in one function the compiler would take the search for loops for
+// cold, and call it: 4 % more instructions for the nine.
+fn examine_types(
+    section: &[u8],
+    pointer_size: u32,
+    work_len: usize,
+    start: &[u32],
+    r: Records,
+) -> Opening
+    requires { ⌜ (0 ≡ firstOf (early «pointer_size» (now section))) × (r .«is_sound» ≡ true)
+        × (scanOut r (now start) ≡ scanSection (btfOf (now section) «pointer_size» 0 0) (now section) emptyIndex) ⌝ }
+    ensures { λ o. ⌜ examineOut o (now (start .entry)) ≡ examined «pointer_size» (now (section .entry)) «work_len» ⌝ }
+{
     let b = btf_of(section, pointer_size, 0, r.types);
     if has_bad_reference(b, section, start) {
         return Opening::Refused(refusal::BAD_REFERENCE);

@@ -577,6 +577,9 @@ emit-base-emit-fwd-def-requires t c κs = tt
 emit-base-put-typedef-name-requires : (t : ℕ) → emit-base-lts.Need-put-typedef-name-requires (emit-base-claims t) (emit-base-at t) emit-base.Post
 emit-base-put-typedef-name-requires t c κs = tt
 
+emit-base-emit-enum-word-requires-2 : (t : ℕ) → emit-base-lts.Need-emit-enum-word-requires-2 (emit-base-claims t) (emit-base-at t) emit-base.Post
+emit-base-emit-enum-word-requires-2 t c κs = tt
+
 emit-base-emit-composite-word-requires : (t : ℕ) → emit-base-lts.Need-emit-composite-word-requires (emit-base-claims t) (emit-base-at t) emit-base.Post
 emit-base-emit-composite-word-requires t c κs = (omega arith, tt)
 
@@ -596,7 +599,7 @@ emit-base-same-length-3 : (t : ℕ) → emit-base-lts.Need-same-length-3 (emit-b
 emit-base-same-length-3 t c = search needs
 
 emit-base-returns-2 : (t : ℕ) → emit-base-lts.Need-returns-2 (emit-base-claims t) (emit-base-at t) emit-base.Post
-emit-base-returns-2 t c = entries.word-enum _ _ _ _ _ _ _ _ (c .before .before .before .before .before .before .before .before .kind-of .ensures) _ _ _ _ _ _ (c .before .before .before .before .before .before .before .match .keys2) (c .before .before .before .before .emit-enum-word .ensures)
+emit-base-returns-2 t c = entries.word-enum _ _ _ _ _ _ _ _ (c .before .before .before .before .before .before .before .before .kind-of .ensures) _ _ _ _ _ _ (inl (c .before .before .before .before .before .before .before .match .keys2)) (c .before .before .before .before .emit-enum-word .ensures)
 
 emit-base-same-length-4 : (t : ℕ) → emit-base-lts.Need-same-length-4 (emit-base-claims t) (emit-base-at t) emit-base.Post
 emit-base-same-length-4 t c = search needs
@@ -623,19 +626,28 @@ emit-base-same-length-9 : (t : ℕ) → emit-base-lts.Need-same-length-9 (emit-b
 emit-base-same-length-9 t c = search needs
 
 emit-base-returns-5 : (t : ℕ) → emit-base-lts.Need-returns-5 (emit-base-claims t) (emit-base-at t) emit-base.Post
-emit-base-returns-5 t c = entries.word-composite _ _ _ _ _ _ _ _ (c .before .before .before .before .before .before .before .before .before .before .before .kind-of .ensures) _ _ _ _ _ _ (c .before .before .before .before .before .before .before .before .before .if1 .left) (c .before .before .before .before .before .before .before .before .if2 .left) (c .before .before .before .before .before .before .before .if3 .taken) (c .before .before .before .before .emit-composite-word .ensures)
-
-emit-base-returns-6 : (t : ℕ) → emit-base-lts.Need-returns-6 (emit-base-claims t) (emit-base-at t) emit-base.Post
-emit-base-returns-6 t c = entries.word-low _ _ _ _ _ _ _ _ (c .before .before .before .kind-of .ensures) _ _ _ (c .before .if1 .left) (c .if2 .taken) (c .before .before .match .rest .0 .0 .0 .1)
-
-emit-base-returns-7 : (t : ℕ) → emit-base-lts.Need-returns-7 (emit-base-claims t) (emit-base-at t) emit-base.Post
-emit-base-returns-7 t c = entries.word-mid _ _ _ _ _ _ _ _ (c .before .before .before .before .before .kind-of .ensures) _ _ _ (c .before .if3 .left) (c .if4 .taken) (c .before .before .before .before .match .rest .0 .0 .0 .1) (λ e. c .before .before .before .before .match .rest .0 .0 .1 (inl e)) (c .before .before .before .before .match .rest .0 .1) (c .before .before .before .before .match .rest .1)
+emit-base-returns-5 t c = entries.word-enum _ _ _ _ _ _ _ _ (c .before .before .before .before .before .before .before .before .kind-of .ensures) _ _ _ _ _ _ (inr (c .before .before .before .before .before .before .before .match .keys5)) (c .before .before .before .before .emit-enum-word2 .ensures)
 
 emit-base-same-length-10 : (t : ℕ) → emit-base-lts.Need-same-length-10 (emit-base-claims t) (emit-base-at t) emit-base.Post
 emit-base-same-length-10 t c = search needs
 
+emit-base-same-length-11 : (t : ℕ) → emit-base-lts.Need-same-length-11 (emit-base-claims t) (emit-base-at t) emit-base.Post
+emit-base-same-length-11 t c = search needs
+
+emit-base-returns-6 : (t : ℕ) → emit-base-lts.Need-returns-6 (emit-base-claims t) (emit-base-at t) emit-base.Post
+emit-base-returns-6 t c = entries.word-composite _ _ _ _ _ _ _ _ (c .before .before .before .before .before .before .before .before .before .before .before .kind-of .ensures) _ _ _ _ _ _ (c .before .before .before .before .before .before .before .before .before .if1 .left) (c .before .before .before .before .before .before .before .before .if2 .left) (c .before .before .before .before .before .before .before .if3 .taken) (c .before .before .before .before .emit-composite-word .ensures)
+
+emit-base-returns-7 : (t : ℕ) → emit-base-lts.Need-returns-7 (emit-base-claims t) (emit-base-at t) emit-base.Post
+emit-base-returns-7 t c = entries.word-low _ _ _ _ _ _ _ _ (c .before .before .before .kind-of .ensures) _ _ _ (c .before .if1 .left) (c .if2 .taken) (c .before .before .match .rest .0 .0 .0 .0 .1)
+
 emit-base-returns-8 : (t : ℕ) → emit-base-lts.Need-returns-8 (emit-base-claims t) (emit-base-at t) emit-base.Post
-emit-base-returns-8 t c = entries.word-void _ _ _ _ _ _ _ _ (c .before .before .before .before .before .before .kind-of .ensures) _ _ _ _ _ (λ e. c .before .before .before .before .before .match .rest .0 .0 .1 (inr e)) (⊎-elim (λ x. inl (x .taken)) (λ x. inr (x .3 .left)) (c .before .before .before .before .if1 .came)) (c .before .before .put-void .ensures)
+emit-base-returns-8 t c = entries.word-mid _ _ _ _ _ _ _ _ (c .before .before .before .before .before .kind-of .ensures) _ _ _ (c .before .if3 .left) (c .if4 .taken) (c .before .before .before .before .match .rest .0 .0 .0 .0 .1) (c .before .before .before .before .match .rest .0 .0 .0 .1) (c .before .before .before .before .match .rest .0 .0 .1) (c .before .before .before .before .match .rest .0 .1)
+
+emit-base-same-length-12 : (t : ℕ) → emit-base-lts.Need-same-length-12 (emit-base-claims t) (emit-base-at t) emit-base.Post
+emit-base-same-length-12 t c = search needs
+
+emit-base-returns-9 : (t : ℕ) → emit-base-lts.Need-returns-9 (emit-base-claims t) (emit-base-at t) emit-base.Post
+emit-base-returns-9 t c = entries.word-void _ _ _ _ _ _ _ _ (c .before .before .before .before .before .before .kind-of .ensures) _ _ _ _ _ (c .before .before .before .before .before .match .rest .1) (⊎-elim (λ x. inl (x .taken)) (λ x. inr (x .3 .left)) (c .before .before .before .before .if1 .came)) (c .before .before .put-void .ensures)
 
 emit-composite-def-stop-requires : (t : ℕ) → emit-composite-def-lts.Need-stop-requires (emit-composite-def-claims t) (emit-composite-def-at t) emit-composite-def.Post
 emit-composite-def-stop-requires t c κs = tt
@@ -1383,6 +1395,7 @@ pub +emit-array+emit-base+emit-composite-word+emit-entry+emit-function+emit-para
     (emit-base-kind-flag-of-requires t)
     (emit-base-emit-fwd-def-requires t)
     (emit-base-put-typedef-name-requires t)
+    (emit-base-emit-enum-word-requires-2 t)
     (emit-base-emit-composite-word-requires t)
     (emit-base-put-void-requires t)
     (emit-base-same-length t)
@@ -1399,10 +1412,13 @@ pub +emit-array+emit-base+emit-composite-word+emit-entry+emit-function+emit-para
     (emit-base-same-length-8 t)
     (emit-base-same-length-9 t)
     (emit-base-returns-5 t)
+    (emit-base-same-length-10 t)
+    (emit-base-same-length-11 t)
     (emit-base-returns-6 t)
     (emit-base-returns-7 t)
-    (emit-base-same-length-10 t)
-    (emit-base-returns-8 t))
+    (emit-base-returns-8 t)
+    (emit-base-same-length-12 t)
+    (emit-base-returns-9 t))
     (λ t. emit-composite-word-lts.spec (
       is-empty-reads.Asked,
       is-empty-reads.Learnt,
