@@ -1,3 +1,4 @@
 pub mod bodies
 pub mod chain
 pub mod enumerators
+pub mod enums

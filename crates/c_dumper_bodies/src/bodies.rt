@@ -8,7 +8,6 @@ pub use crate::bodies::bodies::Spot;
 pub use crate::bodies::bodies::emit_composite_end;
 pub use crate::bodies::bodies::emit_composite_head;
 pub use crate::bodies::bodies::emit_enum_word;
-pub use crate::bodies::bodies::emit_enum64_word;
 pub use crate::bodies::bodies::emit_member_end;
 pub use crate::bodies::bodies::put_typedef_name;
 pub use crate::bodies::params::is_any_more;

@@ -1,4 +1,4 @@
-// Enums of 32 bits.
+// Enums: the values of an ENUM64 are of 64 bits, those of an ENUM of 32.
 use crate::enumerators::deeper;
 use crate::enumerators::emit_enum_end;
 use crate::enumerators::emit_enum_head;
@@ -8,24 +8,46 @@ use base_bytes::put::put_byte;
 use base_bytes::put::put_decimal;
 use base_bytes::put::put_two;
 use base_keywords::signed_decimal::as_i32;
+use base_keywords::signed_decimal::as_i64;
 use base_keywords::signed_decimal::put_i32;
+use base_keywords::signed_decimal::put_i64;
+use base_keywords::table::put_ull;
 use btf_type_table::cell;
 use btf_type_table::cell::get_field;
 use btf_type_table::entry::load_enum_value;
+use btf_type_table::entry::load_enum64_value;
+use btf_type_table::kind;
 use btf_type_table::kind::entries_of;
 use btf_type_table::kind::kind_flag_of;
-use btf_type_table::kind::param_place;
+use btf_type_table::kind::kind_of;
+use btf_type_table::kind::member_place;
 use btf_type_table::name::is_builtin;
 use btf_type_table::section_word::word;
 use spec_type_table::BtfType;
+use spec_type_table::Entries;
 use spec_type_table::TypeTable;
 ghost use mathlib.Core.Path.{_≡_};
 ghost use Rattle.spec_bytes.specs.text.Text.{whole, putOut, putText};
 ghost use Rattle.spec_c_dumper.specs.rules.Place.{outOf, putSaid};
-ghost use Rattle.spec_c_dumper.specs.rules.Decl.{enumValue, emitValues, emitEnumDef};
+ghost use Rattle.spec_c_dumper.specs.rules.Decl.{enumValue, enum64Value, emitValues, emitEnumDef};
 ghost use Rattle.spec_type_table.specs.Names.{strAt};
 ghost use Rattle.spec_type_table.specs.Records.{flagOf};
-ghost use Rattle.spec_type_table.specs.Table.{btfOf, workNaming, valuesOf};
+ghost use Rattle.spec_type_table.specs.Table.{btfOf, workNaming};
+ghost use Rattle.c_dumper_bodies.specs.enums.Widths.{isWide, valueSize, valueText, enumeratorAt, enumValues};
+
+// Whether values are of 64 bits.
+fn is_wide(t: BtfType) -> bool
+    ensures { λ r. ⌜ r ≡ isWide t ⌝ }
+{
+    kind_of(t.info) == kind::ENUM64
+}
+
+// The bytes of struct btf_enum64 and of struct btf_enum.
+fn value_size(wide: bool) -> usize
+    ensures { λ r. ⌜ r ≡ valueSize wide ⌝ }
+{
+    if wide { 12 } else { 8 }
+}
 
 // value_str of an ENUM.
 fn put_value(text: &mut [u8], at: usize, signed: bool, v: u32) -> usize
@@ -35,6 +57,40 @@ fn put_value(text: &mut [u8], at: usize, signed: bool, v: u32) -> usize
         return put_i32(text, at, as_i32(v));
     }
     put_decimal(text, at, v as u64)
+}
+
+// value_str of an ENUM64, with the suffix of its type.
+fn put_value64(text: &mut [u8], at: usize, is_signed: bool, v: u64) -> usize
+    ensures { λ r. ⌜ putOut r (now (text .exit)) ≡ putText (now (text .entry)) at (whole (enum64Value «is_signed» v)) ⌝ }
+{
+    if is_signed {
+        return put_i64(text, at, as_i64(v));
+    }
+    let a = put_decimal(text, at, v);
+    put_ull(text, a)
+}
+
+// The text of value k, by its width.
+fn emit_value(
+    b: TypeTable,
+    section: &[u8],
+    text: &mut [u8],
+    at: usize,
+    wide: bool,
+    is_signed: bool,
+    values: Entries,
+    k: u32,
+) -> usize
+    ensures { λ r. ⌜ putOut r (now (text .exit))
+        ≡ putText (now (text .entry)) at (whole (valueText wide «is_signed»
+        (enumeratorAt wide b (now (section .entry)) (values .at) k .value))) ⌝ }
+{
+    if wide {
+        let v = load_enum64_value(b, section, values, k);
+        return put_value64(text, at, is_signed, v);
+    }
+    let v = load_enum_value(b, section, values, k);
+    put_value(text, at, is_signed, v)
 }
 
 fn emit_values(
@@ -49,19 +105,23 @@ fn emit_values(
 ) -> usize
     ensures { λ r. ⌜ outOf r (now (text .exit)) (now (work .exit))
         ≡ putSaid (now (text .entry)) at (emitValues (workNaming b) (btfOf b (now (section .entry)) (now (work .entry)))
-        (enumValue (flagOf (t .info))) id lvl 0 (valuesOf b (now (section .entry)) t) (now (work .entry))) ⌝ }
+        (valueText (isWide t) (flagOf (t .info))) id lvl 0 (enumValues b (now (section .entry)) t) (now (work .entry))) ⌝ }
 {
     let values = entries_of(t);
     let vlen = values.vlen;
+    let is_signed = kind_flag_of(t.info);
+    let wide = is_wide(t);
+    let size = value_size(wide);
     let first = get_field(work, id, cell::FIRST_ENUMERATOR);
+    let mut place = member_place(values, 0);
     let mut p = at;
     let mut k: u32 = 0;
     while k < vlen {
-        let name_off = word(b, section, param_place(values, k));
+        let name_off = word(b, section, place);
         let a = emit_enumerator(b, section, work, text, p, nth(first, k), name_off, lvl);
-        let v = load_enum_value(b, section, values, k);
-        let c = put_value(text, a, kind_flag_of(t.info), v);
+        let c = emit_value(b, section, text, a, wide, is_signed, values, k);
         p = put_byte(text, c, b',');
+        place += size;
         k += 1;
     }
     p
@@ -79,8 +139,8 @@ pub fn emit_enum_def(
 ) -> usize
     ensures { λ r. ⌜ outOf r (now (text .exit)) (now (work .exit))
         ≡ putSaid (now (text .entry)) at (emitEnumDef (workNaming b) (btfOf b (now (section .entry)) (now (work .entry)))
-        (enumValue (flagOf (t .info))) id (strAt b (now (section .entry)) (t .«name_off»)) (valuesOf b (now (section .entry)) t) lvl
-        (now (work .entry))) ⌝ }
+        (valueText (isWide t) (flagOf (t .info))) id (strAt b (now (section .entry)) (t .«name_off»))
+        (enumValues b (now (section .entry)) t) lvl (now (work .entry))) ⌝ }
 {
     if is_builtin(b, section, t.name_off) {
         return at;

@@ -3,5 +3,4 @@ pub mod bodies;
 pub mod chain;
 pub mod enumerators;
 pub mod enums;
-pub mod enums64;
 pub mod modifiers;

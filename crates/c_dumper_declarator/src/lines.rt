@@ -9,7 +9,6 @@ use btf_type_table::kind::kind_flag_of;
 use btf_type_table::kind::kind_of;
 use btf_type_table::name::is_builtin;
 use c_dumper_bodies::enums::emit_enum_def;
-use c_dumper_bodies::enums64::emit_enum64_def;
 use c_dumper_name_versions::forwards::emit_composite_fwd;
 use c_dumper_name_versions::forwards::emit_fwd_def;
 use spec_type_table::BtfType;
@@ -46,17 +45,13 @@ pub fn emit_definition(
             let a = emit_composite_def(b, section, work, text, at, id, t, 0, limit::MOST_CALLS);
             put_line_end(text, a)
         }
-        kind::ENUM => {
+        kind::ENUM | kind::ENUM64 => {
             let a = emit_enum_def(b, section, work, text, at, id, t, 0);
             put_line_end(text, a)
         }
         kind::FWD => {
             let is_union = kind_flag_of(t.info);
             let a = emit_fwd_def(b, section, work, text, at, id, is_union, t.name_off);
-            put_line_end(text, a)
-        }
-        kind::ENUM64 => {
-            let a = emit_enum64_def(b, section, work, text, at, id, t, 0);
             put_line_end(text, a)
         }
         _ => at,

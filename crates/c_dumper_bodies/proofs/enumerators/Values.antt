@@ -2,7 +2,6 @@
 use Prim.Native.Nat.{ℕ, suc, _+_, _-_, _<_, _≤_}
 use mathlib.Core.Path.{_≡_, refl, ap, ap₂, _∙_, sym}
 use mathlib.Core.List.{List, [], _∷_, _++_, append-assoc}
-use mathlib.Core.Bool.{Bool}
 use native.Mathlib.Omega.{arith}
 use borrow.Author.Tests.{lt-ltb, le-ltb, le-leb, lt-leb}
 use Rattle.spec_bytes.specs.text.Text.{ascii, pfx, whole, join, putOut, putText}
@@ -134,13 +133,3 @@ module _ (b : TypeTable) (B : Rules) (str : ℕ → List ℕ) (f : ℕ → Enume
           o
           ∙ ap (putSaid text p) (sym (one-more h))),
     )
-
--- a test on how many values there are, and one on the flag
-pub subst-below : {k m n : ℕ} → m ≡ n → k < m → k < n
-subst-below e h = rw (← e) h
-
-pub subst-above : {k m n : ℕ} → m ≡ n → m ≤ k → n ≤ k
-subst-above e h = rw (← e) h
-
-pub put-flag : (str : Bool → ℕ → List ℕ) (t : List ℕ) (at : ℕ) (f g : Bool) (v r : ℕ) (u : List ℕ) → f ≡ g → putOut r u ≡ putText t at (whole (str f v)) → putOut r u ≡ putText t at (whole (str g v))
-put-flag str t at f g v r u e o = o ∙ ap (λ (x : Bool). putText t at (whole (str x v))) e

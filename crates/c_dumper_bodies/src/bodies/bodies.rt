@@ -4,7 +4,6 @@ use crate::bodies::words::put_last_newline;
 use crate::bodies::words::put_packed;
 use crate::enumerators::put_enum_name;
 use crate::enums::emit_enum_def;
-use crate::enums64::emit_enum64_def;
 use base_bytes::put::put_byte;
 use base_bytes::put::put_tabs;
 use base_bytes::put::put_two;
@@ -28,12 +27,13 @@ ghost use lib.Dec.{eqb};
 ghost use Rattle.spec_c_dumper.specs.rules.Writer.{put};
 ghost use Rattle.spec_c_dumper.specs.rules.Names.{identSpace, resolveTypeName};
 ghost use Rattle.spec_c_dumper.specs.rules.Layout.{endOf};
-ghost use Rattle.spec_c_dumper.specs.rules.Decl.{enumValue, enum64Value, compositeHead, compositeEnd};
+ghost use Rattle.spec_c_dumper.specs.rules.Decl.{compositeHead, compositeEnd};
 ghost use Rattle.spec_c_dumper.specs.rules.Place.{outOf, putSaid};
 ghost use Rattle.spec_type_table.specs.Names.{strAt};
 ghost use Rattle.spec_type_table.specs.Records.{kindOf, flagOf};
-ghost use Rattle.spec_type_table.specs.Table.{ruleMember, membersOf, valuesOf, values64Of, recordName, btfOf, workNaming};
+ghost use Rattle.spec_type_table.specs.Table.{ruleMember, membersOf, recordName, btfOf, workNaming};
 ghost use Rattle.c_dumper_bodies.specs.bodies.Pieces.{memberTail, endFrom, enumText, noDecl};
+ghost use Rattle.c_dumper_bodies.specs.enums.Widths.{isWide, valueText, enumValues};
 
 // Where a member ended: the place in the text, and the bit where the next may begin.
 pub struct Spot {
@@ -54,32 +54,11 @@ pub fn emit_enum_word(
 ) -> usize
     ensures { λ r. ⌜ outOf r (now (text .exit)) (now (work .exit))
         ≡ putSaid (now (text .entry)) at (enumText (workNaming b) (btfOf b (now (section .entry)) (now (work .entry)))
-        (enumValue (flagOf (t .info))) id (recordName b (now (section .entry)) t) (valuesOf b (now (section .entry)) t) lvl
+        (valueText (isWide t) (flagOf (t .info))) id (recordName b (now (section .entry)) t) (enumValues b (now (section .entry)) t) lvl
         (now (work .entry))) ⌝ }
 {
     if is_empty(b, section, t.name_off) {
         return emit_enum_def(b, section, work, text, at, id, t, lvl);
-    }
-    put_enum_name(b, section, work, text, at, id, t.name_off)
-}
-
-pub fn emit_enum64_word(
-    b: TypeTable,
-    section: &[u8],
-    work: &mut [u8],
-    text: &mut [u8],
-    at: usize,
-    id: u32,
-    t: BtfType,
-    lvl: u32,
-) -> usize
-    ensures { λ r. ⌜ outOf r (now (text .exit)) (now (work .exit))
-        ≡ putSaid (now (text .entry)) at (enumText (workNaming b) (btfOf b (now (section .entry)) (now (work .entry)))
-        (enum64Value (flagOf (t .info))) id (recordName b (now (section .entry)) t) (values64Of b (now (section .entry)) t) lvl
-        (now (work .entry))) ⌝ }
-{
-    if is_empty(b, section, t.name_off) {
-        return emit_enum64_def(b, section, work, text, at, id, t, lvl);
     }
     put_enum_name(b, section, work, text, at, id, t.name_off)
 }

@@ -11,14 +11,14 @@ use Rattle.spec_bytes.proofs.text.TextLaws.{put-seq}
 use Rattle.spec_c_dumper.specs.rules.Writer.{Writer, put, nothing, _⨾_}
 use Rattle.spec_c_dumper.specs.rules.Types.{Name, isEmpty, Member, BtfType, Composite, Btf as Rules}
 use Rattle.spec_c_dumper.specs.rules.Names.{identSpace, resolveTypeName}
-use Rattle.spec_c_dumper.specs.rules.Decl.{Entry, base, star, qual, array, proto, tag, isArray, mods, noMods, qualifier, attribute, brackets, shownParams, parens, emitName, emitCompositeFwd, baseWord, emitArray, emitProto, paramList, enumValue, enum64Value, emitFwdDef}
+use Rattle.spec_c_dumper.specs.rules.Decl.{Entry, base, star, qual, array, proto, tag, isArray, mods, noMods, qualifier, attribute, brackets, shownParams, parens, emitName, emitCompositeFwd, baseWord, emitArray, emitProto, paramList, emitFwdDef}
 use Rattle.spec_c_dumper.specs.alignment_once.Writers.{emitTypeChainOnce, emitCompositeDefOnce}
 use Rattle.spec_c_dumper.specs.rules.Place.{outOf, putSaid}
 use Rattle.spec_c_dumper.proofs.rules.Writing.{put-only, put-nothing, put-then, said-stopped}
 use Rattle.spec_type_table.specs.declared.types.TypeTable.{TypeTable}
 use Rattle.spec_type_table.specs.declared.types.BtfType.{BtfType as Record}
 use Rattle.spec_type_table.specs.Records.{kindOf, flagOf, recordById, entriesOf}
-use Rattle.spec_type_table.specs.Table.{from, paramOf, paramsOf, recordName, nelemsWord, membersOf, typeOf, btfOf, valuesOf, values64Of}
+use Rattle.spec_type_table.specs.Table.{from, paramOf, paramsOf, recordName, nelemsWord, membersOf, typeOf, btfOf}
 use Rattle.c_dumper_name_versions.specs.names.Spelling.{nameAfter}
 use Rattle.c_dumper_bodies.specs.chain.Chains.{isQualifier, qualifierOf, entryOf, pathAt, chainAt, kindOnTop, skipped, modsDown, onlyLinks}
 use Rattle.c_dumper_bodies.proofs.chain.Only.{links-below, links-mods, links-tag}
@@ -30,6 +30,8 @@ use Rattle.c_dumper_declarator.proofs.declarations.Turns.{chain-turn, c
 use Rattle.c_dumper_bodies.proofs.bodies.BodyLaws.{also}
 use Rattle.c_dumper_declarator.proofs.declarations.Kept.{seen, links-kept, then-on}
 use Rattle.c_dumper_declarator.proofs.declarations.Keeping.{said-as, put-emit-name, N, Q, T, kept-word, kept-entry, kept-proto}
+use Rattle.c_dumper_bodies.specs.enums.Widths.{isWide, valueText, enumValues}
+use Rattle.c_dumper_bodies.proofs.enums.Numbers.{of-enum, of-enum64}
 use mathlib.Core.Logic.{_⊎_, inl, inr, ⊎-elim}
 use Rattle.spec_type_table.specs.declared.types.Entries.{Entries}
 use Rattle.spec_type_table.proofs.KindLaws.{by-kind, type-0, type-1, type-2, type-3, type-4, type-5, type-6, type-7, type-8, type-9, type-10, type-11, type-12, type-13, type-14, type-15, type-16, type-17, type-18, type-19, type-none}
@@ -198,13 +200,10 @@ module _ (b : TypeTable) (s : List ℕ) where
     word-name (inl e) o = word-as _ (type-1 b s t (sym ek ∙ e)) o
     word-name (inr e) o = word-as _ (type-16 b s t (sym ek ∙ e)) o
 
-    pub word-enum : k ≡ 6 → outOf r t′ u′ ≡ putSaid txt at (enumText (N b s) B (enumValue (flagOf (t .info))) id (recordName b s t) (valuesOf b s t) lvl u) → Spoken
+    pub word-enum : (k ≡ 6) ⊎ (k ≡ 19) → outOf r t′ u′ ≡ putSaid txt at (enumText (N b s) B (valueText (isWide t) (flagOf (t .info))) id (recordName b s t) (enumValues b s t) lvl u) → Spoken
     unfolding baseWord enumText
-    word-enum e o = word-as _ (type-6 b s t (sym ek ∙ e)) o
-
-    pub word-enum64 : k ≡ 19 → outOf r t′ u′ ≡ putSaid txt at (enumText (N b s) B (enum64Value (flagOf (t .info))) id (recordName b s t) (values64Of b s t) lvl u) → Spoken
-    unfolding baseWord enumText
-    word-enum64 e o = word-as _ (type-19 b s t (sym ek ∙ e)) o
+    word-enum (inl e) o = word-as _ (type-6 b s t (sym ek ∙ e)) (o ∙ of-enum b s t (λ str vs. putSaid txt at (enumText (N b s) B str id (recordName b s t) vs lvl u)) (sym ek ∙ e))
+    word-enum (inr e) o = word-as _ (type-19 b s t (sym ek ∙ e)) (o ∙ of-enum64 b s t (λ str vs. putSaid txt at (enumText (N b s) B str id (recordName b s t) vs lvl u)) (sym ek ∙ e))
 
     pub word-fwd : (f : Bool) → k ≡ 7 → f ≡ flagOf (t .info) → outOf r t′ u′ ≡ putSaid txt at (emitFwdDef (N b s) B id f (recordName b s t) u) → Spoken
     unfolding baseWord

@@ -3,6 +3,7 @@ use Prim.Native.Nat.{ℕ, zero, suc, _-_, _<_, _≤_}
 use mathlib.Core.Path.{_≡_, refl, ap, _∙_, sym, subst}
 use mathlib.Core.List.{List}
 use mathlib.Core.Bool.{Bool, true, false}
+use mathlib.Core.Logic.{_⊎_, inl, inr}
 use native.Mathlib.Omega.{arith}
 use lib.Dec.{eqb}
 use borrow.Author.Tests.{ne-eqb, eq-eqb}
@@ -21,6 +22,8 @@ use Rattle.spec_type_table.specs.declared.types.BtfType.{BtfType as Record}
 use Rattle.spec_type_table.specs.Names.{strAt}
 use Rattle.spec_type_table.specs.Records.{kindOf, flagOf}
 use Rattle.spec_type_table.specs.Table.{recordName, membersOf, valuesOf, values64Of, typeOf, workNaming}
+use Rattle.c_dumper_bodies.specs.enums.Widths.{isWide, valueText, enumValues}
+use Rattle.c_dumper_bodies.proofs.enums.Numbers.{of-enum, of-enum64}
 use Rattle.spec_type_table.proofs.KindLaws.{by-kind, type-0, type-1, type-2, type-3, type-4, type-5, type-6, type-7, type-8, type-9, type-10, type-11, type-12, type-13, type-14, type-15, type-16, type-17, type-18, type-19, type-none}
 
 module _ (b : TypeTable) (s : List ℕ) (B : Rules) (at : ℕ) (tx w : List ℕ) (id : ℕ) (t : Record) where
@@ -144,18 +147,16 @@ module _ (b : TypeTable) (s : List ℕ) (B : Rules) (at : ℕ) (tx w : List ℕ)
         (λ y z u q. ended (emitCompositeDefOnce (workAsks (b .types) B) (workNaming b) B 512 id y (recordName b s t) (t .«type_id») (membersOf b s t) 0) a t₁ w₁ r t₂ q f ∙ ap (λ (x : BtfType). putSaid tx at (definitionOnce (workAsks (b .types) B) (workNaming b) B id x w)) (sym u))
         e
 
-    pub define-enum : k ≡ 6 → (a : ℕ) (t₁ w₁ : List ℕ) → outOf a t₁ w₁ ≡ putSaid tx at (emitEnumDef (workNaming b) B (enumValue (flagOf (t .info))) id (strAt b s (t .«name_off»)) (valuesOf b s t) 0 w)
+    pub define-enum : (k ≡ 6) ⊎ (k ≡ 19) → (a : ℕ) (t₁ w₁ : List ℕ) → outOf a t₁ w₁ ≡ putSaid tx at (emitEnumDef (workNaming b) B (valueText (isWide t) (flagOf (t .info))) id (strAt b s (t .«name_off»)) (enumValues b s t) 0 w)
         → (r : ℕ) (t₂ : List ℕ) → putOut r t₂ ≡ putText t₁ a (whole (ascii ";\n\n")) → Defines r t₂ w₁
     unfolding definitionOnce
-    define-enum q a t₁ w₁ e r t₂ f =
-        ended (emitEnumDef (workNaming b) B (enumValue (flagOf (t .info))) id (strAt b s (t .«name_off»)) (valuesOf b s t) 0) a t₁ w₁ r t₂ e f
+    define-enum (inl q) a t₁ w₁ e r t₂ f =
+        ended (emitEnumDef (workNaming b) B (enumValue (flagOf (t .info))) id (strAt b s (t .«name_off»)) (valuesOf b s t) 0) a t₁ w₁ r t₂
+        (e ∙ of-enum b s t (λ str vs. putSaid tx at (emitEnumDef (workNaming b) B str id (strAt b s (t .«name_off»)) vs 0 w)) (sym ek ∙ q)) f
         ∙ ap (λ (x : BtfType). putSaid tx at (definitionOnce (workAsks (b .types) B) (workNaming b) B id x w)) (sym (type-6 b s t (sym ek ∙ q)))
-
-    pub define-enum64 : k ≡ 19 → (a : ℕ) (t₁ w₁ : List ℕ) → outOf a t₁ w₁ ≡ putSaid tx at (emitEnumDef (workNaming b) B (enum64Value (flagOf (t .info))) id (strAt b s (t .«name_off»)) (values64Of b s t) 0 w)
-        → (r : ℕ) (t₂ : List ℕ) → putOut r t₂ ≡ putText t₁ a (whole (ascii ";\n\n")) → Defines r t₂ w₁
-    unfolding definitionOnce
-    define-enum64 q a t₁ w₁ e r t₂ f =
-        ended (emitEnumDef (workNaming b) B (enum64Value (flagOf (t .info))) id (strAt b s (t .«name_off»)) (values64Of b s t) 0) a t₁ w₁ r t₂ e f
+    define-enum (inr q) a t₁ w₁ e r t₂ f =
+        ended (emitEnumDef (workNaming b) B (enum64Value (flagOf (t .info))) id (strAt b s (t .«name_off»)) (values64Of b s t) 0) a t₁ w₁ r t₂
+        (e ∙ of-enum64 b s t (λ str vs. putSaid tx at (emitEnumDef (workNaming b) B str id (strAt b s (t .«name_off»)) vs 0 w)) (sym ek ∙ q)) f
         ∙ ap (λ (x : BtfType). putSaid tx at (definitionOnce (workAsks (b .types) B) (workNaming b) B id x w)) (sym (type-19 b s t (sym ek ∙ q)))
 
     pub define-fwd : k ≡ 7 → (u : Bool) → u ≡ flagOf (t .info) → (a : ℕ) (t₁ w₁ : List ℕ) → outOf a t₁ w₁ ≡ putSaid tx at (emitFwdDef (workNaming b) B id u (strAt b s (t .«name_off»)) w)

@@ -1,4 +1,5 @@
 // The string area of the new section.
+use crate::writer::names::Kept;
 use crate::writer::names::is_first;
 use crate::writer::names::longer;
 use crate::writer::names::seek;
@@ -45,27 +46,26 @@ fn put_names(
     start: &[u32],
     ids: &[u32],
     table: &[u64],
-    x: u32,
-    e: u32,
-    base: u32,
+    t: Kept,
     out: &mut [u8],
     at: usize,
 ) -> usize
-    requires { ⌜ Right b (now section) (now start) (now ids) (now table) × StringKept b (now start) (now ids) x e
-        × (base ≡ baseOf b (now section) (now start) (now ids) x) ⌝ }
+    requires { ⌜ Right b (now section) (now start) (now ids) (now table) × StringKept b (now start) (now ids) (t .x) (t .e)
+        × (t .base ≡ baseOf b (now section) (now start) (now ids) (t .x)) ⌝ }
     ensures { λ r. ⌜ putOut r (now (out .exit))
         ≡ putText (now (out .entry)) at (whole
-        (namesBytes b (now (section .entry)) (now (start .entry)) (now (ids .entry)) x e (wordsIn b (now (section .entry)) e))) ⌝ }
+        (namesBytes b (now (section .entry)) (now (start .entry)) (now (ids .entry)) (t .x) (t .e)
+        (wordsIn b (now (section .entry)) (t .e)))) ⌝ }
 {
-    let n = words_in(b, section, e);
+    let n = words_in(b, section, t.e);
     let mut p = at;
-    let mut len = base;
+    let mut len = t.base;
     let mut j: u32 = 0;
     while j < n {
-        let v = seek(b, section, table, e, j);
-        let new = is_first(b, section, start, ids, x, e, j, v, len);
-        p = put_name(b, section, e, j, new, out, p);
-        len = longer(b, section, e, j, new, len);
+        let v = seek(b, section, table, t.e, j);
+        let new = is_first(b, section, start, ids, t, j, v, len);
+        p = put_name(b, section, t.e, j, new, out, p);
+        len = longer(b, section, t.e, j, new, len);
         j += 1;
     }
     p
@@ -93,7 +93,20 @@ fn put_own(
     }
     let e = entry(b, start, x);
     let base = peek(bases, x as usize);
-    put_names(b, section, start, ids, table, x, e, base, out, at)
+    put_names(
+        b,
+        section,
+        start,
+        ids,
+        table,
+        Kept {
+            x: x,
+            e: e,
+            base: base,
+        },
+        out,
+        at,
+    )
 }
 
 fn put_news(

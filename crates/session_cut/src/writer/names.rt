@@ -25,6 +25,22 @@ ghost use Rattle.session_cut_marks.specs.mentioned.Names.{isNew, newSizes, base
 ghost use Rattle.session_cut_marks.specs.interned.Right.{allBases, Right, StringKept};
 ghost use Rattle.session_cut.specs.writer.Bytes.{nameIf, sought};
 
+// Type x, which is kept: its entry, and the length of the strings before it.
+pub struct Kept {
+    pub x: u32,
+    pub e: u32,
+    pub base: u32,
+}
+
+// Word j of a record. `v`: what the table has for its name; `new`: the name is mentioned for the first time; `len`: the length of the
+// strings before it.
+pub struct Mention {
+    pub j: u32,
+    pub v: u64,
+    pub new: bool,
+    pub len: u32,
+}
+
 // What the table has for the name of word j; 0 for another word and for the empty name.
 pub(crate) fn seek(b: TypeTable, section: &[u8], table: &[u64], e: u32, j: u32) -> u64
     ensures { λ r. ⌜ r ≡ sought b (now (section .entry)) (now (table .entry)) e j ⌝ }
@@ -39,23 +55,22 @@ pub(crate) fn seek(b: TypeTable, section: &[u8], table: &[u64], e: u32, j: u32) 
     find(b, section, table, off)
 }
 
-// Whether word j of type x mentions a name for the first time. `v`: what the table has for it; `len`: the length of the strings before it.
+// Whether word j of type t mentions a name for the first time. `v`: what the table has for it; `len`: the length of the strings before it.
 pub(crate) fn is_first(
     b: TypeTable,
     section: &[u8],
     start: &[u32],
     ids: &[u32],
-    x: u32,
-    e: u32,
+    t: Kept,
     j: u32,
     v: u64,
     len: u32,
 ) -> bool
-    requires { ⌜ ((v ≡ 0 → ⊥) → eqb (v / 4294967296) len ≡ isNew b (now section) (now start) (now ids) x e j) ⌝ }
-    ensures { λ r. ⌜ r ≡ isNew b (now (section .entry)) (now (start .entry)) (now (ids .entry)) x e j ⌝ }
+    requires { ⌜ ((v ≡ 0 → ⊥) → eqb (v / 4294967296) len ≡ isNew b (now section) (now start) (now ids) (t .x) (t .e) j) ⌝ }
+    ensures { λ r. ⌜ r ≡ isNew b (now (section .entry)) (now (start .entry)) (now (ids .entry)) (t .x) (t .e) j ⌝ }
 {
     if v == 0 {
-        return is_new(b, section, start, ids, x, e, j);
+        return is_new(b, section, start, ids, t.x, t.e, j);
     }
     v / limit::TWO_TO_32 == (len as u64)
 }
@@ -71,29 +86,27 @@ pub(crate) fn longer(b: TypeTable, section: &[u8], e: u32, j: u32, new: bool, le
     len + (get_btf_str(b, section, word_of(b, section, e, j)).len() as u32) + 1
 }
 
-// The length of the strings before word n of type x; `base`: that before the type.
+// The length of the strings before word n of type t.
 fn length_to(
     b: TypeTable,
     section: &[u8],
     start: &[u32],
     ids: &[u32],
     table: &[u64],
-    x: u32,
-    e: u32,
-    base: u32,
+    t: Kept,
     n: u32,
 ) -> u32
-    requires { ⌜ Right b (now section) (now start) (now ids) (now table) × StringKept b (now start) (now ids) x e
-        × (n ≤ wordsIn b (now section) e) × (base ≡ baseOf b (now section) (now start) (now ids) x) ⌝ }
-    ensures { λ r. ⌜ r ≡ baseOf b (now (section .entry)) (now (start .entry)) (now (ids .entry)) x
-        + newSizes b (now (section .entry)) (now (start .entry)) (now (ids .entry)) x e n ⌝ }
+    requires { ⌜ Right b (now section) (now start) (now ids) (now table) × StringKept b (now start) (now ids) (t .x) (t .e)
+        × (n ≤ wordsIn b (now section) (t .e)) × (t .base ≡ baseOf b (now section) (now start) (now ids) (t .x)) ⌝ }
+    ensures { λ r. ⌜ r ≡ baseOf b (now (section .entry)) (now (start .entry)) (now (ids .entry)) (t .x)
+        + newSizes b (now (section .entry)) (now (start .entry)) (now (ids .entry)) (t .x) (t .e) n ⌝ }
 {
-    let mut len = base;
+    let mut len = t.base;
     let mut j: u32 = 0;
     while j < n {
-        let v = seek(b, section, table, e, j);
-        let new = is_first(b, section, start, ids, x, e, j, v, len);
-        len = longer(b, section, e, j, new, len);
+        let v = seek(b, section, table, t.e, j);
+        let new = is_first(b, section, start, ids, t, j, v, len);
+        len = longer(b, section, t.e, j, new, len);
         j += 1;
     }
     len
@@ -120,7 +133,19 @@ fn place_at(
     let e = entry(b, start, x);
     let j = first_name(b, section, e, off, words_in(b, section, e));
     let base = peek(bases, x as usize);
-    length_to(b, section, start, ids, table, x, e, base, j) as u64
+    length_to(
+        b,
+        section,
+        start,
+        ids,
+        table,
+        Kept {
+            x: x,
+            e: e,
+            base: base,
+        },
+        j,
+    ) as u64
 }
 
 fn place_from(
@@ -148,8 +173,7 @@ fn place_from(
     0
 }
 
-// Where a name stands in the new strings. `v`: what the table has for it; `new`: it is mentioned for the first time, and its place is
-// `len`.
+// Where the name that m mentions stands in the new strings: where it is new, at their length so far.
 pub(crate) fn place_of(
     b: TypeTable,
     section: &[u8],
@@ -158,20 +182,18 @@ pub(crate) fn place_of(
     bases: &[u32],
     table: &[u64],
     off: u32,
-    v: u64,
-    new: bool,
-    len: u32,
+    m: Mention,
 ) -> u32
     requires { ⌜ Right b (now section) (now start) (now ids) (now table) × (now bases ≡ allBases b (now section) (now start) (now ids))
-        × ((v ≡ 0 → ⊥) → v / 4294967296 ≡ placeOf b (now section) (now start) (now ids) (now bases) off)
-        × (new ≡ true → len ≡ placeOf b (now section) (now start) (now ids) (now bases) off) ⌝ }
+        × ((m .v ≡ 0 → ⊥) → m .v / 4294967296 ≡ placeOf b (now section) (now start) (now ids) (now bases) off)
+        × (m .new ≡ true → m .len ≡ placeOf b (now section) (now start) (now ids) (now bases) off) ⌝ }
     ensures { λ r. ⌜ r ≡ placeOf b (now (section .entry)) (now (start .entry)) (now (ids .entry)) (now (bases .entry)) off ⌝ }
 {
-    if v != 0 {
-        return (v / limit::TWO_TO_32) as u32;
+    if m.v != 0 {
+        return (m.v / limit::TWO_TO_32) as u32;
     }
-    if new {
-        return len;
+    if m.new {
+        return m.len;
     }
     if is_empty(b, section, off) {
         return 0;

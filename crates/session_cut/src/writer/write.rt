@@ -1,5 +1,7 @@
 // Writing the new section.
 use crate::writer::area::put_strings;
+use crate::writer::names::Kept;
+use crate::writer::names::Mention;
 use crate::writer::names::is_first;
 use crate::writer::names::longer;
 use crate::writer::names::place_of;
@@ -26,6 +28,12 @@ ghost use Rattle.session_cut_marks.specs.mentioned.Names.{baseOf, placeOf};
 ghost use Rattle.session_cut_marks.specs.interned.Right.{allBases, Right, StringKept};
 ghost use Rattle.session_cut.specs.writer.Bytes.{wordBytes, magicBytes, headBytes, typeSize, typesSize, newWord, recordBytes};
 ghost use Rattle.session_cut.specs.writer.Bytes.{typeBytes, typesBytes, allBytes, wroteOf, fittingWritten, keptWritten};
+
+// The lengths of the two areas.
+struct Sizes {
+    types: u32,
+    strings: u32,
+}
 
 // A word, the most significant byte first where `big`.
 fn put_word(out: &mut [u8], at: usize, big: bool, v: u32) -> usize
@@ -90,7 +98,7 @@ fn type_size(b: TypeTable, section: &[u8], start: &[u32], ids: &[u32], x: u32, l
     len + (words_in(b, section, entry(b, start, x)) as u64) * 4
 }
 
-// Word j of the record with entry e, as it is written; v, new and len: of the name that it mentions, as `place_of` takes them.
+// Word m of the record with entry e, as it is written.
 fn new_word(
     b: TypeTable,
     section: &[u8],
@@ -99,20 +107,18 @@ fn new_word(
     bases: &[u32],
     table: &[u64],
     e: u32,
-    j: u32,
-    v: u64,
-    new: bool,
-    len: u32,
+    m: Mention,
 ) -> u32
     requires { ⌜ Right b (now section) (now start) (now ids) (now table) × (now bases ≡ allBases b (now section) (now start) (now ids))
-        × ((v ≡ 0 → ⊥) → v / 4294967296 ≡ placeOf b (now section) (now start) (now ids) (now bases) (wordOf b (now section) e j))
-        × (new ≡ true → len ≡ placeOf b (now section) (now start) (now ids) (now bases) (wordOf b (now section) e j)) ⌝ }
-    ensures { λ r. ⌜ r ≡ newWord b (now (section .entry)) (now (start .entry)) (now (ids .entry)) (now (bases .entry)) e j ⌝ }
+        × ((m .v ≡ 0 → ⊥)
+        → m .v / 4294967296 ≡ placeOf b (now section) (now start) (now ids) (now bases) (wordOf b (now section) e (m .j)))
+        × (m .new ≡ true → m .len ≡ placeOf b (now section) (now start) (now ids) (now bases) (wordOf b (now section) e (m .j))) ⌝ }
+    ensures { λ r. ⌜ r ≡ newWord b (now (section .entry)) (now (start .entry)) (now (ids .entry)) (now (bases .entry)) e (m .j) ⌝ }
 {
-    let r = role(e % 32, j);
-    let w = word_of(b, section, e, j);
+    let r = role(e % 32, m.j);
+    let w = word_of(b, section, e, m.j);
     if r == 1 {
-        return place_of(b, section, start, ids, bases, table, w, v, new, len);
+        return place_of(b, section, start, ids, bases, table, w, m);
     }
     if r == 2 {
         return peek(ids, w as usize);
@@ -120,7 +126,7 @@ fn new_word(
     w
 }
 
-// The record of type x; `base`: the length of the strings before it.
+// The record of type t.
 fn put_record(
     b: TypeTable,
     section: &[u8],
@@ -128,29 +134,33 @@ fn put_record(
     ids: &[u32],
     bases: &[u32],
     table: &[u64],
-    x: u32,
-    e: u32,
-    base: u32,
+    t: Kept,
     out: &mut [u8],
     at: usize,
 ) -> usize
     requires { ⌜ Right b (now section) (now start) (now ids) (now table) × (now bases ≡ allBases b (now section) (now start) (now ids))
-        × StringKept b (now start) (now ids) x e × (base ≡ baseOf b (now section) (now start) (now ids) x) ⌝ }
+        × StringKept b (now start) (now ids) (t .x) (t .e) × (t .base ≡ baseOf b (now section) (now start) (now ids) (t .x)) ⌝ }
     ensures { λ r. ⌜ putOut r (now (out .exit))
         ≡ putText (now (out .entry)) at (whole
-        (recordBytes b (now (section .entry)) (now (start .entry)) (now (ids .entry)) (now (bases .entry)) e
-        (wordsIn b (now (section .entry)) e))) ⌝ }
+        (recordBytes b (now (section .entry)) (now (start .entry)) (now (ids .entry)) (now (bases .entry)) (t .e)
+        (wordsIn b (now (section .entry)) (t .e)))) ⌝ }
 {
-    let n = words_in(b, section, e);
+    let n = words_in(b, section, t.e);
     let mut p = at;
-    let mut len = base;
+    let mut len = t.base;
     let mut j: u32 = 0;
     while j < n {
-        let v = seek(b, section, table, e, j);
-        let new = is_first(b, section, start, ids, x, e, j, v, len);
-        let w = new_word(b, section, start, ids, bases, table, e, j, v, new, len);
+        let v = seek(b, section, table, t.e, j);
+        let new = is_first(b, section, start, ids, t, j, v, len);
+        let m = Mention {
+            j: j,
+            v: v,
+            new: new,
+            len: len,
+        };
+        let w = new_word(b, section, start, ids, bases, table, t.e, m);
         p = put_word(out, p, b.big_endian, w);
-        len = longer(b, section, e, j, new, len);
+        len = longer(b, section, t.e, j, new, len);
         j += 1;
     }
     p
@@ -178,7 +188,21 @@ fn put_type(
     }
     let e = entry(b, start, x);
     let base = peek(bases, x as usize);
-    put_record(b, section, start, ids, bases, table, x, e, base, out, at)
+    put_record(
+        b,
+        section,
+        start,
+        ids,
+        bases,
+        table,
+        Kept {
+            x: x,
+            e: e,
+            base: base,
+        },
+        out,
+        at,
+    )
 }
 
 // The types that are kept.
@@ -215,17 +239,17 @@ fn put_all(
     ids: &[u32],
     bases: &[u32],
     table: &[u64],
-    types: u32,
-    strings: u32,
+    sizes: Sizes,
     out: &mut [u8],
 ) -> usize
     requires { ⌜ Right b (now section) (now start) (now ids) (now table) × (now bases ≡ allBases b (now section) (now start) (now ids)) ⌝ }
     ensures { λ r. ⌜ putOut r (now (out .exit))
         ≡ putText (now (out .entry)) 0 (whole
-        (allBytes b (now (section .entry)) (now (start .entry)) (now (ids .entry)) (now (bases .entry)) types strings)) ⌝ }
+        (allBytes b (now (section .entry)) (now (start .entry)) (now (ids .entry)) (now (bases .entry)) (sizes .types)
+        (sizes .strings))) ⌝ }
 {
     let flags = byte_at(section, 3);
-    let p = put_head(out, b.big_endian, flags, types, strings);
+    let p = put_head(out, b.big_endian, flags, sizes.types, sizes.strings);
     let q = put_types(b, section, start, ids, bases, table, out, p);
     put_strings(b, section, start, ids, bases, table, out, q)
 }
@@ -265,8 +289,10 @@ pub fn write_kept(b: TypeTable, section: &[u8], start: &[u32], ids: &[u32], out:
         ids,
         &bases,
         &table,
-        types as u32,
-        strings,
+        Sizes {
+            types: types as u32,
+            strings: strings,
+        },
         out,
     )
 }
@@ -278,24 +304,24 @@ fn write_fitting(
     ids: &[u32],
     bases: &[u32],
     table: &[u64],
-    types: u32,
-    strings: u32,
+    sizes: Sizes,
     out: &mut [u8],
 ) -> u64
     requires { ⌜ Right b (now section) (now start) (now ids) (now table) × (now bases ≡ allBases b (now section) (now start) (now ids))
-        × (types ≤ 16777216) × (strings ≤ 16777216) × (types ≡ typesSize b (now section) (now start) (now ids) (typeCount b))
-        × (strings ≡ baseOf b (now section) (now start) (now ids) (typeCount b)) ⌝ }
+        × (sizes .types ≤ 16777216) × (sizes .strings ≤ 16777216)
+        × (sizes .types ≡ typesSize b (now section) (now start) (now ids) (typeCount b))
+        × (sizes .strings ≡ baseOf b (now section) (now start) (now ids) (typeCount b)) ⌝ }
     ensures { λ r. ⌜ wroteOf r (now (out .exit))
-        ≡ fittingWritten b (now (section .entry)) (now (start .entry)) (now (ids .entry)) (now (bases .entry)) types strings
-        (now (out .entry)) ⌝ }
+        ≡ fittingWritten b (now (section .entry)) (now (start .entry)) (now (ids .entry)) (now (bases .entry)) (sizes .types)
+        (sizes .strings) (now (out .entry)) ⌝ }
 {
-    let len = 24 + types + strings;
+    let len = 24 + sizes.types + sizes.strings;
     if limit::MOST_BYTES_32 < len {
         return 0;
     }
     if out.len() < (len as usize) {
         return 0;
     }
-    put_all(b, section, start, ids, bases, table, types, strings, out);
+    put_all(b, section, start, ids, bases, table, sizes, out);
     len as u64
 }

@@ -93,6 +93,9 @@ module _ (b : TypeTable) (s start ids : List ℕ) where
         unfolding settled
         settled-new n r h = ap (λ (k : ℕ). filledOf (len + k) (set t i (off + len * 4294967296))) h ∙ rw (lt-ltb i (length t) l, settled, eq-eqb (getD t i 0) 0 n)
 
+      pub settled-at : (k : ℕ) → i ≡ k → (r : Filled) → r ≡ settled b s start ids x e j off i len t → r ≡ settled b s start ids x e j off k len t
+      settled-at k h r p = p ∙ ap (λ (u : ℕ). settled b s start ids x e j off u len t) h
+
     module _ (len : ℕ) (t : List ℕ) where
       pub entered-over : 16777216 < len → filledOf len t ≡ entered b s start ids x e j len t
       unfolding entered

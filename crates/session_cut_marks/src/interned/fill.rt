@@ -17,6 +17,7 @@ ghost use lib.ListN.{length, set};
 ghost use Rattle.spec_type_table.specs.Names.{strAt};
 ghost use Rattle.session_cut_marks.specs.mentioned.Names.{newSize};
 ghost use Rattle.session_cut_marks.specs.roles.Words.{wordsIn};
+ghost use Rattle.session_cut_marks.specs.interned.Slots.{slotOf};
 ghost use Rattle.session_cut_marks.specs.interned.Filled.{filledOf, settled, entered, enteredTo, enteredType, fillingOf, filling};
 
 // The bytes that a name takes in the strings.
@@ -38,27 +39,32 @@ fn new_size(b: TypeTable, section: &[u8], start: &[u32], ids: &[u32], x: u32, e:
     size(b, section, word_of(b, section, e, j))
 }
 
-// The name of word j, whose slot is i: entered where the slot is free.
+// Word j of the record with entry e, that of type x.
+struct Mention {
+    x: u32,
+    e: u32,
+    j: u32,
+}
+
+// The name that a word mentions: entered where its slot is free.
 fn settle(
     b: TypeTable,
     section: &[u8],
     start: &[u32],
     ids: &[u32],
-    x: u32,
-    e: u32,
-    j: u32,
+    m: Mention,
     off: u32,
-    i: u32,
     len: u32,
     table: &mut [u64],
 ) -> u32
     requires { ⌜ (length (now section) ≤ 16777216) × (len ≤ 16777216) ⌝ }
     ensures { λ r. ⌜ filledOf r (now (table .exit))
-        ≡ settled b (now (section .entry)) (now (start .entry)) (now (ids .entry)) x e j off i len (now (table .entry)) ⌝ }
+        ≡ settled b (now (section .entry)) (now (start .entry)) (now (ids .entry)) (m .x) (m .e) (m .j) off
+        (slotOf b (now (section .entry)) (now (table .entry)) off) len (now (table .entry)) ⌝ }
 {
-    let at = i as usize;
+    let at = slot_of(b, section, table, off) as usize;
     if table.len() <= at {
-        return len + new_size(b, section, start, ids, x, e, j);
+        return len + new_size(b, section, start, ids, m.x, m.e, m.j);
     }
     if table[at] != 0 {
         return len;
@@ -67,34 +73,30 @@ fn settle(
     len + size(b, section, off)
 }
 
-// Word j of type x.
 fn enter(
     b: TypeTable,
     section: &[u8],
     start: &[u32],
     ids: &[u32],
-    x: u32,
-    e: u32,
-    j: u32,
+    m: Mention,
     len: u32,
     table: &mut [u64],
 ) -> u32
     requires { ⌜ length (now section) ≤ 16777216 ⌝ }
     ensures { λ r. ⌜ filledOf r (now (table .exit))
-        ≡ entered b (now (section .entry)) (now (start .entry)) (now (ids .entry)) x e j len (now (table .entry)) ⌝ }
+        ≡ entered b (now (section .entry)) (now (start .entry)) (now (ids .entry)) (m .x) (m .e) (m .j) len (now (table .entry)) ⌝ }
 {
     if limit::MOST_BYTES_32 < len {
         return len;
     }
-    if role(e % 32, j) != 1 {
+    if role(m.e % 32, m.j) != 1 {
         return len;
     }
-    let off = word_of(b, section, e, j);
+    let off = word_of(b, section, m.e, m.j);
     if is_empty(b, section, off) {
         return len;
     }
-    let i = slot_of(b, section, table, off);
-    settle(b, section, start, ids, x, e, j, off, i, len, table)
+    settle(b, section, start, ids, m, off, len, table)
 }
 
 // The words of the record with entry e, that of type x.
@@ -117,7 +119,15 @@ fn enter_words(
     let mut now_len = len;
     let mut j: u32 = 0;
     while j < n {
-        now_len = enter(b, section, start, ids, x, e, j, now_len, table);
+        now_len = enter(
+            b,
+            section,
+            start,
+            ids,
+            Mention { x: x, e: e, j: j },
+            now_len,
+            table,
+        );
         j += 1;
     }
     now_len

@@ -11,7 +11,7 @@ use Rattle.btf_open.proofs.opening.open.Lts as lts
 use Rattle.btf_open_names.proofs.fill.fill.Reads as fill-reads
 use Rattle.btf_open_causes.proofs.header.btf_of.Reads as btf-of-reads
 use Rattle.base_bytes.proofs.word.clear.Reads as clear-reads
-use Rattle.btf_open.proofs.opening.examine.Reads as examine-reads
+use Rattle.btf_open.proofs.causes.examine.Reads as examine-reads
 use Rattle.btf_open_names.proofs.taken_numbers.takers.Reads as takers-reads
 
 slice-aggregate-examine : tie.Need-slice-aggregate-examine

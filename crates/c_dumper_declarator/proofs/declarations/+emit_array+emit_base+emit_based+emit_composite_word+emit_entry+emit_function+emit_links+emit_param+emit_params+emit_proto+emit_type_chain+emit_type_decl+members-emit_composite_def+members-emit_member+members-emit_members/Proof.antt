@@ -89,7 +89,6 @@ use Rattle.btf_type_table.proofs.section_word.array_nelems.Reads as array-nelem
 use Rattle.btf_type_table.proofs.section_word.word.Reads as word-reads
 use Rattle.c_dumper_bodies.proofs.bodies.emit_composite_end.Reads as emit-composite-end-reads
 use Rattle.c_dumper_bodies.proofs.bodies.emit_composite_head.Reads as emit-composite-head-reads
-use Rattle.c_dumper_bodies.proofs.bodies.emit_enum64_word.Reads as emit-enum64-word-reads
 use Rattle.c_dumper_bodies.proofs.bodies.emit_enum_word.Reads as emit-enum-word-reads
 use Rattle.c_dumper_bodies.proofs.bodies.emit_member_end.Reads as emit-member-end-reads
 use Rattle.c_dumper_bodies.proofs.bodies.put_typedef_name.Reads as put-typedef-name-reads
@@ -371,8 +370,6 @@ emit-base-claims t = (
   emit-fwd-def-reads.Learnt,
   put-typedef-name-reads.Asked,
   put-typedef-name-reads.Learnt,
-  emit-enum64-word-reads.Asked,
-  emit-enum64-word-reads.Learnt,
   emit-composite-word-below t,
   emit-composite-word.Post,
   put-void-reads.Asked,
@@ -648,8 +645,8 @@ emit-base-emit-fwd-def-requires t c κs = tt
 emit-base-put-typedef-name-requires : (t : ℕ) → emit-base-lts.Need-put-typedef-name-requires (emit-base-claims t) (emit-base-at t) emit-base.Post
 emit-base-put-typedef-name-requires t c κs = tt
 
-emit-base-emit-enum64-word-requires : (t : ℕ) → emit-base-lts.Need-emit-enum64-word-requires (emit-base-claims t) (emit-base-at t) emit-base.Post
-emit-base-emit-enum64-word-requires t c κs = tt
+emit-base-emit-enum-word-requires-2 : (t : ℕ) → emit-base-lts.Need-emit-enum-word-requires-2 (emit-base-claims t) (emit-base-at t) emit-base.Post
+emit-base-emit-enum-word-requires-2 t c κs = tt
 
 emit-base-emit-composite-word-requires : (t : ℕ) → emit-base-lts.Need-emit-composite-word-requires (emit-base-claims t) (emit-base-at t) emit-base.Post
 emit-base-emit-composite-word-requires t c κs = (omega arith, tt)
@@ -670,7 +667,7 @@ emit-base-same-length-3 : (t : ℕ) → emit-base-lts.Need-same-length-3 (emit-b
 emit-base-same-length-3 t c = search needs
 
 emit-base-returns-2 : (t : ℕ) → emit-base-lts.Need-returns-2 (emit-base-claims t) (emit-base-at t) emit-base.Post
-emit-base-returns-2 t c = entries.word-enum _ _ _ _ _ _ _ _ (c .before .before .before .before .before .before .before .before .kind-of .ensures) _ _ _ _ _ _ (c .before .before .before .before .before .before .before .match .keys2) (c .before .before .before .before .emit-enum-word .ensures)
+emit-base-returns-2 t c = entries.word-enum _ _ _ _ _ _ _ _ (c .before .before .before .before .before .before .before .before .kind-of .ensures) _ _ _ _ _ _ (inl (c .before .before .before .before .before .before .before .match .keys2)) (c .before .before .before .before .emit-enum-word .ensures)
 
 emit-base-same-length-4 : (t : ℕ) → emit-base-lts.Need-same-length-4 (emit-base-claims t) (emit-base-at t) emit-base.Post
 emit-base-same-length-4 t c = search needs
@@ -697,7 +694,7 @@ emit-base-same-length-9 : (t : ℕ) → emit-base-lts.Need-same-length-9 (emit-b
 emit-base-same-length-9 t c = search needs
 
 emit-base-returns-5 : (t : ℕ) → emit-base-lts.Need-returns-5 (emit-base-claims t) (emit-base-at t) emit-base.Post
-emit-base-returns-5 t c = entries.word-enum64 _ _ _ _ _ _ _ _ (c .before .before .before .before .before .before .before .before .kind-of .ensures) _ _ _ _ _ _ (c .before .before .before .before .before .before .before .match .keys5) (c .before .before .before .before .emit-enum64-word .ensures)
+emit-base-returns-5 t c = entries.word-enum _ _ _ _ _ _ _ _ (c .before .before .before .before .before .before .before .before .kind-of .ensures) _ _ _ _ _ _ (inr (c .before .before .before .before .before .before .before .match .keys5)) (c .before .before .before .before .emit-enum-word2 .ensures)
 
 emit-base-same-length-10 : (t : ℕ) → emit-base-lts.Need-same-length-10 (emit-base-claims t) (emit-base-at t) emit-base.Post
 emit-base-same-length-10 t c = search needs
@@ -1426,7 +1423,7 @@ pub +emit-array+emit-base+emit-based+emit-composite-word+emit-entry+emit-functio
     (emit-base-kind-flag-of-requires t)
     (emit-base-emit-fwd-def-requires t)
     (emit-base-put-typedef-name-requires t)
-    (emit-base-emit-enum64-word-requires t)
+    (emit-base-emit-enum-word-requires-2 t)
     (emit-base-emit-composite-word-requires t)
     (emit-base-put-void-requires t)
     (emit-base-same-length t)

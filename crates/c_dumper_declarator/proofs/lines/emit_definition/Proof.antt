@@ -1,4 +1,5 @@
 use native.Mathlib.Omega.{arith}
+use mathlib.Core.Logic.{inl, inr}
 use Rattle.c_dumper_declarator.proofs.lines.Laws as lines
 use borrow.Author.Needs.{needs}
 use Rattle.c_dumper_declarator.proofs.lines.emit_definition.Statement.{statement}
@@ -9,7 +10,6 @@ use Rattle.btf_type_table.proofs.kind.kind_flag_of.Reads as kind-flag-of-reads
 use Rattle.btf_type_table.proofs.kind.kind_of.Reads as kind-of-reads
 use Rattle.c_dumper_declarator.proofs.declarations.members.emit_composite_def.Reads as emit-composite-def-reads
 use Rattle.c_dumper_declarator.proofs.lines.put_line_end.Reads as put-line-end-reads
-use Rattle.c_dumper_bodies.proofs.enums64.emit_enum64_def.Reads as emit-enum64-def-reads
 use Rattle.c_dumper_bodies.proofs.enums.emit_enum_def.Reads as emit-enum-def-reads
 use Rattle.c_dumper_name_versions.proofs.forwards.emit_fwd_def.Reads as emit-fwd-def-reads
 
@@ -31,17 +31,11 @@ emit-fwd-def-requires c κs = tt
 put-line-end-requires-2 : tie.Need-put-line-end-requires-2
 put-line-end-requires-2 c κs = tt
 
-emit-enum64-def-requires : tie.Need-emit-enum64-def-requires
-emit-enum64-def-requires c κs = tt
-
-put-line-end-requires-3 : tie.Need-put-line-end-requires-3
-put-line-end-requires-3 c κs = tt
-
 emit-composite-def-requires : tie.Need-emit-composite-def-requires
 emit-composite-def-requires c κs = tt
 
-put-line-end-requires-4 : tie.Need-put-line-end-requires-4
-put-line-end-requires-4 c κs = tt
+put-line-end-requires-3 : tie.Need-put-line-end-requires-3
+put-line-end-requires-3 c κs = tt
 
 same-length : tie.Need-same-length
 same-length c = search needs
@@ -68,22 +62,13 @@ same-length-6 : tie.Need-same-length-6
 same-length-6 c = search needs
 
 returns-3 : tie.Need-returns-3
-returns-3 c = lines.define-enum64 _ _ _ _ _ _ _ _ _ (c .before .before .before .before .before .before .before .before .before .before .before .before .kind-of .ensures) (c .before .before .before .before .before .before .before .before .before .before .before .match .keys3) _ _ _ (c .before .before .before .before .before .before .before .before .emit-enum64-def .ensures) _ _ (c .before .before .put-line-end3 .ensures)
-
-same-length-7 : tie.Need-same-length-7
-same-length-7 c = search needs
-
-same-length-8 : tie.Need-same-length-8
-same-length-8 c = search needs
+returns-3 c = lines.define-composite _ _ _ _ _ _ _ _ _ (c .before .before .before .before .before .before .before .before .before .before .before .before .before .before .kind-of .ensures) (c .before .before .before .before .before .before .before .before .before .before .before .before .if1 .left) (c .before .before .before .before .before .before .before .before .before .before .before .if2 .taken) _ _ _ (c .before .before .before .before .before .before .before .before .emit-composite-def .ensures) _ _ (c .before .before .put-line-end3 .ensures)
 
 returns-4 : tie.Need-returns-4
-returns-4 c = lines.define-composite _ _ _ _ _ _ _ _ _ (c .before .before .before .before .before .before .before .before .before .before .before .before .before .before .kind-of .ensures) (c .before .before .before .before .before .before .before .before .before .before .before .before .if1 .left) (c .before .before .before .before .before .before .before .before .before .before .before .if2 .taken) _ _ _ (c .before .before .before .before .before .before .before .before .emit-composite-def .ensures) _ _ (c .before .before .put-line-end4 .ensures)
+returns-4 c = lines.define-none _ _ _ _ _ _ _ _ _ (c .before .before .kind-of .ensures) (lines.lt-ne _ 4 4 (c .if1 .taken) (omega arith)) (lines.lt-ne _ 4 5 (c .if1 .taken) (omega arith)) (λ e. c .before .match .rest .0 .1 (inl e)) (c .before .match .rest .1) (λ e. c .before .match .rest .0 .1 (inr e))
 
 returns-5 : tie.Need-returns-5
-returns-5 c = lines.define-none _ _ _ _ _ _ _ _ _ (c .before .before .kind-of .ensures) (lines.lt-ne _ 4 4 (c .if1 .taken) (omega arith)) (lines.lt-ne _ 4 5 (c .if1 .taken) (omega arith)) (c .before .match .rest .0 .0 .1) (c .before .match .rest .0 .1) (c .before .match .rest .1)
-
-returns-6 : tie.Need-returns-6
-returns-6 c = lines.define-none _ _ _ _ _ _ _ _ _ (c .before .before .before .kind-of .ensures) (lines.gt-ne _ 6 4 (c .if2 .left) (omega arith)) (lines.gt-ne _ 6 5 (c .if2 .left) (omega arith)) (c .before .before .match .rest .0 .0 .1) (c .before .before .match .rest .0 .1) (c .before .before .match .rest .1)
+returns-5 c = lines.define-none _ _ _ _ _ _ _ _ _ (c .before .before .before .kind-of .ensures) (lines.gt-ne _ 6 4 (c .if2 .left) (omega arith)) (lines.gt-ne _ 6 5 (c .if2 .left) (omega arith)) (λ e. c .before .before .match .rest .0 .1 (inl e)) (c .before .before .match .rest .1) (λ e. c .before .before .match .rest .0 .1 (inr e))
 
 pub emit-definition-spec : {M : Type 1} → statement M
 emit-definition-spec =
@@ -95,10 +80,8 @@ emit-definition-spec =
     kind-flag-of-requires
     emit-fwd-def-requires
     put-line-end-requires-2
-    emit-enum64-def-requires
-    put-line-end-requires-3
     emit-composite-def-requires
-    put-line-end-requires-4
+    put-line-end-requires-3
     same-length
     same-length-2
     returns
@@ -108,8 +91,5 @@ emit-definition-spec =
     same-length-5
     same-length-6
     returns-3
-    same-length-7
-    same-length-8
     returns-4
-    returns-5
-    returns-6)
+    returns-5)

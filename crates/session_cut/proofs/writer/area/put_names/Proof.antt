@@ -19,10 +19,10 @@ use Rattle.session_cut.proofs.writer.area.put_name.Reads as put-name-re
 use Rattle.session_cut.proofs.writer.names.longer.Reads as longer-reads
 
 abbrev Inv-loop : tie.InvT-loop
-Inv-loop b section start ids table x e base out₀ at n p₀ len₀ j₀ out p len j = (putOut p out ≡ putText out₀ at (whole (namesBytes b section start ids x e j))) × (j ≤ n) × (length out ≡ length out₀) × (len ≡ baseOf b section start ids x + newSizes b section start ids x e j)
+Inv-loop b section start ids table t out₀ at n p₀ len₀ j₀ out p len j = (putOut p out ≡ putText out₀ at (whole (namesBytes b section start ids (t .x) (t .e) j))) × (j ≤ n) × (length out ≡ length out₀) × (len ≡ baseOf b section start ids (t .x) + newSizes b section start ids (t .x) (t .e) j)
 
 abbrev μ-loop : tie.MeasureT-loop
-μ-loop b section start ids table x e base out₀ at n p₀ len₀ j₀ out p len j = n - j
+μ-loop b section start ids table t out₀ at n p₀ len₀ j₀ out p len j = n - j
 
 words-in-requires : tie.Need-words-in-requires Inv-loop μ-loop
 words-in-requires c κs = tt

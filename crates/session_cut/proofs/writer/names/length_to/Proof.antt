@@ -14,10 +14,10 @@ use Rattle.session_cut.proofs.writer.names.is_first.Reads as is-first-r
 use Rattle.session_cut.proofs.writer.names.longer.Reads as longer-reads
 
 abbrev Inv-loop : tie.InvT-loop
-Inv-loop b section start ids table x e base n len₀ j₀ len j = (len ≡ baseOf b section start ids x + newSizes b section start ids x e j) × (j ≤ n)
+Inv-loop b section start ids table t n len₀ j₀ len j = (len ≡ baseOf b section start ids (t .x) + newSizes b section start ids (t .x) (t .e) j) × (j ≤ n)
 
 abbrev μ-loop : tie.MeasureT-loop
-μ-loop b section start ids table x e base n len₀ j₀ len j = n - j
+μ-loop b section start ids table t n len₀ j₀ len j = n - j
 
 loop-holds : tie.Need-loop-holds Inv-loop μ-loop
 loop-holds c = (base-start _ _ _ _ _ _ _ (c .before .before .before .before .pre .3), omega arith)

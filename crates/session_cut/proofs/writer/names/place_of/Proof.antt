@@ -11,10 +11,10 @@ cast-result : tie.Need-cast-result
 cast-result c = search needs
 
 returns : tie.Need-returns
-returns c = c .before .before .before .before .before .before .pre .2 (c .if1 .taken)
+returns c = c .before .before .before .before .before .before .before .before .pre .2 (c .before .if1 .taken)
 
 returns-2 : tie.Need-returns-2
-returns-2 c = c .before .before .before .before .before .before .before .pre .3 (c .if2 .taken)
+returns-2 c = c .before .before .before .before .before .before .before .before .pre .3 (c .if2 .taken)
 
 is-empty-requires : tie.Need-is-empty-requires
 is-empty-requires c κs = tt
@@ -23,7 +23,7 @@ returns-3 : tie.Need-returns-3
 returns-3 c = place-first _ _ _ _ _ _ _ (c .before .is-empty .ensures) (c .if3 .taken)
 
 place-from-requires : tie.Need-place-from-requires
-place-from-requires c κs = (c .before .before .before .before .before .before .before .before .before .pre .0, c .before .before .before .before .before .before .before .before .before .pre .1)
+place-from-requires c κs = (c .before .before .before .before .before .before .before .before .before .before .pre .0, c .before .before .before .before .before .before .before .before .before .before .pre .1)
 
 cast-result-2 : tie.Need-cast-result-2
 cast-result-2 c = search needs

@@ -43,8 +43,8 @@ slice-aggregate-write-fitting c = sym (c .before .before .before .before .before
 slice-aggregate-write-fitting-2 : tie.Need-slice-aggregate-write-fitting-2
 slice-aggregate-write-fitting-2 c = sym (c .before .before .before .before .before .before .before .fill-table .kept .1 .1 .1 .1 .0 ∙ length-replicate {A = ℕ} 262144 0)
 
-cast-write-fitting : tie.Need-cast-write-fitting
-cast-write-fitting c = few-fits _ (c .before .before .if3 .left)
+cast-t20 : tie.Need-cast-t20
+cast-t20 c = few-fits _ (c .before .before .if3 .left)
 
 write-fitting-requires : tie.Need-write-fitting-requires
 unfolding zeroBases zeroTable
@@ -70,7 +70,7 @@ write-kept-spec =
     returns-3
     slice-aggregate-write-fitting
     slice-aggregate-write-fitting-2
-    cast-write-fitting
+    cast-t20
     write-fitting-requires
     same-length
     returns-4)

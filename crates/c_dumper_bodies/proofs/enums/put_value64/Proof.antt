@@ -1,10 +1,10 @@
-use Rattle.c_dumper_bodies.proofs.enums64.Numbers.{put-signed64, put-plain64}
+use Rattle.c_dumper_bodies.proofs.enums.Numbers.{put-signed64, put-plain64}
 use Rattle.spec_bytes.proofs.text.TextLaws.{put-seq}
 use borrow.Author.Needs.{needs}
-use Rattle.c_dumper_bodies.proofs.enums64.put_value64.Statement.{statement}
-use Rattle.c_dumper_bodies.proofs.enums64.put_value64.Tie as tie
-use Rattle.c_dumper_bodies.proofs.enums64.put_value64.Reads as reads
-use Rattle.c_dumper_bodies.proofs.enums64.put_value64.Lts as lts
+use Rattle.c_dumper_bodies.proofs.enums.put_value64.Statement.{statement}
+use Rattle.c_dumper_bodies.proofs.enums.put_value64.Tie as tie
+use Rattle.c_dumper_bodies.proofs.enums.put_value64.Reads as reads
+use Rattle.c_dumper_bodies.proofs.enums.put_value64.Lts as lts
 use Rattle.base_bytes.proofs.put.put_decimal.Reads as put-decimal-reads
 use Rattle.base_keywords.proofs.table.put_ull.Reads as put-ull-reads
 use Rattle.base_keywords.proofs.signed_decimal.as_i64.Reads as as-i64-reads
