@@ -1,4 +1,4 @@
-// Opening a section, and what success leaves.
+// Opening a section: what success leaves. The causes of a refusal: `causes`.
 use crate::causes::examine;
 use base_bytes::limit;
 use base_bytes::word::clear;

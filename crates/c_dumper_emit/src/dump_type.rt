@@ -85,7 +85,19 @@ pub fn dump_type(
         turn: q.turn,
     };
     let most = limit::MOST_CALLS;
-    let o = order_type(b, section, work, leads, start, id, false, most, v, c.is_set, c.calls);
+    let o = order_type(
+        b,
+        section,
+        work,
+        leads,
+        start,
+        id,
+        false,
+        most,
+        v,
+        c.is_set,
+        c.calls,
+    );
     if o.stop != 0 {
         return Dumped {
             pen: stop_at(text, p, o.stop),
@@ -94,5 +106,8 @@ pub fn dump_type(
     }
     let r = emit_ordered(b, section, work, text, list, leads, q, p, o.len);
     clear_list(work, o.len);
-    Dumped { pen: r, made: o.made }
+    Dumped {
+        pen: r,
+        made: o.made,
+    }
 }

@@ -88,8 +88,11 @@ fn dump_all(
 }
 
 fn tally_of(r: Reached, accepted: u32, count: usize, made: u64) -> Tallied
-    ensures { λ t. ⌜ t ≡ record { tally = record { len = r .len; number = r .number; accepted = accepted; visits = r .visits };
-        count = count; made = made } ⌝ }
+    ensures { λ t. ⌜ t ≡ record {
+      tally = record { len = r .len; number = r .number; accepted = accepted; visits = r .visits };
+      count = count;
+      made = made;
+    } ⌝ }
 {
     Tallied {
         tally: Tally {
@@ -373,7 +376,16 @@ pub fn dump_list_core(
         ≡ listCall s (now (section .entry)) (now (work .entry)) (now (text .entry)) (idsIn (now (ids .entry))) ⌝ }
 {
     let o = options_of(false, 0, false);
-    let r = request_list(s, section, work, text, &mut [0u8; 0], &mut [0u64; 0], ids, o);
+    let r = request_list(
+        s,
+        section,
+        work,
+        text,
+        &mut [0u8; 0],
+        &mut [0u64; 0],
+        ids,
+        o,
+    );
     r.turn
 }
 
@@ -420,7 +432,16 @@ pub fn dump_list_within(
         ≡ listCallWithin ceiling s (now (section .entry)) (now (work .entry)) (now (text .entry)) (idsIn (now (ids .entry))) ⌝ }
 {
     let o = options_of(true, ceiling, false);
-    request_list(s, section, work, text, &mut [0u8; 0], &mut [0u64; 0], ids, o)
+    request_list(
+        s,
+        section,
+        work,
+        text,
+        &mut [0u8; 0],
+        &mut [0u64; 0],
+        ids,
+        o,
+    )
 }
 
 // ---- with a list: why each line is there

@@ -134,13 +134,13 @@ module _ (room : ℕ) (b : TypeTable) (s : List ℕ) (id len v : ℕ) (w t : Lis
     with-large o k c len′ v′ t′ q = go (fitsUnder (o .ceiling .«is_set») (o .ceiling .calls) k (callsIn b s w id)) q
       where
         go : (y : Bool) → (elim y as (λ _. Stage) [
-            | true ↦ record {
-              reach = requestedListed (upTo room) b s (o .lists) id [] len v w t .reach;
-              entries = requestedListed (upTo room) b s (o .lists) id [] len v w t .entries;
-              made = madeUnder (o .ceiling .«is_set») k (callsIn b s w id);
-            }
-            | false ↦ record { reach = refusedBy 22 len v (take len t); entries = []; made = o .ceiling .calls }
-            ]) .reach ≡ refusedBy c len′ v′ t′ → 10 < c
+          | true ↦ record {
+            reach = requestedListed (upTo room) b s (o .lists) id [] len v w t .reach;
+            entries = requestedListed (upTo room) b s (o .lists) id [] len v w t .entries;
+            made = madeUnder (o .ceiling .«is_set») k (callsIn b s w id);
+          }
+          | false ↦ record { reach = refusedBy 22 len v (take len t); entries = []; made = o .ceiling .calls }
+        ]) .reach ≡ refusedBy c len′ v′ t′ → 10 < c
         go true p = listed-large (o .lists) c len′ v′ t′ p
         go false p = let z : 22 ≡ c = number-same p in omega arith
 
