@@ -22,7 +22,7 @@ use Rattle.spec_type_table.specs.Table.{typeOf, btfOf}
 use Rattle.c_dumper_dependency_order.specs.order_state.Work.{Marks, workStore}
 use Rattle.spec_c_dumper.specs.rules.Request.{listedOut}
 use Rattle.spec_session.specs.emission.Sheet.{Sheet, marksIn, withMarks, sheetStore, workMachine, emitIn}
-use Rattle.spec_session.specs.metered.Metered.{orderedIn, besideOf, dumpedMetered}
+use Rattle.spec_session.specs.metered.Metered.{besideOf, dumpedMetered}
 use Rattle.spec_c_dumper.proofs.ceiling.Counted.{tell}
 use Rattle.spec_c_dumper.proofs.rules.Maps.{rmap, tmap}
 use Rattle.spec_c_dumper.specs.origins.Causes.{Entry, ledBy, isAround, Led, orderLed, listedEntry, Noted, withEntries, upTo, eachListed, showsIn}

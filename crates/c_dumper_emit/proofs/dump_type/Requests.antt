@@ -2,8 +2,8 @@
 use Prim.Native.Nat.{ℕ, zero, suc, _+_, _-_, _<_, _≤_}
 use mathlib.Core.Path.{_≡_, refl, ap, _∙_, sym, subst}
 use mathlib.Core.List.{List, []}
-use mathlib.Core.Bool.{Bool, true, false, _||_, true≢false}
-use mathlib.Core.Logic.{_⊎_, inl, inr, ⊎-elim}
+use mathlib.Core.Bool.{Bool, true, false, _||_}
+use mathlib.Core.Logic.{_⊎_, inl, inr}
 use native.Mathlib.Omega.{arith}
 use lib.ListN.{length}
 use lib.Dec.{eqb, ltb}
@@ -19,12 +19,12 @@ use Rattle.spec_type_table.specs.Cells.{getField}
 use Rattle.spec_type_table.specs.Records.{kindOf, recordById}
 use Rattle.spec_type_table.specs.Table.{from, typeOf, btfOf}
 use Rattle.spec_type_table.proofs.KindLaws.{by-kind, type-0, type-1, type-2, type-3, type-4, type-5, type-6, type-7, type-8, type-9, type-10, type-11, type-12, type-13, type-14, type-15, type-16, type-17, type-18, type-19, type-none}
-use Rattle.spec_c_dumper.specs.ceiling.Ceiling.{Limit, unbounded, most, Told, told, halted, callsMade, thenBind}
+use Rattle.spec_c_dumper.specs.ceiling.Ceiling.{Limit, unbounded, most, Told, halted, callsMade, thenBind}
 use Rattle.spec_c_dumper.proofs.ceiling.Counted.{tell, within, passes}
 use Rattle.spec_c_dumper.proofs.ceiling.Plain.{unbounded-is}
 use Rattle.c_dumper_dependency_order.specs.declared.order_state.Order.{Order}
 use Rattle.c_dumper_dependency_order.specs.order_state.Work.{Marks, markOf, workStore, tableIn}
-use Rattle.c_dumper_dependency_order.specs.begin.Start.{limitOf, limitBy}
+use Rattle.c_dumper_dependency_order.specs.begin.Start.{limitBy}
 use Rattle.c_dumper_dependency_order.specs.leaders.Leads.{MarksAndLeaders, orderKept, keptOut, entryIn}
 use Rattle.c_dumper_dependency_order.proofs.order_state.Laws.{is-done, is-busy, is-new, node-at}
 use Rattle.c_dumper_dependency_order.proofs.order_type.Laws as kept

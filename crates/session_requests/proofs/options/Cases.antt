@@ -1,8 +1,8 @@
 -- Without options, under a ceiling and with a list a call is the call of the definitions. Assumes nothing.
-use Prim.Native.Nat.{ℕ, zero, suc, _+_, _*_, _-_}
+use Prim.Native.Nat.{ℕ, zero, suc, _*_, _-_}
 use mathlib.Core.Path.{_≡_, refl, ap, _∙_, sym}
 use mathlib.Core.Bool.{Bool, true, false, true≢false}
-use mathlib.Core.List.{List, [], _∷_, _++_}
+use mathlib.Core.List.{List, [], _∷_}
 use lib.ListN.{length, take, drop, replicate, length-replicate}
 use lib.Dec.{ltb}
 use Rattle.spec_type_table.specs.declared.types.TypeTable.{TypeTable}
@@ -18,7 +18,7 @@ use Rattle.spec_session.specs.metered.Lists.{countedWithin, listFromWithin, lis
 use Rattle.spec_session.specs.origin_calls.Several.{front, goOn, listFromCauses, listCausesCall}
 use Rattle.session_requests.specs.declared.options.Options.{Options}
 use Rattle.session_requests.specs.declared.options.Ended.{Ended}
-use Rattle.session_requests.specs.options.Requests.{Stage, Ready, Single, requestedWith, onwardWith, requestedFromWith, CallWith, endedOf, countedOf, explainedOf, settledWith, typeCallWith, typesCallWith}
+use Rattle.session_requests.specs.options.Requests.{Stage, Ready, Single, onwardWith, requestedFromWith, CallWith, endedOf, countedOf, explainedOf, settledWith, typeCallWith, typesCallWith}
 use Rattle.session_requests.specs.options.Lists.{frontWith, goOnWith, listFromWith, listCallWith}
 use Rattle.session_requests.proofs.request.Laws.{with-lists, with-none, with-ceiling, no-words}
 use Rattle.session_requests.proofs.requests.Laws.{made}

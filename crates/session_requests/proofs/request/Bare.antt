@@ -1,7 +1,7 @@
 -- One request without a list: what `dump_type` comes to is the plain request, or under a ceiling that or 22. Assumes nothing.
 use Prim.Native.Nat.{ℕ, zero, suc, zero-le, _+_, _-_, _<_, _≤_}
-use mathlib.Core.Path.{_≡_, refl, ap, _∙_, sym, subst}
-use mathlib.Core.Bool.{Bool, true, false}
+use mathlib.Core.Path.{_≡_, refl, ap, _∙_, sym}
+use mathlib.Core.Bool.{Bool, false}
 use mathlib.Core.List.{List, [], _++_}
 use mathlib.Core.Logic.{⊎-elim}
 use native.Mathlib.Omega.{arith}
@@ -12,7 +12,7 @@ use borrow.Author.Tests.{ne-eqb}
 use borrow.Rule.Slice.PartMut.{midOf, postOf, putMid, mid-len, same-len-mid}
 use Rattle.spec_bytes.proofs.words.Laws.{le-or-lt}
 use Rattle.spec_bytes.proofs.text.TextLaws.{out-stopped}
-use Rattle.spec_c_dumper.specs.ceiling.Ceiling.{Limit, unbounded, most}
+use Rattle.spec_c_dumper.specs.ceiling.Ceiling.{Limit}
 use Rattle.spec_c_dumper.specs.rules.Machine.{Out, wrote, stuck, pick, obind}
 use Rattle.spec_c_dumper.specs.rules.Types.{Btf as Rules, tableOf}
 use Rattle.spec_c_dumper.specs.rules.Request.{dumped}
@@ -23,9 +23,7 @@ use Rattle.spec_type_table.specs.Table.{btfOf}
 use Rattle.spec_session.specs.emission.Sheet.{Sheet, emitOut, workMachine}
 use Rattle.spec_session.proofs.emission.Laws.{sheet}
 use Rattle.spec_session.proofs.emission.Laws as plainly
-use Rattle.spec_session.specs.metered.Metered.{dumpedMetered, callsIn}
-use Rattle.spec_session.specs.metered.Within.{requestedWithin}
-use Rattle.spec_session.proofs.metered.Laws.{request-fits, request-over}
+use Rattle.spec_session.specs.metered.Metered.{dumpedMetered}
 use Rattle.spec_session.specs.declared.session.Reached.{Reached}
 use Rattle.spec_session.specs.session.Turns.{Reach, reached, refusedBy, reachOf}
 use Rattle.spec_session.proofs.session.Laws.{reach-accepted, reach-refused}
@@ -36,7 +34,6 @@ use Rattle.c_dumper_emit.specs.entries.Noted.{entriesOf, notedOut}
 use Rattle.c_dumper_emit.proofs.entries.Laws.{paper, goes, entries-length}
 use Rattle.c_dumper_emit.specs.dump_type.Kept.{withLeads, dumpedKept}
 use Rattle.c_dumper_emit.proofs.dump_type.Kept.{forgetLeads, forget-with, dumped-bare}
-use Rattle.c_dumper_emit.proofs.dump_type.Requests.{plain-is, fits-is, over-is}
 use Rattle.session_requests.proofs.request.Listed.{forgets}
 
 forget-none : (o : Out Sheet) → forget (withEntries [] o) ≡ o

@@ -1,14 +1,14 @@
 -- One request with a list: what `dump_type` comes to is the request with entries of the definitions. Assumes nothing.
-use Prim.Native.Nat.{ℕ, zero-le, _+_, _*_, _-_, _<_, _≤_}
-use mathlib.Core.Path.{_≡_, refl, ap, _∙_, sym, subst}
-use mathlib.Core.Bool.{Bool, true, false, not}
+use Prim.Native.Nat.{ℕ, zero-le, _+_, _-_, _<_, _≤_}
+use mathlib.Core.Path.{_≡_, refl, ap, _∙_, sym}
+use mathlib.Core.Bool.{Bool, true, not}
 use mathlib.Core.List.{List, [], _++_}
 use mathlib.Core.Logic.{⊎-elim}
 use native.Mathlib.Omega.{arith}
-use lib.ListN.{length, getD, take, drop, replicate}
-use lib.Dec.{eqb, ltb}
+use lib.ListN.{length, take, drop}
+use lib.Dec.{eqb}
 use lib.Seq.{length-take-le, take-at}
-use borrow.Author.Tests.{ltb-true, eq-eqb, ne-eqb, le-ltb, lt-ltb, not-true, not-false}
+use borrow.Author.Tests.{eq-eqb, ne-eqb}
 use borrow.Rule.Slice.PartMut.{midOf, postOf, putMid, mid-len, same-len-mid}
 use Rattle.spec_bytes.proofs.words.Laws.{le-or-lt}
 use Rattle.spec_bytes.proofs.text.TextLaws.{out-stopped}
@@ -17,28 +17,24 @@ use Rattle.spec_c_dumper.specs.rules.Machine.{Out, wrote, stuck, pick, obind}
 use Rattle.spec_c_dumper.specs.rules.Types.{Btf as Rules, tableOf}
 use Rattle.spec_type_table.specs.declared.types.TypeTable.{TypeTable}
 use Rattle.spec_type_table.specs.Table.{btfOf}
-use Rattle.btf_open_causes.specs.header.Header.{btfOf as settingsOf}
 use Rattle.spec_session.specs.emission.Sheet.{Sheet, emitOut, workMachine}
 use Rattle.spec_c_dumper.specs.rules.Request.{dumped}
 use Rattle.spec_session.proofs.emission.Laws.{sheet}
 use Rattle.spec_session.proofs.emission.Laws as plainly
-use Rattle.spec_session.specs.declared.session.Session.{Session}
-use Rattle.spec_session.specs.declared.session.Turn.{Turn}
 use Rattle.spec_session.specs.declared.session.Reached.{Reached}
-use Rattle.spec_session.specs.session.Answers.{answerOf}
-use Rattle.spec_session.specs.session.Turns.{callOf, turnOf, isCurrent, reached, refusedBy, reachOf, settled, unchanged}
-use Rattle.spec_session.proofs.session.Laws.{reach-accepted, reach-refused, cleared, none-follow}
-use Rattle.spec_session.specs.calls.Refusals.{number, value, notCurrent, idNotBelow, refusal}
+use Rattle.spec_session.specs.session.Turns.{reached, refusedBy, reachOf}
+use Rattle.spec_session.proofs.session.Laws.{reach-accepted, reach-refused}
+use Rattle.spec_session.specs.calls.Refusals.{number, refusal}
 use Rattle.spec_session.specs.calls.Calls.{limitOf, arrivedAt, cameTo, requested}
 use Rattle.spec_session.proofs.calls.Laws.{arrived-in, arrived-past, asked, one-bound, one-reach}
-use Rattle.spec_c_dumper.specs.origins.Causes.{Noted, withEntries, upTo, showsIn, filled, entriesIn}
+use Rattle.spec_c_dumper.specs.origins.Causes.{Noted, withEntries, upTo, showsIn, entriesIn}
 use Rattle.spec_c_dumper.specs.origins.Claims.{forget, Lined}
-use Rattle.spec_session.specs.origin_calls.Bytes.{dumpedNoted, Reached as Came, entriesAfter, cameToNoted, requestedNoted, CauseCall, settledNoted, leftAlone, typeCauses}
+use Rattle.spec_session.specs.origin_calls.Bytes.{dumpedNoted, entriesAfter, cameToNoted, requestedNoted}
 use Rattle.spec_session.proofs.origin_calls.Bytes.{dumped-lined}
 use Rattle.c_dumper_emit.specs.declared.entries.Pen.{Pen}
 use Rattle.c_dumper_emit.specs.entries.Noted.{entriesOf, notedOut}
 use Rattle.c_dumper_emit.proofs.entries.Laws.{paper, goes, halts, entries-length}
-use Rattle.c_dumper_emit.specs.dump_type.Kept.{noLeads, Before, withLeads, dumpedKept}
+use Rattle.c_dumper_emit.specs.dump_type.Kept.{Before, withLeads, dumpedKept}
 use Rattle.c_dumper_emit.proofs.dump_type.Kept.{forgetLeads, forget-with, dumped-kept, kept-before, few-types}
 use Rattle.session_requests.specs.options.Requests.{notedOf}
 
@@ -53,9 +49,6 @@ forgets n p t w l = go (emitOut n (p .at) t w)
 
 no-wrote : (c : ℕ) (m : Noted Sheet) → stuck c ≡ wrote m → ⊥
 no-wrote c m q = let z : _≡_ {A = ℕ} 0 1 = cc in omega arith
-
-wrote-same : (m m′ : Noted Sheet) → wrote m ≡ wrote m′ → m ≡ m′
-wrote-same m m′ q = cc
 
 module _ (b : TypeTable) (few : b .types ≤ 262145) (s w t l : List ℕ) (len id to : ℕ) (small : id < 4294967296) (below : len ≤ to) (ends : to ≤ length t) (d : Pen) (u w′ l′ : List ℕ) (same : length u ≡ length (midOf len (to - len) t))
     (turn n : ℕ) (k k′ : List ℕ) (size : length k ≡ 262145) (old : Before turn k)

@@ -1,11 +1,11 @@
 -- The laws for the returns of `dump_one`: by its options one request is that of the definitions. Assumes nothing.
-use Prim.Native.Nat.{ℕ, zero, suc, _+_, _-_, _<_, _≤_}
+use Prim.Native.Nat.{ℕ, _+_, _-_, _<_, _≤_}
 use mathlib.Core.Path.{_≡_, refl, ap, _∙_, sym, subst}
-use mathlib.Core.Bool.{Bool, true, false, true≢false}
+use mathlib.Core.Bool.{Bool, true, false}
 use mathlib.Core.List.{List, []}
 use mathlib.Core.Logic.{⊎-elim}
 use native.Mathlib.Omega.{arith}
-use lib.ListN.{length, take}
+use lib.ListN.{length}
 use lib.Dec.{eqb}
 use borrow.Author.Tests.{eq-eqb, ne-eqb}
 use borrow.Rule.Slice.PartMut.{midOf, putMid}
@@ -18,14 +18,13 @@ use Rattle.spec_type_table.specs.Table.{btfOf}
 use Rattle.c_dumper_dependency_order.specs.begin.Start.{limitBy}
 use Rattle.spec_session.proofs.emission.Laws.{sheet}
 use Rattle.spec_session.specs.metered.Metered.{orderedIn, callsIn}
-use Rattle.spec_session.specs.metered.Within.{requestedWithin}
 use Rattle.spec_session.proofs.metered.Laws.{request-fits, request-over}
 use Rattle.spec_session.specs.declared.session.Reached.{Reached}
-use Rattle.spec_session.specs.session.Turns.{Reach, refusedBy, reachOf, visitsIn}
+use Rattle.spec_session.specs.session.Turns.{visitsIn}
 use Rattle.spec_session.proofs.session.Laws.{reach-accepted}
-use Rattle.spec_session.specs.calls.Calls.{limitOf, arrivedAt, requested}
+use Rattle.spec_session.specs.calls.Calls.{limitOf, arrivedAt}
 use Rattle.c_dumper_emit.specs.declared.entries.Pen.{Pen}
-use Rattle.c_dumper_emit.specs.entries.Noted.{Lent, entriesOf, notedOut}
+use Rattle.c_dumper_emit.specs.entries.Noted.{entriesOf, notedOut}
 use Rattle.c_dumper_emit.specs.dump_type.Kept.{withLeads, dumpedKept}
 use Rattle.c_dumper_emit.proofs.dump_type.Requests.{plain-is, plain-made, none-is, most-is, fits-is, fits-made, over-is, over-made}
 use Rattle.session_requests.specs.declared.options.Options.{Options}

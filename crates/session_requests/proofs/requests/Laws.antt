@@ -1,5 +1,5 @@
 -- A law for each return of `dump_all`, `clear_entries`, `request_type` and `request_types`. Assumes nothing.
-use Prim.Native.Nat.{ℕ, zero, suc, _+_, _*_, _-_, _/_, _<_, _≤_}
+use Prim.Native.Nat.{ℕ, suc, _+_, _*_, _-_, _<_, _≤_}
 use mathlib.Core.Path.{_≡_, refl, ap, _∙_, sym, subst}
 use mathlib.Core.Bool.{Bool, true, false, not}
 use mathlib.Core.List.{List, []}
@@ -13,7 +13,7 @@ use Rattle.btf_open_causes.specs.header.Header.{btfOf as settingsOf}
 use Rattle.spec_session.specs.declared.session.Session.{Session}
 use Rattle.spec_session.specs.declared.session.Turn.{Turn}
 use Rattle.spec_session.specs.session.Answers.{answerOf}
-use Rattle.spec_session.specs.session.Turns.{Call, callOf, turnOf, isCurrent, Reach, reached, refusedBy, reachOf, visitsIn, thenZeros, settled, unchanged}
+use Rattle.spec_session.specs.session.Turns.{callOf, turnOf, isCurrent, Reach, reached, refusedBy, reachOf, visitsIn, thenZeros, settled, unchanged}
 use Rattle.spec_session.proofs.session.Laws.{reach-accepted, reach-refused}
 use Rattle.spec_session.specs.calls.Refusals.{number, value, notCurrent, idNotBelow, refusal}
 use Rattle.spec_c_dumper.specs.origins.Causes.{Entry, upTo, filled, entriesIn}
@@ -69,10 +69,6 @@ module _ (o : Options) (room : ℕ) (b : TypeTable) (s : List ℕ) (whole : Stag
     all-stop z =
         sym (goes-on
         ∙ ap (λ (q : Reach). elim q as (λ (x : Reach). Stage) [ reached a c d ↦ requestedFromWith o more b s (n - (id + 1)) (id + 1) (entriesOf (r .count) l′) a c d (r .made) | refusedBy a c f d ↦ stageOf r w′ t′ l′ ]) (reach-refused (r .reached) w′ t′ z))
-
--- ---- a list of the same length has the same room
-pub same-room : (n : ℕ) (l l′ : List ℕ) → length l ≡ length l′ → n ≤ entriesIn l → n ≤ entriesIn l′
-same-room n l l′ e h = omega arith
 
 -- ---- request_type, request_types
 -- the array, as the code makes it

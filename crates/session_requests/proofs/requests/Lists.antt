@@ -3,19 +3,18 @@
 use Prim.Native.Nat.{ℕ, zero, suc, zero-le, _+_, _*_, _-_, _/_, _<_, _≤_}
 use mathlib.Core.Path.{_≡_, refl, ap, _∙_, sym, subst}
 use mathlib.Core.Bool.{Bool, true, false, not}
-use mathlib.Core.List.{List, [], _∷_, _++_, append-assoc}
+use mathlib.Core.List.{List, [], _++_, append-assoc}
 use mathlib.Core.Logic.{⊎-elim, _⊎_, inl, inr}
 use native.Mathlib.Omega.{arith}
 use native.Mathlib.Nat.{le-refl}
 use native.Mathlib.Numerals.{add-one}
-use lib.ListN.{length, getD, take, drop, replicate, take-append-drop, length-drop, length-append, length-replicate, List·getD-eq-default}
-use lib.Dec.{leb}
+use lib.ListN.{length, getD, take, drop, replicate, take-append-drop, length-drop, List·getD-eq-default}
 use lib.Seq.{length-take-le, drop-at}
 use borrow.Author.Tests.{le-leb, lt-leb, le-ltb, lt-ltb, not-true, not-false}
 use borrow.Rule.Slice.PartMut.{midOf, putMid, mid-len, same-len-mid}
 use Rattle.spec_bytes.specs.words.Words.{getWord}
 use Rattle.spec_bytes.proofs.words.Laws.{le-or-lt}
-use Rattle.spec_c_dumper.specs.rules.Machine.{Out, stuck}
+use Rattle.spec_c_dumper.specs.rules.Machine.{Out}
 use Rattle.spec_c_dumper.specs.rules.Types.{tableOf}
 use Rattle.spec_c_dumper.specs.rules.Request.{dumped}
 use Rattle.spec_type_table.specs.declared.types.TypeTable.{TypeTable}
@@ -26,15 +25,15 @@ use Rattle.spec_session.specs.declared.session.Session.{Session}
 use Rattle.spec_session.specs.declared.session.Turn.{Turn}
 use Rattle.spec_session.specs.declared.session.Reached.{Reached}
 use Rattle.spec_session.specs.session.Answers.{numberOf, answerOf}
-use Rattle.spec_session.specs.session.Turns.{Call, callOf, turnOf, isCurrent, Reach, reached, refusedBy, reachOf, withText, thenZeros, settled, tableFor, visitsIn}
+use Rattle.spec_session.specs.session.Turns.{callOf, turnOf, isCurrent, Reach, reached, refusedBy, reachOf, withText, thenZeros, settled, tableFor, visitsIn}
 use Rattle.spec_session.proofs.session.Laws.{reach-accepted, reach-refused, zeros-twice}
 use Rattle.spec_session.specs.calls.Refusals.{number, value}
-use Rattle.spec_session.specs.calls.Calls.{cameTo, lentTo, requested, typeCall}
+use Rattle.spec_session.specs.calls.Calls.{cameTo, lentTo, requested}
 use Rattle.spec_session.specs.calls.Lists.{idsIn, countIn, tailed, listEnd}
 use Rattle.spec_session.proofs.calls.Claims.{number-is, request-sane, type-settles, zeros-length, zeros-head}
 use Rattle.spec_session.proofs.calls.Singles.{settled-with}
 use Rattle.spec_session.proofs.calls.Lists.{idsFrom, ids-all, ids-none, ids-some, ids-cons, tail-length, tail-head, tail-zeroed, current, called, open-now, sane-listed}
-use Rattle.spec_c_dumper.specs.origins.Causes.{Entry, Noted as NotedOf, upTo, showsIn, filled, entriesIn}
+use Rattle.spec_c_dumper.specs.origins.Causes.{Noted as NotedOf, upTo, showsIn, filled, entriesIn}
 use Rattle.spec_c_dumper.specs.origins.Claims.{forget, Lined}
 use Rattle.spec_session.specs.origin_calls.Bytes.{dumpedNoted, cameToNoted, requestedNoted}
 use Rattle.spec_session.proofs.origin_calls.Bytes.{dumped-lined}

@@ -1,15 +1,14 @@
 -- A law for each return of the calls but the list's. Assumes nothing.
-use Prim.Native.Nat.{ℕ, suc, zero-le, _+_, _-_, _%_, _<_, _≤_}
+use Prim.Native.Nat.{ℕ, zero-le, _+_, _-_, _%_, _<_, _≤_}
 use mathlib.Core.Path.{_≡_, refl, ap, _∙_, sym}
 use mathlib.Core.Bool.{Bool, true, false, not, true≢false}
 use mathlib.Core.List.{List, _++_, append-assoc}
 use mathlib.Core.Logic.{⊎-elim, _⊎_}
 use native.Mathlib.Omega.{arith}
-use native.Mathlib.Numerals.{add-one}
 use lib.ListN.{length, take, drop, replicate}
 use lib.Dec.{eqb}
 use lib.Seq.{length-take-le, take-at, drop-drop}
-use borrow.Author.Tests.{le-leb, lt-leb, le-ltb, lt-ltb, not-true, not-false}
+use borrow.Author.Tests.{le-leb, lt-leb}
 use borrow.Rule.Slice.PartMut.{midOf, postOf, putMid, mid-len, same-len-mid, put-same}
 use Rattle.spec_bytes.specs.text.Text.{Out as TextOut, place}
 use Rattle.spec_bytes.proofs.words.Laws.{le-or-lt}
@@ -24,7 +23,6 @@ use Rattle.spec_type_table.specs.Table.{btfOf, from}
 use Rattle.c_dumper_dependency_order.specs.order_state.Work.{markOf, workStore, tableIn}
 use Rattle.spec_opening.specs.declared.Opening.{Opening}
 use Rattle.spec_opening.specs.declared.Opening.the-variants.{Refused as Unsound, Sound}
-use Rattle.btf_open_causes.specs.header.Header.{btfOf as settingsOf}
 use Rattle.spec_opening.specs.Causes.{openingNumber}
 use Rattle.spec_opening.specs.Table.{typesOf, enumeratorsOf}
 use Rattle.spec_opening.specs.Opened.{refused, opened, openOut, openingOf, workOf}
@@ -35,9 +33,9 @@ use Rattle.spec_session.specs.declared.session.Session.{Session}
 use Rattle.spec_session.specs.declared.session.Turn.{Turn}
 use Rattle.spec_session.specs.declared.session.Reached.{Reached}
 use Rattle.spec_session.specs.session.Answers.{answerOf}
-use Rattle.spec_session.specs.calls.Refusals.{number, value, notCurrent, refusal}
-use Rattle.spec_session.specs.session.Turns.{callOf, turnOf, isCurrent, Reach, reached, refusedBy, reachOf, settled, unchanged, visitsIn}
-use Rattle.spec_session.specs.calls.Calls.{openedCall, openCall, limitOf, arrivedAt, cameTo, lentTo, requested, onward, requestedFrom, typeCall, typesCall}
+use Rattle.spec_session.specs.calls.Refusals.{number, refusal}
+use Rattle.spec_session.specs.session.Turns.{callOf, turnOf, reached, refusedBy, reachOf}
+use Rattle.spec_session.specs.calls.Calls.{openedCall, openCall, limitOf, arrivedAt, cameTo, lentTo, requested}
 use Rattle.spec_session.proofs.session.Laws.{reach-accepted, reach-refused}
 use Rattle.spec_session.proofs.calls.Fair.{Listed, Fair, goes, stops, Inside, fair-request}
 
@@ -231,76 +229,3 @@ idle-reach b s w t len u v id h q e z =
           ∙ ap (cameTo len v t) (sym (idle-dumped b s w (lentTo len t) id (sym e ∙ z))),
       h,
     )
-
--- the visits as the code reads them
-pub read-before : (b : TypeTable) (s w t : List ℕ) (len id v : ℕ) (q : Reach) → q ≡ requested b s id len v w t → v ≡ visitsIn w → q ≡ requested b s id len (visitsIn w) w t
-read-before b s w t len id v q e h = e ∙ ap (λ (u : ℕ). requested b s id len u w t) h
-
--- ---- all ids
-module _ (b : TypeTable) (s : List ℕ) (whole : Reach) where
-  unroll : (n id len : ℕ) (w t : List ℕ) → id < n → requestedFrom b s (n - id) id len w t ≡ onward (requested b s id len (visitsIn w) w t) (requestedFrom b s (n - (id + 1)) (id + 1))
-  unfolding requestedFrom
-  unroll n id len w t h =
-      let e : n - id ≡ suc (n - (id + 1)) = omega arith in
-      ap (λ (k : ℕ). requestedFrom b s k id len w t) e ∙ ap (λ (k : ℕ). onward (requested b s id len (visitsIn w) w t) (requestedFrom b s (n - (id + 1)) k)) (sym (add-one id))
-
-  pub all-done : (n id : ℕ) (r : Reached) (w t : List ℕ) → n ≤ id → r .number ≡ 0 → whole ≡ requestedFrom b s (n - id) id (r .len) w t → reachOf r w t ≡ whole
-  unfolding requestedFrom
-  all-done n id r w t h z e =
-      let k : n - id ≡ 0 = omega arith in
-      reach-accepted r w t z ∙ sym (e ∙ ap (λ (m : ℕ). requestedFrom b s m id (r .len) w t) k)
-
-  module _ (n id len : ℕ) (w t : List ℕ) (h : id < n) (e : whole ≡ requestedFrom b s (n - id) id len w t) (r : Reached) (w′ t′ : List ℕ) (er : reachOf r w′ t′ ≡ requested b s id len (visitsIn w) w t) where
-    goes-on : whole ≡ onward (reachOf r w′ t′) (requestedFrom b s (n - (id + 1)) (id + 1))
-    goes-on = e ∙ unroll n id len w t h ∙ ap (λ (q : Reach). onward q (requestedFrom b s (n - (id + 1)) (id + 1))) (sym er)
-
-    pub all-more : r .number ≡ 0 → whole ≡ requestedFrom b s (n - (id + 1)) (id + 1) (r .len) w′ t′
-    unfolding onward
-    all-more z = goes-on ∙ ap (λ (q : Reach). onward q (requestedFrom b s (n - (id + 1)) (id + 1))) (reach-accepted r w′ t′ z)
-
-    pub all-stop : (r .number ≡ 0 → ⊥) → reachOf r w′ t′ ≡ whole
-    unfolding onward
-    all-stop z =
-        reach-refused r w′ t′ z
-        ∙ sym (goes-on ∙ ap (λ (q : Reach). onward q (requestedFrom b s (n - (id + 1)) (id + 1))) (reach-refused r w′ t′ z))
-
--- ---- dump_type_core, dump_types_core
-module _ (s : Session) (section w t : List ℕ) (q : Bool) (eq : q ≡ isCurrent s (length section) (length w) (length t)) where
-  abbrev now-current : Bool
-  now-current = isCurrent s (length section) (length w) (length t)
-
-  module _ (h : not q ≡ true) (turn : Turn) (et : turn ≡ turnOf s (answerOf 11 (s .«text_len»))) where
-    is-11 : callOf (turn .session) (turn .answer) w t ≡ unchanged s (refusal notCurrent (s .«text_len»)) w t
-    unfolding callOf turnOf number value
-    is-11 = λ i. record { session = et i .session; answer = et i .answer; work = w; text = t }
-
-    pub type-11 : (id : ℕ) → callOf (turn .session) (turn .answer) w t ≡ typeCall s section w t id
-    unfolding typeCall
-    type-11 id = is-11 ∙ sym (rw (sym eq ∙ not-true q h, typeCall))
-
-    pub types-11 : callOf (turn .session) (turn .answer) w t ≡ typesCall s section w t
-    unfolding typesCall
-    types-11 = is-11 ∙ sym (rw (sym eq ∙ not-true q h, typesCall))
-
-  module _ (h : not q ≡ false) where
-    pub type-10 : (id : ℕ) → s .types ≤ id → (turn : Turn) → turn ≡ turnOf s (answerOf 10 (s .«text_len»)) → callOf (turn .session) (turn .answer) w t ≡ typeCall s section w t id
-    unfolding typeCall callOf turnOf number value
-    type-10 id l turn et =
-        (λ i. record { session = et i .session; answer = et i .answer; work = w; text = t })
-        ∙ sym (rw (sym eq ∙ not-false q h, typeCall, le-ltb id (s .types) l))
-
-    module _ (b : TypeTable) (eb : b ≡ settingsOf section (s .«pointer_size») (s .modes) (s .types)) (r : Reached) (w′ t′ : List ℕ) (lw : length w′ ≡ length w) (lt : length t′ ≡ length t)
-        (turn : Turn) (w″ t″ : List ℕ) (et : callOf (turn .session) (turn .answer) w″ t″ ≡ settled s (length w′) (length t′) (reachOf r w′ t′)) where
-      pub type-done : (id : ℕ) → id < s .types → reachOf r w′ t′ ≡ requested b section id (s .«text_len») (s .visits) w t → callOf (turn .session) (turn .answer) w″ t″ ≡ typeCall s section w t id
-      unfolding typeCall
-      type-done id l er =
-          et
-          ∙ (λ i. settled s (lw i) (lt i) ((er ∙ ap (λ (c : TypeTable). requested c section id (s .«text_len») (s .visits) w t) eb) i))
-          ∙ sym (rw (sym eq ∙ not-false q h, typeCall, lt-ltb id (s .types) l))
-
-      pub types-done : reachOf r w′ t′ ≡ requestedFrom b section (b .types - 1) 1 (s .«text_len») w t → callOf (turn .session) (turn .answer) w″ t″ ≡ typesCall s section w t
-      unfolding typesCall
-      types-done er =
-          et
-          ∙ (λ i. settled s (lw i) (lt i) ((er ∙ ap (λ (c : TypeTable). requestedFrom c section (c .types - 1) 1 (s .«text_len») w t) eb) i))
-          ∙ sym (rw (sym eq ∙ not-false q h, typesCall))
