@@ -10,7 +10,7 @@ returns : tie.Need-returns
 returns c = lists.kept-text _ _ _ (c .if1 .taken)
 
 clear-from-requires : tie.Need-clear-from-requires
-clear-from-requires c κs = search needs
+clear-from-requires c κs = tt
 
 same-length : tie.Need-same-length
 same-length c = search needs

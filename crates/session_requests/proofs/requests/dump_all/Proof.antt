@@ -24,10 +24,10 @@ abbrev μ-loop : tie.MeasureT-loop
 μ-loop b section work₀ text₀ list₀ leads₀ len o n r₀ id₀ work text list leads r id = n - id
 
 visits-in-requires : tie.Need-visits-in-requires Inv-loop μ-loop
-visits-in-requires c κs = search needs
+visits-in-requires c κs = tt
 
 none-yet-requires : tie.Need-none-yet-requires Inv-loop μ-loop
-none-yet-requires c κs = search needs
+none-yet-requires c κs = tt
 
 loop-holds : tie.Need-loop-holds Inv-loop μ-loop
 loop-holds c = (omega arith, omega arith, omega arith, refl, refl, refl, ap (λ (x : Progress). x .reached .number) (c .none-yet .ensures), omega (arith, c .before .before .before .before .before .before .before .before .pre .0, ap (λ (x : Progress). x .reached .len) (c .none-yet .ensures)), refl, omega (arith, ap (λ (x : Progress). x .count) (c .none-yet .ensures)), laws.all-start _ _ _ _ _ _ _ _ _ _ _ _ (c .none-yet .ensures), refl, c .before .before .before .before .before .before .before .before .pre .2, λ _. omega (arith, ap (λ (x : Progress). x .made) (c .none-yet .ensures)), ap (λ (x : Progress). x .reached .visits) (c .none-yet .ensures) ∙ c .before .visits-in .ensures)

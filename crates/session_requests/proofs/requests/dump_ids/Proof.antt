@@ -38,13 +38,13 @@ abbrev μ-loop : tie.MeasureT-loop
 μ-loop s section work₀ text₀ list₀ leads₀ ids o b n r₀ k₀ work text list leads r k = n - k
 
 btf-of-requires : tie.Need-btf-of-requires Inv-loop μ-loop
-btf-of-requires c κs = search needs
+btf-of-requires c κs = tt
 
 count-of-requires : tie.Need-count-of-requires Inv-loop μ-loop
-count-of-requires c κs = search needs
+count-of-requires c κs = tt
 
 none-yet-requires : tie.Need-none-yet-requires Inv-loop μ-loop
-none-yet-requires c κs = search needs
+none-yet-requires c κs = tt
 
 loop-holds : tie.Need-loop-holds Inv-loop μ-loop
 loop-holds c = (omega arith, omega arith, refl, refl, refl, refl, omega (arith, its-text _ (c .before .before .before .before .before .before .before .before .before .args .section .now) (c .before .before .before .before .before .before .before .before .before .args .work .now) (c .before .before .before .before .before .before .before .before .before .args .text .now) (c .before .before .before .before .before .before .before .before .before .pre .0), ap (λ (x : Progress). x .reached .len) (c .none-yet .ensures)), c .before .before .before .before .before .before .before .before .before .pre .1, c .before .before .btf-of .ensures, its-section _ (c .before .before .before .before .before .before .before .before .before .args .section .now) (c .before .before .before .before .before .before .before .before .before .args .work .now) (c .before .before .before .before .before .before .before .before .before .args .text .now) (c .before .before .before .before .before .before .before .before .before .pre .0), its-work _ (c .before .before .before .before .before .before .before .before .before .args .section .now) (c .before .before .before .before .before .before .before .before .before .args .work .now) (c .before .before .before .before .before .before .before .before .before .args .text .now) (c .before .before .before .before .before .before .before .before .before .pre .0), omega (arith, ap (λ (x : Progress). x .count) (c .none-yet .ensures)), λ _. omega (arith, ap (λ (x : Progress). x .made) (c .none-yet .ensures)), λ _. lists.clean-start _ _, lists.list-begin _ _ _ (its-section _ (c .before .before .before .before .before .before .before .before .before .args .section .now) (c .before .before .before .before .before .before .before .before .before .args .work .now) (c .before .before .before .before .before .before .before .before .before .args .text .now) (c .before .before .before .before .before .before .before .before .before .pre .0)) _ _ _ (c .before .before .before .before .before .before .before .before .before .pre .0) _ _ (c .before .count-of .ensures) _ (c .before .before .btf-of .ensures) _ (c .none-yet .ensures), ap (λ (x : Progress). x .reached .number) (c .none-yet .ensures))
@@ -53,13 +53,13 @@ cast-get-word : tie.Need-cast-get-word Inv-loop μ-loop
 cast-get-word c = omega arith
 
 get-word-requires : tie.Need-get-word-requires Inv-loop μ-loop
-get-word-requires c κs = search needs
+get-word-requires c κs = tt
 
 unknown-requires : tie.Need-unknown-requires Inv-loop μ-loop
-unknown-requires c κs = search needs
+unknown-requires c κs = tt
 
 tally-of-requires : tie.Need-tally-of-requires Inv-loop μ-loop
-tally-of-requires c κs = search needs
+tally-of-requires c κs = tt
 
 same-length : tie.Need-same-length Inv-loop μ-loop
 same-length c = c .before .before .before .before .before .before .loop .inv .2
@@ -98,7 +98,7 @@ add-tally-of : tie.Need-add-tally-of Inv-loop μ-loop
 add-tally-of c = omega (arith, lists.sum-room (c .before .before .before .before .before .before .before .before .before .before .before .before .before .before .before .before .before .before .before .before .loop .list) _ _ (c .before .before .before .before .before .before .before .before .before .before .before .before .before .before .before .before .before .before .before .before .loop .inv .11) (c .before .before .before .before .before .before .before .before .before .before .before .dump-one .ensures .1), c .before .before .before .before .before .before .before .before .before .before .before .before .before .before .before .before .before .before .before .before .loop .inv .4, c .before .before .before .before .before .before .before .before .before .before .before .before .before .before .before .before .before .before .before .before .before .before .before .before .before .before .before .before .before .before .good .1 .1 .1 .1 .0)
 
 tally-of-requires-2 : tie.Need-tally-of-requires-2 Inv-loop μ-loop
-tally-of-requires-2 c κs = search needs
+tally-of-requires-2 c κs = tt
 
 same-length-5 : tie.Need-same-length-5 Inv-loop μ-loop
 same-length-5 c = c .before .before .before .before .before .before .before .before .before .before .before .before .dump-one .kept .1 .1 .0 ∙ c .before .before .before .before .before .before .before .before .before .before .before .before .before .before .before .before .before .before .before .before .before .loop .inv .2
@@ -116,7 +116,7 @@ returns-2 : tie.Need-returns-2 Inv-loop μ-loop
 returns-2 c = (lists.tally-is _ _ _ _ _ (c .tally-of2 .ensures) _ _ _ _ _ (lists.list-stop _ (c .before .before .before .before .before .before .before .before .before .before .before .before .before .before .before .before .before .before .before .before .before .before .before .before .before .before .before .before .before .before .before .args .s) _ (c .before .before .before .before .before .before .before .before .before .before .before .before .before .before .before .before .before .before .before .before .before .loop .inv .9) _ (c .before .before .before .before .before .before .before .before .before .before .before .before .before .before .before .before .before .before .before .before .before .loop .inv .8) _ _ _ _ _ _ _ _ _ _ _ (c .before .before .before .before .before .before .before .before .before .before .before .before .before .before .before .before .before .before .before .before .before .loop .inv .10) (c .before .before .before .before .before .before .before .before .before .before .before .before .before .before .before .before .before .before .before .before .before .loop .inv .6) (c .before .before .before .before .before .before .before .before .before .before .before .before .before .before .before .before .before .before .before .before .before .loop .inv .11) (c .before .before .before .before .before .before .before .before .before .before .before .before .before .before .before .before .before .before .before .before .before .loop .inv .13) (c .before .before .before .before .before .before .before .before .before .before .before .before .before .before .before .before .before .before .before .before .before .loop .inv .14) (c .before .before .before .before .before .before .before .before .before .before .before .before .before .before .before .before .before .before .before .before .loop-test .taken) _ (c .before .before .before .before .before .before .before .before .before .before .before .before .before .before .before .before .before .before .before .get-word .ensures) (c .before .before .before .before .before .before .before .before .before .before .before .before .before .before .before .before .before .if1 .left) _ _ _ _ (c .before .before .before .before .before .before .before .before .before .before .before .before .dump-one .kept .1 .1 .1 .1 .0) (c .before .before .before .before .before .before .before .before .before .before .before .before .dump-one .ensures .0) (c .before .before .before .before .before .before .before .before .before .before .before .before .dump-one .ensures .1) (λ j. omega (arith, c .before .before .before .before .before .before .slice-known7 .given j)) (c .before .before .before .before .before .before .before .before .before .before .before .before .dump-one .kept .1 .1 .0) (c .before .before .before .before .before .before .before .before .before .before .before .before .dump-one .kept .1 .1 .1 .0) (c .before .before .if2 .taken)), lists.tally-room _ _ _ _ _ (c .tally-of2 .ensures) _ (omega (arith, lists.sum-room (c .before .before .before .before .before .before .before .before .before .before .before .before .before .before .before .before .before .before .before .before .before .loop .list) _ _ (c .before .before .before .before .before .before .before .before .before .before .before .before .before .before .before .before .before .before .before .before .before .loop .inv .11) (c .before .before .before .before .before .before .before .before .before .before .before .before .dump-one .ensures .1), c .before .before .before .before .before .before .before .before .before .before .before .before .before .before .before .before .before .before .before .before .before .loop .inv .4)))
 
 clear-if-requires : tie.Need-clear-if-requires Inv-loop μ-loop
-clear-if-requires c κs = search needs
+clear-if-requires c κs = tt
 
 add-t19 : tie.Need-add-t19 Inv-loop μ-loop
 add-t19 c = omega (arith, lists.sum-room (c .before .before .before .before .before .before .before .before .before .before .before .before .before .before .before .before .before .before .before .before .before .before .before .before .before .loop .list) _ _ (c .before .before .before .before .before .before .before .before .before .before .before .before .before .before .before .before .before .before .before .before .before .before .before .before .before .loop .inv .11) (c .before .before .before .before .before .before .before .before .before .before .before .before .before .before .before .before .dump-one .ensures .1), c .before .before .before .before .before .before .before .before .before .before .before .before .before .before .before .before .before .before .before .before .before .before .before .before .before .loop .inv .4, c .before .before .before .before .before .before .before .before .before .before .before .before .before .before .before .before .before .before .before .before .before .before .before .before .before .before .before .before .before .before .before .before .before .before .before .good .1 .1 .1 .1 .0)
@@ -131,7 +131,7 @@ loop-again : tie.Need-loop-again Inv-loop μ-loop
 loop-again c = (omega arith, c .before .before .before .before .before .before .before .before .before .before .before .before .before .before .before .before .before .before .before .before .before .before .before .before .before .loop .inv .1, c .before .before .before .before .before .before .before .before .before .before .before .before .before .before .before .before .dump-one .kept .1 .1 .0 ∙ c .before .before .before .before .before .before .before .before .before .before .before .before .before .before .before .before .before .before .before .before .before .before .before .before .before .loop .inv .2, lists.cleared-length _ _ (c .before .before .before .before .before .before .before .before .before .before .before .before .before .before .before .before .dump-one .ensures .2) _ _ (c .before .before .before .clear-if .ensures) ∙ c .before .before .before .before .before .before .before .before .before .before .before .before .before .before .before .before .dump-one .kept .1 .1 .1 .0 ∙ c .before .before .before .before .before .before .before .before .before .before .before .before .before .before .before .before .before .before .before .before .before .before .before .before .before .loop .inv .3, lists.whole-long _ (c .before .before .before .before .before .before .before .before .before .before .before .before .before .before .before .before .before .before .before .before .before .before .before .before .before .before .before .before .before .before .before .before .before .before .before .args .s) _ (c .before .before .before .before .before .before .before .before .before .before .before .before .before .before .before .before .before .before .before .before .before .before .before .before .before .loop .inv .9) _ (c .before .before .before .before .before .before .before .before .before .before .before .before .before .before .before .before .before .before .before .before .before .before .before .before .before .loop .inv .8) _ _ _ _ _ _ _ _ _ _ _ (c .before .before .before .before .before .before .before .before .before .before .before .before .before .before .before .before .before .before .before .before .before .before .before .before .before .loop .inv .10) (c .before .before .before .before .before .before .before .before .before .before .before .before .before .before .before .before .before .before .before .before .before .before .before .before .before .loop .inv .6) (c .before .before .before .before .before .before .before .before .before .before .before .before .before .before .before .before .before .before .before .before .before .before .before .before .before .loop .inv .11) (c .before .before .before .before .before .before .before .before .before .before .before .before .before .before .before .before .before .before .before .before .before .before .before .before .before .loop .inv .13) (c .before .before .before .before .before .before .before .before .before .before .before .before .before .before .before .before .before .before .before .before .before .before .before .before .before .loop .inv .14) (c .before .before .before .before .before .before .before .before .before .before .before .before .before .before .before .before .before .before .before .before .before .before .before .before .loop-test .taken) _ (c .before .before .before .before .before .before .before .before .before .before .before .before .before .before .before .before .before .before .before .before .before .before .before .get-word .ensures) (c .before .before .before .before .before .before .before .before .before .before .before .before .before .before .before .before .before .before .before .before .before .if1 .left) _ _ _ _ (c .before .before .before .before .before .before .before .before .before .before .before .before .before .before .before .before .dump-one .kept .1 .1 .1 .1 .0) (c .before .before .before .before .before .before .before .before .before .before .before .before .before .before .before .before .dump-one .ensures .0) (c .before .before .before .before .before .before .before .before .before .before .before .before .before .before .before .before .dump-one .ensures .1) (λ j. omega (arith, c .before .before .before .before .before .before .before .before .before .before .slice-known7 .given j)) ∙ c .before .before .before .before .before .before .before .before .before .before .before .before .before .before .before .before .before .before .before .before .before .before .before .before .before .loop .inv .4, c .before .before .before .before .before .before .before .before .before .before .before .before .before .before .before .before .dump-one .kept .1 .1 .1 .1 .1 .0 ∙ c .before .before .before .before .before .before .before .before .before .before .before .before .before .before .before .before .before .before .before .before .before .before .before .before .before .loop .inv .5, omega (arith, lists.cleared-length _ _ (c .before .before .before .before .before .before .before .before .before .before .before .before .before .before .before .before .dump-one .ensures .2) _ _ (c .before .before .before .clear-if .ensures), c .before .before .before .before .before .before .before .before .before .before .before .before .before .before .before .before .dump-one .ensures .2), c .before .before .before .before .before .before .before .before .before .before .before .before .before .before .before .before .dump-one .ensures .4 (c .before .before .before .before .before .before .if2 .left) .1, c .before .before .before .before .before .before .before .before .before .before .before .before .before .before .before .before .before .before .before .before .before .before .before .before .before .loop .inv .8, c .before .before .before .before .before .before .before .before .before .before .before .before .before .before .before .before .before .before .before .before .before .before .before .before .before .loop .inv .9, c .before .before .before .before .before .before .before .before .before .before .before .before .before .before .before .before .before .before .before .before .before .before .before .before .before .loop .inv .10 ∙ sym (c .before .before .before .before .before .before .before .before .before .before .before .before .before .before .before .before .dump-one .kept .1 .1 .0), lists.more-room _ (c .before .before .before .before .before .before .before .before .before .before .before .before .before .before .before .before .before .before .before .before .before .before .before .before .before .before .before .before .before .before .before .before .before .before .before .args .s) _ (c .before .before .before .before .before .before .before .before .before .before .before .before .before .before .before .before .before .before .before .before .before .before .before .before .before .loop .inv .9) _ (c .before .before .before .before .before .before .before .before .before .before .before .before .before .before .before .before .before .before .before .before .before .before .before .before .before .loop .inv .8) _ _ _ _ _ _ _ _ _ _ _ (c .before .before .before .before .before .before .before .before .before .before .before .before .before .before .before .before .before .before .before .before .before .before .before .before .before .loop .inv .10) (c .before .before .before .before .before .before .before .before .before .before .before .before .before .before .before .before .before .before .before .before .before .before .before .before .before .loop .inv .6) (c .before .before .before .before .before .before .before .before .before .before .before .before .before .before .before .before .before .before .before .before .before .before .before .before .before .loop .inv .11) (c .before .before .before .before .before .before .before .before .before .before .before .before .before .before .before .before .before .before .before .before .before .before .before .before .before .loop .inv .13) (c .before .before .before .before .before .before .before .before .before .before .before .before .before .before .before .before .before .before .before .before .before .before .before .before .before .loop .inv .14) (c .before .before .before .before .before .before .before .before .before .before .before .before .before .before .before .before .before .before .before .before .before .before .before .before .loop-test .taken) _ (c .before .before .before .before .before .before .before .before .before .before .before .before .before .before .before .before .before .before .before .before .before .before .before .get-word .ensures) (c .before .before .before .before .before .before .before .before .before .before .before .before .before .before .before .before .before .before .before .before .before .if1 .left) _ _ _ _ (c .before .before .before .before .before .before .before .before .before .before .before .before .before .before .before .before .dump-one .kept .1 .1 .1 .1 .0) (c .before .before .before .before .before .before .before .before .before .before .before .before .before .before .before .before .dump-one .ensures .0) (c .before .before .before .before .before .before .before .before .before .before .before .before .before .before .before .before .dump-one .ensures .1) (λ j. omega (arith, c .before .before .before .before .before .before .before .before .before .before .slice-known7 .given j)), c .before .before .before .before .before .before .before .before .before .before .before .before .before .before .before .before .dump-one .ensures .3, λ y. lists.clean-next _ _ (c .before .before .before .before .before .before .before .before .before .before .before .before .before .before .before .before .dump-one .ensures .2) _ _ _ (c .before .before .before .clear-if .ensures) y, lists.list-more _ (c .before .before .before .before .before .before .before .before .before .before .before .before .before .before .before .before .before .before .before .before .before .before .before .before .before .before .before .before .before .before .before .before .before .before .before .args .s) _ (c .before .before .before .before .before .before .before .before .before .before .before .before .before .before .before .before .before .before .before .before .before .before .before .before .before .loop .inv .9) _ (c .before .before .before .before .before .before .before .before .before .before .before .before .before .before .before .before .before .before .before .before .before .before .before .before .before .loop .inv .8) _ _ _ _ _ _ _ _ _ _ _ (c .before .before .before .before .before .before .before .before .before .before .before .before .before .before .before .before .before .before .before .before .before .before .before .before .before .loop .inv .10) (c .before .before .before .before .before .before .before .before .before .before .before .before .before .before .before .before .before .before .before .before .before .before .before .before .before .loop .inv .6) (c .before .before .before .before .before .before .before .before .before .before .before .before .before .before .before .before .before .before .before .before .before .before .before .before .before .loop .inv .11) (c .before .before .before .before .before .before .before .before .before .before .before .before .before .before .before .before .before .before .before .before .before .before .before .before .before .loop .inv .13) (c .before .before .before .before .before .before .before .before .before .before .before .before .before .before .before .before .before .before .before .before .before .before .before .before .before .loop .inv .14) (c .before .before .before .before .before .before .before .before .before .before .before .before .before .before .before .before .before .before .before .before .before .before .before .before .loop-test .taken) _ (c .before .before .before .before .before .before .before .before .before .before .before .before .before .before .before .before .before .before .before .before .before .before .before .get-word .ensures) (c .before .before .before .before .before .before .before .before .before .before .before .before .before .before .before .before .before .before .before .before .before .if1 .left) _ _ _ _ (c .before .before .before .before .before .before .before .before .before .before .before .before .before .before .before .before .dump-one .kept .1 .1 .1 .1 .0) (c .before .before .before .before .before .before .before .before .before .before .before .before .before .before .before .before .dump-one .ensures .0) (c .before .before .before .before .before .before .before .before .before .before .before .before .before .before .before .before .dump-one .ensures .1) (λ j. omega (arith, c .before .before .before .before .before .before .before .before .before .before .slice-known7 .given j)) (c .before .before .before .before .before .before .before .before .before .before .before .before .before .before .before .before .dump-one .kept .1 .1 .1 .0) (c .before .before .before .before .before .before .before .before .before .before .before .before .before .before .before .before .dump-one .ensures .2) (c .before .before .before .before .before .before .if2 .left) _ (c .before .before .before .clear-if .ensures) _ (c .before .before .before .before .before .before .before .before .before .before .before .before .before .before .before .before .dump-one .ensures .4 (c .before .before .before .before .before .before .if2 .left) .0), c .before .before .before .before .before .before .if2 .left)
 
 tally-of-requires-3 : tie.Need-tally-of-requires-3 Inv-loop μ-loop
-tally-of-requires-3 c κs = search needs
+tally-of-requires-3 c κs = tt
 
 same-length-9 : tie.Need-same-length-9 Inv-loop μ-loop
 same-length-9 c = c .before .before .loop .inv .2

@@ -8,7 +8,7 @@ use Rattle.session_requests.proofs.requests.options_of.Reads as options
 use Rattle.session_requests.proofs.requests.request_list.Reads as request-list-reads
 
 options-of-requires : tie.Need-options-of-requires
-options-of-requires c κs = search needs
+options-of-requires c κs = tt
 
 slice-aggregate-request-list : tie.Need-slice-aggregate-request-list
 slice-aggregate-request-list c = search needs
@@ -20,10 +20,10 @@ request-list-requires : tie.Need-request-list-requires
 request-list-requires c κs = cases.unlisted-asks _ _ _ (c .before .before .before .before .options-of .ensures)
 
 same-length : tie.Need-same-length
-same-length c = search needs
+same-length c = c .before .before .before .before .before .before .request-list .kept .1 .1 .0
 
 same-length-2 : tie.Need-same-length-2
-same-length-2 c = search needs
+same-length-2 c = c .before .before .before .before .before .before .request-list .kept .1 .1 .1 .0
 
 returns : tie.Need-returns
 returns c = cases.within-list _ _ _ _ _ _ _ _ _ _ (c .before .before .before .before .before .before .before .before .before .before .before .options-of .ensures) _ _ (c .before .before .before .before .before .before .request-list .ensures)

@@ -10,7 +10,7 @@ use Rattle.session_requests.proofs.requests.options_of.Reads as options
 use Rattle.session_requests.proofs.requests.request_type.Reads as request-type-reads
 
 options-of-requires : tie.Need-options-of-requires
-options-of-requires c κs = search needs
+options-of-requires c κs = tt
 
 slice-aggregate-request-type : tie.Need-slice-aggregate-request-type
 slice-aggregate-request-type c = search needs
@@ -19,13 +19,13 @@ request-type-requires : tie.Need-request-type-requires
 request-type-requires c κs = cases.listing-asks _ (c .before .before .before .before .options-of .ensures)
 
 same-length : tie.Need-same-length
-same-length c = search needs
+same-length c = c .before .before .before .before .before .before .before .request-type .kept .1 .1 .0
 
 same-length-2 : tie.Need-same-length-2
-same-length-2 c = search needs
+same-length-2 c = c .before .before .before .before .before .before .before .request-type .kept .1 .1 .1 .0
 
 same-length-3 : tie.Need-same-length-3
-same-length-3 c = search needs
+same-length-3 c = c .before .before .before .before .before .before .before .request-type .kept .1 .1 .1 .1 .0
 
 returns : tie.Need-returns
 returns c = cases.causes-type _ _ _ _ _ _ _ _ _ (c .before .before .before .before .before .before .before .before .before .before .before .before .options-of .ensures) _ _ (c .before .before .before .before .before .before .before .request-type .ensures)

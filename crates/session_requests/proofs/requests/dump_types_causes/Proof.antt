@@ -10,7 +10,7 @@ use Rattle.session_requests.proofs.requests.options_of.Reads as options
 use Rattle.session_requests.proofs.requests.request_types.Reads as request-types-reads
 
 options-of-requires : tie.Need-options-of-requires
-options-of-requires c κs = search needs
+options-of-requires c κs = tt
 
 slice-aggregate-request-types : tie.Need-slice-aggregate-request-types
 slice-aggregate-request-types c = search needs
@@ -19,13 +19,13 @@ request-types-requires : tie.Need-request-types-requires
 request-types-requires c κs = cases.listing-asks _ (c .before .before .before .before .options-of .ensures)
 
 same-length : tie.Need-same-length
-same-length c = search needs
+same-length c = c .before .before .before .before .before .before .before .request-types .kept .1 .1 .0
 
 same-length-2 : tie.Need-same-length-2
-same-length-2 c = search needs
+same-length-2 c = c .before .before .before .before .before .before .before .request-types .kept .1 .1 .1 .0
 
 same-length-3 : tie.Need-same-length-3
-same-length-3 c = search needs
+same-length-3 c = c .before .before .before .before .before .before .before .request-types .kept .1 .1 .1 .1 .0
 
 returns : tie.Need-returns
 returns c = cases.causes-types _ _ _ _ _ _ _ _ _ (c .before .before .before .before .before .before .before .before .before .before .before .before .options-of .ensures) _ (c .before .before .before .before .before .before .before .request-types .ensures)

@@ -13,16 +13,16 @@ use Rattle.session_requests.proofs.requests.clear_after.Reads as clear-
 use Rattle.session_requests.proofs.requests.dump_ids.Reads as dump-ids-reads
 
 turn-of-requires : tie.Need-turn-of-requires
-turn-of-requires c κs = search needs
+turn-of-requires c κs = tt
 
 returns : tie.Need-returns
 returns c = lists.list-empty _ _ _ _ _ _ _ (c .before .if1 .taken) _ (c .turn-of .ensures)
 
 is-current-requires : tie.Need-is-current-requires
-is-current-requires c κs = search needs
+is-current-requires c κs = tt
 
 turn-of-requires-2 : tie.Need-turn-of-requires-2
-turn-of-requires-2 c κs = search needs
+turn-of-requires-2 c κs = tt
 
 returns-2 : tie.Need-returns-2
 returns-2 c = lists.list-11 _ _ _ _ _ _ _ _ (c .before .before .is-current .ensures) (c .before .before .before .if1 .left) (c .before .if2 .taken) _ (c .turn-of2 .ensures)
@@ -31,22 +31,22 @@ dump-ids-requires : tie.Need-dump-ids-requires
 dump-ids-requires c κs = (sym (c .before .before .before .before .before .is-current .ensures) ∙ tests.not-false _ (c .before .before .before .before .if2 .left), c .before .before .before .before .before .before .before .before .before .before .before .before .before .pre .0, c .before .before .before .before .before .before .before .before .before .before .before .before .before .pre .1)
 
 settle-list-requires : tie.Need-settle-list-requires
-settle-list-requires c κs = search needs
+settle-list-requires c κs = tt
 
 clear-after-requires : tie.Need-clear-after-requires
 clear-after-requires c κs = search needs
 
 same-length : tie.Need-same-length
-same-length c = search needs
+same-length c = c .before .before .before .before .before .before .before .before .settle-list .kept .1 .0 ∙ c .before .before .before .before .before .before .before .before .before .before .before .before .before .before .before .before .before .before .before .dump-ids .kept .1 .1 .0
 
 same-length-2 : tie.Need-same-length-2
-same-length-2 c = search needs
+same-length-2 c = c .before .before .before .before .before .before .before .before .settle-list .kept .1 .1 .0 ∙ c .before .before .before .before .before .before .before .before .before .before .before .before .before .before .before .before .before .before .before .dump-ids .kept .1 .1 .1 .0
 
 same-length-3 : tie.Need-same-length-3
-same-length-3 c = search needs
+same-length-3 c = c .before .before .clear-after .kept .0 ∙ c .before .before .before .before .before .before .before .before .before .before .before .before .before .before .before .before .before .before .before .dump-ids .kept .1 .1 .1 .1 .0
 
 same-length-4 : tie.Need-same-length-4
-same-length-4 c = search needs
+same-length-4 c = c .before .before .before .before .before .before .before .before .before .before .before .before .before .before .before .before .before .before .before .dump-ids .kept .1 .1 .1 .1 .1 .0
 
 returns-3 : tie.Need-returns-3
 returns-3 c = lists.list-ends _ _ _ _ _ _ _ _ _ _ _ _ _ _ _ (c .before .before .before .before .before .before .before .before .settle-list .ensures) (c .before .before .clear-after .ensures) (c .before .before .before .before .before .before .before .before .before .before .before .before .before .before .before .before .before .before .before .dump-ids .ensures .0)
