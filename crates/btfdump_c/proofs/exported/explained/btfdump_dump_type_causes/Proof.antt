@@ -33,7 +33,7 @@ same-length-4 : tie.Need-same-length-4
 same-length-4 c = search needs
 
 returns-2 : tie.Need-returns-2
-returns-2 c = laws.type-is _ _ _ _ _ (c .before .before .before .before .before .before .before .before .before .before .before .before .before .before .before .before .if1 .left) _ (c .before .before .before .before .before .before .before .before .before .before .before .before .before .before .decode .ensures) _ _ _ _ _ _ _ (c .before .before .before .before .before .before .before .before .before .before .dump-type-causes .ensures .0) (c .before .before .answered .ensures)
+returns-2 c = laws.type-is _ _ _ _ _ (c .before .before .before .before .before .before .before .before .before .before .before .before .before .before .before .before .if1 .left) _ (c .before .before .before .before .before .before .before .before .before .before .before .before .before .before .decode .ensures) _ _ _ _ _ _ _ (c .before .before .before .before .before .before .before .before .before .before .dump-type-causes .ensures) (c .before .before .answered .ensures)
 
 pub btfdump-dump-type-causes-spec : {M : Type 1} → statement M
 btfdump-dump-type-causes-spec =
