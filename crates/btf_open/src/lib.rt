@@ -1,3 +1,3 @@
 // Opening: the nine causes in their order, and then the work.
-pub mod causes;
+mod causes;
 pub mod opening;
