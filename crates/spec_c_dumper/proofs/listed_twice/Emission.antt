@@ -269,7 +269,7 @@ module _ {U : Type 0} (L : Lines U) (T : Table) where
   skip b t x m l _ _ (both_wrote {s = s'} {t = t'} h q) = subst (λ (k : Out (Ls U)). Alike (Fin b t) k (wrote t')) (sym (emit_no 511 s' x (sym (at_mark s' t' h x) ∙ q.1 x m l))) (both_wrote h q)
   skip b t x m l _ _ both_stuck = both_stuck
 
-  pub dup_emit : {a b : List ℕ} (n : ℕ) → Dup n a b → (s t : Ls U) → bare s ≡ bare t → length t.emits ≡ n → ((y : ℕ) → eget t y ≡ busy → ⊥) → ((x : ℕ) → Memᴰ x b → is_def (T.node x) ≡ true) → Alike (Fin b t) (eeach top a s) (eeach top b t)
+  pub dup_emit : (n : ℕ) {a b : List ℕ} → Dup n a b → (s t : Ls U) → bare s ≡ bare t → length t.emits ≡ n → ((y : ℕ) → eget t y ≡ busy → ⊥) → ((x : ℕ) → Memᴰ x b → is_def (T.node x) ≡ true) → Alike (Fin b t) (eeach top a s) (eeach top b t)
   unfolding eeach
   dup_emit n dnil s t h z nb f = both_wrote h (stay_refl t, λ x m. absurd (Memᴰ.not-nil m))
   dup_emit n (dboth {a = a} {b = b} x i) s t h z nb f =

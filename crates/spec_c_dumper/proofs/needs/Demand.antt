@@ -42,6 +42,7 @@ sorted_split T (snoc {l = l} {x = x} h f) l₁ l₂ c e nc = go (λ k q. sorted_
     go r (inr q) = r q.0 q.1
 
 mem_split : (c : ℕ) (l : List ℕ) → Memᴰ c l → (l₁ : List ℕ) × (l₂ : List ℕ) × (l ≡ l₁ ++ (c ∷ l₂))
+mem_split c [] m = elim m [ ]
 mem_split c (x ∷ l) (Memᴰ.head e) = ([], l, ap (λ (k : ℕ). k ∷ l) (sym e))
 mem_split c (x ∷ l) (Memᴰ.tail m) = let q = mem_split c l m in (x ∷ q.0, q.1, ap {B = List ℕ} (λ k. x ∷ k) q.2)
 
@@ -53,6 +54,7 @@ and_true false b e = absurd (true≢false (sym e))
 
 defs_mem : (T : Table) (x : ℕ) (l : List ℕ) → Memᴰ x l → NamedComp T x → Memᴰ x (defs T l)
 unfolding defs
+defs_mem T x [] m nc = elim m [ ]
 defs_mem T x (y ∷ l) (Memᴰ.head e) nc = let h : NamedComp T y = subst (NamedComp T) e nc in rw (h.0, h.1) (Memᴰ.head e)
 defs_mem T x (y ∷ l) (Memᴰ.tail m) nc = go (defs_mem T x l m nc) (is_comp (T.node y) && T.named y)
   where
