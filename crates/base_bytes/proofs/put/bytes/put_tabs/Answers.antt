@@ -10,7 +10,7 @@ pub loop-k-init : goal.loop-k-init
 loop-k-init c = (put_empty _ _, omega arith, refl)
 
 pub loop-k-preserved : goal.loop-k-preserved
-loop-k-preserved c = (tab_more _ _ c.loop-k.k _ _ _ _ c.loop-k.invariant.0 c.put_byte-p.ensures, omega arith, c.put_byte-p.auto.0 ∙ c.loop-k.invariant.2)
+loop-k-preserved c = (tab_more _ _ c.loop-k.k _ _ _ _ c.loop-k.invariant.0 c.put_byte-p.ensures, omega arith, c.put_byte-p.auto.text ∙ c.loop-k.invariant.2)
 
 pub returns : goal.returns
 returns c = put_same _ _ _ _ _ _ (tabs_all _ _ c.loop-k.k c.tabs-n.ensures (omega arith)) c.loop-k.invariant.0
