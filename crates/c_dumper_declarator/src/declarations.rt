@@ -36,7 +36,7 @@ use c_dumper_name_versions::names::{Name, bare, emit_name};
 use spec_type_table::{BtfType, Entries, TypeTable};
 
 // What is declared: the type that the chain starts from, the declared name, and the level of indentation.
-#[derive(Drop)]
+#[derive(Clone, Copy)]
 pub struct Declarator {
     pub id: u32,
     pub name: Name,
@@ -44,7 +44,7 @@ pub struct Declarator {
 }
 
 // A chain that is being printed: the place in the text, the entries left, and whether the declared name stands already.
-#[derive(Drop)]
+#[derive(Clone, Copy)]
 struct Chain {
     at: usize,
     n: u32,

@@ -16,13 +16,13 @@ use btf_type_table::kind::{is_struct, vlen_of};
 use spec_type_table::{BtfMember, BtfType, TypeTable};
 
 // What the members reach, a struct's last end or a union's largest member, and whether all of them fit.
-#[derive(Drop)]
+#[derive(Clone, Copy)]
 pub struct Extent {
     pub last: u32,
     pub fits: bool,
 }
 
-#[derive(Drop)]
+#[derive(Clone, Copy)]
 pub enum Extents {
     Got(Extent),
     No(u32),

@@ -25,7 +25,7 @@ use c_dumper_name_versions::tags::{WHOLE_TYPE, emit_decl_tags};
 use spec_type_table::{BtfMember, BtfType, TypeTable};
 
 // Where a member ended: the place in the text, and the bit where the next may begin.
-#[derive(Drop)]
+#[derive(Clone, Copy)]
 pub struct Spot {
     pub at: usize,
     pub offset: u32,

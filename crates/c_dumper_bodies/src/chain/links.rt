@@ -38,7 +38,7 @@ fn next_of(b: TypeTable, section: &[u8], t: BtfType) -> u32
 }
 
 // The base that a chain ends with, its record, and how many entries lead there.
-#[derive(Drop)]
+#[derive(Clone, Copy)]
 pub struct Base {
     pub id: u32,
     pub t: BtfType,
@@ -46,7 +46,7 @@ pub struct Base {
 }
 
 // What the walk of a chain comes to: its base, or why there is none.
-#[derive(Drop)]
+#[derive(Clone, Copy)]
 pub enum Walked {
     Got(Base),
     No(u32),

@@ -20,7 +20,7 @@ use btf_type_table::name::{is_empty, put_str};
 use spec_type_table::TypeTable;
 
 // A name by its offset in the string area, and which of its holders prints it.
-#[derive(Drop)]
+#[derive(Clone, Copy)]
 pub struct Name {
     pub off: u32,
     pub version: u32,
