@@ -1,1 +1,3 @@
+#![tactic(auto)]
+
 // examples

@@ -17,7 +17,7 @@ use Rattle.spec_c_dumper.specs.rules.Names.{Space, tag_space, ident_space, Namin
 use Rattle.spec_c_dumper.specs.rules.Decl.{deeper, sep_name, enum_value, enum64_value, Entry, base, star, qual, array, proto, tag, chain_of, no_mods, is_array, no_params, shown_params, emit_composite_fwd, emit_fwd_def, enum_word, emit_values, enum_body, emit_enum_def, emit_name, parens, emit_param, emit_params, base_word, emit_array, emit_proto, param_list, chain_loop, emit_members, composite_head, composite_end, composite_body, composite_def, emit_type_decl, emit_type_chain, emit_composite_def, emit_typedef_def}
 use Rattle.spec_c_dumper.specs.rules.Emit.{definition, shown, forward}
 use Rattle.spec_c_dumper.proofs.rules.Closed.{TypeFits}
-use Rattle.proof_two_headers.specs.Steps.{Steps, end, takes_type, takes_value, ◌⨟◌, print, refuse, asking, type_name, value_name, composite_fwd_steps, fwd_def_steps, enum_word_steps, values_steps, enum_body_steps, enum_def_steps, name_steps, parens_steps, param_steps, params_steps, base_word_steps, array_steps, proto_steps, param_list_steps, chain_loop_steps, members_steps, composite_head_steps, composite_end_steps, composite_body_steps, composite_def_steps, type_decl_steps, type_chain_steps, whole_composite_steps, typedef_def_steps, definition_steps, shown_steps, forward_steps}
+use Rattle.proof_two_headers.specs.Steps.{Steps, takes_type, takes_value, ◌⨟◌, print, refuse, asking, type_name, value_name, composite_fwd_steps, fwd_def_steps, enum_word_steps, values_steps, enum_body_steps, enum_def_steps, name_steps, parens_steps, param_steps, params_steps, base_word_steps, array_steps, proto_steps, param_list_steps, chain_loop_steps, members_steps, composite_head_steps, composite_end_steps, composite_body_steps, composite_def_steps, type_decl_steps, type_chain_steps, whole_composite_steps, typedef_def_steps, definition_steps, shown_steps, forward_steps}
 
 abbrev pub AnyValue : ℕ → ℕ → Name → Type 0
 AnyValue id i name = Unit {0}

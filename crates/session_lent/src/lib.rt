@@ -1,5 +1,7 @@
 // The premise `Bytes s` of the claims holds of every section that the code is lent: what the language says of a slice of bytes. No call
 // needs these functions; the contract of `lent_bytes` is the statement.
+#![tactic(auto)]
+
 ghost use Rattle.std.specs.Prelude.{◌≡◌, length};
 ghost use Rattle.spec_linux_btf.specs.Reading.{Bytes};
 

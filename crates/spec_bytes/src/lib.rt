@@ -1,3 +1,4 @@
 // Words in bytes, text, decimal and signed numbers: definitions and laws.
 #![tactic(auto)]
+
 pub mod words;

@@ -53,7 +53,7 @@ rotate d (on {z = w} s m r) = (w, (s, m), reach_snoc r d)
 
 -- no way comes back
 pub ends_once : {T : Table} {x : ℕ} → Ends T x → (z : ℕ) → Down T z x → Reach T z x → ⊥
-ends_once (Acc.intro x h) z d r = let q = rotate d r in ends_once (h z d) q.0 q.1 q.2
+ends_once {T} e = elim e as (λ x e. (z : ℕ) → Down T z x → Reach T z x → ⊥) [ Acc.intro x (h → ih) ↦ λ z d r. let q : (w : ℕ) × Down T w z × Reach T w z = rotate d r in ih z d q.0 q.1 q.2 ]
 
 module _ (T : Table) where
   pub reach_stop : (x y : ℕ) → stops T x ≡ true → Reach T x y → x ≡ y

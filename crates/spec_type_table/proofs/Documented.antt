@@ -18,7 +18,6 @@ use Rattle.spec_linux_btf.specs.Section.{is_big_endian, word_of, types_at, type_
 use Rattle.spec_linux_btf.proofs.Types.{and_left, and_right}
 use Rattle.spec_linux_btf.proofs.Fields as F
 use Rattle.spec_linux_btf.proofs.Claims as Claims
-use Rattle.spec_c_dumper.specs.rules.Types as R
 use Rattle.spec_c_dumper.specs.rules.Types.{Array, Composite, Enum, Enum64, Fwd, FuncProto, DeclTag, TypeTag}
 use Rattle.spec_type_table.specs.declared.types.TypeTable.{TypeTable}
 use Rattle.spec_type_table.specs.declared.types.BtfType.{BtfType as Record}

@@ -1,5 +1,5 @@
 -- The type table that a section and the work spell, as the rules see it.
-use Rattle.std.specs.Prelude.{ℕ, zero, suc, ◌+◌, ◌-◌, ◌*◌, ◌%◌, true, false, ◌&&◌, List, [], ◌∷◌, get_or, ltb, leb, eqb}
+use Rattle.std.specs.Prelude.{ℕ, zero, suc, ◌+◌, ◌*◌, ◌%◌, true, false, ◌&&◌, List, [], ◌∷◌, get_or, ltb, leb, eqb}
 use Rattle.spec_c_dumper.specs.rules.Types.{Name, Member, Param, Enumerator, volatile, const, restrict, BtfType, Void, Int, Ptr, Array}
 use Rattle.spec_c_dumper.specs.rules.Types.{Composite, Enum, Enum64, Fwd, Typedef, Mod, Func, Var, Datasec, FuncProto, Float, DeclTag}
 use Rattle.spec_c_dumper.specs.rules.Types.{TypeTag, Btf as Rules}

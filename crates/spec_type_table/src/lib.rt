@@ -1,6 +1,7 @@
 // A type table read from the bytes of its section: header, records, names. Structs, definitions and laws; the code stands in
 // `cells`, `kinds`, `sections`, `entries` and `btf_type_table::node`.
 #![tactic(auto)]
+
 mod node;
 mod types;
 

@@ -27,7 +27,7 @@ use Rattle.spec_c_dumper.proofs.needs.Lists.{Sized}
 use Rattle.spec_c_dumper.proofs.needs.Session.{machine_lawful}
 use Rattle.spec_c_dumper.proofs.needs.Alike.{AlikeMachine, BothOut, both_wrote, both_stuck, BothSess, BothAnswer, single_alike, every_alike}
 use Rattle.spec_c_dumper.proofs.needs.AnyNames.{Nearly}
-use Rattle.spec_c_dumper.specs.alignment_once.Once.{Remembered, unknown, known, Keep, Lawful, Once, found, refused, align_once, Tells, members_to}
+use Rattle.spec_c_dumper.specs.alignment_once.Once.{Remembered, unknown, Keep, Lawful, Once, found, refused, align_once, Tells, members_to}
 use Rattle.spec_c_dumper.specs.alignment_once.Steps.{padding_once, body_once}
 use Rattle.spec_c_dumper.specs.alignment_once.Writers.{Asks, answered, given_once, definition_once, forward_once, machine_once, answer_once, after_once, dumped_once, Minded, minded, carried, minded_asks, no_visits}
 use Rattle.spec_c_dumper.proofs.alignment_once.Right.{known_unknown}

@@ -4,14 +4,14 @@ use Prim.Native.Nat.{ℕ, zero, suc, ◌+◌, ◌-◌, ◌<◌, ◌≤◌}
 use mathlib.Core.Path.{◌≡◌, refl, ap, ◌∙◌, sym, subst}
 use mathlib.Core.Bool.{Bool, true, false, not, ◌&&◌, ◌||◌}
 use mathlib.Core.List.{List, [], ◌∷◌}
-use mathlib.Core.Logic.{◌⊎◌, ⊎_elim}
+use mathlib.Core.Logic.{⊎_elim}
 use native.Mathlib.Omega.{arith}
 use lib.Dec.{ltb, leb}
 use borrow.Author.Tests.{lt-ltb, le-ltb, le-leb, lt-leb}
 use Rattle.spec_bytes.proofs.words.Laws.{le_or_lt}
 use Rattle.spec_c_dumper.specs.rules.Order.{Node, ignored, plain, listed, through, ptr, tdef, proto, comp, Table, is_comp, Mark, new, busy, done, is_done, Store, Res, ok, refused, bind, each, meet, finish, enter, alias, fresh, visit, order}
 use Rattle.spec_c_dumper.specs.rules.Machine.{Machine, Sess, Answer, shut, ordered, gate, single, onward, from, every}
-use Rattle.spec_c_dumper.specs.ceiling.Ceiling.{Told, told, halted, then_bind, each_within, meet_within, enter_within, alias_within, fresh_within, visit_within, Limit, most, allows, one_call, order_within, onwards, calls_each, calls_enter, calls_fresh, calls_visit, calls, Counted, ordered_within, gate_within, single_within, onward_within, list_plain, list_within, from_within, every_within}
+use Rattle.spec_c_dumper.specs.ceiling.Ceiling.{Told, told, halted, then_bind, each_within, meet_within, enter_within, alias_within, fresh_within, visit_within, most, allows, one_call, order_within, onwards, calls_each, calls_enter, calls_fresh, calls_visit, calls, Counted, ordered_within, gate_within, single_within, onward_within, list_plain, list_within, from_within, every_within}
 
 -- ---- what the plain rule gives, with a count; and under the ceiling c
 unfoldable pub tell : {St : Type 0} → Res St → ℕ → Told St

@@ -4,7 +4,7 @@ use mathlib.Core.Path.{◌≡◌, refl, ap, ◌∙◌}
 use mathlib.Core.Bool.{Bool, true, false, not, ◌&&◌, ◌||◌}
 use mathlib.Core.List.{List, [], ◌∷◌}
 use Rattle.spec_c_dumper.specs.rules.Order.{Node, ignored, plain, listed, through, ptr, tdef, proto, comp, Table, is_comp, Mark, new, busy, done, is_done, Store, Res, ok, refused, bind, each, meet, finish, enter, alias, fresh, visit, order}
-use Rattle.spec_c_dumper.specs.ceiling.Ceiling.{Told, told, halted, then_bind, each_within, meet_within, enter_within, alias_within, fresh_within, visit_within, unbounded, allows, one_call, order_within}
+use Rattle.spec_c_dumper.specs.ceiling.Ceiling.{Told, told, then_bind, each_within, meet_within, enter_within, alias_within, fresh_within, visit_within, unbounded, allows, one_call, order_within}
 use Rattle.spec_c_dumper.proofs.ceiling.Counted.{tell}
 
 module _ {St : Type 0} where

@@ -1,6 +1,6 @@
 -- The pieces of every session are what specs/Bodies says. Assumes nothing.
 use Prim.Native.Nat.{ℕ, ◌+◌}
-use mathlib.Core.Path.{◌≡◌, refl, ap, ◌∙◌, sym, subst}
+use mathlib.Core.Path.{◌≡◌, refl, ap, ◌∙◌, sym}
 use mathlib.Core.Bool.{Bool, true, false, true≢false}
 use mathlib.Core.List.{List, [], ◌∷◌, ◌++◌, append_assoc}
 use native.Mathlib.Omega.{arith}
@@ -19,7 +19,7 @@ use Rattle.spec_c_dumper.specs.rules.Decl.{sep_name, keyword, composite_head, co
 use Rattle.spec_c_dumper.specs.rules.Emit.{definition, forward}
 use Rattle.spec_c_dumper.specs.needs.Lists.{Piece, defines, other, cannot, Ls, put_line, afresh}
 use Rattle.spec_c_dumper.specs.needs.Session.{Known, fitting, line_of, machine_by, opened_by}
-use Rattle.spec_c_dumper.specs.needs.Bodies.{is_leaf, Prints, Opens, Body, Line, once, leaf, PieceIs, PiecesAre}
+use Rattle.spec_c_dumper.specs.needs.Bodies.{Prints, Opens, Body, once, leaf, PieceIs, PiecesAre}
 use Rattle.spec_c_dumper.proofs.needs.Keeping.{Leaves, leaves, stops, Steps, run_kept}
 
 -- ---- how a body opens

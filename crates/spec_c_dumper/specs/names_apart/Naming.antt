@@ -1,7 +1,7 @@
 -- "A naming mode in which a suffix that yields a name in the table's same space, or one printed before in it, is passed over and the next
 -- number taken." The writers of rules/specs are over any way of keeping names; this is one more, beside that of the Rust
 -- (crates/spec_c_dumper/specs/rules/Names: naming).
-use Rattle.std.specs.Prelude.{ℕ, zero, suc, ◌+◌, Bool, true, false, List, [], ◌∷◌, ◌++◌, length, get_or, set, eqb}
+use Rattle.std.specs.Prelude.{ℕ, zero, suc, Bool, true, false, List, [], ◌∷◌, ◌++◌, length, get_or, set, eqb}
 use Rattle.spec_bytes.specs.words.Words.{one_more}
 use Rattle.spec_c_dumper.specs.rules.Machine.{Sess, Req, run}
 use Rattle.spec_c_dumper.specs.rules.Types.{Name, Enumerator, BtfType, Void, Int, Ptr, Array, Composite, Enum, Enum64, Fwd, Typedef}

@@ -1,7 +1,7 @@
 -- Why each line is there: the rules of ordering and emission as they stand in `spec_c_dumper::rules`, over a store that notes what led to
 -- each listed id
 -- and a machine that notes an entry for each line.
-use Rattle.std.specs.Prelude.{ℕ, zero, suc, ◌+◌, ◌*◌, ◌-◌, ◌/◌, ◌%◌, Bool, true, false, not, List, [], ◌∷◌, ◌++◌, length, replicate, ltb, eqb}
+use Rattle.std.specs.Prelude.{ℕ, zero, suc, ◌*◌, ◌-◌, ◌/◌, ◌%◌, Bool, true, false, not, List, [], ◌∷◌, ◌++◌, length, replicate, ltb, eqb}
 use Rattle.spec_c_dumper.specs.rules.Order.{Node, ignored, plain, listed, through, ptr, tdef, proto, comp, Table, Store, Res, ok}
 use Rattle.spec_c_dumper.specs.rules.Order.{refused, visit}
 use Rattle.spec_c_dumper.specs.rules.Machine.{Out, wrote, stuck, Machine, eeach, look, Sess, Answer, shut}

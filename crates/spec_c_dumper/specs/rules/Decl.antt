@@ -1,5 +1,5 @@
 -- Declarations and definitions of c_dumper.rs: the text of a line, with the names that it takes.
-use Rattle.std.specs.Prelude.{ℕ, zero, suc, ◌+◌, ◌-◌, Bool, true, false, not, ◌&&◌, List, [], ◌∷◌, ◌++◌, length, ltb, eqb}
+use Rattle.std.specs.Prelude.{ℕ, zero, suc, ◌+◌, Bool, true, false, not, ◌&&◌, List, [], ◌∷◌, ◌++◌, length, ltb, eqb}
 use Rattle.spec_bytes.specs.text.Text.{ascii, pfx}
 use Rattle.spec_bytes.specs.text.Decimal.{decimal}
 use Rattle.spec_bytes.specs.signed.Signed.{twos, signed, signed_ll}
