@@ -5,7 +5,7 @@ set -euo pipefail
 cd "$(dirname "$0")/.."
 copy=$(mktemp -d)
 trap 'rm -rf "$copy"' EXIT
-cp -a crates crates.txt target "$copy"
+cp -a crates crates.txt "$copy"
 rm -rf "$copy"/crates/*/must-fail
 crates=("$@")
 [ $# -gt 0 ] || crates=($(ls tests/edits))
