@@ -15,7 +15,7 @@ use spec_type_table::{BtfType, TypeTable};
 
 // Whether a kind leads on in a chain; any other is a base.
 fn is_link(kind: u32) -> bool
-    ensures { result ≡ chains.isLink kind }
+    ensures { result ≡ chains.is_link kind }
 {
     match kind {
         kind::PTR
@@ -96,7 +96,7 @@ pub fn kind_on_top(b: TypeTable, section: &[u8], work: &[u8], start: u32, n: u32
 }
 
 pub fn is_qualifier(kind: u32) -> bool
-    ensures { result ≡ chains.isQualifier kind }
+    ensures { result ≡ chains.is_qualifier kind }
 {
     match kind {
         kind::VOLATILE..=kind::RESTRICT => true,
