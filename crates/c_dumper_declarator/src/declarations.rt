@@ -13,7 +13,8 @@ ghost use Rattle.spec_type_table.specs.Records.{kind_of, record_by_id};
 ghost use Rattle.spec_type_table.specs.Table.{from, param_of, params_of, members_of, record_name, type_of, btf_of, work_naming};
 ghost use Rattle.c_dumper_name_versions.specs.names.Spelling.{name_text};
 ghost use Rattle.c_dumper_bodies.specs.chain.Chains.{chain_at, only_links};
-ghost use Rattle.c_dumper_bodies.specs.bodies.Pieces.{entry_left, entry_star, entry_named, word_below, params_below, array_below, proto_below};
+ghost use Rattle.c_dumper_bodies.specs.bodies.Pieces.{entry_left, entry_star, entry_named, word_below, params_below, array_below};
+ghost use Rattle.c_dumper_bodies.specs.bodies.Pieces.{proto_below};
 ghost use Rattle.c_dumper_bodies.specs.bodies.Pieces.{param_list_below, entry_text, chain_rest, param_text};
 
 pub use crate::declarations::members::emit_composite_def;
