@@ -12,19 +12,19 @@ use borrow.Fn.Kinds.{In}
 use borrow.Fn.PlainCycle.{Measures, is, falls, and}
 use Rattle.c_dumper_dependency_order.proofs.order_type.order_composite.Reads as order-composite
 use Rattle.c_dumper_dependency_order.proofs.order_type.order_composite.Kinds as order-composite-kinds
-use Rattle.c_dumper_dependency_order.proofs.order_type.+order_composite_order_members_order_new_order_params_order_type.Lts-order_composite as order-composite-lts
+use Rattle.c_dumper_dependency_order.proofs.order_type.+order_type.Lts-order_composite as order-composite-lts
 use Rattle.c_dumper_dependency_order.proofs.order_type.order_type.Reads as order-type
 use Rattle.c_dumper_dependency_order.proofs.order_type.order_type.Kinds as order-type-kinds
-use Rattle.c_dumper_dependency_order.proofs.order_type.+order_composite_order_members_order_new_order_params_order_type.Lts-order_type as order-type-lts
+use Rattle.c_dumper_dependency_order.proofs.order_type.+order_type.Lts-order_type as order-type-lts
 use Rattle.c_dumper_dependency_order.proofs.order_type.order_members.Reads as order-members
 use Rattle.c_dumper_dependency_order.proofs.order_type.order_members.Kinds as order-members-kinds
-use Rattle.c_dumper_dependency_order.proofs.order_type.+order_composite_order_members_order_new_order_params_order_type.Lts-order_members as order-members-lts
+use Rattle.c_dumper_dependency_order.proofs.order_type.+order_type.Lts-order_members as order-members-lts
 use Rattle.c_dumper_dependency_order.proofs.order_type.order_new.Reads as order-new
 use Rattle.c_dumper_dependency_order.proofs.order_type.order_new.Kinds as order-new-kinds
-use Rattle.c_dumper_dependency_order.proofs.order_type.+order_composite_order_members_order_new_order_params_order_type.Lts-order_new as order-new-lts
+use Rattle.c_dumper_dependency_order.proofs.order_type.+order_type.Lts-order_new as order-new-lts
 use Rattle.c_dumper_dependency_order.proofs.order_type.order_params.Reads as order-params
 use Rattle.c_dumper_dependency_order.proofs.order_type.order_params.Kinds as order-params-kinds
-use Rattle.c_dumper_dependency_order.proofs.order_type.+order_composite_order_members_order_new_order_params_order_type.Lts-order_params as order-params-lts
+use Rattle.c_dumper_dependency_order.proofs.order_type.+order_type.Lts-order_params as order-params-lts
 use Rattle.btf_type_table.proofs.node.node_of.Reads as node-of-reads
 use Rattle.btf_type_table.proofs.kind.member_place.Reads as member-place-reads
 use Rattle.btf_type_table.proofs.kind.param_place.Reads as param-place-reads
@@ -43,10 +43,10 @@ use Rattle.c_dumper_dependency_order.proofs.order_state.strong.Reads as strong-r
 use Rattle.c_dumper_dependency_order.proofs.ways.is_passed.Reads as is-passed-reads
 use Rattle.c_dumper_dependency_order.proofs.ways.is_weak_past.Reads as is-weak-past-reads
 use Rattle.btf_type_table.proofs.name.is_named.Reads as is-named-reads
-use Rattle.c_dumper_dependency_order.proofs.order_type.+order_composite_order_members_order_new_order_params_order_type.{
+use Rattle.c_dumper_dependency_order.proofs.order_type.+order_type.{
   statement,
 }
-use Rattle.c_dumper_dependency_order.proofs.order_type.+order_composite_order_members_order_new_order_params_order_type.Tie.{
+use Rattle.c_dumper_dependency_order.proofs.order_type.+order_type.Tie.{
   close,
 }
 

@@ -12,13 +12,13 @@ use borrow.Fn.Kinds.{In}
 use borrow.Fn.PlainCycle.{Measures, is, falls, and}
 use Rattle.btf_layout.proofs.align_of.align_once.Reads as align-once
 use Rattle.btf_layout.proofs.align_of.align_once.Kinds as align-once-kinds
-use Rattle.btf_layout.proofs.align_of.+align_once_get_align_of_members_once.Lts-align_once as align-once-lts
+use Rattle.btf_layout.proofs.align_of.+align_of.Lts-align_once as align-once-lts
 use Rattle.btf_layout.proofs.align_of.get_align_of.Reads as get-align-of
 use Rattle.btf_layout.proofs.align_of.get_align_of.Kinds as get-align-of-kinds
-use Rattle.btf_layout.proofs.align_of.+align_once_get_align_of_members_once.Lts-get_align_of as get-align-of-lts
+use Rattle.btf_layout.proofs.align_of.+align_of.Lts-get_align_of as get-align-of-lts
 use Rattle.btf_layout.proofs.align_of.members_once.Reads as members-once
 use Rattle.btf_layout.proofs.align_of.members_once.Kinds as members-once-kinds
-use Rattle.btf_layout.proofs.align_of.+align_once_get_align_of_members_once.Lts-members_once as members-once-lts
+use Rattle.btf_layout.proofs.align_of.+align_of.Lts-members_once as members-once-lts
 use Rattle.btf_type_table.proofs.kind.member_place.Reads as member-place-reads
 use Rattle.btf_type_table.proofs.node.type_by_id.Reads as type-by-id-reads
 use Rattle.btf_type_table.proofs.section_word.word.Reads as word-reads
@@ -27,8 +27,8 @@ use Rattle.btf_layout.proofs.align_of.seen_word.Reads as seen-word-reads
 use Rattle.btf_layout.proofs.align_of.step_of.Reads as step-of-reads
 use Rattle.btf_layout.proofs.align_of.taken.Reads as taken-reads
 use Rattle.btf_layout.proofs.bounds.larger.Reads as larger-reads
-use Rattle.btf_layout.proofs.align_of.+align_once_get_align_of_members_once.{statement}
-use Rattle.btf_layout.proofs.align_of.+align_once_get_align_of_members_once.Tie.{close}
+use Rattle.btf_layout.proofs.align_of.+align_of.{statement}
+use Rattle.btf_layout.proofs.align_of.+align_of.Tie.{close}
 
 abbrev μ_align_once : Measures 2 align-once-kinds.ps ℕ
 μ_align_once κs a = a.1.1.1.1.0 + a.1.1.1.1.0 + a.1.1.1.1.0
