@@ -47,7 +47,7 @@ module _ (T : Track) where
   unfolding chase
   chase_finds l zero h = absurd (omega arith)
   chase_finds (arrived e p) (suc n) h = rw (e, chase)
-  chase_finds (link e r p) (suc n) h = rw (e, chase, e) (chase_finds r n (omega arith))
+  chase_finds {x = x} (link {j = j} e r p) (suc n) h = rw (e, chase, e) (chase_finds {x = T.next x} {k = j} r n (omega arith))
 
   -- each node of the way has its own count
   along : {x k : ℕ} → Links x k → (i : ℕ) → i ≤ k → Links (iter T i x) (k - i)
