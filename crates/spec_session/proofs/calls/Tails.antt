@@ -259,15 +259,15 @@ module _ (b : TypeTable) (B : Rules) where
   alike : Alike Like (work_machine b B)
   unfolding work_machine sheet_store
   alike = record {
-    get_same = λ m m' x g. elim g [ like w t t' at len h long same ↦ refl ];
-    list_same = λ m m' g. elim g [ like w t t' at len h long same ↦ refl ];
-    mark_both = λ k x m m' g. elim g [ like w t t' at len h long same ↦ like _ t t' at _ h long same ];
-    push_both = λ x m m' g. elim g [ like w t t' at len h long same ↦ like _ t t' at _ h long same ];
-    start_both = λ room m m' g. elim g [ like w t t' at len h long same ↦ like _ t t' at _ h long same ];
-    eget_same = λ m m' x g. elim g [ like w t t' at len h long same ↦ refl ];
-    emark_both = λ k x m m' g. elim g [ like w t t' at len h long same ↦ like _ t t' at _ h long same ];
-    flag_same = λ m m' x g. elim g [ like w t t' at len h long same ↦ refl ];
-    forwarded_both = λ x m m' g. elim g [ like w t t' at len h long same ↦ like _ t t' at _ h long same ];
+    get_same = λ m m' x g. elim g as (λ n n' _. sheet_store.get n x ≡ sheet_store.get n' x) [ like w t t' at len h long same ↦ refl ];
+    list_same = λ m m' g. elim g as (λ n n' _. sheet_store.list n ≡ sheet_store.list n') [ like w t t' at len h long same ↦ refl ];
+    mark_both = λ k x m m' g. elim g as (λ n n' _. Like (sheet_store.mark k x n) (sheet_store.mark k x n')) [ like w t t' at len h long same ↦ like _ t t' at _ h long same ];
+    push_both = λ x m m' g. elim g as (λ n n' _. Like (sheet_store.push x n) (sheet_store.push x n')) [ like w t t' at len h long same ↦ like _ t t' at _ h long same ];
+    start_both = λ room m m' g. elim g as (λ n n' _. Like ((work_machine b B).start room n) ((work_machine b B).start room n')) [ like w t t' at len h long same ↦ like _ t t' at _ h long same ];
+    eget_same = λ m m' x g. elim g as (λ n n' _. (work_machine b B).eget n x ≡ (work_machine b B).eget n' x) [ like w t t' at len h long same ↦ refl ];
+    emark_both = λ k x m m' g. elim g as (λ n n' _. Like ((work_machine b B).emark k x n) ((work_machine b B).emark k x n')) [ like w t t' at len h long same ↦ like _ t t' at _ h long same ];
+    flag_same = λ m m' x g. elim g as (λ n n' _. (work_machine b B).has_fwd n x ≡ (work_machine b B).has_fwd n' x) [ like w t t' at len h long same ↦ refl ];
+    forwarded_both = λ x m m' g. elim g as (λ n n' _. Like ((work_machine b B).forwarded x n) ((work_machine b B).forwarded x n')) [ like w t t' at len h long same ↦ like _ t t' at _ h long same ];
     fwd_both = λ m m' x g. both_line _ m m' g;
     alias_both = λ m m' x g. both_line _ m m' g;
     leaf_both = λ m m' x g. both_line _ m m' g;
