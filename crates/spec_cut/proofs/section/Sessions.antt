@@ -284,16 +284,16 @@ module _ (B : Btf) (n : ℕ) (types : ℕ → BtfType) (tags : ℕ → List ℕ)
       → BothAnswer SameState I (single (machine B) (table_of B) room S x) (single (machine B') (table_of B') room S' x')
   request_same S S' h room x x' i = single_same B n types tags I st (machine B) (machine B') SameState machine_same S S' h room x x' i
 
-  dumped_same : (ns ns' : List (ℕ × ℕ)) → ns ≡ ns' → {rs rs' : List Req} → Renumbered I rs rs' → (S S' : Sess (Ls (Known Names))) → BothSessions S S' → dumped naming B ns rs S ≡ dumped naming B' ns' rs' S'
+  dumped_same : {rs rs' : List Req} → Renumbered I rs rs' → (ns ns' : List (ℕ × ℕ)) → ns ≡ ns' → (S S' : Sess (Ls (Known Names))) → BothSessions S S' → dumped naming B ns rs S ≡ dumped naming B' ns' rs' S'
   unfolding dumped answer_to
-  dumped_same ns ns' e no_requests S S' h = ap₂ dump e (pieces_text h.alike.pieces_same)
-  dumped_same ns ns' e (request room x x' i r) S S' h =
+  dumped_same no_requests ns ns' e S S' h = ap₂ dump e (pieces_text h.alike.pieces_same)
+  dumped_same (request room x x' i r) ns ns' e S S' h =
       let a = request_same S S' h room x x' i in
-      dumped_same _ _
+      dumped_same r _ _
       (ap₂ (λ (l : List (ℕ × ℕ)) (p : ℕ × ℕ). l ++ (p ∷ [])) e (λ k. (a.same_number k, a.sessions.alike.known_same.len_same k)))
-      r _ _ a.sessions
+      _ _ a.sessions
 
   -- "the new section gives for the renumbered requests the same text and refusals as the old": the numbers, the text's length after each request, and
   -- the text, for all lists of requests, each lent the same room. By the rules, with the names of the Rust.
   pub same_dump : {rs rs' : List Req} → Renumbered I rs rs' → dump_types B rs ≡ dump_types B' rs'
-  same_dump r = dumped_same [] [] refl r (opened B) (opened B') opened_same
+  same_dump r = dumped_same r [] [] refl (opened B) (opened B') opened_same

@@ -1,5 +1,0 @@
-pub mod Entry
-pub mod EntryList
-pub mod Lent
-pub mod Numbers
-pub mod Turning
