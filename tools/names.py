@@ -43,7 +43,8 @@ def sources():
     """The text of each file of the repository that is no document."""
     texts = {}
     for top in (".ci", "bench", "crates", "include", "oracle", "tests", "tools"):
-        for folder, _, names in os.walk(os.path.join(ROOT, top)):
+        for folder, folders, names in os.walk(os.path.join(ROOT, top)):
+            folders[:] = [f for f in folders if f != "out"]
             for name in names:
                 if re.search(r"\.(antt|rt|c|h|py|sh|rs|sed|edit)$", name) or top == ".ci":
                     path = os.path.relpath(os.path.join(folder, name), ROOT)
@@ -53,7 +54,7 @@ def sources():
 
 def file_names():
     """The names of all files under crates/, without their endings: modules, and stored sections."""
-    return {name.split(".")[0] for _, _, names in os.walk(os.path.join(ROOT, "crates")) for name in names}
+    return {name.split(".")[0] for folder, _, names in os.walk(os.path.join(ROOT, "crates")) if not MADE.match(os.path.relpath(folder, ROOT) + "/") for name in names}
 
 
 def exists(path, folder):
@@ -131,7 +132,7 @@ def check_comments(texts, bad):
             continue
         for comment in re.findall(r"^\s*(?://+|--|#|\*) (.*)$", text, re.M):
             for name in re.findall(r"(?<![\w/])crates/[\w/.]*\w", comment):
-                if not glob.glob(os.path.join(ROOT, name)) and not glob.glob(os.path.join(ROOT, name + ".*")):
+                if not MADE.match(name) and not glob.glob(os.path.join(ROOT, name)) and not glob.glob(os.path.join(ROOT, name + ".*")):
                     bad.append(f"{path}: no path {name}")
             for crate in re.findall(r"\bcrate `?([a-z_0-9]+)`?", comment):
                 if crate not in crates and crate not in PLAIN:
