@@ -120,7 +120,7 @@ pad_of ptr_sz gap =
       ]
     ]
 
--- at most as many as the first number says; a pad is a bit at least, so `pads_of gap ptr-sz gap` has them all
+-- at most as many as the first number says; a pad is a bit at least, so `pads_of gap ptr_sz gap` has them all
 unfoldable pub pads_of : ℕ → ℕ → ℕ → List Pad
 pads_of zero ptr_sz gap = []
 pads_of (suc most) ptr_sz gap =

@@ -1,4 +1,4 @@
--- The marked samples of document 01: each beside what the definitions give. That they are equal is `samples-hold` of proofs/Samples.
+-- The marked samples of document 01: each beside what the definitions give. That they are equal is `samples_hold` of proofs/Samples.
 use Rattle.std.specs.Prelude.{ℕ, Bool, true, false, List, [], ◌∷◌, ◌++◌, get_or, set}
 use Prim.Native.String.{String}
 use Rattle.spec_bytes.specs.text.Text.{Text, whole, cut, ascii, bytes}
