@@ -1,6 +1,6 @@
 #!/bin/sh
 # Builds the Rust original, unchanged, and the driver that runs it beside our library.
-#   oracle/build.sh            driver linked with target/staticlib/libbtfdump_c.a
+#   oracle/build.sh            driver linked with crates/btfdump_c/out/libbtfdump_c.a
 #   oracle/build.sh rust       driver of the Rust alone
 #   oracle/build.sh bench      the program of bench/, without overflow checks
 # Needs rustc, cargo and Debian's librust-regex-dev librust-aho-corasick-dev
@@ -11,7 +11,7 @@ cd "$(dirname "$0")/.."
 from=../shared/docs/src/src
 to=build/oracle
 crates=/usr/share/cargo/registry
-archive=target/staticlib/libbtfdump_c.a
+archive=crates/btfdump_c/out/libbtfdump_c.a
 
 test -d "$crates" || { echo "oracle: no $crates; install the librust packages named above" >&2; exit 1; }
 test -d "$from" || { echo "oracle: no $from" >&2; exit 1; }
@@ -50,7 +50,7 @@ test "$n" = 9 || { echo "oracle: $n counters instead of 9 in the counted copy" >
 what="--release -p driver"
 if [ "${1:-}" = bench ]; then what="--profile plain -p bench"; fi
 if [ "${1:-}" != rust ]; then
-	test -f "$archive" || { echo "oracle: no $archive; run: rt staticlib btfdump_c" >&2; exit 1; }
+	test -f "$archive" || { echo "oracle: no $archive; run: (cd crates/btfdump_c && rt lib)" >&2; exit 1; }
 	what="$what --features ours"
 	cmp -s "$archive" "$to/linked.a" || cp "$archive" "$to/linked.a"
 fi

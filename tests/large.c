@@ -2,7 +2,7 @@
  * The longest text, by hand (1.1 GB of memory, some ten seconds): a text of
  * 1,073,741,824 bytes passes in a slice that is longer, one more byte is refused.
  *
- *   gcc -O2 -Iinclude tests/large.c target/staticlib/libbtfdump_c.a -lpthread -o build/tests/large
+ *   gcc -O2 -Iinclude tests/large.c crates/btfdump_c/out/libbtfdump_c.a -lpthread -o build/tests/large
  */
 #define _GNU_SOURCE
 #include "common.h"

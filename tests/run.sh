@@ -4,8 +4,8 @@
 set -euo pipefail
 cd "$(dirname "$0")/.."
 
-library=target/staticlib/libbtfdump_c.a
-[ -f "$library" ] || { echo "run.sh: build $library first: rt staticlib btfdump_c" >&2; exit 1; }
+library=crates/btfdump_c/out/libbtfdump_c.a
+[ -f "$library" ] || { echo "run.sh: build $library first: (cd crates/btfdump_c && rt lib)" >&2; exit 1; }
 out=build/tests
 mkdir -p "$out"
 

@@ -27,7 +27,7 @@ ESCAPES = {"n": "\n", "r": "\r", "t": "\t", "0": "\0"}
 def fixed_words():
     """the words that lines are assembled from, as base_keywords defines them; the longest of them without its signs too"""
     text = open(os.path.join(HERE, "crates/base_keywords/specs/table/Fixed.antt"), encoding="utf-8").read()
-    body, = re.findall(r"^fixedWords =\n(.*?)\n\n", text, re.S | re.M)
+    body, = re.findall(r"^fixed_words =\n(.*?)\n\n", text, re.S | re.M)
     return [w.encode() for w in re.findall(r'ascii "(.*?)"', body)] + [b"__attribute__"]
 
 

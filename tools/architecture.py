@@ -51,11 +51,17 @@ def dependencies():
         line = line.split("#")[0].strip()
         if line:
             name, deps = line.split(":")
-            needs[name.strip()] = deps.split()
+            needs[name.split()[0]] = deps.split()
     return {name: [d for d in deps if d in needs] for name, deps in needs.items()}
 
 
 # ---- the walk ----
+
+def paths_of(use):
+    """The paths that the text of a `use` names: one, or those of its braces."""
+    path, brace, names = "".join(use.split()).partition("{")
+    return [path + n for n in names.rstrip("}").split(",") if n] if brace else [path]
+
 
 class Source:
     """One file of src/: what it imports and which functions it has."""
@@ -65,7 +71,7 @@ class Source:
         self.crate = parts[1]
         self.module = "/".join(parts[3:])[:-len(".rt")]
         text = re.sub(r"//.*", "", read(path))
-        self.uses = {p.split("::")[-1]: p for p in re.findall(r"^(?:pub(?:\(crate\))? )?use ([\w:]+);", text, re.M)}
+        self.uses = {p.split("::")[-1]: p for u in re.findall(r"^(?:pub(?:\(crate\))? )?use ([^;]+);", text, re.M) for p in paths_of(u)}
         self.bodies = {}
         for m in re.finditer(r'^(?:pub(?:\(crate\))? )?(?:extern "C" )?fn (\w+).*?^\{\n(.*?)^\}', text, re.M | re.S):
             self.bodies[m.group(1)] = m.group(2)

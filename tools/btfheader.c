@@ -1,7 +1,7 @@
 /*
  * btfheader: prints the C header of a raw .BTF section.
  *
- *   cc -O2 -Iinclude tools/btfheader.c target/staticlib/libbtfdump_c.a -lpthread -o btfheader
+ *   cc -O2 -Iinclude tools/btfheader.c crates/btfdump_c/out/libbtfdump_c.a -lpthread -o btfheader
  *   ./btfheader /sys/kernel/btf/vmlinux > vmlinux.h
  */
 #include "btfdump.h"

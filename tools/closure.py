@@ -14,7 +14,7 @@ HERE = os.path.dirname(os.path.dirname(os.path.abspath(__file__)))
 STATEMENTS = ["crates/claims/specs/Demand1.antt", "crates/claims/specs/Demands.antt"]
 MOST_FILES = 36
 MOST_LINES = 3600
-USE = re.compile(r"^\s*(?:unfoldable )?(?:pub )?use\s+Rattle·(\w+?)(?:·specs|·proofs)?\.(specs|proofs)\.([\w.]+?)(?:\.\{|\s+as\b|\s*$)")
+USE = re.compile(r"^\s*(?:unfoldable )?(?:pub )?use\s+Rattle\.(\w+?)\.(specs|proofs)\.([\w.]+?)(?:\.\{|\s+as\b|\s*$)")
 
 
 def imports(path):
@@ -25,6 +25,8 @@ def imports(path):
         if not found:
             continue
         crate, kind, module = found.groups()
+        if not os.path.isdir(os.path.join(HERE, "crates", crate)):
+            continue
         if module.startswith("declared"):
             structs.append(f"{crate}: {module}")
         else:

@@ -38,7 +38,7 @@ def by_script(text):
 
 def crates():
     lines = [line.split("#")[0].strip() for line in text_of(os.path.join(ROOT, "crates.txt")).split("\n")]
-    return [line.split(":")[0].strip() for line in lines if line]
+    return [line.split(":")[0].split()[0] for line in lines if line]
 
 
 def sources(part, ending):
@@ -74,7 +74,7 @@ def code_lines(text):
     clause = False
     for n, line in enumerate(text.split("\n"), 1):
         bare = line.split("//")[0]
-        clause = clause or re.match(r"\s*(ensures|requires|invariant|measure) \{", bare) is not None
+        clause = clause or re.match(r"\s*(ensures|requires|invariant|measure)\*?( \w+)? \{", bare) is not None
         if not clause and not re.match(r"\s*((pub )?const |(ghost )?use )", bare):
             yield n, bare
         if clause and bare.rstrip().endswith("}"):

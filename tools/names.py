@@ -20,7 +20,7 @@ import sys
 ROOT = os.path.dirname(os.path.dirname(os.path.abspath(__file__)))
 NOTE_WORDS, CELL_WORDS = 400, 60
 FOLDERS = r"(?:\.ci|bench|crates|docs|include|oracle|tests|tools)"
-MADE = ("target/", "build/")  # folders that the commands make
+MADE = re.compile(r"build/|crates/\w+/out/")  # folders that the commands make
 # files of others: the Rust original, the Linux page, the system
 FOREIGN = {"include/uapi/linux/btf.h", "Documentation/bpf/btf.rst", "btf.h", "btf.rst", "c_dumper.rs", "types.rs", "lib.rs", "src/c_dumper.rs"}
 ENDINGS = r"\.(?:antt|rt|md|py|sh|c|h|cases|svg|txt|btf|sed|edit)"
@@ -43,7 +43,8 @@ def sources():
     """The text of each file of the repository that is no document."""
     texts = {}
     for top in (".ci", "bench", "crates", "include", "oracle", "tests", "tools"):
-        for folder, _, names in os.walk(os.path.join(ROOT, top)):
+        for folder, folders, names in os.walk(os.path.join(ROOT, top)):
+            folders[:] = [f for f in folders if f != "out"]
             for name in names:
                 if re.search(r"\.(antt|rt|c|h|py|sh|rs|sed|edit)$", name) or top == ".ci":
                     path = os.path.relpath(os.path.join(folder, name), ROOT)
@@ -53,11 +54,11 @@ def sources():
 
 def file_names():
     """The names of all files under crates/, without their endings: modules, and stored sections."""
-    return {name.split(".")[0] for _, _, names in os.walk(os.path.join(ROOT, "crates")) for name in names}
+    return {name.split(".")[0] for folder, _, names in os.walk(os.path.join(ROOT, "crates")) if not MADE.match(os.path.relpath(folder, ROOT) + "/") for name in names}
 
 
 def exists(path, folder):
-    if path in FOREIGN or path.startswith(MADE):
+    if path in FOREIGN or MADE.match(path):
         return True
     return any(glob.glob(os.path.join(ROOT, base, path)) for base in ("", folder))
 
@@ -76,7 +77,7 @@ def has_item(crate, module, item, texts):
     """Whether a file of the module, or of the crate where no module is given, has the item or passes it on."""
     place = rf"crates/{crate}/src/" + (rf"{module}(?:/.*)?" if module else ".*") + r"\.rt$"
     inside = [text for path, text in texts.items() if re.match(place, path)]
-    return any(re.search(rf"\b(?:fn|struct|enum|const|mod) {item}\b|^pub use [\w:]*::{item};", text, re.M) for text in inside)
+    return any(re.search(rf"\b(?:fn|struct|enum|const|mod) {item}\b|^pub use [^;]*\b{item}\b[^;]*;", text, re.M) for text in inside)
 
 
 def check_names(doc, text, texts, words, bad):
@@ -98,7 +99,7 @@ def check_names(doc, text, texts, words, bad):
     for quoted in re.findall(r"`([^`\n]+)`", text):
         if re.fullmatch(LAYER, quoted) and quoted not in crates and quoted not in words:
             bad.append(f"{doc}: no crate or name {quoted}")
-        elif re.fullmatch(r"[A-Za-z][\w′-]*(?<!_)", quoted) and quoted not in words and quoted not in crates:
+        elif re.fullmatch(r"[A-Za-z][\w'-]*(?<!_)", quoted) and quoted not in words and quoted not in crates:
             bad.append(f"{doc}: no name {quoted}")
 
 
@@ -131,7 +132,7 @@ def check_comments(texts, bad):
             continue
         for comment in re.findall(r"^\s*(?://+|--|#|\*) (.*)$", text, re.M):
             for name in re.findall(r"(?<![\w/])crates/[\w/.]*\w", comment):
-                if not glob.glob(os.path.join(ROOT, name)) and not glob.glob(os.path.join(ROOT, name + ".*")):
+                if not MADE.match(name) and not glob.glob(os.path.join(ROOT, name)) and not glob.glob(os.path.join(ROOT, name + ".*")):
                     bad.append(f"{path}: no path {name}")
             for crate in re.findall(r"\bcrate `?([a-z_0-9]+)`?", comment):
                 if crate not in crates and crate not in PLAIN:
@@ -145,7 +146,8 @@ def main():
     texts = sources()
     words = file_names()
     for text in texts.values():
-        words.update(re.findall(r"[A-Za-z_][\w′-]*", text))
+        words.update(re.findall(r"[A-Za-z_][\w-]*", text))
+        words.update(re.findall(r"[A-Za-z_][\w'-]*", text))
     bad = []
     for doc in documents():
         whole = read(doc)

@@ -249,21 +249,19 @@ def cases(path):
 # the files
 
 BASE = """-- Written by tools/vectors.py. What the vectors are made of: a session beside the Rust's answers to it.
-use Prim.Native.Nat.{ℕ}
+use Rattle.std.specs.Prelude.{ℕ, Bool, List, [], ◌∷◌}
 use Prim.Native.String.{String}
-use mathlib.Core.Bool.{Bool}
-use mathlib.Core.List.{List, [], _∷_}
-use Rattle·spec_bytes.specs.text.Text.{ascii}
-use Rattle·spec_c_dumper.specs.rules.Machine.{Req}
-use Rattle·spec_c_dumper.specs.rules.Types.{Member, Param, Enumerator, BtfType}
-use Rattle·spec_c_dumper.specs.rules.Listed.{listed}
-use Rattle·spec_c_dumper.specs.needs.Session.{Dump, dump, dumpTypes}
+use Rattle.spec_bytes.specs.text.Text.{ascii}
+use Rattle.spec_c_dumper.specs.rules.Machine.{Req}
+use Rattle.spec_c_dumper.specs.rules.Types.{Member, Param, Enumerator, BtfType}
+use Rattle.spec_c_dumper.specs.rules.Listed.{listed}
+use Rattle.spec_c_dumper.specs.needs.Session.{Dump, dump, dump_types}
 
 abbrev pub member : String → ℕ → ℕ → ℕ → Member
-member name type-id bit-offset bit-size = record { name = ascii name; type-id = type-id; bit-offset = bit-offset; bit-size = bit-size }
+member name type_id bit_offset bit_size = record { name = ascii name; type_id = type_id; bit_offset = bit_offset; bit_size = bit_size }
 
 abbrev pub param : String → ℕ → Param
-param name type-id = record { name = ascii name; type-id = type-id }
+param name type_id = record { name = ascii name; type_id = type_id }
 
 abbrev pub value : String → ℕ → Enumerator
 value name bits = record { name = ascii name; value = bits }
@@ -276,28 +274,26 @@ pub record Vector : Type 0 where
 -- pointer size, union_as_struct, types; requests (`one`: room of the text slice, id; `all`: room); number and value of each answer, and the
 -- text after the last
 abbrev pub session : ℕ → Bool → List BtfType → List Req → List (ℕ × ℕ) → String → Vector
-session ptr-sz union-as-struct types requests answers text = record {
-  is = dumpTypes (listed ptr-sz union-as-struct types) requests;
+session ptr_sz union_as_struct types requests answers text = record {
+  is = dump_types (listed ptr_sz union_as_struct types) requests;
   wanted = dump answers (ascii text);
 }
 
-abbrev pub allGiven : List Vector → List Dump
-allGiven [] = []
-allGiven (v ∷ vs) = v .is ∷ allGiven vs
+abbrev pub all_given : List Vector → List Dump
+all_given [] = []
+all_given (v ∷ vs) = v.is ∷ all_given vs
 
-abbrev pub allWanted : List Vector → List Dump
-allWanted [] = []
-allWanted (v ∷ vs) = v .wanted ∷ allWanted vs
+abbrev pub all_wanted : List Vector → List Dump
+all_wanted [] = []
+all_wanted (v ∷ vs) = v.wanted ∷ all_wanted vs
 """
 
 SPECS = """-- Written by tools/vectors.py. {title}
--- That they are equal is `{name}-hold` of proofs/{module}.
-use Prim.Native.Nat.{{ℕ}}
-use mathlib.Core.Bool.{{Bool, true, false}}
-use mathlib.Core.List.{{List, [], _∷_}}
-use Rattle·spec_bytes.specs.text.Text.{{ascii}}
+-- That they are equal is `{name}_hold` of proofs/{module}.
+use Rattle.std.specs.Prelude.{{true, false, List, [], ◌∷◌}}
+use Rattle.spec_bytes.specs.text.Text.{{ascii}}
 {uses}
-use Rattle·spec_c_dumper.specs.rules.Types.{{volatile, const, restrict, Void, Int, Ptr, Array, Composite, Enum, Enum64, Fwd, Typedef, Mod, Func, Var, Datasec, FuncProto, Float, DeclTag, TypeTag}}
+use Rattle.spec_c_dumper.specs.rules.Types.{{volatile, const, restrict, Void, Int, Ptr, Array, Composite, Enum, Enum64, Fwd, Typedef, Mod, Func, Var, Datasec, FuncProto, Float, DeclTag, TypeTag}}
 
 abbrev pub {name} : List {kind}
 {name} =
@@ -306,32 +302,26 @@ abbrev pub {name} : List {kind}
 """
 
 PROOFS = """-- Written by tools/vectors.py. By computation, the rules give what the Rust gave on the sections of specs/{module}.
-use mathlib.Core.Path.{{_≡_, refl}}
+use mathlib.Core.Path.{{◌≡◌, refl}}
 {uses}
 
-pub {name}-hold : allGiven {name} ≡ allWanted {name}
+pub {name}_hold : all_given {name} ≡ all_wanted {name}
 unfolding {names}
-{name}-hold = refl
+{name}_hold = refl
 """
 
 READING = """-- Written by tools/vectors.py. The types that the bytes of a section spell, record after record, each read as the table of spec_type_table reads it.
-use Prim.Native.Nat.{ℕ, zero, suc, _+_, _*_, _-_}
+use Rattle.std.specs.Prelude.{ℕ, zero, suc, ◌+◌, ◌*◌, ◌-◌, true, false, List, [], ◌∷◌, length, ltb, leb}
 use Prim.Native.String.{String}
-use mathlib.Core.Bool.{Bool, true, false}
-use mathlib.Core.List.{List, [], _∷_}
-use lib.ListN.{length}
-use lib.Dec.{ltb, leb}
-use Rattle·spec_bytes.specs.text.Text.{ascii}
-use Rattle·spec_linux_btf.specs.Section.{bigEndian, wordOf}
-use Rattle·spec_c_dumper.specs.rules.Types.{BtfType, Void}
-use Rattle·spec_c_dumper.specs.rules.Listed.{listed}
-use Rattle·spec_c_dumper.specs.needs.Session.{program}
-use Rattle·spec_type_table.specs.declared.types.TypeTable.{TypeTable}
-use Rattle·spec_type_table.specs.declared.types.BtfType.{BtfType as Record}
-use Rattle·spec_type_table.specs.declared.types.Extra.{Extra}
-use Rattle·spec_type_table.specs.declared.types.Extra.the-variants.{Bytes, Refused}
-use Rattle·spec_type_table.specs.Records.{vlenOf, kindOf, extraOf, recordAt}
-use Rattle·spec_type_table.specs.Table.{typeOf}
+use Rattle.spec_bytes.specs.text.Text.{ascii}
+use Rattle.spec_linux_btf.specs.Section.{is_big_endian, word_of}
+use Rattle.spec_c_dumper.specs.rules.Types.{BtfType, Void}
+use Rattle.spec_c_dumper.specs.rules.Listed.{listed}
+use Rattle.spec_c_dumper.specs.needs.Session.{program}
+use Rattle.spec_type_table.specs.declared.types.TypeTable.{TypeTable}
+use Rattle.spec_type_table.specs.declared.types.Extra.TheVariants.{Bytes, Refused}
+use Rattle.spec_type_table.specs.Records.{vlen_of, kind_of, extra_of, record_at}
+use Rattle.spec_type_table.specs.Table.{type_of}
 
 -- 0 to 9, a to f
 abbrev pub digit : ℕ → ℕ
@@ -344,23 +334,23 @@ pairs (a ∷ []) = []
 pairs (a ∷ b ∷ l) = (digit a * 16 + digit b) ∷ pairs l
 
 -- the records from a place on: n at most
-unfoldable pub typesFrom : TypeTable → List ℕ → ℕ → ℕ → ℕ → List BtfType
-typesFrom b s end zero at = []
-typesFrom b s end (suc n) at =
-    let r = recordAt b s at in
+unfoldable pub types_from : TypeTable → List ℕ → ℕ → ℕ → ℕ → List BtfType
+types_from b s end zero at = []
+types_from b s end (suc n) at =
+    let r = record_at b s at in
     elim (ltb at end) [
       | false ↦ []
-      | true ↦ elim (extraOf (kindOf (r .info)) (vlenOf (r .info))) [ Bytes k ↦ typeOf b s r ∷ typesFrom b s end n (at + 12 + k) | Refused ↦ [] ]
+      | true ↦ elim (extra_of (kind_of r.info) (vlen_of r.info)) [ Bytes k ↦ type_of b s r ∷ types_from b s end n (at + 12 + k) | Refused ↦ [] ]
     ]
 
 -- struct btf_header: hdr_len at 4, type_off at 8, type_len at 12, str_off at 16
-unfoldable pub typesOf : List ℕ → List BtfType
-typesOf s = Void ∷ typesFrom
-    (record { «ptr_sz» = 8; «union_as_struct» = false; «big_endian» = bigEndian s; «strong_arrays» = false; placing = false; types = 0; strs = wordOf s 4 + wordOf s 16 })
+unfoldable pub types_of : List ℕ → List BtfType
+types_of s = Void ∷ types_from
+    (record { ptr_sz = 8; union_as_struct = false; big_endian = is_big_endian s; strong_arrays = false; placing = false; types = 0; strs = word_of s 4 + word_of s 16 })
     s
-    (wordOf s 4 + wordOf s 8 + wordOf s 12)
+    (word_of s 4 + word_of s 8 + word_of s 12)
     (length s)
-    (wordOf s 4 + wordOf s 8)
+    (word_of s 4 + word_of s 8)
 
 -- what the rules read and print, and what is to be read and was printed
 pub record Printed : Type 0 where
@@ -372,74 +362,74 @@ pub record Printed : Type 0 where
 -- section, types, text
 abbrev pub prints : String → List BtfType → String → Printed
 prints section types text = record {
-  read = typesOf (pairs (ascii section));
+  read = types_of (pairs (ascii section));
   types = types;
   is = program (listed 8 false types);
   wanted = ascii text;
 }
 
-abbrev pub allRead : List Printed → List (List BtfType)
-allRead [] = []
-allRead (p ∷ ps) = p .read ∷ allRead ps
+abbrev pub all_read : List Printed → List (List BtfType)
+all_read [] = []
+all_read (p ∷ ps) = p.read ∷ all_read ps
 
-abbrev pub allTypes : List Printed → List (List BtfType)
-allTypes [] = []
-allTypes (p ∷ ps) = p .types ∷ allTypes ps
+abbrev pub all_types : List Printed → List (List BtfType)
+all_types [] = []
+all_types (p ∷ ps) = p.types ∷ all_types ps
 
-abbrev pub allGiven : List Printed → List (List ℕ)
-allGiven [] = []
-allGiven (p ∷ ps) = p .is ∷ allGiven ps
+abbrev pub all_given : List Printed → List (List ℕ)
+all_given [] = []
+all_given (p ∷ ps) = p.is ∷ all_given ps
 
-abbrev pub allWanted : List Printed → List (List ℕ)
-allWanted [] = []
-allWanted (p ∷ ps) = p .wanted ∷ allWanted ps
+abbrev pub all_wanted : List Printed → List (List ℕ)
+all_wanted [] = []
+all_wanted (p ∷ ps) = p.wanted ∷ all_wanted ps
 """
 
 READS = """-- Written by tools/vectors.py. By computation, the bytes of the sections of specs/{module} are read as their types.
-use mathlib.Core.Path.{{_≡_, refl}}
-use Rattle·spec_bytes.specs.words.Words.{{wordAt, wordAtBig, wordIn}}
-use Rattle·spec_linux_btf.specs.Section.{{bigEndian, wordOf}}
-use Rattle·spec_type_table.specs.Names.{{upToZero, nameAt}}
-use Rattle·spec_type_table.specs.Records.{{sectionWord, recordAt, memberOf, extraOf}}
-use Rattle·spec_type_table.specs.Table.{{from, paramOf, valueOf, value64Of, typeOf}}
-use Rattle·proof_examples·specs.specs.vectors.Reading.{{pairs, typesFrom, typesOf, allRead, allTypes}}
-use Rattle·proof_examples·specs.specs.vectors.{module}.{{{name}}}
+use mathlib.Core.Path.{{◌≡◌, refl}}
+use Rattle.spec_bytes.specs.words.Words.{{word_at, word_at_big, word_in}}
+use Rattle.spec_linux_btf.specs.Section.{{is_big_endian, word_of}}
+use Rattle.spec_type_table.specs.Names.{{up_to_zero, name_at}}
+use Rattle.spec_type_table.specs.Records.{{section_word, record_at, member_of, extra_of}}
+use Rattle.spec_type_table.specs.Table.{{from, param_of, value_of, value64_of, type_of}}
+use Rattle.proof_examples.specs.vectors.Reading.{{pairs, types_from, types_of, all_read, all_types}}
+use Rattle.proof_examples.specs.vectors.{module}.{{{name}}}
 
-pub {name}-read : allRead {name} ≡ allTypes {name}
-unfolding bigEndian wordOf wordIn wordAtBig wordAt upToZero nameAt sectionWord recordAt memberOf extraOf from paramOf valueOf value64Of typeOf pairs typesFrom typesOf
-{name}-read = refl
+pub {name}_read : all_read {name} ≡ all_types {name}
+unfolding is_big_endian word_of word_in word_at_big word_at up_to_zero name_at section_word record_at member_of extra_of from param_of value_of value64_of type_of pairs types_from types_of
+{name}_read = refl
 """
 
 # the crate, what is taken, whether of LIMITS, the most lines of a file, the files' names, the kind of an entry, the title, where the lists of
 # both sides are, what an entry uses
 GROUPS = [
     ("vectors", programs, False, 470, "Programs", "Printed", "Sections of crates/btfdump_replay/data: bytes, types, and what the program prints.",
-     "Rattle·proof_examples·specs.specs.vectors.Reading", [
-         "use Rattle·proof_examples·specs.specs.vectors.Base.{member, param, value}",
-         "use Rattle·proof_examples·specs.specs.vectors.Reading.{Printed, prints}"]),
+     "Rattle.proof_examples.specs.vectors.Reading", [
+         "use Rattle.proof_examples.specs.vectors.Base.{member, param, value}",
+         "use Rattle.proof_examples.specs.vectors.Reading.{Printed, prints}"]),
     ("deep", programs, True, 150, "DeepPrograms", "Sample", "Sections of crates/btfdump_replay/data at the limits of depth, each beside what the program prints.",
-     "Rattle·spec_c_dumper.specs.rules.Samples", [
-         "use Rattle·spec_c_dumper.specs.rules.Listed.{listed}",
-         "use Rattle·spec_c_dumper.specs.rules.Samples.{Sample, gives}",
-         "use Rattle·spec_c_dumper.specs.needs.Session.{program}",
-         "use Rattle·proof_examples·specs.specs.vectors.Base.{member}"]),
+     "Rattle.spec_c_dumper.specs.rules.Samples", [
+         "use Rattle.spec_c_dumper.specs.rules.Listed.{listed}",
+         "use Rattle.spec_c_dumper.specs.rules.Samples.{Sample, gives}",
+         "use Rattle.spec_c_dumper.specs.needs.Session.{program}",
+         "use Rattle.proof_examples.specs.vectors.Base.{member}"]),
     ("answered", sessions, False, 470, "Sessions", "Vector", "Sections and requests of oracle/answers.cases, each beside the answers.",
-     "Rattle·proof_examples·specs.specs.vectors.Base", [
-         "use Rattle·spec_c_dumper.specs.rules.Machine.{one, all}",
-         "use Rattle·proof_examples·specs.specs.vectors.Base.{member, param, value, Vector, session}"]),
+     "Rattle.proof_examples.specs.vectors.Base", [
+         "use Rattle.spec_c_dumper.specs.rules.Machine.{one, all}",
+         "use Rattle.proof_examples.specs.vectors.Base.{member, param, value, Vector, session}"]),
     ("deep", sessions, True, 150, "DeepSessions", "Vector", "Sections and requests of oracle/answers.cases at the limits of depth, each beside the answers.",
-     "Rattle·proof_examples·specs.specs.vectors.Base", [
-         "use Rattle·spec_c_dumper.specs.rules.Machine.{one, all}",
-         "use Rattle·proof_examples·specs.specs.vectors.Base.{member, param, value, Vector, session}"]),
+     "Rattle.proof_examples.specs.vectors.Base", [
+         "use Rattle.spec_c_dumper.specs.rules.Machine.{one, all}",
+         "use Rattle.proof_examples.specs.vectors.Base.{member, param, value, Vector, session}"]),
 ]
 
 
 def unfolded():
     """The `use` lines of all that is unfolded, and the names: those of crates/spec_c_dumper/proofs/needs/Samples.antt, and what its samples need not."""
     text = contents(os.path.join(HERE, "crates/spec_c_dumper/proofs/needs/Samples.antt")).decode()
-    uses = [u.replace("Rattle·spec_c_dumper·specs.specs.", "Rattle·spec_c_dumper.specs.") for u in text.split("\n") if re.match(r"use Rattle(?!.*\.Samples\.)", u)]
-    names = re.search(r"\nunfolding (.*?)\nprograms-hold", text, re.S)[1].split()
-    return uses + ["use Rattle·spec_bytes.specs.signed.Signed.{twos, signed, signedLL}"], names + ["twos", "signed", "signedLL"]
+    uses = [u for u in text.split("\n") if re.match(r"use Rattle(?!.*\.Samples\.)", u)]
+    names = re.search(r"\nunfolding (.*?)\nprograms_hold", text, re.S)[1].split()
+    return uses + ["use Rattle.spec_bytes.specs.signed.Signed.{twos, signed, signed_ll}"], names + ["twos", "signed", "signed_ll"]
 
 
 def chunks(entries, most):
@@ -459,7 +449,7 @@ def only_used(text):
     words = set(re.findall(r"[^\s(){};,.]+", body))
 
     def line(m):
-        names = [n for n in m[2].split(", ") if n.strip("_") in words or n in words]
+        names = [n for n in m[2].split(", ") if n.strip("◌") in words or n in words]
         return f"use {m[1]}.{{{', '.join(names)}}}\n" if names else ""
     return re.sub(r"^use (\S+)\.\{([^}]*)\}\n", line, text, flags=re.M)
 
@@ -471,11 +461,11 @@ def files():
     uses, names = unfolded()
     for crate, taken, limits, most, group, kind, title, lists, spec_uses in GROUPS:
         for i, part in enumerate(chunks([e[3] for e in taken() if (e[0] in LIMITS) == limits], most)):
-            module, name = f"{group}{i}", f"{group[0].lower()}{group[1:]}{i}"
+            module, name = f"{group}{i}", re.sub(r"(?<=.)([A-Z])", r"_\1", group).lower() + str(i)
             specs[crate].append(module)
             proofs[crate].append(module)
             out[f"specs/{crate}/{module}.antt"] = SPECS.format(title=title, module=module, name=name, kind=kind, uses="\n".join(spec_uses), entries="\n    ∷ ".join(part))
-            more = [f"use {lists}.{{allGiven, allWanted}}", f"use Rattle·proof_examples·specs.specs.{crate}.{module}.{{{name}}}"]
+            more = [f"use {lists}.{{all_given, all_wanted}}", f"use Rattle.proof_examples.specs.{crate}.{module}.{{{name}}}"]
             out[f"proofs/{crate}/{module}.antt"] = PROOFS.format(module=module, name=name, uses="\n".join(uses + more), names=broken(names, "    "))
             if kind == "Printed":
                 proofs[crate].insert(i, f"Read{i}")

@@ -1,4 +1,6 @@
 // Words and text in lent bytes: reading and storing words, putting bytes and decimals.
+#![tactic(auto)]
+
 pub mod limit;
 pub mod put;
 pub mod refusal;

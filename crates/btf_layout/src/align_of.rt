@@ -70,7 +70,7 @@ fn keep_once(b: TypeTable, work: &mut [u8], id: u32, r: Once, members: u32) -> O
 }
 
 // get_align_of with a memory.
-#[cycle(align_once_get_align_of_members_once)]
+#[cycle(align_of)]
 fn align_once(b: TypeTable, section: &[u8], work: &mut [u8], id: u32, left: u32) -> Once
     ensures { once_of result work.new
         ≡ once_with b.types (btf_of b section.now work.old) left id work.old }
@@ -103,7 +103,7 @@ fn align_once(b: TypeTable, section: &[u8], work: &mut [u8], id: u32, left: u32)
 }
 
 // get_align_of with a memory, where most answers are remembered already: those are taken before any call.
-#[cycle(align_once_get_align_of_members_once)]
+#[cycle(align_of)]
 pub fn get_align_of(b: TypeTable, section: &[u8], work: &mut [u8], id: u32, left: u32) -> Once
     ensures { once_of result work.new
         ≡ once_with b.types (btf_of b section.now work.old) left id work.old }
@@ -119,7 +119,7 @@ pub fn get_align_of(b: TypeTable, section: &[u8], work: &mut [u8], id: u32, left
 }
 
 // The largest of the members' alignments, at least 1, and the largest of their heights.
-#[cycle(align_once_get_align_of_members_once)]
+#[cycle(align_of)]
 fn members_once(b: TypeTable, section: &[u8], work: &mut [u8], members: Entries, left: u32) -> Once
     ensures { once_of result work.new
         ≡ ids_with b.types (btf_of b section.now work.old) left (alone 1)

@@ -9,20 +9,20 @@ use btf_type_table::cell::{get_field, put_field};
 use spec_type_table::{Entries, TypeTable};
 
 // What is remembered of a type.
-#[derive(Drop)]
+#[derive(Clone, Copy)]
 pub struct Seen {
     pub align: u32,
     pub height: u32,
 }
 
-#[derive(Drop)]
+#[derive(Clone, Copy)]
 pub enum Once {
     Found(Seen),
     No(u32),
 }
 
 // What get_align_of asks of a type: nothing, one other type, or its members.
-#[derive(Drop)]
+#[derive(Clone, Copy)]
 pub enum Step {
     Own(u32),
     Through(u32),

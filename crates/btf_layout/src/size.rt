@@ -13,14 +13,14 @@ use btf_type_table::section_word::{array_nelems, array_type, int_bits};
 use spec_type_table::TypeTable;
 
 // A value, or the refusal that asking for it meets.
-#[derive(Drop)]
+#[derive(Clone, Copy)]
 pub enum Ask {
     Got(u32),
     No(u32),
 }
 
 // Whether a body is packed, or the refusal that asking for it meets.
-#[derive(Drop)]
+#[derive(Clone, Copy)]
 pub enum Packed {
     Is(bool),
     No(u32),

@@ -9,7 +9,7 @@ use base_bytes::word::word_in;
 use spec_type_table::TypeTable;
 
 // struct btf_header from hdr_len on; offsets count from the header's end.
-#[derive(Drop)]
+#[derive(Clone, Copy)]
 pub struct Header {
     pub hdr_len: u32,
     pub type_off: u32,

@@ -13,7 +13,7 @@ use btf_type_table::section_word::word;
 use spec_type_table::{Extra, TypeTable};
 
 // What a pass over the records found.
-#[derive(Drop)]
+#[derive(Clone, Copy)]
 pub struct Records {
     pub is_sound: bool,
     pub types: u32,

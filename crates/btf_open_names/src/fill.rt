@@ -1,6 +1,7 @@
 // What success leaves in the work: the places of records and enumerators, the tags of each type, the name classes.
 ghost use Rattle.std.specs.Prelude.{◌≡◌, ◌+◌, ◌-◌, ◌/◌, ◌%◌, ◌<◌, get_or};
-ghost use Rattle.btf_open_names.specs.filled_work.Left.{places_put, value_place, enumerator_word, values_put, enum_with, values_at, tag_put};
+ghost use Rattle.btf_open_names.specs.filled_work.Left.{places_put, value_place, enumerator_word, values_put, enum_with, values_at};
+ghost use Rattle.btf_open_names.specs.filled_work.Left.{tag_put};
 ghost use Rattle.btf_open_names.specs.filled_work.Left.{enums_put, tags_put, filled};
 
 use crate::classify::classes;

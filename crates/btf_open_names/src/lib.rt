@@ -1,4 +1,6 @@
 // What a successful opening leaves in the work: places, tags, name classes, numbers that are taken.
+#![tactic(auto)]
+
 pub mod classify;
 pub mod fill;
 pub mod hash_table;

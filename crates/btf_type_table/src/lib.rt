@@ -1,4 +1,6 @@
 // The type table, read from section and work: kinds, records, entries, names, nodes, words of the work.
+#![tactic(auto)]
+
 pub mod cell;
 pub mod entry;
 pub mod escape;

@@ -1,18 +1,21 @@
 // Reads a section from standard input, its first 65,536 bytes, and prints the header of all its types, or the refusal.
-use libc::{STDIN_FILENO, STDOUT_FILENO};
+#![tactic(auto)]
+
+use btfdump_run::streams::{read_full, write_all};
+use std::io::Write;
 
 // Writes the first n bytes; nothing where there are fewer.
-fn write_first(text: &[u8], n: usize) {
+fn write_first<W: Write>(writer: &mut W, text: &[u8], n: usize) {
     if n <= text.len() {
-        io::write_all(STDOUT_FILENO, &text[..n]);
+        write_all(writer, &text[..n]);
     }
 }
 
-fn main() {
-    let mut section = io::large_buffer();
-    let n = io::read_full(STDIN_FILENO, &mut section);
-    let mut work = io::large_buffer();
-    let mut text = io::large_buffer();
+fn main(rt: HostRuntime) {
+    let mut section = [0u8; 65536];
+    let n = read_full(&mut rt.stdin(), &mut section);
+    let mut work = [0u8; 65536];
+    let mut text = [0u8; 65536];
     let len = btfdump_run::program::run(&section[..n], &mut work, &mut text);
-    write_first(&text, len);
+    write_first(&mut rt.stdout(), &text, len);
 }

@@ -1,28 +1,35 @@
 // Runs the program's work on each stored section that the file `names` lists, and compares what it would print with the
 // stored text: NAME.btf with NAME.out.
+#![tactic(auto)]
+
 ghost use Rattle.std.specs.Prelude.{◌≤◌, length};
 
 use base_bytes::limit;
 use base_bytes::put::{put_bytes, put_decimal};
-use libc::STDOUT_FILENO;
+use btfdump_run::streams::{read_full, write_all};
+use std::fs::File;
+use std::io;
+use std::rt::Files;
 
 // The first n bytes, or all where there are fewer.
 fn first(s: &[u8], n: usize) -> &[u8] {
     if n < s.len() { &s[..n] } else { s }
 }
 
+// Opens the file of a path, which is text.
+fn open_read<R: Files>(rt: &R, path: &[u8]) -> Option<R::File> {
+    File::open(rt, str::from_utf8(path).ok()?).ok()
+}
+
 // Reads the file whose name is `name` and `ending`: how many bytes, or more than there is room for where there is none.
-fn read_file(name: &[u8], ending: &[u8], buf: &mut [u8]) -> usize {
+fn read_file<R: Files>(rt: &R, name: &[u8], ending: &[u8], buf: &mut [u8]) -> usize {
     let mut path = [0u8; 128];
     let a = put_bytes(&mut path, 0, name);
     let n = put_bytes(&mut path, a, ending);
-    let fd = os::open_read(first(&path, n));
-    if fd < 0 {
-        return buf.len() + 1;
+    match open_read(rt, first(&path, n)) {
+        None => buf.len() + 1,
+        Some(mut file) => read_full(&mut file, buf),
     }
-    let got = io::read_full(fd, buf);
-    libc::close(fd);
-    got
 }
 
 fn same(a: &[u8], b: &[u8]) -> bool {
@@ -40,28 +47,28 @@ fn same(a: &[u8], b: &[u8]) -> bool {
 }
 
 // Whether the section of a name gives its text.
-fn holds(name: &[u8]) -> bool {
-    let mut section = io::large_buffer();
-    let mut work = io::large_buffer();
-    let mut text = io::large_buffer();
-    let mut expected = io::large_buffer();
-    let n = read_file(name, b".btf", &mut section);
-    let m = read_file(name, b".out", &mut expected);
+fn holds<R: Files>(rt: &R, name: &[u8]) -> bool {
+    let mut section = [0u8; 65536];
+    let mut work = [0u8; 65536];
+    let mut text = [0u8; 65536];
+    let mut expected = [0u8; 65536];
+    let n = read_file(rt, name, b".btf", &mut section);
+    let m = read_file(rt, name, b".out", &mut expected);
     let len = btfdump_run::program::run(first(&section, n), &mut work, &mut text);
     same(first(&text, len), first(&expected, m))
 }
 
-fn print(words: &[u8]) {
-    io::write_all(STDOUT_FILENO, words);
+fn print<R: Print>(rt: &R, words: &[u8]) {
+    write_all(&mut io::writer(rt), words);
 }
 
 // Says which section differs; 1 for one that does.
-fn tried(name: &[u8]) -> u32 {
-    if holds(name) {
+fn tried<R: Files + Print>(rt: &R, name: &[u8]) -> u32 {
+    if holds(rt, name) {
         return 0;
     }
-    print(name);
-    print(b" differs\n");
+    print(rt, name);
+    print(rt, b" differs\n");
     1
 }
 
@@ -81,17 +88,17 @@ fn line_end(names: &[u8], at: usize) -> usize
 }
 
 // Tries the name on each line, and says how many there were and how many differ.
-fn try_all(names: &[u8]) {
+fn try_all<R: Files + Print>(rt: &R, names: &[u8]) {
     let mut at = 0;
     let mut count: u32 = 0;
     let mut differ: u32 = 0;
     while at < names.len() {
         let e = line_end(names, at);
-        differ = more(differ, tried(&names[at..e]));
+        differ = more(differ, tried(rt, &names[at..e]));
         count = more(count, 1);
         at = e + 1;
     }
-    say(count, differ);
+    say(rt, count, differ);
 }
 
 // The sum, or the largest number.
@@ -103,17 +110,17 @@ fn more(x: u32, y: u32) -> u32 {
     }
 }
 
-fn say(count: u32, differ: u32) {
+fn say<R: Print>(rt: &R, count: u32, differ: u32) {
     let mut line = [0u8; 64];
     let a = put_decimal(&mut line, 0, count as u64);
     let b = put_bytes(&mut line, a, b" sections, ");
     let c = put_decimal(&mut line, b, differ as u64);
     let d = put_bytes(&mut line, c, b" differ\n");
-    print(first(&line, d));
+    print(rt, first(&line, d));
 }
 
-fn main() {
-    let mut names = io::large_buffer();
-    let n = read_file(b"names", b"", &mut names);
-    try_all(first(&names, n));
+fn main(rt: HostRuntime) {
+    let mut names = [0u8; 65536];
+    let n = read_file(&rt, b"names", b"", &mut names);
+    try_all(&rt, first(&names, n));
 }

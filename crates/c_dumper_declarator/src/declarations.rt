@@ -13,7 +13,8 @@ ghost use Rattle.spec_type_table.specs.Records.{kind_of, record_by_id};
 ghost use Rattle.spec_type_table.specs.Table.{from, param_of, params_of, members_of, record_name, type_of, btf_of, work_naming};
 ghost use Rattle.c_dumper_name_versions.specs.names.Spelling.{name_text};
 ghost use Rattle.c_dumper_bodies.specs.chain.Chains.{chain_at, only_links};
-ghost use Rattle.c_dumper_bodies.specs.bodies.Pieces.{entry_left, entry_star, entry_named, word_below, params_below, array_below, proto_below};
+ghost use Rattle.c_dumper_bodies.specs.bodies.Pieces.{entry_left, entry_star, entry_named, word_below, params_below, array_below};
+ghost use Rattle.c_dumper_bodies.specs.bodies.Pieces.{proto_below};
 ghost use Rattle.c_dumper_bodies.specs.bodies.Pieces.{param_list_below, entry_text, chain_rest, param_text};
 
 pub use crate::declarations::members::emit_composite_def;
@@ -36,7 +37,7 @@ use c_dumper_name_versions::names::{Name, bare, emit_name};
 use spec_type_table::{BtfType, Entries, TypeTable};
 
 // What is declared: the type that the chain starts from, the declared name, and the level of indentation.
-#[derive(Drop)]
+#[derive(Clone, Copy)]
 pub struct Declarator {
     pub id: u32,
     pub name: Name,
@@ -44,7 +45,7 @@ pub struct Declarator {
 }
 
 // A chain that is being printed: the place in the text, the entries left, and whether the declared name stands already.
-#[derive(Drop)]
+#[derive(Clone, Copy)]
 struct Chain {
     at: usize,
     n: u32,

@@ -12,7 +12,7 @@ use btf_type_table::node::type_by_id;
 use spec_type_table::TypeTable;
 
 // A ceiling on the calls of ordering, where it is set. The walk takes it apart: two numbers stay in registers, a struct does not.
-#[derive(Drop)]
+#[derive(Clone, Copy)]
 pub struct Ceiling {
     pub is_set: bool,
     pub calls: u64,

@@ -6,7 +6,7 @@ use base_bytes::limit;
 
 // The innermost composite or typedef that is being ordered, and the leader of that one; both are the requested id where
 // there is none. `turn` tells the requests of a call apart.
-#[derive(Drop)]
+#[derive(Clone, Copy)]
 pub struct Way {
     pub inner: u32,
     pub lead: u32,

@@ -1,4 +1,6 @@
 // The order of definitions: order_type, its state in the work, and what led to each listed id.
+#![tactic(auto)]
+
 pub mod begin;
 pub mod finish;
 pub mod leaders;

@@ -8,7 +8,7 @@ use btf_type_table::cell::{get_field, put_field};
 
 // What ordering has come to: the calls made under a ceiling, the length of the order list, the refusal that stopped it, 0
 // while there is none, and whether the last way was strong.
-#[derive(Drop)]
+#[derive(Clone, Copy)]
 pub struct Order {
     pub made: u64,
     pub len: u32,

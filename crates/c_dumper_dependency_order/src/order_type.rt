@@ -19,7 +19,7 @@ use btf_type_table::section_word::word;
 use spec_type_table::{Entries, Node, TypeTable};
 
 // v: what is being ordered around the call. A request without a list of line origins lends no leaders.
-#[cycle(order_composite_order_members_order_new_order_params_order_type)]
+#[cycle(order_type)]
 pub fn order_type(
     b: TypeTable,
     section: &[u8],
@@ -71,7 +71,7 @@ pub fn order_type(
 
 // An id that is not ordered yet. Most of what a pointer or a qualifier leads to is known: that is counted without the call.
 // s: the section; set and max: the ceiling.
-#[cycle(order_composite_order_members_order_new_order_params_order_type)]
+#[cycle(order_type)]
 fn order_new(
     b: TypeTable,
     s: &[u8],
@@ -128,7 +128,7 @@ fn order_new(
 }
 
 // A composite: passed over if it is named and behind a pointer, else its members, each a strong way, and then itself.
-#[cycle(order_composite_order_members_order_new_order_params_order_type)]
+#[cycle(order_type)]
 fn order_composite(
     b: TypeTable,
     section: &[u8],
@@ -159,7 +159,7 @@ fn order_composite(
 }
 
 // The parameters of a prototype; the way is strong if one of them was, or what came before.
-#[cycle(order_composite_order_members_order_new_order_params_order_type)]
+#[cycle(order_type)]
 fn order_params(
     b: TypeTable,
     section: &[u8],
@@ -199,7 +199,7 @@ fn order_params(
 }
 
 // The members of a composite, each a strong way.
-#[cycle(order_composite_order_members_order_new_order_params_order_type)]
+#[cycle(order_type)]
 fn order_members(
     b: TypeTable,
     section: &[u8],

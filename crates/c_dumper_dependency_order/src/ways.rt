@@ -21,7 +21,7 @@ pub fn is_passed(named: bool, has_ptr: bool) -> bool
 }
 
 // The number of a request, 0 if it is accepted, and the calls made after it.
-#[derive(Drop)]
+#[derive(Clone, Copy)]
 pub struct Idle {
     pub number: u32,
     pub made: u64,

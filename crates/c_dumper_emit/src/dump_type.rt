@@ -46,7 +46,7 @@ pub fn is_idle(b: TypeTable, section: &[u8], work: &[u8], id: u32) -> bool
 
 // Where a request came to: the place after its text and the count of entries after it, or a place past the end that says which
 // refusal stopped it; and the calls of ordering made by then.
-#[derive(Drop)]
+#[derive(Clone, Copy)]
 pub struct Dumped {
     pub pen: Pen,
     pub made: u64,

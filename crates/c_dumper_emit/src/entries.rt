@@ -14,14 +14,14 @@ use c_dumper_dependency_order::leaders::leader_of;
 use spec_type_table::{BtfType, TypeTable};
 
 // The next place in the text, and how many entries the list has.
-#[derive(Drop)]
+#[derive(Clone, Copy)]
 pub struct Pen {
     pub at: usize,
     pub count: usize,
 }
 
 // An entry: the id of a line, its cause, and the id that led there.
-#[derive(Drop)]
+#[derive(Clone, Copy)]
 pub struct Origin {
     pub id: u32,
     pub cause: u32,
@@ -30,7 +30,7 @@ pub struct Origin {
 
 // The requested id, which request of the call it is, and whether the call is lent a list of entries. Without one the list and the
 // leaders are empty slices.
-#[derive(Drop)]
+#[derive(Clone, Copy)]
 pub struct Asked {
     pub req: u32,
     pub turn: u32,

@@ -1,6 +1,7 @@
 // Placing mode: what the members of a body reach, and whether all of them fit.
 ghost use Rattle.std.specs.Prelude.{◌≡◌, ◌*◌, eqb};
-ghost use Rattle.spec_c_dumper.specs.rules.Placing.{round_up, same_unit, field_size, field_fits, start_fits, member_fits, reached, size_fits};
+ghost use Rattle.spec_c_dumper.specs.rules.Placing.{round_up, same_unit, field_size, field_fits, start_fits, member_fits, reached};
+ghost use Rattle.spec_c_dumper.specs.rules.Placing.{size_fits};
 ghost use Rattle.spec_c_dumper.specs.rules.Placing.{extent_of, no_extent};
 ghost use Rattle.spec_type_table.specs.Records.{kind_of};
 ghost use Rattle.spec_type_table.specs.Table.{btf_of, members_of, rule_member};
@@ -16,13 +17,13 @@ use btf_type_table::kind::{is_struct, vlen_of};
 use spec_type_table::{BtfMember, BtfType, TypeTable};
 
 // What the members reach, a struct's last end or a union's largest member, and whether all of them fit.
-#[derive(Drop)]
+#[derive(Clone, Copy)]
 pub struct Extent {
     pub last: u32,
     pub fits: bool,
 }
 
-#[derive(Drop)]
+#[derive(Clone, Copy)]
 pub enum Extents {
     Got(Extent),
     No(u32),

@@ -1,4 +1,6 @@
 // Pads between members, in the old mode and in placing mode.
+#![tactic(auto)]
+
 pub mod extents;
 pub mod padding;
 pub mod pads;

@@ -6,7 +6,7 @@ ghost use Rattle.c_dumper_padding.specs.units.Units.{pad_is, suits_by, placed_ch
 use base_bytes::limit;
 
 // A pad: its unit (3 long, 2 int, 1 short, 0 char) and its width in bits.
-#[derive(Drop)]
+#[derive(Clone, Copy)]
 pub struct Pad {
     pub unit: u32,
     pub width: u32,

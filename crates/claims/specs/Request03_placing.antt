@@ -5,7 +5,8 @@ use Rattle.std.specs.Prelude.{ℕ, ◌+◌, ◌-◌, ◌*◌, ◌/◌, ◌%◌, 
 use Rattle.spec_c_dumper.specs.rules.Writer.{got, no, checked, Writer}
 use Rattle.spec_c_dumper.specs.rules.Types.{Name, Member, Btf}
 use Rattle.spec_c_dumper.specs.rules.Names.{Naming, Names}
-use Rattle.spec_c_dumper.specs.rules.Layout.{get_size_of, align_members, get_align_of, is_struct_packed, long, int, short, char, Pad, gap_pads}
+use Rattle.spec_c_dumper.specs.rules.Layout.{get_size_of, align_members, get_align_of, is_struct_packed, long, int, short, char, Pad}
+use Rattle.spec_c_dumper.specs.rules.Layout.{gap_pads}
 use Rattle.spec_c_dumper.specs.rules.Layout.{placed_pad, placed_gap, end_of}
 use Rattle.spec_c_dumper.specs.rules.Decl.{emit_members}
 use Rattle.spec_c_dumper.specs.rules.Placing.{round_up, Extent, reached, extent_of, no_extent, union_align, body_packed}

@@ -1,5 +1,6 @@
 -- What a caller makes of the entries that the reader leaves: the chain, with the words of each base looked up in the text.
-use Rattle.std.specs.Prelude.{ℕ, zero, suc, ◌+◌, ◌*◌, ◌≤◌, ◌<◌, ◌≡◌, Bool, true, false, List, [], ◌∷◌, ◌++◌, length, get_or, take, drop, replicate, eqb}
+use Rattle.std.specs.Prelude.{ℕ, zero, suc, ◌+◌, ◌*◌, ◌≤◌, ◌<◌, ◌≡◌, Bool, true, false, List, [], ◌∷◌, ◌++◌, length, get_or, take, drop}
+use Rattle.std.specs.Prelude.{replicate, eqb}
 use Rattle.spec_c_dumper.specs.rules.Types.{Name, Qualifier, volatile, const, restrict}
 use Rattle.session_declaration_reader.specs.grammar.Chain.{Layers, named, pointer, array, proto, Params, closed, dots, param, Chain}
 use Rattle.session_declaration_reader.specs.grammar.Chain.{entries}
@@ -82,7 +83,8 @@ chain_from s o q l (item kind x y ∷ is) =
 unfoldable pub decoded : List ℕ → Placed → Read (List ℕ)
 decoded s (placed n t) = chain_from s none [] named (items_from 0 n t)
 
--- The words that the code leaves say what the reader says, for all texts (proofs/Decoding); `read_into` is the contract of read_declaration.
+-- The words that the code leaves say what the reader says, for all texts (proofs/Decoding);
+-- `read_into` is the contract of read_declaration.
 abbrev pub Decodes : Type 0
 Decodes = (s t : List ℕ) → 1536 ≤ length t → decoded s (read_into s t) ≡ read s
 

@@ -5,7 +5,8 @@ use Rattle.spec_bytes.specs.text.Text.{whole}
 use Rattle.spec_c_dumper.specs.rules.Types.{Name, Qualifier, Param, Btf, Member}
 use Rattle.spec_c_dumper.specs.rules.Names.{Naming}
 use Rattle.spec_c_dumper.specs.rules.Writer.{got, Writer, said}
-use Rattle.spec_c_dumper.specs.rules.Decl.{Entry, base, star, qual, array as count, proto as list, chain_of, no_params, shown_params, base_word}
+use Rattle.spec_c_dumper.specs.rules.Decl.{Entry, base, star, qual, array as count, proto as list, chain_of, no_params, shown_params}
+use Rattle.spec_c_dumper.specs.rules.Decl.{base_word}
 use Rattle.session_declaration_reader.specs.grammar.Chain.{Layers, named, pointer, array, proto, Params, closed, dots, param, Chain}
 use Rattle.proof_declaration_reader.specs.Written.{spaced}
 

@@ -9,7 +9,8 @@ use Rattle.session_declaration_reader.specs.reader.Reading.{as_bytes, chain, ref
 -- `read_tokens` of the reader under another bound than `most`
 unfoldable pub read_under : {W : Type 0} → ℕ → List (Token W) → Reads W (Chain W)
 read_under f ts =
-    read_base true ts (λ q ss us. and_then (declarator f true us) (λ l vs. reads (record { quals = q; words = words_of ss; layers = l }) vs))
+    read_base true ts (λ q ss us. and_then (declarator f true us)
+    (λ l vs. reads (record { quals = q; words = words_of ss; layers = l }) vs))
 
 -- The text is a declaration with that chain: under some bound the grammar reads the whole of it.
 pub record Declares (s : List ℕ) (c : Chain (List ℕ)) : Type 0 where

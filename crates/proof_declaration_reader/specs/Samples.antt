@@ -1,5 +1,5 @@
 -- Texts and what the reader says of each: the marked samples of document 01, and texts that look alike. That they hold is
--- `samples-hold` of proofs/Samples.
+-- `samples_hold` of proofs/Samples.
 use Rattle.std.specs.Prelude.{ℕ, List, [], ◌∷◌}
 use Prim.Native.String.{String}
 use Rattle.spec_bytes.specs.text.Text.{ascii}

@@ -50,7 +50,8 @@ first reserve room id n =
 
 -- both ask for everything, in turn
 abbrev pub in_turn : ℕ → ℕ → List Call
-in_turn m n = opens kernel 0 m ∷ opens module' 0 n ∷ asks kernel 48 (one 100 1) ∷ asks module' 48 (all 100) ∷ asks kernel 48 (one 100 2) ∷ []
+in_turn m n =
+    opens kernel 0 m ∷ opens module' 0 n ∷ asks kernel 48 (one 100 1) ∷ asks module' 48 (all 100) ∷ asks kernel 48 (one 100 2) ∷ []
 
 abbrev pub shared_samples : List Sample
 shared_samples =

@@ -154,7 +154,8 @@ play k limit len (takes_value id i name f) h =
 
 -- a slice that is shorter than the text is 11 of the calls; the rules have 17 there
 unfoldable pub play_line : ℕ → ℕ → ℕ → Steps → Held → Played
-play_line k room len p h = elim (leb len (smaller room 1073741824)) [ true ↦ play k (smaller room 1073741824) len p h | false ↦ broken h 17 ]
+play_line k room len p h =
+    elim (leb len (smaller room 1073741824)) [ true ↦ play k (smaller room 1073741824) len p h | false ↦ broken h 17 ]
 
 -- ---- lines of the machine of lists, whose refusals keep what was held
 

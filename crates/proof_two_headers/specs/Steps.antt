@@ -11,7 +11,8 @@ use Rattle.spec_c_dumper.specs.rules.Types.{Enum64, Fwd, Typedef, Mod, Func, Var
 use Rattle.spec_c_dumper.specs.rules.Layout.{Pad, bit_padding, end_of}
 use Rattle.spec_c_dumper.specs.rules.Placing.{body_packed, tail_pads}
 use Rattle.spec_c_dumper.specs.rules.Names.{Space, tag_space, ident_space, Naming, resolving, spelled, builtin}
-use Rattle.spec_c_dumper.specs.rules.Decl.{deeper, sep_name, keyword, attribute, decl_tags, qualifier, enum_value, enum64_value, Entry, base}
+use Rattle.spec_c_dumper.specs.rules.Decl.{deeper, sep_name, keyword, attribute, decl_tags, qualifier, enum_value, enum64_value, Entry}
+use Rattle.spec_c_dumper.specs.rules.Decl.{base}
 use Rattle.spec_c_dumper.specs.rules.Decl.{star, qual, array, proto, tag, chain_of, mods, no_mods, is_array, no_params, shown_params, pads}
 use Rattle.spec_c_dumper.specs.rules.Decl.{last_newline, tail_text, bit_size_of, brackets}
 
@@ -125,8 +126,10 @@ module _ (B : Btf) (decl : ℕ → Name → ℕ → Steps) (chain : List Entry �
   base_word_steps id (Ptr t) = none
   base_word_steps id (Array t k) = none
   base_word_steps id (Composite s n z ms) = elim (is_empty n) [ true ↦ def id s n z ms lvl | false ↦ composite_fwd_steps B id s n ]
-  base_word_steps id (Enum s n z vs) = elim (is_empty n) [ true ↦ enum_def_steps B (enum_value s) id n vs lvl | false ↦ enum_word_steps B id n ]
-  base_word_steps id (Enum64 s n z vs) = elim (is_empty n) [ true ↦ enum_def_steps B (enum64_value s) id n vs lvl | false ↦ enum_word_steps B id n ]
+  base_word_steps id (Enum s n z vs) =
+      elim (is_empty n) [ true ↦ enum_def_steps B (enum_value s) id n vs lvl | false ↦ enum_word_steps B id n ]
+  base_word_steps id (Enum64 s n z vs) =
+      elim (is_empty n) [ true ↦ enum_def_steps B (enum64_value s) id n vs lvl | false ↦ enum_word_steps B id n ]
   base_word_steps id (Fwd u n) = fwd_def_steps B id u n
   base_word_steps id (Typedef n t) = type_name ident_space id n print
   base_word_steps id (Mod q t) = none
@@ -181,7 +184,8 @@ module _ (B : Btf) (decl : ℕ → Name → ℕ → Steps) (id : ℕ) where
       ⨟ asking (end_of B m) (λ end. decl_tags_steps B id i ⨟ print (ascii ";") ⨟ members_steps tail lvl packed (i + 1) end ms)
 
   unfoldable pub composite_head_steps : Bool → Name → Steps
-  composite_head_steps is_struct name = type_name tag_space id name (λ n. print (keyword B is_struct) ⨟ print (sep_name n) ⨟ print (ascii " {"))
+  composite_head_steps is_struct name =
+      type_name tag_space id name (λ n. print (keyword B is_struct) ⨟ print (sep_name n) ⨟ print (ascii " {"))
 
   unfoldable pub composite_end_steps : ℕ → List Member → Bool → Steps
   composite_end_steps lvl ms packed =

@@ -11,7 +11,7 @@ pub use crate::bases::items::{Spot, put_base, put_item, put_quals};
 use crate::tokens::token;
 
 // At most three qualifiers, by their signs, 0 where there is none; and where they end. Not ok where one stands twice.
-#[derive(Drop)]
+#[derive(Clone, Copy)]
 pub struct Quals {
     pub ok: bool,
     pub a: u32,
@@ -21,7 +21,7 @@ pub struct Quals {
 }
 
 // A base: its qualifiers, and where its words start and end.
-#[derive(Drop)]
+#[derive(Clone, Copy)]
 pub struct Base {
     pub ok: bool,
     pub quals: Quals,

@@ -26,7 +26,7 @@ fn failed() -> Spot
 }
 
 // A star before a declarator; or one in parentheses, or the name, with what stands behind it.
-#[cycle(counts_declarator_in_brackets_param_behind_param_end_param_list_params_protos_starred_suffixes)]
+#[cycle(grammar)]
 pub fn declarator(text: &[u8], at: usize, named: bool, left: u32, chain: &mut [u64], n: u32) -> Spot
     ensures { outcome text.now result chain.new
         ≡ emits layer_items chain.old n (grammar.declarator left named (tokens_at text.now at)) }
@@ -51,7 +51,7 @@ pub fn declarator(text: &[u8], at: usize, named: bool, left: u32, chain: &mut [u
 }
 
 // Behind a star.
-#[cycle(counts_declarator_in_brackets_param_behind_param_end_param_list_params_protos_starred_suffixes)]
+#[cycle(grammar)]
 fn starred(text: &[u8], at: usize, named: bool, left: u32, chain: &mut [u64], n: u32) -> Spot
     ensures { outcome text.now result chain.new
         ≡ emits layer_items chain.old n (emission.starred left named (tokens_at text.now at)) }
@@ -73,10 +73,10 @@ fn starred(text: &[u8], at: usize, named: bool, left: u32, chain: &mut [u64], n:
 }
 
 // Behind the opening parenthesis of a declarator.
-#[cycle(counts_declarator_in_brackets_param_behind_param_end_param_list_params_protos_starred_suffixes)]
+#[cycle(grammar)]
 fn in_brackets(text: &[u8], at: usize, named: bool, left: u32, chain: &mut [u64], n: u32) -> Spot
     ensures { outcome text.now result chain.new
-        ≡ emits layer_items chain.old n (emission.inBrackets left named (tokens_at text.now at)) }
+        ≡ emits layer_items chain.old n (emission.in_brackets left named (tokens_at text.now at)) }
 {
     let r = declarator(text, at, named, left, chain, n);
     if !r.ok {
@@ -90,7 +90,7 @@ fn in_brackets(text: &[u8], at: usize, named: bool, left: u32, chain: &mut [u64]
 }
 
 // The counts and parameter lists behind a declarator.
-#[cycle(counts_declarator_in_brackets_param_behind_param_end_param_list_params_protos_starred_suffixes)]
+#[cycle(grammar)]
 fn suffixes(text: &[u8], at: usize, left: u32, chain: &mut [u64], n: u32) -> Spot
     ensures { outcome text.now result chain.new
         ≡ emits layer_items chain.old n (grammar.suffixes left chains.named (tokens_at text.now at)) }
@@ -113,7 +113,7 @@ fn suffixes(text: &[u8], at: usize, left: u32, chain: &mut [u64], n: u32) -> Spo
 }
 
 // Behind an opening bracket.
-#[cycle(counts_declarator_in_brackets_param_behind_param_end_param_list_params_protos_starred_suffixes)]
+#[cycle(grammar)]
 fn counts(text: &[u8], at: usize, left: u32, chain: &mut [u64], n: u32) -> Spot
     ensures { outcome text.now result chain.new
         ≡ emits layer_items chain.old n (emission.counts left (tokens_at text.now at)) }
@@ -131,7 +131,7 @@ fn counts(text: &[u8], at: usize, left: u32, chain: &mut [u64], n: u32) -> Spot
 }
 
 // Behind the opening parenthesis of a parameter list: the prototype, and what stands behind it.
-#[cycle(counts_declarator_in_brackets_param_behind_param_end_param_list_params_protos_starred_suffixes)]
+#[cycle(grammar)]
 fn protos(text: &[u8], at: usize, left: u32, chain: &mut [u64], n: u32) -> Spot
     ensures { outcome text.now result chain.new
         ≡ emits layer_items chain.old n (emission.protos left (tokens_at text.now at)) }
@@ -144,7 +144,7 @@ fn protos(text: &[u8], at: usize, left: u32, chain: &mut [u64], n: u32) -> Spot
 }
 
 // A prototype with its parameters; a lone void is none.
-#[cycle(counts_declarator_in_brackets_param_behind_param_end_param_list_params_protos_starred_suffixes)]
+#[cycle(grammar)]
 fn params(text: &[u8], at: usize, left: u32, chain: &mut [u64], n: u32) -> Spot
     ensures { outcome text.now result chain.new
         ≡ emits proto_items chain.old n (grammar.params left (tokens_at text.now at)) }
@@ -173,7 +173,7 @@ fn params(text: &[u8], at: usize, left: u32, chain: &mut [u64], n: u32) -> Spot
 }
 
 // One parameter or more.
-#[cycle(counts_declarator_in_brackets_param_behind_param_end_param_list_params_protos_starred_suffixes)]
+#[cycle(grammar)]
 fn param_list(text: &[u8], at: usize, left: u32, chain: &mut [u64], n: u32) -> Spot
     ensures { outcome text.now result chain.new
         ≡ emits param_items chain.old n (grammar.param_list left (tokens_at text.now at)) }
@@ -199,10 +199,10 @@ fn param_list(text: &[u8], at: usize, left: u32, chain: &mut [u64], n: u32) -> S
 }
 
 // Behind a parameter's layers: its base, and the parameters after it.
-#[cycle(counts_declarator_in_brackets_param_behind_param_end_param_list_params_protos_starred_suffixes)]
+#[cycle(grammar)]
 fn param_behind(text: &[u8], at: usize, left: u32, chain: &mut [u64], n: u32, b: Base) -> Spot
     ensures { outcome text.now result chain.new
-        ≡ emits (behind_items b) chain.old n (grammar.paramEnd left (tokens_at text.now at)) }
+        ≡ emits (behind_items b) chain.old n (grammar.param_end left (tokens_at text.now at)) }
 {
     let t = token(text, at);
     if t.sign == 60 {
@@ -214,10 +214,10 @@ fn param_behind(text: &[u8], at: usize, left: u32, chain: &mut [u64], n: u32, b:
 }
 
 // Behind a parameter.
-#[cycle(counts_declarator_in_brackets_param_behind_param_end_param_list_params_protos_starred_suffixes)]
+#[cycle(grammar)]
 fn param_end(text: &[u8], at: usize, left: u32, chain: &mut [u64], n: u32) -> Spot
     ensures { outcome text.now result chain.new
-        ≡ emits param_items chain.old n (grammar.paramEnd left (tokens_at text.now at)) }
+        ≡ emits param_items chain.old n (grammar.param_end left (tokens_at text.now at)) }
 {
     if left == 0 {
         return failed();
@@ -243,7 +243,7 @@ fn param_end(text: &[u8], at: usize, left: u32, chain: &mut [u64], n: u32) -> Sp
 // Behind `...`.
 fn dots_end(text: &[u8], at: usize, chain: &mut [u64], n: u32) -> Spot
     ensures { outcome text.now result chain.new
-        ≡ emits param_items chain.old n (emission.dotsEnd (tokens_at text.now at)) }
+        ≡ emits param_items chain.old n (emission.dots_end (tokens_at text.now at)) }
 {
     let t = token(text, at);
     if t.sign != 57 {

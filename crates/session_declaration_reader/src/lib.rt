@@ -1,4 +1,6 @@
 // One declaration read from its text into its chain.
+#![tactic(auto)]
+
 pub mod bases;
 pub mod grammar;
 pub mod reader;

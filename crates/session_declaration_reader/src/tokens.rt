@@ -12,7 +12,7 @@ use base_keywords::table::{
     is_const, is_dots, is_enum, is_restrict, is_struct, is_union, is_void, is_volatile,
 };
 
-#[derive(Drop)]
+#[derive(Clone, Copy)]
 pub struct Tok {
     pub sign: u32,
     pub count: u32,

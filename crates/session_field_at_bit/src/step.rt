@@ -16,7 +16,7 @@ use btf_type_table::kind::vlen_of;
 use spec_type_table::{BtfMember, BtfType, TypeTable};
 
 // What the walk sees of a type: a typedef, a qualifier or a type tag is passed, to its target; an array has an element.
-#[derive(Drop)]
+#[derive(Clone, Copy)]
 pub enum Shape {
     Plain,
     Through(u32),
@@ -25,7 +25,7 @@ pub enum Shape {
 }
 
 // One step of the walk: no further; into entry k, to a type and a bit of it; to entry k, a bit field; a refusal.
-#[derive(Drop)]
+#[derive(Clone, Copy)]
 pub enum Step {
     Stay,
     Enter(u32, u32, u32),

@@ -4,14 +4,14 @@ use spec_session::session::{Reached, Tally, Turn};
 
 // What a call is lent or told beside its ids: a ceiling on the calls of ordering, which its requests share, and whether there is a
 // list that gets an entry for each line.
-#[derive(Drop)]
+#[derive(Clone, Copy)]
 pub struct Options {
     pub ceiling: Ceiling,
     pub lists: bool,
 }
 
 // Where the requests of a call have come to, how many entries they left, and the calls of ordering made under a ceiling.
-#[derive(Drop)]
+#[derive(Clone, Copy)]
 pub struct Progress {
     pub reached: Reached,
     pub count: usize,
@@ -19,7 +19,7 @@ pub struct Progress {
 }
 
 // The same of the ids of a list.
-#[derive(Drop)]
+#[derive(Clone, Copy)]
 pub struct Tallied {
     pub tally: Tally,
     pub count: usize,
@@ -27,7 +27,7 @@ pub struct Tallied {
 }
 
 // What a call comes to, how many entries the list has, and the calls made.
-#[derive(Drop)]
+#[derive(Clone, Copy)]
 pub struct Ended {
     pub turn: Turn,
     pub count: usize,

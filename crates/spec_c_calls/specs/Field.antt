@@ -16,4 +16,7 @@ found_by f = path_export_of (packed f.answer) f.path
 -- a record of under 128 bytes: 11
 unfoldable pub field_export : List ℕ → List ℕ → List ℕ → List ℕ → ℕ → ℕ → PathExport
 field_export r section w path id bit =
-    elim (ltb (length r) 128) [ true ↦ path_export_of (11 * 4294967296) path | false ↦ found_by (field_call (decoded r) section w path id bit) ]
+    elim (ltb (length r) 128) [
+      | true ↦ path_export_of (11 * 4294967296) path
+      | false ↦ found_by (field_call (decoded r) section w path id bit)
+    ]

@@ -2,7 +2,8 @@
 -- Statements only; proofs/Claims.antt has the proof.
 use Rattle.std.specs.Prelude.{ℕ, ◌≡◌, true, false, ◌⊎◌}
 use mathlib.Core.List.{List, [], ◌∷◌, ◌++◌, Memᴰ}
-use Rattle.spec_c_dumper.specs.rules.Types.{Name, is_empty, BtfType, Void, Int, Ptr, Array, Composite, Enum, Enum64, Fwd, Typedef, Mod, Func}
+use Rattle.spec_c_dumper.specs.rules.Types.{Name, is_empty, BtfType, Void, Int, Ptr, Array, Composite, Enum, Enum64, Fwd, Typedef, Mod}
+use Rattle.spec_c_dumper.specs.rules.Types.{Func}
 use Rattle.spec_c_dumper.specs.rules.Types.{Var, Datasec, FuncProto, Float, DeclTag, TypeTag, Btf, name_of}
 use Rattle.spec_c_dumper.specs.rules.Names.{Space, tag_space, ident_space, builtin}
 use Rattle.spec_c_dumper.specs.needs.Lists.{Piece, defines, other}

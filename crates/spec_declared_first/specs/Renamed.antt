@@ -3,7 +3,8 @@
 use Rattle.std.specs.Prelude.{ℕ, ◌≡◌}
 use mathlib.Core.List.{List, Memᴰ}
 use Rattle.spec_c_dumper.specs.rules.Writer.{said_names}
-use Rattle.spec_c_dumper.specs.rules.Types.{Name, is_empty, BtfType, Void, Int, Ptr, Array, Composite, Enum, Enum64, Fwd, Typedef, Mod, Func}
+use Rattle.spec_c_dumper.specs.rules.Types.{Name, is_empty, BtfType, Void, Int, Ptr, Array, Composite, Enum, Enum64, Fwd, Typedef, Mod}
+use Rattle.spec_c_dumper.specs.rules.Types.{Func}
 use Rattle.spec_c_dumper.specs.rules.Types.{Var, Datasec, FuncProto, Float, DeclTag, TypeTag, Btf}
 use Rattle.spec_c_dumper.specs.rules.Names.{Naming, builtin}
 use Rattle.spec_c_dumper.specs.rules.Emit.{definition, forward}

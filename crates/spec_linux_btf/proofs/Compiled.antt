@@ -1,4 +1,4 @@
--- Two type sections that compilers wrote, with all 19 kinds between them. `clang-types` and `pahole-types` were taken from what libbpf's reader says of
+-- Two type sections that compilers wrote, with all 19 kinds between them. `clang_types` and `pahole_types` were taken from what libbpf's reader says of
 -- the files (`bpftool -j btf dump file`), the bytes from the files: so the definitions stand against a reader that was not written from them.
 --   clang: clang 14 -target bpf -g -O2 of tools/records/kinds.c. tools/records/compiled.sh makes the bytes again and compares.
 --   pahole: gcc -g and pahole -J (for ENUM64, which clang 14 does not write) of

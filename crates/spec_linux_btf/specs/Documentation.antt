@@ -4,7 +4,8 @@
 -- Written from the page alone, in its order and with its names; what it does not say is marked. It does not say how a section is read:
 -- `Reading`.
 -- The page's C structs have their words in one of two orders ("different encoding for big and little endian systems"): `big` says which.
-use Rattle.std.specs.Prelude.{ℕ, zero, suc, ◌+◌, ◌-◌, ◌*◌, ◌/◌, ◌%◌, ◌^◌, ◌<◌, ◌≤◌, ◌≡◌, Bool, true, false, List, [], ◌∷◌, ◌++◌, length, get_or}
+use Rattle.std.specs.Prelude.{ℕ, zero, suc, ◌+◌, ◌-◌, ◌*◌, ◌/◌, ◌%◌, ◌^◌, ◌<◌, ◌≤◌, ◌≡◌, Bool, true, false, List, [], ◌∷◌, ◌++◌, length}
+use Rattle.std.specs.Prelude.{get_or}
 use Prim.Native.String.{String}
 
 ---------------------------------------------------------------------------------------------------------------------------------------

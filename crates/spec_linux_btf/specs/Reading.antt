@@ -1,6 +1,7 @@
 -- The reader of a type section: total functions on bytes. A record is read in the bytes r from its place on, r = drop p b, so that its word
 -- at k is the word at p + k of b (law word-drop). Nothing here uses the tables of `Documentation`; `Claims` says that it reads by them.
-use Rattle.std.specs.Prelude.{ℕ, zero, suc, ◌+◌, ◌*◌, ◌/◌, ◌%◌, ◌<◌, Bool, true, false, ◌&&◌, List, [], ◌∷◌, map, length, get_or, drop, ltb, leb, eqb}
+use Rattle.std.specs.Prelude.{ℕ, zero, suc, ◌+◌, ◌*◌, ◌/◌, ◌%◌, ◌<◌, Bool, true, false, ◌&&◌, List, [], ◌∷◌, map, length, get_or, drop, ltb}
+use Rattle.std.specs.Prelude.{leb, eqb}
 use Rattle.spec_linux_btf.specs.Documentation.{Member, member, Enumerator, enumerator, Param, param, Secinfo, secinfo, Enumerator64}
 use Rattle.spec_linux_btf.specs.Documentation.{enumerator64, Body, int, ptr, array, struct, union, enum, fwd, typedef, volatile}
 use Rattle.spec_linux_btf.specs.Documentation.{const, restrict, func, func_proto, var, datasec, float, decl_tag_lem, type_tag, enum64}

@@ -3,7 +3,7 @@
 // The lengths are those at opening; text_len is the length of the text so far. Bit 0 of modes is union_as_struct,
 // bit 1 strong_arrays, bit 2 the placing mode, bit 3 names that cannot collide. visits: the types and members looked
 // at to find alignments, by the requests accepted so far.
-#[derive(Drop)]
+#[derive(Clone, Copy)]
 pub struct Session {
     pub open: bool,
     pub section_len: u64,
@@ -17,14 +17,14 @@ pub struct Session {
 }
 
 // Accepted: the value. Refused: the number and the value.
-#[derive(Drop)]
+#[derive(Clone, Copy)]
 pub enum Answer {
     Accepted(u32),
     Refused(u32, u32),
 }
 
 // What a call comes to: the session after it, and the answer.
-#[derive(Drop)]
+#[derive(Clone, Copy)]
 pub struct Turn {
     pub session: Session,
     pub answer: Answer,
@@ -32,7 +32,7 @@ pub struct Turn {
 
 // Where the requests of a call have come to: the length of the accepted text, and the refusal that ended them, or 0; with a
 // refusal also the visits counted before it.
-#[derive(Drop)]
+#[derive(Clone, Copy)]
 pub struct Reached {
     pub len: u32,
     pub number: u32,
@@ -40,7 +40,7 @@ pub struct Reached {
 }
 
 // Where the ids of a list have come to: as Reached, and how many were accepted; the visits are those of the record.
-#[derive(Drop)]
+#[derive(Clone, Copy)]
 pub struct Tally {
     pub len: u32,
     pub number: u32,

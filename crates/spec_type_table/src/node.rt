@@ -2,7 +2,7 @@
 use crate::types::Entries;
 
 // Listed: an enum, or, with true, a forward. Through: a qualifier, a type tag, or, with true, an array.
-#[derive(Drop)]
+#[derive(Clone, Copy)]
 pub enum Node {
     Ignored,
     Plain,

@@ -2,7 +2,7 @@
 
 // A section that was opened: the settings chosen then, the order of its bytes, the count of types, and where its string area
 // starts. (Sixteen bytes, since it is handed on with every call.)
-#[derive(Drop)]
+#[derive(Clone, Copy)]
 pub struct TypeTable {
     pub ptr_sz: u32,
     pub union_as_struct: bool,
@@ -14,13 +14,13 @@ pub struct TypeTable {
 }
 
 // The entries that follow the record at a place: how many there are.
-#[derive(Drop)]
+#[derive(Clone, Copy)]
 pub struct Entries {
     pub at: u32,
     pub vlen: u32,
 }
 
-#[derive(Drop)]
+#[derive(Clone, Copy)]
 pub struct BtfMember {
     pub name_off: u32,
     pub type_id: u32,
@@ -29,7 +29,7 @@ pub struct BtfMember {
 }
 
 // struct btf_type and the place where it stands; type_id is the size of kinds that have one. Void is all zeros.
-#[derive(Drop)]
+#[derive(Clone, Copy)]
 pub struct BtfType {
     pub at: u32,
     pub name_off: u32,
@@ -38,7 +38,7 @@ pub struct BtfType {
 }
 
 // How many bytes follow the twelve of a record.
-#[derive(Drop)]
+#[derive(Clone, Copy)]
 pub enum Extra {
     Bytes(u32),
     Refused,

@@ -9,7 +9,8 @@ use Rattle.btf_layout.specs.declared.size.Packed.{Packed}
 use Rattle.btf_layout.specs.declared.size.Packed.TheVariants.{Is, No as NoPacked}
 use Rattle.spec_c_dumper.specs.alignment_once.Once.{Keep, Once, found, refused, Asking, once_then, alignment_once}
 use Rattle.spec_type_table.specs.Cells.{get_field}
-use Rattle.spec_c_dumper.specs.alignment_once.Steps.{plainly, members_packed_once, packed_once, gap_align_once, union_align_once, padding_once}
+use Rattle.spec_c_dumper.specs.alignment_once.Steps.{plainly, members_packed_once, packed_once, gap_align_once, union_align_once}
+use Rattle.spec_c_dumper.specs.alignment_once.Steps.{padding_once}
 use Rattle.spec_c_dumper.specs.alignment_once.Steps.{body_once}
 use Rattle.spec_c_dumper.specs.alignment_once.Writers.{Asks}
 use Rattle.btf_layout.specs.remembered.Words.{work_keep, forget}

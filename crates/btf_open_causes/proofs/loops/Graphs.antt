@@ -2,7 +2,7 @@
 use Prim.Native.Nat.{ℕ, zero, suc, ◌+◌, ◌-◌, ◌<◌, ◌≤◌}
 use mathlib.Core.Path.{◌≡◌, refl, ap, ◌∙◌, sym, subst}
 use mathlib.Core.Bool.{true}
-use mathlib.Core.Logic.{⊎_elim, ◌⊎◌, ◌↔◌}
+use mathlib.Core.Logic.{⊎_elim, ◌↔◌}
 use native.Mathlib.Omega.{arith}
 use Rattle.spec_bytes.proofs.words.Laws.{le_or_lt}
 use Rattle.btf_open_causes.specs.loops.Graph.{Graph, Edge, Loop, long, has_loop}

@@ -8,7 +8,8 @@ use borrow.Author.Tests.{le-ltb, ltb-true, ne_eqb}
 use Rattle.spec_bytes.specs.words.Words.{pick}
 use Rattle.spec_type_table.specs.declared.types.TypeTable.{TypeTable}
 use Rattle.spec_type_table.specs.Records.{section_word, vlen_of}
-use Rattle.btf_open_causes.specs.references.Followed.{is_kind_among, type_count, entry_at, place_of, kind_at, composites, targets, count_for}
+use Rattle.btf_open_causes.specs.references.Followed.{is_kind_among, type_count, entry_at, place_of, kind_at, composites, targets}
+use Rattle.btf_open_causes.specs.references.Followed.{count_for}
 use Rattle.btf_open_causes.specs.references.Followed.{count_at, followed_count}
 
 pub count_fits : (b : TypeTable) → type_count b ≤ 262145
@@ -38,7 +39,8 @@ module _ (b : TypeTable) (s : List ℕ) where
   unfolding count_at count_for
   count_few kind at = go (is_kind_among targets kind) (is_kind_among composites kind) (eqb kind 13)
     where
-      go : (t u w : Bool) → pick t 1 (pick u (vlen_of (section_word b s (at + 4))) (pick w (vlen_of (section_word b s (at + 4)) + 1) 0)) ≤ 65536
+      go : (t u w : Bool)
+          → pick t 1 (pick u (vlen_of (section_word b s (at + 4))) (pick w (vlen_of (section_word b s (at + 4)) + 1) 0)) ≤ 65536
       go true u w = omega arith
       go false true w = omega arith
       go false false true = omega arith

@@ -64,7 +64,8 @@ module _ (b : TypeTable) (s : List ℕ) where
 
     unfoldable pub enums_put : List ℕ → ℕ → List ℕ
     enums_put w zero = w
-    enums_put w (suc n) = enum_with b.types (get_or start (suc n) 0) (values_at (get_or start (suc n) 0)) (suc n) (enums_to n) (enums_put w n)
+    enums_put w (suc n) =
+        enum_with b.types (get_or start (suc n) 0) (values_at (get_or start (suc n) 0)) (suc n) (enums_to n) (enums_put w n)
 
     -- from the last to the first, so that the tags of a type stand in rising order
     unfoldable pub tags_put : ℕ → List ℕ → List ℕ

@@ -54,7 +54,8 @@ base_from key h (suc f) c = elim (leb 2 (suffix_on (key c) (key h))) [ true ↦ 
 
 -- h in front of the list of c, which has its first holder at c; with the number that its name takes
 unfoldable pub listed_on : ℕ → ℕ → ℕ → ℕ → List ℕ → List ℕ
-listed_on types c h m w = put_word (put_word (put_word w (next_p types h) (get_word w (head_p types c))) (taken_p types h) m) (head_p types c) h
+listed_on types c h m w =
+    put_word (put_word (put_word w (next_p types h) (get_word w (head_p types c))) (taken_p types h) m) (head_p types c) h
 
 module _ (b : TypeTable) (s : List ℕ) (n : ℕ) where
   -- on the list of c, or of none where c is 0

@@ -44,7 +44,7 @@ fn name_of(b: TypeTable, section: &[u8], at: u32) -> usize
 }
 
 // The space of a holder, and where its name stands. A name without a space is not looked at.
-#[derive(Drop)]
+#[derive(Clone, Copy)]
 pub struct Key {
     pub space: u32,
     pub name: usize,

@@ -11,7 +11,8 @@ use Rattle.spec_c_dumper.specs.rules.Types.{Name, is_empty, Member, Param, Enume
 use Rattle.spec_c_dumper.specs.rules.Names.{Naming}
 use Rattle.spec_c_dumper.specs.rules.Layout.{Pad, end_of}
 use Rattle.spec_c_dumper.specs.rules.Decl.{Entry, base, star, qual, array, proto, tag, mods, no_mods, qualifier, attribute, brackets, pads}
-use Rattle.spec_c_dumper.specs.rules.Decl.{bit_size_of, emit_decl_tags, emit_enum_def, enum_word, emit_param, emit_params, base_word, emit_array}
+use Rattle.spec_c_dumper.specs.rules.Decl.{bit_size_of, emit_decl_tags, emit_enum_def, enum_word, emit_param, emit_params, base_word}
+use Rattle.spec_c_dumper.specs.rules.Decl.{emit_array}
 use Rattle.spec_c_dumper.specs.rules.Decl.{emit_proto, param_list, chain_loop}
 use Rattle.spec_c_dumper.specs.alignment_once.Writers.{Asks, given_once, emit_members_once, emit_type_decl_once, emit_type_chain_once}
 use Rattle.spec_c_dumper.specs.alignment_once.Writers.{emit_composite_def_once}
@@ -98,7 +99,8 @@ module _ {U : Type 0} (Q : Asks U) (N : Naming U) (B : Btf) (below : ℕ) where
 
     abbrev pub param_list_below : List Param → Writer U
     param_list_below ps =
-        param_list N B (emit_type_decl_once Q N B below) (emit_type_chain_once Q N B below) (emit_composite_def_once Q N B below) fname lvl ps
+        param_list N B (emit_type_decl_once Q N B below) (emit_type_chain_once Q N B below)
+        (emit_composite_def_once Q N B below) fname lvl ps
 
     abbrev pub loop_below : ℕ → Bool → List Entry → Writer U
     loop_below n last_was_ptr c =
@@ -109,7 +111,8 @@ module _ {U : Type 0} (Q : Asks U) (N : Naming U) (B : Btf) (below : ℕ) where
     unfoldable pub entry_text : Bool → List Entry → Writer U
     entry_text last_was_ptr [] = nothing
     entry_text last_was_ptr (base id ∷ c) =
-        put (mods c) ⨾ base_word N B (emit_type_decl_once Q N B below) (emit_type_chain_once Q N B below) (emit_composite_def_once Q N B below) fname
+        put (mods c)
+        ⨾ base_word N B (emit_type_decl_once Q N B below) (emit_type_chain_once Q N B below) (emit_composite_def_once Q N B below) fname
         lvl id (B.type_by_id id)
     entry_text last_was_ptr (star ∷ c) = put (star_text last_was_ptr)
     entry_text last_was_ptr (qual q ∷ c) = put (ascii " " ++ qualifier q)

@@ -1,7 +1,7 @@
 // The parts of a composite's body and the words of a base that call no declaration.
 ghost use Rattle.std.specs.Prelude.{◌≡◌, eqb};
 ghost use Rattle.spec_c_dumper.specs.rules.Writer.{put};
-ghost use Rattle.spec_c_dumper.specs.rules.Names.{identSpace, resolve_type_name};
+ghost use Rattle.spec_c_dumper.specs.rules.Names.{ident_space, resolve_type_name};
 ghost use Rattle.spec_c_dumper.specs.rules.Layout.{end_of};
 ghost use Rattle.spec_c_dumper.specs.rules.Decl.{composite_head, composite_end};
 ghost use Rattle.spec_c_dumper.specs.rules.Place.{out_of, put_said};
@@ -25,7 +25,7 @@ use c_dumper_name_versions::tags::{WHOLE_TYPE, emit_decl_tags};
 use spec_type_table::{BtfMember, BtfType, TypeTable};
 
 // Where a member ended: the place in the text, and the bit where the next may begin.
-#[derive(Drop)]
+#[derive(Clone, Copy)]
 pub struct Spot {
     pub at: usize,
     pub offset: u32,
@@ -63,7 +63,7 @@ pub fn put_typedef_name(
     name_off: u32,
 ) -> usize
     ensures { out_of result text.new work.new
-        ≡ put_said text.old at (resolve_type_name (work_naming b) identSpace id (str_at b section.now name_off) put
+        ≡ put_said text.old at (resolve_type_name (work_naming b) ident_space id (str_at b section.now name_off) put
         work.old) }
 {
     let name = resolve_type_name(b, section, work, id, name_off);

@@ -15,7 +15,7 @@ use spec_type_table::{BtfType, TypeTable};
 
 // Whether a kind leads on in a chain; any other is a base.
 fn is_link(kind: u32) -> bool
-    ensures { result ≡ chains.isLink kind }
+    ensures { result ≡ chains.is_link kind }
 {
     match kind {
         kind::PTR
@@ -38,7 +38,7 @@ fn next_of(b: TypeTable, section: &[u8], t: BtfType) -> u32
 }
 
 // The base that a chain ends with, its record, and how many entries lead there.
-#[derive(Drop)]
+#[derive(Clone, Copy)]
 pub struct Base {
     pub id: u32,
     pub t: BtfType,
@@ -46,7 +46,7 @@ pub struct Base {
 }
 
 // What the walk of a chain comes to: its base, or why there is none.
-#[derive(Drop)]
+#[derive(Clone, Copy)]
 pub enum Walked {
     Got(Base),
     No(u32),
@@ -96,7 +96,7 @@ pub fn kind_on_top(b: TypeTable, section: &[u8], work: &[u8], start: u32, n: u32
 }
 
 pub fn is_qualifier(kind: u32) -> bool
-    ensures { result ≡ chains.isQualifier kind }
+    ensures { result ≡ chains.is_qualifier kind }
 {
     match kind {
         kind::VOLATILE..=kind::RESTRICT => true,

@@ -1,9 +1,9 @@
 -- Ordering without the leaders is ordering over the work. Assumes nothing.
 use Prim.Native.Nat.{ℕ, zero, suc}
-use mathlib.Core.Path.{◌≡◌, refl, ap}
+use mathlib.Core.Path.{◌≡◌, refl}
 use mathlib.Core.Bool.{Bool, true, false}
 use Rattle.spec_c_dumper.specs.rules.Order.{Table}
-use Rattle.spec_c_dumper.specs.ceiling.Ceiling.{Limit, allows, one_call, Told, halted, visit_within, order_within}
+use Rattle.spec_c_dumper.specs.ceiling.Ceiling.{Limit, allows, one_call, Told, halted, order_within}
 use Rattle.spec_c_dumper.proofs.rules.Maps.{tmap, StoreMap, map_visit_within}
 use Rattle.c_dumper_dependency_order.specs.order_state.Work.{Marks, work_store}
 use Rattle.spec_c_dumper.specs.origins.Causes.{is_around}

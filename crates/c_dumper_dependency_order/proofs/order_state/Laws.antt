@@ -7,7 +7,7 @@ use mathlib.Core.Logic.{◌⊎◌, inl, inr}
 use native.Mathlib.Omega.{arith}
 use lib.Dec.{eqb}
 use borrow.Author.Tests.{ne_eqb}
-use Rattle.spec_c_dumper.specs.rules.Order.{Mark, new, busy, done, is_comp, is_done}
+use Rattle.spec_c_dumper.specs.rules.Order.{new, busy, done, is_comp, is_done}
 use Rattle.spec_c_dumper.specs.rules.Types.{BtfType, node_of, is_named}
 use Rattle.spec_type_table.specs.declared.types.TypeTable.{TypeTable}
 use Rattle.spec_type_table.specs.declared.types.BtfType.{BtfType as Record}

@@ -6,7 +6,7 @@ use mathlib.Core.Bool.{Bool, true, false, not, ◌&&◌, ◌||◌, true≢false}
 use native.Mathlib.Omega.{arith}
 use lib.Dec.{eqb}
 use borrow.Author.Tests.{ne_eqb}
-use Rattle.spec_c_dumper.specs.rules.Order.{Table, Mark, new, busy, done, is_comp, is_done, push_if, finish}
+use Rattle.spec_c_dumper.specs.rules.Order.{Table, Mark, new, busy, done, is_done, push_if, finish}
 use Rattle.spec_c_dumper.specs.rules.Types.{node_of, is_named, table_of}
 use Rattle.spec_c_dumper.specs.ceiling.Ceiling.{Limit, allows, one_call, Told, told, halted, then_bind, each_within, meet_within, enter_within, alias_within, fresh_within, visit_within}
 use Rattle.spec_c_dumper.specs.origins.Causes.{is_around}

@@ -4,7 +4,7 @@ ghost use Rattle.std.specs.Prelude.{◌≡◌};
 ghost use Rattle.spec_bytes.specs.text.Text.{whole, put_out, put_text};
 ghost use Rattle.spec_c_dumper.specs.rules.Writer.{put};
 ghost use Rattle.spec_c_dumper.specs.rules.Types.{is_empty};
-ghost use Rattle.spec_c_dumper.specs.rules.Names.{tagSpace, resolve_type_name};
+ghost use Rattle.spec_c_dumper.specs.rules.Names.{tag_space, resolve_type_name};
 ghost use Rattle.spec_c_dumper.specs.rules.Decl.{sep_name};
 ghost use Rattle.spec_type_table.specs.Names.{str_at};
 ghost use Rattle.spec_type_table.specs.Table.{work_naming, value_version_in};
@@ -20,7 +20,7 @@ use btf_type_table::name::{is_empty, put_str};
 use spec_type_table::TypeTable;
 
 // A name by its offset in the string area, and which of its holders prints it.
-#[derive(Drop)]
+#[derive(Clone, Copy)]
 pub struct Name {
     pub off: u32,
     pub version: u32,
@@ -40,7 +40,7 @@ pub fn bare(off: u32) -> Name
 pub fn resolve_type_name(b: TypeTable, section: &[u8], work: &mut [u8], id: u32, off: u32) -> Name
     ensures { (result.off ≡ off)
         × (put (name_text b section.now result) work.new
-        ≡ resolve_type_name (work_naming b) tagSpace id (str_at b section.now off) put work.old) }
+        ≡ resolve_type_name (work_naming b) tag_space id (str_at b section.now off) put work.old) }
 {
     if is_empty(b, section, off) {
         return bare(off);

@@ -8,7 +8,8 @@ use Rattle.btf_layout.specs.remembered.Words.{work_keep, forget}
 module _ (types : ℕ) (B : Btf) where
   unfoldable pub by_in : Bool → ℕ → ℕ → List Member → ℕ → List ℕ → Once (List ℕ) Bool
   by_in is_struct id sz ms a w =
-      forget (once_then (packed_once (work_keep types B) B is_struct id sz ms w 0) (λ packed. plainly (judged_by B is_struct sz ms a packed)))
+      forget (once_then (packed_once (work_keep types B) B is_struct id sz ms w 0)
+      (λ packed. plainly (judged_by B is_struct sz ms a packed)))
 
   unfoldable pub measured_in : Bool → ℕ → ℕ → List Member → List ℕ → Once (List ℕ) Bool
   measured_in is_struct id sz ms w = forget (measured_once (work_keep types B) B is_struct id sz ms w 0)

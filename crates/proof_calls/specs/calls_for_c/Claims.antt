@@ -83,7 +83,8 @@ pub data AfterC (pointer modes : ℕ) (s : List ℕ) (n : ℕ) : Export → List
   all_c : (e : Export) (rs : List Req) → AfterC pointer modes s n e rs → (text : List ℕ) → LentC e text
       → AfterC pointer modes s n (called_all s e text) (rs ++ (all (length text) ∷ []))
   list_c : (e : Export) (rs : List Req) → AfterC pointer modes s n e rs → (text : List ℕ) → LentC e text → (ids : List ℕ)
-      → AfterC pointer modes s n (called_list s e text ids) (rs ++ singles_for (length text) (made_in (called_list s e text ids)) (ids_in ids))
+      → AfterC pointer modes s n (called_list s e text ids)
+      (rs ++ singles_for (length text) (made_in (called_list s e text ids)) (ids_in ids))
 
 -- ---- opening
 
@@ -133,7 +134,8 @@ module _ (pointer modes : ℕ) (s : List ℕ) (n : ℕ) where
 
   abbrev pub all_by_rules : ℕ → List Req → Answer (Ls (Known Names))
   all_by_rules room rs =
-      every (machine_in pointer modes s n) (types_in pointer modes s n) room (ruled pointer modes s n rs) (ruled pointer modes s n rs).is_open
+      every (machine_in pointer modes s n) (types_in pointer modes s n) room
+      (ruled pointer modes s n rs) (ruled pointer modes s n rs).is_open
 
   -- In what follows e is what the last call came to, after the requests rs.
 
@@ -162,7 +164,8 @@ module _ (pointer modes : ℕ) (s : List ℕ) (n : ℕ) where
     -- "12 to 17 go by the Rust's sequence of steps; they zero the work words and close the session"
     pub is_open : open_in e ≡ (ruled pointer modes s n rs).is_open
     -- "the next request": its number is that of the rules, 13 and 14 among them, and so is its text
-    pub next_one : (text : List ℕ) → LentC e text → (id : ℕ) → TellsC (length text) (called_one s e text id) (one_by_rules (length text) rs id)
+    pub next_one : (text : List ℕ) → LentC e text → (id : ℕ)
+        → TellsC (length text) (called_one s e text id) (one_by_rules (length text) rs id)
     -- "is then the single requests from 1 upward, so a refusal keeps the text of those before it and returns its length"
     pub next_all : (text : List ℕ) → LentC e text → TellsC (length text) (called_all s e text) (all_by_rules (length text) rs)
     -- "After 12 to 17 the list may go on, and every later request gives 11": with the "old text length", and "everything" is left as it was

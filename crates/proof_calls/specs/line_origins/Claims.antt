@@ -44,7 +44,7 @@ module _ (pointer modes : ℕ) (s : List ℕ) (n : ℕ) where
 
   -- THE CLAIM, of all pointer sizes, modes, sections and lengths of the work. c: the last call, after the requests rs; l: the lent list.
   pub record Reasoned : Type 0 where
-    -- one id; `type-text` and `types-text` say of the text what demand 2 says of the calls that are lent no list
+    -- one id; `type_text` and `types_text` say of the text what demand 2 says of the calls that are lent no list
     pub type : (c : Call) (rs : List Req) → After pointer modes s n c rs → (text : List ℕ) → Lent c text → (id : ℕ) (l : List ℕ)
         → Agrees (type_causes c.session s c.work text id l) (one_ruled l (length text) rs id)
     pub type_text : (c : Call) (rs : List Req) → After pointer modes s n c rs → (text : List ℕ) → Lent c text → (id : ℕ) (l : List ℕ)

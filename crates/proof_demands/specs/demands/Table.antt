@@ -35,7 +35,8 @@ abbrev pub machine_in : ℕ → ℕ → List ℕ → ℕ → Machine (Ls (Known 
 machine_in pointer modes s n = machine_by (names_in pointer modes s n) (opened_table pointer modes s n)
 
 abbrev pub opened_in : ℕ → ℕ → List ℕ → ℕ → Sess (Ls (Known Names))
-opened_in pointer modes s n = opened_by (names_in pointer modes s n) (opened_table pointer modes s n) (no_names (opened_table pointer modes s n))
+opened_in pointer modes s n =
+    opened_by (names_in pointer modes s n) (opened_table pointer modes s n) (no_names (opened_table pointer modes s n))
 
 -- a DECL_TAG on type id
 abbrev pub is_tag_for : ℕ → BtfType → Bool

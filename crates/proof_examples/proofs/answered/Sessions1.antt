@@ -22,11 +22,12 @@ use Rattle.proof_examples.specs.answered.Sessions1.{sessions1}
 pub sessions1_hold : all_given sessions1 ≡ all_wanted sessions1
 unfolding one_more join bytes pfx digits decimal bind each meet push_if enter alias fresh visit order obind eeach once mention again close leaf within begin
     allowed look emit shut emitted ordered gate single onward from every ask_then checked said_text said_names after next put stop given ◌⨾◌ is_empty
-    larger smaller octets size_of get_size_of align_members align_of get_align_of off_align members_packed is_struct_packed chip_away_bits pad_of pads_of gap_pads
-    pads_before bit_padding end_of spelled resolving resolve_type_name resolve_name same_bytes holds holders with_one type_version value_version starts_with
-    contains builtin escaped_byte escaped deeper sep_name keyword attribute decl_tag decl_tags qualifier enum_value enum64_value chain_on chain_of mods no_mods
-    shown_params unit_word pads last_newline own_line tail_text body_packed tail_pads bit_size_of emit_composite_fwd emit_fwd_def enum_word emit_values enum_body
-    emit_enum_def emit_name brackets parens emit_param emit_params base_word emit_array emit_proto param_list chain_loop emit_members composite_head composite_end
-    composite_body composite_def emit_typedef_def emit_type_decl emit_type_chain emit_composite_def definition shown forward tags_id tags_from tags_of afresh
-    fitting line_of text_of answer_to dumped printed program twos signed signed_ll
+    larger smaller octets size_of get_size_of align_members align_of get_align_of off_align members_packed is_struct_packed chip_away_bits pad_of
+    pads_of gap_pads pads_before bit_padding end_of spelled resolving resolve_type_name resolve_name same_bytes holds holders with_one type_version
+    value_version starts_with contains builtin escaped_byte escaped deeper sep_name keyword attribute decl_tag decl_tags qualifier enum_value
+    enum64_value chain_on chain_of mods no_mods shown_params unit_word pads last_newline own_line tail_text body_packed tail_pads bit_size_of
+    emit_composite_fwd emit_fwd_def enum_word emit_values enum_body emit_enum_def emit_name brackets parens emit_param emit_params base_word
+    emit_array emit_proto param_list chain_loop emit_members composite_head composite_end composite_body composite_def emit_typedef_def emit_type_decl
+    emit_type_chain emit_composite_def definition shown forward tags_id tags_from tags_of afresh fitting line_of text_of answer_to dumped printed
+    program twos signed signed_ll
 sessions1_hold = refl

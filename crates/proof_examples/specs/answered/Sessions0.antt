@@ -1,5 +1,5 @@
 -- Written by tools/vectors.py. Sections and requests of oracle/answers.cases, each beside the answers.
--- That they are equal is `sessions0-hold` of proofs/Sessions0.
+-- That they are equal is `sessions0_hold` of proofs/Sessions0.
 use Rattle.std.specs.Prelude.{true, false, List, [], ◌∷◌}
 use Rattle.spec_bytes.specs.text.Text.{ascii}
 use Rattle.spec_c_dumper.specs.rules.Machine.{one, all}

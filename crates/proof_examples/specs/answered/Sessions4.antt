@@ -1,5 +1,5 @@
 -- Written by tools/vectors.py. Sections and requests of oracle/answers.cases, each beside the answers.
--- That they are equal is `sessions4-hold` of proofs/Sessions4.
+-- That they are equal is `sessions4_hold` of proofs/Sessions4.
 use Rattle.std.specs.Prelude.{true, false, List, [], ◌∷◌}
 use Rattle.spec_bytes.specs.text.Text.{ascii}
 use Rattle.spec_c_dumper.specs.rules.Machine.{one, all}

@@ -1,5 +1,5 @@
 -- Written by tools/vectors.py. Sections of crates/btfdump_replay/data at the limits of depth, each beside what the program prints.
--- That they are equal is `deepPrograms0-hold` of proofs/DeepPrograms0.
+-- That they are equal is `deep_programs0_hold` of proofs/DeepPrograms0.
 use Rattle.std.specs.Prelude.{true, false, List, [], ◌∷◌}
 use Rattle.spec_bytes.specs.text.Text.{ascii}
 use Rattle.spec_c_dumper.specs.rules.Listed.{listed}

@@ -1,5 +1,5 @@
 -- Written by tools/vectors.py. Sections and requests of oracle/answers.cases at the limits of depth, each beside the answers.
--- That they are equal is `deepSessions0-hold` of proofs/DeepSessions0.
+-- That they are equal is `deep_sessions0_hold` of proofs/DeepSessions0.
 use Rattle.std.specs.Prelude.{true, false, List, [], ◌∷◌}
 use Rattle.spec_bytes.specs.text.Text.{ascii}
 use Rattle.spec_c_dumper.specs.rules.Machine.{one, all}

@@ -1,5 +1,5 @@
 -- Written by tools/vectors.py. Sections and requests of oracle/answers.cases at the limits of depth, each beside the answers.
--- That they are equal is `deepSessions1-hold` of proofs/DeepSessions1.
+-- That they are equal is `deep_sessions1_hold` of proofs/DeepSessions1.
 use Rattle.std.specs.Prelude.{true, List, [], ◌∷◌}
 use Rattle.spec_bytes.specs.text.Text.{ascii}
 use Rattle.spec_c_dumper.specs.rules.Machine.{one}

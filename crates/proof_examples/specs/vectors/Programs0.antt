@@ -1,5 +1,5 @@
 -- Written by tools/vectors.py. Sections of crates/btfdump_replay/data: bytes, types, and what the program prints.
--- That they are equal is `programs0-hold` of proofs/Programs0.
+-- That they are equal is `programs0_hold` of proofs/Programs0.
 use Rattle.std.specs.Prelude.{true, false, List, [], ◌∷◌}
 use Rattle.spec_bytes.specs.text.Text.{ascii}
 use Rattle.proof_examples.specs.vectors.Base.{member, param, value}

@@ -1,5 +1,5 @@
 -- Written by tools/vectors.py. Sections of crates/btfdump_replay/data: bytes, types, and what the program prints.
--- That they are equal is `programs1-hold` of proofs/Programs1.
+-- That they are equal is `programs1_hold` of proofs/Programs1.
 use Rattle.std.specs.Prelude.{true, false, List, [], ◌∷◌}
 use Rattle.spec_bytes.specs.text.Text.{ascii}
 use Rattle.proof_examples.specs.vectors.Base.{member, param, value}

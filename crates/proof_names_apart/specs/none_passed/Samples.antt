@@ -22,7 +22,8 @@ abbrev pub both : List Req
 both = one 65536 2 ∷ one 65536 3 ∷ one 65536 1 ∷ []
 
 abbrev pub seen : List (List ℕ)
-seen = numbers_in (dump_watched twice not_both) ∷ numbers_in (dump_watched twice both) ∷ numbers_in (dump_watched twice (all 65536 ∷ [])) ∷ []
+seen =
+    numbers_in (dump_watched twice not_both) ∷ numbers_in (dump_watched twice both) ∷ numbers_in (dump_watched twice (all 65536 ∷ [])) ∷ []
 
 abbrev pub wanted : List (List ℕ)
 wanted = (0 ∷ 0 ∷ []) ∷ (0 ∷ 0 ∷ passed_over ∷ []) ∷ (passed_over ∷ []) ∷ []

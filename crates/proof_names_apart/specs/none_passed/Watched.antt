@@ -72,7 +72,8 @@ module _ (L : Lines (Known Watched)) (T : Table) where
   unfoldable pub dumped_watched : List (ℕ × ℕ) → List Req → Sess (Ls (Known Watched)) → Dump
   dumped_watched ns [] S = dump ns (text_of S.mach.pieces)
   dumped_watched ns (r ∷ rs) S =
-      dumped_watched (ns ++ (((answer_watched S r).number, (answer_watched S r).sess.mach.known.text_len) ∷ [])) rs (answer_watched S r).sess
+      dumped_watched (ns ++ (((answer_watched S r).number, (answer_watched S r).sess.mach.known.text_len) ∷ []))
+      rs (answer_watched S r).sess
 
   -- no request is refused for it
   abbrev pub NeverOver : List Req → Sess (Ls (Known Watched)) → Type 0

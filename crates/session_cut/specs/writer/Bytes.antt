@@ -47,7 +47,8 @@ module _ (b : TypeTable) (s start ids : List ℕ) where
     record_bytes e (suc n) = record_bytes e n ++ word_bytes b.big_endian (new_word e n)
 
     unfoldable pub type_bytes : ℕ → List ℕ
-    type_bytes x = elim (eqb (get_or ids x 0) 0) [ true ↦ [] | false ↦ record_bytes (entry_at b start x) (words_in b s (entry_at b start x)) ]
+    type_bytes x =
+        elim (eqb (get_or ids x 0) 0) [ true ↦ [] | false ↦ record_bytes (entry_at b start x) (words_in b s (entry_at b start x)) ]
 
     unfoldable pub types_bytes : ℕ → List ℕ
     types_bytes zero = []
@@ -56,7 +57,8 @@ module _ (b : TypeTable) (s start ids : List ℕ) where
   -- the whole section; types and strings: the lengths of the two
   unfoldable pub all_bytes : List ℕ → ℕ → ℕ → List ℕ
   all_bytes bases types strings =
-      (head_bytes b.big_endian (get_or s 3 0) types strings ++ types_bytes bases (type_count b)) ++ strings_bytes b s start ids (type_count b)
+      (head_bytes b.big_endian (get_or s 3 0) types strings ++ types_bytes bases (type_count b))
+      ++ strings_bytes b s start ids (type_count b)
 
 -- the name of word j of the record with entry e, and its 0, if it is written
 unfoldable pub name_if : TypeTable → List ℕ → ℕ → ℕ → Bool → List ℕ

@@ -16,7 +16,7 @@ use session_cut_marks::roles::{role, word_of, words_in};
 use spec_type_table::TypeTable;
 
 // Type x, which is kept: its entry, and the length of the strings before it.
-#[derive(Drop)]
+#[derive(Clone, Copy)]
 pub struct Kept {
     pub x: u32,
     pub e: u32,
@@ -25,7 +25,7 @@ pub struct Kept {
 
 // Word j of a record. `v`: what the table has for its name; `new`: the name is mentioned for the first time; `len`: the length of the
 // strings before it.
-#[derive(Drop)]
+#[derive(Clone, Copy)]
 pub struct Mention {
     pub j: u32,
     pub v: u64,

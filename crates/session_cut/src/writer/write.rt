@@ -19,7 +19,7 @@ use session_cut_marks::roles::{role, word_of, words_in};
 use spec_type_table::TypeTable;
 
 // The lengths of the two areas.
-#[derive(Drop)]
+#[derive(Clone, Copy)]
 struct Sizes {
     types: u32,
     strings: u32,

@@ -61,7 +61,8 @@ module _ (b : TypeTable) (s : List ℕ) where
 
     -- the bytes of all new names of type x, if it is kept
     unfoldable pub record_size : ℕ → ℕ
-    record_size x = elim (eqb (get_or ids x 0) 0) [ true ↦ 0 | false ↦ new_sizes x (entry_at b start x) (words_in b s (entry_at b start x)) ]
+    record_size x =
+        elim (eqb (get_or ids x 0) 0) [ true ↦ 0 | false ↦ new_sizes x (entry_at b start x) (words_in b s (entry_at b start x)) ]
 
     -- the length of the strings before type x: the leading 0, and the new names of the types before
     unfoldable pub base_of : ℕ → ℕ
@@ -79,7 +80,8 @@ module _ (b : TypeTable) (s : List ℕ) where
       place_at off x =
           elim (mentions off x) [
             | false ↦ 0
-            | true ↦ get_or bases x 0 + new_sizes x (entry_at b start x) (first_from (entry_at b start x) off 0 (words_in b s (entry_at b start x)))
+            | true ↦ get_or bases x 0
+                + new_sizes x (entry_at b start x) (first_from (entry_at b start x) off 0 (words_in b s (entry_at b start x)))
           ]
 
       -- of the types from x on, k of them

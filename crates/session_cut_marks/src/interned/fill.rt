@@ -34,7 +34,7 @@ fn new_size(b: TypeTable, section: &[u8], start: &[u32], ids: &[u32], x: u32, e:
 }
 
 // Word j of the record with entry e, that of type x.
-#[derive(Drop)]
+#[derive(Clone, Copy)]
 struct Mention {
     x: u32,
     e: u32,

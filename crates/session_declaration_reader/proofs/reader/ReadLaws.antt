@@ -13,7 +13,7 @@ use Rattle.session_declaration_reader.specs.grammar.Chain.{Layers, named, pointe
 use Rattle.session_declaration_reader.specs.tokens.Tokens.{Token, qual, word, number, mark, tag_word, void_word, other_word}
 use Rattle.session_declaration_reader.specs.grammar.Grammar.{Reads, reads, fails, and_then, read_base, declarator}
 use Rattle.session_declaration_reader.specs.bases.Bases.{distinct, qual_run, after_quals, word_run, after_words, words_of, is_base}
-use Rattle.session_declaration_reader.specs.reader.Reading.{most, Read, chain, refused, read_tokens, within_most, whole, read_with}
+use Rattle.session_declaration_reader.specs.reader.Reading.{most, chain, refused, read_tokens, within_most, whole, read_with}
 use Rattle.session_declaration_reader.specs.tokens.Looking.{Span, tokens_at, sign_of, Looked}
 use Rattle.session_declaration_reader.specs.bases.Items.{Item, item, qual_items, one_more, put_item, Placed, placed, placing}
 use Rattle.session_declaration_reader.specs.grammar.Encoding.{base_item, base_kind, any_params, layer_items, param_items}

@@ -7,7 +7,7 @@ use crate::bases::{Base, Quals, is_qualifier};
 use base_bytes::limit;
 
 // Where reading stands in the text, how many entries there are; or that there is no such declaration.
-#[derive(Drop)]
+#[derive(Clone, Copy)]
 pub struct Spot {
     pub ok: bool,
     pub at: usize,

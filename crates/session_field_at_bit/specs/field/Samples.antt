@@ -1,4 +1,4 @@
--- A small table, and the paths of some of its bits: each beside what the definitions give. That they are equal is `samples-hold` of
+-- A small table, and the paths of some of its bits: each beside what the definitions give. That they are equal is `samples_hold` of
 -- proofs/Samples.
 use Rattle.std.specs.Prelude.{ℕ, true, false, List, [], ◌∷◌}
 use Rattle.spec_c_dumper.specs.rules.Writer.{Ask, got, no}

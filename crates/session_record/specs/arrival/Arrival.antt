@@ -1,4 +1,4 @@
--- `arrived_at` of calls/specs in numbers of 32 bits. What a request comes to always fits (`arrived-is` of proofs/Arrival), so nothing is
+-- `arrived_at` of calls/specs in numbers of 32 bits. What a request comes to always fits (`arrived_is` of proofs/Arrival), so nothing is
 -- lost.
 use Rattle.std.specs.Prelude.{ℕ, ◌+◌, ◌-◌, true, false, leb}
 use Rattle.spec_session.specs.declared.session.Reached.{Reached}

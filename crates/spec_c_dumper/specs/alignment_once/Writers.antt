@@ -52,7 +52,10 @@ module _ {St : Type 0} (Q : Asks St) (N : Naming St) (B : Btf) where
 
     unfoldable pub composite_def_once : Bool → Name → ℕ → List Member → ℕ → Writer St
     composite_def_once is_struct name sz ms lvl =
-        elim (builtin name) [ true ↦ nothing | false ↦ given_once (Q.body is_struct id sz ms) (composite_body_once is_struct name sz ms lvl) ]
+        elim (builtin name) [
+          | true ↦ nothing
+          | false ↦ given_once (Q.body is_struct id sz ms) (composite_body_once is_struct name sz ms lvl)
+        ]
 
   -- the three together
   unfoldable mutual

@@ -1,4 +1,4 @@
--- Samples of document 01 as whole programs: each section beside what the program prints of it. That they are equal is `programs-hold` of
+-- Samples of document 01 as whole programs: each section beside what the program prints of it. That they are equal is `programs_hold` of
 -- proofs/Samples.
 use Rattle.std.specs.Prelude.{List, [], ◌∷◌}
 use Rattle.spec_c_dumper.specs.rules.Samples.{Sample, gives, three_of_x, node, itself, behind_array}

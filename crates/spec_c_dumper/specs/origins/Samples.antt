@@ -79,7 +79,8 @@ given =
     ∷ told (one builtin_struct 9 3) ∷ text (one builtin_struct 9 3)
     ∷ told (one builtin_typedef 9 3) ∷ text (one builtin_typedef 9 3)
     ∷ told (one builtin_pointer 9 3) ∷ text (one builtin_pointer 9 3)
-    ∷ (one_causes (machine nameless_fwd) (table_of nameless_fwd) (shows_in nameless_fwd) (replicate 26 7) 65536 (opened nameless_fwd) 3).list
+    ∷ (one_causes (machine nameless_fwd) (table_of nameless_fwd) (shows_in nameless_fwd)
+    (replicate 26 7) 65536 (opened nameless_fwd) 3).list
     ∷ []
 
 abbrev pub wanted : List (List ℕ)

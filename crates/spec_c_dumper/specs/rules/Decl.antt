@@ -300,7 +300,8 @@ module _ {U : Type 0} (N : Naming U) (B : Btf) (decl : ℕ → Name → ℕ → 
       ⨾ given (end_of B m) (λ end. emit_decl_tags B id i ⨾ put (ascii ";") ⨾ emit_members tail lvl packed (i + 1) end ms)
 
   unfoldable pub composite_head : Bool → Name → Writer U
-  composite_head is_struct name = resolve_type_name N tag_space id name (λ n. put (keyword B is_struct) ⨾ put (sep_name n) ⨾ put (ascii " {"))
+  composite_head is_struct name =
+      resolve_type_name N tag_space id name (λ n. put (keyword B is_struct) ⨾ put (sep_name n) ⨾ put (ascii " {"))
 
   unfoldable pub composite_end : ℕ → List Member → Bool → Writer U
   composite_end lvl ms packed =

@@ -91,7 +91,8 @@ unfoldable pub is_struct_packed : Btf → Bool → ℕ → List Member → Ask B
 is_struct_packed B is_struct sz ms =
     elim is_struct [
       | false ↦ got false
-      | true ↦ ask_then (align_members (get_align_of 511 B) 1 ms) (λ a. elim (eqb (sz % a) 0) [ true ↦ members_packed B ms | false ↦ got true ])
+      | true ↦ ask_then (align_members (get_align_of 511 B) 1 ms)
+          (λ a. elim (eqb (sz % a) 0) [ true ↦ members_packed B ms | false ↦ got true ])
     ]
 
 -- emit_bit_padding: the pads of a gap, each a unit and a width
@@ -119,7 +120,7 @@ pad_of ptr_sz gap =
       ]
     ]
 
--- at most as many as the first number says; a pad is a bit at least, so `pads_of gap ptr-sz gap` has them all
+-- at most as many as the first number says; a pad is a bit at least, so `pads_of gap ptr_sz gap` has them all
 unfoldable pub pads_of : ℕ → ℕ → ℕ → List Pad
 pads_of zero ptr_sz gap = []
 pads_of (suc most) ptr_sz gap =

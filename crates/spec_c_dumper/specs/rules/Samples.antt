@@ -1,4 +1,4 @@
--- The marked samples of document 01: each beside what the definitions give. That they are equal is `samples-hold` of proofs/Samples.
+-- The marked samples of document 01: each beside what the definitions give. That they are equal is `samples_hold` of proofs/Samples.
 use Rattle.std.specs.Prelude.{ℕ, Bool, true, false, List, [], ◌∷◌, ◌++◌, get_or, set}
 use Prim.Native.String.{String}
 use Rattle.spec_bytes.specs.text.Text.{Text, whole, cut, ascii, bytes}
@@ -152,7 +152,8 @@ placed_samples =
     ∷ gives (placed 4 0 96) "\nint: 32;\nint: 32;\nint: 32;"
     ∷ gives (placed 8 8 96) "\nchar: 8;\nshort: 16;\nint: 32;\nint: 32;\nchar: 8;"
     ∷ gives (placed 8 3 5) "\nchar: 1;\nchar: 4;"
-    ∷ gives (body 8 (member "a" 3 0 ∷ bit_field "f" 1 48 16 ∷ [])) "struct s {\n\tchar a[3];\n\tchar: 8;\n\tshort: 16;\n\tint f: 16;\n};\n\n"
+    ∷ gives (body 8 (member "a" 3 0 ∷ bit_field "f" 1 48 16 ∷ []))
+    "struct s {\n\tchar a[3];\n\tchar: 8;\n\tshort: 16;\n\tint f: 16;\n};\n\n"
     ∷ gives (body 8 (member "c" 2 0 ∷ member "i" 1 32 ∷ [])) "struct s {\n\tchar c;\n\tint i;\n};\n\n"
     ∷ gives (body 16 (member "i" 1 0 ∷ [])) "struct s {\n\tint i;\n\tint: 32;\n\tlong: 64;\n};\n\n"
     ∷ gives (body 3 []) "struct s {\n\tshort: 16;\n\tchar: 8;\n};\n\n"

@@ -163,7 +163,7 @@ module _ (p modes : ℕ) (old : OldNames modes) (s : List ℕ) (n : ℕ) (ok : o
   renumbered no_requests = no_requests
   renumbered (request room x x' i r) = request room x x' (subst (NewNumber x) (sym i.1) (number x i.0)) (renumbered r)
 
-  -- `same-answers` of `spec_cut::section`, of the tables that the two openings leave
+  -- `same_answers` of `spec_cut::section`, of the tables that the two openings leave
   dumps : {rs rs' : List Req} → Renumbered (HasNewNumber p modes s n m n') rs rs' → dump_types B rs ≡ dump_types B' rs'
   dumps r = cut_claims.same_answers given m s s' b b' B B' tells good was new in_area in_new same_pointer same_union same_strong same_placing (renumbered r)
 

@@ -83,7 +83,8 @@ pub record RulesByTable : Type 1 where
       → put_text t at x ≡ stopped (number text_full)
   -- 18: placing mode, after all that is asked for was got
   pub not_placed : (B : Btf) (is_struct : Bool) (sz : ℕ) (ms : List Member) (a : ℕ) (packed : Bool) (x : Extent) (bits : ℕ)
-      → union_align B is_struct ms ≡ got a → is_struct_packed B is_struct sz ms ≡ got packed → extent_of B is_struct packed no_extent ms ≡ got x
+      → union_align B is_struct ms ≡ got a
+      → is_struct_packed B is_struct sz ms ≡ got packed → extent_of B is_struct packed no_extent ms ≡ got x
       → checked (8 * sz) ≡ got bits
       → (x.fits && size_fits is_struct a x.last bits) ≡ false → measured B is_struct sz ms ≡ no (number misplaced)
   -- 22: one more call would pass the ceiling

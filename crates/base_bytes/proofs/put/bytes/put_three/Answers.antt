@@ -1,0 +1,19 @@
+use native.Mathlib.Omega.{arith}
+use lib.ListN.{length-set}
+use Rattle.spec_bytes.proofs.text.TextLaws.{put_stays, put_full, put_three}
+use Rattle.base_bytes.proofs.put.bytes.put_three.Goals as goal
+
+pub returns-then-text-at : goal.returns-then-text-at
+returns-then-text-at c = put_stays _ _ _ (omega arith)
+
+pub returns-then-text-at-lt3 : goal.returns-then-text-at-lt3
+returns-then-text-at-lt3 c = put_full _ _ _ (omega arith) (omega arith)
+
+pub bounds-text-at-2 : goal.bounds-text-at-2
+bounds-text-at-2 c = simp length-set (omega arith)
+
+pub bounds-text-at-3 : goal.bounds-text-at-3
+bounds-text-at-3 c = simp length-set (omega arith)
+
+pub returns : goal.returns
+returns c = put_three _ _ _ _ _ (omega arith)

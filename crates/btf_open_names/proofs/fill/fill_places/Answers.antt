@@ -1,0 +1,15 @@
+use native.Mathlib.Omega.{arith}
+use mathlib.Core.Path.{refl}
+use Prim.Native.Nat.{◌-◌}
+use Rattle.btf_open_names.proofs.filled_work.Filled.{places_none, places_more, places_all}
+use Rattle.std.proofs.Common.{rules}
+use Rattle.btf_open_names.proofs.fill.fill_places.Goals as goal
+
+pub loop-x-init : goal.loop-x-init
+loop-x-init c = (places_none _ _, omega arith, omega arith, refl)
+
+pub loop-x-preserved : goal.loop-x-preserved
+loop-x-preserved c = (places_more _ _ _ c.loop-x.x c.loop-x.invariant.0 c.loop-x.invariant.1 _ c.entry_of.ensures _ c.put_field.ensures, omega arith, omega arith, search rules)
+
+pub returns : goal.returns
+returns c = places_all _ _ _ (c.loop-x.x - 1) _ c.loop-x.invariant.0 (omega arith)

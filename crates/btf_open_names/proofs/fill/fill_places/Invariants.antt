@@ -1,0 +1,11 @@
+use Rattle.btf_open_names.specs.filled_work.Left.{places_put}
+use lib.ListN.{length}
+use mathlib.Core.Path.{◌≡◌}
+use Prim.Native.Nat.{◌≤◌, ◌-◌}
+use Rattle.btf_open_names.proofs.fill.fill_places.Given as goal
+
+abbrev pub invariant-loop-x : goal.invariant-loop-x
+invariant-loop-x l = (l.work ≡ places_put l.start l.initial.work (l.x - 1)) × (1 ≤ l.x) × (l.x - 1 ≤ l.n - 1) × (length l.work ≡ length l.initial.work)
+
+abbrev pub decreases-loop-x : goal.decreases-loop-x
+decreases-loop-x l = l.n - l.x

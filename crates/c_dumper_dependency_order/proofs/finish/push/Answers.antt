@@ -1,0 +1,5 @@
+use Rattle.c_dumper_dependency_order.proofs.order_type.Laws as laws
+use Rattle.c_dumper_dependency_order.proofs.finish.push.Goals as goal
+
+pub returns : goal.returns
+returns c = laws.pushed _ _ _ _ _ _ _ _ c.note.ensures c.set_listed.ensures c.more.ensures

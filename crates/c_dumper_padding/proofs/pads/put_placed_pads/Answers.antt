@@ -1,0 +1,24 @@
+use Rattle.c_dumper_padding.proofs.pads.Laws.{goes_start}
+use Rattle.c_dumper_padding.proofs.pads.Placing.{placed_stopped, placed_end, placed_fits, placed_some, placed_more}
+use mathlib.Core.Path.{refl, sym, ◌∙◌}
+use native.Mathlib.Omega.{arith}
+use Rattle.std.proofs.Common.{rules}
+use Rattle.c_dumper_padding.proofs.pads.put_placed_pads.Goals as goal
+
+pub loop-s-init : goal.loop-s-init
+loop-s-init c = (refl, omega arith, goes_start _ _ _)
+
+pub returns-then-stopped : goal.returns-then-stopped
+returns-then-stopped c = placed_stopped _ _ _ _ _ _ _ _ _ c.loop-s.invariant.2 (sym c.stopped.ensures ∙ c.if-stopped.true)
+
+pub overflow_add-s : goal.overflow_add-s
+overflow_add-s c = omega (arith, placed_fits _ _ _ _ _ _ _ _ _ c.loop-s.invariant.2 _ c.loop-s-test.true c.placed_pad-pad.ensures, c.loop-s.invariant.1)
+
+pub loop-s-smaller : goal.loop-s-smaller
+loop-s-smaller c = placed_some _ _ _ _ _ _ _ _ _ c.loop-s.invariant.2 _ c.loop-s-test.true c.placed_pad-pad.ensures
+
+pub loop-s-preserved : goal.loop-s-preserved
+loop-s-preserved c = (search rules, c.loop-s.invariant.1, placed_more _ _ _ _ _ _ _ _ _ c.loop-s.invariant.2 _ c.loop-s-test.true c.placed_pad-pad.ensures _ _ c.put_pad-p.ensures)
+
+pub returns : goal.returns
+returns c = placed_end _ _ _ _ _ _ _ _ _ c.loop-s.invariant.2 c.loop-s-test.false

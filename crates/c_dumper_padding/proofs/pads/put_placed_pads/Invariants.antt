@@ -1,0 +1,13 @@
+use lib.ListN.{length}
+use mathlib.Core.Path.{◌≡◌}
+use Rattle.c_dumper_padding.proofs.pads.Laws.{Goes}
+use Rattle.spec_c_dumper.specs.rules.Decl.{pads}
+use Rattle.spec_c_dumper.specs.rules.Layout.{placed_pads}
+use Prim.Native.Nat.{◌-◌, ◌<◌}
+use Rattle.c_dumper_padding.proofs.pads.put_placed_pads.Given as goal
+
+abbrev pub invariant-loop-s : goal.invariant-loop-s
+invariant-loop-s l = (length l.text ≡ length l.initial.text) × (l.end < 18446744073709551616) × Goes l.initial.text l.at (pads l.lvl (placed_pads (l.end - l.start) l.ptr_sz l.start (l.end - l.start))) l.text l.p (pads l.lvl (placed_pads (l.end - l.s) l.ptr_sz l.s (l.end - l.s)))
+
+abbrev pub decreases-loop-s : goal.decreases-loop-s
+decreases-loop-s l = l.end - l.s
