@@ -63,20 +63,20 @@ module _ (B : Btf) where
   answer_by_lem S (one room x) = refl
   answer_by_lem S (all room) = refl
 
-  dump_by_lem : (ns : List (ℕ × ℕ)) (rs : List Req) (S : Sess (Ls (Known Names))) → dumped naming B ns rs S ≡ dump_by (machine_by naming B) (table_of B) ns rs S
+  dump_by_lem : (rs : List Req) (ns : List (ℕ × ℕ)) (S : Sess (Ls (Known Names))) → dumped naming B ns rs S ≡ dump_by (machine_by naming B) (table_of B) ns rs S
   unfolding dumped dump_by
-  dump_by_lem ns [] S = refl
-  dump_by_lem ns (r ∷ rs) S =
+  dump_by_lem [] ns S = refl
+  dump_by_lem (r ∷ rs) ns S =
       ap (λ (a : Answer (Ls (Known Names))). dumped naming B (ns ++ ((a.number, a.sess.mach.known.text_len) ∷ [])) rs a.sess) (answer_by_lem S r)
-      ∙ dump_by_lem _ rs _
+      ∙ dump_by_lem rs _ _
 
 -- the same over the table that opening gives and over the described one
 dump_described : (p modes : ℕ) (s : List ℕ) (n : ℕ) → Bytes s → opening_number p s n ≡ 0 → (rs : List Req) → dump_types (opened_table p modes s n) rs ≡ dump_types (table_in p modes s) rs
 dump_described p modes s n y ok rs =
-    dump_by_lem (opened_table p modes s n) [] rs (opened (opened_table p modes s n))
+    dump_by_lem (opened_table p modes s n) rs [] (opened (opened_table p modes s n))
     ∙ over_described p modes s n y ok naming
     (λ X T m. dump_by (machine_by naming (opened_table p modes s n)) (table_of (opened_table p modes s n)) [] rs (opened (opened_table p modes s n)) ≡ dump_by X T [] rs (fresh m)) refl
-    ∙ sym (dump_by_lem (table_in p modes s) [] rs (opened (table_in p modes s)))
+    ∙ sym (dump_by_lem (table_in p modes s) rs [] (opened (table_in p modes s)))
   where
     fresh : ℕ → Sess (Ls (Known Names))
     fresh m = record { is_open = true; mach = afresh m (record { names = record { versions = replicate m 0; ledger = [] }; text_len = 0 }); asked = [] }
