@@ -33,7 +33,7 @@ fn is_done(work: &[u8], id: u32, left: u32) -> bool
 }
 
 // cont is the composite or typedef that is being emitted around id, or 0 at the top.
-#[cycle(emit_composite_emit_members_emit_new_emit_params_emit_type)]
+#[cycle(emit_type)]
 pub fn emit_type(
     b: TypeTable,
     section: &[u8],
@@ -74,7 +74,7 @@ pub fn emit_type(
 }
 
 // An id that is not emitted yet.
-#[cycle(emit_composite_emit_members_emit_new_emit_params_emit_type)]
+#[cycle(emit_type)]
 fn emit_new(
     b: TypeTable,
     section: &[u8],
@@ -117,7 +117,7 @@ fn emit_new(
 }
 
 // A composite: at the top, or nameless, all that its members need first; else a forward line. At the top its definition.
-#[cycle(emit_composite_emit_members_emit_new_emit_params_emit_type)]
+#[cycle(emit_type)]
 fn emit_composite(
     b: TypeTable,
     section: &[u8],
@@ -149,7 +149,7 @@ fn emit_composite(
     end_composite(b, section, work, text, list, leads, q, a, id, t, cont)
 }
 
-#[cycle(emit_composite_emit_members_emit_new_emit_params_emit_type)]
+#[cycle(emit_type)]
 fn emit_members(
     b: TypeTable,
     section: &[u8],
@@ -183,7 +183,7 @@ fn emit_members(
     a
 }
 
-#[cycle(emit_composite_emit_members_emit_new_emit_params_emit_type)]
+#[cycle(emit_type)]
 fn emit_params(
     b: TypeTable,
     section: &[u8],

@@ -15,19 +15,19 @@ use borrow.Fn.Kinds.{In}
 use borrow.Fn.PlainCycle.{Measures, is, falls, and}
 use Rattle.c_dumper_emit.proofs.emit_type.emit_composite.Reads as emit-composite
 use Rattle.c_dumper_emit.proofs.emit_type.emit_composite.Kinds as emit-composite-kinds
-use Rattle.c_dumper_emit.proofs.emit_type.+emit_composite_emit_members_emit_new_emit_params_emit_type.Lts-emit_composite as emit-composite-lts
+use Rattle.c_dumper_emit.proofs.emit_type.+emit_type.Lts-emit_composite as emit-composite-lts
 use Rattle.c_dumper_emit.proofs.emit_type.emit_members.Reads as emit-members
 use Rattle.c_dumper_emit.proofs.emit_type.emit_members.Kinds as emit-members-kinds
-use Rattle.c_dumper_emit.proofs.emit_type.+emit_composite_emit_members_emit_new_emit_params_emit_type.Lts-emit_members as emit-members-lts
+use Rattle.c_dumper_emit.proofs.emit_type.+emit_type.Lts-emit_members as emit-members-lts
 use Rattle.c_dumper_emit.proofs.emit_type.emit_new.Reads as emit-new
 use Rattle.c_dumper_emit.proofs.emit_type.emit_new.Kinds as emit-new-kinds
-use Rattle.c_dumper_emit.proofs.emit_type.+emit_composite_emit_members_emit_new_emit_params_emit_type.Lts-emit_new as emit-new-lts
+use Rattle.c_dumper_emit.proofs.emit_type.+emit_type.Lts-emit_new as emit-new-lts
 use Rattle.c_dumper_emit.proofs.emit_type.emit_type.Reads as emit-type
 use Rattle.c_dumper_emit.proofs.emit_type.emit_type.Kinds as emit-type-kinds
-use Rattle.c_dumper_emit.proofs.emit_type.+emit_composite_emit_members_emit_new_emit_params_emit_type.Lts-emit_type as emit-type-lts
+use Rattle.c_dumper_emit.proofs.emit_type.+emit_type.Lts-emit_type as emit-type-lts
 use Rattle.c_dumper_emit.proofs.emit_type.emit_params.Reads as emit-params
 use Rattle.c_dumper_emit.proofs.emit_type.emit_params.Kinds as emit-params-kinds
-use Rattle.c_dumper_emit.proofs.emit_type.+emit_composite_emit_members_emit_new_emit_params_emit_type.Lts-emit_params as emit-params-lts
+use Rattle.c_dumper_emit.proofs.emit_type.+emit_type.Lts-emit_params as emit-params-lts
 use Rattle.btf_type_table.proofs.node.node_of.Reads as node-of-reads
 use Rattle.btf_type_table.proofs.kind.entries_of.Reads as entries-of-reads
 use Rattle.btf_type_table.proofs.kind.member_place.Reads as member-place-reads
@@ -46,10 +46,10 @@ use Rattle.c_dumper_emit.proofs.steps.end_typedef.Reads as end-typedef-reads
 use Rattle.c_dumper_emit.proofs.steps.mention_composite.Reads as mention-composite-reads
 use Rattle.btf_type_table.proofs.name.is_named.Reads as is-named-reads
 use Rattle.base_bytes.proofs.put.stopped.Reads as stopped-reads
-use Rattle.c_dumper_emit.proofs.emit_type.+emit_composite_emit_members_emit_new_emit_params_emit_type.{
+use Rattle.c_dumper_emit.proofs.emit_type.+emit_type.{
   statement,
 }
-use Rattle.c_dumper_emit.proofs.emit_type.+emit_composite_emit_members_emit_new_emit_params_emit_type.Tie.{
+use Rattle.c_dumper_emit.proofs.emit_type.+emit_type.Tie.{
   close,
 }
 
