@@ -1,4 +1,6 @@
 // Emission: which lines a listed id brings, with their entries; one request.
+#![tactic(auto)]
+
 pub mod dump_type;
 pub mod emit_type;
 pub mod entries;

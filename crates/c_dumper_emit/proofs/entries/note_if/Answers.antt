@@ -1,0 +1,8 @@
+use Rattle.c_dumper_emit.proofs.entries.Laws as laws
+use Rattle.c_dumper_emit.proofs.entries.note_if.Goals as goal
+
+pub returns-then-shown : goal.returns-then-shown
+returns-then-shown c = λ n w. laws.noteif_yes n _ _ w _ _ _ _ _ c.if-shown.true (c.note.ensures n w)
+
+pub returns : goal.returns
+returns c = λ n w. laws.noteif_no n _ _ w _ _ _ _ c.if-shown.false

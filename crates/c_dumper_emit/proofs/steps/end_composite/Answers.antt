@@ -1,0 +1,8 @@
+use Rattle.c_dumper_emit.proofs.steps.Laws as laws
+use Rattle.c_dumper_emit.proofs.steps.end_composite.Goals as goal
+
+pub returns-then-cont-ne0 : goal.returns-then-cont-ne0
+returns-then-cont-ne0 c = λ n. laws.ends_within _ _ _ _ n _ _ _ _ _ _ _ c.if-cont-ne0.true _ c.set_emit_state.ensures
+
+pub returns : goal.returns
+returns c = λ n. laws.ends_top _ _ _ _ n _ _ _ _ _ _ _ c.if-cont-ne0.false _ c.listed_origin-e.ensures _ _ _ _ (c.define-a.ensures n) _ c.set_emit_state-2.ensures
