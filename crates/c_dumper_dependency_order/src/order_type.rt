@@ -51,7 +51,8 @@ pub fn order_type(
     if state == 2 {
         return strong(p, true);
     }
-    if state == 1 {
+    let is_in_progress = state == 1;
+    if is_in_progress {
         return meet(b, section, work, p, id, has_ptr);
     }
     order_new(

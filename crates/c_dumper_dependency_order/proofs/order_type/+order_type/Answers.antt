@@ -77,8 +77,8 @@ order_type-returns-then-p-ne0 t c = laws.none_left _ _ _ _ _ c.if-o-ne0.false _ 
 pub order_type-returns-then-state-eq2 : goal.order_type-returns-then-state-eq2
 order_type-returns-then-state-eq2 t c = laws.order_done _ _ _ _ _ c.if-o-ne0.false _ _ _ _ c.if-left-eq0.false _ c.count_call-p.ensures c.if-p-ne0.false _ c.get_order_state-state.ensures _ c.if-state-eq2.true c.strong.ensures
 
-pub order_type-returns-then-state-eq1 : goal.order_type-returns-then-state-eq1
-order_type-returns-then-state-eq1 t c = laws.order_busy _ _ _ _ _ c.if-o-ne0.false _ _ _ _ c.if-left-eq0.false _ c.count_call-p.ensures c.if-p-ne0.false _ c.get_order_state-state.ensures _ c.if-state-eq1.true c.meet.ensures
+pub order_type-returns-then-is_in_progress : goal.order_type-returns-then-is_in_progress
+order_type-returns-then-is_in_progress t c = laws.order_busy _ _ _ _ _ c.if-o-ne0.false _ _ _ _ c.if-left-eq0.false _ c.count_call-p.ensures c.if-p-ne0.false _ c.get_order_state-state.ensures _ c.if-is_in_progress.true c.meet.ensures
 
 pub order_type-returns : goal.order_type-returns
-order_type-returns t c = laws.order_fresh _ _ _ _ _ c.if-o-ne0.false _ _ _ _ c.if-left-eq0.false _ c.count_call-p.ensures c.if-p-ne0.false _ c.get_order_state-state.ensures _ c.if-state-eq2.false c.if-state-eq1.false c.order_new.ensures
+order_type-returns t c = laws.order_fresh _ _ _ _ _ c.if-o-ne0.false _ _ _ _ c.if-left-eq0.false _ c.count_call-p.ensures c.if-p-ne0.false _ c.get_order_state-state.ensures _ c.if-state-eq2.false c.if-is_in_progress.false c.order_new.ensures
