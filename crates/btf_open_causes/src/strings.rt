@@ -5,6 +5,9 @@ ghost use Rattle.btf_open_causes.specs.header.Header.{is_magic, larger, largest_
 
 use crate::header::{Header, btf_header, is_big_endian};
 
+// The least length of a sound header.
+const LEAST_HEADER: u32 = 24;
+
 // The end of an area.
 fn area_end(h: Header, off: u32, len: u32) -> u64
     ensures { result ≡ h.hdr_len + off + len }
@@ -39,7 +42,7 @@ pub fn has_bad_header(section: &[u8]) -> bool
         return true;
     }
     let h = btf_header(section);
-    if h.hdr_len < 24 {
+    if h.hdr_len < LEAST_HEADER {
         return true;
     }
     let len = section.len() as u64;

@@ -5,11 +5,11 @@ use Rattle.btf_open_causes.proofs.strings.has_bad_header.Goals as goal
 pub returns-then-not-is_magic : goal.returns-then-not-is_magic
 returns-then-not-is_magic c = bad_magic _ _ c.is_magic.ensures c.if-not-is_magic.true
 
-pub returns-then-h-lt24 : goal.returns-then-h-lt24
-returns-then-h-lt24 c = bad_length _ _ c.btf_header-h.ensures (sym c.is_magic.ensures ∙ c.if-not-is_magic.false) c.if-h-lt24.true
+pub returns-then-h-lt-LEAST_HEADER : goal.returns-then-h-lt-LEAST_HEADER
+returns-then-h-lt-LEAST_HEADER c = bad_length _ _ c.btf_header-h.ensures (sym c.is_magic.ensures ∙ c.if-not-is_magic.false) c.if-h-lt-LEAST_HEADER.true
 
 pub returns-then-len-area_end : goal.returns-then-len-area_end
-returns-then-len-area_end c = bad_types _ _ c.btf_header-h.ensures (sym c.is_magic.ensures ∙ c.if-not-is_magic.false) c.if-h-lt24.false _ c.area_end.ensures c.if-len-area_end.true
+returns-then-len-area_end c = bad_types _ _ c.btf_header-h.ensures (sym c.is_magic.ensures ∙ c.if-not-is_magic.false) c.if-h-lt-LEAST_HEADER.false _ c.area_end.ensures c.if-len-area_end.true
 
 pub returns : goal.returns
-returns c = bad_last _ _ c.btf_header-h.ensures (sym c.is_magic.ensures ∙ c.if-not-is_magic.false) c.if-h-lt24.false _ c.area_end.ensures c.if-len-area_end.false _ c.area_end-2.ensures
+returns c = bad_last _ _ c.btf_header-h.ensures (sym c.is_magic.ensures ∙ c.if-not-is_magic.false) c.if-h-lt-LEAST_HEADER.false _ c.area_end.ensures c.if-len-area_end.false _ c.area_end-2.ensures
