@@ -1,1 +1,3 @@
+#![tactic(auto)]
+
 // proof_names_apart

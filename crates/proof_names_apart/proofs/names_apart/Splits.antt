@@ -1,5 +1,5 @@
 -- A spelling with a number splits in one way only into base, three underscores and digits. Assumes nothing.
-use Prim.Native.Nat.{ℕ, ◌+◌, ◌≤◌}
+use Prim.Native.Nat.{ℕ, ◌≤◌}
 use mathlib.Core.Path.{◌≡◌, refl, sym, ◌∙◌, ap, ap₂, subst}
 use mathlib.Core.List.{List, [], ◌∷◌, ◌++◌, append_cancel_right}
 use native.Mathlib.Omega.{arith}
