@@ -1,4 +1,6 @@
 // The calls of a session: opening, requests, and the entry points over a lent record.
+#![tactic(auto)]
+
 pub mod entry_points;
 pub mod open_call;
 pub mod options;

@@ -1,7 +1,7 @@
 -- One request with a list: what `dump_type` comes to is the request with entries of the definitions. Assumes nothing.
 use Prim.Native.Nat.{ℕ, zero-le, ◌+◌, ◌-◌, ◌<◌, ◌≤◌}
 use mathlib.Core.Path.{◌≡◌, refl, ap, ◌∙◌, sym}
-use mathlib.Core.Bool.{Bool, true, not}
+use mathlib.Core.Bool.{Bool, true}
 use mathlib.Core.List.{List, [], ◌++◌}
 use mathlib.Core.Logic.{⊎_elim}
 use native.Mathlib.Omega.{arith}
@@ -24,7 +24,6 @@ use Rattle.spec_session.proofs.emission.Laws as plainly
 use Rattle.spec_session.specs.declared.session.Reached.{Reached}
 use Rattle.spec_session.specs.session.Turns.{reached, refused_by, reach_of}
 use Rattle.spec_session.proofs.session.Laws.{reach_accepted, reach_refused}
-use Rattle.spec_session.specs.calls.Refusals.{number, refusal}
 use Rattle.spec_session.specs.calls.Calls.{limit_of, arrived_at, came_to, requested}
 use Rattle.spec_session.proofs.calls.Laws.{arrived_in_lem, arrived_past, asked, one_bound, one_reach}
 use Rattle.spec_c_dumper.specs.origins.Causes.{Noted, with_entries, up_to, shows_in, entries_in}
