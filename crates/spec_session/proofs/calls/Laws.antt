@@ -1,9 +1,9 @@
 -- A law for each return of the calls but the list's. Assumes nothing.
 use Prim.Native.Nat.{ℕ, zero-le, ◌+◌, ◌-◌, ◌%◌, ◌<◌, ◌≤◌}
 use mathlib.Core.Path.{◌≡◌, refl, ap, ◌∙◌, sym}
-use mathlib.Core.Bool.{Bool, true, false, not, true≢false}
+use mathlib.Core.Bool.{Bool, true, false, true≢false}
 use mathlib.Core.List.{List, ◌++◌, append_assoc}
-use mathlib.Core.Logic.{⊎_elim, ◌⊎◌}
+use mathlib.Core.Logic.{⊎_elim}
 use native.Mathlib.Omega.{arith}
 use lib.ListN.{length, take, drop, replicate}
 use lib.Dec.{eqb}
@@ -33,7 +33,6 @@ use Rattle.spec_session.specs.declared.session.Session.{Session}
 use Rattle.spec_session.specs.declared.session.Turn.{Turn}
 use Rattle.spec_session.specs.declared.session.Reached.{Reached}
 use Rattle.spec_session.specs.session.Answers.{answer_of}
-use Rattle.spec_session.specs.calls.Refusals.{number, refusal}
 use Rattle.spec_session.specs.session.Turns.{call_of, turn_of, reached, refused_by, reach_of}
 use Rattle.spec_session.specs.calls.Calls.{opened_call, open_call, limit_of, arrived_at, came_to, lent_to, requested}
 use Rattle.spec_session.proofs.session.Laws.{reach_accepted, reach_refused}

@@ -3,7 +3,6 @@ use Prim.Native.Nat.{ℕ, ◌+◌, ◌-◌, ◌≤◌}
 use mathlib.Core.Path.{◌≡◌, refl, ap, ◌∙◌, sym}
 use mathlib.Core.List.{List}
 use mathlib.Core.Logic.{⊎_elim}
-use native.Mathlib.Omega.{arith}
 use lib.ListN.{length}
 use Rattle.spec_bytes.specs.text.Text.{Out as TextOut, stopped, put_out}
 use Rattle.spec_bytes.proofs.text.TextLaws.{out_done, out_stopped}

@@ -1,5 +1,5 @@
 -- Emission in the lent slices: the machine of the rules over the work, the text and the place in it.
-use Rattle.std.specs.Prelude.{ℕ, zero, suc, Bool, true, false, not, ◌||◌, List, [], eqb}
+use Rattle.std.specs.Prelude.{ℕ, zero, suc, Bool, true, false, not, List, [], eqb}
 use Rattle.spec_c_dumper.specs.rules.Order.{Node, ignored, plain, listed, through, ptr, tdef, proto, comp, Mark, new, busy, done, Store}
 use Rattle.spec_c_dumper.specs.rules.Machine.{Out, wrote, stuck, Machine, emit}
 use Rattle.spec_c_dumper.specs.rules.Types.{Btf as Rules, table_of}
