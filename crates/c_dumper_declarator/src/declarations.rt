@@ -53,7 +53,7 @@ struct Chain {
     is_named: bool,
 }
 
-#[cycle(emit_array_emit_base_emit_based_emit_composite_word_emit_entry_emit_function_emit_links_emit_param_emit_params_emit_proto_emit_type_chain_emit_type_decl_emit_composite_def_emit_member_emit_members)]
+#[cycle(declarator)]
 pub fn emit_type_decl(
     b: TypeTable,
     section: &[u8],
@@ -81,7 +81,7 @@ pub fn emit_type_decl(
 }
 
 // A chain with its base on top. Most have nothing else, and then the name follows.
-#[cycle(emit_array_emit_base_emit_based_emit_composite_word_emit_entry_emit_function_emit_links_emit_param_emit_params_emit_proto_emit_type_chain_emit_type_decl_emit_composite_def_emit_member_emit_members)]
+#[cycle(declarator)]
 fn emit_based(
     b: TypeTable,
     section: &[u8],
@@ -118,7 +118,7 @@ fn emit_based(
 }
 
 // A chain of entries that all lead on.
-#[cycle(emit_array_emit_base_emit_based_emit_composite_word_emit_entry_emit_function_emit_links_emit_param_emit_params_emit_proto_emit_type_chain_emit_type_decl_emit_composite_def_emit_member_emit_members)]
+#[cycle(declarator)]
 fn emit_type_chain(
     b: TypeTable,
     section: &[u8],
@@ -146,7 +146,7 @@ fn emit_type_chain(
 }
 
 // What is left of it: entry by entry, and then the name.
-#[cycle(emit_array_emit_base_emit_based_emit_composite_word_emit_entry_emit_function_emit_links_emit_param_emit_params_emit_proto_emit_type_chain_emit_type_decl_emit_composite_def_emit_member_emit_members)]
+#[cycle(declarator)]
 fn emit_links(
     b: TypeTable,
     section: &[u8],
@@ -203,7 +203,7 @@ fn named(at: usize) -> Chain
 }
 
 // Pops and prints the entry on top; one of no other kind that leads on is a type tag.
-#[cycle(emit_array_emit_base_emit_based_emit_composite_word_emit_entry_emit_function_emit_links_emit_param_emit_params_emit_proto_emit_type_chain_emit_type_decl_emit_composite_def_emit_member_emit_members)]
+#[cycle(declarator)]
 fn emit_entry(
     b: TypeTable,
     section: &[u8],
@@ -248,7 +248,7 @@ fn emit_entry(
 }
 
 // A prototype: its qualifiers, the rest of the chain, and its parameters.
-#[cycle(emit_array_emit_base_emit_based_emit_composite_word_emit_entry_emit_function_emit_links_emit_param_emit_params_emit_proto_emit_type_chain_emit_type_decl_emit_composite_def_emit_member_emit_members)]
+#[cycle(declarator)]
 fn emit_function(
     b: TypeTable,
     section: &[u8],
@@ -279,7 +279,7 @@ fn emit_function(
 
 // The base's own words. What cannot be declared prints nothing, and a kind that there is not is void: opening refuses both. One arm
 // for both enums would be 20 instructions more for each declaration.
-#[cycle(emit_array_emit_base_emit_based_emit_composite_word_emit_entry_emit_function_emit_links_emit_param_emit_params_emit_proto_emit_type_chain_emit_type_decl_emit_composite_def_emit_member_emit_members)]
+#[cycle(declarator)]
 fn emit_base(
     b: TypeTable,
     section: &[u8],
@@ -324,7 +324,7 @@ fn emit_base(
 }
 
 // A nameless composite is printed inline.
-#[cycle(emit_array_emit_base_emit_based_emit_composite_word_emit_entry_emit_function_emit_links_emit_param_emit_params_emit_proto_emit_type_chain_emit_type_decl_emit_composite_def_emit_member_emit_members)]
+#[cycle(declarator)]
 fn emit_composite_word(
     b: TypeTable,
     section: &[u8],
@@ -349,7 +349,7 @@ fn emit_composite_word(
 }
 
 // What stands before the brackets of an array: the name, or the chain that is left.
-#[cycle(emit_array_emit_base_emit_based_emit_composite_word_emit_entry_emit_function_emit_links_emit_param_emit_params_emit_proto_emit_type_chain_emit_type_decl_emit_composite_def_emit_member_emit_members)]
+#[cycle(declarator)]
 fn emit_array(
     b: TypeTable,
     section: &[u8],
@@ -381,7 +381,7 @@ fn emit_array(
 }
 
 // What stands before the parameters of a prototype.
-#[cycle(emit_array_emit_base_emit_based_emit_composite_word_emit_entry_emit_function_emit_links_emit_param_emit_params_emit_proto_emit_type_chain_emit_type_decl_emit_composite_def_emit_member_emit_members)]
+#[cycle(declarator)]
 fn emit_proto(
     b: TypeTable,
     section: &[u8],
@@ -409,7 +409,7 @@ fn emit_proto(
 }
 
 // The parameters in parentheses.
-#[cycle(emit_array_emit_base_emit_based_emit_composite_word_emit_entry_emit_function_emit_links_emit_param_emit_params_emit_proto_emit_type_chain_emit_type_decl_emit_composite_def_emit_member_emit_members)]
+#[cycle(declarator)]
 fn emit_params(
     b: TypeTable,
     section: &[u8],
@@ -439,7 +439,7 @@ fn emit_params(
 }
 
 // One parameter; the last, if void, stands for any more.
-#[cycle(emit_array_emit_base_emit_based_emit_composite_word_emit_entry_emit_function_emit_links_emit_param_emit_params_emit_proto_emit_type_chain_emit_type_decl_emit_composite_def_emit_member_emit_members)]
+#[cycle(declarator)]
 fn emit_param(
     b: TypeTable,
     section: &[u8],

@@ -23,7 +23,7 @@ use c_dumper_padding::padding::{emit_bit_padding, emit_tail_padding};
 use c_dumper_padding::placing::body_packed;
 use spec_type_table::{BtfType, TypeTable};
 
-#[cycle(emit_array_emit_base_emit_based_emit_composite_word_emit_entry_emit_function_emit_links_emit_param_emit_params_emit_proto_emit_type_chain_emit_type_decl_emit_composite_def_emit_member_emit_members)]
+#[cycle(declarator)]
 pub fn emit_composite_def(
     b: TypeTable,
     section: &[u8],
@@ -70,7 +70,7 @@ pub fn emit_composite_def(
     }
 }
 
-#[cycle(emit_array_emit_base_emit_based_emit_composite_word_emit_entry_emit_function_emit_links_emit_param_emit_params_emit_proto_emit_type_chain_emit_type_decl_emit_composite_def_emit_member_emit_members)]
+#[cycle(declarator)]
 fn emit_members(
     b: TypeTable,
     section: &[u8],
@@ -102,7 +102,7 @@ fn emit_members(
     emit_tail_padding(b, text, s.at, t, k, s.offset, lvl)
 }
 
-#[cycle(emit_array_emit_base_emit_based_emit_composite_word_emit_entry_emit_function_emit_links_emit_param_emit_params_emit_proto_emit_type_chain_emit_type_decl_emit_composite_def_emit_member_emit_members)]
+#[cycle(declarator)]
 fn emit_member(
     b: TypeTable,
     section: &[u8],

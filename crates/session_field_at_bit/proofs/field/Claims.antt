@@ -1,7 +1,7 @@
 -- What a reader wants of the definitions of crates/session_field_at_bit/specs/step/Path.antt and specs/Calls.antt: which refusals there are
 -- and what 21 means; that a
 -- refused call leaves the path, and that an accepted one writes the entries and nothing else. Assumes nothing.
-use Prim.Native.Nat.{ℕ, zero, suc, ◌+◌, ◌-◌, ◌*◌, ◌/◌, ◌<◌, ◌≤◌}
+use Prim.Native.Nat.{ℕ, zero, suc, ◌+◌, ◌*◌, ◌/◌, ◌<◌, ◌≤◌}
 use mathlib.Core.Path.{◌≡◌, refl, ap, ◌∙◌, sym, subst}
 use mathlib.Core.Bool.{Bool, true, false}
 use mathlib.Core.List.{List, [], ◌∷◌}

@@ -1,0 +1,209 @@
+use Rattle.std.proofs.Common.{rules}
+use Rattle.c_dumper_bodies.proofs.chain.Only.{links_chain}
+use mathlib.Core.Path.{refl, ◌∙◌, sym}
+use mathlib.Core.Logic.{inl, inr}
+use Rattle.spec_c_dumper.proofs.rules.Writing.{put_only, said_stopped}
+use Rattle.c_dumper_declarator.proofs.declarations.Kept.{leads_start, leads_end}
+use Rattle.c_dumper_declarator.proofs.declarations.DeclLaws as chains
+use Rattle.c_dumper_declarator.proofs.declarations.DeclLaws.{chain_left, Clear}
+use Rattle.c_dumper_declarator.proofs.declarations.EntryLaws as entries
+use Rattle.c_dumper_declarator.proofs.declarations.MemberLaws as members
+use Rattle.c_dumper_declarator.proofs.declarations.MemberLaws.{params_left, members_left}
+use native.Mathlib.Omega.{arith}
+use Rattle.c_dumper_declarator.proofs.declarations.+declarator.Goals as goal
+use Rattle.c_dumper_declarator.proofs.declarations.+declarator.Goals.{emit_base-in_default-via-then-this-lt1, emit_base-in_default-via-else-this-lt1+else-this-lt4+else-this-lt6+else-this-lt19, emit_entry-in_default-via-then-this-lt9, emit_entry-in_default-via-else-this-lt9+else-this-lt12}
+
+pub emit_array-returns-then-n-eq0 : goal.emit_array-returns-then-n-eq0
+emit_array-returns-then-n-eq0 t c = entries.array_name _ _ _ _ _ _ _ _ _ _ _ _ _ c.if-n-eq0.true c.emit_name.ensures
+
+pub emit_array-emit_type_chain-requires : goal.emit_array-emit_type_chain-requires
+emit_array-emit_type_chain-requires t c = (omega arith, c.requires)
+
+pub emit_array-returns-then-kind_on_top-eq-ARRAY : goal.emit_array-returns-then-kind_on_top-eq-ARRAY
+emit_array-returns-then-kind_on_top-eq-ARRAY t c = entries.array_array _ _ _ _ _ _ _ _ _ _ _ c.if-n-eq0.false _ _ _ _ _ _ c.kind_on_top.ensures c.if-kind_on_top-eq-ARRAY.true c.put_gap-a.ensures c.emit_type_chain.ensures
+
+pub emit_array-emit_type_chain-e-requires : goal.emit_array-emit_type_chain-e-requires
+emit_array-emit_type_chain-e-requires t c = (omega arith, c.requires)
+
+pub emit_array-returns : goal.emit_array-returns
+emit_array-returns t c = entries.array_other _ _ _ _ _ _ _ _ _ _ _ c.if-n-eq0.false _ _ _ _ _ _ _ _ _ _ c.kind_on_top.ensures c.if-kind_on_top-eq-ARRAY.false c.put_gap-a.ensures c.put_open-c.ensures c.emit_type_chain-e.ensures c.put_close.ensures
+
+pub emit_base-returns-in-1 : goal.emit_base-returns-in-1
+emit_base-returns-in-1 t c = entries.word_name_lem _ _ _ _ _ _ _ _ c.kind_of.ensures _ _ _ _ _ _ c.in-1.is (put_only _ _ _ _ _ _ c.put_str.ensures)
+
+pub emit_base-returns-in-6 : goal.emit_base-returns-in-6
+emit_base-returns-in-6 t c = entries.word_enum _ _ _ _ _ _ _ _ c.kind_of.ensures _ _ _ _ _ _ (inl c.in-6.is) c.emit_enum_word.ensures
+
+pub emit_base-returns-in-7 : goal.emit_base-returns-in-7
+emit_base-returns-in-7 t c = entries.word_fwd _ _ _ _ _ _ _ _ c.kind_of.ensures _ _ _ _ _ _ _ c.in-7.is c.kind_flag_of.ensures c.emit_fwd_def.ensures
+
+pub emit_base-returns-in-8 : goal.emit_base-returns-in-8
+emit_base-returns-in-8 t c = entries.word_typedef _ _ _ _ _ _ _ _ c.kind_of.ensures _ _ _ _ _ _ c.in-8.is c.put_typedef_name.ensures
+
+pub emit_base-returns-in-19 : goal.emit_base-returns-in-19
+emit_base-returns-in-19 t c = entries.word_enum _ _ _ _ _ _ _ _ c.kind_of.ensures _ _ _ _ _ _ (inr c.in-19.is) c.emit_enum_word-in-19.ensures
+
+pub emit_base-returns-in-4 : goal.emit_base-returns-in-4
+emit_base-returns-in-4 t c = entries.word_composite _ _ _ _ _ _ _ _ c.kind_of.ensures _ _ _ _ _ _ (omega arith) (omega arith) (omega arith) c.emit_composite_word.ensures
+
+pub emit_base-returns-in-2 : goal.emit_base-returns-in-2
+emit_base-returns-in-2 t c = entries.word_low _ _ _ _ _ _ _ _ c.kind_of.ensures _ _ _ (omega arith) (omega arith) c.in-2.in_default-own.rest.0.0.0.0.1
+
+pub emit_base-returns-in-2-2 : goal.emit_base-returns-in-2-2
+emit_base-returns-in-2-2 t c = entries.word_mid _ _ _ _ _ _ _ _ c.kind_of.ensures _ _ _ (omega arith) (omega arith) c.in-2.in_default-own.rest.0.0.0.0.1 c.in-2.in_default-own.rest.0.0.0.1 c.in-2.in_default-own.rest.0.0.1 c.in-2.in_default-own.rest.0.1
+
+pub emit_base-returns-in_default : goal.emit_base-returns-in_default
+emit_base-returns-in_default t c = entries.word_void _ _ _ _ _ _ _ _ c.kind_of.ensures _ _ _ _ _ c.in_default-1.rest.1 (elim c.in_default.branch [ emit_base-in_default-via-then-this-lt1 w ↦ inl (omega arith) | emit_base-in_default-via-else-this-lt1+else-this-lt4+else-this-lt6+else-this-lt19 w ↦ inr (omega arith) ]) c.put_void.ensures
+
+pub emit_based-returns-then-left-eq0 : goal.emit_based-returns-then-left-eq0
+emit_based-returns-then-left-eq0 t c = chains.chain_zero _ _ _ _ _ _ _ _ _ _ c.if-left-eq0.true c.stop.ensures
+
+pub emit_based-returns-then-m-eq0 : goal.emit_based-returns-then-m-eq0
+emit_based-returns-then-m-eq0 t c = entries.based_name _ _ _ _ _ _ _ _ _ c.if-left-eq0.false _ _ c.requires.0 _ _ c.skip_mods-m.ensures.0 _ _ c.emit_mods-a.ensures _ _ _ c.emit_base-e.ensures _ _ c.if-m-eq0.true c.emit_name.ensures
+
+pub emit_based-returns-then-stopped : goal.emit_based-returns-then-stopped
+emit_based-returns-then-stopped t c = entries.based_stops _ _ _ _ _ _ _ _ _ c.if-left-eq0.false _ _ c.requires.0 _ _ c.skip_mods-m.ensures.0 _ _ c.emit_mods-a.ensures _ _ _ c.emit_base-e.ensures (sym c.stopped.ensures ∙ c.if-stopped.true)
+
+pub emit_based-emit_links-requires : goal.emit_based-emit_links-requires
+emit_based-emit_links-requires t c = (omega arith, entries.links_based _ _ _ _ _ _ _ _ _ _ c.skip_mods-m.ensures.0 _ _ _ _ _ c.emit_base-e.ensures (sym c.stopped.ensures ∙ c.if-stopped.false) c.requires.1)
+
+pub emit_based-returns : goal.emit_based-returns
+emit_based-returns t c = entries.based_on _ _ _ _ _ _ _ _ _ c.if-left-eq0.false _ _ c.requires.0 _ _ c.skip_mods-m.ensures.0 _ _ c.emit_mods-a.ensures _ _ _ c.emit_base-e.ensures _ _ _ c.emit_links.ensures
+
+pub emit_composite_word-returns-then-is_empty : goal.emit_composite_word-returns-then-is_empty
+emit_composite_word-returns-then-is_empty t c = entries.composite_inline _ c.args.section.now _ _ _ _ _ _ _ _ _ _ _ _ _ _ (sym c.is_empty.ensures ∙ c.if-is_empty.true) c.emit_composite_def.ensures
+
+pub emit_composite_word-returns : goal.emit_composite_word-returns
+emit_composite_word-returns t c = entries.composite_named _ c.args.section.now _ _ _ _ _ _ _ _ _ _ _ _ _ _ _ (sym c.is_empty.ensures ∙ c.if-is_empty.false) c.is_struct.ensures c.emit_composite_fwd.ensures
+
+pub emit_entry-emit_array-a-requires : goal.emit_entry-emit_array-a-requires
+emit_entry-emit_array-a-requires t c = (omega arith, entries.links_rest _ _ _ _ _ _ c.requires.0 c.skip_mods-m.ensures.0 c.requires.1)
+
+pub emit_entry-emit_function-requires : goal.emit_entry-emit_function-requires
+emit_entry-emit_function-requires t c = (omega arith, c.requires)
+
+pub emit_entry-returns-in-2 : goal.emit_entry-returns-in-2
+emit_entry-returns-in-2 t c = entries.arm_star _ _ _ _ _ _ c.args.c _ _ c.requires.0 _ c.path_at.ensures _ c.type_by_id-t.ensures _ c.kind_of.ensures _ _ _ c.in-2.is c.put_star.ensures c.goes_on.ensures
+
+pub emit_entry-returns-in-3 : goal.emit_entry-returns-in-3
+emit_entry-returns-in-3 t c = entries.arm_array _ _ _ _ _ _ c.args.c _ _ c.requires.0 _ c.path_at.ensures _ c.type_by_id-t.ensures _ c.kind_of.ensures _ _ _ _ _ _ _ _ c.in-3.is c.array_nelems-nelems.ensures c.skip_mods-m.ensures.0 c.emit_array-a.ensures c.put_count.ensures c.named.ensures
+
+pub emit_entry-returns-in-13 : goal.emit_entry-returns-in-13
+emit_entry-returns-in-13 t c = entries.arm_proto _ _ _ _ _ _ c.args.c _ _ c.requires.0 _ c.path_at.ensures _ c.type_by_id-t.ensures _ c.kind_of.ensures _ _ _ _ c.in-13.is c.emit_function.ensures c.named-in-13.ensures
+
+pub emit_entry-returns-in-9-to-11 : goal.emit_entry-returns-in-9-to-11
+emit_entry-returns-in-9-to-11 t c = entries.arm_qual _ _ _ _ _ _ c.args.c _ _ c.requires.0 _ c.path_at.ensures _ c.type_by_id-t.ensures _ c.kind_of.ensures _ _ _ _ _ _ (omega arith) (omega arith) c.kind_of-in-9-to-11.ensures c.put_byte-a.ensures c.put_qualifier.ensures c.goes_on-in-9-to-11.ensures
+
+pub emit_entry-returns-in_default : goal.emit_entry-returns-in_default
+emit_entry-returns-in_default t c = entries.arm_tag _ _ _ _ _ _ c.args.c _ _ c.requires.0 _ c.path_at.ensures _ c.type_by_id-t.ensures _ c.kind_of.ensures _ _ _ _ _ _ (entries.is_tag _ _ _ _ _ _ _ _ c.requires.0 c.path_at.ensures c.type_by_id-t.ensures c.kind_of.ensures c.requires.1 c.in_default-1.rest.0.0.1 c.in_default-1.rest.0.1 c.in_default-1.rest.1 (elim c.in_default.branch [ emit_entry-in_default-via-then-this-lt9 w ↦ inl (omega arith) | emit_entry-in_default-via-else-this-lt9+else-this-lt12 w ↦ inr (omega arith) ])) c.skip_mods-m-in_default.ensures.0 c.skip_mods-m-in_default.ensures.1 c.emit_mods-a.ensures c.put_type_tag.ensures c.goes_on-in_default.ensures
+
+pub emit_function-emit_proto-f-requires : goal.emit_function-emit_proto-f-requires
+emit_function-emit_proto-f-requires t c = (omega arith, entries.links_rest _ _ _ _ _ _ c.requires.0 c.skip_mods-m.ensures.0 c.requires.1)
+
+pub emit_function-returns : goal.emit_function-returns
+emit_function-returns t c = entries.function_put _ _ _ _ _ _ _ _ _ _ _ _ _ _ _ _ _ _ _ _ c.args.t _ c.skip_mods-m.ensures.0 c.entries_of.ensures c.emit_mods-a.ensures c.emit_proto-f.ensures c.emit_params.ensures
+
+pub emit_links-loop-c-init : goal.emit_links-loop-c-init
+emit_links-loop-c-init t c = (leads_start _ _ _ _ _, chains.clear_goes_on _ _ _ _ _ _ c.goes_on-c.ensures, chains.links_start _ _ _ _ _ _ _ _ c.goes_on-c.ensures c.requires, refl, refl)
+
+pub emit_links-emit_entry-c-requires : goal.emit_links-emit_entry-c-requires
+emit_links-emit_entry-c-requires t c = (omega arith, (c.loop-c-test.true, c.loop-c.invariant.2))
+
+pub emit_links-returns-then-stopped : goal.emit_links-returns-then-stopped
+emit_links-returns-then-stopped t c = chains.links_whole _ _ _ _ _ _ _ _ _ _ _ _ _ _ _ c.goes_on-c.ensures (chains.chain_stops _ _ _ _ _ _ _ _ _ _ _ _ (chains.chain_again _ _ _ _ _ _ _ _ _ _ _ _ _ _ _ c.loop-c-test.true c.loop-c.invariant.1 c.loop-c.invariant.0 c.emit_entry-c.ensures) (sym c.stopped.ensures ∙ c.if-stopped.true))
+
+pub emit_links-loop-c-smaller : goal.emit_links-loop-c-smaller
+emit_links-loop-c-smaller t c = let h = c.emit_entry-c.ensures.4 in omega arith
+
+pub emit_links-loop-c-preserved : goal.emit_links-loop-c-preserved
+emit_links-loop-c-preserved t c = (chains.chain_again _ _ _ _ _ _ _ _ _ _ _ _ _ _ _ c.loop-c-test.true c.loop-c.invariant.1 c.loop-c.invariant.0 c.emit_entry-c.ensures, chains.chain_clear _ _ _ _ _ _ c.loop-c.c _ _ _ _ _ c.emit_entry-c.ensures, chains.chain_links _ _ _ _ _ _ c.loop-c.c _ _ _ _ _ c.emit_entry-c.ensures (sym c.stopped.ensures ∙ c.if-stopped.false) c.loop-c.invariant.2, search rules, search rules)
+
+pub emit_links-returns-then-c : goal.emit_links-returns-then-c
+emit_links-returns-then-c t c = chains.links_whole _ _ _ _ _ _ _ _ _ _ _ _ _ _ _ c.goes_on-c.ensures (chains.chain_stands _ _ _ _ _ _ _ _ _ _ _ _ c.loop-c.invariant.0 c.if-c.true)
+
+pub emit_links-returns : goal.emit_links-returns
+emit_links-returns t c = chains.links_whole _ _ _ _ _ _ _ _ _ _ _ _ _ _ _ c.goes_on-c.ensures (chains.chain_ends _ _ _ _ _ _ _ _ _ _ _ _ _ _ c.loop-c.invariant.0 (omega arith) c.if-c.false c.emit_name.ensures)
+
+pub emit_param-returns-then-is_any_more : goal.emit_param-returns-then-is_any_more
+emit_param-returns-then-is_any_more t c = members.param_any _ _ _ _ _ _ _ _ _ _ _ _ c.param_place-p.ensures c.word-type_id.ensures _ c.is_any_more.ensures _ _ c.put_comma-a.ensures _ _ c.if-is_any_more.true c.put_dots.ensures
+
+pub emit_param-returns : goal.emit_param-returns
+emit_param-returns t c = members.param_decl _ _ _ _ _ _ _ _ _ _ _ _ c.param_place-p.ensures c.word-type_id.ensures _ c.is_any_more.ensures _ _ c.put_comma-a.ensures _ _ _ _ _ c.if-is_any_more.false c.word.ensures c.bare.ensures c.emit_type_decl.ensures
+
+pub emit_params-loop-k-init : goal.emit_params-loop-k-init
+emit_params-loop-k-init t c = (leads_start _ _ _ _ _, omega arith, omega arith, refl, refl)
+
+pub emit_params-returns-then-stopped : goal.emit_params-returns-then-stopped
+emit_params-returns-then-stopped t c = members.params_whole _ _ _ _ _ _ _ _ _ _ _ _ _ _ _ c.shown_params-shown.ensures c.put_open-p.ensures (leads_end _ _ _ _ _ _ _ _ _ _ _ c.loop-k.invariant.0 (said_stopped _ _ _ _ (sym c.stopped.ensures ∙ c.if-stopped.true)))
+
+pub emit_params-loop-k-preserved : goal.emit_params-loop-k-preserved
+emit_params-loop-k-preserved t c = (members.params_again _ _ _ _ _ _ _ _ _ _ _ _ _ _ _ _ c.loop-k-test.true c.loop-k.invariant.0 c.emit_param-p.ensures, omega arith, c.loop-k.invariant.2, search rules, search rules)
+
+pub emit_params-returns : goal.emit_params-returns
+emit_params-returns t c = members.params_whole _ _ _ _ _ _ _ _ _ _ _ _ _ _ _ c.shown_params-shown.ensures c.put_open-p.ensures (members.params_end _ _ _ _ _ _ _ _ _ _ _ _ _ _ _ c.loop-k-test.false c.loop-k.invariant.0 c.put_close.ensures)
+
+pub emit_proto-returns-then-n-eq0 : goal.emit_proto-returns-then-n-eq0
+emit_proto-returns-then-n-eq0 t c = entries.proto_name _ _ _ _ _ _ _ _ _ _ _ _ _ c.if-n-eq0.true c.emit_name.ensures
+
+pub emit_proto-emit_type_chain-c-requires : goal.emit_proto-emit_type_chain-c-requires
+emit_proto-emit_type_chain-c-requires t c = (omega arith, c.requires)
+
+pub emit_proto-returns : goal.emit_proto-returns
+emit_proto-returns t c = entries.proto_some _ _ _ _ _ _ _ _ _ _ _ c.if-n-eq0.false _ _ _ _ _ _ _ c.put_two-a.ensures c.emit_type_chain-c.ensures c.put_close.ensures
+
+pub emit_type_chain-returns-then-left-eq0 : goal.emit_type_chain-returns-then-left-eq0
+emit_type_chain-returns-then-left-eq0 t c = chains.chain_zero _ _ _ _ _ _ _ _ _ _ c.if-left-eq0.true c.stop.ensures
+
+pub emit_type_chain-returns-then-stopped : goal.emit_type_chain-returns-then-stopped
+emit_type_chain-returns-then-stopped t c = said_stopped _ _ _ _ (sym c.stopped.ensures ∙ c.if-stopped.true)
+
+pub emit_type_chain-emit_links-requires : goal.emit_type_chain-emit_links-requires
+emit_type_chain-emit_links-requires t c = (omega arith, c.requires)
+
+pub emit_type_chain-returns : goal.emit_type_chain-returns
+emit_type_chain-returns t c = chains.chain_whole _ _ _ _ _ _ _ _ _ _ _ _ _ c.if-left-eq0.false c.emit_links.ensures
+
+pub emit_type_decl-returns-then-left-eq0 : goal.emit_type_decl-returns-then-left-eq0
+emit_type_decl-returns-then-left-eq0 t c = chains.decl_zero _ _ _ _ _ _ _ _ _ _ c.if-left-eq0.true c.stop.ensures
+
+pub emit_type_decl-returns-then-stopped : goal.emit_type_decl-returns-then-stopped
+emit_type_decl-returns-then-stopped t c = said_stopped _ _ _ _ (sym c.stopped.ensures ∙ c.if-stopped.true)
+
+pub emit_type_decl-emit_based-requires : goal.emit_type_decl-emit_based-requires
+emit_type_decl-emit_based-requires t c = (omega arith, (chains.decl_record _ _ _ _ _ c.chain_base.ensures.1 c.in-Got.is, links_chain _ _ _ _ _ _ c.chain_base.ensures.0 c.in-Got.is))
+
+pub emit_type_decl-returns-in-Got : goal.emit_type_decl-returns-in-Got
+emit_type_decl-returns-in-Got t c = chains.decl_got _ _ _ _ _ _ _ _ _ _ c.if-left-eq0.false _ c.chain_base.ensures _ _ _ c.in-Got.is c.emit_based.ensures
+
+pub emit_type_decl-returns-in-No : goal.emit_type_decl-returns-in-No
+emit_type_decl-returns-in-No t c = chains.decl_no _ _ _ _ _ _ _ _ _ _ c.if-left-eq0.false _ c.chain_base.ensures _ c.in-No.is c.stop-in-No.ensures
+
+pub members::emit_composite_def-returns-then-left-eq0 : goal.members::emit_composite_def-returns-then-left-eq0
+members::emit_composite_def-returns-then-left-eq0 t c = members.def_zero _ _ _ _ _ _ _ _ _ _ _ _ _ c.if-left-eq0.true c.stop.ensures
+
+pub members::emit_composite_def-returns-then-stopped : goal.members::emit_composite_def-returns-then-stopped
+members::emit_composite_def-returns-then-stopped t c = said_stopped _ _ _ _ (sym c.stopped.ensures ∙ c.if-stopped.true)
+
+pub members::emit_composite_def-returns-then-is_builtin : goal.members::emit_composite_def-returns-then-is_builtin
+members::emit_composite_def-returns-then-is_builtin t c = members.def_builtin _ _ _ _ _ _ _ _ _ _ _ _ _ c.if-left-eq0.false refl (sym c.is_builtin.ensures ∙ c.if-is_builtin.true)
+
+pub members::emit_composite_def-returns-in-Is : goal.members::emit_composite_def-returns-in-Is
+members::emit_composite_def-returns-in-Is t c = members.def_body _ _ _ _ _ _ _ _ _ _ _ _ _ c.if-left-eq0.false (sym c.is_builtin.ensures ∙ c.if-is_builtin.false) _ _ c.body_packed.ensures _ _ _ _ _ _ _ _ _ c.in-Is.is c.deeper.ensures c.emit_composite_head-a.ensures c.emit_members-c.ensures c.emit_composite_end.ensures
+
+pub members::emit_composite_def-returns-in-No : goal.members::emit_composite_def-returns-in-No
+members::emit_composite_def-returns-in-No t c = members.def_refused _ _ _ _ _ _ _ _ _ _ _ _ _ c.if-left-eq0.false (sym c.is_builtin.ensures ∙ c.if-is_builtin.false) _ _ c.body_packed.ensures _ c.in-No.is c.stop-in-No.ensures
+
+pub members::emit_member-returns : goal.members::emit_member-returns
+members::emit_member-returns t c = members.member_put _ _ _ _ _ _ _ _ _ _ _ _ _ _ _ _ _ _ _ _ _ _ _ _ _ c.load_member-m.ensures c.bare.ensures c.emit_bit_padding-a.ensures c.put_byte-c.ensures c.put_tabs-e.ensures c.emit_type_decl-f.ensures c.emit_member_end.ensures
+
+pub members::emit_members-loop-k-init : goal.members::emit_members-loop-k-init
+members::emit_members-loop-k-init t c = (leads_start _ _ _ _ _, omega arith, omega arith, refl, refl)
+
+pub members::emit_members-returns-then-stopped : goal.members::emit_members-returns-then-stopped
+members::emit_members-returns-then-stopped t c = members.members_whole _ _ _ _ _ _ _ _ _ _ _ _ _ _ _ _ c.vlen_of-vlen.ensures (leads_end _ _ _ _ _ _ _ _ _ _ _ c.loop-k.invariant.0 (said_stopped _ _ _ _ (sym c.stopped.ensures ∙ c.if-stopped.true)))
+
+pub members::emit_members-loop-k-preserved : goal.members::emit_members-loop-k-preserved
+members::emit_members-loop-k-preserved t c = (members.members_again _ _ _ _ _ _ _ _ _ _ _ _ _ _ _ _ _ _ _ _ c.loop-k-test.true c.loop-k.invariant.0 c.emit_member-s.ensures, omega arith, c.loop-k.invariant.2, search rules, search rules)
+
+pub members::emit_members-returns : goal.members::emit_members-returns
+members::emit_members-returns t c = members.members_whole _ _ _ _ _ _ _ _ _ _ _ _ _ _ _ _ c.vlen_of-vlen.ensures (members.members_end _ _ _ _ _ _ _ _ _ _ _ _ _ _ _ _ _ _ _ c.loop-k-test.false c.loop-k.invariant.0 c.emit_tail_padding.ensures)

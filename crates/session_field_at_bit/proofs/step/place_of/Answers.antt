@@ -1,0 +1,17 @@
+use Prim.Native.Nat.{◌*◌}
+use native.Mathlib.Nat.{div-le_self, mod-le}
+use native.Mathlib.Omega.{arith}
+use Rattle.session_field_at_bit.proofs.step.Laws as laws
+use Rattle.session_field_at_bit.proofs.step.place_of.Goals as goal
+
+pub returns-then-size-eq0 : goal.returns-then-size-eq0
+returns-then-size-eq0 c = laws.place_none _ _ _ c.if-size-eq0.true
+
+pub overflow_cast-result : goal.overflow_cast-result
+overflow_cast-result c = omega (arith, div-le_self c.args.bit (c.args.size * 8))
+
+pub overflow_cast-result-2 : goal.overflow_cast-result-2
+overflow_cast-result-2 c = omega (arith, mod-le c.args.bit (c.args.size * 8))
+
+pub returns : goal.returns
+returns c = laws.place_is _ _ _ c.if-size-eq0.false
