@@ -1,1 +1,3 @@
 // proof_demands
+
+#![tactic(auto)]

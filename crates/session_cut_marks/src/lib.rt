@@ -1,4 +1,6 @@
 // What a section cut down holds: marks, tags, new numbers, and the names that are mentioned.
+#![tactic(auto)]
+
 pub mod interned;
 pub mod marks;
 pub mod mentioned;
