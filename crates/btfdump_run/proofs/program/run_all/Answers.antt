@@ -1,0 +1,8 @@
+use Rattle.btfdump_run.proofs.printed.Laws as laws
+use Rattle.btfdump_run.proofs.program.run_all.Goals as goal
+
+pub returns-in-Refused : goal.returns-in-Refused
+returns-in-Refused c = laws.shows_refused _ _ _ _ c.dump_types_core-turn.ensures _ _ c.in-Refused.is _ _ c.put_refused.ensures
+
+pub returns-in-Accepted : goal.returns-in-Accepted
+returns-in-Accepted c = laws.shows_text _ _ _ _ c.dump_types_core-turn.ensures _ c.in-Accepted.is
