@@ -1,0 +1,20 @@
+use Rattle.session_cut.proofs.writer.Laws.{first_sought}
+use Rattle.session_cut.proofs.writer.Strings.{base_start, more_length, all_length}
+use Rattle.session_cut_marks.proofs.interned.Found.{length_few}
+use native.Mathlib.Omega.{arith}
+use Rattle.session_cut.proofs.writer.names.length_to.Goals as goal
+
+pub loop-j-init : goal.loop-j-init
+loop-j-init c = (base_start _ _ _ _ _ _ _ c.requires.3, omega arith)
+
+pub is_first-new-requires : goal.is_first-new-requires
+is_first-new-requires c = first_sought _ _ _ _ _ c.requires.0 _ _ c.requires.1 _ _ c.seek-v.ensures _ (omega (arith, c.requires.2)) c.loop-j.invariant.0
+
+pub longer-len-requires : goal.longer-len-requires
+longer-len-requires c = (c.requires.0.short, length_few _ _ _ _ _ c.requires.0 _ _ c.requires.1 _ _ (omega (arith, c.requires.2)) c.loop-j.invariant.0)
+
+pub loop-j-preserved : goal.loop-j-preserved
+loop-j-preserved c = (more_length _ _ _ _ _ _ _ _ _ _ c.loop-j.invariant.0 c.is_first-new.ensures c.longer-len.ensures, omega arith)
+
+pub returns : goal.returns
+returns c = all_length _ _ _ _ _ _ _ _ _ c.loop-j.invariant.1 c.loop-j-test.false c.loop-j.invariant.0
