@@ -1,2 +1,4 @@
 // The calls for C.
+#![tactic(auto)]
+
 pub mod exported;

@@ -1,0 +1,14 @@
+use Rattle.spec_c_calls.proofs.ReadingBack as back
+use lib.ListN.{length}
+use Prim.Native.Nat.{◌≤◌}
+use native.Mathlib.Omega.{arith}
+use Rattle.btfdump_c.proofs.exported.declarations.btfdump_read_declaration.Goals as goal
+
+pub returns-then-chain-lt-CHAIN_WORDS : goal.returns-then-chain-lt-CHAIN_WORDS
+returns-then-chain-lt-CHAIN_WORDS c = back.read_short _ _ c.if-chain-lt-CHAIN_WORDS.true
+
+pub returns-then-n-eq0 : goal.returns-then-n-eq0
+returns-then-n-eq0 c = let h : 1536 ≤ length c.args.chain.now = omega arith in back.read_refused _ _ h _ _ c.read_declaration-n.ensures c.if-n-eq0.true
+
+pub returns : goal.returns
+returns c = let h : 1536 ≤ length c.args.chain.now = omega arith in back.read_good _ _ h _ _ c.read_declaration-n.ensures c.if-n-eq0.false

@@ -1,0 +1,11 @@
+use Rattle.btfdump_c.proofs.exported.CauseLaws as laws
+use Rattle.btfdump_c.proofs.exported.explained.btfdump_dump_list_causes.Goals as goal
+
+pub returns-then-ids-lt4 : goal.returns-then-ids-lt4
+returns-then-ids-lt4 c = laws.list_none _ _ _ _ _ _ c.if-ids-lt4.true
+
+pub returns-then-record-lt-RECORD_BYTES : goal.returns-then-record-lt-RECORD_BYTES
+returns-then-record-lt-RECORD_BYTES c = laws.list_short _ _ _ _ _ _ c.if-ids-lt4.false c.if-record-lt-RECORD_BYTES.true
+
+pub returns : goal.returns
+returns c = laws.list_is _ _ _ _ _ _ c.if-ids-lt4.false c.if-record-lt-RECORD_BYTES.false _ c.decode.ensures _ _ _ _ _ _ c.dump_list_causes-d.ensures c.listed.ensures
