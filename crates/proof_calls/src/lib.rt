@@ -1,1 +1,3 @@
 // proof_calls
+
+#![tactic(auto)]

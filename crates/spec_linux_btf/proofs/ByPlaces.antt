@@ -7,7 +7,7 @@ use native.Mathlib.Omega.{arith}
 use native.Mathlib.Nat.{zero-mul, suc-mul}
 use lib.ListN.{get_or, drop}
 use lib.Seq.{drop-drop}
-use Rattle.spec_linux_btf.specs.Documentation.{member, enumerator, param, secinfo, enumerator64, int, array, struct, union, enum, func_proto, var, datasec, decl_tag_lem, enum64, described}
+use Rattle.spec_linux_btf.specs.Documentation.{member, enumerator, param, secinfo, enumerator64, int, array, struct, union, enum, func_proto, var, datasec, decl_tag, enum64, described}
 use Rattle.spec_linux_btf.specs.Reading.{word, get_each, get_member, get_enumerator, get_param, get_secinfo, get_enumerator64, Kind, none, INT, PTR, ARRAY, STRUCT, UNION, ENUM, FWD, TYPEDEF, VOLATILE, CONST, RESTRICT, FUNC, FUNC-PROTO, VAR, DATASEC, FLOAT, DECL-TAG, TYPE-TAG, ENUM64, kind, extra, get_body, vlen_at, kind_at, flag_at, size_at, decode, type_at}
 use Rattle.spec_linux_btf.specs.Places.{vlen_p, kind_p, flag_p, size_p, member_p, enumerator_p, param_p, secinfo_p, enumerator64_p, tabulate, body_p, type_p}
 use Rattle.spec_linux_btf.proofs.Words.{word_drop}
@@ -70,7 +70,7 @@ body_places big FUNC-PROTO f v b q = ap func_proto (whole_table (get_param big) 
 body_places big VAR f v b q = ap (var v) (first big b q)
 body_places big DATASEC f v b q = ap datasec (whole_table (get_secinfo big) (secinfo_p (word big b)) 12 b (secinfo_at big b) q v)
 body_places big FLOAT f v b q = refl
-body_places big DECL-TAG f v b q = ap (decl_tag_lem v) (first big b q)
+body_places big DECL-TAG f v b q = ap (decl_tag v) (first big b q)
 body_places big TYPE-TAG f v b q = refl
 body_places big ENUM64 f v b q = ap enum64 (whole_table (get_enumerator64 big) (enumerator64_p (word big b)) 12 b (enumerator64_at big b) q v)
 
@@ -176,7 +176,7 @@ module _ (w u : ℕ → ℕ) where
   body_same VAR f v q h = ap (var v) (h q (omega arith) (omega arith))
   body_same DATASEC f v q h = ap datasec (same_12 secinfo_p secinfo_same q v h)
   body_same FLOAT f v q h = refl
-  body_same DECL-TAG f v q h = ap (decl_tag_lem v) (h q (omega arith) (omega arith))
+  body_same DECL-TAG f v q h = ap (decl_tag v) (h q (omega arith) (omega arith))
   body_same TYPE-TAG f v q h = refl
   body_same ENUM64 f v q h = ap enum64 (same_12 enumerator64_p enumerator64_same q v h)
 

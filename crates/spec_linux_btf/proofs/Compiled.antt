@@ -7,7 +7,7 @@ use Prim.Native.Nat.{ℕ, ◌+◌, ◌*◌}
 use mathlib.Core.Path.{◌≡◌, refl}
 use mathlib.Core.Bool.{true, false}
 use mathlib.Core.List.{List, [], ◌∷◌}
-use Rattle.spec_linux_btf.specs.Documentation.{Described, described, member, enumerator, enumerator64, param, secinfo, int, ptr, array, struct, union, enum, fwd, typedef, volatile, const, restrict, func, func_proto, var, datasec, float, decl_tag_lem, type_tag, enum64, encode, encode_all}
+use Rattle.spec_linux_btf.specs.Documentation.{Described, described, member, enumerator, enumerator64, param, secinfo, int, ptr, array, struct, union, enum, fwd, typedef, volatile, const, restrict, func, func_proto, var, datasec, float, decl_tag, type_tag, enum64, encode, encode_all}
 use Rattle.spec_linux_btf.specs.Places.{type_p, kind_p, flag_p, vlen_p}
 use Rattle.spec_linux_btf.specs.Fields.{kind_flag, structs, struct_field, int_bits, array_type, array_index_type, array_nelems, member_name_off, member_type, member_offset, enum_val, param_type, var_linkage, secinfo_type, secinfo_offset, secinfo_size, component_idx, enum64_name_off, enum64_lo, enum64_hi}
 use Rattle.spec_linux_btf.specs.Reading.{word, kind, decode, sound, named, passes, places, decode_all, layout_sound}
@@ -19,7 +19,7 @@ clang_types =
     ∷ described 7 0 2 (func 1)
     ∷ described 72 0 16 (struct (member 77 5 0 0 ∷ member 82 1 64 0 ∷ []))
     ∷ described 0 0 4 (ptr 0)
-    ∷ described 84 0 4 (decl_tag_lem 0 1)
+    ∷ described 84 0 4 (decl_tag 0 1)
     ∷ described 86 0 4 (var 0 1)
     ∷ described 88 0 64 (struct (member 92 9 0 0 ∷ member 94 13 64 0 ∷ member 96 14 96 0 ∷ member 98 16 192 0 ∷ member 84 19 256 0 ∷ member 100 20 320 0 ∷ member 102 22 352 0 ∷ member 104 23 384 0 ∷ member 106 24 448 0 ∷ []))
     ∷ described 0 0 10 (restrict 0)

@@ -7,7 +7,7 @@ use native.Mathlib.Omega.{arith}
 use lib.ListN.{length, get_or}
 use lib.Dec.{leb, eqb}
 use borrow.Author.Tests.{eqb-true}
-use Rattle.spec_linux_btf.specs.Documentation.{Field, size_of, pack, unpack, btf_info, btf_info_unused, btf_int, member_offset_lem, int_word, btf_array, btf_member, btf_enum, btf_param, btf_var, btf_var_secinfo, btf_decl_tag, btf_enum64, Follows, unknown, nothing, one, each, kinds, follows, member, enumerator, param, secinfo, enumerator64, Body, int, ptr, array, struct, union, enum, fwd, typedef, volatile, const, restrict, func, func_proto, var, datasec, float, decl_tag_lem, type_tag, enum64, described, kind_of, vlen_of}
+use Rattle.spec_linux_btf.specs.Documentation.{Field, size_of, pack, unpack, btf_info, btf_info_unused, btf_int, member_offset_bits, int_word, btf_array, btf_member, btf_enum, btf_param, btf_var, btf_var_secinfo, btf_decl_tag, btf_enum64, Follows, unknown, nothing, one, each, kinds, follows, member, enumerator, param, secinfo, enumerator64, Body, int, ptr, array, struct, union, enum, fwd, typedef, volatile, const, restrict, func, func_proto, var, datasec, float, decl_tag, type_tag, enum64, described, kind_of, vlen_of}
 use Rattle.spec_linux_btf.specs.Reading.{Kind, none, INT, PTR, ARRAY, STRUCT, UNION, ENUM, FWD, TYPEDEF, VOLATILE, CONST, RESTRICT, FUNC, FUNC-PROTO, VAR, DATASEC, FLOAT, DECL-TAG, TYPE-TAG, ENUM64, kind_table, kind, shape, known}
 use Rattle.spec_linux_btf.specs.Places.{vlen_p, kind_p, flag_p, member_p, enumerator_p, param_p, secinfo_p, enumerator64_p, tabulate, body_p, type_p, sound_p}
 use Rattle.spec_linux_btf.specs.Fields.{name_off, vlen_in, kind_in, kind_flag, info, size_or_type, member_fields, enum_fields, param_fields, secinfo_fields, enum64_fields, body_structs, structs, struct_field, fields_at, structs_at, bit_offset, bitfield_size}
@@ -99,7 +99,7 @@ module _ (w : ℕ → ℕ) (p : ℕ) where
   type-FLOAT e = ap (λ (k : ℕ). described (w p) (w (p + 4) / 2147483648) (w (p + 8)) (body_p (kind k) (w (p + 4) / 2147483648) (w (p + 4) % 65536) w (p + 12))) e
 
   pub type-DECL-TAG : w (p + 4) / 16777216 % 32 ≡ 17
-      → type_p w p ≡ described (w p) (w (p + 4) / 2147483648) (w (p + 8)) (decl_tag_lem (w (p + 4) % 65536) (w (p + 12)))
+      → type_p w p ≡ described (w p) (w (p + 4) / 2147483648) (w (p + 8)) (decl_tag (w (p + 4) % 65536) (w (p + 12)))
   unfolding type_p kind_p flag_p vlen_p kind
   type-DECL-TAG e = ap (λ (k : ℕ). described (w p) (w (p + 4) / 2147483648) (w (p + 8)) (body_p (kind k) (w (p + 4) / 2147483648) (w (p + 4) % 65536) w (p + 12))) e
 
@@ -345,7 +345,7 @@ int_ranges x h =
     let e : x / 268435456 ≡ x / 268435456 % 16 = omega arith in
     λ i. a i ∷ x / 256 % 256 ∷ x / 65536 % 256 ∷ x / 16777216 % 16 ∷ e i ∷ []
 
-pub offset_ranges : (x : ℕ) → x < 2 ^ 32 → (x % 16777216 ∷ x / 16777216 ∷ []) ≡ unpack member_offset_lem x
+pub offset_ranges : (x : ℕ) → x < 2 ^ 32 → (x % 16777216 ∷ x / 16777216 ∷ []) ≡ unpack member_offset_bits x
 offset_ranges x h =
     let a : x % 16777216 ≡ x / 1 % 16777216 = omega arith in
     let e : x / 16777216 ≡ x / 16777216 % 256 = omega arith in

@@ -6,7 +6,7 @@ use mathlib.Core.List.{List, [], ◌∷◌, ◌++◌, map, append_assoc}
 use native.Mathlib.Omega.{arith}
 use lib.ListN.{length, get_or, take, drop, length-append, length-map}
 use lib.Seq.{drop_at, take_at}
-use Rattle.spec_linux_btf.specs.Documentation.{Field, field, other_bytes, in_bytes, lay_out, btf_header, btf_type, int_word, btf_array, btf_member, btf_enum, btf_param, btf_var, btf_var_secinfo, btf_decl_tag, btf_enum64, Follows, kinds, unknown, nothing, one, each, follows, follow_size, put_each, Member, member, Enumerator, enumerator, Param, param, Secinfo, secinfo, Enumerator64, enumerator64, put_member, put_enumerator, put_param, put_secinfo, put_enumerator64, Body, int, ptr, array, struct, union, enum, fwd, typedef, volatile, const, restrict, func, func_proto, var, datasec, float, decl_tag_lem, type_tag, enum64, kind_of, vlen_of, put_body}
+use Rattle.spec_linux_btf.specs.Documentation.{Field, field, other_bytes, in_bytes, lay_out, btf_header, btf_type, int_word, btf_array, btf_member, btf_enum, btf_param, btf_var, btf_var_secinfo, btf_decl_tag, btf_enum64, Follows, kinds, unknown, nothing, one, each, follows, follow_size, put_each, Member, member, Enumerator, enumerator, Param, param, Secinfo, secinfo, Enumerator64, enumerator64, put_member, put_enumerator, put_param, put_secinfo, put_enumerator64, Body, int, ptr, array, struct, union, enum, fwd, typedef, volatile, const, restrict, func, func_proto, var, datasec, float, decl_tag, type_tag, enum64, kind_of, vlen_of, put_body}
 use Rattle.spec_linux_btf.specs.Fields.{member_fields, enum_fields, param_fields, secinfo_fields, enum64_fields, body_structs}
 use Rattle.spec_linux_btf.specs.Reading.{kind, kind_table, extra, none, Kind}
 
@@ -153,7 +153,7 @@ body_laid big f (func_proto ps) = each_laid big (put_param big) param_fields btf
 body_laid big f (var v l) = refl
 body_laid big f (datasec ss) = each_laid big (put_secinfo big) secinfo_fields btf_var_secinfo (secinfo_laid big) ss
 body_laid big f (float v) = refl
-body_laid big f (decl_tag_lem v c) = refl
+body_laid big f (decl_tag v c) = refl
 body_laid big f (type_tag v) = refl
 body_laid big f (enum64 es) = each_laid big (put_enumerator64 big) enum64_fields btf_enum64 (enum64_laid big) es
 
@@ -174,6 +174,6 @@ body_count f (func_proto ps) = length-map ps (param_fields)
 body_count f (var v l) = refl
 body_count f (datasec ss) = length-map ss (secinfo_fields)
 body_count f (float v) = refl
-body_count f (decl_tag_lem v c) = refl
+body_count f (decl_tag v c) = refl
 body_count f (type_tag v) = refl
 body_count f (enum64 es) = length-map es (enum64_fields)

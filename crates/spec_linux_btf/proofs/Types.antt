@@ -8,7 +8,7 @@ use lib.ListN.{length, get_or, drop, length-drop, length-append}
 use lib.Seq.{drop-drop}
 use lib.Dec.{ltb, leb, eqb}
 use borrow.Author.Tests.{ltb-true, lt-ltb, le-leb, eq-eqb, leb-true, eqb-true}
-use Rattle.spec_linux_btf.specs.Documentation.{in_bytes, Every, put_member, put_enumerator, put_param, put_secinfo, put_enumerator64, FitMember, FitEnumerator, FitParam, FitSecinfo, FitEnumerator64, Body, int, ptr, array, struct, union, enum, fwd, typedef, volatile, const, restrict, func, func_proto, var, datasec, float, decl_tag_lem, type_tag, enum64, Described, described, kind_of, vlen_of, put_body, FitBody, encode, Fits, NamedMember, NamedEnumerator, NamedParam, NamedEnumerator64, NamedBody, Named}
+use Rattle.spec_linux_btf.specs.Documentation.{in_bytes, Every, put_member, put_enumerator, put_param, put_secinfo, put_enumerator64, FitMember, FitEnumerator, FitParam, FitSecinfo, FitEnumerator64, Body, int, ptr, array, struct, union, enum, fwd, typedef, volatile, const, restrict, func, func_proto, var, datasec, float, decl_tag, type_tag, enum64, Described, described, kind_of, vlen_of, put_body, FitBody, encode, Fits, NamedMember, NamedEnumerator, NamedParam, NamedEnumerator64, NamedBody, Named}
 use Rattle.spec_linux_btf.specs.Reading.{word, Bytes, get_each, get_member, get_enumerator, get_param, get_secinfo, get_enumerator64, Kind, none, INT, PTR, ARRAY, STRUCT, UNION, ENUM, FWD, TYPEDEF, VOLATILE, CONST, RESTRICT, FUNC, FUNC-PROTO, VAR, DATASEC, FLOAT, DECL-TAG, TYPE-TAG, ENUM64, kind_table, kind, shape, known, extra, get_body, vlen_at, kind_at, flag_at, size_at, decode, sound, all_named, entries_named, named}
 use Rattle.spec_linux_btf.proofs.Words.{lower, word_again, word_small, word_back, word_back3, bytes_drop}
 use Rattle.spec_linux_btf.proofs.Entries.{all_long, some_again, some_length, some_back, some_fits, members, enumerators, params, secinfos, enumerators64}
@@ -99,7 +99,7 @@ body_again big f (func_proto es) s h = ap func_proto (some_again (put_param big)
 body_again big f (var v l) s h = ap (var v) (word_again big l s h.0)
 body_again big f (datasec es) s h = ap datasec (some_again (put_secinfo big) (get_secinfo big) 12 FitSecinfo (secinfos big) es s h)
 body_again big f (float v) s h = refl
-body_again big f (decl_tag_lem v c) s h = ap (decl_tag_lem v) (word_again big c s h.0)
+body_again big f (decl_tag v c) s h = ap (decl_tag v) (word_again big c s h.0)
 body_again big f (type_tag v) s h = refl
 body_again big f (enum64 es) s h = ap enum64 (some_again (put_enumerator64 big) (get_enumerator64 big) 12 FitEnumerator64 (enumerators64 big) es s h)
 
@@ -122,7 +122,7 @@ body_long big f (func_proto es) = all_long (put_param big) (get_param big) 8 Fit
 body_long big f (var v l) = refl
 body_long big f (datasec es) = all_long (put_secinfo big) (get_secinfo big) 12 FitSecinfo (secinfos big) es
 body_long big f (float v) = refl
-body_long big f (decl_tag_lem v c) = refl
+body_long big f (decl_tag v c) = refl
 body_long big f (type_tag v) = refl
 body_long big f (enum64 es) = all_long (put_enumerator64 big) (get_enumerator64 big) 12 FitEnumerator64 (enumerators64 big) es
 
@@ -144,7 +144,7 @@ body_known (func_proto es) = refl
 body_known (var v l) = refl
 body_known (datasec es) = refl
 body_known (float v) = refl
-body_known (decl_tag_lem v c) = refl
+body_known (decl_tag v c) = refl
 body_known (type_tag v) = refl
 body_known (enum64 es) = refl
 

@@ -5,7 +5,7 @@ use mathlib.Core.Bool.{Bool, true, false}
 use mathlib.Core.List.{List, [], ◌∷◌, ◌++◌}
 use native.Mathlib.Omega.{arith}
 use lib.ListN.{length}
-use Rattle.spec_linux_btf.specs.Documentation.{Field, field, other_bytes, in_bytes, lay_out, pack, put_each, Every, btf_type, btf_info, btf_int, int_word, btf_array, btf_member, btf_enum, btf_param, btf_var, btf_var_secinfo, btf_decl_tag, btf_enum64, btf_header, btf_magic, offset_word, Member, member, Enumerator, enumerator, Param, param, Secinfo, secinfo, Enumerator64, enumerator64, put_member, put_enumerator, put_param, put_secinfo, put_enumerator64, Body, int, ptr, array, struct, union, enum, fwd, typedef, volatile, const, restrict, func, func_proto, var, datasec, float, decl_tag_lem, type_tag, enum64, Described, described, kind_of, vlen_of, put_body, encode, encode_all, Fits, Allowed, Header, header, encode_header, encode_section, encode_table, NonzeroAscii}
+use Rattle.spec_linux_btf.specs.Documentation.{Field, field, other_bytes, in_bytes, lay_out, pack, put_each, Every, btf_type, btf_info, btf_int, int_word, btf_array, btf_member, btf_enum, btf_param, btf_var, btf_var_secinfo, btf_decl_tag, btf_enum64, btf_header, btf_magic, offset_word, Member, member, Enumerator, enumerator, Param, param, Secinfo, secinfo, Enumerator64, enumerator64, put_member, put_enumerator, put_param, put_secinfo, put_enumerator64, Body, int, ptr, array, struct, union, enum, fwd, typedef, volatile, const, restrict, func, func_proto, var, datasec, float, decl_tag, type_tag, enum64, Described, described, kind_of, vlen_of, put_body, encode, encode_all, Fits, Allowed, Header, header, encode_header, encode_section, encode_table, NonzeroAscii}
 use Rattle.spec_linux_btf.specs.Reading.{Bytes, decode_all, layout_sound}
 use Rattle.spec_linux_btf.specs.Section.{is_big_endian, str_len_of, type_area, string_area, header_sound, strings_sound, types_sound, ReadAs}
 use Rattle.spec_linux_btf.proofs.Strings.{strings_back, strings_once}
@@ -65,7 +65,7 @@ body_bytes big f (func_proto es) i = all_bytes (put_param big) (param_bytes big)
 body_bytes big f (var v l) i = layout_bytes big btf_var (l ∷ []) i
 body_bytes big f (datasec es) i = all_bytes (put_secinfo big) (secinfo_bytes big) es i
 body_bytes big f (float v) i = omega arith
-body_bytes big f (decl_tag_lem v c) i = layout_bytes big btf_decl_tag (c ∷ []) i
+body_bytes big f (decl_tag v c) i = layout_bytes big btf_decl_tag (c ∷ []) i
 body_bytes big f (type_tag v) i = omega arith
 body_bytes big f (enum64 es) i = all_bytes (put_enumerator64 big) (enumerator64_bytes big) es i
 

@@ -123,8 +123,8 @@ abbrev pub btf_member : List Field
 btf_member = field "name_off" 0 4 ∷ field "type" 4 4 ∷ field "offset" 8 4 ∷ []
 
 -- btf_member.offset "if the kind_flag is set": BTF_MEMBER_BIT_OFFSET, BTF_MEMBER_BITFIELD_SIZE
-abbrev pub member_offset_lem : List Range
-member_offset_lem = bits "bit offset" 0 23 ∷ bits "bitfield size" 24 31 ∷ []
+abbrev pub member_offset_bits : List Range
+member_offset_bits = bits "bit offset" 0 23 ∷ bits "bitfield size" 24 31 ∷ []
 
 -- 2.2.6 BTF_KIND_ENUM: struct btf_enum. `val` is a __s32: here its bits
 abbrev pub btf_enum : List Field
@@ -235,7 +235,7 @@ pub data Body : Type 0 where
   var : ℕ → ℕ → Body  -- 2.2.14: vlen; linkage
   datasec : List Secinfo → Body  -- 2.2.15
   float : ℕ → Body  -- 2.2.16: vlen
-  decl_tag_lem : ℕ → ℕ → Body  -- 2.2.17: vlen; component_idx
+  decl_tag : ℕ → ℕ → Body  -- 2.2.17: vlen; component_idx
   type_tag : ℕ → Body  -- 2.2.18: vlen
   enum64 : List Enumerator64 → Body  -- 2.2.19
 
@@ -264,7 +264,7 @@ kind_of (func_proto ps) = 13
 kind_of (var v l) = 14
 kind_of (datasec ss) = 15
 kind_of (float v) = 16
-kind_of (decl_tag_lem v c) = 17
+kind_of (decl_tag v c) = 17
 kind_of (type_tag v) = 18
 kind_of (enum64 es) = 19
 
@@ -286,7 +286,7 @@ vlen_of (func_proto ps) = length ps
 vlen_of (var v l) = v
 vlen_of (datasec ss) = length ss
 vlen_of (float v) = v
-vlen_of (decl_tag_lem v c) = v
+vlen_of (decl_tag v c) = v
 vlen_of (type_tag v) = v
 vlen_of (enum64 es) = length es
 
@@ -294,7 +294,7 @@ vlen_of (enum64 es) = length es
 -- is set, the btf_member.offset contains both member bitfield size and bit offset"
 abbrev pub offset_word : ℕ → ℕ → ℕ → ℕ
 offset_word zero bit size = bit
-offset_word (suc flag) bit size = pack member_offset_lem (bit ∷ size ∷ [])
+offset_word (suc flag) bit size = pack member_offset_bits (bit ∷ size ∷ [])
 
 abbrev pub put_member : Bool → ℕ → Member → List ℕ
 put_member big flag (member name type bit size) = lay_out big btf_member (name ∷ type ∷ offset_word flag bit size ∷ [])
@@ -334,7 +334,7 @@ put_body big flag (func_proto ps) = put_each (put_param big) ps
 put_body big flag (var v l) = lay_out big btf_var (l ∷ [])
 put_body big flag (datasec ss) = put_each (put_secinfo big) ss
 put_body big flag (float v) = []
-put_body big flag (decl_tag_lem v c) = lay_out big btf_decl_tag (c ∷ [])
+put_body big flag (decl_tag v c) = lay_out big btf_decl_tag (c ∷ [])
 put_body big flag (type_tag v) = []
 put_body big flag (enum64 es) = put_each (put_enumerator64 big) es
 
@@ -363,7 +363,7 @@ Every P (e ∷ es) = P e × Every P es
 
 abbrev pub FitOffset : ℕ → ℕ → ℕ → Type 0
 FitOffset zero bit size = (bit < 2 ^ 32) × (size ≡ 0)
-FitOffset (suc flag) bit size = FitRanges member_offset_lem (bit ∷ size ∷ [])
+FitOffset (suc flag) bit size = FitRanges member_offset_bits (bit ∷ size ∷ [])
 
 abbrev pub FitMember : ℕ → Member → Type 0
 FitMember flag (member name type bit size) = (name < 2 ^ 32) × (type < 2 ^ 32) × FitOffset flag bit size
@@ -397,7 +397,7 @@ FitBody flag (func_proto ps) = Every FitParam ps
 FitBody flag (var v l) = FitFields btf_var (l ∷ [])
 FitBody flag (datasec ss) = Every FitSecinfo ss
 FitBody flag (float v) = Unit {0}
-FitBody flag (decl_tag_lem v c) = FitFields btf_decl_tag (c ∷ [])
+FitBody flag (decl_tag v c) = FitFields btf_decl_tag (c ∷ [])
 FitBody flag (type_tag v) = Unit {0}
 FitBody flag (enum64 es) = Every FitEnumerator64 es
 
@@ -438,7 +438,7 @@ NamedBody sl (func_proto ps) = Every (NamedParam sl) ps
 NamedBody sl (var v l) = Unit {0}
 NamedBody sl (datasec ss) = Unit {0}
 NamedBody sl (float v) = Unit {0}
-NamedBody sl (decl_tag_lem v c) = Unit {0}
+NamedBody sl (decl_tag v c) = Unit {0}
 NamedBody sl (type_tag v) = Unit {0}
 NamedBody sl (enum64 es) = Every (NamedEnumerator64 sl) es
 

@@ -2,10 +2,10 @@
 -- follows it.
 -- Then where the page's tables say that they stand. Laws: `Claims`, (c).
 use Rattle.std.specs.Prelude.{ℕ, zero, suc, ◌+◌, ◌*◌, List, [], ◌∷◌, map, get_or}
-use Rattle.spec_linux_btf.specs.Documentation.{Field, field, size_of, pack, unpack, btf_info, btf_int, member_offset_lem, Follows, unknown}
+use Rattle.spec_linux_btf.specs.Documentation.{Field, field, size_of, pack, unpack, btf_info, btf_int, member_offset_bits, Follows, unknown}
 use Rattle.spec_linux_btf.specs.Documentation.{nothing, one, each, Member, member, Enumerator, enumerator, Param, param, Secinfo}
 use Rattle.spec_linux_btf.specs.Documentation.{secinfo, Enumerator64, enumerator64, Body, int, ptr, array, struct, union, enum, fwd}
-use Rattle.spec_linux_btf.specs.Documentation.{typedef, volatile, const, restrict, func, func_proto, var, datasec, float, decl_tag_lem}
+use Rattle.spec_linux_btf.specs.Documentation.{typedef, volatile, const, restrict, func, func_proto, var, datasec, float, decl_tag}
 use Rattle.spec_linux_btf.specs.Documentation.{type_tag, enum64, Described, described, kind_of, vlen_of, offset_word}
 use Rattle.spec_linux_btf.specs.Places.{tabulate}
 
@@ -66,7 +66,7 @@ body_structs flag (func_proto ps) = map param_fields ps
 body_structs flag (var v l) = (l ∷ []) ∷ []
 body_structs flag (datasec ss) = map secinfo_fields ss
 body_structs flag (float v) = []
-body_structs flag (decl_tag_lem v c) = (c ∷ []) ∷ []
+body_structs flag (decl_tag v c) = (c ∷ []) ∷ []
 body_structs flag (type_tag v) = []
 body_structs flag (enum64 es) = map enum64_fields es
 
@@ -110,11 +110,11 @@ member_offset t j = struct_field t j 2
 -- the offset word without kind_flag, and with it: BTF_MEMBER_BIT_OFFSET, BTF_MEMBER_BITFIELD_SIZE
 abbrev pub bit_offset : ℕ → ℕ → ℕ
 bit_offset zero offset = offset
-bit_offset (suc flag) offset = get_or (unpack member_offset_lem offset) 0 0
+bit_offset (suc flag) offset = get_or (unpack member_offset_bits offset) 0 0
 
 abbrev pub bitfield_size : ℕ → ℕ → ℕ
 bitfield_size zero offset = 0
-bitfield_size (suc flag) offset = get_or (unpack member_offset_lem offset) 1 0
+bitfield_size (suc flag) offset = get_or (unpack member_offset_bits offset) 1 0
 
 -- the bit offset and the bitfield size of member j
 abbrev pub member_bit_offset : Described → ℕ → ℕ

@@ -5,7 +5,7 @@
 use Rattle.std.specs.Prelude.{ℕ, zero, suc, ◌+◌, ◌*◌, ◌/◌, ◌%◌, Bool, true, false, ◌&&◌, List, [], ◌∷◌, ltb, leb, eqb}
 use Rattle.spec_linux_btf.specs.Documentation.{Member, member, Enumerator, enumerator, Param, param, Secinfo, secinfo, Enumerator64}
 use Rattle.spec_linux_btf.specs.Documentation.{enumerator64, Body, int, ptr, array, struct, union, enum, fwd, typedef, volatile}
-use Rattle.spec_linux_btf.specs.Documentation.{const, restrict, func, func_proto, var, datasec, float, decl_tag_lem, type_tag, enum64}
+use Rattle.spec_linux_btf.specs.Documentation.{const, restrict, func, func_proto, var, datasec, float, decl_tag, type_tag, enum64}
 use Rattle.spec_linux_btf.specs.Documentation.{Described, described}
 use Rattle.spec_linux_btf.specs.Reading.{Kind, none, INT, PTR, ARRAY, STRUCT, UNION, ENUM, FWD, TYPEDEF, VOLATILE, CONST, RESTRICT}
 use Rattle.spec_linux_btf.specs.Reading.{FUNC, FUNC-PROTO, VAR, DATASEC, FLOAT, DECL-TAG, TYPE-TAG, ENUM64, kind, shape, known, extra}
@@ -65,7 +65,7 @@ body_p FUNC-PROTO f v w q = func_proto (tabulate (λ j. param_p w (q + j * 8)) 0
 body_p VAR f v w q = var v (w q)
 body_p DATASEC f v w q = datasec (tabulate (λ j. secinfo_p w (q + j * 12)) 0 v)
 body_p FLOAT f v w q = float v
-body_p DECL-TAG f v w q = decl_tag_lem v (w q)
+body_p DECL-TAG f v w q = decl_tag v (w q)
 body_p TYPE-TAG f v w q = type_tag v
 body_p ENUM64 f v w q = enum64 (tabulate (λ j. enumerator64_p w (q + j * 12)) 0 v)
 

@@ -4,7 +4,7 @@ use Rattle.std.specs.Prelude.{ℕ, zero, suc, ◌+◌, ◌*◌, ◌/◌, ◌%◌
 use Rattle.std.specs.Prelude.{leb, eqb}
 use Rattle.spec_linux_btf.specs.Documentation.{Member, member, Enumerator, enumerator, Param, param, Secinfo, secinfo, Enumerator64}
 use Rattle.spec_linux_btf.specs.Documentation.{enumerator64, Body, int, ptr, array, struct, union, enum, fwd, typedef, volatile}
-use Rattle.spec_linux_btf.specs.Documentation.{const, restrict, func, func_proto, var, datasec, float, decl_tag_lem, type_tag, enum64}
+use Rattle.spec_linux_btf.specs.Documentation.{const, restrict, func, func_proto, var, datasec, float, decl_tag, type_tag, enum64}
 use Rattle.spec_linux_btf.specs.Documentation.{Described, described}
 
 -- every element is a byte, as in a lent &[u8]
@@ -131,7 +131,7 @@ module _ (big : Bool) where
   get_body VAR f v e = var v (word e 0)
   get_body DATASEC f v e = datasec (get_each get_secinfo 12 v e)
   get_body FLOAT f v e = float v
-  get_body DECL-TAG f v e = decl_tag_lem v (word e 0)
+  get_body DECL-TAG f v e = decl_tag v (word e 0)
   get_body TYPE-TAG f v e = type_tag v
   get_body ENUM64 f v e = enum64 (get_each get_enumerator64 12 v e)
 

@@ -1,7 +1,7 @@
 -- The ids that a described type follows.
 use Rattle.std.specs.Prelude.{ℕ, zero, suc, List, [], ◌∷◌, get_or}
 use Rattle.spec_linux_btf.specs.Documentation.{Member, member, Param, param, int, ptr, array, struct, union, enum, fwd, typedef, volatile}
-use Rattle.spec_linux_btf.specs.Documentation.{const, restrict, func, func_proto, var, datasec, float, decl_tag_lem, type_tag, enum64}
+use Rattle.spec_linux_btf.specs.Documentation.{const, restrict, func, func_proto, var, datasec, float, decl_tag, type_tag, enum64}
 use Rattle.spec_linux_btf.specs.Documentation.{Described, described}
 
 abbrev pub member_ids : List Member → List ℕ
@@ -31,7 +31,7 @@ followed_ids (described n f z (func_proto ps)) = z ∷ param_ids ps
 followed_ids (described n f z (var v l)) = []
 followed_ids (described n f z (datasec ss)) = []
 followed_ids (described n f z (float v)) = []
-followed_ids (described n f z (decl_tag_lem v c)) = []
+followed_ids (described n f z (decl_tag v c)) = []
 followed_ids (described n f z (type_tag v)) = z ∷ []
 followed_ids (described n f z (enum64 es)) = []
 

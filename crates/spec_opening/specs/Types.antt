@@ -1,7 +1,7 @@
 -- The types and enumerators of a section whose header and records are sound.
 use Rattle.std.specs.Prelude.{ℕ, suc, ◌+◌, List, [], ◌∷◌, length}
 use Rattle.spec_linux_btf.specs.Documentation.{Body, int, ptr, array, struct, union, enum, fwd, typedef, volatile, const, restrict, func}
-use Rattle.spec_linux_btf.specs.Documentation.{func_proto, var, datasec, float, decl_tag_lem, type_tag, enum64, Described, described}
+use Rattle.spec_linux_btf.specs.Documentation.{func_proto, var, datasec, float, decl_tag, type_tag, enum64, Described, described}
 use Rattle.spec_linux_btf.specs.Reading.{decode_all}
 use Rattle.spec_linux_btf.specs.Section.{is_big_endian, type_area}
 
@@ -31,7 +31,7 @@ values_in (func_proto ps) = 0
 values_in (var v l) = 0
 values_in (datasec ss) = 0
 values_in (float v) = 0
-values_in (decl_tag_lem v c) = 0
+values_in (decl_tag v c) = 0
 values_in (type_tag v) = 0
 values_in (enum64 es) = length es
 

@@ -3,7 +3,7 @@
 use Rattle.std.specs.Prelude.{ℕ, zero, suc, ◌+◌, ◌*◌, Bool, true, false, List, [], ◌∷◌}
 use Rattle.spec_linux_btf.specs.Documentation.{Member, member, Enumerator, enumerator, Param, param, Enumerator64, enumerator64, int, ptr}
 use Rattle.spec_linux_btf.specs.Documentation.{array, struct, union, enum, fwd, typedef, volatile, const, restrict, func, func_proto, var}
-use Rattle.spec_linux_btf.specs.Documentation.{datasec, float, decl_tag_lem, type_tag, enum64, Described, described}
+use Rattle.spec_linux_btf.specs.Documentation.{datasec, float, decl_tag, type_tag, enum64, Described, described}
 use Rattle.spec_c_dumper.specs.rules.Types as R
 use Rattle.spec_c_dumper.specs.rules.Types.{BtfType, Int, Ptr, Array, Composite, Enum, Enum64, Fwd, Typedef, Mod, Func, Var, Datasec}
 use Rattle.spec_c_dumper.specs.rules.Types.{FuncProto, Float, DeclTag, TypeTag}
@@ -53,6 +53,6 @@ module _ (strings : ℕ) (s : List ℕ) where
   kept (described n f z (var v linkage)) = Var (str n)
   kept (described n f z (datasec es)) = Datasec (str n)
   kept (described n f z (float v)) = Float (str n) z
-  kept (described n f z (decl_tag_lem v idx)) = DeclTag (is_set f) (str n) z idx
+  kept (described n f z (decl_tag v idx)) = DeclTag (is_set f) (str n) z idx
   kept (described n f z (type_tag v)) = TypeTag (is_set f) (str n) z
   kept (described n f z (enum64 vs)) = Enum64 (is_set f) (str n) z (kept_values64 vs)

@@ -3,7 +3,7 @@
 use Prim.Native.Nat.{ℕ}
 use mathlib.Core.Path.{◌≡◌, refl, ap}
 use mathlib.Core.List.{List, [], ◌∷◌, Memᴰ}
-use Rattle.spec_linux_btf.specs.Documentation.{Member, member, Param, param, int, ptr, array, struct, union, enum, fwd, typedef, volatile, const, restrict, func, func_proto, var, datasec, float, decl_tag_lem, type_tag, enum64, Described, described}
+use Rattle.spec_linux_btf.specs.Documentation.{Member, member, Param, param, int, ptr, array, struct, union, enum, fwd, typedef, volatile, const, restrict, func, func_proto, var, datasec, float, decl_tag, type_tag, enum64, Described, described}
 use Rattle.spec_c_dumper.specs.rules.Types as R
 use Rattle.spec_c_dumper.specs.rules.Types.{BtfType, Void, Int, Ptr, Array, Composite, Enum, Enum64, Fwd, Typedef, Mod, Func, Var, Datasec, FuncProto, Float, DeclTag, TypeTag, node_of, member_types, param_types}
 use Rattle.spec_c_dumper.specs.rules.Listed.{tags_id}
@@ -18,7 +18,7 @@ same_members J [] h = S.no_members
 same_members J (m ∷ ms) h = S.member m.name m.type_id m.type_id m.bit_offset m.bit_size (h m.type_id (Memᴰ.head refl)) (same_members J ms (λ y e. h y (Memᴰ.tail e)))
 
 same_params : (J : ℕ → ℕ → Type 0) (ps : List R.Param) → ((y : ℕ) → Memᴰ y (param_types ps) → J y y) → S.SameParams J ps ps
-same_params J [] h = S.no_params_lem
+same_params J [] h = S.no_params
 same_params J (p ∷ ps) h = S.param p.name p.type_id p.type_id (h p.type_id (Memᴰ.head refl)) (same_params J ps (λ y e. h y (Memᴰ.tail e)))
 
 -- a type is the same as itself, where what it follows stands for itself
@@ -38,7 +38,7 @@ same_self J (Var n) h = S.var n
 same_self J (Datasec n) h = S.datasec n
 same_self J (FuncProto r ps) h = S.proto r r ps ps (h r (Memᴰ.head refl)) (same_params J ps (λ y e. h y (Memᴰ.tail e)))
 same_self J (Float n z) h = S.float n z
-same_self J (DeclTag a n t k) h = S.decl_tag_lem a n t t k
+same_self J (DeclTag a n t k) h = S.decl_tag a n t t k
 same_self J (TypeTag a n t) h = S.type_tag a n t t (h t (Memᴰ.head refl))
 
 -- a DECL_TAG on an id, in the words of two crates
@@ -89,6 +89,6 @@ kids_are strings s (described n f z (func_proto ps)) = ap (λ (l : List ℕ). z 
 kids_are strings s (described n f z (var v l)) = refl
 kids_are strings s (described n f z (datasec ss)) = refl
 kids_are strings s (described n f z (float v)) = refl
-kids_are strings s (described n f z (decl_tag_lem v c)) = refl
+kids_are strings s (described n f z (decl_tag v c)) = refl
 kids_are strings s (described n f z (type_tag v)) = refl
 kids_are strings s (described n f z (enum64 es)) = refl

@@ -12,7 +12,7 @@ use lib.Dec.{ltb, leb, eqb}
 use borrow.Author.Tests.{lt-ltb}
 use Rattle.spec_bytes.specs.words.Words.{word_at, word_at_big, word_in, pick}
 use Rattle.spec_bytes.proofs.words.Laws.{le_or_lt}
-use Rattle.spec_linux_btf.specs.Documentation.{Member, member, Enumerator, enumerator, Param, param, Enumerator64, enumerator64, int, ptr, array, struct, union, enum, fwd, typedef, volatile, const, restrict, func, func_proto, var, datasec, float, decl_tag_lem, type_tag, enum64, Described, described, encode, encode_all, Every, Allowed, Header, header, encode_header, encode_section}
+use Rattle.spec_linux_btf.specs.Documentation.{Member, member, Enumerator, enumerator, Param, param, Enumerator64, enumerator64, int, ptr, array, struct, union, enum, fwd, typedef, volatile, const, restrict, func, func_proto, var, datasec, float, decl_tag, type_tag, enum64, Described, described, encode, encode_all, Every, Allowed, Header, header, encode_header, encode_section}
 use Rattle.spec_linux_btf.specs.Reading.{Bytes, decode_all}
 use Rattle.spec_linux_btf.specs.Section.{is_big_endian, little_endian, word_of, hdr_len_of, type_len_of, str_off_of, str_len_of, types_at, strings_at, read_header, type_area, header_sound}
 use Rattle.spec_linux_btf.proofs.Types.{body_long}
@@ -106,7 +106,7 @@ module _ (b c : TypeTable) (s u : List ℕ) (same : (off : ℕ) → str_at b s o
   kept_same (described n f z (var v k)) = λ i. Var (same n i)
   kept_same (described n f z (datasec es)) = λ i. Datasec (same n i)
   kept_same (described n f z (float v)) = λ i. Float (same n i) z
-  kept_same (described n f z (decl_tag_lem v k)) = λ i. DeclTag (is_set f) (same n i) z k
+  kept_same (described n f z (decl_tag v k)) = λ i. DeclTag (is_set f) (same n i) z k
   kept_same (described n f z (type_tag v)) = λ i. TypeTag (is_set f) (same n i) z
   kept_same (described n f z (enum64 vs)) = λ i. Enum64 (is_set f) (same n i) z (values64_same vs i)
 

@@ -4,7 +4,7 @@ use mathlib.Core.Path.{◌≡◌, refl, ap}
 use mathlib.Core.Bool.{Bool}
 use mathlib.Core.List.{List, [], ◌∷◌, ◌++◌}
 use lib.ListN.{length}
-use Rattle.spec_linux_btf.specs.Documentation.{in_bytes, pack, btf_info, put_each, put_member, put_enumerator, put_param, put_secinfo, put_enumerator64, offset_word, Member, member, Enumerator, enumerator, Param, param, Secinfo, secinfo, Enumerator64, enumerator64, int, ptr, array, struct, union, enum, fwd, typedef, volatile, const, restrict, func, func_proto, var, datasec, float, decl_tag_lem, type_tag, enum64, Described, described, encode}
+use Rattle.spec_linux_btf.specs.Documentation.{in_bytes, pack, btf_info, put_each, put_member, put_enumerator, put_param, put_secinfo, put_enumerator64, offset_word, Member, member, Enumerator, enumerator, Param, param, Secinfo, secinfo, Enumerator64, enumerator64, int, ptr, array, struct, union, enum, fwd, typedef, volatile, const, restrict, func, func_proto, var, datasec, float, decl_tag, type_tag, enum64, Described, described, encode}
 use Rattle.spec_cut.specs.section.Renumbered.{new_members, new_params, new_values, new_values64, new_secinfos, renamed}
 use Rattle.spec_cut.specs.section.Strings.{member_names, param_names, value_names, value64_names, mentions}
 use Rattle.session_cut.specs.items.Items.{Item, act, flat, name_item, member_items, value_items, param_items, secinfo_items, value64_items, items}
@@ -77,7 +77,7 @@ module _ (big : Bool) (i o : ℕ → ℕ) where
   encode_items (described n f z (var v l)) = refl
   encode_items (described n f z (datasec ss)) = counted (o n) 15 f z _ _ _ _ (secinfos_length ss) (secinfos_put ss)
   encode_items (described n f z (float v)) = refl
-  encode_items (described n f z (decl_tag_lem v c)) = refl
+  encode_items (described n f z (decl_tag v c)) = refl
   encode_items (described n f z (type_tag v)) = refl
   encode_items (described n f z (enum64 es)) = counted (o n) 19 f z _ _ _ _ (values64_length es) (values64_put es)
 
@@ -121,6 +121,6 @@ mentions_items (described n f z (func_proto ps)) = ap (λ (l : List ℕ). n ∷ 
 mentions_items (described n f z (var v l)) = refl
 mentions_items (described n f z (datasec ss)) = ap (λ (l : List ℕ). n ∷ l) (secinfo_names ss)
 mentions_items (described n f z (float v)) = refl
-mentions_items (described n f z (decl_tag_lem v c)) = refl
+mentions_items (described n f z (decl_tag v c)) = refl
 mentions_items (described n f z (type_tag v)) = refl
 mentions_items (described n f z (enum64 es)) = ap (λ (l : List ℕ). n ∷ l) (value64_names_lem es)

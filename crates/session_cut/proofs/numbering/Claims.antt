@@ -10,7 +10,7 @@ use lib.Dec.{eqb}
 use borrow.Author.Tests.{eqb-true, eqb-false}
 use Rattle.spec_bytes.specs.words.Words.{get_word, table, words}
 use Rattle.spec_bytes.proofs.words.Laws.{le_or_lt}
-use Rattle.spec_linux_btf.specs.Documentation.{int, ptr, array, struct, union, enum, fwd, typedef, volatile, const, restrict, func, func_proto, var, datasec, float, decl_tag_lem, type_tag, enum64, Described, described}
+use Rattle.spec_linux_btf.specs.Documentation.{int, ptr, array, struct, union, enum, fwd, typedef, volatile, const, restrict, func, func_proto, var, datasec, float, decl_tag, type_tag, enum64, Described, described}
 use Rattle.spec_linux_btf.specs.Fields.{kind_in}
 use Rattle.spec_type_table.specs.declared.types.TypeTable.{TypeTable}
 use Rattle.btf_open_causes.specs.references.Followed.{type_count, kind_at}
@@ -65,7 +65,7 @@ kind_tag (described n f z (func_proto ps)) h = absurd (omega (arith, h))
 kind_tag (described n f z (var v l)) h = absurd (omega (arith, h))
 kind_tag (described n f z (datasec ss)) h = absurd (omega (arith, h))
 kind_tag (described n f z (float v)) h = absurd (omega (arith, h))
-kind_tag (described n f z (decl_tag_lem v c)) h = refl
+kind_tag (described n f z (decl_tag v c)) h = refl
 kind_tag (described n f z (type_tag v)) h = absurd (omega (arith, h))
 kind_tag (described n f z (enum64 es)) h = absurd (omega (arith, h))
 

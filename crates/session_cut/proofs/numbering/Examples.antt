@@ -5,7 +5,7 @@ use mathlib.Core.Bool.{Bool, true, false, not}
 use mathlib.Core.List.{List, [], ◌∷◌}
 use lib.Dec.{eqb}
 use Rattle.spec_bytes.specs.words.Words.{word_at, word_at_big, word_in}
-use Rattle.spec_linux_btf.specs.Documentation.{member, enumerator, param, secinfo, enumerator64, int, ptr, array, struct, enum, func, func_proto, var, datasec, decl_tag_lem, enum64, Described, described, encode, encode_all, encode_strings, encode_header, encode_section}
+use Rattle.spec_linux_btf.specs.Documentation.{member, enumerator, param, secinfo, enumerator64, int, ptr, array, struct, enum, func, func_proto, var, datasec, decl_tag, enum64, Described, described, encode, encode_all, encode_strings, encode_header, encode_section}
 use Rattle.spec_linux_btf.specs.Reading.{kind, word, decode, places, decode_all}
 use Rattle.spec_linux_btf.specs.Section.{is_big_endian, hdr_len_of, type_off_of, type_len_of, str_off_of, str_len_of, type_area, string_area}
 use Rattle.spec_c_dumper.specs.rules.Types.{is_empty}
@@ -79,7 +79,7 @@ others =
     ∷ described 5 0 4 (var 0 1)
     ∷ described 1 0 8 (datasec (secinfo 7 0 4 ∷ secinfo 9 4 4 ∷ []))
     ∷ described 1 0 4 (int 0 32 0 0 0 0)
-    ∷ described 3 0 2 (decl_tag_lem 0 4294967295)
+    ∷ described 3 0 2 (decl_tag 0 4294967295)
     ∷ []
 
 -- abx, x, bx

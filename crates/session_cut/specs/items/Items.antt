@@ -2,7 +2,7 @@
 use Rattle.std.specs.Prelude.{ℕ, true, false, List, [], ◌∷◌, ◌++◌, eqb}
 use Rattle.spec_linux_btf.specs.Documentation.{pack, btf_info, btf_int, Member, member, Enumerator, enumerator, Param, param, Secinfo}
 use Rattle.spec_linux_btf.specs.Documentation.{secinfo, Enumerator64, enumerator64, Body, int, ptr, array, struct, union, enum, fwd}
-use Rattle.spec_linux_btf.specs.Documentation.{typedef, volatile, const, restrict, func, func_proto, var, datasec, float, decl_tag_lem}
+use Rattle.spec_linux_btf.specs.Documentation.{typedef, volatile, const, restrict, func, func_proto, var, datasec, float, decl_tag}
 use Rattle.spec_linux_btf.specs.Documentation.{type_tag, enum64, Described, described, kind_of, vlen_of, offset_word}
 
 pub data Item : Type 0 where
@@ -66,7 +66,7 @@ third_item (func_proto ps) z = tid z
 third_item (var v l) z = tid z
 third_item (datasec ss) z = raw z
 third_item (float v) z = raw z
-third_item (decl_tag_lem v c) z = tid z
+third_item (decl_tag v c) z = tid z
 third_item (type_tag v) z = tid z
 third_item (enum64 es) z = raw z
 
@@ -87,7 +87,7 @@ body_items f (func_proto ps) = param_items ps
 body_items f (var v l) = raw l ∷ []
 body_items f (datasec ss) = secinfo_items ss
 body_items f (float v) = []
-body_items f (decl_tag_lem v c) = raw c ∷ []
+body_items f (decl_tag v c) = raw c ∷ []
 body_items f (type_tag v) = []
 body_items f (enum64 es) = value64_items es
 

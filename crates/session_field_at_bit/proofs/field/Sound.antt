@@ -14,7 +14,7 @@ use Rattle.spec_c_dumper.specs.rules.Writer.{Ask, got, no, ask_then, checked}
 use Rattle.spec_c_dumper.specs.rules.Types.{Name, Member, BtfType, Void, Int, Ptr, Array, Composite, Enum, Enum64, Fwd, Typedef, Mod, Func, Var, Datasec, FuncProto, Float, DeclTag, TypeTag, Btf}
 use Rattle.spec_c_dumper.specs.rules.Layout.{size_of, get_size_of, end_of}
 use Rattle.session_field_at_bit.specs.step.Path.{Shape, plain, through, array, composite, shape_of, is_composite, passed, behind, Step, stay, enter, field, covers, entered, tried, placed, step_in, full, onward, path_from, some_entry, field_path}
-use Rattle.session_field_at_bit.specs.field.Leads.{Covers, by_size, by_field, First, here, later, Uncovered, none, next, Leads, passes, place, member, bit_field_lem, ends, gap}
+use Rattle.session_field_at_bit.specs.field.Leads.{Covers, by_size, by_field, First, here, later, Uncovered, none, next, Leads, passes, place, member, bit_field, ends, gap}
 
 -- ---- answers
 no_got : {A : Type 0} → (c : ℕ) (a : A) → no c ≡ got a → ⊥
@@ -340,7 +340,7 @@ module _ (B : Btf) (x bit : ℕ) where
     tried_leads (field i) v =
         let c : i ≡ 0 + v.at = v.counted in
         let d : v.at ≡ i = omega arith in
-        bit_field_lem x i bit ms v.one s (subst (λ (j : ℕ). First B bit v.one ms j) d v.first) v.bits
+        bit_field x i bit ms v.one s (subst (λ (j : ℕ). First B bit v.one ms j) d v.first) v.bits
 
     composite_step : (st : Step) → tried B bit 0 ms ≡ got st → StepLeads st
     composite_step st e = tried_leads st (tried_is B bit ms 0 st e)

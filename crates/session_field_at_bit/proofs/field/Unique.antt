@@ -11,7 +11,7 @@ use Rattle.spec_c_dumper.specs.rules.Writer.{got}
 use Rattle.spec_c_dumper.specs.rules.Types.{Member, Array, Btf}
 use Rattle.spec_c_dumper.specs.rules.Layout.{get_size_of}
 use Rattle.session_field_at_bit.specs.step.Path.{plain, through, array, composite, shape_of, field_path}
-use Rattle.session_field_at_bit.specs.field.Leads.{First, here, later, Uncovered, next, Leads, passes, place, member, bit_field_lem, ends, gap}
+use Rattle.session_field_at_bit.specs.field.Leads.{First, here, later, Uncovered, next, Leads, passes, place, member, bit_field, ends, gap}
 use Rattle.session_field_at_bit.proofs.field.Sound.{got_same, sound}
 
 -- ---- two shapes are never one
@@ -76,7 +76,7 @@ module _ (B : Btf) where
   after_through _ t _ _ s (passes id u bit q e l) = subst (λ (x : ℕ). Leads B x bit q) (same_through u t (sym e ∙ s)) l
   after_through _ t _ _ s (place id u count size k bit rest p e z c b r l) = absurd (through_array t u (sym s ∙ ap shape_of e))
   after_through _ t _ _ s (member id k bit ms m p e f z l) = absurd (through_composite t ms (sym s ∙ e))
-  after_through _ t _ _ s (bit_field_lem id k bit ms m e f n) = absurd (through_composite t ms (sym s ∙ e))
+  after_through _ t _ _ s (bit_field id k bit ms m e f n) = absurd (through_composite t ms (sym s ∙ e))
   after_through _ t _ _ s (ends id bit e) = absurd (plain_through t (sym e ∙ s))
   after_through _ t _ _ s (gap id bit ms e u) = absurd (through_composite t ms (sym s ∙ e))
 
@@ -85,7 +85,7 @@ module _ (B : Btf) where
   after_plain _ _ _ s (passes id u bit q e l) = absurd (plain_through u (sym s ∙ e))
   after_plain _ _ _ s (place id u count size k bit rest p e z c b r l) = absurd (plain_array u (sym s ∙ ap shape_of e))
   after_plain _ _ _ s (member id k bit ms m p e f z l) = absurd (plain_composite ms (sym s ∙ e))
-  after_plain _ _ _ s (bit_field_lem id k bit ms m e f n) = absurd (plain_composite ms (sym s ∙ e))
+  after_plain _ _ _ s (bit_field id k bit ms m e f n) = absurd (plain_composite ms (sym s ∙ e))
   after_plain _ _ _ s (ends id bit e) = refl
   after_plain _ _ _ s (gap id bit ms e u) = refl
 
@@ -101,7 +101,7 @@ module _ (B : Btf) where
         let w : (k ≡ k') × (rest ≡ rest') = same_place (size * 8) k k' rest rest' r h (sym b ∙ g) in
         on p (ap (λ (n : ℕ). n ∷ p) w.0) (subst (λ (n : ℕ). Leads B t n p) (sym w.1) (subst (λ (n : ℕ). Leads B n rest' p) o l))
     after_array _ _ _ s b (member id k' bit ms m p e f z' l) on = absurd (array_composite t ms (sym (ap shape_of s) ∙ e))
-    after_array _ _ _ s b (bit_field_lem id k' bit ms m e f n) on = absurd (array_composite t ms (sym (ap shape_of s) ∙ e))
+    after_array _ _ _ s b (bit_field id k' bit ms m e f n) on = absurd (array_composite t ms (sym (ap shape_of s) ∙ e))
     after_array _ _ _ s b (ends id bit e) on = absurd (plain_array t (sym e ∙ ap shape_of s))
     after_array _ _ _ s b (gap id bit ms e u) on = absurd (array_composite t ms (sym (ap shape_of s) ∙ e))
 
@@ -114,7 +114,7 @@ module _ (B : Btf) where
         let o : ns ≡ ms = same_members ns ms (sym e ∙ s) in
         let w : (m ≡ m') × (k ≡ k') = same_first B bit m m' ms k k' f (subst (λ (x : List Member). First B bit m' x k') o g) in
         on p (ap (λ (n : ℕ). n ∷ p) w.1) (subst (λ (x : Member). Leads B x.type_id (bit - x.bit_offset) p) (sym w.0) l)
-    after_member _ _ _ s f z (bit_field_lem id k' bit ns m' e g n) on =
+    after_member _ _ _ s f z (bit_field id k' bit ns m' e g n) on =
         let o : ns ≡ ms = same_members ns ms (sym e ∙ s) in
         let w : (m ≡ m') × (k ≡ k') = same_first B bit m m' ms k k' f (subst (λ (x : List Member). First B bit m' x k') o g) in
         absurd (n (ap (λ (x : Member). x.bit_size) (sym w.0) ∙ z))
@@ -130,7 +130,7 @@ module _ (B : Btf) where
         let o : ns ≡ ms = same_members ns ms (sym e ∙ s) in
         let w : (m ≡ m') × (k ≡ k') = same_first B bit m m' ms k k' f (subst (λ (x : List Member). First B bit m' x k') o g) in
         absurd (n (ap (λ (x : Member). x.bit_size) w.0 ∙ z'))
-    after_field m k _ _ _ s f n (bit_field_lem id k' bit ns m' e g n') =
+    after_field m k _ _ _ s f n (bit_field id k' bit ns m' e g n') =
         let o : ns ≡ ms = same_members ns ms (sym e ∙ s) in
         ap (λ (i : ℕ). i ∷ []) (same_first B bit m m' ms k k' f (subst (λ (x : List Member). First B bit m' x k') o g)).1
     after_field m k _ _ _ s f n (ends id bit e) = absurd (plain_composite ms (sym e ∙ s))
@@ -141,7 +141,7 @@ module _ (B : Btf) where
     after_gap _ _ _ s u (passes id v bit q e l) = absurd (through_composite v ms (sym e ∙ s))
     after_gap _ _ _ s u (place id v count size k' bit rest p e z' c b r l) = absurd (array_composite v ms (sym (ap shape_of e) ∙ s))
     after_gap _ _ _ s u (member id k' bit ns m' p e g z' l) = absurd (first_covered B bit m' ms k' (subst (λ (x : List Member). First B bit m' x k') (same_members ns ms (sym e ∙ s)) g) u)
-    after_gap _ _ _ s u (bit_field_lem id k' bit ns m' e g n') = absurd (first_covered B bit m' ms k' (subst (λ (x : List Member). First B bit m' x k') (same_members ns ms (sym e ∙ s)) g) u)
+    after_gap _ _ _ s u (bit_field id k' bit ns m' e g n') = absurd (first_covered B bit m' ms k' (subst (λ (x : List Member). First B bit m' x k') (same_members ns ms (sym e ∙ s)) g) u)
     after_gap _ _ _ s u (ends id bit e) = refl
     after_gap _ _ _ s u (gap id bit ns e u') = refl
 
@@ -152,7 +152,7 @@ module _ (B : Btf) where
       after_array t count size k rest z r id bit q e b h (λ p' w g. ap (λ (x : List ℕ). k ∷ x) (unique t rest p p' l g) ∙ w)
   unique _ _ _ q (member id k bit ms m p e f z l) h =
       after_member ms m k id bit q e f z h (λ p' w g. ap (λ (x : List ℕ). k ∷ x) (unique m.type_id (bit - m.bit_offset) p p' l g) ∙ w)
-  unique _ _ _ q (bit_field_lem id k bit ms m e f n) h = after_field ms m k id bit q e f n h
+  unique _ _ _ q (bit_field id k bit ms m e f n) h = after_field ms m k id bit q e f n h
   unique _ _ _ q (ends id bit e) h = after_plain id bit q e h
   unique _ _ _ q (gap id bit ms e u) h = after_gap ms id bit q e u h
 

@@ -30,7 +30,7 @@ pub data Leads (B : Btf) : ℕ → ℕ → List ℕ → Type 0 where
   member : (id k bit : ℕ) (ms : List Member) (m : Member) (p : List ℕ) → shape_of (B.type_by_id id) ≡ composite ms → First B bit m ms k
       → m.bit_size ≡ 0
       → Leads B m.type_id (bit - m.bit_offset) p → Leads B id bit (k ∷ p)
-  bit_field_lem : (id k bit : ℕ) (ms : List Member) (m : Member) → shape_of (B.type_by_id id) ≡ composite ms → First B bit m ms k
+  bit_field : (id k bit : ℕ) (ms : List Member) (m : Member) → shape_of (B.type_by_id id) ≡ composite ms → First B bit m ms k
       → (m.bit_size ≡ 0 → ⊥) → Leads B id bit (k ∷ [])
   ends : (id bit : ℕ) → shape_of (B.type_by_id id) ≡ plain → Leads B id bit []
   gap : (id bit : ℕ) (ms : List Member) → shape_of (B.type_by_id id) ≡ composite ms → Uncovered B bit ms → Leads B id bit []

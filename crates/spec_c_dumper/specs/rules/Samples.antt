@@ -25,12 +25,12 @@ padding (no c) = decimal c
 
 -- emit_bit_padding from bit 0 to an int at bit n, as a bit field (true) or as a plain member of 4 bytes
 abbrev pub gap : ℕ → Bool → ℕ → List ℕ
-gap ptr_sz bit_field_lem n =
+gap ptr_sz is_bit_field n =
     padding (bit_padding (listed ptr_sz false (Void ∷ Int (ascii "int") 32 ∷ [])) 0 (record {
       name = [];
       type_id = 1;
       bit_offset = n;
-      bit_size = elim bit_field_lem [ true ↦ 1 | false ↦ 0 ];
+      bit_size = elim is_bit_field [ true ↦ 1 | false ↦ 0 ];
     }) false)
 
 abbrev pub table : List BtfType → Btf

@@ -8,7 +8,7 @@ use mathlib.Core.List.{List, [], ◌∷◌, map, Memᴰ}
 use lib.ListN.{length, get_or}
 use lib.Dec.{eqb}
 use borrow.Author.Tests.{eqb-true, eqb-false}
-use Rattle.spec_linux_btf.specs.Documentation.{Member, member, Param, param, int, ptr, array, struct, union, enum, fwd, typedef, volatile, const, restrict, func, func_proto, var, datasec, float, decl_tag_lem, type_tag, enum64, Described, described}
+use Rattle.spec_linux_btf.specs.Documentation.{Member, member, Param, param, int, ptr, array, struct, union, enum, fwd, typedef, volatile, const, restrict, func, func_proto, var, datasec, float, decl_tag, type_tag, enum64, Described, described}
 use Rattle.spec_linux_btf.specs.Fields.{kind_in}
 use Rattle.spec_cut.specs.section.Kept.{member_ids, param_ids, followed_ids, void_type, type_of, is_decl_tag}
 use Rattle.spec_cut.specs.section.Renumbered.{kept_to, new_id, kept_types, new_members, new_params, renamed, renamed_all}
@@ -41,7 +41,7 @@ module _ (i o : ℕ → ℕ) where
   followed_map (described n f z (var v l)) = refl
   followed_map (described n f z (datasec ss)) = refl
   followed_map (described n f z (float v)) = refl
-  followed_map (described n f z (decl_tag_lem v c)) = refl
+  followed_map (described n f z (decl_tag v c)) = refl
   followed_map (described n f z (type_tag v)) = refl
   followed_map (described n f z (enum64 es)) = refl
 
@@ -63,7 +63,7 @@ module _ (i o : ℕ → ℕ) where
   kind_same (described n f z (var v l)) = refl
   kind_same (described n f z (datasec ss)) = refl
   kind_same (described n f z (float v)) = refl
-  kind_same (described n f z (decl_tag_lem v c)) = refl
+  kind_same (described n f z (decl_tag v c)) = refl
   kind_same (described n f z (type_tag v)) = refl
   kind_same (described n f z (enum64 es)) = refl
 
@@ -85,7 +85,7 @@ tag_kind (described n f z (func_proto ps)) h = absurd (true≢false (sym h))
 tag_kind (described n f z (var v l)) h = absurd (true≢false (sym h))
 tag_kind (described n f z (datasec ss)) h = absurd (true≢false (sym h))
 tag_kind (described n f z (float v)) h = absurd (true≢false (sym h))
-tag_kind (described n f z (decl_tag_lem v c)) h = refl
+tag_kind (described n f z (decl_tag v c)) h = refl
 tag_kind (described n f z (type_tag v)) h = absurd (true≢false (sym h))
 tag_kind (described n f z (enum64 es)) h = absurd (true≢false (sym h))
 

@@ -9,7 +9,7 @@ use lib.ListN.{length, get_or, drop, take-append-drop, length-drop}
 use lib.Seq.{length-take-le, drop-drop}
 use lib.Dec.{leb, eqb}
 use borrow.Author.Tests.{leb-true, eqb-true, lt-ltb}
-use Rattle.spec_linux_btf.specs.Documentation.{Member, member, Enumerator, enumerator, Param, param, Enumerator64, enumerator64, int, ptr, array, struct, union, enum, fwd, typedef, volatile, const, restrict, func, func_proto, var, datasec, float, decl_tag_lem, type_tag, enum64, Described, described, Every, Named, Allowed, NamedMember, NamedParam, NamedEnumerator, NamedEnumerator64}
+use Rattle.spec_linux_btf.specs.Documentation.{Member, member, Enumerator, enumerator, Param, param, Enumerator64, enumerator64, int, ptr, array, struct, union, enum, fwd, typedef, volatile, const, restrict, func, func_proto, var, datasec, float, decl_tag, type_tag, enum64, Described, described, Every, Named, Allowed, NamedMember, NamedParam, NamedEnumerator, NamedEnumerator64}
 use Rattle.spec_linux_btf.specs.Section.{is_big_endian, little_endian, hdr_len_of, type_len_of, str_off_of, str_len_of, types_at, strings_at, string_area, header_sound, strings_sound, last_of}
 use Rattle.spec_type_table.specs.Names.{up_to_zero, name_at, str_at}
 use Rattle.btf_open_causes.specs.header.Header as header
@@ -64,7 +64,7 @@ module _ (sl : ℕ) where
   mentions_below (described n f z (var v l)) h = and_then n [] h.0 nothing
   mentions_below (described n f z (datasec ss)) h = and_then n [] h.0 nothing
   mentions_below (described n f z (float v)) h = and_then n [] h.0 nothing
-  mentions_below (described n f z (decl_tag_lem v c)) h = and_then n [] h.0 nothing
+  mentions_below (described n f z (decl_tag v c)) h = and_then n [] h.0 nothing
   mentions_below (described n f z (type_tag v)) h = and_then n [] h.0 nothing
   mentions_below (described n f z (enum64 es)) h = and_then n (value64_names es) h.0 (values64_below es h.1)
 

@@ -5,7 +5,7 @@ use mathlib.Core.Path.{◌≡◌, refl, ap}
 use mathlib.Core.Bool.{Bool, true, false}
 use mathlib.Core.List.{List, [], ◌∷◌}
 use lib.ListN.{length}
-use Rattle.spec_linux_btf.specs.Documentation.{Enumerator, enumerator, Enumerator64, enumerator64, int, ptr, array, struct, union, enum, fwd, typedef, volatile, const, restrict, func, func_proto, var, datasec, float, decl_tag_lem, type_tag, enum64, Described, described}
+use Rattle.spec_linux_btf.specs.Documentation.{Enumerator, enumerator, Enumerator64, enumerator64, int, ptr, array, struct, union, enum, fwd, typedef, volatile, const, restrict, func, func_proto, var, datasec, float, decl_tag, type_tag, enum64, Described, described}
 use Rattle.spec_linux_btf.specs.Reading.{Bytes}
 use Rattle.spec_opening.specs.Table as opening
 use Rattle.spec_opening.specs.Table.{enumerators_in, all_enumerators, enumerators_of}
@@ -44,7 +44,7 @@ module _ (i o : ℕ → ℕ) where
   same_enumerators (described n f z (var v l)) = refl
   same_enumerators (described n f z (datasec ss)) = refl
   same_enumerators (described n f z (float v)) = refl
-  same_enumerators (described n f z (decl_tag_lem v c)) = refl
+  same_enumerators (described n f z (decl_tag v c)) = refl
   same_enumerators (described n f z (type_tag v)) = refl
   same_enumerators (described n f z (enum64 es)) = values64_many es
 

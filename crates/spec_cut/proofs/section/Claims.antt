@@ -5,7 +5,7 @@ use mathlib.Core.Path.{◌≡◌, refl, sym, ◌∙◌, ap, subst}
 use mathlib.Core.Bool.{Bool, true, false, true≢false}
 use mathlib.Core.List.{List, Memᴰ}
 use lib.ListN.{length, get_or}
-use Rattle.spec_linux_btf.specs.Documentation.{int, ptr, array, struct, union, enum, fwd, typedef, volatile, const, restrict, func, func_proto, var, datasec, float, decl_tag_lem, type_tag, enum64, Described, described}
+use Rattle.spec_linux_btf.specs.Documentation.{int, ptr, array, struct, union, enum, fwd, typedef, volatile, const, restrict, func, func_proto, var, datasec, float, decl_tag, type_tag, enum64, Described, described}
 use Rattle.spec_linux_btf.specs.Section.{string_area}
 use Rattle.spec_c_dumper.specs.rules.Types.{Btf as Rules, table_of}
 use Rattle.spec_c_dumper.specs.rules.Names.{Names}
@@ -43,7 +43,7 @@ tag_follows (described n f z (func_proto ps)) h y k = true≢false (sym h)
 tag_follows (described n f z (var v l)) h y k = true≢false (sym h)
 tag_follows (described n f z (datasec ss)) h y k = true≢false (sym h)
 tag_follows (described n f z (float v)) h y k = true≢false (sym h)
-tag_follows (described n f z (decl_tag_lem v c)) h y k = mathlib.Core.List.Memᴰ.not-nil k
+tag_follows (described n f z (decl_tag v c)) h y k = mathlib.Core.List.Memᴰ.not-nil k
 tag_follows (described n f z (type_tag v)) h y k = true≢false (sym h)
 tag_follows (described n f z (enum64 es)) h y k = true≢false (sym h)
 

@@ -1,7 +1,7 @@
 -- A table cut down, by computation.
 use mathlib.Core.Path.{◌≡◌, refl}
 use mathlib.Core.List.{List, [], ◌∷◌}
-use Rattle.spec_linux_btf.specs.Documentation.{member, int, ptr, array, struct, decl_tag_lem, Described, described}
+use Rattle.spec_linux_btf.specs.Documentation.{member, int, ptr, array, struct, decl_tag, Described, described}
 use Rattle.spec_cut.specs.section.Renumbered.{kept_to, new_id, kept_types, renamed, renamed_all}
 use Rattle.spec_cut.specs.section.Test.{is_in, leads, reached_by, follows, is_reached, is_its_tag, is_kept}
 
@@ -13,16 +13,16 @@ table =
     ∷ described 3 0 16 (struct (member 4 5 0 0 ∷ member 5 2 64 0 ∷ []))
     ∷ described 0 0 0 (array 0 3 1 4)
     ∷ described 0 0 3 (ptr 0)
-    ∷ described 6 0 3 (decl_tag_lem 0 1)
-    ∷ described 6 0 6 (decl_tag_lem 0 1)
-    ∷ described 6 0 4 (decl_tag_lem 0 1)
+    ∷ described 6 0 3 (decl_tag 0 1)
+    ∷ described 6 0 6 (decl_tag 0 1)
+    ∷ described 6 0 4 (decl_tag 0 1)
     ∷ []
 
 -- asked for 5: the pointer, the struct, its second member's type and the struct's tag are kept; not the array, the tag of the tag, the array's tag
 pointed : renamed_all (new_id (is_kept table (5 ∷ []))) (λ n. n) (kept_types (is_kept table (5 ∷ [])) 1 table) ≡ described 2 0 4 (int 0 32 0 0 0 0)
     ∷ described 3 0 16 (struct (member 4 3 0 0 ∷ member 5 1 64 0 ∷ []))
     ∷ described 0 0 2 (ptr 0)
-    ∷ described 6 0 2 (decl_tag_lem 0 1)
+    ∷ described 6 0 2 (decl_tag 0 1)
     ∷ []
 unfolding kept_to new_id kept_types renamed is_in leads reached_by follows is_reached is_its_tag is_kept
 pointed = refl
@@ -32,8 +32,8 @@ in_array : renamed_all (new_id (is_kept table (4 ∷ []))) (λ n. n) (kept_types
     ∷ described 3 0 16 (struct (member 4 4 0 0 ∷ member 5 1 64 0 ∷ []))
     ∷ described 0 0 0 (array 0 2 0 4)
     ∷ described 0 0 2 (ptr 0)
-    ∷ described 6 0 2 (decl_tag_lem 0 1)
-    ∷ described 6 0 3 (decl_tag_lem 0 1)
+    ∷ described 6 0 2 (decl_tag 0 1)
+    ∷ described 6 0 3 (decl_tag 0 1)
     ∷ []
 unfolding kept_to new_id kept_types renamed is_in leads reached_by follows is_reached is_its_tag is_kept
 in_array = refl

@@ -14,7 +14,7 @@ use Rattle.spec_c_dumper.specs.rules.Names.{Space, tag_space, ident_space, Namin
 use Rattle.spec_c_dumper.specs.rules.Decl.{deeper, keyword, qualifier, decl_tag, decl_tags, enum_value, enum64_value, Entry, mods, no_mods, is_array, no_params, shown_params, last_newline, bit_size_of, emit_composite_fwd, emit_fwd_def, enum_word, emit_values, enum_body, emit_enum_def, emit_name, parens, emit_param, emit_params, base_word, emit_array, emit_proto, param_list, chain_loop, emit_members, composite_head, composite_end, composite_body, composite_def, emit_type_decl, emit_type_chain, emit_composite_def, emit_typedef_def}
 use Rattle.spec_c_dumper.specs.rules.Emit.{definition, shown, forward}
 use Rattle.spec_c_dumper.proofs.rules.Related.{RelW, RelResolved, rel_put, rel_stop, rel_then, rel_resolving}
-use Rattle.spec_cut.specs.section.Stands.{with_types, Each, none, more, SameMembers, no_members, member, SameParams, no_params_lem, param, SameType, void, int, ptr, array as t_array, composite, enum, enum64, fwd, typedef, qualified, func, var, datasec, proto as t_proto, float, decl_tag_lem, type_tag, Followed, Tagged, Stands}
+use Rattle.spec_cut.specs.section.Stands.{with_types, Each, none, more, SameMembers, no_members, member, SameParams, no_params as none_shown, param, SameType, void, int, ptr, array as t_array, composite, enum, enum64, fwd, typedef, qualified, func, var, datasec, proto as t_proto, float, decl_tag as its_decl_tag, type_tag, Followed, Tagged, Stands}
 use Rattle.spec_cut.proofs.section.Sizes.{same_zero, body_same, padding_same, end_same, SameEntry, e_base, e_star, e_qual, e_array, e_proto, e_tag, SameChain, c_none, c_more, SameAsk, a_got, a_no, chain_same}
 
 -- ids that stand for each other get the same versions
@@ -100,7 +100,7 @@ module _ (B : Btf) (n : ℕ) (types : ℕ → BtfType) (tags : ℕ → List ℕ)
   tag_same comp (datasec m) = refl
   tag_same comp (t_proto r r' ps ps' j js) = refl
   tag_same comp (float m z) = refl
-  tag_same comp (decl_tag_lem a m t t' k) = refl
+  tag_same comp (its_decl_tag a m t t' k) = refl
   tag_same comp (type_tag a m t t' j) = refl
 
   tags_same : (comp : ℕ) {xs xs' : List ℕ} → Each I xs xs' → decl_tags B comp xs ≡ decl_tags B' comp xs'
@@ -118,19 +118,19 @@ module _ (B : Btf) (n : ℕ) (types : ℕ → BtfType) (tags : ℕ → List ℕ)
   -- ---- parameters
 
   no_params_same : {ps ps' : List Param} → SameParams J ps ps' → no_params ps ≡ no_params ps'
-  no_params_same no_params_lem = refl
+  no_params_same none_shown = refl
   no_params_same (param m t t' j js) = refl
 
   shown_by : (m : Name) (t t' : ℕ) → J t t' → {ps ps' : List Param} → SameParams J ps ps' → (b b' : Bool) → b ≡ b'
       → SameParams J (elim b [ true ↦ [] | false ↦ record { name = m; type_id = t } ∷ ps ]) (elim b' [ true ↦ [] | false ↦ record { name = m; type_id = t' } ∷ ps' ])
-  shown_by m t t' j js true true e = no_params_lem
+  shown_by m t t' j js true true e = none_shown
   shown_by m t t' j js false false e = param m t t' j js
   shown_by m t t' j js true false e = absurd (true≢false e)
   shown_by m t t' j js false true e = absurd (true≢false (sym e))
 
   shown_same : {ps ps' : List Param} → SameParams J ps ps' → SameParams J (shown_params ps) (shown_params ps')
   unfolding shown_params
-  shown_same no_params_lem = no_params_lem
+  shown_same none_shown = none_shown
   shown_same (param m t t' j js) = shown_by m t t' j js _ _ (ap₂ (λ (a b : Bool). a && b) (no_params_same js) (same_zero B n types tags I st t t' j.0))
 
   module _ {d₁ : ℕ → Name → Writer U} {d₂ : ℕ → Name → Writer W} (hd : (id id' : ℕ) (m : Name) → J id id' → S (d₁ id m) (d₂ id' m)) where
@@ -142,7 +142,7 @@ module _ (B : Btf) (n : ℕ) (types : ℕ → BtfType) (tags : ℕ → List ℕ)
 
     r_emit_params : (first : Bool) {ps ps' : List Param} → SameParams J ps ps' → S (emit_params d₁ first ps) (emit_params d₂ first ps')
     unfolding emit_params emit_param
-    r_emit_params first no_params_lem = r_put []
+    r_emit_params first none_shown = r_put []
     r_emit_params first (param m t t' j js) =
         r_then (r_put _)
         (r_then (if_by (ascii "...") (d₁ t m) (d₂ t' m) (hd t t' m j) _ _ (ap₂ (λ (a b : Bool). a && b) (no_params_same js) (same_zero B n types tags I st t t' j.0))) (r_emit_params false js))
@@ -241,7 +241,7 @@ module _ (B : Btf) (n : ℕ) (types : ℕ → BtfType) (tags : ℕ → List ℕ)
     r_base_word id id' i (datasec m) g = r_put _
     r_base_word id id' i (t_proto r r' ps ps' j js) g = r_put _
     r_base_word id id' i (float m z) g = r_put _
-    r_base_word id id' i (decl_tag_lem a m t t' k) g = r_put _
+    r_base_word id id' i (its_decl_tag a m t t' k) g = r_put _
     r_base_word id id' i (type_tag a m t t' j) g = r_put _
 
     r_emit_array : (last_was_ptr : Bool) {c c' : List Entry} → Chains c c' → S (emit_array N₁ B d₁ c₁ f₁ fname lvl last_was_ptr c) (emit_array N₂ B' d₂ c₂ f₂ fname lvl last_was_ptr c')
@@ -351,7 +351,7 @@ module _ (B : Btf) (n : ℕ) (types : ℕ → BtfType) (tags : ℕ → List ℕ)
   definition_by id id' i (datasec m) g = r_put _
   definition_by id id' i (t_proto r r' ps ps' j js) g = r_put _
   definition_by id id' i (float m z) g = r_put _
-  definition_by id id' i (decl_tag_lem a m t t' k) g = r_put _
+  definition_by id id' i (its_decl_tag a m t t' k) g = r_put _
   definition_by id id' i (type_tag a m t t' j) g = r_put _
 
   pub definition_same : (id id' : ℕ) → I id id' → S (definition N₁ B id (B.type_by_id id)) (definition N₂ B' id' (types id'))
@@ -378,7 +378,7 @@ module _ (B : Btf) (n : ℕ) (types : ℕ → BtfType) (tags : ℕ → List ℕ)
   forward_by id id' i (datasec m) g = r_put _
   forward_by id id' i (t_proto r r' ps ps' j js) g = r_put _
   forward_by id id' i (float m z) g = r_put _
-  forward_by id id' i (decl_tag_lem a m t t' k) g = r_put _
+  forward_by id id' i (its_decl_tag a m t t' k) g = r_put _
   forward_by id id' i (type_tag a m t t' j) g = r_put _
 
   pub forward_same : (id id' : ℕ) → I id id' → S (forward N₁ B id (B.type_by_id id)) (forward N₂ B' id' (types id'))

@@ -10,7 +10,7 @@ use Rattle.spec_c_dumper.specs.rules.Types.{Name, Member, Param, BtfType, Btf, Q
 use Rattle.spec_c_dumper.specs.rules.Layout.{size_of, get_size_of, larger, align_members, align_of, get_align_of, off_align, members_packed, is_struct_packed, bit_padding, end_of}
 use Rattle.spec_c_dumper.specs.rules.Placing.{field_size, Extent, with_member, extent_of, no_extent, union_align, measured, body_packed}
 use Rattle.spec_c_dumper.specs.rules.Decl.{Entry, base, star, qual, array, proto, tag, link_of, chain_on, chain_of}
-use Rattle.spec_cut.specs.section.Stands.{with_types, NoTag, SameMembers, no_members, member, SameParams, SameType, void, int, ptr, array as t_array, composite, enum, enum64, fwd, typedef, qualified, func, var, datasec, proto as t_proto, float, decl_tag_lem, type_tag, Followed, Stands}
+use Rattle.spec_cut.specs.section.Stands.{with_types, NoTag, SameMembers, no_members, member, SameParams, SameType, void, int, ptr, array as t_array, composite, enum, enum64, fwd, typedef, qualified, func, var, datasec, proto as t_proto, float, decl_tag, type_tag, Followed, Stands}
 
 then_same : {A C : Type 0} {x y : Ask A} {k l : A → Ask C} → x ≡ y → ((a : A) → k a ≡ l a) → ask_then x k ≡ ask_then y l
 then_same p q i = ask_then (p i) (λ a. q a i)
@@ -54,7 +54,7 @@ module _ (B : Btf) (n : ℕ) (types : ℕ → BtfType) (tags : ℕ → List ℕ)
   size_of_same size size' h (datasec m) nt = refl
   size_of_same size size' h (t_proto r r' ps ps' j js) nt = refl
   size_of_same size size' h (float m z) nt = refl
-  size_of_same size size' h (decl_tag_lem a m t t' k) nt = absurd nt
+  size_of_same size size' h (decl_tag a m t t' k) nt = absurd nt
   size_of_same size size' h (type_tag a m t t' j) nt = h t t' j
 
   pub size_same : (left x x' : ℕ) → J x x' → get_size_of left B x ≡ get_size_of left B' x'
@@ -84,7 +84,7 @@ module _ (B : Btf) (n : ℕ) (types : ℕ → BtfType) (tags : ℕ → List ℕ)
   align_of_same align align' h (datasec m) = refl
   align_of_same align align' h (t_proto r r' ps ps' j js) = refl
   align_of_same align align' h (float m z) = refl
-  align_of_same align align' h (decl_tag_lem a m t t' k) = refl
+  align_of_same align align' h (decl_tag a m t t' k) = refl
   align_of_same align align' h (type_tag a m t t' j) = h t t' j
 
   pub align_same : (left x x' : ℕ) → J x x' → get_align_of left B x ≡ get_align_of left B' x'
@@ -179,7 +179,7 @@ module _ (B : Btf) (n : ℕ) (types : ℕ → BtfType) (tags : ℕ → List ℕ)
   chain_on_same w w' h x x' c c' i r (datasec m) = a_got _ _ (c_more (e_base x x' i) r)
   chain_on_same w w' h x x' c c' i r (t_proto p p' ps ps' j js) = h p p' _ _ j.0 (c_more (e_proto ps ps' js) r)
   chain_on_same w w' h x x' c c' i r (float m z) = a_got _ _ (c_more (e_base x x' i) r)
-  chain_on_same w w' h x x' c c' i r (decl_tag_lem a m t t' k) = a_got _ _ (c_more (e_base x x' i) r)
+  chain_on_same w w' h x x' c c' i r (decl_tag a m t t' k) = a_got _ _ (c_more (e_base x x' i) r)
   chain_on_same w w' h x x' c c' i r (type_tag a m t t' j) = h t t' _ _ j.0 (c_more (e_tag a m) r)
 
   pub chain_same : (most x x' : ℕ) (c c' : List Entry) → I x x' → SameChain c c' → SameAsk (chain_of most B x c) (chain_of most B' x' c')

@@ -9,7 +9,7 @@ use borrow.Author.Tests.{lt-ltb}
 use Rattle.spec_c_dumper.specs.rules.Types.{BtfType, Btf, Member, Param, name_of, node_of, is_empty, table_of, member_types, param_types}
 use Rattle.spec_c_dumper.specs.rules.Order.{Node, ignored, plain, listed, through, ptr, tdef, proto, comp, Table, is_comp, Mark, new, busy, done, is_done, Store, Res, ok, refused, bind, each, meet, push_if, finish, enter, alias, fresh, visit, order}
 use Rattle.spec_c_dumper.specs.rules.Machine.{Out, wrote, stuck, Machine, is_zero, pick, obind, eeach, once, mention, again, close, leaf, within, begin, allowed, look, emit, Sess, Answer, shut, emitted, ordered, gate, single}
-use Rattle.spec_cut.specs.section.Stands.{with_types, Each, none, more, SameMembers, no_members, member, SameParams, no_params_lem, param, SameType, void, int, ptr as t_ptr, array, composite, enum, enum64, fwd, typedef, qualified, func, var, datasec, proto as t_proto, float, decl_tag_lem, type_tag, Followed, Stands}
+use Rattle.spec_cut.specs.section.Stands.{with_types, Each, none, more, SameMembers, no_members, member, SameParams, no_params, param, SameType, void, int, ptr as t_ptr, array, composite, enum, enum64, fwd, typedef, qualified, func, var, datasec, proto as t_proto, float, decl_tag, type_tag, Followed, Stands}
 use Rattle.spec_cut.proofs.section.Sizes.{same_eqb, same_zero}
 
 -- what two orderings come to
@@ -103,7 +103,7 @@ module _ (B : Btf) (n : ℕ) (types : ℕ → BtfType) (tags : ℕ → List ℕ)
   members_each (member m t t' o z j js) = more j.0 (members_each js)
 
   params_each : {ps ps' : List Param} → SameParams J ps ps' → Each I (param_types ps) (param_types ps')
-  params_each no_params_lem = none
+  params_each no_params = none
   params_each (param m t t' j js) = more j.0 (params_each js)
 
   node_of_lem : {t t' : BtfType} → SameType J t t' → SameNode I (node_of t) (node_of t')
@@ -122,7 +122,7 @@ module _ (B : Btf) (n : ℕ) (types : ℕ → BtfType) (tags : ℕ → List ℕ)
   node_of_lem (datasec m) = n_ignored
   node_of_lem (t_proto r r' ps ps' j js) = n_proto _ _ (more j.0 (params_each js))
   node_of_lem (float m z) = n_plain
-  node_of_lem (decl_tag_lem a m t t' k) = n_ignored
+  node_of_lem (decl_tag a m t t' k) = n_ignored
   node_of_lem (type_tag a m t t' j) = n_through false t t' j.0
 
   name_of_lem : {t t' : BtfType} → SameType J t t' → name_of t ≡ name_of t'
@@ -141,7 +141,7 @@ module _ (B : Btf) (n : ℕ) (types : ℕ → BtfType) (tags : ℕ → List ℕ)
   name_of_lem (datasec m) = refl
   name_of_lem (t_proto r r' ps ps' j js) = refl
   name_of_lem (float m z) = refl
-  name_of_lem (decl_tag_lem a m t t' k) = refl
+  name_of_lem (decl_tag a m t t' k) = refl
   name_of_lem (type_tag a m t t' j) = refl
 
   pub node_same : (x x' : ℕ) → I x x' → SameNode I (T.node x) (T'.node x')

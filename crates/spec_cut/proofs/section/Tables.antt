@@ -7,7 +7,7 @@ use mathlib.Core.List.{List, ◌∷◌, Memᴰ}
 use lib.ListN.{length, get_or}
 use lib.Dec.{eqb}
 use borrow.Author.Tests.{eq-eqb, ne_eqb, eqb-true, eqb-false}
-use Rattle.spec_linux_btf.specs.Documentation.{int, ptr, array, struct, union, enum, fwd, typedef, volatile, const, restrict, func, func_proto, var, datasec, float, decl_tag_lem, type_tag, enum64, Described, described}
+use Rattle.spec_linux_btf.specs.Documentation.{int, ptr, array, struct, union, enum, fwd, typedef, volatile, const, restrict, func, func_proto, var, datasec, float, decl_tag, type_tag, enum64, Described, described}
 use Rattle.spec_c_dumper.specs.rules.Types.{BtfType, Void, Btf as Rules}
 use Rattle.spec_type_table.specs.declared.types.TypeTable.{TypeTable}
 use Rattle.spec_type_table.specs.Documented.{kept}
@@ -40,7 +40,7 @@ no_tag strings s (described n f z (func_proto ps)) h = tt
 no_tag strings s (described n f z (var v l)) h = tt
 no_tag strings s (described n f z (datasec ss)) h = tt
 no_tag strings s (described n f z (float v)) h = tt
-no_tag strings s (described n f z (decl_tag_lem v c)) h = true≢false h
+no_tag strings s (described n f z (decl_tag v c)) h = true≢false h
 no_tag strings s (described n f z (type_tag v)) h = tt
 no_tag strings s (described n f z (enum64 es)) h = tt
 
@@ -63,7 +63,7 @@ tagged_none b s (described n f z (func_proto ps)) h = absurd h
 tagged_none b s (described n f z (var v l)) h = absurd h
 tagged_none b s (described n f z (datasec ss)) h = absurd h
 tagged_none b s (described n f z (float v)) h = absurd h
-tagged_none b s (described n f z (decl_tag_lem v c)) h = absurd h
+tagged_none b s (described n f z (decl_tag v c)) h = absurd h
 tagged_none b s (described n f z (type_tag v)) h = absurd h
 tagged_none b s (described n f z (enum64 es)) h = absurd h
 
@@ -85,7 +85,7 @@ tag_is b s id (described n f z (func_proto ps)) = refl
 tag_is b s id (described n f z (var v l)) = refl
 tag_is b s id (described n f z (datasec ss)) = refl
 tag_is b s id (described n f z (float v)) = refl
-tag_is b s id (described n f z (decl_tag_lem v c)) = refl
+tag_is b s id (described n f z (decl_tag v c)) = refl
 tag_is b s id (described n f z (type_tag v)) = refl
 tag_is b s id (described n f z (enum64 es)) = refl
 
@@ -107,7 +107,7 @@ new_tag_is b s i o id (described n f z (func_proto ps)) = refl
 new_tag_is b s i o id (described n f z (var v l)) = refl
 new_tag_is b s i o id (described n f z (datasec ss)) = refl
 new_tag_is b s i o id (described n f z (float v)) = refl
-new_tag_is b s i o id (described n f z (decl_tag_lem v c)) = refl
+new_tag_is b s i o id (described n f z (decl_tag v c)) = refl
 new_tag_is b s i o id (described n f z (type_tag v)) = refl
 new_tag_is b s i o id (described n f z (enum64 es)) = refl
 

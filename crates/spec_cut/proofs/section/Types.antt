@@ -3,7 +3,7 @@ use Prim.Native.Nat.{ℕ, ◌+◌, ◌*◌}
 use mathlib.Core.Path.{◌≡◌, refl, ap₂, subst}
 use mathlib.Core.Bool.{true, false}
 use mathlib.Core.List.{List, [], ◌∷◌, Memᴰ}
-use Rattle.spec_linux_btf.specs.Documentation.{Member, member, Enumerator, enumerator, Param, param, Enumerator64, enumerator64, int, ptr, array, struct, union, enum, fwd, typedef, volatile, const, restrict, func, func_proto, var, datasec, float, decl_tag_lem, type_tag, enum64, Described, described}
+use Rattle.spec_linux_btf.specs.Documentation.{Member, member, Enumerator, enumerator, Param, param, Enumerator64, enumerator64, int, ptr, array, struct, union, enum, fwd, typedef, volatile, const, restrict, func, func_proto, var, datasec, float, decl_tag, type_tag, enum64, Described, described}
 use Rattle.spec_c_dumper.specs.rules.Types as R
 use Rattle.spec_c_dumper.specs.rules.Types.{Name, BtfType, Int, Composite, Enum, Enum64, Fwd, Typedef, Func, Var, Datasec, Float, DeclTag, TypeTag}
 use Rattle.spec_type_table.specs.declared.types.TypeTable.{TypeTable}
@@ -32,7 +32,7 @@ module _ (b : TypeTable) (s : List ℕ) (b' : TypeTable) (s' : List ℕ) (i o : 
       (S.member (str_at b s n) t (i t) offset size (hi t (Memᴰ.head refl)) (members_renamed ms (λ k e. hn k (Memᴰ.tail e)) (λ k e. hi k (Memᴰ.tail e))))
 
   params_renamed : (ps : List Param) → SameNames (param_names ps) → Numbered (param_ids ps) → S.SameParams J (kept_params b.strs s ps) (kept_params b'.strs s' (new_params i o ps))
-  params_renamed [] hn hi = S.no_params_lem
+  params_renamed [] hn hi = S.no_params
   params_renamed (param n t ∷ ps) hn hi =
       subst
       (λ (k : Name). S.SameParams J (kept_params b.strs s (param n t ∷ ps)) (record { name = k; type_id = i t } ∷ kept_params b'.strs s' (new_params i o ps)))
@@ -75,7 +75,7 @@ module _ (b : TypeTable) (s : List ℕ) (b' : TypeTable) (s' : List ℕ) (i o : 
   type_renamed (described n f z (var v l)) hn hi = by_name Var n _ (hn n (Memᴰ.head refl)) (S.var _)
   type_renamed (described n f z (datasec ss)) hn hi = by_name Datasec n _ (hn n (Memᴰ.head refl)) (S.datasec _)
   type_renamed (described n f z (float v)) hn hi = by_name (λ k. Float k z) n _ (hn n (Memᴰ.head refl)) (S.float _ z)
-  type_renamed (described n f z (decl_tag_lem v c)) hn hi = by_name (λ k. DeclTag (is_set f) k (i z) c) n _ (hn n (Memᴰ.head refl)) (S.decl_tag_lem (is_set f) _ z (i z) c)
+  type_renamed (described n f z (decl_tag v c)) hn hi = by_name (λ k. DeclTag (is_set f) k (i z) c) n _ (hn n (Memᴰ.head refl)) (S.decl_tag (is_set f) _ z (i z) c)
   type_renamed (described n f z (type_tag v)) hn hi = by_name (λ k. TypeTag (is_set f) k (i z)) n _ (hn n (Memᴰ.head refl)) (S.type_tag (is_set f) _ z (i z) (hi z (Memᴰ.head refl)))
   type_renamed (described n f z (enum64 vs)) hn hi =
       by_name (λ k. Enum64 (is_set f) k z (kept_values64 b'.strs s' (new_values64 i o vs))) n _ (hn n (Memᴰ.head refl))

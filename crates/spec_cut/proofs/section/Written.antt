@@ -6,7 +6,7 @@ use mathlib.Core.Bool.{Bool, true, false}
 use mathlib.Core.List.Memᴰ
 use mathlib.Core.List.{List, [], ◌∷◌, ◌++◌, Memᴰ}
 use lib.ListN.{length, get_or}
-use Rattle.spec_linux_btf.specs.Documentation.{Member, member, Enumerator, enumerator, Param, param, Secinfo, secinfo, Enumerator64, enumerator64, int, ptr, array, struct, union, enum, fwd, typedef, volatile, const, restrict, func, func_proto, var, datasec, float, decl_tag_lem, type_tag, enum64, Described, described, btf_info, FitRanges, Every, FitMember, FitEnumerator, FitParam, FitSecinfo, FitEnumerator64, Fits, NamedMember, NamedEnumerator, NamedParam, NamedEnumerator64, Named, Allowed, encode_all}
+use Rattle.spec_linux_btf.specs.Documentation.{Member, member, Enumerator, enumerator, Param, param, Secinfo, secinfo, Enumerator64, enumerator64, int, ptr, array, struct, union, enum, fwd, typedef, volatile, const, restrict, func, func_proto, var, datasec, float, decl_tag, type_tag, enum64, Described, described, btf_info, FitRanges, Every, FitMember, FitEnumerator, FitParam, FitSecinfo, FitEnumerator64, Fits, NamedMember, NamedEnumerator, NamedParam, NamedEnumerator64, Named, Allowed, encode_all}
 use Rattle.spec_linux_btf.specs.Reading.{decode_all}
 use Rattle.spec_linux_btf.specs.Section.{is_big_endian, type_area, string_area, header_sound, types_sound}
 use Rattle.spec_linux_btf.proofs.Section.{section_order, section_strings, section_header, section_sound, section_read}
@@ -93,7 +93,7 @@ module _ (i o : ℕ → ℕ) (sl : ℕ) (small : sl ≤ 4294967296) (low : (x : 
   renamed_fits (described n f z (var v l)) p h = (off n (p n (Memᴰ.head refl)), num z h.1, h.2, h.3)
   renamed_fits (described n f z (datasec ss)) p h = (off n (p n (Memᴰ.head refl)), h.1, info 15 f _ _ (secinfos_length ss) h.2, secinfos_fit ss h.3)
   renamed_fits (described n f z (float v)) p h = (off n (p n (Memᴰ.head refl)), h.1, h.2, h.3)
-  renamed_fits (described n f z (decl_tag_lem v c)) p h = (off n (p n (Memᴰ.head refl)), num z h.1, h.2, h.3)
+  renamed_fits (described n f z (decl_tag v c)) p h = (off n (p n (Memᴰ.head refl)), num z h.1, h.2, h.3)
   renamed_fits (described n f z (type_tag v)) p h = (off n (p n (Memᴰ.head refl)), num z h.1, h.2, h.3)
   renamed_fits (described n f z (enum64 es)) p h =
       (off n (p n (Memᴰ.head refl)), h.1, info 19 f _ _ (values64_length es) h.2, values64_fit es (λ k e. p k (Memᴰ.tail e)) h.3)
@@ -132,7 +132,7 @@ module _ (i o : ℕ → ℕ) (sl : ℕ) (small : sl ≤ 4294967296) (low : (x : 
   renamed_named (described n f z (var v l)) p = (p n (Memᴰ.head refl), tt)
   renamed_named (described n f z (datasec ss)) p = (p n (Memᴰ.head refl), tt)
   renamed_named (described n f z (float v)) p = (p n (Memᴰ.head refl), tt)
-  renamed_named (described n f z (decl_tag_lem v c)) p = (p n (Memᴰ.head refl), tt)
+  renamed_named (described n f z (decl_tag v c)) p = (p n (Memᴰ.head refl), tt)
   renamed_named (described n f z (type_tag v)) p = (p n (Memᴰ.head refl), tt)
   renamed_named (described n f z (enum64 es)) p = (p n (Memᴰ.head refl), values64_named es (λ k e. p k (Memᴰ.tail e)))
 

@@ -3,7 +3,7 @@
 use Rattle.std.specs.Prelude.{ℕ, ◌≡◌, Bool, true, false, ◌↔◌}
 use mathlib.Core.List.{List, Memᴰ}
 use Rattle.spec_linux_btf.specs.Documentation.{int, ptr, array, struct, union, enum, fwd, typedef, volatile, const, restrict, func}
-use Rattle.spec_linux_btf.specs.Documentation.{func_proto, var, datasec, float, decl_tag_lem, type_tag, enum64, Described, described}
+use Rattle.spec_linux_btf.specs.Documentation.{func_proto, var, datasec, float, decl_tag, type_tag, enum64, Described, described}
 pub use Rattle.spec_opening.specs.Followed.{member_ids, param_ids, followed_ids, void_type, type_of}
 
 -- "reachable from given ids through any followed reference"
@@ -28,7 +28,7 @@ is_decl_tag (described n f z (func_proto ps)) = false
 is_decl_tag (described n f z (var v l)) = false
 is_decl_tag (described n f z (datasec ss)) = false
 is_decl_tag (described n f z (float v)) = false
-is_decl_tag (described n f z (decl_tag_lem v c)) = true
+is_decl_tag (described n f z (decl_tag v c)) = true
 is_decl_tag (described n f z (type_tag v)) = false
 is_decl_tag (described n f z (enum64 es)) = false
 

@@ -2,7 +2,7 @@
 use Rattle.std.specs.Prelude.{ℕ, zero, suc, Bool, true, false, List, [], ◌∷◌}
 use Rattle.spec_linux_btf.specs.Documentation.{Member, member, Enumerator, enumerator, Param, param, Secinfo, secinfo, Enumerator64}
 use Rattle.spec_linux_btf.specs.Documentation.{enumerator64, int, ptr, array, struct, union, enum, fwd, typedef, volatile, const, restrict}
-use Rattle.spec_linux_btf.specs.Documentation.{func, func_proto, var, datasec, float, decl_tag_lem, type_tag, enum64, Described, described}
+use Rattle.spec_linux_btf.specs.Documentation.{func, func_proto, var, datasec, float, decl_tag, type_tag, enum64, Described, described}
 
 -- how many of the ids 1 to i are kept
 unfoldable pub kept_to : (ℕ → Bool) → ℕ → ℕ
@@ -60,7 +60,7 @@ module _ (i o : ℕ → ℕ) where
   renamed (described n f z (var v l)) = described (o n) f (i z) (var v l)
   renamed (described n f z (datasec ss)) = described (o n) f z (datasec (new_secinfos ss))
   renamed (described n f z (float v)) = described (o n) f z (float v)
-  renamed (described n f z (decl_tag_lem v c)) = described (o n) f (i z) (decl_tag_lem v c)
+  renamed (described n f z (decl_tag v c)) = described (o n) f (i z) (decl_tag v c)
   renamed (described n f z (type_tag v)) = described (o n) f (i z) (type_tag v)
   renamed (described n f z (enum64 es)) = described (o n) f z (enum64 (new_values64 es))
 

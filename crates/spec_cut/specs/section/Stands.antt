@@ -52,7 +52,7 @@ module _ (J : ℕ → ℕ → Type 0) where
         (record { name = n; type_id = t'; bit_offset = offset; bit_size = size } ∷ ms')
 
   pub data SameParams : List Param → List Param → Type 0 where
-    no_params_lem : SameParams [] []
+    no_params : SameParams [] []
     param : (n : Name) (t t' : ℕ) {ps ps' : List Param} → J t t' → SameParams ps ps'
         → SameParams (record { name = n; type_id = t } ∷ ps) (record { name = n; type_id = t' } ∷ ps')
 
@@ -74,7 +74,7 @@ module _ (J : ℕ → ℕ → Type 0) where
     datasec : (n : Name) → SameType (Datasec n) (Datasec n)
     proto : (r r' : ℕ) (ps ps' : List Param) → J r r' → SameParams ps ps' → SameType (FuncProto r ps) (FuncProto r' ps')
     float : (n : Name) (z : ℕ) → SameType (Float n z) (Float n z)
-    decl_tag_lem : (a : Bool) (n : Name) (t t' k : ℕ) → SameType (DeclTag a n t k) (DeclTag a n t' k)
+    decl_tag : (a : Bool) (n : Name) (t t' k : ℕ) → SameType (DeclTag a n t k) (DeclTag a n t' k)
     type_tag : (a : Bool) (n : Name) (t t' : ℕ) → J t t' → SameType (TypeTag a n t) (TypeTag a n t')
 
 -- a followed id is kept, and no DECL_TAG

@@ -2,7 +2,7 @@
 use Rattle.std.specs.Prelude.{ℕ, suc, ◌+◌, Bool, true, false, List, [], ◌∷◌, ◌++◌, length}
 use Rattle.spec_linux_btf.specs.Documentation.{Member, member, Enumerator, enumerator, Param, param, Enumerator64, enumerator64, int, ptr}
 use Rattle.spec_linux_btf.specs.Documentation.{array, struct, union, enum, fwd, typedef, volatile, const, restrict, func, func_proto, var}
-use Rattle.spec_linux_btf.specs.Documentation.{datasec, float, decl_tag_lem, type_tag, enum64, Described, described}
+use Rattle.spec_linux_btf.specs.Documentation.{datasec, float, decl_tag, type_tag, enum64, Described, described}
 use Rattle.spec_c_dumper.specs.rules.Types.{Name}
 use Rattle.spec_c_dumper.specs.rules.Names.{same_bytes}
 use Rattle.spec_type_table.specs.Names.{name_at}
@@ -41,7 +41,7 @@ mentions (described n f z (func_proto ps)) = n ∷ param_names ps
 mentions (described n f z (var v l)) = n ∷ []
 mentions (described n f z (datasec ss)) = n ∷ []
 mentions (described n f z (float v)) = n ∷ []
-mentions (described n f z (decl_tag_lem v c)) = n ∷ []
+mentions (described n f z (decl_tag v c)) = n ∷ []
 mentions (described n f z (type_tag v)) = n ∷ []
 mentions (described n f z (enum64 es)) = n ∷ value64_names es
 
