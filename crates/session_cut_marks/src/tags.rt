@@ -28,7 +28,8 @@ fn tag_on(b: TypeTable, section: &[u8], start: &[u32], x: u32) -> u32
         return 0;
     }
     let t = word(b, section, ((e / 32) as usize) + 8);
-    if kind_at(b, start, t) == kind::DECL_TAG {
+    let is_tag = kind_at(b, start, t) == kind::DECL_TAG;
+    if is_tag {
         return 0;
     }
     t

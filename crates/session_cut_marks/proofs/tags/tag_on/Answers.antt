@@ -4,8 +4,8 @@ use Rattle.session_cut_marks.proofs.tags.tag_on.Goals as goal
 pub returns-then-e-ne-DECL_TAG : goal.returns-then-e-ne-DECL_TAG
 returns-then-e-ne-DECL_TAG c = tag_none _ _ _ _ _ c.entry-e.ensures c.if-e-ne-DECL_TAG.true
 
-pub returns-then-kind_at-eq-DECL_TAG : goal.returns-then-kind_at-eq-DECL_TAG
-returns-then-kind_at-eq-DECL_TAG c = tag_of_tag _ _ _ _ _ c.entry-e.ensures c.if-e-ne-DECL_TAG.false _ c.word-t.ensures _ c.kind_at.ensures c.if-kind_at-eq-DECL_TAG.true
+pub returns-then-is_tag : goal.returns-then-is_tag
+returns-then-is_tag c = tag_of_tag _ _ _ _ _ c.entry-e.ensures c.if-e-ne-DECL_TAG.false _ c.word-t.ensures _ c.kind_at-is_tag.ensures c.if-is_tag.true
 
 pub returns : goal.returns
-returns c = tag_of_type _ _ _ _ _ c.entry-e.ensures c.if-e-ne-DECL_TAG.false _ c.word-t.ensures _ c.kind_at.ensures c.if-kind_at-eq-DECL_TAG.false
+returns c = tag_of_type _ _ _ _ _ c.entry-e.ensures c.if-e-ne-DECL_TAG.false _ c.word-t.ensures _ c.kind_at-is_tag.ensures c.if-is_tag.false
