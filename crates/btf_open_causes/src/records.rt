@@ -1,7 +1,7 @@
 // Cause 5: the records, one after the other, and the index of where each starts.
 ghost use Rattle.std.specs.Prelude.{◌≡◌, ◌+◌, ◌*◌, ◌%◌, ◌≤◌, set};
 ghost use Rattle.spec_type_table.specs.Records.{section_word};
-ghost use Rattle.spec_linux_btf.specs.Reading.{kind as kindNamed};
+ghost use Rattle.spec_linux_btf.specs.Reading.{kind as kind_named};
 ghost use Rattle.spec_linux_btf.specs.Places.{all_named_p};
 ghost use Rattle.btf_open_causes.specs.records.Pass.{entry_width, named_by, enums_of, next_p, no_records, scan_out, scan_p, scan_section};
 
@@ -38,7 +38,7 @@ fn are_names_inside(b: TypeTable, section: &[u8], at: u32, n: u32, width: u32, s
 
 // How long an entry with a name is: of members, parameters and enumerators; else 0.
 fn named_entry(kind: u32) -> u32
-    ensures { result ≡ entry_width (kindNamed kind) }
+    ensures { result ≡ entry_width (kind_named kind) }
 {
     match kind {
         kind::STRUCT | kind::UNION | kind::ENUM64 => 12,

@@ -1,6 +1,6 @@
 // A type is ordered: its state, its place in the order list and its leader.
 ghost use Rattle.std.specs.Prelude.{◌≡◌};
-ghost use Rattle.spec_c_dumper.specs.rules.Order.{finish as finishOf};
+ghost use Rattle.spec_c_dumper.specs.rules.Order.{finish as finish_of};
 ghost use Rattle.spec_c_dumper.specs.ceiling.Ceiling.{told, then_bind};
 ghost use Rattle.spec_bytes.specs.words.Words.{one_more};
 ghost use Rattle.c_dumper_dependency_order.specs.leaders.Leads.{kept_store, kept_out, alias_kept};
@@ -43,7 +43,7 @@ pub fn finish(
 ) -> Order
     ensures { kept_out result work.new leads.new ≡
         then_bind (kept_out o work.old leads.old)
-        (λ m _ k. told (finishOf (kept_store v) lists id m) is_strong k) }
+        (λ m _ k. told (finish_of (kept_store v) lists id m) is_strong k) }
 {
     if o.stop != 0 {
         return o;

@@ -258,8 +258,8 @@ module _ (s : Session) (section w t : List ℕ) (o : Options) (r : Ended) (w' t'
   causes_list eo ids l e = same_causes _ (e ∙ ap (λ (x : Options). list_call_with x s section w t ids l) eo) ∙ list_listing section ids 0 s w t l 0
 
 -- ---- what the three forms ask
-pub unlisted_asks : (o : Options) (isSet : Bool) (calls : ℕ) → o ≡ record { ceiling = record { is_set = isSet; calls = calls }; lists = false } → Ready o 1 (replicate 0 0) × Single o
-unlisted_asks o isSet calls e =
+pub unlisted_asks : (o : Options) (set : Bool) (calls : ℕ) → o ≡ record { ceiling = record { is_set = set; calls = calls }; lists = false } → Ready o 1 (replicate 0 0) × Single o
+unlisted_asks o set calls e =
     let f : o.lists ≡ false = ap (λ (x : Options). x.lists) e in
     (no_words o 1 (replicate 0 0) f, λ h. absurd (true≢false (sym h ∙ f)))
 
