@@ -24,7 +24,7 @@ use Rattle.spec_type_table.specs.Table.{type_version_in, value_version_in, enume
 use Rattle.spec_type_table.proofs.Laws.{place_type, place_enum}
 use Rattle.spec_type_table.proofs.Frame.{enumerator_same}
 use Rattle.btf_open_names.proofs.numbers.Lists.{taken_same}
-use Rattle.spec_c_dumper.specs.alignment_once.Once.{Remembered, Known, known, Keep, Lawful, Once, found, refused, align_once, Right, member_count, members_to, paid_to}
+use Rattle.spec_c_dumper.specs.alignment_once.Once.{Remembered, Known, Keep, Lawful, Once, found, refused, align_once, Right, member_count, members_to, paid_to}
 use Rattle.spec_c_dumper.specs.alignment_once.Steps.{padding_once, body_once}
 use Rattle.spec_c_dumper.specs.alignment_once.Writers.{dumped_once, after_once}
 use Rattle.spec_c_dumper.proofs.alignment_once.Right.{same_or}

@@ -19,7 +19,6 @@ use Rattle.spec_linux_btf.proofs.Types.{body_long}
 use Rattle.spec_linux_btf.proofs.Area.{allowed_fits}
 use Rattle.spec_linux_btf.proofs.Section.{header_read, section_order, section_read}
 use Rattle.spec_linux_btf.proofs.Written.{section_bytes}
-use Rattle.spec_c_dumper.specs.rules.Types as R
 use Rattle.spec_c_dumper.specs.rules.Types.{Int, Composite, Enum, Enum64, Fwd, Typedef, Func, Var, Datasec, FuncProto, Float, DeclTag, TypeTag}
 use Rattle.spec_type_table.specs.declared.types.TypeTable.{TypeTable}
 use Rattle.spec_type_table.specs.Names.{up_to_zero, name_at, str_at}

@@ -1,5 +1,5 @@
 -- Sizes, alignments, the packed test, pads and chains go alike over two tables whose ids stand for each other. Assumes nothing.
-use Prim.Native.Nat.{ℕ, zero, suc, ◌-◌, ◌%◌}
+use Prim.Native.Nat.{ℕ, zero, suc, ◌%◌}
 use mathlib.Core.Path.{◌≡◌, refl, ap, ◌∙◌, sym}
 use mathlib.Core.Bool.{Bool, true, false}
 use mathlib.Core.List.{List, [], ◌∷◌}
