@@ -66,8 +66,8 @@ fn put_part(text: &mut [u8], at: usize, src: &[u8], start: usize, n: usize) -> u
     at + n
 }
 
-// The table. It is too long for the compiler to write this function out at each call, so that it stands once in the
-// machine's code too.
+// The table. The compiler does not write this function out at each call, so that the table stands once in the machine's code too.
+#[inline(never)]
 fn put_fixed(text: &mut [u8], at: usize, start: usize, n: usize) -> usize
     requires { (2 ≤ n) × (n ≤ 16) × (start + n ≤ 128) }
     ensures { put_out result text.new ≡ put_text text.old at (whole (part table start n)) }
