@@ -45,7 +45,8 @@ fn header_cause(section: &[u8], pointer_size: u32) -> u32
     if !is_pointer_size(pointer_size) {
         return refusal::POINTER_SIZE;
     }
-    if limit::MOST_BYTES < section.len() {
+    let is_long = limit::MOST_BYTES < section.len();
+    if is_long {
         return refusal::SECTION_TOO_LONG;
     }
     if has_bad_header(section) {

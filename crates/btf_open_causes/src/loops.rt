@@ -32,7 +32,8 @@ fn is_open(b: TypeTable, section: &[u8], start: &[u32], st: &[u32], y: u32) -> b
         return false;
     }
     let w = st[at];
-    if 131072 <= w {
+    let is_done = 131072 <= w;
+    if is_done {
         return false;
     }
     if w != 0 {

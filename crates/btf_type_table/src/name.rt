@@ -58,7 +58,8 @@ pub fn put_str(b: TypeTable, section: &[u8], text: &mut [u8], at: usize, off: u3
     let mut i = name_place(b, off);
     while i < section.len() {
         let c = section[i];
-        if c == 0 {
+        let is_end = c == 0;
+        if is_end {
             return p;
         }
         if text.len() <= p {

@@ -72,7 +72,8 @@ pub fn same_key(section: &[u8], x: Key, y: Key) -> bool
     ensures { result ≡ same_list (key_of section.now x.space x.name)
         (key_of section.now y.space y.name) }
 {
-    if x.space != y.space {
+    let is_apart = x.space != y.space;
+    if is_apart {
         return false;
     }
     if x.space == 2 {

@@ -38,7 +38,8 @@ pub fn base_of(b: TypeTable, section: &[u8], work: &[u8], n: u32, h: u32) -> u32
     let key = load_key(b, section, work, h);
     let mut c: u32 = 1;
     while c < n {
-        if 2 <= key_suffix(section, load_key(b, section, work, c), key) {
+        let is_base = 2 <= key_suffix(section, load_key(b, section, work, c), key);
+        if is_base {
             return c;
         }
         c += 1;
