@@ -37,7 +37,8 @@ fn store(record: &mut [u8], t: Turn)
 fn store_refused(record: &mut [u8], number: u32, len: u32, visits: u32)
     ensures { «record».new ≡ record_refused number len visits «record».old }
 {
-    if number < refusal::TOO_DEEP {
+    let is_kept = number < refusal::TOO_DEEP;
+    if is_kept {
         return;
     }
     shut(record);
