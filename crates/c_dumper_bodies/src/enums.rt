@@ -38,7 +38,8 @@ fn value_size(wide: bool) -> usize
 fn put_value(text: &mut [u8], at: usize, signed: bool, v: u32) -> usize
     ensures { put_out result text.new ≡ put_text text.old at (whole (enum_value signed v)) }
 {
-    if signed {
+    let has_sign = signed;
+    if has_sign {
         return put_i32(text, at, as_i32(v));
     }
     put_decimal(text, at, v as u64)

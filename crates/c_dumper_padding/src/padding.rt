@@ -140,7 +140,8 @@ pub fn emit_tail_padding(
         return at;
     }
     let end = (t.type_id as u64) * 8;
-    if end <= (offset as u64) {
+    let is_full = end <= (offset as u64);
+    if is_full {
         return at;
     }
     let a = put_placed_pads(text, at, b.ptr_sz, offset as u64, end, lvl);

@@ -42,7 +42,8 @@ pub fn body_packed(b: TypeTable, section: &[u8], work: &mut [u8], id: u32, t: Bt
         ≡ body_in b.types (btf_of b section.now work.old) (eqb (kind_of t.info) 4) id t.type_id
         (members_of b section.now t) work.old }
 {
-    if b.placing {
+    let is_measured = b.placing;
+    if is_measured {
         return measured(b, section, work, id, t);
     }
     is_packed(b, section, work, id, t)

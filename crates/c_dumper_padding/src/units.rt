@@ -76,7 +76,8 @@ pub fn pad_of(ptr_sz: u32, gap: u32) -> Pad
 fn suits(start: u64, gap: u64, log: u32, width: u64) -> bool
     ensures { result ≡ suits_by start gap log width }
 {
-    if u64::trailing_zeros(start) < log {
+    let is_unaligned = u64::trailing_zeros(start) < log;
+    if is_unaligned {
         return false;
     }
     width <= gap

@@ -44,7 +44,8 @@ fn member_step(m: BtfMember, k: u32, end: u32, bit: u32) -> Step
     if end <= bit {
         return Step::Stay;
     }
-    if m.bit_size != 0 {
+    let is_bit_field = m.bit_size != 0;
+    if is_bit_field {
         return Step::Field(k);
     }
     Step::Enter(k, m.type_id, bit - offset)

@@ -69,7 +69,8 @@ pub fn count_of(ids: &[u8]) -> u32
 fn clear_after(text: &mut [u8], accepted: u32, len: u32)
     ensures { text.new ≡ tailed accepted len text.old }
 {
-    if accepted == 0 {
+    let is_none = accepted == 0;
+    if is_none {
         return;
     }
     clear_from(text, len);

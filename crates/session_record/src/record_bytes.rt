@@ -37,7 +37,8 @@ fn store(record: &mut [u8], t: Turn)
 fn store_refused(record: &mut [u8], number: u32, len: u32, visits: u32)
     ensures { «record».new ≡ record_refused number len visits «record».old }
 {
-    if number < refusal::TOO_DEEP {
+    let is_kept = number < refusal::TOO_DEEP;
+    if is_kept {
         return;
     }
     shut(record);
@@ -57,7 +58,8 @@ pub fn answered(record: &mut [u8], t: Turn) -> u64
 fn store_longer(record: &mut [u8], accepted: u32, len: u32, visits: u32)
     ensures { «record».new ≡ record_longer accepted len visits «record».old }
 {
-    if accepted == 0 {
+    let is_none = accepted == 0;
+    if is_none {
         return;
     }
     put_reached(record, len, visits)

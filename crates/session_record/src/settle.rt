@@ -83,7 +83,8 @@ pub fn settle(s: Session, work: &mut [u8], text: &mut [u8], r: Reached) -> Turn
         ≡ settled s (length work.old) (length text.old) (reach_of r work.old text.old) }
 {
     clear_from(text, r.len);
-    if r.number == 0 {
+    let is_accepted = r.number == 0;
+    if is_accepted {
         return Turn {
             session: with_text(s, true, r.len, visits_in(work)),
             answer: Answer::Accepted(r.len),

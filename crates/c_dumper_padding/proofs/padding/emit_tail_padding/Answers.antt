@@ -10,8 +10,8 @@ returns-then-not-b c = put_same _ _ _ _ _ _ (tail_old _ _ _ _ _ _ _ (not-true _ 
 pub returns-then-not-is_struct : goal.returns-then-not-is_struct
 returns-then-not-is_struct c = put_same _ _ _ _ _ _ (tail_union _ _ _ _ _ _ _ (sym c.is_struct.ensures ∙ c.if-not-is_struct.true)) (put_empty _ _)
 
-pub returns-then-end-offset : goal.returns-then-end-offset
-returns-then-end-offset c = put_same _ _ _ _ _ _ (tail_full _ _ _ _ _ _ _ (not-false _ c.if-not-b.false) (sym c.is_struct.ensures ∙ c.if-not-is_struct.false) c.if-end-offset.true) (put_empty _ _)
+pub returns-then-is_full : goal.returns-then-is_full
+returns-then-is_full c = put_same _ _ _ _ _ _ (tail_full _ _ _ _ _ _ _ (not-false _ c.if-not-b.false) (sym c.is_struct.ensures ∙ c.if-not-is_struct.false) c.if-is_full.true) (put_empty _ _)
 
 pub returns : goal.returns
-returns c = tail_put _ _ _ _ _ _ _ (not-false _ c.if-not-b.false) (sym c.is_struct.ensures ∙ c.if-not-is_struct.false) _ _ _ _ _ _ _ refl c.if-end-offset.false c.put_placed_pads-a.ensures c.put_own_line.ensures
+returns c = tail_put _ _ _ _ _ _ _ (not-false _ c.if-not-b.false) (sym c.is_struct.ensures ∙ c.if-not-is_struct.false) _ _ _ _ _ _ _ refl c.if-is_full.false c.put_placed_pads-a.ensures c.put_own_line.ensures

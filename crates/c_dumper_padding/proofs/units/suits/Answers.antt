@@ -1,8 +1,8 @@
 use Rattle.c_dumper_padding.proofs.units.Placing.{suits_not, suits_if}
 use Rattle.c_dumper_padding.proofs.units.suits.Goals as goal
 
-pub returns-then-start-log : goal.returns-then-start-log
-returns-then-start-log c = suits_not _ _ _ _ c.if-start-log.true
+pub returns-then-is_unaligned : goal.returns-then-is_unaligned
+returns-then-is_unaligned c = suits_not _ _ _ _ c.if-is_unaligned.true
 
 pub returns : goal.returns
-returns c = suits_if _ _ _ _ c.if-start-log.false
+returns c = suits_if _ _ _ _ c.if-is_unaligned.false

@@ -7,8 +7,8 @@ returns-then-bit-offset c = laws.step_before _ _ _ _ c.if-bit-offset.true
 pub returns-then-end-bit : goal.returns-then-end-bit
 returns-then-end-bit c = laws.step_after _ _ _ _ c.if-bit-offset.false c.if-end-bit.true
 
-pub returns-then-m-ne0 : goal.returns-then-m-ne0
-returns-then-m-ne0 c = laws.step_field _ _ _ _ c.if-bit-offset.false c.if-end-bit.false c.if-m-ne0.true
+pub returns-then-is_bit_field : goal.returns-then-is_bit_field
+returns-then-is_bit_field c = laws.step_field _ _ _ _ c.if-bit-offset.false c.if-end-bit.false c.if-is_bit_field.true
 
 pub returns : goal.returns
-returns c = laws.step_enter _ _ _ _ c.if-bit-offset.false c.if-end-bit.false c.if-m-ne0.false
+returns c = laws.step_enter _ _ _ _ c.if-bit-offset.false c.if-end-bit.false c.if-is_bit_field.false
