@@ -66,11 +66,11 @@ pub fn dump_type(
     made: u64,
     c: Ceiling,
 ) -> Dumped
-    ensures { (with_leads leads.new (noted_out 0 result.pen text.new work.exit.now list.new)
-        ≡ obind (with_leads leads.old (noted_out 0 p text.old work.entry.now list.old))
-        (λ m. dumped_kept b (btf_of b section.now work.entry.now) (lent_list q.lists list.old)
-        (limit_of c) m q.req q.turn made)) × (result.made ≡ calls_made (ordered_in (btf_of b section.now work.entry.now)
-        (limit_of c) (record { work = work.entry.now; len = 0 }) q.req made)) }
+    ensures { (with_leads leads.new (noted_out 0 result.pen text.new work.new list.new)
+        ≡ obind (with_leads leads.old (noted_out 0 p text.old work.old list.old))
+        (λ m. dumped_kept b (btf_of b section.now work.old) (lent_list q.lists list.old)
+        (limit_of c) m q.req q.turn made)) × (result.made ≡ calls_made (ordered_in (btf_of b section.now work.old)
+        (limit_of c) (record { work = work.old; len = 0 }) q.req made)) }
 {
     let start = Order {
         made: made,

@@ -16,7 +16,8 @@ fn push(marks: &mut [u32], stack: &mut [u32], d: usize, y: u32) -> usize
     ensures { heap marks.new stack.new result ≡ pushed (heap marks.old stack.old d) y }
 {
     let at = y as usize;
-    if at == 0 {
+    let is_void = at == 0;
+    if is_void {
         return d;
     }
     if marks.len() <= at {

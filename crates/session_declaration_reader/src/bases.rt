@@ -41,7 +41,8 @@ pub fn is_qualifier(sign: u32) -> bool
 pub fn is_word(sign: u32) -> bool
     ensures { result ≡ word_signed sign }
 {
-    if sign < 4 {
+    let is_below = sign < 4;
+    if is_below {
         return false;
     }
     sign < 7

@@ -41,7 +41,8 @@ pub fn read_declaration(text: &[u8], chain: &mut [u64]) -> u32
         return refuse(chain);
     }
     let n = put_base(chain, r.n, b, 1);
-    if limit::MOST_CALLS < n {
+    let is_longer = limit::MOST_CALLS < n;
+    if is_longer {
         return refuse(chain);
     }
     n

@@ -91,7 +91,8 @@ fn count_value(run: &[u8]) -> u64
     if run.len() == 0 {
         return limit::TWO_TO_32;
     }
-    if run[0] == 48 {
+    let has_leading_zero = run[0] == 48;
+    if has_leading_zero {
         if run.len() != 1 {
             return limit::TWO_TO_32;
         }

@@ -14,8 +14,8 @@ returns-then-not-r c = laws.read_fails _ _ _ c.base_at-b.ensures (not-false _ c.
 pub returns-then-t-ne0 : goal.returns-then-t-ne0
 returns-then-t-ne0 c = laws.read_behind _ _ _ c.base_at-b.ensures (not-false _ c.if-not-b.false) _ _ c.declarator-r.ensures (not-false _ c.if-not-r.false) _ c.token-t.ensures c.if-t-ne0.true _ _ _ c.declarator-r.auto.chain c.refuse-then-t-ne0.ensures
 
-pub returns-then-n-gt-MOST_CALLS : goal.returns-then-n-gt-MOST_CALLS
-returns-then-n-gt-MOST_CALLS c = laws.read_over _ _ _ c.base_at-b.ensures (not-false _ c.if-not-b.false) _ _ c.declarator-r.ensures (not-false _ c.if-not-r.false) _ c.token-t.ensures c.if-t-ne0.false _ _ c.put_base-n.ensures c.if-n-gt-MOST_CALLS.true _ _ _ (c.put_base-n.auto.chain ∙ c.declarator-r.auto.chain) c.refuse-then-n-gt-MOST_CALLS.ensures
+pub returns-then-is_longer : goal.returns-then-is_longer
+returns-then-is_longer c = laws.read_over _ _ _ c.base_at-b.ensures (not-false _ c.if-not-b.false) _ _ c.declarator-r.ensures (not-false _ c.if-not-r.false) _ c.token-t.ensures c.if-t-ne0.false _ _ c.put_base-n.ensures c.if-is_longer.true _ _ _ (c.put_base-n.auto.chain ∙ c.declarator-r.auto.chain) c.refuse-then-is_longer.ensures
 
 pub returns : goal.returns
 returns c = let h : c.put_base-n.result ≤ 512 = omega arith in laws.read_good _ _ _ c.base_at-b.ensures (not-false _ c.if-not-b.false) _ _ c.declarator-r.ensures (not-false _ c.if-not-r.false) _ c.token-t.ensures c.if-t-ne0.false _ _ c.put_base-n.ensures h

@@ -8,13 +8,13 @@ pub returns-then-run-eq0 : goal.returns-then-run-eq0
 returns-then-run-eq0 c = bytes.count_empty _ c.if-run-eq0.true
 
 pub returns-then-run-ne1 : goal.returns-then-run-ne1
-returns-then-run-ne1 c = bytes.count_zeros _ c.if-run-eq48.true c.if-run-ne1.true
+returns-then-run-ne1 c = bytes.count_zeros _ c.if-has_leading_zero.true c.if-run-ne1.true
 
-pub returns-then-run-eq48 : goal.returns-then-run-eq48
-returns-then-run-eq48 c = bytes.count_zero _ c.if-run-eq48.true c.if-run-ne1.false
+pub returns-then-has_leading_zero : goal.returns-then-has_leading_zero
+returns-then-has_leading_zero c = bytes.count_zero _ c.if-has_leading_zero.true c.if-run-ne1.false
 
 pub loop-i-init : goal.loop-i-init
-loop-i-init c = (omega arith, omega arith, bytes.count_start _ c.if-run-eq0.false c.if-run-eq48.false)
+loop-i-init c = (omega arith, omega arith, bytes.count_start _ c.if-run-eq0.false c.if-has_leading_zero.false)
 
 pub returns-then-not-is_digit : goal.returns-then-not-is_digit
 returns-then-not-is_digit c = bytes.count_fails _ _ _ _ c.loop-i.invariant.2 c.loop-i-test.true _ c.is_digit.ensures c.if-not-is_digit.true
