@@ -3,6 +3,7 @@ use Rattle.std.proofs.Common.{◌≡◌, ℕ, ◌+◌, ◌-◌, List, ◌++◌, 
 use Rattle.std.proofs.lemmas.List.{take_rest}
 use Rattle.std.specs.Io.KnownBytes.{Appends}
 use Rattle.std.proofs.KnownBytes.{Appends-trans}
+use mathlib.Core.Bool.{true≢false}
 use lib.Seq.{take-add}
 use Rattle.btfdump_run.proofs.streams.write_all.Goals as goal
 
@@ -15,3 +16,10 @@ loop-done-preserved g c = (
   subst (Appends _ _) (joined c.args.bytes.now c.loop-done.done c.in-Ok.n)
       (Appends-trans _ _ _ _ _ c.loop-done.invariant.1 c.in-Ok.ensures.bytes),
 )
+
+-- A write that stopped is told as false, of which nothing is claimed.
+pub returns-in-Ok-eq0 : goal.returns-in-Ok-eq0
+returns-in-Ok-eq0 g c = λ h. absurd (true≢false (sym h))
+
+pub returns-in-Ok-eq0-2 : goal.returns-in-Ok-eq0-2
+returns-in-Ok-eq0-2 g c = λ h. absurd (true≢false (sym h))
