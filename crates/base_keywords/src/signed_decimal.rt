@@ -3,7 +3,7 @@ ghost use Rattle.std.specs.Prelude.{◌≡◌, nat_abs};
 ghost use Rattle.spec_bytes.specs.text.Text.{ascii, whole, put_out, put_text};
 ghost use Rattle.spec_bytes.specs.signed.Signed.{twos, signed, signed_ll};
 
-use crate::table::{put_ll, put_minus_one};
+use crate::table::{Word, put_word};
 use base_bytes::put::{put_byte, put_decimal, put_two};
 
 // The number of 32 bits in two's complement.
@@ -60,8 +60,8 @@ fn put_least(text: &mut [u8], at: usize) -> usize
 {
     let a = put_two(text, at, b'(', b'-');
     let c = put_decimal(text, a, 9223372036854775807);
-    let d = put_ll(text, c);
-    put_minus_one(text, d)
+    let d = put_word(text, c, Word::Ll);
+    put_word(text, d, Word::MinusOne)
 }
 
 // Writes v as a C constant of type long long. The least value has no such constant.
@@ -72,5 +72,5 @@ pub fn put_i64(text: &mut [u8], at: usize, v: i64) -> usize
         return put_least(text, at);
     }
     let a = put_signed(text, at, v);
-    put_ll(text, a)
+    put_word(text, a, Word::Ll)
 }

@@ -4,8 +4,69 @@ ghost use Rattle.std.specs.Prelude.{◌≡◌, ◌+◌, ◌≤◌, length};
 ghost use Rattle.spec_bytes.specs.text.Text.{ascii, whole, put_out, put_text};
 ghost use Rattle.spec_c_dumper.specs.rules.Names.{same_bytes};
 ghost use Rattle.base_keywords.specs.table.Fixed.{table, part, copied};
+ghost use Rattle.base_keywords.specs.table.Spelled.{spelled};
 
 use base_bytes::refusal;
+
+#[derive(Clone, Copy)]
+pub enum Word {
+    Struct,
+    Union,
+    StructForUnion,
+    Enum,
+    Typedef,
+    Void,
+    Volatile,
+    Const,
+    Restrict,
+    Long,
+    Int,
+    Short,
+    Char,
+    AttributeStart,
+    Packed,
+    DeclTag,
+    TypeTag,
+    Ull,
+    Ll,
+    MinusOne,
+    Underscores,
+    Dots,
+}
+
+impl Word {
+    // Where the word starts in the table, and its length.
+    fn place(self) -> (usize, usize)
+        ensures word { part table result.0 result.1 ≡ spelled self }
+        ensures size { (2 ≤ result.1) × (result.1 ≤ 16) }
+        ensures inside { result.0 + result.1 ≤ 128 }
+    {
+        match self {
+            Word::Struct => (0, 6),
+            Word::Union => (9, 5),
+            Word::StructForUnion => (0, 16),
+            Word::Enum => (16, 4),
+            Word::Typedef => (20, 7),
+            Word::Void => (27, 4),
+            Word::Volatile => (31, 8),
+            Word::Const => (39, 5),
+            Word::Restrict => (44, 8),
+            Word::Long => (52, 4),
+            Word::Int => (56, 3),
+            Word::Short => (59, 5),
+            Word::Char => (64, 4),
+            Word::AttributeStart => (68, 16),
+            Word::Packed => (84, 6),
+            Word::DeclTag => (90, 12),
+            Word::TypeTag => (102, 12),
+            Word::Ull => (114, 3),
+            Word::Ll => (115, 2),
+            Word::MinusOne => (117, 5),
+            Word::Underscores => (122, 3),
+            Word::Dots => (125, 3),
+        }
+    }
+}
 
 // Copies two bytes.
 fn copy_two(text: &mut [u8], at: usize, src: &[u8], start: usize)
@@ -81,136 +142,11 @@ fn put_fixed(text: &mut [u8], at: usize, start: usize, n: usize) -> usize
     )
 }
 
-pub fn put_struct(text: &mut [u8], at: usize) -> usize
-    ensures { put_out result text.new ≡ put_text text.old at (whole (ascii "struct")) }
+pub fn put_word(text: &mut [u8], at: usize, word: Word) -> usize
+    ensures { put_out result text.new ≡ put_text text.old at (whole (spelled word)) }
 {
-    put_fixed(text, at, 0, 6)
-}
-
-pub fn put_union(text: &mut [u8], at: usize) -> usize
-    ensures { put_out result text.new ≡ put_text text.old at (whole (ascii "union")) }
-{
-    put_fixed(text, at, 9, 5)
-}
-
-pub fn put_struct_union(text: &mut [u8], at: usize) -> usize
-    ensures { put_out result text.new ≡ put_text text.old at (whole (ascii "struct /*union*/")) }
-{
-    put_fixed(text, at, 0, 16)
-}
-
-pub fn put_enum(text: &mut [u8], at: usize) -> usize
-    ensures { put_out result text.new ≡ put_text text.old at (whole (ascii "enum")) }
-{
-    put_fixed(text, at, 16, 4)
-}
-
-pub fn put_typedef(text: &mut [u8], at: usize) -> usize
-    ensures { put_out result text.new ≡ put_text text.old at (whole (ascii "typedef")) }
-{
-    put_fixed(text, at, 20, 7)
-}
-
-pub fn put_void(text: &mut [u8], at: usize) -> usize
-    ensures { put_out result text.new ≡ put_text text.old at (whole (ascii "void")) }
-{
-    put_fixed(text, at, 27, 4)
-}
-
-pub fn put_volatile(text: &mut [u8], at: usize) -> usize
-    ensures { put_out result text.new ≡ put_text text.old at (whole (ascii "volatile")) }
-{
-    put_fixed(text, at, 31, 8)
-}
-
-pub fn put_const(text: &mut [u8], at: usize) -> usize
-    ensures { put_out result text.new ≡ put_text text.old at (whole (ascii "const")) }
-{
-    put_fixed(text, at, 39, 5)
-}
-
-pub fn put_restrict(text: &mut [u8], at: usize) -> usize
-    ensures { put_out result text.new ≡ put_text text.old at (whole (ascii "restrict")) }
-{
-    put_fixed(text, at, 44, 8)
-}
-
-pub fn put_long(text: &mut [u8], at: usize) -> usize
-    ensures { put_out result text.new ≡ put_text text.old at (whole (ascii "long")) }
-{
-    put_fixed(text, at, 52, 4)
-}
-
-pub fn put_int(text: &mut [u8], at: usize) -> usize
-    ensures { put_out result text.new ≡ put_text text.old at (whole (ascii "int")) }
-{
-    put_fixed(text, at, 56, 3)
-}
-
-pub fn put_short(text: &mut [u8], at: usize) -> usize
-    ensures { put_out result text.new ≡ put_text text.old at (whole (ascii "short")) }
-{
-    put_fixed(text, at, 59, 5)
-}
-
-pub fn put_char(text: &mut [u8], at: usize) -> usize
-    ensures { put_out result text.new ≡ put_text text.old at (whole (ascii "char")) }
-{
-    put_fixed(text, at, 64, 4)
-}
-
-pub fn put_attribute_start(text: &mut [u8], at: usize) -> usize
-    ensures { put_out result text.new ≡ put_text text.old at (whole (ascii " __attribute__((")) }
-{
-    put_fixed(text, at, 68, 16)
-}
-
-pub fn put_packed_name(text: &mut [u8], at: usize) -> usize
-    ensures { put_out result text.new ≡ put_text text.old at (whole (ascii "packed")) }
-{
-    put_fixed(text, at, 84, 6)
-}
-
-pub fn put_decl_tag(text: &mut [u8], at: usize) -> usize
-    ensures { put_out result text.new ≡ put_text text.old at (whole (ascii "btf_decl_tag")) }
-{
-    put_fixed(text, at, 90, 12)
-}
-
-pub fn put_type_tag(text: &mut [u8], at: usize) -> usize
-    ensures { put_out result text.new ≡ put_text text.old at (whole (ascii "btf_type_tag")) }
-{
-    put_fixed(text, at, 102, 12)
-}
-
-pub fn put_ull(text: &mut [u8], at: usize) -> usize
-    ensures { put_out result text.new ≡ put_text text.old at (whole (ascii "ULL")) }
-{
-    put_fixed(text, at, 114, 3)
-}
-
-pub fn put_ll(text: &mut [u8], at: usize) -> usize
-    ensures { put_out result text.new ≡ put_text text.old at (whole (ascii "LL")) }
-{
-    put_fixed(text, at, 115, 2)
-}
-
-pub fn put_minus_one(text: &mut [u8], at: usize) -> usize
-    ensures { put_out result text.new ≡ put_text text.old at (whole (ascii " - 1)")) }
-{
-    put_fixed(text, at, 117, 5)
-}
-
-pub fn put_underscores(text: &mut [u8], at: usize) -> usize
-    ensures { put_out result text.new ≡ put_text text.old at (whole (ascii "___")) }
-{
-    put_fixed(text, at, 122, 3)
-}
-
-pub fn put_dots(text: &mut [u8], at: usize) -> usize
-    ensures { put_out result text.new ≡ put_text text.old at (whole (ascii "...")) }
-{
-    put_fixed(text, at, 125, 3)
+    let (start, n) = word.place();
+    put_fixed(text, at, start, n)
 }
 
 // Whether two texts are equal.
@@ -243,50 +179,9 @@ fn is_fixed(run: &[u8], start: usize, n: usize) -> bool
     same(run, &word[..n])
 }
 
-pub fn is_struct(run: &[u8]) -> bool
-    ensures { result ≡ same_bytes run.now (ascii "struct") }
+pub fn is_word(run: &[u8], word: Word) -> bool
+    ensures { result ≡ same_bytes run.now (spelled word) }
 {
-    is_fixed(run, 0, 6)
-}
-
-pub fn is_union(run: &[u8]) -> bool
-    ensures { result ≡ same_bytes run.now (ascii "union") }
-{
-    is_fixed(run, 9, 5)
-}
-
-pub fn is_enum(run: &[u8]) -> bool
-    ensures { result ≡ same_bytes run.now (ascii "enum") }
-{
-    is_fixed(run, 16, 4)
-}
-
-pub fn is_void(run: &[u8]) -> bool
-    ensures { result ≡ same_bytes run.now (ascii "void") }
-{
-    is_fixed(run, 27, 4)
-}
-
-pub fn is_volatile(run: &[u8]) -> bool
-    ensures { result ≡ same_bytes run.now (ascii "volatile") }
-{
-    is_fixed(run, 31, 8)
-}
-
-pub fn is_const(run: &[u8]) -> bool
-    ensures { result ≡ same_bytes run.now (ascii "const") }
-{
-    is_fixed(run, 39, 5)
-}
-
-pub fn is_restrict(run: &[u8]) -> bool
-    ensures { result ≡ same_bytes run.now (ascii "restrict") }
-{
-    is_fixed(run, 44, 8)
-}
-
-pub fn is_dots(run: &[u8]) -> bool
-    ensures { result ≡ same_bytes run.now (ascii "...") }
-{
-    is_fixed(run, 125, 3)
+    let (start, n) = word.place();
+    is_fixed(run, start, n)
 }

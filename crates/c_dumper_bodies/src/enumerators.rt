@@ -11,7 +11,7 @@ ghost use Rattle.c_dumper_bodies.specs.enumerators.Heads.{enum_head, value_head,
 
 use base_bytes::limit;
 use base_bytes::put::{put_byte, put_tabs, put_three};
-use base_keywords::table::put_enum;
+use base_keywords::table::{Word, put_word};
 use c_dumper_name_versions::names::{put_name, put_sep_name, resolve_name, resolve_type_name};
 use spec_type_table::TypeTable;
 
@@ -63,7 +63,7 @@ pub fn emit_enum_head(
         ≡ put_said text.old at (enum_head (work_naming b) id (str_at b section.now name_off) work.old) }
 {
     let name = resolve_type_name(b, section, work, id, name_off);
-    let a = put_enum(text, at);
+    let a = put_word(text, at, Word::Enum);
     put_sep_name(b, section, text, a, name)
 }
 
@@ -98,7 +98,7 @@ pub fn put_enum_name(
         (str_at b section.now name_off) work.old) }
 {
     let name = resolve_type_name(b, section, work, id, name_off);
-    let a = put_enum(text, at);
+    let a = put_word(text, at, Word::Enum);
     let c = put_byte(text, a, b' ');
     put_name(b, section, text, c, name)
 }

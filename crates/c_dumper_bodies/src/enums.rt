@@ -11,7 +11,7 @@ ghost use Rattle.c_dumper_bodies.specs.enums.Widths.{is_wide, value_size, value_
 use crate::enumerators::{deeper, emit_enum_end, emit_enum_head, emit_enumerator, nth};
 use base_bytes::put::{put_byte, put_decimal, put_two};
 use base_keywords::signed_decimal::{as_i32, as_i64, put_i32, put_i64};
-use base_keywords::table::put_ull;
+use base_keywords::table::{Word, put_word};
 use btf_type_table::cell::get_field;
 use btf_type_table::entry::{load_enum_value, load_enum64_value};
 use btf_type_table::kind::{entries_of, kind_flag_of, kind_of, member_place};
@@ -53,7 +53,7 @@ fn put_value64(text: &mut [u8], at: usize, is_signed: bool, v: u64) -> usize
         return put_i64(text, at, as_i64(v));
     }
     let a = put_decimal(text, at, v);
-    put_ull(text, a)
+    put_word(text, a, Word::Ull)
 }
 
 // The text of value k, by its width.

@@ -6,7 +6,7 @@ ghost use Rattle.c_dumper_bodies.specs.chain.Chains.{qualifier_of, skipped, mods
 
 use crate::chain::{is_qualifier, kind_on_top};
 use base_bytes::put::put_byte;
-use base_keywords::table::{put_const, put_restrict, put_volatile};
+use base_keywords::table::{Word, put_word};
 use btf_type_table::kind;
 use spec_type_table::TypeTable;
 
@@ -14,9 +14,9 @@ pub fn put_qualifier(text: &mut [u8], at: usize, kind: u32) -> usize
     ensures { put_out result text.new ≡ put_text text.old at (whole (qualifier (qualifier_of kind))) }
 {
     match kind {
-        kind::VOLATILE => put_volatile(text, at),
-        kind::CONST => put_const(text, at),
-        _ => put_restrict(text, at),
+        kind::VOLATILE => put_word(text, at, Word::Volatile),
+        kind::CONST => put_word(text, at, Word::Const),
+        _ => put_word(text, at, Word::Restrict),
     }
 }
 

@@ -20,7 +20,7 @@ ghost use Rattle.c_dumper_bodies.specs.bodies.Pieces.{param_list_below, entry_te
 pub use crate::declarations::members::emit_composite_def;
 use base_bytes::put::{put_byte, put_two, stop, stopped};
 use base_bytes::refusal;
-use base_keywords::table::{put_dots, put_void};
+use base_keywords::table::{Word, put_word};
 use btf_type_table::kind;
 use btf_type_table::kind::{entries_of, is_struct, kind_flag_of, kind_of, param_place};
 use btf_type_table::name::{is_empty, put_str};
@@ -319,7 +319,7 @@ fn emit_base(
         | kind::VOLATILE..=kind::DATASEC
         | kind::DECL_TAG
         | kind::TYPE_TAG => at,
-        _ => put_void(text, at),
+        _ => put_word(text, at, Word::Void),
     }
 }
 
@@ -466,7 +466,7 @@ fn emit_param(
     };
     let a = put_comma(text, at, k);
     if is_any_more(params.vlen, k, type_id) {
-        return put_dots(text, a);
+        return put_word(text, a, Word::Dots);
     }
     emit_type_decl(b, section, work, text, a, d, below)
 }

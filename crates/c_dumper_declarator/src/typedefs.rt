@@ -9,7 +9,7 @@ ghost use Rattle.spec_type_table.specs.Table.{btf_of, work_naming};
 use crate::declarations::{Declarator, emit_type_decl};
 use base_bytes::limit;
 use base_bytes::put::put_byte;
-use base_keywords::table::put_typedef;
+use base_keywords::table::{Word, put_word};
 use c_dumper_name_versions::names::resolve_type_name;
 use c_dumper_name_versions::tags::{WHOLE_TYPE, emit_decl_tags};
 use spec_type_table::TypeTable;
@@ -36,7 +36,7 @@ pub fn emit_typedef_def(
         name: name,
         lvl: 0,
     };
-    let a = put_typedef(text, at);
+    let a = put_word(text, at, Word::Typedef);
     let c = put_byte(text, a, b' ');
     let e = emit_type_decl(b, section, work, text, c, d, limit::MOST_CALLS);
     emit_decl_tags(b, section, work, text, e, id, WHOLE_TYPE)

@@ -8,7 +8,7 @@ ghost use Rattle.spec_type_table.specs.Table.{btf_of, work_naming};
 
 use crate::names::{put_name, resolve_type_name};
 use base_bytes::put::put_byte;
-use base_keywords::table::{put_struct, put_struct_union, put_union};
+use base_keywords::table::{Word, put_word};
 use btf_type_table::name::is_builtin;
 use spec_type_table::TypeTable;
 
@@ -17,12 +17,12 @@ pub fn put_keyword(b: TypeTable, text: &mut [u8], at: usize, is_struct: bool) ->
     ensures { put_out result text.new ≡ put_text text.old at (whole (keyword (btf_of b [] []) is_struct)) }
 {
     if is_struct {
-        return put_struct(text, at);
+        return put_word(text, at, Word::Struct);
     }
     if b.union_as_struct {
-        return put_struct_union(text, at);
+        return put_word(text, at, Word::StructForUnion);
     }
-    put_union(text, at)
+    put_word(text, at, Word::Union)
 }
 
 // The keyword and the name; nothing for the compiler's own type.

@@ -7,7 +7,7 @@ ghost use Rattle.spec_type_table.specs.Names.{str_at};
 ghost use Rattle.spec_type_table.specs.Table.{btf_of};
 
 use base_bytes::put::{put_bytes, put_two};
-use base_keywords::table::{put_attribute_start, put_decl_tag, put_type_tag};
+use base_keywords::table::{Word, put_word};
 use btf_type_table::cell::get_field;
 use btf_type_table::escape::put_escaped;
 use btf_type_table::kind::{kind_flag_of, kind_of};
@@ -24,9 +24,9 @@ fn put_tag_name(text: &mut [u8], at: usize, is_decl: bool) -> usize
     ensures { put_out result text.new ≡ put_text text.old at (whole (tag_name is_decl)) }
 {
     if is_decl {
-        return put_decl_tag(text, at);
+        return put_word(text, at, Word::DeclTag);
     }
-    put_type_tag(text, at)
+    put_word(text, at, Word::TypeTag)
 }
 
 // What a tag prints: its name as an attribute of its own, or in the attribute of its kind.
@@ -42,7 +42,7 @@ pub fn put_attribute(
     ensures { put_out result text.new
         ≡ put_text text.old at (whole (attribute is_attr (tag_name is_decl) (str_at b section.now name_off))) }
 {
-    let a = put_attribute_start(text, at);
+    let a = put_word(text, at, Word::AttributeStart);
     let name = get_btf_str(b, section, name_off);
     if is_attr {
         let c = put_bytes(text, a, name);

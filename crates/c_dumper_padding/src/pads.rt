@@ -8,16 +8,16 @@ ghost use Rattle.c_dumper_padding.specs.pads.Texts.{pad_line};
 
 use crate::units::{Pad, pad_of, placed_pad};
 use base_bytes::put::{put_byte, put_decimal, put_tabs, put_two, stopped};
-use base_keywords::table::{put_char, put_int, put_long, put_short};
+use base_keywords::table::{Word, put_word};
 
 fn put_unit(text: &mut [u8], at: usize, unit: u32) -> usize
     ensures { put_out result text.new ≡ put_text text.old at (whole (unit_word (unit_of unit))) }
 {
     match unit {
-        3 => put_long(text, at),
-        2 => put_int(text, at),
-        1 => put_short(text, at),
-        _ => put_char(text, at),
+        3 => put_word(text, at, Word::Long),
+        2 => put_word(text, at, Word::Int),
+        1 => put_word(text, at, Word::Short),
+        _ => put_word(text, at, Word::Char),
     }
 }
 

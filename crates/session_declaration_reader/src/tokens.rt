@@ -8,9 +8,7 @@ ghost use Rattle.session_declaration_reader.specs.tokens.Looking.{count_value, k
 ghost use Rattle.session_declaration_reader.specs.tokens.Looking.{Looked};
 
 use base_bytes::limit;
-use base_keywords::table::{
-    is_const, is_dots, is_enum, is_restrict, is_struct, is_union, is_void, is_volatile,
-};
+use base_keywords::table::{Word, is_word};
 
 #[derive(Clone, Copy)]
 pub struct Tok {
@@ -118,16 +116,16 @@ fn count_value(run: &[u8]) -> u64
 fn base_sign(run: &[u8]) -> u32
     ensures { result ≡ kind_sign run.now }
 {
-    if is_struct(run) {
+    if is_word(run, Word::Struct) {
         return 4;
     }
-    if is_union(run) {
+    if is_word(run, Word::Union) {
         return 4;
     }
-    if is_enum(run) {
+    if is_word(run, Word::Enum) {
         return 4;
     }
-    if is_void(run) {
+    if is_word(run, Word::Void) {
         return 5;
     }
     6
@@ -136,13 +134,13 @@ fn base_sign(run: &[u8]) -> u32
 fn word_sign(run: &[u8]) -> u32
     ensures { result ≡ word_sign run.now }
 {
-    if is_const(run) {
+    if is_word(run, Word::Const) {
         return 1;
     }
-    if is_volatile(run) {
+    if is_word(run, Word::Volatile) {
         return 2;
     }
-    if is_restrict(run) {
+    if is_word(run, Word::Restrict) {
         return 3;
     }
     base_sign(run)
@@ -157,7 +155,7 @@ fn run_sign(run: &[u8]) -> u32
     if count_value(run) < limit::TWO_TO_32 {
         return 7;
     }
-    if is_dots(run) {
+    if is_word(run, Word::Dots) {
         return 62;
     }
     16

@@ -8,7 +8,7 @@ ghost use Rattle.c_dumper_name_versions.specs.names.Spelling.{name_text};
 ghost use Rattle.c_dumper_bodies.specs.bodies.Pieces.{gap, star_text, comma, size_text, line_end, packed_text};
 
 use base_bytes::put::{put_byte, put_decimal, put_two};
-use base_keywords::table::{put_attribute_start, put_packed_name};
+use base_keywords::table::{Word, put_word};
 use btf_type_table::kind::kind_flag_of;
 use c_dumper_name_versions::names::{Name, is_blank};
 use c_dumper_name_versions::tags::put_attribute;
@@ -112,8 +112,8 @@ pub fn put_packed(text: &mut [u8], at: usize, packed: bool) -> usize
     ensures { put_out result text.new ≡ put_text text.old at (whole (packed_text packed)) }
 {
     if packed {
-        let a = put_attribute_start(text, at);
-        let c = put_packed_name(text, a);
+        let a = put_word(text, at, Word::AttributeStart);
+        let c = put_word(text, a, Word::Packed);
         return put_two(text, c, b')', b')');
     }
     at

@@ -12,7 +12,7 @@ ghost use Rattle.c_dumper_name_versions.specs.names.Spelling.{name_text, name_af
 
 use base_bytes::limit;
 use base_bytes::put::{put_byte, put_decimal};
-use base_keywords::table::put_underscores;
+use base_keywords::table::{Word, put_word};
 use btf_open_names::numbers::get_number;
 use btf_type_table::cell;
 use btf_type_table::cell::{get_field, put_field};
@@ -82,7 +82,7 @@ pub fn put_name(b: TypeTable, section: &[u8], text: &mut [u8], at: usize, name: 
     if name.version < 2 {
         return a;
     }
-    let c = put_underscores(text, a);
+    let c = put_word(text, a, Word::Underscores);
     put_decimal(text, c, name.version as u64)
 }
 

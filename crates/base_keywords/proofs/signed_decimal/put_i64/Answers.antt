@@ -6,4 +6,4 @@ pub returns-then-v-eqminus9223372036854775808 : goal.returns-then-v-eqminus92233
 returns-then-v-eqminus9223372036854775808 c = put_same _ _ _ _ _ _ (least _ c.ranges.v c.if-v-eqminus9223372036854775808.true) c.put_least.ensures
 
 pub returns : goal.returns
-returns c = put_same _ _ _ _ _ _ (other _ c.ranges.v c.if-v-eqminus9223372036854775808.false) (put_seq _ _ _ _ _ _ _ _ c.put_signed-a.ensures c.put_ll.ensures)
+returns c = put_same _ _ _ _ _ _ (other _ c.ranges.v c.if-v-eqminus9223372036854775808.false) (put_seq _ _ _ _ _ _ _ _ c.put_signed-a.ensures c.put_word.ensures)

@@ -6,4 +6,4 @@ pub returns-then-is_signed : goal.returns-then-is_signed
 returns-then-is_signed c = put_signed64 _ _ _ _ _ _ _ c.if-is_signed.true (record { sfits = c.as_i64.type_inv }) c.as_i64.ensures c.put_i64.ensures
 
 pub returns : goal.returns
-returns c = put_plain64 _ _ _ _ _ _ c.if-is_signed.false (put_seq _ _ _ _ _ _ _ _ c.put_decimal-a.ensures c.put_ull.ensures)
+returns c = put_plain64 _ _ _ _ _ _ c.if-is_signed.false (put_seq _ _ _ _ _ _ _ _ c.put_decimal-a.ensures c.put_word.ensures)

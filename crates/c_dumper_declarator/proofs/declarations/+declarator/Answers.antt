@@ -53,7 +53,7 @@ pub emit_base-returns-in-2-2 : goal.emit_base-returns-in-2-2
 emit_base-returns-in-2-2 t c = entries.word_mid _ _ _ _ _ _ _ _ c.kind_of.ensures _ _ _ (omega arith) (omega arith) c.in-2.in_default-own.rest.0.0.0.0.1 c.in-2.in_default-own.rest.0.0.0.1 c.in-2.in_default-own.rest.0.0.1 c.in-2.in_default-own.rest.0.1
 
 pub emit_base-returns-in_default : goal.emit_base-returns-in_default
-emit_base-returns-in_default t c = entries.word_void _ _ _ _ _ _ _ _ c.kind_of.ensures _ _ _ _ _ c.in_default-1.rest.1 (elim c.in_default.branch [ emit_base-in_default-via-then-this-lt1 w ↦ inl (omega arith) | emit_base-in_default-via-else-this-lt1+else-this-lt4+else-this-lt6+else-this-lt19 w ↦ inr (omega arith) ]) c.put_void.ensures
+emit_base-returns-in_default t c = entries.word_void _ _ _ _ _ _ _ _ c.kind_of.ensures _ _ _ _ _ c.in_default-1.rest.1 (elim c.in_default.branch [ emit_base-in_default-via-then-this-lt1 w ↦ inl (omega arith) | emit_base-in_default-via-else-this-lt1+else-this-lt4+else-this-lt6+else-this-lt19 w ↦ inr (omega arith) ]) c.put_word.ensures
 
 pub emit_based-returns-then-left-eq0 : goal.emit_based-returns-then-left-eq0
 emit_based-returns-then-left-eq0 t c = chains.chain_zero _ _ _ _ _ _ _ _ _ _ c.if-left-eq0.true c.stop.ensures
@@ -125,7 +125,7 @@ pub emit_links-returns : goal.emit_links-returns
 emit_links-returns t c = chains.links_whole _ _ _ _ _ _ _ _ _ _ _ _ _ _ _ c.goes_on-c.ensures (chains.chain_ends _ _ _ _ _ _ _ _ _ _ _ _ _ _ c.loop-c.invariant.0 (omega arith) c.if-c.false c.emit_name.ensures)
 
 pub emit_param-returns-then-is_any_more : goal.emit_param-returns-then-is_any_more
-emit_param-returns-then-is_any_more t c = members.param_any _ _ _ _ _ _ _ _ _ _ _ _ c.param_place-p.ensures c.word-type_id.ensures _ c.is_any_more.ensures _ _ c.put_comma-a.ensures _ _ c.if-is_any_more.true c.put_dots.ensures
+emit_param-returns-then-is_any_more t c = members.param_any _ _ _ _ _ _ _ _ _ _ _ _ c.param_place-p.ensures c.word-type_id.ensures _ c.is_any_more.ensures _ _ c.put_comma-a.ensures _ _ c.if-is_any_more.true c.put_word.ensures
 
 pub emit_param-returns : goal.emit_param-returns
 emit_param-returns t c = members.param_decl _ _ _ _ _ _ _ _ _ _ _ _ c.param_place-p.ensures c.word-type_id.ensures _ c.is_any_more.ensures _ _ c.put_comma-a.ensures _ _ _ _ _ c.if-is_any_more.false c.word.ensures c.bare.ensures c.emit_type_decl.ensures

@@ -6,12 +6,12 @@ use Rattle.c_dumper_name_versions.proofs.tags.put_attribute.Goals as goal
 
 pub returns-then-is_attr : goal.returns-then-is_attr
 returns-then-is_attr c = put_own _ _ _ _ _ _ _ c.if-is_attr.true
-    (put_seq _ _ _ _ _ _ _ _ (put_seq _ _ _ _ _ _ _ _ c.put_attribute_start-a.ensures (put_same _ _ _ _ _ _ c.get_btf_str-name.ensures c.put_bytes-c.ensures)) c.put_two.ensures)
+    (put_seq _ _ _ _ _ _ _ _ (put_seq _ _ _ _ _ _ _ _ c.put_word-a.ensures (put_same _ _ _ _ _ _ c.get_btf_str-name.ensures c.put_bytes-c.ensures)) c.put_two.ensures)
 
 pub returns : goal.returns
 returns c = put_worded _ _ _ _ _ _ _ c.if-is_attr.false
     (put_seq _ _ _ _ _ _ _ _
     (put_seq _ _ _ _ _ _ _ _
-    (put_seq _ _ _ _ _ _ _ _ (put_seq _ _ _ _ _ _ _ _ c.put_attribute_start-a.ensures c.put_tag_name-d.ensures) c.put_two-e.ensures)
+    (put_seq _ _ _ _ _ _ _ _ (put_seq _ _ _ _ _ _ _ _ c.put_word-a.ensures c.put_tag_name-d.ensures) c.put_two-e.ensures)
     (put_same _ _ _ _ _ _ (ap escaped c.get_btf_str-name.ensures) c.put_escaped-f.ensures))
     (put_seq _ _ _ _ _ _ _ _ c.put_two-g.ensures c.put_two-2.ensures))

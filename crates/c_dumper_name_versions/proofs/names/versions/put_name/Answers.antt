@@ -6,4 +6,4 @@ pub returns-then-name-lt2 : goal.returns-then-name-lt2
 returns-then-name-lt2 c = put_bare _ _ _ _ _ _ c.if-name-lt2.true c.put_str-a.ensures
 
 pub returns : goal.returns
-returns c = put_more _ _ _ _ _ _ c.if-name-lt2.false (put_seq _ _ _ _ _ _ _ _ (put_seq _ _ _ _ _ _ _ _ c.put_str-a.ensures c.put_underscores-c.ensures) c.put_decimal.ensures)
+returns c = put_more _ _ _ _ _ _ c.if-name-lt2.false (put_seq _ _ _ _ _ _ _ _ (put_seq _ _ _ _ _ _ _ _ c.put_str-a.ensures c.put_word-c.ensures) c.put_decimal.ensures)

@@ -1,4 +1,0 @@
-use Rattle.base_keywords.proofs.table.put_underscores.Goals as goal
-
-pub returns : goal.returns
-returns c = c.put_fixed.ensures
