@@ -1,4 +1,5 @@
-// The numbers of refusals: document 01's causes, and from 18 on those of the change requests.
+// Refusals, and their numbers: document 01's causes, and from 18 on those of the change requests.
+pub use spec_bytes::refusal::Refusal;
 
 pub const POINTER_SIZE: u32 = 1;
 

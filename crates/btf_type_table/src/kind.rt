@@ -2,7 +2,7 @@
 ghost use Rattle.std.specs.Prelude.{◌≡◌, eqb};
 ghost use Rattle.spec_type_table.specs.Records.{vlen_of, kind_of, flag_of, member_at, param_at, extra_of, entries_of};
 
-use spec_type_table::{BtfType, Entries, Extra};
+use spec_type_table::{BtfType, Entries, Extra, Kind};
 
 // The kinds of a type; 0 is void.
 pub const INT: u32 = 1;
@@ -79,10 +79,11 @@ pub fn extra_of(kind: u32, vlen: u32) -> Extra
     }
 }
 
+#[tactic(auto, using(spec_type_table::proofs::KindNames::kind_numbers, std::proofs::lemmas::Bool::Decides::nat_tests))]
 pub fn is_struct(t: BtfType) -> bool
     ensures { result ≡ eqb (kind_of t.info) 4 }
 {
-    kind_of(t.info) == STRUCT
+    Kind::of(t.info) == Kind::Struct
 }
 
 // The entries of a record.

@@ -7,10 +7,8 @@ ghost use Rattle.spec_c_dumper.specs.rules.Names.{starts_with, builtin};
 ghost use Rattle.spec_type_table.specs.Names.{name_at, name_place, str_at};
 ghost use Rattle.spec_type_table.specs.Table.{type_of};
 
-use crate::kind;
-use crate::kind::kind_of;
 use base_bytes::refusal;
-use spec_type_table::{BtfType, TypeTable};
+use spec_type_table::{BtfType, Kind, TypeTable};
 
 // The place of the name at an offset of the string area.
 fn name_place(b: TypeTable, off: u32) -> usize
@@ -125,23 +123,24 @@ pub fn is_builtin(b: TypeTable, section: &[u8], off: u32) -> bool
 }
 
 // Whether BtfType::name() is not empty: some kinds have none.
+#[tactic(auto, using(spec_type_table::proofs::KindTypes::kind_types), unfolding(spec_c_dumper::specs::rules::Types::is_empty))]
 pub fn is_named(b: TypeTable, section: &[u8], t: BtfType) -> bool
     ensures { result ≡ is_named (type_of b section.now t) }
 {
-    match kind_of(t.info) {
-        kind::INT
-        | kind::STRUCT
-        | kind::UNION
-        | kind::ENUM
-        | kind::FWD
-        | kind::TYPEDEF
-        | kind::FUNC
-        | kind::VAR
-        | kind::DATASEC
-        | kind::FLOAT
-        | kind::DECL_TAG
-        | kind::TYPE_TAG
-        | kind::ENUM64 => !is_empty(b, section, t.name_off),
+    match Kind::of(t.info) {
+        Kind::Int
+        | Kind::Struct
+        | Kind::Union
+        | Kind::Enum
+        | Kind::Fwd
+        | Kind::Typedef
+        | Kind::Func
+        | Kind::Var
+        | Kind::Datasec
+        | Kind::Float
+        | Kind::DeclTag
+        | Kind::TypeTag
+        | Kind::Enum64 => !is_empty(b, section, t.name_off),
         _ => false,
     }
 }

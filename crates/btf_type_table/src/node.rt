@@ -5,11 +5,11 @@ ghost use Rattle.spec_type_table.specs.Table.{type_of};
 ghost use Rattle.spec_c_dumper.specs.rules.Types.{node_of};
 ghost use Rattle.spec_type_table.specs.Nodes.{node_is};
 
+use crate::cell;
 use crate::cell::get_field;
-use crate::kind::{entries_of, kind_of};
+use crate::kind::entries_of;
 use crate::section_word::{array_type, load_type};
-use crate::{cell, kind};
-use spec_type_table::{BtfType, Node, TypeTable};
+use spec_type_table::{BtfType, Kind, Node, TypeTable};
 
 fn void() -> BtfType
     ensures { result ≡ void_record }
@@ -35,21 +35,22 @@ pub fn type_by_id(b: TypeTable, section: &[u8], work: &[u8], id: u32) -> BtfType
     load_type(b, section, get_field(work, id, cell::PLACE))
 }
 
+#[tactic(auto, using(spec_type_table::proofs::KindTypes::kind_types, spec_type_table::proofs::KindLaws::member_types_lem, spec_type_table::proofs::KindLaws::param_types_lem), unfolding(spec_type_table::specs::Nodes::node_is))]
 pub fn node_of(b: TypeTable, section: &[u8], t: BtfType) -> Node
     ensures { node_is b section.now result ≡ node_of (type_of b section.now t) }
 {
-    match kind_of(t.info) {
-        kind::PTR => Node::Ptr(t.type_id),
-        kind::ARRAY => Node::Through(true, array_type(b, section, t)),
-        kind::STRUCT | kind::UNION => Node::Composite(entries_of(t)),
-        kind::ENUM | kind::ENUM64 => Node::Listed(false),
-        kind::FWD => Node::Listed(true),
-        kind::TYPEDEF => Node::Typedef(t.type_id),
-        kind::VOLATILE | kind::CONST | kind::RESTRICT | kind::TYPE_TAG => Node::Through(
+    match Kind::of(t.info) {
+        Kind::Ptr => Node::Ptr(t.type_id),
+        Kind::Array => Node::Through(true, array_type(b, section, t)),
+        Kind::Struct | Kind::Union => Node::Composite(entries_of(t)),
+        Kind::Enum | Kind::Enum64 => Node::Listed(false),
+        Kind::Fwd => Node::Listed(true),
+        Kind::Typedef => Node::Typedef(t.type_id),
+        Kind::Volatile | Kind::Const | Kind::Restrict | Kind::TypeTag => Node::Through(
             false, t.type_id,
         ),
-        kind::FUNC | kind::VAR | kind::DATASEC | kind::DECL_TAG => Node::Ignored,
-        kind::FUNC_PROTO => Node::Proto(t.type_id, entries_of(t)),
-        _ => Node::Plain,
+        Kind::Func | Kind::Var | Kind::Datasec | Kind::DeclTag => Node::Ignored,
+        Kind::FuncProto => Node::Proto(t.type_id, entries_of(t)),
+        Kind::Void | Kind::Int | Kind::Float | Kind::Unknown => Node::Plain,
     }
 }

@@ -1,3 +1,4 @@
+pub mod Refusals
 pub mod signed
 pub mod text
 pub mod words

@@ -1,4 +1,5 @@
-// Words in bytes, text, decimal and signed numbers: definitions and laws.
+// Words in bytes, text, decimal and signed numbers, refusals: definitions and laws.
 #![tactic(auto)]
 
+pub mod refusal;
 pub mod words;

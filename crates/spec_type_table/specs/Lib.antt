@@ -1,4 +1,5 @@
 pub mod Cells
+pub mod Kinds
 pub mod Strings
 pub mod Names
 pub mod Records

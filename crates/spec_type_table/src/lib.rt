@@ -2,8 +2,10 @@
 // `cells`, `kinds`, `sections`, `entries` and `btf_type_table::node`.
 #![tactic(auto)]
 
+mod kind;
 mod node;
 mod types;
 
+pub use kind::Kind;
 pub use node::Node;
 pub use types::{BtfMember, BtfType, Entries, Extra, TypeTable};
