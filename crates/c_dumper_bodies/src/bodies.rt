@@ -9,6 +9,4 @@ pub use crate::bodies::bodies::{
     put_typedef_name,
 };
 pub use crate::bodies::params::{is_any_more, shown_params};
-pub use crate::bodies::words::{
-    put_close, put_comma, put_count, put_gap, put_open, put_star, put_type_tag,
-};
+pub use crate::bodies::words::{put_comma, put_count, put_gap, put_star, put_type_tag};

@@ -1,4 +1,4 @@
 // Declarator chains.
 mod links;
 
-pub use crate::chain::links::{Base, Walked, chain_base, is_qualifier, kind_on_top, path_at};
+pub use crate::chain::links::{Base, chain_base, is_qualifier, kind_at, path_at};

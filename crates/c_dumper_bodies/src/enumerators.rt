@@ -7,9 +7,8 @@ ghost use Rattle.spec_c_dumper.specs.rules.Decl as rules;
 ghost use Rattle.spec_c_dumper.specs.rules.Decl.{enum_word};
 ghost use Rattle.spec_type_table.specs.Names.{str_at};
 ghost use Rattle.spec_type_table.specs.Table.{btf_of, work_naming, value_version_in};
-ghost use Rattle.c_dumper_bodies.specs.enumerators.Heads.{enum_head, value_head, enum_end, nth_of};
+ghost use Rattle.c_dumper_bodies.specs.enumerators.Heads.{enum_head, value_head, enum_end};
 
-use base_bytes::limit;
 use base_bytes::put::{put_byte, put_tabs, put_three};
 use base_keywords::table::{Word, put_word};
 use c_dumper_name_versions::names::{put_name, put_sep_name, resolve_name, resolve_type_name};
@@ -36,17 +35,6 @@ pub fn emit_enumerator(
     let c = put_tabs(text, a, lvl);
     let d = put_name(b, section, text, c, name);
     put_three(text, d, b' ', b'=', b' ')
-}
-
-// The k-th after the first, or the largest number.
-pub fn nth(first: u32, k: u32) -> u32
-    ensures { result ≡ nth_of first k }
-{
-    if k <= limit::LARGEST - first {
-        first + k
-    } else {
-        limit::LARGEST
-    }
 }
 
 // `enum` and the name.
@@ -80,7 +68,7 @@ pub fn emit_enum_end(text: &mut [u8], at: usize, lvl: u32) -> usize
 pub fn deeper(lvl: u32) -> u32
     ensures { result ≡ rules.deeper lvl }
 {
-    if lvl < limit::LARGEST { lvl + 1 } else { lvl }
+    lvl.saturating_add(1)
 }
 
 // The mention of a named enum.

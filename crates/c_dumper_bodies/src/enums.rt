@@ -8,7 +8,7 @@ ghost use Rattle.spec_type_table.specs.Records.{flag_of};
 ghost use Rattle.spec_type_table.specs.Table.{btf_of, work_naming};
 ghost use Rattle.c_dumper_bodies.specs.enums.Widths.{is_wide, value_size, value_text, enumerator_at, enum_values};
 
-use crate::enumerators::{deeper, emit_enum_end, emit_enum_head, emit_enumerator, nth};
+use crate::enumerators::{deeper, emit_enum_end, emit_enum_head, emit_enumerator};
 use base_bytes::put::{put_byte, put_decimal, put_two};
 use base_keywords::signed_decimal::{as_i32, as_i64, put_i32, put_i64};
 use base_keywords::table::{Word, put_word};
@@ -35,11 +35,10 @@ fn value_size(wide: bool) -> usize
 }
 
 // value_str of an ENUM.
-fn put_value(text: &mut [u8], at: usize, signed: bool, v: u32) -> usize
-    ensures { put_out result text.new ≡ put_text text.old at (whole (enum_value signed v)) }
+fn put_value(text: &mut [u8], at: usize, is_signed: bool, v: u32) -> usize
+    ensures { put_out result text.new ≡ put_text text.old at (whole (enum_value is_signed v)) }
 {
-    let has_sign = signed;
-    if has_sign {
+    if is_signed {
         return put_i32(text, at, as_i32(v));
     }
     put_decimal(text, at, v as u64)
@@ -94,21 +93,19 @@ fn emit_values(
         (value_text (is_wide t) (flag_of t.info)) id lvl 0 (enum_values b section.now t) work.old) }
 {
     let values = entries_of(t);
-    let vlen = values.vlen;
     let is_signed = kind_flag_of(t.info);
     let wide = is_wide(t);
     let size = value_size(wide);
     let first = get_field(work, id, cell::FIRST_ENUMERATOR);
     let mut place = member_place(values, 0);
     let mut p = at;
-    let mut k: u32 = 0;
-    while k < vlen {
+    for k in 0..values.vlen {
         let name_off = word(b, section, place);
-        let a = emit_enumerator(b, section, work, text, p, nth(first, k), name_off, lvl);
+        let e = first.saturating_add(k);
+        let a = emit_enumerator(b, section, work, text, p, e, name_off, lvl);
         let c = emit_value(b, section, text, a, wide, is_signed, values, k);
         p = put_byte(text, c, b',');
         place += size;
-        k += 1;
     }
     p
 }

@@ -4,7 +4,7 @@ ghost use Rattle.spec_bytes.specs.text.Text.{whole, put_out, put_text};
 ghost use Rattle.spec_c_dumper.specs.rules.Decl.{qualifier};
 ghost use Rattle.c_dumper_bodies.specs.chain.Chains.{qualifier_of, skipped, mods_down};
 
-use crate::chain::{is_qualifier, kind_on_top};
+use crate::chain::{is_qualifier, kind_at};
 use base_bytes::put::put_byte;
 use base_keywords::table::{Word, put_word};
 use btf_type_table::kind;
@@ -24,41 +24,15 @@ pub fn put_qualifier(text: &mut [u8], at: usize, kind: u32) -> usize
 pub fn skip_mods(b: TypeTable, section: &[u8], work: &[u8], start: u32, n: u32) -> u32
     ensures { (result ≡ skipped b section.now work.now start n) × (result ≤ n) }
 {
-    let mut k = n;
-    while 0 < k {
-        if !is_qualifier(kind_on_top(b, section, work, start, k)) {
-            return k;
+    for k in (0..n).rev() {
+        if !is_qualifier(kind_at(b, section, work, start, k)) {
+            return k + 1;
         }
-        k -= 1;
     }
-    k
+    0
 }
 
 // Prints the qualifiers on top of n entries, each with a space after it, down to the first m.
-fn put_mods(
-    b: TypeTable,
-    section: &[u8],
-    work: &[u8],
-    text: &mut [u8],
-    at: usize,
-    start: u32,
-    n: u32,
-    m: u32,
-) -> usize
-    ensures { put_out result text.new
-        ≡ put_text text.old at (whole (mods_down b section.now work.now start m n)) }
-{
-    let mut p = at;
-    let mut k = n;
-    while m < k {
-        let a = put_qualifier(text, p, kind_on_top(b, section, work, start, k));
-        p = put_byte(text, a, b' ');
-        k -= 1;
-    }
-    p
-}
-
-// The same; most chains have no qualifier there.
 pub fn emit_mods(
     b: TypeTable,
     section: &[u8],
@@ -72,8 +46,10 @@ pub fn emit_mods(
     ensures { put_out result text.new
         ≡ put_text text.old at (whole (mods_down b section.now work.now start m n)) }
 {
-    if n <= m {
-        return at;
+    let mut p = at;
+    for k in (m..n).rev() {
+        let a = put_qualifier(text, p, kind_at(b, section, work, start, k));
+        p = put_byte(text, a, b' ');
     }
-    put_mods(b, section, work, text, at, start, n, m)
+    p
 }

@@ -27,10 +27,10 @@ use btf_type_table::name::{is_empty, put_str};
 use btf_type_table::node::type_by_id;
 use btf_type_table::section_word::{array_nelems, word};
 use c_dumper_bodies::bodies::{
-    emit_enum_word, is_any_more, put_close, put_comma, put_count, put_gap, put_open, put_star,
-    put_type_tag, put_typedef_name, shown_params,
+    emit_enum_word, is_any_more, put_comma, put_count, put_gap, put_star, put_type_tag,
+    put_typedef_name, shown_params,
 };
-use c_dumper_bodies::chain::{Base, Walked, chain_base, kind_on_top, path_at};
+use c_dumper_bodies::chain::{Base, chain_base, kind_at, path_at};
 use c_dumper_bodies::modifiers::{emit_mods, put_qualifier, skip_mods};
 use c_dumper_name_versions::forwards::{emit_composite_fwd, emit_fwd_def};
 use c_dumper_name_versions::names::{Name, bare, emit_name};
@@ -75,8 +75,8 @@ pub fn emit_type_decl(
         return at;
     }
     match chain_base(b, section, work, d.id) {
-        Walked::Got(x) => emit_based(b, section, work, text, at, d, x, left - 1),
-        Walked::No(c) => stop(text, at, c),
+        Some(x) => emit_based(b, section, work, text, at, d, x, left - 1),
+        None => stop(text, at, refusal::TOO_DEEP),
     }
 }
 
@@ -372,12 +372,12 @@ fn emit_array(
         return emit_name(b, section, text, at, name, last_was_ptr);
     }
     let a = put_gap(b, section, text, at, name, last_was_ptr);
-    if kind_on_top(b, section, work, d.id, n) == kind::ARRAY {
+    if kind_at(b, section, work, d.id, n - 1) == kind::ARRAY {
         return emit_type_chain(b, section, work, text, a, d, n, below);
     }
-    let c = put_open(text, a);
+    let c = put_byte(text, a, b'(');
     let e = emit_type_chain(b, section, work, text, c, d, n, below);
-    put_close(text, e)
+    put_byte(text, e, b')')
 }
 
 // What stands before the parameters of a prototype.
@@ -405,7 +405,7 @@ fn emit_proto(
     }
     let a = put_two(text, at, b' ', b'(');
     let c = emit_type_chain(b, section, work, text, a, d, n, below);
-    put_close(text, c)
+    put_byte(text, c, b')')
 }
 
 // The parameters in parentheses.
@@ -426,16 +426,14 @@ fn emit_params(
         (shown_params (from (param_of b section.now params.at) 0 params.vlen)) work.old) }
 {
     let shown = shown_params(b, section, params);
-    let mut p = put_open(text, at);
-    let mut k: u32 = 0;
-    while k < shown.vlen {
+    let mut p = put_byte(text, at, b'(');
+    for k in 0..shown.vlen {
         if stopped(text, p) {
             return p;
         }
         p = emit_param(b, section, work, text, p, shown, k, lvl, below);
-        k += 1;
     }
-    put_close(text, p)
+    put_byte(text, p, b')')
 }
 
 // One parameter; the last, if void, stands for any more.

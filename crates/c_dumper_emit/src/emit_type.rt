@@ -5,9 +5,10 @@ ghost use Rattle.spec_c_dumper.specs.rules.Machine.{obind, eeach};
 ghost use Rattle.spec_type_table.specs.Cells.{get_field};
 ghost use Rattle.spec_type_table.specs.Records.{record_by_id, entries_of};
 ghost use Rattle.spec_type_table.specs.Table.{btf_of};
-ghost use Rattle.spec_type_table.specs.Nodes.{member_ids, param_ids};
+ghost use Rattle.spec_type_table.specs.Nodes.{member_ids};
 ghost use Rattle.c_dumper_dependency_order.specs.leaders.Leads.{entry_in};
 ghost use Rattle.spec_session.specs.emission.Sheet.{sheet_store};
+ghost use Rattle.c_dumper_emit.specs.emit_type.Ids.{held_id, held_ids};
 ghost use Rattle.c_dumper_emit.specs.entries.Noted.{noted_out, lent_list, emit_n, new_n, composite_n, leaf_n};
 
 use crate::entries::{Asked, Pen, origin_at};
@@ -24,6 +25,23 @@ use btf_type_table::node::{node_of, type_by_id};
 use btf_type_table::section_word::word;
 use c_dumper_dependency_order::order_state::get_listed;
 use spec_type_table::{BtfType, Entries, Node, TypeTable};
+
+// Which entries a record has: members, or the parameters of a prototype.
+#[derive(Clone, Copy)]
+enum Held {
+    Members,
+    Params,
+}
+
+// The type of entry k.
+fn held_id(b: TypeTable, section: &[u8], held: Held, es: Entries, k: u32) -> u32
+    ensures { result ≡ held_id held b section.now es k }
+{
+    match held {
+        Held::Members => word(b, section, member_place(es, k) + 4),
+        Held::Params => word(b, section, param_place(es, k) + 4),
+    }
+}
 
 // Whether a call would find its id emitted, and print nothing.
 fn is_done(work: &[u8], id: u32, left: u32) -> bool
@@ -96,11 +114,11 @@ fn emit_new(
         (entry_in q.req q.turn leads.now) left cont m id) }
 {
     match node_of(b, section, t) {
-        Node::Ignored => p,
-        Node::Plain => p,
+        Node::Ignored | Node::Plain => p,
         Node::Listed(fwd) => emit_leaf(b, section, work, text, list, leads, q, p, id, t, cont, fwd),
-        Node::Through(_, y) => emit_type(b, section, work, text, list, leads, q, p, y, cont, left),
-        Node::Ptr(y) => emit_type(b, section, work, text, list, leads, q, p, y, cont, left),
+        Node::Through(_, y) | Node::Ptr(y) => {
+            emit_type(b, section, work, text, list, leads, q, p, y, cont, left)
+        }
         Node::Typedef(y) => {
             set_emit_state(work, id, 1);
             let a = emit_type(b, section, work, text, list, leads, q, p, y, id, left);
@@ -108,7 +126,10 @@ fn emit_new(
         }
         Node::Proto(y, ps) => {
             let a = emit_type(b, section, work, text, list, leads, q, p, y, cont, left);
-            emit_params(b, section, work, text, list, leads, q, a, ps, cont, left)
+            let held = Held::Params;
+            emit_entries(
+                b, section, work, text, list, leads, q, a, held, ps, cont, left,
+            )
         }
         Node::Composite(_) => {
             emit_composite(b, section, work, text, list, leads, q, p, id, t, cont, left)
@@ -144,13 +165,17 @@ fn emit_composite(
     }
     set_emit_state(work, id, 1);
     let within = inner(named, id, cont);
+    let held = Held::Members;
     let ms = entries_of(t);
-    let a = emit_members(b, section, work, text, list, leads, q, p, ms, within, left);
+    let a = emit_entries(
+        b, section, work, text, list, leads, q, p, held, ms, within, left,
+    );
     end_composite(b, section, work, text, list, leads, q, a, id, t, cont)
 }
 
+// The types of all entries of a record.
 #[cycle(emit_type)]
-fn emit_members(
+fn emit_entries(
     b: TypeTable,
     section: &[u8],
     work: &mut [u8],
@@ -159,7 +184,8 @@ fn emit_members(
     leads: &[u64],
     q: Asked,
     p: Pen,
-    ms: Entries,
+    held: Held,
+    es: Entries,
     cont: u32,
     left: u32,
 ) -> Pen
@@ -167,48 +193,11 @@ fn emit_members(
         ≡ obind (noted_out n p text.old work.old list.old)
         (λ m. eeach
         (emit_n b (btf_of b section.now work.old) (lent_list q.lists list.old) (entry_in q.req
-        q.turn leads.now) left cont) (member_ids b section.now ms) m) }
+        q.turn leads.now) left cont) (held_ids held b section.now es) m) }
 {
-    let vlen = ms.vlen;
     let mut a = p;
-    let mut k: u32 = 0;
-    while k < vlen {
-        let t = word(b, section, member_place(ms, k) + 4);
-        k += 1;
-        if is_done(work, t, left) {
-            continue;
-        }
-        a = emit_type(b, section, work, text, list, leads, q, a, t, cont, left);
-    }
-    a
-}
-
-#[cycle(emit_type)]
-fn emit_params(
-    b: TypeTable,
-    section: &[u8],
-    work: &mut [u8],
-    text: &mut [u8],
-    list: &mut [u8],
-    leads: &[u64],
-    q: Asked,
-    p: Pen,
-    ps: Entries,
-    cont: u32,
-    left: u32,
-) -> Pen
-    ensures { (n : ℕ) → noted_out n result text.new work.new list.new
-        ≡ obind (noted_out n p text.old work.old list.old)
-        (λ m. eeach
-        (emit_n b (btf_of b section.now work.old) (lent_list q.lists list.old) (entry_in q.req
-        q.turn leads.now) left cont) (param_ids b section.now ps) m) }
-{
-    let vlen = ps.vlen;
-    let mut a = p;
-    let mut k: u32 = 0;
-    while k < vlen {
-        let t = word(b, section, param_place(ps, k) + 4);
-        k += 1;
+    for k in 0..es.vlen {
+        let t = held_id(b, section, held, es, k);
         if is_done(work, t, left) {
             continue;
         }
@@ -267,8 +256,7 @@ pub fn emit_ordered(
         q.turn leads.now) 512 0) (sheet_store.list m.mach) m) }
 {
     let mut a = p;
-    let mut k: u32 = 0;
-    while k < n {
+    for k in 0..n {
         let id = get_listed(work, k);
         a = emit_type(
             b,
@@ -283,7 +271,6 @@ pub fn emit_ordered(
             0,
             limit::MOST_CALLS,
         );
-        k += 1;
     }
     a
 }

@@ -8,9 +8,7 @@ use c_dumper_dependency_order::order_state::clear_listed;
 pub fn clear_list(work: &mut [u8], n: u32)
     ensures { work.new ≡ emptied n work.old }
 {
-    let mut k: u32 = 0;
-    while k < n {
+    for k in 0..n {
         clear_listed(work, k);
-        k += 1;
     }
 }

@@ -110,11 +110,8 @@ any_typed n k x h = rw (ne_eqb x 0 h) (go (leb n (k + 1)))
     go true = refl
     go false = refl
 
-pub any_none : (n k x : ℕ) → x ≡ 0 → n ≡ 0 → true ≡ (leb n (k + 1) && eqb x 0)
-any_none n k x e z = rw (e, le-leb n (k + 1) (omega arith))
-
-pub any_last : (n k x : ℕ) → x ≡ 0 → (n ≡ 0 → ⊥) → leb (n - 1) k ≡ (leb n (k + 1) && eqb x 0)
-any_last n k x e h =
+pub any_last : (n k x : ℕ) → x ≡ 0 → leb (n - 1) k ≡ (leb n (k + 1) && eqb x 0)
+any_last n k x e =
     rw e
     (⊎_elim
     (λ l. rw (le-leb n (k + 1) l, le-leb (n - 1) k (omega arith)))

@@ -2,6 +2,7 @@
 use Prim.Native.Nat.{ℕ, zero, suc, ◌<◌, ◌≤◌}
 use mathlib.Core.Path.{◌≡◌, refl, ap, ◌∙◌, sym}
 use mathlib.Core.Bool.{Bool, true, false}
+use Rattle.std.specs.Prelude.{Option, Some}
 use mathlib.Core.List.{List, [], ◌∷◌}
 use mathlib.Core.Logic.{◌⊎◌, inl, inr}
 use native.Mathlib.Omega.{arith}
@@ -14,8 +15,6 @@ use Rattle.spec_type_table.specs.Records.{kind_of, record_by_id}
 use Rattle.spec_type_table.specs.Table.{btf_of}
 use Rattle.spec_type_table.proofs.KindLaws.{by_kind}
 use Rattle.c_dumper_bodies.specs.declared.chain.links.Base.{Base}
-use Rattle.c_dumper_bodies.specs.declared.chain.links.Walked.{Walked}
-use Rattle.c_dumper_bodies.specs.declared.chain.links.Walked.TheVariants.{Got}
 use Rattle.c_dumper_bodies.specs.chain.Chains.{is_link, entry_of, chain_at, chain_is, only_links}
 use Rattle.c_dumper_bodies.specs.bodies.Pieces.{entry_left}
 use Rattle.c_dumper_bodies.proofs.chain.Linked.{false_true, link_past, entry_base}
@@ -113,9 +112,9 @@ tag_only =
     (λ m g l n2 n3 n13 z. absurd (false_true (sym (link_past m g) ∙ l)))
 
 module _ (b : TypeTable) (s w : List ℕ) where
-  pub links_chain : (start : ℕ) (r : Walked) (x : Base) → chain_is b s w start r ≡ chain_of 512 (btf_of b s w) start [] → r ≡ Got x → only_links (chain_at b s w start x.n) ≡ true
+  pub links_chain : (start : ℕ) (r : Option Base) (x : Base) → chain_is b s w start r ≡ chain_of 512 (btf_of b s w) start [] → r ≡ Some x → only_links (chain_at b s w start x.n) ≡ true
   unfolding below chain_is only_links
-  links_chain start r x e q = ap (λ (y : Walked). below (chain_is b s w start y)) (sym q) ∙ ap below e ∙ links_walked (btf_of b s w) 512 start [] refl
+  links_chain start r x e q = ap (λ (y : Option Base). below (chain_is b s w start y)) (sym q) ∙ ap below e ∙ links_walked (btf_of b s w) 512 start [] refl
 
   -- ---- the entry on top, by the kind of its record
   module _ (id : ℕ) (t : Record) (et : t ≡ record_by_id b s w id) (c : List Entry) (h : only_links (entry_of b s w id ∷ c) ≡ true) where

@@ -1,6 +1,7 @@
 -- The walks of a chain, and what stays of it when the qualifiers on top are popped. Assumes nothing.
 use Prim.Native.Nat.{ℕ, zero, suc, ◌+◌, ◌-◌, ◌<◌, ◌≤◌}
 use mathlib.Core.Path.{◌≡◌, refl, ap, ap₂, ◌∙◌, sym}
+use Rattle.std.specs.Prelude.{Some, None}
 use mathlib.Core.List.{List, [], ◌∷◌, ◌++◌}
 use mathlib.Core.Bool.{Bool, true, false, not}
 use native.Mathlib.Omega.{arith}
@@ -15,8 +16,7 @@ use Rattle.spec_type_table.specs.declared.types.TypeTable.{TypeTable}
 use Rattle.spec_type_table.specs.declared.types.BtfType.{BtfType as Record}
 use Rattle.spec_type_table.specs.Records.{kind_of, record_by_id}
 use Rattle.spec_type_table.specs.Table.{type_of, extra_word, btf_of}
-use Rattle.c_dumper_bodies.specs.declared.chain.links.Walked.TheVariants.{Got, No}
-use Rattle.c_dumper_bodies.specs.chain.Chains.{is_link, is_qualifier, qualifier_of, next_of, entry_of, path_at, chain_at, chain_is, RecordIs, kind_on_top, skipped, mods_down}
+use Rattle.c_dumper_bodies.specs.chain.Chains.{is_link, is_qualifier, qualifier_of, next_of, entry_of, path_at, chain_at, chain_is, RecordIs, kind_at, skipped, mods_down}
 use Rattle.c_dumper_bodies.proofs.chain.Linked.{false_true, link_leads, link_ends, next_array, next_other, stays_on, no_words, entry_qual}
 
 not_true : (x : Bool) → not x ≡ true → x ≡ false
@@ -45,22 +45,10 @@ module _ (b : TypeTable) (s w : List ℕ) (start : ℕ) where
   unfolding path_at
   path_more i id t x e et ex = rw add-one (ex ∙ ap (next_of b s) (et ∙ ap (record_by_id b s w) e))
 
-  -- ---- kind_on_top
-  pub top_none : (n : ℕ) → n ≡ 0 → 0 ≡ kind_on_top b s w start n
-  unfolding kind_on_top
-  top_none n e = rw e
-
-  top_of : (n : ℕ) → kind_of (record_by_id b s w (path_at b s w start n)).info ≡ kind_on_top b s w start (suc n)
-  unfolding kind_on_top
-  top_of n = refl
-
-  pub top_some : (n id : ℕ) (t : Record) (k : ℕ) → (n ≡ 0 → ⊥) → id ≡ path_at b s w start (n - 1) → t ≡ record_by_id b s w id → k ≡ kind_of t.info → k ≡ kind_on_top b s w start n
-  top_some n id t k h e et ek =
-      let q : suc (n - 1) ≡ n = omega arith in
-      ek
-      ∙ ap (λ (x : Record). kind_of x.info) (et ∙ ap (record_by_id b s w) e)
-      ∙ top_of (n - 1)
-      ∙ ap (kind_on_top b s w start) q
+  -- ---- kind_at
+  pub kind_reads : (n id : ℕ) (t : Record) (k : ℕ) → id ≡ path_at b s w start n → t ≡ record_by_id b s w id → k ≡ kind_of t.info → k ≡ kind_at b s w start n
+  unfolding kind_at
+  kind_reads n id t k e et ek = ek ∙ ap (λ (x : Record). kind_of x.info) (et ∙ ap (record_by_id b s w) e)
 
   -- ---- chain_base: m entries were walked, f more may come, and the chain from here is the whole
   pub ChainLeft : ℕ → ℕ → Type 0
@@ -119,7 +107,7 @@ module _ (b : TypeTable) (s w : List ℕ) (start : ℕ) where
         )
 
     pub len_got : ChainLeft id n → n < 512 → not l ≡ true
-        → (chain_is b s w start (Got (record { id = id; t = t; n = n })) ≡ chain_of 512 (btf_of b s w) start []) × RecordIs b s w (Got (record { id = id; t = t; n = n }))
+        → (chain_is b s w start (Some (record { id = id; t = t; n = n })) ≡ chain_of 512 (btf_of b s w) start []) × RecordIs b s w (Some (record { id = id; t = t; n = n }))
     unfolding ChainLeft chain_is RecordIs
     len_got (m, zero, en, ef, ei, ec) h hl = absurd (omega arith)
     len_got (m, suc f, en, ef, ei, ec) h hl = (
@@ -129,7 +117,7 @@ module _ (b : TypeTable) (s w : List ℕ) (start : ℕ) where
       et,
     )
 
-  pub len_deep : (id n : ℕ) → ChainLeft id n → 512 ≤ n → (chain_is b s w start (No 12) ≡ chain_of 512 (btf_of b s w) start []) × RecordIs b s w (No 12)
+  pub len_deep : (id n : ℕ) → ChainLeft id n → 512 ≤ n → (chain_is b s w start None ≡ chain_of 512 (btf_of b s w) start []) × RecordIs b s w None
   unfolding ChainLeft chain_is RecordIs chain_of
   len_deep id n (m, zero, en, ef, ei, ec) h = (ec, tt)
   len_deep id n (m, suc f, en, ef, ei, ec) h = absurd (omega arith)
@@ -148,53 +136,49 @@ module _ (b : TypeTable) (s w : List ℕ) (start : ℕ) where
   unfolding no_mods chain_at
   mods_none = refl
 
-  mods_stay : (n : ℕ) → is_qualifier (kind_on_top b s w start (suc n)) ≡ false → no_mods (chain_at b s w start (suc n)) ≡ chain_at b s w start (suc n)
-  unfolding chain_at kind_on_top
+  mods_stay : (n : ℕ) → is_qualifier (kind_at b s w start n) ≡ false → no_mods (chain_at b s w start (suc n)) ≡ chain_at b s w start (suc n)
+  unfolding chain_at kind_at
   mods_stay n h = stays_on b s w (path_at b s w start n) _ refl (chain_at b s w start n) h
 
-  mods_go : (n : ℕ) → is_qualifier (kind_on_top b s w start (suc n)) ≡ true → no_mods (chain_at b s w start (suc n)) ≡ no_mods (chain_at b s w start n)
-  unfolding chain_at kind_on_top no_mods
+  mods_go : (n : ℕ) → is_qualifier (kind_at b s w start n) ≡ true → no_mods (chain_at b s w start (suc n)) ≡ no_mods (chain_at b s w start n)
+  unfolding chain_at kind_at no_mods
   mods_go n h = ap (λ (x : Entry). no_mods (x ∷ chain_at b s w start n)) (entry_qual b s w (path_at b s w start n) _ refl h)
 
-  words_none : (n : ℕ) → is_qualifier (kind_on_top b s w start (suc n)) ≡ false → mods (chain_at b s w start (suc n)) ≡ []
-  unfolding chain_at kind_on_top
+  words_none : (n : ℕ) → is_qualifier (kind_at b s w start n) ≡ false → mods (chain_at b s w start (suc n)) ≡ []
+  unfolding chain_at kind_at
   words_none n h = no_words b s w (path_at b s w start n) _ refl (chain_at b s w start n) h
 
-  words_go : (n : ℕ) → is_qualifier (kind_on_top b s w start (suc n)) ≡ true
-      → mods (chain_at b s w start (suc n)) ≡ qualifier (qualifier_of (kind_on_top b s w start (suc n))) ++ ascii " " ++ mods (chain_at b s w start n)
-  unfolding chain_at kind_on_top mods
+  words_go : (n : ℕ) → is_qualifier (kind_at b s w start n) ≡ true
+      → mods (chain_at b s w start (suc n)) ≡ qualifier (qualifier_of (kind_at b s w start n)) ++ ascii " " ++ mods (chain_at b s w start n)
+  unfolding chain_at kind_at mods
   words_go n h = ap (λ (x : Entry). mods (x ∷ chain_at b s w start n)) (entry_qual b s w (path_at b s w start n) _ refl h)
 
   -- ---- skip_mods
   module _ (n k : ℕ) (i : no_mods (chain_at b s w start k) ≡ no_mods (chain_at b s w start n)) where
-    pub skip_end : k ≤ 0 → k ≡ skipped b s w start n
+    pub skip_end : k ≡ 0 → 0 ≡ skipped b s w start n
     unfolding skipped
-    skip_end h =
-        let z : k ≡ 0 = omega arith in
-        z ∙ sym (ap length (sym i ∙ ap (λ (x : ℕ). no_mods (chain_at b s w start x)) z ∙ mods_none) ∙ chain_length 0)
+    skip_end z = sym (ap length (sym i ∙ ap (λ (x : ℕ). no_mods (chain_at b s w start x)) z ∙ mods_none) ∙ chain_length 0)
 
-    module _ (x : ℕ) (q : Bool) (ex : x ≡ kind_on_top b s w start k) (eq : q ≡ is_qualifier x) where
-      on_top_lem : is_qualifier (kind_on_top b s w start k) ≡ q
-      on_top_lem = sym (eq ∙ ap is_qualifier ex)
+    module _ (j x : ℕ) (q : Bool) (z : k ≡ suc j) (ex : x ≡ kind_at b s w start j) (eq : q ≡ is_qualifier x) where
+      kind_is : is_qualifier (kind_at b s w start j) ≡ q
+      kind_is = sym (eq ∙ ap is_qualifier ex)
 
-      pub skip_stop : 0 < k → not q ≡ true → k ≡ skipped b s w start n
+      from_here : no_mods (chain_at b s w start (suc j)) ≡ no_mods (chain_at b s w start n)
+      from_here = ap (λ (y : ℕ). no_mods (chain_at b s w start y)) (sym z) ∙ i
+
+      pub skip_stop : not q ≡ true → j + 1 ≡ skipped b s w start n
       unfolding skipped
-      skip_stop h f =
-          let z : k ≡ suc (k - 1) = omega arith in
-          sym (chain_length k)
-          ∙ ap length (ap (chain_at b s w start) z ∙ sym (mods_stay (k - 1) (ap (λ (y : ℕ). is_qualifier (kind_on_top b s w start y)) (sym z) ∙ on_top_lem ∙ not_true q f)) ∙ ap (λ (y : ℕ). no_mods (chain_at b s w start y)) (sym z) ∙ i)
+      skip_stop f = rw add-one (sym (chain_length (suc j)) ∙ ap length (sym (mods_stay j (kind_is ∙ not_true q f)) ∙ from_here))
 
-      pub skip_turn : 0 < k → not q ≡ false → no_mods (chain_at b s w start (k - 1)) ≡ no_mods (chain_at b s w start n)
-      skip_turn h f =
-          let z : k ≡ suc (k - 1) = omega arith in
-          sym (mods_go (k - 1) (ap (λ (y : ℕ). is_qualifier (kind_on_top b s w start y)) (sym z) ∙ on_top_lem ∙ not_false q f)) ∙ ap (λ (y : ℕ). no_mods (chain_at b s w start y)) (sym z) ∙ i
+      pub skip_turn : not q ≡ false → no_mods (chain_at b s w start j) ≡ no_mods (chain_at b s w start n)
+      skip_turn f = sym (mods_go j (kind_is ∙ not_false q f)) ∙ from_here
 
   -- ---- what skip_mods and emit_mods come to in the rules
-  skip_go : (n : ℕ) → is_qualifier (kind_on_top b s w start (suc n)) ≡ true → skipped b s w start (suc n) ≡ skipped b s w start n
+  skip_go : (n : ℕ) → is_qualifier (kind_at b s w start n) ≡ true → skipped b s w start (suc n) ≡ skipped b s w start n
   unfolding skipped
   skip_go n h = ap length (mods_go n h)
 
-  skip_stay : (n : ℕ) → is_qualifier (kind_on_top b s w start (suc n)) ≡ false → skipped b s w start (suc n) ≡ suc n
+  skip_stay : (n : ℕ) → is_qualifier (kind_at b s w start n) ≡ false → skipped b s w start (suc n) ≡ suc n
   unfolding skipped
   skip_stay n h = ap length (mods_stay n h) ∙ chain_length (suc n)
 
@@ -204,18 +188,18 @@ module _ (b : TypeTable) (s w : List ℕ) (start : ℕ) where
 
   pub skipped_le : (n : ℕ) → skipped b s w start n ≤ n
   skipped_le zero = let z = skip_zero in omega arith
-  skipped_le (suc n) = go (is_qualifier (kind_on_top b s w start (suc n))) refl (skipped_le n)
+  skipped_le (suc n) = go (is_qualifier (kind_at b s w start n)) refl (skipped_le n)
     where
-      go : (q : Bool) → is_qualifier (kind_on_top b s w start (suc n)) ≡ q → skipped b s w start n ≤ n → skipped b s w start (suc n) ≤ suc n
+      go : (q : Bool) → is_qualifier (kind_at b s w start n) ≡ q → skipped b s w start n ≤ n → skipped b s w start (suc n) ≤ suc n
       go true h l = let e = skip_go n h in omega arith
       go false h l = let e = skip_stay n h in omega arith
 
   -- what emit_mods, and an array, leave of a chain
   pub no_mods_skipped : (n : ℕ) → no_mods (chain_at b s w start n) ≡ chain_at b s w start (skipped b s w start n)
   no_mods_skipped zero = mods_none ∙ sym (ap (chain_at b s w start) skip_zero)
-  no_mods_skipped (suc n) = go (is_qualifier (kind_on_top b s w start (suc n))) refl (no_mods_skipped n)
+  no_mods_skipped (suc n) = go (is_qualifier (kind_at b s w start n)) refl (no_mods_skipped n)
     where
-      go : (q : Bool) → is_qualifier (kind_on_top b s w start (suc n)) ≡ q → no_mods (chain_at b s w start n) ≡ chain_at b s w start (skipped b s w start n)
+      go : (q : Bool) → is_qualifier (kind_at b s w start n) ≡ q → no_mods (chain_at b s w start n) ≡ chain_at b s w start (skipped b s w start n)
           → no_mods (chain_at b s w start (suc n)) ≡ chain_at b s w start (skipped b s w start (suc n))
       go true h l = mods_go n h ∙ l ∙ sym (ap (chain_at b s w start) (skip_go n h))
       go false h l = mods_stay n h ∙ sym (ap (chain_at b s w start) (skip_stay n h))
@@ -224,7 +208,7 @@ module _ (b : TypeTable) (s w : List ℕ) (start : ℕ) where
   unfolding mods_down
   down_zero m = refl
 
-  down_more : (m n : ℕ) → m < suc n → mods_down b s w start m (suc n) ≡ qualifier (qualifier_of (kind_on_top b s w start (suc n))) ++ ascii " " ++ mods_down b s w start m n
+  down_more : (m n : ℕ) → m < suc n → mods_down b s w start m (suc n) ≡ qualifier (qualifier_of (kind_at b s w start n)) ++ ascii " " ++ mods_down b s w start m n
   unfolding mods_down
   down_more m n h = rw (lt-ltb m (suc n) h, mods_down)
 
@@ -240,16 +224,16 @@ module _ (b : TypeTable) (s w : List ℕ) (start : ℕ) where
   -- what emit_mods prints, down to the entries that stay
   pub mods_down_lem : (n : ℕ) → mods_down b s w start (skipped b s w start n) n ≡ mods (chain_at b s w start n)
   mods_down_lem zero = down_zero _ ∙ sym mods_zero
-  mods_down_lem (suc n) = go (is_qualifier (kind_on_top b s w start (suc n))) refl (mods_down_lem n)
+  mods_down_lem (suc n) = go (is_qualifier (kind_at b s w start n)) refl (mods_down_lem n)
     where
-      go : (q : Bool) → is_qualifier (kind_on_top b s w start (suc n)) ≡ q → mods_down b s w start (skipped b s w start n) n ≡ mods (chain_at b s w start n)
+      go : (q : Bool) → is_qualifier (kind_at b s w start n) ≡ q → mods_down b s w start (skipped b s w start n) n ≡ mods (chain_at b s w start n)
           → mods_down b s w start (skipped b s w start (suc n)) (suc n) ≡ mods (chain_at b s w start (suc n))
       go true h l =
           let le = skipped_le n in
           let lt : skipped b s w start n < suc n = omega arith in
           ap (λ (m : ℕ). mods_down b s w start m (suc n)) (skip_go n h)
           ∙ down_more (skipped b s w start n) n lt
-          ∙ ap (λ (x : List ℕ). qualifier (qualifier_of (kind_on_top b s w start (suc n))) ++ ascii " " ++ x) l
+          ∙ ap (λ (x : List ℕ). qualifier (qualifier_of (kind_at b s w start n)) ++ ascii " " ++ x) l
           ∙ sym (words_go n h)
       go false h l =
           let e = skip_stay n h in
@@ -264,14 +248,13 @@ module _ (b : TypeTable) (s w : List ℕ) (start : ℕ) where
     pub mods_end : k ≤ m → put_out p t ≡ put_text t₀ at (whole (mods_down b s w start m n))
     mods_end h = put_empty t p ∙ ap (λ (x : List ℕ). put_text t p (whole x)) (sym (down_end m k h)) ∙ i
 
-    pub mods_turn : (x q : ℕ) (t₁ : List ℕ) (r : ℕ) (t₂ : List ℕ) → m < k → x ≡ kind_on_top b s w start k
+    pub mods_turn : (j x q : ℕ) (t₁ : List ℕ) (r : ℕ) (t₂ : List ℕ) → k ≡ suc j → m < k → x ≡ kind_at b s w start j
         → put_out q t₁ ≡ put_text t p (whole (qualifier (qualifier_of x))) → put_out r t₂ ≡ put_text t₁ q (whole (ascii " "))
-        → put_text t₂ r (whole (mods_down b s w start m (k - 1))) ≡ put_text t₀ at (whole (mods_down b s w start m n))
+        → put_text t₂ r (whole (mods_down b s w start m j)) ≡ put_text t₀ at (whole (mods_down b s w start m n))
     unfolding join
-    mods_turn x q t₁ r t₂ h ex e₁ e₂ =
-        let z : k ≡ suc (k - 1) = omega arith in
-        let lt : m < suc (k - 1) = omega arith in
-        join_on t p (whole (qualifier (qualifier_of x) ++ ascii " ")) (whole (mods_down b s w start m (k - 1))) r t₂ (put_seq _ _ _ _ _ _ _ _ e₁ e₂)
-        ∙ ap (λ (y : ℕ). put_text t p (whole (qualifier (qualifier_of y) ++ ascii " " ++ mods_down b s w start m (k - 1)))) (ex ∙ ap (kind_on_top b s w start) z)
-        ∙ ap (λ (y : List ℕ). put_text t p (whole y)) (sym (down_more m (k - 1) lt) ∙ ap (mods_down b s w start m) (sym z))
+    mods_turn j x q t₁ r t₂ z h ex e₁ e₂ =
+        let lt : m < suc j = omega arith in
+        join_on t p (whole (qualifier (qualifier_of x) ++ ascii " ")) (whole (mods_down b s w start m j)) r t₂ (put_seq _ _ _ _ _ _ _ _ e₁ e₂)
+        ∙ ap (λ (y : ℕ). put_text t p (whole (qualifier (qualifier_of y) ++ ascii " " ++ mods_down b s w start m j))) ex
+        ∙ ap (λ (y : List ℕ). put_text t p (whole y)) (sym (down_more m j lt) ∙ ap (mods_down b s w start m) (sym z))
         ∙ i

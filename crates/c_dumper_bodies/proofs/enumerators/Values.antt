@@ -3,7 +3,8 @@ use Prim.Native.Nat.{ℕ, suc, ◌+◌, ◌-◌, ◌<◌, ◌≤◌}
 use mathlib.Core.Path.{◌≡◌, refl, ap, ap₂, ◌∙◌, sym}
 use mathlib.Core.List.{List, [], ◌∷◌, ◌++◌, append_assoc}
 use native.Mathlib.Omega.{arith}
-use borrow.Author.Tests.{lt-ltb, le-ltb, le-leb, lt-leb}
+use Rattle.std.specs.Prelude.{min, true, false, leb}
+use Rattle.std.proofs.lemmas.Bool.Decides.{nat_tests}
 use Rattle.spec_bytes.specs.text.Text.{ascii, pfx, whole, join, put_out, put_text}
 use Rattle.spec_bytes.proofs.text.TextLaws.{put_seq}
 use Rattle.spec_c_dumper.specs.rules.Types.{Enumerator, Btf as Rules}
@@ -20,29 +21,19 @@ use Rattle.spec_type_table.proofs.Frame.{enumerator_value_version}
 use Rattle.c_dumper_name_versions.specs.declared.names.versions.Name.{Name as Code}
 use Rattle.c_dumper_name_versions.specs.names.Spelling.{name_text}
 use Rattle.c_dumper_name_versions.proofs.names.Resolve.{put_value_name}
-use Rattle.c_dumper_bodies.specs.enumerators.Heads.{value_head, nth_of}
+use Rattle.c_dumper_bodies.specs.enumerators.Heads.{value_head}
 
--- ---- deeper, nth
-pub deeper_more : (lvl : ℕ) → lvl < 4294967295 → lvl + 1 ≡ deeper lvl
+-- ---- deeper, and the number of a value
+pub deeper_is : (lvl : ℕ) → lvl < 4294967296 → min (lvl + 1) 4294967295 ≡ deeper lvl
 unfolding deeper
-deeper_more lvl h = rw (lt-ltb lvl 4294967295 h, deeper)
+deeper_is lvl h = grind (arith, nat_tests)
 
-pub deeper_full : (lvl : ℕ) → 4294967295 ≤ lvl → lvl ≡ deeper lvl
-unfolding deeper
-deeper_full lvl h = rw (le-ltb lvl 4294967295 h, deeper)
+within : (n : ℕ) → min n 4294967295 ≡ elim (leb n 4294967295) [ true ↦ n | false ↦ 4294967295 ]
+within n = grind (arith, nat_tests)
 
-module _ (first k : ℕ) where
-  pub nth_in : first + k ≤ 4294967295 → first + k ≡ nth_of first k
-  unfolding nth_of
-  nth_in h = rw (le-leb (first + k) 4294967295 h, nth_of)
-
-  pub nth_past : 4294967295 < first + k → 4294967295 ≡ nth_of first k
-  unfolding nth_of
-  nth_past h = rw (lt-leb (first + k) 4294967295 h, nth_of)
-
-nth_is : (w : List ℕ) (id first j : ℕ) → first ≡ get_field w id 12 → nth_of first j ≡ enumerator_of w id j
-unfolding nth_of enumerator_of
-nth_is w id first j e = ap (λ (x : ℕ). nth_of x j) e
+number_is : (w : List ℕ) (id first j : ℕ) → first ≡ get_field w id 12 → min (first + j) 4294967295 ≡ enumerator_of w id j
+unfolding enumerator_of
+number_is w id first j e = within (first + j) ∙ ap (λ (x : ℕ). elim (leb (x + j) 4294967295) [ true ↦ x + j | false ↦ 4294967295 ]) e
 
 -- ---- emit_enumerator: the name's place and version are those of the rule
 pub head_is : (b : TypeTable) (s : List ℕ) (types e off lvl : ℕ) (n : Code) (w w' : List ℕ) (t : List ℕ) (at r : ℕ) (u : List ℕ)
@@ -94,12 +85,12 @@ module _ (b : TypeTable) (B : Rules) (str : ℕ → List ℕ) (f : ℕ → Enume
   -- the numbers of the values are as they were, and whatever writes what is left has written the whole
   pub ValuesLeft : List ℕ → ℕ → List ℕ → ℕ → Type 0
   ValuesLeft text p w k =
-      ((j : ℕ) → nth_of first j ≡ enumerator_of w id j)
+      ((j : ℕ) → min (first + j) 4294967295 ≡ enumerator_of w id j)
       × ((r : ℕ) (t u : List ℕ) → out_of r t u ≡ put_said text p (left k w) → out_of r t u ≡ put_said t₀ at (emit_values (work_naming b) B str id lvl 0 (from f 0 n) w₀))
 
   pub values_start : first ≡ get_field w₀ id 12 → ValuesLeft t₀ at w₀ 0
   unfolding ValuesLeft
-  values_start e = ((λ j. nth_is w₀ id first j e), λ r t u o. o ∙ ap (λ (m : ℕ). put_said t₀ at (emit_values (work_naming b) B str id lvl 0 (from f 0 m) w₀)) same)
+  values_start e = ((λ j. number_is w₀ id first j e), λ r t u o. o ∙ ap (λ (m : ℕ). put_said t₀ at (emit_values (work_naming b) B str id lvl 0 (from f 0 m) w₀)) same)
     where
       same : n - 0 ≡ n
       same = omega arith
@@ -118,7 +109,7 @@ module _ (b : TypeTable) (B : Rules) (str : ℕ → List ℕ) (f : ℕ → Enume
     values_end i h = i.1 p text w (put_nothing text p w ∙ ap (put_said text p) (sym (none_left h)))
 
     pub values_turn : (s : List ℕ) (e off v a : ℕ) (t₁ : List ℕ) (c : ℕ) (t₂ : List ℕ) (q : ℕ) (t₃ w' : List ℕ)
-        → ValuesLeft text p w k → k < n → e ≡ nth_of first k → str_at b s off ≡ (f k).name → v ≡ (f k).value
+        → ValuesLeft text p w k → k < n → e ≡ min (first + k) 4294967295 → str_at b s off ≡ (f k).name → v ≡ (f k).value
         → (put_out a t₁ ≡ put_text text p (whole (value_head lvl (spelled (str_at b s off) (value_version_in b.types e w).version)))) × (w' ≡ (value_version_in b.types e w).names)
         → put_out c t₂ ≡ put_text t₁ a (whole (str v)) → put_out q t₃ ≡ put_text t₂ c (whole (ascii ","))
         → ValuesLeft t₃ q w' (k + 1)

@@ -1,5 +1,5 @@
 -- A chain by two numbers: the id that it starts from, and how many entries it has. Entry k is k steps from the start.
-use Rattle.std.specs.Prelude.{ℕ, zero, suc, ◌≡◌, Bool, true, false, ◌&&◌, List, [], ◌∷◌, ◌++◌, length, get_or, ltb, leb, eqb}
+use Rattle.std.specs.Prelude.{ℕ, zero, suc, ◌≡◌, Option, Some, None, Bool, true, false, ◌&&◌, List, [], ◌∷◌, ◌++◌, length, get_or, ltb, leb, eqb}
 use Rattle.spec_bytes.specs.text.Text.{ascii}
 use Rattle.spec_c_dumper.specs.rules.Writer.{Ask, got, no}
 use Rattle.spec_c_dumper.specs.rules.Types.{Qualifier, volatile, const, restrict}
@@ -9,8 +9,7 @@ use Rattle.spec_type_table.specs.declared.types.TypeTable.{TypeTable}
 use Rattle.spec_type_table.specs.declared.types.BtfType.{BtfType as Record}
 use Rattle.spec_type_table.specs.Records.{kind_of, record_by_id}
 use Rattle.spec_type_table.specs.Table.{type_of, extra_word}
-use Rattle.c_dumper_bodies.specs.declared.chain.links.Walked.{Walked}
-use Rattle.c_dumper_bodies.specs.declared.chain.links.Walked.TheVariants.{Got, No}
+use Rattle.c_dumper_bodies.specs.declared.chain.links.Base.{Base}
 
 -- whether a kind 0 to 19 leads on: 2, 3, 9, 10, 11, 13 and 18 do
 abbrev pub leads_on : List Bool
@@ -69,9 +68,9 @@ module _ (b : TypeTable) (s : List ℕ) where
     entry_of id = entry_by id (link_of (type_of b s (record_by_id b s w id)))
 
     -- the record that comes with a base is the one of its id
-    unfoldable pub RecordIs : Walked → Type 0
-    RecordIs (Got x) = x.t ≡ record_by_id b s w x.id
-    RecordIs (No c) = Unit {0}
+    unfoldable pub RecordIs : Option Base → Type 0
+    RecordIs (Some x) = x.t ≡ record_by_id b s w x.id
+    RecordIs None = Unit {0}
 
     module _ (start : ℕ) where
       -- the id of entry k
@@ -84,15 +83,14 @@ module _ (b : TypeTable) (s : List ℕ) where
       chain_at zero = []
       chain_at (suc n) = entry_of (path_at n) ∷ chain_at n
 
-      -- what the code's answer says of the chain
-      unfoldable pub chain_is : Walked → Ask (List Entry)
-      chain_is (Got x) = got (base x.id ∷ chain_at x.n)
-      chain_is (No c) = no c
+      -- what the code's answer says of the chain: without a base it is too deep
+      unfoldable pub chain_is : Option Base → Ask (List Entry)
+      chain_is (Some x) = got (base x.id ∷ chain_at x.n)
+      chain_is None = no 12
 
-      -- the kind of the entry on top of n, or 0 where there is none
-      unfoldable pub kind_on_top : ℕ → ℕ
-      kind_on_top zero = 0
-      kind_on_top (suc n) = kind_of (record_by_id b s w (path_at n)).info
+      -- the kind of entry k
+      unfoldable pub kind_at : ℕ → ℕ
+      kind_at k = kind_of (record_by_id b s w (path_at k)).info
 
       -- how many of n entries stay when the qualifiers on top are popped
       unfoldable pub skipped : ℕ → ℕ
@@ -102,4 +100,4 @@ module _ (b : TypeTable) (s : List ℕ) where
       unfoldable pub mods_down : ℕ → ℕ → List ℕ
       mods_down m zero = []
       mods_down m (suc n) =
-          elim (ltb m (suc n)) [ true ↦ qualifier (qualifier_of (kind_on_top (suc n))) ++ ascii " " ++ mods_down m n | false ↦ [] ]
+          elim (ltb m (suc n)) [ true ↦ qualifier (qualifier_of (kind_at n)) ++ ascii " " ++ mods_down m n | false ↦ [] ]

@@ -1,5 +1,5 @@
 -- The parts of an enum's definition that the code writes by functions of their own.
-use Rattle.std.specs.Prelude.{ℕ, ◌+◌, true, false, List, ◌++◌, leb}
+use Rattle.std.specs.Prelude.{ℕ, List, ◌++◌}
 use Rattle.spec_bytes.specs.text.Text.{ascii, pfx}
 use Rattle.spec_c_dumper.specs.rules.Types.{Name}
 use Rattle.spec_c_dumper.specs.rules.Writer.{Writer, ◌⨾◌, put}
@@ -17,7 +17,3 @@ value_head lvl name = ascii "\n" ++ pfx lvl ++ name ++ ascii " = "
 -- the line end and the bracket that close the values
 unfoldable pub enum_end : ℕ → List ℕ
 enum_end lvl = ascii "\n" ++ pfx lvl ++ ascii "}"
-
--- the k-th after the first, or the largest number
-unfoldable pub nth_of : ℕ → ℕ → ℕ
-nth_of first k = elim (leb (first + k) 4294967295) [ true ↦ first + k | false ↦ 4294967295 ]

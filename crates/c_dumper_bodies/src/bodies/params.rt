@@ -12,27 +12,15 @@ pub fn shown_params(b: TypeTable, section: &[u8], params: Entries) -> Entries
     ensures { from (param_of b section.now result.at) 0 result.vlen
         ≡ shown_params (from (param_of b section.now params.at) 0 params.vlen) }
 {
-    if params.vlen != 1 {
-        return params;
+    if params.vlen == 1 && word(b, section, param_place(params, 0) + 4) == 0 {
+        return Entries { vlen: 0, ..params };
     }
-    if word(b, section, param_place(params, 0) + 4) != 0 {
-        return params;
-    }
-    Entries {
-        at: params.at,
-        vlen: 0,
-    }
+    params
 }
 
 // Whether parameter k of vlen is the last, and void.
 pub fn is_any_more(vlen: u32, k: u32, type_id: u32) -> bool
     ensures { result ≡ (leb vlen (k + 1) && eqb type_id 0) }
 {
-    if type_id != 0 {
-        return false;
-    }
-    if vlen == 0 {
-        return true;
-    }
-    vlen - 1 <= k
+    type_id == 0 && vlen.saturating_sub(1) <= k
 }

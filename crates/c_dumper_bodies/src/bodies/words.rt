@@ -59,25 +59,10 @@ pub fn put_gap(
     ensures { put_out result text.new
         ≡ put_text text.old at (whole (gap (name_text b section.now name) last_was_ptr)) }
 {
-    if last_was_ptr {
-        return at;
-    }
-    if is_blank(b, section, name) {
+    if last_was_ptr || is_blank(b, section, name) {
         return at;
     }
     put_byte(text, at, b' ')
-}
-
-pub fn put_open(text: &mut [u8], at: usize) -> usize
-    ensures { put_out result text.new ≡ put_text text.old at (whole (ascii "(")) }
-{
-    put_byte(text, at, b'(')
-}
-
-pub fn put_close(text: &mut [u8], at: usize) -> usize
-    ensures { put_out result text.new ≡ put_text text.old at (whole (ascii ")")) }
-{
-    put_byte(text, at, b')')
 }
 
 pub fn put_comma(text: &mut [u8], at: usize, k: u32) -> usize

@@ -4,9 +4,9 @@ ghost use Rattle.std.specs.Prelude.{◌≡◌, []};
 ghost use Rattle.spec_c_dumper.specs.rules.Decl.{chain_of};
 ghost use Rattle.spec_type_table.specs.Table.{btf_of};
 ghost use Rattle.c_dumper_bodies.specs.chain.Chains as chains;
-ghost use Rattle.c_dumper_bodies.specs.chain.Chains.{next_of, path_at, chain_is, RecordIs, kind_on_top};
+ghost use Rattle.c_dumper_bodies.specs.chain.Chains.{next_of, path_at, chain_is, RecordIs, kind_at};
 
-use base_bytes::refusal;
+use base_bytes::limit;
 use btf_type_table::kind;
 use btf_type_table::kind::kind_of;
 use btf_type_table::node::type_by_id;
@@ -45,30 +45,21 @@ pub struct Base {
     pub n: u32,
 }
 
-// What the walk of a chain comes to: its base, or why there is none.
-#[derive(Clone, Copy)]
-pub enum Walked {
-    Got(Base),
-    No(u32),
-}
-
-// The base of the chain from an id. A chain has 512 entries at most, its base with them, or it is refused by 12.
-pub fn chain_base(b: TypeTable, section: &[u8], work: &[u8], start: u32) -> Walked
+// The base of the chain from an id. A chain has 512 entries at most, its base with them; a longer one has none.
+pub fn chain_base(b: TypeTable, section: &[u8], work: &[u8], start: u32) -> Option<Base>
     ensures { (chain_is b section.now work.now start result
         ≡ chain_of 512 (btf_of b section.now work.now) start [])
         × RecordIs b section.now work.now result }
 {
     let mut id = start;
-    let mut n: u32 = 0;
-    while n < 512 {
+    for n in 0..limit::MOST_CALLS {
         let t = type_by_id(b, section, work, id);
         if !is_link(kind_of(t.info)) {
-            return Walked::Got(Base { id: id, t: t, n: n });
+            return Some(Base { id, t, n });
         }
         id = next_of(b, section, t);
-        n += 1;
     }
-    Walked::No(refusal::TOO_DEEP)
+    None
 }
 
 // The id of entry k.
@@ -76,22 +67,17 @@ pub fn path_at(b: TypeTable, section: &[u8], work: &[u8], start: u32, k: u32) ->
     ensures { result ≡ path_at b section.now work.now start k }
 {
     let mut id = start;
-    let mut i: u32 = 0;
-    while i < k {
+    for _ in 0..k {
         id = next_of(b, section, type_by_id(b, section, work, id));
-        i += 1;
     }
     id
 }
 
-// The kind of the entry on top of n, or 0 where there is none.
-pub fn kind_on_top(b: TypeTable, section: &[u8], work: &[u8], start: u32, n: u32) -> u32
-    ensures { result ≡ kind_on_top b section.now work.now start n }
+// The kind of entry k.
+pub fn kind_at(b: TypeTable, section: &[u8], work: &[u8], start: u32, k: u32) -> u32
+    ensures { result ≡ kind_at b section.now work.now start k }
 {
-    if n == 0 {
-        return 0;
-    }
-    let t = type_by_id(b, section, work, path_at(b, section, work, start, n - 1));
+    let t = type_by_id(b, section, work, path_at(b, section, work, start, k));
     kind_of(t.info)
 }
 

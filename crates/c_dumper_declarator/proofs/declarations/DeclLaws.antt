@@ -15,8 +15,7 @@ use Rattle.spec_c_dumper.proofs.rules.Writing.{stop_only, put_nothing, put_given
 use Rattle.spec_type_table.specs.declared.types.TypeTable.{TypeTable}
 use Rattle.spec_type_table.specs.Records.{record_by_id}
 use Rattle.c_dumper_bodies.specs.declared.chain.links.Base.{Base}
-use Rattle.c_dumper_bodies.specs.declared.chain.links.Walked.{Walked}
-use Rattle.c_dumper_bodies.specs.declared.chain.links.Walked.TheVariants.{Got, No}
+use Rattle.std.specs.Prelude.{Option, Some, None}
 use Rattle.c_dumper_name_versions.specs.names.Spelling.{name_after}
 use Rattle.c_dumper_bodies.specs.chain.Chains.{chain_at, chain_is, RecordIs, only_links}
 use Rattle.c_dumper_bodies.proofs.chain.Only.{links_left}
@@ -30,7 +29,7 @@ use Rattle.c_dumper_declarator.proofs.declarations.Keeping.{said_as, put_emit_na
 
 module _ (b : TypeTable) (s : List ℕ) where
   -- ---- emit_type_decl
-  pub decl_record : (u : List ℕ) (x : Walked) (y : Base) → RecordIs b s u x → x ≡ Got y → y.t ≡ record_by_id b s u y.id
+  pub decl_record : (u : List ℕ) (x : Option Base) (y : Base) → RecordIs b s u x → x ≡ Some y → y.t ≡ record_by_id b s u y.id
   unfolding RecordIs
   decl_record u x y p e = subst (RecordIs b s u) e p
 
@@ -38,19 +37,19 @@ module _ (b : TypeTable) (s : List ℕ) where
     pub decl_zero : left ≡ 0 → put_out r t ≡ put_text t at (cut [] 12) → out_of r t u ≡ put_said t at (emit_type_decl_once (Q b s (T b s u)) (N b s) (T b s u) left id fname lvl u)
     decl_zero e o = said_as t at (stop 12) _ u r t u (sym (decl_none (Q b s (T b s u)) (N b s) (T b s u) left id fname lvl e)) (stop_only t at 12 u r t o)
 
-    module _ (h : left ≡ 0 → ⊥) (x : Walked) (a : (chain_is b s u id x ≡ chain_of 512 (T b s u) id []) × RecordIs b s u x) where
-      pub decl_got : (y : Base) (t' u' : List ℕ) → x ≡ Got y
+    module _ (h : left ≡ 0 → ⊥) (x : Option Base) (a : (chain_is b s u id x ≡ chain_of 512 (T b s u) id []) × RecordIs b s u x) where
+      pub decl_got : (y : Base) (t' u' : List ℕ) → x ≡ Some y
           → out_of r t' u' ≡ put_said t at (emit_type_chain_once (Q b s (T b s u)) (N b s) (T b s u) (left - 1) (base y.id ∷ chain_at b s u id y.n) fname lvl u) → out_of r t' u' ≡ put_said t at (emit_type_decl_once (Q b s (T b s u)) (N b s) (T b s u) left id fname lvl u)
       unfolding chain_is
       decl_got y t' u' e o =
           said_as t at _ _ u r t' u' (sym (decl_some (Q b s (T b s u)) (N b s) (T b s u) left id fname lvl h))
           (put_given t at (λ c. emit_type_chain_once (Q b s (T b s u)) (N b s) (T b s u) (left - 1) c fname lvl) u (base y.id ∷ chain_at b s u id y.n) (chain_of 512 (T b s u) id []) r t' u' (sym a.0 ∙ ap (chain_is b s u id) e) o)
 
-      pub decl_no : (c : ℕ) → x ≡ No c → put_out r t ≡ put_text t at (cut [] c) → out_of r t u ≡ put_said t at (emit_type_decl_once (Q b s (T b s u)) (N b s) (T b s u) left id fname lvl u)
+      pub decl_no : x ≡ None → put_out r t ≡ put_text t at (cut [] 12) → out_of r t u ≡ put_said t at (emit_type_decl_once (Q b s (T b s u)) (N b s) (T b s u) left id fname lvl u)
       unfolding chain_is
-      decl_no c e o =
+      decl_no e o =
           said_as t at _ _ u r t u (sym (decl_some (Q b s (T b s u)) (N b s) (T b s u) left id fname lvl h))
-          (put_refused t at (λ c. emit_type_chain_once (Q b s (T b s u)) (N b s) (T b s u) (left - 1) c fname lvl) u c (chain_of 512 (T b s u) id []) r t u (sym a.0 ∙ ap (chain_is b s u id) e) (stop_only t at c u r t o))
+          (put_refused t at (λ c. emit_type_chain_once (Q b s (T b s u)) (N b s) (T b s u) (left - 1) c fname lvl) u 12 (chain_of 512 (T b s u) id []) r t u (sym a.0 ∙ ap (chain_is b s u id) e) (stop_only t at 12 u r t o))
 
   -- ---- emit_type_chain
   module _ (t : List ℕ) (at : ℕ) (u : List ℕ) (c : List Entry) (fname : Name) (lvl left r : ℕ) where

@@ -20,9 +20,9 @@ use Rattle.spec_type_table.specs.declared.types.BtfType.{BtfType as Record}
 use Rattle.spec_type_table.specs.Records.{kind_of, flag_of, record_by_id, entries_of}
 use Rattle.spec_type_table.specs.Table.{from, param_of, params_of, record_name, nelems_word, members_of, type_of, btf_of}
 use Rattle.c_dumper_name_versions.specs.names.Spelling.{name_after}
-use Rattle.c_dumper_bodies.specs.chain.Chains.{is_qualifier, qualifier_of, entry_of, path_at, chain_at, kind_on_top, skipped, mods_down, only_links}
+use Rattle.c_dumper_bodies.specs.chain.Chains.{is_qualifier, qualifier_of, entry_of, path_at, chain_at, kind_at, skipped, mods_down, only_links}
 use Rattle.c_dumper_bodies.proofs.chain.Only.{links_below, links_mods, links_tag}
-use Rattle.c_dumper_bodies.proofs.chain.Paths.{chain_top, no_mods_skipped, put_mods, top_some}
+use Rattle.c_dumper_bodies.proofs.chain.Paths.{chain_top, no_mods_skipped, put_mods}
 use Rattle.c_dumper_bodies.proofs.chain.Linked.{array_is, entry_star_lem, entry_array, entry_proto, entry_tag, entry_qual, qual_in}
 use Rattle.c_dumper_declarator.specs.declared.declarations.Chain.{Chain}
 use Rattle.c_dumper_bodies.specs.bodies.Pieces.{entry_left, entry_star, entry_named, gap, star_text, word_below, params_below, array_below, proto_below, param_list_below, entry_text, chain_rest, enum_text}
@@ -375,13 +375,11 @@ module _ (b : TypeTable) (s : List ℕ) where
       unfolding emit_array gap
       array_is_some = rw (chain_top b s w id n h)
 
-      top_array : is_array on_top_lem ≡ eqb (kind_on_top b s w id n) 3
-      top_array = array_is b s w (path_at b s w id (n - 1)) _ refl ∙ ap (λ (j : ℕ). eqb j 3) top_kind
-        where
-          top_kind : kind_of (record_by_id b s w (path_at b s w id (n - 1))).info ≡ kind_on_top b s w id n
-          top_kind = top_some b s w id n (path_at b s w id (n - 1)) _ _ h refl refl refl
+      top_array : is_array on_top_lem ≡ eqb (kind_at b s w id (n - 1)) 3
+      unfolding kind_at
+      top_array = array_is b s w (path_at b s w id (n - 1)) _ refl
 
-      pub array_array : (k a : ℕ) (t₁ : List ℕ) (r : ℕ) (t₂ w₂ : List ℕ) → k ≡ kind_on_top b s w id n → k ≡ 3
+      pub array_array : (k a : ℕ) (t₁ : List ℕ) (r : ℕ) (t₂ w₂ : List ℕ) → k ≡ kind_at b s w id (n - 1) → k ≡ 3
           → put_out a t₁ ≡ put_text txt at (whole (gap fname p)) → out_of r t₂ w₂ ≡ put_said t₁ a (inside w)
           → out_of r t₂ w₂ ≡ put_said txt at (array_below (Q b s (T b s w)) (N b s) (T b s w) below fname lvl p (chain_at b s w id n) w)
       unfolding parens
@@ -390,13 +388,13 @@ module _ (b : TypeTable) (s : List ℕ) where
           said_as txt at _ _ w r t₂ w₂ (sym (array_is_some ∙ ap (λ (x : Bool). put (gap fname p) ⨾ parens (not x) inside) q))
           (also txt at _ _ w a t₁ r t₂ w₂ o₁ o₂)
 
-      pub array_other : (k a : ℕ) (t₁ : List ℕ) (c : ℕ) (t₂ : List ℕ) (e : ℕ) (t₃ w₃ : List ℕ) (r : ℕ) (t₄ : List ℕ) → k ≡ kind_on_top b s w id n → (k ≡ 3 → ⊥)
+      pub array_other : (k a : ℕ) (t₁ : List ℕ) (c : ℕ) (t₂ : List ℕ) (e : ℕ) (t₃ w₃ : List ℕ) (r : ℕ) (t₄ : List ℕ) → k ≡ kind_at b s w id (n - 1) → (k ≡ 3 → ⊥)
           → put_out a t₁ ≡ put_text txt at (whole (gap fname p)) → put_out c t₂ ≡ put_text t₁ a (whole (ascii "("))
           → out_of e t₃ w₃ ≡ put_said t₂ c (inside w) → put_out r t₄ ≡ put_text t₃ e (whole (ascii ")"))
           → out_of r t₄ w₃ ≡ put_said txt at (array_below (Q b s (T b s w)) (N b s) (T b s w) below fname lvl p (chain_at b s w id n) w)
       unfolding parens
       array_other k a t₁ c t₂ e t₃ w₃ r t₄ ek g o₁ o₂ o₃ o₄ =
-          let q : is_array on_top_lem ≡ false = top_array ∙ ne_eqb (kind_on_top b s w id n) 3 (λ z. g (ek ∙ z)) in
+          let q : is_array on_top_lem ≡ false = top_array ∙ ne_eqb (kind_at b s w id (n - 1)) 3 (λ z. g (ek ∙ z)) in
           said_as txt at _ _ w r t₄ w₃ (sym (array_is_some ∙ ap (λ (x : Bool). put (gap fname p) ⨾ parens (not x) inside) q))
           (also txt at _ _ w a t₁ r t₄ w₃ o₁ (also t₁ a _ _ w c t₂ r t₄ w₃ o₂ (put_then t₂ c _ _ w e t₃ w₃ r t₄ w₃ o₃ (put_only t₃ e _ w₃ r t₄ o₄))))
 

@@ -210,11 +210,13 @@ module _ (b : TypeTable) (s : List ℕ) where
     unfolding emit_members_once
     members_none k offset B h = ap (members_below (Q b s B) (N b s) B below id tail lvl packed k offset) (from_none f k vlen h)
 
-    pub members_end : (t₀ : List ℕ) (at₀ : ℕ) (s₀ : Said (List ℕ)) (t : List ℕ) (p offset k : ℕ) (w : List ℕ) (r : ℕ) (t' : List ℕ) → vlen ≤ k
-        → Leads b s t₀ at₀ s₀ t p (members_left k offset w) → put_out r t' ≡ put_text t p (whole (tail_text lvl k (tail offset))) → out_of r t' w ≡ put_said t₀ at₀ s₀
+    pub members_end : (t₀ : List ℕ) (at₀ : ℕ) (s₀ : Said (List ℕ)) (t : List ℕ) (p offset k : ℕ) (w : List ℕ) (r : ℕ) (t' : List ℕ) → k ≡ vlen
+        → Leads b s t₀ at₀ s₀ t p (members_left k offset w) → put_out r t' ≡ put_text t p (whole (tail_text lvl vlen (tail offset))) → out_of r t' w ≡ put_said t₀ at₀ s₀
     unfolding members_left
-    members_end t₀ at₀ s₀ t p offset k w r t' h l o =
-        leads_end b s t₀ at₀ s₀ t p _ r t' w l (said_as t p (put (tail_text lvl k (tail offset))) _ w r t' w (sym (members_none k offset (T b s w) h)) (put_only t p _ w r t' o))
+    members_end t₀ at₀ s₀ t p offset k w r t' e l o =
+        let h : vlen ≤ k = omega arith in
+        leads_end b s t₀ at₀ s₀ t p _ r t' w l (said_as t p (put (tail_text lvl vlen (tail offset))) _ w r t' w
+        (ap (λ (j : ℕ). put {U = List ℕ} (tail_text lvl j (tail offset))) (sym e) ∙ sym (members_none k offset (T b s w) h)) (put_only t p _ w r t' o))
 
     pub members_whole : (txt : List ℕ) (at : ℕ) (w : List ℕ) (n r : ℕ) (t' w' : List ℕ) → vlen ≡ n → out_of r t' w' ≡ put_said txt at (members_left 0 0 w)
         → out_of r t' w' ≡ put_said txt at (members_below (Q b s (T b s w)) (N b s) (T b s w) below id tail lvl packed 0 0 (from f 0 n) w)

@@ -90,16 +90,14 @@ fn emit_members(
         (members_of b section.now t) work.old) }
 {
     let vlen = vlen_of(t.info);
-    let mut s = Spot { at: at, offset: 0 };
-    let mut k: u32 = 0;
-    while k < vlen {
+    let mut s = Spot { at, offset: 0 };
+    for k in 0..vlen {
         if stopped(text, s.at) {
             return s.at;
         }
         s = emit_member(b, section, work, text, s, id, t, k, packed, lvl, below);
-        k += 1;
     }
-    emit_tail_padding(b, text, s.at, t, k, s.offset, lvl)
+    emit_tail_padding(b, text, s.at, t, vlen, s.offset, lvl)
 }
 
 #[cycle(declarator)]

@@ -3,6 +3,7 @@ use Prim.Native.Nat.{ℕ, ◌+◌, ◌-◌, ◌*◌, ◌<◌, ◌≤◌}
 use mathlib.Core.Path.{◌≡◌, refl, ap, ◌∙◌, sym, subst}
 use mathlib.Core.List.{List}
 use mathlib.Core.Bool.{Bool, true, false, not, ◌&&◌, ◌||◌, true≢false}
+use mathlib.Core.Logic.{◌⊎◌, inl, inr}
 use native.Mathlib.Omega.{arith}
 use lib.Dec.{eqb}
 use Rattle.spec_c_dumper.specs.rules.Order.{is_comp}
@@ -30,11 +31,11 @@ use Rattle.c_dumper_emit.proofs.entries.Laws.{with_n, obind_then, obind_wrote, o
 use Rattle.c_dumper_emit.proofs.entries.Walk.{once_fwd, once_alias, zero_is}
 
 -- ---- the measures: a call's is below its caller's
-pub to_composite_members : (l t : ℕ) → 4 * l + 2 ≡ t → 4 * l + 1 < t
-to_composite_members l t e = omega arith
+pub to_composite_entries : (l t : ℕ) → 4 * l + 2 ≡ t → 4 * l + 1 < t
+to_composite_entries l t e = omega arith
 
-pub to_new_params : (l t : ℕ) → 4 * l + 3 ≡ t → 4 * l + 1 < t
-to_new_params l t e = omega arith
+pub to_new_entries : (l t : ℕ) → 4 * l + 3 ≡ t → 4 * l + 1 < t
+to_new_entries l t e = omega arith
 
 pub to_new_composite : (l t : ℕ) → 4 * l + 3 ≡ t → 4 * l + 2 < t
 to_new_composite l t e = omega arith
@@ -95,25 +96,19 @@ module _ (b : TypeTable) (s : List ℕ) (lent : Lent) (why : ℕ → Entry) (n :
   by_node c e k ex h = ex ∙ obind_same (noted_out n p tx w li) k (λ m. new_n b Bn lent why left cont m id)
       (λ m. h m ∙ ap (begin (mach_n b Bn lent why cont) (table_of Bn) rec m id cont (is_zero cont)) (ap (node_is b s) (sym e) ∙ sym (node_is_lem b s w id t et nd en)))
 
-  pub new_ignored : nd ≡ code.Ignored → x ≡ noted_out n p tx w li → Goal
+  pub new_none : (nd ≡ code.Ignored) ⊎ (nd ≡ code.Plain) → x ≡ noted_out n p tx w li → Goal
   unfolding node_is begin
-  new_ignored e ex = by_node code.Ignored e (λ m. wrote m) (ex ∙ sym (obind_wrote (noted_out n p tx w li))) (λ m. refl)
-
-  pub new_plain : nd ≡ code.Plain → x ≡ noted_out n p tx w li → Goal
-  unfolding node_is begin
-  new_plain e ex = by_node code.Plain e (λ m. wrote m) (ex ∙ sym (obind_wrote (noted_out n p tx w li))) (λ m. refl)
+  new_none (inl e) ex = by_node code.Ignored e (λ m. wrote m) (ex ∙ sym (obind_wrote (noted_out n p tx w li))) (λ m. refl)
+  new_none (inr e) ex = by_node code.Plain e (λ m. wrote m) (ex ∙ sym (obind_wrote (noted_out n p tx w li))) (λ m. refl)
 
   pub new_listed : (fwd : Bool) → nd ≡ code.Listed fwd → x ≡ obind (noted_out n p tx w li) (λ m. leaf_n b Bn lent why fwd cont m id) → Goal
   unfolding node_is begin leaf_n
   new_listed fwd e ex = by_node (code.Listed fwd) e (λ m. leaf_n b Bn lent why fwd cont m id) ex (λ m. refl)
 
-  pub new_through : (a : Bool) (y : ℕ) → nd ≡ code.Through a y → x ≡ obind (noted_out n p tx w li) (λ m. emit_n b Bn lent why left cont m y) → Goal
+  pub new_on : (y : ℕ) → ((a : Bool) × (nd ≡ code.Through a y)) ⊎ (nd ≡ code.Ptr y) → x ≡ obind (noted_out n p tx w li) (λ m. emit_n b Bn lent why left cont m y) → Goal
   unfolding node_is begin emit_n
-  new_through a y e ex = by_node (code.Through a y) e (λ m. emit_n b Bn lent why left cont m y) ex (λ m. refl)
-
-  pub new_ptr : (y : ℕ) → nd ≡ code.Ptr y → x ≡ obind (noted_out n p tx w li) (λ m. emit_n b Bn lent why left cont m y) → Goal
-  unfolding node_is begin emit_n
-  new_ptr y e ex = by_node (code.Ptr y) e (λ m. emit_n b Bn lent why left cont m y) ex (λ m. refl)
+  new_on y (inl (a, e)) ex = by_node (code.Through a y) e (λ m. emit_n b Bn lent why left cont m y) ex (λ m. refl)
+  new_on y (inr e) ex = by_node (code.Ptr y) e (λ m. emit_n b Bn lent why left cont m y) ex (λ m. refl)
 
   -- the node of a composite has the members of its record
   comp_is : (es : Entries) → nd ≡ code.Composite es → node_is b s (code.Composite (entries_of t)) ≡ node_of (type_of b s t)

@@ -15,11 +15,9 @@ use Rattle.spec_c_dumper.specs.alignment_once.Writers.{definition_once, forward_
 use Rattle.btf_layout.specs.asked.Asked.{work_asks}
 use Rattle.spec_type_table.specs.declared.types.TypeTable.{TypeTable}
 use Rattle.spec_type_table.specs.declared.types.BtfType.{BtfType as Record}
-use Rattle.spec_type_table.specs.declared.types.Entries.{Entries}
 use Rattle.spec_type_table.specs.Cells.{get_field, put_field}
-use Rattle.spec_type_table.specs.Records.{kind_of, section_word, member_at, param_at, record_by_id}
+use Rattle.spec_type_table.specs.Records.{kind_of, record_by_id}
 use Rattle.spec_type_table.specs.Table.{from, members_of, type_of, btf_of, work_naming}
-use Rattle.spec_type_table.specs.Nodes.{member_ids, param_ids}
 use Rattle.spec_type_table.proofs.KindLaws.{by_kind, type_0, type_1, type_2, type_3, type_4, type_5, type_6, type_7, type_8, type_9, type_10, type_11, type_12, type_13, type_14, type_15, type_16, type_17, type_18, type_19, type_none}
 use Rattle.c_dumper_dependency_order.specs.order_state.Work.{mark_of}
 use Rattle.c_dumper_dependency_order.proofs.order_state.Laws.{is_done_lem, is_busy, is_new, type_at, node_at, named_at}
@@ -276,7 +274,7 @@ module _ (b : TypeTable) (s : List ℕ) (lent : Lent) (why : ℕ → Entry) (n :
       work_last n p tx w li (λ u. put_field u id 13 2) w₂ ew
       ∙ obind_same (noted_out n p tx w li) (λ m. wrote (with_n m (put_field m.mach.work id 13 2))) Leaf (λ m. ap (λ (g : Bool). leaf (mach_n b (btf_of b s w) lent why cont) (table_of (btf_of b s w)) g id m) (shown_is false f))
 
--- ---- emit_members, emit_params, emit_listed: what is left is the whole
+-- ---- emit_entries, emit_ordered: what is left is the whole
 pub record Rest (b : TypeTable) (s : List ℕ) (lent : Lent) (why : ℕ → Entry) (w₀ : List ℕ) (left cont : ℕ) (id : ℕ → ℕ) (n : ℕ) (p₀ : Pen) (tx₀ l₀ : List ℕ) (vlen : ℕ) (p : Pen) (tx w li : List ℕ) (k : ℕ) : Type 0 where
   pub whole : obind (noted_out n p₀ tx₀ w₀ l₀) (λ m. eeach (emit_n b (btf_of b s w₀) lent why left cont) (from id 0 vlen) m) ≡ obind (noted_out n p tx w li) (λ m. eeach (emit_n b (btf_of b s w₀) lent why left cont) (from id k (vlen - k)) m)
   pub table : Stays (btf_of b s) w₀ (noted_out n p tx w li)
@@ -312,14 +310,3 @@ module _ (b : TypeTable) (s : List ℕ) (lent : Lent) (why : ℕ → Entry) (w�
     pub rest_end : vlen ≤ k → noted_out n p tx w li ≡ obind (noted_out n p₀ tx₀ w₀ l₀) (λ m. eeach (emit_n b (btf_of b s w₀) lent why left cont) (from id 0 vlen) m)
     unfolding from eeach
     rest_end h = let d : vlen - k ≡ 0 = omega arith in sym (inv.whole ∙ ap (λ (i : ℕ). obind (noted_out n p tx w li) (λ m. eeach (emit_n b (btf_of b s w₀) lent why left cont) (from id k i) m)) d ∙ obind_wrote (noted_out n p tx w li))
-
-module _ (b : TypeTable) (s : List ℕ) (lent : Lent) (why : ℕ → Entry) (w₀ : List ℕ) (left cont : ℕ) (n : ℕ) (p₀ : Pen) (tx₀ l₀ : List ℕ) (es : Entries) (p : Pen) (tx w li : List ℕ) (k : ℕ) where
-  pub params_end : Rest b s lent why w₀ left cont (λ i. section_word b s (param_at es.at i + 4)) n p₀ tx₀ l₀ es.vlen p tx w li k → es.vlen ≤ k
-      → noted_out n p tx w li ≡ obind (noted_out n p₀ tx₀ w₀ l₀) (λ m. eeach (emit_n b (btf_of b s w₀) lent why left cont) (param_ids b s es) m)
-  unfolding param_ids
-  params_end inv h = rest_end b s lent why w₀ left cont (λ i. section_word b s (param_at es.at i + 4)) n p₀ tx₀ l₀ es.vlen p tx w li k inv h
-
-  pub members_end : Rest b s lent why w₀ left cont (λ i. section_word b s (member_at es.at i + 4)) n p₀ tx₀ l₀ es.vlen p tx w li k → es.vlen ≤ k
-      → noted_out n p tx w li ≡ obind (noted_out n p₀ tx₀ w₀ l₀) (λ m. eeach (emit_n b (btf_of b s w₀) lent why left cont) (member_ids b s es) m)
-  unfolding member_ids
-  members_end inv h = rest_end b s lent why w₀ left cont (λ i. section_word b s (member_at es.at i + 4)) n p₀ tx₀ l₀ es.vlen p tx w li k inv h

@@ -1,8 +1,7 @@
-use Rattle.c_dumper_bodies.proofs.enumerators.Values.{deeper_more, deeper_full}
+use Rattle.c_dumper_bodies.proofs.enumerators.Values.{deeper_is}
+use mathlib.Core.Path.{◌∙◌}
+use native.Mathlib.Omega.{arith}
 use Rattle.c_dumper_bodies.proofs.enumerators.deeper.Goals as goal
 
-pub returns-then-lvl-lt-LARGEST : goal.returns-then-lvl-lt-LARGEST
-returns-then-lvl-lt-LARGEST c = deeper_more _ c.if-lvl-lt-LARGEST.true
-
-pub returns-else-lvl-lt-LARGEST : goal.returns-else-lvl-lt-LARGEST
-returns-else-lvl-lt-LARGEST c = deeper_full _ c.if-lvl-lt-LARGEST.false
+pub returns : goal.returns
+returns c = c.saturating_add.ensures ∙ deeper_is _ (omega arith)

@@ -8,25 +8,21 @@ pub loop-k-init : goal.loop-k-init
 loop-k-init c = (
   refl,
   refl,
-  omega arith,
-  omega arith,
   place_first _ _ _ c.member_place-place.ensures,
   values_start c.args.b _ _ _ _ _ _ _ _ _ _ c.get_field-first.ensures,
 )
 
 pub overflow_add-place : goal.overflow_add-place
-overflow_add-place c = omega (arith, place_low _ _ _ _ _ c.loop-k.invariant.4 c.value_size-size.ensures, c.entries_of-values.type_inv)
+overflow_add-place c = omega (arith, place_low _ _ _ _ _ c.loop-k.invariant.2 c.value_size-size.ensures, c.entries_of-values.type_inv)
 
 pub loop-k-preserved : goal.loop-k-preserved
 loop-k-preserved c = (
   c.put_byte-p.auto.text ∙ c.emit_value-c.auto.text ∙ c.emit_enumerator-a.auto.text ∙ c.loop-k.invariant.0,
   c.emit_enumerator-a.auto.work ∙ c.loop-k.invariant.1,
-  omega arith,
-  c.loop-k.invariant.3,
-  place_next _ _ _ _ _ c.loop-k.invariant.4 c.value_size-size.ensures,
-  values_turn c.args.b _ _ _ _ _ _ _ _ _ _ _ _ _ _ _ _ _ _ _ _ _ _ _ _ _ c.loop-k.invariant.5 c.loop-k-test.true c.nth.ensures
-      (value_name c.args.b _ _ _ _ _ _ c.loop-k.invariant.4 c.word-name_off.ensures) refl c.emit_enumerator-a.ensures c.emit_value-c.ensures c.put_byte-p.ensures,
+  place_next _ _ _ _ _ c.loop-k.invariant.2 c.value_size-size.ensures,
+  values_turn c.args.b _ _ _ _ _ _ _ _ _ _ _ _ _ _ _ _ _ _ _ _ _ _ _ _ _ c.loop-k.invariant.3 c.loop-k-test.true c.saturating_add-e.ensures
+      (value_name c.args.b _ _ _ _ _ _ c.loop-k.invariant.2 c.word-name_off.ensures) refl c.emit_enumerator-a.ensures c.emit_value-c.ensures c.put_byte-p.ensures,
 )
 
 pub returns : goal.returns
-returns c = values_end c.args.b _ _ _ _ _ _ _ _ _ _ _ _ _ _ c.loop-k.invariant.5 c.loop-k-test.false ∙ values_same c.args.b _ _ c.args.t _ _ _ _ _ _ _ _ c.entries_of-values.ensures c.is_wide-wide.ensures c.kind_flag_of-is_signed.ensures
+returns c = values_end c.args.b _ _ _ _ _ _ _ _ _ _ _ _ _ _ c.loop-k.invariant.3 c.loop-k-test.false ∙ values_same c.args.b _ _ c.args.t _ _ _ _ _ _ _ _ c.entries_of-values.ensures c.is_wide-wide.ensures c.kind_flag_of-is_signed.ensures

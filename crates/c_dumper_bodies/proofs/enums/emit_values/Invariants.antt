@@ -3,11 +3,7 @@ use Rattle.c_dumper_bodies.specs.enums.Widths.{value_text, enumerator_at, value_
 use Rattle.spec_type_table.specs.Table.{btf_of}
 use lib.ListN.{length}
 use mathlib.Core.Path.{◌≡◌}
-use Prim.Native.Nat.{◌≤◌, ◌-◌, ◌<◌}
 use Rattle.c_dumper_bodies.proofs.enums.emit_values.Given as goal
 
 abbrev pub invariant-loop-k : goal.invariant-loop-k
-invariant-loop-k l = (length l.text ≡ length l.initial.text) × (length l.work ≡ length l.initial.work) × (l.k ≤ l.vlen) × (l.vlen < 4294967296) × (l.place ≡ value_at l.wide l.values.at l.k) × ValuesLeft l.b (btf_of l.b l.section l.initial.work) (value_text l.wide l.is_signed) (enumerator_at l.wide l.b l.section l.values.at) l.id l.lvl l.vlen l.first l.initial.text l.at l.initial.work l.text l.p l.work l.k
-
-abbrev pub decreases-loop-k : goal.decreases-loop-k
-decreases-loop-k l = l.vlen - l.k
+invariant-loop-k l = (length l.text ≡ length l.initial.text) × (length l.work ≡ length l.initial.work) × (l.place ≡ value_at l.wide l.values.at l.k) × ValuesLeft l.b (btf_of l.b l.section l.initial.work) (value_text l.wide l.is_signed) (enumerator_at l.wide l.b l.section l.values.at) l.id l.lvl l.values.vlen l.first l.initial.text l.at l.initial.work l.text l.p l.work l.k

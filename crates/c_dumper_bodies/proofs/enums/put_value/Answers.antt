@@ -1,8 +1,8 @@
 use Rattle.c_dumper_bodies.proofs.enums.Numbers.{put_signed, put_plain}
 use Rattle.c_dumper_bodies.proofs.enums.put_value.Goals as goal
 
-pub returns-then-has_sign : goal.returns-then-has_sign
-returns-then-has_sign c = put_signed _ _ _ _ _ _ _ c.if-has_sign.true (record { sfits = c.as_i32.type_inv }) c.as_i32.ensures c.put_i32.ensures
+pub returns-then-is_signed : goal.returns-then-is_signed
+returns-then-is_signed c = put_signed _ _ _ _ _ _ _ c.if-is_signed.true (record { sfits = c.as_i32.type_inv }) c.as_i32.ensures c.put_i32.ensures
 
 pub returns : goal.returns
-returns c = put_plain _ _ _ _ _ _ c.if-has_sign.false c.put_decimal.ensures
+returns c = put_plain _ _ _ _ _ _ c.if-is_signed.false c.put_decimal.ensures

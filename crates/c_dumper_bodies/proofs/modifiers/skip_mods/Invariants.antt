@@ -1,11 +1,7 @@
 use Rattle.c_dumper_bodies.specs.chain.Chains.{chain_at}
 use Rattle.spec_c_dumper.specs.rules.Decl.{no_mods}
 use mathlib.Core.Path.{◌≡◌}
-use Prim.Native.Nat.{◌≤◌}
 use Rattle.c_dumper_bodies.proofs.modifiers.skip_mods.Given as goal
 
 abbrev pub invariant-loop-k : goal.invariant-loop-k
-invariant-loop-k l = (l.k ≤ l.n) × (no_mods (chain_at l.b l.section l.work l.start l.k) ≡ no_mods (chain_at l.b l.section l.work l.start l.n))
-
-abbrev pub decreases-loop-k : goal.decreases-loop-k
-decreases-loop-k l = l.k
+invariant-loop-k l = no_mods (chain_at l.b l.section l.work l.start l.k) ≡ no_mods (chain_at l.b l.section l.work l.start l.n)

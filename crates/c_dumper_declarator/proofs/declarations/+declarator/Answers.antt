@@ -1,4 +1,3 @@
-use Rattle.std.proofs.Common.{rules}
 use Rattle.c_dumper_bodies.proofs.chain.Only.{links_chain}
 use mathlib.Core.Path.{refl, ◌∙◌, sym}
 use mathlib.Core.Logic.{inl, inr}
@@ -19,14 +18,14 @@ emit_array-returns-then-n-eq0 t c = entries.array_name _ _ _ _ _ _ _ _ _ _ _ _ _
 pub emit_array-emit_type_chain-requires : goal.emit_array-emit_type_chain-requires
 emit_array-emit_type_chain-requires t c = (omega arith, c.requires)
 
-pub emit_array-returns-then-kind_on_top-eq-ARRAY : goal.emit_array-returns-then-kind_on_top-eq-ARRAY
-emit_array-returns-then-kind_on_top-eq-ARRAY t c = entries.array_array _ _ _ _ _ _ _ _ _ _ _ c.if-n-eq0.false _ _ _ _ _ _ c.kind_on_top.ensures c.if-kind_on_top-eq-ARRAY.true c.put_gap-a.ensures c.emit_type_chain.ensures
+pub emit_array-returns-then-kind_at-eq-ARRAY : goal.emit_array-returns-then-kind_at-eq-ARRAY
+emit_array-returns-then-kind_at-eq-ARRAY t c = entries.array_array _ _ _ _ _ _ _ _ _ _ _ c.if-n-eq0.false _ _ _ _ _ _ c.kind_at.ensures c.if-kind_at-eq-ARRAY.true c.put_gap-a.ensures c.emit_type_chain.ensures
 
 pub emit_array-emit_type_chain-e-requires : goal.emit_array-emit_type_chain-e-requires
 emit_array-emit_type_chain-e-requires t c = (omega arith, c.requires)
 
 pub emit_array-returns : goal.emit_array-returns
-emit_array-returns t c = entries.array_other _ _ _ _ _ _ _ _ _ _ _ c.if-n-eq0.false _ _ _ _ _ _ _ _ _ _ c.kind_on_top.ensures c.if-kind_on_top-eq-ARRAY.false c.put_gap-a.ensures c.put_open-c.ensures c.emit_type_chain-e.ensures c.put_close.ensures
+emit_array-returns t c = entries.array_other _ _ _ _ _ _ _ _ _ _ _ c.if-n-eq0.false _ _ _ _ _ _ _ _ _ _ c.kind_at.ensures c.if-kind_at-eq-ARRAY.false c.put_gap-a.ensures c.put_byte-c.ensures c.emit_type_chain-e.ensures c.put_byte.ensures
 
 pub emit_base-returns-in-1 : goal.emit_base-returns-in-1
 emit_base-returns-in-1 t c = entries.word_name_lem _ _ _ _ _ _ _ _ c.kind_of.ensures _ _ _ _ _ _ c.in-1.is (put_only _ _ _ _ _ _ c.put_str.ensures)
@@ -104,7 +103,7 @@ pub emit_function-returns : goal.emit_function-returns
 emit_function-returns t c = entries.function_put _ _ _ _ _ _ _ _ _ _ _ _ _ _ _ _ _ _ _ _ c.args.t _ c.skip_mods-m.ensures.0 c.entries_of.ensures c.emit_mods-a.ensures c.emit_proto-f.ensures c.emit_params.ensures
 
 pub emit_links-loop-c-init : goal.emit_links-loop-c-init
-emit_links-loop-c-init t c = (leads_start _ _ _ _ _, chains.clear_goes_on _ _ _ _ _ _ c.goes_on-c.ensures, chains.links_start _ _ _ _ _ _ _ _ c.goes_on-c.ensures c.requires, refl, refl)
+emit_links-loop-c-init t c = (leads_start _ _ _ _ _, chains.clear_goes_on _ _ _ _ _ _ c.goes_on-c.ensures, chains.links_start _ _ _ _ _ _ _ _ c.goes_on-c.ensures c.requires)
 
 pub emit_links-emit_entry-c-requires : goal.emit_links-emit_entry-c-requires
 emit_links-emit_entry-c-requires t c = (omega arith, (c.loop-c-test.true, c.loop-c.invariant.2))
@@ -116,7 +115,7 @@ pub emit_links-loop-c-smaller : goal.emit_links-loop-c-smaller
 emit_links-loop-c-smaller t c = let h = c.emit_entry-c.ensures.4 in omega arith
 
 pub emit_links-loop-c-preserved : goal.emit_links-loop-c-preserved
-emit_links-loop-c-preserved t c = (chains.chain_again _ _ _ _ _ _ _ _ _ _ _ _ _ _ _ c.loop-c-test.true c.loop-c.invariant.1 c.loop-c.invariant.0 c.emit_entry-c.ensures, chains.chain_clear _ _ _ _ _ _ c.loop-c.c _ _ _ _ _ c.emit_entry-c.ensures, chains.chain_links _ _ _ _ _ _ c.loop-c.c _ _ _ _ _ c.emit_entry-c.ensures (sym c.stopped.ensures ∙ c.if-stopped.false) c.loop-c.invariant.2, search rules, search rules)
+emit_links-loop-c-preserved t c = (chains.chain_again _ _ _ _ _ _ _ _ _ _ _ _ _ _ _ c.loop-c-test.true c.loop-c.invariant.1 c.loop-c.invariant.0 c.emit_entry-c.ensures, chains.chain_clear _ _ _ _ _ _ c.loop-c.c _ _ _ _ _ c.emit_entry-c.ensures, chains.chain_links _ _ _ _ _ _ c.loop-c.c _ _ _ _ _ c.emit_entry-c.ensures (sym c.stopped.ensures ∙ c.if-stopped.false) c.loop-c.invariant.2)
 
 pub emit_links-returns-then-c : goal.emit_links-returns-then-c
 emit_links-returns-then-c t c = chains.links_whole _ _ _ _ _ _ _ _ _ _ _ _ _ _ _ c.goes_on-c.ensures (chains.chain_stands _ _ _ _ _ _ _ _ _ _ _ _ c.loop-c.invariant.0 c.if-c.true)
@@ -131,16 +130,16 @@ pub emit_param-returns : goal.emit_param-returns
 emit_param-returns t c = members.param_decl _ _ _ _ _ _ _ _ _ _ _ _ c.param_place-p.ensures c.word-type_id.ensures _ c.is_any_more.ensures _ _ c.put_comma-a.ensures _ _ _ _ _ c.if-is_any_more.false c.word.ensures c.bare.ensures c.emit_type_decl.ensures
 
 pub emit_params-loop-k-init : goal.emit_params-loop-k-init
-emit_params-loop-k-init t c = (leads_start _ _ _ _ _, omega arith, omega arith, refl, refl)
+emit_params-loop-k-init t c = leads_start _ _ _ _ _
 
 pub emit_params-returns-then-stopped : goal.emit_params-returns-then-stopped
-emit_params-returns-then-stopped t c = members.params_whole _ _ _ _ _ _ _ _ _ _ _ _ _ _ _ c.shown_params-shown.ensures c.put_open-p.ensures (leads_end _ _ _ _ _ _ _ _ _ _ _ c.loop-k.invariant.0 (said_stopped _ _ _ _ (sym c.stopped.ensures ∙ c.if-stopped.true)))
+emit_params-returns-then-stopped t c = members.params_whole _ _ _ _ _ _ _ _ _ _ _ _ _ _ _ c.shown_params-shown.ensures c.put_byte-p.ensures (leads_end _ _ _ _ _ _ _ _ _ _ _ c.loop-k.invariant (said_stopped _ _ _ _ (sym c.stopped.ensures ∙ c.if-stopped.true)))
 
 pub emit_params-loop-k-preserved : goal.emit_params-loop-k-preserved
-emit_params-loop-k-preserved t c = (members.params_again _ _ _ _ _ _ _ _ _ _ _ _ _ _ _ _ c.loop-k-test.true c.loop-k.invariant.0 c.emit_param-p.ensures, omega arith, c.loop-k.invariant.2, search rules, search rules)
+emit_params-loop-k-preserved t c = members.params_again _ _ _ _ _ _ _ _ _ _ _ _ _ _ _ _ c.loop-k-test.true c.loop-k.invariant c.emit_param-p.ensures
 
 pub emit_params-returns : goal.emit_params-returns
-emit_params-returns t c = members.params_whole _ _ _ _ _ _ _ _ _ _ _ _ _ _ _ c.shown_params-shown.ensures c.put_open-p.ensures (members.params_end _ _ _ _ _ _ _ _ _ _ _ _ _ _ _ c.loop-k-test.false c.loop-k.invariant.0 c.put_close.ensures)
+emit_params-returns t c = members.params_whole _ _ _ _ _ _ _ _ _ _ _ _ _ _ _ c.shown_params-shown.ensures c.put_byte-p.ensures (members.params_end _ _ _ _ _ _ _ _ _ _ _ _ _ _ _ c.loop-k-test.false c.loop-k.invariant c.put_byte.ensures)
 
 pub emit_proto-returns-then-n-eq0 : goal.emit_proto-returns-then-n-eq0
 emit_proto-returns-then-n-eq0 t c = entries.proto_name _ _ _ _ _ _ _ _ _ _ _ _ _ c.if-n-eq0.true c.emit_name.ensures
@@ -149,7 +148,7 @@ pub emit_proto-emit_type_chain-c-requires : goal.emit_proto-emit_type_chain-c-re
 emit_proto-emit_type_chain-c-requires t c = (omega arith, c.requires)
 
 pub emit_proto-returns : goal.emit_proto-returns
-emit_proto-returns t c = entries.proto_some _ _ _ _ _ _ _ _ _ _ _ c.if-n-eq0.false _ _ _ _ _ _ _ c.put_two-a.ensures c.emit_type_chain-c.ensures c.put_close.ensures
+emit_proto-returns t c = entries.proto_some _ _ _ _ _ _ _ _ _ _ _ c.if-n-eq0.false _ _ _ _ _ _ _ c.put_two-a.ensures c.emit_type_chain-c.ensures c.put_byte.ensures
 
 pub emit_type_chain-returns-then-left-eq0 : goal.emit_type_chain-returns-then-left-eq0
 emit_type_chain-returns-then-left-eq0 t c = chains.chain_zero _ _ _ _ _ _ _ _ _ _ c.if-left-eq0.true c.stop.ensures
@@ -170,13 +169,13 @@ pub emit_type_decl-returns-then-stopped : goal.emit_type_decl-returns-then-stopp
 emit_type_decl-returns-then-stopped t c = said_stopped _ _ _ _ (sym c.stopped.ensures ∙ c.if-stopped.true)
 
 pub emit_type_decl-emit_based-requires : goal.emit_type_decl-emit_based-requires
-emit_type_decl-emit_based-requires t c = (omega arith, (chains.decl_record _ _ _ _ _ c.chain_base.ensures.1 c.in-Got.is, links_chain _ _ _ _ _ _ c.chain_base.ensures.0 c.in-Got.is))
+emit_type_decl-emit_based-requires t c = (omega arith, (chains.decl_record _ _ _ _ _ c.chain_base.ensures.1 c.in-Some.is, links_chain _ _ _ _ _ _ c.chain_base.ensures.0 c.in-Some.is))
 
-pub emit_type_decl-returns-in-Got : goal.emit_type_decl-returns-in-Got
-emit_type_decl-returns-in-Got t c = chains.decl_got _ _ _ _ _ _ _ _ _ _ c.if-left-eq0.false _ c.chain_base.ensures _ _ _ c.in-Got.is c.emit_based.ensures
+pub emit_type_decl-returns-in-Some : goal.emit_type_decl-returns-in-Some
+emit_type_decl-returns-in-Some t c = chains.decl_got _ _ _ _ _ _ _ _ _ _ c.if-left-eq0.false _ c.chain_base.ensures _ _ _ c.in-Some.is c.emit_based.ensures
 
-pub emit_type_decl-returns-in-No : goal.emit_type_decl-returns-in-No
-emit_type_decl-returns-in-No t c = chains.decl_no _ _ _ _ _ _ _ _ _ _ c.if-left-eq0.false _ c.chain_base.ensures _ c.in-No.is c.stop-in-No.ensures
+pub emit_type_decl-returns-in-None : goal.emit_type_decl-returns-in-None
+emit_type_decl-returns-in-None t c = chains.decl_no _ _ _ _ _ _ _ _ _ _ c.if-left-eq0.false _ c.chain_base.ensures c.in-None.is c.stop-in-None.ensures
 
 pub members::emit_composite_def-returns-then-left-eq0 : goal.members::emit_composite_def-returns-then-left-eq0
 members::emit_composite_def-returns-then-left-eq0 t c = members.def_zero _ _ _ _ _ _ _ _ _ _ _ _ _ c.if-left-eq0.true c.stop.ensures
@@ -197,13 +196,13 @@ pub members::emit_member-returns : goal.members::emit_member-returns
 members::emit_member-returns t c = members.member_put _ _ _ _ _ _ _ _ _ _ _ _ _ _ _ _ _ _ _ _ _ _ _ _ _ c.load_member-m.ensures c.bare.ensures c.emit_bit_padding-a.ensures c.put_byte-c.ensures c.put_tabs-e.ensures c.emit_type_decl-f.ensures c.emit_member_end.ensures
 
 pub members::emit_members-loop-k-init : goal.members::emit_members-loop-k-init
-members::emit_members-loop-k-init t c = (leads_start _ _ _ _ _, omega arith, omega arith, refl, refl)
+members::emit_members-loop-k-init t c = leads_start _ _ _ _ _
 
 pub members::emit_members-returns-then-stopped : goal.members::emit_members-returns-then-stopped
-members::emit_members-returns-then-stopped t c = members.members_whole _ _ _ _ _ _ _ _ _ _ _ _ _ _ _ _ c.vlen_of-vlen.ensures (leads_end _ _ _ _ _ _ _ _ _ _ _ c.loop-k.invariant.0 (said_stopped _ _ _ _ (sym c.stopped.ensures ∙ c.if-stopped.true)))
+members::emit_members-returns-then-stopped t c = members.members_whole _ _ _ _ _ _ _ _ _ _ _ _ _ _ _ _ c.vlen_of-vlen.ensures (leads_end _ _ _ _ _ _ _ _ _ _ _ c.loop-k.invariant (said_stopped _ _ _ _ (sym c.stopped.ensures ∙ c.if-stopped.true)))
 
 pub members::emit_members-loop-k-preserved : goal.members::emit_members-loop-k-preserved
-members::emit_members-loop-k-preserved t c = (members.members_again _ _ _ _ _ _ _ _ _ _ _ _ _ _ _ _ _ _ _ _ c.loop-k-test.true c.loop-k.invariant.0 c.emit_member-s.ensures, omega arith, c.loop-k.invariant.2, search rules, search rules)
+members::emit_members-loop-k-preserved t c = members.members_again _ _ _ _ _ _ _ _ _ _ _ _ _ _ _ _ _ _ _ _ c.loop-k-test.true c.loop-k.invariant c.emit_member-s.ensures
 
 pub members::emit_members-returns : goal.members::emit_members-returns
-members::emit_members-returns t c = members.members_whole _ _ _ _ _ _ _ _ _ _ _ _ _ _ _ _ c.vlen_of-vlen.ensures (members.members_end _ _ _ _ _ _ _ _ _ _ _ _ _ _ _ _ _ _ _ c.loop-k-test.false c.loop-k.invariant.0 c.emit_tail_padding.ensures)
+members::emit_members-returns t c = members.members_whole _ _ _ _ _ _ _ _ _ _ _ _ _ _ _ _ c.vlen_of-vlen.ensures (members.members_end _ _ _ _ _ _ _ _ _ _ _ _ _ _ _ _ _ _ _ (omega arith) c.loop-k.invariant c.emit_tail_padding.ensures)

@@ -9,8 +9,7 @@ use Rattle.c_dumper_name_versions.specs.names.Spelling.{name_text}
 use Rattle.c_dumper_declarator.proofs.declarations.Kept.{Leads}
 use Rattle.c_dumper_declarator.proofs.declarations.DeclLaws.{chain_left, Clear}
 use Rattle.c_dumper_declarator.proofs.declarations.MemberLaws.{params_left, members_left}
-use lib.ListN.{length}
-use Prim.Native.Nat.{◌<◌, ◌≤◌, ◌+◌, ◌-◌, ◌*◌}
+use Prim.Native.Nat.{◌+◌, ◌*◌}
 use Rattle.c_dumper_declarator.proofs.declarations.+declarator.Given as goal
 
 abbrev pub decreases-emit_array : goal.decreases-emit_array
@@ -62,20 +61,12 @@ abbrev pub invariant-emit_links-loop-c : goal.invariant-emit_links-loop-c
 invariant-emit_links-loop-c l = (Leads l.b l.section l.initial.text l.initial.c.at (chain_left l.b l.section l.below l.d.id (name_text l.b l.section l.d.name) l.d.lvl l.initial.c l.initial.work) l.text l.c.at (chain_left l.b l.section l.below l.d.id (name_text l.b l.section l.d.name) l.d.lvl l.c l.work))
     × Clear l.b l.section l.c
     × (only_links (chain_at l.b l.section l.work l.d.id l.c.n) ≡ true)
-    × (length l.work ≡ length l.initial.work)
-    × (length l.text ≡ length l.initial.text)
 
 abbrev pub decreases-emit_links-loop-c : goal.decreases-emit_links-loop-c
 decreases-emit_links-loop-c l = l.c.n
 
 abbrev pub invariant-emit_params-loop-k : goal.invariant-emit_params-loop-k
-invariant-emit_params-loop-k l = (Leads l.b l.section l.initial.text l.initial.p (params_left l.b l.section l.below l.lvl (param_of l.b l.section l.shown.at) l.shown.vlen l.initial.k l.initial.work) l.text l.p (params_left l.b l.section l.below l.lvl (param_of l.b l.section l.shown.at) l.shown.vlen l.k l.work)) × (l.k ≤ l.shown.vlen) × (l.shown.vlen < 4294967296) × (length l.work ≡ length l.initial.work) × (length l.text ≡ length l.initial.text)
-
-abbrev pub decreases-emit_params-loop-k : goal.decreases-emit_params-loop-k
-decreases-emit_params-loop-k l = l.shown.vlen - l.k
+invariant-emit_params-loop-k l = Leads l.b l.section l.initial.text l.initial.p (params_left l.b l.section l.below l.lvl (param_of l.b l.section l.shown.at) l.shown.vlen 0 l.initial.work) l.text l.p (params_left l.b l.section l.below l.lvl (param_of l.b l.section l.shown.at) l.shown.vlen l.k l.work)
 
 abbrev pub invariant-members::emit_members-loop-k : goal.invariant-members::emit_members-loop-k
-invariant-members::emit_members-loop-k l = (Leads l.b l.section l.initial.text l.initial.s.at (members_left l.b l.section l.below l.id (tail_pads l.b.placing l.b.ptr_sz (eqb (kind_of l.t.info) 4) l.t.type_id) l.lvl l.packed (λ j. rule_member l.b l.section (member_of l.b l.section l.t j)) l.vlen l.initial.k l.initial.s.offset l.initial.work) l.text l.s.at (members_left l.b l.section l.below l.id (tail_pads l.b.placing l.b.ptr_sz (eqb (kind_of l.t.info) 4) l.t.type_id) l.lvl l.packed (λ j. rule_member l.b l.section (member_of l.b l.section l.t j)) l.vlen l.k l.s.offset l.work)) × (l.k ≤ l.vlen) × (l.vlen < 4294967296) × (length l.work ≡ length l.initial.work) × (length l.text ≡ length l.initial.text)
-
-abbrev pub decreases-members::emit_members-loop-k : goal.decreases-members::emit_members-loop-k
-decreases-members::emit_members-loop-k l = l.vlen - l.k
+invariant-members::emit_members-loop-k l = Leads l.b l.section l.initial.text l.initial.s.at (members_left l.b l.section l.below l.id (tail_pads l.b.placing l.b.ptr_sz (eqb (kind_of l.t.info) 4) l.t.type_id) l.lvl l.packed (λ j. rule_member l.b l.section (member_of l.b l.section l.t j)) l.vlen 0 l.initial.s.offset l.initial.work) l.text l.s.at (members_left l.b l.section l.below l.id (tail_pads l.b.placing l.b.ptr_sz (eqb (kind_of l.t.info) 4) l.t.type_id) l.lvl l.packed (λ j. rule_member l.b l.section (member_of l.b l.section l.t j)) l.vlen l.k l.s.offset l.work)

@@ -1,35 +1,34 @@
-use Rattle.c_dumper_dependency_order.proofs.order_state.Laws.{entry_word}
 use mathlib.Core.Path.{refl, sym, ◌∙◌}
 use Rattle.c_dumper_emit.proofs.entries.Laws as laws
 use Rattle.c_dumper_emit.proofs.entries.Walk as walk
+use Rattle.c_dumper_emit.proofs.emit_type.Listed as listed
 use Rattle.c_dumper_emit.proofs.emit_type.Walk as new
 use native.Mathlib.Omega.{arith}
-use Prim.Native.Nat.{zero-le}
 use Rattle.c_dumper_emit.proofs.emit_type.+emit_type.Goals as goal
 
 pub emit_composite-returns-then-named-cont : goal.emit_composite-returns-then-named-cont
 emit_composite-returns-then-named-cont t c = λ n. new.composite_mention _ _ _ _ n _ _ _ _ _ _ _ _ c.requires _ c.is_named-named.ensures _ c.if-named-cont.true _ (c.mention_composite.ensures n)
 
-pub emit_composite-emit_members-a-requires : goal.emit_composite-emit_members-a-requires
-emit_composite-emit_members-a-requires t c = (new.to_composite_members c.args.left t c.decreases, tt)
+pub emit_composite-emit_entries-a-requires : goal.emit_composite-emit_entries-a-requires
+emit_composite-emit_entries-a-requires t c = (new.to_composite_entries c.args.left t c.decreases, tt)
 
 pub emit_composite-returns : goal.emit_composite-returns
-emit_composite-returns t c = λ n. new.composite_entries _ _ _ _ _ _ _ _ _ _ _ _ c.entries_of-ms.ensures (new.composite_ends _ _ _ _ n _ _ _ _ _ _ _ _ c.requires _ c.is_named-named.ensures _ c.if-named-cont.false _ c.set_emit_state.ensures _ c.inner-within.ensures _ _ _ _ (c.emit_members-a.ensures n) _ (laws.same_lent _ _ _ c.emit_members-a.auto.list) _ (c.end_composite.ensures n))
+emit_composite-returns t c = λ n. new.composite_entries _ _ _ _ _ _ _ _ _ _ _ _ c.entries_of-ms.ensures (new.composite_ends _ _ _ _ n _ _ _ _ _ _ _ _ c.requires _ c.is_named-named.ensures _ c.if-named-cont.false _ c.set_emit_state.ensures _ c.inner-within.ensures _ _ _ _ (c.emit_entries-a.ensures n) _ (laws.same_lent _ _ _ c.emit_entries-a.auto.list) _ (c.end_composite.ensures n))
 
-pub emit_members-loop-k-init : goal.emit_members-loop-k-init
-emit_members-loop-k-init t c = (zero-le, refl, refl, refl, omega arith, refl, λ n. walk.rest_start _ _ _ _ _ _ _ _ n _ _ _ _)
+pub emit_entries-loop-k-init : goal.emit_entries-loop-k-init
+emit_entries-loop-k-init t c = (refl, λ n. walk.rest_start _ _ _ _ _ _ _ _ n _ _ _ _)
 
-pub emit_members-loop-k-preserved-then-is_done : goal.emit_members-loop-k-preserved-then-is_done
-emit_members-loop-k-preserved-then-is_done t c = (omega arith, c.loop-k.invariant.1, c.loop-k.invariant.2, c.loop-k.invariant.3, c.loop-k.invariant.4, c.loop-k.invariant.5, λ n. walk.rest_skip _ _ _ _ _ _ _ _ n _ _ _ _ _ _ _ _ _ (c.loop-k.invariant.6 n) _ (λ _. entry_word _ _ _ _ _ c.word-t.ensures c.member_place.ensures) _ c.is_done.ensures c.if-is_done.true (omega arith))
+pub emit_entries-loop-k-preserved-then-is_done : goal.emit_entries-loop-k-preserved-then-is_done
+emit_entries-loop-k-preserved-then-is_done t c = (c.loop-k.invariant.0, λ n. walk.rest_skip _ _ _ _ _ _ _ _ n _ _ _ _ _ _ _ _ _ (c.loop-k.invariant.1 n) _ (λ _. c.held_id-t.ensures) _ c.is_done.ensures c.if-is_done.true (omega arith))
 
-pub emit_members-emit_type-a-requires : goal.emit_members-emit_type-a-requires
-emit_members-emit_type-a-requires t c = (new.to_loop_type c.args.left t c.decreases, tt)
+pub emit_entries-emit_type-a-requires : goal.emit_entries-emit_type-a-requires
+emit_entries-emit_type-a-requires t c = (new.to_loop_type c.args.left t c.decreases, tt)
 
-pub emit_members-loop-k-preserved : goal.emit_members-loop-k-preserved
-emit_members-loop-k-preserved t c = (omega arith, c.emit_type-a.auto.work ∙ c.loop-k.invariant.1, c.emit_type-a.auto.text ∙ c.loop-k.invariant.2, c.emit_type-a.auto.list ∙ c.loop-k.invariant.3, c.loop-k.invariant.4, c.loop-k.invariant.5, λ n. walk.rest_turn _ _ _ _ _ _ _ _ n _ _ _ _ _ _ _ _ _ (c.loop-k.invariant.6 n) _ (λ _. entry_word _ _ _ _ _ c.word-t.ensures c.member_place.ensures) _ (laws.same_lent _ _ _ c.loop-k.invariant.3) _ _ _ _ (c.emit_type-a.ensures n) (omega arith))
+pub emit_entries-loop-k-preserved : goal.emit_entries-loop-k-preserved
+emit_entries-loop-k-preserved t c = (c.emit_type-a.auto.list ∙ c.loop-k.invariant.0, λ n. walk.rest_turn _ _ _ _ _ _ _ _ n _ _ _ _ _ _ _ _ _ (c.loop-k.invariant.1 n) _ (λ _. c.held_id-t.ensures) _ (laws.same_lent _ _ _ c.loop-k.invariant.0) _ _ _ _ (c.emit_type-a.ensures n) (omega arith))
 
-pub emit_members-returns : goal.emit_members-returns
-emit_members-returns t c = λ n. walk.members_end _ _ _ _ _ _ _ n _ _ _ _ _ _ _ _ _ (c.loop-k.invariant.6 n) (omega arith)
+pub emit_entries-returns : goal.emit_entries-returns
+emit_entries-returns t c = λ n. listed.entries_end _ _ _ _ _ _ _ _ _ n _ _ _ _ _ _ _ _ (c.loop-k.invariant.1 n) (omega arith)
 
 pub emit_new-emit_leaf-requires : goal.emit_new-emit_leaf-requires
 emit_new-emit_leaf-requires t c = c.requires
@@ -37,59 +36,35 @@ emit_new-emit_leaf-requires t c = c.requires
 pub emit_new-emit_type-requires : goal.emit_new-emit_type-requires
 emit_new-emit_type-requires t c = (new.to_new_type c.args.left t c.decreases, tt)
 
-pub emit_new-emit_type-requires-in-Ptr : goal.emit_new-emit_type-requires-in-Ptr
-emit_new-emit_type-requires-in-Ptr t c = (new.to_new_type c.args.left t c.decreases, tt)
-
 pub emit_new-emit_type-a-requires : goal.emit_new-emit_type-a-requires
 emit_new-emit_type-a-requires t c = (new.to_new_type c.args.left t c.decreases, tt)
 
 pub emit_new-emit_type-a-requires-in-Proto : goal.emit_new-emit_type-a-requires-in-Proto
 emit_new-emit_type-a-requires-in-Proto t c = (new.to_new_type c.args.left t c.decreases, tt)
 
-pub emit_new-emit_params-requires : goal.emit_new-emit_params-requires
-emit_new-emit_params-requires t c = (new.to_new_params c.args.left t c.decreases, tt)
+pub emit_new-emit_entries-requires : goal.emit_new-emit_entries-requires
+emit_new-emit_entries-requires t c = (new.to_new_entries c.args.left t c.decreases, tt)
 
 pub emit_new-emit_composite-requires : goal.emit_new-emit_composite-requires
 emit_new-emit_composite-requires t c = (new.to_new_composite c.args.left t c.decreases, c.requires)
 
 pub emit_new-returns-in-Ignored : goal.emit_new-returns-in-Ignored
-emit_new-returns-in-Ignored t c = λ n. new.new_ignored _ _ _ _ n _ _ _ _ _ _ _ _ c.requires _ c.node_of.ensures _ c.in-Ignored.is refl
-
-pub emit_new-returns-in-Plain : goal.emit_new-returns-in-Plain
-emit_new-returns-in-Plain t c = λ n. new.new_plain _ _ _ _ n _ _ _ _ _ _ _ _ c.requires _ c.node_of.ensures _ c.in-Plain.is refl
+emit_new-returns-in-Ignored t c = λ n. new.new_none _ _ _ _ n _ _ _ _ _ _ _ _ c.requires _ c.node_of.ensures _ c.in-Ignored.is refl
 
 pub emit_new-returns-in-Listed : goal.emit_new-returns-in-Listed
 emit_new-returns-in-Listed t c = λ n. new.new_listed _ _ _ _ n _ _ _ _ _ _ _ _ c.requires _ c.node_of.ensures _ _ c.in-Listed.is (c.emit_leaf.ensures n)
 
 pub emit_new-returns-in-Through : goal.emit_new-returns-in-Through
-emit_new-returns-in-Through t c = λ n. new.new_through _ _ _ _ n _ _ _ _ _ _ _ _ c.requires _ c.node_of.ensures _ _ _ c.in-Through.is (c.emit_type.ensures n)
-
-pub emit_new-returns-in-Ptr : goal.emit_new-returns-in-Ptr
-emit_new-returns-in-Ptr t c = λ n. new.new_ptr _ _ _ _ n _ _ _ _ _ _ _ _ c.requires _ c.node_of.ensures _ _ c.in-Ptr.is (c.emit_type-in-Ptr.ensures n)
+emit_new-returns-in-Through t c = λ n. new.new_on _ _ _ _ n _ _ _ _ _ _ _ _ c.requires _ c.node_of.ensures _ _ c.in-Through.is (c.emit_type.ensures n)
 
 pub emit_new-returns-in-Typedef : goal.emit_new-returns-in-Typedef
 emit_new-returns-in-Typedef t c = λ n. new.new_typedef _ _ _ _ n _ _ _ _ _ _ _ _ c.requires _ c.node_of.ensures _ _ c.in-Typedef.is _ c.set_emit_state.ensures _ _ _ _ (c.emit_type-a.ensures n) _ (laws.same_lent _ _ _ c.emit_type-a.auto.list) (c.end_typedef.ensures n)
 
 pub emit_new-returns-in-Proto : goal.emit_new-returns-in-Proto
-emit_new-returns-in-Proto t c = λ n. new.new_proto _ _ _ _ n _ _ _ _ _ _ _ _ c.requires _ c.node_of.ensures _ _ _ c.in-Proto.is _ _ _ _ _ (laws.same_lent _ _ _ c.emit_type-a-in-Proto.auto.list) (c.emit_type-a-in-Proto.ensures n) (c.emit_params.ensures n)
+emit_new-returns-in-Proto t c = λ n. new.new_proto _ _ _ _ n _ _ _ _ _ _ _ _ c.requires _ c.node_of.ensures _ _ _ c.in-Proto.is _ _ _ _ _ (laws.same_lent _ _ _ c.emit_type-a-in-Proto.auto.list) (c.emit_type-a-in-Proto.ensures n) (c.emit_entries.ensures n)
 
 pub emit_new-returns-in-Composite : goal.emit_new-returns-in-Composite
 emit_new-returns-in-Composite t c = λ n. new.new_composite _ _ _ _ n _ _ _ _ _ _ _ _ c.requires _ c.node_of.ensures _ _ c.in-Composite.is (c.emit_composite.ensures n)
-
-pub emit_params-loop-k-init : goal.emit_params-loop-k-init
-emit_params-loop-k-init t c = (zero-le, refl, refl, refl, omega arith, refl, λ n. walk.rest_start _ _ _ _ _ _ _ _ n _ _ _ _)
-
-pub emit_params-loop-k-preserved-then-is_done : goal.emit_params-loop-k-preserved-then-is_done
-emit_params-loop-k-preserved-then-is_done t c = (omega arith, c.loop-k.invariant.1, c.loop-k.invariant.2, c.loop-k.invariant.3, c.loop-k.invariant.4, c.loop-k.invariant.5, λ n. walk.rest_skip _ _ _ _ _ _ _ _ n _ _ _ _ _ _ _ _ _ (c.loop-k.invariant.6 n) _ (λ _. entry_word _ _ _ _ _ c.word-t.ensures c.param_place.ensures) _ c.is_done.ensures c.if-is_done.true (omega arith))
-
-pub emit_params-emit_type-a-requires : goal.emit_params-emit_type-a-requires
-emit_params-emit_type-a-requires t c = (new.to_loop_type c.args.left t c.decreases, tt)
-
-pub emit_params-loop-k-preserved : goal.emit_params-loop-k-preserved
-emit_params-loop-k-preserved t c = (omega arith, c.emit_type-a.auto.work ∙ c.loop-k.invariant.1, c.emit_type-a.auto.text ∙ c.loop-k.invariant.2, c.emit_type-a.auto.list ∙ c.loop-k.invariant.3, c.loop-k.invariant.4, c.loop-k.invariant.5, λ n. walk.rest_turn _ _ _ _ _ _ _ _ n _ _ _ _ _ _ _ _ _ (c.loop-k.invariant.6 n) _ (λ _. entry_word _ _ _ _ _ c.word-t.ensures c.param_place.ensures) _ (laws.same_lent _ _ _ c.loop-k.invariant.3) _ _ _ _ (c.emit_type-a.ensures n) (omega arith))
-
-pub emit_params-returns : goal.emit_params-returns
-emit_params-returns t c = λ n. walk.params_end _ _ _ _ _ _ _ n _ _ _ _ _ _ _ _ _ (c.loop-k.invariant.6 n) (omega arith)
 
 pub emit_type-returns-then-stopped : goal.emit_type-returns-then-stopped
 emit_type-returns-then-stopped t c = λ n. laws.stopped_sheet n _ _ _ _ _ (sym c.stopped.ensures ∙ c.if-stopped.true)

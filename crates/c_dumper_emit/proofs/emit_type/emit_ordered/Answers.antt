@@ -1,15 +1,13 @@
-use Prim.Native.Nat.{zero-le}
 use Rattle.c_dumper_emit.proofs.emit_type.Listed as laws
 use Rattle.c_dumper_emit.proofs.entries.Laws.{same_lent}
-use native.Mathlib.Omega.{arith}
 use mathlib.Core.Path.{refl, ◌∙◌}
 use Rattle.c_dumper_emit.proofs.emit_type.emit_ordered.Goals as goal
 
 pub loop-k-init : goal.loop-k-init
-loop-k-init c = (zero-le, refl, refl, refl, laws.listing_start _ _ _ _ _ _ _ _ _)
+loop-k-init c = (refl, laws.listing_start _ _ _ _ _ _ _ _ _)
 
 pub loop-k-preserved : goal.loop-k-preserved
-loop-k-preserved c = (omega arith, c.emit_type-a.auto.work ∙ c.loop-k.invariant.1, c.emit_type-a.auto.text ∙ c.loop-k.invariant.2, c.emit_type-a.auto.list ∙ c.loop-k.invariant.3, laws.listing_turn _ _ _ _ _ _ _ _ _ _ _ _ _ _ c.loop-k.invariant.4 c.loop-k-test.true _ c.get_listed-id.ensures _ (same_lent _ _ _ c.loop-k.invariant.3) _ _ _ _ (c.emit_type-a.ensures c.args.n))
+loop-k-preserved c = (c.emit_type-a.auto.list ∙ c.loop-k.invariant.0, laws.listing_turn _ _ _ _ _ _ _ _ _ _ _ _ _ _ c.loop-k.invariant.1 c.loop-k-test.true _ c.get_listed-id.ensures _ (same_lent _ _ _ c.loop-k.invariant.0) _ _ _ _ (c.emit_type-a.ensures c.args.n))
 
 pub returns : goal.returns
-returns c = laws.listing_end _ _ _ _ _ _ _ _ _ _ _ _ _ _ c.loop-k.invariant.4 c.loop-k-test.false
+returns c = laws.listing_end _ _ _ _ _ _ _ _ _ _ _ _ _ _ c.loop-k.invariant.1 c.loop-k-test.false

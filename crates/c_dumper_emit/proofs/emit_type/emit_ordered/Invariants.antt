@@ -1,4 +1,3 @@
-use Prim.Native.Nat.{◌≤◌, ◌-◌}
 use Rattle.c_dumper_emit.proofs.emit_type.Listed as laws
 use Rattle.c_dumper_dependency_order.specs.leaders.Leads.{entry_in}
 use Rattle.c_dumper_emit.specs.entries.Noted.{lent_list}
@@ -7,7 +6,4 @@ use mathlib.Core.Path.{◌≡◌}
 use Rattle.c_dumper_emit.proofs.emit_type.emit_ordered.Given as goal
 
 abbrev pub invariant-loop-k : goal.invariant-loop-k
-invariant-loop-k l = (l.k ≤ l.n) × (length l.work ≡ length l.initial.work) × (length l.text ≡ length l.initial.text) × (length l.list ≡ length l.initial.list) × laws.Listing l.b l.section (lent_list l.q.lists l.initial.list) (entry_in l.q.req l.q.turn l.leads) l.initial.work l.n l.initial.a l.initial.text l.initial.list l.a l.text l.work l.list l.k
-
-abbrev pub decreases-loop-k : goal.decreases-loop-k
-decreases-loop-k l = l.n - l.k
+invariant-loop-k l = (length l.list ≡ length l.initial.list) × laws.Listing l.b l.section (lent_list l.q.lists l.initial.list) (entry_in l.q.req l.q.turn l.leads) l.initial.work l.n l.initial.a l.initial.text l.initial.list l.a l.text l.work l.list l.k

@@ -1,14 +1,12 @@
-use mathlib.Core.Path.{refl, ◌∙◌}
-use Prim.Native.Nat.{zero-le}
 use native.Mathlib.Omega.{arith}
 use Rattle.spec_session.proofs.emission.Emptied as laws
 use Rattle.c_dumper_emit.proofs.order_list.clear_list.Goals as goal
 
 pub loop-k-init : goal.loop-k-init
-loop-k-init c = (zero-le, refl, laws.emptied_none _)
+loop-k-init c = laws.emptied_none _
 
 pub loop-k-preserved : goal.loop-k-preserved
-loop-k-preserved c = (omega arith, c.clear_listed.auto.work ∙ c.loop-k.invariant.1, laws.emptied_more _ _ _ _ c.loop-k.invariant.2 c.clear_listed.ensures)
+loop-k-preserved c = laws.emptied_more _ _ _ _ c.loop-k.invariant c.clear_listed.ensures
 
 pub returns : goal.returns
-returns c = laws.emptied_all _ _ _ _ c.loop-k.invariant.0 c.loop-k-test.false c.loop-k.invariant.2
+returns c = laws.emptied_all _ _ _ _ (omega arith) c.loop-k-test.false c.loop-k.invariant

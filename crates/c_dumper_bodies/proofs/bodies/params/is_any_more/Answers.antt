@@ -1,11 +1,12 @@
+use mathlib.Core.Path.{◌∙◌, ap}
+use Prim.Native.Nat.{ℕ}
+use lib.Dec.{leb}
+use borrow.Author.Tests.{ne_eqb}
 use Rattle.c_dumper_bodies.proofs.bodies.WordLaws as laws
 use Rattle.c_dumper_bodies.proofs.bodies.params.is_any_more.Goals as goal
 
-pub returns-then-type_id-ne0 : goal.returns-then-type_id-ne0
-returns-then-type_id-ne0 c = laws.any_typed c.args.vlen c.args.k c.args.type_id c.if-type_id-ne0.true
+pub returns-then-type_id-eq0 : goal.returns-then-type_id-eq0
+returns-then-type_id-eq0 c = ap (λ (n : ℕ). leb n c.args.k) c.saturating_sub.ensures ∙ laws.any_last _ _ _ c.if-type_id-eq0.true
 
-pub returns-then-vlen-eq0 : goal.returns-then-vlen-eq0
-returns-then-vlen-eq0 c = laws.any_none _ _ _ c.if-type_id-ne0.false c.if-vlen-eq0.true
-
-pub returns : goal.returns
-returns c = laws.any_last _ _ _ c.if-type_id-ne0.false c.if-vlen-eq0.false
+pub returns-else-type_id-eq0 : goal.returns-else-type_id-eq0
+returns-else-type_id-eq0 c = ne_eqb _ 0 c.if-type_id-eq0.false ∙ laws.any_typed c.args.vlen c.args.k c.args.type_id c.if-type_id-eq0.false
