@@ -10,30 +10,14 @@ use base_bytes::put::{put_byte, put_decimal, put_two};
 pub fn as_i32(v: u32) -> i32
     ensures { result ≡ twos 2147483648 v }
 {
-    if v < 2147483648 {
-        return v as i32;
-    }
-    ((v - 2147483648) as i32) + (-2147483648)
+    v.cast_signed()
 }
 
 // The number of 64 bits in two's complement.
 pub fn as_i64(v: u64) -> i64
     ensures { result ≡ twos 9223372036854775808 v }
 {
-    if v < 9223372036854775808 {
-        return v as i64;
-    }
-    ((v - 9223372036854775808) as i64) + (-9223372036854775808)
-}
-
-// The magnitude of v. The least number plus 1 can be negated.
-fn magnitude(v: i64) -> u64
-    ensures { result ≡ nat_abs v }
-{
-    if v < 0 {
-        return ((0 - (v + 1)) as u64) + 1;
-    }
-    v as u64
+    v.cast_signed()
 }
 
 // Writes the sign and the magnitude of v.
@@ -42,9 +26,9 @@ fn put_signed(text: &mut [u8], at: usize, v: i64) -> usize
 {
     if v < 0 {
         let a = put_byte(text, at, b'-');
-        return put_decimal(text, a, magnitude(v));
+        return put_decimal(text, a, v.unsigned_abs());
     }
-    put_decimal(text, at, magnitude(v))
+    put_decimal(text, at, v.unsigned_abs())
 }
 
 // Writes v.

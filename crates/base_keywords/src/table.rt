@@ -149,24 +149,7 @@ pub fn put_word(text: &mut [u8], at: usize, word: Word) -> usize
     put_fixed(text, at, start, n)
 }
 
-// Whether two texts are equal.
-fn same(a: &[u8], b: &[u8]) -> bool
-    ensures { result ≡ same_bytes a.now b.now }
-{
-    if a.len() != b.len() {
-        return false;
-    }
-    let mut i = 0;
-    while i < a.len() {
-        if a[i] != b[i] {
-            return false;
-        }
-        i += 1;
-    }
-    true
-}
-
-// Whether a run is n bytes of the table: these are put beside it and compared.
+// Whether a run is n bytes of the table: these are put beside it and compared. A run of another length needs no copy.
 fn is_fixed(run: &[u8], start: usize, n: usize) -> bool
     requires { (2 ≤ n) × (n ≤ 16) × (start + n ≤ 128) }
     ensures { result ≡ same_bytes run.now (part table start n) }
@@ -176,7 +159,7 @@ fn is_fixed(run: &[u8], start: usize, n: usize) -> bool
     }
     let mut word: [u8; 16] = [0; 16];
     put_fixed(&mut word, 0, start, n);
-    same(run, &word[..n])
+    run == &word[..n]
 }
 
 pub fn is_word(run: &[u8], word: Word) -> bool

@@ -1,7 +1,5 @@
 use native.Mathlib.Omega.{arith}
-use mathlib.Core.Path.{sym}
 use lib.ListN.{replicate}
-use lib.Seq.{length-take-le}
 use Rattle.base_keywords.specs.table.Fixed.{table}
 use Rattle.base_keywords.proofs.table.Compared.{same_part_other, same_part}
 use Rattle.base_keywords.proofs.table.Laws.{put_back}
@@ -10,8 +8,5 @@ use Rattle.base_keywords.proofs.table.is_fixed.Goals as goal
 pub returns-then-run-n : goal.returns-then-run-n
 returns-then-run-n c = let a = c.args in same_part_other a.run.now table a.start a.n (omega arith) c.if-run-n.true
 
-pub slice_bounds-same-end : goal.slice_bounds-same-end
-slice_bounds-same-end c = let a = c.args in sym (length-take-le a.n c.put_fixed.new.text (omega (arith, c.put_fixed.auto.text)))
-
 pub returns : goal.returns
-returns c = let a = c.args in same_part _ _ _ _ c.same.ensures (put_back (replicate 16 0) table a.start a.n _ _ (omega arith) (omega arith) c.put_fixed.ensures)
+returns c = let a = c.args in same_part _ _ _ _ c.eq.ensures (put_back (replicate 16 0) table a.start a.n _ _ (omega arith) (omega arith) c.put_fixed.ensures)
