@@ -1,29 +1,28 @@
 -- Laws of the table of words: its parts copied into the text and looked at there, and that it is small and has each word once. Assumes nothing.
-use Prim.Native.Nat.{ℕ, suc, ◌+◌, ◌-◌, ◌<◌, ◌≤◌}
+use Prim.Native.Nat.{ℕ, ◌+◌, ◌-◌, ◌<◌, ◌≤◌}
 use mathlib.Core.Path.{◌≡◌, refl, ap, ap₂, ◌∙◌, sym}
-use mathlib.Core.List.{List, [], ◌∷◌, ◌++◌, map, append_assoc}
+use mathlib.Core.List.{List, ◌++◌, map, append_assoc}
 use native.Mathlib.Omega.{arith}
 use native.Mathlib.Numerals.{add-one}
 use lib.ListN.{length, get_or, set, take, drop, replicate, length-append, length-drop}
-use lib.Seq.{length-take-le, take-take, take-add, take-append-le, take-append-add, drop-append-add, drop-drop, drop-cons, sets-eq, take_at}
+use lib.Seq.{length-take-le, take-take, take-add, take-append-le, take-append-add, drop-append-add, drop-drop, take_at, paste, paste-suc, get_or-drop}
 use Rattle.spec_bytes.proofs.text.TextLaws.{out_done, put_fits, put_full, whole_is, place_length, went}
 use Rattle.spec_bytes.specs.text.Text.{whole, bytes, done, put_out, place, put_text}
 use Rattle.base_keywords.specs.table.Fixed.{part, copied, table, fixed_words, occurrences, starts}
 
 -- ---- the code's steps
 
--- two bytes stored
-pub copied_two : (t : List ℕ) (at : ℕ) (s : List ℕ) (start : ℕ) → at + 2 ≤ length t → start + 2 ≤ length s
-    → set (set t at (get_or s start 0)) (at + 1) (get_or s (start + 1) 0) ≡ copied t at s start 2
+-- a byte more is copied
+pub copied_turn : (t u : List ℕ) (at : ℕ) (s : List ℕ) (start k : ℕ) → at + k < length t → start + k < length s → u ≡ paste t at (drop start s) k
+    → set u (at + k) (get_or s (start + k) 0) ≡ paste t at (drop start s) (k + 1)
+copied_turn t u at s start k h l e =
+    let same : get_or (drop start s) k 0 ≡ get_or s (start + k) 0 = get_or-drop start s k 0 in
+    rw (e, sym same, add-one k) (paste-suc t at (drop start s) k 0 h (omega (arith, length-drop start s)))
+
+pub copied_all : (t u : List ℕ) (at : ℕ) (s : List ℕ) (start k n : ℕ) → start + n ≤ length s → k ≡ n → u ≡ paste t at (drop start s) k → u ≡ copied t at s start n
 unfolding copied
-copied_two t at s start h k =
-    rw (add-one at, add-one start)
-    (sets-eq (get_or s start 0 ∷ get_or s (suc start) 0 ∷ []) t at h ∙ ap (λ (l : List ℕ). take at t ++ l ++ drop (at + length l) t) (sym both))
-  where
-    both : take 2 (drop start s) ≡ get_or s start 0 ∷ get_or s (suc start) 0 ∷ []
-    both =
-        ap (take 2) (drop-cons s start 0 (omega arith))
-        ∙ ap (λ (l : List ℕ). get_or s start 0 ∷ take 1 l) (drop-cons s (suc start) 0 (omega arith))
+copied_all t u at s start k n h same e =
+    rw same at e ∙ ap (λ (j : ℕ). take at t ++ part s start n ++ drop (at + j) t) (sym (length-take-le n (drop start s) (omega (arith, length-drop start s))))
 
 -- two copies of k bytes, the second m further on, of which the first may cover a part
 module _ (t : List ℕ) (at : ℕ) (s : List ℕ) (start k m : ℕ) (h : m ≤ k) (room : at + (m + k) ≤ length t) (fits : start + (m + k) ≤ length s) where
