@@ -1,23 +1,18 @@
 // A byte slice used as 32-bit little-endian words: word i is the bytes 4i to 4i + 3.
+#![tactic(auto, using(spec_bytes::proofs::words::Laws::steps))]
+
 ghost use Rattle.std.specs.Prelude.{◌≡◌, ◌+◌, ◌*◌, ◌-◌, ◌<◌, length, replicate};
 ghost use Rattle.spec_bytes.specs.words.Words.{get_word, put_word, word_at, join_at, turn, word_in};
 ghost use Rattle.spec_bytes.specs.words.Three.{three_at, three_in};
 
 use spec_bytes::words::Three;
 
-// The number whose bytes, lowest first, are a, b, c and d.
-fn join(a: u8, b: u8, c: u8, d: u8) -> u32
-    ensures { result ≡ a + b * 256 + c * 65536 + d * 16777216 }
-{
-    (a as u32) + (b as u32) * 256 + (c as u32) * 65536 + (d as u32) * 16777216
-}
-
 // The number whose bytes start at `at`.
 fn join_at(b: &[u8], at: usize) -> u32
     requires { at + 3 < length b.now }
     ensures { result ≡ join_at b.now at }
 {
-    join(b[at], b[at + 1], b[at + 2], b[at + 3])
+    u32::from_le_bytes([b[at], b[at + 1], b[at + 2], b[at + 3]])
 }
 
 // Word i, or 0 past the last whole word.
@@ -37,25 +32,15 @@ pub fn put_word(work: &mut [u8], i: usize, v: u32)
 {
     if i < work.len() / 4 {
         let at = i * 4;
-        work[at] = (v % 256) as u8;
-        work[at + 1] = (v / 256 % 256) as u8;
-        work[at + 2] = (v / 65536 % 256) as u8;
-        work[at + 3] = (v / 16777216) as u8;
+        work[at..at + 4].copy_from_slice(&v.to_le_bytes());
     }
 }
 
-// x - y, or 0: with it one comparison tells whether several bytes lie inside.
-fn less(x: usize, y: usize) -> usize
-    ensures { result ≡ x - y }
-{
-    if y < x { x - y } else { 0 }
-}
-
-// The word whose bytes start at `at`, or 0 where they do not all lie inside.
+// The word whose bytes start at `at`, or 0 where they do not all lie inside: one comparison tells.
 pub fn word_at(b: &[u8], at: usize) -> u32
     ensures { result ≡ word_at b.now at }
 {
-    if at < less(b.len(), 3) {
+    if at < b.len().saturating_sub(3) {
         return join_at(b, at);
     }
     0
@@ -65,7 +50,7 @@ pub fn word_at(b: &[u8], at: usize) -> u32
 fn turned(w: u32) -> u32
     ensures { result ≡ turn w }
 {
-    w % 256 * 16777216 + w / 256 % 256 * 65536 + w / 65536 % 256 * 256 + w / 16777216
+    w.swap_bytes()
 }
 
 // The word at `at`, most significant byte first if `big`.
@@ -83,7 +68,7 @@ pub fn word_in(big: bool, b: &[u8], at: usize) -> u32
 pub fn three_at(b: &[u8], at: usize) -> Three
     ensures { result ≡ three_at b.now at }
 {
-    if at < less(b.len(), 11) {
+    if at < b.len().saturating_sub(11) {
         return Three {
             first: join_at(b, at),
             second: join_at(b, at + 4),
@@ -130,9 +115,5 @@ pub fn three_in(big: bool, b: &[u8], at: usize) -> Three
 pub fn clear(b: &mut [u8])
     ensures { b.new ≡ replicate (length b.old) 0 }
 {
-    let mut i = 0;
-    while i < b.len() {
-        b[i] = 0;
-        i += 1;
-    }
+    b.fill(0);
 }

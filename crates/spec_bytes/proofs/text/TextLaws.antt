@@ -8,10 +8,13 @@ use mathlib.Core.Logic.{⊎_elim}
 use native.Mathlib.Omega.{arith}
 use native.Mathlib.Nat.{add_assoc}
 use native.Mathlib.Numerals.{add-one}
-use lib.ListN.{length, get_or, set, take, drop, replicate, length-append, length-drop, length-set, replicate-append-replicate}
+use lib.ListN.{length, set, take, drop, replicate, length-append, length-drop, length-set}
 use lib.Dec.{ltb}
-use lib.Seq.{length-take-le, take_at, drop-drop, drop-append-add, set_split, append_snoc, paste, paste-zero, paste-suc, take-length}
+use lib.Seq.{length-take-le, take_at, drop-drop, drop-append-add, set_split, append_snoc, paste, paste-zero, take-length}
+use borrow.Rule.Slice.PartMut.{put_mid}
 use borrow.Author.Tests.{le-leb, lt-leb, lt-ltb, le-ltb, ltb-true, ltb-false}
+use Rattle.std.proofs.lemmas.List.{take-replicate}
+use Rattle.std.proofs.lemmas.Slice.{put_mid-paste}
 use Rattle.spec_bytes.proofs.words.Laws.{le_or_lt}
 use Rattle.spec_bytes.specs.text.Text.{Text, whole, cut, join, bytes, done, stopped, is_stopped, put_out, place, written, put_text, pfx}
 
@@ -206,39 +209,14 @@ put_set t at b h =
     ∙ rw (put_fits t at (whole (b ∷ [])) (omega arith), set_split t at b h, add-one)
     (ap (λ (l : List ℕ). done l (suc at)) (sym (append_snoc (take at t) b (drop (suc at) t))))
 
--- two bytes stored, and three
-module _ (t : List ℕ) (at a b : ℕ) where
-  pub put_two : at + 1 < length t → put_out (at + 2) (set (set t at a) (at + 1) b) ≡ put_text t at (whole (a ∷ b ∷ []))
-  put_two h =
-      let e : at + 2 ≡ at + 1 + 1 = omega arith in
-      put_seq t at (a ∷ []) (b ∷ []) (at + 1) (set t at a) (at + 2) (set (set t at a) (at + 1) b)
-      (put_set t at a (omega arith))
-      (ap (λ (n : ℕ). put_out n (set (set t at a) (at + 1) b)) e ∙ put_set (set t at a) (at + 1) b (simp length-set h))
-
-  pub put_three : (c : ℕ) → at + 2 < length t → put_out (at + 3) (set (set (set t at a) (at + 1) b) (at + 2) c) ≡ put_text t at (whole (a ∷ b ∷ c ∷ []))
-  put_three c h =
-      let e : at + 3 ≡ at + 2 + 1 = omega arith in
-      put_seq t at (a ∷ b ∷ []) (c ∷ []) (at + 2) (set (set t at a) (at + 1) b) (at + 3) (set (set (set t at a) (at + 1) b) (at + 2) c)
-      (put_two (omega arith))
-      (ap (λ (n : ℕ). put_out n (set (set (set t at a) (at + 1) b) (at + 2) c)) e ∙ put_set (set (set t at a) (at + 1) b) (at + 2) c (simp length-set h))
-
--- t with the first j elements of s from `at` on: shut, so that the answers of a loop find its arguments
-pub copied : List ℕ → ℕ → List ℕ → ℕ → List ℕ
-copied t at s j = paste t at s j
-
-pub copied_none : (t : List ℕ) (at : ℕ) (s : List ℕ) → t ≡ copied t at s 0
-unfolding copied
-copied_none t at s = paste-zero t at s
-
-pub copied_more : (t : List ℕ) (at : ℕ) (s : List ℕ) (j : ℕ) (u : List ℕ) → at + j < length t → j < length s → u ≡ copied t at s j → set u (at + j) (get_or s j 0) ≡ copied t at s (j + 1)
-unfolding copied
-copied_more t at s j u hd hs e = rw (e, add-one) (paste-suc t at s j 0 hd hs)
-
-pub copied_all : (t : List ℕ) (at : ℕ) (s : List ℕ) (j : ℕ) (u : List ℕ) → at + length s ≤ length t → length u ≡ length t → j ≡ length s → u ≡ copied t at s j → put_out (at + j) u ≡ put_text t at (whole s)
-unfolding copied bytes written
-copied_all t at s j u h l e p =
-    out_done (at + j) u (omega arith)
-    ∙ rw (put_fits t at (whole s) h, p, e) (ap (λ (l : List ℕ). done (take at t ++ l ++ drop (at + length s) t) (at + length s)) (take-length s))
+-- bytes copied over a part of t are those bytes written
+pub put_over : (t : List ℕ) (at : ℕ) (s : List ℕ) (k : ℕ) (u : List ℕ) → at + length s ≤ length t → k ≡ length s → u ≡ s → put_out (at + length s) (put_mid at k t u) ≡ put_text t at (whole s)
+unfolding bytes written
+put_over t at s k u h e p =
+    let o : put_mid at k t u ≡ paste t at s (length s) = put_mid-paste at k t u s (length s) p (sym e) refl in
+    let l : length (paste t at s (length s)) ≡ length t = ap (λ (v : List ℕ). length (take at t ++ v ++ drop (at + length s) t)) (take-length s) ∙ place_length t at s h in
+    let d : put_out (at + length s) (paste t at s (length s)) ≡ done (paste t at s (length s)) (at + length s) = out_done (at + length s) (paste t at s (length s)) (omega arith) in
+    rw (o, d, put_fits t at (whole s) h) (ap (λ (v : List ℕ). done (take at t ++ v ++ drop (at + length s) t) (at + length s)) (take-length s))
 
 -- ---- whether the writing was stopped
 
@@ -260,17 +238,10 @@ not_stopped t at e = ltb-false (length t) at (stopped_is t at ∙ e)
 
 -- ---- tabs
 
--- one tab more
-pub tab_more : (t₀ : List ℕ) (at k : ℕ) (t : List ℕ) (p : ℕ) (u : List ℕ) (r : ℕ)
-    → put_out p t ≡ put_text t₀ at (whole (replicate k 9)) → put_out r u ≡ put_text t p (whole (9 ∷ [])) → put_out r u ≡ put_text t₀ at (whole (replicate (k + 1) 9))
-tab_more t₀ at k t p u r e₁ e₂ =
-    put_same t₀ at (replicate k 9 ++ 9 ∷ []) (replicate (k + 1) 9) r u
-    (replicate-append-replicate k 1 9)
-    (put_seq t₀ at (replicate k 9) (9 ∷ []) p t r u e₁ e₂)
-
-pub tabs_all : (lvl n k : ℕ) → n ≡ min lvl 12 → k ≡ n → replicate k 9 ≡ pfx lvl
+-- as many tabs of the most that there are
+pub tabs_taken : (lvl n : ℕ) → n ≡ min lvl 12 → take n (replicate 12 9) ≡ pfx lvl
 unfolding pfx
-tabs_all lvl n k e q = ap (λ (m : ℕ). replicate m 9) (q ∙ e)
+tabs_taken lvl n e = take-replicate n 12 9 (omega arith) ∙ ap (λ (m : ℕ). replicate m 9) e
 
 pub pfx_one : (lvl : ℕ) → lvl ≡ 1 → 9 ∷ [] ≡ pfx lvl
 unfolding pfx
@@ -287,3 +258,6 @@ cut_stops t at a c = ⊎_elim inside (λ l. ap is_stopped (put_past t at (cut a 
         (λ m. ap is_stopped (put_fits t at (cut a c) m ∙ cut_is t at a c))
         (λ m. ap is_stopped (put_none t at (cut a c) l m))
         (le_or_lt (at + length a) (length t))
+
+-- what the steps of writing cite
+pub ruleset steps = (stopped_is, put_stays, put_cut, put_full, put_over)

@@ -294,3 +294,6 @@ unfolding cleared
 cleared_all w u i h e =
     let none : drop (length w) w ≡ [] = drop_of_length-le w (le_refl _) in
     e ∙ rw (← h, none) (append-nil _)
+
+-- what reading and storing a word cite
+pub ruleset steps = (get_in, get_out, read_in, read_out, put_in, put_out)
