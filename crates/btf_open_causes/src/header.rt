@@ -8,6 +8,11 @@ use base_bytes::limit;
 use base_bytes::word::word_in;
 use spec_type_table::TypeTable;
 
+// The magic as a section has it whose words have their most significant byte first, and as any other has it.
+const BIG_MAGIC: [u8; 2] = [0xeb, 0x9f];
+
+pub const LITTLE_MAGIC: [u8; 2] = [0x9f, 0xeb];
+
 // struct btf_header from hdr_len on; offsets count from the header's end.
 #[derive(Clone, Copy)]
 pub struct Header {
@@ -22,13 +27,7 @@ pub struct Header {
 pub fn is_big_endian(section: &[u8]) -> bool
     ensures { result ≡ is_big_endian section.now }
 {
-    if section.len() < 2 {
-        return false;
-    }
-    if section[0] != 0xeb {
-        return false;
-    }
-    section[1] == 0x9f
+    section.starts_with(&BIG_MAGIC)
 }
 
 pub fn btf_header(section: &[u8]) -> Header
@@ -48,31 +47,21 @@ pub fn btf_header(section: &[u8]) -> Header
 fn size_of_pointer(pointer_size: u32) -> u32
     ensures { result ≡ pick (eqb pointer_size 4) 4 8 }
 {
-    if pointer_size == 4 {
-        return 4;
-    }
-    8
+    if pointer_size == 4 { 4 } else { 8 }
 }
 
 // No table has more types.
 fn count_of_types(types: u32) -> u32
     ensures { result ≡ pick (ltb types 262145) types 262145 }
 {
-    if types < limit::MOST_TYPES {
-        return types;
-    }
-    limit::MOST_TYPES
+    types.min(limit::MOST_TYPES)
 }
 
 // Where the string area starts; past 32 bits there is none.
 fn strings_at(h: Header) -> u32
     ensures { result ≡ pick (ltb (h.hdr_len + h.str_off) 4294967296) (h.hdr_len + h.str_off) 4294967295 }
 {
-    let at = (h.hdr_len as u64) + (h.str_off as u64);
-    if at < limit::TWO_TO_32 {
-        return at as u32;
-    }
-    limit::LARGEST
+    h.hdr_len.saturating_add(h.str_off)
 }
 
 // What the types of a table need of its header and settings.

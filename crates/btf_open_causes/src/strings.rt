@@ -1,12 +1,19 @@
 // Causes 3 and 4: whether header and string area are not sound.
-ghost use Rattle.std.specs.Prelude.{◌≡◌, not, ◌+◌};
+ghost use Rattle.std.specs.Prelude.{◌≡◌, not, ◌+◌, fold, max};
 ghost use Rattle.spec_linux_btf.specs.Section.{header_sound, strings_sound};
-ghost use Rattle.btf_open_causes.specs.header.Header.{is_magic, larger, largest_from, bad_strings};
+ghost use Rattle.btf_open_causes.specs.header.Header.{is_magic, bad_strings};
 
-use crate::header::{Header, btf_header, is_big_endian};
+use crate::header::{Header, LITTLE_MAGIC, btf_header, is_big_endian};
 
-// The least length of a sound header.
+// The least length of a section, the only version, and the least that a sound header says of its own length.
+const LEAST_LENGTH: usize = 24;
+
+const VERSION: u8 = 1;
+
 const LEAST_HEADER: u32 = 24;
+
+// The largest byte of ASCII.
+const LARGEST_ASCII: u8 = 127;
 
 // The end of an area.
 fn area_end(h: Header, off: u32, len: u32) -> u64
@@ -19,72 +26,35 @@ fn area_end(h: Header, off: u32, len: u32) -> u64
 fn is_magic(section: &[u8]) -> bool
     ensures { result ≡ is_magic section.now }
 {
-    if section.len() < 24 {
-        return false;
-    }
-    if is_big_endian(section) {
-        return section[2] == 1;
-    }
-    if section[0] != 0x9f {
-        return false;
-    }
-    if section[1] != 0xeb {
-        return false;
-    }
-    section[2] == 1
+    section.len() >= LEAST_LENGTH
+        && (is_big_endian(section) || section.starts_with(&LITTLE_MAGIC))
+        && section[2] == VERSION
 }
 
 // Cause 3: too short, magic, version, header length, or an area past the end.
 pub fn has_bad_header(section: &[u8]) -> bool
     ensures { result ≡ not (header_sound section.now) }
 {
-    if !is_magic(section) {
-        return true;
-    }
     let h = btf_header(section);
-    if h.hdr_len < LEAST_HEADER {
+    if !is_magic(section) || h.hdr_len < LEAST_HEADER {
         return true;
     }
     let len = section.len() as u64;
-    if len < area_end(h, h.type_off, h.type_len) {
-        return true;
-    }
-    len < area_end(h, h.str_off, h.str_len)
+    len < area_end(h, h.type_off, h.type_len) || len < area_end(h, h.str_off, h.str_len)
 }
 
-fn larger(x: u8, y: u8) -> u8
-    ensures { result ≡ larger x y }
-{
-    if x < y { y } else { x }
-}
-
-// The largest byte. (With no way out of the loop, it takes many bytes at a time.)
+// The largest byte. (No `is_ascii`: with no way out of the loop, this takes many bytes at a time.)
 fn largest(s: &[u8]) -> u8
-    ensures { result ≡ largest_from 0 s.now }
+    ensures { result ≡ fold max 0 s.now }
 {
-    let mut m: u8 = 0;
-    let mut i = 0;
-    while i < s.len() {
-        m = larger(m, s[i]);
-        i += 1;
-    }
-    m
+    s.iter().fold(0, |m, x| m.max(*x))
 }
 
-// Whether a string area is empty, does not start or end in 0, or has a byte over 127.
-fn is_bad_area(strs: &[u8]) -> bool
-    ensures { result ≡ not (strings_sound strs.now) }
+// Whether a string area starts and ends in 0 and is ASCII.
+fn is_sound_area(strs: &[u8]) -> bool
+    ensures { result ≡ strings_sound strs.now }
 {
-    if strs.len() == 0 {
-        return true;
-    }
-    if strs[0] != 0 {
-        return true;
-    }
-    if strs[strs.len() - 1] != 0 {
-        return true;
-    }
-    127 < largest(strs)
+    strs.starts_with(&[0]) && strs.ends_with(&[0]) && largest(strs) <= LARGEST_ASCII
 }
 
 // Cause 4.
@@ -93,9 +63,8 @@ pub fn has_bad_strings(section: &[u8]) -> bool
 {
     let h = btf_header(section);
     let from = (h.hdr_len as usize) + (h.str_off as usize);
-    let to = from + (h.str_len as usize);
-    if section.len() < to {
-        return true;
+    match section.get(from..from + (h.str_len as usize)) {
+        Some(strs) => !is_sound_area(strs),
+        None => true,
     }
-    is_bad_area(&section[from..to])
 }

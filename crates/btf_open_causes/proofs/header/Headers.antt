@@ -10,6 +10,9 @@ use native.Mathlib.Numerals.{add-one}
 use lib.ListN.{length, get_or, take, drop}
 use lib.Seq.{drop-cons, drop-length}
 use lib.Dec.{ltb, leb, eqb}
+use Prim.Native.Nat.{max}
+use Rattle.std.specs.List.{fold, starts_with, ends_with}
+use Rattle.std.specs.Cmp.Lexicographic.{pointwise}
 use borrow.Author.Tests.{lt-ltb, le-ltb, le-leb, lt-leb, leb-true, ne_eqb}
 use Rattle.spec_bytes.specs.words.Words.{word_in}
 use Rattle.spec_bytes.proofs.words.Laws.{le_or_lt}
@@ -17,7 +20,7 @@ use Rattle.spec_linux_btf.specs.Reading.{word}
 use Rattle.spec_linux_btf.specs.Section.{is_big_endian, little_endian, word_of, hdr_len_of, type_off_of, type_len_of, str_off_of, str_len_of, string_area, header_sound, strings_sound, all_ascii, last_of}
 use Rattle.spec_linux_btf.proofs.SectionFields.{in_word}
 use Rattle.btf_open_causes.specs.declared.header.Header.{Header}
-use Rattle.btf_open_causes.specs.header.Header.{header_of, btf_of, is_magic, larger, largest_from, bad_strings}
+use Rattle.btf_open_causes.specs.header.Header.{header_of, btf_of, is_magic, bad_strings}
 
 pub and_left : (a b : Bool) → (a && b) ≡ true → a ≡ true
 and_left true b h = refl
@@ -68,24 +71,18 @@ pub order_is : (s : List ℕ) (pointer modes types : ℕ) → (btf_of s pointer 
 unfolding btf_of
 order_is s pointer modes types = refl
 
--- ---- is_big_endian
-pub big_short : (s : List ℕ) → length s < 2 → false ≡ is_big_endian s
+-- ---- is_big_endian and is_magic: the two bytes in front
+pub big_is : (s : List ℕ) → starts_with eqb s (235 ∷ 159 ∷ []) ≡ is_big_endian s
 unfolding is_big_endian
-big_short [] h = refl
-big_short (x ∷ []) h = none (eqb x 235)
-  where
-    none : (t : Bool) → false ≡ (t && false)
-    none true = refl
-    none false = refl
-big_short (x ∷ y ∷ s) h = absurd (omega arith)
+big_is [] = refl
+big_is (a ∷ []) = grind arith
+big_is (a ∷ b ∷ s) = grind arith
 
-pub big_first : (s : List ℕ) → (get_or s 0 0 ≡ 235 → ⊥) → false ≡ is_big_endian s
-unfolding is_big_endian
-big_first s n = rw (ne_eqb (get_or s 0 0) 235 n)
-
-pub big_second : (s : List ℕ) → get_or s 0 0 ≡ 235 → eqb (get_or s 1 0) 159 ≡ is_big_endian s
-unfolding is_big_endian
-big_second s e = rw e
+pub little_is : (s : List ℕ) → starts_with eqb s (159 ∷ 235 ∷ []) ≡ little_endian s
+unfolding little_endian
+little_is [] = refl
+little_is (a ∷ []) = grind arith
+little_is (a ∷ b ∷ s) = grind arith
 
 -- ---- is_magic
 module _ (s : List ℕ) where
@@ -93,23 +90,22 @@ module _ (s : List ℕ) where
   unfolding is_magic
   magic_short h = rw (lt-leb 24 (length s) h)
 
-  module _ (h : 24 ≤ length s) (r : Bool) (o : r ≡ is_big_endian s) where
-    pub magic_big : r ≡ true → eqb (get_or s 2 0) 1 ≡ is_magic s
+  module _ (h : 24 ≤ length s) where
+    pub magic_big : is_big_endian s ≡ true → eqb (get_or s 2 0) 1 ≡ is_magic s
     unfolding is_magic
-    magic_big f = rw (le-leb 24 (length s) h, sym o ∙ f)
+    magic_big e = rw (le-leb 24 (length s) h, e)
 
-    module _ (f : r ≡ false) where
-      pub magic_first : (get_or s 0 0 ≡ 159 → ⊥) → false ≡ is_magic s
-      unfolding is_magic little_endian
-      magic_first n = rw (le-leb 24 (length s) h, sym o ∙ f, ne_eqb (get_or s 0 0) 159 n)
+    pub magic_little : is_big_endian s ≡ false → little_endian s ≡ true → eqb (get_or s 2 0) 1 ≡ is_magic s
+    unfolding is_magic
+    magic_little e f = rw (le-leb 24 (length s) h, e, f)
 
-      pub magic_second : get_or s 0 0 ≡ 159 → (get_or s 1 0 ≡ 235 → ⊥) → false ≡ is_magic s
-      unfolding is_magic little_endian
-      magic_second e n = rw (le-leb 24 (length s) h, sym o ∙ f, e, ne_eqb (get_or s 1 0) 235 n)
-
-      pub magic_third : get_or s 0 0 ≡ 159 → get_or s 1 0 ≡ 235 → eqb (get_or s 2 0) 1 ≡ is_magic s
-      unfolding is_magic little_endian
-      magic_third e g = rw (le-leb 24 (length s) h, sym o ∙ f, e, g)
+  pub magic_none : is_big_endian s ≡ false → little_endian s ≡ false → false ≡ is_magic s
+  unfolding is_magic
+  magic_none e f = rw (e, f) (none (leb 24 (length s)))
+    where
+      none : (t : Bool) → false ≡ (t && false)
+      none true = refl
+      none false = refl
 
   pub magic_long : is_magic s ≡ true → 24 ≤ length s
   unfolding is_magic
@@ -180,84 +176,63 @@ module _ (s : List ℕ) where
           flip x y = ⊎_elim (λ u. le-ltb y x u ∙ ap not (sym (le-leb x y u))) (λ u. lt-ltb y x u ∙ ap not (sym (lt-leb x y u))) (le_or_lt x y)
 
 -- ---- largest, is_bad_area
-pub larger_less : (x y : ℕ) → x < y → y ≡ larger x y
-unfolding larger
-larger_less x y h = rw (lt-ltb x y h)
 
-pub larger_not : (x y : ℕ) → y ≤ x → x ≡ larger x y
-unfolding larger
-larger_not x y h = rw (le-ltb x y h)
+max_ascii : (m x : ℕ) → leb (max m x) 127 ≡ (leb m 127 && leb x 127)
+max_ascii m x = grind arith
 
-pub largest_more : (s : List ℕ) (m i r : ℕ) → i < length s → largest_from 0 s ≡ largest_from m (drop i s) → r ≡ larger m (get_or s i 0) → largest_from 0 s ≡ largest_from r (drop (i + 1) s)
-unfolding largest_from
-largest_more s m i r h e f = e ∙ ap (largest_from m) (drop-cons s i 0 h) ∙ rw (f, add-one)
-
-pub largest_all : (s : List ℕ) (m i : ℕ) → largest_from 0 s ≡ largest_from m (drop i s) → i ≡ length s → m ≡ largest_from 0 s
-unfolding largest_from
-largest_all s m i e h = sym (e ∙ ap (λ (k : ℕ). largest_from m (drop k s)) h ∙ ap (largest_from m) (drop-length s))
-
-larger_ascii : (m x : ℕ) → leb (larger m x) 127 ≡ (leb m 127 && leb x 127)
-unfolding larger
-larger_ascii m x = ⊎_elim below above (le_or_lt x m)
-  where
-    below : x ≤ m → leb (larger m x) 127 ≡ (leb m 127 && leb x 127)
-    below h = ap (λ (z : ℕ). leb z 127) (sym (larger_not m x h)) ∙ ⊎_elim (λ u. le-leb m 127 u ∙ sym (and_both _ _ (le-leb m 127 u) (le-leb x 127 (omega arith)))) (λ u. rw (lt-leb m 127 u)) (le_or_lt m 127)
-
-    above : m < x → leb (larger m x) 127 ≡ (leb m 127 && leb x 127)
-    above h = ap (λ (z : ℕ). leb z 127) (sym (larger_less m x h)) ∙ ⊎_elim (λ u. rw (le-leb m 127 (omega arith))) (λ u. lt-leb x 127 u ∙ sym (ap (λ (t : Bool). leb m 127 && t) (lt-leb x 127 u) ∙ no (leb m 127))) (le_or_lt x 127)
-      where
-        no : (t : Bool) → (t && false) ≡ false
-        no true = refl
-        no false = refl
-
-largest_ascii : (l : List ℕ) (m : ℕ) → leb (largest_from m l) 127 ≡ (leb m 127 && all_ascii l)
-unfolding largest_from
+largest_ascii : (l : List ℕ) (m : ℕ) → leb (fold max m l) 127 ≡ (leb m 127 && all_ascii l)
 largest_ascii [] m = yes (leb m 127)
   where
     yes : (t : Bool) → t ≡ (t && true)
     yes true = refl
     yes false = refl
-largest_ascii (x ∷ l) m = largest_ascii l (larger m x) ∙ ap (λ (t : Bool). t && all_ascii l) (larger_ascii m x) ∙ assoc (leb m 127) (leb x 127) (all_ascii l)
+largest_ascii (x ∷ l) m = largest_ascii l (max m x) ∙ ap (λ (t : Bool). t && all_ascii l) (max_ascii m x) ∙ assoc (leb m 127) (leb x 127) (all_ascii l)
   where
     assoc : (a b c : Bool) → ((a && b) && c) ≡ (a && (b && c))
     assoc true b c = refl
     assoc false b c = refl
 
-last_at : (d x : ℕ) (l : List ℕ) → last_of d (x ∷ l) ≡ get_or (x ∷ l) (length l) 0
-last_at d x [] = refl
-last_at d x (y ∷ l) = last_at x y l
+begins_zero : (a : List ℕ) → starts_with eqb a (0 ∷ []) ≡ (leb 1 (length a) && eqb (get_or a 0 1) 0)
+begins_zero [] = refl
+begins_zero (x ∷ l) = grind arith
 
-last_is : (a : List ℕ) → 1 ≤ length a → last_of 1 a ≡ get_or a (length a - 1) 0
-last_is [] h = absurd (omega arith)
-last_is (x ∷ l) h = let e : length l ≡ suc (length l) - 1 = omega arith in last_at 1 x l ∙ ap (λ (k : ℕ). get_or (x ∷ l) k 0) e
+drop_front : (x : ℕ) (l : List ℕ) → drop (length l) (x ∷ l) ≡ last_of x l ∷ []
+drop_front x [] = refl
+drop_front x (y ∷ l) = drop_front y l
 
-first_is : (a : List ℕ) → 1 ≤ length a → get_or a 0 1 ≡ get_or a 0 0
-first_is [] h = absurd (omega arith)
-first_is (x ∷ l) h = refl
+ends_zero : (a : List ℕ) → starts_with eqb a (0 ∷ []) ≡ true → ends_with eqb a (0 ∷ []) ≡ eqb (last_of 1 a) 0
+ends_zero [] h = absurd (true≢false (sym h))
+ends_zero (x ∷ l) h =
+    let e : length (x ∷ l) - 1 ≡ length l = omega arith in
+    ap (λ (k : ℕ). pointwise eqb (0 ∷ []) (drop k (x ∷ l))) e ∙ ap (pointwise eqb (0 ∷ [])) (drop_front x l) ∙ flip (last_of x l)
+  where
+    flip : (v : ℕ) → pointwise eqb (0 ∷ []) (v ∷ []) ≡ eqb v 0
+    flip v = grind arith
 
 module _ (a : List ℕ) where
-  pub strings_empty : length a ≡ 0 → true ≡ not (strings_sound a)
+  pub area_first : starts_with eqb a (0 ∷ []) ≡ false → false ≡ strings_sound a
   unfolding strings_sound
-  strings_empty e = rw (lt-leb 1 (length a) (omega arith))
+  area_first e = go (leb 1 (length a)) (eqb (get_or a 0 1) 0) (sym (begins_zero a) ∙ e)
+    where
+      go : (t u : Bool) → (t && u) ≡ false → false ≡ (t && (u && (eqb (last_of 1 a) 0 && all_ascii a)))
+      go true true f = absurd (true≢false f)
+      go true false f = refl
+      go false u f = refl
 
-  module _ (h : length a ≡ 0 → ⊥) where
-    pub strings_first : (get_or a 0 0 ≡ 0 → ⊥) → true ≡ not (strings_sound a)
+  module _ (e : starts_with eqb a (0 ∷ []) ≡ true) where
+    in_front : leb 1 (length a) ≡ true
+    in_front = and_left (leb 1 (length a)) (eqb (get_or a 0 1) 0) (sym (begins_zero a) ∙ e)
+
+    zero_first : eqb (get_or a 0 1) 0 ≡ true
+    zero_first = and_right (leb 1 (length a)) (eqb (get_or a 0 1) 0) (sym (begins_zero a) ∙ e)
+
+    pub area_last : ends_with eqb a (0 ∷ []) ≡ false → false ≡ strings_sound a
     unfolding strings_sound
-    strings_first n = rw (le-leb 1 (length a) (omega arith), first_is a (omega arith), ne_eqb (get_or a 0 0) 0 n)
+    area_last f = rw (in_front, zero_first, sym (ends_zero a e) ∙ f)
 
-    module _ (e : get_or a 0 0 ≡ 0) where
-      pub strings_last : (get_or a (length a - 1) 0 ≡ 0 → ⊥) → true ≡ not (strings_sound a)
-      unfolding strings_sound
-      strings_last n = rw (le-leb 1 (length a) (omega arith), first_is a (omega arith), e, last_is a (omega arith), ne_eqb (get_or a (length a - 1) 0) 0 n)
-
-      pub strings_ascii : get_or a (length a - 1) 0 ≡ 0 → (m : ℕ) → m ≡ largest_from 0 a → ltb 127 m ≡ not (strings_sound a)
-      unfolding strings_sound
-      strings_ascii f m g =
-          rw (le-leb 1 (length a) (omega arith), first_is a (omega arith), e, last_is a (omega arith), f)
-          (flip m ∙ ap not (ap (λ (z : ℕ). leb z 127) g ∙ largest_ascii a 0))
-        where
-          flip : (x : ℕ) → ltb 127 x ≡ not (leb x 127)
-          flip x = ⊎_elim (λ u. le-ltb 127 x u ∙ ap not (sym (le-leb x 127 u))) (λ u. lt-ltb 127 x u ∙ ap not (sym (lt-leb x 127 u))) (le_or_lt x 127)
+    pub area_all : ends_with eqb a (0 ∷ []) ≡ true → (m : ℕ) → m ≡ fold max 0 a → leb m 127 ≡ strings_sound a
+    unfolding strings_sound
+    area_all f m g = rw (in_front, zero_first, sym (ends_zero a e) ∙ f, g) (largest_ascii a 0)
 
 -- ---- has_bad_strings
 module _ (s : List ℕ) (h : Header) (e : h ≡ header_of s) where

@@ -4,6 +4,8 @@ use mathlib.Core.Path.{◌≡◌, refl, ap, ◌∙◌, sym}
 use mathlib.Core.Bool.{Bool, true, false, true≢false}
 use native.Mathlib.Omega.{arith}
 use native.Mathlib.Decide.{ℕ_discrete}
+use mathlib.Core.Bool.{◌||◌}
+use Rattle.std.specs.List.{list_any, range_with_len}
 use Rattle.btf_open_causes.specs.references.Any.{any_below}
 
 pub any_find : (n : ℕ) (f : ℕ → Bool) → any_below n f ≡ true → (i : ℕ) × (i < n) × (f i ≡ true)
@@ -34,6 +36,38 @@ none_below n f h = go (any_below n f) refl
     go : (t : Bool) → any_below n f ≡ t → false ≡ t
     go true e = let q = any_find n f e in absurd (true≢false (sym q.2 ∙ h q.0 q.1))
     go false e = refl
+
+-- a range is gone through from its start on
+range_find : (f : ℕ → Bool) (n a : ℕ) → list_any f (range_with_len a n) ≡ true → (i : ℕ) × (i < a + n) × (f i ≡ true)
+range_find f zero a e = absurd (true≢false (sym e))
+range_find f (suc n) a e = go (f a) refl e (range_find f n (a + 1))
+  where
+    go : (t : Bool) → f a ≡ t → (t || list_any f (range_with_len (a + 1) n)) ≡ true
+        → (list_any f (range_with_len (a + 1) n) ≡ true → (i : ℕ) × (i < a + 1 + n) × (f i ≡ true)) → (i : ℕ) × (i < a + suc n) × (f i ≡ true)
+    go true p q ih = (a, (omega arith), p)
+    go false p q ih = let r = ih q in (r.0, up r.0 r.1, r.2)
+      where
+        up : (i : ℕ) → i < a + 1 + n → i < a + suc n
+        up i h = omega arith
+
+range_yes : (f : ℕ → Bool) (n a i : ℕ) → a ≤ i → i < a + n → f i ≡ true → list_any f (range_with_len a n) ≡ true
+range_yes f zero a i l h e = absurd (omega arith)
+range_yes f (suc n) a i l h e = go (f a) refl (range_yes f n (a + 1) i)
+  where
+    go : (t : Bool) → f a ≡ t → (a + 1 ≤ i → i < a + 1 + n → f i ≡ true → list_any f (range_with_len (a + 1) n) ≡ true)
+        → (t || list_any f (range_with_len (a + 1) n)) ≡ true
+    go true p ih = refl
+    go false p ih = elim (ℕ_discrete i a) [ yes q ↦ absurd (true≢false (sym e ∙ ap f q ∙ p)) | no q ↦ ih (omega arith) (omega arith) e ]
+
+-- `any` over the numbers below n
+pub any_range : (f : ℕ → Bool) (n : ℕ) → list_any f (range_with_len 0 n) ≡ any_below n f
+any_range f n = go (list_any f (range_with_len 0 n)) (any_below n f) refl refl
+  where
+    go : (t u : Bool) → list_any f (range_with_len 0 n) ≡ t → any_below n f ≡ u → t ≡ u
+    go true true p q = refl
+    go false false p q = refl
+    go true false p q = let r = range_find f n 0 p in absurd (true≢false (sym (any_yes n f r.0 (omega arith) r.2) ∙ q))
+    go false true p q = let r = any_find n f q in absurd (true≢false (sym (range_yes f n 0 r.0 (omega arith) (omega arith) r.2) ∙ p))
 
 pub one_more : (f : ℕ → Bool) (i : ℕ) → ((v : ℕ) → v < i → f v ≡ false) → f i ≡ false → (v : ℕ) → v < i + 1 → f v ≡ false
 one_more f i h s v l = elim (ℕ_discrete v i) [ yes e ↦ ap f e ∙ s | no n ↦ h v (omega arith) ]

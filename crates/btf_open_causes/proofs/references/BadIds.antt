@@ -1,5 +1,5 @@
 -- Cause 6: a law for each return, and the theorem. Assumes nothing.
-use Prim.Native.Nat.{ℕ, ◌+◌, ◌<◌, ◌≤◌}
+use Prim.Native.Nat.{ℕ, ◌/◌, ◌%◌, ◌<◌, ◌≤◌}
 use mathlib.Core.Path.{◌≡◌, refl, ap, ◌∙◌, sym}
 use mathlib.Core.Bool.{Bool, true, false, true≢false}
 use mathlib.Core.List.{List}
@@ -9,9 +9,9 @@ use lib.Dec.{ltb}
 use borrow.Author.Tests.{lt-ltb, le-ltb, ltb-false}
 use Rattle.spec_type_table.specs.declared.types.TypeTable.{TypeTable}
 use Rattle.btf_open_causes.specs.references.Any.{any_below}
-use Rattle.btf_open_causes.specs.references.Followed.{is_kind_among, type_count, kind_at, followed_count, followed_id}
+use Rattle.btf_open_causes.specs.references.Followed.{is_kind_among, type_count, entry_at, place_of, kind_at, count_at, id_at, followed_count, followed_id}
 use Rattle.btf_open_causes.specs.references.References.{refused, is_bad, is_some_bad, has_bad_reference, BadReference}
-use Rattle.btf_open_causes.proofs.references.Any.{any_find, any_yes, one_more, found_below, none_found}
+use Rattle.btf_open_causes.proofs.references.Any.{any_find, any_yes}
 use Rattle.btf_open_causes.proofs.references.Accessors.{steady, apart}
 
 module _ (b : TypeTable) (start : List ℕ) where
@@ -38,32 +38,10 @@ module _ (b : TypeTable) (start : List ℕ) where
       bad_none m (inr h) = inside false (apart refused k ((λ g. m (inl g)), (omega arith, (omega arith, ((λ g. m (inr g)), tt)))))
 
 module _ (b : TypeTable) (s start : List ℕ) where
-  module _ (x : ℕ) where
-    pub each_more : (k y : ℕ) (r : Bool) → ((v : ℕ) → v < k → is_bad b start (followed_id b s start x v) ≡ false) → y ≡ followed_id b s start x k
-        → r ≡ is_bad b start y → r ≡ false → (v : ℕ) → v < k + 1 → is_bad b start (followed_id b s start x v) ≡ false
-    each_more k y r h e f t = one_more (λ v. is_bad b start (followed_id b s start x v)) k h (ap (is_bad b start) (sym e) ∙ sym f ∙ t)
-
-    module _ (n k : ℕ) (e : n ≡ followed_count b s start x) where
-      pub each_yes : (y : ℕ) (r : Bool) → k < n → y ≡ followed_id b s start x k → r ≡ is_bad b start y → r ≡ true → true ≡ is_some_bad b s start x
-      unfolding is_some_bad
-      each_yes y r h f g t = found_below (λ v. is_bad b start (followed_id b s start x v)) n _ k e r h (g ∙ ap (is_bad b start) f) t
-
-      pub each_no : n ≤ k → ((v : ℕ) → v < k → is_bad b start (followed_id b s start x v) ≡ false) → false ≡ is_some_bad b s start x
-      unfolding is_some_bad
-      each_no h a = none_found (λ v. is_bad b start (followed_id b s start x v)) n _ k e h a
-
-  pub all_more : (x : ℕ) (r : Bool) → ((v : ℕ) → v < x → is_some_bad b s start v ≡ false) → r ≡ is_some_bad b s start x → r ≡ false
-      → (v : ℕ) → v < x + 1 → is_some_bad b s start v ≡ false
-  all_more x r h e t = one_more (is_some_bad b s start) x h (sym e ∙ t)
-
-  module _ (n x : ℕ) (e : n ≡ type_count b) where
-    pub all_yes : (r : Bool) → x < n → r ≡ is_some_bad b s start x → r ≡ true → true ≡ has_bad_reference b s start
-    unfolding has_bad_reference
-    all_yes r h f t = found_below (is_some_bad b s start) n _ x e r h f t
-
-    pub all_no : n ≤ x → ((v : ℕ) → v < x → is_some_bad b s start v ≡ false) → false ≡ has_bad_reference b s start
-    unfolding has_bad_reference
-    all_no h a = none_found (is_some_bad b s start) n _ x e h a
+  pub some_bad_is : (x e n : ℕ) → e ≡ entry_at b start x → n ≡ count_at b s (e % 32) (e / 32)
+      → any_below n (λ k. is_bad b start (id_at b s (e % 32) (e / 32) k)) ≡ is_some_bad b s start x
+  unfolding is_some_bad followed_count followed_id kind_at place_of
+  some_bad_is x e n p q = rw (q, p)
 
   bad_cases : (y : ℕ) → (is_bad b start y ≡ true) ↔ ((type_count b ≤ y) ⊎ (is_kind_among refused (kind_at b start y) ≡ true))
   unfolding is_bad

@@ -34,14 +34,6 @@ btf_of s pointer modes types = record {
 unfoldable pub is_magic : List ℕ → Bool
 is_magic s = leb 24 (length s) && ((is_big_endian s || little_endian s) && eqb (get_or s 2 0) 1)
 
--- the larger of two, the largest of m and a list
-unfoldable pub larger : ℕ → ℕ → ℕ
-larger x y = pick (ltb x y) y x
-
-unfoldable pub largest_from : ℕ → List ℕ → ℕ
-largest_from m [] = m
-largest_from m (x ∷ l) = largest_from (larger m x) l
-
 -- the string area, as the header has it, is not sound, or does not lie inside the section
 unfoldable pub bad_strings : List ℕ → Bool
 bad_strings s =

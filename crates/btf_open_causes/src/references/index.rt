@@ -13,30 +13,17 @@ use spec_type_table::{Entries, TypeTable};
 pub fn count(b: TypeTable) -> u32
     ensures { result ≡ type_count b }
 {
-    let n = b.types;
-    if n < limit::MOST_TYPES {
-        n
-    } else {
-        limit::MOST_TYPES
-    }
+    b.types.min(limit::MOST_TYPES)
 }
 
 // The entry of type x in the index: its place * 32 + its kind. Void, and what lies past the table, has 0.
 pub fn entry(b: TypeTable, start: &[u32], x: u32) -> u32
     ensures { result ≡ entry_at b start.now x }
 {
-    if x == 0 {
+    if x == 0 || count(b) <= x {
         return 0;
     }
-    let n = count(b);
-    if n <= x {
-        return 0;
-    }
-    let i = x as usize;
-    if i < start.len() {
-        return start[i];
-    }
-    0
+    start.get(x as usize).copied().unwrap_or(0)
 }
 
 pub fn kind_at(b: TypeTable, start: &[u32], x: u32) -> u32

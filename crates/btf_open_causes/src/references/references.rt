@@ -26,26 +26,11 @@ fn is_some_bad(b: TypeTable, section: &[u8], start: &[u32], x: u32) -> bool
     let kind = e % 32;
     let at = e / 32;
     let n = count_at(b, section, kind, at);
-    let mut k: u32 = 0;
-    while k < n {
-        if is_bad(b, start, id_at(b, section, kind, at, k)) {
-            return true;
-        }
-        k += 1;
-    }
-    false
+    (0..n).any(|k| is_bad(b, start, id_at(b, section, kind, at, k)))
 }
 
 pub fn has_bad_reference(b: TypeTable, section: &[u8], start: &[u32]) -> bool
     ensures { result ≡ has_bad_reference b section.now start.now }
 {
-    let n = count(b);
-    let mut x: u32 = 0;
-    while x < n {
-        if is_some_bad(b, section, start, x) {
-            return true;
-        }
-        x += 1;
-    }
-    false
+    (0..count(b)).any(|x| is_some_bad(b, section, start, x))
 }

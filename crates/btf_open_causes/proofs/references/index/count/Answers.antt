@@ -1,9 +1,7 @@
-use mathlib.Core.Path.{refl}
-use Rattle.btf_open_causes.proofs.references.Accessors.{count_in, count_out}
+use Rattle.std.proofs.Common.{rules}
+use Rattle.btf_open_causes.specs.references.Followed.{type_count}
 use Rattle.btf_open_causes.proofs.references.index.count.Goals as goal
 
-pub returns-then-n-lt-MOST_TYPES : goal.returns-then-n-lt-MOST_TYPES
-returns-then-n-lt-MOST_TYPES c = count_in _ _ refl c.if-n-lt-MOST_TYPES.true
-
-pub returns-else-n-lt-MOST_TYPES : goal.returns-else-n-lt-MOST_TYPES
-returns-else-n-lt-MOST_TYPES c = count_out _ _ refl c.if-n-lt-MOST_TYPES.false
+pub returns : goal.returns
+unfolding type_count
+returns c = search rules

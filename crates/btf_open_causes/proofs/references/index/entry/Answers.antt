@@ -1,15 +1,18 @@
+use Rattle.std.proofs.Common.{arith, ◌∙◌, ap}
+use Rattle.std.specs.Option.{unwrap_or}
+use Rattle.btf_open_causes.proofs.references.Accessors.{entry_in}
 use Rattle.btf_open_causes.specs.references.Bounds.{entry_void, entry_out}
-use Rattle.btf_open_causes.proofs.references.Accessors.{entry_in, entry_past}
 use Rattle.btf_open_causes.proofs.references.index.entry.Goals as goal
+use Rattle.btf_open_causes.proofs.references.index.entry.Goals.{then-x-eq0-via-then-x-eq0, then-x-eq0-via-else-x-eq0+then-count-x}
 
 pub returns-then-x-eq0 : goal.returns-then-x-eq0
-returns-then-x-eq0 c = entry_void _ _ _ c.if-x-eq0.true
-
-pub returns-then-n-x : goal.returns-then-n-x
-returns-then-n-x c = entry_out _ _ _ c.if-x-eq0.false _ c.count-n.ensures c.if-n-x.true
-
-pub returns-then-i-start : goal.returns-then-i-start
-returns-then-i-start c = entry_in _ _ _ c.if-x-eq0.false _ c.count-n.ensures c.if-n-x.false
+returns-then-x-eq0 c =
+    elim c.then-x-eq0.branch [
+      | then-x-eq0-via-then-x-eq0 w ↦ entry_void _ _ _ w.if-x-eq0.true
+      | then-x-eq0-via-else-x-eq0+then-count-x w ↦ entry_out _ _ _ w.if-x-eq0.false _ w.count.ensures w.if-count-x.true
+    ]
 
 pub returns : goal.returns
-returns c = entry_past _ _ _ c.if-x-eq0.false _ c.count-n.ensures c.if-n-x.false c.if-i-start.false
+returns c =
+    c.unwrap_or.ensures ∙ ap (λ o. unwrap_or o 0) c.copied.ensures ∙ c.get.ensures.lookup.4 (omega arith) 0
+    ∙ entry_in _ _ _ c.if-x-eq0.false _ c.count.ensures c.if-count-x.false

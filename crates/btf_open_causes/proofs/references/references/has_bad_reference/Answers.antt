@@ -1,15 +1,15 @@
-use Rattle.btf_open_causes.proofs.references.BadIds.{all_more, all_yes, all_no}
-use native.Mathlib.Omega.{arith}
+use Rattle.std.proofs.Common.{arith, rules, tests, ◌∙◌, ap, ℕ, refl}
+use Rattle.std.proofs.lemmas.Iterator.{YieldsList-from_range}
+use Rattle.std.proofs.lemmas.Iterator.Search.{any_from_yields_List}
+use Rattle.btf_open_causes.proofs.references.Any.{any_range}
+use Rattle.btf_open_causes.specs.references.Any.{any_below}
+use Rattle.btf_open_causes.specs.references.References.{is_some_bad, has_bad_reference}
 use Rattle.btf_open_causes.proofs.references.references.has_bad_reference.Goals as goal
 
-pub loop-x-init : goal.loop-x-init
-loop-x-init c = λ v h. absurd (omega arith)
-
-pub returns-then-is_some_bad : goal.returns-then-is_some_bad
-returns-then-is_some_bad c = all_yes _ _ _ _ _ c.count-n.ensures _ c.loop-x-test.true c.is_some_bad.ensures c.if-is_some_bad.true
-
-pub loop-x-preserved : goal.loop-x-preserved
-loop-x-preserved c = all_more _ _ _ _ _ c.loop-x.invariant c.is_some_bad.ensures c.if-is_some_bad.false
-
 pub returns : goal.returns
-returns c = all_no _ _ _ _ _ c.count-n.ensures c.loop-x-test.false c.loop-x.invariant
+unfolding has_bad_reference
+returns c =
+    let test = is_some_bad c.args.b c.args.section.now c.args.start.now in
+    any_from_yields_List test _ _ c.any.result c.any.ensures.ran (YieldsList-from_range 0 c.count.result c.count.result refl (omega arith)) (λ x b q k. search (rules, tests))
+    ∙ any_range test c.count.result
+    ∙ ap (λ (n : ℕ). any_below n test) c.count.ensures

@@ -1,16 +1,17 @@
-use Rattle.btf_open_causes.proofs.references.Accessors.{followed_is, followed_count_is}
-use Rattle.btf_open_causes.proofs.references.BadIds.{each_more, each_yes, each_no}
-use native.Mathlib.Omega.{arith}
+use Rattle.std.proofs.Common.{arith, rules, tests, ◌∙◌, ◌%◌, ◌/◌, ℕ, refl}
+use Rattle.std.proofs.lemmas.Iterator.{YieldsList-from_range}
+use Rattle.std.proofs.lemmas.Iterator.Search.{any_from_yields_List}
+use Rattle.btf_open_causes.proofs.references.Any.{any_range}
+use Rattle.btf_open_causes.specs.references.Followed.{id_at}
+use Rattle.btf_open_causes.specs.references.References.{is_bad}
+use Rattle.btf_open_causes.proofs.references.BadIds.{some_bad_is}
 use Rattle.btf_open_causes.proofs.references.references.is_some_bad.Goals as goal
 
-pub loop-k-init : goal.loop-k-init
-loop-k-init c = λ v h. absurd (omega arith)
-
-pub returns-then-is_bad : goal.returns-then-is_bad
-returns-then-is_bad c = each_yes _ _ _ _ _ _ (followed_count_is _ _ _ _ c.entry-e.ensures _ _ c.count_at-n.ensures) _ _ c.loop-k-test.true (followed_is _ _ _ _ c.entry-e.ensures _ _ _ c.id_at.ensures) c.is_bad.ensures c.if-is_bad.true
-
-pub loop-k-preserved : goal.loop-k-preserved
-loop-k-preserved c = each_more _ _ _ _ _ _ _ c.loop-k.invariant (followed_is _ _ _ _ c.entry-e.ensures _ _ _ c.id_at.ensures) c.is_bad.ensures c.if-is_bad.false
-
 pub returns : goal.returns
-returns c = each_no _ _ _ _ _ _ (followed_count_is _ _ _ _ c.entry-e.ensures _ _ c.count_at-n.ensures) c.loop-k-test.false c.loop-k.invariant
+returns c =
+    let e = c.entry-e.result in
+    let n = c.count_at-n.result in
+    let test = λ (k : ℕ). is_bad c.args.b c.args.start.now (id_at c.args.b c.args.section.now (e % 32) (e / 32) k) in
+    any_from_yields_List test _ _ c.any.result c.any.ensures.ran (YieldsList-from_range 0 n n refl (omega arith)) (λ x b q k. search (rules, tests))
+    ∙ any_range test n
+    ∙ some_bad_is c.args.b c.args.section.now c.args.start.now c.args.x e n c.entry-e.ensures c.count_at-n.ensures
