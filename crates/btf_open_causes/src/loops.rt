@@ -1,6 +1,6 @@
 // Cause 8: a loop of pointers, arrays, qualifiers, type tags, typedefs and prototypes only. A walk down the graph: st[x] is
-// 0 for a new type, m for one on the walk whose first m - 1 successors are passed, and 131072 for one that is done; the
-// stack is the walk. Each turn raises one word of st. A type with no successors is passed and never stands on the walk.
+// NEW, or k + 1 for one on the walk whose first k successors are passed, or DONE; the stack is the walk. Each turn raises one
+// word of st. A type with no successors is passed and never stands on the walk.
 ghost use Rattle.std.specs.Prelude.{◌≡◌, ◌<◌, ◌≤◌};
 ghost use Rattle.btf_open_causes.specs.references.Followed.{id_at};
 ghost use Rattle.btf_open_causes.specs.loops.Graph.{has_loop};
@@ -11,6 +11,11 @@ use crate::references::{count, count_at, entry, id_at};
 use base_bytes::limit;
 use btf_type_table::kind;
 use spec_type_table::TypeTable;
+
+// No type has so many successors. (A word and no enum: a cell of an enum that holds a number takes eight bytes a type, not four.)
+const NEW: u32 = 0;
+
+const DONE: u32 = 131072;
 
 // How many successors the record of a kind at a place has.
 fn degree(b: TypeTable, section: &[u8], kind: u32, at: u32) -> u32
@@ -27,26 +32,20 @@ fn is_open(b: TypeTable, section: &[u8], start: &[u32], st: &[u32], y: u32) -> b
     requires { Known (graph_of b section.now start.now) st.now }
     ensures { Opened (graph_of b section.now start.now) st.now y result }
 {
-    let at = y as usize;
-    if st.len() <= at {
+    let Some(&w) = st.get(y as usize) else {
         return false;
+    };
+    match w {
+        NEW => {
+            let e = entry(b, start, y);
+            degree(b, section, e % 32, e / 32) != 0
+        }
+        DONE.. => false,
+        _ => true,
     }
-    let w = st[at];
-    let is_done = 131072 <= w;
-    if is_done {
-        return false;
-    }
-    if w != 0 {
-        return true;
-    }
-    let e = entry(b, start, y);
-    if degree(b, section, e % 32, e / 32) == 0 {
-        return false;
-    }
-    true
 }
 
-// The first m, from the given one on, whose successor m - 1 is open; n + 1 where none is.
+// The first k, from the given one on and below n, whose successor k is open.
 fn pass(
     b: TypeTable,
     section: &[u8],
@@ -56,23 +55,15 @@ fn pass(
     at: u32,
     n: u32,
     from: u32,
-) -> u32
-    requires { Known (graph_of b section.now start.now) st.now × (0 < from) × (n ≤ 65536) }
+) -> Option<u32>
+    requires { Known (graph_of b section.now start.now) st.now }
     ensures { Passes (graph_of b section.now start.now) st.now
         (id_at b section.now kind at) n from result }
 {
-    let mut m = from;
-    while m <= n {
-        let y = id_at(b, section, kind, at, m - 1);
-        if is_open(b, section, start, st, y) {
-            return m;
-        }
-        m += 1;
-    }
-    m
+    (from..n).find(|k| is_open(b, section, start, st, id_at(b, section, kind, at, *k)))
 }
 
-// One step of the walk: one type more on it, or one less; 262146 says that there is a loop.
+// One step of the walk: one type more on it, or one less. None: there is a loop.
 fn turn(
     b: TypeTable,
     section: &[u8],
@@ -80,7 +71,7 @@ fn turn(
     st: &mut [u32],
     stack: &mut [u32],
     d: usize,
-) -> usize
+) -> Option<usize>
     requires { Inv (graph_of b section.now start.now) st.old stack.old d × (0 < d) }
     ensures { Turned (graph_of b section.now start.now) st.old d st.new
         stack.new result }
@@ -91,21 +82,20 @@ fn turn(
     let kind = e % 32;
     let place = e / 32;
     let n = degree(b, section, kind, place);
-    let from = st[at];
-    let m = pass(b, section, start, st, kind, place, n, from);
-    st[at] = m;
-    if n < m {
-        st[at] = 131072;
-        return d - 1;
-    }
-    let y = id_at(b, section, kind, place, m - 1);
+    let passed = st[at] - 1;
+    let Some(k) = pass(b, section, start, st, kind, place, n, passed) else {
+        st[at] = DONE;
+        return Some(d - 1);
+    };
+    st[at] = k + 1;
+    let y = id_at(b, section, kind, place, k);
     let next = y as usize;
-    if st[next] != 0 {
-        return 262146;
+    if st[next] != NEW {
+        return None;
     }
     st[next] = 1;
     stack[d] = y;
-    d + 1
+    Some(d + 1)
 }
 
 // Whether a walk from x meets a loop.
@@ -121,23 +111,22 @@ fn walk(
     ensures { Walked (graph_of b section.now start.now) x st.new stack.new result }
 {
     let at = x as usize;
-    if st[at] != 0 {
+    if st[at] != NEW {
         return false;
     }
     let e = entry(b, start, x);
     if degree(b, section, e % 32, e / 32) == 0 {
-        st[at] = 131072;
+        st[at] = DONE;
         return false;
     }
     st[at] = 1;
     stack[0] = x;
     let mut d: usize = 1;
     while d > 0 {
-        let r = turn(b, section, start, st, stack, d);
-        if r == 262146 {
+        let Some(next) = turn(b, section, start, st, stack, d) else {
             return true;
-        }
-        d = r;
+        };
+        d = next;
     }
     false
 }
@@ -146,13 +135,10 @@ fn scan(b: TypeTable, section: &[u8], start: &[u32], st: &mut [u32], stack: &mut
     requires { Inv (graph_of b section.now start.now) st.old stack.old 0 }
     ensures { result ≡ has_loop (graph_of b section.now start.now) }
 {
-    let n = count(b);
-    let mut i: u32 = 0;
-    while i < n {
-        if walk(b, section, start, st, stack, i) {
+    for x in 0..count(b) {
+        if walk(b, section, start, st, stack, x) {
             return true;
         }
-        i += 1;
     }
     false
 }

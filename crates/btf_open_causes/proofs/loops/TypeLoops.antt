@@ -33,9 +33,9 @@ module _ (b : TypeTable) (s start : List ℕ) where
   unfolding deg_of
   deg_by x i e n f = rw (← kind_is b start x i e, ← place_is b start x i e) f
 
-  pub passed_by : (x i : ℕ) → i ≡ entry_at b start x → (n m r : ℕ) → Passed (graph_of b s start) (id_at b s (i % 32) (i / 32)) n m r
-      → Passed (graph_of b s start) (followed_id b s start x) n m r
-  passed_by x i e n m r w = record { from = w.from; upto = w.upto; ones = λ k p q. subst (Safe (graph_of b s start)) (followed_is b start x i e s _ k refl) (w.ones k p q) }
+  pub passed_by : (x i : ℕ) → i ≡ entry_at b start x → (m r : ℕ) → Passed (graph_of b s start) (id_at b s (i % 32) (i / 32)) m r
+      → Passed (graph_of b s start) (followed_id b s start x) m r
+  passed_by x i e m r w k p q = subst (Safe (graph_of b s start)) (followed_is b start x i e s _ k refl) (w k p q)
 
   module _ (x : ℕ) where
     deg_passing : is_kind_among passing (kind_at b start x) ≡ true → deg_of b s start x ≡ followed_count b s start x

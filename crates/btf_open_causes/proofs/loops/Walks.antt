@@ -1,20 +1,20 @@
 -- The invariant of the walk of cause 8 through each of its steps. Assumes nothing.
 use Prim.Native.Nat.{ℕ, suc, ◌+◌, ◌-◌, ◌<◌, ◌≤◌}
 use mathlib.Core.Path.{◌≡◌, refl, ap, ◌∙◌, sym, subst}
-use mathlib.Core.Bool.{Bool, true, false, true≢false}
+use mathlib.Core.Bool.{Bool, true, false, true≢false, not}
 use mathlib.Core.List.{List}
 use mathlib.Core.Logic.{⊎_elim, ◌≢◌, inl, inr}
 use native.Mathlib.Omega.{arith}
 use native.Mathlib.Decide.{ℕ_discrete}
 use lib.ListN.{length, get_or, set, length-set, get_or-eq_default}
 use lib.Seq.{get_or-set_same, get_or-set_other}
-use lib.Dec.{ltb}
-use borrow.Author.Tests.{lt-ltb, le-ltb}
+use lib.Dec.{ltb, eqb}
+use borrow.Author.Tests.{lt-ltb, le-ltb, eqb-true}
 use Rattle.spec_bytes.proofs.words.Laws.{le_or_lt}
 use Rattle.btf_open_causes.specs.references.Zeros.{zeros}
 use Rattle.btf_open_causes.proofs.references.Zeros.{total_set, zeros_same, zeros_less, zeros_max, each_set, nothing, length_replicate, get_d_zeros}
 use Rattle.btf_open_causes.specs.loops.Graph.{Graph, Edge, Loop, has_loop}
-use Rattle.btf_open_causes.specs.loops.Walk.{Safe, safe, room, Fine, Known, Opened, Passed, Passes, Inv, Turned, Walked}
+use Rattle.btf_open_causes.specs.loops.Walk.{Safe, safe, room, Fine, Known, Open, Opened, Passed, Inv, Ran, Walked}
 use Rattle.btf_open_causes.proofs.loops.Graphs.{cut, all_safe, has_loop_yes, has_loop_no}
 
 pub room_less : (l : List ℕ) (i v : ℕ) → i < length l → get_or l i 0 < v → v ≤ 131072 → room (set l i v) < room l
@@ -72,22 +72,20 @@ module _ (G : Graph) (st stack : List ℕ) (d : ℕ) (inv : Inv G st stack d) (p
   pub space : (y : ℕ) → y < 262145 → get_or st y 0 ≡ 0 → d < 262145
   space y b z = omega (arith, zeros_less st y 1 (omega (arith, inv.st_length)) z (omega arith), inv.deep)
 
-  pub pop : (g : ℕ) → g ≡ G.deg (top stack d) → g < get_or st (top stack d) 0 → Turned G st d (set st (top stack d) 131072) stack (d - 1)
+  -- all successors of the top are passed
+  pub pop : (g : ℕ) → g ≡ G.deg (top stack d) → Passed G (G.to (top stack d)) (get_or st (top stack d) 0 - 1) g → Ran G st d (set st (top stack d) 131072) stack (d - 1)
   pop g e h = record {
-    stop = λ q. absurd (omega (arith, inv.deep));
-    go = λ _. record {
-      inv = record {
-        st_length = simp length-set inv.st_length;
-        stack_length = inv.stack_length;
-        deep = omega (arith, zeros_same st x 131072 in_st top_begun (omega arith), inv.deep);
-        begun = λ j p. up (get_or stack j 0) (inv.begun j (omega arith));
-        held = each_set (Held stack (d - 1)) st x 131072 in_st others (λ a b. absurd (omega arith));
-        way = λ j p. inv.way j (omega arith);
-        fine = each_set (Fine G) st x 131072 in_st (λ v n. inv.fine v) (record { passed = λ p. absurd (omega arith); done = λ p. here });
-      };
-      rises = up;
-      less = omega (arith, room_le st x in_st);
+    inv = record {
+      st_length = simp length-set inv.st_length;
+      stack_length = inv.stack_length;
+      deep = omega (arith, zeros_same st x 131072 in_st top_begun (omega arith), inv.deep);
+      begun = λ j p. up (get_or stack j 0) (inv.begun j (omega arith));
+      held = each_set (Held stack (d - 1)) st x 131072 in_st others (λ a b. absurd (omega arith));
+      way = λ j p. inv.way j (omega arith);
+      fine = each_set (Fine G) st x 131072 in_st (λ v n. inv.fine v) (record { passed = λ p. absurd (omega arith); done = λ p. here });
     };
+    rises = up;
+    less = omega (arith, room_le st x in_st);
   }
     where
       x : ℕ
@@ -106,28 +104,25 @@ module _ (G : Graph) (st stack : List ℕ) (d : ℕ) (inv : Inv G st stack d) (p
           low j p r = omega arith
 
       here : Safe G (top stack d)
-      here = ⊎_elim (inv.fine (top stack d)).done (λ p. safe (λ k q. (inv.fine (top stack d)).passed p k (omega arith))) (le_or_lt 131072 (get_or st (top stack d) 0))
+      here = ⊎_elim (inv.fine (top stack d)).done (λ b. safe (λ k q. ⊎_elim (λ p. (inv.fine (top stack d)).passed b k p) (λ p. h k (omega arith) (omega arith)) (le_or_lt (suc (suc k)) (get_or st (top stack d) 0)))) (le_or_lt 131072 (get_or st (top stack d) 0))
 
   module _ (g : ℕ) (e : g ≡ G.deg (top stack d)) (h : get_or st (top stack d) 0 ≤ g) (y : ℕ) (to : y ≡ G.to (top stack d) (get_or st (top stack d) 0 - 1)) where
     edge : Edge G (top stack d) y
     edge = (get_or st (top stack d) 0 - 1, omega (arith, top_begun), sym to)
 
-    pub push : y < 262145 → get_or st y 0 ≡ 0 → Turned G st d (set st y 1) (set stack d y) (d + 1)
+    pub push : y < 262145 → get_or st y 0 ≡ 0 → Ran G st d (set st y 1) (set stack d y) (d + 1)
     push b z = record {
-      stop = λ q. absurd (omega (arith, fresh, inv.deep));
-      go = λ _. record {
-        inv = record {
-          st_length = simp length-set inv.st_length;
-          stack_length = simp length-set inv.stack_length;
-          deep = omega (arith, fresh, inv.deep);
-          begun = begun;
-          held = each_set (Held (set stack d y) (d + 1)) st y 1 in_st held (λ p q. (d, omega arith, last));
-          way = way;
-          fine = each_set (Fine G) st y 1 in_st (λ v n. inv.fine v) (record { passed = λ p k q. absurd (omega arith); done = λ p. absurd (omega arith) });
-        };
-        rises = up;
-        less = omega (arith, room_less st y 1 in_st (omega arith) (omega arith));
+      inv = record {
+        st_length = simp length-set inv.st_length;
+        stack_length = simp length-set inv.stack_length;
+        deep = omega (arith, fresh, inv.deep);
+        begun = begun;
+        held = each_set (Held (set stack d y) (d + 1)) st y 1 in_st held (λ p q. (d, omega arith, last));
+        way = way;
+        fine = each_set (Fine G) st y 1 in_st (λ v n. inv.fine v) (record { passed = λ p k q. absurd (omega arith); done = λ p. absurd (omega arith) });
       };
+      rises = up;
+      less = omega (arith, room_less st y 1 in_st (omega arith) (omega arith));
     }
       where
         in_st : y < length st
@@ -175,8 +170,8 @@ module _ (G : Graph) (st stack : List ℕ) (d : ℕ) (inv : Inv G st stack d) (p
                 subst (λ (a : ℕ). Edge G (get_or (set stack d y) j 0) (get_or (set stack d y) a 0)) r
                 (rw (last, same j (omega arith)) (subst (λ (a : ℕ). Edge G (get_or stack a 0) y) i edge))
 
-    pub found : (get_or st y 0 ≡ 0 → ⊥) → get_or st y 0 < 131072 → Turned G st d st stack 262146
-    found a b = record { stop = λ q. loop (inv.held y (omega arith) b); go = λ n. absurd (n refl) }
+    pub found : (get_or st y 0 ≡ 0 → ⊥) → get_or st y 0 < 131072 → Loop G
+    found a b = loop (inv.held y (omega arith) b)
       where
         loop : (j : ℕ) × (j < d) × (get_or stack j 0 ≡ y) → Loop G
         loop q = cut G (closing stack d y) q.0 d q.1 (closing_in stack d y q.0 q.1 ∙ q.2 ∙ sym (closing_end stack d y d (omega arith))) edges
@@ -199,14 +194,19 @@ no_way_safe G x n e z = safe none
     none : (k : ℕ) → k < G.deg x → Safe G (G.to x k)
     none k h = absurd (omega arith)
 
-pub shut_is : (G : Graph) (st : List ℕ) (y : ℕ) → Safe G y → Opened G st y false
-shut_is G st y s = record { shut = λ e. s; inside = λ e. absurd (true≢false (sym e)) }
-
 pub shut_out : (G : Graph) (st : List ℕ) (y : ℕ) → Known G st → length st ≤ y → Opened G st y false
-shut_out G st y w h = shut_is G st y (out_safe G y (omega (arith, w.st_length)))
+shut_out G st y w h = out_safe G y (omega (arith, w.st_length))
 
-pub open_is : (G : Graph) (st : List ℕ) (y : ℕ) → Known G st → y < length st → get_or st y 0 < 131072 → Opened G st y true
-open_is G st y w h l = record { shut = λ e. absurd (true≢false e); inside = λ e. (omega (arith, w.st_length), l) }
+-- a new node is open, if it has successors
+pub new_is : (G : Graph) (st : List ℕ) (y : ℕ) → Known G st → y < length st → get_or st y 0 ≡ 0 → (n : ℕ) → n ≡ G.deg y → Opened G st y (not (eqb n 0))
+new_is G st y w h z n e = go (eqb n 0) refl
+  where
+    go : (t : Bool) → eqb n 0 ≡ t → Opened G st y (not t)
+    go true q = no_way_safe G y n e (eqb-true n 0 q)
+    go false q = (omega (arith, w.st_length), omega arith)
+
+pub open_at : (st : List ℕ) (a y : ℕ) → y ≡ a → Open st a → Open st y
+open_at st a y e o = subst (Open st) (sym e) o
 
 pub known : (G : Graph) (st stack : List ℕ) (d : ℕ) → Inv G st stack d → Known G st
 known G st stack d inv = record { st_length = inv.st_length; fine = inv.fine }
@@ -214,79 +214,49 @@ known G st stack d inv = record { st_length = inv.st_length; fine = inv.fine }
 pub few_at : (G : Graph) (st stack : List ℕ) (d : ℕ) → Inv G st stack d → (x n : ℕ) → n ≡ G.deg x → n ≤ 65536
 few_at G st stack d inv x n e = omega (arith, G.few x)
 
--- the successors, one after another
-module _ (G : Graph) (to : ℕ → ℕ) (n m : ℕ) where
-  pub pass_start : Passed G to n m m
-  pass_start = record { from = omega arith; upto = inl refl; ones = λ k p q. absurd (omega arith) }
-
-  module _ (r : ℕ) (w : Passed G to n m r) where
-    pub pass_more : r ≤ n → 0 < m → (y : ℕ) → y ≡ to (r - 1) → Safe G y → Passed G to n m (r + 1)
-    pass_more l z y e s = record {
-      from = omega (arith, w.from);
-      upto = inr (omega arith);
-      ones = λ k p q. ⊎_elim (λ h. w.ones k p h) (λ h. let t : r - 1 ≡ k = omega (arith, w.from) in subst (Safe G) (e ∙ ap to t) s) (le_or_lt (suc (suc k)) r);
-    }
-
-    module _ (st : List ℕ) where
-      pub pass_all : n < r → Passes G st to n m r
-      pass_all h = record { passed = w; next = λ l. absurd (omega arith) }
-
-      pub pass_one : (y : ℕ) → y ≡ to (r - 1) → (t : Bool) → Opened G st y t → t ≡ true → Passes G st to n m r
-      pass_one y e t o q = record { passed = w; next = λ l. subst (λ (a : ℕ). (a < 262145) × (get_or st a 0 < 131072)) e (o.inside q) }
-
-pub next_at : (G : Graph) (st : List ℕ) (to : ℕ → ℕ) (n m r : ℕ) → Passes G st to n m r → r ≤ n → (y : ℕ) → y ≡ to (r - 1) → (y < 262145) × (get_or st y 0 < 131072)
-next_at G st to n m r w l y e = subst (λ (a : ℕ). (a < 262145) × (get_or st a 0 < 131072)) (sym e) (w.next l)
-
--- a turn that passed the top's successors up to p - 1
-module _ (G : Graph) (st stack : List ℕ) (d : ℕ) (inv : Inv G st stack d) (pos : 0 < d) (g : ℕ) (e : g ≡ G.deg (top stack d)) (p : ℕ)
-    (w : Passed G (G.to (top stack d)) g (get_or st (top stack d) 0) p) where
+-- a turn that passed the top's successors before k, which is open
+module _ (G : Graph) (st stack : List ℕ) (d : ℕ) (inv : Inv G st stack d) (pos : 0 < d) (g : ℕ) (e : g ≡ G.deg (top stack d)) (k : ℕ) (l : get_or st (top stack d) 0 - 1 ≤ k) (h : k < g)
+    (w : Passed G (G.to (top stack d)) (get_or st (top stack d) 0 - 1) k) where
   in_st : top stack d < length st
   in_st = inside st (top stack d) (top_begun G st stack d inv pos)
 
-  pub some_way : 0 < p
-  some_way = omega (arith, top_begun G st stack d inv pos, w.from)
+  up : (v : ℕ) → 0 < get_or st v 0 → 0 < get_or (set st (top stack d) (k + 1)) v 0
+  up = rises st (top stack d) (k + 1) in_st (omega arith)
 
-  up : (v : ℕ) → 0 < get_or st v 0 → 0 < get_or (set st (top stack d) p) v 0
-  up = rises st (top stack d) p in_st some_way
+  same : get_or (set st (top stack d) (k + 1)) (top stack d) 0 ≡ k + 1
+  same = get_or-set_same st (top stack d) (k + 1) 0 in_st
 
-  same : get_or (set st (top stack d) p) (top stack d) 0 ≡ p
-  same = get_or-set_same st (top stack d) p 0 in_st
-
-  fine_at : Fine G (top stack d) p
+  fine_at : Fine G (top stack d) (k + 1)
   fine_at = record {
-    passed = λ l k q. ⊎_elim (λ h. (inv.fine (top stack d)).passed (omega (arith, w.from)) k h) (λ h. w.ones k (omega arith) q) (le_or_lt (suc (suc k)) (get_or st (top stack d) 0));
-    done = λ l. ⊎_elim (λ r. (inv.fine (top stack d)).done (omega arith)) (λ r. absurd (omega (arith, G.few (top stack d)))) w.upto;
+    passed = λ b j q. ⊎_elim (λ p. (inv.fine (top stack d)).passed (omega arith) j p) (λ p. w j (omega arith) (omega arith)) (le_or_lt (suc (suc j)) (get_or st (top stack d) 0));
+    done = λ b. absurd (omega (arith, G.few (top stack d)));
   }
 
-  pub passed_inv : Inv G (set st (top stack d) p) stack d
+  pub passed_inv : Inv G (set st (top stack d) (k + 1)) stack d
   passed_inv = record {
     st_length = simp length-set inv.st_length;
     stack_length = inv.stack_length;
-    deep = omega (arith, zeros_same st (top stack d) p in_st (top_begun G st stack d inv pos) some_way, inv.deep);
+    deep = omega (arith, zeros_same st (top stack d) (k + 1) in_st (top_begun G st stack d inv pos) (omega arith), inv.deep);
     begun = λ j q. up (get_or stack j 0) (inv.begun j q);
-    held = each_set (Held stack d) st (top stack d) p in_st (λ v n. inv.held v) (λ a b. (d - 1, omega arith, refl));
+    held = each_set (Held stack d) st (top stack d) (k + 1) in_st (λ v n. inv.held v) (λ a b. (d - 1, omega arith, refl));
     way = inv.way;
-    fine = each_set (Fine G) st (top stack d) p in_st (λ v n. inv.fine v) fine_at;
+    fine = each_set (Fine G) st (top stack d) (k + 1) in_st (λ v n. inv.fine v) fine_at;
   }
 
-  lift : (st' stack' : List ℕ) (r : ℕ) → Turned G (set st (top stack d) p) d st' stack' r → Turned G st d st' stack' r
-  lift st' stack' r t = record {
-    stop = t.stop;
-    go = λ n. let q = t.go n in record { inv = q.inv; rises = λ v h. q.rises v (up v h); less = omega (arith, q.less, room_up st (top stack d) p in_st w.from) };
-  }
+  module _ (y : ℕ) (to : y ≡ G.to (top stack d) k) where
+    next : y ≡ G.to (top stack d) (get_or (set st (top stack d) (k + 1)) (top stack d) 0 - 1)
+    next = let z : k ≡ get_or (set st (top stack d) (k + 1)) (top stack d) 0 - 1 = omega (arith, same) in to ∙ ap (G.to (top stack d)) z
 
-  pub pass_pop : g < p → Turned G st d (set (set st (top stack d) p) (top stack d) 131072) stack (d - 1)
-  pass_pop h = lift _ _ _ (pop G (set st (top stack d) p) stack d passed_inv pos g e (rw same h))
+    pub pass_push : y < 262145 → get_or (set st (top stack d) (k + 1)) y 0 ≡ 0 → Ran G st d (set (set st (top stack d) (k + 1)) y 1) (set stack d y) (d + 1)
+    pass_push b z =
+        let q = push G (set st (top stack d) (k + 1)) stack d passed_inv pos g e (omega (arith, same)) y next b z in
+        record { inv = q.inv; rises = λ v p. q.rises v (up v p); less = omega (arith, q.less, room_up st (top stack d) (k + 1) in_st (omega arith)) }
 
-  module _ (h : p ≤ g) (y : ℕ) (to : y ≡ G.to (top stack d) (p - 1)) where
-    pub pass_push : y < 262145 → get_or (set st (top stack d) p) y 0 ≡ 0 → Turned G st d (set (set st (top stack d) p) y 1) (set stack d y) (d + 1)
-    pass_push b z = lift _ _ _ (push G (set st (top stack d) p) stack d passed_inv pos g e (rw same h) y (rw same to) b z)
-
-    pub pass_found : (get_or (set st (top stack d) p) y 0 ≡ 0 → ⊥) → get_or st y 0 < 131072 → Turned G st d (set st (top stack d) p) stack 262146
-    pass_found n l = lift _ _ _ (found G (set st (top stack d) p) stack d passed_inv pos g e (rw same h) y (rw same to) n low)
+    pub pass_found : (get_or (set st (top stack d) (k + 1)) y 0 ≡ 0 → ⊥) → get_or st y 0 < 131072 → Loop G
+    pass_found n b = found G (set st (top stack d) (k + 1)) stack d passed_inv pos g e (omega (arith, same)) y next n low
       where
-        low : get_or (set st (top stack d) p) y 0 < 131072
-        low = each_set (λ v a. get_or st v 0 < 131072 → a < 131072) st (top stack d) p in_st (λ v n q. q) (λ q. omega (arith, G.few (top stack d))) y l
+        low : get_or (set st (top stack d) (k + 1)) y 0 < 131072
+        low = each_set (λ v a. get_or st v 0 < 131072 → a < 131072) st (top stack d) (k + 1) in_st (λ v n q. q) (λ q. omega (arith, G.few (top stack d))) y b
 
 -- a walk's start, and its end
 module _ (G : Graph) (st stack : List ℕ) (inv : Inv G st stack 0) (x : ℕ) where
@@ -349,8 +319,8 @@ module _ (G : Graph) (st stack : List ℕ) (inv : Inv G st stack 0) (x : ℕ) wh
       in_st : x < length st
       in_st = omega (arith, inv.st_length)
 
-pub walk_loop : (G : Graph) (x : ℕ) (st : List ℕ) (d : ℕ) (st' stack' : List ℕ) (r : ℕ) → Turned G st d st' stack' r → r ≡ 262146 → Walked G x st' stack' true
-walk_loop G x st d st' stack' r t e = record { stop = λ _. t.stop e; go = λ q. absurd (true≢false q) }
+pub walk_loop : (G : Graph) (x : ℕ) (st stack : List ℕ) → Loop G → Walked G x st stack true
+walk_loop G x st stack l = record { stop = λ _. l; go = λ q. absurd (true≢false q) }
 
 pub walk_end : (G : Graph) (x : ℕ) (st stack : List ℕ) (d : ℕ) → Inv G st stack d → d ≤ 0 → 0 < get_or st x 0 → Walked G x st stack false
 walk_end G x st stack d inv l h = let e : d ≡ 0 = omega arith in rest G st stack (subst (Inv G st stack) e inv) x h
@@ -362,11 +332,11 @@ scan_yes G x st' stack' r w e = sym (has_loop_yes G (w.stop e))
 pub scan_more : (G : Graph) (i : ℕ) → ((v : ℕ) → v < i → Safe G v) → Safe G i → (v : ℕ) → v < i + 1 → Safe G v
 scan_more G i h s v l = elim (ℕ_discrete v i) [ yes e ↦ subst (Safe G) (sym e) s | no n ↦ h v (omega arith) ]
 
-pub scan_no : (G : Graph) (n i : ℕ) → n ≡ G.size → n ≤ i → ((v : ℕ) → v < i → Safe G v) → false ≡ has_loop G
-scan_no G n i e l h = go (has_loop G) refl
+pub scan_no : (G : Graph) → ((v : ℕ) → v < G.size → Safe G v) → false ≡ has_loop G
+scan_no G h = go (has_loop G) refl
   where
     go : (t : Bool) → has_loop G ≡ t → false ≡ t
-    go true q = absurd (all_safe (λ x p. h x (omega arith)) (has_loop_no G q))
+    go true q = absurd (all_safe h (has_loop_no G q))
     go false q = refl
 
 first_of : (G : Graph) (n : ℕ) → n ≡ 262145 → Inv G (nothing n) (nothing n) 0

@@ -1,6 +1,6 @@
--- What the walk of cause 8 keeps: st has 0 for a new node, m for one on the walk whose first m - 1 successors are passed, and 131072
+-- What the walk of cause 8 keeps: st has 0 for a new node, k + 1 for one on the walk whose first k successors are passed, and 131072
 -- for a safe one; the stack is the walk, d its length.
-use Rattle.std.specs.Prelude.{ℕ, suc, ◌+◌, ◌-◌, ◌≤◌, ◌<◌, ◌≡◌, Bool, true, false, List, ◌⊎◌, length, get_or}
+use Rattle.std.specs.Prelude.{ℕ, suc, ◌+◌, ◌-◌, ◌≤◌, ◌<◌, ◌≡◌, Bool, true, false, List, MatchBool, Option, MatchOption, length, get_or}
 use Rattle.btf_open_causes.specs.references.Zeros.{total, zeros}
 use Rattle.btf_open_causes.specs.loops.Graph.{Graph, Edge, Loop}
 
@@ -20,21 +20,21 @@ pub record Known (G : Graph) (st : List ℕ) : Type 0 where
   pub st_length : length st ≡ 262145
   pub fine : (v : ℕ) → Fine G v (get_or st v 0)
 
+-- it is known of y that it is a node, and not that it is safe
+abbrev pub Open : List ℕ → ℕ → Type 0
+Open st y = (y < 262145) × (get_or st y 0 < 131072)
+
 -- y is open (r true), or safe
-pub record Opened (G : Graph) (st : List ℕ) (y : ℕ) (r : Bool) : Type 0 where
-  pub shut : r ≡ false → Safe G y
-  pub inside : r ≡ true → (y < 262145) × (get_or st y 0 < 131072)
+abbrev pub Opened : (G : Graph) → List ℕ → ℕ → Bool → Type 0
+Opened G st y r = MatchBool r (Open st y) (Safe G y)
 
--- of the successors to 0, .., n of them, those from m - 1 on and before r - 1 are safe
-pub record Passed (G : Graph) (to : ℕ → ℕ) (n m r : ℕ) : Type 0 where
-  pub from : m ≤ r
-  pub upto : (r ≡ m) ⊎ (r ≤ n + 1)
-  pub ones : (k : ℕ) → m ≤ suc k → suc k < r → Safe G (to k)
+-- the successors to m, .., to (r - 1) are safe
+abbrev pub Passed : (G : Graph) → (ℕ → ℕ) → ℕ → ℕ → Type 0
+Passed G to m r = (k : ℕ) → m ≤ k → k < r → Safe G (to k)
 
--- and r - 1, if there is such a one, is open
-pub record Passes (G : Graph) (st : List ℕ) (to : ℕ → ℕ) (n m r : ℕ) : Type 0 where
-  pub passed : Passed G to n m r
-  pub next : r ≤ n → (to (r - 1) < 262145) × (get_or st (to (r - 1)) 0 < 131072)
+-- the first of to m, .., to (n - 1) that is open, those before it safe; or all are safe
+abbrev pub Passes : (G : Graph) → List ℕ → (ℕ → ℕ) → ℕ → ℕ → Option ℕ → Type 0
+Passes G st to n m r = MatchOption r (Passed G to m n) (λ k. (m ≤ k) × (k < n) × Open st (to k) × Passed G to m k)
 
 pub record Inv (G : Graph) (st stack : List ℕ) (d : ℕ) : Type 0 where
   pub st_length : length st ≡ 262145
@@ -51,9 +51,8 @@ pub record Ran (G : Graph) (st : List ℕ) (d : ℕ) (st' stack' : List ℕ) (r 
   pub rises : (v : ℕ) → 0 < get_or st v 0 → 0 < get_or st' v 0
   pub less : room st' + room st' + r < room st + room st + d
 
-pub record Turned (G : Graph) (st : List ℕ) (d : ℕ) (st' stack' : List ℕ) (r : ℕ) : Type 0 where
-  pub stop : r ≡ 262146 → Loop G
-  pub go : (r ≡ 262146 → ⊥) → Ran G st d st' stack' r
+abbrev pub Turned : (G : Graph) → List ℕ → ℕ → List ℕ → List ℕ → Option ℕ → Type 0
+Turned G st d st' stack' r = MatchOption r (Loop G) (Ran G st d st' stack')
 
 pub record Walked (G : Graph) (x : ℕ) (st' stack' : List ℕ) (r : Bool) : Type 0 where
   pub stop : r ≡ true → Loop G

@@ -9,7 +9,7 @@ returns-then-not-is_magic c =
     elim c.then-not-is_magic.branch [
       | then-not-is_magic-via-then-not-is_magic w ↦ bad_magic _ _ c.is_magic.ensures w.if-not-is_magic.true
       | then-not-is_magic-via-else-not-is_magic+then-h-lt-LEAST_HEADER w ↦
-        bad_length _ _ c.btf_header-h.ensures (sym c.is_magic.ensures ∙ w.if-not-is_magic.false) w.if-h-lt-LEAST_HEADER.true
+          bad_length _ _ c.btf_header-h.ensures (sym c.is_magic.ensures ∙ w.if-not-is_magic.false) w.if-h-lt-LEAST_HEADER.true
     ]
 
 pub returns-then-len-area_end : goal.returns-then-len-area_end

@@ -7,8 +7,8 @@ pub returns-then-ends_with : goal.returns-then-ends_with
 returns-then-ends_with c =
     elim c.if-starts_with.branch [
       | then-starts_with w ↦
-        area_all _ (sym c.starts_with.ensures.value ∙ w.if-starts_with.true) (sym w.ends_with.ensures.value ∙ sym w.value-is ∙ c.if-ends_with.true)
-        _ c.largest.ensures
+          area_all _ (sym c.starts_with.ensures.value ∙ w.if-starts_with.true) (sym w.ends_with.ensures.value ∙ sym w.value-is ∙ c.if-ends_with.true)
+          _ c.largest.ensures
       | else-starts_with w ↦ absurd (true≢false (sym c.if-ends_with.true ∙ w.value-is ∙ w.if-starts_with.false))
     ]
 
@@ -17,6 +17,6 @@ returns-else-ends_with c =
     c.if-ends_with.false
     ∙ elim c.if-starts_with.branch [
       | then-starts_with w ↦
-        area_last _ (sym c.starts_with.ensures.value ∙ w.if-starts_with.true) (sym w.ends_with.ensures.value ∙ sym w.value-is ∙ c.if-ends_with.false)
+          area_last _ (sym c.starts_with.ensures.value ∙ w.if-starts_with.true) (sym w.ends_with.ensures.value ∙ sym w.value-is ∙ c.if-ends_with.false)
       | else-starts_with w ↦ area_first _ (sym c.starts_with.ensures.value ∙ w.if-starts_with.false)
     ]
