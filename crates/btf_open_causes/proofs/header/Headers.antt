@@ -1,19 +1,17 @@
 -- Causes 3 and 4: a law for each return, and that the tests decide what `spec_linux_btf` calls a sound header and sound strings.
 -- Assumes nothing.
-use Prim.Native.Nat.{ℕ, suc, ◌+◌, ◌-◌, ◌<◌, ◌≤◌}
+use Prim.Native.Nat.{ℕ, ◌+◌, ◌-◌, ◌<◌, ◌≤◌}
 use mathlib.Core.Path.{◌≡◌, refl, ap, ◌∙◌, sym}
 use mathlib.Core.Bool.{Bool, true, false, true≢false, ◌&&◌, ◌||◌, not}
 use mathlib.Core.List.{List, [], ◌∷◌}
 use mathlib.Core.Logic.{⊎_elim}
 use native.Mathlib.Omega.{arith}
-use native.Mathlib.Numerals.{add-one}
 use lib.ListN.{length, get_or, take, drop}
-use lib.Seq.{drop-cons, drop-length}
 use lib.Dec.{ltb, leb, eqb}
 use Prim.Native.Nat.{max}
 use Rattle.std.specs.List.{fold, starts_with, ends_with}
 use Rattle.std.specs.Cmp.Lexicographic.{pointwise}
-use borrow.Author.Tests.{lt-ltb, le-ltb, le-leb, lt-leb, leb-true, ne_eqb}
+use borrow.Author.Tests.{lt-ltb, le-ltb, le-leb, lt-leb, leb-true}
 use Rattle.spec_bytes.specs.words.Words.{word_in}
 use Rattle.spec_bytes.proofs.words.Laws.{le_or_lt}
 use Rattle.spec_linux_btf.specs.Reading.{word}

@@ -3,7 +3,7 @@ use Prim.Native.Nat.{ℕ, suc, ◌+◌, ◌-◌, ◌<◌, ◌≤◌}
 use mathlib.Core.Path.{◌≡◌, refl, ap, ◌∙◌, sym, subst}
 use mathlib.Core.Bool.{Bool, true, false, true≢false, not}
 use mathlib.Core.List.{List}
-use mathlib.Core.Logic.{⊎_elim, ◌≢◌, inl, inr}
+use mathlib.Core.Logic.{⊎_elim, ◌≢◌}
 use native.Mathlib.Omega.{arith}
 use native.Mathlib.Decide.{ℕ_discrete}
 use lib.ListN.{length, get_or, set, length-set, get_or-eq_default}
@@ -11,23 +11,24 @@ use lib.Seq.{get_or-set_same, get_or-set_other}
 use lib.Dec.{ltb, eqb}
 use borrow.Author.Tests.{lt-ltb, le-ltb, eqb-true}
 use Rattle.spec_bytes.proofs.words.Laws.{le_or_lt}
+use Rattle.std.proofs.lemmas.List.Sums.{sum_by-set}
 use Rattle.btf_open_causes.specs.references.Zeros.{zeros}
-use Rattle.btf_open_causes.proofs.references.Zeros.{total_set, zeros_same, zeros_less, zeros_max, each_set, nothing, length_replicate, get_d_zeros}
+use Rattle.btf_open_causes.proofs.references.Zeros.{zeros_same, zeros_less, zeros_max, each_set, nothing, length_replicate, get_d_zeros}
 use Rattle.btf_open_causes.specs.loops.Graph.{Graph, Edge, Loop, has_loop}
 use Rattle.btf_open_causes.specs.loops.Walk.{Safe, safe, room, Fine, Known, Open, Opened, Passed, Inv, Ran, Walked}
 use Rattle.btf_open_causes.proofs.loops.Graphs.{cut, all_safe, has_loop_yes, has_loop_no}
 
 pub room_less : (l : List ℕ) (i v : ℕ) → i < length l → get_or l i 0 < v → v ≤ 131072 → room (set l i v) < room l
 unfolding room
-room_less l i v h a b = omega (arith, total_set (λ v. 131072 - v) l i v h)
+room_less l i v h a b = omega (arith, sum_by-set (λ v. 131072 - v) l i v 0 h)
 
 room_up : (l : List ℕ) (i v : ℕ) → i < length l → get_or l i 0 ≤ v → room (set l i v) ≤ room l
 unfolding room
-room_up l i v h a = omega (arith, total_set (λ v. 131072 - v) l i v h)
+room_up l i v h a = omega (arith, sum_by-set (λ v. 131072 - v) l i v 0 h)
 
 pub room_le : (l : List ℕ) (i : ℕ) → i < length l → room (set l i 131072) ≤ room l
 unfolding room
-room_le l i h = omega (arith, total_set (λ v. 131072 - v) l i 131072 h)
+room_le l i h = omega (arith, sum_by-set (λ v. 131072 - v) l i 131072 0 h)
 
 pub inside : (l : List ℕ) (i : ℕ) → 0 < get_or l i 0 → i < length l
 inside l i h = ⊎_elim (λ p. absurd (none (get_or-eq_default l 0 p))) (λ p. p) (le_or_lt (length l) i)

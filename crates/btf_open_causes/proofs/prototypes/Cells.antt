@@ -6,14 +6,35 @@ use mathlib.Core.List.{List}
 use mathlib.Core.Logic.{⊎_elim}
 use native.Mathlib.Omega.{arith}
 use native.Mathlib.Numerals.{add-one}
-use native.Mathlib.Decide.{ℕ_discrete}
-use lib.ListN.{length, get_or, set, length-set}
+use lib.ListN.{length, get_or, set, length-set, replicate, length-replicate}
+use Rattle.std.proofs.lemmas.List.Sums.{sum_by-set}
+use Rattle.btf_open_causes.specs.declared.prototypes.Cell.{Cell}
+use Rattle.btf_open_causes.specs.declared.prototypes.Cell.TheVariants.{Unknown, No, Yes, Passed}
 use Rattle.spec_bytes.proofs.words.Laws.{le_or_lt}
-use Rattle.btf_open_causes.specs.references.Zeros.{zeros}
 use Rattle.btf_open_causes.specs.prototypes.Track.{Track, Leads, here, on}
-use Rattle.btf_open_causes.specs.prototypes.Cells.{iter, Fair, Fairs, Rest, Looked, Run, Settle, Answer}
-use Rattle.btf_open_causes.proofs.references.Zeros.{zeros_less, zeros_max, each_set, nothing, length_replicate, get_d_zeros}
+use Rattle.btf_open_causes.specs.prototypes.Cells.{iter, Says, Fair, Fairs, Rest, Looked, is_unknown, unknowns, Run, Settle, Answer}
+use Rattle.btf_open_causes.proofs.references.Zeros.{sum_max, each_at}
 use Rattle.btf_open_causes.proofs.prototypes.Tracks.{leads_yes, leads_no}
+
+pub says_no : (w : ℕ) → 0 ≡ w → (w ≡ 1 → ⊥) × (w ≡ 2 → ⊥)
+says_no w e = (λ q. absurd (omega arith), λ q. absurd (omega arith))
+
+unknowns_less : (l : List Cell) (i : ℕ) → i < length l → get_or l i Unknown ≡ Unknown → unknowns (set l i Passed) + 1 ≡ unknowns l
+unfolding unknowns
+unknowns_less l i h e = omega (arith, sum_by-set is_unknown l i Passed Unknown h, ap is_unknown e)
+
+unknowns_max : (l : List Cell) → unknowns l ≤ length l
+unfolding unknowns
+unknowns_max = sum_max is_unknown one
+  where
+    one : (a : Cell) → is_unknown a ≤ 1
+    one Unknown = omega arith
+    one No = omega arith
+    one Yes = omega arith
+    one Passed = omega arith
+
+pub looked_as : (T : Track) (cell : List Cell) (z : ℕ) (s : Cell) → Looked T cell z s → (w : Cell) → s ≡ w → Looked T cell z w
+looked_as T cell z s l w e = subst (Looked T cell z) e l
 
 module _ (T : Track) where
   neither : {x : ℕ} → Leads T x → (T.what x ≡ 1 → ⊥) → (T.what x ≡ 2 → ⊥) → ⊥
@@ -27,90 +48,56 @@ module _ (T : Track) where
   further (here e) a = absurd (omega arith)
   further (on e r) a = r
 
-  module _ (cell : List ℕ) (fs : Fairs T cell) (z : ℕ) where
-    pub look_out : length cell ≤ z → Looked T cell z 1
-    look_out h = record {
-      go = λ e. absurd (omega arith);
-      no_lead = λ e l. let q = T.out z (omega (arith, T.fits, fs.cell_length)) in neither l (omega arith) (omega arith);
-      lead = λ e. absurd (omega arith);
-      marked = λ a b c. absurd (b refl);
-    }
+  module _ (cell : List Cell) (fs : Fairs T cell) (z : ℕ) where
+    pub look_out : length cell ≤ z → Leads T z → ⊥
+    look_out h l = let q = T.out z (omega (arith, T.fits, fs.cell_length)) in neither l (omega arith) (omega arith)
 
-    pub look_cell : (get_or cell z 0 ≡ 0 → ⊥) → Looked T cell z (get_or cell z 0)
-    look_cell n = record {
-      go = λ e. absurd (n e);
-      no_lead = (fs.fair z).no_lead;
-      lead = (fs.fair z).lead;
-      marked = λ a b c. omega (arith, (fs.fair z).max);
-    }
+    pub look_known : (w : Cell) → w ≡ get_or cell z Unknown → (w ≡ Unknown → ⊥) → Looked T cell z w
+    look_known Unknown e n = absurd (n refl)
+    look_known No e n = subst (Fair T z) (sym e) (fs.fair z)
+    look_known Yes e n = subst (Fair T z) (sym e) (fs.fair z)
+    look_known Passed e n = sym e
 
-    pub look_on : z < length cell → get_or cell z 0 ≡ 0 → (k : ℕ) → k ≡ T.what z → k ≡ 1 → Looked T cell z 0
-    look_on h e k f g = record {
-      go = λ _. (omega (arith, fs.cell_length), e, sym f ∙ g);
-      no_lead = λ q. absurd (omega arith);
-      lead = λ q. absurd (omega arith);
-      marked = λ a. absurd (a refl);
-    }
+    pub look_says : z < length cell → get_or cell z Unknown ≡ Unknown → (w : Cell) → Says (T.what z) w → Looked T cell z w
+    look_says h e Unknown q = (omega (arith, fs.cell_length), e, q)
+    look_says h e No q = λ l. neither l q.0 q.1
+    look_says h e Yes q = here q
+    look_says h e Passed q = absurd q
 
-    pub look_proto : (k : ℕ) → k ≡ T.what z → k ≡ 2 → Looked T cell z 2
-    look_proto k f g = record {
-      go = λ q. absurd (omega arith);
-      no_lead = λ q. absurd (omega arith);
-      lead = λ q. here (sym f ∙ g);
-      marked = λ a b c. absurd (c refl);
-    }
-
-    pub look_none : (k : ℕ) → k ≡ T.what z → (k ≡ 1 → ⊥) → (k ≡ 2 → ⊥) → Looked T cell z 1
-    look_none k f a b = record {
-      go = λ q. absurd (omega arith);
-      no_lead = λ q l. neither l (λ e. a (f ∙ e)) (λ e. b (f ∙ e));
-      lead = λ q. absurd (omega arith);
-      marked = λ p q r. absurd (q refl);
-    }
-
-  marks : (v : ℕ) → Fair T v 3
-  marks v = record { no_lead = λ e. absurd (omega arith); lead = λ e. absurd (omega arith); max = omega arith }
-
-  pub run_start : (y : ℕ) (cell : List ℕ) → Rest T cell → Run T y cell y 0
+  pub run_start : (y : ℕ) (cell : List Cell) → Rest T cell → Run T y cell y 0
   unfolding iter
   run_start y cell r = record {
     fairs = r.fairs;
-    deep = omega (arith, zeros_max cell, r.fairs.cell_length);
+    deep = omega (arith, unknowns_max cell, r.fairs.cell_length);
     at = refl;
     pass = λ i h. absurd (omega arith);
     marked = λ v e. absurd (r.unmarked v e);
   }
 
-  module _ (y : ℕ) (cell : List ℕ) (z m : ℕ) (r : Run T y cell z m) where
-    module _ (s : ℕ) (l : Looked T cell z s) (e₀ : s ≡ 0) where
-      stands : (z < 262145) × (get_or cell z 0 ≡ 0) × (T.what z ≡ 1)
-      stands = l.go e₀
-
-      pub run_at : z < 262145
-      run_at = stands.0
-
-      pub run_less : zeros (set cell z 3) + 1 ≡ zeros cell
-      run_less = zeros_less cell z 3 (omega (arith, stands.0, r.fairs.cell_length)) stands.1 (omega arith)
+  module _ (y : ℕ) (cell : List Cell) (z m : ℕ) (r : Run T y cell z m) where
+    module _ (l : Looked T cell z Unknown) where
+      pub run_less : unknowns (set cell z Passed) + 1 ≡ unknowns cell
+      run_less = unknowns_less cell z (omega (arith, l.0, r.fairs.cell_length)) l.1
 
       pub run_space : m < 262145
       run_space = omega (arith, run_less, r.deep)
 
-      pub run_more : (z' : ℕ) → z' ≡ T.next z → Run T y (set cell z 3) z' (m + 1)
+      pub run_more : (z' : ℕ) → z' ≡ T.next z → Run T y (set cell z Passed) z' (m + 1)
       unfolding iter
       run_more z' e = rw add-one record {
         fairs = record {
           cell_length = simp length-set r.fairs.cell_length;
-          fair = each_set (Fair T) cell z 3 in_cell (λ v n. r.fairs.fair v) (marks z);
+          fair = each_at Unknown (Fair T) cell z Passed in_cell (λ v n. r.fairs.fair v) tt;
         };
         deep = omega (arith, run_less, r.deep);
         at = e ∙ ap T.next r.at;
-        pass = λ i h. ⊎_elim (r.pass i) (λ q. let f : i ≡ m = omega arith in rw (f, ← r.at) stands.2) (le_or_lt (suc i) m);
-        marked = each_set (λ v w. w ≡ 3 → (j : ℕ) × (j < suc m) × (iter T j y ≡ v)) cell z 3 in_cell
+        pass = λ i h. ⊎_elim (r.pass i) (λ q. let f : i ≡ m = omega arith in rw (f, ← r.at) l.2) (le_or_lt (suc i) m);
+        marked = each_at Unknown (λ v w. w ≡ Passed → (j : ℕ) × (j < suc m) × (iter T j y ≡ v)) cell z Passed in_cell
             (λ v n q. let o = r.marked v q in (o.0, low o.0 o.1, o.2)) (λ q. (m, omega arith, sym r.at));
       }
         where
           in_cell : z < length cell
-          in_cell = omega (arith, stands.0, r.fairs.cell_length)
+          in_cell = omega (arith, l.0, r.fairs.cell_length)
 
           low : (j : ℕ) → j < m → j < suc m
           low j h = omega arith
@@ -141,48 +128,43 @@ module _ (T : Track) where
         two : {n : ℕ} → n ≡ 1 → n ≡ 0 → ⊥
         two p q = omega arith
 
-    begin : (w : ℕ) → w < 3 → ((j : ℕ) → j < m → Fair T (iter T j y) w) → Settle T y m w cell y 0
+    begin : (w : Cell) → (w ≡ Passed → ⊥) → ((j : ℕ) → j < m → Fair T (iter T j y) w) → Settle T y m w cell y 0
     unfolding iter
     begin w b f = record {
       fairs = r.fairs;
       at = refl;
       inside = inside;
       right = f;
-      word = b;
+      settled = b;
       marked = λ v q. let o = r.marked v q in (o.0, omega arith, o.1, o.2);
     }
 
-    module _ (s : ℕ) (l : Looked T cell z s) where
-      pub settle_yes : s ≡ 2 → Settle T y m 2 cell y 0
-      settle_yes e = begin 2 (omega arith) (λ j h. record {
-        no_lead = λ q. absurd (omega arith);
-        lead = λ q. up (m - j) j (omega arith) (subst (Leads T) r.at (l.lead e));
-        max = omega arith;
-      })
+    module _ (l : Looked T cell z Yes) where
+      pub settle_yes : Settle T y m Yes cell y 0
+      settle_yes = begin Yes (λ q. cc) (λ j h. up (m - j) j (omega arith) (subst (Leads T) r.at l))
 
-      pub answer_yes : (cell' : List ℕ) → s ≡ 2 → Rest T cell' → Answer T y cell' true
+      pub answer_yes : (cell' : List Cell) → Rest T cell' → Answer T y cell' true
       unfolding iter
-      answer_yes cell' e rest = record { rest = rest; is = leads_yes T y (up m 0 (omega arith) (subst (Leads T) r.at (l.lead e))) }
+      answer_yes cell' rest = record { rest = rest; is = leads_yes T y (up m 0 (omega arith) (subst (Leads T) r.at l)) }
 
-      end_no : (s ≡ 0 → ⊥) → (s ≡ 2 → ⊥) → Leads T (iter T m y) → ⊥
-      end_no a b q = go (ℕ_discrete s 1)
+    module _ (s : Cell) (l : Looked T cell z s) (a : s ≡ Unknown → ⊥) (b : s ≡ Yes → ⊥) where
+      end_no : Leads T (iter T m y) → ⊥
+      end_no q = go s l a b
         where
-          go : Dec (s ≡ 1) → ⊥
-          go (yes e) = l.no_lead e (subst (Leads T) (sym r.at) q)
-          go (no n) = let o = r.marked z (l.marked a n b) in round o.0 o.1 (o.2 ∙ r.at) q o.0 o.1 (o.2 ∙ r.at)
+          go : (w : Cell) → Looked T cell z w → (w ≡ Unknown → ⊥) → (w ≡ Yes → ⊥) → ⊥
+          go Unknown k n p = n refl
+          go No k n p = k (subst (Leads T) (sym r.at) q)
+          go Yes k n p = p refl
+          go Passed k n p = let o = r.marked z k in round o.0 o.1 (o.2 ∙ r.at) q o.0 o.1 (o.2 ∙ r.at)
 
-      pub settle_no : (s ≡ 0 → ⊥) → (s ≡ 2 → ⊥) → Settle T y m 1 cell y 0
-      settle_no a b = begin 1 (omega arith) (λ j h. record {
-        no_lead = λ q f. end_no a b (down (m - j) j (omega arith) f);
-        lead = λ q. absurd (omega arith);
-        max = omega arith;
-      })
+      pub settle_no : Settle T y m No cell y 0
+      settle_no = begin No (λ q. cc) (λ j h f. end_no (down (m - j) j (omega arith) f))
 
-      pub answer_no : (cell' : List ℕ) → (s ≡ 0 → ⊥) → (s ≡ 2 → ⊥) → Rest T cell' → Answer T y cell' false
+      pub answer_no : (cell' : List Cell) → Rest T cell' → Answer T y cell' false
       unfolding iter
-      answer_no cell' a b rest = record { rest = rest; is = leads_no T y (λ f. end_no a b (down m 0 (omega arith) f)) }
+      answer_no cell' rest = record { rest = rest; is = leads_no T y (λ f. end_no (down m 0 (omega arith) f)) }
 
-  module _ (y m w : ℕ) (cell : List ℕ) (z i : ℕ) (t : Settle T y m w cell z i) where
+  module _ (y m : ℕ) (w : Cell) (cell : List Cell) (z i : ℕ) (t : Settle T y m w cell z i) where
     pub settle_at : i < m → z < 262145
     settle_at h = rw t.at (t.inside i h)
 
@@ -191,14 +173,14 @@ module _ (T : Track) where
     settle_more h z' e = rw add-one record {
       fairs = record {
         cell_length = simp length-set t.fairs.cell_length;
-        fair = each_set (Fair T) cell z w in_cell (λ v n. t.fairs.fair v) (rw t.at (t.right i h));
+        fair = each_at Unknown (Fair T) cell z w in_cell (λ v n. t.fairs.fair v) (rw t.at (t.right i h));
       };
       at = e ∙ ap T.next t.at;
       inside = t.inside;
       right = t.right;
-      word = t.word;
-      marked = each_set (λ v a. a ≡ 3 → (j : ℕ) × (suc i ≤ j) × (j < m) × (iter T j y ≡ v)) cell z w in_cell
-          (λ v n q. let o = t.marked v q in (o.0, low o.0 o.1 (λ f. n (sym o.3 ∙ ap (λ (a : ℕ). iter T a y) f ∙ sym t.at)), o.2, o.3)) (λ q. absurd (omega (arith, t.word)));
+      settled = t.settled;
+      marked = each_at Unknown (λ v a. a ≡ Passed → (j : ℕ) × (suc i ≤ j) × (j < m) × (iter T j y ≡ v)) cell z w in_cell
+          (λ v n q. let o = t.marked v q in (o.0, low o.0 o.1 (λ f. n (sym o.3 ∙ ap (λ (a : ℕ). iter T a y) f ∙ sym t.at)), o.2, o.3)) (λ q. absurd (t.settled q));
     }
       where
         in_cell : z < length cell
@@ -213,14 +195,16 @@ module _ (T : Track) where
         none : (j : ℕ) → i ≤ j → j < m → ⊥
         none j a b = omega arith
 
-first_of : (T : Track) (n : ℕ) → n ≡ 262145 → Rest T (nothing n)
+unknown_at : (n v : ℕ) → get_or (replicate n Unknown) v Unknown ≡ Unknown
+unknown_at zero v = refl
+unknown_at (suc n) zero = refl
+unknown_at (suc n) (suc v) = unknown_at n v
+
+first_of : (T : Track) (n : ℕ) → n ≡ 262145 → Rest T (replicate n Unknown)
 first_of T n e = record {
-  fairs = record {
-    cell_length = length_replicate n ∙ e;
-    fair = λ v. record { no_lead = λ p. absurd (omega (arith, get_d_zeros n v)); lead = λ p. absurd (omega (arith, get_d_zeros n v)); max = omega (arith, get_d_zeros n v) };
-  };
-  unmarked = λ v p. omega (arith, get_d_zeros n v);
+  fairs = record { cell_length = length-replicate {A = Cell} n Unknown ∙ e; fair = λ v. rw (unknown_at n v) tt };
+  unmarked = λ v p. let q : Unknown ≡ Passed = sym (unknown_at n v) ∙ p in cc;
 }
 
-pub first : (T : Track) → Rest T (nothing 262145)
+pub first : (T : Track) → Rest T (replicate 262145 Unknown)
 first T = first_of T 262145 refl

@@ -13,6 +13,7 @@ use Rattle.btf_open_causes.specs.references.Any.{any_below}
 use Rattle.btf_open_causes.specs.references.Followed.{is_kind_among, type_count, entry_at, kind_at, count_at, followed_count, followed_id}
 use Rattle.btf_open_causes.specs.prototypes.Track.{Leads, here, on, leads_to}
 use Rattle.btf_open_causes.specs.prototypes.Prototypes.{through, holders, what_of, next_of, track_of, asks_at, asks_of, asker, any_leads, ToProto, ends, passes, ProtoInside}
+use Rattle.btf_open_causes.specs.declared.prototypes.Cell.{Cell}
 use Rattle.btf_open_causes.specs.prototypes.Cells.{Rest, Answer, Part}
 use Rattle.btf_open_causes.proofs.references.Any.{any_find, any_yes, one_more, found_below, none_found}
 use Rattle.btf_open_causes.proofs.references.Accessors.{steady, apart, kind_is, place_is}
@@ -68,12 +69,12 @@ module _ (b : TypeTable) (s start : List ℕ) where
   next_is x r e = e
 
   module _ (x : ℕ) where
-    pub part_more : (k y : ℕ) (cell : List ℕ) (r : Bool) → y ≡ followed_id b s start x k → Answer (track_of b s start) y cell r → r ≡ false
+    pub part_more : (k y : ℕ) (cell : List Cell) (r : Bool) → y ≡ followed_id b s start x k → Answer (track_of b s start) y cell r → r ≡ false
         → ((v : ℕ) → v < k → leads_to (track_of b s start) (followed_id b s start x v) ≡ false)
         → (v : ℕ) → v < k + 1 → leads_to (track_of b s start) (followed_id b s start x v) ≡ false
     part_more k y cell r f a t h = one_more (λ v. leads_to (track_of b s start) (followed_id b s start x v)) k h (ap (leads_to (track_of b s start)) (sym f) ∙ sym a.is ∙ t)
 
-    module _ (n : ℕ) (e : n ≡ asks_of b s start x) (cell : List ℕ) (k : ℕ) where
+    module _ (n : ℕ) (e : n ≡ asks_of b s start x) (cell : List Cell) (k : ℕ) where
       pub part_yes : (y : ℕ) (r : Bool) → k < n → y ≡ followed_id b s start x k → Answer (track_of b s start) y cell r → r ≡ true → Part b s start x cell true
       unfolding asker
       part_yes y r h f a t = record {
@@ -86,12 +87,12 @@ module _ (b : TypeTable) (s start : List ℕ) where
       unfolding asker
       part_no h r a = record { rest = r; is = none_found (λ v. leads_to (track_of b s start) (followed_id b s start x v)) n _ k e h a }
 
-  pub all_more : (i : ℕ) (cell : List ℕ) (r : Bool) → Part b s start i cell r → r ≡ false
+  pub all_more : (i : ℕ) (cell : List Cell) (r : Bool) → Part b s start i cell r → r ≡ false
       → ((v : ℕ) → v < i → asker b s start v ≡ false) → (v : ℕ) → v < i + 1 → asker b s start v ≡ false
   all_more i cell r p t h = one_more (asker b s start) i h (sym p.is ∙ t)
 
   module _ (n i : ℕ) (e : n ≡ type_count b) where
-    pub all_yes : (cell : List ℕ) (r : Bool) → i < n → Part b s start i cell r → r ≡ true → true ≡ any_leads b s start
+    pub all_yes : (cell : List Cell) (r : Bool) → i < n → Part b s start i cell r → r ≡ true → true ≡ any_leads b s start
     unfolding any_leads
     all_yes cell r h p t = found_below (asker b s start) n _ i e r h p.is t
 

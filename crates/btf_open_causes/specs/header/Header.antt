@@ -1,6 +1,6 @@
 -- The header of a section as the code reads it, and the tests of causes 1 to 4. `spec_linux_btf` says what a sound header and a sound
 -- string area are; proofs/Headers.antt that these tests decide it.
-use Rattle.std.specs.Prelude.{ℕ, ◌+◌, ◌/◌, ◌%◌, Bool, true, false, ◌&&◌, ◌||◌, not, List, [], ◌∷◌, length, get_or, take, drop, ltb, leb}
+use Rattle.std.specs.Prelude.{ℕ, ◌+◌, ◌/◌, ◌%◌, Bool, true, false, ◌&&◌, ◌||◌, not, List, length, get_or, take, drop, ltb, leb}
 use Rattle.std.specs.Prelude.{eqb}
 use Rattle.spec_bytes.specs.words.Words.{pick}
 use Rattle.spec_linux_btf.specs.Section.{is_big_endian, little_endian, word_of, strings_sound}

@@ -1,7 +1,7 @@
 -- What the walk of cause 8 keeps: st has 0 for a new node, k + 1 for one on the walk whose first k successors are passed, and 131072
 -- for a safe one; the stack is the walk, d its length.
-use Rattle.std.specs.Prelude.{ℕ, suc, ◌+◌, ◌-◌, ◌≤◌, ◌<◌, ◌≡◌, Bool, true, false, List, MatchBool, Option, MatchOption, length, get_or}
-use Rattle.btf_open_causes.specs.references.Zeros.{total, zeros}
+use Rattle.std.specs.Prelude.{ℕ, suc, ◌+◌, ◌-◌, ◌≤◌, ◌<◌, ◌≡◌, Bool, true, false, List, MatchBool, Option, MatchOption, length, get_or, sum_by}
+use Rattle.btf_open_causes.specs.references.Zeros.{zeros}
 use Rattle.btf_open_causes.specs.loops.Graph.{Graph, Edge, Loop}
 
 -- no endless walk starts at x: it is so of each successor
@@ -9,7 +9,7 @@ pub data Safe (G : Graph) : ℕ → Type 0 where
   safe : {x : ℕ} → ((k : ℕ) → k < G.deg x → Safe G (G.to x k)) → Safe G x
 
 unfoldable pub room : List ℕ → ℕ
-room l = total (λ v. 131072 - v) l
+room l = sum_by (λ v. 131072 - v) l
 
 pub record Fine (G : Graph) (v w : ℕ) : Type 0 where
   pub passed : w < 131072 → (k : ℕ) → suc k < w → Safe G (G.to v k)

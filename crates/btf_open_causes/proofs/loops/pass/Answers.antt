@@ -1,7 +1,6 @@
-use Rattle.std.proofs.Common.{arith, rules, tests, ℕ}
+use Rattle.std.proofs.Common.{rules, tests, ℕ}
 use Rattle.std.proofs.lemmas.Iterator.{first_from_Range}
 use Rattle.btf_open_causes.specs.references.Followed.{id_at}
-use Rattle.btf_open_causes.specs.loops.Graph.{Graph}
 use Rattle.btf_open_causes.specs.loops.Loops.{graph_of}
 use Rattle.btf_open_causes.specs.loops.Walk.{Safe, Open}
 use Rattle.btf_open_causes.proofs.loops.pass.Goals as goal

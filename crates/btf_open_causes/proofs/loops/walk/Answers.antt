@@ -1,5 +1,5 @@
 use Rattle.btf_open_causes.proofs.loops.TypeLoops.{deg_by}
-use Rattle.btf_open_causes.proofs.loops.Walks.{start, rest_at, no_way, walk_loop, walk_end}
+use Rattle.btf_open_causes.proofs.loops.Walks.{start, rest_at, no_way, walk_end}
 use Rattle.btf_open_causes.proofs.loops.walk.Goals as goal
 
 pub returns-then-st-at-ne-NEW : goal.returns-then-st-at-ne-NEW

@@ -4,11 +4,8 @@ use Rattle.btf_open_causes.specs.prototypes.Track.{leads_to}
 use Rattle.btf_open_causes.specs.prototypes.Prototypes.{track_of}
 use mathlib.Core.Bool.{false}
 use mathlib.Core.Path.{◌≡◌}
-use Prim.Native.Nat.{ℕ, ◌-◌, ◌<◌}
+use Prim.Native.Nat.{ℕ, ◌<◌}
 use Rattle.btf_open_causes.proofs.prototypes.asks_of.Given as goal
 
 abbrev pub invariant-loop-k : goal.invariant-loop-k
 invariant-loop-k l = Rest (track_of l.b l.section l.start) l.cell × ((v : ℕ) → v < l.k → leads_to (track_of l.b l.section l.start) (followed_id l.b l.section l.start l.x v) ≡ false)
-
-abbrev pub decreases-loop-k : goal.decreases-loop-k
-decreases-loop-k l = l.n - l.k

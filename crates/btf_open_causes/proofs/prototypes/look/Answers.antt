@@ -1,18 +1,12 @@
-use native.Mathlib.Omega.{arith}
-use Rattle.btf_open_causes.proofs.prototypes.Cells.{look_out, look_cell, look_on, look_proto, look_none}
+use Rattle.std.proofs.Common.{arith, sym, ◌∙◌}
+use Rattle.btf_open_causes.specs.declared.prototypes.Cell.TheVariants.{Unknown}
+use Rattle.btf_open_causes.proofs.prototypes.Cells.{look_out, look_says}
 use Rattle.btf_open_causes.proofs.prototypes.look.Goals as goal
 
-pub returns-then-cell-at : goal.returns-then-cell-at
-returns-then-cell-at c = look_out _ _ c.requires _ c.if-cell-at.true
+pub returns-in-Some-Unknown : goal.returns-in-Some-Unknown
+returns-in-Some-Unknown c =
+    look_says _ _ c.requires _ c.in-Some-Unknown.ensures.lookup.3.0
+    (sym (c.in-Some-Unknown.ensures.lookup.3.1 Unknown) ∙ c.in-Some-Unknown.field-0-is) _ c.cell_of.ensures
 
-pub returns-then-w-ne0 : goal.returns-then-w-ne0
-returns-then-w-ne0 c = look_cell _ _ c.requires _ c.if-w-ne0.true
-
-pub returns-in-1 : goal.returns-in-1
-returns-in-1 c = look_on _ _ c.requires _ c.if-cell-at.false c.if-w-ne0.false _ c.what.ensures c.in-1.is
-
-pub returns-in-2 : goal.returns-in-2
-returns-in-2 c = look_proto _ _ c.requires _ _ c.what.ensures c.in-2.is
-
-pub returns-in_default : goal.returns-in_default
-returns-in_default c = look_none _ _ c.requires _ _ c.what.ensures (omega arith) (omega arith)
+pub returns-in-None : goal.returns-in-None
+returns-in-None c = look_out _ _ c.requires _ (let h = c.in-None.ensures.lookup in omega arith)

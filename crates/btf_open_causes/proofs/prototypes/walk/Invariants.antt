@@ -1,10 +1,9 @@
-use Rattle.btf_open_causes.specs.references.Zeros.{zeros}
-use Rattle.btf_open_causes.specs.prototypes.Cells.{Run, Looked}
+use Rattle.btf_open_causes.specs.prototypes.Cells.{Run, Looked, unknowns}
 use Rattle.btf_open_causes.specs.prototypes.Prototypes.{track_of}
 use Rattle.btf_open_causes.proofs.prototypes.walk.Given as goal
 
-abbrev pub invariant-loop-s : goal.invariant-loop-s
-invariant-loop-s l = Run (track_of l.b l.section l.start) l.y l.cell l.z l.m × Looked (track_of l.b l.section l.start) l.cell l.z l.s
+abbrev pub invariant-loop-seen : goal.invariant-loop-seen
+invariant-loop-seen l = Run (track_of l.b l.section l.start) l.y l.cell l.z l.m × Looked (track_of l.b l.section l.start) l.cell l.z l.seen
 
-abbrev pub decreases-loop-s : goal.decreases-loop-s
-decreases-loop-s l = zeros l.cell
+abbrev pub decreases-loop-seen : goal.decreases-loop-seen
+decreases-loop-seen l = unknowns l.cell
