@@ -2,31 +2,29 @@
 // four bytes each, least significant first.
 ghost use Rattle.std.specs.Prelude.{◌≡◌, ◌-◌, ◌≤◌};
 ghost use Rattle.spec_type_table.specs.Table.{btf_of, type_of};
-ghost use Rattle.btf_layout.specs.size.Answers.{ask_of};
 ghost use Rattle.session_field_at_bit.specs.step.Path.{shape_of, is_composite, behind, path_from, field_path};
 ghost use Rattle.session_field_at_bit.specs.field.Calls.{found_of, lent_path, field_call};
-ghost use Rattle.session_field_at_bit.specs.step.Code.{shape_is, led_to};
+ghost use Rattle.session_field_at_bit.specs.step.Code.{shape_is, asked, led_to};
 ghost use Rattle.session_field_at_bit.specs.field.Code.{written, answer_to};
 
-use crate::step::{Shape, Step, entry_before, next_step};
-use base_bytes::{limit, refusal};
-use btf_layout::size::Ask;
+use crate::step::{Shape, Step, next_step, put_entry};
+use base_bytes::limit;
+use base_bytes::refusal::Refusal;
 use btf_open_causes::header::btf_of;
-use btf_type_table::kind;
-use btf_type_table::kind::kind_of;
 use btf_type_table::node::type_by_id;
 use btf_type_table::section_word::array_type;
 use session_record::settle::is_current;
 use spec_session::session::{Answer, Session};
-use spec_type_table::{BtfType, TypeTable};
+use spec_type_table::{BtfType, Kind, TypeTable};
 
+#[tactic(auto, using(spec_type_table::proofs::KindTypes::kind_types), unfolding(crate::specs::step::Code::shape_is, crate::specs::step::Path::shape_of))]
 fn shape_of(b: TypeTable, section: &[u8], t: BtfType) -> Shape
     ensures { shape_is b section.now result ≡ shape_of (type_of b section.now t) }
 {
-    match kind_of(t.info) {
-        kind::ARRAY => Shape::Array(array_type(b, section, t)),
-        kind::STRUCT | kind::UNION => Shape::Composite(t),
-        kind::TYPEDEF | kind::VOLATILE | kind::CONST | kind::RESTRICT | kind::TYPE_TAG =>
+    match Kind::of(t.info) {
+        Kind::Array => Shape::Array(array_type(b, section, t)),
+        Kind::Struct | Kind::Union => Shape::Composite(t),
+        Kind::Typedef | Kind::Volatile | Kind::Const | Kind::Restrict | Kind::TypeTag =>
             Shape::Through(t.type_id),
         _ => Shape::Plain,
     }
@@ -35,12 +33,7 @@ fn shape_of(b: TypeTable, section: &[u8], t: BtfType) -> Shape
 fn is_composite(b: TypeTable, section: &[u8], t: BtfType) -> bool
     ensures { result ≡ is_composite (shape_of (type_of b section.now t)) }
 {
-    match shape_of(b, section, t) {
-        Shape::Plain => false,
-        Shape::Through(_) => false,
-        Shape::Array(_) => false,
-        Shape::Composite(_) => true,
-    }
+    matches!(shape_of(b, section, t), Shape::Composite(_))
 }
 
 // What stands behind typedefs, qualifiers and type tags.
@@ -51,10 +44,8 @@ fn behind(b: TypeTable, section: &[u8], work: &[u8], id: u32, left: u32) -> Shap
         return Shape::Plain;
     }
     match shape_of(b, section, type_by_id(b, section, work, id)) {
-        Shape::Plain => Shape::Plain,
         Shape::Through(t) => behind(b, section, work, t, left - 1),
-        Shape::Array(t) => Shape::Array(t),
-        Shape::Composite(t) => Shape::Composite(t),
+        shape => shape,
     }
 }
 
@@ -68,27 +59,33 @@ fn walk(
     id: u32,
     bit: u32,
     n: u32,
-) -> Ask
+) -> Result<u32, u32>
     requires { n ≤ 512 }
-    ensures { led_to (ask_of result) path.new
+    ensures { led_to (asked result) path.new
         ≡ written path.old n (path_from (512 - n) (btf_of b section.now work.now) id bit) }
 {
     let shape = behind(b, section, work, id, limit::MOST_CALLS);
-    match next_step(b, section, work, shape, bit) {
-        Step::Stay => Ask::Got(n),
-        Step::No(c) => Ask::No(c),
+    let step = next_step(b, section, work, shape, bit)?;
+    match step {
+        Step::Stay => Ok(n),
         Step::Field(k) => {
             if n == limit::MOST_CALLS {
-                return Ask::No(refusal::TOO_DEEP);
+                return Err(u32::from(Refusal::TooDeep));
             }
-            entry_before(path, n, k, Ask::Got(n + 1))
+            put_entry(path, n, k, n + 1);
+            Ok(n + 1)
         }
-        Step::Enter(k, type_id, rest) => {
+        Step::Enter {
+            entry,
+            type_id,
+            bit,
+        } => {
             if n == limit::MOST_CALLS {
-                return Ask::No(refusal::TOO_DEEP);
+                return Err(u32::from(Refusal::TooDeep));
             }
-            let r = walk(b, section, work, path, type_id, rest, n + 1);
-            entry_before(path, n, k, r)
+            let len = walk(b, section, work, path, type_id, bit, n + 1)?;
+            put_entry(path, n, entry, len);
+            Ok(len)
         }
     }
 }
@@ -98,10 +95,10 @@ fn answer_to(room: usize, len: u32) -> Answer
     ensures { result ≡ answer_to room len }
 {
     if len == 0 {
-        return Answer::Refused(refusal::NO_FIELD, 0);
+        return Answer::Refused(u32::from(Refusal::NoField), 0);
     }
     if room < (len as usize) {
-        return Answer::Refused(refusal::TEXT_FULL, 0);
+        return Answer::Refused(u32::from(Refusal::TextFull), 0);
     }
     Answer::Accepted(len)
 }
@@ -119,11 +116,11 @@ fn find_field(
         ≡ lent_path path.old (field_path (btf_of b section.now work.now) id bit) }
 {
     if !is_composite(b, section, type_by_id(b, section, work, id)) {
-        return Answer::Refused(refusal::NO_FIELD, 0);
+        return Answer::Refused(u32::from(Refusal::NoField), 0);
     }
     match walk(b, section, work, path, id, bit, 0) {
-        Ask::Got(len) => answer_to(path.len() / 4, len),
-        Ask::No(c) => Answer::Refused(c, 0),
+        Ok(len) => answer_to(path.len() / 4, len),
+        Err(c) => Answer::Refused(c, 0),
     }
 }
 
@@ -140,10 +137,10 @@ pub fn which_field(
     ensures { found_of result path.new ≡ field_call s section.now work.now path.old id bit }
 {
     if !is_current(s, section.len(), work.len(), s.text_len as usize) {
-        return Answer::Refused(refusal::SESSION_CLOSED, 0);
+        return Answer::Refused(u32::from(Refusal::SessionClosed), 0);
     }
     if s.types <= id {
-        return Answer::Refused(refusal::NO_SUCH_ID, 0);
+        return Answer::Refused(u32::from(Refusal::NoSuchId), 0);
     }
     let b = btf_of(section, s.pointer_size, s.modes, s.types);
     find_field(b, section, work, path, id, bit)

@@ -1,25 +1,18 @@
 -- A law for each return of src/lib.rt. Assumes nothing.
-use Prim.Native.Nat.{ℕ, zero, suc, zero-le, ◌+◌, ◌-◌, ◌/◌, ◌<◌, ◌≤◌}
+use Prim.Native.Nat.{ℕ, zero, suc, ◌+◌, ◌-◌, ◌/◌, ◌<◌, ◌≤◌}
 use mathlib.Core.Path.{◌≡◌, refl, ap, ◌∙◌, sym}
 use mathlib.Core.Bool.{Bool, true, false, not}
 use mathlib.Core.List.{List, [], ◌∷◌}
-use mathlib.Core.Logic.{⊎_elim}
 use native.Mathlib.Omega.{arith}
 use lib.Dec.{leb}
 use lib.ListN.{length}
 use borrow.Author.Tests.{lt-ltb, le-ltb, le-leb, lt-leb}
 use Rattle.spec_bytes.specs.words.Words.{put_word}
-use Rattle.spec_bytes.proofs.words.Laws.{le_or_lt}
 use Rattle.spec_c_dumper.specs.rules.Writer.{Ask, got, no, ask_then}
-use Rattle.spec_c_dumper.specs.rules.Types.{BtfType}
 use Rattle.spec_type_table.specs.declared.types.TypeTable.{TypeTable}
 use Rattle.spec_type_table.specs.declared.types.BtfType.{BtfType as Record}
-use Rattle.spec_type_table.specs.Records.{kind_of, record_by_id}
-use Rattle.spec_type_table.specs.Table.{extra_word, type_of, btf_of}
-use Rattle.spec_type_table.proofs.KindLaws.{type_0, type_1, type_2, type_3, type_4, type_5, type_6, type_7, type_8, type_9, type_10, type_11, type_12, type_13, type_14, type_15, type_16, type_17, type_18, type_19, type_none}
-use Rattle.btf_layout.specs.declared.size.Ask.{Ask as Code}
-use Rattle.btf_layout.specs.declared.size.Ask.TheVariants as ask
-use Rattle.btf_layout.specs.size.Answers.{ask_of}
+use Rattle.spec_type_table.specs.Records.{record_by_id}
+use Rattle.spec_type_table.specs.Table.{type_of, btf_of}
 use Rattle.spec_session.specs.declared.session.Answer.{Answer}
 use Rattle.spec_session.specs.declared.session.Answer.TheVariants.{Accepted, Refused}
 use Rattle.spec_session.specs.declared.session.Session.{Session}
@@ -28,89 +21,28 @@ use Rattle.session_field_at_bit.specs.declared.step.Shape.{Shape as CodeShape}
 use Rattle.session_field_at_bit.specs.declared.step.Shape.TheVariants as shape
 use Rattle.session_field_at_bit.specs.declared.step.Step.{Step as CodeStep}
 use Rattle.session_field_at_bit.specs.declared.step.Step.TheVariants as step
-use Rattle.session_field_at_bit.specs.step.Path.{Shape, array, shape_of, is_composite, passed, behind, Step, step_in, full, onward, path_from, some_entry, field_path}
+use Rattle.session_field_at_bit.specs.step.Path.{Shape, shape_of, is_composite, passed, behind, Step, step_in, full, onward, path_from, some_entry, field_path}
 use Rattle.session_field_at_bit.specs.field.Calls.{found_of, put_words, lent_path, field_call}
 use Rattle.session_field_at_bit.proofs.step.Laws.{not_false, not_true}
-use Rattle.session_field_at_bit.specs.step.Code.{shape_is, step_is, Led, led_to, entry_put, entry_before}
+use Rattle.session_field_at_bit.specs.step.Code.{shape_is, step_is, step_asked, asked, Led, led_to, entry_put, entry_before}
+use Rattle.std.specs.Prelude.{Result, Ok, Err}
 use Rattle.session_field_at_bit.specs.field.Code.{written, answer_to}
-
--- ---- shape_of
--- k is n, or more
-near : {P : Type 0} → (n k : ℕ) → n ≤ k → (k ≡ n → P) → (suc n ≤ k → P) → P
-near n k h p q = ⊎_elim q (λ l. p (omega arith)) (le_or_lt (suc n) k)
-
-module _ (b : TypeTable) (s : List ℕ) (t : Record) (k : ℕ) (ek : k ≡ kind_of t.info) where
-  shape_is_lem : (T : BtfType) (S : Shape) → type_of b s t ≡ T → shape_of T ≡ S → S ≡ shape_of (type_of b s t)
-  shape_is_lem T S q e = sym (ap shape_of q ∙ e)
-
-  pub shape_array : (x : ℕ) → k ≡ 3 → x ≡ extra_word b s t → shape_is b s (shape.Array x) ≡ shape_of (type_of b s t)
-  unfolding shape_is shape_of
-  shape_array x e ex = ap array ex ∙ shape_is_lem _ _ (type_3 b s t (sym ek ∙ e)) refl
-
-  pub shape_tag : k ≡ 18 → shape_is b s (shape.Through t.type_id) ≡ shape_of (type_of b s t)
-  unfolding shape_is shape_of
-  shape_tag e = shape_is_lem _ _ (type_18 b s t (sym ek ∙ e)) refl
-
-  pub shape_composite : 3 ≤ k → (k ≡ 3 → ⊥) → k < 6 → shape_is b s (shape.Composite t) ≡ shape_of (type_of b s t)
-  unfolding shape_is shape_of
-  shape_composite l n h =
-      let l4 : 4 ≤ k = omega arith in
-      near 4 k l4 (λ e. shape_is_lem _ _ (type_4 b s t (sym ek ∙ e)) refl) (λ g. let e : k ≡ 5 = omega arith in shape_is_lem _ _ (type_5 b s t (sym ek ∙ e)) refl)
-
-  -- 8 to 11
-  pub shape_through : 8 ≤ k → k < 12 → shape_is b s (shape.Through t.type_id) ≡ shape_of (type_of b s t)
-  unfolding shape_is shape_of
-  shape_through l h =
-      near 8 k l (λ e. shape_is_lem _ _ (type_8 b s t (sym ek ∙ e)) refl) (λ l9.
-      near 9 k l9 (λ e. shape_is_lem _ _ (type_9 b s t (sym ek ∙ e)) refl) (λ l10.
-      near 10 k l10 (λ e. shape_is_lem _ _ (type_10 b s t (sym ek ∙ e)) refl) (λ l11.
-      let e : k ≡ 11 = omega arith in shape_is_lem _ _ (type_11 b s t (sym ek ∙ e)) refl)))
-
-  -- 0 to 2
-  pub shape_low : k < 3 → shape_is b s shape.Plain ≡ shape_of (type_of b s t)
-  unfolding shape_is shape_of
-  shape_low h =
-      near 0 k zero-le (λ e. shape_is_lem _ _ (type_0 b s t (sym ek ∙ e)) refl) (λ l1.
-      near 1 k l1 (λ e. shape_is_lem _ _ (type_1 b s t (sym ek ∙ e)) refl) (λ l2.
-      let e : k ≡ 2 = omega arith in shape_is_lem _ _ (type_2 b s t (sym ek ∙ e)) refl))
-
-  -- 6, 7
-  pub shape_enum : 6 ≤ k → k < 8 → shape_is b s shape.Plain ≡ shape_of (type_of b s t)
-  unfolding shape_is shape_of
-  shape_enum l h =
-      near 6 k l (λ e. shape_is_lem _ _ (type_6 b s t (sym ek ∙ e)) refl) (λ g. let e : k ≡ 7 = omega arith in shape_is_lem _ _ (type_7 b s t (sym ek ∙ e)) refl)
-
-  -- from 12 on
-  pub shape_past : 12 ≤ k → (k ≡ 18 → ⊥) → shape_is b s shape.Plain ≡ shape_of (type_of b s t)
-  unfolding shape_is shape_of
-  shape_past l n =
-      near 12 k l (λ e. shape_is_lem _ _ (type_12 b s t (sym ek ∙ e)) refl) (λ l13.
-      near 13 k l13 (λ e. shape_is_lem _ _ (type_13 b s t (sym ek ∙ e)) refl) (λ l14.
-      near 14 k l14 (λ e. shape_is_lem _ _ (type_14 b s t (sym ek ∙ e)) refl) (λ l15.
-      near 15 k l15 (λ e. shape_is_lem _ _ (type_15 b s t (sym ek ∙ e)) refl) (λ l16.
-      near 16 k l16 (λ e. shape_is_lem _ _ (type_16 b s t (sym ek ∙ e)) refl) (λ l17.
-      near 17 k l17 (λ e. shape_is_lem _ _ (type_17 b s t (sym ek ∙ e)) refl) (λ l18.
-      near 18 k l18 (λ e. absurd (n e)) (λ l19.
-      near 19 k l19 (λ e. shape_is_lem _ _ (type_19 b s t (sym ek ∙ e)) refl) (λ l20.
-      let h : 20 ≤ kind_of t.info = omega arith in shape_is_lem _ _ (type_none b s t h) refl))))))))
 
 -- ---- is_composite
 module _ (b : TypeTable) (s : List ℕ) (x : CodeShape) (X : Shape) (ex : shape_is b s x ≡ X) where
-  pub composite_plain : x ≡ shape.Plain → false ≡ is_composite X
-  unfolding shape_is is_composite
-  composite_plain g = ap is_composite (sym (ap (shape_is b s) g) ∙ ex)
-
-  pub composite_through : (t : ℕ) → x ≡ shape.Through t → false ≡ is_composite X
-  unfolding shape_is is_composite
-  composite_through t g = ap is_composite (sym (ap (shape_is b s) g) ∙ ex)
-
-  pub composite_array : (t : ℕ) → x ≡ shape.Array t → false ≡ is_composite X
-  unfolding shape_is is_composite
-  composite_array t g = ap is_composite (sym (ap (shape_is b s) g) ∙ ex)
-
   pub composite_is : (t : Record) → x ≡ shape.Composite t → true ≡ is_composite X
   unfolding shape_is is_composite
   composite_is t g = ap is_composite (sym (ap (shape_is b s) g) ∙ ex)
+
+  pub composite_not : ((t : Record) → x ≡ shape.Composite t → ⊥) → false ≡ is_composite X
+  unfolding shape_is is_composite
+  composite_not n = go x n ∙ ap is_composite ex
+    where
+      go : (y : CodeShape) → ((t : Record) → y ≡ shape.Composite t → ⊥) → false ≡ is_composite (shape_is b s y)
+      go (shape.Plain) m = refl
+      go (shape.Through t) m = refl
+      go (shape.Array t) m = refl
+      go (shape.Composite t) m = absurd (m t refl)
 
 -- ---- behind
 module _ (b : TypeTable) (s w : List ℕ) (left id : ℕ) where
@@ -127,17 +59,15 @@ module _ (b : TypeTable) (s w : List ℕ) (left id : ℕ) where
         ∙ ap (passed (behind (left - 1) (btf_of b s w))) (ex ∙ ap (λ (z : Record). shape_of (type_of b s z)) et)
         ∙ sym (ap (λ (n : ℕ). behind n (btf_of b s w) id) e)
 
-    pub behind_plain : x ≡ shape.Plain → shape_is b s shape.Plain ≡ behind left (btf_of b s w) id
+    pub behind_other : ((y : ℕ) → x ≡ shape.Through y → ⊥) → shape_is b s x ≡ behind left (btf_of b s w) id
     unfolding shape_is passed
-    behind_plain g = behind_is _ g
-
-    pub behind_array : (y : ℕ) → x ≡ shape.Array y → shape_is b s (shape.Array y) ≡ behind left (btf_of b s w) id
-    unfolding shape_is passed
-    behind_array y g = behind_is _ g
-
-    pub behind_composite : (y : Record) → x ≡ shape.Composite y → shape_is b s (shape.Composite y) ≡ behind left (btf_of b s w) id
-    unfolding shape_is passed
-    behind_composite y g = behind_is _ g
+    behind_other n = go x n ∙ behind_is x refl
+      where
+        go : (z : CodeShape) → ((y : ℕ) → z ≡ shape.Through y → ⊥) → shape_is b s z ≡ passed (behind (left - 1) (btf_of b s w)) (shape_is b s z)
+        go (shape.Plain) m = refl
+        go (shape.Through t) m = absurd (m t refl)
+        go (shape.Array t) m = refl
+        go (shape.Composite t) m = refl
 
     pub behind_through : (y : ℕ) (r : CodeShape) → x ≡ shape.Through y → shape_is b s r ≡ behind (left - 1) (btf_of b s w) y → shape_is b s r ≡ behind left (btf_of b s w) id
     unfolding shape_is passed
@@ -177,15 +107,15 @@ module _ (path : List ℕ) (n k : ℕ) where
       ∙ ap (led_to (got (n + 1 + length p))) (entry_then (leb (n + 1 + length p) (length path / 4)) p)
       ∙ ap (λ (m : ℕ). led_to (got m) (elim (leb m (length path / 4)) [ true ↦ put_words path n (k ∷ p) | false ↦ path ])) z
 
-module _ (b : TypeTable) (s w : List ℕ) (path : List ℕ) (id bit n : ℕ) (x : CodeShape) (ex : shape_is b s x ≡ behind 512 (btf_of b s w) id) (r : CodeStep) (er : step_is r ≡ step_in (btf_of b s w) bit (shape_is b s x)) where
-  step_is_lem : step_is r ≡ step_in (btf_of b s w) bit (behind 512 (btf_of b s w) id)
+module _ (b : TypeTable) (s w : List ℕ) (path : List ℕ) (id bit n : ℕ) (x : CodeShape) (ex : shape_is b s x ≡ behind 512 (btf_of b s w) id) (r : Result CodeStep ℕ) (er : step_asked r ≡ step_in (btf_of b s w) bit (shape_is b s x)) where
+  step_is_lem : step_asked r ≡ step_in (btf_of b s w) bit (behind 512 (btf_of b s w) id)
   step_is_lem = er ∙ ap (step_in (btf_of b s w) bit) ex
 
-  path_is : (left : ℕ) → 512 - n ≡ suc left → path_from (512 - n) (btf_of b s w) id bit ≡ ask_then (step_is r) (onward (path_from left (btf_of b s w)))
+  path_is : (left : ℕ) → 512 - n ≡ suc left → path_from (512 - n) (btf_of b s w) id bit ≡ ask_then (step_asked r) (onward (path_from left (btf_of b s w)))
   unfolding path_from
   path_is left z = ap (λ (m : ℕ). path_from m (btf_of b s w) id bit) z ∙ ap (λ (y : Ask Step). ask_then y (onward (path_from left (btf_of b s w)))) (sym step_is_lem)
 
-  path_full : 512 - n ≡ 0 → path_from (512 - n) (btf_of b s w) id bit ≡ ask_then (step_is r) full
+  path_full : 512 - n ≡ 0 → path_from (512 - n) (btf_of b s w) id bit ≡ ask_then (step_asked r) full
   unfolding path_from
   path_full z = ap (λ (m : ℕ). path_from m (btf_of b s w) id bit) z ∙ ap (λ (y : Ask Step). ask_then y full) (sym step_is_lem)
 
@@ -196,56 +126,66 @@ module _ (b : TypeTable) (s w : List ℕ) (path : List ℕ) (id bit n : ℕ) (x 
       go zero z = f z
       go (suc l) z = g l z
 
-  pub walk_stay : r ≡ step.Stay → led_to (ask_of (ask.Got n)) path ≡ written path n (path_from (512 - n) (btf_of b s w) id bit)
-  unfolding ask_of step_is ask_then full onward
+  pub walk_stay : r ≡ Ok step.Stay → led_to (asked (Ok n)) path ≡ written path n (path_from (512 - n) (btf_of b s w) id bit)
+  unfolding asked step_asked step_is ask_then full onward
   walk_stay g =
       sym (ap (written path n) (zero_or_more
-      (λ z. path_full z ∙ ap (λ (y : CodeStep). ask_then (step_is y) full) g)
-      (λ l z. path_is l z ∙ ap (λ (y : CodeStep). ask_then (step_is y) (onward (path_from l (btf_of b s w)))) g))
+      (λ z. path_full z ∙ ap (λ (y : Result CodeStep ℕ). ask_then (step_asked y) full) g)
+      (λ l z. path_is l z ∙ ap (λ (y : Result CodeStep ℕ). ask_then (step_asked y) (onward (path_from l (btf_of b s w)))) g))
       ∙ written_none path n)
 
-  pub walk_no : (c : ℕ) → r ≡ step.No c → led_to (ask_of (ask.No c)) path ≡ written path n (path_from (512 - n) (btf_of b s w) id bit)
-  unfolding ask_of step_is ask_then written
+  pub walk_no : (c : ℕ) → r ≡ Err c → led_to (asked (Err c)) path ≡ written path n (path_from (512 - n) (btf_of b s w) id bit)
+  unfolding asked step_asked step_is ask_then written
   walk_no c g =
       sym (ap (written path n) (zero_or_more
-      (λ z. path_full z ∙ ap (λ (y : CodeStep). ask_then (step_is y) full) g)
-      (λ l z. path_is l z ∙ ap (λ (y : CodeStep). ask_then (step_is y) (onward (path_from l (btf_of b s w)))) g)))
+      (λ z. path_full z ∙ ap (λ (y : Result CodeStep ℕ). ask_then (step_asked y) full) g)
+      (λ l z. path_is l z ∙ ap (λ (y : Result CodeStep ℕ). ask_then (step_asked y) (onward (path_from l (btf_of b s w)))) g)))
 
-  module _ (h : n ≡ 512) where
-    pub walk_full_field : (k : ℕ) → r ≡ step.Field k → led_to (ask_of (ask.No 12)) path ≡ written path n (path_from (512 - n) (btf_of b s w) id bit)
-    unfolding ask_of step_is ask_then full written
-    walk_full_field k g = let z : 512 - n ≡ 0 = omega arith in sym (ap (written path n) (path_full z ∙ ap (λ (y : CodeStep). ask_then (step_is y) full) g))
+  pub walk_full : n ≡ 512 → (y : CodeStep) → r ≡ Ok y → (y ≡ step.Stay → ⊥) → (d : ℕ) → d ≡ 12 → led_to (asked (Err d)) path ≡ written path n (path_from (512 - n) (btf_of b s w) id bit)
+  unfolding asked step_asked step_is ask_then full written
+  walk_full h y g more d ed =
+      let z : 512 - n ≡ 0 = omega arith in
+      ap (λ (e : ℕ). led_to (no e) path) ed ∙ go y more ∙ sym (ap (written path n) (path_full z ∙ ap (λ (u : Result CodeStep ℕ). ask_then (step_asked u) full) g))
+    where
+      go : (u : CodeStep) → (u ≡ step.Stay → ⊥) → led_to (asked (Err 12)) path ≡ written path n (ask_then (step_asked (Ok u)) full)
+      go (step.Stay) m = absurd (m refl)
+      go (step.Enter k t rest) m = refl
+      go (step.Field k) m = refl
 
-    pub walk_full_enter : (k t rest : ℕ) → r ≡ step.Enter k t rest → led_to (ask_of (ask.No 12)) path ≡ written path n (path_from (512 - n) (btf_of b s w) id bit)
-    unfolding ask_of step_is ask_then full written
-    walk_full_enter k t rest g = let z : 512 - n ≡ 0 = omega arith in sym (ap (written path n) (path_full z ∙ ap (λ (y : CodeStep). ask_then (step_is y) full) g))
-
-  module _ (h : n ≤ 512) (d : n ≡ 512 → ⊥) (q : Code) (path'' : List ℕ) where
-    pub walk_field : (k : ℕ) → r ≡ step.Field k → led_to (ask_of q) path'' ≡ entry_before path n k (ask_of (ask.Got (n + 1))) → led_to (ask_of q) path'' ≡ written path n (path_from (512 - n) (btf_of b s w) id bit)
-    unfolding ask_of step_is ask_then onward written entry_before entry_put put_words
-    walk_field k g e =
+  module _ (h : n ≤ 512) (d : n ≡ 512 → ⊥) (k : ℕ) where
+    pub walk_field : r ≡ Ok (step.Field k) → (path'' : List ℕ) → path'' ≡ entry_put path n k (n + 1) → led_to (asked (Ok (n + 1))) path'' ≡ written path n (path_from (512 - n) (btf_of b s w) id bit)
+    unfolding asked step_asked step_is ask_then onward written entry_put put_words
+    walk_field g path'' e =
         let z : 512 - n ≡ suc (512 - (n + 1)) = omega arith in
-        e ∙ sym (ap (written path n) (path_is (512 - (n + 1)) z ∙ ap (λ (y : CodeStep). ask_then (step_is y) (onward (path_from (512 - (n + 1)) (btf_of b s w)))) g))
+        ap (led_to (got (n + 1))) e
+        ∙ sym (ap (written path n) (path_is (512 - (n + 1)) z ∙ ap (λ (y : Result CodeStep ℕ). ask_then (step_asked y) (onward (path_from (512 - (n + 1)) (btf_of b s w)))) g))
 
-    pub walk_enter : (k t rest : ℕ) (y : Code) (path' : List ℕ) → r ≡ step.Enter k t rest → length path' ≡ length path → led_to (ask_of y) path' ≡ written path (n + 1) (path_from (512 - (n + 1)) (btf_of b s w) t rest)
-        → led_to (ask_of q) path'' ≡ entry_before path' n k (ask_of y) → led_to (ask_of q) path'' ≡ written path n (path_from (512 - n) (btf_of b s w) id bit)
-    unfolding step_is ask_then onward
-    walk_enter k t rest y path' g l ey e =
-        let z : 512 - n ≡ suc (512 - (n + 1)) = omega arith in
-        e
-        ∙ written_more path n k (path_from (512 - (n + 1)) (btf_of b s w) t rest) (ask_of y) path' l ey
-        ∙ sym (ap (written path n) (path_is (512 - (n + 1)) z ∙ ap (λ (x : CodeStep). ask_then (step_is x) (onward (path_from (512 - (n + 1)) (btf_of b s w)))) g))
+    module _ (t rest : ℕ) (g : r ≡ Ok (step.Enter k t rest)) (y : Result ℕ ℕ) (path' : List ℕ) (l : length path' ≡ length path) (ey : led_to (asked y) path' ≡ written path (n + 1) (path_from (512 - (n + 1)) (btf_of b s w) t rest)) where
+      entered_then : entry_before path' n k (asked y) ≡ written path n (path_from (512 - n) (btf_of b s w) id bit)
+      unfolding step_asked step_is ask_then onward
+      entered_then =
+          let z : 512 - n ≡ suc (512 - (n + 1)) = omega arith in
+          written_more path n k (path_from (512 - (n + 1)) (btf_of b s w) t rest) (asked y) path' l ey
+          ∙ sym (ap (written path n) (path_is (512 - (n + 1)) z ∙ ap (λ (x : Result CodeStep ℕ). ask_then (step_asked x) (onward (path_from (512 - (n + 1)) (btf_of b s w)))) g))
+
+      pub walk_enter : (len : ℕ) (path'' : List ℕ) → y ≡ Ok len → path'' ≡ entry_put path' n k len → led_to (asked (Ok len)) path'' ≡ written path n (path_from (512 - n) (btf_of b s w) id bit)
+      unfolding asked entry_before
+      walk_enter len path'' gy e = ap (led_to (got len)) e ∙ sym (ap (λ (x : Result ℕ ℕ). entry_before path' n k (asked x)) gy) ∙ entered_then
+
+      pub walk_refused : (c : ℕ) → y ≡ Err c → led_to (asked (Err c)) path' ≡ written path n (path_from (512 - n) (btf_of b s w) id bit)
+      unfolding asked entry_before
+      walk_refused c gy = sym (ap (λ (x : Result ℕ ℕ). entry_before path' n k (asked x)) gy) ∙ entered_then
 
 -- ---- answer_to
-pub answer_none : (room len : ℕ) → len ≡ 0 → Refused 21 0 ≡ answer_to room len
+pub answer_none : (room len : ℕ) → len ≡ 0 → (d : ℕ) → d ≡ 21 → Refused d 0 ≡ answer_to room len
 unfolding answer_to
-answer_none room len e = rw e
+answer_none room len e d ed = rw (ed, e)
 
 module _ (room : ℕ) where
-  pub answer_short : (len : ℕ) → (len ≡ 0 → ⊥) → room < len → Refused 17 0 ≡ answer_to room len
+  pub answer_short : (len : ℕ) → (len ≡ 0 → ⊥) → room < len → (d : ℕ) → d ≡ 17 → Refused d 0 ≡ answer_to room len
   unfolding answer_to
-  answer_short zero n h = absurd (n refl)
-  answer_short (suc l) n h = sym (rw (lt-leb (suc l) room h, answer_to))
+  answer_short zero n h d ed = absurd (n refl)
+  answer_short (suc l) n h d ed = ap (λ (e : ℕ). Refused e 0) ed ∙ sym (rw (lt-leb (suc l) room h, answer_to))
 
   pub answer_whole : (len : ℕ) → (len ≡ 0 → ⊥) → len ≤ room → Accepted len ≡ answer_to room len
   unfolding answer_to
@@ -258,26 +198,26 @@ module _ (b : TypeTable) (s w path : List ℕ) (id bit : ℕ) (t : Record) (et :
   unfolding btf_of
   is_composite_lem = sym (eq ∙ ap (λ (z : Record). is_composite (shape_of (type_of b s z))) et)
 
-  pub field_not : not q ≡ true → found_of (Refused 21 0) path ≡ lent_path path (field_path (btf_of b s w) id bit)
+  pub field_not : not q ≡ true → (d : ℕ) → d ≡ 21 → found_of (Refused d 0) path ≡ lent_path path (field_path (btf_of b s w) id bit)
   unfolding field_path lent_path
-  field_not h = let e : field_path (btf_of b s w) id bit ≡ no 21 = rw (is_composite_lem ∙ not_false q h, field_path) in sym (ap (lent_path path) e)
+  field_not h d ed = let e : field_path (btf_of b s w) id bit ≡ no 21 = rw (is_composite_lem ∙ not_false q h, field_path) in ap (λ (c : ℕ). found_of (Refused c 0) path) ed ∙ sym (ap (lent_path path) e)
 
-  module _ (h : not q ≡ false) (y : Code) (path' : List ℕ) (ey : led_to (ask_of y) path' ≡ written path 0 (path_from (512 - 0) (btf_of b s w) id bit)) where
+  module _ (h : not q ≡ false) (y : Result ℕ ℕ) (path' : List ℕ) (ey : led_to (asked y) path' ≡ written path 0 (path_from (512 - 0) (btf_of b s w) id bit)) where
     field_is : field_path (btf_of b s w) id bit ≡ ask_then (path_from (512 - 0) (btf_of b s w) id bit) some_entry
     unfolding field_path
     field_is = rw (is_composite_lem ∙ not_true q h, field_path)
 
-    pub field_no : (c : ℕ) → y ≡ ask.No c → found_of (Refused c 0) path' ≡ lent_path path (field_path (btf_of b s w) id bit)
-    unfolding ask_of written led_to ask_then lent_path
-    field_no c g = go (path_from (512 - 0) (btf_of b s w) id bit) (sym (ap (λ (z : Code). led_to (ask_of z) path') g) ∙ ey) ∙ sym (ap (lent_path path) field_is)
+    pub field_no : (c : ℕ) → y ≡ Err c → found_of (Refused c 0) path' ≡ lent_path path (field_path (btf_of b s w) id bit)
+    unfolding asked written led_to ask_then lent_path
+    field_no c g = go (path_from (512 - 0) (btf_of b s w) id bit) (sym (ap (λ (z : Result ℕ ℕ). led_to (asked z) path') g) ∙ ey) ∙ sym (ap (lent_path path) field_is)
       where
         go : (X : Ask (List ℕ)) → led_to (no c) path' ≡ written path 0 X → found_of (Refused c 0) path' ≡ lent_path path (ask_then X some_entry)
         go (no d) e = let f : no c ≡ no d = ap (λ (x : Led). x.answer) e in let cd : c ≡ d = cc in λ i. found_of (Refused (cd i) 0) (e i).path
         go (got p) e = let f : no c ≡ got (0 + length p) = ap (λ (x : Led). x.answer) e in let z : ◌≡◌ {A = ℕ} 0 1 = cc in absurd (omega arith)
 
-    pub field_got : (len room : ℕ) (a : Answer) → y ≡ ask.Got len → room ≡ length path / 4 → a ≡ answer_to room len → found_of a path' ≡ lent_path path (field_path (btf_of b s w) id bit)
-    unfolding ask_of written led_to ask_then lent_path some_entry answer_to put_words chosen
-    field_got len room a g er ea = go (path_from (512 - 0) (btf_of b s w) id bit) (sym (ap (λ (z : Code). led_to (ask_of z) path') g) ∙ ey) ∙ sym (ap (lent_path path) field_is)
+    pub field_got : (len room : ℕ) (a : Answer) → y ≡ Ok len → room ≡ length path / 4 → a ≡ answer_to room len → found_of a path' ≡ lent_path path (field_path (btf_of b s w) id bit)
+    unfolding asked written led_to ask_then lent_path some_entry answer_to put_words chosen
+    field_got len room a g er ea = go (path_from (512 - 0) (btf_of b s w) id bit) (sym (ap (λ (z : Result ℕ ℕ). led_to (asked z) path') g) ∙ ey) ∙ sym (ap (lent_path path) field_is)
       where
         -- a path that is not empty
         whole : (l : ℕ) (u : List ℕ) (o : Bool) → found_of (elim o [ true ↦ Accepted l | false ↦ Refused 17 0 ]) (elim o [ true ↦ u | false ↦ path ]) ≡ (elim o [ true ↦ found_of (Accepted l) u | false ↦ found_of (Refused 17 0) path ])
@@ -301,14 +241,14 @@ module _ (b : TypeTable) (s w path : List ℕ) (id bit : ℕ) (t : Record) (et :
 
 -- ---- which_field
 module _ (s : Session) (section w path : List ℕ) (id bit : ℕ) (q : Bool) (eq : q ≡ is_current s (length section) (length w) s.text_len) where
-  pub call_11 : not q ≡ true → found_of (Refused 11 0) path ≡ field_call s section w path id bit
+  pub call_11 : not q ≡ true → (d : ℕ) → d ≡ 11 → found_of (Refused d 0) path ≡ field_call s section w path id bit
   unfolding field_call
-  call_11 h = sym (rw (sym eq ∙ not_false q h, field_call))
+  call_11 h d ed = ap (λ (c : ℕ). found_of (Refused c 0) path) ed ∙ sym (rw (sym eq ∙ not_false q h, field_call))
 
   module _ (h : not q ≡ false) where
-    pub call_10 : s.types ≤ id → found_of (Refused 10 0) path ≡ field_call s section w path id bit
+    pub call_10 : s.types ≤ id → (d : ℕ) → d ≡ 10 → found_of (Refused d 0) path ≡ field_call s section w path id bit
     unfolding field_call
-    call_10 l = sym (rw (sym eq ∙ not_true q h, field_call, le-ltb id s.types l))
+    call_10 l d ed = ap (λ (c : ℕ). found_of (Refused c 0) path) ed ∙ sym (rw (sym eq ∙ not_true q h, field_call, le-ltb id s.types l))
 
     pub call_is : id < s.types → (b : TypeTable) (a : Answer) (path' : List ℕ) → b ≡ table_for s section → found_of a path' ≡ lent_path path (field_path (btf_of b section w) id bit) → found_of a path' ≡ field_call s section w path id bit
     unfolding field_call

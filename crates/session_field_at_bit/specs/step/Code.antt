@@ -1,5 +1,5 @@
 -- What the code's answers say of a step and of an entry.
-use Rattle.std.specs.Prelude.{ℕ, ◌-◌, ◌/◌, Bool, true, false, List, leb, eqb, length}
+use Rattle.std.specs.Prelude.{ℕ, ◌-◌, ◌/◌, true, false, Result, Ok, Err, List, leb, eqb, length}
 use Rattle.spec_bytes.specs.words.Words.{put_word}
 use Rattle.spec_c_dumper.specs.rules.Writer.{Ask, got, no}
 use Rattle.spec_type_table.specs.declared.types.TypeTable.{TypeTable}
@@ -8,7 +8,7 @@ use Rattle.spec_type_table.specs.Table.{members_of}
 use Rattle.session_field_at_bit.specs.declared.step.Shape.{Shape as CodeShape}
 use Rattle.session_field_at_bit.specs.declared.step.Shape.TheVariants.{Plain, Through, Array, Composite}
 use Rattle.session_field_at_bit.specs.declared.step.Step.{Step as CodeStep}
-use Rattle.session_field_at_bit.specs.declared.step.Step.TheVariants.{Stay, Enter, Field, No}
+use Rattle.session_field_at_bit.specs.declared.step.Step.TheVariants.{Stay, Enter, Field}
 use Rattle.session_field_at_bit.specs.step.Path.{Shape, plain, through, array, composite, Step, stay, enter, field, covers}
 
 -- a composite is its record
@@ -18,11 +18,20 @@ shape_is b s (Through t) = through t
 shape_is b s (Array t) = array t
 shape_is b s (Composite t) = composite (members_of b s t)
 
-unfoldable pub step_is : CodeStep → Ask Step
-step_is Stay = got stay
-step_is (Enter k t bit) = got (enter k t bit)
-step_is (Field k) = got (field k)
-step_is (No c) = no c
+unfoldable pub step_is : CodeStep → Step
+step_is Stay = stay
+step_is (Enter k t bit) = enter k t bit
+step_is (Field k) = field k
+
+-- a step or a refusal
+unfoldable pub step_asked : Result CodeStep ℕ → Ask Step
+step_asked (Ok s) = got (step_is s)
+step_asked (Err c) = no c
+
+-- a length or a refusal
+unfoldable pub asked : Result ℕ ℕ → Ask ℕ
+asked (Ok n) = got n
+asked (Err c) = no c
 
 -- what member k says, where its bits end before `end`
 unfoldable pub member_step : BtfMember → ℕ → ℕ → ℕ → Step
@@ -31,12 +40,6 @@ member_step m k end bit =
       | true ↦ elim (eqb m.bit_size 0) [ true ↦ enter k m.type_id (bit - m.bit_offset) | false ↦ field k ]
       | false ↦ stay
     ]
-
-unfoldable pub is_stay : Ask Step → Bool
-is_stay (got stay) = true
-is_stay (got (enter k t bit)) = false
-is_stay (got (field k)) = false
-is_stay (no c) = false
 
 -- the length of a path or a refusal, and the lent path
 pub record Led : Type 0 where

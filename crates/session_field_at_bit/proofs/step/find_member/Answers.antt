@@ -1,17 +1,21 @@
-use mathlib.Core.Bool.{not}
-use mathlib.Core.Path.{ap}
-use native.Mathlib.Omega.{arith}
+use mathlib.Core.Path.{◌∙◌}
+use Rattle.std.proofs.lemmas.Result.{err_from_is_err_and}
 use Rattle.session_field_at_bit.proofs.step.Laws as laws
 use Rattle.session_field_at_bit.proofs.step.find_member.Goals as goal
 
 pub loop-k-init : goal.loop-k-init
-loop-k-init c = (omega arith, omega arith, laws.tried_start _ _ _ _ _)
+loop-k-init c = laws.tried_start _ _ _ _ _
 
-pub returns-then-not-is_stay : goal.returns-then-not-is_stay
-returns-then-not-is_stay c = laws.tried_found _ _ _ _ _ _ _ _ _ c.vlen_of-vlen.ensures c.loop-k-test.true c.load_member-m.ensures c.try_member-r.ensures _ c.is_stay.ensures (ap not c.if-not-is_stay.true) _ c.loop-k.invariant.2
+pub returns-in_err-step : goal.returns-in_err-step
+returns-in_err-step c =
+    let p = err_from_is_err_and c.from_residual.result c.from_residual.ensures.1 in
+    rw (p.1, p.2) (laws.tried_refused _ _ _ _ _ _ _ _ c.vlen_of-k-end.ensures c.loop-k-test.true c.load_member-m.ensures _ c.try_member.ensures _ c.loop-k.invariant _ c.in_err-step.was)
+
+pub returns-in_default : goal.returns-in_default
+returns-in_default c = laws.tried_step _ _ _ _ _ _ _ _ c.vlen_of-k-end.ensures c.loop-k-test.true c.load_member-m.ensures _ c.try_member.ensures _ c.loop-k.invariant _ c.in_ok-step.was c.in_default.not-Stay
 
 pub loop-k-preserved : goal.loop-k-preserved
-loop-k-preserved c = (omega arith, c.loop-k.invariant.1, laws.tried_more _ _ _ _ _ _ _ _ _ c.vlen_of-vlen.ensures c.loop-k-test.true c.load_member-m.ensures c.try_member-r.ensures _ c.is_stay.ensures (ap not c.if-not-is_stay.false) _ c.loop-k.invariant.2)
+loop-k-preserved c = let h = c.in-Stay.is in laws.tried_more _ _ _ _ _ _ _ _ c.vlen_of-k-end.ensures c.loop-k-test.true c.load_member-m.ensures _ c.try_member.ensures _ c.loop-k.invariant (c.in_ok-step.was ∙ cc)
 
 pub returns : goal.returns
-returns c = laws.tried_end _ _ _ _ _ _ _ _ c.loop-k.invariant.2 c.vlen_of-vlen.ensures c.loop-k-test.false
+returns c = laws.tried_end _ _ _ _ _ _ _ _ c.loop-k.invariant c.vlen_of-k-end.ensures c.loop-k-test.false

@@ -1,12 +1,8 @@
 use Rattle.session_field_at_bit.specs.step.Path.{tried}
 use Rattle.spec_type_table.specs.Table.{btf_of, members_of}
-use Prim.Native.Nat.{◌≤◌, ◌<◌, ◌-◌}
 use mathlib.Core.Path.{◌≡◌}
 use Rattle.session_field_at_bit.proofs.step.Laws as laws
 use Rattle.session_field_at_bit.proofs.step.find_member.Given as goal
 
 abbrev pub invariant-loop-k : goal.invariant-loop-k
-invariant-loop-k l = (l.k ≤ l.vlen) × (l.vlen < 4294967296) × (tried (btf_of l.b l.section l.work) l.bit 0 (members_of l.b l.section l.t) ≡ laws.tried_rest l.b l.section l.work l.t l.bit l.k)
-
-abbrev pub decreases-loop-k : goal.decreases-loop-k
-decreases-loop-k l = l.vlen - l.k
+invariant-loop-k l = tried (btf_of l.b l.section l.work) l.bit 0 (members_of l.b l.section l.t) ≡ laws.tried_rest l.b l.section l.work l.t l.bit l.k

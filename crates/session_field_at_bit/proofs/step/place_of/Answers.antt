@@ -8,10 +8,10 @@ pub returns-then-size-eq0 : goal.returns-then-size-eq0
 returns-then-size-eq0 c = laws.place_none _ _ _ c.if-size-eq0.true
 
 pub overflow_cast-result : goal.overflow_cast-result
-overflow_cast-result c = omega (arith, div-le_self c.args.bit (c.args.size * 8))
+overflow_cast-result c = omega (arith, c.from-at.ensures, div-le_self c.from-at.result (c.from-unit.result * 8))
 
 pub overflow_cast-result-2 : goal.overflow_cast-result-2
-overflow_cast-result-2 c = omega (arith, mod-le c.args.bit (c.args.size * 8))
+overflow_cast-result-2 c = omega (arith, c.from-at.ensures, mod-le c.from-at.result (c.from-unit.result * 8))
 
 pub returns : goal.returns
-returns c = laws.place_is _ _ _ c.if-size-eq0.false
+returns c = laws.place_is _ _ _ c.if-size-eq0.false _ _ c.from-unit.ensures c.from-at.ensures
