@@ -12,19 +12,20 @@ use crate::enumerators::{deeper, emit_enum_end, emit_enum_head, emit_enumerator}
 use base_bytes::put::{put_byte, put_decimal, put_two};
 use base_keywords::signed_decimal::{as_i32, as_i64, put_i32, put_i64};
 use base_keywords::table::{Word, put_word};
+use btf_type_table::cell;
 use btf_type_table::cell::get_field;
 use btf_type_table::entry::{load_enum_value, load_enum64_value};
-use btf_type_table::kind::{entries_of, kind_flag_of, kind_of, member_place};
+use btf_type_table::kind::{entries_of, kind_flag_of, member_place};
 use btf_type_table::name::is_builtin;
 use btf_type_table::section_word::word;
-use btf_type_table::{cell, kind};
-use spec_type_table::{BtfType, Entries, TypeTable};
+use spec_type_table::{BtfType, Entries, Kind, TypeTable};
 
 // Whether values are of 64 bits.
+#[tactic(auto, using(spec_type_table::proofs::KindNames::kind_numbers, std::proofs::lemmas::Bool::Decides::nat_tests))]
 fn is_wide(t: BtfType) -> bool
     ensures { result ≡ is_wide t }
 {
-    kind_of(t.info) == kind::ENUM64
+    Kind::of(t.info) == Kind::Enum64
 }
 
 // The bytes of struct btf_enum64 and of struct btf_enum.

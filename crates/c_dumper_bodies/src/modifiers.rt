@@ -7,15 +7,14 @@ ghost use Rattle.c_dumper_bodies.specs.chain.Chains.{qualifier_of, skipped, mods
 use crate::chain::{is_qualifier, kind_at};
 use base_bytes::put::put_byte;
 use base_keywords::table::{Word, put_word};
-use btf_type_table::kind;
-use spec_type_table::TypeTable;
+use spec_type_table::{Kind, TypeTable};
 
-pub fn put_qualifier(text: &mut [u8], at: usize, kind: u32) -> usize
+pub fn put_qualifier(text: &mut [u8], at: usize, kind: Kind) -> usize
     ensures { put_out result text.new ≡ put_text text.old at (whole (qualifier (qualifier_of kind))) }
 {
     match kind {
-        kind::VOLATILE => put_word(text, at, Word::Volatile),
-        kind::CONST => put_word(text, at, Word::Const),
+        Kind::Volatile => put_word(text, at, Word::Volatile),
+        Kind::Const => put_word(text, at, Word::Const),
         _ => put_word(text, at, Word::Restrict),
     }
 }

@@ -1,385 +1,200 @@
 -- Which kinds lead on, which are qualifiers, and the entry of a type by its kind. Assumes nothing.
-use Prim.Native.Nat.{ℕ, ◌<◌, ◌≤◌}
-use mathlib.Core.Path.{◌≡◌, refl, ap, ap₂, ◌∙◌, sym, subst}
+use Prim.Native.Nat.{ℕ}
+use mathlib.Core.Path.{◌≡◌, refl, ap, ◌∙◌, sym, subst}
 use mathlib.Core.List.{List, [], ◌∷◌}
 use mathlib.Core.Bool.{Bool, true, false}
-use mathlib.Core.Logic.{◌⊎◌, inl, inr}
 use native.Mathlib.Omega.{arith}
-use lib.ListN.{get_or-eq_default}
-use lib.Dec.{eqb}
-use borrow.Author.Tests.{le-leb, lt-leb, ne_eqb}
-use Rattle.spec_bytes.specs.text.Text.{ascii, whole, put_out, put_text}
-use Rattle.spec_c_dumper.specs.rules.Types.{Name, Param, Qualifier, BtfType}
-use Rattle.spec_c_dumper.specs.rules.Decl.{Entry, base, star, qual, array, proto, tag, ends, leads, link_of, qualifier, mods, no_mods, is_array}
-use Rattle.spec_c_dumper.specs.rules.Chain.{entry_by}
+use Rattle.spec_c_dumper.specs.rules.Types.{Name, Param, Qualifier}
+use Rattle.spec_c_dumper.specs.rules.Decl.{Entry, base, star, qual, array, proto, tag, ends, leads, link_of, mods, no_mods, is_array}
+use Rattle.spec_c_dumper.specs.rules.Chain.{entry_by, target_by}
 use Rattle.spec_type_table.specs.declared.types.TypeTable.{TypeTable}
 use Rattle.spec_type_table.specs.declared.types.BtfType.{BtfType as Record}
+use Rattle.spec_type_table.specs.declared.kind.Kind.{Kind}
+use Rattle.spec_type_table.specs.declared.kind.Kind.TheVariants.{Void, Int, Ptr, Array, Struct, Union, Enum, Fwd, Typedef, Volatile, Const, Restrict, Func, FuncProto, Var, Datasec, Float, DeclTag, TypeTag, Enum64, Unknown}
+use Rattle.spec_type_table.specs.Kinds.{kind_named}
 use Rattle.spec_type_table.specs.Records.{kind_of, flag_of, record_by_id}
-use Rattle.spec_type_table.specs.Table.{type_of, record_name, extra_word, nelems_word, params_of}
-use Rattle.spec_type_table.proofs.KindLaws.{by_kind, type_0, type_1, type_2, type_3, type_4, type_5, type_6, type_7, type_8, type_9, type_10, type_11, type_12, type_13, type_14, type_15, type_16, type_17, type_18, type_19, type_none}
-use Rattle.c_dumper_bodies.specs.chain.Chains.{leads_on, is_link, is_qualifier, qualifier_of, next_of, entry_of}
+use Rattle.spec_type_table.specs.Table.{type_of, record_name, nelems_word, params_of}
+use Rattle.spec_type_table.proofs.KindTypes.{type_as, type_is}
+use Rattle.c_dumper_bodies.specs.chain.Chains.{is_link, is_qualifier, qualifier_of, next_of, entry_of}
 
 pub false_true : false ≡ true → ⊥
 false_true q = let k : ◌≡◌ {A = ℕ} 0 1 = cc in omega arith
 
--- ---- is_link
-pub link_keys : (k : ℕ) → (k ≡ 13) ⊎ (k ≡ 18) → true ≡ is_link k
-unfolding is_link
-link_keys k (inl e) = rw e
-link_keys k (inr e) = rw e
-
-pub link_past : (k : ℕ) → 20 ≤ k → is_link k ≡ false
-unfolding is_link
-link_past k h = get_or-eq_default leads_on false h
-
-pub link_low : (k : ℕ) → 0 ≤ k → k < 2 → false ≡ is_link k
-unfolding is_link
-link_low =
-    by_kind
-    (λ k. 0 ≤ k → k < 2 → false ≡ is_link k)
-    (λ l h. refl)
-    (λ l h. refl)
-    (λ l h. absurd (omega arith))
-    (λ l h. absurd (omega arith))
-    (λ l h. absurd (omega arith))
-    (λ l h. absurd (omega arith))
-    (λ l h. absurd (omega arith))
-    (λ l h. absurd (omega arith))
-    (λ l h. absurd (omega arith))
-    (λ l h. absurd (omega arith))
-    (λ l h. absurd (omega arith))
-    (λ l h. absurd (omega arith))
-    (λ l h. absurd (omega arith))
-    (λ l h. absurd (omega arith))
-    (λ l h. absurd (omega arith))
-    (λ l h. absurd (omega arith))
-    (λ l h. absurd (omega arith))
-    (λ l h. absurd (omega arith))
-    (λ l h. absurd (omega arith))
-    (λ l h. absurd (omega arith))
-    (λ m g l h. absurd (omega arith))
-
-pub link_two : (k : ℕ) → 2 ≤ k → k < 4 → true ≡ is_link k
-unfolding is_link
-link_two =
-    by_kind
-    (λ k. 2 ≤ k → k < 4 → true ≡ is_link k)
-    (λ l h. absurd (omega arith))
-    (λ l h. absurd (omega arith))
-    (λ l h. refl)
-    (λ l h. refl)
-    (λ l h. absurd (omega arith))
-    (λ l h. absurd (omega arith))
-    (λ l h. absurd (omega arith))
-    (λ l h. absurd (omega arith))
-    (λ l h. absurd (omega arith))
-    (λ l h. absurd (omega arith))
-    (λ l h. absurd (omega arith))
-    (λ l h. absurd (omega arith))
-    (λ l h. absurd (omega arith))
-    (λ l h. absurd (omega arith))
-    (λ l h. absurd (omega arith))
-    (λ l h. absurd (omega arith))
-    (λ l h. absurd (omega arith))
-    (λ l h. absurd (omega arith))
-    (λ l h. absurd (omega arith))
-    (λ l h. absurd (omega arith))
-    (λ m g l h. absurd (omega arith))
-
-pub link_gap : (k : ℕ) → 4 ≤ k → k < 9 → false ≡ is_link k
-unfolding is_link
-link_gap =
-    by_kind
-    (λ k. 4 ≤ k → k < 9 → false ≡ is_link k)
-    (λ l h. absurd (omega arith))
-    (λ l h. absurd (omega arith))
-    (λ l h. absurd (omega arith))
-    (λ l h. absurd (omega arith))
-    (λ l h. refl)
-    (λ l h. refl)
-    (λ l h. refl)
-    (λ l h. refl)
-    (λ l h. refl)
-    (λ l h. absurd (omega arith))
-    (λ l h. absurd (omega arith))
-    (λ l h. absurd (omega arith))
-    (λ l h. absurd (omega arith))
-    (λ l h. absurd (omega arith))
-    (λ l h. absurd (omega arith))
-    (λ l h. absurd (omega arith))
-    (λ l h. absurd (omega arith))
-    (λ l h. absurd (omega arith))
-    (λ l h. absurd (omega arith))
-    (λ l h. absurd (omega arith))
-    (λ m g l h. absurd (omega arith))
-
-pub link_quals : (k : ℕ) → 9 ≤ k → k < 12 → true ≡ is_link k
-unfolding is_link
-link_quals =
-    by_kind
-    (λ k. 9 ≤ k → k < 12 → true ≡ is_link k)
-    (λ l h. absurd (omega arith))
-    (λ l h. absurd (omega arith))
-    (λ l h. absurd (omega arith))
-    (λ l h. absurd (omega arith))
-    (λ l h. absurd (omega arith))
-    (λ l h. absurd (omega arith))
-    (λ l h. absurd (omega arith))
-    (λ l h. absurd (omega arith))
-    (λ l h. absurd (omega arith))
-    (λ l h. refl)
-    (λ l h. refl)
-    (λ l h. refl)
-    (λ l h. absurd (omega arith))
-    (λ l h. absurd (omega arith))
-    (λ l h. absurd (omega arith))
-    (λ l h. absurd (omega arith))
-    (λ l h. absurd (omega arith))
-    (λ l h. absurd (omega arith))
-    (λ l h. absurd (omega arith))
-    (λ l h. absurd (omega arith))
-    (λ m g l h. absurd (omega arith))
-
-pub link_high : (k : ℕ) → 12 ≤ k → ((k ≡ 13) ⊎ (k ≡ 18) → ⊥) → false ≡ is_link k
-unfolding is_link
-link_high =
-    by_kind
-    (λ k. 12 ≤ k → ((k ≡ 13) ⊎ (k ≡ 18) → ⊥) → false ≡ is_link k)
-    (λ l n. absurd (omega arith))
-    (λ l n. absurd (omega arith))
-    (λ l n. absurd (omega arith))
-    (λ l n. absurd (omega arith))
-    (λ l n. absurd (omega arith))
-    (λ l n. absurd (omega arith))
-    (λ l n. absurd (omega arith))
-    (λ l n. absurd (omega arith))
-    (λ l n. absurd (omega arith))
-    (λ l n. absurd (omega arith))
-    (λ l n. absurd (omega arith))
-    (λ l n. absurd (omega arith))
-    (λ l n. refl)
-    (λ l n. absurd (n (inl refl)))
-    (λ l n. refl)
-    (λ l n. refl)
-    (λ l n. refl)
-    (λ l n. refl)
-    (λ l n. absurd (n (inr refl)))
-    (λ l n. refl)
-    (λ m g l n. sym (link_past m g))
-
--- ---- is_qualifier
-module _ (k : ℕ) where
-  pub qual_low : k < 9 → false ≡ is_qualifier k
-  unfolding is_qualifier
-  qual_low h = rw (lt-leb 9 k h, is_qualifier)
-
-  pub qual_in : 9 ≤ k → k < 12 → true ≡ is_qualifier k
-  unfolding is_qualifier
-  qual_in h l = let m : k ≤ 11 = omega arith in rw (le-leb 9 k h, le-leb k 11 m, is_qualifier)
-
-  pub qual_high : 9 ≤ k → 12 ≤ k → false ≡ is_qualifier k
-  unfolding is_qualifier
-  qual_high h l = let m : 11 < k = omega arith in rw (le-leb 9 k h, lt-leb k 11 m, is_qualifier)
-
--- ---- put_qualifier
-module _ (t : List ℕ) (at r : ℕ) (u : List ℕ) (k : ℕ) where
-  pub put_volatile : k ≡ 9 → put_out r u ≡ put_text t at (whole (ascii "volatile")) → put_out r u ≡ put_text t at (whole (qualifier (qualifier_of k)))
-  unfolding qualifier_of qualifier
-  put_volatile h e = rw h e
-
-  pub put_const : k ≡ 10 → put_out r u ≡ put_text t at (whole (ascii "const")) → put_out r u ≡ put_text t at (whole (qualifier (qualifier_of k)))
-  unfolding qualifier_of qualifier
-  put_const h e = rw h e
-
-  pub put_restrict : (k ≡ 9 → ⊥) → (k ≡ 10 → ⊥) → put_out r u ≡ put_text t at (whole (ascii "restrict")) → put_out r u ≡ put_text t at (whole (qualifier (qualifier_of k)))
-  unfolding qualifier_of qualifier
-  put_restrict h l e = rw (ne_eqb k 9 h, qualifier_of, ne_eqb k 10 l) e
-
--- ---- next_of
+-- ---- the links of a kind
 module _ (b : TypeTable) (s : List ℕ) (t : Record) where
-  pub next_array : kind_of t.info ≡ 3 → next_of b s t ≡ extra_word b s t
-  unfolding next_of
-  next_array h = rw (h, next_of)
+  abbrev kind_lem : Kind
+  kind_lem = kind_named (kind_of t.info)
 
-  pub next_other : (kind_of t.info ≡ 3 → ⊥) → next_of b s t ≡ t.type_id
-  unfolding next_of
-  next_other h = rw (ne_eqb (kind_of t.info) 3 h, next_of)
+  link_as : (y : Kind) → kind_lem ≡ y → link_of (type_of b s t) ≡ link_of (type_as b s t y)
+  link_as y p = ap link_of (type_is b s t _ refl y p)
 
-  link_from : (id : ℕ) (e : Entry) (x : ℕ) → link_of (type_of b s t) ≡ leads e x → next_of b s t ≡ x → link_of (type_of b s t) ≡ leads (entry_by id (link_of (type_of b s t))) (next_of b s t)
-  link_from id e x l q = l ∙ ap₂ leads (sym (ap (entry_by id) l)) (sym q)
+  on_as : (id x : ℕ) (y : Kind) → is_link y ≡ true → link_of (type_as b s t y) ≡ leads (entry_by id (link_of (type_as b s t y))) (target_by x (link_of (type_as b s t y)))
+  on_as id x Void h = absurd (false_true h)
+  on_as id x Int h = absurd (false_true h)
+  on_as id x Ptr h = refl
+  on_as id x Array h = refl
+  on_as id x Struct h = absurd (false_true h)
+  on_as id x Union h = absurd (false_true h)
+  on_as id x Enum h = absurd (false_true h)
+  on_as id x Fwd h = absurd (false_true h)
+  on_as id x Typedef h = absurd (false_true h)
+  on_as id x Volatile h = refl
+  on_as id x Const h = refl
+  on_as id x Restrict h = refl
+  on_as id x Func h = absurd (false_true h)
+  on_as id x FuncProto h = refl
+  on_as id x Var h = absurd (false_true h)
+  on_as id x Datasec h = absurd (false_true h)
+  on_as id x Float h = absurd (false_true h)
+  on_as id x DeclTag h = absurd (false_true h)
+  on_as id x TypeTag h = refl
+  on_as id x Enum64 h = absurd (false_true h)
+  on_as id x Unknown h = absurd (false_true h)
 
-  not_three : (k : ℕ) → k ≡ kind_of t.info → (k ≡ 3 → ⊥) → kind_of t.info ≡ 3 → ⊥
-  not_three k e n q = n (e ∙ q)
+  ends_as : (y : Kind) → is_link y ≡ false → link_of (type_as b s t y) ≡ ends
+  ends_as Void h = refl
+  ends_as Int h = refl
+  ends_as Ptr h = absurd (false_true (sym h))
+  ends_as Array h = absurd (false_true (sym h))
+  ends_as Struct h = refl
+  ends_as Union h = refl
+  ends_as Enum h = refl
+  ends_as Fwd h = refl
+  ends_as Typedef h = refl
+  ends_as Volatile h = absurd (false_true (sym h))
+  ends_as Const h = absurd (false_true (sym h))
+  ends_as Restrict h = absurd (false_true (sym h))
+  ends_as Func h = refl
+  ends_as FuncProto h = absurd (false_true (sym h))
+  ends_as Var h = refl
+  ends_as Datasec h = refl
+  ends_as Float h = refl
+  ends_as DeclTag h = refl
+  ends_as TypeTag h = absurd (false_true (sym h))
+  ends_as Enum64 h = refl
+  ends_as Unknown h = refl
 
   -- a link of the code is one of the rules
-  pub link_leads : (id : ℕ) → is_link (kind_of t.info) ≡ true → link_of (type_of b s t) ≡ leads (entry_by id (link_of (type_of b s t))) (next_of b s t)
-  unfolding is_link
+  pub link_leads : (id : ℕ) → is_link kind_lem ≡ true → link_of (type_of b s t) ≡ leads (entry_by id (link_of (type_of b s t))) (next_of b s t)
+  unfolding next_of
   link_leads id h =
-      by_kind
-      (λ k. k ≡ kind_of t.info → is_link k ≡ true → link_of (type_of b s t) ≡ leads (entry_by id (link_of (type_of b s t))) (next_of b s t))
-      (λ e l. absurd (false_true l))
-      (λ e l. absurd (false_true l))
-      (λ e l. link_from id _ _ (ap link_of (type_2 b s t (sym e))) (next_other (not_three 2 e (λ q. omega arith))))
-      (λ e l. link_from id _ _ (ap link_of (type_3 b s t (sym e))) (next_array (sym e)))
-      (λ e l. absurd (false_true l))
-      (λ e l. absurd (false_true l))
-      (λ e l. absurd (false_true l))
-      (λ e l. absurd (false_true l))
-      (λ e l. absurd (false_true l))
-      (λ e l. link_from id _ _ (ap link_of (type_9 b s t (sym e))) (next_other (not_three 9 e (λ q. omega arith))))
-      (λ e l. link_from id _ _ (ap link_of (type_10 b s t (sym e))) (next_other (not_three 10 e (λ q. omega arith))))
-      (λ e l. link_from id _ _ (ap link_of (type_11 b s t (sym e))) (next_other (not_three 11 e (λ q. omega arith))))
-      (λ e l. absurd (false_true l))
-      (λ e l. link_from id _ _ (ap link_of (type_13 b s t (sym e))) (next_other (not_three 13 e (λ q. omega arith))))
-      (λ e l. absurd (false_true l))
-      (λ e l. absurd (false_true l))
-      (λ e l. absurd (false_true l))
-      (λ e l. absurd (false_true l))
-      (λ e l. link_from id _ _ (ap link_of (type_18 b s t (sym e))) (next_other (not_three 18 e (λ q. omega arith))))
-      (λ e l. absurd (false_true l))
-      (λ m g e l. absurd (false_true (sym (link_past m g) ∙ l)))
-      (kind_of t.info) refl h
+      let e = link_as kind_lem refl in
+      e ∙ on_as id t.type_id kind_lem h ∙ ap (λ l. leads (entry_by id l) (target_by t.type_id l)) (sym e)
 
-  pub link_ends : is_link (kind_of t.info) ≡ false → link_of (type_of b s t) ≡ ends
-  unfolding is_link
-  link_ends h =
-      by_kind
-      (λ k. k ≡ kind_of t.info → is_link k ≡ false → link_of (type_of b s t) ≡ ends)
-      (λ e l. ap link_of (type_0 b s t (sym e)))
-      (λ e l. ap link_of (type_1 b s t (sym e)))
-      (λ e l. absurd (false_true (sym l)))
-      (λ e l. absurd (false_true (sym l)))
-      (λ e l. ap link_of (type_4 b s t (sym e)))
-      (λ e l. ap link_of (type_5 b s t (sym e)))
-      (λ e l. ap link_of (type_6 b s t (sym e)))
-      (λ e l. ap link_of (type_7 b s t (sym e)))
-      (λ e l. ap link_of (type_8 b s t (sym e)))
-      (λ e l. absurd (false_true (sym l)))
-      (λ e l. absurd (false_true (sym l)))
-      (λ e l. absurd (false_true (sym l)))
-      (λ e l. ap link_of (type_12 b s t (sym e)))
-      (λ e l. absurd (false_true (sym l)))
-      (λ e l. ap link_of (type_14 b s t (sym e)))
-      (λ e l. ap link_of (type_15 b s t (sym e)))
-      (λ e l. ap link_of (type_16 b s t (sym e)))
-      (λ e l. ap link_of (type_17 b s t (sym e)))
-      (λ e l. absurd (false_true (sym l)))
-      (λ e l. ap link_of (type_19 b s t (sym e)))
-      (λ m g e l. ap link_of (type_none b s t (rw e at g)))
-      (kind_of t.info) refl h
+  pub link_ends : is_link kind_lem ≡ false → link_of (type_of b s t) ≡ ends
+  link_ends h = link_as kind_lem refl ∙ ends_as kind_lem h
 
 -- ---- the entry of a type, by the kind of its record
 module _ (b : TypeTable) (s w : List ℕ) (id : ℕ) (t : Record) (et : t ≡ record_by_id b s w id) where
-  entry_is : (x : BtfType) → type_of b s t ≡ x → entry_of b s w id ≡ entry_by id (link_of x)
+  entry_kind : (y : Kind) → kind_named (kind_of t.info) ≡ y → entry_of b s w id ≡ entry_by id (link_of (type_as b s t y))
   unfolding entry_of
-  entry_is x q = ap (λ (y : Record). entry_by id (link_of (type_of b s y))) (sym et) ∙ ap (λ (y : BtfType). entry_by id (link_of y)) q
+  entry_kind y p = ap (λ (r : Record). entry_by id (link_of (type_of b s r))) (sym et) ∙ ap (entry_by id) (link_as b s t y p)
 
-  pub entry_star_lem : kind_of t.info ≡ 2 → entry_of b s w id ≡ star
-  entry_star_lem e = entry_is _ (type_2 b s t e)
+  pub entry_star_lem : kind_named (kind_of t.info) ≡ Ptr → entry_of b s w id ≡ star
+  entry_star_lem p = entry_kind Ptr p
 
-  pub entry_array : kind_of t.info ≡ 3 → entry_of b s w id ≡ array (nelems_word b s t)
-  entry_array e = entry_is _ (type_3 b s t e)
+  pub entry_array : kind_named (kind_of t.info) ≡ Array → entry_of b s w id ≡ array (nelems_word b s t)
+  entry_array p = entry_kind Array p
 
-  pub entry_proto : kind_of t.info ≡ 13 → entry_of b s w id ≡ proto (params_of b s t)
-  entry_proto e = entry_is _ (type_13 b s t e)
+  pub entry_proto : kind_named (kind_of t.info) ≡ FuncProto → entry_of b s w id ≡ proto (params_of b s t)
+  entry_proto p = entry_kind FuncProto p
 
-  pub entry_tag : kind_of t.info ≡ 18 → entry_of b s w id ≡ tag (flag_of t.info) (record_name b s t)
-  entry_tag e = entry_is _ (type_18 b s t e)
+  pub entry_tag : kind_named (kind_of t.info) ≡ TypeTag → entry_of b s w id ≡ tag (flag_of t.info) (record_name b s t)
+  entry_tag p = entry_kind TypeTag p
 
-  pub entry_base : is_link (kind_of t.info) ≡ false → entry_of b s w id ≡ base id
+  pub entry_base : is_link (kind_named (kind_of t.info)) ≡ false → entry_of b s w id ≡ base id
   unfolding entry_of
   entry_base h = ap (λ (y : Record). entry_by id (link_of (type_of b s y))) (sym et) ∙ ap (entry_by id) (link_ends b s t h)
 
-  pub entry_qual : is_qualifier (kind_of t.info) ≡ true → entry_of b s w id ≡ qual (qualifier_of (kind_of t.info))
-  unfolding is_qualifier qualifier_of
-  entry_qual h =
-      by_kind
-      (λ k. k ≡ kind_of t.info → is_qualifier k ≡ true → entry_of b s w id ≡ qual (qualifier_of k))
-      (λ e l. absurd (false_true l))
-      (λ e l. absurd (false_true l))
-      (λ e l. absurd (false_true l))
-      (λ e l. absurd (false_true l))
-      (λ e l. absurd (false_true l))
-      (λ e l. absurd (false_true l))
-      (λ e l. absurd (false_true l))
-      (λ e l. absurd (false_true l))
-      (λ e l. absurd (false_true l))
-      (λ e l. entry_is _ (type_9 b s t (sym e)))
-      (λ e l. entry_is _ (type_10 b s t (sym e)))
-      (λ e l. entry_is _ (type_11 b s t (sym e)))
-      (λ e l. absurd (false_true l))
-      (λ e l. absurd (false_true l))
-      (λ e l. absurd (false_true l))
-      (λ e l. absurd (false_true l))
-      (λ e l. absurd (false_true l))
-      (λ e l. absurd (false_true l))
-      (λ e l. absurd (false_true l))
-      (λ e l. absurd (false_true l))
-      (λ m g e l. absurd (false_true (qual_high m (omega arith) (omega arith) ∙ l)))
-      (kind_of t.info) refl h
+  qual_as : (y : Kind) → is_qualifier y ≡ true → entry_by id (link_of (type_as b s t y)) ≡ qual (qualifier_of y)
+  qual_as Void h = absurd (false_true h)
+  qual_as Int h = absurd (false_true h)
+  qual_as Ptr h = absurd (false_true h)
+  qual_as Array h = absurd (false_true h)
+  qual_as Struct h = absurd (false_true h)
+  qual_as Union h = absurd (false_true h)
+  qual_as Enum h = absurd (false_true h)
+  qual_as Fwd h = absurd (false_true h)
+  qual_as Typedef h = absurd (false_true h)
+  qual_as Volatile h = refl
+  qual_as Const h = refl
+  qual_as Restrict h = refl
+  qual_as Func h = absurd (false_true h)
+  qual_as FuncProto h = absurd (false_true h)
+  qual_as Var h = absurd (false_true h)
+  qual_as Datasec h = absurd (false_true h)
+  qual_as Float h = absurd (false_true h)
+  qual_as DeclTag h = absurd (false_true h)
+  qual_as TypeTag h = absurd (false_true h)
+  qual_as Enum64 h = absurd (false_true h)
+  qual_as Unknown h = absurd (false_true h)
+
+  pub entry_qual : is_qualifier (kind_named (kind_of t.info)) ≡ true → entry_of b s w id ≡ qual (qualifier_of (kind_named (kind_of t.info)))
+  entry_qual h = entry_kind _ refl ∙ qual_as _ h
 
   -- an entry is a qualifier of a qualifier's kind, or another
-  by_entry : (P : Entry → Type 0) → P (base id) → P star → ((n : ℕ) → P (array n)) → ((ps : List Param) → P (proto ps)) → ((a : Bool) (n : Name) → P (tag a n))
-      → ((q : Qualifier) → is_qualifier (kind_of t.info) ≡ true → P (qual q)) → P (entry_of b s w id)
-  unfolding is_qualifier
-  by_entry P pb ps pa pp pt pq =
-      by_kind
-      (λ k. k ≡ kind_of t.info → P (entry_of b s w id))
-      (λ e. subst P (sym (entry_is _ (type_0 b s t (sym e)))) pb)
-      (λ e. subst P (sym (entry_is _ (type_1 b s t (sym e)))) pb)
-      (λ e. subst P (sym (entry_is _ (type_2 b s t (sym e)))) ps)
-      (λ e. subst P (sym (entry_is _ (type_3 b s t (sym e)))) (pa _))
-      (λ e. subst P (sym (entry_is _ (type_4 b s t (sym e)))) pb)
-      (λ e. subst P (sym (entry_is _ (type_5 b s t (sym e)))) pb)
-      (λ e. subst P (sym (entry_is _ (type_6 b s t (sym e)))) pb)
-      (λ e. subst P (sym (entry_is _ (type_7 b s t (sym e)))) pb)
-      (λ e. subst P (sym (entry_is _ (type_8 b s t (sym e)))) pb)
-      (λ e. subst P (sym (entry_is _ (type_9 b s t (sym e)))) (pq _ (sym (ap is_qualifier e))))
-      (λ e. subst P (sym (entry_is _ (type_10 b s t (sym e)))) (pq _ (sym (ap is_qualifier e))))
-      (λ e. subst P (sym (entry_is _ (type_11 b s t (sym e)))) (pq _ (sym (ap is_qualifier e))))
-      (λ e. subst P (sym (entry_is _ (type_12 b s t (sym e)))) pb)
-      (λ e. subst P (sym (entry_is _ (type_13 b s t (sym e)))) (pp _))
-      (λ e. subst P (sym (entry_is _ (type_14 b s t (sym e)))) pb)
-      (λ e. subst P (sym (entry_is _ (type_15 b s t (sym e)))) pb)
-      (λ e. subst P (sym (entry_is _ (type_16 b s t (sym e)))) pb)
-      (λ e. subst P (sym (entry_is _ (type_17 b s t (sym e)))) pb)
-      (λ e. subst P (sym (entry_is _ (type_18 b s t (sym e)))) (pt _ _))
-      (λ e. subst P (sym (entry_is _ (type_19 b s t (sym e)))) pb)
-      (λ m g e. subst P (sym (entry_is _ (type_none b s t (rw e at g)))) pb)
-      (kind_of t.info) refl
+  entry_as : (P : Entry → Type 0) → P (base id) → P star → ((n : ℕ) → P (array n)) → ((ps : List Param) → P (proto ps)) → ((a : Bool) (n : Name) → P (tag a n))
+      → (y : Kind) → ((q : Qualifier) → is_qualifier y ≡ true → P (qual q)) → P (entry_by id (link_of (type_as b s t y)))
+  entry_as P pb ps pa pp pt Void pq = pb
+  entry_as P pb ps pa pp pt Int pq = pb
+  entry_as P pb ps pa pp pt Ptr pq = ps
+  entry_as P pb ps pa pp pt Array pq = pa _
+  entry_as P pb ps pa pp pt Struct pq = pb
+  entry_as P pb ps pa pp pt Union pq = pb
+  entry_as P pb ps pa pp pt Enum pq = pb
+  entry_as P pb ps pa pp pt Fwd pq = pb
+  entry_as P pb ps pa pp pt Typedef pq = pb
+  entry_as P pb ps pa pp pt Volatile pq = pq _ refl
+  entry_as P pb ps pa pp pt Const pq = pq _ refl
+  entry_as P pb ps pa pp pt Restrict pq = pq _ refl
+  entry_as P pb ps pa pp pt Func pq = pb
+  entry_as P pb ps pa pp pt FuncProto pq = pp _
+  entry_as P pb ps pa pp pt Var pq = pb
+  entry_as P pb ps pa pp pt Datasec pq = pb
+  entry_as P pb ps pa pp pt Float pq = pb
+  entry_as P pb ps pa pp pt DeclTag pq = pb
+  entry_as P pb ps pa pp pt TypeTag pq = pt _ _
+  entry_as P pb ps pa pp pt Enum64 pq = pb
+  entry_as P pb ps pa pp pt Unknown pq = pb
 
-  pub stays_on : (c : List Entry) → is_qualifier (kind_of t.info) ≡ false → no_mods (entry_of b s w id ∷ c) ≡ entry_of b s w id ∷ c
+  by_entry : (P : Entry → Type 0) → P (base id) → P star → ((n : ℕ) → P (array n)) → ((ps : List Param) → P (proto ps)) → ((a : Bool) (n : Name) → P (tag a n))
+      → ((q : Qualifier) → is_qualifier (kind_named (kind_of t.info)) ≡ true → P (qual q)) → P (entry_of b s w id)
+  by_entry P pb ps pa pp pt pq = subst P (sym (entry_kind _ refl)) (entry_as P pb ps pa pp pt (kind_named (kind_of t.info)) pq)
+
+  pub stays_on : (c : List Entry) → is_qualifier (kind_named (kind_of t.info)) ≡ false → no_mods (entry_of b s w id ∷ c) ≡ entry_of b s w id ∷ c
   unfolding no_mods
   stays_on c f = by_entry (λ e. no_mods (e ∷ c) ≡ e ∷ c) refl refl (λ n. refl) (λ ps. refl) (λ a n. refl) (λ q h. absurd (false_true (sym f ∙ h)))
 
-  pub no_words : (c : List Entry) → is_qualifier (kind_of t.info) ≡ false → mods (entry_of b s w id ∷ c) ≡ []
+  pub no_words : (c : List Entry) → is_qualifier (kind_named (kind_of t.info)) ≡ false → mods (entry_of b s w id ∷ c) ≡ []
   unfolding mods
   no_words c f = by_entry (λ e. mods (e ∷ c) ≡ []) refl refl (λ n. refl) (λ ps. refl) (λ a n. refl) (λ q h. absurd (false_true (sym f ∙ h)))
 
   -- whether an array is on top
-  pub array_is : is_array (entry_of b s w id) ≡ eqb (kind_of t.info) 3
-  array_is =
-      by_kind
-      (λ k. k ≡ kind_of t.info → is_array (entry_of b s w id) ≡ eqb k 3)
-      (λ e. ap is_array (entry_is _ (type_0 b s t (sym e))))
-      (λ e. ap is_array (entry_is _ (type_1 b s t (sym e))))
-      (λ e. ap is_array (entry_is _ (type_2 b s t (sym e))))
-      (λ e. ap is_array (entry_is _ (type_3 b s t (sym e))))
-      (λ e. ap is_array (entry_is _ (type_4 b s t (sym e))))
-      (λ e. ap is_array (entry_is _ (type_5 b s t (sym e))))
-      (λ e. ap is_array (entry_is _ (type_6 b s t (sym e))))
-      (λ e. ap is_array (entry_is _ (type_7 b s t (sym e))))
-      (λ e. ap is_array (entry_is _ (type_8 b s t (sym e))))
-      (λ e. ap is_array (entry_is _ (type_9 b s t (sym e))))
-      (λ e. ap is_array (entry_is _ (type_10 b s t (sym e))))
-      (λ e. ap is_array (entry_is _ (type_11 b s t (sym e))))
-      (λ e. ap is_array (entry_is _ (type_12 b s t (sym e))))
-      (λ e. ap is_array (entry_is _ (type_13 b s t (sym e))))
-      (λ e. ap is_array (entry_is _ (type_14 b s t (sym e))))
-      (λ e. ap is_array (entry_is _ (type_15 b s t (sym e))))
-      (λ e. ap is_array (entry_is _ (type_16 b s t (sym e))))
-      (λ e. ap is_array (entry_is _ (type_17 b s t (sym e))))
-      (λ e. ap is_array (entry_is _ (type_18 b s t (sym e))))
-      (λ e. ap is_array (entry_is _ (type_19 b s t (sym e))))
-      (λ m g e. ap is_array (entry_is _ (type_none b s t (rw e at g))) ∙ sym (ne_eqb m 3 (λ q. omega arith)))
-      (kind_of t.info) refl
+  pub array_on : kind_named (kind_of t.info) ≡ Array → is_array (entry_of b s w id) ≡ true
+  array_on p = ap is_array (entry_array p)
+
+  off_as : (y : Kind) → (y ≡ Array → ⊥) → is_array (entry_by id (link_of (type_as b s t y))) ≡ false
+  off_as Void n = refl
+  off_as Int n = refl
+  off_as Ptr n = refl
+  off_as Array n = absurd (n refl)
+  off_as Struct n = refl
+  off_as Union n = refl
+  off_as Enum n = refl
+  off_as Fwd n = refl
+  off_as Typedef n = refl
+  off_as Volatile n = refl
+  off_as Const n = refl
+  off_as Restrict n = refl
+  off_as Func n = refl
+  off_as FuncProto n = refl
+  off_as Var n = refl
+  off_as Datasec n = refl
+  off_as Float n = refl
+  off_as DeclTag n = refl
+  off_as TypeTag n = refl
+  off_as Enum64 n = refl
+  off_as Unknown n = refl
+
+  pub array_off : (kind_named (kind_of t.info) ≡ Array → ⊥) → is_array (entry_of b s w id) ≡ false
+  array_off n = ap is_array (entry_kind _ refl) ∙ off_as _ n

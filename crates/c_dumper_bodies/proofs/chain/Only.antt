@@ -1,23 +1,23 @@
 -- Below its base a chain has only entries that lead on, and so has what is popped from it. Assumes nothing.
-use Prim.Native.Nat.{ℕ, zero, suc, ◌<◌, ◌≤◌}
+use Prim.Native.Nat.{ℕ, zero, suc}
 use mathlib.Core.Path.{◌≡◌, refl, ap, ◌∙◌, sym}
 use mathlib.Core.Bool.{Bool, true, false}
 use Rattle.std.specs.Prelude.{Option, Some}
 use mathlib.Core.List.{List, [], ◌∷◌}
-use mathlib.Core.Logic.{◌⊎◌, inl, inr}
-use native.Mathlib.Omega.{arith}
 use Rattle.spec_c_dumper.specs.rules.Writer.{Ask, got, no}
 use Rattle.spec_c_dumper.specs.rules.Types.{BtfType, Void, Int, Ptr, Array, Composite, Enum, Enum64, Fwd, Typedef, Mod, Func, Var, Datasec, FuncProto, Float, DeclTag, TypeTag, Btf}
 use Rattle.spec_c_dumper.specs.rules.Decl.{Entry, base, star, qual, array, proto, tag, link_of, chain_on, chain_of, no_mods}
 use Rattle.spec_type_table.specs.declared.types.TypeTable.{TypeTable}
 use Rattle.spec_type_table.specs.declared.types.BtfType.{BtfType as Record}
+use Rattle.spec_type_table.specs.declared.kind.Kind.{Kind}
+use Rattle.spec_type_table.specs.declared.kind.Kind.TheVariants as kinds
+use Rattle.spec_type_table.specs.Kinds.{kind_named}
 use Rattle.spec_type_table.specs.Records.{kind_of, record_by_id}
 use Rattle.spec_type_table.specs.Table.{btf_of}
-use Rattle.spec_type_table.proofs.KindLaws.{by_kind}
 use Rattle.c_dumper_bodies.specs.declared.chain.links.Base.{Base}
-use Rattle.c_dumper_bodies.specs.chain.Chains.{is_link, entry_of, chain_at, chain_is, only_links}
+use Rattle.c_dumper_bodies.specs.chain.Chains.{is_link, is_qualifier, entry_of, chain_at, chain_is, only_links}
 use Rattle.c_dumper_bodies.specs.bodies.Pieces.{entry_left}
-use Rattle.c_dumper_bodies.proofs.chain.Linked.{false_true, link_past, entry_base}
+use Rattle.c_dumper_bodies.proofs.chain.Linked.{false_true, entry_base}
 
 pub links_below : (e : Entry) (c : List Entry) → only_links (e ∷ c) ≡ true → only_links c ≡ true
 unfolding only_links
@@ -80,37 +80,6 @@ unfolding below chain_of
 links_walked B zero id c h = refl
 links_walked B (suc f) id c h = links_on (chain_of f B) (links_walked B f) id c h (B.type_by_id id)
 
-outside : (k : ℕ) → (k < 9) ⊎ (12 ≤ k) → 9 ≤ k → k < 12 → ⊥
-outside k (inl l) g m = omega arith
-outside k (inr l) g m = omega arith
-
-tag_only : (k : ℕ) → is_link k ≡ true → (k ≡ 2 → ⊥) → (k ≡ 3 → ⊥) → (k ≡ 13 → ⊥) → (k < 9) ⊎ (12 ≤ k) → k ≡ 18
-unfolding is_link
-tag_only =
-    by_kind
-    (λ k. is_link k ≡ true → (k ≡ 2 → ⊥) → (k ≡ 3 → ⊥) → (k ≡ 13 → ⊥) → (k < 9) ⊎ (12 ≤ k) → k ≡ 18)
-    (λ l n2 n3 n13 z. absurd (false_true l))
-    (λ l n2 n3 n13 z. absurd (false_true l))
-    (λ l n2 n3 n13 z. absurd (n2 refl))
-    (λ l n2 n3 n13 z. absurd (n3 refl))
-    (λ l n2 n3 n13 z. absurd (false_true l))
-    (λ l n2 n3 n13 z. absurd (false_true l))
-    (λ l n2 n3 n13 z. absurd (false_true l))
-    (λ l n2 n3 n13 z. absurd (false_true l))
-    (λ l n2 n3 n13 z. absurd (false_true l))
-    (λ l n2 n3 n13 z. absurd (outside 9 z (omega arith) (omega arith)))
-    (λ l n2 n3 n13 z. absurd (outside 10 z (omega arith) (omega arith)))
-    (λ l n2 n3 n13 z. absurd (outside 11 z (omega arith) (omega arith)))
-    (λ l n2 n3 n13 z. absurd (false_true l))
-    (λ l n2 n3 n13 z. absurd (n13 refl))
-    (λ l n2 n3 n13 z. absurd (false_true l))
-    (λ l n2 n3 n13 z. absurd (false_true l))
-    (λ l n2 n3 n13 z. absurd (false_true l))
-    (λ l n2 n3 n13 z. absurd (false_true l))
-    (λ l n2 n3 n13 z. refl)
-    (λ l n2 n3 n13 z. absurd (false_true l))
-    (λ m g l n2 n3 n13 z. absurd (false_true (sym (link_past m g) ∙ l)))
-
 module _ (b : TypeTable) (s w : List ℕ) where
   pub links_chain : (start : ℕ) (r : Option Base) (x : Base) → chain_is b s w start r ≡ chain_of 512 (btf_of b s w) start [] → r ≡ Some x → only_links (chain_at b s w start x.n) ≡ true
   unfolding below chain_is only_links
@@ -118,13 +87,36 @@ module _ (b : TypeTable) (s w : List ℕ) where
 
   -- ---- the entry on top, by the kind of its record
   module _ (id : ℕ) (t : Record) (et : t ≡ record_by_id b s w id) (c : List Entry) (h : only_links (entry_of b s w id ∷ c) ≡ true) where
-    leads_on : is_link (kind_of t.info) ≡ true
+    leads_on : is_link (kind_named (kind_of t.info)) ≡ true
     unfolding only_links
-    leads_on = go (is_link (kind_of t.info)) refl
+    leads_on = go (is_link (kind_named (kind_of t.info))) refl
       where
-        go : (l : Bool) → is_link (kind_of t.info) ≡ l → is_link (kind_of t.info) ≡ true
+        go : (l : Bool) → is_link (kind_named (kind_of t.info)) ≡ l → is_link (kind_named (kind_of t.info)) ≡ true
         go true e = e
         go false e = absurd (false_true (sym (ap (λ (y : Entry). only_links (y ∷ c)) (entry_base b s w id t et e)) ∙ h))
 
-    pub links_tag : (k : ℕ) → k ≡ kind_of t.info → (k ≡ 2 → ⊥) → (k ≡ 3 → ⊥) → (k ≡ 13 → ⊥) → (k < 9) ⊎ (12 ≤ k) → k ≡ 18
-    links_tag k ek n2 n3 n13 z = tag_only k (ap is_link ek ∙ leads_on) n2 n3 n13 z
+    tag_only : (k : Kind) → is_link k ≡ true → (k ≡ kinds.Ptr → ⊥) → (k ≡ kinds.Array → ⊥) → is_qualifier k ≡ false → (k ≡ kinds.FuncProto → ⊥) → k ≡ kinds.TypeTag
+    tag_only kinds.Void l n a q p = absurd (false_true l)
+    tag_only kinds.Int l n a q p = absurd (false_true l)
+    tag_only kinds.Ptr l n a q p = absurd (n refl)
+    tag_only kinds.Array l n a q p = absurd (a refl)
+    tag_only kinds.Struct l n a q p = absurd (false_true l)
+    tag_only kinds.Union l n a q p = absurd (false_true l)
+    tag_only kinds.Enum l n a q p = absurd (false_true l)
+    tag_only kinds.Fwd l n a q p = absurd (false_true l)
+    tag_only kinds.Typedef l n a q p = absurd (false_true l)
+    tag_only kinds.Volatile l n a q p = absurd (false_true (sym q))
+    tag_only kinds.Const l n a q p = absurd (false_true (sym q))
+    tag_only kinds.Restrict l n a q p = absurd (false_true (sym q))
+    tag_only kinds.Func l n a q p = absurd (false_true l)
+    tag_only kinds.FuncProto l n a q p = absurd (p refl)
+    tag_only kinds.Var l n a q p = absurd (false_true l)
+    tag_only kinds.Datasec l n a q p = absurd (false_true l)
+    tag_only kinds.Float l n a q p = absurd (false_true l)
+    tag_only kinds.DeclTag l n a q p = absurd (false_true l)
+    tag_only kinds.TypeTag l n a q p = refl
+    tag_only kinds.Enum64 l n a q p = absurd (false_true l)
+    tag_only kinds.Unknown l n a q p = absurd (false_true l)
+
+    pub links_tag : (k : Kind) → k ≡ kind_named (kind_of t.info) → (k ≡ kinds.Ptr → ⊥) → (k ≡ kinds.Array → ⊥) → is_qualifier k ≡ false → (k ≡ kinds.FuncProto → ⊥) → k ≡ kinds.TypeTag
+    links_tag k ek n a q p = tag_only k (ap is_link ek ∙ leads_on) n a q p

@@ -14,10 +14,12 @@ use Rattle.spec_c_dumper.specs.rules.Writer.{got}
 use Rattle.spec_c_dumper.specs.rules.Decl.{Entry, base, ends, leads, link_of, chain_on, chain_of, qualifier, mods, no_mods}
 use Rattle.spec_type_table.specs.declared.types.TypeTable.{TypeTable}
 use Rattle.spec_type_table.specs.declared.types.BtfType.{BtfType as Record}
+use Rattle.spec_type_table.specs.declared.kind.Kind.{Kind}
+use Rattle.spec_type_table.specs.Kinds.{kind_named}
 use Rattle.spec_type_table.specs.Records.{kind_of, record_by_id}
-use Rattle.spec_type_table.specs.Table.{type_of, extra_word, btf_of}
+use Rattle.spec_type_table.specs.Table.{type_of, btf_of}
 use Rattle.c_dumper_bodies.specs.chain.Chains.{is_link, is_qualifier, qualifier_of, next_of, entry_of, path_at, chain_at, chain_is, RecordIs, kind_at, skipped, mods_down}
-use Rattle.c_dumper_bodies.proofs.chain.Linked.{false_true, link_leads, link_ends, next_array, next_other, stays_on, no_words, entry_qual}
+use Rattle.c_dumper_bodies.proofs.chain.Linked.{false_true, link_leads, link_ends, stays_on, no_words, entry_qual}
 
 not_true : (x : Bool) → not x ≡ true → x ≡ false
 not_true true e = absurd (false_true e)
@@ -26,14 +28,6 @@ not_true false e = refl
 not_false : (x : Bool) → not x ≡ false → x ≡ true
 not_false true e = refl
 not_false false e = absurd (false_true (sym e))
-
--- ---- next_of's returns
-module _ (b : TypeTable) (s : List ℕ) (t : Record) (k : ℕ) (ek : k ≡ kind_of t.info) where
-  pub next_by_array : (x : ℕ) → k ≡ 3 → x ≡ extra_word b s t → x ≡ next_of b s t
-  next_by_array x e q = q ∙ sym (next_array b s t (sym ek ∙ e))
-
-  pub next_by_type : (k ≡ 3 → ⊥) → t.type_id ≡ next_of b s t
-  next_by_type n = sym (next_other b s t (λ e. n (ek ∙ e)))
 
 module _ (b : TypeTable) (s w : List ℕ) (start : ℕ) where
   -- ---- path_at
@@ -46,9 +40,9 @@ module _ (b : TypeTable) (s w : List ℕ) (start : ℕ) where
   path_more i id t x e et ex = rw add-one (ex ∙ ap (next_of b s) (et ∙ ap (record_by_id b s w) e))
 
   -- ---- kind_at
-  pub kind_reads : (n id : ℕ) (t : Record) (k : ℕ) → id ≡ path_at b s w start n → t ≡ record_by_id b s w id → k ≡ kind_of t.info → k ≡ kind_at b s w start n
+  pub kind_reads : (n id : ℕ) (t : Record) (k : Kind) → id ≡ path_at b s w start n → t ≡ record_by_id b s w id → k ≡ kind_named (kind_of t.info) → k ≡ kind_at b s w start n
   unfolding kind_at
-  kind_reads n id t k e et ek = ek ∙ ap (λ (x : Record). kind_of x.info) (et ∙ ap (record_by_id b s w) e)
+  kind_reads n id t k e et ek = ek ∙ ap (λ (x : Record). kind_named (kind_of x.info)) (et ∙ ap (record_by_id b s w) e)
 
   -- ---- chain_base: m entries were walked, f more may come, and the chain from here is the whole
   pub ChainLeft : ℕ → ℕ → Type 0
@@ -73,7 +67,7 @@ module _ (b : TypeTable) (s w : List ℕ) (start : ℕ) where
   unfolding chain_of chain_on btf_of
   chain_ends f id c e = ap (chain_on (chain_of f (btf_of b s w)) id c) e
 
-  leads_on : (id : ℕ) → is_link (kind_of (record_by_id b s w id).info) ≡ true → link_of (type_of b s (record_by_id b s w id)) ≡ leads (entry_of b s w id) (next_of b s (record_by_id b s w id))
+  leads_on : (id : ℕ) → is_link (kind_named (kind_of (record_by_id b s w id).info)) ≡ true → link_of (type_of b s (record_by_id b s w id)) ≡ leads (entry_of b s w id) (next_of b s (record_by_id b s w id))
   unfolding entry_of
   leads_on id h = link_leads b s (record_by_id b s w id) id h
 
@@ -85,9 +79,9 @@ module _ (b : TypeTable) (s w : List ℕ) (start : ℕ) where
   unfolding path_at
   path_next m id e = ap (λ (x : ℕ). next_of b s (record_by_id b s w x)) e
 
-  module _ (id n : ℕ) (t : Record) (et : t ≡ record_by_id b s w id) (k : ℕ) (ek : k ≡ kind_of t.info) (l : Bool) (el : l ≡ is_link k) where
-    is_kind : is_link (kind_of (record_by_id b s w id).info) ≡ l
-    is_kind = sym (el ∙ ap is_link (ek ∙ ap (λ (x : Record). kind_of x.info) et))
+  module _ (id n : ℕ) (t : Record) (et : t ≡ record_by_id b s w id) (k : Kind) (ek : k ≡ kind_named (kind_of t.info)) (l : Bool) (el : l ≡ is_link k) where
+    is_kind : is_link (kind_named (kind_of (record_by_id b s w id).info)) ≡ l
+    is_kind = sym (el ∙ ap is_link (ek ∙ ap (λ (x : Record). kind_named (kind_of x.info)) et))
 
     pub len_turn : (x : ℕ) → ChainLeft id n → n < 512 → not l ≡ false → x ≡ next_of b s t → ChainLeft x (n + 1)
     unfolding ChainLeft
@@ -159,7 +153,7 @@ module _ (b : TypeTable) (s w : List ℕ) (start : ℕ) where
     unfolding skipped
     skip_end z = sym (ap length (sym i ∙ ap (λ (x : ℕ). no_mods (chain_at b s w start x)) z ∙ mods_none) ∙ chain_length 0)
 
-    module _ (j x : ℕ) (q : Bool) (z : k ≡ suc j) (ex : x ≡ kind_at b s w start j) (eq : q ≡ is_qualifier x) where
+    module _ (j : ℕ) (x : Kind) (q : Bool) (z : k ≡ suc j) (ex : x ≡ kind_at b s w start j) (eq : q ≡ is_qualifier x) where
       kind_is : is_qualifier (kind_at b s w start j) ≡ q
       kind_is = sym (eq ∙ ap is_qualifier ex)
 
@@ -248,13 +242,13 @@ module _ (b : TypeTable) (s w : List ℕ) (start : ℕ) where
     pub mods_end : k ≤ m → put_out p t ≡ put_text t₀ at (whole (mods_down b s w start m n))
     mods_end h = put_empty t p ∙ ap (λ (x : List ℕ). put_text t p (whole x)) (sym (down_end m k h)) ∙ i
 
-    pub mods_turn : (j x q : ℕ) (t₁ : List ℕ) (r : ℕ) (t₂ : List ℕ) → k ≡ suc j → m < k → x ≡ kind_at b s w start j
+    pub mods_turn : (j : ℕ) (x : Kind) (q : ℕ) (t₁ : List ℕ) (r : ℕ) (t₂ : List ℕ) → k ≡ suc j → m < k → x ≡ kind_at b s w start j
         → put_out q t₁ ≡ put_text t p (whole (qualifier (qualifier_of x))) → put_out r t₂ ≡ put_text t₁ q (whole (ascii " "))
         → put_text t₂ r (whole (mods_down b s w start m j)) ≡ put_text t₀ at (whole (mods_down b s w start m n))
     unfolding join
     mods_turn j x q t₁ r t₂ z h ex e₁ e₂ =
         let lt : m < suc j = omega arith in
         join_on t p (whole (qualifier (qualifier_of x) ++ ascii " ")) (whole (mods_down b s w start m j)) r t₂ (put_seq _ _ _ _ _ _ _ _ e₁ e₂)
-        ∙ ap (λ (y : ℕ). put_text t p (whole (qualifier (qualifier_of y) ++ ascii " " ++ mods_down b s w start m j))) ex
+        ∙ ap (λ (y : Kind). put_text t p (whole (qualifier (qualifier_of y) ++ ascii " " ++ mods_down b s w start m j))) ex
         ∙ ap (λ (y : List ℕ). put_text t p (whole y)) (sym (down_more m j lt) ∙ ap (mods_down b s w start m) (sym z))
         ∙ i

@@ -1,51 +1,41 @@
 -- A chain by two numbers: the id that it starts from, and how many entries it has. Entry k is k steps from the start.
-use Rattle.std.specs.Prelude.{ℕ, zero, suc, ◌≡◌, Option, Some, None, Bool, true, false, ◌&&◌, List, [], ◌∷◌, ◌++◌, length, get_or, ltb, leb, eqb}
+use Rattle.std.specs.Prelude.{ℕ, zero, suc, ◌≡◌, Option, Some, None, Bool, true, false, List, [], ◌∷◌, ◌++◌, length, ltb}
 use Rattle.spec_bytes.specs.text.Text.{ascii}
 use Rattle.spec_c_dumper.specs.rules.Writer.{Ask, got, no}
 use Rattle.spec_c_dumper.specs.rules.Types.{Qualifier, volatile, const, restrict}
 use Rattle.spec_c_dumper.specs.rules.Decl.{Entry, base, star, qual, array, proto, tag, link_of, qualifier, no_mods}
-use Rattle.spec_c_dumper.specs.rules.Chain.{entry_by}
+use Rattle.spec_c_dumper.specs.rules.Chain.{entry_by, target_by}
 use Rattle.spec_type_table.specs.declared.types.TypeTable.{TypeTable}
 use Rattle.spec_type_table.specs.declared.types.BtfType.{BtfType as Record}
+use Rattle.spec_type_table.specs.declared.kind.Kind.{Kind}
+use Rattle.spec_type_table.specs.declared.kind.Kind.TheVariants.{Ptr, Array, Volatile, Const, Restrict, FuncProto, TypeTag}
+use Rattle.spec_type_table.specs.Kinds.{kind_named}
 use Rattle.spec_type_table.specs.Records.{kind_of, record_by_id}
-use Rattle.spec_type_table.specs.Table.{type_of, extra_word}
+use Rattle.spec_type_table.specs.Table.{type_of}
 use Rattle.c_dumper_bodies.specs.declared.chain.links.Base.{Base}
 
--- whether a kind 0 to 19 leads on: 2, 3, 9, 10, 11, 13 and 18 do
-abbrev pub leads_on : List Bool
-leads_on =
-    false
-    ∷ false
-    ∷ true
-    ∷ true
-    ∷ false
-    ∷ false
-    ∷ false
-    ∷ false
-    ∷ false
-    ∷ true
-    ∷ true
-    ∷ true
-    ∷ false
-    ∷ true
-    ∷ false
-    ∷ false
-    ∷ false
-    ∷ false
-    ∷ true
-    ∷ false
-    ∷ []
+-- whether a kind leads on in a chain
+abbrev pub is_link : Kind → Bool
+is_link Ptr = true
+is_link Array = true
+is_link Volatile = true
+is_link Const = true
+is_link Restrict = true
+is_link FuncProto = true
+is_link TypeTag = true
+is_link _ = false
 
-unfoldable pub is_link : ℕ → Bool
-is_link kind = get_or leads_on kind false
-
--- 9 volatile, 10 const, 11 restrict
-unfoldable pub is_qualifier : ℕ → Bool
-is_qualifier kind = leb 9 kind && leb kind 11
+abbrev pub is_qualifier : Kind → Bool
+is_qualifier Volatile = true
+is_qualifier Const = true
+is_qualifier Restrict = true
+is_qualifier _ = false
 
 -- the qualifier of a kind; the last for every other kind too
-unfoldable pub qualifier_of : ℕ → Qualifier
-qualifier_of kind = elim (eqb kind 9) [ true ↦ volatile | false ↦ elim (eqb kind 10) [ true ↦ const | false ↦ restrict ] ]
+abbrev pub qualifier_of : Kind → Qualifier
+qualifier_of Volatile = volatile
+qualifier_of Const = const
+qualifier_of _ = restrict
 
 -- whether every entry leads on: in a chain the base, on top, is the only one that does not
 unfoldable pub only_links : List Entry → Bool
@@ -58,9 +48,9 @@ only_links (proto ps ∷ c) = only_links c
 only_links (tag a name ∷ c) = only_links c
 
 module _ (b : TypeTable) (s : List ℕ) where
-  -- the id that a record leads to: btf_array.type, or the type of struct btf_type
+  -- the id that a record leads to; its type field, where it leads nowhere
   unfoldable pub next_of : Record → ℕ
-  next_of t = elim (eqb (kind_of t.info) 3) [ true ↦ extra_word b s t | false ↦ t.type_id ]
+  next_of t = target_by t.type_id (link_of (type_of b s t))
 
   module _ (w : List ℕ) where
     -- the entry of a type: the base, or what its link has
@@ -89,8 +79,8 @@ module _ (b : TypeTable) (s : List ℕ) where
       chain_is None = no 12
 
       -- the kind of entry k
-      unfoldable pub kind_at : ℕ → ℕ
-      kind_at k = kind_of (record_by_id b s w (path_at k)).info
+      unfoldable pub kind_at : ℕ → Kind
+      kind_at k = kind_named (kind_of (record_by_id b s w (path_at k)).info)
 
       -- how many of n entries stay when the qualifiers on top are popped
       unfoldable pub skipped : ℕ → ℕ

@@ -7,34 +7,35 @@ ghost use Rattle.c_dumper_bodies.specs.chain.Chains as chains;
 ghost use Rattle.c_dumper_bodies.specs.chain.Chains.{next_of, path_at, chain_is, RecordIs, kind_at};
 
 use base_bytes::limit;
-use btf_type_table::kind;
-use btf_type_table::kind::kind_of;
 use btf_type_table::node::type_by_id;
 use btf_type_table::section_word::array_type;
-use spec_type_table::{BtfType, TypeTable};
+use spec_type_table::{BtfType, Kind, TypeTable};
 
 // Whether a kind leads on in a chain; any other is a base.
-fn is_link(kind: u32) -> bool
+fn is_link(kind: Kind) -> bool
     ensures { result ≡ chains.is_link kind }
 {
-    match kind {
-        kind::PTR
-        | kind::ARRAY
-        | kind::VOLATILE..=kind::RESTRICT
-        | kind::FUNC_PROTO
-        | kind::TYPE_TAG => true,
-        _ => false,
-    }
+    matches!(
+        kind,
+        Kind::Ptr
+            | Kind::Array
+            | Kind::Volatile
+            | Kind::Const
+            | Kind::Restrict
+            | Kind::FuncProto
+            | Kind::TypeTag
+    )
 }
 
 // The id that an entry leads to.
+#[tactic(auto, using(spec_type_table::proofs::KindTypes::kind_types), unfolding(crate::specs::chain::Chains::next_of))]
 fn next_of(b: TypeTable, section: &[u8], t: BtfType) -> u32
     ensures { result ≡ next_of b section.now t }
 {
-    if kind_of(t.info) == kind::ARRAY {
-        return array_type(b, section, t);
+    match Kind::of(t.info) {
+        Kind::Array => array_type(b, section, t),
+        _ => t.type_id,
     }
-    t.type_id
 }
 
 // The base that a chain ends with, its record, and how many entries lead there.
@@ -54,7 +55,7 @@ pub fn chain_base(b: TypeTable, section: &[u8], work: &[u8], start: u32) -> Opti
     let mut id = start;
     for n in 0..limit::MOST_CALLS {
         let t = type_by_id(b, section, work, id);
-        if !is_link(kind_of(t.info)) {
+        if !is_link(Kind::of(t.info)) {
             return Some(Base { id, t, n });
         }
         id = next_of(b, section, t);
@@ -74,18 +75,15 @@ pub fn path_at(b: TypeTable, section: &[u8], work: &[u8], start: u32, k: u32) ->
 }
 
 // The kind of entry k.
-pub fn kind_at(b: TypeTable, section: &[u8], work: &[u8], start: u32, k: u32) -> u32
+pub fn kind_at(b: TypeTable, section: &[u8], work: &[u8], start: u32, k: u32) -> Kind
     ensures { result ≡ kind_at b section.now work.now start k }
 {
     let t = type_by_id(b, section, work, path_at(b, section, work, start, k));
-    kind_of(t.info)
+    Kind::of(t.info)
 }
 
-pub fn is_qualifier(kind: u32) -> bool
+pub fn is_qualifier(kind: Kind) -> bool
     ensures { result ≡ chains.is_qualifier kind }
 {
-    match kind {
-        kind::VOLATILE..=kind::RESTRICT => true,
-        _ => false,
-    }
+    matches!(kind, Kind::Volatile | Kind::Const | Kind::Restrict)
 }

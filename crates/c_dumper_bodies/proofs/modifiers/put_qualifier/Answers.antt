@@ -1,11 +1,17 @@
-use Rattle.c_dumper_bodies.proofs.chain.Linked.{put_volatile, put_const, put_restrict}
+use native.Mathlib.Omega.{arith}
+use Rattle.std.proofs.lemmas.Grind.{common_steps}
+use Rattle.spec_c_dumper.specs.rules.Decl.{qualifier}
+use Rattle.spec_type_table.proofs.KindNames.{kind_cases}
 use Rattle.c_dumper_bodies.proofs.modifiers.put_qualifier.Goals as goal
 
-pub returns-in-9 : goal.returns-in-9
-returns-in-9 c = put_volatile _ _ _ _ _ c.in-9.is c.put_word.ensures
+pub returns-in-Volatile : goal.returns-in-Volatile
+unfolding qualifier
+returns-in-Volatile c = grind (arith, common_steps)
 
-pub returns-in-10 : goal.returns-in-10
-returns-in-10 c = put_const _ _ _ _ _ c.in-10.is c.put_word-in-10.ensures
+pub returns-in-Const : goal.returns-in-Const
+unfolding qualifier
+returns-in-Const c = grind (arith, common_steps)
 
 pub returns-in_default : goal.returns-in_default
-returns-in_default c = put_restrict _ _ _ _ _ c.in_default.in_default-own.rest.0.1 c.in_default.in_default-own.rest.1 c.put_word-in_default.ensures
+unfolding qualifier
+returns-in_default c = let every = kind_cases c.args.kind in grind (arith, common_steps)
