@@ -21,8 +21,7 @@ pub use crate::declarations::members::emit_composite_def;
 use base_bytes::put::{put_byte, put_two, stop, stopped};
 use base_bytes::refusal;
 use base_keywords::table::{Word, put_word};
-use btf_type_table::kind;
-use btf_type_table::kind::{entries_of, is_struct, kind_flag_of, kind_of, param_place};
+use btf_type_table::kind::{entries_of, is_struct, kind_flag_of, param_place};
 use btf_type_table::name::{is_empty, put_str};
 use btf_type_table::node::type_by_id;
 use btf_type_table::section_word::{array_nelems, word};
@@ -34,7 +33,7 @@ use c_dumper_bodies::chain::{Base, chain_base, kind_at, path_at};
 use c_dumper_bodies::modifiers::{emit_mods, put_qualifier, skip_mods};
 use c_dumper_name_versions::forwards::{emit_composite_fwd, emit_fwd_def};
 use c_dumper_name_versions::names::{Name, bare, emit_name};
-use spec_type_table::{BtfType, Entries, TypeTable};
+use spec_type_table::{BtfType, Entries, Kind, TypeTable};
 
 // What is declared: the type that the chain starts from, the declared name, and the level of indentation.
 #[derive(Clone, Copy)]
@@ -226,19 +225,20 @@ fn emit_entry(
 {
     let n = c.n - 1;
     let t = type_by_id(b, section, work, path_at(b, section, work, d.id, n));
-    match kind_of(t.info) {
-        kind::PTR => goes_on(put_star(text, c.at, c.last_was_ptr), n, true),
-        kind::ARRAY => {
+    let kind = Kind::of(t.info);
+    match kind {
+        Kind::Ptr => goes_on(put_star(text, c.at, c.last_was_ptr), n, true),
+        Kind::Array => {
             let nelems = array_nelems(b, section, t);
             let m = skip_mods(b, section, work, d.id, n);
             let a = emit_array(b, section, work, text, c.at, d, m, c.last_was_ptr, below);
             named(put_count(text, a, nelems))
         }
-        kind::VOLATILE..=kind::RESTRICT => {
+        Kind::Volatile | Kind::Const | Kind::Restrict => {
             let a = put_byte(text, c.at, b' ');
-            goes_on(put_qualifier(text, a, kind_of(t.info)), n, false)
+            goes_on(put_qualifier(text, a, kind), n, false)
         }
-        kind::FUNC_PROTO => named(emit_function(b, section, work, text, c, d, t, below)),
+        Kind::FuncProto => named(emit_function(b, section, work, text, c, d, t, below)),
         _ => {
             let m = skip_mods(b, section, work, d.id, n);
             let a = emit_mods(b, section, work, text, c.at, d.id, n, m);
@@ -277,8 +277,7 @@ fn emit_function(
     emit_params(b, section, work, text, f, entries_of(t), d.lvl, below)
 }
 
-// The base's own words. What cannot be declared prints nothing, and a kind that there is not is void: opening refuses both. One arm
-// for both enums would be 20 instructions more for each declaration.
+// The base's own words. What cannot be declared prints nothing, and a kind that there is not is void: opening refuses both.
 #[cycle(declarator)]
 fn emit_base(
     b: TypeTable,
@@ -296,30 +295,19 @@ fn emit_base(
         (work_naming b) (btf_of b section.now work.old) below lvl id (type_of b section.now t)
         work.old) }
 {
-    match kind_of(t.info) {
-        kind::INT | kind::FLOAT => put_str(b, section, text, at, t.name_off),
-        kind::STRUCT | kind::UNION => emit_composite_word(
+    match Kind::of(t.info) {
+        Kind::Int | Kind::Float => put_str(b, section, text, at, t.name_off),
+        Kind::Struct | Kind::Union => emit_composite_word(
             b, section, work, text, at, id, t, lvl, below,
         ),
-        kind::ENUM => emit_enum_word(b, section, work, text, at, id, t, lvl),
-        kind::FWD => emit_fwd_def(
-            b,
-            section,
-            work,
-            text,
-            at,
-            id,
-            kind_flag_of(t.info),
-            t.name_off,
-        ),
-        kind::TYPEDEF => put_typedef_name(b, section, work, text, at, id, t.name_off),
-        kind::ENUM64 => emit_enum_word(b, section, work, text, at, id, t, lvl),
-        kind::PTR
-        | kind::ARRAY
-        | kind::VOLATILE..=kind::DATASEC
-        | kind::DECL_TAG
-        | kind::TYPE_TAG => at,
-        _ => put_word(text, at, Word::Void),
+        Kind::Enum | Kind::Enum64 => emit_enum_word(b, section, work, text, at, id, t, lvl),
+        Kind::Fwd => {
+            let is_union = kind_flag_of(t.info);
+            emit_fwd_def(b, section, work, text, at, id, is_union, t.name_off)
+        }
+        Kind::Typedef => put_typedef_name(b, section, work, text, at, id, t.name_off),
+        Kind::Void | Kind::Unknown => put_word(text, at, Word::Void),
+        _ => at,
     }
 }
 
@@ -372,12 +360,14 @@ fn emit_array(
         return emit_name(b, section, text, at, name, last_was_ptr);
     }
     let a = put_gap(b, section, text, at, name, last_was_ptr);
-    if kind_at(b, section, work, d.id, n - 1) == kind::ARRAY {
-        return emit_type_chain(b, section, work, text, a, d, n, below);
+    match kind_at(b, section, work, d.id, n - 1) {
+        Kind::Array => emit_type_chain(b, section, work, text, a, d, n, below),
+        _ => {
+            let c = put_byte(text, a, b'(');
+            let e = emit_type_chain(b, section, work, text, c, d, n, below);
+            put_byte(text, e, b')')
+        }
     }
-    let c = put_byte(text, a, b'(');
-    let e = emit_type_chain(b, section, work, text, c, d, n, below);
-    put_byte(text, e, b')')
 }
 
 // What stands before the parameters of a prototype.

@@ -10,12 +10,11 @@ use crate::declarations::emit_composite_def;
 use crate::typedefs::emit_typedef_def;
 use base_bytes::limit;
 use base_bytes::put::put_three;
-use btf_type_table::kind;
-use btf_type_table::kind::{is_struct, kind_flag_of, kind_of};
+use btf_type_table::kind::{is_struct, kind_flag_of};
 use btf_type_table::name::is_builtin;
 use c_dumper_bodies::enums::emit_enum_def;
 use c_dumper_name_versions::forwards::{emit_composite_fwd, emit_fwd_def};
-use spec_type_table::{BtfType, TypeTable};
+use spec_type_table::{BtfType, Kind, TypeTable};
 
 fn put_line_end(text: &mut [u8], at: usize) -> usize
     ensures { put_out result text.new ≡ put_text text.old at (whole (ascii ";\n\n")) }
@@ -37,16 +36,16 @@ pub fn emit_definition(
         ≡ put_said text.old at (definition_once (work_asks b.types (btf_of b section.now work.old))
         (work_naming b) (btf_of b section.now work.old) id (type_of b section.now t) work.old) }
 {
-    match kind_of(t.info) {
-        kind::STRUCT | kind::UNION => {
+    match Kind::of(t.info) {
+        Kind::Struct | Kind::Union => {
             let a = emit_composite_def(b, section, work, text, at, id, t, 0, limit::MOST_CALLS);
             put_line_end(text, a)
         }
-        kind::ENUM | kind::ENUM64 => {
+        Kind::Enum | Kind::Enum64 => {
             let a = emit_enum_def(b, section, work, text, at, id, t, 0);
             put_line_end(text, a)
         }
-        kind::FWD => {
+        Kind::Fwd => {
             let is_union = kind_flag_of(t.info);
             let a = emit_fwd_def(b, section, work, text, at, id, is_union, t.name_off);
             put_line_end(text, a)
@@ -72,12 +71,12 @@ pub fn emit_forward(
     if is_builtin(b, section, t.name_off) {
         return at;
     }
-    match kind_of(t.info) {
-        kind::STRUCT | kind::UNION => {
+    match Kind::of(t.info) {
+        Kind::Struct | Kind::Union => {
             let a = emit_composite_fwd(b, section, work, text, at, id, is_struct(t), t.name_off);
             put_line_end(text, a)
         }
-        kind::TYPEDEF => {
+        Kind::Typedef => {
             let a = emit_typedef_def(b, section, work, text, at, id, t.name_off, t.type_id);
             put_line_end(text, a)
         }

@@ -15,7 +15,7 @@ use Rattle.spec_type_table.specs.Kinds.{kind_named}
 use Rattle.spec_type_table.specs.Records.{kind_of, record_by_id}
 use Rattle.spec_type_table.specs.Table.{btf_of}
 use Rattle.c_dumper_bodies.specs.declared.chain.links.Base.{Base}
-use Rattle.c_dumper_bodies.specs.chain.Chains.{is_link, is_qualifier, entry_of, chain_at, chain_is, only_links}
+use Rattle.c_dumper_bodies.specs.chain.Chains.{is_link, entry_of, chain_at, chain_is, only_links}
 use Rattle.c_dumper_bodies.specs.bodies.Pieces.{entry_left}
 use Rattle.c_dumper_bodies.proofs.chain.Linked.{false_true, entry_base}
 
@@ -95,28 +95,28 @@ module _ (b : TypeTable) (s w : List ℕ) where
         go true e = e
         go false e = absurd (false_true (sym (ap (λ (y : Entry). only_links (y ∷ c)) (entry_base b s w id t et e)) ∙ h))
 
-    tag_only : (k : Kind) → is_link k ≡ true → (k ≡ kinds.Ptr → ⊥) → (k ≡ kinds.Array → ⊥) → is_qualifier k ≡ false → (k ≡ kinds.FuncProto → ⊥) → k ≡ kinds.TypeTag
-    tag_only kinds.Void l n a q p = absurd (false_true l)
-    tag_only kinds.Int l n a q p = absurd (false_true l)
-    tag_only kinds.Ptr l n a q p = absurd (n refl)
-    tag_only kinds.Array l n a q p = absurd (a refl)
-    tag_only kinds.Struct l n a q p = absurd (false_true l)
-    tag_only kinds.Union l n a q p = absurd (false_true l)
-    tag_only kinds.Enum l n a q p = absurd (false_true l)
-    tag_only kinds.Fwd l n a q p = absurd (false_true l)
-    tag_only kinds.Typedef l n a q p = absurd (false_true l)
-    tag_only kinds.Volatile l n a q p = absurd (false_true (sym q))
-    tag_only kinds.Const l n a q p = absurd (false_true (sym q))
-    tag_only kinds.Restrict l n a q p = absurd (false_true (sym q))
-    tag_only kinds.Func l n a q p = absurd (false_true l)
-    tag_only kinds.FuncProto l n a q p = absurd (p refl)
-    tag_only kinds.Var l n a q p = absurd (false_true l)
-    tag_only kinds.Datasec l n a q p = absurd (false_true l)
-    tag_only kinds.Float l n a q p = absurd (false_true l)
-    tag_only kinds.DeclTag l n a q p = absurd (false_true l)
-    tag_only kinds.TypeTag l n a q p = refl
-    tag_only kinds.Enum64 l n a q p = absurd (false_true l)
-    tag_only kinds.Unknown l n a q p = absurd (false_true l)
+    tag_only : (k : Kind) → is_link k ≡ true → (k ≡ kinds.Ptr → ⊥) → (k ≡ kinds.Array → ⊥) → (k ≡ kinds.Volatile → ⊥) → (k ≡ kinds.Const → ⊥) → (k ≡ kinds.Restrict → ⊥) → (k ≡ kinds.FuncProto → ⊥) → k ≡ kinds.TypeTag
+    tag_only kinds.Void l n a v c r p = absurd (false_true l)
+    tag_only kinds.Int l n a v c r p = absurd (false_true l)
+    tag_only kinds.Ptr l n a v c r p = absurd (n refl)
+    tag_only kinds.Array l n a v c r p = absurd (a refl)
+    tag_only kinds.Struct l n a v c r p = absurd (false_true l)
+    tag_only kinds.Union l n a v c r p = absurd (false_true l)
+    tag_only kinds.Enum l n a v c r p = absurd (false_true l)
+    tag_only kinds.Fwd l n a v c r p = absurd (false_true l)
+    tag_only kinds.Typedef l n a v c r p = absurd (false_true l)
+    tag_only kinds.Volatile l n a v c r p = absurd (v refl)
+    tag_only kinds.Const l n a v c r p = absurd (c refl)
+    tag_only kinds.Restrict l n a v c r p = absurd (r refl)
+    tag_only kinds.Func l n a v c r p = absurd (false_true l)
+    tag_only kinds.FuncProto l n a v c r p = absurd (p refl)
+    tag_only kinds.Var l n a v c r p = absurd (false_true l)
+    tag_only kinds.Datasec l n a v c r p = absurd (false_true l)
+    tag_only kinds.Float l n a v c r p = absurd (false_true l)
+    tag_only kinds.DeclTag l n a v c r p = absurd (false_true l)
+    tag_only kinds.TypeTag l n a v c r p = refl
+    tag_only kinds.Enum64 l n a v c r p = absurd (false_true l)
+    tag_only kinds.Unknown l n a v c r p = absurd (false_true l)
 
-    pub links_tag : (k : Kind) → k ≡ kind_named (kind_of t.info) → (k ≡ kinds.Ptr → ⊥) → (k ≡ kinds.Array → ⊥) → is_qualifier k ≡ false → (k ≡ kinds.FuncProto → ⊥) → k ≡ kinds.TypeTag
-    links_tag k ek n a q p = tag_only k (ap is_link ek ∙ leads_on) n a q p
+    pub links_tag : (k : Kind) → k ≡ kind_named (kind_of t.info) → (k ≡ kinds.Ptr → ⊥) → (k ≡ kinds.Array → ⊥) → (k ≡ kinds.Volatile → ⊥) → (k ≡ kinds.Const → ⊥) → (k ≡ kinds.Restrict → ⊥) → (k ≡ kinds.FuncProto → ⊥) → k ≡ kinds.TypeTag
+    links_tag k ek n a v q r p = tag_only k (ap is_link ek ∙ leads_on) n a v q r p

@@ -5,11 +5,11 @@ use mathlib.Core.Bool.{Bool, true, false, not}
 use mathlib.Core.List.{List, [], ◌∷◌}
 use native.Mathlib.Omega.{arith}
 use lib.Dec.{eqb}
-use borrow.Author.Tests.{ne_eqb}
 use Rattle.spec_bytes.specs.text.Text.{ascii, whole, is_stopped, put_out, put_text}
 use Rattle.spec_bytes.proofs.text.TextLaws.{put_seq}
 use Rattle.spec_c_dumper.specs.rules.Writer.{Writer, put, nothing, ◌⨾◌}
-use Rattle.spec_c_dumper.specs.rules.Types.{Name, is_empty, Member, BtfType, Composite, Btf as Rules}
+use Rattle.spec_c_dumper.specs.rules.Types as R
+use Rattle.spec_c_dumper.specs.rules.Types.{Name, is_empty, Member, BtfType, Btf as Rules}
 use Rattle.spec_c_dumper.specs.rules.Names.{ident_space, resolve_type_name}
 use Rattle.spec_c_dumper.specs.rules.Decl.{Entry, base, star, qual, array, proto, tag, is_array, mods, no_mods, qualifier, attribute, brackets, shown_params, parens, emit_name, emit_composite_fwd, base_word, emit_array, emit_proto, param_list, emit_fwd_def}
 use Rattle.spec_c_dumper.specs.alignment_once.Writers.{emit_type_chain_once, emit_composite_def_once}
@@ -23,7 +23,7 @@ use Rattle.c_dumper_name_versions.specs.names.Spelling.{name_after}
 use Rattle.c_dumper_bodies.specs.chain.Chains.{is_qualifier, qualifier_of, entry_of, path_at, chain_at, kind_at, skipped, mods_down, only_links}
 use Rattle.c_dumper_bodies.proofs.chain.Only.{links_below, links_mods, links_tag}
 use Rattle.c_dumper_bodies.proofs.chain.Paths.{chain_top, no_mods_skipped, put_mods}
-use Rattle.c_dumper_bodies.proofs.chain.Linked.{array_is, entry_star_lem, entry_array, entry_proto, entry_tag, entry_qual, qual_in}
+use Rattle.c_dumper_bodies.proofs.chain.Linked.{array_on, array_off, entry_star_lem, entry_array, entry_proto, entry_tag, entry_qual}
 use Rattle.c_dumper_declarator.specs.declared.declarations.Chain.{Chain}
 use Rattle.c_dumper_bodies.specs.bodies.Pieces.{entry_left, entry_star, entry_named, gap, star_text, word_below, params_below, array_below, proto_below, param_list_below, entry_text, chain_rest, enum_text}
 use Rattle.c_dumper_declarator.proofs.declarations.Turns.{chain_turn, chain_done, chain_some, word_any}
@@ -32,9 +32,13 @@ use Rattle.c_dumper_declarator.proofs.declarations.Kept.{seen, links_kept, then_
 use Rattle.c_dumper_declarator.proofs.declarations.Keeping.{said_as, put_emit_name, N, Q, T, kept_word, kept_entry, kept_proto}
 use Rattle.c_dumper_bodies.specs.enums.Widths.{is_wide, value_text, enum_values}
 use Rattle.c_dumper_bodies.proofs.enums.Numbers.{of_enum, of_enum64}
-use mathlib.Core.Logic.{◌⊎◌, inl, inr, ⊎_elim}
+use mathlib.Core.Logic.{◌⊎◌, inl, inr}
 use Rattle.spec_type_table.specs.declared.types.Entries.{Entries}
-use Rattle.spec_type_table.proofs.KindLaws.{by_kind, type_0, type_1, type_2, type_3, type_4, type_5, type_6, type_7, type_8, type_9, type_10, type_11, type_12, type_13, type_14, type_15, type_16, type_17, type_18, type_19, type_none}
+use Rattle.spec_type_table.specs.declared.kind.Kind.{Kind}
+use Rattle.spec_type_table.specs.declared.kind.Kind.TheVariants.{Void, Int, Ptr, Array, Struct, Union, Enum, Fwd, Typedef, Volatile, Const, Restrict, Func, FuncProto, Var, Datasec, Float, DeclTag, TypeTag, Enum64, Unknown}
+use Rattle.spec_type_table.specs.Kinds.{kind_named}
+use Rattle.spec_type_table.proofs.KindNames.{is}
+use Rattle.spec_type_table.proofs.KindTypes.{type_as, type_is}
 use Rattle.c_dumper_declarator.proofs.declarations.DeclLaws.{Printed}
 
 module _ (b : TypeTable) (s : List ℕ) where
@@ -55,12 +59,12 @@ module _ (b : TypeTable) (s : List ℕ) where
       links_kept b s _ t₁ a w p t₂ w₂ id m (kept_word b s (T b s w) below [] lvl x (type_of b s t)) o q (ap only_links (no_mods_lem w id n m em) ∙ links_mods _ l)
 
   -- an entry of no other kind that leads on is a type tag
-  pub is_tag : (w : List ℕ) (id n x : ℕ) (t : Record) (k : ℕ) → 0 < n → x ≡ path_at b s w id (n - 1) → t ≡ record_by_id b s w x → k ≡ kind_of t.info → only_links (chain_at b s w id n) ≡ true
-      → (k ≡ 2 → ⊥) → (k ≡ 3 → ⊥) → (k ≡ 13 → ⊥) → (k < 9) ⊎ (12 ≤ k) → k ≡ 18
-  is_tag w id n x t k h ex et ek l n2 n3 n13 z =
+  pub is_tag : (w : List ℕ) (id n x : ℕ) (t : Record) (k : Kind) → 0 < n → x ≡ path_at b s w id (n - 1) → t ≡ record_by_id b s w x → k ≡ kind_named (kind_of t.info) → only_links (chain_at b s w id n) ≡ true
+      → (k ≡ Ptr → ⊥) → (k ≡ Array → ⊥) → (k ≡ Volatile → ⊥) → (k ≡ Const → ⊥) → (k ≡ Restrict → ⊥) → (k ≡ FuncProto → ⊥) → k ≡ TypeTag
+  is_tag w id n x t k h ex et ek l n₁ n₂ n₃ n₄ n₅ n₆ =
       links_tag b s w x t et (chain_at b s w id (n - 1))
       (ap only_links (sym (chain_top b s w id n (λ q. omega arith) ∙ ap (λ (y : ℕ). entry_of b s w y ∷ chain_at b s w id (n - 1)) (sym ex))) ∙ l)
-      k ek n2 n3 n13 z
+      k ek n₁ n₂ n₃ n₄ n₅ n₆
 
   -- ---- emit_based: x is the id of the base, t its record; n entries lead there, and m of them stay
   module _ (left id : ℕ) (fname : Name) (lvl : ℕ) (w txt : List ℕ) (at : ℕ) (h : left ≡ 0 → ⊥) (x : ℕ) (t : Record) (et : t ≡ record_by_id b s w x) (n m : ℕ) (em : m ≡ skipped b s w id n)
@@ -111,7 +115,7 @@ module _ (b : TypeTable) (s : List ℕ) where
 
   -- ---- emit_entry: c is the chain, x the id on top, t its record, k its kind
   module _ (below id : ℕ) (fname : Name) (lvl : ℕ) (c : Chain) (w : List ℕ) (txt : List ℕ) (h : 0 < c.n) (x : ℕ) (ex : x ≡ path_at b s w id (c.n - 1)) (t : Record) (et : t ≡ record_by_id b s w x)
-      (k : ℕ) (ek : k ≡ kind_of t.info) where
+      (k : Kind) (ek : k ≡ kind_named (kind_of t.info)) where
     abbrev below_top : List Entry
     below_top = chain_at b s w id (c.n - 1)
 
@@ -127,13 +131,13 @@ module _ (b : TypeTable) (s : List ℕ) where
         → chain_at b s w id m ≡ entry_left (e ∷ below_top) → m ≤ c.n - 1 → Printed b s below id fname lvl c w txt r t' w'
     entry_done e r p m t' w' q er o l g = rw (top e q, er) (o, l, refl, refl, g)
 
-    pub arm_star : (r : Chain) (p : ℕ) (t' : List ℕ) → k ≡ 2 → put_out p t' ≡ put_text txt c.at (whole (star_text c.last_was_ptr))
+    pub arm_star : (r : Chain) (p : ℕ) (t' : List ℕ) → k ≡ Ptr → put_out p t' ≡ put_text txt c.at (whole (star_text c.last_was_ptr))
         → r ≡ record { at = p; n = c.n - 1; last_was_ptr = true; is_named = false } → Printed b s below id fname lvl c w txt r t' w
     unfolding entry_text entry_star entry_named entry_left
     arm_star r p t' e o er =
         entry_done star r p (c.n - 1) t' w (entry_star_lem b s w x t et (sym ek ∙ e)) er (put_only txt c.at _ w p t' o) refl (omega arith)
 
-    pub arm_array : (r : Chain) (n m a : ℕ) (t₁ w₁ : List ℕ) (p : ℕ) (t₂ : List ℕ) → k ≡ 3 → n ≡ nelems_word b s t → m ≡ skipped b s w id (c.n - 1)
+    pub arm_array : (r : Chain) (n m a : ℕ) (t₁ w₁ : List ℕ) (p : ℕ) (t₂ : List ℕ) → k ≡ Array → n ≡ nelems_word b s t → m ≡ skipped b s w id (c.n - 1)
         → out_of a t₁ w₁ ≡ put_said txt c.at (array_below (Q b s (T b s w)) (N b s) (T b s w) below fname lvl c.last_was_ptr (chain_at b s w id m) w)
         → put_out p t₂ ≡ put_text t₁ a (whole (brackets n))
         → r ≡ record { at = p; n = 0; last_was_ptr = false; is_named = true } → Printed b s below id fname lvl c w txt r t₂ w₁
@@ -146,23 +150,28 @@ module _ (b : TypeTable) (s : List ℕ) where
         refl
         (omega arith)
 
-    pub arm_qual : (r : Chain) (k₂ a : ℕ) (t₁ : List ℕ) (p : ℕ) (t₂ : List ℕ) → 9 ≤ k → k < 12 → k₂ ≡ kind_of t.info
-        → put_out a t₁ ≡ put_text txt c.at (whole (ascii " ")) → put_out p t₂ ≡ put_text t₁ a (whole (qualifier (qualifier_of k₂)))
+    qual_is : (k ≡ Volatile) ⊎ ((k ≡ Const) ⊎ (k ≡ Restrict)) → is_qualifier k ≡ true
+    qual_is (inl e) = ap is_qualifier e
+    qual_is (inr (inl e)) = ap is_qualifier e
+    qual_is (inr (inr e)) = ap is_qualifier e
+
+    pub arm_qual : (r : Chain) (a : ℕ) (t₁ : List ℕ) (p : ℕ) (t₂ : List ℕ) → (k ≡ Volatile) ⊎ ((k ≡ Const) ⊎ (k ≡ Restrict))
+        → put_out a t₁ ≡ put_text txt c.at (whole (ascii " ")) → put_out p t₂ ≡ put_text t₁ a (whole (qualifier (qualifier_of k)))
         → r ≡ record { at = p; n = c.n - 1; last_was_ptr = false; is_named = false } → Printed b s below id fname lvl c w txt r t₂ w
     unfolding entry_text entry_star entry_named entry_left
-    arm_qual r k₂ a t₁ p t₂ g l e₂ o₁ o₂ er =
-        entry_done (qual (qualifier_of (kind_of t.info))) r p (c.n - 1) t₂ w (entry_qual b s w x t et (ap is_qualifier (sym ek) ∙ sym (qual_in k g l))) er
-        (put_only txt c.at _ w p t₂ (put_seq txt c.at _ _ a t₁ p t₂ o₁ (o₂ ∙ ap (put_text t₁ a) (ap whole (ap qualifier (ap qualifier_of e₂))))))
+    arm_qual r a t₁ p t₂ g o₁ o₂ er =
+        entry_done (qual (qualifier_of (kind_named (kind_of t.info)))) r p (c.n - 1) t₂ w (entry_qual b s w x t et (ap is_qualifier (sym ek) ∙ qual_is g)) er
+        (put_only txt c.at _ w p t₂ (put_seq txt c.at _ _ a t₁ p t₂ o₁ (o₂ ∙ ap (λ (y : Kind). put_text t₁ a (whole (qualifier (qualifier_of y)))) ek)))
         refl
         (omega arith)
 
-    pub arm_proto : (r : Chain) (p : ℕ) (t' w' : List ℕ) → k ≡ 13
+    pub arm_proto : (r : Chain) (p : ℕ) (t' w' : List ℕ) → k ≡ FuncProto
         → out_of p t' w' ≡ put_said txt c.at ((put (mods (chain_at b s w id (c.n - 1))) ⨾ proto_below (Q b s (T b s w)) (N b s) (T b s w) below fname lvl c.last_was_ptr (no_mods (chain_at b s w id (c.n - 1))) ⨾ param_list_below (Q b s (T b s w)) (N b s) (T b s w) below fname lvl (params_of b s t)) w)
         → r ≡ record { at = p; n = 0; last_was_ptr = false; is_named = true } → Printed b s below id fname lvl c w txt r t' w'
     unfolding entry_text entry_star entry_named entry_left chain_at
     arm_proto r p t' w' e o er = entry_done (proto (params_of b s t)) r p 0 t' w' (entry_proto b s w x t et (sym ek ∙ e)) er o refl (omega arith)
 
-    pub arm_tag : (r : Chain) (m a : ℕ) (t₁ : List ℕ) (p : ℕ) (t₂ : List ℕ) → k ≡ 18 → m ≡ skipped b s w id (c.n - 1) → m ≤ c.n - 1
+    pub arm_tag : (r : Chain) (m a : ℕ) (t₁ : List ℕ) (p : ℕ) (t₂ : List ℕ) → k ≡ TypeTag → m ≡ skipped b s w id (c.n - 1) → m ≤ c.n - 1
         → put_out a t₁ ≡ put_text txt c.at (whole (mods_down b s w id m (c.n - 1))) → put_out p t₂ ≡ put_text t₁ a (whole (attribute (flag_of t.info) (ascii "btf_type_tag") (record_name b s t)))
         → r ≡ record { at = p; n = m; last_was_ptr = false; is_named = false } → Printed b s below id fname lvl c w txt r t₂ w
     unfolding entry_text entry_star entry_named entry_left
@@ -188,163 +197,82 @@ module _ (b : TypeTable) (s : List ℕ) where
       (o₃ ∙ ap (λ (x : Entries). put_said t₂ f (params_below (Q b s (T b s w₂)) (N b s) (T b s w₂) below lvl (shown_params (from (param_of b s x.at) 0 x.vlen)) w₂)) ee))
 
   -- ---- emit_base: k is the kind of t
-  module _ (B : Rules) (below lvl id : ℕ) (t : Record) (k : ℕ) (ek : k ≡ kind_of t.info) (txt : List ℕ) (at : ℕ) (u : List ℕ) (r : ℕ) (t' u' : List ℕ) where
+  module _ (B : Rules) (below lvl id : ℕ) (t : Record) (k : Kind) (ek : k ≡ kind_named (kind_of t.info)) (txt : List ℕ) (at : ℕ) (u : List ℕ) (r : ℕ) (t' u' : List ℕ) where
     abbrev Spoken : Type 0
     Spoken = out_of r t' u' ≡ put_said txt at (word_below (Q b s B) (N b s) B below lvl id (type_of b s t) u)
 
-    word_as : (x : BtfType) → type_of b s t ≡ x → out_of r t' u' ≡ put_said txt at (word_below (Q b s B) (N b s) B below lvl id x u) → Spoken
-    word_as x e o = o ∙ ap (λ (y : BtfType). put_said txt at (word_below (Q b s B) (N b s) B below lvl id y u)) (sym e)
+    word_as : (y : Kind) → k ≡ y → out_of r t' u' ≡ put_said txt at (word_below (Q b s B) (N b s) B below lvl id (type_as b s t y) u) → Spoken
+    word_as y e o = o ∙ ap (λ (z : BtfType). put_said txt at (word_below (Q b s B) (N b s) B below lvl id z u)) (sym (type_is b s t k ek y e))
 
-    pub word_name_lem : (k ≡ 1) ⊎ (k ≡ 16) → out_of r t' u' ≡ put_said txt at (put (record_name b s t) u) → Spoken
+    pub word_name_lem : (k ≡ Int) ⊎ (k ≡ Float) → out_of r t' u' ≡ put_said txt at (put (record_name b s t) u) → Spoken
     unfolding base_word
-    word_name_lem (inl e) o = word_as _ (type_1 b s t (sym ek ∙ e)) o
-    word_name_lem (inr e) o = word_as _ (type_16 b s t (sym ek ∙ e)) o
+    word_name_lem (inl e) o = word_as Int e o
+    word_name_lem (inr e) o = word_as Float e o
 
-    pub word_enum : (k ≡ 6) ⊎ (k ≡ 19) → out_of r t' u' ≡ put_said txt at (enum_text (N b s) B (value_text (is_wide t) (flag_of t.info)) id (record_name b s t) (enum_values b s t) lvl u) → Spoken
+    pub word_enum : (k ≡ Enum) ⊎ (k ≡ Enum64) → out_of r t' u' ≡ put_said txt at (enum_text (N b s) B (value_text (is_wide t) (flag_of t.info)) id (record_name b s t) (enum_values b s t) lvl u) → Spoken
     unfolding base_word enum_text
-    word_enum (inl e) o = word_as _ (type_6 b s t (sym ek ∙ e)) (o ∙ of_enum b s t (λ str vs. put_said txt at (enum_text (N b s) B str id (record_name b s t) vs lvl u)) (sym ek ∙ e))
-    word_enum (inr e) o = word_as _ (type_19 b s t (sym ek ∙ e)) (o ∙ of_enum64 b s t (λ str vs. put_said txt at (enum_text (N b s) B str id (record_name b s t) vs lvl u)) (sym ek ∙ e))
+    word_enum (inl e) o = word_as Enum e (o ∙ of_enum b s t (λ str vs. put_said txt at (enum_text (N b s) B str id (record_name b s t) vs lvl u)) (is (kind_of t.info) k ek Enum e))
+    word_enum (inr e) o = word_as Enum64 e (o ∙ of_enum64 b s t (λ str vs. put_said txt at (enum_text (N b s) B str id (record_name b s t) vs lvl u)) (is (kind_of t.info) k ek Enum64 e))
 
-    pub word_fwd : (f : Bool) → k ≡ 7 → f ≡ flag_of t.info → out_of r t' u' ≡ put_said txt at (emit_fwd_def (N b s) B id f (record_name b s t) u) → Spoken
+    pub word_fwd : (f : Bool) → k ≡ Fwd → f ≡ flag_of t.info → out_of r t' u' ≡ put_said txt at (emit_fwd_def (N b s) B id f (record_name b s t) u) → Spoken
     unfolding base_word
-    word_fwd f e ef o = word_as _ (type_7 b s t (sym ek ∙ e)) (o ∙ ap (λ (q : Bool). put_said txt at (emit_fwd_def (N b s) B id q (record_name b s t) u)) ef)
+    word_fwd f e ef o = word_as Fwd e (o ∙ ap (λ (q : Bool). put_said txt at (emit_fwd_def (N b s) B id q (record_name b s t) u)) ef)
 
-    pub word_typedef : k ≡ 8 → out_of r t' u' ≡ put_said txt at (resolve_type_name (N b s) ident_space id (record_name b s t) put u) → Spoken
+    pub word_typedef : k ≡ Typedef → out_of r t' u' ≡ put_said txt at (resolve_type_name (N b s) ident_space id (record_name b s t) put u) → Spoken
     unfolding base_word
-    word_typedef e o = word_as _ (type_8 b s t (sym ek ∙ e)) o
+    word_typedef e o = word_as Typedef e o
 
-    pub word_composite : 1 ≤ k → 4 ≤ k → k < 6
-        → out_of r t' u' ≡ put_said txt at (word_below (Q b s B) (N b s) B below lvl id (Composite (eqb (kind_of t.info) 4) (record_name b s t) t.type_id (members_of b s t)) u) → Spoken
-    word_composite g₀ g l o =
-        word_as _
-        (by_kind
-        (λ j. j ≡ kind_of t.info → 4 ≤ j → j < 6 → type_of b s t ≡ Composite (eqb (kind_of t.info) 4) (record_name b s t) t.type_id (members_of b s t))
-        (λ e g l. absurd (omega arith))
-        (λ e g l. absurd (omega arith))
-        (λ e g l. absurd (omega arith))
-        (λ e g l. absurd (omega arith))
-        (λ e g l. type_4 b s t (sym e) ∙ ap (λ (q : Bool). Composite q (record_name b s t) t.type_id (members_of b s t)) (ap (λ (j : ℕ). eqb j 4) e))
-        (λ e g l. type_5 b s t (sym e) ∙ ap (λ (q : Bool). Composite q (record_name b s t) t.type_id (members_of b s t)) (ap (λ (j : ℕ). eqb j 4) e))
-        (λ e g l. absurd (omega arith))
-        (λ e g l. absurd (omega arith))
-        (λ e g l. absurd (omega arith))
-        (λ e g l. absurd (omega arith))
-        (λ e g l. absurd (omega arith))
-        (λ e g l. absurd (omega arith))
-        (λ e g l. absurd (omega arith))
-        (λ e g l. absurd (omega arith))
-        (λ e g l. absurd (omega arith))
-        (λ e g l. absurd (omega arith))
-        (λ e g l. absurd (omega arith))
-        (λ e g l. absurd (omega arith))
-        (λ e g l. absurd (omega arith))
-        (λ e g l. absurd (omega arith))
-        (λ j h e g l. absurd (omega arith))
-        k ek g l)
-        o
+    pub word_composite : (k ≡ Struct) ⊎ (k ≡ Union)
+        → out_of r t' u' ≡ put_said txt at (word_below (Q b s B) (N b s) B below lvl id (R.Composite (eqb (kind_of t.info) 4) (record_name b s t) t.type_id (members_of b s t)) u) → Spoken
+    word_composite (inl e) o = word_as Struct e (o ∙ ap (λ (j : ℕ). put_said txt at (word_below (Q b s B) (N b s) B below lvl id (R.Composite (eqb j 4) (record_name b s t) t.type_id (members_of b s t)) u)) (is (kind_of t.info) k ek Struct e))
+    word_composite (inr e) o = word_as Union e (o ∙ ap (λ (j : ℕ). put_said txt at (word_below (Q b s B) (N b s) B below lvl id (R.Composite (eqb j 4) (record_name b s t) t.type_id (members_of b s t)) u)) (is (kind_of t.info) k ek Union e))
 
-  -- the kinds that have no words, and void
-  module _ (B : Rules) (below lvl id : ℕ) (t : Record) (k : ℕ) (ek : k ≡ kind_of t.info) (txt : List ℕ) (at : ℕ) (u : List ℕ) where
-    said_of : BtfType → Writer (List ℕ)
-    said_of x = word_below (Q b s B) (N b s) B below lvl id x
+    pub word_void : (k ≡ Void) ⊎ (k ≡ Unknown) → put_out r t' ≡ put_text txt at (whole (ascii "void")) → u' ≡ u → Spoken
+    unfolding base_word
+    word_void (inl e) o eu = word_as Void e (ap (out_of r t') eu ∙ put_only txt at _ u r t' o)
+    word_void (inr e) o eu = word_as Unknown e (ap (out_of r t') eu ∙ put_only txt at _ u r t' o)
 
-    pub word_low : 1 ≤ k → k < 4 → ((k ≡ 1) ⊎ (k ≡ 16) → ⊥) → out_of at txt u ≡ put_said txt at (word_below (Q b s B) (N b s) B below lvl id (type_of b s t) u)
-    unfolding base_word said_of
-    word_low g l n =
-        said_as txt at nothing _ u at txt u (sym (
-        by_kind
-        (λ j. j ≡ kind_of t.info → 1 ≤ j → j < 4 → ((j ≡ 1) ⊎ (j ≡ 16) → ⊥) → said_of (type_of b s t) ≡ nothing)
-        (λ e g l n. absurd (omega arith))
-        (λ e g l n. absurd (n (inl refl)))
-        (λ e g l n. ap said_of (type_2 b s t (sym e)))
-        (λ e g l n. ap said_of (type_3 b s t (sym e)))
-        (λ e g l n. absurd (omega arith))
-        (λ e g l n. absurd (omega arith))
-        (λ e g l n. absurd (omega arith))
-        (λ e g l n. absurd (omega arith))
-        (λ e g l n. absurd (omega arith))
-        (λ e g l n. absurd (omega arith))
-        (λ e g l n. absurd (omega arith))
-        (λ e g l n. absurd (omega arith))
-        (λ e g l n. absurd (omega arith))
-        (λ e g l n. absurd (omega arith))
-        (λ e g l n. absurd (omega arith))
-        (λ e g l n. absurd (omega arith))
-        (λ e g l n. absurd (omega arith))
-        (λ e g l n. absurd (omega arith))
-        (λ e g l n. absurd (omega arith))
-        (λ e g l n. absurd (omega arith))
-        (λ j h e g l n. absurd (omega arith))
-        k ek g l n)) (put_nothing txt at u)
+  -- the kinds that have no words
+  module _ (B : Rules) (below lvl id : ℕ) (t : Record) (txt : List ℕ) (at : ℕ) (u : List ℕ) where
+    quiet : (y : Kind) → (y ≡ Int → ⊥) → (y ≡ Float → ⊥) → (y ≡ Struct → ⊥) → (y ≡ Union → ⊥) → (y ≡ Enum → ⊥) → (y ≡ Enum64 → ⊥) → (y ≡ Fwd → ⊥) → (y ≡ Typedef → ⊥) → (y ≡ Void → ⊥) → (y ≡ Unknown → ⊥)
+        → nothing u ≡ word_below (Q b s B) (N b s) B below lvl id (type_as b s t y) u
+    unfolding base_word
+    quiet Void n₁ n₂ n₃ n₄ n₅ n₆ n₇ n₈ n₉ n₁₀ = absurd (n₉ refl)
+    quiet Int n₁ n₂ n₃ n₄ n₅ n₆ n₇ n₈ n₉ n₁₀ = absurd (n₁ refl)
+    quiet Ptr n₁ n₂ n₃ n₄ n₅ n₆ n₇ n₈ n₉ n₁₀ = refl
+    quiet Array n₁ n₂ n₃ n₄ n₅ n₆ n₇ n₈ n₉ n₁₀ = refl
+    quiet Struct n₁ n₂ n₃ n₄ n₅ n₆ n₇ n₈ n₉ n₁₀ = absurd (n₃ refl)
+    quiet Union n₁ n₂ n₃ n₄ n₅ n₆ n₇ n₈ n₉ n₁₀ = absurd (n₄ refl)
+    quiet Enum n₁ n₂ n₃ n₄ n₅ n₆ n₇ n₈ n₉ n₁₀ = absurd (n₅ refl)
+    quiet Fwd n₁ n₂ n₃ n₄ n₅ n₆ n₇ n₈ n₉ n₁₀ = absurd (n₇ refl)
+    quiet Typedef n₁ n₂ n₃ n₄ n₅ n₆ n₇ n₈ n₉ n₁₀ = absurd (n₈ refl)
+    quiet Volatile n₁ n₂ n₃ n₄ n₅ n₆ n₇ n₈ n₉ n₁₀ = refl
+    quiet Const n₁ n₂ n₃ n₄ n₅ n₆ n₇ n₈ n₉ n₁₀ = refl
+    quiet Restrict n₁ n₂ n₃ n₄ n₅ n₆ n₇ n₈ n₉ n₁₀ = refl
+    quiet Func n₁ n₂ n₃ n₄ n₅ n₆ n₇ n₈ n₉ n₁₀ = refl
+    quiet FuncProto n₁ n₂ n₃ n₄ n₅ n₆ n₇ n₈ n₉ n₁₀ = refl
+    quiet Var n₁ n₂ n₃ n₄ n₅ n₆ n₇ n₈ n₉ n₁₀ = refl
+    quiet Datasec n₁ n₂ n₃ n₄ n₅ n₆ n₇ n₈ n₉ n₁₀ = refl
+    quiet Float n₁ n₂ n₃ n₄ n₅ n₆ n₇ n₈ n₉ n₁₀ = absurd (n₂ refl)
+    quiet DeclTag n₁ n₂ n₃ n₄ n₅ n₆ n₇ n₈ n₉ n₁₀ = refl
+    quiet TypeTag n₁ n₂ n₃ n₄ n₅ n₆ n₇ n₈ n₉ n₁₀ = refl
+    quiet Enum64 n₁ n₂ n₃ n₄ n₅ n₆ n₇ n₈ n₉ n₁₀ = absurd (n₆ refl)
+    quiet Unknown n₁ n₂ n₃ n₄ n₅ n₆ n₇ n₈ n₉ n₁₀ = absurd (n₁₀ refl)
 
-    pub word_mid : 6 ≤ k → k < 19 → ((k ≡ 1) ⊎ (k ≡ 16) → ⊥) → (k ≡ 6 → ⊥) → (k ≡ 7 → ⊥) → (k ≡ 8 → ⊥) → out_of at txt u ≡ put_said txt at (word_below (Q b s B) (N b s) B below lvl id (type_of b s t) u)
-    unfolding base_word said_of
-    word_mid g l n₁ n₆ n₇ n₈ =
-        said_as txt at nothing _ u at txt u (sym (
-        by_kind
-        (λ j. j ≡ kind_of t.info → 6 ≤ j → j < 19 → ((j ≡ 1) ⊎ (j ≡ 16) → ⊥) → (j ≡ 6 → ⊥) → (j ≡ 7 → ⊥) → (j ≡ 8 → ⊥) → said_of (type_of b s t) ≡ nothing)
-        (λ e g l n₁ n₆ n₇ n₈. absurd (omega arith))
-        (λ e g l n₁ n₆ n₇ n₈. absurd (omega arith))
-        (λ e g l n₁ n₆ n₇ n₈. absurd (omega arith))
-        (λ e g l n₁ n₆ n₇ n₈. absurd (omega arith))
-        (λ e g l n₁ n₆ n₇ n₈. absurd (omega arith))
-        (λ e g l n₁ n₆ n₇ n₈. absurd (omega arith))
-        (λ e g l n₁ n₆ n₇ n₈. absurd (n₆ refl))
-        (λ e g l n₁ n₆ n₇ n₈. absurd (n₇ refl))
-        (λ e g l n₁ n₆ n₇ n₈. absurd (n₈ refl))
-        (λ e g l n₁ n₆ n₇ n₈. ap said_of (type_9 b s t (sym e)))
-        (λ e g l n₁ n₆ n₇ n₈. ap said_of (type_10 b s t (sym e)))
-        (λ e g l n₁ n₆ n₇ n₈. ap said_of (type_11 b s t (sym e)))
-        (λ e g l n₁ n₆ n₇ n₈. ap said_of (type_12 b s t (sym e)))
-        (λ e g l n₁ n₆ n₇ n₈. ap said_of (type_13 b s t (sym e)))
-        (λ e g l n₁ n₆ n₇ n₈. ap said_of (type_14 b s t (sym e)))
-        (λ e g l n₁ n₆ n₇ n₈. ap said_of (type_15 b s t (sym e)))
-        (λ e g l n₁ n₆ n₇ n₈. absurd (n₁ (inr refl)))
-        (λ e g l n₁ n₆ n₇ n₈. ap said_of (type_17 b s t (sym e)))
-        (λ e g l n₁ n₆ n₇ n₈. ap said_of (type_18 b s t (sym e)))
-        (λ e g l n₁ n₆ n₇ n₈. absurd (omega arith))
-        (λ j h e g l n₁ n₆ n₇ n₈. absurd (omega arith))
-        k ek g l n₁ n₆ n₇ n₈)) (put_nothing txt at u)
-
-    pub word_void : (r : ℕ) (t' : List ℕ) → (k ≡ 19 → ⊥) → (k < 1) ⊎ (19 ≤ k) → put_out r t' ≡ put_text txt at (whole (ascii "void"))
-        → out_of r t' u ≡ put_said txt at (word_below (Q b s B) (N b s) B below lvl id (type_of b s t) u)
-    unfolding base_word said_of
-    word_void r t' n z o =
-        said_as txt at (put (ascii "void")) _ u r t' u (sym (
-        by_kind
-        (λ j. j ≡ kind_of t.info → (j ≡ 19 → ⊥) → (j < 1) ⊎ (19 ≤ j) → said_of (type_of b s t) ≡ put (ascii "void"))
-        (λ e n z. ap said_of (type_0 b s t (sym e)))
-        (λ e n z. absurd (⊎_elim (λ l. omega arith) (λ l. omega arith) z))
-        (λ e n z. absurd (⊎_elim (λ l. omega arith) (λ l. omega arith) z))
-        (λ e n z. absurd (⊎_elim (λ l. omega arith) (λ l. omega arith) z))
-        (λ e n z. absurd (⊎_elim (λ l. omega arith) (λ l. omega arith) z))
-        (λ e n z. absurd (⊎_elim (λ l. omega arith) (λ l. omega arith) z))
-        (λ e n z. absurd (⊎_elim (λ l. omega arith) (λ l. omega arith) z))
-        (λ e n z. absurd (⊎_elim (λ l. omega arith) (λ l. omega arith) z))
-        (λ e n z. absurd (⊎_elim (λ l. omega arith) (λ l. omega arith) z))
-        (λ e n z. absurd (⊎_elim (λ l. omega arith) (λ l. omega arith) z))
-        (λ e n z. absurd (⊎_elim (λ l. omega arith) (λ l. omega arith) z))
-        (λ e n z. absurd (⊎_elim (λ l. omega arith) (λ l. omega arith) z))
-        (λ e n z. absurd (⊎_elim (λ l. omega arith) (λ l. omega arith) z))
-        (λ e n z. absurd (⊎_elim (λ l. omega arith) (λ l. omega arith) z))
-        (λ e n z. absurd (⊎_elim (λ l. omega arith) (λ l. omega arith) z))
-        (λ e n z. absurd (⊎_elim (λ l. omega arith) (λ l. omega arith) z))
-        (λ e n z. absurd (⊎_elim (λ l. omega arith) (λ l. omega arith) z))
-        (λ e n z. absurd (⊎_elim (λ l. omega arith) (λ l. omega arith) z))
-        (λ e n z. absurd (⊎_elim (λ l. omega arith) (λ l. omega arith) z))
-        (λ e n z. absurd (n refl))
-        (λ j h e n z. ap said_of (type_none b s t (rw e at h)))
-        k ek n z)) (put_only txt at _ u r t' o)
+    pub word_none : (k : Kind) → k ≡ kind_named (kind_of t.info) → (k ≡ Int → ⊥) → (k ≡ Float → ⊥) → (k ≡ Struct → ⊥) → (k ≡ Union → ⊥) → (k ≡ Enum → ⊥) → (k ≡ Enum64 → ⊥) → (k ≡ Fwd → ⊥) → (k ≡ Typedef → ⊥) → (k ≡ Void → ⊥) → (k ≡ Unknown → ⊥)
+        → out_of at txt u ≡ put_said txt at (word_below (Q b s B) (N b s) B below lvl id (type_of b s t) u)
+    word_none k ek n₁ n₂ n₃ n₄ n₅ n₆ n₇ n₈ n₉ n₁₀ =
+        word_as B below lvl id t k ek txt at u at txt u k refl (put_nothing txt at u ∙ ap (put_said txt at) (quiet k n₁ n₂ n₃ n₄ n₅ n₆ n₇ n₈ n₉ n₁₀))
 
   -- ---- emit_composite_word
   module _ (below lvl id : ℕ) (is_struct : Bool) (name : Name) (sz : ℕ) (ms : List Member) (txt : List ℕ) (at : ℕ) (u : List ℕ) (r : ℕ) (t' u' : List ℕ) (B : Rules) where
     pub composite_inline : is_empty name ≡ true → out_of r t' u' ≡ put_said txt at (emit_composite_def_once (Q b s B) (N b s) B below id is_struct name sz ms lvl u)
-        → out_of r t' u' ≡ put_said txt at (word_below (Q b s B) (N b s) B below lvl id (Composite is_struct name sz ms) u)
+        → out_of r t' u' ≡ put_said txt at (word_below (Q b s B) (N b s) B below lvl id (R.Composite is_struct name sz ms) u)
     unfolding base_word
     composite_inline h o = rw (h, base_word) o
 
     pub composite_named : (x : Bool) → is_empty name ≡ false → x ≡ is_struct → out_of r t' u' ≡ put_said txt at (emit_composite_fwd (N b s) B id x name u)
-        → out_of r t' u' ≡ put_said txt at (word_below (Q b s B) (N b s) B below lvl id (Composite is_struct name sz ms) u)
+        → out_of r t' u' ≡ put_said txt at (word_below (Q b s B) (N b s) B below lvl id (R.Composite is_struct name sz ms) u)
     unfolding base_word
     composite_named x h e o = rw (h, base_word) (o ∙ ap (λ (q : Bool). put_said txt at (emit_composite_fwd (N b s) B id q name u)) e)
 
@@ -375,26 +303,30 @@ module _ (b : TypeTable) (s : List ℕ) where
       unfolding emit_array gap
       array_is_some = rw (chain_top b s w id n h)
 
-      top_array : is_array on_top_lem ≡ eqb (kind_at b s w id (n - 1)) 3
+      array_top : kind_at b s w id (n - 1) ≡ Array → is_array on_top_lem ≡ true
       unfolding kind_at
-      top_array = array_is b s w (path_at b s w id (n - 1)) _ refl
+      array_top e = array_on b s w (path_at b s w id (n - 1)) _ refl e
 
-      pub array_array : (k a : ℕ) (t₁ : List ℕ) (r : ℕ) (t₂ w₂ : List ℕ) → k ≡ kind_at b s w id (n - 1) → k ≡ 3
+      other_top : (kind_at b s w id (n - 1) ≡ Array → ⊥) → is_array on_top_lem ≡ false
+      unfolding kind_at
+      other_top g = array_off b s w (path_at b s w id (n - 1)) _ refl g
+
+      pub array_array : (k : Kind) (a : ℕ) (t₁ : List ℕ) (r : ℕ) (t₂ w₂ : List ℕ) → k ≡ kind_at b s w id (n - 1) → k ≡ Array
           → put_out a t₁ ≡ put_text txt at (whole (gap fname p)) → out_of r t₂ w₂ ≡ put_said t₁ a (inside w)
           → out_of r t₂ w₂ ≡ put_said txt at (array_below (Q b s (T b s w)) (N b s) (T b s w) below fname lvl p (chain_at b s w id n) w)
       unfolding parens
       array_array k a t₁ r t₂ w₂ ek e o₁ o₂ =
-          let q : is_array on_top_lem ≡ true = top_array ∙ ap (λ (j : ℕ). eqb j 3) (sym ek ∙ e) in
+          let q = array_top (sym ek ∙ e) in
           said_as txt at _ _ w r t₂ w₂ (sym (array_is_some ∙ ap (λ (x : Bool). put (gap fname p) ⨾ parens (not x) inside) q))
           (also txt at _ _ w a t₁ r t₂ w₂ o₁ o₂)
 
-      pub array_other : (k a : ℕ) (t₁ : List ℕ) (c : ℕ) (t₂ : List ℕ) (e : ℕ) (t₃ w₃ : List ℕ) (r : ℕ) (t₄ : List ℕ) → k ≡ kind_at b s w id (n - 1) → (k ≡ 3 → ⊥)
+      pub array_other : (k : Kind) (a : ℕ) (t₁ : List ℕ) (c : ℕ) (t₂ : List ℕ) (e : ℕ) (t₃ w₃ : List ℕ) (r : ℕ) (t₄ : List ℕ) → k ≡ kind_at b s w id (n - 1) → (k ≡ Array → ⊥)
           → put_out a t₁ ≡ put_text txt at (whole (gap fname p)) → put_out c t₂ ≡ put_text t₁ a (whole (ascii "("))
           → out_of e t₃ w₃ ≡ put_said t₂ c (inside w) → put_out r t₄ ≡ put_text t₃ e (whole (ascii ")"))
           → out_of r t₄ w₃ ≡ put_said txt at (array_below (Q b s (T b s w)) (N b s) (T b s w) below fname lvl p (chain_at b s w id n) w)
       unfolding parens
       array_other k a t₁ c t₂ e t₃ w₃ r t₄ ek g o₁ o₂ o₃ o₄ =
-          let q : is_array on_top_lem ≡ false = top_array ∙ ne_eqb (kind_at b s w id (n - 1)) 3 (λ z. g (ek ∙ z)) in
+          let q = other_top (λ z. g (ek ∙ z)) in
           said_as txt at _ _ w r t₄ w₃ (sym (array_is_some ∙ ap (λ (x : Bool). put (gap fname p) ⨾ parens (not x) inside) q))
           (also txt at _ _ w a t₁ r t₄ w₃ o₁ (also t₁ a _ _ w c t₂ r t₄ w₃ o₂ (put_then t₂ c _ _ w e t₃ w₃ r t₄ w₃ o₃ (put_only t₃ e _ w₃ r t₄ o₄))))
 

@@ -1,14 +1,13 @@
 -- The lines: the code's arms by kinds, against `definition` and `forward` of the rules. Assumes nothing.
-use Prim.Native.Nat.{ℕ, zero, suc, ◌-◌, ◌<◌, ◌≤◌}
+use Prim.Native.Nat.{ℕ}
 use mathlib.Core.Path.{◌≡◌, refl, ap, ◌∙◌, sym, subst}
 use mathlib.Core.List.{List}
 use mathlib.Core.Bool.{Bool, true, false}
 use mathlib.Core.Logic.{◌⊎◌, inl, inr}
-use native.Mathlib.Omega.{arith}
 use lib.Dec.{eqb}
-use borrow.Author.Tests.{ne_eqb, eq-eqb}
 use Rattle.spec_bytes.specs.text.Text.{ascii, whole, put_out, put_text}
-use Rattle.spec_c_dumper.specs.rules.Types.{BtfType, Composite, Fwd, Btf as Rules}
+use Rattle.spec_c_dumper.specs.rules.Types as R
+use Rattle.spec_c_dumper.specs.rules.Types.{BtfType, Btf as Rules}
 use Rattle.spec_c_dumper.specs.rules.Names.{builtin}
 use Rattle.spec_c_dumper.specs.rules.Writer.{Writer, put, nothing, ◌⨾◌}
 use Rattle.spec_c_dumper.specs.rules.Place.{out_of, put_said}
@@ -24,7 +23,11 @@ use Rattle.spec_type_table.specs.Records.{kind_of, flag_of}
 use Rattle.spec_type_table.specs.Table.{record_name, members_of, values_of, values64_of, type_of, work_naming}
 use Rattle.c_dumper_bodies.specs.enums.Widths.{is_wide, value_text, enum_values}
 use Rattle.c_dumper_bodies.proofs.enums.Numbers.{of_enum, of_enum64}
-use Rattle.spec_type_table.proofs.KindLaws.{by_kind, type_0, type_1, type_2, type_3, type_4, type_5, type_6, type_7, type_8, type_9, type_10, type_11, type_12, type_13, type_14, type_15, type_16, type_17, type_18, type_19, type_none}
+use Rattle.spec_type_table.specs.declared.kind.Kind.{Kind}
+use Rattle.spec_type_table.specs.declared.kind.Kind.TheVariants.{Void, Int, Ptr, Array, Struct, Union, Enum, Fwd, Typedef, Volatile, Const, Restrict, Func, FuncProto, Var, Datasec, Float, DeclTag, TypeTag, Enum64, Unknown}
+use Rattle.spec_type_table.specs.Kinds.{kind_named}
+use Rattle.spec_type_table.proofs.KindNames.{is}
+use Rattle.spec_type_table.proofs.KindTypes.{type_as, type_is}
 
 module _ (b : TypeTable) (s : List ℕ) (B : Rules) (at : ℕ) (tx w : List ℕ) (id : ℕ) (t : Record) where
   -- a writer, and the line's end after it
@@ -41,165 +44,146 @@ module _ (b : TypeTable) (s : List ℕ) (B : Rules) (at : ℕ) (tx w : List ℕ)
   abbrev select : Bool → Writer (List ℕ) → Writer (List ℕ)
   select x v = elim x [ true ↦ nothing | false ↦ v ]
 
-  none_defined : (k : ℕ) → kind_of t.info ≡ k → (k ≡ 4 → ⊥) → (k ≡ 5 → ⊥) → (k ≡ 6 → ⊥) → (k ≡ 7 → ⊥) → (k ≡ 19 → ⊥) → put_said tx at (definition_once (work_asks b.types B) (work_naming b) B id (type_of b s t) w) ≡ put_said tx at (nothing w)
-  unfolding definition_once
-  none_defined =
-      by_kind
-      (λ k. kind_of t.info ≡ k → (k ≡ 4 → ⊥) → (k ≡ 5 → ⊥) → (k ≡ 6 → ⊥) → (k ≡ 7 → ⊥) → (k ≡ 19 → ⊥) → put_said tx at (definition_once (work_asks b.types B) (work_naming b) B id (type_of b s t) w) ≡ put_said tx at (nothing w))
-      (λ e p4 p5 p6 p7 p19. ap (λ (x : BtfType). put_said tx at (definition_once (work_asks b.types B) (work_naming b) B id x w)) (type_0 b s t e))
-      (λ e p4 p5 p6 p7 p19. ap (λ (x : BtfType). put_said tx at (definition_once (work_asks b.types B) (work_naming b) B id x w)) (type_1 b s t e))
-      (λ e p4 p5 p6 p7 p19. ap (λ (x : BtfType). put_said tx at (definition_once (work_asks b.types B) (work_naming b) B id x w)) (type_2 b s t e))
-      (λ e p4 p5 p6 p7 p19. ap (λ (x : BtfType). put_said tx at (definition_once (work_asks b.types B) (work_naming b) B id x w)) (type_3 b s t e))
-      (λ e p4 p5 p6 p7 p19. absurd (p4 refl))
-      (λ e p4 p5 p6 p7 p19. absurd (p5 refl))
-      (λ e p4 p5 p6 p7 p19. absurd (p6 refl))
-      (λ e p4 p5 p6 p7 p19. absurd (p7 refl))
-      (λ e p4 p5 p6 p7 p19. ap (λ (x : BtfType). put_said tx at (definition_once (work_asks b.types B) (work_naming b) B id x w)) (type_8 b s t e))
-      (λ e p4 p5 p6 p7 p19. ap (λ (x : BtfType). put_said tx at (definition_once (work_asks b.types B) (work_naming b) B id x w)) (type_9 b s t e))
-      (λ e p4 p5 p6 p7 p19. ap (λ (x : BtfType). put_said tx at (definition_once (work_asks b.types B) (work_naming b) B id x w)) (type_10 b s t e))
-      (λ e p4 p5 p6 p7 p19. ap (λ (x : BtfType). put_said tx at (definition_once (work_asks b.types B) (work_naming b) B id x w)) (type_11 b s t e))
-      (λ e p4 p5 p6 p7 p19. ap (λ (x : BtfType). put_said tx at (definition_once (work_asks b.types B) (work_naming b) B id x w)) (type_12 b s t e))
-      (λ e p4 p5 p6 p7 p19. ap (λ (x : BtfType). put_said tx at (definition_once (work_asks b.types B) (work_naming b) B id x w)) (type_13 b s t e))
-      (λ e p4 p5 p6 p7 p19. ap (λ (x : BtfType). put_said tx at (definition_once (work_asks b.types B) (work_naming b) B id x w)) (type_14 b s t e))
-      (λ e p4 p5 p6 p7 p19. ap (λ (x : BtfType). put_said tx at (definition_once (work_asks b.types B) (work_naming b) B id x w)) (type_15 b s t e))
-      (λ e p4 p5 p6 p7 p19. ap (λ (x : BtfType). put_said tx at (definition_once (work_asks b.types B) (work_naming b) B id x w)) (type_16 b s t e))
-      (λ e p4 p5 p6 p7 p19. ap (λ (x : BtfType). put_said tx at (definition_once (work_asks b.types B) (work_naming b) B id x w)) (type_17 b s t e))
-      (λ e p4 p5 p6 p7 p19. ap (λ (x : BtfType). put_said tx at (definition_once (work_asks b.types B) (work_naming b) B id x w)) (type_18 b s t e))
-      (λ e p4 p5 p6 p7 p19. absurd (p19 refl))
-      (λ j l e p4 p5 p6 p7 p19. ap (λ (x : BtfType). put_said tx at (definition_once (work_asks b.types B) (work_naming b) B id x w)) (type_none b s t (subst (λ (i : ℕ). 20 ≤ i) (sym e) l)))
+  -- what stands for a record of a kind
+  module _ (k : Kind) (ek : k ≡ kind_named (kind_of t.info)) where
+    defined_as : (y : Kind) → k ≡ y → put_said tx at (definition_once (work_asks b.types B) (work_naming b) B id (type_as b s t y) w) ≡ put_said tx at (definition_once (work_asks b.types B) (work_naming b) B id (type_of b s t) w)
+    defined_as y p = ap (λ (x : BtfType). put_said tx at (definition_once (work_asks b.types B) (work_naming b) B id x w)) (sym (type_is b s t k ek y p))
 
-  none_forward : (k : ℕ) → kind_of t.info ≡ k → (k ≡ 4 → ⊥) → (k ≡ 5 → ⊥) → (k ≡ 8 → ⊥) → put_said tx at (forward_once (work_asks b.types B) (work_naming b) B id (type_of b s t) w) ≡ put_said tx at (nothing w)
-  unfolding forward_once
-  none_forward =
-      by_kind
-      (λ k. kind_of t.info ≡ k → (k ≡ 4 → ⊥) → (k ≡ 5 → ⊥) → (k ≡ 8 → ⊥) → put_said tx at (forward_once (work_asks b.types B) (work_naming b) B id (type_of b s t) w) ≡ put_said tx at (nothing w))
-      (λ e p4 p5 p8. ap (λ (x : BtfType). put_said tx at (forward_once (work_asks b.types B) (work_naming b) B id x w)) (type_0 b s t e))
-      (λ e p4 p5 p8. ap (λ (x : BtfType). put_said tx at (forward_once (work_asks b.types B) (work_naming b) B id x w)) (type_1 b s t e))
-      (λ e p4 p5 p8. ap (λ (x : BtfType). put_said tx at (forward_once (work_asks b.types B) (work_naming b) B id x w)) (type_2 b s t e))
-      (λ e p4 p5 p8. ap (λ (x : BtfType). put_said tx at (forward_once (work_asks b.types B) (work_naming b) B id x w)) (type_3 b s t e))
-      (λ e p4 p5 p8. absurd (p4 refl))
-      (λ e p4 p5 p8. absurd (p5 refl))
-      (λ e p4 p5 p8. ap (λ (x : BtfType). put_said tx at (forward_once (work_asks b.types B) (work_naming b) B id x w)) (type_6 b s t e))
-      (λ e p4 p5 p8. ap (λ (x : BtfType). put_said tx at (forward_once (work_asks b.types B) (work_naming b) B id x w)) (type_7 b s t e))
-      (λ e p4 p5 p8. absurd (p8 refl))
-      (λ e p4 p5 p8. ap (λ (x : BtfType). put_said tx at (forward_once (work_asks b.types B) (work_naming b) B id x w)) (type_9 b s t e))
-      (λ e p4 p5 p8. ap (λ (x : BtfType). put_said tx at (forward_once (work_asks b.types B) (work_naming b) B id x w)) (type_10 b s t e))
-      (λ e p4 p5 p8. ap (λ (x : BtfType). put_said tx at (forward_once (work_asks b.types B) (work_naming b) B id x w)) (type_11 b s t e))
-      (λ e p4 p5 p8. ap (λ (x : BtfType). put_said tx at (forward_once (work_asks b.types B) (work_naming b) B id x w)) (type_12 b s t e))
-      (λ e p4 p5 p8. ap (λ (x : BtfType). put_said tx at (forward_once (work_asks b.types B) (work_naming b) B id x w)) (type_13 b s t e))
-      (λ e p4 p5 p8. ap (λ (x : BtfType). put_said tx at (forward_once (work_asks b.types B) (work_naming b) B id x w)) (type_14 b s t e))
-      (λ e p4 p5 p8. ap (λ (x : BtfType). put_said tx at (forward_once (work_asks b.types B) (work_naming b) B id x w)) (type_15 b s t e))
-      (λ e p4 p5 p8. ap (λ (x : BtfType). put_said tx at (forward_once (work_asks b.types B) (work_naming b) B id x w)) (type_16 b s t e))
-      (λ e p4 p5 p8. ap (λ (x : BtfType). put_said tx at (forward_once (work_asks b.types B) (work_naming b) B id x w)) (type_17 b s t e))
-      (λ e p4 p5 p8. ap (λ (x : BtfType). put_said tx at (forward_once (work_asks b.types B) (work_naming b) B id x w)) (type_18 b s t e))
-      (λ e p4 p5 p8. ap (λ (x : BtfType). put_said tx at (forward_once (work_asks b.types B) (work_naming b) B id x w)) (type_19 b s t e))
-      (λ j l e p4 p5 p8. ap (λ (x : BtfType). put_said tx at (forward_once (work_asks b.types B) (work_naming b) B id x w)) (type_none b s t (subst (λ (i : ℕ). 20 ≤ i) (sym e) l)))
+    forward_as : (y : Kind) → k ≡ y → put_said tx at (forward_once (work_asks b.types B) (work_naming b) B id (type_as b s t y) w) ≡ put_said tx at (forward_once (work_asks b.types B) (work_naming b) B id (type_of b s t) w)
+    forward_as y p = ap (λ (x : BtfType). put_said tx at (forward_once (work_asks b.types B) (work_naming b) B id x w)) (sym (type_is b s t k ek y p))
 
-  builtin_none : (k : ℕ) → kind_of t.info ≡ k → builtin (str_at b s t.name_off) ≡ true → put_said tx at (forward_once (work_asks b.types B) (work_naming b) B id (type_of b s t) w) ≡ put_said tx at (nothing w)
-  unfolding forward_once shown
-  builtin_none =
-      by_kind
-      (λ k. kind_of t.info ≡ k → builtin (str_at b s t.name_off) ≡ true → put_said tx at (forward_once (work_asks b.types B) (work_naming b) B id (type_of b s t) w) ≡ put_said tx at (nothing w))
-      (λ e q. ap (λ (x : BtfType). put_said tx at (forward_once (work_asks b.types B) (work_naming b) B id x w)) (type_0 b s t e))
-      (λ e q. ap (λ (x : BtfType). put_said tx at (forward_once (work_asks b.types B) (work_naming b) B id x w)) (type_1 b s t e))
-      (λ e q. ap (λ (x : BtfType). put_said tx at (forward_once (work_asks b.types B) (work_naming b) B id x w)) (type_2 b s t e))
-      (λ e q. ap (λ (x : BtfType). put_said tx at (forward_once (work_asks b.types B) (work_naming b) B id x w)) (type_3 b s t e))
-      (λ e q. ap (λ (x : BtfType). put_said tx at (forward_once (work_asks b.types B) (work_naming b) B id x w)) (type_4 b s t e) ∙ ap (λ (x : Bool). put_said tx at (select x (emit_composite_fwd (work_naming b) B id true (str_at b s t.name_off) ⨾ put (ascii ";\n\n")) w)) q)
-      (λ e q. ap (λ (x : BtfType). put_said tx at (forward_once (work_asks b.types B) (work_naming b) B id x w)) (type_5 b s t e) ∙ ap (λ (x : Bool). put_said tx at (select x (emit_composite_fwd (work_naming b) B id false (str_at b s t.name_off) ⨾ put (ascii ";\n\n")) w)) q)
-      (λ e q. ap (λ (x : BtfType). put_said tx at (forward_once (work_asks b.types B) (work_naming b) B id x w)) (type_6 b s t e))
-      (λ e q. ap (λ (x : BtfType). put_said tx at (forward_once (work_asks b.types B) (work_naming b) B id x w)) (type_7 b s t e))
-      (λ e q. ap (λ (x : BtfType). put_said tx at (forward_once (work_asks b.types B) (work_naming b) B id x w)) (type_8 b s t e) ∙ ap (λ (x : Bool). put_said tx at (select x (emit_typedef_def_once (work_asks b.types B) (work_naming b) B id (str_at b s t.name_off) t.type_id ⨾ put (ascii ";\n\n")) w)) q)
-      (λ e q. ap (λ (x : BtfType). put_said tx at (forward_once (work_asks b.types B) (work_naming b) B id x w)) (type_9 b s t e))
-      (λ e q. ap (λ (x : BtfType). put_said tx at (forward_once (work_asks b.types B) (work_naming b) B id x w)) (type_10 b s t e))
-      (λ e q. ap (λ (x : BtfType). put_said tx at (forward_once (work_asks b.types B) (work_naming b) B id x w)) (type_11 b s t e))
-      (λ e q. ap (λ (x : BtfType). put_said tx at (forward_once (work_asks b.types B) (work_naming b) B id x w)) (type_12 b s t e))
-      (λ e q. ap (λ (x : BtfType). put_said tx at (forward_once (work_asks b.types B) (work_naming b) B id x w)) (type_13 b s t e))
-      (λ e q. ap (λ (x : BtfType). put_said tx at (forward_once (work_asks b.types B) (work_naming b) B id x w)) (type_14 b s t e))
-      (λ e q. ap (λ (x : BtfType). put_said tx at (forward_once (work_asks b.types B) (work_naming b) B id x w)) (type_15 b s t e))
-      (λ e q. ap (λ (x : BtfType). put_said tx at (forward_once (work_asks b.types B) (work_naming b) B id x w)) (type_16 b s t e))
-      (λ e q. ap (λ (x : BtfType). put_said tx at (forward_once (work_asks b.types B) (work_naming b) B id x w)) (type_17 b s t e))
-      (λ e q. ap (λ (x : BtfType). put_said tx at (forward_once (work_asks b.types B) (work_naming b) B id x w)) (type_18 b s t e))
-      (λ e q. ap (λ (x : BtfType). put_said tx at (forward_once (work_asks b.types B) (work_naming b) B id x w)) (type_19 b s t e))
-      (λ j l e q. ap (λ (x : BtfType). put_said tx at (forward_once (work_asks b.types B) (work_naming b) B id x w)) (type_none b s t (subst (λ (i : ℕ). 20 ≤ i) (sym e) l)))
+    none_defined : (y : Kind) → (y ≡ Struct → ⊥) → (y ≡ Union → ⊥) → (y ≡ Enum → ⊥) → (y ≡ Enum64 → ⊥) → (y ≡ Fwd → ⊥) → put_said tx at (nothing w) ≡ put_said tx at (definition_once (work_asks b.types B) (work_naming b) B id (type_as b s t y) w)
+    unfolding definition_once
+    none_defined Void n₁ n₂ n₃ n₄ n₅ = refl
+    none_defined Int n₁ n₂ n₃ n₄ n₅ = refl
+    none_defined Ptr n₁ n₂ n₃ n₄ n₅ = refl
+    none_defined Array n₁ n₂ n₃ n₄ n₅ = refl
+    none_defined Struct n₁ n₂ n₃ n₄ n₅ = absurd (n₁ refl)
+    none_defined Union n₁ n₂ n₃ n₄ n₅ = absurd (n₂ refl)
+    none_defined Enum n₁ n₂ n₃ n₄ n₅ = absurd (n₃ refl)
+    none_defined Fwd n₁ n₂ n₃ n₄ n₅ = absurd (n₅ refl)
+    none_defined Typedef n₁ n₂ n₃ n₄ n₅ = refl
+    none_defined Volatile n₁ n₂ n₃ n₄ n₅ = refl
+    none_defined Const n₁ n₂ n₃ n₄ n₅ = refl
+    none_defined Restrict n₁ n₂ n₃ n₄ n₅ = refl
+    none_defined Func n₁ n₂ n₃ n₄ n₅ = refl
+    none_defined FuncProto n₁ n₂ n₃ n₄ n₅ = refl
+    none_defined Var n₁ n₂ n₃ n₄ n₅ = refl
+    none_defined Datasec n₁ n₂ n₃ n₄ n₅ = refl
+    none_defined Float n₁ n₂ n₃ n₄ n₅ = refl
+    none_defined DeclTag n₁ n₂ n₃ n₄ n₅ = refl
+    none_defined TypeTag n₁ n₂ n₃ n₄ n₅ = refl
+    none_defined Enum64 n₁ n₂ n₃ n₄ n₅ = absurd (n₄ refl)
+    none_defined Unknown n₁ n₂ n₃ n₄ n₅ = refl
 
-  module _ (k : ℕ) (ek : k ≡ kind_of t.info) where
-    -- the composites' kinds, 4 and 5
-    by_composite : (P : Bool → Type 0) → 4 ≤ k → k < 6 → ((y : Bool) → eqb (kind_of t.info) 4 ≡ y → type_of b s t ≡ Composite y (record_name b s t) t.type_id (members_of b s t) → P y) → P (eqb (kind_of t.info) 4)
-    by_composite P l h f = go (k - 4) refl
-      where
-        go : (d : ℕ) → k - 4 ≡ d → P (eqb (kind_of t.info) 4)
-        go zero e =
-            let q : k ≡ 4 = omega arith in
-            let z : eqb (kind_of t.info) 4 ≡ true = eq-eqb (kind_of t.info) 4 (sym ek ∙ q) in
-            subst P (sym z) (f true z (type_4 b s t (sym ek ∙ q)))
-        go (suc zero) e =
-            let q : k ≡ 5 = omega arith in
-            let z : eqb (kind_of t.info) 4 ≡ false = ne_eqb (kind_of t.info) 4 (λ u. omega arith) in
-            subst P (sym z) (f false z (type_5 b s t (sym ek ∙ q)))
-        go (suc (suc d)) e = absurd (omega arith)
+    none_forward : (y : Kind) → (y ≡ Struct → ⊥) → (y ≡ Union → ⊥) → (y ≡ Typedef → ⊥) → put_said tx at (nothing w) ≡ put_said tx at (forward_once (work_asks b.types B) (work_naming b) B id (type_as b s t y) w)
+    unfolding forward_once
+    none_forward Void n₁ n₂ n₃ = refl
+    none_forward Int n₁ n₂ n₃ = refl
+    none_forward Ptr n₁ n₂ n₃ = refl
+    none_forward Array n₁ n₂ n₃ = refl
+    none_forward Struct n₁ n₂ n₃ = absurd (n₁ refl)
+    none_forward Union n₁ n₂ n₃ = absurd (n₂ refl)
+    none_forward Enum n₁ n₂ n₃ = refl
+    none_forward Fwd n₁ n₂ n₃ = refl
+    none_forward Typedef n₁ n₂ n₃ = absurd (n₃ refl)
+    none_forward Volatile n₁ n₂ n₃ = refl
+    none_forward Const n₁ n₂ n₃ = refl
+    none_forward Restrict n₁ n₂ n₃ = refl
+    none_forward Func n₁ n₂ n₃ = refl
+    none_forward FuncProto n₁ n₂ n₃ = refl
+    none_forward Var n₁ n₂ n₃ = refl
+    none_forward Datasec n₁ n₂ n₃ = refl
+    none_forward Float n₁ n₂ n₃ = refl
+    none_forward DeclTag n₁ n₂ n₃ = refl
+    none_forward TypeTag n₁ n₂ n₃ = refl
+    none_forward Enum64 n₁ n₂ n₃ = refl
+    none_forward Unknown n₁ n₂ n₃ = refl
 
-    pub define_composite : 4 ≤ k → k < 6 → (a : ℕ) (t₁ w₁ : List ℕ)
+    builtin_none : (y : Kind) → builtin (str_at b s t.name_off) ≡ true → put_said tx at (nothing w) ≡ put_said tx at (forward_once (work_asks b.types B) (work_naming b) B id (type_as b s t y) w)
+    unfolding forward_once shown
+    builtin_none Void q = refl
+    builtin_none Int q = refl
+    builtin_none Ptr q = refl
+    builtin_none Array q = refl
+    builtin_none Struct q = sym (ap (λ (x : Bool). put_said tx at (select x (emit_composite_fwd (work_naming b) B id true (str_at b s t.name_off) ⨾ put (ascii ";\n\n")) w)) q)
+    builtin_none Union q = sym (ap (λ (x : Bool). put_said tx at (select x (emit_composite_fwd (work_naming b) B id false (str_at b s t.name_off) ⨾ put (ascii ";\n\n")) w)) q)
+    builtin_none Enum q = refl
+    builtin_none Fwd q = refl
+    builtin_none Typedef q = sym (ap (λ (x : Bool). put_said tx at (select x (emit_typedef_def_once (work_asks b.types B) (work_naming b) B id (str_at b s t.name_off) t.type_id ⨾ put (ascii ";\n\n")) w)) q)
+    builtin_none Volatile q = refl
+    builtin_none Const q = refl
+    builtin_none Restrict q = refl
+    builtin_none Func q = refl
+    builtin_none FuncProto q = refl
+    builtin_none Var q = refl
+    builtin_none Datasec q = refl
+    builtin_none Float q = refl
+    builtin_none DeclTag q = refl
+    builtin_none TypeTag q = refl
+    builtin_none Enum64 q = refl
+    builtin_none Unknown q = refl
+
+    -- whether it is a struct, of the two kinds of composites
+    composite_is : (k ≡ Struct) ⊎ (k ≡ Union) → (P : Bool → Type 0) → ((y : Bool) → type_of b s t ≡ R.Composite y (record_name b s t) t.type_id (members_of b s t) → P y) → P (eqb (kind_of t.info) 4)
+    composite_is (inl p) P f = subst P (sym (ap (λ (j : ℕ). eqb j 4) (is (kind_of t.info) k ek Struct p))) (f true (type_is b s t k ek Struct p))
+    composite_is (inr p) P f = subst P (sym (ap (λ (j : ℕ). eqb j 4) (is (kind_of t.info) k ek Union p))) (f false (type_is b s t k ek Union p))
+
+    pub define_composite : (k ≡ Struct) ⊎ (k ≡ Union) → (a : ℕ) (t₁ w₁ : List ℕ)
         → out_of a t₁ w₁ ≡ put_said tx at (emit_composite_def_once (work_asks b.types B) (work_naming b) B 512 id (eqb (kind_of t.info) 4) (record_name b s t) t.type_id (members_of b s t) 0 w)
         → (r : ℕ) (t₂ : List ℕ) → put_out r t₂ ≡ put_text t₁ a (whole (ascii ";\n\n")) → Defines r t₂ w₁
     unfolding definition_once
-    define_composite l h a t₁ w₁ e r t₂ f =
-        by_composite (λ y. out_of a t₁ w₁ ≡ put_said tx at (emit_composite_def_once (work_asks b.types B) (work_naming b) B 512 id y (record_name b s t) t.type_id (members_of b s t) 0 w) → Defines r t₂ w₁) l h
-        (λ y z u q. ended (emit_composite_def_once (work_asks b.types B) (work_naming b) B 512 id y (record_name b s t) t.type_id (members_of b s t) 0) a t₁ w₁ r t₂ q f ∙ ap (λ (x : BtfType). put_said tx at (definition_once (work_asks b.types B) (work_naming b) B id x w)) (sym u))
+    define_composite g a t₁ w₁ e r t₂ f =
+        composite_is g (λ y. out_of a t₁ w₁ ≡ put_said tx at (emit_composite_def_once (work_asks b.types B) (work_naming b) B 512 id y (record_name b s t) t.type_id (members_of b s t) 0 w) → Defines r t₂ w₁)
+        (λ y u q. ended (emit_composite_def_once (work_asks b.types B) (work_naming b) B 512 id y (record_name b s t) t.type_id (members_of b s t) 0) a t₁ w₁ r t₂ q f ∙ ap (λ (x : BtfType). put_said tx at (definition_once (work_asks b.types B) (work_naming b) B id x w)) (sym u))
         e
 
-    pub define_enum : (k ≡ 6) ⊎ (k ≡ 19) → (a : ℕ) (t₁ w₁ : List ℕ) → out_of a t₁ w₁ ≡ put_said tx at (emit_enum_def (work_naming b) B (value_text (is_wide t) (flag_of t.info)) id (str_at b s t.name_off) (enum_values b s t) 0 w)
+    pub define_enum : (k ≡ Enum) ⊎ (k ≡ Enum64) → (a : ℕ) (t₁ w₁ : List ℕ) → out_of a t₁ w₁ ≡ put_said tx at (emit_enum_def (work_naming b) B (value_text (is_wide t) (flag_of t.info)) id (str_at b s t.name_off) (enum_values b s t) 0 w)
         → (r : ℕ) (t₂ : List ℕ) → put_out r t₂ ≡ put_text t₁ a (whole (ascii ";\n\n")) → Defines r t₂ w₁
     unfolding definition_once
     define_enum (inl q) a t₁ w₁ e r t₂ f =
         ended (emit_enum_def (work_naming b) B (enum_value (flag_of t.info)) id (str_at b s t.name_off) (values_of b s t) 0) a t₁ w₁ r t₂
-        (e ∙ of_enum b s t (λ str vs. put_said tx at (emit_enum_def (work_naming b) B str id (str_at b s t.name_off) vs 0 w)) (sym ek ∙ q)) f
-        ∙ ap (λ (x : BtfType). put_said tx at (definition_once (work_asks b.types B) (work_naming b) B id x w)) (sym (type_6 b s t (sym ek ∙ q)))
+        (e ∙ of_enum b s t (λ str vs. put_said tx at (emit_enum_def (work_naming b) B str id (str_at b s t.name_off) vs 0 w)) (is (kind_of t.info) k ek Enum q)) f
+        ∙ defined_as Enum q
     define_enum (inr q) a t₁ w₁ e r t₂ f =
         ended (emit_enum_def (work_naming b) B (enum64_value (flag_of t.info)) id (str_at b s t.name_off) (values64_of b s t) 0) a t₁ w₁ r t₂
-        (e ∙ of_enum64 b s t (λ str vs. put_said tx at (emit_enum_def (work_naming b) B str id (str_at b s t.name_off) vs 0 w)) (sym ek ∙ q)) f
-        ∙ ap (λ (x : BtfType). put_said tx at (definition_once (work_asks b.types B) (work_naming b) B id x w)) (sym (type_19 b s t (sym ek ∙ q)))
+        (e ∙ of_enum64 b s t (λ str vs. put_said tx at (emit_enum_def (work_naming b) B str id (str_at b s t.name_off) vs 0 w)) (is (kind_of t.info) k ek Enum64 q)) f
+        ∙ defined_as Enum64 q
 
-    pub define_fwd : k ≡ 7 → (u : Bool) → u ≡ flag_of t.info → (a : ℕ) (t₁ w₁ : List ℕ) → out_of a t₁ w₁ ≡ put_said tx at (emit_fwd_def (work_naming b) B id u (str_at b s t.name_off) w)
+    pub define_fwd : k ≡ Fwd → (u : Bool) → u ≡ flag_of t.info → (a : ℕ) (t₁ w₁ : List ℕ) → out_of a t₁ w₁ ≡ put_said tx at (emit_fwd_def (work_naming b) B id u (str_at b s t.name_off) w)
         → (r : ℕ) (t₂ : List ℕ) → put_out r t₂ ≡ put_text t₁ a (whole (ascii ";\n\n")) → Defines r t₂ w₁
     unfolding definition_once
     define_fwd q u eu a t₁ w₁ e r t₂ f =
         ended (emit_fwd_def (work_naming b) B id u (str_at b s t.name_off)) a t₁ w₁ r t₂ e f
-        ∙ ap (λ (x : Bool). put_said tx at (definition_once (work_asks b.types B) (work_naming b) B id (Fwd x (record_name b s t)) w)) eu
-        ∙ ap (λ (x : BtfType). put_said tx at (definition_once (work_asks b.types B) (work_naming b) B id x w)) (sym (type_7 b s t (sym ek ∙ q)))
+        ∙ ap (λ (x : Bool). put_said tx at (definition_once (work_asks b.types B) (work_naming b) B id (R.Fwd x (record_name b s t)) w)) eu
+        ∙ defined_as Fwd q
 
-    pub define_none : (k ≡ 4 → ⊥) → (k ≡ 5 → ⊥) → (k ≡ 6 → ⊥) → (k ≡ 7 → ⊥) → (k ≡ 19 → ⊥) → Defines at tx w
-    define_none p4 p5 p6 p7 p19 = put_nothing tx at w ∙ sym (none_defined k (sym ek) p4 p5 p6 p7 p19)
+    pub define_none : (k ≡ Struct → ⊥) → (k ≡ Union → ⊥) → (k ≡ Enum → ⊥) → (k ≡ Enum64 → ⊥) → (k ≡ Fwd → ⊥) → Defines at tx w
+    define_none n₁ n₂ n₃ n₄ n₅ = put_nothing tx at w ∙ none_defined k n₁ n₂ n₃ n₄ n₅ ∙ defined_as k refl
 
     pub forward_builtin : (y : Bool) → y ≡ builtin (str_at b s t.name_off) → y ≡ true → Forwards at tx w
-    forward_builtin y ey e = put_nothing tx at w ∙ sym (builtin_none k (sym ek) (sym ey ∙ e))
+    forward_builtin y ey e = put_nothing tx at w ∙ builtin_none (kind_named (kind_of t.info)) (sym ey ∙ e) ∙ forward_as _ ek
 
-    pub forward_composite : (y : Bool) → y ≡ builtin (str_at b s t.name_off) → y ≡ false → 4 ≤ k → k < 6 → (st : Bool) → st ≡ eqb (kind_of t.info) 4 → (a : ℕ) (t₁ w₁ : List ℕ)
+    pub forward_composite : (y : Bool) → y ≡ builtin (str_at b s t.name_off) → y ≡ false → (k ≡ Struct) ⊎ (k ≡ Union) → (st : Bool) → st ≡ eqb (kind_of t.info) 4 → (a : ℕ) (t₁ w₁ : List ℕ)
         → out_of a t₁ w₁ ≡ put_said tx at (emit_composite_fwd (work_naming b) B id st (str_at b s t.name_off) w)
         → (r : ℕ) (t₂ : List ℕ) → put_out r t₂ ≡ put_text t₁ a (whole (ascii ";\n\n")) → Forwards r t₂ w₁
     unfolding forward_once shown
-    forward_composite y ey ef l h st es a t₁ w₁ e r t₂ f =
-        by_composite (λ z. st ≡ z → Forwards r t₂ w₁) l h
-        (λ z q u v. ended (emit_composite_fwd (work_naming b) B id st (str_at b s t.name_off)) a t₁ w₁ r t₂ e f
+    forward_composite y ey ef g st es a t₁ w₁ e r t₂ f =
+        composite_is g (λ z. st ≡ z → Forwards r t₂ w₁)
+        (λ z u v. ended (emit_composite_fwd (work_naming b) B id st (str_at b s t.name_off)) a t₁ w₁ r t₂ e f
         ∙ ap (λ (x : Bool). put_said tx at ((emit_composite_fwd (work_naming b) B id x (str_at b s t.name_off) ⨾ put (ascii ";\n\n")) w)) v
         ∙ ap (λ (x : Bool). put_said tx at (select x (emit_composite_fwd (work_naming b) B id z (str_at b s t.name_off) ⨾ put (ascii ";\n\n")) w)) (sym (sym ey ∙ ef))
         ∙ ap (λ (x : BtfType). put_said tx at (forward_once (work_asks b.types B) (work_naming b) B id x w)) (sym u))
         es
 
-    pub forward_typedef : (y : Bool) → y ≡ builtin (str_at b s t.name_off) → y ≡ false → k ≡ 8 → (a : ℕ) (t₁ w₁ : List ℕ)
+    pub forward_typedef : (y : Bool) → y ≡ builtin (str_at b s t.name_off) → y ≡ false → k ≡ Typedef → (a : ℕ) (t₁ w₁ : List ℕ)
         → out_of a t₁ w₁ ≡ put_said tx at (emit_typedef_def_once (work_asks b.types B) (work_naming b) B id (str_at b s t.name_off) t.type_id w)
         → (r : ℕ) (t₂ : List ℕ) → put_out r t₂ ≡ put_text t₁ a (whole (ascii ";\n\n")) → Forwards r t₂ w₁
     unfolding forward_once shown
     forward_typedef y ey ef q a t₁ w₁ e r t₂ f =
         ended (emit_typedef_def_once (work_asks b.types B) (work_naming b) B id (str_at b s t.name_off) t.type_id) a t₁ w₁ r t₂ e f
         ∙ ap (λ (x : Bool). put_said tx at (select x (emit_typedef_def_once (work_asks b.types B) (work_naming b) B id (str_at b s t.name_off) t.type_id ⨾ put (ascii ";\n\n")) w)) (sym (sym ey ∙ ef))
-        ∙ ap (λ (x : BtfType). put_said tx at (forward_once (work_asks b.types B) (work_naming b) B id x w)) (sym (type_8 b s t (sym ek ∙ q)))
+        ∙ forward_as Typedef q
 
-    pub forward_none : (k ≡ 4 → ⊥) → (k ≡ 5 → ⊥) → (k ≡ 8 → ⊥) → Forwards at tx w
-    forward_none p4 p5 p8 = put_nothing tx at w ∙ sym (none_forward k (sym ek) p4 p5 p8)
-
--- ---- tests
-pub lt_ne : (k a c : ℕ) → k < a → a ≤ c → k ≡ c → ⊥
-lt_ne k a c l h e = omega arith
-
-pub gt_ne : (k a c : ℕ) → a ≤ k → c < a → k ≡ c → ⊥
-gt_ne k a c l h e = omega arith
+    pub forward_none : (k ≡ Struct → ⊥) → (k ≡ Union → ⊥) → (k ≡ Typedef → ⊥) → Forwards at tx w
+    forward_none n₁ n₂ n₃ = put_nothing tx at w ∙ none_forward k n₁ n₂ n₃ ∙ forward_as k refl

@@ -1,6 +1,5 @@
 use Rattle.c_dumper_bodies.proofs.chain.Only.{links_chain}
 use mathlib.Core.Path.{refl, ◌∙◌, sym}
-use mathlib.Core.Logic.{inl, inr}
 use Rattle.spec_c_dumper.proofs.rules.Writing.{put_only, said_stopped}
 use Rattle.c_dumper_declarator.proofs.declarations.Kept.{leads_start, leads_end}
 use Rattle.c_dumper_declarator.proofs.declarations.DeclLaws as chains
@@ -10,7 +9,6 @@ use Rattle.c_dumper_declarator.proofs.declarations.MemberLaws as members
 use Rattle.c_dumper_declarator.proofs.declarations.MemberLaws.{params_left, members_left}
 use native.Mathlib.Omega.{arith}
 use Rattle.c_dumper_declarator.proofs.declarations.+declarator.Goals as goal
-use Rattle.c_dumper_declarator.proofs.declarations.+declarator.Goals.{emit_base-in_default-via-then-this-lt1, emit_base-in_default-via-else-this-lt1+else-this-lt4+else-this-lt6+else-this-lt19, emit_entry-in_default-via-then-this-lt9, emit_entry-in_default-via-else-this-lt9+else-this-lt12}
 
 pub emit_array-returns-then-n-eq0 : goal.emit_array-returns-then-n-eq0
 emit_array-returns-then-n-eq0 t c = entries.array_name _ _ _ _ _ _ _ _ _ _ _ _ _ c.if-n-eq0.true c.emit_name.ensures
@@ -18,41 +16,35 @@ emit_array-returns-then-n-eq0 t c = entries.array_name _ _ _ _ _ _ _ _ _ _ _ _ _
 pub emit_array-emit_type_chain-requires : goal.emit_array-emit_type_chain-requires
 emit_array-emit_type_chain-requires t c = (omega arith, c.requires)
 
-pub emit_array-returns-then-kind_at-eq-ARRAY : goal.emit_array-returns-then-kind_at-eq-ARRAY
-emit_array-returns-then-kind_at-eq-ARRAY t c = entries.array_array _ _ _ _ _ _ _ _ _ _ _ c.if-n-eq0.false _ _ _ _ _ _ c.kind_at.ensures c.if-kind_at-eq-ARRAY.true c.put_gap-a.ensures c.emit_type_chain.ensures
+pub emit_array-returns-in-Array : goal.emit_array-returns-in-Array
+emit_array-returns-in-Array t c = entries.array_array _ _ _ _ _ _ _ _ _ _ _ c.if-n-eq0.false _ _ _ _ _ _ c.kind_at.ensures c.in-Array.is c.put_gap-a.ensures c.emit_type_chain.ensures
 
 pub emit_array-emit_type_chain-e-requires : goal.emit_array-emit_type_chain-e-requires
 emit_array-emit_type_chain-e-requires t c = (omega arith, c.requires)
 
-pub emit_array-returns : goal.emit_array-returns
-emit_array-returns t c = entries.array_other _ _ _ _ _ _ _ _ _ _ _ c.if-n-eq0.false _ _ _ _ _ _ _ _ _ _ c.kind_at.ensures c.if-kind_at-eq-ARRAY.false c.put_gap-a.ensures c.put_byte-c.ensures c.emit_type_chain-e.ensures c.put_byte.ensures
+pub emit_array-returns-in_default : goal.emit_array-returns-in_default
+emit_array-returns-in_default t c = entries.array_other _ _ _ _ _ _ _ _ _ _ _ c.if-n-eq0.false _ _ _ _ _ _ _ _ _ _ c.kind_at.ensures c.in_default.not-Array c.put_gap-a.ensures c.put_byte-c.ensures c.emit_type_chain-e.ensures c.put_byte.ensures
 
-pub emit_base-returns-in-1 : goal.emit_base-returns-in-1
-emit_base-returns-in-1 t c = entries.word_name_lem _ _ _ _ _ _ _ _ c.kind_of.ensures _ _ _ _ _ _ c.in-1.is (put_only _ _ _ _ _ _ c.put_str.ensures)
+pub emit_base-returns-in-Int : goal.emit_base-returns-in-Int
+emit_base-returns-in-Int t c = entries.word_name_lem _ _ _ _ _ _ _ _ c.of.ensures _ _ _ _ _ _ c.in-Int.is (put_only _ _ _ _ _ _ c.put_str.ensures)
 
-pub emit_base-returns-in-6 : goal.emit_base-returns-in-6
-emit_base-returns-in-6 t c = entries.word_enum _ _ _ _ _ _ _ _ c.kind_of.ensures _ _ _ _ _ _ (inl c.in-6.is) c.emit_enum_word.ensures
+pub emit_base-returns-in-Struct : goal.emit_base-returns-in-Struct
+emit_base-returns-in-Struct t c = entries.word_composite _ _ _ _ _ _ _ _ c.of.ensures _ _ _ _ _ _ c.in-Struct.is c.emit_composite_word.ensures
 
-pub emit_base-returns-in-7 : goal.emit_base-returns-in-7
-emit_base-returns-in-7 t c = entries.word_fwd _ _ _ _ _ _ _ _ c.kind_of.ensures _ _ _ _ _ _ _ c.in-7.is c.kind_flag_of.ensures c.emit_fwd_def.ensures
+pub emit_base-returns-in-Enum : goal.emit_base-returns-in-Enum
+emit_base-returns-in-Enum t c = entries.word_enum _ _ _ _ _ _ _ _ c.of.ensures _ _ _ _ _ _ c.in-Enum.is c.emit_enum_word.ensures
 
-pub emit_base-returns-in-8 : goal.emit_base-returns-in-8
-emit_base-returns-in-8 t c = entries.word_typedef _ _ _ _ _ _ _ _ c.kind_of.ensures _ _ _ _ _ _ c.in-8.is c.put_typedef_name.ensures
+pub emit_base-returns-in-Fwd : goal.emit_base-returns-in-Fwd
+emit_base-returns-in-Fwd t c = entries.word_fwd _ _ _ _ _ _ _ _ c.of.ensures _ _ _ _ _ _ _ c.in-Fwd.is c.kind_flag_of-is_union.ensures c.emit_fwd_def.ensures
 
-pub emit_base-returns-in-19 : goal.emit_base-returns-in-19
-emit_base-returns-in-19 t c = entries.word_enum _ _ _ _ _ _ _ _ c.kind_of.ensures _ _ _ _ _ _ (inr c.in-19.is) c.emit_enum_word-in-19.ensures
+pub emit_base-returns-in-Typedef : goal.emit_base-returns-in-Typedef
+emit_base-returns-in-Typedef t c = entries.word_typedef _ _ _ _ _ _ _ _ c.of.ensures _ _ _ _ _ _ c.in-Typedef.is c.put_typedef_name.ensures
 
-pub emit_base-returns-in-4 : goal.emit_base-returns-in-4
-emit_base-returns-in-4 t c = entries.word_composite _ _ _ _ _ _ _ _ c.kind_of.ensures _ _ _ _ _ _ (omega arith) (omega arith) (omega arith) c.emit_composite_word.ensures
-
-pub emit_base-returns-in-2 : goal.emit_base-returns-in-2
-emit_base-returns-in-2 t c = entries.word_low _ _ _ _ _ _ _ _ c.kind_of.ensures _ _ _ (omega arith) (omega arith) c.in-2.in_default-own.rest.0.0.0.0.1
-
-pub emit_base-returns-in-2-2 : goal.emit_base-returns-in-2-2
-emit_base-returns-in-2-2 t c = entries.word_mid _ _ _ _ _ _ _ _ c.kind_of.ensures _ _ _ (omega arith) (omega arith) c.in-2.in_default-own.rest.0.0.0.0.1 c.in-2.in_default-own.rest.0.0.0.1 c.in-2.in_default-own.rest.0.0.1 c.in-2.in_default-own.rest.0.1
+pub emit_base-returns-in-Void : goal.emit_base-returns-in-Void
+emit_base-returns-in-Void t c = entries.word_void _ _ _ _ _ _ _ _ c.of.ensures _ _ _ _ _ _ c.in-Void.is c.put_word.ensures refl
 
 pub emit_base-returns-in_default : goal.emit_base-returns-in_default
-emit_base-returns-in_default t c = entries.word_void _ _ _ _ _ _ _ _ c.kind_of.ensures _ _ _ _ _ c.in_default-1.rest.1 (elim c.in_default.branch [ emit_base-in_default-via-then-this-lt1 w ↦ inl (omega arith) | emit_base-in_default-via-else-this-lt1+else-this-lt4+else-this-lt6+else-this-lt19 w ↦ inr (omega arith) ]) c.put_word.ensures
+emit_base-returns-in_default t c = entries.word_none _ _ _ _ _ _ _ _ _ _ _ c.of.ensures c.in_default.not-Int c.in_default.not-Float c.in_default.not-Struct c.in_default.not-Union c.in_default.not-Enum c.in_default.not-Enum64 c.in_default.not-Fwd c.in_default.not-Typedef c.in_default.not-Void c.in_default.not-Unknown
 
 pub emit_based-returns-then-left-eq0 : goal.emit_based-returns-then-left-eq0
 emit_based-returns-then-left-eq0 t c = chains.chain_zero _ _ _ _ _ _ _ _ _ _ c.if-left-eq0.true c.stop.ensures
@@ -81,20 +73,20 @@ emit_entry-emit_array-a-requires t c = (omega arith, entries.links_rest _ _ _ _ 
 pub emit_entry-emit_function-requires : goal.emit_entry-emit_function-requires
 emit_entry-emit_function-requires t c = (omega arith, c.requires)
 
-pub emit_entry-returns-in-2 : goal.emit_entry-returns-in-2
-emit_entry-returns-in-2 t c = entries.arm_star _ _ _ _ _ _ c.args.c _ _ c.requires.0 _ c.path_at.ensures _ c.type_by_id-t.ensures _ c.kind_of.ensures _ _ _ c.in-2.is c.put_star.ensures c.goes_on.ensures
+pub emit_entry-returns-in-Ptr : goal.emit_entry-returns-in-Ptr
+emit_entry-returns-in-Ptr t c = entries.arm_star _ _ _ _ _ _ c.args.c _ _ c.requires.0 _ c.path_at.ensures _ c.type_by_id-t.ensures _ c.of-kind.ensures _ _ _ c.in-Ptr.is c.put_star.ensures c.goes_on.ensures
 
-pub emit_entry-returns-in-3 : goal.emit_entry-returns-in-3
-emit_entry-returns-in-3 t c = entries.arm_array _ _ _ _ _ _ c.args.c _ _ c.requires.0 _ c.path_at.ensures _ c.type_by_id-t.ensures _ c.kind_of.ensures _ _ _ _ _ _ _ _ c.in-3.is c.array_nelems-nelems.ensures c.skip_mods-m.ensures.0 c.emit_array-a.ensures c.put_count.ensures c.named.ensures
+pub emit_entry-returns-in-Array : goal.emit_entry-returns-in-Array
+emit_entry-returns-in-Array t c = entries.arm_array _ _ _ _ _ _ c.args.c _ _ c.requires.0 _ c.path_at.ensures _ c.type_by_id-t.ensures _ c.of-kind.ensures _ _ _ _ _ _ _ _ c.in-Array.is c.array_nelems-nelems.ensures c.skip_mods-m.ensures.0 c.emit_array-a.ensures c.put_count.ensures c.named.ensures
 
-pub emit_entry-returns-in-13 : goal.emit_entry-returns-in-13
-emit_entry-returns-in-13 t c = entries.arm_proto _ _ _ _ _ _ c.args.c _ _ c.requires.0 _ c.path_at.ensures _ c.type_by_id-t.ensures _ c.kind_of.ensures _ _ _ _ c.in-13.is c.emit_function.ensures c.named-in-13.ensures
+pub emit_entry-returns-in-FuncProto : goal.emit_entry-returns-in-FuncProto
+emit_entry-returns-in-FuncProto t c = entries.arm_proto _ _ _ _ _ _ c.args.c _ _ c.requires.0 _ c.path_at.ensures _ c.type_by_id-t.ensures _ c.of-kind.ensures _ _ _ _ c.in-FuncProto.is c.emit_function.ensures c.named-in-FuncProto.ensures
 
-pub emit_entry-returns-in-9-to-11 : goal.emit_entry-returns-in-9-to-11
-emit_entry-returns-in-9-to-11 t c = entries.arm_qual _ _ _ _ _ _ c.args.c _ _ c.requires.0 _ c.path_at.ensures _ c.type_by_id-t.ensures _ c.kind_of.ensures _ _ _ _ _ _ (omega arith) (omega arith) c.kind_of-in-9-to-11.ensures c.put_byte-a.ensures c.put_qualifier.ensures c.goes_on-in-9-to-11.ensures
+pub emit_entry-returns-in-Volatile : goal.emit_entry-returns-in-Volatile
+emit_entry-returns-in-Volatile t c = entries.arm_qual _ _ _ _ _ _ c.args.c _ _ c.requires.0 _ c.path_at.ensures _ c.type_by_id-t.ensures _ c.of-kind.ensures _ _ _ _ _ c.in-Volatile.is c.put_byte-a.ensures c.put_qualifier.ensures c.goes_on-in-Volatile.ensures
 
 pub emit_entry-returns-in_default : goal.emit_entry-returns-in_default
-emit_entry-returns-in_default t c = entries.arm_tag _ _ _ _ _ _ c.args.c _ _ c.requires.0 _ c.path_at.ensures _ c.type_by_id-t.ensures _ c.kind_of.ensures _ _ _ _ _ _ (entries.is_tag _ _ _ _ _ _ _ _ c.requires.0 c.path_at.ensures c.type_by_id-t.ensures c.kind_of.ensures c.requires.1 c.in_default-1.rest.0.0.1 c.in_default-1.rest.0.1 c.in_default-1.rest.1 (elim c.in_default.branch [ emit_entry-in_default-via-then-this-lt9 w ↦ inl (omega arith) | emit_entry-in_default-via-else-this-lt9+else-this-lt12 w ↦ inr (omega arith) ])) c.skip_mods-m-in_default.ensures.0 c.skip_mods-m-in_default.ensures.1 c.emit_mods-a.ensures c.put_type_tag.ensures c.goes_on-in_default.ensures
+emit_entry-returns-in_default t c = entries.arm_tag _ _ _ _ _ _ c.args.c _ _ c.requires.0 _ c.path_at.ensures _ c.type_by_id-t.ensures _ c.of-kind.ensures _ _ _ _ _ _ (entries.is_tag _ _ _ _ _ _ _ _ c.requires.0 c.path_at.ensures c.type_by_id-t.ensures c.of-kind.ensures c.requires.1 c.in_default.not-Ptr c.in_default.not-Array c.in_default.not-Volatile c.in_default.not-Const c.in_default.not-Restrict c.in_default.not-FuncProto) c.skip_mods-m-in_default.ensures.0 c.skip_mods-m-in_default.ensures.1 c.emit_mods-a.ensures c.put_type_tag.ensures c.goes_on-in_default.ensures
 
 pub emit_function-emit_proto-f-requires : goal.emit_function-emit_proto-f-requires
 emit_function-emit_proto-f-requires t c = (omega arith, entries.links_rest _ _ _ _ _ _ c.requires.0 c.skip_mods-m.ensures.0 c.requires.1)
