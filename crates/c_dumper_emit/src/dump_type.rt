@@ -16,14 +16,12 @@ use crate::entries::{Asked, Pen};
 use crate::order_list::clear_list;
 use crate::steps::stop_at;
 use base_bytes::limit;
-use btf_type_table::kind;
-use btf_type_table::kind::kind_of;
 use btf_type_table::node::type_by_id;
 use c_dumper_dependency_order::begin::Ceiling;
 use c_dumper_dependency_order::leaders::Way;
 use c_dumper_dependency_order::order_state::{Order, get_order_state};
 use c_dumper_dependency_order::order_type::order_type;
-use spec_type_table::TypeTable;
+use spec_type_table::{Kind, TypeTable};
 
 // A request for an id that is ordered, or is a function, a variable, a section or a tag, does nothing.
 pub fn is_idle(b: TypeTable, section: &[u8], work: &[u8], id: u32) -> bool
@@ -38,10 +36,10 @@ pub fn is_idle(b: TypeTable, section: &[u8], work: &[u8], id: u32) -> bool
         return false;
     }
     let t = type_by_id(b, section, work, id);
-    match kind_of(t.info) {
-        kind::FUNC | kind::VAR | kind::DATASEC | kind::DECL_TAG => true,
-        _ => false,
-    }
+    matches!(
+        Kind::of(t.info),
+        Kind::Func | Kind::Var | Kind::Datasec | Kind::DeclTag
+    )
 }
 
 // Where a request came to: the place after its text and the count of entries after it, or a place past the end that says which

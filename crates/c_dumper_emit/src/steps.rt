@@ -14,12 +14,11 @@ use crate::entries::{Asked, Origin, Pen, forward_origin, listed_origin, origin_a
 use crate::lines::{define, forward};
 use base_bytes::put::stop;
 use base_bytes::refusal;
+use btf_type_table::cell;
 use btf_type_table::cell::{get_field, put_field};
-use btf_type_table::kind::kind_of;
 use btf_type_table::name::is_named;
 use btf_type_table::node::type_by_id;
-use btf_type_table::{cell, kind};
-use spec_type_table::{BtfType, TypeTable};
+use spec_type_table::{BtfType, Kind, TypeTable};
 
 pub fn get_emit_state(work: &[u8], id: u32) -> u32
     ensures { result ≡ get_field work.now id 13 }
@@ -103,8 +102,8 @@ pub fn emit_again(
         return p;
     }
     let t = type_by_id(b, section, work, id);
-    match kind_of(t.info) {
-        kind::STRUCT | kind::UNION => {
+    match Kind::of(t.info) {
+        Kind::Struct | Kind::Union => {
             if id == cont {
                 return p;
             }
@@ -114,7 +113,7 @@ pub fn emit_again(
             let e = forward_origin(id, cont);
             emit_once(b, section, work, text, list, q.lists, p, id, t, e)
         }
-        kind::TYPEDEF => {
+        Kind::Typedef => {
             let e = origin_at(leads, q, 3, id, cont);
             emit_once(b, section, work, text, list, q.lists, p, id, t, e)
         }

@@ -1,13 +1,12 @@
 -- Laws of a request: ordering, the listed ids, the emptied list; and requests that have nothing to do. Assumes nothing.
-use Prim.Native.Nat.{ℕ, zero, suc, ◌+◌, ◌-◌, ◌<◌, ◌≤◌}
+use Prim.Native.Nat.{ℕ, suc, ◌+◌, ◌<◌, ◌≤◌}
 use mathlib.Core.Path.{◌≡◌, refl, ap, ◌∙◌, sym, subst}
 use mathlib.Core.List.{List, []}
-use mathlib.Core.Bool.{Bool, true, false, ◌||◌}
+use mathlib.Core.Bool.{Bool, true, false}
 use mathlib.Core.Logic.{◌⊎◌, inl, inr}
 use native.Mathlib.Omega.{arith}
 use lib.ListN.{length}
-use lib.Dec.{eqb, ltb}
-use borrow.Author.Tests.{ne_eqb}
+use lib.Dec.{ltb}
 use Rattle.spec_bytes.specs.text.Text.{cut, bytes, stopped, put_out, written, put_text}
 use Rattle.spec_bytes.proofs.text.TextLaws.{put_fits, stays}
 use Rattle.spec_c_dumper.specs.rules.Order.{Table, Node, ignored, plain, listed, through, ptr, tdef, proto, comp, Mark, new, busy, done, Res, ok, refused, fresh, visit, order}
@@ -17,8 +16,11 @@ use Rattle.spec_type_table.specs.declared.types.TypeTable.{TypeTable}
 use Rattle.spec_type_table.specs.declared.types.BtfType.{BtfType as Record}
 use Rattle.spec_type_table.specs.Cells.{get_field}
 use Rattle.spec_type_table.specs.Records.{kind_of, record_by_id}
-use Rattle.spec_type_table.specs.Table.{from, type_of, btf_of}
-use Rattle.spec_type_table.proofs.KindLaws.{by_kind, type_0, type_1, type_2, type_3, type_4, type_5, type_6, type_7, type_8, type_9, type_10, type_11, type_12, type_13, type_14, type_15, type_16, type_17, type_18, type_19, type_none}
+use Rattle.spec_type_table.specs.Table.{from, btf_of}
+use Rattle.spec_type_table.specs.declared.kind.Kind.{Kind}
+use Rattle.spec_type_table.specs.declared.kind.Kind.TheVariants as kinds
+use Rattle.spec_type_table.specs.Kinds.{kind_named}
+use Rattle.spec_type_table.proofs.KindTypes.{type_as, type_is}
 use Rattle.spec_c_dumper.specs.ceiling.Ceiling.{Limit, unbounded, most, Told, halted, calls_made, then_bind}
 use Rattle.spec_c_dumper.proofs.ceiling.Counted.{tell, within, passes}
 use Rattle.spec_c_dumper.proofs.ceiling.Plain.{unbounded_is}
@@ -214,40 +216,37 @@ module _ (b : TypeTable) (s : List ℕ) (m : Sheet) (z : m.len ≡ 0) (id c made
   over_is k l = ap (λ (t : Told Marks). listed_out (work_machine b (btf_of b s m.work)) (table_in b s m.work) (beside_of m t)) (ap (λ (n : Marks). ordered_in (btf_of b s m.work) (most c) n id made) begins ∙ rule_over k l)
 
 -- ---- is_idle
-ignored_is : ℕ → Bool
-ignored_is k = eqb k 12 || (eqb k 14 || (eqb k 15 || eqb k 17))
+module _ (b : TypeTable) (s : List ℕ) (t : Record) where
+  ignores : (y : Kind) → (y ≡ kinds.Func) ⊎ ((y ≡ kinds.Var) ⊎ ((y ≡ kinds.Datasec) ⊎ (y ≡ kinds.DeclTag))) → true ≡ is_ignored (node_of (type_as b s t y))
+  unfolding is_ignored
+  ignores y (inl e) = rw e
+  ignores y (inr (inl e)) = rw e
+  ignores y (inr (inr (inl e))) = rw e
+  ignores y (inr (inr (inr e))) = rw e
 
-none : (k : ℕ) → (k ≡ 12 → ⊥) → (k ≡ 14 → ⊥) → (k ≡ 15 → ⊥) → (k ≡ 17 → ⊥) → ignored_is k ≡ false
-unfolding ignored_is
-none k p q r u = rw (ne_eqb k 12 p, ne_eqb k 14 q, ne_eqb k 15 r, ne_eqb k 17 u)
-
-ignored_kind : (b : TypeTable) (s : List ℕ) (t : Record) (k : ℕ) → kind_of t.info ≡ k → is_ignored (node_of (type_of b s t)) ≡ ignored_is k
-unfolding is_ignored ignored_is
-ignored_kind b s t k =
-    by_kind
-    (λ k. kind_of t.info ≡ k → is_ignored (node_of (type_of b s t)) ≡ ignored_is k)
-    (λ e. ap (λ (y : BtfType). is_ignored (node_of y)) (type_0 b s t e))
-    (λ e. ap (λ (y : BtfType). is_ignored (node_of y)) (type_1 b s t e))
-    (λ e. ap (λ (y : BtfType). is_ignored (node_of y)) (type_2 b s t e))
-    (λ e. ap (λ (y : BtfType). is_ignored (node_of y)) (type_3 b s t e))
-    (λ e. ap (λ (y : BtfType). is_ignored (node_of y)) (type_4 b s t e))
-    (λ e. ap (λ (y : BtfType). is_ignored (node_of y)) (type_5 b s t e))
-    (λ e. ap (λ (y : BtfType). is_ignored (node_of y)) (type_6 b s t e))
-    (λ e. ap (λ (y : BtfType). is_ignored (node_of y)) (type_7 b s t e))
-    (λ e. ap (λ (y : BtfType). is_ignored (node_of y)) (type_8 b s t e))
-    (λ e. ap (λ (y : BtfType). is_ignored (node_of y)) (type_9 b s t e))
-    (λ e. ap (λ (y : BtfType). is_ignored (node_of y)) (type_10 b s t e))
-    (λ e. ap (λ (y : BtfType). is_ignored (node_of y)) (type_11 b s t e))
-    (λ e. ap (λ (y : BtfType). is_ignored (node_of y)) (type_12 b s t e))
-    (λ e. ap (λ (y : BtfType). is_ignored (node_of y)) (type_13 b s t e))
-    (λ e. ap (λ (y : BtfType). is_ignored (node_of y)) (type_14 b s t e))
-    (λ e. ap (λ (y : BtfType). is_ignored (node_of y)) (type_15 b s t e))
-    (λ e. ap (λ (y : BtfType). is_ignored (node_of y)) (type_16 b s t e))
-    (λ e. ap (λ (y : BtfType). is_ignored (node_of y)) (type_17 b s t e))
-    (λ e. ap (λ (y : BtfType). is_ignored (node_of y)) (type_18 b s t e))
-    (λ e. ap (λ (y : BtfType). is_ignored (node_of y)) (type_19 b s t e))
-    (λ j l e. ap (λ (y : BtfType). is_ignored (node_of y)) (type_none b s t (subst (λ (i : ℕ). 20 ≤ i) (sym e) l)) ∙ sym (none j (λ q. omega arith) (λ q. omega arith) (λ q. omega arith) (λ q. omega arith)))
-    k
+  heeds : (y : Kind) → (y ≡ kinds.Func → ⊥) → (y ≡ kinds.Var → ⊥) → (y ≡ kinds.Datasec → ⊥) → (y ≡ kinds.DeclTag → ⊥) → false ≡ is_ignored (node_of (type_as b s t y))
+  unfolding is_ignored
+  heeds kinds.Void n₁ n₂ n₃ n₄ = refl
+  heeds kinds.Int n₁ n₂ n₃ n₄ = refl
+  heeds kinds.Ptr n₁ n₂ n₃ n₄ = refl
+  heeds kinds.Array n₁ n₂ n₃ n₄ = refl
+  heeds kinds.Struct n₁ n₂ n₃ n₄ = refl
+  heeds kinds.Union n₁ n₂ n₃ n₄ = refl
+  heeds kinds.Enum n₁ n₂ n₃ n₄ = refl
+  heeds kinds.Fwd n₁ n₂ n₃ n₄ = refl
+  heeds kinds.Typedef n₁ n₂ n₃ n₄ = refl
+  heeds kinds.Volatile n₁ n₂ n₃ n₄ = refl
+  heeds kinds.Const n₁ n₂ n₃ n₄ = refl
+  heeds kinds.Restrict n₁ n₂ n₃ n₄ = refl
+  heeds kinds.Func n₁ n₂ n₃ n₄ = absurd (n₁ refl)
+  heeds kinds.FuncProto n₁ n₂ n₃ n₄ = refl
+  heeds kinds.Var n₁ n₂ n₃ n₄ = absurd (n₂ refl)
+  heeds kinds.Datasec n₁ n₂ n₃ n₄ = absurd (n₃ refl)
+  heeds kinds.Float n₁ n₂ n₃ n₄ = refl
+  heeds kinds.DeclTag n₁ n₂ n₃ n₄ = absurd (n₄ refl)
+  heeds kinds.TypeTag n₁ n₂ n₃ n₄ = refl
+  heeds kinds.Enum64 n₁ n₂ n₃ n₄ = refl
+  heeds kinds.Unknown n₁ n₂ n₃ n₄ = refl
 
 module _ (b : TypeTable) (s : List ℕ) (w : List ℕ) (id st : ℕ) (es : st ≡ get_field w id 1) where
   mark_is : (d : Mark) → mark_of st ≡ d → is_idle d ((table_in b s w).node id) ≡ is_idle (mark_of (get_field w id 1)) ((table_in b s w).node id)
@@ -261,27 +260,16 @@ module _ (b : TypeTable) (s : List ℕ) (w : List ℕ) (id st : ℕ) (es : st �
   unfolding is_idle
   idle_busy e = mark_is busy (is_busy st e)
 
-  module _ (n2 : st ≡ 2 → ⊥) (n1 : st ≡ 1 → ⊥) (t : Record) (et : t ≡ record_by_id b s w id) (k : ℕ) (ek : k ≡ kind_of t.info) where
-    kind_is : ignored_is k ≡ is_idle (mark_of (get_field w id 1)) ((table_in b s w).node id)
+  module _ (n2 : st ≡ 2 → ⊥) (n1 : st ≡ 1 → ⊥) (t : Record) (et : t ≡ record_by_id b s w id) (k : Kind) (ek : k ≡ kind_named (kind_of t.info)) where
+    kind_is : is_ignored (node_of (type_as b s t k)) ≡ is_idle (mark_of (get_field w id 1)) ((table_in b s w).node id)
     unfolding is_idle
-    kind_is = sym (ignored_kind b s t k (sym ek)) ∙ ap is_ignored (sym (node_at b s w id t et)) ∙ mark_is new (is_new st n2 n1)
+    kind_is = ap (λ (y : BtfType). is_ignored (node_of y)) (sym (type_is b s t k ek k refl)) ∙ ap is_ignored (sym (node_at b s w id t et)) ∙ mark_is new (is_new st n2 n1)
 
-    pub idle_12_17 : (k ≡ 12) ⊎ (k ≡ 17) → true ≡ is_idle (mark_of (get_field w id 1)) ((table_in b s w).node id)
-    unfolding ignored_is
-    idle_12_17 (inl e) = ap ignored_is (sym e) ∙ kind_is
-    idle_12_17 (inr e) = ap ignored_is (sym e) ∙ kind_is
+    pub idle_yes : (k ≡ kinds.Func) ⊎ ((k ≡ kinds.Var) ⊎ ((k ≡ kinds.Datasec) ⊎ (k ≡ kinds.DeclTag))) → true ≡ is_idle (mark_of (get_field w id 1)) ((table_in b s w).node id)
+    idle_yes g = ignores b s t k g ∙ kind_is
 
-    pub idle_14_15 : 14 ≤ k → k < 16 → true ≡ is_idle (mark_of (get_field w id 1)) ((table_in b s w).node id)
-    unfolding ignored_is
-    idle_14_15 l h = go (k - 14) refl
-      where
-        go : (d : ℕ) → k - 14 ≡ d → true ≡ is_idle (mark_of (get_field w id 1)) ((table_in b s w).node id)
-        go zero e = let q : 14 ≡ k = omega arith in ap ignored_is q ∙ kind_is
-        go (suc zero) e = let q : 15 ≡ k = omega arith in ap ignored_is q ∙ kind_is
-        go (suc (suc d)) e = absurd (omega arith)
-
-    pub idle_no : (k ≡ 12 → ⊥) → (k ≡ 14 → ⊥) → (k ≡ 15 → ⊥) → (k ≡ 17 → ⊥) → false ≡ is_idle (mark_of (get_field w id 1)) ((table_in b s w).node id)
-    idle_no p q r u = sym (none k p q r u) ∙ kind_is
+    pub idle_no : (k ≡ kinds.Func → ⊥) → (k ≡ kinds.Var → ⊥) → (k ≡ kinds.Datasec → ⊥) → (k ≡ kinds.DeclTag → ⊥) → false ≡ is_idle (mark_of (get_field w id 1)) ((table_in b s w).node id)
+    idle_no n₁ n₂ n₃ n₄ = heeds b s t k n₁ n₂ n₃ n₄ ∙ kind_is
 
 -- A request for an idle id leaves the text and the work as they were.
 module _ (b : TypeTable) (B : Rules) (at : ℕ) (tx w : List ℕ) (id : ℕ) where

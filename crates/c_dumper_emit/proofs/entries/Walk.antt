@@ -3,6 +3,7 @@ use Prim.Native.Nat.{ℕ, zero, suc, ◌+◌, ◌-◌, ◌<◌, ◌≤◌}
 use mathlib.Core.Path.{◌≡◌, refl, ap, ◌∙◌, sym, subst}
 use mathlib.Core.List.{List, []}
 use mathlib.Core.Bool.{Bool, true, false, not, ◌&&◌, ◌||◌, true≢false}
+use mathlib.Core.Logic.{◌⊎◌, inl, inr}
 use native.Mathlib.Omega.{arith}
 use lib.Dec.{eqb}
 use lib.ListN.{length}
@@ -18,7 +19,10 @@ use Rattle.spec_type_table.specs.declared.types.BtfType.{BtfType as Record}
 use Rattle.spec_type_table.specs.Cells.{get_field, put_field}
 use Rattle.spec_type_table.specs.Records.{kind_of, record_by_id}
 use Rattle.spec_type_table.specs.Table.{from, members_of, type_of, btf_of, work_naming}
-use Rattle.spec_type_table.proofs.KindLaws.{by_kind, type_0, type_1, type_2, type_3, type_4, type_5, type_6, type_7, type_8, type_9, type_10, type_11, type_12, type_13, type_14, type_15, type_16, type_17, type_18, type_19, type_none}
+use Rattle.spec_type_table.specs.declared.kind.Kind.{Kind}
+use Rattle.spec_type_table.specs.declared.kind.Kind.TheVariants as kinds
+use Rattle.spec_type_table.specs.Kinds.{kind_named}
+use Rattle.spec_type_table.proofs.KindTypes.{type_as, type_is}
 use Rattle.c_dumper_dependency_order.specs.order_state.Work.{mark_of}
 use Rattle.c_dumper_dependency_order.proofs.order_state.Laws.{is_done_lem, is_busy, is_new, type_at, node_at, named_at}
 use Rattle.spec_session.specs.emission.Sheet.{Sheet, line_in, work_machine}
@@ -84,33 +88,30 @@ module _ (b : TypeTable) (B : Rules) (lent : Lent) (why : ℕ → Entry) (cont :
       ap (λ (y : BtfType). obind (line (up_to lent.room) (lent.lists && shown_of y) e (λ k. line_in (forward_once (work_asks b.types B) (work_naming b) B id y) k) m) (λ m'. wrote (with_n m' (put_field m'.mach.work id 3 1)))) q
       ∙ ap (λ (z : Entry). obind (line (up_to lent.room) (lent.lists && shows_in B id) z (λ k. line_in (forward_once (work_asks b.types B) (work_naming b) B id (B.type_by_id id)) k) m) (λ m'. wrote (with_n m' (put_field m'.mach.work id 3 1)))) ee
 
-again_kind : (b : TypeTable) (s : List ℕ) (B : Rules) (lent : Lent) (why : ℕ → Entry) (m : Noted Sheet) (id cont : ℕ) (t : Record) (k : ℕ) → kind_of t.info ≡ k → (k ≡ 4 → ⊥) → (k ≡ 5 → ⊥) → (k ≡ 8 → ⊥) → again (mach_n b B lent why cont) (table_of B) m id cont (node_of (type_of b s t)) ≡ wrote m
-unfolding again
-again_kind b s B lent why m id cont t k =
-    by_kind
-    (λ k. kind_of t.info ≡ k → (k ≡ 4 → ⊥) → (k ≡ 5 → ⊥) → (k ≡ 8 → ⊥) → again (mach_n b B lent why cont) (table_of B) m id cont (node_of (type_of b s t)) ≡ wrote m)
-    (λ e p4 p5 p8. ap (λ (y : BtfType). again (mach_n b B lent why cont) (table_of B) m id cont (node_of y)) (type_0 b s t e))
-    (λ e p4 p5 p8. ap (λ (y : BtfType). again (mach_n b B lent why cont) (table_of B) m id cont (node_of y)) (type_1 b s t e))
-    (λ e p4 p5 p8. ap (λ (y : BtfType). again (mach_n b B lent why cont) (table_of B) m id cont (node_of y)) (type_2 b s t e))
-    (λ e p4 p5 p8. ap (λ (y : BtfType). again (mach_n b B lent why cont) (table_of B) m id cont (node_of y)) (type_3 b s t e))
-    (λ e p4 p5 p8. absurd (p4 refl))
-    (λ e p4 p5 p8. absurd (p5 refl))
-    (λ e p4 p5 p8. ap (λ (y : BtfType). again (mach_n b B lent why cont) (table_of B) m id cont (node_of y)) (type_6 b s t e))
-    (λ e p4 p5 p8. ap (λ (y : BtfType). again (mach_n b B lent why cont) (table_of B) m id cont (node_of y)) (type_7 b s t e))
-    (λ e p4 p5 p8. absurd (p8 refl))
-    (λ e p4 p5 p8. ap (λ (y : BtfType). again (mach_n b B lent why cont) (table_of B) m id cont (node_of y)) (type_9 b s t e))
-    (λ e p4 p5 p8. ap (λ (y : BtfType). again (mach_n b B lent why cont) (table_of B) m id cont (node_of y)) (type_10 b s t e))
-    (λ e p4 p5 p8. ap (λ (y : BtfType). again (mach_n b B lent why cont) (table_of B) m id cont (node_of y)) (type_11 b s t e))
-    (λ e p4 p5 p8. ap (λ (y : BtfType). again (mach_n b B lent why cont) (table_of B) m id cont (node_of y)) (type_12 b s t e))
-    (λ e p4 p5 p8. ap (λ (y : BtfType). again (mach_n b B lent why cont) (table_of B) m id cont (node_of y)) (type_13 b s t e))
-    (λ e p4 p5 p8. ap (λ (y : BtfType). again (mach_n b B lent why cont) (table_of B) m id cont (node_of y)) (type_14 b s t e))
-    (λ e p4 p5 p8. ap (λ (y : BtfType). again (mach_n b B lent why cont) (table_of B) m id cont (node_of y)) (type_15 b s t e))
-    (λ e p4 p5 p8. ap (λ (y : BtfType). again (mach_n b B lent why cont) (table_of B) m id cont (node_of y)) (type_16 b s t e))
-    (λ e p4 p5 p8. ap (λ (y : BtfType). again (mach_n b B lent why cont) (table_of B) m id cont (node_of y)) (type_17 b s t e))
-    (λ e p4 p5 p8. ap (λ (y : BtfType). again (mach_n b B lent why cont) (table_of B) m id cont (node_of y)) (type_18 b s t e))
-    (λ e p4 p5 p8. ap (λ (y : BtfType). again (mach_n b B lent why cont) (table_of B) m id cont (node_of y)) (type_19 b s t e))
-    (λ j l e p4 p5 p8. ap (λ (y : BtfType). again (mach_n b B lent why cont) (table_of B) m id cont (node_of y)) (type_none b s t (subst (λ (i : ℕ). 20 ≤ i) (sym e) l)))
-    k
+module _ (b : TypeTable) (s : List ℕ) (B : Rules) (lent : Lent) (why : ℕ → Entry) (m : Noted Sheet) (id cont : ℕ) (t : Record) where
+  again_kind : (y : Kind) → (y ≡ kinds.Struct → ⊥) → (y ≡ kinds.Union → ⊥) → (y ≡ kinds.Typedef → ⊥) → again (mach_n b B lent why cont) (table_of B) m id cont (node_of (type_as b s t y)) ≡ wrote m
+  unfolding again
+  again_kind kinds.Void n₁ n₂ n₃ = refl
+  again_kind kinds.Int n₁ n₂ n₃ = refl
+  again_kind kinds.Ptr n₁ n₂ n₃ = refl
+  again_kind kinds.Array n₁ n₂ n₃ = refl
+  again_kind kinds.Struct n₁ n₂ n₃ = absurd (n₁ refl)
+  again_kind kinds.Union n₁ n₂ n₃ = absurd (n₂ refl)
+  again_kind kinds.Enum n₁ n₂ n₃ = refl
+  again_kind kinds.Fwd n₁ n₂ n₃ = refl
+  again_kind kinds.Typedef n₁ n₂ n₃ = absurd (n₃ refl)
+  again_kind kinds.Volatile n₁ n₂ n₃ = refl
+  again_kind kinds.Const n₁ n₂ n₃ = refl
+  again_kind kinds.Restrict n₁ n₂ n₃ = refl
+  again_kind kinds.Func n₁ n₂ n₃ = refl
+  again_kind kinds.FuncProto n₁ n₂ n₃ = refl
+  again_kind kinds.Var n₁ n₂ n₃ = refl
+  again_kind kinds.Datasec n₁ n₂ n₃ = refl
+  again_kind kinds.Float n₁ n₂ n₃ = refl
+  again_kind kinds.DeclTag n₁ n₂ n₃ = refl
+  again_kind kinds.TypeTag n₁ n₂ n₃ = refl
+  again_kind kinds.Enum64 n₁ n₂ n₃ = refl
+  again_kind kinds.Unknown n₁ n₂ n₃ = refl
 
 module _ (b : TypeTable) (s : List ℕ) (lent : Lent) (why : ℕ → Entry) (n : ℕ) (p : Pen) (tx w li : List ℕ) (id cont : ℕ) where
   abbrev B : Rules
@@ -140,27 +141,30 @@ module _ (b : TypeTable) (s : List ℕ) (lent : Lent) (why : ℕ → Entry) (n :
     again_had h = same_sheet n p tx w li (λ m. again_n b B lent why cont m id) (again_quiet (paper n p tx w li) ((table_of B).node id) (fwd_is ∙ h))
 
     module _ (hf : had ≡ false) (t : Record) (et : t ≡ record_by_id b s w id) where
-      comp_at : (k : ℕ) → k ≡ kind_of t.info → 4 ≤ k → k < 6 → again (mach_n b B lent why cont) (table_of B) (paper n p tx w li) id cont ((table_of B).node id) ≡ mention (mach_n b B lent why cont) (table_of B) (eqb id cont) ((table_of B).named id) id (paper n p tx w li)
+      kind_node : (k : Kind) → k ≡ kind_named (kind_of t.info) → (y : Kind) → k ≡ y → again (mach_n b B lent why cont) (table_of B) (paper n p tx w li) id cont ((table_of B).node id) ≡ again (mach_n b B lent why cont) (table_of B) (paper n p tx w li) id cont (node_of (type_as b s t y))
+      kind_node k ek y e = ap (again (mach_n b B lent why cont) (table_of B) (paper n p tx w li) id cont) (node_at b s w id t et)
+          ∙ ap (λ (z : BtfType). again (mach_n b B lent why cont) (table_of B) (paper n p tx w li) id cont (node_of z)) (type_is b s t k ek y e)
+
+      comp_at : (k : Kind) → k ≡ kind_named (kind_of t.info) → (k ≡ kinds.Struct) ⊎ (k ≡ kinds.Union) → again (mach_n b B lent why cont) (table_of B) (paper n p tx w li) id cont ((table_of B).node id) ≡ mention (mach_n b B lent why cont) (table_of B) (eqb id cont) ((table_of B).named id) id (paper n p tx w li)
       unfolding again
-      comp_at k ek l h = ap (again (mach_n b B lent why cont) (table_of B) (paper n p tx w li) id cont) (node_at b s w id t et) ∙ go (k - 4) refl
+      comp_at k ek g = go g
         where
           last : (ms : List ℕ) → again (mach_n b B lent why cont) (table_of B) (paper n p tx w li) id cont (comp ms) ≡ mention (mach_n b B lent why cont) (table_of B) (eqb id cont) ((table_of B).named id) id (paper n p tx w li)
           last ms = ap (λ (f : Bool). mention (mach_n b B lent why cont) (table_of B) (f || eqb id cont) ((table_of B).named id) id (paper n p tx w li)) (fwd_is ∙ hf)
 
-          go : (d : ℕ) → k - 4 ≡ d → again (mach_n b B lent why cont) (table_of B) (paper n p tx w li) id cont (node_of (type_of b s t)) ≡ mention (mach_n b B lent why cont) (table_of B) (eqb id cont) ((table_of B).named id) id (paper n p tx w li)
-          go zero e = let q : k ≡ 4 = omega arith in ap (λ (y : BtfType). again (mach_n b B lent why cont) (table_of B) (paper n p tx w li) id cont (node_of y)) (type_4 b s t (sym ek ∙ q)) ∙ last (member_types (members_of b s t))
-          go (suc zero) e = let q : k ≡ 5 = omega arith in ap (λ (y : BtfType). again (mach_n b B lent why cont) (table_of B) (paper n p tx w li) id cont (node_of y)) (type_5 b s t (sym ek ∙ q)) ∙ last (member_types (members_of b s t))
-          go (suc (suc d)) e = absurd (omega arith)
+          go : (k ≡ kinds.Struct) ⊎ (k ≡ kinds.Union) → again (mach_n b B lent why cont) (table_of B) (paper n p tx w li) id cont ((table_of B).node id) ≡ mention (mach_n b B lent why cont) (table_of B) (eqb id cont) ((table_of B).named id) id (paper n p tx w li)
+          go (inl e) = kind_node k ek kinds.Struct e ∙ last (member_types (members_of b s t))
+          go (inr e) = kind_node k ek kinds.Union e ∙ last (member_types (members_of b s t))
 
-      module _ (k : ℕ) (ek : k ≡ kind_of t.info) where
-        pub again_self : 4 ≤ k → k < 6 → id ≡ cont → Again (noted_out n p tx w li)
+      module _ (k : Kind) (ek : k ≡ kind_named (kind_of t.info)) where
+        pub again_self : (k ≡ kinds.Struct) ⊎ (k ≡ kinds.Union) → id ≡ cont → Again (noted_out n p tx w li)
         unfolding again_n mention
-        again_self l h e = same_sheet n p tx w li (λ m. again_n b B lent why cont m id) (comp_at k ek l h ∙ ap (λ (f : Bool). mention (mach_n b B lent why cont) (table_of B) f ((table_of B).named id) id (paper n p tx w li)) (eq-eqb id cont e))
+        again_self g e = same_sheet n p tx w li (λ m. again_n b B lent why cont m id) (comp_at k ek g ∙ ap (λ (f : Bool). mention (mach_n b B lent why cont) (table_of B) f ((table_of B).named id) id (paper n p tx w li)) (eq-eqb id cont e))
 
-        module _ (l : 4 ≤ k) (h : k < 6) (ne : id ≡ cont → ⊥) (nm : Bool) (en : nm ≡ is_named (type_of b s t)) where
+        module _ (g : (k ≡ kinds.Struct) ⊎ (k ≡ kinds.Union)) (ne : id ≡ cont → ⊥) (nm : Bool) (en : nm ≡ is_named (type_of b s t)) where
           named_is : (f : Bool) → nm ≡ f → again (mach_n b B lent why cont) (table_of B) (paper n p tx w li) id cont ((table_of B).node id) ≡ mention (mach_n b B lent why cont) (table_of B) false f id (paper n p tx w li)
-          named_is f e = comp_at k ek l h ∙ ap (λ (g : Bool). mention (mach_n b B lent why cont) (table_of B) g ((table_of B).named id) id (paper n p tx w li)) (ne_eqb id cont ne)
-              ∙ ap (λ (g : Bool). mention (mach_n b B lent why cont) (table_of B) false g id (paper n p tx w li)) (named_at b s w id t et ∙ sym en ∙ e)
+          named_is f e = comp_at k ek g ∙ ap (λ (f : Bool). mention (mach_n b B lent why cont) (table_of B) f ((table_of B).named id) id (paper n p tx w li)) (ne_eqb id cont ne)
+              ∙ ap (λ (f : Bool). mention (mach_n b B lent why cont) (table_of B) false f id (paper n p tx w li)) (named_at b s w id t et ∙ sym en ∙ e)
 
           pub again_nameless : nm ≡ false → (r : Pen) → put_out r.at tx ≡ put_text tx p.at (cut [] 13) → Again (noted_out n r tx w li)
           unfolding again_n mention
@@ -172,15 +176,15 @@ module _ (b : TypeTable) (s : List ℕ) (lent : Lent) (why : ℕ → Entry) (n :
               (λ _. once_fwd b B lent why cont (type_of b s t) (paper n p tx w li) id ((mach_n b B lent why cont).has_fwd (paper n p tx w li) id) (sym (type_at b s w id t et))
               ∙ ap (λ (f : Bool). once (mach_n b B lent why cont) (table_of B) (mach_n b B lent why cont).fwd_line id f (paper n p tx w li)) (fwd_is ∙ hf) ∙ sym (named_is true e))
 
-        pub again_typedef : k ≡ 8 → (e : Entry) → e ≡ cause_at 3 (why id) id cont → (x : Out (Noted Sheet)) → x ≡ obind (noted_out n p tx w li) (λ m. once_n b B lent (type_of b s t) e (has_n b B lent m id) m id) → Again x
+        pub again_typedef : k ≡ kinds.Typedef → (e : Entry) → e ≡ cause_at 3 (why id) id cont → (x : Out (Noted Sheet)) → x ≡ obind (noted_out n p tx w li) (λ m. once_n b B lent (type_of b s t) e (has_n b B lent m id) m id) → Again x
         unfolding again_n again has_n
         again_typedef k8 e ee x ex = ex ∙ at_sheet n p tx w li (λ m. once_n b B lent (type_of b s t) e (has_n b B lent m id) m id) (λ m. again_n b B lent why cont m id)
             (λ _. once_alias b B lent why cont (type_of b s t) e (paper n p tx w li) id ee ((mach_n b B lent why cont).has_fwd (paper n p tx w li) id) (sym (type_at b s w id t et))
-            ∙ sym (ap (again (mach_n b B lent why cont) (table_of B) (paper n p tx w li) id cont) (node_at b s w id t et) ∙ ap (λ (y : BtfType). again (mach_n b B lent why cont) (table_of B) (paper n p tx w li) id cont (node_of y)) (type_8 b s t (sym ek ∙ k8))))
+            ∙ sym (kind_node k ek kinds.Typedef k8))
 
-        pub again_other : (k ≡ 4 → ⊥) → (k ≡ 5 → ⊥) → (k ≡ 8 → ⊥) → Again (noted_out n p tx w li)
+        pub again_other : (k ≡ kinds.Struct → ⊥) → (k ≡ kinds.Union → ⊥) → (k ≡ kinds.Typedef → ⊥) → Again (noted_out n p tx w li)
         unfolding again_n
-        again_other p4 p5 p8 = same_sheet n p tx w li (λ m. again_n b B lent why cont m id) (ap (again (mach_n b B lent why cont) (table_of B) (paper n p tx w li) id cont) (node_at b s w id t et) ∙ again_kind b s B lent why (paper n p tx w li) id cont t k (sym ek) p4 p5 p8)
+        again_other n₁ n₂ n₃ = same_sheet n p tx w li (λ m. again_n b B lent why cont m id) (kind_node k ek k refl ∙ again_kind b s B lent why (paper n p tx w li) id cont t k n₁ n₂ n₃)
 
 -- ---- is_done
 pub done_is : (left state state' : ℕ) → state ≡ state' → (not (eqb left 0) && eqb state 2) ≡ (not (eqb left 0) && eqb state' 2)
