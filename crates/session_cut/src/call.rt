@@ -4,18 +4,20 @@ ghost use Rattle.spec_bytes.specs.words.Words.{words};
 ghost use Rattle.spec_opening.specs.Table.{empty_index};
 ghost use Rattle.spec_opening.specs.Causes.{cause2, cause3, cause4, first_of};
 ghost use Rattle.session_cut_marks.specs.marks.Marks.{all_zero, ids_of};
-ghost use Rattle.session_cut.specs.writer.Bytes.{kept_written};
+ghost use Rattle.session_cut.specs.writer.Bytes.{wrote_of, kept_written};
 ghost use Rattle.spec_cut.specs.section.Section.{any_past};
 ghost use Rattle.session_cut.specs.call.Calls.{cut_of, cut_call};
-ghost use Rattle.session_cut.specs.call.Code.{checked_out, checked_of, answered};
+ghost use Rattle.session_cut.specs.call.Code.{checked_out, checked_of, answer_to};
 
 use crate::writer::write_kept;
+use base_bytes::limit;
 use base_bytes::word::get_word;
-use base_bytes::{limit, refusal};
 use btf_open_causes::header::btf_of;
 use btf_open_causes::references::has_bad_reference;
 use btf_open_causes::strings::{has_bad_header, has_bad_strings};
+use session_cut_marks::kept::Kept;
 use session_cut_marks::marks::number_kept;
+use spec_bytes::refusal::Refusal;
 use spec_session::session::{Answer, Session};
 use spec_type_table::TypeTable;
 
@@ -43,69 +45,76 @@ fn is_sound(section: &[u8]) -> bool
     !has_bad_strings(section)
 }
 
-// The count of types, void counted, and in `start` the index of the records; 0 where a cause 2 to 6 holds.
-fn check(section: &[u8], pointer_size: u32, start: &mut [u32]) -> u32
+// The count of types, void counted, and in `start` the index of the records; none where a cause 2 to 6 holds.
+fn check(section: &[u8], pointer_size: u32, start: &mut [u32]) -> Option<u32>
     requires { start.old ≡ empty_index }
     ensures { checked_out result start.new ≡ checked_of pointer_size section.now }
 {
     if !is_sound(section) {
-        return 0;
+        return None;
     }
     let r = btf_open_causes::records::scan(btf_of(section, pointer_size, 0, 0), section, start);
     if !r.is_sound {
-        return 0;
+        return None;
     }
     if has_bad_reference(btf_of(section, pointer_size, 0, r.types), section, start) {
-        return 0;
+        return None;
     }
-    r.types
+    Some(r.types)
 }
 
 // Whether a given id is not below the count.
 fn is_past(given: &[u8], count: u32) -> bool
     ensures { result ≡ any_past count (words given.now) }
 {
-    let n = given.len() / 4;
-    let mut k: usize = 0;
-    while k < n {
-        if count <= get_word(given, k) {
-            return true;
-        }
-        k += 1;
-    }
-    false
+    (0..given.len() / 4).any(|k| count <= get_word(given, k))
 }
 
-// The new section, of a table and its index.
-fn write_cut(b: TypeTable, section: &[u8], start: &[u32], given: &[u8], out: &mut [u8]) -> Answer
-    ensures { cut_of result out.new
-        ≡ answered (kept_written b section.now start.now
-        (ids_of b section.now start.now given.now all_zero) out.old) }
+// The new section, of a table and its index: its length.
+fn write_cut(
+    b: TypeTable,
+    section: &[u8],
+    start: &[u32],
+    given: &[u8],
+    out: &mut [u8],
+) -> Option<u32>
+    ensures { wrote_of result out.new
+        ≡ kept_written b section.now start.now
+        (ids_of b section.now start.now given.now all_zero) out.old }
 {
     let mut ids = [0u32; limit::TYPES_LEN];
     number_kept(b, section, start, given, &mut ids);
-    let len = write_kept(b, section, start, &ids, out);
-    if len == 0 {
-        return Answer::Refused(refusal::OUTPUT_SHORT, 0);
+    let kept = Kept {
+        b,
+        section,
+        start,
+        ids: &ids,
+    };
+    write_kept(&kept, out)
+}
+
+// The same as the call, with the refusal itself.
+fn cut_section(s: Session, section: &[u8], given: &[u8], out: &mut [u8]) -> Result<u32, Refusal>
+    ensures { cut_of (answer_to result) out.new ≡ cut_call s section.now given.now out.old }
+{
+    if !is_open(s, section.len()) {
+        return Err(Refusal::SessionClosed);
     }
-    Answer::Accepted(len as u32)
+    let mut start = [0u32; limit::TYPES_LEN];
+    let n = check(section, s.pointer_size, &mut start).ok_or(Refusal::SessionClosed)?;
+    if is_past(given, n) {
+        return Err(Refusal::NoSuchId);
+    }
+    let b = btf_of(section, s.pointer_size, 0, n);
+    write_cut(b, section, &start, given, out).ok_or(Refusal::OutputShort)
 }
 
 // Writes the section that holds what is reachable from the given ids, four bytes each, least significant first: its length.
 pub fn cut(s: Session, section: &[u8], given: &[u8], out: &mut [u8]) -> Answer
     ensures { cut_of result out.new ≡ cut_call s section.now given.now out.old }
 {
-    if !is_open(s, section.len()) {
-        return Answer::Refused(refusal::SESSION_CLOSED, 0);
+    match cut_section(s, section, given, out) {
+        Ok(len) => Answer::Accepted(len),
+        Err(refusal) => Answer::Refused(u32::from(refusal), 0),
     }
-    let mut start = [0u32; limit::TYPES_LEN];
-    let n = check(section, s.pointer_size, &mut start);
-    if n == 0 {
-        return Answer::Refused(refusal::SESSION_CLOSED, 0);
-    }
-    if is_past(given, n) {
-        return Answer::Refused(refusal::NO_SUCH_ID, 0);
-    }
-    let b = btf_of(section, s.pointer_size, 0, n);
-    write_cut(b, section, &start, given, out)
 }

@@ -1,6 +1,7 @@
 // A section cut down to what is used.
 mod area;
 mod names;
+mod source;
 mod write;
 
 pub use crate::writer::write::write_kept;

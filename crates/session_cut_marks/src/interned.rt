@@ -2,7 +2,6 @@
 mod fill;
 mod slots;
 
-pub use crate::interned::fill::fill_table;
 pub use crate::interned::slots::find;
 
 // Slots of the table; SLOTS says of a place that it is none.

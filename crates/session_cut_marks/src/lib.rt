@@ -2,7 +2,9 @@
 #![tactic(auto)]
 
 pub mod interned;
+pub mod kept;
 pub mod marks;
 pub mod mentioned;
+pub mod peek;
 pub mod roles;
 pub mod tags;

@@ -5,7 +5,8 @@ ghost use Rattle.spec_bytes.specs.words.Words.{get_word};
 ghost use Rattle.btf_open_causes.specs.references.Followed.{followed_count, followed_id};
 ghost use Rattle.session_cut_marks.specs.marks.Marks.{heap, pushed, pushed_to, weight, closed, ids_of};
 
-use crate::tags::{mark_tags, number, peek};
+use crate::peek::peek;
+use crate::tags::{mark_tags, number};
 use base_bytes::limit;
 use base_bytes::word::get_word;
 use btf_open_causes::references::{count_at, entry, id_at};
@@ -51,12 +52,9 @@ fn push_followed(
     let e = entry(b, start, x);
     let kind = e % 32;
     let at = e / 32;
-    let n = count_at(b, section, kind, at);
     let mut top = d;
-    let mut k: u32 = 0;
-    while k < n {
+    for k in 0..count_at(b, section, kind, at) {
         top = push(marks, stack, top, id_at(b, section, kind, at, k));
-        k += 1;
     }
     top
 }
@@ -75,8 +73,9 @@ fn close(
         (heap marks.old stack.old d) }
 {
     let mut top = d;
+    // A `while`: the stack falls and grows, so no range says the turns.
     while top > 0 {
-        let x = peek(stack, top - 1);
+        let x = peek(stack, top - 1, 0);
         top = push_followed(b, section, start, marks, stack, top - 1, x);
     }
 }
@@ -86,12 +85,9 @@ fn push_given(given: &[u8], marks: &mut [u32], stack: &mut [u32]) -> usize
     ensures { heap marks.new stack.new result
         ≡ pushed_to (get_word given.now) (heap marks.old stack.old 0) (length given.now / 4) }
 {
-    let n = given.len() / 4;
-    let mut top: usize = 0;
-    let mut k: usize = 0;
-    while k < n {
+    let mut top = 0;
+    for k in 0..given.len() / 4 {
         top = push(marks, stack, top, get_word(given, k));
-        k += 1;
     }
     top
 }

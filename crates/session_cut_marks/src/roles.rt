@@ -1,7 +1,8 @@
 // The words of a record. The tables are texts of digits, one for each kind 0 to 19.
 ghost use Rattle.std.specs.Prelude.{◌≡◌};
-ghost use Rattle.session_cut_marks.specs.roles.Words.{digit_at, fixed_words, entry_words, column, role, words_in, word_of};
+ghost use Rattle.session_cut_marks.specs.roles.Words.{digit_at, fixed_words, entry_words, column, role, role_of, words_in, word_of};
 
+use crate::peek::peek;
 use btf_type_table::kind::vlen_of;
 use btf_type_table::section_word::word;
 use spec_type_table::TypeTable;
@@ -9,14 +10,7 @@ use spec_type_table::TypeTable;
 fn digit(l: &[u8], i: usize) -> u8
     ensures { result ≡ digit_at l.now i }
 {
-    if l.len() <= i {
-        return 0;
-    }
-    let d = l[i];
-    if d < 48 {
-        return 0;
-    }
-    d - 48
+    peek(l, i, b'0').saturating_sub(b'0')
 }
 
 fn fixed_words(kind: u32) -> u8
@@ -46,15 +40,28 @@ fn column(per: u8, j: u32) -> u32
     3 + (j - 3) % 3
 }
 
-// What word j of a record of a kind is: 1 a name offset, 2 a stored id.
-pub fn role(kind: u32, j: u32) -> u8
-    ensures { result ≡ role kind j }
+// What a word of a record is: the offset of a name, a stored id, or neither.
+#[derive(Clone, Copy)]
+pub enum Role {
+    Name,
+    Id,
+    Plain,
+}
+
+// What word j of a record of a kind is.
+pub fn word_role(kind: u32, j: u32) -> Role
+    ensures { result ≡ role_of (role kind j) }
 {
     let at = (kind as usize) * 6 + (column(entry_words(kind), j) as usize);
-    digit(
+    let d = digit(
         b"000000100000102000100220100120100120100100100000102000102000102000102000102000102120102000100200100000102000102000100100",
         at,
-    )
+    );
+    match d {
+        1 => Role::Name,
+        2 => Role::Id,
+        _ => Role::Plain,
+    }
 }
 
 // How many words the record with entry e has: place * 32 + kind.

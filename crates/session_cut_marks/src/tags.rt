@@ -1,23 +1,14 @@
 // After the marks: the declaration tags of what is marked, then the numbers in old order.
-ghost use Rattle.std.specs.Prelude.{◌≡◌, ◌<◌, get_or};
+ghost use Rattle.std.specs.Prelude.{◌≡◌, ◌<◌};
 ghost use Rattle.btf_open_causes.specs.references.Followed.{type_count};
 ghost use Rattle.session_cut_marks.specs.tags.Tags.{tag_on, tagged_at, tagged_to, numbered, numbered_at, numbers_of};
 
+use crate::peek::peek;
 use base_bytes::limit;
 use btf_open_causes::references::{count, entry, kind_at};
 use btf_type_table::kind;
 use btf_type_table::section_word::word;
 use spec_type_table::TypeTable;
-
-// Word i, and 0 past the end.
-pub fn peek(l: &[u32], i: usize) -> u32
-    ensures { result ≡ get_or l.now i 0 }
-{
-    if i < l.len() {
-        return l[i];
-    }
-    0
-}
 
 // What the DECL_TAG x is on, where that is no DECL_TAG; else 0.
 fn tag_on(b: TypeTable, section: &[u8], start: &[u32], x: u32) -> u32
@@ -43,7 +34,7 @@ fn mark_tag(b: TypeTable, section: &[u8], start: &[u32], marks: &mut [u32], x: u
     if t == 0 {
         return;
     }
-    if peek(marks, t as usize) == 0 {
+    if peek(marks, t as usize, 0) == 0 {
         return;
     }
     let at = x as usize;
@@ -55,11 +46,8 @@ fn mark_tag(b: TypeTable, section: &[u8], start: &[u32], marks: &mut [u32], x: u
 pub fn mark_tags(b: TypeTable, section: &[u8], start: &[u32], marks: &mut [u32])
     ensures { marks.new ≡ tagged_to b section.now start.now marks.old (type_count b) }
 {
-    let n = count(b);
-    let mut x: u32 = 0;
-    while x < n {
+    for x in 0..count(b) {
         mark_tag(b, section, start, marks, x);
-        x += 1;
     }
 }
 
@@ -68,7 +56,7 @@ fn number_one(ids: &mut [u32], x: usize, c: u32) -> u32
     requires { c < 4294967295 }
     ensures { numbered ids.new result ≡ numbered_at (numbered ids.old c) x }
 {
-    if peek(ids, x) == 0 {
+    if peek(ids, x, 0) == 0 {
         return c;
     }
     if ids.len() <= x {
@@ -82,10 +70,8 @@ fn number_one(ids: &mut [u32], x: usize, c: u32) -> u32
 pub fn number(ids: &mut [u32])
     ensures { ids.new ≡ numbers_of ids.old }
 {
-    let mut c: u32 = 0;
-    let mut x: usize = 0;
-    while x < limit::TYPES_LEN {
+    let mut c = 0;
+    for x in 0..limit::TYPES_LEN {
         c = number_one(ids, x, c);
-        x += 1;
     }
 }

@@ -1,7 +1,7 @@
 -- A law for each return. Assumes nothing.
-use Prim.Native.Nat.{ℕ, zero, suc, ◌+◌, ◌-◌, ◌/◌, ◌<◌, ◌≤◌}
+use Prim.Native.Nat.{ℕ, zero, suc, ◌+◌, ◌/◌, ◌<◌, ◌≤◌}
 use native.Mathlib.Omega.{arith}
-use mathlib.Core.Path.{◌≡◌, refl, sym, ◌∙◌, ap, subst}
+use mathlib.Core.Path.{◌≡◌, refl, sym, ◌∙◌, ap}
 use mathlib.Core.Bool.{Bool, true, false, not, ◌&&◌, ◌||◌, true≢false}
 use mathlib.Core.List.{List, [], ◌∷◌, ◌++◌}
 use lib.ListN.{length, drop}
@@ -20,18 +20,20 @@ use Rattle.spec_opening.specs.Table.{types_of, enumerators_of, empty_index, inde
 use Rattle.spec_opening.specs.Causes.{cause2, cause3, cause4, cause5, cause6, table_of, first_of}
 use Rattle.spec_opening.proofs.Order.{NoneHolds, first_none}
 use Rattle.spec_opening.proofs.Opens.{section_is}
-use Rattle.spec_session.specs.declared.session.Answer.{Answer}
-use Rattle.spec_session.specs.declared.session.Answer.TheVariants.{Accepted, Refused}
+use Rattle.spec_session.specs.declared.session.Answer.TheVariants.{Refused}
 use Rattle.spec_session.specs.declared.session.Session.{Session}
 use Rattle.spec_session.specs.session.Answers.{answer_of}
-use Rattle.btf_open_causes.specs.references.Followed.{type_count}
 use Rattle.session_cut_marks.specs.marks.Marks.{all_zero, ids_of}
-use Rattle.session_cut_marks.specs.mentioned.Names.{zero_bases, base_of, bases_to}
-use Rattle.session_cut.specs.writer.Bytes.{Wrote, wrote_of, types_size, all_bytes, fitting_written, kept_written}
-use Rattle.spec_cut.specs.section.Section.{any_past, cut_number, cut_value, cut_output}
-use Rattle.session_cut.proofs.written.Claims.{twenty_three, section_size, kept_written_lem}
+use Rattle.session_cut.specs.writer.Bytes.{wrote_of, kept_written}
+use Rattle.spec_cut.specs.section.Section.{any_past, cut_number, cut_output}
+use Rattle.session_cut.proofs.written.Claims.{twenty_three, cut_length, kept_written_lem}
 use Rattle.session_cut.specs.call.Calls.{cut_of, passes, is_open_on, section_for, cut_by, cut_call}
-use Rattle.session_cut.specs.call.Code.{Checked, unfit, fit, checked_out, checked_of, answered}
+use Rattle.session_cut.specs.call.Code.{Checked, unfit, fit, checked_out, checked_of, answer_to, answered}
+use Rattle.std.specs.Option.{ok_or}
+use Rattle.std.specs.List.{list_any, range_with_len}
+use Rattle.std.proofs.Common.{Option, Some, None, Result, Ok, Err}
+use Rattle.spec_bytes.specs.declared.refusal.Refusal.{Refusal}
+use Rattle.spec_bytes.specs.declared.refusal.Refusal.TheVariants.{OutputShort, SessionClosed}
 
 -- what the pass finds in a section with a sound header, by cause 5
 abbrev passed_by : Bool → List ℕ → Scan
@@ -51,9 +53,6 @@ abbrev index_in : Scan → List ℕ
 index_in unsound = []
 index_in (found t e i) = i
 
-abbrev length_of : Wrote → ℕ
-length_of (wrote_of n o) = n
-
 abbrev is_fit : Checked → Bool
 is_fit unfit = false
 is_fit (fit n start) = true
@@ -66,22 +65,19 @@ abbrev fit_index : Checked → List ℕ
 fit_index unfit = []
 fit_index (fit n start) = start
 
-some : (n : ℕ) → (n ≡ 0 → ⊥) → 1 ≤ n
-some zero h = absurd (h refl)
-some (suc n) h = omega arith
+-- the refusal of the writer
+answered_to : (w : Option ℕ) (out : List ℕ) → cut_of (answer_to (ok_or w OutputShort)) out ≡ answered (wrote_of w out)
+unfolding answer_to answered
+answered_to None out = refl
+answered_to (Some n) out = refl
 
-some_written : (n : ℕ) (o : List ℕ) → (n ≡ 0 → ⊥) → answered (wrote_of n o) ≡ cut_of (Accepted n) o
-unfolding answered
-some_written zero o h = absurd (h refl)
-some_written (suc n) o h = refl
-
-answered_23 : (section out : List ℕ) → answered (wrote_of 0 out) ≡ cut_by 23 section out
+answered_23 : (section out : List ℕ) → answered (wrote_of None out) ≡ cut_by 23 section out
 unfolding answered cut_by answer_of
 answered_23 section out = refl
 
-answered_0 : (section out : List ℕ) → 1 ≤ length section → answered (wrote_of (length section) (section ++ drop (length section) out)) ≡ cut_by 0 section out
-unfolding cut_by answer_of
-answered_0 section out l = some_written (length section) (section ++ drop (length section) out) (λ e. absurd (omega (arith, l, e)))
+answered_0 : (section out : List ℕ) → answered (wrote_of (Some (length section)) (section ++ drop (length section) out)) ≡ cut_by 0 section out
+unfolding answered cut_by answer_of
+answered_0 section out = refl
 
 -- ---- is_open
 
@@ -96,36 +92,24 @@ open_is false q e = absurd (true≢false e)
 -- ---- is_past
 
 module _ (given : List ℕ) (count : ℕ) where
-  -- what is left is the whole
-  abbrev pub Left : ℕ → Type 0
-  Left k = any_past count (table (get_word given) k (length given / 4 - k)) ≡ any_past count (words given)
-
-  pub past_start : Left 0
-  unfolding words
-  past_start = let z : length given / 4 - 0 ≡ length given / 4 = omega arith in ap (λ (n : ℕ). any_past count (table (get_word given) 0 n)) z
-
   past_open : (k n : ℕ) → any_past count (table (get_word given) k (suc n)) ≡ (not (ltb (get_word given k) count) || any_past count (table (get_word given) (suc k) n))
   unfolding any_past
   past_open k n = refl
-
-  past_at : (k : ℕ) → k < length given / 4 → any_past count (table (get_word given) k (length given / 4 - k)) ≡ (not (ltb (get_word given k) count) || any_past count (table (get_word given) (suc k) (length given / 4 - suc k)))
-  past_at k l = let z : length given / 4 - k ≡ suc (length given / 4 - suc k) = omega (arith, l) in ap (λ (n : ℕ). any_past count (table (get_word given) k n)) z ∙ past_open k (length given / 4 - suc k)
-
-  pub past_yes : (k v : ℕ) → k < length given / 4 → Left k → v ≡ get_word given k → count ≤ v → true ≡ any_past count (words given)
-  past_yes k v l h e c =
-      sym (ap (λ (q : Bool). not q || any_past count (table (get_word given) (suc k) (length given / 4 - suc k))) (le-ltb (get_word given k) count (omega (arith, e, c)))) ∙ sym (past_at k l) ∙ h
-
-  pub past_next : (k v : ℕ) → k < length given / 4 → Left k → v ≡ get_word given k → v < count → Left (k + 1)
-  past_next k v l h e c =
-      let z : suc k ≡ k + 1 = omega arith in
-      subst Left z (sym (past_at k l ∙ ap (λ (q : Bool). not q || any_past count (table (get_word given) (suc k) (length given / 4 - suc k))) (lt-ltb (get_word given k) count (omega (arith, e, c)))) ∙ h)
 
   past_none : (k : ℕ) → any_past count (table (get_word given) k 0) ≡ false
   unfolding any_past
   past_none k = refl
 
-  pub past_end : (k : ℕ) → length given / 4 ≤ k → Left k → false ≡ any_past count (words given)
-  past_end k l h = let z : length given / 4 - k ≡ 0 = omega (arith, l) in sym (ap (λ (n : ℕ). any_past count (table (get_word given) k n)) z ∙ past_none k) ∙ h
+  past_from : (k n : ℕ) → list_any (λ (i : ℕ). not (ltb (get_word given i) count)) (range_with_len k n) ≡ any_past count (table (get_word given) k n)
+  past_from k zero = sym (past_none k)
+  past_from k (suc n) =
+      let z : k + 1 ≡ suc k = omega arith in
+      ap (λ (q : Bool). not (ltb (get_word given k) count) || q) (ap (λ (i : ℕ). list_any (λ (a : ℕ). not (ltb (get_word given a) count)) (range_with_len i n)) z ∙ past_from (suc k) n)
+      ∙ sym (past_open k n)
+
+  pub past_is : list_any (λ (i : ℕ). not (ltb (get_word given i) count)) (range_with_len 0 (length given / 4)) ≡ any_past count (words given)
+  unfolding words
+  past_is = past_from 0 (length given / 4)
 
 -- ---- is_sound
 
@@ -177,20 +161,19 @@ module _ (p : ℕ) (s : List ℕ) where
   unfolding passes
   five = five_hold (cause2 s) (cause3 s) (cause4 s) (cause5 s) (cause6 p s)
 
-  unfit_out : (start : List ℕ) → checked_out 0 start ≡ unfit
+  unfit_out : (start : List ℕ) → checked_out None start ≡ unfit
   unfolding checked_out
   unfit_out start = refl
 
-  fit_out : (n : ℕ) (start : List ℕ) → 1 ≤ n → checked_out n start ≡ fit n start
+  fit_out : (n : ℕ) (start : List ℕ) → checked_out (Some n) start ≡ fit n start
   unfolding checked_out
-  fit_out zero start l = absurd (omega (arith, l))
-  fit_out (suc n) start l = refl
+  fit_out n start = refl
 
   module _ (q : Bool) (eq : q ≡ eqb (first_of (cause2 s ∷ cause3 s ∷ cause4 s ∷ [])) 0) where
     three : q ≡ not (cause2 s || (cause3 s || cause4 s))
     three = eq ∙ three_hold (cause2 s) (cause3 s) (cause4 s)
 
-    pub check_early : (start : List ℕ) → not q ≡ true → checked_out 0 start ≡ checked_of p s
+    pub check_early : (start : List ℕ) → not q ≡ true → checked_out None start ≡ checked_of p s
     check_early start h = unfit_out start ∙ sym (checked_no (five ∙ go (cause2 s) (cause3 s) (cause4 s) (cause5 s) (cause6 p s) (sym three ∙ not-true q h)))
       where
         go : (a b c d e : Bool) → not (a || (b || c)) ≡ false → not (a || (b || (c || (d || e)))) ≡ false
@@ -242,7 +225,7 @@ module _ (p : ℕ) (s : List ℕ) where
             go false e = refl
             go true e = absurd (true≢false (sym (ap is_found (sym (out_no f) ∙ scan_is true e))))
 
-        pub check_5 : not r.is_sound ≡ true → checked_out 0 start' ≡ checked_of p s
+        pub check_5 : not r.is_sound ≡ true → checked_out None start' ≡ checked_of p s
         unfolding cause5
         check_5 f = unfit_out start' ∙ sym (checked_no (last_two ∙ ap (λ (x : Bool). not (not x || cause6 p s)) (not_sound (not-true r.is_sound f))))
 
@@ -268,65 +251,30 @@ module _ (p : ℕ) (s : List ℕ) where
             unfolding cause5
             at_last = last_two ∙ (λ i. not (not (types_ok i) || sym bad_is i))
 
-            pub check_6 : u ≡ true → checked_out 0 start' ≡ checked_of p s
+            pub check_6 : u ≡ true → checked_out None start' ≡ checked_of p s
             check_6 e = unfit_out start' ∙ sym (checked_no (at_last ∙ ap not e))
 
-            pub check_0 : u ≡ false → checked_out r.types start' ≡ checked_of p s
-            unfolding types_of
+            pub check_0 : u ≡ false → checked_out (Some r.types) start' ≡ checked_of p s
             check_0 e =
-                fit_out r.types start' (omega (arith, types_is))
+                fit_out r.types start'
                 ∙ (λ i. fit (types_is i) (index_is i))
                 ∙ sym (checked_yes (at_last ∙ ap not e))
 
 -- ---- write_cut
 
-module _ (b : TypeTable) (s start ids out : List ℕ) where
-  abbrev S : ℕ
-  S = base_of b s start ids (type_count b)
-
-  abbrev T : ℕ
-  T = types_size b s start ids (type_count b)
-
-  pub kept_small : (n : ℕ) (o : List ℕ) → wrote_of n o ≡ kept_written b s start ids out → n ≤ 16777216
-  unfolding kept_written fitting_written
-  kept_small n o e = subst (λ (k : ℕ). k ≤ 16777216) (sym (ap length_of e)) (go (ltb 16777216 (length s)) (ltb 16777216 S) (ltb 16777216 T) (ltb 16777216 (24 + T + S)) refl (ltb (length out) (24 + T + S)))
-    where
-      go : (c d f g : Bool) → ltb 16777216 (24 + T + S) ≡ g → (k : Bool)
-          → length_of (elim c as (λ z. Wrote) [
-            | true ↦ wrote_of 0 out
-            | false ↦ elim d as (λ z. Wrote) [
-              | true ↦ wrote_of 0 out
-              | false ↦ elim f as (λ z. Wrote) [
-                | true ↦ wrote_of 0 out
-                | false ↦ elim g as (λ z. Wrote) [
-                  | true ↦ wrote_of 0 out
-                  | false ↦ elim k as (λ z. Wrote) [
-                    | true ↦ wrote_of 0 out
-                    | false ↦ wrote_of (24 + T + S) (all_bytes b s start ids (bases_to b s start ids zero_bases (type_count b)) T S ++ drop (24 + T + S) out)
-                  ]
-                ]
-              ]
-            ]
-          ]) ≤ 16777216
-      go true d f g e k = omega arith
-      go false true f g e k = omega arith
-      go false false true g e k = omega arith
-      go false false false true e k = omega arith
-      go false false false false e true = omega arith
-      go false false false false e false = omega (arith, ltb-false 16777216 (24 + T + S) e)
-
-module _ (b : TypeTable) (s start given ids ids' out out' : List ℕ) (n : ℕ) (z : ids ≡ all_zero) (ei : ids' ≡ ids_of b s start given ids) (ew : wrote_of n out' ≡ kept_written b s start ids' out) where
-  is_written : wrote_of n out' ≡ kept_written b s start (ids_of b s start given all_zero) out
-  is_written = ew ∙ ap (λ (l : List ℕ). kept_written b s start l out) (ei ∙ ap (ids_of b s start given) z)
-
-  pub written_23 : n ≡ 0 → cut_of (Refused 23 0) out' ≡ answered (kept_written b s start (ids_of b s start given all_zero) out)
-  unfolding answered
-  written_23 e = ap (λ (k : ℕ). answered (wrote_of k out')) (sym e) ∙ ap answered is_written
-
-  pub written_is : (n ≡ 0 → ⊥) → cut_of (Accepted n) out' ≡ answered (kept_written b s start (ids_of b s start given all_zero) out)
-  written_is h = sym (some_written n out' h) ∙ ap answered is_written
+pub kept_of : (b : TypeTable) (s start given ids ids' out out' : List ℕ) (r : Option ℕ) → ids ≡ all_zero → ids' ≡ ids_of b s start given ids → wrote_of r out' ≡ kept_written b s start ids' out
+    → wrote_of r out' ≡ kept_written b s start (ids_of b s start given all_zero) out
+kept_of b s start given ids ids' out out' r z e w = w ∙ ap (λ (l : List ℕ). kept_written b s start l out) (e ∙ ap (ids_of b s start given) z)
 
 -- ---- cut
+-- what `ok_or` and the `?` after it say of the check
+pub checked_none : (m : Option ℕ) (r : Result ℕ Refusal) (e : Refusal) → r ≡ ok_or m SessionClosed → r ≡ Err e → (m ≡ None) × (e ≡ SessionClosed)
+checked_none None r e h g = (refl, cc)
+checked_none (Some n) r e h g = cc
+
+pub checked_some : (m : Option ℕ) (r : Result ℕ Refusal) (n : ℕ) → r ≡ ok_or m SessionClosed → r ≡ Ok n → m ≡ Some n
+checked_some None r n h g = cc
+checked_some (Some k) r n h g = cc
 
 module _ (S : Session) (s given out : List ℕ) where
   -- the call with a number
@@ -354,28 +302,31 @@ module _ (S : Session) (s given out : List ℕ) where
     unfolding is_open_on
     cut_closed h = sym (refused_by 10) ∙ with_number 11 (closed_number (ap (λ (x : Bool). x && passes S.pointer_size s) (sym eq ∙ not-true q h)))
 
-    module _ (h : not q ≡ false) (n : ℕ) (start : List ℕ) (en : checked_out n start ≡ checked_of S.pointer_size s) where
+    module _ (h : not q ≡ false) (m : Option ℕ) (start : List ℕ) (em : checked_out m start ≡ checked_of S.pointer_size s) where
       is_open : is_open_on S s ≡ passes S.pointer_size s
       unfolding is_open_on
       is_open = ap (λ (x : Bool). x && passes S.pointer_size s) (sym eq ∙ not-false q h)
 
-      pub cut_unsound : n ≡ 0 → cut_of (Refused 11 0) out ≡ cut_call S s given out
+      pub cut_unsound : m ≡ None → cut_of (Refused 11 0) out ≡ cut_call S s given out
       cut_unsound z = sym (refused_by 10) ∙ with_number 11 (closed_number (is_open ∙ go (passes S.pointer_size s) refl))
         where
           go : (t : Bool) → passes S.pointer_size s ≡ t → t ≡ false
-          go true e = absurd (true≢false (ap is_fit (sym (checked_yes S.pointer_size s e) ∙ sym en ∙ ap (λ (k : ℕ). checked_out k start) z ∙ unfit_out S.pointer_size s start)))
+          go true e = absurd (true≢false (ap is_fit (sym (checked_yes S.pointer_size s e) ∙ sym em ∙ ap (λ (k : Option ℕ). checked_out k start) z ∙ unfit_out S.pointer_size s start)))
           go false e = refl
 
-      module _ (z : n ≡ 0 → ⊥) where
+      module _ (n : ℕ) (z : m ≡ Some n) where
+        en : checked_out (Some n) start ≡ checked_of S.pointer_size s
+        en = ap (λ (k : Option ℕ). checked_out k start) (sym z) ∙ em
+
         pass : passes S.pointer_size s ≡ true
         pass = go (passes S.pointer_size s) refl
           where
             go : (t : Bool) → passes S.pointer_size s ≡ t → t ≡ true
             go true e = refl
-            go false e = absurd (true≢false (ap is_fit (sym (fit_out S.pointer_size s n start (some n z)) ∙ en ∙ checked_no S.pointer_size s e)))
+            go false e = absurd (true≢false (ap is_fit (sym (fit_out S.pointer_size s n start) ∙ en ∙ checked_no S.pointer_size s e)))
 
         same : fit n start ≡ fit (types_of s) (index_of s)
-        same = sym (fit_out S.pointer_size s n start (some n z)) ∙ en ∙ checked_yes S.pointer_size s pass
+        same = sym (fit_out S.pointer_size s n start) ∙ en ∙ checked_yes S.pointer_size s pass
 
         count_is : n ≡ types_of s
         count_is = ap fit_count same
@@ -388,11 +339,13 @@ module _ (S : Session) (s given out : List ℕ) where
           cut_past e = sym (refused_by 9) ∙ with_number 10 (open_number (is_open ∙ pass) true (ap (λ (k : ℕ). any_past k (words given)) (sym count_is) ∙ sym er ∙ e))
 
           -- THE CALL: the theorem of `session_cut::written`
-          pub cut_is : r ≡ false → Bytes s → (b : TypeTable) → b ≡ btf_of s S.pointer_size 0 n → (a : Answer) (out' : List ℕ)
-              → cut_of a out' ≡ answered (kept_written b s start (ids_of b s start given all_zero) out) → cut_of a out' ≡ cut_call S s given out
+          pub cut_is : r ≡ false → Bytes s → (b : TypeTable) → b ≡ btf_of s S.pointer_size 0 n → (w : Option ℕ) (out' : List ℕ)
+              → wrote_of w out' ≡ kept_written b s start (ids_of b s start given all_zero) out → (o : Result ℕ Refusal) → o ≡ ok_or w OutputShort → cut_of (answer_to o) out' ≡ cut_call S s given out
           unfolding passes cause2 cause3 cause4 cause5 table_of
-          cut_is e y b eb a out' ea =
-              ea
+          cut_is e y b eb w out' ew o eo =
+              ap (λ (k : Result ℕ Refusal). cut_of (answer_to k) out') eo
+              ∙ answered_to w out'
+              ∙ ap answered ew
               ∙ (λ i. answered (kept_written (table_is i) s (index_of_lem i) (ids_of (table_is i) s (index_of_lem i) given all_zero) out))
               ∙ ap answered (kept_written_lem S.pointer_size s y short header strings types none.1.1.1.1.0 given past out)
               ∙ go (ltb (length out) (length (section_for s given)) || ltb 16777216 (length (section_for s given)))
@@ -419,10 +372,7 @@ module _ (S : Session) (s given out : List ℕ) where
               table_is : b ≡ table_of S.pointer_size s
               table_is = eb ∙ ap (btf_of s S.pointer_size 0) count_is
 
-              some_bytes : 1 ≤ length (section_for s given)
-              some_bytes = omega (arith, section_size S.pointer_size s y short header strings types none.1.1.1.1.0 given past)
-
-              go : (t : Bool) → answered (wrote_of (cut_value (elim t [ true ↦ 23 | false ↦ 0 ]) (length (section_for s given))) (cut_output (elim t [ true ↦ 23 | false ↦ 0 ]) (section_for s given) out))
+              go : (t : Bool) → answered (wrote_of (cut_length (elim t [ true ↦ 23 | false ↦ 0 ]) (length (section_for s given))) (cut_output (elim t [ true ↦ 23 | false ↦ 0 ]) (section_for s given) out))
                   ≡ cut_by (elim t [ true ↦ 23 | false ↦ 0 ]) (section_for s given) out
               go true = answered_23 (section_for s given) out
-              go false = answered_0 (section_for s given) out some_bytes
+              go false = answered_0 (section_for s given) out

@@ -3,8 +3,10 @@ use Prim.Native.Nat.{ℕ, zero, suc, ◌+◌, ◌-◌, ◌*◌, ◌/◌, ◌%◌
 use native.Mathlib.Omega.{arith}
 use native.Mathlib.Numerals.{add-one}
 use native.Mathlib.Decide.{ℕ_discrete}
-use mathlib.Core.Path.{◌≡◌, refl, sym, ◌∙◌, ap}
+use mathlib.Core.Path.{◌≡◌, refl, sym, ◌∙◌, ap, subst}
+use Rattle.std.specs.Int.{to_be_bytes, to_le_bytes}
 use mathlib.Core.Bool.{Bool, true, false, not, true≢false}
+use Rattle.std.proofs.Common.{Option, Some, None, unwrap_or}
 use mathlib.Core.List.{List, [], ◌∷◌, ◌++◌}
 use lib.ListN.{length, get_or, drop, length-append}
 use lib.Dec.{eqb}
@@ -23,17 +25,41 @@ use Rattle.session_cut_marks.specs.mentioned.Names.{is_name, first_from, mention
 use Rattle.session_cut_marks.specs.mentioned.Strings.{strings_bytes}
 use Rattle.session_cut_marks.proofs.mentioned.Laws.{flip_true, flip_false}
 use Rattle.session_cut_marks.proofs.mentioned.Sizes.{strings_length}
-use Rattle.session_cut_marks.specs.interned.Slots.{found}
+use Rattle.session_cut_marks.specs.interned.Slots.{found, slot_place}
 use Rattle.session_cut_marks.specs.interned.Filled.{zero_table, filled_of, filling_of, filling}
 use Rattle.session_cut_marks.specs.interned.Right.{all_bases, Right, StringKept}
 use Rattle.session_cut_marks.proofs.interned.Right.{table_over, table_length, table_bases}
+use Rattle.session_cut_marks.proofs.interned.Places.{base_up}
 use Rattle.session_cut_marks.proofs.interned.Found.{found_place, first_is, new_place}
-use Rattle.session_cut.specs.writer.Bytes.{word_bytes, magic_bytes, head_bytes, type_size, types_size, new_word, record_bytes, type_bytes, types_bytes, all_bytes, sought, Wrote, wrote_of, fitting_written, kept_written}
+use Rattle.session_cut.specs.writer.Bytes.{word_bytes, head_bytes, type_size, types_size, new_word, record_bytes, type_bytes, types_bytes, all_bytes, sought, some_place, Wrote, wrote_of, fitting_written, kept_written}
 use Rattle.session_cut.proofs.writer.Sizes.{head_length, types_length}
 
 -- a length fits a word
 pub few_fits : (n : ℕ) → n ≤ 16777216 → Fits w32 n
 few_fits n l = omega (arith, l)
+
+none_some : {p : ℕ} → None ≡ Some p → ⊥
+none_some h = cc
+
+slot_full : (v p : ℕ) → slot_place v ≡ Some p → v ≡ 0 → ⊥
+unfolding slot_place
+slot_full zero p h e = none_some h
+slot_full (suc v) p h e = cc
+
+slot_number : (v p : ℕ) → slot_place v ≡ Some p → p ≡ v / 4294967296
+unfolding slot_place
+slot_number zero p h = absurd (none_some h)
+slot_number (suc v) p h = cc
+
+number_of : (p : ℕ) → unwrap_or (some_place p) 0 ≡ p
+unfolding some_place
+number_of zero = refl
+number_of (suc p) = refl
+
+place_some : (p : ℕ) → 1 ≤ p → some_place p ≡ Some p
+unfolding some_place
+place_some zero l = absurd (omega (arith, l))
+place_some (suc p) l = refl
 
 module _ (b : TypeTable) (s : List ℕ) where
   first_up : (e off j k : ℕ) → first_from b s e off j k ≤ j + k
@@ -50,7 +76,7 @@ module _ (b : TypeTable) (s : List ℕ) where
 
   -- ---- what the table has for a word
   module _ (t : List ℕ) (e j r : ℕ) (k : r ≡ role (e % 32) j) where
-    pub seek_other : (r ≡ 1 → ⊥) → 0 ≡ sought b s t e j
+    pub seek_other : (r ≡ 1 → ⊥) → None ≡ sought b s t e j
     unfolding sought
     seek_other n = rw (ne_eqb (role (e % 32) j) 1 (λ z. n (k ∙ z)), sought)
 
@@ -58,44 +84,64 @@ module _ (b : TypeTable) (s : List ℕ) where
       empty_is : m ≡ is_empty (str_at b s (word_of b s e j))
       empty_is = g ∙ ap (λ (u : ℕ). is_empty (str_at b s u)) f
 
-      pub seek_empty : m ≡ true → 0 ≡ sought b s t e j
+      pub seek_empty : m ≡ true → None ≡ sought b s t e j
       unfolding sought
       seek_empty h = rw (eq-eqb (role (e % 32) j) 1 (sym k ∙ z), sought, sym empty_is ∙ h)
 
-      pub seek_is : m ≡ false → (v : ℕ) → v ≡ found b s t off → v ≡ sought b s t e j
+      pub seek_is : m ≡ false → (v : Option ℕ) → v ≡ slot_place (found b s t off) → v ≡ sought b s t e j
       unfolding sought
-      seek_is h v p = p ∙ ap (found b s t) f ∙ rw (eq-eqb (role (e % 32) j) 1 (sym k ∙ z), sought, sym empty_is ∙ h)
+      seek_is h v p = p ∙ ap (λ (u : ℕ). slot_place (found b s t u)) f ∙ rw (eq-eqb (role (e % 32) j) 1 (sym k ∙ z), sought, sym empty_is ∙ h)
 
-  -- where it has something, the word mentions a name
-  sought_some : (t : List ℕ) (e j v : ℕ) → v ≡ sought b s t e j → (v ≡ 0 → ⊥) → (role (e % 32) j ≡ 1) × (is_empty (str_at b s (word_of b s e j)) ≡ false) × (v ≡ found b s t (word_of b s e j))
-  sought_some t e j v h n = elim (ℕ_discrete (role (e % 32) j) 1) [ yes a ↦ go a (is_empty (str_at b s (word_of b s e j))) refl | no a ↦ absurd (n (h ∙ sym (seek_other t e j (role (e % 32) j) refl a))) ]
+  -- where it has the name, the word mentions one
+  record Sought (t : List ℕ) (e j p : ℕ) : Type 0 where
+    name : role (e % 32) j ≡ 1
+    some : is_empty (str_at b s (word_of b s e j)) ≡ false
+    full : found b s t (word_of b s e j) ≡ 0 → ⊥
+    place : p ≡ found b s t (word_of b s e j) / 4294967296
+
+  sought_some : (t : List ℕ) (e j p : ℕ) → sought b s t e j ≡ Some p → Sought t e j p
+  sought_some t e j p h = elim (ℕ_discrete (role (e % 32) j) 1) [ yes a ↦ go a (is_empty (str_at b s (word_of b s e j))) refl | no a ↦ absurd (none_some (seek_other t e j (role (e % 32) j) refl a ∙ h)) ]
     where
-      go : role (e % 32) j ≡ 1 → (m : Bool) → is_empty (str_at b s (word_of b s e j)) ≡ m → (role (e % 32) j ≡ 1) × (is_empty (str_at b s (word_of b s e j)) ≡ false) × (v ≡ found b s t (word_of b s e j))
-      go a true y = absurd (n (h ∙ sym (seek_empty t e j (role (e % 32) j) refl a (word_of b s e j) refl true (sym y) refl)))
-      go a false y = (a, y, h ∙ sym (seek_is t e j (role (e % 32) j) refl a (word_of b s e j) refl false (sym y) refl (found b s t (word_of b s e j)) refl))
+      go : role (e % 32) j ≡ 1 → (m : Bool) → is_empty (str_at b s (word_of b s e j)) ≡ m → Sought t e j p
+      go a true y = absurd (none_some (seek_empty t e j (role (e % 32) j) refl a (word_of b s e j) refl true (sym y) refl ∙ h))
+      go a false y =
+          let q : slot_place (found b s t (word_of b s e j)) ≡ Some p = seek_is t e j (role (e % 32) j) refl a (word_of b s e j) refl false (sym y) refl (slot_place (found b s t (word_of b s e j))) refl ∙ h in
+          record { name = a; some = y; full = slot_full (found b s t (word_of b s e j)) p q; place = slot_number (found b s t (word_of b s e j)) p q }
 
   module _ (start ids t : List ℕ) (right : Right b s start ids t) where
-    pub first_sought : (x e : ℕ) → StringKept b start ids x e → (j v : ℕ) → v ≡ sought b s t e j → (len : ℕ) → j < words_in b s e → len ≡ base_of b s start ids x + new_sizes b s start ids x e j
-        → (v ≡ 0 → ⊥) → eqb (v / 4294967296) len ≡ is_new b s start ids x e j
-    first_sought x e k j v h len l is n = let f = sought_some t e j v h n in first_is b s start ids t right x e k j len l is f.0 (word_of b s e j) refl f.1 v f.2 n
+    pub first_sought : (x e : ℕ) → StringKept b start ids x e → (j : ℕ) (v : Option ℕ) → v ≡ sought b s t e j → (len : ℕ) → j < words_in b s e → len ≡ base_of b s start ids x + new_sizes b s start ids x e j
+        → (p : ℕ) → v ≡ Some p → eqb p len ≡ is_new b s start ids x e j
+    first_sought x e k j v h len l is p q =
+        let f = sought_some t e j p (sym h ∙ q) in
+        ap (λ (u : ℕ). eqb u len) f.place ∙ first_is b s start ids t right x e k j len l is f.name (word_of b s e j) refl f.some (found b s t (word_of b s e j)) refl f.full
 
     module _ (bases : List ℕ) (a : bases ≡ all_bases b s start ids) where
-      pub sought_place : (e j v : ℕ) → v ≡ sought b s t e j → (v ≡ 0 → ⊥) → v / 4294967296 ≡ place_of b s start ids bases (word_of b s e j)
-      sought_place e j v h n = found_place b s start ids t right (word_of b s e j) v (sought_some t e j v h n).2 n ∙ ap (λ (l : List ℕ). place_of b s start ids l (word_of b s e j)) (sym a)
+      pub sought_place : (e j : ℕ) (v : Option ℕ) → v ≡ sought b s t e j → (p : ℕ) → v ≡ Some p → p ≡ place_of b s start ids bases (word_of b s e j)
+      sought_place e j v h p q =
+          let f = sought_some t e j p (sym h ∙ q) in
+          f.place ∙ found_place b s start ids t right (word_of b s e j) (found b s t (word_of b s e j)) refl f.full ∙ ap (λ (l : List ℕ). place_of b s start ids l (word_of b s e j)) (sym a)
 
       pub new_at : (x e : ℕ) → StringKept b start ids x e → (j len : ℕ) → j < words_in b s e → len ≡ base_of b s start ids x + new_sizes b s start ids x e j → (new : Bool) → new ≡ is_new b s start ids x e j
           → new ≡ true → len ≡ place_of b s start ids bases (word_of b s e j)
       new_at x e k j len l is new g z = new_place b s start ids t right x e k j len l is (sym g ∙ z) ∙ ap (λ (u : List ℕ). place_of b s start ids u (word_of b s e j)) (sym a)
 
   module _ (start ids : List ℕ) where
-    pub place_kept : (off x : ℕ) (q : Bool) → q ≡ mentions b s start ids off x → not q ≡ false → x < type_count b → (e : ℕ) → e ≡ entry_at b start x → StringKept b start ids x e
+    pub place_kept : (off x : ℕ) (q : Bool) → q ≡ mentions b s start ids off x → not q ≡ false → get_or ids x 0 ≡ 0 → ⊥
     unfolding mentions
-    place_kept off x q k z l e h = record { below = l; kept = λ w. true≢false (sym (flip_false q z) ∙ k ∙ rw (eq-eqb (get_or ids x 0) 0 w, mentions)); entry = h }
+    place_kept off x q k z w = true≢false (sym (flip_false q z) ∙ k ∙ rw (eq-eqb (get_or ids x 0) 0 w, mentions))
+
+    base_zero : base_of b s start ids 0 ≡ 1
+    unfolding base_of
+    base_zero = refl
+
+    -- the strings have the leading 0 before any type
+    base_some : (x : ℕ) → 1 ≤ base_of b s start ids x
+    base_some x = let z : 0 + x ≡ x = omega arith in omega (arith, base_up b s start ids 0 x, ap (base_of b s start ids) z, base_zero)
 
     module _ (bases : List ℕ) where
       module _ (off x : ℕ) (q : Bool) (k : q ≡ mentions b s start ids off x) where
-        pub place_none : not q ≡ true → 0 ≡ place_at b s start ids bases off x
-        unfolding place_at
+        pub place_none : not q ≡ true → None ≡ some_place (place_at b s start ids bases off x)
+        unfolding place_at some_place
         place_none z = rw (sym k ∙ flip_true q z, place_at)
 
         place_is : not q ≡ false → (e : ℕ) → e ≡ entry_at b start x → (n : ℕ) → n ≡ words_in b s e → (j : ℕ) → j ≡ first_from b s e off 0 n → (v : ℕ) → v ≡ get_or bases x 0 → (r : ℕ) → r ≡ new_sizes b s start ids x e j
@@ -105,9 +151,11 @@ module _ (b : TypeTable) (s : List ℕ) where
             (λ i. w i + (p ∙ ap (new_sizes b s start ids x e) (h ∙ ap (first_from b s e off 0) g) ∙ ap (λ (u : ℕ). new_sizes b s start ids x u (first_from b s u off 0 (words_in b s u))) f) i)
             ∙ rw (sym k ∙ flip_false q z, place_at)
 
-        pub place_long : not q ≡ false → (e : ℕ) → e ≡ entry_at b start x → (n : ℕ) → n ≡ words_in b s e → (j : ℕ) → j ≡ first_from b s e off 0 n → (v : ℕ) → v ≡ get_or bases x 0 → v ≡ base_of b s start ids x
-            → (r : ℕ) → r ≡ base_of b s start ids x + new_sizes b s start ids x e j → r ≡ place_at b s start ids bases off x
-        place_long z e f n g j h v w u r p = p ∙ ap (λ (c : ℕ). c + new_sizes b s start ids x e j) (sym u) ∙ place_is z e f n g j h v w (new_sizes b s start ids x e j) refl
+        pub place_long : not q ≡ false → (y : ℕ) → y ≡ x → (e : ℕ) → e ≡ entry_at b start x → (n : ℕ) → n ≡ words_in b s e → (j : ℕ) → j ≡ first_from b s e off 0 n → get_or bases x 0 ≡ base_of b s start ids x
+            → (r : ℕ) → r ≡ base_of b s start ids y + new_sizes b s start ids y e j → Some r ≡ some_place (place_at b s start ids bases off x)
+        place_long z y i e f n g j h u r p =
+            sym (place_some r (omega (arith, p, base_some y)))
+            ∙ ap some_place (p ∙ ap (λ (v : ℕ). base_of b s start ids v + new_sizes b s start ids v e j) i ∙ ap (λ (c : ℕ). c + new_sizes b s start ids x e j) (sym u) ∙ place_is z e f n g j h (get_or bases x 0) refl (new_sizes b s start ids x e j) refl)
 
       from_suc : (off x n : ℕ) → x < n → place_from b s start ids bases off x (n - x) ≡ elim (place_at b s start ids bases off x) as (λ z. ℕ) [ zero ↦ place_from b s start ids bases off (x + 1) (n - (x + 1)) | suc p ↦ suc p ]
       unfolding place_from
@@ -119,36 +167,45 @@ module _ (b : TypeTable) (s : List ℕ) where
       pub from_start : (off n : ℕ) → place_from b s start ids bases off 0 n ≡ place_from b s start ids bases off 0 (n - 0)
       from_start off n = let z : n ≡ n - 0 = omega arith in ap (place_from b s start ids bases off 0) z
 
-      module _ (off x n : ℕ) (l : x < n) (h : place_from b s start ids bases off 0 n ≡ place_from b s start ids bases off x (n - x)) (r : ℕ) (g : r ≡ place_at b s start ids bases off x) where
+      module _ (off x n : ℕ) (l : x < n) (h : place_from b s start ids bases off 0 n ≡ place_from b s start ids bases off x (n - x)) (r : Option ℕ) (g : r ≡ some_place (place_at b s start ids bases off x)) where
         abbrev Or : ℕ → ℕ
         Or v = elim v as (λ z. ℕ) [ zero ↦ place_from b s start ids bases off (x + 1) (n - (x + 1)) | suc p ↦ suc p ]
 
-        or_some : (v : ℕ) → (v ≡ 0 → ⊥) → Or v ≡ v
-        or_some zero z = absurd (z refl)
-        or_some (suc v) z = refl
+        or_some : (v p : ℕ) → some_place v ≡ Some p → Some p ≡ some_place (Or v)
+        unfolding some_place
+        or_some zero p z = absurd (none_some z)
+        or_some (suc v) p z = sym z
 
-        pub from_here : (r ≡ 0 → ⊥) → n ≡ type_count b → r ≡ place_from b s start ids bases off 0 (type_count b)
-        from_here z c = sym (ap (place_from b s start ids bases off 0) (sym c) ∙ h ∙ from_suc off x n l ∙ ap Or (sym g) ∙ or_some r z)
+        or_none : (v : ℕ) → some_place v ≡ None → Or v ≡ place_from b s start ids bases off (x + 1) (n - (x + 1))
+        unfolding some_place
+        or_none zero z = refl
+        or_none (suc v) z = absurd (none_some (sym z))
 
-        pub from_on : r ≡ 0 → place_from b s start ids bases off 0 n ≡ place_from b s start ids bases off (x + 1) (n - (x + 1))
-        from_on z = h ∙ from_suc off x n l ∙ ap Or (sym g ∙ z)
+        pub from_here : (p : ℕ) → r ≡ Some p → n ≡ type_count b → Some p ≡ some_place (place_from b s start ids bases off 0 (type_count b))
+        from_here p z c = or_some (place_at b s start ids bases off x) p (sym g ∙ z) ∙ ap some_place (sym (from_suc off x n l) ∙ sym h ∙ ap (place_from b s start ids bases off 0) c)
 
-      pub from_none : (off x n : ℕ) → n ≤ x → place_from b s start ids bases off 0 n ≡ place_from b s start ids bases off x (n - x) → n ≡ type_count b → 0 ≡ place_from b s start ids bases off 0 (type_count b)
-      unfolding place_from
-      from_none off x n l h c = let z : n - x ≡ 0 = omega (arith, l) in sym (ap (place_from b s start ids bases off 0) (sym c) ∙ h ∙ ap (place_from b s start ids bases off x) z)
+        pub from_on : r ≡ None → place_from b s start ids bases off 0 n ≡ place_from b s start ids bases off (x + 1) (n - (x + 1))
+        from_on z = h ∙ from_suc off x n l ∙ or_none (place_at b s start ids bases off x) (sym g ∙ z)
+
+      pub from_none : (off x n : ℕ) → n ≤ x → place_from b s start ids bases off 0 n ≡ place_from b s start ids bases off x (n - x) → n ≡ type_count b → None ≡ some_place (place_from b s start ids bases off 0 (type_count b))
+      unfolding place_from some_place
+      from_none off x n l h c = let z : n - x ≡ 0 = omega (arith, l) in ap some_place (sym (ap (place_from b s start ids bases off 0) (sym c) ∙ h ∙ ap (place_from b s start ids bases off x) z))
 
       module _ (off : ℕ) (m : Bool) (g : m ≡ is_empty (str_at b s off)) where
         pub place_first : m ≡ true → 0 ≡ place_of b s start ids bases off
         unfolding place_of
         place_first z = rw (sym g ∙ z, place_of)
 
-        pub place_found : m ≡ false → (r : ℕ) → r ≡ place_from b s start ids bases off 0 (type_count b) → r % 4294967296 ≡ place_of b s start ids bases off
+        pub place_found : m ≡ false → (o : Option ℕ) → o ≡ some_place (place_from b s start ids bases off 0 (type_count b)) → (r : ℕ) → r ≡ unwrap_or o 0 → r < 4294967296 → r ≡ place_of b s start ids bases off
         unfolding place_of
-        place_found z r h = ap (λ (v : ℕ). v % 4294967296) h ∙ rw (sym g ∙ z, place_of)
+        place_found z o h r k l =
+            let e : r ≡ place_from b s start ids bases off 0 (type_count b) = k ∙ ap (λ (q : Option ℕ). unwrap_or q 0) h ∙ number_of (place_from b s start ids bases off 0 (type_count b)) in
+            let w : r ≡ place_from b s start ids bases off 0 (type_count b) % 4294967296 = omega (arith, e, l) in
+            w ∙ rw (sym g ∙ z, place_of)
 
       -- ---- words as they are written
-      pub at_word : (off w : ℕ) → off ≡ w → (P : Type 0) (r : ℕ) → (P → r ≡ place_of b s start ids bases w) → P → r ≡ place_of b s start ids bases off
-      at_word off w f P r h p = h p ∙ ap (place_of b s start ids bases) (sym f)
+      pub at_word : (off w : ℕ) → off ≡ w → (r : ℕ) → r ≡ place_of b s start ids bases w → r ≡ place_of b s start ids bases off
+      at_word off w f r h = h ∙ ap (place_of b s start ids bases) (sym f)
 
       module _ (e j v w : ℕ) (k : v ≡ role (e % 32) j) (f : w ≡ word_of b s e j) where
         pub word_name_lem : v ≡ 1 → (r : ℕ) → r ≡ place_of b s start ids bases w → r ≡ new_word b s start ids bases e j
@@ -168,10 +225,10 @@ module _ (b : TypeTable) (s : List ℕ) where
       unfolding record_bytes
       no_words t at e = put_empty t at
 
-      pub more_words : (t : List ℕ) (at e j p : ℕ) (u : List ℕ) (r : ℕ) (u' : List ℕ) (v : ℕ) → put_out p u ≡ put_text t at (whole (record_bytes b s start ids bases e j)) → v ≡ new_word b s start ids bases e j
+      pub more_words : (t : List ℕ) (at e j p : ℕ) (u : List ℕ) (r : ℕ) (u' : List ℕ) (v i : ℕ) → i ≡ j → put_out p u ≡ put_text t at (whole (record_bytes b s start ids bases e j)) → v ≡ new_word b s start ids bases e i
           → put_out r u' ≡ put_text u p (whole (word_bytes b.big_endian v)) → put_out r u' ≡ put_text t at (whole (record_bytes b s start ids bases e (j + 1)))
       unfolding record_bytes
-      more_words t at e j p u r u' v h g k = rw add-one (put_seq t at (record_bytes b s start ids bases e j) (word_bytes b.big_endian (new_word b s start ids bases e j)) p u r u' h (k ∙ ap (λ (z : ℕ). put_text u p (whole (word_bytes b.big_endian z))) g))
+      more_words t at e j p u r u' v i w h g k = rw add-one (put_seq t at (record_bytes b s start ids bases e j) (word_bytes b.big_endian (new_word b s start ids bases e j)) p u r u' h (k ∙ ap (λ (z : ℕ). put_text u p (whole (word_bytes b.big_endian z))) (g ∙ ap (new_word b s start ids bases e) w)))
 
       pub all_words : (t : List ℕ) (at e n j p : ℕ) (u : List ℕ) → n ≡ words_in b s e → j ≤ n → n ≤ j → put_out p u ≡ put_text t at (whole (record_bytes b s start ids bases e j))
           → put_out p u ≡ put_text t at (whole (record_bytes b s start ids bases e (words_in b s e)))
@@ -231,25 +288,21 @@ module _ (b : TypeTable) (s : List ℕ) where
     all_size n x len c l g h = let z : x ≡ n = omega (arith, l, g) in h ∙ ap (types_size b s start ids) (z ∙ c)
 
 -- ---- a word and the header
-pub word_big : (t : List ℕ) (at : ℕ) (big : Bool) (v p : ℕ) (u : List ℕ) (r : ℕ) (u' : List ℕ) → big ≡ true → put_out p u ≡ put_text t at (whole (v / 16777216 ∷ v / 65536 % 256 ∷ [])) → put_out r u' ≡ put_text u p (whole (v / 256 % 256 ∷ v % 256 ∷ []))
-    → put_out r u' ≡ put_text t at (whole (word_bytes big v))
-unfolding word_bytes
-word_big t at big v p u r u' e h g = put_seq t at _ _ p u r u' h g ∙ ap (λ (q : Bool). put_text t at (whole (word_bytes q v))) (sym e)
+be_is : (v : ℕ) → v < 4294967296 → to_be_bytes w32 v ≡ v / 16777216 ∷ v / 65536 % 256 ∷ v / 256 % 256 ∷ v % 256 ∷ []
+be_is v l = let top : v / 16777216 % 256 ≡ v / 16777216 = omega (arith, l) in ap (λ (a : ℕ). a ∷ v / 65536 % 256 ∷ v / 256 % 256 ∷ v % 256 ∷ []) top
 
-pub word_little : (t : List ℕ) (at : ℕ) (big : Bool) (v p : ℕ) (u : List ℕ) (r : ℕ) (u' : List ℕ) → big ≡ false → put_out p u ≡ put_text t at (whole (v % 256 ∷ v / 256 % 256 ∷ [])) → put_out r u' ≡ put_text u p (whole (v / 65536 % 256 ∷ v / 16777216 ∷ []))
-    → put_out r u' ≡ put_text t at (whole (word_bytes big v))
-unfolding word_bytes
-word_little t at big v p u r u' e h g = put_seq t at _ _ p u r u' h g ∙ ap (λ (q : Bool). put_text t at (whole (word_bytes q v))) (sym e)
+le_is : (v : ℕ) → v < 4294967296 → to_le_bytes w32 v ≡ v % 256 ∷ v / 256 % 256 ∷ v / 65536 % 256 ∷ v / 16777216 ∷ []
+le_is v l = let top : v / 16777216 % 256 ≡ v / 16777216 = omega (arith, l) in ap (λ (a : ℕ). v % 256 ∷ v / 256 % 256 ∷ v / 65536 % 256 ∷ a ∷ []) top
 
-pub magic_big : (t : List ℕ) (at : ℕ) (big : Bool) (v p : ℕ) (u : List ℕ) (r : ℕ) (u' : List ℕ) → big ≡ true → put_out p u ≡ put_text t at (whole (235 ∷ 159 ∷ [])) → put_out r u' ≡ put_text u p (whole (1 ∷ v ∷ []))
-    → put_out r u' ≡ put_text t at (whole (magic_bytes big v))
-unfolding magic_bytes
-magic_big t at big v p u r u' e h g = put_seq t at _ _ p u r u' h g ∙ ap (λ (q : Bool). put_text t at (whole (magic_bytes q v))) (sym e)
+module _ (big : Bool) (v : ℕ) (l : v < 4294967296) (w : List ℕ → Type 0) where
+  -- what holds of the bytes of std holds of these
+  pub word_big : big ≡ true → (a : List ℕ) → a ≡ to_be_bytes w32 v → w a → w (word_bytes big v)
+  unfolding word_bytes
+  word_big e a f h = subst w (f ∙ be_is v l ∙ ap (λ (q : Bool). word_bytes q v) (sym e)) h
 
-pub magic_little : (t : List ℕ) (at : ℕ) (big : Bool) (v p : ℕ) (u : List ℕ) (r : ℕ) (u' : List ℕ) → big ≡ false → put_out p u ≡ put_text t at (whole (159 ∷ 235 ∷ [])) → put_out r u' ≡ put_text u p (whole (1 ∷ v ∷ []))
-    → put_out r u' ≡ put_text t at (whole (magic_bytes big v))
-unfolding magic_bytes
-magic_little t at big v p u r u' e h g = put_seq t at _ _ p u r u' h g ∙ ap (λ (q : Bool). put_text t at (whole (magic_bytes q v))) (sym e)
+  pub word_little : big ≡ false → (a : List ℕ) → a ≡ to_le_bytes w32 v → w a → w (word_bytes big v)
+  unfolding word_bytes
+  word_little e a f h = subst w (f ∙ le_is v l ∙ ap (λ (q : Bool). word_bytes q v) (sym e)) h
 
 -- ---- the whole
 module _ (b : TypeTable) (s start ids : List ℕ) where
@@ -280,30 +333,30 @@ module _ (b : TypeTable) (s start ids : List ℕ) where
       (went u r (a ++ drop (0 + length a) t) (0 + length a) (h ∙ g)).0 ∙ ap (λ (k : ℕ). a ++ drop k t) z
 
   module _ (bases : List ℕ) (types strings : ℕ) (out : List ℕ) where
-    pub fit_over : 16777216 < 24 + types + strings → wrote_of 0 out ≡ fitting_written b s start ids bases types strings out
+    pub fit_over : 16777216 < 24 + types + strings → wrote_of None out ≡ fitting_written b s start ids bases types strings out
     unfolding fitting_written
     fit_over h = rw (lt-ltb 16777216 (24 + types + strings) h, fitting_written)
 
     module _ (l : 24 + types + strings ≤ 16777216) where
-      pub fit_short : length out < 24 + types + strings → wrote_of 0 out ≡ fitting_written b s start ids bases types strings out
+      pub fit_short : length out < 24 + types + strings → wrote_of None out ≡ fitting_written b s start ids bases types strings out
       unfolding fitting_written
       fit_short h = rw (le-ltb 16777216 (24 + types + strings) l, fitting_written, lt-ltb (length out) (24 + types + strings) h)
 
       pub fit_is : 24 + types + strings ≤ length out → types ≡ types_size b s start ids (type_count b) → strings ≡ base_of b s start ids (type_count b) → (r : ℕ) (u : List ℕ)
-          → put_out r u ≡ put_text out 0 (whole (all_bytes b s start ids bases types strings)) → wrote_of (24 + types + strings) u ≡ fitting_written b s start ids bases types strings out
+          → put_out r u ≡ put_text out 0 (whole (all_bytes b s start ids bases types strings)) → wrote_of (Some (24 + types + strings)) u ≡ fitting_written b s start ids bases types strings out
       unfolding fitting_written
       fit_is h e f r u p =
           let n = all_length bases types strings e f in
-          ap (wrote_of (24 + types + strings)) (whole_put out (all_bytes b s start ids bases types strings) r u (omega (arith, h, n)) p ∙ ap (λ (k : ℕ). all_bytes b s start ids bases types strings ++ drop k out) n)
+          ap (wrote_of (Some (24 + types + strings))) (whole_put out (all_bytes b s start ids bases types strings) r u (omega (arith, h, n)) p ∙ ap (λ (k : ℕ). all_bytes b s start ids bases types strings ++ drop k out) n)
           ∙ rw (le-ltb 16777216 (24 + types + strings) l, fitting_written, le-ltb (length out) (24 + types + strings) h)
 
   module _ (out : List ℕ) where
-    pub kept_long : 16777216 < length s → wrote_of 0 out ≡ kept_written b s start ids out
+    pub kept_long : 16777216 < length s → wrote_of None out ≡ kept_written b s start ids out
     unfolding kept_written
     kept_long h = rw (lt-ltb 16777216 (length s) h, kept_written)
 
     module _ (l : length s ≤ 16777216) (strings : ℕ) (t bases : List ℕ) (h : filling_of (filled_of strings t) bases ≡ filling b s start ids zero_table zero_bases) where
-      pub kept_strings : 16777216 < strings → wrote_of 0 out ≡ kept_written b s start ids out
+      pub kept_strings : 16777216 < strings → wrote_of None out ≡ kept_written b s start ids out
       unfolding kept_written
       kept_strings a = rw (le-ltb 16777216 (length s) l, kept_written, lt-ltb 16777216 (base_of b s start ids (type_count b)) (table_over b s start ids l strings t bases h a))
 
@@ -311,7 +364,7 @@ module _ (b : TypeTable) (s start ids : List ℕ) where
         few : base_of b s start ids (type_count b) ≤ 16777216
         few = omega (arith, k, table_length b s start ids l strings t bases h k)
 
-        pub kept_types : 16777216 < types → wrote_of 0 out ≡ kept_written b s start ids out
+        pub kept_types : 16777216 < types → wrote_of None out ≡ kept_written b s start ids out
         unfolding kept_written
         kept_types a = rw (le-ltb 16777216 (length s) l, kept_written, le-ltb 16777216 (base_of b s start ids (type_count b)) few, lt-ltb 16777216 (types_size b s start ids (type_count b)) (omega (arith, a, f)))
 

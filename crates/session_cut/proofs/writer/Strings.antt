@@ -1,5 +1,5 @@
 -- Laws of the writer of the string area: for each return, and for each loop its start, its turn and its end. Assumes nothing.
-use Prim.Native.Nat.{ℕ, ◌+◌, ◌<◌, ◌≤◌}
+use Prim.Native.Nat.{ℕ, ◌+◌, ◌≤◌}
 use native.Mathlib.Omega.{arith}
 use native.Mathlib.Numerals.{add-one}
 use mathlib.Core.Path.{◌≡◌, sym, ◌∙◌, ap}
@@ -17,11 +17,8 @@ use Rattle.session_cut_marks.specs.mentioned.Names.{is_new, new_sizes, base_of}
 use Rattle.session_cut_marks.specs.mentioned.Strings.{name_bytes, names_bytes, own_bytes, news_bytes}
 use Rattle.session_cut_marks.proofs.mentioned.Laws.{flip_true, flip_false}
 use Rattle.session_cut_marks.proofs.mentioned.Sizes.{name_length}
-use Rattle.session_cut_marks.specs.interned.Right.{StringKept}
-use Rattle.session_cut.specs.writer.Bytes.{name_if}
-
-pub kept_is : (b : TypeTable) (start ids : List ℕ) (x e v : ℕ) → x < type_count b → v ≡ get_or ids x 0 → (v ≡ 0 → ⊥) → e ≡ entry_at b start x → StringKept b start ids x e
-kept_is b start ids x e v l k n h = record { below = l; kept = λ z. n (k ∙ z); entry = h }
+use Rattle.std.proofs.Common.{Option}
+use Rattle.session_cut.specs.writer.Bytes.{name_if, Mentions}
 
 module _ (b : TypeTable) (s : List ℕ) (e j : ℕ) (new : Bool) where
   module _ (z : not new ≡ true) where
@@ -55,10 +52,12 @@ module _ (b : TypeTable) (s start ids : List ℕ) where
     unfolding new_sizes
     base_start len h = omega (arith, h)
 
-    pub more_length : (j len r : ℕ) (new : Bool) → len ≡ base_of b s start ids x + new_sizes b s start ids x e j → new ≡ is_new b s start ids x e j → r ≡ len + length (name_if b s e j new)
+    pub more_length : (bases : List ℕ) (j len i : ℕ) (place : Option ℕ) (new : Bool) (l r : ℕ) → Mentions b s start ids bases x e j len i place new l → len ≡ base_of b s start ids x + new_sizes b s start ids x e j → r ≡ l + length (name_if b s e i new)
         → r ≡ base_of b s start ids x + new_sizes b s start ids x e (j + 1)
     unfolding new_sizes
-    more_length j len r new h g k = rw add-one (omega (arith, h, k, ap length (name_if_lem x e j new g), name_length b s start ids x e j))
+    more_length bases j len i place new l r m h k =
+        let g : r ≡ len + length (name_if b s e j new) = k ∙ (λ w. m.same_length w + length (name_if b s e (m.same_word w) new)) in
+        rw add-one (omega (arith, h, g, ap length (name_if_lem x e j new m.first), name_length b s start ids x e j))
 
     pub all_length : (n j len : ℕ) → j ≤ n → n ≤ j → len ≡ base_of b s start ids x + new_sizes b s start ids x e j → len ≡ base_of b s start ids x + new_sizes b s start ids x e n
     all_length n j len l g h = let z : j ≡ n = omega (arith, l, g) in h ∙ ap (λ (k : ℕ). base_of b s start ids x + new_sizes b s start ids x e k) z
@@ -81,9 +80,9 @@ module _ (b : TypeTable) (s start ids : List ℕ) where
     unfolding own_bytes
     own_none z = rw (eq-eqb (get_or ids x 0) 0 (sym k ∙ z), own_bytes) (put_empty t at)
 
-    pub own_is : (v ≡ 0 → ⊥) → (e : ℕ) → e ≡ entry_at b start x → (r : ℕ) (u : List ℕ) → put_out r u ≡ put_text t at (whole (names_bytes b s start ids x e (words_in b s e))) → put_out r u ≡ put_text t at (whole (own_bytes b s start ids x))
+    pub own_is : (v ≡ 0 → ⊥) → (y : ℕ) → y ≡ x → (e : ℕ) → e ≡ entry_at b start x → (r : ℕ) (u : List ℕ) → put_out r u ≡ put_text t at (whole (names_bytes b s start ids y e (words_in b s e))) → put_out r u ≡ put_text t at (whole (own_bytes b s start ids x))
     unfolding own_bytes
-    own_is z e f r u h = rw (ne_eqb (get_or ids x 0) 0 (λ w. z (k ∙ w)), own_bytes) (h ∙ ap (λ (q : ℕ). put_text t at (whole (names_bytes b s start ids x q (words_in b s q)))) f)
+    own_is z y i e f r u h = rw (ne_eqb (get_or ids x 0) 0 (λ w. z (k ∙ w)), own_bytes) (h ∙ ap (λ (q : ℕ). put_text t at (whole (names_bytes b s start ids q e (words_in b s e)))) i ∙ ap (λ (q : ℕ). put_text t at (whole (names_bytes b s start ids x q (words_in b s q)))) f)
 
   module _ (t : List ℕ) (at : ℕ) where
     pub no_news : put_out at t ≡ put_text t at (whole (news_bytes b s start ids 0))

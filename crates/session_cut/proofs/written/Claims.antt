@@ -1,5 +1,5 @@
 -- THE THEOREM: what the code writes is the section of the definition, of every section that passes causes 2 to 6. Assumes nothing.
-use Prim.Native.Nat.{ℕ, suc, ◌+◌, ◌<◌, ◌≤◌}
+use Prim.Native.Nat.{ℕ, suc, ◌+◌, ◌<◌, ◌≤◌, zero}
 use native.Mathlib.Omega.{arith}
 use mathlib.Core.Path.{◌≡◌, refl, sym, ◌∙◌, ap, ap₂}
 use mathlib.Core.Bool.{Bool, true, false, ◌||◌, true≢false}
@@ -24,7 +24,7 @@ use Rattle.spec_opening.specs.Table.{index_of}
 use Rattle.spec_opening.specs.Causes.{cause6, table_of}
 use Rattle.spec_cut.specs.section.Renumbered.{new_id}
 use Rattle.spec_cut.specs.section.Strings.{all_mentions, has, first_names, place_in}
-use Rattle.spec_cut.specs.section.Section.{types_of, old_types, new_names, new_offset, new_types, new_strings, cut_section, any_past, cut_value, cut_output}
+use Rattle.spec_cut.specs.section.Section.{types_of, old_types, new_names, new_offset, new_types, new_strings, cut_section, any_past, cut_output}
 use Rattle.spec_cut.specs.section.Test.{is_kept}
 use Rattle.spec_cut.proofs.section.Claims.{GoodReferences}
 use Rattle.spec_cut.proofs.section.Written.{every_kept}
@@ -37,6 +37,7 @@ use Rattle.session_cut_marks.specs.mentioned.Strings.{strings_bytes}
 use Rattle.session_cut.specs.writer.Bytes.{head_bytes, types_size, types_bytes, all_bytes, Wrote, wrote_of, fitting_written, kept_written}
 use Rattle.session_cut_marks.proofs.mentioned.Sizes.{strings_length}
 use Rattle.session_cut.proofs.writer.Sizes.{types_length}
+use Rattle.std.proofs.Common.{Option, Some, None}
 use Rattle.session_cut.specs.stored.Mentioned.{stored, names_before}
 use Rattle.session_cut.proofs.stored.Strings.{strings_are}
 use Rattle.session_cut.proofs.stored.Places.{place_is}
@@ -56,6 +57,11 @@ tests long strings types whole room none all =
 -- "23 when the output slice is short or the new section would pass 16,777,216 bytes"
 abbrev pub twenty_three : ℕ → ℕ → ℕ
 twenty_three out len = elim (ltb out len || ltb 16777216 len) [ true ↦ 23 | false ↦ 0 ]
+
+-- the length written, where there is no refusal
+abbrev pub cut_length : ℕ → ℕ → Option ℕ
+cut_length zero len = Some len
+cut_length (suc number) len = None
 
 or_right : (q : Bool) → (q || true) ≡ true
 or_right true = refl
@@ -181,13 +187,13 @@ module _ (p : ℕ) (s : List ℕ) (y : Bytes s) (short : length s ≤ 16777216) 
   -- ---- what is left in the output slice
 
   abbrev after : ℕ → List ℕ → Wrote
-  after number out = wrote_of (cut_value number (length (cut_section m s))) (cut_output number (cut_section m s) out)
+  after number out = wrote_of (cut_length number (length (cut_section m s))) (cut_output number (cut_section m s) out)
 
-  refused : (out : List ℕ) → (ltb (length out) (length (cut_section m s)) || ltb 16777216 (length (cut_section m s))) ≡ true → wrote_of 0 out ≡ after (twenty_three (length out) (length (cut_section m s))) out
+  refused : (out : List ℕ) → (ltb (length out) (length (cut_section m s)) || ltb 16777216 (length (cut_section m s))) ≡ true → wrote_of None out ≡ after (twenty_three (length out) (length (cut_section m s))) out
   refused out e = ap (λ (q : Bool). after (elim q [ true ↦ 23 | false ↦ 0 ]) out) (sym e)
 
   accepted : (out : List ℕ) → (ltb (length out) (length (cut_section m s)) || ltb 16777216 (length (cut_section m s))) ≡ false
-      → wrote_of (length (cut_section m s)) (cut_section m s ++ drop (length (cut_section m s)) out) ≡ after (twenty_three (length out) (length (cut_section m s))) out
+      → wrote_of (Some (length (cut_section m s))) (cut_section m s ++ drop (length (cut_section m s)) out) ≡ after (twenty_three (length out) (length (cut_section m s))) out
   accepted out e = ap (λ (q : Bool). after (elim q [ true ↦ 23 | false ↦ 0 ]) out) (sym e)
 
   too_long : (out : List ℕ) → 16777216 < length (cut_section m s) → (ltb (length out) (length (cut_section m s)) || ltb 16777216 (length (cut_section m s))) ≡ true
@@ -197,18 +203,18 @@ module _ (p : ℕ) (s : List ℕ) (y : Bytes s) (short : length s ≤ 16777216) 
   pub kept_written_lem : (out : List ℕ) → kept_written b s start ids out ≡ after (twenty_three (length out) (length (cut_section m s))) out
   unfolding kept_written fitting_written
   kept_written_lem out =
-      ap (λ (q : Bool). tests q (ltb 16777216 S) (ltb 16777216 T) (ltb 16777216 (24 + T + S)) (ltb (length out) (24 + T + S)) (wrote_of 0 out) whole) (le-ltb 16777216 (length s) short)
+      ap (λ (q : Bool). tests q (ltb 16777216 S) (ltb 16777216 T) (ltb 16777216 (24 + T + S)) (ltb (length out) (24 + T + S)) (wrote_of None out) whole) (le-ltb 16777216 (length s) short)
       ∙ go (ltb 16777216 S) refl (ltb 16777216 T) refl (ltb 16777216 (24 + T + S)) refl (ltb (length out) (24 + T + S)) refl
     where
       whole : Wrote
-      whole = wrote_of (24 + T + S) (all_bytes b s start ids bases T S ++ drop (24 + T + S) out)
+      whole = wrote_of (Some (24 + T + S)) (all_bytes b s start ids bases T S ++ drop (24 + T + S) out)
 
       go : (c : Bool) → ltb 16777216 S ≡ c → (d : Bool) → ltb 16777216 T ≡ d → (e : Bool) → ltb 16777216 (24 + T + S) ≡ e → (f : Bool) → ltb (length out) (24 + T + S) ≡ f
-          → tests false c d e f (wrote_of 0 out) whole ≡ after (twenty_three (length out) (length (cut_section m s))) out
+          → tests false c d e f (wrote_of None out) whole ≡ after (twenty_three (length out) (length (cut_section m s))) out
       go true ec d ed e ee f ef = refused out (too_long out (omega (arith, ltb-true 16777216 S ec, section_size)))
       go false ec true ed e ee f ef = refused out (too_long out (omega (arith, ltb-true 16777216 T ed, section_size)))
       go false ec false ed true ee f ef = refused out (too_long out (omega (arith, ltb-true 16777216 (24 + T + S) ee, section_size)))
       go false ec false ed false ee true ef = refused out (ap (λ (q : Bool). q || ltb 16777216 (length (cut_section m s))) (ap (ltb (length out)) section_size ∙ ef))
       go false ec false ed false ee false ef =
-          (λ j. wrote_of (sym section_size j) (section_written (ltb-false 16777216 S ec) (ltb-false 16777216 T ed) j ++ drop (sym section_size j) out))
+          (λ j. wrote_of (Some (sym section_size j)) (section_written (ltb-false 16777216 S ec) (ltb-false 16777216 T ed) j ++ drop (sym section_size j) out))
           ∙ accepted out (λ j. (ap (ltb (length out)) section_size ∙ ef) j || (ap (ltb 16777216) section_size ∙ ee) j)

@@ -1,6 +1,9 @@
 -- What the code's answers say; only private functions promise what is defined here.
-use Rattle.std.specs.Prelude.{ℕ, zero, suc, true, false, List}
+use Rattle.std.specs.Prelude.{ℕ, Option, Some, None, Result, Ok, Err, true, false, List}
+use Rattle.spec_bytes.specs.declared.refusal.Refusal.{Refusal}
+use Rattle.spec_bytes.specs.Refusals.{refusal_number}
 use Rattle.spec_opening.specs.Table.{types_of, index_of}
+use Rattle.spec_session.specs.declared.session.Answer.{Answer}
 use Rattle.spec_session.specs.declared.session.Answer.TheVariants.{Accepted, Refused}
 use Rattle.session_cut.specs.writer.Bytes.{Wrote, wrote_of}
 use Rattle.session_cut.specs.call.Calls.{Cut, cut_of, passes}
@@ -11,14 +14,19 @@ pub data Checked : Type 0 where
   fit : ℕ → List ℕ → Checked
 
 -- what the code's count and the index at its exit say
-unfoldable pub checked_out : ℕ → List ℕ → Checked
-checked_out zero start = unfit
-checked_out (suc n) start = fit (suc n) start
+unfoldable pub checked_out : Option ℕ → List ℕ → Checked
+checked_out None start = unfit
+checked_out (Some n) start = fit n start
 
 unfoldable pub checked_of : ℕ → List ℕ → Checked
 checked_of pointer s = elim (passes pointer s) [ true ↦ fit (types_of s) (index_of s) | false ↦ unfit ]
 
--- "The answer is the length written, 0 when refused": no section is 0 bytes long
+-- the answer of the call
+unfoldable pub answer_to : Result ℕ Refusal → Answer
+answer_to (Ok len) = Accepted len
+answer_to (Err r) = Refused (refusal_number r) 0
+
+-- "The answer is the length written, 0 when refused"
 unfoldable pub answered : Wrote → Cut
-answered (wrote_of zero out) = cut_of (Refused 23 0) out
-answered (wrote_of (suc n) out) = cut_of (Accepted (suc n)) out
+answered (wrote_of None out) = cut_of (Refused 23 0) out
+answered (wrote_of (Some n) out) = cut_of (Accepted n) out

@@ -1,13 +1,13 @@
 -- What is written: the header, the words of the kept records, each name or id replaced, and the new names.
-use Rattle.std.specs.Prelude.{ℕ, zero, suc, ◌+◌, ◌*◌, ◌%◌, ◌/◌, Bool, true, false, List, [], ◌∷◌, ◌++◌, length, get_or, drop, ltb, eqb}
+use Rattle.std.specs.Prelude.{ℕ, zero, suc, ◌+◌, ◌*◌, ◌%◌, ◌/◌, ◌≡◌, Option, Some, None, Bool, true, false, List, [], ◌∷◌, ◌++◌, length, get_or, drop, ltb, eqb}
 use Rattle.spec_c_dumper.specs.rules.Types.{is_empty}
 use Rattle.spec_type_table.specs.declared.types.TypeTable.{TypeTable}
 use Rattle.spec_type_table.specs.Names.{str_at}
 use Rattle.btf_open_causes.specs.references.Followed.{type_count, entry_at}
 use Rattle.session_cut_marks.specs.roles.Words.{role, words_in, word_of}
-use Rattle.session_cut_marks.specs.mentioned.Names.{place_of, base_of, bases_to, zero_bases}
+use Rattle.session_cut_marks.specs.mentioned.Names.{is_new, place_of, base_of, bases_to, zero_bases}
 use Rattle.session_cut_marks.specs.mentioned.Strings.{strings_bytes}
-use Rattle.session_cut_marks.specs.interned.Slots.{found}
+use Rattle.session_cut_marks.specs.interned.Slots.{found, slot_place}
 
 -- a word in four bytes, the most significant first where `big`
 unfoldable pub word_bytes : Bool → ℕ → List ℕ
@@ -64,38 +64,51 @@ module _ (b : TypeTable) (s start ids : List ℕ) where
 unfoldable pub name_if : TypeTable → List ℕ → ℕ → ℕ → Bool → List ℕ
 name_if b s e j new = elim new [ true ↦ str_at b s (word_of b s e j) ++ (0 ∷ []) | false ↦ [] ]
 
--- what the table t has for the name of word j, or 0
-unfoldable pub sought : TypeTable → List ℕ → List ℕ → ℕ → ℕ → ℕ
+-- where the table t has the name of word j
+unfoldable pub sought : TypeTable → List ℕ → List ℕ → ℕ → ℕ → Option ℕ
 sought b s t e j = elim (eqb (role (e % 32) j) 1) [
-  | false ↦ 0
-  | true ↦ elim (is_empty (str_at b s (word_of b s e j))) [ true ↦ 0 | false ↦ found b s t (word_of b s e j) ]
+  | false ↦ None
+  | true ↦ elim (is_empty (str_at b s (word_of b s e j))) [ true ↦ None | false ↦ slot_place (found b s t (word_of b s e j)) ]
 ]
+
+-- a place, where it is not 0
+unfoldable pub some_place : ℕ → Option ℕ
+some_place zero = None
+some_place (suc p) = Some (suc p)
+
+-- what the mention of word j of type x says, where the strings before it have the length `len`
+pub record Mentions (b : TypeTable) (s start ids bases : List ℕ) (x e j len : ℕ) (word : ℕ) (place : Option ℕ) (new : Bool) (before : ℕ) : Type 0 where
+  pub same_word : word ≡ j
+  pub same_length : before ≡ len
+  pub first : new ≡ is_new b s start ids x e j
+  pub in_table : (p : ℕ) → place ≡ Some p → p ≡ place_of b s start ids bases (word_of b s e word)
+  pub at_end : new ≡ true → before ≡ place_of b s start ids bases (word_of b s e word)
 
 -- the length written, and the output slice
 pub data Wrote : Type 0 where
-  wrote_of : ℕ → List ℕ → Wrote
+  wrote_of : Option ℕ → List ℕ → Wrote
 
 module _ (b : TypeTable) (s start ids : List ℕ) where
-  -- "23 when the output slice is short or the new section would pass 16,777,216 bytes; nothing is written"; "0 when refused; the rest of
+  -- "23 when the output slice is short or the new section would pass 16,777,216 bytes; nothing is written": then no length; "the rest of
   -- the slice .. never altered"
   unfoldable pub fitting_written : List ℕ → ℕ → ℕ → List ℕ → Wrote
   fitting_written bases types strings out =
       elim (ltb 16777216 (24 + types + strings)) [
-        | true ↦ wrote_of 0 out
+        | true ↦ wrote_of None out
         | false ↦ elim (ltb (length out) (24 + types + strings)) [
-          | true ↦ wrote_of 0 out
-          | false ↦ wrote_of (24 + types + strings) (all_bytes b s start ids bases types strings ++ drop (24 + types + strings) out)
+          | true ↦ wrote_of None out
+          | false ↦ wrote_of (Some (24 + types + strings)) (all_bytes b s start ids bases types strings ++ drop (24 + types + strings) out)
         ]
       ]
 
   unfoldable pub kept_written : List ℕ → Wrote
   kept_written out =
       elim (ltb 16777216 (length s)) [
-        | true ↦ wrote_of 0 out
+        | true ↦ wrote_of None out
         | false ↦ elim (ltb 16777216 (base_of b s start ids (type_count b))) [
-          | true ↦ wrote_of 0 out
+          | true ↦ wrote_of None out
           | false ↦ elim (ltb 16777216 (types_size b s start ids (type_count b))) [
-            | true ↦ wrote_of 0 out
+            | true ↦ wrote_of None out
             | false ↦ fitting_written (bases_to b s start ids zero_bases (type_count b)) (types_size b s start ids (type_count b))
                 (base_of b s start ids (type_count b)) out
           ]

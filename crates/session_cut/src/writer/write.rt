@@ -1,22 +1,22 @@
 // Writing the new section.
-ghost use Rattle.std.specs.Prelude.{◌≡◌, true, ◌/◌, ◌<◌, ◌≤◌, get_or};
+ghost use Rattle.std.specs.Prelude.{◌≡◌, true, ◌<◌, ◌≤◌, ℕ};
 ghost use Rattle.spec_bytes.specs.text.Text.{whole, put_out, put_text};
 ghost use Rattle.btf_open_causes.specs.references.Followed.{type_count};
 ghost use Rattle.session_cut_marks.specs.roles.Words.{words_in, word_of};
 ghost use Rattle.session_cut_marks.specs.mentioned.Names.{base_of, place_of};
-ghost use Rattle.session_cut_marks.specs.interned.Right.{all_bases, Right, StringKept};
+ghost use Rattle.session_cut_marks.specs.interned.Right.{StringKept};
 ghost use Rattle.session_cut.specs.writer.Bytes.{word_bytes, magic_bytes, head_bytes, type_size, types_size, new_word, record_bytes};
 ghost use Rattle.session_cut.specs.writer.Bytes.{type_bytes, types_bytes, all_bytes, wrote_of, fitting_written, kept_written};
 
-use crate::writer::area::put_strings;
-use crate::writer::names::{Kept, Mention, is_first, longer, place_of, seek};
+use crate::writer::names::longer;
+use crate::writer::source::{KeptType, Mention, Source};
 use base_bytes::limit;
-use base_bytes::put::put_two;
-use btf_open_causes::references::{count, entry};
-use session_cut_marks::interned::{SLOTS_LEN, fill_table};
-use session_cut_marks::mentioned::peek;
-use session_cut_marks::roles::{role, word_of, words_in};
-use spec_type_table::TypeTable;
+use base_bytes::put::put_bytes;
+use btf_open_causes::references::count;
+use session_cut_marks::interned::SLOTS_LEN;
+use session_cut_marks::kept::Kept;
+use session_cut_marks::peek::peek;
+use session_cut_marks::roles::{Role, word_of, word_role, words_in};
 
 // The lengths of the two areas.
 #[derive(Clone, Copy)]
@@ -29,27 +29,22 @@ struct Sizes {
 fn put_word(out: &mut [u8], at: usize, big: bool, v: u32) -> usize
     ensures { put_out result out.new ≡ put_text out.old at (whole (word_bytes big v)) }
 {
-    let a = (v % 256) as u8;
-    let c = (v / 256 % 256) as u8;
-    let d = (v / 65536 % 256) as u8;
-    let f = (v / 16777216) as u8;
     if big {
-        let p = put_two(out, at, f, d);
-        return put_two(out, p, c, a);
+        put_bytes(out, at, &v.to_be_bytes())
+    } else {
+        put_bytes(out, at, &v.to_le_bytes())
     }
-    let p = put_two(out, at, a, c);
-    put_two(out, p, d, f)
 }
 
+// The magic number 0xEB9F in the order of the bytes, version 1 and the flags.
 fn put_magic(out: &mut [u8], at: usize, big: bool, flags: u8) -> usize
     ensures { put_out result out.new ≡ put_text out.old at (whole (magic_bytes big flags)) }
 {
     if big {
-        let p = put_two(out, at, 235, 159);
-        return put_two(out, p, 1, flags);
+        put_bytes(out, at, &[0xEB, 0x9F, 1, flags])
+    } else {
+        put_bytes(out, at, &[0x9F, 0xEB, 1, flags])
     }
-    let p = put_two(out, at, 159, 235);
-    put_two(out, p, 1, flags)
 }
 
 // The header of 24 bytes: types follow, then strings.
@@ -65,253 +60,150 @@ pub fn put_head(out: &mut [u8], big: bool, flags: u8, types: u32, strings: u32) 
 }
 
 // The length of the types.
-pub fn types_size(b: TypeTable, section: &[u8], start: &[u32], ids: &[u32]) -> u64
-    ensures { result ≡ types_size b section.now start.now ids.now (type_count b) }
+pub fn types_size(kept: &Kept) -> u64
+    ensures { result ≡ types_size kept.now.b kept.now.section.now kept.now.start.now kept.now.ids.now (type_count kept.now.b) }
 {
-    let n = count(b);
-    let mut len: u64 = 0;
-    let mut x: u32 = 0;
-    while x < n {
-        len = type_size(b, section, start, ids, x, len);
-        x += 1;
+    let mut len = 0;
+    for x in 0..count(kept.b) {
+        len = type_size(kept, x, len);
     }
     len
 }
 
-fn type_size(b: TypeTable, section: &[u8], start: &[u32], ids: &[u32], x: u32, len: u64) -> u64
+fn type_size(kept: &Kept, x: u32, len: u64) -> u64
     requires { len ≤ 4611686018427387904 }
-    ensures { result ≡ type_size b section.now start.now ids.now x len }
+    ensures { result ≡ type_size kept.now.b kept.now.section.now kept.now.start.now kept.now.ids.now x len }
 {
-    if peek(ids, x as usize) == 0 {
+    if kept.new_id(x) == 0 {
         return len;
     }
-    len + (words_in(b, section, entry(b, start, x)) as u64) * 4
+    len + (words_in(kept.b, kept.section, kept.entry(x)) as u64) * 4
 }
 
-// Word m of the record with entry e, as it is written.
-fn new_word(
-    b: TypeTable,
-    section: &[u8],
-    start: &[u32],
-    ids: &[u32],
-    bases: &[u32],
-    table: &[u64],
-    e: u32,
-    m: Mention,
-) -> u32
-    requires { Right b section.now start.now ids.now table.now × (bases.now ≡ all_bases b section.now start.now ids.now)
-        × ((m.v ≡ 0 → ⊥)
-        → m.v / 4294967296 ≡ place_of b section.now start.now ids.now bases.now (word_of b section.now e m.j))
-        × (m.new ≡ true → m.len ≡ place_of b section.now start.now ids.now bases.now (word_of b section.now e m.j)) }
-    ensures { result ≡ new_word b section.now start.now ids.now bases.now e m.j }
-{
-    let r = role(e % 32, m.j);
-    let w = word_of(b, section, e, m.j);
-    if r == 1 {
-        return place_of(b, section, start, ids, bases, table, w, m);
+impl Source<'_> {
+    // Word m of the record with entry e, as it is written.
+    fn new_word(&self, e: u32, m: Mention) -> u32
+        requires { ((p : ℕ) → m.place ≡ Some p
+            → p ≡ place_of self.now.kept.b self.now.kept.section.now self.now.kept.start.now self.now.kept.ids.now self.now.bases.now (word_of self.now.kept.b self.now.kept.section.now e m.j))
+            × (m.new ≡ true
+            → m.len ≡ place_of self.now.kept.b self.now.kept.section.now self.now.kept.start.now self.now.kept.ids.now self.now.bases.now (word_of self.now.kept.b self.now.kept.section.now e m.j)) }
+        ensures { result ≡ new_word self.now.kept.b self.now.kept.section.now self.now.kept.start.now self.now.kept.ids.now self.now.bases.now e m.j }
+    {
+        let w = word_of(self.kept.b, self.kept.section, e, m.j);
+        match word_role(e % 32, m.j) {
+            Role::Name => self.place_of(w, m),
+            Role::Id => self.kept.new_id(w),
+            Role::Plain => w,
+        }
     }
-    if r == 2 {
-        return peek(ids, w as usize);
+
+    // The record of type t.
+    fn put_record(&self, t: KeptType, out: &mut [u8], at: usize) -> usize
+        requires { StringKept self.now.kept.b self.now.kept.start.now self.now.kept.ids.now t.x t.e
+            × (t.base ≡ base_of self.now.kept.b self.now.kept.section.now self.now.kept.start.now self.now.kept.ids.now t.x) }
+        ensures { put_out result out.new
+            ≡ put_text out.old at (whole
+            (record_bytes self.now.kept.b self.now.kept.section.now self.now.kept.start.now self.now.kept.ids.now self.now.bases.now t.e
+            (words_in self.now.kept.b self.now.kept.section.now t.e))) }
+    {
+        let mut p = at;
+        let mut len = t.base;
+        for j in 0..words_in(self.kept.b, self.kept.section, t.e) {
+            let m = self.mention(t, j, len);
+            p = put_word(out, p, self.kept.b.big_endian, self.new_word(t.e, m));
+            len = longer(self.kept.b, self.kept.section, t.e, m);
+        }
+        p
     }
-    w
-}
 
-// The record of type t.
-fn put_record(
-    b: TypeTable,
-    section: &[u8],
-    start: &[u32],
-    ids: &[u32],
-    bases: &[u32],
-    table: &[u64],
-    t: Kept,
-    out: &mut [u8],
-    at: usize,
-) -> usize
-    requires { Right b section.now start.now ids.now table.now × (bases.now ≡ all_bases b section.now start.now ids.now)
-        × StringKept b start.now ids.now t.x t.e × (t.base ≡ base_of b section.now start.now ids.now t.x) }
-    ensures { put_out result out.new
-        ≡ put_text out.old at (whole
-        (record_bytes b section.now start.now ids.now bases.now t.e
-        (words_in b section.now t.e))) }
-{
-    let n = words_in(b, section, t.e);
-    let mut p = at;
-    let mut len = t.base;
-    let mut j: u32 = 0;
-    while j < n {
-        let v = seek(b, section, table, t.e, j);
-        let new = is_first(b, section, start, ids, t, j, v, len);
-        let m = Mention {
-            j: j,
-            v: v,
-            new: new,
-            len: len,
-        };
-        let w = new_word(b, section, start, ids, bases, table, t.e, m);
-        p = put_word(out, p, b.big_endian, w);
-        len = longer(b, section, t.e, j, new, len);
-        j += 1;
+    fn put_type(&self, x: u32, out: &mut [u8], at: usize) -> usize
+        requires { x < type_count self.now.kept.b }
+        ensures { put_out result out.new
+            ≡ put_text out.old at (whole (type_bytes self.now.kept.b self.now.kept.section.now self.now.kept.start.now self.now.kept.ids.now self.now.bases.now x)) }
+    {
+        if self.kept.new_id(x) == 0 {
+            return at;
+        }
+        self.put_record(self.kept_type(x), out, at)
     }
-    p
-}
 
-fn put_type(
-    b: TypeTable,
-    section: &[u8],
-    start: &[u32],
-    ids: &[u32],
-    bases: &[u32],
-    table: &[u64],
-    x: u32,
-    out: &mut [u8],
-    at: usize,
-) -> usize
-    requires { Right b section.now start.now ids.now table.now × (bases.now ≡ all_bases b section.now start.now ids.now)
-        × (x < type_count b) }
-    ensures { put_out result out.new
-        ≡ put_text out.old at (whole
-        (type_bytes b section.now start.now ids.now bases.now x)) }
-{
-    if peek(ids, x as usize) == 0 {
-        return at;
+    // The types that are kept.
+    fn put_types(&self, out: &mut [u8], at: usize) -> usize
+        ensures { put_out result out.new
+            ≡ put_text out.old at (whole
+            (types_bytes self.now.kept.b self.now.kept.section.now self.now.kept.start.now self.now.kept.ids.now self.now.bases.now (type_count self.now.kept.b))) }
+    {
+        let mut p = at;
+        for x in 0..count(self.kept.b) {
+            p = self.put_type(x, out, p);
+        }
+        p
     }
-    let e = entry(b, start, x);
-    let base = peek(bases, x as usize);
-    put_record(
-        b,
-        section,
-        start,
-        ids,
-        bases,
-        table,
-        Kept {
-            x: x,
-            e: e,
-            base: base,
-        },
-        out,
-        at,
-    )
-}
 
-// The types that are kept.
-fn put_types(
-    b: TypeTable,
-    section: &[u8],
-    start: &[u32],
-    ids: &[u32],
-    bases: &[u32],
-    table: &[u64],
-    out: &mut [u8],
-    at: usize,
-) -> usize
-    requires { Right b section.now start.now ids.now table.now × (bases.now ≡ all_bases b section.now start.now ids.now) }
-    ensures { put_out result out.new
-        ≡ put_text out.old at (whole
-        (types_bytes b section.now start.now ids.now bases.now (type_count b))) }
-{
-    let n = count(b);
-    let mut p = at;
-    let mut x: u32 = 0;
-    while x < n {
-        p = put_type(b, section, start, ids, bases, table, x, out, p);
-        x += 1;
+    // Header, types and strings.
+    fn put_all(&self, sizes: Sizes, out: &mut [u8]) -> usize
+        ensures { put_out result out.new
+            ≡ put_text out.old 0 (whole
+            (all_bytes self.now.kept.b self.now.kept.section.now self.now.kept.start.now self.now.kept.ids.now self.now.bases.now sizes.types sizes.strings)) }
+    {
+        let flags = peek(self.kept.section, 3, 0);
+        let p = put_head(
+            out,
+            self.kept.b.big_endian,
+            flags,
+            sizes.types,
+            sizes.strings,
+        );
+        let q = self.put_types(out, p);
+        self.put_strings(out, q)
     }
-    p
-}
 
-// Header, types and strings.
-fn put_all(
-    b: TypeTable,
-    section: &[u8],
-    start: &[u32],
-    ids: &[u32],
-    bases: &[u32],
-    table: &[u64],
-    sizes: Sizes,
-    out: &mut [u8],
-) -> usize
-    requires { Right b section.now start.now ids.now table.now × (bases.now ≡ all_bases b section.now start.now ids.now) }
-    ensures { put_out result out.new
-        ≡ put_text out.old 0 (whole
-        (all_bytes b section.now start.now ids.now bases.now sizes.types
-        sizes.strings)) }
-{
-    let flags = byte_at(section, 3);
-    let p = put_head(out, b.big_endian, flags, sizes.types, sizes.strings);
-    let q = put_types(b, section, start, ids, bases, table, out, p);
-    put_strings(b, section, start, ids, bases, table, out, q)
-}
-
-fn byte_at(l: &[u8], i: usize) -> u8
-    ensures { result ≡ get_or l.now i 0 }
-{
-    if i < l.len() {
-        return l[i];
+    fn write_fitting(&self, sizes: Sizes, out: &mut [u8]) -> Option<u32>
+        requires { (sizes.types ≤ 16777216) × (sizes.strings ≤ 16777216)
+            × (sizes.types ≡ types_size self.now.kept.b self.now.kept.section.now self.now.kept.start.now self.now.kept.ids.now (type_count self.now.kept.b))
+            × (sizes.strings ≡ base_of self.now.kept.b self.now.kept.section.now self.now.kept.start.now self.now.kept.ids.now (type_count self.now.kept.b)) }
+        ensures { wrote_of result out.new
+            ≡ fitting_written self.now.kept.b self.now.kept.section.now self.now.kept.start.now self.now.kept.ids.now self.now.bases.now sizes.types sizes.strings out.old }
+    {
+        let len = 24 + sizes.types + sizes.strings;
+        if limit::MOST_BYTES_32 < len {
+            return None;
+        }
+        if out.len() < (len as usize) {
+            return None;
+        }
+        self.put_all(sizes, out);
+        Some(len)
     }
-    0
 }
 
-// Measures first: 0 and nothing written, where the output slice is short or the section would pass 16,777,216 bytes; else
+// Measures first: none and nothing written, where the output slice is short or the section would pass 16,777,216 bytes; else
 // the length written. The rest of the slice stays.
-pub fn write_kept(b: TypeTable, section: &[u8], start: &[u32], ids: &[u32], out: &mut [u8]) -> u64
+pub fn write_kept(kept: &Kept, out: &mut [u8]) -> Option<u32>
     ensures { wrote_of result out.new
-        ≡ kept_written b section.now start.now ids.now out.old }
+        ≡ kept_written kept.now.b kept.now.section.now kept.now.start.now kept.now.ids.now out.old }
 {
-    if limit::MOST_BYTES < section.len() {
-        return 0;
+    if limit::MOST_BYTES < kept.section.len() {
+        return None;
     }
     let mut bases = [0u32; limit::TYPES_LEN];
     let mut table = [0u64; SLOTS_LEN];
-    let strings = fill_table(b, section, start, ids, &mut table, &mut bases);
-    let types = types_size(b, section, start, ids);
+    let strings = kept.fill_table(&mut table, &mut bases);
+    let types = types_size(kept);
     if limit::MOST_BYTES_32 < strings {
-        return 0;
+        return None;
     }
     if limit::MOST_BYTES_64 < types {
-        return 0;
+        return None;
     }
-    write_fitting(
-        b,
-        section,
-        start,
-        ids,
-        &bases,
-        &table,
-        Sizes {
-            types: types as u32,
-            strings: strings,
-        },
-        out,
-    )
-}
-
-fn write_fitting(
-    b: TypeTable,
-    section: &[u8],
-    start: &[u32],
-    ids: &[u32],
-    bases: &[u32],
-    table: &[u64],
-    sizes: Sizes,
-    out: &mut [u8],
-) -> u64
-    requires { Right b section.now start.now ids.now table.now × (bases.now ≡ all_bases b section.now start.now ids.now)
-        × (sizes.types ≤ 16777216) × (sizes.strings ≤ 16777216)
-        × (sizes.types ≡ types_size b section.now start.now ids.now (type_count b))
-        × (sizes.strings ≡ base_of b section.now start.now ids.now (type_count b)) }
-    ensures { wrote_of result out.new
-        ≡ fitting_written b section.now start.now ids.now bases.now sizes.types
-        sizes.strings out.old }
-{
-    let len = 24 + sizes.types + sizes.strings;
-    if limit::MOST_BYTES_32 < len {
-        return 0;
-    }
-    if out.len() < (len as usize) {
-        return 0;
-    }
-    put_all(b, section, start, ids, bases, table, sizes, out);
-    len as u64
+    let source = Source {
+        kept: *kept,
+        bases: &bases,
+        table: &table,
+    };
+    let sizes = Sizes {
+        types: types as u32,
+        strings,
+    };
+    source.write_fitting(sizes, out)
 }

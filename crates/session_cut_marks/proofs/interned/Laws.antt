@@ -1,5 +1,6 @@
 -- A law for each return of the code, and for each loop its start, its turn and its end. Assumes nothing.
-use Prim.Native.Nat.{ℕ, zero, suc, ◌+◌, ◌-◌, ◌*◌, ◌%◌, ◌<◌, ◌≤◌}
+use Prim.Native.Nat.{ℕ, zero, suc, ◌+◌, ◌-◌, ◌*◌, ◌/◌, ◌%◌, ◌<◌, ◌≤◌}
+use Rattle.std.proofs.Common.{Some, None}
 use native.Mathlib.Omega.{arith}
 use native.Mathlib.Numerals.{add-one}
 use mathlib.Core.Path.{◌≡◌, refl, sym, ◌∙◌, ap}
@@ -16,8 +17,13 @@ use Rattle.btf_open_names.specs.name_classes.Table.{hash_from}
 use Rattle.session_cut_marks.specs.roles.Words.{role, words_in, word_of}
 use Rattle.session_cut_marks.specs.mentioned.Names.{is_new, new_size}
 use Rattle.session_cut_marks.proofs.mentioned.Laws.{flip_true, flip_false, name_short}
-use Rattle.session_cut_marks.specs.interned.Slots.{stops, probe, slot_of, found}
+use Rattle.session_cut_marks.specs.interned.Slots.{stops, probe, slot_of, found, slot_place}
 use Rattle.session_cut_marks.specs.interned.Filled.{Filled, filled_of, length_of, after, settled, entered, entered_to, entered_type, filled_to, lengths_to, filling_of, filling}
+
+some_place : (v : ℕ) → (v ≡ 0 → ⊥) → slot_place v ≡ Some (v / 4294967296)
+unfolding slot_place
+some_place zero n = absurd (n refl)
+some_place (suc v) n = refl
 
 module _ (b : TypeTable) (s t : List ℕ) where
   -- ---- slots
@@ -38,21 +44,36 @@ module _ (b : TypeTable) (s t : List ℕ) where
   unfolding probe
   probe_suc name i k l = let z : k ≡ suc (k - 1) = omega (arith, l) in ap (probe b s t name i) z
 
-  module _ (off i k : ℕ) (h : slot_of b s t off ≡ probe b s t (str_at b s off) i k) where
-    module _ (l : 0 < k) (q : Bool) (g : q ≡ stops b s t (str_at b s off) i) where
+  -- turn n, of 262144
+  module _ (off i n : ℕ) (h : slot_of b s t off ≡ probe b s t (str_at b s off) i (262144 - n)) where
+    module _ (l : n < 262144) (q : Bool) (g : q ≡ stops b s t (str_at b s off) i) where
+      one_on : slot_of b s t off ≡ elim q as (λ u. ℕ) [ true ↦ i | false ↦ probe b s t (str_at b s off) ((i + 1) % 262144) (262144 - (n + 1)) ]
+      one_on =
+          let z : 262144 - n - 1 ≡ 262144 - (n + 1) = omega arith in
+          h ∙ probe_suc (str_at b s off) i (262144 - n) (omega (arith, l))
+          ∙ (λ w. elim (sym g w) as (λ u. ℕ) [ true ↦ i | false ↦ probe b s t (str_at b s off) ((i + 1) % 262144) (z w) ])
+
       pub probe_here : q ≡ true → i ≡ slot_of b s t off
-      probe_here z = sym (h ∙ probe_suc (str_at b s off) i k l ∙ ap (λ (c : Bool). elim c as (λ u. ℕ) [ true ↦ i | false ↦ probe b s t (str_at b s off) ((i + 1) % 262144) (k - 1) ]) (sym g ∙ z))
+      probe_here y = sym (one_on ∙ ap (λ (c : Bool). elim c as (λ u. ℕ) [ true ↦ i | false ↦ probe b s t (str_at b s off) ((i + 1) % 262144) (262144 - (n + 1)) ]) y)
 
-      pub probe_on : q ≡ false → slot_of b s t off ≡ probe b s t (str_at b s off) ((i + 1) % 262144) (k - 1)
-      probe_on z = h ∙ probe_suc (str_at b s off) i k l ∙ ap (λ (c : Bool). elim c as (λ u. ℕ) [ true ↦ i | false ↦ probe b s t (str_at b s off) ((i + 1) % 262144) (k - 1) ]) (sym g ∙ z)
+      pub probe_on : q ≡ false → slot_of b s t off ≡ probe b s t (str_at b s off) ((i + 1) % 262144) (262144 - (n + 1))
+      probe_on y = one_on ∙ ap (λ (c : Bool). elim c as (λ u. ℕ) [ true ↦ i | false ↦ probe b s t (str_at b s off) ((i + 1) % 262144) (262144 - (n + 1)) ]) y
 
-    pub probe_none : k ≤ 0 → 262144 ≡ slot_of b s t off
+    pub probe_none : 262144 ≤ n → 262144 ≡ slot_of b s t off
     unfolding probe
-    probe_none l = let z : k ≡ 0 = omega (arith, l) in sym (h ∙ ap (probe b s t (str_at b s off) i) z)
+    probe_none l = let z : 262144 - n ≡ 0 = omega (arith, l) in sym (h ∙ ap (probe b s t (str_at b s off) i) z)
 
-  pub found_is : (off i r : ℕ) → i ≡ slot_of b s t off → r ≡ get_or t i 0 → r ≡ found b s t off
-  unfolding found
-  found_is off i r e g = g ∙ ap (λ (j : ℕ). get_or t j 0) e
+  module _ (off i v : ℕ) (e : i ≡ slot_of b s t off) (g : v ≡ get_or t i 0) where
+    found_is : v ≡ found b s t off
+    unfolding found
+    found_is = g ∙ ap (λ (j : ℕ). get_or t j 0) e
+
+    pub found_none : v ≡ 0 → None ≡ slot_place (found b s t off)
+    unfolding slot_place
+    found_none z = ap slot_place (sym z ∙ found_is)
+
+    pub found_some : (v ≡ 0 → ⊥) → Some (v / 4294967296) ≡ slot_place (found b s t off)
+    found_some n = sym (some_place v n) ∙ ap slot_place found_is
 
 -- ---- the table filled
 pub set_past : (l : List ℕ) (i v : ℕ) → length l ≤ i → l ≡ set l i v

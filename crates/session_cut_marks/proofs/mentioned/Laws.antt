@@ -1,12 +1,13 @@
 -- A law for each return of the code, and for each loop its start, its turn and its end. Assumes nothing.
 use Prim.Native.Nat.{ℕ, zero, suc, ◌+◌, ◌-◌, ◌%◌, ◌<◌, ◌≤◌}
 use native.Mathlib.Omega.{arith}
-use native.Mathlib.Numerals.{add-one}
 use mathlib.Core.Path.{◌≡◌, refl, sym, ◌∙◌, ap}
-use mathlib.Core.Bool.{Bool, true, false, not, true≢false}
+use mathlib.Core.Bool.{Bool, true, false, not, ◌&&◌, ◌||◌, true≢false}
 use mathlib.Core.List.{List, [], ◌∷◌}
 use lib.ListN.{length, get_or, drop, length-drop}
-use lib.Seq.{drop-cons}
+use lib.Dec.{eqb}
+use lib.Pointwise.{pointwise}
+use Rattle.std.specs.List.{list_any, range_with_len}
 use borrow.Author.Tests.{eq-eqb, ne_eqb}
 use Rattle.spec_c_dumper.specs.rules.Types.{is_empty}
 use Rattle.spec_c_dumper.specs.rules.Names.{same_bytes}
@@ -28,42 +29,30 @@ pub flip_false : (q : Bool) → not q ≡ false → q ≡ true
 flip_false true h = refl
 flip_false false h = absurd (true≢false h)
 
+or_false : (p : Bool) → (p || false) ≡ p
+or_false true = refl
+or_false false = refl
+
+or_assoc : (p q r : Bool) → (p || (q || r)) ≡ ((p || q) || r)
+or_assoc true q r = refl
+or_assoc false q r = refl
+
+or_is : (p q : Bool) → (p || q) ≡ elim p as (λ z. Bool) [ true ↦ true | false ↦ q ]
+or_is true q = refl
+or_is false q = refl
+
 -- ---- bytes of names
-past_end : (a : List ℕ) (k : ℕ) → length a ≤ k → drop k a ≡ []
-past_end [] zero h = refl
-past_end [] (suc k) h = refl
-past_end (x ∷ a) zero h = absurd (omega (arith, h))
-past_end (x ∷ a) (suc k) h = past_end a k (omega (arith, h))
+heads : (q r t : Bool) → r ≡ t → (q && r) ≡ elim q as (λ z. Bool) [ true ↦ t | false ↦ false ]
+heads true r t h = h
+heads false r t h = refl
 
-abbrev Rest : List ℕ → List ℕ → ℕ → Type 0
-Rest a c k = same_bytes a c ≡ same_bytes (drop k a) (drop k c)
-
-module _ (a c : List ℕ) (k : ℕ) (r : same_bytes a c ≡ same_bytes (drop k a) (drop k c)) where
-  pub bytes_short : k < length a → length c ≤ k → false ≡ same_bytes a c
-  unfolding same_bytes
-  bytes_short l m = sym (r ∙ (λ i. same_bytes (drop-cons a k 0 l i) (past_end c k m i)))
-
-  module _ (l : k < length a) (m : k < length c) where
-    both : same_bytes (drop k a) (drop k c) ≡ same_bytes (get_or a k 0 ∷ drop (suc k) a) (get_or c k 0 ∷ drop (suc k) c)
-    both i = same_bytes (drop-cons a k 0 l i) (drop-cons c k 0 m i)
-
-    pub bytes_differ : (get_or a k 0 ≡ get_or c k 0 → ⊥) → false ≡ same_bytes a c
-    unfolding same_bytes
-    bytes_differ n = sym (r ∙ both ∙ ap (λ (q : Bool). elim q as (λ z. Bool) [ true ↦ same_bytes (drop (suc k) a) (drop (suc k) c) | false ↦ false ]) (ne_eqb (get_or a k 0) (get_or c k 0) n))
-
-    pub bytes_on : get_or a k 0 ≡ get_or c k 0 → same_bytes a c ≡ same_bytes (drop (k + 1) a) (drop (k + 1) c)
-    unfolding same_bytes
-    bytes_on e =
-        rw add-one
-        (r ∙ both ∙ ap (λ (q : Bool). elim q as (λ z. Bool) [ true ↦ same_bytes (drop (suc k) a) (drop (suc k) c) | false ↦ false ]) (eq-eqb (get_or a k 0) (get_or c k 0) e))
-
-  pub bytes_long : length a ≤ k → k < length c → false ≡ same_bytes a c
-  unfolding same_bytes
-  bytes_long l m = sym (r ∙ (λ i. same_bytes (past_end a k l i) (drop-cons c k 0 m i)))
-
-  pub bytes_all : length a ≤ k → length c ≤ k → true ≡ same_bytes a c
-  unfolding same_bytes
-  bytes_all l m = sym (r ∙ (λ i. same_bytes (past_end a k l i) (past_end c k m i)))
+-- `==` on slices compares their bytes
+pub bytes_eq_is : (a c : List ℕ) → pointwise eqb a c ≡ same_bytes a c
+unfolding same_bytes
+bytes_eq_is [] [] = refl
+bytes_eq_is [] (y ∷ c) = refl
+bytes_eq_is (x ∷ a) [] = refl
+bytes_eq_is (x ∷ a) (y ∷ c) = heads (eqb x y) (pointwise eqb a c) (same_bytes a c) (bytes_eq_is a c)
 
 bytes_same : (a : List ℕ) → same_bytes a a ≡ true
 unfolding same_bytes
@@ -76,6 +65,17 @@ up_to_short [] = omega arith
 up_to_short (zero ∷ l) = omega arith
 up_to_short (suc x ∷ l) = omega (arith, up_to_short l)
 
+-- ---- tests of a range, of which the last comes last
+any_last : (test : ℕ → Bool) (a n : ℕ) → list_any test (range_with_len a (suc n)) ≡ (list_any test (range_with_len a n) || test (a + n))
+any_last test a zero = let z : a ≡ a + 0 = omega arith in or_false (test a) ∙ ap test z
+any_last test a (suc n) =
+    let z : a + 1 + n ≡ a + suc n = omega arith in
+    ap (λ (q : Bool). test a || q) (any_last test (a + 1) n ∙ ap (λ (k : ℕ). list_any test (range_with_len (a + 1) n) || test k) z)
+    ∙ or_assoc (test a) (list_any test (range_with_len (a + 1) n)) (test (a + suc n))
+
+any_from_0 : (test : ℕ → Bool) (n : ℕ) → list_any test (range_with_len 0 (suc n)) ≡ (list_any test (range_with_len 0 n) || test n)
+any_from_0 test n = let z : 0 + n ≡ n = omega arith in any_last test 0 n ∙ ap (λ (k : ℕ). list_any test (range_with_len 0 n) || test k) z
+
 module _ (b : TypeTable) (s : List ℕ) where
   pub name_short : (off : ℕ) → length (str_at b s off) ≤ length s
   unfolding name_at
@@ -84,8 +84,8 @@ module _ (b : TypeTable) (s : List ℕ) where
   pub one_name : (p q : ℕ) → p ≡ q → true ≡ same_bytes (str_at b s p) (str_at b s q)
   one_name p q e = sym (bytes_same (str_at b s p)) ∙ ap (λ (k : ℕ). same_bytes (str_at b s p) (str_at b s k)) e
 
-  pub two_names : (p q : ℕ) (a c : List ℕ) (r : Bool) → a ≡ str_at b s p → c ≡ str_at b s q → r ≡ same_bytes a c → r ≡ same_bytes (str_at b s p) (str_at b s q)
-  two_names p q a c r e f g = g ∙ (λ i. same_bytes (e i) (f i))
+  pub two_names : (p q : ℕ) (a c : List ℕ) (r : Bool) → a ≡ str_at b s p → c ≡ str_at b s q → r ≡ pointwise eqb a c → r ≡ same_bytes (str_at b s p) (str_at b s q)
+  two_names p q a c r e f g = g ∙ bytes_eq_is a c ∙ (λ i. same_bytes (e i) (f i))
 
   module _ (e off j v : ℕ) (k : v ≡ role (e % 32) j) where
     pub no_name : (v ≡ 1 → ⊥) → false ≡ is_name b s e off j
@@ -96,24 +96,10 @@ module _ (b : TypeTable) (s : List ℕ) where
     unfolding is_name
     name_is z w f r g = g ∙ ap (λ (u : ℕ). same_bytes (str_at b s u) (str_at b s off)) f ∙ rw (eq-eqb (role (e % 32) j) 1 (sym k ∙ z), is_name)
 
-  pub or_found : (e off j : ℕ) (found : Bool) → found ≡ true → true ≡ or_name b s e off j found
-  unfolding or_name
-  or_found e off j found h = rw (h, or_name)
-
-  pub or_not : (e off j : ℕ) (found : Bool) → found ≡ false → (r : Bool) → r ≡ is_name b s e off j → r ≡ or_name b s e off j found
-  unfolding or_name
-  or_not e off j found h r g = g ∙ rw (h, or_name)
-
-  pub none_named : (e off : ℕ) → false ≡ named_to b s e off 0
-  unfolding named_to
-  none_named e off = refl
-
-  pub more_named : (e off j : ℕ) (found r : Bool) → found ≡ named_to b s e off j → r ≡ or_name b s e off j found → r ≡ named_to b s e off (j + 1)
-  unfolding named_to
-  more_named e off j found r h g = rw add-one (g ∙ ap (or_name b s e off j) h)
-
-  pub all_named : (e off n j : ℕ) (found : Bool) → j ≤ n → n ≤ j → found ≡ named_to b s e off j → found ≡ named_to b s e off n
-  all_named e off n j found l g h = let z : j ≡ n = omega (arith, l, g) in h ∙ ap (named_to b s e off) z
+  pub any_named : (e off n : ℕ) → list_any (is_name b s e off) (range_with_len 0 n) ≡ named_to b s e off n
+  unfolding named_to or_name
+  any_named e off zero = refl
+  any_named e off (suc n) = any_from_0 (is_name b s e off) n ∙ ap (λ (q : Bool). q || is_name b s e off n) (any_named e off n) ∙ or_is (named_to b s e off n) (is_name b s e off n)
 
   -- the first word with a name
   first_suc : (e off j n : ℕ) → j < n → first_from b s e off j (n - j) ≡ elim (is_name b s e off j) as (λ z. ℕ) [ true ↦ j | false ↦ first_from b s e off (j + 1) (n - (j + 1)) ]
@@ -133,9 +119,12 @@ module _ (b : TypeTable) (s : List ℕ) where
     pub first_on : q ≡ false → first_from b s e off 0 n ≡ first_from b s e off (j + 1) (n - (j + 1))
     first_on z = h ∙ first_suc e off j n l ∙ ap (λ (c : Bool). elim c as (λ u. ℕ) [ true ↦ j | false ↦ first_from b s e off (j + 1) (n - (j + 1)) ]) (sym g ∙ z)
 
-  pub first_none : (e off j n : ℕ) → n ≤ j → first_from b s e off 0 n ≡ first_from b s e off j (n - j) → j ≡ first_from b s e off 0 n
+  pub first_none : (e off j n : ℕ) → j ≤ n → n ≤ j → first_from b s e off 0 n ≡ first_from b s e off j (n - j) → n ≡ first_from b s e off 0 n
   unfolding first_from
-  first_none e off j n l h = let z : n - j ≡ 0 = omega (arith, l) in sym (h ∙ ap (first_from b s e off j) z)
+  first_none e off j n g l h =
+      let z : n - j ≡ 0 = omega (arith, l) in
+      let w : j ≡ n = omega (arith, g, l) in
+      sym (h ∙ ap (first_from b s e off j) z ∙ w)
 
   module _ (start ids : List ℕ) where
     module _ (off y v : ℕ) (k : v ≡ get_or ids y 0) where
@@ -148,24 +137,11 @@ module _ (b : TypeTable) (s : List ℕ) where
       kept_mentions z e f n g r h =
           h ∙ ap (named_to b s e off) g ∙ ap (λ (u : ℕ). named_to b s u off (words_in b s u)) f ∙ rw (ne_eqb (get_or ids y 0) 0 (λ w. z (k ∙ w)), mentions)
 
-    pub or_mentioned : (off y : ℕ) (found : Bool) → found ≡ true → true ≡ or_mentions b s start ids off y found
-    unfolding or_mentions
-    or_mentioned off y found h = rw (h, or_mentions)
-
-    pub or_mentions_lem : (off y : ℕ) (found : Bool) → found ≡ false → (r : Bool) → r ≡ mentions b s start ids off y → r ≡ or_mentions b s start ids off y found
-    unfolding or_mentions
-    or_mentions_lem off y found h r g = g ∙ rw (h, or_mentions)
-
-    pub none_mentioned : (off : ℕ) → false ≡ mentioned_to b s start ids off 0
-    unfolding mentioned_to
-    none_mentioned off = refl
-
-    pub more_mentioned : (off y : ℕ) (found r : Bool) → found ≡ mentioned_to b s start ids off y → r ≡ or_mentions b s start ids off y found → r ≡ mentioned_to b s start ids off (y + 1)
-    unfolding mentioned_to
-    more_mentioned off y found r h g = rw add-one (g ∙ ap (or_mentions b s start ids off y) h)
-
-    pub all_mentioned : (off x y : ℕ) (found : Bool) → y ≤ x → x ≤ y → found ≡ mentioned_to b s start ids off y → found ≡ mentioned_to b s start ids off x
-    all_mentioned off x y found l g h = let z : y ≡ x = omega (arith, l, g) in h ∙ ap (mentioned_to b s start ids off) z
+    pub any_mentioned : (off x : ℕ) → list_any (mentions b s start ids off) (range_with_len 0 x) ≡ mentioned_to b s start ids off x
+    unfolding mentioned_to or_mentions
+    any_mentioned off zero = refl
+    any_mentioned off (suc x) =
+        any_from_0 (mentions b s start ids off) x ∙ ap (λ (q : Bool). q || mentions b s start ids off x) (any_mentioned off x) ∙ or_is (mentioned_to b s start ids off x) (mentions b s start ids off x)
 
     -- a new name
     module _ (x e j v : ℕ) (k : v ≡ role (e % 32) j) where

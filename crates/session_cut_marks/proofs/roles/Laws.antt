@@ -9,29 +9,14 @@ use borrow.Author.Tests.{eq-eqb, ne_eqb, lt-ltb, le-ltb}
 use Rattle.spec_bytes.specs.text.Text.{ascii}
 use Rattle.spec_type_table.specs.declared.types.TypeTable.{TypeTable}
 use Rattle.spec_type_table.specs.Records.{section_word, vlen_of}
-use Rattle.session_cut_marks.specs.roles.Words.{digit_at, fixed_words, entry_words, roles, column, role, words_in}
+use Rattle.session_cut_marks.specs.roles.Words.{digit_at, fixed_words, entry_words, roles, column, role, role_of, words_in}
+use Rattle.session_cut_marks.specs.declared.roles.Role.{Role}
+use Rattle.session_cut_marks.specs.declared.roles.Role.TheVariants.{Name, Id, Plain}
 
 pub get_past : (l : List ℕ) (i d : ℕ) → length l ≤ i → get_or l i d ≡ d
 get_past [] i d h = refl
 get_past (x ∷ l) zero d h = absurd (omega (arith, h))
 get_past (x ∷ l) (suc i) d h = get_past l i d (omega (arith, h))
-
-get_any : (l : List ℕ) (i d e : ℕ) → i < length l → get_or l i d ≡ get_or l i e
-get_any [] i d e h = absurd (omega (arith, h))
-get_any (x ∷ l) zero d e h = refl
-get_any (x ∷ l) (suc i) d e h = get_any l i d e (omega (arith, h))
-
-pub digit_past : (l : List ℕ) (i : ℕ) → length l ≤ i → 0 ≡ digit_at l i
-unfolding digit_at
-digit_past l i h = sym (ap (λ (v : ℕ). v - 48) (get_past l i 48 h))
-
-pub digit_low : (l : List ℕ) (i : ℕ) → i < length l → get_or l i 0 < 48 → 0 ≡ digit_at l i
-unfolding digit_at
-digit_low l i h k = let e : get_or l i 0 ≡ get_or l i 48 = get_any l i 0 48 h in omega (arith, e, k)
-
-pub digit_is : (l : List ℕ) (i : ℕ) → i < length l → get_or l i 0 - 48 ≡ digit_at l i
-unfolding digit_at
-digit_is l i h = ap (λ (v : ℕ). v - 48) (get_any l i 0 48 h)
 
 -- no digit is above 9
 abbrev Digits : List ℕ → Type 0
@@ -74,6 +59,43 @@ module _ (per j : ℕ) where
 pub role_is : (kind j per col r : ℕ) → per ≡ entry_words kind → col ≡ column per j → r ≡ digit_at roles (kind * 6 + col) → r ≡ role kind j
 unfolding role
 role_is kind j per col r e f g = g ∙ ap (λ (k : ℕ). digit_at roles (kind * 6 + k)) (f ∙ ap (λ (p : ℕ). column p j) e)
+
+pub role_plain : (d : ℕ) → (d ≡ 1 → ⊥) → (d ≡ 2 → ⊥) → Plain ≡ role_of d
+unfolding role_of
+role_plain zero n m = refl
+role_plain (suc zero) n m = absurd (n refl)
+role_plain (suc (suc zero)) n m = absurd (m refl)
+role_plain (suc (suc (suc d))) n m = refl
+
+-- a word is a name where its digit is 1, and an id where it is 2
+digit_name : (d : ℕ) → role_of d ≡ Name → d ≡ 1
+unfolding role_of
+digit_name zero h = cc
+digit_name (suc zero) h = refl
+digit_name (suc (suc zero)) h = cc
+digit_name (suc (suc (suc d))) h = cc
+
+digit_id : (d : ℕ) → role_of d ≡ Id → d ≡ 2
+unfolding role_of
+digit_id zero h = cc
+digit_id (suc zero) h = cc
+digit_id (suc (suc zero)) h = refl
+digit_id (suc (suc (suc d))) h = cc
+
+module _ (r : Role) (d : ℕ) (e : r ≡ role_of d) where
+  pub name_digit : r ≡ Name → d ≡ 1
+  name_digit h = digit_name d (sym e ∙ h)
+
+  pub id_digit : r ≡ Id → d ≡ 2
+  id_digit h = digit_id d (sym e ∙ h)
+
+  pub no_name_digit : (r ≡ Name → ⊥) → d ≡ 1 → ⊥
+  unfolding role_of
+  no_name_digit n h = n (e ∙ ap role_of h)
+
+  pub no_id_digit : (r ≡ Id → ⊥) → d ≡ 2 → ⊥
+  unfolding role_of
+  no_id_digit n h = n (e ∙ ap role_of h)
 
 pub product_few : (g v : ℕ) → g ≤ 255 → v ≤ 65535 → g * v ≤ 16711425
 product_few g v a c = let h : g * v ≤ 255 * v = mul-le-mul_right v a in omega (arith, h, c)

@@ -1,5 +1,6 @@
 -- What the filled table says is so, of strings that have 16,777,216 bytes at most.
 use Rattle.std.specs.Prelude.{ℕ, ◌%◌, ◌/◌, ◌<◌, ◌≤◌, ◌≡◌, List, length, get_or}
+use Rattle.std.specs.Coded.{le_prop, Coded-set, coded_ℕ}
 use Rattle.spec_type_table.specs.declared.types.TypeTable.{TypeTable}
 use Rattle.spec_type_table.specs.Names.{str_at}
 use Rattle.btf_open_causes.specs.references.Followed.{type_count, entry_at}
@@ -16,6 +17,15 @@ pub record Right (b : TypeTable) (s start ids t : List ℕ) : Type 0 where
   pub long : length t ≡ 262144
   pub places : (i : ℕ) → (get_or t i 0 ≡ 0 → ⊥) → (off : ℕ) → str_at b s off ≡ str_at b s (get_or t i 0 % 4294967296)
       → place_of b s start ids (all_bases b s start ids) off ≡ get_or t i 0 / 4294967296
+
+-- two proofs of it are the same
+pub Right-prop : (b : TypeTable) (s start ids t : List ℕ) → IsProp (Right b s start ids t)
+Right-prop b s start ids t p q i = record {
+  short = le_prop p.short q.short i;
+  small = le_prop p.small q.small i;
+  long = Coded-set coded_ℕ (length t) 262144 p.long q.long i;
+  places = λ k n off e. Coded-set coded_ℕ (place_of b s start ids (all_bases b s start ids) off) (get_or t k 0 / 4294967296) (p.places k n off e) (q.places k n off e) i;
+}
 
 -- a type that is kept, and its entry
 pub record StringKept (b : TypeTable) (start ids : List ℕ) (x e : ℕ) : Type 0 where

@@ -1,5 +1,5 @@
 -- A hash table over the names, with open addressing. A slot is 0 where it is free; else the offset of a name, and its place times 2 ^ 32.
-use Rattle.std.specs.Prelude.{ℕ, zero, suc, ◌+◌, ◌%◌, Bool, true, false, List, get_or, eqb}
+use Rattle.std.specs.Prelude.{ℕ, zero, suc, ◌+◌, ◌/◌, ◌%◌, Option, Some, None, Bool, true, false, List, get_or, eqb}
 use Rattle.spec_c_dumper.specs.rules.Names.{same_bytes}
 use Rattle.spec_type_table.specs.declared.types.TypeTable.{TypeTable}
 use Rattle.spec_type_table.specs.Names.{str_at}
@@ -22,3 +22,8 @@ module _ (b : TypeTable) (s t : List ℕ) where
   -- what the table has for it, or 0
   unfoldable pub found : ℕ → ℕ
   found off = get_or t (slot_of off) 0
+
+-- the place that a slot says, unless it is free
+unfoldable pub slot_place : ℕ → Option ℕ
+slot_place zero = None
+slot_place (suc v) = Some (suc v / 4294967296)

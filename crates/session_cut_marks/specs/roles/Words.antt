@@ -1,8 +1,10 @@
 -- The words of a record, by the kind 0 to 19: how many there are, and which of them are name offsets and which are ids.
-use Rattle.std.specs.Prelude.{ℕ, ◌+◌, ◌-◌, ◌*◌, ◌/◌, ◌%◌, true, false, List, get_or, ltb, eqb}
+use Rattle.std.specs.Prelude.{ℕ, zero, suc, ◌+◌, ◌-◌, ◌*◌, ◌/◌, ◌%◌, true, false, List, get_or, ltb, eqb}
 use Rattle.spec_bytes.specs.text.Text.{ascii}
 use Rattle.spec_type_table.specs.declared.types.TypeTable.{TypeTable}
 use Rattle.spec_type_table.specs.Records.{section_word, vlen_of}
+use Rattle.session_cut_marks.specs.declared.roles.Role.{Role}
+use Rattle.session_cut_marks.specs.declared.roles.Role.TheVariants.{Name, Id, Plain}
 
 -- digit i of a text of digits, and 0 past its end
 unfoldable pub digit_at : List ℕ → ℕ → ℕ
@@ -31,6 +33,13 @@ column per j =
 -- what word j of a record is
 unfoldable pub role : ℕ → ℕ → ℕ
 role kind j = digit_at roles (kind * 6 + column (entry_words kind) j)
+
+-- what the digit says
+unfoldable pub role_of : ℕ → Role
+role_of zero = Plain
+role_of (suc zero) = Name
+role_of (suc (suc zero)) = Id
+role_of (suc (suc (suc d))) = Plain
 
 -- e: place * 32 + kind
 module _ (b : TypeTable) (s : List ℕ) (e : ℕ) where

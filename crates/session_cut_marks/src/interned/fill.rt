@@ -7,10 +7,10 @@ ghost use Rattle.session_cut_marks.specs.interned.Slots.{slot_of};
 ghost use Rattle.session_cut_marks.specs.interned.Filled.{filled_of, settled, entered, entered_to, entered_type, filling_of, filling};
 
 use crate::interned::slots::slot_of;
-use crate::mentioned::{is_new, peek};
-use crate::roles::{role, word_of, words_in};
+use crate::kept::Kept;
+use crate::roles::{Role, word_of, word_role, words_in};
 use base_bytes::limit;
-use btf_open_causes::references::{count, entry};
+use btf_open_causes::references::count;
 use btf_type_table::name::{get_btf_str, is_empty};
 use spec_type_table::TypeTable;
 
@@ -22,17 +22,6 @@ fn size(b: TypeTable, section: &[u8], off: u32) -> u32
     (get_btf_str(b, section, off).len() as u32) + 1
 }
 
-// The bytes of a new name, by the plain way.
-fn new_size(b: TypeTable, section: &[u8], start: &[u32], ids: &[u32], x: u32, e: u32, j: u32) -> u32
-    requires { length section.now ≤ 16777216 }
-    ensures { result ≡ new_size b section.now start.now ids.now x e j }
-{
-    if !is_new(b, section, start, ids, x, e, j) {
-        return 0;
-    }
-    size(b, section, word_of(b, section, e, j))
-}
-
 // Word j of the record with entry e, that of type x.
 #[derive(Clone, Copy)]
 struct Mention {
@@ -41,111 +30,104 @@ struct Mention {
     j: u32,
 }
 
-// The name that a word mentions: entered where its slot is free.
-fn settle(
-    b: TypeTable,
-    section: &[u8],
-    start: &[u32],
-    ids: &[u32],
-    m: Mention,
-    off: u32,
-    len: u32,
-    table: &mut [u64],
-) -> u32
-    requires { (length section.now ≤ 16777216) × (len ≤ 16777216) }
-    ensures { filled_of result table.new
-        ≡ settled b section.now start.now ids.now m.x m.e m.j off
-        (slot_of b section.now table.old off) len table.old }
-{
-    let at = slot_of(b, section, table, off) as usize;
-    if table.len() <= at {
-        return len + new_size(b, section, start, ids, m.x, m.e, m.j);
+impl Kept<'_> {
+    // The bytes of a new name, by the plain way.
+    fn new_size(&self, m: Mention) -> u32
+        requires { length self.now.section.now ≤ 16777216 }
+        ensures { result
+            ≡ new_size self.now.b self.now.section.now self.now.start.now self.now.ids.now
+            m.x m.e m.j }
+    {
+        if !self.is_new(m.x, m.e, m.j) {
+            return 0;
+        }
+        let off = word_of(self.b, self.section, m.e, m.j);
+        size(self.b, self.section, off)
     }
-    if table[at] != 0 {
-        return len;
-    }
-    table[at] = (off as u64) + (len as u64) * limit::TWO_TO_32;
-    len + size(b, section, off)
-}
 
-fn enter(
-    b: TypeTable,
-    section: &[u8],
-    start: &[u32],
-    ids: &[u32],
-    m: Mention,
-    len: u32,
-    table: &mut [u64],
-) -> u32
-    requires { length section.now ≤ 16777216 }
-    ensures { filled_of result table.new
-        ≡ entered b section.now start.now ids.now m.x m.e m.j len table.old }
-{
-    if limit::MOST_BYTES_32 < len {
-        return len;
+    // The name that a word mentions: entered where its slot is free.
+    fn settle(&self, m: Mention, off: u32, len: u32, table: &mut [u64]) -> u32
+        requires { (length self.now.section.now ≤ 16777216) × (len ≤ 16777216) }
+        ensures { filled_of result table.new
+            ≡ settled self.now.b self.now.section.now self.now.start.now self.now.ids.now
+            m.x m.e m.j off (slot_of self.now.b self.now.section.now table.old off) len
+            table.old }
+    {
+        let at = slot_of(self.b, self.section, table, off) as usize;
+        if table.len() <= at {
+            return len + self.new_size(m);
+        }
+        if table[at] != 0 {
+            return len;
+        }
+        table[at] = (off as u64) + (len as u64) * limit::TWO_TO_32;
+        len + size(self.b, self.section, off)
     }
-    if role(m.e % 32, m.j) != 1 {
-        return len;
-    }
-    let off = word_of(b, section, m.e, m.j);
-    if is_empty(b, section, off) {
-        return len;
-    }
-    settle(b, section, start, ids, m, off, len, table)
-}
 
-// The words of the record with entry e, that of type x.
-fn enter_words(
-    b: TypeTable,
-    section: &[u8],
-    start: &[u32],
-    ids: &[u32],
-    x: u32,
-    e: u32,
-    len: u32,
-    table: &mut [u64],
-) -> u32
-    requires { length section.now ≤ 16777216 }
-    ensures { filled_of result table.new
-        ≡ entered_to b section.now start.now ids.now x e len table.old
-        (words_in b section.now e) }
-{
-    let n = words_in(b, section, e);
-    let mut now_len = len;
-    let mut j: u32 = 0;
-    while j < n {
-        now_len = enter(
-            b,
-            section,
-            start,
-            ids,
-            Mention { x: x, e: e, j: j },
-            now_len,
-            table,
-        );
-        j += 1;
+    fn enter(&self, m: Mention, len: u32, table: &mut [u64]) -> u32
+        requires { length self.now.section.now ≤ 16777216 }
+        ensures { filled_of result table.new
+            ≡ entered self.now.b self.now.section.now self.now.start.now self.now.ids.now
+            m.x m.e m.j len table.old }
+    {
+        if limit::MOST_BYTES_32 < len {
+            return len;
+        }
+        let Role::Name = word_role(m.e % 32, m.j) else {
+            return len;
+        };
+        let off = word_of(self.b, self.section, m.e, m.j);
+        if is_empty(self.b, self.section, off) {
+            return len;
+        }
+        self.settle(m, off, len, table)
     }
-    now_len
-}
 
-// Type x, if it is kept.
-fn enter_type(
-    b: TypeTable,
-    section: &[u8],
-    start: &[u32],
-    ids: &[u32],
-    x: u32,
-    len: u32,
-    table: &mut [u64],
-) -> u32
-    requires { length section.now ≤ 16777216 }
-    ensures { filled_of result table.new
-        ≡ entered_type b section.now start.now ids.now x len table.old }
-{
-    if peek(ids, x as usize) == 0 {
-        return len;
+    // The words of the record with entry e, that of type x.
+    fn enter_words(&self, x: u32, e: u32, len: u32, table: &mut [u64]) -> u32
+        requires { length self.now.section.now ≤ 16777216 }
+        ensures { filled_of result table.new
+            ≡ entered_to self.now.b self.now.section.now self.now.start.now
+            self.now.ids.now x e len table.old
+            (words_in self.now.b self.now.section.now e) }
+    {
+        let mut now_len = len;
+        for j in 0..words_in(self.b, self.section, e) {
+            now_len = self.enter(Mention { x, e, j }, now_len, table);
+        }
+        now_len
     }
-    enter_words(b, section, start, ids, x, entry(b, start, x), len, table)
+
+    // Type x, if it is kept.
+    fn enter_type(&self, x: u32, len: u32, table: &mut [u64]) -> u32
+        requires { length self.now.section.now ≤ 16777216 }
+        ensures { filled_of result table.new
+            ≡ entered_type self.now.b self.now.section.now self.now.start.now
+            self.now.ids.now x len table.old }
+    {
+        if self.new_id(x) == 0 {
+            return len;
+        }
+        self.enter_words(x, self.entry(x), len, table)
+    }
+
+    // The table of all types, and in `lengths` the length of the strings before each. Returns the length of the strings; above 16,777,216
+    // it says no more than that. (0 for a section that is too long: of any other the strings have the leading 0.)
+    pub fn fill_table(&self, table: &mut [u64], lengths: &mut [u32]) -> u32
+        ensures { filling_of (filled_of result table.new) lengths.new
+            ≡ filling self.now.b self.now.section.now self.now.start.now self.now.ids.now
+            table.old lengths.old }
+    {
+        if limit::MOST_BYTES < self.section.len() {
+            return 0;
+        }
+        let mut len = 1;
+        for x in 0..count(self.b) {
+            store(lengths, x as usize, len);
+            len = self.enter_type(x, len, table);
+        }
+        len
+    }
 }
 
 fn store(l: &mut [u32], i: usize, v: u32)
@@ -154,31 +136,4 @@ fn store(l: &mut [u32], i: usize, v: u32)
     if i < l.len() {
         l[i] = v;
     }
-}
-
-// The table of all types, and in `lengths` the length of the strings before each. Returns the length of the strings; above 16,777,216 it
-// says no more than that.
-pub fn fill_table(
-    b: TypeTable,
-    section: &[u8],
-    start: &[u32],
-    ids: &[u32],
-    table: &mut [u64],
-    lengths: &mut [u32],
-) -> u32
-    ensures { filling_of (filled_of result table.new) lengths.new
-        ≡ filling b section.now start.now ids.now table.old lengths.old }
-{
-    if limit::MOST_BYTES < section.len() {
-        return 0;
-    }
-    let n = count(b);
-    let mut len: u32 = 1;
-    let mut x: u32 = 0;
-    while x < n {
-        store(lengths, x as usize, len);
-        len = enter_type(b, section, start, ids, x, len, table);
-        x += 1;
-    }
-    len
 }

@@ -1,11 +1,6 @@
 use Rattle.session_cut_marks.specs.tags.Tags.{tagged_to}
-use lib.ListN.{length}
-use Prim.Native.Nat.{◌-◌, ◌≤◌}
 use mathlib.Core.Path.{◌≡◌}
 use Rattle.session_cut_marks.proofs.tags.mark_tags.Given as goal
 
 abbrev pub invariant-loop-x : goal.invariant-loop-x
-invariant-loop-x l = (l.marks ≡ tagged_to l.b l.section l.start l.initial.marks l.x) × (l.x ≤ l.n) × (length l.marks ≡ length l.initial.marks)
-
-abbrev pub decreases-loop-x : goal.decreases-loop-x
-decreases-loop-x l = l.n - l.x
+invariant-loop-x l = (l.marks ≡ tagged_to l.b l.section l.start l.initial.marks l.x)

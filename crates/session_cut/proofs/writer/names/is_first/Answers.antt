@@ -1,7 +1,7 @@
 use Rattle.session_cut.proofs.writer.names.is_first.Goals as goal
 
-pub returns-then-v-eq0 : goal.returns-then-v-eq0
-returns-then-v-eq0 c = c.is_new.ensures
+pub returns-in-Some : goal.returns-in-Some
+returns-in-Some c = c.requires _ c.in-Some.is
 
-pub returns : goal.returns
-returns c = c.requires c.if-v-eq0.false
+pub returns-in-None : goal.returns-in-None
+returns-in-None c = c.is_new.ensures

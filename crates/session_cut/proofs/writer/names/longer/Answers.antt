@@ -1,4 +1,3 @@
-use Rattle.std.proofs.lemmas.Bool.{not_from_true, not_from_false}
 use Rattle.session_cut.proofs.writer.Strings.{long_none, long_is}
 use Rattle.session_cut_marks.proofs.mentioned.Laws.{name_short}
 use native.Mathlib.Omega.{arith}
@@ -6,8 +5,8 @@ use mathlib.Core.Path.{ap}
 use lib.ListN.{length}
 use Rattle.session_cut.proofs.writer.names.longer.Goals as goal
 
-pub returns-then-not-new : goal.returns-then-not-new
-returns-then-not-new c = long_none _ _ _ _ _ (not_from_false _ c.if-not-new.true) _
+pub returns-then-not-m : goal.returns-then-not-m
+returns-then-not-m c = long_none _ _ _ _ _ c.if-not-m.true _
 
 pub overflow_cast-result : goal.overflow_cast-result
 overflow_cast-result c = omega (arith, c.requires.0, ap length c.get_btf_str.ensures, name_short c.args.b c.args.section.now c.word_of.result)
@@ -19,4 +18,4 @@ pub overflow_add-result-2 : goal.overflow_add-result-2
 overflow_add-result-2 c = omega (arith, c.requires.0, c.requires.1, ap length c.get_btf_str.ensures, name_short c.args.b c.args.section.now c.word_of.result)
 
 pub returns : goal.returns
-returns c = long_is _ _ _ _ _ (not_from_true _ c.if-not-new.false) _ c.word_of.ensures _ _ c.get_btf_str.ensures
+returns c = long_is _ _ _ _ _ c.if-not-m.false _ c.word_of.ensures _ _ c.get_btf_str.ensures

@@ -1,8 +1,13 @@
-use Rattle.session_cut.proofs.writer.Laws.{magic_big, magic_little}
+use mathlib.Core.Path.{sym, ◌∙◌, ap}
+use mathlib.Core.Bool.{Bool}
+use Rattle.spec_bytes.specs.text.Text.{whole, put_text}
+use Rattle.session_cut.specs.writer.Bytes.{magic_bytes}
 use Rattle.session_cut.proofs.writer.write.put_magic.Goals as goal
 
 pub returns-then-big : goal.returns-then-big
-returns-then-big c = magic_big _ _ _ _ _ _ _ _ c.if-big.true c.put_two-p.ensures c.put_two.ensures
+unfolding magic_bytes
+returns-then-big c = c.put_bytes.ensures ∙ ap (λ (q : Bool). put_text c.args.out.now c.args.at (whole (magic_bytes q c.args.flags))) (sym c.if-big.true)
 
-pub returns : goal.returns
-returns c = magic_little _ _ _ _ _ _ _ _ c.if-big.false c.put_two-p-2.ensures c.put_two-2.ensures
+pub returns-else-big : goal.returns-else-big
+unfolding magic_bytes
+returns-else-big c = c.put_bytes-else-big.ensures ∙ ap (λ (q : Bool). put_text c.args.out.now c.args.at (whole (magic_bytes q c.args.flags))) (sym c.if-big.false)

@@ -1,8 +1,13 @@
+use native.Mathlib.Omega.{arith}
+use mathlib.Core.Path.{◌≡◌}
+use mathlib.Core.List.{List}
+use Prim.Native.Nat.{ℕ}
+use Rattle.spec_bytes.specs.text.Text.{whole, put_out, put_text}
 use Rattle.session_cut.proofs.writer.Laws.{word_big, word_little}
 use Rattle.session_cut.proofs.writer.write.put_word.Goals as goal
 
 pub returns-then-big : goal.returns-then-big
-returns-then-big c = word_big _ _ _ _ _ _ _ _ c.if-big.true c.put_two-p.ensures c.put_two.ensures
+returns-then-big c = word_big _ _ (omega arith) (λ (l : List ℕ). put_out c.put_bytes.result c.put_bytes.new.text ≡ put_text c.args.out.now c.args.at (whole l)) c.if-big.true _ c.to_be_bytes.ensures c.put_bytes.ensures
 
-pub returns : goal.returns
-returns c = word_little _ _ _ _ _ _ _ _ c.if-big.false c.put_two-p-2.ensures c.put_two-2.ensures
+pub returns-else-big : goal.returns-else-big
+returns-else-big c = word_little _ _ (omega arith) (λ (l : List ℕ). put_out c.put_bytes-else-big.result c.put_bytes-else-big.new.text ≡ put_text c.args.out.now c.args.at (whole l)) c.if-big.false _ c.to_le_bytes.ensures c.put_bytes-else-big.ensures

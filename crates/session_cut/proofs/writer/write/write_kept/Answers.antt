@@ -1,14 +1,14 @@
 use Prim.Native.Nat.{ℕ}
-use mathlib.Core.Path.{sym, ◌∙◌}
+use mathlib.Core.Path.{sym}
 use lib.ListN.{length-replicate}
-use Rattle.session_cut.proofs.writer.Laws.{few_fits, kept_long, kept_strings, kept_types, kept_is}
+use Rattle.session_cut.proofs.writer.Laws.{kept_long, kept_strings, kept_types, kept_is}
 use Rattle.session_cut_marks.specs.mentioned.Names.{zero_bases}
 use Rattle.session_cut_marks.specs.interned.Filled.{zero_table}
 use Rattle.session_cut_marks.proofs.interned.Right.{table_length, table_bases, table_right}
 use Rattle.session_cut.proofs.writer.write.write_kept.Goals as goal
 
-pub returns-then-section-gt-MOST_BYTES : goal.returns-then-section-gt-MOST_BYTES
-returns-then-section-gt-MOST_BYTES c = kept_long _ _ _ _ _ c.if-section-gt-MOST_BYTES.true
+pub returns-then-kept-gt-MOST_BYTES : goal.returns-then-kept-gt-MOST_BYTES
+returns-then-kept-gt-MOST_BYTES c = kept_long _ _ _ _ _ c.if-kept-gt-MOST_BYTES.true
 
 pub slice_bounds-fill_table-end : goal.slice_bounds-fill_table-end
 slice_bounds-fill_table-end c = sym (length-replicate {A = ℕ} 262144 0)
@@ -18,25 +18,23 @@ slice_bounds-fill_table-end-2 c = sym (length-replicate {A = ℕ} 262145 0)
 
 pub returns-then-strings-gt-MOST_BYTES_32 : goal.returns-then-strings-gt-MOST_BYTES_32
 unfolding zero_bases zero_table
-returns-then-strings-gt-MOST_BYTES_32 c = kept_strings _ _ _ _ _ c.if-section-gt-MOST_BYTES.false _ _ _ c.fill_table-strings.ensures c.if-strings-gt-MOST_BYTES_32.true
+returns-then-strings-gt-MOST_BYTES_32 c = kept_strings _ _ _ _ _ c.if-kept-gt-MOST_BYTES.false _ _ _ c.fill_table-strings.ensures c.if-strings-gt-MOST_BYTES_32.true
 
 pub returns-then-types-gt-MOST_BYTES_64 : goal.returns-then-types-gt-MOST_BYTES_64
 unfolding zero_bases zero_table
-returns-then-types-gt-MOST_BYTES_64 c = kept_types _ _ _ _ _ c.if-section-gt-MOST_BYTES.false _ _ _ c.fill_table-strings.ensures c.if-strings-gt-MOST_BYTES_32.false _ c.types_size-types.ensures c.if-types-gt-MOST_BYTES_64.true
+returns-then-types-gt-MOST_BYTES_64 c = kept_types _ _ _ _ _ c.if-kept-gt-MOST_BYTES.false _ _ _ c.fill_table-strings.ensures c.if-strings-gt-MOST_BYTES_32.false _ c.types_size-types.ensures c.if-types-gt-MOST_BYTES_64.true
 
-pub slice_bounds-write_fitting-end : goal.slice_bounds-write_fitting-end
-slice_bounds-write_fitting-end c = sym (c.fill_table-strings.auto.lengths ∙ length-replicate {A = ℕ} 262145 0)
-
-pub slice_bounds-write_fitting-end-2 : goal.slice_bounds-write_fitting-end-2
-slice_bounds-write_fitting-end-2 c = sym (c.fill_table-strings.auto.table ∙ length-replicate {A = ℕ} 262144 0)
-
-pub overflow_cast-types : goal.overflow_cast-types
-overflow_cast-types c = few_fits _ c.if-types-gt-MOST_BYTES_64.false
+pub invariant_of-source : goal.invariant_of-source
+unfolding zero_bases zero_table
+invariant_of-source c = record {
+  right = table_right _ _ _ _ c.if-kept-gt-MOST_BYTES.false _ _ _ c.fill_table-strings.ensures c.if-strings-gt-MOST_BYTES_32.false;
+  based = table_bases _ _ _ _ c.if-kept-gt-MOST_BYTES.false _ _ _ c.fill_table-strings.ensures c.if-strings-gt-MOST_BYTES_32.false;
+}
 
 pub write_fitting-requires : goal.write_fitting-requires
 unfolding zero_bases zero_table
-write_fitting-requires c = (table_right _ _ _ _ c.if-section-gt-MOST_BYTES.false _ _ _ c.fill_table-strings.ensures c.if-strings-gt-MOST_BYTES_32.false, table_bases _ _ _ _ c.if-section-gt-MOST_BYTES.false _ _ _ c.fill_table-strings.ensures c.if-strings-gt-MOST_BYTES_32.false, c.if-types-gt-MOST_BYTES_64.false, c.if-strings-gt-MOST_BYTES_32.false, c.types_size-types.ensures, table_length _ _ _ _ c.if-section-gt-MOST_BYTES.false _ _ _ c.fill_table-strings.ensures c.if-strings-gt-MOST_BYTES_32.false)
+write_fitting-requires c = (c.if-types-gt-MOST_BYTES_64.false, c.if-strings-gt-MOST_BYTES_32.false, c.types_size-types.ensures, table_length _ _ _ _ c.if-kept-gt-MOST_BYTES.false _ _ _ c.fill_table-strings.ensures c.if-strings-gt-MOST_BYTES_32.false)
 
 pub returns : goal.returns
 unfolding zero_bases zero_table
-returns c = kept_is _ _ _ _ _ c.if-section-gt-MOST_BYTES.false _ _ _ c.fill_table-strings.ensures c.if-strings-gt-MOST_BYTES_32.false _ c.types_size-types.ensures c.if-types-gt-MOST_BYTES_64.false _ c.write_fitting.ensures
+returns c = kept_is _ _ _ _ _ c.if-kept-gt-MOST_BYTES.false _ _ _ c.fill_table-strings.ensures c.if-strings-gt-MOST_BYTES_32.false _ c.types_size-types.ensures c.if-types-gt-MOST_BYTES_64.false _ c.write_fitting.ensures

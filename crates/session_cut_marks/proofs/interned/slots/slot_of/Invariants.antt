@@ -1,11 +1,8 @@
 use Rattle.session_cut_marks.specs.interned.Slots.{probe, slot_of}
 use Rattle.spec_type_table.specs.Names.{str_at}
 use mathlib.Core.Path.{◌≡◌}
-use Prim.Native.Nat.{◌<◌}
+use Prim.Native.Nat.{◌-◌, ◌<◌}
 use Rattle.session_cut_marks.proofs.interned.slots.slot_of.Given as goal
 
-abbrev pub invariant-loop-k : goal.invariant-loop-k
-invariant-loop-k l = (slot_of l.b l.section l.table l.off ≡ probe l.b l.section l.table (str_at l.b l.section l.off) l.i l.k) × (l.i < 262144)
-
-abbrev pub decreases-loop-k : goal.decreases-loop-k
-decreases-loop-k l = l.k
+abbrev pub invariant-loop-turn : goal.invariant-loop-turn
+invariant-loop-turn l = (slot_of l.b l.section l.table l.off ≡ probe l.b l.section l.table (str_at l.b l.section l.off) l.i (262144 - l._turn)) × (l.i < 262144)

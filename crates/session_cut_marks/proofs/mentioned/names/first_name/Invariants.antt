@@ -1,10 +1,7 @@
 use Rattle.session_cut_marks.specs.mentioned.Names.{first_from}
 use mathlib.Core.Path.{◌≡◌}
-use Prim.Native.Nat.{◌-◌, ◌≤◌}
+use Prim.Native.Nat.{◌-◌}
 use Rattle.session_cut_marks.proofs.mentioned.names.first_name.Given as goal
 
 abbrev pub invariant-loop-j : goal.invariant-loop-j
-invariant-loop-j l = (first_from l.b l.section l.e l.off 0 l.n ≡ first_from l.b l.section l.e l.off l.j (l.n - l.j)) × (l.j ≤ l.n)
-
-abbrev pub decreases-loop-j : goal.decreases-loop-j
-decreases-loop-j l = l.n - l.j
+invariant-loop-j l = first_from l.b l.section l.e l.off 0 l.n ≡ first_from l.b l.section l.e l.off l.j (l.n - l.j)

@@ -1,12 +1,13 @@
-use Rattle.session_cut_marks.proofs.mentioned.Laws.{none_named, more_named, all_named}
 use native.Mathlib.Omega.{arith}
+use mathlib.Core.Path.{refl, ◌∙◌}
+use Rattle.std.proofs.Common.{rules}
+use Rattle.std.proofs.lemmas.Iterator.{YieldsList-from_range}
+use Rattle.std.proofs.lemmas.Iterator.Search.{any_from_yields_List}
+use Rattle.session_cut_marks.specs.mentioned.Names.{is_name}
+use Rattle.session_cut_marks.proofs.mentioned.Laws.{any_named}
 use Rattle.session_cut_marks.proofs.mentioned.names.named_to.Goals as goal
 
-pub loop-j-init : goal.loop-j-init
-loop-j-init c = (none_named _ _ _ _, omega arith)
-
-pub loop-j-preserved : goal.loop-j-preserved
-loop-j-preserved c = (more_named _ _ _ _ _ _ _ c.loop-j.invariant.0 c.or_name-found.ensures, omega arith)
-
 pub returns : goal.returns
-returns c = all_named _ _ _ _ _ _ _ c.loop-j.invariant.1 c.loop-j-test.false c.loop-j.invariant.0
+returns c =
+    any_from_yields_List (is_name c.args.b c.args.section.now c.args.e c.args.off) _ _ c.any.result c.any.ensures.ran (YieldsList-from_range 0 c.args.n c.args.n refl (omega arith)) (λ x b q k. search rules)
+    ∙ any_named c.args.b c.args.section.now c.args.e c.args.off c.args.n

@@ -5,4 +5,4 @@ pub returns-then-p-q : goal.returns-then-p-q
 returns-then-p-q c = one_name c.args.b c.args.section.now _ _ c.if-p-q.true
 
 pub returns : goal.returns
-returns c = two_names c.args.b c.args.section.now _ _ _ _ _ c.get_btf_str-a.ensures c.get_btf_str-c.ensures c.same_bytes.ensures
+returns c = two_names c.args.b c.args.section.now _ _ _ _ _ c.get_btf_str.ensures c.get_btf_str-2.ensures c.eq.ensures

@@ -1,0 +1,20 @@
+use Rattle.session_cut.proofs.writer.Laws.{at_word, word_name_lem, word_id, word_plain}
+use mathlib.Core.Path.{refl}
+use Rattle.session_cut_marks.proofs.roles.Laws.{name_digit, id_digit, no_name_digit, no_id_digit}
+use Rattle.session_cut.proofs.writer.source.Source.new_word.Goals as goal
+
+pub place_of-requires : goal.place_of-requires
+place_of-requires c = (λ p q. at_word _ _ _ _ _ _ _ c.word_of-w.ensures _ (c.requires.0 p q), λ q. at_word _ _ _ _ _ _ _ c.word_of-w.ensures _ (c.requires.1 q))
+
+pub returns-in-Name : goal.returns-in-Name
+returns-in-Name c = word_name_lem _ _ _ _ _ _ _ _ _ refl c.word_of-w.ensures (name_digit _ _ c.word_role.ensures c.in-Name.is) _ c.place_of.ensures
+
+pub returns-in-Id : goal.returns-in-Id
+returns-in-Id c =
+    let other = no_name_digit _ _ c.word_role.ensures (λ z. cc) in
+    word_id _ _ _ _ _ _ _ _ _ refl c.word_of-w.ensures other (id_digit _ _ c.word_role.ensures c.in-Id.is) _ c.new_id.ensures
+
+pub returns-in-Plain : goal.returns-in-Plain
+returns-in-Plain c =
+    let other = no_name_digit _ _ c.word_role.ensures (λ z. cc) in
+    word_plain _ _ _ _ _ _ _ _ _ refl c.word_of-w.ensures other (no_id_digit _ _ c.word_role.ensures (λ z. cc))

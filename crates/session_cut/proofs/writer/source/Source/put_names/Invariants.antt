@@ -1,0 +1,12 @@
+use Rattle.session_cut_marks.specs.mentioned.Names.{new_sizes, base_of}
+use Rattle.session_cut_marks.specs.mentioned.Strings.{names_bytes}
+use Rattle.spec_bytes.specs.text.Text.{whole, put_out, put_text}
+use mathlib.Core.Path.{◌≡◌}
+use Prim.Native.Nat.{◌+◌}
+use Rattle.session_cut.proofs.writer.source.Source.put_names.Given as goal
+
+abbrev pub invariant-loop-j : goal.invariant-loop-j
+invariant-loop-j l =
+    let k = l.self.kept in
+    (put_out l.p l.out ≡ put_text l.initial.out l.at (whole (names_bytes k.b k.section.now k.start.now k.ids.now l.t.x l.t.e l.j)))
+    × (l.len ≡ base_of k.b k.section.now k.start.now k.ids.now l.t.x + new_sizes k.b k.section.now k.start.now k.ids.now l.t.x l.t.e l.j)

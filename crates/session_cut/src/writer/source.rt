@@ -1,0 +1,33 @@
+// What the new section is written from.
+ghost use Rattle.std.specs.Prelude.{◌≡◌};
+ghost use Rattle.session_cut_marks.specs.interned.Right.{all_bases, Right, Right-prop};
+
+use session_cut_marks::kept::Kept;
+
+// The kept types, the length of the strings before each type, and the table of names: nearly all of them are in it.
+#[derive(Clone, Copy)]
+pub struct Source<'a> {
+    pub kept: Kept<'a>,
+    pub bases: &'a [u32],
+    pub table: &'a [u64],
+    ghost right: { Right kept.b kept.section.now kept.start.now kept.ids.now table.now } by { Right-prop kept.b kept.section.now kept.start.now kept.ids.now table.now },
+    ghost based: { bases.now ≡ all_bases kept.b kept.section.now kept.start.now kept.ids.now },
+}
+
+// Type x, which is kept: its entry, and the length of the strings before it.
+#[derive(Clone, Copy)]
+pub struct KeptType {
+    pub x: u32,
+    pub e: u32,
+    pub base: u32,
+}
+
+// Word j of a record. `place`: where the table has its name; `new`: the name is mentioned for the first time; `len`: the length of the
+// strings before it.
+#[derive(Clone, Copy)]
+pub struct Mention {
+    pub j: u32,
+    pub place: Option<u32>,
+    pub new: bool,
+    pub len: u32,
+}
