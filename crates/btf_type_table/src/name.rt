@@ -10,39 +10,21 @@ ghost use Rattle.spec_type_table.specs.Table.{type_of};
 use base_bytes::refusal;
 use spec_type_table::{BtfType, Kind, TypeTable};
 
-// The place of the name at an offset of the string area.
-fn name_place(b: TypeTable, off: u32) -> usize
-    ensures { result ≡ name_place b off }
+// The section from the name at an offset of the string area on.
+fn from_name(b: TypeTable, section: &[u8], off: u32) -> &[u8]
+    ensures { result.now ≡ drop (name_place b off) section.now }
 {
-    (b.strs as usize) + (off as usize)
-}
-
-// Where the name that starts at a place ends.
-fn name_end(section: &[u8], at: usize) -> usize
-    requires { at ≤ length section.now }
-    ensures { (at ≤ result) × (result ≤ length section.now)
-        × (take (result - at) (drop at section.now) ≡ name_at section.now at) }
-{
-    let mut e = at;
-    while e < section.len() {
-        if section[e] == 0 {
-            return e;
-        }
-        e += 1;
-    }
-    e
+    let at = (b.strs as usize) + (off as usize);
+    section.get(at..).unwrap_or(&[])
 }
 
 // The name at an offset.
 pub fn get_btf_str(b: TypeTable, section: &[u8], off: u32) -> &[u8]
     ensures { result.now ≡ str_at b section.now off }
 {
-    let at = name_place(b, off);
-    if section.len() < at {
-        return &section[..0];
-    }
-    let e = name_end(section, at);
-    &section[at..e]
+    let rest = from_name(b, section, off);
+    let len = rest.iter().position(|c| *c == 0).unwrap_or(rest.len());
+    &rest[..len]
 }
 
 // Writes the name at an offset, in one pass.
@@ -53,9 +35,7 @@ pub fn put_str(b: TypeTable, section: &[u8], text: &mut [u8], at: usize, off: u3
         return at;
     }
     let mut p = at;
-    let mut i = name_place(b, off);
-    while i < section.len() {
-        let c = section[i];
+    for &c in from_name(b, section, off) {
         let is_end = c == 0;
         if is_end {
             return p;
@@ -65,19 +45,15 @@ pub fn put_str(b: TypeTable, section: &[u8], text: &mut [u8], at: usize, off: u3
         }
         text[p] = c;
         p += 1;
-        i += 1;
     }
     p
 }
 
+#[tactic(auto, using(spec_type_table::proofs::NameLaws::empty_first, std::proofs::lemmas::Bool::Decides::nat_tests))]
 pub fn is_empty(b: TypeTable, section: &[u8], off: u32) -> bool
     ensures { result ≡ is_empty (str_at b section.now off) }
 {
-    let at = name_place(b, off);
-    if at < section.len() {
-        return section[at] == 0;
-    }
-    true
+    matches!(from_name(b, section, off), [] | [0, ..])
 }
 
 // Whether w stands in s at a place.

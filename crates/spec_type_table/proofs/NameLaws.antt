@@ -2,14 +2,19 @@
 use Prim.Native.Nat.{ℕ, zero, suc, ◌+◌, ◌-◌, ◌<◌, ◌≤◌}
 use mathlib.Core.Path.{◌≡◌, refl, ap, ap₂, ◌∙◌, sym}
 use mathlib.Core.List.{List, [], ◌∷◌, ◌++◌, append-nil, append_assoc}
-use mathlib.Core.Bool.{Bool, true, false}
+use mathlib.Core.Bool.{Bool, true, false, not}
 use mathlib.Core.Logic.{⊎_elim}
 use native.Mathlib.Omega.{arith}
 use native.Mathlib.Numerals.{add-one}
 use native.Mathlib.Nat.{add-zero}
 use lib.ListN.{length, get_or, set, take, drop, drop_of_length-le, length-drop, get_or-eq_default}
-use lib.Seq.{drop-cons, take-suc, take-length, get_or-drop}
+use lib.Seq.{drop-cons, take-suc, take-length}
 use lib.Dec.{eqb}
+use Rattle.std.specs.Prelude.{Option, Some, None, cond, nat_lt, position, ◌==◌}
+use Rattle.std.proofs.lemmas.Bool.Decides.{nat_tests}
+use Rattle.std.proofs.lemmas.List.Sums.{prefix_len-le-length}
+use Rattle.std.specs.Option.{unwrap_or}
+use Rattle.std.specs.List.{position_or_len}
 use borrow.Author.Tests.{eq-eqb, ne_eqb}
 use Rattle.spec_bytes.specs.text.Text.{whole, put_out, put_text}
 use Rattle.spec_bytes.proofs.words.Laws.{le_or_lt}
@@ -45,100 +50,94 @@ module _ (s : List ℕ) (i : ℕ) where
       (λ h. rw add-one (ap up_to_zero (drop-cons s i 0 h) ∙ up_more _ _ n))
       (le_or_lt (length s) i)
 
-  -- a name is empty where its first byte is 0
-  pub empty_at : eqb (get_or s i 0) 0 ≡ is_empty (name_at s i)
-  unfolding is_empty
-  empty_at = ⊎_elim (λ l. zero_at (omega arith)) (λ l. more_at (omega arith)) (le_or_lt (get_or s i 0) 0)
-    where
-      zero_at : get_or s i 0 ≡ 0 → eqb (get_or s i 0) 0 ≡ is_empty (name_at s i)
-      zero_at e = eq-eqb (get_or s i 0) 0 e ∙ sym (ap is_empty (name_zero e))
+-- what stands before the first 0
+pass_first : (x : ℕ) (l : List ℕ) → (x ≡ 0 → ⊥) → position_or_len (λ y. y == 0) (x ∷ l) ≡ suc (position_or_len (λ y. y == 0) l)
+pass_first x l h = rw (ne_eqb x 0 h) (omega arith)
 
-      more_at : (get_or s i 0 ≡ 0 → ⊥) → eqb (get_or s i 0) 0 ≡ is_empty (name_at s i)
-      more_at n = ne_eqb (get_or s i 0) 0 n ∙ sym (ap is_empty (name_more n))
+up_to_is : (l : List ℕ) → up_to_zero l ≡ take (position_or_len (λ y. y == 0) l) l
+unfolding up_to_zero
+up_to_is [] = refl
+up_to_is (zero ∷ l) = refl
+up_to_is (suc x ∷ l) = let n : suc x ≡ 0 → ⊥ = λ e. omega arith in rw (pass_first (suc x) l n) (ap (λ (m : List ℕ). suc x ∷ m) (up_to_is l))
 
-module _ (b : TypeTable) (s : List ℕ) (off p : ℕ) (ep : p ≡ name_place b off) where
-  pub empty_in : eqb (get_or s p 0) 0 ≡ is_empty (str_at b s off)
-  empty_in = empty_at s p ∙ ap (λ (i : ℕ). is_empty (name_at s i)) ep
+or_all : (k n : ℕ) → k ≤ n → unwrap_or (cond (nat_lt k n) (Some k) None) n ≡ k
+or_all k n h = grind (arith, nat_tests)
 
-  pub empty_out : length s ≤ p → true ≡ is_empty (str_at b s off)
-  unfolding is_empty
-  empty_out l = sym (ap is_empty (name_end s p l)) ∙ ap (λ (i : ℕ). is_empty (name_at s i)) ep
+pub str_before : (b : TypeTable) (s : List ℕ) (off : ℕ) (r : List ℕ) (o : Option ℕ) (n : ℕ) → r ≡ drop (name_place b off) s → o ≡ position (λ x. x == 0) r → n ≡ unwrap_or o (length r) → take n r ≡ str_at b s off
+unfolding name_at
+str_before b s off r o n er eo en =
+    let k : n ≡ position_or_len (λ y. y == 0) r = rw eo at en ∙ or_all _ _ (prefix_len-le-length (λ y. not (y == 0)) r) in
+    rw (k, er) (sym (up_to_is (drop (name_place b off) s)))
 
--- ---- the bytes of a name, passed one by one
+first_of : (l : List ℕ) → is_empty (up_to_zero l) ≡ eqb (get_or l 0 0) 0
+unfolding up_to_zero is_empty
+first_of [] = refl
+first_of (zero ∷ l) = refl
+first_of (suc x ∷ l) = let n : suc x ≡ 0 → ⊥ = λ e. omega arith in sym (ne_eqb (suc x) 0 n)
+
+pub empty_first : (b : TypeTable) (s : List ℕ) (off : ℕ) (r : List ℕ) → r ≡ drop (name_place b off) s → is_empty (str_at b s off) ≡ eqb (get_or r 0 0) 0
+unfolding name_at
+empty_first b s off r e = rw e (first_of (drop (name_place b off) s))
+
+-- ---- the bytes of a name, passed one by one: r is the section from the name on
 
 -- shut, so that the answers of a loop find its arguments
-pub passed : List ℕ → ℕ → ℕ → List ℕ
-passed s at e = take (e - at) (drop at s)
+pub passed : List ℕ → ℕ → List ℕ
+passed r i = take i r
 
-module _ (s : List ℕ) (at : ℕ) where
-  passed_none : passed s at at ≡ []
+module _ (r : List ℕ) where
+  passed_none : passed r 0 ≡ []
   unfolding passed
-  passed_none = let z : at - at ≡ 0 = omega arith in rw z
+  passed_none = refl
 
-  passed_more : (e : ℕ) → at ≤ e → e < length s → passed s at (e + 1) ≡ passed s at e ++ (get_or s e 0 ∷ [])
+  passed_more : (i : ℕ) → i < length r → passed r (i + 1) ≡ passed r i ++ (get_or r i 0 ∷ [])
   unfolding passed
-  passed_more e a l =
-      let n : e + 1 - at ≡ suc (e - at) = omega arith in
-      let z : at + (e - at) ≡ e = omega arith in
-      ap (λ (i : ℕ). take i (drop at s)) n
-      ∙ take-suc (drop at s) (e - at) 0 (simp length-drop (omega arith))
-      ∙ ap (λ (x : ℕ). take (e - at) (drop at s) ++ (x ∷ [])) (get_or-drop at s (e - at) 0 ∙ ap (λ (i : ℕ). get_or s i 0) z)
+  passed_more i l = rw add-one (take-suc r i 0 l)
 
-  pub pass_none : name_at s at ≡ passed s at at ++ name_at s at
+  pub pass_none : name_at r 0 ≡ passed r 0 ++ name_at r 0
   pass_none = rw passed_none
 
-  module _ (e : ℕ) (inv : name_at s at ≡ passed s at e ++ name_at s e) where
-    pub pass_more : at ≤ e → e < length s → (get_or s e 0 ≡ 0 → ⊥) → name_at s at ≡ passed s at (e + 1) ++ name_at s (e + 1)
-    pass_more a l n =
+  module _ (i : ℕ) (inv : name_at r 0 ≡ passed r i ++ name_at r i) where
+    pub pass_more : i < length r → (get_or r i 0 ≡ 0 → ⊥) → name_at r 0 ≡ passed r (i + 1) ++ name_at r (i + 1)
+    pass_more l n =
         inv
-        ∙ ap (λ (x : List ℕ). passed s at e ++ x) (name_more s e n)
-        ∙ sym (append_assoc (passed s at e) (get_or s e 0 ∷ []) (name_at s (e + 1)))
-        ∙ ap (λ (x : List ℕ). x ++ name_at s (e + 1)) (sym (passed_more e a l))
+        ∙ ap (λ (x : List ℕ). passed r i ++ x) (name_more r i n)
+        ∙ sym (append_assoc (passed r i) (get_or r i 0 ∷ []) (name_at r (i + 1)))
+        ∙ ap (λ (x : List ℕ). x ++ name_at r (i + 1)) (sym (passed_more i l))
 
-    pass_all : name_at s e ≡ [] → passed s at e ≡ name_at s at
-    pass_all z = sym (inv ∙ ap (λ (x : List ℕ). passed s at e ++ x) z ∙ append-nil (passed s at e))
-
-    pub pass_zero : get_or s e 0 ≡ 0 → take (e - at) (drop at s) ≡ name_at s at
-    unfolding passed
-    pass_zero z = pass_all (name_zero s e z)
-
-    pub pass_end : length s ≤ e → take (e - at) (drop at s) ≡ name_at s at
-    unfolding passed
-    pass_end l = pass_all (name_end s e l)
+    pass_all : name_at r i ≡ [] → passed r i ≡ name_at r 0
+    pass_all z = sym (inv ∙ ap (λ (x : List ℕ). passed r i ++ x) z ∙ append-nil (passed r i))
 
   -- ---- written one by one
   module _ (t : List ℕ) (to : ℕ) where
-    pub write_none : put_out to t ≡ put_text t to (whole (passed s at at))
+    pub write_none : put_out to t ≡ put_text t to (whole (passed r 0))
     write_none = rw passed_none (put_empty t to)
 
-    module _ (e : ℕ) (u : List ℕ) (p : ℕ) (out : put_out p u ≡ put_text t to (whole (passed s at e))) where
-      pub write_more : at ≤ e → e < length s → p < length u → put_out (p + 1) (set u p (get_or s e 0)) ≡ put_text t to (whole (passed s at (e + 1)))
-      write_more a l m =
-          rw (passed_more e a l)
-          (put_seq t to (passed s at e) (get_or s e 0 ∷ []) p u (p + 1) (set u p (get_or s e 0)) out (put_set u p (get_or s e 0) m))
+    module _ (i : ℕ) (u : List ℕ) (p : ℕ) (out : put_out p u ≡ put_text t to (whole (passed r i))) where
+      pub write_more : i < length r → p < length u → put_out (p + 1) (set u p (get_or r i 0)) ≡ put_text t to (whole (passed r (i + 1)))
+      write_more l m =
+          rw (passed_more i l)
+          (put_seq t to (passed r i) (get_or r i 0 ∷ []) p u (p + 1) (set u p (get_or r i 0)) out (put_set u p (get_or r i 0) m))
 
-      module _ (b : TypeTable) (off : ℕ) (ep : at ≡ name_place b off) (inv : name_at s at ≡ passed s at e ++ name_at s e) where
-        write_all : (name : List ℕ) → name ≡ name_at s at → put_out p u ≡ put_text t to (whole name) → put_out p u ≡ put_text t to (whole (str_at b s off))
-        write_all name z o = rw (z, ep) at o
+      module _ (b : TypeTable) (s : List ℕ) (off : ℕ) (er : r ≡ drop (name_place b off) s) (inv : name_at r 0 ≡ passed r i ++ name_at r i) where
+        name_is : name_at r 0 ≡ str_at b s off
+        unfolding name_at
+        name_is = rw er
 
-        pub write_zero : get_or s e 0 ≡ 0 → put_out p u ≡ put_text t to (whole (str_at b s off))
-        write_zero z = write_all _ (pass_all e inv (name_zero s e z)) out
+        write_all : passed r i ≡ name_at r 0 → put_out p u ≡ put_text t to (whole (str_at b s off))
+        write_all z = put_same t to (passed r i) (str_at b s off) p u (z ∙ name_is) out
 
-        pub write_end : length s ≤ e → put_out p u ≡ put_text t to (whole (str_at b s off))
-        write_end l = write_all _ (pass_all e inv (name_end s e l)) out
+        pub write_zero : get_or r i 0 ≡ 0 → put_out p u ≡ put_text t to (whole (str_at b s off))
+        write_zero z = write_all (pass_all i inv (name_zero r i z))
 
-        pub write_full : (get_or s e 0 ≡ 0 → ⊥) → p ≤ length u → length u ≤ p → put_out (length u + 18) u ≡ put_text t to (whole (str_at b s off))
+        pub write_end : length r ≤ i → put_out p u ≡ put_text t to (whole (str_at b s off))
+        write_end l = write_all (pass_all i inv (name_end r i l))
+
+        pub write_full : (get_or r i 0 ≡ 0 → ⊥) → p ≤ length u → length u ≤ p → put_out (length u + 18) u ≡ put_text t to (whole (str_at b s off))
         write_full n l m =
-            put_same t to (passed s at e ++ name_at s e) (str_at b s off) (length u + 18) u
-            (sym inv ∙ ap (name_at s) ep)
-            (put_seq t to (passed s at e) (name_at s e) p u (length u + 18) u out (put_full u p (name_at s e) l (rw (name_more s e n) (omega arith))))
-
-module _ (b : TypeTable) (s : List ℕ) (off p : ℕ) (ep : p ≡ name_place b off) where
-  pub str_none : length s < p → take 0 s ≡ str_at b s off
-  str_none l = sym (name_end s p (omega arith)) ∙ ap (name_at s) ep
-
-  pub str_is : (e : ℕ) → take (e - p) (drop p s) ≡ name_at s p → take (e - p) (drop p s) ≡ str_at b s off
-  str_is e q = q ∙ ap (name_at s) ep
+            put_same t to (passed r i ++ name_at r i) (str_at b s off) (length u + 18) u
+            (sym inv ∙ name_is)
+            (put_seq t to (passed r i) (name_at r i) p u (length u + 18) u out (put_full u p (name_at r i) l (rw (name_more r i n) (omega arith))))
 
 -- ---- a word in a name
 starts_short : (w l : List ℕ) → length l < length w → starts_with w l ≡ false
@@ -273,6 +272,8 @@ escaped_9 x e = rw e
 pub escaped_plain : (x : ℕ) → (x ≡ 92 → ⊥) → (x ≡ 34 → ⊥) → (x ≡ 10 → ⊥) → (x ≡ 13 → ⊥) → (x ≡ 9 → ⊥) → x ∷ [] ≡ escaped_byte x
 unfolding escaped_byte
 escaped_plain x a b c d e = rw (ne_eqb x 92 a, escaped_byte, ne_eqb x 34 b, ne_eqb x 10 c, ne_eqb x 13 d, ne_eqb x 9 e)
+
+pub ruleset escapes = (escaped_92, escaped_34, escaped_10, escaped_13, escaped_9, escaped_plain)
 
 escaped_append : (a b : List ℕ) → escaped (a ++ b) ≡ escaped a ++ escaped b
 unfolding escaped

@@ -1,8 +1,10 @@
+use mathlib.Core.Path.{sym, ◌∙◌}
+use native.Mathlib.Omega.{arith}
+use lib.ListN.{get_or-eq_default}
+use borrow.Author.Tests.{eq-eqb}
 use Rattle.spec_type_table.proofs.NameLaws as names
 use Rattle.btf_type_table.proofs.name.is_empty.Goals as goal
 
-pub returns-then-at-section : goal.returns-then-at-section
-returns-then-at-section c = names.empty_in c.args.b _ _ _ c.name_place-at.ensures
-
-pub returns : goal.returns
-returns c = names.empty_out c.args.b _ _ _ c.name_place-at.ensures c.if-at-section.false
+pub returns-in-empty : goal.returns-in-empty
+returns-in-empty c =
+    sym (names.empty_first c.args.b _ _ _ c.from_name.ensures ∙ eq-eqb _ 0 (get_or-eq_default c.from_name.result.now 0 (omega arith)))
