@@ -21,14 +21,14 @@ pub fn open(
 {
     let mut start = [0u32; limit::TYPES_LEN];
     match examine(section, pointer_size, work.len(), &mut start) {
-        Opening::Refused(c) => Opening::Refused(c),
-        Opening::Sound(types, enumerators) => {
+        Err(refusal) => Opening::Refused(u32::from(refusal)),
+        Ok(counts) => {
             clear(text);
             clear(work);
-            let b = btf_of(section, pointer_size, modes, types);
-            btf_open_names::fill::fill(b, section, enumerators, &start, work);
-            btf_open_names::taken_numbers::takers(b, section, modes, enumerators, work);
-            Opening::Sound(types, enumerators)
+            let b = btf_of(section, pointer_size, modes, counts.types);
+            btf_open_names::fill::fill(b, section, counts.enumerators, &start, work);
+            btf_open_names::taken_numbers::takers(b, section, modes, counts.enumerators, work);
+            Opening::Sound(counts.types, counts.enumerators)
         }
     }
 }

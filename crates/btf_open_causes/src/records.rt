@@ -3,7 +3,7 @@ ghost use Rattle.std.specs.Prelude.{◌≡◌, ◌+◌, ◌*◌, ◌%◌, ◌≤
 ghost use Rattle.spec_type_table.specs.Records.{section_word};
 ghost use Rattle.spec_linux_btf.specs.Reading.{kind as kind_named};
 ghost use Rattle.spec_linux_btf.specs.Places.{all_named_p};
-ghost use Rattle.btf_open_causes.specs.records.Pass.{entry_width, named_by, enums_of, next_p, no_records, scan_out, scan_p, scan_section};
+ghost use Rattle.btf_open_causes.specs.records.Pass.{entry_width, named_by, enums_of, next_p, scan_out, scan_p, scan_section};
 
 use crate::header::btf_header;
 use base_bytes::limit;
@@ -12,10 +12,9 @@ use btf_type_table::kind::{extra_of, kind_of, vlen_of};
 use btf_type_table::section_word::word;
 use spec_type_table::{Extra, TypeTable};
 
-// What a pass over the records found.
+// How many types, void counted, and enumerators a pass over sound records found.
 #[derive(Clone, Copy)]
-pub struct Records {
-    pub is_sound: bool,
+pub struct Counts {
     pub types: u32,
     pub enumerators: u32,
 }
@@ -25,13 +24,11 @@ fn are_names_inside(b: TypeTable, section: &[u8], at: u32, n: u32, width: u32, s
     ensures { result ≡ all_named_p str_len width (section_word b section.now) (at + 12) n }
 {
     let mut q = (at as usize) + 12;
-    let mut left = n;
-    while left != 0 {
+    for _ in 0..n {
         if str_len <= word(b, section, q) {
             return false;
         }
         q += width as usize;
-        left -= 1;
     }
     true
 }
@@ -61,35 +58,30 @@ fn are_record_names_inside(b: TypeTable, section: &[u8], at: u32, info: u32, str
     are_names_inside(b, section, at, vlen_of(info), width, str_len)
 }
 
-// The place after the record at a place, whose info word is known, or 0 where it is malformed or reaches past the end of the area.
-fn next_record(b: TypeTable, section: &[u8], at: u32, info: u32, end: u32, str_len: u32) -> u32
+// The place after the record at a place, whose info word is known; none where it is malformed or reaches past the end of the area.
+fn next_record(
+    b: TypeTable,
+    section: &[u8],
+    at: u32,
+    info: u32,
+    end: u32,
+    str_len: u32,
+) -> Option<u32>
     requires { info ≡ section_word b section.now (at + 4) }
     ensures { result ≡ next_p (section_word b section.now) str_len end at }
 {
-    if end < at {
-        return 0;
+    let left = end.checked_sub(at)?.checked_sub(12)?;
+    // Bits 16 to 23, 29 and 30 are unused.
+    if info / 65536 % 256 != 0 || info / 536870912 % 4 != 0 {
+        return None;
     }
-    if end - at < 12 {
-        return 0;
+    let Extra::Bytes(n) = extra_of(kind_of(info), vlen_of(info)) else {
+        return None;
+    };
+    if left < n || !are_record_names_inside(b, section, at, info, str_len) {
+        return None;
     }
-    if info / 65536 % 256 != 0 {
-        return 0;
-    }
-    if info / 536870912 % 4 != 0 {
-        return 0;
-    }
-    match extra_of(kind_of(info), vlen_of(info)) {
-        Extra::Bytes(n) => {
-            if end - at - 12 < n {
-                return 0;
-            }
-            if are_record_names_inside(b, section, at, info, str_len) {
-                return at + 12 + n;
-            }
-            0
-        }
-        Extra::Refused => 0,
-    }
+    Some(at + 12 + n)
 }
 
 // How many enumerators a record with this info word has.
@@ -112,17 +104,7 @@ fn put_start(start: &mut [u32], x: u32, at: u32, kind: u32)
     }
 }
 
-fn unsound() -> Records
-    ensures { result ≡ no_records }
-{
-    Records {
-        is_sound: false,
-        types: 0,
-        enumerators: 0,
-    }
-}
-
-// The type area from a place to its end.
+// The type area from a place to its end. (A `while`: the record says where the next one stands.)
 fn scan_area(
     b: TypeTable,
     section: &[u8],
@@ -130,7 +112,7 @@ fn scan_area(
     end: u32,
     str_len: u32,
     start: &mut [u32],
-) -> Records
+) -> Option<Counts>
     requires { (from ≤ end) × (end ≤ 16777216) }
     ensures { scan_out result start.new
         ≡ scan_p (section_word b section.now) str_len from end start.old }
@@ -140,34 +122,30 @@ fn scan_area(
     let mut enumerators: u32 = 0;
     while at < end {
         if limit::MOST_RECORDS < x {
-            return unsound();
+            return None;
         }
         let info = word(b, section, (at as usize) + 4);
         put_start(start, x, at, kind_of(info));
-        let next = next_record(b, section, at, info, end, str_len);
-        if next <= at {
-            return unsound();
-        }
+        let next = next_record(b, section, at, info, end, str_len)?;
         enumerators += enumerators_of(info);
         at = next;
         x += 1;
     }
-    Records {
-        is_sound: true,
+    Some(Counts {
         types: x,
         enumerators: enumerators,
-    }
+    })
 }
 
-// The records of a section whose areas lie inside it.
-pub fn scan(b: TypeTable, section: &[u8], start: &mut [u32]) -> Records
+// The records of a section whose areas lie inside it; none where one is not sound.
+pub fn scan(b: TypeTable, section: &[u8], start: &mut [u32]) -> Option<Counts>
     ensures { scan_out result start.new ≡ scan_section b section.now start.old }
 {
     let h = btf_header(section);
     let from = (h.hdr_len as u64) + (h.type_off as u64);
     let end = from + (h.type_len as u64);
     if limit::MOST_BYTES_64 < end {
-        return unsound();
+        return None;
     }
     scan_area(b, section, from as u32, end as u32, h.str_len, start)
 }

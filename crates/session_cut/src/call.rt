@@ -13,6 +13,7 @@ use crate::writer::write_kept;
 use base_bytes::limit;
 use base_bytes::word::get_word;
 use btf_open_causes::header::btf_of;
+use btf_open_causes::records::scan;
 use btf_open_causes::references::has_bad_reference;
 use btf_open_causes::strings::{has_bad_header, has_bad_strings};
 use session_cut_marks::kept::Kept;
@@ -53,14 +54,15 @@ fn check(section: &[u8], pointer_size: u32, start: &mut [u32]) -> Option<u32>
     if !is_sound(section) {
         return None;
     }
-    let r = btf_open_causes::records::scan(btf_of(section, pointer_size, 0, 0), section, start);
-    if !r.is_sound {
+    let counts = scan(btf_of(section, pointer_size, 0, 0), section, start)?;
+    if has_bad_reference(
+        btf_of(section, pointer_size, 0, counts.types),
+        section,
+        start,
+    ) {
         return None;
     }
-    if has_bad_reference(btf_of(section, pointer_size, 0, r.types), section, start) {
-        return None;
-    }
-    Some(r.types)
+    Some(counts.types)
 }
 
 // Whether a given id is not below the count.

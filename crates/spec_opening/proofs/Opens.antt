@@ -16,8 +16,11 @@ use Rattle.btf_open_causes.specs.references.References.{has_bad_reference}
 use Rattle.btf_open_causes.specs.prototypes.Prototypes.{any_leads}
 use Rattle.btf_open_causes.specs.loops.Graph.{has_loop}
 use Rattle.btf_open_causes.specs.loops.Loops.{graph_of}
-use Rattle.btf_open_causes.specs.declared.records.Records.{Records}
-use Rattle.spec_opening.specs.declared.Opening.{Opening}
+use Rattle.std.specs.Prelude.{Option, Some, None, Result, Ok, Err}
+use Rattle.spec_bytes.specs.declared.refusal.Refusal.{Refusal}
+use Rattle.spec_bytes.specs.declared.refusal.Refusal.TheVariants.{PointerSize, SectionTooLong, BadHeader, BadStrings, BadRecord, BadReference, PrototypeHeld, Loop, WorkShort, NoSuchId, SessionClosed, TooDeep, Cycle, NamelessTypedef, AlignmentZero, Overflow, TextFull, Misplaced, NoDeclaration, NoField, CeilingPassed, OutputShort}
+use Rattle.spec_bytes.specs.Refusals.{refusal_number}
+use Rattle.btf_open_causes.specs.declared.records.Counts.{Counts}
 use Rattle.spec_opening.specs.declared.Opening.TheVariants.{Refused, Sound}
 use Rattle.btf_open_causes.specs.header.Header.{btf_of}
 use Rattle.btf_open_causes.specs.records.Pass.{count_p, enums_p, index_p, Scan, unsound, found, scan_out, scan_p, scan_section}
@@ -121,15 +124,6 @@ abbrev index_in : Scan → List ℕ
 index_in unsound = []
 index_in (found t e i) = i
 
-module _ (r : Records) (start : List ℕ) where
-  out_no : r.is_sound ≡ false → scan_out r start ≡ unsound
-  unfolding scan_out
-  out_no e = rw (e, scan_out)
-
-  out_yes : r.is_sound ≡ true → scan_out r start ≡ found r.types r.enumerators start
-  unfolding scan_out
-  out_yes e = rw (e, scan_out)
-
 -- ---- examine
 module _ (p : ℕ) (s : List ℕ) (wl : ℕ) where
   refuse : (n : ℕ) → opening_number p s wl ≡ n → (n ≡ 0 → ⊥) → refused_by n ≡ examined p s wl
@@ -194,21 +188,22 @@ module _ (p : ℕ) (s : List ℕ) (wl : ℕ) where
           unfolding opening_number first_of
           number_0 e = rw (falses.0, falses.1.0, falses.1.1.0, falses.1.1.1.0, e5, last.0, last.1.0, last.1.1.0, e)
 
-      module _ (b : TypeTable) (eb0 : b ≡ btf_of s p 0 0) (r : Records) (start start' : List ℕ) (e0 : start ≡ empty_index) (es : scan_out r start' ≡ scan_section b s start) where
+      module _ (b : TypeTable) (eb0 : b ≡ btf_of s p 0 0) (r : Option Counts) (start start' : List ℕ) (e0 : start ≡ empty_index) (es : scan_out r start' ≡ scan_section b s start) where
         out_is : scan_out r start' ≡ passed s
         out_is = es ∙ ap (scan_section b s) e0 ∙ section_is b s (ap (λ x. x.big_endian) eb0 ∙ order_is s p 0 0) sound_header short
 
-        pub examine_5 : r.is_sound ≡ false → refused_by 5 ≡ examined p s wl
-        unfolding cause5
+        pub examine_5 : r ≡ None → refused_by 5 ≡ examined p s wl
+        unfolding cause5 scan_out
         examine_5 f = refuse 5 (number_5 (go (types_sound s) refl)) (λ e. absurd (omega arith))
           where
             go : (t : Bool) → types_sound s ≡ t → cause5 s ≡ true
-            go true t = absurd (true≢false (sym (ap is_found (sym (out_no r start' f) ∙ out_is ∙ ap (λ (q : Bool). passed_by q s) t))))
+            go true t = absurd (true≢false (sym (ap is_found (sym (ap (λ (o : Option Counts). scan_out o start') f) ∙ out_is ∙ ap (λ (q : Bool). passed_by q s) t))))
             go false t = rw t
 
-        module _ (f : r.is_sound ≡ true) where
-          found_is : found r.types r.enumerators start' ≡ passed s
-          found_is = sym (out_yes r start' f) ∙ out_is
+        module _ (counts : Counts) (f : r ≡ Some counts) where
+          found_is : found counts.types counts.enumerators start' ≡ passed s
+          unfolding scan_out
+          found_is = sym (ap (λ (o : Option Counts). scan_out o start') f) ∙ out_is
 
           types_sound_lem : types_sound s ≡ true
           types_sound_lem = go (types_sound s) refl
@@ -217,13 +212,13 @@ module _ (p : ℕ) (s : List ℕ) (wl : ℕ) where
               go true t = t
               go false t = absurd (true≢false (ap is_found (found_is ∙ ap (λ (q : Bool). passed_by q s) t)))
 
-          exact : found r.types r.enumerators start' ≡ found (types_of s) (enumerators_of s) (index_of s)
+          exact : found counts.types counts.enumerators start' ≡ found (types_of s) (enumerators_of s) (index_of s)
           exact = found_is ∙ ap (λ (q : Bool). passed_by q s) types_sound_lem
 
-          types_is : r.types ≡ types_of s
+          types_is : counts.types ≡ types_of s
           types_is = ap types_in exact
 
-          enums_is : r.enumerators ≡ enumerators_of s
+          enums_is : counts.enumerators ≡ enumerators_of s
           enums_is = ap enums_in exact
 
           index_is : start' ≡ index_of s
@@ -233,7 +228,7 @@ module _ (p : ℕ) (s : List ℕ) (wl : ℕ) where
           unfolding cause5
           e5 = rw types_sound_lem
 
-          module _ (b1 : TypeTable) (eb : b1 ≡ btf_of s p 0 r.types) (d : ℕ) (ed : d ≡ from_six (first_of (late b1 s start'))) where
+          module _ (b1 : TypeTable) (eb : b1 ≡ btf_of s p 0 counts.types) (d : ℕ) (ed : d ≡ from_six (first_of (late b1 s start'))) where
             late_is : d ≡ from_six (first_of (cause6 p s ∷ cause7 p s ∷ cause8 p s ∷ []))
             unfolding cause6 cause7 cause8 table_of
             late_is =
@@ -243,7 +238,7 @@ module _ (p : ℕ) (s : List ℕ) (wl : ℕ) where
             pub examine_late : (d ≡ 0 → ⊥) → refused_by d ≡ examined p s wl
             examine_late n = refuse d (number_late e5 d late_is n) n
 
-            module _ (dz : d ≡ 0) (n : ℕ) (en : n ≡ 4 * (16 * r.types + 8 * r.enumerators + 4096)) where
+            module _ (dz : d ≡ 0) (n : ℕ) (en : n ≡ 4 * (16 * counts.types + 8 * counts.enumerators + 4096)) where
               z3 : first_of (cause6 p s ∷ cause7 p s ∷ cause8 p s ∷ []) ≡ 0
               z3 = low (first_of (cause6 p s ∷ cause7 p s ∷ cause8 p s ∷ [])) (sym late_is ∙ dz)
                 where
@@ -258,20 +253,45 @@ module _ (p : ℕ) (s : List ℕ) (wl : ℕ) where
               unfolding cause9
               examine_9 l = refuse 9 (number_9 e5 z3 (lt-ltb wl (4 * (16 * types_of s + 8 * enumerators_of s + 4096)) (omega (arith, size_is)))) (λ e. absurd (omega arith))
 
-              pub examine_0 : n ≤ wl → sound_with r.types r.enumerators start' ≡ examined p s wl
+              pub examine_0 : n ≤ wl → sound_with counts.types counts.enumerators start' ≡ examined p s wl
               unfolding cause9
               examine_0 l =
                   (λ i. sound_with (types_is i) (enums_is i) (index_is i))
                   ∙ allow (number_0 e5 z3 (le-ltb wl (4 * (16 * types_of s + 8 * enumerators_of s + 4096)) (omega (arith, size_is))))
 
--- the answers of examine
-pub says_refused : (n : ℕ) (start : List ℕ) (q : Examined) → refused_by n ≡ q → examine_out (Refused n) start ≡ q
-unfolding examine_out
-says_refused n start q e = e
+-- a refusal has a number
+pub some_number : (r : Refusal) → refusal_number r ≡ 0 → ⊥
+some_number PointerSize e = omega arith
+some_number SectionTooLong e = omega arith
+some_number BadHeader e = omega arith
+some_number BadStrings e = omega arith
+some_number BadRecord e = omega arith
+some_number BadReference e = omega arith
+some_number PrototypeHeld e = omega arith
+some_number Loop e = omega arith
+some_number WorkShort e = omega arith
+some_number NoSuchId e = omega arith
+some_number SessionClosed e = omega arith
+some_number TooDeep e = omega arith
+some_number Cycle e = omega arith
+some_number NamelessTypedef e = omega arith
+some_number AlignmentZero e = omega arith
+some_number Overflow e = omega arith
+some_number TextFull e = omega arith
+some_number Misplaced e = omega arith
+some_number NoDeclaration e = omega arith
+some_number NoField e = omega arith
+some_number CeilingPassed e = omega arith
+some_number OutputShort e = omega arith
 
-pub says_sound : (n m : ℕ) (start : List ℕ) (q : Examined) → sound_with n m start ≡ q → examine_out (Sound n m) start ≡ q
+-- the answers of examine
+pub says_refused : (r : Refusal) (start : List ℕ) (q : Examined) → refused_by (refusal_number r) ≡ q → examine_out (Err r) start ≡ q
 unfolding examine_out
-says_sound n m start q e = e
+says_refused r start q e = e
+
+pub says_sound : (counts : Counts) (start : List ℕ) (q : Examined) → sound_with counts.types counts.enumerators start ≡ q → examine_out (Ok counts) start ≡ q
+unfolding examine_out
+says_sound counts start q e = e
 
 -- ---- open
 abbrev is_refused : Examined → Bool
@@ -314,30 +334,30 @@ module _ (p modes : ℕ) (s w t : List ℕ) where
   unfolding opening_of
   opens_sound e = rw (e, opening_of)
 
-  module _ (r : Opening) (start : List ℕ) (er : examine_out r start ≡ examined p s (length w)) where
-    pub open_refused : (c : ℕ) → r ≡ Refused c → open_out (Refused c) w t ≡ opening_of p modes s w t
+  module _ (r : Result Counts Refusal) (start : List ℕ) (er : examine_out r start ≡ examined p s (length w)) where
+    pub open_refused : (c : Refusal) → r ≡ Err c → (n : ℕ) → n ≡ refusal_number c → open_out (Refused n) w t ≡ opening_of p modes s w t
     unfolding open_out examine_out
-    open_refused c e = go (eqb num 0) refl
+    open_refused c e n en = go (eqb num 0) refl
       where
-        is : refused_by c ≡ examined p s (length w)
-        is = sym (ap (λ (q : Opening). examine_out q start) e) ∙ er
+        is : refused_by n ≡ examined p s (length w)
+        is = ap refused_by en ∙ sym (ap (λ (q : Result Counts Refusal). examine_out q start) e) ∙ er
 
-        go : (q : Bool) → eqb num 0 ≡ q → open_out (Refused c) w t ≡ opening_of p modes s w t
+        go : (q : Bool) → eqb num 0 ≡ q → open_out (Refused n) w t ≡ opening_of p modes s w t
         go true f = absurd (true≢false (ap is_refused (is ∙ is_sound_lem f)))
         go false f = ap (λ (n : ℕ). refused n w t) (ap number_in (is ∙ is_refused_lem f)) ∙ sym (opens_refused f)
 
-    pub open_sound : (n m : ℕ) → r ≡ Sound n m → (t' : List ℕ) → t' ≡ replicate (length t) 0 → (w' : List ℕ) → w' ≡ replicate (length w) 0 → (b : TypeTable) → b ≡ btf_of s p modes n
-        → (w'' : List ℕ) → w'' ≡ filled b s start m w' → (w''' : List ℕ) → w''' ≡ takers_in modes b m s w'' → open_out (Sound n m) w''' t' ≡ opening_of p modes s w t
+    pub open_sound : (counts : Counts) → r ≡ Ok counts → (t' : List ℕ) → t' ≡ replicate (length t) 0 → (w' : List ℕ) → w' ≡ replicate (length w) 0 → (b : TypeTable) → b ≡ btf_of s p modes counts.types
+        → (w'' : List ℕ) → w'' ≡ filled b s start counts.enumerators w' → (w''' : List ℕ) → w''' ≡ takers_in modes b counts.enumerators s w'' → open_out (Sound counts.types counts.enumerators) w''' t' ≡ opening_of p modes s w t
     unfolding open_out examine_out work_of
-    open_sound n m e t' et w' ew b eb w'' ef w''' el = go (eqb num 0) refl
+    open_sound counts e t' et w' ew b eb w'' ef w''' el = go (eqb num 0) refl
       where
-        is : sound_with n m start ≡ examined p s (length w)
-        is = sym (ap (λ (q : Opening). examine_out q start) e) ∙ er
+        is : sound_with counts.types counts.enumerators start ≡ examined p s (length w)
+        is = sym (ap (λ (q : Result Counts Refusal). examine_out q start) e) ∙ er
 
-        go : (q : Bool) → eqb num 0 ≡ q → open_out (Sound n m) w''' t' ≡ opening_of p modes s w t
+        go : (q : Bool) → eqb num 0 ≡ q → open_out (Sound counts.types counts.enumerators) w''' t' ≡ opening_of p modes s w t
         go true f =
-            let n_is : n ≡ types_of s = ap types_with (is ∙ is_sound_lem f) in
-            let m_is : m ≡ enumerators_of s = ap enums_with (is ∙ is_sound_lem f) in
+            let n_is : counts.types ≡ types_of s = ap types_with (is ∙ is_sound_lem f) in
+            let m_is : counts.enumerators ≡ enumerators_of s = ap enums_with (is ∙ is_sound_lem f) in
             let i_is : start ≡ index_of s = ap index_with (is ∙ is_sound_lem f) in
             let b_is : b ≡ btf_of s p modes (types_of s) = eb ∙ ap (btf_of s p modes) n_is in
             let w_is : w'' ≡ filled (btf_of s p modes (types_of s)) s (index_of s) (enumerators_of s) (replicate (length w) 0) = ef ∙ (λ i. filled (b_is i) s (i_is i) (m_is i) (ew i)) in

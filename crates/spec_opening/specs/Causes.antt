@@ -1,5 +1,7 @@
 -- "Cause, tested in this order at opening": causes 1 to 9 of document 01, each true where it holds.
-use Rattle.std.specs.Prelude.{ℕ, zero, suc, ◌+◌, ◌*◌, Bool, true, false, ◌&&◌, not, List, [], ◌∷◌, length, ltb, eqb}
+use Rattle.std.specs.Prelude.{ℕ, zero, suc, ◌+◌, ◌*◌, Bool, true, false, ◌&&◌, not, List, [], ◌∷◌, length, ltb, eqb, Result, Ok, Err}
+use Rattle.spec_bytes.specs.declared.refusal.Refusal.{Refusal}
+use Rattle.spec_bytes.specs.Refusals.{refusal_number}
 use Rattle.spec_linux_btf.specs.Section.{string_area, header_sound, strings_sound, types_sound}
 use Rattle.spec_type_table.specs.declared.types.TypeTable.{TypeTable}
 use Rattle.btf_open_causes.specs.references.References.{has_bad_reference}
@@ -79,3 +81,8 @@ late b s start = has_bad_reference b s start ∷ any_leads b s start ∷ has_loo
 abbrev pub from_six : ℕ → ℕ
 from_six zero = zero
 from_six (suc n) = 6 + n
+
+-- the number of the cause that was found, and 0 where none was
+abbrev pub cause_number : Result (Unit {0}) Refusal → ℕ
+cause_number (Ok u) = 0
+cause_number (Err r) = refusal_number r

@@ -1,7 +1,10 @@
 -- Opening a section: the number, the values, and what is left in the work and in the text.
-use Rattle.std.specs.Prelude.{ℕ, true, false, List, length, replicate, eqb}
+use Rattle.std.specs.Prelude.{ℕ, true, false, List, length, replicate, eqb, Result, Ok, Err}
 use Rattle.spec_opening.specs.declared.Opening.{Opening}
 use Rattle.spec_opening.specs.declared.Opening.TheVariants.{Refused, Sound}
+use Rattle.spec_bytes.specs.declared.refusal.Refusal.{Refusal}
+use Rattle.spec_bytes.specs.Refusals.{refusal_number}
+use Rattle.btf_open_causes.specs.declared.records.Counts.{Counts}
 use Rattle.btf_open_causes.specs.header.Header.{btf_of}
 use Rattle.spec_opening.specs.Table.{types_of, enumerators_of, index_of}
 use Rattle.spec_opening.specs.Causes.{opening_number}
@@ -38,9 +41,9 @@ pub data Examined : Type 0 where
   refused_by : ℕ → Examined
   sound_with : ℕ → ℕ → List ℕ → Examined
 
-unfoldable pub examine_out : Opening → List ℕ → Examined
-examine_out (Refused n) start = refused_by n
-examine_out (Sound types enumerators) start = sound_with types enumerators start
+unfoldable pub examine_out : Result Counts Refusal → List ℕ → Examined
+examine_out (Err r) start = refused_by (refusal_number r)
+examine_out (Ok counts) start = sound_with counts.types counts.enumerators start
 
 unfoldable pub examined : ℕ → List ℕ → ℕ → Examined
 examined pointer s work =

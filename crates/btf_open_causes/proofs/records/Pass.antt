@@ -3,6 +3,7 @@ use Prim.Native.Nat.{ℕ, zero, suc, zero-le, ◌+◌, ◌-◌, ◌*◌, ◌/◌
 use mathlib.Core.Path.{◌≡◌, refl, ap, ◌∙◌, sym}
 use mathlib.Core.Bool.{Bool, true, false, true≢false, ◌&&◌}
 use mathlib.Core.List.{List, [], ◌∷◌}
+use Rattle.std.specs.Prelude.{Some, None}
 use mathlib.Core.Logic.{⊎_elim, ◌⊎◌, inl, inr}
 use native.Mathlib.Omega.{arith}
 use native.Mathlib.Decide.{ℕ_discrete}
@@ -19,10 +20,9 @@ use Rattle.spec_type_table.specs.Records.{section_word, vlen_of, kind_of, extra_
 use Rattle.spec_linux_btf.specs.Reading.{Kind, none, INT, PTR, ARRAY, STRUCT, UNION, ENUM, FWD, TYPEDEF, VOLATILE, CONST, RESTRICT, FUNC, FUNC-PROTO, VAR, DATASEC, FLOAT, DECL-TAG, TYPE-TAG, ENUM64, kind, Shape, bad, fixed, each, shape, known, extra, extra_of as length_of}
 use Rattle.spec_linux_btf.specs.Section.{word_of}
 use Rattle.spec_linux_btf.specs.Places.{kind_p, vlen_p, size_p, all_named_p, entries_named_p, sound_p, named_p, passes_p, place_from}
-use Rattle.btf_open_causes.specs.declared.records.Records.{Records}
 use Rattle.btf_open_causes.specs.declared.header.Header.{Header}
 use Rattle.btf_open_causes.specs.header.Header.{header_of}
-use Rattle.btf_open_causes.specs.records.Pass.{entry_width, named_by, enums_of, next_p, count_p, enums_p, index_p, Scan, unsound, found, no_records, scan_out, scan_p, scan_section}
+use Rattle.btf_open_causes.specs.records.Pass.{entry_width, named_by, enums_of, next_p, count_p, enums_p, index_p, Scan, unsound, found, scan_out, scan_p, scan_section}
 use Rattle.btf_open_causes.proofs.header.Headers.{and_left, and_right}
 
 -- ---- a function of a kind's number, by listing
@@ -191,11 +191,11 @@ tests_by end p y =
     && (eqb (y / 65536 % 256) 0 && (eqb (y / 536870912 % 4) 0 && leb (p + (12 + extra (kind (y / 16777216 % 32)) (y % 65536))) end)))
 
 module _ (w : ℕ → ℕ) (sl end p : ℕ) where
-  next_no : (sound_p w end p && named_p sl w p) ≡ false → 0 ≡ next_p w sl end p
+  next_no : (sound_p w end p && named_p sl w p) ≡ false → None ≡ next_p w sl end p
   unfolding next_p
   next_no e = rw (e, next_p)
 
-  pub next_past : end < p + 12 → 0 ≡ next_p w sl end p
+  pub next_past : end < p + 12 → None ≡ next_p w sl end p
   unfolding sound_p
   next_past h = next_no (no_left _ _ (no_left _ _ (lt-leb (p + 12) end h)))
 
@@ -204,17 +204,17 @@ module _ (w : ℕ → ℕ) (sl end p : ℕ) where
     unfolding sound_p size_p kind_p vlen_p
     tests_are = ap (tests_by end p) (sym fi)
 
-    pub next_used : (i / 65536 % 256 ≡ 0 → ⊥) → 0 ≡ next_p w sl end p
+    pub next_used : (i / 65536 % 256 ≡ 0 → ⊥) → None ≡ next_p w sl end p
     next_used n = next_no (no_left _ _ (tests_are ∙ no_right (leb (p + 12) end) _ (no_right (known (shape (kind (i / 16777216 % 32)))) _ (no_left _ _ (ne_eqb (i / 65536 % 256) 0 n)))))
 
-    pub next_used2 : (i / 536870912 % 4 ≡ 0 → ⊥) → 0 ≡ next_p w sl end p
+    pub next_used2 : (i / 536870912 % 4 ≡ 0 → ⊥) → None ≡ next_p w sl end p
     next_used2 n = next_no (no_left _ _ (tests_are ∙ no_right (leb (p + 12) end) _ (no_right (known (shape (kind (i / 16777216 % 32)))) _ (no_right (eqb (i / 65536 % 256) 0) _ (no_left _ _ (ne_eqb (i / 536870912 % 4) 0 n))))))
 
-    pub next_unknown : known (shape (kind (kind_of i))) ≡ false → 0 ≡ next_p w sl end p
+    pub next_unknown : known (shape (kind (kind_of i))) ≡ false → None ≡ next_p w sl end p
     next_unknown n = next_no (no_left _ _ (tests_are ∙ no_right (leb (p + 12) end) _ (no_left _ _ n)))
 
     module _ (n : ℕ) (ex : extra (kind (kind_of i)) (vlen_of i) ≡ n) where
-      pub next_long : p ≤ end → (12 ≤ end - p) → end - p - 12 < n → 0 ≡ next_p w sl end p
+      pub next_long : p ≤ end → (12 ≤ end - p) → end - p - 12 < n → None ≡ next_p w sl end p
       next_long a b l =
           next_no (no_left _ _ (tests_are
           ∙ no_right (leb (p + 12) end) _ (no_right (known (shape (kind (i / 16777216 % 32)))) _
@@ -226,11 +226,11 @@ module _ (w : ℕ → ℕ) (sl end p : ℕ) where
         unfolding named_p named_by kind_p vlen_p
         named_is = sym (er ∙ ap (λ (y : ℕ). ltb (w p) sl && entries_named_p sl (kind (y / 16777216 % 32)) (y % 65536) w (p + 12)) fi)
 
-        pub next_unnamed : r ≡ false → 0 ≡ next_p w sl end p
+        pub next_unnamed : r ≡ false → None ≡ next_p w sl end p
         next_unnamed f = next_no (no_right (sound_p w end p) _ (named_is ∙ f))
 
         pub next_is : p ≤ end → (12 ≤ end - p) → i / 65536 % 256 ≡ 0 → i / 536870912 % 4 ≡ 0 → known (shape (kind (kind_of i))) ≡ true → n ≤ end - p - 12 → r ≡ true
-            → p + 12 + n ≡ next_p w sl end p
+            → Some (p + 12 + n) ≡ next_p w sl end p
         unfolding next_p size_p kind_p vlen_p
         next_is a b u v kn l f =
             let s : sound_p w end p ≡ true =
@@ -238,7 +238,7 @@ module _ (w : ℕ → ℕ) (sl end p : ℕ) where
             ∙ rw (le-leb (p + 12) end (omega arith), kn, u, v, le-leb (p + (12 + extra (kind (i / 16777216 % 32)) (i % 65536))) end (omega (arith, ex))) in
             let z : extra (kind (w (p + 4) / 16777216 % 32)) (w (p + 4) % 65536) ≡ n = ap (λ (y : ℕ). extra (kind (y / 16777216 % 32)) (y % 65536)) (sym fi) ∙ ex in
             let q : p + 12 + n ≡ p + (12 + extra (kind (w (p + 4) / 16777216 % 32)) (w (p + 4) % 65536)) = omega arith in
-            rw (s, named_is ∙ f, next_p) q
+            rw (s, named_is ∙ f, next_p) (ap (λ (y : ℕ). Some y) q)
 
 -- ---- scan_area
 -- what holds before each record: the pass so far, and what is left of it
@@ -277,30 +277,28 @@ module _ (w : ℕ → ℕ) (sl end p : ℕ) where
       let h4 = and_right (eqb (w (p + 4) / 536870912 % 4) 0) _ h3 in
       leb-true (p + size_p w p) end h4
 
-  module _ (next : ℕ) (e : next ≡ next_p w sl end p) where
-    pub next_sound : p < next → Sound × (next ≡ p + size_p w p)
-    unfolding next_p
-    next_sound l = go (sound_p w end p && named_p sl w p) refl
-      where
-        go : (t : Bool) → (sound_p w end p && named_p sl w p) ≡ t → Sound × (next ≡ p + size_p w p)
-        go true f =
-            let s : sound_p w end p ≡ true = and_left (sound_p w end p) _ f in
-            (record { is_sound_lem = s; is_named = and_right (sound_p w end p) _ f; ends = ends_in s }, e ∙ rw (f, next_p))
-        go false f = absurd (omega (arith, zero_is f))
-          where
-            zero_is : (sound_p w end p && named_p sl w p) ≡ false → next ≡ 0
-            zero_is f = e ∙ sym (next_no w sl end p f)
+  pub next_sound : (next : ℕ) → Some next ≡ next_p w sl end p → Sound × (next ≡ p + size_p w p)
+  unfolding next_p
+  next_sound next e = go (sound_p w end p && named_p sl w p) refl
+    where
+      go : (t : Bool) → (sound_p w end p && named_p sl w p) ≡ t → Sound × (next ≡ p + size_p w p)
+      go true f =
+          let s : sound_p w end p ≡ true = and_left (sound_p w end p) _ f in
+          let q : Some next ≡ Some (p + size_p w p) = e ∙ rw (f, next_p) in
+          (record { is_sound_lem = s; is_named = and_right (sound_p w end p) _ f; ends = ends_in s }, cc)
+      go false f = let q : Some next ≡ None = e ∙ rw (f, next_p) in absurd cc
 
-    next_yes : (sound_p w end p && named_p sl w p) ≡ true → next ≡ p + size_p w p
-    unfolding next_p
-    next_yes f = e ∙ rw (f, next_p)
+  pub next_refused : None ≡ next_p w sl end p → (sound_p w end p && named_p sl w p) ≡ false
+  unfolding next_p
+  next_refused e = go (sound_p w end p && named_p sl w p) refl
+    where
+      go : (t : Bool) → (sound_p w end p && named_p sl w p) ≡ t → t ≡ false
+      go true f = let q : None ≡ Some (p + size_p w p) = e ∙ rw (f, next_p) in absurd cc
+      go false f = refl
 
-    pub next_refused : next ≤ p → (sound_p w end p && named_p sl w p) ≡ false
-    next_refused l = go (sound_p w end p && named_p sl w p) refl
-      where
-        go : (t : Bool) → (sound_p w end p && named_p sl w p) ≡ t → t ≡ false
-        go true f = absurd (omega (arith, size_least w p, next_yes f))
-        go false f = refl
+  -- the pass goes on, and stays inside
+  pub next_rises : (next : ℕ) → Some next ≡ next_p w sl end p → (p < next) × (next ≤ end)
+  next_rises next e = let q = next_sound next e in (omega (arith, size_least w p), omega (arith, q.0.ends))
 
 -- the steps of what is counted, in the area and past it
 module _ (w : ℕ → ℕ) (sl end p n : ℕ) where
@@ -361,26 +359,26 @@ module _ (w : ℕ → ℕ) (sl from end : ℕ) (start₀ : List ℕ) where
           let b : passes_p sl 262144 w end from ≡ false = g.passes ∙ ap (λ (n : ℕ). passes_p sl n w end at) z ∙ passes_none w sl end at l in
           rw (b, scan_p)
 
-      module _ (m : x ≤ 262144) (next : ℕ) (ne : next ≡ next_p w sl end at) where
+      module _ (m : x ≤ 262144) where
         fuel : 262145 - x ≡ suc (262145 - (x + 1))
         fuel = omega arith
 
-        pub scan_bad : next ≤ at → unsound ≡ scan_p w sl from end start₀
+        pub scan_bad : None ≡ next_p w sl end at → unsound ≡ scan_p w sl from end start₀
         unfolding scan_p
         scan_bad h =
             let b : passes_p sl 262144 w end from ≡ false =
             g.passes
             ∙ ap (λ (n : ℕ). passes_p sl n w end at) fuel
-            ∙ passes_bad w sl end at (262145 - (x + 1)) l (next_refused w sl end at next ne h) in
+            ∙ passes_bad w sl end at (262145 - (x + 1)) l (next_refused w sl end at h) in
             rw (b, scan_p)
 
-        module _ (o : at < next) (end_few : end ≤ 16777216) (i k : ℕ) (fi : i ≡ w (at + 4)) (fk : k ≡ kind_of i) (start' : List ℕ)
+        module _ (next : ℕ) (ne : Some next ≡ next_p w sl end at) (end_few : end ≤ 16777216) (i k : ℕ) (fi : i ≡ w (at + 4)) (fk : k ≡ kind_of i) (start' : List ℕ)
             (fs : start' ≡ set start x (at % 134217728 * 32 + k % 32)) (d : ℕ) (fd : d ≡ enums_of i) where
           snd : Sound w sl end at
-          snd = (next_sound w sl end at next ne o).0
+          snd = (next_sound w sl end at next ne).0
 
           next_at : next ≡ at + size_p w at
-          next_at = (next_sound w sl end at next ne o).1
+          next_at = (next_sound w sl end at next ne).1
 
           entry_is : at % 134217728 * 32 + k % 32 ≡ at * 32 + kind_p w at
           unfolding kind_p
@@ -513,11 +511,11 @@ enums_few i d e = rw e (go (eqb (kind_of i) 6) (eqb (kind_of i) 19))
     go false true = omega arith
     go false false = omega arith
 
-pub out_unsound : (r : Records) (start : List ℕ) → r ≡ no_records → scan_out r start ≡ unsound
-unfolding scan_out no_records
-out_unsound r start e = ap (λ (q : Records). scan_out q start) e
+pub out_unsound : (start : List ℕ) → scan_out None start ≡ unsound
+unfolding scan_out
+out_unsound start = refl
 
-pub out_found : (x e : ℕ) (start : List ℕ) → scan_out (record { is_sound = true; types = x; enumerators = e }) start ≡ found x e start
+pub out_found : (x e : ℕ) (start : List ℕ) → scan_out (Some (record { types = x; enumerators = e })) start ≡ found x e start
 unfolding scan_out
 out_found x e start = refl
 

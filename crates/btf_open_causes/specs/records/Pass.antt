@@ -1,6 +1,6 @@
 -- A pass over the records of the type area, by their places in the section: w reads a word, the records begin at `from` and end at
 -- `end`, the string area has sl bytes. Cause 5 is `spec_linux_btf`' (sound_p, named_p, passes_p); here is what else the pass finds.
-use Rattle.std.specs.Prelude.{ℕ, zero, suc, ◌+◌, ◌*◌, Bool, true, false, ◌&&◌, List, set, ltb, eqb}
+use Rattle.std.specs.Prelude.{ℕ, zero, suc, ◌+◌, ◌*◌, Bool, true, false, ◌&&◌, List, set, ltb, eqb, Option, Some, None}
 use Rattle.spec_bytes.specs.words.Words.{pick}
 use Rattle.spec_type_table.specs.declared.types.TypeTable.{TypeTable}
 use Rattle.spec_type_table.specs.Records.{section_word, vlen_of, kind_of}
@@ -8,7 +8,7 @@ use Rattle.spec_linux_btf.specs.Reading.{Kind, none, INT, PTR, ARRAY, STRUCT, UN
 use Rattle.spec_linux_btf.specs.Reading.{FUNC-PROTO, VAR, DATASEC, FLOAT, DECL-TAG, TYPE-TAG, ENUM64, kind}
 use Rattle.spec_linux_btf.specs.Places.{size_p, kind_p, entries_named_p, sound_p, named_p, passes_p, place_from}
 use Rattle.spec_linux_btf.specs.Section.{word_of}
-use Rattle.btf_open_causes.specs.declared.records.Records.{Records}
+use Rattle.btf_open_causes.specs.declared.records.Counts.{Counts}
 
 -- how long an entry with a name is, of the kinds that have such
 unfoldable pub entry_width : Kind → ℕ
@@ -42,9 +42,9 @@ unfoldable pub enums_of : ℕ → ℕ
 enums_of info = pick (eqb (kind_of info) 6) (vlen_of info) (pick (eqb (kind_of info) 19) (vlen_of info) 0)
 
 module _ (w : ℕ → ℕ) where
-  -- the place after the record at p, or 0 where that has cause 5
-  unfoldable pub next_p : ℕ → ℕ → ℕ → ℕ
-  next_p sl end p = elim (sound_p w end p && named_p sl w p) [ true ↦ p + size_p w p | false ↦ 0 ]
+  -- the place after the record at p, if that has not cause 5
+  unfoldable pub next_p : ℕ → ℕ → ℕ → Option ℕ
+  next_p sl end p = elim (sound_p w end p && named_p sl w p) [ true ↦ Some (p + size_p w p) | false ↦ None ]
 
   -- how many records, at most n, stand from p to the end
   unfoldable pub count_p : ℕ → ℕ → ℕ → ℕ
@@ -66,13 +66,10 @@ pub data Scan : Type 0 where
   unsound : Scan
   found : ℕ → ℕ → List ℕ → Scan
 
--- the code's answer for cause 5
-unfoldable pub no_records : Records
-no_records = record { is_sound = false; types = 0; enumerators = 0 }
-
 -- what the code's answer and the index at its exit say; after cause 5 nothing is said of the index
-unfoldable pub scan_out : Records → List ℕ → Scan
-scan_out r start = elim r.is_sound [ true ↦ found r.types r.enumerators start | false ↦ unsound ]
+unfoldable pub scan_out : Option Counts → List ℕ → Scan
+scan_out (Some r) start = found r.types r.enumerators start
+scan_out None start = unsound
 
 unfoldable pub scan_p : (ℕ → ℕ) → ℕ → ℕ → ℕ → List ℕ → Scan
 scan_p w sl from end start =

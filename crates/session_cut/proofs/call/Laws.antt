@@ -14,7 +14,7 @@ use Rattle.spec_type_table.specs.declared.types.TypeTable.{TypeTable}
 use Rattle.btf_open_causes.specs.references.References.{has_bad_reference}
 use Rattle.btf_open_causes.specs.header.Header.{btf_of, bad_strings}
 use Rattle.btf_open_causes.proofs.header.Headers.{strings_decided, order_is}
-use Rattle.btf_open_causes.specs.declared.records.Records.{Records}
+use Rattle.btf_open_causes.specs.declared.records.Counts.{Counts}
 use Rattle.btf_open_causes.specs.records.Pass.{Scan, unsound, found, scan_out, scan_section}
 use Rattle.spec_opening.specs.Table.{types_of, enumerators_of, empty_index, index_of}
 use Rattle.spec_opening.specs.Causes.{cause2, cause3, cause4, cause5, cause6, table_of, first_of}
@@ -197,52 +197,47 @@ module _ (p : ℕ) (s : List ℕ) where
       last_two : passes p s ≡ not (cause5 s || cause6 p s)
       last_two = five ∙ (λ i. not (none.0 i || (none.1.0 i || (none.1.1.0 i || (cause5 s || cause6 p s)))))
 
-      module _ (b : TypeTable) (eb : b ≡ btf_of s p 0 0) (r : Records) (start start' : List ℕ) (e0 : start ≡ empty_index) (es : scan_out r start' ≡ scan_section b s start) where
+      module _ (b : TypeTable) (eb : b ≡ btf_of s p 0 0) (r : Option Counts) (start start' : List ℕ) (e0 : start ≡ empty_index) (es : scan_out r start' ≡ scan_section b s start) where
         scan_is : (t : Bool) → types_sound s ≡ t → scan_out r start' ≡ passed_by t s
         scan_is t e = es ∙ ap (scan_section b s) e0 ∙ section_is b s (ap (λ x. x.big_endian) eb ∙ order_is s p 0 0) header short
             ∙ ap (λ (x : Bool). passed_by x s) e
 
-        out_no : r.is_sound ≡ false → scan_out r start' ≡ unsound
-        unfolding scan_out
-        out_no e = rw (e, scan_out)
-
-        out_yes : r.is_sound ≡ true → scan_out r start' ≡ found r.types r.enumerators start'
-        unfolding scan_out
-        out_yes e = rw (e, scan_out)
-
         -- where the pass found no cause 5
-        sound_is : r.is_sound ≡ true → types_sound s ≡ true
-        sound_is f = go (types_sound s) refl
+        sound_is : (counts : Counts) → r ≡ Some counts → types_sound s ≡ true
+        unfolding scan_out
+        sound_is counts f = go (types_sound s) refl
           where
             go : (t : Bool) → types_sound s ≡ t → t ≡ true
             go true e = refl
-            go false e = absurd (true≢false (ap is_found (sym (out_yes f) ∙ scan_is false e)))
+            go false e = absurd (true≢false (ap is_found (sym (ap (λ (o : Option Counts). scan_out o start') f) ∙ scan_is false e)))
 
-        not_sound : r.is_sound ≡ false → types_sound s ≡ false
+        not_sound : r ≡ None → types_sound s ≡ false
+        unfolding scan_out
         not_sound f = go (types_sound s) refl
           where
             go : (t : Bool) → types_sound s ≡ t → t ≡ false
             go false e = refl
-            go true e = absurd (true≢false (sym (ap is_found (sym (out_no f) ∙ scan_is true e))))
+            go true e = absurd (true≢false (sym (ap is_found (sym (ap (λ (o : Option Counts). scan_out o start') f) ∙ scan_is true e))))
 
-        pub check_5 : not r.is_sound ≡ true → checked_out None start' ≡ checked_of p s
+        pub check_5 : r ≡ None → checked_out None start' ≡ checked_of p s
         unfolding cause5
-        check_5 f = unfit_out start' ∙ sym (checked_no (last_two ∙ ap (λ (x : Bool). not (not x || cause6 p s)) (not_sound (not-true r.is_sound f))))
+        check_5 f = unfit_out start' ∙ sym (checked_no (last_two ∙ ap (λ (x : Bool). not (not x || cause6 p s)) (not_sound f)))
 
-        module _ (f : not r.is_sound ≡ false) where
+        module _ (counts : Counts) (f : r ≡ Some counts) where
           types_ok : types_sound s ≡ true
-          types_ok = sound_is (not-false r.is_sound f)
+          types_ok = sound_is counts f
 
-          exact : found r.types r.enumerators start' ≡ found (types_of s) (enumerators_of s) (index_of s)
-          exact = sym (out_yes (not-false r.is_sound f)) ∙ scan_is true types_ok
+          exact : found counts.types counts.enumerators start' ≡ found (types_of s) (enumerators_of s) (index_of s)
+          unfolding scan_out
+          exact = sym (ap (λ (o : Option Counts). scan_out o start') f) ∙ scan_is true types_ok
 
-          types_is : r.types ≡ types_of s
+          types_is : counts.types ≡ types_of s
           types_is = ap types_in exact
 
           index_is : start' ≡ index_of s
           index_is = ap index_in exact
 
-          module _ (b1 : TypeTable) (eb1 : b1 ≡ btf_of s p 0 r.types) (u : Bool) (eu : u ≡ has_bad_reference b1 s start') where
+          module _ (b1 : TypeTable) (eb1 : b1 ≡ btf_of s p 0 counts.types) (u : Bool) (eu : u ≡ has_bad_reference b1 s start') where
             bad_is : u ≡ cause6 p s
             unfolding cause6 table_of
             bad_is = let z : b1 ≡ btf_of s p 0 (types_of s) = eb1 ∙ ap (btf_of s p 0) types_is in eu ∙ (λ i. has_bad_reference (z i) s (index_is i))
@@ -254,9 +249,9 @@ module _ (p : ℕ) (s : List ℕ) where
             pub check_6 : u ≡ true → checked_out None start' ≡ checked_of p s
             check_6 e = unfit_out start' ∙ sym (checked_no (at_last ∙ ap not e))
 
-            pub check_0 : u ≡ false → checked_out (Some r.types) start' ≡ checked_of p s
+            pub check_0 : u ≡ false → checked_out (Some counts.types) start' ≡ checked_of p s
             check_0 e =
-                fit_out r.types start'
+                fit_out counts.types start'
                 ∙ (λ i. fit (types_is i) (index_is i))
                 ∙ sym (checked_yes (at_last ∙ ap not e))
 

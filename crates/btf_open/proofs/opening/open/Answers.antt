@@ -15,8 +15,8 @@ examine-requires c = refl
 pub slice_bounds-fill-end : goal.slice_bounds-fill-end
 slice_bounds-fill-end c = sym (c.examine.auto.start ∙ length-replicate {A = ℕ} 262145 0)
 
-pub returns-in-Refused : goal.returns-in-Refused
-returns-in-Refused c = open_refused _ _ _ _ _ _ _ c.in-Refused.ensures _ refl
+pub returns-in-Err : goal.returns-in-Err
+returns-in-Err c = open_refused _ _ _ _ _ _ _ c.in-Err.ensures _ refl _ c.from.ensures
 
-pub returns-in-Sound : goal.returns-in-Sound
-returns-in-Sound c = open_sound _ _ _ _ _ _ _ c.in-Sound.ensures _ _ refl _ c.clear.ensures _ c.clear-in-Sound.ensures _ c.btf_of-b.ensures _ c.fill.ensures _ c.takers.ensures
+pub returns-in-Ok : goal.returns-in-Ok
+returns-in-Ok c = open_sound _ _ _ _ _ _ _ c.in-Ok.ensures _ refl _ c.clear.ensures _ c.clear-in-Ok.ensures _ c.btf_of-b.ensures _ c.fill.ensures _ c.takers.ensures

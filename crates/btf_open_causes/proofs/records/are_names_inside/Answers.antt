@@ -1,16 +1,13 @@
-use native.Mathlib.Omega.{arith}
-use mathlib.Core.Path.{refl}
-use Rattle.btf_open_causes.proofs.records.Pass.{names_no, names_more, names_all}
+use Rattle.std.proofs.Common.{arith, ap, ◌∙◌, ◌≡◌, ◌+◌, ◌-◌}
+use Rattle.spec_linux_btf.specs.Places.{all_named_p}
+use Rattle.spec_type_table.specs.Records.{section_word}
+use Rattle.btf_open_causes.proofs.records.Pass.{names_more}
 use Rattle.btf_open_causes.proofs.records.are_names_inside.Goals as goal
 
-pub loop-left-init : goal.loop-left-init
-loop-left-init c = (refl, omega arith, omega arith)
-
-pub returns-then-str_len-word : goal.returns-then-str_len-word
-returns-then-str_len-word c = names_no _ _ _ _ _ _ c.loop-left.invariant.0 c.loop-left-test.true _ c.word.ensures c.if-str_len-word.true
-
-pub loop-left-preserved : goal.loop-left-preserved
-loop-left-preserved c = (names_more _ _ _ _ _ _ c.loop-left.invariant.0 c.loop-left-test.true _ c.word.ensures c.if-str_len-word.false, omega arith, omega arith)
-
-pub returns : goal.returns
-returns c = names_all _ _ _ _ _ _ c.loop-left.invariant.0 c.loop-left-test.false
+pub loop-preserved : goal.loop-preserved
+loop-preserved c =
+    let e : c.args.n - c.loop.counter - 1 ≡ c.args.n - (c.loop.counter + 1) = omega arith in (
+      names_more _ _ _ _ _ _ c.loop.invariant.0 (omega arith) _ c.word.ensures c.if-str_len-word.false
+          ∙ ap (all_named_p c.args.str_len c.args.width (section_word c.args.b c.args.section.now) (c.loop.q + c.args.width)) e,
+      omega arith,
+    )

@@ -4,8 +4,7 @@ use mathlib.Core.Path.{◌≡◌}
 use Prim.Native.Nat.{◌≤◌, ◌+◌, ◌-◌, ◌*◌}
 use Rattle.btf_open_causes.proofs.records.are_names_inside.Given as goal
 
-abbrev pub invariant-loop-left : goal.invariant-loop-left
-invariant-loop-left l = (all_named_p l.str_len l.width (section_word l.b l.section) (l.at + 12) l.n ≡ all_named_p l.str_len l.width (section_word l.b l.section) l.q l.left) × (l.left ≤ l.n) × (l.q ≤ l.at + 12 + 4294967295 * (l.n - l.left))
-
-abbrev pub decreases-loop-left : goal.decreases-loop-left
-decreases-loop-left l = l.left
+abbrev pub invariant-loop : goal.invariant-loop
+invariant-loop l =
+    (all_named_p l.str_len l.width (section_word l.b l.section) (l.at + 12) l.n ≡ all_named_p l.str_len l.width (section_word l.b l.section) l.q (l.n - l.counter))
+    × (l.q ≤ l.at + 12 + 4294967295 * l.counter)
