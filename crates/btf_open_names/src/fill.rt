@@ -17,22 +17,15 @@ use spec_type_table::{Entries, TypeTable};
 fn entry_of(start: &[u32], x: u32) -> u32
     ensures { result ≡ get_or start.now x 0 }
 {
-    let i = x as usize;
-    if i < start.len() {
-        return start[i];
-    }
-    0
+    start.get(x as usize).copied().unwrap_or(0)
 }
 
 // The place of record x, for each type but void.
 fn fill_places(b: TypeTable, start: &[u32], work: &mut [u8])
     ensures { work.new ≡ places_put start.now work.old (b.types - 1) }
 {
-    let n = b.types;
-    let mut x: u32 = 1;
-    while x < n {
+    for x in 1..b.types {
         put_field(work, x, cell::PLACE, entry_of(start, x) / 32);
-        x += 1;
     }
 }
 
@@ -60,15 +53,12 @@ fn fill_values(b: TypeTable, kind: u32, e: Entries, first: u64, work: &mut [u8])
     requires { (e.at < 134217728) × (e.vlen < 65536) × (first < 281474976710656) }
     ensures { work.new ≡ values_put b.types kind e.at first work.old e.vlen }
 {
-    let n = e.vlen;
-    let mut k: u32 = 0;
-    while k < n {
+    for k in 0..e.vlen {
         put_word(
             work,
             enumerator_word(b.types, first + (k as u64)),
             value_place(kind, e, k),
         );
-        k += 1;
     }
 }
 
@@ -109,15 +99,12 @@ fn fill_enum(b: TypeTable, entry: u32, n: u32, x: u32, first: u64, work: &mut [u
 fn fill_enums(b: TypeTable, section: &[u8], start: &[u32], work: &mut [u8])
     ensures { work.new ≡ enums_put b section.now start.now work.old (b.types - 1) }
 {
-    let types = b.types;
     let mut first: u64 = 0;
-    let mut x: u32 = 1;
-    while x < types {
+    for x in 1..b.types {
         let entry = entry_of(start, x);
         let n = values_at(b, section, entry);
         fill_enum(b, entry, n, x, first, work);
         first += n as u64;
-        x += 1;
     }
 }
 
@@ -141,9 +128,7 @@ fn fill_tag(b: TypeTable, section: &[u8], entry: u32, x: u32, work: &mut [u8])
 fn fill_tags(b: TypeTable, section: &[u8], start: &[u32], work: &mut [u8])
     ensures { work.new ≡ tags_put b section.now start.now (b.types - 1) work.old }
 {
-    let mut x = b.types;
-    while 1 < x {
-        x -= 1;
+    for x in (1..b.types).rev() {
         fill_tag(b, section, entry_of(start, x), x, work);
     }
 }

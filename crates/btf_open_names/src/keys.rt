@@ -3,4 +3,4 @@ mod hash;
 mod keys;
 
 pub use crate::keys::hash::{byte_at, hash_name, hash_step};
-pub use crate::keys::keys::{Key, load_key, same_key};
+pub use crate::keys::keys::{Key, Space, load_key};

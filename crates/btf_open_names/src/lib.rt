@@ -4,6 +4,7 @@
 pub mod classify;
 pub mod fill;
 pub mod hash_table;
+pub mod holders;
 pub mod keys;
 pub mod numbers;
 pub mod suffixes;

@@ -5,22 +5,14 @@ ghost use Rattle.spec_type_table.specs.Cells.{class_p, count_p, count_raised};
 ghost use Rattle.spec_type_table.specs.Numbers.{below, capped, number_over, taken_at, number_at};
 ghost use Rattle.btf_open_names.specs.numbers.Lists.{one_if};
 
-use base_bytes::limit;
-use base_bytes::word::get_word;
 use btf_type_table::cell;
-use btf_type_table::cell::{get_count, holder_word};
+use btf_type_table::cell::get_count;
 
 // One more, if the number t is at most n.
 fn add_if(c: u32, t: u32, n: u32) -> u32
     ensures { result ≡ one_if c t n }
 {
-    if n < t {
-        return c;
-    }
-    if c < limit::LARGEST {
-        return c + 1;
-    }
-    c
+    if n < t { c } else { c.saturating_add(1) }
 }
 
 // How many numbers on the list of a class are at most n. The list rises; what does not was not left by opening, and ends it.
@@ -29,24 +21,11 @@ fn count_below(work: &[u8], types: u32, class: u32, n: u32) -> u32
 {
     let mut c: u32 = 0;
     let mut last: u32 = 0;
-    let mut x = get_word(
-        work,
-        holder_word(types, cell::FIRST_TAKER, cell::VALUE_FIRST_TAKER, class),
-    );
+    let mut x = cell::FIRST_TAKER.get(work, types, class);
     while last < x {
-        c = add_if(
-            c,
-            get_word(
-                work,
-                holder_word(types, cell::TAKEN_NUMBER, cell::VALUE_TAKEN_NUMBER, x),
-            ),
-            n,
-        );
+        c = add_if(c, cell::TAKEN_NUMBER.get(work, types, x), n);
         last = x;
-        x = get_word(
-            work,
-            holder_word(types, cell::NEXT_TAKER, cell::VALUE_NEXT_TAKER, x),
-        );
+        x = cell::NEXT_TAKER.get(work, types, x);
     }
     c
 }
@@ -55,11 +34,7 @@ fn count_below(work: &[u8], types: u32, class: u32, n: u32) -> u32
 fn step(work: &[u8], types: u32, class: u32, k: u32, n: u32) -> u32
     ensures { result ≡ capped (k + below (taken_at types work.now class) n) }
 {
-    let m = (k as u64) + (count_below(work, types, class, n) as u64);
-    if m < limit::LARGEST_64 {
-        return m as u32;
-    }
-    limit::LARGEST
+    k.saturating_add(count_below(work, types, class, n))
 }
 
 // The number of the k-th holder. Each turn passes over at least one more number.
@@ -80,10 +55,7 @@ pub fn get_number(work: &mut [u8], types: u32, h: u32) -> u32
     ensures { (result ≡ number_at types work.old h)
         × (work.new ≡ count_raised (class_p types) (count_p types) work.old h) }
 {
-    let class = get_word(
-        work,
-        holder_word(types, cell::NAME_CLASS, cell::VALUE_CLASS, h),
-    );
+    let class = cell::NAME_CLASS.get(work, types, h);
     let k = get_count(work, types, h);
     number_over(work, types, class, k)
 }

@@ -2,5 +2,5 @@
 mod bases;
 mod suffix;
 
-pub use crate::suffixes::bases::{base_of, is_suffixed, key_suffix};
-pub use crate::suffixes::suffix::hash_before;
+pub use crate::suffixes::bases::{Base, base_of, key_suffix};
+pub use crate::suffixes::suffix::{has_suffix, hash_before};

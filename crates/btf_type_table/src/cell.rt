@@ -1,6 +1,6 @@
 // The work words: 16 for each type, at 16 times its id, then 8 for each enumerator.
 ghost use Rattle.std.specs.Prelude.{◌≡◌};
-ghost use Rattle.spec_bytes.specs.words.Words.{get_word, one_more};
+ghost use Rattle.spec_bytes.specs.words.Words.{get_word, put_word, one_more};
 ghost use Rattle.spec_type_table.specs.Cells.{get_field, put_field, place_of, class_p, count_p, count_after, count_raised, with_more};
 
 use base_bytes::limit;
@@ -24,19 +24,6 @@ pub const FORWARD_EMITTED: u32 = 3;
 // 0 while its name has none.
 pub const NAME_VERSION: u32 = 4;
 
-// The first holder of its name; and there, how many holders there are so far.
-pub const NAME_CLASS: u32 = 5;
-
-pub const NAME_HOLDERS: u32 = 6;
-
-// The list of those whose names take a number of this name: at the class the first, at each the next and its number. All are 0
-// without the mode of names that cannot collide.
-pub const FIRST_TAKER: u32 = 7;
-
-pub const NEXT_TAKER: u32 = 8;
-
-pub const TAKEN_NUMBER: u32 = 14;
-
 // The first declaration tag on it; of a tag, the next on the same type.
 pub const FIRST_TAG: u32 = 9;
 
@@ -53,33 +40,94 @@ pub const EMIT_STATE: u32 = 13;
 // 0, or what is remembered of its alignment.
 pub const ALIGNMENT: u32 = 15;
 
-// Words of an enumerator; the first is the place of its entry.
-pub const VALUE_CLASS: u32 = 1;
+// A word of each holder of a name: its number among the words of a type, and among those of an enumerator. Holder h is type h below the
+// count of types, and after those an enumerator.
+#[derive(Clone, Copy)]
+pub struct HolderWord {
+    pub of_type: u32,
+    pub of_value: u32,
+}
 
-pub const VALUE_HOLDERS: u32 = 2;
+// The place of its record or entry.
+pub const HOLDER_PLACE: HolderWord = HolderWord {
+    of_type: 0,
+    of_value: 0,
+};
 
-pub const VALUE_FIRST_TAKER: u32 = 3;
+// The first holder of its name; and there, how many holders there are so far.
+pub const NAME_CLASS: HolderWord = HolderWord {
+    of_type: 5,
+    of_value: 1,
+};
 
-pub const VALUE_NEXT_TAKER: u32 = 4;
+pub const NAME_HOLDERS: HolderWord = HolderWord {
+    of_type: 6,
+    of_value: 2,
+};
 
-pub const VALUE_TAKEN_NUMBER: u32 = 6;
+// The list of those whose names take a number of this name: at the class the first, at each the next and its number. All are 0
+// without the mode of names that cannot collide.
+pub const FIRST_TAKER: HolderWord = HolderWord {
+    of_type: 7,
+    of_value: 3,
+};
+
+pub const NEXT_TAKER: HolderWord = HolderWord {
+    of_type: 8,
+    of_value: 4,
+};
+
+pub const TAKEN_NUMBER: HolderWord = HolderWord {
+    of_type: 14,
+    of_value: 6,
+};
 
 // While opening, some words are a hash table's, first that of the classes and then that of the names: the first of a bucket, the next.
-pub const CLASS_BUCKET: u32 = 7;
+pub const CLASS_BUCKET: HolderWord = HolderWord {
+    of_type: 7,
+    of_value: 3,
+};
 
-pub const CLASS_LINK: u32 = 8;
+pub const CLASS_LINK: HolderWord = HolderWord {
+    of_type: 8,
+    of_value: 4,
+};
 
-pub const VALUE_CLASS_BUCKET: u32 = 3;
+pub const TABLE_BUCKET: HolderWord = HolderWord {
+    of_type: 11,
+    of_value: 5,
+};
 
-pub const VALUE_CLASS_LINK: u32 = 4;
+pub const TABLE_LINK: HolderWord = HolderWord {
+    of_type: 13,
+    of_value: 7,
+};
 
-pub const TABLE_BUCKET: u32 = 11;
+impl HolderWord {
+    // Where this word of holder h stands in the work.
+    pub fn place(self, types: u32, h: u32) -> usize
+        ensures { result ≡ place_of types self.of_type self.of_value h }
+    {
+        if h < types {
+            return (h as usize) * WORDS_OF_TYPE + (self.of_type as usize);
+        }
+        (types as usize) * WORDS_OF_TYPE
+            + ((h - types) as usize) * WORDS_OF_VALUE
+            + (self.of_value as usize)
+    }
 
-pub const TABLE_LINK: u32 = 13;
+    pub fn get(self, work: &[u8], types: u32, h: u32) -> u32
+        ensures { result ≡ get_word work.now (place_of types self.of_type self.of_value h) }
+    {
+        get_word(work, self.place(types, h))
+    }
 
-pub const VALUE_TABLE_BUCKET: u32 = 5;
-
-pub const VALUE_TABLE_LINK: u32 = 7;
+    pub fn put(self, work: &mut [u8], types: u32, h: u32, v: u32)
+        ensures { work.new ≡ put_word work.old (place_of types self.of_type self.of_value h) v }
+    {
+        put_word(work, self.place(types, h), v)
+    }
+}
 
 // Word f of type id.
 pub fn get_field(work: &[u8], id: u32, f: u32) -> u32
@@ -92,17 +140,6 @@ pub fn put_field(work: &mut [u8], id: u32, f: u32, v: u32)
     ensures { work.new ≡ put_field work.old id f v }
 {
     put_word(work, (id as usize) * WORDS_OF_TYPE + (f as usize), v)
-}
-
-// A name's holder h is type h below the count of types, and after those an enumerator: word f of a type, word g of an
-// enumerator.
-pub fn holder_word(types: u32, f: u32, g: u32, h: u32) -> usize
-    ensures { result ≡ place_of types f g h }
-{
-    if h < types {
-        return (h as usize) * WORDS_OF_TYPE + (f as usize);
-    }
-    (types as usize) * WORDS_OF_TYPE + ((h - types) as usize) * WORDS_OF_VALUE + (g as usize)
 }
 
 // One more at a word: what it has then. (It saturates, so that altered work cannot make it wrap.)
@@ -122,6 +159,6 @@ pub fn get_count(work: &mut [u8], types: u32, h: u32) -> u32
     ensures { (result ≡ count_after (class_p types) (count_p types) work.old h)
         × (work.new ≡ count_raised (class_p types) (count_p types) work.old h) }
 {
-    let class = get_word(work, holder_word(types, NAME_CLASS, VALUE_CLASS, h));
-    count_at(work, holder_word(types, NAME_HOLDERS, VALUE_HOLDERS, class))
+    let class = NAME_CLASS.get(work, types, h);
+    count_at(work, NAME_HOLDERS.place(types, class))
 }

@@ -3,7 +3,7 @@ use Prim.Native.Nat.{ℕ, zero, suc, ◌+◌, ◌-◌, ◌*◌, ◌≤◌, ◌<�
 use mathlib.Core.Path.{◌≡◌, refl, ap, ap₂, ◌∙◌, sym}
 use mathlib.Core.List.{List, [], ◌∷◌}
 use mathlib.Core.Bool.{Bool, true, false, ◌&&◌}
-use mathlib.Core.Logic.{⊎_elim}
+use mathlib.Core.Logic.{◌⊎◌, inl, inr, ⊎_elim}
 use native.Mathlib.Omega.{arith}
 use native.Mathlib.Nat.{add-zero}
 use lib.ListN.{length, get_or, get_or-eq_default}
@@ -26,6 +26,10 @@ module _ (acc x : ℕ) where
 
   pub digit_high : 48 ≤ x → 57 < x → 0 ≡ digit_after acc x
   digit_high l h = sym (by_tests true false (leb (acc * 10 + (x - 48)) 4294967295) (le-leb 48 x l) (lt-leb x 57 h) refl)
+
+  pub digit_not : (x < 48) ⊎ (57 < x) → 0 ≡ digit_after acc x
+  digit_not (inl h) = digit_low h
+  digit_not (inr h) = ⊎_elim (λ l. digit_high l h) (λ l. digit_low l) (le_or_lt 48 x)
 
   pub digit_past : (v : ℕ) → 48 ≤ x → x ≤ 57 → v ≡ acc * 10 + (x - 48) → 4294967295 < v → 0 ≡ digit_after acc x
   digit_past v l h e m = sym (by_tests true true false (le-leb 48 x l) (le-leb x 57 h) (lt-leb (acc * 10 + (x - 48)) 4294967295 (omega (arith, e))))
@@ -78,34 +82,44 @@ module _ (s : List ℕ) (n i x : ℕ) (e : x ≡ get_or s i 0) where
   pub under_is : x ≡ 95 → after_underscores (suc n) (name_at s i) ≡ after_underscores n (name_at s (i + 1))
   under_is h = ap (after_underscores (suc n)) (name_more s i (λ z. omega (arith, e, h, z))) ∙ under_here n (get_or s i 0) (name_at s (i + 1)) (sym e ∙ h)
 
-pub inside : (s : List ℕ) (i x : ℕ) → x ≡ get_or s i 0 → x ≡ 95 → i < length s
-inside s i x e h = ⊎_elim (λ l. absurd (omega (arith, e, h, get_or-eq_default s 0 l))) (λ l. l) (le_or_lt (length s) i)
+pub inside : (s : List ℕ) (i : ℕ) → get_or s i 0 ≡ 95 → i < length s
+inside s i h = ⊎_elim (λ l. absurd (omega (arith, h, get_or-eq_default s 0 l))) (λ l. l) (le_or_lt (length s) i)
 
-module _ (s : List ℕ) (at x : ℕ) (ex : x ≡ get_or s (at + 0) 0) where
-  ex' : x ≡ get_or s at 0
-  ex' = ex ∙ ap (λ (i : ℕ). get_or s i 0) (add-zero at)
+module _ (s : List ℕ) where
+  -- n underscores, and what is after them
+  under_all : (n i : ℕ) → ((k : ℕ) → k < n → get_or s (i + k) 0 ≡ 95) → after_underscores n (name_at s i) ≡ numeral (name_at s (i + n))
+  unfolding after_underscores
+  under_all zero i e = let q : i ≡ i + 0 = omega arith in ap (λ (j : ℕ). numeral (name_at s j)) q
+  under_all (suc n) i e =
+      let q : i + 1 + n ≡ i + suc n = omega arith in
+      under_is s n i (get_or s i 0) refl (rw (← add-zero i) (e 0 (omega arith)))
+      ∙ under_all n (i + 1) (λ k l. let p : i + 1 + k ≡ i + (k + 1) = omega arith in rw p (e (k + 1) (omega arith)))
+      ∙ ap (λ (j : ℕ). numeral (name_at s j)) q
 
-  pub suffix_first : (x ≡ 95 → ⊥) → 0 ≡ suffix_in (name_at s at)
-  suffix_first h = sym (under_not s 2 at x ex' h)
+  all_on : (n i : ℕ) → get_or s i 0 ≡ 95 → ((k : ℕ) → k < n → get_or s (i + 1 + k) 0 ≡ 95) → (k : ℕ) → k < suc n → get_or s (i + k) 0 ≡ 95
+  all_on n i z f k l =
+      ⊎_elim
+      (λ g. let q : i + k ≡ i = omega arith in rw q z)
+      (λ g. let q : i + k ≡ i + 1 + (k - 1) = omega arith in rw q (f (k - 1) (omega arith)))
+      (le_or_lt k 0)
 
-  module _ (hx : x ≡ 95) (y : ℕ) (ey : y ≡ get_or s (at + 1) 0) where
-    pub suffix_second : (y ≡ 95 → ⊥) → 0 ≡ suffix_in (name_at s at)
-    suffix_second h = sym (under_is s 2 at x ex' hx ∙ under_not s 1 (at + 1) y ey h)
+  under_unless : (n i : ℕ) → (((k : ℕ) → k < n → get_or s (i + k) 0 ≡ 95) → ⊥) → after_underscores n (name_at s i) ≡ 0
+  under_unless zero i h = absurd (h (λ k l. absurd (omega arith)))
+  under_unless (suc n) i h =
+      ⊎_elim
+      (λ l. under_not s n i (get_or s i 0) refl (λ z. omega (arith, l, z)))
+      (λ l. ⊎_elim
+      (λ m. let z : get_or s i 0 ≡ 95 = omega arith in under_is s n i (get_or s i 0) refl z ∙ under_unless n (i + 1) (λ f. h (all_on n i z f)))
+      (λ m. under_not s n i (get_or s i 0) refl (λ z. omega (arith, m, z)))
+      (le_or_lt (get_or s i 0) 95))
+      (le_or_lt (get_or s i 0) 94)
 
-    module _ (hy : y ≡ 95) (z : ℕ) (ez : z ≡ get_or s (at + 2) 0) where
-      ez' : z ≡ get_or s (at + 1 + 1) 0
-      ez' = let q : at + 2 ≡ at + 1 + 1 = omega arith in ez ∙ ap (λ (i : ℕ). get_or s i 0) q
+  module _ (at : ℕ) where
+    pub suffix_not : (((k : ℕ) → k < 3 → get_or s (at + k) 0 ≡ 95) → ⊥) → suffix_in (name_at s at) ≡ 0
+    suffix_not h = under_unless 3 at h
 
-      pub suffix_third : (z ≡ 95 → ⊥) → 0 ≡ suffix_in (name_at s at)
-      suffix_third h = sym (under_is s 2 at x ex' hx ∙ under_is s 1 (at + 1) y ey hy ∙ under_not s 0 (at + 1 + 1) z ez' h)
-
-      pub suffix_all : (r : ℕ) → z ≡ 95 → r ≡ numeral (name_at s (at + 3)) → r ≡ suffix_in (name_at s at)
-      unfolding after_underscores
-      suffix_all r h e =
-          let q : at + 3 ≡ at + 1 + 1 + 1 = omega arith in
-          e
-          ∙ ap (λ (i : ℕ). numeral (name_at s i)) q
-          ∙ sym (under_is s 2 at x ex' hx ∙ under_is s 1 (at + 1) y ey hy ∙ under_is s 0 (at + 1 + 1) z ez' h)
+    pub suffix_all : ((k : ℕ) → k < 3 → get_or s (at + k) 0 ≡ 95) → suffix_in (name_at s at) ≡ numeral (name_at s (at + 3))
+    suffix_all e = under_all 3 at e
 
 -- ---- has_suffix, turn by turn
 module _ (s : List ℕ) (all : Bool) (k : ℕ) (inv : all ≡ any_suffix (name_at s k)) where

@@ -7,12 +7,14 @@ use native.Mathlib.Omega.{arith}
 use native.Mathlib.Numerals.{add-one}
 use lib.Dec.{leb, eqb}
 use borrow.Author.Tests.{le-leb, lt-leb, eq-eqb, ne_eqb, lt-ltb, le-ltb}
-use Rattle.spec_bytes.specs.words.Words.{get_word, put_word}
+use Rattle.spec_bytes.specs.words.Words.{get_word}
 use Rattle.spec_type_table.specs.declared.types.TypeTable.{TypeTable}
 use Rattle.spec_type_table.specs.Cells.{class_p}
 use Rattle.spec_type_table.specs.Names.{name_at}
-use Rattle.spec_type_table.specs.Numbers.{head_p, next_p, taken_p}
 use Rattle.btf_open_names.specs.name_classes.Classes.{key_of, key_in}
+use Rattle.std.proofs.Common.{None, Some}
+use Rattle.btf_open_names.specs.declared.suffixes.bases.Base.{Base}
+use Rattle.btf_open_names.specs.suffixes.Based.{based}
 use Rattle.btf_open_names.specs.filled_work.Takers.{after_underscores, suffix_on, any_suffix, name_in, base_from, listed_on, on_base, taker_put, takers_put, with_takers, takers_in}
 
 -- ---- keys
@@ -50,13 +52,12 @@ module _ (s : List ℕ) (x a y c : ℕ) where
   pub keys_some : (r : ℕ) → x ≡ y → (x ≡ 2 → ⊥) → r ≡ suffix_on (name_at s a) (name_at s c) → r ≡ suffix_on (key_of s x a) (key_of s y c)
   keys_some r e n q = q ∙ sym (ap₂ suffix_on (key_some s x a n) (key_some s y c (λ z. n (e ∙ z))) ∙ on_same x y (name_at s a) (name_at s c) e)
 
-module _ (s : List ℕ) (x a : ℕ) where
-  pub suffixed_none : x ≡ 2 → false ≡ any_suffix (name_in (key_of s x a))
-  unfolding any_suffix
-  suffixed_none e = sym (ap (λ (l : List ℕ). any_suffix (name_in l)) (key_none s x a e))
+pub suffixed_some : (s : List ℕ) (x a : ℕ) → (r : Bool) → (x ≡ 2 → ⊥) → r ≡ any_suffix (name_at s a) → r ≡ any_suffix (name_in (key_of s x a))
+suffixed_some s x a r n e = e ∙ sym (ap (λ (l : List ℕ). any_suffix (name_in l)) (key_some s x a n))
 
-  pub suffixed_some : (r : Bool) → (x ≡ 2 → ⊥) → r ≡ any_suffix (name_at s a) → r ≡ any_suffix (name_in (key_of s x a))
-  suffixed_some r n e = e ∙ sym (ap (λ (l : List ℕ). any_suffix (name_in l)) (key_some s x a n))
+pub suffixed_none : (s : List ℕ) → false ≡ any_suffix (name_in (key_of s 2 0))
+unfolding any_suffix
+suffixed_none s = sym (ap (λ (l : List ℕ). any_suffix (name_in l)) (key_none s 2 0 refl))
 
 -- ---- base_of, turn by turn
 module _ (key : ℕ → List ℕ) (h n : ℕ) where
@@ -88,16 +89,6 @@ module _ (key : ℕ → List ℕ) (h n : ℕ) where
         ∙ ap (λ (t : Bool). elim t as (λ z. ℕ) [ true ↦ c | false ↦ base_from key h (n - c - 1) (c + 1) ]) (lt-leb 2 m g)
         ∙ ap (λ (x : ℕ). base_from key h x (c + 1)) p
 
--- ---- put_on
-pub put_on : (types c h m at next taken old : ℕ) (w w₁ w₂ w₃ : List ℕ) → at ≡ head_p types c → old ≡ get_word w at → next ≡ next_p types h → w₁ ≡ put_word w next old
-    → taken ≡ taken_p types h → w₂ ≡ put_word w₁ taken m → w₃ ≡ put_word w₂ at h → w₃ ≡ listed_on types c h m w
-unfolding listed_on
-put_on types c h m at next taken old w w₁ w₂ w₃ ea eo en e₁ et e₂ e₃ =
-    e₃
-    ∙ ap₂ (λ (u : List ℕ) (i : ℕ). put_word u i h)
-    (e₂ ∙ ap₂ (λ (u : List ℕ) (i : ℕ). put_word u i m) (e₁ ∙ ap₂ (λ (i v : ℕ). put_word w i v) en (eo ∙ ap (get_word w) ea)) et)
-    ea
-
 -- ---- put_taker
 module _ (b : TypeTable) (s : List ℕ) (n h : ℕ) (w : List ℕ) where
   put_by : (p q : Bool) (c : ℕ) → eqb (get_word w (class_p b.types h)) h ≡ p → any_suffix (name_in (key_in b s w h)) ≡ q → base_from (key_in b s w) h (n - 1) 1 ≡ c
@@ -105,10 +96,7 @@ module _ (b : TypeTable) (s : List ℕ) (n h : ℕ) (w : List ℕ) where
   unfolding taker_put
   put_by p q c e f g = λ i. elim (e i) as (λ z. List ℕ) [ true ↦ elim (f i) as (λ z. List ℕ) [ true ↦ on_base b s n h w (g i) | false ↦ w ] | false ↦ w ]
 
-  module _ (at class : ℕ) (ea : at ≡ class_p b.types h) (ec : class ≡ get_word w at) where
-    is_class : class ≡ get_word w (class_p b.types h)
-    is_class = ec ∙ ap (get_word w) ea
-
+  module _ (class : ℕ) (is_class : class ≡ get_word w (class_p b.types h)) where
     pub taker_later : (class ≡ h → ⊥) → w ≡ taker_put b s n h w
     taker_later d = sym (put_by false (any_suffix (name_in (key_in b s w h))) (base_from (key_in b s w) h (n - 1) 1) (ne_eqb (get_word w (class_p b.types h)) h (λ z. d (is_class ∙ z))) refl refl)
 
@@ -123,17 +111,23 @@ module _ (b : TypeTable) (s : List ℕ) (n h : ℕ) (w : List ℕ) where
       taker_plain z = sym (put_by true false (base_from (key_in b s w) h (n - 1) 1) e_class (e_suffix ∙ z) refl)
 
       module _ (z : t ≡ true) (c : ℕ) (eb : c ≡ base_from (key_in b s w) h (n - 1) 1) where
-        pub taker_none : c ≡ 0 → w ≡ taker_put b s n h w
-        unfolding on_base
-        taker_none q = sym (put_by true true 0 e_class (e_suffix ∙ z) (sym eb ∙ q))
-
-        pub taker_some : (u : List ℕ) → (c ≡ 0 → ⊥) → u ≡ listed_on b.types c h (suffix_on (key_in b s w c) (key_in b s w h)) w → u ≡ taker_put b s n h w
-        unfolding on_base
-        taker_some u d e = go c eb d e
+        pub taker_none : None ≡ based (key_in b s w) h c → w ≡ taker_put b s n h w
+        unfolding on_base based
+        taker_none q = go c eb q
           where
-            go : (c : ℕ) → c ≡ base_from (key_in b s w) h (n - 1) 1 → (c ≡ 0 → ⊥) → u ≡ listed_on b.types c h (suffix_on (key_in b s w c) (key_in b s w h)) w → u ≡ taker_put b s n h w
-            go zero q d e = absurd (d refl)
-            go (suc c) q d e = e ∙ sym (put_by true true (suc c) e_class (e_suffix ∙ z) (sym q))
+            go : (c : ℕ) → c ≡ base_from (key_in b s w) h (n - 1) 1 → None ≡ based (key_in b s w) h c → w ≡ taker_put b s n h w
+            go zero f q = sym (put_by true true 0 e_class (e_suffix ∙ z) (sym f))
+            go (suc c) f q = absurd (cc)
+
+        pub taker_some : (base : Base) → Some base ≡ based (key_in b s w) h c → (u : List ℕ) → u ≡ listed_on b.types base.holder h base.number w → u ≡ taker_put b s n h w
+        unfolding on_base based
+        taker_some base q u e = go c eb q
+          where
+            go : (c : ℕ) → c ≡ base_from (key_in b s w) h (n - 1) 1 → Some base ≡ based (key_in b s w) h c → u ≡ taker_put b s n h w
+            go zero f q = absurd (cc)
+            go (suc c) f q =
+                let p : base ≡ record { holder = suc c; number = suffix_on (key_in b s w (suc c)) (key_in b s w h) } = cc in
+                e ∙ ap (λ (x : Base). listed_on b.types x.holder h x.number w) p ∙ sym (put_by true true (suc c) e_class (e_suffix ∙ z) (sym f))
 
 -- ---- takers, turn by turn
 module _ (b : TypeTable) (s : List ℕ) (n : ℕ) where

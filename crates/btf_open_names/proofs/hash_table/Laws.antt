@@ -1,7 +1,7 @@
 -- The table, holder by holder. Assumes nothing.
 use Prim.Native.Nat.{ℕ, zero, suc, ◌+◌, ◌-◌, ◌*◌, ◌/◌, ◌%◌, ◌<◌, ◌≤◌}
 use mathlib.Core.Path.{◌≡◌, refl, ap, ap₂, ◌∙◌, sym}
-use mathlib.Core.List.{List, [], ◌∷◌}
+use mathlib.Core.List.{List}
 use mathlib.Core.Bool.{Bool, true, false}
 use mathlib.Core.Logic.{⊎_elim, ◌≢◌}
 use native.Mathlib.Omega.{arith}
@@ -12,10 +12,12 @@ use borrow.Author.Tests.{eq-eqb, ne_eqb, eqb-true, eqb-false, lt-ltb, le-ltb}
 use Rattle.spec_bytes.specs.words.Words.{get_word, put_word}
 use Rattle.spec_bytes.proofs.words.Laws.{le_or_lt}
 use Rattle.spec_type_table.specs.declared.types.TypeTable.{TypeTable}
-use Rattle.spec_type_table.specs.Names.{name_at}
 use Rattle.btf_open_names.specs.name_classes.Classes.{fill, noughts, key_of, key_in}
-use Rattle.btf_open_names.specs.name_classes.Table.{hash_from, hash_key, bucket_of}
-use Rattle.btf_open_names.proofs.name_classes.Fill.{fill_length, get_else, get_fill, put_else, put_fill, fill_same, fill_both}
+use Rattle.btf_open_names.specs.name_classes.Table.{hash_key, bucket_of}
+use Rattle.btf_open_names.proofs.name_classes.Fill.{fill_length, get_else, get_fill, put_else, put_fill, fill_same}
+use Rattle.std.proofs.Common.{Option, None, Some}
+use Rattle.btf_open_names.specs.holders.Holders.{holders_in, pair_cleared}
+use Rattle.btf_open_names.proofs.holders.Laws.{pair_is}
 use Rattle.btf_open_names.specs.hash_table.Hashed.{first_p, later_p, space_in, falls, first_from, first_of, later_of, over, table_from, put_first, all_zero, has_room, table_in, Table}
 use Rattle.btf_open_names.proofs.hash_table.Places.{first_one, later_one, first_in, later_in, later_first, over_zero, keys_over}
 
@@ -136,42 +138,20 @@ module _ (b : TypeTable) (s : List ℕ) (n c : ℕ) (w : List ℕ) where
     pub put_none : x ≡ 2 → w ≡ put_first b s n c w
     put_none e = sym (put_by true (eq-eqb (space_in (key_in b s w c)) 2 (space_is ∙ e)))
 
-    bucket_is : (r : ℕ) → (x ≡ 2 → ⊥) → r ≡ hash_from x (name_at s p) → r % n ≡ bucket_of (key_in b s w) n c
-    unfolding bucket_of hash_key key_of
-    bucket_is r o e = ap (λ (v : ℕ). v % n) e ∙ ap (λ (l : List ℕ). hash_key l % n) (sym (ap (λ (t : Bool). x ∷ elim t as (λ z. List ℕ) [ true ↦ [] | false ↦ name_at s p ]) (ne_eqb x 2 o)) ∙ k)
+    bucket_is : (r : ℕ) → r ≡ hash_key (key_of s x p) → r % n ≡ bucket_of (key_in b s w) n c
+    unfolding bucket_of
+    bucket_is r e = ap (λ (v : ℕ). v % n) (e ∙ ap hash_key k)
 
-    pub put_some : (r at old next : ℕ) (w₁ w₂ : List ℕ) → (x ≡ 2 → ⊥) → r ≡ hash_from x (name_at s p) → at ≡ first_p b.types (r % n) → old ≡ get_word w at → next ≡ later_p b.types c → w₁ ≡ put_word w next old → w₂ ≡ put_word w₁ at c → w₂ ≡ put_first b s n c w
-    put_some r at old next w₁ w₂ o er ea eo en e₁ e₂ =
-        let a : at ≡ first_p b.types (bucket_of (key_in b s w) n c) = ea ∙ ap (first_p b.types) (bucket_is r o er) in
+    pub put_some : (r old : ℕ) (w₁ w₂ : List ℕ) → (x ≡ 2 → ⊥) → r ≡ hash_key (key_of s x p) → old ≡ get_word w (first_p b.types (r % n)) → w₁ ≡ put_word w (later_p b.types c) old
+        → w₂ ≡ put_word w₁ (first_p b.types (r % n)) c → w₂ ≡ put_first b s n c w
+    put_some r old w₁ w₂ o er eo e₁ e₂ =
         e₂
-        ∙ ap₂ (λ (u : List ℕ) (i : ℕ). put_word u i c) (e₁ ∙ ap₂ (λ (i v : ℕ). put_word w i v) en (eo ∙ ap (get_word w) a)) a
+        ∙ ap (λ (u : List ℕ). put_word u (first_p b.types (r % n)) c) (e₁ ∙ ap (put_word w (later_p b.types c)) eo)
+        ∙ ap (λ (j : ℕ). put_word (put_word w (later_p b.types c) (get_word w (first_p b.types j))) (first_p b.types j) c) (bucket_is r er)
         ∙ sym (put_by false (ne_eqb (space_in (key_in b s w c)) 2 (λ q. o (sym space_is ∙ q))))
 
 -- ---- all_zero
 module _ (at : ℕ → ℕ) (w : List ℕ) where
-  zero_split : (k : ℕ) (t : Bool) → 0 < k → eqb (get_word w (at (k - 1))) 0 ≡ t → all_zero at w k ≡ elim t as (λ z. Bool) [ true ↦ all_zero at w (k - 1) | false ↦ false ]
-  unfolding all_zero
-  zero_split zero t l e = absurd (omega arith)
-  zero_split (suc k) t l e =
-      let p : k ≡ suc k - 1 = omega arith in
-      ap (λ (x : ℕ). elim (eqb (get_word w (at x)) 0) as (λ z. Bool) [ true ↦ all_zero at w x | false ↦ false ]) p
-      ∙ ap (λ (x : Bool). elim x as (λ z. Bool) [ true ↦ all_zero at w (suc k - 1) | false ↦ false ]) e
-
-  module _ (all : Bool) (k : ℕ) (inv : all ≡ all_zero at w k) where
-    pub zero_end : k ≤ 0 → true ≡ all
-    unfolding all_zero
-    zero_end l = let q : k ≡ 0 = omega arith in sym (inv ∙ ap (all_zero at w) q)
-
-    module _ (l : 0 < k) (i v : ℕ) (ei : i ≡ at (k - 1)) (ev : v ≡ get_word w i) where
-      value : v ≡ get_word w (at (k - 1))
-      value = ev ∙ ap (get_word w) ei
-
-      pub zero_not : (v ≡ 0 → ⊥) → false ≡ all
-      zero_not o = sym (inv ∙ zero_split k false l (ne_eqb (get_word w (at (k - 1))) 0 (λ q. o (value ∙ q))))
-
-      pub zero_turn : v ≡ 0 → all ≡ all_zero at w (k - 1)
-      zero_turn e = inv ∙ zero_split k true l (eq-eqb (get_word w (at (k - 1))) 0 (sym value ∙ e))
-
   zero_all : (n : ℕ) → all_zero at w n ≡ true → (h : ℕ) → h < n → get_word w (at h) ≡ 0
   unfolding all_zero
   zero_all zero e h l = absurd (omega arith)
@@ -197,13 +177,16 @@ module _ (t e : ℕ) (w : List ℕ) where
   unfolding has_room
   room_by p q x y ep eq ex ey = λ i. room (ep i) (eq i) (ex i) (ey i)
 
-  pub room_many : 4294967295 - t < e → false ≡ has_room t e w
-  room_many l = sym (room_by true _ _ _ (lt-ltb (4294967295 - t) e l) refl refl refl)
+  pub room_none : None ≡ holders_in t e w → false ≡ has_room t e w
+  unfolding has_room holders_in
+  room_none = go (ltb (4294967295 - t) e) (ltb (length w / 4) (t * 16 + e * 8)) (all_zero (first_p t) w (t + e)) (all_zero (later_p t) w (t + e))
+    where
+      go : (p q x y : Bool) → ◌≡◌ {A = Option ℕ} None (elim p as (λ z. Option ℕ) [ true ↦ None | false ↦ elim q as (λ z. Option ℕ) [ true ↦ None | false ↦ Some (t + e) ] ]) → false ≡ room p q x y
+      go true q x y z = refl
+      go false true x y z = refl
+      go false false x y z = absurd (cc)
 
   module _ (few : e ≤ 4294967295 - t) where
-    pub room_short : length w / 4 < t * 16 + e * 8 → false ≡ has_room t e w
-    room_short l = sym (room_by false true _ _ (le-ltb (4294967295 - t) e few) (lt-ltb (length w / 4) (t * 16 + e * 8) l) refl refl)
-
     module _ (long : t * 16 + e * 8 ≤ length w / 4) (x : Bool) (ex : x ≡ all_zero (first_p t) w (t + e)) where
       pub room_used : x ≡ false → false ≡ has_room t e w
       room_used z = sym (room_by false false false _ (le-ltb (4294967295 - t) e few) (le-ltb (length w / 4) (t * 16 + e * 8) long) (sym ex ∙ z) refl)
@@ -330,16 +313,7 @@ module _ (b : TypeTable) (s : List ℕ) (e : ℕ) (w₀ : List ℕ) where
               ∙ ap (λ (k : ℕ → List ℕ). later_of k n 1 c) (sym (table_keys 1 w g));
         }
 
--- ---- clear_table
-module _ (t : ℕ) (w₀ : List ℕ) where
-  pub clear_none : w₀ ≡ over t 0 noughts noughts w₀
-  unfolding over fill
-  clear_none = refl
-
-  pub clear_more : (k i j : ℕ) (w u v : List ℕ) → w ≡ over t k noughts noughts w₀ → i ≡ later_p t k → u ≡ put_word w i 0 → j ≡ first_p t k → v ≡ put_word u j 0 → v ≡ over t (k + 1) noughts noughts w₀
-  unfolding over
-  clear_more k i j w u v e ei eu ej ev =
-      fill_both (first_p t) (later_p t) noughts noughts w₀ w u v k (later_first t) e (eu ∙ ap (λ (x : ℕ). put_word w x 0) ei) (ev ∙ ap (λ (x : ℕ). put_word u x 0) ej)
-
-  pub clear_end : (k n : ℕ) (w : List ℕ) → k ≡ n → w ≡ over t k noughts noughts w₀ → w ≡ over t n noughts noughts w₀
-  clear_end k n w q e = e ∙ ap (λ (i : ℕ). over t i noughts noughts w₀) q
+-- ---- the table cleared
+pub over_pair : (t n : ℕ) (w : List ℕ) → pair_cleared (first_p t) (later_p t) w n ≡ over t n noughts noughts w
+unfolding over
+over_pair t n w = pair_is (first_p t) (later_p t) w n (later_first t)

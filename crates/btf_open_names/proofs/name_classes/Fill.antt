@@ -1,13 +1,14 @@
 -- Laws of `fill`: what stands at a word afterwards, and what a store does to it. Assumes nothing.
-use Prim.Native.Nat.{ℕ, zero, suc, ◌+◌, ◌/◌, ◌<◌}
+use Prim.Native.Nat.{ℕ, zero, suc, ◌+◌, ◌*◌, ◌/◌, ◌%◌, ◌<◌}
 use mathlib.Core.Path.{◌≡◌, refl, ap, ap₂, ◌∙◌, sym}
 use mathlib.Core.List.{List}
 use mathlib.Core.Logic.{⊎_elim, ◌≢◌}
 use native.Mathlib.Omega.{arith}
 use native.Mathlib.Numerals.{add-one}
-use lib.ListN.{length}
-use Rattle.spec_bytes.specs.words.Words.{get_word, put_word}
-use Rattle.spec_bytes.proofs.words.Laws.{le_or_lt, put_length, get_put_same, get_put_other, put_again, put_swap}
+use lib.ListN.{length, get_or}
+use Rattle.std.proofs.lemmas.List.{set-get_or}
+use Rattle.spec_bytes.specs.words.Words.{get_word, put_word, join_at, set_word}
+use Rattle.spec_bytes.proofs.words.Laws.{le_or_lt, get_in, put_in, put_out, put_length, get_put_same, get_put_other, put_again, put_swap}
 use Rattle.btf_open_names.specs.name_classes.Classes.{fill}
 
 module _ (at : ℕ → ℕ) where
@@ -77,12 +78,23 @@ fill_both at to f g w₀ w u v k o e₁ e₂ e₃ =
     rw add-one
     (e₃ ∙ ap (λ (x : List ℕ). put_word x (at k) (f k)) (e₂ ∙ ap (λ (x : List ℕ). put_word x (to k) (g k)) e₁ ∙ put_else at f (fill to g w₀ k) (to k) (g k) k (λ h q. o k h)))
 
-pub fill_both_none : (at to f g : ℕ → ℕ) (w : List ℕ) → w ≡ fill at f (fill to g w 0) 0
-unfolding fill
-fill_both_none at to f g w = refl
+-- a word stored again where it stands
+module _ (w : List ℕ) (bytes : (i : ℕ) → get_or w i 0 < 256) where
+  set_own : (at : ℕ) → set_word w at (join_at w at) ≡ w
+  set_own at =
+      let b0 = bytes at in
+      let b1 = bytes (at + 1) in
+      let b2 = bytes (at + 2) in
+      let b3 = bytes (at + 3) in
+      let e0 : join_at w at % 256 ≡ get_or w at 0 = omega arith in
+      let e1 : join_at w at / 256 % 256 ≡ get_or w (at + 1) 0 = omega arith in
+      let e2 : join_at w at / 65536 % 256 ≡ get_or w (at + 2) 0 = omega arith in
+      let e3 : join_at w at / 16777216 ≡ get_or w (at + 3) 0 = omega arith in
+      rw (e0, set-get_or w at 0, e1, set-get_or w (at + 1) 0, e2, set-get_or w (at + 2) 0, e3) (set-get_or w (at + 3) 0)
 
-pub fill_both_end : (at to f g : ℕ → ℕ) (w : List ℕ) (k n : ℕ) → k ≡ n → fill at f (fill to g w k) k ≡ fill at f (fill to g w n) n
-fill_both_end at to f g w k n = ap (λ (i : ℕ). fill at f (fill to g w i) i)
-
-pub put_at : (w u : List ℕ) (i j v : ℕ) → i ≡ j → u ≡ put_word w i v → u ≡ put_word w j v
-put_at w u i j v e f = f ∙ ap (λ (k : ℕ). put_word w k v) e
+  pub put_own : (i : ℕ) → put_word w i (get_word w i) ≡ w
+  put_own i =
+      ⊎_elim
+      (λ l. put_out w i (get_word w i) l)
+      (λ l. put_in w i (get_word w i) l ∙ ap (set_word w (i * 4)) (get_in w i l) ∙ set_own (i * 4))
+      (le_or_lt (length w / 4) i)

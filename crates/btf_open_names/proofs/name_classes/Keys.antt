@@ -6,6 +6,9 @@ use mathlib.Core.Bool.{Bool, true, false}
 use mathlib.Core.Logic.{⊎_elim, ◌≢◌}
 use native.Mathlib.Omega.{arith}
 use lib.ListN.{length, get_or}
+use lib.Dec.{ltb}
+use Rattle.std.proofs.Common.{Option, None, Some}
+use Rattle.btf_open_names.specs.holders.Holders.{holders_in}
 use borrow.Author.Tests.{lt-ltb, le-ltb, ne_eqb}
 use Rattle.spec_bytes.specs.words.Words.{get_word}
 use Rattle.spec_bytes.proofs.words.Laws.{le_or_lt}
@@ -16,7 +19,7 @@ use Rattle.spec_type_table.proofs.Laws.{place_type, place_enum}
 use Rattle.spec_type_table.specs.Names.{name_at}
 use Rattle.btf_open_names.specs.name_classes.Same.{same_list}
 use Rattle.btf_open_names.specs.name_classes.Classes.{class_of, fill, noughts, with_classes, record_p, bucket_p, link_p, is_id_among, space_of, space_at, name_of, key_of, key_in, table_classed}
-use Rattle.btf_open_names.specs.name_classes.Table.{hash_from, bucket_of, Places, Ready, Finds, placed, state_of}
+use Rattle.btf_open_names.specs.name_classes.Table.{hash_key, bucket_of, Places, Ready, Finds, placed, state_of}
 use Rattle.btf_open_names.proofs.name_classes.Names.{same_from, same_heads, other_heads}
 use Rattle.btf_open_names.proofs.name_classes.Fill.{get_else}
 use Rattle.btf_open_names.proofs.name_classes.Laws as laws
@@ -100,19 +103,16 @@ module _ (k : ℕ) where
       (λ a. ⊎_elim (λ b. let e : k ≡ 6 = omega arith in rw e) (λ b. let e : k ≡ 7 = omega arith in rw e) (le_or_lt k 6))
       (le_or_lt k 5)
 
-  space_else : (k ≡ 4 → ⊥) → (k ≡ 5 → ⊥) → (k ≡ 6 → ⊥) → (k ≡ 7 → ⊥) → (k ≡ 19 → ⊥) → (k ≡ 8 → ⊥) → 2 ≡ space_of k
+  pub space_else : (k ≡ 4 → ⊥) → (k ≡ 5 → ⊥) → (k ≡ 6 → ⊥) → (k ≡ 7 → ⊥) → (k ≡ 19 → ⊥) → (k ≡ 8 → ⊥) → 2 ≡ space_of k
   unfolding space_of is_id_among
   space_else a b c d e f = rw (ne_eqb k 4 a, is_id_among, ne_eqb k 5 b, ne_eqb k 6 c, ne_eqb k 7 d, ne_eqb k 19 e, ne_eqb k 8 f)
-
-  pub space_low : k < 4 → 2 ≡ space_of k
-  space_low l = space_else (λ e. omega arith) (λ e. omega arith) (λ e. omega arith) (λ e. omega arith) (λ e. omega arith) (λ e. omega arith)
 
   pub space_high : (k ≡ 19 → ⊥) → (k ≡ 8 → ⊥) → 8 ≤ k → 2 ≡ space_of k
   space_high a b l = space_else (λ e. omega arith) (λ e. omega arith) (λ e. omega arith) (λ e. omega arith) a b
 
 -- ---- keys: a space, and a name if there is a space
 module _ (s : List ℕ) where
-  key_some : (x p : ℕ) → (x ≡ 2 → ⊥) → key_of s x p ≡ x ∷ name_at s p
+  pub key_some : (x p : ℕ) → (x ≡ 2 → ⊥) → key_of s x p ≡ x ∷ name_at s p
   unfolding key_of
   key_some x p n = rw (ne_eqb x 2 n, key_of)
 
@@ -184,15 +184,16 @@ module _ (b : TypeTable) (s : List ℕ) where
       pub class_void : x ≡ 2 → class_of (key w) h ≡ 0
       class_void e = let l : class_of (key w) h ≤ 0 = laws.class_first (key w) 0 h zero-le (key_void w ∙ sym (key_none s x p e) ∙ k) in omega arith
 
+      pub bucket_is : (m r : ℕ) → r ≡ hash_key (key_of s x p) → r % m ≡ bucket_of (key w) m h
+      unfolding bucket_of
+      bucket_is m r e = ap (λ (v : ℕ). v % m) (e ∙ ap hash_key k)
+
       module _ (n : x ≡ 2 → ⊥) where
         pub class_other : class_of (key w) h ≢ 0
         unfolding key_of
         class_other z = n (ap (λ (l : List ℕ). get_or l 0 0) (k ∙ sym (laws.class_key (key w) h) ∙ ap (key w) z ∙ key_void w))
 
-        pub bucket_is : (m r : ℕ) → r ≡ hash_from x (name_at s p) → r % m ≡ bucket_of (key w) m h
-        bucket_is m r = laws.bucket_is (key w) m h x r _ (sym k ∙ key_some s x p n)
-
-        pub finds : (m r : ℕ) → Ready (key w) bucket link m h w → r ≡ hash_from x (name_at s p) → Finds (key w) bucket link h (r % m) w
+        pub finds : (m r : ℕ) → Ready (key w) bucket link m h w → r ≡ hash_key (key_of s x p) → Finds (key w) bucket link h (r % m) w
         finds m r f e = record { n = m; ready = f; chain = bucket_is m r e; other = class_other }
 
   -- ---- the loop
@@ -240,6 +241,19 @@ module _ (b : TypeTable) (s : List ℕ) where
     pub too_short : e ≤ 4294967295 - b.types → length w / 4 < b.types * 16 + e * 8 → w ≡ table_classed b e s w
     unfolding table_classed
     too_short m l = rw (le-ltb (4294967295 - b.types) e m, table_classed, lt-ltb (length w / 4) (b.types * 16 + e * 8) l)
+
+    pub uncounted : None ≡ holders_in b.types e w → w ≡ table_classed b e s w
+    unfolding table_classed holders_in
+    uncounted = go (ltb (4294967295 - b.types) e) (ltb (length w / 4) (b.types * 16 + e * 8))
+      where
+        all : List ℕ
+        all = with_classes (key w) class bucket link (b.types + e) w
+
+        go : (p q : Bool) → ◌≡◌ {A = Option ℕ} None (elim p as (λ z. Option ℕ) [ true ↦ None | false ↦ elim q as (λ z. Option ℕ) [ true ↦ None | false ↦ Some (b.types + e) ] ])
+            → w ≡ elim p as (λ z. List ℕ) [ true ↦ w | false ↦ elim q as (λ z. List ℕ) [ true ↦ w | false ↦ all ] ]
+        go true q z = refl
+        go false true z = refl
+        go false false z = absurd (cc)
 
     pub long_enough : (n : ℕ) → n ≡ b.types + e → e ≤ 4294967295 - b.types → b.types * 16 + e * 8 ≤ length w / 4 → with_classes (key w) class bucket link n w ≡ table_classed b e s w
     unfolding table_classed

@@ -1,22 +1,22 @@
 -- Laws of classes and of the table. Assumes nothing.
 use Prim.Native.Nat.{ℕ, zero, suc, zero-le, ◌+◌, ◌-◌, ◌/◌, ◌%◌, ◌<◌, ◌≤◌}
 use mathlib.Core.Path.{◌≡◌, refl, ap, ap₂, ◌∙◌, sym}
-use mathlib.Core.List.{List, ◌∷◌}
+use mathlib.Core.List.{List}
 use mathlib.Core.Bool.{Bool, true, false}
 use mathlib.Core.Logic.{⊎_elim, ◌≢◌}
 use native.Mathlib.Omega.{arith}
 use native.Mathlib.Nat.{mod-lt}
 use native.Mathlib.Numerals.{add-one}
-use lib.ListN.{length}
+use lib.ListN.{length, get_or}
 use lib.Dec.{eqb}
 use borrow.Author.Tests.{eq-eqb, ne_eqb, eqb-true, eqb-false}
 use Rattle.spec_bytes.specs.words.Words.{get_word, put_word, pick}
-use Rattle.spec_bytes.proofs.words.Laws.{le_or_lt}
+use Rattle.spec_bytes.proofs.words.Laws.{le_or_lt, get_put_other, put_swap}
 use Rattle.btf_open_names.specs.name_classes.Same.{same_list}
 use Rattle.btf_open_names.proofs.name_classes.Names.{same_self, same_equal, same_from}
 use Rattle.btf_open_names.specs.name_classes.Classes.{least, class_of, fill, noughts, with_classes}
-use Rattle.btf_open_names.specs.name_classes.Table.{hash_from, hash_key, bucket_of, stands, last_of, next_of, Places, Ready, Finds, placed, state_of}
-use Rattle.btf_open_names.proofs.name_classes.Fill.{fill_length, get_else, put_else, get_fill, put_fill, fill_same, fill_over, fill_swap}
+use Rattle.btf_open_names.specs.name_classes.Table.{hash_key, bucket_of, stands, last_of, next_of, Places, Ready, Finds, placed, state_of}
+use Rattle.btf_open_names.proofs.name_classes.Fill.{fill_length, get_else, put_else, get_fill, put_fill, fill_same, fill_over, fill_swap, put_own}
 
 pub by : (t : Bool) → (P : Type 0) → (t ≡ true → P) → (t ≡ false → P) → P
 by true P a b = a refl
@@ -193,12 +193,38 @@ module _ (key : ℕ → List ℕ) where
       unfolding placed
       place_other k w z = rw (ne_eqb (class_of key k) 0 z, placed)
 
-      pub place_is : (k b r old x y : ℕ) (w w₁ w₂ w₃ : List ℕ) → Ready key bucket link n k w → class_of key k ≢ 0 → b ≡ bucket_of key n k → r ≡ class_of key k → old ≡ get_word w (bucket b) → x ≡ pick (eqb r k) old 0 → w₁ ≡ put_word w (link k) x → y ≡ pick (eqb r k) (k + 1) old → w₂ ≡ put_word w₁ (bucket b) y → w₃ ≡ put_word w₂ (class k) r → w₃ ≡ placed key class bucket link n k w
+      place_is : (k b r old x y : ℕ) (w w₁ w₂ w₃ : List ℕ) → Ready key bucket link n k w → class_of key k ≢ 0 → b ≡ bucket_of key n k → r ≡ class_of key k → old ≡ get_word w (bucket b) → x ≡ pick (eqb r k) old 0 → w₁ ≡ put_word w (link k) x → y ≡ pick (eqb r k) (k + 1) old → w₂ ≡ put_word w₁ (bucket b) y → w₃ ≡ put_word w₂ (class k) r → w₃ ≡ placed key class bucket link n k w
       unfolding next_of
       place_is k b r old x y w w₁ w₂ w₃ f z eb er eo ex e₁ ey e₂ e₃ =
           let o : old ≡ last_of key n (bucket_of key n k) k = eo ∙ f.heads b (rw eb (bucket_less k (omega (arith, f.below)))) ∙ ap (λ (j : ℕ). last_of key n j k) eb in
           let v : k ≡ 0 → ⊥ = λ q. z (omega (arith, class_le k)) in
           ((rw (e₂, e₁, ey, ex, o, er, eb) at e₃) ∙ rw (last_here k v)) ∙ place_other k w z
+
+      -- the first of its class stands in front of its bucket, and any other in none
+      module _ (k b r : ℕ) (w : List ℕ) (f : Ready key bucket link n k w) (z : class_of key k ≢ 0) (eb : b ≡ bucket_of key n k) (er : r ≡ class_of key k) where
+        pub place_first : r ≡ k → (next : ℕ) (w₁ w₂ w₃ : List ℕ) → next ≡ get_word w (bucket b) → w₁ ≡ put_word w (link k) next → w₂ ≡ put_word w₁ (bucket b) (k + 1) → w₃ ≡ put_word w₂ (class k) r
+            → w₃ ≡ placed key class bucket link n k w
+        place_first q next w₁ w₂ w₃ en e₁ e₂ e₃ =
+            place_is k b r next next (k + 1) w w₁ w₂ w₃ f z eb er en
+            (sym (ap (λ (t : Bool). pick t next 0) (eq-eqb r k q))) e₁
+            (sym (ap (λ (t : Bool). pick t (k + 1) next) (eq-eqb r k q))) e₂ e₃
+
+        pub place_later : Places class bucket link → r ≢ k → (w₁ w₂ : List ℕ) → ((i : ℕ) → get_or w₂ i 0 < 256) → w₁ ≡ put_word w (link k) 0 → w₂ ≡ put_word w₁ (class k) r
+            → w₂ ≡ placed key class bucket link n k w
+        place_later P q w₁ w₂ bytes e₁ e₂ =
+            let old : ℕ = get_word w (bucket b) in
+            let same : get_word w₂ (bucket b) ≡ old =
+            ap (λ (u : List ℕ). get_word u (bucket b)) e₂
+            ∙ get_put_other w₁ (class k) (bucket b) r (P.bucket_class b k)
+            ∙ ap (λ (u : List ℕ). get_word u (bucket b)) e₁
+            ∙ get_put_other w (link k) (bucket b) 0 (P.bucket_link b k) in
+            place_is k b r old 0 old w w₁ (put_word w₁ (bucket b) old) w₂ f z eb er refl
+            (sym (ap (λ (t : Bool). pick t old 0) (ne_eqb r k q))) e₁
+            (sym (ap (λ (t : Bool). pick t (k + 1) old) (ne_eqb r k q))) refl
+            (sym (put_own w₂ bytes (bucket b))
+            ∙ ap (put_word w₂ (bucket b)) same
+            ∙ ap (λ (u : List ℕ). put_word u (bucket b) old) e₂
+            ∙ put_swap w₁ (class k) (bucket b) r old (P.bucket_class b k))
 
       module _ (P : Places class bucket link) (w₀ : List ℕ) where
         pub state_ready : (k : ℕ) (w : List ℕ) → ((h : ℕ) → h < n → bucket h < length w₀ / 4) → ((h : ℕ) → h < n → link h < length w₀ / 4) → k < n → w ≡ state_of key class bucket link n k w₀ → Ready key bucket link n k w
@@ -321,8 +347,3 @@ pub state_else : (key : ℕ → List ℕ) (class bucket link : ℕ → ℕ) (n k
 unfolding state_of
 state_else key class bucket link n k i w oc ob ol =
     get_else class (class_of key) _ i k (λ h q. oc h) ∙ get_else link (next_of key n) _ i k (λ h q. ol h) ∙ get_else bucket (λ j. last_of key n j k) w i n (λ h q. ob h)
-
--- ---- a key is a space and a name
-pub bucket_is : (key : ℕ → List ℕ) (n h x r : ℕ) (l : List ℕ) → key h ≡ x ∷ l → r ≡ hash_from x l → r % n ≡ bucket_of key n h
-unfolding bucket_of hash_key
-bucket_is key n h x r l e f = rw (e, f)

@@ -33,11 +33,14 @@ module _ (c t n : ℕ) where
   unfolding one_if
   if_below h = ap (λ (b : Bool). elim b as (λ z. ℕ) [ true ↦ c | false ↦ one_more c ]) (le-ltb n t h)
 
-  pub if_more : t ≤ n → c < 4294967295 → c + 1 ≡ one_if c t n
+  if_more : t ≤ n → c < 4294967295 → c + 1 ≡ one_if c t n
   if_more h l = sym (if_below h ∙ more_is c l)
 
-  pub if_stuck : t ≤ n → 4294967295 ≤ c → c ≡ one_if c t n
+  if_stuck : t ≤ n → 4294967295 ≤ c → c ≡ one_if c t n
   if_stuck h l = sym (if_below h ∙ more_stuck c l)
+
+  pub if_at_most : t ≤ n → (r : ℕ) → (c < 4294967295 → r ≡ c + 1) → (4294967295 ≤ c → r ≡ c) → r ≡ one_if c t n
+  if_at_most h r low high = ⊎_elim (λ l. high l ∙ if_stuck h l) (λ l. low l ∙ if_more h l) (le_or_lt 4294967295 c)
 
 -- ---- count_below
 module _ (types : ℕ) (w : List ℕ) (last x : ℕ) where
@@ -66,19 +69,19 @@ if_least : (c t n : ℕ) → c < 4294967295 → one_if c t n ≤ c + 1
 if_least c t n l = ⊎_elim (λ h. omega (arith, if_more c t n h l)) (λ h. omega (arith, if_above c t n h)) (le_or_lt t n)
 
 module _ (types : ℕ) (w : List ℕ) (class n : ℕ) where
-  pub walk_start : (at x : ℕ) → at ≡ head_p types class → x ≡ get_word w at → Walked types w class n 0 0 x
+  pub walk_start : (x : ℕ) → x ≡ get_word w (head_p types class) → Walked types w class n 0 0 x
   unfolding Walked taken_at
-  walk_start at x ea e = (4294967296, omega arith, omega arith, omega (arith, ap (λ (y : ℕ). below (numbers_from 4294967296 types w 0 y) n) (e ∙ ap (get_word w) ea)))
+  walk_start x e = (4294967296, omega arith, omega arith, omega (arith, ap (λ (y : ℕ). below (numbers_from 4294967296 types w 0 y) n) e))
 
   module _ (c last x : ℕ) where
     pub walk_end : Walked types w class n c last x → x ≤ last → c ≡ below (taken_at types w class) n
     unfolding Walked below
     walk_end i h = let e : c + below (numbers_from i.0 types w last x) n ≡ c + 0 = ap (λ (l : List ℕ). c + below l n) (none_left types w last x i.0 h) in omega (arith, e, i.3)
 
-    pub walk_turn : (at t d next y : ℕ) → Walked types w class n c last x → last < x → x < 4294967296 → at ≡ taken_p types x → t ≡ get_word w at → d ≡ one_if c t n
-        → next ≡ next_p types x → y ≡ get_word w next → Walked types w class n d x y
+    pub walk_turn : (t d y : ℕ) → Walked types w class n c last x → last < x → x < 4294967296 → t ≡ get_word w (taken_p types x) → d ≡ one_if c t n
+        → y ≡ get_word w (next_p types x) → Walked types w class n d x y
     unfolding Walked
-    walk_turn at t d next y i h l ea et ed en ey =
+    walk_turn t d y i h l et ed ey =
         (i.0 - 1, omega (arith, i.1), omega (arith, ed, i.2, if_least c t n (omega (arith, i.2))), whole)
       where
         f : ℕ
@@ -87,31 +90,21 @@ module _ (types : ℕ) (w : List ℕ) (class n : ℕ) where
         small : c < 4294967295
         small = omega (arith, i.2)
 
-        t_is : t ≡ get_word w (taken_p types x)
-        t_is = et ∙ ap (get_word w) ea
-
-        y_is : y ≡ get_word w (next_p types x)
-        y_is = ey ∙ ap (get_word w) en
-
         whole : d + below (numbers_from (i.0 - 1) types w x y) n ≡ below (taken_at types w class) n
         whole =
-            ap₂ (λ (p q : ℕ). p + below (numbers_from (i.0 - 1) types w x q) n) (ed ∙ ap (λ (q : ℕ). one_if c q n) t_is) y_is
+            ap₂ (λ (p q : ℕ). p + below (numbers_from (i.0 - 1) types w x q) n) (ed ∙ ap (λ (q : ℕ). one_if c q n) et) ey
             ∙ sym (below_cons c (get_word w (taken_p types x)) (numbers_from (i.0 - 1) types w x (get_word w (next_p types x))) n small)
             ∙ sym (ap (λ (r : List ℕ). c + below r n) (some_left types w last x i.0 h (omega (arith, i.1))))
             ∙ i.3
 
 -- ---- step
-module _ (ts : List ℕ) (k n c m : ℕ) (ec : c ≡ below ts n) (em : m ≡ k + c) where
-  sum_is : m ≡ k + below ts n
-  sum_is = em ∙ ap (λ (x : ℕ). k + x) ec
-
-  pub step_low : m < 4294967295 → m ≡ capped (k + below ts n)
-  unfolding capped
-  step_low h = sym (ap (λ (t : Bool). pick t m 4294967295) (lt-ltb m 4294967295 h)) ∙ ap capped sum_is
-
-  pub step_high : 4294967295 ≤ m → 4294967295 ≡ capped (k + below ts n)
-  unfolding capped
-  step_high h = sym (ap (λ (t : Bool). pick t m 4294967295) (le-ltb m 4294967295 h)) ∙ ap capped sum_is
+pub capped_is : (n r : ℕ) → (n < 4294967295 → r ≡ n) → (4294967295 ≤ n → r ≡ 4294967295) → r ≡ capped n
+unfolding capped
+capped_is n r low high =
+    ⊎_elim
+    (λ h. high h ∙ sym (ap (λ (t : Bool). pick t n 4294967295) (le-ltb n 4294967295 h)))
+    (λ h. low h ∙ sym (ap (λ (t : Bool). pick t n 4294967295) (lt-ltb n 4294967295 h)))
+    (le_or_lt 4294967295 n)
 
 -- ---- counting leaves the lists alone
 apart : (t f g f' g' : ℕ) → (f < 16) × (f' < 16) × (g < 8) × (g' < 8) × (f ≢ f') × (g ≢ g') → (i j : ℕ) → place_of t f g i ≢ place_of t f' g' j
@@ -143,10 +136,10 @@ module _ (types : ℕ) (w : List ℕ) (h : ℕ) where
       (counted_other types w h (head_p types c) (λ j. apart types 7 3 6 2 (omega arith) c j))
 
   -- ---- get_number
-  pub number_got : (at class k r : ℕ) (u : List ℕ) → at ≡ class_p types h → class ≡ get_word w at → k ≡ count_after (class_p types) (count_p types) w h → u ≡ count_raised (class_p types) (count_p types) w h
+  pub number_got : (class k r : ℕ) (u : List ℕ) → class ≡ get_word w (class_p types h) → k ≡ count_after (class_p types) (count_p types) w h → u ≡ count_raised (class_p types) (count_p types) w h
       → r ≡ number_over (taken_at types u class) k → r ≡ number_at types w h
   unfolding number_at
-  number_got at class k r u ea ec ek eu e =
+  number_got class k r u ec ek eu e =
       e
       ∙ ap₂ (λ (x : List ℕ) (y : ℕ). number_over (taken_at types x class) y) eu ek
-      ∙ ap (λ (x : List ℕ). number_over x (count_after (class_p types) (count_p types) w h)) (taken_counted class ∙ ap (taken_at types w) (ec ∙ ap (get_word w) ea))
+      ∙ ap (λ (x : List ℕ). number_over x (count_after (class_p types) (count_p types) w h)) (taken_counted class ∙ ap (taken_at types w) ec)

@@ -99,20 +99,20 @@ module _ (b : TypeTable) (s w : List ℕ) (n h : ℕ) (T : Table b s w n) (y d :
   unfolding key_in
   fall c = base_falls key n h s y d eh r er c (space_at b s (get_word w (record_p b.types c)) c) (name_of b s (get_word w (record_p b.types c))) refl
 
-  pub seek_start : (at c : ℕ) → 0 < n → at ≡ first_p b.types (r % n) → c ≡ get_word w at → Seek key h n (r % n) c
+  pub seek_start : (c : ℕ) → 0 < n → c ≡ get_word w (first_p b.types (r % n)) → Seek key h n (r % n) c
   unfolding first_of
-  seek_start at c l ea e =
-      seek_from key h n (r % n) fall c (n - 1) 1 (omega arith) (omega arith) refl (e ∙ ap (get_word w) ea ∙ T.firsts (r % n) (mod-lt r l))
+  seek_start c l e =
+      seek_from key h n (r % n) fall c (n - 1) 1 (omega arith) (omega arith) refl (e ∙ T.firsts (r % n) (mod-lt r l))
 
   module _ (c : ℕ) (S : Seek key h n (r % n) c) (z : c ≡ 0 → ⊥) where
-    next_is : (at next : ℕ) → at ≡ later_p b.types c → next ≡ get_word w at → next ≡ first_from key n (r % n) (n - suc c) (suc c)
+    next_is : (next : ℕ) → next ≡ get_word w (later_p b.types c) → next ≡ first_from key n (r % n) (n - suc c) (suc c)
     unfolding first_of
-    next_is at next ea e =
+    next_is next e =
         let p = falls_out key n (r % n) c (S.there z) in
-        e ∙ ap (get_word w) ea ∙ T.laters c (S.below z) ∙ later_is key n 1 c (omega arith) p.0 ∙ ap (λ (j : ℕ). first_from key n j (n - suc c) (suc c)) p.1
+        e ∙ T.laters c (S.below z) ∙ later_is key n 1 c (omega arith) p.0 ∙ ap (λ (j : ℕ). first_from key n j (n - suc c) (suc c)) p.1
 
-    pub seek_less : (at next : ℕ) → at ≡ later_p b.types c → next ≡ get_word w at → pick (eqb next 0) 0 (n - next) < pick (eqb c 0) 0 (n - c)
-    seek_less at next ea e =
+    pub seek_less : (next : ℕ) → next ≡ get_word w (later_p b.types c) → pick (eqb next 0) 0 (n - next) < pick (eqb c 0) 0 (n - c)
+    seek_less next e =
         let b : c < n = S.below z in
         rw (ne_eqb c 0 z) (⊎_elim (λ (l : next ≤ 0). end b l) (λ (l : 0 < next). on b (further l)) (le_or_lt next 0))
       where
@@ -121,7 +121,7 @@ module _ (b : TypeTable) (s w : List ℕ) (n h : ℕ) (T : Table b s w n) (y d :
 
         further : 0 < next → suc c ≤ next
         further l =
-            let q : next ≡ first_from key n (r % n) (n - suc c) (suc c) = next_is at next ea e in
+            let q : next ≡ first_from key n (r % n) (n - suc c) (suc c) = next_is next e in
             rw q (first_from_lem key h n (r % n) (n - suc c) (suc c) (λ x. omega arith))
 
         on : c < n → suc c ≤ next → pick (eqb next 0) 0 (n - next) < n - c
@@ -131,9 +131,9 @@ module _ (b : TypeTable) (s w : List ℕ) (n h : ℕ) (T : Table b s w n) (y d :
       pub seek_found : 2 ≤ m → c ≡ base_from key h (n - 1) 1
       seek_found g = base_found key h n (base_from key h (n - 1) 1) c (S.left z) m (S.below z) em g
 
-      pub seek_turn : (at next : ℕ) → m < 2 → at ≡ later_p b.types c → next ≡ get_word w at → Seek key h n (r % n) next
-      seek_turn at next g ea e =
+      pub seek_turn : (next : ℕ) → m < 2 → next ≡ get_word w (later_p b.types c) → Seek key h n (r % n) next
+      seek_turn next g e =
           let l : c < n = S.below z in
           seek_from key h n (r % n) fall next (n - suc c) (suc c) (omega arith) (omega arith)
           (base_turn key h n (base_from key h (n - 1) 1) c (S.left z) m l em g ∙ ap (λ (x : ℕ). base_from key h (n - x) x) (add-one c))
-          (next_is at next ea e)
+          (next_is next e)

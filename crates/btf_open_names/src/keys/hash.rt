@@ -10,12 +10,7 @@ use base_bytes::limit;
 pub fn byte_at(section: &[u8], off: usize, k: usize) -> u8
     ensures { result ≡ get_or section.now (off + k) 0 }
 {
-    if off < section.len() {
-        if k < section.len() - off {
-            return section[off + k];
-        }
-    }
-    0
+    section.get(off.saturating_add(k)).copied().unwrap_or(0)
 }
 
 // Whether two names are the same.
@@ -25,8 +20,7 @@ pub fn same_name(section: &[u8], a: usize, b: usize) -> bool
     if a == b {
         return true;
     }
-    let mut k = 0;
-    while k < section.len() {
+    for k in 0..section.len() {
         let x = byte_at(section, a, k);
         let y = byte_at(section, b, k);
         if x != y {
@@ -35,7 +29,6 @@ pub fn same_name(section: &[u8], a: usize, b: usize) -> bool
         if x == 0 {
             return true;
         }
-        k += 1;
     }
     true
 }
@@ -52,14 +45,12 @@ pub fn hash_name(section: &[u8], off: usize, start: u32) -> u32
     ensures { result ≡ hash_from start (name_at section.now off) }
 {
     let mut acc = start;
-    let mut k = off;
-    while k < section.len() {
+    for k in off..section.len() {
         let x = section[k];
         if x == 0 {
             return acc;
         }
         acc = hash_step(acc, x);
-        k += 1;
     }
     acc
 }

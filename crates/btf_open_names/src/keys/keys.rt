@@ -1,39 +1,57 @@
 // The key of a holder: the space of its name, and where that stands. Holder h is type h below the number of types, and after
 // those an enumerator.
 ghost use Rattle.std.specs.Prelude.{◌≡◌};
+ghost use Rattle.spec_type_table.specs.Records.{kind_of};
 ghost use Rattle.btf_open_names.specs.name_classes.Same.{same_list};
-ghost use Rattle.btf_open_names.specs.name_classes.Classes.{space_of, space_at, name_of, key_of, key_in};
+ghost use Rattle.btf_open_names.specs.name_classes.Classes.{space_of, space_at, name_of, key_in};
+ghost use Rattle.btf_open_names.specs.name_classes.Table.{hash_key};
+ghost use Rattle.btf_open_names.specs.keys.Keys.{space_number, space_code, key_list, loaded};
 
-use crate::keys::hash::same_name;
-use base_bytes::word::get_word;
-use btf_type_table::cell::holder_word;
-use btf_type_table::kind;
-use btf_type_table::kind::kind_of;
+use crate::keys::hash::{hash_name, same_name};
+use btf_type_table::cell;
 use btf_type_table::section_word::word;
-use spec_type_table::TypeTable;
+use spec_type_table::{Kind, TypeTable};
 
-// The space of a kind: 0 tags, 1 identifiers, 2 none.
-fn space_of(kind: u32) -> u32
-    ensures { result ≡ space_of kind }
+// Where names are told apart: those of tags, and those of typedefs and enumerators.
+#[derive(Clone, Copy, PartialEq, Eq)]
+pub enum Space {
+    Tag,
+    Identifier,
+}
+
+impl Space {
+    pub(crate) fn number(self) -> u32
+        ensures { result ≡ space_number self }
+    {
+        match self {
+            Space::Tag => 0,
+            Space::Identifier => 1,
+        }
+    }
+}
+
+// The space of a type's name, by its kind.
+fn space_of(info: u32) -> Option<Space>
+    ensures { space_code result ≡ space_of (kind_of info) }
 {
-    match kind {
-        kind::STRUCT..=kind::FWD | kind::ENUM64 => 0,
-        kind::TYPEDEF => 1,
-        _ => 2,
+    match Kind::of(info) {
+        Kind::Struct | Kind::Union | Kind::Enum | Kind::Fwd | Kind::Enum64 => Some(Space::Tag),
+        Kind::Typedef => Some(Space::Identifier),
+        _ => None,
     }
 }
 
 // The space of the holder h whose record or entry stands at a place. Void has none.
-fn space_at(b: TypeTable, section: &[u8], at: u32, h: u32) -> u32
-    ensures { result ≡ space_at b section.now at h }
+fn space_at(b: TypeTable, section: &[u8], at: u32, h: u32) -> Option<Space>
+    ensures { space_code result ≡ space_at b section.now at h }
 {
     if h == 0 {
-        return 2;
+        return None;
     }
     if h < b.types {
-        return space_of(kind_of(word(b, section, (at as usize) + 4)));
+        return space_of(word(b, section, (at as usize) + 4));
     }
-    1
+    Some(Space::Identifier)
 }
 
 // Where the name of the record or entry at a place stands.
@@ -43,41 +61,39 @@ fn name_of(b: TypeTable, section: &[u8], at: u32) -> usize
     (b.strs as usize) + (word(b, section, at as usize) as usize)
 }
 
-// The space of a holder, and where its name stands. A name without a space is not looked at.
+// The space of a holder, and where its name stands.
 #[derive(Clone, Copy)]
 pub struct Key {
-    pub space: u32,
+    pub space: Space,
     pub name: usize,
 }
 
-pub fn load_key(b: TypeTable, section: &[u8], work: &[u8], h: u32) -> Key
-    ensures { key_of section.now result.space result.name ≡ key_in b section.now work.now h }
+// The key of a holder, if it has a space. A name without a space is not looked at.
+pub fn load_key(b: TypeTable, section: &[u8], work: &[u8], h: u32) -> Option<Key>
+    ensures { loaded section.now result ≡ key_in b section.now work.now h }
 {
-    let at = get_word(work, holder_word(b.types, 0, 0, h));
-    let space = space_at(b, section, at, h);
-    if space == 2 {
-        return Key {
-            space: space,
-            name: 0,
-        };
-    }
-    Key {
+    let at = cell::HOLDER_PLACE.get(work, b.types, h);
+    let space = space_at(b, section, at, h)?;
+    Some(Key {
         space: space,
         name: name_of(b, section, at),
-    }
+    })
 }
 
-// Whether two keys have the same space and the same name.
-pub fn same_key(section: &[u8], x: Key, y: Key) -> bool
-    ensures { result ≡ same_list (key_of section.now x.space x.name)
-        (key_of section.now y.space y.name) }
-{
-    let is_apart = x.space != y.space;
-    if is_apart {
-        return false;
+impl Key {
+    // Whether a holder's key has the same space and the same name.
+    pub fn is_same(self, section: &[u8], x: Option<Key>) -> bool
+        ensures { result ≡ same_list (loaded section.now x) (key_list section.now self) }
+    {
+        match x {
+            Some(x) => x.space == self.space && same_name(section, x.name, self.name),
+            None => false,
+        }
     }
-    if x.space == 2 {
-        return true;
+
+    pub fn hash(self, section: &[u8]) -> u32
+        ensures { result ≡ hash_key (key_list section.now self) }
+    {
+        hash_name(section, self.name, self.space.number())
     }
-    same_name(section, x.name, y.name)
 }

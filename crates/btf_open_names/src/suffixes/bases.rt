@@ -1,48 +1,48 @@
 // Of which holder's name a name is that name with a suffix.
 ghost use Rattle.std.specs.Prelude.{◌≡◌, ◌-◌};
-ghost use Rattle.btf_open_names.specs.name_classes.Classes.{key_of, key_in};
-ghost use Rattle.btf_open_names.specs.filled_work.Takers.{suffix_on, any_suffix, name_in, base_from};
+ghost use Rattle.btf_open_names.specs.name_classes.Classes.{key_in};
+ghost use Rattle.btf_open_names.specs.filled_work.Takers.{suffix_on, base_from};
+ghost use Rattle.btf_open_names.specs.keys.Keys.{key_list, loaded};
+ghost use Rattle.btf_open_names.specs.suffixes.Found.{from_two};
+ghost use Rattle.btf_open_names.specs.suffixes.Based.{based};
 
 use crate::keys::{Key, load_key};
-use crate::suffixes::suffix::{has_suffix, suffix_on};
+use crate::suffixes::suffix::suffix_on;
 use spec_type_table::TypeTable;
 
-// The number with which the key y is x with a suffix, or 0.
-pub fn key_suffix(section: &[u8], x: Key, y: Key) -> u32
-    ensures { result ≡ suffix_on (key_of section.now x.space x.name)
-        (key_of section.now y.space y.name) }
+// Of a name with a suffix: the first holder of the name before it, and the number after it.
+#[derive(Clone, Copy)]
+pub struct Base {
+    pub holder: u32,
+    pub number: u32,
+}
+
+// The number with which the key y is x with a suffix.
+pub fn key_suffix(section: &[u8], x: Option<Key>, y: Key) -> Option<u32>
+    ensures { result ≡ from_two (suffix_on (loaded section.now x) (key_list section.now y)) }
 {
+    let x = x?;
     if x.space != y.space {
-        return 0;
-    }
-    if x.space == 2 {
-        return 0;
+        return None;
     }
     suffix_on(section, x.name, y.name)
 }
 
-// Whether the name of a key ends in a suffix.
-pub fn is_suffixed(section: &[u8], x: Key) -> bool
-    ensures { result ≡ any_suffix (name_in (key_of section.now x.space x.name)) }
+// The base of h: the first holder below n whose name, with a suffix, is that of h.
+pub fn base_of(b: TypeTable, section: &[u8], work: &[u8], n: u32, h: u32) -> Option<Base>
+    ensures { result
+        ≡ based (key_in b section.now work.now) h
+        (base_from (key_in b section.now work.now) h (n - 1) 1) }
 {
-    if x.space == 2 {
-        return false;
-    }
-    has_suffix(section, x.name)
-}
-
-// The first holder below n whose name, with a suffix, is that of h; or 0.
-pub fn base_of(b: TypeTable, section: &[u8], work: &[u8], n: u32, h: u32) -> u32
-    ensures { result ≡ base_from (key_in b section.now work.now) h (n - 1) 1 }
-{
-    let key = load_key(b, section, work, h);
-    let mut c: u32 = 1;
-    while c < n {
-        let is_base = 2 <= key_suffix(section, load_key(b, section, work, c), key);
-        if is_base {
-            return c;
+    let key = load_key(b, section, work, h)?;
+    for c in 1..n {
+        let number = key_suffix(section, load_key(b, section, work, c), key);
+        if let Some(number) = number {
+            return Some(Base {
+                holder: c,
+                number: number,
+            });
         }
-        c += 1;
     }
-    0
+    None
 }

@@ -1,78 +1,76 @@
 // Names that end in three underscores and a number.
-ghost use Rattle.std.specs.Prelude.{◌≡◌};
+ghost use Rattle.std.specs.Prelude.{ℕ, ◌≡◌, ◌+◌, ◌<◌, get_or, unwrap_or, Decides};
 ghost use Rattle.spec_type_table.specs.Names.{name_at};
 ghost use Rattle.btf_open_names.specs.filled_work.Takers.{digit_after, numeral, suffix_in, suffix_on, any_suffix};
 ghost use Rattle.btf_open_names.specs.suffixes.Before.{hash_before};
+ghost use Rattle.btf_open_names.specs.suffixes.Found.{unless_zero, from_two};
 
 use crate::keys::{byte_at, hash_step};
-use base_bytes::limit;
 
-// The number so far with one more digit, or 0.
-fn digit_after(acc: u32, x: u8) -> u32
-    ensures { result ≡ digit_after acc x }
+// A name's holders are numbered from 1 on, and the first prints it bare.
+const FIRST_SUFFIX: u32 = 2;
+
+// The number so far with one more digit. It begins with no zero, and has 32 bits.
+fn digit_after(acc: u32, x: u8) -> Option<u32>
+    ensures { result ≡ unless_zero (digit_after acc x) }
 {
-    if x < 48 {
-        return 0;
+    if !x.is_ascii_digit() {
+        return None;
     }
-    if 57 < x {
-        return 0;
+    let v = acc.checked_mul(10)?.checked_add((x - b'0') as u32)?;
+    if v == 0 {
+        return None;
     }
-    let v = (acc as u64) * 10 + ((x - 48) as u64);
-    if limit::LARGEST_64 < v {
-        return 0;
-    }
-    v as u32
+    Some(v)
 }
 
-// The number in decimal from a place to the end of the name there, or 0.
-fn numeral_at(section: &[u8], at: usize) -> u32
-    ensures { result ≡ numeral (name_at section.now at) }
+// The number in decimal from a place to the end of the name there.
+fn numeral_at(section: &[u8], at: usize) -> Option<u32>
+    ensures { unwrap_or result 0 ≡ numeral (name_at section.now at) }
 {
     let mut acc: u32 = 0;
-    let mut k = at;
-    while k < section.len() {
+    for k in at..section.len() {
         let x = section[k];
         if x == 0 {
-            return acc;
+            return Some(acc);
         }
-        acc = digit_after(acc, x);
-        if acc == 0 {
-            return 0;
-        }
-        k += 1;
+        acc = digit_after(acc, x)?;
     }
-    acc
+    Some(acc)
 }
 
-// The number after three underscores at a place, to the end of the name there, or 0.
-fn suffix_at(section: &[u8], at: usize) -> u32
-    ensures { result ≡ suffix_in (name_at section.now at) }
+// Whether three underscores stand at a place.
+fn is_underscored(section: &[u8], at: usize) -> bool
+    ensures { Decides result ((k : ℕ) → k < 3 → get_or section.now (at + k) 0 ≡ 95) }
 {
-    if byte_at(section, at, 0) != 95 {
-        return 0;
-    }
-    if byte_at(section, at, 1) != 95 {
-        return 0;
-    }
-    if byte_at(section, at, 2) != 95 {
-        return 0;
-    }
-    numeral_at(section, at + 3)
+    (0..3).all(|k| byte_at(section, at, k) == b'_')
 }
 
-// Whether the name at a place ends so, with a number from 2 on.
+// The number after three underscores at a place, to the end of the name there.
+fn suffix_at(section: &[u8], at: usize) -> Option<u32>
+    ensures { result ≡ from_two (suffix_in (name_at section.now at)) }
+{
+    if !is_underscored(section, at) {
+        return None;
+    }
+    let n = numeral_at(section, at + 3)?;
+    if n < FIRST_SUFFIX {
+        return None;
+    }
+    Some(n)
+}
+
+// Whether the name at a place ends so.
 pub fn has_suffix(section: &[u8], at: usize) -> bool
     ensures { result ≡ any_suffix (name_at section.now at) }
 {
-    let mut k = at;
-    while k < section.len() {
+    for k in at..section.len() {
         if section[k] == 0 {
             return false;
         }
-        if 2 <= suffix_at(section, k) {
+        if suffix_at(section, k).is_some() {
             return true;
         }
-        k += 1;
     }
     false
 }
@@ -82,38 +80,31 @@ pub fn hash_before(section: &[u8], off: usize, start: u32) -> u32
     ensures { result ≡ hash_before start (name_at section.now off) }
 {
     let mut acc = start;
-    let mut k = off;
-    while k < section.len() {
+    for k in off..section.len() {
         let x = section[k];
         if x == 0 {
             return acc;
         }
-        if 2 <= suffix_at(section, k) {
+        if suffix_at(section, k).is_some() {
             return acc;
         }
         acc = hash_step(acc, x);
-        k += 1;
     }
     acc
 }
 
-// The number with which the name at b is the name at a, three underscores and a number; or 0.
-pub fn suffix_on(section: &[u8], a: usize, b: usize) -> u32
-    ensures { result ≡ suffix_on (name_at section.now a) (name_at section.now b) }
+// The number with which the name at b is the name at a, three underscores and a number.
+pub fn suffix_on(section: &[u8], a: usize, b: usize) -> Option<u32>
+    ensures { result ≡ from_two (suffix_on (name_at section.now a) (name_at section.now b)) }
 {
-    if section.len() <= b {
-        return 0;
-    }
-    let mut k = 0;
-    while k < section.len() - b {
+    for k in 0..section.len().saturating_sub(b) {
         let x = byte_at(section, a, k);
         if x == 0 {
             return suffix_at(section, b + k);
         }
         if x != section[b + k] {
-            return 0;
+            return None;
         }
-        k += 1;
     }
-    0
+    None
 }

@@ -6,10 +6,10 @@ use Rattle.std.proofs.Common.{rules}
 use Rattle.btf_open_names.proofs.fill.fill_places.Goals as goal
 
 pub loop-x-init : goal.loop-x-init
-loop-x-init c = (places_none _ _, omega arith, omega arith, refl)
+loop-x-init c = (places_none _ _, omega arith, refl)
 
 pub loop-x-preserved : goal.loop-x-preserved
-loop-x-preserved c = (places_more _ _ _ c.loop-x.x c.loop-x.invariant.0 c.loop-x.invariant.1 _ c.entry_of.ensures _ c.put_field.ensures, omega arith, omega arith, search rules)
+loop-x-preserved c = (places_more _ _ _ c.loop-x.x c.loop-x.invariant.0 c.loop-x.auto.x _ c.entry_of.ensures _ c.put_field.ensures, omega arith, search rules)
 
 pub returns : goal.returns
 returns c = places_all _ _ _ (c.loop-x.x - 1) _ c.loop-x.invariant.0 (omega arith)

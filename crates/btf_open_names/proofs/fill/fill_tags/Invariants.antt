@@ -6,6 +6,3 @@ use Rattle.btf_open_names.proofs.fill.fill_tags.Given as goal
 
 abbrev pub invariant-loop-x : goal.invariant-loop-x
 invariant-loop-x l = (tags_put l.b l.section l.start (l.b.types - 1) l.initial.work ≡ tags_put l.b l.section l.start (l.x - 1) l.work) × (length l.work ≡ length l.initial.work)
-
-abbrev pub decreases-loop-x : goal.decreases-loop-x
-decreases-loop-x l = l.x

@@ -3,10 +3,10 @@ use native.Mathlib.Omega.{arith}
 use Rattle.btf_open_names.proofs.numbers.count_below.Goals as goal
 
 pub loop-last-init : goal.loop-last-init
-loop-last-init c = (omega arith, omega arith, walk_start _ _ _ _ _ _ c.holder_word.ensures c.get_word-x.ensures)
+loop-last-init c = (omega arith, omega arith, walk_start _ _ _ _ _ c.get-x.ensures)
 
 pub loop-last-preserved : goal.loop-last-preserved
-loop-last-preserved c = (omega arith, omega arith, walk_turn _ _ _ _ _ _ _ _ _ _ _ _ c.loop-last.invariant.2 c.loop-last-test.true c.loop-last.invariant.0 c.holder_word-in-loop-last.ensures c.get_word.ensures c.add_if-c.ensures c.holder_word-in-loop-last-2.ensures c.get_word-x-in-loop-last.ensures)
+loop-last-preserved c = (omega arith, omega arith, walk_turn _ _ _ _ _ _ _ _ _ _ c.loop-last.invariant.2 c.loop-last-test.true c.loop-last.invariant.0 c.get.ensures c.add_if-c.ensures c.get-x-in-loop-last.ensures)
 
 pub returns : goal.returns
 returns c = walk_end _ _ _ _ _ _ _ c.loop-last.invariant.2 c.loop-last-test.false

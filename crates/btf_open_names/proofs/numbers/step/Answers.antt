@@ -1,9 +1,11 @@
-use Rattle.btf_open_names.proofs.numbers.Lists.{step_low, step_high}
-use mathlib.Core.Path.{refl}
+use native.Mathlib.Omega.{arith}
+use mathlib.Core.Path.{ap, ◌∙◌}
+use Prim.Native.Nat.{ℕ, ◌+◌}
+use Rattle.spec_type_table.specs.Numbers.{capped}
+use Rattle.btf_open_names.proofs.numbers.Lists.{capped_is}
 use Rattle.btf_open_names.proofs.numbers.step.Goals as goal
 
-pub returns-then-m-lt-LARGEST_64 : goal.returns-then-m-lt-LARGEST_64
-returns-then-m-lt-LARGEST_64 c = step_low _ _ _ _ _ c.count_below.ensures refl c.if-m-lt-LARGEST_64.true
-
 pub returns : goal.returns
-returns c = step_high _ _ _ _ _ c.count_below.ensures refl c.if-m-lt-LARGEST_64.false
+returns c =
+    capped_is (c.args.k + c.count_below.result) _ (λ l. omega (arith, c.saturating_add.ensures)) (λ l. omega (arith, c.saturating_add.ensures))
+    ∙ ap (λ (n : ℕ). capped (c.args.k + n)) c.count_below.ensures

@@ -1,5 +1,6 @@
+use mathlib.Core.Path.{refl}
 use Rattle.spec_type_table.proofs.Laws as laws
 use Rattle.btf_type_table.proofs.cell.get_count.Goals as goal
 
 pub returns : goal.returns
-returns c = laws.counted_at _ _ _ _ _ _ c.holder_word.ensures c.get_word-class.ensures c.holder_word-2.ensures _ _ c.count_at.ensures
+returns c = laws.counted_at _ _ _ _ _ _ refl c.get-class.ensures c.place.ensures _ _ c.count_at.ensures

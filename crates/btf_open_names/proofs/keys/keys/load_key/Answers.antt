@@ -1,16 +1,10 @@
-use Rattle.btf_open_names.proofs.name_classes.Keys as keys
-use Prim.Native.Nat.{ℕ}
-use mathlib.Core.Path.{◌≡◌, refl, ◌∙◌}
-use mathlib.Core.List.{List}
-use Rattle.btf_open_names.specs.name_classes.Classes.{key_of}
+use mathlib.Core.Path.{ap, sym, ◌∙◌}
+use Rattle.btf_open_names.specs.keys.Keys.{space_code, loaded}
+use Rattle.btf_open_names.proofs.keys.Spaces.{key_none, key_some}
 use Rattle.btf_open_names.proofs.keys.keys.load_key.Goals as goal
 
-nameless : (s : List ℕ) (x p q : ℕ) → x ≡ 2 → key_of s x p ≡ key_of s x q
-unfolding key_of
-nameless s x p q e = rw e refl
-
-pub returns-then-space-eq2 : goal.returns-then-space-eq2
-returns-then-space-eq2 c = nameless _ _ _ _ c.if-space-eq2.true ∙ keys.key_is _ _ _ _ _ _ _ _ c.holder_word.ensures c.get_word-at.ensures c.space_at-space.ensures refl
+pub returns-in_err-space : goal.returns-in_err-space
+returns-in_err-space c = ap (loaded _) c.from_residual.ensures ∙ key_none _ _ _ _ _ c.get-at.ensures (sym c.space_at.ensures ∙ ap space_code c.in_err-space.was)
 
 pub returns : goal.returns
-returns c = keys.key_is _ _ _ _ _ _ _ _ c.holder_word.ensures c.get_word-at.ensures c.space_at-space.ensures c.name_of.ensures
+returns c = key_some _ _ _ _ _ c.get-at.ensures _ (sym (ap space_code c.in_ok-space.was) ∙ c.space_at.ensures) c.name_of.ensures

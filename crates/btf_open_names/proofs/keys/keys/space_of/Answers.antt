@@ -1,18 +1,11 @@
-use native.Mathlib.Omega.{arith}
-use Rattle.btf_open_names.proofs.name_classes.Keys as keys
+use Rattle.btf_open_names.proofs.keys.Spaces.{tag_space, typedef_space, no_space}
 use Rattle.btf_open_names.proofs.keys.keys.space_of.Goals as goal
 
-pub returns-in-8 : goal.returns-in-8
-returns-in-8 c = keys.space_8 _ c.in-8.is
+pub returns-in-Struct : goal.returns-in-Struct
+returns-in-Struct c = tag_space _ _ c.of.ensures c.in-Struct.is
+
+pub returns-in-Typedef : goal.returns-in-Typedef
+returns-in-Typedef c = typedef_space _ _ c.of.ensures c.in-Typedef.is
 
 pub returns-in_default : goal.returns-in_default
-returns-in_default c = keys.space_low _ (omega arith)
-
-pub returns-in_default-2 : goal.returns-in_default-2
-returns-in_default-2 c = keys.space_high _ c.in_default.in_default-own.rest.0.1 c.in_default.in_default-own.rest.1 (omega arith)
-
-pub returns-in-4-to-7 : goal.returns-in-4-to-7
-returns-in-4-to-7 c = keys.space_19 _ c.in-4-to-7.in-4-to-7-own.keys1
-
-pub returns-in-4-to-7-2 : goal.returns-in-4-to-7-2
-returns-in-4-to-7-2 c = keys.space_4_7 _ (omega arith) (omega arith)
+returns-in_default c = no_space _ _ c.of.ensures c.in_default.not-Struct c.in_default.not-Union c.in_default.not-Enum c.in_default.not-Fwd c.in_default.not-Typedef c.in_default.not-Enum64

@@ -1,15 +1,7 @@
 use Rattle.btf_open_names.specs.filled_work.Takers.{any_suffix}
 use Rattle.spec_type_table.specs.Names.{name_at}
 use mathlib.Core.Path.{◌≡◌}
-use Prim.Native.Nat.{◌-◌}
-use lib.ListN.{length}
-use mathlib.Core.Path.{◌≡◌}
-use lib.ListN.{length}
-use Prim.Native.Nat.{◌-◌}
 use Rattle.btf_open_names.proofs.suffixes.suffix.has_suffix.Given as goal
 
 abbrev pub invariant-loop-k : goal.invariant-loop-k
 invariant-loop-k l = any_suffix (name_at l.section l.at) ≡ any_suffix (name_at l.section l.k)
-
-abbrev pub decreases-loop-k : goal.decreases-loop-k
-decreases-loop-k l = length l.section - l.k

@@ -1,4 +1,5 @@
 use Rattle.btf_open_names.proofs.suffixes.Before.{before_end, before_zero, before_found, before_turn}
+use Rattle.btf_open_names.proofs.suffixes.Found.{is_found, not_found}
 use mathlib.Core.Path.{refl}
 use Rattle.btf_open_names.proofs.suffixes.suffix.hash_before.Goals as goal
 
@@ -8,11 +9,11 @@ loop-k-init c = refl
 pub returns-then-x-eq0 : goal.returns-then-x-eq0
 returns-then-x-eq0 c = before_zero _ _ _ _ c.loop-k.invariant c.if-x-eq0.true
 
-pub returns-then-suffix_at-ge2 : goal.returns-then-suffix_at-ge2
-returns-then-suffix_at-ge2 c = before_found _ _ _ _ c.loop-k.invariant c.if-x-eq0.false _ c.suffix_at.ensures c.if-suffix_at-ge2.true
+pub returns-then-is_some : goal.returns-then-is_some
+returns-then-is_some c = before_found _ _ _ _ c.loop-k.invariant c.if-x-eq0.false _ refl (is_found _ _ c.suffix_at.ensures _ c.is_some.ensures c.if-is_some.true)
 
 pub loop-k-preserved : goal.loop-k-preserved
-loop-k-preserved c = before_turn _ _ _ _ c.loop-k.invariant c.if-x-eq0.false _ c.suffix_at.ensures _ c.if-suffix_at-ge2.false c.hash_step-acc.ensures
+loop-k-preserved c = before_turn _ _ _ _ c.loop-k.invariant c.if-x-eq0.false _ refl _ (not_found _ _ c.suffix_at.ensures _ c.is_some.ensures c.if-is_some.false) c.hash_step-acc.ensures
 
 pub returns : goal.returns
 returns c = before_end _ _ _ _ c.loop-k.invariant c.loop-k-test.false

@@ -1,15 +1,8 @@
 use Rattle.btf_open_names.specs.filled_work.Takers.{suffix_on}
 use Rattle.spec_type_table.specs.Names.{name_at}
 use mathlib.Core.Path.{◌≡◌}
-use Prim.Native.Nat.{◌-◌, ◌+◌}
-use lib.ListN.{length}
-use mathlib.Core.Path.{◌≡◌}
-use lib.ListN.{length}
-use Prim.Native.Nat.{◌+◌, ◌-◌}
+use Prim.Native.Nat.{◌+◌}
 use Rattle.btf_open_names.proofs.suffixes.suffix.suffix_on.Given as goal
 
 abbrev pub invariant-loop-k : goal.invariant-loop-k
 invariant-loop-k l = suffix_on (name_at l.section l.a) (name_at l.section l.b) ≡ suffix_on (name_at l.section (l.a + l.k)) (name_at l.section (l.b + l.k))
-
-abbrev pub decreases-loop-k : goal.decreases-loop-k
-decreases-loop-k l = length l.section - l.k

@@ -1,17 +1,22 @@
-use Rattle.btf_open_names.proofs.filled_work.Holders.{taker_later, taker_plain, taker_none, taker_some}
+use mathlib.Core.Path.{refl}
+use Rattle.btf_open_names.proofs.keys.Spaces.{spaced}
+use Rattle.btf_open_names.proofs.filled_work.Holders.{suffixed_some, suffixed_none, taker_later, taker_plain, taker_none, taker_some}
 use Rattle.btf_open_names.proofs.taken_numbers.lists.put_taker.Goals as goal
 
-pub returns-then-get_word-h : goal.returns-then-get_word-h
-returns-then-get_word-h c = taker_later _ _ _ _ _ _ _ c.holder_word.ensures c.get_word.ensures c.if-get_word-h.true
+pub returns-then-get-h : goal.returns-then-get-h
+returns-then-get-h c = taker_later _ _ _ _ _ _ c.get.ensures c.if-get-h.true
 
-pub returns-then-not-is_suffixed : goal.returns-then-not-is_suffixed
-returns-then-not-is_suffixed c = taker_plain _ _ _ _ _ _ _ c.holder_word.ensures c.get_word.ensures c.if-get_word-h.false _ c.load_key.ensures _ c.is_suffixed.ensures c.if-not-is_suffixed.true
+pub returns-in_default : goal.returns-in_default
+returns-in_default c = taker_plain _ _ _ _ _ _ c.get.ensures c.if-get-h.false _ c.in_default.ensures _ (suffixed_none _) refl
 
-pub base-c-requires : goal.base-c-requires
-base-c-requires c = c.requires
+pub returns-then-not-has_suffix : goal.returns-then-not-has_suffix
+returns-then-not-has_suffix c = taker_plain _ _ _ _ _ _ c.get.ensures c.if-get-h.false _ c.in-Some.ensures _ (suffixed_some _ _ _ _ (spaced _) c.has_suffix.ensures) c.if-not-has_suffix.true
 
-pub returns-then-c-eq0 : goal.returns-then-c-eq0
-returns-then-c-eq0 c = taker_none _ _ _ _ _ _ _ c.holder_word.ensures c.get_word.ensures c.if-get_word-h.false _ c.load_key.ensures _ c.is_suffixed.ensures c.if-not-is_suffixed.false _ c.base-c.ensures c.if-c-eq0.true
+pub base-requires : goal.base-requires
+base-requires c = c.requires
 
-pub returns : goal.returns
-returns c = taker_some _ _ _ _ _ _ _ c.holder_word.ensures c.get_word.ensures c.if-get_word-h.false _ c.load_key.ensures _ c.is_suffixed.ensures c.if-not-is_suffixed.false _ c.base-c.ensures _ c.if-c-eq0.false c.put_on.ensures
+pub returns-in-Some-base : goal.returns-in-Some-base
+returns-in-Some-base c = taker_some _ _ _ _ _ _ c.get.ensures c.if-get-h.false _ c.in-Some.ensures _ (suffixed_some _ _ _ _ (spaced _) c.has_suffix.ensures) c.if-not-has_suffix.false _ refl _ c.in-Some-base.ensures _ c.put_on.ensures
+
+pub returns-in_default-base : goal.returns-in_default-base
+returns-in_default-base c = taker_none _ _ _ _ _ _ c.get.ensures c.if-get-h.false _ c.in-Some.ensures _ (suffixed_some _ _ _ _ (spaced _) c.has_suffix.ensures) c.if-not-has_suffix.false _ refl c.in_default-base.ensures

@@ -1,12 +1,9 @@
 use Rattle.btf_open_names.specs.filled_work.Takers.{takers_put}
 use Rattle.btf_open_names.specs.hash_table.Hashed.{TableIf}
 use mathlib.Core.Path.{◌≡◌}
-use Prim.Native.Nat.{◌-◌, ◌≤◌}
+use Prim.Native.Nat.{◌-◌}
 use lib.ListN.{length}
 use Rattle.btf_open_names.proofs.taken_numbers.lists.put_takers.Given as goal
 
 abbrev pub invariant-loop-h : goal.invariant-loop-h
-invariant-loop-h l = (length l.work ≡ length l.initial.work) × (l.h ≤ l.n) × (takers_put l.b l.section l.n (l.n - 1) l.initial.work ≡ takers_put l.b l.section l.n (l.h - 1) l.work) × TableIf l.has_table l.b l.section l.work l.n
-
-abbrev pub decreases-loop-h : goal.decreases-loop-h
-decreases-loop-h l = l.h
+invariant-loop-h l = (length l.work ≡ length l.initial.work) × (takers_put l.b l.section l.n (l.n - 1) l.initial.work ≡ takers_put l.b l.section l.n (l.h - 1) l.work) × TableIf l.has_table l.b l.section l.work l.n

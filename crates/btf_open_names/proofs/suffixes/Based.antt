@@ -1,0 +1,74 @@
+-- Suffixes of keys, and the base of a holder. Assumes nothing.
+use Prim.Native.Nat.{ℕ, zero, suc}
+use mathlib.Core.Path.{◌≡◌, refl, ap, ◌∙◌, sym}
+use mathlib.Core.List.{List, [], ◌∷◌}
+use mathlib.Core.Bool.{Bool, true, false}
+use native.Mathlib.Omega.{arith}
+use lib.Dec.{eqb}
+use borrow.Author.Tests.{lt-leb}
+use Rattle.std.proofs.Common.{Option, None, Some}
+use Rattle.spec_type_table.specs.Names.{name_at}
+use Rattle.btf_open_names.specs.declared.keys.keys.Key.{Key}
+use Rattle.btf_open_names.specs.keys.Keys.{space_number, key_list, loaded}
+use Rattle.btf_open_names.specs.name_classes.Classes.{key_of}
+use Rattle.btf_open_names.specs.filled_work.Takers.{suffix_on, after_underscores, base_from}
+use Rattle.btf_open_names.specs.suffixes.Found.{from_two}
+use Rattle.btf_open_names.specs.suffixes.Based.{based}
+use Rattle.btf_open_names.proofs.keys.Spaces.{spaced, numbers_other}
+use Rattle.btf_open_names.proofs.filled_work.Holders.{keys_apart, keys_some}
+use Rattle.btf_open_names.proofs.suffixes.Found.{two_zero}
+
+-- ---- key_suffix
+module _ (s : List ℕ) (o : Option Key) (y : Key) where
+  whole : (k : Option Key) → o ≡ k → from_two (suffix_on (loaded s k) (key_list s y)) ≡ from_two (suffix_on (loaded s o) (key_list s y))
+  whole k e = ap (λ (q : Option Key). from_two (suffix_on (loaded s q) (key_list s y))) (sym e)
+
+  pub suffix_none : o ≡ None → None ≡ from_two (suffix_on (loaded s o) (key_list s y))
+  suffix_none e = two_zero _ (keys_apart s 2 0 (space_number y.space) y.name (λ q. spaced y.space (sym q))) ∙ whole None e
+
+  module _ (x : Key) (e : o ≡ Some x) where
+    pub suffix_apart : (x.space ≡ y.space → ⊥) → None ≡ from_two (suffix_on (loaded s o) (key_list s y))
+    suffix_apart n = two_zero _ (keys_apart s (space_number x.space) x.name (space_number y.space) y.name (numbers_other x.space y.space n)) ∙ whole (Some x) e
+
+    pub suffix_some : x.space ≡ y.space → (r : Option ℕ) → r ≡ from_two (suffix_on (name_at s x.name) (name_at s y.name)) → r ≡ from_two (suffix_on (loaded s o) (key_list s y))
+    suffix_some q r t =
+        t
+        ∙ ap from_two (keys_some s (space_number x.space) x.name (space_number y.space) y.name _ (ap space_number q) (spaced x.space) refl)
+        ∙ whole (Some x) e
+
+-- ---- the base
+module _ (key : ℕ → List ℕ) (h : ℕ) where
+  pub based_none : (r : ℕ) → 0 ≡ r → None ≡ based key h r
+  unfolding based
+  based_none r e = ap (based key h) e
+
+  pub based_some : (c m r : ℕ) → (c ≡ 0 → ⊥) → c ≡ r → m ≡ suffix_on (key c) (key h) → Some (record { holder = c; number = m }) ≡ based key h r
+  unfolding based
+  based_some zero m r n e f = absurd (n refl)
+  based_some (suc c) m r n e f = ap (λ (x : ℕ). Some (record { holder = suc c; number = x })) f ∙ ap (based key h) e
+
+  -- without a space there is none
+  nothing_from : ((c : ℕ) → suffix_on (key c) (key h) ≡ 0) → (f c : ℕ) → 0 ≡ base_from key h f c
+  unfolding base_from
+  nothing_from z zero c = refl
+  nothing_from z (suc f) c =
+      nothing_from z f (suc c)
+      ∙ sym (ap (λ (t : Bool). elim t as (λ z. ℕ) [ true ↦ c | false ↦ base_from key h f (suc c) ]) (lt-leb 2 (suffix_on (key c) (key h)) (omega (arith, z c))))
+
+on_none : (x : List ℕ) → suffix_on x [] ≡ 0
+unfolding suffix_on after_underscores
+on_none [] = refl
+on_none (a ∷ x) = refl
+
+on_nameless : (x : List ℕ) → suffix_on x (2 ∷ []) ≡ 0
+unfolding suffix_on after_underscores
+on_nameless [] = refl
+on_nameless (a ∷ x) = go (eqb a 2)
+  where
+    go : (t : Bool) → elim t as (λ z. ℕ) [ true ↦ suffix_on x [] | false ↦ 0 ] ≡ 0
+    go true = on_none x
+    go false = refl
+
+pub spaceless : (key : ℕ → List ℕ) (h n : ℕ) (s : List ℕ) → key_of s 2 0 ≡ key h → None ≡ based key h (base_from key h n 1)
+unfolding key_of
+spaceless key h n s e = based_none key h _ (nothing_from key h (λ c. ap (suffix_on (key c)) (sym e) ∙ on_nameless (key c)) n 1)
