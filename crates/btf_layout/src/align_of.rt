@@ -1,149 +1,148 @@
 // get_align_of with the alignments that are remembered in the work.
-ghost use Rattle.std.specs.Prelude.{◌≡◌, ◌<◌};
+ghost use Rattle.std.specs.Prelude.{◌≡◌, ◌<◌, ◌-◌};
 ghost use Rattle.spec_type_table.specs.Table.{btf_of};
 ghost use Rattle.spec_type_table.specs.Nodes.{member_ids};
 ghost use Rattle.spec_c_dumper.specs.alignment_once.Once.{alone};
-ghost use Rattle.btf_layout.specs.remembered.Words.{seen_word, taken_by, step_at, once_of, once_with, ids_with, height_of, kept_with};
+ghost use Rattle.btf_layout.specs.remembered.Words.{taken_by, step_at, once_of, once_with, anew_with, ids_with, height_of, kept_with};
 
-use crate::bounds::{larger, smaller};
-use crate::remembered::{Once, Seen, Step, coded, remember};
-use base_bytes::refusal;
-use btf_type_table::cell::get_field;
-use btf_type_table::kind::{entries_of, kind_of, member_place};
+use crate::remembered::{Seen, recall, remember};
+use base_bytes::refusal::Refusal;
+use btf_type_table::kind::{entries_of, member_place};
 use btf_type_table::node::type_by_id;
 use btf_type_table::section_word::{array_type, int_bits, word};
-use btf_type_table::{cell, kind};
-use spec_type_table::{BtfType, Entries, TypeTable};
+use spec_type_table::{BtfType, Entries, Kind, TypeTable};
 
-fn seen_word(b: TypeTable, work: &[u8], id: u32) -> u32
-    ensures { result ≡ seen_word b.types work.now id }
-{
-    if id < b.types {
-        return get_field(work, id, cell::ALIGNMENT);
-    }
-    0
+// What get_align_of asks of a type: nothing, one other type, or its members.
+#[derive(Clone, Copy)]
+pub enum Step {
+    Own(u32),
+    Through(u32),
+    Members(Entries),
 }
 
-// A remembered alignment; 12 where the plain way would have more calls open than are left.
-fn taken(v: u32, left: u32) -> Once
-    ensures { result ≡ taken_by v left }
+// A remembered alignment; refused where the plain way would have more calls open than are left.
+#[inline]
+fn taken(s: Seen, left: u32) -> Result<Seen, Refusal>
+    ensures { result ≡ taken_by s left }
 {
-    if left < v / 16 {
-        return Once::No(refusal::TOO_DEEP);
+    if left < s.height {
+        return Err(Refusal::TooDeep);
     }
-    Once::Found(Seen {
-        align: v % 16,
-        height: v / 16,
-    })
+    Ok(s)
 }
 
 fn step_of(b: TypeTable, section: &[u8], t: BtfType) -> Step
     ensures { result ≡ step_at b section.now t }
 {
-    match kind_of(t.info) {
-        kind::INT => Step::Own(smaller(b.ptr_sz, (int_bits(b, section, t) + 7) / 8)),
-        kind::PTR => Step::Own(b.ptr_sz),
-        kind::ARRAY => Step::Through(array_type(b, section, t)),
-        kind::STRUCT | kind::UNION => Step::Members(entries_of(t)),
-        kind::ENUM | kind::FLOAT | kind::ENUM64 => Step::Own(smaller(b.ptr_sz, t.type_id)),
-        kind::TYPEDEF..=kind::RESTRICT | kind::TYPE_TAG => Step::Through(t.type_id),
-        _ => Step::Own(0),
+    match Kind::of(t.info) {
+        Kind::Int => Step::Own(b.ptr_sz.min(int_bits(b, section, t).div_ceil(8))),
+        Kind::Ptr => Step::Own(b.ptr_sz),
+        Kind::Array => Step::Through(array_type(b, section, t)),
+        Kind::Struct | Kind::Union => Step::Members(entries_of(t)),
+        Kind::Enum | Kind::Float | Kind::Enum64 => Step::Own(b.ptr_sz.min(t.type_id)),
+        Kind::Typedef | Kind::Volatile | Kind::Const | Kind::Restrict | Kind::TypeTag =>
+            Step::Through(t.type_id),
+        Kind::Void | Kind::Fwd | Kind::Func | Kind::FuncProto | Kind::Var | Kind::Datasec =>
+            Step::Own(0),
+        Kind::DeclTag | Kind::Unknown => Step::Own(0),
     }
 }
 
 // What was found of a type is remembered; of a refused one nothing is.
-fn keep_once(b: TypeTable, work: &mut [u8], id: u32, r: Once, members: u32) -> Once
+fn keep_once(
+    b: TypeTable,
+    work: &mut [u8],
+    id: u32,
+    r: Result<Seen, Refusal>,
+    members: u32,
+) -> Result<Seen, Refusal>
     requires { height_of r < 4294967295 }
     ensures { once_of result work.new ≡ kept_with b.types id members r work.old }
 {
-    match r {
-        Once::Found(s) => {
-            let up = Seen {
-                align: s.align,
-                height: s.height + 1,
-            };
-            remember(b, work, id, coded(up), members);
-            Once::Found(up)
-        }
-        Once::No(c) => Once::No(c),
-    }
+    let s = r?;
+    let up = Seen {
+        align: s.align,
+        height: s.height + 1,
+    };
+    remember(b, work, id, up, members);
+    Ok(up)
 }
 
-// get_align_of with a memory.
+// A type of which nothing is remembered: of the calls that may be open this is one.
 #[cycle(align_of)]
-fn align_once(b: TypeTable, section: &[u8], work: &mut [u8], id: u32, left: u32) -> Once
+fn align_anew(
+    b: TypeTable,
+    section: &[u8],
+    work: &mut [u8],
+    id: u32,
+    left: u32,
+) -> Result<Seen, Refusal>
     ensures { once_of result work.new
-        ≡ once_with b.types (btf_of b section.now work.old) left id work.old }
+        ≡ anew_with b.types (btf_of b section.now work.old) (left - 1) id work.old }
 {
-    if left == 0 {
-        return Once::No(refusal::TOO_DEEP);
-    }
-    let v = seen_word(b, work, id);
-    if v != 0 {
-        return taken(v, left);
-    }
+    let below = left.saturating_sub(1);
     let t = type_by_id(b, section, work, id);
     match step_of(b, section, t) {
-        Step::Own(a) => {
-            let r = Once::Found(Seen {
-                align: a,
+        Step::Own(align) => {
+            let own = Seen {
+                align: align,
                 height: 0,
-            });
-            keep_once(b, work, id, r, 0)
+            };
+            keep_once(b, work, id, Ok(own), 0)
         }
         Step::Through(x) => {
-            let r = align_once(b, section, work, x, left - 1);
+            let r = get_align_of(b, section, work, x, below);
             keep_once(b, work, id, r, 0)
         }
         Step::Members(e) => {
-            let r = members_once(b, section, work, e, left - 1);
+            let r = members_once(b, section, work, e, below);
             keep_once(b, work, id, r, e.vlen)
         }
     }
 }
 
-// get_align_of with a memory, where most answers are remembered already: those are taken before any call.
+// get_align_of with a memory: most answers are remembered already.
 #[cycle(align_of)]
-pub fn get_align_of(b: TypeTable, section: &[u8], work: &mut [u8], id: u32, left: u32) -> Once
+#[inline]
+pub fn get_align_of(
+    b: TypeTable,
+    section: &[u8],
+    work: &mut [u8],
+    id: u32,
+    left: u32,
+) -> Result<Seen, Refusal>
     ensures { once_of result work.new
         ≡ once_with b.types (btf_of b section.now work.old) left id work.old }
 {
     if left == 0 {
-        return Once::No(refusal::TOO_DEEP);
+        return Err(Refusal::TooDeep);
     }
-    let v = seen_word(b, work, id);
-    if v != 0 {
-        return taken(v, left);
+    match recall(b, work, id) {
+        Some(s) => taken(s, left),
+        None => align_anew(b, section, work, id, left),
     }
-    align_once(b, section, work, id, left)
 }
 
 // The largest of the members' alignments, at least 1, and the largest of their heights.
 #[cycle(align_of)]
-fn members_once(b: TypeTable, section: &[u8], work: &mut [u8], members: Entries, left: u32) -> Once
+fn members_once(
+    b: TypeTable,
+    section: &[u8],
+    work: &mut [u8],
+    members: Entries,
+    left: u32,
+) -> Result<Seen, Refusal>
     ensures { once_of result work.new
         ≡ ids_with b.types (btf_of b section.now work.old) left (alone 1)
         (member_ids b section.now members) work.old }
 {
-    let vlen = members.vlen;
-    let mut align: u32 = 1;
-    let mut height: u32 = 0;
-    let mut k: u32 = 0;
-    while k < vlen {
-        let x = word(b, section, member_place(members, k) + 4);
-        match get_align_of(b, section, work, x, left) {
-            Once::Found(s) => {
-                align = larger(align, s.align);
-                height = larger(height, s.height);
-            }
-            Once::No(c) => {
-                return Once::No(c);
-            }
-        }
-        k += 1;
+    let mut seen = Seen {
+        align: 1,
+        height: 0,
+    };
+    for k in 0..members.vlen {
+        let id = word(b, section, member_place(members, k) + 4);
+        seen = seen.widest(get_align_of(b, section, work, id, left)?);
     }
-    Once::Found(Seen {
-        align: align,
-        height: height,
-    })
+    Ok(seen)
 }

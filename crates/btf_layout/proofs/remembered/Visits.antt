@@ -19,16 +19,17 @@ use Rattle.spec_c_dumper.specs.needs.Needs.{kids}
 use Rattle.spec_c_dumper.specs.alignment_once.Once.{Remembered, Known, unknown, known, Keep, Once, found, refused, Asking, once_then, ask_once, memory_after, above, alone, widest, members_once, taken, type_once, keep_once, align_once, Right, member_count, members_to, paid_to}
 use Rattle.spec_c_dumper.proofs.alignment_once.Right.{Told, align_of_lem, above_tells, taken_found, taken_refused, type_told, not_inside, told, same_answer, stays_right}
 use Rattle.spec_c_dumper.proofs.alignment_once.Counted.{paid_more, paid_most}
-use Rattle.btf_layout.specs.declared.remembered.Once.{Once as Answer}
-use Rattle.btf_layout.specs.declared.remembered.Once.TheVariants.{Found, No}
+use Rattle.std.specs.Prelude.{Result, Ok, Err}
+use Rattle.spec_bytes.specs.declared.refusal.Refusal.{Refusal}
+use Rattle.btf_layout.specs.declared.remembered.Seen.{Seen as Code}
 use Rattle.btf_layout.specs.remembered.Words.{coded, with_visits, work_keep, once_of, forget, once_with}
 use Rattle.btf_layout.proofs.remembered.Laws.{remember_here}
 use Rattle.btf_layout.proofs.remembered.Lawful.{Roomy, FitsWord, coded_is, work_lawful, tells_fits}
 
-answer_memory : (a : Answer) (u : List ℕ) → memory_after (once_of a u) ≡ u
+answer_memory : (a : Result Code Refusal) (u : List ℕ) → memory_after (once_of a u) ≡ u
 unfolding memory_after once_of
-answer_memory (Found s) u = refl
-answer_memory (No c) u = refl
+answer_memory (Ok s) u = refl
+answer_memory (Err c) u = refl
 
 forget_memory : (x : Once (List ℕ) Remembered) → memory_after (forget x) ≡ memory_after x
 unfolding memory_after forget
@@ -138,7 +139,7 @@ module _ (types : ℕ) (B : Rules) (small : B.ptr_sz ≤ 15) (below : (x y : ℕ
   holds_memory (refused c m k) h = h
 
   -- ---- what the code promises, of such a work
-  module _ (left id : ℕ) (b : left ≤ 512) (l : id < types) (w : List ℕ) (right : Right K B w) (g : Counted w) (r : Answer) (u : List ℕ) (e : once_of r u ≡ once_with types B left id w) where
+  module _ (left id : ℕ) (b : left ≤ 512) (l : id < types) (w : List ℕ) (right : Right K B w) (g : Counted w) (r : Result Code Refusal) (u : List ℕ) (e : once_of r u ≡ once_with types B left id w) where
     abbrev X : Once (List ℕ) Remembered
     X = align_once K left B id w 0
 

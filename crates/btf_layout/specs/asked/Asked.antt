@@ -1,12 +1,10 @@
 -- What a body asks (crates/spec_c_dumper/specs/alignment_once/Steps) of the memory in the work. The visits stand in the work, so none are
 -- counted beside it.
-use Rattle.std.specs.Prelude.{ℕ, ◌*◌, ◌%◌, Bool, true, false, not, List, eqb}
+use Rattle.std.specs.Prelude.{ℕ, ◌*◌, ◌%◌, Bool, true, false, not, List, eqb, Result, Ok, Err}
 use Rattle.spec_c_dumper.specs.rules.Writer.{Ask, got, no, align_zero}
 use Rattle.spec_c_dumper.specs.rules.Types.{Member, Btf as Rules}
-use Rattle.btf_layout.specs.declared.size.Ask.{Ask as Code}
-use Rattle.btf_layout.specs.declared.size.Ask.TheVariants.{Got, No}
-use Rattle.btf_layout.specs.declared.size.Packed.{Packed}
-use Rattle.btf_layout.specs.declared.size.Packed.TheVariants.{Is, No as NoPacked}
+use Rattle.spec_bytes.specs.declared.refusal.Refusal.{Refusal}
+use Rattle.spec_bytes.specs.Refusals.{refusal_number}
 use Rattle.spec_c_dumper.specs.alignment_once.Once.{Keep, Once, found, refused, Asking, once_then, alignment_once}
 use Rattle.spec_type_table.specs.Cells.{get_field}
 use Rattle.spec_c_dumper.specs.alignment_once.Steps.{plainly, members_packed_once, packed_once, gap_align_once, union_align_once}
@@ -16,13 +14,9 @@ use Rattle.spec_c_dumper.specs.alignment_once.Writers.{Asks}
 use Rattle.btf_layout.specs.remembered.Words.{work_keep, forget}
 
 -- what the code's answers say, with the work at that moment
-unfoldable pub ask_in : Code → List ℕ → Once (List ℕ) ℕ
-ask_in (Got n) w = found n w 0
-ask_in (No c) w = refused c w 0
-
-unfoldable pub packed_in : Packed → List ℕ → Once (List ℕ) Bool
-packed_in (Is p) w = found p w 0
-packed_in (NoPacked c) w = refused c w 0
+unfoldable pub ask_in : {A : Type 0} → Result A Refusal → List ℕ → Once (List ℕ) A
+ask_in (Ok a) w = found a w 0
+ask_in (Err c) w = refused (refusal_number c) w 0
 
 -- ---- one member of the packed test
 unfoldable pub off_by : ℕ → ℕ → Ask Bool

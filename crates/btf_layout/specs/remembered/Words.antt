@@ -1,20 +1,26 @@
 -- What is remembered of alignments, as words of the work: word 15 of a type is 0, or 16 times the height of the calls of get_align_of and
 -- the alignment; word 2 of void counts the visits.
-use Rattle.std.specs.Prelude.{ℕ, suc, ◌+◌, ◌*◌, ◌/◌, ◌%◌, true, false, List, [], ◌∷◌, get_or, ltb, leb, eqb}
+use Rattle.std.specs.Prelude.{ℕ, suc, ◌+◌, ◌*◌, ◌/◌, ◌%◌, true, false, List, [], ◌∷◌, ltb, leb, eqb, Option, Some, None, Result, Ok, Err}
+use Rattle.spec_bytes.specs.declared.refusal.Refusal.{Refusal}
+use Rattle.spec_bytes.specs.declared.refusal.Refusal.TheVariants.{TooDeep}
+use Rattle.spec_bytes.specs.Refusals.{refusal_number}
 use Rattle.spec_c_dumper.specs.rules.Types.{Btf as Rules}
 use Rattle.spec_c_dumper.specs.rules.Layout.{smaller, octets}
 use Rattle.spec_type_table.specs.declared.types.TypeTable.{TypeTable}
 use Rattle.spec_type_table.specs.declared.types.BtfType.{BtfType as Record}
+use Rattle.spec_type_table.specs.declared.kind.Kind.{Kind}
+use Rattle.spec_type_table.specs.declared.kind.Kind.TheVariants.{Void, Int, Ptr, Array, Struct, Union, Enum, Fwd, Typedef, Volatile}
+use Rattle.spec_type_table.specs.declared.kind.Kind.TheVariants.{Const, Restrict, Func, FuncProto, Var, Datasec, Float, DeclTag, TypeTag}
+use Rattle.spec_type_table.specs.declared.kind.Kind.TheVariants.{Enum64, Unknown}
+use Rattle.spec_type_table.specs.Kinds.{kind_named}
 use Rattle.spec_type_table.specs.Cells.{get_field, put_field}
 use Rattle.spec_type_table.specs.Records.{kind_of, entries_of}
 use Rattle.spec_type_table.specs.Table.{extra_word}
 use Rattle.spec_c_dumper.specs.alignment_once.Once.{Remembered, Known, unknown, known, Keep, Once, found, refused, Asking, once_then, above}
-use Rattle.spec_c_dumper.specs.alignment_once.Once.{widest, align_once, member_count}
+use Rattle.spec_c_dumper.specs.alignment_once.Once.{widest, align_once, type_once, keep_once, member_count}
 use Rattle.btf_layout.specs.declared.remembered.Seen.{Seen as Code}
-use Rattle.btf_layout.specs.declared.remembered.Once.{Once as Answer}
-use Rattle.btf_layout.specs.declared.remembered.Once.TheVariants.{Found, No}
-use Rattle.btf_layout.specs.declared.remembered.Step.{Step}
-use Rattle.btf_layout.specs.declared.remembered.Step.TheVariants.{Own, Through, Members}
+use Rattle.btf_layout.specs.declared.align_of.Step.{Step}
+use Rattle.btf_layout.specs.declared.align_of.Step.TheVariants.{Own, Through, Members}
 
 -- ---- the words
 unfoldable pub seen_word : ℕ → List ℕ → ℕ → ℕ
@@ -49,16 +55,23 @@ work_keep types B = record {
 abbrev pub seen_is : Code → Remembered
 seen_is s = record { align = s.align; height = s.height }
 
-unfoldable pub once_of : Answer → List ℕ → Once (List ℕ) Remembered
-once_of (Found s) w = found (seen_is s) w 0
-once_of (No c) w = refused c w 0
+unfoldable pub known_of : Option Code → Known
+known_of (Some s) = known (seen_is s)
+known_of None = unknown
 
-unfoldable pub height_of : Answer → ℕ
-height_of (Found s) = s.height
-height_of (No c) = 0
+abbrev pub widest_code : Code → Code → Remembered
+widest_code s t = widest (seen_is s) (seen_is t)
 
-unfoldable pub taken_by : ℕ → ℕ → Answer
-taken_by v left = elim (ltb left (v / 16)) [ true ↦ No 12 | false ↦ Found (record { align = v % 16; height = v / 16 }) ]
+unfoldable pub once_of : Result Code Refusal → List ℕ → Once (List ℕ) Remembered
+once_of (Ok s) w = found (seen_is s) w 0
+once_of (Err c) w = refused (refusal_number c) w 0
+
+unfoldable pub height_of : Result Code Refusal → ℕ
+height_of (Ok s) = s.height
+height_of (Err c) = 0
+
+unfoldable pub taken_by : Code → ℕ → Result Code Refusal
+taken_by s left = elim (ltb left s.height) [ true ↦ Err TooDeep | false ↦ Ok s ]
 
 -- the visits stand in the work
 unfoldable pub forget : {M A : Type 0} → Once M A → Once M A
@@ -69,6 +82,11 @@ forget (refused c m k) = refused c m 0
 unfoldable pub once_with : ℕ → Rules → ℕ → ℕ → List ℕ → Once (List ℕ) Remembered
 once_with types B left id w = forget (align_once (work_keep types B) left B id w 0)
 
+-- the same of a type of which nothing is remembered, with so many calls below it
+unfoldable pub anew_with : ℕ → Rules → ℕ → ℕ → List ℕ → Once (List ℕ) Remembered
+anew_with types B left id w =
+    forget (once_then (type_once B (λ t m k. align_once (work_keep types B) left B t m k) (B.type_by_id id) w 1) (keep_once (work_keep types B) id))
+
 -- members_once of the members' types alone
 unfoldable pub ids_once : {M : Type 0} → (ℕ → Asking M Remembered) → Remembered → List ℕ → Asking M Remembered
 ids_once ask s [] m k = found s m k
@@ -77,33 +95,33 @@ ids_once ask s (x ∷ xs) m k = once_then (ask x m (suc k)) (λ t m' k'. ids_onc
 unfoldable pub ids_with : ℕ → Rules → ℕ → Remembered → List ℕ → List ℕ → Once (List ℕ) Remembered
 ids_with types B left s ids w = forget (ids_once (λ x m k. align_once (work_keep types B) left B x m k) s ids w 0)
 
-unfoldable pub kept_with : ℕ → ℕ → ℕ → Answer → List ℕ → Once (List ℕ) Remembered
-kept_with types id members (Found s) w = found (above (seen_is s)) (remembered types id (coded (above (seen_is s))) members w) 0
-kept_with types id members (No c) w = refused c w 0
+unfoldable pub kept_with : ℕ → ℕ → ℕ → Result Code Refusal → List ℕ → Once (List ℕ) Remembered
+kept_with types id members (Ok s) w = found (above (seen_is s)) (remembered types id (coded (above (seen_is s))) members w) 0
+kept_with types id members (Err c) w = refused (refusal_number c) w 0
 
 -- what get_align_of asks of a record, by its kind
+unfoldable pub step_by : TypeTable → List ℕ → Record → Kind → Step
+step_by b s t Void = Own 0
+step_by b s t Int = Own (smaller b.ptr_sz (octets (extra_word b s t % 256)))
+step_by b s t Ptr = Own b.ptr_sz
+step_by b s t Array = Through (extra_word b s t)
+step_by b s t Struct = Members (entries_of t)
+step_by b s t Union = Members (entries_of t)
+step_by b s t Enum = Own (smaller b.ptr_sz t.type_id)
+step_by b s t Fwd = Own 0
+step_by b s t Typedef = Through t.type_id
+step_by b s t Volatile = Through t.type_id
+step_by b s t Const = Through t.type_id
+step_by b s t Restrict = Through t.type_id
+step_by b s t Func = Own 0
+step_by b s t FuncProto = Own 0
+step_by b s t Var = Own 0
+step_by b s t Datasec = Own 0
+step_by b s t Float = Own (smaller b.ptr_sz t.type_id)
+step_by b s t DeclTag = Own 0
+step_by b s t TypeTag = Through t.type_id
+step_by b s t Enum64 = Own (smaller b.ptr_sz t.type_id)
+step_by b s t Unknown = Own 0
+
 unfoldable pub step_at : TypeTable → List ℕ → Record → Step
-step_at b s t = get_or
-    (Own 0
-    ∷ Own (smaller b.ptr_sz (octets (extra_word b s t % 256)))
-    ∷ Own b.ptr_sz
-    ∷ Through (extra_word b s t)
-    ∷ Members (entries_of t)
-    ∷ Members (entries_of t)
-    ∷ Own (smaller b.ptr_sz t.type_id)
-    ∷ Own 0
-    ∷ Through t.type_id
-    ∷ Through t.type_id
-    ∷ Through t.type_id
-    ∷ Through t.type_id
-    ∷ Own 0
-    ∷ Own 0
-    ∷ Own 0
-    ∷ Own 0
-    ∷ Own (smaller b.ptr_sz t.type_id)
-    ∷ Own 0
-    ∷ Through t.type_id
-    ∷ Own (smaller b.ptr_sz t.type_id)
-    ∷ [])
-    (kind_of t.info)
-    (Own 0)
+step_at b s t = step_by b s t (kind_named (kind_of t.info))

@@ -1,44 +1,55 @@
 use Rattle.std.proofs.Common.{rules}
-use Rattle.btf_layout.proofs.size.Laws.{size_deep, size_int, size_ptr, size_array, size_keyed, size_range, size_through, size_tagged, size_void, size_fwd, size_data, size_past}
-use mathlib.Core.Path.{refl, ◌∙◌, sym}
+use Rattle.std.specs.Prelude.{Err}
+use Rattle.spec_c_dumper.specs.rules.Writer.{checked}
+use Rattle.spec_c_dumper.specs.rules.Layout.{get_size_of}
+use Rattle.spec_type_table.specs.Table.{btf_of}
+use Rattle.btf_layout.specs.size.Answers.{ask_of}
+use Rattle.btf_layout.proofs.size.Laws.{fits_checked, then_ok, then_err, size_deep, size_int, size_ptr, size_array, size_sized, size_none, size_through}
+use mathlib.Core.Path.{◌≡◌, refl, ap, ◌∙◌, sym}
 use native.Mathlib.Omega.{arith}
+use Prim.Native.Nat.{ℕ, ◌+◌, ◌-◌, ◌*◌}
 use Rattle.btf_layout.proofs.size.+get_size_of.Goals as goal
 
-pub loop-more-init : goal.loop-more-init
-loop-more-init t c = (refl, omega arith)
+pub returns-in-Int : goal.returns-in-Int
+returns-in-Int t c =
+    let deep : (c.args.left - c.loop-passed.passed ≡ 0) → ⊥ = λ e. omega arith in
+    size_int _ _ _ _ _ deep _ c.type_by_id-t.ensures _ c.of.ensures _ _ c.in-Int.is c.int_bits.ensures c.div_ceil.ensures ∙ sym c.loop-passed.invariant
 
-pub returns-in-1 : goal.returns-in-1
-returns-in-1 t c = size_int _ _ _ _ _ c.loop-more-test.true _ c.type_by_id-t.ensures _ c.kind_of.ensures _ _ c.in-1.is c.int_bits.ensures c.octets.ensures ∙ sym c.loop-more.invariant.0
+pub returns-in-Ptr : goal.returns-in-Ptr
+returns-in-Ptr t c =
+    let deep : (c.args.left - c.loop-passed.passed ≡ 0) → ⊥ = λ e. omega arith in
+    size_ptr _ _ _ _ _ deep _ c.type_by_id-t.ensures _ c.of.ensures c.in-Ptr.is ∙ sym c.loop-passed.invariant
 
-pub returns-in-2 : goal.returns-in-2
-returns-in-2 t c = size_ptr _ _ _ _ _ c.loop-more-test.true _ c.type_by_id-t.ensures _ c.kind_of.ensures c.in-2.is ∙ sym c.loop-more.invariant.0
+pub returns-in_err-element-in-Array : goal.returns-in_err-element-in-Array
+returns-in_err-element-in-Array t c =
+    let deep : (c.args.left - c.loop-passed.passed ≡ 0) → ⊥ = λ e. omega arith in
+    let e : c.from_residual.result ≡ Err c.in_err-element-in-Array.field-0.0 = search rules in
+    ap ask_of e ∙ size_array _ _ _ _ _ deep _ c.type_by_id-t.ensures _ c.of.ensures _ _ _ _ c.in-Array.is c.array_type.ensures refl c.get_size_of.ensures (then_err _ _ _ c.in_err-element-in-Array.was) ∙ sym c.loop-passed.invariant
 
-pub returns-in-3 : goal.returns-in-3
-returns-in-3 t c = size_array _ _ _ _ _ c.loop-more-test.true _ c.type_by_id-t.ensures _ c.kind_of.ensures _ _ _ _ c.in-3.is c.array_type.ensures c.array_nelems.ensures c.get_size_of-element.ensures c.product.ensures ∙ sym c.loop-more.invariant.0
+pub returns-in-Array : goal.returns-in-Array
+returns-in-Array t c =
+    let deep : (c.args.left - c.loop-passed.passed ≡ 0) → ⊥ = λ e. omega arith in
+    let once : ask_of c.ok_or.result ≡ checked (c.array_nelems.result * c.in_ok-element-in-Array.element) = fits_checked _ _ c.checked_mul.ensures _ c.ok_or.ensures.value in
+    size_array _ _ _ _ _ deep _ c.type_by_id-t.ensures _ c.of.ensures _ _ _ _ c.in-Array.is c.array_type.ensures c.array_nelems.ensures c.get_size_of.ensures (then_ok _ _ _ _ c.in_ok-element-in-Array.was once) ∙ sym c.loop-passed.invariant
 
-pub loop-more-preserved-in-8-to-11 : goal.loop-more-preserved-in-8-to-11
-loop-more-preserved-in-8-to-11 t c = (c.loop-more.invariant.0 ∙ size_through _ _ _ _ _ c.loop-more-test.true _ c.type_by_id-t.ensures _ c.kind_of.ensures (omega arith) (omega arith), omega arith)
+pub returns-in-Struct : goal.returns-in-Struct
+returns-in-Struct t c =
+    let deep : (c.args.left - c.loop-passed.passed ≡ 0) → ⊥ = λ e. omega arith in
+    size_sized _ _ _ _ _ deep _ c.type_by_id-t.ensures _ c.of.ensures c.in-Struct.is ∙ sym c.loop-passed.invariant
 
-pub loop-more-preserved : goal.loop-more-preserved
-loop-more-preserved t c = (c.loop-more.invariant.0 ∙ size_tagged _ _ _ _ _ c.loop-more-test.true _ c.type_by_id-t.ensures _ c.kind_of.ensures (omega arith) (omega arith) c.in-8-to-11.in_default-own.rest.1, omega arith)
+pub returns-in-Void : goal.returns-in-Void
+returns-in-Void t c =
+    let deep : (c.args.left - c.loop-passed.passed ≡ 0) → ⊥ = λ e. omega arith in
+    size_none _ _ _ _ _ deep _ c.type_by_id-t.ensures _ c.of.ensures c.in-Void.is ∙ sym c.loop-passed.invariant
 
-pub returns-in_default : goal.returns-in_default
-returns-in_default t c = size_void _ _ _ _ _ c.loop-more-test.true _ c.type_by_id-t.ensures _ c.kind_of.ensures (omega arith) ∙ sym c.loop-more.invariant.0
-
-pub returns-in_default-2 : goal.returns-in_default-2
-returns-in_default-2 t c = size_fwd _ _ _ _ _ c.loop-more-test.true _ c.type_by_id-t.ensures _ c.kind_of.ensures (omega arith) (omega arith) ∙ sym c.loop-more.invariant.0
-
-pub returns-in_default-3 : goal.returns-in_default-3
-returns-in_default-3 t c = size_data _ _ _ _ _ c.loop-more-test.true _ c.type_by_id-t.ensures _ c.kind_of.ensures (omega arith) (omega arith) ∙ sym c.loop-more.invariant.0
-
-pub returns-in_default-4 : goal.returns-in_default-4
-returns-in_default-4 t c = size_past _ _ _ _ _ c.loop-more-test.true _ c.type_by_id-t.ensures _ c.kind_of.ensures (omega arith) (omega arith) ∙ sym c.loop-more.invariant.0
-
-pub returns-in-4-to-6 : goal.returns-in-4-to-6
-returns-in-4-to-6 t c = size_keyed _ _ _ _ _ c.loop-more-test.true _ c.type_by_id-t.ensures _ c.kind_of.ensures (search rules) ∙ sym c.loop-more.invariant.0
-
-pub returns-in-4-to-6-2 : goal.returns-in-4-to-6-2
-returns-in-4-to-6-2 t c = size_range _ _ _ _ _ c.loop-more-test.true _ c.type_by_id-t.ensures _ c.kind_of.ensures (omega arith) (omega arith) (omega arith) (omega arith) (omega arith) ∙ sym c.loop-more.invariant.0
+pub loop-passed-preserved : goal.loop-passed-preserved
+loop-passed-preserved t c =
+    let deep : (c.args.left - c.loop-passed.passed ≡ 0) → ⊥ = λ e. omega arith in
+    let fewer : c.args.left - c.loop-passed.passed - 1 ≡ c.args.left - (c.loop-passed.passed + 1) = omega arith in
+    c.loop-passed.invariant ∙ size_through _ _ _ _ _ deep _ c.type_by_id-t.ensures _ c.of.ensures c.in-Typedef.is
+    ∙ ap (λ (n : ℕ). get_size_of n (btf_of c.args.b c.args.section.now c.args.work.now) c.type_by_id-t.result.type_id) fewer
 
 pub returns : goal.returns
-returns t c = size_deep _ _ _ _ _ c.loop-more-test.false ∙ sym c.loop-more.invariant.0
+returns t c =
+    let done : c.args.left - c.loop-passed.passed ≡ 0 = omega arith in
+    size_deep _ _ _ _ _ done ∙ sym c.loop-passed.invariant
