@@ -5,13 +5,13 @@ ghost use Rattle.spec_c_dumper.specs.rules.Placing.{size_fits};
 ghost use Rattle.spec_c_dumper.specs.rules.Placing.{extent_of, no_extent};
 ghost use Rattle.spec_type_table.specs.Records.{kind_of};
 ghost use Rattle.spec_type_table.specs.Table.{btf_of, members_of, rule_member};
-ghost use Rattle.btf_layout.specs.size.Answers.{ask_of, packed_of};
+ghost use Rattle.btf_layout.specs.size.Answers.{ask_of};
 ghost use Rattle.c_dumper_padding.specs.extents.Steps.{extent_is, extents_of, one_member, with_extent, judged};
 
-use base_bytes::{limit, refusal};
-use btf_layout::bounds::larger;
+use base_bytes::limit;
+use base_bytes::refusal::Refusal;
 use btf_layout::member_end::member_end;
-use btf_layout::size::{Ask, Packed, get_size_of};
+use btf_layout::size::get_size_of;
 use btf_type_table::entry::load_member;
 use btf_type_table::kind::{is_struct, vlen_of};
 use spec_type_table::{BtfMember, BtfType, TypeTable};
@@ -21,12 +21,6 @@ use spec_type_table::{BtfMember, BtfType, TypeTable};
 pub struct Extent {
     pub last: u32,
     pub fits: bool,
-}
-
-#[derive(Clone, Copy)]
-pub enum Extents {
-    Got(Extent),
-    No(u32),
 }
 
 // The least multiple of 8 * a that is not below n.
@@ -89,11 +83,11 @@ fn member_fits(in_struct: bool, packed: bool, last: u32, size: u32, m: BtfMember
 }
 
 // The size of a bit field's type; a plain member's is asked with its end.
-fn field_size(b: TypeTable, section: &[u8], work: &[u8], m: BtfMember) -> Ask
+fn field_size(b: TypeTable, section: &[u8], work: &[u8], m: BtfMember) -> Result<u32, Refusal>
     ensures { ask_of result ≡ field_size (btf_of b section.now work.now) (rule_member b section.now m) }
 {
     if m.bit_size == 0 {
-        return Ask::Got(0);
+        return Ok(0);
     }
     get_size_of(b, section, work, m.type_id, limit::MOST_CALLS)
 }
@@ -104,7 +98,7 @@ fn reached(in_struct: bool, last: u32, end: u32) -> u32
     if in_struct {
         return end;
     }
-    larger(last, end)
+    last.max(end)
 }
 
 fn with_member(
@@ -117,16 +111,9 @@ fn with_member(
 ) -> Extent
     ensures { extent_is result ≡ with_extent in_struct packed x size end m.bit_offset m.bit_size }
 {
-    let last = reached(in_struct, x.last, end);
-    if !x.fits {
-        return Extent {
-            last: last,
-            fits: false,
-        };
-    }
     Extent {
-        last: last,
-        fits: member_fits(in_struct, packed, x.last, size, m),
+        last: reached(in_struct, x.last, end),
+        fits: x.fits && member_fits(in_struct, packed, x.last, size, m),
     }
 }
 
@@ -139,68 +126,51 @@ fn next_member(
     packed: bool,
     x: Extent,
     m: BtfMember,
-) -> Extents
+) -> Result<Extent, Refusal>
     ensures { extents_of result
         ≡ one_member (btf_of b section.now work.now) in_struct packed x (rule_member b section.now m) }
 {
-    match field_size(b, section, work, m) {
-        Ask::Got(size) => match member_end(b, section, work, m) {
-            Ask::Got(end) => Extents::Got(with_member(in_struct, packed, x, size, end, m)),
-            Ask::No(c) => Extents::No(c),
-        },
-        Ask::No(c) => Extents::No(c),
-    }
+    let size = field_size(b, section, work, m)?;
+    let end = member_end(b, section, work, m)?;
+    Ok(with_member(in_struct, packed, x, size, end, m))
 }
 
-pub fn extent_of(b: TypeTable, section: &[u8], work: &[u8], t: BtfType, packed: bool) -> Extents
+pub fn extent_of(b: TypeTable, section: &[u8], work: &[u8], t: BtfType, packed: bool) -> Result<Extent, Refusal>
     ensures { extents_of result
         ≡ extent_of (btf_of b section.now work.now) (eqb (kind_of t.info) 4) packed no_extent
         (members_of b section.now t) }
 {
-    let vlen = vlen_of(t.info);
     let in_struct = is_struct(t);
     let mut x = Extent {
         last: 0,
         fits: true,
     };
-    let mut k: u32 = 0;
-    while k < vlen {
+    for k in 0..vlen_of(t.info) {
         let m = load_member(b, section, t, k);
-        match next_member(b, section, work, in_struct, packed, x, m) {
-            Extents::Got(y) => {
-                x = y;
-            }
-            Extents::No(c) => {
-                return Extents::No(c);
-            }
-        }
-        k += 1;
+        x = next_member(b, section, work, in_struct, packed, x, m)?;
     }
-    Extents::Got(x)
+    Ok(x)
 }
 
-fn size_fits(in_struct: bool, a: u32, last: u32, bits: u64) -> bool
+fn size_fits(in_struct: bool, a: u32, last: u32, bits: u32) -> bool
     ensures { result ≡ size_fits in_struct a last bits }
 {
     if in_struct {
-        return (last as u64) <= bits;
+        return last <= bits;
     }
-    bits == round_up(last, a)
+    (bits as u64) == round_up(last, a)
 }
 
-// 16 for a size over 4294967295 bits, then 18.
-pub fn judged(t: BtfType, a: u32, x: Extent, packed: bool) -> Packed
-    ensures { packed_of result ≡ judged (eqb (kind_of t.info) 4) t.type_id a packed (extent_is x) }
+// A size over 4294967295 bits comes before a member or a size that does not fit.
+pub fn judged(t: BtfType, a: u32, x: Extent, packed: bool) -> Result<bool, Refusal>
+    ensures { ask_of result ≡ judged (eqb (kind_of t.info) 4) t.type_id a packed (extent_is x) }
 {
-    let bits = (t.type_id as u64) * 8;
-    if limit::TWO_TO_32 <= bits {
-        return Packed::No(refusal::OVERFLOW);
-    }
+    let bits = t.type_id.checked_mul(8).ok_or(Refusal::Overflow)?;
     if !x.fits {
-        return Packed::No(refusal::MISPLACED);
+        return Err(Refusal::Misplaced);
     }
     if size_fits(is_struct(t), a, x.last, bits) {
-        return Packed::Is(packed);
+        return Ok(packed);
     }
-    Packed::No(refusal::MISPLACED)
+    Err(Refusal::Misplaced)
 }

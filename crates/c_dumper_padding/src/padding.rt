@@ -13,7 +13,6 @@ ghost use Rattle.c_dumper_padding.specs.padding.Asking.{pad_said};
 use crate::pads::{put_pads, put_placed_pads};
 use base_bytes::put::{put_byte, stop};
 use btf_layout::asked::gap_align;
-use btf_layout::size::Ask;
 use btf_type_table::kind::is_struct;
 use spec_type_table::{BtfMember, BtfType, TypeTable};
 
@@ -104,8 +103,8 @@ pub fn emit_bit_padding(
         return at;
     }
     match gap_align(b, section, work, m.type_id, packed) {
-        Ask::Got(a) => put_pads_before(b, text, at, offset, m.bit_size, end - offset, a, lvl),
-        Ask::No(c) => stop(text, at, c),
+        Ok(a) => put_pads_before(b, text, at, offset, m.bit_size, end - offset, a, lvl),
+        Err(c) => stop(text, at, u32::from(c)),
     }
 }
 

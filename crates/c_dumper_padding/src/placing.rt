@@ -2,43 +2,37 @@
 ghost use Rattle.std.specs.Prelude.{◌≡◌, eqb};
 ghost use Rattle.spec_type_table.specs.Records.{kind_of};
 ghost use Rattle.spec_type_table.specs.Table.{btf_of, members_of};
-ghost use Rattle.btf_layout.specs.asked.Asked.{packed_in};
+ghost use Rattle.btf_layout.specs.asked.Asked.{ask_in};
 ghost use Rattle.c_dumper_padding.specs.placing.Steps.{by_in, measured_in, body_in};
 
-use crate::extents::{Extents, extent_of, judged};
+use crate::extents::{extent_of, judged};
+use base_bytes::refusal::Refusal;
 use btf_layout::asked::{is_packed, union_align};
-use btf_layout::size::{Ask, Packed};
 use spec_type_table::{BtfType, TypeTable};
 
 // The packed test, then the members, then the whole.
-fn measured_by(b: TypeTable, section: &[u8], work: &mut [u8], id: u32, t: BtfType, a: u32) -> Packed
-    ensures { packed_in result work.new
+fn measured_by(b: TypeTable, section: &[u8], work: &mut [u8], id: u32, t: BtfType, a: u32) -> Result<bool, Refusal>
+    ensures { ask_in result work.new
         ≡ by_in b.types (btf_of b section.now work.old) (eqb (kind_of t.info) 4) id t.type_id
         (members_of b section.now t) a work.old }
 {
-    match is_packed(b, section, work, id, t) {
-        Packed::Is(packed) => match extent_of(b, section, work, t, packed) {
-            Extents::Got(x) => judged(t, a, x, packed),
-            Extents::No(c) => Packed::No(c),
-        },
-        Packed::No(c) => Packed::No(c),
-    }
+    let packed = is_packed(b, section, work, id, t)?;
+    let x = extent_of(b, section, work, t, packed)?;
+    judged(t, a, x, packed)
 }
 
-fn measured(b: TypeTable, section: &[u8], work: &mut [u8], id: u32, t: BtfType) -> Packed
-    ensures { packed_in result work.new
+fn measured(b: TypeTable, section: &[u8], work: &mut [u8], id: u32, t: BtfType) -> Result<bool, Refusal>
+    ensures { ask_in result work.new
         ≡ measured_in b.types (btf_of b section.now work.old) (eqb (kind_of t.info) 4) id t.type_id
         (members_of b section.now t) work.old }
 {
-    match union_align(b, section, work, id, t) {
-        Ask::Got(a) => measured_by(b, section, work, id, t, a),
-        Ask::No(c) => Packed::No(c),
-    }
+    let a = union_align(b, section, work, id, t)?;
+    measured_by(b, section, work, id, t, a)
 }
 
 // What is known of a body before its first name or byte: whether it is packed, or the refusal. The mode chooses.
-pub fn body_packed(b: TypeTable, section: &[u8], work: &mut [u8], id: u32, t: BtfType) -> Packed
-    ensures { packed_in result work.new
+pub fn body_packed(b: TypeTable, section: &[u8], work: &mut [u8], id: u32, t: BtfType) -> Result<bool, Refusal>
+    ensures { ask_in result work.new
         ≡ body_in b.types (btf_of b section.now work.old) (eqb (kind_of t.info) 4) id t.type_id
         (members_of b section.now t) work.old }
 {

@@ -16,8 +16,9 @@ use Rattle.spec_type_table.specs.declared.types.TypeTable.{TypeTable}
 use Rattle.spec_type_table.specs.Table.{from, btf_of, work_naming}
 use Rattle.c_dumper_name_versions.proofs.names.Resolve.{put_type_name}
 use Rattle.c_dumper_name_versions.proofs.forwards.Forwards.{keyword_same}
-use Rattle.btf_layout.specs.declared.size.Ask.{Ask as Code}
-use Rattle.btf_layout.specs.declared.size.Ask.TheVariants.{Got, No}
+use Rattle.std.specs.Prelude.{Result, Ok, Err}
+use Rattle.spec_bytes.specs.declared.refusal.Refusal.{Refusal}
+use Rattle.spec_bytes.specs.Refusals.{refusal_number}
 use Rattle.btf_layout.specs.size.Answers.{ask_of}
 use Rattle.c_dumper_bodies.specs.bodies.Pieces.{line_end, packed_text, size_text, member_tail, end_from, enum_text, no_decl}
 use Rattle.c_dumper_bodies.proofs.bodies.WordLaws.{size_is, line_some}
@@ -57,16 +58,19 @@ module _ (b : TypeTable) (s : List ℕ) (id : ℕ) (is_struct : Bool) (name a : 
       (also t₁ p _ _ w' q t₂ r t₃ w' e₂ (put_only t₂ q (ascii " {") w' r t₃ e₃)))
 
 -- ---- after a member
-ask_got : (x : Code) (n : ℕ) (a : Ask ℕ) → x ≡ Got n → ask_of x ≡ a → a ≡ got n
+abbrev Code : Type 0
+Code = Result ℕ Refusal
+
+ask_got : (x : Code) (n : ℕ) (a : Ask ℕ) → x ≡ Ok n → ask_of x ≡ a → a ≡ got n
 unfolding ask_of
 ask_got x n a e h = sym h ∙ ap ask_of e
 
-ask_no : (x : Code) (c : ℕ) (a : Ask ℕ) → x ≡ No c → ask_of x ≡ a → a ≡ no c
+ask_no : (x : Code) (c : Refusal) (a : Ask ℕ) → x ≡ Err c → ask_of x ≡ a → a ≡ no (refusal_number c)
 unfolding ask_of
 ask_no x c a e h = sym h ∙ ap ask_of e
 
 module _ (B : Rules) (id k : ℕ) (m : Member) (t : List ℕ) (at : ℕ) (w : List ℕ) (x : Code) (p : ℕ) (t₁ : List ℕ) where
-  pub tail_got : (n q : ℕ) (t₂ : List ℕ) (r : ℕ) (t₃ : List ℕ) → x ≡ Got n → ask_of x ≡ end_of B m
+  pub tail_got : (n q : ℕ) (t₂ : List ℕ) (r : ℕ) (t₃ : List ℕ) → x ≡ Ok n → ask_of x ≡ end_of B m
       → put_out p t₁ ≡ put_text t at (whole (size_text m.bit_size)) → put_out q t₂ ≡ put_text t₁ p (whole (decl_tags B k (B.decl_tags id))) → put_out r t₃ ≡ put_text t₂ q (whole (ascii ";"))
       → (out_of r t₃ w ≡ put_said t at (member_tail B id k m w)) × (n ≡ end_from (end_of B m))
   unfolding member_tail end_from
@@ -77,13 +81,13 @@ module _ (B : Rules) (id k : ℕ) (m : Member) (t : List ℕ) (at : ℕ) (w : Li
     sym (ap end_from (ask_got x n (end_of B m) ex ea)),
   )
 
-  pub tail_no : (c r : ℕ) → x ≡ No c → ask_of x ≡ end_of B m
-      → put_out p t₁ ≡ put_text t at (whole (size_text m.bit_size)) → put_out r t₁ ≡ put_text t₁ p (cut [] c)
+  pub tail_no : (c : Refusal) (n r : ℕ) → x ≡ Err c → n ≡ refusal_number c → ask_of x ≡ end_of B m
+      → put_out p t₁ ≡ put_text t at (whole (size_text m.bit_size)) → put_out r t₁ ≡ put_text t₁ p (cut [] n)
       → (out_of r t₁ w ≡ put_said t at (member_tail B id k m w)) × (0 ≡ end_from (end_of B m))
   unfolding member_tail end_from
-  tail_no c r ex ea e₁ e₂ = (
+  tail_no c n r ex en ea e₁ e₂ = (
     also t at _ _ w p t₁ r t₁ w (e₁ ∙ ap (put_text t at) (ap whole (size_is m)))
-        (put_refused t₁ p (λ end. emit_decl_tags B id k ⨾ put (ascii ";")) w c (end_of B m) r t₁ w (ask_no x c (end_of B m) ex ea) (stop_only t₁ p c w r t₁ e₂)),
+        (put_refused t₁ p (λ end. emit_decl_tags B id k ⨾ put (ascii ";")) w (refusal_number c) (end_of B m) r t₁ w (ask_no x c (end_of B m) ex ea) (stop_only t₁ p (refusal_number c) w r t₁ (e₂ ∙ ap (λ (z : ℕ). put_text t₁ p (cut [] z)) en))),
     sym (ap end_from (ask_no x c (end_of B m) ex ea)),
   )
 

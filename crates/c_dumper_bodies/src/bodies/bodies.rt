@@ -16,7 +16,6 @@ use crate::enumerators::put_enum_name;
 use crate::enums::emit_enum_def;
 use base_bytes::put::{put_byte, put_tabs, put_two, stop};
 use btf_layout::member_end::member_end;
-use btf_layout::size::Ask;
 use btf_type_table::kind::{is_struct, vlen_of};
 use btf_type_table::name::is_empty;
 use c_dumper_name_versions::forwards::put_keyword;
@@ -107,15 +106,15 @@ pub fn emit_member_end(
 {
     let a = put_bit_size(text, at, m.bit_size);
     match member_end(b, section, work, m) {
-        Ask::Got(offset) => {
+        Ok(offset) => {
             let c = emit_decl_tags(b, section, work, text, a, id, k);
             Spot {
                 at: put_byte(text, c, b';'),
                 offset: offset,
             }
         }
-        Ask::No(c) => Spot {
-            at: stop(text, a, c),
+        Err(c) => Spot {
+            at: stop(text, a, u32::from(c)),
             offset: 0,
         },
     }

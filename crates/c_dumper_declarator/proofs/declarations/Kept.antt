@@ -26,11 +26,11 @@ use Rattle.c_dumper_bodies.proofs.chain.Linked.{false_true}
 use Rattle.spec_c_dumper.specs.alignment_once.Once.{Remembered as Alignment, Once, found, refused, memory_after, member_count}
 use Rattle.btf_layout.specs.remembered.Words.{coded, with_visits as visited, remembered, work_keep}
 use Rattle.btf_layout.proofs.remembered.Keeps.{table_keeps}
-use Rattle.btf_layout.specs.asked.Asked.{packed_in, work_asks}
+use Rattle.btf_layout.specs.asked.Asked.{ask_in, work_asks}
 use Rattle.btf_layout.proofs.asked.Stays.{Stays, stays_forget, stays_padding, stays_body}
 use Rattle.c_dumper_padding.specs.placing.Steps.{body_in}
-use Rattle.btf_layout.specs.declared.size.Packed.{Packed}
-use Rattle.btf_layout.specs.declared.size.Packed.TheVariants.{Is, No}
+use Rattle.std.specs.Prelude.{Result, Ok, Err}
+use Rattle.spec_bytes.specs.declared.refusal.Refusal.{Refusal}
 
 -- ---- where no refusal stopped the writing, the names are those that the writer left
 module _ {U : Type 0} where
@@ -144,12 +144,12 @@ module _ (b : TypeTable) (s : List ℕ) where
   pub keeps_body : (B : Rules) (is_struct : Bool) (id sz : ℕ) (ms : List Member) (w : List ℕ) → seen (memory_after ((work_asks b.types B).body is_struct id sz ms w)) ≡ seen w
   keeps_body B is_struct id sz ms w = memory_stays w _ (stays_body seen (work_keep b.types B) B (keeps_remember B) is_struct id sz ms w (get_field w 0 2))
 
-  told_body : (w : List ℕ) (y : Packed) (u : List ℕ) → Stays seen w (packed_in y u) → seen u ≡ seen w
-  unfolding packed_in
-  told_body w (Is p) u h = h
-  told_body w (No c) u h = h
+  told_body : (w : List ℕ) (y : Result Bool Refusal) (u : List ℕ) → Stays seen w (ask_in y u) → seen u ≡ seen w
+  unfolding ask_in
+  told_body w (Ok p) u h = h
+  told_body w (Err c) u h = h
 
-  pub body_seen : (is_struct : Bool) (id sz : ℕ) (ms : List Member) (w : List ℕ) (y : Packed) (u : List ℕ) → packed_in y u ≡ body_in b.types (btf_of b s w) is_struct id sz ms w → seen u ≡ seen w
+  pub body_seen : (is_struct : Bool) (id sz : ℕ) (ms : List Member) (w : List ℕ) (y : Result Bool Refusal) (u : List ℕ) → ask_in y u ≡ body_in b.types (btf_of b s w) is_struct id sz ms w → seen u ≡ seen w
   unfolding body_in
   body_seen is_struct id sz ms w y u e =
       told_body w y u (subst (Stays seen w) (sym e) (stays_forget seen w _ (stays_body seen (work_keep b.types (btf_of b s w)) (btf_of b s w) (keeps_remember (btf_of b s w)) is_struct id sz ms w 0)))

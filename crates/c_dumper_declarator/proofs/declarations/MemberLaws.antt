@@ -16,7 +16,7 @@ use Rattle.spec_c_dumper.specs.rules.Decl.{deeper, tail_text, decl_tags, emit_de
 use Rattle.spec_c_dumper.specs.alignment_once.Writers.{given_once, emit_members_once, composite_body_once, composite_def_once, emit_type_decl_once, emit_composite_def_once, emit_typedef_def_once}
 use Rattle.spec_c_dumper.proofs.alignment_once.Keeps.{keeps_members}
 use Rattle.btf_layout.specs.remembered.Words.{work_keep, forget}
-use Rattle.btf_layout.specs.asked.Asked.{packed_in}
+use Rattle.btf_layout.specs.asked.Asked.{ask_in}
 use Rattle.btf_layout.proofs.asked.Stays.{steady_body}
 use Rattle.btf_layout.proofs.asked.Given.{given_found, given_refused}
 use Rattle.c_dumper_padding.specs.placing.Steps.{body_in}
@@ -29,8 +29,9 @@ use Rattle.spec_type_table.specs.declared.types.BtfType.{BtfType as Record}
 use Rattle.spec_type_table.specs.Names.{str_at}
 use Rattle.spec_type_table.specs.Records.{section_word, param_at, member_of}
 use Rattle.spec_type_table.specs.Table.{from, param_of, rule_member, btf_of}
-use Rattle.btf_layout.specs.declared.size.Packed.{Packed}
-use Rattle.btf_layout.specs.declared.size.Packed.TheVariants.{Is, No as NoPacked}
+use Rattle.std.specs.Prelude.{Result, Ok, Err}
+use Rattle.spec_bytes.specs.declared.refusal.Refusal.{Refusal}
+use Rattle.spec_bytes.specs.Refusals.{refusal_number}
 use Rattle.spec_type_table.specs.Cells.{get_field}
 use Rattle.c_dumper_name_versions.proofs.names.Resolve.{put_type_name, resolved_type}
 use Rattle.c_dumper_bodies.specs.bodies.Pieces.{comma, params_below, param_text, member_tail, member_text, members_below, end_from, no_decl}
@@ -250,15 +251,15 @@ module _ (b : TypeTable) (s : List ℕ) where
       pub def_builtin : r ≡ at → builtin name ≡ true → Defined txt w
       def_builtin e q = def_as nothing txt w (none_of q) (ap (λ (j : ℕ). out_of j txt w) e ∙ put_nothing txt at w)
 
-      module _ (q : builtin name ≡ false) (y : Packed) (w₀ : List ℕ) (a : packed_in y w₀ ≡ body_in b.types (T b s w) is_struct id sz ms w) where
+      module _ (q : builtin name ≡ false) (y : Result Bool Refusal) (w₀ : List ℕ) (a : ask_in y w₀ ≡ body_in b.types (T b s w) is_struct id sz ms w) where
         -- what the question comes to, whatever the visits before
-        asked : packed_in y w₀ ≡ forget ((Q b s (T b s w)).body is_struct id sz ms w)
+        asked : ask_in y w₀ ≡ forget ((Q b s (T b s w)).body is_struct id sz ms w)
         unfolding body_in
         asked = a ∙ sym (steady_body (work_keep b.types (T b s w)) (T b s w) is_struct id sz ms w (get_field w 0 2))
 
-        pub def_refused : (c : ℕ) → y ≡ NoPacked c → put_out r txt ≡ put_text txt at (cut [] c) → Defined txt w₀
-        unfolding packed_in
-        def_refused c e o = def_as _ txt w₀ (body_of q) (given_refused txt at ((Q b s (T b s w)).body is_struct id sz ms) _ w w₀ r txt c (sym (ap (λ (z : Packed). packed_in z w₀) e) ∙ asked) o)
+        pub def_refused : (c : Refusal) (n : ℕ) → y ≡ Err c → n ≡ refusal_number c → put_out r txt ≡ put_text txt at (cut [] n) → Defined txt w₀
+        unfolding ask_in
+        def_refused c n e en o = def_as _ txt w₀ (body_of q) (given_refused txt at ((Q b s (T b s w)).body is_struct id sz ms) _ w w₀ r txt (refusal_number c) (sym (ap (λ (z : Result Bool Refusal). ask_in z w₀) e) ∙ asked) (o ∙ ap (λ (z : ℕ). put_text txt at (cut [] z)) en))
 
         abbrev body_on : Bool → Seen b s → Writer (List ℕ)
         body_on packed x =
@@ -281,15 +282,15 @@ module _ (b : TypeTable) (s : List ℕ) where
             (said_as t₁ p _ _ w₁ o t₂ w₂ (ap (λ (j : ℕ). members_below (Q b s (T b s w₁)) (N b s) (T b s w₁) (left - 1) id (tail_pads b.placing b.ptr_sz is_struct sz) j packed 0 0 ms) ed) e₂)
             e₃)
 
-        pub def_body : (packed : Bool) (deep p : ℕ) (t₁ w₁ : List ℕ) (o : ℕ) (t₂ w₂ t₃ : List ℕ) → y ≡ Is packed → deep ≡ deeper lvl
+        pub def_body : (packed : Bool) (deep p : ℕ) (t₁ w₁ : List ℕ) (o : ℕ) (t₂ w₂ t₃ : List ℕ) → y ≡ Ok packed → deep ≡ deeper lvl
             → out_of p t₁ w₁ ≡ put_said txt at (composite_head (N b s) (T b s w₀) no_decl id is_struct name w₀)
             → out_of o t₂ w₂ ≡ put_said t₁ p (members_below (Q b s (T b s w₁)) (N b s) (T b s w₁) (left - 1) id (tail_pads b.placing b.ptr_sz is_struct sz) deep packed 0 0 ms w₁)
             → out_of r t₃ w₂ ≡ put_said t₂ o (composite_end (N b s) (T b s w₂) no_decl id lvl ms packed w₂)
             → Defined t₃ w₂
-        unfolding packed_in composite_body_once composite_head composite_end seen btf_of
+        unfolding ask_in composite_body_once composite_head composite_end seen btf_of
         def_body packed deep p t₁ w₁ o t₂ w₂ t₃ e ed e₁ e₂ e₃ =
             def_as _ t₃ w₂ (body_of q)
-            (given_found txt at ((Q b s (T b s w)).body is_struct id sz ms) _ w w₀ r t₃ packed w₂ (sym (ap (λ (z : Packed). packed_in z w₀) e) ∙ asked)
+            (given_found txt at ((Q b s (T b s w)).body is_struct id sz ms) _ w w₀ r t₃ packed w₂ (sym (ap (λ (z : Result Bool Refusal). ask_in z w₀) e) ∙ asked)
             (body_put packed deep p t₁ w₁ o t₂ w₂ t₃ ed e₁ e₂ e₃ ∙ ap (λ (x : Seen b s). put_said txt at (body_on packed x w₀)) (body_seen b s is_struct id sz ms w y w₀ a)))
 
   -- ---- emit_typedef_def

@@ -12,7 +12,6 @@ ghost use Rattle.c_dumper_bodies.specs.bodies.Pieces.{member_text, members_below
 use crate::declarations::{Declarator, emit_type_decl};
 use base_bytes::put::{put_byte, put_tabs, stop, stopped};
 use base_bytes::refusal;
-use btf_layout::size::Packed;
 use btf_type_table::entry::load_member;
 use btf_type_table::kind::vlen_of;
 use btf_type_table::name::is_builtin;
@@ -50,7 +49,7 @@ pub fn emit_composite_def(
         return at;
     }
     match body_packed(b, section, work, id, t) {
-        Packed::Is(packed) => {
+        Ok(packed) => {
             let a = emit_composite_head(b, section, work, text, at, id, t);
             let c = emit_members(
                 b,
@@ -66,7 +65,7 @@ pub fn emit_composite_def(
             );
             emit_composite_end(b, section, work, text, c, id, t, packed, lvl)
         }
-        Packed::No(c) => stop(text, at, c),
+        Err(c) => stop(text, at, u32::from(c)),
     }
 }
 

@@ -7,6 +7,11 @@ use native.Mathlib.Omega.{arith}
 use native.Mathlib.Nat.{div-zero, mul-zero}
 use lib.Dec.{eqb, leb}
 use borrow.Author.Tests.{le-leb, lt-leb, eq-eqb, ne_eqb, lt-ltb, le-ltb}
+use Rattle.std.specs.Prelude.{◌^◌, max, Option, Some, None, SomeIff, Result, Ok, Err}
+use Rattle.std.specs.Option.{ok_or}
+use Rattle.btf_layout.proofs.remembered.Laws.{max_larger}
+use Rattle.spec_bytes.specs.declared.refusal.Refusal.{Refusal}
+use Rattle.spec_bytes.specs.declared.refusal.Refusal.TheVariants.{Overflow, Misplaced}
 use Rattle.spec_c_dumper.specs.rules.Writer.{Ask, got, no, ask_then, checked, misplaced}
 use Rattle.spec_c_dumper.specs.rules.Types.{Member, Btf as Rules}
 use Rattle.spec_c_dumper.specs.rules.Layout.{larger, get_size_of, end_of}
@@ -16,14 +21,15 @@ use Rattle.spec_type_table.specs.declared.types.BtfType.{BtfType as Record}
 use Rattle.spec_type_table.specs.declared.types.BtfMember.{BtfMember}
 use Rattle.spec_type_table.specs.Records.{vlen_of, member_of}
 use Rattle.spec_type_table.specs.Table.{from, rule_member, members_of, btf_of}
-use Rattle.btf_layout.specs.declared.size.Ask.{Ask as Answer}
-use Rattle.btf_layout.specs.declared.size.Ask.TheVariants as ask
-use Rattle.btf_layout.specs.declared.size.Packed.TheVariants as packed
-use Rattle.btf_layout.specs.size.Answers.{ask_of, packed_of}
+use Rattle.btf_layout.specs.size.Answers.{ask_of}
 use Rattle.c_dumper_padding.specs.declared.extents.Extent.{Extent as Code}
-use Rattle.c_dumper_padding.specs.declared.extents.Extents.{Extents}
-use Rattle.c_dumper_padding.specs.declared.extents.Extents.TheVariants.{Got, No}
 use Rattle.c_dumper_padding.specs.extents.Steps.{extent_is, extents_of, with_extent, one_member, judged}
+
+abbrev Extents : Type 0
+Extents = Result Code Refusal
+
+abbrev Answer : Type 0
+Answer = Result ℕ Refusal
 
 -- ---- round_up
 module _ (n a : ℕ) where
@@ -98,7 +104,7 @@ module _ (s p : Bool) (last size off w : ℕ) (q : Bool) (eq : q ≡ start_fits 
 
 -- ---- field_size
 module _ (b : TypeTable) (s w : List ℕ) (m : BtfMember) where
-  pub size_plain : m.bit_size ≡ 0 → ask_of (ask.Got 0) ≡ field_size (btf_of b s w) (rule_member b s m)
+  pub size_plain : m.bit_size ≡ 0 → ask_of (Ok 0) ≡ field_size (btf_of b s w) (rule_member b s m)
   unfolding ask_of field_size
   size_plain z = rw z
 
@@ -112,15 +118,15 @@ module _ (s : Bool) (last end : ℕ) where
   unfolding reached
   reached_struct e = rw e
 
-  pub reached_union : s ≡ false → (r : ℕ) → r ≡ larger last end → r ≡ reached s last end
+  pub reached_union : s ≡ false → (r : ℕ) → r ≡ max last end → r ≡ reached s last end
   unfolding reached
-  reached_union e r er = er ∙ rw e
+  reached_union e r er = er ∙ max_larger last end ∙ rw e
 
 -- ---- with_member
 module _ (s p : Bool) (x : Code) (size end off w last : ℕ) (el : last ≡ reached s x.last end) where
-  pub with_misfit : x.fits ≡ false → extent_is (record { last = last; fits = false }) ≡ with_extent s p x size end off w
+  pub with_misfit : x.fits ≡ false → extent_is (record { last = last; fits = x.fits }) ≡ with_extent s p x size end off w
   unfolding extent_is with_extent with_member
-  with_misfit e = let q : false ≡ (x.fits && member_fits s p x.last size off w) = rw e in λ i. record { last = el i; fits = q i }
+  with_misfit e = let q : x.fits ≡ (x.fits && member_fits s p x.last size off w) = e ∙ rw e in λ i. record { last = el i; fits = q i }
 
   pub with_fit : x.fits ≡ true → (f : Bool) → f ≡ member_fits s p x.last size off w → extent_is (record { last = last; fits = f }) ≡ with_extent s p x size end off w
   unfolding extent_is with_extent with_member
@@ -128,20 +134,20 @@ module _ (s p : Bool) (x : Code) (size end off w last : ℕ) (el : last ≡ reac
 
 -- ---- next_member
 module _ (B : Rules) (s p : Bool) (x : Code) (m : Member) where
-  pub next_none : (r : Answer) (c : ℕ) → ask_of r ≡ field_size B m → r ≡ ask.No c → extents_of (No c) ≡ one_member B s p x m
+  pub next_none : (r : Answer) (c : Refusal) → ask_of r ≡ field_size B m → r ≡ Err c → extents_of (Err c) ≡ one_member B s p x m
   unfolding extents_of one_member ask_of ask_then
   next_none r c er e = ap (λ (y : Ask ℕ). ask_then y (λ size. ask_then (end_of B m) (λ end. got (with_extent s p x size end m.bit_offset m.bit_size)))) (sym (ap ask_of e) ∙ er)
 
-  module _ (r : Answer) (size : ℕ) (er : ask_of r ≡ field_size B m) (e : r ≡ ask.Got size) where
+  module _ (r : Answer) (size : ℕ) (er : ask_of r ≡ field_size B m) (e : r ≡ Ok size) where
     sized : one_member B s p x m ≡ ask_then (end_of B m) (λ end. got (with_extent s p x size end m.bit_offset m.bit_size))
     unfolding one_member ask_of ask_then
     sized = ap (λ (y : Ask ℕ). ask_then y (λ size. ask_then (end_of B m) (λ end. got (with_extent s p x size end m.bit_offset m.bit_size)))) (sym er ∙ ap ask_of e)
 
-    pub next_endless : (q : Answer) (c : ℕ) → ask_of q ≡ end_of B m → q ≡ ask.No c → extents_of (No c) ≡ one_member B s p x m
+    pub next_endless : (q : Answer) (c : Refusal) → ask_of q ≡ end_of B m → q ≡ Err c → extents_of (Err c) ≡ one_member B s p x m
     unfolding extents_of ask_of ask_then
     next_endless q c eq f = ap (λ (y : Ask ℕ). ask_then y (λ end. got (with_extent s p x size end m.bit_offset m.bit_size))) (sym (ap ask_of f) ∙ eq) ∙ sym sized
 
-    pub next_got : (q : Answer) (end : ℕ) → ask_of q ≡ end_of B m → q ≡ ask.Got end → (y : Code) → extent_is y ≡ with_extent s p x size end m.bit_offset m.bit_size → extents_of (Got y) ≡ one_member B s p x m
+    pub next_got : (q : Answer) (end : ℕ) → ask_of q ≡ end_of B m → q ≡ Ok end → (y : Code) → extent_is y ≡ with_extent s p x size end m.bit_offset m.bit_size → extents_of (Ok y) ≡ one_member B s p x m
     unfolding extents_of ask_of ask_then
     next_got q end eq f y ey = ap got ey ∙ ap (λ (z : Ask ℕ). ask_then z (λ end. got (with_extent s p x size end m.bit_offset m.bit_size))) (sym (ap ask_of f) ∙ eq) ∙ sym sized
 
@@ -174,15 +180,15 @@ module _ (B : Rules) (b : TypeTable) (s : List ℕ) (t : Record) (is p : Bool) w
         ∙ ap (λ (y : BtfMember). ask_then (one_member B is p x (rule_member b s y)) (λ y. extent_rest y (k + 1))) (sym em)
         ∙ ap (λ (y : Ask Extent). ask_then y (λ y. extent_rest y (k + 1))) (sym er)
 
-    pub extent_more : (T : Ask Extent) (y : Code) → T ≡ extent_rest (extent_is x) k → r ≡ Got y → T ≡ extent_rest (extent_is y) (k + 1)
+    pub extent_more : (T : Ask Extent) (y : Code) → T ≡ extent_rest (extent_is x) k → r ≡ Ok y → T ≡ extent_rest (extent_is y) (k + 1)
     unfolding ask_then extents_of
     extent_more T y i g = i ∙ extent_step ∙ ap (λ (z : Extents). ask_then (extents_of z) (λ y. extent_rest y (k + 1))) g
 
-    pub extent_refused : (T : Ask Extent) (c : ℕ) → T ≡ extent_rest (extent_is x) k → r ≡ No c → extents_of (No c) ≡ T
+    pub extent_refused : (T : Ask Extent) (c : Refusal) → T ≡ extent_rest (extent_is x) k → r ≡ Err c → extents_of (Err c) ≡ T
     unfolding ask_then extents_of
     extent_refused T c i g = sym (i ∙ extent_step ∙ ap (λ (z : Extents). ask_then (extents_of z) (λ y. extent_rest y (k + 1))) g)
 
-  pub extent_end : (T : Ask Extent) (x : Code) (k n : ℕ) → T ≡ extent_rest (extent_is x) k → n ≡ vlen_of t.info → n ≤ k → extents_of (Got x) ≡ T
+  pub extent_end : (T : Ask Extent) (x : Code) (k n : ℕ) → T ≡ extent_rest (extent_is x) k → n ≡ vlen_of t.info → n ≤ k → extents_of (Ok x) ≡ T
   unfolding extent_rest from extent_of extents_of
   extent_end T x k n i en l =
       let z : vlen_of t.info - k ≡ 0 = omega arith in
@@ -205,6 +211,14 @@ pub size_as : (is kind : Bool) (a last bits : ℕ) (r : Bool) → is ≡ kind �
 size_as is kind a last bits r e er = er ∙ ap (λ (z : Bool). size_fits z a last bits) e
 
 -- ---- judged
+pub in_bits : (n : ℕ) (o : Option ℕ) → SomeIff o (n * 8 < 2 ^ 32) (n * 8) → (r : Answer) → r ≡ ok_or o Overflow → (bits : ℕ) → r ≡ Ok bits → (n * 8 < 4294967296) × (bits ≡ n * 8)
+in_bits n (Some y) h r e bits g = (h.0, let q : ◌≡◌ {A = Answer} (Ok bits) (Ok y) = sym g ∙ e in (cc) ∙ h.1)
+in_bits n None h r e bits g = let q : ◌≡◌ {A = Answer} (Ok bits) (Err Overflow) = sym g ∙ e in cc
+
+pub past_bits : (n : ℕ) (o : Option ℕ) → SomeIff o (n * 8 < 2 ^ 32) (n * 8) → (r : Answer) → r ≡ ok_or o Overflow → (c : Refusal) → r ≡ Err c → (4294967296 ≤ n * 8) × (c ≡ Overflow)
+past_bits n (Some y) h r e c g = let q : ◌≡◌ {A = Answer} (Err c) (Ok y) = sym g ∙ e in cc
+past_bits n None h r e c g = let q : ◌≡◌ {A = Answer} (Err c) (Err Overflow) = sym g ∙ e in (omega (arith, h), cc)
+
 module _ (is : Bool) (sz a : ℕ) (p : Bool) (x : Code) where
   large : 4294967296 ≤ sz * 8 → checked (8 * sz) ≡ no 16
   unfolding checked
@@ -214,8 +228,8 @@ module _ (is : Bool) (sz a : ℕ) (p : Bool) (x : Code) where
   unfolding checked
   small h = let l : 8 * sz < 4294967296 = omega arith in rw (lt-ltb (8 * sz) 4294967296 l, checked)
 
-  pub judged_large : 4294967296 ≤ sz * 8 → packed_of (packed.No 16) ≡ judged is sz a p (extent_is x)
-  unfolding packed_of judged ask_then
+  pub judged_large : 4294967296 ≤ sz * 8 → ask_of {A = Bool} (Err Overflow) ≡ judged is sz a p (extent_is x)
+  unfolding ask_of judged ask_then
   judged_large h = sym (ap (λ (y : Ask ℕ). ask_then y (λ bits. elim ((extent_is x).fits && size_fits is a (extent_is x).last bits) as (λ _. Ask Bool) [ true ↦ got p | false ↦ no misplaced ])) (large h))
 
   module _ (h : sz * 8 < 4294967296) where
@@ -226,15 +240,15 @@ module _ (is : Bool) (sz a : ℕ) (p : Bool) (x : Code) where
         ap (λ (y : Ask ℕ). ask_then y (λ bits. elim (x.fits && size_fits is a x.last bits) as (λ _. Ask Bool) [ true ↦ got p | false ↦ no misplaced ])) (small h)
         ∙ ap (λ (bits : ℕ). elim (x.fits && size_fits is a x.last bits) as (λ _. Ask Bool) [ true ↦ got p | false ↦ no misplaced ]) e
 
-    pub judged_misfit : x.fits ≡ false → packed_of (packed.No 18) ≡ judged is sz a p (extent_is x)
-    unfolding packed_of
+    pub judged_misfit : x.fits ≡ false → ask_of {A = Bool} (Err Misplaced) ≡ judged is sz a p (extent_is x)
+    unfolding ask_of
     judged_misfit e = rw (sized_so, e)
 
     module _ (t : x.fits ≡ true) (q : Bool) (eq : q ≡ size_fits is a x.last (sz * 8)) where
-      pub judged_sound : q ≡ true → packed_of (packed.Is p) ≡ judged is sz a p (extent_is x)
-      unfolding packed_of
+      pub judged_sound : q ≡ true → ask_of (Ok p) ≡ judged is sz a p (extent_is x)
+      unfolding ask_of
       judged_sound e = let f : size_fits is a x.last (sz * 8) ≡ true = sym eq ∙ e in rw (sized_so, t, f)
 
-      pub judged_size : q ≡ false → packed_of (packed.No 18) ≡ judged is sz a p (extent_is x)
-      unfolding packed_of
+      pub judged_size : q ≡ false → ask_of {A = Bool} (Err Misplaced) ≡ judged is sz a p (extent_is x)
+      unfolding ask_of
       judged_size e = let f : size_fits is a x.last (sz * 8) ≡ false = sym eq ∙ e in rw (sized_so, t, f)

@@ -12,8 +12,9 @@ use Rattle.spec_c_dumper.specs.rules.Decl.{pads}
 use Rattle.spec_c_dumper.specs.rules.Place.{out_of, put_said}
 use Rattle.spec_c_dumper.proofs.rules.Writing.{put_only, put_nothing}
 use Rattle.spec_type_table.specs.Cells.{get_field}
-use Rattle.btf_layout.specs.declared.size.Ask.{Ask as Answer}
-use Rattle.btf_layout.specs.declared.size.Ask.TheVariants.{Got, No}
+use Rattle.std.specs.Prelude.{Result, Ok, Err}
+use Rattle.spec_bytes.specs.declared.refusal.Refusal.{Refusal}
+use Rattle.spec_bytes.specs.Refusals.{refusal_number}
 use Rattle.spec_c_dumper.specs.alignment_once.Once.{Keep, Once, found, Asking, once_then}
 use Rattle.spec_c_dumper.specs.alignment_once.Steps.{gap_align_once, padding_once}
 use Rattle.btf_layout.specs.remembered.Words.{work_keep, forget}
@@ -22,6 +23,9 @@ use Rattle.btf_layout.specs.asked.Asked.{ask_in, gap_in, work_asks}
 use Rattle.btf_layout.proofs.asked.Stays.{Steady, steady_padding}
 use Rattle.btf_layout.proofs.asked.Given.{given_found, given_refused}
 use Rattle.c_dumper_padding.specs.padding.Asking.{pad_said}
+
+abbrev Answer : Type 0
+Answer = Result ℕ Refusal
 
 module _ (types : ℕ) (B : Rules) (offset : ℕ) (m : Member) (packed : Bool) (lvl : ℕ) (t : List ℕ) (at : ℕ) (w : List ℕ) where
   abbrev K : Keep (List ℕ)
@@ -57,13 +61,13 @@ module _ (types : ℕ) (B : Rules) (offset : ℕ) (m : Member) (packed : Bool) (
         ∙ ap (λ (q : Bool). forget {M = List ℕ} {A = List Pad} (elim q as (λ (z : Bool). Once (List ℕ) (List Pad)) [ true ↦ found [] w 0 | false ↦ once_then (gap_align_once K B packed m.type_id w 0) pads_on ])) (sym (lt-leb m.bit_offset offset h))
         ∙ asked
 
-    pub emit_gap : (pl : Bool) (p a r : ℕ) (t' : List ℕ) → pl ≡ B.placing → p ≡ B.ptr_sz → y ≡ Got a → put_out r t' ≡ put_text t at (whole (pads lvl (pads_before pl p offset m.bit_size (m.bit_offset - offset) a)))
+    pub emit_gap : (pl : Bool) (p a r : ℕ) (t' : List ℕ) → pl ≡ B.placing → p ≡ B.ptr_sz → y ≡ Ok a → put_out r t' ≡ put_text t at (whole (pads lvl (pads_before pl p offset m.bit_size (m.bit_offset - offset) a)))
         → out_of r t' u ≡ put_said t at (pad_said types B offset m packed lvl w)
     unfolding pad_said ask_in next forget
     emit_gap pl p a r t' el ep g e =
         given_found t at ask (λ ps. put (pads lvl ps)) w u r t' _ u (ap (λ (z : Answer). next pads_on (ask_in z u)) (sym g) ∙ gap)
         (put_only t at _ u r t' (e ∙ ap₂ (λ (l : Bool) (n : ℕ). put_text t at (whole (pads lvl (pads_before l n offset m.bit_size (m.bit_offset - offset) a)))) el ep))
 
-    pub emit_refused : (c r : ℕ) (t' : List ℕ) → y ≡ No c → put_out r t' ≡ put_text t at (cut [] c) → out_of r t' u ≡ put_said t at (pad_said types B offset m packed lvl w)
+    pub emit_refused : (c : Refusal) (n r : ℕ) (t' : List ℕ) → y ≡ Err c → n ≡ refusal_number c → put_out r t' ≡ put_text t at (cut [] n) → out_of r t' u ≡ put_said t at (pad_said types B offset m packed lvl w)
     unfolding pad_said ask_in next
-    emit_refused c r t' g e = given_refused t at ask (λ ps. put (pads lvl ps)) w u r t' c (ap (λ (z : Answer). next pads_on (ask_in z u)) (sym g) ∙ gap) e
+    emit_refused c n r t' g en e = given_refused t at ask (λ ps. put (pads lvl ps)) w u r t' (refusal_number c) (ap (λ (z : Answer). next pads_on (ask_in z u)) (sym g) ∙ gap) (e ∙ ap (λ (z : ℕ). put_text t at (cut [] z)) en)

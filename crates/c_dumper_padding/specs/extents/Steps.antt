@@ -1,20 +1,20 @@
 -- The measuring of a body (rules, Placing), step by step.
-use Rattle.std.specs.Prelude.{ℕ, ◌*◌, Bool, true, false, ◌&&◌}
+use Rattle.std.specs.Prelude.{ℕ, ◌*◌, Bool, true, false, ◌&&◌, Result, Ok, Err}
+use Rattle.spec_bytes.specs.declared.refusal.Refusal.{Refusal}
+use Rattle.spec_bytes.specs.Refusals.{refusal_number}
 use Rattle.spec_c_dumper.specs.rules.Writer.{Ask, got, no, ask_then, checked, misplaced}
 use Rattle.spec_c_dumper.specs.rules.Types.{Member, Btf}
 use Rattle.spec_c_dumper.specs.rules.Layout.{end_of}
 use Rattle.spec_c_dumper.specs.rules.Placing.{Extent, field_size, with_member, size_fits}
 use Rattle.c_dumper_padding.specs.declared.extents.Extent.{Extent as Code}
-use Rattle.c_dumper_padding.specs.declared.extents.Extents.{Extents}
-use Rattle.c_dumper_padding.specs.declared.extents.Extents.TheVariants.{Got, No}
 
 -- what the code's answers say, as the rules have it
 unfoldable pub extent_is : Code → Extent
 extent_is x = record { last = x.last; fits = x.fits }
 
-unfoldable pub extents_of : Extents → Ask Extent
-extents_of (Got x) = got (extent_is x)
-extents_of (No c) = no c
+unfoldable pub extents_of : Result Code Refusal → Ask Extent
+extents_of (Ok x) = got (extent_is x)
+extents_of (Err c) = no (refusal_number c)
 
 unfoldable pub with_extent : Bool → Bool → Code → ℕ → ℕ → ℕ → ℕ → Extent
 with_extent is_struct packed x size end bit_offset bit_size = with_member is_struct packed (extent_is x) size end bit_offset bit_size

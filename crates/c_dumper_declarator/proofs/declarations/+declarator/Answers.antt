@@ -178,11 +178,11 @@ members::emit_composite_def-returns-then-stopped t c = said_stopped _ _ _ _ (sym
 pub members::emit_composite_def-returns-then-is_builtin : goal.members::emit_composite_def-returns-then-is_builtin
 members::emit_composite_def-returns-then-is_builtin t c = members.def_builtin _ _ _ _ _ _ _ _ _ _ _ _ _ c.if-left-eq0.false refl (sym c.is_builtin.ensures ∙ c.if-is_builtin.true)
 
-pub members::emit_composite_def-returns-in-Is : goal.members::emit_composite_def-returns-in-Is
-members::emit_composite_def-returns-in-Is t c = members.def_body _ _ _ _ _ _ _ _ _ _ _ _ _ c.if-left-eq0.false (sym c.is_builtin.ensures ∙ c.if-is_builtin.false) _ _ c.body_packed.ensures _ _ _ _ _ _ _ _ _ c.in-Is.is c.deeper.ensures c.emit_composite_head-a.ensures c.emit_members-c.ensures c.emit_composite_end.ensures
+pub members::emit_composite_def-returns-in-Ok : goal.members::emit_composite_def-returns-in-Ok
+members::emit_composite_def-returns-in-Ok t c = members.def_body _ _ _ _ _ _ _ _ _ _ _ _ _ c.if-left-eq0.false (sym c.is_builtin.ensures ∙ c.if-is_builtin.false) _ _ c.body_packed.ensures _ _ _ _ _ _ _ _ _ c.in-Ok.is c.deeper.ensures c.emit_composite_head-a.ensures c.emit_members-c.ensures c.emit_composite_end.ensures
 
-pub members::emit_composite_def-returns-in-No : goal.members::emit_composite_def-returns-in-No
-members::emit_composite_def-returns-in-No t c = members.def_refused _ _ _ _ _ _ _ _ _ _ _ _ _ c.if-left-eq0.false (sym c.is_builtin.ensures ∙ c.if-is_builtin.false) _ _ c.body_packed.ensures _ c.in-No.is c.stop-in-No.ensures
+pub members::emit_composite_def-returns-in-Err : goal.members::emit_composite_def-returns-in-Err
+members::emit_composite_def-returns-in-Err t c = members.def_refused _ _ _ _ _ _ _ _ _ _ _ _ _ c.if-left-eq0.false (sym c.is_builtin.ensures ∙ c.if-is_builtin.false) _ _ c.body_packed.ensures _ _ c.in-Err.is c.from.ensures c.stop-in-Err.ensures
 
 pub members::emit_member-returns : goal.members::emit_member-returns
 members::emit_member-returns t c = members.member_put _ _ _ _ _ _ _ _ _ _ _ _ _ _ _ _ _ _ _ _ _ _ _ _ _ c.load_member-m.ensures c.bare.ensures c.emit_bit_padding-a.ensures c.put_byte-c.ensures c.put_tabs-e.ensures c.emit_type_decl-f.ensures c.emit_member_end.ensures

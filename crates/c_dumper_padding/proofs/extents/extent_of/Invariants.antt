@@ -3,11 +3,7 @@ use Rattle.c_dumper_padding.specs.extents.Steps.{extent_is}
 use Rattle.spec_c_dumper.specs.rules.Placing.{extent_of, no_extent}
 use Rattle.spec_type_table.specs.Table.{btf_of, members_of}
 use mathlib.Core.Path.{◌≡◌}
-use Prim.Native.Nat.{◌≤◌, ◌<◌, ◌-◌}
 use Rattle.c_dumper_padding.proofs.extents.extent_of.Given as goal
 
 abbrev pub invariant-loop-k : goal.invariant-loop-k
-invariant-loop-k l = (l.k ≤ l.vlen) × (l.vlen < 4294967296) × (extent_of (btf_of l.b l.section l.work) l.in_struct l.packed no_extent (members_of l.b l.section l.t) ≡ extent_rest (btf_of l.b l.section l.work) l.b l.section l.t l.in_struct l.packed (extent_is l.x) l.k)
-
-abbrev pub decreases-loop-k : goal.decreases-loop-k
-decreases-loop-k l = l.vlen - l.k
+invariant-loop-k l = extent_of (btf_of l.b l.section l.work) l.in_struct l.packed no_extent (members_of l.b l.section l.t) ≡ extent_rest (btf_of l.b l.section l.work) l.b l.section l.t l.in_struct l.packed (extent_is l.x) l.k

@@ -1,12 +1,21 @@
-use Rattle.c_dumper_padding.proofs.placing.Laws.{by_refused, by_endless, by_judged}
+use Rattle.std.proofs.Common.{rules}
+use Rattle.std.specs.Prelude.{Bool, Result, Err}
+use Rattle.spec_bytes.specs.declared.refusal.Refusal.{Refusal}
+use Rattle.btf_layout.specs.asked.Asked.{ask_in}
 use Rattle.btf_layout.proofs.asked.Laws.{table_packed}
+use Rattle.c_dumper_padding.proofs.placing.Laws.{by_refused, by_endless, by_judged}
+use mathlib.Core.Path.{◌≡◌, ap, ◌∙◌}
 use Rattle.c_dumper_padding.proofs.placing.measured_by.Goals as goal
 
-pub returns-in-Got : goal.returns-in-Got
-returns-in-Got c = by_judged _ _ _ _ _ _ _ _ _ _ c.is_packed.ensures _ c.in-Is.is _ (table_packed _ _ _ _ _ _ _ _ _ c.is_packed.ensures) _ c.extent_of.ensures _ c.in-Got.is _ c.judged.ensures
+pub returns-in_err-packed : goal.returns-in_err-packed
+returns-in_err-packed c =
+    let e : c.from_residual.result ≡ Err c.in_err-packed.field-0.0 = search rules in
+    ap (λ (r : Result Bool Refusal). ask_in r c.is_packed.new.work) e ∙ by_refused _ _ _ _ _ _ _ _ _ _ c.is_packed.ensures _ c.in_err-packed.was
 
-pub returns-in-No-extent_of : goal.returns-in-No-extent_of
-returns-in-No-extent_of c = by_endless _ _ _ _ _ _ _ _ _ _ c.is_packed.ensures _ c.in-Is.is _ (table_packed _ _ _ _ _ _ _ _ _ c.is_packed.ensures) _ c.extent_of.ensures _ c.in-No-extent_of.is
+pub returns-in_err-x : goal.returns-in_err-x
+returns-in_err-x c =
+    let e : c.from_residual-in_err-x.result ≡ Err c.in_err-x.field-0.0 = search rules in
+    ap (λ (r : Result Bool Refusal). ask_in r c.is_packed.new.work) e ∙ by_endless _ _ _ _ _ _ _ _ _ _ c.is_packed.ensures _ c.in_ok-packed.was _ (table_packed _ _ _ _ _ _ _ _ _ c.is_packed.ensures) _ c.extent_of.ensures _ c.in_err-x.was
 
-pub returns-in-No : goal.returns-in-No
-returns-in-No c = by_refused _ _ _ _ _ _ _ _ _ _ c.is_packed.ensures _ c.in-No.is
+pub returns : goal.returns
+returns c = by_judged _ _ _ _ _ _ _ _ _ _ c.is_packed.ensures _ c.in_ok-packed.was _ (table_packed _ _ _ _ _ _ _ _ _ c.is_packed.ensures) _ c.extent_of.ensures _ c.in_ok-x.was _ c.judged.ensures
