@@ -135,7 +135,13 @@ fn next_member(
     Ok(with_member(in_struct, packed, x, size, end, m))
 }
 
-pub fn extent_of(b: TypeTable, section: &[u8], work: &[u8], t: BtfType, packed: bool) -> Result<Extent, Refusal>
+pub fn extent_of(
+    b: TypeTable,
+    section: &[u8],
+    work: &[u8],
+    t: BtfType,
+    packed: bool,
+) -> Result<Extent, Refusal>
     ensures { extents_of result
         ≡ extent_of (btf_of b section.now work.now) (eqb (kind_of t.info) 4) packed no_extent
         (members_of b section.now t) }

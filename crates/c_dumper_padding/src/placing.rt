@@ -11,7 +11,14 @@ use btf_layout::asked::{is_packed, union_align};
 use spec_type_table::{BtfType, TypeTable};
 
 // The packed test, then the members, then the whole.
-fn measured_by(b: TypeTable, section: &[u8], work: &mut [u8], id: u32, t: BtfType, a: u32) -> Result<bool, Refusal>
+fn measured_by(
+    b: TypeTable,
+    section: &[u8],
+    work: &mut [u8],
+    id: u32,
+    t: BtfType,
+    a: u32,
+) -> Result<bool, Refusal>
     ensures { ask_in result work.new
         ≡ by_in b.types (btf_of b section.now work.old) (eqb (kind_of t.info) 4) id t.type_id
         (members_of b section.now t) a work.old }
@@ -21,7 +28,13 @@ fn measured_by(b: TypeTable, section: &[u8], work: &mut [u8], id: u32, t: BtfTyp
     judged(t, a, x, packed)
 }
 
-fn measured(b: TypeTable, section: &[u8], work: &mut [u8], id: u32, t: BtfType) -> Result<bool, Refusal>
+fn measured(
+    b: TypeTable,
+    section: &[u8],
+    work: &mut [u8],
+    id: u32,
+    t: BtfType,
+) -> Result<bool, Refusal>
     ensures { ask_in result work.new
         ≡ measured_in b.types (btf_of b section.now work.old) (eqb (kind_of t.info) 4) id t.type_id
         (members_of b section.now t) work.old }
@@ -31,7 +44,13 @@ fn measured(b: TypeTable, section: &[u8], work: &mut [u8], id: u32, t: BtfType) 
 }
 
 // What is known of a body before its first name or byte: whether it is packed, or the refusal. The mode chooses.
-pub fn body_packed(b: TypeTable, section: &[u8], work: &mut [u8], id: u32, t: BtfType) -> Result<bool, Refusal>
+pub fn body_packed(
+    b: TypeTable,
+    section: &[u8],
+    work: &mut [u8],
+    id: u32,
+    t: BtfType,
+) -> Result<bool, Refusal>
     ensures { ask_in result work.new
         ≡ body_in b.types (btf_of b section.now work.old) (eqb (kind_of t.info) 4) id t.type_id
         (members_of b section.now t) work.old }

@@ -9,7 +9,7 @@ ghost use Rattle.session_field_at_bit.specs.step.Code.{shape_is, step_is, step_a
 use base_bytes::limit;
 use base_bytes::word::put_word;
 use btf_layout::member_end::member_end;
-use btf_layout::size::{Ask, get_size_of};
+use btf_layout::size::get_size_of;
 use btf_type_table::entry::load_member;
 use btf_type_table::kind::vlen_of;
 use spec_type_table::{BtfMember, BtfType, TypeTable};
@@ -67,8 +67,8 @@ fn try_member(
         (λ end. got (member_step m k end bit)) }
 {
     match member_end(b, section, work, m) {
-        Ask::Got(end) => Ok(member_step(m, k, end, bit)),
-        Ask::No(c) => Err(c),
+        Ok(end) => Ok(member_step(m, k, end, bit)),
+        Err(c) => Err(u32::from(c)),
     }
 }
 
@@ -107,8 +107,8 @@ fn find_place(b: TypeTable, section: &[u8], work: &[u8], t: u32, bit: u32) -> Re
         ≡ ask_then (get_size_of 512 (btf_of b section.now work.now) t) (λ size. got (placed t size bit)) }
 {
     match get_size_of(b, section, work, t, limit::MOST_CALLS) {
-        Ask::Got(size) => Ok(place_of(t, size, bit)),
-        Ask::No(c) => Err(c),
+        Ok(size) => Ok(place_of(t, size, bit)),
+        Err(c) => Err(u32::from(c)),
     }
 }
 

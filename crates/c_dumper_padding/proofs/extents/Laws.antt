@@ -14,7 +14,7 @@ use Rattle.spec_bytes.specs.declared.refusal.Refusal.{Refusal}
 use Rattle.spec_bytes.specs.declared.refusal.Refusal.TheVariants.{Overflow, Misplaced}
 use Rattle.spec_c_dumper.specs.rules.Writer.{Ask, got, no, ask_then, checked, misplaced}
 use Rattle.spec_c_dumper.specs.rules.Types.{Member, Btf as Rules}
-use Rattle.spec_c_dumper.specs.rules.Layout.{larger, get_size_of, end_of}
+use Rattle.spec_c_dumper.specs.rules.Layout.{get_size_of, end_of}
 use Rattle.spec_c_dumper.specs.rules.Placing.{round_up, same_unit, field_size, field_fits, start_fits, member_fits, Extent, reached, with_member, extent_of, no_extent, size_fits}
 use Rattle.spec_type_table.specs.declared.types.TypeTable.{TypeTable}
 use Rattle.spec_type_table.specs.declared.types.BtfType.{BtfType as Record}

@@ -15,8 +15,8 @@ use Rattle.spec_type_table.specs.declared.types.BtfType.{BtfType as Record}
 use Rattle.spec_type_table.specs.declared.types.BtfMember.{BtfMember}
 use Rattle.spec_type_table.specs.Records.{vlen_of, member_of}
 use Rattle.spec_type_table.specs.Table.{from, rule_member, members_of, btf_of}
-use Rattle.btf_layout.specs.declared.size.Ask.{Ask as Code}
-use Rattle.btf_layout.specs.declared.size.Ask.TheVariants as ask
+use Rattle.spec_bytes.specs.declared.refusal.Refusal.{Refusal}
+use Rattle.spec_bytes.specs.Refusals.{refusal_number}
 use Rattle.btf_layout.specs.size.Answers.{ask_of}
 use Rattle.session_field_at_bit.specs.declared.step.Shape.{Shape as CodeShape}
 use Rattle.session_field_at_bit.specs.declared.step.Shape.TheVariants as shape
@@ -47,14 +47,14 @@ module _ (m : BtfMember) (k end bit : ℕ) where
       step_enter z = sym (rw (le-leb m.bit_offset bit h, member_step, covers, lt-ltb bit end l, z))
 
 -- ---- an answer asked, and what is made of it
-module _ (q : Code) (Q : Ask ℕ) (eq : ask_of q ≡ Q) (f : ℕ → Step) where
-  pub asked_got : (n : ℕ) (r : CodeStep) → q ≡ ask.Got n → step_is r ≡ f n → step_asked (Ok r) ≡ ask_then Q (λ n. got (f n))
+module _ (q : Result ℕ Refusal) (Q : Ask ℕ) (eq : ask_of q ≡ Q) (f : ℕ → Step) where
+  pub asked_got : (n : ℕ) (r : CodeStep) → q ≡ Ok n → step_is r ≡ f n → step_asked (Ok r) ≡ ask_then Q (λ n. got (f n))
   unfolding ask_of ask_then step_asked
   asked_got n r g er = ap got er ∙ ap (λ (z : Ask ℕ). ask_then z (λ n. got (f n))) (sym (ap ask_of g) ∙ eq)
 
-  pub asked_no : (c : ℕ) → q ≡ ask.No c → step_asked (Err c) ≡ ask_then Q (λ n. got (f n))
+  pub asked_no : (c : Refusal) (n : ℕ) → q ≡ Err c → n ≡ refusal_number c → step_asked (Err n) ≡ ask_then Q (λ n. got (f n))
   unfolding ask_of ask_then step_asked
-  asked_no c g = ap (λ (z : Ask ℕ). ask_then z (λ n. got (f n))) (sym (ap ask_of g) ∙ eq)
+  asked_no c n g en = ap (λ (z : ℕ). no z) en ∙ ap (λ (z : Ask ℕ). ask_then z (λ n. got (f n))) (sym (ap ask_of g) ∙ eq)
 
 -- ---- the loop of find_member
 pub not_false : (x : Bool) → not x ≡ true → x ≡ false
