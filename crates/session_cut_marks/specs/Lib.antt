@@ -1,4 +1,5 @@
 pub mod interned
+pub mod kept
 pub mod marks
 pub mod mentioned
 pub mod roles

@@ -5,8 +5,9 @@ ghost use Rattle.btf_open_causes.specs.references.Followed.{type_count};
 ghost use Rattle.session_cut_marks.specs.roles.Words.{words_in};
 ghost use Rattle.session_cut_marks.specs.mentioned.Names.{base_of};
 ghost use Rattle.session_cut_marks.specs.mentioned.Strings.{names_bytes, own_bytes, news_bytes, strings_bytes};
-ghost use Rattle.session_cut_marks.specs.interned.Right.{StringKept};
+ghost use Rattle.session_cut_marks.specs.interned.Right.{IsKept};
 ghost use Rattle.session_cut.specs.writer.Bytes.{name_if};
+ghost use Rattle.session_cut_marks.specs.kept.AtKept.{at_kept};
 
 use crate::writer::names::longer;
 use crate::writer::source::{KeptType, Source};
@@ -37,12 +38,11 @@ fn put_name(
 
 impl Source<'_> {
     fn put_names(&self, t: KeptType, out: &mut [u8], at: usize) -> usize
-        requires { StringKept self.now.kept.b self.now.kept.start.now self.now.kept.ids.now t.x t.e
-            × (t.base ≡ base_of self.now.kept.b self.now.kept.section.now self.now.kept.start.now self.now.kept.ids.now t.x) }
+        requires { IsKept self.now.kept t.x t.e
+            × (t.base ≡ at_kept base_of self.now.kept t.x) }
         ensures { put_out result out.new
-            ≡ put_text out.old at (whole
-            (names_bytes self.now.kept.b self.now.kept.section.now self.now.kept.start.now self.now.kept.ids.now t.x t.e
-            (words_in self.now.kept.b self.now.kept.section.now t.e))) }
+            ≡ put_text out.old at
+            (whole (at_kept names_bytes self.now.kept t.x t.e (words_in self.now.kept.b self.now.kept.section.now t.e))) }
     {
         let mut p = at;
         let mut len = t.base;
@@ -57,8 +57,7 @@ impl Source<'_> {
     // The new names of type x.
     fn put_own(&self, x: u32, out: &mut [u8], at: usize) -> usize
         requires { x < type_count self.now.kept.b }
-        ensures { put_out result out.new
-            ≡ put_text out.old at (whole (own_bytes self.now.kept.b self.now.kept.section.now self.now.kept.start.now self.now.kept.ids.now x)) }
+        ensures { put_out result out.new ≡ put_text out.old at (whole (at_kept own_bytes self.now.kept x)) }
     {
         if self.kept.new_id(x) == 0 {
             return at;
@@ -67,9 +66,7 @@ impl Source<'_> {
     }
 
     fn put_news(&self, out: &mut [u8], at: usize) -> usize
-        ensures { put_out result out.new
-            ≡ put_text out.old at
-            (whole (news_bytes self.now.kept.b self.now.kept.section.now self.now.kept.start.now self.now.kept.ids.now (type_count self.now.kept.b))) }
+        ensures { put_out result out.new ≡ put_text out.old at (whole (at_kept news_bytes self.now.kept (type_count self.now.kept.b))) }
     {
         let mut p = at;
         for x in 0..count(self.kept.b) {
@@ -81,8 +78,7 @@ impl Source<'_> {
     // The leading 0, and the new names.
     pub(crate) fn put_strings(&self, out: &mut [u8], at: usize) -> usize
         ensures { put_out result out.new
-            ≡ put_text out.old at (whole
-            (strings_bytes self.now.kept.b self.now.kept.section.now self.now.kept.start.now self.now.kept.ids.now (type_count self.now.kept.b))) }
+            ≡ put_text out.old at (whole (at_kept strings_bytes self.now.kept (type_count self.now.kept.b))) }
     {
         let p = put_byte(out, at, 0);
         self.put_news(out, p)

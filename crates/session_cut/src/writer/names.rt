@@ -4,8 +4,9 @@ ghost use Rattle.std.specs.Prelude.{◌≡◌, ◌+◌, ◌<◌, ◌≤◌, ℕ,
 ghost use Rattle.btf_open_causes.specs.references.Followed.{type_count, entry_at};
 ghost use Rattle.session_cut_marks.specs.roles.Words.{words_in};
 ghost use Rattle.session_cut_marks.specs.mentioned.Names.{is_new, new_sizes, base_of, place_at, place_from, place_of};
-ghost use Rattle.session_cut_marks.specs.interned.Right.{StringKept};
+ghost use Rattle.session_cut_marks.specs.interned.Right.{IsKept};
 ghost use Rattle.session_cut.specs.writer.Bytes.{name_if, sought, some_place, Mentions};
+ghost use Rattle.session_cut_marks.specs.kept.AtKept.{at_kept};
 
 use crate::writer::source::{KeptType, Mention, Source};
 use btf_open_causes::references::count;
@@ -34,10 +35,8 @@ fn seek(b: TypeTable, section: &[u8], table: &[u64], e: u32, j: u32) -> Option<u
 // Whether word j of type t mentions a name for the first time. `place`: where the table has it; `len`: the length of the strings before it.
 fn is_first(kept: &Kept, t: KeptType, j: u32, place: Option<u32>, len: u32) -> bool
     requires { (p : ℕ) → place ≡ Some p
-        → eqb p len ≡ is_new kept.now.b kept.now.section.now kept.now.start.now kept.now.ids.now t.x t.e j }
-    ensures { result
-        ≡ is_new kept.now.b kept.now.section.now kept.now.start.now kept.now.ids.now t.x
-        t.e j }
+        → eqb p len ≡ at_kept is_new kept.now t.x t.e j }
+    ensures { result ≡ at_kept is_new kept.now t.x t.e j }
 {
     match place {
         Some(p) => p == len,
@@ -61,8 +60,7 @@ impl Source<'_> {
     pub(crate) fn kept_type(&self, x: u32) -> KeptType
         requires { (x < type_count self.now.kept.b) × (get_or self.now.kept.ids.now x 0 ≡ 0 → ⊥) }
         ensures { (result.x ≡ x) × (result.e ≡ entry_at self.now.kept.b self.now.kept.start.now x)
-            × StringKept self.now.kept.b self.now.kept.start.now self.now.kept.ids.now result.x result.e
-            × (result.base ≡ base_of self.now.kept.b self.now.kept.section.now self.now.kept.start.now self.now.kept.ids.now result.x) }
+            × IsKept self.now.kept result.x result.e × (result.base ≡ at_kept base_of self.now.kept result.x) }
     {
         KeptType {
             x,
@@ -73,10 +71,9 @@ impl Source<'_> {
 
     // Word j of type t, where the strings before it have the length `len`.
     pub(crate) fn mention(&self, t: KeptType, j: u32, len: u32) -> Mention
-        requires { StringKept self.now.kept.b self.now.kept.start.now self.now.kept.ids.now t.x t.e
+        requires { IsKept self.now.kept t.x t.e
             × (j < words_in self.now.kept.b self.now.kept.section.now t.e)
-            × (len ≡ base_of self.now.kept.b self.now.kept.section.now self.now.kept.start.now self.now.kept.ids.now t.x
-            + new_sizes self.now.kept.b self.now.kept.section.now self.now.kept.start.now self.now.kept.ids.now t.x t.e j) }
+            × (len ≡ at_kept base_of self.now.kept t.x + at_kept new_sizes self.now.kept t.x t.e j) }
         ensures { Mentions self.now.kept.b self.now.kept.section.now self.now.kept.start.now
             self.now.kept.ids.now self.now.bases.now t.x t.e j len result.j
             result.place result.new result.len }
@@ -88,14 +85,10 @@ impl Source<'_> {
 
     // The length of the strings before word n of type t.
     fn length_to(&self, t: KeptType, n: u32) -> u32
-        requires { StringKept self.now.kept.b self.now.kept.start.now self.now.kept.ids.now t.x t.e
+        requires { IsKept self.now.kept t.x t.e
             × (n ≤ words_in self.now.kept.b self.now.kept.section.now t.e)
-            × (t.base ≡ base_of self.now.kept.b self.now.kept.section.now self.now.kept.start.now self.now.kept.ids.now t.x) }
-        ensures { result
-            ≡ base_of self.now.kept.b self.now.kept.section.now self.now.kept.start.now
-            self.now.kept.ids.now t.x
-            + new_sizes self.now.kept.b self.now.kept.section.now self.now.kept.start.now
-            self.now.kept.ids.now t.x t.e n }
+            × (t.base ≡ at_kept base_of self.now.kept t.x) }
+        ensures { result ≡ at_kept base_of self.now.kept t.x + at_kept new_sizes self.now.kept t.x t.e n }
     {
         let mut len = t.base;
         for j in 0..n {
@@ -107,10 +100,7 @@ impl Source<'_> {
     // Where the name stands, if type x is kept and mentions it. For the first such type it is its place in the strings.
     fn place_at(&self, off: u32, x: u32) -> Option<u32>
         requires { x < type_count self.now.kept.b }
-        ensures { result
-            ≡ some_place
-            (place_at self.now.kept.b self.now.kept.section.now self.now.kept.start.now
-            self.now.kept.ids.now self.now.bases.now off x) }
+        ensures { result ≡ some_place (at_kept place_at self.now.kept self.now.bases.now off x) }
     {
         if !self.kept.mentions(off, x) {
             return None;
@@ -122,10 +112,7 @@ impl Source<'_> {
     }
 
     fn place_from(&self, off: u32) -> Option<u32>
-        ensures { result
-            ≡ some_place
-            (place_from self.now.kept.b self.now.kept.section.now self.now.kept.start.now
-            self.now.kept.ids.now self.now.bases.now off 0 (type_count self.now.kept.b)) }
+        ensures { result ≡ some_place (at_kept place_from self.now.kept self.now.bases.now off 0 (type_count self.now.kept.b)) }
     {
         for x in 0..count(self.kept.b) {
             if let Some(place) = self.place_at(off, x) {
@@ -138,13 +125,10 @@ impl Source<'_> {
     // Where the name that m mentions stands in the new strings: where it is new, at their length so far.
     pub(crate) fn place_of(&self, off: u32, m: Mention) -> u32
         requires { ((p : ℕ) → m.place ≡ Some p
-            → p ≡ place_of self.now.kept.b self.now.kept.section.now self.now.kept.start.now self.now.kept.ids.now self.now.bases.now off)
+            → p ≡ at_kept place_of self.now.kept self.now.bases.now off)
             × (m.new ≡ true
-            → m.len ≡ place_of self.now.kept.b self.now.kept.section.now self.now.kept.start.now self.now.kept.ids.now self.now.bases.now
-            off) }
-        ensures { result
-            ≡ place_of self.now.kept.b self.now.kept.section.now self.now.kept.start.now
-            self.now.kept.ids.now self.now.bases.now off }
+            → m.len ≡ at_kept place_of self.now.kept self.now.bases.now off) }
+        ensures { result ≡ at_kept place_of self.now.kept self.now.bases.now off }
     {
         if let Some(place) = m.place {
             return place;

@@ -1,6 +1,7 @@
 // What the new section is written from.
 ghost use Rattle.std.specs.Prelude.{◌≡◌};
-ghost use Rattle.session_cut_marks.specs.interned.Right.{all_bases, Right, Right-prop};
+ghost use Rattle.session_cut_marks.specs.interned.Right.{all_bases, IsRight, IsRight-prop};
+ghost use Rattle.session_cut_marks.specs.kept.AtKept.{at_kept};
 
 use session_cut_marks::kept::Kept;
 
@@ -10,8 +11,8 @@ pub struct Source<'a> {
     pub kept: Kept<'a>,
     pub bases: &'a [u32],
     pub table: &'a [u64],
-    ghost right: { Right kept.b kept.section.now kept.start.now kept.ids.now table.now } by { Right-prop kept.b kept.section.now kept.start.now kept.ids.now table.now },
-    ghost based: { bases.now ≡ all_bases kept.b kept.section.now kept.start.now kept.ids.now },
+    ghost right: { IsRight kept table.now } by { IsRight-prop kept table.now },
+    ghost based: { bases.now ≡ at_kept all_bases kept },
 }
 
 // Type x, which is kept: its entry, and the length of the strings before it.

@@ -4,9 +4,10 @@ ghost use Rattle.spec_bytes.specs.text.Text.{whole, put_out, put_text};
 ghost use Rattle.btf_open_causes.specs.references.Followed.{type_count};
 ghost use Rattle.session_cut_marks.specs.roles.Words.{words_in, word_of};
 ghost use Rattle.session_cut_marks.specs.mentioned.Names.{base_of, place_of};
-ghost use Rattle.session_cut_marks.specs.interned.Right.{StringKept};
+ghost use Rattle.session_cut_marks.specs.interned.Right.{IsKept};
 ghost use Rattle.session_cut.specs.writer.Bytes.{word_bytes, magic_bytes, head_bytes, type_size, types_size, new_word, record_bytes};
 ghost use Rattle.session_cut.specs.writer.Bytes.{type_bytes, types_bytes, all_bytes, wrote_of, fitting_written, kept_written};
+ghost use Rattle.session_cut_marks.specs.kept.AtKept.{at_kept};
 
 use crate::writer::names::longer;
 use crate::writer::source::{KeptType, Mention, Source};
@@ -61,7 +62,7 @@ pub fn put_head(out: &mut [u8], big: bool, flags: u8, types: u32, strings: u32) 
 
 // The length of the types.
 pub fn types_size(kept: &Kept) -> u64
-    ensures { result ≡ types_size kept.now.b kept.now.section.now kept.now.start.now kept.now.ids.now (type_count kept.now.b) }
+    ensures { result ≡ at_kept types_size kept.now (type_count kept.now.b) }
 {
     let mut len = 0;
     for x in 0..count(kept.b) {
@@ -72,7 +73,7 @@ pub fn types_size(kept: &Kept) -> u64
 
 fn type_size(kept: &Kept, x: u32, len: u64) -> u64
     requires { len ≤ 4611686018427387904 }
-    ensures { result ≡ type_size kept.now.b kept.now.section.now kept.now.start.now kept.now.ids.now x len }
+    ensures { result ≡ at_kept type_size kept.now x len }
 {
     if kept.new_id(x) == 0 {
         return len;
@@ -84,10 +85,10 @@ impl Source<'_> {
     // Word m of the record with entry e, as it is written.
     fn new_word(&self, e: u32, m: Mention) -> u32
         requires { ((p : ℕ) → m.place ≡ Some p
-            → p ≡ place_of self.now.kept.b self.now.kept.section.now self.now.kept.start.now self.now.kept.ids.now self.now.bases.now (word_of self.now.kept.b self.now.kept.section.now e m.j))
+            → p ≡ at_kept place_of self.now.kept self.now.bases.now (word_of self.now.kept.b self.now.kept.section.now e m.j))
             × (m.new ≡ true
-            → m.len ≡ place_of self.now.kept.b self.now.kept.section.now self.now.kept.start.now self.now.kept.ids.now self.now.bases.now (word_of self.now.kept.b self.now.kept.section.now e m.j)) }
-        ensures { result ≡ new_word self.now.kept.b self.now.kept.section.now self.now.kept.start.now self.now.kept.ids.now self.now.bases.now e m.j }
+            → m.len ≡ at_kept place_of self.now.kept self.now.bases.now (word_of self.now.kept.b self.now.kept.section.now e m.j)) }
+        ensures { result ≡ at_kept new_word self.now.kept self.now.bases.now e m.j }
     {
         let w = word_of(self.kept.b, self.kept.section, e, m.j);
         match word_role(e % 32, m.j) {
@@ -99,12 +100,11 @@ impl Source<'_> {
 
     // The record of type t.
     fn put_record(&self, t: KeptType, out: &mut [u8], at: usize) -> usize
-        requires { StringKept self.now.kept.b self.now.kept.start.now self.now.kept.ids.now t.x t.e
-            × (t.base ≡ base_of self.now.kept.b self.now.kept.section.now self.now.kept.start.now self.now.kept.ids.now t.x) }
+        requires { IsKept self.now.kept t.x t.e
+            × (t.base ≡ at_kept base_of self.now.kept t.x) }
         ensures { put_out result out.new
-            ≡ put_text out.old at (whole
-            (record_bytes self.now.kept.b self.now.kept.section.now self.now.kept.start.now self.now.kept.ids.now self.now.bases.now t.e
-            (words_in self.now.kept.b self.now.kept.section.now t.e))) }
+            ≡ put_text out.old at
+            (whole (at_kept record_bytes self.now.kept self.now.bases.now t.e (words_in self.now.kept.b self.now.kept.section.now t.e))) }
     {
         let mut p = at;
         let mut len = t.base;
@@ -118,8 +118,7 @@ impl Source<'_> {
 
     fn put_type(&self, x: u32, out: &mut [u8], at: usize) -> usize
         requires { x < type_count self.now.kept.b }
-        ensures { put_out result out.new
-            ≡ put_text out.old at (whole (type_bytes self.now.kept.b self.now.kept.section.now self.now.kept.start.now self.now.kept.ids.now self.now.bases.now x)) }
+        ensures { put_out result out.new ≡ put_text out.old at (whole (at_kept type_bytes self.now.kept self.now.bases.now x)) }
     {
         if self.kept.new_id(x) == 0 {
             return at;
@@ -130,8 +129,7 @@ impl Source<'_> {
     // The types that are kept.
     fn put_types(&self, out: &mut [u8], at: usize) -> usize
         ensures { put_out result out.new
-            ≡ put_text out.old at (whole
-            (types_bytes self.now.kept.b self.now.kept.section.now self.now.kept.start.now self.now.kept.ids.now self.now.bases.now (type_count self.now.kept.b))) }
+            ≡ put_text out.old at (whole (at_kept types_bytes self.now.kept self.now.bases.now (type_count self.now.kept.b))) }
     {
         let mut p = at;
         for x in 0..count(self.kept.b) {
@@ -143,8 +141,7 @@ impl Source<'_> {
     // Header, types and strings.
     fn put_all(&self, sizes: Sizes, out: &mut [u8]) -> usize
         ensures { put_out result out.new
-            ≡ put_text out.old 0 (whole
-            (all_bytes self.now.kept.b self.now.kept.section.now self.now.kept.start.now self.now.kept.ids.now self.now.bases.now sizes.types sizes.strings)) }
+            ≡ put_text out.old 0 (whole (at_kept all_bytes self.now.kept self.now.bases.now sizes.types sizes.strings)) }
     {
         let flags = peek(self.kept.section, 3, 0);
         let p = put_head(
@@ -160,10 +157,9 @@ impl Source<'_> {
 
     fn write_fitting(&self, sizes: Sizes, out: &mut [u8]) -> Option<u32>
         requires { (sizes.types ≤ 16777216) × (sizes.strings ≤ 16777216)
-            × (sizes.types ≡ types_size self.now.kept.b self.now.kept.section.now self.now.kept.start.now self.now.kept.ids.now (type_count self.now.kept.b))
-            × (sizes.strings ≡ base_of self.now.kept.b self.now.kept.section.now self.now.kept.start.now self.now.kept.ids.now (type_count self.now.kept.b)) }
-        ensures { wrote_of result out.new
-            ≡ fitting_written self.now.kept.b self.now.kept.section.now self.now.kept.start.now self.now.kept.ids.now self.now.bases.now sizes.types sizes.strings out.old }
+            × (sizes.types ≡ at_kept types_size self.now.kept (type_count self.now.kept.b))
+            × (sizes.strings ≡ at_kept base_of self.now.kept (type_count self.now.kept.b)) }
+        ensures { wrote_of result out.new ≡ at_kept fitting_written self.now.kept self.now.bases.now sizes.types sizes.strings out.old }
     {
         let len = 24 + sizes.types + sizes.strings;
         if limit::MOST_BYTES_32 < len {
@@ -180,8 +176,7 @@ impl Source<'_> {
 // Measures first: none and nothing written, where the output slice is short or the section would pass 16,777,216 bytes; else
 // the length written. The rest of the slice stays.
 pub fn write_kept(kept: &Kept, out: &mut [u8]) -> Option<u32>
-    ensures { wrote_of result out.new
-        ≡ kept_written kept.now.b kept.now.section.now kept.now.start.now kept.now.ids.now out.old }
+    ensures { wrote_of result out.new ≡ at_kept kept_written kept.now out.old }
 {
     if limit::MOST_BYTES < kept.section.len() {
         return None;

@@ -4,6 +4,7 @@ use Rattle.std.specs.Coded.{le_prop, Coded-set, coded_ℕ}
 use Rattle.spec_type_table.specs.declared.types.TypeTable.{TypeTable}
 use Rattle.spec_type_table.specs.Names.{str_at}
 use Rattle.btf_open_causes.specs.references.Followed.{type_count, entry_at}
+use Rattle.session_cut_marks.specs.declared.kept.Kept.{Kept}
 use Rattle.session_cut_marks.specs.mentioned.Names.{base_of, bases_to, zero_bases, place_of}
 
 -- the bases of all types
@@ -32,3 +33,13 @@ pub record StringKept (b : TypeTable) (start ids : List ℕ) (x e : ℕ) : Type 
   pub below : x < type_count b
   pub kept : get_or ids x 0 ≡ 0 → ⊥
   pub entry : e ≡ entry_at b start x
+
+-- the two at a value of the code
+abbrev pub IsRight : Kept → List ℕ → Type 0
+IsRight k t = Right k.b k.section.now k.start.now k.ids.now t
+
+abbrev pub IsRight-prop : (k : Kept) (t : List ℕ) → IsProp (IsRight k t)
+IsRight-prop k t = Right-prop k.b k.section.now k.start.now k.ids.now t
+
+abbrev pub IsKept : Kept → ℕ → ℕ → Type 0
+IsKept k x e = StringKept k.b k.start.now k.ids.now x e

@@ -5,6 +5,7 @@ ghost use Rattle.session_cut_marks.specs.mentioned.Names.{new_size};
 ghost use Rattle.session_cut_marks.specs.roles.Words.{words_in};
 ghost use Rattle.session_cut_marks.specs.interned.Slots.{slot_of};
 ghost use Rattle.session_cut_marks.specs.interned.Filled.{filled_of, settled, entered, entered_to, entered_type, filling_of, filling};
+ghost use Rattle.session_cut_marks.specs.kept.AtKept.{at_kept};
 
 use crate::interned::slots::slot_of;
 use crate::kept::Kept;
@@ -34,9 +35,7 @@ impl Kept<'_> {
     // The bytes of a new name, by the plain way.
     fn new_size(&self, m: Mention) -> u32
         requires { length self.now.section.now ≤ 16777216 }
-        ensures { result
-            ≡ new_size self.now.b self.now.section.now self.now.start.now self.now.ids.now
-            m.x m.e m.j }
+        ensures { result ≡ at_kept new_size self.now m.x m.e m.j }
     {
         if !self.is_new(m.x, m.e, m.j) {
             return 0;
@@ -49,9 +48,7 @@ impl Kept<'_> {
     fn settle(&self, m: Mention, off: u32, len: u32, table: &mut [u64]) -> u32
         requires { (length self.now.section.now ≤ 16777216) × (len ≤ 16777216) }
         ensures { filled_of result table.new
-            ≡ settled self.now.b self.now.section.now self.now.start.now self.now.ids.now
-            m.x m.e m.j off (slot_of self.now.b self.now.section.now table.old off) len
-            table.old }
+            ≡ at_kept settled self.now m.x m.e m.j off (slot_of self.now.b self.now.section.now table.old off) len table.old }
     {
         let at = slot_of(self.b, self.section, table, off) as usize;
         if table.len() <= at {
@@ -66,9 +63,7 @@ impl Kept<'_> {
 
     fn enter(&self, m: Mention, len: u32, table: &mut [u64]) -> u32
         requires { length self.now.section.now ≤ 16777216 }
-        ensures { filled_of result table.new
-            ≡ entered self.now.b self.now.section.now self.now.start.now self.now.ids.now
-            m.x m.e m.j len table.old }
+        ensures { filled_of result table.new ≡ at_kept entered self.now m.x m.e m.j len table.old }
     {
         if limit::MOST_BYTES_32 < len {
             return len;
@@ -87,9 +82,7 @@ impl Kept<'_> {
     fn enter_words(&self, x: u32, e: u32, len: u32, table: &mut [u64]) -> u32
         requires { length self.now.section.now ≤ 16777216 }
         ensures { filled_of result table.new
-            ≡ entered_to self.now.b self.now.section.now self.now.start.now
-            self.now.ids.now x e len table.old
-            (words_in self.now.b self.now.section.now e) }
+            ≡ at_kept entered_to self.now x e len table.old (words_in self.now.b self.now.section.now e) }
     {
         let mut now_len = len;
         for j in 0..words_in(self.b, self.section, e) {
@@ -101,9 +94,7 @@ impl Kept<'_> {
     // Type x, if it is kept.
     fn enter_type(&self, x: u32, len: u32, table: &mut [u64]) -> u32
         requires { length self.now.section.now ≤ 16777216 }
-        ensures { filled_of result table.new
-            ≡ entered_type self.now.b self.now.section.now self.now.start.now
-            self.now.ids.now x len table.old }
+        ensures { filled_of result table.new ≡ at_kept entered_type self.now x len table.old }
     {
         if self.new_id(x) == 0 {
             return len;
@@ -114,9 +105,7 @@ impl Kept<'_> {
     // The table of all types, and in `lengths` the length of the strings before each. Returns the length of the strings; above 16,777,216
     // it says no more than that. (0 for a section that is too long: of any other the strings have the leading 0.)
     pub fn fill_table(&self, table: &mut [u64], lengths: &mut [u32]) -> u32
-        ensures { filling_of (filled_of result table.new) lengths.new
-            ≡ filling self.now.b self.now.section.now self.now.start.now self.now.ids.now
-            table.old lengths.old }
+        ensures { filling_of (filled_of result table.new) lengths.new ≡ at_kept filling self.now table.old lengths.old }
     {
         if limit::MOST_BYTES < self.section.len() {
             return 0;

@@ -3,6 +3,7 @@ ghost use Rattle.std.specs.Prelude.{◌≡◌};
 ghost use Rattle.spec_c_dumper.specs.rules.Names.{same_bytes};
 ghost use Rattle.spec_type_table.specs.Names.{str_at};
 ghost use Rattle.session_cut_marks.specs.mentioned.Names.{is_name, named_to, first_from, mentions, mentioned_to, is_new};
+ghost use Rattle.session_cut_marks.specs.kept.AtKept.{at_kept};
 
 use crate::kept::Kept;
 use crate::roles::{Role, word_of, word_role, words_in};
@@ -51,9 +52,7 @@ pub fn first_name(b: TypeTable, section: &[u8], e: u32, off: u32, n: u32) -> u32
 impl Kept<'_> {
     // Whether type y is kept and mentions the name.
     pub fn mentions(&self, off: u32, y: u32) -> bool
-        ensures { result
-            ≡ mentions self.now.b self.now.section.now self.now.start.now self.now.ids.now
-            off y }
+        ensures { result ≡ at_kept mentions self.now off y }
     {
         if self.new_id(y) == 0 {
             return false;
@@ -70,18 +69,14 @@ impl Kept<'_> {
 
     // Whether one of the types before x does.
     fn mentioned_to(&self, off: u32, x: u32) -> bool
-        ensures { result
-            ≡ mentioned_to self.now.b self.now.section.now self.now.start.now
-            self.now.ids.now off x }
+        ensures { result ≡ at_kept mentioned_to self.now off x }
     {
         (0..x).any(|y| self.mentions(off, y))
     }
 
     // Whether word j of type x mentions a name for the first time.
     pub fn is_new(&self, x: u32, e: u32, j: u32) -> bool
-        ensures { result
-            ≡ is_new self.now.b self.now.section.now self.now.start.now self.now.ids.now x e
-            j }
+        ensures { result ≡ at_kept is_new self.now x e j }
     {
         let Role::Name = word_role(e % 32, j) else {
             return false;
