@@ -25,14 +25,11 @@ pub fn limit(text_len: usize, from: usize) -> usize
 }
 
 // A sum of 32 bits, or the largest such number.
+#[tactic(auto, unfolding(crate::specs::arrival::Arrival::clipped))]
 fn sum(a: u32, n: usize) -> u32
     ensures { result ≡ clipped (a + n) }
 {
-    if n <= ((limit::LARGEST - a) as usize) {
-        a + (n as u32)
-    } else {
-        limit::LARGEST
-    }
+    u32::try_from((a as usize).saturating_add(n)).unwrap_or(u32::MAX)
 }
 
 // What a place in a slice of so many bytes says, after a text of len bytes and so many visits: the new length, or a refusal.
@@ -54,15 +51,11 @@ pub fn arrived(len: u32, visits: u32, room: usize, at: usize) -> Reached
 }
 
 // How many ids there are: as many as the answer's value can count, at most.
+#[tactic(auto, unfolding(spec_session::specs::calls::Lists::count_in))]
 pub fn count_of(ids: &[u8]) -> u32
     ensures { result ≡ count_in ids.now }
 {
-    let n = ids.len() / 4;
-    if n <= limit::LARGEST_LEN {
-        n as u32
-    } else {
-        limit::LARGEST
-    }
+    u32::try_from(ids.len() / 4).unwrap_or(u32::MAX)
 }
 
 // Zeroes what follows the text, if an id was accepted.

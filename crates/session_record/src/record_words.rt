@@ -12,6 +12,9 @@ use spec_session::session::{Answer, Session};
 // Bytes of the record.
 pub const RECORD_BYTES: usize = 128;
 
+// Words of the record that are used, of sixteen.
+const USED_WORDS: usize = 9;
+
 // Answers of a refusal and the value 0: 11, 19, and 255 for a slice that is shorter than C promises.
 pub const ANSWER_CLOSED: u64 = 47244640256;
 
@@ -95,10 +98,8 @@ fn encode_rest(record: &mut [u8], s: Session)
 fn clear_unused(record: &mut [u8])
     ensures { «record».new ≡ unused_zero 7 «record».old }
 {
-    let mut i: usize = 9;
-    while i < 16 {
+    for i in USED_WORDS..16 {
         put_long(record, i, 0);
-        i += 1;
     }
 }
 

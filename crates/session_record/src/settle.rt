@@ -26,19 +26,14 @@ pub fn turn_of(s: Session, number: u32, value: u32) -> Turn
 }
 
 // Cause 11 does not hold.
+#[tactic(auto, unfolding(spec_session::specs::session::Turns::is_current))]
 pub fn is_current(s: Session, section_len: usize, work_len: usize, text_len: usize) -> bool
     ensures { result ≡ is_current s section_len work_len text_len }
 {
-    if !s.open {
-        return false;
-    }
-    if s.section_len != section_len as u64 {
-        return false;
-    }
-    if s.work_len != work_len as u64 {
-        return false;
-    }
-    (s.text_len as usize) <= text_len
+    s.open
+        && s.section_len == section_len as u64
+        && s.work_len == work_len as u64
+        && s.text_len as usize <= text_len
 }
 
 // The session after its requests, open or closed.
@@ -46,15 +41,10 @@ pub fn with_text(s: Session, open: bool, len: u32, visits: u32) -> Session
     ensures { result ≡ with_text s «open» len visits }
 {
     Session {
-        open: open,
-        section_len: s.section_len,
-        work_len: s.work_len,
-        types: s.types,
-        enumerators: s.enumerators,
+        open,
         text_len: len,
-        pointer_size: s.pointer_size,
-        modes: s.modes,
-        visits: visits,
+        visits,
+        ..s
     }
 }
 
