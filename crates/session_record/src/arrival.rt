@@ -10,7 +10,9 @@ use base_bytes::word::clear;
 use base_bytes::{limit, refusal};
 use spec_session::session::{Reached, Session, Tally, Turn};
 
-// How far a text slice may be written after its first bytes: 1,073,741,824 bytes at most.
+// How far a text slice may be written after its first bytes: 1,073,741,824 bytes at most. No min of the lengths says it: what is
+// written already stays, also past that.
+#[tactic(auto, unfolding(spec_session::specs::calls::Calls::limit_of))]
 pub fn limit(text_len: usize, from: usize) -> usize
     ensures { result ≡ limit_of text_len from }
 {
@@ -33,6 +35,7 @@ fn sum(a: u32, n: usize) -> u32
 }
 
 // What a place in a slice of so many bytes says, after a text of len bytes and so many visits: the new length, or a refusal.
+#[tactic(auto, unfolding(crate::specs::arrival::Arrival::arrived_in))]
 pub fn arrived(len: u32, visits: u32, room: usize, at: usize) -> Reached
     ensures { result ≡ arrived_in len visits room at }
 {
@@ -59,6 +62,7 @@ pub fn count_of(ids: &[u8]) -> u32
 }
 
 // Zeroes what follows the text, if an id was accepted.
+#[tactic(auto, unfolding(spec_session::specs::calls::Lists::tailed))]
 fn clear_after(text: &mut [u8], accepted: u32, len: u32)
     ensures { text.new ≡ tailed accepted len text.old }
 {
@@ -70,6 +74,7 @@ fn clear_after(text: &mut [u8], accepted: u32, len: u32)
 }
 
 // The end of a call with a list: 10 leaves what the accepted ids left, 12 to 17 close the session.
+#[tactic(auto, unfolding(spec_session::specs::calls::Lists::list_end, spec_session::specs::session::Turns::turn_of, spec_session::specs::session::Answers::answer_of))]
 pub fn settle_list(s: Session, work: &mut [u8], text: &mut [u8], r: Tally) -> Turn
     ensures { call_of result.session result.answer work.new text.new
         ≡ list_end s r work.old text.old }

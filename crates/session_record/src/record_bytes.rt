@@ -9,6 +9,7 @@ use base_bytes::refusal;
 use spec_session::session::{Answer, Turn};
 
 // Opening writes the record whole, and a refused opening leaves it.
+#[tactic(auto, unfolding(crate::specs::record_bytes::Record::record_opened, crate::specs::record_words::Words::packed, spec_session::specs::session::Answers::number_of, spec_session::specs::session::Answers::value_of))]
 pub fn opened(record: &mut [u8], t: Turn) -> u64
     ensures { (result ≡ packed t.answer) × («record».new ≡ record_opened t.answer t.session «record».old) }
 {
@@ -23,6 +24,7 @@ pub fn opened(record: &mut [u8], t: Turn) -> u64
 }
 
 // A request changes the text length and the visits, and the open word where it closes the session; 10 and 11 change nothing.
+#[tactic(auto, unfolding(crate::specs::record_bytes::Record::record_after))]
 fn store(record: &mut [u8], t: Turn)
     ensures { «record».new ≡ record_after t.answer t.session.visits «record».old }
 {
@@ -55,6 +57,7 @@ pub fn answered(record: &mut [u8], t: Turn) -> u64
 }
 
 // A list changes them if an id was accepted.
+#[tactic(auto, unfolding(crate::specs::record_bytes::Record::record_longer))]
 fn store_longer(record: &mut [u8], accepted: u32, len: u32, visits: u32)
     ensures { «record».new ≡ record_longer accepted len visits «record».old }
 {
@@ -65,6 +68,7 @@ fn store_longer(record: &mut [u8], accepted: u32, len: u32, visits: u32)
     put_reached(record, len, visits)
 }
 
+#[tactic(auto, unfolding(crate::specs::record_bytes::Record::record_listed, crate::specs::record_bytes::Record::record_refused))]
 fn store_stopped(record: &mut [u8], number: u32, accepted: u32, len: u32, visits: u32)
     ensures { «record».new ≡ record_listed number accepted len visits «record».old }
 {
@@ -75,6 +79,7 @@ fn store_stopped(record: &mut [u8], number: u32, accepted: u32, len: u32, visits
     store_longer(record, accepted, len, visits)
 }
 
+#[tactic(auto, unfolding(crate::specs::record_bytes::Record::record_listed, spec_session::specs::session::Answers::number_of, spec_session::specs::session::Answers::value_of))]
 fn store_list(record: &mut [u8], t: Turn)
     ensures { «record».new
         ≡ record_listed (number_of t.answer) (value_of t.answer) t.session.text_len t.session.visits

@@ -22,6 +22,7 @@ pub const ANSWER_NO_DECLARATION: u64 = 81604378624;
 
 pub const ANSWER_SHORT_SLICE: u64 = 1095216660480;
 
+#[tactic(auto, unfolding(crate::specs::record_words::Words::packed, spec_session::specs::session::Answers::number_of, spec_session::specs::session::Answers::value_of))]
 pub fn number_and_value(a: Answer) -> u64
     ensures { result ≡ packed a }
 {
@@ -32,6 +33,7 @@ pub fn number_and_value(a: Answer) -> u64
 }
 
 // Word i of the record.
+#[tactic(auto, unfolding(crate::specs::record_words::Words::get_long))]
 fn get_long(record: &[u8], i: usize) -> u64
     requires { i < 16 }
     ensures { result ≡ get_long «record».now i }
@@ -41,6 +43,7 @@ fn get_long(record: &[u8], i: usize) -> u64
     (high as u64) * limit::TWO_TO_32 + (low as u64)
 }
 
+#[tactic(auto, unfolding(crate::specs::record_words::Words::put_long))]
 fn put_long(record: &mut [u8], i: usize, v: u64)
     requires { i < 16 }
     ensures { «record».new ≡ put_long «record».old i v }
@@ -57,6 +60,7 @@ pub fn shut(record: &mut [u8])
 }
 
 // The record's value; of a word that holds 32 bits the upper half does not matter.
+#[tactic(auto, unfolding(crate::specs::record_words::Words::decoded))]
 pub fn decode(record: &[u8]) -> Session
     ensures { result ≡ decoded «record».now }
 {
@@ -74,6 +78,7 @@ pub fn decode(record: &[u8]) -> Session
 }
 
 // Writes the words that opening decides; the rest of the sixteen is zero.
+#[tactic(auto, unfolding(crate::specs::record_words::Words::encoded, crate::specs::record_words::Words::encoded_last, crate::specs::record_words::Words::put_longs))]
 pub fn encode(record: &mut [u8], s: Session)
     ensures { «record».new ≡ encoded s «record».old }
 {
@@ -85,6 +90,7 @@ pub fn encode(record: &mut [u8], s: Session)
     encode_rest(record, s);
 }
 
+#[tactic(auto, unfolding(crate::specs::record_words::Words::encoded_last, crate::specs::record_words::Words::put_longs, crate::specs::record_words::Words::unused_zero))]
 fn encode_rest(record: &mut [u8], s: Session)
     ensures { «record».new ≡ encoded_last s «record».old }
 {
@@ -104,6 +110,7 @@ fn clear_unused(record: &mut [u8])
 }
 
 // What a request writes: the length of the text, and the visits.
+#[tactic(auto, unfolding(crate::specs::record_words::Words::put_reached))]
 pub fn put_reached(record: &mut [u8], len: u32, visits: u32)
     ensures { «record».new ≡ put_reached «record».old len visits }
 {

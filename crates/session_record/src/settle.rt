@@ -6,6 +6,7 @@ ghost use Rattle.spec_session.specs.session.Turns.{call_of, turn_of, is_current,
 use base_bytes::word::{clear, get_word};
 use spec_session::session::{Answer, Reached, Session, Turn};
 
+#[tactic(auto, unfolding(spec_session::specs::session::Answers::answer_of))]
 pub fn answer_of(number: u32, value: u32) -> Answer
     ensures { result ≡ answer_of number value }
 {
@@ -16,6 +17,7 @@ pub fn answer_of(number: u32, value: u32) -> Answer
 }
 
 // A turn that leaves the session as it is.
+#[tactic(auto, unfolding(spec_session::specs::session::Turns::turn_of))]
 pub fn turn_of(s: Session, number: u32, value: u32) -> Turn
     ensures { result ≡ turn_of s (answer_of number value) }
 {
@@ -49,6 +51,7 @@ pub fn with_text(s: Session, open: bool, len: u32, visits: u32) -> Session
 }
 
 // Zeroes what follows the first n bytes.
+#[tactic(auto, unfolding(spec_session::specs::session::Turns::then_zeros))]
 pub fn clear_from(text: &mut [u8], n: u32)
     ensures { text.new ≡ then_zeros (length text.old) n text.old }
 {
@@ -60,6 +63,7 @@ pub fn clear_from(text: &mut [u8], n: u32)
 }
 
 // The visits that the work counts, in word 2 of void.
+#[tactic(auto, unfolding(spec_session::specs::session::Turns::visits_in))]
 pub fn visits_in(work: &[u8]) -> u32
     ensures { result ≡ visits_in work.now }
 {
