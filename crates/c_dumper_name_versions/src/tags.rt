@@ -8,17 +8,17 @@ ghost use Rattle.spec_type_table.specs.Table.{btf_of};
 
 use base_bytes::put::{put_bytes, put_two};
 use base_keywords::table::{Word, put_word};
+use btf_type_table::cell;
 use btf_type_table::cell::get_field;
 use btf_type_table::escape::put_escaped;
-use btf_type_table::kind::{kind_flag_of, kind_of};
+use btf_type_table::kind::kind_flag_of;
 use btf_type_table::name::get_btf_str;
 use btf_type_table::node::type_by_id;
 use btf_type_table::section_word::comp_idx_of;
-use btf_type_table::{cell, kind};
-use spec_type_table::TypeTable;
+use spec_type_table::{Kind, TypeTable};
 
 // The component index of a tag that is on the whole type: -1.
-pub const WHOLE_TYPE: u32 = 4294967295;
+pub const WHOLE_TYPE: u32 = u32::MAX;
 
 fn put_tag_name(text: &mut [u8], at: usize, is_decl: bool) -> usize
     ensures { put_out result text.new ≡ put_text text.old at (whole (tag_name is_decl)) }
@@ -70,7 +70,7 @@ fn emit_decl_tag(
         (decl_tag comp_idx ((btf_of b section.now work.now).type_by_id id))) }
 {
     let t = type_by_id(b, section, work, id);
-    if kind_of(t.info) != kind::DECL_TAG {
+    if Kind::of(t.info) != Kind::DeclTag {
         return at;
     }
     if comp_idx_of(b, section, t) != comp_idx {

@@ -14,6 +14,10 @@ use Rattle.spec_c_dumper.specs.rules.Decl.{attribute, decl_tag, decl_tags}
 use Rattle.spec_type_table.specs.declared.types.TypeTable.{TypeTable}
 use Rattle.spec_type_table.specs.declared.types.BtfType.{BtfType as Record}
 use Rattle.spec_type_table.specs.Cells.{get_field}
+use Rattle.spec_type_table.specs.declared.kind.Kind.{Kind}
+use Rattle.spec_type_table.specs.declared.kind.Kind.TheVariants.{DeclTag as KindTag}
+use Rattle.spec_type_table.specs.Kinds.{kind_named}
+use Rattle.spec_type_table.proofs.KindNames.{decl_tag_named}
 use Rattle.spec_type_table.specs.Names.{str_at}
 use Rattle.spec_type_table.specs.Records.{kind_of, flag_of, record_by_id}
 use Rattle.spec_type_table.specs.Table.{type_of, record_name, extra_word, tags_from, tags_of, btf_of}
@@ -38,6 +42,9 @@ module _ (t : List ℕ) (at r : ℕ) (u : List ℕ) (word name : List ℕ) where
   put_worded is_attr h e = rw h e
 
 -- ---- emit_decl_tag
+pub tag_named : (k : ℕ) (x : Kind) → x ≡ kind_named k → k ≡ 17 → x ≡ KindTag
+tag_named k x e q = e ∙ ap kind_named q ∙ decl_tag_named
+
 module _ (b : TypeTable) (s : List ℕ) (comp : ℕ) (t : Record) where
   no_tag : (kind_of t.info ≡ 17 → ⊥) → decl_tag comp (type_of b s t) ≡ []
   unfolding decl_tag

@@ -10,7 +10,6 @@ ghost use Rattle.spec_type_table.specs.Names.{str_at};
 ghost use Rattle.spec_type_table.specs.Table.{work_naming, value_version_in};
 ghost use Rattle.c_dumper_name_versions.specs.names.Spelling.{name_text, name_after};
 
-use base_bytes::limit;
 use base_bytes::put::{put_byte, put_decimal};
 use base_keywords::table::{Word, put_word};
 use btf_open_names::numbers::get_number;
@@ -19,7 +18,11 @@ use btf_type_table::cell::{get_field, put_field};
 use btf_type_table::name::{is_empty, put_str};
 use spec_type_table::TypeTable;
 
-// A name by its offset in the string area, and which of its holders prints it.
+// From this holder of a name on, its number is printed.
+const SECOND: u32 = 2;
+
+// A name by its offset in the string area, and which of its holders prints it; 0 for a name that has no holders, which is printed as the
+// first one's. (With an Option its two bare cases, none and the first, would be asked for in two steps.)
 #[derive(Clone, Copy)]
 pub struct Name {
     pub off: u32,
@@ -30,10 +33,7 @@ pub struct Name {
 pub fn bare(off: u32) -> Name
     ensures { result ≡ record { off = off; version = 0 } }
 {
-    Name {
-        off: off,
-        version: 0,
-    }
+    Name { off, version: 0 }
 }
 
 // The name of type id, which it keeps; it counts as a holder when it is first asked for.
@@ -47,17 +47,11 @@ pub fn resolve_type_name(b: TypeTable, section: &[u8], work: &mut [u8], id: u32,
     }
     let version = get_field(work, id, cell::NAME_VERSION);
     if version != 0 {
-        return Name {
-            off: off,
-            version: version,
-        };
+        return Name { off, version };
     }
     let n = get_number(work, b.types, id);
     put_field(work, id, cell::NAME_VERSION, n);
-    Name {
-        off: off,
-        version: n,
-    }
+    Name { off, version: n }
 }
 
 // The name of enumerator e, counted over all enums: each time it is printed it is one more holder.
@@ -65,21 +59,20 @@ pub fn resolve_name(b: TypeTable, work: &mut [u8], e: u32, off: u32) -> Name
     ensures { (result.off ≡ off) × (result.version ≡ (value_version_in b.types e work.old).version)
         × (work.new ≡ (value_version_in b.types e work.old).names) }
 {
-    let h = (b.types as u64) + (e as u64);
-    if h < limit::TWO_TO_32 {
-        return Name {
-            off: off,
-            version: get_number(work, b.types, h as u32),
-        };
+    let Some(h) = b.types.checked_add(e) else {
+        return bare(off);
+    };
+    Name {
+        off,
+        version: get_number(work, b.types, h),
     }
-    bare(off)
 }
 
 pub fn put_name(b: TypeTable, section: &[u8], text: &mut [u8], at: usize, name: Name) -> usize
     ensures { put_out result text.new ≡ put_text text.old at (whole (name_text b section.now name)) }
 {
     let a = put_str(b, section, text, at, name.off);
-    if name.version < 2 {
+    if name.version < SECOND {
         return a;
     }
     let c = put_word(text, a, Word::Underscores);
@@ -90,10 +83,7 @@ pub fn put_name(b: TypeTable, section: &[u8], text: &mut [u8], at: usize, name: 
 pub fn is_blank(b: TypeTable, section: &[u8], name: Name) -> bool
     ensures { result ≡ is_empty (name_text b section.now name) }
 {
-    if name.version < 2 {
-        return is_empty(b, section, name.off);
-    }
-    false
+    name.version < SECOND && is_empty(b, section, name.off)
 }
 
 // sep and the name: a space before it, unless it is empty.
