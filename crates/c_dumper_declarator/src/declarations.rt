@@ -13,8 +13,9 @@ ghost use Rattle.spec_type_table.specs.Records.{kind_of, record_by_id};
 ghost use Rattle.spec_type_table.specs.Table.{from, param_of, params_of, members_of, record_name, type_of, btf_of, work_naming};
 ghost use Rattle.c_dumper_name_versions.specs.names.Spelling.{name_text};
 ghost use Rattle.c_dumper_bodies.specs.chain.Chains.{chain_at, only_links};
-ghost use Rattle.c_dumper_bodies.specs.bodies.Pieces.{entry_left, entry_star, entry_named, word_below, params_below, array_below};
+ghost use Rattle.c_dumper_bodies.specs.bodies.Pieces.{word_below, params_below, array_below};
 ghost use Rattle.c_dumper_bodies.specs.bodies.Pieces.{proto_below};
+ghost use Rattle.c_dumper_declarator.specs.declarations.Rests.{RestIs};
 ghost use Rattle.c_dumper_bodies.specs.bodies.Pieces.{param_list_below, entry_text, chain_rest, param_text};
 
 pub use crate::declarations::members::emit_composite_def;
@@ -43,13 +44,18 @@ pub struct Declarator {
     pub lvl: u32,
 }
 
-// A chain that is being printed: the place in the text, the entries left, and whether the declared name stands already.
+// What is left of a chain that is being printed: its entries, and whether the last that was printed is a pointer.
 #[derive(Clone, Copy)]
-struct Chain {
-    at: usize,
+struct Rest {
     n: u32,
     last_was_ptr: bool,
-    is_named: bool,
+}
+
+// Where an entry ended in the text, and the rest of its chain: none once the declared name stands.
+#[derive(Clone, Copy)]
+struct Stand {
+    at: usize,
+    rest: Option<Rest>,
 }
 
 #[cycle(declarator)]
@@ -163,42 +169,38 @@ fn emit_links(
         (work_naming b) (btf_of b section.now work.old) below (name_text b section.now d.name) d.lvl
         false last_was_ptr (chain_at b section.now work.old d.id n) work.old) }
 {
-    let mut c = goes_on(at, n, last_was_ptr);
+    let mut p = at;
+    let mut c = Rest { n, last_was_ptr };
     while 0 < c.n {
-        c = emit_entry(b, section, work, text, c, d, below);
-        if stopped(text, c.at) {
-            return c.at;
+        let e = emit_entry(b, section, work, text, p, c, d, below);
+        p = e.at;
+        let Some(rest) = e.rest else {
+            return p;
+        };
+        if stopped(text, p) {
+            return p;
         }
-    }
-    if c.is_named {
-        return c.at;
+        c = rest;
     }
     let name = d.name;
-    emit_name(b, section, text, c.at, name, c.last_was_ptr)
+    emit_name(b, section, text, p, name, c.last_was_ptr)
 }
 
 // The chain goes on from a place with n entries.
-fn goes_on(at: usize, n: u32, last_was_ptr: bool) -> Chain
-    ensures { result ≡ record { at = at; n = n; last_was_ptr = last_was_ptr; is_named = false } }
+fn goes_on(at: usize, n: u32, last_was_ptr: bool) -> Stand
+    ensures { result ≡ record { at = at; rest = Some (record { n = n; last_was_ptr = last_was_ptr }) } }
 {
-    Chain {
-        at: at,
-        n: n,
-        last_was_ptr: last_was_ptr,
-        is_named: false,
+    Stand {
+        at,
+        rest: Some(Rest { n, last_was_ptr }),
     }
 }
 
 // The declared name stands, and nothing is left.
-fn named(at: usize) -> Chain
-    ensures { result ≡ record { at = at; n = 0; last_was_ptr = false; is_named = true } }
+fn named(at: usize) -> Stand
+    ensures { result ≡ record { at = at; rest = None } }
 {
-    Chain {
-        at: at,
-        n: 0,
-        last_was_ptr: false,
-        is_named: true,
-    }
+    Stand { at, rest: None }
 }
 
 // Pops and prints the entry on top; one of no other kind that leads on is a type tag.
@@ -208,40 +210,38 @@ fn emit_entry(
     section: &[u8],
     work: &mut [u8],
     text: &mut [u8],
-    c: Chain,
+    at: usize,
+    c: Rest,
     d: Declarator,
     below: u32,
-) -> Chain
+) -> Stand
     requires { (0 < c.n) × (only_links (chain_at b section.now work.old d.id c.n) ≡ true) }
     ensures { (out_of result.at text.new work.new
-        ≡ put_said text.old c.at
+        ≡ put_said text.old at
         (entry_text (work_asks b.types (btf_of b section.now work.old)) (work_naming b)
         (btf_of b section.now work.old) below (name_text b section.now d.name) d.lvl
         c.last_was_ptr (chain_at b section.now work.old d.id c.n) work.old))
-        × (chain_at b section.now work.old d.id result.n
-        ≡ entry_left (chain_at b section.now work.old d.id c.n))
-        × (result.last_was_ptr ≡ entry_star (chain_at b section.now work.old d.id c.n))
-        × (result.is_named ≡ entry_named (chain_at b section.now work.old d.id c.n)) × (result.n ≤ c.n - 1) }
+        × RestIs (chain_at b section.now work.old d.id) c.n result.rest }
 {
     let n = c.n - 1;
     let t = type_by_id(b, section, work, path_at(b, section, work, d.id, n));
     let kind = Kind::of(t.info);
     match kind {
-        Kind::Ptr => goes_on(put_star(text, c.at, c.last_was_ptr), n, true),
+        Kind::Ptr => goes_on(put_star(text, at, c.last_was_ptr), n, true),
         Kind::Array => {
             let nelems = array_nelems(b, section, t);
             let m = skip_mods(b, section, work, d.id, n);
-            let a = emit_array(b, section, work, text, c.at, d, m, c.last_was_ptr, below);
+            let a = emit_array(b, section, work, text, at, d, m, c.last_was_ptr, below);
             named(put_count(text, a, nelems))
         }
         Kind::Volatile | Kind::Const | Kind::Restrict => {
-            let a = put_byte(text, c.at, b' ');
+            let a = put_byte(text, at, b' ');
             goes_on(put_qualifier(text, a, kind), n, false)
         }
-        Kind::FuncProto => named(emit_function(b, section, work, text, c, d, t, below)),
+        Kind::FuncProto => named(emit_function(b, section, work, text, at, c, d, t, below)),
         _ => {
             let m = skip_mods(b, section, work, d.id, n);
-            let a = emit_mods(b, section, work, text, c.at, d.id, n, m);
+            let a = emit_mods(b, section, work, text, at, d.id, n, m);
             goes_on(put_type_tag(b, section, text, a, t), m, false)
         }
     }
@@ -254,14 +254,15 @@ fn emit_function(
     section: &[u8],
     work: &mut [u8],
     text: &mut [u8],
-    c: Chain,
+    at: usize,
+    c: Rest,
     d: Declarator,
     t: BtfType,
     below: u32,
 ) -> usize
     requires { (0 < c.n) × (only_links (chain_at b section.now work.old d.id c.n) ≡ true) }
     ensures { out_of result text.new work.new
-        ≡ put_said text.old c.at
+        ≡ put_said text.old at
         ((put (mods (chain_at b section.now work.old d.id (c.n - 1)))
         ⨾ proto_below (work_asks b.types (btf_of b section.now work.old)) (work_naming b)
         (btf_of b section.now work.old) below (name_text b section.now d.name) d.lvl
@@ -272,7 +273,7 @@ fn emit_function(
 {
     let n = c.n - 1;
     let m = skip_mods(b, section, work, d.id, n);
-    let a = emit_mods(b, section, work, text, c.at, d.id, n, m);
+    let a = emit_mods(b, section, work, text, at, d.id, n, m);
     let f = emit_proto(b, section, work, text, a, d, m, c.last_was_ptr, below);
     emit_params(b, section, work, text, f, entries_of(t), d.lvl, below)
 }

@@ -24,7 +24,9 @@ use Rattle.c_dumper_bodies.specs.chain.Chains.{is_qualifier, qualifier_of, entry
 use Rattle.c_dumper_bodies.proofs.chain.Only.{links_below, links_mods, links_tag}
 use Rattle.c_dumper_bodies.proofs.chain.Paths.{chain_top, no_mods_skipped, put_mods}
 use Rattle.c_dumper_bodies.proofs.chain.Linked.{array_on, array_off, entry_star_lem, entry_array, entry_proto, entry_tag, entry_qual}
-use Rattle.c_dumper_declarator.specs.declared.declarations.Chain.{Chain}
+use Rattle.std.specs.Prelude.{Some, None}
+use Rattle.c_dumper_declarator.specs.declared.declarations.Rest.{Rest}
+use Rattle.c_dumper_declarator.specs.declared.declarations.Stand.{Stand}
 use Rattle.c_dumper_bodies.specs.bodies.Pieces.{entry_left, entry_star, entry_named, gap, star_text, word_below, params_below, array_below, proto_below, param_list_below, entry_text, chain_rest, enum_text}
 use Rattle.c_dumper_declarator.proofs.declarations.Turns.{chain_turn, chain_done, chain_some, word_any}
 use Rattle.c_dumper_bodies.proofs.bodies.BodyLaws.{also}
@@ -113,8 +115,8 @@ module _ (b : TypeTable) (s : List ℕ) where
         → out_of p t₂ w₂ ≡ put_said txt at (emit_type_chain_once (Q b s (T b s w)) (N b s) (T b s w) left (base x ∷ chain_at b s w id n) fname lvl w)
     based_stops q = based_on p t₂ w₂ (said_stopped t₂ p _ w₂ q)
 
-  -- ---- emit_entry: c is the chain, x the id on top, t its record, k its kind
-  module _ (below id : ℕ) (fname : Name) (lvl : ℕ) (c : Chain) (w : List ℕ) (txt : List ℕ) (h : 0 < c.n) (x : ℕ) (ex : x ≡ path_at b s w id (c.n - 1)) (t : Record) (et : t ≡ record_by_id b s w x)
+  -- ---- emit_entry: c is what is left of the chain, x the id on top, t its record, k its kind
+  module _ (below id : ℕ) (fname : Name) (lvl : ℕ) (at : ℕ) (c : Rest) (w : List ℕ) (txt : List ℕ) (h : 0 < c.n) (x : ℕ) (ex : x ≡ path_at b s w id (c.n - 1)) (t : Record) (et : t ≡ record_by_id b s w x)
       (k : Kind) (ek : k ≡ kind_named (kind_of t.info)) where
     abbrev below_top : List Entry
     below_top = chain_at b s w id (c.n - 1)
@@ -125,59 +127,62 @@ module _ (b : TypeTable) (s : List ℕ) where
         ∙ ap (λ (y : ℕ). entry_of b s w y ∷ below_top) (sym ex)
         ∙ ap (λ (y : Entry). y ∷ below_top) q
 
-    entry_done : (e : Entry) (r : Chain) (p m : ℕ) (t' w' : List ℕ) → entry_of b s w x ≡ e
-        → r ≡ record { at = p; n = m; last_was_ptr = entry_star (e ∷ below_top); is_named = entry_named (e ∷ below_top) }
-        → out_of p t' w' ≡ put_said txt c.at (entry_text (Q b s (T b s w)) (N b s) (T b s w) below fname lvl c.last_was_ptr (e ∷ below_top) w)
-        → chain_at b s w id m ≡ entry_left (e ∷ below_top) → m ≤ c.n - 1 → Printed b s below id fname lvl c w txt r t' w'
-    entry_done e r p m t' w' q er o l g = rw (top e q, er) (o, l, refl, refl, g)
+    entry_goes : (e : Entry) (r : Stand) (p m : ℕ) (t' w' : List ℕ) → entry_of b s w x ≡ e → entry_named (e ∷ below_top) ≡ false
+        → r ≡ record { at = p; rest = Some (record { n = m; last_was_ptr = entry_star (e ∷ below_top) }) }
+        → out_of p t' w' ≡ put_said txt at (entry_text (Q b s (T b s w)) (N b s) (T b s w) below fname lvl c.last_was_ptr (e ∷ below_top) w)
+        → chain_at b s w id m ≡ entry_left (e ∷ below_top) → m ≤ c.n - 1 → Printed b s below id fname lvl at c w txt r t' w'
+    entry_goes e r p m t' w' q f er o l g = rw (er, top e q) (o, (l, refl, f, g))
 
-    pub arm_star : (r : Chain) (p : ℕ) (t' : List ℕ) → k ≡ Ptr → put_out p t' ≡ put_text txt c.at (whole (star_text c.last_was_ptr))
-        → r ≡ record { at = p; n = c.n - 1; last_was_ptr = true; is_named = false } → Printed b s below id fname lvl c w txt r t' w
+    entry_stands : (e : Entry) (r : Stand) (p : ℕ) (t' w' : List ℕ) → entry_of b s w x ≡ e → entry_named (e ∷ below_top) ≡ true → r ≡ record { at = p; rest = None }
+        → out_of p t' w' ≡ put_said txt at (entry_text (Q b s (T b s w)) (N b s) (T b s w) below fname lvl c.last_was_ptr (e ∷ below_top) w)
+        → Printed b s below id fname lvl at c w txt r t' w'
+    entry_stands e r p t' w' q f er o = rw (er, top e q) (o, f)
+
+    pub arm_star : (r : Stand) (p : ℕ) (t' : List ℕ) → k ≡ Ptr → put_out p t' ≡ put_text txt at (whole (star_text c.last_was_ptr))
+        → r ≡ record { at = p; rest = Some (record { n = c.n - 1; last_was_ptr = true }) } → Printed b s below id fname lvl at c w txt r t' w
     unfolding entry_text entry_star entry_named entry_left
     arm_star r p t' e o er =
-        entry_done star r p (c.n - 1) t' w (entry_star_lem b s w x t et (sym ek ∙ e)) er (put_only txt c.at _ w p t' o) refl (omega arith)
+        entry_goes star r p (c.n - 1) t' w (entry_star_lem b s w x t et (sym ek ∙ e)) refl er (put_only txt at _ w p t' o) refl (omega arith)
 
-    pub arm_array : (r : Chain) (n m a : ℕ) (t₁ w₁ : List ℕ) (p : ℕ) (t₂ : List ℕ) → k ≡ Array → n ≡ nelems_word b s t → m ≡ skipped b s w id (c.n - 1)
-        → out_of a t₁ w₁ ≡ put_said txt c.at (array_below (Q b s (T b s w)) (N b s) (T b s w) below fname lvl c.last_was_ptr (chain_at b s w id m) w)
+    pub arm_array : (r : Stand) (n m a : ℕ) (t₁ w₁ : List ℕ) (p : ℕ) (t₂ : List ℕ) → k ≡ Array → n ≡ nelems_word b s t → m ≡ skipped b s w id (c.n - 1)
+        → out_of a t₁ w₁ ≡ put_said txt at (array_below (Q b s (T b s w)) (N b s) (T b s w) below fname lvl c.last_was_ptr (chain_at b s w id m) w)
         → put_out p t₂ ≡ put_text t₁ a (whole (brackets n))
-        → r ≡ record { at = p; n = 0; last_was_ptr = false; is_named = true } → Printed b s below id fname lvl c w txt r t₂ w₁
+        → r ≡ record { at = p; rest = None } → Printed b s below id fname lvl at c w txt r t₂ w₁
     unfolding entry_text entry_star entry_named entry_left chain_at
     arm_array r n m a t₁ w₁ p t₂ e en em o₁ o₂ er =
-        entry_done (array (nelems_word b s t)) r p 0 t₂ w₁ (entry_array b s w x t et (sym ek ∙ e)) er
-        (put_then txt c.at _ _ w a t₁ w₁ p t₂ w₁
-        (said_as txt c.at _ _ w a t₁ w₁ (ap (array_below (Q b s (T b s w)) (N b s) (T b s w) below fname lvl c.last_was_ptr) (no_mods_lem w id (c.n - 1) m em)) o₁)
+        entry_stands (array (nelems_word b s t)) r p t₂ w₁ (entry_array b s w x t et (sym ek ∙ e)) refl er
+        (put_then txt at _ _ w a t₁ w₁ p t₂ w₁
+        (said_as txt at _ _ w a t₁ w₁ (ap (array_below (Q b s (T b s w)) (N b s) (T b s w) below fname lvl c.last_was_ptr) (no_mods_lem w id (c.n - 1) m em)) o₁)
         (put_only t₁ a _ w₁ p t₂ (o₂ ∙ ap (put_text t₁ a) (ap whole (ap brackets en)))))
-        refl
-        (omega arith)
 
     qual_is : (k ≡ Volatile) ⊎ ((k ≡ Const) ⊎ (k ≡ Restrict)) → is_qualifier k ≡ true
     qual_is (inl e) = ap is_qualifier e
     qual_is (inr (inl e)) = ap is_qualifier e
     qual_is (inr (inr e)) = ap is_qualifier e
 
-    pub arm_qual : (r : Chain) (a : ℕ) (t₁ : List ℕ) (p : ℕ) (t₂ : List ℕ) → (k ≡ Volatile) ⊎ ((k ≡ Const) ⊎ (k ≡ Restrict))
-        → put_out a t₁ ≡ put_text txt c.at (whole (ascii " ")) → put_out p t₂ ≡ put_text t₁ a (whole (qualifier (qualifier_of k)))
-        → r ≡ record { at = p; n = c.n - 1; last_was_ptr = false; is_named = false } → Printed b s below id fname lvl c w txt r t₂ w
+    pub arm_qual : (r : Stand) (a : ℕ) (t₁ : List ℕ) (p : ℕ) (t₂ : List ℕ) → (k ≡ Volatile) ⊎ ((k ≡ Const) ⊎ (k ≡ Restrict))
+        → put_out a t₁ ≡ put_text txt at (whole (ascii " ")) → put_out p t₂ ≡ put_text t₁ a (whole (qualifier (qualifier_of k)))
+        → r ≡ record { at = p; rest = Some (record { n = c.n - 1; last_was_ptr = false }) } → Printed b s below id fname lvl at c w txt r t₂ w
     unfolding entry_text entry_star entry_named entry_left
     arm_qual r a t₁ p t₂ g o₁ o₂ er =
-        entry_done (qual (qualifier_of (kind_named (kind_of t.info)))) r p (c.n - 1) t₂ w (entry_qual b s w x t et (ap is_qualifier (sym ek) ∙ qual_is g)) er
-        (put_only txt c.at _ w p t₂ (put_seq txt c.at _ _ a t₁ p t₂ o₁ (o₂ ∙ ap (λ (y : Kind). put_text t₁ a (whole (qualifier (qualifier_of y)))) ek)))
+        entry_goes (qual (qualifier_of (kind_named (kind_of t.info)))) r p (c.n - 1) t₂ w (entry_qual b s w x t et (ap is_qualifier (sym ek) ∙ qual_is g)) refl er
+        (put_only txt at _ w p t₂ (put_seq txt at _ _ a t₁ p t₂ o₁ (o₂ ∙ ap (λ (y : Kind). put_text t₁ a (whole (qualifier (qualifier_of y)))) ek)))
         refl
         (omega arith)
 
-    pub arm_proto : (r : Chain) (p : ℕ) (t' w' : List ℕ) → k ≡ FuncProto
-        → out_of p t' w' ≡ put_said txt c.at ((put (mods (chain_at b s w id (c.n - 1))) ⨾ proto_below (Q b s (T b s w)) (N b s) (T b s w) below fname lvl c.last_was_ptr (no_mods (chain_at b s w id (c.n - 1))) ⨾ param_list_below (Q b s (T b s w)) (N b s) (T b s w) below fname lvl (params_of b s t)) w)
-        → r ≡ record { at = p; n = 0; last_was_ptr = false; is_named = true } → Printed b s below id fname lvl c w txt r t' w'
+    pub arm_proto : (r : Stand) (p : ℕ) (t' w' : List ℕ) → k ≡ FuncProto
+        → out_of p t' w' ≡ put_said txt at ((put (mods (chain_at b s w id (c.n - 1))) ⨾ proto_below (Q b s (T b s w)) (N b s) (T b s w) below fname lvl c.last_was_ptr (no_mods (chain_at b s w id (c.n - 1))) ⨾ param_list_below (Q b s (T b s w)) (N b s) (T b s w) below fname lvl (params_of b s t)) w)
+        → r ≡ record { at = p; rest = None } → Printed b s below id fname lvl at c w txt r t' w'
     unfolding entry_text entry_star entry_named entry_left chain_at
-    arm_proto r p t' w' e o er = entry_done (proto (params_of b s t)) r p 0 t' w' (entry_proto b s w x t et (sym ek ∙ e)) er o refl (omega arith)
+    arm_proto r p t' w' e o er = entry_stands (proto (params_of b s t)) r p t' w' (entry_proto b s w x t et (sym ek ∙ e)) refl er o
 
-    pub arm_tag : (r : Chain) (m a : ℕ) (t₁ : List ℕ) (p : ℕ) (t₂ : List ℕ) → k ≡ TypeTag → m ≡ skipped b s w id (c.n - 1) → m ≤ c.n - 1
-        → put_out a t₁ ≡ put_text txt c.at (whole (mods_down b s w id m (c.n - 1))) → put_out p t₂ ≡ put_text t₁ a (whole (attribute (flag_of t.info) (ascii "btf_type_tag") (record_name b s t)))
-        → r ≡ record { at = p; n = m; last_was_ptr = false; is_named = false } → Printed b s below id fname lvl c w txt r t₂ w
+    pub arm_tag : (r : Stand) (m a : ℕ) (t₁ : List ℕ) (p : ℕ) (t₂ : List ℕ) → k ≡ TypeTag → m ≡ skipped b s w id (c.n - 1) → m ≤ c.n - 1
+        → put_out a t₁ ≡ put_text txt at (whole (mods_down b s w id m (c.n - 1))) → put_out p t₂ ≡ put_text t₁ a (whole (attribute (flag_of t.info) (ascii "btf_type_tag") (record_name b s t)))
+        → r ≡ record { at = p; rest = Some (record { n = m; last_was_ptr = false }) } → Printed b s below id fname lvl at c w txt r t₂ w
     unfolding entry_text entry_star entry_named entry_left
     arm_tag r m a t₁ p t₂ e em g o₁ o₂ er =
-        entry_done (tag (flag_of t.info) (record_name b s t)) r p m t₂ w (entry_tag b s w x t et (sym ek ∙ e)) er
-        (also txt c.at _ _ w a t₁ p t₂ w (put_mods b s w id txt c.at a t₁ m (c.n - 1) em o₁) (put_only t₁ a _ w p t₂ o₂))
+        entry_goes (tag (flag_of t.info) (record_name b s t)) r p m t₂ w (entry_tag b s w x t et (sym ek ∙ e)) refl er
+        (also txt at _ _ w a t₁ p t₂ w (put_mods b s w id txt at a t₁ m (c.n - 1) em o₁) (put_only t₁ a _ w p t₂ o₂))
         (no_mods_lem w id (c.n - 1) m em)
         g
 

@@ -3,10 +3,11 @@ use mathlib.Core.Path.{refl, ◌∙◌, sym}
 use Rattle.spec_c_dumper.proofs.rules.Writing.{put_only, said_stopped}
 use Rattle.c_dumper_declarator.proofs.declarations.Kept.{leads_start, leads_end}
 use Rattle.c_dumper_declarator.proofs.declarations.DeclLaws as chains
-use Rattle.c_dumper_declarator.proofs.declarations.DeclLaws.{chain_left, Clear}
+use Rattle.c_dumper_declarator.proofs.declarations.DeclLaws.{chain_left}
 use Rattle.c_dumper_declarator.proofs.declarations.EntryLaws as entries
 use Rattle.c_dumper_declarator.proofs.declarations.MemberLaws as members
 use Rattle.c_dumper_declarator.proofs.declarations.MemberLaws.{params_left, members_left}
+use Rattle.c_dumper_bodies.specs.chain.Chains.{chain_at}
 use native.Mathlib.Omega.{arith}
 use Rattle.c_dumper_declarator.proofs.declarations.+declarator.Goals as goal
 
@@ -74,19 +75,19 @@ pub emit_entry-emit_function-requires : goal.emit_entry-emit_function-requires
 emit_entry-emit_function-requires t c = (omega arith, c.requires)
 
 pub emit_entry-returns-in-Ptr : goal.emit_entry-returns-in-Ptr
-emit_entry-returns-in-Ptr t c = entries.arm_star _ _ _ _ _ _ c.args.c _ _ c.requires.0 _ c.path_at.ensures _ c.type_by_id-t.ensures _ c.of-kind.ensures _ _ _ c.in-Ptr.is c.put_star.ensures c.goes_on.ensures
+emit_entry-returns-in-Ptr t c = entries.arm_star _ _ _ _ _ _ _ c.args.c _ _ c.requires.0 _ c.path_at.ensures _ c.type_by_id-t.ensures _ c.of-kind.ensures _ _ _ c.in-Ptr.is c.put_star.ensures c.goes_on.ensures
 
 pub emit_entry-returns-in-Array : goal.emit_entry-returns-in-Array
-emit_entry-returns-in-Array t c = entries.arm_array _ _ _ _ _ _ c.args.c _ _ c.requires.0 _ c.path_at.ensures _ c.type_by_id-t.ensures _ c.of-kind.ensures _ _ _ _ _ _ _ _ c.in-Array.is c.array_nelems-nelems.ensures c.skip_mods-m.ensures.0 c.emit_array-a.ensures c.put_count.ensures c.named.ensures
+emit_entry-returns-in-Array t c = entries.arm_array _ _ _ _ _ _ _ c.args.c _ _ c.requires.0 _ c.path_at.ensures _ c.type_by_id-t.ensures _ c.of-kind.ensures _ _ _ _ _ _ _ _ c.in-Array.is c.array_nelems-nelems.ensures c.skip_mods-m.ensures.0 c.emit_array-a.ensures c.put_count.ensures c.named.ensures
 
 pub emit_entry-returns-in-FuncProto : goal.emit_entry-returns-in-FuncProto
-emit_entry-returns-in-FuncProto t c = entries.arm_proto _ _ _ _ _ _ c.args.c _ _ c.requires.0 _ c.path_at.ensures _ c.type_by_id-t.ensures _ c.of-kind.ensures _ _ _ _ c.in-FuncProto.is c.emit_function.ensures c.named-in-FuncProto.ensures
+emit_entry-returns-in-FuncProto t c = entries.arm_proto _ _ _ _ _ _ _ c.args.c _ _ c.requires.0 _ c.path_at.ensures _ c.type_by_id-t.ensures _ c.of-kind.ensures _ _ _ _ c.in-FuncProto.is c.emit_function.ensures c.named-in-FuncProto.ensures
 
 pub emit_entry-returns-in-Volatile : goal.emit_entry-returns-in-Volatile
-emit_entry-returns-in-Volatile t c = entries.arm_qual _ _ _ _ _ _ c.args.c _ _ c.requires.0 _ c.path_at.ensures _ c.type_by_id-t.ensures _ c.of-kind.ensures _ _ _ _ _ c.in-Volatile.is c.put_byte-a.ensures c.put_qualifier.ensures c.goes_on-in-Volatile.ensures
+emit_entry-returns-in-Volatile t c = entries.arm_qual _ _ _ _ _ _ _ c.args.c _ _ c.requires.0 _ c.path_at.ensures _ c.type_by_id-t.ensures _ c.of-kind.ensures _ _ _ _ _ c.in-Volatile.is c.put_byte-a.ensures c.put_qualifier.ensures c.goes_on-in-Volatile.ensures
 
 pub emit_entry-returns-in_default : goal.emit_entry-returns-in_default
-emit_entry-returns-in_default t c = entries.arm_tag _ _ _ _ _ _ c.args.c _ _ c.requires.0 _ c.path_at.ensures _ c.type_by_id-t.ensures _ c.of-kind.ensures _ _ _ _ _ _ (entries.is_tag _ _ _ _ _ _ _ _ c.requires.0 c.path_at.ensures c.type_by_id-t.ensures c.of-kind.ensures c.requires.1 c.in_default.not-Ptr c.in_default.not-Array c.in_default.not-Volatile c.in_default.not-Const c.in_default.not-Restrict c.in_default.not-FuncProto) c.skip_mods-m-in_default.ensures.0 c.skip_mods-m-in_default.ensures.1 c.emit_mods-a.ensures c.put_type_tag.ensures c.goes_on-in_default.ensures
+emit_entry-returns-in_default t c = entries.arm_tag _ _ _ _ _ _ _ c.args.c _ _ c.requires.0 _ c.path_at.ensures _ c.type_by_id-t.ensures _ c.of-kind.ensures _ _ _ _ _ _ (entries.is_tag _ _ _ _ _ _ _ _ c.requires.0 c.path_at.ensures c.type_by_id-t.ensures c.of-kind.ensures c.requires.1 c.in_default.not-Ptr c.in_default.not-Array c.in_default.not-Volatile c.in_default.not-Const c.in_default.not-Restrict c.in_default.not-FuncProto) c.skip_mods-m-in_default.ensures.0 c.skip_mods-m-in_default.ensures.1 c.emit_mods-a.ensures c.put_type_tag.ensures c.goes_on-in_default.ensures
 
 pub emit_function-emit_proto-f-requires : goal.emit_function-emit_proto-f-requires
 emit_function-emit_proto-f-requires t c = (omega arith, entries.links_rest _ _ _ _ _ _ c.requires.0 c.skip_mods-m.ensures.0 c.requires.1)
@@ -95,25 +96,25 @@ pub emit_function-returns : goal.emit_function-returns
 emit_function-returns t c = entries.function_put _ _ _ _ _ _ _ _ _ _ _ _ _ _ _ _ _ _ _ _ c.args.t _ c.skip_mods-m.ensures.0 c.entries_of.ensures c.emit_mods-a.ensures c.emit_proto-f.ensures c.emit_params.ensures
 
 pub emit_links-loop-c-init : goal.emit_links-loop-c-init
-emit_links-loop-c-init t c = (leads_start _ _ _ _ _, chains.clear_goes_on _ _ _ _ _ _ c.goes_on-c.ensures, chains.links_start _ _ _ _ _ _ _ _ c.goes_on-c.ensures c.requires)
+emit_links-loop-c-init t c = (leads_start _ _ _ _ _, c.requires)
 
-pub emit_links-emit_entry-c-requires : goal.emit_links-emit_entry-c-requires
-emit_links-emit_entry-c-requires t c = (omega arith, (c.loop-c-test.true, c.loop-c.invariant.2))
+pub emit_links-emit_entry-e-requires : goal.emit_links-emit_entry-e-requires
+emit_links-emit_entry-e-requires t c = (omega arith, (c.loop-c-test.true, c.loop-c.invariant.1))
 
 pub emit_links-returns-then-stopped : goal.emit_links-returns-then-stopped
-emit_links-returns-then-stopped t c = chains.links_whole _ _ _ _ _ _ _ _ _ _ _ _ _ _ _ c.goes_on-c.ensures (chains.chain_stops _ _ _ _ _ _ _ _ _ _ _ _ (chains.chain_again _ _ _ _ _ _ _ _ _ _ _ _ _ _ _ c.loop-c-test.true c.loop-c.invariant.1 c.loop-c.invariant.0 c.emit_entry-c.ensures) (sym c.stopped.ensures ∙ c.if-stopped.true))
+emit_links-returns-then-stopped t c = chains.links_whole _ _ _ _ _ _ _ _ _ _ _ _ _ _ (chains.chain_stops _ _ _ _ _ _ _ _ _ _ _ _ _ (chains.chain_again _ _ _ _ _ _ _ _ _ _ _ _ _ _ _ _ _ c.in-Some.is c.loop-c-test.true c.loop-c.invariant.0 c.emit_entry-e.ensures) (sym c.stopped.ensures ∙ c.if-stopped.true))
 
 pub emit_links-loop-c-smaller : goal.emit_links-loop-c-smaller
-emit_links-loop-c-smaller t c = let h = c.emit_entry-c.ensures.4 in omega arith
+emit_links-loop-c-smaller t c = let h = chains.rest_below c.args.b c.args.section.now (chain_at c.args.b c.args.section.now c.loop-c.work c.args.d.id) _ _ _ c.in-Some.is c.emit_entry-e.ensures.1 in omega arith
 
 pub emit_links-loop-c-preserved : goal.emit_links-loop-c-preserved
-emit_links-loop-c-preserved t c = (chains.chain_again _ _ _ _ _ _ _ _ _ _ _ _ _ _ _ c.loop-c-test.true c.loop-c.invariant.1 c.loop-c.invariant.0 c.emit_entry-c.ensures, chains.chain_clear _ _ _ _ _ _ c.loop-c.c _ _ _ _ _ c.emit_entry-c.ensures, chains.chain_links _ _ _ _ _ _ c.loop-c.c _ _ _ _ _ c.emit_entry-c.ensures (sym c.stopped.ensures ∙ c.if-stopped.false) c.loop-c.invariant.2)
+emit_links-loop-c-preserved t c = (chains.chain_again _ _ _ _ _ _ _ _ _ _ _ _ _ _ _ _ _ c.in-Some.is c.loop-c-test.true c.loop-c.invariant.0 c.emit_entry-e.ensures, chains.chain_links _ _ _ _ _ _ _ _ _ _ _ _ _ _ c.in-Some.is c.emit_entry-e.ensures (sym c.stopped.ensures ∙ c.if-stopped.false) c.loop-c.invariant.1)
 
-pub emit_links-returns-then-c : goal.emit_links-returns-then-c
-emit_links-returns-then-c t c = chains.links_whole _ _ _ _ _ _ _ _ _ _ _ _ _ _ _ c.goes_on-c.ensures (chains.chain_stands _ _ _ _ _ _ _ _ _ _ _ _ c.loop-c.invariant.0 c.if-c.true)
+pub emit_links-returns-in_default : goal.emit_links-returns-in_default
+emit_links-returns-in_default t c = chains.links_whole _ _ _ _ _ _ _ _ _ _ _ _ _ _ (chains.chain_stands _ _ _ _ _ _ _ _ _ _ _ _ _ _ _ _ c.in_default.is c.loop-c-test.true c.loop-c.invariant.0 c.emit_entry-e.ensures)
 
 pub emit_links-returns : goal.emit_links-returns
-emit_links-returns t c = chains.links_whole _ _ _ _ _ _ _ _ _ _ _ _ _ _ _ c.goes_on-c.ensures (chains.chain_ends _ _ _ _ _ _ _ _ _ _ _ _ _ _ c.loop-c.invariant.0 (omega arith) c.if-c.false c.emit_name.ensures)
+emit_links-returns t c = chains.links_whole _ _ _ _ _ _ _ _ _ _ _ _ _ _ (chains.chain_ends _ _ _ _ _ _ _ _ _ _ _ _ _ _ _ c.loop-c.invariant.0 (omega arith) c.emit_name.ensures)
 
 pub emit_param-returns-then-is_any_more : goal.emit_param-returns-then-is_any_more
 emit_param-returns-then-is_any_more t c = members.param_any _ _ _ _ _ _ _ _ _ _ _ _ c.param_place-p.ensures c.word-type_id.ensures _ c.is_any_more.ensures _ _ c.put_comma-a.ensures _ _ c.if-is_any_more.true c.put_word.ensures

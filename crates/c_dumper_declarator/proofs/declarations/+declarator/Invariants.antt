@@ -7,7 +7,7 @@ use lib.Dec.{eqb}
 use Rattle.spec_type_table.specs.Table.{param_of, rule_member}
 use Rattle.c_dumper_name_versions.specs.names.Spelling.{name_text}
 use Rattle.c_dumper_declarator.proofs.declarations.Kept.{Leads}
-use Rattle.c_dumper_declarator.proofs.declarations.DeclLaws.{chain_left, Clear}
+use Rattle.c_dumper_declarator.proofs.declarations.DeclLaws.{chain_left}
 use Rattle.c_dumper_declarator.proofs.declarations.MemberLaws.{params_left, members_left}
 use Prim.Native.Nat.{◌+◌, ◌*◌}
 use Rattle.c_dumper_declarator.proofs.declarations.+declarator.Given as goal
@@ -58,8 +58,7 @@ abbrev pub decreases-members::emit_members : goal.decreases-members::emit_member
 decreases-members::emit_members l = 8 * l.below + 5
 
 abbrev pub invariant-emit_links-loop-c : goal.invariant-emit_links-loop-c
-invariant-emit_links-loop-c l = (Leads l.b l.section l.initial.text l.initial.c.at (chain_left l.b l.section l.below l.d.id (name_text l.b l.section l.d.name) l.d.lvl l.initial.c l.initial.work) l.text l.c.at (chain_left l.b l.section l.below l.d.id (name_text l.b l.section l.d.name) l.d.lvl l.c l.work))
-    × Clear l.b l.section l.c
+invariant-emit_links-loop-c l = (Leads l.b l.section l.initial.text l.initial.p (chain_left l.b l.section l.below l.d.id (name_text l.b l.section l.d.name) l.d.lvl l.initial.c l.initial.work) l.text l.p (chain_left l.b l.section l.below l.d.id (name_text l.b l.section l.d.name) l.d.lvl l.c l.work))
     × (only_links (chain_at l.b l.section l.work l.d.id l.c.n) ≡ true)
 
 abbrev pub decreases-emit_links-loop-c : goal.decreases-emit_links-loop-c
