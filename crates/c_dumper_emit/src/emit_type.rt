@@ -11,10 +11,10 @@ ghost use Rattle.spec_session.specs.emission.Sheet.{sheet_store};
 ghost use Rattle.c_dumper_emit.specs.emit_type.Ids.{held_id, held_ids};
 ghost use Rattle.c_dumper_emit.specs.entries.Noted.{noted_out, lent_list, emit_n, new_n, composite_n, leaf_n};
 
-use crate::entries::{Asked, Pen, origin_at};
+use crate::entries::{Asked, Cause, Pen, origin_at};
 use crate::lines::define;
 use crate::steps::{
-    emit_again, end_composite, end_typedef, get_emit_state, inner, mention_composite,
+    EmitState, emit_again, end_composite, end_typedef, get_emit_state, inner, mention_composite,
     set_emit_state, stop_at,
 };
 use base_bytes::put::stopped;
@@ -47,7 +47,7 @@ fn held_id(b: TypeTable, section: &[u8], held: Held, es: Entries, k: u32) -> u32
 fn is_done(work: &[u8], id: u32, left: u32) -> bool
     ensures { result ≡ not (eqb left 0) && eqb (get_field work.now id 13) 2 }
 {
-    (left != 0) & (get_emit_state(work, id) == 2)
+    (left != 0) & (get_emit_state(work, id) == EmitState::Emitted)
 }
 
 // cont is the composite or typedef that is being emitted around id, or 0 at the top.
@@ -76,12 +76,12 @@ pub fn emit_type(
     if left == 0 {
         return stop_at(text, p, refusal::TOO_DEEP);
     }
-    let state = get_emit_state(work, id);
-    if state == 2 {
-        return p;
-    }
-    if state == 1 {
-        return emit_again(b, section, work, text, list, leads, q, p, id, cont);
+    match get_emit_state(work, id) {
+        EmitState::Emitted => return p,
+        EmitState::Emitting => {
+            return emit_again(b, section, work, text, list, leads, q, p, id, cont);
+        }
+        EmitState::NotEmitted => {}
     }
     let t = type_by_id(b, section, work, id);
     if (cont == 0) & !is_named(b, section, t) {
@@ -120,7 +120,7 @@ fn emit_new(
             emit_type(b, section, work, text, list, leads, q, p, y, cont, left)
         }
         Node::Typedef(y) => {
-            set_emit_state(work, id, 1);
+            set_emit_state(work, id, EmitState::Emitting);
             let a = emit_type(b, section, work, text, list, leads, q, p, y, id, left);
             end_typedef(b, section, work, text, list, leads, q, a, id, t, cont)
         }
@@ -163,7 +163,7 @@ fn emit_composite(
     if named & (cont != 0) {
         return mention_composite(b, section, work, text, list, q.lists, p, id, t, cont);
     }
-    set_emit_state(work, id, 1);
+    set_emit_state(work, id, EmitState::Emitting);
     let within = inner(named, id, cont);
     let held = Held::Members;
     let ms = entries_of(t);
@@ -228,12 +228,12 @@ fn emit_leaf(
         (entry_in q.req q.turn leads.now) fwd cont m id) }
 {
     if fwd | (cont == 0) {
-        let e = origin_at(leads, q, 2, id, cont);
+        let e = origin_at(leads, q, Cause::ForwardLine, id, cont);
         let a = define(b, section, work, text, list, q.lists, p, id, t, e);
-        set_emit_state(work, id, 2);
+        set_emit_state(work, id, EmitState::Emitted);
         return a;
     }
-    set_emit_state(work, id, 2);
+    set_emit_state(work, id, EmitState::Emitted);
     p
 }
 

@@ -4,7 +4,7 @@ ghost use Rattle.spec_c_dumper.specs.rules.Machine.{obind};
 ghost use Rattle.spec_type_table.specs.Table.{type_of};
 ghost use Rattle.spec_c_dumper.specs.origins.Causes.{entry, cause_at, entries_in};
 ghost use Rattle.c_dumper_dependency_order.specs.leaders.Leads.{entry_in};
-ghost use Rattle.c_dumper_emit.specs.entries.Noted.{entry_of, entry_put, noted_out, note_n, note_if_n, shown_of};
+ghost use Rattle.c_dumper_emit.specs.entries.Noted.{cause_code, entry_of, entry_put, noted_out, note_n, note_if_n, shown_of};
 
 use base_bytes::put::{stop, stopped};
 use base_bytes::refusal;
@@ -20,11 +20,28 @@ pub struct Pen {
     pub count: usize,
 }
 
+// Why a line is there; the numbers of an entry.
+#[derive(Clone, Copy)]
+pub enum Cause {
+    Requested,
+    Needed,
+    ForwardLine,
+    EarlyTypedef,
+}
+
+impl From<Cause> for u32 {
+    fn from(value: Cause) -> u32
+        ensures { result ≡ cause_code value }
+    {
+        value as u32
+    }
+}
+
 // An entry: the id of a line, its cause, and the id that led there.
 #[derive(Clone, Copy)]
 pub struct Origin {
     pub id: u32,
-    pub cause: u32,
+    pub cause: Cause,
     pub leader: u32,
 }
 
@@ -44,20 +61,20 @@ pub fn listed_origin(leads: &[u64], q: Asked, id: u32) -> Origin
     if id == q.req {
         return Origin {
             id: id,
-            cause: 0,
+            cause: Cause::Requested,
             leader: id,
         };
     }
     Origin {
         id: id,
-        cause: 1,
+        cause: Cause::Needed,
         leader: leader_of(leads, q.req, q.turn, id),
     }
 }
 
 // At the top a line is there because its id is listed, within a container because of that.
-pub fn origin_at(leads: &[u64], q: Asked, within: u32, id: u32, cont: u32) -> Origin
-    ensures { entry_of result ≡ cause_at within (entry_in q.req q.turn leads.now id) id cont }
+pub fn origin_at(leads: &[u64], q: Asked, within: Cause, id: u32, cont: u32) -> Origin
+    ensures { entry_of result ≡ cause_at (cause_code within) (entry_in q.req q.turn leads.now id) id cont }
 {
     if cont == 0 {
         return listed_origin(leads, q, id);
@@ -75,7 +92,7 @@ pub fn forward_origin(id: u32, cont: u32) -> Origin
 {
     Origin {
         id: id,
-        cause: 2,
+        cause: Cause::ForwardLine,
         leader: cont,
     }
 }
@@ -85,7 +102,7 @@ fn put_entry(list: &mut [u8], k: usize, e: Origin)
     ensures { list.new ≡ entry_put list.old k e }
 {
     put_word(list, k * 3, e.id);
-    put_word(list, k * 3 + 1, e.cause);
+    put_word(list, k * 3 + 1, u32::from(e.cause));
     put_word(list, k * 3 + 2, e.leader);
 }
 

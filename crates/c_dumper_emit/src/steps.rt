@@ -8,9 +8,10 @@ ghost use Rattle.spec_type_table.specs.Table.{type_of, btf_of};
 ghost use Rattle.spec_c_dumper.specs.origins.Causes.{cause_at};
 ghost use Rattle.c_dumper_dependency_order.specs.leaders.Leads.{entry_in};
 ghost use Rattle.c_dumper_emit.specs.entries.Noted.{entry_of, noted_out, lent_list, has_n, once_n, mention_n};
+ghost use Rattle.c_dumper_emit.specs.steps.States.{emit_state_of, emit_code};
 ghost use Rattle.c_dumper_emit.specs.entries.Noted.{again_n, typedef_n, mentioned_n, ended_n};
 
-use crate::entries::{Asked, Origin, Pen, forward_origin, listed_origin, origin_at};
+use crate::entries::{Asked, Cause, Origin, Pen, forward_origin, listed_origin, origin_at};
 use crate::lines::{define, forward};
 use base_bytes::put::stop;
 use base_bytes::refusal;
@@ -20,16 +21,27 @@ use btf_type_table::name::is_named;
 use btf_type_table::node::type_by_id;
 use spec_type_table::{BtfType, Kind, TypeTable};
 
-pub fn get_emit_state(work: &[u8], id: u32) -> u32
-    ensures { result ≡ get_field work.now id 13 }
-{
-    get_field(work, id, cell::EMIT_STATE)
+#[derive(Clone, Copy, PartialEq, Eq)]
+pub enum EmitState {
+    NotEmitted,
+    Emitting,
+    Emitted,
 }
 
-pub fn set_emit_state(work: &mut [u8], id: u32, state: u32)
-    ensures { work.new ≡ put_field work.old id 13 state }
+pub fn get_emit_state(work: &[u8], id: u32) -> EmitState
+    ensures { result ≡ emit_state_of (get_field work.now id 13) }
 {
-    put_field(work, id, cell::EMIT_STATE, state)
+    match get_field(work, id, cell::EMIT_STATE) {
+        2 => EmitState::Emitted,
+        1 => EmitState::Emitting,
+        _ => EmitState::NotEmitted,
+    }
+}
+
+pub fn set_emit_state(work: &mut [u8], id: u32, state: EmitState)
+    ensures { work.new ≡ put_field work.old id 13 (emit_code state) }
+{
+    put_field(work, id, cell::EMIT_STATE, state as u32)
 }
 
 fn get_fwd_emitted(work: &[u8], id: u32) -> bool
@@ -114,7 +126,7 @@ pub fn emit_again(
             emit_once(b, section, work, text, list, q.lists, p, id, t, e)
         }
         Kind::Typedef => {
-            let e = origin_at(leads, q, 3, id, cont);
+            let e = origin_at(leads, q, Cause::EarlyTypedef, id, cont);
             emit_once(b, section, work, text, list, q.lists, p, id, t, e)
         }
         _ => p,
@@ -171,9 +183,9 @@ pub fn mention_composite(
         (λ m. mentioned_n b (btf_of b section.now work.old) (lent_list lists list.old)
         (type_of b section.now t) cont m id) }
 {
-    set_emit_state(work, id, 1);
+    set_emit_state(work, id, EmitState::Emitting);
     let a = emit_mention(b, section, work, text, list, lists, p, id, t, cont);
-    set_emit_state(work, id, 0);
+    set_emit_state(work, id, EmitState::NotEmitted);
     a
 }
 
@@ -196,9 +208,9 @@ pub fn end_typedef(
         (λ m. typedef_n b (btf_of b section.now work.old) (lent_list q.lists list.old)
         (type_of b section.now t) (cause_at 3 (entry_in q.req q.turn leads.now id) id cont) m id) }
 {
-    let e = origin_at(leads, q, 3, id, cont);
+    let e = origin_at(leads, q, Cause::EarlyTypedef, id, cont);
     let a = emit_once(b, section, work, text, list, q.lists, p, id, t, e);
-    set_emit_state(work, id, 2);
+    set_emit_state(work, id, EmitState::Emitted);
     a
 }
 
@@ -222,11 +234,11 @@ pub fn end_composite(
         (type_of b section.now t) (entry_in q.req q.turn leads.now id) m id) }
 {
     if cont != 0 {
-        set_emit_state(work, id, 0);
+        set_emit_state(work, id, EmitState::NotEmitted);
         return p;
     }
     let e = listed_origin(leads, q, id);
     let a = define(b, section, work, text, list, q.lists, p, id, t, e);
-    set_emit_state(work, id, 2);
+    set_emit_state(work, id, EmitState::Emitted);
     a
 }

@@ -31,7 +31,7 @@ use Rattle.spec_c_dumper.specs.origins.Causes.{Entry, entry, Noted, with_entries
 use Rattle.c_dumper_dependency_order.specs.leaders.Leads.{leader_in, entry_in}
 use Rattle.c_dumper_emit.specs.declared.entries.Pen.{Pen}
 use Rattle.c_dumper_emit.specs.declared.entries.Origin.{Origin}
-use Rattle.c_dumper_emit.specs.entries.Noted.{Lent, entry_at, entries_of, entry_of, entry_put, noted_out, note_n, note_if_n, line_n, shown_of, emit_n}
+use Rattle.c_dumper_emit.specs.entries.Noted.{Lent, cause_code, entry_at, entries_of, entry_of, entry_put, noted_out, note_n, note_if_n, line_n, shown_of, emit_n}
 use Rattle.c_dumper_emit.proofs.entries.Frame.{Stays, on, off, stays_then, table_emit}
 
 abbrev pub paper : ℕ → Pen → List ℕ → List ℕ → List ℕ → Noted Sheet
@@ -58,33 +58,33 @@ pub entries_more : (k : ℕ) (l : List ℕ) (e : Origin) → k < length l / 12 �
 unfolding entries_of entry_put entry_at
 entries_more k l e h =
     rw add-one
-    (ap (λ (es : List Entry). es ++ (entry_at (entry_put l k e) k ∷ [])) (entries_other k l (entry_put l k e) (λ i q. get_put_other l₂ (k * 3 + 2) i e.leader (λ z. omega arith) ∙ get_put_other l₁ (k * 3 + 1) i e.cause (λ z. omega arith) ∙ get_put_other l (k * 3) i e.id (λ z. omega arith)))
+    (ap (λ (es : List Entry). es ++ (entry_at (entry_put l k e) k ∷ [])) (entries_other k l (entry_put l k e) (λ i q. get_put_other l₂ (k * 3 + 2) i e.leader (λ z. omega arith) ∙ get_put_other l₁ (k * 3 + 1) i (cause_code e.cause) (λ z. omega arith) ∙ get_put_other l (k * 3) i e.id (λ z. omega arith)))
     ∙ (λ i. entries_of k l ++ (entry (first i) (second i) (third i) ∷ [])))
   where
     l₁ : List ℕ
     l₁ = put_word l (k * 3) e.id
 
     l₂ : List ℕ
-    l₂ = put_word l₁ (k * 3 + 1) e.cause
+    l₂ = put_word l₁ (k * 3 + 1) (cause_code e.cause)
 
     len₁ : length l₁ ≡ length l
     len₁ = put_length l (k * 3) e.id
 
     len₂ : length l₂ ≡ length l
-    len₂ = put_length l₁ (k * 3 + 1) e.cause ∙ len₁
+    len₂ = put_length l₁ (k * 3 + 1) (cause_code e.cause) ∙ len₁
 
     first : get_word (put_word l₂ (k * 3 + 2) e.leader) (k * 3) ≡ e.id
-    first = get_put_other l₂ (k * 3 + 2) (k * 3) e.leader (λ z. omega arith) ∙ get_put_other l₁ (k * 3 + 1) (k * 3) e.cause (λ z. omega arith) ∙ get_put_same l (k * 3) e.id (omega arith)
+    first = get_put_other l₂ (k * 3 + 2) (k * 3) e.leader (λ z. omega arith) ∙ get_put_other l₁ (k * 3 + 1) (k * 3) (cause_code e.cause) (λ z. omega arith) ∙ get_put_same l (k * 3) e.id (omega arith)
 
-    second : get_word (put_word l₂ (k * 3 + 2) e.leader) (k * 3 + 1) ≡ e.cause
-    second = get_put_other l₂ (k * 3 + 2) (k * 3 + 1) e.leader (λ z. omega arith) ∙ get_put_same l₁ (k * 3 + 1) e.cause (omega (arith, len₁))
+    second : get_word (put_word l₂ (k * 3 + 2) e.leader) (k * 3 + 1) ≡ cause_code e.cause
+    second = get_put_other l₂ (k * 3 + 2) (k * 3 + 1) e.leader (λ z. omega arith) ∙ get_put_same l₁ (k * 3 + 1) (cause_code e.cause) (omega (arith, len₁))
 
     third : get_word (put_word l₂ (k * 3 + 2) e.leader) (k * 3 + 2) ≡ e.leader
     third = get_put_same l₂ (k * 3 + 2) e.leader (omega (arith, len₂))
 
-pub put_is : (l : List ℕ) (k : ℕ) (e : Origin) (l₁ l₂ l₃ : List ℕ) → l₁ ≡ put_word l (k * 3) e.id → l₂ ≡ put_word l₁ (k * 3 + 1) e.cause → l₃ ≡ put_word l₂ (k * 3 + 2) e.leader → l₃ ≡ entry_put l k e
+pub put_is : (l : List ℕ) (k : ℕ) (e : Origin) (v : ℕ) (l₁ l₂ l₃ : List ℕ) → v ≡ cause_code e.cause → l₁ ≡ put_word l (k * 3) e.id → l₂ ≡ put_word l₁ (k * 3 + 1) v → l₃ ≡ put_word l₂ (k * 3 + 2) e.leader → l₃ ≡ entry_put l k e
 unfolding entry_put
-put_is l k e l₁ l₂ l₃ e₁ e₂ e₃ = e₃ ∙ ap (λ (u : List ℕ). put_word u (k * 3 + 2) e.leader) (e₂ ∙ ap (λ (u : List ℕ). put_word u (k * 3 + 1) e.cause) e₁)
+put_is l k e v l₁ l₂ l₃ ev e₁ e₂ e₃ = rw (e₃, e₂, e₁, ev)
 
 -- ---- which entry
 pub cause_own : (req turn : ℕ) (leads : List ℕ) (x : ℕ) → x ≡ req → entry x 0 x ≡ entry_in req turn leads x

@@ -24,10 +24,13 @@ use Rattle.spec_type_table.specs.declared.kind.Kind.TheVariants as kinds
 use Rattle.spec_type_table.specs.Kinds.{kind_named}
 use Rattle.spec_type_table.proofs.KindTypes.{type_as, type_is}
 use Rattle.c_dumper_dependency_order.specs.order_state.Work.{mark_of}
-use Rattle.c_dumper_dependency_order.proofs.order_state.Laws.{is_done_lem, is_busy, is_new, type_at, node_at, named_at}
+use Rattle.c_dumper_dependency_order.proofs.order_state.Laws.{type_at, node_at, named_at}
 use Rattle.spec_session.specs.emission.Sheet.{Sheet, line_in, work_machine}
 use Rattle.spec_c_dumper.specs.origins.Causes.{Entry, entry, Noted, up_to, line, cause_at, shows_in}
 use Rattle.c_dumper_emit.specs.declared.entries.Pen.{Pen}
+use Rattle.c_dumper_emit.specs.declared.steps.EmitState.{EmitState}
+use Rattle.c_dumper_emit.specs.declared.steps.EmitState.TheVariants.{NotEmitted, Emitting, Emitted}
+use Rattle.c_dumper_emit.specs.steps.States.{emit_state_of}
 use Rattle.c_dumper_emit.specs.entries.Noted.{Lent, noted_out, line_n, shown_of, mach_n, emit_n, new_n, again_n, leaf_n, has_n, once_n, mention_n}
 use Rattle.c_dumper_emit.proofs.entries.Frame.{Stays, stays_then, table_emit}
 use Rattle.c_dumper_emit.proofs.entries.Laws.{paper, with_n, obind_then, obind_wrote, obind_same, then, at_sheet, same_sheet, stop_sheet, work_last, same_table, entry_stays}
@@ -186,9 +189,46 @@ module _ (b : TypeTable) (s : List ℕ) (lent : Lent) (why : ℕ → Entry) (n :
         unfolding again_n
         again_other n₁ n₂ n₃ = same_sheet n p tx w li (λ m. again_n b B lent why cont m id) (kind_node k ek k refl ∙ again_kind b s B lent why (paper n p tx w li) id cont t k n₁ n₂ n₃)
 
--- ---- is_done
-pub done_is : (left state state' : ℕ) → state ≡ state' → (not (eqb left 0) && eqb state 2) ≡ (not (eqb left 0) && eqb state' 2)
-done_is left state state' e = ap (λ (k : ℕ). not (eqb left 0) && eqb k 2) e
+-- ---- emit states
+mark_as : EmitState → Mark
+mark_as NotEmitted = new
+mark_as Emitting = busy
+mark_as Emitted = done
+
+marked : (k : ℕ) → mark_of k ≡ mark_as (emit_state_of k)
+unfolding mark_of mark_as emit_state_of
+marked k = go (eqb k 2) (eqb k 1)
+  where
+    go : (x y : Bool) → ◌≡◌ {A = Mark} (elim x as (λ z. Mark) [ true ↦ done | false ↦ elim y as (λ z. Mark) [ true ↦ busy | false ↦ new ] ]) (mark_as (elim x as (λ z. EmitState) [ true ↦ Emitted | false ↦ elim y as (λ z. EmitState) [ true ↦ Emitting | false ↦ NotEmitted ] ]))
+    go true y = refl
+    go false true = refl
+    go false false = refl
+
+-- what get_emit_state returns
+pub state_2 : (k : ℕ) → k ≡ 2 → Emitted ≡ emit_state_of k
+unfolding emit_state_of
+state_2 k e = rw e
+
+pub state_1 : (k : ℕ) → k ≡ 1 → Emitting ≡ emit_state_of k
+unfolding emit_state_of
+state_1 k e = rw e
+
+pub state_other : (k : ℕ) → (k ≡ 2 → ⊥) → (k ≡ 1 → ⊥) → NotEmitted ≡ emit_state_of k
+unfolding emit_state_of
+state_other k n m = rw (ne_eqb k 2 n, emit_state_of, ne_eqb k 1 m)
+
+pub two_emitted : emit_state_of 2 ≡ Emitted
+unfolding emit_state_of
+two_emitted = refl
+
+pub emitted_is : (k : ℕ) → emit_state_of k ≡ Emitted → k ≡ 2
+unfolding emit_state_of
+emitted_is k e = go (eqb k 2) (eqb k 1) refl e
+  where
+    go : (x y : Bool) → eqb k 2 ≡ x → ◌≡◌ {A = EmitState} (elim x as (λ z. EmitState) [ true ↦ Emitted | false ↦ elim y as (λ z. EmitState) [ true ↦ Emitting | false ↦ NotEmitted ] ]) Emitted → k ≡ 2
+    go true y q h = eqb-true k 2 q
+    go false true q h = absurd (cc)
+    go false false q h = absurd (cc)
 
 -- ---- emit_type
 pub zero_is : (c : ℕ) → is_zero c ≡ eqb c 0
@@ -209,26 +249,26 @@ module _ (b : TypeTable) (s : List ℕ) (lent : Lent) (why : ℕ → Entry) (n :
   unfolding emit_n
   too_deep e r er = stop_sheet n p tx w li 12 r (λ m. emit_n b Bt lent why left cont m id) er (λ _. ap (λ (l : ℕ). em l (paper n p tx w li) id cont) e)
 
-  module _ (nz : left ≡ 0 → ⊥) (st : ℕ) (es : st ≡ get_field w id 13) where
-    unroll : (k : Mark) → mark_of st ≡ k → em left (paper n p tx w li) id cont ≡ look (mach_n b Bt lent why cont) (table_of Bt) (λ m' y c. em (left - 1) m' y c) (paper n p tx w li) id cont k
+  module _ (nz : left ≡ 0 → ⊥) (st : EmitState) (es : st ≡ emit_state_of (get_field w id 13)) where
+    unroll : (k : EmitState) → st ≡ k → em left (paper n p tx w li) id cont ≡ look (mach_n b Bt lent why cont) (table_of Bt) (λ m' y c. em (left - 1) m' y c) (paper n p tx w li) id cont (mark_as k)
     unfolding emit_n work_machine
     unroll k e =
         let l : left ≡ suc (left - 1) = omega arith in
         ap (λ (i : ℕ). em i (paper n p tx w li) id cont) l
-        ∙ ap (look (mach_n b Bt lent why cont) (table_of Bt) (λ m' y c. em (left - 1) m' y c) (paper n p tx w li) id cont) (ap mark_of (sym es) ∙ e)
+        ∙ ap (look (mach_n b Bt lent why cont) (table_of Bt) (λ m' y c. em (left - 1) m' y c) (paper n p tx w li) id cont) (marked (get_field w id 13) ∙ ap mark_as (sym es ∙ e))
 
-    pub emit_done : st ≡ 2 → Emits (noted_out n p tx w li)
-    unfolding emit_n look
-    emit_done e = same_sheet n p tx w li (λ m. emit_n b Bt lent why left cont m id) (unroll done (is_done_lem st e))
+    pub emit_done : st ≡ Emitted → Emits (noted_out n p tx w li)
+    unfolding emit_n look mark_as
+    emit_done e = same_sheet n p tx w li (λ m. emit_n b Bt lent why left cont m id) (unroll Emitted e)
 
-    pub emit_busy : st ≡ 1 → (x : Out (Noted Sheet)) → x ≡ obind (noted_out n p tx w li) (λ m. again_n b Bt lent why cont m id) → Emits x
-    unfolding emit_n look again_n
-    emit_busy e x ex = ex ∙ at_sheet n p tx w li (λ m. again_n b Bt lent why cont m id) (λ m. emit_n b Bt lent why left cont m id) (λ _. sym (unroll busy (is_busy st e)))
+    pub emit_busy : st ≡ Emitting → (x : Out (Noted Sheet)) → x ≡ obind (noted_out n p tx w li) (λ m. again_n b Bt lent why cont m id) → Emits x
+    unfolding emit_n look again_n mark_as
+    emit_busy e x ex = ex ∙ at_sheet n p tx w li (λ m. again_n b Bt lent why cont m id) (λ m. emit_n b Bt lent why left cont m id) (λ _. sym (unroll Emitting e))
 
-    module _ (n2 : st ≡ 2 → ⊥) (n1 : st ≡ 1 → ⊥) (t : Record) (et : t ≡ record_by_id b s w id) (nm : Bool) (en : nm ≡ is_named (type_of b s t)) where
+    module _ (ne : st ≡ NotEmitted) (t : Record) (et : t ≡ record_by_id b s w id) (nm : Bool) (en : nm ≡ is_named (type_of b s t)) where
       gate_is : (f : Bool) → (eqb cont 0 && not nm) ≡ f → em left (paper n p tx w li) id cont ≡ allowed (mach_n b Bt lent why cont) (table_of Bt) (λ m' y c. em (left - 1) m' y c) (paper n p tx w li) id cont f
-      unfolding look
-      gate_is f e = unroll new (is_new st n2 n1)
+      unfolding look mark_as
+      gate_is f e = unroll NotEmitted ne
           ∙ ap (λ (g : Bool). allowed (mach_n b Bt lent why cont) (table_of Bt) (λ m' y c. em (left - 1) m' y c) (paper n p tx w li) id cont (g && not ((table_of Bt).named id))) (zero_is cont)
           ∙ ap (λ (g : Bool). allowed (mach_n b Bt lent why cont) (table_of Bt) (λ m' y c. em (left - 1) m' y c) (paper n p tx w li) id cont (eqb cont 0 && not g)) (named_at b s w id t et ∙ sym en)
           ∙ ap (allowed (mach_n b Bt lent why cont) (table_of Bt) (λ m' y c. em (left - 1) m' y c) (paper n p tx w li) id cont) e
@@ -243,7 +283,7 @@ module _ (b : TypeTable) (s : List ℕ) (lent : Lent) (why : ℕ → Entry) (n :
 
   -- what is_done tells
   pub emit_skips : (f : Bool) → f ≡ (not (eqb left 0) && eqb (get_field w id 13) 2) → f ≡ true → Emits (noted_out n p tx w li)
-  emit_skips f e t = emit_done (eqb-false left 0 (first (eqb left 0) (eqb (get_field w id 13) 2) (sym e ∙ t))) (get_field w id 13) refl (eqb-true (get_field w id 13) 2 (second (eqb left 0) (eqb (get_field w id 13) 2) (sym e ∙ t)))
+  emit_skips f e t = emit_done (eqb-false left 0 (first (eqb left 0) (eqb (get_field w id 13) 2) (sym e ∙ t))) _ refl (sym (state_2 (get_field w id 13) (eqb-true (get_field w id 13) 2 (second (eqb left 0) (eqb (get_field w id 13) 2) (sym e ∙ t)))))
     where
       first : (x y : Bool) → (not x && y) ≡ true → x ≡ false
       first true y h = sym h

@@ -14,6 +14,8 @@ use Rattle.spec_type_table.specs.Table.{work_naming}
 use Rattle.spec_session.specs.emission.Sheet.{Sheet, with_work, emit_out, line_in, work_machine}
 use Rattle.spec_c_dumper.specs.origins.Causes.{Entry, entry, Noted, with_entries, up_to, line, cause_at, noting, shows_in, entries_in}
 use Rattle.c_dumper_emit.specs.declared.entries.Pen.{Pen}
+use Rattle.c_dumper_emit.specs.declared.entries.Cause.{Cause}
+use Rattle.c_dumper_emit.specs.declared.entries.Cause.TheVariants.{Requested, Needed, ForwardLine, EarlyTypedef}
 use Rattle.c_dumper_emit.specs.declared.entries.Origin.{Origin}
 
 -- ---- the lent list: three words an entry
@@ -25,11 +27,17 @@ unfoldable pub entries_of : ℕ → List ℕ → List Entry
 entries_of zero l = []
 entries_of (suc k) l = entries_of k l ++ (entry_at l k ∷ [])
 
+abbrev pub cause_code : Cause → ℕ
+cause_code Requested = 0
+cause_code Needed = 1
+cause_code ForwardLine = 2
+cause_code EarlyTypedef = 3
+
 abbrev pub entry_of : Origin → Entry
-entry_of e = entry e.id e.cause e.leader
+entry_of e = entry e.id (cause_code e.cause) e.leader
 
 unfoldable pub entry_put : List ℕ → ℕ → Origin → List ℕ
-entry_put l k e = put_word (put_word (put_word l (k * 3) e.id) (k * 3 + 1) e.cause) (k * 3 + 2) e.leader
+entry_put l k e = put_word (put_word (put_word l (k * 3) e.id) (k * 3 + 1) (cause_code e.cause)) (k * 3 + 2) e.leader
 
 -- what the code's place and count say, with text, work and list at that moment; n: the length of the order list
 unfoldable pub noted_out : ℕ → Pen → List ℕ → List ℕ → List ℕ → Out (Noted Sheet)

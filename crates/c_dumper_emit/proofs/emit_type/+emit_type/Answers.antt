@@ -72,17 +72,17 @@ emit_type-returns-then-stopped t c = λ n. laws.stopped_sheet n _ _ _ _ _ (sym c
 pub emit_type-returns-then-left-eq0 : goal.emit_type-returns-then-left-eq0
 emit_type-returns-then-left-eq0 t c = λ n. walk.too_deep _ _ _ _ n _ _ _ _ _ _ _ c.if-left-eq0.true _ c.stop_at.ensures
 
-pub emit_type-returns-then-state-eq2 : goal.emit_type-returns-then-state-eq2
-emit_type-returns-then-state-eq2 t c = λ n. walk.emit_done _ _ _ _ n _ _ _ _ _ _ _ c.if-left-eq0.false _ c.get_emit_state-state.ensures c.if-state-eq2.true
+pub emit_type-returns-in-Emitted : goal.emit_type-returns-in-Emitted
+emit_type-returns-in-Emitted t c = λ n. walk.emit_done _ _ _ _ n _ _ _ _ _ _ _ c.if-left-eq0.false _ c.get_emit_state.ensures c.in-Emitted.is
 
-pub emit_type-returns-then-state-eq1 : goal.emit_type-returns-then-state-eq1
-emit_type-returns-then-state-eq1 t c = λ n. walk.emit_busy _ _ _ _ n _ _ _ _ _ _ _ c.if-left-eq0.false _ c.get_emit_state-state.ensures c.if-state-eq1.true _ (c.emit_again.ensures n)
+pub emit_type-returns-in-Emitting : goal.emit_type-returns-in-Emitting
+emit_type-returns-in-Emitting t c = λ n. walk.emit_busy _ _ _ _ n _ _ _ _ _ _ _ c.if-left-eq0.false _ c.get_emit_state.ensures c.in-Emitting.is _ (c.emit_again.ensures n)
 
 pub emit_type-returns-then-cont-is_named : goal.emit_type-returns-then-cont-is_named
-emit_type-returns-then-cont-is_named t c = λ n. walk.emit_nameless _ _ _ _ n _ _ _ _ _ _ _ c.if-left-eq0.false _ c.get_emit_state-state.ensures c.if-state-eq2.false c.if-state-eq1.false _ c.type_by_id-t.ensures _ c.is_named.ensures c.if-cont-is_named.true _ c.stop_at-then-cont-is_named.ensures
+emit_type-returns-then-cont-is_named t c = λ n. walk.emit_nameless _ _ _ _ n _ _ _ _ _ _ _ c.if-left-eq0.false _ c.get_emit_state.ensures c.in-NotEmitted.is _ c.type_by_id-t.ensures _ c.is_named.ensures c.if-cont-is_named.true _ c.stop_at-then-cont-is_named.ensures
 
 pub emit_type-emit_new-requires : goal.emit_type-emit_new-requires
 emit_type-emit_new-requires t c = (new.to_type_new c.args.left t c.decreases c.if-left-eq0.false, c.type_by_id-t.ensures)
 
 pub emit_type-returns : goal.emit_type-returns
-emit_type-returns t c = λ n. walk.emit_fresh _ _ _ _ n _ _ _ _ _ _ _ c.if-left-eq0.false _ c.get_emit_state-state.ensures c.if-state-eq2.false c.if-state-eq1.false _ c.type_by_id-t.ensures _ c.is_named.ensures c.if-cont-is_named.false _ (c.emit_new.ensures n)
+emit_type-returns t c = λ n. walk.emit_fresh _ _ _ _ n _ _ _ _ _ _ _ c.if-left-eq0.false _ c.get_emit_state.ensures c.in-NotEmitted.is _ c.type_by_id-t.ensures _ c.is_named.ensures c.if-cont-is_named.false _ (c.emit_new.ensures n)
