@@ -15,11 +15,7 @@ pub const CHAIN_WORDS: usize = 1536;
 fn refuse(chain: &mut [u64]) -> u32
     ensures { placed result chain.new ≡ placed 0 (replicate (length chain.old) 0) }
 {
-    let mut i = 0;
-    while i < chain.len() {
-        chain[i] = 0;
-        i += 1;
-    }
+    chain.fill(0);
     0
 }
 

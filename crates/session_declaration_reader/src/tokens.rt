@@ -18,98 +18,65 @@ pub struct Tok {
     pub end: usize,
 }
 
+#[tactic(auto, unfolding(crate::specs::tokens::Tokens::is_digit))]
 fn is_digit(b: u8) -> bool
     ensures { result ≡ is_digit b }
 {
-    if b < 48 {
-        return false;
-    }
-    b < 58
+    matches!(b, b'0'..=b'9')
 }
 
+#[tactic(auto, unfolding(crate::specs::tokens::Tokens::is_letter))]
 fn is_letter(b: u8) -> bool
     ensures { result ≡ is_letter b }
 {
-    if b < 65 {
-        return false;
-    }
-    if b < 91 {
-        return true;
-    }
-    if b == 95 {
-        return true;
-    }
-    if b < 97 {
-        return false;
-    }
-    b < 123
+    matches!(b, b'A'..=b'Z' | b'a'..=b'z' | b'_')
 }
 
+#[tactic(auto, unfolding(crate::specs::tokens::Tokens::is_word_byte))]
 fn is_word_byte(b: u8) -> bool
     ensures { result ≡ is_word_byte b }
 {
-    if is_letter(b) {
-        return true;
-    }
-    is_digit(b)
+    is_letter(b) || is_digit(b)
 }
 
+#[tactic(auto, unfolding(crate::specs::tokens::Tokens::in_run))]
 fn in_run(b: u8) -> bool
     ensures { result ≡ in_run b }
 {
-    if is_word_byte(b) {
-        return true;
-    }
-    b == 46
+    is_word_byte(b) || b == b'.'
 }
 
 fn identifier(run: &[u8]) -> bool
     ensures { result ≡ defs.identifier run.now }
 {
-    if run.len() == 0 {
+    let Some((first, rest)) = run.split_first() else {
         return false;
-    }
-    if !is_letter(run[0]) {
-        return false;
-    }
-    let mut i = 1;
-    while i < run.len() {
-        if !is_word_byte(run[i]) {
-            return false;
-        }
-        i += 1;
-    }
-    true
+    };
+    is_letter(*first) && rest.iter().all(|b| is_word_byte(*b))
 }
 
-// The value of a count, or 4294967296 where the run is none.
-fn count_value(run: &[u8]) -> u64
+// The value of a count.
+fn count_value(run: &[u8]) -> Option<u32>
     ensures { result ≡ count_value run.now }
 {
-    if run.len() == 0 {
-        return limit::TWO_TO_32;
+    if run.is_empty() {
+        return None;
     }
-    let has_leading_zero = run[0] == 48;
-    if has_leading_zero {
-        if run.len() != 1 {
-            return limit::TWO_TO_32;
-        }
-        return 0;
+    let has_leading_zero = run[0] == b'0';
+    if has_leading_zero && run.len() != 1 {
+        return None;
     }
     let mut v: u64 = 0;
-    let mut i = 0;
-    while i < run.len() {
-        let b = run[i];
-        if !is_digit(b) {
-            return limit::TWO_TO_32;
+    for b in run {
+        if !is_digit(*b) {
+            return None;
         }
-        v = v * 10 + ((b - 48) as u64);
+        v = v * 10 + (*b - b'0') as u64;
         if limit::LARGEST_64 < v {
-            return limit::TWO_TO_32;
+            return None;
         }
-        i += 1;
     }
-    v
+    Some(v as u32)
 }
 
 // The sign of an identifier that is no qualifier.
@@ -152,7 +119,7 @@ fn run_sign(run: &[u8]) -> u32
     if identifier(run) {
         return word_sign(run);
     }
-    if count_value(run) < limit::TWO_TO_32 {
+    if count_value(run).is_some() {
         return 7;
     }
     if is_word(run, Word::Dots) {
@@ -168,25 +135,19 @@ fn run_count(run: &[u8]) -> u32
     if identifier(run) {
         return 0;
     }
-    let v = count_value(run);
-    if v < limit::TWO_TO_32 {
-        return v as u32;
-    }
-    0
+    count_value(run).unwrap_or(0)
 }
 
 // The first place from `at` on where no space stands.
 fn skip(text: &[u8], at: usize) -> usize
     ensures { Skipped text.now at result }
 {
-    let mut i = at;
-    while i < text.len() {
-        if text[i] != 32 {
+    for i in at..text.len() {
+        if text[i] != b' ' {
             return i;
         }
-        i += 1;
     }
-    i
+    text.len().max(at)
 }
 
 // Where the run that starts at `at` ends.
@@ -194,14 +155,12 @@ fn run_end(text: &[u8], at: usize) -> usize
     requires { (at < length text.now) × (in_run (get_or text.now at 0) ≡ true) }
     ensures { Ran text.now at result }
 {
-    let mut e = at + 1;
-    while e < text.len() {
+    for e in at + 1..text.len() {
         if !in_run(text[e]) {
             return e;
         }
-        e += 1;
     }
-    e
+    text.len()
 }
 
 // The next token from `at` on.

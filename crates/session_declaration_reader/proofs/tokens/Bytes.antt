@@ -9,66 +9,33 @@ use borrow.Author.Tests.{lt-ltb, le-ltb, le-leb, lt-leb, leb-true, leb-false, ne
 use mathlib.Core.Logic.{◌⊎◌, inl, inr, ⊎_elim}
 use lib.ListN.{length, get_or, drop}
 use lib.Seq.{drop-cons}
-use lib.Dec.{ltb, leb, eqb}
+use Rattle.std.specs.Prelude.{Option, Some, None}
+use Rattle.std.specs.Option.{unwrap_or, is_some}
+use Rattle.std.specs.List.{list_all}
+use Rattle.std.proofs.lemmas.Option.{none-some}
+use mathlib.Core.Logic.{◌≢◌}
+use lib.Dec.{leb, eqb}
 use Rattle.spec_bytes.specs.text.Text.{ascii}
 use Rattle.spec_c_dumper.specs.rules.Types.{is_empty, const, volatile, restrict}
 use Rattle.spec_c_dumper.specs.rules.Names.{same_bytes}
 use Rattle.spec_c_dumper.specs.rules.Decl.{qualifier}
-use Rattle.session_declaration_reader.specs.tokens.Tokens.{Kind, tag_word, void_word, other_word, Token, qual, word, number, mark, is_digit, is_letter, is_word_byte, in_run, all_of, identifier, value_of, is_count, kind_of, word_token, run_token}
+use Rattle.session_declaration_reader.specs.tokens.Tokens.{Kind, tag_word, void_word, other_word, Token, qual, word, number, mark, is_digit, is_letter, is_word_byte, all_of, identifier, value_of, is_count, kind_of, word_token, run_token}
 use Rattle.session_declaration_reader.specs.tokens.Looking.{token_sign, token_count, token_span, count_value, kind_sign, word_sign, run_sign, run_count, Span}
 use Rattle.session_declaration_reader.proofs.tokens.Cases.{passed, failed}
 
 false_true : false ≡ true → ⊥
 false_true q = let k : ◌≡◌ {A = ℕ} 0 1 = cc in omega arith
 
-or_false : (a : Bool) → a ≡ (a || false)
-or_false true = refl
-or_false false = refl
-
 module _ (b : ℕ) where
   pub digit_below : b < 48 → false ≡ is_digit b
   unfolding is_digit
   digit_below h = rw (le-ltb 47 b (omega arith))
 
-  pub digit_rest : 48 ≤ b → ltb b 58 ≡ is_digit b
-  unfolding is_digit
-  digit_rest h = rw (lt-ltb 47 b (omega arith))
-
-  pub letter_below : b < 65 → false ≡ is_letter b
-  unfolding is_letter
-  letter_below h = rw (le-ltb 64 b (omega arith), le-ltb 96 b (omega arith), ne_eqb b 95 (λ e. omega arith))
-
-  pub letter_upper : 65 ≤ b → b < 91 → true ≡ is_letter b
-  unfolding is_letter
-  letter_upper h k = rw (lt-ltb 64 b (omega arith), lt-ltb b 91 k)
-
-  pub letter_line : b ≡ 95 → true ≡ is_letter b
-  unfolding is_letter
-  letter_line e = rw e
-
-  pub letter_between : 91 ≤ b → b < 97 → (b ≡ 95 → ⊥) → false ≡ is_letter b
-  unfolding is_letter
-  letter_between h k n = rw (lt-ltb 64 b (omega arith), le-ltb b 91 (omega arith), le-ltb 96 b (omega arith), ne_eqb b 95 n)
-
-  pub letter_rest : 97 ≤ b → ltb b 123 ≡ is_letter b
-  unfolding is_letter
-  letter_rest h = rw (lt-ltb 64 b (omega arith), le-ltb b 91 (omega arith), lt-ltb 96 b (omega arith), ne_eqb b 95 (λ e. omega arith)) (or_false (ltb b 123))
-
-  pub byte_letter : (r : Bool) → r ≡ is_letter b → r ≡ true → true ≡ is_word_byte b
-  unfolding is_word_byte
-  byte_letter r e t = rw (sym e ∙ t)
-
-  pub byte_digit : (r : Bool) → r ≡ is_letter b → r ≡ false → (d : Bool) → d ≡ is_digit b → d ≡ is_word_byte b
-  unfolding is_word_byte
-  byte_digit r e t d f = rw (sym e ∙ t) f
-
-  pub run_byte : (r : Bool) → r ≡ is_word_byte b → r ≡ true → true ≡ in_run b
-  unfolding in_run
-  run_byte r e t = rw (sym e ∙ t)
-
-  pub run_dot : (r : Bool) → r ≡ is_word_byte b → r ≡ false → eqb b 46 ≡ in_run b
-  unfolding in_run
-  run_dot r e t = rw (sym e ∙ t)
+-- `all` of an iterator
+pub all_is : (f : ℕ → Bool) (s : List ℕ) → list_all f s ≡ all_of f s
+unfolding all_of
+all_is f [] = refl
+all_is f (b ∷ s) = ap (λ (t : Bool). f b && t) (all_is f s)
 
 pub drop_end : (a : List ℕ) (i : ℕ) → length a ≤ i → drop i a ≡ []
 drop_end [] zero h = refl
@@ -82,40 +49,21 @@ unfolding identifier
 word_empty [] e = refl
 word_empty (b ∷ s) e = absurd (omega arith)
 
-pub word_first : (s : List ℕ) (r : Bool) → r ≡ is_letter (get_or s 0 0) → r ≡ false → false ≡ identifier s
+pub word_rest : (s : List ℕ) (b : ℕ) (t : List ℕ) → s ≡ b ∷ t → (r : Bool) → r ≡ is_letter b → r ≡ true → (a : Bool) → a ≡ list_all is_word_byte t → a ≡ identifier s
 unfolding identifier
-word_first [] r e t = refl
-word_first (b ∷ s) r e t = rw (sym e ∙ t)
+word_rest s b t e r l y a q = q ∙ all_is is_word_byte t ∙ sym (rw (e, identifier, sym l ∙ y))
 
-pub word_start : (s : List ℕ) (r : Bool) → (length s ≡ 0 → ⊥) → r ≡ is_letter (get_or s 0 0) → r ≡ true → all_of is_word_byte (drop 1 s) ≡ identifier s
+pub word_first : (s : List ℕ) (b : ℕ) (t : List ℕ) → s ≡ b ∷ t → (r : Bool) → r ≡ is_letter b → r ≡ false → r ≡ identifier s
 unfolding identifier
-word_start [] r n e t = absurd (n refl)
-word_start (b ∷ s) r n e t = rw (sym e ∙ t)
-
-module _ (s : List ℕ) (i : ℕ) (x : Bool) (inv : all_of is_word_byte (drop i s) ≡ x) where
-  pub word_turn : i < length s → (r : Bool) → r ≡ is_word_byte (get_or s i 0) → r ≡ true → all_of is_word_byte (drop (i + 1) s) ≡ x
-  unfolding all_of
-  word_turn h r e t =
-      let k : all_of is_word_byte (drop i s) ≡ all_of is_word_byte (drop (suc i) s) = rw (drop-cons s i 0 h, all_of, sym e ∙ t) in
-      rw add-one (sym k ∙ inv)
-
-  pub word_fails : i < length s → (r : Bool) → r ≡ is_word_byte (get_or s i 0) → r ≡ false → false ≡ x
-  unfolding all_of
-  word_fails h r e t =
-      let k : all_of is_word_byte (drop i s) ≡ false = rw (drop-cons s i 0 h, all_of, sym e ∙ t) in
-      sym k ∙ inv
-
-  pub word_end : length s ≤ i → true ≡ x
-  unfolding all_of
-  word_end h = rw (drop_end s i h) at inv
+word_first s b t e r l n = n ∙ sym (rw (e, identifier, sym l ∙ n))
 
 -- counts: the value from v on
-pub count_from : ℕ → List ℕ → ℕ
-count_from v [] = v
+pub count_from : ℕ → List ℕ → Option ℕ
+count_from v [] = Some v
 count_from v (d ∷ s) =
     elim (is_digit d) [
-      | true ↦ elim (leb (v * 10 + (d - 48)) 4294967295) [ true ↦ count_from (v * 10 + (d - 48)) s | false ↦ 4294967296 ]
-      | false ↦ 4294967296
+      | true ↦ elim (leb (v * 10 + (d - 48)) 4294967295) [ true ↦ count_from (v * 10 + (d - 48)) s | false ↦ None ]
+      | false ↦ None
     ]
 
 value_grows : (n : ℕ) (s : List ℕ) → n ≤ value_of n s
@@ -123,38 +71,38 @@ unfolding value_of
 value_grows n [] = omega arith
 value_grows n (d ∷ s) = omega (arith, value_grows (n * 10 + (d - 48)) s)
 
-abbrev counted : ℕ → List ℕ → ℕ
-counted v s = elim (all_of is_digit s && leb (value_of v s) 4294967295) [ true ↦ value_of v s | false ↦ 4294967296 ]
+abbrev counted : ℕ → List ℕ → Option ℕ
+counted v s = elim (all_of is_digit s && leb (value_of v s) 4294967295) [ true ↦ Some (value_of v s) | false ↦ None ]
 
 and_false : (a b : Bool) → b ≡ false → (a && b) ≡ false
 and_false true b e = e
 and_false false b e = refl
 
 module _ (v d : ℕ) (s : List ℕ) where
-  count_other : is_digit d ≡ false → count_from v (d ∷ s) ≡ 4294967296
+  count_other : is_digit d ≡ false → count_from v (d ∷ s) ≡ None
   unfolding count_from
-  count_other e = failed (is_digit d) _ 4294967296 e
+  count_other e = failed (is_digit d) _ None e
 
-  count_large : is_digit d ≡ true → 4294967295 < v * 10 + (d - 48) → count_from v (d ∷ s) ≡ 4294967296
+  count_large : is_digit d ≡ true → 4294967295 < v * 10 + (d - 48) → count_from v (d ∷ s) ≡ None
   unfolding count_from
-  count_large e h = passed (is_digit d) _ 4294967296 e ∙ failed (leb (v * 10 + (d - 48)) 4294967295) _ 4294967296 (lt-leb (v * 10 + (d - 48)) 4294967295 h)
+  count_large e h = passed (is_digit d) _ None e ∙ failed (leb (v * 10 + (d - 48)) 4294967295) _ None (lt-leb (v * 10 + (d - 48)) 4294967295 h)
 
   count_small : is_digit d ≡ true → v * 10 + (d - 48) ≤ 4294967295 → count_from v (d ∷ s) ≡ count_from (v * 10 + (d - 48)) s
   unfolding count_from
-  count_small e h = passed (is_digit d) _ 4294967296 e ∙ passed (leb (v * 10 + (d - 48)) 4294967295) _ 4294967296 (le-leb (v * 10 + (d - 48)) 4294967295 h)
+  count_small e h = passed (is_digit d) _ None e ∙ passed (leb (v * 10 + (d - 48)) 4294967295) _ None (le-leb (v * 10 + (d - 48)) 4294967295 h)
 
-  counted_other : is_digit d ≡ false → counted v (d ∷ s) ≡ 4294967296
+  counted_other : is_digit d ≡ false → counted v (d ∷ s) ≡ None
   unfolding all_of
-  counted_other e = failed (all_of is_digit (d ∷ s) && leb (value_of v (d ∷ s)) 4294967295) (value_of v (d ∷ s)) 4294967296 (rw e)
+  counted_other e = failed (all_of is_digit (d ∷ s) && leb (value_of v (d ∷ s)) 4294967295) (Some (value_of v (d ∷ s))) None (rw e)
 
-  counted_large : 4294967295 < v * 10 + (d - 48) → counted v (d ∷ s) ≡ 4294967296
+  counted_large : 4294967295 < v * 10 + (d - 48) → counted v (d ∷ s) ≡ None
   unfolding value_of
   counted_large h =
       let g : 4294967295 < value_of (v * 10 + (d - 48)) s = omega (arith, value_grows (v * 10 + (d - 48)) s) in
       failed
       (all_of is_digit (d ∷ s) && leb (value_of v (d ∷ s)) 4294967295)
-      (value_of v (d ∷ s))
-      4294967296
+      (Some (value_of v (d ∷ s)))
+      None
       (and_false (all_of is_digit (d ∷ s)) (leb (value_of v (d ∷ s)) 4294967295) (lt-leb (value_of v (d ∷ s)) 4294967295 g))
 
   counted_small : is_digit d ≡ true → counted (v * 10 + (d - 48)) s ≡ counted v (d ∷ s)
@@ -162,7 +110,7 @@ module _ (v d : ℕ) (s : List ℕ) where
   counted_small e =
       let g : all_of is_digit s ≡ all_of is_digit (d ∷ s) = rw e in
       ap
-      (λ (t : Bool). elim (t && leb (value_of (v * 10 + (d - 48)) s) 4294967295) [ true ↦ value_of (v * 10 + (d - 48)) s | false ↦ 4294967296 ])
+      (λ (t : Bool). elim (t && leb (value_of (v * 10 + (d - 48)) s) 4294967295) [ true ↦ Some (value_of (v * 10 + (d - 48)) s) | false ↦ None ])
       g
 
 le_or_lt : (a b : ℕ) → (a ≤ b) ⊎ (b < a)
@@ -181,7 +129,7 @@ digit_or d = go (is_digit d) refl
 
 count_is : (s : List ℕ) (v : ℕ) → v ≤ 4294967295 → count_from v s ≡ counted v s
 unfolding count_from all_of value_of
-count_is [] v h = sym (passed (leb v 4294967295) v 4294967296 (le-leb v 4294967295 h))
+count_is [] v h = sym (passed (leb v 4294967295) (Some v) None (le-leb v 4294967295 h))
 count_is (d ∷ s) v h =
     ⊎_elim
     (λ e. ⊎_elim
@@ -191,71 +139,57 @@ count_is (d ∷ s) v h =
     (λ e. count_other v d s e ∙ sym (counted_other v d s e))
     (digit_or d)
 
-pub count_empty : (s : List ℕ) → length s ≡ 0 → 4294967296 ≡ count_value s
+pub count_empty : (s : List ℕ) → length s ≡ 0 → None ≡ count_value s
 unfolding count_value is_count
 count_empty [] e = refl
 count_empty (d ∷ s) e = absurd (omega arith)
 
-pub count_zeros : (s : List ℕ) → get_or s 0 0 ≡ 48 → (length s ≡ 1 → ⊥) → 4294967296 ≡ count_value s
+pub count_zeros : (s : List ℕ) → (get_or s 0 0 ≡ 48) × (length s ≢ 1) → None ≡ count_value s
 unfolding count_value is_count is_empty
-count_zeros [] e n = refl
-count_zeros (d ∷ []) e n = absurd (n refl)
-count_zeros (d ∷ b ∷ s) e n =
-    sym (failed (is_count (d ∷ b ∷ s)) (value_of 0 (d ∷ b ∷ s)) 4294967296 (rw e (both_false (all_of is_digit (48 ∷ b ∷ s)) (leb (value_of 0 (48 ∷ b ∷ s)) 4294967295))))
+count_zeros [] e = refl
+count_zeros (d ∷ []) e = absurd (e.1 refl)
+count_zeros (d ∷ b ∷ s) e =
+    sym (failed (is_count (d ∷ b ∷ s)) (Some (value_of 0 (d ∷ b ∷ s))) None (rw e.0 (both_false (all_of is_digit (48 ∷ b ∷ s)) (leb (value_of 0 (48 ∷ b ∷ s)) 4294967295))))
   where
     both_false : (a c : Bool) → ((a && false) && c) ≡ false
     both_false true c = refl
     both_false false c = refl
 
-pub count_zero : (s : List ℕ) → get_or s 0 0 ≡ 48 → length s ≡ 1 → 0 ≡ count_value s
-unfolding count_value is_count is_empty all_of is_digit value_of
-count_zero [] e n = absurd (omega arith)
-count_zero (d ∷ []) e n = rw e
-count_zero (d ∷ b ∷ s) e n = absurd (omega arith)
+no_zeros : (d : ℕ) (s : List ℕ) → (d ≡ 48 → length (d ∷ s) ≡ 1) → (is_empty s || not (eqb d 48)) ≡ true
+unfolding is_empty
+no_zeros d [] h = refl
+no_zeros d (b ∷ s) h = rw (ne_eqb d 48 (λ e. absurd (omega (arith, h e))))
 
-pub count_start : (s : List ℕ) → (length s ≡ 0 → ⊥) → (get_or s 0 0 ≡ 48 → ⊥) → count_from 0 (drop 0 s) ≡ count_value s
+pub count_start : (s : List ℕ) → (length s ≡ 0 → ⊥) → (get_or s 0 0 ≡ 48 → length s ≡ 1) → count_from 0 (drop 0 s) ≡ count_value s
 unfolding count_value is_count
 count_start [] n z = absurd (n refl)
 count_start (d ∷ s) n z =
     count_is (d ∷ s) 0 (omega arith)
     ∙ ap
-    (λ (t : Bool). elim (t && leb (value_of 0 (d ∷ s)) 4294967295) [ true ↦ value_of 0 (d ∷ s) | false ↦ 4294967296 ])
-    (sym (ap (λ (t : Bool). all_of is_digit (d ∷ s) && (is_empty s || not t)) (ne_eqb d 48 z) ∙ plain (is_empty s) (all_of is_digit (d ∷ s))))
+    (λ (t : Bool). elim (t && leb (value_of 0 (d ∷ s)) 4294967295) [ true ↦ Some (value_of 0 (d ∷ s)) | false ↦ None ])
+    (sym (ap (λ (t : Bool). all_of is_digit (d ∷ s) && t) (no_zeros d s z) ∙ plain (all_of is_digit (d ∷ s))))
   where
-    plain : (a b : Bool) → (b && (a || true)) ≡ b
-    plain true true = refl
-    plain true false = refl
-    plain false true = refl
-    plain false false = refl
+    plain : (b : Bool) → (b && true) ≡ b
+    plain true = refl
+    plain false = refl
 
-module _ (s : List ℕ) (i v x : ℕ) (inv : count_from v (drop i s) ≡ x) (h : i < length s) (r : Bool) (e : r ≡ is_digit (get_or s i 0)) where
+module _ (s : List ℕ) (i v : ℕ) (x : Option ℕ) (inv : count_from v (drop i s) ≡ x) (h : i < length s) (r : Bool) (e : r ≡ is_digit (get_or s i 0)) where
   here : count_from v (drop i s) ≡ count_from v (get_or s i 0 ∷ drop (suc i) s)
   here = ap (count_from v) (drop-cons s i 0 h)
 
   pub count_turn : r ≡ true → v * 10 + (get_or s i 0 - 48) ≤ 4294967295 → count_from (v * 10 + (get_or s i 0 - 48)) (drop (i + 1) s) ≡ x
   count_turn t l = rw add-one (sym (here ∙ count_small v (get_or s i 0) (drop (suc i) s) (sym e ∙ t) l) ∙ inv)
 
-  pub count_fails : r ≡ false → 4294967296 ≡ x
+  pub count_fails : r ≡ false → None ≡ x
   count_fails t = sym (here ∙ count_other v (get_or s i 0) (drop (suc i) s) (sym e ∙ t)) ∙ inv
 
-  pub count_over : r ≡ true → 4294967295 < v * 10 + (get_or s i 0 - 48) → 4294967296 ≡ x
+  pub count_over : r ≡ true → 4294967295 < v * 10 + (get_or s i 0 - 48) → None ≡ x
   count_over t l = sym (here ∙ count_large v (get_or s i 0) (drop (suc i) s) (sym e ∙ t) l) ∙ inv
 
   pub digit_above : r ≡ true → 48 ≤ get_or s i 0
   digit_above t = ⊎_elim (λ l. l) (λ l. absurd (false_true (digit_below (get_or s i 0) l ∙ (sym e ∙ t)))) (le_or_lt 48 (get_or s i 0))
 
-  pub digit_under : r ≡ true → get_or s i 0 < 58
-  unfolding is_digit
-  digit_under t =
-      ⊎_elim
-      (λ l. absurd (false_true (digit_below' l ∙ (sym e ∙ t))))
-      (λ l. l)
-      (le_or_lt 58 (get_or s i 0))
-    where
-      digit_below' : 58 ≤ get_or s i 0 → false ≡ is_digit (get_or s i 0)
-      digit_below' l = rw (lt-ltb 47 (get_or s i 0) (omega arith), le-ltb (get_or s i 0) 58 l)
-
-pub count_end : (s : List ℕ) (i v x : ℕ) → count_from v (drop i s) ≡ x → length s ≤ i → v ≡ x
+pub count_end : (s : List ℕ) (i v : ℕ) (x : Option ℕ) → count_from v (drop i s) ≡ x → length s ≤ i → Some v ≡ x
 unfolding count_from
 count_end s i v x inv h = rw (drop_end s i h) at inv
 
@@ -349,42 +283,44 @@ both_true : (a b : Bool) → (a && b) ≡ true → (a ≡ true) × (b ≡ true)
 both_true true b e = (refl, e)
 both_true false b e = absurd (false_true e)
 
-count_fits : (s : List ℕ) → is_count s ≡ true → value_of 0 s ≤ 4294967295
-unfolding is_count
-count_fits [] e = absurd (false_true e)
-count_fits (d ∷ s) e =
-    leb-true
-    (value_of 0 (d ∷ s))
-    4294967295
-    (both_true (all_of is_digit (d ∷ s) && (is_empty s || not (eqb d 48))) (leb (value_of 0 (d ∷ s)) 4294967295) e).1
+pub no_value : (v : Option ℕ) (b : Bool) → b ≡ is_some v → b ≡ false → v ≡ None
+no_value (Some n) b e t = absurd (false_true (sym t ∙ e))
+no_value None b e t = refl
 
 module _ (s : List ℕ) (r₁ : Bool) (e₁ : r₁ ≡ identifier s) where
   pub run_word : r₁ ≡ true → (k : ℕ) → k ≡ word_sign s → k ≡ run_sign s
   unfolding run_sign run_token word_sign
   run_word t k e = e ∙ ap token_sign (sym (passed (identifier s) (word_token s 0) _ (sym e₁ ∙ t)))
 
-  module _ (f₁ : r₁ ≡ false) (v : ℕ) (e₂ : v ≡ count_value s) where
-    value_small : v < 4294967296 → is_count s ≡ true
+  module _ (f₁ : r₁ ≡ false) (v : Option ℕ) (e₂ : v ≡ count_value s) where
+    value_some : (n : ℕ) → v ≡ Some n → (is_count s ≡ true) × (n ≡ value_of 0 s)
     unfolding count_value
-    value_small h = go (is_count s) refl
+    value_some n h = go (is_count s) refl
       where
-        go : (t : Bool) → is_count s ≡ t → is_count s ≡ true
-        go true q = q
-        go false q = absurd (omega (arith, e₂ ∙ failed (is_count s) (value_of 0 s) 4294967296 q))
+        go : (t : Bool) → is_count s ≡ t → (is_count s ≡ true) × (n ≡ value_of 0 s)
+        go true q = (q, let k : Some n ≡ Some (value_of 0 s) = sym h ∙ e₂ ∙ passed (is_count s) (Some (value_of 0 s)) None q in cc)
+        go false q = absurd (none-some n (sym (sym h ∙ e₂ ∙ failed (is_count s) (Some (value_of 0 s)) None q)))
 
-    value_large : 4294967296 ≤ v → is_count s ≡ false
+    value_none : v ≡ None → is_count s ≡ false
     unfolding count_value
-    value_large h = go (is_count s) refl
+    value_none h = go (is_count s) refl
       where
         go : (t : Bool) → is_count s ≡ t → is_count s ≡ false
-        go true q = absurd (omega (arith, e₂ ∙ passed (is_count s) (value_of 0 s) 4294967296 q, count_fits s q))
+        go true q = absurd (none-some (value_of 0 s) (sym h ∙ e₂ ∙ passed (is_count s) (Some (value_of 0 s)) None q))
         go false q = q
 
-    pub run_count_lem : v < 4294967296 → 7 ≡ run_sign s
+    pub run_count_lem : (n : ℕ) → v ≡ Some n → 7 ≡ run_sign s
     unfolding run_sign run_token
-    run_count_lem h = ap token_sign (sym (failed (identifier s) (word_token s 0) _ (sym e₁ ∙ f₁) ∙ passed (is_count s) (number (value_of 0 s)) _ (value_small h)))
+    run_count_lem n h = ap token_sign (sym (failed (identifier s) (word_token s 0) _ (sym e₁ ∙ f₁) ∙ passed (is_count s) (number (value_of 0 s)) _ (value_some n h).0))
 
-    module _ (n : 4294967296 ≤ v) (r₃ : Bool) (e₃ : r₃ ≡ same_bytes s (ascii "...")) where
+    pub run_counted : (b : Bool) → b ≡ is_some v → b ≡ true → 7 ≡ run_sign s
+    run_counted b e t = go v refl (sym e ∙ t)
+      where
+        go : (o : Option ℕ) → v ≡ o → is_some o ≡ true → 7 ≡ run_sign s
+        go (Some n) h q = run_count_lem n h
+        go None h q = absurd (false_true q)
+
+    module _ (n : v ≡ None) (r₃ : Bool) (e₃ : r₃ ≡ same_bytes s (ascii "...")) where
       pub run_dots : r₃ ≡ true → 62 ≡ run_sign s
       unfolding run_sign run_token
       run_dots t =
@@ -392,7 +328,7 @@ module _ (s : List ℕ) (r₁ : Bool) (e₁ : r₁ ≡ identifier s) where
           token_sign
           (sym
           (failed (identifier s) (word_token s 0) _ (sym e₁ ∙ f₁)
-          ∙ failed (is_count s) (number (value_of 0 s)) _ (value_large n)
+          ∙ failed (is_count s) (number (value_of 0 s)) _ (value_none n)
           ∙ passed (same_bytes s (ascii "...")) (mark 46) (mark 0) (sym e₃ ∙ t)))
 
       pub run_none : r₃ ≡ false → 16 ≡ run_sign s
@@ -402,7 +338,7 @@ module _ (s : List ℕ) (r₁ : Bool) (e₁ : r₁ ≡ identifier s) where
           token_sign
           (sym
           (failed (identifier s) (word_token s 0) _ (sym e₁ ∙ f₁)
-          ∙ failed (is_count s) (number (value_of 0 s)) _ (value_large n)
+          ∙ failed (is_count s) (number (value_of 0 s)) _ (value_none n)
           ∙ failed (same_bytes s (ascii "...")) (mark 46) (mark 0) (sym e₃ ∙ t)))
 
   pub count_word : r₁ ≡ true → 0 ≡ run_count s
@@ -416,25 +352,19 @@ module _ (s : List ℕ) (r₁ : Bool) (e₁ : r₁ ≡ identifier s) where
       none false false true = refl
       none false false false = refl
 
-  module _ (g₁ : r₁ ≡ false) (v : ℕ) (e₂ : v ≡ count_value s) where
-    pub count_number : v < 4294967296 → v ≡ run_count s
-    unfolding run_count run_token count_value
-    count_number h =
-        let q : is_count s ≡ true = value_small g₁ v e₂ h in
-        e₂
-        ∙ passed (is_count s) (value_of 0 s) 4294967296 q
-        ∙ ap token_count (sym (failed (identifier s) (word_token s 0) _ (sym e₁ ∙ g₁) ∙ passed (is_count s) (number (value_of 0 s)) _ q))
-
-    pub count_none : 4294967296 ≤ v → 0 ≡ run_count s
-    unfolding run_count run_token
-    count_none h =
-        sym
-        (ap token_count (failed (identifier s) (word_token s 0) _ (sym e₁ ∙ g₁) ∙ failed (is_count s) (number (value_of 0 s)) _ (value_large g₁ v e₂ h))
-        ∙ none (same_bytes s (ascii "...")))
-      where
-        none : (a : Bool) → token_count {W = ℕ} (elim a [ true ↦ mark 46 | false ↦ mark 0 ]) ≡ 0
-        none true = refl
-        none false = refl
+  -- a run that is no identifier: its count, or 0
+  pub count_or_zero : r₁ ≡ false → (v : Option ℕ) → v ≡ count_value s → unwrap_or v 0 ≡ run_count s
+  unfolding run_count run_token count_value
+  count_or_zero g v e =
+      ap (λ (o : Option ℕ). unwrap_or o 0) e
+      ∙ go (is_count s) (same_bytes s (ascii "..."))
+      ∙ sym (ap token_count (failed (identifier s) (word_token s 0) _ (sym e₁ ∙ g)))
+    where
+      go : (b d : Bool) → unwrap_or (elim b [ true ↦ Some (value_of 0 s) | false ↦ None ]) 0
+          ≡ token_count {W = ℕ} (elim b [ true ↦ number (value_of 0 s) | false ↦ elim d [ true ↦ mark 46 | false ↦ mark 0 ] ])
+      go true d = refl
+      go false true = refl
+      go false false = refl
 
 -- the token of a run, whatever its word is kept as
 abbrev shape : {W : Type 0} → Bool → Bool → Bool → Bool → Bool → Bool → Kind → ℕ → W → Token W

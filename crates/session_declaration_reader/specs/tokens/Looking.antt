@@ -1,5 +1,5 @@
 -- What the code sees of the tokens at a place of the text.
-use Rattle.std.specs.Prelude.{ℕ, ◌+◌, ◌-◌, ◌≤◌, ◌<◌, ◌≡◌, List, [], ◌∷◌, true, false, length, get_or, take, drop}
+use Rattle.std.specs.Prelude.{ℕ, Option, Some, None, ◌+◌, ◌-◌, ◌≤◌, ◌<◌, ◌≡◌, List, [], ◌∷◌, true, false, length, get_or, take, drop}
 use Rattle.spec_c_dumper.specs.rules.Types.{volatile, const, restrict}
 use Rattle.session_declaration_reader.specs.tokens.Tokens.{tag_word, void_word, other_word, Token, qual, word, number, mark, rest}
 use Rattle.session_declaration_reader.specs.tokens.Tokens.{is_count, value_of, kind_of, tokens, word_token, run_token}
@@ -64,9 +64,9 @@ pub record Looked (s : List ℕ) (at : ℕ) (t : Tok) : Type 0 where
   pub forward : (t.sign ≡ 0 → ⊥) → at < t.end
   pub inside : (t.sign ≡ 0 → ⊥) → t.end ≤ length s
 
--- the value of a count, or a number too large for one
-unfoldable pub count_value : List ℕ → ℕ
-count_value run = elim (is_count run) [ true ↦ value_of 0 run | false ↦ 4294967296 ]
+-- the value of a count
+unfoldable pub count_value : List ℕ → Option ℕ
+count_value run = elim (is_count run) [ true ↦ Some (value_of 0 run) | false ↦ None ]
 
 -- the signs of a run
 unfoldable pub kind_sign : List ℕ → ℕ

@@ -1,23 +1,17 @@
-use lib.ListN.{length}
-use Prim.Native.Nat.{◌≤◌}
-use native.Mathlib.Omega.{arith}
+use Rattle.std.proofs.Common.{rules}
+use Rattle.std.proofs.lemmas.Iterator.{YieldsList-from_slice}
+use Rattle.std.proofs.lemmas.Iterator.Search.{all_from_yields_List}
+use Rattle.session_declaration_reader.specs.tokens.Tokens.{is_word_byte}
 use Rattle.session_declaration_reader.proofs.tokens.Bytes as bytes
 use Rattle.session_declaration_reader.proofs.tokens.identifier.Goals as goal
 
-pub returns-then-run-eq0 : goal.returns-then-run-eq0
-returns-then-run-eq0 c = bytes.word_empty _ c.if-run-eq0.true
+pub returns-in_default : goal.returns-in_default
+returns-in_default c = bytes.word_empty _ c.in_default.ensures.cases
 
-pub returns-then-not-is_letter : goal.returns-then-not-is_letter
-returns-then-not-is_letter c = bytes.word_first _ _ c.is_letter.ensures c.if-not-is_letter.true
+pub returns-then-is_letter : goal.returns-then-is_letter
+returns-then-is_letter c =
+    bytes.word_rest _ _ _ c.in-Some.ensures.cases.0 _ c.is_letter.ensures c.if-is_letter.true _
+    (all_from_yields_List is_word_byte _ _ _ c.all.ensures.ran (YieldsList-from_slice c.in-Some.rest.now c.iter.ensures.rest) (λ x b q k. search rules))
 
-pub loop-i-init : goal.loop-i-init
-loop-i-init c = (omega arith, bytes.word_start _ _ c.if-run-eq0.false c.is_letter.ensures c.if-not-is_letter.false)
-
-pub returns-then-not-is_word_byte : goal.returns-then-not-is_word_byte
-returns-then-not-is_word_byte c = bytes.word_fails _ _ _ c.loop-i.invariant.1 c.loop-i-test.true _ c.is_word_byte.ensures c.if-not-is_word_byte.true
-
-pub loop-i-preserved : goal.loop-i-preserved
-loop-i-preserved c = (omega arith, bytes.word_turn _ _ _ c.loop-i.invariant.1 c.loop-i-test.true _ c.is_word_byte.ensures c.if-not-is_word_byte.false)
-
-pub returns : goal.returns
-returns c = let e : length c.args.run.now ≤ c.loop-i.i = omega arith in bytes.word_end _ _ _ c.loop-i.invariant.1 e
+pub returns-else-is_letter : goal.returns-else-is_letter
+returns-else-is_letter c = bytes.word_first _ _ _ c.in-Some.ensures.cases.0 _ c.is_letter.ensures c.if-is_letter.false
