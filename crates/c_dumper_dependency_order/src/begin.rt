@@ -3,13 +3,11 @@ ghost use Rattle.std.specs.Prelude.{◌≡◌};
 ghost use Rattle.c_dumper_dependency_order.specs.order_state.Work.{table_in};
 ghost use Rattle.c_dumper_dependency_order.specs.begin.Start.{limit_by, opened_by, is_known, is_passable, met_by};
 
-use crate::order_state::{Order, get_order_state, refused, strong};
+use crate::order_state::{Order, is_ordered, refused, strong};
 use base_bytes::refusal;
-use btf_type_table::kind;
-use btf_type_table::kind::kind_of;
 use btf_type_table::name::is_named;
 use btf_type_table::node::type_by_id;
-use spec_type_table::TypeTable;
+use spec_type_table::{Kind, TypeTable};
 
 // A ceiling on the calls of ordering, where it is set. The walk takes it apart: two numbers stay in registers, a struct does not.
 #[derive(Clone, Copy)]
@@ -30,9 +28,7 @@ pub fn count_call(is_set: bool, calls: u64, o: Order) -> Order
     }
     Order {
         made: o.made + 1,
-        len: o.len,
-        stop: o.stop,
-        is_strong: o.is_strong,
+        ..o
     }
 }
 
@@ -40,8 +36,8 @@ pub fn count_call(is_set: bool, calls: u64, o: Order) -> Order
 pub fn is_known(work: &[u8], o: Order, id: u32, left: u32, is_set: bool, calls: u64) -> bool
     ensures { result ≡ is_known is_set calls left o work.now id }
 {
-    let state = get_order_state(work, id);
-    (o.stop == 0) & (left != 0) & (!is_set | (o.made < calls)) & (state == 2)
+    let is_ordered = is_ordered(work, id);
+    (o.stop == 0) & (left != 0) & (!is_set | (o.made < calls)) & is_ordered
 }
 
 // An id in progress: a named composite behind a pointer is passed over, anything else is a cycle.
@@ -55,8 +51,8 @@ pub fn meet(b: TypeTable, section: &[u8], work: &[u8], o: Order, id: u32, has_pt
     if !is_named(b, section, t) {
         return refused(o, refusal::CYCLE);
     }
-    match kind_of(t.info) {
-        kind::STRUCT | kind::UNION => strong(o, false),
+    match Kind::of(t.info) {
+        Kind::Struct | Kind::Union => strong(o, false),
         _ => refused(o, refusal::CYCLE),
     }
 }

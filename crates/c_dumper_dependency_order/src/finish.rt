@@ -2,19 +2,10 @@
 ghost use Rattle.std.specs.Prelude.{◌≡◌};
 ghost use Rattle.spec_c_dumper.specs.rules.Order.{finish as finish_of};
 ghost use Rattle.spec_c_dumper.specs.ceiling.Ceiling.{told, then_bind};
-ghost use Rattle.spec_bytes.specs.words.Words.{one_more};
 ghost use Rattle.c_dumper_dependency_order.specs.leaders.Leads.{kept_store, kept_out, alias_kept};
 
 use crate::leaders::{Way, note};
-use crate::order_state::{Order, get_order_state, set_listed, set_order_state, strong};
-use base_bytes::limit;
-
-// One more, unless it is the largest.
-fn more(n: u32) -> u32
-    ensures { result ≡ one_more n }
-{
-    if n < limit::LARGEST { n + 1 } else { n }
-}
+use crate::order_state::{Mark, Order, is_ordered, set_listed, set_mark, strong};
 
 // Puts an id at the end of the order list, and notes its leader.
 fn push(work: &mut [u8], leads: &mut [u64], o: Order, id: u32, v: Way) -> Order
@@ -24,10 +15,8 @@ fn push(work: &mut [u8], leads: &mut [u64], o: Order, id: u32, v: Way) -> Order
     note(leads, v, id);
     set_listed(work, o.len, id);
     Order {
-        made: o.made,
-        len: more(o.len),
-        stop: o.stop,
-        is_strong: o.is_strong,
+        len: o.len.saturating_add(1),
+        ..o
     }
 }
 
@@ -50,10 +39,10 @@ pub fn finish(
     }
     if lists {
         let p = push(work, leads, o, id, v);
-        set_order_state(work, id, 2);
+        set_mark(work, id, Mark::Done);
         return strong(p, is_strong);
     }
-    set_order_state(work, id, 2);
+    set_mark(work, id, Mark::Done);
     strong(o, is_strong)
 }
 
@@ -76,6 +65,6 @@ pub fn finish_typedef(
     if !(!has_ptr | o.is_strong) {
         return strong(o, false);
     }
-    let was_ordered = get_order_state(work, id) == 2;
+    let was_ordered = is_ordered(work, id);
     finish(work, leads, o, id, !was_ordered, true, v)
 }

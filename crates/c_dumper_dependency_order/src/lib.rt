@@ -2,6 +2,7 @@
 #![tactic(auto)]
 
 pub mod begin;
+pub mod entries;
 pub mod finish;
 pub mod leaders;
 pub mod order_state;

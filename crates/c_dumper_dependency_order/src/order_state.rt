@@ -1,10 +1,25 @@
 // What ordering keeps: the order states of the types and the order list, both in the work words, and what it has come to.
-ghost use Rattle.std.specs.Prelude.{◌≡◌};
+ghost use Rattle.std.specs.Prelude.{◌≡◌, eqb};
 ghost use Rattle.spec_type_table.specs.Cells.{get_field, put_field};
-ghost use Rattle.c_dumper_dependency_order.specs.order_state.Work.{strong_of, refused_by};
+ghost use Rattle.c_dumper_dependency_order.specs.order_state.Work.{mark_is, mark_of, code, strong_of, refused_by};
 
 use btf_type_table::cell;
 use btf_type_table::cell::{get_field, put_field};
+
+// How far ordering has come with a type.
+#[derive(Clone, Copy, PartialEq, Eq)]
+pub enum Mark {
+    New,
+    Open,
+    Done,
+}
+
+// The marks as words of the work; any other word is a type that is not ordered yet.
+const NEW: u32 = 0;
+
+const OPEN: u32 = 1;
+
+const DONE: u32 = 2;
 
 // What ordering has come to: the calls made under a ceiling, the length of the order list, the refusal that stopped it, 0
 // while there is none, and whether the last way was strong.
@@ -22,9 +37,30 @@ pub fn get_order_state(work: &[u8], id: u32) -> u32
     get_field(work, id, cell::ORDER_STATE)
 }
 
-pub fn set_order_state(work: &mut [u8], id: u32, state: u32)
-    ensures { work.new ≡ put_field work.old id 1 state }
+pub fn get_mark(work: &[u8], id: u32) -> Mark
+    ensures { mark_is result ≡ mark_of (get_field work.now id 1) }
 {
+    match get_order_state(work, id) {
+        DONE => Mark::Done,
+        OPEN => Mark::Open,
+        _ => Mark::New,
+    }
+}
+
+pub fn is_ordered(work: &[u8], id: u32) -> bool
+    ensures { result ≡ eqb (get_field work.now id 1) 2 }
+{
+    get_order_state(work, id) == DONE
+}
+
+pub fn set_mark(work: &mut [u8], id: u32, mark: Mark)
+    ensures { work.new ≡ put_field work.old id 1 (code (mark_is mark)) }
+{
+    let state = match mark {
+        Mark::New => NEW,
+        Mark::Open => OPEN,
+        Mark::Done => DONE,
+    };
     put_field(work, id, cell::ORDER_STATE, state)
 }
 
@@ -51,21 +87,15 @@ pub fn clear_listed(work: &mut [u8], k: u32)
 pub fn strong(o: Order, is_strong: bool) -> Order
     ensures { result ≡ strong_of o is_strong }
 {
-    Order {
-        made: o.made,
-        len: o.len,
-        stop: o.stop,
-        is_strong: is_strong,
-    }
+    Order { is_strong, ..o }
 }
 
 pub fn refused(o: Order, c: u32) -> Order
     ensures { result ≡ refused_by o c }
 {
     Order {
-        made: o.made,
-        len: o.len,
         stop: c,
         is_strong: false,
+        ..o
     }
 }

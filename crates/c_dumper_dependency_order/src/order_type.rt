@@ -1,21 +1,21 @@
 // The order of definitions: the rules of order_type, for plain requests, under a ceiling and with a leader for each listed id.
-ghost use Rattle.std.specs.Prelude.{◌≡◌, false};
+ghost use Rattle.std.specs.Prelude.{◌≡◌};
 ghost use Rattle.spec_c_dumper.specs.ceiling.Ceiling.{then_bind, each_within};
-ghost use Rattle.spec_type_table.specs.Nodes.{member_ids, param_ids};
+ghost use Rattle.spec_type_table.specs.Nodes.{member_ids};
+ghost use Rattle.c_dumper_dependency_order.specs.entries.Entries.{entry_ids};
 ghost use Rattle.c_dumper_dependency_order.specs.order_state.Work.{table_in};
 ghost use Rattle.c_dumper_dependency_order.specs.begin.Start.{limit_by};
 ghost use Rattle.c_dumper_dependency_order.specs.leaders.Leads.{order_kept, kept_out, way_kept, fresh_kept, enter_kept};
 
 use crate::begin::{count_call, is_known, meet};
+use crate::entries::{Each, entry_type};
 use crate::finish::{finish, finish_typedef};
 use crate::leaders::{Way, inside};
-use crate::order_state::{Order, get_order_state, refused, set_order_state, strong};
+use crate::order_state::{Mark, Order, get_mark, refused, set_mark, strong};
 use crate::ways::{is_passed, is_weak_past};
 use base_bytes::refusal;
-use btf_type_table::kind::{member_place, param_place};
 use btf_type_table::name::is_named;
 use btf_type_table::node::{node_of, type_by_id};
-use btf_type_table::section_word::word;
 use spec_type_table::{Entries, Node, TypeTable};
 
 // v: what is being ordered around the call. A request without a list of line origins lends no leaders.
@@ -47,27 +47,23 @@ pub fn order_type(
     if p.stop != 0 {
         return p;
     }
-    let state = get_order_state(work, id);
-    if state == 2 {
-        return strong(p, true);
+    match get_mark(work, id) {
+        Mark::Done => strong(p, true),
+        Mark::Open => meet(b, section, work, p, id, has_ptr),
+        Mark::New => order_new(
+            b,
+            section,
+            work,
+            leads,
+            p,
+            id,
+            has_ptr,
+            left - 1,
+            v,
+            is_set,
+            calls,
+        ),
     }
-    let is_in_progress = state == 1;
-    if is_in_progress {
-        return meet(b, section, work, p, id, has_ptr);
-    }
-    order_new(
-        b,
-        section,
-        work,
-        leads,
-        p,
-        id,
-        has_ptr,
-        left - 1,
-        v,
-        is_set,
-        calls,
-    )
 }
 
 // An id that is not ordered yet. Most of what a pointer or a qualifier leads to is known: that is counted without the call.
@@ -119,7 +115,8 @@ fn order_new(
         }
         Node::Proto(res, params) => {
             let r = order_type(b, s, work, leads, o, res, weak, left, v, set, max);
-            order_params(b, s, work, leads, r, params, weak, left, v, set, max)
+            let each = Each::Param;
+            order_entries(b, s, work, leads, r, params, each, weak, left, v, set, max)
         }
         Node::Composite(es) => {
             let named = is_named(b, s, t);
@@ -153,21 +150,25 @@ fn order_composite(
     if is_passed(named, has_ptr) {
         return strong(o, false);
     }
-    set_order_state(work, id, 1);
+    set_mark(work, id, Mark::Open);
     let u = inside(v, id);
-    let r = order_members(b, section, work, leads, o, members, left, u, is_set, calls);
+    let each = Each::Member;
+    let r = order_entries(
+        b, section, work, leads, o, members, each, false, left, u, is_set, calls,
+    );
     finish(work, leads, r, id, named, true, v)
 }
 
-// The parameters of a prototype; the way is strong if one of them was, or what came before.
+// The types of entries in order; the way is strong if one of them was, or what came before.
 #[cycle(order_type)]
-fn order_params(
+fn order_entries(
     b: TypeTable,
     section: &[u8],
     work: &mut [u8],
     leads: &mut [u64],
     o: Order,
-    params: Entries,
+    entries: Entries,
+    each: Each,
     has_ptr: bool,
     left: u32,
     v: Way,
@@ -177,16 +178,13 @@ fn order_params(
     ensures { kept_out result work.new leads.new ≡
         then_bind (kept_out o work.old leads.old)
         (λ m strong k. each_within (way_kept (limit_by is_set calls) v (table_in b section.now work.old) left has_ptr)
-        (param_ids b section.now params) m strong k) }
+        (entry_ids b section.now each entries) m strong k) }
 {
-    let vlen = params.vlen;
     let mut r = o;
-    let mut k: u32 = 0;
-    while k < vlen {
-        let t = word(b, section, param_place(params, k) + 4);
+    for k in 0..entries.vlen {
+        let t = entry_type(b, section, entries, each, k);
         if is_known(work, r, t, left, is_set, calls) {
             r = strong(count_call(is_set, calls, r), true);
-            k += 1;
             continue;
         }
         let before = r.is_strong;
@@ -194,44 +192,6 @@ fn order_params(
             b, section, work, leads, r, t, has_ptr, left, v, is_set, calls,
         );
         r = strong(p, before | p.is_strong);
-        k += 1;
-    }
-    r
-}
-
-// The members of a composite, each a strong way.
-#[cycle(order_type)]
-fn order_members(
-    b: TypeTable,
-    section: &[u8],
-    work: &mut [u8],
-    leads: &mut [u64],
-    o: Order,
-    members: Entries,
-    left: u32,
-    v: Way,
-    is_set: bool,
-    calls: u64,
-) -> Order
-    ensures { kept_out result work.new leads.new ≡
-        then_bind (kept_out o work.old leads.old)
-        (λ m strong k. each_within (way_kept (limit_by is_set calls) v (table_in b section.now work.old) left false)
-        (member_ids b section.now members) m strong k) }
-{
-    let vlen = members.vlen;
-    let mut r = o;
-    let mut k: u32 = 0;
-    while k < vlen {
-        let t = word(b, section, member_place(members, k) + 4);
-        if is_known(work, r, t, left, is_set, calls) {
-            r = strong(count_call(is_set, calls, r), true);
-            k += 1;
-            continue;
-        }
-        let before = r.is_strong;
-        let p = order_type(b, section, work, leads, r, t, false, left, v, is_set, calls);
-        r = strong(p, before | p.is_strong);
-        k += 1;
     }
     r
 }

@@ -15,6 +15,9 @@ use Rattle.spec_type_table.specs.declared.types.BtfType.{BtfType as Record}
 use Rattle.spec_type_table.specs.Cells.{get_field}
 use Rattle.spec_type_table.specs.Records.{kind_of, record_by_id}
 use Rattle.spec_type_table.specs.Table.{type_of}
+use Rattle.spec_type_table.specs.declared.kind.Kind.{Kind}
+use Rattle.spec_type_table.specs.declared.kind.Kind.TheVariants.{Struct, Union}
+use Rattle.spec_type_table.specs.Kinds.{kind_named}
 use Rattle.c_dumper_dependency_order.specs.declared.order_state.Order.{Order}
 use Rattle.c_dumper_dependency_order.specs.order_state.Work.{table_in, strong_of, refused_by}
 use Rattle.c_dumper_dependency_order.specs.begin.Start.{limit_by, with_made, opened_by, is_known, is_passable, met_by}
@@ -50,10 +53,10 @@ module _ (is_set : Bool) (calls : ℕ) (o : Order) where
       ap (with_made o) q ∙ most_one l ∙ sym (ap (λ (u : Limit). opened_by u o) (bound e))
 
 -- ---- an id that is ordered
-pub known_is : (is_set : Bool) (calls : ℕ) (left : ℕ) (o : Order) (w : List ℕ) (x st : ℕ) → st ≡ get_field w x 1
-    → (((eqb o.stop 0 && not (eqb left 0)) && (not is_set || ltb o.made calls)) && eqb st 2) ≡ is_known is_set calls left o w x
+pub known_is : (is_set : Bool) (calls : ℕ) (left : ℕ) (o : Order) (w : List ℕ) (x : ℕ) (d : Bool) → d ≡ eqb (get_field w x 1) 2
+    → (((eqb o.stop 0 && not (eqb left 0)) && (not is_set || ltb o.made calls)) && d) ≡ is_known is_set calls left o w x
 unfolding is_known
-known_is is_set calls left o w x st e = ap (λ (n : ℕ). ((eqb o.stop 0 && not (eqb left 0)) && (not is_set || ltb o.made calls)) && eqb n 2) e
+known_is is_set calls left o w x d e = ap (λ (y : Bool). ((eqb o.stop 0 && not (eqb left 0)) && (not is_set || ltb o.made calls)) && y) e
 
 and_left : (x y : Bool) → (x && y) ≡ true → x ≡ true
 and_left true y e = refl
@@ -125,10 +128,10 @@ module _ (b : TypeTable) (s : List ℕ) (w : List ℕ) (o : Order) (id : ℕ) (w
     pub meet_nameless : (r : Order) → r ≡ refused_by o 13 → nm ≡ false → r ≡ met_by (is_passable (table_in b s w) id weak) o
     meet_nameless r er e = meets_no r er (passed_as ∙ and_false (is_comp ((table_in b s w).node id)) (weak && (table_in b s w).named id) (and_false weak ((table_in b s w).named id) (named_at b s w id t et ∙ sym en ∙ e)))
 
-    pub meet_other : (r : Order) → r ≡ refused_by o 13 → (k : ℕ) → k ≡ kind_of t.info → ((k ≡ 4) ⊎ (k ≡ 5) → ⊥) → r ≡ met_by (is_passable (table_in b s w) id weak) o
+    pub meet_other : (r : Order) → r ≡ refused_by o 13 → (k : Kind) → k ≡ kind_named (kind_of t.info) → ((k ≡ Struct) ⊎ (k ≡ Union) → ⊥) → r ≡ met_by (is_passable (table_in b s w) id weak) o
     meet_other r er k ek n = meets_no r er (passed_as ∙ ap (λ (x : Bool). x && (weak && (table_in b s w).named id)) (ap is_comp (node_at b s w id t et) ∙ comp_no b s t k ek n))
 
-    pub meet_passed : (r : Order) → r ≡ strong_of o false → weak ≡ true → nm ≡ true → (k : ℕ) → k ≡ kind_of t.info → (k ≡ 4) ⊎ (k ≡ 5) → r ≡ met_by (is_passable (table_in b s w) id weak) o
+    pub meet_passed : (r : Order) → r ≡ strong_of o false → weak ≡ true → nm ≡ true → (k : Kind) → k ≡ kind_named (kind_of t.info) → (k ≡ Struct) ⊎ (k ≡ Union) → r ≡ met_by (is_passable (table_in b s w) id weak) o
     unfolding met_by
     meet_passed r er ew e k ek c = by_passable true all r er
       where

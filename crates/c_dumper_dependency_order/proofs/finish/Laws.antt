@@ -1,13 +1,13 @@
 -- The length of the order list, with one more. Assumes nothing.
-use Prim.Native.Nat.{ℕ, ◌+◌, ◌<◌, ◌≤◌}
+use Prim.Native.Nat.{ℕ, ◌+◌, ◌<◌}
 use mathlib.Core.Path.{◌≡◌}
+use mathlib.Core.Logic.{⊎_elim}
+use native.Mathlib.Omega.{arith}
 use borrow.Author.Tests.{lt-ltb, le-ltb}
+use Rattle.std.specs.Prelude.{min}
+use Rattle.spec_bytes.proofs.words.Laws.{le_or_lt}
 use Rattle.spec_bytes.specs.words.Words.{one_more}
 
-pub more_below : (n : ℕ) → n < 4294967295 → n + 1 ≡ one_more n
+pub saturated : (n : ℕ) → n < 4294967296 → min (n + 1) 4294967295 ≡ one_more n
 unfolding one_more
-more_below n h = rw (lt-ltb n 4294967295 h)
-
-pub more_top : (n : ℕ) → 4294967295 ≤ n → n ≡ one_more n
-unfolding one_more
-more_top n h = rw (le-ltb n 4294967295 h)
+saturated n h = ⊎_elim (λ l. rw (le-ltb n 4294967295 l) (omega arith)) (λ l. rw (lt-ltb n 4294967295 l) (omega arith)) (le_or_lt 4294967295 n)

@@ -17,9 +17,12 @@ use Rattle.spec_type_table.specs.declared.node.Node.{Node as Code}
 use Rattle.spec_type_table.specs.declared.node.Node.TheVariants as code
 use Rattle.spec_type_table.specs.Cells.{get_field, put_field}
 use Rattle.spec_bytes.specs.words.Words.{one_more}
-use Rattle.spec_type_table.specs.Records.{section_word, member_at, param_at, record_by_id}
+use Rattle.spec_type_table.specs.Records.{record_by_id}
 use Rattle.spec_type_table.specs.Table.{from, type_of, btf_of}
 use Rattle.spec_type_table.specs.Nodes.{node_is, member_ids, param_ids}
+use Rattle.c_dumper_dependency_order.specs.declared.entries.Each.{Each}
+use Rattle.c_dumper_dependency_order.specs.declared.entries.Each.TheVariants.{Member, Param}
+use Rattle.c_dumper_dependency_order.specs.entries.Entries.{entry_type, entry_ids}
 use Rattle.c_dumper_dependency_order.specs.declared.order_state.Order.{Order}
 use Rattle.c_dumper_dependency_order.specs.declared.leaders.Way.{Way}
 use Rattle.c_dumper_dependency_order.specs.order_state.Work.{mark_of, code as code_of, work_store, table_in, strong_of, refused_by}
@@ -27,7 +30,7 @@ use Rattle.c_dumper_dependency_order.specs.begin.Start.{limit_by, with_made, ope
 use Rattle.c_dumper_dependency_order.specs.leaders.Leads.{inside_of, way_for, note_in, MarksAndLeaders, kept_store, order_kept, kept_out, alias_kept, way_kept, fresh_kept, enter_kept}
 use Rattle.c_dumper_dependency_order.proofs.order_state.Frame.{Stays, on, off, stays_bind, table_mark, table_kept}
 use Rattle.c_dumper_dependency_order.proofs.begin.Laws.{Known, known_yes}
-use Rattle.c_dumper_dependency_order.proofs.order_state.Laws.{is_done_lem, is_busy, is_new, done_is, get_at, node_is_lem, named_at}
+use Rattle.c_dumper_dependency_order.proofs.order_state.Laws.{is_done_lem, done_is, get_at, node_is_lem, named_at}
 
 abbrev pub kept_of : Order → List ℕ → List ℕ → MarksAndLeaders
 kept_of o w l = record { marks = record { work = w; len = o.len }; leads = l }
@@ -132,13 +135,13 @@ alias_off o w l id weak v r z e er =
     ∙ ap (λ (t : Bool). alias_within (kept_store v) t (is_done (work_store.get (kept_of o w l).marks id)) (kept_of o w l) id o.made) (sym e)
     ∙ sym (run o w l (λ m b j. alias_kept v m id weak b j) z)
 
-pub alias_on : (o : Order) (w l : List ℕ) (id st : ℕ) (weak : Bool) (v : Way) (r : Order) (w' l' : List ℕ) → o.stop ≡ 0 → not weak || o.is_strong ≡ true
-    → st ≡ get_field w id 1 → kept_out r w' l' ≡ then_bind (kept_out o w l) (λ m b j. told (finish (kept_store v) (not (eqb st 2)) id m) true j)
+pub alias_on : (o : Order) (w l : List ℕ) (id : ℕ) (d : Bool) (weak : Bool) (v : Way) (r : Order) (w' l' : List ℕ) → o.stop ≡ 0 → not weak || o.is_strong ≡ true
+    → d ≡ eqb (get_field w id 1) 2 → kept_out r w' l' ≡ then_bind (kept_out o w l) (λ m b j. told (finish (kept_store v) (not d) id m) true j)
     → kept_out r w' l' ≡ then_bind (kept_out o w l) (λ m b j. alias_kept v m id weak b j)
 unfolding alias_kept alias_within
-alias_on o w l id st weak v r w' l' z e es er =
-    er ∙ run o w l (λ m b j. told (finish (kept_store v) (not (eqb st 2)) id m) true j) z
-    ∙ ap (λ (t : Bool). told (finish (kept_store v) (not t) id (kept_of o w l)) true o.made) (ap (λ (n : ℕ). eqb n 2) es ∙ sym (done_is (get_field w id 1)) ∙ ap is_done (sym (get_at (kept_of o w l).marks id)))
+alias_on o w l id d weak v r w' l' z e es er =
+    er ∙ run o w l (λ m b j. told (finish (kept_store v) (not d) id m) true j) z
+    ∙ ap (λ (t : Bool). told (finish (kept_store v) (not t) id (kept_of o w l)) true o.made) (es ∙ sym (done_is (get_field w id 1)) ∙ ap is_done (sym (get_at (kept_of o w l).marks id)))
     ∙ ap (λ (t : Bool). alias_within (kept_store v) t (is_done (work_store.get (kept_of o w l).marks id)) (kept_of o w l) id o.made) (sym e)
     ∙ sym (run o w l (λ m b j. alias_kept v m id weak b j) z)
 
@@ -203,18 +206,18 @@ module _ (lim : Limit) (T : Table) (o : Order) (w l : List ℕ) (z : o.stop ≡ 
       opened k e x f ex h =
           ex ∙ ap (λ (u : Order). then_bind (kept_out u w l) f) (opened_yes allowed) ∙ run (with_made o (one_call lim o.made)) w l f z ∙ h ∙ sym (run o w l ordered z ∙ unroll k e)
 
-      pub order_done : (r : Order) → st ≡ 2 → r ≡ strong_of p true → kept_out r w l ≡ then_bind (kept_out o w l) (λ m _ j. order_kept lim v left T m id weak j)
+      pub order_done : (r : Order) → mark_of st ≡ done → r ≡ strong_of p true → kept_out r w l ≡ then_bind (kept_out o w l) (λ m _ j. order_kept lim v left T m id weak j)
       unfolding visit_within
-      order_done r e er = opened done (is_done_lem st e) (kept_out r w l) (λ m b j. told m true j) (flagged p w l true r er) refl
+      order_done r e er = opened done e (kept_out r w l) (λ m b j. told m true j) (flagged p w l true r er) refl
 
-      pub order_busy : (r : Order) → st ≡ 1 → r ≡ met_by (is_passable T id weak) p → kept_out r w l ≡ then_bind (kept_out o w l) (λ m _ j. order_kept lim v left T m id weak j)
+      pub order_busy : (r : Order) → mark_of st ≡ busy → r ≡ met_by (is_passable T id weak) p → kept_out r w l ≡ then_bind (kept_out o w l) (λ m _ j. order_kept lim v left T m id weak j)
       unfolding visit_within is_passable
       order_busy r e er =
-          opened busy (is_busy st e) (kept_out r w l) (λ m _ j. meet_within (is_passable T id weak) m j) (ap (λ (u : Order). kept_out u w l) er ∙ met_kept p w l y (is_passable T id weak)) refl
+          opened busy e (kept_out r w l) (λ m _ j. meet_within (is_passable T id weak) m j) (ap (λ (u : Order). kept_out u w l) er ∙ met_kept p w l y (is_passable T id weak)) refl
 
-      pub order_fresh : (x : Told MarksAndLeaders) → (st ≡ 2 → ⊥) → (st ≡ 1 → ⊥) → x ≡ then_bind (kept_out p w l) (λ m _ j. fresh_kept lim v T (left - 1) m id weak j) → x ≡ then_bind (kept_out o w l) (λ m _ j. order_kept lim v left T m id weak j)
+      pub order_fresh : (x : Told MarksAndLeaders) → mark_of st ≡ new → x ≡ then_bind (kept_out p w l) (λ m _ j. fresh_kept lim v T (left - 1) m id weak j) → x ≡ then_bind (kept_out o w l) (λ m _ j. order_kept lim v left T m id weak j)
       unfolding visit_within fresh_kept
-      order_fresh x n2 n1 ex = opened new (is_new st n2 n1) x (λ m _ j. fresh_kept lim v T (left - 1) m id weak j) ex refl
+      order_fresh x e ex = opened new e x (λ m _ j. fresh_kept lim v T (left - 1) m id weak j) ex refl
 
 -- an id that is known to be ordered
 pub order_known : (is_set : Bool) (calls : ℕ) (T : Table) (o : Order) (w l : List ℕ) (id left : ℕ) (weak : Bool) (v : Way) → (a : Bool) → a ≡ is_known is_set calls left o w id → a ≡ true
@@ -222,7 +225,7 @@ pub order_known : (is_set : Bool) (calls : ℕ) (T : Table) (o : Order) (w l : L
     → kept_out r w l ≡ then_bind (kept_out o w l) (λ m _ j. order_kept (limit_by is_set calls) v left T m id weak j)
 unfolding opened_by
 order_known is_set calls T o w l id left weak v a ea t p ep r er =
-    order_done (limit_by is_set calls) T o w l k.goes id left weak v k.deep p ep (ap (λ (u : Order). u.stop) (ep ∙ yes (allows (limit_by is_set calls) o.made) k.allowed) ∙ k.goes) (get_field w id 1) refl r k.state er
+    order_done (limit_by is_set calls) T o w l k.goes id left weak v k.deep p ep (ap (λ (u : Order). u.stop) (ep ∙ yes (allows (limit_by is_set calls) o.made) k.allowed) ∙ k.goes) (get_field w id 1) refl r (is_done_lem _ k.state) er
   where
     k : Known is_set calls left o w id
     k = known_yes is_set calls left o w id (sym ea ∙ t)
@@ -441,17 +444,19 @@ rest_known is_set calls b s w₀ l₀ left weak v id o vlen r w l k inv h y ey a
     rest_turn (limit_by is_set calls) b s w₀ l₀ left weak v id o vlen r w l k inv h y ey q w l (order_known is_set calls (table_in b s w) r w l y left weak v a ea t p ep q eq) q
     (eq ∙ ap (strong_of p) (sym (or_true r.is_strong)) ∙ ap (λ (u : Order). strong_of u (r.is_strong || u.is_strong)) (sym eq))
 
-pub params_end : (lim : Limit) (b : TypeTable) (s : List ℕ) (w₀ l₀ : List ℕ) (left : ℕ) (weak : Bool) (v : Way) (o : Order) (es : Entries) (r : Order) (w l : List ℕ) (k : ℕ)
-    → Rest lim b s w₀ l₀ left weak v (λ i. section_word b s (param_at es.at i + 4)) o es.vlen r w l k → es.vlen ≤ k
-    → kept_out r w l ≡ then_bind (kept_out o w₀ l₀) (λ m f j. each_within (way_kept lim v (table_in b s w₀) left weak) (param_ids b s es) m f j)
-unfolding param_ids
-params_end lim b s w₀ l₀ left weak v o es r w l k inv h = rest_end lim b s w₀ l₀ left weak v (λ i. section_word b s (param_at es.at i + 4)) o es.vlen r w l k inv h
+pub entries_end : (lim : Limit) (b : TypeTable) (s : List ℕ) (w₀ l₀ : List ℕ) (left : ℕ) (weak : Bool) (v : Way) (o : Order) (each : Each) (es : Entries) (r : Order) (w l : List ℕ) (k : ℕ)
+    → Rest lim b s w₀ l₀ left weak v (entry_type b s each es) o es.vlen r w l k → es.vlen ≤ k
+    → kept_out r w l ≡ then_bind (kept_out o w₀ l₀) (λ m f j. each_within (way_kept lim v (table_in b s w₀) left weak) (entry_ids b s each es) m f j)
+unfolding entry_ids
+entries_end lim b s w₀ l₀ left weak v o each es r w l k inv h = rest_end lim b s w₀ l₀ left weak v (entry_type b s each es) o es.vlen r w l k inv h
 
-pub members_end : (lim : Limit) (b : TypeTable) (s : List ℕ) (w₀ l₀ : List ℕ) (left : ℕ) (weak : Bool) (v : Way) (o : Order) (es : Entries) (r : Order) (w l : List ℕ) (k : ℕ)
-    → Rest lim b s w₀ l₀ left weak v (λ i. section_word b s (member_at es.at i + 4)) o es.vlen r w l k → es.vlen ≤ k
-    → kept_out r w l ≡ then_bind (kept_out o w₀ l₀) (λ m f j. each_within (way_kept lim v (table_in b s w₀) left weak) (member_ids b s es) m f j)
-unfolding member_ids
-members_end lim b s w₀ l₀ left weak v o es r w l k inv h = rest_end lim b s w₀ l₀ left weak v (λ i. section_word b s (member_at es.at i + 4)) o es.vlen r w l k inv h
+pub members_are : (b : TypeTable) (s : List ℕ) (es : Entries) → entry_ids b s Member es ≡ member_ids b s es
+unfolding entry_ids member_ids
+members_are b s es = refl
+
+pub params_are : (b : TypeTable) (s : List ℕ) (es : Entries) → entry_ids b s Param es ≡ param_ids b s es
+unfolding entry_ids param_ids
+params_are b s es = refl
 
 -- a way whose weakness the code worked out
 pub by_weak : (lim : Limit) (T : Table) (v : Way) (left y : ℕ) (o x : Told MarksAndLeaders) (f g : Bool) → f ≡ g → x ≡ then_bind o (λ m _ j. order_kept lim v left T m y f j) → x ≡ then_bind o (λ m _ j. order_kept lim v left T m y g j)

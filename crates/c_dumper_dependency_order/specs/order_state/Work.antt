@@ -7,6 +7,8 @@ use Rattle.spec_type_table.specs.Cells.{get_field, put_field}
 use Rattle.spec_bytes.specs.words.Words.{one_more}
 use Rattle.spec_type_table.specs.Table.{from, btf_of}
 use Rattle.c_dumper_dependency_order.specs.declared.order_state.Order.{Order}
+use Rattle.c_dumper_dependency_order.specs.declared.order_state.Mark.{Mark as Code}
+use Rattle.c_dumper_dependency_order.specs.declared.order_state.Mark.TheVariants.{New, Open, Done}
 
 -- the work, and how many places of the order list are taken
 pub record Marks : Type 0 where
@@ -21,6 +23,12 @@ abbrev pub code : Mark → ℕ
 code new = 0
 code busy = 1
 code done = 2
+
+-- what the code's mark says
+abbrev pub mark_is : Code → Mark
+mark_is New = new
+mark_is Open = busy
+mark_is Done = done
 
 -- the list is words 11 of the first cells; its length stays at the largest number of 32 bits
 unfoldable pub work_store : Store Marks

@@ -5,7 +5,7 @@ pub returns-then-o-ne0 : goal.returns-then-o-ne0
 returns-then-o-ne0 c = laws.stopped _ _ _ _ c.if-o-ne0.true
 
 pub returns-then-lists : goal.returns-then-lists
-returns-then-lists c = laws.finish_listed _ _ _ _ _ _ _ _ _ _ _ _ c.if-lists.true c.push-p.ensures c.set_order_state.ensures c.strong.ensures
+returns-then-lists c = laws.finish_listed _ _ _ _ _ _ _ _ _ _ _ _ c.if-lists.true c.push-p.ensures c.set_mark.ensures c.strong.ensures
 
 pub returns : goal.returns
-returns c = laws.finish_bare _ _ _ _ _ _ _ _ _ c.if-lists.false c.set_order_state-2.ensures c.strong-2.ensures
+returns c = laws.finish_bare _ _ _ _ _ _ _ _ _ c.if-lists.false c.set_mark-2.ensures c.strong-2.ensures

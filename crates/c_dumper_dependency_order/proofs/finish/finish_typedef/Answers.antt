@@ -8,4 +8,4 @@ pub returns-then-not-has_ptr-o : goal.returns-then-not-has_ptr-o
 returns-then-not-has_ptr-o c = laws.alias_off _ _ _ _ _ _ _ c.if-o-ne0.false c.if-not-has_ptr-o.true c.strong.ensures
 
 pub returns : goal.returns
-returns c = laws.alias_on _ _ _ _ _ _ _ _ _ _ c.if-o-ne0.false c.if-not-has_ptr-o.false c.get_order_state-was_ordered.ensures c.finish.ensures
+returns c = laws.alias_on _ _ _ _ _ _ _ _ _ _ c.if-o-ne0.false c.if-not-has_ptr-o.false c.is_ordered-was_ordered.ensures c.finish.ensures

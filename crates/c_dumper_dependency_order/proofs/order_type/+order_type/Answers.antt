@@ -1,27 +1,14 @@
-use Rattle.c_dumper_dependency_order.proofs.order_state.Laws as marks
+use Rattle.c_dumper_dependency_order.specs.order_state.Work.{mark_is}
 use Rattle.c_dumper_dependency_order.proofs.order_type.Laws as laws
-use mathlib.Core.Path.{refl, ◌∙◌, sym}
+use mathlib.Core.Path.{refl, ap, ◌∙◌, sym}
 use native.Mathlib.Omega.{arith}
-use Prim.Native.Nat.{zero-le}
 use Rattle.c_dumper_dependency_order.proofs.order_type.+order_type.Goals as goal
 
 pub order_composite-returns-then-is_passed : goal.order_composite-returns-then-is_passed
 order_composite-returns-then-is_passed t c = laws.composite_passed _ _ _ _ _ _ _ _ _ _ _ _ _ (sym c.is_passed.ensures ∙ c.if-is_passed.true) c.strong.ensures
 
 pub order_composite-returns : goal.order_composite-returns
-order_composite-returns t c = laws.composite_entered _ _ _ _ _ _ _ _ _ _ _ _ _ _ _ _ _ _ (sym c.is_passed.ensures ∙ c.if-is_passed.false) c.set_order_state.ensures c.inside-u.ensures c.order_members-r.ensures c.finish.ensures
-
-pub order_members-loop-k-init : goal.order_members-loop-k-init
-order_members-loop-k-init t c = (zero-le, refl, refl, omega arith, refl, laws.rest_start _ _ _ _ _ _ _ _ _ _ _)
-
-pub order_members-loop-k-preserved-then-is_known : goal.order_members-loop-k-preserved-then-is_known
-order_members-loop-k-preserved-then-is_known t c = (omega arith, c.loop-k.invariant.1, c.loop-k.invariant.2, c.loop-k.invariant.3, c.loop-k.invariant.4, laws.rest_known _ _ _ _ _ _ _ _ _ _ _ _ _ _ _ _ c.loop-k.invariant.5 (omega arith) _ (marks.entry_word _ _ _ _ _ c.word-t.ensures c.member_place.ensures) _ c.is_known.ensures c.if-is_known.true _ c.count_call.ensures _ c.strong-r.ensures)
-
-pub order_members-loop-k-preserved : goal.order_members-loop-k-preserved
-order_members-loop-k-preserved t c = (omega arith, c.order_type-p.auto.work ∙ c.loop-k.invariant.1, c.order_type-p.auto.leads ∙ c.loop-k.invariant.2, c.loop-k.invariant.3, c.loop-k.invariant.4, laws.rest_turn _ _ _ _ _ _ _ _ _ _ _ _ _ _ _ c.loop-k.invariant.5 (omega arith) _ (marks.entry_word _ _ _ _ _ c.word-t.ensures c.member_place.ensures) _ _ _ c.order_type-p.ensures _ c.strong-r-in-loop-k.ensures)
-
-pub order_members-returns : goal.order_members-returns
-order_members-returns t c = laws.members_end _ _ _ _ _ _ _ _ _ _ _ _ _ _ c.loop-k.invariant.5 (omega arith)
+order_composite-returns t c = laws.composite_entered _ _ _ _ _ _ _ _ _ _ _ _ _ _ _ _ _ _ (sym c.is_passed.ensures ∙ c.if-is_passed.false) c.set_mark.ensures c.inside-u.ensures (rw laws.members_are at c.order_entries-r.ensures) c.finish.ensures
 
 pub order_new-returns-then-is_known : goal.order_new-returns-then-is_known
 order_new-returns-then-is_known t c = laws.new_through _ _ _ _ _ _ _ _ _ _ _ c.type_by_id-t.ensures _ c.node_of.ensures _ _ _ c.in-Through.is (laws.order_known _ _ _ _ _ _ _ _ _ _ _ c.is_known.ensures c.if-is_known.true _ c.count_call.ensures _ c.strong-then-is_known.ensures)
@@ -48,22 +35,10 @@ pub order_new-returns-in-Typedef : goal.order_new-returns-in-Typedef
 order_new-returns-in-Typedef t c = laws.new_typedef _ _ _ _ _ _ _ _ _ _ _ c.type_by_id-t.ensures _ c.node_of.ensures _ _ c.in-Typedef.is _ c.inside-u.ensures _ _ _ c.order_type-r-in-Typedef.ensures c.finish_typedef.ensures
 
 pub order_new-returns-in-Proto : goal.order_new-returns-in-Proto
-order_new-returns-in-Proto t c = laws.new_proto _ _ _ _ _ _ _ _ _ _ _ c.type_by_id-t.ensures _ c.node_of.ensures _ _ _ c.in-Proto.is _ _ _ c.order_type-r-in-Proto.ensures c.order_params.ensures
+order_new-returns-in-Proto t c = laws.new_proto _ _ _ _ _ _ _ _ _ _ _ c.type_by_id-t.ensures _ c.node_of.ensures _ _ _ c.in-Proto.is _ _ _ c.order_type-r-in-Proto.ensures (rw laws.params_are at c.order_entries.ensures)
 
 pub order_new-returns-in-Composite : goal.order_new-returns-in-Composite
 order_new-returns-in-Composite t c = laws.new_composite _ _ _ _ _ _ _ _ _ _ _ c.type_by_id-t.ensures _ c.node_of.ensures _ _ c.in-Composite.is _ c.is_named-named-in-Composite.ensures c.order_composite.ensures
-
-pub order_params-loop-k-init : goal.order_params-loop-k-init
-order_params-loop-k-init t c = (zero-le, refl, refl, omega arith, refl, laws.rest_start _ _ _ _ _ _ _ _ _ _ _)
-
-pub order_params-loop-k-preserved-then-is_known : goal.order_params-loop-k-preserved-then-is_known
-order_params-loop-k-preserved-then-is_known t c = (omega arith, c.loop-k.invariant.1, c.loop-k.invariant.2, c.loop-k.invariant.3, c.loop-k.invariant.4, laws.rest_known _ _ _ _ _ _ _ _ _ _ _ _ _ _ _ _ c.loop-k.invariant.5 (omega arith) _ (marks.entry_word _ _ _ _ _ c.word-t.ensures c.param_place.ensures) _ c.is_known.ensures c.if-is_known.true _ c.count_call.ensures _ c.strong-r.ensures)
-
-pub order_params-loop-k-preserved : goal.order_params-loop-k-preserved
-order_params-loop-k-preserved t c = (omega arith, c.order_type-p.auto.work ∙ c.loop-k.invariant.1, c.order_type-p.auto.leads ∙ c.loop-k.invariant.2, c.loop-k.invariant.3, c.loop-k.invariant.4, laws.rest_turn _ _ _ _ _ _ _ _ _ _ _ _ _ _ _ c.loop-k.invariant.5 (omega arith) _ (marks.entry_word _ _ _ _ _ c.word-t.ensures c.param_place.ensures) _ _ _ c.order_type-p.ensures _ c.strong-r-in-loop-k.ensures)
-
-pub order_params-returns : goal.order_params-returns
-order_params-returns t c = laws.params_end _ _ _ _ _ _ _ _ _ _ _ _ _ _ c.loop-k.invariant.5 (omega arith)
 
 pub order_type-returns-then-o-ne0 : goal.order_type-returns-then-o-ne0
 order_type-returns-then-o-ne0 t c = laws.stopped _ _ _ _ c.if-o-ne0.true
@@ -74,11 +49,23 @@ order_type-returns-then-left-eq0 t c = laws.too_deep _ _ _ _ _ c.if-o-ne0.false 
 pub order_type-returns-then-p-ne0 : goal.order_type-returns-then-p-ne0
 order_type-returns-then-p-ne0 t c = laws.none_left _ _ _ _ _ c.if-o-ne0.false _ _ _ _ c.if-left-eq0.false _ c.count_call-p.ensures c.if-p-ne0.true
 
-pub order_type-returns-then-state-eq2 : goal.order_type-returns-then-state-eq2
-order_type-returns-then-state-eq2 t c = laws.order_done _ _ _ _ _ c.if-o-ne0.false _ _ _ _ c.if-left-eq0.false _ c.count_call-p.ensures c.if-p-ne0.false _ c.get_order_state-state.ensures _ c.if-state-eq2.true c.strong.ensures
+pub order_entries-loop-k-init : goal.order_entries-loop-k-init
+order_entries-loop-k-init t c = laws.rest_start _ _ _ _ _ _ _ _ _ _ _
 
-pub order_type-returns-then-is_in_progress : goal.order_type-returns-then-is_in_progress
-order_type-returns-then-is_in_progress t c = laws.order_busy _ _ _ _ _ c.if-o-ne0.false _ _ _ _ c.if-left-eq0.false _ c.count_call-p.ensures c.if-p-ne0.false _ c.get_order_state-state.ensures _ c.if-is_in_progress.true c.meet.ensures
+pub order_entries-loop-k-preserved-then-is_known : goal.order_entries-loop-k-preserved-then-is_known
+order_entries-loop-k-preserved-then-is_known t c = laws.rest_known _ _ _ _ _ _ _ _ _ _ _ _ _ _ _ _ c.loop-k.invariant (omega arith) _ c.entry_type-t.ensures _ c.is_known.ensures c.if-is_known.true _ c.count_call.ensures _ c.strong-r.ensures
 
-pub order_type-returns : goal.order_type-returns
-order_type-returns t c = laws.order_fresh _ _ _ _ _ c.if-o-ne0.false _ _ _ _ c.if-left-eq0.false _ c.count_call-p.ensures c.if-p-ne0.false _ c.get_order_state-state.ensures _ c.if-state-eq2.false c.if-is_in_progress.false c.order_new.ensures
+pub order_entries-loop-k-preserved : goal.order_entries-loop-k-preserved
+order_entries-loop-k-preserved t c = laws.rest_turn _ _ _ _ _ _ _ _ _ _ _ _ _ _ _ c.loop-k.invariant (omega arith) _ c.entry_type-t.ensures _ _ _ c.order_type-p.ensures _ c.strong-r-in-loop-k.ensures
+
+pub order_entries-returns : goal.order_entries-returns
+order_entries-returns t c = laws.entries_end _ _ _ _ _ _ _ _ _ _ _ _ _ _ _ c.loop-k.invariant (omega arith)
+
+pub order_type-returns-in-Done : goal.order_type-returns-in-Done
+order_type-returns-in-Done t c = laws.order_done _ _ _ _ _ c.if-o-ne0.false _ _ _ _ c.if-left-eq0.false _ c.count_call-p.ensures c.if-p-ne0.false _ refl _ (sym c.get_mark.ensures ∙ ap mark_is c.in-Done.is) c.strong.ensures
+
+pub order_type-returns-in-Open : goal.order_type-returns-in-Open
+order_type-returns-in-Open t c = laws.order_busy _ _ _ _ _ c.if-o-ne0.false _ _ _ _ c.if-left-eq0.false _ c.count_call-p.ensures c.if-p-ne0.false _ refl _ (sym c.get_mark.ensures ∙ ap mark_is c.in-Open.is) c.meet.ensures
+
+pub order_type-returns-in-New : goal.order_type-returns-in-New
+order_type-returns-in-New t c = laws.order_fresh _ _ _ _ _ c.if-o-ne0.false _ _ _ _ c.if-left-eq0.false _ c.count_call-p.ensures c.if-p-ne0.false _ refl _ (sym c.get_mark.ensures ∙ ap mark_is c.in-New.is) c.order_new.ensures

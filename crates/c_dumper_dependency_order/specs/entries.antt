@@ -1,0 +1,2 @@
+-- Entries: the types that members and parameters name.
+pub mod Entries
