@@ -1,7 +1,7 @@
 // After the marks: the declaration tags of what is marked, then the numbers in old order.
 ghost use Rattle.std.specs.Prelude.{◌≡◌, ◌<◌};
 ghost use Rattle.btf_open_causes.specs.references.Followed.{type_count};
-ghost use Rattle.session_cut_marks.specs.tags.Tags.{tag_on, tagged_at, tagged_to, numbered, numbered_at, numbers_of};
+ghost use Rattle.session_cut_marks.specs.tags.Tags.{some_number, tag_on, tagged_at, tagged_to, numbered, numbered_at, numbers_of};
 
 use crate::peek::peek;
 use base_bytes::limit;
@@ -10,30 +10,32 @@ use btf_type_table::kind;
 use btf_type_table::section_word::word;
 use spec_type_table::TypeTable;
 
-// What the DECL_TAG x is on, where that is no DECL_TAG; else 0.
-fn tag_on(b: TypeTable, section: &[u8], start: &[u32], x: u32) -> u32
-    ensures { result ≡ tag_on b section.now start.now x }
+// What the DECL_TAG x is on, where that is neither void nor a DECL_TAG.
+fn tag_on(b: TypeTable, section: &[u8], start: &[u32], x: u32) -> Option<u32>
+    ensures { result ≡ some_number (tag_on b section.now start.now x) }
 {
     let e = entry(b, start, x);
     if e % 32 != kind::DECL_TAG {
-        return 0;
+        return None;
     }
     let t = word(b, section, ((e / 32) as usize) + 8);
     let is_tag = kind_at(b, start, t) == kind::DECL_TAG;
     if is_tag {
-        return 0;
+        return None;
     }
-    t
+    if t == 0 {
+        return None;
+    }
+    Some(t)
 }
 
 // Marks x, if it is a tag on what is marked.
 fn mark_tag(b: TypeTable, section: &[u8], start: &[u32], marks: &mut [u32], x: u32)
     ensures { marks.new ≡ tagged_at b section.now start.now marks.old x }
 {
-    let t = tag_on(b, section, start, x);
-    if t == 0 {
+    let Some(t) = tag_on(b, section, start, x) else {
         return;
-    }
+    };
     if peek(marks, t as usize, 0) == 0 {
         return;
     }

@@ -19,6 +19,7 @@ use Rattle.spec_c_dumper.specs.rules.Types.{is_empty}
 use Rattle.spec_type_table.specs.declared.types.TypeTable.{TypeTable}
 use Rattle.spec_type_table.specs.Names.{str_at}
 use Rattle.btf_open_causes.specs.references.Followed.{type_count, entry_at}
+use Rattle.session_cut_marks.specs.tags.Tags.{some_number}
 use Rattle.session_cut_marks.specs.roles.Words.{role, words_in, word_of}
 use Rattle.session_cut_marks.proofs.roles.Laws.{words_few}
 use Rattle.session_cut_marks.specs.mentioned.Names.{is_name, first_from, mentions, is_new, new_sizes, base_of, place_at, place_from, place_of, zero_bases}
@@ -31,7 +32,7 @@ use Rattle.session_cut_marks.specs.interned.Right.{all_bases, Right, StringKept}
 use Rattle.session_cut_marks.proofs.interned.Right.{table_over, table_length, table_bases}
 use Rattle.session_cut_marks.proofs.interned.Places.{base_up}
 use Rattle.session_cut_marks.proofs.interned.Found.{found_place, first_is, new_place}
-use Rattle.session_cut.specs.writer.Bytes.{word_bytes, head_bytes, type_size, types_size, new_word, record_bytes, type_bytes, types_bytes, all_bytes, sought, some_place, Wrote, wrote_of, fitting_written, kept_written}
+use Rattle.session_cut.specs.writer.Bytes.{word_bytes, head_bytes, type_size, types_size, new_word, record_bytes, type_bytes, types_bytes, all_bytes, sought, Wrote, wrote_of, fitting_written, kept_written}
 use Rattle.session_cut.proofs.writer.Sizes.{head_length, types_length}
 
 -- a length fits a word
@@ -51,13 +52,13 @@ unfolding slot_place
 slot_number zero p h = absurd (none_some h)
 slot_number (suc v) p h = cc
 
-number_of : (p : ℕ) → unwrap_or (some_place p) 0 ≡ p
-unfolding some_place
+number_of : (p : ℕ) → unwrap_or (some_number p) 0 ≡ p
+unfolding some_number
 number_of zero = refl
 number_of (suc p) = refl
 
-place_some : (p : ℕ) → 1 ≤ p → some_place p ≡ Some p
-unfolding some_place
+place_some : (p : ℕ) → 1 ≤ p → some_number p ≡ Some p
+unfolding some_number
 place_some zero l = absurd (omega (arith, l))
 place_some (suc p) l = refl
 
@@ -140,8 +141,8 @@ module _ (b : TypeTable) (s : List ℕ) where
 
     module _ (bases : List ℕ) where
       module _ (off x : ℕ) (q : Bool) (k : q ≡ mentions b s start ids off x) where
-        pub place_none : not q ≡ true → None ≡ some_place (place_at b s start ids bases off x)
-        unfolding place_at some_place
+        pub place_none : not q ≡ true → None ≡ some_number (place_at b s start ids bases off x)
+        unfolding place_at some_number
         place_none z = rw (sym k ∙ flip_true q z, place_at)
 
         place_is : not q ≡ false → (e : ℕ) → e ≡ entry_at b start x → (n : ℕ) → n ≡ words_in b s e → (j : ℕ) → j ≡ first_from b s e off 0 n → (v : ℕ) → v ≡ get_or bases x 0 → (r : ℕ) → r ≡ new_sizes b s start ids x e j
@@ -152,10 +153,10 @@ module _ (b : TypeTable) (s : List ℕ) where
             ∙ rw (sym k ∙ flip_false q z, place_at)
 
         pub place_long : not q ≡ false → (y : ℕ) → y ≡ x → (e : ℕ) → e ≡ entry_at b start x → (n : ℕ) → n ≡ words_in b s e → (j : ℕ) → j ≡ first_from b s e off 0 n → get_or bases x 0 ≡ base_of b s start ids x
-            → (r : ℕ) → r ≡ base_of b s start ids y + new_sizes b s start ids y e j → Some r ≡ some_place (place_at b s start ids bases off x)
+            → (r : ℕ) → r ≡ base_of b s start ids y + new_sizes b s start ids y e j → Some r ≡ some_number (place_at b s start ids bases off x)
         place_long z y i e f n g j h u r p =
             sym (place_some r (omega (arith, p, base_some y)))
-            ∙ ap some_place (p ∙ ap (λ (v : ℕ). base_of b s start ids v + new_sizes b s start ids v e j) i ∙ ap (λ (c : ℕ). c + new_sizes b s start ids x e j) (sym u) ∙ place_is z e f n g j h (get_or bases x 0) refl (new_sizes b s start ids x e j) refl)
+            ∙ ap some_number (p ∙ ap (λ (v : ℕ). base_of b s start ids v + new_sizes b s start ids v e j) i ∙ ap (λ (c : ℕ). c + new_sizes b s start ids x e j) (sym u) ∙ place_is z e f n g j h (get_or bases x 0) refl (new_sizes b s start ids x e j) refl)
 
       from_suc : (off x n : ℕ) → x < n → place_from b s start ids bases off x (n - x) ≡ elim (place_at b s start ids bases off x) as (λ z. ℕ) [ zero ↦ place_from b s start ids bases off (x + 1) (n - (x + 1)) | suc p ↦ suc p ]
       unfolding place_from
@@ -167,36 +168,36 @@ module _ (b : TypeTable) (s : List ℕ) where
       pub from_start : (off n : ℕ) → place_from b s start ids bases off 0 n ≡ place_from b s start ids bases off 0 (n - 0)
       from_start off n = let z : n ≡ n - 0 = omega arith in ap (place_from b s start ids bases off 0) z
 
-      module _ (off x n : ℕ) (l : x < n) (h : place_from b s start ids bases off 0 n ≡ place_from b s start ids bases off x (n - x)) (r : Option ℕ) (g : r ≡ some_place (place_at b s start ids bases off x)) where
+      module _ (off x n : ℕ) (l : x < n) (h : place_from b s start ids bases off 0 n ≡ place_from b s start ids bases off x (n - x)) (r : Option ℕ) (g : r ≡ some_number (place_at b s start ids bases off x)) where
         abbrev Or : ℕ → ℕ
         Or v = elim v as (λ z. ℕ) [ zero ↦ place_from b s start ids bases off (x + 1) (n - (x + 1)) | suc p ↦ suc p ]
 
-        or_some : (v p : ℕ) → some_place v ≡ Some p → Some p ≡ some_place (Or v)
-        unfolding some_place
+        or_some : (v p : ℕ) → some_number v ≡ Some p → Some p ≡ some_number (Or v)
+        unfolding some_number
         or_some zero p z = absurd (none_some z)
         or_some (suc v) p z = sym z
 
-        or_none : (v : ℕ) → some_place v ≡ None → Or v ≡ place_from b s start ids bases off (x + 1) (n - (x + 1))
-        unfolding some_place
+        or_none : (v : ℕ) → some_number v ≡ None → Or v ≡ place_from b s start ids bases off (x + 1) (n - (x + 1))
+        unfolding some_number
         or_none zero z = refl
         or_none (suc v) z = absurd (none_some (sym z))
 
-        pub from_here : (p : ℕ) → r ≡ Some p → n ≡ type_count b → Some p ≡ some_place (place_from b s start ids bases off 0 (type_count b))
-        from_here p z c = or_some (place_at b s start ids bases off x) p (sym g ∙ z) ∙ ap some_place (sym (from_suc off x n l) ∙ sym h ∙ ap (place_from b s start ids bases off 0) c)
+        pub from_here : (p : ℕ) → r ≡ Some p → n ≡ type_count b → Some p ≡ some_number (place_from b s start ids bases off 0 (type_count b))
+        from_here p z c = or_some (place_at b s start ids bases off x) p (sym g ∙ z) ∙ ap some_number (sym (from_suc off x n l) ∙ sym h ∙ ap (place_from b s start ids bases off 0) c)
 
         pub from_on : r ≡ None → place_from b s start ids bases off 0 n ≡ place_from b s start ids bases off (x + 1) (n - (x + 1))
         from_on z = h ∙ from_suc off x n l ∙ or_none (place_at b s start ids bases off x) (sym g ∙ z)
 
-      pub from_none : (off x n : ℕ) → n ≤ x → place_from b s start ids bases off 0 n ≡ place_from b s start ids bases off x (n - x) → n ≡ type_count b → None ≡ some_place (place_from b s start ids bases off 0 (type_count b))
-      unfolding place_from some_place
-      from_none off x n l h c = let z : n - x ≡ 0 = omega (arith, l) in ap some_place (sym (ap (place_from b s start ids bases off 0) (sym c) ∙ h ∙ ap (place_from b s start ids bases off x) z))
+      pub from_none : (off x n : ℕ) → n ≤ x → place_from b s start ids bases off 0 n ≡ place_from b s start ids bases off x (n - x) → n ≡ type_count b → None ≡ some_number (place_from b s start ids bases off 0 (type_count b))
+      unfolding place_from some_number
+      from_none off x n l h c = let z : n - x ≡ 0 = omega (arith, l) in ap some_number (sym (ap (place_from b s start ids bases off 0) (sym c) ∙ h ∙ ap (place_from b s start ids bases off x) z))
 
       module _ (off : ℕ) (m : Bool) (g : m ≡ is_empty (str_at b s off)) where
         pub place_first : m ≡ true → 0 ≡ place_of b s start ids bases off
         unfolding place_of
         place_first z = rw (sym g ∙ z, place_of)
 
-        pub place_found : m ≡ false → (o : Option ℕ) → o ≡ some_place (place_from b s start ids bases off 0 (type_count b)) → (r : ℕ) → r ≡ unwrap_or o 0 → r < 4294967296 → r ≡ place_of b s start ids bases off
+        pub place_found : m ≡ false → (o : Option ℕ) → o ≡ some_number (place_from b s start ids bases off 0 (type_count b)) → (r : ℕ) → r ≡ unwrap_or o 0 → r < 4294967296 → r ≡ place_of b s start ids bases off
         unfolding place_of
         place_found z o h r k l =
             let e : r ≡ place_from b s start ids bases off 0 (type_count b) = k ∙ ap (λ (q : Option ℕ). unwrap_or q 0) h ∙ number_of (place_from b s start ids bases off 0 (type_count b)) in

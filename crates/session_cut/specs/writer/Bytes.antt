@@ -71,11 +71,6 @@ sought b s t e j = elim (eqb (role (e % 32) j) 1) [
   | true ↦ elim (is_empty (str_at b s (word_of b s e j))) [ true ↦ None | false ↦ slot_place (found b s t (word_of b s e j)) ]
 ]
 
--- a place, where it is not 0
-unfoldable pub some_place : ℕ → Option ℕ
-some_place zero = None
-some_place (suc p) = Some (suc p)
-
 -- what the mention of word j of type x says, where the strings before it have the length `len`
 pub record Mentions (b : TypeTable) (s start ids bases : List ℕ) (x e j len : ℕ) (word : ℕ) (place : Option ℕ) (new : Bool) (before : ℕ) : Type 0 where
   pub same_word : word ≡ j

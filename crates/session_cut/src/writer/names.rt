@@ -5,8 +5,9 @@ ghost use Rattle.btf_open_causes.specs.references.Followed.{type_count, entry_at
 ghost use Rattle.session_cut_marks.specs.roles.Words.{words_in};
 ghost use Rattle.session_cut_marks.specs.mentioned.Names.{is_new, new_sizes, base_of, place_at, place_from, place_of};
 ghost use Rattle.session_cut_marks.specs.interned.Right.{IsKept};
-ghost use Rattle.session_cut.specs.writer.Bytes.{name_if, sought, some_place, Mentions};
+ghost use Rattle.session_cut.specs.writer.Bytes.{name_if, sought, Mentions};
 ghost use Rattle.session_cut_marks.specs.kept.AtKept.{at_kept};
+ghost use Rattle.session_cut_marks.specs.tags.Tags.{some_number};
 
 use crate::writer::source::{KeptType, Mention, Source};
 use btf_open_causes::references::count;
@@ -100,7 +101,7 @@ impl Source<'_> {
     // Where the name stands, if type x is kept and mentions it. For the first such type it is its place in the strings.
     fn place_at(&self, off: u32, x: u32) -> Option<u32>
         requires { x < type_count self.now.kept.b }
-        ensures { result ≡ some_place (at_kept place_at self.now.kept self.now.bases.now off x) }
+        ensures { result ≡ some_number (at_kept place_at self.now.kept self.now.bases.now off x) }
     {
         if !self.kept.mentions(off, x) {
             return None;
@@ -112,7 +113,7 @@ impl Source<'_> {
     }
 
     fn place_from(&self, off: u32) -> Option<u32>
-        ensures { result ≡ some_place (at_kept place_from self.now.kept self.now.bases.now off 0 (type_count self.now.kept.b)) }
+        ensures { result ≡ some_number (at_kept place_from self.now.kept self.now.bases.now off 0 (type_count self.now.kept.b)) }
     {
         for x in 0..count(self.kept.b) {
             if let Some(place) = self.place_at(off, x) {

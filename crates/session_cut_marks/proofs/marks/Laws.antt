@@ -143,19 +143,19 @@ module _ (b : TypeTable) (s start : List ℕ) where
         let c : weight (heap m st (suc (top - 1))) ≡ weight (heap m st top) = ap (λ (t : ℕ). weight (heap m st t)) top_is in
         omega (arith, a, c, turn_light m st (top - 1))
 
-  pub close_end : (m st : List ℕ) (top : ℕ) → top ≤ 0 → (w : Heap) → w ≡ closed b s start (weight (heap m st top)) (heap m st top) → heap m st 0 ≡ w
+  pub close_end : (m st : List ℕ) (top : ℕ) → top ≤ 0 → (w : Heap) → w ≡ closed b s start (weight (heap m st top)) (heap m st top) → heap m st top ≡ w
   unfolding closed
   close_end m st top l w e =
       let z : top ≡ 0 = omega (arith, l) in
-      sym (e ∙ ap (λ (t : ℕ). closed b s start (weight (heap m st t)) (heap m st t)) z ∙ stay (weight (heap m st 0)))
+      ap (heap m st) z ∙ sym (e ∙ ap (λ (t : ℕ). closed b s start (weight (heap m st t)) (heap m st t)) z ∙ stay (weight (heap m st 0)))
     where
       stay : (n : ℕ) → closed b s start n (heap m st 0) ≡ heap m st 0
       stay zero = refl
       stay (suc n) = refl
 
 -- ---- all of it
-pub ids_are : (b : TypeTable) (s start given m m₁ st₁ : List ℕ) (d : ℕ) (m₂ st₂ m₃ m₄ : List ℕ) → heap m₁ st₁ d ≡ pushed_to (get_word given) (heap m all_zero 0) (length given / 4)
-    → heap m₂ st₂ 0 ≡ closed b s start (weight (heap m₁ st₁ d)) (heap m₁ st₁ d) → m₃ ≡ tagged_to b s start m₂ (type_count b) → m₄ ≡ numbers_of m₃ → m₄ ≡ ids_of b s start given m
+pub ids_are : (b : TypeTable) (s start given m m₁ st₁ : List ℕ) (d : ℕ) (m₂ st₂ : List ℕ) (d₂ : ℕ) (m₃ m₄ : List ℕ) → heap m₁ st₁ d ≡ pushed_to (get_word given) (heap m all_zero 0) (length given / 4)
+    → heap m₂ st₂ d₂ ≡ closed b s start (weight (heap m₁ st₁ d)) (heap m₁ st₁ d) → m₃ ≡ tagged_to b s start m₂ (type_count b) → m₄ ≡ numbers_of m₃ → m₄ ≡ ids_of b s start given m
 unfolding ids_of reached_marks asked
-ids_are b s start given m m₁ st₁ d m₂ st₂ m₃ m₄ e f g h =
+ids_are b s start given m m₁ st₁ d m₂ st₂ d₂ m₃ m₄ e f g h =
     h ∙ ap numbers_of (g ∙ ap (λ (l : List ℕ). tagged_to b s start l (type_count b)) (ap marks_in f ∙ ap (λ (q : Heap). marks_in (closed b s start (weight q) q)) e))

@@ -4,19 +4,31 @@ use native.Mathlib.Omega.{arith}
 use native.Mathlib.Numerals.{add-one}
 use mathlib.Core.Path.{◌≡◌, refl, sym, ◌∙◌, ap, subst}
 use mathlib.Core.Bool.{Bool, true, false}
-use mathlib.Core.List.{List, [], ◌∷◌}
+use mathlib.Core.List.{List}
 use lib.ListN.{length, get_or, set}
 use lib.Dec.{ltb, eqb}
 use borrow.Author.Tests.{eq-eqb, ne_eqb, lt-ltb, le-ltb}
 use Rattle.spec_type_table.specs.declared.types.TypeTable.{TypeTable}
 use Rattle.spec_type_table.specs.Records.{section_word}
 use Rattle.btf_open_causes.specs.references.Followed.{type_count, entry_at, kind_at, place_of}
-use Rattle.session_cut_marks.specs.tags.Tags.{tag_on, tagged_at, tagged_to, Numbered, numbered, numbers_in, numbered_at, numbered_to, numbers_of}
+use Rattle.std.proofs.Common.{Option, Some, None}
+use Rattle.session_cut_marks.specs.tags.Tags.{some_number, tag_on, tagged_at, tagged_to, Numbered, numbered, numbers_in, numbered_at, numbered_to, numbers_of}
 
-pub peek_past : (l : List ℕ) (i : ℕ) → length l ≤ i → 0 ≡ get_or l i 0
-peek_past [] i h = refl
-peek_past (x ∷ l) zero h = absurd (omega (arith, h))
-peek_past (x ∷ l) (suc i) h = peek_past l i (omega (arith, h))
+pub some_is : (n : ℕ) → (n ≡ 0 → ⊥) → some_number n ≡ Some n
+unfolding some_number
+some_is zero h = absurd (h refl)
+some_is (suc n) h = refl
+
+-- the number that there is
+some_of : (n t : ℕ) → some_number n ≡ Some t → (n ≡ 0 → ⊥) × (t ≡ n)
+unfolding some_number
+some_of zero t h = cc
+some_of (suc n) t h = (λ e. cc, cc)
+
+none_of : (n : ℕ) → some_number n ≡ None → n ≡ 0
+unfolding some_number
+none_of zero h = refl
+none_of (suc n) h = cc
 
 module _ (b : TypeTable) (s start : List ℕ) where
   -- ---- tags
@@ -25,8 +37,8 @@ module _ (b : TypeTable) (s start : List ℕ) where
     unfolding kind_at
     kind_of = ap (λ (k : ℕ). k % 32) q
 
-    pub tag_none : (e % 32 ≡ 17 → ⊥) → 0 ≡ tag_on b s start x
-    unfolding tag_on
+    pub tag_none : (e % 32 ≡ 17 → ⊥) → None ≡ some_number (tag_on b s start x)
+    unfolding tag_on some_number
     tag_none n = rw (ne_eqb (kind_at b start x) 17 (λ z. n (kind_of ∙ z)))
 
     module _ (is : e % 32 ≡ 17) (t : ℕ) (w : t ≡ section_word b s (e / 32 + 8)) (k : ℕ) (v : k ≡ kind_at b start t) where
@@ -37,20 +49,33 @@ module _ (b : TypeTable) (s start : List ℕ) where
       kind_target : k ≡ kind_at b start (section_word b s (place_of b start x + 8))
       kind_target = v ∙ ap (kind_at b start) target
 
-      pub tag_of_tag : k ≡ 17 → 0 ≡ tag_on b s start x
-      unfolding tag_on
+      pub tag_of_tag : k ≡ 17 → None ≡ some_number (tag_on b s start x)
+      unfolding tag_on some_number
       tag_of_tag z = rw (eq-eqb (kind_at b start x) 17 (sym kind_of ∙ is), eq-eqb (kind_at b start (section_word b s (place_of b start x + 8))) 17 (sym kind_target ∙ z))
 
-      pub tag_of_type : (k ≡ 17 → ⊥) → t ≡ tag_on b s start x
+      tag_of_type : (k ≡ 17 → ⊥) → t ≡ tag_on b s start x
       unfolding tag_on
       tag_of_type z = target ∙ rw (eq-eqb (kind_at b start x) 17 (sym kind_of ∙ is), ne_eqb (kind_at b start (section_word b s (place_of b start x + 8))) 17 (λ u. z (kind_target ∙ u)))
 
-  module _ (m : List ℕ) (x t : ℕ) (q : t ≡ tag_on b s start x) where
-    pub no_tag : t ≡ 0 → m ≡ tagged_at b s start m x
-    unfolding tagged_at
-    no_tag z = rw (eq-eqb (tag_on b s start x) 0 (sym q ∙ z), tagged_at)
+      pub tag_of_void : (k ≡ 17 → ⊥) → t ≡ 0 → None ≡ some_number (tag_on b s start x)
+      unfolding some_number
+      tag_of_void z h = ap some_number (sym h ∙ tag_of_type z)
 
-    module _ (nz : t ≡ 0 → ⊥) (v : ℕ) (w : v ≡ get_or m t 0) where
+      pub tag_of_other : (k ≡ 17 → ⊥) → (t ≡ 0 → ⊥) → Some t ≡ some_number (tag_on b s start x)
+      tag_of_other z h = sym (some_is t h) ∙ ap some_number (tag_of_type z)
+
+  module _ (m : List ℕ) (x : ℕ) (r : Option ℕ) (e : r ≡ some_number (tag_on b s start x)) where
+    pub no_tag : r ≡ None → m ≡ tagged_at b s start m x
+    unfolding tagged_at
+    no_tag z = rw (eq-eqb (tag_on b s start x) 0 (none_of (tag_on b s start x) (sym e ∙ z)), tagged_at)
+
+    module _ (t : ℕ) (i : r ≡ Some t) (v : ℕ) (w : v ≡ get_or m t 0) where
+      nz : t ≡ 0 → ⊥
+      nz u = let f = some_of (tag_on b s start x) t (sym e ∙ i) in f.0 (sym f.1 ∙ u)
+
+      q : t ≡ tag_on b s start x
+      q = (some_of (tag_on b s start x) t (sym e ∙ i)).1
+
       found : v ≡ get_or m (tag_on b s start x) 0
       found = w ∙ ap (λ (z : ℕ). get_or m z 0) q
 

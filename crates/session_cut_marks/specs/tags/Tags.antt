@@ -1,10 +1,15 @@
 -- The declaration tags of what is marked, and the new numbers, as the code makes them. b has the count, s is the section, start its index
 -- (`btf_open_causes::references`).
-use Rattle.std.specs.Prelude.{ℕ, zero, suc, ◌+◌, true, false, List, length, get_or, set, ltb, eqb}
+use Rattle.std.specs.Prelude.{ℕ, zero, suc, ◌+◌, Option, Some, None, true, false, List, length, get_or, set, ltb, eqb}
 use Rattle.spec_bytes.specs.words.Words.{pick}
 use Rattle.spec_type_table.specs.declared.types.TypeTable.{TypeTable}
 use Rattle.spec_type_table.specs.Records.{section_word}
 use Rattle.btf_open_causes.specs.references.Followed.{kind_at, place_of}
+
+-- a number, where it is not 0
+unfoldable pub some_number : ℕ → Option ℕ
+some_number zero = None
+some_number (suc n) = Some (suc n)
 
 module _ (b : TypeTable) (s start : List ℕ) where
   -- "their declaration tags (no tags of tags or of void)": what the DECL_TAG x is on, where that is no DECL_TAG; else 0

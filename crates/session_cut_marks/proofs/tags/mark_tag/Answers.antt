@@ -1,14 +1,14 @@
 use Rattle.session_cut_marks.proofs.tags.Laws.{no_tag, tag_unmarked, tag_marked, tag_past}
 use Rattle.session_cut_marks.proofs.tags.mark_tag.Goals as goal
 
-pub returns-then-t-eq0 : goal.returns-then-t-eq0
-returns-then-t-eq0 c = no_tag _ _ _ _ _ _ c.tag_on-t.ensures c.if-t-eq0.true
+pub returns-in_default : goal.returns-in_default
+returns-in_default c = no_tag _ _ _ _ _ _ c.tag_on.ensures c.in_default.is
 
 pub returns-then-peek-eq0 : goal.returns-then-peek-eq0
-returns-then-peek-eq0 c = tag_unmarked _ _ _ _ _ _ c.tag_on-t.ensures c.if-t-eq0.false _ c.peek.ensures c.if-peek-eq0.true
+returns-then-peek-eq0 c = tag_unmarked _ _ _ _ _ _ c.tag_on.ensures _ c.in-Some.is _ c.peek.ensures c.if-peek-eq0.true
 
 pub returns-then-at-marks : goal.returns-then-at-marks
-returns-then-at-marks c = tag_marked _ _ _ _ _ _ c.tag_on-t.ensures c.if-t-eq0.false _ c.peek.ensures c.if-peek-eq0.false c.if-at-marks.true
+returns-then-at-marks c = tag_marked _ _ _ _ _ _ c.tag_on.ensures _ c.in-Some.is _ c.peek.ensures c.if-peek-eq0.false c.if-at-marks.true
 
 pub returns-else-at-marks : goal.returns-else-at-marks
-returns-else-at-marks c = tag_past _ _ _ _ _ _ c.tag_on-t.ensures c.if-t-eq0.false _ c.peek.ensures c.if-peek-eq0.false c.if-at-marks.false
+returns-else-at-marks c = tag_past _ _ _ _ _ _ c.tag_on.ensures _ c.in-Some.is _ c.peek.ensures c.if-peek-eq0.false c.if-at-marks.false
