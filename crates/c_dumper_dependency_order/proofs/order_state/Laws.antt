@@ -1,5 +1,5 @@
 -- What the code reads of a type, against the rules: its order state, its kind and its name. Assumes nothing.
-use Prim.Native.Nat.{ℕ}
+use Prim.Native.Nat.{ℕ, ◌+◌}
 use mathlib.Core.Path.{◌≡◌, refl, ap, ◌∙◌, sym}
 use mathlib.Core.List.{List}
 use mathlib.Core.Bool.{Bool, true, false, not}
@@ -12,7 +12,7 @@ use Rattle.spec_type_table.specs.declared.types.TypeTable.{TypeTable}
 use Rattle.spec_type_table.specs.declared.types.BtfType.{BtfType as Record}
 use Rattle.spec_type_table.specs.declared.node.Node.{Node as Code}
 use Rattle.spec_type_table.specs.Cells.{get_field}
-use Rattle.spec_type_table.specs.Records.{kind_of, record_by_id}
+use Rattle.spec_type_table.specs.Records.{section_word, kind_of, record_by_id}
 use Rattle.spec_type_table.specs.Table.{type_of, btf_of}
 use Rattle.spec_type_table.specs.Nodes.{node_is}
 use Rattle.spec_type_table.specs.declared.kind.Kind.{Kind}
@@ -103,3 +103,7 @@ module _ (b : TypeTable) (s : List ℕ) (w : List ℕ) (id : ℕ) (t : Record) (
 module _ (b : TypeTable) (s : List ℕ) (w : List ℕ) (id : ℕ) (t : Record) (et : t ≡ record_by_id b s w id) (nd : Code) (en : node_is b s nd ≡ node_of (type_of b s t)) where
   pub node_is_lem : (table_in b s w).node id ≡ node_is b s nd
   node_is_lem = node_at b s w id t et ∙ sym en
+
+-- the word of an entry that names its type
+pub entry_word : (b : TypeTable) (s : List ℕ) (p q y : ℕ) → y ≡ section_word b s (p + 4) → p ≡ q → y ≡ section_word b s (q + 4)
+entry_word b s p q y e f = e ∙ ap (λ (n : ℕ). section_word b s (n + 4)) f
