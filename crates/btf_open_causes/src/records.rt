@@ -10,7 +10,7 @@ use base_bytes::limit;
 use btf_type_table::kind;
 use btf_type_table::kind::{extra_of, kind_of, vlen_of};
 use btf_type_table::section_word::word;
-use spec_type_table::{Extra, TypeTable};
+use spec_type_table::TypeTable;
 
 // How many types, void counted, and enumerators a pass over sound records found.
 #[derive(Clone, Copy)]
@@ -75,9 +75,7 @@ fn next_record(
     if info / 65536 % 256 != 0 || info / 536870912 % 4 != 0 {
         return None;
     }
-    let Extra::Bytes(n) = extra_of(kind_of(info), vlen_of(info)) else {
-        return None;
-    };
+    let n = extra_of(info)?;
     if left < n || !are_record_names_inside(b, section, at, info, str_len) {
         return None;
     }

@@ -2,7 +2,7 @@
 ghost use Rattle.std.specs.Prelude.{◌≡◌, eqb};
 ghost use Rattle.spec_type_table.specs.Records.{vlen_of, kind_of, flag_of, member_at, param_at, extra_of, entries_of};
 
-use spec_type_table::{BtfType, Entries, Extra, Kind};
+use spec_type_table::{BtfType, Entries, Kind};
 
 // The kinds of a type; 0 is void.
 pub const INT: u32 = 1;
@@ -62,20 +62,26 @@ pub fn kind_flag_of(info: u32) -> bool
     2147483648 <= info
 }
 
-// The kind decides how many bytes follow, and which kinds there are.
-pub fn extra_of(kind: u32, vlen: u32) -> Extra
-    ensures { result ≡ extra_of kind vlen }
+// How many bytes follow the twelve of a record with this info word; none where there is no such kind.
+pub fn extra_of(info: u32) -> Option<u32>
+    ensures { result ≡ extra_of (kind_of info) (vlen_of info) }
 {
-    let n = vlen % 65536;
-    match kind {
-        INT | VAR | DECL_TAG => Extra::Bytes(4),
-        ARRAY => Extra::Bytes(12),
-        STRUCT | UNION | DATASEC | ENUM64 => Extra::Bytes(12 * n),
-        ENUM | FUNC_PROTO => Extra::Bytes(8 * n),
-        PTR | FWD | TYPEDEF | VOLATILE | CONST | RESTRICT | FUNC | FLOAT | TYPE_TAG => Extra::Bytes(
-            0,
-        ),
-        _ => Extra::Refused,
+    let n = vlen_of(info);
+    match Kind::of(info) {
+        Kind::Int | Kind::Var | Kind::DeclTag => Some(4),
+        Kind::Array => Some(12),
+        Kind::Struct | Kind::Union | Kind::Datasec | Kind::Enum64 => Some(12 * n),
+        Kind::Enum | Kind::FuncProto => Some(8 * n),
+        Kind::Ptr
+        | Kind::Fwd
+        | Kind::Typedef
+        | Kind::Volatile
+        | Kind::Const
+        | Kind::Restrict
+        | Kind::Func
+        | Kind::Float
+        | Kind::TypeTag => Some(0),
+        Kind::Void | Kind::Unknown => None,
     }
 }
 

@@ -2,6 +2,7 @@
 pub mod Laws
 pub mod KindLaws
 pub mod KindNames
+pub mod KindExtra
 pub mod KindTypes
 pub mod NameLaws
 pub mod Frame

@@ -1,13 +1,11 @@
 -- Words of a section and the parts of a record, as the Linux documentation has them.
-use Rattle.std.specs.Prelude.{ℕ, ◌+◌, ◌*◌, ◌/◌, ◌%◌, Bool, true, false, List, [], ◌∷◌, leb, eqb, get_or}
+use Rattle.std.specs.Prelude.{ℕ, ◌+◌, ◌*◌, ◌/◌, ◌%◌, Bool, true, false, List, [], ◌∷◌, leb, eqb, get_or, Option, Some, None}
 use Rattle.spec_bytes.specs.words.Words.{word_in}
 use Rattle.spec_bytes.specs.declared.words.Three.{Three}
 use Rattle.spec_type_table.specs.declared.types.TypeTable.{TypeTable}
 use Rattle.spec_type_table.specs.declared.types.BtfType.{BtfType}
 use Rattle.spec_type_table.specs.declared.types.BtfMember.{BtfMember}
 use Rattle.spec_type_table.specs.declared.types.Entries.{Entries}
-use Rattle.spec_type_table.specs.declared.types.Extra.{Extra}
-use Rattle.spec_type_table.specs.declared.types.Extra.TheVariants.{Bytes, Refused}
 use Rattle.spec_type_table.specs.Cells.{get_field}
 
 -- __u32 at a place of the section, the most significant byte first where the section has that order
@@ -78,28 +76,28 @@ member_of b s t k =
     ]
 
 -- how many bytes follow the twelve of struct btf_type, by the kind 1 to 19: there is no other
-unfoldable pub extra_of : ℕ → ℕ → Extra
+unfoldable pub extra_of : ℕ → ℕ → Option ℕ
 extra_of kind vlen = get_or
-    (Refused
-    ∷ Bytes 4
-    ∷ Bytes 0
-    ∷ Bytes 12
-    ∷ Bytes (12 * (vlen % 65536))
-    ∷ Bytes (12 * (vlen % 65536))
-    ∷ Bytes (8 * (vlen % 65536))
-    ∷ Bytes 0
-    ∷ Bytes 0
-    ∷ Bytes 0
-    ∷ Bytes 0
-    ∷ Bytes 0
-    ∷ Bytes 0
-    ∷ Bytes (8 * (vlen % 65536))
-    ∷ Bytes 4
-    ∷ Bytes (12 * (vlen % 65536))
-    ∷ Bytes 0
-    ∷ Bytes 4
-    ∷ Bytes 0
-    ∷ Bytes (12 * (vlen % 65536))
+    (None
+    ∷ Some 4
+    ∷ Some 0
+    ∷ Some 12
+    ∷ Some (12 * (vlen % 65536))
+    ∷ Some (12 * (vlen % 65536))
+    ∷ Some (8 * (vlen % 65536))
+    ∷ Some 0
+    ∷ Some 0
+    ∷ Some 0
+    ∷ Some 0
+    ∷ Some 0
+    ∷ Some 0
+    ∷ Some (8 * (vlen % 65536))
+    ∷ Some 4
+    ∷ Some (12 * (vlen % 65536))
+    ∷ Some 0
+    ∷ Some 4
+    ∷ Some 0
+    ∷ Some (12 * (vlen % 65536))
     ∷ [])
     kind
-    Refused
+    None

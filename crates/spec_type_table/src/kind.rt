@@ -32,11 +32,18 @@ pub enum Kind {
 impl Kind {
     // btf_type.info: bits 24-28 are the kind.
     #[inline]
-    #[tactic(auto, using(crate::proofs::KindNames::unknown), unfolding(crate::specs::Kinds::kind_named))]
     pub fn of(info: u32) -> Kind
         ensures { result ≡ kind_named (kind_of info) }
     {
-        match info / 16777216 % 32 {
+        Kind::numbered(info / 16777216 % 32)
+    }
+
+    #[inline]
+    #[tactic(auto, using(crate::proofs::KindNames::unknown), unfolding(crate::specs::Kinds::kind_named))]
+    pub fn numbered(number: u32) -> Kind
+        ensures { result ≡ kind_named number }
+    {
+        match number {
             0 => Kind::Void,
             1 => Kind::Int,
             2 => Kind::Ptr,

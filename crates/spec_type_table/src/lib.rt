@@ -8,4 +8,4 @@ mod types;
 
 pub use kind::Kind;
 pub use node::Node;
-pub use types::{BtfMember, BtfType, Entries, Extra, TypeTable};
+pub use types::{BtfMember, BtfType, Entries, TypeTable};

@@ -36,10 +36,3 @@ pub struct BtfType {
     pub info: u32,
     pub type_id: u32,
 }
-
-// How many bytes follow the twelve of a record.
-#[derive(Clone, Copy)]
-pub enum Extra {
-    Bytes(u32),
-    Refused,
-}

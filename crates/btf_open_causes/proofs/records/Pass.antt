@@ -3,7 +3,7 @@ use Prim.Native.Nat.{ℕ, zero, suc, zero-le, ◌+◌, ◌-◌, ◌*◌, ◌/◌
 use mathlib.Core.Path.{◌≡◌, refl, ap, ◌∙◌, sym}
 use mathlib.Core.Bool.{Bool, true, false, true≢false, ◌&&◌}
 use mathlib.Core.List.{List, [], ◌∷◌}
-use Rattle.std.specs.Prelude.{Some, None}
+use Rattle.std.specs.Prelude.{Option, Some, None}
 use mathlib.Core.Logic.{⊎_elim, ◌⊎◌, inl, inr}
 use native.Mathlib.Omega.{arith}
 use native.Mathlib.Decide.{ℕ_discrete}
@@ -14,8 +14,6 @@ use borrow.Author.Tests.{lt-ltb, le-ltb, le-leb, lt-leb, ne_eqb, leb-true}
 use Rattle.spec_bytes.specs.words.Words.{pick}
 use Rattle.spec_bytes.proofs.words.Laws.{le_or_lt}
 use Rattle.spec_type_table.specs.declared.types.TypeTable.{TypeTable}
-use Rattle.spec_type_table.specs.declared.types.Extra.{Extra}
-use Rattle.spec_type_table.specs.declared.types.Extra.TheVariants.{Bytes, Refused}
 use Rattle.spec_type_table.specs.Records.{section_word, vlen_of, kind_of, extra_of}
 use Rattle.spec_linux_btf.specs.Reading.{Kind, none, INT, PTR, ARRAY, STRUCT, UNION, ENUM, FWD, TYPEDEF, VOLATILE, CONST, RESTRICT, FUNC, FUNC-PROTO, VAR, DATASEC, FLOAT, DECL-TAG, TYPE-TAG, ENUM64, kind, Shape, bad, fixed, each, shape, known, extra, extra_of as length_of}
 use Rattle.spec_linux_btf.specs.Section.{word_of}
@@ -445,10 +443,10 @@ module _ (w : ℕ → ℕ) (sl from end : ℕ) (start₀ : List ℕ) where
         rw (b, scan_p) (λ j. found (sym n j) (sym m j) (i j))
 
 -- ---- extra_of, against `spec_linux_btf`
-abbrev to_extra : Shape → ℕ → Extra
-to_extra bad v = Refused
-to_extra (fixed n) v = Bytes n
-to_extra (each n) v = Bytes (n * (v % 65536))
+abbrev to_extra : Shape → ℕ → Option ℕ
+to_extra bad v = None
+to_extra (fixed n) v = Some n
+to_extra (each n) v = Some (n * (v % 65536))
 
 abbrev All : (ℕ → Type 0) → ℕ → ℕ → Type 0
 All P lo zero = Unit {0}
@@ -462,44 +460,36 @@ shapes_agree : (v k : ℕ) → k < 32 → extra_of k v ≡ to_extra (shape (kind
 unfolding extra_of kind
 shapes_agree v k h = all_at (λ j. extra_of j v ≡ to_extra (shape (kind j)) v) 0 32 k (refl, (refl, (refl, (refl, (refl, (refl, (refl, (refl, (refl, (refl, (refl, (refl, (refl, (refl, (refl, (refl, (refl, (refl, (refl, (refl, (refl, (refl, (refl, (refl, (refl, (refl, (refl, (refl, (refl, (refl, (refl, (refl, tt)))))))))))))))))))))))))))))))) zero-le h
 
-abbrev is_bytes : Extra → Bool
-is_bytes (Bytes n) = true
-is_bytes Refused = false
-
-abbrev bytes_in : Extra → ℕ
-bytes_in (Bytes n) = n
-bytes_in Refused = 0
-
-module _ (info k v : ℕ) (ek : k ≡ kind_of info) (ev : v ≡ vlen_of info) (r : Extra) (er : r ≡ extra_of k v) where
+module _ (info : ℕ) (r : Option ℕ) (er : r ≡ extra_of (kind_of info) (vlen_of info)) where
   agree : r ≡ to_extra (shape (kind (kind_of info))) (vlen_of info)
-  agree = er ∙ (λ i. extra_of (ek i) (ev i)) ∙ shapes_agree (vlen_of info) (kind_of info) (omega arith)
+  agree = er ∙ shapes_agree (vlen_of info) (kind_of info) (omega arith)
 
-  pub extra_known : (n : ℕ) → r ≡ Bytes n → known (shape (kind (kind_of info))) ≡ true
-  extra_known n e = go (shape (kind (kind_of info))) (ap is_bytes (sym agree ∙ e))
+  pub extra_known : (n : ℕ) → r ≡ Some n → known (shape (kind (kind_of info))) ≡ true
+  extra_known n e = go (shape (kind (kind_of info))) (sym agree ∙ e)
     where
-      go : (q : Shape) → is_bytes (to_extra q (vlen_of info)) ≡ true → known q ≡ true
-      go bad f = f
+      go : (q : Shape) → to_extra q (vlen_of info) ≡ Some n → known q ≡ true
+      go bad f = absurd cc
       go (fixed m) f = refl
       go (each m) f = refl
 
-  pub extra_long : (n : ℕ) → r ≡ Bytes n → extra (kind (kind_of info)) (vlen_of info) ≡ n
-  extra_long n e = go (shape (kind (kind_of info))) (ap is_bytes (sym agree ∙ e)) (ap bytes_in (sym agree ∙ e))
+  pub extra_long : (n : ℕ) → r ≡ Some n → extra (kind (kind_of info)) (vlen_of info) ≡ n
+  extra_long n e = go (shape (kind (kind_of info))) (sym agree ∙ e)
     where
-      go : (q : Shape) → is_bytes (to_extra q (vlen_of info)) ≡ true → bytes_in (to_extra q (vlen_of info)) ≡ n → length_of q (vlen_of info) ≡ n
-      go bad f g = absurd (true≢false (sym f))
-      go (fixed m) f g = g
-      go (each m) f g = mul_comm (vlen_of info) m ∙ ap (λ (y : ℕ). m * y) same ∙ g
-        where
-          same : vlen_of info ≡ vlen_of info % 65536
-          same = omega arith
+      go : (q : Shape) → to_extra q (vlen_of info) ≡ Some n → length_of q (vlen_of info) ≡ n
+      go bad f = absurd cc
+      go (fixed m) f = cc
+      go (each m) f =
+          let g : m * (vlen_of info % 65536) ≡ n = cc in
+          let same : vlen_of info ≡ vlen_of info % 65536 = omega arith in
+          mul_comm (vlen_of info) m ∙ ap (λ (y : ℕ). m * y) same ∙ g
 
-  pub extra_unknown : r ≡ Refused → known (shape (kind (kind_of info))) ≡ false
-  extra_unknown e = go (shape (kind (kind_of info))) (ap is_bytes (sym agree ∙ e))
+  pub extra_unknown : r ≡ None → known (shape (kind (kind_of info))) ≡ false
+  extra_unknown e = go (shape (kind (kind_of info))) (sym agree ∙ e)
     where
-      go : (q : Shape) → is_bytes (to_extra q (vlen_of info)) ≡ false → known q ≡ false
+      go : (q : Shape) → to_extra q (vlen_of info) ≡ None → known q ≡ false
       go bad f = refl
-      go (fixed m) f = f
-      go (each m) f = f
+      go (fixed m) f = absurd cc
+      go (each m) f = absurd cc
 
 -- ---- the answers
 pub enums_few : (i d : ℕ) → d ≡ enums_of i → d < 65536

@@ -16,8 +16,7 @@ use Rattle.spec_linux_btf.specs.Section.{is_big_endian, word_of, type_len_of, ty
 use Rattle.spec_linux_btf.proofs.Claims.{section_ends, section_inside, section_sound_at}
 use Rattle.spec_c_dumper.specs.rules.Types.{BtfType, Void}
 use Rattle.spec_type_table.specs.declared.types.TypeTable.{TypeTable}
-use Rattle.spec_type_table.specs.declared.types.Extra.{Extra}
-use Rattle.spec_type_table.specs.declared.types.Extra.TheVariants.{Bytes, Refused}
+use Rattle.std.specs.Prelude.{Option, Some, None}
 use Rattle.spec_type_table.specs.Records.{vlen_of, kind_of, extra_of, record_at}
 use Rattle.spec_type_table.specs.Table.{type_of}
 use Rattle.spec_type_table.proofs.KindLaws.{by_kind}
@@ -35,30 +34,30 @@ use Rattle.proof_calls.specs.program.Claims.{number}
 
 -- ---- how many bytes follow a record of a known kind
 
-extra_is : (v : ℕ) → v < 65536 → (k : ℕ) → known (shape (kind k)) ≡ true → extra_of k v ≡ Bytes (extra (kind k) v)
+extra_is : (v : ℕ) → v < 65536 → (k : ℕ) → known (shape (kind k)) ≡ true → extra_of k v ≡ Some (extra (kind k) v)
 unfolding extra_of kind
 extra_is v l =
-    by_kind (λ k. known (shape (kind k)) ≡ true → extra_of k v ≡ Bytes (extra (kind k) v))
+    by_kind (λ k. known (shape (kind k)) ≡ true → extra_of k v ≡ Some (extra (kind k) v))
     (λ h. absurd (true≢false (sym h)))
     (λ h. refl)
     (λ h. refl)
     (λ h. refl)
-    (λ h. ap Bytes twelve)
-    (λ h. ap Bytes twelve)
-    (λ h. ap Bytes eight)
+    (λ h. ap (λ (q : ℕ). Some q) twelve)
+    (λ h. ap (λ (q : ℕ). Some q) twelve)
+    (λ h. ap (λ (q : ℕ). Some q) eight)
     (λ h. refl)
     (λ h. refl)
     (λ h. refl)
     (λ h. refl)
     (λ h. refl)
     (λ h. refl)
-    (λ h. ap Bytes eight)
+    (λ h. ap (λ (q : ℕ). Some q) eight)
     (λ h. refl)
-    (λ h. ap Bytes twelve)
+    (λ h. ap (λ (q : ℕ). Some q) twelve)
     (λ h. refl)
     (λ h. refl)
     (λ h. refl)
-    (λ h. ap Bytes twelve)
+    (λ h. ap (λ (q : ℕ). Some q) twelve)
     (λ k m h. absurd (true≢false (sym h ∙ ap (λ (n : reading.Kind). known (shape n)) (get_or-eq_default kind_table none m))))
   where
     twelve : 12 * (v % 65536) ≡ v * 12
@@ -71,13 +70,13 @@ extra_is v l =
 
 module _ (b : TypeTable) (s : List ℕ) (end : ℕ) where
   -- what comes of a record at `at`, by the bytes that follow it
-  abbrev goes : ℕ → ℕ → Extra → List BtfType
-  goes n at x = elim x [ Bytes j ↦ type_of b s (record_at b s at) ∷ types_from b s end n (at + 12 + j) | Refused ↦ [] ]
+  abbrev goes : ℕ → ℕ → Option ℕ → List BtfType
+  goes n at x = elim x [ Some j ↦ type_of b s (record_at b s at) ∷ types_from b s end n (at + 12 + j) | None ↦ [] ]
 
-  abbrev follow : ℕ → Extra
+  abbrev follow : ℕ → Option ℕ
   follow at = extra_of (kind_of (record_at b s at).info) (vlen_of (record_at b s at).info)
 
-  from_step : (n at k : ℕ) → at < end → follow at ≡ Bytes k → types_from b s end (suc n) at ≡ type_of b s (record_at b s at) ∷ types_from b s end n (at + 12 + k)
+  from_step : (n at k : ℕ) → at < end → follow at ≡ Some k → types_from b s end (suc n) at ≡ type_of b s (record_at b s at) ∷ types_from b s end n (at + 12 + k)
   unfolding types_from
   from_step n at k l e = ap (λ (o : Bool). elim o as (λ _. List BtfType) [ false ↦ [] | true ↦ goes n at (follow at) ]) (lt-ltb at end l) ∙ ap (goes n at) e
 
@@ -123,7 +122,7 @@ module _ (s : List ℕ) (y : reading.Bytes s) (ok : number s ≡ 0) where
     b = at k
 
     -- the bytes that follow record i
-    follows_is : (i : ℕ) → i < length ts → follow b s (types_at s + type_len_of s) (place i) ≡ Bytes (extra (kind (kind_p (word_of s) (place i))) (vlen_p (word_of s) (place i)))
+    follows_is : (i : ℕ) → i < length ts → follow b s (types_at s + type_len_of s) (place i) ≡ Some (extra (kind (kind_p (word_of s) (place i))) (vlen_p (word_of s) (place i)))
     unfolding record_at kind_p vlen_p
     follows_is i l =
         ap (λ (w : ℕ → ℕ). extra_of (kind_of (w (place i + 4))) (vlen_of (w (place i + 4)))) (words_same b s refl)

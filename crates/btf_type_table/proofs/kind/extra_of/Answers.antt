@@ -1,33 +1,22 @@
-use Rattle.std.proofs.Common.{rules}
-use native.Mathlib.Omega.{arith}
-use Rattle.spec_type_table.proofs.KindLaws as kinds
+use mathlib.Core.Logic.{inl, inr}
+use Rattle.spec_type_table.specs.declared.kind.Kind.TheVariants.{Void, Int, Ptr, Array, Struct, Union, Enum, Fwd, Typedef, Volatile, Const, Restrict, Func, FuncProto, Var, Datasec, Float, DeclTag, TypeTag, Enum64, Unknown}
+use Rattle.spec_type_table.proofs.KindExtra.{extra_by}
 use Rattle.btf_type_table.proofs.kind.extra_of.Goals as goal
-use Rattle.btf_type_table.proofs.kind.extra_of.Goals.{in-15-1, in_default+else-kind-lt1+then-kind-lt6}
 
-pub returns-in-1 : goal.returns-in-1
-returns-in-1 c = kinds.extra_4 _ _ c.in-1.is
+pub returns-in-Int : goal.returns-in-Int
+returns-in-Int c = elim c.in-Int.is [ inl e ↦ extra_by _ _ c.vlen_of-n.ensures _ c.of.ensures Int e | inr o ↦ elim o [ inl e ↦ extra_by _ _ c.vlen_of-n.ensures _ c.of.ensures Var e | inr e ↦ extra_by _ _ c.vlen_of-n.ensures _ c.of.ensures DeclTag e ] ]
 
-pub returns-in-3 : goal.returns-in-3
-returns-in-3 c = kinds.extra_12 _ _ c.in-3.is
+pub returns-in-Array : goal.returns-in-Array
+returns-in-Array c = extra_by _ _ c.vlen_of-n.ensures _ c.of.ensures Array c.in-Array.is
 
-pub returns-in-6 : goal.returns-in-6
-returns-in-6 c = kinds.extra_params _ _ c.in-6.is
+pub returns-in-Struct : goal.returns-in-Struct
+returns-in-Struct c = elim c.in-Struct.is [ inl e ↦ extra_by _ _ c.vlen_of-n.ensures _ c.of.ensures Struct e | inr o ↦ elim o [ inl e ↦ extra_by _ _ c.vlen_of-n.ensures _ c.of.ensures Union e | inr o ↦ elim o [ inl e ↦ extra_by _ _ c.vlen_of-n.ensures _ c.of.ensures Datasec e | inr e ↦ extra_by _ _ c.vlen_of-n.ensures _ c.of.ensures Enum64 e ] ] ]
 
-pub returns-in_default : goal.returns-in_default
-returns-in_default c = kinds.extra_void _ _ (omega arith)
+pub returns-in-Enum : goal.returns-in-Enum
+returns-in-Enum c = elim c.in-Enum.is [ inl e ↦ extra_by _ _ c.vlen_of-n.ensures _ c.of.ensures Enum e | inr e ↦ extra_by _ _ c.vlen_of-n.ensures _ c.of.ensures FuncProto e ]
 
-pub returns-in_default-2 : goal.returns-in_default-2
-returns-in_default-2 c = kinds.extra_refused _ _ (omega arith) c.in_default.in_default-own.rest.0.0.0.0.1 c.in_default.in_default-own.rest.0.0.1 c.in_default.in_default-own.rest.0.1 c.in_default.in_default-own.rest.1
+pub returns-in-Ptr : goal.returns-in-Ptr
+returns-in-Ptr c = elim c.in-Ptr.is [ inl e ↦ extra_by _ _ c.vlen_of-n.ensures _ c.of.ensures Ptr e | inr o ↦ elim o [ inl e ↦ extra_by _ _ c.vlen_of-n.ensures _ c.of.ensures Fwd e | inr o ↦ elim o [ inl e ↦ extra_by _ _ c.vlen_of-n.ensures _ c.of.ensures Typedef e | inr o ↦ elim o [ inl e ↦ extra_by _ _ c.vlen_of-n.ensures _ c.of.ensures Volatile e | inr o ↦ elim o [ inl e ↦ extra_by _ _ c.vlen_of-n.ensures _ c.of.ensures Const e | inr o ↦ elim o [ inl e ↦ extra_by _ _ c.vlen_of-n.ensures _ c.of.ensures Restrict e | inr o ↦ elim o [ inl e ↦ extra_by _ _ c.vlen_of-n.ensures _ c.of.ensures Func e | inr o ↦ elim o [ inl e ↦ extra_by _ _ c.vlen_of-n.ensures _ c.of.ensures Float e | inr e ↦ extra_by _ _ c.vlen_of-n.ensures _ c.of.ensures TypeTag e ] ] ] ] ] ] ] ]
 
-pub returns-in-4 : goal.returns-in-4
-returns-in-4 c =
-    elim c.in-4-1.branch [
-      | in-15-1 w ↦ kinds.extra_entries _ _ (search rules)
-      | in_default+else-kind-lt1+then-kind-lt6 w ↦ kinds.extra_members _ _ (omega arith) (omega arith) (omega arith) (omega arith) (omega arith)
-    ]
-
-pub returns-in-2 : goal.returns-in-2
-returns-in-2 c = kinds.extra_none _ _ c.in-2.is
-
-pub returns-in-2-2 : goal.returns-in-2-2
-returns-in-2-2 c = kinds.extra_six _ _ (omega arith) (omega arith) c.in-2.in_default-own.rest.0.1
+pub returns-in-Void : goal.returns-in-Void
+returns-in-Void c = elim c.in-Void.is [ inl e ↦ extra_by _ _ c.vlen_of-n.ensures _ c.of.ensures Void e | inr e ↦ extra_by _ _ c.vlen_of-n.ensures _ c.of.ensures Unknown e ]
