@@ -11,7 +11,7 @@ use crate::keys::{Key, load_key};
 use btf_type_table::cell;
 use spec_type_table::TypeTable;
 
-// The class of h, which has a space, by the table of the holders before it.
+// The class of h, which has a space, by the table of the holders before it. A link is one more than a holder, and 0 ends the list.
 fn find(b: TypeTable, section: &[u8], work: &[u8], h: u32, bucket: u32, key: Key) -> u32
     requires { HolderFinds b section.now work.now h bucket
         × (key_list section.now key ≡ key_in b section.now work.now h) }

@@ -1,5 +1,6 @@
 // The holders of names by the hash of their names: a table in two words of each, which are 0 before and afterwards.
-// Holder h is type h below the number of types, and after those an enumerator.
+// Holder h is type h below the number of types, and after those an enumerator. (It is not the table of `classify`, which has the first
+// holder of each name alone, in falling order, and is searched while it grows.)
 ghost use Rattle.std.specs.Prelude.{◌≡◌, ◌<◌};
 ghost use Rattle.btf_open_names.specs.hash_table.Hashed.{put_first, has_room, table_in};
 
@@ -29,10 +30,7 @@ fn has_room(work: &[u8], types: u32, enumerators: u32) -> bool
     let Some(n) = count_holders(work, types, enumerators) else {
         return false;
     };
-    if !all_zero(work, types, n, cell::TABLE_BUCKET) {
-        return false;
-    }
-    all_zero(work, types, n, cell::TABLE_LINK)
+    all_zero(work, types, n, cell::TABLE_BUCKET) && all_zero(work, types, n, cell::TABLE_LINK)
 }
 
 // Makes the table, from the last holder to the first, so that those of a bucket stand in rising order. Without room for it the work stays

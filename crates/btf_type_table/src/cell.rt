@@ -3,7 +3,6 @@ ghost use Rattle.std.specs.Prelude.{◌≡◌};
 ghost use Rattle.spec_bytes.specs.words.Words.{get_word, put_word, one_more};
 ghost use Rattle.spec_type_table.specs.Cells.{get_field, put_field, place_of, class_p, count_p, count_after, count_raised, with_more};
 
-use base_bytes::limit;
 use base_bytes::word::{get_word, put_word};
 
 pub const WORDS_OF_TYPE: usize = 16;
@@ -147,11 +146,11 @@ fn count_at(work: &mut [u8], at: usize) -> u32
     ensures { (result ≡ one_more (get_word work.old at)) × (work.new ≡ with_more work.old at) }
 {
     let n = get_word(work, at);
-    if n < limit::LARGEST {
-        put_word(work, at, n + 1);
-        return n + 1;
-    }
-    n
+    let Some(more) = n.checked_add(1) else {
+        return n;
+    };
+    put_word(work, at, more);
+    more
 }
 
 // One more holder of h's name: how many there are now, at the class of the name.

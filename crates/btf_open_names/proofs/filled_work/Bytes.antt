@@ -159,9 +159,6 @@ on_other : (a b : ℕ) (x y : List ℕ) → (a ≡ b → ⊥) → suffix_on (a �
 unfolding suffix_on
 on_other a b x y e = ap (λ (t : Bool). elim t as (λ z. ℕ) [ true ↦ suffix_on x y | false ↦ 0 ]) (ne_eqb a b e)
 
-pub on_past : (s : List ℕ) (a b : ℕ) → length s ≤ b → 0 ≡ suffix_on (name_at s a) (name_at s b)
-on_past s a b h = sym (ap (suffix_on (name_at s a)) (name_end s b h) ∙ on_none (name_at s a))
-
 module _ (s : List ℕ) (a b : ℕ) where
   pub on_start : suffix_on (name_at s a) (name_at s b) ≡ suffix_on (name_at s (a + 0)) (name_at s (b + 0))
   on_start = rw (add-zero a, add-zero b)

@@ -6,7 +6,7 @@ use mathlib.Core.List.{List}
 use mathlib.Core.Logic.{◌⊎◌, inl, inr}
 use native.Mathlib.Omega.{arith}
 use native.Mathlib.Numerals.{add-one}
-use lib.ListN.{length, get_or, get_or-eq_default}
+use lib.ListN.{get_or}
 use borrow.Author.Tests.{lt-ltb, le-ltb, ne_eqb}
 use Rattle.spec_bytes.specs.words.Words.{put_word}
 use Rattle.spec_type_table.specs.declared.types.TypeTable.{TypeTable}
@@ -14,9 +14,6 @@ use Rattle.spec_type_table.specs.Cells.{get_field, put_field}
 use Rattle.spec_type_table.specs.Records.{section_word, vlen_of, member_at, param_at}
 use Rattle.btf_open_names.specs.name_classes.Classes.{table_classed}
 use Rattle.btf_open_names.specs.filled_work.Left.{places_put, value_place, enumerator_word, values_put, is_enum, enum_with, values_at, tag_put, enums_to, enums_put, tags_put, filled}
-
-pub entry_out : (start : List ℕ) (i : ℕ) → length start ≤ i → 0 ≡ get_or start i 0
-entry_out start i h = sym (get_or-eq_default start 0 {n = i} h)
 
 -- ---- fill_places
 module _ (start w₀ : List ℕ) where

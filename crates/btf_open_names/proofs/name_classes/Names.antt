@@ -125,6 +125,3 @@ module _ (s : List ℕ) (a b : ℕ) where
           ∙ ap₂ same_list (name_more s (a + k) (λ r. n (ex ∙ r))) (name_more s (b + k) (λ r. n (e ∙ ey ∙ r)))
           ∙ same_heads _ _ (name_at s (a + k + 1)) (name_at s (b + k + 1)) f
           ∙ ap₂ (λ (i j : ℕ). same_list (name_at s i) (name_at s j)) p q
-
-pub byte_out : (s : List ℕ) (i : ℕ) → length s ≤ i → 0 ≡ get_or s i 0
-byte_out s i h = sym (get_or-eq_default s 0 h)

@@ -75,7 +75,7 @@ pub fn load_key(b: TypeTable, section: &[u8], work: &[u8], h: u32) -> Option<Key
     let at = cell::HOLDER_PLACE.get(work, b.types, h);
     let space = space_at(b, section, at, h)?;
     Some(Key {
-        space: space,
+        space,
         name: name_of(b, section, at),
     })
 }

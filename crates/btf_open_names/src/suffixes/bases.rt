@@ -38,10 +38,7 @@ pub fn base_of(b: TypeTable, section: &[u8], work: &[u8], n: u32, h: u32) -> Opt
     for c in 1..n {
         let number = key_suffix(section, load_key(b, section, work, c), key);
         if let Some(number) = number {
-            return Some(Base {
-                holder: c,
-                number: number,
-            });
+            return Some(Base { holder: c, number });
         }
     }
     None

@@ -23,10 +23,7 @@ fn base_in(b: TypeTable, section: &[u8], work: &[u8], n: u32, h: u32) -> Option<
     while c != 0 {
         let number = key_suffix(section, load_key(b, section, work, c), key);
         if let Some(number) = number {
-            return Some(Base {
-                holder: c,
-                number: number,
-            });
+            return Some(Base { holder: c, number });
         }
         c = cell::TABLE_LINK.get(work, b.types, c);
     }

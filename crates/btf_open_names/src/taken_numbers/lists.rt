@@ -57,11 +57,14 @@ fn put_takers(b: TypeTable, section: &[u8], enumerators: u32, work: &mut [u8])
     }
 }
 
-// Bit 3 of the modes: names that cannot collide. Without it there are no lists.
+// In the modes, the bit of names that cannot collide.
+const NAMES_APART: u32 = 8;
+
+// The mode of names that cannot collide. Without it there are no lists.
 pub fn takers(b: TypeTable, section: &[u8], modes: u32, enumerators: u32, work: &mut [u8])
     ensures { work.new ≡ takers_in modes b enumerators section.now work.old }
 {
-    if modes / 8 % 2 != 1 {
+    if modes / NAMES_APART % 2 != 1 {
         return;
     }
     put_takers(b, section, enumerators, work)
