@@ -1,21 +1,14 @@
 // Reads a section from standard input, its first 65,536 bytes, and prints the header of all its types, or the refusal.
 #![tactic(auto)]
 
-use btfdump_run::streams::{read_full, write_all};
-use std::io::Write;
+use btfdump_run::streams::{read_full, write_first};
+use std::io;
 
-// Writes the first n bytes; nothing where there are fewer.
-fn write_first<W: Write>(writer: &mut W, text: &[u8], n: usize) {
-    if n <= text.len() {
-        write_all(writer, &text[..n]);
-    }
-}
-
-fn main(rt: HostRuntime) {
+fn main(rt: HostRuntime) -> io::Result<()> {
     let mut section = [0u8; 65536];
     let n = read_full(&mut rt.stdin(), &mut section);
     let mut work = [0u8; 65536];
     let mut text = [0u8; 65536];
     let len = btfdump_run::program::run(&section[..n], &mut work, &mut text);
-    write_first(&mut rt.stdout(), &text, len);
+    write_first(&mut rt.stdout(), &text, len)
 }

@@ -3,7 +3,6 @@ ghost use Rattle.std.specs.Prelude.{◌≡◌};
 ghost use Rattle.btfdump_run.specs.printed.Printed.{shown_to, line_shown};
 
 use base_bytes::put::{put_bytes, put_decimal};
-use base_bytes::word::clear;
 
 // The line that a refusal prints: how long it is, at the start of the text. Where it does not fit, the text is cleared.
 pub fn put_refused(text: &mut [u8], number: u32) -> usize
@@ -15,6 +14,6 @@ pub fn put_refused(text: &mut [u8], number: u32) -> usize
     if r <= text.len() {
         return r;
     }
-    clear(text);
+    text.fill(0);
     r
 }

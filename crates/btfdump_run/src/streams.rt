@@ -1,10 +1,12 @@
-// Whole slices read and written: a call that fails ends it, as the end of the input does.
-ghost use Rattle.std.specs.Prelude.{◌≤◌, length, take, IsTrue};
+// Whole slices read and written.
+ghost use Rattle.std.specs.Prelude.{◌≤◌, length, take, OnOk};
 ghost use Rattle.std.specs.Io.KnownBytes.{Appends, Consumes};
 
+use std::io;
 use std::io::{Read, Write};
 
-// Reads until the buffer is full, the input ends or a read fails: how many bytes stand at its start.
+// Reads until the buffer is full, the input ends or a read fails: how many bytes stand at its start. (A loop, since std fills a slice by
+// read_exact alone, which does not say what it read of an input that ends before.)
 pub fn read_full<R: Read>(reader: &mut R, buf: &mut [u8]) -> usize
     ensures in_bounds { result ≤ length buf.new }
     ensures bytes { Consumes (R.remaining reader.old) (R.remaining reader.new) (take result buf.new) }
@@ -19,16 +21,12 @@ pub fn read_full<R: Read>(reader: &mut R, buf: &mut [u8]) -> usize
     done
 }
 
-// Writes all bytes and returns true, or stops at the first write that takes nothing or fails.
-pub fn write_all<W: Write>(writer: &mut W, bytes: &[u8]) -> bool
-    ensures { IsTrue result → Appends (W.contents writer.old) (W.contents writer.new) bytes.now }
+// Writes the first n bytes; nothing where there are fewer.
+pub fn write_first<W: Write>(writer: &mut W, bytes: &[u8], n: usize) -> io::Result<()>
+    ensures { OnOk result (n ≤ length bytes.now → Appends (W.contents writer.old) (W.contents writer.new) (take n bytes.now)) }
 {
-    let mut done = 0;
-    while done < bytes.len() {
-        match writer.write(&bytes[done..]) {
-            Ok(0) | Err(_) => return false,
-            Ok(n) => done += n,
-        }
+    match bytes.get(..n) {
+        Some(first) => writer.write_all(first),
+        None => Ok(()),
     }
-    true
 }

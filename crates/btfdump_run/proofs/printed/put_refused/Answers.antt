@@ -1,6 +1,7 @@
 use Rattle.btfdump_run.proofs.printed.Laws as laws
 use mathlib.Core.Path.{◌∙◌}
 use native.Mathlib.Omega.{arith}
+use Rattle.std.proofs.Common.{rules}
 use Rattle.btfdump_run.proofs.printed.put_refused.Goals as goal
 
 pub returns-then-r-text : goal.returns-then-r-text
@@ -14,4 +15,4 @@ returns c = laws.line_stopped _ _ _ _
     (omega arith)
     (c.put_bytes-r.auto.text ∙ c.put_decimal-c.auto.text ∙ c.put_bytes-a.auto.text)
     _
-    c.clear.ensures
+    (search rules)
