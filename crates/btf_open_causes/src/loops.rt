@@ -9,8 +9,7 @@ ghost use Rattle.btf_open_causes.specs.loops.Walk.{Known, Opened, Passes, Inv, T
 
 use crate::references::{count, count_at, entry, id_at};
 use base_bytes::limit;
-use btf_type_table::kind;
-use spec_type_table::TypeTable;
+use spec_type_table::{Kind, TypeTable};
 
 // No type has so many successors. (A word and no enum: a cell of an enum that holds a number takes eight bytes a type, not four.)
 const NEW: u32 = 0;
@@ -21,8 +20,8 @@ const DONE: u32 = 131072;
 fn degree(b: TypeTable, section: &[u8], kind: u32, at: u32) -> u32
     ensures { result ≡ deg_at b section.now kind at }
 {
-    match kind {
-        kind::STRUCT | kind::UNION => 0,
+    match Kind::numbered(kind) {
+        Kind::Struct | Kind::Union => 0,
         _ => count_at(b, section, kind, at),
     }
 }

@@ -6,8 +6,7 @@ ghost use Rattle.btf_open_causes.specs.prototypes.Cells.{Says, Fairs, Rest, Look
 
 use crate::references::{count, count_at, entry, followed, id_at, kind_at};
 use base_bytes::limit;
-use btf_type_table::kind;
-use spec_type_table::TypeTable;
+use spec_type_table::{Kind, TypeTable};
 
 // Whether a type leads to a prototype.
 #[derive(Clone, Copy)]
@@ -23,9 +22,14 @@ enum Cell {
 fn cell_of(b: TypeTable, start: &[u32], x: u32) -> Cell
     ensures { Says (what_of b start.now x) result }
 {
-    match kind_at(b, start, x) {
-        kind::ARRAY | kind::TYPEDEF..=kind::RESTRICT | kind::TYPE_TAG => Cell::Unknown,
-        kind::FUNC_PROTO => Cell::Yes,
+    match Kind::numbered(kind_at(b, start, x)) {
+        Kind::Array
+        | Kind::Typedef
+        | Kind::Volatile
+        | Kind::Const
+        | Kind::Restrict
+        | Kind::TypeTag => Cell::Unknown,
+        Kind::FuncProto => Cell::Yes,
         _ => Cell::No,
     }
 }
@@ -40,8 +44,8 @@ fn next(b: TypeTable, section: &[u8], start: &[u32], x: u32) -> u32
 fn asks(b: TypeTable, section: &[u8], kind: u32, at: u32) -> u32
     ensures { result ≡ asks_at b section.now kind at }
 {
-    match kind {
-        kind::ARRAY..=kind::UNION => count_at(b, section, kind, at),
+    match Kind::numbered(kind) {
+        Kind::Array | Kind::Struct | Kind::Union => count_at(b, section, kind, at),
         _ => 0,
     }
 }

@@ -1,16 +1,15 @@
 // Cause 5: the records, one after the other, and the index of where each starts.
 ghost use Rattle.std.specs.Prelude.{◌≡◌, ◌+◌, ◌*◌, ◌%◌, ◌≤◌, set};
-ghost use Rattle.spec_type_table.specs.Records.{section_word};
+ghost use Rattle.spec_type_table.specs.Records.{section_word, kind_of};
 ghost use Rattle.spec_linux_btf.specs.Reading.{kind as kind_named};
 ghost use Rattle.spec_linux_btf.specs.Places.{all_named_p};
 ghost use Rattle.btf_open_causes.specs.records.Pass.{entry_width, named_by, enums_of, next_p, scan_out, scan_p, scan_section};
 
 use crate::header::btf_header;
 use base_bytes::limit;
-use btf_type_table::kind;
 use btf_type_table::kind::{extra_of, kind_of, vlen_of};
 use btf_type_table::section_word::word;
-use spec_type_table::TypeTable;
+use spec_type_table::{Kind, TypeTable};
 
 // How many types, void counted, and enumerators a pass over sound records found.
 #[derive(Clone, Copy)]
@@ -34,12 +33,12 @@ fn are_names_inside(b: TypeTable, section: &[u8], at: u32, n: u32, width: u32, s
 }
 
 // How long an entry with a name is: of members, parameters and enumerators; else 0.
-fn named_entry(kind: u32) -> u32
-    ensures { result ≡ entry_width (kind_named kind) }
+fn named_entry(info: u32) -> u32
+    ensures { result ≡ entry_width (kind_named (kind_of info)) }
 {
-    match kind {
-        kind::STRUCT | kind::UNION | kind::ENUM64 => 12,
-        kind::ENUM | kind::FUNC_PROTO => 8,
+    match Kind::of(info) {
+        Kind::Struct | Kind::Union | Kind::Enum64 => 12,
+        Kind::Enum | Kind::FuncProto => 8,
         _ => 0,
     }
 }
@@ -51,7 +50,7 @@ fn are_record_names_inside(b: TypeTable, section: &[u8], at: u32, info: u32, str
     if str_len <= word(b, section, at as usize) {
         return false;
     }
-    let width = named_entry(kind_of(info));
+    let width = named_entry(info);
     if width == 0 {
         return true;
     }
@@ -86,8 +85,8 @@ fn next_record(
 fn enumerators_of(info: u32) -> u32
     ensures { result ≡ enums_of info }
 {
-    match kind_of(info) {
-        kind::ENUM | kind::ENUM64 => vlen_of(info),
+    match Kind::of(info) {
+        Kind::Enum | Kind::Enum64 => vlen_of(info),
         _ => 0,
     }
 }

@@ -4,10 +4,9 @@ ghost use Rattle.spec_type_table.specs.Records.{section_word, vlen_of};
 ghost use Rattle.btf_open_causes.specs.references.Followed.{type_count, entry_at, kind_at, count_at, id_place, id_at, followed_id};
 
 use base_bytes::limit;
-use btf_type_table::kind;
 use btf_type_table::kind::{member_place, param_place, vlen_of};
 use btf_type_table::section_word::word;
-use spec_type_table::{Entries, TypeTable};
+use spec_type_table::{Entries, Kind, TypeTable};
 
 // How many types there are, void counted. No table that passed cause 5 has more than 262145.
 pub fn count(b: TypeTable) -> u32
@@ -42,16 +41,16 @@ fn vlen_at(b: TypeTable, section: &[u8], at: u32) -> u32
 pub fn count_at(b: TypeTable, section: &[u8], kind: u32, at: u32) -> u32
     ensures { result ≡ count_at b section.now kind at }
 {
-    match kind {
-        kind::PTR
-        | kind::ARRAY
-        | kind::TYPEDEF
-        | kind::VOLATILE
-        | kind::CONST
-        | kind::RESTRICT
-        | kind::TYPE_TAG => 1,
-        kind::STRUCT | kind::UNION => vlen_at(b, section, at),
-        kind::FUNC_PROTO => vlen_at(b, section, at) + 1,
+    match Kind::numbered(kind) {
+        Kind::Ptr
+        | Kind::Array
+        | Kind::Typedef
+        | Kind::Volatile
+        | Kind::Const
+        | Kind::Restrict
+        | Kind::TypeTag => 1,
+        Kind::Struct | Kind::Union => vlen_at(b, section, at),
+        Kind::FuncProto => vlen_at(b, section, at) + 1,
         _ => 0,
     }
 }
@@ -61,10 +60,10 @@ fn id_place(kind: u32, at: u32, k: u32) -> usize
     ensures { result ≡ id_place kind at k }
 {
     let e = Entries { at: at, vlen: 0 };
-    match kind {
-        kind::ARRAY => (at as usize) + 12,
-        kind::STRUCT | kind::UNION => member_place(e, k) + 4,
-        kind::FUNC_PROTO => {
+    match Kind::numbered(kind) {
+        Kind::Array => (at as usize) + 12,
+        Kind::Struct | Kind::Union => member_place(e, k) + 4,
+        Kind::FuncProto => {
             if k == 0 {
                 return (at as usize) + 8;
             }

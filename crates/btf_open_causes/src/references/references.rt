@@ -3,8 +3,7 @@ ghost use Rattle.std.specs.Prelude.{◌≡◌};
 ghost use Rattle.btf_open_causes.specs.references.References.{is_bad, is_some_bad, has_bad_reference};
 
 use crate::references::index::{count, count_at, entry, id_at, kind_at};
-use btf_type_table::kind;
-use spec_type_table::TypeTable;
+use spec_type_table::{Kind, TypeTable};
 
 fn is_bad(b: TypeTable, start: &[u32], y: u32) -> bool
     ensures { result ≡ is_bad b start.now y }
@@ -13,8 +12,8 @@ fn is_bad(b: TypeTable, start: &[u32], y: u32) -> bool
     if n <= y {
         return true;
     }
-    match kind_at(b, start, y) {
-        kind::FUNC | kind::VAR | kind::DATASEC | kind::DECL_TAG => true,
+    match Kind::numbered(kind_at(b, start, y)) {
+        Kind::Func | Kind::Var | Kind::Datasec | Kind::DeclTag => true,
         _ => false,
     }
 }

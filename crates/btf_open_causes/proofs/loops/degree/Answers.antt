@@ -1,11 +1,18 @@
 use native.Mathlib.Omega.{arith}
-use mathlib.Core.Logic.{inl, inr}
+use mathlib.Core.Path.{◌≡◌}
+use mathlib.Core.Logic.{⊎_elim, inl, inr}
+use Rattle.spec_bytes.proofs.words.Laws.{le_or_lt}
+use Rattle.spec_type_table.specs.declared.kind.Kind.TheVariants.{Struct, Union}
+use Rattle.spec_type_table.proofs.KindNames.{is, isnt}
 use Rattle.btf_open_causes.proofs.loops.TypeLoops.{deg_composite, deg_other}
 use Rattle.btf_open_causes.proofs.loops.degree.Goals as goal
-use Rattle.btf_open_causes.proofs.loops.degree.Goals.{in_default-via-then-kind-lt4, in_default-via-else-kind-lt4+else-kind-lt6}
 
-pub returns-in-4 : goal.returns-in-4
-returns-in-4 c = deg_composite _ _ _ _ (omega arith) (omega arith)
+pub returns-in-Struct : goal.returns-in-Struct
+returns-in-Struct c =
+    elim c.in-Struct.is [ inl e ↦ (let q : c.args.kind ≡ 4 = is _ _ c.numbered.ensures Struct e in deg_composite _ _ _ _ (omega arith) (omega arith)) | inr e ↦ (let q : c.args.kind ≡ 5 = is _ _ c.numbered.ensures Union e in deg_composite _ _ _ _ (omega arith) (omega arith)) ]
 
 pub returns-in_default : goal.returns-in_default
-returns-in_default c = deg_other _ _ _ _ (elim c.in_default.branch [ in_default-via-then-kind-lt4 w ↦ inl (omega arith) | in_default-via-else-kind-lt4+else-kind-lt6 w ↦ inr (omega arith) ]) _ c.count_at.ensures
+returns-in_default c =
+    let n4 : c.args.kind ≡ 4 → ⊥ = isnt _ _ c.numbered.ensures Struct c.in_default.not-Struct in
+    let n5 : c.args.kind ≡ 5 → ⊥ = isnt _ _ c.numbered.ensures Union c.in_default.not-Union in
+    deg_other _ _ _ _ (⊎_elim (λ l. inr l) (λ l. inl (omega arith)) (le_or_lt 6 c.args.kind)) _ c.count_at.ensures

@@ -1,21 +1,29 @@
-use Rattle.std.proofs.Common.{rules, sym}
 use native.Mathlib.Omega.{arith}
-use mathlib.Core.Logic.{inl, inr}
+use mathlib.Core.Path.{◌≡◌}
+use mathlib.Core.Logic.{⊎_elim, inl, inr}
+use Rattle.spec_bytes.proofs.words.Laws.{le_or_lt}
+use Rattle.spec_type_table.specs.declared.kind.Kind.TheVariants.{Array, Typedef, Volatile, Const, Restrict, TypeTag, FuncProto}
+use Rattle.spec_type_table.proofs.KindNames.{is, isnt}
+use Rattle.std.proofs.Common.{sym}
 use Rattle.btf_open_causes.proofs.prototypes.Held.{what_proto, what_one, what_through, what_none}
 use Rattle.btf_open_causes.proofs.prototypes.Cells.{says_no}
 use Rattle.btf_open_causes.proofs.prototypes.cell_of.Goals as goal
 
-pub returns-in-13 : goal.returns-in-13
-returns-in-13 c = sym (what_proto _ _ _ _ c.kind_at.ensures c.in-13.is)
+pub returns-in-Array : goal.returns-in-Array
+returns-in-Array c =
+    elim c.in-Array.is [ inl e ↦ (let q : c.kind_at.result ≡ 3 = is _ _ c.numbered.ensures Array e in sym (what_one _ _ _ _ c.kind_at.ensures (inl q))) | inr o ↦ elim o [ inl e ↦ (let q : c.kind_at.result ≡ 8 = is _ _ c.numbered.ensures Typedef e in sym (what_through _ _ _ _ c.kind_at.ensures (omega arith) (omega arith))) | inr o ↦ elim o [ inl e ↦ (let q : c.kind_at.result ≡ 9 = is _ _ c.numbered.ensures Volatile e in sym (what_through _ _ _ _ c.kind_at.ensures (omega arith) (omega arith))) | inr o ↦ elim o [ inl e ↦ (let q : c.kind_at.result ≡ 10 = is _ _ c.numbered.ensures Const e in sym (what_through _ _ _ _ c.kind_at.ensures (omega arith) (omega arith))) | inr o ↦ elim o [ inl e ↦ (let q : c.kind_at.result ≡ 11 = is _ _ c.numbered.ensures Restrict e in sym (what_through _ _ _ _ c.kind_at.ensures (omega arith) (omega arith))) | inr e ↦ (let q : c.kind_at.result ≡ 18 = is _ _ c.numbered.ensures TypeTag e in sym (what_one _ _ _ _ c.kind_at.ensures (inr q))) ] ] ] ] ]
+
+pub returns-in-FuncProto : goal.returns-in-FuncProto
+returns-in-FuncProto c =
+    (let q : c.kind_at.result ≡ 13 = is _ _ c.numbered.ensures FuncProto c.in-FuncProto.is in sym (what_proto _ _ _ _ c.kind_at.ensures q))
 
 pub returns-in_default : goal.returns-in_default
-returns-in_default c = says_no _ (what_none _ _ _ _ c.kind_at.ensures (omega arith) (omega arith) (inl (omega arith)))
-
-pub returns-in_default-2 : goal.returns-in_default-2
-returns-in_default-2 c = says_no _ (what_none _ _ _ _ c.kind_at.ensures (omega arith) (omega arith) (inr (omega arith)))
-
-pub returns-in-3 : goal.returns-in-3
-returns-in-3 c = sym (what_one _ _ _ _ c.kind_at.ensures (search rules))
-
-pub returns-in-3-2 : goal.returns-in-3-2
-returns-in-3-2 c = sym (what_through _ _ _ _ c.kind_at.ensures (omega arith) (omega arith))
+returns-in_default c =
+    let n3 : c.kind_at.result ≡ 3 → ⊥ = isnt _ _ c.numbered.ensures Array c.in_default.not-Array in
+    let n8 : c.kind_at.result ≡ 8 → ⊥ = isnt _ _ c.numbered.ensures Typedef c.in_default.not-Typedef in
+    let n9 : c.kind_at.result ≡ 9 → ⊥ = isnt _ _ c.numbered.ensures Volatile c.in_default.not-Volatile in
+    let n10 : c.kind_at.result ≡ 10 → ⊥ = isnt _ _ c.numbered.ensures Const c.in_default.not-Const in
+    let n11 : c.kind_at.result ≡ 11 → ⊥ = isnt _ _ c.numbered.ensures Restrict c.in_default.not-Restrict in
+    let n18 : c.kind_at.result ≡ 18 → ⊥ = isnt _ _ c.numbered.ensures TypeTag c.in_default.not-TypeTag in
+    let n13 : c.kind_at.result ≡ 13 → ⊥ = isnt _ _ c.numbered.ensures FuncProto c.in_default.not-FuncProto in
+    says_no _ (what_none _ _ _ _ c.kind_at.ensures (λ o. ⊎_elim n3 n18 o) n13 (⊎_elim (λ l. inr l) (λ l. inl (omega arith)) (le_or_lt 12 c.kind_at.result)))

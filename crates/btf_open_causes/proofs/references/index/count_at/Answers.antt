@@ -1,28 +1,34 @@
 use native.Mathlib.Omega.{arith}
-use mathlib.Core.Logic.{inl, inr}
+use mathlib.Core.Path.{◌≡◌}
+use mathlib.Core.Logic.{⊎_elim, inl, inr}
+use Rattle.spec_bytes.proofs.words.Laws.{le_or_lt}
+use Rattle.spec_type_table.specs.declared.kind.Kind.TheVariants.{Ptr, Array, Typedef, Volatile, Const, Restrict, TypeTag, Struct, Union, FuncProto}
+use Rattle.spec_type_table.proofs.KindNames.{is, isnt}
 use Rattle.btf_open_causes.proofs.references.Accessors.{count_by, count_any, count_none, count_tag, count_pointer, count_through, count_members, count_proto}
 use Rattle.btf_open_causes.proofs.references.index.count_at.Goals as goal
 
-pub returns-in-13 : goal.returns-in-13
-returns-in-13 c = count_by _ _ _ _ _ _ c.vlen_at.ensures (count_proto _ _ c.in-13.is)
+pub returns-in-Ptr : goal.returns-in-Ptr
+returns-in-Ptr c =
+    elim c.in-Ptr.is [ inl e ↦ (let q : c.args.kind ≡ 2 = is _ _ c.numbered.ensures Ptr e in count_any _ _ _ _ _ (count_pointer _ _ (omega arith) (omega arith))) | inr o ↦ elim o [ inl e ↦ (let q : c.args.kind ≡ 3 = is _ _ c.numbered.ensures Array e in count_any _ _ _ _ _ (count_pointer _ _ (omega arith) (omega arith))) | inr o ↦ elim o [ inl e ↦ (let q : c.args.kind ≡ 8 = is _ _ c.numbered.ensures Typedef e in count_any _ _ _ _ _ (count_through _ _ (omega arith) (omega arith))) | inr o ↦ elim o [ inl e ↦ (let q : c.args.kind ≡ 9 = is _ _ c.numbered.ensures Volatile e in count_any _ _ _ _ _ (count_through _ _ (omega arith) (omega arith))) | inr o ↦ elim o [ inl e ↦ (let q : c.args.kind ≡ 10 = is _ _ c.numbered.ensures Const e in count_any _ _ _ _ _ (count_through _ _ (omega arith) (omega arith))) | inr o ↦ elim o [ inl e ↦ (let q : c.args.kind ≡ 11 = is _ _ c.numbered.ensures Restrict e in count_any _ _ _ _ _ (count_through _ _ (omega arith) (omega arith))) | inr e ↦ (let q : c.args.kind ≡ 18 = is _ _ c.numbered.ensures TypeTag e in count_any _ _ _ _ _ (count_tag _ _ q)) ] ] ] ] ] ]
 
-pub returns-in-4 : goal.returns-in-4
-returns-in-4 c = count_by _ _ _ _ _ _ c.vlen_at-in-4.ensures (count_members _ _ (omega arith) (omega arith))
+pub returns-in-Struct : goal.returns-in-Struct
+returns-in-Struct c =
+    elim c.in-Struct.is [ inl e ↦ (let q : c.args.kind ≡ 4 = is _ _ c.numbered.ensures Struct e in count_by _ _ _ _ _ _ c.vlen_at.ensures (count_members _ _ (omega arith) (omega arith))) | inr e ↦ (let q : c.args.kind ≡ 5 = is _ _ c.numbered.ensures Union e in count_by _ _ _ _ _ _ c.vlen_at.ensures (count_members _ _ (omega arith) (omega arith))) ]
+
+pub returns-in-FuncProto : goal.returns-in-FuncProto
+returns-in-FuncProto c =
+    (let q : c.args.kind ≡ 13 = is _ _ c.numbered.ensures FuncProto c.in-FuncProto.is in count_by _ _ _ _ _ _ c.vlen_at-in-FuncProto.ensures (count_proto _ _ q))
 
 pub returns-in_default : goal.returns-in_default
-returns-in_default c = count_any _ _ _ _ _ (count_none _ _ (omega arith) (omega arith) (inl (omega arith)))
-
-pub returns-in_default-2 : goal.returns-in_default-2
-returns-in_default-2 c = count_any _ _ _ _ _ (count_none _ _ (omega arith) (omega arith) (inr (inl (omega arith, omega arith))))
-
-pub returns-in_default-3 : goal.returns-in_default-3
-returns-in_default-3 c = count_any _ _ _ _ _ (count_none _ _ (omega arith) (omega arith) (inr (inr (omega arith))))
-
-pub returns-in-2 : goal.returns-in-2
-returns-in-2 c = count_any _ _ _ _ _ (count_tag _ _ c.in-2.is)
-
-pub returns-in-2-2 : goal.returns-in-2-2
-returns-in-2-2 c = count_any _ _ _ _ _ (count_pointer _ _ (omega arith) (omega arith))
-
-pub returns-in-2-3 : goal.returns-in-2-3
-returns-in-2-3 c = count_any _ _ _ _ _ (count_through _ _ (omega arith) (omega arith))
+returns-in_default c =
+    let n2 : c.args.kind ≡ 2 → ⊥ = isnt _ _ c.numbered.ensures Ptr c.in_default.not-Ptr in
+    let n3 : c.args.kind ≡ 3 → ⊥ = isnt _ _ c.numbered.ensures Array c.in_default.not-Array in
+    let n8 : c.args.kind ≡ 8 → ⊥ = isnt _ _ c.numbered.ensures Typedef c.in_default.not-Typedef in
+    let n9 : c.args.kind ≡ 9 → ⊥ = isnt _ _ c.numbered.ensures Volatile c.in_default.not-Volatile in
+    let n10 : c.args.kind ≡ 10 → ⊥ = isnt _ _ c.numbered.ensures Const c.in_default.not-Const in
+    let n11 : c.args.kind ≡ 11 → ⊥ = isnt _ _ c.numbered.ensures Restrict c.in_default.not-Restrict in
+    let n18 : c.args.kind ≡ 18 → ⊥ = isnt _ _ c.numbered.ensures TypeTag c.in_default.not-TypeTag in
+    let n4 : c.args.kind ≡ 4 → ⊥ = isnt _ _ c.numbered.ensures Struct c.in_default.not-Struct in
+    let n5 : c.args.kind ≡ 5 → ⊥ = isnt _ _ c.numbered.ensures Union c.in_default.not-Union in
+    let n13 : c.args.kind ≡ 13 → ⊥ = isnt _ _ c.numbered.ensures FuncProto c.in_default.not-FuncProto in
+    count_any _ _ _ _ _ (count_none _ _ n13 n18 (⊎_elim (λ l. inr (inr (omega arith))) (λ l. ⊎_elim (λ m. inr (inl (omega arith, omega arith))) (λ m. inl (omega arith)) (le_or_lt 6 c.args.kind)) (le_or_lt 8 c.args.kind)))
