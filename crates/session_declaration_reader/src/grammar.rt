@@ -14,25 +14,21 @@ use crate::bases::{
 };
 use crate::tokens::token;
 
-// No such declaration.
-fn failed() -> Spot
-    ensures { result ≡ record { ok = false; at = 0; n = 0 } }
-{
-    Spot {
-        ok: false,
-        at: 0,
-        n: 0,
-    }
-}
-
 // A star before a declarator; or one in parentheses, or the name, with what stands behind it.
 #[cycle(grammar)]
-pub fn declarator(text: &[u8], at: usize, named: bool, left: u32, chain: &mut [u64], n: u32) -> Spot
+pub fn declarator(
+    text: &[u8],
+    at: usize,
+    named: bool,
+    left: u32,
+    chain: &mut [u64],
+    n: u32,
+) -> Option<Spot>
     ensures { outcome text.now result chain.new
         ≡ emits layer_items chain.old n (grammar.declarator left named (tokens_at text.now at)) }
 {
     if left == 0 {
-        return failed();
+        return None;
     }
     let t = token(text, at);
     if t.sign == 58 {
@@ -45,58 +41,65 @@ pub fn declarator(text: &[u8], at: usize, named: bool, left: u32, chain: &mut [u
         return suffixes(text, at, left - 1, chain, n);
     }
     if !is_word(t.sign) {
-        return failed();
+        return None;
     }
     suffixes(text, t.end, left - 1, chain, n)
 }
 
 // Behind a star.
 #[cycle(grammar)]
-fn starred(text: &[u8], at: usize, named: bool, left: u32, chain: &mut [u64], n: u32) -> Spot
+fn starred(
+    text: &[u8],
+    at: usize,
+    named: bool,
+    left: u32,
+    chain: &mut [u64],
+    n: u32,
+) -> Option<Spot>
     ensures { outcome text.now result chain.new
         ≡ emits layer_items chain.old n (emission.starred left named (tokens_at text.now at)) }
 {
     let q = quals_at(text, at);
     if !q.ok {
-        return failed();
+        return None;
     }
-    let r = declarator(text, q.end, named, left, chain, n);
-    if !r.ok {
-        return failed();
-    }
+    let r = declarator(text, q.end, named, left, chain, n)?;
     let m = put_quals(chain, r.n, q);
-    Spot {
-        ok: true,
+    Some(Spot {
         at: r.at,
         n: put_item(chain, m, 2, 0, 0),
-    }
+    })
 }
 
 // Behind the opening parenthesis of a declarator.
 #[cycle(grammar)]
-fn in_brackets(text: &[u8], at: usize, named: bool, left: u32, chain: &mut [u64], n: u32) -> Spot
+fn in_brackets(
+    text: &[u8],
+    at: usize,
+    named: bool,
+    left: u32,
+    chain: &mut [u64],
+    n: u32,
+) -> Option<Spot>
     ensures { outcome text.now result chain.new
         ≡ emits layer_items chain.old n (emission.in_brackets left named (tokens_at text.now at)) }
 {
-    let r = declarator(text, at, named, left, chain, n);
-    if !r.ok {
-        return failed();
-    }
+    let r = declarator(text, at, named, left, chain, n)?;
     let t = token(text, r.at);
     if t.sign != 57 {
-        return failed();
+        return None;
     }
     suffixes(text, t.end, left, chain, r.n)
 }
 
 // The counts and parameter lists behind a declarator.
 #[cycle(grammar)]
-fn suffixes(text: &[u8], at: usize, left: u32, chain: &mut [u64], n: u32) -> Spot
+fn suffixes(text: &[u8], at: usize, left: u32, chain: &mut [u64], n: u32) -> Option<Spot>
     ensures { outcome text.now result chain.new
         ≡ emits layer_items chain.old n (grammar.suffixes left chains.named (tokens_at text.now at)) }
 {
     if left == 0 {
-        return failed();
+        return None;
     }
     let t = token(text, at);
     if t.sign == 107 {
@@ -105,26 +108,22 @@ fn suffixes(text: &[u8], at: usize, left: u32, chain: &mut [u64], n: u32) -> Spo
     if t.sign == 56 {
         return protos(text, t.end, left - 1, chain, n);
     }
-    Spot {
-        ok: true,
-        at: at,
-        n: n,
-    }
+    Some(Spot { at, n })
 }
 
 // Behind an opening bracket.
 #[cycle(grammar)]
-fn counts(text: &[u8], at: usize, left: u32, chain: &mut [u64], n: u32) -> Spot
+fn counts(text: &[u8], at: usize, left: u32, chain: &mut [u64], n: u32) -> Option<Spot>
     ensures { outcome text.now result chain.new
         ≡ emits layer_items chain.old n (emission.counts left (tokens_at text.now at)) }
 {
     let t = token(text, at);
     if t.sign != 7 {
-        return failed();
+        return None;
     }
     let u = token(text, t.end);
     if u.sign != 109 {
-        return failed();
+        return None;
     }
     let m = put_item(chain, n, 3, t.count as u64, 0);
     suffixes(text, u.end, left, chain, m)
@@ -132,41 +131,36 @@ fn counts(text: &[u8], at: usize, left: u32, chain: &mut [u64], n: u32) -> Spot
 
 // Behind the opening parenthesis of a parameter list: the prototype, and what stands behind it.
 #[cycle(grammar)]
-fn protos(text: &[u8], at: usize, left: u32, chain: &mut [u64], n: u32) -> Spot
+fn protos(text: &[u8], at: usize, left: u32, chain: &mut [u64], n: u32) -> Option<Spot>
     ensures { outcome text.now result chain.new
         ≡ emits layer_items chain.old n (emission.protos left (tokens_at text.now at)) }
 {
-    let r = params(text, at, left, chain, n);
-    if !r.ok {
-        return failed();
-    }
+    let r = params(text, at, left, chain, n)?;
     suffixes(text, r.at, left, chain, r.n)
 }
 
 // A prototype with its parameters; a lone void is none.
 #[cycle(grammar)]
-fn params(text: &[u8], at: usize, left: u32, chain: &mut [u64], n: u32) -> Spot
+fn params(text: &[u8], at: usize, left: u32, chain: &mut [u64], n: u32) -> Option<Spot>
     ensures { outcome text.now result chain.new
         ≡ emits proto_items chain.old n (grammar.params left (tokens_at text.now at)) }
 {
     if left == 0 {
-        return failed();
+        return None;
     }
     let t = token(text, at);
     if t.sign == 57 {
-        return Spot {
-            ok: true,
+        return Some(Spot {
             at: t.end,
             n: put_item(chain, n, 4, 0, 0),
-        };
+        });
     }
     if void_before(text, at, 57) {
         let u = token(text, t.end);
-        return Spot {
-            ok: true,
+        return Some(Spot {
             at: u.end,
             n: put_item(chain, n, 4, 0, 0),
-        };
+        });
     }
     let m = put_item(chain, n, 4, 1, 0);
     param_list(text, at, left - 1, chain, m)
@@ -174,33 +168,37 @@ fn params(text: &[u8], at: usize, left: u32, chain: &mut [u64], n: u32) -> Spot
 
 // One parameter or more.
 #[cycle(grammar)]
-fn param_list(text: &[u8], at: usize, left: u32, chain: &mut [u64], n: u32) -> Spot
+fn param_list(text: &[u8], at: usize, left: u32, chain: &mut [u64], n: u32) -> Option<Spot>
     ensures { outcome text.now result chain.new
         ≡ emits param_items chain.old n (grammar.param_list left (tokens_at text.now at)) }
 {
     if left == 0 {
-        return failed();
+        return None;
     }
     if void_before(text, at, 57) {
-        return failed();
+        return None;
     }
     if void_before(text, at, 60) {
-        return failed();
+        return None;
     }
     let b = base_at(text, at, false);
     if !b.ok {
-        return failed();
+        return None;
     }
-    let r = declarator(text, b.end, false, left - 1, chain, n);
-    if !r.ok {
-        return failed();
-    }
+    let r = declarator(text, b.end, false, left - 1, chain, n)?;
     param_behind(text, r.at, left - 1, chain, r.n, b)
 }
 
 // Behind a parameter's layers: its base, and the parameters after it.
 #[cycle(grammar)]
-fn param_behind(text: &[u8], at: usize, left: u32, chain: &mut [u64], n: u32, b: Base) -> Spot
+fn param_behind(
+    text: &[u8],
+    at: usize,
+    left: u32,
+    chain: &mut [u64],
+    n: u32,
+    b: Base,
+) -> Option<Spot>
     ensures { outcome text.now result chain.new
         ≡ emits (behind_items b) chain.old n (grammar.param_end left (tokens_at text.now at)) }
 {
@@ -215,23 +213,19 @@ fn param_behind(text: &[u8], at: usize, left: u32, chain: &mut [u64], n: u32, b:
 
 // Behind a parameter.
 #[cycle(grammar)]
-fn param_end(text: &[u8], at: usize, left: u32, chain: &mut [u64], n: u32) -> Spot
+fn param_end(text: &[u8], at: usize, left: u32, chain: &mut [u64], n: u32) -> Option<Spot>
     ensures { outcome text.now result chain.new
         ≡ emits param_items chain.old n (grammar.param_end left (tokens_at text.now at)) }
 {
     if left == 0 {
-        return failed();
+        return None;
     }
     let t = token(text, at);
     if t.sign != 60 {
         if t.sign != 57 {
-            return failed();
+            return None;
         }
-        return Spot {
-            ok: true,
-            at: t.end,
-            n: n,
-        };
+        return Some(Spot { at: t.end, n });
     }
     let u = token(text, t.end);
     if u.sign == 62 {
@@ -241,17 +235,16 @@ fn param_end(text: &[u8], at: usize, left: u32, chain: &mut [u64], n: u32) -> Sp
 }
 
 // Behind `...`.
-fn dots_end(text: &[u8], at: usize, chain: &mut [u64], n: u32) -> Spot
+fn dots_end(text: &[u8], at: usize, chain: &mut [u64], n: u32) -> Option<Spot>
     ensures { outcome text.now result chain.new
         ≡ emits param_items chain.old n (emission.dots_end (tokens_at text.now at)) }
 {
     let t = token(text, at);
     if t.sign != 57 {
-        return failed();
+        return None;
     }
-    Spot {
-        ok: true,
+    Some(Spot {
         at: t.end,
         n: put_item(chain, n, 1, 0, 0),
-    }
+    })
 }

@@ -11,6 +11,9 @@ use base_bytes::limit;
 // Words of a chain: three for each of its entries.
 pub const CHAIN_WORDS: usize = 1536;
 
+// Calls of the grammar that may be open at once: no declaration of at most 512 entries needs more.
+const MOST_OPEN: u32 = 2056;
+
 // Sets every word to 0: an empty chain.
 fn refuse(chain: &mut [u64]) -> u32
     ensures { placed result chain.new ≡ placed 0 (replicate (length chain.old) 0) }
@@ -28,10 +31,9 @@ pub fn read_declaration(text: &[u8], chain: &mut [u64]) -> u32
     if !b.ok {
         return refuse(chain);
     }
-    let r = declarator(text, b.end, true, 2056, chain, 0);
-    if !r.ok {
+    let Some(r) = declarator(text, b.end, true, MOST_OPEN, chain, 0) else {
         return refuse(chain);
-    }
+    };
     let t = token(text, r.at);
     if t.sign != 0 {
         return refuse(chain);

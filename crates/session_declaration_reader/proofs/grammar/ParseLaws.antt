@@ -1,4 +1,5 @@
 -- Laws for the code of the grammar. Assumes nothing.
+use Rattle.std.specs.Prelude.{Option, Some, None}
 use Prim.Native.Nat.{ℕ, zero, suc, ◌+◌, ◌-◌}
 use mathlib.Core.Path.{◌≡◌, refl, ap, sym, ◌∙◌}
 use mathlib.Core.Bool.{Bool, true, false, ◌&&◌, ◌||◌}
@@ -29,8 +30,8 @@ Ts = List (Token Span)
 false_true : false ≡ true → ⊥
 false_true q = let k : ◌≡◌ {A = ℕ} 0 1 = cc in omega arith
 
-abbrev spot : Bool → ℕ → ℕ → Spot
-spot o at n = record { ok = o; at = at; n = n }
+abbrev spot : ℕ → ℕ → Spot
+spot at n = record { at = at; n = n }
 
 -- outcomes
 done_none : (ts : Ts) (p : Placed) → done ts p ≡ none → ⊥
@@ -42,28 +43,26 @@ pub record Read {A : Type 0} (f : A → List Item) (s : List ℕ) (r : Spot) (t 
   pub stores : placed r.n t ≡ placing c k (f value)
 
 module _ {A : Type 0} (f : A → List Item) (s : List ℕ) (c : List ℕ) (k : ℕ) where
-  pub split : (r : Spot) (t : List ℕ) (m : Reads Span A) → r.ok ≡ true → outcome s r t ≡ emits f c k m → Read f s r t c k m
+  pub split : (r : Spot) (t : List ℕ) (m : Reads Span A) → outcome s (Some r) t ≡ emits f c k m → Read f s r t c k m
   unfolding outcome emits
-  split r t (reads a ts) h e =
-      let o : done (tokens_at s r.at) (placed r.n t) ≡ done ts (placing c k (f a)) = sym (passed r.ok (done (tokens_at s r.at) (placed r.n t)) none h) ∙ e in
+  split r t (reads a ts) e =
+      let o : done (tokens_at s r.at) (placed r.n t) ≡ done ts (placing c k (f a)) = e in
       let p : ts ≡ tokens_at s r.at = cc in
       record { value = a; reads_it = ap (reads a) p; stores = cc }
-  split r t fails h e =
-      absurd (done_none (tokens_at s r.at) (placed r.n t) (sym (passed r.ok (done (tokens_at s r.at) (placed r.n t)) none h) ∙ e))
+  split r t fails e = absurd (done_none (tokens_at s r.at) (placed r.n t) e)
 
-  pub split_bad : (r : Spot) (t : List ℕ) (m : Reads Span A) → r.ok ≡ false → outcome s r t ≡ emits f c k m → m ≡ fails
+  pub split_bad : (t : List ℕ) (m : Reads Span A) → outcome s None t ≡ emits f c k m → m ≡ fails
   unfolding outcome emits
-  split_bad r t (reads a ts) h e =
-      absurd (done_none ts (placing c k (f a)) (sym (sym (failed r.ok (done (tokens_at s r.at) (placed r.n t)) none h) ∙ e)))
-  split_bad r t fails h e = refl
+  split_bad t (reads a ts) e = absurd (done_none ts (placing c k (f a)) (sym e))
+  split_bad t fails e = refl
 
-  good : (at z : ℕ) (t : List ℕ) (a : A) (m : Reads Span A) → m ≡ reads a (tokens_at s at) → placed z t ≡ placing c k (f a) → outcome s (spot true at z) t ≡ emits f c k m
+  good : (at z : ℕ) (t : List ℕ) (a : A) (m : Reads Span A) → m ≡ reads a (tokens_at s at) → placed z t ≡ placing c k (f a) → outcome s (Some (spot at z)) t ≡ emits f c k m
   unfolding outcome emits
   good at z t a m e p = ap (done (tokens_at s at)) p ∙ sym (ap (emits f c k) e)
 
-  bad : (x : Spot) → x ≡ spot false 0 0 → (t : List ℕ) (m : Reads Span A) → m ≡ fails → outcome s x t ≡ emits f c k m
+  bad : (t : List ℕ) (m : Reads Span A) → m ≡ fails → outcome s None t ≡ emits f c k m
   unfolding outcome emits
-  bad x p t m e = ap (λ (y : Spot). outcome s y t) p ∙ sym (ap (emits f c k) e)
+  bad t m e = sym (ap (emits f c k) e)
 
   through : (o : Done) (m m' : Reads Span A) → o ≡ emits f c k m' → m ≡ m' → o ≡ emits f c k m
   through o m m' e p = e ∙ sym (ap (emits f c k) p)
@@ -220,9 +219,9 @@ module _ (s : List ℕ) (at : ℕ) (left : ℕ) (n : Bool) (c : List ℕ) (k : �
   abbrev D : Reads Span (Layers Span)
   D = declarator left n (tokens_at s at)
 
-  pub decl_zero : left ≡ 0 → (x : Spot) → x ≡ spot false 0 0 → (t : List ℕ) → outcome s x t ≡ emits layer_items c k D
+  pub decl_zero : left ≡ 0 → (t : List ℕ) → outcome s None t ≡ emits layer_items c k D
   unfolding declarator
-  decl_zero e x p t = bad layer_items s c k x p t D (ap (λ (f : ℕ). declarator f n (tokens_at s at)) e)
+  decl_zero e t = bad layer_items s c k t D (ap (λ (f : ℕ). declarator f n (tokens_at s at)) e)
 
   module _ (ne : left ≡ 0 → ⊥) (t : Tok) (l : Looked s at t) where
     abbrev ts : Ts
@@ -266,8 +265,8 @@ module _ (s : List ℕ) (at : ℕ) (left : ℕ) (n : Bool) (c : List ℕ) (k : �
           is_word : begins_word ts ≡ r
           is_word = word_sign ts ∙ ap word_signed (sym l.sign_is) ∙ sym er
 
-          pub decl_nameless : r ≡ false → (x : Spot) → x ≡ spot false 0 0 → (c' : List ℕ) → outcome s x c' ≡ emits layer_items c k D
-          decl_nameless f x p c' = bad layer_items s c k x p c' D (core ∙ name_fails n ts _ e (is_word ∙ f))
+          pub decl_nameless : r ≡ false → (c' : List ℕ) → outcome s None c' ≡ emits layer_items c k D
+          decl_nameless f c' = bad layer_items s c k c' D (core ∙ name_fails n ts _ e (is_word ∙ f))
 
           pub decl_name : r ≡ true → (o : Done) → o ≡ emits layer_items c k (suffixes (left - 1) named (tokens_at s t.end)) → o ≡ emits layer_items c k D
           decl_name f o q = through layer_items s c k o D _ q (core ∙ name_goes n ts _ e (is_word ∙ f) ∙ ap (suffixes (left - 1) named) (sym l.rest_is))
@@ -285,26 +284,26 @@ module _ (s : List ℕ) (at : ℕ) (left : ℕ) (n : Bool) (c : List ℕ) (k : �
   abbrev S : Reads Span (Layers Span)
   S = starred left n (tokens_at s at)
 
-  pub star_twice : q.ok ≡ false → (x : Spot) → x ≡ spot false 0 0 → (c' : List ℕ) → outcome s x c' ≡ emits layer_items c k S
+  pub star_twice : q.ok ≡ false → (c' : List ℕ) → outcome s None c' ≡ emits layer_items c k S
   unfolding starred
-  star_twice f x p c' = bad layer_items s c k x p c' S (failed (distinct (qual_run (tokens_at s at))) _ fails (sym a.ok_is ∙ f))
+  star_twice f c' = bad layer_items s c k c' S (failed (distinct (qual_run (tokens_at s at))) _ fails (sym a.ok_is ∙ f))
 
-  module _ (y : q.ok ≡ true) (r : Spot) (c₁ : List ℕ) (e : outcome s r c₁ ≡ emits layer_items c k (declarator left n (tokens_at s q.end))) where
+  module _ (y : q.ok ≡ true) where
     opened : S ≡ and_then (declarator left n (tokens_at s q.end)) (λ l vs. reads (pointer (qual_run (tokens_at s at)) l) vs)
     unfolding starred
     opened =
         passed (distinct (qual_run (tokens_at s at))) _ fails (sym a.ok_is ∙ y)
         ∙ ap (λ (x : Ts). and_then (declarator left n x) (λ l vs. reads (pointer (qual_run (tokens_at s at)) l) vs)) (sym (a.rest_is y))
 
-    pub star_fails : r.ok ≡ false → (x : Spot) → x ≡ spot false 0 0 → (c' : List ℕ) → outcome s x c' ≡ emits layer_items c k S
-    star_fails f x p c' =
-        bad layer_items s c k x p c' S (opened ∙ then_fails (declarator left n (tokens_at s q.end)) _ (split_bad layer_items s c k r c₁ (declarator left n (tokens_at s q.end)) f e))
+    pub star_fails : (c₁ : List ℕ) → outcome s None c₁ ≡ emits layer_items c k (declarator left n (tokens_at s q.end)) → outcome s None c₁ ≡ emits layer_items c k S
+    star_fails c₁ e =
+        bad layer_items s c k c₁ S (opened ∙ then_fails (declarator left n (tokens_at s q.end)) _ (split_bad layer_items s c k c₁ (declarator left n (tokens_at s q.end)) e))
 
-    pub star_good : r.ok ≡ true → (m : ℕ) (c₂ : List ℕ) → placed m c₂ ≡ placing c₁ r.n (qual_items (quals_of q)) → (z : ℕ) (c₃ : List ℕ) → placed z c₃ ≡ placing c₂ m (item 2 0 0 ∷ [])
-        → outcome s (spot true r.at z) c₃ ≡ emits layer_items c k S
+    pub star_good : (r : Spot) (c₁ : List ℕ) → outcome s (Some r) c₁ ≡ emits layer_items c k (declarator left n (tokens_at s q.end)) → (m : ℕ) (c₂ : List ℕ) → placed m c₂ ≡ placing c₁ r.n (qual_items (quals_of q)) → (z : ℕ) (c₃ : List ℕ) → placed z c₃ ≡ placing c₂ m (item 2 0 0 ∷ [])
+        → outcome s (Some (spot r.at z)) c₃ ≡ emits layer_items c k S
     unfolding layer_items
-    star_good h m c₂ e₂ z c₃ e₃ =
-        let w = split layer_items s c k r c₁ (declarator left n (tokens_at s q.end)) h e in
+    star_good r c₁ e m c₂ e₂ z c₃ e₃ =
+        let w = split layer_items s c k r c₁ (declarator left n (tokens_at s q.end)) e in
         let qs : List Item = qual_items (qual_run (tokens_at s at)) in
         let i : placed m c₂ ≡ placing c₁ r.n qs = e₂ ∙ ap (λ (x : List Qualifier). placing c₁ r.n (qual_items x)) (a.list_is y) in
         good
@@ -321,22 +320,22 @@ module _ (s : List ℕ) (at : ℕ) (left : ℕ) (n : Bool) (c : List ℕ) (k : �
         (placing_then c k (layer_items w.value) (qs ++ item 2 0 0 ∷ []) r.n c₁ z c₃ w.stores (placing_then c₁ r.n qs (item 2 0 0 ∷ []) m c₂ z c₃ i e₃))
 
 -- in parentheses
-module _ (s : List ℕ) (at : ℕ) (left : ℕ) (n : Bool) (c : List ℕ) (k : ℕ) (r : Spot) (c₁ : List ℕ) (e : outcome s r c₁ ≡ emits layer_items c k (declarator left n (tokens_at s at))) where
+module _ (s : List ℕ) (at : ℕ) (left : ℕ) (n : Bool) (c : List ℕ) (k : ℕ) where
   abbrev I : Reads Span (Layers Span)
   I = in_brackets left n (tokens_at s at)
 
-  pub in_fails : r.ok ≡ false → (x : Spot) → x ≡ spot false 0 0 → (c' : List ℕ) → outcome s x c' ≡ emits layer_items c k I
+  pub in_fails : (c₁ : List ℕ) → outcome s None c₁ ≡ emits layer_items c k (declarator left n (tokens_at s at)) → outcome s None c₁ ≡ emits layer_items c k I
   unfolding in_brackets
-  in_fails f x p c' = bad layer_items s c k x p c' I (then_fails (declarator left n (tokens_at s at)) _ (split_bad layer_items s c k r c₁ (declarator left n (tokens_at s at)) f e))
+  in_fails c₁ e = bad layer_items s c k c₁ I (then_fails (declarator left n (tokens_at s at)) _ (split_bad layer_items s c k c₁ (declarator left n (tokens_at s at)) e))
 
-  module _ (h : r.ok ≡ true) (t : Tok) (l : Looked s r.at t) where
+  module _ (r : Spot) (c₁ : List ℕ) (e : outcome s (Some r) c₁ ≡ emits layer_items c k (declarator left n (tokens_at s at))) (t : Tok) (l : Looked s r.at t) where
     w : Read layer_items s r c₁ c k (declarator left n (tokens_at s at))
-    w = split layer_items s c k r c₁ (declarator left n (tokens_at s at)) h e
+    w = split layer_items s c k r c₁ (declarator left n (tokens_at s at)) e
 
-    pub in_unclosed : (t.sign ≡ 57 → ⊥) → (x : Spot) → x ≡ spot false 0 0 → (c' : List ℕ) → outcome s x c' ≡ emits layer_items c k I
+    pub in_unclosed : (t.sign ≡ 57 → ⊥) → (c' : List ℕ) → outcome s None c' ≡ emits layer_items c k I
     unfolding in_brackets
-    in_unclosed f x p c' =
-        bad layer_items s c k x p c' I (then_reads (declarator left n (tokens_at s at)) w.value (tokens_at s r.at) _ w.reads_it ∙ wants_not s r.at t l 41 _ f)
+    in_unclosed f c' =
+        bad layer_items s c k c' I (then_reads (declarator left n (tokens_at s at)) w.value (tokens_at s r.at) _ w.reads_it ∙ wants_not s r.at t l 41 _ f)
 
     pub in_good : t.sign ≡ 57 → (o : Done) → o ≡ emits layer_items c₁ r.n (suffixes left named (tokens_at s t.end)) → o ≡ emits layer_items c k I
     unfolding in_brackets
@@ -357,9 +356,9 @@ module _ (s : List ℕ) (at : ℕ) (left : ℕ) (c : List ℕ) (k : ℕ) where
   abbrev X : Reads Span (Layers Span)
   X = suffixes left named (tokens_at s at)
 
-  pub suffix_zero : left ≡ 0 → (x : Spot) → x ≡ spot false 0 0 → (c' : List ℕ) → outcome s x c' ≡ emits layer_items c k X
+  pub suffix_zero : left ≡ 0 → (c' : List ℕ) → outcome s None c' ≡ emits layer_items c k X
   unfolding suffixes
-  suffix_zero e x p c' = bad layer_items s c k x p c' X (ap (λ (f : ℕ). suffixes f named (tokens_at s at)) e)
+  suffix_zero e c' = bad layer_items s c k c' X (ap (λ (f : ℕ). suffixes f named (tokens_at s at)) e)
 
   module _ (ne : left ≡ 0 → ⊥) (t : Tok) (l : Looked s at t) where
     unrolls : X ≡ suffixes (suc (left - 1)) named (tokens_at s at)
@@ -388,7 +387,7 @@ module _ (s : List ℕ) (at : ℕ) (left : ℕ) (c : List ℕ) (k : ℕ) where
           ∙ passed (begins 40 (tokens_at s at)) (protos (left - 1) (rest (tokens_at s at))) _ (sees s at t l 40 e)
           ∙ ap (protos (left - 1)) (sym l.rest_is))
 
-      pub suffix_none : (t.sign ≡ 56 → ⊥) → outcome s (spot true at k) c ≡ emits layer_items c k X
+      pub suffix_none : (t.sign ≡ 56 → ⊥) → outcome s (Some (spot at k)) c ≡ emits layer_items c k X
       unfolding suffixes layer_items placing
       suffix_none n₂ =
           good
@@ -409,9 +408,9 @@ module _ (s : List ℕ) (at : ℕ) (left : ℕ) (c : List ℕ) (k : ℕ) (t : To
   abbrev C : Reads Span (Layers Span)
   C = counts left (tokens_at s at)
 
-  pub counts_none : (t.sign ≡ 7 → ⊥) → (x : Spot) → x ≡ spot false 0 0 → (c' : List ℕ) → outcome s x c' ≡ emits layer_items c k C
+  pub counts_none : (t.sign ≡ 7 → ⊥) → (c' : List ℕ) → outcome s None c' ≡ emits layer_items c k C
   unfolding counts
-  counts_none f x p c' = bad layer_items s c k x p c' C (count_not (tokens_at s at) _ (λ e. f (l.sign_is ∙ e)))
+  counts_none f c' = bad layer_items s c k c' C (count_not (tokens_at s at) _ (λ e. f (l.sign_is ∙ e)))
 
   module _ (y : t.sign ≡ 7) (u : Tok) (m : Looked s t.end u) where
     counted : C ≡ wanted 93 (tokens_at s t.end) (suffixes left (array t.count named))
@@ -421,8 +420,8 @@ module _ (s : List ℕ) (at : ℕ) (left : ℕ) (c : List ℕ) (k : ℕ) (t : To
         ∙ ap (λ (x : Ts). wanted 93 x (suffixes left (array (first_count (tokens_at s at)) named))) (sym l.rest_is)
         ∙ ap (λ (x : ℕ). wanted 93 (tokens_at s t.end) (suffixes left (array x named))) (sym l.count_is)
 
-    pub counts_open : (u.sign ≡ 109 → ⊥) → (x : Spot) → x ≡ spot false 0 0 → (c' : List ℕ) → outcome s x c' ≡ emits layer_items c k C
-    counts_open f x p c' = bad layer_items s c k x p c' C (counted ∙ wants_not s t.end u m 93 _ f)
+    pub counts_open : (u.sign ≡ 109 → ⊥) → (c' : List ℕ) → outcome s None c' ≡ emits layer_items c k C
+    counts_open f c' = bad layer_items s c k c' C (counted ∙ wants_not s t.end u m 93 _ f)
 
     pub counts_good : u.sign ≡ 109 → (z : ℕ) (c₁ : List ℕ) → placed z c₁ ≡ placing c k (item 3 t.count 0 ∷ [])
         → (o : Done) → o ≡ emits layer_items c₁ z (suffixes left named (tokens_at s u.end)) → o ≡ emits layer_items c k C
@@ -440,18 +439,19 @@ module _ (s : List ℕ) (at : ℕ) (left : ℕ) (c : List ℕ) (k : ℕ) (t : To
         (counted ∙ wants s t.end u m 93 _ f)
 
 -- prototypes
-module _ (s : List ℕ) (at : ℕ) (left : ℕ) (c : List ℕ) (k : ℕ) (r : Spot) (c₁ : List ℕ) (e : outcome s r c₁ ≡ emits proto_items c k (params left (tokens_at s at))) where
+module _ (s : List ℕ) (at : ℕ) (left : ℕ) (c : List ℕ) (k : ℕ) where
   abbrev P : Reads Span (Layers Span)
   P = protos left (tokens_at s at)
 
-  pub protos_fail : r.ok ≡ false → (x : Spot) → x ≡ spot false 0 0 → (c' : List ℕ) → outcome s x c' ≡ emits layer_items c k P
+  pub protos_fail : (c₁ : List ℕ) → outcome s None c₁ ≡ emits proto_items c k (params left (tokens_at s at)) → outcome s None c₁ ≡ emits layer_items c k P
   unfolding protos
-  protos_fail f x p c' = bad layer_items s c k x p c' P (then_fails (params left (tokens_at s at)) _ (split_bad proto_items s c k r c₁ (params left (tokens_at s at)) f e))
+  protos_fail c₁ e = bad layer_items s c k c₁ P (then_fails (params left (tokens_at s at)) _ (split_bad proto_items s c k c₁ (params left (tokens_at s at)) e))
 
-  pub protos_good : r.ok ≡ true → (o : Done) → o ≡ emits layer_items c₁ r.n (suffixes left named (tokens_at s r.at)) → o ≡ emits layer_items c k P
+  pub protos_good : (r : Spot) (c₁ : List ℕ) → outcome s (Some r) c₁ ≡ emits proto_items c k (params left (tokens_at s at))
+      → (o : Done) → o ≡ emits layer_items c₁ r.n (suffixes left named (tokens_at s r.at)) → o ≡ emits layer_items c k P
   unfolding protos layer_items
-  protos_good h o q =
-      let w = split proto_items s c k r c₁ (params left (tokens_at s at)) h e in
+  protos_good r c₁ e o q =
+      let w = split proto_items s c k r c₁ (params left (tokens_at s at)) e in
       through
       layer_items
       s
@@ -477,25 +477,25 @@ unfolding and_then
 all_then Q (reads a ts) k h = h a ts
 all_then Q fails k h = tt
 
-abbrev Some : Params Span → Type 0
-Some ps = (base_kind ps ≡ 6) × (any_params ps ≡ 1)
+abbrev Any : Params Span → Type 0
+Any ps = (base_kind ps ≡ 6) × (any_params ps ≡ 1)
 
-list_all : (f : ℕ) (ts : Ts) → All Some (param_list f ts)
+list_all : (f : ℕ) (ts : Ts) → All Any (param_list f ts)
 unfolding param_list read_base
 list_all zero ts = tt
 list_all (suc f) ts =
     all_elim
-    Some
+    Any
     (void_before 41 ts || void_before 44 ts)
     fails
     _
     tt
     (all_elim
-    Some
+    Any
     (distinct (qual_run ts) && is_base (word_run false (after_quals ts)))
     _
     fails
-    (all_then Some (declarator f false (after_words false (after_quals ts))) _ (λ l vs. all_then Some (param_end f vs) _ (λ ps xs. (refl, refl))))
+    (all_then Any (declarator f false (after_words false (after_quals ts))) _ (λ l vs. all_then Any (param_end f vs) _ (λ ps xs. (refl, refl))))
     tt)
 
 all_eq : {A : Type 0} → (Q : A → Type 0) (m m' : Reads Span A) → m ≡ m' → All Q m' → All Q m
@@ -528,7 +528,7 @@ end_all (suc f) ts true e =
     _
     _
     (all_elim (λ ps. base_kind ps ≡ 6) (begins 41 (rest (rest ts))) _ fails refl tt)
-    (all_map Some (λ ps. base_kind ps ≡ 6) (param_list f (rest ts)) (λ ps p. p.0) (list_all f (rest ts))))
+    (all_map Any (λ ps. base_kind ps ≡ 6) (param_list f (rest ts)) (λ ps p. p.0) (list_all f (rest ts))))
 end_all (suc f) ts false e =
     all_eq
     (λ ps. base_kind ps ≡ 1)
@@ -565,11 +565,11 @@ module _ (s : List ℕ) (at : ℕ) (left : ℕ) (c : List ℕ) (k : ℕ) (b : Ba
 
 -- behind `...`
 module _ (s : List ℕ) (at : ℕ) (c : List ℕ) (k : ℕ) (t : Tok) (l : Looked s at t) where
-  pub dots_open : (t.sign ≡ 57 → ⊥) → (x : Spot) → x ≡ spot false 0 0 → (c' : List ℕ) → outcome s x c' ≡ emits param_items c k (dots_end (tokens_at s at))
+  pub dots_open : (t.sign ≡ 57 → ⊥) → (c' : List ℕ) → outcome s None c' ≡ emits param_items c k (dots_end (tokens_at s at))
   unfolding dots_end
-  dots_open f x p c' = bad param_items s c k x p c' (dots_end (tokens_at s at)) (wants_not s at t l 41 _ f)
+  dots_open f c' = bad param_items s c k c' (dots_end (tokens_at s at)) (wants_not s at t l 41 _ f)
 
-  pub dots_good : t.sign ≡ 57 → (z : ℕ) (c₁ : List ℕ) → placed z c₁ ≡ placing c k (item 1 0 0 ∷ []) → outcome s (spot true t.end z) c₁ ≡ emits param_items c k (dots_end (tokens_at s at))
+  pub dots_good : t.sign ≡ 57 → (z : ℕ) (c₁ : List ℕ) → placed z c₁ ≡ placing c k (item 1 0 0 ∷ []) → outcome s (Some (spot t.end z)) c₁ ≡ emits param_items c k (dots_end (tokens_at s at))
   unfolding dots_end param_items
   dots_good f z c₁ e = good param_items s c k t.end z c₁ dots (dots_end (tokens_at s at)) (wants s at t l 41 _ f) e
 
@@ -578,9 +578,9 @@ module _ (s : List ℕ) (at : ℕ) (left : ℕ) (c : List ℕ) (k : ℕ) where
   abbrev E : Reads Span (Params Span)
   E = param_end left (tokens_at s at)
 
-  pub end_zero : left ≡ 0 → (x : Spot) → x ≡ spot false 0 0 → (c' : List ℕ) → outcome s x c' ≡ emits param_items c k E
+  pub end_zero : left ≡ 0 → (c' : List ℕ) → outcome s None c' ≡ emits param_items c k E
   unfolding param_end
-  end_zero e x p c' = bad param_items s c k x p c' E (ap (λ (f : ℕ). param_end f (tokens_at s at)) e)
+  end_zero e c' = bad param_items s c k c' E (ap (λ (f : ℕ). param_end f (tokens_at s at)) e)
 
   module _ (ne : left ≡ 0 → ⊥) (t : Tok) (l : Looked s at t) where
     unrolled : E ≡ param_end (suc (left - 1)) (tokens_at s at)
@@ -591,10 +591,10 @@ module _ (s : List ℕ) (at : ℕ) (left : ℕ) (c : List ℕ) (k : ℕ) where
       unfolding param_end
       closing = unrolled ∙ failed (begins 44 (tokens_at s at)) _ (wanted 41 (tokens_at s at) (λ us. reads closed us)) (misses s at t l 44 n₁)
 
-      pub end_open : (t.sign ≡ 57 → ⊥) → (x : Spot) → x ≡ spot false 0 0 → (c' : List ℕ) → outcome s x c' ≡ emits param_items c k E
-      end_open f x p c' = bad param_items s c k x p c' E (closing ∙ wants_not s at t l 41 _ f)
+      pub end_open : (t.sign ≡ 57 → ⊥) → (c' : List ℕ) → outcome s None c' ≡ emits param_items c k E
+      end_open f c' = bad param_items s c k c' E (closing ∙ wants_not s at t l 41 _ f)
 
-      pub end_close : t.sign ≡ 57 → outcome s (spot true t.end k) c ≡ emits param_items c k E
+      pub end_close : t.sign ≡ 57 → outcome s (Some (spot t.end k)) c ≡ emits param_items c k E
       unfolding param_items placing
       end_close f = good param_items s c k t.end k c closed E (closing ∙ wants s at t l 41 _ f) refl
 
@@ -641,15 +641,15 @@ module _ (s : List ℕ) (at : ℕ) (left : ℕ) (c : List ℕ) (k : ℕ) where
   abbrev R : Reads Span (Params Span)
   R = params left (tokens_at s at)
 
-  pub params_zero : left ≡ 0 → (x : Spot) → x ≡ spot false 0 0 → (c' : List ℕ) → outcome s x c' ≡ emits proto_items c k R
+  pub params_zero : left ≡ 0 → (c' : List ℕ) → outcome s None c' ≡ emits proto_items c k R
   unfolding params
-  params_zero e x p c' = bad proto_items s c k x p c' R (ap (λ (f : ℕ). params f (tokens_at s at)) e)
+  params_zero e c' = bad proto_items s c k c' R (ap (λ (f : ℕ). params f (tokens_at s at)) e)
 
   module _ (ne : left ≡ 0 → ⊥) (t : Tok) (l : Looked s at t) where
     rolled : R ≡ params (suc (left - 1)) (tokens_at s at)
     rolled = let e : left ≡ suc (left - 1) = omega arith in ap (λ (f : ℕ). params f (tokens_at s at)) e
 
-    pub params_close : t.sign ≡ 57 → (z : ℕ) (c₁ : List ℕ) → placed z c₁ ≡ placing c k (item 4 0 0 ∷ []) → outcome s (spot true t.end z) c₁ ≡ emits proto_items c k R
+    pub params_close : t.sign ≡ 57 → (z : ℕ) (c₁ : List ℕ) → placed z c₁ ≡ placing c k (item 4 0 0 ∷ []) → outcome s (Some (spot t.end z)) c₁ ≡ emits proto_items c k R
     unfolding params param_items
     params_close f z c₁ e =
         good
@@ -674,7 +674,7 @@ module _ (s : List ℕ) (at : ℕ) (left : ℕ) (c : List ℕ) (k : ℕ) where
       void_is = void_sign 41 (tokens_at s at) ∙ sym ev
 
       pub params_void : v ≡ true → (u : Tok) → Looked s t.end u → (z : ℕ) (c₁ : List ℕ) → placed z c₁ ≡ placing c k (item 4 0 0 ∷ [])
-          → outcome s (spot true u.end z) c₁ ≡ emits proto_items c k R
+          → outcome s (Some (spot u.end z)) c₁ ≡ emits proto_items c k R
       unfolding param_items
       params_void f u m z c₁ e =
           good
@@ -700,7 +700,7 @@ module _ (s : List ℕ) (at : ℕ) (left : ℕ) (c : List ℕ) (k : ℕ) where
           ∙ go (param_list (left - 1) (tokens_at s at)) (list_all (left - 1) (tokens_at s at))
           ∙ sym (ap (emits proto_items c k) (listed ∙ failed (void_before 41 (tokens_at s at)) (reads closed (rest (rest (tokens_at s at)))) _ (void_is ∙ f)))
         where
-          go : (x : Reads Span (Params Span)) → All Some x → emits param_items c₁ z x ≡ emits proto_items c k x
+          go : (x : Reads Span (Params Span)) → All Any x → emits param_items c₁ z x ≡ emits proto_items c k x
           go (reads ps us) h =
               ap
               (done us)
@@ -721,9 +721,9 @@ module _ (s : List ℕ) (at : ℕ) (left : ℕ) (c : List ℕ) (k : ℕ) where
   abbrev Q : Reads Span (Params Span)
   Q = param_list left (tokens_at s at)
 
-  pub list_zero : left ≡ 0 → (x : Spot) → x ≡ spot false 0 0 → (c' : List ℕ) → outcome s x c' ≡ emits param_items c k Q
+  pub list_zero : left ≡ 0 → (c' : List ℕ) → outcome s None c' ≡ emits param_items c k Q
   unfolding param_list
-  list_zero e x p c' = bad param_items s c k x p c' Q (ap (λ (f : ℕ). param_list f (tokens_at s at)) e)
+  list_zero e c' = bad param_items s c k c' Q (ap (λ (f : ℕ). param_list f (tokens_at s at)) e)
 
   module _ (ne : left ≡ 0 → ⊥) (v₁ : Bool) (e₁ : v₁ ≡ void_signed 57 (tokens_at s at)) where
     opens : Q ≡ param_list (suc (left - 1)) (tokens_at s at)
@@ -732,18 +732,18 @@ module _ (s : List ℕ) (at : ℕ) (left : ℕ) (c : List ℕ) (k : ℕ) where
     is_41 : void_before 41 (tokens_at s at) ≡ v₁
     is_41 = void_sign 41 (tokens_at s at) ∙ sym e₁
 
-    pub list_void : v₁ ≡ true → (x : Spot) → x ≡ spot false 0 0 → (c' : List ℕ) → outcome s x c' ≡ emits param_items c k Q
+    pub list_void : v₁ ≡ true → (c' : List ℕ) → outcome s None c' ≡ emits param_items c k Q
     unfolding param_list
-    list_void f x p c' = bad param_items s c k x p c' Q (opens ∙ passed (void_before 41 (tokens_at s at) || void_before 44 (tokens_at s at)) fails _ (rw (is_41 ∙ f)))
+    list_void f c' = bad param_items s c k c' Q (opens ∙ passed (void_before 41 (tokens_at s at) || void_before 44 (tokens_at s at)) fails _ (rw (is_41 ∙ f)))
 
     module _ (n₁ : v₁ ≡ false) (v₂ : Bool) (e₂ : v₂ ≡ void_signed 60 (tokens_at s at)) where
       is_44 : void_before 44 (tokens_at s at) ≡ v₂
       is_44 = void_sign 44 (tokens_at s at) ∙ sym e₂
 
-      pub list_void_more : v₂ ≡ true → (x : Spot) → x ≡ spot false 0 0 → (c' : List ℕ) → outcome s x c' ≡ emits param_items c k Q
+      pub list_void_more : v₂ ≡ true → (c' : List ℕ) → outcome s None c' ≡ emits param_items c k Q
       unfolding param_list
-      list_void_more f x p c' =
-          bad param_items s c k x p c' Q (opens ∙ passed (void_before 41 (tokens_at s at) || void_before 44 (tokens_at s at)) fails _ (rw (is_41 ∙ n₁, is_44 ∙ f)))
+      list_void_more f c' =
+          bad param_items s c k c' Q (opens ∙ passed (void_before 41 (tokens_at s at) || void_before 44 (tokens_at s at)) fails _ (rw (is_41 ∙ n₁, is_44 ∙ f)))
 
       module _ (n₂ : v₂ ≡ false) (b : Base) (a : BaseAt s at false b) where
         abbrev us : Ts
@@ -759,35 +759,34 @@ module _ (s : List ℕ) (at : ℕ) (left : ℕ) (c : List ℕ) (k : ℕ) where
         unfolding param_list read_base
         based = opens ∙ failed (void_before 41 (tokens_at s at) || void_before 44 (tokens_at s at)) fails _ (rw (is_41 ∙ n₁, is_44 ∙ n₂))
 
-        pub list_baseless : b.ok ≡ false → (x : Spot) → x ≡ spot false 0 0 → (c' : List ℕ) → outcome s x c' ≡ emits param_items c k Q
-        list_baseless f x p c' = bad param_items s c k x p c' Q (based ∙ failed _ (K (left - 1)) fails (sym a.ok_is ∙ f))
+        pub list_baseless : b.ok ≡ false → (c' : List ℕ) → outcome s None c' ≡ emits param_items c k Q
+        list_baseless f c' = bad param_items s c k c' Q (based ∙ failed _ (K (left - 1)) fails (sym a.ok_is ∙ f))
 
-        module _ (y : b.ok ≡ true) (r : Spot) (c₁ : List ℕ) (e : outcome s r c₁ ≡ emits layer_items c k (declarator (left - 1) false (tokens_at s b.end))) where
+        module _ (y : b.ok ≡ true) where
           here : Q ≡ K (left - 1)
           here = based ∙ passed _ (K (left - 1)) fails (sym a.ok_is ∙ y)
 
           same : declarator (left - 1) false us ≡ declarator (left - 1) false (tokens_at s b.end)
           same = ap (declarator (left - 1) false) (sym (a.rest_is y))
 
-          pub list_fails : r.ok ≡ false → (x : Spot) → x ≡ spot false 0 0 → (c' : List ℕ) → outcome s x c' ≡ emits param_items c k Q
-          list_fails f x p c' =
+          pub list_fails : (c₁ : List ℕ) → outcome s None c₁ ≡ emits layer_items c k (declarator (left - 1) false (tokens_at s b.end)) → outcome s None c₁ ≡ emits param_items c k Q
+          list_fails c₁ e =
               bad
               param_items
               s
               c
               k
-              x
-              p
-              c'
+              c₁
               Q
-              (here ∙ then_fails (declarator (left - 1) false us) _ (same ∙ split_bad layer_items s c k r c₁ (declarator (left - 1) false (tokens_at s b.end)) f e))
+              (here ∙ then_fails (declarator (left - 1) false us) _ (same ∙ split_bad layer_items s c k c₁ (declarator (left - 1) false (tokens_at s b.end)) e))
 
-          pub list_good : r.ok ≡ true → (o : Done) → o ≡ emits (behind_items b) c₁ r.n (param_end (left - 1) (tokens_at s r.at)) → o ≡ emits param_items c k Q
+          pub list_good : (r : Spot) (c₁ : List ℕ) → outcome s (Some r) c₁ ≡ emits layer_items c k (declarator (left - 1) false (tokens_at s b.end))
+              → (o : Done) → o ≡ emits (behind_items b) c₁ r.n (param_end (left - 1) (tokens_at s r.at)) → o ≡ emits param_items c k Q
           unfolding emits and_then param_items
-          list_good h o q = q ∙ go (param_end (left - 1) (tokens_at s r.at)) ∙ sym (ap (emits param_items c k) read_it)
+          list_good r c₁ e o q = q ∙ go (param_end (left - 1) (tokens_at s r.at)) ∙ sym (ap (emits param_items c k) read_it)
             where
               w : Read layer_items s r c₁ c k (declarator (left - 1) false (tokens_at s b.end))
-              w = split layer_items s c k r c₁ (declarator (left - 1) false (tokens_at s b.end)) h e
+              w = split layer_items s c k r c₁ (declarator (left - 1) false (tokens_at s b.end)) e
 
               read_it : Q ≡ and_then (param_end (left - 1) (tokens_at s r.at)) (λ ps xs. reads (param (qual_run (tokens_at s at)) ws w.value ps) xs)
               read_it = here ∙ then_reads (declarator (left - 1) false us) w.value (tokens_at s r.at) _ (same ∙ w.reads_it)

@@ -1,4 +1,5 @@
 -- Laws for the reader: what it returns is the chain of the definition, or 19. Assumes nothing.
+use Rattle.std.specs.Prelude.{Some, None}
 use Prim.Native.Nat.{ℕ, suc, ◌+◌, ◌≤◌, ◌<◌}
 use mathlib.Core.Path.{◌≡◌, refl, ap, sym, ◌∙◌}
 use mathlib.Core.Bool.{Bool, true, false, ◌&&◌}
@@ -174,24 +175,25 @@ module _ (s : List ℕ) (c : List ℕ) (b : Base) (a : BaseAt s 0 true b) where
   unfolding whole
   read_baseless f = refuses fails (based ∙ failed _ K fails (sym a.ok_is ∙ f)) refl
 
-  module _ (y : b.ok ≡ true) (r : Spot) (c₁ : List ℕ) (e : outcome s r c₁ ≡ emits layer_items c 0 (declarator 2056 true (tokens_at s b.end))) where
+  module _ (y : b.ok ≡ true) where
     here : read_tokens ts ≡ K
     here = based ∙ passed _ K fails (sym a.ok_is ∙ y)
 
     same : declarator most true us ≡ declarator 2056 true (tokens_at s b.end)
     same = ap (declarator 2056 true) (sym (a.rest_is y))
 
-    pub read_fails : r.ok ≡ false → (n : ℕ) (k : ℕ) (c₃ : List ℕ) → k ≡ length c → placed n c₃ ≡ placed 0 (replicate k 0) → placed n c₃ ≡ read_into s c
+    pub read_fails : (c₁ : List ℕ) → outcome s None c₁ ≡ emits layer_items c 0 (declarator 2056 true (tokens_at s b.end))
+        → (n : ℕ) (k : ℕ) (c₃ : List ℕ) → k ≡ length c → placed n c₃ ≡ placed 0 (replicate k 0) → placed n c₃ ≡ read_into s c
     unfolding whole
-    read_fails f =
+    read_fails c₁ e =
         refuses
         fails
-        (here ∙ parse.then_fails (declarator most true us) _ (same ∙ parse.split_bad layer_items s c 0 r c₁ (declarator 2056 true (tokens_at s b.end)) f e))
+        (here ∙ parse.then_fails (declarator most true us) _ (same ∙ parse.split_bad layer_items s c 0 c₁ (declarator 2056 true (tokens_at s b.end)) e))
         refl
 
-    module _ (h : r.ok ≡ true) (t : Tok) (l : Looked s r.at t) where
+    module _ (r : Spot) (c₁ : List ℕ) (e : outcome s (Some r) c₁ ≡ emits layer_items c 0 (declarator 2056 true (tokens_at s b.end))) (t : Tok) (l : Looked s r.at t) where
       w : parse.Read layer_items s r c₁ c 0 (declarator 2056 true (tokens_at s b.end))
-      w = parse.split layer_items s c 0 r c₁ (declarator 2056 true (tokens_at s b.end)) h e
+      w = parse.split layer_items s c 0 r c₁ (declarator 2056 true (tokens_at s b.end)) e
 
       is : read_tokens ts ≡ reads (made w.value) (tokens_at s r.at)
       is = here ∙ parse.then_reads (declarator most true us) w.value (tokens_at s r.at) _ (same ∙ w.reads_it)

@@ -1,5 +1,5 @@
 -- What the code of the grammar leaves: entries stored one after another, and the tokens behind what was read.
-use Rattle.std.specs.Prelude.{ℕ, Bool, true, false, List, ◌∷◌, ◌++◌}
+use Rattle.std.specs.Prelude.{ℕ, Option, Some, None, Bool, true, false, List, ◌∷◌, ◌++◌}
 use Rattle.session_declaration_reader.specs.grammar.Chain.{Layers, named, pointer, array, proto, Params, dots}
 use Rattle.session_declaration_reader.specs.tokens.Tokens.{Token}
 use Rattle.session_declaration_reader.specs.grammar.Grammar.{Reads, reads, fails, and_then, wanted, wanted_count, declarator, suffixes}
@@ -22,8 +22,9 @@ emits f t n (reads a ts) = done ts (placing t n (f a))
 emits f t n fails = none
 
 -- what a spot and the words say
-unfoldable pub outcome : List ℕ → Spot → List ℕ → Done
-outcome s r t = elim r.ok [ true ↦ done (tokens_at s r.at) (Placed.placed r.n t) | false ↦ none ]
+unfoldable pub outcome : List ℕ → Option Spot → List ℕ → Done
+outcome s (Some r) t = done (tokens_at s r.at) (Placed.placed r.n t)
+outcome s None t = none
 
 -- a prototype and its parameters
 abbrev pub proto_items : Params Span → List Item

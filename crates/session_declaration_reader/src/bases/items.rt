@@ -6,10 +6,9 @@ ghost use Rattle.session_declaration_reader.specs.bases.Looking.{qual_of, quals_
 use crate::bases::{Base, Quals, is_qualifier};
 use base_bytes::limit;
 
-// Where reading stands in the text, how many entries there are; or that there is no such declaration.
+// Where reading stands in the text, and how many entries there are.
 #[derive(Clone, Copy)]
 pub struct Spot {
-    pub ok: bool,
     pub at: usize,
     pub n: u32,
 }

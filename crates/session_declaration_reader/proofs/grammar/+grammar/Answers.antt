@@ -3,16 +3,16 @@ use Rattle.session_declaration_reader.proofs.grammar.ParseLaws as laws
 use Rattle.session_declaration_reader.proofs.grammar.+grammar.Goals as goal
 
 pub counts-returns-then-t-ne7 : goal.counts-returns-then-t-ne7
-counts-returns-then-t-ne7 t c = laws.counts_none _ _ _ _ _ _ c.token-t.ensures c.if-t-ne7.true _ c.failed.ensures _
+counts-returns-then-t-ne7 t c = laws.counts_none _ _ _ _ _ _ c.token-t.ensures c.if-t-ne7.true _
 
 pub counts-returns-then-u-ne109 : goal.counts-returns-then-u-ne109
-counts-returns-then-u-ne109 t c = laws.counts_open _ _ _ _ _ _ c.token-t.ensures c.if-t-ne7.false _ c.token-u.ensures c.if-u-ne109.true _ c.failed-then-u-ne109.ensures _
+counts-returns-then-u-ne109 t c = laws.counts_open _ _ _ _ _ _ c.token-t.ensures c.if-t-ne7.false _ c.token-u.ensures c.if-u-ne109.true _
 
 pub counts-returns : goal.counts-returns
 counts-returns t c = laws.counts_good _ _ _ _ _ _ c.token-t.ensures c.if-t-ne7.false _ c.token-u.ensures c.if-u-ne109.false _ _ c.put_item-m.ensures _ c.suffixes.ensures
 
 pub declarator-returns-then-left-eq0 : goal.declarator-returns-then-left-eq0
-declarator-returns-then-left-eq0 t c = laws.decl_zero _ _ _ _ _ _ c.if-left-eq0.true _ c.failed.ensures _
+declarator-returns-then-left-eq0 t c = laws.decl_zero _ _ _ _ _ _ c.if-left-eq0.true _
 
 pub declarator-returns-then-t-eq58 : goal.declarator-returns-then-t-eq58
 declarator-returns-then-t-eq58 t c = laws.decl_star _ _ _ _ _ _ c.if-left-eq0.false _ c.token-t.ensures c.if-t-eq58.true _ c.starred.ensures
@@ -24,19 +24,19 @@ pub declarator-returns-then-not-named : goal.declarator-returns-then-not-named
 declarator-returns-then-not-named t c = laws.decl_unnamed _ _ _ _ _ _ c.if-left-eq0.false _ c.token-t.ensures c.if-t-eq58.false _ c.is_bracketed.ensures c.if-is_bracketed.false c.if-not-named.true _ c.suffixes.ensures
 
 pub declarator-returns-then-not-is_word : goal.declarator-returns-then-not-is_word
-declarator-returns-then-not-is_word t c = laws.decl_nameless _ _ _ _ _ _ c.if-left-eq0.false _ c.token-t.ensures c.if-t-eq58.false _ c.is_bracketed.ensures c.if-is_bracketed.false c.if-not-named.false _ c.is_word.ensures c.if-not-is_word.true _ c.failed-then-not-is_word.ensures _
+declarator-returns-then-not-is_word t c = laws.decl_nameless _ _ _ _ _ _ c.if-left-eq0.false _ c.token-t.ensures c.if-t-eq58.false _ c.is_bracketed.ensures c.if-is_bracketed.false c.if-not-named.false _ c.is_word.ensures c.if-not-is_word.true _
 
 pub declarator-returns : goal.declarator-returns
 declarator-returns t c = laws.decl_name _ _ _ _ _ _ c.if-left-eq0.false _ c.token-t.ensures c.if-t-eq58.false _ c.is_bracketed.ensures c.if-is_bracketed.false c.if-not-named.false _ c.is_word.ensures c.if-not-is_word.false _ c.suffixes-2.ensures
 
-pub in_brackets-returns-then-not-r : goal.in_brackets-returns-then-not-r
-in_brackets-returns-then-not-r t c = laws.in_fails _ _ _ _ _ _ _ _ c.declarator-r.ensures (not-true _ c.if-not-r.true) _ c.failed.ensures _
+pub in_brackets-returns-in_err-r : goal.in_brackets-returns-in_err-r
+in_brackets-returns-in_err-r t c = rw c.from_residual.ensures (laws.in_fails _ _ _ _ _ _ _ c.in_err-r.ensures)
 
 pub in_brackets-returns-then-t-ne57 : goal.in_brackets-returns-then-t-ne57
-in_brackets-returns-then-t-ne57 t c = laws.in_unclosed _ _ _ _ _ _ _ _ c.declarator-r.ensures (not-false _ c.if-not-r.false) _ c.token-t.ensures c.if-t-ne57.true _ c.failed-then-t-ne57.ensures _
+in_brackets-returns-then-t-ne57 t c = laws.in_unclosed _ _ _ _ _ _ _ _ c.in_ok-r.ensures _ c.token-t.ensures c.if-t-ne57.true _
 
 pub in_brackets-returns : goal.in_brackets-returns
-in_brackets-returns t c = laws.in_good _ _ _ _ _ _ _ _ c.declarator-r.ensures (not-false _ c.if-not-r.false) _ c.token-t.ensures c.if-t-ne57.false _ c.suffixes.ensures
+in_brackets-returns t c = laws.in_good _ _ _ _ _ _ _ _ c.in_ok-r.ensures _ c.token-t.ensures c.if-t-ne57.false _ c.suffixes.ensures
 
 pub param_behind-returns-then-t-eq60 : goal.param_behind-returns-then-t-eq60
 param_behind-returns-then-t-eq60 t c = laws.behind_comma _ _ _ _ _ c.args.b _ c.token-t.ensures c.if-t-eq60.true _ _ c.put_base-m.ensures _ c.param_end.ensures
@@ -45,10 +45,10 @@ pub param_behind-returns : goal.param_behind-returns
 param_behind-returns t c = laws.behind_last _ _ _ _ _ c.args.b _ c.token-t.ensures c.if-t-eq60.false _ _ c.put_base-m-2.ensures _ c.param_end-2.ensures
 
 pub param_end-returns-then-left-eq0 : goal.param_end-returns-then-left-eq0
-param_end-returns-then-left-eq0 t c = laws.end_zero _ _ _ _ _ c.if-left-eq0.true _ c.failed.ensures _
+param_end-returns-then-left-eq0 t c = laws.end_zero _ _ _ _ _ c.if-left-eq0.true _
 
 pub param_end-returns-then-t-ne57 : goal.param_end-returns-then-t-ne57
-param_end-returns-then-t-ne57 t c = laws.end_open _ _ _ _ _ c.if-left-eq0.false _ c.token-t.ensures c.if-t-ne60.true c.if-t-ne57.true _ c.failed-then-t-ne57.ensures _
+param_end-returns-then-t-ne57 t c = laws.end_open _ _ _ _ _ c.if-left-eq0.false _ c.token-t.ensures c.if-t-ne60.true c.if-t-ne57.true _
 
 pub param_end-returns-then-t-ne60 : goal.param_end-returns-then-t-ne60
 param_end-returns-then-t-ne60 t c = laws.end_close _ _ _ _ _ c.if-left-eq0.false _ c.token-t.ensures c.if-t-ne60.true c.if-t-ne57.false
@@ -60,25 +60,25 @@ pub param_end-returns : goal.param_end-returns
 param_end-returns t c = laws.end_list _ _ _ _ _ c.if-left-eq0.false _ c.token-t.ensures c.if-t-ne60.false _ c.token-u.ensures c.if-u-eq62.false _ c.param_list.ensures
 
 pub param_list-returns-then-left-eq0 : goal.param_list-returns-then-left-eq0
-param_list-returns-then-left-eq0 t c = laws.list_zero _ _ _ _ _ c.if-left-eq0.true _ c.failed.ensures _
+param_list-returns-then-left-eq0 t c = laws.list_zero _ _ _ _ _ c.if-left-eq0.true _
 
 pub param_list-returns-then-void_before : goal.param_list-returns-then-void_before
-param_list-returns-then-void_before t c = laws.list_void _ _ _ _ _ c.if-left-eq0.false _ c.void_before.ensures c.if-void_before.true _ c.failed-then-void_before.ensures _
+param_list-returns-then-void_before t c = laws.list_void _ _ _ _ _ c.if-left-eq0.false _ c.void_before.ensures c.if-void_before.true _
 
 pub param_list-returns-then-void_before-2 : goal.param_list-returns-then-void_before-2
-param_list-returns-then-void_before-2 t c = laws.list_void_more _ _ _ _ _ c.if-left-eq0.false _ c.void_before.ensures c.if-void_before.false _ c.void_before-2.ensures c.if-void_before-2.true _ c.failed-then-void_before-2.ensures _
+param_list-returns-then-void_before-2 t c = laws.list_void_more _ _ _ _ _ c.if-left-eq0.false _ c.void_before.ensures c.if-void_before.false _ c.void_before-2.ensures c.if-void_before-2.true _
 
 pub param_list-returns-then-not-b : goal.param_list-returns-then-not-b
-param_list-returns-then-not-b t c = laws.list_baseless _ _ _ _ _ c.if-left-eq0.false _ c.void_before.ensures c.if-void_before.false _ c.void_before-2.ensures c.if-void_before-2.false _ c.base_at-b.ensures (not-true _ c.if-not-b.true) _ c.failed-then-not-b.ensures _
+param_list-returns-then-not-b t c = laws.list_baseless _ _ _ _ _ c.if-left-eq0.false _ c.void_before.ensures c.if-void_before.false _ c.void_before-2.ensures c.if-void_before-2.false _ c.base_at-b.ensures (not-true _ c.if-not-b.true) _
 
-pub param_list-returns-then-not-r : goal.param_list-returns-then-not-r
-param_list-returns-then-not-r t c = laws.list_fails _ _ _ _ _ c.if-left-eq0.false _ c.void_before.ensures c.if-void_before.false _ c.void_before-2.ensures c.if-void_before-2.false _ c.base_at-b.ensures (not-false _ c.if-not-b.false) _ _ c.declarator-r.ensures (not-true _ c.if-not-r.true) _ c.failed-then-not-r.ensures _
+pub param_list-returns-in_err-r : goal.param_list-returns-in_err-r
+param_list-returns-in_err-r t c = rw c.from_residual.ensures (laws.list_fails _ _ _ _ _ c.if-left-eq0.false _ c.void_before.ensures c.if-void_before.false _ c.void_before-2.ensures c.if-void_before-2.false _ c.base_at-b.ensures (not-false _ c.if-not-b.false) _ c.in_err-r.ensures)
 
 pub param_list-returns : goal.param_list-returns
-param_list-returns t c = laws.list_good _ _ _ _ _ c.if-left-eq0.false _ c.void_before.ensures c.if-void_before.false _ c.void_before-2.ensures c.if-void_before-2.false _ c.base_at-b.ensures (not-false _ c.if-not-b.false) _ _ c.declarator-r.ensures (not-false _ c.if-not-r.false) _ c.param_behind.ensures
+param_list-returns t c = laws.list_good _ _ _ _ _ c.if-left-eq0.false _ c.void_before.ensures c.if-void_before.false _ c.void_before-2.ensures c.if-void_before-2.false _ c.base_at-b.ensures (not-false _ c.if-not-b.false) _ _ c.in_ok-r.ensures _ c.param_behind.ensures
 
 pub params-returns-then-left-eq0 : goal.params-returns-then-left-eq0
-params-returns-then-left-eq0 t c = laws.params_zero _ _ _ _ _ c.if-left-eq0.true _ c.failed.ensures _
+params-returns-then-left-eq0 t c = laws.params_zero _ _ _ _ _ c.if-left-eq0.true _
 
 pub params-returns-then-t-eq57 : goal.params-returns-then-t-eq57
 params-returns-then-t-eq57 t c = laws.params_close _ _ _ _ _ c.if-left-eq0.false _ c.token-t.ensures c.if-t-eq57.true _ _ c.put_item.ensures
@@ -89,23 +89,23 @@ params-returns-then-void_before t c = laws.params_void _ _ _ _ _ c.if-left-eq0.f
 pub params-returns : goal.params-returns
 params-returns t c = laws.params_list _ _ _ _ _ c.if-left-eq0.false _ c.token-t.ensures c.if-t-eq57.false _ c.void_before.ensures c.if-void_before.false _ _ c.put_item-m.ensures _ c.param_list.ensures
 
-pub protos-returns-then-not-r : goal.protos-returns-then-not-r
-protos-returns-then-not-r t c = laws.protos_fail _ _ _ _ _ _ _ c.params-r.ensures (not-true _ c.if-not-r.true) _ c.failed.ensures _
+pub protos-returns-in_err-r : goal.protos-returns-in_err-r
+protos-returns-in_err-r t c = rw c.from_residual.ensures (laws.protos_fail _ _ _ _ _ _ c.in_err-r.ensures)
 
 pub protos-returns : goal.protos-returns
-protos-returns t c = laws.protos_good _ _ _ _ _ _ _ c.params-r.ensures (not-false _ c.if-not-r.false) _ c.suffixes.ensures
+protos-returns t c = laws.protos_good _ _ _ _ _ _ _ c.in_ok-r.ensures _ c.suffixes.ensures
 
 pub starred-returns-then-not-q : goal.starred-returns-then-not-q
-starred-returns-then-not-q t c = laws.star_twice _ _ _ _ _ _ _ c.quals_at-q.ensures (not-true _ c.if-not-q.true) _ c.failed.ensures _
+starred-returns-then-not-q t c = laws.star_twice _ _ _ _ _ _ _ c.quals_at-q.ensures (not-true _ c.if-not-q.true) _
 
-pub starred-returns-then-not-r : goal.starred-returns-then-not-r
-starred-returns-then-not-r t c = laws.star_fails _ _ _ _ _ _ _ c.quals_at-q.ensures (not-false _ c.if-not-q.false) _ _ c.declarator-r.ensures (not-true _ c.if-not-r.true) _ c.failed-then-not-r.ensures _
+pub starred-returns-in_err-r : goal.starred-returns-in_err-r
+starred-returns-in_err-r t c = rw c.from_residual.ensures (laws.star_fails _ _ _ _ _ _ _ c.quals_at-q.ensures (not-false _ c.if-not-q.false) _ c.in_err-r.ensures)
 
 pub starred-returns : goal.starred-returns
-starred-returns t c = laws.star_good _ _ _ _ _ _ _ c.quals_at-q.ensures (not-false _ c.if-not-q.false) _ _ c.declarator-r.ensures (not-false _ c.if-not-r.false) _ _ c.put_quals-m.ensures _ _ c.put_item.ensures
+starred-returns t c = laws.star_good _ _ _ _ _ _ _ c.quals_at-q.ensures (not-false _ c.if-not-q.false) _ _ c.in_ok-r.ensures _ _ c.put_quals-m.ensures _ _ c.put_item.ensures
 
 pub suffixes-returns-then-left-eq0 : goal.suffixes-returns-then-left-eq0
-suffixes-returns-then-left-eq0 t c = laws.suffix_zero _ _ _ _ _ c.if-left-eq0.true _ c.failed.ensures _
+suffixes-returns-then-left-eq0 t c = laws.suffix_zero _ _ _ _ _ c.if-left-eq0.true _
 
 pub suffixes-returns-then-t-eq107 : goal.suffixes-returns-then-t-eq107
 suffixes-returns-then-t-eq107 t c = laws.suffix_count _ _ _ _ _ c.if-left-eq0.false _ c.token-t.ensures c.if-t-eq107.true _ c.counts.ensures

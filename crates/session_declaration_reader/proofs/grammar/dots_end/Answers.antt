@@ -2,7 +2,7 @@ use Rattle.session_declaration_reader.proofs.grammar.ParseLaws as laws
 use Rattle.session_declaration_reader.proofs.grammar.dots_end.Goals as goal
 
 pub returns-then-t-ne57 : goal.returns-then-t-ne57
-returns-then-t-ne57 c = laws.dots_open _ _ _ _ _ c.token-t.ensures c.if-t-ne57.true _ c.failed.ensures _
+returns-then-t-ne57 c = laws.dots_open _ _ _ _ _ c.token-t.ensures c.if-t-ne57.true _
 
 pub returns : goal.returns
 returns c = laws.dots_good _ _ _ _ _ c.token-t.ensures c.if-t-ne57.false _ _ c.put_item.ensures
