@@ -10,10 +10,9 @@ ghost use Rattle.session_declaration_reader.specs.bases.Looking.{AfterWords, Bas
 pub use crate::bases::items::{Spot, put_base, put_item, put_quals};
 use crate::tokens::token;
 
-// At most three qualifiers, by their signs, 0 where there is none; and where they end. Not ok where one stands twice.
+// At most three qualifiers, by their signs, 0 where there is none; and where they end.
 #[derive(Clone, Copy)]
 pub struct Quals {
-    pub ok: bool,
     pub a: u32,
     pub b: u32,
     pub c: u32,
@@ -23,7 +22,6 @@ pub struct Quals {
 // A base: its qualifiers, and where its words start and end.
 #[derive(Clone, Copy)]
 pub struct Base {
-    pub ok: bool,
     pub quals: Quals,
     pub start: usize,
     pub end: usize,
@@ -48,77 +46,56 @@ pub fn is_word(sign: u32) -> bool
     sign < 7
 }
 
-// A qualifier stands twice.
-fn twice() -> Quals
-    ensures { result ≡ record { ok = false; a = 0; b = 0; c = 0; end = 0 } }
-{
-    Quals {
-        ok: false,
-        a: 0,
-        b: 0,
-        c: 0,
-        end: 0,
-    }
-}
-
 // A third qualifier, which ends at `at`, behind two that differ.
-fn three_quals(text: &[u8], a: u32, b: u32, c: u32, at: usize) -> Quals
+fn three_quals(text: &[u8], a: u32, b: u32, c: u32, at: usize) -> Option<Quals>
     ensures { Third text.now a b c at result }
 {
     if a == c {
-        return twice();
+        return None;
     }
     if b == c {
-        return twice();
+        return None;
     }
     let t = token(text, at);
     if is_qualifier(t.sign) {
-        return twice();
+        return None;
     }
-    Quals {
-        ok: true,
-        a: a,
-        b: b,
-        c: c,
-        end: at,
-    }
+    Some(Quals { a, b, c, end: at })
 }
 
-pub fn quals_at(text: &[u8], at: usize) -> Quals
+// None where a qualifier stands twice.
+pub fn quals_at(text: &[u8], at: usize) -> Option<Quals>
     ensures { QualsAt text.now at result }
 {
     let t = token(text, at);
     if !is_qualifier(t.sign) {
-        return Quals {
-            ok: true,
+        return Some(Quals {
             a: 0,
             b: 0,
             c: 0,
             end: at,
-        };
+        });
     }
     let u = token(text, t.end);
     if !is_qualifier(u.sign) {
-        return Quals {
-            ok: true,
+        return Some(Quals {
             a: t.sign,
             b: 0,
             c: 0,
             end: t.end,
-        };
+        });
     }
     if t.sign == u.sign {
-        return twice();
+        return None;
     }
     let v = token(text, u.end);
     if !is_qualifier(v.sign) {
-        return Quals {
-            ok: true,
+        return Some(Quals {
             a: t.sign,
             b: u.sign,
             c: 0,
             end: u.end,
-        };
+        });
     }
     three_quals(text, t.sign, u.sign, v.sign, v.end)
 }
@@ -199,36 +176,21 @@ fn is_base(text: &[u8], at: usize, named: bool) -> bool
     !is_base_word(text, u.end, named)
 }
 
-fn no_base(q: Quals) -> Base
-    ensures { result ≡ record { ok = false; quals = q; start = 0; end = 0 } }
-{
-    Base {
-        ok: false,
-        quals: q,
-        start: 0,
-        end: 0,
-    }
-}
-
 // The base that stands next, with its qualifiers.
-pub fn base_at(text: &[u8], at: usize, named: bool) -> Base
+pub fn base_at(text: &[u8], at: usize, named: bool) -> Option<Base>
     ensures { BaseAt text.now at named result }
 {
-    let q = quals_at(text, at);
-    if !q.ok {
-        return no_base(q);
-    }
-    let from = q.end;
+    let quals = quals_at(text, at)?;
+    let from = quals.end;
     if !is_base(text, from, named) {
-        return no_base(q);
+        return None;
     }
     let t = token(text, from);
-    Base {
-        ok: true,
-        quals: q,
+    Some(Base {
+        quals,
         start: t.start,
         end: after_words(text, from, named),
-    }
+    })
 }
 
 // `void` by itself, before the mark of that sign.

@@ -59,10 +59,7 @@ fn starred(
     ensures { outcome text.now result chain.new
         ≡ emits layer_items chain.old n (emission.starred left named (tokens_at text.now at)) }
 {
-    let q = quals_at(text, at);
-    if !q.ok {
-        return None;
-    }
+    let q = quals_at(text, at)?;
     let r = declarator(text, q.end, named, left, chain, n)?;
     let m = put_quals(chain, r.n, q);
     Some(Spot {
@@ -181,10 +178,7 @@ fn param_list(text: &[u8], at: usize, left: u32, chain: &mut [u64], n: u32) -> O
     if void_before(text, at, 60) {
         return None;
     }
-    let b = base_at(text, at, false);
-    if !b.ok {
-        return None;
-    }
+    let b = base_at(text, at, false)?;
     let r = declarator(text, b.end, false, left - 1, chain, n)?;
     param_behind(text, r.at, left - 1, chain, r.n, b)
 }

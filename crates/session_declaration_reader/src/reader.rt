@@ -27,10 +27,9 @@ fn refuse(chain: &mut [u64]) -> u32
 pub fn read_declaration(text: &[u8], chain: &mut [u64]) -> u32
     ensures { placed result chain.new ≡ read_into text.now chain.old }
 {
-    let b = base_at(text, 0, true);
-    if !b.ok {
+    let Some(b) = base_at(text, 0, true) else {
         return refuse(chain);
-    }
+    };
     let Some(r) = declarator(text, b.end, true, MOST_OPEN, chain, 0) else {
         return refuse(chain);
     };

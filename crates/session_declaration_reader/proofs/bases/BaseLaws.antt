@@ -1,4 +1,5 @@
 -- Laws for the code that reads qualifiers and bases. Assumes nothing.
+use Rattle.std.specs.Prelude.{Option, Some, None}
 use Prim.Native.Nat.{ℕ, ◌+◌, ◌≤◌, ◌<◌}
 use mathlib.Core.Path.{◌≡◌, refl, ap, sym, ◌∙◌}
 use mathlib.Core.Bool.{Bool, true, false, not, ◌&&◌}
@@ -12,7 +13,7 @@ use Rattle.session_declaration_reader.specs.tokens.Tokens.{Kind, tag_word, void_
 use Rattle.session_declaration_reader.specs.bases.Bases.{Spelt, spelt, is_qualifier_among, distinct, begins, begins_word, bracketed, qual_run, after_quals, ends_name, word_run, after_words, is_tag, no_tags, single, is_base, words_of, same_qualifier}
 use Rattle.session_declaration_reader.specs.tokens.Looking.{Span, tokens_at, sign_of, span_of, Looked}
 use Rattle.session_declaration_reader.specs.bases.Items.{qual_code, first_from, last_to}
-use Rattle.session_declaration_reader.specs.bases.Looking.{qual_sign, word_signed, void_signed, qual_of, QualsAt, Third, is_base_word, AfterWords, BaseAt}
+use Rattle.session_declaration_reader.specs.bases.Looking.{qual_sign, word_signed, void_signed, qual_of, QualsOf, QualsAt, only_three, Third, is_base_word, AfterWords, begins_base, BaseOf, BaseAt}
 use Rattle.session_declaration_reader.specs.declared.tokens.Tok.{Tok}
 use Rattle.session_declaration_reader.specs.declared.bases.Quals.{Quals}
 use Rattle.session_declaration_reader.specs.declared.bases.Base.{Base}
@@ -352,13 +353,8 @@ first_two : (p q : Qualifier) (qs : List Qualifier) → same_qualifier p q ≡ t
 unfolding distinct is_qualifier_among
 first_two p q qs e = rw e
 
-abbrev mk : Bool → ℕ → ℕ → ℕ → ℕ → Quals
-mk o a b c e = record { ok = o; a = a; b = b; c = c; end = e }
-
-refused_quals : {s : List ℕ} {at : ℕ} → (x : Quals) → x ≡ mk false 0 0 0 0 → distinct (qual_run (tokens_at s at)) ≡ false → QualsAt s at x
-refused_quals {s} {at} x p d =
-    let f : x.ok ≡ false = ap (λ (y : Quals). y.ok) p in
-    record { ok_is = f ∙ sym d; list_is = λ h. absurd (false_true (sym f ∙ h)); rest_is = λ h. absurd (false_true (sym f ∙ h)) }
+abbrev mk : ℕ → ℕ → ℕ → ℕ → Quals
+mk a b c e = record { a = a; b = b; c = c; end = e }
 
 ends_one : (a : Bool) → (not a && false) ≡ false
 ends_one true = refl
@@ -425,11 +421,11 @@ three_distinct p q r ts e false false f g = go (qual_sign (sign_of ts)) refl
 
 module _ (s : List ℕ) (at : ℕ) (t : Tok) (l : Looked s at t) where
   module _ (r : Bool) (e : r ≡ qual_sign t.sign) where
-    pub quals_none : r ≡ false → QualsAt s at (mk true 0 0 0 at)
+    pub quals_none : r ≡ false → QualsAt s at (Some (mk 0 0 0 at))
     unfolding distinct qual_of
     quals_none f =
         let o = qover (tokens_at s at) (sym (e ∙ ap qual_sign l.sign_is) ∙ f) in
-        record { ok_is = sym (ap distinct o.0); list_is = λ h. sym o.0; rest_is = λ h. sym o.1 }
+        record { apart = ap distinct o.0; list_is = sym o.0; rest_is = sym o.1 }
 
     module _ (y : r ≡ true) where
       q₁ : QStep (tokens_at s at)
@@ -445,15 +441,15 @@ module _ (s : List ℕ) (at : ℕ) (t : Tok) (l : Looked s at t) where
       after₁ = q₁.after_is ∙ ap after_quals (sym l.rest_is)
 
       module _ (u : Tok) (m : Looked s t.end u) (r₂ : Bool) (e₂ : r₂ ≡ qual_sign u.sign) where
-        pub quals_one : r₂ ≡ false → QualsAt s at (mk true t.sign 0 0 t.end)
+        pub quals_one : r₂ ≡ false → QualsAt s at (Some (mk t.sign 0 0 t.end))
         unfolding distinct is_qualifier_among qual_of
         quals_one f =
             let o = qover (tokens_at s t.end) (sym (e₂ ∙ ap qual_sign m.sign_is) ∙ f) in
             let run : qual_run (tokens_at s at) ≡ q₁.is ∷ [] = run₁ ∙ ap (λ (x : List Qualifier). q₁.is ∷ x) o.0 in
             record {
-              ok_is = sym (ap distinct run);
-              list_is = λ h. ap (λ (x : ℕ). qual_of x []) code₁ ∙ qual_of_lem q₁.is [] ∙ sym run;
-              rest_is = λ h. sym (after₁ ∙ o.1);
+              apart = ap distinct run;
+              list_is = ap (λ (x : ℕ). qual_of x []) code₁ ∙ qual_of_lem q₁.is [] ∙ sym run;
+              rest_is = sym (after₁ ∙ o.1);
             }
 
         module _ (y₂ : r₂ ≡ true) where
@@ -472,31 +468,28 @@ module _ (s : List ℕ) (at : ℕ) (t : Tok) (l : Looked s at t) where
           same₂ : same_qualifier q₁.is q₂.is ≡ eqb t.sign u.sign
           same₂ = same_code q₁.is q₂.is ∙ ap (λ (x : ℕ). eqb x (qual_code q₂.is)) (sym code₁) ∙ ap (λ (x : ℕ). eqb t.sign x) (sym code₂)
 
-          pub quals_twice : (x : Quals) → x ≡ mk false 0 0 0 0 → t.sign ≡ u.sign → QualsAt s at x
-          quals_twice x p q =
-              let d : distinct (qual_run (tokens_at s at)) ≡ false =
-              ap distinct run₂ ∙ first_two q₁.is q₂.is (qual_run (tokens_at s u.end)) (same₂ ∙ eq-eqb t.sign u.sign q) in
-              refused_quals x p d
+          pub quals_twice : t.sign ≡ u.sign → QualsAt s at None
+          quals_twice q = ap distinct run₂ ∙ first_two q₁.is q₂.is (qual_run (tokens_at s u.end)) (same₂ ∙ eq-eqb t.sign u.sign q)
 
           module _ (ne : t.sign ≡ u.sign → ⊥) (v : Tok) (k : Looked s u.end v) (r₃ : Bool) (e₃ : r₃ ≡ qual_sign v.sign) where
             apart₂ : same_qualifier q₁.is q₂.is ≡ false
             apart₂ = same₂ ∙ ne_eqb t.sign u.sign ne
 
-            pub quals_two : r₃ ≡ false → QualsAt s at (mk true t.sign u.sign 0 u.end)
+            pub quals_two : r₃ ≡ false → QualsAt s at (Some (mk t.sign u.sign 0 u.end))
             unfolding distinct is_qualifier_among qual_of
             quals_two f =
                 let o = qover (tokens_at s u.end) (sym (e₃ ∙ ap qual_sign k.sign_is) ∙ f) in
                 let run : qual_run (tokens_at s at) ≡ q₁.is ∷ q₂.is ∷ [] = run₂ ∙ ap (λ (x : List Qualifier). q₁.is ∷ q₂.is ∷ x) o.0 in
                 let d : distinct (q₁.is ∷ q₂.is ∷ []) ≡ true = rw apart₂ in
                 record {
-                  ok_is = sym (ap distinct run ∙ d);
-                  list_is = λ h.
+                  apart = ap distinct run ∙ d;
+                  list_is =
                       ap (λ (x : ℕ). qual_of x (qual_of u.sign [])) code₁
                       ∙ ap (λ (x : ℕ). qual_of (qual_code q₁.is) (qual_of x [])) code₂
                       ∙ qual_of_lem q₁.is (qual_of (qual_code q₂.is) [])
                       ∙ ap (λ (x : List Qualifier). q₁.is ∷ x) (qual_of_lem q₂.is [])
                       ∙ sym run;
-                  rest_is = λ h. sym (after₂ ∙ o.1);
+                  rest_is = sym (after₂ ∙ o.1);
                 }
 
             module _ (y₃ : r₃ ≡ true) where
@@ -521,93 +514,78 @@ module _ (s : List ℕ) (at : ℕ) (t : Tok) (l : Looked s at t) where
               ok₃ : distinct (qual_run (tokens_at s at)) ≡ (not (eqb t.sign v.sign) && not (eqb u.sign v.sign) && not (qual_sign (sign_of (tokens_at s v.end))))
               ok₃ = ap distinct run₃ ∙ three_distinct q₁.is q₂.is q₃.is (tokens_at s v.end) apart₂ (eqb t.sign v.sign) (eqb u.sign v.sign) same₁₃ same₂₃
 
-              pub quals_three : (x : Quals) → Third s t.sign u.sign v.sign v.end x → QualsAt s at x
+              pub quals_three : (x : Option Quals) → Third s t.sign u.sign v.sign v.end x → QualsAt s at x
               unfolding Third
-              quals_three x z =
+              quals_three (Some x) z =
                   record {
-                    ok_is = z.0 ∙ sym ok₃;
-                    list_is = λ h.
-                        z.1 h
+                    apart = ok₃ ∙ z.0;
+                    list_is =
+                        z.1
                         ∙ ap (λ (y : ℕ). qual_of y (qual_of u.sign (qual_of v.sign []))) code₁
                         ∙ ap (λ (y : ℕ). qual_of (qual_code q₁.is) (qual_of y (qual_of v.sign []))) code₂
                         ∙ ap (λ (y : ℕ). qual_of (qual_code q₁.is) (qual_of (qual_code q₂.is) (qual_of y []))) code₃
                         ∙ qual_of_lem q₁.is (qual_of (qual_code q₂.is) (qual_of (qual_code q₃.is) []))
                         ∙ ap (λ (y : List Qualifier). q₁.is ∷ y) (qual_of_lem q₂.is (qual_of (qual_code q₃.is) []) ∙ ap (λ (y : List Qualifier). q₂.is ∷ y) (qual_of_lem q₃.is []))
-                        ∙ sym (run₃ ∙ ap (λ (y : List Qualifier). q₁.is ∷ q₂.is ∷ q₃.is ∷ y) (no_fourth x z h).0);
-                    rest_is = λ h. ap (tokens_at s) (z.2 h) ∙ sym (after₃ ∙ (no_fourth x z h).1);
+                        ∙ sym (run₃ ∙ ap (λ (y : List Qualifier). q₁.is ∷ q₂.is ∷ q₃.is ∷ y) (no_fourth z.0).0);
+                    rest_is = ap (tokens_at s) z.2 ∙ sym (after₃ ∙ (no_fourth z.0).1);
                   }
                 where
-                  no_fourth : (x : Quals) → Third s t.sign u.sign v.sign v.end x → x.ok ≡ true → (qual_run (tokens_at s v.end) ≡ []) × (after_quals (tokens_at s v.end) ≡ tokens_at s v.end)
-                  no_fourth x z h =
+                  no_fourth : only_three s t.sign u.sign v.sign v.end ≡ true → (qual_run (tokens_at s v.end) ≡ []) × (after_quals (tokens_at s v.end) ≡ tokens_at s v.end)
+                  no_fourth h =
                       qover
                       (tokens_at s v.end)
                       (not-true
                       (qual_sign (sign_of (tokens_at s v.end)))
-                      (both_true (not (eqb t.sign v.sign) && not (eqb u.sign v.sign)) (not (qual_sign (sign_of (tokens_at s v.end)))) (sym z.0 ∙ h)).1)
+                      (both_true (not (eqb t.sign v.sign) && not (eqb u.sign v.sign)) (not (qual_sign (sign_of (tokens_at s v.end)))) h).1)
+              quals_three None z = ok₃ ∙ z
 
 -- a third qualifier
 module _ (s : List ℕ) (a b c at : ℕ) where
-  third_not : (x : Quals) → x ≡ mk false 0 0 0 0 → (not (eqb a c) && not (eqb b c) && not (qual_sign (sign_of (tokens_at s at)))) ≡ false → Third s a b c at x
+  pub third_first : a ≡ c → Third s a b c at None
   unfolding Third
-  third_not x p d =
-      let f : x.ok ≡ false = ap (λ (y : Quals). y.ok) p in
-      (f ∙ sym d, λ h. absurd (false_true (sym f ∙ h)), λ h. absurd (false_true (sym f ∙ h)))
+  third_first q = rw (eq-eqb a c q)
 
-  pub third_first : (x : Quals) → x ≡ mk false 0 0 0 0 → a ≡ c → Third s a b c at x
-  third_first x p q = third_not x p (rw (eq-eqb a c q))
-
-  pub third_second : (x : Quals) → x ≡ mk false 0 0 0 0 → (a ≡ c → ⊥) → b ≡ c → Third s a b c at x
-  third_second x p n q = third_not x p (rw (ne_eqb a c n, eq-eqb b c q))
+  pub third_second : (a ≡ c → ⊥) → b ≡ c → Third s a b c at None
+  unfolding Third
+  third_second n q = rw (ne_eqb a c n, eq-eqb b c q)
 
   module _ (n₁ : a ≡ c → ⊥) (n₂ : b ≡ c → ⊥) (t : Tok) (l : Looked s at t) (r : Bool) (e : r ≡ qual_sign t.sign) where
-    pub third_fourth : (x : Quals) → x ≡ mk false 0 0 0 0 → r ≡ true → Third s a b c at x
-    third_fourth x p y = third_not x p (rw (ne_eqb a c n₁, ne_eqb b c n₂, sym (e ∙ ap qual_sign l.sign_is) ∙ y))
-
-    pub third_good : r ≡ false → Third s a b c at (mk true a b c at)
+    pub third_fourth : r ≡ true → Third s a b c at None
     unfolding Third
-    third_good y =
-        (sym (rw (ne_eqb a c n₁, ne_eqb b c n₂, sym (e ∙ ap qual_sign l.sign_is) ∙ y)), λ h. refl, λ h. refl)
+    third_fourth y = rw (ne_eqb a c n₁, ne_eqb b c n₂, sym (e ∙ ap qual_sign l.sign_is) ∙ y)
+
+    pub third_good : r ≡ false → Third s a b c at (Some (mk a b c at))
+    unfolding Third
+    third_good y = (rw (ne_eqb a c n₁, ne_eqb b c n₂, sym (e ∙ ap qual_sign l.sign_is) ∙ y), refl, refl)
 
 -- a base with its qualifiers
-module _ (s : List ℕ) (at : ℕ) (n : Bool) (q : Quals) (a : QualsAt s at q) where
-  abbrev no_base : Base
-  no_base = record { ok = false; quals = q; start = 0; end = 0 }
+pub base_quals : (s : List ℕ) (at : ℕ) (n : Bool) → QualsAt s at None → BaseAt s at n None
+unfolding begins_base
+base_quals s at n e = rw e
 
-  base_not : (x : Base) → x ≡ no_base → (distinct (qual_run (tokens_at s at)) && is_base (word_run n (after_quals (tokens_at s at)))) ≡ false → BaseAt s at n x
-  base_not x p d =
-      let f : x.ok ≡ false = ap (λ (y : Base). y.ok) p in
+module _ (s : List ℕ) (at : ℕ) (n : Bool) (q : Quals) (a : QualsOf s at q) (r : Bool) (e : r ≡ is_base (word_run n (tokens_at s q.end))) where
+  here : is_base (word_run n (after_quals (tokens_at s at))) ≡ r
+  here = ap (λ (x : Ts). is_base (word_run n x)) (sym a.rest_is) ∙ sym e
+
+  pub base_words_not : r ≡ false → BaseAt s at n None
+  unfolding begins_base
+  base_words_not f = rw (a.apart, here ∙ f)
+
+  pub base_good : r ≡ true → (t : Tok) → Looked s q.end t → (k : ℕ) → AfterWords s q.end n k → BaseAt s at n (Some (record { quals = q; start = t.start; end = k }))
+  unfolding begins_base
+  base_good g t l k w =
+      let b : is_base_word n (tokens_at s q.end) ≡ true = begun (is_base_word n (tokens_at s q.end)) refl in
       record {
-        ok_is = f ∙ sym d;
-        quals_are = λ h. absurd (false_true (sym f ∙ h));
-        from_is = λ h. absurd (false_true (sym f ∙ h));
-        to_is = λ h. absurd (false_true (sym f ∙ h));
-        rest_is = λ h. absurd (false_true (sym f ∙ h));
+        begun = rw (a.apart, here ∙ g);
+        quals_are = a.list_is;
+        from_is = first_is s n q.end true (sym b) refl t l ∙ ap (λ (x : Ts). first_from (words_of (word_run n x))) a.rest_is;
+        to_is = w.to_is b ∙ ap (λ (x : Ts). last_to (words_of (word_run n x))) a.rest_is;
+        rest_is = w.rest_is ∙ ap (after_words n) a.rest_is;
       }
-
-  pub base_quals : (x : Base) → x ≡ no_base → q.ok ≡ false → BaseAt s at n x
-  base_quals x p f = base_not x p (rw (sym a.ok_is ∙ f))
-
-  module _ (y : q.ok ≡ true) (r : Bool) (e : r ≡ is_base (word_run n (tokens_at s q.end))) where
-    here : is_base (word_run n (after_quals (tokens_at s at))) ≡ r
-    here = ap (λ (x : Ts). is_base (word_run n x)) (sym (a.rest_is y)) ∙ sym e
-
-    pub base_words_not : (x : Base) → x ≡ no_base → r ≡ false → BaseAt s at n x
-    base_words_not x p f = base_not x p (rw (sym a.ok_is ∙ y, here ∙ f))
-
-    pub base_good : r ≡ true → (t : Tok) → Looked s q.end t → (k : ℕ) → AfterWords s q.end n k → BaseAt s at n (record { ok = true; quals = q; start = t.start; end = k })
-    base_good g t l k w =
-        let b : is_base_word n (tokens_at s q.end) ≡ true = begun (is_base_word n (tokens_at s q.end)) refl in
-        record {
-          ok_is = sym (rw (sym a.ok_is ∙ y, here ∙ g));
-          quals_are = λ h. a.list_is y;
-          from_is = λ h. first_is s n q.end true (sym b) refl t l ∙ ap (λ (x : Ts). first_from (words_of (word_run n x))) (a.rest_is y);
-          to_is = λ h. w.to_is b ∙ ap (λ (x : Ts). last_to (words_of (word_run n x))) (a.rest_is y);
-          rest_is = λ h. w.rest_is ∙ ap (after_words n) (a.rest_is y);
-        }
-      where
-        begun : (z : Bool) → is_base_word n (tokens_at s q.end) ≡ z → is_base_word n (tokens_at s q.end) ≡ true
-        begun true z = z
-        begun false z = absurd (false_true (base_over s n q.end false (sym z) refl ∙ sym e ∙ g))
+    where
+      begun : (z : Bool) → is_base_word n (tokens_at s q.end) ≡ z → is_base_word n (tokens_at s q.end) ≡ true
+      begun true z = z
+      begun false z = absurd (false_true (base_over s n q.end false (sym z) refl ∙ sym e ∙ g))
 
 module _ (ts : Ts) (g : ℕ) (e : g ≡ sign_of ts) where
   sign_begins : (m : ℕ) → begins m ts ≡ eqb g (16 + m)

@@ -14,7 +14,7 @@ use Rattle.session_declaration_reader.specs.bases.Bases.{begins, begins_word, br
 use Rattle.session_declaration_reader.specs.tokens.Looking.{Span, tokens_at, sign_of, first_count, Looked}
 use Rattle.session_declaration_reader.specs.bases.Items.{Item, item, qual_items, first_from, last_to, Placed, placed, placing}
 use Rattle.session_declaration_reader.specs.grammar.Encoding.{base_item, base_kind, any_params, layer_items, param_items}
-use Rattle.session_declaration_reader.specs.bases.Looking.{word_signed, void_signed, quals_of, QualsAt, BaseAt, base_items}
+use Rattle.session_declaration_reader.specs.bases.Looking.{word_signed, void_signed, quals_of, QualsOf, QualsAt, begins_base, BaseOf, BaseAt, base_items}
 use Rattle.session_declaration_reader.specs.grammar.Emission.{Done, done, none, emits, outcome, proto_items, behind_items, starred, in_brackets, counts, protos, dots_end}
 use Rattle.session_declaration_reader.specs.declared.tokens.Tok.{Tok}
 use Rattle.session_declaration_reader.specs.declared.bases.Quals.{Quals}
@@ -280,20 +280,20 @@ unfolding and_then
 then_fails m k e = ap (λ x. and_then x k) e
 
 -- behind a star
-module _ (s : List ℕ) (at : ℕ) (left : ℕ) (n : Bool) (c : List ℕ) (k : ℕ) (q : Quals) (a : QualsAt s at q) where
+module _ (s : List ℕ) (at : ℕ) (left : ℕ) (n : Bool) (c : List ℕ) (k : ℕ) where
   abbrev S : Reads Span (Layers Span)
   S = starred left n (tokens_at s at)
 
-  pub star_twice : q.ok ≡ false → (c' : List ℕ) → outcome s None c' ≡ emits layer_items c k S
+  pub star_twice : QualsAt s at None → (c' : List ℕ) → outcome s None c' ≡ emits layer_items c k S
   unfolding starred
-  star_twice f c' = bad layer_items s c k c' S (failed (distinct (qual_run (tokens_at s at))) _ fails (sym a.ok_is ∙ f))
+  star_twice f c' = bad layer_items s c k c' S (failed (distinct (qual_run (tokens_at s at))) _ fails f)
 
-  module _ (y : q.ok ≡ true) where
+  module _ (q : Quals) (a : QualsOf s at q) where
     opened : S ≡ and_then (declarator left n (tokens_at s q.end)) (λ l vs. reads (pointer (qual_run (tokens_at s at)) l) vs)
     unfolding starred
     opened =
-        passed (distinct (qual_run (tokens_at s at))) _ fails (sym a.ok_is ∙ y)
-        ∙ ap (λ (x : Ts). and_then (declarator left n x) (λ l vs. reads (pointer (qual_run (tokens_at s at)) l) vs)) (sym (a.rest_is y))
+        passed (distinct (qual_run (tokens_at s at))) _ fails a.apart
+        ∙ ap (λ (x : Ts). and_then (declarator left n x) (λ l vs. reads (pointer (qual_run (tokens_at s at)) l) vs)) (sym a.rest_is)
 
     pub star_fails : (c₁ : List ℕ) → outcome s None c₁ ≡ emits layer_items c k (declarator left n (tokens_at s q.end)) → outcome s None c₁ ≡ emits layer_items c k S
     star_fails c₁ e =
@@ -305,7 +305,7 @@ module _ (s : List ℕ) (at : ℕ) (left : ℕ) (n : Bool) (c : List ℕ) (k : �
     star_good r c₁ e m c₂ e₂ z c₃ e₃ =
         let w = split layer_items s c k r c₁ (declarator left n (tokens_at s q.end)) e in
         let qs : List Item = qual_items (qual_run (tokens_at s at)) in
-        let i : placed m c₂ ≡ placing c₁ r.n qs = e₂ ∙ ap (λ (x : List Qualifier). placing c₁ r.n (qual_items x)) (a.list_is y) in
+        let i : placed m c₂ ≡ placing c₁ r.n qs = e₂ ∙ ap (λ (x : List Qualifier). placing c₁ r.n (qual_items x)) a.list_is in
         good
         layer_items
         s
@@ -745,7 +745,7 @@ module _ (s : List ℕ) (at : ℕ) (left : ℕ) (c : List ℕ) (k : ℕ) where
       list_void_more f c' =
           bad param_items s c k c' Q (opens ∙ passed (void_before 41 (tokens_at s at) || void_before 44 (tokens_at s at)) fails _ (rw (is_41 ∙ n₁, is_44 ∙ f)))
 
-      module _ (n₂ : v₂ ≡ false) (b : Base) (a : BaseAt s at false b) where
+      module _ (n₂ : v₂ ≡ false) where
         abbrev us : Ts
         us = after_words false (after_quals (tokens_at s at))
 
@@ -755,19 +755,19 @@ module _ (s : List ℕ) (at : ℕ) (left : ℕ) (c : List ℕ) (k : ℕ) where
         abbrev K : ℕ → Reads Span (Params Span)
         K f = and_then (declarator f false us) (λ l vs. and_then (param_end f vs) (λ ps xs. reads (param (qual_run (tokens_at s at)) ws l ps) xs))
 
-        based : Q ≡ elim (distinct (qual_run (tokens_at s at)) && is_base (word_run false (after_quals (tokens_at s at)))) [ true ↦ K (left - 1) | false ↦ fails ]
-        unfolding param_list read_base
+        based : Q ≡ elim (begins_base s at false) [ true ↦ K (left - 1) | false ↦ fails ]
+        unfolding param_list read_base begins_base
         based = opens ∙ failed (void_before 41 (tokens_at s at) || void_before 44 (tokens_at s at)) fails _ (rw (is_41 ∙ n₁, is_44 ∙ n₂))
 
-        pub list_baseless : b.ok ≡ false → (c' : List ℕ) → outcome s None c' ≡ emits param_items c k Q
-        list_baseless f c' = bad param_items s c k c' Q (based ∙ failed _ (K (left - 1)) fails (sym a.ok_is ∙ f))
+        pub list_baseless : BaseAt s at false None → (c' : List ℕ) → outcome s None c' ≡ emits param_items c k Q
+        list_baseless f c' = bad param_items s c k c' Q (based ∙ failed _ (K (left - 1)) fails f)
 
-        module _ (y : b.ok ≡ true) where
+        module _ (b : Base) (a : BaseOf s at false b) where
           here : Q ≡ K (left - 1)
-          here = based ∙ passed _ (K (left - 1)) fails (sym a.ok_is ∙ y)
+          here = based ∙ passed _ (K (left - 1)) fails a.begun
 
           same : declarator (left - 1) false us ≡ declarator (left - 1) false (tokens_at s b.end)
-          same = ap (declarator (left - 1) false) (sym (a.rest_is y))
+          same = ap (declarator (left - 1) false) (sym a.rest_is)
 
           pub list_fails : (c₁ : List ℕ) → outcome s None c₁ ≡ emits layer_items c k (declarator (left - 1) false (tokens_at s b.end)) → outcome s None c₁ ≡ emits param_items c k Q
           list_fails c₁ e =
@@ -797,7 +797,7 @@ module _ (s : List ℕ) (at : ℕ) (left : ℕ) (c : List ℕ) (k : ℕ) where
                   (done xs)
                   (ap
                   (placing c₁ r.n)
-                  (base_items_lem b (qual_run (tokens_at s at)) ws (a.quals_are y) (a.from_is y) (a.to_is y) (base_kind ps) (param_items ps))
+                  (base_items_lem b (qual_run (tokens_at s at)) ws a.quals_are a.from_is a.to_is (base_kind ps) (param_items ps))
                   ∙ ap (λ (z : Placed). on z (qual_items (qual_run (tokens_at s at)) ++ (base_item (base_kind ps) ws ∷ param_items ps))) w.stores
                   ∙ sym (placing_on c k (layer_items w.value) (qual_items (qual_run (tokens_at s at)) ++ (base_item (base_kind ps) ws ∷ param_items ps))))
               go fails = refl

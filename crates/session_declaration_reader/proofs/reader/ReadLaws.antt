@@ -19,7 +19,7 @@ use Rattle.session_declaration_reader.specs.tokens.Looking.{Span, tokens_at, sig
 use Rattle.session_declaration_reader.specs.bases.Items.{Item, item, qual_items, one_more, put_item, Placed, placed, placing}
 use Rattle.session_declaration_reader.specs.grammar.Encoding.{base_item, base_kind, any_params, layer_items, param_items}
 use Rattle.session_declaration_reader.specs.reader.Encoding.{chain_items, placed_chain, read_into}
-use Rattle.session_declaration_reader.specs.bases.Looking.{BaseAt, base_items}
+use Rattle.session_declaration_reader.specs.bases.Looking.{begins_base, BaseOf, BaseAt, base_items}
 use Rattle.session_declaration_reader.specs.grammar.Emission.{outcome, emits}
 use Rattle.session_declaration_reader.specs.declared.tokens.Tok.{Tok}
 use Rattle.session_declaration_reader.specs.declared.bases.Base.{Base}
@@ -142,7 +142,7 @@ unfolding whole sign_of
 goes_on c [] n = absurd (n refl)
 goes_on c (t ∷ ts) n = refl
 
-module _ (s : List ℕ) (c : List ℕ) (b : Base) (a : BaseAt s 0 true b) where
+module _ (s : List ℕ) (c : List ℕ) where
   abbrev ts : Ts
   ts = tokens_at s 0
 
@@ -158,8 +158,8 @@ module _ (s : List ℕ) (c : List ℕ) (b : Base) (a : BaseAt s 0 true b) where
   abbrev K : Reads Span (Chain Span)
   K = and_then (declarator most true us) (λ l vs. reads (made l) vs)
 
-  based : read_tokens ts ≡ elim (distinct (qual_run ts) && is_base (word_run true (after_quals ts))) [ true ↦ K | false ↦ fails ]
-  unfolding read_tokens read_base
+  based : read_tokens ts ≡ elim (begins_base s 0 true) [ true ↦ K | false ↦ fails ]
+  unfolding read_tokens read_base begins_base
   based = refl
 
   -- an answer from what the tokens come to
@@ -171,16 +171,16 @@ module _ (s : List ℕ) (c : List ℕ) (b : Base) (a : BaseAt s 0 true b) where
   unfolding placed_chain
   refuses m e f r k c₂ h p = p ∙ ap (λ (n : ℕ). placed 0 (replicate n 0)) h ∙ sym (answers m e ∙ ap (placed_chain c) f)
 
-  pub read_baseless : b.ok ≡ false → (r : ℕ) (k : ℕ) (c₂ : List ℕ) → k ≡ length c → placed r c₂ ≡ placed 0 (replicate k 0) → placed r c₂ ≡ read_into s c
+  pub read_baseless : BaseAt s 0 true None → (r : ℕ) (k : ℕ) (c₂ : List ℕ) → k ≡ length c → placed r c₂ ≡ placed 0 (replicate k 0) → placed r c₂ ≡ read_into s c
   unfolding whole
-  read_baseless f = refuses fails (based ∙ failed _ K fails (sym a.ok_is ∙ f)) refl
+  read_baseless f = refuses fails (based ∙ failed _ K fails f) refl
 
-  module _ (y : b.ok ≡ true) where
+  module _ (b : Base) (a : BaseOf s 0 true b) where
     here : read_tokens ts ≡ K
-    here = based ∙ passed _ K fails (sym a.ok_is ∙ y)
+    here = based ∙ passed _ K fails a.begun
 
     same : declarator most true us ≡ declarator 2056 true (tokens_at s b.end)
-    same = ap (declarator 2056 true) (sym (a.rest_is y))
+    same = ap (declarator 2056 true) (sym a.rest_is)
 
     pub read_fails : (c₁ : List ℕ) → outcome s None c₁ ≡ emits layer_items c 0 (declarator 2056 true (tokens_at s b.end))
         → (n : ℕ) (k : ℕ) (c₃ : List ℕ) → k ≡ length c → placed n c₃ ≡ placed 0 (replicate k 0) → placed n c₃ ≡ read_into s c
@@ -209,7 +209,7 @@ module _ (s : List ℕ) (c : List ℕ) (b : Base) (a : BaseAt s 0 true b) where
         unfolding chain_items
         stored =
             let q : base_items b 1 ≡ qual_items (qual_run ts) ++ (base_item 1 ws ∷ []) =
-            sym (append-nil (base_items b 1)) ∙ parse.base_items_lem b (qual_run ts) ws (a.quals_are y) (a.from_is y) (a.to_is y) 1 [] in
+            sym (append-nil (base_items b 1)) ∙ parse.base_items_lem b (qual_run ts) ws a.quals_are a.from_is a.to_is 1 [] in
             placing_then c 0 (layer_items w.value) (qual_items (qual_run ts) ++ (base_item 1 ws ∷ [])) r.n c₁ n c₂ w.stores (p ∙ ap (placing c₁ r.n) q)
 
         pub read_over : 512 < n → (j : ℕ) (k : ℕ) (c₄ : List ℕ) → k ≡ length c → placed j c₄ ≡ placed 0 (replicate k 0) → placed j c₄ ≡ read_into s c

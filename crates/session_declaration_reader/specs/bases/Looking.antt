@@ -1,5 +1,5 @@
 -- What the code sees of the qualifiers and the base at a place of the text, and the entries that it stores of them.
-use Rattle.std.specs.Prelude.{ℕ, ◌-◌, ◌≡◌, Bool, true, false, not, ◌&&◌, List, [], ◌∷◌, ◌++◌, ltb, eqb}
+use Rattle.std.specs.Prelude.{ℕ, Option, Some, None, ◌-◌, ◌≡◌, Bool, true, false, not, ◌&&◌, List, [], ◌∷◌, ◌++◌, ltb, eqb}
 use Rattle.spec_c_dumper.specs.rules.Types.{Qualifier, volatile, const, restrict}
 use Rattle.session_declaration_reader.specs.tokens.Tokens.{Token, rest}
 use Rattle.session_declaration_reader.specs.tokens.Looking.{Span, tokens_at, sign_of}
@@ -30,18 +30,24 @@ qual_of sign qs =
 abbrev pub quals_of : Quals → List Qualifier
 quals_of q = qual_of q.a (qual_of q.b (qual_of q.c []))
 
--- the qualifiers that stand next
-pub record QualsAt (s : List ℕ) (at : ℕ) (q : Quals) : Type 0 where
-  pub ok_is : q.ok ≡ distinct (qual_run (tokens_at s at))
-  pub list_is : q.ok ≡ true → quals_of q ≡ qual_run (tokens_at s at)
-  pub rest_is : q.ok ≡ true → tokens_at s q.end ≡ after_quals (tokens_at s at)
+-- the qualifiers that stand next, and where they end
+pub record QualsOf (s : List ℕ) (at : ℕ) (q : Quals) : Type 0 where
+  pub apart : distinct (qual_run (tokens_at s at)) ≡ true
+  pub list_is : quals_of q ≡ qual_run (tokens_at s at)
+  pub rest_is : tokens_at s q.end ≡ after_quals (tokens_at s at)
+
+-- none where one stands twice
+abbrev pub QualsAt : List ℕ → ℕ → Option Quals → Type 0
+QualsAt s at (Some q) = QualsOf s at q
+QualsAt s at None = distinct (qual_run (tokens_at s at)) ≡ false
 
 -- a third qualifier behind two that differ
-unfoldable pub Third : List ℕ → ℕ → ℕ → ℕ → ℕ → Quals → Type 0
-Third s a b c at q =
-    (q.ok ≡ (not (eqb a c) && not (eqb b c) && not (qual_sign (sign_of (tokens_at s at)))))
-    × (q.ok ≡ true → quals_of q ≡ qual_of a (qual_of b (qual_of c [])))
-    × (q.ok ≡ true → q.end ≡ at)
+abbrev pub only_three : List ℕ → ℕ → ℕ → ℕ → ℕ → Bool
+only_three s a b c at = not (eqb a c) && not (eqb b c) && not (qual_sign (sign_of (tokens_at s at)))
+
+unfoldable pub Third : List ℕ → ℕ → ℕ → ℕ → ℕ → Option Quals → Type 0
+Third s a b c at (Some q) = (only_three s a b c at ≡ true) × (quals_of q ≡ qual_of a (qual_of b (qual_of c []))) × (q.end ≡ at)
+Third s a b c at None = only_three s a b c at ≡ false
 
 -- whether a word of the base stands next
 unfoldable pub is_base_word : Bool → List (Token Span) → Bool
@@ -52,13 +58,21 @@ pub record AfterWords (s : List ℕ) (at : ℕ) (n : Bool) (r : ℕ) : Type 0 wh
   pub rest_is : tokens_at s r ≡ after_words n (tokens_at s at)
   pub to_is : is_base_word n (tokens_at s at) ≡ true → r ≡ last_to (words_of (word_run n (tokens_at s at)))
 
--- the base that stands next, with its qualifiers
-pub record BaseAt (s : List ℕ) (at : ℕ) (n : Bool) (b : Base) : Type 0 where
-  pub ok_is : b.ok ≡ (distinct (qual_run (tokens_at s at)) && is_base (word_run n (after_quals (tokens_at s at))))
-  pub quals_are : b.ok ≡ true → quals_of b.quals ≡ qual_run (tokens_at s at)
-  pub from_is : b.ok ≡ true → b.start ≡ first_from (words_of (word_run n (after_quals (tokens_at s at))))
-  pub to_is : b.ok ≡ true → b.end ≡ last_to (words_of (word_run n (after_quals (tokens_at s at))))
-  pub rest_is : b.ok ≡ true → tokens_at s b.end ≡ after_words n (after_quals (tokens_at s at))
+-- whether a base stands next, with its qualifiers
+unfoldable pub begins_base : List ℕ → ℕ → Bool → Bool
+begins_base s at n = distinct (qual_run (tokens_at s at)) && is_base (word_run n (after_quals (tokens_at s at)))
+
+-- that base
+pub record BaseOf (s : List ℕ) (at : ℕ) (n : Bool) (b : Base) : Type 0 where
+  pub begun : begins_base s at n ≡ true
+  pub quals_are : quals_of b.quals ≡ qual_run (tokens_at s at)
+  pub from_is : b.start ≡ first_from (words_of (word_run n (after_quals (tokens_at s at))))
+  pub to_is : b.end ≡ last_to (words_of (word_run n (after_quals (tokens_at s at))))
+  pub rest_is : tokens_at s b.end ≡ after_words n (after_quals (tokens_at s at))
+
+abbrev pub BaseAt : List ℕ → ℕ → Bool → Option Base → Type 0
+BaseAt s at n (Some b) = BaseOf s at n b
+BaseAt s at n None = begins_base s at n ≡ false
 
 -- the entries of a base and its qualifiers
 abbrev pub base_items : Base → ℕ → List Item

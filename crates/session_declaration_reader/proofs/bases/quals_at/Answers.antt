@@ -8,7 +8,7 @@ pub returns-then-not-is_qualifier-2 : goal.returns-then-not-is_qualifier-2
 returns-then-not-is_qualifier-2 c = laws.quals_one _ _ _ c.token-t.ensures _ c.is_qualifier.ensures c.if-not-is_qualifier.false _ c.token-u.ensures _ c.is_qualifier-2.ensures c.if-not-is_qualifier-2.true
 
 pub returns-then-t-u : goal.returns-then-t-u
-returns-then-t-u c = laws.quals_twice _ _ _ c.token-t.ensures _ c.is_qualifier.ensures c.if-not-is_qualifier.false _ c.token-u.ensures _ c.is_qualifier-2.ensures c.if-not-is_qualifier-2.false _ c.twice.ensures c.if-t-u.true
+returns-then-t-u c = laws.quals_twice _ _ _ c.token-t.ensures _ c.is_qualifier.ensures c.if-not-is_qualifier.false _ c.token-u.ensures _ c.is_qualifier-2.ensures c.if-not-is_qualifier-2.false c.if-t-u.true
 
 pub returns-then-not-is_qualifier-3 : goal.returns-then-not-is_qualifier-3
 returns-then-not-is_qualifier-3 c = laws.quals_two _ _ _ c.token-t.ensures _ c.is_qualifier.ensures c.if-not-is_qualifier.false _ c.token-u.ensures _ c.is_qualifier-2.ensures c.if-not-is_qualifier-2.false c.if-t-u.false _ c.token-v.ensures _ c.is_qualifier-3.ensures c.if-not-is_qualifier-3.true

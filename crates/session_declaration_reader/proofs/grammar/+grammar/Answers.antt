@@ -68,14 +68,14 @@ param_list-returns-then-void_before t c = laws.list_void _ _ _ _ _ c.if-left-eq0
 pub param_list-returns-then-void_before-2 : goal.param_list-returns-then-void_before-2
 param_list-returns-then-void_before-2 t c = laws.list_void_more _ _ _ _ _ c.if-left-eq0.false _ c.void_before.ensures c.if-void_before.false _ c.void_before-2.ensures c.if-void_before-2.true _
 
-pub param_list-returns-then-not-b : goal.param_list-returns-then-not-b
-param_list-returns-then-not-b t c = laws.list_baseless _ _ _ _ _ c.if-left-eq0.false _ c.void_before.ensures c.if-void_before.false _ c.void_before-2.ensures c.if-void_before-2.false _ c.base_at-b.ensures (not-true _ c.if-not-b.true) _
+pub param_list-returns-in_err-b : goal.param_list-returns-in_err-b
+param_list-returns-in_err-b t c = rw c.from_residual.ensures (laws.list_baseless _ _ _ _ _ c.if-left-eq0.false _ c.void_before.ensures c.if-void_before.false _ c.void_before-2.ensures c.if-void_before-2.false c.in_err-b.ensures _)
 
 pub param_list-returns-in_err-r : goal.param_list-returns-in_err-r
-param_list-returns-in_err-r t c = rw c.from_residual.ensures (laws.list_fails _ _ _ _ _ c.if-left-eq0.false _ c.void_before.ensures c.if-void_before.false _ c.void_before-2.ensures c.if-void_before-2.false _ c.base_at-b.ensures (not-false _ c.if-not-b.false) _ c.in_err-r.ensures)
+param_list-returns-in_err-r t c = rw c.from_residual-in_err-r.ensures (laws.list_fails _ _ _ _ _ c.if-left-eq0.false _ c.void_before.ensures c.if-void_before.false _ c.void_before-2.ensures c.if-void_before-2.false _ c.in_ok-b.ensures _ c.in_err-r.ensures)
 
 pub param_list-returns : goal.param_list-returns
-param_list-returns t c = laws.list_good _ _ _ _ _ c.if-left-eq0.false _ c.void_before.ensures c.if-void_before.false _ c.void_before-2.ensures c.if-void_before-2.false _ c.base_at-b.ensures (not-false _ c.if-not-b.false) _ _ c.in_ok-r.ensures _ c.param_behind.ensures
+param_list-returns t c = laws.list_good _ _ _ _ _ c.if-left-eq0.false _ c.void_before.ensures c.if-void_before.false _ c.void_before-2.ensures c.if-void_before-2.false _ c.in_ok-b.ensures _ _ c.in_ok-r.ensures _ c.param_behind.ensures
 
 pub params-returns-then-left-eq0 : goal.params-returns-then-left-eq0
 params-returns-then-left-eq0 t c = laws.params_zero _ _ _ _ _ c.if-left-eq0.true _
@@ -95,14 +95,14 @@ protos-returns-in_err-r t c = rw c.from_residual.ensures (laws.protos_fail _ _ _
 pub protos-returns : goal.protos-returns
 protos-returns t c = laws.protos_good _ _ _ _ _ _ _ c.in_ok-r.ensures _ c.suffixes.ensures
 
-pub starred-returns-then-not-q : goal.starred-returns-then-not-q
-starred-returns-then-not-q t c = laws.star_twice _ _ _ _ _ _ _ c.quals_at-q.ensures (not-true _ c.if-not-q.true) _
+pub starred-returns-in_err-q : goal.starred-returns-in_err-q
+starred-returns-in_err-q t c = rw c.from_residual.ensures (laws.star_twice _ _ _ _ _ _ c.in_err-q.ensures _)
 
 pub starred-returns-in_err-r : goal.starred-returns-in_err-r
-starred-returns-in_err-r t c = rw c.from_residual.ensures (laws.star_fails _ _ _ _ _ _ _ c.quals_at-q.ensures (not-false _ c.if-not-q.false) _ c.in_err-r.ensures)
+starred-returns-in_err-r t c = rw c.from_residual-in_err-r.ensures (laws.star_fails _ _ _ _ _ _ _ c.in_ok-q.ensures _ c.in_err-r.ensures)
 
 pub starred-returns : goal.starred-returns
-starred-returns t c = laws.star_good _ _ _ _ _ _ _ c.quals_at-q.ensures (not-false _ c.if-not-q.false) _ _ c.in_ok-r.ensures _ _ c.put_quals-m.ensures _ _ c.put_item.ensures
+starred-returns t c = laws.star_good _ _ _ _ _ _ _ c.in_ok-q.ensures _ _ c.in_ok-r.ensures _ _ c.put_quals-m.ensures _ _ c.put_item.ensures
 
 pub suffixes-returns-then-left-eq0 : goal.suffixes-returns-then-left-eq0
 suffixes-returns-then-left-eq0 t c = laws.suffix_zero _ _ _ _ _ c.if-left-eq0.true _
