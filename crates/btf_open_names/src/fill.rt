@@ -7,13 +7,16 @@ ghost use Rattle.btf_open_names.specs.filled_work.Left.{enums_put, tags_put, fil
 use crate::classify::classes;
 use base_bytes::limit;
 use base_bytes::word::put_word;
+use btf_type_table::cell;
 use btf_type_table::cell::{get_field, put_field};
 use btf_type_table::kind::{member_place, param_place, vlen_of};
 use btf_type_table::section_word::word;
-use btf_type_table::{cell, kind};
-use spec_type_table::{Entries, TypeTable};
+use spec_type_table::{Entries, Kind, TypeTable};
 
-// Entry x of the index: place * 32 + kind.
+// An entry of the index of records is the place of one, times this, and its kind: the index has a word for each record.
+const KINDS: u32 = 32;
+
+// Entry x of the index.
 fn entry_of(start: &[u32], x: u32) -> u32
     ensures { result ≡ get_or start.now x 0 }
 {
@@ -25,7 +28,7 @@ fn fill_places(b: TypeTable, start: &[u32], work: &mut [u8])
     ensures { work.new ≡ places_put start.now work.old (b.types - 1) }
 {
     for x in 1..b.types {
-        put_field(work, x, cell::PLACE, entry_of(start, x) / 32);
+        put_field(work, x, cell::PLACE, entry_of(start, x) / KINDS);
     }
 }
 
@@ -34,10 +37,10 @@ fn value_place(kind: u32, e: Entries, k: u32) -> u32
     requires { (e.at < 134217728) × (k < 65536) }
     ensures { result ≡ value_place kind e.at k }
 {
-    if kind == kind::ENUM64 {
-        return member_place(e, k) as u32;
+    match Kind::numbered(kind) {
+        Kind::Enum64 => member_place(e, k) as u32,
+        _ => param_place(e, k) as u32,
     }
-    param_place(e, k) as u32
 }
 
 // The first word of an enumerator.
@@ -66,8 +69,8 @@ fn fill_values(b: TypeTable, kind: u32, e: Entries, first: u64, work: &mut [u8])
 fn values_at(b: TypeTable, section: &[u8], entry: u32) -> u32
     ensures { result ≡ values_at b section.now entry }
 {
-    match entry % 32 {
-        kind::ENUM | kind::ENUM64 => vlen_of(word(b, section, ((entry / 32) as usize) + 4)),
+    match Kind::numbered(entry % KINDS) {
+        Kind::Enum | Kind::Enum64 => vlen_of(word(b, section, ((entry / KINDS) as usize) + 4)),
         _ => 0,
     }
 }
@@ -77,10 +80,10 @@ fn fill_enum(b: TypeTable, entry: u32, n: u32, x: u32, first: u64, work: &mut [u
     requires { (n < 65536) × (first < 281474976710656) }
     ensures { work.new ≡ enum_with b.types entry n x first work.old }
 {
-    match entry % 32 {
-        kind::ENUM | kind::ENUM64 => {
+    match Kind::numbered(entry % KINDS) {
+        Kind::Enum | Kind::Enum64 => {
             let e = Entries {
-                at: entry / 32,
+                at: entry / KINDS,
                 vlen: n,
             };
             put_field(
@@ -89,7 +92,7 @@ fn fill_enum(b: TypeTable, entry: u32, n: u32, x: u32, first: u64, work: &mut [u
                 cell::FIRST_ENUMERATOR,
                 (first % limit::TWO_TO_32) as u32,
             );
-            fill_values(b, entry % 32, e, first, work);
+            fill_values(b, entry % KINDS, e, first, work);
         }
         _ => {}
     }
@@ -112,10 +115,10 @@ fn fill_enums(b: TypeTable, section: &[u8], start: &[u32], work: &mut [u8])
 fn fill_tag(b: TypeTable, section: &[u8], entry: u32, x: u32, work: &mut [u8])
     ensures { work.new ≡ tag_put b section.now entry x work.old }
 {
-    if entry % 32 != kind::DECL_TAG {
+    if Kind::numbered(entry % KINDS) != Kind::DeclTag {
         return;
     }
-    let on = word(b, section, ((entry / 32) as usize) + 8);
+    let on = word(b, section, ((entry / KINDS) as usize) + 8);
     if b.types <= on {
         return;
     }

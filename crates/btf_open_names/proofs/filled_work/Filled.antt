@@ -10,6 +10,10 @@ use lib.ListN.{get_or}
 use borrow.Author.Tests.{lt-ltb, le-ltb, ne_eqb}
 use Rattle.spec_bytes.specs.words.Words.{put_word}
 use Rattle.spec_type_table.specs.declared.types.TypeTable.{TypeTable}
+use Rattle.spec_type_table.specs.declared.kind.Kind.{Kind}
+use Rattle.spec_type_table.specs.declared.kind.Kind.TheVariants.{Enum, Enum64, DeclTag}
+use Rattle.spec_type_table.specs.Kinds.{kind_named}
+use Rattle.spec_type_table.proofs.KindNames.{enum_number, enum64_number, enum_named, enum64_named, decl_tag_named}
 use Rattle.spec_type_table.specs.Cells.{get_field, put_field}
 use Rattle.spec_type_table.specs.Records.{section_word, vlen_of, member_at, param_at}
 use Rattle.btf_open_names.specs.name_classes.Classes.{table_classed}
@@ -57,6 +61,25 @@ module _ (types kind at first : ℕ) (w₀ : List ℕ) where
 
   pub values_all : (w : List ℕ) (k n : ℕ) → w ≡ values_put types kind at first w₀ k → k ≡ n → w ≡ values_put types kind at first w₀ n
   values_all w k n e f = e ∙ ap (values_put types kind at first w₀) f
+
+-- ---- kinds
+module _ (k : ℕ) (x : Kind) (e : x ≡ kind_named k) where
+  pub enum_64 : x ≡ Enum64 → k ≡ 19
+  enum_64 q = enum64_number k (sym e ∙ q)
+
+  pub enum_32 : (x ≡ Enum64 → ⊥) → k ≡ 19 → ⊥
+  enum_32 n q = n (e ∙ ap kind_named q ∙ enum64_named)
+
+  pub enum_is : (x ≡ Enum) ⊎ (x ≡ Enum64) → (k ≡ 6) ⊎ (k ≡ 19)
+  enum_is (inl q) = inl (enum_number k (sym e ∙ q))
+  enum_is (inr q) = inr (enum_64 q)
+
+  pub enum_not : (x ≡ Enum → ⊥) → (x ≡ Enum64 → ⊥) → (k ≡ 6) ⊎ (k ≡ 19) → ⊥
+  enum_not n m (inl q) = n (e ∙ ap kind_named q ∙ enum_named)
+  enum_not n m (inr q) = enum_32 m q
+
+  pub tag_kind : k ≡ 17 → x ≡ DeclTag
+  tag_kind q = e ∙ ap kind_named q ∙ decl_tag_named
 
 -- ---- enums
 pub enum_yes : (k : ℕ) → (k ≡ 6) ⊎ (k ≡ 19) → is_enum k ≡ true

@@ -1,8 +1,8 @@
-use Rattle.btf_open_names.proofs.filled_work.Filled.{value_64, value_32}
+use Rattle.btf_open_names.proofs.filled_work.Filled.{enum_64, enum_32, value_64, value_32}
 use Rattle.btf_open_names.proofs.fill.value_place.Goals as goal
 
-pub returns-then-kind-eq-ENUM64 : goal.returns-then-kind-eq-ENUM64
-returns-then-kind-eq-ENUM64 c = value_64 _ _ _ c.if-kind-eq-ENUM64.true _ c.member_place.ensures
+pub returns-in-Enum64 : goal.returns-in-Enum64
+returns-in-Enum64 c = value_64 _ _ _ (enum_64 _ _ c.numbered.ensures c.in-Enum64.is) _ c.member_place.ensures
 
-pub returns : goal.returns
-returns c = value_32 _ _ _ c.if-kind-eq-ENUM64.false _ c.param_place.ensures
+pub returns-in_default : goal.returns-in_default
+returns-in_default c = value_32 _ _ _ (enum_32 _ _ c.numbered.ensures c.in_default.not-Enum64) _ c.param_place.ensures
