@@ -6,6 +6,7 @@ ghost use Rattle.session_cut_marks.specs.roles.Words.{words_in};
 ghost use Rattle.session_cut_marks.specs.interned.Slots.{slot_of};
 ghost use Rattle.session_cut_marks.specs.interned.Filled.{filled_of, settled, entered, entered_to, entered_type, filling_of, filling};
 ghost use Rattle.session_cut_marks.specs.kept.AtKept.{at_kept};
+ghost use Rattle.session_cut_marks.specs.interned.Filler.{filled_by};
 
 use crate::interned::slots::slot_of;
 use crate::kept::Kept;
@@ -43,65 +44,91 @@ impl Kept<'_> {
         let off = word_of(self.b, self.section, m.e, m.j);
         size(self.b, self.section, off)
     }
+}
 
-    // The name that a word mentions: entered where its slot is free.
-    fn settle(&self, m: Mention, off: u32, len: u32, table: &mut [u64]) -> u32
-        requires { (length self.now.section.now ≤ 16777216) × (len ≤ 16777216) }
-        ensures { filled_of result table.new
-            ≡ at_kept settled self.now m.x m.e m.j off (slot_of self.now.b self.now.section.now table.old off) len table.old }
+// The table that is being filled, and the length of the strings so far.
+#[derive(Drop)]
+struct Filler<'a> {
+    table: &'a mut [u64],
+    len: u32,
+}
+
+impl Filler<'_> {
+    // The slot of a name.
+    fn slot(&self, kept: &Kept, off: u32) -> u32
+        ensures { result ≡ slot_of kept.now.b kept.now.section.now self.now.table.now off }
     {
-        let at = slot_of(self.b, self.section, table, off) as usize;
-        if table.len() <= at {
-            return len + self.new_size(m);
-        }
-        if table[at] != 0 {
-            return len;
-        }
-        table[at] = (off as u64) + (len as u64) * limit::TWO_TO_32;
-        len + size(self.b, self.section, off)
+        slot_of(kept.b, kept.section, self.table, off)
     }
 
-    fn enter(&self, m: Mention, len: u32, table: &mut [u64]) -> u32
-        requires { length self.now.section.now ≤ 16777216 }
-        ensures { filled_of result table.new ≡ at_kept entered self.now m.x m.e m.j len table.old }
+    // The name that a word mentions: entered where its slot is free.
+    fn settle(&mut self, kept: &Kept, m: Mention, off: u32)
+        requires { (length kept.now.section.now ≤ 16777216) × (self.old.len ≤ 16777216) }
+        ensures filled { filled_by self.new
+            ≡ at_kept settled kept.now m.x m.e m.j off
+            (slot_of kept.now.b kept.now.section.now self.old.table.now off) self.old.len
+            self.old.table.now }
+        ensures same { self.new.table.ghost_name ≡ self.old.table.ghost_name }
     {
-        if limit::MOST_BYTES_32 < len {
-            return len;
+        let at = self.slot(kept, off) as usize;
+        if self.table.len() <= at {
+            self.len += kept.new_size(m);
+            return;
+        }
+        if self.table[at] != 0 {
+            return;
+        }
+        self.table[at] = (off as u64) + (self.len as u64) * limit::TWO_TO_32;
+        self.len += size(kept.b, kept.section, off);
+    }
+
+    fn enter(&mut self, kept: &Kept, m: Mention)
+        requires { length kept.now.section.now ≤ 16777216 }
+        ensures filled { filled_by self.new
+            ≡ at_kept entered kept.now m.x m.e m.j self.old.len self.old.table.now }
+        ensures same { self.new.table.ghost_name ≡ self.old.table.ghost_name }
+    {
+        if limit::MOST_BYTES_32 < self.len {
+            return;
         }
         let Role::Name = word_role(m.e % 32, m.j) else {
-            return len;
+            return;
         };
-        let off = word_of(self.b, self.section, m.e, m.j);
-        if is_empty(self.b, self.section, off) {
-            return len;
+        let off = word_of(kept.b, kept.section, m.e, m.j);
+        if is_empty(kept.b, kept.section, off) {
+            return;
         }
-        self.settle(m, off, len, table)
+        self.settle(kept, m, off);
     }
 
     // The words of the record with entry e, that of type x.
-    fn enter_words(&self, x: u32, e: u32, len: u32, table: &mut [u64]) -> u32
-        requires { length self.now.section.now ≤ 16777216 }
-        ensures { filled_of result table.new
-            ≡ at_kept entered_to self.now x e len table.old (words_in self.now.b self.now.section.now e) }
+    fn enter_words(&mut self, kept: &Kept, x: u32, e: u32)
+        requires { length kept.now.section.now ≤ 16777216 }
+        ensures filled { filled_by self.new
+            ≡ at_kept entered_to kept.now x e self.old.len self.old.table.now
+            (words_in kept.now.b kept.now.section.now e) }
+        ensures same { self.new.table.ghost_name ≡ self.old.table.ghost_name }
     {
-        let mut now_len = len;
-        for j in 0..words_in(self.b, self.section, e) {
-            now_len = self.enter(Mention { x, e, j }, now_len, table);
+        for j in 0..words_in(kept.b, kept.section, e) {
+            self.enter(kept, Mention { x, e, j });
         }
-        now_len
     }
 
     // Type x, if it is kept.
-    fn enter_type(&self, x: u32, len: u32, table: &mut [u64]) -> u32
-        requires { length self.now.section.now ≤ 16777216 }
-        ensures { filled_of result table.new ≡ at_kept entered_type self.now x len table.old }
+    fn enter_type(&mut self, kept: &Kept, x: u32)
+        requires { length kept.now.section.now ≤ 16777216 }
+        ensures filled { filled_by self.new
+            ≡ at_kept entered_type kept.now x self.old.len self.old.table.now }
+        ensures same { self.new.table.ghost_name ≡ self.old.table.ghost_name }
     {
-        if self.new_id(x) == 0 {
-            return len;
+        if kept.new_id(x) == 0 {
+            return;
         }
-        self.enter_words(x, self.entry(x), len, table)
+        self.enter_words(kept, x, kept.entry(x));
     }
+}
 
+impl Kept<'_> {
     // The table of all types, and in `lengths` the length of the strings before each. Returns the length of the strings; above 16,777,216
     // it says no more than that. (0 for a section that is too long: of any other the strings have the leading 0.)
     pub fn fill_table(&self, table: &mut [u64], lengths: &mut [u32]) -> u32
@@ -110,15 +137,16 @@ impl Kept<'_> {
         if limit::MOST_BYTES < self.section.len() {
             return 0;
         }
-        let mut len = 1;
+        let mut filler = Filler { table, len: 1 };
         for x in 0..count(self.b) {
-            store(lengths, x as usize, len);
-            len = self.enter_type(x, len, table);
+            store(lengths, x as usize, filler.len);
+            filler.enter_type(self, x);
         }
-        len
+        filler.len
     }
 }
 
+// Sets word i. By index: with get_mut the proof of what the slice is afterwards did not close.
 fn store(l: &mut [u32], i: usize, v: u32)
     ensures { l.new ≡ set l.old i v }
 {

@@ -37,7 +37,7 @@ fn named_to(b: TypeTable, section: &[u8], e: u32, off: u32, n: u32) -> bool
     (0..n).any(|j| is_name(b, section, e, off, j))
 }
 
-// The first such word, or n.
+// The first such word, or n. (No Option: it is asked only where a word mentions the name.)
 pub fn first_name(b: TypeTable, section: &[u8], e: u32, off: u32, n: u32) -> u32
     ensures { result ≡ first_from b section.now e off 0 n }
 {

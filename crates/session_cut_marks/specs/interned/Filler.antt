@@ -1,0 +1,6 @@
+-- Length and table of a value of the code.
+use Rattle.session_cut_marks.specs.declared.interned.fill.Filler.{Filler}
+use Rattle.session_cut_marks.specs.interned.Filled.{Filled, filled_of}
+
+abbrev pub filled_by : Filler → Filled
+filled_by f = filled_of f.len f.table.now
