@@ -17,7 +17,8 @@ use session_record::record_words::{
     ANSWER_CLOSED, ANSWER_SHORT_SLICE, RECORD_BYTES, decode, number_and_value,
 };
 use session_requests::open_call::open_core;
-use session_requests::requests::{dump_list_core, dump_type_core, dump_types_core};
+use session_requests::options::Options;
+use session_requests::requests::{request_list, request_type, request_types};
 
 #[unsafe(no_mangle)]
 pub extern "C" fn btfdump_open(
@@ -52,8 +53,9 @@ pub extern "C" fn btfdump_dump_type(
     if record.len() < RECORD_BYTES {
         return ANSWER_CLOSED;
     }
-    let t = dump_type_core(decode(record), section, work, text, id);
-    answered(record, t)
+    let s = decode(record);
+    let d = request_type(s, section, work, text, &mut [0u8; 0], id, Options::Plain);
+    answered(record, d.turn)
 }
 
 #[unsafe(no_mangle)]
@@ -69,8 +71,9 @@ pub extern "C" fn btfdump_dump_types(
     if record.len() < RECORD_BYTES {
         return ANSWER_CLOSED;
     }
-    let t = dump_types_core(decode(record), section, work, text);
-    answered(record, t)
+    let s = decode(record);
+    let d = request_types(s, section, work, text, &mut [0u8; 0], Options::Plain);
+    answered(record, d.turn)
 }
 
 #[unsafe(no_mangle)]
@@ -90,8 +93,9 @@ pub extern "C" fn btfdump_dump_list(
     if record.len() < RECORD_BYTES {
         return ANSWER_CLOSED;
     }
-    let t = dump_list_core(decode(record), section, work, text, ids);
-    listed(record, t)
+    let s = decode(record);
+    let d = request_list(s, section, work, text, &mut [0u8; 0], ids, Options::Plain);
+    listed(record, d.turn)
 }
 
 #[unsafe(no_mangle)]

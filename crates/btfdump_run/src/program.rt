@@ -5,7 +5,8 @@ ghost use Rattle.btfdump_run.specs.printed.Printed.{never_opened, ran_to, ran_al
 
 use crate::printed::put_refused;
 use session_requests::open_call::open_core;
-use session_requests::requests::dump_types_core;
+use session_requests::options::Options;
+use session_requests::requests::request_types;
 use spec_session::session::{Answer, Session};
 
 fn closed() -> Session
@@ -41,8 +42,8 @@ fn run_all(s: Session, section: &[u8], work: &mut [u8], text: &mut [u8]) -> usiz
     ensures { ran_to result text.new work.new
         ≡ ran_all (types_call s section.now work.old text.old) }
 {
-    let turn = dump_types_core(s, section, work, text);
-    let answer = turn.answer;
+    let d = request_types(s, section, work, text, &mut [0u8; 0], Options::Plain);
+    let answer = d.turn.answer;
     match answer {
         Answer::Refused(number, _) => put_refused(text, number),
         Answer::Accepted(len) => len as usize,

@@ -6,7 +6,8 @@ ghost use Rattle.spec_session.specs.calls.Calls.{open_call, type_call, types_cal
 ghost use Rattle.spec_session.specs.calls.Lists.{ids_in, list_call};
 
 use crate::open_call::open_core;
-use crate::requests::{dump_list_core, dump_type_core, dump_types_core};
+use crate::options::Options;
+use crate::requests::{request_list, request_type, request_types};
 use spec_session::session::{Answer, Session};
 
 pub fn open(
@@ -35,7 +36,7 @@ pub fn dump_type(
     ensures { call_of s.new result work.new text.new ≡ type_call s.old section.now
         work.old text.old id }
 {
-    let turn = dump_type_core(*s, section, work, text, id);
+    let turn = request_type(*s, section, work, text, &mut [0u8; 0], id, Options::Plain).turn;
     *s = turn.session;
     turn.answer
 }
@@ -44,7 +45,7 @@ pub fn dump_types(s: &mut Session, section: &[u8], work: &mut [u8], text: &mut [
     ensures { call_of s.new result work.new text.new
         ≡ types_call s.old section.now work.old text.old }
 {
-    let turn = dump_types_core(*s, section, work, text);
+    let turn = request_types(*s, section, work, text, &mut [0u8; 0], Options::Plain).turn;
     *s = turn.session;
     turn.answer
 }
@@ -61,7 +62,7 @@ pub fn dump_list(
     ensures { call_of s.new result work.new text.new
         ≡ list_call s.old section.now work.old text.old (ids_in ids.now) }
 {
-    let turn = dump_list_core(*s, section, work, text, ids);
+    let turn = request_list(*s, section, work, text, &mut [0u8; 0], ids, Options::Plain).turn;
     *s = turn.session;
     turn.answer
 }

@@ -1,13 +1,44 @@
 // The options of a request, and what a call with them comes to.
+ghost use Rattle.std.specs.Prelude.{◌≡◌};
+ghost use Rattle.session_requests.specs.options.Options.{is_listed, ceiling_of};
+
 use c_dumper_dependency_order::begin::Ceiling;
 use spec_session::session::{Reached, Tally, Turn};
 
-// What a call is lent or told beside its ids: a ceiling on the calls of ordering, which its requests share, and whether there is a
-// list that gets an entry for each line.
+// What a call is told beside its ids: nothing; a ceiling on the calls of ordering, which its requests share; or that the lent list
+// gets an entry for each line.
 #[derive(Clone, Copy)]
-pub struct Options {
-    pub ceiling: Ceiling,
-    pub lists: bool,
+pub enum Options {
+    Plain,
+    Within(u64),
+    Listed,
+}
+
+impl Options {
+    pub fn is_listed(self) -> bool
+        ensures { result ≡ is_listed self }
+    {
+        match self {
+            Options::Listed => true,
+            Options::Plain | Options::Within(_) => false,
+        }
+    }
+
+    // As the ordering takes it.
+    pub fn ceiling(self) -> Ceiling
+        ensures { result ≡ ceiling_of self }
+    {
+        match self {
+            Options::Within(calls) => Ceiling {
+                is_set: true,
+                calls: calls,
+            },
+            Options::Plain | Options::Listed => Ceiling {
+                is_set: false,
+                calls: 0,
+            },
+        }
+    }
 }
 
 // Where the requests of a call have come to, how many entries they left, and the calls of ordering made under a ceiling.

@@ -3,10 +3,9 @@ ghost use Rattle.std.specs.Prelude.{◌+◌, ◌≤◌, ◌≡◌, [], length};
 ghost use Rattle.spec_c_dumper.specs.origins.Causes.{up_to, entries_in};
 ghost use Rattle.spec_session.specs.session.Turns.{visits_in};
 ghost use Rattle.c_dumper_emit.specs.entries.Noted.{entries_of};
-ghost use Rattle.session_requests.specs.options.Requests.{stage_of, Under, Ready, Single, requested_with, idle_after};
+ghost use Rattle.session_requests.specs.options.Requests.{stage_of, Under, Ready, requested_with, idle_after};
 
 use crate::options::{Options, Progress};
-use c_dumper_dependency_order::begin::Ceiling;
 use c_dumper_dependency_order::ways::count_idle;
 use c_dumper_emit::dump_type::{dump_type, is_idle};
 use c_dumper_emit::entries::{Asked, Pen};
@@ -31,7 +30,7 @@ pub fn dump_one(
     turn: u32,
     o: Options,
 ) -> Progress
-    requires { (len ≤ length text.old) × (b.types ≤ 262145) × Under o made × Ready o turn leads.old × Single o }
+    requires { (len ≤ length text.old) × (b.types ≤ 262145) × Under o made × Ready o turn leads.old }
     ensures { (stage_of result work.new text.new list.new
         ≡ requested_with o (up_to (entries_in list.old)) b section.now id [] len visits
         work.old text.old made) × (result.count ≤ entries_in list.old)
@@ -44,7 +43,7 @@ pub fn dump_one(
     let q = Asked {
         req: id,
         turn: turn,
-        lists: o.lists,
+        lists: o.is_listed(),
     };
     let d = dump_type(
         b,
@@ -56,7 +55,7 @@ pub fn dump_one(
         start,
         q,
         made,
-        o.ceiling,
+        o.ceiling(),
     );
     let r = arrived(len, visits, to - from, d.pen.at);
     if r.number != 0 {
@@ -90,7 +89,7 @@ fn dump_after(
     o: Options,
 ) -> Progress
     requires { (p.reached.len ≤ length text.old) × (b.types ≤ 262145) × (p.count ≤ entries_in list.old) × Under o p.made
-        × Ready o id leads.old × Single o }
+        × Ready o id leads.old }
     ensures { (stage_of result work.new text.new list.new
         ≡ requested_with o (up_to (entries_in list.old)) b section.now id (entries_of p.count list.old)
         p.reached.len p.reached.visits work.old text.old p.made)
@@ -121,14 +120,14 @@ fn dump_after(
     }
 }
 
-// A request that has nothing to write: it opens one call of ordering.
-fn pass_idle(p: Progress, c: Ceiling) -> Progress
-    ensures { result ≡ idle_after p c }
+// A request that has nothing to write: it opens one call of ordering, which only a ceiling counts.
+fn pass_idle(p: Progress, o: Options) -> Progress
+    ensures { result ≡ idle_after p o }
 {
     let len = p.reached.len;
     let visits = p.reached.visits;
-    if !c.is_set {
-        return Progress {
+    match o {
+        Options::Plain | Options::Listed => Progress {
             reached: Reached {
                 len: len,
                 number: 0,
@@ -136,17 +135,19 @@ fn pass_idle(p: Progress, c: Ceiling) -> Progress
             },
             count: p.count,
             made: p.made,
-        };
-    }
-    let n = count_idle(p.made, c.calls);
-    Progress {
-        reached: Reached {
-            len: len,
-            number: n.number,
-            visits: visits,
         },
-        count: p.count,
-        made: n.made,
+        Options::Within(calls) => {
+            let n = count_idle(p.made, calls);
+            Progress {
+                reached: Reached {
+                    len: len,
+                    number: n.number,
+                    visits: visits,
+                },
+                count: p.count,
+                made: n.made,
+            }
+        }
     }
 }
 
@@ -163,7 +164,7 @@ pub fn dump_next(
     o: Options,
 ) -> Progress
     requires { (p.reached.len ≤ length text.old) × (b.types ≤ 262145) × (p.count ≤ entries_in list.old) × Under o p.made
-        × Ready o id leads.old × Single o × (p.reached.visits ≡ visits_in work.old) }
+        × Ready o id leads.old × (p.reached.visits ≡ visits_in work.old) }
     ensures { (stage_of result work.new text.new list.new
         ≡ requested_with o (up_to (entries_in list.old)) b section.now id (entries_of p.count list.old)
         p.reached.len (visits_in work.old) work.old text.old p.made)
@@ -171,7 +172,7 @@ pub fn dump_next(
         × (result.reached.number ≡ 0 → (result.reached.visits ≡ visits_in work.new) × Ready o (id + 1) leads.new) }
 {
     if is_idle(b, section, work, id) {
-        return pass_idle(p, o.ceiling);
+        return pass_idle(p, o);
     }
     dump_after(b, section, work, text, list, leads, p, id, o)
 }

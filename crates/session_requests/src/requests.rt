@@ -1,30 +1,27 @@
-// The calls of a session by value: one request, the request for all ids and a list of ids, each plain, under a ceiling, or with a
-// list that gets an entry for each line. Opening: `open_call`.
-ghost use Rattle.std.specs.Prelude.{◌+◌, ◌*◌, ◌-◌, ◌≤◌, true, false, ◌≡◌, [], length};
+// The calls of a session by value: one request, the request for all ids and a list of ids, each with its options. What they are
+// plain, under a ceiling, and with a list that gets an entry for each line: proofs/options/Cases. Opening: `open_call`.
+ghost use Rattle.std.specs.Prelude.{◌+◌, ◌*◌, ◌-◌, ◌≤◌, true, ◌≡◌, [], length};
+ghost use Rattle.spec_bytes.specs.Refusals.{refusal_number};
 ghost use Rattle.spec_c_dumper.specs.origins.Causes.{up_to, entries_in};
-ghost use Rattle.spec_session.specs.session.Turns.{call_of, is_current, then_zeros};
-ghost use Rattle.spec_session.specs.calls.Calls.{type_call, types_call};
-ghost use Rattle.spec_session.specs.calls.Lists.{ids_in, list_call};
-ghost use Rattle.spec_session.specs.origin_calls.Bytes.{type_causes, types_causes};
-ghost use Rattle.spec_session.specs.metered.Within.{type_call_within, types_call_within};
-ghost use Rattle.spec_session.specs.metered.Lists.{list_call_within};
-ghost use Rattle.spec_session.specs.origin_calls.Several.{list_causes_call};
-ghost use Rattle.session_requests.specs.options.Requests.{stage_of, Ready, Single, requested_from_with};
-ghost use Rattle.session_requests.specs.options.Requests.{ended_of, counted_of, explained_of, type_call_with, types_call_with};
+ghost use Rattle.spec_session.specs.session.Answers.{answer_of};
+ghost use Rattle.spec_session.specs.session.Turns.{is_current, then_zeros, turn_of};
+ghost use Rattle.spec_session.specs.calls.Lists.{ids_in};
+ghost use Rattle.session_requests.specs.options.Options.{is_listed};
+ghost use Rattle.session_requests.specs.declared.options.Options.TheVariants.{Listed};
+ghost use Rattle.session_requests.specs.options.Requests.{stage_of, Ready, requested_from_with};
+ghost use Rattle.session_requests.specs.options.Requests.{ended_of, type_call_with, types_call_with};
 ghost use Rattle.session_requests.specs.options.Lists.{cleared_if, list_after, end_with, list_call_with};
 
 use crate::options::{Ended, Options, Progress, Tallied};
 use crate::request::{dump_next, dump_one};
+use base_bytes::limit;
+use base_bytes::refusal::{NO_SUCH_ID, Refusal};
 use base_bytes::word::{clear, get_word};
-use base_bytes::{limit, refusal};
 use btf_open_causes::header::btf_of;
-use c_dumper_dependency_order::begin::Ceiling;
 use session_record::arrival::{count_of, settle_list};
 use session_record::settle::{clear_from, is_current, settle, turn_of, visits_in};
-use spec_session::session::{Reached, Session, Tally, Turn};
+use spec_session::session::{Reached, Session, Tally};
 use spec_type_table::TypeTable;
-
-// ---- the three forms, with their options
 
 // Before the first request of a call, after a text of len bytes and so many visits.
 fn none_yet(len: u32, visits: u32) -> Progress
@@ -52,20 +49,18 @@ fn dump_all(
     len: u32,
     o: Options,
 ) -> Progress
-    requires { (len ≤ length text.old) × (b.types ≤ 262145) × Ready o 1 leads.old × Single o }
+    requires { (len ≤ length text.old) × (b.types ≤ 262145) × Ready o 1 leads.old }
     ensures { (stage_of result work.new text.new list.new
         ≡ requested_from_with o (up_to (entries_in list.old)) b section.now (b.types - 1) 1 [] len
         work.old text.old 0) × (result.count ≤ entries_in list.old) }
 {
     let n = b.types;
     let mut r = none_yet(len, visits_in(work));
-    let mut id: u32 = 1;
-    while id < n {
+    for id in 1..n {
         r = dump_next(b, section, work, text, list, leads, r, id, o);
         if r.reached.number != 0 {
             return r;
         }
-        id += 1;
     }
     r
 }
@@ -95,19 +90,19 @@ fn unknown(r: Reached) -> Reached
 {
     Reached {
         len: r.len,
-        number: refusal::NO_SUCH_ID,
+        number: u32::from(Refusal::NoSuchId),
         visits: r.visits,
     }
 }
 
 // With a list the text is zeroed after each id, as single requests leave it.
-fn clear_if(text: &mut [u8], len: u32, lists: bool)
-    ensures { text.new ≡ cleared_if lists len text.old }
+fn clear_if(text: &mut [u8], len: u32, o: Options)
+    ensures { text.new ≡ cleared_if (is_listed o) len text.old }
 {
-    if !lists {
-        return;
+    match o {
+        Options::Listed => clear_from(text, len),
+        Options::Plain | Options::Within(_) => {}
     }
-    clear_from(text, len);
 }
 
 // The ids of a list in their order, to the first that is refused; what follows the text and the entries is not zeroed yet.
@@ -122,7 +117,7 @@ fn dump_ids(
     o: Options,
 ) -> Tallied
     requires { (is_current s (length section.now) (length work.old) (length text.old)
-        ≡ true) × Ready o 1 leads.old × Single o }
+        ≡ true) × Ready o 1 leads.old }
     ensures { (end_with s result work.new text.new list.new
         ≡ list_call_with o s section.now work.old text.old (ids_in ids.now)
         list.old) × (result.count ≤ entries_in list.old) }
@@ -130,8 +125,7 @@ fn dump_ids(
     let b = btf_of(section, s.pointer_size, s.modes, s.types);
     let n = count_of(ids);
     let mut r = none_yet(s.text_len, s.visits);
-    let mut k: u32 = 0;
-    while k < n {
+    for k in 0..n {
         let id = get_word(ids, k as usize);
         if s.types <= id {
             return tally_of(unknown(r.reached), k, r.count, r.made);
@@ -156,15 +150,14 @@ fn dump_ids(
             return tally_of(d.reached, k, count + d.count, d.made);
         }
         let reached = d.reached;
-        clear_if(text, reached.len, o.lists);
+        clear_if(text, reached.len, o);
         r = Progress {
             reached: reached,
             count: count + d.count,
             made: d.made,
         };
-        k += 1;
     }
-    tally_of(r.reached, k, r.count, r.made)
+    tally_of(r.reached, n, r.count, r.made)
 }
 
 // Zeroes what follows the entries.
@@ -184,7 +177,7 @@ fn clear_after(list: &mut [u8], r: Tallied)
     requires { r.count ≤ entries_in list.old }
     ensures { list.new ≡ list_after r list.old }
 {
-    if r.tally.number <= refusal::NO_SUCH_ID {
+    if r.tally.number <= NO_SUCH_ID {
         if r.tally.accepted == 0 {
             return;
         }
@@ -194,7 +187,20 @@ fn clear_after(list: &mut [u8], r: Tallied)
     clear_entries(list, r.count);
 }
 
-fn request_type(
+// A call that leaves everything as it was.
+fn unchanged(s: Session, c: Refusal, value: u32) -> Ended
+    ensures { result ≡ record { turn = turn_of s (answer_of (refusal_number c) value); count = 0; made = 0 } }
+{
+    Ended {
+        turn: turn_of(s, u32::from(c), value),
+        count: 0,
+        made: 0,
+    }
+}
+
+// ---- the three forms, with the words for the leaders, which only a list needs
+
+fn type_with(
     s: Session,
     section: &[u8],
     work: &mut [u8],
@@ -204,23 +210,15 @@ fn request_type(
     id: u32,
     o: Options,
 ) -> Ended
-    requires { Ready o 1 leads.old × Single o }
+    requires { Ready o 1 leads.old }
     ensures { ended_of result work.new text.new list.new
         ≡ type_call_with o s section.now work.old text.old id list.old 0 }
 {
     if !is_current(s, section.len(), work.len(), text.len()) {
-        return Ended {
-            turn: turn_of(s, refusal::SESSION_CLOSED, s.text_len),
-            count: 0,
-            made: 0,
-        };
+        return unchanged(s, Refusal::SessionClosed, s.text_len);
     }
     if s.types <= id {
-        return Ended {
-            turn: turn_of(s, refusal::NO_SUCH_ID, s.text_len),
-            count: 0,
-            made: 0,
-        };
+        return unchanged(s, Refusal::NoSuchId, s.text_len);
     }
     let b = btf_of(section, s.pointer_size, s.modes, s.types);
     let r = dump_one(
@@ -235,7 +233,7 @@ fn request_type(
     }
 }
 
-fn request_types(
+fn types_with(
     s: Session,
     section: &[u8],
     work: &mut [u8],
@@ -244,16 +242,12 @@ fn request_types(
     leads: &mut [u64],
     o: Options,
 ) -> Ended
-    requires { Ready o 1 leads.old × Single o }
+    requires { Ready o 1 leads.old }
     ensures { ended_of result work.new text.new list.new
         ≡ types_call_with o s section.now work.old text.old list.old }
 {
     if !is_current(s, section.len(), work.len(), text.len()) {
-        return Ended {
-            turn: turn_of(s, refusal::SESSION_CLOSED, s.text_len),
-            count: 0,
-            made: 0,
-        };
+        return unchanged(s, Refusal::SessionClosed, s.text_len);
     }
     let b = btf_of(section, s.pointer_size, s.modes, s.types);
     let r = dump_all(b, section, work, text, list, leads, s.text_len, o);
@@ -266,7 +260,7 @@ fn request_types(
     }
 }
 
-fn request_list(
+fn list_with(
     s: Session,
     section: &[u8],
     work: &mut [u8],
@@ -276,7 +270,7 @@ fn request_list(
     ids: &[u8],
     o: Options,
 ) -> Ended
-    requires { Ready o 1 leads.old × Single o }
+    requires { Ready o 1 leads.old }
     ensures { ended_of result work.new text.new list.new
         ≡ list_call_with o s section.now work.old text.old (ids_in ids.now)
         list.old }
@@ -289,11 +283,7 @@ fn request_list(
         };
     }
     if !is_current(s, section.len(), work.len(), text.len()) {
-        return Ended {
-            turn: turn_of(s, refusal::SESSION_CLOSED, 0),
-            count: 0,
-            made: 0,
-        };
+        return unchanged(s, Refusal::SessionClosed, 0);
     }
     let r = dump_ids(s, section, work, text, list, leads, ids, o);
     let turn = settle_list(s, work, text, r.tally);
@@ -305,151 +295,50 @@ fn request_list(
     }
 }
 
-fn options_of(is_set: bool, calls: u64, lists: bool) -> Options
-    ensures { result ≡ record { ceiling = record { is_set = is_set; calls = calls }; lists = lists } }
-{
-    Options {
-        ceiling: Ceiling {
-            is_set: is_set,
-            calls: calls,
-        },
-        lists: lists,
-    }
-}
+// ---- with a list. Its words stand in functions of their own: another call pays nothing for them at its entry.
 
-// ---- plain
-
-pub fn dump_type_core(s: Session, section: &[u8], work: &mut [u8], text: &mut [u8], id: u32) -> Turn
-    ensures { call_of result.session result.answer work.new text.new
-        ≡ type_call s section.now work.old text.old id }
-{
-    let o = options_of(false, 0, false);
-    let r = request_type(s, section, work, text, &mut [0u8; 0], &mut [0u64; 0], id, o);
-    r.turn
-}
-
-pub fn dump_types_core(s: Session, section: &[u8], work: &mut [u8], text: &mut [u8]) -> Turn
-    ensures { call_of result.session result.answer work.new text.new
-        ≡ types_call s section.now work.old text.old }
-{
-    let o = options_of(false, 0, false);
-    let r = request_types(s, section, work, text, &mut [0u8; 0], &mut [0u64; 0], o);
-    r.turn
-}
-
-pub fn dump_list_core(
+#[inline(never)]
+fn type_listed(
     s: Session,
     section: &[u8],
     work: &mut [u8],
     text: &mut [u8],
-    ids: &[u8],
-) -> Turn
-    ensures { call_of result.session result.answer work.new text.new
-        ≡ list_call s section.now work.old text.old (ids_in ids.now) }
-{
-    let o = options_of(false, 0, false);
-    let r = request_list(
-        s,
-        section,
-        work,
-        text,
-        &mut [0u8; 0],
-        &mut [0u64; 0],
-        ids,
-        o,
-    );
-    r.turn
-}
-
-// ---- under a ceiling
-
-pub fn dump_type_within(
-    s: Session,
-    section: &[u8],
-    work: &mut [u8],
-    text: &mut [u8],
+    list: &mut [u8],
     id: u32,
-    ceiling: u64,
 ) -> Ended
-    ensures { counted_of result work.new text.new
-        ≡ type_call_within ceiling s section.now work.old text.old id 0 }
+    ensures { ended_of result work.new text.new list.new
+        ≡ type_call_with Listed s section.now work.old text.old id list.old 0 }
 {
-    let o = options_of(true, ceiling, false);
-    request_type(s, section, work, text, &mut [0u8; 0], &mut [0u64; 0], id, o)
-}
-
-pub fn dump_types_within(
-    s: Session,
-    section: &[u8],
-    work: &mut [u8],
-    text: &mut [u8],
-    ceiling: u64,
-) -> Ended
-    ensures { counted_of result work.new text.new
-        ≡ types_call_within ceiling s section.now work.old text.old }
-{
-    let o = options_of(true, ceiling, false);
-    request_types(s, section, work, text, &mut [0u8; 0], &mut [0u64; 0], o)
-}
-
-pub fn dump_list_within(
-    s: Session,
-    section: &[u8],
-    work: &mut [u8],
-    text: &mut [u8],
-    ids: &[u8],
-    ceiling: u64,
-) -> Ended
-    ensures { counted_of result work.new text.new
-        ≡ list_call_within ceiling s section.now work.old text.old (ids_in ids.now) }
-{
-    let o = options_of(true, ceiling, false);
-    request_list(
+    let mut leads = [0u64; limit::TYPES_LEN];
+    type_with(
         s,
         section,
         work,
         text,
-        &mut [0u8; 0],
-        &mut [0u64; 0],
-        ids,
-        o,
+        list,
+        &mut leads,
+        id,
+        Options::Listed,
     )
 }
 
-// ---- with a list: why each line is there
-
-pub fn dump_type_causes(
-    s: Session,
-    section: &[u8],
-    work: &mut [u8],
-    text: &mut [u8],
-    list: &mut [u8],
-    id: u32,
-) -> Ended
-    ensures { explained_of result work.new text.new list.new
-        ≡ type_causes s section.now work.old text.old id list.old }
-{
-    let mut leads = [0u64; limit::TYPES_LEN];
-    let o = options_of(false, 0, true);
-    request_type(s, section, work, text, list, &mut leads, id, o)
-}
-
-pub fn dump_types_causes(
+#[inline(never)]
+fn types_listed(
     s: Session,
     section: &[u8],
     work: &mut [u8],
     text: &mut [u8],
     list: &mut [u8],
 ) -> Ended
-    ensures { explained_of result work.new text.new list.new
-        ≡ types_causes s section.now work.old text.old list.old }
+    ensures { ended_of result work.new text.new list.new
+        ≡ types_call_with Listed s section.now work.old text.old list.old }
 {
     let mut leads = [0u64; limit::TYPES_LEN];
-    let o = options_of(false, 0, true);
-    request_types(s, section, work, text, list, &mut leads, o)
+    types_with(s, section, work, text, list, &mut leads, Options::Listed)
 }
 
-pub fn dump_list_causes(
+#[inline(never)]
+fn list_listed(
     s: Session,
     section: &[u8],
     work: &mut [u8],
@@ -457,11 +346,81 @@ pub fn dump_list_causes(
     list: &mut [u8],
     ids: &[u8],
 ) -> Ended
-    ensures { explained_of result work.new text.new list.new
-        ≡ list_causes_call s section.now work.old text.old (ids_in ids.now)
+    ensures { ended_of result work.new text.new list.new
+        ≡ list_call_with Listed s section.now work.old text.old (ids_in ids.now)
         list.old }
 {
     let mut leads = [0u64; limit::TYPES_LEN];
-    let o = options_of(false, 0, true);
-    request_list(s, section, work, text, list, &mut leads, ids, o)
+    list_with(
+        s,
+        section,
+        work,
+        text,
+        list,
+        &mut leads,
+        ids,
+        Options::Listed,
+    )
+}
+
+// ---- the calls. Without `Listed` the list is only zeroed.
+
+pub fn request_type(
+    s: Session,
+    section: &[u8],
+    work: &mut [u8],
+    text: &mut [u8],
+    list: &mut [u8],
+    id: u32,
+    o: Options,
+) -> Ended
+    ensures { ended_of result work.new text.new list.new
+        ≡ type_call_with o s section.now work.old text.old id list.old 0 }
+{
+    match o {
+        Options::Listed => type_listed(s, section, work, text, list, id),
+        Options::Plain | Options::Within(_) => {
+            type_with(s, section, work, text, list, &mut [0u64; 0], id, o)
+        }
+    }
+}
+
+pub fn request_types(
+    s: Session,
+    section: &[u8],
+    work: &mut [u8],
+    text: &mut [u8],
+    list: &mut [u8],
+    o: Options,
+) -> Ended
+    ensures { ended_of result work.new text.new list.new
+        ≡ types_call_with o s section.now work.old text.old list.old }
+{
+    match o {
+        Options::Listed => types_listed(s, section, work, text, list),
+        Options::Plain | Options::Within(_) => {
+            types_with(s, section, work, text, list, &mut [0u64; 0], o)
+        }
+    }
+}
+
+pub fn request_list(
+    s: Session,
+    section: &[u8],
+    work: &mut [u8],
+    text: &mut [u8],
+    list: &mut [u8],
+    ids: &[u8],
+    o: Options,
+) -> Ended
+    ensures { ended_of result work.new text.new list.new
+        ≡ list_call_with o s section.now work.old text.old (ids_in ids.now)
+        list.old }
+{
+    match o {
+        Options::Listed => list_listed(s, section, work, text, list, ids),
+        Options::Plain | Options::Within(_) => {
+            list_with(s, section, work, text, list, &mut [0u64; 0], ids, o)
+        }
+    }
 }

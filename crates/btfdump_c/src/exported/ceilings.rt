@@ -5,7 +5,8 @@ ghost use Rattle.spec_session.specs.calls.Lists.{ids_in};
 
 use session_record::record_bytes::{answered, listed};
 use session_record::record_words::{ANSWER_CLOSED, RECORD_BYTES, decode};
-use session_requests::requests::{dump_list_within, dump_type_within, dump_types_within};
+use session_requests::options::Options;
+use session_requests::requests::{request_list, request_type, request_types};
 
 #[unsafe(no_mangle)]
 pub extern "C" fn btfdump_dump_type_within(
@@ -24,7 +25,9 @@ pub extern "C" fn btfdump_dump_type_within(
         *made = 0;
         return ANSWER_CLOSED;
     }
-    let d = dump_type_within(decode(record), section, work, text, id, ceiling);
+    let o = Options::Within(ceiling);
+    let s = decode(record);
+    let d = request_type(s, section, work, text, &mut [0u8; 0], id, o);
     *made = d.made;
     answered(record, d.turn)
 }
@@ -45,7 +48,9 @@ pub extern "C" fn btfdump_dump_types_within(
         *made = 0;
         return ANSWER_CLOSED;
     }
-    let d = dump_types_within(decode(record), section, work, text, ceiling);
+    let o = Options::Within(ceiling);
+    let s = decode(record);
+    let d = request_types(s, section, work, text, &mut [0u8; 0], o);
     *made = d.made;
     answered(record, d.turn)
 }
@@ -72,7 +77,9 @@ pub extern "C" fn btfdump_dump_list_within(
         *made = 0;
         return ANSWER_CLOSED;
     }
-    let d = dump_list_within(decode(record), section, work, text, ids, ceiling);
+    let o = Options::Within(ceiling);
+    let s = decode(record);
+    let d = request_list(s, section, work, text, &mut [0u8; 0], ids, o);
     *made = d.made;
     listed(record, d.turn)
 }

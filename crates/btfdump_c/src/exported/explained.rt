@@ -5,7 +5,8 @@ ghost use Rattle.spec_session.specs.calls.Lists.{ids_in};
 
 use session_record::record_bytes::{answered, listed};
 use session_record::record_words::{ANSWER_CLOSED, RECORD_BYTES, decode};
-use session_requests::requests::{dump_list_causes, dump_type_causes, dump_types_causes};
+use session_requests::options::Options;
+use session_requests::requests::{request_list, request_type, request_types};
 
 #[unsafe(no_mangle)]
 pub extern "C" fn btfdump_dump_type_causes(
@@ -24,7 +25,8 @@ pub extern "C" fn btfdump_dump_type_causes(
         *count = 0;
         return ANSWER_CLOSED;
     }
-    let d = dump_type_causes(decode(record), section, work, text, list, id);
+    let s = decode(record);
+    let d = request_type(s, section, work, text, list, id, Options::Listed);
     *count = d.count as u64;
     answered(record, d.turn)
 }
@@ -45,7 +47,8 @@ pub extern "C" fn btfdump_dump_types_causes(
         *count = 0;
         return ANSWER_CLOSED;
     }
-    let d = dump_types_causes(decode(record), section, work, text, list);
+    let s = decode(record);
+    let d = request_types(s, section, work, text, list, Options::Listed);
     *count = d.count as u64;
     answered(record, d.turn)
 }
@@ -72,7 +75,8 @@ pub extern "C" fn btfdump_dump_list_causes(
         *count = 0;
         return ANSWER_CLOSED;
     }
-    let d = dump_list_causes(decode(record), section, work, text, list, ids);
+    let s = decode(record);
+    let d = request_list(s, section, work, text, list, ids, Options::Listed);
     *count = d.count as u64;
     listed(record, d.turn)
 }

@@ -3,7 +3,7 @@ use Prim.Native.Nat.{ℕ, ◌+◌, ◌*◌, ◌-◌, ◌<◌, ◌≤◌}
 use mathlib.Core.Path.{◌≡◌, refl, ap, ◌∙◌, sym, subst}
 use mathlib.Core.Bool.{Bool, true, false, true≢false}
 use mathlib.Core.List.{List, [], ◌++◌, append-nil}
-use mathlib.Core.Logic.{⊎_elim}
+use mathlib.Core.Logic.{⊎_elim, ◌⊎◌}
 use native.Mathlib.Omega.{arith}
 use lib.ListN.{length, take}
 use lib.Dec.{leb}
@@ -14,7 +14,6 @@ use Rattle.spec_type_table.specs.declared.types.TypeTable.{TypeTable}
 use Rattle.spec_type_table.specs.Cells.{get_field}
 use Rattle.spec_type_table.specs.Table.{btf_of}
 use Rattle.c_dumper_dependency_order.specs.order_state.Work.{mark_of, table_in}
-use Rattle.c_dumper_dependency_order.specs.declared.begin.Ceiling.{Ceiling}
 use Rattle.c_dumper_dependency_order.specs.declared.ways.Idle.{Idle}
 use Rattle.c_dumper_dependency_order.specs.ways.Idle.{idle_in}
 use Rattle.c_dumper_dependency_order.proofs.ways.Laws.{idle_none, idle_one}
@@ -37,30 +36,38 @@ use Rattle.spec_session.specs.metered.Within.{Within, requested_within}
 use Rattle.session_requests.proofs.request.Entries.{joined}
 use Rattle.c_dumper_emit.proofs.dump_type.Leaders.{before_more}
 use Rattle.session_requests.specs.declared.options.Options.{Options}
+use Rattle.session_requests.specs.declared.options.Options.TheVariants as option
+use Rattle.session_requests.specs.options.Options.{is_listed, is_counted, most_calls}
 use Rattle.session_requests.specs.declared.options.Progress.{Progress}
-use Rattle.session_requests.specs.options.Requests.{Stage, stage_of, within_of, noted_of, idle_after, fits_under, made_under, Under, Ready, Single, requested_listed, requested_under, requested_with}
+use Rattle.session_requests.specs.options.Requests.{Stage, stage_of, within_of, noted_of, idle_after, fits_under, made_under, Under, Ready, requested_listed, requested_under, requested_with}
 
 -- ---- the options decide
+-- no call has both
+pub single : (o : Options) → is_listed o ≡ true → is_counted o ≡ false
+single (option.Plain) e = refl
+single (option.Within c) e = absurd (true≢false (sym e))
+single (option.Listed) e = refl
+
 module _ (o : Options) (more : ℕ → Bool) (b : TypeTable) (s : List ℕ) (id : ℕ) (es : List Entry) (len v : ℕ) (w t : List ℕ) (k : ℕ) where
-  pub with_lists : o.lists ≡ true → o.ceiling.is_set ≡ false
+  pub with_lists : (is_listed o) ≡ true → (is_counted o) ≡ false
       → requested_with o more b s id es len v w t k ≡ record { reach = (requested_noted more b s id es len v w t).reach; entries = (requested_noted more b s id es len v w t).entries; made = k }
   unfolding requested_with requested_under requested_listed fits_under made_under
-  with_lists l c = λ i. requested_under more b s (l i) (c i) o.ceiling.calls id es len v w t k
+  with_lists l c = λ i. requested_under more b s (l i) (c i) (most_calls o) id es len v w t k
 
-  pub with_none : o.lists ≡ false → o.ceiling.is_set ≡ false → requested_with o more b s id es len v w t k ≡ record { reach = requested b s id len v w t; entries = es; made = k }
+  pub with_none : (is_listed o) ≡ false → (is_counted o) ≡ false → requested_with o more b s id es len v w t k ≡ record { reach = requested b s id len v w t; entries = es; made = k }
   unfolding requested_with requested_under requested_listed fits_under made_under
-  with_none l c = λ i. requested_under more b s (l i) (c i) o.ceiling.calls id es len v w t k
+  with_none l c = λ i. requested_under more b s (l i) (c i) (most_calls o) id es len v w t k
 
-  pub with_ceiling : o.lists ≡ false → o.ceiling.is_set ≡ true
-      → requested_with o more b s id es len v w t k ≡ record { reach = (requested_within o.ceiling.calls b s id len v w t k).reach; entries = es; made = (requested_within o.ceiling.calls b s id len v w t k).made }
+  pub with_ceiling : (is_listed o) ≡ false → (is_counted o) ≡ true
+      → requested_with o more b s id es len v w t k ≡ record { reach = (requested_within (most_calls o) b s id len v w t k).reach; entries = es; made = (requested_within (most_calls o) b s id len v w t k).made }
   unfolding requested_with requested_under requested_listed fits_under made_under requested_within
-  with_ceiling l c = (λ i. requested_under more b s (l i) (c i) o.ceiling.calls id es len v w t k) ∙ go (leb (k + calls_in b s w id) o.ceiling.calls)
+  with_ceiling l c = (λ i. requested_under more b s (l i) (c i) (most_calls o) id es len v w t k) ∙ go (leb (k + calls_in b s w id) (most_calls o))
     where
       both : Bool → Within
-      both q = elim q as (λ _. Within) [ true ↦ record { reach = requested b s id len v w t; made = k + calls_in b s w id } | false ↦ record { reach = refused_by 22 len v (take len t); made = o.ceiling.calls } ]
+      both q = elim q as (λ _. Within) [ true ↦ record { reach = requested b s id len v w t; made = k + calls_in b s w id } | false ↦ record { reach = refused_by 22 len v (take len t); made = (most_calls o) } ]
 
       all : Bool → Stage
-      all q = elim q as (λ _. Stage) [ true ↦ record { reach = requested b s id len v w t; entries = es; made = k + calls_in b s w id } | false ↦ record { reach = refused_by 22 len v (take len t); entries = es; made = o.ceiling.calls } ]
+      all q = elim q as (λ _. Stage) [ true ↦ record { reach = requested b s id len v w t; entries = es; made = k + calls_in b s w id } | false ↦ record { reach = refused_by 22 len v (take len t); entries = es; made = (most_calls o) } ]
 
       go : (q : Bool) → all q ≡ record { reach = (both q).reach; entries = es; made = (both q).made }
       go true = refl
@@ -68,24 +75,24 @@ module _ (o : Options) (more : ℕ → Bool) (b : TypeTable) (s : List ℕ) (id 
 
 -- ---- dump_one
 module _ (o : Options) (more : ℕ → Bool) (b : TypeTable) (s : List ℕ) (id len v : ℕ) (w t : List ℕ) (k : ℕ) (w' t' l' : List ℕ) where
-  pub one_listed : o.lists ≡ true → Single o → (d : Progress) → noted_of d w' t' l' ≡ requested_noted more b s id [] len v w t → d.made ≡ k → stage_of d w' t' l' ≡ requested_with o more b s id [] len v w t k
+  pub one_listed : (is_listed o) ≡ true → (d : Progress) → noted_of d w' t' l' ≡ requested_noted more b s id [] len v w t → d.made ≡ k → stage_of d w' t' l' ≡ requested_with o more b s id [] len v w t k
   unfolding stage_of noted_of
-  one_listed l f d e m = (λ i. record { reach = (e i).reach; entries = (e i).entries; made = m i }) ∙ sym (with_lists o more b s id [] len v w t k l (f l))
+  one_listed l d e m = (λ i. record { reach = (e i).reach; entries = (e i).entries; made = m i }) ∙ sym (with_lists o more b s id [] len v w t k l (single o l))
 
-  pub one_within : o.lists ≡ false → o.ceiling.is_set ≡ true → (d : Progress) → within_of d w' t' ≡ requested_within o.ceiling.calls b s id len v w t k → d.count ≡ 0 → stage_of d w' t' l' ≡ requested_with o more b s id [] len v w t k
+  pub one_within : (is_listed o) ≡ false → (is_counted o) ≡ true → (d : Progress) → within_of d w' t' ≡ requested_within (most_calls o) b s id len v w t k → d.count ≡ 0 → stage_of d w' t' l' ≡ requested_with o more b s id [] len v w t k
   unfolding stage_of within_of entries_of
   one_within l c d e z = (λ i. record { reach = (e i).reach; entries = entries_of (z i) l'; made = (e i).made }) ∙ sym (with_ceiling o more b s id [] len v w t k l c)
 
-  pub one_plain : o.lists ≡ false → o.ceiling.is_set ≡ false → (r : Reached) → reach_of r w' t' ≡ requested b s id len v w t → stage_of (record { reached = r; count = 0; made = k }) w' t' l' ≡ requested_with o more b s id [] len v w t k
+  pub one_plain : (is_listed o) ≡ false → (is_counted o) ≡ false → (r : Reached) → reach_of r w' t' ≡ requested b s id len v w t → stage_of (record { reached = r; count = 0; made = k }) w' t' l' ≡ requested_with o more b s id [] len v w t k
   unfolding stage_of entries_of
   one_plain l c r e = (λ i. record { reach = e i; entries = []; made = k }) ∙ sym (with_none o more b s id [] len v w t k l c)
 
 -- without a list nothing is asked of the words for the leaders
-pub no_words : (o : Options) (turn : ℕ) (leads : List ℕ) → o.lists ≡ false → Ready o turn leads
+pub no_words : (o : Options) (turn : ℕ) (leads : List ℕ) → (is_listed o) ≡ false → Ready o turn leads
 no_words o turn leads e h = absurd (true≢false (sym h ∙ e))
 
 pub under_same : (o : Options) (k k' : ℕ) → Under o k → k' ≡ k → Under o k'
-under_same o k k' u e h = subst (λ (n : ℕ). n ≤ o.ceiling.calls) (sym e) (u h)
+under_same o k k' u e h = subst (λ (n : ℕ). n ≤ (most_calls o)) (sym e) (u h)
 
 pub none_count : (n m : ℕ) → n ≡ 0 → n ≤ m
 none_count n m e = omega arith
@@ -102,18 +109,18 @@ module _ (o : Options) (room : ℕ) (b : TypeTable) (s : List ℕ) (id : ℕ) (e
 
   pub with_shift : requested_with o (up_to room) b s id es len v w t k ≡ behind_with es (requested_with o (up_to (room - length es)) b s id [] len v w t k)
   unfolding requested_with requested_under
-  with_shift = go (fits_under o.ceiling.is_set o.ceiling.calls k (calls_in b s w id))
+  with_shift = go (fits_under (is_counted o) (most_calls o) k (calls_in b s w id))
     where
       made : ℕ
-      made = made_under o.ceiling.is_set k (calls_in b s w id)
+      made = made_under (is_counted o) k (calls_in b s w id)
 
       stage : Noted → Stage
-      stage n = record { reach = n.reach; entries = n.entries; made = made_under o.ceiling.is_set k (calls_in b s w id) }
+      stage n = record { reach = n.reach; entries = n.entries; made = made_under (is_counted o) k (calls_in b s w id) }
 
-      go : (q : Bool) → (elim q as (λ _. Stage) [ true ↦ stage (requested_listed (up_to room) b s o.lists id es len v w t) | false ↦ record { reach = refused_by 22 len v (take len t); entries = es; made = o.ceiling.calls } ])
-          ≡ behind_with es (elim q as (λ _. Stage) [ true ↦ stage (requested_listed (up_to (room - length es)) b s o.lists id [] len v w t) | false ↦ record { reach = refused_by 22 len v (take len t); entries = []; made = o.ceiling.calls } ])
-      go true = ap stage (listed_shift o.lists)
-      go false = λ i. record { reach = refused_by 22 len v (take len t); entries = sym (append-nil es) i; made = o.ceiling.calls }
+      go : (q : Bool) → (elim q as (λ _. Stage) [ true ↦ stage (requested_listed (up_to room) b s (is_listed o) id es len v w t) | false ↦ record { reach = refused_by 22 len v (take len t); entries = es; made = (most_calls o) } ])
+          ≡ behind_with es (elim q as (λ _. Stage) [ true ↦ stage (requested_listed (up_to (room - length es)) b s (is_listed o) id [] len v w t) | false ↦ record { reach = refused_by 22 len v (take len t); entries = []; made = (most_calls o) } ])
+      go true = ap stage (listed_shift (is_listed o))
+      go false = λ i. record { reach = refused_by 22 len v (take len t); entries = sym (append-nil es) i; made = (most_calls o) }
 
 module _ (o : Options) (b : TypeTable) (s w t l : List ℕ) (len v c id k : ℕ) (h : c ≤ entries_in l) (r : Progress) (w' t' u : List ℕ) (same : length u ≡ length (mid_of (c * 12) (length l - c * 12) l))
     (e : stage_of r w' t' u ≡ requested_with o (up_to (entries_in (mid_of (c * 12) (length l - c * 12) l))) b s id [] len v w t k) (small : r.count ≤ entries_in (mid_of (c * 12) (length l - c * 12) l)) where
@@ -152,7 +159,7 @@ module _ (o : Options) (b : TypeTable) (s w t l : List ℕ) (room : ℕ) (p : Pr
   es = entries_of p.count l
 
   abbrev c₀ : ℕ
-  c₀ = o.ceiling.calls
+  c₀ = (most_calls o)
 
   idle : is_idle (mark_of (get_field w id 1)) ((table_in b s w).node id) ≡ true
   idle = sym e ∙ z
@@ -170,27 +177,27 @@ module _ (o : Options) (b : TypeTable) (s w t l : List ℕ) (room : ℕ) (p : Pr
   abbrev Next : Progress → Type 0
   Next r = (stage_of r w t l ≡ requested_with o (up_to room) b s id es len v w t k) × (r.count ≡ p.count) × (r.reached.len ≡ len) × Under o r.made × (r.reached.visits ≡ v)
 
-  next_plain : o.ceiling.is_set ≡ false → Next (record { reached = record { len = len; number = 0; visits = v }; count = p.count; made = k })
+  next_plain : (is_counted o) ≡ false → Next (record { reached = record { len = len; number = 0; visits = v }; count = p.count; made = k })
   unfolding stage_of requested_with requested_under fits_under made_under
   next_plain f = (
-    (λ i. record { reach = (nothing o.lists i).reach; entries = (nothing o.lists i).entries; made = k }) ∙ sym (λ i. requested_under (up_to room) b s o.lists (f i) c₀ id es len v w t k),
+    (λ i. record { reach = (nothing (is_listed o) i).reach; entries = (nothing (is_listed o) i).entries; made = k }) ∙ sym (λ i. requested_under (up_to room) b s (is_listed o) (f i) c₀ id es len v w t k),
     refl,
     refl,
     small,
     refl,
   )
 
-  module _ (f : o.ceiling.is_set ≡ true) where
+  module _ (f : (is_counted o) ≡ true) where
     abbrev after : Idle → Progress
     after r = record { reached = record { len = len; number = r.number; visits = v }; count = p.count; made = r.made }
 
     set_is : (n : ℕ) → calls_in b s w id ≡ n → (y : Bool) → leb (k + n) c₀ ≡ y
-        → requested_with o (up_to room) b s id es len v w t k ≡ (elim y as (λ _. Stage) [ true ↦ record { reach = (requested_listed (up_to room) b s o.lists id es len v w t).reach; entries = (requested_listed (up_to room) b s o.lists id es len v w t).entries; made = k + n } | false ↦ record { reach = refused_by 22 len v (take len t); entries = es; made = c₀ } ])
+        → requested_with o (up_to room) b s id es len v w t k ≡ (elim y as (λ _. Stage) [ true ↦ record { reach = (requested_listed (up_to room) b s (is_listed o) id es len v w t).reach; entries = (requested_listed (up_to room) b s (is_listed o) id es len v w t).entries; made = k + n } | false ↦ record { reach = refused_by 22 len v (take len t); entries = es; made = c₀ } ])
     unfolding requested_with requested_under fits_under made_under
     set_is n en y ey =
-        (λ i. requested_under (up_to room) b s o.lists (f i) c₀ id es len v w t k)
-        ∙ (λ i. elim (leb (k + en i) c₀) as (λ _. Stage) [ true ↦ record { reach = (requested_listed (up_to room) b s o.lists id es len v w t).reach; entries = (requested_listed (up_to room) b s o.lists id es len v w t).entries; made = k + en i } | false ↦ record { reach = refused_by 22 len v (take len t); entries = es; made = c₀ } ])
-        ∙ (λ i. elim (ey i) as (λ _. Stage) [ true ↦ record { reach = (requested_listed (up_to room) b s o.lists id es len v w t).reach; entries = (requested_listed (up_to room) b s o.lists id es len v w t).entries; made = k + n } | false ↦ record { reach = refused_by 22 len v (take len t); entries = es; made = c₀ } ])
+        (λ i. requested_under (up_to room) b s (is_listed o) (f i) c₀ id es len v w t k)
+        ∙ (λ i. elim (leb (k + en i) c₀) as (λ _. Stage) [ true ↦ record { reach = (requested_listed (up_to room) b s (is_listed o) id es len v w t).reach; entries = (requested_listed (up_to room) b s (is_listed o) id es len v w t).entries; made = k + en i } | false ↦ record { reach = refused_by 22 len v (take len t); entries = es; made = c₀ } ])
+        ∙ (λ i. elim (ey i) as (λ _. Stage) [ true ↦ record { reach = (requested_listed (up_to room) b s (is_listed o) id es len v w t).reach; entries = (requested_listed (up_to room) b s (is_listed o) id es len v w t).entries; made = k + n } | false ↦ record { reach = refused_by 22 len v (take len t); entries = es; made = c₀ } ])
 
     next_none : c₀ ≤ k → Next (after (record { number = 22; made = k }))
     unfolding stage_of
@@ -207,7 +214,7 @@ module _ (o : Options) (b : TypeTable) (s w t l : List ℕ) (room : ℕ) (p : Pr
     next_more : k < c₀ → Next (after (record { number = 0; made = k + 1 }))
     unfolding stage_of
     next_more h = (
-      (λ i. record { reach = (nothing o.lists i).reach; entries = (nothing o.lists i).entries; made = k + 1 }) ∙ sym (set_is 1 one_call true (le-leb (k + 1) c₀ (omega arith))),
+      (λ i. record { reach = (nothing (is_listed o) i).reach; entries = (nothing (is_listed o) i).entries; made = k + 1 }) ∙ sym (set_is 1 one_call true (le-leb (k + 1) c₀ (omega arith))),
       refl,
       refl,
       λ _. omega arith,
@@ -217,9 +224,9 @@ module _ (o : Options) (b : TypeTable) (s w t l : List ℕ) (room : ℕ) (p : Pr
     next_counted : Next (after (idle_in k c₀))
     next_counted = ⊎_elim (λ h. subst (λ (r : Idle). Next (after r)) (idle_none k c₀ h) (next_none h)) (λ h. subst (λ (r : Idle). Next (after r)) (idle_one k c₀ h) (next_more h)) (le_or_lt c₀ k)
 
-  pub next_idle : (r : Progress) → r ≡ idle_after p o.ceiling → Next r
+  pub next_idle : (r : Progress) → r ≡ idle_after p o → Next r
   unfolding idle_after
-  next_idle r er = subst Next (sym er) (by o.ceiling.is_set refl)
+  next_idle r er = subst Next (sym er) (by (is_counted o) refl)
     where
       ways : Bool → Progress
       ways x = elim x as (λ _. Progress) [
@@ -227,21 +234,22 @@ module _ (o : Options) (b : TypeTable) (s w t l : List ℕ) (room : ℕ) (p : Pr
         | true ↦ record { reached = record { len = len; number = (idle_in k c₀).number; visits = v }; count = p.count; made = (idle_in k c₀).made }
       ]
 
-      by : (x : Bool) → o.ceiling.is_set ≡ x → Next (ways x)
+      by : (x : Bool) → (is_counted o) ≡ x → Next (ways x)
       by false f = next_plain f
       by true f = next_counted f
 
 -- ---- pass_idle
-pub passed_plain : (p : Progress) (c : Ceiling) → c.is_set ≡ false → record { reached = record { len = p.reached.len; number = 0; visits = p.reached.visits }; count = p.count; made = p.made } ≡ idle_after p c
-unfolding idle_after
-passed_plain p c f = sym (ap (λ (x : Bool). idle_after p (record { is_set = x; calls = c.calls })) f)
+module _ (p : Progress) (o : Options) where
+  pub passed_plain : (o ≡ option.Plain) ⊎ (o ≡ option.Listed) → record { reached = record { len = p.reached.len; number = 0; visits = p.reached.visits }; count = p.count; made = p.made } ≡ idle_after p o
+  unfolding idle_after
+  passed_plain e = ⊎_elim (λ f. sym (ap (idle_after p) f)) (λ f. sym (ap (idle_after p) f)) e
 
-pub passed_counted : (p : Progress) (c : Ceiling) → c.is_set ≡ true → (n : Idle) → n ≡ idle_in p.made c.calls
-    → record { reached = record { len = p.reached.len; number = n.number; visits = p.reached.visits }; count = p.count; made = n.made } ≡ idle_after p c
-unfolding idle_after
-passed_counted p c f n en =
-    (λ i. record { reached = record { len = p.reached.len; number = (en i).number; visits = p.reached.visits }; count = p.count; made = (en i).made })
-    ∙ sym (ap (λ (x : Bool). idle_after p (record { is_set = x; calls = c.calls })) f)
+  pub passed_counted : (c : ℕ) → o ≡ option.Within c → (n : Idle) → n ≡ idle_in p.made c
+      → record { reached = record { len = p.reached.len; number = n.number; visits = p.reached.visits }; count = p.count; made = n.made } ≡ idle_after p o
+  unfolding idle_after
+  passed_counted c f n en =
+      (λ i. record { reached = record { len = p.reached.len; number = (en i).number; visits = p.reached.visits }; count = p.count; made = (en i).made })
+      ∙ sym (ap (idle_after p) f)
 
 -- what is ready for one turn is so for the next, where nothing was noted
 pub ready_more : (o : Options) (turn : ℕ) (leads : List ℕ) → Ready o turn leads → Ready o (turn + 1) leads

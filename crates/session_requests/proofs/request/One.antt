@@ -27,44 +27,54 @@ use Rattle.c_dumper_emit.specs.declared.entries.Pen.{Pen}
 use Rattle.c_dumper_emit.specs.entries.Noted.{entries_of, noted_out}
 use Rattle.c_dumper_emit.specs.dump_type.Kept.{with_leads, dumped_kept}
 use Rattle.c_dumper_emit.proofs.dump_type.Requests.{plain_is, plain_made, none_is, most_is, fits_is, fits_made, over_is, over_made}
+use Rattle.c_dumper_dependency_order.specs.declared.begin.Ceiling.{Ceiling}
 use Rattle.session_requests.specs.declared.options.Options.{Options}
+use Rattle.session_requests.specs.options.Options.{is_listed, is_counted, most_calls, ceiling_of}
 use Rattle.session_requests.specs.declared.options.Progress.{Progress}
-use Rattle.session_requests.specs.options.Requests.{stage_of, within_of, Under, Ready, Single, requested_with}
-use Rattle.session_requests.proofs.request.Laws.{one_listed, one_within, one_plain, no_words, under_same, none_count}
+use Rattle.session_requests.specs.options.Requests.{stage_of, within_of, Under, Ready, requested_with}
+use Rattle.session_requests.proofs.request.Laws.{single, one_listed, one_within, one_plain, no_words, under_same, none_count}
 use Rattle.session_requests.proofs.request.Listed as listed
 use Rattle.session_requests.proofs.request.Bare as bare
 
 module _ (o : Options) (b : TypeTable) (few : b.types ≤ 262145) (s w t l : List ℕ) (len id to k : ℕ) (small : id < 4294967296) (below : len ≤ to) (ends : to ≤ length t)
-    (under : Under o k) (single : Single o) (turn : ℕ) (q q' : List ℕ) (ready : Ready o turn q) (lq : length q' ≡ length q)
+    (under : Under o k) (turn : ℕ) (q q' : List ℕ) (ready : Ready o turn q) (lq : length q' ≡ length q)
     (d : Pen) (u w' l' : List ℕ) (same : length u ≡ length (mid_of len (to - len) t)) (m : ℕ)
-    (e : with_leads q' (noted_out 0 d u w' l') ≡ obind (with_leads q (noted_out 0 (record { at = 0; count = 0 }) (mid_of len (to - len) t) w l)) (λ x. dumped_kept b (btf_of b s w) (record { lists = o.lists; room = entries_in l }) (limit_by o.ceiling.is_set o.ceiling.calls) x id turn k))
-    (em : m ≡ calls_made (ordered_in (btf_of b s w) (limit_by o.ceiling.is_set o.ceiling.calls) (record { work = w; len = 0 }) id k)) where
+    (lists : Bool) (asks : lists ≡ is_listed o) (ceiling : Ceiling) (ec : ceiling ≡ ceiling_of o)
+    (told_e : with_leads q' (noted_out 0 d u w' l') ≡ obind (with_leads q (noted_out 0 (record { at = 0; count = 0 }) (mid_of len (to - len) t) w l)) (λ x. dumped_kept b (btf_of b s w) (record { lists = lists; room = entries_in l }) (limit_by ceiling.is_set ceiling.calls) x id turn k))
+    (told_m : m ≡ calls_made (ordered_in (btf_of b s w) (limit_by ceiling.is_set ceiling.calls) (record { work = w; len = 0 }) id k)) where
   abbrev mid : List ℕ
   mid = mid_of len (to - len) t
 
   abbrev c : ℕ
-  c = o.ceiling.calls
+  c = (most_calls o)
 
   abbrev opens : ℕ
   opens = calls_in b s w id
 
-  e_at : (x : Bool) (y : Limit) → o.lists ≡ x → limit_by o.ceiling.is_set c ≡ y
+  -- what the code hands on says what the options say
+  e : with_leads q' (noted_out 0 d u w' l') ≡ obind (with_leads q (noted_out 0 (record { at = 0; count = 0 }) mid w l)) (λ x. dumped_kept b (btf_of b s w) (record { lists = is_listed o; room = entries_in l }) (limit_by (is_counted o) (most_calls o)) x id turn k)
+  e = told_e ∙ (λ i. obind (with_leads q (noted_out 0 (record { at = 0; count = 0 }) mid w l)) (λ x. dumped_kept b (btf_of b s w) (record { lists = asks i; room = entries_in l }) (limit_by (ec i).is_set (ec i).calls) x id turn k))
+
+  em : m ≡ calls_made (ordered_in (btf_of b s w) (limit_by (is_counted o) (most_calls o)) (record { work = w; len = 0 }) id k)
+  em = told_m ∙ (λ i. calls_made (ordered_in (btf_of b s w) (limit_by (ec i).is_set (ec i).calls) (record { work = w; len = 0 }) id k))
+
+  e_at : (x : Bool) (y : Limit) → (is_listed o) ≡ x → limit_by (is_counted o) c ≡ y
       → with_leads q' (noted_out 0 d u w' l') ≡ obind (with_leads q (noted_out 0 (record { at = 0; count = 0 }) mid w l)) (λ z. dumped_kept b (btf_of b s w) (record { lists = x; room = entries_in l }) y z id turn k)
   e_at x y ex ey = e ∙ (λ i. obind (with_leads q (noted_out 0 (record { at = 0; count = 0 }) mid w l)) (λ z. dumped_kept b (btf_of b s w) (record { lists = ex i; room = entries_in l }) (ey i) z id turn k))
 
-  m_at : (y : Limit) → limit_by o.ceiling.is_set c ≡ y → m ≡ calls_made (ordered_in (btf_of b s w) y (record { work = w; len = 0 }) id k)
+  m_at : (y : Limit) → limit_by (is_counted o) c ≡ y → m ≡ calls_made (ordered_in (btf_of b s w) y (record { work = w; len = 0 }) id k)
   m_at y ey = em ∙ ap (λ (z : Limit). calls_made (ordered_in (btf_of b s w) z (record { work = w; len = 0 }) id k)) ey
 
   -- a refusal's place is not far past the end
   pub bound : d.at ≤ to - len + 23
-  bound = by o.lists o.ceiling.is_set refl refl
+  bound = by (is_listed o) (is_counted o) refl refl
     where
-      by : (x y : Bool) → o.lists ≡ x → o.ceiling.is_set ≡ y → d.at ≤ to - len + 23
-      by true y ex ey = listed.bound b few s w t l len id to small below ends d u w' l' same turn k q q' (ready ex).0 (ready ex).1 (e_at true unbounded ex (none_is o.ceiling.is_set c (single ex)))
-      by false false ex ey = bare.bound_plain b s w t l len id to below ends d u w' l' same unbounded turn k q q' (e_at false unbounded ex (none_is o.ceiling.is_set c ey)) (plain_is b (btf_of b s w) (sheet 0 0 mid w) id k)
+      by : (x y : Bool) → (is_listed o) ≡ x → (is_counted o) ≡ y → d.at ≤ to - len + 23
+      by true y ex ey = listed.bound b few s w t l len id to small below ends d u w' l' same turn k q q' (ready ex).0 (ready ex).1 (e_at true unbounded ex (none_is (is_counted o) c (single o ex)))
+      by false false ex ey = bare.bound_plain b s w t l len id to below ends d u w' l' same unbounded turn k q q' (e_at false unbounded ex (none_is (is_counted o) c ey)) (plain_is b (btf_of b s w) (sheet 0 0 mid w) id k)
       by false true ex ey = ⊎_elim
-          (λ h. bare.bound_plain b s w t l len id to below ends d u w' l' same (most c) turn k q q' (e_at false (most c) ex (most_is o.ceiling.is_set c ey)) (fits_is b s (sheet 0 0 mid w) refl id c k h))
-          (λ h. bare.bound_over b s w t l len id to below ends d u w' l' same (most c) turn k q q' (e_at false (most c) ex (most_is o.ceiling.is_set c ey)) (over_is b s (sheet 0 0 mid w) refl id c k (under ey) h))
+          (λ h. bare.bound_plain b s w t l len id to below ends d u w' l' same (most c) turn k q q' (e_at false (most c) ex (most_is (is_counted o) c ey)) (fits_is b s (sheet 0 0 mid w) refl id c k h))
+          (λ h. bare.bound_over b s w t l len id to below ends d u w' l' same (most c) turn k q q' (e_at false (most c) ex (most_is (is_counted o) c ey)) (over_is b s (sheet 0 0 mid w) refl id c k (under ey) h))
           (le_or_lt (k + opens) c)
 
   module _ (el : to ≡ limit_of (length t) len) (r : Reached) (v : ℕ) (er : r ≡ arrived_at len v (to - len) d.at) where
@@ -81,22 +91,22 @@ module _ (o : Options) (b : TypeTable) (few : b.types ≤ 262145) (s w t l : Lis
       under_still : Under o m
       ready_next : r.number ≡ 0 → Ready o (turn + 1) q'
 
-    told_listed : o.lists ≡ true → Told
+    told_listed : (is_listed o) ≡ true → Told
     told_listed ex =
-        let f = none_is o.ceiling.is_set c (single ex) in
+        let f = none_is (is_counted o) c (single o ex) in
         let n : m ≡ k = m_at unbounded f ∙ plain_made (btf_of b s w) (record { work = w; len = 0 }) id k in
         let a = listed.one_told b few s w t l len id to small below ends d u w' l' same turn k q q' (ready ex).0 (ready ex).1 (e_at true unbounded ex f) el r v er count refl m in
         record {
-          stage = one_listed o (up_to (entries_in l)) b s id len v w t k w' text' l' ex single (record { reached = r; count = count; made = m }) a.0 n;
+          stage = one_listed o (up_to (entries_in l)) b s id len v w t k w' text' l' ex (record { reached = r; count = count; made = m }) a.0 n;
           counts = a.1;
           fits = a.2;
           under_still = under_same o k m under n;
           ready_next = λ z x. (lq ∙ (ready x).0, a.3 z);
         }
 
-    told_plain : o.lists ≡ false → o.ceiling.is_set ≡ false → Told
+    told_plain : (is_listed o) ≡ false → (is_counted o) ≡ false → Told
     told_plain ex ey =
-        let f = none_is o.ceiling.is_set c ey in
+        let f = none_is (is_counted o) c ey in
         let n : m ≡ k = m_at unbounded f ∙ plain_made (btf_of b s w) (record { work = w; len = 0 }) id k in
         let a = bare.as_plain b s w t l len id to below ends d u w' l' same unbounded turn k q q' (e_at false unbounded ex f) el r v er (plain_is b (btf_of b s w) (sheet 0 0 mid w) id k) in
         record {
@@ -107,10 +117,10 @@ module _ (o : Options) (b : TypeTable) (few : b.types ≤ 262145) (s w t l : Lis
           ready_next = λ z. no_words o (turn + 1) q' ex;
         }
 
-    told_fits : o.lists ≡ false → o.ceiling.is_set ≡ true → k + opens ≤ c → Told
+    told_fits : (is_listed o) ≡ false → (is_counted o) ≡ true → k + opens ≤ c → Told
     unfolding within_of
     told_fits ex ey h =
-        let f = most_is o.ceiling.is_set c ey in
+        let f = most_is (is_counted o) c ey in
         let n : m ≡ k + opens = m_at (most c) f ∙ fits_made b s (sheet 0 0 mid w) refl id c k h in
         let a = bare.as_plain b s w t l len id to below ends d u w' l' same (most c) turn k q q' (e_at false (most c) ex f) el r v er (fits_is b s (sheet 0 0 mid w) refl id c k h) in
         record {
@@ -122,10 +132,10 @@ module _ (o : Options) (b : TypeTable) (few : b.types ≤ 262145) (s w t l : Lis
           ready_next = λ z. no_words o (turn + 1) q' ex;
         }
 
-    told_over : o.lists ≡ false → o.ceiling.is_set ≡ true → c < k + opens → Told
+    told_over : (is_listed o) ≡ false → (is_counted o) ≡ true → c < k + opens → Told
     unfolding within_of
     told_over ex ey h =
-        let f = most_is o.ceiling.is_set c ey in
+        let f = most_is (is_counted o) c ey in
         let n : m ≡ c = m_at (most c) f ∙ over_made b s (sheet 0 0 mid w) refl id c k (under ey) h in
         let a = bare.as_over b s w t l len id to below ends d u w' l' same (most c) turn k q q' (e_at false (most c) ex f) el r v er (over_is b s (sheet 0 0 mid w) refl id c k (under ey) h) in
         record {
@@ -138,9 +148,9 @@ module _ (o : Options) (b : TypeTable) (few : b.types ≤ 262145) (s w t l : Lis
         }
 
     told : Told
-    told = by o.lists o.ceiling.is_set refl refl
+    told = by (is_listed o) (is_counted o) refl refl
       where
-        by : (x y : Bool) → o.lists ≡ x → o.ceiling.is_set ≡ y → Told
+        by : (x y : Bool) → (is_listed o) ≡ x → (is_counted o) ≡ y → Told
         by true y ex ey = told_listed ex
         by false false ex ey = told_plain ex ey
         by false true ex ey = ⊎_elim (told_fits ex ey) (told_over ex ey) (le_or_lt (k + opens) c)

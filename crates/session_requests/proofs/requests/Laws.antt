@@ -24,6 +24,7 @@ use Rattle.spec_c_dumper.specs.rules.Machine.{pick}
 use Rattle.c_dumper_emit.specs.dump_type.Kept.{no_leads}
 use Rattle.session_requests.specs.declared.options.Options.{Options}
 use Rattle.session_requests.specs.declared.options.Progress.{Progress}
+use Rattle.session_requests.specs.declared.options.Ended.{Ended}
 use Rattle.session_requests.specs.options.Requests.{Stage, stage_of, requested_with, onward_with, requested_from_with, CallWith, ended_of, settled_with, as_it_was, type_call_with, types_call_with}
 
 -- ---- dump_all
@@ -89,24 +90,24 @@ module _ (o : Options) (s : Session) (section w t l : List ℕ) (q : Bool) (eq :
   unfolding ended_of
   ended_is turn n m w' t' l' c ed en el em = λ i. record { call = ed i; count = en i; list = el i; made = em i }
 
-  module _ (h : not q ≡ true) (turn : Turn) (et : turn ≡ turn_of s (answer_of 11 s.text_len)) where
-    is_11 : call_of turn.session turn.answer w t ≡ unchanged s (refusal not_current s.text_len) w t
-    unfolding call_of turn_of number value
-    is_11 = λ i. record { session = (et i).session; answer = (et i).answer; work = w; text = t }
+  module _ (h : not q ≡ true) (r : Ended) (er : r ≡ record { turn = turn_of s (answer_of 11 s.text_len); count = 0; made = 0 }) where
+    is_11 : ended_of r w t l ≡ as_it_was (unchanged s (refusal not_current s.text_len) w t) l 0
+    unfolding ended_of call_of turn_of number value
+    is_11 = ap (λ (x : Ended). ended_of x w t l) er
 
-    pub type_11 : (id : ℕ) → ended_of (record { turn = turn; count = 0; made = 0 }) w t l ≡ type_call_with o s section w t id l 0
+    pub type_11 : (id : ℕ) → ended_of r w t l ≡ type_call_with o s section w t id l 0
     unfolding type_call_with
-    type_11 id = ended_is turn 0 0 w t l (as_it_was (unchanged s (refusal not_current s.text_len) w t) l 0) is_11 refl refl refl ∙ sym (rw (sym eq ∙ not-true q h, type_call_with))
+    type_11 id = is_11 ∙ sym (rw (sym eq ∙ not-true q h, type_call_with))
 
-    pub types_11 : ended_of (record { turn = turn; count = 0; made = 0 }) w t l ≡ types_call_with o s section w t l
+    pub types_11 : ended_of r w t l ≡ types_call_with o s section w t l
     unfolding types_call_with
-    types_11 = ended_is turn 0 0 w t l (as_it_was (unchanged s (refusal not_current s.text_len) w t) l 0) is_11 refl refl refl ∙ sym (rw (sym eq ∙ not-true q h, types_call_with))
+    types_11 = is_11 ∙ sym (rw (sym eq ∙ not-true q h, types_call_with))
 
   module _ (h : not q ≡ false) where
-    pub type_10 : (id : ℕ) → s.types ≤ id → (turn : Turn) → turn ≡ turn_of s (answer_of 10 s.text_len) → ended_of (record { turn = turn; count = 0; made = 0 }) w t l ≡ type_call_with o s section w t id l 0
-    unfolding type_call_with call_of turn_of number value
-    type_10 id i turn et =
-        ended_is turn 0 0 w t l (as_it_was (unchanged s (refusal id_not_below s.text_len) w t) l 0) (λ j. record { session = (et j).session; answer = (et j).answer; work = w; text = t }) refl refl refl
+    pub type_10 : (id : ℕ) → s.types ≤ id → (r : Ended) → r ≡ record { turn = turn_of s (answer_of 10 s.text_len); count = 0; made = 0 } → ended_of r w t l ≡ type_call_with o s section w t id l 0
+    unfolding type_call_with ended_of call_of turn_of number value
+    type_10 id i r er =
+        ap (λ (x : Ended). ended_of x w t l) er
         ∙ sym (rw (sym eq ∙ not-false q h, type_call_with, le-ltb id s.types i))
 
     module _ (b : TypeTable) (eb : b ≡ settings_of section s.pointer_size s.modes s.types) (r : Progress) (w' t' l' : List ℕ) (lw : length w' ≡ length w) (lt : length t' ≡ length t) (ll : length l' ≡ length l)

@@ -42,8 +42,11 @@ use Rattle.c_dumper_emit.specs.entries.Noted.{entries_of}
 use Rattle.c_dumper_emit.proofs.entries.Laws.{entries_length}
 use Rattle.session_requests.proofs.request.Entries.{filled_is, byte_after, take_both}
 use Rattle.session_requests.specs.declared.options.Options.{Options}
+use Rattle.session_requests.specs.declared.options.Options.TheVariants as option
+use Rattle.session_requests.specs.options.Options.{is_listed, is_counted, most_calls}
 use Rattle.session_requests.specs.declared.options.Progress.{Progress}
 use Rattle.session_requests.specs.declared.options.Tallied.{Tallied}
+use Rattle.session_requests.specs.declared.options.Ended.{Ended}
 use Rattle.session_requests.specs.options.Requests.{Stage, stage_of, fits_under, made_under, requested_listed, requested_under, requested_with, CallWith, ended_of, settled_with, as_it_was, type_call_with}
 use Rattle.session_requests.specs.options.Lists.{front_with, go_on_with, list_from_with, list_call_with, cleared_if, list_after, end_with}
 
@@ -88,13 +91,14 @@ module _ (len : ℕ) (t : List ℕ) (h : len ≤ length t) where
   cleared_length false t'' e = ap length e
 
 -- ---- clear_if
-pub kept_text : (lists : Bool) (len : ℕ) (t : List ℕ) → not lists ≡ true → t ≡ cleared_if lists len t
-unfolding cleared_if
-kept_text lists len t h = ap (λ (b : Bool). cleared_if b len t) (sym (not-true lists h))
+module _ (o : Options) (len : ℕ) (t : List ℕ) where
+  pub kept_text : (o ≡ option.Plain) ⊎ ((c : ℕ) × (o ≡ option.Within c)) → t ≡ cleared_if (is_listed o) len t
+  unfolding cleared_if
+  kept_text e = ⊎_elim (λ f. sym (ap (λ (x : Options). cleared_if (is_listed x) len t) f)) (λ f. sym (ap (λ (x : Options). cleared_if (is_listed x) len t) f.1)) e
 
-pub zeroed_text : (lists : Bool) (len : ℕ) (t : List ℕ) → not lists ≡ false → (t' : List ℕ) → t' ≡ then_zeros (length t) len t → t' ≡ cleared_if lists len t
-unfolding cleared_if
-zeroed_text lists len t h t' e = e ∙ ap (λ (b : Bool). cleared_if b len t) (sym (not-false lists h))
+  pub zeroed_text : o ≡ option.Listed → (t' : List ℕ) → t' ≡ then_zeros (length t) len t → t' ≡ cleared_if (is_listed o) len t
+  unfolding cleared_if
+  zeroed_text f t' e = e ∙ sym (ap (λ (x : Options). cleared_if (is_listed x) len t) f)
 
 pub clean_start : (len : ℕ) (t : List ℕ) → tailed 0 len t ≡ t
 unfolding tailed
@@ -130,17 +134,17 @@ module _ (room : ℕ) (b : TypeTable) (s : List ℕ) (id len v : ℕ) (w t : Lis
 
     pub with_large : (o : Options) (k c len' v' : ℕ) (t' : List ℕ) → (requested_with o (up_to room) b s id [] len v w t k).reach ≡ refused_by c len' v' t' → 10 < c
     unfolding requested_with requested_under
-    with_large o k c len' v' t' q = go (fits_under o.ceiling.is_set o.ceiling.calls k (calls_in b s w id)) q
+    with_large o k c len' v' t' q = go (fits_under (is_counted o) (most_calls o) k (calls_in b s w id)) q
       where
         go : (y : Bool) → (elim y as (λ _. Stage) [
           | true ↦ record {
-            reach = (requested_listed (up_to room) b s o.lists id [] len v w t).reach;
-            entries = (requested_listed (up_to room) b s o.lists id [] len v w t).entries;
-            made = made_under o.ceiling.is_set k (calls_in b s w id);
+            reach = (requested_listed (up_to room) b s (is_listed o) id [] len v w t).reach;
+            entries = (requested_listed (up_to room) b s (is_listed o) id [] len v w t).entries;
+            made = made_under (is_counted o) k (calls_in b s w id);
           }
-          | false ↦ record { reach = refused_by 22 len v (take len t); entries = []; made = o.ceiling.calls }
+          | false ↦ record { reach = refused_by 22 len v (take len t); entries = []; made = (most_calls o) }
         ]).reach ≡ refused_by c len' v' t' → 10 < c
-        go true p = listed_large o.lists c len' v' t' p
+        go true p = listed_large (is_listed o) c len' v' t' p
         go false p = let z : 22 ≡ c = number_same p in omega arith
 
 -- the bytes of a part
@@ -153,7 +157,7 @@ part_bytes l u c h same bytes j = ⊎_elim
 -- ---- one id after another
 module _ (o : Options) (s : Session) (section : List ℕ) (es : s.section_len ≡ length section) where
   -- a call on another text that begins alike, or with a list on the same text, comes to what the request comes to
-  module _ (k len v : ℕ) (w t l₁ l₂ : List ℕ) (ew : s.work_len ≡ length w) (h : len ≤ length t) (ll : length l₁ ≡ length l₂) (clean : o.lists ≡ true → tailed k len t ≡ t) (id m : ℕ) where
+  module _ (k len v : ℕ) (w t l₁ l₂ : List ℕ) (ew : s.work_len ≡ length w) (h : len ≤ length t) (ll : length l₁ ≡ length l₂) (clean : (is_listed o) ≡ true → tailed k len t ≡ t) (id m : ℕ) where
     abbrev t₁ : List ℕ
     t₁ = tailed k len t
 
@@ -177,16 +181,16 @@ module _ (o : Options) (s : Session) (section : List ℕ) (es : s.section_len �
     -- without a list
     abbrev stage_by : Bool → List ℕ → Stage
     stage_by y u = elim y as (λ _. Stage) [
-      | true ↦ record { reach = requested b section id len v w u; entries = []; made = made_under o.ceiling.is_set m (calls_in b section w id) }
-      | false ↦ record { reach = refused_by 22 len v (take len u); entries = []; made = o.ceiling.calls }
+      | true ↦ record { reach = requested b section id len v w u; entries = []; made = made_under (is_counted o) m (calls_in b section w id) }
+      | false ↦ record { reach = refused_by 22 len v (take len u); entries = []; made = (most_calls o) }
     ]
 
     abbrev fits : Bool
-    fits = fits_under o.ceiling.is_set o.ceiling.calls m (calls_in b section w id)
+    fits = fits_under (is_counted o) (most_calls o) m (calls_in b section w id)
 
-    unlisted : (more : ℕ → Bool) (u : List ℕ) → o.lists ≡ false → requested_with o more b section id [] len v w u m ≡ stage_by fits u
+    unlisted : (more : ℕ → Bool) (u : List ℕ) → (is_listed o) ≡ false → requested_with o more b section id [] len v w u m ≡ stage_by fits u
     unfolding requested_with requested_under requested_listed
-    unlisted more u e = λ i. requested_under more b section (e i) o.ceiling.is_set o.ceiling.calls id [] len v w u m
+    unlisted more u e = λ i. requested_under more b section (e i) (is_counted o) (most_calls o) id [] len v w u m
 
     same_settled : id < s.types → (y : Bool) → settled_with S (length w) (length t₁) l₁ (stage_by y t₁) ≡ settled_with s (length w) (length t) l₂ (stage_by y t)
     unfolding settled_with settled
@@ -194,20 +198,20 @@ module _ (o : Options) (s : Session) (section : List ℕ) (es : s.section_len �
       call = (sym (type_settles S section w t₁ id now_current l) ∙ called s section es len v w t t₁ ew (tail_length k len t h) h (tail_head k len t h) id l) i;
       count = 0;
       list = filled (ll i) [];
-      made = made_under o.ceiling.is_set m (calls_in b section w id);
+      made = made_under (is_counted o) m (calls_in b section w id);
     }
     same_settled l false = λ i. record {
       call = record { session = with_text s false len v; answer = answer_of 22 len; work = replicate (length w) 0; text = then_zeros (tail_length k len t h i) len (sym (tail_head k len t h) i) };
       count = 0;
       list = filled (ll i) [];
-      made = o.ceiling.calls;
+      made = (most_calls o);
     }
 
     with_same : (r : Stage) → settled_with S (length w) (length t) l₁ r ≡ settled_with s (length w) (length t) l₂ r
     unfolding settled_with
     with_same r = λ i. record { call = settled_with_lem s len v (length w) (length t) r.reach i; count = length r.entries; list = filled (ll i) r.entries; made = r.made }
 
-    asked : id < s.types → (y : Bool) → o.lists ≡ y → type_call_with o S section w t₁ id l₁ m ≡ settled_with s (length w) (length t) l₂ (requested_with o (up_to (entries_in l₂)) b section id [] len v w t m)
+    asked : id < s.types → (y : Bool) → (is_listed o) ≡ y → type_call_with o S section w t₁ id l₁ m ≡ settled_with s (length w) (length t) l₂ (requested_with o (up_to (entries_in l₂)) b section id [] len v w t m)
     asked l true e =
         on l
         ∙ (λ i. settled_with S (length w) (tail_length k len t h i) l₁ (requested_with o (up_to (ll i / 12)) b section id [] len v w (clean e i) m))
@@ -224,7 +228,7 @@ module _ (o : Options) (s : Session) (section : List ℕ) (es : s.section_len �
     Rest k len v c m w t l =
         whole ≡ front_with c (take (c * 12) l) (list_from_with o k (with_text s true len v) section w (tailed k len t) (drop (c * 12) (tailed k (c * 12) l)) (ids_from ids k (n - k)) m)
 
-    module _ (k len v c m : ℕ) (w t l : List ℕ) (ew : s.work_len ≡ length w) (h : len ≤ length t) (hl : c ≤ entries_in l) (clean : o.lists ≡ true → tailed k len t ≡ t) (e : Rest k len v c m w t l) where
+    module _ (k len v c m : ℕ) (w t l : List ℕ) (ew : s.work_len ≡ length w) (h : len ≤ length t) (hl : c ≤ entries_in l) (clean : (is_listed o) ≡ true → tailed k len t ≡ t) (e : Rest k len v c m w t l) where
       abbrev N : Session
       N = with_text s true len v
 
@@ -315,7 +319,7 @@ module _ (o : Options) (s : Session) (section : List ℕ) (es : s.section_len �
           onward q eq =
               next
               ∙ ap (λ (x : CallWith). front_with c (take (c * 12) l) (go_on_with k x later))
-              (asked k len v w t behind_them mid ew h behind_long clean id m p o.lists refl
+              (asked k len v w t behind_them mid ew h behind_long clean id m p (is_listed o) refl
               ∙ ap (settled_with s (length w) (length t) mid) reach_is
               ∙ settles q eq)
 
@@ -344,7 +348,7 @@ module _ (o : Options) (s : Session) (section : List ℕ) (es : s.section_len �
           unfolding tailed
           tailed_more = ap (λ (x : ℕ). tailed x ((c + d.count) * 12) l') (add-one k)
 
-          pub list_more : length t' ≡ length t → (fit : d.reached.len ≤ length t') → d.reached.number ≡ 0 → (t'' : List ℕ) → t'' ≡ cleared_if o.lists d.reached.len t' → (x : ℕ) → x ≡ visits_in w'
+          pub list_more : length t' ≡ length t → (fit : d.reached.len ≤ length t') → d.reached.number ≡ 0 → (t'' : List ℕ) → t'' ≡ cleared_if (is_listed o) d.reached.len t' → (x : ℕ) → x ≡ visits_in w'
               → Rest (k + 1) d.reached.len x (c + d.count) d.made w' t'' l'
           unfolding settled
           list_more lt fit z t'' et x ex =
@@ -352,7 +356,7 @@ module _ (o : Options) (s : Session) (section : List ℕ) (es : s.section_len �
               ∙ ap (front_with c (take (c * 12) l)) (goes_on k (came (reached d.reached.len w' t')) later (number_is 0 d.reached.len))
               ∙ fronts (list_from_with o (suc k) (with_text s true d.reached.len (visits_in w')) section w' (then_zeros (length t) d.reached.len t') (drop (d.count * 12) zeroed) (ids_from ids (k + 1) (n - (k + 1))) d.made)
               ∙ (λ j. front_with (c + d.count) (take ((c + d.count) * 12) l') (list_from_with o (sym (add-one k) j) (with_text s true d.reached.len (sym ex j)) section w'
-              ((ap (λ (y : ℕ). then_zeros y d.reached.len t') (sym lt) ∙ sym (ap (λ (y : ℕ). tailed y d.reached.len t'') (add-one k) ∙ ap (tailed (suc k) d.reached.len) et ∙ cleared_tail d.reached.len t' fit o.lists k)) j)
+              ((ap (λ (y : ℕ). then_zeros y d.reached.len t') (sym lt) ∙ sym (ap (λ (y : ℕ). tailed y d.reached.len t'') (add-one k) ∙ ap (tailed (suc k) d.reached.len) et ∙ cleared_tail d.reached.len t' fit (is_listed o) k)) j)
               ((tails ∙ ap (drop ((c + d.count) * 12)) (sym tailed_more)) j) (ids_from ids (k + 1) (n - (k + 1))) d.made))
 
           large : (d.reached.number ≡ 0 → ⊥) → 10 < d.reached.number
@@ -413,10 +417,10 @@ pub tally_past : (r : Tallied) (p q : Reached) (k c m : ℕ) → r ≡ record { 
 tally_past r p q k c m e f s w t l whole g =
     ap (λ (x : Tallied). end_with s x w t l) (e ∙ (λ i. record { tally = record { len = (f i).len; number = (f i).number; accepted = k; visits = (f i).visits }; count = c; made = m })) ∙ g
 
-pub tally_done : (r : Tallied) (q : Reached) (k c m : ℕ) → r ≡ record { tally = record { len = q.len; number = q.number; accepted = k; visits = q.visits }; count = c; made = m } → q.number ≡ 0
+pub tally_done : (r : Tallied) (q : Reached) (n k c m : ℕ) → r ≡ record { tally = record { len = q.len; number = q.number; accepted = n; visits = q.visits }; count = c; made = m } → n ≡ k → q.number ≡ 0
     → (s : Session) (w t l : List ℕ) (whole : CallWith) → end_with s (record { tally = record { len = q.len; number = 0; accepted = k; visits = q.visits }; count = c; made = m }) w t l ≡ whole → end_with s r w t l ≡ whole
-tally_done r q k c m e z s w t l whole f =
-    ap (λ (x : Tallied). end_with s x w t l) (e ∙ (λ i. record { tally = record { len = q.len; number = z i; accepted = k; visits = q.visits }; count = c; made = m })) ∙ f
+tally_done r q n k c m e nk z s w t l whole f =
+    ap (λ (x : Tallied). end_with s x w t l) (e ∙ (λ i. record { tally = record { len = q.len; number = z i; accepted = nk i; visits = q.visits }; count = c; made = m })) ∙ f
 
 pub tally_room : (r : Tallied) (q : Reached) (k c m : ℕ) → r ≡ record { tally = record { len = q.len; number = q.number; accepted = k; visits = q.visits }; count = c; made = m } → (n : ℕ) → c ≤ n → r.count ≤ n
 tally_room r q k c m e n h = subst (λ (x : ℕ). x ≤ n) (sym (ap (λ (x : Tallied). x.count) e)) h
@@ -448,11 +452,10 @@ module _ (o : Options) (s : Session) (section w t l ids : List ℕ) where
   unfolding type_call_with call_of number value answer_of
   not_current id e = rw (e, type_call_with) refl
 
-  pub list_11 : (q : Bool) → q ≡ is_current s (length section) (length w) (length t) → 4 ≤ length ids → not q ≡ true → (turn : Turn) → turn ≡ turn_of s (answer_of 11 0)
-      → ended_of (record { turn = turn; count = 0; made = 0 }) w t l ≡ list_call_with o s section w t (ids_in ids) l
+  pub list_11 : (q : Bool) → q ≡ is_current s (length section) (length w) (length t) → 4 ≤ length ids → not q ≡ true → (r : Ended) → r ≡ record { turn = turn_of s (answer_of 11 0); count = 0; made = 0 } → ended_of r w t l ≡ list_call_with o s section w t (ids_in ids) l
   unfolding list_call_with list_from_with ended_of turn_of number_of call_of
-  list_11 q eq i h turn et =
-      (λ j. record { call = call_of (et j).session (et j).answer w t; count = 0; list = l; made = 0 })
+  list_11 q eq i h r er =
+      ap (λ (x : Ended). ended_of x w t l) er
       ∙ sym (ap (λ (x : List ℕ). list_from_with o 0 s section w t l x 0) (ids_some ids i)
       ∙ ap (λ (d : CallWith). go_on_with 0 d later) (not_current (get_word ids 0) (sym eq ∙ not-true q h))
       ∙ stops_at 0 11 (as_it_was (call_of s (Refused 11 s.text_len) w t) l 0) later refl (λ z. absurd (omega arith)))

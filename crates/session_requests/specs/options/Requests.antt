@@ -13,9 +13,9 @@ use Rattle.spec_session.specs.metered.Within.{Within, CallWithin}
 use Rattle.spec_session.specs.metered.Metered.{calls_in}
 use Rattle.c_dumper_emit.specs.entries.Noted.{entries_of}
 use Rattle.c_dumper_emit.specs.dump_type.Kept.{Before}
-use Rattle.c_dumper_dependency_order.specs.declared.begin.Ceiling.{Ceiling}
 use Rattle.c_dumper_dependency_order.specs.ways.Idle.{idle_in}
 use Rattle.session_requests.specs.declared.options.Options.{Options}
+use Rattle.session_requests.specs.options.Options.{is_listed, is_counted, most_calls}
 use Rattle.session_requests.specs.declared.options.Progress.{Progress}
 use Rattle.session_requests.specs.declared.options.Ended.{Ended}
 
@@ -47,15 +47,11 @@ made_under is_set k opens = elim is_set [ true ↦ k + opens | false ↦ k ]
 
 -- what holds of the count before each request
 abbrev pub Under : Options → ℕ → Type 0
-Under o k = o.ceiling.is_set ≡ true → k ≤ o.ceiling.calls
+Under o k = (is_counted o) ≡ true → k ≤ (most_calls o)
 
 -- the words for the leaders, which only a list needs: one an id, and nothing noted in this turn yet
 abbrev pub Ready : Options → ℕ → List ℕ → Type 0
-Ready o turn leads = o.lists ≡ true → (length leads ≡ 262145) × Before turn leads
-
--- no call has both
-abbrev pub Single : Options → Type 0
-Single o = o.lists ≡ true → o.ceiling.is_set ≡ false
+Ready o turn leads = (is_listed o) ≡ true → (length leads ≡ 262145) × Before turn leads
 
 -- ---- one request, after a text of len bytes, v visits, the entries es and k calls
 module _ (more : ℕ → Bool) (b : TypeTable) (s : List ℕ) where
@@ -78,7 +74,7 @@ module _ (more : ℕ → Bool) (b : TypeTable) (s : List ℕ) where
 
 module _ (o : Options) (more : ℕ → Bool) (b : TypeTable) (s : List ℕ) where
   unfoldable pub requested_with : ℕ → List Entry → ℕ → ℕ → List ℕ → List ℕ → ℕ → Stage
-  requested_with id es len v w t k = requested_under more b s o.lists o.ceiling.is_set o.ceiling.calls id es len v w t k
+  requested_with id es len v w t k = requested_under more b s (is_listed o) (is_counted o) (most_calls o) id es len v w t k
 
   -- after a refusal comes nothing
   unfoldable pub onward_with : Stage → (List Entry → ℕ → List ℕ → List ℕ → ℕ → Stage) → Stage
@@ -90,18 +86,18 @@ module _ (o : Options) (more : ℕ → Bool) (b : TypeTable) (s : List ℕ) wher
   requested_from_with (suc n) id es len w t k = onward_with (requested_with id es len (visits_in w) w t k) (requested_from_with n (suc id))
 
 -- a request that has nothing to write opens one call, which only a ceiling counts
-unfoldable pub idle_after : Progress → Ceiling → Progress
-idle_after p c =
-    elim c.is_set [
+unfoldable pub idle_after : Progress → Options → Progress
+idle_after p o =
+    elim (is_counted o) [
       | false ↦ record {
         reached = record { len = p.reached.len; number = 0; visits = p.reached.visits };
         count = p.count;
         made = p.made;
       }
       | true ↦ record {
-        reached = record { len = p.reached.len; number = (idle_in p.made c.calls).number; visits = p.reached.visits };
+        reached = record { len = p.reached.len; number = (idle_in p.made (most_calls o)).number; visits = p.reached.visits };
         count = p.count;
-        made = (idle_in p.made c.calls).made;
+        made = (idle_in p.made (most_calls o)).made;
       }
     ]
 

@@ -1,3 +1,4 @@
+use Rattle.session_requests.proofs.options.Cases as cases
 use Rattle.spec_c_calls.proofs.Laws as laws
 use Rattle.btfdump_c.proofs.exported.btfdump_dump_types.Goals as goal
 
@@ -5,4 +6,4 @@ pub returns-then-record-lt-RECORD_BYTES : goal.returns-then-record-lt-RECORD_BYT
 returns-then-record-lt-RECORD_BYTES c = laws.types_short _ _ _ _ c.if-record-lt-RECORD_BYTES.true
 
 pub returns : goal.returns
-returns c = laws.types_is _ _ _ _ c.if-record-lt-RECORD_BYTES.false _ c.decode.ensures _ _ _ _ _ c.dump_types_core-t.ensures c.answered.ensures
+returns c = laws.types_is _ _ _ _ c.if-record-lt-RECORD_BYTES.false _ c.decode-s.ensures _ _ _ _ _ (cases.call_types _ _ _ _ _ _ _ _ _ c.request_types-d.ensures) c.answered.ensures

@@ -5,10 +5,10 @@ use Rattle.session_requests.proofs.request.Laws as laws
 use Rattle.session_requests.proofs.request.dump_next.Goals as goal
 
 pub returns-then-is_idle : goal.returns-then-is_idle
-returns-then-is_idle c = let n = laws.next_idle c.args.o _ _ _ _ c.args.list.now (entries_in c.args.list.now) c.args.p _ c.requires.0 c.requires.3 _ c.is_idle.ensures c.if-is_idle.true _ c.pass_idle.ensures in (laws.read_before _ _ _ _ _ _ _ _ _ _ _ _ n.0 c.requires.6, omega (arith, n.1, c.requires.2), omega (arith, n.2, c.requires.0), n.3, λ z. (n.4 ∙ c.requires.6, laws.ready_more c.args.o _ _ c.requires.4))
+returns-then-is_idle c = let n = laws.next_idle c.args.o _ _ _ _ c.args.list.now (entries_in c.args.list.now) c.args.p _ c.requires.0 c.requires.3 _ c.is_idle.ensures c.if-is_idle.true _ c.pass_idle.ensures in (laws.read_before _ _ _ _ _ _ _ _ _ _ _ _ n.0 c.requires.5, omega (arith, n.1, c.requires.2), omega (arith, n.2, c.requires.0), n.3, λ z. (n.4 ∙ c.requires.5, laws.ready_more c.args.o _ _ c.requires.4))
 
 pub dump_after-requires : goal.dump_after-requires
-dump_after-requires c = (c.requires.0, c.requires.1, c.requires.2, c.requires.3, c.requires.4, c.requires.5)
+dump_after-requires c = (c.requires.0, c.requires.1, c.requires.2, c.requires.3, c.requires.4)
 
 pub returns : goal.returns
-returns c = (laws.read_before _ _ _ _ _ _ _ _ _ _ _ _ c.dump_after.ensures.0 c.requires.6, c.dump_after.ensures.1, c.dump_after.ensures.2, c.dump_after.ensures.3, c.dump_after.ensures.4)
+returns c = (laws.read_before _ _ _ _ _ _ _ _ _ _ _ _ c.dump_after.ensures.0 c.requires.5, c.dump_after.ensures.1, c.dump_after.ensures.2, c.dump_after.ensures.3, c.dump_after.ensures.4)

@@ -1,10 +1,8 @@
-use mathlib.Core.Bool.{not}
-use mathlib.Core.Path.{ap}
 use Rattle.session_requests.proofs.requests.Lists as lists
 use Rattle.session_requests.proofs.requests.clear_if.Goals as goal
 
-pub returns-then-not-lists : goal.returns-then-not-lists
-returns-then-not-lists c = lists.kept_text _ _ _ (ap not c.if-not-lists.true)
+pub returns-in-Listed : goal.returns-in-Listed
+returns-in-Listed c = lists.zeroed_text _ _ _ c.in-Listed.is _ c.clear_from.ensures
 
-pub returns : goal.returns
-returns c = lists.zeroed_text _ _ _ (ap not c.if-not-lists.false) _ c.clear_from.ensures
+pub returns-in-Plain : goal.returns-in-Plain
+returns-in-Plain c = lists.kept_text _ _ _ c.in-Plain.is

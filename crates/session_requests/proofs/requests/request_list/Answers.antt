@@ -1,16 +1,13 @@
-use mathlib.Core.Bool.{not}
-use mathlib.Core.Path.{sym, ◌∙◌, ap}
-use Rattle.session_requests.proofs.requests.Lists as lists
+use Rattle.session_requests.specs.declared.options.Options.{Options}
+use Rattle.std.proofs.Common.{ap}
+use Rattle.session_requests.proofs.options.Cases as cases
 use Rattle.session_requests.proofs.requests.request_list.Goals as goal
 
-pub returns-then-ids-lt4 : goal.returns-then-ids-lt4
-returns-then-ids-lt4 c = lists.list_empty _ _ _ _ _ _ _ c.if-ids-lt4.true _ c.turn_of.ensures
+pub list_with-requires : goal.list_with-requires
+list_with-requires c = cases.unlisted_asks _ c.in-Plain.is
 
-pub returns-then-not-is_current : goal.returns-then-not-is_current
-returns-then-not-is_current c = lists.list_11 _ _ _ _ _ _ _ _ c.is_current.ensures c.if-ids-lt4.false (ap not c.if-not-is_current.true) _ c.turn_of-then-not-is_current.ensures
+pub returns-in-Listed : goal.returns-in-Listed
+returns-in-Listed c = rw c.in-Listed.is c.list_listed.ensures
 
-pub dump_ids-r-requires : goal.dump_ids-r-requires
-dump_ids-r-requires c = (sym c.is_current.ensures ∙ c.if-not-is_current.false, c.requires.0, c.requires.1)
-
-pub returns : goal.returns
-returns c = lists.list_ends _ _ _ _ _ _ _ _ _ _ _ _ _ _ _ c.settle_list-turn.ensures c.clear_after.ensures c.dump_ids-r.ensures.0
+pub returns-in-Plain : goal.returns-in-Plain
+returns-in-Plain c = c.list_with.ensures

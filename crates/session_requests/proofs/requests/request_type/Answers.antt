@@ -1,19 +1,13 @@
-use mathlib.Core.Bool.{not}
-use mathlib.Core.Path.{ap}
-use native.Mathlib.Omega.{arith}
-use Prim.Native.Nat.{zero-le}
-use Rattle.spec_session.proofs.session.Laws as ends
-use Rattle.session_requests.proofs.requests.Laws as laws
+use Rattle.session_requests.specs.declared.options.Options.{Options}
+use Rattle.std.proofs.Common.{ap}
+use Rattle.session_requests.proofs.options.Cases as cases
 use Rattle.session_requests.proofs.requests.request_type.Goals as goal
 
-pub returns-then-not-is_current : goal.returns-then-not-is_current
-returns-then-not-is_current c = laws.type_11 _ _ _ _ _ _ _ c.is_current.ensures (ap not c.if-not-is_current.true) _ c.turn_of.ensures _
+pub type_with-requires : goal.type_with-requires
+type_with-requires c = cases.unlisted_asks _ c.in-Plain.is
 
-pub returns-then-s-id : goal.returns-then-s-id
-returns-then-s-id c = laws.type_10 _ _ _ _ _ _ _ c.is_current.ensures (ap not c.if-not-is_current.false) _ c.if-s-id.true _ c.turn_of-then-s-id.ensures
+pub returns-in-Listed : goal.returns-in-Listed
+returns-in-Listed c = rw c.in-Listed.is c.type_listed.ensures
 
-pub dump_one-r-requires : goal.dump_one-r-requires
-dump_one-r-requires c = (ends.current_fits _ _ _ _ _ c.is_current.ensures (ap not c.if-not-is_current.false), laws.few_settings _ _ _ _ _ c.btf_of-b.ensures, λ _. zero-le, c.requires.0, c.requires.1)
-
-pub returns : goal.returns
-returns c = laws.type_done _ _ _ _ _ _ _ c.is_current.ensures (ap not c.if-not-is_current.false) _ c.btf_of-b.ensures _ _ _ _ c.dump_one-r.auto.work c.dump_one-r.auto.text c.dump_one-r.auto.list (λ i. omega (arith, c.slice_known-7-1.given i)) c.dump_one-r.ensures.1 _ _ _ _ c.settle-turn.ensures c.clear_entries.ensures _ c.if-s-id.false c.dump_one-r.ensures.0
+pub returns-in-Plain : goal.returns-in-Plain
+returns-in-Plain c = c.type_with.ensures

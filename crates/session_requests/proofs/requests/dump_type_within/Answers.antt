@@ -1,8 +1,0 @@
-use Rattle.session_requests.proofs.options.Cases as cases
-use Rattle.session_requests.proofs.requests.dump_type_within.Goals as goal
-
-pub request_type-requires : goal.request_type-requires
-request_type-requires c = cases.unlisted_asks _ _ _ c.options_of-o.ensures
-
-pub returns : goal.returns
-returns c = cases.within_type _ _ _ _ _ _ _ _ _ _ c.options_of-o.ensures _ _ c.request_type.ensures

@@ -1,0 +1,15 @@
+use mathlib.Core.Bool.{not}
+use mathlib.Core.Path.{ap}
+use native.Mathlib.Omega.{arith}
+use Rattle.spec_session.proofs.session.Laws as ends
+use Rattle.session_requests.proofs.requests.Laws as laws
+use Rattle.session_requests.proofs.requests.types_with.Goals as goal
+
+pub returns-then-not-is_current : goal.returns-then-not-is_current
+returns-then-not-is_current c = laws.types_11 _ _ _ _ _ _ _ c.is_current.ensures (ap not c.if-not-is_current.true) _ c.unchanged.ensures
+
+pub dump_all-r-requires : goal.dump_all-r-requires
+dump_all-r-requires c = (ends.current_fits _ _ _ _ _ c.is_current.ensures (ap not c.if-not-is_current.false), laws.few_settings _ _ _ _ _ c.btf_of-b.ensures, c.requires)
+
+pub returns : goal.returns
+returns c = laws.types_done _ _ _ _ _ _ _ c.is_current.ensures (ap not c.if-not-is_current.false) _ c.btf_of-b.ensures _ _ _ _ c.dump_all-r.auto.work c.dump_all-r.auto.text c.dump_all-r.auto.list (λ i. omega (arith, c.slice_known-7-1.given i)) c.dump_all-r.ensures.1 _ _ _ _ c.settle-turn.ensures c.clear_entries.ensures c.dump_all-r.ensures.0
