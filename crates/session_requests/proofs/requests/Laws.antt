@@ -15,7 +15,7 @@ use Rattle.spec_session.specs.declared.session.Turn.{Turn}
 use Rattle.spec_session.specs.session.Answers.{answer_of}
 use Rattle.spec_session.specs.session.Turns.{call_of, turn_of, is_current, Reach, reached, refused_by, reach_of, visits_in, then_zeros, settled, unchanged}
 use Rattle.spec_session.proofs.session.Laws.{reach_accepted, reach_refused}
-use Rattle.spec_session.specs.calls.Refusals.{number, value, not_current, id_not_below, refusal}
+use Rattle.spec_session.specs.calls.Refusals.{number, value, not_current, refusal}
 use Rattle.spec_c_dumper.specs.origins.Causes.{Entry, up_to, filled, entries_in}
 use Rattle.c_dumper_emit.specs.entries.Noted.{entries_of}
 use Rattle.c_dumper_emit.proofs.entries.Laws.{entries_length}

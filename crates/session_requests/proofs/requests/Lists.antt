@@ -10,7 +10,7 @@ use native.Mathlib.Nat.{le_refl}
 use native.Mathlib.Numerals.{add-one}
 use lib.ListN.{length, get_or, take, drop, replicate, take-append-drop, length-drop, get_or-eq_default}
 use lib.Seq.{length-take-le, drop_at}
-use borrow.Author.Tests.{le-leb, lt-leb, le-ltb, lt-ltb, not-true, not-false}
+use borrow.Author.Tests.{le-leb, lt-leb, le-ltb, lt-ltb, not-true}
 use borrow.Rule.Slice.PartMut.{mid_of, put_mid, mid_len, same_len_mid}
 use Rattle.spec_bytes.specs.words.Words.{get_word}
 use Rattle.spec_bytes.proofs.words.Laws.{le_or_lt}

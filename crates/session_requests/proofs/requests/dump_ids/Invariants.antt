@@ -1,9 +1,9 @@
-use Prim.Native.Nat.{◌+◌, ◌*◌, ◌-◌, ◌<◌, ◌≤◌}
+use Prim.Native.Nat.{◌+◌, ◌*◌, ◌-◌, ◌≤◌}
 use lib.ListN.{length, take, drop}
 use Rattle.spec_session.specs.session.Turns.{with_text, table_for}
 use Rattle.spec_session.proofs.calls.Lists.{ids_from}
 use Rattle.session_requests.specs.options.Lists.{front_with, list_from_with, list_call_with}
-use Prim.Native.Nat.{◌+◌, ◌-◌, ◌<◌, ◌≤◌}
+use Prim.Native.Nat.{◌+◌, ◌-◌, ◌≤◌}
 use mathlib.Core.Path.{◌≡◌}
 use mathlib.Core.Bool.{true}
 use lib.ListN.{length}

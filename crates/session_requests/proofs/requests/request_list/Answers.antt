@@ -1,5 +1,3 @@
-use Rattle.session_requests.specs.declared.options.Options.{Options}
-use Rattle.std.proofs.Common.{ap}
 use Rattle.session_requests.proofs.options.Cases as cases
 use Rattle.session_requests.proofs.requests.request_list.Goals as goal
 
