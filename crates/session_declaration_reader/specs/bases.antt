@@ -1,3 +1,4 @@
 pub mod Bases
 pub mod Items
 pub mod Looking
+pub mod Entries

@@ -7,7 +7,7 @@ ghost use Rattle.session_declaration_reader.specs.tokens.Looking.{tokens_at};
 ghost use Rattle.session_declaration_reader.specs.bases.Looking.{qual_sign, word_signed, void_signed, is_base_word, Third, QualsAt};
 ghost use Rattle.session_declaration_reader.specs.bases.Looking.{AfterWords, BaseAt};
 
-pub use crate::bases::items::{Spot, put_base, put_item, put_quals};
+pub use crate::bases::items::{Entry, Spot, put_base, put_entry, put_quals};
 use crate::tokens::token;
 
 // At most three qualifiers, by their signs, 0 where there is none; and where they end.

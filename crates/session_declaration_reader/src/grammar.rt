@@ -9,7 +9,7 @@ ghost use Rattle.session_declaration_reader.specs.grammar.Emission as emission;
 ghost use Rattle.session_declaration_reader.specs.grammar.Emission.{outcome, emits, proto_items, behind_items};
 
 use crate::bases::{
-    Base, Spot, base_at, is_bracketed, is_word, put_base, put_item, put_quals, quals_at,
+    Base, Entry, Spot, base_at, is_bracketed, is_word, put_base, put_entry, put_quals, quals_at,
     void_before,
 };
 use crate::tokens::token;
@@ -64,7 +64,7 @@ fn starred(
     let m = put_quals(chain, r.n, q);
     Some(Spot {
         at: r.at,
-        n: put_item(chain, m, 2, 0, 0),
+        n: put_entry(chain, m, Entry::Pointer),
     })
 }
 
@@ -122,7 +122,7 @@ fn counts(text: &[u8], at: usize, left: u32, chain: &mut [u64], n: u32) -> Optio
     if u.sign != 109 {
         return None;
     }
-    let m = put_item(chain, n, 3, t.count as u64, 0);
+    let m = put_entry(chain, n, Entry::Array(t.count));
     suffixes(text, u.end, left, chain, m)
 }
 
@@ -149,17 +149,17 @@ fn params(text: &[u8], at: usize, left: u32, chain: &mut [u64], n: u32) -> Optio
     if t.sign == 57 {
         return Some(Spot {
             at: t.end,
-            n: put_item(chain, n, 4, 0, 0),
+            n: put_entry(chain, n, Entry::Prototype(false)),
         });
     }
     if void_before(text, at, 57) {
         let u = token(text, t.end);
         return Some(Spot {
             at: u.end,
-            n: put_item(chain, n, 4, 0, 0),
+            n: put_entry(chain, n, Entry::Prototype(false)),
         });
     }
-    let m = put_item(chain, n, 4, 1, 0);
+    let m = put_entry(chain, n, Entry::Prototype(true));
     param_list(text, at, left - 1, chain, m)
 }
 
@@ -197,11 +197,7 @@ fn param_behind(
         ≡ emits (behind_items b) chain.old n (grammar.param_end left (tokens_at text.now at)) }
 {
     let t = token(text, at);
-    if t.sign == 60 {
-        let m = put_base(chain, n, b, 6);
-        return param_end(text, at, left, chain, m);
-    }
-    let m = put_base(chain, n, b, 1);
+    let m = put_base(chain, n, b, t.sign == 60);
     param_end(text, at, left, chain, m)
 }
 
@@ -239,6 +235,6 @@ fn dots_end(text: &[u8], at: usize, chain: &mut [u64], n: u32) -> Option<Spot>
     }
     Some(Spot {
         at: t.end,
-        n: put_item(chain, n, 1, 0, 0),
+        n: put_entry(chain, n, Entry::Base(0, 0)),
     })
 }

@@ -37,7 +37,7 @@ pub fn read_declaration(text: &[u8], chain: &mut [u64]) -> u32
     if t.sign != 0 {
         return refuse(chain);
     }
-    let n = put_base(chain, r.n, b, 1);
+    let n = put_base(chain, r.n, b, false);
     let is_longer = limit::MOST_CALLS < n;
     if is_longer {
         return refuse(chain);

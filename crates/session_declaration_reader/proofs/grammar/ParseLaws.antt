@@ -13,6 +13,8 @@ use Rattle.session_declaration_reader.specs.grammar.Grammar.{Reads, reads, fails
 use Rattle.session_declaration_reader.specs.bases.Bases.{begins, begins_word, bracketed, distinct, qual_run, after_quals, word_run, after_words, words_of, is_base, void_before}
 use Rattle.session_declaration_reader.specs.tokens.Looking.{Span, tokens_at, sign_of, first_count, Looked}
 use Rattle.session_declaration_reader.specs.bases.Items.{Item, item, qual_items, first_from, last_to, Placed, placed, placing}
+use lib.Dec.{eqb}
+use Rattle.session_declaration_reader.specs.bases.Entries.{base_code}
 use Rattle.session_declaration_reader.specs.grammar.Encoding.{base_item, base_kind, any_params, layer_items, param_items}
 use Rattle.session_declaration_reader.specs.bases.Looking.{word_signed, void_signed, quals_of, QualsOf, QualsAt, begins_base, BaseOf, BaseAt, base_items}
 use Rattle.session_declaration_reader.specs.grammar.Emission.{Done, done, none, emits, outcome, proto_items, behind_items, starred, in_brackets, counts, protos, dots_end}
@@ -505,11 +507,7 @@ all_map : {A : Type 0} → (Q R : A → Type 0) (m : Reads Span A) → ((a : A) 
 all_map Q R (reads a ts) h p = h a p
 all_map Q R fails h p = tt
 
-abbrev end_kind : Bool → ℕ
-end_kind true = 6
-end_kind false = 1
-
-end_all : (f : ℕ) (ts : Ts) (b : Bool) → begins 44 ts ≡ b → All (λ ps. base_kind ps ≡ end_kind b) (param_end f ts)
+end_all : (f : ℕ) (ts : Ts) (b : Bool) → begins 44 ts ≡ b → All (λ ps. base_kind ps ≡ base_code b) (param_end f ts)
 unfolding param_end wanted
 end_all zero ts b e = tt
 end_all (suc f) ts true e =
@@ -543,25 +541,21 @@ end_all (suc f) ts false e =
 
 -- a parameter's base
 module _ (s : List ℕ) (at : ℕ) (left : ℕ) (c : List ℕ) (k : ℕ) (b : Base) (t : Tok) (l : Looked s at t) where
-  behind_kind : (y : Bool) → begins 44 (tokens_at s at) ≡ y → (m : ℕ) (c₁ : List ℕ) → placed m c₁ ≡ placing c k (base_items b (end_kind y))
+  behind_kind : (y : Bool) → begins 44 (tokens_at s at) ≡ y → (m : ℕ) (c₁ : List ℕ) → placed m c₁ ≡ placing c k (base_items b (base_code y))
       → (o : Done) → o ≡ emits param_items c₁ m (param_end left (tokens_at s at)) → o ≡ emits (behind_items b) c k (param_end left (tokens_at s at))
   unfolding emits
   behind_kind y e m c₁ p o q = q ∙ go (param_end left (tokens_at s at)) (end_all left (tokens_at s at) y e)
     where
-      go : (x : Reads Span (Params Span)) → All (λ ps. base_kind ps ≡ end_kind y) x → emits param_items c₁ m x ≡ emits (behind_items b) c k x
+      go : (x : Reads Span (Params Span)) → All (λ ps. base_kind ps ≡ base_code y) x → emits param_items c₁ m x ≡ emits (behind_items b) c k x
       go (reads ps us) h =
           ap
           (done us)
           (ap (λ (z : Placed). on z (param_items ps)) (p ∙ ap (λ (j : ℕ). placing c k (base_items b j)) (sym h)) ∙ sym (placing_on c k (base_items b (base_kind ps)) (param_items ps)))
       go fails h = refl
 
-  pub behind_comma : t.sign ≡ 60 → (m : ℕ) (c₁ : List ℕ) → placed m c₁ ≡ placing c k (base_items b 6)
+  pub behind_base : (m : ℕ) (c₁ : List ℕ) → placed m c₁ ≡ placing c k (base_items b (base_code (eqb t.sign 60)))
       → (o : Done) → o ≡ emits param_items c₁ m (param_end left (tokens_at s at)) → o ≡ emits (behind_items b) c k (param_end left (tokens_at s at))
-  behind_comma e = behind_kind true (sees s at t l 44 e)
-
-  pub behind_last : (t.sign ≡ 60 → ⊥) → (m : ℕ) (c₁ : List ℕ) → placed m c₁ ≡ placing c k (base_items b 1)
-      → (o : Done) → o ≡ emits param_items c₁ m (param_end left (tokens_at s at)) → o ≡ emits (behind_items b) c k (param_end left (tokens_at s at))
-  behind_last e = behind_kind false (misses s at t l 44 e)
+  behind_base = behind_kind (eqb t.sign 60) (begins_sign 44 (tokens_at s at) ∙ ap (λ (x : ℕ). eqb x 60) (sym l.sign_is))
 
 -- behind `...`
 module _ (s : List ℕ) (at : ℕ) (c : List ℕ) (k : ℕ) (t : Tok) (l : Looked s at t) where

@@ -1,6 +1,7 @@
 // Entries in lent words, three words each.
 ghost use Rattle.std.specs.Prelude.{◌≡◌, [], ◌∷◌, ◌-◌};
 ghost use Rattle.session_declaration_reader.specs.bases.Items.{item, qual_items, placed, placing};
+ghost use Rattle.session_declaration_reader.specs.bases.Entries.{item_of, base_code};
 ghost use Rattle.session_declaration_reader.specs.bases.Looking.{qual_of, quals_of, base_items};
 
 use crate::bases::{Base, Quals, is_qualifier};
@@ -13,8 +14,38 @@ pub struct Spot {
     pub n: u32,
 }
 
-// Stores entry n, if it is one of 512 and there is room.
-pub fn put_item(chain: &mut [u64], n: u32, kind: u64, x: u64, y: u64) -> u32
+// An entry of a chain. A base: where its words start in the text, and how many bytes they take. An array: its count. A prototype:
+// whether it has parameters. A qualifier: its sign.
+#[derive(Clone, Copy)]
+pub enum Entry {
+    Base(u64, u64),
+    Pointer,
+    Array(u32),
+    Prototype(bool),
+    Qualifier(u32),
+    // A base behind whose chain another parameter follows.
+    FollowedBase(u64, u64),
+}
+
+impl Entry {
+    // Its three words: the kind, and two numbers.
+    fn words(self) -> (u64, u64, u64)
+        ensures { item result.0 result.1 result.2 ≡ item_of self }
+    {
+        match self {
+            Entry::Base(start, length) => (1, start, length),
+            Entry::Pointer => (2, 0, 0),
+            Entry::Array(count) => (3, count as u64, 0),
+            Entry::Prototype(true) => (4, 1, 0),
+            Entry::Prototype(false) => (4, 0, 0),
+            Entry::Qualifier(sign) => (5, sign as u64, 0),
+            Entry::FollowedBase(start, length) => (6, start, length),
+        }
+    }
+}
+
+// Stores three words as entry n, if it is one of 512 and there is room. 513 stands for all that are too many, as C is told.
+fn put_item(chain: &mut [u64], n: u32, kind: u64, x: u64, y: u64) -> u32
     ensures { placed result chain.new ≡ placing chain.old n (item kind x y ∷ []) }
 {
     if limit::MOST_CALLS <= n {
@@ -30,12 +61,19 @@ pub fn put_item(chain: &mut [u64], n: u32, kind: u64, x: u64, y: u64) -> u32
     n + 1
 }
 
+pub fn put_entry(chain: &mut [u64], n: u32, entry: Entry) -> u32
+    ensures { placed result chain.new ≡ placing chain.old n (item_of entry ∷ []) }
+{
+    let (kind, x, y) = entry.words();
+    put_item(chain, n, kind, x, y)
+}
+
 // A qualifier by its sign, if it is one.
 fn put_qual(chain: &mut [u64], n: u32, sign: u32) -> u32
     ensures { placed result chain.new ≡ placing chain.old n (qual_items (qual_of sign [])) }
 {
     if is_qualifier(sign) {
-        return put_item(chain, n, 5, sign as u64, 0);
+        return put_entry(chain, n, Entry::Qualifier(sign));
     }
     n
 }
@@ -48,19 +86,21 @@ pub fn put_quals(chain: &mut [u64], n: u32, q: Quals) -> u32
     put_qual(chain, b, q.c)
 }
 
-fn length_of(start: usize, end: usize) -> u64
-    ensures { result ≡ end - start }
+fn base_entry(start: u64, length: u64, is_followed: bool) -> Entry
+    ensures { item_of result ≡ item (base_code is_followed) start length }
 {
-    if end < start {
-        return 0;
+    if is_followed {
+        Entry::FollowedBase(start, length)
+    } else {
+        Entry::Base(start, length)
     }
-    (end - start) as u64
 }
 
-// A base of that kind, behind its qualifiers.
-pub fn put_base(chain: &mut [u64], n: u32, b: Base, kind: u64) -> u32
-    ensures { placed result chain.new ≡ placing chain.old n (base_items b kind) }
+// A base behind its qualifiers.
+pub fn put_base(chain: &mut [u64], n: u32, b: Base, is_followed: bool) -> u32
+    ensures { placed result chain.new ≡ placing chain.old n (base_items b (base_code is_followed)) }
 {
     let m = put_quals(chain, n, b.quals);
-    put_item(chain, m, kind, b.start as u64, length_of(b.start, b.end))
+    let length = b.end.saturating_sub(b.start) as u64;
+    put_entry(chain, m, base_entry(b.start as u64, length, is_followed))
 }

@@ -9,7 +9,7 @@ pub counts-returns-then-u-ne109 : goal.counts-returns-then-u-ne109
 counts-returns-then-u-ne109 t c = laws.counts_open _ _ _ _ _ _ c.token-t.ensures c.if-t-ne7.false _ c.token-u.ensures c.if-u-ne109.true _
 
 pub counts-returns : goal.counts-returns
-counts-returns t c = laws.counts_good _ _ _ _ _ _ c.token-t.ensures c.if-t-ne7.false _ c.token-u.ensures c.if-u-ne109.false _ _ c.put_item-m.ensures _ c.suffixes.ensures
+counts-returns t c = laws.counts_good _ _ _ _ _ _ c.token-t.ensures c.if-t-ne7.false _ c.token-u.ensures c.if-u-ne109.false _ _ c.put_entry-m.ensures _ c.suffixes.ensures
 
 pub declarator-returns-then-left-eq0 : goal.declarator-returns-then-left-eq0
 declarator-returns-then-left-eq0 t c = laws.decl_zero _ _ _ _ _ _ c.if-left-eq0.true _
@@ -38,11 +38,8 @@ in_brackets-returns-then-t-ne57 t c = laws.in_unclosed _ _ _ _ _ _ _ _ c.in_ok-r
 pub in_brackets-returns : goal.in_brackets-returns
 in_brackets-returns t c = laws.in_good _ _ _ _ _ _ _ _ c.in_ok-r.ensures _ c.token-t.ensures c.if-t-ne57.false _ c.suffixes.ensures
 
-pub param_behind-returns-then-t-eq60 : goal.param_behind-returns-then-t-eq60
-param_behind-returns-then-t-eq60 t c = laws.behind_comma _ _ _ _ _ c.args.b _ c.token-t.ensures c.if-t-eq60.true _ _ c.put_base-m.ensures _ c.param_end.ensures
-
 pub param_behind-returns : goal.param_behind-returns
-param_behind-returns t c = laws.behind_last _ _ _ _ _ c.args.b _ c.token-t.ensures c.if-t-eq60.false _ _ c.put_base-m-2.ensures _ c.param_end-2.ensures
+param_behind-returns t c = laws.behind_base _ _ _ _ _ c.args.b _ c.token-t.ensures _ _ c.put_base-m.ensures _ c.param_end.ensures
 
 pub param_end-returns-then-left-eq0 : goal.param_end-returns-then-left-eq0
 param_end-returns-then-left-eq0 t c = laws.end_zero _ _ _ _ _ c.if-left-eq0.true _
@@ -81,13 +78,13 @@ pub params-returns-then-left-eq0 : goal.params-returns-then-left-eq0
 params-returns-then-left-eq0 t c = laws.params_zero _ _ _ _ _ c.if-left-eq0.true _
 
 pub params-returns-then-t-eq57 : goal.params-returns-then-t-eq57
-params-returns-then-t-eq57 t c = laws.params_close _ _ _ _ _ c.if-left-eq0.false _ c.token-t.ensures c.if-t-eq57.true _ _ c.put_item.ensures
+params-returns-then-t-eq57 t c = laws.params_close _ _ _ _ _ c.if-left-eq0.false _ c.token-t.ensures c.if-t-eq57.true _ _ c.put_entry.ensures
 
 pub params-returns-then-void_before : goal.params-returns-then-void_before
-params-returns-then-void_before t c = laws.params_void _ _ _ _ _ c.if-left-eq0.false _ c.token-t.ensures c.if-t-eq57.false _ c.void_before.ensures c.if-void_before.true _ c.token-u.ensures _ _ c.put_item-then-void_before.ensures
+params-returns-then-void_before t c = laws.params_void _ _ _ _ _ c.if-left-eq0.false _ c.token-t.ensures c.if-t-eq57.false _ c.void_before.ensures c.if-void_before.true _ c.token-u.ensures _ _ c.put_entry-then-void_before.ensures
 
 pub params-returns : goal.params-returns
-params-returns t c = laws.params_list _ _ _ _ _ c.if-left-eq0.false _ c.token-t.ensures c.if-t-eq57.false _ c.void_before.ensures c.if-void_before.false _ _ c.put_item-m.ensures _ c.param_list.ensures
+params-returns t c = laws.params_list _ _ _ _ _ c.if-left-eq0.false _ c.token-t.ensures c.if-t-eq57.false _ c.void_before.ensures c.if-void_before.false _ _ c.put_entry-m.ensures _ c.param_list.ensures
 
 pub protos-returns-in_err-r : goal.protos-returns-in_err-r
 protos-returns-in_err-r t c = rw c.from_residual.ensures (laws.protos_fail _ _ _ _ _ _ c.in_err-r.ensures)
@@ -102,7 +99,7 @@ pub starred-returns-in_err-r : goal.starred-returns-in_err-r
 starred-returns-in_err-r t c = rw c.from_residual-in_err-r.ensures (laws.star_fails _ _ _ _ _ _ _ c.in_ok-q.ensures _ c.in_err-r.ensures)
 
 pub starred-returns : goal.starred-returns
-starred-returns t c = laws.star_good _ _ _ _ _ _ _ c.in_ok-q.ensures _ _ c.in_ok-r.ensures _ _ c.put_quals-m.ensures _ _ c.put_item.ensures
+starred-returns t c = laws.star_good _ _ _ _ _ _ _ c.in_ok-q.ensures _ _ c.in_ok-r.ensures _ _ c.put_quals-m.ensures _ _ c.put_entry.ensures
 
 pub suffixes-returns-then-left-eq0 : goal.suffixes-returns-then-left-eq0
 suffixes-returns-then-left-eq0 t c = laws.suffix_zero _ _ _ _ _ c.if-left-eq0.true _

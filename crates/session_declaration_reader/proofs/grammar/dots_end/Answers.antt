@@ -5,4 +5,4 @@ pub returns-then-t-ne57 : goal.returns-then-t-ne57
 returns-then-t-ne57 c = laws.dots_open _ _ _ _ _ c.token-t.ensures c.if-t-ne57.true _
 
 pub returns : goal.returns
-returns c = laws.dots_good _ _ _ _ _ c.token-t.ensures c.if-t-ne57.false _ _ c.put_item.ensures
+returns c = laws.dots_good _ _ _ _ _ c.token-t.ensures c.if-t-ne57.false _ _ c.put_entry.ensures

@@ -1,0 +1,22 @@
+-- The entries of a chain as three words.
+use Rattle.std.specs.Prelude.{ℕ, Bool, true, false}
+use Rattle.session_declaration_reader.specs.bases.Items.{Item, item}
+use Rattle.session_declaration_reader.specs.declared.bases.items.Entry.{Entry}
+use Rattle.session_declaration_reader.specs.declared.bases.items.Entry.TheVariants.{Base, Pointer, Array, Prototype, Qualifier, FollowedBase}
+
+abbrev pub any_code : Bool → ℕ
+any_code true = 1
+any_code false = 0
+
+-- the kind of a base: of a parameter that another follows, or of any other
+abbrev pub base_code : Bool → ℕ
+base_code true = 6
+base_code false = 1
+
+abbrev pub item_of : Entry → Item
+item_of (Base start length) = item 1 start length
+item_of Pointer = item 2 0 0
+item_of (Array count) = item 3 count 0
+item_of (Prototype takes) = item 4 (any_code takes) 0
+item_of (Qualifier sign) = item 5 sign 0
+item_of (FollowedBase start length) = item 6 start length
