@@ -10,6 +10,9 @@ ghost use Rattle.spec_type_table.specs.Table.{type_of};
 use base_bytes::refusal;
 use spec_type_table::{BtfType, Kind, TypeTable};
 
+// The compiler's own type.
+const BUILTIN: &[u8] = b"__builtin_va_list";
+
 // The section from the name at an offset of the string area on.
 fn from_name(b: TypeTable, section: &[u8], off: u32) -> &[u8]
     ensures { result.now ≡ drop (name_place b off) section.now }
@@ -56,46 +59,13 @@ pub fn is_empty(b: TypeTable, section: &[u8], off: u32) -> bool
     matches!(from_name(b, section, off), [] | [0, ..])
 }
 
-// Whether w stands in s at a place.
-fn stands_at(s: &[u8], at: usize, w: &[u8]) -> bool
-    requires { at ≤ length s.now }
-    ensures { result ≡ starts_with w.now (drop at s.now) }
-{
-    if s.len() - at < w.len() {
-        return false;
-    }
-    let mut j = 0;
-    while j < w.len() {
-        if s[at + j] != w[j] {
-            return false;
-        }
-        j += 1;
-    }
-    true
-}
-
-fn contains(s: &[u8], w: &[u8]) -> bool
-    ensures { result ≡ rules.contains w.now s.now }
-{
-    if s.len() < w.len() {
-        return false;
-    }
-    let last = s.len() - w.len();
-    let mut i = 0;
-    while i <= last {
-        if stands_at(s, i, w) {
-            return true;
-        }
-        i += 1;
-    }
-    false
-}
-
 // NAMES_BLACKLIST: whether the name contains the name of the compiler's own type.
 pub fn is_builtin(b: TypeTable, section: &[u8], off: u32) -> bool
     ensures { result ≡ builtin (str_at b section.now off) }
 {
-    contains(get_btf_str(b, section, off), b"__builtin_va_list")
+    get_btf_str(b, section, off)
+        .windows(BUILTIN.len())
+        .any(|part| part == BUILTIN)
 }
 
 // Whether BtfType::name() is not empty: some kinds have none.

@@ -1,21 +1,27 @@
 -- Laws of names: a name is empty, or a byte that is not 0 and the name from the next place on. Assumes nothing.
-use Prim.Native.Nat.{ℕ, zero, suc, ◌+◌, ◌-◌, ◌<◌, ◌≤◌}
-use mathlib.Core.Path.{◌≡◌, refl, ap, ap₂, ◌∙◌, sym}
+use Prim.Native.Nat.{ℕ, zero, suc, ◌+◌, ◌<◌, ◌≤◌}
+use mathlib.Core.Path.{◌≡◌, refl, ap, ◌∙◌, sym, subst}
 use mathlib.Core.List.{List, [], ◌∷◌, ◌++◌, append-nil, append_assoc}
-use mathlib.Core.Bool.{Bool, true, false, not}
+use mathlib.Core.Bool.{Bool, true, false, not, ◌||◌}
 use mathlib.Core.Logic.{⊎_elim}
 use native.Mathlib.Omega.{arith}
 use native.Mathlib.Numerals.{add-one}
-use native.Mathlib.Nat.{add-zero}
-use lib.ListN.{length, get_or, set, take, drop, drop_of_length-le, length-drop, get_or-eq_default}
+use lib.ListN.{length, get_or, set, take, drop, drop_of_length-le, get_or-eq_default}
 use lib.Seq.{drop-cons, take-suc, take-length}
-use lib.Dec.{eqb}
+use lib.Dec.{eqb, leb}
+use denote.Ref.{Bor}
 use Rattle.std.specs.Prelude.{Option, Some, None, cond, nat_lt, position, ◌==◌}
 use Rattle.std.proofs.lemmas.Bool.Decides.{nat_tests}
 use Rattle.std.proofs.lemmas.List.Sums.{prefix_len-le-length}
 use Rattle.std.specs.Option.{unwrap_or}
+use Rattle.std.specs.declared.slice.Windows.{Windows}
+use Rattle.std.specs.Slice.Iter.{windows_rest, windows_size, windows_steps}
+use Rattle.std.specs.Iterator.{AlwaysYields}
+use Rattle.std.specs.List.{list_any}
+use Rattle.std.specs.Cmp.Lexicographic.{pointwise}
+use Rattle.std.proofs.lemmas.Iterator.{YieldsList}
 use Rattle.std.specs.List.{position_or_len}
-use borrow.Author.Tests.{eq-eqb, ne_eqb}
+use borrow.Author.Tests.{eq-eqb, ne_eqb, eqb-true, eqb-false, le-leb, lt-leb}
 use Rattle.spec_bytes.specs.text.Text.{whole, put_out, put_text}
 use Rattle.spec_bytes.proofs.words.Laws.{le_or_lt}
 use Rattle.spec_bytes.proofs.text.TextLaws.{put_seq, put_same, put_empty, put_full, put_set}
@@ -158,95 +164,94 @@ starts_other : (a b : ℕ) (w l : List ℕ) → (a ≡ b → ⊥) → starts_wit
 unfolding starts_with
 starts_other a b w l n = rw (ne_eqb a b n, starts_with)
 
--- shut, for the same reason
-pub rest_starts : List ℕ → List ℕ → ℕ → ℕ → Bool
-rest_starts w s at j = starts_with (drop j w) (drop (at + j) s)
-
-module _ (w s : List ℕ) (at : ℕ) where
-  pub starts_none : starts_with w (drop at s) ≡ rest_starts w s at 0
-  unfolding rest_starts
-  starts_none = rw add-zero
-
-  pub starts_past : length s - at < length w → false ≡ starts_with w (drop at s)
-  starts_past h = sym (starts_short w (drop at s) (simp length-drop h))
-
-  module _ (j : ℕ) (inv : starts_with w (drop at s) ≡ rest_starts w s at j) where
-    heads : at + j < length s → j < length w → rest_starts w s at j ≡ starts_with (get_or w j 0 ∷ drop (suc j) w) (get_or s (at + j) 0 ∷ drop (suc (at + j)) s)
-    unfolding rest_starts
-    heads a l = ap₂ starts_with (drop-cons w j 0 l) (drop-cons s (at + j) 0 a)
-
-    pub starts_differ : at + j < length s → j < length w → (get_or s (at + j) 0 ≡ get_or w j 0 → ⊥) → false ≡ starts_with w (drop at s)
-    starts_differ a l n = sym (inv ∙ heads a l ∙ starts_other _ _ _ _ (λ e. n (sym e)))
-
-    pub starts_more : at + j < length s → j < length w → get_or s (at + j) 0 ≡ get_or w j 0 → starts_with w (drop at s) ≡ rest_starts w s at (j + 1)
-    unfolding rest_starts
-    starts_more a l e =
-        let z : suc (at + j) ≡ at + (j + 1) = omega arith in
-        let y : suc j ≡ j + 1 = omega arith in
-        inv ∙ heads a l ∙ starts_same _ _ _ _ (sym e) ∙ ap₂ (λ (x i : ℕ). starts_with (drop x w) (drop i s)) y z
-
-    pub starts_all : length w ≤ j → true ≡ starts_with w (drop at s)
-    unfolding rest_starts starts_with
-    starts_all l = sym (inv ∙ ap (λ (x : List ℕ). starts_with x (drop (at + j) s)) (drop_of_length-le w l))
-
 short : (w s : List ℕ) → length s < length w → contains w s ≡ false
 unfolding contains is_empty
 short [] [] h = absurd (omega arith)
 short (a ∷ w) [] h = refl
 short w (b ∷ s) h = rw (starts_short w (b ∷ s) h, contains) (short w s (omega arith))
 
-here : (w s : List ℕ) → starts_with w s ≡ true → contains w s ≡ true
-unfolding contains starts_with is_empty
-here [] [] e = refl
-here (a ∷ w) [] e = e
-here w (b ∷ s) e = rw (e, contains)
+-- what `windows` gives: n elements from each place on
+pub windows_of : ℕ → List ℕ → List (List ℕ)
+windows_of n [] = []
+windows_of n (x ∷ l) = elim (leb n (suc (length l))) [ true ↦ take n (x ∷ l) ∷ windows_of n l | false ↦ [] ]
 
-starts_empty : (v l : List ℕ) → length v ≤ 0 → starts_with v l ≡ true
+windows_more : (n x : ℕ) (l : List ℕ) → n ≤ suc (length l) → windows_of n (x ∷ l) ≡ take n (x ∷ l) ∷ windows_of n l
+unfolding windows_of
+windows_more n x l m = rw (le-leb n (suc (length l)) m, windows_of)
+
+windows_none : (n x : ℕ) (l : List ℕ) → suc (length l) < n → windows_of n (x ∷ l) ≡ []
+unfolding windows_of
+windows_none n x l m = rw (lt-leb n (suc (length l)) m, windows_of)
+
+module _ (n : ℕ) (h : 0 < n) where
+  abbrev Gives : List ℕ → Type 0
+  Gives l = (s : Windows ℕ) → windows_size s ≡ n → windows_rest s ≡ l → AlwaysYields windows_steps (λ y. y.now) s (windows_of n l)
+
+  gives_more : (y : ℕ) (l : List ℕ) → Gives l → Gives (y ∷ l)
+  gives_more y l ih s en el = ⊎_elim inside outside (le_or_lt n (suc (length l)))
+    where
+      e : length (windows_rest s) ≡ suc (length l)
+      e = ap length el
+
+      inside : n ≤ suc (length l) → AlwaysYields windows_steps (λ y. y.now) s (windows_of n (y ∷ l))
+      inside m =
+          subst (AlwaysYields windows_steps (λ (y : Bor (List ℕ)). y.now) s) (sym (windows_more n y l m)) (
+            (λ j p. omega (arith, p.1.0, e)),
+            λ x j p. (p.1.1 ∙ (λ i. take (en i) (el i)), ih j (p.0 ∙ en) (p.1.2 ∙ ap (drop 1) el)),
+          )
+
+      outside : suc (length l) < n → AlwaysYields windows_steps (λ y. y.now) s (windows_of n (y ∷ l))
+      outside m = subst (AlwaysYields windows_steps (λ (y : Bor (List ℕ)). y.now) s) (sym (windows_none n y l m)) (λ x j p. omega (arith, p.1.0, e))
+
+  gives : (l : List ℕ) → Gives l
+  unfolding windows_of
+  gives [] s en el = λ x j p. let e : length (windows_rest s) ≡ 0 = ap length el in omega (arith, p.1.0)
+  gives (y ∷ l) s en el = gives_more y l (gives l) s en el
+
+  pub yields_windows : (l : List ℕ) {s : Windows ℕ} → windows_size s ≡ n → windows_rest s ≡ l → YieldsList windows_steps (λ y. y.now) s (windows_of n l)
+  yields_windows l {s} en el = record { runs = gives l s en el }
+
+same_front : (w l : List ℕ) → length w ≤ length l → pointwise eqb (take (length w) l) w ≡ starts_with w l
 unfolding starts_with
-starts_empty [] l h = refl
-starts_empty (a ∷ v) l h = absurd (omega arith)
+same_front [] l h = refl
+same_front (a ∷ w) [] h = absurd (omega arith)
+same_front (a ∷ w) (b ∷ l) h = go (eqb a b) refl (same_front w l (omega arith))
+  where
+    go : (t : Bool) → eqb a b ≡ t → pointwise eqb (take (length w) l) w ≡ starts_with w l → pointwise eqb (take (length (a ∷ w)) (b ∷ l)) (a ∷ w) ≡ starts_with (a ∷ w) (b ∷ l)
+    go true e ih =
+        let q : a ≡ b = eqb-true a b e in
+        let k : pointwise eqb (take (length (a ∷ w)) (b ∷ l)) (a ∷ w) ≡ starts_with w l = rw (eq-eqb b a (sym q)) ih in
+        k ∙ sym (starts_same a b w l q)
+    go false e ih =
+        let n : a ≡ b → ⊥ = eqb-false a b e in
+        let k : pointwise eqb (take (length (a ∷ w)) (b ∷ l)) (a ∷ w) ≡ false = rw (ne_eqb b a (λ z. n (sym z))) in
+        k ∙ sym (starts_other a b w l n)
 
--- shut, for the same reason
-pub rest_contains : List ℕ → List ℕ → ℕ → Bool
-rest_contains w s i = contains w (drop i s)
+abbrev has_window : List ℕ → List ℕ → Bool
+has_window w l = list_any (λ p. pointwise eqb p w) (windows_of (length w) l)
 
-module _ (w s : List ℕ) where
-  pub word_short : length s < length w → false ≡ contains w s
-  word_short h = sym (short w s h)
+window_more : (w : List ℕ) (x : ℕ) (l : List ℕ) → has_window w l ≡ contains w l → has_window w (x ∷ l) ≡ contains w (x ∷ l)
+unfolding contains
+window_more w x l ih = ⊎_elim inside outside (le_or_lt (length w) (suc (length l)))
+  where
+    by_front : (t : Bool) → t || has_window w l ≡ elim t as (λ x. Bool) [ true ↦ true | false ↦ contains w l ]
+    by_front true = refl
+    by_front false = ih
 
-  pub word_none : contains w s ≡ rest_contains w s 0
-  unfolding rest_contains
-  word_none = refl
+    inside : length w ≤ suc (length l) → has_window w (x ∷ l) ≡ contains w (x ∷ l)
+    inside m =
+        let k : list_any (λ p. pointwise eqb p w) (take (length w) (x ∷ l) ∷ windows_of (length w) l) ≡ contains w (x ∷ l) = rw (same_front w (x ∷ l) m) (by_front (starts_with w (x ∷ l))) in
+        ap (list_any (λ p. pointwise eqb p w)) (windows_more (length w) x l m) ∙ k
 
-  module _ (i : ℕ) (inv : contains w s ≡ rest_contains w s i) (r : Bool) (er : r ≡ starts_with w (drop i s)) where
-    pub word_here : r ≡ true → true ≡ contains w s
-    unfolding rest_contains
-    word_here e = sym (inv ∙ here w (drop i s) (sym er ∙ e))
+    outside : suc (length l) < length w → has_window w (x ∷ l) ≡ contains w (x ∷ l)
+    outside m = ap (list_any (λ p. pointwise eqb p w)) (windows_none (length w) x l m) ∙ sym (short w (x ∷ l) m)
 
-    pub word_more : r ≡ false → contains w s ≡ rest_contains w s (i + 1)
-    unfolding rest_contains contains
-    word_more e = inv ∙ ⊎_elim out inside (le_or_lt (length s) i)
-      where
-        out : length s ≤ i → contains w (drop i s) ≡ contains w (drop (i + 1) s)
-        out l =
-            let m : length s ≤ i + 1 = omega arith in
-            ap (contains w) (drop_of_length-le s l ∙ sym (drop_of_length-le s m))
-
-        inside : i < length s → contains w (drop i s) ≡ contains w (drop (i + 1) s)
-        inside l =
-            let f : starts_with w (get_or s i 0 ∷ drop (suc i) s) ≡ false = ap (starts_with w) (sym (drop-cons s i 0 l)) ∙ sym er ∙ e in
-            ap (contains w) (drop-cons s i 0 l) ∙ rw (f, contains, add-one)
-
-    -- the word that does not stand here is not empty
-    pub word_some : r ≡ false → 0 < length w
-    word_some e = ⊎_elim (λ l. absurd (none l)) (λ l. l) (le_or_lt (length w) 0)
-      where
-        none : length w ≤ 0 → ⊥
-        none l = let z : ◌≡◌ {A = Bool} true false = sym (starts_empty w (drop i s) l) ∙ sym er ∙ e in let y : ◌≡◌ {A = ℕ} 0 1 = cc in omega arith
-
-  pub word_end : (i : ℕ) → contains w s ≡ rest_contains w s i → length s < i + length w → 0 < length w → false ≡ contains w s
-  unfolding rest_contains
-  word_end i inv l h = sym (inv ∙ short w (drop i s) (simp length-drop (omega arith)))
+-- the word stands in l where some window is the word
+pub any_window : (w : List ℕ) → 0 < length w → (l : List ℕ) → list_any (λ p. pointwise eqb p w) (windows_of (length w) l) ≡ contains w l
+unfolding contains is_empty windows_of
+any_window [] h l = absurd (omega arith)
+any_window (a ∷ w) h [] = refl
+any_window (a ∷ w) h (x ∷ l) = window_more (a ∷ w) x l (any_window (a ∷ w) h l)
 
 -- ---- escapes
 pub escaped_92 : (x : ℕ) → x ≡ 92 → 92 ∷ 92 ∷ [] ≡ escaped_byte x
