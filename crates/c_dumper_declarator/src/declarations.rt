@@ -2,7 +2,8 @@
 // emit_type_decl, emit_based, emit_type_chain and emit_composite_def may be open; `below` is that for the calls within one of them.
 mod members;
 
-ghost use Rattle.std.specs.Prelude.{◌≡◌, true, false, ◌≤◌, ◌<◌, ◌-◌, ◌+◌, eqb, leb, ◌∷◌};
+ghost use Rattle.spec_bytes.specs.text.Text.{cut, put_out, put_text};
+ghost use Rattle.std.specs.Prelude.{[], ◌≡◌, true, false, ◌≤◌, ◌<◌, ◌-◌, ◌+◌, eqb, leb, ◌∷◌};
 ghost use Rattle.spec_c_dumper.specs.rules.Writer.{put, ◌⨾◌};
 ghost use Rattle.spec_c_dumper.specs.rules.Types.{Composite};
 ghost use Rattle.spec_c_dumper.specs.rules.Decl.{base, mods, no_mods, shown_params};
@@ -20,7 +21,7 @@ ghost use Rattle.c_dumper_bodies.specs.bodies.Pieces.{param_list_below, entry_te
 
 pub use crate::declarations::members::emit_composite_def;
 use base_bytes::put::{put_byte, put_two, stop, stopped};
-use base_bytes::refusal;
+use base_bytes::refusal::Refusal;
 use base_keywords::table::{Word, put_word};
 use btf_type_table::kind::{entries_of, is_struct, kind_flag_of, param_place};
 use btf_type_table::name::{is_empty, put_str};
@@ -58,6 +59,13 @@ struct Stand {
     rest: Option<Rest>,
 }
 
+// Too many calls are open, or a chain has too many entries.
+fn too_deep(text: &[u8], at: usize) -> usize
+    ensures { put_out result text.now ≡ put_text text.now at (cut [] 12) }
+{
+    stop(text, at, u32::from(Refusal::TooDeep))
+}
+
 #[cycle(declarator)]
 pub fn emit_type_decl(
     b: TypeTable,
@@ -74,14 +82,14 @@ pub fn emit_type_decl(
         d.lvl work.old) }
 {
     if left == 0 {
-        return stop(text, at, refusal::TOO_DEEP);
+        return too_deep(text, at);
     }
     if stopped(text, at) {
         return at;
     }
     match chain_base(b, section, work, d.id) {
         Some(x) => emit_based(b, section, work, text, at, d, x, left - 1),
-        None => stop(text, at, refusal::TOO_DEEP),
+        None => too_deep(text, at),
     }
 }
 
@@ -106,7 +114,7 @@ fn emit_based(
         d.lvl work.old) }
 {
     if left == 0 {
-        return stop(text, at, refusal::TOO_DEEP);
+        return too_deep(text, at);
     }
     let below = left - 1;
     let m = skip_mods(b, section, work, d.id, x.n);
@@ -142,7 +150,7 @@ fn emit_type_chain(
         work.old) }
 {
     if left == 0 {
-        return stop(text, at, refusal::TOO_DEEP);
+        return too_deep(text, at);
     }
     if stopped(text, at) {
         return at;

@@ -14,8 +14,8 @@ ghost use Rattle.c_dumper_emit.specs.dump_type.Kept.{with_leads, dumped_kept};
 use crate::emit_type::emit_ordered;
 use crate::entries::{Asked, Pen};
 use crate::order_list::clear_list;
-use crate::steps::stop_at;
 use base_bytes::limit;
+use base_bytes::put::stop;
 use btf_type_table::node::type_by_id;
 use c_dumper_dependency_order::begin::Ceiling;
 use c_dumper_dependency_order::leaders::Way;
@@ -87,8 +87,9 @@ pub fn dump_type(
         b, section, work, leads, start, id, false, most, v, c.is_set, c.calls,
     );
     if o.stop != 0 {
+        let at = stop(text, p.at, o.stop);
         return Dumped {
-            pen: stop_at(text, p, o.stop),
+            pen: Pen { at, ..p },
             made: o.made,
         };
     }

@@ -17,8 +17,9 @@ use crate::steps::{
     EmitState, emit_again, end_composite, end_typedef, get_emit_state, inner, mention_composite,
     set_emit_state, stop_at,
 };
+use base_bytes::limit;
 use base_bytes::put::stopped;
-use base_bytes::{limit, refusal};
+use base_bytes::refusal::Refusal;
 use btf_type_table::kind::{entries_of, member_place, param_place};
 use btf_type_table::name::is_named;
 use btf_type_table::node::{node_of, type_by_id};
@@ -74,7 +75,7 @@ pub fn emit_type(
         return p;
     }
     if left == 0 {
-        return stop_at(text, p, refusal::TOO_DEEP);
+        return stop_at(text, p, Refusal::TooDeep);
     }
     match get_emit_state(work, id) {
         EmitState::Emitted => return p,
@@ -85,7 +86,7 @@ pub fn emit_type(
     }
     let t = type_by_id(b, section, work, id);
     if (cont == 0) & !is_named(b, section, t) {
-        return stop_at(text, p, refusal::NAMELESS_TYPEDEF);
+        return stop_at(text, p, Refusal::NamelessTypedef);
     }
     let rest = left - 1;
     emit_new(b, section, work, text, list, leads, q, p, id, t, cont, rest)

@@ -7,7 +7,7 @@ ghost use Rattle.c_dumper_dependency_order.specs.leaders.Leads.{entry_in};
 ghost use Rattle.c_dumper_emit.specs.entries.Noted.{cause_code, entry_of, entry_put, noted_out, note_n, note_if_n, shown_of};
 
 use base_bytes::put::{stop, stopped};
-use base_bytes::refusal;
+use base_bytes::refusal::Refusal;
 use base_bytes::word::put_word;
 use btf_type_table::name::{is_builtin, is_named};
 use c_dumper_dependency_order::leaders::leader_of;
@@ -60,13 +60,13 @@ pub fn listed_origin(leads: &[u64], q: Asked, id: u32) -> Origin
 {
     if id == q.req {
         return Origin {
-            id: id,
+            id,
             cause: Cause::Requested,
             leader: id,
         };
     }
     Origin {
-        id: id,
+        id,
         cause: Cause::Needed,
         leader: leader_of(leads, q.req, q.turn, id),
     }
@@ -80,7 +80,7 @@ pub fn origin_at(leads: &[u64], q: Asked, within: Cause, id: u32, cont: u32) -> 
         return listed_origin(leads, q, id);
     }
     Origin {
-        id: id,
+        id,
         cause: within,
         leader: cont,
     }
@@ -91,7 +91,7 @@ pub fn forward_origin(id: u32, cont: u32) -> Origin
     ensures { entry_of result ≡ entry id 2 cont }
 {
     Origin {
-        id: id,
+        id,
         cause: Cause::ForwardLine,
         leader: cont,
     }
@@ -115,10 +115,8 @@ fn note(text: &[u8], list: &mut [u8], p: Pen, e: Origin) -> Pen
         return p;
     }
     if list.len() / 12 <= p.count {
-        return Pen {
-            at: stop(text, p.at, refusal::TEXT_FULL),
-            count: p.count,
-        };
+        let at = stop(text, p.at, u32::from(Refusal::TextFull));
+        return Pen { at, ..p };
     }
     put_entry(list, p.count, e);
     Pen {

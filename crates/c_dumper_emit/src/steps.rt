@@ -1,6 +1,7 @@
 // Emission, the steps that go on to no other id: a line that comes once, an id that is met again, a composite within another, and
 // the ends of a typedef and a composite. Emit states and forward flags stand in the work words.
 ghost use Rattle.std.specs.Prelude.{◌≡◌, not, eqb, ℕ, []};
+ghost use Rattle.spec_bytes.specs.Refusals.{refusal_number};
 ghost use Rattle.spec_bytes.specs.text.Text.{cut, put_out, put_text};
 ghost use Rattle.spec_c_dumper.specs.rules.Machine.{pick, obind};
 ghost use Rattle.spec_type_table.specs.Cells.{get_field, put_field};
@@ -14,7 +15,7 @@ ghost use Rattle.c_dumper_emit.specs.entries.Noted.{again_n, typedef_n, mentione
 use crate::entries::{Asked, Cause, Origin, Pen, forward_origin, listed_origin, origin_at};
 use crate::lines::{define, forward};
 use base_bytes::put::stop;
-use base_bytes::refusal;
+use base_bytes::refusal::Refusal;
 use btf_type_table::cell;
 use btf_type_table::cell::{get_field, put_field};
 use btf_type_table::name::is_named;
@@ -83,11 +84,11 @@ fn emit_once(
 }
 
 // Stopped by a refusal.
-pub fn stop_at(text: &[u8], p: Pen, c: u32) -> Pen
-    ensures { put_out result.at text.now ≡ put_text text.now p.at (cut [] c) }
+pub fn stop_at(text: &[u8], p: Pen, c: Refusal) -> Pen
+    ensures { put_out result.at text.now ≡ put_text text.now p.at (cut [] (refusal_number c)) }
 {
     Pen {
-        at: stop(text, p.at, c),
+        at: stop(text, p.at, u32::from(c)),
         count: p.count,
     }
 }
@@ -120,7 +121,7 @@ pub fn emit_again(
                 return p;
             }
             if !is_named(b, section, t) {
-                return stop_at(text, p, refusal::CYCLE);
+                return stop_at(text, p, Refusal::Cycle);
             }
             let e = forward_origin(id, cont);
             emit_once(b, section, work, text, list, q.lists, p, id, t, e)

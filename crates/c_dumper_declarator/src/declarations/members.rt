@@ -9,9 +9,8 @@ ghost use Rattle.spec_type_table.specs.Records.{kind_of, member_of};
 ghost use Rattle.spec_type_table.specs.Table.{members_of, record_name, rule_member, btf_of, work_naming};
 ghost use Rattle.c_dumper_bodies.specs.bodies.Pieces.{member_text, members_below, end_from};
 
-use crate::declarations::{Declarator, emit_type_decl};
+use crate::declarations::{Declarator, emit_type_decl, too_deep};
 use base_bytes::put::{put_byte, put_tabs, stop, stopped};
-use base_bytes::refusal;
 use btf_type_table::entry::load_member;
 use btf_type_table::kind::vlen_of;
 use btf_type_table::name::is_builtin;
@@ -40,7 +39,7 @@ pub fn emit_composite_def(
         (record_name b section.now t) t.type_id (members_of b section.now t) lvl work.old) }
 {
     if left == 0 {
-        return stop(text, at, refusal::TOO_DEEP);
+        return too_deep(text, at);
     }
     if stopped(text, at) {
         return at;

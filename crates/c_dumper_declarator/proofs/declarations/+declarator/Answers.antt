@@ -48,7 +48,7 @@ pub emit_base-returns-in_default : goal.emit_base-returns-in_default
 emit_base-returns-in_default t c = entries.word_none _ _ _ _ _ _ _ _ _ _ _ c.of.ensures c.in_default.not-Int c.in_default.not-Float c.in_default.not-Struct c.in_default.not-Union c.in_default.not-Enum c.in_default.not-Enum64 c.in_default.not-Fwd c.in_default.not-Typedef c.in_default.not-Void c.in_default.not-Unknown
 
 pub emit_based-returns-then-left-eq0 : goal.emit_based-returns-then-left-eq0
-emit_based-returns-then-left-eq0 t c = chains.chain_zero _ _ _ _ _ _ _ _ _ _ c.if-left-eq0.true c.stop.ensures
+emit_based-returns-then-left-eq0 t c = chains.chain_zero _ _ _ _ _ _ _ _ _ _ c.if-left-eq0.true c.too_deep.ensures
 
 pub emit_based-returns-then-m-eq0 : goal.emit_based-returns-then-m-eq0
 emit_based-returns-then-m-eq0 t c = entries.based_name _ _ _ _ _ _ _ _ _ c.if-left-eq0.false _ _ c.requires.0 _ _ c.skip_mods-m.ensures.0 _ _ c.emit_mods-a.ensures _ _ _ c.emit_base-e.ensures _ _ c.if-m-eq0.true c.emit_name.ensures
@@ -144,7 +144,7 @@ pub emit_proto-returns : goal.emit_proto-returns
 emit_proto-returns t c = entries.proto_some _ _ _ _ _ _ _ _ _ _ _ c.if-n-eq0.false _ _ _ _ _ _ _ c.put_two-a.ensures c.emit_type_chain-c.ensures c.put_byte.ensures
 
 pub emit_type_chain-returns-then-left-eq0 : goal.emit_type_chain-returns-then-left-eq0
-emit_type_chain-returns-then-left-eq0 t c = chains.chain_zero _ _ _ _ _ _ _ _ _ _ c.if-left-eq0.true c.stop.ensures
+emit_type_chain-returns-then-left-eq0 t c = chains.chain_zero _ _ _ _ _ _ _ _ _ _ c.if-left-eq0.true c.too_deep.ensures
 
 pub emit_type_chain-returns-then-stopped : goal.emit_type_chain-returns-then-stopped
 emit_type_chain-returns-then-stopped t c = said_stopped _ _ _ _ (sym c.stopped.ensures ∙ c.if-stopped.true)
@@ -156,7 +156,7 @@ pub emit_type_chain-returns : goal.emit_type_chain-returns
 emit_type_chain-returns t c = chains.chain_whole _ _ _ _ _ _ _ _ _ _ _ _ _ c.if-left-eq0.false c.emit_links.ensures
 
 pub emit_type_decl-returns-then-left-eq0 : goal.emit_type_decl-returns-then-left-eq0
-emit_type_decl-returns-then-left-eq0 t c = chains.decl_zero _ _ _ _ _ _ _ _ _ _ c.if-left-eq0.true c.stop.ensures
+emit_type_decl-returns-then-left-eq0 t c = chains.decl_zero _ _ _ _ _ _ _ _ _ _ c.if-left-eq0.true c.too_deep.ensures
 
 pub emit_type_decl-returns-then-stopped : goal.emit_type_decl-returns-then-stopped
 emit_type_decl-returns-then-stopped t c = said_stopped _ _ _ _ (sym c.stopped.ensures ∙ c.if-stopped.true)
@@ -168,10 +168,10 @@ pub emit_type_decl-returns-in-Some : goal.emit_type_decl-returns-in-Some
 emit_type_decl-returns-in-Some t c = chains.decl_got _ _ _ _ _ _ _ _ _ _ c.if-left-eq0.false _ c.chain_base.ensures _ _ _ c.in-Some.is c.emit_based.ensures
 
 pub emit_type_decl-returns-in-None : goal.emit_type_decl-returns-in-None
-emit_type_decl-returns-in-None t c = chains.decl_no _ _ _ _ _ _ _ _ _ _ c.if-left-eq0.false _ c.chain_base.ensures c.in-None.is c.stop-in-None.ensures
+emit_type_decl-returns-in-None t c = chains.decl_no _ _ _ _ _ _ _ _ _ _ c.if-left-eq0.false _ c.chain_base.ensures c.in-None.is c.too_deep-in-None.ensures
 
 pub members::emit_composite_def-returns-then-left-eq0 : goal.members::emit_composite_def-returns-then-left-eq0
-members::emit_composite_def-returns-then-left-eq0 t c = members.def_zero _ _ _ _ _ _ _ _ _ _ _ _ _ c.if-left-eq0.true c.stop.ensures
+members::emit_composite_def-returns-then-left-eq0 t c = members.def_zero _ _ _ _ _ _ _ _ _ _ _ _ _ c.if-left-eq0.true c.too_deep.ensures
 
 pub members::emit_composite_def-returns-then-stopped : goal.members::emit_composite_def-returns-then-stopped
 members::emit_composite_def-returns-then-stopped t c = said_stopped _ _ _ _ (sym c.stopped.ensures ∙ c.if-stopped.true)
@@ -183,7 +183,7 @@ pub members::emit_composite_def-returns-in-Ok : goal.members::emit_composite_def
 members::emit_composite_def-returns-in-Ok t c = members.def_body _ _ _ _ _ _ _ _ _ _ _ _ _ c.if-left-eq0.false (sym c.is_builtin.ensures ∙ c.if-is_builtin.false) _ _ c.body_packed.ensures _ _ _ _ _ _ _ _ _ c.in-Ok.is c.deeper.ensures c.emit_composite_head-a.ensures c.emit_members-c.ensures c.emit_composite_end.ensures
 
 pub members::emit_composite_def-returns-in-Err : goal.members::emit_composite_def-returns-in-Err
-members::emit_composite_def-returns-in-Err t c = members.def_refused _ _ _ _ _ _ _ _ _ _ _ _ _ c.if-left-eq0.false (sym c.is_builtin.ensures ∙ c.if-is_builtin.false) _ _ c.body_packed.ensures _ _ c.in-Err.is c.from.ensures c.stop-in-Err.ensures
+members::emit_composite_def-returns-in-Err t c = members.def_refused _ _ _ _ _ _ _ _ _ _ _ _ _ c.if-left-eq0.false (sym c.is_builtin.ensures ∙ c.if-is_builtin.false) _ _ c.body_packed.ensures _ _ c.in-Err.is c.from.ensures c.stop.ensures
 
 pub members::emit_member-returns : goal.members::emit_member-returns
 members::emit_member-returns t c = members.member_put _ _ _ _ _ _ _ _ _ _ _ _ _ _ _ _ _ _ _ _ _ _ _ _ _ c.load_member-m.ensures c.bare.ensures c.emit_bit_padding-a.ensures c.put_byte-c.ensures c.put_tabs-e.ensures c.emit_type_decl-f.ensures c.emit_member_end.ensures
