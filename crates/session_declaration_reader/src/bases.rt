@@ -8,6 +8,7 @@ ghost use Rattle.session_declaration_reader.specs.bases.Looking.{qual_sign, word
 ghost use Rattle.session_declaration_reader.specs.bases.Looking.{AfterWords, BaseAt};
 
 pub use crate::bases::items::{Entry, Spot, put_base, put_entry, put_quals};
+use crate::sign;
 use crate::tokens::token;
 
 // At most three qualifiers, by their signs, 0 where there is none; and where they end.
@@ -108,14 +109,14 @@ fn ends_name(text: &[u8], at: usize) -> bool
     if is_word(t.sign) {
         return false;
     }
-    if t.sign == 58 {
+    if t.sign == sign::STAR {
         return false;
     }
-    if t.sign != 56 {
+    if t.sign != sign::OPEN {
         return true;
     }
     let u = token(text, t.end);
-    u.sign != 58
+    u.sign != sign::STAR
 }
 
 // Whether a word of the base stands next; with a name wanted, the last word is the name.
@@ -151,7 +152,7 @@ fn no_tags(text: &[u8], at: usize, named: bool) -> bool
     let mut i = at;
     while is_base_word(text, i, named) {
         let t = token(text, i);
-        if t.sign == 4 {
+        if t.sign == sign::TAG {
             return false;
         }
         i = t.end;
@@ -166,7 +167,7 @@ fn is_base(text: &[u8], at: usize, named: bool) -> bool
         return false;
     }
     let t = token(text, at);
-    if t.sign != 4 {
+    if t.sign != sign::TAG {
         return no_tags(text, t.end, named);
     }
     if !is_base_word(text, t.end, named) {
@@ -198,7 +199,7 @@ pub fn void_before(text: &[u8], at: usize, sign: u32) -> bool
     ensures { result ≡ void_signed sign (tokens_at text.now at) }
 {
     let t = token(text, at);
-    if t.sign != 5 {
+    if t.sign != sign::VOID {
         return false;
     }
     let u = token(text, t.end);
@@ -210,9 +211,9 @@ pub fn is_bracketed(text: &[u8], at: usize) -> bool
     ensures { result ≡ bracketed (tokens_at text.now at) }
 {
     let t = token(text, at);
-    if t.sign != 56 {
+    if t.sign != sign::OPEN {
         return false;
     }
     let u = token(text, t.end);
-    u.sign == 58
+    u.sign == sign::STAR
 }

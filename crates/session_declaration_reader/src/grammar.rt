@@ -12,6 +12,7 @@ use crate::bases::{
     Base, Entry, Spot, base_at, is_bracketed, is_word, put_base, put_entry, put_quals, quals_at,
     void_before,
 };
+use crate::sign;
 use crate::tokens::token;
 
 // A star before a declarator; or one in parentheses, or the name, with what stands behind it.
@@ -31,7 +32,7 @@ pub fn declarator(
         return None;
     }
     let t = token(text, at);
-    if t.sign == 58 {
+    if t.sign == sign::STAR {
         return starred(text, t.end, named, left - 1, chain, n);
     }
     if is_bracketed(text, at) {
@@ -83,7 +84,7 @@ fn in_brackets(
 {
     let r = declarator(text, at, named, left, chain, n)?;
     let t = token(text, r.at);
-    if t.sign != 57 {
+    if t.sign != sign::CLOSE {
         return None;
     }
     suffixes(text, t.end, left, chain, r.n)
@@ -99,10 +100,10 @@ fn suffixes(text: &[u8], at: usize, left: u32, chain: &mut [u64], n: u32) -> Opt
         return None;
     }
     let t = token(text, at);
-    if t.sign == 107 {
+    if t.sign == sign::OPEN_BRACKET {
         return counts(text, t.end, left - 1, chain, n);
     }
-    if t.sign == 56 {
+    if t.sign == sign::OPEN {
         return protos(text, t.end, left - 1, chain, n);
     }
     Some(Spot { at, n })
@@ -115,11 +116,11 @@ fn counts(text: &[u8], at: usize, left: u32, chain: &mut [u64], n: u32) -> Optio
         ≡ emits layer_items chain.old n (emission.counts left (tokens_at text.now at)) }
 {
     let t = token(text, at);
-    if t.sign != 7 {
+    if t.sign != sign::COUNT {
         return None;
     }
     let u = token(text, t.end);
-    if u.sign != 109 {
+    if u.sign != sign::CLOSE_BRACKET {
         return None;
     }
     let m = put_entry(chain, n, Entry::Array(t.count));
@@ -146,13 +147,13 @@ fn params(text: &[u8], at: usize, left: u32, chain: &mut [u64], n: u32) -> Optio
         return None;
     }
     let t = token(text, at);
-    if t.sign == 57 {
+    if t.sign == sign::CLOSE {
         return Some(Spot {
             at: t.end,
             n: put_entry(chain, n, Entry::Prototype(false)),
         });
     }
-    if void_before(text, at, 57) {
+    if void_before(text, at, sign::CLOSE) {
         let u = token(text, t.end);
         return Some(Spot {
             at: u.end,
@@ -172,10 +173,10 @@ fn param_list(text: &[u8], at: usize, left: u32, chain: &mut [u64], n: u32) -> O
     if left == 0 {
         return None;
     }
-    if void_before(text, at, 57) {
+    if void_before(text, at, sign::CLOSE) {
         return None;
     }
-    if void_before(text, at, 60) {
+    if void_before(text, at, sign::COMMA) {
         return None;
     }
     let b = base_at(text, at, false)?;
@@ -197,7 +198,7 @@ fn param_behind(
         ≡ emits (behind_items b) chain.old n (grammar.param_end left (tokens_at text.now at)) }
 {
     let t = token(text, at);
-    let m = put_base(chain, n, b, t.sign == 60);
+    let m = put_base(chain, n, b, t.sign == sign::COMMA);
     param_end(text, at, left, chain, m)
 }
 
@@ -211,14 +212,14 @@ fn param_end(text: &[u8], at: usize, left: u32, chain: &mut [u64], n: u32) -> Op
         return None;
     }
     let t = token(text, at);
-    if t.sign != 60 {
-        if t.sign != 57 {
+    if t.sign != sign::COMMA {
+        if t.sign != sign::CLOSE {
             return None;
         }
         return Some(Spot { at: t.end, n });
     }
     let u = token(text, t.end);
-    if u.sign == 62 {
+    if u.sign == sign::DOTS {
         return dots_end(text, u.end, chain, n);
     }
     param_list(text, t.end, left - 1, chain, n)
@@ -230,7 +231,7 @@ fn dots_end(text: &[u8], at: usize, chain: &mut [u64], n: u32) -> Option<Spot>
         ≡ emits param_items chain.old n (emission.dots_end (tokens_at text.now at)) }
 {
     let t = token(text, at);
-    if t.sign != 57 {
+    if t.sign != sign::CLOSE {
         return None;
     }
     Some(Spot {

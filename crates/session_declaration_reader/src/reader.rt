@@ -5,6 +5,7 @@ ghost use Rattle.session_declaration_reader.specs.reader.Encoding.{read_into};
 
 use crate::bases::{base_at, put_base};
 use crate::grammar::declarator;
+use crate::sign;
 use crate::tokens::token;
 use base_bytes::limit;
 
@@ -34,7 +35,7 @@ pub fn read_declaration(text: &[u8], chain: &mut [u64]) -> u32
         return refuse(chain);
     };
     let t = token(text, r.at);
-    if t.sign != 0 {
+    if t.sign != sign::END {
         return refuse(chain);
     }
     let n = put_base(chain, r.n, b, false);

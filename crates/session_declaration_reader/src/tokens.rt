@@ -7,6 +7,7 @@ ghost use Rattle.session_declaration_reader.specs.tokens.Tokens as defs;
 ghost use Rattle.session_declaration_reader.specs.tokens.Looking.{count_value, kind_sign, word_sign, run_sign, run_count, Skipped, Ran};
 ghost use Rattle.session_declaration_reader.specs.tokens.Looking.{Looked};
 
+use crate::sign;
 use base_bytes::limit;
 use base_keywords::table::{Word, is_word};
 
@@ -84,31 +85,31 @@ fn base_sign(run: &[u8]) -> u32
     ensures { result ≡ kind_sign run.now }
 {
     if is_word(run, Word::Struct) {
-        return 4;
+        return sign::TAG;
     }
     if is_word(run, Word::Union) {
-        return 4;
+        return sign::TAG;
     }
     if is_word(run, Word::Enum) {
-        return 4;
+        return sign::TAG;
     }
     if is_word(run, Word::Void) {
-        return 5;
+        return sign::VOID;
     }
-    6
+    sign::WORD
 }
 
 fn word_sign(run: &[u8]) -> u32
     ensures { result ≡ word_sign run.now }
 {
     if is_word(run, Word::Const) {
-        return 1;
+        return sign::CONST;
     }
     if is_word(run, Word::Volatile) {
-        return 2;
+        return sign::VOLATILE;
     }
     if is_word(run, Word::Restrict) {
-        return 3;
+        return sign::RESTRICT;
     }
     base_sign(run)
 }
@@ -120,12 +121,12 @@ fn run_sign(run: &[u8]) -> u32
         return word_sign(run);
     }
     if count_value(run).is_some() {
-        return 7;
+        return sign::COUNT;
     }
     if is_word(run, Word::Dots) {
-        return 62;
+        return sign::DOTS;
     }
-    16
+    sign::MARK
 }
 
 // The value of a count, and 0 of any other run.
@@ -170,7 +171,7 @@ pub fn token(text: &[u8], at: usize) -> Tok
     let start = skip(text, at);
     if text.len() <= start {
         return Tok {
-            sign: 0,
+            sign: sign::END,
             count: 0,
             start: start,
             end: start,
@@ -179,7 +180,7 @@ pub fn token(text: &[u8], at: usize) -> Tok
     let b = text[start];
     if !in_run(b) {
         return Tok {
-            sign: 16 + (b as u32),
+            sign: sign::MARK + (b as u32),
             count: 0,
             start: start,
             end: start + 1,
