@@ -31,20 +31,14 @@ pub struct Base {
 pub fn is_qualifier(sign: u32) -> bool
     ensures { result ≡ qual_sign sign }
 {
-    if sign == 0 {
-        return false;
-    }
-    sign < 4
+    matches!(sign, sign::CONST..=sign::RESTRICT)
 }
 
 pub fn is_word(sign: u32) -> bool
     ensures { result ≡ word_signed sign }
 {
-    let is_below = sign < 4;
-    if is_below {
-        return false;
-    }
-    sign < 7
+    let is_below = sign < sign::TAG;
+    !is_below && sign <= sign::WORD
 }
 
 // A third qualifier, which ends at `at`, behind two that differ.

@@ -7,16 +7,15 @@ use mathlib.Core.List.{List, [], ◌∷◌}
 use native.Mathlib.Omega.{arith}
 use borrow.Author.Tests.{lt-ltb, le-ltb, eq-eqb, ne_eqb, eqb-true, eqb-false, not-true, not-false}
 use lib.ListN.{length}
-use lib.Dec.{ltb, eqb}
+use lib.Dec.{eqb}
 use Rattle.spec_c_dumper.specs.rules.Types.{Qualifier, volatile, const, restrict}
 use Rattle.session_declaration_reader.specs.tokens.Tokens.{Kind, tag_word, void_word, other_word, Token, qual, word, number, mark, rest}
 use Rattle.session_declaration_reader.specs.bases.Bases.{Spelt, spelt, is_qualifier_among, distinct, begins, begins_word, bracketed, qual_run, after_quals, ends_name, word_run, after_words, is_tag, no_tags, single, is_base, words_of, same_qualifier}
 use Rattle.session_declaration_reader.specs.tokens.Looking.{Span, tokens_at, sign_of, span_of, Looked}
 use Rattle.session_declaration_reader.specs.bases.Items.{qual_code, first_from, last_to}
-use Rattle.session_declaration_reader.specs.bases.Looking.{qual_sign, word_signed, void_signed, qual_of, QualsOf, QualsAt, only_three, Third, is_base_word, AfterWords, begins_base, BaseOf, BaseAt}
+use Rattle.session_declaration_reader.specs.bases.Looking.{qual_sign, word_signed, void_signed, qual_of, QualsOf, QualsAt, only_three, Third, is_base_word, AfterWords, begins_base, BaseAt}
 use Rattle.session_declaration_reader.specs.declared.tokens.Tok.{Tok}
 use Rattle.session_declaration_reader.specs.declared.bases.Quals.{Quals}
-use Rattle.session_declaration_reader.specs.declared.bases.Base.{Base}
 use Rattle.session_declaration_reader.proofs.tokens.Cases.{passed, failed}
 
 abbrev Ts : Type 0
@@ -57,18 +56,6 @@ word_sign (word void_word w ∷ ts) = refl
 word_sign (word other_word w ∷ ts) = refl
 word_sign (number n ∷ ts) = refl
 word_sign (mark b ∷ ts) = sym (rw (lt-ltb 3 (16 + b) (omega arith), le-ltb (16 + b) 7 (omega arith)))
-
-pub qualifier_zero : (g : ℕ) → g ≡ 0 → false ≡ qual_sign g
-qualifier_zero g e = rw e
-
-pub qualifier_some : (g : ℕ) → (g ≡ 0 → ⊥) → ltb g 4 ≡ qual_sign g
-qualifier_some g n = rw (lt-ltb 0 g (omega arith))
-
-pub word_below : (g : ℕ) → g < 4 → false ≡ word_signed g
-word_below g h = rw (le-ltb 3 g (omega arith))
-
-pub word_above : (g : ℕ) → 4 ≤ g → ltb g 7 ≡ word_signed g
-word_above g h = rw (lt-ltb 3 g (omega arith))
 
 -- the declared name
 module _ (ts : Ts) (g : ℕ) (e : g ≡ sign_of ts) (r : Bool) (w : r ≡ word_signed g) where

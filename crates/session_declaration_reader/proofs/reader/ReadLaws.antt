@@ -2,7 +2,7 @@
 use Rattle.std.specs.Prelude.{Some, None}
 use Prim.Native.Nat.{ℕ, suc, ◌+◌, ◌≤◌, ◌<◌}
 use mathlib.Core.Path.{◌≡◌, refl, ap, sym, ◌∙◌}
-use mathlib.Core.Bool.{Bool, true, false, ◌&&◌}
+use mathlib.Core.Bool.{Bool, true, false}
 use mathlib.Core.List.{List, [], ◌∷◌, ◌++◌, append-nil}
 use mathlib.Core.Logic.{◌⊎◌, inl, inr, ⊎_elim}
 use native.Mathlib.Omega.{arith}
@@ -13,7 +13,7 @@ use Rattle.spec_c_dumper.specs.rules.Types.{Qualifier, volatile, const, restrict
 use Rattle.session_declaration_reader.specs.grammar.Chain.{Layers, named, pointer, array, proto, Params, closed, dots, param, Chain, layer_entries, param_entries, entries}
 use Rattle.session_declaration_reader.specs.tokens.Tokens.{Token, qual, word, number, mark, tag_word, void_word, other_word}
 use Rattle.session_declaration_reader.specs.grammar.Grammar.{Reads, reads, fails, and_then, read_base, declarator}
-use Rattle.session_declaration_reader.specs.bases.Bases.{distinct, qual_run, after_quals, word_run, after_words, words_of, is_base}
+use Rattle.session_declaration_reader.specs.bases.Bases.{qual_run, after_quals, word_run, after_words, words_of}
 use Rattle.session_declaration_reader.specs.reader.Reading.{most, chain, refused, read_tokens, within_most, whole, read_with}
 use Rattle.session_declaration_reader.specs.tokens.Looking.{Span, tokens_at, sign_of, Looked}
 use Rattle.session_declaration_reader.specs.bases.Items.{Item, item, qual_items, one_more, put_item, Placed, placed, placing}

@@ -1,4 +1,3 @@
-use borrow.Author.Tests.{not-true, not-false}
 use Rattle.session_declaration_reader.proofs.grammar.ParseLaws as laws
 use Rattle.session_declaration_reader.proofs.grammar.+grammar.Goals as goal
 

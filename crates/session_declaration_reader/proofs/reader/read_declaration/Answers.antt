@@ -1,5 +1,4 @@
 use Rattle.session_declaration_reader.proofs.reader.ReadLaws as laws
-use borrow.Author.Tests.{not-true, not-false}
 use mathlib.Core.Path.{refl, ◌∙◌}
 use Prim.Native.Nat.{◌≤◌}
 use native.Mathlib.Omega.{arith}
