@@ -11,18 +11,6 @@ use Rattle.btf_open_causes.specs.header.Header.{bad_strings}
 use Rattle.spec_opening.specs.Causes.{cause1, cause2, cause3, cause4, first_of, early}
 use Rattle.btf_open_causes.proofs.header.Headers.{strings_decided}
 
-pub pointer_four : (p : ℕ) → p ≡ 4 → true ≡ not (cause1 p)
-unfolding cause1
-pointer_four p e = rw e
-
-pub pointer_else : (p : ℕ) → (p ≡ 4 → ⊥) → eqb p 8 ≡ not (cause1 p)
-unfolding cause1
-pointer_else p n = rw (ne_eqb p 4 n) (back (eqb p 8))
-  where
-    back : (t : Bool) → t ≡ not (not t)
-    back true = refl
-    back false = refl
-
 module _ (p : ℕ) (s : List ℕ) (t : Bool) (e : t ≡ not (cause1 p)) where
   pub early_1 : t ≡ false → 1 ≡ first_of (early p s)
   unfolding first_of

@@ -1,33 +1,14 @@
 -- What a table's types need of its header and settings: a law for each return of btf_of and what it calls. Assumes nothing.
-use Prim.Native.Nat.{ℕ, ◌/◌, ◌%◌, ◌<◌, ◌≤◌, ◌+◌}
+use Prim.Native.Nat.{ℕ, ◌/◌, ◌%◌, ◌+◌}
 use mathlib.Core.Path.{◌≡◌, ◌∙◌, ap}
 use mathlib.Core.Bool.{Bool}
 use mathlib.Core.List.{List}
 use lib.Dec.{ltb, eqb}
-use borrow.Author.Tests.{lt-ltb, le-ltb, ne_eqb}
 use Rattle.spec_linux_btf.specs.Section.{is_big_endian}
 use Rattle.spec_bytes.specs.words.Words.{pick}
 use Rattle.spec_type_table.specs.declared.types.TypeTable.{TypeTable}
 use Rattle.btf_open_causes.specs.declared.header.Header.{Header}
 use Rattle.btf_open_causes.specs.header.Header.{header_of, strings_at, btf_of}
-
-pub size_four : (p : ℕ) → p ≡ 4 → 4 ≡ pick (eqb p 4) 4 8
-size_four p e = rw e
-
-pub size_else : (p : ℕ) → (p ≡ 4 → ⊥) → 8 ≡ pick (eqb p 4) 4 8
-size_else p n = rw (ne_eqb p 4 n)
-
-pub count_less : (n : ℕ) → n < 262145 → n ≡ pick (ltb n 262145) n 262145
-count_less n h = rw (lt-ltb n 262145 h)
-
-pub count_else : (n : ℕ) → 262145 ≤ n → 262145 ≡ pick (ltb n 262145) n 262145
-count_else n h = rw (le-ltb n 262145 h)
-
-pub at_less : (n : ℕ) → n < 4294967296 → n ≡ pick (ltb n 4294967296) n 4294967295
-at_less n h = rw (lt-ltb n 4294967296 h)
-
-pub at_else : (n : ℕ) → 4294967296 ≤ n → 4294967295 ≡ pick (ltb n 4294967296) n 4294967295
-at_else n h = rw (le-ltb n 4294967296 h)
 
 abbrev from_header : Header → ℕ
 from_header h = pick (ltb (h.hdr_len + h.str_off) 4294967296) (h.hdr_len + h.str_off) 4294967295

@@ -67,9 +67,6 @@ module _ (G : Graph) (st stack : List ℕ) (d : ℕ) (inv : Inv G st stack d) (p
   pub top_begun : 0 < get_or st (top stack d) 0
   top_begun = inv.begun (d - 1) (omega arith)
 
-  pub top_inside : top stack d < 262145
-  top_inside = omega (arith, inside st (top stack d) top_begun, inv.st_length)
-
   pub space : (y : ℕ) → y < 262145 → get_or st y 0 ≡ 0 → d < 262145
   space y b z = omega (arith, zeros_less st y 1 (omega (arith, inv.st_length)) z (omega arith), inv.deep)
 
@@ -212,9 +209,6 @@ open_at st a y e o = subst (Open st) (sym e) o
 pub known : (G : Graph) (st stack : List ℕ) (d : ℕ) → Inv G st stack d → Known G st
 known G st stack d inv = record { st_length = inv.st_length; fine = inv.fine }
 
-pub few_at : (G : Graph) (st stack : List ℕ) (d : ℕ) → Inv G st stack d → (x n : ℕ) → n ≡ G.deg x → n ≤ 65536
-few_at G st stack d inv x n e = omega (arith, G.few x)
-
 -- a turn that passed the top's successors before k, which is open
 module _ (G : Graph) (st stack : List ℕ) (d : ℕ) (inv : Inv G st stack d) (pos : 0 < d) (g : ℕ) (e : g ≡ G.deg (top stack d)) (k : ℕ) (l : get_or st (top stack d) 0 - 1 ≤ k) (h : k < g)
     (w : Passed G (G.to (top stack d)) (get_or st (top stack d) 0 - 1) k) where
@@ -319,9 +313,6 @@ module _ (G : Graph) (st stack : List ℕ) (inv : Inv G st stack 0) (x : ℕ) wh
 
       in_st : x < length st
       in_st = omega (arith, inv.st_length)
-
-pub walk_loop : (G : Graph) (x : ℕ) (st stack : List ℕ) → Loop G → Walked G x st stack true
-walk_loop G x st stack l = record { stop = λ _. l; go = λ q. absurd (true≢false q) }
 
 pub walk_end : (G : Graph) (x : ℕ) (st stack : List ℕ) (d : ℕ) → Inv G st stack d → d ≤ 0 → 0 < get_or st x 0 → Walked G x st stack false
 walk_end G x st stack d inv l h = let e : d ≡ 0 = omega arith in rest G st stack (subst (Inv G st stack) e inv) x h

@@ -52,12 +52,6 @@ module _ (T : Track) where
     pub look_out : length cell ≤ z → Leads T z → ⊥
     look_out h l = let q = T.out z (omega (arith, T.fits, fs.cell_length)) in neither l (omega arith) (omega arith)
 
-    pub look_known : (w : Cell) → w ≡ get_or cell z Unknown → (w ≡ Unknown → ⊥) → Looked T cell z w
-    look_known Unknown e n = absurd (n refl)
-    look_known No e n = subst (Fair T z) (sym e) (fs.fair z)
-    look_known Yes e n = subst (Fair T z) (sym e) (fs.fair z)
-    look_known Passed e n = sym e
-
     pub look_says : z < length cell → get_or cell z Unknown ≡ Unknown → (w : Cell) → Says (T.what z) w → Looked T cell z w
     look_says h e Unknown q = (omega (arith, fs.cell_length), e, q)
     look_says h e No q = λ l. neither l q.0 q.1

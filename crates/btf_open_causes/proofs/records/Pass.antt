@@ -86,9 +86,6 @@ module _ (sl width : ℕ) (w : ℕ → ℕ) (q left : ℕ) (a : Bool) where
   one_fewer : (left ≡ 0 → ⊥) → all_named_p sl width w q left ≡ (ltb (w q) sl && all_named_p sl width w (q + width) (left - 1))
   one_fewer h = let e : left ≡ suc (left - 1) = omega arith in ap (λ (n : ℕ). all_named_p sl width w q n) e
 
-  pub names_no : a ≡ all_named_p sl width w q left → (left ≡ 0 → ⊥) → (v : ℕ) → v ≡ w q → sl ≤ v → false ≡ a
-  names_no e h v f l = sym (e ∙ one_fewer h ∙ rw (le-ltb (w q) sl (omega arith)))
-
   pub names_more : a ≡ all_named_p sl width w q left → (left ≡ 0 → ⊥) → (v : ℕ) → v ≡ w q → v < sl → a ≡ all_named_p sl width w (q + width) (left - 1)
   names_more e h v f l = e ∙ one_fewer h ∙ rw (lt-ltb (w q) sl (omega arith))
 

@@ -3,16 +3,15 @@ use Prim.Native.Nat.{ℕ, zero, suc, ◌+◌, ◌-◌, ◌/◌, ◌%◌, ◌<◌
 use mathlib.Core.Path.{◌≡◌, refl, ap, ◌∙◌, sym}
 use mathlib.Core.Bool.{Bool, true, false, true≢false}
 use mathlib.Core.List.{List, [], ◌∷◌}
-use mathlib.Core.Logic.{⊎_elim, ◌⊎◌, inl, inr}
+use mathlib.Core.Logic.{◌⊎◌, inl, inr}
 use native.Mathlib.Omega.{arith}
 use native.Mathlib.Decide.{ℕ_discrete}
-use lib.ListN.{length, get_or, get_or-eq_default}
+use lib.ListN.{get_or}
 use lib.Dec.{eqb}
-use borrow.Author.Tests.{lt-ltb, le-ltb, eqb-true, ne_eqb}
-use Rattle.spec_bytes.proofs.words.Laws.{le_or_lt}
+use borrow.Author.Tests.{lt-ltb, eqb-true, ne_eqb}
 use Rattle.spec_type_table.specs.declared.types.TypeTable.{TypeTable}
 use Rattle.spec_type_table.specs.Records.{section_word, vlen_of, member_at, param_at}
-use Rattle.btf_open_causes.specs.references.Followed.{is_kind_among, type_count, entry_at, place_of, kind_at, composites, targets, count_for, id_place, count_at, id_at, followed_count, followed_id}
+use Rattle.btf_open_causes.specs.references.Followed.{is_kind_among, type_count, entry_at, place_of, kind_at, composites, targets, count_for, id_place, count_at, id_at, followed_id}
 
 -- f is t at lo, lo + 1, .., n of them
 abbrev pub Steady : (ℕ → Bool) → Bool → ℕ → ℕ → Type 0
@@ -50,21 +49,6 @@ each f t (a ∷ l) k h e = go (eqb k a) refl e (each f t l k h.1)
 pub no_composite : (k : ℕ) → (k < 4) ⊎ (6 ≤ k) → is_kind_among composites k ≡ false
 no_composite k (inl h) = apart composites k (omega arith, (omega arith, tt))
 no_composite k (inr h) = apart composites k (omega arith, (omega arith, tt))
-
-pub count_in : (b : TypeTable) (n : ℕ) → n ≡ b.types → n < 262145 → n ≡ type_count b
-unfolding type_count
-count_in b n e h = rw (← e, lt-ltb n 262145 h)
-
-pub count_out : (b : TypeTable) (n : ℕ) → n ≡ b.types → 262145 ≤ n → 262145 ≡ type_count b
-unfolding type_count
-count_out b n e h = rw (← e, le-ltb n 262145 h)
-
--- a table that passed cause 5 has all its types counted
-pub count_all : (b : TypeTable) → b.types ≤ 262145 → type_count b ≡ b.types
-count_all b h = ⊎_elim (λ l. sym (count_out b b.types refl l) ∙ exact l) (λ l. sym (count_in b b.types refl l)) (le_or_lt 262145 b.types)
-  where
-    exact : 262145 ≤ b.types → 262145 ≡ b.types
-    exact l = omega arith
 
 module _ (k v : ℕ) where
   target : is_kind_among targets k ≡ true → 1 ≡ count_for k v
@@ -131,9 +115,6 @@ module _ (b : TypeTable) (start : List ℕ) (x : ℕ) (m : x ≡ 0 → ⊥) (n :
   unfolding entry_at
   entry_in = rw (entry_at, ne_eqb x 0 m, ← e, lt-ltb x n h)
 
-  pub entry_past : length start ≤ x → 0 ≡ entry_at b start x
-  entry_past l = sym (get_or-eq_default start 0 l) ∙ entry_in
-
 module _ (b : TypeTable) (s : List ℕ) (kind at v r : ℕ) (e : v ≡ vlen_of (section_word b s (at + 4))) where
   -- the count of a record, by the vlen that was read
   pub count_by : r ≡ count_for kind v → r ≡ count_at b s kind at
@@ -160,10 +141,6 @@ module _ (b : TypeTable) (start : List ℕ) (x i : ℕ) (e : i ≡ entry_at b st
   place_is = ap (λ (n : ℕ). n / 32) e
 
   module _ (s : List ℕ) (r : ℕ) where
-    pub followed_count_is : r ≡ count_at b s (i % 32) (i / 32) → r ≡ followed_count b s start x
-    unfolding followed_count
-    followed_count_is f = rw (← kind_is, ← place_is) f
-
     pub followed_is : (k : ℕ) → r ≡ id_at b s (i % 32) (i / 32) k → r ≡ followed_id b s start x k
     unfolding followed_id
     followed_is k f = rw (← kind_is, ← place_is) f
