@@ -1,7 +1,7 @@
 // Pads before a member, and in placing mode after the last.
 ghost use Rattle.std.specs.Prelude.{◌≡◌, ◌*◌, ◌-◌, eqb};
 ghost use Rattle.spec_bytes.specs.text.Text.{whole, put_out, put_text};
-ghost use Rattle.spec_c_dumper.specs.rules.Layout.{gap_pads, placed_gap, pads_before};
+ghost use Rattle.spec_c_dumper.specs.rules.Layout.{pads_before};
 ghost use Rattle.spec_c_dumper.specs.rules.Placing.{tail_pads};
 ghost use Rattle.spec_c_dumper.specs.rules.Decl.{pads, tail_text};
 ghost use Rattle.spec_type_table.specs.Records.{kind_of};
@@ -10,7 +10,7 @@ ghost use Rattle.spec_c_dumper.specs.rules.Place.{out_of, put_said};
 ghost use Rattle.c_dumper_padding.specs.pads.Texts.{lone_line};
 ghost use Rattle.c_dumper_padding.specs.padding.Asking.{pad_said};
 
-use crate::pads::{put_pads, put_placed_pads};
+use crate::pads::put_pads;
 use base_bytes::put::{put_byte, stop};
 use btf_layout::asked::gap_align;
 use btf_type_table::kind::is_struct;
@@ -18,53 +18,6 @@ use spec_type_table::{BtfMember, BtfType, TypeTable};
 
 // The pads of a gap before a member with an alignment; before a plain member a natural gap has none.
 fn put_gap(
-    text: &mut [u8],
-    at: usize,
-    ptr_sz: u32,
-    bit_size: u32,
-    gap: u32,
-    a: u32,
-    lvl: u32,
-) -> usize
-    ensures { put_out result text.new ≡ put_text text.old at (whole (pads lvl (gap_pads ptr_sz bit_size gap a))) }
-{
-    if bit_size != 0 {
-        return put_pads(text, at, ptr_sz, gap, lvl);
-    }
-    if (gap as u64) < (a as u64) * 8 {
-        return at;
-    }
-    put_pads(text, at, ptr_sz, gap, lvl)
-}
-
-// The same gaps have pads in placing mode.
-fn put_placed_gap(
-    text: &mut [u8],
-    at: usize,
-    ptr_sz: u32,
-    start: u32,
-    bit_size: u32,
-    gap: u32,
-    a: u32,
-    lvl: u32,
-) -> usize
-    ensures { put_out result text.new
-        ≡ put_text text.old at (whole (pads lvl (placed_gap ptr_sz start bit_size gap a))) }
-{
-    let from = start as u64;
-    let width = gap as u64;
-    let end = from + width;
-    if bit_size != 0 {
-        return put_placed_pads(text, at, ptr_sz, from, end, lvl);
-    }
-    if width < (a as u64) * 8 {
-        return at;
-    }
-    put_placed_pads(text, at, ptr_sz, from, end, lvl)
-}
-
-// The mode chooses.
-fn put_pads_before(
     b: TypeTable,
     text: &mut [u8],
     at: usize,
@@ -77,10 +30,12 @@ fn put_pads_before(
     ensures { put_out result text.new
         ≡ put_text text.old at (whole (pads lvl (pads_before b.placing b.ptr_sz start bit_size gap a))) }
 {
-    if b.placing {
-        return put_placed_gap(text, at, b.ptr_sz, start, bit_size, gap, a, lvl);
+    let from = start as u64;
+    let width = gap as u64;
+    if bit_size == 0 && width < (a as u64) * 8 {
+        return at;
     }
-    put_gap(text, at, b.ptr_sz, bit_size, gap, a, lvl)
+    put_pads(text, at, b.placing, b.ptr_sz, from, from + width, lvl)
 }
 
 pub fn emit_bit_padding(
@@ -103,7 +58,7 @@ pub fn emit_bit_padding(
         return at;
     }
     match gap_align(b, section, work, m.type_id, packed) {
-        Ok(a) => put_pads_before(b, text, at, offset, m.bit_size, end - offset, a, lvl),
+        Ok(a) => put_gap(b, text, at, offset, m.bit_size, end - offset, a, lvl),
         Err(c) => stop(text, at, u32::from(c)),
     }
 }
@@ -143,6 +98,6 @@ pub fn emit_tail_padding(
     if is_full {
         return at;
     }
-    let a = put_placed_pads(text, at, b.ptr_sz, offset as u64, end, lvl);
+    let a = put_pads(text, at, b.placing, b.ptr_sz, offset as u64, end, lvl);
     put_own_line(text, a, members)
 }

@@ -1,23 +1,22 @@
 // The lines of the pads of a gap, in both modes.
 ghost use Rattle.std.specs.Prelude.{◌≡◌, ◌-◌};
 ghost use Rattle.spec_bytes.specs.text.Text.{whole, put_out, put_text};
-ghost use Rattle.spec_c_dumper.specs.rules.Layout.{pads_of, placed_pads};
 ghost use Rattle.spec_c_dumper.specs.rules.Decl.{unit_word, pads};
-ghost use Rattle.c_dumper_padding.specs.units.Units.{unit_of, pad_is};
+ghost use Rattle.c_dumper_padding.specs.units.Units.{unit_of, pad_is, pads_by};
 ghost use Rattle.c_dumper_padding.specs.pads.Texts.{pad_line};
 
-use crate::units::{Pad, pad_of, placed_pad};
+use crate::units::{Pad, Unit, next_pad};
 use base_bytes::put::{put_byte, put_decimal, put_tabs, put_two, stopped};
 use base_keywords::table::{Word, put_word};
 
-fn put_unit(text: &mut [u8], at: usize, unit: u32) -> usize
+fn put_unit(text: &mut [u8], at: usize, unit: Unit) -> usize
     ensures { put_out result text.new ≡ put_text text.old at (whole (unit_word (unit_of unit))) }
 {
     match unit {
-        3 => put_word(text, at, Word::Long),
-        2 => put_word(text, at, Word::Int),
-        1 => put_word(text, at, Word::Short),
-        _ => put_word(text, at, Word::Char),
+        Unit::Long => put_word(text, at, Word::Long),
+        Unit::Int => put_word(text, at, Word::Int),
+        Unit::Short => put_word(text, at, Word::Short),
+        Unit::Char => put_word(text, at, Word::Char),
     }
 }
 
@@ -28,37 +27,22 @@ fn put_pad(text: &mut [u8], at: usize, pad: Pad, lvl: u32) -> usize
     let c = put_tabs(text, a, lvl);
     let d = put_unit(text, c, pad.unit);
     let e = put_two(text, d, b':', b' ');
-    let f = put_decimal(text, e, pad.width as u64);
+    let f = put_decimal(text, e, pad.width);
     put_byte(text, f, b';')
 }
 
-pub fn put_pads(text: &mut [u8], at: usize, ptr_sz: u32, gap: u32, lvl: u32) -> usize
-    ensures { put_out result text.new ≡ put_text text.old at (whole (pads lvl (pads_of gap ptr_sz gap))) }
-{
-    let mut p = at;
-    let mut left = gap;
-    while 0 < left {
-        if stopped(text, p) {
-            return p;
-        }
-        let pad = pad_of(ptr_sz, left);
-        p = put_pad(text, p, pad, lvl);
-        left -= pad.width;
-    }
-    p
-}
-
-// The pads of placing mode from one bit to another.
-pub fn put_placed_pads(
+// The pads of a gap from one bit to another. (A while: each pad says where the next one starts.)
+pub fn put_pads(
     text: &mut [u8],
     at: usize,
+    placing: bool,
     ptr_sz: u32,
     start: u64,
     end: u64,
     lvl: u32,
 ) -> usize
     ensures { put_out result text.new
-        ≡ put_text text.old at (whole (pads lvl (placed_pads (end - start) ptr_sz start (end - start)))) }
+        ≡ put_text text.old at (whole (pads lvl (pads_by placing ptr_sz start (end - start)))) }
 {
     let mut p = at;
     let mut s = start;
@@ -66,9 +50,9 @@ pub fn put_placed_pads(
         if stopped(text, p) {
             return p;
         }
-        let pad = placed_pad(ptr_sz, s, end - s);
+        let pad = next_pad(placing, ptr_sz, s, end - s);
         p = put_pad(text, p, pad, lvl);
-        s += pad.width as u64;
+        s += pad.width;
     }
     p
 }

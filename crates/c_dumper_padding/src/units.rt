@@ -1,19 +1,25 @@
 // The next pad of a gap, in both modes: its unit and its width.
-ghost use Rattle.std.specs.Prelude.{◌≡◌, ◌*◌};
-ghost use Rattle.spec_c_dumper.specs.rules.Layout.{smaller, chip_away_bits, pad_of, placed_pad};
-ghost use Rattle.c_dumper_padding.specs.units.Units.{pad_is, suits_by, placed_char};
+ghost use Rattle.std.specs.Prelude.{◌≡◌};
+ghost use Rattle.spec_c_dumper.specs.rules.Layout.{chip_away_bits, pad_of, placed_pad};
+ghost use Rattle.c_dumper_padding.specs.units.Units.{pad_is, pad_by, suits_by, placed_char};
 
-use base_bytes::limit;
+#[derive(Clone, Copy, PartialEq, Eq)]
+pub enum Unit {
+    Long,
+    Int,
+    Short,
+    Char,
+}
 
-// A pad: its unit (3 long, 2 int, 1 short, 0 char) and its width in bits.
-#[derive(Clone, Copy)]
+// A pad: its unit and its width in bits.
+#[derive(Clone, Copy, PartialEq, Eq)]
 pub struct Pad {
-    pub unit: u32,
-    pub width: u32,
+    pub unit: Unit,
+    pub width: u64,
 }
 
 // (Of at_most 0 the rest is the total.)
-fn chip_away_bits(total: u32, at_most: u32) -> u32
+fn chip_away_bits(total: u64, at_most: u64) -> u64
     ensures { result ≡ chip_away_bits total at_most }
 {
     if at_most == 0 {
@@ -23,41 +29,30 @@ fn chip_away_bits(total: u32, at_most: u32) -> u32
     if rest == 0 { at_most } else { rest }
 }
 
-// The bits of a pointer, or the largest number.
-fn ptr_bits(ptr_sz: u32) -> u32
-    ensures { result ≡ smaller (ptr_sz * 8) 4294967295 }
-{
-    if ptr_sz < 536870912 {
-        ptr_sz * 8
-    } else {
-        limit::LARGEST
-    }
-}
-
 // The next pad of a gap that is not filled by a long: the pad of pointers that have no size.
-fn short_pad(gap: u32) -> Pad
+fn short_pad(gap: u64) -> Pad
     ensures { pad_is result ≡ pad_of 0 gap }
 {
     if 16 < gap {
         return Pad {
-            unit: 2,
+            unit: Unit::Int,
             width: chip_away_bits(gap, 32),
         };
     }
     if 8 < gap {
         return Pad {
-            unit: 1,
+            unit: Unit::Short,
             width: chip_away_bits(gap, 16),
         };
     }
     Pad {
-        unit: 0,
+        unit: Unit::Char,
         width: chip_away_bits(gap, 8),
     }
 }
 
 // The next pad of a gap: the widest unit that the gap passes; the odd part of the gap comes first.
-pub fn pad_of(ptr_sz: u32, gap: u32) -> Pad
+fn pad_of(ptr_sz: u32, gap: u64) -> Pad
     ensures { pad_is result ≡ pad_of ptr_sz gap }
 {
     if gap <= 32 {
@@ -67,8 +62,8 @@ pub fn pad_of(ptr_sz: u32, gap: u32) -> Pad
         return short_pad(gap);
     }
     Pad {
-        unit: 3,
-        width: chip_away_bits(gap, ptr_bits(ptr_sz)),
+        unit: Unit::Long,
+        width: chip_away_bits(gap, (ptr_sz as u64) * 8),
     }
 }
 
@@ -88,15 +83,27 @@ fn char_pad(start: u64, gap: u64) -> Pad
     ensures { pad_is result ≡ placed_char start gap }
 {
     if suits(start, gap, 3, 8) {
-        return Pad { unit: 0, width: 8 };
+        return Pad {
+            unit: Unit::Char,
+            width: 8,
+        };
     }
     if suits(start, gap, 2, 4) {
-        return Pad { unit: 0, width: 4 };
+        return Pad {
+            unit: Unit::Char,
+            width: 4,
+        };
     }
     if suits(start, gap, 1, 2) {
-        return Pad { unit: 0, width: 2 };
+        return Pad {
+            unit: Unit::Char,
+            width: 2,
+        };
     }
-    Pad { unit: 0, width: 1 }
+    Pad {
+        unit: Unit::Char,
+        width: 1,
+    }
 }
 
 // The next pad of placing mode that is no long.
@@ -104,23 +111,42 @@ fn narrow_pad(start: u64, gap: u64) -> Pad
     ensures { pad_is result ≡ placed_pad 0 start gap }
 {
     if suits(start, gap, 5, 32) {
-        return Pad { unit: 2, width: 32 };
+        return Pad {
+            unit: Unit::Int,
+            width: 32,
+        };
     }
     if suits(start, gap, 4, 16) {
-        return Pad { unit: 1, width: 16 };
+        return Pad {
+            unit: Unit::Short,
+            width: 16,
+        };
     }
     char_pad(start, gap)
 }
 
 // The next pad of placing mode: the widest unit whose start is a multiple of its width and that still fits the gap.
-pub fn placed_pad(ptr_sz: u32, start: u64, gap: u64) -> Pad
+fn placed_pad(ptr_sz: u32, start: u64, gap: u64) -> Pad
     ensures { pad_is result ≡ placed_pad ptr_sz start gap }
 {
     if ptr_sz != 8 {
         return narrow_pad(start, gap);
     }
     if suits(start, gap, 6, 64) {
-        return Pad { unit: 3, width: 64 };
+        return Pad {
+            unit: Unit::Long,
+            width: 64,
+        };
     }
     narrow_pad(start, gap)
+}
+
+// The next pad of a gap from a bit on, in either mode.
+pub fn next_pad(placing: bool, ptr_sz: u32, start: u64, gap: u64) -> Pad
+    ensures { pad_is result ≡ pad_by placing ptr_sz start gap }
+{
+    if placing {
+        return placed_pad(ptr_sz, start, gap);
+    }
+    pad_of(ptr_sz, gap)
 }

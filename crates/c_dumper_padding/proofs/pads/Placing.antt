@@ -4,16 +4,18 @@ use mathlib.Core.Path.{◌≡◌, refl, ap, ap₂, ◌∙◌, sym}
 use mathlib.Core.Bool.{Bool, true, false, ◌&&◌}
 use mathlib.Core.List.{List, [], ◌∷◌, ◌++◌}
 use native.Mathlib.Omega.{arith}
+use lib.Dec.{eqb, ltb}
 use borrow.Author.Tests.{lt-ltb, le-ltb, ne_eqb}
 use Rattle.spec_bytes.specs.text.Text.{whole, is_stopped, put_out, put_text, ascii}
 use Rattle.spec_bytes.proofs.text.TextLaws.{put_seq, put_same, put_empty, put_stopped}
-use Rattle.spec_c_dumper.specs.rules.Layout.{Pad, placed_pad, placed_pads, placed_gap, gap_pads, pads_before}
+use Rattle.spec_c_dumper.specs.rules.Layout.{Pad, pad_of, pads_of, placed_pad, placed_pads, placed_gap, gap_pads, pads_before}
 use Rattle.spec_c_dumper.specs.rules.Placing.{tail_pads}
 use Rattle.spec_c_dumper.specs.rules.Decl.{pads, own_line, tail_text}
 use Rattle.spec_c_dumper.proofs.rules.Placed.{pad_stays}
 use Rattle.c_dumper_padding.specs.declared.units.Pad.{Pad as Code}
-use Rattle.c_dumper_padding.specs.units.Units.{pad_is}
+use Rattle.c_dumper_padding.specs.units.Units.{pad_is, pad_by, pads_by}
 use Rattle.c_dumper_padding.specs.pads.Texts.{pad_line, lone_line}
+use Rattle.c_dumper_padding.proofs.units.Widths.{pad_within, pads_next, pads_none}
 use Rattle.c_dumper_padding.proofs.pads.Laws.{Goes}
 
 -- ---- put_placed_pads
@@ -58,90 +60,110 @@ module _ (p : ℕ) where
       ∙ ap (λ (ps : List Pad). placed_pad p start gap ∷ ps)
       (enough (gap - 1) (gap - (placed_pad p start gap).width) (start + (placed_pad p start gap).width) (gap - (placed_pad p start gap).width) (omega (arith, w.0)) (omega arith))
 
-module _ (t₀ : List ℕ) (at : ℕ) (a₀ : List ℕ) (ptr_sz lvl s end p : ℕ) (t : List ℕ) (go : Goes t₀ at a₀ t p (pads lvl (placed_pads (end - s) ptr_sz s (end - s)))) where
-  pub placed_stopped : is_stopped (put_out p t) ≡ true → put_out p t ≡ put_text t₀ at (whole a₀)
+-- ---- put_pads, in either mode
+module _ (placing : Bool) (p start gap : ℕ) where
+  by_none : gap ≡ 0 → pads_by placing p start gap ≡ []
+  unfolding pads_by
+  by_none z = go placing
+    where
+      go : (q : Bool) → (elim q as (λ _. List Pad) [ true ↦ placed_pads gap p start gap | false ↦ pads_of gap p gap ]) ≡ []
+      go true = none_left p gap start gap z
+      go false = pads_none p gap z
+
+  by_within : 1 ≤ gap → (1 ≤ (pad_by placing p start gap).width) × ((pad_by placing p start gap).width ≤ gap)
+  unfolding pad_by
+  by_within l = go placing
+    where
+      go : (q : Bool) → (1 ≤ (elim q as (λ _. Pad) [ true ↦ placed_pad p start gap | false ↦ pad_of p gap ]).width) × ((elim q as (λ _. Pad) [ true ↦ placed_pad p start gap | false ↦ pad_of p gap ]).width ≤ gap)
+      go true = within p start gap l
+      go false = pad_within p gap l
+
+  by_next : 1 ≤ gap → pads_by placing p start gap ≡ pad_by placing p start gap ∷ pads_by placing p (start + (pad_by placing p start gap).width) (gap - (pad_by placing p start gap).width)
+  unfolding pads_by pad_by
+  by_next l = go placing refl
+    where
+      go : (q : Bool) → placing ≡ q → pads_by placing p start gap ≡ pad_by placing p start gap ∷ pads_by placing p (start + (pad_by placing p start gap).width) (gap - (pad_by placing p start gap).width)
+      go true e = rw e (placed_next p start gap l)
+      go false e = rw e (pads_next p gap l)
+
+module _ (t₀ : List ℕ) (at : ℕ) (a₀ : List ℕ) (placing : Bool) (ptr_sz lvl s end p : ℕ) (t : List ℕ) (go : Goes t₀ at a₀ t p (pads lvl (pads_by placing ptr_sz s (end - s)))) where
+  pub pads_stopped : is_stopped (put_out p t) ≡ true → put_out p t ≡ put_text t₀ at (whole a₀)
   unfolding Goes
-  placed_stopped h = go p t (put_stopped t p (whole (pads lvl (placed_pads (end - s) ptr_sz s (end - s)))) h)
+  pads_stopped h = go p t (put_stopped t p (whole (pads lvl (pads_by placing ptr_sz s (end - s)))) h)
 
-  pub placed_end : end ≤ s → put_out p t ≡ put_text t₀ at (whole a₀)
+  pub pads_end : end ≤ s → put_out p t ≡ put_text t₀ at (whole a₀)
   unfolding Goes pads
-  placed_end h =
+  pads_end h =
       let z : end - s ≡ 0 = omega arith in
-      go p t (put_same t p [] (pads lvl (placed_pads (end - s) ptr_sz s (end - s))) p t (sym (ap (pads lvl) (none_left ptr_sz (end - s) s (end - s) z))) (put_empty t p))
+      go p t (put_same t p [] (pads lvl (pads_by placing ptr_sz s (end - s))) p t (sym (ap (pads lvl) (by_none placing ptr_sz s (end - s) z))) (put_empty t p))
 
-  module _ (x : Code) (l : s < end) (ex : pad_is x ≡ placed_pad ptr_sz s (end - s)) where
-    same_width : x.width ≡ (placed_pad ptr_sz s (end - s)).width
+  module _ (x : Code) (l : s < end) (ex : pad_is x ≡ pad_by placing ptr_sz s (end - s)) where
+    same_width : x.width ≡ (pad_by placing ptr_sz s (end - s)).width
     unfolding pad_is
     same_width = ap (λ (y : Pad). y.width) ex
 
-    placed_within : (1 ≤ (placed_pad ptr_sz s (end - s)).width) × ((placed_pad ptr_sz s (end - s)).width ≤ end - s)
-    placed_within = within ptr_sz s (end - s) (omega arith)
+    pad_fits : (1 ≤ (pad_by placing ptr_sz s (end - s)).width) × ((pad_by placing ptr_sz s (end - s)).width ≤ end - s)
+    pad_fits = by_within placing ptr_sz s (end - s) (omega arith)
 
-    pub placed_fits : s + x.width ≤ end
-    placed_fits = omega (arith, placed_within.1, same_width)
+    pub pads_fit : s + x.width ≤ end
+    pads_fit = omega (arith, pad_fits.1, same_width)
 
-    pub placed_some : end - (s + x.width) < end - s
-    placed_some = omega (arith, placed_within.0, placed_within.1, same_width)
+    pub pads_some : end - (s + x.width) < end - s
+    pads_some = omega (arith, pad_fits.0, pad_fits.1, same_width)
 
-    pub placed_more : (q : ℕ) (u : List ℕ) → put_out q u ≡ put_text t p (whole (pad_line lvl (pad_is x)))
-        → Goes t₀ at a₀ u q (pads lvl (placed_pads (end - (s + x.width)) ptr_sz (s + x.width) (end - (s + x.width))))
+    pub pads_more : (q : ℕ) (u : List ℕ) → put_out q u ≡ put_text t p (whole (pad_line lvl (pad_is x)))
+        → Goes t₀ at a₀ u q (pads lvl (pads_by placing ptr_sz (s + x.width) (end - (s + x.width))))
     unfolding Goes pads pad_line
-    placed_more q u e r v f =
-        go r v (put_same t p _ _ r v text (put_seq t p (pad_line lvl (pad_is x)) (pads lvl (placed_pads (end - (s + x.width)) ptr_sz (s + x.width) (end - (s + x.width)))) q u r v e f))
+    pads_more q u e r v f =
+        go r v (put_same t p _ _ r v text (put_seq t p (pad_line lvl (pad_is x)) (pads lvl (pads_by placing ptr_sz (s + x.width) (end - (s + x.width)))) q u r v e f))
       where
-        left : end - (s + x.width) ≡ end - s - (placed_pad ptr_sz s (end - s)).width
+        left : end - (s + x.width) ≡ end - s - (pad_by placing ptr_sz s (end - s)).width
         left = omega (arith, same_width)
 
-        text : pad_line lvl (pad_is x) ++ pads lvl (placed_pads (end - (s + x.width)) ptr_sz (s + x.width) (end - (s + x.width))) ≡ pads lvl (placed_pads (end - s) ptr_sz s (end - s))
+        text : pad_line lvl (pad_is x) ++ pads lvl (pads_by placing ptr_sz (s + x.width) (end - (s + x.width))) ≡ pads lvl (pads_by placing ptr_sz s (end - s))
         text =
-            ap₂ (λ (n m : ℕ). pad_line lvl (pad_is x) ++ pads lvl (placed_pads n ptr_sz (s + m) n)) left same_width
-            ∙ ap (λ (y : Pad). pad_line lvl y ++ pads lvl (placed_pads (end - s - (placed_pad ptr_sz s (end - s)).width) ptr_sz (s + (placed_pad ptr_sz s (end - s)).width) (end - s - (placed_pad ptr_sz s (end - s)).width))) ex
-            ∙ sym (ap (pads lvl) (placed_next ptr_sz s (end - s) (omega arith)))
+            ap₂ (λ (n m : ℕ). pad_line lvl (pad_is x) ++ pads lvl (pads_by placing ptr_sz (s + m) n)) left same_width
+            ∙ ap (λ (y : Pad). pad_line lvl y ++ pads lvl (pads_by placing ptr_sz (s + (pad_by placing ptr_sz s (end - s)).width) (end - s - (pad_by placing ptr_sz s (end - s)).width))) ex
+            ∙ sym (ap (pads lvl) (by_next placing ptr_sz s (end - s) (omega arith)))
 
--- ---- put_placed_gap
-module _ (ptr_sz start bit_size gap a : ℕ) where
-  gap_text : (bit_size ≡ 0 → ⊥) → placed_pads gap ptr_sz start gap ≡ placed_gap ptr_sz start bit_size gap a
-  unfolding placed_gap
-  gap_text n = rw (ne_eqb bit_size 0 n, placed_gap)
+and_none : (x : Bool) → (x && false) ≡ false
+and_none true = refl
+and_none false = refl
 
-  gap_wide : bit_size ≡ 0 → a * 8 ≤ gap → placed_pads gap ptr_sz start gap ≡ placed_gap ptr_sz start bit_size gap a
-  unfolding placed_gap
-  gap_wide z h = rw (z, placed_gap, le-ltb gap (a * 8) h)
+-- ---- put_gap
+module _ (placing : Bool) (ptr_sz start bit_size gap a : ℕ) where
+  natural : Bool → List Pad → List Pad
+  natural q ps = elim q [ true ↦ [] | false ↦ ps ]
 
-  gap_natural : bit_size ≡ 0 → gap < a * 8 → [] ≡ placed_gap ptr_sz start bit_size gap a
-  unfolding placed_gap
-  gap_natural z h = rw (z, placed_gap, lt-ltb gap (a * 8) h)
+  gap_is : pads_before placing ptr_sz start bit_size gap a ≡ natural (eqb bit_size 0 && ltb gap (a * 8)) (pads_by placing ptr_sz start gap)
+  unfolding pads_before placed_gap gap_pads pads_by natural
+  gap_is = go placing refl
+    where
+      go : (q : Bool) → placing ≡ q → pads_before placing ptr_sz start bit_size gap a ≡ natural (eqb bit_size 0 && ltb gap (a * 8)) (pads_by placing ptr_sz start gap)
+      go true e = rw e
+      go false e = rw e
 
   module _ (lvl : ℕ) (t : List ℕ) (at : ℕ) where
-    module _ (from end r : ℕ) (u : List ℕ) (ef : from ≡ start) (ee : end ≡ from + gap) (e : put_out r u ≡ put_text t at (whole (pads lvl (placed_pads (end - from) ptr_sz from (end - from))))) where
-      put_all : placed_pads gap ptr_sz start gap ≡ placed_gap ptr_sz start bit_size gap a → put_out r u ≡ put_text t at (whole (pads lvl (placed_gap ptr_sz start bit_size gap a)))
+    pub gap_natural : bit_size ≡ 0 → gap < a * 8 → put_out at t ≡ put_text t at (whole (pads lvl (pads_before placing ptr_sz start bit_size gap a)))
+    unfolding pads natural
+    gap_natural z h =
+        let q : (eqb bit_size 0 && ltb gap (a * 8)) ≡ true = rw (z, lt-ltb gap (a * 8) h) in
+        put_empty t at ∙ ap (λ (ps : List Pad). put_text t at (whole (pads lvl ps))) (sym (gap_is ∙ ap (λ (x : Bool). natural x (pads_by placing ptr_sz start gap)) q))
+
+    module _ (from end r : ℕ) (u : List ℕ) (ef : from ≡ start) (ee : end ≡ from + gap) (e : put_out r u ≡ put_text t at (whole (pads lvl (pads_by placing ptr_sz from (end - from))))) where
+      put_all : (eqb bit_size 0 && ltb gap (a * 8)) ≡ false → put_out r u ≡ put_text t at (whole (pads lvl (pads_before placing ptr_sz start bit_size gap a)))
+      unfolding natural
       put_all q =
           let d : end - from ≡ gap = omega arith in
           e
-          ∙ ap₂ (λ (n m : ℕ). put_text t at (whole (pads lvl (placed_pads n ptr_sz m n)))) d ef
-          ∙ ap (λ (ps : List Pad). put_text t at (whole (pads lvl ps))) q
+          ∙ ap₂ (λ (n m : ℕ). put_text t at (whole (pads lvl (pads_by placing ptr_sz m n)))) d ef
+          ∙ ap (λ (ps : List Pad). put_text t at (whole (pads lvl ps))) (sym (gap_is ∙ ap (λ (x : Bool). natural x (pads_by placing ptr_sz start gap)) q))
 
-      pub placed_bits : (bit_size ≡ 0 → ⊥) → put_out r u ≡ put_text t at (whole (pads lvl (placed_gap ptr_sz start bit_size gap a)))
-      placed_bits n = put_all (gap_text n)
+      pub gap_bits : (bit_size ≡ 0 → ⊥) → put_out r u ≡ put_text t at (whole (pads lvl (pads_before placing ptr_sz start bit_size gap a)))
+      gap_bits n = put_all (rw (ne_eqb bit_size 0 n))
 
-      pub placed_wide : bit_size ≡ 0 → a * 8 ≤ gap → put_out r u ≡ put_text t at (whole (pads lvl (placed_gap ptr_sz start bit_size gap a)))
-      placed_wide z h = put_all (gap_wide z h)
-
-    pub placed_natural : bit_size ≡ 0 → gap < a * 8 → put_out at t ≡ put_text t at (whole (pads lvl (placed_gap ptr_sz start bit_size gap a)))
-    unfolding pads
-    placed_natural z h = put_empty t at ∙ ap (λ (ps : List Pad). put_text t at (whole (pads lvl ps))) (gap_natural z h)
-
--- ---- put_pads_before
-module _ (placing : Bool) (ptr_sz start bit_size gap a lvl : ℕ) (t : List ℕ) (at r : ℕ) (u : List ℕ) where
-  pub before_placed : placing ≡ true → put_out r u ≡ put_text t at (whole (pads lvl (placed_gap ptr_sz start bit_size gap a)))
-      → put_out r u ≡ put_text t at (whole (pads lvl (pads_before placing ptr_sz start bit_size gap a)))
-  unfolding pads_before
-  before_placed e o = rw e o
-
-  pub before_old : placing ≡ false → put_out r u ≡ put_text t at (whole (pads lvl (gap_pads ptr_sz bit_size gap a)))
-      → put_out r u ≡ put_text t at (whole (pads lvl (pads_before placing ptr_sz start bit_size gap a)))
-  unfolding pads_before
-  before_old e o = rw e o
+      pub gap_wide : a * 8 ≤ gap → put_out r u ≡ put_text t at (whole (pads lvl (pads_before placing ptr_sz start bit_size gap a)))
+      gap_wide h = put_all (rw (le-ltb gap (a * 8) h) (and_none (eqb bit_size 0)))
 
 -- ---- put_own_line, emit_tail_padding
 pub lone_none : (i : ℕ) → (i ≡ 0 → ⊥) → [] ≡ lone_line i
@@ -151,10 +173,6 @@ lone_none i n = rw (ne_eqb i 0 n, lone_line)
 pub lone_line_lem : (i : ℕ) → i ≡ 0 → ascii "\n" ≡ lone_line i
 unfolding lone_line
 lone_line_lem i z = rw z
-
-and_none : (x : Bool) → (x && false) ≡ false
-and_none true = refl
-and_none false = refl
 
 module _ (placing : Bool) (ptr_sz : ℕ) (is_struct : Bool) (sz offset lvl i : ℕ) where
   no_pads : tail_pads placing ptr_sz is_struct sz offset ≡ [] → [] ≡ tail_text lvl i (tail_pads placing ptr_sz is_struct sz offset)
@@ -185,9 +203,10 @@ module _ (placing : Bool) (ptr_sz : ℕ) (is_struct : Bool) (sz offset lvl i : �
         ∙ ap (tail_text lvl i) (sym tail_is)
 
     pub tail_put : (t : List ℕ) (at q : ℕ) (u : List ℕ) (r : ℕ) (v : List ℕ) (end : ℕ) → end ≡ sz * 8 → offset < end
-        → put_out q u ≡ put_text t at (whole (pads lvl (placed_pads (end - offset) ptr_sz offset (end - offset)))) → put_out r v ≡ put_text u q (whole (lone_line i))
+        → put_out q u ≡ put_text t at (whole (pads lvl (pads_by placing ptr_sz offset (end - offset)))) → put_out r v ≡ put_text u q (whole (lone_line i))
         → put_out r v ≡ put_text t at (whole (tail_text lvl i (tail_pads placing ptr_sz is_struct sz offset)))
+    unfolding pads_by
     tail_put t at q u r v end ee h e f =
         let d : end ≡ 8 * sz = omega arith in
         put_same t at _ _ r v (ap (λ (n : ℕ). pads lvl (placed_pads (n - offset) ptr_sz offset (n - offset)) ++ lone_line i) d ∙ tail_lines (omega arith))
-        (put_seq t at (pads lvl (placed_pads (end - offset) ptr_sz offset (end - offset))) (lone_line i) q u r v e f)
+        (put_seq t at (pads lvl (placed_pads (end - offset) ptr_sz offset (end - offset))) (lone_line i) q u r v (rw ep at e) f)

@@ -8,7 +8,8 @@ use lib.Count.{count_trailing_zeros, under}
 use borrow.Author.Tests.{le-leb, lt-leb, eq-eqb, ne_eqb, eqb-true}
 use Rattle.spec_c_dumper.specs.rules.Layout.{suits, placed_pad}
 use Rattle.c_dumper_padding.specs.declared.units.Pad.{Pad as Code}
-use Rattle.c_dumper_padding.specs.units.Units.{unit_of, pad_is, suits_by, placed_char}
+use Rattle.c_dumper_padding.specs.declared.units.Unit.TheVariants.{Long, Int, Short, Char}
+use Rattle.c_dumper_padding.specs.units.Units.{pad_is, suits_by, placed_char}
 
 -- ---- zeros at the end of a number
 both : (a b : Bool) → (a ≡ true → b ≡ true) → (b ≡ true → a ≡ true) → a ≡ b
@@ -90,26 +91,26 @@ module _ (start gap : ℕ) where
 
   -- ---- char_pad: what each test said
   module _ (a : Bool) (ea : a ≡ suits_by start gap 3 8) where
-    pub char_8 : a ≡ true → pad_is (record { unit = 0; width = 8 }) ≡ placed_char start gap
-    unfolding pad_is unit_of placed_char
+    pub char_8 : a ≡ true → pad_is (record { unit = Char; width = 8 }) ≡ placed_char start gap
+    unfolding pad_is placed_char
     char_8 t = let e : suits start gap 8 ≡ true = sym suits_8 ∙ sym ea ∙ t in rw (e, placed_char)
 
     module _ (f : a ≡ false) (c : Bool) (ec : c ≡ suits_by start gap 2 4) where
-      pub char_4 : c ≡ true → pad_is (record { unit = 0; width = 4 }) ≡ placed_char start gap
-      unfolding pad_is unit_of placed_char
+      pub char_4 : c ≡ true → pad_is (record { unit = Char; width = 4 }) ≡ placed_char start gap
+      unfolding pad_is placed_char
       char_4 t = let e : suits start gap 8 ≡ false = sym suits_8 ∙ sym ea ∙ f in let g : suits start gap 4 ≡ true = sym suits_4 ∙ sym ec ∙ t in rw (e, placed_char, g)
 
       module _ (h : c ≡ false) (d : Bool) (ed : d ≡ suits_by start gap 1 2) where
-        pub char_2 : d ≡ true → pad_is (record { unit = 0; width = 2 }) ≡ placed_char start gap
-        unfolding pad_is unit_of placed_char
+        pub char_2 : d ≡ true → pad_is (record { unit = Char; width = 2 }) ≡ placed_char start gap
+        unfolding pad_is placed_char
         char_2 t =
             let e : suits start gap 8 ≡ false = sym suits_8 ∙ sym ea ∙ f in
             let g : suits start gap 4 ≡ false = sym suits_4 ∙ sym ec ∙ h in
             let i : suits start gap 2 ≡ true = sym suits_2 ∙ sym ed ∙ t in
             rw (e, placed_char, g, i)
 
-        pub char_1 : d ≡ false → pad_is (record { unit = 0; width = 1 }) ≡ placed_char start gap
-        unfolding pad_is unit_of placed_char
+        pub char_1 : d ≡ false → pad_is (record { unit = Char; width = 1 }) ≡ placed_char start gap
+        unfolding pad_is placed_char
         char_1 t =
             let e : suits start gap 8 ≡ false = sym suits_8 ∙ sym ea ∙ f in
             let g : suits start gap 4 ≡ false = sym suits_4 ∙ sym ec ∙ h in
@@ -118,13 +119,13 @@ module _ (start gap : ℕ) where
 
   -- ---- narrow_pad
   module _ (a : Bool) (ea : a ≡ suits_by start gap 5 32) where
-    pub narrow_32 : a ≡ true → pad_is (record { unit = 2; width = 32 }) ≡ placed_pad 0 start gap
-    unfolding pad_is unit_of placed_pad
+    pub narrow_32 : a ≡ true → pad_is (record { unit = Int; width = 32 }) ≡ placed_pad 0 start gap
+    unfolding pad_is placed_pad
     narrow_32 t = let e : suits start gap 32 ≡ true = sym suits_32 ∙ sym ea ∙ t in rw (e, placed_pad)
 
     module _ (f : a ≡ false) (c : Bool) (ec : c ≡ suits_by start gap 4 16) where
-      pub narrow_16 : c ≡ true → pad_is (record { unit = 1; width = 16 }) ≡ placed_pad 0 start gap
-      unfolding pad_is unit_of placed_pad
+      pub narrow_16 : c ≡ true → pad_is (record { unit = Short; width = 16 }) ≡ placed_pad 0 start gap
+      unfolding pad_is placed_pad
       narrow_16 t = let e : suits start gap 32 ≡ false = sym suits_32 ∙ sym ea ∙ f in let g : suits start gap 16 ≡ true = sym suits_16 ∙ sym ec ∙ t in rw (e, placed_pad, g)
 
       pub narrow_char : c ≡ false → (r : Code) → pad_is r ≡ placed_char start gap → pad_is r ≡ placed_pad 0 start gap
@@ -138,8 +139,8 @@ module _ (start gap : ℕ) where
     placed_other n r er = er ∙ rw (ne_eqb ptr_sz 8 n, placed_pad)
 
     module _ (p : ptr_sz ≡ 8) (a : Bool) (ea : a ≡ suits_by start gap 6 64) where
-      pub placed_64 : a ≡ true → pad_is (record { unit = 3; width = 64 }) ≡ placed_pad ptr_sz start gap
-      unfolding pad_is unit_of placed_pad
+      pub placed_64 : a ≡ true → pad_is (record { unit = Long; width = 64 }) ≡ placed_pad ptr_sz start gap
+      unfolding pad_is placed_pad
       placed_64 t = let e : suits start gap 64 ≡ true = sym suits_64 ∙ sym ea ∙ t in rw (p, placed_pad, e)
 
       pub placed_narrow : a ≡ false → (r : Code) → pad_is r ≡ placed_pad 0 start gap → pad_is r ≡ placed_pad ptr_sz start gap

@@ -7,22 +7,15 @@ use mathlib.Core.Logic.{◌⊎◌, inl, inr, ⊎_elim}
 use lib.Dec.{ltb}
 use native.Mathlib.Omega.{arith}
 use native.Mathlib.Nat.{mod-le, mod-eq_of_lt}
-use borrow.Author.Tests.{lt-ltb, le-ltb, le-leb, lt-leb, ne_eqb}
+use borrow.Author.Tests.{lt-ltb, le-ltb, ne_eqb}
 use Rattle.spec_bytes.proofs.words.Laws.{le_or_lt}
-use Rattle.spec_c_dumper.specs.rules.Layout.{smaller, long, int, short, char, Pad, chip_away_bits, pad_of, pads_of}
+use Rattle.spec_c_dumper.specs.rules.Layout.{long, int, short, char, Pad, chip_away_bits, pad_of, pads_of}
 
 zero_or : {P : Type 0} → (n : ℕ) → (n ≡ 0 → P) → ((n ≡ 0 → ⊥) → P) → P
 zero_or zero p q = p refl
 zero_or (suc n) p q = q (λ e. omega arith)
 
 -- ---- widths
-chip_past : (total n : ℕ) → 1 ≤ total → total < n → chip_away_bits total n ≡ total
-unfolding chip_away_bits
-chip_past total n l h =
-    let e : total % n ≡ total = mod-eq_of_lt h in
-    let z : total % n ≡ 0 → ⊥ = omega arith in
-    rw (ne_eqb (total % n) 0 z, chip_away_bits) e
-
 chip_width : (total n : ℕ) → 1 ≤ n → 1 ≤ total → (1 ≤ chip_away_bits total n) × (chip_away_bits total n ≤ total)
 unfolding chip_away_bits
 chip_width total n ln lt = zero_or (total % n) whole part
@@ -38,24 +31,6 @@ chip_width total n ln lt = zero_or (total % n) whole part
         let e : chip_away_bits total n ≡ total % n = rw (ne_eqb (total % n) 0 z, chip_away_bits) in
         let l : 1 ≤ total % n = omega arith in
         rw e (l, mod-le total n)
-
-chip_most : (gap : ℕ) → 1 ≤ gap → gap < 4294967296 → chip_away_bits gap 4294967295 ≡ gap
-unfolding chip_away_bits
-chip_most gap l h = ⊎_elim (λ f. let e : gap ≡ 4294967295 = omega arith in rw e) (λ f. chip_past gap 4294967295 l f) (le_or_lt 4294967295 gap)
-
--- a pointer's bits, or the largest number: for a gap of 32 bits it is the same
-pub chip_bits : (p gap : ℕ) → 1 ≤ gap → gap < 4294967296 → chip_away_bits gap (smaller (p * 8) 4294967295) ≡ chip_away_bits gap (p * 8)
-unfolding smaller
-chip_bits p gap l h = ⊎_elim few many (le_or_lt (p * 8) 4294967295)
-  where
-    few : p * 8 ≤ 4294967295 → chip_away_bits gap (smaller (p * 8) 4294967295) ≡ chip_away_bits gap (p * 8)
-    few f = let e : smaller (p * 8) 4294967295 ≡ p * 8 = rw (le-leb (p * 8) 4294967295 f, smaller) in ap (chip_away_bits gap) e
-
-    many : 4294967295 < p * 8 → chip_away_bits gap (smaller (p * 8) 4294967295) ≡ chip_away_bits gap (p * 8)
-    many f =
-        let e : smaller (p * 8) 4294967295 ≡ 4294967295 = rw (lt-leb (p * 8) 4294967295 f, smaller) in
-        let g : gap < p * 8 = omega arith in
-        ap (chip_away_bits gap) e ∙ chip_most gap l h ∙ sym (chip_past gap (p * 8) l g)
 
 -- ---- the next pad
 and_false : (x : Bool) → (x && false) ≡ false

@@ -14,4 +14,4 @@ pub returns-then-is_full : goal.returns-then-is_full
 returns-then-is_full c = put_same _ _ _ _ _ _ (tail_full _ _ _ _ _ _ _ (not-false _ c.if-not-b.false) (sym c.is_struct.ensures ∙ c.if-not-is_struct.false) c.if-is_full.true) (put_empty _ _)
 
 pub returns : goal.returns
-returns c = tail_put _ _ _ _ _ _ _ (not-false _ c.if-not-b.false) (sym c.is_struct.ensures ∙ c.if-not-is_struct.false) _ _ _ _ _ _ _ refl c.if-is_full.false c.put_placed_pads-a.ensures c.put_own_line.ensures
+returns c = tail_put _ _ _ _ _ _ _ (not-false _ c.if-not-b.false) (sym c.is_struct.ensures ∙ c.if-not-is_struct.false) _ _ _ _ _ _ _ refl c.if-is_full.false c.put_pads-a.ensures c.put_own_line.ensures

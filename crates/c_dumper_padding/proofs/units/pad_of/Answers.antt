@@ -1,4 +1,3 @@
-use native.Mathlib.Omega.{arith}
 use Rattle.c_dumper_padding.proofs.units.Laws.{is_narrow, is_small, is_long}
 use Rattle.c_dumper_padding.proofs.units.pad_of.Goals as goal
 
@@ -9,4 +8,4 @@ pub returns-then-ptr_sz-le4 : goal.returns-then-ptr_sz-le4
 returns-then-ptr_sz-le4 c = is_small _ _ _ c.if-ptr_sz-le4.true c.short_pad-then-ptr_sz-le4.ensures
 
 pub returns : goal.returns
-returns c = is_long _ _ _ _ c.if-gap-le32.false (omega arith) c.if-ptr_sz-le4.false c.ptr_bits.ensures c.chip_away_bits.ensures
+returns c = is_long _ _ _ c.if-gap-le32.false c.if-ptr_sz-le4.false c.chip_away_bits.ensures
