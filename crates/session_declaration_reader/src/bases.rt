@@ -4,12 +4,12 @@ mod items;
 ghost use Rattle.std.specs.Prelude.{◌≡◌, true, false};
 ghost use Rattle.session_declaration_reader.specs.bases.Bases.{ends_name, bracketed, no_tags, is_base, word_run};
 ghost use Rattle.session_declaration_reader.specs.tokens.Looking.{tokens_at};
-ghost use Rattle.session_declaration_reader.specs.bases.Looking.{qual_sign, word_signed, void_signed, is_base_word, Third, QualsAt};
+ghost use Rattle.session_declaration_reader.specs.bases.Looking.{qual_sign, word_signed, void_signed, BaseWord, Third, QualsAt};
 ghost use Rattle.session_declaration_reader.specs.bases.Looking.{AfterWords, BaseAt};
 
 pub use crate::bases::items::{Entry, Spot, put_base, put_entry, put_quals};
 use crate::sign;
-use crate::tokens::token;
+use crate::tokens::{Tok, token};
 
 // At most three qualifiers, by their signs, 0 where there is none; and where they end.
 #[derive(Clone, Copy)]
@@ -113,18 +113,20 @@ fn ends_name(text: &[u8], at: usize) -> bool
     u.sign != sign::STAR
 }
 
-// Whether a word of the base stands next; with a name wanted, the last word is the name.
-fn is_base_word(text: &[u8], at: usize, named: bool) -> bool
-    ensures { result ≡ is_base_word named (tokens_at text.now at) }
+// The word of the base that stands next; with a name wanted, the last word is the name.
+fn base_word(text: &[u8], at: usize, named: bool) -> Option<Tok>
+    ensures { BaseWord text.now at named result }
 {
     let t = token(text, at);
     if !is_word(t.sign) {
-        return false;
+        return None;
     }
     if named {
-        return !ends_name(text, t.end);
+        if ends_name(text, t.end) {
+            return None;
+        }
     }
-    true
+    Some(t)
 }
 
 // Where the words of the base end.
@@ -132,8 +134,7 @@ fn after_words(text: &[u8], at: usize, named: bool) -> usize
     ensures { AfterWords text.now at named result }
 {
     let mut i = at;
-    while is_base_word(text, i, named) {
-        let t = token(text, i);
+    while let Some(t) = base_word(text, i, named) {
         i = t.end;
     }
     i
@@ -144,8 +145,7 @@ fn no_tags(text: &[u8], at: usize, named: bool) -> bool
     ensures { result ≡ no_tags (word_run named (tokens_at text.now at)) }
 {
     let mut i = at;
-    while is_base_word(text, i, named) {
-        let t = token(text, i);
+    while let Some(t) = base_word(text, i, named) {
         if t.sign == sign::TAG {
             return false;
         }
@@ -157,18 +157,16 @@ fn no_tags(text: &[u8], at: usize, named: bool) -> bool
 fn is_base(text: &[u8], at: usize, named: bool) -> bool
     ensures { result ≡ is_base (word_run named (tokens_at text.now at)) }
 {
-    if !is_base_word(text, at, named) {
+    let Some(t) = base_word(text, at, named) else {
         return false;
-    }
-    let t = token(text, at);
+    };
     if t.sign != sign::TAG {
         return no_tags(text, t.end, named);
     }
-    if !is_base_word(text, t.end, named) {
+    let Some(u) = base_word(text, t.end, named) else {
         return false;
-    }
-    let u = token(text, t.end);
-    !is_base_word(text, u.end, named)
+    };
+    base_word(text, u.end, named).is_none()
 }
 
 // The base that stands next, with its qualifiers.

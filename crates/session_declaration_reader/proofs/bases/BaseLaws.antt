@@ -1,5 +1,6 @@
 -- Laws for the code that reads qualifiers and bases. Assumes nothing.
 use Rattle.std.specs.Prelude.{Option, Some, None}
+use Rattle.std.specs.Option.{is_some}
 use Prim.Native.Nat.{ℕ, ◌+◌, ◌≤◌, ◌<◌}
 use mathlib.Core.Path.{◌≡◌, refl, ap, sym, ◌∙◌}
 use mathlib.Core.Bool.{Bool, true, false, not, ◌&&◌}
@@ -13,7 +14,7 @@ use Rattle.session_declaration_reader.specs.tokens.Tokens.{Kind, tag_word, void_
 use Rattle.session_declaration_reader.specs.bases.Bases.{Spelt, spelt, is_qualifier_among, distinct, begins, begins_word, bracketed, qual_run, after_quals, ends_name, word_run, after_words, is_tag, no_tags, single, is_base, words_of, same_qualifier}
 use Rattle.session_declaration_reader.specs.tokens.Looking.{Span, tokens_at, sign_of, span_of, Looked}
 use Rattle.session_declaration_reader.specs.bases.Items.{qual_code, first_from, last_to}
-use Rattle.session_declaration_reader.specs.bases.Looking.{qual_sign, word_signed, void_signed, qual_of, QualsOf, QualsAt, only_three, Third, is_base_word, AfterWords, begins_base, BaseAt}
+use Rattle.session_declaration_reader.specs.bases.Looking.{qual_sign, word_signed, void_signed, qual_of, QualsOf, QualsAt, only_three, Third, is_base_word, BaseWord, AfterWords, begins_base, BaseAt}
 use Rattle.session_declaration_reader.specs.declared.tokens.Tok.{Tok}
 use Rattle.session_declaration_reader.specs.declared.bases.Quals.{Quals}
 use Rattle.session_declaration_reader.proofs.tokens.Cases.{passed, failed}
@@ -146,6 +147,17 @@ over n (mark b ∷ ts) e = record { run_is = refl; after_is = refl }
 over n (word k w ∷ ts) e =
     let f : (n && ends_name ts) ≡ true = not-false (n && ends_name ts) e in
     record { run_is = rw (f, word_run); after_is = rw (f, after_words) }
+
+pub word_gone : (s : List ℕ) (at : ℕ) (n : Bool) (r : Option Tok) → BaseWord s at n r → (b : Bool) → is_some r ≡ not b → b ≡ not (is_base_word n (tokens_at s at))
+word_gone s at n r e b h = twice_not b ∙ ap not (sym h) ∙ go r e
+  where
+    twice_not : (b : Bool) → b ≡ not (not b)
+    twice_not true = refl
+    twice_not false = refl
+
+    go : (r : Option Tok) → BaseWord s at n r → not (is_some r) ≡ not (is_base_word n (tokens_at s at))
+    go (Some t) e = ap not e.1
+    go None e = ap not e
 
 -- where the last word ends
 abbrev pub last_or : ℕ → List Span → ℕ

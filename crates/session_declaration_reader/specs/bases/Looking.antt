@@ -2,7 +2,8 @@
 use Rattle.std.specs.Prelude.{ℕ, Option, Some, None, ◌-◌, ◌≡◌, Bool, true, false, not, ◌&&◌, List, [], ◌∷◌, ◌++◌, ltb, eqb}
 use Rattle.spec_c_dumper.specs.rules.Types.{Qualifier, volatile, const, restrict}
 use Rattle.session_declaration_reader.specs.tokens.Tokens.{Token, rest}
-use Rattle.session_declaration_reader.specs.tokens.Looking.{Span, tokens_at, sign_of}
+use Rattle.session_declaration_reader.specs.tokens.Looking.{Span, tokens_at, sign_of, Looked}
+use Rattle.session_declaration_reader.specs.declared.tokens.Tok.{Tok}
 use Rattle.session_declaration_reader.specs.bases.Bases.{begins_word, ends_name, distinct, qual_run, after_quals, word_run, after_words}
 use Rattle.session_declaration_reader.specs.bases.Bases.{words_of, is_base}
 use Rattle.session_declaration_reader.specs.bases.Items.{Item, item, qual_items, first_from, last_to}
@@ -52,6 +53,11 @@ Third s a b c at None = only_three s a b c at ≡ false
 -- whether a word of the base stands next
 unfoldable pub is_base_word : Bool → List (Token Span) → Bool
 is_base_word n ts = begins_word ts && not (n && ends_name (rest ts))
+
+-- the word of the base that stands next
+abbrev pub BaseWord : List ℕ → ℕ → Bool → Option Tok → Type 0
+BaseWord s at n (Some t) = Looked s at t × (true ≡ is_base_word n (tokens_at s at))
+BaseWord s at n None = false ≡ is_base_word n (tokens_at s at)
 
 -- where the words of the base end
 pub record AfterWords (s : List ℕ) (at : ℕ) (n : Bool) (r : ℕ) : Type 0 where

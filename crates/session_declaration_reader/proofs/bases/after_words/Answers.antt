@@ -1,15 +1,17 @@
 use Rattle.session_declaration_reader.proofs.bases.BaseLaws as laws
 use native.Mathlib.Omega.{arith}
+use mathlib.Core.Path.{refl}
+use mathlib.Core.Bool.{true, false}
 use Rattle.session_declaration_reader.proofs.bases.after_words.Goals as goal
 
 pub loop-t-init : goal.loop-t-init
 loop-t-init c = laws.after_start _ _ _
 
 pub loop-t-smaller : goal.loop-t-smaller
-loop-t-smaller c = omega (arith, laws.word_forward _ _ _ _ c.is_base_word.ensures c.loop-t-test.true _ c.token-t.ensures, laws.word_inside _ _ _ _ c.is_base_word.ensures c.loop-t-test.true _ c.token-t.ensures)
+loop-t-smaller c = omega (arith, laws.word_forward _ _ _ true c.in-Some.ensures.1 refl _ c.in-Some.ensures.0, laws.word_inside _ _ _ true c.in-Some.ensures.1 refl _ c.in-Some.ensures.0)
 
 pub loop-t-preserved : goal.loop-t-preserved
-loop-t-preserved c = laws.after_turn _ _ _ _ c.is_base_word.ensures c.loop-t-test.true _ c.token-t.ensures _ c.loop-t.invariant
+loop-t-preserved c = laws.after_turn _ _ _ true c.in-Some.ensures.1 refl _ c.in-Some.ensures.0 _ c.loop-t.invariant
 
 pub returns : goal.returns
-returns c = laws.after_ends _ _ _ _ c.is_base_word.ensures c.loop-t-test.false _ c.loop-t.invariant
+returns c = laws.after_ends _ _ _ false c.in_default.ensures refl _ c.loop-t.invariant
