@@ -8,8 +8,7 @@ ghost use Rattle.btf_layout.specs.remembered.Words.{taken_by, step_at, once_of, 
 use crate::remembered::{Seen, recall, remember};
 use base_bytes::refusal::Refusal;
 use btf_type_table::kind::{entries_of, member_place};
-use btf_type_table::node::type_by_id;
-use btf_type_table::section_word::{array_type, int_bits, word};
+use btf_type_table::table::Table;
 use spec_type_table::{BtfType, Entries, Kind, TypeTable};
 
 // What get_align_of asks of a type: nothing, one other type, or its members.
@@ -31,15 +30,15 @@ fn taken(s: Seen, left: u32) -> Result<Seen, Refusal>
     Ok(s)
 }
 
-fn step_of(b: TypeTable, section: &[u8], t: BtfType) -> Step
-    ensures { result ≡ step_at b section.now t }
+fn step_of(b: &Table, t: BtfType) -> Step
+    ensures { result ≡ step_at b.now.head b.now.section.now t }
 {
     match Kind::of(t.info) {
-        Kind::Int => Step::Own(b.ptr_sz.min(int_bits(b, section, t).div_ceil(8))),
-        Kind::Ptr => Step::Own(b.ptr_sz),
-        Kind::Array => Step::Through(array_type(b, section, t)),
+        Kind::Int => Step::Own(b.head.ptr_sz.min(b.int_bits(t).div_ceil(8))),
+        Kind::Ptr => Step::Own(b.head.ptr_sz),
+        Kind::Array => Step::Through(b.array_type(t)),
         Kind::Struct | Kind::Union => Step::Members(entries_of(t)),
-        Kind::Enum | Kind::Float | Kind::Enum64 => Step::Own(b.ptr_sz.min(t.type_id)),
+        Kind::Enum | Kind::Float | Kind::Enum64 => Step::Own(b.head.ptr_sz.min(t.type_id)),
         Kind::Typedef | Kind::Volatile | Kind::Const | Kind::Restrict | Kind::TypeTag =>
             Step::Through(t.type_id),
         Kind::Void | Kind::Fwd | Kind::Func | Kind::FuncProto | Kind::Var | Kind::Datasec =>
@@ -70,33 +69,27 @@ fn keep_once(
 
 // A type of which nothing is remembered: of the calls that may be open this is one.
 #[cycle(align_of)]
-fn align_anew(
-    b: TypeTable,
-    section: &[u8],
-    work: &mut [u8],
-    id: u32,
-    left: u32,
-) -> Result<Seen, Refusal>
+fn align_anew(b: &Table, work: &mut [u8], id: u32, left: u32) -> Result<Seen, Refusal>
     ensures { once_of result work.new
-        ≡ anew_with b.types (btf_of b section.now work.old) (left - 1) id work.old }
+        ≡ anew_with b.now.head.types (btf_of b.now.head b.now.section.now work.old) (left - 1) id work.old }
 {
     let below = left.saturating_sub(1);
-    let t = type_by_id(b, section, work, id);
-    match step_of(b, section, t) {
+    let t = b.type_by_id(work, id);
+    match step_of(b, t) {
         Step::Own(align) => {
             let own = Seen {
                 align: align,
                 height: 0,
             };
-            keep_once(b, work, id, Ok(own), 0)
+            keep_once(b.head, work, id, Ok(own), 0)
         }
         Step::Through(x) => {
-            let r = get_align_of(b, section, work, x, below);
-            keep_once(b, work, id, r, 0)
+            let r = get_align_of(b, work, x, below);
+            keep_once(b.head, work, id, r, 0)
         }
         Step::Members(e) => {
-            let r = members_once(b, section, work, e, below);
-            keep_once(b, work, id, r, e.vlen)
+            let r = members_once(b, work, e, below);
+            keep_once(b.head, work, id, r, e.vlen)
         }
     }
 }
@@ -104,45 +97,33 @@ fn align_anew(
 // get_align_of with a memory: most answers are remembered already.
 #[cycle(align_of)]
 #[inline]
-pub fn get_align_of(
-    b: TypeTable,
-    section: &[u8],
-    work: &mut [u8],
-    id: u32,
-    left: u32,
-) -> Result<Seen, Refusal>
+pub fn get_align_of(b: &Table, work: &mut [u8], id: u32, left: u32) -> Result<Seen, Refusal>
     ensures { once_of result work.new
-        ≡ once_with b.types (btf_of b section.now work.old) left id work.old }
+        ≡ once_with b.now.head.types (btf_of b.now.head b.now.section.now work.old) left id work.old }
 {
     if left == 0 {
         return Err(Refusal::TooDeep);
     }
-    match recall(b, work, id) {
+    match recall(b.head, work, id) {
         Some(s) => taken(s, left),
-        None => align_anew(b, section, work, id, left),
+        None => align_anew(b, work, id, left),
     }
 }
 
 // The largest of the members' alignments, at least 1, and the largest of their heights.
 #[cycle(align_of)]
-fn members_once(
-    b: TypeTable,
-    section: &[u8],
-    work: &mut [u8],
-    members: Entries,
-    left: u32,
-) -> Result<Seen, Refusal>
+fn members_once(b: &Table, work: &mut [u8], members: Entries, left: u32) -> Result<Seen, Refusal>
     ensures { once_of result work.new
-        ≡ ids_with b.types (btf_of b section.now work.old) left (alone 1)
-        (member_ids b section.now members) work.old }
+        ≡ ids_with b.now.head.types (btf_of b.now.head b.now.section.now work.old) left (alone 1)
+        (member_ids b.now.head b.now.section.now members) work.old }
 {
     let mut seen = Seen {
         align: 1,
         height: 0,
     };
     for k in 0..members.vlen {
-        let id = word(b, section, member_place(members, k) + 4);
-        seen = seen.widest(get_align_of(b, section, work, id, left)?);
+        let id = b.word(member_place(members, k) + 4);
+        seen = seen.widest(get_align_of(b, work, id, left)?);
     }
     Ok(seen)
 }

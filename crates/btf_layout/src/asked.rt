@@ -8,50 +8,38 @@ ghost use Rattle.btf_layout.specs.asked.Asked.{ask_in, off_by, align_in, gap_in,
 use crate::align_of::get_align_of;
 use base_bytes::limit;
 use base_bytes::refusal::Refusal;
-use btf_type_table::entry::load_member;
 use btf_type_table::kind::{is_struct, vlen_of};
-use spec_type_table::{BtfMember, BtfType, TypeTable};
+use btf_type_table::table::Table;
+use spec_type_table::{BtfMember, BtfType};
 
-fn alignment(b: TypeTable, section: &[u8], work: &mut [u8], id: u32) -> Result<u32, Refusal>
+fn alignment(b: &Table, work: &mut [u8], id: u32) -> Result<u32, Refusal>
     ensures { ask_in result work.new
-        ≡ align_in b.types (btf_of b section.now work.old) id work.old }
+        ≡ align_in b.now.head.types (btf_of b.now.head b.now.section.now work.old) id work.old }
 {
-    let s = get_align_of(b, section, work, id, limit::MOST_CALLS)?;
+    let s = get_align_of(b, work, id, limit::MOST_CALLS)?;
     Ok(s.align)
 }
 
 // The alignment that decides whether a gap is natural.
-pub fn gap_align(
-    b: TypeTable,
-    section: &[u8],
-    work: &mut [u8],
-    id: u32,
-    packed: bool,
-) -> Result<u32, Refusal>
+pub fn gap_align(b: &Table, work: &mut [u8], id: u32, packed: bool) -> Result<u32, Refusal>
     ensures { ask_in result work.new
-        ≡ gap_in b.types (btf_of b section.now work.old) packed id work.old }
+        ≡ gap_in b.now.head.types (btf_of b.now.head b.now.section.now work.old) packed id work.old }
 {
     if packed {
         return Ok(1);
     }
-    alignment(b, section, work, id)
+    alignment(b, work, id)
 }
 
 // A union's alignment; a struct's is asked by the packed test.
-pub fn union_align(
-    b: TypeTable,
-    section: &[u8],
-    work: &mut [u8],
-    id: u32,
-    t: BtfType,
-) -> Result<u32, Refusal>
+pub fn union_align(b: &Table, work: &mut [u8], id: u32, t: BtfType) -> Result<u32, Refusal>
     ensures { ask_in result work.new
-        ≡ union_in b.types (btf_of b section.now work.old) (eqb (kind_of t.info) 4) id work.old }
+        ≡ union_in b.now.head.types (btf_of b.now.head b.now.section.now work.old) (eqb (kind_of t.info) 4) id work.old }
 {
     if is_struct(t) {
         return Ok(1);
     }
-    alignment(b, section, work, id)
+    alignment(b, work, id)
 }
 
 // Whether a plain member is off its alignment; one that has none has no answer.
@@ -66,31 +54,26 @@ fn off_by(a: u32, bit_offset: u32) -> Result<bool, Refusal>
 }
 
 // A bit field has no alignment of its own.
-fn member_off(b: TypeTable, section: &[u8], work: &mut [u8], m: BtfMember) -> Result<bool, Refusal>
+fn member_off(b: &Table, work: &mut [u8], m: BtfMember) -> Result<bool, Refusal>
     ensures { ask_in result work.new
-        ≡ off_in b.types (btf_of b section.now work.old) (rule_member b section.now m)
+        ≡ off_in b.now.head.types (btf_of b.now.head b.now.section.now work.old) (rule_member b.now.head b.now.section.now m)
         work.old }
 {
     if m.bit_size != 0 {
         return Ok(false);
     }
-    off_by(alignment(b, section, work, m.type_id)?, m.bit_offset)
+    off_by(alignment(b, work, m.type_id)?, m.bit_offset)
 }
 
 // The members in order, up to the first that is off.
-fn members_packed(
-    b: TypeTable,
-    section: &[u8],
-    work: &mut [u8],
-    t: BtfType,
-) -> Result<bool, Refusal>
+fn members_packed(b: &Table, work: &mut [u8], t: BtfType) -> Result<bool, Refusal>
     ensures { ask_in result work.new
-        ≡ members_in b.types (btf_of b section.now work.old) (members_of b section.now t)
+        ≡ members_in b.now.head.types (btf_of b.now.head b.now.section.now work.old) (members_of b.now.head b.now.section.now t)
         work.old }
 {
     for k in 0..vlen_of(t.info) {
-        let m = load_member(b, section, t, k);
-        let is_off = member_off(b, section, work, m)?;
+        let m = b.load_member(t, k);
+        let is_off = member_off(b, work, m)?;
         if is_off {
             return Ok(true);
         }
@@ -99,23 +82,17 @@ fn members_packed(
 }
 
 // The packed test: the struct's own alignment comes first, and its members' are remembered by then.
-pub fn is_packed(
-    b: TypeTable,
-    section: &[u8],
-    work: &mut [u8],
-    id: u32,
-    t: BtfType,
-) -> Result<bool, Refusal>
+pub fn is_packed(b: &Table, work: &mut [u8], id: u32, t: BtfType) -> Result<bool, Refusal>
     ensures { ask_in result work.new
-        ≡ packed_at b.types (btf_of b section.now work.old) (eqb (kind_of t.info) 4) id t.type_id
-        (members_of b section.now t) work.old }
+        ≡ packed_at b.now.head.types (btf_of b.now.head b.now.section.now work.old) (eqb (kind_of t.info) 4) id t.type_id
+        (members_of b.now.head b.now.section.now t) work.old }
 {
     if !is_struct(t) {
         return Ok(false);
     }
-    let a = alignment(b, section, work, id)?;
+    let a = alignment(b, work, id)?;
     if t.type_id.is_multiple_of(a) {
-        return members_packed(b, section, work, t);
+        return members_packed(b, work, t);
     }
     Ok(true)
 }

@@ -5,34 +5,22 @@ ghost use Rattle.spec_type_table.specs.Table.{btf_of};
 ghost use Rattle.btf_layout.specs.size.Answers.{ask_of};
 
 use base_bytes::refusal::Refusal;
-use btf_type_table::node::type_by_id;
-use btf_type_table::section_word::{array_nelems, array_type, int_bits};
-use spec_type_table::{Kind, TypeTable};
+use btf_type_table::table::Table;
+use spec_type_table::Kind;
 
-pub fn get_size_of(
-    b: TypeTable,
-    section: &[u8],
-    work: &[u8],
-    id: u32,
-    left: u32,
-) -> Result<u32, Refusal>
-    ensures { ask_of result ≡ get_size_of left (btf_of b section.now work.now) id }
+pub fn get_size_of(b: &Table, work: &[u8], id: u32, left: u32) -> Result<u32, Refusal>
+    ensures { ask_of result ≡ get_size_of left (btf_of b.now.head b.now.section.now work.now) id }
 {
     let mut at = id;
     for passed in 0..left {
-        let t = type_by_id(b, section, work, at);
+        let t = b.type_by_id(work, at);
         match Kind::of(t.info) {
-            Kind::Int => return Ok(int_bits(b, section, t).div_ceil(8)),
-            Kind::Ptr => return Ok(b.ptr_sz),
+            Kind::Int => return Ok(b.int_bits(t).div_ceil(8)),
+            Kind::Ptr => return Ok(b.head.ptr_sz),
             Kind::Array => {
-                let element = get_size_of(
-                    b,
-                    section,
-                    work,
-                    array_type(b, section, t),
-                    left - passed - 1,
-                )?;
-                return array_nelems(b, section, t)
+                let element = get_size_of(b, work, b.array_type(t), left - passed - 1)?;
+                return b
+                    .array_nelems(t)
                     .checked_mul(element)
                     .ok_or(Refusal::Overflow);
             }

@@ -12,7 +12,7 @@ use btf_open_causes::prototypes::leads_to_proto;
 use btf_open_causes::records::{Counts, scan};
 use btf_open_causes::references::has_bad_reference;
 use btf_open_causes::strings::{has_bad_header, has_bad_strings};
-use spec_type_table::TypeTable;
+use btf_type_table::table::Table;
 
 // Refused by the first cause that holds: 1 to 4 (`header_cause`), 5, 6 to 8 (`reference_cause`), 9. Where none does, `start` is the
 // index of the records.
@@ -26,14 +26,12 @@ pub fn examine(
     ensures { examine_out result start.new ≡ examined pointer_size section.now work_len }
 {
     header_cause(section, pointer_size)?;
-    let Some(counts) = scan(btf_of(section, pointer_size, 0, 0), section, start) else {
+    let head = btf_of(section, pointer_size, 0, 0);
+    let Some(counts) = scan(&Table { head, section }, start) else {
         return Err(Refusal::BadRecord);
     };
-    reference_cause(
-        btf_of(section, pointer_size, 0, counts.types),
-        section,
-        start,
-    )?;
+    let head = btf_of(section, pointer_size, 0, counts.types);
+    reference_cause(&Table { head, section }, start)?;
     if (work_len as u64) < work_size(counts) {
         return Err(Refusal::WorkShort);
     }
@@ -61,16 +59,16 @@ fn header_cause(section: &[u8], pointer_size: u32) -> Result<(), Refusal>
 }
 
 // Causes 6, 7 and 8.
-fn reference_cause(b: TypeTable, section: &[u8], start: &[u32]) -> Result<(), Refusal>
-    ensures { cause_number result ≡ from_six (first_of (late b section.now start.now)) }
+fn reference_cause(b: &Table, start: &[u32]) -> Result<(), Refusal>
+    ensures { cause_number result ≡ from_six (first_of (late b.now.head b.now.section.now start.now)) }
 {
-    if has_bad_reference(b, section, start) {
+    if has_bad_reference(b, start) {
         return Err(Refusal::BadReference);
     }
-    if leads_to_proto(b, section, start) {
+    if leads_to_proto(b, start) {
         return Err(Refusal::PrototypeHeld);
     }
-    if has_loop(b, section, start) {
+    if has_loop(b, start) {
         return Err(Refusal::Loop);
     }
     Ok(())

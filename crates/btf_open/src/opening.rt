@@ -6,6 +6,7 @@ use crate::causes::examine;
 use base_bytes::limit;
 use base_bytes::word::clear;
 use btf_open_causes::header::btf_of;
+use btf_type_table::table::Table;
 use spec_opening::Opening;
 
 // Opens a section. A refusal leaves work and text as they were.
@@ -25,9 +26,10 @@ pub fn open(
         Ok(counts) => {
             clear(text);
             clear(work);
-            let b = btf_of(section, pointer_size, modes, counts.types);
-            btf_open_names::fill::fill(b, section, counts.enumerators, &start, work);
-            btf_open_names::taken_numbers::takers(b, section, modes, counts.enumerators, work);
+            let head = btf_of(section, pointer_size, modes, counts.types);
+            let b = Table { head, section };
+            btf_open_names::fill::fill(&b, counts.enumerators, &start, work);
+            btf_open_names::taken_numbers::takers(&b, modes, counts.enumerators, work);
             Opening::Sound(counts.types, counts.enumerators)
         }
     }

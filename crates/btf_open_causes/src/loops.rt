@@ -9,7 +9,8 @@ ghost use Rattle.btf_open_causes.specs.loops.Walk.{Known, Opened, Passes, Inv, T
 
 use crate::references::{count, count_at, entry, id_at};
 use base_bytes::limit;
-use spec_type_table::{Kind, TypeTable};
+use btf_type_table::table::Table;
+use spec_type_table::Kind;
 
 // No type has so many successors. (A word and no enum: a cell of an enum that holds a number takes eight bytes a type, not four.)
 const NEW: u32 = 0;
@@ -17,27 +18,27 @@ const NEW: u32 = 0;
 const DONE: u32 = 131072;
 
 // How many successors the record of a kind at a place has.
-fn degree(b: TypeTable, section: &[u8], kind: u32, at: u32) -> u32
-    ensures { result ≡ deg_at b section.now kind at }
+fn degree(b: &Table, kind: u32, at: u32) -> u32
+    ensures { result ≡ deg_at b.now.head b.now.section.now kind at }
 {
     match Kind::numbered(kind) {
         Kind::Struct | Kind::Union => 0,
-        _ => count_at(b, section, kind, at),
+        _ => count_at(b, kind, at),
     }
 }
 
 // Whether it is not known that no loop follows y: y is in the table, is not done, and has successors if it is new.
-fn is_open(b: TypeTable, section: &[u8], start: &[u32], st: &[u32], y: u32) -> bool
-    requires { Known (graph_of b section.now start.now) st.now }
-    ensures { Opened (graph_of b section.now start.now) st.now y result }
+fn is_open(b: &Table, start: &[u32], st: &[u32], y: u32) -> bool
+    requires { Known (graph_of b.now.head b.now.section.now start.now) st.now }
+    ensures { Opened (graph_of b.now.head b.now.section.now start.now) st.now y result }
 {
     let Some(&w) = st.get(y as usize) else {
         return false;
     };
     match w {
         NEW => {
-            let e = entry(b, start, y);
-            degree(b, section, e % 32, e / 32) != 0
+            let e = entry(b.head, start, y);
+            degree(b, e % 32, e / 32) != 0
         }
         DONE.. => false,
         _ => true,
@@ -45,49 +46,33 @@ fn is_open(b: TypeTable, section: &[u8], start: &[u32], st: &[u32], y: u32) -> b
 }
 
 // The first k, from the given one on and below n, whose successor k is open.
-fn pass(
-    b: TypeTable,
-    section: &[u8],
-    start: &[u32],
-    st: &[u32],
-    kind: u32,
-    at: u32,
-    n: u32,
-    from: u32,
-) -> Option<u32>
-    requires { Known (graph_of b section.now start.now) st.now }
-    ensures { Passes (graph_of b section.now start.now) st.now
-        (id_at b section.now kind at) n from result }
+fn pass(b: &Table, start: &[u32], st: &[u32], kind: u32, at: u32, n: u32, from: u32) -> Option<u32>
+    requires { Known (graph_of b.now.head b.now.section.now start.now) st.now }
+    ensures { Passes (graph_of b.now.head b.now.section.now start.now) st.now
+        (id_at b.now.head b.now.section.now kind at) n from result }
 {
-    (from..n).find(|k| is_open(b, section, start, st, id_at(b, section, kind, at, *k)))
+    (from..n).find(|k| is_open(b, start, st, id_at(b, kind, at, *k)))
 }
 
 // One step of the walk: one type more on it, or one less. None: there is a loop.
-fn turn(
-    b: TypeTable,
-    section: &[u8],
-    start: &[u32],
-    st: &mut [u32],
-    stack: &mut [u32],
-    d: usize,
-) -> Option<usize>
-    requires { Inv (graph_of b section.now start.now) st.old stack.old d × (0 < d) }
-    ensures { Turned (graph_of b section.now start.now) st.old d st.new
+fn turn(b: &Table, start: &[u32], st: &mut [u32], stack: &mut [u32], d: usize) -> Option<usize>
+    requires { Inv (graph_of b.now.head b.now.section.now start.now) st.old stack.old d × (0 < d) }
+    ensures { Turned (graph_of b.now.head b.now.section.now start.now) st.old d st.new
         stack.new result }
 {
     let x = stack[d - 1];
     let at = x as usize;
-    let e = entry(b, start, x);
+    let e = entry(b.head, start, x);
     let kind = e % 32;
     let place = e / 32;
-    let n = degree(b, section, kind, place);
+    let n = degree(b, kind, place);
     let passed = st[at] - 1;
-    let Some(k) = pass(b, section, start, st, kind, place, n, passed) else {
+    let Some(k) = pass(b, start, st, kind, place, n, passed) else {
         st[at] = DONE;
         return Some(d - 1);
     };
     st[at] = k + 1;
-    let y = id_at(b, section, kind, place, k);
+    let y = id_at(b, kind, place, k);
     let next = y as usize;
     if st[next] != NEW {
         return None;
@@ -98,23 +83,16 @@ fn turn(
 }
 
 // Whether a walk from x meets a loop.
-fn walk(
-    b: TypeTable,
-    section: &[u8],
-    start: &[u32],
-    st: &mut [u32],
-    stack: &mut [u32],
-    x: u32,
-) -> bool
-    requires { Inv (graph_of b section.now start.now) st.old stack.old 0 × (x < 262145) }
-    ensures { Walked (graph_of b section.now start.now) x st.new stack.new result }
+fn walk(b: &Table, start: &[u32], st: &mut [u32], stack: &mut [u32], x: u32) -> bool
+    requires { Inv (graph_of b.now.head b.now.section.now start.now) st.old stack.old 0 × (x < 262145) }
+    ensures { Walked (graph_of b.now.head b.now.section.now start.now) x st.new stack.new result }
 {
     let at = x as usize;
     if st[at] != NEW {
         return false;
     }
-    let e = entry(b, start, x);
-    if degree(b, section, e % 32, e / 32) == 0 {
+    let e = entry(b.head, start, x);
+    if degree(b, e % 32, e / 32) == 0 {
         st[at] = DONE;
         return false;
     }
@@ -122,7 +100,7 @@ fn walk(
     stack[0] = x;
     let mut d: usize = 1;
     while d > 0 {
-        let Some(next) = turn(b, section, start, st, stack, d) else {
+        let Some(next) = turn(b, start, st, stack, d) else {
             return true;
         };
         d = next;
@@ -130,22 +108,22 @@ fn walk(
     false
 }
 
-fn scan(b: TypeTable, section: &[u8], start: &[u32], st: &mut [u32], stack: &mut [u32]) -> bool
-    requires { Inv (graph_of b section.now start.now) st.old stack.old 0 }
-    ensures { result ≡ has_loop (graph_of b section.now start.now) }
+fn scan(b: &Table, start: &[u32], st: &mut [u32], stack: &mut [u32]) -> bool
+    requires { Inv (graph_of b.now.head b.now.section.now start.now) st.old stack.old 0 }
+    ensures { result ≡ has_loop (graph_of b.now.head b.now.section.now start.now) }
 {
-    for x in 0..count(b) {
-        if walk(b, section, start, st, stack, x) {
+    for x in 0..count(b.head) {
+        if walk(b, start, st, stack, x) {
             return true;
         }
     }
     false
 }
 
-pub fn has_loop(b: TypeTable, section: &[u8], start: &[u32]) -> bool
-    ensures { result ≡ has_loop (graph_of b section.now start.now) }
+pub fn has_loop(b: &Table, start: &[u32]) -> bool
+    ensures { result ≡ has_loop (graph_of b.now.head b.now.section.now start.now) }
 {
     let mut st = [0u32; limit::TYPES_LEN];
     let mut stack = [0u32; limit::TYPES_LEN];
-    scan(b, section, start, &mut st, &mut stack)
+    scan(b, start, &mut st, &mut stack)
 }

@@ -6,6 +6,7 @@ ghost use Rattle.btf_open_causes.specs.prototypes.Cells.{Says, Fairs, Rest, Look
 
 use crate::references::{count, count_at, entry, followed, id_at, kind_at};
 use base_bytes::limit;
+use btf_type_table::table::Table;
 use spec_type_table::{Kind, TypeTable};
 
 // Whether a type leads to a prototype.
@@ -34,118 +35,110 @@ fn cell_of(b: TypeTable, start: &[u32], x: u32) -> Cell
     }
 }
 
-fn next(b: TypeTable, section: &[u8], start: &[u32], x: u32) -> u32
-    ensures { result ≡ next_of b section.now start.now x }
+fn next(b: &Table, start: &[u32], x: u32) -> u32
+    ensures { result ≡ next_of b.now.head b.now.section.now start.now x }
 {
-    followed(b, section, start, x, 0)
+    followed(b, start, x, 0)
 }
 
 // How many of the ids that the record of a kind at a place follows are members or elements.
-fn asks(b: TypeTable, section: &[u8], kind: u32, at: u32) -> u32
-    ensures { result ≡ asks_at b section.now kind at }
+fn asks(b: &Table, kind: u32, at: u32) -> u32
+    ensures { result ≡ asks_at b.now.head b.now.section.now kind at }
 {
     match Kind::numbered(kind) {
-        Kind::Array | Kind::Struct | Kind::Union => count_at(b, section, kind, at),
+        Kind::Array | Kind::Struct | Kind::Union => count_at(b, kind, at),
         _ => 0,
     }
 }
 
 // What is known of z; where it is Unknown, the walk goes on.
-fn look(b: TypeTable, section: &[u8], start: &[u32], cell: &[Cell], z: u32) -> Cell
-    requires { Fairs (track_of b section.now start.now) cell.now }
-    ensures { Looked (track_of b section.now start.now) cell.now z result }
+fn look(b: &Table, start: &[u32], cell: &[Cell], z: u32) -> Cell
+    requires { Fairs (track_of b.now.head b.now.section.now start.now) cell.now }
+    ensures { Looked (track_of b.now.head b.now.section.now start.now) cell.now z result }
 {
     match cell.get(z as usize) {
-        Some(Cell::Unknown) => cell_of(b, start, z),
+        Some(Cell::Unknown) => cell_of(b.head, start, z),
         Some(known) => *known,
         None => Cell::No,
     }
 }
 
 // Gives the m types of the walk from y the answer.
-fn settle(
-    b: TypeTable,
-    section: &[u8],
-    start: &[u32],
-    cell: &mut [Cell],
-    y: u32,
-    m: u32,
-    answer: Cell,
-)
-    requires { Settle (track_of b section.now start.now) y m answer cell.old y 0 }
-    ensures { Rest (track_of b section.now start.now) cell.new }
+fn settle(b: &Table, start: &[u32], cell: &mut [Cell], y: u32, m: u32, answer: Cell)
+    requires { Settle (track_of b.now.head b.now.section.now start.now) y m answer cell.old y 0 }
+    ensures { Rest (track_of b.now.head b.now.section.now start.now) cell.new }
 {
     let mut z = y;
     for _ in 0..m {
         cell[z as usize] = answer;
-        z = next(b, section, start, z);
+        z = next(b, start, z);
     }
 }
 
 // Does y, of which that is not known, lead to a prototype?
-fn walk(b: TypeTable, section: &[u8], start: &[u32], cell: &mut [Cell], y: u32) -> bool
-    requires { Rest (track_of b section.now start.now) cell.old }
-    ensures { Answer (track_of b section.now start.now) y cell.new result }
+fn walk(b: &Table, start: &[u32], cell: &mut [Cell], y: u32) -> bool
+    requires { Rest (track_of b.now.head b.now.section.now start.now) cell.old }
+    ensures { Answer (track_of b.now.head b.now.section.now start.now) y cell.new result }
 {
     let mut z = y;
     let mut m: u32 = 0;
-    let mut seen = look(b, section, start, cell, z);
+    let mut seen = look(b, start, cell, z);
     while let Cell::Unknown = seen {
         cell[z as usize] = Cell::Passed;
-        z = next(b, section, start, z);
+        z = next(b, start, z);
         m += 1;
-        seen = look(b, section, start, cell, z);
+        seen = look(b, start, cell, z);
     }
     if let Cell::Yes = seen {
-        settle(b, section, start, cell, y, m, Cell::Yes);
+        settle(b, start, cell, y, m, Cell::Yes);
         return true;
     }
-    settle(b, section, start, cell, y, m, Cell::No);
+    settle(b, start, cell, y, m, Cell::No);
     false
 }
 
 // Does y lead to a prototype? For most types that is known at once.
-fn ask(b: TypeTable, section: &[u8], start: &[u32], cell: &mut [Cell], y: u32) -> bool
-    requires { Rest (track_of b section.now start.now) cell.old }
-    ensures { Answer (track_of b section.now start.now) y cell.new result }
+fn ask(b: &Table, start: &[u32], cell: &mut [Cell], y: u32) -> bool
+    requires { Rest (track_of b.now.head b.now.section.now start.now) cell.old }
+    ensures { Answer (track_of b.now.head b.now.section.now start.now) y cell.new result }
 {
-    match look(b, section, start, cell, y) {
-        Cell::Unknown => walk(b, section, start, cell, y),
+    match look(b, start, cell, y) {
+        Cell::Unknown => walk(b, start, cell, y),
         Cell::Yes => true,
         Cell::No | Cell::Passed => false,
     }
 }
 
-fn asks_of(b: TypeTable, section: &[u8], start: &[u32], cell: &mut [Cell], x: u32) -> bool
-    requires { Rest (track_of b section.now start.now) cell.old }
-    ensures { Part b section.now start.now x cell.new result }
+fn asks_of(b: &Table, start: &[u32], cell: &mut [Cell], x: u32) -> bool
+    requires { Rest (track_of b.now.head b.now.section.now start.now) cell.old }
+    ensures { Part b.now.head b.now.section.now start.now x cell.new result }
 {
-    let e = entry(b, start, x);
+    let e = entry(b.head, start, x);
     let kind = e % 32;
     let at = e / 32;
-    for k in 0..asks(b, section, kind, at) {
-        if ask(b, section, start, cell, id_at(b, section, kind, at, k)) {
+    for k in 0..asks(b, kind, at) {
+        if ask(b, start, cell, id_at(b, kind, at, k)) {
             return true;
         }
     }
     false
 }
 
-fn all(b: TypeTable, section: &[u8], start: &[u32], cell: &mut [Cell]) -> bool
-    requires { Rest (track_of b section.now start.now) cell.old }
-    ensures { result ≡ any_leads b section.now start.now }
+fn all(b: &Table, start: &[u32], cell: &mut [Cell]) -> bool
+    requires { Rest (track_of b.now.head b.now.section.now start.now) cell.old }
+    ensures { result ≡ any_leads b.now.head b.now.section.now start.now }
 {
-    for x in 0..count(b) {
-        if asks_of(b, section, start, cell, x) {
+    for x in 0..count(b.head) {
+        if asks_of(b, start, cell, x) {
             return true;
         }
     }
     false
 }
 
-pub fn leads_to_proto(b: TypeTable, section: &[u8], start: &[u32]) -> bool
-    ensures { result ≡ any_leads b section.now start.now }
+pub fn leads_to_proto(b: &Table, start: &[u32]) -> bool
+    ensures { result ≡ any_leads b.now.head b.now.section.now start.now }
 {
     let mut cell = [Cell::Unknown; limit::TYPES_LEN];
-    all(b, section, start, &mut cell)
+    all(b, start, &mut cell)
 }

@@ -8,8 +8,8 @@ ghost use Rattle.btf_open_causes.specs.records.Pass.{entry_width, named_by, enum
 use crate::header::btf_header;
 use base_bytes::limit;
 use btf_type_table::kind::{extra_of, kind_of, vlen_of};
-use btf_type_table::section_word::word;
-use spec_type_table::{Kind, TypeTable};
+use btf_type_table::table::Table;
+use spec_type_table::Kind;
 
 // How many types, void counted, and enumerators a pass over sound records found.
 #[derive(Clone, Copy)]
@@ -19,12 +19,12 @@ pub struct Counts {
 }
 
 // Whether the name offsets of the n entries of the record at a place, each `width` bytes long, lie inside the string area.
-fn are_names_inside(b: TypeTable, section: &[u8], at: u32, n: u32, width: u32, str_len: u32) -> bool
-    ensures { result ≡ all_named_p str_len width (section_word b section.now) (at + 12) n }
+fn are_names_inside(b: &Table, at: u32, n: u32, width: u32, str_len: u32) -> bool
+    ensures { result ≡ all_named_p str_len width (section_word b.now.head b.now.section.now) (at + 12) n }
 {
     let mut q = (at as usize) + 12;
     for _ in 0..n {
-        if str_len <= word(b, section, q) {
+        if str_len <= b.word(q) {
             return false;
         }
         q += width as usize;
@@ -44,30 +44,23 @@ fn named_entry(info: u32) -> u32
 }
 
 // Whether the names of the record at a place lie inside the string area.
-fn are_record_names_inside(b: TypeTable, section: &[u8], at: u32, info: u32, str_len: u32) -> bool
-    ensures { result ≡ named_by str_len (section_word b section.now) info at }
+fn are_record_names_inside(b: &Table, at: u32, info: u32, str_len: u32) -> bool
+    ensures { result ≡ named_by str_len (section_word b.now.head b.now.section.now) info at }
 {
-    if str_len <= word(b, section, at as usize) {
+    if str_len <= b.word(at as usize) {
         return false;
     }
     let width = named_entry(info);
     if width == 0 {
         return true;
     }
-    are_names_inside(b, section, at, vlen_of(info), width, str_len)
+    are_names_inside(b, at, vlen_of(info), width, str_len)
 }
 
 // The place after the record at a place, whose info word is known; none where it is malformed or reaches past the end of the area.
-fn next_record(
-    b: TypeTable,
-    section: &[u8],
-    at: u32,
-    info: u32,
-    end: u32,
-    str_len: u32,
-) -> Option<u32>
-    requires { info ≡ section_word b section.now (at + 4) }
-    ensures { result ≡ next_p (section_word b section.now) str_len end at }
+fn next_record(b: &Table, at: u32, info: u32, end: u32, str_len: u32) -> Option<u32>
+    requires { info ≡ section_word b.now.head b.now.section.now (at + 4) }
+    ensures { result ≡ next_p (section_word b.now.head b.now.section.now) str_len end at }
 {
     let left = end.checked_sub(at)?.checked_sub(12)?;
     // Bits 16 to 23, 29 and 30 are unused.
@@ -75,7 +68,7 @@ fn next_record(
         return None;
     }
     let n = extra_of(info)?;
-    if left < n || !are_record_names_inside(b, section, at, info, str_len) {
+    if left < n || !are_record_names_inside(b, at, info, str_len) {
         return None;
     }
     Some(at + 12 + n)
@@ -102,17 +95,10 @@ fn put_start(start: &mut [u32], x: u32, at: u32, kind: u32)
 }
 
 // The type area from a place to its end. (A `while`: the record says where the next one stands.)
-fn scan_area(
-    b: TypeTable,
-    section: &[u8],
-    from: u32,
-    end: u32,
-    str_len: u32,
-    start: &mut [u32],
-) -> Option<Counts>
+fn scan_area(b: &Table, from: u32, end: u32, str_len: u32, start: &mut [u32]) -> Option<Counts>
     requires { (from ≤ end) × (end ≤ 16777216) }
     ensures { scan_out result start.new
-        ≡ scan_p (section_word b section.now) str_len from end start.old }
+        ≡ scan_p (section_word b.now.head b.now.section.now) str_len from end start.old }
 {
     let mut at = from;
     let mut x: u32 = 1;
@@ -121,9 +107,9 @@ fn scan_area(
         if limit::MOST_RECORDS < x {
             return None;
         }
-        let info = word(b, section, (at as usize) + 4);
+        let info = b.word((at as usize) + 4);
         put_start(start, x, at, kind_of(info));
-        let next = next_record(b, section, at, info, end, str_len)?;
+        let next = next_record(b, at, info, end, str_len)?;
         enumerators += enumerators_of(info);
         at = next;
         x += 1;
@@ -135,14 +121,14 @@ fn scan_area(
 }
 
 // The records of a section whose areas lie inside it; none where one is not sound.
-pub fn scan(b: TypeTable, section: &[u8], start: &mut [u32]) -> Option<Counts>
-    ensures { scan_out result start.new ≡ scan_section b section.now start.old }
+pub fn scan(b: &Table, start: &mut [u32]) -> Option<Counts>
+    ensures { scan_out result start.new ≡ scan_section b.now.head b.now.section.now start.old }
 {
-    let h = btf_header(section);
+    let h = btf_header(b.section);
     let from = (h.hdr_len as u64) + (h.type_off as u64);
     let end = from + (h.type_len as u64);
     if limit::MOST_BYTES_64 < end {
         return None;
     }
-    scan_area(b, section, from as u32, end as u32, h.str_len, start)
+    scan_area(b, from as u32, end as u32, h.str_len, start)
 }

@@ -9,59 +9,59 @@ ghost use Rattle.btf_open_names.specs.name_classes.Table.{HoldersReady, HolderFi
 use crate::holders::{clear_pair, clear_words, count_holders};
 use crate::keys::{Key, load_key};
 use btf_type_table::cell;
-use spec_type_table::TypeTable;
+use btf_type_table::table::Table;
 
 // The class of h, which has a space, by the table of the holders before it. A link is one more than a holder, and 0 ends the list.
-fn find(b: TypeTable, section: &[u8], work: &[u8], h: u32, bucket: u32, key: Key) -> u32
-    requires { HolderFinds b section.now work.now h bucket
-        × (key_list section.now key ≡ key_in b section.now work.now h) }
-    ensures { result ≡ class_of (key_in b section.now work.now) h }
+fn find(b: &Table, work: &[u8], h: u32, bucket: u32, key: Key) -> u32
+    requires { HolderFinds b.now.head b.now.section.now work.now h bucket
+        × (key_list b.now.section.now key ≡ key_in b.now.head b.now.section.now work.now h) }
+    ensures { result ≡ class_of (key_in b.now.head b.now.section.now work.now) h }
 {
-    let mut l = cell::CLASS_BUCKET.get(work, b.types, bucket);
+    let mut l = cell::CLASS_BUCKET.get(work, b.head.types, bucket);
     while l != 0 {
         let c = l - 1;
-        if key.is_same(section, load_key(b, section, work, c)) {
+        if key.is_same(b.section, load_key(b, work, c)) {
             return c;
         }
-        l = cell::CLASS_LINK.get(work, b.types, c);
+        l = cell::CLASS_LINK.get(work, b.head.types, c);
     }
     h
 }
 
 // Finds the class of k, and puts k into the table if it is the first of its class. Without a space its class is void's, 0.
-fn put_holder(b: TypeTable, section: &[u8], work: &mut [u8], n: u32, k: u32)
-    requires { HoldersReady b section.now work.old n k }
-    ensures { work.new ≡ holder_placed b section.now work.old n k }
+fn put_holder(b: &Table, work: &mut [u8], n: u32, k: u32)
+    requires { HoldersReady b.now.head b.now.section.now work.old n k }
+    ensures { work.new ≡ holder_placed b.now.head b.now.section.now work.old n k }
 {
-    let Some(key) = load_key(b, section, work, k) else {
-        cell::CLASS_LINK.put(work, b.types, k, 0);
-        cell::NAME_CLASS.put(work, b.types, k, 0);
+    let Some(key) = load_key(b, work, k) else {
+        cell::CLASS_LINK.put(work, b.head.types, k, 0);
+        cell::NAME_CLASS.put(work, b.head.types, k, 0);
         return;
     };
-    let i = key.hash(section) % n;
-    let r = find(b, section, work, k, i, key);
+    let i = key.hash(b.section) % n;
+    let r = find(b, work, k, i, key);
     if r == k {
-        let next = cell::CLASS_BUCKET.get(work, b.types, i);
-        cell::CLASS_LINK.put(work, b.types, k, next);
-        cell::CLASS_BUCKET.put(work, b.types, i, k + 1);
+        let next = cell::CLASS_BUCKET.get(work, b.head.types, i);
+        cell::CLASS_LINK.put(work, b.head.types, k, next);
+        cell::CLASS_BUCKET.put(work, b.head.types, i, k + 1);
     } else {
-        cell::CLASS_LINK.put(work, b.types, k, 0);
+        cell::CLASS_LINK.put(work, b.head.types, k, 0);
     }
-    cell::NAME_CLASS.put(work, b.types, k, r);
+    cell::NAME_CLASS.put(work, b.head.types, k, r);
 }
 
 // Sets the class of each type and each enumerator. Work that is too short stays as it is, and so it does where the holders
 // are too many to be numbered.
-pub fn classes(b: TypeTable, section: &[u8], enumerators: u32, work: &mut [u8])
-    ensures { work.new ≡ table_classed b enumerators section.now work.old }
+pub fn classes(b: &Table, enumerators: u32, work: &mut [u8])
+    ensures { work.new ≡ table_classed b.now.head enumerators b.now.section.now work.old }
 {
-    let types = b.types;
+    let types = b.head.types;
     let Some(n) = count_holders(work, types, enumerators) else {
         return;
     };
     clear_words(work, types, n, cell::CLASS_BUCKET);
     for k in 0..n {
-        put_holder(b, section, work, n, k);
+        put_holder(b, work, n, k);
     }
     clear_pair(work, types, n, cell::CLASS_BUCKET, cell::CLASS_LINK);
 }

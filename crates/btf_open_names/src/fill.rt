@@ -10,7 +10,7 @@ use base_bytes::word::put_word;
 use btf_type_table::cell;
 use btf_type_table::cell::{get_field, put_field};
 use btf_type_table::kind::{member_place, param_place, vlen_of};
-use btf_type_table::section_word::word;
+use btf_type_table::table::Table;
 use spec_type_table::{Entries, Kind, TypeTable};
 
 // An entry of the index of records is the place of one, times this, and its kind: the index has a word for each record.
@@ -66,11 +66,11 @@ fn fill_values(b: TypeTable, kind: u32, e: Entries, first: u64, work: &mut [u8])
 }
 
 // How many values the type with an entry of the index has.
-fn values_at(b: TypeTable, section: &[u8], entry: u32) -> u32
-    ensures { result ≡ values_at b section.now entry }
+fn values_at(b: &Table, entry: u32) -> u32
+    ensures { result ≡ values_at b.now.head b.now.section.now entry }
 {
     match Kind::numbered(entry % KINDS) {
-        Kind::Enum | Kind::Enum64 => vlen_of(word(b, section, ((entry / KINDS) as usize) + 4)),
+        Kind::Enum | Kind::Enum64 => vlen_of(b.word(((entry / KINDS) as usize) + 4)),
         _ => 0,
     }
 }
@@ -99,27 +99,27 @@ fn fill_enum(b: TypeTable, entry: u32, n: u32, x: u32, first: u64, work: &mut [u
 }
 
 // All enums.
-fn fill_enums(b: TypeTable, section: &[u8], start: &[u32], work: &mut [u8])
-    ensures { work.new ≡ enums_put b section.now start.now work.old (b.types - 1) }
+fn fill_enums(b: &Table, start: &[u32], work: &mut [u8])
+    ensures { work.new ≡ enums_put b.now.head b.now.section.now start.now work.old (b.now.head.types - 1) }
 {
     let mut first: u64 = 0;
-    for x in 1..b.types {
+    for x in 1..b.head.types {
         let entry = entry_of(start, x);
-        let n = values_at(b, section, entry);
-        fill_enum(b, entry, n, x, first, work);
+        let n = values_at(b, entry);
+        fill_enum(b.head, entry, n, x, first, work);
         first += n as u64;
     }
 }
 
 // The tag x, if it is one and on a type of the table, goes in front of the tags of that type.
-fn fill_tag(b: TypeTable, section: &[u8], entry: u32, x: u32, work: &mut [u8])
-    ensures { work.new ≡ tag_put b section.now entry x work.old }
+fn fill_tag(b: &Table, entry: u32, x: u32, work: &mut [u8])
+    ensures { work.new ≡ tag_put b.now.head b.now.section.now entry x work.old }
 {
     if Kind::numbered(entry % KINDS) != Kind::DeclTag {
         return;
     }
-    let on = word(b, section, ((entry / KINDS) as usize) + 8);
-    if b.types <= on {
+    let on = b.word(((entry / KINDS) as usize) + 8);
+    if b.head.types <= on {
         return;
     }
     let next = get_field(work, on, cell::FIRST_TAG);
@@ -128,20 +128,20 @@ fn fill_tag(b: TypeTable, section: &[u8], entry: u32, x: u32, work: &mut [u8])
 }
 
 // From the last to the first, so that the tags of a type stand in rising order.
-fn fill_tags(b: TypeTable, section: &[u8], start: &[u32], work: &mut [u8])
-    ensures { work.new ≡ tags_put b section.now start.now (b.types - 1) work.old }
+fn fill_tags(b: &Table, start: &[u32], work: &mut [u8])
+    ensures { work.new ≡ tags_put b.now.head b.now.section.now start.now (b.now.head.types - 1) work.old }
 {
-    for x in (1..b.types).rev() {
-        fill_tag(b, section, entry_of(start, x), x, work);
+    for x in (1..b.head.types).rev() {
+        fill_tag(b, entry_of(start, x), x, work);
     }
 }
 
 // The work is zero before.
-pub fn fill(b: TypeTable, section: &[u8], enumerators: u32, start: &[u32], work: &mut [u8])
-    ensures { work.new ≡ filled b section.now start.now enumerators work.old }
+pub fn fill(b: &Table, enumerators: u32, start: &[u32], work: &mut [u8])
+    ensures { work.new ≡ filled b.now.head b.now.section.now start.now enumerators work.old }
 {
-    fill_places(b, start, work);
-    fill_enums(b, section, start, work);
-    fill_tags(b, section, start, work);
-    classes(b, section, enumerators, work);
+    fill_places(b.head, start, work);
+    fill_enums(b, start, work);
+    fill_tags(b, start, work);
+    classes(b, enumerators, work);
 }

@@ -7,20 +7,20 @@ ghost use Rattle.btf_open_names.specs.hash_table.Hashed.{put_first, has_room, ta
 use crate::holders::{all_zero, count_holders};
 use crate::keys::load_key;
 use btf_type_table::cell;
-use spec_type_table::TypeTable;
+use btf_type_table::table::Table;
 
 // Puts holder c in front of its bucket, if it has a space.
-fn put_first(b: TypeTable, section: &[u8], work: &mut [u8], n: u32, c: u32)
+fn put_first(b: &Table, work: &mut [u8], n: u32, c: u32)
     requires { c < n }
-    ensures { work.new ≡ put_first b section.now n c work.old }
+    ensures { work.new ≡ put_first b.now.head b.now.section.now n c work.old }
 {
-    let Some(key) = load_key(b, section, work, c) else {
+    let Some(key) = load_key(b, work, c) else {
         return;
     };
-    let i = key.hash(section) % n;
-    let next = cell::TABLE_BUCKET.get(work, b.types, i);
-    cell::TABLE_LINK.put(work, b.types, c, next);
-    cell::TABLE_BUCKET.put(work, b.types, i, c);
+    let i = key.hash(b.section) % n;
+    let next = cell::TABLE_BUCKET.get(work, b.head.types, i);
+    cell::TABLE_LINK.put(work, b.head.types, c, next);
+    cell::TABLE_BUCKET.put(work, b.head.types, i, c);
 }
 
 // Whether the work is long enough for all holders, and both words of each are 0.
@@ -35,16 +35,16 @@ fn has_room(work: &[u8], types: u32, enumerators: u32) -> bool
 
 // Makes the table, from the last holder to the first, so that those of a bucket stand in rising order. Without room for it the work stays
 // as it is; the answer says which.
-pub fn make_table(b: TypeTable, section: &[u8], enumerators: u32, work: &mut [u8]) -> bool
-    ensures { (result ≡ has_room b.types enumerators work.old)
-        × (work.new ≡ table_in b enumerators section.now work.old) }
+pub fn make_table(b: &Table, enumerators: u32, work: &mut [u8]) -> bool
+    ensures { (result ≡ has_room b.now.head.types enumerators work.old)
+        × (work.new ≡ table_in b.now.head enumerators b.now.section.now work.old) }
 {
-    if !has_room(work, b.types, enumerators) {
+    if !has_room(work, b.head.types, enumerators) {
         return false;
     }
-    let n = b.types + enumerators;
+    let n = b.head.types + enumerators;
     for k in (1..n).rev() {
-        put_first(b, section, work, n, k);
+        put_first(b, work, n, k);
     }
     true
 }

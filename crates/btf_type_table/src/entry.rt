@@ -3,43 +3,45 @@ ghost use Rattle.std.specs.Prelude.{◌≡◌, ◌+◌, ◌*◌};
 ghost use Rattle.spec_type_table.specs.Records.{section_word, member_at, param_at, member_of};
 
 use crate::kind::{entries_of, kind_flag_of, member_place, param_place};
-use crate::section_word::{three, word};
+use crate::table::Table;
 use base_bytes::limit;
-use spec_type_table::{BtfMember, BtfType, Entries, TypeTable};
+use spec_type_table::{BtfMember, BtfType, Entries};
 
-// btf_member: with kind_flag the last word is 24 bits of offset and 8 bits of size.
-pub fn load_member(b: TypeTable, section: &[u8], t: BtfType, k: u32) -> BtfMember
-    ensures { result ≡ member_of b section.now t k }
-{
-    let w = three(b, section, member_place(entries_of(t), k));
-    if kind_flag_of(t.info) {
-        return BtfMember {
+impl Table<'_> {
+    // btf_member: with kind_flag the last word is 24 bits of offset and 8 bits of size.
+    pub fn load_member(&self, t: BtfType, k: u32) -> BtfMember
+        ensures { result ≡ member_of self.now.head self.now.section.now t k }
+    {
+        let w = self.three(member_place(entries_of(t), k));
+        if kind_flag_of(t.info) {
+            return BtfMember {
+                name_off: w.first,
+                type_id: w.second,
+                bit_offset: w.third % 16777216,
+                bit_size: w.third / 16777216,
+            };
+        }
+        BtfMember {
             name_off: w.first,
             type_id: w.second,
-            bit_offset: w.third % 16777216,
-            bit_size: w.third / 16777216,
-        };
+            bit_offset: w.third,
+            bit_size: 0,
+        }
     }
-    BtfMember {
-        name_off: w.first,
-        type_id: w.second,
-        bit_offset: w.third,
-        bit_size: 0,
+
+    // btf_enum.val of value k, its bits.
+    pub fn load_enum_value(&self, e: Entries, k: u32) -> u32
+        ensures { result ≡ section_word self.now.head self.now.section.now (param_at e.at k + 4) }
+    {
+        self.word(param_place(e, k) + 4)
     }
-}
 
-// btf_enum.val of value k, its bits.
-pub fn load_enum_value(b: TypeTable, section: &[u8], e: Entries, k: u32) -> u32
-    ensures { result ≡ section_word b section.now (param_at e.at k + 4) }
-{
-    word(b, section, param_place(e, k) + 4)
-}
-
-// btf_enum64: the low half, then the high half, of value k.
-pub fn load_enum64_value(b: TypeTable, section: &[u8], e: Entries, k: u32) -> u64
-    ensures { result ≡ section_word b section.now (member_at e.at k + 8) * 4294967296
-        + section_word b section.now (member_at e.at k + 4) }
-{
-    let w = three(b, section, member_place(e, k));
-    (w.third as u64) * limit::TWO_TO_32 + (w.second as u64)
+    // btf_enum64: the low half, then the high half, of value k.
+    pub fn load_enum64_value(&self, e: Entries, k: u32) -> u64
+        ensures { result ≡ section_word self.now.head self.now.section.now (member_at e.at k + 8) * 4294967296
+            + section_word self.now.head self.now.section.now (member_at e.at k + 4) }
+    {
+        let w = self.three(member_place(e, k));
+        (w.third as u64) * limit::TWO_TO_32 + (w.second as u64)
+    }
 }

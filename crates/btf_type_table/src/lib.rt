@@ -8,3 +8,4 @@ pub mod kind;
 pub mod name;
 pub mod node;
 pub mod section_word;
+pub mod table;

@@ -7,86 +7,89 @@ ghost use Rattle.spec_c_dumper.specs.rules.Names.{starts_with, builtin};
 ghost use Rattle.spec_type_table.specs.Names.{name_at, name_place, str_at};
 ghost use Rattle.spec_type_table.specs.Table.{type_of};
 
+use crate::table::Table;
 use base_bytes::refusal;
-use spec_type_table::{BtfType, Kind, TypeTable};
+use spec_type_table::{BtfType, Kind};
 
 // The compiler's own type.
 const BUILTIN: &[u8] = b"__builtin_va_list";
 
-// The section from the name at an offset of the string area on.
-fn from_name(b: TypeTable, section: &[u8], off: u32) -> &[u8]
-    ensures { result.now ≡ drop (name_place b off) section.now }
-{
-    let at = (b.strs as usize) + (off as usize);
-    section.get(at..).unwrap_or(&[])
-}
-
-// The name at an offset.
-pub fn get_btf_str(b: TypeTable, section: &[u8], off: u32) -> &[u8]
-    ensures { result.now ≡ str_at b section.now off }
-{
-    let rest = from_name(b, section, off);
-    let len = rest.iter().position(|c| *c == 0).unwrap_or(rest.len());
-    &rest[..len]
-}
-
-// Writes the name at an offset, in one pass.
-pub fn put_str(b: TypeTable, section: &[u8], text: &mut [u8], at: usize, off: u32) -> usize
-    ensures { put_out result text.new ≡ put_text text.old at (whole (str_at b section.now off)) }
-{
-    if text.len() < at {
-        return at;
+impl<'a> Table<'a> {
+    // The section from the name at an offset of the string area on.
+    fn from_name(&self, off: u32) -> &'a [u8]
+        ensures { result.now ≡ drop (name_place self.now.head off) self.now.section.now }
+    {
+        let at = (self.head.strs as usize) + (off as usize);
+        self.section.get(at..).unwrap_or(&[])
     }
-    let mut p = at;
-    for &c in from_name(b, section, off) {
-        let is_end = c == 0;
-        if is_end {
-            return p;
-        }
-        if text.len() <= p {
-            return text.len() + refusal::FULL_PLACE;
-        }
-        text[p] = c;
-        p += 1;
+
+    // The name at an offset.
+    pub fn get_btf_str(&self, off: u32) -> &'a [u8]
+        ensures { result.now ≡ str_at self.now.head self.now.section.now off }
+    {
+        let rest = self.from_name(off);
+        let len = rest.iter().position(|c| *c == 0).unwrap_or(rest.len());
+        &rest[..len]
     }
-    p
-}
 
-#[tactic(auto, using(spec_type_table::proofs::NameLaws::empty_first, std::proofs::lemmas::Bool::Decides::nat_tests))]
-pub fn is_empty(b: TypeTable, section: &[u8], off: u32) -> bool
-    ensures { result ≡ is_empty (str_at b section.now off) }
-{
-    matches!(from_name(b, section, off), [] | [0, ..])
-}
+    // Writes the name at an offset, in one pass.
+    pub fn put_str(&self, text: &mut [u8], at: usize, off: u32) -> usize
+        ensures { put_out result text.new ≡ put_text text.old at (whole (str_at self.now.head self.now.section.now off)) }
+    {
+        if text.len() < at {
+            return at;
+        }
+        let mut p = at;
+        for &c in self.from_name(off) {
+            let is_end = c == 0;
+            if is_end {
+                return p;
+            }
+            if text.len() <= p {
+                return text.len() + refusal::FULL_PLACE;
+            }
+            text[p] = c;
+            p += 1;
+        }
+        p
+    }
 
-// NAMES_BLACKLIST: whether the name contains the name of the compiler's own type.
-pub fn is_builtin(b: TypeTable, section: &[u8], off: u32) -> bool
-    ensures { result ≡ builtin (str_at b section.now off) }
-{
-    get_btf_str(b, section, off)
-        .windows(BUILTIN.len())
-        .any(|part| part == BUILTIN)
-}
+    #[tactic(auto, using(spec_type_table::proofs::NameLaws::empty_first, std::proofs::lemmas::Bool::Decides::nat_tests))]
+    pub fn is_empty(&self, off: u32) -> bool
+        ensures { result ≡ is_empty (str_at self.now.head self.now.section.now off) }
+    {
+        matches!(self.from_name(off), [] | [0, ..])
+    }
 
-// Whether BtfType::name() is not empty: some kinds have none.
-#[tactic(auto, using(spec_type_table::proofs::KindTypes::kind_types), unfolding(spec_c_dumper::specs::rules::Types::is_empty))]
-pub fn is_named(b: TypeTable, section: &[u8], t: BtfType) -> bool
-    ensures { result ≡ is_named (type_of b section.now t) }
-{
-    match Kind::of(t.info) {
-        Kind::Int
-        | Kind::Struct
-        | Kind::Union
-        | Kind::Enum
-        | Kind::Fwd
-        | Kind::Typedef
-        | Kind::Func
-        | Kind::Var
-        | Kind::Datasec
-        | Kind::Float
-        | Kind::DeclTag
-        | Kind::TypeTag
-        | Kind::Enum64 => !is_empty(b, section, t.name_off),
-        _ => false,
+    // NAMES_BLACKLIST: whether the name contains the name of the compiler's own type.
+    pub fn is_builtin(&self, off: u32) -> bool
+        ensures { result ≡ builtin (str_at self.now.head self.now.section.now off) }
+    {
+        self.get_btf_str(off)
+            .windows(BUILTIN.len())
+            .any(|part| part == BUILTIN)
+    }
+
+    // Whether BtfType::name() is not empty: some kinds have none.
+    #[tactic(auto, using(spec_type_table::proofs::KindTypes::kind_types), unfolding(spec_c_dumper::specs::rules::Types::is_empty))]
+    pub fn is_named(&self, t: BtfType) -> bool
+        ensures { result ≡ is_named (type_of self.now.head self.now.section.now t) }
+    {
+        match Kind::of(t.info) {
+            Kind::Int
+            | Kind::Struct
+            | Kind::Union
+            | Kind::Enum
+            | Kind::Fwd
+            | Kind::Typedef
+            | Kind::Func
+            | Kind::Var
+            | Kind::Datasec
+            | Kind::Float
+            | Kind::DeclTag
+            | Kind::TypeTag
+            | Kind::Enum64 => !self.is_empty(t.name_off),
+            _ => false,
+        }
     }
 }

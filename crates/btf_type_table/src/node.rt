@@ -8,8 +8,8 @@ ghost use Rattle.spec_type_table.specs.Nodes.{node_is};
 use crate::cell;
 use crate::cell::get_field;
 use crate::kind::entries_of;
-use crate::section_word::{array_type, load_type};
-use spec_type_table::{BtfType, Kind, Node, TypeTable};
+use crate::table::Table;
+use spec_type_table::{BtfType, Kind, Node};
 
 fn void() -> BtfType
     ensures { result ≡ void_record }
@@ -22,35 +22,37 @@ fn void() -> BtfType
     }
 }
 
-// The type of an id: void is 0, and so is what lies past the table.
-pub fn type_by_id(b: TypeTable, section: &[u8], work: &[u8], id: u32) -> BtfType
-    ensures { result ≡ record_by_id b section.now work.now id }
-{
-    if id == 0 {
-        return void();
+impl Table<'_> {
+    // The type of an id: void is 0, and so is what lies past the table.
+    pub fn type_by_id(&self, work: &[u8], id: u32) -> BtfType
+        ensures { result ≡ record_by_id self.now.head self.now.section.now work.now id }
+    {
+        if id == 0 {
+            return void();
+        }
+        if self.head.types <= id {
+            return void();
+        }
+        self.load_type(get_field(work, id, cell::PLACE))
     }
-    if b.types <= id {
-        return void();
-    }
-    load_type(b, section, get_field(work, id, cell::PLACE))
-}
 
-#[tactic(auto, using(spec_type_table::proofs::KindTypes::kind_types, spec_type_table::proofs::KindLaws::member_types_lem, spec_type_table::proofs::KindLaws::param_types_lem), unfolding(spec_type_table::specs::Nodes::node_is))]
-pub fn node_of(b: TypeTable, section: &[u8], t: BtfType) -> Node
-    ensures { node_is b section.now result ≡ node_of (type_of b section.now t) }
-{
-    match Kind::of(t.info) {
-        Kind::Ptr => Node::Ptr(t.type_id),
-        Kind::Array => Node::Through(true, array_type(b, section, t)),
-        Kind::Struct | Kind::Union => Node::Composite(entries_of(t)),
-        Kind::Enum | Kind::Enum64 => Node::Listed(false),
-        Kind::Fwd => Node::Listed(true),
-        Kind::Typedef => Node::Typedef(t.type_id),
-        Kind::Volatile | Kind::Const | Kind::Restrict | Kind::TypeTag => Node::Through(
-            false, t.type_id,
-        ),
-        Kind::Func | Kind::Var | Kind::Datasec | Kind::DeclTag => Node::Ignored,
-        Kind::FuncProto => Node::Proto(t.type_id, entries_of(t)),
-        Kind::Void | Kind::Int | Kind::Float | Kind::Unknown => Node::Plain,
+    #[tactic(auto, using(spec_type_table::proofs::KindTypes::kind_types, spec_type_table::proofs::KindLaws::member_types_lem, spec_type_table::proofs::KindLaws::param_types_lem), unfolding(spec_type_table::specs::Nodes::node_is))]
+    pub fn node_of(&self, t: BtfType) -> Node
+        ensures { node_is self.now.head self.now.section.now result ≡ node_of (type_of self.now.head self.now.section.now t) }
+    {
+        match Kind::of(t.info) {
+            Kind::Ptr => Node::Ptr(t.type_id),
+            Kind::Array => Node::Through(true, self.array_type(t)),
+            Kind::Struct | Kind::Union => Node::Composite(entries_of(t)),
+            Kind::Enum | Kind::Enum64 => Node::Listed(false),
+            Kind::Fwd => Node::Listed(true),
+            Kind::Typedef => Node::Typedef(t.type_id),
+            Kind::Volatile | Kind::Const | Kind::Restrict | Kind::TypeTag => Node::Through(
+                false, t.type_id,
+            ),
+            Kind::Func | Kind::Var | Kind::Datasec | Kind::DeclTag => Node::Ignored,
+            Kind::FuncProto => Node::Proto(t.type_id, entries_of(t)),
+            Kind::Void | Kind::Int | Kind::Float | Kind::Unknown => Node::Plain,
+        }
     }
 }

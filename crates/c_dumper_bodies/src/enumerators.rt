@@ -11,13 +11,12 @@ ghost use Rattle.c_dumper_bodies.specs.enumerators.Heads.{enum_head, value_head,
 
 use base_bytes::put::{put_byte, put_tabs, put_three};
 use base_keywords::table::{Word, put_word};
+use btf_type_table::table::Table;
 use c_dumper_name_versions::names::{put_name, put_sep_name, resolve_name, resolve_type_name};
-use spec_type_table::TypeTable;
 
 // A new line, the enumerator's name and an equals sign.
 pub fn emit_enumerator(
-    b: TypeTable,
-    section: &[u8],
+    b: &Table,
     work: &mut [u8],
     text: &mut [u8],
     at: usize,
@@ -27,20 +26,19 @@ pub fn emit_enumerator(
 ) -> usize
     ensures { (put_out result text.new
         ≡ put_text text.old at (whole
-        (value_head lvl (spelled (str_at b section.now name_off) (value_version_in b.types e work.old).version))))
-        × (work.new ≡ (value_version_in b.types e work.old).names) }
+        (value_head lvl (spelled (str_at b.now.head b.now.section.now name_off) (value_version_in b.now.head.types e work.old).version))))
+        × (work.new ≡ (value_version_in b.now.head.types e work.old).names) }
 {
-    let name = resolve_name(b, work, e, name_off);
+    let name = resolve_name(b.head, work, e, name_off);
     let a = put_byte(text, at, b'\n');
     let c = put_tabs(text, a, lvl);
-    let d = put_name(b, section, text, c, name);
+    let d = put_name(b, text, c, name);
     put_three(text, d, b' ', b'=', b' ')
 }
 
 // `enum` and the name.
 pub fn emit_enum_head(
-    b: TypeTable,
-    section: &[u8],
+    b: &Table,
     work: &mut [u8],
     text: &mut [u8],
     at: usize,
@@ -48,11 +46,11 @@ pub fn emit_enum_head(
     name_off: u32,
 ) -> usize
     ensures { out_of result text.new work.new
-        ≡ put_said text.old at (enum_head (work_naming b) id (str_at b section.now name_off) work.old) }
+        ≡ put_said text.old at (enum_head (work_naming b.now.head) id (str_at b.now.head b.now.section.now name_off) work.old) }
 {
-    let name = resolve_type_name(b, section, work, id, name_off);
+    let name = resolve_type_name(b, work, id, name_off);
     let a = put_word(text, at, Word::Enum);
-    put_sep_name(b, section, text, a, name)
+    put_sep_name(b, text, a, name)
 }
 
 // The line end and the bracket that close the values.
@@ -73,8 +71,7 @@ pub fn deeper(lvl: u32) -> u32
 
 // The mention of a named enum.
 pub fn put_enum_name(
-    b: TypeTable,
-    section: &[u8],
+    b: &Table,
     work: &mut [u8],
     text: &mut [u8],
     at: usize,
@@ -82,11 +79,11 @@ pub fn put_enum_name(
     name_off: u32,
 ) -> usize
     ensures { out_of result text.new work.new
-        ≡ put_said text.old at (enum_word (work_naming b) (btf_of b section.now work.old) id
-        (str_at b section.now name_off) work.old) }
+        ≡ put_said text.old at (enum_word (work_naming b.now.head) (btf_of b.now.head b.now.section.now work.old) id
+        (str_at b.now.head b.now.section.now name_off) work.old) }
 {
-    let name = resolve_type_name(b, section, work, id, name_off);
+    let name = resolve_type_name(b, work, id, name_off);
     let a = put_word(text, at, Word::Enum);
     let c = put_byte(text, a, b' ');
-    put_name(b, section, text, c, name)
+    put_name(b, text, c, name)
 }

@@ -14,11 +14,9 @@ use base_keywords::signed_decimal::{as_i32, as_i64, put_i32, put_i64};
 use base_keywords::table::{Word, put_word};
 use btf_type_table::cell;
 use btf_type_table::cell::get_field;
-use btf_type_table::entry::{load_enum_value, load_enum64_value};
 use btf_type_table::kind::{entries_of, kind_flag_of, member_place};
-use btf_type_table::name::is_builtin;
-use btf_type_table::section_word::word;
-use spec_type_table::{BtfType, Entries, Kind, TypeTable};
+use btf_type_table::table::Table;
+use spec_type_table::{BtfType, Entries, Kind};
 
 // Whether values are of 64 bits.
 #[tactic(auto, using(spec_type_table::proofs::KindNames::kind_numbers, std::proofs::lemmas::Bool::Decides::nat_tests))]
@@ -58,8 +56,7 @@ fn put_value64(text: &mut [u8], at: usize, is_signed: bool, v: u64) -> usize
 
 // The text of value k, by its width.
 fn emit_value(
-    b: TypeTable,
-    section: &[u8],
+    b: &Table,
     text: &mut [u8],
     at: usize,
     wide: bool,
@@ -69,19 +66,18 @@ fn emit_value(
 ) -> usize
     ensures { put_out result text.new
         ≡ put_text text.old at (whole (value_text wide is_signed
-        (enumerator_at wide b section.now values.at k).value)) }
+        (enumerator_at wide b.now.head b.now.section.now values.at k).value)) }
 {
     if wide {
-        let v = load_enum64_value(b, section, values, k);
+        let v = b.load_enum64_value(values, k);
         return put_value64(text, at, is_signed, v);
     }
-    let v = load_enum_value(b, section, values, k);
+    let v = b.load_enum_value(values, k);
     put_value(text, at, is_signed, v)
 }
 
 fn emit_values(
-    b: TypeTable,
-    section: &[u8],
+    b: &Table,
     work: &mut [u8],
     text: &mut [u8],
     at: usize,
@@ -90,8 +86,8 @@ fn emit_values(
     lvl: u32,
 ) -> usize
     ensures { out_of result text.new work.new
-        ≡ put_said text.old at (emit_values (work_naming b) (btf_of b section.now work.old)
-        (value_text (is_wide t) (flag_of t.info)) id lvl 0 (enum_values b section.now t) work.old) }
+        ≡ put_said text.old at (emit_values (work_naming b.now.head) (btf_of b.now.head b.now.section.now work.old)
+        (value_text (is_wide t) (flag_of t.info)) id lvl 0 (enum_values b.now.head b.now.section.now t) work.old) }
 {
     let values = entries_of(t);
     let is_signed = kind_flag_of(t.info);
@@ -101,10 +97,10 @@ fn emit_values(
     let mut place = member_place(values, 0);
     let mut p = at;
     for k in 0..values.vlen {
-        let name_off = word(b, section, place);
+        let name_off = b.word(place);
         let e = first.saturating_add(k);
-        let a = emit_enumerator(b, section, work, text, p, e, name_off, lvl);
-        let c = emit_value(b, section, text, a, wide, is_signed, values, k);
+        let a = emit_enumerator(b, work, text, p, e, name_off, lvl);
+        let c = emit_value(b, text, a, wide, is_signed, values, k);
         p = put_byte(text, c, b',');
         place += size;
     }
@@ -112,8 +108,7 @@ fn emit_values(
 }
 
 pub fn emit_enum_def(
-    b: TypeTable,
-    section: &[u8],
+    b: &Table,
     work: &mut [u8],
     text: &mut [u8],
     at: usize,
@@ -122,19 +117,19 @@ pub fn emit_enum_def(
     lvl: u32,
 ) -> usize
     ensures { out_of result text.new work.new
-        ≡ put_said text.old at (emit_enum_def (work_naming b) (btf_of b section.now work.old)
-        (value_text (is_wide t) (flag_of t.info)) id (str_at b section.now t.name_off)
-        (enum_values b section.now t) lvl work.old) }
+        ≡ put_said text.old at (emit_enum_def (work_naming b.now.head) (btf_of b.now.head b.now.section.now work.old)
+        (value_text (is_wide t) (flag_of t.info)) id (str_at b.now.head b.now.section.now t.name_off)
+        (enum_values b.now.head b.now.section.now t) lvl work.old) }
 {
-    if is_builtin(b, section, t.name_off) {
+    if b.is_builtin(t.name_off) {
         return at;
     }
-    let a = emit_enum_head(b, section, work, text, at, id, t.name_off);
+    let a = emit_enum_head(b, work, text, at, id, t.name_off);
     let values = entries_of(t);
     if values.vlen == 0 {
         return a;
     }
     let c = put_two(text, a, b' ', b'{');
-    let d = emit_values(b, section, work, text, c, id, t, deeper(lvl));
+    let d = emit_values(b, work, text, c, id, t, deeper(lvl));
     emit_enum_end(text, d, lvl)
 }

@@ -7,7 +7,8 @@ ghost use Rattle.c_dumper_bodies.specs.chain.Chains.{qualifier_of, skipped, mods
 use crate::chain::{is_qualifier, kind_at};
 use base_bytes::put::put_byte;
 use base_keywords::table::{Word, put_word};
-use spec_type_table::{Kind, TypeTable};
+use btf_type_table::table::Table;
+use spec_type_table::Kind;
 
 pub fn put_qualifier(text: &mut [u8], at: usize, kind: Kind) -> usize
     ensures { put_out result text.new ≡ put_text text.old at (whole (qualifier (qualifier_of kind))) }
@@ -20,11 +21,11 @@ pub fn put_qualifier(text: &mut [u8], at: usize, kind: Kind) -> usize
 }
 
 // How many of n entries stay when the qualifiers on top are popped.
-pub fn skip_mods(b: TypeTable, section: &[u8], work: &[u8], start: u32, n: u32) -> u32
-    ensures { (result ≡ skipped b section.now work.now start n) × (result ≤ n) }
+pub fn skip_mods(b: &Table, work: &[u8], start: u32, n: u32) -> u32
+    ensures { (result ≡ skipped b.now.head b.now.section.now work.now start n) × (result ≤ n) }
 {
     for k in (0..n).rev() {
-        if !is_qualifier(kind_at(b, section, work, start, k)) {
+        if !is_qualifier(kind_at(b, work, start, k)) {
             return k + 1;
         }
     }
@@ -33,8 +34,7 @@ pub fn skip_mods(b: TypeTable, section: &[u8], work: &[u8], start: u32, n: u32) 
 
 // Prints the qualifiers on top of n entries, each with a space after it, down to the first m.
 pub fn emit_mods(
-    b: TypeTable,
-    section: &[u8],
+    b: &Table,
     work: &[u8],
     text: &mut [u8],
     at: usize,
@@ -43,11 +43,11 @@ pub fn emit_mods(
     m: u32,
 ) -> usize
     ensures { put_out result text.new
-        ≡ put_text text.old at (whole (mods_down b section.now work.now start m n)) }
+        ≡ put_text text.old at (whole (mods_down b.now.head b.now.section.now work.now start m n)) }
 {
     let mut p = at;
     for k in (m..n).rev() {
-        let a = put_qualifier(text, p, kind_at(b, section, work, start, k));
+        let a = put_qualifier(text, p, kind_at(b, work, start, k));
         p = put_byte(text, a, b' ');
     }
     p

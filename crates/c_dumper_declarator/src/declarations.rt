@@ -24,9 +24,7 @@ use base_bytes::put::{put_byte, put_two, stop, stopped};
 use base_bytes::refusal::Refusal;
 use base_keywords::table::{Word, put_word};
 use btf_type_table::kind::{entries_of, is_struct, kind_flag_of, param_place};
-use btf_type_table::name::{is_empty, put_str};
-use btf_type_table::node::type_by_id;
-use btf_type_table::section_word::{array_nelems, word};
+use btf_type_table::table::Table;
 use c_dumper_bodies::bodies::{
     emit_enum_word, is_any_more, put_comma, put_count, put_gap, put_star, put_type_tag,
     put_typedef_name, shown_params,
@@ -35,7 +33,7 @@ use c_dumper_bodies::chain::{Base, chain_base, kind_at, path_at};
 use c_dumper_bodies::modifiers::{emit_mods, put_qualifier, skip_mods};
 use c_dumper_name_versions::forwards::{emit_composite_fwd, emit_fwd_def};
 use c_dumper_name_versions::names::{Name, bare, emit_name};
-use spec_type_table::{BtfType, Entries, Kind, TypeTable};
+use spec_type_table::{BtfType, Entries, Kind};
 
 // What is declared: the type that the chain starts from, the declared name, and the level of indentation.
 #[derive(Clone, Copy)]
@@ -68,8 +66,7 @@ fn too_deep(text: &[u8], at: usize) -> usize
 
 #[cycle(declarator)]
 pub fn emit_type_decl(
-    b: TypeTable,
-    section: &[u8],
+    b: &Table,
     work: &mut [u8],
     text: &mut [u8],
     at: usize,
@@ -77,8 +74,8 @@ pub fn emit_type_decl(
     left: u32,
 ) -> usize
     ensures { out_of result text.new work.new
-        ≡ put_said text.old at (emit_type_decl_once (work_asks b.types (btf_of b section.now work.old))
-        (work_naming b) (btf_of b section.now work.old) left d.id (name_text b section.now d.name)
+        ≡ put_said text.old at (emit_type_decl_once (work_asks b.now.head.types (btf_of b.now.head b.now.section.now work.old))
+        (work_naming b.now.head) (btf_of b.now.head b.now.section.now work.old) left d.id (name_text b.now.head b.now.section.now d.name)
         d.lvl work.old) }
 {
     if left == 0 {
@@ -87,8 +84,8 @@ pub fn emit_type_decl(
     if stopped(text, at) {
         return at;
     }
-    match chain_base(b, section, work, d.id) {
-        Some(x) => emit_based(b, section, work, text, at, d, x, left - 1),
+    match chain_base(b, work, d.id) {
+        Some(x) => emit_based(b, work, text, at, d, x, left - 1),
         None => too_deep(text, at),
     }
 }
@@ -96,8 +93,7 @@ pub fn emit_type_decl(
 // A chain with its base on top. Most have nothing else, and then the name follows.
 #[cycle(declarator)]
 fn emit_based(
-    b: TypeTable,
-    section: &[u8],
+    b: &Table,
     work: &mut [u8],
     text: &mut [u8],
     at: usize,
@@ -105,36 +101,35 @@ fn emit_based(
     x: Base,
     left: u32,
 ) -> usize
-    requires { (x.t ≡ record_by_id b section.now work.old x.id)
-        × (only_links (chain_at b section.now work.old d.id x.n) ≡ true) }
+    requires { (x.t ≡ record_by_id b.now.head b.now.section.now work.old x.id)
+        × (only_links (chain_at b.now.head b.now.section.now work.old d.id x.n) ≡ true) }
     ensures { out_of result text.new work.new
-        ≡ put_said text.old at (emit_type_chain_once (work_asks b.types (btf_of b section.now work.old))
-        (work_naming b) (btf_of b section.now work.old) left
-        (base x.id ∷ chain_at b section.now work.old d.id x.n) (name_text b section.now d.name)
+        ≡ put_said text.old at (emit_type_chain_once (work_asks b.now.head.types (btf_of b.now.head b.now.section.now work.old))
+        (work_naming b.now.head) (btf_of b.now.head b.now.section.now work.old) left
+        (base x.id ∷ chain_at b.now.head b.now.section.now work.old d.id x.n) (name_text b.now.head b.now.section.now d.name)
         d.lvl work.old) }
 {
     if left == 0 {
         return too_deep(text, at);
     }
     let below = left - 1;
-    let m = skip_mods(b, section, work, d.id, x.n);
-    let a = emit_mods(b, section, work, text, at, d.id, x.n, m);
-    let e = emit_base(b, section, work, text, a, x.id, x.t, d.lvl, below);
+    let m = skip_mods(b, work, d.id, x.n);
+    let a = emit_mods(b, work, text, at, d.id, x.n, m);
+    let e = emit_base(b, work, text, a, x.id, x.t, d.lvl, below);
     if m == 0 {
         let name = d.name;
-        return emit_name(b, section, text, e, name, false);
+        return emit_name(b, text, e, name, false);
     }
     if stopped(text, e) {
         return e;
     }
-    emit_links(b, section, work, text, e, d, m, false, below)
+    emit_links(b, work, text, e, d, m, false, below)
 }
 
 // A chain of entries that all lead on.
 #[cycle(declarator)]
 fn emit_type_chain(
-    b: TypeTable,
-    section: &[u8],
+    b: &Table,
     work: &mut [u8],
     text: &mut [u8],
     at: usize,
@@ -142,11 +137,11 @@ fn emit_type_chain(
     n: u32,
     left: u32,
 ) -> usize
-    requires { only_links (chain_at b section.now work.old d.id n) ≡ true }
+    requires { only_links (chain_at b.now.head b.now.section.now work.old d.id n) ≡ true }
     ensures { out_of result text.new work.new
-        ≡ put_said text.old at (emit_type_chain_once (work_asks b.types (btf_of b section.now work.old))
-        (work_naming b) (btf_of b section.now work.old) left
-        (chain_at b section.now work.old d.id n) (name_text b section.now d.name) d.lvl
+        ≡ put_said text.old at (emit_type_chain_once (work_asks b.now.head.types (btf_of b.now.head b.now.section.now work.old))
+        (work_naming b.now.head) (btf_of b.now.head b.now.section.now work.old) left
+        (chain_at b.now.head b.now.section.now work.old d.id n) (name_text b.now.head b.now.section.now d.name) d.lvl
         work.old) }
 {
     if left == 0 {
@@ -155,14 +150,13 @@ fn emit_type_chain(
     if stopped(text, at) {
         return at;
     }
-    emit_links(b, section, work, text, at, d, n, true, left - 1)
+    emit_links(b, work, text, at, d, n, true, left - 1)
 }
 
 // What is left of it: entry by entry, and then the name.
 #[cycle(declarator)]
 fn emit_links(
-    b: TypeTable,
-    section: &[u8],
+    b: &Table,
     work: &mut [u8],
     text: &mut [u8],
     at: usize,
@@ -171,16 +165,16 @@ fn emit_links(
     last_was_ptr: bool,
     below: u32,
 ) -> usize
-    requires { only_links (chain_at b section.now work.old d.id n) ≡ true }
+    requires { only_links (chain_at b.now.head b.now.section.now work.old d.id n) ≡ true }
     ensures { out_of result text.new work.new
-        ≡ put_said text.old at (chain_rest (work_asks b.types (btf_of b section.now work.old))
-        (work_naming b) (btf_of b section.now work.old) below (name_text b section.now d.name) d.lvl
-        false last_was_ptr (chain_at b section.now work.old d.id n) work.old) }
+        ≡ put_said text.old at (chain_rest (work_asks b.now.head.types (btf_of b.now.head b.now.section.now work.old))
+        (work_naming b.now.head) (btf_of b.now.head b.now.section.now work.old) below (name_text b.now.head b.now.section.now d.name) d.lvl
+        false last_was_ptr (chain_at b.now.head b.now.section.now work.old d.id n) work.old) }
 {
     let mut p = at;
     let mut c = Rest { n, last_was_ptr };
     while 0 < c.n {
-        let e = emit_entry(b, section, work, text, p, c, d, below);
+        let e = emit_entry(b, work, text, p, c, d, below);
         p = e.at;
         let Some(rest) = e.rest else {
             return p;
@@ -191,7 +185,7 @@ fn emit_links(
         c = rest;
     }
     let name = d.name;
-    emit_name(b, section, text, p, name, c.last_was_ptr)
+    emit_name(b, text, p, name, c.last_was_ptr)
 }
 
 // The chain goes on from a place with n entries.
@@ -214,8 +208,7 @@ fn named(at: usize) -> Stand
 // Pops and prints the entry on top; one of no other kind that leads on is a type tag.
 #[cycle(declarator)]
 fn emit_entry(
-    b: TypeTable,
-    section: &[u8],
+    b: &Table,
     work: &mut [u8],
     text: &mut [u8],
     at: usize,
@@ -223,34 +216,34 @@ fn emit_entry(
     d: Declarator,
     below: u32,
 ) -> Stand
-    requires { (0 < c.n) × (only_links (chain_at b section.now work.old d.id c.n) ≡ true) }
+    requires { (0 < c.n) × (only_links (chain_at b.now.head b.now.section.now work.old d.id c.n) ≡ true) }
     ensures { (out_of result.at text.new work.new
         ≡ put_said text.old at
-        (entry_text (work_asks b.types (btf_of b section.now work.old)) (work_naming b)
-        (btf_of b section.now work.old) below (name_text b section.now d.name) d.lvl
-        c.last_was_ptr (chain_at b section.now work.old d.id c.n) work.old))
-        × RestIs (chain_at b section.now work.old d.id) c.n result.rest }
+        (entry_text (work_asks b.now.head.types (btf_of b.now.head b.now.section.now work.old)) (work_naming b.now.head)
+        (btf_of b.now.head b.now.section.now work.old) below (name_text b.now.head b.now.section.now d.name) d.lvl
+        c.last_was_ptr (chain_at b.now.head b.now.section.now work.old d.id c.n) work.old))
+        × RestIs (chain_at b.now.head b.now.section.now work.old d.id) c.n result.rest }
 {
     let n = c.n - 1;
-    let t = type_by_id(b, section, work, path_at(b, section, work, d.id, n));
+    let t = b.type_by_id(work, path_at(b, work, d.id, n));
     let kind = Kind::of(t.info);
     match kind {
         Kind::Ptr => goes_on(put_star(text, at, c.last_was_ptr), n, true),
         Kind::Array => {
-            let nelems = array_nelems(b, section, t);
-            let m = skip_mods(b, section, work, d.id, n);
-            let a = emit_array(b, section, work, text, at, d, m, c.last_was_ptr, below);
+            let nelems = b.array_nelems(t);
+            let m = skip_mods(b, work, d.id, n);
+            let a = emit_array(b, work, text, at, d, m, c.last_was_ptr, below);
             named(put_count(text, a, nelems))
         }
         Kind::Volatile | Kind::Const | Kind::Restrict => {
             let a = put_byte(text, at, b' ');
             goes_on(put_qualifier(text, a, kind), n, false)
         }
-        Kind::FuncProto => named(emit_function(b, section, work, text, at, c, d, t, below)),
+        Kind::FuncProto => named(emit_function(b, work, text, at, c, d, t, below)),
         _ => {
-            let m = skip_mods(b, section, work, d.id, n);
-            let a = emit_mods(b, section, work, text, at, d.id, n, m);
-            goes_on(put_type_tag(b, section, text, a, t), m, false)
+            let m = skip_mods(b, work, d.id, n);
+            let a = emit_mods(b, work, text, at, d.id, n, m);
+            goes_on(put_type_tag(b, text, a, t), m, false)
         }
     }
 }
@@ -258,8 +251,7 @@ fn emit_entry(
 // A prototype: its qualifiers, the rest of the chain, and its parameters.
 #[cycle(declarator)]
 fn emit_function(
-    b: TypeTable,
-    section: &[u8],
+    b: &Table,
     work: &mut [u8],
     text: &mut [u8],
     at: usize,
@@ -268,29 +260,28 @@ fn emit_function(
     t: BtfType,
     below: u32,
 ) -> usize
-    requires { (0 < c.n) × (only_links (chain_at b section.now work.old d.id c.n) ≡ true) }
+    requires { (0 < c.n) × (only_links (chain_at b.now.head b.now.section.now work.old d.id c.n) ≡ true) }
     ensures { out_of result text.new work.new
         ≡ put_said text.old at
-        ((put (mods (chain_at b section.now work.old d.id (c.n - 1)))
-        ⨾ proto_below (work_asks b.types (btf_of b section.now work.old)) (work_naming b)
-        (btf_of b section.now work.old) below (name_text b section.now d.name) d.lvl
-        c.last_was_ptr (no_mods (chain_at b section.now work.old d.id (c.n - 1)))
-        ⨾ param_list_below (work_asks b.types (btf_of b section.now work.old)) (work_naming b)
-        (btf_of b section.now work.old) below (name_text b section.now d.name) d.lvl
-        (params_of b section.now t)) work.old) }
+        ((put (mods (chain_at b.now.head b.now.section.now work.old d.id (c.n - 1)))
+        ⨾ proto_below (work_asks b.now.head.types (btf_of b.now.head b.now.section.now work.old)) (work_naming b.now.head)
+        (btf_of b.now.head b.now.section.now work.old) below (name_text b.now.head b.now.section.now d.name) d.lvl
+        c.last_was_ptr (no_mods (chain_at b.now.head b.now.section.now work.old d.id (c.n - 1)))
+        ⨾ param_list_below (work_asks b.now.head.types (btf_of b.now.head b.now.section.now work.old)) (work_naming b.now.head)
+        (btf_of b.now.head b.now.section.now work.old) below (name_text b.now.head b.now.section.now d.name) d.lvl
+        (params_of b.now.head b.now.section.now t)) work.old) }
 {
     let n = c.n - 1;
-    let m = skip_mods(b, section, work, d.id, n);
-    let a = emit_mods(b, section, work, text, at, d.id, n, m);
-    let f = emit_proto(b, section, work, text, a, d, m, c.last_was_ptr, below);
-    emit_params(b, section, work, text, f, entries_of(t), d.lvl, below)
+    let m = skip_mods(b, work, d.id, n);
+    let a = emit_mods(b, work, text, at, d.id, n, m);
+    let f = emit_proto(b, work, text, a, d, m, c.last_was_ptr, below);
+    emit_params(b, work, text, f, entries_of(t), d.lvl, below)
 }
 
 // The base's own words. What cannot be declared prints nothing, and a kind that there is not is void: opening refuses both.
 #[cycle(declarator)]
 fn emit_base(
-    b: TypeTable,
-    section: &[u8],
+    b: &Table,
     work: &mut [u8],
     text: &mut [u8],
     at: usize,
@@ -300,21 +291,19 @@ fn emit_base(
     below: u32,
 ) -> usize
     ensures { out_of result text.new work.new
-        ≡ put_said text.old at (word_below (work_asks b.types (btf_of b section.now work.old))
-        (work_naming b) (btf_of b section.now work.old) below lvl id (type_of b section.now t)
+        ≡ put_said text.old at (word_below (work_asks b.now.head.types (btf_of b.now.head b.now.section.now work.old))
+        (work_naming b.now.head) (btf_of b.now.head b.now.section.now work.old) below lvl id (type_of b.now.head b.now.section.now t)
         work.old) }
 {
     match Kind::of(t.info) {
-        Kind::Int | Kind::Float => put_str(b, section, text, at, t.name_off),
-        Kind::Struct | Kind::Union => emit_composite_word(
-            b, section, work, text, at, id, t, lvl, below,
-        ),
-        Kind::Enum | Kind::Enum64 => emit_enum_word(b, section, work, text, at, id, t, lvl),
+        Kind::Int | Kind::Float => b.put_str(text, at, t.name_off),
+        Kind::Struct | Kind::Union => emit_composite_word(b, work, text, at, id, t, lvl, below),
+        Kind::Enum | Kind::Enum64 => emit_enum_word(b, work, text, at, id, t, lvl),
         Kind::Fwd => {
             let is_union = kind_flag_of(t.info);
-            emit_fwd_def(b, section, work, text, at, id, is_union, t.name_off)
+            emit_fwd_def(b, work, text, at, id, is_union, t.name_off)
         }
-        Kind::Typedef => put_typedef_name(b, section, work, text, at, id, t.name_off),
+        Kind::Typedef => put_typedef_name(b, work, text, at, id, t.name_off),
         Kind::Void | Kind::Unknown => put_word(text, at, Word::Void),
         _ => at,
     }
@@ -323,8 +312,7 @@ fn emit_base(
 // A nameless composite is printed inline.
 #[cycle(declarator)]
 fn emit_composite_word(
-    b: TypeTable,
-    section: &[u8],
+    b: &Table,
     work: &mut [u8],
     text: &mut [u8],
     at: usize,
@@ -334,22 +322,21 @@ fn emit_composite_word(
     below: u32,
 ) -> usize
     ensures { out_of result text.new work.new
-        ≡ put_said text.old at (word_below (work_asks b.types (btf_of b section.now work.old))
-        (work_naming b) (btf_of b section.now work.old) below lvl id
-        (Composite (eqb (kind_of t.info) 4) (record_name b section.now t) t.type_id (members_of b section.now t))
+        ≡ put_said text.old at (word_below (work_asks b.now.head.types (btf_of b.now.head b.now.section.now work.old))
+        (work_naming b.now.head) (btf_of b.now.head b.now.section.now work.old) below lvl id
+        (Composite (eqb (kind_of t.info) 4) (record_name b.now.head b.now.section.now t) t.type_id (members_of b.now.head b.now.section.now t))
         work.old) }
 {
-    if is_empty(b, section, t.name_off) {
-        return emit_composite_def(b, section, work, text, at, id, t, lvl, below);
+    if b.is_empty(t.name_off) {
+        return emit_composite_def(b, work, text, at, id, t, lvl, below);
     }
-    emit_composite_fwd(b, section, work, text, at, id, is_struct(t), t.name_off)
+    emit_composite_fwd(b, work, text, at, id, is_struct(t), t.name_off)
 }
 
 // What stands before the brackets of an array: the name, or the chain that is left.
 #[cycle(declarator)]
 fn emit_array(
-    b: TypeTable,
-    section: &[u8],
+    b: &Table,
     work: &mut [u8],
     text: &mut [u8],
     at: usize,
@@ -358,22 +345,22 @@ fn emit_array(
     last_was_ptr: bool,
     below: u32,
 ) -> usize
-    requires { only_links (chain_at b section.now work.old d.id n) ≡ true }
+    requires { only_links (chain_at b.now.head b.now.section.now work.old d.id n) ≡ true }
     ensures { out_of result text.new work.new
-        ≡ put_said text.old at (array_below (work_asks b.types (btf_of b section.now work.old))
-        (work_naming b) (btf_of b section.now work.old) below (name_text b section.now d.name) d.lvl
-        last_was_ptr (chain_at b section.now work.old d.id n) work.old) }
+        ≡ put_said text.old at (array_below (work_asks b.now.head.types (btf_of b.now.head b.now.section.now work.old))
+        (work_naming b.now.head) (btf_of b.now.head b.now.section.now work.old) below (name_text b.now.head b.now.section.now d.name) d.lvl
+        last_was_ptr (chain_at b.now.head b.now.section.now work.old d.id n) work.old) }
 {
     let name = d.name;
     if n == 0 {
-        return emit_name(b, section, text, at, name, last_was_ptr);
+        return emit_name(b, text, at, name, last_was_ptr);
     }
-    let a = put_gap(b, section, text, at, name, last_was_ptr);
-    match kind_at(b, section, work, d.id, n - 1) {
-        Kind::Array => emit_type_chain(b, section, work, text, a, d, n, below),
+    let a = put_gap(b, text, at, name, last_was_ptr);
+    match kind_at(b, work, d.id, n - 1) {
+        Kind::Array => emit_type_chain(b, work, text, a, d, n, below),
         _ => {
             let c = put_byte(text, a, b'(');
-            let e = emit_type_chain(b, section, work, text, c, d, n, below);
+            let e = emit_type_chain(b, work, text, c, d, n, below);
             put_byte(text, e, b')')
         }
     }
@@ -382,8 +369,7 @@ fn emit_array(
 // What stands before the parameters of a prototype.
 #[cycle(declarator)]
 fn emit_proto(
-    b: TypeTable,
-    section: &[u8],
+    b: &Table,
     work: &mut [u8],
     text: &mut [u8],
     at: usize,
@@ -392,26 +378,25 @@ fn emit_proto(
     last_was_ptr: bool,
     below: u32,
 ) -> usize
-    requires { only_links (chain_at b section.now work.old d.id n) ≡ true }
+    requires { only_links (chain_at b.now.head b.now.section.now work.old d.id n) ≡ true }
     ensures { out_of result text.new work.new
-        ≡ put_said text.old at (proto_below (work_asks b.types (btf_of b section.now work.old))
-        (work_naming b) (btf_of b section.now work.old) below (name_text b section.now d.name) d.lvl
-        last_was_ptr (chain_at b section.now work.old d.id n) work.old) }
+        ≡ put_said text.old at (proto_below (work_asks b.now.head.types (btf_of b.now.head b.now.section.now work.old))
+        (work_naming b.now.head) (btf_of b.now.head b.now.section.now work.old) below (name_text b.now.head b.now.section.now d.name) d.lvl
+        last_was_ptr (chain_at b.now.head b.now.section.now work.old d.id n) work.old) }
 {
     if n == 0 {
         let name = d.name;
-        return emit_name(b, section, text, at, name, last_was_ptr);
+        return emit_name(b, text, at, name, last_was_ptr);
     }
     let a = put_two(text, at, b' ', b'(');
-    let c = emit_type_chain(b, section, work, text, a, d, n, below);
+    let c = emit_type_chain(b, work, text, a, d, n, below);
     put_byte(text, c, b')')
 }
 
 // The parameters in parentheses.
 #[cycle(declarator)]
 fn emit_params(
-    b: TypeTable,
-    section: &[u8],
+    b: &Table,
     work: &mut [u8],
     text: &mut [u8],
     at: usize,
@@ -420,17 +405,17 @@ fn emit_params(
     below: u32,
 ) -> usize
     ensures { out_of result text.new work.new
-        ≡ put_said text.old at (params_below (work_asks b.types (btf_of b section.now work.old))
-        (work_naming b) (btf_of b section.now work.old) below lvl
-        (shown_params (from (param_of b section.now params.at) 0 params.vlen)) work.old) }
+        ≡ put_said text.old at (params_below (work_asks b.now.head.types (btf_of b.now.head b.now.section.now work.old))
+        (work_naming b.now.head) (btf_of b.now.head b.now.section.now work.old) below lvl
+        (shown_params (from (param_of b.now.head b.now.section.now params.at) 0 params.vlen)) work.old) }
 {
-    let shown = shown_params(b, section, params);
+    let shown = shown_params(b, params);
     let mut p = put_byte(text, at, b'(');
     for k in 0..shown.vlen {
         if stopped(text, p) {
             return p;
         }
-        p = emit_param(b, section, work, text, p, shown, k, lvl, below);
+        p = emit_param(b, work, text, p, shown, k, lvl, below);
     }
     put_byte(text, p, b')')
 }
@@ -438,8 +423,7 @@ fn emit_params(
 // One parameter; the last, if void, stands for any more.
 #[cycle(declarator)]
 fn emit_param(
-    b: TypeTable,
-    section: &[u8],
+    b: &Table,
     work: &mut [u8],
     text: &mut [u8],
     at: usize,
@@ -450,20 +434,20 @@ fn emit_param(
 ) -> usize
     ensures { out_of result text.new work.new
         ≡ put_said text.old at (param_text
-        (λ id name. emit_type_decl_once (work_asks b.types (btf_of b section.now work.old)) (work_naming b)
-        (btf_of b section.now work.old) below id name lvl) (eqb k 0) (param_of b section.now params.at k)
+        (λ id name. emit_type_decl_once (work_asks b.now.head.types (btf_of b.now.head b.now.section.now work.old)) (work_naming b.now.head)
+        (btf_of b.now.head b.now.section.now work.old) below id name lvl) (eqb k 0) (param_of b.now.head b.now.section.now params.at k)
         (leb params.vlen (k + 1)) work.old) }
 {
     let p = param_place(params, k);
-    let type_id = word(b, section, p + 4);
+    let type_id = b.word(p + 4);
     let d = Declarator {
         id: type_id,
-        name: bare(word(b, section, p)),
+        name: bare(b.word(p)),
         lvl: lvl,
     };
     let a = put_comma(text, at, k);
     if is_any_more(params.vlen, k, type_id) {
         return put_word(text, a, Word::Dots);
     }
-    emit_type_decl(b, section, work, text, a, d, below)
+    emit_type_decl(b, work, text, a, d, below)
 }

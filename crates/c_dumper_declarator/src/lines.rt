@@ -11,10 +11,10 @@ use crate::typedefs::emit_typedef_def;
 use base_bytes::limit;
 use base_bytes::put::put_three;
 use btf_type_table::kind::{is_struct, kind_flag_of};
-use btf_type_table::name::is_builtin;
+use btf_type_table::table::Table;
 use c_dumper_bodies::enums::emit_enum_def;
 use c_dumper_name_versions::forwards::{emit_composite_fwd, emit_fwd_def};
-use spec_type_table::{BtfType, Kind, TypeTable};
+use spec_type_table::{BtfType, Kind};
 
 fn put_line_end(text: &mut [u8], at: usize) -> usize
     ensures { put_out result text.new ≡ put_text text.old at (whole (ascii ";\n\n")) }
@@ -24,8 +24,7 @@ fn put_line_end(text: &mut [u8], at: usize) -> usize
 
 // The definition of a composite, an enum or a forward, as a line.
 pub fn emit_definition(
-    b: TypeTable,
-    section: &[u8],
+    b: &Table,
     work: &mut [u8],
     text: &mut [u8],
     at: usize,
@@ -33,21 +32,21 @@ pub fn emit_definition(
     t: BtfType,
 ) -> usize
     ensures { out_of result text.new work.new
-        ≡ put_said text.old at (definition_once (work_asks b.types (btf_of b section.now work.old))
-        (work_naming b) (btf_of b section.now work.old) id (type_of b section.now t) work.old) }
+        ≡ put_said text.old at (definition_once (work_asks b.now.head.types (btf_of b.now.head b.now.section.now work.old))
+        (work_naming b.now.head) (btf_of b.now.head b.now.section.now work.old) id (type_of b.now.head b.now.section.now t) work.old) }
 {
     match Kind::of(t.info) {
         Kind::Struct | Kind::Union => {
-            let a = emit_composite_def(b, section, work, text, at, id, t, 0, limit::MOST_CALLS);
+            let a = emit_composite_def(b, work, text, at, id, t, 0, limit::MOST_CALLS);
             put_line_end(text, a)
         }
         Kind::Enum | Kind::Enum64 => {
-            let a = emit_enum_def(b, section, work, text, at, id, t, 0);
+            let a = emit_enum_def(b, work, text, at, id, t, 0);
             put_line_end(text, a)
         }
         Kind::Fwd => {
             let is_union = kind_flag_of(t.info);
-            let a = emit_fwd_def(b, section, work, text, at, id, is_union, t.name_off);
+            let a = emit_fwd_def(b, work, text, at, id, is_union, t.name_off);
             put_line_end(text, a)
         }
         _ => at,
@@ -56,8 +55,7 @@ pub fn emit_definition(
 
 // The lines that come once for each id: a composite's forward line, a typedef. The compiler's own type has none.
 pub fn emit_forward(
-    b: TypeTable,
-    section: &[u8],
+    b: &Table,
     work: &mut [u8],
     text: &mut [u8],
     at: usize,
@@ -65,19 +63,19 @@ pub fn emit_forward(
     t: BtfType,
 ) -> usize
     ensures { out_of result text.new work.new
-        ≡ put_said text.old at (forward_once (work_asks b.types (btf_of b section.now work.old))
-        (work_naming b) (btf_of b section.now work.old) id (type_of b section.now t) work.old) }
+        ≡ put_said text.old at (forward_once (work_asks b.now.head.types (btf_of b.now.head b.now.section.now work.old))
+        (work_naming b.now.head) (btf_of b.now.head b.now.section.now work.old) id (type_of b.now.head b.now.section.now t) work.old) }
 {
-    if is_builtin(b, section, t.name_off) {
+    if b.is_builtin(t.name_off) {
         return at;
     }
     match Kind::of(t.info) {
         Kind::Struct | Kind::Union => {
-            let a = emit_composite_fwd(b, section, work, text, at, id, is_struct(t), t.name_off);
+            let a = emit_composite_fwd(b, work, text, at, id, is_struct(t), t.name_off);
             put_line_end(text, a)
         }
         Kind::Typedef => {
-            let a = emit_typedef_def(b, section, work, text, at, id, t.name_off, t.type_id);
+            let a = emit_typedef_def(b, work, text, at, id, t.name_off, t.type_id);
             put_line_end(text, a)
         }
         _ => at,

@@ -10,14 +10,13 @@ use crate::declarations::{Declarator, emit_type_decl};
 use base_bytes::limit;
 use base_bytes::put::put_byte;
 use base_keywords::table::{Word, put_word};
+use btf_type_table::table::Table;
 use c_dumper_name_versions::names::resolve_type_name;
 use c_dumper_name_versions::tags::{WHOLE_TYPE, emit_decl_tags};
-use spec_type_table::TypeTable;
 
 // A typedef's line, without its end. The compiler's own type has none: see the caller.
 pub fn emit_typedef_def(
-    b: TypeTable,
-    section: &[u8],
+    b: &Table,
     work: &mut [u8],
     text: &mut [u8],
     at: usize,
@@ -26,11 +25,11 @@ pub fn emit_typedef_def(
     type_id: u32,
 ) -> usize
     ensures { out_of result text.new work.new
-        ≡ put_said text.old at (emit_typedef_def_once (work_asks b.types (btf_of b section.now work.old))
-        (work_naming b) (btf_of b section.now work.old) id (str_at b section.now name_off) type_id
+        ≡ put_said text.old at (emit_typedef_def_once (work_asks b.now.head.types (btf_of b.now.head b.now.section.now work.old))
+        (work_naming b.now.head) (btf_of b.now.head b.now.section.now work.old) id (str_at b.now.head b.now.section.now name_off) type_id
         work.old) }
 {
-    let name = resolve_type_name(b, section, work, id, name_off);
+    let name = resolve_type_name(b, work, id, name_off);
     let d = Declarator {
         id: type_id,
         name: name,
@@ -38,6 +37,6 @@ pub fn emit_typedef_def(
     };
     let a = put_word(text, at, Word::Typedef);
     let c = put_byte(text, a, b' ');
-    let e = emit_type_decl(b, section, work, text, c, d, limit::MOST_CALLS);
-    emit_decl_tags(b, section, work, text, e, id, WHOLE_TYPE)
+    let e = emit_type_decl(b, work, text, c, d, limit::MOST_CALLS);
+    emit_decl_tags(b, work, text, e, id, WHOLE_TYPE)
 }

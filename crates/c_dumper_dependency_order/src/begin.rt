@@ -5,9 +5,8 @@ ghost use Rattle.c_dumper_dependency_order.specs.begin.Start.{limit_by, opened_b
 
 use crate::order_state::{Order, is_ordered, refused, strong};
 use base_bytes::refusal;
-use btf_type_table::name::is_named;
-use btf_type_table::node::type_by_id;
-use spec_type_table::{Kind, TypeTable};
+use btf_type_table::table::Table;
+use spec_type_table::Kind;
 
 // A ceiling on the calls of ordering, where it is set. The walk takes it apart: two numbers stay in registers, a struct does not.
 #[derive(Clone, Copy)]
@@ -41,14 +40,14 @@ pub fn is_known(work: &[u8], o: Order, id: u32, left: u32, is_set: bool, calls: 
 }
 
 // An id in progress: a named composite behind a pointer is passed over, anything else is a cycle.
-pub fn meet(b: TypeTable, section: &[u8], work: &[u8], o: Order, id: u32, has_ptr: bool) -> Order
-    ensures { result ≡ met_by (is_passable (table_in b section.now work.now) id has_ptr) o }
+pub fn meet(b: &Table, work: &[u8], o: Order, id: u32, has_ptr: bool) -> Order
+    ensures { result ≡ met_by (is_passable (table_in b.now.head b.now.section.now work.now) id has_ptr) o }
 {
     if !has_ptr {
         return refused(o, refusal::CYCLE);
     }
-    let t = type_by_id(b, section, work, id);
-    if !is_named(b, section, t) {
+    let t = b.type_by_id(work, id);
+    if !b.is_named(t) {
         return refused(o, refusal::CYCLE);
     }
     match Kind::of(t.info) {

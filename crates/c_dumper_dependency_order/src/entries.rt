@@ -3,8 +3,8 @@ ghost use Rattle.std.specs.Prelude.{◌≡◌};
 ghost use Rattle.c_dumper_dependency_order.specs.entries.Entries.{entry_type};
 
 use btf_type_table::kind::{member_place, param_place};
-use btf_type_table::section_word::word;
-use spec_type_table::{Entries, TypeTable};
+use btf_type_table::table::Table;
+use spec_type_table::Entries;
 
 // What each of the entries is.
 #[derive(Clone, Copy, PartialEq, Eq)]
@@ -15,12 +15,12 @@ pub enum Each {
 
 // The type that entry k names.
 #[inline]
-pub fn entry_type(b: TypeTable, section: &[u8], entries: Entries, each: Each, k: u32) -> u32
-    ensures { result ≡ entry_type b section.now each entries k }
+pub fn entry_type(b: &Table, entries: Entries, each: Each, k: u32) -> u32
+    ensures { result ≡ entry_type b.now.head b.now.section.now each entries k }
 {
     let place = match each {
         Each::Member => member_place(entries, k),
         Each::Param => param_place(entries, k),
     };
-    word(b, section, place + 4)
+    b.word(place + 4)
 }

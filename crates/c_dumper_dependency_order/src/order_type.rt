@@ -14,15 +14,13 @@ use crate::leaders::{Way, inside};
 use crate::order_state::{Mark, Order, get_mark, refused, set_mark, strong};
 use crate::ways::{is_passed, is_weak_past};
 use base_bytes::refusal;
-use btf_type_table::name::is_named;
-use btf_type_table::node::{node_of, type_by_id};
-use spec_type_table::{Entries, Node, TypeTable};
+use btf_type_table::table::Table;
+use spec_type_table::{Entries, Node};
 
 // v: what is being ordered around the call. A request without a list of line origins lends no leaders.
 #[cycle(order_type)]
 pub fn order_type(
-    b: TypeTable,
-    section: &[u8],
+    b: &Table,
     work: &mut [u8],
     leads: &mut [u64],
     o: Order,
@@ -35,7 +33,7 @@ pub fn order_type(
 ) -> Order
     ensures { kept_out result work.new leads.new ≡
         then_bind (kept_out o work.old leads.old)
-        (λ m _ k. order_kept (limit_by is_set calls) v left (table_in b section.now work.old) m id has_ptr k) }
+        (λ m _ k. order_kept (limit_by is_set calls) v left (table_in b.now.head b.now.section.now work.old) m id has_ptr k) }
 {
     if o.stop != 0 {
         return o;
@@ -49,29 +47,16 @@ pub fn order_type(
     }
     match get_mark(work, id) {
         Mark::Done => strong(p, true),
-        Mark::Open => meet(b, section, work, p, id, has_ptr),
-        Mark::New => order_new(
-            b,
-            section,
-            work,
-            leads,
-            p,
-            id,
-            has_ptr,
-            left - 1,
-            v,
-            is_set,
-            calls,
-        ),
+        Mark::Open => meet(b, work, p, id, has_ptr),
+        Mark::New => order_new(b, work, leads, p, id, has_ptr, left - 1, v, is_set, calls),
     }
 }
 
 // An id that is not ordered yet. Most of what a pointer or a qualifier leads to is known: that is counted without the call.
-// s: the section; set and max: the ceiling.
+// set and max: the ceiling.
 #[cycle(order_type)]
 fn order_new(
-    b: TypeTable,
-    s: &[u8],
+    b: &Table,
     work: &mut [u8],
     leads: &mut [u64],
     o: Order,
@@ -84,43 +69,43 @@ fn order_new(
 ) -> Order
     ensures { kept_out result work.new leads.new ≡
         then_bind (kept_out o work.old leads.old)
-        (λ m _ k. fresh_kept (limit_by set max) v (table_in b s.now work.old) left m id weak k) }
+        (λ m _ k. fresh_kept (limit_by set max) v (table_in b.now.head b.now.section.now work.old) left m id weak k) }
 {
-    let t = type_by_id(b, s, work, id);
-    match node_of(b, s, t) {
+    let t = b.type_by_id(work, id);
+    match b.node_of(t) {
         Node::Ignored => strong(o, false),
         Node::Plain => finish(work, leads, o, id, false, false, v),
         Node::Listed(_) => {
-            let named = is_named(b, s, t);
+            let named = b.is_named(t);
             finish(work, leads, o, id, named, true, v)
         }
         Node::Through(is_array, t) => {
             if is_known(work, o, t, left, set, max) {
                 return strong(count_call(set, max, o), true);
             }
-            let past = is_weak_past(b, is_array, weak);
-            order_type(b, s, work, leads, o, t, past, left, v, set, max)
+            let past = is_weak_past(b.head, is_array, weak);
+            order_type(b, work, leads, o, t, past, left, v, set, max)
         }
         Node::Ptr(t) => {
             if is_known(work, o, t, left, set, max) {
                 return finish(work, leads, count_call(set, max, o), id, false, true, v);
             }
-            let r = order_type(b, s, work, leads, o, t, true, left, v, set, max);
+            let r = order_type(b, work, leads, o, t, true, left, v, set, max);
             finish(work, leads, r, id, false, r.is_strong, v)
         }
         Node::Typedef(t) => {
             let u = inside(v, id);
-            let r = order_type(b, s, work, leads, o, t, weak, left, u, set, max);
+            let r = order_type(b, work, leads, o, t, weak, left, u, set, max);
             finish_typedef(work, leads, r, id, weak, v)
         }
         Node::Proto(res, params) => {
-            let r = order_type(b, s, work, leads, o, res, weak, left, v, set, max);
+            let r = order_type(b, work, leads, o, res, weak, left, v, set, max);
             let each = Each::Param;
-            order_entries(b, s, work, leads, r, params, each, weak, left, v, set, max)
+            order_entries(b, work, leads, r, params, each, weak, left, v, set, max)
         }
         Node::Composite(es) => {
-            let named = is_named(b, s, t);
-            order_composite(b, s, work, leads, o, id, named, weak, es, left, v, set, max)
+            let named = b.is_named(t);
+            order_composite(b, work, leads, o, id, named, weak, es, left, v, set, max)
         }
     }
 }
@@ -128,8 +113,7 @@ fn order_new(
 // A composite: passed over if it is named and behind a pointer, else its members, each a strong way, and then itself.
 #[cycle(order_type)]
 fn order_composite(
-    b: TypeTable,
-    section: &[u8],
+    b: &Table,
     work: &mut [u8],
     leads: &mut [u64],
     o: Order,
@@ -144,8 +128,8 @@ fn order_composite(
 ) -> Order
     ensures { kept_out result work.new leads.new ≡
         then_bind (kept_out o work.old leads.old)
-        (λ m _ k. enter_kept (limit_by is_set calls) v (table_in b section.now work.old) left m id has_ptr named
-        (member_ids b section.now members) k) }
+        (λ m _ k. enter_kept (limit_by is_set calls) v (table_in b.now.head b.now.section.now work.old) left m id has_ptr named
+        (member_ids b.now.head b.now.section.now members) k) }
 {
     if is_passed(named, has_ptr) {
         return strong(o, false);
@@ -154,7 +138,7 @@ fn order_composite(
     let u = inside(v, id);
     let each = Each::Member;
     let r = order_entries(
-        b, section, work, leads, o, members, each, false, left, u, is_set, calls,
+        b, work, leads, o, members, each, false, left, u, is_set, calls,
     );
     finish(work, leads, r, id, named, true, v)
 }
@@ -162,8 +146,7 @@ fn order_composite(
 // The types of entries in order; the way is strong if one of them was, or what came before.
 #[cycle(order_type)]
 fn order_entries(
-    b: TypeTable,
-    section: &[u8],
+    b: &Table,
     work: &mut [u8],
     leads: &mut [u64],
     o: Order,
@@ -177,20 +160,18 @@ fn order_entries(
 ) -> Order
     ensures { kept_out result work.new leads.new ≡
         then_bind (kept_out o work.old leads.old)
-        (λ m strong k. each_within (way_kept (limit_by is_set calls) v (table_in b section.now work.old) left has_ptr)
-        (entry_ids b section.now each entries) m strong k) }
+        (λ m strong k. each_within (way_kept (limit_by is_set calls) v (table_in b.now.head b.now.section.now work.old) left has_ptr)
+        (entry_ids b.now.head b.now.section.now each entries) m strong k) }
 {
     let mut r = o;
     for k in 0..entries.vlen {
-        let t = entry_type(b, section, entries, each, k);
+        let t = entry_type(b, entries, each, k);
         if is_known(work, r, t, left, is_set, calls) {
             r = strong(count_call(is_set, calls, r), true);
             continue;
         }
         let before = r.is_strong;
-        let p = order_type(
-            b, section, work, leads, r, t, has_ptr, left, v, is_set, calls,
-        );
+        let p = order_type(b, work, leads, r, t, has_ptr, left, v, is_set, calls);
         r = strong(p, before | p.is_strong);
     }
     r

@@ -16,17 +16,17 @@ use crate::entries::{Asked, Pen};
 use crate::order_list::clear_list;
 use base_bytes::limit;
 use base_bytes::put::stop;
-use btf_type_table::node::type_by_id;
+use btf_type_table::table::Table;
 use c_dumper_dependency_order::begin::Ceiling;
 use c_dumper_dependency_order::leaders::Way;
 use c_dumper_dependency_order::order_state::{Order, get_order_state};
 use c_dumper_dependency_order::order_type::order_type;
-use spec_type_table::{Kind, TypeTable};
+use spec_type_table::Kind;
 
 // A request for an id that is ordered, or is a function, a variable, a section or a tag, does nothing.
-pub fn is_idle(b: TypeTable, section: &[u8], work: &[u8], id: u32) -> bool
+pub fn is_idle(b: &Table, work: &[u8], id: u32) -> bool
     ensures { result ≡ is_idle (mark_of (get_field work.now id 1))
-        ((table_in b section.now work.now).node id) }
+        ((table_in b.now.head b.now.section.now work.now).node id) }
 {
     let state = get_order_state(work, id);
     if state == 2 {
@@ -35,7 +35,7 @@ pub fn is_idle(b: TypeTable, section: &[u8], work: &[u8], id: u32) -> bool
     if state == 1 {
         return false;
     }
-    let t = type_by_id(b, section, work, id);
+    let t = b.type_by_id(work, id);
     matches!(
         Kind::of(t.info),
         Kind::Func | Kind::Var | Kind::Datasec | Kind::DeclTag
@@ -53,8 +53,7 @@ pub struct Dumped {
 // One request, after so many calls of ordering. `leads` serves the requests of a call with a list one after another: what other
 // turns noted there is not read. Without a list it may be empty.
 pub fn dump_type(
-    b: TypeTable,
-    section: &[u8],
+    b: &Table,
     work: &mut [u8],
     text: &mut [u8],
     list: &mut [u8],
@@ -66,8 +65,8 @@ pub fn dump_type(
 ) -> Dumped
     ensures { (with_leads leads.new (noted_out 0 result.pen text.new work.new list.new)
         ≡ obind (with_leads leads.old (noted_out 0 p text.old work.old list.old))
-        (λ m. dumped_kept b (btf_of b section.now work.old) (lent_list q.lists list.old)
-        (limit_of c) m q.req q.turn made)) × (result.made ≡ calls_made (ordered_in (btf_of b section.now work.old)
+        (λ m. dumped_kept b.now.head (btf_of b.now.head b.now.section.now work.old) (lent_list q.lists list.old)
+        (limit_of c) m q.req q.turn made)) × (result.made ≡ calls_made (ordered_in (btf_of b.now.head b.now.section.now work.old)
         (limit_of c) (record { work = work.old; len = 0 }) q.req made)) }
 {
     let start = Order {
@@ -83,9 +82,7 @@ pub fn dump_type(
         turn: q.turn,
     };
     let most = limit::MOST_CALLS;
-    let o = order_type(
-        b, section, work, leads, start, id, false, most, v, c.is_set, c.calls,
-    );
+    let o = order_type(b, work, leads, start, id, false, most, v, c.is_set, c.calls);
     if o.stop != 0 {
         let at = stop(text, p.at, o.stop);
         return Dumped {
@@ -93,7 +90,7 @@ pub fn dump_type(
             made: o.made,
         };
     }
-    let r = emit_ordered(b, section, work, text, list, leads, q, p, o.len);
+    let r = emit_ordered(b, work, text, list, leads, q, p, o.len);
     clear_list(work, o.len);
     Dumped {
         pen: r,

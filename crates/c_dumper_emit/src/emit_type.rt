@@ -21,11 +21,9 @@ use base_bytes::limit;
 use base_bytes::put::stopped;
 use base_bytes::refusal::Refusal;
 use btf_type_table::kind::{entries_of, member_place, param_place};
-use btf_type_table::name::is_named;
-use btf_type_table::node::{node_of, type_by_id};
-use btf_type_table::section_word::word;
+use btf_type_table::table::Table;
 use c_dumper_dependency_order::order_state::get_listed;
-use spec_type_table::{BtfType, Entries, Node, TypeTable};
+use spec_type_table::{BtfType, Entries, Node};
 
 // Which entries a record has: members, or the parameters of a prototype.
 #[derive(Clone, Copy)]
@@ -35,12 +33,12 @@ enum Held {
 }
 
 // The type of entry k.
-fn held_id(b: TypeTable, section: &[u8], held: Held, es: Entries, k: u32) -> u32
-    ensures { result ≡ held_id held b section.now es k }
+fn held_id(b: &Table, held: Held, es: Entries, k: u32) -> u32
+    ensures { result ≡ held_id held b.now.head b.now.section.now es k }
 {
     match held {
-        Held::Members => word(b, section, member_place(es, k) + 4),
-        Held::Params => word(b, section, param_place(es, k) + 4),
+        Held::Members => b.word(member_place(es, k) + 4),
+        Held::Params => b.word(param_place(es, k) + 4),
     }
 }
 
@@ -54,8 +52,7 @@ fn is_done(work: &[u8], id: u32, left: u32) -> bool
 // cont is the composite or typedef that is being emitted around id, or 0 at the top.
 #[cycle(emit_type)]
 pub fn emit_type(
-    b: TypeTable,
-    section: &[u8],
+    b: &Table,
     work: &mut [u8],
     text: &mut [u8],
     list: &mut [u8],
@@ -68,7 +65,7 @@ pub fn emit_type(
 ) -> Pen
     ensures { (n : ℕ) → noted_out n result text.new work.new list.new
         ≡ obind (noted_out n p text.old work.old list.old)
-        (λ m. emit_n b (btf_of b section.now work.old) (lent_list q.lists list.old)
+        (λ m. emit_n b.now.head (btf_of b.now.head b.now.section.now work.old) (lent_list q.lists list.old)
         (entry_in q.req q.turn leads.now) left cont m id) }
 {
     if stopped(text, p.at) {
@@ -80,23 +77,22 @@ pub fn emit_type(
     match get_emit_state(work, id) {
         EmitState::Emitted => return p,
         EmitState::Emitting => {
-            return emit_again(b, section, work, text, list, leads, q, p, id, cont);
+            return emit_again(b, work, text, list, leads, q, p, id, cont);
         }
         EmitState::NotEmitted => {}
     }
-    let t = type_by_id(b, section, work, id);
-    if (cont == 0) & !is_named(b, section, t) {
+    let t = b.type_by_id(work, id);
+    if (cont == 0) & !b.is_named(t) {
         return stop_at(text, p, Refusal::NamelessTypedef);
     }
     let rest = left - 1;
-    emit_new(b, section, work, text, list, leads, q, p, id, t, cont, rest)
+    emit_new(b, work, text, list, leads, q, p, id, t, cont, rest)
 }
 
 // An id that is not emitted yet.
 #[cycle(emit_type)]
 fn emit_new(
-    b: TypeTable,
-    section: &[u8],
+    b: &Table,
     work: &mut [u8],
     text: &mut [u8],
     list: &mut [u8],
@@ -108,32 +104,30 @@ fn emit_new(
     cont: u32,
     left: u32,
 ) -> Pen
-    requires { t ≡ record_by_id b section.now work.old id }
+    requires { t ≡ record_by_id b.now.head b.now.section.now work.old id }
     ensures { (n : ℕ) → noted_out n result text.new work.new list.new
         ≡ obind (noted_out n p text.old work.old list.old)
-        (λ m. new_n b (btf_of b section.now work.old) (lent_list q.lists list.old)
+        (λ m. new_n b.now.head (btf_of b.now.head b.now.section.now work.old) (lent_list q.lists list.old)
         (entry_in q.req q.turn leads.now) left cont m id) }
 {
-    match node_of(b, section, t) {
+    match b.node_of(t) {
         Node::Ignored | Node::Plain => p,
-        Node::Listed(fwd) => emit_leaf(b, section, work, text, list, leads, q, p, id, t, cont, fwd),
+        Node::Listed(fwd) => emit_leaf(b, work, text, list, leads, q, p, id, t, cont, fwd),
         Node::Through(_, y) | Node::Ptr(y) => {
-            emit_type(b, section, work, text, list, leads, q, p, y, cont, left)
+            emit_type(b, work, text, list, leads, q, p, y, cont, left)
         }
         Node::Typedef(y) => {
             set_emit_state(work, id, EmitState::Emitting);
-            let a = emit_type(b, section, work, text, list, leads, q, p, y, id, left);
-            end_typedef(b, section, work, text, list, leads, q, a, id, t, cont)
+            let a = emit_type(b, work, text, list, leads, q, p, y, id, left);
+            end_typedef(b, work, text, list, leads, q, a, id, t, cont)
         }
         Node::Proto(y, ps) => {
-            let a = emit_type(b, section, work, text, list, leads, q, p, y, cont, left);
+            let a = emit_type(b, work, text, list, leads, q, p, y, cont, left);
             let held = Held::Params;
-            emit_entries(
-                b, section, work, text, list, leads, q, a, held, ps, cont, left,
-            )
+            emit_entries(b, work, text, list, leads, q, a, held, ps, cont, left)
         }
         Node::Composite(_) => {
-            emit_composite(b, section, work, text, list, leads, q, p, id, t, cont, left)
+            emit_composite(b, work, text, list, leads, q, p, id, t, cont, left)
         }
     }
 }
@@ -141,8 +135,7 @@ fn emit_new(
 // A composite: at the top, or nameless, all that its members need first; else a forward line. At the top its definition.
 #[cycle(emit_type)]
 fn emit_composite(
-    b: TypeTable,
-    section: &[u8],
+    b: &Table,
     work: &mut [u8],
     text: &mut [u8],
     list: &mut [u8],
@@ -154,31 +147,28 @@ fn emit_composite(
     cont: u32,
     left: u32,
 ) -> Pen
-    requires { t ≡ record_by_id b section.now work.old id }
+    requires { t ≡ record_by_id b.now.head b.now.section.now work.old id }
     ensures { (n : ℕ) → noted_out n result text.new work.new list.new
         ≡ obind (noted_out n p text.old work.old list.old)
-        (λ m. composite_n b (btf_of b section.now work.old) (lent_list q.lists list.old)
-        (entry_in q.req q.turn leads.now) left cont (member_ids b section.now (entries_of t)) m id) }
+        (λ m. composite_n b.now.head (btf_of b.now.head b.now.section.now work.old) (lent_list q.lists list.old)
+        (entry_in q.req q.turn leads.now) left cont (member_ids b.now.head b.now.section.now (entries_of t)) m id) }
 {
-    let named = is_named(b, section, t);
+    let named = b.is_named(t);
     if named & (cont != 0) {
-        return mention_composite(b, section, work, text, list, q.lists, p, id, t, cont);
+        return mention_composite(b, work, text, list, q.lists, p, id, t, cont);
     }
     set_emit_state(work, id, EmitState::Emitting);
     let within = inner(named, id, cont);
     let held = Held::Members;
     let ms = entries_of(t);
-    let a = emit_entries(
-        b, section, work, text, list, leads, q, p, held, ms, within, left,
-    );
-    end_composite(b, section, work, text, list, leads, q, a, id, t, cont)
+    let a = emit_entries(b, work, text, list, leads, q, p, held, ms, within, left);
+    end_composite(b, work, text, list, leads, q, a, id, t, cont)
 }
 
 // The types of all entries of a record.
 #[cycle(emit_type)]
 fn emit_entries(
-    b: TypeTable,
-    section: &[u8],
+    b: &Table,
     work: &mut [u8],
     text: &mut [u8],
     list: &mut [u8],
@@ -193,24 +183,23 @@ fn emit_entries(
     ensures { (n : ℕ) → noted_out n result text.new work.new list.new
         ≡ obind (noted_out n p text.old work.old list.old)
         (λ m. eeach
-        (emit_n b (btf_of b section.now work.old) (lent_list q.lists list.old) (entry_in q.req
-        q.turn leads.now) left cont) (held_ids held b section.now es) m) }
+        (emit_n b.now.head (btf_of b.now.head b.now.section.now work.old) (lent_list q.lists list.old) (entry_in q.req
+        q.turn leads.now) left cont) (held_ids held b.now.head b.now.section.now es) m) }
 {
     let mut a = p;
     for k in 0..es.vlen {
-        let t = held_id(b, section, held, es, k);
+        let t = held_id(b, held, es, k);
         if is_done(work, t, left) {
             continue;
         }
-        a = emit_type(b, section, work, text, list, leads, q, a, t, cont, left);
+        a = emit_type(b, work, text, list, leads, q, a, t, cont, left);
     }
     a
 }
 
 // An enum is defined at the top only; a forward is printed wherever it is met.
 fn emit_leaf(
-    b: TypeTable,
-    section: &[u8],
+    b: &Table,
     work: &mut [u8],
     text: &mut [u8],
     list: &mut [u8],
@@ -222,15 +211,15 @@ fn emit_leaf(
     cont: u32,
     fwd: bool,
 ) -> Pen
-    requires { t ≡ record_by_id b section.now work.old id }
+    requires { t ≡ record_by_id b.now.head b.now.section.now work.old id }
     ensures { (n : ℕ) → noted_out n result text.new work.new list.new
         ≡ obind (noted_out n p text.old work.old list.old)
-        (λ m. leaf_n b (btf_of b section.now work.old) (lent_list q.lists list.old)
+        (λ m. leaf_n b.now.head (btf_of b.now.head b.now.section.now work.old) (lent_list q.lists list.old)
         (entry_in q.req q.turn leads.now) fwd cont m id) }
 {
     if fwd | (cont == 0) {
         let e = origin_at(leads, q, Cause::ForwardLine, id, cont);
-        let a = define(b, section, work, text, list, q.lists, p, id, t, e);
+        let a = define(b, work, text, list, q.lists, p, id, t, e);
         set_emit_state(work, id, EmitState::Emitted);
         return a;
     }
@@ -240,8 +229,7 @@ fn emit_leaf(
 
 // Emits the first n ids of the order list, each at the top.
 pub fn emit_ordered(
-    b: TypeTable,
-    section: &[u8],
+    b: &Table,
     work: &mut [u8],
     text: &mut [u8],
     list: &mut [u8],
@@ -253,25 +241,13 @@ pub fn emit_ordered(
     ensures { noted_out n result text.new work.new list.new
         ≡ obind (noted_out n p text.old work.old list.old)
         (λ m. eeach
-        (emit_n b (btf_of b section.now work.old) (lent_list q.lists list.old) (entry_in q.req
+        (emit_n b.now.head (btf_of b.now.head b.now.section.now work.old) (lent_list q.lists list.old) (entry_in q.req
         q.turn leads.now) 512 0) (sheet_store.list m.mach) m) }
 {
     let mut a = p;
     for k in 0..n {
         let id = get_listed(work, k);
-        a = emit_type(
-            b,
-            section,
-            work,
-            text,
-            list,
-            leads,
-            q,
-            a,
-            id,
-            0,
-            limit::MOST_CALLS,
-        );
+        a = emit_type(b, work, text, list, leads, q, a, id, 0, limit::MOST_CALLS);
     }
     a
 }

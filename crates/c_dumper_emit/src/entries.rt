@@ -9,9 +9,9 @@ ghost use Rattle.c_dumper_emit.specs.entries.Noted.{cause_code, entry_of, entry_
 use base_bytes::put::{stop, stopped};
 use base_bytes::refusal::Refusal;
 use base_bytes::word::put_word;
-use btf_type_table::name::{is_builtin, is_named};
+use btf_type_table::table::Table;
 use c_dumper_dependency_order::leaders::leader_of;
-use spec_type_table::{BtfType, TypeTable};
+use spec_type_table::BtfType;
 
 // The next place in the text, and how many entries the list has.
 #[derive(Clone, Copy)]
@@ -138,11 +138,11 @@ pub fn note_if(text: &[u8], list: &mut [u8], p: Pen, e: Origin, shown: bool) -> 
 }
 
 // Whether the forward line or the typedef of a type prints anything: that of the compiler's own type does not.
-pub fn is_shown(b: TypeTable, section: &[u8], t: BtfType) -> bool
-    ensures { result ≡ shown_of (type_of b section.now t) }
+pub fn is_shown(b: &Table, t: BtfType) -> bool
+    ensures { result ≡ shown_of (type_of b.now.head b.now.section.now t) }
 {
-    if is_named(b, section, t) {
-        return !is_builtin(b, section, t.name_off);
+    if b.is_named(t) {
+        return !b.is_builtin(t.name_off);
     }
     true
 }

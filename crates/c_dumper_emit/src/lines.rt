@@ -7,13 +7,13 @@ ghost use Rattle.spec_type_table.specs.Table.{type_of, btf_of, work_naming};
 ghost use Rattle.c_dumper_emit.specs.entries.Noted.{entry_of, noted_out, lent_list, line_n, shown_of};
 
 use crate::entries::{Origin, Pen, is_shown, note_if};
+use btf_type_table::table::Table;
 use c_dumper_declarator::lines::{emit_definition, emit_forward};
-use spec_type_table::{BtfType, TypeTable};
+use spec_type_table::BtfType;
 
 // The definition of a composite, an enum or a forward, with its entry.
 pub fn define(
-    b: TypeTable,
-    section: &[u8],
+    b: &Table,
     work: &mut [u8],
     text: &mut [u8],
     list: &mut [u8],
@@ -26,11 +26,11 @@ pub fn define(
     ensures { (n : ℕ) → noted_out n result text.new work.new list.new
         ≡ obind (noted_out n p text.old work.old list.old)
         (λ m. line_n (lent_list lists list.old) true (entry_of e)
-        (definition_once (work_asks b.types (btf_of b section.now work.old)) (work_naming b)
-        (btf_of b section.now work.old) id (type_of b section.now t)) m) }
+        (definition_once (work_asks b.now.head.types (btf_of b.now.head b.now.section.now work.old)) (work_naming b.now.head)
+        (btf_of b.now.head b.now.section.now work.old) id (type_of b.now.head b.now.section.now t)) m) }
 {
     let q = note_if(text, list, p, e, lists);
-    let a = emit_definition(b, section, work, text, q.at, id, t);
+    let a = emit_definition(b, work, text, q.at, id, t);
     Pen {
         at: a,
         count: q.count,
@@ -38,19 +38,18 @@ pub fn define(
 }
 
 // Whether the forward line or the typedef of a type has an entry.
-fn is_listed(b: TypeTable, section: &[u8], lists: bool, t: BtfType) -> bool
-    ensures { result ≡ lists && shown_of (type_of b section.now t) }
+fn is_listed(b: &Table, lists: bool, t: BtfType) -> bool
+    ensures { result ≡ lists && shown_of (type_of b.now.head b.now.section.now t) }
 {
     if lists {
-        return is_shown(b, section, t);
+        return is_shown(b, t);
     }
     false
 }
 
 // A composite's forward line or a typedef, with its entry if it prints anything.
 pub fn forward(
-    b: TypeTable,
-    section: &[u8],
+    b: &Table,
     work: &mut [u8],
     text: &mut [u8],
     list: &mut [u8],
@@ -62,13 +61,13 @@ pub fn forward(
 ) -> Pen
     ensures { (n : ℕ) → noted_out n result text.new work.new list.new
         ≡ obind (noted_out n p text.old work.old list.old)
-        (λ m. line_n (lent_list lists list.old) (shown_of (type_of b section.now t)) (entry_of e)
-        (forward_once (work_asks b.types (btf_of b section.now work.old)) (work_naming b)
-        (btf_of b section.now work.old) id (type_of b section.now t)) m) }
+        (λ m. line_n (lent_list lists list.old) (shown_of (type_of b.now.head b.now.section.now t)) (entry_of e)
+        (forward_once (work_asks b.now.head.types (btf_of b.now.head b.now.section.now work.old)) (work_naming b.now.head)
+        (btf_of b.now.head b.now.section.now work.old) id (type_of b.now.head b.now.section.now t)) m) }
 {
-    let shown = is_listed(b, section, lists, t);
+    let shown = is_listed(b, lists, t);
     let q = note_if(text, list, p, e, shown);
-    let a = emit_forward(b, section, work, text, q.at, id, t);
+    let a = emit_forward(b, work, text, q.at, id, t);
     Pen {
         at: a,
         count: q.count,

@@ -18,9 +18,8 @@ use base_bytes::put::stop;
 use base_bytes::refusal::Refusal;
 use btf_type_table::cell;
 use btf_type_table::cell::{get_field, put_field};
-use btf_type_table::name::is_named;
-use btf_type_table::node::type_by_id;
-use spec_type_table::{BtfType, Kind, TypeTable};
+use btf_type_table::table::Table;
+use spec_type_table::{BtfType, Kind};
 
 #[derive(Clone, Copy, PartialEq, Eq)]
 pub enum EmitState {
@@ -58,8 +57,7 @@ fn set_fwd_emitted(work: &mut [u8], id: u32)
 }
 
 fn emit_once(
-    b: TypeTable,
-    section: &[u8],
+    b: &Table,
     work: &mut [u8],
     text: &mut [u8],
     list: &mut [u8],
@@ -71,14 +69,14 @@ fn emit_once(
 ) -> Pen
     ensures { (n : ℕ) → noted_out n result text.new work.new list.new
         ≡ obind (noted_out n p text.old work.old list.old)
-        (λ m. once_n b (btf_of b section.now work.old) (lent_list lists list.old)
-        (type_of b section.now t) (entry_of e)
-        (has_n b (btf_of b section.now work.old) (lent_list lists list.old) m id) m id) }
+        (λ m. once_n b.now.head (btf_of b.now.head b.now.section.now work.old) (lent_list lists list.old)
+        (type_of b.now.head b.now.section.now t) (entry_of e)
+        (has_n b.now.head (btf_of b.now.head b.now.section.now work.old) (lent_list lists list.old) m id) m id) }
 {
     if get_fwd_emitted(work, id) {
         return p;
     }
-    let a = forward(b, section, work, text, list, lists, p, id, t, e);
+    let a = forward(b, work, text, list, lists, p, id, t, e);
     set_fwd_emitted(work, id);
     a
 }
@@ -95,8 +93,7 @@ pub fn stop_at(text: &[u8], p: Pen, c: Refusal) -> Pen
 
 // An id that is met while it is being emitted. A nameless composite never is, since ordering refuses its cycle.
 pub fn emit_again(
-    b: TypeTable,
-    section: &[u8],
+    b: &Table,
     work: &mut [u8],
     text: &mut [u8],
     list: &mut [u8],
@@ -108,27 +105,27 @@ pub fn emit_again(
 ) -> Pen
     ensures { (n : ℕ) → noted_out n result text.new work.new list.new
         ≡ obind (noted_out n p text.old work.old list.old)
-        (λ m. again_n b (btf_of b section.now work.old) (lent_list q.lists list.old)
+        (λ m. again_n b.now.head (btf_of b.now.head b.now.section.now work.old) (lent_list q.lists list.old)
         (entry_in q.req q.turn leads.now) cont m id) }
 {
     if get_fwd_emitted(work, id) {
         return p;
     }
-    let t = type_by_id(b, section, work, id);
+    let t = b.type_by_id(work, id);
     match Kind::of(t.info) {
         Kind::Struct | Kind::Union => {
             if id == cont {
                 return p;
             }
-            if !is_named(b, section, t) {
+            if !b.is_named(t) {
                 return stop_at(text, p, Refusal::Cycle);
             }
             let e = forward_origin(id, cont);
-            emit_once(b, section, work, text, list, q.lists, p, id, t, e)
+            emit_once(b, work, text, list, q.lists, p, id, t, e)
         }
         Kind::Typedef => {
             let e = origin_at(leads, q, Cause::EarlyTypedef, id, cont);
-            emit_once(b, section, work, text, list, q.lists, p, id, t, e)
+            emit_once(b, work, text, list, q.lists, p, id, t, e)
         }
         _ => p,
     }
@@ -143,8 +140,7 @@ pub fn inner(named: bool, id: u32, cont: u32) -> u32
 
 // A named composite within another: a forward line, unless it is that other.
 fn emit_mention(
-    b: TypeTable,
-    section: &[u8],
+    b: &Table,
     work: &mut [u8],
     text: &mut [u8],
     list: &mut [u8],
@@ -156,20 +152,19 @@ fn emit_mention(
 ) -> Pen
     ensures { (n : ℕ) → noted_out n result text.new work.new list.new
         ≡ obind (noted_out n p text.old work.old list.old)
-        (λ m. mention_n b (btf_of b section.now work.old) (lent_list lists list.old)
-        (type_of b section.now t) cont m id) }
+        (λ m. mention_n b.now.head (btf_of b.now.head b.now.section.now work.old) (lent_list lists list.old)
+        (type_of b.now.head b.now.section.now t) cont m id) }
 {
     if id == cont {
         return p;
     }
     let e = forward_origin(id, cont);
-    emit_once(b, section, work, text, list, lists, p, id, t, e)
+    emit_once(b, work, text, list, lists, p, id, t, e)
 }
 
 // The same with the emit state around it: the composite is begun, and new again after that.
 pub fn mention_composite(
-    b: TypeTable,
-    section: &[u8],
+    b: &Table,
     work: &mut [u8],
     text: &mut [u8],
     list: &mut [u8],
@@ -181,19 +176,18 @@ pub fn mention_composite(
 ) -> Pen
     ensures { (n : ℕ) → noted_out n result text.new work.new list.new
         ≡ obind (noted_out n p text.old work.old list.old)
-        (λ m. mentioned_n b (btf_of b section.now work.old) (lent_list lists list.old)
-        (type_of b section.now t) cont m id) }
+        (λ m. mentioned_n b.now.head (btf_of b.now.head b.now.section.now work.old) (lent_list lists list.old)
+        (type_of b.now.head b.now.section.now t) cont m id) }
 {
     set_emit_state(work, id, EmitState::Emitting);
-    let a = emit_mention(b, section, work, text, list, lists, p, id, t, cont);
+    let a = emit_mention(b, work, text, list, lists, p, id, t, cont);
     set_emit_state(work, id, EmitState::NotEmitted);
     a
 }
 
 // What ends a typedef: its line, unless it had one.
 pub fn end_typedef(
-    b: TypeTable,
-    section: &[u8],
+    b: &Table,
     work: &mut [u8],
     text: &mut [u8],
     list: &mut [u8],
@@ -206,19 +200,18 @@ pub fn end_typedef(
 ) -> Pen
     ensures { (n : ℕ) → noted_out n result text.new work.new list.new
         ≡ obind (noted_out n p text.old work.old list.old)
-        (λ m. typedef_n b (btf_of b section.now work.old) (lent_list q.lists list.old)
-        (type_of b section.now t) (cause_at 3 (entry_in q.req q.turn leads.now id) id cont) m id) }
+        (λ m. typedef_n b.now.head (btf_of b.now.head b.now.section.now work.old) (lent_list q.lists list.old)
+        (type_of b.now.head b.now.section.now t) (cause_at 3 (entry_in q.req q.turn leads.now id) id cont) m id) }
 {
     let e = origin_at(leads, q, Cause::EarlyTypedef, id, cont);
-    let a = emit_once(b, section, work, text, list, q.lists, p, id, t, e);
+    let a = emit_once(b, work, text, list, q.lists, p, id, t, e);
     set_emit_state(work, id, EmitState::Emitted);
     a
 }
 
 // What ends a composite, after its members: its definition at the top; within another it is new again.
 pub fn end_composite(
-    b: TypeTable,
-    section: &[u8],
+    b: &Table,
     work: &mut [u8],
     text: &mut [u8],
     list: &mut [u8],
@@ -231,15 +224,15 @@ pub fn end_composite(
 ) -> Pen
     ensures { (n : ℕ) → noted_out n result text.new work.new list.new
         ≡ obind (noted_out n p text.old work.old list.old)
-        (λ m. ended_n b (btf_of b section.now work.old) (lent_list q.lists list.old) (eqb cont 0)
-        (type_of b section.now t) (entry_in q.req q.turn leads.now id) m id) }
+        (λ m. ended_n b.now.head (btf_of b.now.head b.now.section.now work.old) (lent_list q.lists list.old) (eqb cont 0)
+        (type_of b.now.head b.now.section.now t) (entry_in q.req q.turn leads.now id) m id) }
 {
     if cont != 0 {
         set_emit_state(work, id, EmitState::NotEmitted);
         return p;
     }
     let e = listed_origin(leads, q, id);
-    let a = define(b, section, work, text, list, q.lists, p, id, t, e);
+    let a = define(b, work, text, list, q.lists, p, id, t, e);
     set_emit_state(work, id, EmitState::Emitted);
     a
 }

@@ -9,7 +9,7 @@ ghost use Rattle.spec_type_table.specs.Table.{btf_of, work_naming};
 use crate::names::{put_name, resolve_type_name};
 use base_bytes::put::put_byte;
 use base_keywords::table::{Word, put_word};
-use btf_type_table::name::is_builtin;
+use btf_type_table::table::Table;
 use spec_type_table::TypeTable;
 
 // It is a matter of the settings alone, so any section and any work will do for the table.
@@ -27,8 +27,7 @@ pub fn put_keyword(b: TypeTable, text: &mut [u8], at: usize, is_struct: bool) ->
 
 // The keyword and the name; nothing for the compiler's own type.
 pub fn emit_composite_fwd(
-    b: TypeTable,
-    section: &[u8],
+    b: &Table,
     work: &mut [u8],
     text: &mut [u8],
     at: usize,
@@ -37,21 +36,20 @@ pub fn emit_composite_fwd(
     name_off: u32,
 ) -> usize
     ensures { out_of result text.new work.new
-        ≡ put_said text.old at (emit_composite_fwd (work_naming b) (btf_of b section.now work.old) id
-        is_struct (str_at b section.now name_off) work.old) }
+        ≡ put_said text.old at (emit_composite_fwd (work_naming b.now.head) (btf_of b.now.head b.now.section.now work.old) id
+        is_struct (str_at b.now.head b.now.section.now name_off) work.old) }
 {
-    if is_builtin(b, section, name_off) {
+    if b.is_builtin(name_off) {
         return at;
     }
-    let name = resolve_type_name(b, section, work, id, name_off);
-    let a = put_keyword(b, text, at, is_struct);
+    let name = resolve_type_name(b, work, id, name_off);
+    let a = put_keyword(b.head, text, at, is_struct);
     let c = put_byte(text, a, b' ');
-    put_name(b, section, text, c, name)
+    put_name(b, text, c, name)
 }
 
 pub fn emit_fwd_def(
-    b: TypeTable,
-    section: &[u8],
+    b: &Table,
     work: &mut [u8],
     text: &mut [u8],
     at: usize,
@@ -60,8 +58,8 @@ pub fn emit_fwd_def(
     name_off: u32,
 ) -> usize
     ensures { out_of result text.new work.new
-        ≡ put_said text.old at (emit_fwd_def (work_naming b) (btf_of b section.now work.old) id is_union
-        (str_at b section.now name_off) work.old) }
+        ≡ put_said text.old at (emit_fwd_def (work_naming b.now.head) (btf_of b.now.head b.now.section.now work.old) id is_union
+        (str_at b.now.head b.now.section.now name_off) work.old) }
 {
-    emit_composite_fwd(b, section, work, text, at, id, !is_union, name_off)
+    emit_composite_fwd(b, work, text, at, id, !is_union, name_off)
 }

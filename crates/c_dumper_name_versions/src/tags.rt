@@ -12,10 +12,8 @@ use btf_type_table::cell;
 use btf_type_table::cell::get_field;
 use btf_type_table::escape::put_escaped;
 use btf_type_table::kind::kind_flag_of;
-use btf_type_table::name::get_btf_str;
-use btf_type_table::node::type_by_id;
-use btf_type_table::section_word::comp_idx_of;
-use spec_type_table::{Kind, TypeTable};
+use btf_type_table::table::Table;
+use spec_type_table::Kind;
 
 // The component index of a tag that is on the whole type: -1.
 pub const WHOLE_TYPE: u32 = u32::MAX;
@@ -31,8 +29,7 @@ fn put_tag_name(text: &mut [u8], at: usize, is_decl: bool) -> usize
 
 // What a tag prints: its name as an attribute of its own, or in the attribute of its kind.
 pub fn put_attribute(
-    b: TypeTable,
-    section: &[u8],
+    b: &Table,
     text: &mut [u8],
     at: usize,
     is_attr: bool,
@@ -40,10 +37,10 @@ pub fn put_attribute(
     name_off: u32,
 ) -> usize
     ensures { put_out result text.new
-        ≡ put_text text.old at (whole (attribute is_attr (tag_name is_decl) (str_at b section.now name_off))) }
+        ≡ put_text text.old at (whole (attribute is_attr (tag_name is_decl) (str_at b.now.head b.now.section.now name_off))) }
 {
     let a = put_word(text, at, Word::AttributeStart);
-    let name = get_btf_str(b, section, name_off);
+    let name = b.get_btf_str(name_off);
     if is_attr {
         let c = put_bytes(text, a, name);
         return put_two(text, c, b')', b')');
@@ -57,8 +54,7 @@ pub fn put_attribute(
 
 // The DECL_TAG id, if its component is the one asked for.
 fn emit_decl_tag(
-    b: TypeTable,
-    section: &[u8],
+    b: &Table,
     work: &[u8],
     text: &mut [u8],
     at: usize,
@@ -67,23 +63,22 @@ fn emit_decl_tag(
 ) -> usize
     ensures { put_out result text.new
         ≡ put_text text.old at (whole
-        (decl_tag comp_idx ((btf_of b section.now work.now).type_by_id id))) }
+        (decl_tag comp_idx ((btf_of b.now.head b.now.section.now work.now).type_by_id id))) }
 {
-    let t = type_by_id(b, section, work, id);
+    let t = b.type_by_id(work, id);
     if Kind::of(t.info) != Kind::DeclTag {
         return at;
     }
-    if comp_idx_of(b, section, t) != comp_idx {
+    if b.comp_idx_of(t) != comp_idx {
         return at;
     }
-    put_attribute(b, section, text, at, kind_flag_of(t.info), true, t.name_off)
+    put_attribute(b, text, at, kind_flag_of(t.info), true, t.name_off)
 }
 
 // The tags of a type, those of the whole (WHOLE_TYPE) or of one member, in the order of their ids. The list
 // of a type's tags rises; what does not rise, or is no id of a type, was not left by opening, and ends it.
 fn emit_tag_list(
-    b: TypeTable,
-    section: &[u8],
+    b: &Table,
     work: &[u8],
     text: &mut [u8],
     at: usize,
@@ -92,17 +87,17 @@ fn emit_tag_list(
 ) -> usize
     ensures { put_out result text.new
         ≡ put_text text.old at (whole
-        (decl_tags (btf_of b section.now work.now) comp_idx
-        ((btf_of b section.now work.now).decl_tags id))) }
+        (decl_tags (btf_of b.now.head b.now.section.now work.now) comp_idx
+        ((btf_of b.now.head b.now.section.now work.now).decl_tags id))) }
 {
     let mut p = at;
     let mut last: u32 = 0;
     let mut tag = get_field(work, id, cell::FIRST_TAG);
     while last < tag {
-        if b.types <= tag {
+        if b.head.types <= tag {
             return p;
         }
-        p = emit_decl_tag(b, section, work, text, p, tag, comp_idx);
+        p = emit_decl_tag(b, work, text, p, tag, comp_idx);
         last = tag;
         tag = get_field(work, tag, cell::NEXT_TAG);
     }
@@ -111,8 +106,7 @@ fn emit_tag_list(
 
 // The same; most types have no tag.
 pub fn emit_decl_tags(
-    b: TypeTable,
-    section: &[u8],
+    b: &Table,
     work: &[u8],
     text: &mut [u8],
     at: usize,
@@ -121,11 +115,11 @@ pub fn emit_decl_tags(
 ) -> usize
     ensures { put_out result text.new
         ≡ put_text text.old at (whole
-        (decl_tags (btf_of b section.now work.now) comp_idx
-        ((btf_of b section.now work.now).decl_tags id))) }
+        (decl_tags (btf_of b.now.head b.now.section.now work.now) comp_idx
+        ((btf_of b.now.head b.now.section.now work.now).decl_tags id))) }
 {
     if get_field(work, id, cell::FIRST_TAG) == 0 {
         return at;
     }
-    emit_tag_list(b, section, work, text, at, id, comp_idx)
+    emit_tag_list(b, work, text, at, id, comp_idx)
 }

@@ -12,9 +12,9 @@ use base_bytes::limit;
 use base_bytes::refusal::Refusal;
 use btf_layout::member_end::member_end;
 use btf_layout::size::get_size_of;
-use btf_type_table::entry::load_member;
 use btf_type_table::kind::{is_struct, vlen_of};
-use spec_type_table::{BtfMember, BtfType, TypeTable};
+use btf_type_table::table::Table;
+use spec_type_table::{BtfMember, BtfType};
 
 // What the members reach, a struct's last end or a union's largest member, and whether all of them fit.
 #[derive(Clone, Copy)]
@@ -83,13 +83,13 @@ fn member_fits(in_struct: bool, packed: bool, last: u32, size: u32, m: BtfMember
 }
 
 // The size of a bit field's type; a plain member's is asked with its end.
-fn field_size(b: TypeTable, section: &[u8], work: &[u8], m: BtfMember) -> Result<u32, Refusal>
-    ensures { ask_of result ≡ field_size (btf_of b section.now work.now) (rule_member b section.now m) }
+fn field_size(b: &Table, work: &[u8], m: BtfMember) -> Result<u32, Refusal>
+    ensures { ask_of result ≡ field_size (btf_of b.now.head b.now.section.now work.now) (rule_member b.now.head b.now.section.now m) }
 {
     if m.bit_size == 0 {
         return Ok(0);
     }
-    get_size_of(b, section, work, m.type_id, limit::MOST_CALLS)
+    get_size_of(b, work, m.type_id, limit::MOST_CALLS)
 }
 
 fn reached(in_struct: bool, last: u32, end: u32) -> u32
@@ -119,8 +119,7 @@ fn with_member(
 
 // One member more: the size of a bit field's type is asked before its end.
 fn next_member(
-    b: TypeTable,
-    section: &[u8],
+    b: &Table,
     work: &[u8],
     in_struct: bool,
     packed: bool,
@@ -128,23 +127,17 @@ fn next_member(
     m: BtfMember,
 ) -> Result<Extent, Refusal>
     ensures { extents_of result
-        ≡ one_member (btf_of b section.now work.now) in_struct packed x (rule_member b section.now m) }
+        ≡ one_member (btf_of b.now.head b.now.section.now work.now) in_struct packed x (rule_member b.now.head b.now.section.now m) }
 {
-    let size = field_size(b, section, work, m)?;
-    let end = member_end(b, section, work, m)?;
+    let size = field_size(b, work, m)?;
+    let end = member_end(b, work, m)?;
     Ok(with_member(in_struct, packed, x, size, end, m))
 }
 
-pub fn extent_of(
-    b: TypeTable,
-    section: &[u8],
-    work: &[u8],
-    t: BtfType,
-    packed: bool,
-) -> Result<Extent, Refusal>
+pub fn extent_of(b: &Table, work: &[u8], t: BtfType, packed: bool) -> Result<Extent, Refusal>
     ensures { extents_of result
-        ≡ extent_of (btf_of b section.now work.now) (eqb (kind_of t.info) 4) packed no_extent
-        (members_of b section.now t) }
+        ≡ extent_of (btf_of b.now.head b.now.section.now work.now) (eqb (kind_of t.info) 4) packed no_extent
+        (members_of b.now.head b.now.section.now t) }
 {
     let in_struct = is_struct(t);
     let mut x = Extent {
@@ -152,8 +145,8 @@ pub fn extent_of(
         fits: true,
     };
     for k in 0..vlen_of(t.info) {
-        let m = load_member(b, section, t, k);
-        x = next_member(b, section, work, in_struct, packed, x, m)?;
+        let m = b.load_member(t, k);
+        x = next_member(b, work, in_struct, packed, x, m)?;
     }
     Ok(x)
 }

@@ -14,6 +14,7 @@ use crate::pads::put_pads;
 use base_bytes::put::{put_byte, stop};
 use btf_layout::asked::gap_align;
 use btf_type_table::kind::is_struct;
+use btf_type_table::table::Table;
 use spec_type_table::{BtfMember, BtfType, TypeTable};
 
 // The pads of a gap before a member with an alignment; before a plain member a natural gap has none.
@@ -39,8 +40,7 @@ fn put_gap(
 }
 
 pub fn emit_bit_padding(
-    b: TypeTable,
-    section: &[u8],
+    b: &Table,
     work: &mut [u8],
     text: &mut [u8],
     at: usize,
@@ -50,15 +50,15 @@ pub fn emit_bit_padding(
     lvl: u32,
 ) -> usize
     ensures { out_of result text.new work.new
-        ≡ put_said text.old at (pad_said b.types (btf_of b section.now work.old) offset
-        (rule_member b section.now m) packed lvl work.old) }
+        ≡ put_said text.old at (pad_said b.now.head.types (btf_of b.now.head b.now.section.now work.old) offset
+        (rule_member b.now.head b.now.section.now m) packed lvl work.old) }
 {
     let end = m.bit_offset;
     if end <= offset {
         return at;
     }
-    match gap_align(b, section, work, m.type_id, packed) {
-        Ok(a) => put_gap(b, text, at, offset, m.bit_size, end - offset, a, lvl),
+    match gap_align(b, work, m.type_id, packed) {
+        Ok(a) => put_gap(b.head, text, at, offset, m.bit_size, end - offset, a, lvl),
         Err(c) => stop(text, at, u32::from(c)),
     }
 }

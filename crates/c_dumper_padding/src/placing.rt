@@ -8,56 +8,38 @@ ghost use Rattle.c_dumper_padding.specs.placing.Steps.{by_in, measured_in, body_
 use crate::extents::{extent_of, judged};
 use base_bytes::refusal::Refusal;
 use btf_layout::asked::{is_packed, union_align};
-use spec_type_table::{BtfType, TypeTable};
+use btf_type_table::table::Table;
+use spec_type_table::BtfType;
 
 // The packed test, then the members, then the whole.
-fn measured_by(
-    b: TypeTable,
-    section: &[u8],
-    work: &mut [u8],
-    id: u32,
-    t: BtfType,
-    a: u32,
-) -> Result<bool, Refusal>
+fn measured_by(b: &Table, work: &mut [u8], id: u32, t: BtfType, a: u32) -> Result<bool, Refusal>
     ensures { ask_in result work.new
-        ≡ by_in b.types (btf_of b section.now work.old) (eqb (kind_of t.info) 4) id t.type_id
-        (members_of b section.now t) a work.old }
+        ≡ by_in b.now.head.types (btf_of b.now.head b.now.section.now work.old) (eqb (kind_of t.info) 4) id t.type_id
+        (members_of b.now.head b.now.section.now t) a work.old }
 {
-    let packed = is_packed(b, section, work, id, t)?;
-    let x = extent_of(b, section, work, t, packed)?;
+    let packed = is_packed(b, work, id, t)?;
+    let x = extent_of(b, work, t, packed)?;
     judged(t, a, x, packed)
 }
 
-fn measured(
-    b: TypeTable,
-    section: &[u8],
-    work: &mut [u8],
-    id: u32,
-    t: BtfType,
-) -> Result<bool, Refusal>
+fn measured(b: &Table, work: &mut [u8], id: u32, t: BtfType) -> Result<bool, Refusal>
     ensures { ask_in result work.new
-        ≡ measured_in b.types (btf_of b section.now work.old) (eqb (kind_of t.info) 4) id t.type_id
-        (members_of b section.now t) work.old }
+        ≡ measured_in b.now.head.types (btf_of b.now.head b.now.section.now work.old) (eqb (kind_of t.info) 4) id t.type_id
+        (members_of b.now.head b.now.section.now t) work.old }
 {
-    let a = union_align(b, section, work, id, t)?;
-    measured_by(b, section, work, id, t, a)
+    let a = union_align(b, work, id, t)?;
+    measured_by(b, work, id, t, a)
 }
 
 // What is known of a body before its first name or byte: whether it is packed, or the refusal. The mode chooses.
-pub fn body_packed(
-    b: TypeTable,
-    section: &[u8],
-    work: &mut [u8],
-    id: u32,
-    t: BtfType,
-) -> Result<bool, Refusal>
+pub fn body_packed(b: &Table, work: &mut [u8], id: u32, t: BtfType) -> Result<bool, Refusal>
     ensures { ask_in result work.new
-        ≡ body_in b.types (btf_of b section.now work.old) (eqb (kind_of t.info) 4) id t.type_id
-        (members_of b section.now t) work.old }
+        ≡ body_in b.now.head.types (btf_of b.now.head b.now.section.now work.old) (eqb (kind_of t.info) 4) id t.type_id
+        (members_of b.now.head b.now.section.now t) work.old }
 {
-    let is_measured = b.placing;
+    let is_measured = b.head.placing;
     if is_measured {
-        return measured(b, section, work, id, t);
+        return measured(b, work, id, t);
     }
-    is_packed(b, section, work, id, t)
+    is_packed(b, work, id, t)
 }

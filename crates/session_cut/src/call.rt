@@ -16,11 +16,11 @@ use btf_open_causes::header::btf_of;
 use btf_open_causes::records::scan;
 use btf_open_causes::references::has_bad_reference;
 use btf_open_causes::strings::{has_bad_header, has_bad_strings};
+use btf_type_table::table::Table;
 use session_cut_marks::kept::Kept;
 use session_cut_marks::marks::number_kept;
 use spec_bytes::refusal::Refusal;
 use spec_session::session::{Answer, Session};
-use spec_type_table::TypeTable;
 
 // Whether the session is open on a section of this length.
 fn is_open(s: Session, len: usize) -> bool
@@ -54,12 +54,10 @@ fn check(section: &[u8], pointer_size: u32, start: &mut [u32]) -> Option<u32>
     if !is_sound(section) {
         return None;
     }
-    let counts = scan(btf_of(section, pointer_size, 0, 0), section, start)?;
-    if has_bad_reference(
-        btf_of(section, pointer_size, 0, counts.types),
-        section,
-        start,
-    ) {
+    let head = btf_of(section, pointer_size, 0, 0);
+    let counts = scan(&Table { head, section }, start)?;
+    let head = btf_of(section, pointer_size, 0, counts.types);
+    if has_bad_reference(&Table { head, section }, start) {
         return None;
     }
     Some(counts.types)
@@ -73,22 +71,15 @@ fn is_past(given: &[u8], count: u32) -> bool
 }
 
 // The new section, of a table and its index: its length.
-fn write_cut(
-    b: TypeTable,
-    section: &[u8],
-    start: &[u32],
-    given: &[u8],
-    out: &mut [u8],
-) -> Option<u32>
+fn write_cut(b: &Table, start: &[u32], given: &[u8], out: &mut [u8]) -> Option<u32>
     ensures { wrote_of result out.new
-        ≡ kept_written b section.now start.now
-        (ids_of b section.now start.now given.now all_zero) out.old }
+        ≡ kept_written b.now.head b.now.section.now start.now
+        (ids_of b.now.head b.now.section.now start.now given.now all_zero) out.old }
 {
     let mut ids = [0u32; limit::TYPES_LEN];
-    number_kept(b, section, start, given, &mut ids);
+    number_kept(b, start, given, &mut ids);
     let kept = Kept {
-        b,
-        section,
+        table: *b,
         start,
         ids: &ids,
     };
@@ -107,8 +98,8 @@ fn cut_section(s: Session, section: &[u8], given: &[u8], out: &mut [u8]) -> Resu
     if is_past(given, n) {
         return Err(Refusal::NoSuchId);
     }
-    let b = btf_of(section, s.pointer_size, 0, n);
-    write_cut(b, section, &start, given, out).ok_or(Refusal::OutputShort)
+    let head = btf_of(section, s.pointer_size, 0, n);
+    write_cut(&Table { head, section }, &start, given, out).ok_or(Refusal::OutputShort)
 }
 
 // Writes the section that holds what is reachable from the given ids, four bytes each, least significant first: its length.

@@ -3,13 +3,12 @@ ghost use Rattle.std.specs.Prelude.{◌≡◌, get_or};
 ghost use Rattle.btf_open_causes.specs.references.Followed.{entry_at};
 
 use crate::peek::peek;
-use spec_type_table::TypeTable;
+use btf_type_table::table::Table;
 
 // A section with the index of its records, and the new id of each type: 0 for what is not kept.
 #[derive(Clone, Copy)]
 pub struct Kept<'a> {
-    pub b: TypeTable,
-    pub section: &'a [u8],
+    pub table: Table<'a>,
     pub start: &'a [u32],
     pub ids: &'a [u32],
 }
@@ -24,8 +23,8 @@ impl Kept<'_> {
 
     // The entry of its record: place * 32 + kind.
     pub fn entry(&self, x: u32) -> u32
-        ensures { result ≡ entry_at self.now.b self.now.start.now x }
+        ensures { result ≡ entry_at self.now.table.head self.now.start.now x }
     {
-        btf_open_causes::references::entry(self.b, self.start, x)
+        btf_open_causes::references::entry(self.table.head, self.start, x)
     }
 }

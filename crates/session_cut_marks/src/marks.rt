@@ -11,7 +11,7 @@ use crate::tags::{mark_tags, number};
 use base_bytes::limit;
 use base_bytes::word::get_word;
 use btf_open_causes::references::{count_at, entry, id_at};
-use spec_type_table::TypeTable;
+use btf_type_table::table::Table;
 
 // The marks, and the ids that have one and whose references are still to be followed: the first `height` of the stack.
 #[derive(Drop)]
@@ -47,17 +47,17 @@ impl Marking<'_> {
     }
 
     // What type x follows.
-    fn push_followed(&mut self, b: TypeTable, section: &[u8], start: &[u32], x: u32)
+    fn push_followed(&mut self, b: &Table, start: &[u32], x: u32)
         ensures turned { heap_of self.new
-            ≡ pushed_to (followed_id b section.now start.now x) (heap_of self.old)
-            (followed_count b section.now start.now x) }
+            ≡ pushed_to (followed_id b.now.head b.now.section.now start.now x) (heap_of self.old)
+            (followed_count b.now.head b.now.section.now start.now x) }
         ensures same { SameSlices self.old self.new }
     {
-        let e = entry(b, start, x);
+        let e = entry(b.head, start, x);
         let kind = e % 32;
         let at = e / 32;
-        for k in 0..count_at(b, section, kind, at) {
-            self.push(id_at(b, section, kind, at, k));
+        for k in 0..count_at(b, kind, at) {
+            self.push(id_at(b, kind, at, k));
         }
     }
 
@@ -69,9 +69,9 @@ impl Marking<'_> {
     }
 
     // Until the stack is empty: the last id is taken from it, and what it follows is marked.
-    fn close(&mut self, b: TypeTable, section: &[u8], start: &[u32])
+    fn close(&mut self, b: &Table, start: &[u32])
         ensures turned { heap_of self.new
-            ≡ closed b section.now start.now (weight (heap_of self.old)) (heap_of self.old) }
+            ≡ closed b.now.head b.now.section.now start.now (weight (heap_of self.old)) (heap_of self.old) }
         ensures same { SameSlices self.old self.new }
     {
         // A `while`: the stack falls and grows, so no range says the turns.
@@ -79,7 +79,7 @@ impl Marking<'_> {
             let top = self.height - 1;
             let x = self.stacked(top);
             self.height = top;
-            self.push_followed(b, section, start, x);
+            self.push_followed(b, start, x);
         }
     }
 
@@ -96,8 +96,8 @@ impl Marking<'_> {
 }
 
 // For each id its new number, and 0 for what is not kept. The ids lent are zeros, 262145 of them; other words count as marks.
-pub fn number_kept(b: TypeTable, section: &[u8], start: &[u32], given: &[u8], ids: &mut [u32])
-    ensures { ids.new ≡ ids_of b section.now start.now given.now ids.old }
+pub fn number_kept(b: &Table, start: &[u32], given: &[u8], ids: &mut [u32])
+    ensures { ids.new ≡ ids_of b.now.head b.now.section.now start.now given.now ids.old }
 {
     let mut stack = [0u32; limit::TYPES_LEN];
     let mut marking = Marking {
@@ -106,7 +106,7 @@ pub fn number_kept(b: TypeTable, section: &[u8], start: &[u32], given: &[u8], id
         height: 0,
     };
     marking.push_given(given);
-    marking.close(b, section, start);
-    mark_tags(b, section, start, ids);
+    marking.close(b, start);
+    mark_tags(b, start, ids);
     number(ids);
 }

@@ -4,8 +4,7 @@ ghost use Rattle.session_cut_marks.specs.roles.Words.{digit_at, fixed_words, ent
 
 use crate::peek::peek;
 use btf_type_table::kind::vlen_of;
-use btf_type_table::section_word::word;
-use spec_type_table::TypeTable;
+use btf_type_table::table::Table;
 
 fn digit(l: &[u8], i: usize) -> u8
     ensures { result ≡ digit_at l.now i }
@@ -65,16 +64,16 @@ pub fn word_role(kind: u32, j: u32) -> Role
 }
 
 // How many words the record with entry e has: place * 32 + kind.
-pub fn words_in(b: TypeTable, section: &[u8], e: u32) -> u32
-    ensures { result ≡ words_in b section.now e }
+pub fn words_in(b: &Table, e: u32) -> u32
+    ensures { result ≡ words_in b.now.head b.now.section.now e }
 {
-    let v = vlen_of(word(b, section, ((e / 32) as usize) + 4));
+    let v = vlen_of(b.word(((e / 32) as usize) + 4));
     (fixed_words(e % 32) as u32) + (entry_words(e % 32) as u32) * v
 }
 
 // Word j of it.
-pub fn word_of(b: TypeTable, section: &[u8], e: u32, j: u32) -> u32
-    ensures { result ≡ word_of b section.now e j }
+pub fn word_of(b: &Table, e: u32, j: u32) -> u32
+    ensures { result ≡ word_of b.now.head b.now.section.now e j }
 {
-    word(b, section, ((e / 32) as usize) + (j as usize) * 4)
+    b.word(((e / 32) as usize) + (j as usize) * 4)
 }

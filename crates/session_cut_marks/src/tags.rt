@@ -7,19 +7,18 @@ use crate::peek::peek;
 use base_bytes::limit;
 use btf_open_causes::references::{count, entry, kind_at};
 use btf_type_table::kind;
-use btf_type_table::section_word::word;
-use spec_type_table::TypeTable;
+use btf_type_table::table::Table;
 
 // What the DECL_TAG x is on, where that is neither void nor a DECL_TAG.
-fn tag_on(b: TypeTable, section: &[u8], start: &[u32], x: u32) -> Option<u32>
-    ensures { result ≡ some_number (tag_on b section.now start.now x) }
+fn tag_on(b: &Table, start: &[u32], x: u32) -> Option<u32>
+    ensures { result ≡ some_number (tag_on b.now.head b.now.section.now start.now x) }
 {
-    let e = entry(b, start, x);
+    let e = entry(b.head, start, x);
     if e % 32 != kind::DECL_TAG {
         return None;
     }
-    let t = word(b, section, ((e / 32) as usize) + 8);
-    let is_tag = kind_at(b, start, t) == kind::DECL_TAG;
+    let t = b.word(((e / 32) as usize) + 8);
+    let is_tag = kind_at(b.head, start, t) == kind::DECL_TAG;
     if is_tag {
         return None;
     }
@@ -30,10 +29,10 @@ fn tag_on(b: TypeTable, section: &[u8], start: &[u32], x: u32) -> Option<u32>
 }
 
 // Marks x, if it is a tag on what is marked.
-fn mark_tag(b: TypeTable, section: &[u8], start: &[u32], marks: &mut [u32], x: u32)
-    ensures { marks.new ≡ tagged_at b section.now start.now marks.old x }
+fn mark_tag(b: &Table, start: &[u32], marks: &mut [u32], x: u32)
+    ensures { marks.new ≡ tagged_at b.now.head b.now.section.now start.now marks.old x }
 {
-    let Some(t) = tag_on(b, section, start, x) else {
+    let Some(t) = tag_on(b, start, x) else {
         return;
     };
     if peek(marks, t as usize, 0) == 0 {
@@ -45,11 +44,11 @@ fn mark_tag(b: TypeTable, section: &[u8], start: &[u32], marks: &mut [u32], x: u
     }
 }
 
-pub fn mark_tags(b: TypeTable, section: &[u8], start: &[u32], marks: &mut [u32])
-    ensures { marks.new ≡ tagged_to b section.now start.now marks.old (type_count b) }
+pub fn mark_tags(b: &Table, start: &[u32], marks: &mut [u32])
+    ensures { marks.new ≡ tagged_to b.now.head b.now.section.now start.now marks.old (type_count b.now.head) }
 {
-    for x in 0..count(b) {
-        mark_tag(b, section, start, marks, x);
+    for x in 0..count(b.head) {
+        mark_tag(b, start, marks, x);
     }
 }
 

@@ -11,18 +11,17 @@ use crate::step::{Shape, Step, next_step, put_entry};
 use base_bytes::limit;
 use base_bytes::refusal::Refusal;
 use btf_open_causes::header::btf_of;
-use btf_type_table::node::type_by_id;
-use btf_type_table::section_word::array_type;
+use btf_type_table::table::Table;
 use session_record::settle::is_current;
 use spec_session::session::{Answer, Session};
-use spec_type_table::{BtfType, Kind, TypeTable};
+use spec_type_table::{BtfType, Kind};
 
 #[tactic(auto, using(spec_type_table::proofs::KindTypes::kind_types), unfolding(crate::specs::step::Code::shape_is, crate::specs::step::Path::shape_of))]
-fn shape_of(b: TypeTable, section: &[u8], t: BtfType) -> Shape
-    ensures { shape_is b section.now result ≡ shape_of (type_of b section.now t) }
+fn shape_of(b: &Table, t: BtfType) -> Shape
+    ensures { shape_is b.now.head b.now.section.now result ≡ shape_of (type_of b.now.head b.now.section.now t) }
 {
     match Kind::of(t.info) {
-        Kind::Array => Shape::Array(array_type(b, section, t)),
+        Kind::Array => Shape::Array(b.array_type(t)),
         Kind::Struct | Kind::Union => Shape::Composite(t),
         Kind::Typedef | Kind::Volatile | Kind::Const | Kind::Restrict | Kind::TypeTag =>
             Shape::Through(t.type_id),
@@ -30,42 +29,34 @@ fn shape_of(b: TypeTable, section: &[u8], t: BtfType) -> Shape
     }
 }
 
-fn is_composite(b: TypeTable, section: &[u8], t: BtfType) -> bool
-    ensures { result ≡ is_composite (shape_of (type_of b section.now t)) }
+fn is_composite(b: &Table, t: BtfType) -> bool
+    ensures { result ≡ is_composite (shape_of (type_of b.now.head b.now.section.now t)) }
 {
-    matches!(shape_of(b, section, t), Shape::Composite(_))
+    matches!(shape_of(b, t), Shape::Composite(_))
 }
 
 // What stands behind typedefs, qualifiers and type tags.
-fn behind(b: TypeTable, section: &[u8], work: &[u8], id: u32, left: u32) -> Shape
-    ensures { shape_is b section.now result ≡ behind left (btf_of b section.now work.now) id }
+fn behind(b: &Table, work: &[u8], id: u32, left: u32) -> Shape
+    ensures { shape_is b.now.head b.now.section.now result ≡ behind left (btf_of b.now.head b.now.section.now work.now) id }
 {
     if left == 0 {
         return Shape::Plain;
     }
-    match shape_of(b, section, type_by_id(b, section, work, id)) {
-        Shape::Through(t) => behind(b, section, work, t, left - 1),
+    match shape_of(b, b.type_by_id(work, id)) {
+        Shape::Through(t) => behind(b, work, t, left - 1),
         shape => shape,
     }
 }
 
 // The path inside a type after n entries: its whole length. Entries are written on the way back, when the length is known, so
 // that a refusal leaves the lent path as it was.
-fn walk(
-    b: TypeTable,
-    section: &[u8],
-    work: &[u8],
-    path: &mut [u8],
-    id: u32,
-    bit: u32,
-    n: u32,
-) -> Result<u32, u32>
+fn walk(b: &Table, work: &[u8], path: &mut [u8], id: u32, bit: u32, n: u32) -> Result<u32, u32>
     requires { n ≤ 512 }
     ensures { led_to (asked result) path.new
-        ≡ written path.old n (path_from (512 - n) (btf_of b section.now work.now) id bit) }
+        ≡ written path.old n (path_from (512 - n) (btf_of b.now.head b.now.section.now work.now) id bit) }
 {
-    let shape = behind(b, section, work, id, limit::MOST_CALLS);
-    let step = next_step(b, section, work, shape, bit)?;
+    let shape = behind(b, work, id, limit::MOST_CALLS);
+    let step = next_step(b, work, shape, bit)?;
     match step {
         Step::Stay => Ok(n),
         Step::Field(k) => {
@@ -83,7 +74,7 @@ fn walk(
             if n == limit::MOST_CALLS {
                 return Err(u32::from(Refusal::TooDeep));
             }
-            let len = walk(b, section, work, path, type_id, bit, n + 1)?;
+            let len = walk(b, work, path, type_id, bit, n + 1)?;
             put_entry(path, n, entry, len);
             Ok(len)
         }
@@ -104,21 +95,14 @@ fn answer_to(room: usize, len: u32) -> Answer
 }
 
 // The path of a bit of a type, which is to be a composite.
-fn find_field(
-    b: TypeTable,
-    section: &[u8],
-    work: &[u8],
-    path: &mut [u8],
-    id: u32,
-    bit: u32,
-) -> Answer
+fn find_field(b: &Table, work: &[u8], path: &mut [u8], id: u32, bit: u32) -> Answer
     ensures { found_of result path.new
-        ≡ lent_path path.old (field_path (btf_of b section.now work.now) id bit) }
+        ≡ lent_path path.old (field_path (btf_of b.now.head b.now.section.now work.now) id bit) }
 {
-    if !is_composite(b, section, type_by_id(b, section, work, id)) {
+    if !is_composite(b, b.type_by_id(work, id)) {
         return Answer::Refused(u32::from(Refusal::NoField), 0);
     }
-    match walk(b, section, work, path, id, bit, 0) {
+    match walk(b, work, path, id, bit, 0) {
         Ok(len) => answer_to(path.len() / 4, len),
         Err(c) => Answer::Refused(c, 0),
     }
@@ -142,6 +126,6 @@ pub fn which_field(
     if s.types <= id {
         return Answer::Refused(u32::from(Refusal::NoSuchId), 0);
     }
-    let b = btf_of(section, s.pointer_size, s.modes, s.types);
-    find_field(b, section, work, path, id, bit)
+    let head = btf_of(section, s.pointer_size, s.modes, s.types);
+    find_field(&Table { head, section }, work, path, id, bit)
 }

@@ -10,9 +10,9 @@ use base_bytes::limit;
 use base_bytes::word::put_word;
 use btf_layout::member_end::member_end;
 use btf_layout::size::get_size_of;
-use btf_type_table::entry::load_member;
 use btf_type_table::kind::vlen_of;
-use spec_type_table::{BtfMember, BtfType, TypeTable};
+use btf_type_table::table::Table;
+use spec_type_table::{BtfMember, BtfType};
 
 // What the walk sees of a type: a typedef, a qualifier or a type tag is passed, to its target; an array has an element.
 #[derive(Clone, Copy)]
@@ -54,31 +54,24 @@ fn member_step(m: BtfMember, k: u32, end: u32, bit: u32) -> Step
 }
 
 // The same; its size is asked first.
-fn try_member(
-    b: TypeTable,
-    section: &[u8],
-    work: &[u8],
-    m: BtfMember,
-    k: u32,
-    bit: u32,
-) -> Result<Step, u32>
+fn try_member(b: &Table, work: &[u8], m: BtfMember, k: u32, bit: u32) -> Result<Step, u32>
     ensures { step_asked result
-        ≡ ask_then (end_of (btf_of b section.now work.now) (rule_member b section.now m))
+        ≡ ask_then (end_of (btf_of b.now.head b.now.section.now work.now) (rule_member b.now.head b.now.section.now m))
         (λ end. got (member_step m k end bit)) }
 {
-    match member_end(b, section, work, m) {
+    match member_end(b, work, m) {
         Ok(end) => Ok(member_step(m, k, end, bit)),
         Err(c) => Err(u32::from(c)),
     }
 }
 
 // The first member that covers the bit.
-fn find_member(b: TypeTable, section: &[u8], work: &[u8], t: BtfType, bit: u32) -> Result<Step, u32>
-    ensures { step_asked result ≡ tried (btf_of b section.now work.now) bit 0 (members_of b section.now t) }
+fn find_member(b: &Table, work: &[u8], t: BtfType, bit: u32) -> Result<Step, u32>
+    ensures { step_asked result ≡ tried (btf_of b.now.head b.now.section.now work.now) bit 0 (members_of b.now.head b.now.section.now t) }
 {
     for k in 0..vlen_of(t.info) {
-        let m = load_member(b, section, t, k);
-        match try_member(b, section, work, m, k, bit)? {
+        let m = b.load_member(t, k);
+        match try_member(b, work, m, k, bit)? {
             Step::Stay => {}
             step => return Ok(step),
         }
@@ -102,29 +95,23 @@ fn place_of(t: u32, size: u32, bit: u32) -> Step
     }
 }
 
-fn find_place(b: TypeTable, section: &[u8], work: &[u8], t: u32, bit: u32) -> Result<Step, u32>
+fn find_place(b: &Table, work: &[u8], t: u32, bit: u32) -> Result<Step, u32>
     ensures { step_asked result
-        ≡ ask_then (get_size_of 512 (btf_of b section.now work.now) t) (λ size. got (placed t size bit)) }
+        ≡ ask_then (get_size_of 512 (btf_of b.now.head b.now.section.now work.now) t) (λ size. got (placed t size bit)) }
 {
-    match get_size_of(b, section, work, t, limit::MOST_CALLS) {
+    match get_size_of(b, work, t, limit::MOST_CALLS) {
         Ok(size) => Ok(place_of(t, size, bit)),
         Err(c) => Err(u32::from(c)),
     }
 }
 
-pub fn next_step(
-    b: TypeTable,
-    section: &[u8],
-    work: &[u8],
-    shape: Shape,
-    bit: u32,
-) -> Result<Step, u32>
-    ensures { step_asked result ≡ step_in (btf_of b section.now work.now) bit (shape_is b section.now shape) }
+pub fn next_step(b: &Table, work: &[u8], shape: Shape, bit: u32) -> Result<Step, u32>
+    ensures { step_asked result ≡ step_in (btf_of b.now.head b.now.section.now work.now) bit (shape_is b.now.head b.now.section.now shape) }
 {
     match shape {
         Shape::Plain | Shape::Through(_) => Ok(Step::Stay),
-        Shape::Array(t) => find_place(b, section, work, t, bit),
-        Shape::Composite(t) => find_member(b, section, work, t, bit),
+        Shape::Array(t) => find_place(b, work, t, bit),
+        Shape::Composite(t) => find_member(b, work, t, bit),
     }
 }
 

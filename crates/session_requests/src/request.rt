@@ -6,19 +6,18 @@ ghost use Rattle.c_dumper_emit.specs.entries.Noted.{entries_of};
 ghost use Rattle.session_requests.specs.options.Requests.{stage_of, Under, Ready, requested_with, idle_after};
 
 use crate::options::{Options, Progress};
+use btf_type_table::table::Table;
 use c_dumper_dependency_order::ways::count_idle;
 use c_dumper_emit::dump_type::{dump_type, is_idle};
 use c_dumper_emit::entries::{Asked, Pen};
 use session_record::arrival::{arrived, limit};
 use session_record::settle::visits_in;
 use spec_session::session::Reached;
-use spec_type_table::TypeTable;
 
 // One request, after a text of len bytes, so many visits and so many calls of ordering: it is lent of the text what follows that, and of
 // the list what follows the entries so far. `turn` tells it from the other requests of the call.
 pub fn dump_one(
-    b: TypeTable,
-    section: &[u8],
+    b: &Table,
     work: &mut [u8],
     text: &mut [u8],
     list: &mut [u8],
@@ -30,9 +29,9 @@ pub fn dump_one(
     turn: u32,
     o: Options,
 ) -> Progress
-    requires { (len ≤ length text.old) × (b.types ≤ 262145) × Under o made × Ready o turn leads.old }
+    requires { (len ≤ length text.old) × (b.now.head.types ≤ 262145) × Under o made × Ready o turn leads.old }
     ensures { (stage_of result work.new text.new list.new
-        ≡ requested_with o (up_to (entries_in list.old)) b section.now id [] len visits
+        ≡ requested_with o (up_to (entries_in list.old)) b.now.head b.now.section.now id [] len visits
         work.old text.old made) × (result.count ≤ entries_in list.old)
         × (result.reached.len ≤ length text.new) × Under o result.made
         × (result.reached.number ≡ 0 → (result.reached.visits ≡ visits_in work.new) × Ready o (turn + 1) leads.new) }
@@ -47,7 +46,6 @@ pub fn dump_one(
     };
     let d = dump_type(
         b,
-        section,
         work,
         &mut text[from..to],
         list,
@@ -78,8 +76,7 @@ pub fn dump_one(
 
 // The same behind the entries before it, of which there are p.count.
 fn dump_after(
-    b: TypeTable,
-    section: &[u8],
+    b: &Table,
     work: &mut [u8],
     text: &mut [u8],
     list: &mut [u8],
@@ -88,10 +85,10 @@ fn dump_after(
     id: u32,
     o: Options,
 ) -> Progress
-    requires { (p.reached.len ≤ length text.old) × (b.types ≤ 262145) × (p.count ≤ entries_in list.old) × Under o p.made
+    requires { (p.reached.len ≤ length text.old) × (b.now.head.types ≤ 262145) × (p.count ≤ entries_in list.old) × Under o p.made
         × Ready o id leads.old }
     ensures { (stage_of result work.new text.new list.new
-        ≡ requested_with o (up_to (entries_in list.old)) b section.now id (entries_of p.count list.old)
+        ≡ requested_with o (up_to (entries_in list.old)) b.now.head b.now.section.now id (entries_of p.count list.old)
         p.reached.len p.reached.visits work.old text.old p.made)
         × (result.count ≤ entries_in list.old) × (result.reached.len ≤ length text.new) × Under o result.made
         × (result.reached.number ≡ 0 → (result.reached.visits ≡ visits_in work.new) × Ready o (id + 1) leads.new) }
@@ -100,7 +97,6 @@ fn dump_after(
     let from = count * 12;
     let r = dump_one(
         b,
-        section,
         work,
         text,
         &mut list[from..],
@@ -153,8 +149,7 @@ fn pass_idle(p: Progress, o: Options) -> Progress
 
 // The next of all ids, of which most have nothing to write. Its turn is the id itself.
 pub fn dump_next(
-    b: TypeTable,
-    section: &[u8],
+    b: &Table,
     work: &mut [u8],
     text: &mut [u8],
     list: &mut [u8],
@@ -163,16 +158,16 @@ pub fn dump_next(
     id: u32,
     o: Options,
 ) -> Progress
-    requires { (p.reached.len ≤ length text.old) × (b.types ≤ 262145) × (p.count ≤ entries_in list.old) × Under o p.made
+    requires { (p.reached.len ≤ length text.old) × (b.now.head.types ≤ 262145) × (p.count ≤ entries_in list.old) × Under o p.made
         × Ready o id leads.old × (p.reached.visits ≡ visits_in work.old) }
     ensures { (stage_of result work.new text.new list.new
-        ≡ requested_with o (up_to (entries_in list.old)) b section.now id (entries_of p.count list.old)
+        ≡ requested_with o (up_to (entries_in list.old)) b.now.head b.now.section.now id (entries_of p.count list.old)
         p.reached.len (visits_in work.old) work.old text.old p.made)
         × (result.count ≤ entries_in list.old) × (result.reached.len ≤ length text.new) × Under o result.made
         × (result.reached.number ≡ 0 → (result.reached.visits ≡ visits_in work.new) × Ready o (id + 1) leads.new) }
 {
-    if is_idle(b, section, work, id) {
+    if is_idle(b, work, id) {
         return pass_idle(p, o);
     }
-    dump_after(b, section, work, text, list, leads, p, id, o)
+    dump_after(b, work, text, list, leads, p, id, o)
 }

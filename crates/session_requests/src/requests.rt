@@ -18,10 +18,10 @@ use base_bytes::limit;
 use base_bytes::refusal::{NO_SUCH_ID, Refusal};
 use base_bytes::word::{clear, get_word};
 use btf_open_causes::header::btf_of;
+use btf_type_table::table::Table;
 use session_record::arrival::{count_of, settle_list};
 use session_record::settle::{clear_from, is_current, settle, turn_of, visits_in};
 use spec_session::session::{Reached, Session, Tally};
-use spec_type_table::TypeTable;
 
 // Before the first request of a call, after a text of len bytes and so many visits.
 fn none_yet(len: u32, visits: u32) -> Progress
@@ -40,8 +40,7 @@ fn none_yet(len: u32, visits: u32) -> Progress
 
 // Every id from 1 upward, to the first that is refused.
 fn dump_all(
-    b: TypeTable,
-    section: &[u8],
+    b: &Table,
     work: &mut [u8],
     text: &mut [u8],
     list: &mut [u8],
@@ -49,15 +48,15 @@ fn dump_all(
     len: u32,
     o: Options,
 ) -> Progress
-    requires { (len ≤ length text.old) × (b.types ≤ 262145) × Ready o 1 leads.old }
+    requires { (len ≤ length text.old) × (b.now.head.types ≤ 262145) × Ready o 1 leads.old }
     ensures { (stage_of result work.new text.new list.new
-        ≡ requested_from_with o (up_to (entries_in list.old)) b section.now (b.types - 1) 1 [] len
+        ≡ requested_from_with o (up_to (entries_in list.old)) b.now.head b.now.section.now (b.now.head.types - 1) 1 [] len
         work.old text.old 0) × (result.count ≤ entries_in list.old) }
 {
-    let n = b.types;
+    let n = b.head.types;
     let mut r = none_yet(len, visits_in(work));
     for id in 1..n {
-        r = dump_next(b, section, work, text, list, leads, r, id, o);
+        r = dump_next(b, work, text, list, leads, r, id, o);
         if r.reached.number != 0 {
             return r;
         }
@@ -122,7 +121,7 @@ fn dump_ids(
         ≡ list_call_with o s section.now work.old text.old (ids_in ids.now)
         list.old) × (result.count ≤ entries_in list.old) }
 {
-    let b = btf_of(section, s.pointer_size, s.modes, s.types);
+    let head = btf_of(section, s.pointer_size, s.modes, s.types);
     let n = count_of(ids);
     let mut r = none_yet(s.text_len, s.visits);
     for k in 0..n {
@@ -133,8 +132,7 @@ fn dump_ids(
         let count = r.count;
         let from = count * 12;
         let d = dump_one(
-            b,
-            section,
+            &Table { head, section },
             work,
             text,
             &mut list[from..],
@@ -220,9 +218,10 @@ fn type_with(
     if s.types <= id {
         return unchanged(s, Refusal::NoSuchId, s.text_len);
     }
-    let b = btf_of(section, s.pointer_size, s.modes, s.types);
+    let head = btf_of(section, s.pointer_size, s.modes, s.types);
+    let b = Table { head, section };
     let r = dump_one(
-        b, section, work, text, list, leads, s.text_len, s.visits, 0, id, 1, o,
+        &b, work, text, list, leads, s.text_len, s.visits, 0, id, 1, o,
     );
     let turn = settle(s, work, text, r.reached);
     clear_entries(list, r.count);
@@ -249,8 +248,9 @@ fn types_with(
     if !is_current(s, section.len(), work.len(), text.len()) {
         return unchanged(s, Refusal::SessionClosed, s.text_len);
     }
-    let b = btf_of(section, s.pointer_size, s.modes, s.types);
-    let r = dump_all(b, section, work, text, list, leads, s.text_len, o);
+    let head = btf_of(section, s.pointer_size, s.modes, s.types);
+    let b = Table { head, section };
+    let r = dump_all(&b, work, text, list, leads, s.text_len, o);
     let turn = settle(s, work, text, r.reached);
     clear_entries(list, r.count);
     Ended {

@@ -5,7 +5,7 @@ ghost use Rattle.btf_open_causes.specs.references.Followed.{type_count, entry_at
 
 use base_bytes::limit;
 use btf_type_table::kind::{member_place, param_place, vlen_of};
-use btf_type_table::section_word::word;
+use btf_type_table::table::Table;
 use spec_type_table::{Entries, Kind, TypeTable};
 
 // How many types there are, void counted. No table that passed cause 5 has more than 262145.
@@ -31,15 +31,15 @@ pub fn kind_at(b: TypeTable, start: &[u32], x: u32) -> u32
     entry(b, start, x) % 32
 }
 
-fn vlen_at(b: TypeTable, section: &[u8], at: u32) -> u32
-    ensures { result ≡ vlen_of (section_word b section.now (at + 4)) }
+fn vlen_at(b: &Table, at: u32) -> u32
+    ensures { result ≡ vlen_of (section_word b.now.head b.now.section.now (at + 4)) }
 {
-    vlen_of(word(b, section, (at as usize) + 4))
+    vlen_of(b.word((at as usize) + 4))
 }
 
 // How many ids the record of a kind at a place follows: targets, elements, members, parameters and results.
-pub fn count_at(b: TypeTable, section: &[u8], kind: u32, at: u32) -> u32
-    ensures { result ≡ count_at b section.now kind at }
+pub fn count_at(b: &Table, kind: u32, at: u32) -> u32
+    ensures { result ≡ count_at b.now.head b.now.section.now kind at }
 {
     match Kind::numbered(kind) {
         Kind::Ptr
@@ -49,8 +49,8 @@ pub fn count_at(b: TypeTable, section: &[u8], kind: u32, at: u32) -> u32
         | Kind::Const
         | Kind::Restrict
         | Kind::TypeTag => 1,
-        Kind::Struct | Kind::Union => vlen_at(b, section, at),
-        Kind::FuncProto => vlen_at(b, section, at) + 1,
+        Kind::Struct | Kind::Union => vlen_at(b, at),
+        Kind::FuncProto => vlen_at(b, at) + 1,
         _ => 0,
     }
 }
@@ -74,15 +74,15 @@ fn id_place(kind: u32, at: u32, k: u32) -> usize
 }
 
 // The k-th of them.
-pub fn id_at(b: TypeTable, section: &[u8], kind: u32, at: u32, k: u32) -> u32
-    ensures { result ≡ id_at b section.now kind at k }
+pub fn id_at(b: &Table, kind: u32, at: u32, k: u32) -> u32
+    ensures { result ≡ id_at b.now.head b.now.section.now kind at k }
 {
-    word(b, section, id_place(kind, at, k))
+    b.word(id_place(kind, at, k))
 }
 
-pub fn followed(b: TypeTable, section: &[u8], start: &[u32], x: u32, k: u32) -> u32
-    ensures { result ≡ followed_id b section.now start.now x k }
+pub fn followed(b: &Table, start: &[u32], x: u32, k: u32) -> u32
+    ensures { result ≡ followed_id b.now.head b.now.section.now start.now x k }
 {
-    let e = entry(b, start, x);
-    id_at(b, section, e % 32, e / 32, k)
+    let e = entry(b.head, start, x);
+    id_at(b, e % 32, e / 32, k)
 }

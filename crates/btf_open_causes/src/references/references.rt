@@ -3,6 +3,7 @@ ghost use Rattle.std.specs.Prelude.{◌≡◌};
 ghost use Rattle.btf_open_causes.specs.references.References.{is_bad, is_some_bad, has_bad_reference};
 
 use crate::references::index::{count, count_at, entry, id_at, kind_at};
+use btf_type_table::table::Table;
 use spec_type_table::{Kind, TypeTable};
 
 fn is_bad(b: TypeTable, start: &[u32], y: u32) -> bool
@@ -18,18 +19,18 @@ fn is_bad(b: TypeTable, start: &[u32], y: u32) -> bool
     }
 }
 
-fn is_some_bad(b: TypeTable, section: &[u8], start: &[u32], x: u32) -> bool
-    ensures { result ≡ is_some_bad b section.now start.now x }
+fn is_some_bad(b: &Table, start: &[u32], x: u32) -> bool
+    ensures { result ≡ is_some_bad b.now.head b.now.section.now start.now x }
 {
-    let e = entry(b, start, x);
+    let e = entry(b.head, start, x);
     let kind = e % 32;
     let at = e / 32;
-    let n = count_at(b, section, kind, at);
-    (0..n).any(|k| is_bad(b, start, id_at(b, section, kind, at, k)))
+    let n = count_at(b, kind, at);
+    (0..n).any(|k| is_bad(b.head, start, id_at(b, kind, at, k)))
 }
 
-pub fn has_bad_reference(b: TypeTable, section: &[u8], start: &[u32]) -> bool
-    ensures { result ≡ has_bad_reference b section.now start.now }
+pub fn has_bad_reference(b: &Table, start: &[u32]) -> bool
+    ensures { result ≡ has_bad_reference b.now.head b.now.section.now start.now }
 {
-    (0..count(b)).any(|x| is_some_bad(b, section, start, x))
+    (0..count(b.head)).any(|x| is_some_bad(b, start, x))
 }

@@ -9,8 +9,8 @@ ghost use Rattle.btf_open_names.specs.keys.Keys.{space_number, space_code, key_l
 
 use crate::keys::hash::{hash_name, same_name};
 use btf_type_table::cell;
-use btf_type_table::section_word::word;
-use spec_type_table::{Kind, TypeTable};
+use btf_type_table::table::Table;
+use spec_type_table::Kind;
 
 // Where names are told apart: those of tags, and those of typedefs and enumerators.
 #[derive(Clone, Copy, PartialEq, Eq)]
@@ -42,23 +42,23 @@ fn space_of(info: u32) -> Option<Space>
 }
 
 // The space of the holder h whose record or entry stands at a place. Void has none.
-fn space_at(b: TypeTable, section: &[u8], at: u32, h: u32) -> Option<Space>
-    ensures { space_code result ≡ space_at b section.now at h }
+fn space_at(b: &Table, at: u32, h: u32) -> Option<Space>
+    ensures { space_code result ≡ space_at b.now.head b.now.section.now at h }
 {
     if h == 0 {
         return None;
     }
-    if h < b.types {
-        return space_of(word(b, section, (at as usize) + 4));
+    if h < b.head.types {
+        return space_of(b.word((at as usize) + 4));
     }
     Some(Space::Identifier)
 }
 
 // Where the name of the record or entry at a place stands.
-fn name_of(b: TypeTable, section: &[u8], at: u32) -> usize
-    ensures { result ≡ name_of b section.now at }
+fn name_of(b: &Table, at: u32) -> usize
+    ensures { result ≡ name_of b.now.head b.now.section.now at }
 {
-    (b.strs as usize) + (word(b, section, at as usize) as usize)
+    (b.head.strs as usize) + (b.word(at as usize) as usize)
 }
 
 // The space of a holder, and where its name stands.
@@ -69,14 +69,14 @@ pub struct Key {
 }
 
 // The key of a holder, if it has a space. A name without a space is not looked at.
-pub fn load_key(b: TypeTable, section: &[u8], work: &[u8], h: u32) -> Option<Key>
-    ensures { loaded section.now result ≡ key_in b section.now work.now h }
+pub fn load_key(b: &Table, work: &[u8], h: u32) -> Option<Key>
+    ensures { loaded b.now.section.now result ≡ key_in b.now.head b.now.section.now work.now h }
 {
-    let at = cell::HOLDER_PLACE.get(work, b.types, h);
-    let space = space_at(b, section, at, h)?;
+    let at = cell::HOLDER_PLACE.get(work, b.head.types, h);
+    let space = space_at(b, at, h)?;
     Some(Key {
         space,
-        name: name_of(b, section, at),
+        name: name_of(b, at),
     })
 }
 

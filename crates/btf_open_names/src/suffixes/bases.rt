@@ -8,7 +8,7 @@ ghost use Rattle.btf_open_names.specs.suffixes.Based.{based};
 
 use crate::keys::{Key, load_key};
 use crate::suffixes::suffix::suffix_on;
-use spec_type_table::TypeTable;
+use btf_type_table::table::Table;
 
 // Of a name with a suffix: the first holder of the name before it, and the number after it.
 #[derive(Clone, Copy)]
@@ -29,14 +29,14 @@ pub fn key_suffix(section: &[u8], x: Option<Key>, y: Key) -> Option<u32>
 }
 
 // The base of h: the first holder below n whose name, with a suffix, is that of h.
-pub fn base_of(b: TypeTable, section: &[u8], work: &[u8], n: u32, h: u32) -> Option<Base>
+pub fn base_of(b: &Table, work: &[u8], n: u32, h: u32) -> Option<Base>
     ensures { result
-        ≡ based (key_in b section.now work.now) h
-        (base_from (key_in b section.now work.now) h (n - 1) 1) }
+        ≡ based (key_in b.now.head b.now.section.now work.now) h
+        (base_from (key_in b.now.head b.now.section.now work.now) h (n - 1) 1) }
 {
-    let key = load_key(b, section, work, h)?;
+    let key = load_key(b, work, h)?;
     for c in 1..n {
-        let number = key_suffix(section, load_key(b, section, work, c), key);
+        let number = key_suffix(b.section, load_key(b, work, c), key);
         if let Some(number) = number {
             return Some(Base { holder: c, number });
         }

@@ -2,50 +2,43 @@
 ghost use Rattle.std.specs.Prelude.{◌≡◌, ◌-◌, ◌<◌};
 ghost use Rattle.btf_open_names.specs.name_classes.Classes.{key_in};
 ghost use Rattle.btf_open_names.specs.filled_work.Takers.{base_from};
-ghost use Rattle.btf_open_names.specs.hash_table.Hashed.{Table, TableIf};
+ghost use Rattle.btf_open_names.specs.hash_table.Hashed.{Table as IsFilled, TableIf};
 ghost use Rattle.btf_open_names.specs.suffixes.Based.{based};
 
 use crate::keys::load_key;
 use crate::suffixes::{Base, base_of, hash_before, key_suffix};
 use btf_type_table::cell;
-use spec_type_table::TypeTable;
+use btf_type_table::table::Table;
 
 // The base of h. It stands in the bucket of what is before the suffix.
-fn base_in(b: TypeTable, section: &[u8], work: &[u8], n: u32, h: u32) -> Option<Base>
-    requires { (h < n) × Table b section.now work.now n }
+fn base_in(b: &Table, work: &[u8], n: u32, h: u32) -> Option<Base>
+    requires { (h < n) × IsFilled b.now.head b.now.section.now work.now n }
     ensures { result
-        ≡ based (key_in b section.now work.now) h
-        (base_from (key_in b section.now work.now) h (n - 1) 1) }
+        ≡ based (key_in b.now.head b.now.section.now work.now) h
+        (base_from (key_in b.now.head b.now.section.now work.now) h (n - 1) 1) }
 {
-    let key = load_key(b, section, work, h)?;
-    let i = hash_before(section, key.name, key.space.number()) % n;
-    let mut c = cell::TABLE_BUCKET.get(work, b.types, i);
+    let key = load_key(b, work, h)?;
+    let i = hash_before(b.section, key.name, key.space.number()) % n;
+    let mut c = cell::TABLE_BUCKET.get(work, b.head.types, i);
     while c != 0 {
-        let number = key_suffix(section, load_key(b, section, work, c), key);
+        let number = key_suffix(b.section, load_key(b, work, c), key);
         if let Some(number) = number {
             return Some(Base { holder: c, number });
         }
-        c = cell::TABLE_LINK.get(work, b.types, c);
+        c = cell::TABLE_LINK.get(work, b.head.types, c);
     }
     None
 }
 
 // The same, by the table if there is one. (A flag: a closure would have to borrow the work that the loop over all holders writes.)
-pub(crate) fn base(
-    b: TypeTable,
-    section: &[u8],
-    work: &[u8],
-    n: u32,
-    h: u32,
-    has_table: bool,
-) -> Option<Base>
-    requires { (h < n) × TableIf has_table b section.now work.now n }
+pub(crate) fn base(b: &Table, work: &[u8], n: u32, h: u32, has_table: bool) -> Option<Base>
+    requires { (h < n) × TableIf has_table b.now.head b.now.section.now work.now n }
     ensures { result
-        ≡ based (key_in b section.now work.now) h
-        (base_from (key_in b section.now work.now) h (n - 1) 1) }
+        ≡ based (key_in b.now.head b.now.section.now work.now) h
+        (base_from (key_in b.now.head b.now.section.now work.now) h (n - 1) 1) }
 {
     if has_table {
-        return base_in(b, section, work, n, h);
+        return base_in(b, work, n, h);
     }
-    base_of(b, section, work, n, h)
+    base_of(b, work, n, h)
 }

@@ -9,7 +9,7 @@ use crate::keys::load_key;
 use crate::suffixes::{Base, has_suffix};
 use crate::taken_numbers::bases::base;
 use btf_type_table::cell;
-use spec_type_table::TypeTable;
+use btf_type_table::table::Table;
 
 // Puts h in front of the list of its base, with the number that its name takes.
 fn put_on(work: &mut [u8], types: u32, base: Base, h: u32)
@@ -22,38 +22,38 @@ fn put_on(work: &mut [u8], types: u32, base: Base, h: u32)
 }
 
 // Puts h on a list, if it is the first of its name and there is a name that it is with a suffix.
-fn put_taker(b: TypeTable, section: &[u8], work: &mut [u8], n: u32, h: u32, has_table: bool)
-    requires { (h < n) × TableIf has_table b section.now work.old n }
-    ensures { work.new ≡ taker_put b section.now n h work.old }
+fn put_taker(b: &Table, work: &mut [u8], n: u32, h: u32, has_table: bool)
+    requires { (h < n) × TableIf has_table b.now.head b.now.section.now work.old n }
+    ensures { work.new ≡ taker_put b.now.head b.now.section.now n h work.old }
 {
-    if cell::NAME_CLASS.get(work, b.types, h) != h {
+    if cell::NAME_CLASS.get(work, b.head.types, h) != h {
         return;
     }
-    let Some(key) = load_key(b, section, work, h) else {
+    let Some(key) = load_key(b, work, h) else {
         return;
     };
-    if !has_suffix(section, key.name) {
+    if !has_suffix(b.section, key.name) {
         return;
     }
-    if let Some(base) = base(b, section, work, n, h, has_table) {
-        put_on(work, b.types, base, h);
+    if let Some(base) = base(b, work, n, h, has_table) {
+        put_on(work, b.head.types, base, h);
     }
 }
 
 // All holders, from the last to the first, so that those on a list stand in rising order. The work that opening has filled has room for the
 // table.
-fn put_takers(b: TypeTable, section: &[u8], enumerators: u32, work: &mut [u8])
-    ensures { work.new ≡ with_takers b enumerators section.now work.old }
+fn put_takers(b: &Table, enumerators: u32, work: &mut [u8])
+    ensures { work.new ≡ with_takers b.now.head enumerators b.now.section.now work.old }
 {
-    let Some(n) = b.types.checked_add(enumerators) else {
+    let Some(n) = b.head.types.checked_add(enumerators) else {
         return;
     };
-    let has_table = make_table(b, section, enumerators, work);
+    let has_table = make_table(b, enumerators, work);
     for h in (1..n).rev() {
-        put_taker(b, section, work, n, h, has_table);
+        put_taker(b, work, n, h, has_table);
     }
     if has_table {
-        clear_pair(work, b.types, n, cell::TABLE_BUCKET, cell::TABLE_LINK);
+        clear_pair(work, b.head.types, n, cell::TABLE_BUCKET, cell::TABLE_LINK);
     }
 }
 
@@ -61,11 +61,11 @@ fn put_takers(b: TypeTable, section: &[u8], enumerators: u32, work: &mut [u8])
 const NAMES_APART: u32 = 8;
 
 // The mode of names that cannot collide. Without it there are no lists.
-pub fn takers(b: TypeTable, section: &[u8], modes: u32, enumerators: u32, work: &mut [u8])
-    ensures { work.new ≡ takers_in modes b enumerators section.now work.old }
+pub fn takers(b: &Table, modes: u32, enumerators: u32, work: &mut [u8])
+    ensures { work.new ≡ takers_in modes b.now.head enumerators b.now.section.now work.old }
 {
     if modes / NAMES_APART % 2 != 1 {
         return;
     }
-    put_takers(b, section, enumerators, work)
+    put_takers(b, enumerators, work)
 }

@@ -17,11 +17,11 @@ use crate::enums::emit_enum_def;
 use base_bytes::put::{put_byte, put_tabs, put_two, stop};
 use btf_layout::member_end::member_end;
 use btf_type_table::kind::{is_struct, vlen_of};
-use btf_type_table::name::is_empty;
+use btf_type_table::table::Table;
 use c_dumper_name_versions::forwards::put_keyword;
 use c_dumper_name_versions::names::{put_name, put_sep_name, resolve_type_name};
 use c_dumper_name_versions::tags::{WHOLE_TYPE, emit_decl_tags};
-use spec_type_table::{BtfMember, BtfType, TypeTable};
+use spec_type_table::{BtfMember, BtfType};
 
 // Where a member ended: the place in the text, and the bit where the next may begin.
 #[derive(Clone, Copy)]
@@ -32,8 +32,7 @@ pub struct Spot {
 
 // A nameless enum is printed inline.
 pub fn emit_enum_word(
-    b: TypeTable,
-    section: &[u8],
+    b: &Table,
     work: &mut [u8],
     text: &mut [u8],
     at: usize,
@@ -42,19 +41,18 @@ pub fn emit_enum_word(
     lvl: u32,
 ) -> usize
     ensures { out_of result text.new work.new
-        ≡ put_said text.old at (enum_text (work_naming b) (btf_of b section.now work.old)
-        (value_text (is_wide t) (flag_of t.info)) id (record_name b section.now t) (enum_values b section.now t) lvl
+        ≡ put_said text.old at (enum_text (work_naming b.now.head) (btf_of b.now.head b.now.section.now work.old)
+        (value_text (is_wide t) (flag_of t.info)) id (record_name b.now.head b.now.section.now t) (enum_values b.now.head b.now.section.now t) lvl
         work.old) }
 {
-    if is_empty(b, section, t.name_off) {
-        return emit_enum_def(b, section, work, text, at, id, t, lvl);
+    if b.is_empty(t.name_off) {
+        return emit_enum_def(b, work, text, at, id, t, lvl);
     }
-    put_enum_name(b, section, work, text, at, id, t.name_off)
+    put_enum_name(b, work, text, at, id, t.name_off)
 }
 
 pub fn put_typedef_name(
-    b: TypeTable,
-    section: &[u8],
+    b: &Table,
     work: &mut [u8],
     text: &mut [u8],
     at: usize,
@@ -62,16 +60,15 @@ pub fn put_typedef_name(
     name_off: u32,
 ) -> usize
     ensures { out_of result text.new work.new
-        ≡ put_said text.old at (resolve_type_name (work_naming b) ident_space id (str_at b section.now name_off) put
+        ≡ put_said text.old at (resolve_type_name (work_naming b.now.head) ident_space id (str_at b.now.head b.now.section.now name_off) put
         work.old) }
 {
-    let name = resolve_type_name(b, section, work, id, name_off);
-    put_name(b, section, text, at, name)
+    let name = resolve_type_name(b, work, id, name_off);
+    put_name(b, text, at, name)
 }
 
 pub fn emit_composite_head(
-    b: TypeTable,
-    section: &[u8],
+    b: &Table,
     work: &mut [u8],
     text: &mut [u8],
     at: usize,
@@ -79,19 +76,18 @@ pub fn emit_composite_head(
     t: BtfType,
 ) -> usize
     ensures { out_of result text.new work.new
-        ≡ put_said text.old at (composite_head (work_naming b) (btf_of b section.now work.old) no_decl id
-        (eqb (kind_of t.info) 4) (record_name b section.now t) work.old) }
+        ≡ put_said text.old at (composite_head (work_naming b.now.head) (btf_of b.now.head b.now.section.now work.old) no_decl id
+        (eqb (kind_of t.info) 4) (record_name b.now.head b.now.section.now t) work.old) }
 {
-    let name = resolve_type_name(b, section, work, id, t.name_off);
-    let a = put_keyword(b, text, at, is_struct(t));
-    let c = put_sep_name(b, section, text, a, name);
+    let name = resolve_type_name(b, work, id, t.name_off);
+    let a = put_keyword(b.head, text, at, is_struct(t));
+    let c = put_sep_name(b, text, a, name);
     put_two(text, c, b' ', b'{')
 }
 
 // The size of a bit field, the member's tags and the semicolon.
 pub fn emit_member_end(
-    b: TypeTable,
-    section: &[u8],
+    b: &Table,
     work: &[u8],
     text: &mut [u8],
     at: usize,
@@ -100,14 +96,14 @@ pub fn emit_member_end(
     m: BtfMember,
 ) -> Spot
     ensures { (out_of result.at text.new work.now
-        ≡ put_said text.old at (member_tail (btf_of b section.now work.now) id k
-        (rule_member b section.now m) work.now))
-        × (result.offset ≡ end_from (end_of (btf_of b section.now work.now) (rule_member b section.now m))) }
+        ≡ put_said text.old at (member_tail (btf_of b.now.head b.now.section.now work.now) id k
+        (rule_member b.now.head b.now.section.now m) work.now))
+        × (result.offset ≡ end_from (end_of (btf_of b.now.head b.now.section.now work.now) (rule_member b.now.head b.now.section.now m))) }
 {
     let a = put_bit_size(text, at, m.bit_size);
-    match member_end(b, section, work, m) {
+    match member_end(b, work, m) {
         Ok(offset) => {
-            let c = emit_decl_tags(b, section, work, text, a, id, k);
+            let c = emit_decl_tags(b, work, text, a, id, k);
             Spot {
                 at: put_byte(text, c, b';'),
                 offset: offset,
@@ -122,8 +118,7 @@ pub fn emit_member_end(
 
 // The closing bracket, on a line of its own after members, and what is said of the whole.
 pub fn emit_composite_end(
-    b: TypeTable,
-    section: &[u8],
+    b: &Table,
     work: &[u8],
     text: &mut [u8],
     at: usize,
@@ -133,12 +128,12 @@ pub fn emit_composite_end(
     lvl: u32,
 ) -> usize
     ensures { out_of result text.new work.now
-        ≡ put_said text.old at (composite_end (work_naming b) (btf_of b section.now work.now) no_decl id lvl
-        (members_of b section.now t) packed work.now) }
+        ≡ put_said text.old at (composite_end (work_naming b.now.head) (btf_of b.now.head b.now.section.now work.now) no_decl id lvl
+        (members_of b.now.head b.now.section.now t) packed work.now) }
 {
     let a = put_last_newline(text, at, vlen_of(t.info));
     let c = put_tabs(text, a, lvl);
     let d = put_byte(text, c, b'}');
     let e = put_packed(text, d, packed);
-    emit_decl_tags(b, section, work, text, e, id, WHOLE_TYPE)
+    emit_decl_tags(b, work, text, e, id, WHOLE_TYPE)
 }

@@ -4,15 +4,15 @@ ghost use Rattle.spec_c_dumper.specs.rules.Decl.{shown_params};
 ghost use Rattle.spec_type_table.specs.Table.{from, param_of};
 
 use btf_type_table::kind::param_place;
-use btf_type_table::section_word::word;
-use spec_type_table::{Entries, TypeTable};
+use btf_type_table::table::Table;
+use spec_type_table::Entries;
 
 // The parameters that are printed: a single one of type void is none.
-pub fn shown_params(b: TypeTable, section: &[u8], params: Entries) -> Entries
-    ensures { from (param_of b section.now result.at) 0 result.vlen
-        ≡ shown_params (from (param_of b section.now params.at) 0 params.vlen) }
+pub fn shown_params(b: &Table, params: Entries) -> Entries
+    ensures { from (param_of b.now.head b.now.section.now result.at) 0 result.vlen
+        ≡ shown_params (from (param_of b.now.head b.now.section.now params.at) 0 params.vlen) }
 {
-    if params.vlen == 1 && word(b, section, param_place(params, 0) + 4) == 0 {
+    if params.vlen == 1 && b.word(param_place(params, 0) + 4) == 0 {
         return Entries { vlen: 0, ..params };
     }
     params

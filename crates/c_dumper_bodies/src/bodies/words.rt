@@ -10,24 +10,17 @@ ghost use Rattle.c_dumper_bodies.specs.bodies.Pieces.{gap, star_text, comma, siz
 use base_bytes::put::{put_byte, put_decimal, put_two};
 use base_keywords::table::{Word, put_word};
 use btf_type_table::kind::kind_flag_of;
+use btf_type_table::table::Table;
 use c_dumper_name_versions::names::{Name, is_blank};
 use c_dumper_name_versions::tags::put_attribute;
-use spec_type_table::{BtfType, TypeTable};
+use spec_type_table::BtfType;
 
-pub fn put_type_tag(b: TypeTable, section: &[u8], text: &mut [u8], at: usize, t: BtfType) -> usize
+pub fn put_type_tag(b: &Table, text: &mut [u8], at: usize, t: BtfType) -> usize
     ensures { put_out result text.new
         ≡ put_text text.old at (whole
-        (attribute (flag_of t.info) (ascii "btf_type_tag") (record_name b section.now t))) }
+        (attribute (flag_of t.info) (ascii "btf_type_tag") (record_name b.now.head b.now.section.now t))) }
 {
-    put_attribute(
-        b,
-        section,
-        text,
-        at,
-        kind_flag_of(t.info),
-        false,
-        t.name_off,
-    )
+    put_attribute(b, text, at, kind_flag_of(t.info), false, t.name_off)
 }
 
 pub fn put_star(text: &mut [u8], at: usize, last_was_ptr: bool) -> usize
@@ -48,18 +41,11 @@ pub fn put_count(text: &mut [u8], at: usize, nelems: u32) -> usize
 }
 
 // A space before a name that follows no star.
-pub fn put_gap(
-    b: TypeTable,
-    section: &[u8],
-    text: &mut [u8],
-    at: usize,
-    name: Name,
-    last_was_ptr: bool,
-) -> usize
+pub fn put_gap(b: &Table, text: &mut [u8], at: usize, name: Name, last_was_ptr: bool) -> usize
     ensures { put_out result text.new
-        ≡ put_text text.old at (whole (gap (name_text b section.now name) last_was_ptr)) }
+        ≡ put_text text.old at (whole (gap (name_text b.now.head b.now.section.now name) last_was_ptr)) }
 {
-    if last_was_ptr || is_blank(b, section, name) {
+    if last_was_ptr || is_blank(b, name) {
         return at;
     }
     put_byte(text, at, b' ')

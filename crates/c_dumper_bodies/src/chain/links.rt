@@ -7,9 +7,8 @@ ghost use Rattle.c_dumper_bodies.specs.chain.Chains as chains;
 ghost use Rattle.c_dumper_bodies.specs.chain.Chains.{next_of, path_at, chain_is, RecordIs, kind_at};
 
 use base_bytes::limit;
-use btf_type_table::node::type_by_id;
-use btf_type_table::section_word::array_type;
-use spec_type_table::{BtfType, Kind, TypeTable};
+use btf_type_table::table::Table;
+use spec_type_table::{BtfType, Kind};
 
 // Whether a kind leads on in a chain; any other is a base.
 fn is_link(kind: Kind) -> bool
@@ -29,11 +28,11 @@ fn is_link(kind: Kind) -> bool
 
 // The id that an entry leads to.
 #[tactic(auto, using(spec_type_table::proofs::KindTypes::kind_types), unfolding(crate::specs::chain::Chains::next_of))]
-fn next_of(b: TypeTable, section: &[u8], t: BtfType) -> u32
-    ensures { result ≡ next_of b section.now t }
+fn next_of(b: &Table, t: BtfType) -> u32
+    ensures { result ≡ next_of b.now.head b.now.section.now t }
 {
     match Kind::of(t.info) {
-        Kind::Array => array_type(b, section, t),
+        Kind::Array => b.array_type(t),
         _ => t.type_id,
     }
 }
@@ -47,38 +46,38 @@ pub struct Base {
 }
 
 // The base of the chain from an id. A chain has 512 entries at most, its base with them; a longer one has none.
-pub fn chain_base(b: TypeTable, section: &[u8], work: &[u8], start: u32) -> Option<Base>
-    ensures { (chain_is b section.now work.now start result
-        ≡ chain_of 512 (btf_of b section.now work.now) start [])
-        × RecordIs b section.now work.now result }
+pub fn chain_base(b: &Table, work: &[u8], start: u32) -> Option<Base>
+    ensures { (chain_is b.now.head b.now.section.now work.now start result
+        ≡ chain_of 512 (btf_of b.now.head b.now.section.now work.now) start [])
+        × RecordIs b.now.head b.now.section.now work.now result }
 {
     let mut id = start;
     for n in 0..limit::MOST_CALLS {
-        let t = type_by_id(b, section, work, id);
+        let t = b.type_by_id(work, id);
         if !is_link(Kind::of(t.info)) {
             return Some(Base { id, t, n });
         }
-        id = next_of(b, section, t);
+        id = next_of(b, t);
     }
     None
 }
 
 // The id of entry k.
-pub fn path_at(b: TypeTable, section: &[u8], work: &[u8], start: u32, k: u32) -> u32
-    ensures { result ≡ path_at b section.now work.now start k }
+pub fn path_at(b: &Table, work: &[u8], start: u32, k: u32) -> u32
+    ensures { result ≡ path_at b.now.head b.now.section.now work.now start k }
 {
     let mut id = start;
     for _ in 0..k {
-        id = next_of(b, section, type_by_id(b, section, work, id));
+        id = next_of(b, b.type_by_id(work, id));
     }
     id
 }
 
 // The kind of entry k.
-pub fn kind_at(b: TypeTable, section: &[u8], work: &[u8], start: u32, k: u32) -> Kind
-    ensures { result ≡ kind_at b section.now work.now start k }
+pub fn kind_at(b: &Table, work: &[u8], start: u32, k: u32) -> Kind
+    ensures { result ≡ kind_at b.now.head b.now.section.now work.now start k }
 {
-    let t = type_by_id(b, section, work, path_at(b, section, work, start, k));
+    let t = b.type_by_id(work, path_at(b, work, start, k));
     Kind::of(t.info)
 }
 

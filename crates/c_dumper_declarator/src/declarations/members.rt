@@ -11,20 +11,18 @@ ghost use Rattle.c_dumper_bodies.specs.bodies.Pieces.{member_text, members_below
 
 use crate::declarations::{Declarator, emit_type_decl, too_deep};
 use base_bytes::put::{put_byte, put_tabs, stop, stopped};
-use btf_type_table::entry::load_member;
 use btf_type_table::kind::vlen_of;
-use btf_type_table::name::is_builtin;
+use btf_type_table::table::Table;
 use c_dumper_bodies::bodies::{Spot, emit_composite_end, emit_composite_head, emit_member_end};
 use c_dumper_bodies::enumerators::deeper;
 use c_dumper_name_versions::names::bare;
 use c_dumper_padding::padding::{emit_bit_padding, emit_tail_padding};
 use c_dumper_padding::placing::body_packed;
-use spec_type_table::{BtfType, TypeTable};
+use spec_type_table::BtfType;
 
 #[cycle(declarator)]
 pub fn emit_composite_def(
-    b: TypeTable,
-    section: &[u8],
+    b: &Table,
     work: &mut [u8],
     text: &mut [u8],
     at: usize,
@@ -34,9 +32,9 @@ pub fn emit_composite_def(
     left: u32,
 ) -> usize
     ensures { out_of result text.new work.new
-        ≡ put_said text.old at (emit_composite_def_once (work_asks b.types (btf_of b section.now work.old))
-        (work_naming b) (btf_of b section.now work.old) left id (eqb (kind_of t.info) 4)
-        (record_name b section.now t) t.type_id (members_of b section.now t) lvl work.old) }
+        ≡ put_said text.old at (emit_composite_def_once (work_asks b.now.head.types (btf_of b.now.head b.now.section.now work.old))
+        (work_naming b.now.head) (btf_of b.now.head b.now.section.now work.old) left id (eqb (kind_of t.info) 4)
+        (record_name b.now.head b.now.section.now t) t.type_id (members_of b.now.head b.now.section.now t) lvl work.old) }
 {
     if left == 0 {
         return too_deep(text, at);
@@ -44,25 +42,14 @@ pub fn emit_composite_def(
     if stopped(text, at) {
         return at;
     }
-    if is_builtin(b, section, t.name_off) {
+    if b.is_builtin(t.name_off) {
         return at;
     }
-    match body_packed(b, section, work, id, t) {
+    match body_packed(b, work, id, t) {
         Ok(packed) => {
-            let a = emit_composite_head(b, section, work, text, at, id, t);
-            let c = emit_members(
-                b,
-                section,
-                work,
-                text,
-                a,
-                id,
-                t,
-                packed,
-                deeper(lvl),
-                left - 1,
-            );
-            emit_composite_end(b, section, work, text, c, id, t, packed, lvl)
+            let a = emit_composite_head(b, work, text, at, id, t);
+            let c = emit_members(b, work, text, a, id, t, packed, deeper(lvl), left - 1);
+            emit_composite_end(b, work, text, c, id, t, packed, lvl)
         }
         Err(c) => stop(text, at, u32::from(c)),
     }
@@ -70,8 +57,7 @@ pub fn emit_composite_def(
 
 #[cycle(declarator)]
 fn emit_members(
-    b: TypeTable,
-    section: &[u8],
+    b: &Table,
     work: &mut [u8],
     text: &mut [u8],
     at: usize,
@@ -82,10 +68,10 @@ fn emit_members(
     below: u32,
 ) -> usize
     ensures { out_of result text.new work.new
-        ≡ put_said text.old at (members_below (work_asks b.types (btf_of b section.now work.old))
-        (work_naming b) (btf_of b section.now work.old) below id
-        (tail_pads b.placing b.ptr_sz (eqb (kind_of t.info) 4) t.type_id) lvl packed 0 0
-        (members_of b section.now t) work.old) }
+        ≡ put_said text.old at (members_below (work_asks b.now.head.types (btf_of b.now.head b.now.section.now work.old))
+        (work_naming b.now.head) (btf_of b.now.head b.now.section.now work.old) below id
+        (tail_pads b.now.head.placing b.now.head.ptr_sz (eqb (kind_of t.info) 4) t.type_id) lvl packed 0 0
+        (members_of b.now.head b.now.section.now t) work.old) }
 {
     let vlen = vlen_of(t.info);
     let mut s = Spot { at, offset: 0 };
@@ -93,15 +79,14 @@ fn emit_members(
         if stopped(text, s.at) {
             return s.at;
         }
-        s = emit_member(b, section, work, text, s, id, t, k, packed, lvl, below);
+        s = emit_member(b, work, text, s, id, t, k, packed, lvl, below);
     }
-    emit_tail_padding(b, text, s.at, t, vlen, s.offset, lvl)
+    emit_tail_padding(b.head, text, s.at, t, vlen, s.offset, lvl)
 }
 
 #[cycle(declarator)]
 fn emit_member(
-    b: TypeTable,
-    section: &[u8],
+    b: &Table,
     work: &mut [u8],
     text: &mut [u8],
     s: Spot,
@@ -114,21 +99,21 @@ fn emit_member(
 ) -> Spot
     ensures { (out_of result.at text.new work.new
         ≡ put_said text.old s.at
-        (member_text (work_asks b.types (btf_of b section.now work.old)) (work_naming b)
-        (btf_of b section.now work.old) below id lvl packed k s.offset
-        (rule_member b section.now (member_of b section.now t k)) work.old))
-        × (result.offset ≡ end_from (end_of (btf_of b section.now work.new)
-        (rule_member b section.now (member_of b section.now t k)))) }
+        (member_text (work_asks b.now.head.types (btf_of b.now.head b.now.section.now work.old)) (work_naming b.now.head)
+        (btf_of b.now.head b.now.section.now work.old) below id lvl packed k s.offset
+        (rule_member b.now.head b.now.section.now (member_of b.now.head b.now.section.now t k)) work.old))
+        × (result.offset ≡ end_from (end_of (btf_of b.now.head b.now.section.now work.new)
+        (rule_member b.now.head b.now.section.now (member_of b.now.head b.now.section.now t k)))) }
 {
-    let m = load_member(b, section, t, k);
+    let m = b.load_member(t, k);
     let d = Declarator {
         id: m.type_id,
         name: bare(m.name_off),
         lvl: lvl,
     };
-    let a = emit_bit_padding(b, section, work, text, s.at, s.offset, m, packed, lvl);
+    let a = emit_bit_padding(b, work, text, s.at, s.offset, m, packed, lvl);
     let c = put_byte(text, a, b'\n');
     let e = put_tabs(text, c, lvl);
-    let f = emit_type_decl(b, section, work, text, e, d, below);
-    emit_member_end(b, section, work, text, f, id, k, m)
+    let f = emit_type_decl(b, work, text, e, d, below);
+    emit_member_end(b, work, text, f, id, k, m)
 }

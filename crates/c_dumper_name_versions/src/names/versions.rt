@@ -15,7 +15,7 @@ use base_keywords::table::{Word, put_word};
 use btf_open_names::numbers::get_number;
 use btf_type_table::cell;
 use btf_type_table::cell::{get_field, put_field};
-use btf_type_table::name::{is_empty, put_str};
+use btf_type_table::table::Table;
 use spec_type_table::TypeTable;
 
 // From this holder of a name on, its number is printed.
@@ -37,19 +37,19 @@ pub fn bare(off: u32) -> Name
 }
 
 // The name of type id, which it keeps; it counts as a holder when it is first asked for.
-pub fn resolve_type_name(b: TypeTable, section: &[u8], work: &mut [u8], id: u32, off: u32) -> Name
+pub fn resolve_type_name(b: &Table, work: &mut [u8], id: u32, off: u32) -> Name
     ensures { (result.off ≡ off)
-        × (put (name_text b section.now result) work.new
-        ≡ resolve_type_name (work_naming b) tag_space id (str_at b section.now off) put work.old) }
+        × (put (name_text b.now.head b.now.section.now result) work.new
+        ≡ resolve_type_name (work_naming b.now.head) tag_space id (str_at b.now.head b.now.section.now off) put work.old) }
 {
-    if is_empty(b, section, off) {
+    if b.is_empty(off) {
         return bare(off);
     }
     let version = get_field(work, id, cell::NAME_VERSION);
     if version != 0 {
         return Name { off, version };
     }
-    let n = get_number(work, b.types, id);
+    let n = get_number(work, b.head.types, id);
     put_field(work, id, cell::NAME_VERSION, n);
     Name { off, version: n }
 }
@@ -68,10 +68,10 @@ pub fn resolve_name(b: TypeTable, work: &mut [u8], e: u32, off: u32) -> Name
     }
 }
 
-pub fn put_name(b: TypeTable, section: &[u8], text: &mut [u8], at: usize, name: Name) -> usize
-    ensures { put_out result text.new ≡ put_text text.old at (whole (name_text b section.now name)) }
+pub fn put_name(b: &Table, text: &mut [u8], at: usize, name: Name) -> usize
+    ensures { put_out result text.new ≡ put_text text.old at (whole (name_text b.now.head b.now.section.now name)) }
 {
-    let a = put_str(b, section, text, at, name.off);
+    let a = b.put_str(text, at, name.off);
     if name.version < SECOND {
         return a;
     }
@@ -80,37 +80,30 @@ pub fn put_name(b: TypeTable, section: &[u8], text: &mut [u8], at: usize, name: 
 }
 
 // Whether nothing is printed for a name.
-pub fn is_blank(b: TypeTable, section: &[u8], name: Name) -> bool
-    ensures { result ≡ is_empty (name_text b section.now name) }
+pub fn is_blank(b: &Table, name: Name) -> bool
+    ensures { result ≡ is_empty (name_text b.now.head b.now.section.now name) }
 {
-    name.version < SECOND && is_empty(b, section, name.off)
+    name.version < SECOND && b.is_empty(name.off)
 }
 
 // sep and the name: a space before it, unless it is empty.
-pub fn put_sep_name(b: TypeTable, section: &[u8], text: &mut [u8], at: usize, name: Name) -> usize
+pub fn put_sep_name(b: &Table, text: &mut [u8], at: usize, name: Name) -> usize
     ensures { put_out result text.new
-        ≡ put_text text.old at (whole (sep_name (name_text b section.now name))) }
+        ≡ put_text text.old at (whole (sep_name (name_text b.now.head b.now.section.now name))) }
 {
-    if is_blank(b, section, name) {
+    if is_blank(b, name) {
         return at;
     }
     let a = put_byte(text, at, b' ');
-    put_name(b, section, text, a, name)
+    put_name(b, text, a, name)
 }
 
-pub fn emit_name(
-    b: TypeTable,
-    section: &[u8],
-    text: &mut [u8],
-    at: usize,
-    name: Name,
-    last_was_ptr: bool,
-) -> usize
+pub fn emit_name(b: &Table, text: &mut [u8], at: usize, name: Name, last_was_ptr: bool) -> usize
     ensures { put_out result text.new
-        ≡ put_text text.old at (whole (name_after (name_text b section.now name) last_was_ptr)) }
+        ≡ put_text text.old at (whole (name_after (name_text b.now.head b.now.section.now name) last_was_ptr)) }
 {
     if last_was_ptr {
-        return put_name(b, section, text, at, name);
+        return put_name(b, text, at, name);
     }
-    put_sep_name(b, section, text, at, name)
+    put_sep_name(b, text, at, name)
 }

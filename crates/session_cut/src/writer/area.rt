@@ -13,26 +13,17 @@ use crate::writer::names::longer;
 use crate::writer::source::{KeptType, Source};
 use base_bytes::put::put_byte;
 use btf_open_causes::references::count;
-use btf_type_table::name::put_str;
+use btf_type_table::table::Table;
 use session_cut_marks::roles::{word_of, words_in};
-use spec_type_table::TypeTable;
 
 // The name of word j and its 0, if it is new.
-fn put_name(
-    b: TypeTable,
-    section: &[u8],
-    e: u32,
-    j: u32,
-    new: bool,
-    out: &mut [u8],
-    at: usize,
-) -> usize
-    ensures { put_out result out.new ≡ put_text out.old at (whole (name_if b section.now e j new)) }
+fn put_name(b: &Table, e: u32, j: u32, new: bool, out: &mut [u8], at: usize) -> usize
+    ensures { put_out result out.new ≡ put_text out.old at (whole (name_if b.now.head b.now.section.now e j new)) }
 {
     if !new {
         return at;
     }
-    let p = put_str(b, section, out, at, word_of(b, section, e, j));
+    let p = b.put_str(out, at, word_of(b, e, j));
     put_byte(out, p, 0)
 }
 
@@ -42,21 +33,21 @@ impl Source<'_> {
             × (t.base ≡ at_kept base_of self.now.kept t.x) }
         ensures { put_out result out.new
             ≡ put_text out.old at
-            (whole (at_kept names_bytes self.now.kept t.x t.e (words_in self.now.kept.b self.now.kept.section.now t.e))) }
+            (whole (at_kept names_bytes self.now.kept t.x t.e (words_in self.now.kept.table.head self.now.kept.table.section.now t.e))) }
     {
         let mut p = at;
         let mut len = t.base;
-        for j in 0..words_in(self.kept.b, self.kept.section, t.e) {
+        for j in 0..words_in(&self.kept.table, t.e) {
             let m = self.mention(t, j, len);
-            p = put_name(self.kept.b, self.kept.section, t.e, j, m.new, out, p);
-            len = longer(self.kept.b, self.kept.section, t.e, m);
+            p = put_name(&self.kept.table, t.e, j, m.new, out, p);
+            len = longer(&self.kept.table, t.e, m);
         }
         p
     }
 
     // The new names of type x.
     fn put_own(&self, x: u32, out: &mut [u8], at: usize) -> usize
-        requires { x < type_count self.now.kept.b }
+        requires { x < type_count self.now.kept.table.head }
         ensures { put_out result out.new ≡ put_text out.old at (whole (at_kept own_bytes self.now.kept x)) }
     {
         if self.kept.new_id(x) == 0 {
@@ -66,10 +57,10 @@ impl Source<'_> {
     }
 
     fn put_news(&self, out: &mut [u8], at: usize) -> usize
-        ensures { put_out result out.new ≡ put_text out.old at (whole (at_kept news_bytes self.now.kept (type_count self.now.kept.b))) }
+        ensures { put_out result out.new ≡ put_text out.old at (whole (at_kept news_bytes self.now.kept (type_count self.now.kept.table.head))) }
     {
         let mut p = at;
-        for x in 0..count(self.kept.b) {
+        for x in 0..count(self.kept.table.head) {
             p = self.put_own(x, out, p);
         }
         p
@@ -78,7 +69,7 @@ impl Source<'_> {
     // The leading 0, and the new names.
     pub(crate) fn put_strings(&self, out: &mut [u8], at: usize) -> usize
         ensures { put_out result out.new
-            ≡ put_text out.old at (whole (at_kept strings_bytes self.now.kept (type_count self.now.kept.b))) }
+            ≡ put_text out.old at (whole (at_kept strings_bytes self.now.kept (type_count self.now.kept.table.head))) }
     {
         let p = put_byte(out, at, 0);
         self.put_news(out, p)

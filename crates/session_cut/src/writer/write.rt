@@ -62,10 +62,10 @@ pub fn put_head(out: &mut [u8], big: bool, flags: u8, types: u32, strings: u32) 
 
 // The length of the types.
 pub fn types_size(kept: &Kept) -> u64
-    ensures { result ≡ at_kept types_size kept.now (type_count kept.now.b) }
+    ensures { result ≡ at_kept types_size kept.now (type_count kept.now.table.head) }
 {
     let mut len = 0;
-    for x in 0..count(kept.b) {
+    for x in 0..count(kept.table.head) {
         len = type_size(kept, x, len);
     }
     len
@@ -78,19 +78,19 @@ fn type_size(kept: &Kept, x: u32, len: u64) -> u64
     if kept.new_id(x) == 0 {
         return len;
     }
-    len + (words_in(kept.b, kept.section, kept.entry(x)) as u64) * 4
+    len + (words_in(&kept.table, kept.entry(x)) as u64) * 4
 }
 
 impl Source<'_> {
     // Word m of the record with entry e, as it is written.
     fn new_word(&self, e: u32, m: Mention) -> u32
         requires { ((p : ℕ) → m.place ≡ Some p
-            → p ≡ at_kept place_of self.now.kept self.now.bases.now (word_of self.now.kept.b self.now.kept.section.now e m.j))
+            → p ≡ at_kept place_of self.now.kept self.now.bases.now (word_of self.now.kept.table.head self.now.kept.table.section.now e m.j))
             × (m.new ≡ true
-            → m.len ≡ at_kept place_of self.now.kept self.now.bases.now (word_of self.now.kept.b self.now.kept.section.now e m.j)) }
+            → m.len ≡ at_kept place_of self.now.kept self.now.bases.now (word_of self.now.kept.table.head self.now.kept.table.section.now e m.j)) }
         ensures { result ≡ at_kept new_word self.now.kept self.now.bases.now e m.j }
     {
-        let w = word_of(self.kept.b, self.kept.section, e, m.j);
+        let w = word_of(&self.kept.table, e, m.j);
         match word_role(e % 32, m.j) {
             Role::Name => self.place_of(w, m),
             Role::Id => self.kept.new_id(w),
@@ -104,20 +104,25 @@ impl Source<'_> {
             × (t.base ≡ at_kept base_of self.now.kept t.x) }
         ensures { put_out result out.new
             ≡ put_text out.old at
-            (whole (at_kept record_bytes self.now.kept self.now.bases.now t.e (words_in self.now.kept.b self.now.kept.section.now t.e))) }
+            (whole (at_kept record_bytes self.now.kept self.now.bases.now t.e (words_in self.now.kept.table.head self.now.kept.table.section.now t.e))) }
     {
         let mut p = at;
         let mut len = t.base;
-        for j in 0..words_in(self.kept.b, self.kept.section, t.e) {
+        for j in 0..words_in(&self.kept.table, t.e) {
             let m = self.mention(t, j, len);
-            p = put_word(out, p, self.kept.b.big_endian, self.new_word(t.e, m));
-            len = longer(self.kept.b, self.kept.section, t.e, m);
+            p = put_word(
+                out,
+                p,
+                self.kept.table.head.big_endian,
+                self.new_word(t.e, m),
+            );
+            len = longer(&self.kept.table, t.e, m);
         }
         p
     }
 
     fn put_type(&self, x: u32, out: &mut [u8], at: usize) -> usize
-        requires { x < type_count self.now.kept.b }
+        requires { x < type_count self.now.kept.table.head }
         ensures { put_out result out.new ≡ put_text out.old at (whole (at_kept type_bytes self.now.kept self.now.bases.now x)) }
     {
         if self.kept.new_id(x) == 0 {
@@ -129,10 +134,10 @@ impl Source<'_> {
     // The types that are kept.
     fn put_types(&self, out: &mut [u8], at: usize) -> usize
         ensures { put_out result out.new
-            ≡ put_text out.old at (whole (at_kept types_bytes self.now.kept self.now.bases.now (type_count self.now.kept.b))) }
+            ≡ put_text out.old at (whole (at_kept types_bytes self.now.kept self.now.bases.now (type_count self.now.kept.table.head))) }
     {
         let mut p = at;
-        for x in 0..count(self.kept.b) {
+        for x in 0..count(self.kept.table.head) {
             p = self.put_type(x, out, p);
         }
         p
@@ -143,10 +148,10 @@ impl Source<'_> {
         ensures { put_out result out.new
             ≡ put_text out.old 0 (whole (at_kept all_bytes self.now.kept self.now.bases.now sizes.types sizes.strings)) }
     {
-        let flags = peek(self.kept.section, 3, 0);
+        let flags = peek(self.kept.table.section, 3, 0);
         let p = put_head(
             out,
-            self.kept.b.big_endian,
+            self.kept.table.head.big_endian,
             flags,
             sizes.types,
             sizes.strings,
@@ -157,8 +162,8 @@ impl Source<'_> {
 
     fn write_fitting(&self, sizes: Sizes, out: &mut [u8]) -> Option<u32>
         requires { (sizes.types ≤ 16777216) × (sizes.strings ≤ 16777216)
-            × (sizes.types ≡ at_kept types_size self.now.kept (type_count self.now.kept.b))
-            × (sizes.strings ≡ at_kept base_of self.now.kept (type_count self.now.kept.b)) }
+            × (sizes.types ≡ at_kept types_size self.now.kept (type_count self.now.kept.table.head))
+            × (sizes.strings ≡ at_kept base_of self.now.kept (type_count self.now.kept.table.head)) }
         ensures { wrote_of result out.new ≡ at_kept fitting_written self.now.kept self.now.bases.now sizes.types sizes.strings out.old }
     {
         let len = 24 + sizes.types + sizes.strings;
@@ -178,7 +183,7 @@ impl Source<'_> {
 pub fn write_kept(kept: &Kept, out: &mut [u8]) -> Option<u32>
     ensures { wrote_of result out.new ≡ at_kept kept_written kept.now out.old }
 {
-    if limit::MOST_BYTES < kept.section.len() {
+    if limit::MOST_BYTES < kept.table.section.len() {
         return None;
     }
     let mut bases = [0u32; limit::TYPES_LEN];

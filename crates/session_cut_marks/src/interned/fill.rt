@@ -13,15 +13,14 @@ use crate::kept::Kept;
 use crate::roles::{Role, word_of, word_role, words_in};
 use base_bytes::limit;
 use btf_open_causes::references::count;
-use btf_type_table::name::{get_btf_str, is_empty};
-use spec_type_table::TypeTable;
+use btf_type_table::table::Table;
 
 // The bytes that a name takes in the strings.
-fn size(b: TypeTable, section: &[u8], off: u32) -> u32
-    requires { length section.now ≤ 16777216 }
-    ensures { result ≡ length (str_at b section.now off) + 1 }
+fn size(b: &Table, off: u32) -> u32
+    requires { length b.now.section.now ≤ 16777216 }
+    ensures { result ≡ length (str_at b.now.head b.now.section.now off) + 1 }
 {
-    (get_btf_str(b, section, off).len() as u32) + 1
+    (b.get_btf_str(off).len() as u32) + 1
 }
 
 // Word j of the record with entry e, that of type x.
@@ -35,14 +34,14 @@ struct Mention {
 impl Kept<'_> {
     // The bytes of a new name, by the plain way.
     fn new_size(&self, m: Mention) -> u32
-        requires { length self.now.section.now ≤ 16777216 }
+        requires { length self.now.table.section.now ≤ 16777216 }
         ensures { result ≡ at_kept new_size self.now m.x m.e m.j }
     {
         if !self.is_new(m.x, m.e, m.j) {
             return 0;
         }
-        let off = word_of(self.b, self.section, m.e, m.j);
-        size(self.b, self.section, off)
+        let off = word_of(&self.table, m.e, m.j);
+        size(&self.table, off)
     }
 }
 
@@ -56,17 +55,17 @@ struct Filler<'a> {
 impl Filler<'_> {
     // The slot of a name.
     fn slot(&self, kept: &Kept, off: u32) -> u32
-        ensures { result ≡ slot_of kept.now.b kept.now.section.now self.now.table.now off }
+        ensures { result ≡ slot_of kept.now.table.head kept.now.table.section.now self.now.table.now off }
     {
-        slot_of(kept.b, kept.section, self.table, off)
+        slot_of(&kept.table, self.table, off)
     }
 
     // The name that a word mentions: entered where its slot is free.
     fn settle(&mut self, kept: &Kept, m: Mention, off: u32)
-        requires { (length kept.now.section.now ≤ 16777216) × (self.old.len ≤ 16777216) }
+        requires { (length kept.now.table.section.now ≤ 16777216) × (self.old.len ≤ 16777216) }
         ensures filled { filled_by self.new
             ≡ at_kept settled kept.now m.x m.e m.j off
-            (slot_of kept.now.b kept.now.section.now self.old.table.now off) self.old.len
+            (slot_of kept.now.table.head kept.now.table.section.now self.old.table.now off) self.old.len
             self.old.table.now }
         ensures same { self.new.table.ghost_name ≡ self.old.table.ghost_name }
     {
@@ -79,11 +78,11 @@ impl Filler<'_> {
             return;
         }
         self.table[at] = (off as u64) + (self.len as u64) * limit::TWO_TO_32;
-        self.len += size(kept.b, kept.section, off);
+        self.len += size(&kept.table, off);
     }
 
     fn enter(&mut self, kept: &Kept, m: Mention)
-        requires { length kept.now.section.now ≤ 16777216 }
+        requires { length kept.now.table.section.now ≤ 16777216 }
         ensures filled { filled_by self.new
             ≡ at_kept entered kept.now m.x m.e m.j self.old.len self.old.table.now }
         ensures same { self.new.table.ghost_name ≡ self.old.table.ghost_name }
@@ -94,8 +93,8 @@ impl Filler<'_> {
         let Role::Name = word_role(m.e % 32, m.j) else {
             return;
         };
-        let off = word_of(kept.b, kept.section, m.e, m.j);
-        if is_empty(kept.b, kept.section, off) {
+        let off = word_of(&kept.table, m.e, m.j);
+        if kept.table.is_empty(off) {
             return;
         }
         self.settle(kept, m, off);
@@ -103,20 +102,20 @@ impl Filler<'_> {
 
     // The words of the record with entry e, that of type x.
     fn enter_words(&mut self, kept: &Kept, x: u32, e: u32)
-        requires { length kept.now.section.now ≤ 16777216 }
+        requires { length kept.now.table.section.now ≤ 16777216 }
         ensures filled { filled_by self.new
             ≡ at_kept entered_to kept.now x e self.old.len self.old.table.now
-            (words_in kept.now.b kept.now.section.now e) }
+            (words_in kept.now.table.head kept.now.table.section.now e) }
         ensures same { self.new.table.ghost_name ≡ self.old.table.ghost_name }
     {
-        for j in 0..words_in(kept.b, kept.section, e) {
+        for j in 0..words_in(&kept.table, e) {
             self.enter(kept, Mention { x, e, j });
         }
     }
 
     // Type x, if it is kept.
     fn enter_type(&mut self, kept: &Kept, x: u32)
-        requires { length kept.now.section.now ≤ 16777216 }
+        requires { length kept.now.table.section.now ≤ 16777216 }
         ensures filled { filled_by self.new
             ≡ at_kept entered_type kept.now x self.old.len self.old.table.now }
         ensures same { self.new.table.ghost_name ≡ self.old.table.ghost_name }
@@ -134,11 +133,11 @@ impl Kept<'_> {
     pub fn fill_table(&self, table: &mut [u64], lengths: &mut [u32]) -> u32
         ensures { filling_of (filled_of result table.new) lengths.new ≡ at_kept filling self.now table.old lengths.old }
     {
-        if limit::MOST_BYTES < self.section.len() {
+        if limit::MOST_BYTES < self.table.section.len() {
             return 0;
         }
         let mut filler = Filler { table, len: 1 };
-        for x in 0..count(self.b) {
+        for x in 0..count(self.table.head) {
             store(lengths, x as usize, filler.len);
             filler.enter_type(self, x);
         }

@@ -8,26 +8,26 @@ use crate::mentioned::same_name;
 use crate::peek::peek;
 use base_bytes::limit;
 use btf_open_names::keys::hash_name;
-use spec_type_table::TypeTable;
+use btf_type_table::table::Table;
 
 // Whether slot i is free or has the name.
-fn stops(b: TypeTable, section: &[u8], table: &[u64], off: u32, i: u32) -> bool
-    ensures { result ≡ stops b section.now table.now (str_at b section.now off) i }
+fn stops(b: &Table, table: &[u64], off: u32, i: u32) -> bool
+    ensures { result ≡ stops b.now.head b.now.section.now table.now (str_at b.now.head b.now.section.now off) i }
 {
     let v = peek(table, i as usize, 0);
     if v == 0 {
         return true;
     }
-    same_name(b, section, (v % limit::TWO_TO_32) as u32, off)
+    same_name(b, (v % limit::TWO_TO_32) as u32, off)
 }
 
 // The slot of a name. SLOTS where it has none: a place past the end, where the table says by itself that it has nothing.
-pub(crate) fn slot_of(b: TypeTable, section: &[u8], table: &[u64], off: u32) -> u32
-    ensures { result ≡ slot_of b section.now table.now off }
+pub(crate) fn slot_of(b: &Table, table: &[u64], off: u32) -> u32
+    ensures { result ≡ slot_of b.now.head b.now.section.now table.now off }
 {
-    let mut i = hash_name(section, (b.strs as usize) + (off as usize), 0) % SLOTS;
+    let mut i = hash_name(b.section, (b.head.strs as usize) + (off as usize), 0) % SLOTS;
     for _turn in 0..SLOTS {
-        if stops(b, section, table, off, i) {
+        if stops(b, table, off, i) {
             return i;
         }
         i = (i + 1) % SLOTS;
@@ -36,10 +36,10 @@ pub(crate) fn slot_of(b: TypeTable, section: &[u8], table: &[u64], off: u32) -> 
 }
 
 // The place of a name in the strings, where the table has the name.
-pub fn find(b: TypeTable, section: &[u8], table: &[u64], off: u32) -> Option<u32>
-    ensures { result ≡ slot_place (found b section.now table.now off) }
+pub fn find(b: &Table, table: &[u64], off: u32) -> Option<u32>
+    ensures { result ≡ slot_place (found b.now.head b.now.section.now table.now off) }
 {
-    let v = peek(table, slot_of(b, section, table, off) as usize, 0);
+    let v = peek(table, slot_of(b, table, off) as usize, 0);
     if v == 0 {
         return None;
     }

@@ -7,42 +7,41 @@ ghost use Rattle.session_cut_marks.specs.kept.AtKept.{at_kept};
 
 use crate::kept::Kept;
 use crate::roles::{Role, word_of, word_role, words_in};
-use btf_type_table::name::{get_btf_str, is_empty};
-use spec_type_table::TypeTable;
+use btf_type_table::table::Table;
 
 // Whether the names at two offsets are the same.
-pub fn same_name(b: TypeTable, section: &[u8], p: u32, q: u32) -> bool
-    ensures { result ≡ same_bytes (str_at b section.now p) (str_at b section.now q) }
+pub fn same_name(b: &Table, p: u32, q: u32) -> bool
+    ensures { result ≡ same_bytes (str_at b.now.head b.now.section.now p) (str_at b.now.head b.now.section.now q) }
 {
     if p == q {
         return true;
     }
-    get_btf_str(b, section, p) == get_btf_str(b, section, q)
+    b.get_btf_str(p) == b.get_btf_str(q)
 }
 
 // Whether word j of the record with entry e is the offset of this name.
-fn is_name(b: TypeTable, section: &[u8], e: u32, off: u32, j: u32) -> bool
-    ensures { result ≡ is_name b section.now e off j }
+fn is_name(b: &Table, e: u32, off: u32, j: u32) -> bool
+    ensures { result ≡ is_name b.now.head b.now.section.now e off j }
 {
     let Role::Name = word_role(e % 32, j) else {
         return false;
     };
-    same_name(b, section, word_of(b, section, e, j), off)
+    same_name(b, word_of(b, e, j), off)
 }
 
 // Whether one of its first n words is.
-fn named_to(b: TypeTable, section: &[u8], e: u32, off: u32, n: u32) -> bool
-    ensures { result ≡ named_to b section.now e off n }
+fn named_to(b: &Table, e: u32, off: u32, n: u32) -> bool
+    ensures { result ≡ named_to b.now.head b.now.section.now e off n }
 {
-    (0..n).any(|j| is_name(b, section, e, off, j))
+    (0..n).any(|j| is_name(b, e, off, j))
 }
 
 // The first such word, or n. (No Option: it is asked only where a word mentions the name.)
-pub fn first_name(b: TypeTable, section: &[u8], e: u32, off: u32, n: u32) -> u32
-    ensures { result ≡ first_from b section.now e off 0 n }
+pub fn first_name(b: &Table, e: u32, off: u32, n: u32) -> u32
+    ensures { result ≡ first_from b.now.head b.now.section.now e off 0 n }
 {
     for j in 0..n {
-        if is_name(b, section, e, off, j) {
+        if is_name(b, e, off, j) {
             return j;
         }
     }
@@ -58,13 +57,7 @@ impl Kept<'_> {
             return false;
         }
         let e = self.entry(y);
-        named_to(
-            self.b,
-            self.section,
-            e,
-            off,
-            words_in(self.b, self.section, e),
-        )
+        named_to(&self.table, e, off, words_in(&self.table, e))
     }
 
     // Whether one of the types before x does.
@@ -81,13 +74,13 @@ impl Kept<'_> {
         let Role::Name = word_role(e % 32, j) else {
             return false;
         };
-        let off = word_of(self.b, self.section, e, j);
-        if is_empty(self.b, self.section, off) {
+        let off = word_of(&self.table, e, j);
+        if self.table.is_empty(off) {
             return false;
         }
         if self.mentioned_to(off, x) {
             return false;
         }
-        !named_to(self.b, self.section, e, off, j)
+        !named_to(&self.table, e, off, j)
     }
 }

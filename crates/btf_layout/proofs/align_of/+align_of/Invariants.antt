@@ -17,4 +17,4 @@ abbrev pub decreases-members_once : goal.decreases-members_once
 decreases-members_once l = l.left + l.left + l.left + 2
 
 abbrev pub invariant-members_once-loop-k : goal.invariant-members_once-loop-k
-invariant-members_once-loop-k l = (btf_of l.b l.section l.work ≡ btf_of l.b l.section l.initial.work) × (ids_with l.b.types (btf_of l.b l.section l.initial.work) l.left (alone 1) (member_ids l.b l.section l.members) l.initial.work ≡ ids_rest l.b.types (btf_of l.b l.section l.initial.work) l.left l.b l.section l.members (seen_is l.seen) l.k l.work)
+invariant-members_once-loop-k l = (btf_of l.b.head l.b.section.now l.work ≡ btf_of l.b.head l.b.section.now l.initial.work) × (ids_with l.b.head.types (btf_of l.b.head l.b.section.now l.initial.work) l.left (alone 1) (member_ids l.b.head l.b.section.now l.members) l.initial.work ≡ ids_rest l.b.head.types (btf_of l.b.head l.b.section.now l.initial.work) l.left l.b.head l.b.section.now l.members (seen_is l.seen) l.k l.work)

@@ -5,4 +5,4 @@ use mathlib.Core.Path.{◌≡◌}
 use Rattle.btf_layout.proofs.asked.members_packed.Given as goal
 
 abbrev pub invariant-loop-k : goal.invariant-loop-k
-invariant-loop-k l = (btf_of l.b l.section l.work ≡ btf_of l.b l.section l.initial.work) × (members_in l.b.types (btf_of l.b l.section l.initial.work) (members_of l.b l.section l.t) l.initial.work ≡ members_rest l.b.types (btf_of l.b l.section l.initial.work) l.b l.section l.t l.k l.work)
+invariant-loop-k l = (btf_of l.b.head l.b.section.now l.work ≡ btf_of l.b.head l.b.section.now l.initial.work) × (members_in l.b.head.types (btf_of l.b.head l.b.section.now l.initial.work) (members_of l.b.head l.b.section.now l.t) l.initial.work ≡ members_rest l.b.head.types (btf_of l.b.head l.b.section.now l.initial.work) l.b.head l.b.section.now l.t l.k l.work)

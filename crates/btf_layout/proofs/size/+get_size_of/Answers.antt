@@ -47,7 +47,7 @@ loop-passed-preserved t c =
     let deep : (c.args.left - c.loop-passed.passed ≡ 0) → ⊥ = λ e. omega arith in
     let fewer : c.args.left - c.loop-passed.passed - 1 ≡ c.args.left - (c.loop-passed.passed + 1) = omega arith in
     c.loop-passed.invariant ∙ size_through _ _ _ _ _ deep _ c.type_by_id-t.ensures _ c.of.ensures c.in-Typedef.is
-    ∙ ap (λ (n : ℕ). get_size_of n (btf_of c.args.b c.args.section.now c.args.work.now) c.type_by_id-t.result.type_id) fewer
+    ∙ ap (λ (n : ℕ). get_size_of n (btf_of c.args.b.now.head c.args.b.now.section.now c.args.work.now) c.type_by_id-t.result.type_id) fewer
 
 pub returns : goal.returns
 returns t c =

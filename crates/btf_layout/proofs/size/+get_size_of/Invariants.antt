@@ -8,4 +8,4 @@ abbrev pub decreases-get_size_of : goal.decreases-get_size_of
 decreases-get_size_of l = l.left
 
 abbrev pub invariant-loop-passed : goal.invariant-loop-passed
-invariant-loop-passed l = get_size_of l.left (btf_of l.b l.section l.work) l.id ≡ get_size_of (l.left - l.passed) (btf_of l.b l.section l.work) l.at
+invariant-loop-passed l = get_size_of l.left (btf_of l.b.head l.b.section.now l.work) l.id ≡ get_size_of (l.left - l.passed) (btf_of l.b.head l.b.section.now l.work) l.at

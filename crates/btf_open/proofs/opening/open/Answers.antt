@@ -19,4 +19,4 @@ pub returns-in-Err : goal.returns-in-Err
 returns-in-Err c = open_refused _ _ _ _ _ _ _ c.in-Err.ensures _ refl _ c.from.ensures
 
 pub returns-in-Ok : goal.returns-in-Ok
-returns-in-Ok c = open_sound _ _ _ _ _ _ _ c.in-Ok.ensures _ refl _ c.clear.ensures _ c.clear-in-Ok.ensures _ c.btf_of-b.ensures _ c.fill.ensures _ c.takers.ensures
+returns-in-Ok c = open_sound _ _ _ _ _ _ _ c.in-Ok.ensures _ refl _ c.clear.ensures _ c.clear-in-Ok.ensures _ c.btf_of-head.ensures _ c.fill.ensures _ c.takers.ensures

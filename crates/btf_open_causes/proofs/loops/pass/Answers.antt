@@ -7,6 +7,6 @@ use Rattle.btf_open_causes.proofs.loops.pass.Goals as goal
 
 pub returns : goal.returns
 returns c =
-    let to = id_at c.args.b c.args.section.now c.args.kind c.args.at in
-    first_from_Range _ _ _ c.find.result (λ (k : ℕ). Open c.args.st.now (to k)) (λ (k : ℕ). Safe (graph_of c.args.b c.args.section.now c.args.start.now) (to k)) c.find.ensures.ran
+    let to = id_at c.args.b.now.head c.args.b.now.section.now c.args.kind c.args.at in
+    first_from_Range _ _ _ c.find.result (λ (k : ℕ). Open c.args.st.now (to k)) (λ (k : ℕ). Safe (graph_of c.args.b.now.head c.args.b.now.section.now c.args.start.now) (to k)) c.find.ensures.ran
     (λ x q k. search (rules, tests)) (λ x q k. search (rules, tests))

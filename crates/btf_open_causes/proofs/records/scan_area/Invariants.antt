@@ -6,7 +6,7 @@ use Rattle.btf_open_causes.proofs.records.Pass.{Passing}
 use Rattle.btf_open_causes.proofs.records.scan_area.Given as goal
 
 abbrev pub invariant-loop-at : goal.invariant-loop-at
-invariant-loop-at l = Passing (section_word l.b l.section) l.str_len l.from l.end l.initial.start l.at l.x l.enumerators l.start × (length l.start ≡ length l.initial.start)
+invariant-loop-at l = Passing (section_word l.b.head l.b.section.now) l.str_len l.from l.end l.initial.start l.at l.x l.enumerators l.start × (length l.start ≡ length l.initial.start)
 
 abbrev pub decreases-loop-at : goal.decreases-loop-at
 decreases-loop-at l = l.end - l.at

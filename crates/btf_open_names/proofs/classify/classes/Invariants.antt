@@ -4,4 +4,4 @@ use lib.ListN.{length}
 use Rattle.btf_open_names.proofs.classify.classes.Given as goal
 
 abbrev pub invariant-loop-k : goal.invariant-loop-k
-invariant-loop-k l = (length l.work ≡ length l.initial.work) × (l.work ≡ State l.b l.section l.n l.initial.work l.k)
+invariant-loop-k l = (length l.work ≡ length l.initial.work) × (l.work ≡ State l.b.head l.b.section.now l.n l.initial.work l.k)

@@ -5,4 +5,4 @@ use Prim.Native.Nat.{◌≤◌, ◌-◌, ◌*◌}
 use Rattle.btf_open_names.proofs.fill.fill_enums.Given as goal
 
 abbrev pub invariant-loop-x : goal.invariant-loop-x
-invariant-loop-x l = (l.work ≡ enums_put l.b l.section l.start l.initial.work (l.x - 1)) × (l.first ≡ enums_to l.b l.section l.start (l.x - 1)) × (l.x - 1 ≤ l.b.types - 1) × (l.first ≤ 65535 * (l.x - 1)) × (length l.work ≡ length l.initial.work)
+invariant-loop-x l = (l.work ≡ enums_put l.b.head l.b.section.now l.start l.initial.work (l.x - 1)) × (l.first ≡ enums_to l.b.head l.b.section.now l.start (l.x - 1)) × (l.x - 1 ≤ l.b.head.types - 1) × (l.first ≤ 65535 * (l.x - 1)) × (length l.work ≡ length l.initial.work)

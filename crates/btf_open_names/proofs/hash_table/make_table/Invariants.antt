@@ -5,4 +5,4 @@ use Prim.Native.Nat.{◌+◌, ◌-◌, ◌≤◌}
 use Rattle.btf_open_names.proofs.hash_table.make_table.Given as goal
 
 abbrev pub invariant-loop-k : goal.invariant-loop-k
-invariant-loop-k l = (1 ≤ l.k + (1 - l.n)) × (length l.work ≡ length l.initial.work) × (l.work ≡ table_from l.b l.section l.n l.k l.initial.work)
+invariant-loop-k l = (1 ≤ l.k + (1 - l.n)) × (length l.work ≡ length l.initial.work) × (l.work ≡ table_from l.b.head l.b.section.now l.n l.k l.initial.work)

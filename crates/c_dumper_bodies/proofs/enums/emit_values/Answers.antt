@@ -9,7 +9,7 @@ loop-k-init c = (
   refl,
   refl,
   place_first _ _ _ c.member_place-place.ensures,
-  values_start c.args.b _ _ _ _ _ _ _ _ _ _ c.get_field-first.ensures,
+  values_start c.args.b.now.head _ _ _ _ _ _ _ _ _ _ c.get_field-first.ensures,
 )
 
 pub overflow_add-place : goal.overflow_add-place
@@ -20,9 +20,9 @@ loop-k-preserved c = (
   c.put_byte-p.auto.text ∙ c.emit_value-c.auto.text ∙ c.emit_enumerator-a.auto.text ∙ c.loop-k.invariant.0,
   c.emit_enumerator-a.auto.work ∙ c.loop-k.invariant.1,
   place_next _ _ _ _ _ c.loop-k.invariant.2 c.value_size-size.ensures,
-  values_turn c.args.b _ _ _ _ _ _ _ _ _ _ _ _ _ _ _ _ _ _ _ _ _ _ _ _ _ c.loop-k.invariant.3 c.loop-k-test.true c.saturating_add-e.ensures
-      (value_name c.args.b _ _ _ _ _ _ c.loop-k.invariant.2 c.word-name_off.ensures) refl c.emit_enumerator-a.ensures c.emit_value-c.ensures c.put_byte-p.ensures,
+  values_turn c.args.b.now.head _ _ _ _ _ _ _ _ _ _ _ _ _ _ _ _ _ _ _ _ _ _ _ _ _ c.loop-k.invariant.3 c.loop-k-test.true c.saturating_add-e.ensures
+      (value_name c.args.b.now.head _ _ _ _ _ _ c.loop-k.invariant.2 c.word-name_off.ensures) refl c.emit_enumerator-a.ensures c.emit_value-c.ensures c.put_byte-p.ensures,
 )
 
 pub returns : goal.returns
-returns c = values_end c.args.b _ _ _ _ _ _ _ _ _ _ _ _ _ _ c.loop-k.invariant.3 c.loop-k-test.false ∙ values_same c.args.b _ _ c.args.t _ _ _ _ _ _ _ _ c.entries_of-values.ensures c.is_wide-wide.ensures c.kind_flag_of-is_signed.ensures
+returns c = values_end c.args.b.now.head _ _ _ _ _ _ _ _ _ _ _ _ _ _ c.loop-k.invariant.3 c.loop-k-test.false ∙ values_same c.args.b.now.head _ _ c.args.t _ _ _ _ _ _ _ _ c.entries_of-values.ensures c.is_wide-wide.ensures c.kind_flag_of-is_signed.ensures

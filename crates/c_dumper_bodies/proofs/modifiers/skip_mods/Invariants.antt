@@ -4,4 +4,4 @@ use mathlib.Core.Path.{◌≡◌}
 use Rattle.c_dumper_bodies.proofs.modifiers.skip_mods.Given as goal
 
 abbrev pub invariant-loop-k : goal.invariant-loop-k
-invariant-loop-k l = no_mods (chain_at l.b l.section l.work l.start l.k) ≡ no_mods (chain_at l.b l.section l.work l.start l.n)
+invariant-loop-k l = no_mods (chain_at l.b.head l.b.section.now l.work l.start l.k) ≡ no_mods (chain_at l.b.head l.b.section.now l.work l.start l.n)

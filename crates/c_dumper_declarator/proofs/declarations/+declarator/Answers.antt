@@ -63,10 +63,10 @@ pub emit_based-returns : goal.emit_based-returns
 emit_based-returns t c = entries.based_on _ _ _ _ _ _ _ _ _ c.if-left-eq0.false _ _ c.requires.0 _ _ c.skip_mods-m.ensures.0 _ _ c.emit_mods-a.ensures _ _ _ c.emit_base-e.ensures _ _ _ c.emit_links.ensures
 
 pub emit_composite_word-returns-then-is_empty : goal.emit_composite_word-returns-then-is_empty
-emit_composite_word-returns-then-is_empty t c = entries.composite_inline _ c.args.section.now _ _ _ _ _ _ _ _ _ _ _ _ _ _ (sym c.is_empty.ensures ∙ c.if-is_empty.true) c.emit_composite_def.ensures
+emit_composite_word-returns-then-is_empty t c = entries.composite_inline _ c.args.b.now.section.now _ _ _ _ _ _ _ _ _ _ _ _ _ _ (sym c.is_empty.ensures ∙ c.if-is_empty.true) c.emit_composite_def.ensures
 
 pub emit_composite_word-returns : goal.emit_composite_word-returns
-emit_composite_word-returns t c = entries.composite_named _ c.args.section.now _ _ _ _ _ _ _ _ _ _ _ _ _ _ _ (sym c.is_empty.ensures ∙ c.if-is_empty.false) c.is_struct.ensures c.emit_composite_fwd.ensures
+emit_composite_word-returns t c = entries.composite_named _ c.args.b.now.section.now _ _ _ _ _ _ _ _ _ _ _ _ _ _ _ (sym c.is_empty.ensures ∙ c.if-is_empty.false) c.is_struct.ensures c.emit_composite_fwd.ensures
 
 pub emit_entry-emit_array-a-requires : goal.emit_entry-emit_array-a-requires
 emit_entry-emit_array-a-requires t c = (omega arith, entries.links_rest _ _ _ _ _ _ c.requires.0 c.skip_mods-m.ensures.0 c.requires.1)
@@ -105,7 +105,7 @@ pub emit_links-returns-then-stopped : goal.emit_links-returns-then-stopped
 emit_links-returns-then-stopped t c = chains.links_whole _ _ _ _ _ _ _ _ _ _ _ _ _ _ (chains.chain_stops _ _ _ _ _ _ _ _ _ _ _ _ _ (chains.chain_again _ _ _ _ _ _ _ _ _ _ _ _ _ _ _ _ _ c.in-Some.is c.loop-c-test.true c.loop-c.invariant.0 c.emit_entry-e.ensures) (sym c.stopped.ensures ∙ c.if-stopped.true))
 
 pub emit_links-loop-c-smaller : goal.emit_links-loop-c-smaller
-emit_links-loop-c-smaller t c = let h = chains.rest_below c.args.b c.args.section.now (chain_at c.args.b c.args.section.now c.loop-c.work c.args.d.id) _ _ _ c.in-Some.is c.emit_entry-e.ensures.1 in omega arith
+emit_links-loop-c-smaller t c = let h = chains.rest_below c.args.b.now.head c.args.b.now.section.now (chain_at c.args.b.now.head c.args.b.now.section.now c.loop-c.work c.args.d.id) _ _ _ c.in-Some.is c.emit_entry-e.ensures.1 in omega arith
 
 pub emit_links-loop-c-preserved : goal.emit_links-loop-c-preserved
 emit_links-loop-c-preserved t c = (chains.chain_again _ _ _ _ _ _ _ _ _ _ _ _ _ _ _ _ _ c.in-Some.is c.loop-c-test.true c.loop-c.invariant.0 c.emit_entry-e.ensures, chains.chain_links _ _ _ _ _ _ _ _ _ _ _ _ _ _ c.in-Some.is c.emit_entry-e.ensures (sym c.stopped.ensures ∙ c.if-stopped.false) c.loop-c.invariant.1)

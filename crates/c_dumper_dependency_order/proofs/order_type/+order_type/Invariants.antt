@@ -17,4 +17,4 @@ abbrev pub decreases-order_new : goal.decreases-order_new
 decreases-order_new l = 4 * l.left + 3
 
 abbrev pub invariant-order_entries-loop-k : goal.invariant-order_entries-loop-k
-invariant-order_entries-loop-k l = laws.Rest (limit_by l.is_set l.calls) l.b l.section l.initial.work l.initial.leads l.left l.has_ptr l.v (entry_type l.b l.section l.each l.entries) l.initial.r l.entries.vlen l.r l.work l.leads l.k
+invariant-order_entries-loop-k l = laws.Rest (limit_by l.is_set l.calls) l.b.head l.b.section.now l.initial.work l.initial.leads l.left l.has_ptr l.v (entry_type l.b.head l.b.section.now l.each l.entries) l.initial.r l.entries.vlen l.r l.work l.leads l.k

@@ -20,4 +20,4 @@ abbrev pub decreases-emit_type : goal.decreases-emit_type
 decreases-emit_type l = 4 * l.left
 
 abbrev pub invariant-emit_entries-loop-k : goal.invariant-emit_entries-loop-k
-invariant-emit_entries-loop-k l = (length l.list ≡ length l.initial.list) × ((n : ℕ) → walk.Rest l.b l.section (lent_list l.q.lists l.initial.list) (entry_in l.q.req l.q.turn l.leads) l.initial.work l.left l.cont (held_id l.held l.b l.section l.es) n l.initial.a l.initial.text l.initial.list l.es.vlen l.a l.text l.work l.list l.k)
+invariant-emit_entries-loop-k l = (length l.list ≡ length l.initial.list) × ((n : ℕ) → walk.Rest l.b.head l.b.section.now (lent_list l.q.lists l.initial.list) (entry_in l.q.req l.q.turn l.leads) l.initial.work l.left l.cont (held_id l.held l.b.head l.b.section.now l.es) n l.initial.a l.initial.text l.initial.list l.es.vlen l.a l.text l.work l.list l.k)

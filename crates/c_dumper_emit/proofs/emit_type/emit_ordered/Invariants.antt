@@ -6,4 +6,4 @@ use mathlib.Core.Path.{◌≡◌}
 use Rattle.c_dumper_emit.proofs.emit_type.emit_ordered.Given as goal
 
 abbrev pub invariant-loop-k : goal.invariant-loop-k
-invariant-loop-k l = (length l.list ≡ length l.initial.list) × laws.Listing l.b l.section (lent_list l.q.lists l.initial.list) (entry_in l.q.req l.q.turn l.leads) l.initial.work l.n l.initial.a l.initial.text l.initial.list l.a l.text l.work l.list l.k
+invariant-loop-k l = (length l.list ≡ length l.initial.list) × laws.Listing l.b.head l.b.section.now (lent_list l.q.lists l.initial.list) (entry_in l.q.req l.q.turn l.leads) l.initial.work l.n l.initial.a l.initial.text l.initial.list l.a l.text l.work l.list l.k

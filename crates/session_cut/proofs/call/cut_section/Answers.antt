@@ -39,4 +39,4 @@ slice_bounds-write_cut-end c = sym (c.check.auto.start ∙ length-replicate {A =
 pub returns : goal.returns
 returns c =
     let k = laws.checked_some _ _ _ c.ok_or.ensures.value c.in_ok-n.was in
-    laws.cut_is _ _ _ _ _ c.is_open.ensures (not_from_true _ c.if-not-is_open.false) _ _ c.check.ensures _ k _ c.is_past.ensures c.if-is_past.false (λ i. omega (arith, c.shared_slice_known-1.given i)) _ c.btf_of-b.ensures _ _ c.write_cut.ensures _ c.ok_or-2.ensures.value
+    laws.cut_is _ _ _ _ _ c.is_open.ensures (not_from_true _ c.if-not-is_open.false) _ _ c.check.ensures _ k _ c.is_past.ensures c.if-is_past.false (λ i. omega (arith, c.shared_slice_known-1.given i)) _ c.btf_of-head.ensures _ _ c.write_cut.ensures _ c.ok_or-2.ensures.value

@@ -10,4 +10,4 @@ pub returns-then-s-id : goal.returns-then-s-id
 returns-then-s-id c = laws.call_10 _ _ _ _ _ _ _ c.is_current.ensures (ap not c.if-not-is_current.false) c.if-s-id.true _ c.from-then-s-id.ensures
 
 pub returns : goal.returns
-returns c = laws.call_is _ _ _ _ _ _ _ c.is_current.ensures (ap not c.if-not-is_current.false) c.if-s-id.false _ _ _ c.btf_of-b.ensures c.find_field.ensures
+returns c = laws.call_is _ _ _ _ _ _ _ c.is_current.ensures (ap not c.if-not-is_current.false) c.if-s-id.false _ _ _ c.btf_of-head.ensures c.find_field.ensures

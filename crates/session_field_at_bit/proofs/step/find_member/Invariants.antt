@@ -5,4 +5,4 @@ use Rattle.session_field_at_bit.proofs.step.Laws as laws
 use Rattle.session_field_at_bit.proofs.step.find_member.Given as goal
 
 abbrev pub invariant-loop-k : goal.invariant-loop-k
-invariant-loop-k l = tried (btf_of l.b l.section l.work) l.bit 0 (members_of l.b l.section l.t) ≡ laws.tried_rest l.b l.section l.work l.t l.bit l.k
+invariant-loop-k l = tried (btf_of l.b.head l.b.section.now l.work) l.bit 0 (members_of l.b.head l.b.section.now l.t) ≡ laws.tried_rest l.b.head l.b.section.now l.work l.t l.bit l.k

@@ -10,7 +10,7 @@ use Rattle.session_requests.proofs.requests.Lists as lists
 use Rattle.session_requests.proofs.requests.dump_ids.Goals as goal
 
 pub loop-k-init : goal.loop-k-init
-loop-k-init c = (refl, refl, refl, refl, omega (arith, its_text _ c.args.section.now c.args.work.now c.args.text.now c.requires.0, ap (λ (x : Progress). x.reached.len) c.none_yet-r.ensures), c.requires.1, c.btf_of-b.ensures, its_section _ c.args.section.now c.args.work.now c.args.text.now c.requires.0, its_work _ c.args.section.now c.args.work.now c.args.text.now c.requires.0, omega (arith, ap (λ (x : Progress). x.count) c.none_yet-r.ensures), λ _. omega (arith, ap (λ (x : Progress). x.made) c.none_yet-r.ensures), λ _. lists.clean_start _ _, lists.list_begin _ _ _ (its_section _ c.args.section.now c.args.work.now c.args.text.now c.requires.0) _ _ _ c.requires.0 _ _ c.count_of-n.ensures _ c.btf_of-b.ensures _ c.none_yet-r.ensures, ap (λ (x : Progress). x.reached.number) c.none_yet-r.ensures)
+loop-k-init c = (refl, refl, refl, refl, omega (arith, its_text _ c.args.section.now c.args.work.now c.args.text.now c.requires.0, ap (λ (x : Progress). x.reached.len) c.none_yet-r.ensures), c.requires.1, c.btf_of-head.ensures, its_section _ c.args.section.now c.args.work.now c.args.text.now c.requires.0, its_work _ c.args.section.now c.args.work.now c.args.text.now c.requires.0, omega (arith, ap (λ (x : Progress). x.count) c.none_yet-r.ensures), λ _. omega (arith, ap (λ (x : Progress). x.made) c.none_yet-r.ensures), λ _. lists.clean_start _ _, lists.list_begin _ _ _ (its_section _ c.args.section.now c.args.work.now c.args.text.now c.requires.0) _ _ _ c.requires.0 _ _ c.count_of-n.ensures _ c.btf_of-head.ensures _ c.none_yet-r.ensures, ap (λ (x : Progress). x.reached.number) c.none_yet-r.ensures)
 
 pub returns-then-s-id : goal.returns-then-s-id
 returns-then-s-id c = (lists.tally_past _ c.loop-k.r.reached _ _ _ _ c.tally_of.ensures c.unknown.ensures _ _ _ _ _ (lists.list_past _ c.args.s _ c.loop-k.invariant.7 _ c.loop-k.invariant.6 _ _ _ _ _ _ _ _ _ _ _ c.loop-k.invariant.8 c.loop-k.invariant.4 c.loop-k.invariant.9 c.loop-k.invariant.11 c.loop-k.invariant.12 c.loop-k-test.true _ c.get_word-id.ensures c.if-s-id.true), lists.tally_room _ _ _ _ _ c.tally_of.ensures _ (omega (arith, c.loop-k.invariant.9, c.loop-k.invariant.2)))
@@ -28,7 +28,7 @@ pub slice_bounds-dump_one-end : goal.slice_bounds-dump_one-end
 slice_bounds-dump_one-end c = le_refl _
 
 pub dump_one-d-requires : goal.dump_one-d-requires
-dump_one-d-requires c = (c.loop-k.invariant.4, few_settings _ _ _ _ _ c.btf_of-b.ensures, c.loop-k.invariant.10, c.loop-k.invariant.5)
+dump_one-d-requires c = (c.loop-k.invariant.4, few_settings _ _ _ _ _ c.btf_of-head.ensures, c.loop-k.invariant.10, c.loop-k.invariant.5)
 
 pub overflow_add-count : goal.overflow_add-count
 overflow_add-count c = omega (arith, lists.sum_room c.loop-k.list _ _ c.loop-k.invariant.9 c.dump_one-d.ensures.1, c.loop-k.invariant.2, c.well_formed.1.1.1.1.0)

@@ -13,7 +13,7 @@ pub returns-then-s-id : goal.returns-then-s-id
 returns-then-s-id c = laws.type_10 _ _ _ _ _ _ _ c.is_current.ensures (ap not c.if-not-is_current.false) _ c.if-s-id.true _ c.unchanged-then-s-id.ensures
 
 pub dump_one-r-requires : goal.dump_one-r-requires
-dump_one-r-requires c = (ends.current_fits _ _ _ _ _ c.is_current.ensures (ap not c.if-not-is_current.false), laws.few_settings _ _ _ _ _ c.btf_of-b.ensures, λ _. zero-le, c.requires)
+dump_one-r-requires c = (ends.current_fits _ _ _ _ _ c.is_current.ensures (ap not c.if-not-is_current.false), laws.few_settings _ _ _ _ _ c.btf_of-head.ensures, λ _. zero-le, c.requires)
 
 pub returns : goal.returns
-returns c = laws.type_done _ _ _ _ _ _ _ c.is_current.ensures (ap not c.if-not-is_current.false) _ c.btf_of-b.ensures _ _ _ _ c.dump_one-r.auto.work c.dump_one-r.auto.text c.dump_one-r.auto.list (λ i. omega (arith, c.slice_known-7-1.given i)) c.dump_one-r.ensures.1 _ _ _ _ c.settle-turn.ensures c.clear_entries.ensures _ c.if-s-id.false c.dump_one-r.ensures.0
+returns c = laws.type_done _ _ _ _ _ _ _ c.is_current.ensures (ap not c.if-not-is_current.false) _ c.btf_of-head.ensures _ _ _ _ c.dump_one-r.auto.work c.dump_one-r.auto.text c.dump_one-r.auto.list (λ i. omega (arith, c.slice_known-7-1.given i)) c.dump_one-r.ensures.1 _ _ _ _ c.settle-turn.ensures c.clear_entries.ensures _ c.if-s-id.false c.dump_one-r.ensures.0

@@ -11,7 +11,7 @@ pub returns : goal.returns
 returns c =
     let e = c.entry-e.result in
     let n = c.count_at-n.result in
-    let test = λ (k : ℕ). is_bad c.args.b c.args.start.now (id_at c.args.b c.args.section.now (e % 32) (e / 32) k) in
+    let test = λ (k : ℕ). is_bad c.args.b.now.head c.args.start.now (id_at c.args.b.now.head c.args.b.now.section.now (e % 32) (e / 32) k) in
     any_from_yields_List test _ _ c.any.result c.any.ensures.ran (YieldsList-from_range 0 n n refl (omega arith)) (λ x b q k. search (rules, tests))
     ∙ any_range test n
-    ∙ some_bad_is c.args.b c.args.section.now c.args.start.now c.args.x e n c.entry-e.ensures c.count_at-n.ensures
+    ∙ some_bad_is c.args.b.now.head c.args.b.now.section.now c.args.start.now c.args.x e n c.entry-e.ensures c.count_at-n.ensures

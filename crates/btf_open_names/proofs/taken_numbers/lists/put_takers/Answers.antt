@@ -8,7 +8,7 @@ use native.Mathlib.Omega.{arith}
 use Rattle.btf_open_names.proofs.taken_numbers.lists.put_takers.Goals as goal
 
 pub returns-in_default : goal.returns-in_default
-returns-in_default c = let f : c.args.b.types + c.args.enumerators < 4294967296 → ⊥ = c.in_default.ensures in takers_past _ _ _ _ (omega arith)
+returns-in_default c = let f : c.args.b.now.head.types + c.args.enumerators < 4294967296 → ⊥ = c.in_default.ensures in takers_past _ _ _ _ (omega arith)
 
 pub loop-h-init : goal.loop-h-init
 loop-h-init c = let f = c.in-Some.ensures in (refl, refl, λ z. table_stands _ _ _ _ _ c.make_table-has_table.ensures.0 z _ f.1 _ c.make_table-has_table.ensures.1)
@@ -24,11 +24,11 @@ returns-then-has_table c =
     let f = c.in-Some.ensures in
     takers_all _ _ _ _ (omega arith) _
     (table_cleared _ _ _ _ _ c.make_table-has_table.ensures.0 _ c.make_table-has_table.ensures.1 _ _ (pass_end _ _ _ _ _ _ c.loop-h.invariant.1 c.loop-h-test.false) c.if-has_table.true f.1 _ (c.clear_pair.ensures ∙ over_pair _ _ _)
-    ∙ ap (λ (n : ℕ). takers_put c.args.b c.args.section.now n (n - 1) c.args.work.now) f.1)
+    ∙ ap (λ (n : ℕ). takers_put c.args.b.now.head c.args.b.now.section.now n (n - 1) c.args.work.now) f.1)
 
 pub returns-else-has_table : goal.returns-else-has_table
 returns-else-has_table c =
     let f = c.in-Some.ensures in
     takers_all _ _ _ _ (omega arith) _
     (without_table _ _ _ _ _ c.make_table-has_table.ensures.0 _ c.make_table-has_table.ensures.1 _ _ (pass_end _ _ _ _ _ _ c.loop-h.invariant.1 c.loop-h-test.false) c.if-has_table.false
-    ∙ ap (λ (n : ℕ). takers_put c.args.b c.args.section.now n (n - 1) c.args.work.now) f.1)
+    ∙ ap (λ (n : ℕ). takers_put c.args.b.now.head c.args.b.now.section.now n (n - 1) c.args.work.now) f.1)

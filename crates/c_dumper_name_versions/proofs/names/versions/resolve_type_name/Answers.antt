@@ -5,7 +5,7 @@ use Rattle.c_dumper_name_versions.proofs.names.Resolve.{type_empty, type_held, t
 use Rattle.c_dumper_name_versions.proofs.names.versions.resolve_type_name.Goals as goal
 
 pub returns-then-is_empty : goal.returns-then-is_empty
-returns-then-is_empty c = (ap (λ (n : Name). n.off) c.bare.ensures, type_empty _ _ _ _ _ _ (sym c.is_empty.ensures ∙ c.if-is_empty.true) (bare_text c.args.b c.args.section.now _ _ c.bare.ensures))
+returns-then-is_empty c = (ap (λ (n : Name). n.off) c.bare.ensures, type_empty _ _ _ _ _ _ (sym c.is_empty.ensures ∙ c.if-is_empty.true) (bare_text c.args.b.now.head c.args.b.now.section.now _ _ c.bare.ensures))
 
 pub returns-then-version-ne0 : goal.returns-then-version-ne0
 returns-then-version-ne0 c = (refl, type_held _ _ _ _ _ _ (sym c.is_empty.ensures ∙ c.if-is_empty.false) c.if-version-ne0.true c.get_field-version.ensures)

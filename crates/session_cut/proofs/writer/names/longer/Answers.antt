@@ -9,13 +9,13 @@ pub returns-then-not-m : goal.returns-then-not-m
 returns-then-not-m c = long_none _ _ _ _ _ c.if-not-m.true _
 
 pub overflow_cast-result : goal.overflow_cast-result
-overflow_cast-result c = omega (arith, c.requires.0, ap length c.get_btf_str.ensures, name_short c.args.b c.args.section.now c.word_of.result)
+overflow_cast-result c = omega (arith, c.requires.0, ap length c.get_btf_str.ensures, name_short c.args.b.now.head c.args.b.now.section.now c.word_of.result)
 
 pub overflow_add-result : goal.overflow_add-result
-overflow_add-result c = omega (arith, c.requires.0, c.requires.1, ap length c.get_btf_str.ensures, name_short c.args.b c.args.section.now c.word_of.result)
+overflow_add-result c = omega (arith, c.requires.0, c.requires.1, ap length c.get_btf_str.ensures, name_short c.args.b.now.head c.args.b.now.section.now c.word_of.result)
 
 pub overflow_add-result-2 : goal.overflow_add-result-2
-overflow_add-result-2 c = omega (arith, c.requires.0, c.requires.1, ap length c.get_btf_str.ensures, name_short c.args.b c.args.section.now c.word_of.result)
+overflow_add-result-2 c = omega (arith, c.requires.0, c.requires.1, ap length c.get_btf_str.ensures, name_short c.args.b.now.head c.args.b.now.section.now c.word_of.result)
 
 pub returns : goal.returns
 returns c = long_is _ _ _ _ _ c.if-not-m.false _ c.word_of.ensures _ _ c.get_btf_str.ensures

@@ -7,10 +7,10 @@ use lib.ListN.{length}
 use Rattle.session_cut_marks.proofs.interned.fill.size.Goals as goal
 
 pub overflow_cast-result : goal.overflow_cast-result
-overflow_cast-result c = omega (arith, c.requires, ap length c.get_btf_str.ensures, name_short c.args.b c.args.section.now c.args.off)
+overflow_cast-result c = omega (arith, c.requires, ap length c.get_btf_str.ensures, name_short c.args.b.now.head c.args.b.now.section.now c.args.off)
 
 pub overflow_add-result : goal.overflow_add-result
-overflow_add-result c = omega (arith, c.requires, ap length c.get_btf_str.ensures, name_short c.args.b c.args.section.now c.args.off)
+overflow_add-result c = omega (arith, c.requires, ap length c.get_btf_str.ensures, name_short c.args.b.now.head c.args.b.now.section.now c.args.off)
 
 pub returns : goal.returns
 returns c = ap (λ (l : List ℕ). length l + 1) c.get_btf_str.ensures

@@ -5,4 +5,4 @@ use Prim.Native.Nat.{◌-◌, ◌<◌}
 use Rattle.session_cut_marks.proofs.interned.slots.slot_of.Given as goal
 
 abbrev pub invariant-loop-turn : goal.invariant-loop-turn
-invariant-loop-turn l = (slot_of l.b l.section l.table l.off ≡ probe l.b l.section l.table (str_at l.b l.section l.off) l.i (262144 - l._turn)) × (l.i < 262144)
+invariant-loop-turn l = (slot_of l.b.head l.b.section.now l.table l.off ≡ probe l.b.head l.b.section.now l.table (str_at l.b.head l.b.section.now l.off) l.i (262144 - l._turn)) × (l.i < 262144)

@@ -5,4 +5,4 @@ use mathlib.Core.Path.{◌≡◌}
 use Rattle.session_cut_marks.proofs.marks.Marking.push_followed.Given as goal
 
 abbrev pub invariant-loop-k : goal.invariant-loop-k
-invariant-loop-k l = (heap_of l.self ≡ pushed_to (id_at l.b l.section l.kind l.at) (heap_of l.initial.self) l.k) × SameSlices l.initial.self l.self
+invariant-loop-k l = (heap_of l.self ≡ pushed_to (id_at l.b.head l.b.section.now l.kind l.at) (heap_of l.initial.self) l.k) × SameSlices l.initial.self l.self

@@ -8,5 +8,5 @@ use Rattle.session_cut.proofs.writer.source.Source.put_record.Given as goal
 abbrev pub invariant-loop-j : goal.invariant-loop-j
 invariant-loop-j l =
     let k = l.self.kept in
-    (put_out l.p l.out ≡ put_text l.initial.out l.at (whole (record_bytes k.b k.section.now k.start.now k.ids.now l.self.bases.now l.t.e l.j)))
-    × (l.len ≡ base_of k.b k.section.now k.start.now k.ids.now l.t.x + new_sizes k.b k.section.now k.start.now k.ids.now l.t.x l.t.e l.j)
+    (put_out l.p l.out ≡ put_text l.initial.out l.at (whole (record_bytes k.table.head k.table.section.now k.start.now k.ids.now l.self.bases.now l.t.e l.j)))
+    × (l.len ≡ base_of k.table.head k.table.section.now k.start.now k.ids.now l.t.x + new_sizes k.table.head k.table.section.now k.start.now k.ids.now l.t.x l.t.e l.j)

@@ -19,7 +19,7 @@ pub size-requires : goal.size-requires
 size-requires c = c.requires.0
 
 pub overflow_add-self-3 : goal.overflow_add-self-3
-overflow_add-self-3 c = omega (arith, c.requires.0, c.requires.1, c.size.ensures, name_short c.args.kept.now.b c.args.kept.now.section.now c.args.off)
+overflow_add-self-3 c = omega (arith, c.requires.0, c.requires.1, c.size.ensures, name_short c.args.kept.now.table.head c.args.kept.now.table.section.now c.args.off)
 
 pub returns-clause-filled : goal.returns-clause-filled
 returns-clause-filled c = settled_at _ _ _ _ _ _ _ _ _ _ _ _ c.slot-at.ensures _ (settled_new _ _ _ _ _ _ _ _ _ _ _ c.if-self-at.false c.if-self-at-ne0.false _ c.size.ensures)

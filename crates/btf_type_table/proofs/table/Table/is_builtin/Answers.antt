@@ -4,7 +4,7 @@ use Rattle.std.proofs.lemmas.Iterator.Search.{any_from_yields_List}
 use Rattle.spec_bytes.specs.text.Text.{ascii}
 use Rattle.spec_c_dumper.specs.rules.Names.{builtin, contains}
 use Rattle.spec_type_table.proofs.NameLaws as names
-use Rattle.btf_type_table.proofs.name.is_builtin.Goals as goal
+use Rattle.btf_type_table.proofs.table.Table.is_builtin.Goals as goal
 
 pub returns : goal.returns
 unfolding builtin

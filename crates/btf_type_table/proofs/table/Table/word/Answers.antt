@@ -1,5 +1,5 @@
 use Rattle.spec_type_table.specs.Records.{section_word}
-use Rattle.btf_type_table.proofs.section_word.word.Goals as goal
+use Rattle.btf_type_table.proofs.table.Table.word.Goals as goal
 
 pub returns : goal.returns
 unfolding section_word
