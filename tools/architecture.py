@@ -26,7 +26,7 @@ LAYERS = (
     ("c_dumper", "c_dumper: ordering and emission"),
     ("session", "session: the record, and the calls by value"),
     ("btfdump", "btfdump: the library for C, and the programs"),
-    ("spec", "spec: definitions to be believed, no function"),
+    ("spec", "spec: definitions to be believed"),
     ("proof", "proof, claims: theorems, no function"),
 )
 CODE = ("base", "btf", "c_dumper", "session", "btfdump")
